@@ -1,0 +1,4 @@
+-- Lemmas.
+pub mod BitLemmas
+pub mod BufferLemmas
+pub mod PlaceLemmas

@@ -1,0 +1,42 @@
+-- A mask is a list of truth values. These words say where its true values stand and how many there are.
+use Rattle.std.specs.Prelude.{ℕ, ◌+◌, ◌≡◌, ◌<◌, Bool, true, false, nat_eq, List, [], ◌∷◌, length, take, drop, map, slice_index_or, slice_get}
+use Rattle.std.specs.List.{list_any, range_with_len, filter_map}
+
+-- the places from n on that hold true, where the list's first place is n
+abbrev pub places_from : ℕ → List Bool → List ℕ
+places_from n [] = []
+places_from n (true ∷ m) = n ∷ places_from (n + 1) m
+places_from n (false ∷ m) = places_from (n + 1) m
+
+-- the places of the true values, ascending
+abbrev pub positions : List Bool → List ℕ
+positions m = places_from 0 m
+
+-- place holds true, and is the first from n on that does: the places from n on are it and those past it
+pub record IsFirstPlace (m : List Bool) (n place : ℕ) : Type 0 where
+  pub within : place < length m
+  pub first : places_from n (drop n m) ≡ place ∷ places_from (place + 1) (drop (place + 1) m)
+
+-- how many values are true
+abbrev pub count : List Bool → ℕ
+count m = length (positions m)
+
+-- how many of the first n values are true
+abbrev pub count_below : List Bool → ℕ → ℕ
+count_below m n = count (take n m)
+
+-- the list of n values that is true exactly at these places
+unfoldable pub true_at : ℕ → List ℕ → List Bool
+true_at n places = map (λ i. list_any (nat_eq i) places) (range_with_len 0 n)
+
+-- the entries of a list at these places, in their order
+abbrev pub at_places : List ℕ → List ℕ → List ℕ
+at_places xs places = map (λ k. slice_index_or xs k 0) places
+
+-- where b is as long as a has true values: the list of a's length that is true at a's true places taken at b's
+abbrev pub rank_intersection : List Bool → List Bool → List Bool
+rank_intersection a b = true_at (length a) (at_places (positions a) (positions b))
+
+-- the rows at the true places, in their order
+unfoldable pub chosen : {X : Type 0} → List X → List Bool → List X
+chosen rows m = filter_map (λ i. slice_get rows i) (positions m)

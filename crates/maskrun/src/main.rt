@@ -1,0 +1,5 @@
+#![tactic(auto)]
+
+pub mod bits;
+
+fn main() {}
