@@ -1,4 +1,8 @@
 -- Lemmas.
 pub mod BitLemmas
 pub mod BufferLemmas
+pub mod CountLemmas
+pub mod MaskLemmas
 pub mod PlaceLemmas
+pub mod RankLemmas
+pub mod ResultLemmas

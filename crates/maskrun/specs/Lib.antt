@@ -1,2 +1,5 @@
+pub mod AllOr
 pub mod Buffer
+pub mod Mask
+pub mod MaskValues
 pub mod Positions

@@ -1,5 +1,6 @@
 #![tactic(auto)]
 
 pub mod bits;
+pub mod mask;
 
 fn main() {}

@@ -1,0 +1,43 @@
+use Rattle.std.proofs.Common.{◌<◌, ◌≢◌, false, true, length, replicate, ap, sym, ◌∙◌, arith}
+use Rattle.maskrun.specs.Buffer.{values}
+use Rattle.maskrun.specs.Mask.{all_false}
+use Rattle.maskrun.specs.Positions.{count}
+use Rattle.maskrun.proofs.CountLemmas.{all_true_from_count, all_false_from_count}
+use Rattle.maskrun.proofs.MaskLemmas.{fitting_variant-all, fitting_variant-all_false, fitting_variant-some}
+use Rattle.maskrun.proofs.PlaceLemmas.{length-places_from}
+use Rattle.maskrun.proofs.mask.Mask.from_buffer.Goals as goal
+
+pub returns-then-true_count-eq0-clause-list : goal.returns-then-true_count-eq0-clause-list
+returns-then-true_count-eq0-clause-list c =
+    let m = values c.args.buffer in
+    ap (λ n. replicate n false) c.len-len.ensures ∙ sym (all_false_from_count 0 m (omega arith))
+
+pub returns-then-true_count-eq0-clause-variant : goal.returns-then-true_count-eq0-clause-variant
+returns-then-true_count-eq0-clause-variant c = sym (fitting_variant-all_false (values c.args.buffer) (omega arith))
+
+pub returns-then-true_count-len-clause-list : goal.returns-then-true_count-len-clause-list
+returns-then-true_count-len-clause-list c =
+    let m = values c.args.buffer in
+    ap (λ n. replicate n true) c.len-len.ensures ∙ sym (all_true_from_count 0 m (omega arith))
+
+pub returns-then-true_count-len-clause-variant : goal.returns-then-true_count-len-clause-variant
+returns-then-true_count-len-clause-variant c =
+    let some : c.true_count-true_count.result ≢ 0 = c.if-true_count-eq0.false in
+    sym (fitting_variant-all all_false (values c.args.buffer) (omega arith) (omega arith))
+
+pub new-requires : goal.new-requires
+new-requires c =
+    let some : c.true_count-true_count.result ≢ 0 = c.if-true_count-eq0.false in
+    let not_all : c.true_count-true_count.result ≢ c.len-len.result = c.if-true_count-len.false in
+    record {
+      counted = c.true_count-true_count.ensures;
+      some_true = omega arith;
+      some_false = omega (arith, length-places_from 0 (values c.args.buffer));
+    }
+
+pub returns-clause-variant : goal.returns-clause-variant
+returns-clause-variant c =
+    let m = values c.args.buffer in
+    let some : c.true_count-true_count.result ≢ 0 = c.if-true_count-eq0.false in
+    let not_all : c.true_count-true_count.result ≢ c.len-len.result = c.if-true_count-len.false in
+    sym (fitting_variant-some all_false m (omega arith) (omega (arith, length-places_from 0 m)))
