@@ -6,3 +6,4 @@ pub mod MaskLemmas
 pub mod PlaceLemmas
 pub mod RankLemmas
 pub mod ResultLemmas
+pub mod YieldLemmas

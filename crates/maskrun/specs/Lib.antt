@@ -1,4 +1,5 @@
 pub mod AllOr
+pub mod Answer
 pub mod Buffer
 pub mod Mask
 pub mod MaskValues

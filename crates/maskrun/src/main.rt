@@ -1,5 +1,6 @@
 #![tactic(auto)]
 
+pub mod answer;
 pub mod bits;
 pub mod mask;
 
