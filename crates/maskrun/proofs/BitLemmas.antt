@@ -26,10 +26,10 @@ backing_bit-with_bit_other bytes q p h differs =
     let y = bit_or x (1 * 2 ^ (q % 8) % 256) in
     elim (cases_eq (p / 8) (q / 8)) [
       | inl same ↦
-        let read : get_or (set bytes (q / 8) y) (p / 8) 0 ≡ y = ap (λ i. get_or (set bytes (q / 8) y) i 0) same ∙ get_or-set_same bytes (q / 8) y 0 (omega arith) in
-        let apart : p % 8 ≢ q % 8 = omega arith in
-        ap (λ b. nat_eq (bit_at b (p % 8)) 1) read ∙ ap (λ v. nat_eq v 1) (bit_at_set_other w8 x (q % 8) (omega arith) (p % 8) apart)
-        ∙ ap (λ i. nat_eq (bit_at (get_or bytes i 0) (p % 8)) 1) (sym same)
+          let read : get_or (set bytes (q / 8) y) (p / 8) 0 ≡ y = ap (λ i. get_or (set bytes (q / 8) y) i 0) same ∙ get_or-set_same bytes (q / 8) y 0 (omega arith) in
+          let apart : p % 8 ≢ q % 8 = omega arith in
+          ap (λ b. nat_eq (bit_at b (p % 8)) 1) read ∙ ap (λ v. nat_eq v 1) (bit_at_set_other w8 x (q % 8) (omega arith) (p % 8) apart)
+          ∙ ap (λ i. nat_eq (bit_at (get_or bytes i 0) (p % 8)) 1) (sym same)
       | inr apart ↦ ap (λ b. nat_eq (bit_at b (p % 8)) 1) (get_or-set_other bytes (q / 8) (p / 8) y 0 apart)
     ]
 
@@ -38,7 +38,7 @@ pub backing_bit-with_bit : (bytes : List ℕ) (q p : ℕ) → q < 8 * length byt
 backing_bit-with_bit bytes q p h =
     elim (cases_eq p q) [
       | inl same ↦ ap (backing_bit (with_bit bytes q)) same ∙ backing_bit-with_bit_same bytes q h
-        ∙ sym (ap (λ b. b || backing_bit bytes p) (eq-eqb p q same))
+          ∙ sym (ap (λ b. b || backing_bit bytes p) (eq-eqb p q same))
       | inr apart ↦ backing_bit-with_bit_other bytes q p h apart ∙ sym (ap (λ b. b || backing_bit bytes p) (ne_eqb p q apart))
     ]
 

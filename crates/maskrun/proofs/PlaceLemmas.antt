@@ -36,13 +36,13 @@ get_or-take_true m i p e =
     elim (cases_order p i) [
       | inl same ↦ get_or-take (i + 1) m p false (omega arith) ∙ ap (λ k. get_or m k false) same ∙ e ∙ sym (ap (λ b. b || get_or (take i m) p false) (eq-eqb p i same))
       | inr apart ↦
-        let differs : nat_eq p i ≡ false = ne_eqb p i (λ same. elim apart [ inl h ↦ omega arith | inr h ↦ omega arith ]) in
-        let goal_at : get_or (take (i + 1) m) p false ≡ get_or (take i m) p false
-        = elim apart [
-          | inl below ↦ get_or-take (i + 1) m p false (omega arith) ∙ sym (get_or-take i m p false below)
-          | inr above ↦ get_or-take_past m (i + 1) p (omega arith) ∙ sym (get_or-take_past m i p (omega arith))
-        ] in
-        goal_at ∙ sym (ap (λ b. b || get_or (take i m) p false) differs)
+          let differs : nat_eq p i ≡ false = ne_eqb p i (λ same. elim apart [ inl h ↦ omega arith | inr h ↦ omega arith ]) in
+          let goal_at : get_or (take (i + 1) m) p false ≡ get_or (take i m) p false
+          = elim apart [
+            | inl below ↦ get_or-take (i + 1) m p false (omega arith) ∙ sym (get_or-take i m p false below)
+            | inr above ↦ get_or-take_past m (i + 1) p (omega arith) ∙ sym (get_or-take_past m i p (omega arith))
+          ] in
+          goal_at ∙ sym (ap (λ b. b || get_or (take i m) p false) differs)
     ]
 
 pub get_or-take_false : (m : List Bool) (i p : ℕ) → get_or m i false ≡ false → get_or (take (i + 1) m) p false ≡ get_or (take i m) p false

@@ -6,9 +6,8 @@ ghost use Rattle.maskrun.specs.Answer.{line, rank_line, out_of_memory};
 mod error;
 mod word;
 
-pub use error::RunError;
-
 use crate::answer::word::{mask_text, read_mask};
+pub use error::RunError;
 use std::alloc::Global;
 
 /// The line for `words`, of which the first is the command.

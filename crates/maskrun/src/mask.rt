@@ -14,13 +14,12 @@ mod error;
 mod intersect_by_rank;
 mod values;
 
+use crate::bits::BitBuffer;
 pub use all_or::AllOr;
 pub use error::MaskError;
-pub use values::{MaskValues, MaskValuesRef};
-
-use crate::bits::BitBuffer;
 use std::alloc::Global;
 use std::rc::Rc;
+pub use values::{MaskValues, MaskValuesRef};
 
 /// Which rows of a column are chosen: a list of truth values, one for each row.
 ///
@@ -89,10 +88,7 @@ impl Mask {
     }
 
     /// The values that an iterator yields, in their order. No values give `AllFalse(0)`.
-    pub fn from_bools<I: Iterator<Item = bool>>(
-        alloc: Global,
-        bools: I,
-    ) -> Result<Mask, MaskError>
+    pub fn from_bools<I: Iterator<Item = bool>>(alloc: Global, bools: I) -> Result<Mask, MaskError>
         requires can { I.can_next bools }
         requires ends { UpTo (I.remaining bools) usize.MAX }
         ensures list { IfOk result (λ m. Drains I.next_gives bools (truth m)) }

@@ -8,6 +8,7 @@ use Rattle.maskrun.proofs.mask.Mask.all_false.Goals as goal
 pub returns : goal.returns
 returns c =
     let m = truth c.args.self.now in
-    let is_count = c.true_count.ensures in
-    (λ h. All-replicate false m (all_false_from_count 0 m (sym is_count ∙ eqb-true _ 0 h)),
-    λ all. eq-eqb _ 0 (is_count ∙ ap count (replicate_from_All false m all) ∙ count-replicate_false (length m)))
+    let is_count = c.true_count.ensures in (
+      λ h. All-replicate false m (all_false_from_count 0 m (sym is_count ∙ eqb-true _ 0 h)),
+      λ all. eq-eqb _ 0 (is_count ∙ ap count (replicate_from_All false m all) ∙ count-replicate_false (length m)),
+    )

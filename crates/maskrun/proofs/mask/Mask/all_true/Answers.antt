@@ -9,6 +9,7 @@ pub returns : goal.returns
 returns c =
     let m = truth c.args.self.now in
     let is_count = c.true_count.ensures in
-    let is_len = c.len.ensures in
-    (λ h. All-replicate true m (all_true_from_count 0 m (sym is_count ∙ eqb-true _ _ h ∙ is_len)),
-    λ all. eq-eqb _ _ (is_count ∙ ap count (replicate_from_All true m all) ∙ count-replicate_true (length m) ∙ sym is_len))
+    let is_len = c.len.ensures in (
+      λ h. All-replicate true m (all_true_from_count 0 m (sym is_count ∙ eqb-true _ _ h ∙ is_len)),
+      λ all. eq-eqb _ _ (is_count ∙ ap count (replicate_from_All true m all) ∙ count-replicate_true (length m) ∙ sym is_len),
+    )

@@ -12,15 +12,15 @@ use Rattle.maskrun.proofs.mask.Mask.intersect_by_rank.Goals.{in_default-AllTrue-
 pub returns-in-AllTrue-default-clause-list : goal.returns-in-AllTrue-default-clause-list
 returns-in-AllTrue-default-clause-list c =
     IfOk-weaker c.clone.result _ _ (λ m same.
-        same ∙ truth-by_all_true_self c.args.self.now c.args.mask.now _ c.in-AllTrue-default.is-0 c.requires) c.clone.ensures.list
+    same ∙ truth-by_all_true_self c.args.self.now c.args.mask.now _ c.in-AllTrue-default.is-0 c.requires) c.clone.ensures.list
 
 pub returns-in_default-AllTrue-clause-list : goal.returns-in_default-AllTrue-clause-list
 returns-in_default-AllTrue-clause-list c =
     IfOk-weaker c.clone-in_default-AllTrue.result _ _ (λ m same.
-        same ∙ elim c.in_default-AllTrue.branch [
-          | in_default-AllTrue-via-in-AllFalse+in-AllTrue w ↦ truth-by_all_true_mask c.args.self.now c.args.mask.now _ w.in_default-AllTrue.is-1 c.requires
-          | in_default-AllTrue-via-in-Values+in-AllTrue w ↦ truth-by_all_true_mask c.args.self.now c.args.mask.now _ w.in_default-AllTrue.is-1 c.requires
-        ]) c.clone-in_default-AllTrue.ensures.list
+    same ∙ elim c.in_default-AllTrue.branch [
+      | in_default-AllTrue-via-in-AllFalse+in-AllTrue w ↦ truth-by_all_true_mask c.args.self.now c.args.mask.now _ w.in_default-AllTrue.is-1 c.requires
+      | in_default-AllTrue-via-in-Values+in-AllTrue w ↦ truth-by_all_true_mask c.args.self.now c.args.mask.now _ w.in_default-AllTrue.is-1 c.requires
+    ]) c.clone-in_default-AllTrue.ensures.list
 
 pub returns-in-AllFalse-default-clause-list : goal.returns-in-AllFalse-default-clause-list
 returns-in-AllFalse-default-clause-list c =
@@ -47,5 +47,5 @@ returns-in_ok-buffer-in-Values-Values-clause-variant c =
     = ap length c.in_ok-buffer-in-Values-Values.ensures ∙ length-true_at _ _ in
     let some : 0 < length (values buffer) = omega (arith, c.bit_buffer.ensures.mixed.some_false) in
     IfOk-both c.from_buffer.result _ _ _ (λ m list held.
-        held ∙ fitting_variant-nonempty all_false (variant_and (variant c.args.self.now) (variant c.args.mask.now)) (values buffer) some
-        ∙ ap (fitting_variant (variant_and (variant c.args.self.now) (variant c.args.mask.now))) (sym list)) c.from_buffer.ensures.list c.from_buffer.ensures.variant
+    held ∙ fitting_variant-nonempty all_false (variant_and (variant c.args.self.now) (variant c.args.mask.now)) (values buffer) some
+    ∙ ap (fitting_variant (variant_and (variant c.args.self.now) (variant c.args.mask.now))) (sym list)) c.from_buffer.ensures.list c.from_buffer.ensures.variant

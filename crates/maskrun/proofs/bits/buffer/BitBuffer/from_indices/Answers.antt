@@ -11,6 +11,6 @@ returns c =
     let all = take_all c.loop-index.index-index places (omega arith) in
     ap values c.new.ensures
     ∙ values_from_places c.in_ok-from_vec.field-0 places c.args.len (λ p.
-        ap (λ (bytes : List ℕ). backing_bit bytes p) c.in_ok-from_vec.ensures.ok
-        ∙ c.loop-index.invariant.bits p
-        ∙ ap (list_any (nat_eq p)) all)
+    ap (λ (bytes : List ℕ). backing_bit bytes p) c.in_ok-from_vec.ensures.ok
+    ∙ c.loop-index.invariant.bits p
+    ∙ ap (list_any (nat_eq p)) all)

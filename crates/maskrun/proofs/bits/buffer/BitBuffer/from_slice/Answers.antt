@@ -15,11 +15,11 @@ loop-i-preserved c =
       | then-value w ↦ record {
         covered = grind (arith, common_steps, w.bytes-is);
         bits = λ p.
-          let items = ap (λ v. v.items) w.bytes-is ∙ with_items_is c.loop-i.bytes w.set_bit.new.bytes (search rules) in
-          ap (λ (bytes : List ℕ). backing_bit bytes p) items
-          ∙ w.set_bit.ensures p
-          ∙ ap (λ b. nat_eq p i || b) (ap (λ (bytes : List ℕ). backing_bit bytes p) w.deref_mut.ensures.value ∙ c.loop-i.invariant.bits p)
-          ∙ sym (get_or-take_true m i p w.if-value.true);
+            let items = ap (λ v. v.items) w.bytes-is ∙ with_items_is c.loop-i.bytes w.set_bit.new.bytes (search rules) in
+            ap (λ (bytes : List ℕ). backing_bit bytes p) items
+            ∙ w.set_bit.ensures p
+            ∙ ap (λ b. nat_eq p i || b) (ap (λ (bytes : List ℕ). backing_bit bytes p) w.deref_mut.ensures.value ∙ c.loop-i.invariant.bits p)
+            ∙ sym (get_or-take_true m i p w.if-value.true);
       }
       | else-value w ↦ record {
         covered = rw w.bytes-is c.loop-i.invariant.covered;
@@ -32,6 +32,6 @@ returns c =
     let all = take_all c.loop-i.i c.args.bools.now (omega arith) in
     ap values c.new.ensures
     ∙ values_from_front c.in_ok-from_vec.field-0 c.args.bools.now _ refl (λ p h.
-        ap (λ (bytes : List ℕ). backing_bit bytes p) c.in_ok-from_vec.ensures.ok
-        ∙ c.loop-i.invariant.bits p
-        ∙ ap (λ (m : List Bool). get_or m p false) all)
+    ap (λ (bytes : List ℕ). backing_bit bytes p) c.in_ok-from_vec.ensures.ok
+    ∙ c.loop-i.invariant.bits p
+    ∙ ap (λ (m : List Bool). get_or m p false) all)
