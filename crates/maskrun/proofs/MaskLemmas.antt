@@ -1,9 +1,9 @@
 -- The variant that a list may have, by its count.
-use Rattle.std.proofs.Common.{◌≡◌, ℕ, zero, suc, ◌<◌, Bool, true, false, replicate, List, [], ◌∷◌, length, refl, sym, ap, ◌∙◌, arith}
+use Rattle.std.proofs.Common.{◌≡◌, ℕ, zero, suc, ◌<◌, Bool, true, false, List, [], ◌∷◌, length, refl, sym, ap, ◌∙◌, arith}
 use Rattle.std.specs.List.{list_all, list_any}
 use Rattle.std.proofs.lemmas.List.{length-replicate}
 use Rattle.maskrun.specs.Mask.{truth, variant_and, Variant, all_true, all_false, mixed, fitting_variant}
-use Rattle.maskrun.specs.Positions.{positions, count, rank_intersection}
+use Rattle.maskrun.specs.Positions.{positions, count, rank_intersection, repeated}
 use Rattle.maskrun.specs.declared.mask.Mask.{Mask}
 use Rattle.maskrun.specs.declared.mask.Mask.TheVariants.{AllTrue, AllFalse}
 use Rattle.maskrun.proofs.RankLemmas.{rank_intersection-all_true, rank_intersection-by_all_true, rank_intersection-all_false, rank_intersection-by_all_false}
@@ -29,13 +29,15 @@ fitting_variant-all_false [] e = refl
 fitting_variant-all_false (v ∷ m) e = fitting_variant-none all_false (v ∷ m) (omega arith) e
 
 -- the variants of lists of one value
-pub fitting_variant-replicate_true : (n : ℕ) → fitting_variant all_true (replicate n true) ≡ all_true
+pub fitting_variant-replicate_true : (n : ℕ) → fitting_variant all_true (repeated n true) ≡ all_true
+unfolding repeated
 fitting_variant-replicate_true zero = refl
 fitting_variant-replicate_true (suc n) =
-    fitting_variant-all all_true (replicate (suc n) true) (omega arith) (count-replicate_true (suc n) ∙ sym (length-replicate (suc n) true))
+    fitting_variant-all all_true (repeated (suc n) true) (omega arith) (count-replicate_true (suc n) ∙ sym (length-replicate (suc n) true))
 
-pub fitting_variant-replicate_false : (n : ℕ) → fitting_variant all_false (replicate n false) ≡ all_false
-fitting_variant-replicate_false n = fitting_variant-all_false (replicate n false) (count-replicate_false n)
+pub fitting_variant-replicate_false : (n : ℕ) → fitting_variant all_false (repeated n false) ≡ all_false
+unfolding repeated
+fitting_variant-replicate_false n = fitting_variant-all_false (repeated n false) (count-replicate_false n)
 
 -- a list with values has one variant
 pub fitting_variant-nonempty : (e f : Variant) (m : List Bool) → 0 < length m → fitting_variant e m ≡ fitting_variant f m
@@ -45,24 +47,28 @@ fitting_variant-nonempty e f (v ∷ m) some = refl
 -- ---- the arms of rank intersection that need no list of places
 
 pub truth-by_all_true_self : (a b : Mask) (n : ℕ) → a ≡ AllTrue n → length (truth b) ≡ count (truth a) → truth b ≡ rank_intersection (truth a) (truth b)
+unfolding repeated
 truth-by_all_true_self a b n is fits =
     let list = ap truth is in
     sym (ap (λ (xs : List Bool). rank_intersection xs (truth b)) list
     ∙ rank_intersection-all_true n (truth b) (fits ∙ ap count list ∙ count-replicate_true n))
 
 pub truth-by_all_true_mask : (a b : Mask) (n : ℕ) → b ≡ AllTrue n → length (truth b) ≡ count (truth a) → truth a ≡ rank_intersection (truth a) (truth b)
+unfolding repeated
 truth-by_all_true_mask a b n is fits =
     let list = ap truth is in
     sym (ap (rank_intersection (truth a)) list
     ∙ rank_intersection-by_all_true (truth a) n (sym (ap length list ∙ length-replicate n true) ∙ fits))
 
-pub truth-by_all_false_self : (a b : Mask) (n : ℕ) → a ≡ AllFalse n → length (truth b) ≡ count (truth a) → replicate (length (truth a)) false ≡ rank_intersection (truth a) (truth b)
+pub truth-by_all_false_self : (a b : Mask) (n : ℕ) → a ≡ AllFalse n → length (truth b) ≡ count (truth a) → repeated (length (truth a)) false ≡ rank_intersection (truth a) (truth b)
+unfolding repeated
 truth-by_all_false_self a b n is fits =
     let list = ap truth is in
-    ap (λ k. replicate k false) (ap length list ∙ length-replicate n false)
+    ap (λ k. repeated k false) (ap length list ∙ length-replicate n false)
     ∙ sym (ap (λ (xs : List Bool). rank_intersection xs (truth b)) list ∙ rank_intersection-all_false n (truth b) (fits ∙ ap count list))
 
-pub truth-by_all_false_mask : (a b : Mask) (n : ℕ) → b ≡ AllFalse n → length (truth b) ≡ count (truth a) → replicate (length (truth a)) false ≡ rank_intersection (truth a) (truth b)
+pub truth-by_all_false_mask : (a b : Mask) (n : ℕ) → b ≡ AllFalse n → length (truth b) ≡ count (truth a) → repeated (length (truth a)) false ≡ rank_intersection (truth a) (truth b)
+unfolding repeated
 truth-by_all_false_mask a b n is fits =
     let list = ap truth is in
     sym (ap (rank_intersection (truth a)) list

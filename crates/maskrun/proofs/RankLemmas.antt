@@ -1,11 +1,11 @@
 -- The rank intersection of two lists, by recursion on the first.
-use Rattle.std.proofs.Common.{◌≡◌, ℕ, zero, suc, ◌+◌, ◌<◌, ◌≤◌, Bool, true, false, ◌||◌, List, [], ◌∷◌, length, get_or, map, replicate, nat_eq, refl, sym, ap, ◌∙◌, arith, add-one}
+use Rattle.std.proofs.Common.{◌≡◌, ℕ, zero, suc, ◌+◌, ◌<◌, ◌≤◌, Bool, true, false, ◌||◌, List, [], ◌∷◌, length, get_or, map, nat_eq, refl, sym, ap, ◌∙◌, arith, add-one}
 use Rattle.std.proofs.Math.Dec.{eqb-suc-suc, eqb-suc-zero, eqb-zero-suc}
 use Rattle.std.specs.List.{All, list_any, range_with_len}
 use Rattle.std.proofs.lemmas.List.{length-map, get_or-map, get_or-replicate, length-replicate}
 use Rattle.std.proofs.lemmas.List.Elements.{All-nil, All-cons, All-head, All-tail, All-map, All-weaker, All-get_or}
 use Rattle.std.proofs.lemmas.List.FromFn.{length-map-range_with_len}
-use Rattle.maskrun.specs.Positions.{places_from, positions, count, true_at, at_places, rank_intersection}
+use Rattle.maskrun.specs.Positions.{places_from, positions, count, true_at, at_places, rank_intersection, repeated}
 use Rattle.maskrun.proofs.PlaceLemmas.{positions-true, positions-false, trues, count-trues, positions-within}
 
 -- ---- lists that are true at some places, by their first value
@@ -109,47 +109,56 @@ rank_intersection-narrow a b fits = narrows a b (fits ∙ count-trues a)
 -- ---- the arms that need no work
 
 -- an all-true list is a left unit
-narrow-all_true : (b : List Bool) → narrow (replicate (length b) true) b ≡ b
+narrow-all_true : (b : List Bool) → narrow (repeated (length b) true) b ≡ b
+unfolding repeated
 narrow-all_true [] = refl
 narrow-all_true (v ∷ b) = ap (λ (xs : List Bool). v ∷ xs) (narrow-all_true b)
 
-trues-replicate_true : (n : ℕ) → trues (replicate n true) ≡ n
+trues-replicate_true : (n : ℕ) → trues (repeated n true) ≡ n
+unfolding repeated
 trues-replicate_true zero = refl
 trues-replicate_true (suc n) = ap suc (trues-replicate_true n)
 
-pub rank_intersection-all_true : (n : ℕ) (b : List Bool) → length b ≡ n → rank_intersection (replicate n true) b ≡ b
+pub rank_intersection-all_true : (n : ℕ) (b : List Bool) → length b ≡ n → rank_intersection (repeated n true) b ≡ b
+unfolding repeated
 rank_intersection-all_true n b len =
-    let same = ap (λ k. replicate k true) (sym len) in
-    narrows (replicate n true) b (len ∙ sym (trues-replicate_true n)) ∙ ap (λ (xs : List Bool). narrow xs b) same ∙ narrow-all_true b
+    let same = ap (λ k. repeated k true) (sym len) in
+    narrows (repeated n true) b (len ∙ sym (trues-replicate_true n)) ∙ ap (λ (xs : List Bool). narrow xs b) same ∙ narrow-all_true b
 
 -- and a right unit
-narrow-by_all_true : (a : List Bool) → narrow a (replicate (trues a) true) ≡ a
+narrow-by_all_true : (a : List Bool) → narrow a (repeated (trues a) true) ≡ a
+unfolding repeated
 narrow-by_all_true [] = refl
 narrow-by_all_true (false ∷ a) = ap (λ (xs : List Bool). false ∷ xs) (narrow-by_all_true a)
 narrow-by_all_true (true ∷ a) = ap (λ (xs : List Bool). true ∷ xs) (narrow-by_all_true a)
 
-pub rank_intersection-by_all_true : (a : List Bool) (n : ℕ) → n ≡ count a → rank_intersection a (replicate n true) ≡ a
+pub rank_intersection-by_all_true : (a : List Bool) (n : ℕ) → n ≡ count a → rank_intersection a (repeated n true) ≡ a
+unfolding repeated
 rank_intersection-by_all_true a n fits =
-    rank_intersection-narrow a (replicate n true) (length-replicate n true ∙ fits)
-    ∙ ap (λ k. narrow a (replicate k true)) (fits ∙ count-trues a) ∙ narrow-by_all_true a
+    rank_intersection-narrow a (repeated n true) (length-replicate n true ∙ fits)
+    ∙ ap (λ k. narrow a (repeated k true)) (fits ∙ count-trues a) ∙ narrow-by_all_true a
 
 -- nothing of an all-false list, and nothing by one
-narrow-all_false : (n : ℕ) (b : List Bool) → narrow (replicate n false) b ≡ replicate n false
+narrow-all_false : (n : ℕ) (b : List Bool) → narrow (repeated n false) b ≡ repeated n false
+unfolding repeated
 narrow-all_false zero b = refl
 narrow-all_false (suc n) b = ap (λ (xs : List Bool). false ∷ xs) (narrow-all_false n b)
 
-narrow-by_all_false : (a : List Bool) (n : ℕ) → narrow a (replicate n false) ≡ replicate (length a) false
+narrow-by_all_false : (a : List Bool) (n : ℕ) → narrow a (repeated n false) ≡ repeated (length a) false
+unfolding repeated
 narrow-by_all_false [] n = refl
 narrow-by_all_false (false ∷ a) n = ap (λ (xs : List Bool). false ∷ xs) (narrow-by_all_false a n)
 narrow-by_all_false (true ∷ a) zero = ap (λ (xs : List Bool). false ∷ xs) (narrow-by_all_false a zero)
 narrow-by_all_false (true ∷ a) (suc n) = ap (λ (xs : List Bool). false ∷ xs) (narrow-by_all_false a n)
 
-pub rank_intersection-all_false : (n : ℕ) (b : List Bool) → length b ≡ count (replicate n false) → rank_intersection (replicate n false) b ≡ replicate n false
-rank_intersection-all_false n b fits = rank_intersection-narrow (replicate n false) b fits ∙ narrow-all_false n b
+pub rank_intersection-all_false : (n : ℕ) (b : List Bool) → length b ≡ count (repeated n false) → rank_intersection (repeated n false) b ≡ repeated n false
+unfolding repeated
+rank_intersection-all_false n b fits = rank_intersection-narrow (repeated n false) b fits ∙ narrow-all_false n b
 
-pub rank_intersection-by_all_false : (a : List Bool) (n : ℕ) → n ≡ count a → rank_intersection a (replicate n false) ≡ replicate (length a) false
+pub rank_intersection-by_all_false : (a : List Bool) (n : ℕ) → n ≡ count a → rank_intersection a (repeated n false) ≡ repeated (length a) false
+unfolding repeated
 rank_intersection-by_all_false a n fits =
-    rank_intersection-narrow a (replicate n false) (length-replicate n false ∙ fits) ∙ narrow-by_all_false a n
+    rank_intersection-narrow a (repeated n false) (length-replicate n false ∙ fits) ∙ narrow-by_all_false a n
 
 -- ---- bounds and lengths
 

@@ -1,9 +1,9 @@
 -- What a contract sees of a `Mask`: its list, the variant that holds it, and what is inside `Values`.
-use Rattle.std.specs.Prelude.{ℕ, ◌≡◌, Bool, true, false, List, [], ◌∷◌, length, replicate, Option, Some, None, if◌then◌else◌, ◌⊎◌}
+use Rattle.std.specs.Prelude.{ℕ, ◌≡◌, Bool, true, false, List, [], ◌∷◌, length, Option, Some, None, if◌then◌else◌, ◌⊎◌}
 use Rattle.std.specs.List.{list_all, list_any}
 use Rattle.maskrun.specs.Buffer.{Packed, values}
 use Rattle.maskrun.specs.MaskValues.{Contents}
-use Rattle.maskrun.specs.Positions.{count}
+use Rattle.maskrun.specs.Positions.{count, repeated}
 use Rattle.maskrun.specs.declared.mask.all_or.AllOr.{AllOr}
 use Rattle.maskrun.specs.declared.mask.all_or.AllOr.TheVariants as all_or
 use Rattle.maskrun.specs.declared.mask.Mask.{Mask}
@@ -11,8 +11,8 @@ use Rattle.maskrun.specs.declared.mask.Mask.TheVariants.{AllTrue, AllFalse, Valu
 
 -- the truth values of a mask, however it is held
 abbrev pub truth : Mask → List Bool
-truth (AllTrue n) = replicate n true
-truth (AllFalse n) = replicate n false
+truth (AllTrue n) = repeated n true
+truth (AllFalse n) = repeated n false
 truth (Values v) = values v.value.buffer
 
 -- the three ways to hold a mask: `AllTrue`, `AllFalse` and `Values`

@@ -1,6 +1,10 @@
 -- A mask is a list of truth values. These words say where its true values stand and how many there are.
-use Rattle.std.specs.Prelude.{ℕ, ◌+◌, ◌≡◌, ◌<◌, Bool, true, false, nat_eq, List, [], ◌∷◌, length, take, drop, map, slice_index_or, slice_get}
+use Rattle.std.specs.Prelude.{ℕ, ◌+◌, ◌≡◌, ◌<◌, Bool, true, false, nat_eq, List, [], ◌∷◌, length, take, drop, map, replicate, slice_index_or, slice_get}
 use Rattle.std.specs.List.{list_any, range_with_len, filter_map}
+
+-- n values, each v
+unfoldable pub repeated : ℕ → Bool → List Bool
+repeated n v = replicate n v
 
 -- the places from n on that hold true, where the list's first place is n
 abbrev pub places_from : ℕ → List Bool → List ℕ

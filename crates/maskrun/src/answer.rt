@@ -4,6 +4,8 @@ ghost use Rattle.std.specs.Prelude.{◌≡◌, ◌⊎◌, Ok, Err, Result, List,
 ghost use Rattle.maskrun.specs.Answer.{line, rank_line, out_of_memory};
 
 mod error;
+#[cfg(test)]
+mod tests;
 mod word;
 
 use crate::answer::word::{mask_text, read_mask};

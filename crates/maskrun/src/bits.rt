@@ -2,6 +2,8 @@
 
 mod buffer;
 mod indices;
+#[cfg(test)]
+mod tests;
 
 pub use buffer::BitBuffer;
 pub use indices::SetIndices;

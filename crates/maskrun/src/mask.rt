@@ -12,6 +12,8 @@ ghost use Rattle.maskrun.specs.declared.mask.Mask.TheVariants.{AllTrue};
 mod all_or;
 mod error;
 mod intersect_by_rank;
+#[cfg(test)]
+mod tests;
 mod values;
 
 use crate::bits::BitBuffer;
@@ -119,6 +121,7 @@ impl Mask {
 }
 
 /// What a mask holds.
+#[tactic(auto, using(crate::proofs::CountLemmas::repeated_facts))]
 impl Mask {
     /// How many values there are.
     pub fn len(&self) -> usize

@@ -1,11 +1,12 @@
 use Rattle.std.proofs.Common.{true, length, ap, sym, ◌∙◌}
 use Rattle.std.proofs.lemmas.Bool.{eqb-true, eq-eqb}
 use Rattle.maskrun.specs.Mask.{truth}
-use Rattle.maskrun.specs.Positions.{count}
+use Rattle.maskrun.specs.Positions.{count, repeated}
 use Rattle.maskrun.proofs.CountLemmas.{all_true_from_count, All-replicate, replicate_from_All, count-replicate_true}
 use Rattle.maskrun.proofs.mask.Mask.all_true.Goals as goal
 
 pub returns : goal.returns
+unfolding repeated
 returns c =
     let m = truth c.args.self.now in
     let is_count = c.true_count.ensures in

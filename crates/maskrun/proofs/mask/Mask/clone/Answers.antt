@@ -1,7 +1,7 @@
 use Rattle.std.proofs.Common.{◌<◌, length, sym, ap, arith}
 use Rattle.maskrun.specs.Buffer.{values}
 use Rattle.maskrun.specs.Mask.{mixed}
-use Rattle.maskrun.specs.Positions.{count}
+use Rattle.maskrun.specs.Positions.{count, repeated}
 use Rattle.maskrun.proofs.MaskLemmas.{fitting_variant-replicate_true, fitting_variant-replicate_false, fitting_variant-some}
 use Rattle.maskrun.proofs.mask.Mask.clone.Goals as goal
 

@@ -1,24 +1,26 @@
-use Rattle.std.proofs.Common.{◌<◌, ◌≢◌, false, true, length, replicate, ap, sym, ◌∙◌, arith}
+use Rattle.std.proofs.Common.{◌<◌, ◌≢◌, false, true, length, ap, sym, ◌∙◌, arith}
 use Rattle.maskrun.specs.Buffer.{values}
 use Rattle.maskrun.specs.Mask.{all_false}
-use Rattle.maskrun.specs.Positions.{count}
+use Rattle.maskrun.specs.Positions.{count, repeated}
 use Rattle.maskrun.proofs.CountLemmas.{all_true_from_count, all_false_from_count}
 use Rattle.maskrun.proofs.MaskLemmas.{fitting_variant-all, fitting_variant-all_false, fitting_variant-some}
 use Rattle.maskrun.proofs.PlaceLemmas.{length-places_from}
 use Rattle.maskrun.proofs.mask.Mask.from_buffer.Goals as goal
 
 pub returns-then-true_count-eq0-clause-list : goal.returns-then-true_count-eq0-clause-list
+unfolding repeated
 returns-then-true_count-eq0-clause-list c =
     let m = values c.args.buffer in
-    ap (λ n. replicate n false) c.len-len.ensures ∙ sym (all_false_from_count 0 m (omega arith))
+    ap (λ n. repeated n false) c.len-len.ensures ∙ sym (all_false_from_count 0 m (omega arith))
 
 pub returns-then-true_count-eq0-clause-variant : goal.returns-then-true_count-eq0-clause-variant
 returns-then-true_count-eq0-clause-variant c = sym (fitting_variant-all_false (values c.args.buffer) (omega arith))
 
 pub returns-then-true_count-len-clause-list : goal.returns-then-true_count-len-clause-list
+unfolding repeated
 returns-then-true_count-len-clause-list c =
     let m = values c.args.buffer in
-    ap (λ n. replicate n true) c.len-len.ensures ∙ sym (all_true_from_count 0 m (omega arith))
+    ap (λ n. repeated n true) c.len-len.ensures ∙ sym (all_true_from_count 0 m (omega arith))
 
 pub returns-then-true_count-len-clause-variant : goal.returns-then-true_count-len-clause-variant
 returns-then-true_count-len-clause-variant c =

@@ -1,8 +1,8 @@
-use Rattle.std.proofs.Common.{◌≡◌, ◌<◌, length, false, replicate, sym, ap, ◌∙◌, arith}
+use Rattle.std.proofs.Common.{◌≡◌, ◌<◌, length, false, sym, ap, ◌∙◌, arith}
 use Rattle.std.proofs.lemmas.Result.{IfOk-weaker}
 use Rattle.maskrun.specs.Buffer.{values}
 use Rattle.maskrun.specs.Mask.{truth, variant, fitting_variant, variant_and, mixed, all_false}
-use Rattle.maskrun.specs.Positions.{positions, count, rank_intersection}
+use Rattle.maskrun.specs.Positions.{positions, count, rank_intersection, repeated}
 use Rattle.maskrun.proofs.MaskLemmas.{fitting_variant-nonempty, fitting_variant-replicate_false, truth-by_all_true_self, truth-by_all_true_mask, truth-by_all_false_self, truth-by_all_false_mask, variant_and-all_false_right}
 use Rattle.maskrun.proofs.RankLemmas.{length-true_at}
 use Rattle.maskrun.proofs.ResultLemmas.{IfOk-both}
@@ -23,8 +23,9 @@ returns-in_default-AllTrue-clause-list c =
     ]) c.clone-in_default-AllTrue.ensures.list
 
 pub returns-in-AllFalse-default-clause-list : goal.returns-in-AllFalse-default-clause-list
+unfolding repeated
 returns-in-AllFalse-default-clause-list c =
-    ap truth c.new_false.ensures ∙ ap (λ k. replicate k false) c.len.ensures
+    ap truth c.new_false.ensures ∙ ap (λ k. repeated k false) c.len.ensures
     ∙ truth-by_all_false_self c.args.self.now c.args.mask.now _ c.in-AllFalse-default.is-0 c.requires
 
 pub returns-in-AllFalse-default-clause-variant : goal.returns-in-AllFalse-default-clause-variant
@@ -32,8 +33,9 @@ returns-in-AllFalse-default-clause-variant c =
     rw (c.new_false.ensures, c.in-AllFalse-default.is-0) (sym (fitting_variant-replicate_false c.len.result))
 
 pub returns-in_default-AllFalse-clause-list : goal.returns-in_default-AllFalse-clause-list
+unfolding repeated
 returns-in_default-AllFalse-clause-list c =
-    ap truth c.new_false-in_default-AllFalse.ensures ∙ ap (λ k. replicate k false) c.len-in_default-AllFalse.ensures
+    ap truth c.new_false-in_default-AllFalse.ensures ∙ ap (λ k. repeated k false) c.len-in_default-AllFalse.ensures
     ∙ truth-by_all_false_mask c.args.self.now c.args.mask.now _ c.in_default-AllFalse.is-1 c.requires
 
 pub returns-in_default-AllFalse-clause-variant : goal.returns-in_default-AllFalse-clause-variant

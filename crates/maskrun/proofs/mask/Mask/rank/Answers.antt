@@ -3,11 +3,12 @@ use Rattle.std.specs.Option.{is_some}
 use Rattle.std.proofs.lemmas.Option.{slice_get-get_or}
 use Rattle.maskrun.specs.Buffer.{values}
 use Rattle.maskrun.specs.Mask.{truth}
-use Rattle.maskrun.specs.Positions.{positions, count}
+use Rattle.maskrun.specs.Positions.{positions, count, repeated}
 use Rattle.maskrun.proofs.CountLemmas.{count-replicate_true, count-replicate_false, positions-replicate_true_at}
 use Rattle.maskrun.proofs.mask.Mask.rank.Goals as goal
 
 pub returns-in-AllTrue : goal.returns-in-AllTrue
+unfolding repeated
 returns-in-AllTrue c =
     let n = c.args.n in
     let len = c.in-AllTrue.field-0 in
@@ -15,10 +16,12 @@ returns-in-AllTrue c =
     rw c.in-AllTrue.is (positions-replicate_true_at len n below)
 
 pub unreachable-requires : goal.unreachable-requires
+unfolding repeated
 unreachable-requires c =
     omega (arith, ap (λ m. count (truth m)) c.in-AllFalse.is, count-replicate_false c.in-AllFalse.field-0)
 
 pub unwrap-requires : goal.unwrap-requires
+unfolding repeated
 unwrap-requires c =
     let buffer = ap (λ v. v.buffer) c.deref.ensures in
     let places = positions (values c.in-Values.values.value.buffer) in

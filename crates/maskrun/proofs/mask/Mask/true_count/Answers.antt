@@ -1,4 +1,5 @@
 use Rattle.std.proofs.Common.{sym}
+use Rattle.maskrun.specs.Positions.{repeated}
 use Rattle.maskrun.proofs.CountLemmas.{count-replicate_true, count-replicate_false}
 use Rattle.maskrun.proofs.mask.Mask.true_count.Goals as goal
 

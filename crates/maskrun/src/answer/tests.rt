@@ -1,0 +1,56 @@
+use crate::answer::{RunError, answer};
+use crate::mask::MaskError;
+use std::alloc::{AllocError, Global};
+use std::test::Fail;
+
+// The line for a command line with single spaces between its words, or the fault's text.
+fn printed(alloc: Global, command_line: &str) -> Result<String, AllocError> {
+    let mut words = Vec::new(alloc);
+    for word in command_line.split(' ') {
+        words.push(String::from_str(alloc, word)?)?;
+    }
+    match answer(alloc, &words) {
+        Ok(line) => Ok(line),
+        Err(fault) => format!(in alloc; "{fault}"),
+    }
+}
+
+#[test]
+fn lines_and_faults(rt: HostRuntime) -> Result<(), Fail> {
+    for (words, want) in [
+        ("rank 10011101 00101", "00001001"),
+        ("rank 1111 0110", "0110"),
+        ("rank 0110 11", "0110"),
+        ("rank 0110 00", "0000"),
+        ("rank - -", "-"),
+        ("rank 000 -", "000"),
+        ("rank 10 10", "length 2 where 1 is needed"),
+        ("rank 101 1", "length 1 where 2 is needed"),
+        ("rank 11 x", "word 2: byte 0 is not 0 or 1"),
+        ("rank 1a1 11", "word 1: byte 1 is not 0 or 1"),
+        ("rank 1a1 1b", "word 1: byte 1 is not 0 or 1"),
+        ("rank  1", "word 1: byte 0 is not 0 or 1"),
+        ("rank 1é 1", "word 1: byte 1 is not 0 or 1"),
+        ("rank 1- 1", "word 1: byte 1 is not 0 or 1"),
+        ("rank -- -", "word 1: byte 0 is not 0 or 1"),
+        ("rank 1", "usage: maskrun COMMAND WORDS"),
+        ("rank 1 1 1", "usage: maskrun COMMAND WORDS"),
+        ("RANK 1 1", "usage: maskrun COMMAND WORDS"),
+        ("and 1 1", "usage: maskrun COMMAND WORDS"),
+        ("", "usage: maskrun COMMAND WORDS"),
+    ] {
+        assert_eq!(rt; printed(rt.alloc(), words)?.as_str(), want, "{words}");
+    }
+    assert!(rt; matches!(answer(rt.alloc(), &[]), Err(RunError::Usage)));
+    Ok(())
+}
+
+#[test]
+fn texts_of_faults(rt: HostRuntime) -> Result<(), Fail> {
+    let fault = RunError::Mask(MaskError::Memory(AllocError));
+    assert_eq!(rt;
+        format!(in rt.alloc(); "{fault}")?.as_str(),
+        "out of memory"
+    );
+    Ok(())
+}
