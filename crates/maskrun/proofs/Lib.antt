@@ -1,7 +1,9 @@
 -- Lemmas.
 pub mod BitLemmas
 pub mod BufferLemmas
+pub mod ChooseLemmas
 pub mod CountLemmas
+pub mod LawLemmas
 pub mod MaskLemmas
 pub mod PlaceLemmas
 pub mod RankLemmas

@@ -29,15 +29,15 @@ fitting_variant-all_false [] e = refl
 fitting_variant-all_false (v ∷ m) e = fitting_variant-none all_false (v ∷ m) (omega arith) e
 
 -- the variants of lists of one value
-pub fitting_variant-replicate_true : (n : ℕ) → fitting_variant all_true (repeated n true) ≡ all_true
+pub fitting_variant-repeated_true : (n : ℕ) → fitting_variant all_true (repeated n true) ≡ all_true
 unfolding repeated
-fitting_variant-replicate_true zero = refl
-fitting_variant-replicate_true (suc n) =
+fitting_variant-repeated_true zero = refl
+fitting_variant-repeated_true (suc n) =
     fitting_variant-all all_true (repeated (suc n) true) (omega arith) (count-replicate_true (suc n) ∙ sym (length-replicate (suc n) true))
 
-pub fitting_variant-replicate_false : (n : ℕ) → fitting_variant all_false (repeated n false) ≡ all_false
+pub fitting_variant-repeated_false : (n : ℕ) → fitting_variant all_false (repeated n false) ≡ all_false
 unfolding repeated
-fitting_variant-replicate_false n = fitting_variant-all_false (repeated n false) (count-replicate_false n)
+fitting_variant-repeated_false n = fitting_variant-all_false (repeated n false) (count-replicate_false n)
 
 -- a list with values has one variant
 pub fitting_variant-nonempty : (e f : Variant) (m : List Bool) → 0 < length m → fitting_variant e m ≡ fitting_variant f m

@@ -58,7 +58,7 @@ at_places-map_suc ps (q ∷ qs) all =
     ∙ ap (λ (xs : List ℕ). suc (get_or ps q 0) ∷ xs) (at_places-map_suc ps qs rest)
 
 -- of a list past its first entry
-at_places-cons_suc : (p : ℕ) (ps qs : List ℕ) → at_places (p ∷ ps) (map suc qs) ≡ at_places ps qs
+pub at_places-cons_suc : (p : ℕ) (ps qs : List ℕ) → at_places (p ∷ ps) (map suc qs) ≡ at_places ps qs
 at_places-cons_suc p ps [] = refl
 at_places-cons_suc p ps (q ∷ qs) = ap (λ (xs : List ℕ). get_or ps q 0 ∷ xs) (at_places-cons_suc p ps qs)
 
@@ -72,7 +72,7 @@ narrow (true ∷ a) [] = false ∷ narrow a []
 narrow (true ∷ a) (v ∷ b) = v ∷ narrow a b
 
 -- the positions of b are within those of a, which are as many as b is long
-positions-fit : (a b : List Bool) → length b ≡ trues a → All (λ q. q < length (positions a)) (positions b)
+pub positions-fit : (a b : List Bool) → length b ≡ trues a → All (λ q. q < length (positions a)) (positions b)
 positions-fit a b fits =
     All-weaker (λ q. q < length b) (λ q. q < length (positions a)) (λ q h. omega (arith, count-trues a)) (positions b) (positions-within b)
 

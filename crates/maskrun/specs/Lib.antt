@@ -1,6 +1,7 @@
 pub mod AllOr
 pub mod Answer
 pub mod Buffer
+pub mod Laws
 pub mod Mask
 pub mod MaskValues
 pub mod Positions

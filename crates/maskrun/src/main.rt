@@ -3,6 +3,7 @@
 
 pub mod answer;
 pub mod bits;
+pub mod laws;
 pub mod mask;
 
 use std::alloc::Global;

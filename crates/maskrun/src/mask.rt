@@ -10,6 +10,7 @@ ghost use Rattle.maskrun.specs.Positions.{positions, count};
 ghost use Rattle.maskrun.specs.declared.mask.Mask.TheVariants.{AllTrue};
 
 mod all_or;
+mod choose;
 mod error;
 mod intersect_by_rank;
 #[cfg(test)]

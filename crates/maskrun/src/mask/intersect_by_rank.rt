@@ -12,6 +12,11 @@ impl Mask {
     /// number `k` stays true exactly where value `k` of `mask` is true.
     pub fn intersect_by_rank(&self, alloc: Global, mask: &Mask) -> Result<Mask, MaskError>
         requires { length (truth mask.now) ≡ count (truth self.now) }
+        ensures len { IfOk result (λ m. length (truth m) ≡ length (truth self.now)) }
+        ensures true_indices { IfOk result (λ m. positions (truth m)
+            ≡ at_places (positions (truth self.now)) (positions (truth mask.now))) }
+
+        // The one list of that length and with those true indices.
         ensures list { IfOk result
             (λ m. truth m ≡ rank_intersection (truth self.now) (truth mask.now)) }
         ensures variant { IfOk result (λ m. variant m

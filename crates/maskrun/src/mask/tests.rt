@@ -1,4 +1,9 @@
+ghost use Rattle.std.specs.Prelude.{◌≡◌, IfOk, length};
+ghost use Rattle.maskrun.specs.Mask.{truth};
+ghost use Rattle.maskrun.specs.Positions.{count};
+
 use crate::bits::BitBuffer;
+use crate::laws;
 use crate::mask::{AllOr, Mask, MaskError};
 use bytes::Bytes;
 use std::alloc::{AllocError, Global};
@@ -130,5 +135,69 @@ fn what_a_mask_holds(rt: HostRuntime) -> Result<(), Fail> {
 fn texts_of_faults(rt: HostRuntime) -> Result<(), Fail> {
     let text = format!(in rt.alloc(); "{}", MaskError::Memory(AllocError))?;
     assert_eq!(rt; text.as_str(), "out of memory");
+    Ok(())
+}
+
+// Chooses rows by the rank intersection of two masks, and by one mask after the other.
+fn chosen_both_ways<T: Copy>(
+    alloc: Global,
+    rows: &[T],
+    a: &Mask,
+    b: &Mask,
+) -> Result<(Vec<T>, Vec<T>), MaskError>
+    requires rows { length rows.now ≡ length (truth a.now) }
+    requires ranks { length (truth b.now) ≡ count (truth a.now) }
+    ensures same { IfOk result (λ both. both.0.items ≡ both.1.items) }
+{
+    laws::choosing_twice::<T>();
+    let at_once = a.intersect_by_rank(alloc, b)?.choose(alloc, rows)?;
+    let first = a.choose(alloc, rows)?;
+    let in_turn = b.choose(alloc, &first)?;
+    Ok((at_once, in_turn))
+}
+
+#[test]
+fn chosen_rows(rt: HostRuntime) -> Result<(), Fail> {
+    let alloc = rt.alloc();
+    let a = mask(alloc, "10011101")?;
+    let b = mask(alloc, "00101")?;
+    let rows = [10, 11, 12, 13, 14, 15, 16, 17];
+    assert_eq!(rt; (rows.len(), b.len()), (a.len(), a.true_count()));
+    let (at_once, in_turn) = chosen_both_ways(alloc, &rows, &a, &b)?;
+    assert_eq!(rt; at_once.as_slice(), [14, 17].as_slice());
+    assert_eq!(rt; in_turn.as_slice(), [14, 17].as_slice());
+    let first = a.choose(alloc, &rows)?;
+    assert_eq!(rt; first.as_slice(), [10, 13, 14, 15, 17].as_slice());
+
+    for (made, rows, want) in [
+        (mask(alloc, "000")?, [1, 2, 3].as_slice(), [].as_slice()),
+        (
+            Mask::new_true(3),
+            [7, 7, 8].as_slice(),
+            [7, 7, 8].as_slice(),
+        ),
+        (Mask::new_false(0), [].as_slice(), [].as_slice()),
+    ] {
+        assert_eq!(rt; rows.len(), made.len());
+        assert_eq!(rt; made.choose(alloc, rows)?.as_slice(), want);
+    }
+    Ok(())
+}
+
+#[test]
+fn stacked_masks_in_either_grouping(rt: HostRuntime) -> Result<(), Fail> {
+    let alloc = rt.alloc();
+    let a = mask(alloc, "10011101")?;
+    let b = mask(alloc, "00101")?;
+    let c = mask(alloc, "10")?;
+    assert_eq!(rt; (b.len(), c.len()), (a.true_count(), b.true_count()));
+    let left = a.intersect_by_rank(alloc, &b)?;
+    assert_eq!(rt; c.len(), left.true_count());
+    let from_left = left.intersect_by_rank(alloc, &c)?;
+    let right = b.intersect_by_rank(alloc, &c)?;
+    assert_eq!(rt; right.len(), a.true_count());
+    let from_right = a.intersect_by_rank(alloc, &right)?;
+    assert_eq!(rt; shown(alloc, &from_left)?.as_str(), "00001000");
+    assert_eq!(rt; shown(alloc, &from_right)?.as_str(), "00001000");
     Ok(())
 }

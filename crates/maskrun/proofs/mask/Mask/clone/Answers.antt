@@ -2,15 +2,15 @@ use Rattle.std.proofs.Common.{◌<◌, length, sym, ap, arith}
 use Rattle.maskrun.specs.Buffer.{values}
 use Rattle.maskrun.specs.Mask.{mixed}
 use Rattle.maskrun.specs.Positions.{count, repeated}
-use Rattle.maskrun.proofs.MaskLemmas.{fitting_variant-replicate_true, fitting_variant-replicate_false, fitting_variant-some}
+use Rattle.maskrun.proofs.MaskLemmas.{fitting_variant-repeated_true, fitting_variant-repeated_false, fitting_variant-some}
 use Rattle.maskrun.proofs.mask.Mask.clone.Goals as goal
 
 pub returns-in-AllTrue-clause-fitting : goal.returns-in-AllTrue-clause-fitting
-returns-in-AllTrue-clause-fitting c = rw c.in-AllTrue.is (sym (fitting_variant-replicate_true c.in-AllTrue.len))
+returns-in-AllTrue-clause-fitting c = rw c.in-AllTrue.is (sym (fitting_variant-repeated_true c.in-AllTrue.len))
 
 pub returns-in-AllFalse-clause-fitting : goal.returns-in-AllFalse-clause-fitting
 returns-in-AllFalse-clause-fitting c =
-    rw c.in-AllFalse.is (sym (fitting_variant-replicate_false c.in-AllFalse.len))
+    rw c.in-AllFalse.is (sym (fitting_variant-repeated_false c.in-AllFalse.len))
 
 pub returns-in_ok-clone-in-Values-clause-fitting : goal.returns-in_ok-clone-in-Values-clause-fitting
 returns-in_ok-clone-in-Values-clause-fitting c =
