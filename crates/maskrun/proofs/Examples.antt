@@ -1,0 +1,81 @@
+-- Worked rows of the definitions, which the checker computes.
+use Rattle.std.proofs.Common.{◌≡◌, ℕ, Bool, true, false, List, [], ◌∷◌, Ok, Err, codes, refl}
+use Rattle.maskrun.specs.Answer.{text, line, mask_word}
+use Rattle.maskrun.specs.Buffer.{values}
+use Rattle.maskrun.specs.Positions.{positions, count, count_below, repeated, true_at, rank_intersection, chosen}
+use Rattle.maskrun.specs.declared.answer.error.RunError.TheVariants.{Usage, BadBit, LengthsDiffer}
+
+-- 10011101 and 00101
+a : List Bool
+a = true ∷ false ∷ false ∷ true ∷ true ∷ true ∷ false ∷ true ∷ []
+
+b : List Bool
+b = false ∷ false ∷ true ∷ false ∷ true ∷ []
+
+positions_of_a : positions a ≡ 0 ∷ 3 ∷ 4 ∷ 5 ∷ 7 ∷ []
+unfolding a
+positions_of_a = refl
+
+count_below_of_a : count_below a 5 ≡ 3
+unfolding a
+count_below_of_a = refl
+
+a_narrowed_by_b : rank_intersection a b ≡ false ∷ false ∷ false ∷ false ∷ true ∷ false ∷ false ∷ true ∷ []
+unfolding a b true_at
+a_narrowed_by_b = refl
+
+narrowed_by_nothing : rank_intersection (repeated 3 false) [] ≡ repeated 3 false
+unfolding true_at repeated
+narrowed_by_nothing = refl
+
+-- rows 10 to 17, by a and then by b
+rows_by_a : chosen {X = ℕ} (10 ∷ 11 ∷ 12 ∷ 13 ∷ 14 ∷ 15 ∷ 16 ∷ 17 ∷ []) a ≡ 10 ∷ 13 ∷ 14 ∷ 15 ∷ 17 ∷ []
+unfolding a chosen
+rows_by_a = refl
+
+rows_by_a_and_b : chosen {X = ℕ} (10 ∷ 13 ∷ 14 ∷ 15 ∷ 17 ∷ []) b ≡ 14 ∷ 17 ∷ []
+unfolding b chosen
+rows_by_a_and_b = refl
+
+-- bits 2 to 6 of the bytes 0xB4 and 0xFF, and the last bit of 0x80
+bits_at_an_odd_offset : values (record { bytes = 180 ∷ 255 ∷ []; offset = 2; len = 5 }) ≡ true ∷ false ∷ true ∷ true ∷ false ∷ []
+unfolding values
+bits_at_an_odd_offset = refl
+
+the_last_bit : values (record { bytes = 128 ∷ []; offset = 7; len = 1 }) ≡ true ∷ []
+unfolding values
+the_last_bit = refl
+
+-- lines and faults
+rank_of_two : line (codes "rank" ∷ codes "0110" ∷ codes "11" ∷ []) ≡ Ok (codes "0110")
+unfolding true_at
+rank_of_two = refl
+
+rank_of_empty : line (codes "rank" ∷ codes "-" ∷ codes "-" ∷ []) ≡ Ok (codes "-")
+unfolding true_at
+rank_of_empty = refl
+
+rank_of_none : line (codes "rank" ∷ codes "000" ∷ codes "-" ∷ []) ≡ Ok (codes "000")
+unfolding true_at
+rank_of_none = refl
+
+shorter_mask : line (codes "rank" ∷ codes "101" ∷ codes "1" ∷ []) ≡ Err (LengthsDiffer 2 1)
+shorter_mask = refl
+
+longer_mask : line (codes "rank" ∷ codes "10" ∷ codes "10" ∷ []) ≡ Err (LengthsDiffer 1 2)
+longer_mask = refl
+
+bad_digit : line (codes "rank" ∷ codes "1a1" ∷ codes "1b" ∷ []) ≡ Err (BadBit 1 1)
+bad_digit = refl
+
+empty_word : line (codes "rank" ∷ codes "1" ∷ [] ∷ []) ≡ Err (BadBit 2 0)
+empty_word = refl
+
+two_dashes : mask_word 1 (codes "--") ≡ Err (BadBit 1 0)
+two_dashes = refl
+
+no_words : line [] ≡ Err Usage
+no_words = refl
+
+other_command : line (codes "and" ∷ codes "1" ∷ codes "1" ∷ []) ≡ Err Usage
+other_command = refl
