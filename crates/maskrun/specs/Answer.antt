@@ -1,10 +1,10 @@
 -- The line that a command prints, as a function of its words.
 use Rattle.std.specs.Prelude.{ℕ, ◌≡◌, Bool, true, false, not, ◌==◌, ◌||◌, List, [], ◌∷◌, length, map, Option, Some, None, Result, Ok, Err, position, codes, alloc_error, if◌then◌else◌}
 use Rattle.std.specs.Str.{bytes_eq}
-use Rattle.maskrun.specs.Positions.{count, rank_intersection}
+use Rattle.mask_bits.specs.Positions.{count, rank_intersection}
 use Rattle.maskrun.specs.declared.answer.error.RunError.{RunError}
 use Rattle.maskrun.specs.declared.answer.error.RunError.TheVariants.{Usage, BadBit, LengthsDiffer, Mask}
-use Rattle.maskrun.specs.declared.mask.error.MaskError.TheVariants.{Memory}
+use Rattle.vortex_mask.specs.declared.mask.error.MaskError.TheVariants.{Memory}
 
 -- `1` for true and `0` for false
 abbrev pub digit : Bool → ℕ

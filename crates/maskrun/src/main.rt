@@ -2,9 +2,6 @@
 #![tactic(auto)]
 
 pub mod answer;
-pub mod bits;
-pub mod laws;
-pub mod mask;
 
 use std::alloc::Global;
 use std::process::ExitCode;

@@ -1,10 +1,10 @@
 ghost use Rattle.std.specs.Prelude.{◌≡◌};
 ghost use Rattle.maskrun.specs.declared.answer.error.RunError.TheVariants as run_error;
-ghost use Rattle.maskrun.specs.declared.mask.error.MaskError.TheVariants.{Memory};
+ghost use Rattle.vortex_mask.specs.declared.mask.error.MaskError.TheVariants.{Memory};
 
-use crate::mask::MaskError;
 use std::alloc::AllocError;
 use thiserror::Error;
+use vortex_mask::mask::MaskError;
 
 /// Why a command printed no line.
 #[derive(Debug, Drop, Error)]

@@ -1,10 +1,10 @@
 ghost use Rattle.std.specs.Prelude.{◌≡◌, ◌==◌, ◌<◌, ◌⊎◌, Ok, Err, IfOk, IfErr, map, position, string_bytes};
 ghost use Rattle.maskrun.specs.Answer.{mask_word, digit, is_bad_digit, text, out_of_memory};
-ghost use Rattle.maskrun.specs.Mask.{truth};
+ghost use Rattle.vortex_mask.specs.Mask.{truth};
 
 use crate::answer::RunError;
-use crate::mask::{Mask, MaskError};
 use std::alloc::{AllocError, Global};
+use vortex_mask::mask::{Mask, MaskError};
 
 // The mask that word number `word` says.
 pub(crate) fn read_mask(alloc: Global, word: usize, digits: &str) -> Result<Mask, RunError>

@@ -1,7 +1,7 @@
 use Rattle.std.proofs.Common.{◌==◌, rules}
 use Rattle.std.proofs.lemmas.Iterator.{YieldsList-from_slice, YieldsList-from_map}
 use Rattle.std.proofs.lemmas.Result.{IfOk-weaker}
-use Rattle.maskrun.specs.Mask.{truth}
+use Rattle.vortex_mask.specs.Mask.{truth}
 use Rattle.maskrun.proofs.YieldLemmas.{list_from_drains}
 use Rattle.maskrun.proofs.answer.word.mask_of_digits.Goals as goal
 

@@ -1,6 +1,6 @@
 use Rattle.std.proofs.Common.{◌≡◌, ◌≤◌, take, map, length, string_bytes}
 use Rattle.maskrun.specs.Answer.{digit}
-use Rattle.maskrun.specs.Mask.{truth}
+use Rattle.vortex_mask.specs.Mask.{truth}
 use Rattle.maskrun.proofs.answer.word.mask_text.Given as goal
 
 abbrev pub invariant-loop-place : goal.invariant-loop-place

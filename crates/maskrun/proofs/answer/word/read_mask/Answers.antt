@@ -1,7 +1,7 @@
 use Rattle.std.proofs.Common.{Ok, false, if◌then◌else◌, [], ap, sym, ◌∙◌}
 use Rattle.maskrun.specs.Answer.{nonempty_word}
-use Rattle.maskrun.specs.Mask.{truth}
-use Rattle.maskrun.proofs.CountLemmas.{nil-repeated}
+use Rattle.vortex_mask.specs.Mask.{truth}
+use Rattle.mask_bits.proofs.Lists.CountLemmas.{nil-repeated}
 use Rattle.maskrun.proofs.answer.word.read_mask.Goals as goal
 
 pub returns-then-eq-clause-mask : goal.returns-then-eq-clause-mask

@@ -1,0 +1,53 @@
+-- One bit of a list of bytes, read and set.
+use Rattle.std.proofs.Common.{◌≡◌, ◌≢◌, ℕ, zero, ◌+◌, ◌*◌, ◌/◌, ◌%◌, ◌^◌, ◌<◌, Bool, true, false, ◌||◌, List, length, get_or, set, replicate, nat_eq, refl, sym, ap, ◌∙◌, inl, inr, arith, rules}
+use Rattle.std.specs.Int.{bit_at, w8}
+use Rattle.std.specs.Int.RustNames.{bit_or}
+use Rattle.std.proofs.lemmas.Bool.{cases_eq, eq-eqb, ne_eqb}
+use Rattle.std.proofs.lemmas.List.{get_or-set_same, get_or-set_other, get_or-replicate, get_or_past, length-replicate}
+use Rattle.std.proofs.lemmas.Nat.Bits.{bit_at_set_same, bit_at_set_other, bit_at-zero}
+use Rattle.std.proofs.lemmas.Bool.{cases_lt}
+use Rattle.mask_bits.specs.Buffer.{backing_bit}
+
+-- the bytes with the bit at q set
+abbrev pub with_bit : List ℕ → ℕ → List ℕ
+with_bit bytes q = set bytes (q / 8) (bit_or (get_or bytes (q / 8) 0) (1 * 2 ^ (q % 8) % 256))
+
+-- the bit that was set
+backing_bit-with_bit_same : (bytes : List ℕ) (q : ℕ) → q < 8 * length bytes → backing_bit (with_bit bytes q) q ≡ true
+backing_bit-with_bit_same bytes q h =
+    let x = get_or bytes (q / 8) 0 in
+    let read = get_or-set_same bytes (q / 8) (bit_or x (1 * 2 ^ (q % 8) % 256)) 0 (omega arith) in
+    ap (λ b. nat_eq (bit_at b (q % 8)) 1) read ∙ ap (λ v. nat_eq v 1) (bit_at_set_same w8 x (q % 8) (omega arith))
+
+-- each other bit
+backing_bit-with_bit_other : (bytes : List ℕ) (q p : ℕ) → q < 8 * length bytes → p ≢ q → backing_bit (with_bit bytes q) p ≡ backing_bit bytes p
+backing_bit-with_bit_other bytes q p h differs =
+    let x = get_or bytes (q / 8) 0 in
+    let y = bit_or x (1 * 2 ^ (q % 8) % 256) in
+    elim (cases_eq (p / 8) (q / 8)) [
+      | inl same ↦
+          let read : get_or (set bytes (q / 8) y) (p / 8) 0 ≡ y = ap (λ i. get_or (set bytes (q / 8) y) i 0) same ∙ get_or-set_same bytes (q / 8) y 0 (omega arith) in
+          let apart : p % 8 ≢ q % 8 = omega arith in
+          ap (λ b. nat_eq (bit_at b (p % 8)) 1) read ∙ ap (λ v. nat_eq v 1) (bit_at_set_other w8 x (q % 8) (omega arith) (p % 8) apart)
+          ∙ ap (λ i. nat_eq (bit_at (get_or bytes i 0) (p % 8)) 1) (sym same)
+      | inr apart ↦ ap (λ b. nat_eq (bit_at b (p % 8)) 1) (get_or-set_other bytes (q / 8) (p / 8) y 0 apart)
+    ]
+
+-- setting a bit sets that one alone
+pub backing_bit-with_bit : (bytes : List ℕ) (q p : ℕ) → q < 8 * length bytes → backing_bit (with_bit bytes q) p ≡ (nat_eq p q || backing_bit bytes p)
+backing_bit-with_bit bytes q p h =
+    elim (cases_eq p q) [
+      | inl same ↦ ap (backing_bit (with_bit bytes q)) same ∙ backing_bit-with_bit_same bytes q h
+          ∙ sym (ap (λ b. b || backing_bit bytes p) (eq-eqb p q same))
+      | inr apart ↦ backing_bit-with_bit_other bytes q p h apart ∙ sym (ap (λ b. b || backing_bit bytes p) (ne_eqb p q apart))
+    ]
+
+-- a byte of zeros, or none, has no bit set
+pub backing_bit-zeros : (n p : ℕ) → backing_bit (replicate n 0) p ≡ false
+backing_bit-zeros n p =
+    let read : get_or (replicate n 0) (p / 8) 0 ≡ 0
+    = elim (cases_lt (p / 8) n) [
+      | inl below ↦ get_or-replicate n (p / 8) 0 0 below
+      | inr past ↦ get_or_past (replicate n 0) (p / 8) 0 (omega (arith, length-replicate n (zero)))
+    ] in
+    ap (λ b. nat_eq (bit_at b (p % 8)) 1) read ∙ ap (λ v. nat_eq v 1) (bit_at-zero (p % 8))

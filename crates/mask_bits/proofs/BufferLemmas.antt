@@ -1,0 +1,43 @@
+-- What the list of a buffer is, from its backing bytes.
+use Rattle.std.proofs.Common.{◌≡◌, ℕ, ◌+◌, ◌<◌, Bool, false, List, length, get_or, Some, slice_get, refl, sym, ap, ◌∙◌, arith, zero-add, map, nat_eq}
+use Rattle.std.specs.List.{list_any, range_with_len}
+use Rattle.std.proofs.lemmas.List.FromFn.{length-map-range_with_len, get_or-map-range_with_len, fill_by_all}
+use Rattle.std.proofs.lemmas.Option.{slice_get-get_or}
+use Rattle.mask_bits.specs.Buffer.{Packed, backing_bit, values}
+use Rattle.mask_bits.specs.Positions.{true_at}
+
+-- a buffer's list is as long as the buffer says
+pub length-values : (b : Packed) → length (values b) ≡ b.len
+unfolding values
+length-values b = length-map-range_with_len (λ i. backing_bit b.bytes (b.offset + i)) 0 b.len
+
+-- value i is the backing bit at offset + i
+pub get_or-values : (b : Packed) (i : ℕ) (d : Bool) → i < b.len → get_or (values b) i d ≡ backing_bit b.bytes (b.offset + i)
+unfolding values
+get_or-values b i d h = get_or-map-range_with_len (λ i. backing_bit b.bytes (b.offset + i)) 0 b.len i i d h (omega arith)
+
+-- a list that has those values is the buffer's
+pub values_from_bits : (b : Packed) (m : List Bool) → length m ≡ b.len → ((i : ℕ) → i < b.len → get_or m i false ≡ backing_bit b.bytes (b.offset + i)) → values b ≡ m
+unfolding values
+values_from_bits b m len same = sym (fill_by_all (λ i. backing_bit b.bytes (b.offset + i)) m b.len false len same)
+
+-- what `len` and the tests of bounds need
+pub ruleset buffer_facts = (length-values)
+
+-- what `value` answers
+pub slice_get-values : (b : Packed) (i : ℕ) → i < length (values b) → slice_get (values b) i ≡ Some (backing_bit b.bytes (b.offset + i))
+slice_get-values b i h =
+    slice_get-get_or (values b) i false h ∙ ap Some (get_or-values b i false (omega (arith, length-values b)))
+
+-- the list of the first bits of some bytes
+pub values_from_front : (bytes : List ℕ) (m : List Bool) (n : ℕ) → length m ≡ n → ((i : ℕ) → i < n → backing_bit bytes i ≡ get_or m i false) → values (record { bytes = bytes; offset = 0; len = n }) ≡ m
+values_from_front bytes m n len same =
+    values_from_bits (record { bytes = bytes; offset = 0; len = n }) m len (λ i h. rw zero-add (sym (same i h)))
+
+-- the list that is true exactly at some places, as the first bits of some bytes
+pub values_from_places : (bytes places : List ℕ) (n : ℕ) → ((i : ℕ) → backing_bit bytes i ≡ list_any (nat_eq i) places) → values (record { bytes = bytes; offset = 0; len = n }) ≡ true_at n places
+unfolding true_at
+values_from_places bytes places n same =
+    let f : ℕ → Bool = λ i. list_any (nat_eq i) places in
+    values_from_front bytes (map f (range_with_len 0 n)) n (length-map-range_with_len f 0 n)
+    (λ i h. same i ∙ sym (get_or-map-range_with_len f 0 n i i false h (omega arith)))

@@ -1,0 +1,4 @@
+-- Lemmas. Crates above may cite those of `Lists`, and no others.
+mod BitLemmas
+mod BufferLemmas
+pub mod Lists

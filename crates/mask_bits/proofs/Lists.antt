@@ -1,0 +1,6 @@
+-- Lemmas on lists of truth values, for this crate and for those above it.
+pub mod ChooseLemmas
+pub mod CountLemmas
+pub mod LawLemmas
+pub mod PlaceLemmas
+pub mod RankLemmas

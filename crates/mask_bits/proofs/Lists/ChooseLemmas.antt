@@ -1,0 +1,32 @@
+-- Rows at the true places: all of them, none of them, and one more.
+use Rattle.std.proofs.Common.{◌≡◌, ℕ, zero, suc, Bool, true, false, List, [], ◌∷◌, ◌++◌, length, Some, slice_get, refl, sym, ap, ◌∙◌, arith, append_assoc}
+use Rattle.std.specs.List.{cons_option, filter_map, items_where_true}
+use Rattle.mask_bits.specs.Positions.{repeated, chosen}
+use Rattle.mask_bits.proofs.Lists.LawLemmas.{chosen-items_where_true}
+
+items_where_true-all_true : {X : Type 0} (rows : List X) → items_where_true (repeated (length rows) true) rows ≡ rows
+unfolding repeated
+items_where_true-all_true [] = refl
+items_where_true-all_true {X} (r ∷ rows) = ap (λ (xs : List X). r ∷ xs) (items_where_true-all_true rows)
+
+items_where_true-all_false : {X : Type 0} (rows : List X) (n : ℕ) → items_where_true (repeated n false) rows ≡ []
+unfolding repeated
+items_where_true-all_false rows zero = refl
+items_where_true-all_false [] (suc n) = refl
+items_where_true-all_false (r ∷ rows) (suc n) = items_where_true-all_false rows n
+
+-- an all-true list chooses every row
+pub chosen-all_true : {X : Type 0} (rows : List X) (n : ℕ) → length rows ≡ n → chosen rows (repeated n true) ≡ rows
+chosen-all_true rows n len =
+    ap (λ k. chosen rows (repeated k true)) (sym len) ∙ chosen-items_where_true rows (repeated (length rows) true) ∙ items_where_true-all_true rows
+
+-- an all-false list chooses none
+pub chosen-all_false : {X : Type 0} (rows : List X) (n : ℕ) → chosen rows (repeated n false) ≡ []
+chosen-all_false rows n =
+    chosen-items_where_true rows (repeated n false) ∙ items_where_true-all_false rows n
+
+-- one row moves from what is to come to what has come
+pub chosen-step : {X : Type 0} (rows out : List X) (p : ℕ) (ps : List ℕ) (r : X) → slice_get rows p ≡ Some r → out ++ filter_map (λ i. slice_get rows i) (p ∷ ps) ≡ (out ++ r ∷ []) ++ filter_map (λ i. slice_get rows i) ps
+chosen-step {X} rows out p ps r e =
+    ap (λ o. out ++ cons_option o (filter_map (λ i. slice_get rows i) ps)) e
+    ∙ sym (append_assoc out (r ∷ []) (filter_map (λ i. slice_get rows i) ps))

@@ -1,0 +1,98 @@
+-- How many values are true: of lists of one value, and what no or every true value says of a list.
+use Rattle.std.proofs.Common.{◌≡◌, ℕ, zero, suc, ◌+◌, ◌<◌, ◌≤◌, Bool, true, false, List, [], ◌∷◌, length, get_or, Some, slice_get, refl, sym, ap, ◌∙◌, arith, add-one, add-zero, zero-add}
+use Rattle.std.specs.List.{All, list_all, list_any, range_with_len}
+use Rattle.std.proofs.lemmas.List.{ext_get_or, get_or-replicate, length-replicate}
+use Rattle.std.proofs.lemmas.List.FromFn.{length-range_with_len, get_or-range_with_len}
+use Rattle.std.proofs.lemmas.Option.{slice_get-get_or}
+use Rattle.mask_bits.specs.Positions.{places_from, positions, count, repeated}
+use Rattle.mask_bits.proofs.Lists.PlaceLemmas.{length-places_from}
+
+-- every place of an all-true list, and none of an all-false one
+pub places_from-replicate_true : (n k : ℕ) → places_from n (repeated k true) ≡ range_with_len n k
+unfolding repeated
+places_from-replicate_true n zero = refl
+places_from-replicate_true n (suc k) = ap (λ (xs : List ℕ). n ∷ xs) (places_from-replicate_true (n + 1) k)
+
+pub places_from-replicate_false : (n k : ℕ) → places_from n (repeated k false) ≡ []
+unfolding repeated
+places_from-replicate_false n zero = refl
+places_from-replicate_false n (suc k) = places_from-replicate_false (n + 1) k
+
+pub count-replicate_true : (k : ℕ) → count (repeated k true) ≡ k
+unfolding repeated
+count-replicate_true k = ap length (places_from-replicate_true 0 k) ∙ length-range_with_len 0 k
+
+pub count-replicate_false : (k : ℕ) → count (repeated k false) ≡ 0
+unfolding repeated
+count-replicate_false k = ap length (places_from-replicate_false 0 k)
+
+-- true value number n of an all-true list stands at n
+pub positions-replicate_true_at : (k n : ℕ) → n < k → slice_get (positions (repeated k true)) n ≡ Some n
+unfolding repeated
+positions-replicate_true_at k n h =
+    ap (λ (xs : List ℕ). slice_get xs n) (places_from-replicate_true 0 k)
+    ∙ slice_get-get_or (range_with_len 0 k) n 0 (rw (length-range_with_len 0 k) h)
+    ∙ ap Some (get_or-range_with_len 0 k n 0 h ∙ zero-add n)
+
+-- as many true values as values: all are true
+pub all_true_from_count : (n : ℕ) (m : List Bool) → length (places_from n m) ≡ length m → m ≡ repeated (length m) true
+unfolding repeated
+all_true_from_count n [] e = refl
+all_true_from_count n (true ∷ m) e = ap (λ (xs : List Bool). true ∷ xs) (all_true_from_count (n + 1) m (omega arith))
+all_true_from_count n (false ∷ m) e = absurd (omega (arith, length-places_from (n + 1) m))
+
+-- no true value: all are false
+pub all_false_from_count : (n : ℕ) (m : List Bool) → length (places_from n m) ≡ 0 → m ≡ repeated (length m) false
+unfolding repeated
+all_false_from_count n [] e = refl
+all_false_from_count n (true ∷ m) e = absurd (omega arith)
+all_false_from_count n (false ∷ m) e = ap (λ (xs : List Bool). false ∷ xs) (all_false_from_count (n + 1) m e)
+
+-- a list whose values are each b is so many of b
+pub replicate_from_All : (b : Bool) (m : List Bool) → All (λ v. v ≡ b) m → m ≡ repeated (length m) b
+unfolding repeated
+replicate_from_All b m all =
+    ext_get_or b m (repeated (length m) b) (sym (length-replicate (length m) b))
+    (λ i h. all i b h ∙ sym (get_or-replicate (length m) i b b h))
+
+pub All-replicate : (b : Bool) (m : List Bool) → m ≡ repeated (length m) b → All (λ v. v ≡ b) m
+unfolding repeated
+All-replicate b m e = λ k d h. ap (λ (xs : List Bool). get_or xs k d) e ∙ get_or-replicate (length m) k b d h
+
+-- what the tests of all and of some value say, by the count
+pub list_all-count : (n : ℕ) (m : List Bool) → length (places_from n m) ≡ length m → list_all (λ b. b) m ≡ true
+list_all-count n [] e = refl
+list_all-count n (true ∷ m) e = list_all-count (n + 1) m (omega arith)
+list_all-count n (false ∷ m) e = absurd (omega (arith, length-places_from (n + 1) m))
+
+pub list_all-count_less : (n : ℕ) (m : List Bool) → length (places_from n m) < length m → list_all (λ b. b) m ≡ false
+list_all-count_less n [] e = absurd (omega arith)
+list_all-count_less n (true ∷ m) e = list_all-count_less (n + 1) m (omega arith)
+list_all-count_less n (false ∷ m) e = refl
+
+pub list_any-count : (n : ℕ) (m : List Bool) → 0 < length (places_from n m) → list_any (λ b. b) m ≡ true
+list_any-count n [] e = absurd (omega arith)
+list_any-count n (true ∷ m) e = refl
+list_any-count n (false ∷ m) e = list_any-count (n + 1) m e
+
+pub list_any-count_zero : (n : ℕ) (m : List Bool) → length (places_from n m) ≡ 0 → list_any (λ b. b) m ≡ false
+list_any-count_zero n [] e = refl
+list_any-count_zero n (true ∷ m) e = absurd (omega arith)
+list_any-count_zero n (false ∷ m) e = list_any-count_zero (n + 1) m e
+
+-- ---- reads of a list of one value
+
+pub length-repeated : (n : ℕ) (v : Bool) → length (repeated n v) ≡ n
+unfolding repeated
+length-repeated n v = length-replicate n v
+
+pub slice_get-repeated : (n : ℕ) (v : Bool) (i : ℕ) → i < length (repeated n v) → slice_get (repeated n v) i ≡ Some v
+unfolding repeated
+slice_get-repeated n v i h =
+    slice_get-get_or (repeated n v) i v h ∙ ap Some (get_or-replicate n i v v (omega (arith, length-replicate n v)))
+
+pub nil-repeated : (v : Bool) → repeated 0 v ≡ []
+unfolding repeated
+nil-repeated v = refl
+
+pub ruleset repeated_facts = (length-repeated, slice_get-repeated)

@@ -1,0 +1,183 @@
+-- The laws of rank intersection and of choosing, by recursion on the first list.
+use Rattle.std.proofs.Common.{◌≡◌, ℕ, zero, suc, ◌+◌, ◌<◌, ◌&&◌, Bool, true, false, List, [], ◌∷◌, length, get_or, take, map, slice_get, refl, sym, ap, subst, ◌∙◌, arith}
+use Rattle.std.specs.List.{All, cons_option, filter_map, items_where_true}
+use Rattle.std.proofs.lemmas.List.{get_or-map}
+use Rattle.mask_bits.specs.Laws.{PositionsDetermineList, IsRankIntersection, RankIntersectionIsTheList, RankIntersectionValue, ChoosingTwice, RankIntersectionAssociative, AllTrueLeftUnit, AllTrueRightUnit, RankIntersectionCount, RankIntersectionPosition}
+use Rattle.mask_bits.specs.Positions.{positions, count, count_below, repeated, true_at, at_places, rank_intersection, chosen}
+use Rattle.mask_bits.proofs.Lists.PlaceLemmas.{positions-true, positions-false, trues, count-trues, positions-within}
+use Rattle.mask_bits.proofs.Lists.RankLemmas.{narrow, rank_intersection-narrow, positions-fit, at_places-map_suc, at_places-cons_suc, true_at-suc, true_at-zero_suc, length-true_at, rank_intersection-all_true, rank_intersection-by_all_true}
+
+-- ---- a list by its true places
+
+-- a list is true exactly at its true places
+pub true_at-positions : (m : List Bool) → true_at (length m) (positions m) ≡ m
+unfolding true_at
+true_at-positions [] = refl
+true_at-positions (true ∷ m) =
+    ap (true_at (suc (length m))) (positions-true m) ∙ true_at-zero_suc (length m) (positions m) ∙ ap (λ (xs : List Bool). true ∷ xs) (true_at-positions m)
+true_at-positions (false ∷ m) =
+    ap (true_at (suc (length m))) (positions-false m) ∙ true_at-suc (length m) (positions m) ∙ ap (λ (xs : List Bool). false ∷ xs) (true_at-positions m)
+
+pub positions_determine_list : PositionsDetermineList
+positions_determine_list a b len places =
+    sym (true_at-positions a) ∙ ap (λ n. true_at n (positions a)) len ∙ ap (true_at (length b)) places ∙ true_at-positions b
+
+-- ---- the true places of a rank intersection
+
+positions-narrow : (a b : List Bool) → length b ≡ trues a → positions (narrow a b) ≡ at_places (positions a) (positions b)
+positions-narrow [] [] fits = refl
+positions-narrow [] (v ∷ b) fits = absurd (omega arith)
+positions-narrow (false ∷ a) b fits =
+    positions-false (narrow a b) ∙ ap (map suc) (positions-narrow a b fits)
+    ∙ sym (at_places-map_suc (positions a) (positions b) (positions-fit a b fits))
+    ∙ ap (λ (ps : List ℕ). at_places ps (positions b)) (sym (positions-false a))
+positions-narrow (true ∷ a) [] fits = absurd (omega arith)
+positions-narrow (true ∷ a) (v ∷ b) fits =
+    let len : length b ≡ trues a = omega arith in
+    let rest : map suc (positions (narrow a b)) ≡ at_places (0 ∷ map suc (positions a)) (map suc (positions b))
+    = ap (map suc) (positions-narrow a b len)
+    ∙ sym (at_places-cons_suc 0 (map suc (positions a)) (positions b) ∙ at_places-map_suc (positions a) (positions b) (positions-fit a b len)) in
+    let by_value : positions (v ∷ narrow a b) ≡ at_places (0 ∷ map suc (positions a)) (positions (v ∷ b))
+    = elim v as (λ w. positions (w ∷ narrow a b) ≡ at_places (0 ∷ map suc (positions a)) (positions (w ∷ b))) [
+      | true ↦ positions-true (narrow a b) ∙ ap (λ (ps : List ℕ). 0 ∷ ps) rest ∙ ap (at_places (0 ∷ map suc (positions a))) (sym (positions-true b))
+      | false ↦ positions-false (narrow a b) ∙ rest ∙ ap (at_places (0 ∷ map suc (positions a))) (sym (positions-false b))
+    ] in
+    by_value ∙ ap (λ (ps : List ℕ). at_places ps (positions (v ∷ b))) (sym (positions-true a))
+
+pub positions-rank_intersection : (a b : List Bool) → length b ≡ count a → positions (rank_intersection a b) ≡ at_places (positions a) (positions b)
+positions-rank_intersection a b fits =
+    ap positions (rank_intersection-narrow a b fits) ∙ positions-narrow a b (fits ∙ count-trues a)
+
+pub length-rank_intersection : (a b : List Bool) → length (rank_intersection a b) ≡ length a
+length-rank_intersection a b = length-true_at (length a) (at_places (positions a) (positions b))
+
+pub rank_intersection_is_the_list : RankIntersectionIsTheList
+rank_intersection_is_the_list a b r fits = (
+  λ same. record {
+    len = ap length same ∙ length-rank_intersection a b;
+    places = ap positions same ∙ positions-rank_intersection a b fits;
+  },
+  λ is. positions_determine_list r (rank_intersection a b) (is.len ∙ sym (length-rank_intersection a b)) (is.places ∙ sym (positions-rank_intersection a b fits)),
+)
+
+-- ---- values
+
+get_or-narrow : (a b : List Bool) (i : ℕ) → length b ≡ trues a → get_or (narrow a b) i false ≡ (get_or a i false && get_or b (trues (take i a)) false)
+get_or-narrow [] b i fits = refl
+get_or-narrow (false ∷ a) b zero fits = refl
+get_or-narrow (false ∷ a) b (suc i) fits = get_or-narrow a b i fits
+get_or-narrow (true ∷ a) [] i fits = absurd (omega arith)
+get_or-narrow (true ∷ a) (v ∷ b) zero fits = refl
+get_or-narrow (true ∷ a) (v ∷ b) (suc i) fits = get_or-narrow a b i (omega arith)
+
+pub rank_intersection_value : RankIntersectionValue
+rank_intersection_value a b i fits =
+    ap (λ (m : List Bool). get_or m i false) (rank_intersection-narrow a b fits)
+    ∙ get_or-narrow a b i (fits ∙ count-trues a)
+    ∙ ap (λ n. get_or a i false && get_or b n false) (sym (count-trues (take i a)))
+
+-- ---- choosing
+
+-- rows at places one further on, of a list with one more row in front
+filter_map-map_suc : {X : Type 0} (r : X) (rows : List X) (ps : List ℕ) → filter_map (λ i. slice_get (r ∷ rows) i) (map suc ps) ≡ filter_map (λ i. slice_get rows i) ps
+filter_map-map_suc r rows [] = refl
+filter_map-map_suc r rows (p ∷ ps) = ap (cons_option (slice_get rows p)) (filter_map-map_suc r rows ps)
+
+-- no row is at any place of no rows
+filter_map-none : {X : Type 0} (ps : List ℕ) → filter_map (λ i. slice_get {X = X} [] i) ps ≡ []
+filter_map-none [] = refl
+filter_map-none {X} (p ∷ ps) = filter_map-none {X = X} ps
+
+pub chosen-items_where_true : {X : Type 0} (rows : List X) (m : List Bool) → chosen rows m ≡ items_where_true m rows
+unfolding chosen
+chosen-items_where_true rows [] = refl
+chosen-items_where_true {X} [] (v ∷ m) = filter_map-none {X = X} (positions (v ∷ m))
+chosen-items_where_true {X} (r ∷ rows) (true ∷ m) =
+    ap (filter_map (λ i. slice_get (r ∷ rows) i)) (positions-true m)
+    ∙ ap (λ (xs : List X). r ∷ xs) (filter_map-map_suc r rows (positions m) ∙ chosen-items_where_true rows m)
+chosen-items_where_true (r ∷ rows) (false ∷ m) =
+    ap (filter_map (λ i. slice_get (r ∷ rows) i)) (positions-false m) ∙ filter_map-map_suc r rows (positions m) ∙ chosen-items_where_true rows m
+
+length-items_where_true : {X : Type 0} (rows : List X) (m : List Bool) → length rows ≡ length m → length (items_where_true m rows) ≡ trues m
+length-items_where_true [] [] len = refl
+length-items_where_true [] (v ∷ m) len = absurd (omega arith)
+length-items_where_true (r ∷ rows) [] len = absurd (omega arith)
+length-items_where_true (r ∷ rows) (true ∷ m) len = ap suc (length-items_where_true rows m (omega arith))
+length-items_where_true (r ∷ rows) (false ∷ m) len = length-items_where_true rows m (omega arith)
+
+-- as many rows are chosen as values are true
+pub length-chosen : {X : Type 0} (rows : List X) (m : List Bool) → length rows ≡ length m → length (chosen rows m) ≡ count m
+length-chosen rows m len =
+    ap length (chosen-items_where_true rows m) ∙ length-items_where_true rows m len ∙ sym (count-trues m)
+
+items_where_true-narrow : {X : Type 0} (rows : List X) (a b : List Bool) → length rows ≡ length a → length b ≡ trues a → items_where_true (narrow a b) rows ≡ items_where_true b (items_where_true a rows)
+items_where_true-narrow [] [] [] len fits = refl
+items_where_true-narrow [] [] (v ∷ b) len fits = absurd (omega arith)
+items_where_true-narrow [] (v ∷ a) b len fits = absurd (omega arith)
+items_where_true-narrow (r ∷ rows) [] b len fits = absurd (omega arith)
+items_where_true-narrow (r ∷ rows) (false ∷ a) b len fits = items_where_true-narrow rows a b (omega arith) fits
+items_where_true-narrow (r ∷ rows) (true ∷ a) [] len fits = absurd (omega arith)
+items_where_true-narrow {X} (r ∷ rows) (true ∷ a) (true ∷ b) len fits =
+    ap (λ (xs : List X). r ∷ xs) (items_where_true-narrow rows a b (omega arith) (omega arith))
+items_where_true-narrow (r ∷ rows) (true ∷ a) (false ∷ b) len fits = items_where_true-narrow rows a b (omega arith) (omega arith)
+
+pub choosing_twice : (X : Type 0) → ChoosingTwice X
+choosing_twice X rows a b len fits =
+    ap (chosen rows) (rank_intersection-narrow a b fits)
+    ∙ chosen-items_where_true rows (narrow a b)
+    ∙ items_where_true-narrow rows a b len (fits ∙ count-trues a)
+    ∙ ap (items_where_true b) (sym (chosen-items_where_true rows a))
+    ∙ sym (chosen-items_where_true (chosen rows a) b)
+
+-- ---- counts and groupings
+
+trues-narrow : (a b : List Bool) → length b ≡ trues a → trues (narrow a b) ≡ trues b
+trues-narrow [] [] fits = refl
+trues-narrow [] (v ∷ b) fits = absurd (omega arith)
+trues-narrow (false ∷ a) b fits = trues-narrow a b fits
+trues-narrow (true ∷ a) [] fits = absurd (omega arith)
+trues-narrow (true ∷ a) (true ∷ b) fits = ap suc (trues-narrow a b (omega arith))
+trues-narrow (true ∷ a) (false ∷ b) fits = trues-narrow a b (omega arith)
+
+pub rank_intersection_count : RankIntersectionCount
+rank_intersection_count a b fits =
+    ap count (rank_intersection-narrow a b fits) ∙ count-trues (narrow a b) ∙ trues-narrow a b (fits ∙ count-trues a) ∙ sym (count-trues b)
+
+narrow_assoc : (a b c : List Bool) → length b ≡ trues a → length c ≡ trues b → narrow (narrow a b) c ≡ narrow a (narrow b c)
+narrow_assoc [] b c fits fits' = refl
+narrow_assoc (false ∷ a) b c fits fits' = ap (λ (xs : List Bool). false ∷ xs) (narrow_assoc a b c fits fits')
+narrow_assoc (true ∷ a) [] c fits fits' = absurd (omega arith)
+narrow_assoc (true ∷ a) (false ∷ b) c fits fits' =
+    ap (λ (xs : List Bool). false ∷ xs) (narrow_assoc a b c (omega arith) fits')
+narrow_assoc (true ∷ a) (true ∷ b) [] fits fits' = absurd (omega arith)
+narrow_assoc (true ∷ a) (true ∷ b) (v ∷ c) fits fits' =
+    ap (λ (xs : List Bool). v ∷ xs) (narrow_assoc a b c (omega arith) (omega arith))
+
+pub rank_intersection_associative : RankIntersectionAssociative
+rank_intersection_associative a b c fits fits' =
+    let inner = rank_intersection-narrow b c fits' in
+    let outer : length (rank_intersection b c) ≡ count a = length-rank_intersection b c ∙ fits in
+    rank_intersection-narrow (rank_intersection a b) c (fits' ∙ sym (rank_intersection_count a b fits))
+    ∙ ap (λ (m : List Bool). narrow m c) (rank_intersection-narrow a b fits)
+    ∙ narrow_assoc a b c (fits ∙ count-trues a) (fits' ∙ count-trues b)
+    ∙ ap (narrow a) (sym inner)
+    ∙ sym (rank_intersection-narrow a (rank_intersection b c) outer)
+
+pub all_true_left_unit : AllTrueLeftUnit
+all_true_left_unit b = rank_intersection-all_true (length b) b refl
+
+pub all_true_right_unit : AllTrueRightUnit
+all_true_right_unit a = rank_intersection-by_all_true a (count a) refl
+
+pub rank_intersection_position : RankIntersectionPosition
+rank_intersection_position a b n fits below =
+    ap (λ (ps : List ℕ). get_or ps n 0) (positions-rank_intersection a b fits)
+    ∙ get_or-map (λ k. get_or (positions a) k 0) (positions b) n 0 0 below
+
+-- ---- what a list that is a rank intersection has
+
+pub length_from_list : (m a b : List Bool) → m ≡ rank_intersection a b → length m ≡ length a
+length_from_list m a b same = ap length same ∙ length-rank_intersection a b
+
+pub places_from_list : (m a b : List Bool) → length b ≡ count a → m ≡ rank_intersection a b → positions m ≡ at_places (positions a) (positions b)
+places_from_list m a b fits same = ap positions same ∙ positions-rank_intersection a b fits

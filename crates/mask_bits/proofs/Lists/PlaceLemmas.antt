@@ -1,0 +1,98 @@
+-- The places of true values, over lists.
+use Rattle.std.proofs.Common.{◌≡◌, ℕ, zero, suc, ◌+◌, ◌-◌, ◌<◌, ◌≤◌, Bool, true, false, cond, List, [], ◌∷◌, ◌++◌, length, get_or, take, drop, map, Option, Some, None, slice_get, refl, sym, ap, subst, ◌∙◌, arith, add-one, inl, inr, nat_eq, ◌||◌}
+use Rattle.std.proofs.lemmas.Bool.{cases_order, eq-eqb, ne_eqb}
+use Rattle.std.specs.List.{All}
+use Rattle.std.proofs.lemmas.List.Elements.{All-nil, All-cons, All-weaker, All-map}
+use Rattle.std.proofs.lemmas.List.{get_or-take, get_or_past, length-take}
+use Rattle.mask_bits.specs.Positions.{places_from, positions, count}
+
+-- no list has more true values than values
+pub length-places_from : (n : ℕ) (m : List Bool) → length (places_from n m) ≤ length m
+length-places_from n [] = omega arith
+length-places_from n (true ∷ m) = omega (arith, length-places_from (n + 1) m)
+length-places_from n (false ∷ m) = omega (arith, length-places_from (n + 1) m)
+
+-- what is left from an element on
+drop_at : {X : Type 0} → (xs : List X) (i : ℕ) (x : X) → slice_get xs i ≡ Some x → drop i xs ≡ x ∷ drop (suc i) xs
+drop_at [] i x e = cc
+drop_at (y ∷ ys) zero x e = cc
+drop_at (y ∷ ys) (suc i) x e = drop_at ys i x e
+
+pub drop-slice_get : {X : Type 0} → (xs : List X) (i : ℕ) (x : X) → slice_get xs i ≡ Some x → drop i xs ≡ x ∷ drop (i + 1) xs
+drop-slice_get xs i x e = rw add-one (drop_at xs i x e)
+
+-- the places from i on, by the value at i
+pub places_from-drop : (m : List Bool) (i : ℕ) (v : Bool) → slice_get m i ≡ Some v → places_from i (drop i m) ≡ cond v (i ∷ places_from (i + 1) (drop (i + 1) m)) (places_from (i + 1) (drop (i + 1) m))
+places_from-drop m i true e = ap (places_from i) (drop-slice_get m i true e)
+places_from-drop m i false e = ap (places_from i) (drop-slice_get m i false e)
+
+-- a list cut at n reads false from n on
+get_or-take_past : (m : List Bool) (n p : ℕ) → n ≤ p → get_or (take n m) p false ≡ false
+get_or-take_past m n p h = get_or_past (take n m) p false (omega (arith, length-take n m))
+
+-- one more value, at each place
+pub get_or-take_true : (m : List Bool) (i p : ℕ) → get_or m i false ≡ true → get_or (take (i + 1) m) p false ≡ (nat_eq p i || get_or (take i m) p false)
+get_or-take_true m i p e =
+    elim (cases_order p i) [
+      | inl same ↦ get_or-take (i + 1) m p false (omega arith) ∙ ap (λ k. get_or m k false) same ∙ e ∙ sym (ap (λ b. b || get_or (take i m) p false) (eq-eqb p i same))
+      | inr apart ↦
+          let differs : nat_eq p i ≡ false = ne_eqb p i (λ same. elim apart [ inl h ↦ omega arith | inr h ↦ omega arith ]) in
+          let goal_at : get_or (take (i + 1) m) p false ≡ get_or (take i m) p false
+          = elim apart [
+            | inl below ↦ get_or-take (i + 1) m p false (omega arith) ∙ sym (get_or-take i m p false below)
+            | inr above ↦ get_or-take_past m (i + 1) p (omega arith) ∙ sym (get_or-take_past m i p (omega arith))
+          ] in
+          goal_at ∙ sym (ap (λ b. b || get_or (take i m) p false) differs)
+    ]
+
+pub get_or-take_false : (m : List Bool) (i p : ℕ) → get_or m i false ≡ false → get_or (take (i + 1) m) p false ≡ get_or (take i m) p false
+get_or-take_false m i p e =
+    elim (cases_order p i) [
+      | inl same ↦ get_or-take (i + 1) m p false (omega arith) ∙ ap (λ k. get_or m k false) same ∙ e ∙ sym (get_or-take_past m i p (omega arith))
+      | inr apart ↦ elim apart [
+        | inl below ↦ get_or-take (i + 1) m p false (omega arith) ∙ sym (get_or-take i m p false below)
+        | inr above ↦ get_or-take_past m (i + 1) p (omega arith) ∙ sym (get_or-take_past m i p (omega arith))
+      ]
+    ]
+
+-- ---- the recursion on a list's first value
+
+-- the places of a list that stands one further on
+pub places_from-suc : (n : ℕ) (m : List Bool) → places_from (suc n) m ≡ map suc (places_from n m)
+places_from-suc n [] = refl
+places_from-suc n (true ∷ m) =
+    let next : suc n + 1 ≡ suc (n + 1) = omega arith in
+    ap (λ (xs : List ℕ). suc n ∷ xs) (ap (λ k. places_from k m) next ∙ places_from-suc (n + 1) m)
+places_from-suc n (false ∷ m) =
+    let next : suc n + 1 ≡ suc (n + 1) = omega arith in
+    ap (λ k. places_from k m) next ∙ places_from-suc (n + 1) m
+
+pub positions-true : (m : List Bool) → positions (true ∷ m) ≡ 0 ∷ map suc (positions m)
+positions-true m = ap (λ (xs : List ℕ). 0 ∷ xs) (places_from-suc 0 m)
+
+pub positions-false : (m : List Bool) → positions (false ∷ m) ≡ map suc (positions m)
+positions-false m = places_from-suc 0 m
+
+-- how many values are true, by recursion
+abbrev pub trues : List Bool → ℕ
+trues [] = 0
+trues (true ∷ m) = suc (trues m)
+trues (false ∷ m) = trues m
+
+pub length-places_from-trues : (n : ℕ) (m : List Bool) → length (places_from n m) ≡ trues m
+length-places_from-trues n [] = refl
+length-places_from-trues n (true ∷ m) = ap suc (length-places_from-trues (n + 1) m)
+length-places_from-trues n (false ∷ m) = length-places_from-trues (n + 1) m
+
+pub count-trues : (m : List Bool) → count m ≡ trues m
+count-trues m = length-places_from-trues 0 m
+
+-- each place is one of the list's
+pub positions-within : (m : List Bool) → All (λ p. p < length m) (positions m)
+positions-within [] = All-nil (λ p. p < 0)
+positions-within (true ∷ m) =
+    let rest : All (λ p. p < suc (length m)) (map suc (positions m))
+    = All-map (λ p. p < suc (length m)) suc (positions m) (All-weaker (λ p. p < length m) (λ p. suc p < suc (length m)) (λ p h. omega arith) (positions m) (positions-within m)) in
+    subst (λ (ps : List ℕ). All (λ p. p < suc (length m)) ps) (sym (positions-true m)) (All-cons (λ p. p < suc (length m)) 0 (map suc (positions m)) (omega arith) rest)
+positions-within (false ∷ m) =
+    subst (λ (ps : List ℕ). All (λ p. p < suc (length m)) ps) (sym (positions-false m)) (All-map (λ p. p < suc (length m)) suc (positions m) (All-weaker (λ p. p < length m) (λ p. suc p < suc (length m)) (λ p h. omega arith) (positions m) (positions-within m)))

@@ -1,0 +1,177 @@
+-- The rank intersection of two lists, by recursion on the first.
+use Rattle.std.proofs.Common.{◌≡◌, ℕ, zero, suc, ◌+◌, ◌<◌, ◌≤◌, Bool, true, false, ◌||◌, List, [], ◌∷◌, length, get_or, map, nat_eq, refl, sym, ap, ◌∙◌, arith, add-one}
+use Rattle.std.proofs.Math.Dec.{eqb-suc-suc, eqb-suc-zero, eqb-zero-suc}
+use Rattle.std.specs.List.{All, list_any, range_with_len}
+use Rattle.std.proofs.lemmas.List.{length-map, get_or-map, get_or-replicate, length-replicate}
+use Rattle.std.proofs.lemmas.List.Elements.{All-nil, All-cons, All-head, All-tail, All-map, All-weaker, All-get_or}
+use Rattle.std.proofs.lemmas.List.FromFn.{length-map-range_with_len}
+use Rattle.mask_bits.specs.Positions.{places_from, positions, count, true_at, at_places, rank_intersection, repeated}
+use Rattle.mask_bits.proofs.Lists.PlaceLemmas.{positions-true, positions-false, trues, count-trues, positions-within}
+
+-- ---- lists that are true at some places, by their first value
+
+map_range_suc : {X : Type 0} (f : ℕ → X) (a n : ℕ) → map f (range_with_len (suc a) n) ≡ map (λ i. f (suc i)) (range_with_len a n)
+map_range_suc f a zero = refl
+map_range_suc {X} f a (suc n) =
+    let next : suc a + 1 ≡ suc (a + 1) = omega arith in
+    ap (λ (xs : List X). f (suc a) ∷ xs) (ap (λ k. map f (range_with_len k n)) next ∙ map_range_suc f (a + 1) n)
+
+map_range_same : {X : Type 0} (f g : ℕ → X) → ((i : ℕ) → f i ≡ g i) → (a n : ℕ) → map f (range_with_len a n) ≡ map g (range_with_len a n)
+map_range_same f g same a zero = refl
+map_range_same {X} f g same a (suc n) =
+    ap (λ (x : X). x ∷ map f (range_with_len (a + 1) n)) (same a) ∙ ap (λ (xs : List X). g a ∷ xs) (map_range_same f g same (a + 1) n)
+
+-- a place past the first is among places that are one further on just where the one before it is among them
+list_any-map_suc : (i : ℕ) (ps : List ℕ) → list_any (nat_eq (suc i)) (map suc ps) ≡ list_any (nat_eq i) ps
+list_any-map_suc i [] = refl
+list_any-map_suc i (p ∷ ps) =
+    ap (λ b. b || list_any (nat_eq (suc i)) (map suc ps)) (eqb-suc-suc i p) ∙ ap (λ b. nat_eq i p || b) (list_any-map_suc i ps)
+
+list_any-map_suc_zero : (ps : List ℕ) → list_any (nat_eq 0) (map suc ps) ≡ false
+list_any-map_suc_zero [] = refl
+list_any-map_suc_zero (p ∷ ps) =
+    ap (λ b. b || list_any (nat_eq 0) (map suc ps)) (eqb-zero-suc p) ∙ list_any-map_suc_zero ps
+
+pub true_at-suc : (n : ℕ) (ps : List ℕ) → true_at (suc n) (map suc ps) ≡ false ∷ true_at n ps
+unfolding true_at
+true_at-suc n ps =
+    ap (λ (b : Bool). b ∷ map (λ i. list_any (nat_eq i) (map suc ps)) (range_with_len 1 n)) (list_any-map_suc_zero ps)
+    ∙ ap (λ (xs : List Bool). false ∷ xs) (map_range_suc (λ i. list_any (nat_eq i) (map suc ps)) 0 n
+    ∙ map_range_same (λ i. list_any (nat_eq (suc i)) (map suc ps)) (λ i. list_any (nat_eq i) ps) (λ i. list_any-map_suc i ps) 0 n)
+
+pub true_at-zero_suc : (n : ℕ) (ps : List ℕ) → true_at (suc n) (0 ∷ map suc ps) ≡ true ∷ true_at n ps
+unfolding true_at
+true_at-zero_suc n ps =
+    ap (λ (xs : List Bool). true ∷ xs) (map_range_suc (λ i. list_any (nat_eq i) (0 ∷ map suc ps)) 0 n
+    ∙ map_range_same (λ i. list_any (nat_eq (suc i)) (0 ∷ map suc ps)) (λ i. list_any (nat_eq i) ps)
+    (λ i. ap (λ b. b || list_any (nat_eq (suc i)) (map suc ps)) (eqb-suc-zero i) ∙ list_any-map_suc i ps) 0 n)
+
+-- ---- entries at places
+
+-- of a list raised by one, at places within it
+pub at_places-map_suc : (ps qs : List ℕ) → All (λ q. q < length ps) qs → at_places (map suc ps) qs ≡ map suc (at_places ps qs)
+at_places-map_suc ps [] all = refl
+at_places-map_suc ps (q ∷ qs) all =
+    let within = All-head (λ k. k < length ps) q qs all in
+    let rest = All-tail (λ k. k < length ps) q qs all in
+    ap (λ (x : ℕ). x ∷ at_places (map suc ps) qs) (get_or-map suc ps q 0 0 within)
+    ∙ ap (λ (xs : List ℕ). suc (get_or ps q 0) ∷ xs) (at_places-map_suc ps qs rest)
+
+-- of a list past its first entry
+pub at_places-cons_suc : (p : ℕ) (ps qs : List ℕ) → at_places (p ∷ ps) (map suc qs) ≡ at_places ps qs
+at_places-cons_suc p ps [] = refl
+at_places-cons_suc p ps (q ∷ qs) = ap (λ (xs : List ℕ). get_or ps q 0 ∷ xs) (at_places-cons_suc p ps qs)
+
+-- ---- the recursion
+
+-- b's values at a's true places, and false elsewhere
+abbrev pub narrow : List Bool → List Bool → List Bool
+narrow [] b = []
+narrow (false ∷ a) b = false ∷ narrow a b
+narrow (true ∷ a) [] = false ∷ narrow a []
+narrow (true ∷ a) (v ∷ b) = v ∷ narrow a b
+
+-- the positions of b are within those of a, which are as many as b is long
+pub positions-fit : (a b : List Bool) → length b ≡ trues a → All (λ q. q < length (positions a)) (positions b)
+positions-fit a b fits =
+    All-weaker (λ q. q < length b) (λ q. q < length (positions a)) (λ q h. omega (arith, count-trues a)) (positions b) (positions-within b)
+
+rank_intersection-false : (a b : List Bool) → length b ≡ trues a → rank_intersection (false ∷ a) b ≡ false ∷ rank_intersection a b
+rank_intersection-false a b fits =
+    ap (λ (ps : List ℕ). true_at (suc (length a)) (at_places ps (positions b))) (positions-false a)
+    ∙ ap (true_at (suc (length a))) (at_places-map_suc (positions a) (positions b) (positions-fit a b fits))
+    ∙ true_at-suc (length a) (at_places (positions a) (positions b))
+
+rank_intersection-true : (a : List Bool) (v : Bool) (b : List Bool) → length b ≡ trues a → rank_intersection (true ∷ a) (v ∷ b) ≡ v ∷ rank_intersection a b
+rank_intersection-true a true b fits =
+    ap (λ (ps : List ℕ). true_at (suc (length a)) (at_places ps (positions (true ∷ b)))) (positions-true a)
+    ∙ ap (λ (qs : List ℕ). true_at (suc (length a)) (at_places (0 ∷ map suc (positions a)) qs)) (positions-true b)
+    ∙ ap (λ (ps : List ℕ). true_at (suc (length a)) (0 ∷ ps)) (at_places-cons_suc 0 (map suc (positions a)) (positions b) ∙ at_places-map_suc (positions a) (positions b) (positions-fit a b fits))
+    ∙ true_at-zero_suc (length a) (at_places (positions a) (positions b))
+rank_intersection-true a false b fits =
+    ap (λ (ps : List ℕ). true_at (suc (length a)) (at_places ps (positions (false ∷ b)))) (positions-true a)
+    ∙ ap (λ (qs : List ℕ). true_at (suc (length a)) (at_places (0 ∷ map suc (positions a)) qs)) (positions-false b)
+    ∙ ap (true_at (suc (length a))) (at_places-cons_suc 0 (map suc (positions a)) (positions b) ∙ at_places-map_suc (positions a) (positions b) (positions-fit a b fits))
+    ∙ true_at-suc (length a) (at_places (positions a) (positions b))
+
+narrows : (a b : List Bool) → length b ≡ trues a → rank_intersection a b ≡ narrow a b
+unfolding true_at
+narrows [] b fits = refl
+narrows (false ∷ a) b fits = rank_intersection-false a b fits ∙ ap (λ (xs : List Bool). false ∷ xs) (narrows a b fits)
+narrows (true ∷ a) [] fits = absurd (omega arith)
+narrows (true ∷ a) (v ∷ b) fits =
+    rank_intersection-true a v b (omega arith) ∙ ap (λ (xs : List Bool). v ∷ xs) (narrows a b (omega arith))
+
+-- where b is as long as a has true values, the rank intersection is that recursion
+pub rank_intersection-narrow : (a b : List Bool) → length b ≡ count a → rank_intersection a b ≡ narrow a b
+rank_intersection-narrow a b fits = narrows a b (fits ∙ count-trues a)
+
+-- ---- the arms that need no work
+
+-- an all-true list is a left unit
+narrow-all_true : (b : List Bool) → narrow (repeated (length b) true) b ≡ b
+unfolding repeated
+narrow-all_true [] = refl
+narrow-all_true (v ∷ b) = ap (λ (xs : List Bool). v ∷ xs) (narrow-all_true b)
+
+trues-replicate_true : (n : ℕ) → trues (repeated n true) ≡ n
+unfolding repeated
+trues-replicate_true zero = refl
+trues-replicate_true (suc n) = ap suc (trues-replicate_true n)
+
+pub rank_intersection-all_true : (n : ℕ) (b : List Bool) → length b ≡ n → rank_intersection (repeated n true) b ≡ b
+unfolding repeated
+rank_intersection-all_true n b len =
+    let same = ap (λ k. repeated k true) (sym len) in
+    narrows (repeated n true) b (len ∙ sym (trues-replicate_true n)) ∙ ap (λ (xs : List Bool). narrow xs b) same ∙ narrow-all_true b
+
+-- and a right unit
+narrow-by_all_true : (a : List Bool) → narrow a (repeated (trues a) true) ≡ a
+unfolding repeated
+narrow-by_all_true [] = refl
+narrow-by_all_true (false ∷ a) = ap (λ (xs : List Bool). false ∷ xs) (narrow-by_all_true a)
+narrow-by_all_true (true ∷ a) = ap (λ (xs : List Bool). true ∷ xs) (narrow-by_all_true a)
+
+pub rank_intersection-by_all_true : (a : List Bool) (n : ℕ) → n ≡ count a → rank_intersection a (repeated n true) ≡ a
+unfolding repeated
+rank_intersection-by_all_true a n fits =
+    rank_intersection-narrow a (repeated n true) (length-replicate n true ∙ fits)
+    ∙ ap (λ k. narrow a (repeated k true)) (fits ∙ count-trues a) ∙ narrow-by_all_true a
+
+-- nothing of an all-false list, and nothing by one
+narrow-all_false : (n : ℕ) (b : List Bool) → narrow (repeated n false) b ≡ repeated n false
+unfolding repeated
+narrow-all_false zero b = refl
+narrow-all_false (suc n) b = ap (λ (xs : List Bool). false ∷ xs) (narrow-all_false n b)
+
+narrow-by_all_false : (a : List Bool) (n : ℕ) → narrow a (repeated n false) ≡ repeated (length a) false
+unfolding repeated
+narrow-by_all_false [] n = refl
+narrow-by_all_false (false ∷ a) n = ap (λ (xs : List Bool). false ∷ xs) (narrow-by_all_false a n)
+narrow-by_all_false (true ∷ a) zero = ap (λ (xs : List Bool). false ∷ xs) (narrow-by_all_false a zero)
+narrow-by_all_false (true ∷ a) (suc n) = ap (λ (xs : List Bool). false ∷ xs) (narrow-by_all_false a n)
+
+pub rank_intersection-all_false : (n : ℕ) (b : List Bool) → length b ≡ count (repeated n false) → rank_intersection (repeated n false) b ≡ repeated n false
+unfolding repeated
+rank_intersection-all_false n b fits = rank_intersection-narrow (repeated n false) b fits ∙ narrow-all_false n b
+
+pub rank_intersection-by_all_false : (a : List Bool) (n : ℕ) → n ≡ count a → rank_intersection a (repeated n false) ≡ repeated (length a) false
+unfolding repeated
+rank_intersection-by_all_false a n fits =
+    rank_intersection-narrow a (repeated n false) (length-replicate n false ∙ fits) ∙ narrow-by_all_false a n
+
+-- ---- bounds and lengths
+
+pub length-true_at : (n : ℕ) (places : List ℕ) → length (true_at n places) ≡ n
+unfolding true_at
+length-true_at n places = length-map-range_with_len (λ i. list_any (nat_eq i) places) 0 n
+
+-- each entry at places within a list has what each entry of the list has
+pub All-at_places : (P : ℕ → Type 0) (ps qs : List ℕ) → All P ps → All (λ q. q < length ps) qs → All P (at_places ps qs)
+All-at_places P ps qs all within =
+    All-map P (λ q. get_or ps q 0) qs (All-weaker (λ q. q < length ps) (λ q. P (get_or ps q 0)) (λ q h. All-get_or P ps q 0 h all) qs within)
+
+-- the ranks of a fitting mask are within the places that they select among
+pub positions-select : (a b : List Bool) → length b ≡ count a → All (λ q. q < count a) (positions b)
+positions-select a b fits =
+    All-weaker (λ q. q < length b) (λ q. q < count a) (λ q h. omega arith) (positions b) (positions-within b)

@@ -1,0 +1,12 @@
+use Rattle.std.proofs.Common.{length, ap, ◌∙◌, sym}
+use Rattle.std.proofs.lemmas.Bool.{eqb-true, eq-eqb}
+use Rattle.std.proofs.lemmas.List.{nil_from_length}
+use Rattle.mask_bits.specs.Buffer.{values}
+use Rattle.mask_bits.proofs.BufferLemmas.{length-values}
+use Rattle.mask_bits.proofs.buffer.BitBuffer.is_empty.Goals as goal
+
+pub returns : goal.returns
+returns c =
+    let b = c.args.self.now in
+    let len = length-values b ∙ sym (ap (λ p. p.len) c.self.view_is) in
+    (λ h. nil_from_length (values b) (len ∙ eqb-true _ 0 h), λ e. eq-eqb _ 0 (sym len ∙ ap length e))

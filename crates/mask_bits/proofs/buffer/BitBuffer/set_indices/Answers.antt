@@ -1,0 +1,10 @@
+use Rattle.std.proofs.Common.{length, ap, arith}
+use Rattle.mask_bits.specs.Buffer.{values}
+use Rattle.mask_bits.proofs.BufferLemmas.{length-values}
+use Rattle.mask_bits.proofs.Lists.PlaceLemmas.{length-places_from}
+use Rattle.mask_bits.proofs.buffer.BitBuffer.set_indices.Goals as goal
+
+pub returns-clause-fits : goal.returns-clause-fits
+returns-clause-fits c =
+    let b = c.args.self.now in
+    omega (arith, ap length c.new.ensures, length-places_from 0 (values b), length-values b, ap (λ p. p.len) c.self.view_is)

@@ -1,0 +1,179 @@
+ghost use Rattle.std.specs.Prelude.{◌≡◌, ◌+◌, ◌*◌, ◌<◌, ◌≤◌, ◌^◌, ◌↔◌, ◌||◌, ℕ, Bool, false, List, [], length, vec_len, nat_eq, All, IfOk, IsTrue, Some, slice_get};
+ghost use Rattle.std.specs.Iterator.{UpTo, Drains};
+ghost use Rattle.mask_bits.specs.Buffer.{Packed, IsWithinBytes, values, backing_bit};
+ghost use Rattle.mask_bits.specs.Positions.{positions, count, true_at};
+
+use crate::indices::SetIndices;
+use bytes::Bytes;
+use std::alloc::{AllocError, Global};
+use std::marker::Model;
+
+/// An immutable list of truth values, packed eight to a byte.
+///
+/// Value `i` is the bit at position `p = offset + i` of the backing bytes: bit `p % 8`, counted
+/// from the lowest, of byte `p / 8`. Backing bits before the offset and past the last value have
+/// no meaning and never change an answer.
+#[derive(Drop)]
+pub struct BitBuffer {
+    bytes: Bytes,
+    offset: usize,
+    len: usize,
+}
+
+impl Model for BitBuffer {
+    ghost use Rattle.mask_bits.specs.Buffer.{Packed, IsWithinBytes};
+
+    ghost Value = { Packed };
+
+    ghost view = { λ b. record { bytes = b.bytes; offset = b.offset; len = b.len } };
+
+    ghost invariant = { λ b. IsWithinBytes b.bytes b.offset b.len };
+}
+
+#[tactic(auto, using(crate::proofs::BufferLemmas::buffer_facts))]
+impl BitBuffer {
+    /// The first `len` bits of `bytes`.
+    pub fn new(bytes: Bytes, len: usize) -> BitBuffer
+        requires { len ≤ 8 * length bytes }
+        ensures { result ≡ record { bytes = bytes; offset = 0; len = len } }
+    {
+        BitBuffer::new_with_offset(bytes, 0, len)
+    }
+
+    /// The `len` bits of `bytes` from bit position `offset` on.
+    pub fn new_with_offset(bytes: Bytes, offset: usize, len: usize) -> BitBuffer
+        requires covered { offset + len ≤ 8 * length bytes }
+        requires fits { offset + len < 2 ^ 64 }
+        ensures { result ≡ record { bytes = bytes; offset = offset; len = len } }
+    {
+        BitBuffer { bytes, offset, len }
+    }
+
+    /// The list of `len` values that is true exactly at `indices`, in any order and with repeats.
+    pub fn from_indices(
+        alloc: Global,
+        len: usize,
+        indices: &[usize],
+    ) -> Result<BitBuffer, AllocError>
+        requires { All (λ i. i < len) indices.now }
+        ensures { IfOk result (λ b. values b ≡ true_at len indices.now) }
+    {
+        let mut bytes = zeroed(alloc, len)?;
+        for index in indices {
+            set_bit(&mut bytes, *index);
+        }
+        Ok(BitBuffer::new(Bytes::from_vec(bytes)?, len))
+    }
+
+    /// The values that an iterator yields, in their order.
+    pub fn from_bools<I: Iterator<Item = bool>>(
+        alloc: Global,
+        bools: I,
+    ) -> Result<BitBuffer, AllocError>
+        requires can { I.can_next bools }
+        requires ends { UpTo (I.remaining bools) usize.MAX }
+        ensures { IfOk result (λ b. Drains I.next_gives bools (values b)) }
+    {
+        let bools: Vec<bool> = bools.collect(alloc)?;
+        BitBuffer::from_slice(alloc, &bools)
+    }
+
+    fn from_slice(alloc: Global, bools: &[bool]) -> Result<BitBuffer, AllocError>
+        ensures { IfOk result (λ b. values b ≡ bools.now) }
+    {
+        let mut bytes = zeroed(alloc, bools.len())?;
+        for (i, value) in bools.iter().enumerate() {
+            if *value {
+                set_bit(&mut bytes, i);
+            }
+        }
+        Ok(BitBuffer::new(Bytes::from_vec(bytes)?, bools.len()))
+    }
+
+    /// Another owner of the same bytes, at the same offset and length.
+    pub fn clone(&self) -> Result<BitBuffer, AllocError>
+        ensures { IfOk result (λ b. b ≡ self.now) }
+    {
+        Ok(BitBuffer {
+            bytes: self.bytes.clone()?,
+            offset: self.offset,
+            len: self.len,
+        })
+    }
+
+    /// How many values there are.
+    pub fn len(&self) -> usize
+        ensures { result ≡ length (values self.now) }
+    {
+        self.len
+    }
+
+    /// Whether there is no value.
+    pub fn is_empty(&self) -> bool
+        ensures { IsTrue result ↔ (values self.now ≡ []) }
+    {
+        self.len == 0
+    }
+
+    /// How many values are true.
+    pub fn true_count(&self) -> usize
+        ensures { result ≡ count (values self.now) }
+    {
+        self.set_indices().count()
+    }
+
+    /// The position of value 0 in the backing bytes, in bits.
+    pub fn offset(&self) -> usize
+        ensures { result ≡ self.now.offset }
+    {
+        self.offset
+    }
+
+    /// The backing bytes.
+    pub fn inner(&self) -> &Bytes
+        ensures { result.now ≡ self.now.bytes }
+    {
+        &self.bytes
+    }
+
+    /// Value `i`.
+    pub fn value(&self, i: usize) -> bool
+        requires { i < length (values self.now) }
+        ensures { slice_get (values self.now) i ≡ Some result }
+    {
+        let position = self.offset + i;
+        (self.bytes.as_slice()[position / 8] >> (position % 8)) & 1 == 1
+    }
+
+    /// The place of true value number `n`, counted from 0, and `None` from the true count on.
+    pub fn select(&self, n: usize) -> Option<usize>
+        ensures { result ≡ slice_get (positions (values self.now)) n }
+    {
+        self.set_indices().nth(n)
+    }
+
+    /// The places of the true values, ascending.
+    pub fn set_indices(&self) -> SetIndices<'_>
+        ensures places { result ≡ positions (values self.now) }
+        ensures fits { length result < 2 ^ 64 }
+    {
+        let _ = &self.len;
+        SetIndices::new(self)
+    }
+}
+
+// Bytes for `len` bits, all clear.
+fn zeroed(alloc: Global, len: usize) -> Result<Vec<u8>, AllocError>
+    ensures covered { IfOk result (λ bytes. len ≤ 8 * vec_len bytes) }
+    ensures clear { IfOk result (λ bytes. (p : ℕ) → backing_bit bytes.items p ≡ false) }
+{
+    Ok(vec![in alloc; 0u8; len.div_ceil(8)]?)
+}
+
+// Sets the bit at one position and no other.
+fn set_bit(bytes: &mut [u8], position: usize)
+    requires { position < 8 * length bytes.old }
+    ensures { (p : ℕ) → backing_bit bytes.new p ≡ (nat_eq p position || backing_bit bytes.old p) }
+{
+    bytes[position / 8] |= 1 << (position % 8);
+}

@@ -1,0 +1,52 @@
+//! Laws of lists of truth values. A call of one of these does nothing when it runs: a caller's
+//! proof then knows the law.
+
+ghost use Rattle.mask_bits.specs.Laws.{PositionsDetermineList, RankIntersectionIsTheList, RankIntersectionValue, ChoosingTwice, RankIntersectionAssociative, AllTrueLeftUnit, AllTrueRightUnit, RankIntersectionCount, RankIntersectionPosition};
+
+/// A planner may compare filters of one length by their true places alone.
+pub fn positions_determine_list()
+    ensures equal { PositionsDetermineList }
+{}
+
+/// A planner may take a rank intersection for the one list as long as the first mask whose true
+/// places are the first mask's taken at the second's.
+pub fn rank_intersection_is_the_list()
+    ensures only { RankIntersectionIsTheList }
+{}
+
+/// A planner may ask for one row of two stacked filters: the first decides, and then the second at
+/// the number of rows that the first chose before it.
+pub fn rank_intersection_value()
+    ensures value { RankIntersectionValue }
+{}
+
+/// A planner may put one rank intersection in the place of two filters that run one after the
+/// other.
+pub fn choosing_twice<T>()
+    ensures twice { ChoosingTwice T }
+{}
+
+/// A planner may join stacked filters in any grouping.
+pub fn rank_intersection_associative()
+    ensures regrouped { RankIntersectionAssociative }
+{}
+
+/// A planner may drop a filter that chooses every row before another.
+pub fn all_true_left_unit()
+    ensures unit { AllTrueLeftUnit }
+{}
+
+/// A planner may drop a filter that chooses every row after another.
+pub fn all_true_right_unit()
+    ensures unit { AllTrueRightUnit }
+{}
+
+/// A planner knows how many rows two stacked filters choose: as many as the second does.
+pub fn rank_intersection_count()
+    ensures count { RankIntersectionCount }
+{}
+
+/// A planner may find the row that two stacked filters choose as number `n` by two look-ups.
+pub fn rank_intersection_position()
+    ensures position { RankIntersectionPosition }
+{}

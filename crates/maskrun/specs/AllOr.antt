@@ -1,9 +1,0 @@
--- What an `AllOr` of a reference points to.
-use Rattle.std.specs.Borrow.{Bor}
-use Rattle.maskrun.specs.declared.mask.all_or.AllOr.{AllOr}
-use Rattle.maskrun.specs.declared.mask.all_or.AllOr.TheVariants.{All, None, Some}
-
-abbrev pub all_or_copied : {T : Type 0} → AllOr (Bor T) → AllOr T
-all_or_copied All = All
-all_or_copied None = None
-all_or_copied (Some x) = Some x.now

@@ -1,0 +1,3 @@
+-- Lemmas.
+pub mod MaskLemmas
+pub mod ResultLemmas

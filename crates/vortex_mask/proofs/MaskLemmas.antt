@@ -1,0 +1,80 @@
+-- The variant that a list may have, by its count.
+use Rattle.std.proofs.Common.{◌≡◌, ℕ, zero, suc, ◌<◌, Bool, true, false, List, [], ◌∷◌, length, refl, sym, ap, ◌∙◌, arith}
+use Rattle.std.specs.List.{list_all, list_any}
+use Rattle.std.proofs.lemmas.List.{length-replicate}
+use Rattle.vortex_mask.specs.Mask.{truth, variant_and, Variant, all_true, all_false, mixed, fitting_variant}
+use Rattle.mask_bits.specs.Positions.{positions, count, rank_intersection, repeated}
+use Rattle.vortex_mask.specs.declared.mask.Mask.{Mask}
+use Rattle.vortex_mask.specs.declared.mask.Mask.TheVariants.{AllTrue, AllFalse}
+use Rattle.mask_bits.proofs.Lists.RankLemmas.{rank_intersection-all_true, rank_intersection-by_all_true, rank_intersection-all_false, rank_intersection-by_all_false}
+use Rattle.mask_bits.proofs.Lists.CountLemmas.{count-replicate_true, count-replicate_false, list_all-count, list_all-count_less, list_any-count, list_any-count_zero}
+
+pub fitting_variant-all : (empty : Variant) (m : List Bool) → 0 < length m → count m ≡ length m → fitting_variant empty m ≡ all_true
+fitting_variant-all empty [] some e = absurd (omega arith)
+fitting_variant-all empty (v ∷ m) some e = rw (list_all-count 0 (v ∷ m) e) refl
+
+pub fitting_variant-none : (empty : Variant) (m : List Bool) → 0 < length m → count m ≡ 0 → fitting_variant empty m ≡ all_false
+fitting_variant-none empty [] some e = absurd (omega arith)
+fitting_variant-none empty (v ∷ m) some e =
+    rw (list_all-count_less 0 (v ∷ m) (omega arith), list_any-count_zero 0 (v ∷ m) e) refl
+
+pub fitting_variant-some : (empty : Variant) (m : List Bool) → 0 < count m → count m < length m → fitting_variant empty m ≡ mixed
+fitting_variant-some empty [] some less = absurd (omega arith)
+fitting_variant-some empty (v ∷ m) some less =
+    rw (list_all-count_less 0 (v ∷ m) less, list_any-count 0 (v ∷ m) some) refl
+
+-- a list with no true value, held as all false also where it is empty
+pub fitting_variant-all_false : (m : List Bool) → count m ≡ 0 → fitting_variant all_false m ≡ all_false
+fitting_variant-all_false [] e = refl
+fitting_variant-all_false (v ∷ m) e = fitting_variant-none all_false (v ∷ m) (omega arith) e
+
+-- the variants of lists of one value
+pub fitting_variant-repeated_true : (n : ℕ) → fitting_variant all_true (repeated n true) ≡ all_true
+unfolding repeated
+fitting_variant-repeated_true zero = refl
+fitting_variant-repeated_true (suc n) =
+    fitting_variant-all all_true (repeated (suc n) true) (omega arith) (count-replicate_true (suc n) ∙ sym (length-replicate (suc n) true))
+
+pub fitting_variant-repeated_false : (n : ℕ) → fitting_variant all_false (repeated n false) ≡ all_false
+unfolding repeated
+fitting_variant-repeated_false n = fitting_variant-all_false (repeated n false) (count-replicate_false n)
+
+-- a list with values has one variant
+pub fitting_variant-nonempty : (e f : Variant) (m : List Bool) → 0 < length m → fitting_variant e m ≡ fitting_variant f m
+fitting_variant-nonempty e f [] some = absurd (omega arith)
+fitting_variant-nonempty e f (v ∷ m) some = refl
+
+-- ---- the arms of rank intersection that need no list of places
+
+pub truth-by_all_true_self : (a b : Mask) (n : ℕ) → a ≡ AllTrue n → length (truth b) ≡ count (truth a) → truth b ≡ rank_intersection (truth a) (truth b)
+unfolding repeated
+truth-by_all_true_self a b n is fits =
+    let list = ap truth is in
+    sym (ap (λ (xs : List Bool). rank_intersection xs (truth b)) list
+    ∙ rank_intersection-all_true n (truth b) (fits ∙ ap count list ∙ count-replicate_true n))
+
+pub truth-by_all_true_mask : (a b : Mask) (n : ℕ) → b ≡ AllTrue n → length (truth b) ≡ count (truth a) → truth a ≡ rank_intersection (truth a) (truth b)
+unfolding repeated
+truth-by_all_true_mask a b n is fits =
+    let list = ap truth is in
+    sym (ap (rank_intersection (truth a)) list
+    ∙ rank_intersection-by_all_true (truth a) n (sym (ap length list ∙ length-replicate n true) ∙ fits))
+
+pub truth-by_all_false_self : (a b : Mask) (n : ℕ) → a ≡ AllFalse n → length (truth b) ≡ count (truth a) → repeated (length (truth a)) false ≡ rank_intersection (truth a) (truth b)
+unfolding repeated
+truth-by_all_false_self a b n is fits =
+    let list = ap truth is in
+    ap (λ k. repeated k false) (ap length list ∙ length-replicate n false)
+    ∙ sym (ap (λ (xs : List Bool). rank_intersection xs (truth b)) list ∙ rank_intersection-all_false n (truth b) (fits ∙ ap count list))
+
+pub truth-by_all_false_mask : (a b : Mask) (n : ℕ) → b ≡ AllFalse n → length (truth b) ≡ count (truth a) → repeated (length (truth a)) false ≡ rank_intersection (truth a) (truth b)
+unfolding repeated
+truth-by_all_false_mask a b n is fits =
+    let list = ap truth is in
+    sym (ap (rank_intersection (truth a)) list
+    ∙ rank_intersection-by_all_false (truth a) n (sym (ap length list ∙ length-replicate n false) ∙ fits))
+
+pub variant_and-all_false_right : (v : Variant) → variant_and v all_false ≡ all_false
+variant_and-all_false_right all_true = refl
+variant_and-all_false_right all_false = refl
+variant_and-all_false_right mixed = refl

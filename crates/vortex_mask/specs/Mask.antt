@@ -1,0 +1,57 @@
+-- What a contract sees of a `Mask`: its list, the variant that holds it, and what is inside `Values`.
+use Rattle.std.specs.Prelude.{ℕ, ◌≡◌, Bool, true, false, List, [], ◌∷◌, length, Option, Some, None, if◌then◌else◌, ◌⊎◌}
+use Rattle.std.specs.List.{list_all, list_any}
+use Rattle.mask_bits.specs.Buffer.{Packed, values}
+use Rattle.vortex_mask.specs.MaskValues.{Contents}
+use Rattle.mask_bits.specs.Positions.{count, repeated}
+use Rattle.vortex_mask.specs.declared.mask.all_or.AllOr.{AllOr}
+use Rattle.vortex_mask.specs.declared.mask.all_or.AllOr.TheVariants as all_or
+use Rattle.vortex_mask.specs.declared.mask.Mask.{Mask}
+use Rattle.vortex_mask.specs.declared.mask.Mask.TheVariants.{AllTrue, AllFalse, Values}
+
+-- the truth values of a mask, however it is held
+abbrev pub truth : Mask → List Bool
+truth (AllTrue n) = repeated n true
+truth (AllFalse n) = repeated n false
+truth (Values v) = values v.value.buffer
+
+-- the three ways to hold a mask: `AllTrue`, `AllFalse` and `Values`
+pub data Variant : Type 0 where
+  all_true : Variant
+  all_false : Variant
+  mixed : Variant
+
+-- the way in which a mask is held
+abbrev pub variant : Mask → Variant
+variant (AllTrue n) = all_true
+variant (AllFalse n) = all_false
+variant (Values v) = mixed
+
+-- the one way in which a list may be held: a list with no values is held as `empty` says
+abbrev pub fitting_variant : Variant → List Bool → Variant
+fitting_variant empty [] = empty
+fitting_variant empty (v ∷ m) = if list_all (λ b. b) (v ∷ m) then all_true else (if list_any (λ b. b) (v ∷ m) then mixed else all_false)
+
+-- two variants read as truth values, which `mixed` leaves open, and joined by `and`
+abbrev pub variant_and : Variant → Variant → Variant
+variant_and all_true w = w
+variant_and all_false w = all_false
+variant_and mixed all_true = mixed
+variant_and mixed all_false = all_false
+variant_and mixed mixed = mixed
+
+-- no value differs from another: the list is empty, all true or all false
+abbrev pub IsUniform : List Bool → Type 0
+IsUniform m = (count m ≡ 0) ⊎ (count m ≡ length m)
+
+-- what is inside `Values`
+abbrev pub contents : Mask → Option Contents
+contents (AllTrue n) = None
+contents (AllFalse n) = None
+contents (Values v) = Some v.value
+
+-- `All`, `None` or the buffer, by variant
+abbrev pub held_buffer : Mask → AllOr Packed
+held_buffer (AllTrue n) = all_or.All
+held_buffer (AllFalse n) = all_or.None
+held_buffer (Values v) = all_or.Some v.value.buffer

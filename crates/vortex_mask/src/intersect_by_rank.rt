@@ -1,0 +1,76 @@
+ghost use Rattle.std.specs.Prelude.{◌≡◌, ◌≢◌, ◌<◌, ◌⊎◌, IsOk, IfOk, All, length};
+ghost use Rattle.vortex_mask.specs.Mask.{truth, variant, fitting_variant, variant_and, all_false, mixed};
+ghost use Rattle.mask_bits.specs.Buffer.{values};
+ghost use Rattle.mask_bits.specs.Positions.{positions, count, at_places, rank_intersection};
+
+use crate::mask::{Mask, MaskError};
+use mask_bits::BitBuffer;
+use std::alloc::{AllocError, Global};
+
+impl Mask {
+    /// The mask in which the true values of this one are narrowed by a mask over them: true value
+    /// number `k` stays true exactly where value `k` of `mask` is true.
+    pub fn intersect_by_rank(&self, alloc: Global, mask: &Mask) -> Result<Mask, MaskError>
+        requires { length (truth mask.now) ≡ count (truth self.now) }
+        ensures len { IfOk result (λ m. length (truth m) ≡ length (truth self.now)) }
+        ensures true_indices { IfOk result (λ m. positions (truth m)
+            ≡ at_places (positions (truth self.now)) (positions (truth mask.now))) }
+
+        // The one list of that length and with those true indices.
+        ensures list { IfOk result
+            (λ m. truth m ≡ rank_intersection (truth self.now) (truth mask.now)) }
+        ensures variant { IfOk result (λ m. variant m
+            ≡ fitting_variant (variant_and (variant self.now) (variant mask.now)) (truth m)) }
+
+        // What needs no memory succeeds.
+        ensures uniform { variant self.now ≢ mixed → variant mask.now ≢ mixed → IsOk result }
+        ensures none { (variant self.now ≡ all_false) ⊎ (variant mask.now ≡ all_false)
+            → IsOk result }
+    {
+        match (self, mask) {
+            (Mask::AllTrue(_), _) => mask.clone(),
+            (_, Mask::AllTrue(_)) => self.clone(),
+            (Mask::AllFalse(_), _) => Ok(Mask::new_false(self.len())),
+            (_, Mask::AllFalse(_)) => Ok(Mask::new_false(self.len())),
+            (Mask::Values(values), Mask::Values(ranks)) => {
+                let buffer = intersect_buffers(alloc, values.bit_buffer(), ranks.bit_buffer())?;
+                Mask::from_buffer(alloc, buffer)
+            }
+        }
+    }
+}
+
+// The list as long as `buffer` that is true at its true places taken at those of `ranks`.
+fn intersect_buffers(
+    alloc: Global,
+    buffer: &BitBuffer,
+    ranks: &BitBuffer,
+) -> Result<BitBuffer, AllocError>
+    requires { length (values ranks.now) ≡ count (values buffer.now) }
+    ensures { IfOk result
+        (λ b. values b ≡ rank_intersection (values buffer.now) (values ranks.now)) }
+{
+    let places = places_of(alloc, buffer)?;
+    let ranks = places_of(alloc, ranks)?;
+    let kept = taken_at(alloc, &places, &ranks)?;
+    BitBuffer::from_indices(alloc, buffer.len(), &kept)
+}
+
+// The places of the true values.
+fn places_of(alloc: Global, buffer: &BitBuffer) -> Result<Vec<usize>, AllocError>
+    ensures { IfOk result (λ places. places.items ≡ positions (values buffer.now)) }
+{
+    buffer.set_indices().collect(alloc)
+}
+
+// The entries of `places` at `ranks`, in the order of `ranks`.
+fn taken_at(alloc: Global, places: &[usize], ranks: &[usize]) -> Result<Vec<usize>, AllocError>
+    requires { All (λ k. k < length places.now) ranks.now }
+    ensures { IfOk result (λ kept. kept.items ≡ at_places places.now ranks.now) }
+{
+    let mut kept = Vec::new(alloc);
+    for rank in ranks {
+        kept.push(places[*rank])?;
+    }
+    Ok(kept)
+}
