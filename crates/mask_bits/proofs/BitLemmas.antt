@@ -4,7 +4,7 @@ use Rattle.std.specs.Int.{bit_at, w8}
 use Rattle.std.specs.Int.RustNames.{bit_or}
 use Rattle.std.proofs.lemmas.Bool.{cases_eq, eq-eqb, ne_eqb}
 use Rattle.std.proofs.lemmas.List.{get_or-set_same, get_or-set_other, get_or-replicate, get_or_past, length-replicate}
-use Rattle.std.proofs.lemmas.Nat.Bits.{bit_at_set_same, bit_at_set_other, bit_at-zero}
+use Rattle.std.proofs.lemmas.Nat.Bits.{bit_at_set_same, bit_at_set_other, bit_at-zero, bit_at_ones}
 use Rattle.std.proofs.lemmas.Bool.{cases_lt}
 use Rattle.mask_bits.specs.Buffer.{backing_bit}
 
@@ -51,3 +51,9 @@ backing_bit-zeros n p =
       | inr past ↦ get_or_past (replicate n 0) (p / 8) 0 (omega (arith, length-replicate n (zero)))
     ] in
     ap (λ b. nat_eq (bit_at b (p % 8)) 1) read ∙ ap (λ v. nat_eq v 1) (bit_at-zero (p % 8))
+
+-- each bit of bytes of ones is set
+pub backing_bit-ones : (n p : ℕ) → p < 8 * n → backing_bit (replicate n 255) p ≡ true
+backing_bit-ones n p h =
+    ap (λ b. nat_eq (bit_at b (p % 8)) 1) (get_or-replicate n (p / 8) 255 0 (omega arith))
+    ∙ ap (λ v. nat_eq v 1) (bit_at_ones 8 (p % 8) (omega arith))

@@ -1,10 +1,16 @@
 -- What the list of a buffer is, from its backing bytes.
-use Rattle.std.proofs.Common.{◌≡◌, ℕ, ◌+◌, ◌<◌, Bool, false, List, length, get_or, Some, slice_get, refl, sym, ap, ◌∙◌, arith, zero-add, map, nat_eq}
+use Rattle.std.proofs.Common.{◌-◌, ◌*◌, ◌≤◌, true, replicate, add_assoc, slice_range, ◌≡◌, ℕ, ◌+◌, ◌<◌, Bool, false, List, length, get_or, Some, slice_get, refl, sym, ap, ◌∙◌, arith, zero-add, map, nat_eq}
 use Rattle.std.specs.List.{list_any, range_with_len}
 use Rattle.std.proofs.lemmas.List.FromFn.{length-map-range_with_len, get_or-map-range_with_len, fill_by_all}
 use Rattle.std.proofs.lemmas.Option.{slice_get-get_or}
-use Rattle.mask_bits.specs.Buffer.{Packed, backing_bit, values}
-use Rattle.mask_bits.specs.Positions.{true_at}
+use Rattle.std.specs.Cmp.{booleans_Decides}
+use Rattle.std.proofs.lemmas.Bool.Decides.{same_from_decides}
+use Rattle.std.proofs.lemmas.List.{length-replicate, get_or-replicate}
+use Rattle.std.proofs.lemmas.List.Edits.{length-between, get_or-between}
+use Rattle.std.proofs.lemmas.Slice.Eq.{slice_eq-Decides}
+use Rattle.mask_bits.specs.Buffer.{Packed, backing_bit, values, same_values}
+use Rattle.mask_bits.specs.Positions.{repeated, true_at}
+use Rattle.mask_bits.proofs.BitLemmas.{backing_bit-ones}
 
 -- a buffer's list is as long as the buffer says
 pub length-values : (b : Packed) → length (values b) ≡ b.len
@@ -20,9 +26,6 @@ get_or-values b i d h = get_or-map-range_with_len (λ i. backing_bit b.bytes (b.
 pub values_from_bits : (b : Packed) (m : List Bool) → length m ≡ b.len → ((i : ℕ) → i < b.len → get_or m i false ≡ backing_bit b.bytes (b.offset + i)) → values b ≡ m
 unfolding values
 values_from_bits b m len same = sym (fill_by_all (λ i. backing_bit b.bytes (b.offset + i)) m b.len false len same)
-
--- what `len` and the tests of bounds need
-pub ruleset buffer_facts = (length-values)
 
 -- what `value` answers
 pub slice_get-values : (b : Packed) (i : ℕ) → i < length (values b) → slice_get (values b) i ≡ Some (backing_bit b.bytes (b.offset + i))
@@ -41,3 +44,33 @@ values_from_places bytes places n same =
     let f : ℕ → Bool = λ i. list_any (nat_eq i) places in
     values_from_front bytes (map f (range_with_len 0 n)) n (length-map-range_with_len f 0 n)
     (λ i h. same i ∙ sym (get_or-map-range_with_len f 0 n i i false h (omega arith)))
+
+-- what `len` and the tests of bounds need
+pub ruleset buffer_facts = (length-values)
+
+-- ---- parts
+
+-- a part of a buffer's list is the list of the same bytes from the part's first bit on
+pub values-part : (b : Packed) (s e : ℕ) → s ≤ e → e ≤ b.len → values (record b { offset = b.offset + s; len = e - s }) ≡ slice_range (values b) s e
+values-part b s e ordered within =
+    let fits : e ≤ length (values b) = omega (arith, length-values b) in
+    values_from_bits (record b { offset = b.offset + s; len = e - s }) (slice_range (values b) s e) (length-between (values b) s e fits)
+    (λ i h. get_or-between (values b) s e i false (omega arith) ∙ get_or-values b (s + i) false (omega arith) ∙ ap (backing_bit b.bytes) (sym (add_assoc b.offset s i)))
+
+-- the first bits of bytes of one value
+pub values-ones : (n k : ℕ) → n ≤ 8 * k → values (record { bytes = replicate k 255; offset = 0; len = n }) ≡ repeated n true
+unfolding repeated
+values-ones n k fits =
+    values_from_front (replicate k 255) (replicate n true) n (length-replicate n true) (λ i h. backing_bit-ones k i (omega arith) ∙ sym (get_or-replicate n i true false h))
+
+pub values-none : (bytes : List ℕ) (n : ℕ) → ((i : ℕ) → backing_bit bytes i ≡ false) → values (record { bytes = bytes; offset = 0; len = n }) ≡ repeated n false
+unfolding repeated
+values-none bytes n clear =
+    values_from_front bytes (replicate n false) n (length-replicate n false) (λ i h. clear i ∙ sym (get_or-replicate n i false false h))
+
+-- ---- equality
+
+-- an answer that is true just where the lists are equal is that of the comparison
+pub same_values-from_answer : (a b : Packed) (r : Bool) → (r ≡ true → values a ≡ values b) → (values a ≡ values b → r ≡ true) → r ≡ same_values a b
+same_values-from_answer a b r told tells =
+    same_from_decides r (same_values a b) (told, tells) (slice_eq-Decides booleans_Decides (values a) (values b) (same_values a b) refl)

@@ -2,3 +2,6 @@
 mod BitLemmas
 mod BufferLemmas
 pub mod Lists
+mod NumberLemmas
+mod WindowLemmas
+mod YieldLemmas

@@ -4,3 +4,6 @@ pub mod CountLemmas
 pub mod LawLemmas
 pub mod PlaceLemmas
 pub mod RankLemmas
+pub mod RunLemmas
+pub mod ScanLemmas
+pub mod WordLemmas

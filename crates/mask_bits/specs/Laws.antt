@@ -1,6 +1,7 @@
 -- What holds of all lists of truth values, whatever holds them.
 use Rattle.std.specs.Prelude.{ℕ, ◌≡◌, ◌<◌, ◌&&◌, ◌↔◌, Bool, true, false, List, length, slice_index, slice_index_or}
 use Rattle.mask_bits.specs.Positions.{positions, count, count_below, repeated, at_places, rank_intersection, chosen}
+use Rattle.mask_bits.specs.Runs.{AreRuns, AreRanges}
 
 -- lists of one length with the same true places are one list
 abbrev pub PositionsDetermineList : Type 0
@@ -46,3 +47,15 @@ RankIntersectionCount = (a b : List Bool) → length b ≡ count a → count (ra
 abbrev pub RankIntersectionPosition : Type 0
 RankIntersectionPosition = (a b : List Bool) (n : ℕ) → length b ≡ count a → n < count b
     → slice_index (positions (rank_intersection a b)) n ≡ slice_index (positions a) (slice_index (positions b) n)
+
+-- every list of truth values has runs
+abbrev pub RunsExist : Type 0
+RunsExist = (m : List Bool) → (rs : List (ℕ × ℕ)) × AreRuns m rs
+
+-- and no two lists of ranges are its runs
+abbrev pub RunsAreUnique : Type 0
+RunsAreUnique = (m : List Bool) (rs ss : List (ℕ × ℕ)) → AreRuns m rs → AreRuns m ss → rs ≡ ss
+
+-- runs are ranges that hold exactly the true places
+abbrev pub RunsAreRanges : Type 0
+RunsAreRanges = (m : List Bool) (rs : List (ℕ × ℕ)) → AreRuns m rs → AreRanges m rs

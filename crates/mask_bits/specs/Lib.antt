@@ -1,3 +1,5 @@
 pub mod Buffer
 pub mod Laws
 pub mod Positions
+pub mod Runs
+pub mod Words

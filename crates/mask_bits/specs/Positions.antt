@@ -1,5 +1,5 @@
 -- A mask is a list of truth values. These words say where its true values stand and how many there are.
-use Rattle.std.specs.Prelude.{ℕ, ◌+◌, ◌≡◌, ◌<◌, Bool, true, false, nat_eq, List, [], ◌∷◌, length, take, drop, map, replicate, slice_index_or, slice_get}
+use Rattle.std.specs.Prelude.{ℕ, ◌+◌, ◌≡◌, ◌<◌, ◌≤◌, Bool, true, false, not, nat_eq, List, [], ◌∷◌, length, take, drop, map, replicate, slice_index_or, slice_get}
 use Rattle.std.specs.List.{list_any, range_with_len, filter_map}
 
 -- n values, each v
@@ -16,10 +16,12 @@ places_from n (false ∷ m) = places_from (n + 1) m
 abbrev pub positions : List Bool → List ℕ
 positions m = places_from 0 m
 
--- place holds true, and is the first from n on that does: the places from n on are it and those past it
-pub record IsFirstPlace (m : List Bool) (n place : ℕ) : Type 0 where
-  pub within : place < length m
-  pub first : places_from n (drop n m) ≡ place ∷ places_from (place + 1) (drop (place + 1) m)
+-- the first place from n on that holds this value, or the length where none does
+pub record IsFirstFrom (m : List Bool) (n : ℕ) (value : Bool) (place : ℕ) : Type 0 where
+  pub not_before : n ≤ place
+  pub within : place ≤ length m
+  pub passed : (i : ℕ) → n ≤ i → i < place → slice_index_or m i false ≡ not value
+  pub holds : place < length m → slice_index_or m place false ≡ value
 
 -- how many values are true
 abbrev pub count : List Bool → ℕ

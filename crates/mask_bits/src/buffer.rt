@@ -1,9 +1,13 @@
-ghost use Rattle.std.specs.Prelude.{◌≡◌, ◌+◌, ◌*◌, ◌<◌, ◌≤◌, ◌^◌, ◌↔◌, ◌||◌, ℕ, Bool, false, List, [], length, vec_len, nat_eq, All, IfOk, IsTrue, Some, slice_get};
+ghost use Rattle.std.specs.Prelude.{◌≡◌, ◌+◌, ◌-◌, ◌*◌, ◌<◌, ◌≤◌, ◌^◌, ◌↔◌, ◌||◌, ℕ, Bool, false, true, List, [], length, vec_len, nat_eq, All, IfOk, IsTrue, Some, slice_get, slice_range};
 ghost use Rattle.std.specs.Iterator.{UpTo, Drains};
 ghost use Rattle.mask_bits.specs.Buffer.{Packed, IsWithinBytes, values, backing_bit};
-ghost use Rattle.mask_bits.specs.Positions.{positions, count, true_at};
+ghost use Rattle.mask_bits.specs.Positions.{positions, count, repeated, true_at};
+ghost use Rattle.mask_bits.specs.Runs.{AreRuns};
 
+use crate::bools::BitIterator;
+use crate::chunks::BitChunks;
 use crate::indices::SetIndices;
+use crate::slices::SetSlices;
 use bytes::Bytes;
 use std::alloc::{AllocError, Global};
 use std::marker::Model;
@@ -47,6 +51,21 @@ impl BitBuffer {
         ensures { result ≡ record { bytes = bytes; offset = offset; len = len } }
     {
         BitBuffer { bytes, offset, len }
+    }
+
+    /// `len` true values.
+    pub fn new_set(alloc: Global, len: usize) -> Result<BitBuffer, AllocError>
+        ensures { IfOk result (λ b. values b ≡ repeated len true) }
+    {
+        let bytes = vec![in alloc; 0xFFu8; len.div_ceil(8)]?;
+        Ok(BitBuffer::new(Bytes::from_vec(bytes)?, len))
+    }
+
+    /// `len` false values.
+    pub fn new_unset(alloc: Global, len: usize) -> Result<BitBuffer, AllocError>
+        ensures { IfOk result (λ b. values b ≡ repeated len false) }
+    {
+        Ok(BitBuffer::new(Bytes::from_vec(zeroed(alloc, len)?)?, len))
     }
 
     /// The list of `len` values that is true exactly at `indices`, in any order and with repeats.
@@ -101,6 +120,21 @@ impl BitBuffer {
         })
     }
 
+    /// The values from `start` to `end`, over the same bytes at the offset of value `start`.
+    pub fn slice(&self, start: usize, end: usize) -> Result<BitBuffer, AllocError>
+        requires ordered { start ≤ end }
+        requires within { end ≤ length (values self.now) }
+        ensures backing { IfOk result (λ b. b
+            ≡ record self.now { offset = self.now.offset + start; len = end - start }) }
+        ensures list { IfOk result (λ b. values b ≡ slice_range (values self.now) start end) }
+    {
+        Ok(BitBuffer {
+            bytes: self.bytes.clone()?,
+            offset: self.offset + start,
+            len: end - start,
+        })
+    }
+
     /// How many values there are.
     pub fn len(&self) -> usize
         ensures { result ≡ length (values self.now) }
@@ -120,6 +154,21 @@ impl BitBuffer {
         ensures { result ≡ count (values self.now) }
     {
         self.set_indices().count()
+    }
+
+    /// How many of the values from `start` to `end` are true.
+    pub fn count_range(&self, start: usize, end: usize) -> usize
+        requires ordered { start ≤ end }
+        requires within { end ≤ length (values self.now) }
+        ensures { result ≡ count (slice_range (values self.now) start end) }
+    {
+        let mut count = 0;
+        for i in start..end {
+            if self.value(i) {
+                count += 1;
+            }
+        }
+        count
     }
 
     /// The position of value 0 in the backing bytes, in bits.
@@ -152,6 +201,21 @@ impl BitBuffer {
         self.set_indices().nth(n)
     }
 
+    /// The place of the last true value, if there is one.
+    pub fn last_set_index(&self) -> Option<usize>
+        ensures { result
+            ≡ slice_get (positions (values self.now)) (count (values self.now) - 1) }
+    {
+        self.select(self.true_count().saturating_sub(1))
+    }
+
+    /// The values in their order.
+    pub fn iter(&self) -> BitIterator<'_>
+        ensures { result ≡ values self.now }
+    {
+        BitIterator::new(self)
+    }
+
     /// The places of the true values, ascending.
     pub fn set_indices(&self) -> SetIndices<'_>
         ensures places { result ≡ positions (values self.now) }
@@ -159,6 +223,21 @@ impl BitBuffer {
     {
         let _ = &self.len;
         SetIndices::new(self)
+    }
+
+    /// The maximal ranges of true values, ascending, each by its first place and the place past its
+    /// last.
+    pub fn set_slices(&self) -> SetSlices<'_>
+        ensures { AreRuns (values self.now) result }
+    {
+        SetSlices::new(self)
+    }
+
+    /// The values in words of 64, the first value lowest.
+    pub fn chunks(&self) -> BitChunks<'_>
+        ensures { result ≡ values self.now }
+    {
+        BitChunks::new(self.bytes.as_slice(), self.offset, self.len)
     }
 }
 

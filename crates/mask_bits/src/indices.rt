@@ -1,9 +1,10 @@
-ghost use Rattle.std.specs.Prelude.{◌≡◌, ◌≤◌, [], length, drop, IfSome, IfNone};
+ghost use Rattle.std.specs.Prelude.{◌≡◌};
 ghost use Rattle.std.specs.Iterator.{YieldsFirst, item_count};
 ghost use Rattle.mask_bits.specs.Buffer.{values};
-ghost use Rattle.mask_bits.specs.Positions.{positions, places_from, IsFirstPlace};
+ghost use Rattle.mask_bits.specs.Positions.{positions};
 
 use crate::buffer::BitBuffer;
+use crate::scan::first_from;
 use std::marker::Model;
 
 /// The places of a buffer's true values, ascending.
@@ -42,29 +43,12 @@ impl Iterator for SetIndices<'_> {
 
     fn next(&mut self) -> Option<usize> {
         let len = self.buffer.len();
-        match first_set_from(self.buffer, self.next) {
-            Some(place) => {
-                self.next = place + 1;
-                Some(place)
-            }
-            None => {
-                self.next = len;
-                None
-            }
+        let place = first_from(self.buffer, self.next, true);
+        if place == len {
+            self.next = len;
+            return None;
         }
+        self.next = place + 1;
+        Some(place)
     }
-}
-
-// The first true place that is not below `from`.
-fn first_set_from(buffer: &BitBuffer, from: usize) -> Option<usize>
-    requires { from ≤ length (values buffer.now) }
-    ensures found { IfSome result (λ place. IsFirstPlace (values buffer.now) from place) }
-    ensures none { IfNone result (places_from from (drop from (values buffer.now)) ≡ []) }
-{
-    for place in from..buffer.len() {
-        if buffer.value(place) {
-            return Some(place);
-        }
-    }
-    None
 }

@@ -1,7 +1,7 @@
 //! Laws of lists of truth values. A call of one of these does nothing when it runs: a caller's
 //! proof then knows the law.
 
-ghost use Rattle.mask_bits.specs.Laws.{PositionsDetermineList, RankIntersectionIsTheList, RankIntersectionValue, ChoosingTwice, RankIntersectionAssociative, AllTrueLeftUnit, AllTrueRightUnit, RankIntersectionCount, RankIntersectionPosition};
+ghost use Rattle.mask_bits.specs.Laws.{PositionsDetermineList, RankIntersectionIsTheList, RankIntersectionValue, ChoosingTwice, RankIntersectionAssociative, AllTrueLeftUnit, AllTrueRightUnit, RankIntersectionCount, RankIntersectionPosition, RunsExist, RunsAreUnique, RunsAreRanges};
 
 /// A planner may compare filters of one length by their true places alone.
 pub fn positions_determine_list()
@@ -49,4 +49,19 @@ pub fn rank_intersection_count()
 /// A planner may find the row that two stacked filters choose as number `n` by two look-ups.
 pub fn rank_intersection_position()
     ensures position { RankIntersectionPosition }
+{}
+
+/// A planner may speak of the runs of a filter: there is a list of them.
+pub fn runs_exist()
+    ensures exist { RunsExist }
+{}
+
+/// A planner may compare filters by their runs: no filter has two lists of them.
+pub fn runs_are_unique()
+    ensures unique { RunsAreUnique }
+{}
+
+/// A planner may read runs where any ranges that hold exactly the true places will do.
+pub fn runs_are_ranges()
+    ensures ranges { RunsAreRanges }
 {}

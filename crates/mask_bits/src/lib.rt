@@ -1,11 +1,20 @@
 //! Packed bits: a list of truth values, eight to a byte, at any bit offset.
 #![tactic(auto)]
 
+mod bools;
 mod buffer;
+mod chunks;
+mod eq;
 mod indices;
 pub mod laws;
+mod scan;
+mod slices;
 #[cfg(test)]
 mod tests;
+mod window;
 
+pub use bools::BitIterator;
 pub use buffer::BitBuffer;
+pub use chunks::{BitChunks, Words};
 pub use indices::SetIndices;
+pub use slices::SetSlices;

@@ -1,11 +1,12 @@
 -- How many values are true: of lists of one value, and what no or every true value says of a list.
-use Rattle.std.proofs.Common.{◌≡◌, ℕ, zero, suc, ◌+◌, ◌<◌, ◌≤◌, Bool, true, false, List, [], ◌∷◌, length, get_or, Some, slice_get, refl, sym, ap, ◌∙◌, arith, add-one, add-zero, zero-add}
+use Rattle.std.proofs.Common.{◌++◌, slice_range, ◌≡◌, ℕ, zero, suc, ◌+◌, ◌<◌, ◌≤◌, Bool, true, false, List, [], ◌∷◌, length, get_or, Some, slice_get, refl, sym, ap, ◌∙◌, arith, add-one, add-zero, zero-add}
 use Rattle.std.specs.List.{All, list_all, list_any, range_with_len}
 use Rattle.std.proofs.lemmas.List.{ext_get_or, get_or-replicate, length-replicate}
 use Rattle.std.proofs.lemmas.List.FromFn.{length-range_with_len, get_or-range_with_len}
-use Rattle.std.proofs.lemmas.Option.{slice_get-get_or}
+use Rattle.std.proofs.lemmas.Option.{slice_get-get_or, slice_get_within, get_or_from_slice_get}
+use Rattle.std.proofs.lemmas.List.Edits.{between_more}
 use Rattle.mask_bits.specs.Positions.{places_from, positions, count, repeated}
-use Rattle.mask_bits.proofs.Lists.PlaceLemmas.{length-places_from}
+use Rattle.mask_bits.proofs.Lists.PlaceLemmas.{length-places_from, trues, count-trues}
 
 -- every place of an all-true list, and none of an all-false one
 pub places_from-replicate_true : (n k : ℕ) → places_from n (repeated k true) ≡ range_with_len n k
@@ -96,3 +97,20 @@ unfolding repeated
 nil-repeated v = refl
 
 pub ruleset repeated_facts = (length-repeated, slice_get-repeated)
+
+-- ---- one more value
+
+trues-push : (m : List Bool) (v : Bool) → trues (m ++ v ∷ []) ≡ trues m + trues (v ∷ [])
+trues-push [] v = sym (zero-add (trues (v ∷ [])))
+trues-push (true ∷ m) v = omega (arith, trues-push m v)
+trues-push (false ∷ m) v = trues-push m v
+
+pub count-push : (m : List Bool) (v : Bool) → count (m ++ v ∷ []) ≡ count m + trues (v ∷ [])
+count-push m v =
+    count-trues (m ++ v ∷ []) ∙ trues-push m v ∙ ap (λ n. n + trues (v ∷ [])) (sym (count-trues m))
+
+-- of a part that grows by a value
+pub count-part_more : (m : List Bool) (s i : ℕ) (v : Bool) → s ≤ i → slice_get m i ≡ Some v → count (slice_range m s (i + 1)) ≡ count (slice_range m s i) + trues (v ∷ [])
+count-part_more m s i v ordered e =
+    ap count (between_more m s i v ordered (slice_get_within m i v e) ∙ ap (λ (x : Bool). slice_range m s i ++ x ∷ []) (get_or_from_slice_get m i v v e))
+    ∙ count-push (slice_range m s i) v

@@ -21,11 +21,6 @@ drop_at (y ∷ ys) (suc i) x e = drop_at ys i x e
 pub drop-slice_get : {X : Type 0} → (xs : List X) (i : ℕ) (x : X) → slice_get xs i ≡ Some x → drop i xs ≡ x ∷ drop (i + 1) xs
 drop-slice_get xs i x e = rw add-one (drop_at xs i x e)
 
--- the places from i on, by the value at i
-pub places_from-drop : (m : List Bool) (i : ℕ) (v : Bool) → slice_get m i ≡ Some v → places_from i (drop i m) ≡ cond v (i ∷ places_from (i + 1) (drop (i + 1) m)) (places_from (i + 1) (drop (i + 1) m))
-places_from-drop m i true e = ap (places_from i) (drop-slice_get m i true e)
-places_from-drop m i false e = ap (places_from i) (drop-slice_get m i false e)
-
 -- a list cut at n reads false from n on
 get_or-take_past : (m : List Bool) (n p : ℕ) → n ≤ p → get_or (take n m) p false ≡ false
 get_or-take_past m n p h = get_or_past (take n m) p false (omega (arith, length-take n m))

@@ -1,0 +1,116 @@
+-- Bytes as one number, the first byte lowest, and its bits.
+use Rattle.std.proofs.Common.{◌≡◌, ℕ, zero, suc, ◌+◌, ◌*◌, ◌-◌, ◌/◌, ◌%◌, ◌^◌, ◌<◌, ◌≤◌, Bool, nat_eq, List, [], ◌∷◌, ◌++◌, length, get_or, take, drop, replicate, refl, sym, ap, subst, ◌∙◌, inl, inr, arith, lit<}
+use Rattle.std.proofs.Math.Nat.{pow-suc, mul_assoc, mul_comm}
+use Rattle.std.specs.Int.{bit_at, w128, from_le_bytes, sum_through, byte_worth}
+use Rattle.std.specs.Int.RustNames.{bit_and}
+use Rattle.std.proofs.lemmas.Bool.{cases_lt}
+use Rattle.std.proofs.lemmas.List.{get_or-drop, get_or-take, get_or_past, length-append, length-drop, length-take, take_all, take_rest, drop-replicate}
+use Rattle.std.proofs.lemmas.Nat.{shr-shr}
+use Rattle.std.proofs.lemmas.Nat.Bits.{bit_at-zero, bit_at_cat_low, bit_at_cat_high, bit_at_and, bit_at_ones, bit_at_ones_above, bit_at-lt}
+use Rattle.mask_bits.specs.Words.{number}
+
+-- each entry is a byte
+abbrev pub AreBytes : List ℕ → Type 0
+AreBytes bytes = (k : ℕ) → get_or bytes k 0 < 256
+
+-- ---- the bits of a number
+
+number-cons : (b : ℕ) (bs : List ℕ) → number (b ∷ bs) ≡ number bs * 2 ^ 8 + b
+number-cons b bs = omega arith
+
+-- bit r of byte k
+bit_at-number_split : (bytes : List ℕ) (k r : ℕ) → AreBytes bytes → r < 8 → bit_at (number bytes) (8 * k + r) ≡ bit_at (get_or bytes k 0) r
+bit_at-number_split [] k r are low = bit_at-zero (8 * k + r) ∙ sym (bit_at-zero r)
+bit_at-number_split (b ∷ bs) zero r are low =
+    let place : 8 * 0 + r ≡ r = omega arith in
+    ap (bit_at (number (b ∷ bs))) place ∙ ap (λ n. bit_at n r) (number-cons b bs) ∙ bit_at_cat_low (number bs) 8 b r low
+bit_at-number_split (b ∷ bs) (suc k) r are low =
+    let above : 8 ≤ 8 * suc k + r = omega arith in
+    let rest : 8 * suc k + r - 8 ≡ 8 * k + r = omega arith in
+    ap (λ n. bit_at n (8 * suc k + r)) (number-cons b bs) ∙ bit_at_cat_high (number bs) 8 b (8 * suc k + r) (are 0) above
+    ∙ ap (bit_at (number bs)) rest ∙ bit_at-number_split bs k r (λ j. are (suc j)) low
+
+-- bit q is bit q % 8 of byte q / 8
+pub bit_at-number : (bytes : List ℕ) (q : ℕ) → AreBytes bytes → bit_at (number bytes) q ≡ bit_at (get_or bytes (q / 8) 0) (q % 8)
+bit_at-number bytes q are =
+    let split : q ≡ 8 * (q / 8) + q % 8 = omega arith in
+    ap (bit_at (number bytes)) split ∙ bit_at-number_split bytes (q / 8) (q % 8) are (omega arith)
+
+-- a bit of a number that was shifted down
+bit_at-shr : (n r j : ℕ) → bit_at (n / 2 ^ r) j ≡ bit_at n (r + j)
+bit_at-shr n r j = ap (λ x. x % 2) (shr-shr n r j)
+
+-- the low bits of a number, by a mask
+pub bit_at-low_mask : (n k j : ℕ) → j < k → bit_at (bit_and n (2 ^ k - 1)) j ≡ bit_at n j
+bit_at-low_mask n k j h = omega (arith, bit_at_and n (2 ^ k - 1) j, bit_at_ones k j h, bit_at-lt n j)
+
+pub bit_at-past_mask : (n k j : ℕ) → k ≤ j → bit_at (bit_and n (2 ^ k - 1)) j ≡ 0
+bit_at-past_mask n k j h = omega (arith, bit_at_and n (2 ^ k - 1) j, bit_at_ones_above k j h)
+
+-- the bits that a window of sixteen bytes shows
+pub bit_at-window : (bytes : List ℕ) (p j : ℕ) → AreBytes bytes → j < 64 → bit_at (bit_and (number (take 16 (drop (p / 8) bytes)) / 2 ^ (p % 8)) 18446744073709551615) j ≡ bit_at (get_or bytes ((p + j) / 8) 0) ((p + j) % 8)
+bit_at-window bytes p j are below =
+    let part : List ℕ = take 16 (drop (p / 8) bytes) in
+    let q : ℕ = p % 8 + j in
+    let read : (k : ℕ) → k < 16 → get_or part k 0 ≡ get_or bytes (p / 8 + k) 0
+    = λ k h. get_or-take 16 (drop (p / 8) bytes) k 0 h ∙ get_or-drop (p / 8) bytes k 0 in
+    let are_part : AreBytes part = λ k. elim (cases_lt k 16) [
+      | inl h ↦ subst (λ (x : ℕ). x < 256) (sym (read k h)) (are (p / 8 + k))
+      | inr h ↦ subst (λ (x : ℕ). x < 256) (sym (get_or_past part k 0 (omega (arith, length-take 16 (drop (p / 8) bytes))))) (lit< tt)
+    ] in
+    let byte : p / 8 + q / 8 ≡ (p + j) / 8 = omega arith in
+    let bit : q % 8 ≡ (p + j) % 8 = omega arith in
+    bit_at-low_mask (number part / 2 ^ (p % 8)) 64 j below
+    ∙ bit_at-shr (number part) (p % 8) j
+    ∙ bit_at-number part q are_part
+    ∙ ap (λ b. bit_at b (q % 8)) (read (q / 8) (omega arith) ∙ ap (λ k. get_or bytes k 0) byte)
+    ∙ ap (bit_at (get_or bytes ((p + j) / 8) 0)) bit
+
+-- ---- sixteen bytes read as a number
+
+number-more : (n : ℕ) (bytes : List ℕ) → number (take (suc n) bytes) ≡ number (take n bytes) + get_or bytes n 0 * 256 ^ n
+number-more zero [] = omega arith
+number-more (suc n) [] = omega arith
+number-more zero (b ∷ bs) = omega arith
+number-more (suc n) (b ∷ bs) =
+    let rest = number-more n bs in
+    let raised : get_or bs n 0 * 256 ^ suc n ≡ get_or bs n 0 * 256 ^ n * 256
+    = ap (λ e. get_or bs n 0 * e) (pow-suc 256 n) ∙ sym (mul_assoc (get_or bs n 0) (256 ^ n) 256) in
+    omega (arith, rest, raised)
+
+number-sum : (k : ℕ) (bytes : List ℕ) → sum_through (λ i. byte_worth i (get_or bytes i 0)) k ≡ number (take (suc k) bytes)
+number-sum zero bytes = omega (arith, number-more 0 bytes)
+number-sum (suc k) bytes =
+    ap (λ n. n + get_or bytes (suc k) 0 * 256 ^ suc k) (number-sum k bytes) ∙ sym (number-more (suc k) bytes)
+
+number_of_sixteen : (bytes : List ℕ) → from_le_bytes w128 bytes ≡ number (take 16 bytes)
+number_of_sixteen bytes = number-sum 15 bytes
+
+number_of_zeros : (n : ℕ) → number (replicate n 0) ≡ 0
+number_of_zeros zero = refl
+number_of_zeros (suc n) = omega (arith, number_of_zeros n)
+
+number-append_zeros : (xs ys : List ℕ) → number ys ≡ 0 → number (xs ++ ys) ≡ number xs
+number-append_zeros [] ys none = none
+number-append_zeros (b ∷ bs) ys none = ap (λ n. b + 256 * n) (number-append_zeros bs ys none)
+
+-- sixteen bytes that are there
+pub number-chunk : (bytes chunk : List ℕ) (k : ℕ) → chunk ≡ take 16 (take (k + 16 - k) (drop k bytes)) → from_le_bytes w128 chunk ≡ number (take 16 (drop k bytes))
+number-chunk bytes chunk k is =
+    let sixteen : k + 16 - k ≡ 16 = omega arith in
+    let same : chunk ≡ take 16 (drop k bytes)
+    = is ∙ ap (λ n. take 16 (take n (drop k bytes))) sixteen
+    ∙ take_all 16 (take 16 (drop k bytes)) (omega (arith, length-take 16 (drop k bytes))) in
+    number_of_sixteen chunk ∙ ap number (take_all 16 chunk (omega (arith, ap length same, length-take 16 (drop k bytes)))) ∙ ap number same
+
+-- fewer than sixteen, and zeros after them
+pub number-padded_chunk : (bytes rest : List ℕ) (k : ℕ) → rest ≡ take (length bytes - k) (drop k bytes) → length bytes < k + 16 → from_le_bytes w128 (rest ++ drop (length (take (length bytes - k) (drop k bytes))) (replicate 16 0)) ≡ number (take 16 (drop k bytes))
+number-padded_chunk bytes rest k is short =
+    let part : List ℕ = take (length bytes - k) (drop k bytes) in
+    let zeros : List ℕ = drop (length part) (replicate 16 0) in
+    let whole : part ≡ drop k bytes = take_rest bytes k in
+    let few : length (drop k bytes) ≤ 16 = omega (arith, length-drop k bytes) in
+    let none : number zeros ≡ 0 = ap number (drop-replicate (length part) 16 0) ∙ number_of_zeros (16 - length part) in
+    let len : length (rest ++ zeros) ≤ 16 = omega (arith, length-append rest zeros, ap length is, ap length whole, length-drop {A = ℕ} (length part) (replicate 16 0)) in
+    number_of_sixteen (rest ++ zeros) ∙ ap number (take_all 16 (rest ++ zeros) len)
+    ∙ number-append_zeros rest zeros none ∙ ap number (is ∙ whole ∙ sym (take_all 16 (drop k bytes) few))

@@ -1,0 +1,5 @@
+use Rattle.mask_bits.proofs.Lists.RunLemmas.{runs_are_unique}
+use Rattle.mask_bits.proofs.laws.runs_are_unique.Goals as goal
+
+pub returns : goal.returns
+returns c = record { unique = runs_are_unique }

@@ -1,0 +1,31 @@
+-- Words of 64 bits as lists of truth values.
+use Rattle.std.specs.Prelude.{ℕ, ◌+◌, ◌*◌, ◌-◌, ◌/◌, ◌%◌, Bool, false, nat_eq, List, [], ◌∷◌, ◌++◌, length, drop, map, slice_range}
+use Rattle.std.specs.Int.{bit_at}
+use Rattle.std.specs.List.{range_with_len}
+use Rattle.mask_bits.specs.Buffer.{backing_bit}
+use Rattle.mask_bits.specs.Positions.{repeated}
+
+-- the 64 truth values of a word: value i is true exactly if the word divided by 2 ^ i, rounded down, is odd
+unfoldable pub word_bits : ℕ → List Bool
+word_bits w = map (λ i. nat_eq (bit_at w i) 1) (range_with_len 0 64)
+
+-- the number whose digits to the base 256 are the bytes, the first lowest
+abbrev pub number : List ℕ → ℕ
+number [] = 0
+number (b ∷ bs) = b + 256 * number bs
+
+-- the 64 backing bits from position p on
+unfoldable pub window : List ℕ → ℕ → List Bool
+window bytes p = map (λ j. backing_bit bytes (p + j)) (range_with_len 0 64)
+
+-- part i of a list cut into whole words: its values from 64 * i on
+abbrev pub word_part : List Bool → ℕ → List Bool
+word_part m i = slice_range m (64 * i) (64 * i + 64)
+
+-- the parts of a list cut into whole words
+unfoldable pub word_parts : List Bool → List (List Bool)
+word_parts m = map (word_part m) (range_with_len 0 (length m / 64))
+
+-- the values past the whole words, and false values up to a whole word
+abbrev pub padded_remainder : List Bool → List Bool
+padded_remainder m = drop (64 * (length m / 64)) m ++ repeated (64 - length m % 64) false

@@ -1,0 +1,61 @@
+ghost use Rattle.std.specs.Prelude.{◌≡◌, length};
+ghost use Rattle.std.specs.Iterator.{YieldsFirst, item_count, UpTo};
+ghost use Rattle.std.specs.Iterator.SizeHint.{IsExactHint};
+ghost use Rattle.mask_bits.specs.Buffer.{values};
+
+use crate::buffer::BitBuffer;
+use std::marker::Model;
+
+/// The values of a buffer, in their order.
+#[derive(Drop)]
+pub struct BitIterator<'a> {
+    buffer: &'a BitBuffer,
+    next: usize,
+}
+
+impl<'a> Model for BitIterator<'a> {
+    ghost use Rattle.std.specs.Prelude.{Bool, List, ◌≤◌, drop, length};
+    ghost use Rattle.mask_bits.specs.Buffer.{values};
+
+    ghost Value = { List Bool };
+
+    ghost view = { λ s. drop s.next (values s.buffer.now) };
+
+    ghost invariant = { λ s. s.next ≤ length (values s.buffer.now) };
+}
+
+impl<'a> BitIterator<'a> {
+    pub(crate) fn new(buffer: &'a BitBuffer) -> BitIterator<'a>
+        ensures { result ≡ values buffer.now }
+    {
+        BitIterator { buffer, next: 0 }
+    }
+}
+
+impl Iterator for BitIterator<'_> {
+    type Item = bool;
+
+    ghost next_gives = { YieldsFirst (λ s. s) };
+
+    ghost remaining = { item_count (λ s. s) };
+
+    fn next(&mut self) -> Option<bool> {
+        if self.next == self.buffer.len() {
+            return None;
+        }
+        let value = self.buffer.value(self.next);
+        self.next += 1;
+        Some(value)
+    }
+
+    fn size_hint(&self) -> (usize, Option<usize>) {
+        let left = self.len();
+        (left, Some(left))
+    }
+}
+
+impl ExactSizeIterator for BitIterator<'_> {
+    fn len(&self) -> usize {
+        self.buffer.len() - self.next
+    }
+}
