@@ -57,8 +57,8 @@ impl BitBuffer {
     pub fn new_set(alloc: Global, len: usize) -> Result<BitBuffer, AllocError>
         ensures { IfOk result (λ b. values b ≡ repeated len true) }
     {
-        let bytes = vec![in alloc; 0xFFu8; len.div_ceil(8)]?;
-        Ok(BitBuffer::new(Bytes::from_vec(bytes)?, len))
+        let ones = vec![in alloc; 0xFFu8; len.div_ceil(8)]?;
+        Ok(BitBuffer::new(Bytes::from_vec(ones)?, len))
     }
 
     /// `len` false values.

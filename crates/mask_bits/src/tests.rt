@@ -1,6 +1,9 @@
+mod sweep;
+
 use crate::BitBuffer;
 use bytes::Bytes;
 use std::alloc::{AllocError, Global};
+use std::process::Abort;
 use std::test::Fail;
 
 // 13 values, lowest bit first: 1011001110001.
@@ -94,5 +97,77 @@ fn buffers_are_made(rt: HostRuntime) -> Result<(), Fail> {
     let none = BitBuffer::from_indices(alloc, 0, &[])?;
     assert!(rt; none.is_empty());
     assert_eq!(rt; none.select(0), None);
+    Ok(())
+}
+
+// Bits 2 to 6 of two bytes: 10110.
+fn five_bits(rt: &impl Abort, alloc: Global) -> Result<BitBuffer, AllocError> {
+    let bytes = Bytes::copy_from_slice(alloc, &[0xB4, 0xFF])?;
+    assert_eq!(rt; bytes.len(), 2);
+    let sixteen = BitBuffer::new(bytes, 16);
+    assert_eq!(rt; sixteen.len(), 16);
+    sixteen.slice(2, 7)
+}
+
+#[test]
+fn a_slice_of_two_bytes(rt: HostRuntime) -> Result<(), Fail> {
+    let alloc = rt.alloc();
+    let s = five_bits(&rt, alloc)?;
+    assert_eq!(rt; s.len(), 5);
+    assert_eq!(rt;
+        (s.offset(), s.inner().as_slice()),
+        (2, [0xB4, 0xFF].as_slice())
+    );
+    let part = s.slice(1, 5)?;
+    assert_eq!(rt; part.offset(), 3);
+    assert_eq!(rt;
+        listed(alloc, &part)?.as_slice(),
+        [false, true, true, false].as_slice()
+    );
+    let none = s.slice(5, 5)?;
+    assert!(rt; none.is_empty());
+    assert_eq!(rt; none.offset(), 7);
+    let bools = [true, false, true, true, false];
+    assert!(rt; s == BitBuffer::from_bools(alloc, bools.iter().copied())?);
+    assert!(rt; s != part);
+    let runs: Vec<(usize, usize)> = s.set_slices().collect(alloc)?;
+    assert_eq!(rt; runs.as_slice(), [(0, 1), (2, 4)].as_slice());
+    assert_eq!(rt; (s.select(2), s.select(3)), (Some(3), None));
+    assert_eq!(rt; s.last_set_index(), Some(3));
+    assert_eq!(rt; s.count_range(1, 3), 1);
+    let chunks = s.chunks();
+    assert_eq!(rt; (chunks.len(), chunks.remainder_len()), (0, 5));
+    assert_eq!(rt; chunks.remainder_bits(), 0b01101);
+    Ok(())
+}
+
+#[test]
+fn buffers_of_one_value(rt: HostRuntime) -> Result<(), Fail> {
+    let alloc = rt.alloc();
+    let set = BitBuffer::new_set(alloc, 130)?;
+    let chunks = set.chunks();
+    assert_eq!(rt; (set.true_count(), chunks.len()), (130, 2));
+    assert_eq!(rt; (chunks.word(0), chunks.word(1)), (u64::MAX, u64::MAX));
+    assert_eq!(rt; (chunks.remainder_len(), chunks.remainder_bits()), (2, 3));
+    let set = BitBuffer::new_set(alloc, 64)?;
+    let chunks = set.chunks();
+    assert_eq!(rt;
+        (
+            chunks.len(),
+            chunks.remainder_len(),
+            chunks.remainder_bits()
+        ),
+        (1, 0, 0)
+    );
+    let unset = BitBuffer::new_unset(alloc, 13)?;
+    assert_eq!(rt;
+        (unset.len(), unset.true_count(), unset.last_set_index()),
+        (13, 0, None)
+    );
+
+    let bytes = Bytes::copy_from_slice(alloc, &[0x80])?;
+    assert_eq!(rt; bytes.len(), 1);
+    let last = BitBuffer::new_with_offset(bytes, 7, 1);
+    assert_eq!(rt; listed(alloc, &last)?.as_slice(), [true].as_slice());
     Ok(())
 }
