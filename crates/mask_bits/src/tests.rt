@@ -1,4 +1,5 @@
 mod sweep;
+mod uses;
 
 use crate::BitBuffer;
 use bytes::Bytes;
