@@ -1,5 +1,5 @@
 -- A mask is a list of truth values. These words say where its true values stand and how many there are.
-use Rattle.std.specs.Prelude.{ℕ, ◌+◌, ◌≡◌, ◌<◌, ◌≤◌, Bool, true, false, not, nat_eq, List, [], ◌∷◌, length, take, drop, map, replicate, slice_index_or, slice_get}
+use Rattle.std.specs.Prelude.{ℕ, ◌+◌, ◌≡◌, ◌<◌, ◌≤◌, Bool, true, false, not, nat_eq, List, [], ◌∷◌, length, take, map, replicate, slice_index_or, slice_get}
 use Rattle.std.specs.List.{list_any, range_with_len, filter_map}
 
 -- n values, each v

@@ -1,6 +1,5 @@
 ghost use Rattle.std.specs.Prelude.{◌≡◌, length};
-ghost use Rattle.std.specs.Iterator.{YieldsFirst, item_count, UpTo};
-ghost use Rattle.std.specs.Iterator.SizeHint.{IsExactHint};
+ghost use Rattle.std.specs.Iterator.{YieldsFirst, item_count};
 ghost use Rattle.mask_bits.specs.Buffer.{values};
 
 use crate::buffer::BitBuffer;

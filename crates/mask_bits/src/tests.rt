@@ -143,6 +143,16 @@ fn a_slice_of_two_bytes(rt: HostRuntime) -> Result<(), Fail> {
 }
 
 #[test]
+fn the_iterator_says_what_is_left(rt: HostRuntime) -> Result<(), Fail> {
+    let s = five_bits(&rt, rt.alloc())?;
+    let mut bits = s.iter();
+    assert_eq!(rt; (bits.len(), bits.size_hint()), (5, (5, Some(5))));
+    assert_eq!(rt; bits.next(), Some(true));
+    assert_eq!(rt; (bits.len(), bits.size_hint()), (4, (4, Some(4))));
+    Ok(())
+}
+
+#[test]
 fn buffers_of_one_value(rt: HostRuntime) -> Result<(), Fail> {
     let alloc = rt.alloc();
     let set = BitBuffer::new_set(alloc, 130)?;

@@ -1,8 +1,8 @@
 -- Worked rows of the definitions, which the checker computes.
 use Rattle.std.proofs.Common.{◌≡◌, ℕ, Bool, true, false, List, [], ◌∷◌, Ok, Err, codes, refl}
-use Rattle.maskrun.specs.Answer.{text, line, mask_word}
+use Rattle.maskrun.specs.Answer.{line, mask_word}
 use Rattle.mask_bits.specs.Buffer.{values}
-use Rattle.mask_bits.specs.Positions.{positions, count, count_below, repeated, true_at, rank_intersection, chosen}
+use Rattle.mask_bits.specs.Positions.{positions, count_below, repeated, true_at, rank_intersection, chosen}
 use Rattle.maskrun.specs.declared.answer.error.RunError.TheVariants.{Usage, BadBit, LengthsDiffer}
 
 -- 10011101 and 00101

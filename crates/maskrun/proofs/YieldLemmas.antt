@@ -1,5 +1,5 @@
 -- What an iterator that is run to its end gave.
-use Rattle.std.proofs.Common.{◌≡◌, List, Option, map, sym, ◌∙◌}
+use Rattle.std.proofs.Common.{◌≡◌, List, Option, sym, ◌∙◌}
 use Rattle.std.specs.Iterator.{Drains}
 use Rattle.std.proofs.lemmas.Iterator.{YieldsList, items_from_drains}
 use Rattle.std.proofs.lemmas.List.{map-id}

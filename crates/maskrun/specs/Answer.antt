@@ -1,5 +1,5 @@
 -- The line that a command prints, as a function of its words.
-use Rattle.std.specs.Prelude.{ℕ, ◌≡◌, Bool, true, false, not, ◌==◌, ◌||◌, List, [], ◌∷◌, length, map, Option, Some, None, Result, Ok, Err, position, codes, alloc_error, if◌then◌else◌}
+use Rattle.std.specs.Prelude.{ℕ, Bool, true, false, not, ◌==◌, ◌||◌, List, [], ◌∷◌, length, map, Option, Some, None, Result, Ok, Err, position, codes, alloc_error, if◌then◌else◌}
 use Rattle.std.specs.Str.{bytes_eq}
 use Rattle.mask_bits.specs.Positions.{count, rank_intersection}
 use Rattle.maskrun.specs.declared.answer.error.RunError.{RunError}

@@ -1,6 +1,6 @@
 //! What the program prints for the words of its command line.
 
-ghost use Rattle.std.specs.Prelude.{◌≡◌, ◌⊎◌, Ok, Err, Result, List, ℕ, map, IfOk, IfErr, string_bytes};
+ghost use Rattle.std.specs.Prelude.{◌≡◌, ◌⊎◌, Ok, Err, Result, map, IfOk, IfErr, string_bytes};
 ghost use Rattle.maskrun.specs.Answer.{line, rank_line, out_of_memory};
 
 mod error;

@@ -1,9 +1,8 @@
 -- The variant that a list may have, by its count.
 use Rattle.std.proofs.Common.{◌≡◌, ℕ, zero, suc, ◌<◌, Bool, true, false, List, [], ◌∷◌, length, refl, sym, ap, ◌∙◌, arith}
-use Rattle.std.specs.List.{list_all, list_any}
 use Rattle.std.proofs.lemmas.List.{length-replicate}
 use Rattle.vortex_mask.specs.Mask.{truth, variant_and, Variant, all_true, all_false, mixed, fitting_variant}
-use Rattle.mask_bits.specs.Positions.{positions, count, rank_intersection, repeated}
+use Rattle.mask_bits.specs.Positions.{count, rank_intersection, repeated}
 use Rattle.vortex_mask.specs.declared.mask.Mask.{Mask}
 use Rattle.vortex_mask.specs.declared.mask.Mask.TheVariants.{AllTrue, AllFalse}
 use Rattle.mask_bits.proofs.Lists.RankLemmas.{rank_intersection-all_true, rank_intersection-by_all_true, rank_intersection-all_false, rank_intersection-by_all_false}

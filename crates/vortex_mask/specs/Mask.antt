@@ -1,5 +1,5 @@
 -- What a contract sees of a `Mask`: its list, the variant that holds it, and what is inside `Values`.
-use Rattle.std.specs.Prelude.{ℕ, ◌≡◌, Bool, true, false, List, [], ◌∷◌, length, Option, Some, None, if◌then◌else◌, ◌⊎◌}
+use Rattle.std.specs.Prelude.{◌≡◌, Bool, true, false, List, [], ◌∷◌, length, Option, Some, None, if◌then◌else◌, ◌⊎◌}
 use Rattle.std.specs.List.{list_all, list_any}
 use Rattle.mask_bits.specs.Buffer.{Packed, values}
 use Rattle.vortex_mask.specs.MaskValues.{Contents}

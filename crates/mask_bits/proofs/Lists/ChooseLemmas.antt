@@ -1,5 +1,5 @@
 -- Rows at the true places: all of them, none of them, and one more.
-use Rattle.std.proofs.Common.{◌≡◌, ℕ, zero, suc, Bool, true, false, List, [], ◌∷◌, ◌++◌, length, Some, slice_get, refl, sym, ap, ◌∙◌, arith, append_assoc}
+use Rattle.std.proofs.Common.{◌≡◌, ℕ, zero, suc, true, false, List, [], ◌∷◌, ◌++◌, length, Some, slice_get, refl, sym, ap, ◌∙◌, append_assoc}
 use Rattle.std.specs.List.{cons_option, filter_map, items_where_true}
 use Rattle.mask_bits.specs.Positions.{repeated, chosen}
 use Rattle.mask_bits.proofs.Lists.LawLemmas.{chosen-items_where_true}

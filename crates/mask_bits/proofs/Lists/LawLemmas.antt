@@ -1,10 +1,10 @@
 -- The laws of rank intersection and of choosing, by recursion on the first list.
-use Rattle.std.proofs.Common.{◌≡◌, ℕ, zero, suc, ◌+◌, ◌<◌, ◌&&◌, Bool, true, false, List, [], ◌∷◌, length, get_or, take, map, slice_get, refl, sym, ap, subst, ◌∙◌, arith}
-use Rattle.std.specs.List.{All, cons_option, filter_map, items_where_true}
+use Rattle.std.proofs.Common.{◌≡◌, ℕ, zero, suc, ◌&&◌, Bool, true, false, List, [], ◌∷◌, length, get_or, take, map, slice_get, refl, sym, ap, ◌∙◌, arith}
+use Rattle.std.specs.List.{cons_option, filter_map, items_where_true}
 use Rattle.std.proofs.lemmas.List.{get_or-map}
-use Rattle.mask_bits.specs.Laws.{PositionsDetermineList, IsRankIntersection, RankIntersectionIsTheList, RankIntersectionValue, ChoosingTwice, RankIntersectionAssociative, AllTrueLeftUnit, AllTrueRightUnit, RankIntersectionCount, RankIntersectionPosition}
-use Rattle.mask_bits.specs.Positions.{positions, count, count_below, repeated, true_at, at_places, rank_intersection, chosen}
-use Rattle.mask_bits.proofs.Lists.PlaceLemmas.{positions-true, positions-false, trues, count-trues, positions-within}
+use Rattle.mask_bits.specs.Laws.{PositionsDetermineList, RankIntersectionIsTheList, RankIntersectionValue, ChoosingTwice, RankIntersectionAssociative, AllTrueLeftUnit, AllTrueRightUnit, RankIntersectionCount, RankIntersectionPosition}
+use Rattle.mask_bits.specs.Positions.{positions, count, true_at, at_places, rank_intersection, chosen}
+use Rattle.mask_bits.proofs.Lists.PlaceLemmas.{positions-true, positions-false, trues, count-trues}
 use Rattle.mask_bits.proofs.Lists.RankLemmas.{narrow, rank_intersection-narrow, positions-fit, at_places-map_suc, at_places-cons_suc, true_at-suc, true_at-zero_suc, length-true_at, rank_intersection-all_true, rank_intersection-by_all_true}
 
 -- ---- a list by its true places

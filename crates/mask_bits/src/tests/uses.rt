@@ -1,5 +1,5 @@
 // Callers as one writes them, with nothing but public contracts.
-ghost use Rattle.std.specs.Prelude.{◌≡◌, ◌+◌, ◌≤◌, IfOk, length, slice_range};
+ghost use Rattle.std.specs.Prelude.{◌≡◌, ◌≤◌, IfOk, length, slice_range};
 ghost use Rattle.mask_bits.specs.Buffer.{values};
 ghost use Rattle.mask_bits.specs.Positions.{positions, count};
 
@@ -26,7 +26,10 @@ fn valid_in_page(validity: &BitBuffer, start: usize, end: usize) -> usize
 #[test]
 fn callers(rt: HostRuntime) -> Result<(), Fail> {
     let validity = BitBuffer::from_indices(rt.alloc(), 6, &[1, 2, 5])?;
-    assert_eq!(rt; valid_rows(rt.alloc(), &validity)?.as_slice(), [1, 2, 5].as_slice());
+    assert_eq!(rt;
+        valid_rows(rt.alloc(), &validity)?.as_slice(),
+        [1, 2, 5].as_slice()
+    );
     assert_eq!(rt; validity.len(), 6);
     assert_eq!(rt; valid_in_page(&validity, 2, 6), 2);
     Ok(())

@@ -1,4 +1,4 @@
-use Rattle.std.proofs.Common.{◌≤◌, slice_range, length, Some, true, false, ap, sym, ◌∙◌, arith}
+use Rattle.std.proofs.Common.{slice_range, Some, true, false, ap, ◌∙◌, arith}
 use Rattle.std.proofs.lemmas.List.Edits.{length-between}
 use Rattle.mask_bits.specs.Buffer.{values}
 use Rattle.mask_bits.proofs.Lists.CountLemmas.{count-part_more}

@@ -1,7 +1,7 @@
-use Rattle.std.proofs.Common.{ℕ, ◌-◌, ◌^◌, ◌%◌, ◌<◌, sym, ap, ◌∙◌, refl, arith}
+use Rattle.std.proofs.Common.{ℕ, ◌-◌, ◌%◌, ◌<◌, ap, ◌∙◌, refl, arith}
 use Rattle.std.specs.Int.RustNames.{bit_and}
 use Rattle.std.proofs.lemmas.Grind.{one_shifted}
-use Rattle.mask_bits.specs.Buffer.{Packed, values}
+use Rattle.mask_bits.specs.Buffer.{Packed}
 use Rattle.mask_bits.specs.Words.{word_bits, padded_remainder}
 use Rattle.mask_bits.proofs.WindowLemmas.{word_bits-remainder}
 use Rattle.mask_bits.proofs.chunks.BitChunks.remainder_bits.Goals as goal

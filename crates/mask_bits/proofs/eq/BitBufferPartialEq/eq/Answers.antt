@@ -1,4 +1,4 @@
-use Rattle.std.proofs.Common.{Bool, true, false, not, List, length, take, get_or, slice_get, Some, refl, ap, sym, ◌∙◌, ◌≡◌, arith}
+use Rattle.std.proofs.Common.{Bool, true, false, not, List, get_or, refl, ap, sym, ◌∙◌, ◌≡◌, arith}
 use Rattle.std.proofs.lemmas.Bool.{false≢true}
 use Rattle.std.proofs.lemmas.List.{take_all, take_more_same}
 use Rattle.std.proofs.lemmas.Option.{get_or_from_slice_get, slice_get_within}

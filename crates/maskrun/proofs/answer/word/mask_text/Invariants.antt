@@ -1,4 +1,4 @@
-use Rattle.std.proofs.Common.{◌≡◌, ◌≤◌, take, map, length, string_bytes}
+use Rattle.std.proofs.Common.{◌≡◌, take, map, string_bytes}
 use Rattle.maskrun.specs.Answer.{digit}
 use Rattle.vortex_mask.specs.Mask.{truth}
 use Rattle.maskrun.proofs.answer.word.mask_text.Given as goal

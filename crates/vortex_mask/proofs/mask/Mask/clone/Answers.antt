@@ -1,7 +1,7 @@
 use Rattle.std.proofs.Common.{◌<◌, length, sym, ap, arith}
 use Rattle.mask_bits.specs.Buffer.{values}
 use Rattle.vortex_mask.specs.Mask.{mixed}
-use Rattle.mask_bits.specs.Positions.{count, repeated}
+use Rattle.mask_bits.specs.Positions.{count}
 use Rattle.vortex_mask.proofs.MaskLemmas.{fitting_variant-repeated_true, fitting_variant-repeated_false, fitting_variant-some}
 use Rattle.vortex_mask.proofs.mask.Mask.clone.Goals as goal
 

@@ -1,7 +1,7 @@
-use Rattle.std.proofs.Common.{◌<◌, ◌≢◌, false, true, length, ap, sym, ◌∙◌, arith}
+use Rattle.std.proofs.Common.{◌≢◌, false, true, ap, sym, ◌∙◌, arith}
 use Rattle.mask_bits.specs.Buffer.{values}
 use Rattle.vortex_mask.specs.Mask.{all_false}
-use Rattle.mask_bits.specs.Positions.{count, repeated}
+use Rattle.mask_bits.specs.Positions.{repeated}
 use Rattle.mask_bits.proofs.Lists.CountLemmas.{all_true_from_count, all_false_from_count}
 use Rattle.vortex_mask.proofs.MaskLemmas.{fitting_variant-all, fitting_variant-all_false, fitting_variant-some}
 use Rattle.mask_bits.proofs.Lists.PlaceLemmas.{length-places_from}

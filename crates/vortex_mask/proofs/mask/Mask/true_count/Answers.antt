@@ -1,5 +1,4 @@
 use Rattle.std.proofs.Common.{sym}
-use Rattle.mask_bits.specs.Positions.{repeated}
 use Rattle.mask_bits.proofs.Lists.CountLemmas.{count-replicate_true, count-replicate_false}
 use Rattle.vortex_mask.proofs.mask.Mask.true_count.Goals as goal
 
