@@ -17,6 +17,10 @@ pub length-values : (b : Packed) → length (values b) ≡ b.len
 unfolding values
 length-values b = length-map-range_with_len (λ i. backing_bit b.bytes (b.offset + i)) 0 b.len
 
+-- and so is what its list is known as
+pub len-of_list : (b : Packed) {m : List Bool} → values b ≡ m → length m ≡ b.len
+len-of_list b same = ap length (sym same) ∙ length-values b
+
 -- value i is the backing bit at offset + i
 pub get_or-values : (b : Packed) (i : ℕ) (d : Bool) → i < b.len → get_or (values b) i d ≡ backing_bit b.bytes (b.offset + i)
 unfolding values

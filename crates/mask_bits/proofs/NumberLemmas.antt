@@ -4,7 +4,7 @@ use Rattle.std.proofs.Math.Nat.{pow-suc, mul_assoc}
 use Rattle.std.specs.Int.{bit_at, w128, from_le_bytes, sum_through, byte_worth}
 use Rattle.std.specs.Int.RustNames.{bit_and}
 use Rattle.std.proofs.lemmas.Bool.{cases_lt}
-use Rattle.std.proofs.lemmas.List.{get_or-drop, get_or-take, get_or_past, length-append, length-drop, length-take, take_all, take_rest, drop-replicate}
+use Rattle.std.proofs.lemmas.List.{get_or-drop, get_or-take, get_or_past, length-append, length-drop, length-take, take_all, drop-replicate}
 use Rattle.std.proofs.lemmas.Nat.{shr-shr}
 use Rattle.std.proofs.lemmas.Nat.Bits.{bit_at-zero, bit_at_cat_low, bit_at_cat_high, bit_at_and, bit_at_ones, bit_at_ones_above, bit_at-lt}
 use Rattle.mask_bits.specs.Words.{number}
@@ -95,22 +95,15 @@ number-append_zeros [] ys none = none
 number-append_zeros (b ∷ bs) ys none = ap (λ n. b + 256 * n) (number-append_zeros bs ys none)
 
 -- sixteen bytes that are there
-pub number-chunk : (bytes chunk : List ℕ) (k : ℕ) → chunk ≡ take 16 (take (k + 16 - k) (drop k bytes)) → from_le_bytes w128 chunk ≡ number (take 16 (drop k bytes))
-number-chunk bytes chunk k is =
-    let sixteen : k + 16 - k ≡ 16 = omega arith in
-    let same : chunk ≡ take 16 (drop k bytes)
-    = is ∙ ap (λ n. take 16 (take n (drop k bytes))) sixteen
-    ∙ take_all 16 (take 16 (drop k bytes)) (omega (arith, length-take 16 (drop k bytes))) in
-    number_of_sixteen chunk ∙ ap number (take_all 16 chunk (omega (arith, ap length same, length-take 16 (drop k bytes)))) ∙ ap number same
+pub number-chunk : (bytes chunk : List ℕ) → chunk ≡ take 16 bytes → from_le_bytes w128 chunk ≡ number (take 16 bytes)
+number-chunk bytes chunk same =
+    number_of_sixteen chunk ∙ ap number (take_all 16 chunk (omega (arith, ap length same, length-take 16 bytes))) ∙ ap number same
 
 -- fewer than sixteen, and zeros after them
-pub number-padded_chunk : (bytes rest : List ℕ) (k : ℕ) → rest ≡ take (length bytes - k) (drop k bytes) → length bytes < k + 16 → from_le_bytes w128 (rest ++ drop (length (take (length bytes - k) (drop k bytes))) (replicate 16 0)) ≡ number (take 16 (drop k bytes))
-number-padded_chunk bytes rest k is short =
-    let part : List ℕ = take (length bytes - k) (drop k bytes) in
-    let zeros : List ℕ = drop (length part) (replicate 16 0) in
-    let whole : part ≡ drop k bytes = take_rest bytes k in
-    let few : length (drop k bytes) ≤ 16 = omega (arith, length-drop k bytes) in
-    let none : number zeros ≡ 0 = ap number (drop-replicate (length part) 16 0) ∙ number_of_zeros (16 - length part) in
-    let len : length (rest ++ zeros) ≤ 16 = omega (arith, length-append rest zeros, ap length is, ap length whole, length-drop {A = ℕ} (length part) (replicate 16 0)) in
-    number_of_sixteen (rest ++ zeros) ∙ ap number (take_all 16 (rest ++ zeros) len)
-    ∙ number-append_zeros rest zeros none ∙ ap number (is ∙ whole ∙ sym (take_all 16 (drop k bytes) few))
+pub number-padded_chunk : (bytes part : List ℕ) → part ≡ bytes → length bytes < 16 → from_le_bytes w128 (part ++ drop (length bytes) (replicate 16 0)) ≡ number (take 16 bytes)
+number-padded_chunk bytes part is short =
+    let zeros : List ℕ = drop (length bytes) (replicate 16 0) in
+    let none : number zeros ≡ 0 = ap number (drop-replicate (length bytes) 16 0) ∙ number_of_zeros (16 - length bytes) in
+    let len : length (part ++ zeros) ≤ 16 = omega (arith, length-append part zeros, ap length is, length-drop {A = ℕ} (length bytes) (replicate 16 0)) in
+    number_of_sixteen (part ++ zeros) ∙ ap number (take_all 16 (part ++ zeros) len)
+    ∙ number-append_zeros part zeros none ∙ ap number (is ∙ sym (take_all 16 bytes (omega arith)))

@@ -221,6 +221,7 @@ impl BitBuffer {
         ensures places { result ≡ positions (values self.now) }
         ensures fits { length result < 2 ^ 64 }
     {
+        // named, so that the proof may use that the length fits
         let _ = &self.len;
         SetIndices::new(self)
     }
