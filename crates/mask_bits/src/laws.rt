@@ -1,6 +1,8 @@
 //! Laws of lists of truth values. A call of one of these does nothing when it runs: a caller's
 //! proof then knows the law.
 
+#![tactic(auto, using(crate::proofs::LawRules::laws))]
+
 ghost use Rattle.mask_bits.specs.Laws.{PositionsDetermineList, RankIntersectionIsTheList, RankIntersectionValue, ChoosingTwice, RankIntersectionAssociative, AllTrueLeftUnit, AllTrueRightUnit, RankIntersectionCount, RankIntersectionPosition, RunsExist, RunsAreUnique, RunsAreRanges};
 
 /// A planner may compare filters of one length by their true places alone.

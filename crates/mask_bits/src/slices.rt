@@ -16,7 +16,7 @@ pub struct SetSlices<'a> {
 impl<'a> Model for SetSlices<'a> {
     ghost use Rattle.std.specs.Prelude.{ℕ, List, ◌≤◌, drop, length};
     ghost use Rattle.mask_bits.specs.Buffer.{values};
-    ghost use Rattle.mask_bits.specs.Runs.{runs_from};
+    ghost use Rattle.mask_bits.specs.RunScan.{runs_from};
 
     ghost Value = { List (ℕ × ℕ) };
 

@@ -4,7 +4,8 @@ use Rattle.std.proofs.lemmas.Bool.{cases_eq, eq-eqb, ne_eqb, eqb-true, eqb-false
 use Rattle.std.specs.Prelude.{nat_le, nat_lt}
 use Rattle.std.specs.List.{All, AllAdjacentBelow, list_any}
 use Rattle.mask_bits.specs.Laws.{RunsExist, RunsAreUnique, RunsAreRanges}
-use Rattle.mask_bits.specs.Runs.{is_inside, AreRuns, with_place, runs_from}
+use Rattle.mask_bits.specs.Runs.{is_inside, AreRuns}
+use Rattle.mask_bits.specs.RunScan.{with_place, runs_from}
 
 -- ---- one range
 
