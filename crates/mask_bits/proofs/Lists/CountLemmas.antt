@@ -1,5 +1,5 @@
 -- How many values are true: of lists of one value, and what no or every true value says of a list.
-use Rattle.std.proofs.Common.{◌++◌, slice_range, ◌≡◌, ℕ, zero, suc, ◌+◌, ◌<◌, ◌≤◌, Bool, true, false, List, [], ◌∷◌, length, get_or, Some, slice_get, refl, sym, ap, ◌∙◌, arith, zero-add}
+use Rattle.std.proofs.Common.{◌++◌, slice_range, ◌≡◌, ℕ, zero, suc, ◌+◌, ◌<◌, ◌≤◌, Bool, true, false, List, [], ◌∷◌, length, get_or, Some, slice_get, refl, sym, ap, ◌∙◌, arith, zero-add, inl, inr}
 use Rattle.std.specs.List.{All, list_all, list_any, range_with_len}
 use Rattle.std.proofs.lemmas.List.{ext_get_or, get_or-replicate, length-replicate}
 use Rattle.std.proofs.lemmas.List.FromFn.{length-range_with_len, get_or-range_with_len}
@@ -7,6 +7,9 @@ use Rattle.std.proofs.lemmas.Option.{slice_get-get_or, slice_get_within, get_or_
 use Rattle.std.proofs.lemmas.List.Edits.{between_more}
 use Rattle.mask_bits.specs.Positions.{places_from, positions, count, repeated}
 use Rattle.mask_bits.proofs.Lists.PlaceLemmas.{length-places_from, trues, count-trues}
+use Rattle.std.specs.Prelude.{◌↔◌, Any}
+use Rattle.std.proofs.lemmas.List.Folds.{Any-from_list_any, list_any-from_Any}
+use Rattle.std.proofs.lemmas.Bool.{cases_eq, false≢true}
 
 -- every place of an all-true list, and none of an all-false one
 pub places_from-repeated_true : (n k : ℕ) → places_from n (repeated k true) ≡ range_with_len n k
@@ -117,3 +120,29 @@ pub count-part_more : (m : List Bool) (s i : ℕ) (v : Bool) → s ≤ i → sli
 count-part_more m s i v ordered e =
     ap count (between_more m s i v ordered (slice_get_within m i v e) ∙ ap (λ (x : Bool). slice_range m s i ++ x ∷ []) (get_or_from_slice_get m i v v e))
     ∙ count-push (slice_range m s i) v
+
+-- ---- what the count says of a list
+
+pub positions-all_true : (n : ℕ) → positions (repeated n true) ≡ range_with_len 0 n
+positions-all_true n = places_from-repeated_true 0 n
+
+pub positions-all_false : (n : ℕ) → positions (repeated n false) ≡ []
+positions-all_false n = places_from-repeated_false 0 n
+
+pub all_true-count : (m : List Bool) → (count m ≡ length m) ↔ All (λ v. v ≡ true) m
+all_true-count m = (
+  λ e. All-repeated true m (all_true_from_count 0 m e),
+  λ all. ap count (repeated_from_All true m all) ∙ count-repeated_true (length m),
+)
+
+pub any_true-count : (m : List Bool) → (0 < count m) ↔ Any (λ v. v ≡ true) m
+any_true-count m = (
+  λ some. Any-from_list_any (λ v. v) m (list_any-count 0 m some),
+  λ any. elim (cases_eq (count m) 0) [
+    | inl none ↦
+        let found : list_any (λ v. v) m ≡ true = list_any-from_Any (λ v. v) m any in
+        let missed : list_any (λ v. v) m ≡ false = list_any-count_zero 0 m none in
+        absurd (false≢true (sym missed ∙ found))
+    | inr some ↦ omega arith
+  ],
+)

@@ -91,3 +91,6 @@ positions-within (true ∷ m) =
     subst (λ (ps : List ℕ). All (λ p. p < suc (length m)) ps) (sym (positions-true m)) (All-cons (λ p. p < suc (length m)) 0 (map suc (positions m)) (omega arith) rest)
 positions-within (false ∷ m) =
     subst (λ (ps : List ℕ). All (λ p. p < suc (length m)) ps) (sym (positions-false m)) (All-map (λ p. p < suc (length m)) suc (positions m) (All-weaker (λ p. p < length m) (λ p. suc p < suc (length m)) (λ p h. omega arith) (positions m) (positions-within m)))
+
+pub count-le-length : (m : List Bool) → count m ≤ length m
+count-le-length m = length-places_from 0 m

@@ -10,15 +10,15 @@ use Rattle.mask_bits.specs.RunScan.{with_place, runs_from}
 -- ---- one range
 
 -- a place from the first on and before the end is inside
-inside : (i : ℕ) (r : ℕ × ℕ) → r.0 ≤ i → i < r.1 → is_inside i r ≡ true
+pub inside : (i : ℕ) (r : ℕ × ℕ) → r.0 ≤ i → i < r.1 → is_inside i r ≡ true
 inside i r low high = and_from (nat_le r.0 i) (nat_lt i r.1) (le-leb r.0 i low) (lt-ltb i r.1 high)
 
 -- a place before the first is not
-inside-before : (i : ℕ) (r : ℕ × ℕ) → i < r.0 → is_inside i r ≡ false
+pub inside-before : (i : ℕ) (r : ℕ × ℕ) → i < r.0 → is_inside i r ≡ false
 inside-before i r h = and_left (nat_le r.0 i) (nat_lt i r.1) (lt-leb r.0 i h)
 
 -- nor is a place past the end
-inside-past : (i : ℕ) (r : ℕ × ℕ) → r.1 ≤ i → is_inside i r ≡ false
+pub inside-past : (i : ℕ) (r : ℕ × ℕ) → r.1 ≤ i → is_inside i r ≡ false
 inside-past i r h = and_right (nat_le r.0 i) (nat_lt i r.1) (le-ltb i r.1 h)
 
 -- ---- ranges that lie apart, by recursion
