@@ -2,9 +2,10 @@
 use Rattle.std.proofs.Common.{◌≡◌, ℕ, zero, suc, ◌+◌, ◌<◌, ◌≤◌, Bool, true, false, List, [], ◌∷◌, length, get_or, take, drop, map, Some, slice_get, refl, sym, ap, subst, ◌∙◌, arith, add-one, inl, inr, nat_eq, ◌||◌}
 use Rattle.std.proofs.lemmas.Bool.{cases_order, eq-eqb, ne_eqb}
 use Rattle.std.specs.List.{All}
-use Rattle.std.proofs.lemmas.List.Elements.{All-nil, All-cons, All-weaker, All-map}
+use Rattle.std.proofs.lemmas.List.Elements.{All-nil, All-cons, All-weaker, All-map, All-head, All-tail}
 use Rattle.std.proofs.lemmas.List.{get_or-take, get_or_past, length-take}
 use Rattle.mask_bits.specs.Positions.{places_from, positions, count}
+use Rattle.std.specs.Option.{IfSome}
 
 -- no list has more true values than values
 pub length-places_from : (n : ℕ) (m : List Bool) → length (places_from n m) ≤ length m
@@ -94,3 +95,13 @@ positions-within (false ∷ m) =
 
 pub count-le-length : (m : List Bool) → count m ≤ length m
 count-le-length m = length-places_from 0 m
+
+-- an entry has what each entry has
+pub IfSome-slice_get : (P : ℕ → Type 0) (xs : List ℕ) (n : ℕ) → All P xs → IfSome (slice_get xs n) P
+IfSome-slice_get P [] n all = tt
+IfSome-slice_get P (x ∷ xs) zero all = All-head P x xs all
+IfSome-slice_get P (x ∷ xs) (suc n) all = IfSome-slice_get P xs n (All-tail P x xs all)
+
+-- true value number n, if there is one, stands within the list
+pub place-within : (m : List Bool) (n : ℕ) → IfSome (slice_get (positions m) n) (λ p. p < length m)
+place-within m n = IfSome-slice_get (λ p. p < length m) (positions m) n (positions-within m)

@@ -48,14 +48,14 @@ from_place m low (r ∷ rs) o exact =
     let top = Ordered-top r.1 (length m) rs o.2 in
     let gap : count (slice_range m low r.0) ≡ 0
     = ap count (part_of_one m false low r.0 (omega (arith, o.1, top)) (λ i from h.
-      exact i from (omega (arith, o.1, top)) ∙ none_below r.0 (length m) i (r ∷ rs) (omega arith, o.1, o.2) h))
+    exact i from (omega (arith, o.1, top)) ∙ none_below r.0 (length m) i (r ∷ rs) (omega arith, o.1, o.2) h))
     ∙ count-repeated_false (r.0 - low) in
     let held : count (slice_range m r.0 r.1) ≡ r.1 - r.0
     = ap count (part_of_one m true r.0 r.1 top (λ i from h.
-      exact i (omega (arith, o.0)) (omega (arith, top)) ∙ or_left (is_inside i r) (list_any (is_inside i) rs) (inside i r from h)))
+    exact i (omega (arith, o.0)) (omega (arith, top)) ∙ or_left (is_inside i r) (list_any (is_inside i) rs) (inside i r from h)))
     ∙ count-repeated_true (r.1 - r.0) in
     let rest = from_place m r.1 rs o.2 (λ i from h.
-      exact i (omega (arith, o.0, o.1)) h ∙ ap (λ b. b || list_any (is_inside i) rs) (inside-past i r from)) in
+    exact i (omega (arith, o.0, o.1)) h ∙ ap (λ b. b || list_any (is_inside i) rs) (inside-past i r from)) in
     let first = ap count (drop_split m low r.0 o.0) ∙ count-append (slice_range m low r.0) (drop r.0 m) in
     let second = ap count (drop_split m r.0 r.1 (omega (arith, o.1))) ∙ count-append (slice_range m r.0 r.1) (drop r.1 m) in
     sum_by-cons (λ (s : ℕ × ℕ). s.1 - s.0) r rs ∙ omega (arith, gap, held, rest, first, second)
