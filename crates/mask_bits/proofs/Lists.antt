@@ -1,7 +1,10 @@
 -- Lemmas on lists of truth values, for this crate and for those above it.
+pub mod BooleanLemmas
 pub mod ChooseLemmas
 pub mod CountLemmas
 pub mod LawLemmas
+pub mod LimitLemmas
+pub mod PartLemmas
 pub mod PlaceLemmas
 pub mod RankLemmas
 pub mod RunLemmas

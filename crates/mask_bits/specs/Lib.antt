@@ -1,5 +1,6 @@
 pub mod Buffer
 pub mod Laws
+pub mod Lists
 pub mod Positions
 pub mod Runs
 pub mod Words
