@@ -1,9 +1,11 @@
 -- Lemmas on lists of truth values, for this crate and for those above it.
 pub mod ChooseLemmas
 pub mod CountLemmas
+pub mod FrontLemmas
 pub mod LawLemmas
 pub mod PlaceLemmas
 pub mod RankLemmas
 pub mod RunLemmas
 pub mod ScanLemmas
+pub mod ShiftLemmas
 pub mod WordLemmas
