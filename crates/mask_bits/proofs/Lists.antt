@@ -2,6 +2,7 @@
 pub mod BooleanLemmas
 pub mod ChooseLemmas
 pub mod CountLemmas
+pub mod FrontLemmas
 pub mod LawLemmas
 pub mod LimitLemmas
 pub mod PartLemmas
@@ -9,4 +10,5 @@ pub mod PlaceLemmas
 pub mod RankLemmas
 pub mod RunLemmas
 pub mod ScanLemmas
+pub mod ShiftLemmas
 pub mod WordLemmas

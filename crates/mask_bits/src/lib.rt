@@ -11,7 +11,7 @@ mod scan;
 mod slices;
 #[cfg(test)]
 mod tests;
-mod window;
+pub mod words;
 
 pub use bools::BitIterator;
 pub use buffer::BitBuffer;
