@@ -258,7 +258,8 @@ impl BitBuffer {
 
     /// The values in words of 64, the first value lowest.
     pub fn chunks(&self) -> BitChunks<'_>
-        ensures { result ≡ values self.now }
+        ensures list { result ≡ values self.now }
+        ensures fits { length result < 2 ^ 64 }
     {
         BitChunks::new(self.bytes.as_slice(), self.offset, self.len)
     }

@@ -8,7 +8,7 @@ use Rattle.vortex_mask.specs.declared.mask.Mask.TheVariants.{AllTrue, AllFalse, 
 use Rattle.mask_bits.proofs.Lists.LawLemmas.{rank_intersection-none}
 use Rattle.mask_bits.proofs.Lists.PlaceLemmas.{count-le-length}
 use Rattle.mask_bits.proofs.Lists.RankLemmas.{rank_intersection-all_true, rank_intersection-by_all_true}
-use Rattle.mask_bits.proofs.Lists.CountLemmas.{count-repeated_true, count-repeated_false, all_true_from_count, all_false_from_count, list_all-count, list_all-count_less, list_any-count, list_any-count_zero}
+use Rattle.mask_bits.proofs.Lists.CountLemmas.{count-repeated_true, count-repeated_false, all_true_from_count, all_false_from_count, list_all-count, list_all-count_less, list_any-count, list_any-count_zero, length-repeated}
 use Rattle.std.specs.Prelude.{◌↔◌}
 use Rattle.vortex_mask.specs.Laws.{UniformIsOfOneValue}
 use Rattle.vortex_mask.specs.MaskValues.{AreOf, no_caches, kept_indices, kept_ranges}
@@ -43,6 +43,10 @@ fitting_variant-repeated_true (suc n) =
 pub fitting_variant-repeated_false : (n : ℕ) → fitting_variant all_false (repeated n false) ≡ all_false
 unfolding repeated
 fitting_variant-repeated_false n = fitting_variant-all_false (repeated n false) (count-repeated_false n)
+
+pub fitting_variant-some_true : (empty : Variant) (n : ℕ) → 0 < n → fitting_variant empty (repeated n true) ≡ all_true
+fitting_variant-some_true empty n some =
+    fitting_variant-all empty (repeated n true) (omega (arith, length-repeated n true)) (count-repeated_true n ∙ sym (length-repeated n true))
 
 -- a list with values has one variant
 pub fitting_variant-nonempty : (e f : Variant) (m : List Bool) → 0 < length m → fitting_variant e m ≡ fitting_variant f m

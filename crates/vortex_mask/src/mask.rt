@@ -12,6 +12,7 @@ ghost use Rattle.vortex_mask.specs.declared.mask.Mask.TheVariants.{AllTrue};
 
 mod all_or;
 mod error;
+mod from_indices;
 mod values;
 
 pub use all_or::AllOr;
