@@ -11,6 +11,7 @@ use Rattle.std.proofs.lemmas.Slice.Eq.{slice_eq-Decides}
 use Rattle.mask_bits.specs.Buffer.{Packed, backing_bit, values, same_values}
 use Rattle.mask_bits.specs.Positions.{repeated, true_at}
 use Rattle.mask_bits.proofs.BitLemmas.{backing_bit-ones}
+use Rattle.mask_bits.specs.Laws.{SameValuesAreOneList}
 
 -- a buffer's list is as long as the buffer says
 pub length-values : (b : Packed) → length (values b) ≡ b.len
@@ -78,3 +79,8 @@ values-none bytes n clear =
 pub same_values-from_answer : (a b : Packed) (r : Bool) → (r ≡ true → values a ≡ values b) → (values a ≡ values b → r ≡ true) → r ≡ same_values a b
 same_values-from_answer a b r told tells =
     same_from_decides r (same_values a b) (told, tells) (slice_eq-Decides booleans_Decides (values a) (values b) (same_values a b) refl)
+
+pub same_values_are_one_list : SameValuesAreOneList
+same_values_are_one_list a b =
+    let decides = slice_eq-Decides booleans_Decides (values a) (values b) (same_values a b) refl in
+    (decides.0, decides.1)

@@ -1,6 +1,7 @@
 -- Lemmas. Crates above may cite those of `Lists`, and no others.
 mod BitLemmas
 mod BufferLemmas
+mod LawRules
 pub mod Lists
 mod NumberLemmas
 mod WindowLemmas

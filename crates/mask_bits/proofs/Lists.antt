@@ -3,6 +3,7 @@ pub mod ChooseLemmas
 pub mod CountLemmas
 pub mod LawLemmas
 pub mod PlaceLemmas
+pub mod RangeLemmas
 pub mod RankLemmas
 pub mod RunLemmas
 pub mod ScanLemmas

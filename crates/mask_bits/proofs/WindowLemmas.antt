@@ -5,7 +5,8 @@ use Rattle.std.proofs.lemmas.Bool.{cases_lt}
 use Rattle.std.proofs.lemmas.List.{length-append, length-drop, get_or-drop, get_or_append_left, get_or-append_right, length-replicate, get_or-replicate}
 use Rattle.mask_bits.specs.Buffer.{Packed, backing_bit, values}
 use Rattle.mask_bits.specs.Positions.{repeated}
-use Rattle.mask_bits.specs.Words.{word_bits, window, word_part, padded_remainder, number}
+use Rattle.mask_bits.specs.Words.{word_bits, window, word_part, padded_remainder}
+use Rattle.mask_bits.specs.Number.{number}
 use Rattle.mask_bits.proofs.BufferLemmas.{length-values, get_or-values, values-part}
 use Rattle.mask_bits.proofs.Lists.WordLemmas.{word_bits_from_bits, get_or-word_bits}
 use Rattle.mask_bits.proofs.NumberLemmas.{AreBytes, bit_at-window, bit_at-low_mask, bit_at-past_mask}

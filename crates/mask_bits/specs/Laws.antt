@@ -1,7 +1,81 @@
 -- What holds of all lists of truth values, whatever holds them.
-use Rattle.std.specs.Prelude.{ℕ, ◌≡◌, ◌<◌, ◌&&◌, ◌↔◌, Bool, true, false, List, length, slice_index, slice_index_or}
+use Rattle.std.specs.Prelude.{ℕ, ◌+◌, ◌-◌, ◌^◌, ◌≡◌, ◌<◌, ◌≤◌, ◌&&◌, ◌↔◌, Bool, true, false, IsTrue, List, [], ◌∷◌, ◌++◌, length, All, Any, sum_by, count_ones, slice_index, slice_index_or}
+use Rattle.std.specs.List.{range_with_len}
+use Rattle.mask_bits.specs.Buffer.{Packed, values, same_values}
 use Rattle.mask_bits.specs.Positions.{positions, count, count_below, repeated, at_places, rank_intersection, chosen}
 use Rattle.mask_bits.specs.Runs.{AreRuns, AreRanges}
+use Rattle.mask_bits.specs.Stacks.{IsStack}
+use Rattle.mask_bits.specs.Words.{word_bits, word_parts, padded_remainder}
+
+-- ---- true places, and how many there are
+
+-- each true place is one of the list's
+abbrev pub PlacesAreWithin : Type 0
+PlacesAreWithin = (m : List Bool) → All (λ p. p < length m) (positions m)
+
+-- no more values are true than there are
+abbrev pub CountIsAtMostLength : Type 0
+CountIsAtMostLength = (m : List Bool) → count m ≤ length m
+
+-- as many are true as there are, exactly if each is true
+abbrev pub CountIsLengthOfAllTrue : Type 0
+CountIsLengthOfAllTrue = (m : List Bool) → (count m ≡ length m) ↔ All (λ v. v ≡ true) m
+
+-- some are true exactly if one is
+abbrev pub CountIsSomeOfAnyTrue : Type 0
+CountIsSomeOfAnyTrue = (m : List Bool) → (0 < count m) ↔ Any (λ v. v ≡ true) m
+
+-- a list followed by another has the true values of both
+abbrev pub CountOfJoined : Type 0
+CountOfJoined = (a b : List Bool) → count (a ++ b) ≡ count a + count b
+
+-- ---- lists of one value
+
+-- n values, each v, are n
+abbrev pub LengthOfRepeated : Type 0
+LengthOfRepeated = (n : ℕ) (v : Bool) → length (repeated n v) ≡ n
+
+-- every place of an all-true list is a true one
+abbrev pub PositionsOfAllTrue : Type 0
+PositionsOfAllTrue = (n : ℕ) → positions (repeated n true) ≡ range_with_len 0 n
+
+-- and there are as many as places
+abbrev pub CountOfAllTrue : Type 0
+CountOfAllTrue = (n : ℕ) → count (repeated n true) ≡ n
+
+-- an all-false list has no true place
+abbrev pub PositionsOfAllFalse : Type 0
+PositionsOfAllFalse = (n : ℕ) → positions (repeated n false) ≡ []
+
+-- an all-true list chooses every row
+abbrev pub ChosenByAllTrue : Type 0 → Type 0
+ChosenByAllTrue X = (rows : List X) → chosen rows (repeated (length rows) true) ≡ rows
+
+-- an all-false list chooses none
+abbrev pub ChosenByAllFalse : Type 0 → Type 0
+ChosenByAllFalse X = (rows : List X) (n : ℕ) → chosen rows (repeated n false) ≡ []
+
+-- as many rows are chosen as values are true
+abbrev pub CountOfChosen : Type 0 → Type 0
+CountOfChosen X = (rows : List X) (m : List Bool) → length rows ≡ length m → length (chosen rows m) ≡ count m
+
+-- ---- words
+
+-- a word's list has as many true values as the word has ones
+abbrev pub CountOfWord : Type 0
+CountOfWord = (w : ℕ) → w < 2 ^ 64 → count (word_bits w) ≡ count_ones w
+
+-- the true values of a list's words and of the rest are those of the list
+abbrev pub CountsOfWordsAddUp : Type 0
+CountsOfWordsAddUp = (m : List Bool) → sum_by count (word_parts m) + count (padded_remainder m) ≡ count m
+
+-- ---- buffers
+
+-- the test of two buffers' lists is true exactly where they are one list
+abbrev pub SameValuesAreOneList : Type 0
+SameValuesAreOneList = (a b : Packed) → IsTrue (same_values a b) ↔ (values a ≡ values b)
+
+-- ---- rank intersection
 
 -- lists of one length with the same true places are one list
 abbrev pub PositionsDetermineList : Type 0
@@ -48,6 +122,12 @@ abbrev pub RankIntersectionPosition : Type 0
 RankIntersectionPosition = (a b : List Bool) (n : ℕ) → length b ≡ count a → n < count b
     → slice_index (positions (rank_intersection a b)) n ≡ slice_index (positions a) (slice_index (positions b) n)
 
+-- a stack whose first two masks are made one is a stack
+abbrev pub FoldingKeepsAStack : Type 0
+FoldingKeepsAStack = (a b : List Bool) (ms : List (List Bool)) → IsStack (a ∷ b ∷ ms) → IsStack (rank_intersection a b ∷ ms)
+
+-- ---- runs
+
 -- every list of truth values has runs
 abbrev pub RunsExist : Type 0
 RunsExist = (m : List Bool) → (rs : List (ℕ × ℕ)) × AreRuns m rs
@@ -59,3 +139,7 @@ RunsAreUnique = (m : List Bool) (rs ss : List (ℕ × ℕ)) → AreRuns m rs →
 -- runs are ranges that hold exactly the true places
 abbrev pub RunsAreRanges : Type 0
 RunsAreRanges = (m : List Bool) (rs : List (ℕ × ℕ)) → AreRuns m rs → AreRanges m rs
+
+-- ranges hold as many places as values are true
+abbrev pub RangesAddUpToTheCount : Type 0
+RangesAddUpToTheCount = (m : List Bool) (rs : List (ℕ × ℕ)) → AreRanges m rs → sum_by (λ r. r.1 - r.0) rs ≡ count m

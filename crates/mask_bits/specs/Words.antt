@@ -9,11 +9,6 @@ use Rattle.mask_bits.specs.Positions.{repeated}
 unfoldable pub word_bits : ℕ → List Bool
 word_bits w = map (λ i. nat_eq (bit_at w i) 1) (range_with_len 0 64)
 
--- the number whose digits to the base 256 are the bytes, the first lowest
-abbrev pub number : List ℕ → ℕ
-number [] = 0
-number (b ∷ bs) = b + 256 * number bs
-
 -- the 64 backing bits from position p on
 unfoldable pub window : List ℕ → ℕ → List Bool
 window bytes p = map (λ j. backing_bit bytes (p + j)) (range_with_len 0 64)

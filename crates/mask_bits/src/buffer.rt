@@ -1,7 +1,7 @@
-ghost use Rattle.std.specs.Prelude.{◌≡◌, ◌+◌, ◌-◌, ◌*◌, ◌<◌, ◌≤◌, ◌^◌, ◌↔◌, ◌||◌, ℕ, false, true, [], length, vec_len, nat_eq, All, IfOk, IsTrue, Some, slice_get, slice_range};
+ghost use Rattle.std.specs.Prelude.{◌≡◌, ◌+◌, ◌-◌, ◌*◌, ◌<◌, ◌≤◌, ◌^◌, ◌↔◌, ◌||◌, ℕ, false, true, [], length, vec_len, nat_eq, All, IfOk, IfSome, IsTrue, Some, slice_get, slice_range};
 ghost use Rattle.std.specs.Iterator.{UpTo, Drains};
 ghost use Rattle.mask_bits.specs.Buffer.{Packed, IsWithinBytes, values, backing_bit};
-ghost use Rattle.mask_bits.specs.Positions.{positions, count, repeated, true_at};
+ghost use Rattle.mask_bits.specs.Positions.{positions, count, repeated, true_at, IsFirstFrom};
 ghost use Rattle.mask_bits.specs.Runs.{AreRuns};
 
 use crate::bools::BitIterator;
@@ -196,32 +196,50 @@ impl BitBuffer {
 
     /// The place of true value number `n`, counted from 0, and `None` from the true count on.
     pub fn select(&self, n: usize) -> Option<usize>
-        ensures { result ≡ slice_get (positions (values self.now)) n }
+        ensures place { result ≡ slice_get (positions (values self.now)) n }
+        ensures within { IfSome result (λ p. p < length (values self.now)) }
     {
         self.set_indices().nth(n)
     }
 
     /// The place of the last true value, if there is one.
     pub fn last_set_index(&self) -> Option<usize>
-        ensures { result
+        ensures place { result
             ≡ slice_get (positions (values self.now)) (count (values self.now) - 1) }
+        ensures within { IfSome result (λ p. p < length (values self.now)) }
     {
         self.select(self.true_count().saturating_sub(1))
     }
 
+    /// The first place from `from` on that holds `value`, and the length where none does.
+    pub fn first_from(&self, from: usize, value: bool) -> usize
+        requires { from ≤ length (values self.now) }
+        ensures { IsFirstFrom (values self.now) from value result }
+    {
+        for place in from..self.len() {
+            if self.value(place) == value {
+                return place;
+            }
+        }
+        self.len()
+    }
+
     /// The values in their order.
     pub fn iter(&self) -> BitIterator<'_>
-        ensures { result ≡ values self.now }
+        ensures list { result ≡ values self.now }
+        ensures fits { length result < 2 ^ 64 }
     {
+        // named, so that the proof may use that the length fits
+        let _ = &self.len;
         BitIterator::new(self)
     }
 
     /// The places of the true values, ascending.
     pub fn set_indices(&self) -> SetIndices<'_>
         ensures places { result ≡ positions (values self.now) }
+        ensures within { All (λ p. p < length (values self.now)) result }
         ensures fits { length result < 2 ^ 64 }
     {
-        // named, so that the proof may use that the length fits
         let _ = &self.len;
         SetIndices::new(self)
     }
@@ -229,8 +247,10 @@ impl BitBuffer {
     /// The maximal ranges of true values, ascending, each by its first place and the place past its
     /// last.
     pub fn set_slices(&self) -> SetSlices<'_>
-        ensures { AreRuns (values self.now) result }
+        ensures runs { AreRuns (values self.now) result }
+        ensures fits { length result < 2 ^ 64 }
     {
+        let _ = &self.len;
         SetSlices::new(self)
     }
 

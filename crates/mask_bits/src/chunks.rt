@@ -1,4 +1,4 @@
-ghost use Rattle.std.specs.Prelude.{◌≡◌, ◌+◌, ◌*◌, ◌/◌, ◌%◌, ◌<◌, ◌≤◌, length};
+ghost use Rattle.std.specs.Prelude.{◌≡◌, ◌+◌, ◌*◌, ◌/◌, ◌%◌, ◌<◌, ◌≤◌, ◌^◌, length};
 ghost use Rattle.std.specs.Iterator.{YieldsFirstBy, item_count};
 ghost use Rattle.mask_bits.specs.Buffer.{IsWithinBytes, values};
 ghost use Rattle.mask_bits.specs.Words.{word_bits, word_part, word_parts, padded_remainder};
@@ -50,7 +50,8 @@ impl<'a> BitChunks<'a> {
 
     /// The whole words, in their order.
     pub fn iter(&self) -> Words<'a>
-        ensures { result ≡ word_parts self.now }
+        ensures parts { result ≡ word_parts self.now }
+        ensures fits { length result < 2 ^ 64 }
     {
         Words {
             chunks: BitChunks::new(self.bytes, self.offset, self.len),

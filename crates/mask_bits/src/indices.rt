@@ -4,7 +4,6 @@ ghost use Rattle.mask_bits.specs.Buffer.{values};
 ghost use Rattle.mask_bits.specs.Positions.{positions};
 
 use crate::buffer::BitBuffer;
-use crate::scan::first_from;
 use std::marker::Model;
 
 /// The places of a buffer's true values, ascending.
@@ -43,7 +42,7 @@ impl Iterator for SetIndices<'_> {
 
     fn next(&mut self) -> Option<usize> {
         let len = self.buffer.len();
-        let place = first_from(self.buffer, self.next, true);
+        let place = self.buffer.first_from(self.next, true);
         if place == len {
             self.next = len;
             return None;

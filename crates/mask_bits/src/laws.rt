@@ -1,7 +1,48 @@
 //! Laws of lists of truth values. A call of one of these does nothing when it runs: a caller's
 //! proof then knows the law.
 
-ghost use Rattle.mask_bits.specs.Laws.{PositionsDetermineList, RankIntersectionIsTheList, RankIntersectionValue, ChoosingTwice, RankIntersectionAssociative, AllTrueLeftUnit, AllTrueRightUnit, RankIntersectionCount, RankIntersectionPosition, RunsExist, RunsAreUnique, RunsAreRanges};
+#![tactic(auto, using(crate::proofs::LawRules::laws))]
+
+ghost use Rattle.mask_bits.specs.Laws.{PlacesAreWithin, CountIsAtMostLength, CountIsLengthOfAllTrue, CountIsSomeOfAnyTrue, CountOfJoined, LengthOfRepeated, PositionsOfAllTrue, CountOfAllTrue, PositionsOfAllFalse, ChosenByAllTrue, ChosenByAllFalse, CountOfChosen, CountsOfWordsAddUp, SameValuesAreOneList, PositionsDetermineList, RankIntersectionIsTheList, RankIntersectionValue, ChoosingTwice, RankIntersectionAssociative, AllTrueLeftUnit, AllTrueRightUnit, RankIntersectionCount, RankIntersectionPosition, FoldingKeepsAStack, RunsExist, RunsAreUnique, RunsAreRanges, RangesAddUpToTheCount};
+
+/// A gather may read a row at each true place: it is one of the rows.
+pub fn places_are_within()
+    ensures within { PlacesAreWithin }
+{}
+
+/// A planner may estimate by counts: how many rows a filter chooses, at most, and when all or some.
+pub fn counts()
+    ensures at_most { CountIsAtMostLength }
+    ensures all { CountIsLengthOfAllTrue }
+    ensures some { CountIsSomeOfAnyTrue }
+    ensures joined { CountOfJoined }
+{}
+
+/// A planner knows a filter that treats all rows alike by its length.
+pub fn lists_of_one_value()
+    ensures len { LengthOfRepeated }
+    ensures every_place { PositionsOfAllTrue }
+    ensures count { CountOfAllTrue }
+    ensures no_place { PositionsOfAllFalse }
+{}
+
+/// A filter that chooses every row may be left out, one that chooses none needs no rows, and any
+/// chooses as many as it has true values.
+pub fn choosing<T>()
+    ensures every_row { ChosenByAllTrue T }
+    ensures no_row { ChosenByAllFalse T }
+    ensures count { CountOfChosen T }
+{}
+
+/// A reader may count by words.
+pub fn counts_of_words()
+    ensures parts { CountsOfWordsAddUp }
+{}
+
+/// A caller may compare buffers where it means their lists.
+pub fn same_values_are_one_list()
+    ensures same { SameValuesAreOneList }
+{}
 
 /// A planner may compare filters of one length by their true places alone.
 pub fn positions_determine_list()
@@ -51,6 +92,11 @@ pub fn rank_intersection_position()
     ensures position { RankIntersectionPosition }
 {}
 
+/// A planner may make the first two of stacked filters one, whatever stands above them.
+pub fn folding_keeps_a_stack()
+    ensures stack { FoldingKeepsAStack }
+{}
+
 /// A planner may speak of the runs of a filter: there is a list of them.
 pub fn runs_exist()
     ensures exist { RunsExist }
@@ -64,4 +110,9 @@ pub fn runs_are_unique()
 /// A planner may read runs where any ranges that hold exactly the true places will do.
 pub fn runs_are_ranges()
     ensures ranges { RunsAreRanges }
+{}
+
+/// A reader of ranges knows how many rows they hold.
+pub fn ranges_add_up_to_the_count()
+    ensures count { RangesAddUpToTheCount }
 {}

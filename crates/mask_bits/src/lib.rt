@@ -7,7 +7,6 @@ mod chunks;
 mod eq;
 mod indices;
 pub mod laws;
-mod scan;
 mod slices;
 #[cfg(test)]
 mod tests;

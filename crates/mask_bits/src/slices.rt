@@ -3,7 +3,6 @@ ghost use Rattle.mask_bits.specs.Buffer.{values};
 ghost use Rattle.mask_bits.specs.Runs.{AreRuns};
 
 use crate::buffer::BitBuffer;
-use crate::scan::first_from;
 use std::marker::Model;
 
 /// The maximal ranges of a buffer's true values, ascending.
@@ -16,7 +15,7 @@ pub struct SetSlices<'a> {
 impl<'a> Model for SetSlices<'a> {
     ghost use Rattle.std.specs.Prelude.{ℕ, List, ◌≤◌, drop, length};
     ghost use Rattle.mask_bits.specs.Buffer.{values};
-    ghost use Rattle.mask_bits.specs.Runs.{runs_from};
+    ghost use Rattle.mask_bits.specs.RunScan.{runs_from};
 
     ghost Value = { List (ℕ × ℕ) };
 
@@ -42,12 +41,12 @@ impl Iterator for SetSlices<'_> {
 
     fn next(&mut self) -> Option<(usize, usize)> {
         let len = self.buffer.len();
-        let start = first_from(self.buffer, self.next, true);
+        let start = self.buffer.first_from(self.next, true);
         if start == len {
             self.next = len;
             return None;
         }
-        let end = first_from(self.buffer, start + 1, false);
+        let end = self.buffer.first_from(start + 1, false);
         self.next = end;
         Some((start, end))
     }

@@ -1,5 +1,6 @@
 ghost use Rattle.std.specs.Prelude.{◌≡◌, ◌*◌, ◌<◌, ◌≤◌, length, take};
-ghost use Rattle.mask_bits.specs.Words.{window as bits_from, word_bits, number};
+ghost use Rattle.mask_bits.specs.Words.{window as bits_from, word_bits};
+ghost use Rattle.mask_bits.specs.Number.{number};
 
 // The 64 bits from bit `position` on, of which those past the last byte are 0.
 #[inline]

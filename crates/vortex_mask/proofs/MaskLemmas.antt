@@ -6,7 +6,7 @@ use Rattle.mask_bits.specs.Positions.{count, rank_intersection, repeated}
 use Rattle.vortex_mask.specs.declared.mask.Mask.{Mask}
 use Rattle.vortex_mask.specs.declared.mask.Mask.TheVariants.{AllTrue, AllFalse}
 use Rattle.mask_bits.proofs.Lists.RankLemmas.{rank_intersection-all_true, rank_intersection-by_all_true, rank_intersection-all_false, rank_intersection-by_all_false}
-use Rattle.mask_bits.proofs.Lists.CountLemmas.{count-replicate_true, count-replicate_false, list_all-count, list_all-count_less, list_any-count, list_any-count_zero}
+use Rattle.mask_bits.proofs.Lists.CountLemmas.{count-repeated_true, count-repeated_false, list_all-count, list_all-count_less, list_any-count, list_any-count_zero}
 
 pub fitting_variant-all : (empty : Variant) (m : List Bool) → 0 < length m → count m ≡ length m → fitting_variant empty m ≡ all_true
 fitting_variant-all empty [] some e = absurd (omega arith)
@@ -32,11 +32,11 @@ pub fitting_variant-repeated_true : (n : ℕ) → fitting_variant all_true (repe
 unfolding repeated
 fitting_variant-repeated_true zero = refl
 fitting_variant-repeated_true (suc n) =
-    fitting_variant-all all_true (repeated (suc n) true) (omega arith) (count-replicate_true (suc n) ∙ sym (length-replicate (suc n) true))
+    fitting_variant-all all_true (repeated (suc n) true) (omega arith) (count-repeated_true (suc n) ∙ sym (length-replicate (suc n) true))
 
 pub fitting_variant-repeated_false : (n : ℕ) → fitting_variant all_false (repeated n false) ≡ all_false
 unfolding repeated
-fitting_variant-repeated_false n = fitting_variant-all_false (repeated n false) (count-replicate_false n)
+fitting_variant-repeated_false n = fitting_variant-all_false (repeated n false) (count-repeated_false n)
 
 -- a list with values has one variant
 pub fitting_variant-nonempty : (e f : Variant) (m : List Bool) → 0 < length m → fitting_variant e m ≡ fitting_variant f m
@@ -50,7 +50,7 @@ unfolding repeated
 truth-by_all_true_self a b n is fits =
     let list = ap truth is in
     sym (ap (λ (xs : List Bool). rank_intersection xs (truth b)) list
-    ∙ rank_intersection-all_true n (truth b) (fits ∙ ap count list ∙ count-replicate_true n))
+    ∙ rank_intersection-all_true n (truth b) (fits ∙ ap count list ∙ count-repeated_true n))
 
 pub truth-by_all_true_mask : (a b : Mask) (n : ℕ) → b ≡ AllTrue n → length (truth b) ≡ count (truth a) → truth a ≡ rank_intersection (truth a) (truth b)
 unfolding repeated

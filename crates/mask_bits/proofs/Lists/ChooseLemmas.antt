@@ -30,3 +30,6 @@ pub chosen-step : {X : Type 0} (rows out : List X) (p : ℕ) (ps : List ℕ) (r 
 chosen-step {X} rows out p ps r e =
     ap (λ o. out ++ cons_option o (filter_map (λ i. slice_get rows i) ps)) e
     ∙ sym (append_assoc out (r ∷ []) (filter_map (λ i. slice_get rows i) ps))
+
+pub chosen_by_all_true : {X : Type 0} (rows : List X) → chosen rows (repeated (length rows) true) ≡ rows
+chosen_by_all_true rows = chosen-all_true rows (length rows) refl

@@ -1,5 +1,5 @@
 -- How many values are true: of lists of one value, and what no or every true value says of a list.
-use Rattle.std.proofs.Common.{◌++◌, slice_range, ◌≡◌, ℕ, zero, suc, ◌+◌, ◌<◌, ◌≤◌, Bool, true, false, List, [], ◌∷◌, length, get_or, Some, slice_get, refl, sym, ap, ◌∙◌, arith, zero-add}
+use Rattle.std.proofs.Common.{◌++◌, slice_range, ◌≡◌, ℕ, zero, suc, ◌+◌, ◌<◌, ◌≤◌, Bool, true, false, List, [], ◌∷◌, length, get_or, Some, slice_get, refl, sym, ap, ◌∙◌, arith, zero-add, inl, inr}
 use Rattle.std.specs.List.{All, list_all, list_any, range_with_len}
 use Rattle.std.proofs.lemmas.List.{ext_get_or, get_or-replicate, length-replicate}
 use Rattle.std.proofs.lemmas.List.FromFn.{length-range_with_len, get_or-range_with_len}
@@ -7,31 +7,34 @@ use Rattle.std.proofs.lemmas.Option.{slice_get-get_or, slice_get_within, get_or_
 use Rattle.std.proofs.lemmas.List.Edits.{between_more}
 use Rattle.mask_bits.specs.Positions.{places_from, positions, count, repeated}
 use Rattle.mask_bits.proofs.Lists.PlaceLemmas.{length-places_from, trues, count-trues}
+use Rattle.std.specs.Prelude.{◌↔◌, Any}
+use Rattle.std.proofs.lemmas.List.Folds.{Any-from_list_any, list_any-from_Any}
+use Rattle.std.proofs.lemmas.Bool.{cases_eq, false≢true}
 
 -- every place of an all-true list, and none of an all-false one
-pub places_from-replicate_true : (n k : ℕ) → places_from n (repeated k true) ≡ range_with_len n k
+pub places_from-repeated_true : (n k : ℕ) → places_from n (repeated k true) ≡ range_with_len n k
 unfolding repeated
-places_from-replicate_true n zero = refl
-places_from-replicate_true n (suc k) = ap (λ (xs : List ℕ). n ∷ xs) (places_from-replicate_true (n + 1) k)
+places_from-repeated_true n zero = refl
+places_from-repeated_true n (suc k) = ap (λ (xs : List ℕ). n ∷ xs) (places_from-repeated_true (n + 1) k)
 
-pub places_from-replicate_false : (n k : ℕ) → places_from n (repeated k false) ≡ []
+pub places_from-repeated_false : (n k : ℕ) → places_from n (repeated k false) ≡ []
 unfolding repeated
-places_from-replicate_false n zero = refl
-places_from-replicate_false n (suc k) = places_from-replicate_false (n + 1) k
+places_from-repeated_false n zero = refl
+places_from-repeated_false n (suc k) = places_from-repeated_false (n + 1) k
 
-pub count-replicate_true : (k : ℕ) → count (repeated k true) ≡ k
+pub count-repeated_true : (k : ℕ) → count (repeated k true) ≡ k
 unfolding repeated
-count-replicate_true k = ap length (places_from-replicate_true 0 k) ∙ length-range_with_len 0 k
+count-repeated_true k = ap length (places_from-repeated_true 0 k) ∙ length-range_with_len 0 k
 
-pub count-replicate_false : (k : ℕ) → count (repeated k false) ≡ 0
+pub count-repeated_false : (k : ℕ) → count (repeated k false) ≡ 0
 unfolding repeated
-count-replicate_false k = ap length (places_from-replicate_false 0 k)
+count-repeated_false k = ap length (places_from-repeated_false 0 k)
 
 -- true value number n of an all-true list stands at n
-pub positions-replicate_true_at : (k n : ℕ) → n < k → slice_get (positions (repeated k true)) n ≡ Some n
+pub positions-repeated_true_at : (k n : ℕ) → n < k → slice_get (positions (repeated k true)) n ≡ Some n
 unfolding repeated
-positions-replicate_true_at k n h =
-    ap (λ (xs : List ℕ). slice_get xs n) (places_from-replicate_true 0 k)
+positions-repeated_true_at k n h =
+    ap (λ (xs : List ℕ). slice_get xs n) (places_from-repeated_true 0 k)
     ∙ slice_get-get_or (range_with_len 0 k) n 0 (rw (length-range_with_len 0 k) h)
     ∙ ap Some (get_or-range_with_len 0 k n 0 h ∙ zero-add n)
 
@@ -50,15 +53,15 @@ all_false_from_count n (true ∷ m) e = absurd (omega arith)
 all_false_from_count n (false ∷ m) e = ap (λ (xs : List Bool). false ∷ xs) (all_false_from_count (n + 1) m e)
 
 -- a list whose values are each b is so many of b
-pub replicate_from_All : (b : Bool) (m : List Bool) → All (λ v. v ≡ b) m → m ≡ repeated (length m) b
+pub repeated_from_All : (b : Bool) (m : List Bool) → All (λ v. v ≡ b) m → m ≡ repeated (length m) b
 unfolding repeated
-replicate_from_All b m all =
+repeated_from_All b m all =
     ext_get_or b m (repeated (length m) b) (sym (length-replicate (length m) b))
     (λ i h. all i b h ∙ sym (get_or-replicate (length m) i b b h))
 
-pub All-replicate : (b : Bool) (m : List Bool) → m ≡ repeated (length m) b → All (λ v. v ≡ b) m
+pub All-repeated : (b : Bool) (m : List Bool) → m ≡ repeated (length m) b → All (λ v. v ≡ b) m
 unfolding repeated
-All-replicate b m e = λ k d h. ap (λ (xs : List Bool). get_or xs k d) e ∙ get_or-replicate (length m) k b d h
+All-repeated b m e = λ k d h. ap (λ (xs : List Bool). get_or xs k d) e ∙ get_or-replicate (length m) k b d h
 
 -- what the tests of all and of some value say, by the count
 pub list_all-count : (n : ℕ) (m : List Bool) → length (places_from n m) ≡ length m → list_all (λ b. b) m ≡ true
@@ -98,19 +101,48 @@ nil-repeated v = refl
 
 pub ruleset repeated_facts = (length-repeated, slice_get-repeated)
 
--- ---- one more value
+-- ---- joined lists, and one more value
 
-trues-push : (m : List Bool) (v : Bool) → trues (m ++ v ∷ []) ≡ trues m + trues (v ∷ [])
-trues-push [] v = sym (zero-add (trues (v ∷ [])))
-trues-push (true ∷ m) v = omega (arith, trues-push m v)
-trues-push (false ∷ m) v = trues-push m v
+-- of two lists, one after the other
+trues-append : (a b : List Bool) → trues (a ++ b) ≡ trues a + trues b
+trues-append [] b = sym (zero-add (trues b))
+trues-append (true ∷ a) b = omega (arith, trues-append a b)
+trues-append (false ∷ a) b = trues-append a b
+
+pub count-append : (a b : List Bool) → count (a ++ b) ≡ count a + count b
+count-append a b = omega (arith, count-trues (a ++ b), trues-append a b, count-trues a, count-trues b)
 
 pub count-push : (m : List Bool) (v : Bool) → count (m ++ v ∷ []) ≡ count m + trues (v ∷ [])
-count-push m v =
-    count-trues (m ++ v ∷ []) ∙ trues-push m v ∙ ap (λ n. n + trues (v ∷ [])) (sym (count-trues m))
+count-push m v = count-append m (v ∷ []) ∙ ap (λ n. count m + n) (count-trues (v ∷ []))
 
 -- of a part that grows by a value
 pub count-part_more : (m : List Bool) (s i : ℕ) (v : Bool) → s ≤ i → slice_get m i ≡ Some v → count (slice_range m s (i + 1)) ≡ count (slice_range m s i) + trues (v ∷ [])
 count-part_more m s i v ordered e =
     ap count (between_more m s i v ordered (slice_get_within m i v e) ∙ ap (λ (x : Bool). slice_range m s i ++ x ∷ []) (get_or_from_slice_get m i v v e))
     ∙ count-push (slice_range m s i) v
+
+-- ---- what the count says of a list
+
+pub positions-all_true : (n : ℕ) → positions (repeated n true) ≡ range_with_len 0 n
+positions-all_true n = places_from-repeated_true 0 n
+
+pub positions-all_false : (n : ℕ) → positions (repeated n false) ≡ []
+positions-all_false n = places_from-repeated_false 0 n
+
+pub all_true-count : (m : List Bool) → (count m ≡ length m) ↔ All (λ v. v ≡ true) m
+all_true-count m = (
+  λ e. All-repeated true m (all_true_from_count 0 m e),
+  λ all. ap count (repeated_from_All true m all) ∙ count-repeated_true (length m),
+)
+
+pub any_true-count : (m : List Bool) → (0 < count m) ↔ Any (λ v. v ≡ true) m
+any_true-count m = (
+  λ some. Any-from_list_any (λ v. v) m (list_any-count 0 m some),
+  λ any. elim (cases_eq (count m) 0) [
+    | inl none ↦
+        let found : list_any (λ v. v) m ≡ true = list_any-from_Any (λ v. v) m any in
+        let missed : list_any (λ v. v) m ≡ false = list_any-count_zero 0 m none in
+        absurd (false≢true (sym missed ∙ found))
+    | inr some ↦ omega arith
+  ],
+)

@@ -2,7 +2,7 @@
 use Rattle.std.proofs.Common.{◌≡◌, ℕ, zero, suc, ◌&&◌, Bool, true, false, List, [], ◌∷◌, length, get_or, take, map, slice_get, refl, sym, ap, ◌∙◌, arith}
 use Rattle.std.specs.List.{cons_option, filter_map, items_where_true}
 use Rattle.std.proofs.lemmas.List.{get_or-map}
-use Rattle.mask_bits.specs.Laws.{PositionsDetermineList, RankIntersectionIsTheList, RankIntersectionValue, ChoosingTwice, RankIntersectionAssociative, AllTrueLeftUnit, AllTrueRightUnit, RankIntersectionCount, RankIntersectionPosition}
+use Rattle.mask_bits.specs.Laws.{PositionsDetermineList, RankIntersectionIsTheList, RankIntersectionValue, ChoosingTwice, RankIntersectionAssociative, AllTrueLeftUnit, AllTrueRightUnit, RankIntersectionCount, RankIntersectionPosition, FoldingKeepsAStack}
 use Rattle.mask_bits.specs.Positions.{positions, count, true_at, at_places, rank_intersection, chosen}
 use Rattle.mask_bits.proofs.Lists.PlaceLemmas.{positions-true, positions-false, trues, count-trues}
 use Rattle.mask_bits.proofs.Lists.RankLemmas.{narrow, rank_intersection-narrow, positions-fit, at_places-map_suc, at_places-cons_suc, true_at-suc, true_at-zero_suc, length-true_at, rank_intersection-all_true, rank_intersection-by_all_true}
@@ -181,3 +181,9 @@ length_from_list m a b same = ap length same ∙ length-rank_intersection a b
 
 pub places_from_list : (m a b : List Bool) → length b ≡ count a → m ≡ rank_intersection a b → positions m ≡ at_places (positions a) (positions b)
 places_from_list m a b fits same = ap positions same ∙ positions-rank_intersection a b fits
+
+-- ---- stacks
+
+pub folding_keeps_a_stack : FoldingKeepsAStack
+folding_keeps_a_stack a b [] stack = tt
+folding_keeps_a_stack a b (c ∷ ms) stack = (stack.1.0 ∙ sym (rank_intersection_count a b stack.0), stack.1.1)

@@ -2,9 +2,10 @@
 use Rattle.std.proofs.Common.{◌≡◌, ℕ, zero, suc, ◌+◌, ◌<◌, ◌≤◌, Bool, true, false, List, [], ◌∷◌, length, get_or, take, drop, map, Some, slice_get, refl, sym, ap, subst, ◌∙◌, arith, add-one, inl, inr, nat_eq, ◌||◌}
 use Rattle.std.proofs.lemmas.Bool.{cases_order, eq-eqb, ne_eqb}
 use Rattle.std.specs.List.{All}
-use Rattle.std.proofs.lemmas.List.Elements.{All-nil, All-cons, All-weaker, All-map}
+use Rattle.std.proofs.lemmas.List.Elements.{All-nil, All-cons, All-weaker, All-map, All-head, All-tail}
 use Rattle.std.proofs.lemmas.List.{get_or-take, get_or_past, length-take}
 use Rattle.mask_bits.specs.Positions.{places_from, positions, count}
+use Rattle.std.specs.Option.{IfSome}
 
 -- no list has more true values than values
 pub length-places_from : (n : ℕ) (m : List Bool) → length (places_from n m) ≤ length m
@@ -91,3 +92,16 @@ positions-within (true ∷ m) =
     subst (λ (ps : List ℕ). All (λ p. p < suc (length m)) ps) (sym (positions-true m)) (All-cons (λ p. p < suc (length m)) 0 (map suc (positions m)) (omega arith) rest)
 positions-within (false ∷ m) =
     subst (λ (ps : List ℕ). All (λ p. p < suc (length m)) ps) (sym (positions-false m)) (All-map (λ p. p < suc (length m)) suc (positions m) (All-weaker (λ p. p < length m) (λ p. suc p < suc (length m)) (λ p h. omega arith) (positions m) (positions-within m)))
+
+pub count-le-length : (m : List Bool) → count m ≤ length m
+count-le-length m = length-places_from 0 m
+
+-- an entry has what each entry has
+pub IfSome-slice_get : (P : ℕ → Type 0) (xs : List ℕ) (n : ℕ) → All P xs → IfSome (slice_get xs n) P
+IfSome-slice_get P [] n all = tt
+IfSome-slice_get P (x ∷ xs) zero all = All-head P x xs all
+IfSome-slice_get P (x ∷ xs) (suc n) all = IfSome-slice_get P xs n (All-tail P x xs all)
+
+-- true value number n, if there is one, stands within the list
+pub place-within : (m : List Bool) (n : ℕ) → IfSome (slice_get (positions m) n) (λ p. p < length m)
+place-within m n = IfSome-slice_get (λ p. p < length m) (positions m) n (positions-within m)

@@ -114,16 +114,16 @@ unfolding repeated
 narrow-all_true [] = refl
 narrow-all_true (v ∷ b) = ap (λ (xs : List Bool). v ∷ xs) (narrow-all_true b)
 
-trues-replicate_true : (n : ℕ) → trues (repeated n true) ≡ n
+trues-repeated_true : (n : ℕ) → trues (repeated n true) ≡ n
 unfolding repeated
-trues-replicate_true zero = refl
-trues-replicate_true (suc n) = ap suc (trues-replicate_true n)
+trues-repeated_true zero = refl
+trues-repeated_true (suc n) = ap suc (trues-repeated_true n)
 
 pub rank_intersection-all_true : (n : ℕ) (b : List Bool) → length b ≡ n → rank_intersection (repeated n true) b ≡ b
 unfolding repeated
 rank_intersection-all_true n b len =
     let same = ap (λ k. repeated k true) (sym len) in
-    narrows (repeated n true) b (len ∙ sym (trues-replicate_true n)) ∙ ap (λ (xs : List Bool). narrow xs b) same ∙ narrow-all_true b
+    narrows (repeated n true) b (len ∙ sym (trues-repeated_true n)) ∙ ap (λ (xs : List Bool). narrow xs b) same ∙ narrow-all_true b
 
 -- and a right unit
 narrow-by_all_true : (a : List Bool) → narrow a (repeated (trues a) true) ≡ a

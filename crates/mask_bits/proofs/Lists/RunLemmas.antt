@@ -1,23 +1,24 @@
 -- The runs of a list: there is one list of them, and the scan finds it.
-use Rattle.std.proofs.Common.{◌≡◌, ◌≢◌, ℕ, zero, suc, ◌+◌, ◌<◌, ◌≤◌, ◌&&◌, ◌||◌, Bool, true, false, nat_eq, List, [], ◌∷◌, length, get_or, drop, refl, sym, ap, subst, ◌∙◌, inl, inr, arith, add-one}
+use Rattle.std.proofs.Common.{◌≡◌, ◌≢◌, ℕ, zero, suc, ◌+◌, ◌<◌, ◌≤◌, ◌&&◌, ◌||◌, Bool, true, false, nat_eq, List, [], ◌∷◌, length, get_or, drop, refl, sym, ap, subst, ◌∙◌, inl, inr, arith, add-one, if◌then◌else◌}
 use Rattle.std.proofs.lemmas.Bool.{cases_eq, eq-eqb, ne_eqb, eqb-true, eqb-false, le-leb, lt-leb, lt-ltb, le-ltb, and_from, and_left, and_right, or_from, or_left, cond-true, cond-false, cond_both}
 use Rattle.std.specs.Prelude.{nat_le, nat_lt}
 use Rattle.std.specs.List.{All, AllAdjacentBelow, list_any}
 use Rattle.mask_bits.specs.Laws.{RunsExist, RunsAreUnique, RunsAreRanges}
-use Rattle.mask_bits.specs.Runs.{is_inside, AreRuns, with_place, runs_from}
+use Rattle.mask_bits.specs.Runs.{is_inside, AreRuns}
+use Rattle.mask_bits.specs.RunScan.{with_place, runs_from}
 
 -- ---- one range
 
 -- a place from the first on and before the end is inside
-inside : (i : ℕ) (r : ℕ × ℕ) → r.0 ≤ i → i < r.1 → is_inside i r ≡ true
+pub inside : (i : ℕ) (r : ℕ × ℕ) → r.0 ≤ i → i < r.1 → is_inside i r ≡ true
 inside i r low high = and_from (nat_le r.0 i) (nat_lt i r.1) (le-leb r.0 i low) (lt-ltb i r.1 high)
 
 -- a place before the first is not
-inside-before : (i : ℕ) (r : ℕ × ℕ) → i < r.0 → is_inside i r ≡ false
+pub inside-before : (i : ℕ) (r : ℕ × ℕ) → i < r.0 → is_inside i r ≡ false
 inside-before i r h = and_left (nat_le r.0 i) (nat_lt i r.1) (lt-leb r.0 i h)
 
 -- nor is a place past the end
-inside-past : (i : ℕ) (r : ℕ × ℕ) → r.1 ≤ i → is_inside i r ≡ false
+pub inside-past : (i : ℕ) (r : ℕ × ℕ) → r.1 ≤ i → is_inside i r ≡ false
 inside-past i r h = and_right (nat_le r.0 i) (nat_lt i r.1) (le-ltb i r.1 h)
 
 -- ---- ranges that lie apart, by recursion
@@ -306,3 +307,17 @@ runs_from-front n k m within all_true ends =
     let next : suc k ≡ k + 1 = omega arith in
     let ends' : get_or m (suc k) false ≡ false = subst (λ (j : ℕ). get_or m j false ≡ false) (sym next) ends in
     front n k (n + k + 1) m refl within all_true ends' ∙ ap (λ (j : ℕ). (n, n + k + 1) ∷ runs_from (n + k + 1) (drop j m)) next
+
+-- no more runs than values
+length-with_place : (n : ℕ) (rs : List (ℕ × ℕ)) → length (with_place n rs) ≤ suc (length rs)
+length-with_place n [] = omega arith
+length-with_place n (r ∷ rs) =
+    cond_both (nat_eq r.0 (n + 1)) ((n, r.1) ∷ rs) ((n, n + 1) ∷ r ∷ rs) (λ xs. length xs ≤ suc (length (r ∷ rs))) (λ _. omega arith) (λ _. omega arith)
+
+length-runs_from : (n : ℕ) (m : List Bool) → length (runs_from n m) ≤ length m
+length-runs_from n [] = omega arith
+length-runs_from n (true ∷ m) = omega (arith, length-with_place n (runs_from (n + 1) m), length-runs_from (n + 1) m)
+length-runs_from n (false ∷ m) = omega (arith, length-runs_from (n + 1) m)
+
+pub length-AreRuns : (m : List Bool) (rs : List (ℕ × ℕ)) → AreRuns m rs → length rs ≤ length m
+length-AreRuns m rs are = omega (arith, ap length (runs_from-AreRuns m rs are), length-runs_from 0 m)

@@ -3,7 +3,7 @@ use Rattle.std.proofs.Common.{◌≡◌, ℕ, zero, suc, ◌+◌, ◌-◌, ◌<�
 use Rattle.std.proofs.lemmas.Bool.{cases_eq, cases_lt}
 use Rattle.std.proofs.lemmas.List.{drop_more, drop_all, drop-drop, get_or-drop, get_or_past, length-drop}
 use Rattle.mask_bits.specs.Positions.{places_from, IsFirstFrom}
-use Rattle.mask_bits.specs.Runs.{runs_from}
+use Rattle.mask_bits.specs.RunScan.{runs_from}
 use Rattle.mask_bits.proofs.Lists.RunLemmas.{runs_from-front}
 
 -- a function of the rest of a list that passes over a false value passes over k of them

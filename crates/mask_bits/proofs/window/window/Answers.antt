@@ -1,7 +1,8 @@
 use Rattle.std.proofs.Common.{◌/◌, ◌%◌, ◌^◌, take, ap, ◌∙◌}
 use Rattle.std.proofs.lemmas.List.{take_rest}
 use Rattle.std.specs.Int.RustNames.{bit_and}
-use Rattle.mask_bits.specs.Words.{word_bits, number}
+use Rattle.mask_bits.specs.Words.{word_bits}
+use Rattle.mask_bits.specs.Number.{number}
 use Rattle.mask_bits.proofs.WindowLemmas.{word_bits-window}
 use Rattle.mask_bits.proofs.window.window.Goals as goal
 

@@ -1,7 +1,7 @@
 use Rattle.std.proofs.Common.{sym, ap, ◌∙◌, arith}
 use Rattle.std.proofs.lemmas.List.{drop_all}
 use Rattle.mask_bits.specs.Buffer.{values}
-use Rattle.mask_bits.specs.Runs.{runs_from}
+use Rattle.mask_bits.specs.RunScan.{runs_from}
 use Rattle.mask_bits.proofs.Lists.ScanLemmas.{runs_from-first, runs_from-none}
 use Rattle.mask_bits.proofs.YieldLemmas.{MakesProgress-item}
 use Rattle.mask_bits.proofs.slices.SetSlicesIterator.next.Goals as goal

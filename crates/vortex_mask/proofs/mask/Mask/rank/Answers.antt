@@ -4,7 +4,7 @@ use Rattle.std.proofs.lemmas.Option.{slice_get-get_or}
 use Rattle.mask_bits.specs.Buffer.{values}
 use Rattle.vortex_mask.specs.Mask.{truth}
 use Rattle.mask_bits.specs.Positions.{positions, count, repeated}
-use Rattle.mask_bits.proofs.Lists.CountLemmas.{count-replicate_true, count-replicate_false, positions-replicate_true_at}
+use Rattle.mask_bits.proofs.Lists.CountLemmas.{count-repeated_true, count-repeated_false, positions-repeated_true_at}
 use Rattle.vortex_mask.proofs.mask.Mask.rank.Goals as goal
 
 pub returns-in-AllTrue : goal.returns-in-AllTrue
@@ -12,13 +12,13 @@ unfolding repeated
 returns-in-AllTrue c =
     let n = c.args.n in
     let len = c.in-AllTrue.field-0 in
-    let below : n < len = omega (arith, ap (λ m. count (truth m)) c.in-AllTrue.is, count-replicate_true len) in
-    rw c.in-AllTrue.is (positions-replicate_true_at len n below)
+    let below : n < len = omega (arith, ap (λ m. count (truth m)) c.in-AllTrue.is, count-repeated_true len) in
+    rw c.in-AllTrue.is (positions-repeated_true_at len n below)
 
 pub unreachable-requires : goal.unreachable-requires
 unfolding repeated
 unreachable-requires c =
-    omega (arith, ap (λ m. count (truth m)) c.in-AllFalse.is, count-replicate_false c.in-AllFalse.field-0)
+    omega (arith, ap (λ m. count (truth m)) c.in-AllFalse.is, count-repeated_false c.in-AllFalse.field-0)
 
 pub unwrap-requires : goal.unwrap-requires
 unfolding repeated

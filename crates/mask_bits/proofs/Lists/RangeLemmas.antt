@@ -1,0 +1,83 @@
+-- How many places ranges hold.
+use Rattle.std.proofs.Common.{◌≡◌, ℕ, ◌+◌, ◌-◌, ◌<◌, ◌≤◌, ◌||◌, Bool, true, false, List, [], ◌∷◌, length, get_or, drop, slice_range, refl, sym, ap, ◌∙◌, suc, arith, subst}
+use Rattle.std.specs.List.{All, AllAdjacentBelow, list_any, sum_by}
+use Rattle.std.proofs.lemmas.Bool.{or_left}
+use Rattle.std.proofs.lemmas.List.{drop_all, ext_get_or, get_or-replicate, length-replicate}
+use Rattle.std.proofs.lemmas.List.Edits.{length-between, get_or-between}
+use Rattle.std.proofs.lemmas.List.Folds.{drop_split}
+use Rattle.std.proofs.lemmas.List.Sums.{sum_by-cons}
+use Rattle.mask_bits.specs.Laws.{RangesAddUpToTheCount}
+use Rattle.mask_bits.specs.Positions.{count, repeated}
+use Rattle.mask_bits.specs.Runs.{is_inside, AreRanges}
+use Rattle.mask_bits.proofs.Lists.CountLemmas.{count-append, count-repeated_true, count-repeated_false}
+use Rattle.mask_bits.proofs.Lists.RunLemmas.{inside, inside-before, inside-past}
+
+-- a part whose values are all v
+part_of_one : (m : List Bool) (v : Bool) (s e : ℕ) → e ≤ length m → ((i : ℕ) → s ≤ i → i < e → get_or m i false ≡ v) → slice_range m s e ≡ repeated (e - s) v
+unfolding repeated
+part_of_one m v s e within same =
+    let len = length-between m s e within in
+    ext_get_or false (slice_range m s e) (repeated (e - s) v) (len ∙ sym (length-replicate (e - s) v))
+    (λ i h. get_or-between m s e i false (omega (arith, len)) ∙ same (s + i) (omega arith) (omega (arith, len)) ∙ sym (get_or-replicate (e - s) i v false (omega (arith, len))))
+
+-- nonempty ranges from low to high, each after the one before it
+abbrev Ordered : ℕ → ℕ → List (ℕ × ℕ) → Type 0
+Ordered low high [] = low ≤ high
+Ordered low high (r ∷ rs) = (low ≤ r.0) × (r.0 < r.1) × Ordered r.1 high rs
+
+Ordered-top : (low high : ℕ) (rs : List (ℕ × ℕ)) → Ordered low high rs → low ≤ high
+Ordered-top low high [] o = o
+Ordered-top low high (r ∷ rs) o = omega (arith, Ordered-top r.1 high rs o.2)
+
+-- no place below the lower bound is inside
+none_below : (low high i : ℕ) (rs : List (ℕ × ℕ)) → Ordered low high rs → i < low → list_any (is_inside i) rs ≡ false
+none_below low high i [] o h = refl
+none_below low high i (r ∷ rs) o h =
+    ap (λ b. b || list_any (is_inside i) rs) (inside-before i r (omega arith)) ∙ none_below r.1 high i rs o.2 (omega arith)
+
+-- from a place on, the ranges hold as many places as values are true
+from_place : (m : List Bool) (low : ℕ) (rs : List (ℕ × ℕ)) → Ordered low (length m) rs
+    → ((i : ℕ) → low ≤ i → i < length m → get_or m i false ≡ list_any (is_inside i) rs) → sum_by (λ r. r.1 - r.0) rs ≡ count (drop low m)
+from_place m low [] o exact =
+    let part : List Bool = slice_range m low (length m) in
+    let none : count part ≡ 0 = ap count (part_of_one m false low (length m) (omega arith) (λ i from h. exact i from h)) ∙ count-repeated_false (length m - low) in
+    let split : count (drop low m) ≡ count part + count (drop (length m) m) = ap count (drop_split m low (length m) o) ∙ count-append part (drop (length m) m) in
+    let past : count (drop (length m) m) ≡ 0 = ap count (drop_all (length m) m (omega arith)) in
+    omega (arith, none, split, past)
+from_place m low (r ∷ rs) o exact =
+    let top = Ordered-top r.1 (length m) rs o.2 in
+    let gap : count (slice_range m low r.0) ≡ 0
+    = ap count (part_of_one m false low r.0 (omega (arith, o.1, top)) (λ i from h.
+    exact i from (omega (arith, o.1, top)) ∙ none_below r.0 (length m) i (r ∷ rs) (omega arith, o.1, o.2) h))
+    ∙ count-repeated_false (r.0 - low) in
+    let held : count (slice_range m r.0 r.1) ≡ r.1 - r.0
+    = ap count (part_of_one m true r.0 r.1 top (λ i from h.
+    exact i (omega (arith, o.0)) (omega (arith, top)) ∙ or_left (is_inside i r) (list_any (is_inside i) rs) (inside i r from h)))
+    ∙ count-repeated_true (r.1 - r.0) in
+    let rest = from_place m r.1 rs o.2 (λ i from h.
+    exact i (omega (arith, o.0, o.1)) h ∙ ap (λ b. b || list_any (is_inside i) rs) (inside-past i r from)) in
+    let first = ap count (drop_split m low r.0 o.0) ∙ count-append (slice_range m low r.0) (drop r.0 m) in
+    let second = ap count (drop_split m r.0 r.1 (omega (arith, o.1))) ∙ count-append (slice_range m r.0 r.1) (drop r.1 m) in
+    sum_by-cons (λ (s : ℕ × ℕ). s.1 - s.0) r rs ∙ omega (arith, gap, held, rest, first, second)
+
+Ordered-from : (low high : ℕ) (rs : List (ℕ × ℕ)) → low ≤ high → ((k : ℕ) (d : ℕ × ℕ) → k < 1 → k < length rs → low ≤ (get_or rs k d).0)
+    → All (λ r. r.0 < r.1) rs → All (λ r. r.1 ≤ high) rs → AllAdjacentBelow (λ r s. r.1 ≤ s.0) rs (length rs) → Ordered low high rs
+Ordered-from low high [] top first nonempty within ordered = top
+Ordered-from low high (r ∷ rs) top first nonempty within ordered = (
+  first 0 r (omega arith) (omega arith),
+  nonempty 0 r (omega arith),
+  Ordered-from r.1 high rs (within 0 r (omega arith))
+      (λ k d below h.
+      let at_first : k ≡ 0 = omega arith in
+      let past : r.1 ≤ (get_or rs 0 d).0 = ordered 0 d (omega arith) in
+      subst (λ (j : ℕ). r.1 ≤ (get_or rs j d).0) (sym at_first) past)
+      (λ k d h. nonempty (suc k) d (omega arith))
+      (λ k d h. within (suc k) d (omega arith))
+      (λ k d h.
+      let next : suc k + 1 ≡ suc (k + 1) = omega arith in
+      subst (λ (j : ℕ). (get_or rs k d).1 ≤ (get_or (r ∷ rs) j d).0) next (ordered (suc k) d (omega arith))),
+)
+
+pub ranges_add_up_to_the_count : RangesAddUpToTheCount
+ranges_add_up_to_the_count m rs are =
+    from_place m 0 rs (Ordered-from 0 (length m) rs (omega arith) (λ k d first h. omega arith) are.nonempty are.within are.ordered) (λ i from h. are.exact i h)

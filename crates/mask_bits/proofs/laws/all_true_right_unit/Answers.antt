@@ -1,5 +1,0 @@
-use Rattle.mask_bits.proofs.Lists.LawLemmas.{all_true_right_unit}
-use Rattle.mask_bits.proofs.laws.all_true_right_unit.Goals as goal
-
-pub returns : goal.returns
-returns c = record { unit = all_true_right_unit }
