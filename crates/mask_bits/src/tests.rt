@@ -1,184 +1,320 @@
-mod sweep;
-mod uses;
+// How the tests of these crates are written. A test is proved safe before it runs, and what makes that
+// slow is inline asserts and `?` beside living values. So a helper makes one thing and asserts of it,
+// rows go as tuples through one loop over one helper, and a test function holds at most three `?` and
+// no chain of asserts. The sweeps and the callers stand in the crate `uses`.
+ghost use Rattle.std.specs.Prelude.{◌≡◌, ◌<◌, ◌≤◌};
 
-use crate::BitBuffer;
+use crate::{BitBuffer, BitIterator};
 use bytes::Bytes;
 use std::alloc::{AllocError, Global};
 use std::process::Abort;
 use std::test::Fail;
 
-// 13 values, lowest bit first: 1011001110001.
+fn same(rt: &impl Abort, got: usize, want: usize)
+    ensures { got ≡ want }
+{
+    assert!(rt; got == want, "{got} for {want}");
+}
+
+// The buffer's values, by `len` and `value`, are those of a text of `0` and `1`.
+fn lists(rt: &impl Abort, buffer: &BitBuffer, want: &str) {
+    let want = want.as_bytes();
+    same(rt, buffer.len(), want.len());
+    for (i, digit) in want.iter().enumerate() {
+        assert!(rt; buffer.value(i) == (*digit == b'1'), "value {i}");
+    }
+    assert!(rt; buffer.is_empty() == want.is_empty());
+}
+
+// The buffer's true values, by each call that tells their places, are these.
+fn has_places(
+    rt: &impl Abort,
+    alloc: Global,
+    buffer: &BitBuffer,
+    want: &[usize],
+) -> Result<(), AllocError> {
+    let places: Vec<usize> = buffer.set_indices().collect(alloc)?;
+    assert!(rt; places.as_slice() == want);
+    same(rt, buffer.true_count(), want.len());
+    assert!(rt; buffer.last_set_index() == want.last().copied());
+    for n in 0..10 {
+        assert!(rt; buffer.select(n) == want.get(n).copied(), "select {n}");
+    }
+    Ok(())
+}
+
+// The buffer stands at this bit offset of these bytes.
+fn is_backed_by(rt: &impl Abort, buffer: &BitBuffer, offset: usize, bytes: &[u8]) {
+    same(rt, buffer.offset(), offset);
+    assert!(rt; buffer.inner().as_slice() == bytes);
+}
+
+// 13 values, lowest bit first.
 const PATTERN: u32 = 0b1_0001_1100_1101;
 
-const PATTERN_LEN: u32 = 13;
+const PATTERN_TEXT: &str = "1011001110001";
 
-fn expected(alloc: Global) -> Result<Vec<bool>, AllocError> {
-    let mut values = Vec::new(alloc);
-    for i in 0..PATTERN_LEN {
-        values.push((PATTERN >> i) & 1 == 1)?;
-    }
-    Ok(values)
-}
+const PATTERN_PLACES: [usize; 7] = [0, 2, 3, 6, 7, 8, 12];
 
-// The places that hold true, by a plain scan.
-fn places_in(alloc: Global, values: &[bool]) -> Result<Vec<usize>, AllocError> {
-    let mut places = Vec::new(alloc);
-    for (i, value) in values.iter().enumerate() {
-        if *value {
-            places.push(i)?;
-        }
-    }
-    Ok(places)
-}
-
-fn listed(alloc: Global, buffer: &BitBuffer) -> Result<Vec<bool>, AllocError> {
-    let mut values = Vec::new(alloc);
-    for i in 0..buffer.len() {
-        values.push(buffer.value(i))?;
-    }
-    Ok(values)
-}
-
-#[test]
-fn every_offset_reads_its_own_bits(rt: HostRuntime) -> Result<(), Fail> {
-    let alloc = rt.alloc();
-    let values = expected(alloc)?;
-    let places = places_in(alloc, &values)?;
-    for offset in 0..8u32 {
-        for outside in [0u32, u32::MAX] {
-            let inside = ((1 << PATTERN_LEN) - 1) << offset;
-            let word = (outside & !inside) | (PATTERN << offset);
-            let bytes = Bytes::copy_from_slice(alloc, &word.to_le_bytes())?;
-            assert_eq!(rt; bytes.len(), 4);
-            let buffer = BitBuffer::new_with_offset(bytes, offset as usize, PATTERN_LEN as usize);
-            assert_eq!(rt;
-                listed(alloc, &buffer)?.as_slice(),
-                values.as_slice(),
-                "at {offset}"
-            );
-            assert_eq!(rt; buffer.true_count(), places.len());
-            assert_eq!(rt; buffer.offset(), offset as usize);
-            assert_eq!(rt; buffer.inner().as_slice(), word.to_le_bytes().as_slice());
-            let found: Vec<usize> = buffer.set_indices().collect(alloc)?;
-            assert_eq!(rt; found.as_slice(), places.as_slice(), "at {offset}");
-            for n in 0..10 {
-                assert_eq!(rt; buffer.select(n), places.get(n).copied(), "at {offset}");
-            }
-            let copy = buffer.clone()?;
-            assert_eq!(rt; copy.offset(), buffer.offset());
-            assert_eq!(rt; copy.len(), buffer.len());
-            assert_eq!(rt; copy.inner().as_slice(), buffer.inner().as_slice());
-        }
+// The pattern at a bit offset, with those of `outside` for all bits before and after it, and a copy.
+fn pattern_reads(
+    rt: &impl Abort,
+    alloc: Global,
+    offset: u32,
+    outside: u32,
+) -> Result<(), AllocError>
+    requires { offset < 8 }
+{
+    let inside = ((1 << 13) - 1) << offset;
+    let word = (outside & !inside) | (PATTERN << offset);
+    let bytes = Bytes::copy_from_slice(alloc, &word.to_le_bytes())?;
+    same(rt, bytes.len(), 4);
+    let buffer = BitBuffer::new_with_offset(bytes, offset as usize, 13);
+    for read in [&buffer, &buffer.clone()?] {
+        is_backed_by(rt, read, offset as usize, &word.to_le_bytes());
+        lists(rt, read, PATTERN_TEXT);
+        has_places(rt, alloc, read, &PATTERN_PLACES)?;
     }
     Ok(())
 }
 
 #[test]
-fn buffers_are_made(rt: HostRuntime) -> Result<(), Fail> {
-    let alloc = rt.alloc();
-    let bytes = Bytes::copy_from_slice(alloc, &[0b1010_0110])?;
-    assert_eq!(rt; bytes.len(), 1);
-    let buffer = BitBuffer::new(bytes, 3);
-    assert_eq!(rt;
-        listed(alloc, &buffer)?.as_slice(),
-        [false, true, true].as_slice()
-    );
-    assert!(rt; !buffer.is_empty());
+fn every_offset_reads_its_own_bits(rt: HostRuntime) -> Result<(), Fail> {
+    for offset in 0..8u32 {
+        for outside in [0u32, u32::MAX] {
+            pattern_reads(&rt, rt.alloc(), offset, outside)?;
+        }
+    }
+    Ok(())
+}
 
-    // Any order, with a repeat.
-    let buffer = BitBuffer::from_indices(alloc, 12, &[9, 0, 9, 11])?;
-    let found: Vec<usize> = buffer.set_indices().collect(alloc)?;
-    assert_eq!(rt; buffer.len(), 12);
-    assert_eq!(rt; found.as_slice(), [0, 9, 11].as_slice());
+// One byte's bits from `offset` on.
+fn byte_lists(
+    rt: &impl Abort,
+    alloc: Global,
+    byte: u8,
+    offset: usize,
+    want: &str,
+) -> Result<(), AllocError> {
+    let bytes = Bytes::copy_from_slice(alloc, &[byte])?;
+    let len = want.len();
+    assert!(rt; offset <= 8 && len <= 8 && offset + len <= 8 && bytes.len() == 1);
+    lists(rt, &BitBuffer::new_with_offset(bytes, offset, len), want);
+    Ok(())
+}
 
-    let values = expected(alloc)?;
-    let buffer = BitBuffer::from_bools(alloc, values.iter().copied())?;
-    assert_eq!(rt; listed(alloc, &buffer)?.as_slice(), values.as_slice());
+#[test]
+fn bits_of_a_byte(rt: HostRuntime) -> Result<(), Fail> {
+    for (byte, offset, want) in [
+        (0b1010_0110, 0, "011"),
+        (0b1010_0110, 2, "100101"),
+        (0x80, 7, "1"),
+        (0x80, 8, ""),
+    ] {
+        byte_lists(&rt, rt.alloc(), byte, offset, want)?;
+    }
+    Ok(())
+}
 
-    let none = BitBuffer::from_indices(alloc, 0, &[])?;
-    assert!(rt; none.is_empty());
-    assert_eq!(rt; none.select(0), None);
+// From indices in any order, with repeats, and from the values themselves.
+fn is_made_both_ways(
+    rt: &impl Abort,
+    alloc: Global,
+    indices: &[usize],
+    want: &str,
+) -> Result<(), AllocError> {
+    let len = want.len();
+    assert!(rt; indices.iter().all(|i| *i < len));
+    lists(rt, &BitBuffer::from_indices(alloc, len, indices)?, want);
+    let bools = want.as_bytes().iter().map(|digit| *digit == b'1');
+    lists(rt, &BitBuffer::from_bools(alloc, bools)?, want);
+    Ok(())
+}
+
+#[test]
+fn made_from_indices_and_values(rt: HostRuntime) -> Result<(), Fail> {
+    for (indices, want) in [
+        ([9, 0, 9, 11].as_slice(), "100000000101"),
+        ([].as_slice(), ""),
+        ([].as_slice(), "000"),
+        (PATTERN_PLACES.as_slice(), PATTERN_TEXT),
+    ] {
+        is_made_both_ways(&rt, rt.alloc(), indices, want)?;
+    }
+    Ok(())
+}
+
+#[test]
+fn places_of_buffers(rt: HostRuntime) -> Result<(), Fail> {
+    for (len, indices, want) in [
+        (12, [9, 0, 9, 11].as_slice(), [0, 9, 11].as_slice()),
+        (13, [].as_slice(), [].as_slice()),
+        (0, [].as_slice(), [].as_slice()),
+    ] {
+        assert!(rt; indices.iter().all(|i| *i < len));
+        let buffer = BitBuffer::from_indices(rt.alloc(), len, indices)?;
+        has_places(&rt, rt.alloc(), &buffer, want)?;
+    }
     Ok(())
 }
 
 // Bits 2 to 6 of two bytes: 10110.
 fn five_bits(rt: &impl Abort, alloc: Global) -> Result<BitBuffer, AllocError> {
     let bytes = Bytes::copy_from_slice(alloc, &[0xB4, 0xFF])?;
-    assert_eq!(rt; bytes.len(), 2);
+    same(rt, bytes.len(), 2);
     let sixteen = BitBuffer::new(bytes, 16);
-    assert_eq!(rt; sixteen.len(), 16);
+    same(rt, sixteen.len(), 16);
     sixteen.slice(2, 7)
 }
 
-#[test]
-fn a_slice_of_two_bytes(rt: HostRuntime) -> Result<(), Fail> {
-    let alloc = rt.alloc();
-    let s = five_bits(&rt, alloc)?;
-    assert_eq!(rt; s.len(), 5);
-    assert_eq!(rt;
-        (s.offset(), s.inner().as_slice()),
-        (2, [0xB4, 0xFF].as_slice())
-    );
-    let part = s.slice(1, 5)?;
-    assert_eq!(rt; part.offset(), 3);
-    assert_eq!(rt;
-        listed(alloc, &part)?.as_slice(),
-        [false, true, true, false].as_slice()
-    );
-    let none = s.slice(5, 5)?;
-    assert!(rt; none.is_empty());
-    assert_eq!(rt; none.offset(), 7);
-    let bools = [true, false, true, true, false];
-    assert!(rt; s == BitBuffer::from_bools(alloc, bools.iter().copied())?);
-    assert!(rt; s != part);
-    let runs: Vec<(usize, usize)> = s.set_slices().collect(alloc)?;
-    assert_eq!(rt; runs.as_slice(), [(0, 1), (2, 4)].as_slice());
-    assert_eq!(rt; (s.select(2), s.select(3)), (Some(3), None));
-    assert_eq!(rt; s.last_set_index(), Some(3));
-    assert_eq!(rt; s.count_range(1, 3), 1);
-    let chunks = s.chunks();
-    assert_eq!(rt; (chunks.len(), chunks.remainder_len()), (0, 5));
-    assert_eq!(rt; chunks.remainder_bits(), 0b01101);
+fn slice_reads(
+    rt: &impl Abort,
+    alloc: Global,
+    start: usize,
+    end: usize,
+    want: &str,
+) -> Result<(), AllocError>
+    requires ordered { start ≤ end }
+    requires within { end ≤ 5 }
+{
+    let five = five_bits(rt, alloc)?;
+    same(rt, five.len(), 5);
+    let part = five.slice(start, end)?;
+    is_backed_by(rt, &part, start + 2, &[0xB4, 0xFF]);
+    lists(rt, &part, want);
     Ok(())
+}
+
+#[test]
+fn slices_of_two_bytes(rt: HostRuntime) -> Result<(), Fail> {
+    slice_reads(&rt, rt.alloc(), 0, 5, "10110")?;
+    slice_reads(&rt, rt.alloc(), 1, 5, "0110")?;
+    slice_reads(&rt, rt.alloc(), 5, 5, "")?;
+    Ok(())
+}
+
+fn equals_five_bits(
+    rt: &impl Abort,
+    alloc: Global,
+    text: &str,
+    want: bool,
+) -> Result<(), AllocError> {
+    let bools = text.as_bytes().iter().map(|digit| *digit == b'1');
+    assert!(rt;
+        (five_bits(rt, alloc)? == BitBuffer::from_bools(alloc, bools)?) == want,
+        "{text}"
+    );
+    Ok(())
+}
+
+#[test]
+fn equal_where_the_lists_are(rt: HostRuntime) -> Result<(), Fail> {
+    for (text, want) in [
+        ("10110", true),
+        ("10111", false),
+        ("0110", false),
+        ("101100", false),
+    ] {
+        equals_five_bits(&rt, rt.alloc(), text, want)?;
+    }
+    Ok(())
+}
+
+#[test]
+fn runs_and_counts_of_two_bytes(rt: HostRuntime) -> Result<(), Fail> {
+    let five = five_bits(&rt, rt.alloc())?;
+    same(&rt, five.len(), 5);
+    same(&rt, five.count_range(1, 3), 1);
+    has_places(&rt, rt.alloc(), &five, &[0, 2, 3])?;
+    let runs: Vec<(usize, usize)> = five.set_slices().collect(rt.alloc())?;
+    assert!(rt; runs.as_slice() == [(0, 1), (2, 4)].as_slice());
+    Ok(())
+}
+
+// The words of a buffer.
+fn has_words(
+    rt: &impl Abort,
+    alloc: Global,
+    buffer: &BitBuffer,
+    words: &[u64],
+    remainder: (usize, u64),
+) -> Result<(), AllocError> {
+    let chunks = buffer.chunks();
+    let all: Vec<u64> = chunks.iter().collect(alloc)?;
+    assert!(rt; all.as_slice() == words);
+    same(rt, chunks.len(), words.len());
+    for (i, word) in words.iter().enumerate() {
+        assert!(rt; chunks.word(i) == *word);
+    }
+    assert!(rt; (chunks.remainder_len(), chunks.remainder_bits()) == remainder);
+    Ok(())
+}
+
+fn set_words(
+    rt: &impl Abort,
+    alloc: Global,
+    len: usize,
+    words: &[u64],
+    remainder: (usize, u64),
+) -> Result<(), AllocError> {
+    let set = BitBuffer::new_set(alloc, len)?;
+    same(rt, set.true_count(), len);
+    has_words(rt, alloc, &set, words, remainder)
+}
+
+#[test]
+fn words_of_true_values(rt: HostRuntime) -> Result<(), Fail> {
+    for (len, words, remainder) in [
+        (130, [u64::MAX, u64::MAX].as_slice(), (2, 3)),
+        (64, [u64::MAX].as_slice(), (0, 0)),
+        (0, [].as_slice(), (0, 0)),
+    ] {
+        set_words(&rt, rt.alloc(), len, words, remainder)?;
+    }
+    Ok(())
+}
+
+#[test]
+fn words_of_five_bits(rt: HostRuntime) -> Result<(), Fail> {
+    has_words(
+        &rt,
+        rt.alloc(),
+        &five_bits(&rt, rt.alloc())?,
+        &[],
+        (5, 0b01101),
+    )?;
+    Ok(())
+}
+
+#[test]
+fn false_values(rt: HostRuntime) -> Result<(), Fail> {
+    let unset = BitBuffer::new_unset(rt.alloc(), 13)?;
+    lists(&rt, &unset, "0000000000000");
+    has_places(&rt, rt.alloc(), &unset, &[])?;
+    Ok(())
+}
+
+// What an iterator has left, and what it gives next.
+fn has_left(rt: &impl Abort, bits: &mut BitIterator<'_>, left: usize, next: Option<bool>) {
+    assert!(rt; bits.size_hint() == (left, Some(left)));
+    same(rt, bits.len(), left);
+    assert!(rt; bits.next() == next);
 }
 
 #[test]
 fn the_iterator_says_what_is_left(rt: HostRuntime) -> Result<(), Fail> {
-    let s = five_bits(&rt, rt.alloc())?;
-    let mut bits = s.iter();
-    assert_eq!(rt; (bits.len(), bits.size_hint()), (5, (5, Some(5))));
-    assert_eq!(rt; bits.next(), Some(true));
-    assert_eq!(rt; (bits.len(), bits.size_hint()), (4, (4, Some(4))));
-    Ok(())
-}
-
-#[test]
-fn buffers_of_one_value(rt: HostRuntime) -> Result<(), Fail> {
-    let alloc = rt.alloc();
-    let set = BitBuffer::new_set(alloc, 130)?;
-    let chunks = set.chunks();
-    assert_eq!(rt; (set.true_count(), chunks.len()), (130, 2));
-    assert_eq!(rt; (chunks.word(0), chunks.word(1)), (u64::MAX, u64::MAX));
-    assert_eq!(rt; (chunks.remainder_len(), chunks.remainder_bits()), (2, 3));
-    let set = BitBuffer::new_set(alloc, 64)?;
-    let chunks = set.chunks();
-    assert_eq!(rt;
-        (
-            chunks.len(),
-            chunks.remainder_len(),
-            chunks.remainder_bits()
-        ),
-        (1, 0, 0)
-    );
-    let unset = BitBuffer::new_unset(alloc, 13)?;
-    assert_eq!(rt;
-        (unset.len(), unset.true_count(), unset.last_set_index()),
-        (13, 0, None)
-    );
-
-    let bytes = Bytes::copy_from_slice(alloc, &[0x80])?;
-    assert_eq!(rt; bytes.len(), 1);
-    let last = BitBuffer::new_with_offset(bytes, 7, 1);
-    assert_eq!(rt; listed(alloc, &last)?.as_slice(), [true].as_slice());
+    let five = five_bits(&rt, rt.alloc())?;
+    let mut bits = five.iter();
+    for (left, next) in [
+        (5, Some(true)),
+        (4, Some(false)),
+        (3, Some(true)),
+        (2, Some(true)),
+        (1, Some(false)),
+        (0, None),
+        (0, None),
+    ] {
+        has_left(&rt, &mut bits, left, next);
+    }
     Ok(())
 }

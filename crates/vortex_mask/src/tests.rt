@@ -1,47 +1,54 @@
-mod uses;
+// How a test is written stands at the head of the tests of `mask_bits`.
+ghost use Rattle.std.specs.Prelude.{◌≡◌};
 
-ghost use Rattle.std.specs.Prelude.{◌≡◌, IfOk, length};
-ghost use Rattle.vortex_mask.specs.Mask.{truth};
-ghost use Rattle.mask_bits.specs.Positions.{count};
-
-use crate::mask::{AllOr, Mask, MaskError};
+use crate::mask::{AllOr, Mask, MaskError, MaskValues};
 use bytes::Bytes;
-use mask_bits::{BitBuffer, laws};
+use mask_bits::BitBuffer;
 use std::alloc::{AllocError, Global};
 use std::process::Abort;
 use std::test::Fail;
+
+fn same(rt: &impl Abort, got: usize, want: usize)
+    ensures { got ≡ want }
+{
+    assert!(rt; got == want, "{got} for {want}");
+}
 
 // A mask from a text of `0` and `1`.
 fn mask(alloc: Global, text: &str) -> Result<Mask, MaskError> {
     Mask::from_bools(alloc, text.as_bytes().iter().map(|c| *c == b'1'))
 }
 
-fn shown(alloc: Global, mask: &Mask) -> Result<String, AllocError> {
-    let mut text = String::new(alloc);
-    for i in 0..mask.len() {
-        text.push(if mask.value(i) { '1' } else { '0' })?;
+// The mask's values, by `len` and `value`, are those of a text.
+fn lists(rt: &impl Abort, mask: &Mask, want: &str) {
+    let want = want.as_bytes();
+    same(rt, mask.len(), want.len());
+    for (i, digit) in want.iter().enumerate() {
+        assert!(rt; mask.value(i) == (*digit == b'1'), "value {i}");
     }
-    Ok(text)
+    assert!(rt; mask.is_empty() == want.is_empty());
 }
 
-fn variant(mask: &Mask) -> &'static str {
-    match mask {
+fn is_held_as(rt: &impl Abort, mask: &Mask, want: &str) {
+    let variant = match mask {
         Mask::AllTrue(_) => "AllTrue",
         Mask::AllFalse(_) => "AllFalse",
         Mask::Values(_) => "Values",
-    }
+    };
+    assert!(rt; variant == want, "{variant} for {want}");
 }
 
-fn expect_narrowed(
+fn narrows_to(
     rt: &impl Abort,
     alloc: Global,
-    a: &Mask,
-    b: &Mask,
-    want: &str,
+    mask: &Mask,
+    ranks: &Mask,
+    want: (&str, &str),
 ) -> Result<(), MaskError> {
-    assert_eq!(rt; b.len(), a.true_count());
-    let narrowed = a.intersect_by_rank(alloc, b)?;
-    assert_eq!(rt; shown(alloc, &narrowed)?.as_str(), want);
+    same(rt, ranks.len(), mask.true_count());
+    let narrowed = mask.intersect_by_rank(alloc, ranks)?;
+    lists(rt, &narrowed, want.0);
+    is_held_as(rt, &narrowed, want.1);
     Ok(())
 }
 
@@ -49,35 +56,57 @@ fn expect_narrowed(
 fn rank_intersections(rt: HostRuntime) -> Result<(), Fail> {
     let alloc = rt.alloc();
     for (a, b, want) in [
-        ("10011101", "00101", "00001001"),
-        ("1111", "0110", "0110"),
-        ("0110", "11", "0110"),
-        ("0110", "00", "0000"),
-        ("", "", ""),
-        ("000", "", "000"),
+        ("10011101", "00101", ("00001001", "Values")),
+        ("1111", "0110", ("0110", "Values")),
+        ("0110", "11", ("0110", "Values")),
+        ("0110", "00", ("0000", "AllFalse")),
+        ("", "", ("", "AllFalse")),
+        ("000", "", ("000", "AllFalse")),
     ] {
-        expect_narrowed(&rt, alloc, &mask(alloc, a)?, &mask(alloc, b)?, want)?;
+        narrows_to(&rt, alloc, &mask(alloc, a)?, &mask(alloc, b)?, want)?;
     }
+    Ok(())
+}
 
-    // At an odd offset, with set bits past the end.
+#[test]
+fn no_ranks_of_an_all_false_mask(rt: HostRuntime) -> Result<(), Fail> {
+    let (none, ranks) = (Mask::new_false(4), Mask::new_true(0));
+    narrows_to(&rt, rt.alloc(), &none, &ranks, ("0000", "AllFalse"))?;
+    Ok(())
+}
+
+// Bits 2 to 6 of two bytes, with set bits past them: 10110.
+fn ranks_at_an_offset(rt: &impl Abort, alloc: Global) -> Result<Mask, MaskError> {
     let bytes = Bytes::copy_from_slice(alloc, &[0xB4, 0xFF])?;
-    assert_eq!(rt; bytes.len(), 2);
-    let ranks = Mask::from_buffer(alloc, BitBuffer::new_with_offset(bytes, 2, 5))?;
-    assert_eq!(rt; shown(alloc, &ranks)?.as_str(), "10110");
-    expect_narrowed(&rt, alloc, &mask(alloc, "10011101")?, &ranks, "10001100")?;
+    same(rt, bytes.len(), 2);
+    Mask::from_buffer(alloc, BitBuffer::new_with_offset(bytes, 2, 5))
+}
 
-    let none = Mask::new_false(4);
-    let no_ranks = Mask::new_true(0);
-    assert_eq!(rt; no_ranks.len(), none.true_count());
-    let narrowed = none.intersect_by_rank(alloc, &no_ranks)?;
-    assert_eq!(rt; variant(&narrowed), "AllFalse");
-    assert_eq!(rt; narrowed.len(), 4);
+#[test]
+fn ranks_at_an_odd_offset(rt: HostRuntime) -> Result<(), Fail> {
+    let ranks = ranks_at_an_offset(&rt, rt.alloc())?;
+    lists(&rt, &ranks, "10110");
+    let mask = mask(rt.alloc(), "10011101")?;
+    narrows_to(&rt, rt.alloc(), &mask, &ranks, ("10001100", "Values"))?;
+    Ok(())
+}
+
+fn is_made_and_copied_as(
+    rt: &impl Abort,
+    alloc: Global,
+    text: &str,
+    want: &str,
+) -> Result<(), MaskError> {
+    let made = mask(alloc, text)?;
+    for mask in [&made, &made.clone()?] {
+        is_held_as(rt, mask, want);
+        lists(rt, mask, text);
+    }
     Ok(())
 }
 
 #[test]
 fn one_variant_for_each_list(rt: HostRuntime) -> Result<(), Fail> {
-    let alloc = rt.alloc();
     for (text, want) in [
         ("", "AllFalse"),
         ("0", "AllFalse"),
@@ -87,118 +116,127 @@ fn one_variant_for_each_list(rt: HostRuntime) -> Result<(), Fail> {
         ("111111111", "AllTrue"),
         ("111111110", "Values"),
     ] {
-        let made = mask(alloc, text)?;
-        assert_eq!(rt; variant(&made), want, "{text}");
-        assert_eq!(rt; variant(&made.clone()?), want, "{text}");
-        assert_eq!(rt; shown(alloc, &made.clone()?)?.as_str(), text);
+        is_made_and_copied_as(&rt, rt.alloc(), text, want)?;
     }
-    assert_eq!(rt; variant(&Mask::new(3, true)), "AllTrue");
-    assert_eq!(rt; variant(&Mask::new(3, false)), "AllFalse");
-    assert_eq!(rt; variant(&Mask::default()), "AllTrue");
-    assert!(rt; Mask::default().is_empty());
     Ok(())
 }
 
 #[test]
-fn what_a_mask_holds(rt: HostRuntime) -> Result<(), Fail> {
-    let alloc = rt.alloc();
-    let some = mask(alloc, "0110100")?;
-    assert_eq!(rt;
-        (some.len(), some.true_count(), some.false_count()),
-        (7, 3, 4)
-    );
-    assert!(rt; !some.is_empty() && !some.all_true() && !some.all_false());
-    assert_eq!(rt; some.rank(2), 4);
-    assert!(rt; matches!(some.bit_buffer(), AllOr::Some(_)));
-    match some.values() {
-        Some(values) => {
-            assert_eq!(rt; (values.len(), values.true_count()), (7, 3));
-            assert!(rt; !values.is_empty() && values.value(1) && !values.value(0));
-            assert_eq!(rt; values.bit_buffer().select(0), Some(1));
-        }
+fn variants_of_constructors(rt: HostRuntime) {
+    for (made, want) in [
+        (Mask::new(3, true), ("111", "AllTrue")),
+        (Mask::new(3, false), ("000", "AllFalse")),
+        (Mask::default(), ("", "AllTrue")),
+    ] {
+        lists(&rt, &made, want.0);
+        is_held_as(&rt, &made, want.1);
+    }
+}
+
+// The counts of a mask, what follows from them, and how `bit_buffer` and `values` show it.
+fn counts(rt: &impl Abort, mask: &Mask, len: usize, true_count: usize) {
+    same(rt, mask.len(), len);
+    same(rt, mask.true_count(), true_count);
+    same(rt, mask.false_count(), len.saturating_sub(true_count));
+    assert!(rt; mask.is_empty() == (len == 0));
+    assert!(rt; mask.all_true() == (true_count == len));
+    assert!(rt; mask.all_false() == (true_count == 0));
+}
+
+fn shows(rt: &impl Abort, mask: &Mask, want: &str) {
+    let shown = match mask.bit_buffer() {
+        AllOr::All => "All",
+        AllOr::None => "None",
+        AllOr::Some(_) => "Some",
+    };
+    assert!(rt; shown == want, "{shown} for {want}");
+    assert!(rt; mask.values().is_some() == (want == "Some"));
+}
+
+fn ranks(rt: &impl Abort, mask: &Mask, n: usize, want: usize) {
+    assert!(rt; n < mask.true_count());
+    same(rt, mask.rank(n), want);
+}
+
+#[test]
+fn what_a_mixed_mask_holds(rt: HostRuntime) -> Result<(), Fail> {
+    let mixed = mask(rt.alloc(), "0110100")?;
+    counts(&rt, &mixed, 7, 3);
+    shows(&rt, &mixed, "Some");
+    for (n, place) in [(0, 1), (1, 2), (2, 4)] {
+        ranks(&rt, &mixed, n, place);
+    }
+    Ok(())
+}
+
+#[test]
+fn what_a_mask_of_one_value_holds(rt: HostRuntime) {
+    for (mask, (len, true_count), shown) in [
+        (Mask::new_true(usize::MAX), (usize::MAX, usize::MAX), "All"),
+        (Mask::new_false(5), (5, 0), "None"),
+        (Mask::new_true(0), (0, 0), "All"),
+        (Mask::new_false(0), (0, 0), "None"),
+    ] {
+        counts(&rt, &mask, len, true_count);
+        shows(&rt, &mask, shown);
+    }
+    let all = Mask::new_true(usize::MAX);
+    ranks(&rt, &all, usize::MAX - 1, usize::MAX - 1);
+}
+
+// The values inside a mask of 0110100.
+fn holds(rt: &impl Abort, values: &MaskValues) {
+    same(rt, values.len(), 7);
+    same(rt, values.true_count(), 3);
+    assert!(rt; !values.is_empty());
+    assert!(rt; values.value(1) && !values.value(0));
+    assert!(rt; values.bit_buffer().select(0) == Some(1));
+}
+
+#[test]
+fn what_the_values_of_a_mask_hold(rt: HostRuntime) -> Result<(), Fail> {
+    match mask(rt.alloc(), "0110100")?.values() {
+        Some(values) => holds(&rt, values),
         None => assert!(rt; false, "these values are mixed"),
     }
-
-    let all = Mask::new_true(usize::MAX);
-    assert!(rt; all.all_true() && !all.all_false());
-    assert_eq!(rt; all.true_count(), usize::MAX);
-    assert_eq!(rt; all.rank(usize::MAX - 1), usize::MAX - 1);
-    assert!(rt; matches!(all.bit_buffer(), AllOr::All));
-    let none = Mask::new_false(5);
-    assert!(rt; none.all_false() && !none.all_true() && none.values().is_none());
-    assert!(rt; matches!(none.bit_buffer(), AllOr::None));
-    let empty = Mask::new_true(0);
-    assert!(rt; empty.all_true() && empty.all_false());
     Ok(())
 }
 
 #[test]
 fn texts_of_faults(rt: HostRuntime) -> Result<(), Fail> {
     let text = format!(in rt.alloc(); "{}", MaskError::Memory(AllocError))?;
-    assert_eq!(rt; text.as_str(), "out of memory");
+    assert!(rt; text.as_str() == "out of memory");
     Ok(())
 }
 
-// Chooses rows by the rank intersection of two masks, and by one mask after the other.
-fn chosen_both_ways<T: Copy>(
+fn chooses(
+    rt: &impl Abort,
     alloc: Global,
-    rows: &[T],
-    a: &Mask,
-    b: &Mask,
-) -> Result<(Vec<T>, Vec<T>), MaskError>
-    requires rows { length rows.now ≡ length (truth a.now) }
-    requires ranks { length (truth b.now) ≡ count (truth a.now) }
-    ensures same { IfOk result (λ both. both.0.items ≡ both.1.items) }
-{
-    laws::choosing_twice::<T>();
-    let at_once = a.intersect_by_rank(alloc, b)?.choose(alloc, rows)?;
-    let first = a.choose(alloc, rows)?;
-    let in_turn = b.choose(alloc, &first)?;
-    Ok((at_once, in_turn))
+    mask: &Mask,
+    rows: &[u32],
+    want: &[u32],
+) -> Result<(), MaskError> {
+    same(rt, rows.len(), mask.len());
+    let chosen = mask.choose(alloc, rows)?;
+    assert!(rt; chosen.as_slice() == want);
+    Ok(())
 }
 
 #[test]
 fn chosen_rows(rt: HostRuntime) -> Result<(), Fail> {
     let alloc = rt.alloc();
-    let a = mask(alloc, "10011101")?;
-    let b = mask(alloc, "00101")?;
-    let rows = [10, 11, 12, 13, 14, 15, 16, 17];
-    assert_eq!(rt; (rows.len(), b.len()), (a.len(), a.true_count()));
-    let (at_once, in_turn) = chosen_both_ways(alloc, &rows, &a, &b)?;
-    assert_eq!(rt; at_once.as_slice(), [14, 17].as_slice());
-    assert_eq!(rt; in_turn.as_slice(), [14, 17].as_slice());
-    let first = a.choose(alloc, &rows)?;
-    assert_eq!(rt; first.as_slice(), [10, 13, 14, 15, 17].as_slice());
-
-    for (made, rows, want) in [
-        (mask(alloc, "000")?, [1, 2, 3].as_slice(), [].as_slice()),
+    for (text, rows, want) in [
         (
-            Mask::new_true(3),
-            [7, 7, 8].as_slice(),
-            [7, 7, 8].as_slice(),
+            "10011101",
+            [10, 11, 12, 13, 14, 15, 16, 17].as_slice(),
+            [10, 13, 14, 15, 17].as_slice(),
         ),
-        (Mask::new_false(0), [].as_slice(), [].as_slice()),
+        ("000", [1, 2, 3].as_slice(), [].as_slice()),
+        ("111", [7, 7, 8].as_slice(), [7, 7, 8].as_slice()),
+        ("", [].as_slice(), [].as_slice()),
     ] {
-        assert_eq!(rt; rows.len(), made.len());
-        assert_eq!(rt; made.choose(alloc, rows)?.as_slice(), want);
+        chooses(&rt, alloc, &mask(alloc, text)?, rows, want)?;
     }
-    Ok(())
-}
-
-#[test]
-fn stacked_masks_in_either_grouping(rt: HostRuntime) -> Result<(), Fail> {
-    let alloc = rt.alloc();
-    let a = mask(alloc, "10011101")?;
-    let b = mask(alloc, "00101")?;
-    let c = mask(alloc, "10")?;
-    assert_eq!(rt; (b.len(), c.len()), (a.true_count(), b.true_count()));
-    let left = a.intersect_by_rank(alloc, &b)?;
-    assert_eq!(rt; c.len(), left.true_count());
-    let from_left = left.intersect_by_rank(alloc, &c)?;
-    let right = b.intersect_by_rank(alloc, &c)?;
-    assert_eq!(rt; right.len(), a.true_count());
-    let from_right = a.intersect_by_rank(alloc, &right)?;
-    assert_eq!(rt; shown(alloc, &from_left)?.as_str(), "00001000");
-    assert_eq!(rt; shown(alloc, &from_right)?.as_str(), "00001000");
+    chooses(&rt, alloc, &Mask::new_true(3), &[7, 7, 8], &[7, 7, 8])?;
     Ok(())
 }

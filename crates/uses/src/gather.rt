@@ -1,0 +1,31 @@
+//! The rows that a mask chooses, by its variant and the places of its true values.
+ghost use Rattle.std.specs.Prelude.{◌≡◌, IfOk, length};
+ghost use Rattle.mask_bits.specs.Buffer.{values};
+ghost use Rattle.mask_bits.specs.Positions.{chosen};
+ghost use Rattle.vortex_mask.specs.Mask.{truth};
+
+use mask_bits::BitBuffer;
+use std::alloc::{AllocError, Global};
+use vortex_mask::mask::{AllOr, Mask};
+
+/// The rows at the true places: a copy of all, none, or one read at each place.
+pub fn gathered<T: Copy>(alloc: Global, rows: &[T], mask: &Mask) -> Result<Vec<T>, AllocError>
+    requires { length rows.now ≡ length (truth mask.now) }
+    ensures { IfOk result (λ v. v.items ≡ chosen rows.now (truth mask.now)) }
+{
+    match mask.bit_buffer() {
+        AllOr::All => Vec::from_slice(alloc, rows),
+        AllOr::None => Ok(Vec::new(alloc)),
+        AllOr::Some(buffer) => at_places(alloc, rows, buffer),
+    }
+}
+
+fn at_places<T: Copy>(alloc: Global, rows: &[T], buffer: &BitBuffer) -> Result<Vec<T>, AllocError>
+    requires { length rows.now ≡ length (values buffer.now) }
+    ensures { IfOk result (λ v. v.items ≡ chosen rows.now (values buffer.now)) }
+{
+    buffer
+        .set_indices()
+        .filter_map(|place| rows.get(place).copied())
+        .collect(alloc)
+}

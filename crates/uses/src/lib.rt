@@ -1,0 +1,13 @@
+//! Callers of `vortex_mask` and `mask_bits` as their readers write them, on public contracts alone: no
+//! caller has a proof file, but for the invariant of its loop.
+#![tactic(auto)]
+
+pub mod columns;
+pub mod estimates;
+pub mod gather;
+pub mod pages;
+pub mod row_groups;
+pub mod stacks;
+#[cfg(test)]
+mod tests;
+pub mod words;

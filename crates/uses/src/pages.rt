@@ -1,0 +1,36 @@
+//! Which rows of a page are valid, by the bits of a column's validity.
+ghost use Rattle.std.specs.Prelude.{ℕ, ◌≡◌, ◌<◌, ◌≤◌, true, false, IfOk, IfSome, IfNone, length, slice_index_or, slice_range};
+ghost use Rattle.mask_bits.specs.Buffer.{values};
+ghost use Rattle.mask_bits.specs.Positions.{positions, count, IsFirstFrom};
+
+use mask_bits::BitBuffer;
+use std::alloc::{AllocError, Global};
+
+/// The rows that are valid.
+pub fn valid_rows(alloc: Global, validity: &BitBuffer) -> Result<Vec<usize>, AllocError>
+    ensures { IfOk result (λ rows. rows.items ≡ positions (values validity.now)) }
+{
+    validity.set_indices().collect(alloc)
+}
+
+/// How many rows of the page from `start` to `end` are valid.
+pub fn valid_in_page(validity: &BitBuffer, start: usize, end: usize) -> usize
+    requires ordered { start ≤ end }
+    requires within { end ≤ length (values validity.now) }
+    ensures { result ≡ count (slice_range (values validity.now) start end) }
+{
+    validity.count_range(start, end)
+}
+
+/// The first row of the page from `start` to `end` that is not valid, if there is one.
+pub fn first_invalid(validity: &BitBuffer, start: usize, end: usize) -> Option<usize>
+    requires ordered { start ≤ end }
+    requires within { end ≤ length (values validity.now) }
+    ensures in_page { IfSome result (λ row. row < end) }
+    ensures first { IfSome result (λ row. IsFirstFrom (values validity.now) start false row) }
+    ensures none { IfNone result ((row : ℕ) → start ≤ row → row < end
+        → slice_index_or (values validity.now) row false ≡ true) }
+{
+    let row = validity.first_from(start, false);
+    if row < end { Some(row) } else { None }
+}

@@ -1,0 +1,47 @@
+ghost use Rattle.std.specs.Prelude.{◌≡◌, IsOk, IfOk, length, vec_len};
+ghost use Rattle.mask_bits.specs.Buffer.{values};
+ghost use Rattle.vortex_mask.specs.Mask.{truth, variant, all_false};
+ghost use Rattle.mask_bits.specs.Positions.{count, chosen};
+
+use crate::mask::{Mask, MaskError};
+use mask_bits::BitBuffer;
+use std::alloc::{AllocError, Global};
+
+impl Mask {
+    /// The rows at the true places, in their order.
+    pub fn choose<T: Copy>(&self, alloc: Global, rows: &[T]) -> Result<Vec<T>, MaskError>
+        requires { length rows.now ≡ length (truth self.now) }
+        ensures rows { IfOk result (λ v. v.items ≡ chosen rows.now (truth self.now)) }
+        ensures len { IfOk result (λ v. vec_len v ≡ count (truth self.now)) }
+
+        // Where no row is chosen, no memory is needed.
+        ensures none { variant self.now ≡ all_false → IsOk result }
+    {
+        self.rows_chosen(alloc, rows)
+    }
+
+    // The rows at the true places. How many they are follows.
+    fn rows_chosen<T: Copy>(&self, alloc: Global, rows: &[T]) -> Result<Vec<T>, MaskError>
+        requires { length rows.now ≡ length (truth self.now) }
+        ensures rows { IfOk result (λ v. v.items ≡ chosen rows.now (truth self.now)) }
+        ensures none { variant self.now ≡ all_false → IsOk result }
+    {
+        match self {
+            Mask::AllTrue(_) => Ok(Vec::from_slice(alloc, rows)?),
+            Mask::AllFalse(_) => Ok(Vec::new(alloc)),
+            Mask::Values(values) => Ok(rows_at(alloc, rows, values.bit_buffer())?),
+        }
+    }
+}
+
+// The rows at the true places of a buffer, in their order.
+fn rows_at<T: Copy>(alloc: Global, rows: &[T], buffer: &BitBuffer) -> Result<Vec<T>, AllocError>
+    requires { length rows.now ≡ length (values buffer.now) }
+    ensures { IfOk result (λ v. v.items ≡ chosen rows.now (values buffer.now)) }
+{
+    let mut at_places = Vec::new(alloc);
+    for place in buffer.set_indices() {
+        at_places.push(rows[place])?;
+    }
+    Ok(at_places)
+}
