@@ -84,7 +84,7 @@ impl Mask {
         if true_count == len {
             return Ok(Mask::AllTrue(len));
         }
-        Ok(Mask::Values(Rc::new(alloc, MaskValues::new(buffer, true_count))?))
+        Ok(Mask::Values(Rc::new(alloc, MaskValues::new(buffer, true_count, None, None))?))
     }
 
     /// The values that an iterator yields, in their order. No values give `AllFalse(0)`.
