@@ -1,6 +1,7 @@
 -- Lemmas. Crates above may cite those of `Lists`, and no others.
 mod BitLemmas
 mod BufferLemmas
+mod CombineLemmas
 mod Examples
 pub mod Lists
 mod NumberLemmas
