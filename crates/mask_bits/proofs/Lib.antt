@@ -2,6 +2,7 @@
 mod BitLemmas
 mod BufferLemmas
 mod CombineLemmas
+mod EqLemmas
 mod Examples
 pub mod Lists
 mod NumberLemmas
