@@ -11,7 +11,7 @@ use crate::readers::{Anywhere, Neighbors, ReadWord, Whole};
 use crate::words::set_word;
 
 /// An operation on truth values, done on 64 at once.
-pub(crate) trait BitOp {
+pub trait BitOp {
     ghost use Rattle.std.specs.Prelude.{Bool};
 
     ghost of_bits: { Bool → Bool → Bool };
@@ -20,18 +20,21 @@ pub(crate) trait BitOp {
         ensures { word_bits result ≡ combined of_bits (word_bits x) (word_bits y) };
 }
 
+/// True in both.
 #[derive(Drop)]
-pub(crate) struct And;
+pub struct And;
 
+/// True in one or in both.
 #[derive(Drop)]
-pub(crate) struct Or;
+pub struct Or;
 
+/// True in the first, and not in the second.
 #[derive(Drop)]
-pub(crate) struct AndNot;
+pub struct AndNot;
 
 /// Turns the first, and takes no account of the second.
 #[derive(Drop)]
-pub(crate) struct Not;
+pub struct Not;
 
 impl BitOp for And {
     ghost of_bits = { λ x y. x && y };
@@ -72,7 +75,7 @@ impl BitOp for Not {
 /// Writes the list that `C` makes of the `len` bits of `a` from bit `a_offset` on and of those of
 /// `b` from bit `b_offset` on, value by value, to the front of `out`, which is room of whole words.
 /// The bits of `out` past the list have no meaning.
-pub(crate) fn combine<C: BitOp>(
+pub fn combine<C: BitOp>(
     a: &[u8],
     a_offset: usize,
     b: &[u8],

@@ -60,6 +60,9 @@ fn same_inner(a: &[u8], a_low: u32, b: &[u8], b_low: u32, words: usize) -> bool
     }
 }
 
+// How many words are compared before an early return.
+const BLOCK: usize = 32;
+
 // Whether words `from` to `to` are the same, where those before are.
 fn agree<R: ReadWord>(a: &[u8], a_low: u32, b: &[u8], b_low: u32, from: usize, to: usize) -> bool
     requires reads_a { (i : ℕ) → i < to → R.can_read a.now a_low i }
@@ -68,10 +71,35 @@ fn agree<R: ReadWord>(a: &[u8], a_low: u32, b: &[u8], b_low: u32, from: usize, t
     requires before { AreSameBits a.now a_low b.now b_low (64 * from) }
     ensures { IsTrue result ↔ AreSameBits a.now a_low b.now b_low (64 * to) }
 {
-    for i in from..to {
-        if R::word(a, a_low, i) != R::word(b, b_low, i) {
+    let mut next = from;
+    while next < to {
+        let end = next + (to - next).min(BLOCK);
+        if !agree_block::<R>(a, a_low, b, b_low, next, end) {
             return false;
         }
+        next = end;
     }
     true
+}
+
+// The same with no early return, so that several words are compared at once.
+fn agree_block<R: ReadWord>(
+    a: &[u8],
+    a_low: u32,
+    b: &[u8],
+    b_low: u32,
+    from: usize,
+    to: usize,
+) -> bool
+    requires reads_a { (i : ℕ) → i < to → R.can_read a.now a_low i }
+    requires reads_b { (i : ℕ) → i < to → R.can_read b.now b_low i }
+    requires ordered { from ≤ to }
+    requires before { AreSameBits a.now a_low b.now b_low (64 * from) }
+    ensures { IsTrue result ↔ AreSameBits a.now a_low b.now b_low (64 * to) }
+{
+    let mut same = true;
+    for i in from..to {
+        same &= R::word(a, a_low, i) == R::word(b, b_low, i);
+    }
+    same
 }

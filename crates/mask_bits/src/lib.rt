@@ -5,7 +5,7 @@ mod bitops;
 mod bools;
 mod buffer;
 mod chunks;
-mod combine;
+pub mod combine;
 mod eq;
 mod indices;
 pub mod laws;
