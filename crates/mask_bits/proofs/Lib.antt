@@ -1,7 +1,9 @@
 -- Lemmas. Crates above may cite those of `Lists`, and no others.
 mod BitLemmas
 mod BufferLemmas
+mod BuilderLemmas
 pub mod Lists
 mod NumberLemmas
 mod WindowLemmas
+mod WriteLemmas
 mod YieldLemmas

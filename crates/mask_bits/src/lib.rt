@@ -3,6 +3,7 @@
 
 mod bools;
 mod buffer;
+mod buffer_mut;
 mod chunks;
 mod eq;
 mod indices;
@@ -12,9 +13,11 @@ mod slices;
 #[cfg(test)]
 mod tests;
 pub mod words;
+mod writes;
 
 pub use bools::BitIterator;
 pub use buffer::BitBuffer;
+pub use buffer_mut::BitBufferMut;
 pub use chunks::{BitChunks, Words};
 pub use indices::SetIndices;
 pub use slices::SetSlices;
