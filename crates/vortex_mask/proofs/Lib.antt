@@ -1,3 +1,4 @@
 -- Lemmas.
+mod Examples
 pub mod MaskLemmas
 pub mod ResultLemmas
