@@ -19,7 +19,12 @@ fn is_of_thirds(rt: &impl Abort, buffer: &BitBuffer) {
     same(rt, buffer.len(), LEN);
     same(rt, buffer.true_count(), TRUE_COUNT);
     assert!(rt; buffer.select(10_003) == Some(30_009));
-    assert!(rt; buffer.set_indices().enumerate().all(|(n, place)| place / 3 == n && place % 3 == 0));
+    assert!(rt;
+        buffer
+            .set_indices()
+            .enumerate()
+            .all(|(n, place)| place / 3 == n && place % 3 == 0)
+    );
 }
 
 #[test]
