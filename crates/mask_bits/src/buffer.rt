@@ -1,5 +1,6 @@
 ghost use Rattle.std.specs.Prelude.{◌≡◌, ◌+◌, ◌-◌, ◌*◌, ◌<◌, ◌≤◌, ◌^◌, ◌↔◌, ◌||◌, ℕ, false, true, [], length, vec_len, nat_eq, All, IfOk, IfSome, IsTrue, Some, slice_get, slice_range};
 ghost use Rattle.std.specs.Iterator.{UpTo, Drains};
+ghost use Rattle.std.specs.Iterator.Runs.{WholeRun};
 ghost use Rattle.mask_bits.specs.Buffer.{Packed, IsWithinBytes, values, backing_bit};
 ghost use Rattle.mask_bits.specs.Positions.{positions, count, repeated, true_at, IsFirstFrom};
 ghost use Rattle.mask_bits.specs.Runs.{AreRuns};
@@ -91,7 +92,8 @@ impl BitBuffer {
     ) -> Result<BitBuffer, AllocError>
         requires can { I.can_next bools }
         requires ends { UpTo (I.remaining bools) usize.MAX }
-        ensures { IfOk result (λ b. Drains I.next_gives bools (values b)) }
+        ensures items { IfOk result (λ b. Drains I.next_gives bools (values b)) }
+        ensures runs { IfOk result (λ b. WholeRun I.next_gives bools (λ p. values b ≡ p.items)) }
     {
         let bools: Vec<bool> = bools.collect(alloc)?;
         BitBuffer::from_slice(alloc, &bools)

@@ -1,12 +1,16 @@
 -- The variant that a list may have, by its count.
-use Rattle.std.proofs.Common.{◌≡◌, ℕ, zero, suc, ◌<◌, Bool, true, false, List, [], ◌∷◌, length, refl, sym, ap, ◌∙◌, arith}
+use Rattle.std.proofs.Common.{◌≡◌, ℕ, zero, suc, ◌<◌, Bool, true, false, List, [], ◌∷◌, length, refl, sym, ap, ◌∙◌, arith, inl, inr, ◌⊎◌}
 use Rattle.std.proofs.lemmas.List.{length-replicate}
-use Rattle.vortex_mask.specs.Mask.{truth, variant_and, Variant, all_true, all_false, mixed, fitting_variant}
+use Rattle.vortex_mask.specs.Mask.{truth, variant_and, Variant, all_true, all_false, mixed, fitting_variant, variant, IsUniform}
 use Rattle.mask_bits.specs.Positions.{count, rank_intersection, repeated}
 use Rattle.vortex_mask.specs.declared.mask.Mask.{Mask}
-use Rattle.vortex_mask.specs.declared.mask.Mask.TheVariants.{AllTrue, AllFalse}
-use Rattle.mask_bits.proofs.Lists.RankLemmas.{rank_intersection-all_true, rank_intersection-by_all_true, rank_intersection-all_false, rank_intersection-by_all_false}
-use Rattle.mask_bits.proofs.Lists.CountLemmas.{count-repeated_true, count-repeated_false, list_all-count, list_all-count_less, list_any-count, list_any-count_zero}
+use Rattle.vortex_mask.specs.declared.mask.Mask.TheVariants.{AllTrue, AllFalse, Values}
+use Rattle.mask_bits.proofs.Lists.LawLemmas.{rank_intersection-none}
+use Rattle.mask_bits.proofs.Lists.PlaceLemmas.{count-le-length}
+use Rattle.mask_bits.proofs.Lists.RankLemmas.{rank_intersection-all_true, rank_intersection-by_all_true}
+use Rattle.mask_bits.proofs.Lists.CountLemmas.{count-repeated_true, count-repeated_false, all_true_from_count, all_false_from_count, list_all-count, list_all-count_less, list_any-count, list_any-count_zero}
+use Rattle.std.specs.Prelude.{◌↔◌}
+use Rattle.vortex_mask.specs.Laws.{UniformIsOfOneValue}
 
 pub fitting_variant-all : (empty : Variant) (m : List Bool) → 0 < length m → count m ≡ length m → fitting_variant empty m ≡ all_true
 fitting_variant-all empty [] some e = absurd (omega arith)
@@ -59,21 +63,37 @@ truth-by_all_true_mask a b n is fits =
     sym (ap (rank_intersection (truth a)) list
     ∙ rank_intersection-by_all_true (truth a) n (sym (ap length list ∙ length-replicate n true) ∙ fits))
 
-pub truth-by_all_false_self : (a b : Mask) (n : ℕ) → a ≡ AllFalse n → length (truth b) ≡ count (truth a) → repeated (length (truth a)) false ≡ rank_intersection (truth a) (truth b)
-unfolding repeated
-truth-by_all_false_self a b n is fits =
-    let list = ap truth is in
-    ap (λ k. repeated k false) (ap length list ∙ length-replicate n false)
-    ∙ sym (ap (λ (xs : List Bool). rank_intersection xs (truth b)) list ∙ rank_intersection-all_false n (truth b) (fits ∙ ap count list))
+-- a mask held as all false has no true value
+count-all_false : (m : Mask) → variant m ≡ all_false → count (truth m) ≡ 0
+count-all_false (AllTrue n) is = absurd (cc)
+count-all_false (AllFalse n) is = count-repeated_false n
+count-all_false (Values v) is = absurd (cc)
 
-pub truth-by_all_false_mask : (a b : Mask) (n : ℕ) → b ≡ AllFalse n → length (truth b) ≡ count (truth a) → repeated (length (truth a)) false ≡ rank_intersection (truth a) (truth b)
-unfolding repeated
-truth-by_all_false_mask a b n is fits =
-    let list = ap truth is in
-    sym (ap (rank_intersection (truth a)) list
-    ∙ rank_intersection-by_all_false (truth a) n (sym (ap length list ∙ length-replicate n false) ∙ fits))
+-- an operand that is held so leaves nothing
+pub truth-by_all_false : (a b : Mask) → length (truth b) ≡ count (truth a) → (variant a ≡ all_false) ⊎ (variant b ≡ all_false) → repeated (length (truth a)) false ≡ rank_intersection (truth a) (truth b)
+truth-by_all_false a b fits held =
+    let none : count (truth b) ≡ 0 = elim held [
+      | inl is ↦ omega (arith, count-all_false a is, count-le-length (truth b))
+      | inr is ↦ count-all_false b is
+    ] in
+    sym (rank_intersection-none (truth a) (truth b) fits none)
 
-pub variant_and-all_false_right : (v : Variant) → variant_and v all_false ≡ all_false
-variant_and-all_false_right all_true = refl
-variant_and-all_false_right all_false = refl
-variant_and-all_false_right mixed = refl
+pub variant_and-all_false : (v w : Variant) → (v ≡ all_false) ⊎ (w ≡ all_false) → variant_and v w ≡ all_false
+variant_and-all_false all_true w held = elim held [ inl is ↦ absurd (cc) | inr is ↦ is ]
+variant_and-all_false all_false w held = refl
+variant_and-all_false mixed all_true held = elim held [ inl is ↦ absurd (cc) | inr is ↦ absurd (cc) ]
+variant_and-all_false mixed all_false held = refl
+variant_and-all_false mixed mixed held = elim held [ inl is ↦ absurd (cc) | inr is ↦ absurd (cc) ]
+
+-- a uniform list is of one value
+pub uniform_is_of_one_value : UniformIsOfOneValue
+uniform_is_of_one_value m = (
+  λ uniform. elim uniform [
+    | inl none ↦ inr (all_false_from_count 0 m none)
+    | inr all ↦ inl (all_true_from_count 0 m all)
+  ],
+  λ one. elim one [
+    | inl all ↦ inr (ap count all ∙ count-repeated_true (length m))
+    | inr none ↦ inl (ap count none ∙ count-repeated_false (length m))
+  ],
+)

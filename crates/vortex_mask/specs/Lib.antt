@@ -1,4 +1,5 @@
 pub mod AllOr
+pub mod Laws
 pub mod Mask
 pub mod MaskValues
 pub use Rattle.mask_bits.specs.Buffer

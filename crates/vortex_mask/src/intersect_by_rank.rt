@@ -3,6 +3,7 @@ ghost use Rattle.vortex_mask.specs.Mask.{truth, variant, fitting_variant, varian
 ghost use Rattle.mask_bits.specs.Buffer.{values};
 ghost use Rattle.mask_bits.specs.Positions.{positions, count, at_places, rank_intersection};
 
+use crate::laws;
 use crate::mask::{Mask, MaskError};
 use mask_bits::BitBuffer;
 use std::alloc::{AllocError, Global};
@@ -27,11 +28,30 @@ impl Mask {
         ensures none { (variant self.now ≡ all_false) ⊎ (variant mask.now ≡ all_false)
             → IsOk result }
     {
+        self.narrowed(alloc, mask)
+    }
+
+    // The mask of the one list that is the rank intersection. Its length and true indices follow.
+    fn narrowed(&self, alloc: Global, mask: &Mask) -> Result<Mask, MaskError>
+        requires { length (truth mask.now) ≡ count (truth self.now) }
+        ensures list { IfOk result
+            (λ m. truth m ≡ rank_intersection (truth self.now) (truth mask.now)) }
+        ensures variant { IfOk result (λ m. variant m
+            ≡ fitting_variant (variant_and (variant self.now) (variant mask.now)) (truth m)) }
+        ensures uniform { variant self.now ≢ mixed → variant mask.now ≢ mixed → IsOk result }
+        ensures none { (variant self.now ≡ all_false) ⊎ (variant mask.now ≡ all_false)
+            → IsOk result }
+    {
         match (self, mask) {
-            (Mask::AllTrue(_), _) => mask.clone(),
-            (_, Mask::AllTrue(_)) => self.clone(),
-            (Mask::AllFalse(_), _) => Ok(Mask::new_false(self.len())),
-            (_, Mask::AllFalse(_)) => Ok(Mask::new_false(self.len())),
+            (Mask::AllTrue(_), _) => {
+                laws::one_variant(mask);
+                mask.clone()
+            }
+            (_, Mask::AllTrue(_)) => {
+                laws::one_variant(self);
+                self.clone()
+            }
+            (Mask::AllFalse(_), _) | (_, Mask::AllFalse(_)) => Ok(Mask::new_false(self.len())),
             (Mask::Values(values), Mask::Values(ranks)) => {
                 let buffer = intersect_buffers(alloc, values.bit_buffer(), ranks.bit_buffer())?;
                 Mask::from_buffer(alloc, buffer)

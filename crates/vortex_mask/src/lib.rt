@@ -1,7 +1,11 @@
 //! Masks: lists of truth values that say which rows are chosen, and their rank intersection.
 #![tactic(auto)]
 
+mod choose;
 mod intersect_by_rank;
+pub mod laws;
 pub mod mask;
 #[cfg(test)]
 mod tests;
+
+pub use mask::{AllOr, Mask, MaskError, MaskValues, MaskValuesRef};

@@ -2,15 +2,15 @@
 
 ghost use Rattle.std.specs.Prelude.{◌≡◌, ◌≢◌, ◌+◌, ◌<◌, ◌↔◌, [], true, false, if◌then◌else◌, IsTrue, IsOk, IfOk, Some, length, All, slice_get};
 ghost use Rattle.std.specs.Iterator.{UpTo, Drains};
+ghost use Rattle.std.specs.Iterator.Runs.{WholeRun};
 ghost use Rattle.std.specs.Option.{option_copied};
-ghost use Rattle.vortex_mask.specs.AllOr.{all_or_copied};
+ghost use Rattle.vortex_mask.specs.AllOr.{all_or_copied, IsListOf};
 ghost use Rattle.mask_bits.specs.Buffer.{values};
 ghost use Rattle.vortex_mask.specs.Mask.{truth, variant, fitting_variant, all_true, all_false, mixed, IsUniform, contents, held_buffer};
 ghost use Rattle.mask_bits.specs.Positions.{positions, count};
 ghost use Rattle.vortex_mask.specs.declared.mask.Mask.TheVariants.{AllTrue};
 
 mod all_or;
-mod choose;
 mod error;
 mod values;
 
@@ -92,6 +92,7 @@ impl Mask {
         requires can { I.can_next bools }
         requires ends { UpTo (I.remaining bools) usize.MAX }
         ensures list { IfOk result (λ m. Drains I.next_gives bools (truth m)) }
+        ensures runs { IfOk result (λ m. WholeRun I.next_gives bools (λ p. truth m ≡ p.items)) }
         ensures variant { IfOk result (λ m. variant m ≡ fitting_variant all_false (truth m)) }
     {
         let buffer = BitBuffer::from_bools(alloc, bools)?;
@@ -102,18 +103,13 @@ impl Mask {
     pub fn clone(&self) -> Result<Mask, MaskError>
         ensures list { IfOk result (λ m. truth m ≡ truth self.now) }
         ensures variant { IfOk result (λ m. variant m ≡ variant self.now) }
-        ensures fitting { IfOk result
-            (λ m. variant m ≡ fitting_variant (variant self.now) (truth self.now)) }
         ensures contents { IfOk result (λ m. contents m ≡ contents self.now) }
         ensures uniform { variant self.now ≢ mixed → IsOk result }
     {
         match self {
             Mask::AllTrue(len) => Ok(Mask::AllTrue(*len)),
             Mask::AllFalse(len) => Ok(Mask::AllFalse(*len)),
-            Mask::Values(values) => {
-                prove!(0 < values.true_count() && values.true_count() < values.len());
-                Ok(Mask::Values(values.clone()?))
-            }
+            Mask::Values(values) => Ok(Mask::Values(values.clone()?)),
         }
     }
 }
@@ -185,7 +181,8 @@ impl Mask {
     /// The place of true value number `n`, counted from 0.
     pub fn rank(&self, n: usize) -> usize
         requires { n < count (truth self.now) }
-        ensures { slice_get (positions (truth self.now)) n ≡ Some result }
+        ensures place { slice_get (positions (truth self.now)) n ≡ Some result }
+        ensures within { result < length (truth self.now) }
     {
         match self {
             Mask::AllTrue(_) => n,
@@ -196,7 +193,8 @@ impl Mask {
 
     /// `All`, `None` or the packed values, by variant.
     pub fn bit_buffer(&self) -> AllOr<&BitBuffer>
-        ensures { all_or_copied result ≡ held_buffer self.now }
+        ensures held { all_or_copied result ≡ held_buffer self.now }
+        ensures list { IsListOf result (truth self.now) }
     {
         match self {
             Mask::AllTrue(_) => AllOr::All,

@@ -1,11 +1,12 @@
 -- The laws of rank intersection and of choosing, by recursion on the first list.
-use Rattle.std.proofs.Common.{◌≡◌, ℕ, zero, suc, ◌&&◌, Bool, true, false, List, [], ◌∷◌, length, get_or, take, map, slice_get, refl, sym, ap, ◌∙◌, arith}
+use Rattle.std.proofs.Common.{◌≡◌, ℕ, zero, suc, ◌&&◌, Bool, true, false, List, [], ◌∷◌, length, get_or, take, map, slice_get, refl, sym, ap, ◌∙◌, arith, inl, inr}
 use Rattle.std.specs.List.{cons_option, filter_map, items_where_true}
 use Rattle.std.proofs.lemmas.List.{get_or-map}
 use Rattle.mask_bits.specs.Laws.{PositionsDetermineList, RankIntersectionIsTheList, RankIntersectionValue, ChoosingTwice, RankIntersectionAssociative, AllTrueLeftUnit, AllTrueRightUnit, RankIntersectionCount, RankIntersectionPosition, FoldingKeepsAStack}
-use Rattle.mask_bits.specs.Positions.{positions, count, true_at, at_places, rank_intersection, chosen}
+use Rattle.mask_bits.specs.Positions.{positions, count, true_at, at_places, rank_intersection, chosen, repeated}
 use Rattle.mask_bits.proofs.Lists.PlaceLemmas.{positions-true, positions-false, trues, count-trues}
 use Rattle.mask_bits.proofs.Lists.RankLemmas.{narrow, rank_intersection-narrow, positions-fit, at_places-map_suc, at_places-cons_suc, true_at-suc, true_at-zero_suc, length-true_at, rank_intersection-all_true, rank_intersection-by_all_true}
+use Rattle.mask_bits.proofs.Lists.CountLemmas.{all_false_from_count}
 
 -- ---- a list by its true places
 
@@ -187,3 +188,9 @@ places_from_list m a b fits same = ap positions same ∙ positions-rank_intersec
 pub folding_keeps_a_stack : FoldingKeepsAStack
 folding_keeps_a_stack a b [] stack = tt
 folding_keeps_a_stack a b (c ∷ ms) stack = (stack.1.0 ∙ sym (rank_intersection_count a b stack.0), stack.1.1)
+
+-- where the second chooses nothing, nothing stays
+pub rank_intersection-none : (a b : List Bool) → length b ≡ count a → count b ≡ 0 → rank_intersection a b ≡ repeated (length a) false
+rank_intersection-none a b fits none =
+    all_false_from_count 0 (rank_intersection a b) (rank_intersection_count a b fits ∙ none)
+    ∙ ap (λ n. repeated n false) (length-rank_intersection a b)

@@ -138,28 +138,6 @@ rank_intersection-by_all_true a n fits =
     rank_intersection-narrow a (repeated n true) (length-replicate n true ∙ fits)
     ∙ ap (λ k. narrow a (repeated k true)) (fits ∙ count-trues a) ∙ narrow-by_all_true a
 
--- nothing of an all-false list, and nothing by one
-narrow-all_false : (n : ℕ) (b : List Bool) → narrow (repeated n false) b ≡ repeated n false
-unfolding repeated
-narrow-all_false zero b = refl
-narrow-all_false (suc n) b = ap (λ (xs : List Bool). false ∷ xs) (narrow-all_false n b)
-
-narrow-by_all_false : (a : List Bool) (n : ℕ) → narrow a (repeated n false) ≡ repeated (length a) false
-unfolding repeated
-narrow-by_all_false [] n = refl
-narrow-by_all_false (false ∷ a) n = ap (λ (xs : List Bool). false ∷ xs) (narrow-by_all_false a n)
-narrow-by_all_false (true ∷ a) zero = ap (λ (xs : List Bool). false ∷ xs) (narrow-by_all_false a zero)
-narrow-by_all_false (true ∷ a) (suc n) = ap (λ (xs : List Bool). false ∷ xs) (narrow-by_all_false a n)
-
-pub rank_intersection-all_false : (n : ℕ) (b : List Bool) → length b ≡ count (repeated n false) → rank_intersection (repeated n false) b ≡ repeated n false
-unfolding repeated
-rank_intersection-all_false n b fits = rank_intersection-narrow (repeated n false) b fits ∙ narrow-all_false n b
-
-pub rank_intersection-by_all_false : (a : List Bool) (n : ℕ) → n ≡ count a → rank_intersection a (repeated n false) ≡ repeated (length a) false
-unfolding repeated
-rank_intersection-by_all_false a n fits =
-    rank_intersection-narrow a (repeated n false) (length-replicate n false ∙ fits) ∙ narrow-by_all_false a n
-
 -- ---- bounds and lengths
 
 pub length-true_at : (n : ℕ) (places : List ℕ) → length (true_at n places) ≡ n

@@ -1,37 +1,10 @@
-use Rattle.std.proofs.Common.{length, sym, ap, ◌∙◌, arith}
-use Rattle.mask_bits.specs.Buffer.{values}
+use Rattle.std.proofs.Common.{length, ap, arith}
+use Rattle.std.proofs.lemmas.Result.{IfOk-weaker}
 use Rattle.vortex_mask.specs.Mask.{truth}
-use Rattle.mask_bits.specs.Positions.{chosen}
-use Rattle.mask_bits.proofs.Lists.ChooseLemmas.{chosen-all_true, chosen-all_false}
-use Rattle.mask_bits.proofs.Lists.CountLemmas.{length-repeated}
 use Rattle.mask_bits.proofs.Lists.LawLemmas.{length-chosen}
 use Rattle.vortex_mask.proofs.mask.Mask.choose.Goals as goal
 
-pub returns-in_ok-from_slice-in-AllTrue-clause-rows : goal.returns-in_ok-from_slice-in-AllTrue-clause-rows
-returns-in_ok-from_slice-in-AllTrue-clause-rows g c =
-    let rows = c.args.rows.now in
-    let n = c.in-AllTrue.field-0 in
-    let list = ap truth c.in-AllTrue.is in
-    c.in_ok-from_slice-in-AllTrue.ensures.items
-    ∙ sym (chosen-all_true rows n (c.requires ∙ ap length list ∙ length-repeated n _)) ∙ ap (chosen rows) (sym list)
-
-pub returns-in-AllFalse-clause-rows : goal.returns-in-AllFalse-clause-rows
-returns-in-AllFalse-clause-rows g c =
-    let rows = c.args.rows.now in
-    c.new.ensures.items ∙ sym (ap (chosen rows) (ap truth c.in-AllFalse.is) ∙ chosen-all_false rows c.in-AllFalse.field-0)
-
-pub returns-in_ok-from_slice-in-AllTrue-clause-len : goal.returns-in_ok-from_slice-in-AllTrue-clause-len
-returns-in_ok-from_slice-in-AllTrue-clause-len g c =
-    let rows = ap length (returns-in_ok-from_slice-in-AllTrue-clause-rows g c) in
-    omega (arith, rows, c.in_ok-from_slice-in-AllTrue.field-0.ok.0, length-chosen c.args.rows.now (truth c.args.self.now) c.requires)
-
-pub returns-in-AllFalse-clause-len : goal.returns-in-AllFalse-clause-len
-returns-in-AllFalse-clause-len g c =
-    let rows = ap length (returns-in-AllFalse-clause-rows g c) in
-    omega (arith, rows, c.new.result.ok.0, length-chosen c.args.rows.now (truth c.args.self.now) c.requires)
-
-pub returns-in_ok-rows_at-in-Values-clause-len : goal.returns-in_ok-rows_at-in-Values-clause-len
-returns-in_ok-rows_at-in-Values-clause-len g c =
-    let values_of_self = ap values (c.bit_buffer.ensures.buffer ∙ ap (λ v. v.buffer) c.deref.ensures) ∙ sym (ap truth c.in-Values.is) in
-    let rows = ap length (c.in_ok-rows_at-in-Values.ensures ∙ ap (chosen c.args.rows.now) values_of_self) in
-    omega (arith, rows, c.in_ok-rows_at-in-Values.field-0.ok.0, length-chosen c.args.rows.now (truth c.args.self.now) c.requires)
+pub returns-clause-len : goal.returns-clause-len
+returns-clause-len g c =
+    IfOk-weaker c.rows_chosen.result _ _ (λ v rows.
+    omega (arith, ap length rows, v.ok.0, length-chosen c.args.rows.now (truth c.args.self.now) c.requires)) c.rows_chosen.ensures.rows

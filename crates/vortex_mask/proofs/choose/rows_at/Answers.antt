@@ -6,7 +6,7 @@ use Rattle.mask_bits.specs.Buffer.{values}
 use Rattle.mask_bits.specs.Positions.{positions, chosen}
 use Rattle.mask_bits.proofs.Lists.ChooseLemmas.{chosen-step}
 use Rattle.mask_bits.proofs.Lists.PlaceLemmas.{positions-within}
-use Rattle.vortex_mask.proofs.mask.choose.rows_at.Goals as goal
+use Rattle.vortex_mask.proofs.choose.rows_at.Goals as goal
 
 pub loop-place-init : goal.loop-place-init
 unfolding chosen

@@ -2,7 +2,7 @@ use Rattle.std.proofs.Common.{◌≡◌, ◌<◌, ◌++◌, length, slice_get}
 use Rattle.std.specs.List.{All, filter_map}
 use Rattle.mask_bits.specs.Buffer.{values}
 use Rattle.mask_bits.specs.Positions.{chosen}
-use Rattle.vortex_mask.proofs.mask.choose.rows_at.Given as goal
+use Rattle.vortex_mask.proofs.choose.rows_at.Given as goal
 
 -- the rows so far and those at the places to come are the rows chosen
 abbrev pub invariant-loop-place : goal.invariant-loop-place

@@ -1,6 +1,6 @@
-ghost use Rattle.std.specs.Prelude.{◌≡◌, IfOk, length, vec_len};
+ghost use Rattle.std.specs.Prelude.{◌≡◌, IsOk, IfOk, length, vec_len};
 ghost use Rattle.mask_bits.specs.Buffer.{values};
-ghost use Rattle.vortex_mask.specs.Mask.{truth};
+ghost use Rattle.vortex_mask.specs.Mask.{truth, variant, all_false};
 ghost use Rattle.mask_bits.specs.Positions.{count, chosen};
 
 use crate::mask::{Mask, MaskError};
@@ -13,6 +13,18 @@ impl Mask {
         requires { length rows.now ≡ length (truth self.now) }
         ensures rows { IfOk result (λ v. v.items ≡ chosen rows.now (truth self.now)) }
         ensures len { IfOk result (λ v. vec_len v ≡ count (truth self.now)) }
+
+        // Where no row is chosen, no memory is needed.
+        ensures none { variant self.now ≡ all_false → IsOk result }
+    {
+        self.rows_chosen(alloc, rows)
+    }
+
+    // The rows at the true places. How many they are follows.
+    fn rows_chosen<T: Copy>(&self, alloc: Global, rows: &[T]) -> Result<Vec<T>, MaskError>
+        requires { length rows.now ≡ length (truth self.now) }
+        ensures rows { IfOk result (λ v. v.items ≡ chosen rows.now (truth self.now)) }
+        ensures none { variant self.now ≡ all_false → IsOk result }
     {
         match self {
             Mask::AllTrue(_) => Ok(Vec::from_slice(alloc, rows)?),

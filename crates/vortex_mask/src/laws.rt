@@ -1,0 +1,28 @@
+//! Laws of masks. A call of one of these does nothing when it runs: a caller's proof then knows the
+//! law.
+
+ghost use Rattle.std.specs.Prelude.{◌≡◌};
+ghost use Rattle.vortex_mask.specs.Laws.{UniformIsOfOneValue};
+ghost use Rattle.vortex_mask.specs.Mask.{truth, variant, fitting_variant};
+
+use crate::mask::Mask;
+
+/// A caller may match on a mask: it is held in the one variant that its list may have.
+pub fn one_variant(mask: &Mask)
+    ensures { variant mask.now ≡ fitting_variant (variant mask.now) (truth mask.now) }
+{
+    match mask {
+        Mask::AllTrue(_) => {}
+        Mask::AllFalse(_) => {}
+        Mask::Values(values) => {
+            // some values are true and some are not, as its count tells
+            let _ = values.true_count();
+        }
+    }
+}
+
+/// A list is uniform exactly if it is a number of true values or of false ones.
+#[tactic(auto, using(crate::proofs::MaskLemmas::uniform_is_of_one_value))]
+pub fn uniform_is_of_one_value()
+    ensures { UniformIsOfOneValue }
+{}
