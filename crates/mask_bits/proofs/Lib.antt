@@ -2,6 +2,7 @@
 mod BitLemmas
 mod BufferLemmas
 mod LawRules
+mod Examples
 pub mod Lists
 mod NumberLemmas
 mod WindowLemmas

@@ -1,17 +1,37 @@
 -- Bytes as one number, the first byte lowest, and its bits.
 use Rattle.std.proofs.Common.{◌≡◌, ℕ, zero, suc, ◌+◌, ◌*◌, ◌-◌, ◌/◌, ◌%◌, ◌^◌, ◌<◌, ◌≤◌, List, [], ◌∷◌, ◌++◌, length, get_or, take, drop, replicate, refl, sym, ap, subst, ◌∙◌, inl, inr, arith, lit<}
 use Rattle.std.proofs.Math.Nat.{pow-suc, mul_assoc}
-use Rattle.std.specs.Int.{bit_at, w128, from_le_bytes, sum_through, byte_worth}
+use Rattle.std.specs.Int.{bit_at, w64, w128, from_le_bytes, to_le_bytes, bytes_low_first, byte_at, sum_through, byte_worth}
 use Rattle.std.specs.Int.RustNames.{bit_and}
 use Rattle.std.proofs.lemmas.Bool.{cases_lt}
-use Rattle.std.proofs.lemmas.List.{get_or-drop, get_or-take, get_or_past, length-append, length-drop, length-take, take_all, drop-replicate}
-use Rattle.std.proofs.lemmas.Nat.{shr-shr}
+use Rattle.std.proofs.lemmas.List.{get_or-drop, get_or-take, get_or_past, length-append, length-drop, length-take, take_all, take_rest, drop-replicate}
 use Rattle.std.proofs.lemmas.Nat.Bits.{bit_at-zero, bit_at_cat_low, bit_at_cat_high, bit_at_and, bit_at_ones, bit_at_ones_above, bit_at-lt}
 use Rattle.mask_bits.specs.Number.{number}
+use Rattle.mask_bits.proofs.Lists.ShiftLemmas.{bit_at-shr}
 
 -- each entry is a byte
 abbrev pub AreBytes : List ℕ → Type 0
 AreBytes bytes = (k : ℕ) → get_or bytes k 0 < 256
+
+-- and of the first ones too
+bytes-take : (n : ℕ) (bytes : List ℕ) → AreBytes bytes → AreBytes (take n bytes)
+bytes-take n bytes are k = elim (cases_lt k n) [
+  | inl h ↦ subst (λ (x : ℕ). x < 256) (sym (get_or-take n bytes k 0 h)) (are k)
+  | inr h ↦ subst (λ (x : ℕ). x < 256) (sym (get_or_past (take n bytes) k 0 (omega (arith, length-take n bytes)))) (lit< tt)
+]
+
+-- the bytes of a number
+byte_small : (i n : ℕ) → byte_at i n < 256
+byte_small zero n = omega arith
+byte_small (suc i) n = omega arith
+
+low_bytes : (i k n : ℕ) → AreBytes (bytes_low_first i k n)
+low_bytes i zero n j = lit< tt
+low_bytes i (suc k) n zero = byte_small i n
+low_bytes i (suc k) n (suc j) = low_bytes (suc i) k n j
+
+pub bytes-of_word : (w : ℕ) → AreBytes (to_le_bytes w64 w)
+bytes-of_word w = low_bytes 0 8 w
 
 -- ---- the bits of a number
 
@@ -36,10 +56,6 @@ bit_at-number bytes q are =
     let split : q ≡ 8 * (q / 8) + q % 8 = omega arith in
     ap (bit_at (number bytes)) split ∙ bit_at-number_split bytes (q / 8) (q % 8) are (omega arith)
 
--- a bit of a number that was shifted down
-bit_at-shr : (n r j : ℕ) → bit_at (n / 2 ^ r) j ≡ bit_at n (r + j)
-bit_at-shr n r j = ap (λ x. x % 2) (shr-shr n r j)
-
 -- the low bits of a number, by a mask
 pub bit_at-low_mask : (n k j : ℕ) → j < k → bit_at (bit_and n (2 ^ k - 1)) j ≡ bit_at n j
 bit_at-low_mask n k j h = omega (arith, bit_at_and n (2 ^ k - 1) j, bit_at_ones k j h, bit_at-lt n j)
@@ -54,10 +70,7 @@ bit_at-window bytes p j are below =
     let q : ℕ = p % 8 + j in
     let read : (k : ℕ) → k < 16 → get_or part k 0 ≡ get_or bytes (p / 8 + k) 0
     = λ k h. get_or-take 16 (drop (p / 8) bytes) k 0 h ∙ get_or-drop (p / 8) bytes k 0 in
-    let are_part : AreBytes part = λ k. elim (cases_lt k 16) [
-      | inl h ↦ subst (λ (x : ℕ). x < 256) (sym (read k h)) (are (p / 8 + k))
-      | inr h ↦ subst (λ (x : ℕ). x < 256) (sym (get_or_past part k 0 (omega (arith, length-take 16 (drop (p / 8) bytes))))) (lit< tt)
-    ] in
+    let are_part : AreBytes part = bytes-take 16 (drop (p / 8) bytes) (λ k. subst (λ (x : ℕ). x < 256) (sym (get_or-drop (p / 8) bytes k 0)) (are (p / 8 + k))) in
     let byte : p / 8 + q / 8 ≡ (p + j) / 8 = omega arith in
     let bit : q % 8 ≡ (p + j) % 8 = omega arith in
     bit_at-low_mask (number part / 2 ^ (p % 8)) 64 j below
@@ -95,15 +108,31 @@ number-append_zeros [] ys none = none
 number-append_zeros (b ∷ bs) ys none = ap (λ n. b + 256 * n) (number-append_zeros bs ys none)
 
 -- sixteen bytes that are there
-pub number-chunk : (bytes chunk : List ℕ) → chunk ≡ take 16 bytes → from_le_bytes w128 chunk ≡ number (take 16 bytes)
-number-chunk bytes chunk same =
-    number_of_sixteen chunk ∙ ap number (take_all 16 chunk (omega (arith, ap length same, length-take 16 bytes))) ∙ ap number same
+pub number-chunk : (bytes chunk : List ℕ) (k : ℕ) → chunk ≡ take 16 (take (k + 16 - k) (drop k bytes)) → from_le_bytes w128 chunk ≡ number (take 16 (drop k bytes))
+number-chunk bytes chunk k same =
+    let part : List ℕ = take (k + 16 - k) (drop k bytes) in
+    let len : length part ≤ 16 = omega (arith, length-take (k + 16 - k) (drop k bytes)) in
+    let count : k + 16 - k ≡ 16 = omega arith in
+    let whole : chunk ≡ part = same ∙ take_all 16 part len in
+    number_of_sixteen chunk ∙ ap (λ xs. number (take 16 xs)) whole ∙ ap number (take_all 16 part len)
+    ∙ ap (λ n. number (take n (drop k bytes))) count
 
 -- fewer than sixteen, and zeros after them
-pub number-padded_chunk : (bytes part : List ℕ) → part ≡ bytes → length bytes < 16 → from_le_bytes w128 (part ++ drop (length bytes) (replicate 16 0)) ≡ number (take 16 bytes)
-number-padded_chunk bytes part is short =
-    let zeros : List ℕ = drop (length bytes) (replicate 16 0) in
-    let none : number zeros ≡ 0 = ap number (drop-replicate (length bytes) 16 0) ∙ number_of_zeros (16 - length bytes) in
-    let len : length (part ++ zeros) ≤ 16 = omega (arith, length-append part zeros, ap length is, length-drop {A = ℕ} (length bytes) (replicate 16 0)) in
+pub number-padded_chunk : (bytes part : List ℕ) (k : ℕ) → part ≡ take (length bytes - k) (drop k bytes) → length bytes < k + 16
+    → from_le_bytes w128 (part ++ drop (length (take (length bytes - k) (drop k bytes))) (replicate 16 0)) ≡ number (take 16 (drop k bytes))
+number-padded_chunk bytes part k is short =
+    let rest : List ℕ = take (length bytes - k) (drop k bytes) in
+    let zeros : List ℕ = drop (length rest) (replicate 16 0) in
+    let whole : rest ≡ drop k bytes = take_rest bytes k in
+    let few : length (drop k bytes) ≤ 16 = omega (arith, length-drop k bytes) in
+    let none : number zeros ≡ 0 = ap number (drop-replicate (length rest) 16 0) ∙ number_of_zeros (16 - length rest) in
+    let len : length (part ++ zeros) ≤ 16 = omega (arith, length-append part zeros, ap length is, length-drop {A = ℕ} (length rest) (replicate 16 0), ap length whole) in
     number_of_sixteen (part ++ zeros) ∙ ap number (take_all 16 (part ++ zeros) len)
-    ∙ number-append_zeros part zeros none ∙ ap number (is ∙ sym (take_all 16 bytes (omega arith)))
+    ∙ number-append_zeros part zeros none ∙ ap number (is ∙ whole ∙ sym (take_all 16 (drop k bytes) few))
+
+-- ---- eight bytes read as a number
+
+pub bit_at-chunk : (chunk : List ℕ) (j : ℕ) → AreBytes chunk → j < 64 → bit_at (from_le_bytes w64 chunk) j ≡ bit_at (get_or chunk (j / 8) 0) (j % 8)
+bit_at-chunk chunk j are h =
+    ap (λ n. bit_at n j) (number-sum 7 chunk) ∙ bit_at-number (take 8 chunk) j (bytes-take 8 chunk are)
+    ∙ ap (λ b. bit_at b (j % 8)) (get_or-take 8 chunk (j / 8) 0 (omega arith))

@@ -1,7 +1,8 @@
 -- What holds of all lists of truth values, whatever holds them.
-use Rattle.std.specs.Prelude.{ℕ, ◌+◌, ◌-◌, ◌^◌, ◌≡◌, ◌<◌, ◌≤◌, ◌&&◌, ◌↔◌, Bool, true, false, IsTrue, List, [], ◌∷◌, ◌++◌, length, All, Any, sum_by, count_ones, slice_index, slice_index_or}
+use Rattle.std.specs.Prelude.{ℕ, ◌+◌, ◌-◌, ◌^◌, ◌≡◌, ◌<◌, ◌≤◌, ◌&&◌, ◌↔◌, Bool, true, false, IsTrue, List, [], ◌∷◌, ◌++◌, length, All, Any, sum_by, count_ones, slice_index, slice_index_or, min, slice_range}
 use Rattle.std.specs.List.{range_with_len}
 use Rattle.mask_bits.specs.Buffer.{Packed, values, same_values}
+use Rattle.mask_bits.specs.Lists.{and_of, or_of, not_of, and_not_of, joined, limited}
 use Rattle.mask_bits.specs.Positions.{positions, count, count_below, repeated, at_places, rank_intersection, chosen}
 use Rattle.mask_bits.specs.Runs.{AreRuns, AreRanges}
 use Rattle.mask_bits.specs.Stacks.{IsStack}
@@ -143,3 +144,72 @@ RunsAreRanges = (m : List Bool) (rs : List (ℕ × ℕ)) → AreRuns m rs → Ar
 -- ranges hold as many places as values are true
 abbrev pub RangesAddUpToTheCount : Type 0
 RangesAddUpToTheCount = (m : List Bool) (rs : List (ℕ × ℕ)) → AreRanges m rs → sum_by (λ r. r.1 - r.0) rs ≡ count m
+
+-- ---- value by value
+
+-- the true values of two rank intersections of one mask that both have are those of the values that both ranks have
+abbrev pub RankIntersectionOfAnd : Type 0
+RankIntersectionOfAnd = (a b c : List Bool) → length b ≡ count a → length c ≡ count a
+    → and_of (rank_intersection a b) (rank_intersection a c) ≡ rank_intersection a (and_of b c)
+
+-- a narrowed by what b leaves out is a without what it keeps by b
+abbrev pub RankIntersectionOfNot : Type 0
+RankIntersectionOfNot = (a b : List Bool) → length b ≡ count a
+    → rank_intersection a (not_of b) ≡ and_not_of a (rank_intersection a b)
+
+-- a word on two lists that takes them in either order, and three in either grouping
+pub record IsFreeOfOrder (join : List Bool → List Bool → List Bool) : Type 0 where
+  pub commutes : (a b : List Bool) → join a b ≡ join b a
+  pub regroups : (a b c : List Bool) → join (join a b) c ≡ join a (join b c)
+
+-- a word on two lists that may be brought inside another
+abbrev pub DistributesOver : (List Bool → List Bool → List Bool) → (List Bool → List Bool → List Bool) → Type 0
+DistributesOver join other = (a b c : List Bool) → join a (other b c) ≡ other (join a b) (join a c)
+
+-- a word on two lists that drops what another adds
+abbrev pub Absorbs : (List Bool → List Bool → List Bool) → (List Bool → List Bool → List Bool) → Type 0
+Absorbs join other = (a b : List Bool) → length a ≡ length b → join a (other a b) ≡ a
+
+-- what a list and its turned values are together
+pub record HasComplements : Type 0 where
+  pub none_is_both : (a : List Bool) → and_of a (not_of a) ≡ repeated (length a) false
+  pub each_is_one : (a : List Bool) → or_of a (not_of a) ≡ repeated (length a) true
+  pub twice : (a : List Bool) → not_of (not_of a) ≡ a
+
+-- and-not is `and` with the turned values
+abbrev pub AndNotIsAndOfNot : Type 0
+AndNotIsAndOfNot = (a b : List Bool) → and_not_of a b ≡ and_of a (not_of b)
+
+-- lists of one length give one of that length
+pub record KeepsLength : Type 0 where
+  pub and : (a b : List Bool) → length a ≡ length b → length (and_of a b) ≡ length a
+  pub or : (a b : List Bool) → length a ≡ length b → length (or_of a b) ≡ length a
+  pub and_not : (a b : List Bool) → length a ≡ length b → length (and_not_of a b) ≡ length a
+  pub not : (a : List Bool) → length (not_of a) ≡ length a
+
+-- ---- parts
+
+-- a part of a part is one part, with the starts added
+abbrev pub PartOfPart : Type 0
+PartOfPart = (m : List Bool) (s e t u : ℕ) → u ≤ e - s
+    → slice_range (slice_range m s e) t u ≡ slice_range m (s + t) (s + u)
+
+-- the part of joined lists at the place of one of them is that one
+abbrev pub PartOfJoined : Type 0
+PartOfJoined = (before after : List (List Bool)) (m : List Bool)
+    → slice_range (joined (before ++ m ∷ after)) (length (joined before)) (length (joined before) + length m) ≡ m
+
+-- ---- limits
+
+-- a limit of a limit is the smaller of the two
+abbrev pub LimitOfLimit : Type 0
+LimitOfLimit = (m : List Bool) (k j : ℕ) → limited (limited m k) j ≡ limited m (min k j)
+
+-- a limited list is as long, and has as many true values as the list and the limit both allow
+pub record HasLimitCount : Type 0 where
+  pub len : (m : List Bool) (k : ℕ) → length (limited m k) ≡ length m
+  pub count : (m : List Bool) (k : ℕ) → count (limited m k) ≡ min k (count m)
+
+-- as many true values stand below true value number n as its number says
+abbrev pub CountBelowPosition : Type 0
+CountBelowPosition = (m : List Bool) (n : ℕ) → n < count m → count_below m (slice_index (positions m) n) ≡ n

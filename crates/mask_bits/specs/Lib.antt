@@ -1,6 +1,7 @@
 pub mod Buffer
 pub mod Laws
 pub mod Number
+pub mod Lists
 pub mod Positions
 pub mod RunScan
 pub mod Runs

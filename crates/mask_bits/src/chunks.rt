@@ -3,7 +3,7 @@ ghost use Rattle.std.specs.Iterator.{YieldsFirstBy, item_count};
 ghost use Rattle.mask_bits.specs.Buffer.{IsWithinBytes, values};
 ghost use Rattle.mask_bits.specs.Words.{word_bits, word_part, word_parts, padded_remainder};
 
-use crate::window::window;
+use crate::words::window;
 use std::marker::Model;
 
 /// The values of a buffer in words of 64, the first value lowest.

@@ -3,7 +3,7 @@
 
 #![tactic(auto, using(crate::proofs::LawRules::laws))]
 
-ghost use Rattle.mask_bits.specs.Laws.{PlacesAreWithin, CountIsAtMostLength, CountIsLengthOfAllTrue, CountIsSomeOfAnyTrue, CountOfJoined, LengthOfRepeated, PositionsOfAllTrue, CountOfAllTrue, PositionsOfAllFalse, ChosenByAllTrue, ChosenByAllFalse, CountOfChosen, CountsOfWordsAddUp, SameValuesAreOneList, PositionsDetermineList, RankIntersectionIsTheList, RankIntersectionValue, ChoosingTwice, RankIntersectionAssociative, AllTrueLeftUnit, AllTrueRightUnit, RankIntersectionCount, RankIntersectionPosition, FoldingKeepsAStack, RunsExist, RunsAreUnique, RunsAreRanges, RangesAddUpToTheCount};
+ghost use Rattle.mask_bits.specs.Laws.{PlacesAreWithin, CountIsAtMostLength, CountIsLengthOfAllTrue, CountIsSomeOfAnyTrue, CountOfJoined, LengthOfRepeated, PositionsOfAllTrue, CountOfAllTrue, PositionsOfAllFalse, ChosenByAllTrue, ChosenByAllFalse, CountOfChosen, CountOfWord, CountsOfWordsAddUp, SameValuesAreOneList, PositionsDetermineList, RankIntersectionIsTheList, RankIntersectionValue, ChoosingTwice, RankIntersectionAssociative, AllTrueLeftUnit, AllTrueRightUnit, RankIntersectionCount, RankIntersectionPosition, FoldingKeepsAStack, RunsExist, RunsAreUnique, RunsAreRanges, RangesAddUpToTheCount};
 
 /// A gather may read a row at each true place: it is one of the rows.
 pub fn places_are_within()
@@ -36,6 +36,7 @@ pub fn choosing<T>()
 
 /// A reader may count by words.
 pub fn counts_of_words()
+    ensures word { CountOfWord }
     ensures parts { CountsOfWordsAddUp }
 {}
 
@@ -115,4 +116,93 @@ pub fn runs_are_ranges()
 /// A reader of ranges knows how many rows they hold.
 pub fn ranges_add_up_to_the_count()
     ensures count { RangesAddUpToTheCount }
+{}
+
+ghost use Rattle.mask_bits.specs.Laws.{RankIntersectionOfAnd, RankIntersectionOfNot, IsFreeOfOrder, DistributesOver, Absorbs, HasComplements, AndNotIsAndOfNot, KeepsLength, PartOfPart, PartOfJoined, LimitOfLimit, HasLimitCount, CountBelowPosition};
+ghost use Rattle.mask_bits.specs.Lists.{and_of, or_of};
+
+/// A planner may join two second filters into one before it narrows the first by them.
+#[tactic(auto, using(crate::proofs::Lists::BooleanLemmas::rank_intersection_of_and))]
+pub fn rank_intersection_of_and()
+    ensures both { RankIntersectionOfAnd }
+{}
+
+/// A planner may turn a second filter after it narrowed the first by it.
+#[tactic(auto, using(crate::proofs::Lists::BooleanLemmas::rank_intersection_of_not))]
+pub fn rank_intersection_of_not()
+    ensures turned { RankIntersectionOfNot }
+{}
+
+/// A planner may sort and regroup filters that all have to hold.
+#[tactic(auto, using(crate::proofs::Lists::BooleanLemmas::and_is_free_of_order))]
+pub fn and_is_free_of_order()
+    ensures order { IsFreeOfOrder and_of }
+{}
+
+/// A planner may sort and regroup filters of which one has to hold.
+#[tactic(auto, using(crate::proofs::Lists::BooleanLemmas::or_is_free_of_order))]
+pub fn or_is_free_of_order()
+    ensures order { IsFreeOfOrder or_of }
+{}
+
+/// A planner may bring `and` inside `or`, and `or` inside `and`, and back.
+#[tactic(auto, using(crate::proofs::Lists::BooleanLemmas::and_distributes, crate::proofs::Lists::BooleanLemmas::or_distributes))]
+pub fn and_or_distribute()
+    ensures and { DistributesOver and_of or_of }
+    ensures or { DistributesOver or_of and_of }
+{}
+
+/// A planner may drop what a filter says a second time.
+#[tactic(auto, using(crate::proofs::Lists::BooleanLemmas::and_absorbs_or, crate::proofs::Lists::BooleanLemmas::or_absorbs_and))]
+pub fn and_or_absorb()
+    ensures and { Absorbs and_of or_of }
+    ensures or { Absorbs or_of and_of }
+{}
+
+/// A planner knows what a filter and its opposite choose together, and may turn one twice.
+#[tactic(auto, using(crate::proofs::Lists::BooleanLemmas::complements))]
+pub fn complements()
+    ensures complements { HasComplements }
+{}
+
+/// A planner may take and-not for `and` with the opposite.
+#[tactic(auto, using(crate::proofs::Lists::BooleanLemmas::and_not_is_and_of_not))]
+pub fn and_not_is_and_of_not()
+    ensures same { AndNotIsAndOfNot }
+{}
+
+/// A planner knows the length of what filters of one length make.
+#[tactic(auto, using(crate::proofs::Lists::BooleanLemmas::keeps_length))]
+pub fn keeps_length()
+    ensures lengths { KeepsLength }
+{}
+
+/// A planner may cut once where it would cut a part again.
+#[tactic(auto, using(crate::proofs::Lists::PartLemmas::part_of_part))]
+pub fn part_of_part()
+    ensures once { PartOfPart }
+{}
+
+/// A planner may take a filter for the part that it is of the joined one.
+#[tactic(auto, using(crate::proofs::Lists::PartLemmas::part_of_joined))]
+pub fn part_of_joined()
+    ensures part { PartOfJoined }
+{}
+
+/// A planner may limit once where it would limit again.
+#[tactic(auto, using(crate::proofs::Lists::LimitLemmas::limit_of_limit))]
+pub fn limit_of_limit()
+    ensures once { LimitOfLimit }
+{}
+
+/// A planner knows how many rows a limited filter chooses, and of how many.
+#[tactic(auto, using(crate::proofs::Lists::LimitLemmas::limit_count))]
+pub fn limit_count()
+    ensures count { HasLimitCount }
+{}
+
+/// A planner finds the number of a chosen row by a count of those before it.
+#[tactic(auto, using(crate::proofs::Lists::LimitLemmas::count_below_position))]
+pub fn count_below_position()
+    ensures number { CountBelowPosition }
 {}

@@ -10,7 +10,7 @@ pub mod laws;
 mod slices;
 #[cfg(test)]
 mod tests;
-mod window;
+pub mod words;
 
 pub use bools::BitIterator;
 pub use buffer::BitBuffer;

@@ -1,0 +1,187 @@
+-- What holds of lists combined value by value: the laws of truth values, at each place.
+use Rattle.std.proofs.Common.{◌≡◌, ℕ, zero, suc, ◌<◌, Bool, true, false, not, ◌&&◌, ◌||◌, List, [], ◌∷◌, length, get_or, map, refl, sym, ap, ◌∙◌, arith}
+use Rattle.std.specs.List.{zip}
+use Rattle.mask_bits.specs.Laws.{RankIntersectionOfAnd, RankIntersectionOfNot, IsFreeOfOrder, DistributesOver, Absorbs, HasComplements, AndNotIsAndOfNot, KeepsLength}
+use Rattle.mask_bits.specs.Lists.{combined, and_of, or_of, not_of, and_not_of}
+use Rattle.mask_bits.specs.Positions.{count, rank_intersection, repeated}
+use Rattle.mask_bits.proofs.Lists.PlaceLemmas.{trues, count-trues}
+use Rattle.mask_bits.proofs.Lists.RankLemmas.{narrow, rank_intersection-narrow}
+
+-- ---- truth values
+
+and_commutes : (x y : Bool) → (x && y) ≡ (y && x)
+and_commutes true true = refl
+and_commutes true false = refl
+and_commutes false true = refl
+and_commutes false false = refl
+
+or_commutes : (x y : Bool) → (x || y) ≡ (y || x)
+or_commutes true true = refl
+or_commutes true false = refl
+or_commutes false true = refl
+or_commutes false false = refl
+
+and_regroups : (x y z : Bool) → ((x && y) && z) ≡ (x && (y && z))
+and_regroups true y z = refl
+and_regroups false y z = refl
+
+or_regroups : (x y z : Bool) → ((x || y) || z) ≡ (x || (y || z))
+or_regroups true y z = refl
+or_regroups false y z = refl
+
+and_over_or : (x y z : Bool) → (x && (y || z)) ≡ ((x && y) || (x && z))
+and_over_or true y z = refl
+and_over_or false y z = refl
+
+or_over_and : (x y z : Bool) → (x || (y && z)) ≡ ((x || y) && (x || z))
+or_over_and true y z = refl
+or_over_and false y z = refl
+
+and_absorbs : (x y : Bool) → (x && (x || y)) ≡ x
+and_absorbs true y = refl
+and_absorbs false y = refl
+
+or_absorbs : (x y : Bool) → (x || (x && y)) ≡ x
+or_absorbs true y = refl
+or_absorbs false true = refl
+or_absorbs false false = refl
+
+none_is_both : (x : Bool) → (x && not x) ≡ false
+none_is_both true = refl
+none_is_both false = refl
+
+each_is_one : (x : Bool) → (x || not x) ≡ true
+each_is_one true = refl
+each_is_one false = refl
+
+-- ---- at each place
+
+combined-commutes : (f : Bool → Bool → Bool) → ((x y : Bool) → f x y ≡ f y x) → (a b : List Bool) → combined f a b ≡ combined f b a
+combined-commutes f same [] [] = refl
+combined-commutes f same [] (y ∷ b) = refl
+combined-commutes f same (x ∷ a) [] = refl
+combined-commutes f same (x ∷ a) (y ∷ b) =
+    ap (λ (v : Bool). v ∷ combined f a b) (same x y) ∙ ap (λ (xs : List Bool). f y x ∷ xs) (combined-commutes f same a b)
+
+combined-regroups : (f : Bool → Bool → Bool) → ((x y z : Bool) → f (f x y) z ≡ f x (f y z)) → (a b c : List Bool) → combined f (combined f a b) c ≡ combined f a (combined f b c)
+combined-regroups f same [] b c = refl
+combined-regroups f same (x ∷ a) [] c = refl
+combined-regroups f same (x ∷ a) (y ∷ b) [] = refl
+combined-regroups f same (x ∷ a) (y ∷ b) (z ∷ c) =
+    ap (λ (v : Bool). v ∷ combined f (combined f a b) c) (same x y z) ∙ ap (λ (xs : List Bool). f x (f y z) ∷ xs) (combined-regroups f same a b c)
+
+combined-distributes : (f g : Bool → Bool → Bool) → ((x y z : Bool) → f x (g y z) ≡ g (f x y) (f x z)) → (a b c : List Bool) → combined f a (combined g b c) ≡ combined g (combined f a b) (combined f a c)
+combined-distributes f g same [] b c = refl
+combined-distributes f g same (x ∷ a) [] c = refl
+combined-distributes f g same (x ∷ a) (y ∷ b) [] = refl
+combined-distributes f g same (x ∷ a) (y ∷ b) (z ∷ c) =
+    ap (λ (v : Bool). v ∷ combined f a (combined g b c)) (same x y z) ∙ ap (λ (xs : List Bool). g (f x y) (f x z) ∷ xs) (combined-distributes f g same a b c)
+
+combined-absorbs : (f g : Bool → Bool → Bool) → ((x y : Bool) → f x (g x y) ≡ x) → (a b : List Bool) → length a ≡ length b → combined f a (combined g a b) ≡ a
+combined-absorbs f g same [] b len = refl
+combined-absorbs f g same (x ∷ a) [] len = absurd (omega arith)
+combined-absorbs f g same (x ∷ a) (y ∷ b) len =
+    ap (λ (v : Bool). v ∷ combined f a (combined g a b)) (same x y) ∙ ap (λ (xs : List Bool). x ∷ xs) (combined-absorbs f g same a b (omega arith))
+
+combined-not : (f : Bool → Bool → Bool) (v : Bool) → ((x : Bool) → f x (not x) ≡ v) → (a : List Bool) → combined f a (not_of a) ≡ repeated (length a) v
+unfolding repeated
+combined-not f v same [] = refl
+combined-not f v same (x ∷ a) =
+    ap (λ (w : Bool). w ∷ combined f a (not_of a)) (same x) ∙ ap (λ (xs : List Bool). v ∷ xs) (combined-not f v same a)
+
+pub length-combined : (f : Bool → Bool → Bool) (a b : List Bool) → length a ≡ length b → length (combined f a b) ≡ length a
+length-combined f [] b len = refl
+length-combined f (x ∷ a) [] len = absurd (omega arith)
+length-combined f (x ∷ a) (y ∷ b) len = ap suc (length-combined f a b (omega arith))
+
+pub length-not_of : (a : List Bool) → length (not_of a) ≡ length a
+length-not_of [] = refl
+length-not_of (x ∷ a) = ap suc (length-not_of a)
+
+not_not : (a : List Bool) → not_of (not_of a) ≡ a
+not_not [] = refl
+not_not (true ∷ a) = ap (λ (xs : List Bool). true ∷ xs) (not_not a)
+not_not (false ∷ a) = ap (λ (xs : List Bool). false ∷ xs) (not_not a)
+
+-- the value at a place
+pub get_or-combined : (f : Bool → Bool → Bool) (a b : List Bool) (i : ℕ) (d : Bool) → i < length a → length a ≡ length b → get_or (combined f a b) i d ≡ f (get_or a i d) (get_or b i d)
+get_or-combined f [] b i d h len = absurd (omega arith)
+get_or-combined f (x ∷ a) [] i d h len = absurd (omega arith)
+get_or-combined f (x ∷ a) (y ∷ b) zero d h len = refl
+get_or-combined f (x ∷ a) (y ∷ b) (suc i) d h len = get_or-combined f a b i d (omega arith) (omega arith)
+
+-- ---- the laws
+
+pub and_is_free_of_order : IsFreeOfOrder and_of
+and_is_free_of_order = record {
+  commutes = combined-commutes (λ x y. x && y) and_commutes;
+  regroups = combined-regroups (λ x y. x && y) and_regroups;
+}
+
+pub or_is_free_of_order : IsFreeOfOrder or_of
+or_is_free_of_order = record {
+  commutes = combined-commutes (λ x y. x || y) or_commutes;
+  regroups = combined-regroups (λ x y. x || y) or_regroups;
+}
+
+pub and_distributes : DistributesOver and_of or_of
+and_distributes = combined-distributes (λ x y. x && y) (λ x y. x || y) and_over_or
+
+pub or_distributes : DistributesOver or_of and_of
+or_distributes = combined-distributes (λ x y. x || y) (λ x y. x && y) or_over_and
+
+pub and_absorbs_or : Absorbs and_of or_of
+and_absorbs_or = combined-absorbs (λ x y. x && y) (λ x y. x || y) and_absorbs
+
+pub or_absorbs_and : Absorbs or_of and_of
+or_absorbs_and = combined-absorbs (λ x y. x || y) (λ x y. x && y) or_absorbs
+
+pub complements : HasComplements
+complements = record {
+  none_is_both = combined-not (λ x y. x && y) false none_is_both;
+  each_is_one = combined-not (λ x y. x || y) true each_is_one;
+  twice = not_not;
+}
+
+pub and_not_is_and_of_not : AndNotIsAndOfNot
+and_not_is_and_of_not [] b = refl
+and_not_is_and_of_not (x ∷ a) [] = refl
+and_not_is_and_of_not (x ∷ a) (y ∷ b) = ap (λ (xs : List Bool). (x && not y) ∷ xs) (and_not_is_and_of_not a b)
+
+pub keeps_length : KeepsLength
+keeps_length = record {
+  and = length-combined (λ x y. x && y);
+  or = length-combined (λ x y. x || y);
+  and_not = length-combined (λ x y. x && not y);
+  not = length-not_of;
+}
+
+-- ---- under a rank intersection
+
+and-narrow : (a b c : List Bool) → length b ≡ trues a → length c ≡ trues a → and_of (narrow a b) (narrow a c) ≡ narrow a (and_of b c)
+and-narrow [] b c fits fits' = refl
+and-narrow (false ∷ a) b c fits fits' = ap (λ (xs : List Bool). false ∷ xs) (and-narrow a b c fits fits')
+and-narrow (true ∷ a) [] c fits fits' = absurd (omega arith)
+and-narrow (true ∷ a) (y ∷ b) [] fits fits' = absurd (omega arith)
+and-narrow (true ∷ a) (y ∷ b) (z ∷ c) fits fits' =
+    ap (λ (xs : List Bool). (y && z) ∷ xs) (and-narrow a b c (omega arith) (omega arith))
+
+pub rank_intersection_of_and : RankIntersectionOfAnd
+rank_intersection_of_and a b c fits fits' =
+    let both : length (and_of b c) ≡ count a = length-combined (λ x y. x && y) b c (fits ∙ sym fits') ∙ fits in
+    ap (λ (m : List Bool). and_of m (rank_intersection a c)) (rank_intersection-narrow a b fits)
+    ∙ ap (and_of (narrow a b)) (rank_intersection-narrow a c fits')
+    ∙ and-narrow a b c (fits ∙ count-trues a) (fits' ∙ count-trues a)
+    ∙ sym (rank_intersection-narrow a (and_of b c) both)
+
+not-narrow : (a b : List Bool) → length b ≡ trues a → narrow a (not_of b) ≡ and_not_of a (narrow a b)
+not-narrow [] b fits = refl
+not-narrow (false ∷ a) b fits = ap (λ (xs : List Bool). false ∷ xs) (not-narrow a b fits)
+not-narrow (true ∷ a) [] fits = absurd (omega arith)
+not-narrow (true ∷ a) (y ∷ b) fits = ap (λ (xs : List Bool). not y ∷ xs) (not-narrow a b (omega arith))
+
+pub rank_intersection_of_not : RankIntersectionOfNot
+rank_intersection_of_not a b fits =
+    rank_intersection-narrow a (not_of b) (length-not_of b ∙ fits)
+    ∙ not-narrow a b (fits ∙ count-trues a)
+    ∙ ap (and_not_of a) (sym (rank_intersection-narrow a b fits))

@@ -1,0 +1,38 @@
+-- Parts of parts, and of lists joined.
+use Rattle.std.proofs.Common.{◌≡◌, ◌+◌, ◌-◌, Bool, List, ◌∷◌, ◌++◌, length, take, drop, slice_range, inl, inr, sym, ap, ◌∙◌, arith}
+use Rattle.std.proofs.lemmas.Bool.{cases_lt}
+use Rattle.std.proofs.lemmas.List.{take-take, drop-drop, drop-take, take-append-le, drop-append-le, drop_all, take_all}
+use Rattle.std.proofs.lemmas.List.Concat.{flat_map-append}
+use Rattle.mask_bits.specs.Laws.{PartOfPart, PartOfJoined}
+use Rattle.mask_bits.specs.Lists.{joined}
+
+pub part_of_part : PartOfPart
+part_of_part m s e t u within =
+    let len : s + u - (s + t) ≡ u - t = omega arith in
+    elim (cases_lt u t) [
+      | inl none ↦
+          let zero_len : u - t ≡ 0 = omega arith in
+          ap (λ n. take n (drop t (slice_range m s e))) zero_len ∙ sym (ap (λ n. take n (drop (s + t) m)) (len ∙ zero_len))
+      | inr some ↦
+          let rest : e - s ≡ t + (e - s - t) = omega arith in
+          ap (λ n. take (u - t) (drop t (take n (drop s m)))) rest
+          ∙ ap (take (u - t)) (drop-take t (e - s - t) (drop s m))
+          ∙ take-take (u - t) (e - s - t) (drop t (drop s m)) (omega arith)
+          ∙ ap (take (u - t)) (drop-drop t s m)
+          ∙ sym (ap (λ n. take n (drop (s + t) m)) len)
+    ]
+
+-- the values between two lists
+between-sides : (xs m ys : List Bool) → slice_range (xs ++ (m ++ ys)) (length xs) (length xs + length m) ≡ m
+between-sides xs m ys =
+    let len : length xs + length m - length xs ≡ length m = omega arith in
+    ap (take (length xs + length m - length xs)) (drop-append-le (length xs) xs (m ++ ys) (omega arith)
+    ∙ ap (λ (zs : List Bool). zs ++ (m ++ ys)) (drop_all (length xs) xs (omega arith)))
+    ∙ ap (λ n. take n (m ++ ys)) len
+    ∙ take-append-le (length m) m ys (omega arith)
+    ∙ take_all (length m) m (omega arith)
+
+pub part_of_joined : PartOfJoined
+part_of_joined before after m =
+    ap (λ (zs : List Bool). slice_range zs (length (joined before)) (length (joined before) + length m)) (flat_map-append (λ (x : List Bool). x) before (m ∷ after))
+    ∙ between-sides (joined before) m (joined after)

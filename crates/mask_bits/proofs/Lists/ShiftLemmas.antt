@@ -1,0 +1,144 @@
+-- The bits of words that were shifted, masked and joined.
+use Rattle.std.proofs.Common.{◌≡◌, ℕ, zero, suc, ◌+◌, ◌*◌, ◌-◌, ◌/◌, ◌%◌, ◌^◌, ◌<◌, ◌≤◌, min, max, Bool, false, ◌&&◌, ◌||◌, not, nat_eq, List, ◌++◌, length, get_or, slice_range, refl, sym, ap, ◌∙◌, inl, inr, arith, add-zero}
+use Rattle.std.specs.Int.{bit_at, bit_not, w64}
+use Rattle.std.specs.Int.RustNames.{bit_and, bit_or}
+use Rattle.std.proofs.lemmas.Bool.{cases_lt}
+use Rattle.std.proofs.Math.Bool.{or-false}
+use Rattle.std.proofs.lemmas.List.{length-append, get_or_append_left, get_or-append_right, get_or_past}
+use Rattle.std.proofs.lemmas.List.Edits.{length-between, get_or-between}
+use Rattle.std.proofs.lemmas.Nat.{shr-shr, and_mask, pow_pos}
+use Rattle.std.proofs.lemmas.Nat.Bits.{bit_at-zero, bit_at-lt, bit_at_and, bit_at_or, bit_at_not, bit_at_above, bit_at_ones, bit_at_cat_low, bit_at_cat_high}
+use Rattle.mask_bits.specs.Words.{word_bits}
+use Rattle.mask_bits.proofs.Lists.WordLemmas.{length-word_bits, get_or-word_bits, word_bits_from_bits}
+
+-- ---- one bit of a number
+
+-- of one shifted down
+pub bit_at-shr : (n r j : ℕ) → bit_at (n / 2 ^ r) j ≡ bit_at n (r + j)
+bit_at-shr n r j = ap (λ x. x % 2) (shr-shr n r j)
+
+-- of one cut to its low bits
+pub bit_at-mod : (n k j : ℕ) → j < k → bit_at (n % 2 ^ k) j ≡ bit_at n j
+bit_at-mod n k j h =
+    ap (λ x. bit_at x j) (sym (and_mask n k))
+    ∙ omega (arith, bit_at_and n (2 ^ k - 1) j, bit_at_ones k j h, bit_at-lt n j)
+
+-- of one shifted up
+pub bit_at-shl_low : (n k j : ℕ) → j < k → bit_at (n * 2 ^ k) j ≡ 0
+bit_at-shl_low n k j h =
+    ap (λ x. bit_at x j) (sym (add-zero (n * 2 ^ k))) ∙ bit_at_cat_low n k 0 j h ∙ bit_at-zero j
+
+pub bit_at-shl_high : (n k j : ℕ) → k ≤ j → bit_at (n * 2 ^ k) j ≡ bit_at n (j - k)
+bit_at-shl_high n k j h =
+    ap (λ x. bit_at x j) (sym (add-zero (n * 2 ^ k))) ∙ bit_at_cat_high n k 0 j (pow_pos k) h
+
+-- ---- the list of a word
+
+bit_of_min : (a b : ℕ) → a < 2 → b < 2 → nat_eq (min a b) 1 ≡ (nat_eq a 1 && nat_eq b 1)
+bit_of_min zero zero low high = refl
+bit_of_min zero (suc zero) low high = refl
+bit_of_min (suc zero) zero low high = refl
+bit_of_min (suc zero) (suc zero) low high = refl
+bit_of_min (suc (suc a)) b low high = absurd (omega arith)
+bit_of_min a (suc (suc b)) low high = absurd (omega arith)
+
+bit_of_max : (a b : ℕ) → a < 2 → b < 2 → nat_eq (max a b) 1 ≡ (nat_eq a 1 || nat_eq b 1)
+bit_of_max zero zero low high = refl
+bit_of_max zero (suc zero) low high = refl
+bit_of_max (suc zero) zero low high = refl
+bit_of_max (suc zero) (suc zero) low high = refl
+bit_of_max (suc (suc a)) b low high = absurd (omega arith)
+bit_of_max a (suc (suc b)) low high = absurd (omega arith)
+
+bit_of_not : (a : ℕ) → a < 2 → nat_eq (1 - a) 1 ≡ not (nat_eq a 1)
+bit_of_not zero low = refl
+bit_of_not (suc zero) low = refl
+bit_of_not (suc (suc a)) low = absurd (omega arith)
+
+pub get_or-word_bits_and : (v w j : ℕ) → j < 64 → get_or (word_bits (bit_and v w)) j false ≡ (get_or (word_bits v) j false && get_or (word_bits w) j false)
+get_or-word_bits_and v w j h =
+    get_or-word_bits (bit_and v w) j false h ∙ ap (λ b. nat_eq b 1) (bit_at_and v w j)
+    ∙ bit_of_min (bit_at v j) (bit_at w j) (bit_at-lt v j) (bit_at-lt w j)
+    ∙ ap (λ x. x && nat_eq (bit_at w j) 1) (sym (get_or-word_bits v j false h))
+    ∙ ap (λ x. get_or (word_bits v) j false && x) (sym (get_or-word_bits w j false h))
+
+pub get_or-word_bits_or : (v w j : ℕ) → j < 64 → get_or (word_bits (bit_or v w)) j false ≡ (get_or (word_bits v) j false || get_or (word_bits w) j false)
+get_or-word_bits_or v w j h =
+    get_or-word_bits (bit_or v w) j false h ∙ ap (λ b. nat_eq b 1) (bit_at_or v w j)
+    ∙ bit_of_max (bit_at v j) (bit_at w j) (bit_at-lt v j) (bit_at-lt w j)
+    ∙ ap (λ x. x || nat_eq (bit_at w j) 1) (sym (get_or-word_bits v j false h))
+    ∙ ap (λ x. get_or (word_bits v) j false || x) (sym (get_or-word_bits w j false h))
+
+pub get_or-word_bits_not : (w j : ℕ) → w < 2 ^ 64 → j < 64 → get_or (word_bits (bit_not w64 w)) j false ≡ not (get_or (word_bits w) j false)
+get_or-word_bits_not w j fits h =
+    get_or-word_bits (bit_not w64 w) j false h ∙ ap (λ b. nat_eq b 1) (bit_at_not w64 w j fits h)
+    ∙ bit_of_not (bit_at w j) (bit_at-lt w j) ∙ ap not (sym (get_or-word_bits w j false h))
+
+-- `word >> r`
+pub get_or-word_bits_shr : (w r j : ℕ) → w < 2 ^ 64 → j < 64 → get_or (word_bits (w / 2 ^ r)) j false ≡ get_or (word_bits w) (r + j) false
+get_or-word_bits_shr w r j fits h =
+    get_or-word_bits (w / 2 ^ r) j false h ∙ ap (λ b. nat_eq b 1) (bit_at-shr w r j)
+    ∙ elim (cases_lt (r + j) 64) [
+      | inl inside ↦ sym (get_or-word_bits w (r + j) false inside)
+      | inr past ↦ ap (λ b. nat_eq b 1) (bit_at_above w 64 (r + j) fits past)
+          ∙ sym (get_or_past (word_bits w) (r + j) false (omega (arith, length-word_bits w)))
+    ]
+
+-- `word << k`
+pub get_or-word_bits_shl_low : (w k j : ℕ) → j < 64 → j < k → get_or (word_bits (w * 2 ^ k % 2 ^ 64)) j false ≡ false
+get_or-word_bits_shl_low w k j h low =
+    get_or-word_bits (w * 2 ^ k % 2 ^ 64) j false h
+    ∙ ap (λ b. nat_eq b 1) (bit_at-mod (w * 2 ^ k) 64 j h ∙ bit_at-shl_low w k j low)
+
+pub get_or-word_bits_shl_high : (w k j : ℕ) → j < 64 → k ≤ j → get_or (word_bits (w * 2 ^ k % 2 ^ 64)) j false ≡ get_or (word_bits w) (j - k) false
+get_or-word_bits_shl_high w k j h high =
+    get_or-word_bits (w * 2 ^ k % 2 ^ 64) j false h
+    ∙ ap (λ b. nat_eq b 1) (bit_at-mod (w * 2 ^ k) 64 j h ∙ bit_at-shl_high w k j high)
+    ∙ sym (get_or-word_bits w (j - k) false (omega arith))
+
+-- ---- two words joined
+
+joined_bit : (lo hi low j : ℕ) → lo < 2 ^ 64 → low < 64 → j < 64
+    → get_or (word_bits (bit_or (lo / 2 ^ low) (hi * 2 ^ 1 % 2 ^ 64 * 2 ^ (63 - low) % 2 ^ 64))) j false ≡ get_or (word_bits lo ++ word_bits hi) (low + j) false
+joined_bit lo hi low j fits few h =
+    let k : ℕ = 63 - low in
+    let up : ℕ = hi * 2 ^ 1 % 2 ^ 64 in
+    let len = length-word_bits lo in
+    let parts = get_or-word_bits_or (lo / 2 ^ low) (up * 2 ^ k % 2 ^ 64) j h in
+    let first = get_or-word_bits_shr lo low j fits h in
+    elim (cases_lt (low + j) 64) [
+      | inl inside ↦
+          let none : get_or (word_bits (up * 2 ^ k % 2 ^ 64)) j false ≡ false
+          = elim (cases_lt j k) [
+            | inl below ↦ get_or-word_bits_shl_low up k j h below
+            | inr at ↦
+                let first_bit : j - k ≡ 0 = omega arith in
+                get_or-word_bits_shl_high up k j h at
+                ∙ ap (λ i. get_or (word_bits up) i false) first_bit
+                ∙ get_or-word_bits_shl_low hi 1 0 (omega arith) (omega arith)
+          ] in
+          parts ∙ ap (λ x. get_or (word_bits (lo / 2 ^ low)) j false || x) none
+          ∙ or-false (get_or (word_bits (lo / 2 ^ low)) j false) ∙ first
+          ∙ sym (get_or_append_left (word_bits lo) (word_bits hi) false (low + j) (omega arith))
+      | inr past ↦
+          let none : get_or (word_bits (lo / 2 ^ low)) j false ≡ false
+          = first ∙ get_or_past (word_bits lo) (low + j) false (omega arith) in
+          let place : j - k - 1 ≡ low + j - 64 = omega arith in
+          parts ∙ ap (λ x. x || get_or (word_bits (up * 2 ^ k % 2 ^ 64)) j false) none
+          ∙ get_or-word_bits_shl_high up k j h (omega arith)
+          ∙ get_or-word_bits_shl_high hi 1 (j - k) (omega arith) (omega arith)
+          ∙ ap (λ i. get_or (word_bits hi) i false) place
+          ∙ sym (get_or-append_right (word_bits lo) (word_bits hi) 64 (low + j) false len past)
+    ]
+
+-- the high bits of one word and then the low bits of the next
+pub word_bits-joined : (lo hi low : ℕ) → lo < 2 ^ 64 → low < 64
+    → word_bits (bit_or (lo / 2 ^ low) (hi * 2 ^ 1 % 2 ^ 64 * 2 ^ (63 - low) % 2 ^ 64)) ≡ slice_range (word_bits lo ++ word_bits hi) low (low + 64)
+word_bits-joined lo hi low fits few =
+    let both : List Bool = word_bits lo ++ word_bits hi in
+    let w : ℕ = bit_or (lo / 2 ^ low) (hi * 2 ^ 1 % 2 ^ 64 * 2 ^ (63 - low) % 2 ^ 64) in
+    let within : low + 64 ≤ length both = omega (arith, length-append (word_bits lo) (word_bits hi), length-word_bits lo, length-word_bits hi) in
+    word_bits_from_bits w (slice_range both low (low + 64))
+    (length-between both low (low + 64) within ∙ omega arith)
+    (λ j h. sym (get_or-word_bits w j false h) ∙ joined_bit lo hi low j fits few h
+    ∙ sym (get_or-between both low (low + 64) j false (omega arith)))

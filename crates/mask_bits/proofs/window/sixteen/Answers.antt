@@ -1,7 +1,0 @@
-use Rattle.std.proofs.Common.{◌∙◌}
-use Rattle.mask_bits.proofs.NumberLemmas.{number-chunk}
-use Rattle.mask_bits.proofs.window.sixteen.Goals as goal
-
-pub returns-in-Some : goal.returns-in-Some
-returns-in-Some c =
-    c.from_le_bytes.ensures ∙ number-chunk c.args.bytes.now c.in-Some.chunk.now c.in-Some.ensures.cases.same

@@ -1,0 +1,32 @@
+-- Lists of truth values that are made of others: value by value, one after another, and cut to the first true values.
+use Rattle.std.specs.Prelude.{ℕ, Bool, false, not, ◌&&◌, ◌||◌, nat_lt, List, length, map, zip, flat_map, slice_index_or}
+use Rattle.std.specs.List.{range_with_len}
+use Rattle.mask_bits.specs.Positions.{count_below}
+
+-- f of the two values at each place, of lists of one length
+abbrev pub combined : (Bool → Bool → Bool) → List Bool → List Bool → List Bool
+combined f a b = map (λ v. f v.0 v.1) (zip a b)
+
+-- both true
+abbrev pub and_of : List Bool → List Bool → List Bool
+and_of a b = combined (λ x y. x && y) a b
+
+-- one or both true
+abbrev pub or_of : List Bool → List Bool → List Bool
+or_of a b = combined (λ x y. x || y) a b
+
+-- the first true, and not the second
+abbrev pub and_not_of : List Bool → List Bool → List Bool
+and_not_of a b = combined (λ x y. x && not y) a b
+
+-- each value turned
+abbrev pub not_of : List Bool → List Bool
+not_of a = map not a
+
+-- the lists one after another
+abbrev pub joined : List (List Bool) → List Bool
+joined ms = flat_map (λ m. m) ms
+
+-- value i is true exactly if m's is and fewer than k of the values before it are true
+unfoldable pub limited : List Bool → ℕ → List Bool
+limited m k = map (λ i. slice_index_or m i false && nat_lt (count_below m i) k) (range_with_len 0 (length m))

@@ -1,0 +1,79 @@
+//! Words of 64 bits of some bytes: read, written, and joined at any bit position.
+
+ghost use Rattle.std.specs.Prelude.{◌≡◌, ◌+◌, ◌*◌, ◌<◌, ◌≤◌, ◌^◌, ℕ, length, take, drop};
+ghost use Rattle.std.specs.Prelude.{◌⊎◌, ◌++◌, slice_range};
+ghost use Rattle.mask_bits.specs.Buffer.{backing_bit};
+ghost use Rattle.mask_bits.specs.Number.{number};
+ghost use Rattle.mask_bits.specs.Words.{window as bits_from, word_bits};
+
+/// Word `i` of the whole words of `bytes`: bits `64 * i` to `64 * i + 63`, the first lowest.
+#[inline]
+pub fn word_of(bytes: &[u8], i: usize) -> u64
+    requires { 8 * i + 8 ≤ length bytes.now }
+    ensures { word_bits result ≡ bits_from bytes.now (64 * i) }
+{
+    match bytes[8 * i..8 * i + 8].first_chunk::<8>() {
+        Some(chunk) => u64::from_le_bytes(*chunk),
+        None => unreachable!(),
+    }
+}
+
+/// Writes word `i` of the whole words of `bytes`, and nothing else.
+#[inline]
+pub fn set_word(bytes: &mut [u8], i: usize, word: u64)
+    requires { 8 * i + 8 ≤ length bytes.old }
+    ensures here { bits_from bytes.new (64 * i) ≡ word_bits word }
+    ensures others { (p : ℕ) → ((p < 64 * i) ⊎ (64 * i + 64 ≤ p)) → backing_bit bytes.new p ≡ backing_bit bytes.old p }
+{
+    bytes[8 * i..8 * i + 8].copy_from_slice(&word.to_le_bytes());
+}
+
+/// The 64 bits from bit `low` of `word` on; those past its end are the first of `next`.
+#[inline]
+pub fn joined(word: u64, next: u64, low: u32) -> u64
+    requires { low < 64 }
+    ensures { word_bits result ≡ slice_range (word_bits word ++ word_bits next) low (low + 64) }
+{
+    // two shifts, since one by 64 would be none
+    (word >> low) | ((next << 1) << (63 - low))
+}
+
+/// The 64 bits from bit `position` on, wherever that is; those past the last byte are 0.
+#[inline]
+pub fn window(bytes: &[u8], position: usize) -> u64
+    ensures { word_bits result ≡ bits_from bytes.now position }
+{
+    let low = (position % 8) as u32;
+    ((sixteen(bytes, position / 8) >> low) & 0xFFFF_FFFF_FFFF_FFFF) as u64
+}
+
+// The sixteen bytes from byte `first` on as one number, the first lowest; those past the end are 0.
+#[inline]
+fn sixteen(bytes: &[u8], first: usize) -> u128
+    requires { first < 2 ^ 61 }
+    ensures { result ≡ number (take 16 (drop first bytes.now)) }
+{
+    if first + 16 <= bytes.len() {
+        match bytes[first..first + 16].first_chunk::<16>() {
+            Some(chunk) => u128::from_le_bytes(*chunk),
+            None => unreachable!(),
+        }
+    } else {
+        fewer(bytes, first)
+    }
+}
+
+#[cold]
+#[inline(never)]
+fn fewer(bytes: &[u8], first: usize) -> u128
+    requires { length bytes.now < first + 16 }
+    ensures { result ≡ number (take 16 (drop first bytes.now)) }
+{
+    if bytes.len() <= first {
+        return 0;
+    }
+    let rest = &bytes[first..];
+    let mut chunk = [0u8; 16];
+    chunk[..rest.len()].copy_from_slice(rest);
+    u128::from_le_bytes(chunk)
+}
