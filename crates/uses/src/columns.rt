@@ -4,7 +4,7 @@ ghost use Rattle.vortex_mask.specs.Mask.{truth};
 ghost use Rattle.mask_bits.specs.Positions.{chosen};
 
 use std::alloc::Global;
-use vortex_mask::mask::{Mask, MaskError};
+use vortex_mask::{Mask, MaskError};
 
 /// The rows of two columns that a mask chooses, in two columns of one length.
 pub fn filtered<A: Copy, B: Copy>(

@@ -14,6 +14,7 @@ pub fn kept(alloc: Global, rows: &BitBuffer, size: usize) -> Result<Vec<bool>, A
         → (slice_index_or kept.items g false ≡ true)
         ↔ Any (λ v. v ≡ true) (group (values rows.now) size g)) }
 {
+    laws::counts();
     let mut kept = Vec::new(alloc);
     let mut start = 0;
     while start < rows.len() {

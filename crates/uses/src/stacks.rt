@@ -6,7 +6,7 @@ ghost use Rattle.mask_bits.specs.Stacks.{IsStack, folded_left};
 
 use mask_bits::laws;
 use std::alloc::Global;
-use vortex_mask::mask::{Mask, MaskError};
+use vortex_mask::{Mask, MaskError};
 
 /// The rows that two stacked filters choose, by one mask in the place of both.
 pub fn filtered<T: Copy>(
@@ -96,7 +96,7 @@ mod tests {
     use std::alloc::Global;
     use std::process::Abort;
     use std::test::Fail;
-    use vortex_mask::mask::{Mask, MaskError};
+    use vortex_mask::{Mask, MaskError};
 
     fn choose(
         rt: &impl Abort,
