@@ -2,6 +2,8 @@
 mod BitLemmas
 mod BufferLemmas
 mod LawRules
+mod CombineLemmas
+mod EqLemmas
 mod Examples
 pub mod Lists
 mod NumberLemmas

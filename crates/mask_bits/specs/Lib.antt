@@ -1,4 +1,5 @@
 pub mod Buffer
+pub mod Combine
 pub mod Laws
 pub mod Number
 pub mod Lists

@@ -187,6 +187,15 @@ impl BitBuffer {
         &self.bytes
     }
 
+    // The bytes, with what readers of them need to know.
+    pub(crate) fn bits(&self) -> &[u8]
+        ensures bytes { result.now ≡ self.now.bytes }
+        ensures within { IsWithinBytes result.now self.now.offset self.now.len }
+    {
+        let _ = &self.len;
+        self.bytes.as_slice()
+    }
+
     /// Value `i`.
     pub fn value(&self, i: usize) -> bool
         requires { i < length (values self.now) }
@@ -258,7 +267,8 @@ impl BitBuffer {
 
     /// The values in words of 64, the first value lowest.
     pub fn chunks(&self) -> BitChunks<'_>
-        ensures { result ≡ values self.now }
+        ensures list { result ≡ values self.now }
+        ensures fits { length result < 2 ^ 64 }
     {
         BitChunks::new(self.bytes.as_slice(), self.offset, self.len)
     }

@@ -1,12 +1,15 @@
 //! Packed bits: a list of truth values, eight to a byte, at any bit offset.
 #![tactic(auto)]
 
+mod bitops;
 mod bools;
 mod buffer;
 mod chunks;
+pub mod combine;
 mod eq;
 mod indices;
 pub mod laws;
+mod readers;
 mod slices;
 #[cfg(test)]
 mod tests;

@@ -12,6 +12,7 @@ ghost use Rattle.vortex_mask.specs.declared.mask.Mask.TheVariants.{AllTrue};
 
 mod all_or;
 mod error;
+mod from_indices;
 mod values;
 
 pub use all_or::AllOr;
@@ -84,7 +85,7 @@ impl Mask {
         if true_count == len {
             return Ok(Mask::AllTrue(len));
         }
-        Ok(Mask::Values(Rc::new(alloc, MaskValues::new(buffer, true_count))?))
+        Ok(Mask::Values(Rc::new(alloc, MaskValues::new(buffer, true_count, None, None))?))
     }
 
     /// The values that an iterator yields, in their order. No values give `AllFalse(0)`.

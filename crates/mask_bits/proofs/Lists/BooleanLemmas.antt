@@ -103,6 +103,11 @@ not_not [] = refl
 not_not (true ∷ a) = ap (λ (xs : List Bool). true ∷ xs) (not_not a)
 not_not (false ∷ a) = ap (λ (xs : List Bool). false ∷ xs) (not_not a)
 
+-- an operation that takes no account of its second list
+pub combined_itself : (a : List Bool) → combined (λ x y. not x) a a ≡ not_of a
+combined_itself [] = refl
+combined_itself (x ∷ a) = ap (λ (xs : List Bool). not x ∷ xs) (combined_itself a)
+
 -- the value at a place
 pub get_or-combined : (f : Bool → Bool → Bool) (a b : List Bool) (i : ℕ) (d : Bool) → i < length a → length a ≡ length b → get_or (combined f a b) i d ≡ f (get_or a i d) (get_or b i d)
 get_or-combined f [] b i d h len = absurd (omega arith)
