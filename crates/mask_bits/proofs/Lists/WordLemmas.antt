@@ -1,9 +1,15 @@
 -- Words of 64 bits as lists of truth values.
-use Rattle.std.proofs.Common.{◌≡◌, ℕ, ◌+◌, ◌/◌, ◌<◌, ◌≤◌, Bool, false, nat_eq, List, [], ◌∷◌, length, get_or, drop, sym, ap, ◌∙◌, arith}
+use Rattle.std.proofs.Common.{◌≡◌, ℕ, zero, suc, ◌+◌, ◌*◌, ◌/◌, ◌%◌, ◌^◌, ◌<◌, ◌≤◌, ◌⊎◌, inl, inr, Bool, false, nat_eq, List, [], ◌∷◌, ◌++◌, length, get_or, take, drop, count_ones, refl, sym, ap, ◌∙◌, arith, mod-lt, mod-eq_of_lt}
+use lib.Count.{ones_step}
 use Rattle.std.specs.Int.{bit_at}
-use Rattle.std.proofs.lemmas.List.{drop_more, drop_all}
+use Rattle.std.proofs.lemmas.Nat.{pow_pos, ones-le, ones_cat, mod-pow-add}
+use Rattle.std.proofs.lemmas.Nat.Bits.{bit_at-lt}
+use Rattle.std.proofs.lemmas.List.{drop_more, drop_all, take_more, take_all}
 use Rattle.std.proofs.lemmas.List.FromFn.{length-map-range_with_len, get_or-map-range_with_len, fill_by_all}
+use Rattle.mask_bits.specs.Positions.{count, count_below}
 use Rattle.mask_bits.specs.Words.{word_bits, word_part, word_parts}
+use Rattle.mask_bits.proofs.Lists.PlaceLemmas.{trues}
+use Rattle.mask_bits.proofs.Lists.CountLemmas.{count-push}
 
 pub length-word_bits : (w : ℕ) → length (word_bits w) ≡ 64
 unfolding word_bits
@@ -18,6 +24,42 @@ pub word_bits_from_bits : (w : ℕ) (m : List Bool) → length m ≡ 64 → ((j 
 unfolding word_bits
 word_bits_from_bits w m len same =
     sym (fill_by_all (λ i. nat_eq (bit_at w i) 1) m 64 false len (λ j h. sym (same j h)))
+
+-- ---- how many bits of a word are set
+
+ones_of_bit : (n : ℕ) → n < 2 → count_ones n ≡ n
+ones_of_bit n h =
+    let half : n / 2 ≡ 0 = omega arith in
+    omega (arith, ones_step n, ap count_ones half, ones-le 0 0 (omega arith))
+
+-- one more place
+pub ones_below-more : (w i : ℕ) → count_ones (w % 2 ^ (i + 1)) ≡ count_ones (w % 2 ^ i) + bit_at w i
+ones_below-more w i =
+    let next : i + 1 ≡ 1 + i = omega arith in
+    ap (λ k. count_ones (w % 2 ^ k)) next ∙ ap count_ones (mod-pow-add w 1 i) ∙ ones_cat i _ _ (mod-lt w (pow_pos i))
+    ∙ omega (arith, ones_of_bit (bit_at w i) (bit_at-lt w i))
+
+trues_of_bit : (n : ℕ) → n < 2 → trues (nat_eq n 1 ∷ []) ≡ n
+trues_of_bit zero h = refl
+trues_of_bit (suc zero) h = refl
+trues_of_bit (suc (suc n)) h = absurd (omega arith)
+
+-- the true values among a word's first i are its set bits below i
+pub count_below-word_bits : (w i : ℕ) → i ≤ 64 → count_below (word_bits w) i ≡ count_ones (w % 2 ^ i)
+count_below-word_bits w zero h = omega (arith, ones-le 0 (w % 1) (omega arith))
+count_below-word_bits w (suc i) h =
+    let next : suc i ≡ i + 1 = omega arith in
+    let value = get_or-word_bits w i false (omega arith) in
+    ap (count_below (word_bits w)) next
+    ∙ ap count (take_more (word_bits w) i false (omega (arith, length-word_bits w)))
+    ∙ count-push (take i (word_bits w)) _
+    ∙ omega (arith, count_below-word_bits w i (omega arith), ones_below-more w i, ap (λ (b : Bool). trues (b ∷ [])) value, trues_of_bit (bit_at w i) (bit_at-lt w i), ap (λ k. count_ones (w % 2 ^ k)) next)
+
+-- as many values of a word are true as bits of it are set
+pub count-word_bits : (w : ℕ) → w < 2 ^ 64 → count (word_bits w) ≡ count_ones w
+count-word_bits w fits =
+    sym (ap count (take_all 64 (word_bits w) (omega (arith, length-word_bits w))))
+    ∙ count_below-word_bits w 64 (omega arith) ∙ ap count_ones (mod-eq_of_lt fits)
 
 -- ---- the parts of a list
 
