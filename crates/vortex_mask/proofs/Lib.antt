@@ -1,3 +1,9 @@
 -- Lemmas.
+pub mod ByteCountLemmas
+pub mod ByteLemmas
+pub mod DepositLemmas
+pub mod HoleLemmas
 pub mod MaskLemmas
+pub mod NetworkLemmas
 pub mod ResultLemmas
+pub mod SetPlaceLemmas

@@ -1,3 +1,13 @@
+mod bytewise;
+mod deposit;
+mod select;
+mod steps;
+
+pub use bytewise::deposit_bytewise;
+pub use deposit::{DepositBits, Portable, PortableLoop, deposit_two_holes, deposit_two_lowest};
+pub use select::SelectBit;
+pub use steps::Steps;
+
 ghost use Rattle.std.specs.Prelude.{◌≡◌, ◌≢◌, ◌<◌, ◌⊎◌, IsOk, IfOk, All, length};
 ghost use Rattle.vortex_mask.specs.Mask.{truth, variant, fitting_variant, variant_and, all_false, mixed};
 ghost use Rattle.mask_bits.specs.Buffer.{values};

@@ -1,7 +1,7 @@
 //! Masks: lists of truth values that say which rows are chosen, and their rank intersection.
 #![tactic(auto)]
 
-mod intersect_by_rank;
+pub mod intersect_by_rank;
 pub mod mask;
 #[cfg(test)]
 mod tests;
