@@ -27,10 +27,27 @@ every_below p (suc n) h i l =
       | inr g ↦ every_below p n (and_r (p n) _ h) i (omega arith)
     ]
 
--- two functions of a stage and a byte that agree at each
-agree : (f g : ℕ → ℕ → ℕ) (s b : ℕ) → T (all_below (λ t. all_below (λ x. eqb (f t x) (g t x)) 256) 3) → s < 3 → b < 256 → f s b ≡ g s b
-agree f g s b h hs hb =
-    eqb→eq _ _ (every_below (λ x. eqb (f s x) (g s x)) 256 (every_below (λ t. all_below (λ x. eqb (f t x) (g t x)) 256) 3 h s hs) b hb)
+-- two functions that agree at each number below n and each byte
+agree : (n : ℕ) (f g : ℕ → ℕ → ℕ) (s b : ℕ) → T (all_below (λ t. all_below (λ x. eqb (f t x) (g t x)) 256) n) → s < n → b < 256 → f s b ≡ g s b
+agree n f g s b h hs hb =
+    eqb→eq _ _ (every_below (λ x. eqb (f s x) (g s x)) 256 (every_below (λ t. all_below (λ x. eqb (f t x) (g t x)) 256) n h s hs) b hb)
+
+-- ---- what a shift leaves of a byte
+
+-- shifted down it is within what `255 >> s` keeps
+pub kept_down : (s b : ℕ) → s < 8 → b < 256 → bit_and (b / 2 ^ s) (255 / 2 ^ s) ≡ b / 2 ^ s
+kept_down s b hs hb = agree 8 (λ t x. bit_and (x / 2 ^ t) (255 / 2 ^ t)) (λ t x. x / 2 ^ t) s b tt hs hb
+
+-- and shifted up within what `255 << s` keeps
+pub kept_up : (s b : ℕ) → s < 8 → b < 256 → bit_and (b * 2 ^ s % 2 ^ 8) (255 * 2 ^ s % 2 ^ 8) ≡ b * 2 ^ s % 2 ^ 8
+kept_up s b hs hb = agree 8 (λ t x. bit_and (x * 2 ^ t % 2 ^ 8) (255 * 2 ^ t % 2 ^ 8)) (λ t x. x * 2 ^ t % 2 ^ 8) s b tt hs hb
+
+-- `255 << s` has no bit below s
+low_clear : T (all_below (λ s. eqb (255 * 2 ^ s % 2 ^ 8 % 2 ^ s) 0) 8)
+low_clear = tt
+
+pub none_low : (s : ℕ) → s < 8 → 255 * 2 ^ s % 2 ^ 8 % 2 ^ s ≡ 0
+none_low s h = eqb→eq _ _ (every_below (λ i. eqb (255 * 2 ^ i % 2 ^ 8 % 2 ^ i) 0) 8 low_clear s h)
 
 -- ---- the count of a byte's set bits, by pairs and then by halves of the byte
 
@@ -84,12 +101,12 @@ pub doubled-all : (s b : ℕ) → 3 ≤ s → doubled (3 - s) s b ≡ b
 unfolding doubled
 doubled-all s b h = let e : 3 - s ≡ 0 = omega arith in ap (λ n. doubled n s b) e
 
+parities : T (all_below (λ t. all_below (λ x. eqb (doubled (3 - t) t x) (odd_places (2 ^ t) x)) 256) 3)
+unfolding doubled odd_places
+parities = tt
+
 pub doubled-is : (s b : ℕ) → s < 3 → b < 256 → doubled (3 - s) s b ≡ odd_places (2 ^ s) b
-doubled-is s b hs hb = agree (λ t x. doubled (3 - t) t x) (λ t x. odd_places (2 ^ t) x) s b all hs hb
-  where
-    all : T (all_below (λ t. all_below (λ x. eqb (doubled (3 - t) t x) (odd_places (2 ^ t) x)) 256) 3)
-    unfolding doubled odd_places
-    all = tt
+doubled-is s b hs hb = agree 3 (λ t x. doubled (3 - t) t x) (λ t x. odd_places (2 ^ t) x) s b parities hs hb
 
 -- the code's `1 << s`
 pub shift_is : (s : ℕ) → s < 3 → 1 * 2 ^ s % 2 ^ 32 ≡ 2 ^ s
@@ -115,19 +132,19 @@ none_moved = tt
 pub packed_after-zero : (m : ℕ) → m < 256 → packed_after 0 m ≡ m
 packed_after-zero m h = eqb→eq _ _ (every_below (λ x. eqb (packed_after 0 x) x) 256 none_moved m h)
 
+packings : T (all_below (λ t. all_below (λ x. eqb (with_moved (2 ^ t) (packed_after t x) (odd_places (2 ^ t) (zeros_before t x))) (packed_after (t + 1) x)) 256) 3)
+unfolding with_moved moved_down packed_after place_after clear_below odd_places zeros_before halved
+packings = tt
+
 pub packed_after-more : (s m : ℕ) → s < 3 → m < 256 → with_moved (2 ^ s) (packed_after s m) (odd_places (2 ^ s) (zeros_before s m)) ≡ packed_after (s + 1) m
-packed_after-more s m hs hm = agree (λ t x. with_moved (2 ^ t) (packed_after t x) (odd_places (2 ^ t) (zeros_before t x))) (λ t x. packed_after (t + 1) x) s m all hs hm
-  where
-    all : T (all_below (λ t. all_below (λ x. eqb (with_moved (2 ^ t) (packed_after t x) (odd_places (2 ^ t) (zeros_before t x))) (packed_after (t + 1) x)) 256) 3)
-    unfolding with_moved moved_down packed_after place_after clear_below odd_places zeros_before halved
-    all = tt
+packed_after-more s m hs hm = agree 3 (λ t x. with_moved (2 ^ t) (packed_after t x) (odd_places (2 ^ t) (zeros_before t x))) (λ t x. packed_after (t + 1) x) s m packings hs hm
+
+landings : T (all_below (λ t. all_below (λ x. eqb (moved_down (2 ^ t) (packed_after t x) (odd_places (2 ^ t) (zeros_before t x))) (landed_in t x)) 256) 3)
+unfolding moved_down landed_in packed_after place_after clear_below odd_places zeros_before halved
+landings = tt
 
 pub landed_in-is : (s m : ℕ) → s < 3 → m < 256 → moved_down (2 ^ s) (packed_after s m) (odd_places (2 ^ s) (zeros_before s m)) ≡ landed_in s m
-landed_in-is s m hs hm = agree (λ t x. moved_down (2 ^ t) (packed_after t x) (odd_places (2 ^ t) (zeros_before t x))) landed_in s m all hs hm
-  where
-    all : T (all_below (λ t. all_below (λ x. eqb (moved_down (2 ^ t) (packed_after t x) (odd_places (2 ^ t) (zeros_before t x))) (landed_in t x)) 256) 3)
-    unfolding moved_down landed_in packed_after place_after clear_below odd_places zeros_before halved
-    all = tt
+landed_in-is s m hs hm = agree 3 (λ t x. moved_down (2 ^ t) (packed_after t x) (odd_places (2 ^ t) (zeros_before t x))) landed_in s m landings hs hm
 
 -- a byte's bits end as its lowest ones
 full : T (all_below (λ m. eqb (packed_after 3 m) (2 ^ ones_among 8 m - 1)) 256)

@@ -168,5 +168,5 @@ fn move_up(word: u64, landed: u64, stage: u32) -> u64
     ensures { EachByte (λ j. byte_at result j
         ≡ moved_up (2 ^ stage) (byte_at landed j) (byte_at word j)) }
 {
-    (word & !landed) | ((word & landed) << (1 << stage))
+    (word & !landed) | ((word & landed) << (1u32 << stage))
 }
