@@ -14,7 +14,7 @@ use Rattle.vortex_mask.specs.Deposit.{Deposits}
 use Rattle.vortex_mask.proofs.ByteLemmas.{byte_at-lt, byte_at-zero, byte_at-suc, byte_at_and, byte_at_add, byte_at_sub, byte_at-low, byte_at_above, byte_at_shr, byte_at_shr_four, bit_at_byte}
 use Rattle.vortex_mask.proofs.DepositLemmas.{deposit, bit_at-deposit, Deposits-from_bits}
 use Rattle.vortex_mask.proofs.NetworkLemmas.{pairs, nibbles, nibbles_small}
-use Rattle.vortex_mask.proofs.SetPlaceLemmas.{ones_below, ones_below-zero, ones_below-le, IsSetPlaceIn}
+use Rattle.vortex_mask.proofs.SetPlaceLemmas.{ones_below, ones_below-zero, ones_below-le}
 
 -- ---- the set bits below byte j
 
@@ -147,9 +147,7 @@ unfolding byte_at
 item_is w = by_eight (λ j. get_or (to_le_bytes w64 w) j 0 ≡ byte_at w j) (sym (byte_at-zero w)) refl refl refl refl refl refl refl
 
 -- a set place of byte j is one of the word
-pub IsSetPlace-from_byte : (w rank first j p : ℕ) → j < 8 → rank + ones_below w (8 * j) ≡ first → IsSetPlaceIn 8 (byte_at w j) rank p → IsSetPlace w first (8 * j + p)
-IsSetPlace-from_byte w rank first j p inside e h = record {
-  inside = omega (arith, h.inside);
-  set = bit_at_byte w j p h.inside ∙ h.set;
-  below = omega (arith, ones_below-in_byte w j p (omega (arith, h.inside)), h.below);
-}
+pub place_of_byte : (w rank first j p : ℕ) → j < 8 → rank + ones_below w (8 * j) ≡ first → p < 8 → bit_at (byte_at w j) p ≡ 1 → ones_below (byte_at w j) p ≡ rank
+    → (8 * j + p < 64) × (bit_at w (8 * j + p) ≡ 1) × (ones_below w (8 * j + p) ≡ first)
+place_of_byte w rank first j p inside e low set below =
+    (omega arith, bit_at_byte w j p low ∙ set, omega (arith, ones_below-in_byte w j p (omega arith)))

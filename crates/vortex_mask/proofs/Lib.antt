@@ -2,6 +2,7 @@
 pub mod ByteCountLemmas
 pub mod ByteLemmas
 pub mod DepositLemmas
+pub mod DepositListLemmas
 pub mod HoleLemmas
 pub mod MaskLemmas
 pub mod NetworkLemmas

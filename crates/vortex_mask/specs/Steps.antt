@@ -15,6 +15,6 @@ no_steps = record { deposits = 0; words = 0; selections = 0; offered = 0; placed
 
 -- each step adds at most 64 to a sum
 pub record SumsFit (deposits selections offered placed spots : ℕ) : Type 0 where
-  pub offered : offered ≤ 64 * deposits
-  pub placed : placed ≤ 64 * deposits
-  pub spots : spots ≤ 64 * selections
+  pub offered_fits : offered ≤ 64 * deposits
+  pub placed_fits : placed ≤ 64 * deposits
+  pub spots_fit : spots ≤ 64 * selections
