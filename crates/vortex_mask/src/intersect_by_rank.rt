@@ -2,11 +2,8 @@ mod bytewise;
 mod deposit;
 mod select;
 mod steps;
-
-pub use bytewise::deposit_bytewise;
-pub use deposit::{DepositBits, Portable, PortableLoop, deposit_two_holes, deposit_two_lowest};
-pub use select::SelectBit;
-pub use steps::Steps;
+#[cfg(test)]
+mod tests;
 
 ghost use Rattle.std.specs.Prelude.{◌≡◌, ◌≢◌, ◌<◌, ◌⊎◌, IsOk, IfOk, All, length};
 ghost use Rattle.vortex_mask.specs.Mask.{truth, variant, fitting_variant, variant_and, all_false, mixed};
@@ -14,8 +11,12 @@ ghost use Rattle.mask_bits.specs.Buffer.{values};
 ghost use Rattle.mask_bits.specs.Positions.{positions, count, at_places, rank_intersection};
 
 use crate::mask::{Mask, MaskError};
+pub use bytewise::deposit_bytewise;
+pub use deposit::{DepositBits, Portable, PortableLoop, deposit_two_holes, deposit_two_lowest};
 use mask_bits::BitBuffer;
+pub use select::SelectBit;
 use std::alloc::{AllocError, Global};
+pub use steps::Steps;
 
 impl Mask {
     /// The mask in which the true values of this one are narrowed by a mask over them: true value

@@ -31,12 +31,12 @@ impl Model for Steps {
     ghost Value = { StepCounts };
 
     ghost view = { λ s. record {
-        deposits = s.deposits;
-        words = s.words;
-        selections = s.selections;
-        offered = s.offered;
-        placed = s.placed;
-        spots = s.spots;
+      deposits = s.deposits;
+      words = s.words;
+      selections = s.selections;
+      offered = s.offered;
+      placed = s.placed;
+      spots = s.spots;
     } };
 
     ghost invariant = { λ s. SumsFit s.deposits s.selections s.offered s.placed s.spots };
@@ -105,9 +105,9 @@ impl Steps {
         requires counted { mask_count ≡ count (word_bits mask) }
         ensures deposited { Deposits source mask result }
         ensures ticked { self.new ≡ record self.old {
-            deposits = self.old.deposits + 1;
-            offered = self.old.offered + mask_count;
-            placed = self.old.placed + count (word_bits result);
+          deposits = self.old.deposits + 1;
+          offered = self.old.offered + mask_count;
+          placed = self.old.placed + count (word_bits result);
         } }
     {
         let result = D::deposit_bits(source, mask, mask_count);
@@ -140,8 +140,8 @@ impl Steps {
         requires inside { rank < count (word_bits word) }
         ensures selected { result ≡ selected word rank }
         ensures ticked { self.new ≡ record self.old {
-            selections = self.old.selections + 1;
-            spots = self.old.spots + result;
+          selections = self.old.selections + 1;
+          spots = self.old.spots + result;
         } }
     {
         let place = S::select_bit_position(word, rank);
