@@ -57,7 +57,8 @@ fn byte_counts(mask: u64) -> u64
 // In each byte, the number of set bits in all lower bytes: at most 56, so that no sum in the
 // product carries into the next byte.
 fn counts_below(mask: u64) -> u64
-    ensures { EachByte (λ j. byte_at result j ≡ count_below (word_bits mask) (8 * j)) }
+    ensures counted { EachByte (λ j. byte_at result j ≡ count_below (word_bits mask) (8 * j)) }
+    ensures few { EachByte (λ j. byte_at result j < 64) }
 {
     byte_counts(mask).wrapping_mul(bytes(1)) << 8
 }

@@ -4,12 +4,8 @@ use Rattle.vortex_mask.specs.Bytes.{byte_at, packed_after, landed_in, moved_up}
 use Rattle.vortex_mask.proofs.ByteCountLemmas.{Deposits-from_bytes}
 use Rattle.vortex_mask.proofs.ByteLemmas.{byte_at_and, byte_at-lt}
 use Rattle.vortex_mask.proofs.NetworkLemmas.{landed_in-lt, moved_back}
-use Rattle.vortex_mask.proofs.SetPlaceLemmas.{ones_below, ones_below-le}
+use Rattle.vortex_mask.proofs.SetPlaceLemmas.{ones_below}
 use Rattle.vortex_mask.proofs.intersect_by_rank.bytewise.deposit_bytewise.Goals as goal
-
-pub gather-requires : goal.gather-requires
-gather-requires c = λ j h.
-    omega (arith, c.counts_below.ensures j h, count_below-word_bits c.args.mask (8 * j) (omega arith), ones_below-le c.args.mask (8 * j))
 
 pub move_up-word-requires-clause-room : goal.move_up-word-requires-clause-room
 move_up-word-requires-clause-room c = λ j h.
@@ -31,7 +27,7 @@ returns c =
     let b = byte_at m j in
     let taken = s / 2 ^ ones_below m (8 * j) % 2 ^ 8 in
     let from : byte_at c.gather.result j ≡ taken
-    = c.gather.ensures j h ∙ ap (λ n. s / 2 ^ n % 2 ^ 8) (c.counts_below.ensures j h ∙ count_below-word_bits m (8 * j) (omega arith)) in
+    = c.gather.ensures j h ∙ ap (λ n. s / 2 ^ n % 2 ^ 8) (c.counts_below.ensures.counted j h ∙ count_below-word_bits m (8 * j) (omega arith)) in
     let back : byte_at (bit_and c.move_up-word-3.result m) j ≡ bit_and (moved_up 1 (landed_in 0 b) (moved_up 2 (landed_in 1 b) (moved_up 4 (landed_in 2 b) (bit_and taken (packed_after 3 b))))) b
     = cc (
       from,
