@@ -1,3 +1,10 @@
+mod bytewise;
+mod deposit;
+mod select;
+mod steps;
+#[cfg(test)]
+mod tests;
+
 ghost use Rattle.std.specs.Prelude.{◌≡◌, ◌≢◌, ◌<◌, ◌⊎◌, IsOk, IfOk, All, length};
 ghost use Rattle.vortex_mask.specs.Mask.{truth, variant, fitting_variant, variant_and, all_false, mixed, caches, narrowed_caches};
 ghost use Rattle.mask_bits.specs.Buffer.{values};
@@ -5,8 +12,12 @@ ghost use Rattle.mask_bits.specs.Positions.{positions, count, at_places, rank_in
 
 use crate::laws;
 use crate::mask::{Mask, MaskError};
+pub use bytewise::deposit_bytewise;
+pub use deposit::{DepositBits, Portable, PortableLoop, deposit_two_holes, deposit_two_lowest};
 use mask_bits::BitBuffer;
+pub use select::SelectBit;
 use std::alloc::{AllocError, Global};
+pub use steps::Steps;
 
 impl Mask {
     /// The mask in which the true values of this one are narrowed by a mask over them: true value
