@@ -33,8 +33,9 @@ pub fn has_chosen(rows: &BitBuffer, size: usize, number: usize) -> bool
     ensures { IsTrue result ↔ Any (λ v. v ≡ true) (group (values rows.now) size number) }
 {
     laws::counts();
+    let len = rows.len();
     let start = size * number;
-    let end = start + size.min(rows.len() - start);
+    let end = start + size.min(len - start);
     rows.count_range(start, end) > 0
 }
 
