@@ -1,3 +1,4 @@
+mod builder;
 mod sweep;
 mod uses;
 

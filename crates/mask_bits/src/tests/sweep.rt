@@ -22,7 +22,7 @@ impl Generator {
 }
 
 // The values from bit `offset` on, between bits that are all `outside`.
-fn packed(
+pub(super) fn packed(
     alloc: Global,
     offset: usize,
     values: &[bool],
