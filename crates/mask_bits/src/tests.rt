@@ -2,6 +2,8 @@
 // slow is inline asserts and `?` beside living values. So a helper makes one thing and asserts of it,
 // rows go as tuples through one loop over one helper, and a test function holds at most three `?` and
 // no chain of asserts. The sweeps and the callers stand in the crate `uses`.
+mod builder;
+
 ghost use Rattle.std.specs.Prelude.{◌≡◌, ◌<◌, ◌≤◌};
 
 use crate::{BitBuffer, BitIterator};
