@@ -1,10 +1,12 @@
 -- Lemmas. Crates above may cite those of `Lists`, and no others.
 mod BitLemmas
 mod BufferLemmas
+mod BuilderLemmas
 mod CombineLemmas
 mod EqLemmas
 mod Examples
 pub mod Lists
 mod NumberLemmas
 mod WindowLemmas
+mod WriteLemmas
 mod YieldLemmas

@@ -1,4 +1,5 @@
 pub mod Buffer
+pub mod BufferMut
 pub mod Combine
 pub mod Laws
 pub mod Lists

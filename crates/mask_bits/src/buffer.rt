@@ -178,9 +178,10 @@ impl BitBuffer {
         self.offset
     }
 
-    /// The backing bytes.
+    /// The backing bytes. All values are within them.
     pub fn inner(&self) -> &Bytes
-        ensures { result.now ≡ self.now.bytes }
+        ensures bytes { result.now ≡ self.now.bytes }
+        ensures within { IsWithinBytes self.now.bytes self.now.offset self.now.len }
     {
         &self.bytes
     }
@@ -260,7 +261,7 @@ fn zeroed(alloc: Global, len: usize) -> Result<Vec<u8>, AllocError>
 }
 
 // Sets the bit at one position and no other.
-fn set_bit(bytes: &mut [u8], position: usize)
+pub(crate) fn set_bit(bytes: &mut [u8], position: usize)
     requires { position < 8 * length bytes.old }
     ensures { (p : ℕ) → backing_bit bytes.new p ≡ (nat_eq p position || backing_bit bytes.old p) }
 {

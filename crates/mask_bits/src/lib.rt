@@ -4,6 +4,7 @@
 mod bitops;
 mod bools;
 mod buffer;
+mod buffer_mut;
 mod chunks;
 pub mod combine;
 mod eq;
@@ -15,9 +16,11 @@ mod slices;
 #[cfg(test)]
 mod tests;
 pub mod words;
+mod writes;
 
 pub use bools::BitIterator;
 pub use buffer::BitBuffer;
+pub use buffer_mut::BitBufferMut;
 pub use chunks::{BitChunks, Words};
 pub use indices::SetIndices;
 pub use slices::SetSlices;

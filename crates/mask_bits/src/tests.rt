@@ -1,3 +1,4 @@
+mod pointwise;
 mod sweep;
 mod uses;
 

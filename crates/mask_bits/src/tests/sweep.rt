@@ -10,10 +10,10 @@ const LONGEST: usize = 130;
 
 // A generator of 64-bit words with a fixed start.
 #[derive(Drop)]
-struct Generator(u64);
+pub(super) struct Generator(pub(super) u64);
 
 impl Generator {
-    fn next(&mut self) -> u64 {
+    pub(super) fn next(&mut self) -> u64 {
         self.0 ^= self.0 << 13;
         self.0 ^= self.0 >> 7;
         self.0 ^= self.0 << 17;
@@ -22,7 +22,7 @@ impl Generator {
 }
 
 // The values from bit `offset` on, between bits that are all `outside`.
-fn packed(
+pub(super) fn packed(
     alloc: Global,
     offset: usize,
     values: &[bool],
