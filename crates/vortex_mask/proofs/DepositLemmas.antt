@@ -29,11 +29,6 @@ deposit-even k s m e =
     let all : s / 1 ≡ s = omega arith in
     ap₂ (λ b l. deposit k (s / 2 ^ b) (m / 2) * 2 + l) e first ∙ ap (λ x. deposit k x (m / 2) * 2 + 0) all ∙ omega arith
 
-pub deposit-lt : (k s m : ℕ) → deposit k s m < 2 ^ k
-unfolding deposit
-deposit-lt zero s m = omega arith
-deposit-lt (suc k) s m = omega (arith, deposit-lt k (s / 2 ^ (m % 2)) (m / 2), pow-suc 2 k)
-
 pub bit_at-deposit : (k s m i : ℕ) → i < k → bit_at (deposit k s m) i ≡ min (bit_at m i) (bit_at s (ones_below m i))
 unfolding deposit
 bit_at-deposit zero s m i h = absurd (omega arith)
