@@ -1,9 +1,9 @@
 use Rattle.std.proofs.Common.{ℕ, ◌++◌, ◌∷◌, [], List, false, string_bytes, map, take, ap, sym, ◌∙◌}
 use Rattle.std.proofs.lemmas.List.{map_more}
 use Rattle.std.proofs.lemmas.Option.{get_or_from_slice_get, slice_get_within}
-use Rattle.maskrun.specs.Answer.{digit}
+use Rattle.maskrun.specs.Text.{digit}
 use Rattle.vortex_mask.specs.Mask.{truth}
-use Rattle.maskrun.proofs.answer.word.mask_text.Goals as goal
+use Rattle.maskrun.proofs.answer.text.mask_text.Goals as goal
 
 pub loop-place-preserved : goal.loop-place-preserved
 loop-place-preserved c =
