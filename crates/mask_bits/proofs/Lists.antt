@@ -1,4 +1,5 @@
 -- Lemmas on lists of truth values, for this crate and for those above it.
+pub mod BitsLemmas
 pub mod BooleanLemmas
 pub mod ChooseLemmas
 pub mod CountLemmas

@@ -7,6 +7,7 @@ ghost use Rattle.mask_bits.specs.Runs.{AreRuns};
 
 use crate::bools::BitIterator;
 use crate::chunks::BitChunks;
+use crate::counts::count_bits;
 use crate::indices::SetIndices;
 use crate::slices::SetSlices;
 use bytes::Bytes;
@@ -155,7 +156,7 @@ impl BitBuffer {
     pub fn true_count(&self) -> usize
         ensures { result ≡ count (values self.now) }
     {
-        self.set_indices().count()
+        count_bits(self.bytes.as_slice(), self.offset, self.len)
     }
 
     /// How many of the values from `start` to `end` are true.
@@ -164,13 +165,7 @@ impl BitBuffer {
         requires within { end ≤ length (values self.now) }
         ensures { result ≡ count (slice_range (values self.now) start end) }
     {
-        let mut count = 0;
-        for i in start..end {
-            if self.value(i) {
-                count += 1;
-            }
-        }
-        count
+        count_bits(self.bytes.as_slice(), self.offset + start, end - start)
     }
 
     /// The position of value 0 in the backing bytes, in bits.

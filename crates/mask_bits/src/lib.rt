@@ -4,6 +4,7 @@
 mod bools;
 mod buffer;
 mod chunks;
+pub mod counts;
 mod eq;
 mod indices;
 pub mod laws;
