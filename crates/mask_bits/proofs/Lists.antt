@@ -6,6 +6,7 @@ pub mod CountLemmas
 pub mod FrontLemmas
 pub mod LawLemmas
 pub mod LimitLemmas
+pub mod PaddedLemmas
 pub mod PartLemmas
 pub mod PlaceLemmas
 pub mod RangeLemmas

@@ -15,6 +15,6 @@ pub mod words;
 
 pub use bools::BitIterator;
 pub use buffer::BitBuffer;
-pub use chunks::{BitChunks, Words};
+pub use chunks::{BitChunks, PaddedWords, Words};
 pub use indices::SetIndices;
 pub use slices::SetSlices;
