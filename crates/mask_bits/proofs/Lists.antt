@@ -6,6 +6,7 @@ pub mod CountLemmas
 pub mod FrontLemmas
 pub mod LawLemmas
 pub mod LimitLemmas
+pub mod LowestLemmas
 pub mod PaddedLemmas
 pub mod PartLemmas
 pub mod PlaceLemmas
@@ -14,4 +15,5 @@ pub mod RankLemmas
 pub mod RunLemmas
 pub mod ScanLemmas
 pub mod ShiftLemmas
+pub mod WalkLemmas
 pub mod WordLemmas

@@ -91,7 +91,8 @@ impl<'a> BitChunks<'a> {
     // How many words are started.
     #[inline]
     pub(crate) fn padded_len(&self) -> usize
-        ensures { result ≡ started_words (length self.now) }
+        ensures words { result ≡ started_words (length self.now) }
+        ensures fits { length self.now < 2 ^ 64 }
     {
         self.len.div_ceil(64)
     }
@@ -102,7 +103,8 @@ impl<'a> BitChunks<'a> {
         requires { i < started_words (length self.now) }
         ensures { word_bits result ≡ padded_part self.now i }
     {
-        let word = window(self.bytes, self.offset + 64 * i);
+        let position = self.offset + 64 * i;
+        let word = window(self.bytes, position);
         let left = self.len - 64 * i;
         if left < 64 {
             word & ((1 << left) - 1)

@@ -8,6 +8,7 @@ pub mod counts;
 mod eq;
 mod indices;
 pub mod laws;
+mod scan;
 mod slices;
 #[cfg(test)]
 mod tests;

@@ -7,11 +7,11 @@ use Rattle.mask_bits.proofs.BufferLemmas.{len-of_list}
 use Rattle.mask_bits.proofs.Lists.PaddedLemmas.{padded_part-window, padded_part-low}
 use Rattle.mask_bits.proofs.chunks.BitChunks.padded_word.Goals as goal
 
-pub overflow_mul-i : goal.overflow_mul-i
-overflow_mul-i c = omega (arith, len-of_list _ c.self.view_is)
+pub overflow_mul-position : goal.overflow_mul-position
+overflow_mul-position c = omega (arith, len-of_list _ c.self.view_is)
 
-pub overflow_add-self-inside : goal.overflow_add-self-inside
-overflow_add-self-inside c = omega (arith, len-of_list _ c.self.view_is)
+pub overflow_add-position : goal.overflow_add-position
+overflow_add-position c = omega (arith, len-of_list _ c.self.view_is)
 
 pub overflow_mul-left : goal.overflow_mul-left
 overflow_mul-left c = omega (arith, len-of_list _ c.self.view_is)

@@ -7,4 +7,4 @@ use Rattle.mask_bits.proofs.chunks.PaddedWordsExactSizeIterator.len.Goals as goa
 pub returns-clause-value : goal.returns-clause-value
 returns-clause-value c =
     let m = c.self.inside.chunks in
-    omega (arith, c.padded_len.ensures, ap length c.self.view_is, length-drop c.self.inside.next (padded_parts m), length-padded_parts m)
+    omega (arith, c.padded_len.ensures.words, ap length c.self.view_is, length-drop c.self.inside.next (padded_parts m), length-padded_parts m)

@@ -3,4 +3,4 @@ use Rattle.mask_bits.proofs.Lists.RunLemmas.{AreRuns-runs_from}
 use Rattle.mask_bits.proofs.slices.SetSlices.new.Goals as goal
 
 pub returns : goal.returns
-returns c = AreRuns-runs_from (values c.args.buffer.now)
+returns c = ?
