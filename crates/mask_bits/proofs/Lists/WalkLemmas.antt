@@ -355,3 +355,9 @@ runs-lowest m i w j v some fits v_fits left passes last =
     (λ p h. left_of-same m j v u p passes.is.within (omega arith) (λ k few_k place. bit_at-ones_others v k v_fits few_k (omega arith))
     ∙ passes.rest p (omega arith)
     ∙ left_of-filled m i w p some fits within (omega (arith, runs-start_below_stop m i w j v some fits v_fits left passes last)))
+
+-- an all-false list has no run
+pub runs_from-repeated_false : (n k : ℕ) → runs_from n (repeated k false) ≡ []
+unfolding repeated
+runs_from-repeated_false n zero = refl
+runs_from-repeated_false n (suc k) = runs_from-repeated_false (n + 1) k
