@@ -3,6 +3,7 @@ mod BitLemmas
 mod BufferLemmas
 mod LawRules
 mod Examples
+mod FirstLemmas
 pub mod Lists
 mod NumberLemmas
 mod WindowLemmas

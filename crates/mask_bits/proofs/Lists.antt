@@ -14,6 +14,7 @@ pub mod RangeLemmas
 pub mod RankLemmas
 pub mod RunLemmas
 pub mod ScanLemmas
+pub mod SelectLemmas
 pub mod ShiftLemmas
 pub mod WalkLemmas
 pub mod WordLemmas

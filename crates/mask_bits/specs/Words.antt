@@ -1,5 +1,5 @@
 -- Words of 64 bits as lists of truth values.
-use Rattle.std.specs.Prelude.{ℕ, ◌+◌, ◌*◌, ◌-◌, ◌/◌, ◌%◌, Bool, false, nat_eq, List, [], ◌∷◌, ◌++◌, length, take, drop, map, slice_range}
+use Rattle.std.specs.Prelude.{ℕ, ◌+◌, ◌*◌, ◌-◌, ◌/◌, ◌%◌, Bool, false, nat_eq, List, ◌++◌, length, take, drop, map, slice_range}
 use Rattle.std.specs.Int.{bit_at}
 use Rattle.std.specs.List.{range_with_len}
 use Rattle.mask_bits.specs.Buffer.{backing_bit}

@@ -1,15 +1,15 @@
 -- The bits of some bytes from any position on: parts of them, the words that show them, and their counts.
-use Rattle.std.proofs.Common.{◌≡◌, ℕ, ◌+◌, ◌*◌, ◌-◌, ◌/◌, ◌%◌, ◌^◌, ◌<◌, ◌≤◌, Bool, false, nat_eq, List, ◌++◌, length, get_or, take, drop, slice_range, refl, sym, ap, ◌∙◌, inl, inr, arith, add_assoc, count_ones}
+use Rattle.std.proofs.Common.{◌≡◌, ℕ, ◌+◌, ◌*◌, ◌-◌, ◌/◌, ◌%◌, ◌^◌, ◌<◌, ◌≤◌, Bool, false, nat_eq, List, ◌++◌, length, get_or, drop, sym, ap, ◌∙◌, inl, inr, arith, count_ones}
 use Rattle.std.specs.Int.{bit_at}
 use Rattle.std.specs.Int.RustNames.{bit_and}
 use Rattle.std.proofs.lemmas.Bool.{cases_lt}
-use Rattle.std.proofs.lemmas.List.{length-append, length-take, length-drop, get_or_append_left, get_or-append_right, get_or-drop, get_or-take, length-replicate, get_or-replicate, ext_get_or}
-use Rattle.mask_bits.specs.Buffer.{Packed, backing_bit, values}
+use Rattle.std.proofs.lemmas.List.{length-append, get_or_append_left, get_or-append_right, get_or-drop, length-replicate, get_or-replicate}
+use Rattle.mask_bits.specs.Buffer.{backing_bit, values}
 use Rattle.mask_bits.specs.Positions.{count, repeated}
 use Rattle.mask_bits.specs.Words.{word_bits, window}
-use Rattle.mask_bits.proofs.BufferLemmas.{length-values, get_or-values, values_from_bits, values-part}
+use Rattle.mask_bits.proofs.BufferLemmas.{length-values, get_or-values, values_from_bits}
 use Rattle.mask_bits.proofs.Lists.CountLemmas.{count-append, count-repeated_false}
-use Rattle.mask_bits.proofs.Lists.FrontLemmas.{get_or-window, length-window}
+use Rattle.mask_bits.proofs.Lists.FrontLemmas.{get_or-window}
 use Rattle.mask_bits.proofs.Lists.WordLemmas.{word_bits_from_bits, get_or-word_bits, count-word_bits}
 use Rattle.mask_bits.proofs.Lists.PlaceLemmas.{count-le-length}
 use Rattle.mask_bits.proofs.NumberLemmas.{bit_at-low_mask, bit_at-past_mask}
@@ -92,3 +92,8 @@ count-split bytes part p q h w t n byte is len =
 -- no more of some bits are true than there are
 pub count-bits_at-le : (bytes : List ℕ) (p n : ℕ) → count (bits_at bytes p n) ≤ n
 count-bits_at-le bytes p n = omega (arith, count-le-length (bits_at bytes p n), length-bits_at bytes p n)
+
+-- bit j of a word that shows the bits from p on
+pub bit-window : (bytes : List ℕ) (p w j : ℕ) → word_bits w ≡ window bytes p → j < 64 → nat_eq (bit_at w j) 1 ≡ backing_bit bytes (p + j)
+bit-window bytes p w j shows h =
+    sym (get_or-word_bits w j false h) ∙ ap (λ (xs : List Bool). get_or xs j false) shows ∙ get_or-window bytes p j false h

@@ -1,8 +1,9 @@
 -- The lowest set bit of a word, and its lowest run of set bits: cleared, and filled up from below.
-use Rattle.std.proofs.Common.{◌≡◌, ◌≢◌, ℕ, zero, suc, ◌+◌, ◌-◌, ◌*◌, ◌/◌, ◌%◌, ◌^◌, ◌<◌, ◌≤◌, sym, ap, ◌∙◌, inl, inr, arith}
-use Rattle.std.specs.Int.{bit_at, bit_not, w64, trailing_zeros, trailing_ones}
+use Rattle.std.proofs.Common.{◌≡◌, ◌≢◌, ℕ, zero, suc, ◌+◌, ◌-◌, ◌/◌, ◌%◌, ◌^◌, ◌<◌, ◌≤◌, sym, ap, ◌∙◌, inl, inr, arith}
+use Rattle.std.specs.Int.{bit_at, w64, trailing_zeros, trailing_ones}
 use Rattle.std.specs.Int.Count.{trailing_of_zero}
 use Rattle.std.specs.Int.RustNames.{bit_and, bit_or}
+use Rattle.std.proofs.lemmas.Nat.{trailing_le}
 use Rattle.std.proofs.lemmas.Bool.{cases_lt, cases_eq}
 use Rattle.std.proofs.lemmas.Nat.Bits.{bit_at_lowest, bit_at-suc, bit_at_and, bit_at_or, bit_at-lt, bit_at-zero, bit_at_ones, bit_at-trailing_zeros, bit_at-trailing_ones}
 
@@ -182,4 +183,21 @@ bit_at-ones_others w i fits low_enough h = elim (cases_eq w (2 ^ 64 - 1)) [
             let same : i ≡ ones w = omega arith in
             ap (bit_at (bit_and w (w + 1))) same ∙ omega (arith, bit_at_and w (w + 1) (ones w), clear) ∙ sym clear ∙ ap (bit_at w) (sym same)
       ]
+]
+
+-- ---- zeros at the low end of a word, 64 where there is nothing else
+
+pub zeros-within : (w : ℕ) → w < 2 ^ 64 → low w ≤ 64
+zeros-within w fits = trailing_le 64 w
+
+pub zeros-clear : (w i : ℕ) → w < 2 ^ 64 → i < low w → bit_at w i ≡ 0
+zeros-clear w i fits h = elim (cases_eq w 0) [
+  | inl none ↦ ap (λ k. bit_at k i) none ∙ bit_at-zero i
+  | inr some ↦ low-first w i (omega arith) fits h
+]
+
+pub zeros-end : (w : ℕ) → w < 2 ^ 64 → low w < 64 → bit_at w (low w) ≡ 1
+zeros-end w fits h = elim (cases_eq w 0) [
+  | inl none ↦ absurd (omega (arith, ap low none, trailing_of_zero 64))
+  | inr some ↦ low-set w (omega arith) fits
 ]

@@ -1,6 +1,5 @@
 -- A list in started words: the last one has false values up to a whole word.
-use Rattle.std.proofs.Common.{◌≡◌, ℕ, ◌+◌, ◌*◌, ◌-◌, ◌/◌, ◌%◌, ◌^◌, ◌<◌, ◌≤◌, Bool, false, List, [], ◌∷◌, ◌++◌, length, get_or, take, drop, slice_range, refl, sym, ap, ◌∙◌, inl, inr, arith, nat_eq, add_assoc, if◌then◌else◌}
-use Rattle.std.specs.Int.{bit_at}
+use Rattle.std.proofs.Common.{◌≡◌, ℕ, ◌+◌, ◌*◌, ◌-◌, ◌/◌, ◌%◌, ◌^◌, ◌<◌, ◌≤◌, Bool, false, List, [], ◌∷◌, ◌++◌, length, get_or, drop, refl, sym, ap, ◌∙◌, inl, inr, arith, add_assoc}
 use Rattle.std.specs.Int.RustNames.{bit_and}
 use Rattle.std.proofs.lemmas.Bool.{cases_lt}
 use Rattle.std.proofs.lemmas.List.{drop_more, drop_all, ext_get_or, length-append, length-drop, length-take, get_or_append_left, get_or-append_right, get_or-drop, get_or-take, get_or_past, get_or-replicate, length-replicate}
@@ -8,10 +7,10 @@ use Rattle.std.proofs.lemmas.List.Edits.{length-between, get_or-between}
 use Rattle.std.proofs.lemmas.List.FromFn.{length-map-range_with_len, get_or-map-range_with_len}
 use Rattle.mask_bits.specs.Buffer.{Packed, backing_bit, values}
 use Rattle.mask_bits.specs.Positions.{repeated}
-use Rattle.mask_bits.specs.Words.{word_bits, window, word_part, word_parts, padded_remainder, started_words, padded_part, padded_parts}
+use Rattle.mask_bits.specs.Words.{word_bits, window, word_part, padded_remainder, started_words, padded_part, padded_parts}
 use Rattle.mask_bits.proofs.BufferLemmas.{length-values, get_or-values}
 use Rattle.mask_bits.proofs.Lists.BitsLemmas.{bits_at, length-bits_at, get_or-bits_at, word_bits-low}
-use Rattle.mask_bits.proofs.Lists.FrontLemmas.{length-window, get_or-window}
+use Rattle.mask_bits.proofs.Lists.FrontLemmas.{get_or-window}
 use Rattle.mask_bits.proofs.Lists.WordLemmas.{length-word_bits}
 
 pub length-padded_part : (m : List Bool) (i : ℕ) → length (padded_part m i) ≡ 64

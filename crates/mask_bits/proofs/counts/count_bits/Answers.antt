@@ -1,4 +1,4 @@
-use Rattle.std.proofs.Common.{ℕ, ◌≡◌, ◌+◌, ◌-◌, ◌*◌, ◌/◌, ◌%◌, take, drop, length, ap, sym, ◌∙◌, arith}
+use Rattle.std.proofs.Common.{ℕ, ◌≡◌, ◌+◌, ◌-◌, ◌*◌, ◌/◌, ◌%◌, take, drop, length, ap, arith}
 use Rattle.std.proofs.lemmas.List.{take_rest}
 use Rattle.mask_bits.specs.Positions.{count}
 use Rattle.mask_bits.proofs.Lists.BitsLemmas.{bits_at, count-split, count-bits_at-le}

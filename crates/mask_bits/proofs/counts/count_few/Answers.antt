@@ -1,4 +1,4 @@
-use Rattle.std.proofs.Common.{◌-◌, ◌<◌, ◌^◌, ap, sym, subst, ◌∙◌, refl, ℕ, arith, count_ones}
+use Rattle.std.proofs.Common.{◌-◌, ◌^◌, ap, ◌∙◌, refl, arith, count_ones}
 use Rattle.std.specs.Int.RustNames.{bit_and}
 use Rattle.std.proofs.lemmas.Grind.{one_shifted}
 use Rattle.std.proofs.lemmas.Nat.{and_le_l}

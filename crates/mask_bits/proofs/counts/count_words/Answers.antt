@@ -1,6 +1,6 @@
 use Rattle.std.proofs.Common.{◌*◌, ◌+◌, ◌≡◌, ap, sym, ◌∙◌, arith, count_ones}
 use Rattle.mask_bits.specs.Positions.{count}
-use Rattle.mask_bits.proofs.Lists.BitsLemmas.{bits_at, count-bits_at-le, length-bits_at}
+use Rattle.mask_bits.proofs.Lists.BitsLemmas.{bits_at, count-bits_at-le}
 use Rattle.mask_bits.proofs.Lists.CountLemmas.{count-append}
 use Rattle.mask_bits.proofs.Lists.FrontLemmas.{front-more_word}
 use Rattle.mask_bits.proofs.Lists.WordLemmas.{count-word_bits}

@@ -1,4 +1,4 @@
-use Rattle.std.proofs.Common.{ℕ, ◌+◌, ◌<◌, length, ap, sym, ◌∙◌, arith}
+use Rattle.std.proofs.Common.{◌+◌, ◌<◌, length, ap, sym, ◌∙◌, arith}
 use Rattle.mask_bits.specs.Walk.{left_of}
 use Rattle.mask_bits.specs.Words.{started_words}
 use Rattle.mask_bits.proofs.Lists.WalkLemmas.{left_of-next, left_of-last, IsLeft-read}

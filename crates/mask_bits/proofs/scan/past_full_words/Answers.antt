@@ -1,4 +1,4 @@
-use Rattle.std.proofs.Common.{◌+◌, arith}
+use Rattle.std.proofs.Common.{arith}
 use Rattle.mask_bits.proofs.Lists.WalkLemmas.{PassesTrue-more}
 use Rattle.mask_bits.proofs.scan.past_full_words.Goals as goal
 

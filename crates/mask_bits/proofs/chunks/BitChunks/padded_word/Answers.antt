@@ -1,4 +1,4 @@
-use Rattle.std.proofs.Common.{Bool, List, ℕ, ◌-◌, ◌*◌, ◌<◌, ◌^◌, refl, ap, ◌∙◌, arith}
+use Rattle.std.proofs.Common.{Bool, List, ℕ, ◌-◌, ◌*◌, refl, ap, ◌∙◌, arith}
 use Rattle.std.specs.Int.RustNames.{bit_and}
 use Rattle.std.proofs.lemmas.Grind.{one_shifted}
 use Rattle.mask_bits.specs.Buffer.{Packed}

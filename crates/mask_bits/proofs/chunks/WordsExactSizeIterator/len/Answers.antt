@@ -1,4 +1,4 @@
-use Rattle.std.proofs.Common.{length, ap, sym, ◌∙◌, arith}
+use Rattle.std.proofs.Common.{length, ap, arith}
 use Rattle.std.proofs.lemmas.List.{length-drop}
 use Rattle.mask_bits.specs.Words.{word_parts}
 use Rattle.mask_bits.proofs.Lists.WordLemmas.{length-word_parts}

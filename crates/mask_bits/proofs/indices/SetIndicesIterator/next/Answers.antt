@@ -1,7 +1,5 @@
-use Rattle.std.proofs.Common.{ℕ, List, ◌≢◌, ◌<◌, ◌*◌, ◌+◌, ◌-◌, ◌∷◌, length, ap, sym, ◌∙◌, arith}
-use Rattle.std.specs.Int.RustNames.{bit_and}
+use Rattle.std.proofs.Common.{◌<◌, length, ap, sym, ◌∙◌, arith}
 use Rattle.mask_bits.specs.Positions.{positions}
-use Rattle.mask_bits.specs.Walk.{left_of, IsLeft}
 use Rattle.mask_bits.proofs.Lists.CountLemmas.{positions-all_false}
 use Rattle.mask_bits.proofs.Lists.WalkLemmas.{places-lowest, low-inside, IsLeft-cleared}
 use Rattle.mask_bits.proofs.YieldLemmas.{MakesProgress-item}

@@ -1,4 +1,4 @@
-use Rattle.std.proofs.Common.{Bool, List, ℕ, sym, ap, subst, ◌∙◌}
+use Rattle.std.proofs.Common.{Bool, List, sym, subst, ◌∙◌}
 use Rattle.mask_bits.specs.Buffer.{values}
 use Rattle.mask_bits.specs.RunScan.{runs_from}
 use Rattle.mask_bits.specs.Runs.{AreRuns}
