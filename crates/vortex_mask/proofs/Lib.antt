@@ -7,5 +7,6 @@ mod Examples
 pub mod HoleLemmas
 pub mod MaskLemmas
 pub mod NetworkLemmas
+pub mod PlaceListLemmas
 pub mod ResultLemmas
 pub mod SetPlaceLemmas

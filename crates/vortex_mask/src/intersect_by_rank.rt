@@ -1,5 +1,7 @@
 mod bytewise;
 mod deposit;
+mod indices;
+mod rank_bits;
 mod select;
 mod steps;
 #[cfg(test)]
@@ -14,7 +16,9 @@ use crate::laws;
 use crate::mask::{Mask, MaskError};
 pub use bytewise::deposit_bytewise;
 pub use deposit::{DepositBits, Portable, PortableLoop, deposit_two_holes, deposit_two_lowest};
+pub use indices::intersect_by_rank_indices;
 use mask_bits::BitBuffer;
+pub use rank_bits::RankBits;
 pub use select::SelectBit;
 use std::alloc::{AllocError, Global};
 pub use steps::Steps;
