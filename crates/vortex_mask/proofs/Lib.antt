@@ -10,3 +10,4 @@ pub mod NetworkLemmas
 pub mod PlaceListLemmas
 pub mod ResultLemmas
 pub mod SetPlaceLemmas
+pub mod WordKernelLemmas

@@ -1,4 +1,5 @@
-ghost use Rattle.std.specs.Prelude.{◌≡◌, ◌+◌, ◌<◌, ◌^◌};
+ghost use Rattle.std.specs.Prelude.{◌≡◌, ◌+◌, ◌<◌, ◌^◌, length};
+ghost use Rattle.mask_bits.specs.Buffer.{values};
 ghost use Rattle.mask_bits.specs.Words.{word_bits, window};
 
 use mask_bits::BitBuffer;
@@ -35,9 +36,7 @@ impl<'a> RankBits<'a> {
         requires { self.now.offset + offset < 2 ^ 64 }
         ensures { word_bits result ≡ window self.now.bytes (self.now.offset + offset) }
     {
-        words::window(
-            self.buffer.inner().as_slice(),
-            self.buffer.offset() + offset,
-        )
+        let bytes = self.buffer.inner().as_slice();
+        words::window(bytes, self.buffer.offset() + offset)
     }
 }
