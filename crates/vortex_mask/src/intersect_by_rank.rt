@@ -1,6 +1,7 @@
 mod bytewise;
 mod deposit;
 mod indices;
+mod kernels;
 mod rank_bits;
 mod select;
 mod steps;
@@ -18,6 +19,7 @@ use crate::mask::{Mask, MaskError};
 pub use bytewise::deposit_bytewise;
 pub use deposit::{DepositBits, Portable, PortableLoop, deposit_two_holes, deposit_two_lowest};
 pub use indices::intersect_by_rank_indices;
+pub use kernels::intersect_bit_buffers;
 use mask_bits::BitBuffer;
 pub use rank_bits::RankBits;
 pub use select::SelectBit;

@@ -1,5 +1,5 @@
-ghost use Rattle.std.specs.Prelude.{◌≡◌, ◌+◌, ◌<◌, ◌^◌, length};
-ghost use Rattle.mask_bits.specs.Buffer.{values};
+ghost use Rattle.std.specs.Prelude.{◌≡◌, ◌+◌, ◌<◌, ◌^◌};
+ghost use Rattle.mask_bits.specs.Buffer.{IsWithinBytes};
 ghost use Rattle.mask_bits.specs.Words.{word_bits, window};
 
 use mask_bits::BitBuffer;
@@ -23,8 +23,11 @@ impl<'a> Model for RankBits<'a> {
 impl<'a> RankBits<'a> {
     /// The bits of `buffer`.
     pub fn new(buffer: &'a BitBuffer) -> RankBits<'a>
-        ensures { result ≡ buffer.now }
+        ensures buffer { result ≡ buffer.now }
+        ensures within { IsWithinBytes result.bytes result.offset result.len }
     {
+        // named, so that the proof may use that the bits are within the bytes
+        let _ = buffer.inner();
         RankBits { buffer }
     }
 
