@@ -8,6 +8,7 @@ pub mod HoleLemmas
 pub mod MaskLemmas
 pub mod NetworkLemmas
 pub mod PlaceListLemmas
+pub mod RankWordLemmas
 pub mod ResultLemmas
 pub mod SetPlaceLemmas
 pub mod WordKernelLemmas

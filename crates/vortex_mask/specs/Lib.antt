@@ -5,6 +5,7 @@ pub mod Faults
 pub mod Laws
 pub mod Mask
 pub mod MaskValues
+pub mod Ranks
 pub mod Steps
 pub use Rattle.mask_bits.specs.Buffer
 pub use Rattle.mask_bits.specs.Positions

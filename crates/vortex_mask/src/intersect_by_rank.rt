@@ -19,7 +19,7 @@ use crate::mask::{Mask, MaskError};
 pub use bytewise::deposit_bytewise;
 pub use deposit::{DepositBits, Portable, PortableLoop, deposit_two_holes, deposit_two_lowest};
 pub use indices::intersect_by_rank_indices;
-pub use kernels::intersect_bit_buffers;
+pub use kernels::{intersect_bit_buffer_by_rank_indices, intersect_bit_buffers};
 use mask_bits::BitBuffer;
 pub use rank_bits::RankBits;
 pub use select::SelectBit;
