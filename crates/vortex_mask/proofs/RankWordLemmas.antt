@@ -9,11 +9,9 @@ use Rattle.std.proofs.lemmas.Bool.{cases_lt, cases_eq, eq-eqb, ne_eqb}
 use Rattle.std.proofs.lemmas.List.{take_more, take-append-drop, get_or-take, get_or-drop, length-take, length-drop}
 use Rattle.std.proofs.lemmas.List.Folds.{list_any-append, list_any_none}
 use Rattle.std.proofs.lemmas.Nat.Bits.{bit_at-zero, bit_at-pow_same, bit_at-pow_other}
-use Rattle.std.specs.List.{All}
 use Rattle.std.proofs.lemmas.List.FromFn.{get_or-map-range_with_len}
-use Rattle.mask_bits.specs.Positions.{positions, count, count_below, true_at, at_places, rank_intersection}
+use Rattle.mask_bits.specs.Positions.{count, count_below, true_at}
 use Rattle.mask_bits.specs.Words.{word_bits, padded_part}
-use Rattle.mask_bits.proofs.Lists.AscendingLemmas.{positions-true_at}
 use Rattle.vortex_mask.proofs.WordKernelLemmas.{AreRankBits, place-after_within}
 use Rattle.mask_bits.proofs.Lists.ShiftLemmas.{get_or-word_bits_or}
 use Rattle.mask_bits.proofs.Lists.WordLemmas.{get_or-word_bits}
@@ -128,8 +126,3 @@ pub rank_bits-listed : (a : List Bool) (ranks : List ℕ) (i at end s m ones : �
 rank_bits-listed a ranks i at end s m ones place shows counted ends bits = λ k h.
     bits k (omega arith)
     ∙ sym (get_or-true_at (count a) ranks (at + k) (omega (arith, place-after_within a i at m ones place shows counted)))
-
--- a mask narrowed by the list that is true at some ranks is true at its true places taken at these
-pub narrowed_at : (a : List Bool) (ranks : List ℕ) → IsStrictlyIncreasing ranks → All (λ k. k < count a) ranks → rank_intersection a (true_at (count a) ranks) ≡ true_at (length a) (at_places (positions a) ranks)
-narrowed_at a ranks ascending within =
-    ap (λ (ps : List ℕ). true_at (length a) (at_places (positions a) ps)) (positions-true_at (count a) ranks ascending within)

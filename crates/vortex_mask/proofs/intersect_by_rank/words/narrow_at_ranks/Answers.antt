@@ -6,7 +6,8 @@ use Rattle.mask_bits.proofs.Lists.PlaceLemmas.{count-le-length}
 use Rattle.mask_bits.proofs.Lists.RankLemmas.{length-true_at}
 use Rattle.mask_bits.proofs.Lists.WordLemmas.{count-word_bits}
 use Rattle.vortex_mask.specs.Steps.{word_steps}
-use Rattle.vortex_mask.proofs.RankWordLemmas.{rank_bits-listed, narrowed_at}
+use Rattle.vortex_mask.proofs.PlaceListLemmas.{narrowed_at}
+use Rattle.vortex_mask.proofs.RankWordLemmas.{rank_bits-listed}
 use Rattle.vortex_mask.proofs.WordKernelLemmas.{word-started, deposited-more, place-after_within, deposited-list, deposited-steps}
 use Rattle.vortex_mask.proofs.intersect_by_rank.words.narrow_at_ranks.Goals as goal
 
