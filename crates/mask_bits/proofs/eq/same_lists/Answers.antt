@@ -1,4 +1,4 @@
-use Rattle.std.proofs.Common.{◌∙◌, ◌≡◌, ◌/◌, ◌*◌, length, sym, ap, arith, refl}
+use Rattle.std.proofs.Common.{◌∙◌, ◌≡◌, ◌/◌, ◌*◌, length, sym, ap, arith}
 use Rattle.std.proofs.lemmas.Bool.{false≢true, eqb-true, eq-eqb}
 use Rattle.mask_bits.specs.Buffer.{values}
 use Rattle.mask_bits.specs.Words.{word_bits, padded_remainder}
