@@ -3,7 +3,7 @@
 ghost use Rattle.std.specs.Prelude.{◌≡◌, length};
 ghost use Rattle.mask_bits.specs.Buffer.{values};
 
-use super::sweep::{packed, Generator};
+use super::sweep::{Generator, packed};
 use crate::BitBuffer;
 use std::alloc::{AllocError, Global};
 use std::process::Abort;
@@ -22,11 +22,7 @@ enum Op {
 const OPS: [Op; 4] = [Op::And, Op::Or, Op::AndNot, Op::Not];
 
 // Values at random.
-fn some_values(
-    alloc: Global,
-    words: &mut Generator,
-    len: usize,
-) -> Result<Vec<bool>, AllocError> {
+fn some_values(alloc: Global, words: &mut Generator, len: usize) -> Result<Vec<bool>, AllocError> {
     let mut values: Vec<bool> = Vec::new(alloc);
     for _ in 0..len {
         values.push(words.next() % 5 < 3)?;
