@@ -4,6 +4,8 @@
 // no chain of asserts. The sweeps and the callers stand in the crate `uses`.
 ghost use Rattle.std.specs.Prelude.{◌≡◌, ◌<◌, ◌≤◌};
 
+mod walks;
+
 use crate::{BitBuffer, BitIterator};
 use bytes::Bytes;
 use std::alloc::{AllocError, Global};
