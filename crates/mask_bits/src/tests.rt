@@ -7,6 +7,8 @@ mod pointwise;
 
 ghost use Rattle.std.specs.Prelude.{◌≡◌, ◌<◌, ◌≤◌};
 
+mod walks;
+
 use crate::{BitBuffer, BitIterator};
 use bytes::Bytes;
 use std::alloc::{AllocError, Global};
