@@ -1,18 +1,22 @@
 //! Masks: lists of truth values that say which rows are chosen.
 
-ghost use Rattle.std.specs.Prelude.{◌≡◌, ◌≢◌, ◌+◌, ◌<◌, ◌↔◌, [], true, false, if◌then◌else◌, IsTrue, IsOk, IfOk, Some, length, All, slice_get};
+ghost use Rattle.std.specs.Prelude.{◌≡◌, ◌≢◌, ◌+◌, ◌<◌, ◌↔◌, [], true, false, if◌then◌else◌, IsTrue, IsOk, IfOk, IfErr, Some, alloc_error, length, All, slice_get};
 ghost use Rattle.std.specs.Iterator.{UpTo, Drains};
 ghost use Rattle.std.specs.Iterator.Runs.{WholeRun};
 ghost use Rattle.std.specs.Option.{option_copied};
 ghost use Rattle.vortex_mask.specs.AllOr.{all_or_copied, IsListOf};
 ghost use Rattle.mask_bits.specs.Buffer.{values};
-ghost use Rattle.vortex_mask.specs.Mask.{truth, variant, fitting_variant, all_true, all_false, mixed, IsUniform, contents, held_buffer};
+ghost use Rattle.vortex_mask.specs.Mask.{truth, variant, fitting_variant, all_true, all_false, mixed, IsUniform, caches, contents, held_buffer};
+ghost use Rattle.vortex_mask.specs.MaskValues.{no_caches};
 ghost use Rattle.mask_bits.specs.Positions.{positions, count};
 ghost use Rattle.vortex_mask.specs.declared.mask.Mask.TheVariants.{AllTrue};
 
 mod all_or;
 mod error;
+mod from_excluded;
 mod from_indices;
+mod from_intersection;
+mod index_fault;
 mod values;
 
 pub use all_or::AllOr;
@@ -75,6 +79,8 @@ impl Mask {
     pub fn from_buffer(alloc: Global, buffer: BitBuffer) -> Result<Mask, MaskError>
         ensures list { IfOk result (λ m. truth m ≡ values buffer) }
         ensures variant { IfOk result (λ m. variant m ≡ fitting_variant all_false (values buffer)) }
+        ensures caches { IfOk result (λ m. caches m ≡ no_caches) }
+        ensures refused { IfErr result (λ e. e ≡ MaskError.Memory alloc_error) }
         ensures uniform { IsUniform (values buffer) → IsOk result }
     {
         let len = buffer.len();
@@ -112,6 +118,16 @@ impl Mask {
             Mask::AllFalse(len) => Ok(Mask::AllFalse(*len)),
             Mask::Values(values) => Ok(Mask::Values(values.clone()?)),
         }
+    }
+}
+
+/// Changes.
+impl Mask {
+    /// Becomes `AllFalse(0)`. The old values are given up.
+    pub fn clear(&mut self)
+        ensures { self.new ≡ Mask.AllFalse 0 }
+    {
+        *self = Mask::AllFalse(0);
     }
 }
 
