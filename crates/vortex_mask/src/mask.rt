@@ -6,7 +6,7 @@ ghost use Rattle.std.specs.Iterator.Runs.{WholeRun};
 ghost use Rattle.std.specs.Option.{option_copied};
 ghost use Rattle.vortex_mask.specs.AllOr.{all_or_copied, IsListOf};
 ghost use Rattle.mask_bits.specs.Buffer.{values};
-ghost use Rattle.vortex_mask.specs.Mask.{truth, variant, fitting_variant, all_true, all_false, mixed, IsUniform, caches, contents, held_buffer};
+ghost use Rattle.vortex_mask.specs.Mask.{truth, variant, fitting_variant, all_true, all_false, mixed, IsUniform, contents, held_buffer, caches};
 ghost use Rattle.vortex_mask.specs.MaskValues.{no_caches};
 ghost use Rattle.mask_bits.specs.Positions.{positions, count};
 ghost use Rattle.vortex_mask.specs.declared.mask.Mask.TheVariants.{AllTrue};
@@ -80,8 +80,8 @@ impl Mask {
         ensures list { IfOk result (λ m. truth m ≡ values buffer) }
         ensures variant { IfOk result (λ m. variant m ≡ fitting_variant all_false (values buffer)) }
         ensures caches { IfOk result (λ m. caches m ≡ no_caches) }
-        ensures refused { IfErr result (λ e. e ≡ MaskError.Memory alloc_error) }
         ensures uniform { IsUniform (values buffer) → IsOk result }
+        ensures memory { IfErr result (λ e. e ≡ MaskError.Memory alloc_error) }
     {
         let len = buffer.len();
         let true_count = buffer.true_count();
@@ -101,6 +101,7 @@ impl Mask {
         ensures list { IfOk result (λ m. Drains I.next_gives bools (truth m)) }
         ensures runs { IfOk result (λ m. WholeRun I.next_gives bools (λ p. truth m ≡ p.items)) }
         ensures variant { IfOk result (λ m. variant m ≡ fitting_variant all_false (truth m)) }
+        ensures caches { IfOk result (λ m. caches m ≡ no_caches) }
     {
         let buffer = BitBuffer::from_bools(alloc, bools)?;
         Mask::from_buffer(alloc, buffer)
@@ -111,6 +112,7 @@ impl Mask {
         ensures list { IfOk result (λ m. truth m ≡ truth self.now) }
         ensures variant { IfOk result (λ m. variant m ≡ variant self.now) }
         ensures contents { IfOk result (λ m. contents m ≡ contents self.now) }
+        ensures caches { IfOk result (λ m. caches m ≡ caches self.now) }
         ensures uniform { variant self.now ≢ mixed → IsOk result }
     {
         match self {

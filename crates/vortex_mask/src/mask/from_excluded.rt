@@ -51,7 +51,7 @@ impl Mask {
         ensures list { IfOk result (λ m. truth m ≡ kept) }
         ensures variant { IfOk result (λ m. variant m ≡ fitting_variant all_true (truth m)) }
         ensures caches { IfOk result (λ m. caches m ≡ no_caches) }
-        ensures refused { IfErr result (λ e. e ≡ MaskError.Memory alloc_error) }
+        ensures memory { IfErr result (λ e. e ≡ MaskError.Memory alloc_error) }
     {
         if kept.len() == 0 {
             return Ok(Mask::AllTrue(0));

@@ -78,7 +78,7 @@ impl Mask {
         ensures variant { IfOk result (λ m. variant m ≡ fitting_variant all_false (truth m)) }
         ensures caches { IfOk result
             (λ m. caches m ≡ where_mixed m (kept_indices indices.items)) }
-        ensures refused { IfErr result (λ e. e ≡ MaskError.Memory alloc_error) }
+        ensures memory { IfErr result (λ e. e ≡ MaskError.Memory alloc_error) }
         ensures uniform { (vec_len indices ≡ 0) ⊎ (vec_len indices ≡ len) → IsOk result }
     {
         let true_count = indices.len();
@@ -104,7 +104,7 @@ fn of_some_indices(
     requires not_all { vec_len indices ≢ len }
     ensures list { IfOk result (λ v. values v.value.buffer ≡ true_at len indices.items) }
     ensures caches { IfOk result (λ v. v.value.caches ≡ kept_indices indices.items) }
-    ensures refused { IfErr result (λ e. e ≡ MaskError.Memory alloc_error) }
+    ensures memory { IfErr result (λ e. e ≡ MaskError.Memory alloc_error) }
 {
     let true_count = indices.len();
     let buffer = BitBuffer::from_indices(alloc, len, &indices)?;
