@@ -1,8 +1,10 @@
 pub mod AllOr
+pub mod Concat
 pub mod Faults
 pub mod Laws
 pub mod Mask
 pub mod MaskValues
+pub mod Ranges
 pub use Rattle.mask_bits.specs.Buffer
 pub use Rattle.mask_bits.specs.Positions
 pub use Rattle.mask_bits.specs.Runs

@@ -1,0 +1,14 @@
+-- The lists of masks that are put one after another.
+use Rattle.std.specs.Prelude.{ℕ, Bool, List, length, map}
+use Rattle.std.specs.Borrow.{Bor}
+use Rattle.std.specs.List.{sum_by}
+use Rattle.vortex_mask.specs.declared.mask.Mask.{Mask}
+use Rattle.vortex_mask.specs.Mask.{truth}
+
+-- the list of each mask
+abbrev pub lists_of : List (Bor Mask) → List (List Bool)
+lists_of masks = map (λ mask. truth mask.now) masks
+
+-- the sum of the lengths
+abbrev pub total_len : List (List Bool) → ℕ
+total_len lists = sum_by length lists

@@ -1,0 +1,68 @@
+ghost use Rattle.std.specs.Prelude.{◌≡◌, ◌≢◌, ◌+◌, ◌<◌, ◌≤◌, ◌^◌, ◌⊎◌, ◌++◌, [], IsOk, IfOk, IfErr, OnOk, OnErr, All, Some, None, Bool, List, alloc_error, length};
+ghost use Rattle.std.specs.Borrow.{Bor};
+ghost use Rattle.std.specs.Iterator.{IsFinite, Drains};
+ghost use Rattle.mask_bits.specs.Buffer.{values};
+ghost use Rattle.mask_bits.specs.Lists.{joined};
+ghost use Rattle.vortex_mask.specs.Concat.{lists_of, total_len};
+ghost use Rattle.vortex_mask.specs.Mask.{truth, variant, fitting_variant, all_true, caches};
+ghost use Rattle.vortex_mask.specs.MaskValues.{no_caches};
+
+use crate::mask::{Mask, MaskError};
+use mask_bits::{BitBuffer, BitBufferMut};
+use std::alloc::{AllocError, Global};
+
+impl Mask {
+    // The masks' values one after another.
+    fn joined(alloc: Global, masks: &[&Mask]) -> Result<Mask, MaskError>
+        ensures list { IfOk result (λ m. truth m ≡ joined (lists_of masks.now)) }
+        ensures fits { OnOk result (total_len (lists_of masks.now) < 2 ^ 64) }
+        ensures variant { IfOk result (λ m. variant m ≡ fitting_variant all_true (truth m)) }
+        ensures caches { IfOk result (λ m. caches m ≡ no_caches) }
+        ensures errors { IfErr result (λ e. (e ≡ MaskError.Memory alloc_error)
+            ⊎ ((e ≡ MaskError.LengthOverflow) × (2 ^ 64 ≤ total_len (lists_of masks.now)))) }
+    {
+        let Some(len) = total_len(masks) else {
+            return Err(MaskError::LengthOverflow);
+        };
+        if masks.iter().all(|mask| mask.all_true()) {
+            return Ok(Mask::AllTrue(len));
+        }
+        if masks.iter().all(|mask| mask.all_false()) {
+            return Ok(Mask::AllFalse(len));
+        }
+        let buffer = buffer_of(alloc, len, masks)?;
+        Mask::from_buffer(alloc, buffer)
+    }
+}
+
+// The sum of the masks' lengths, if it fits.
+fn total_len(masks: &[&Mask]) -> Option<usize> {
+    let mut total: usize = 0;
+    for mask in masks {
+        total = total.checked_add(mask.len())?;
+    }
+    Some(total)
+}
+
+// The masks' values one after another, of which there are `len`.
+fn buffer_of(alloc: Global, len: usize, masks: &[&Mask]) -> Result<BitBuffer, AllocError>
+    requires { total_len (lists_of masks.now) ≡ len }
+    ensures { IfOk result (λ b. values b ≡ joined (lists_of masks.now)) }
+{
+    let mut buffer = BitBufferMut::with_capacity(alloc, len)?;
+    for mask in masks {
+        append(&mut buffer, mask)?;
+    }
+    buffer.freeze()
+}
+
+fn append(buffer: &mut BitBufferMut, mask: &Mask) -> Result<(), AllocError>
+    requires { length buffer.old + length (truth mask.now) < 2 ^ 64 }
+    ensures { OnOk result (buffer.new ≡ buffer.old ++ truth mask.now) }
+{
+    match mask {
+        Mask::AllTrue(len) => buffer.append_n(true, *len),
+        Mask::AllFalse(len) => buffer.append_n(false, *len),
+        Mask::Values(values) => buffer.append_buffer(values.bit_buffer()),
+    }
+}
