@@ -1,3 +1,5 @@
 -- Lemmas.
+pub mod ConcatLemmas
 pub mod MaskLemmas
+pub mod RangeLemmas
 pub mod ResultLemmas

@@ -1,5 +1,5 @@
 -- The lists of masks that are put one after another.
-use Rattle.std.specs.Prelude.{ℕ, Bool, List, length, map}
+use Rattle.std.specs.Prelude.{ℕ, ◌≡◌, Bool, List, length, map, All}
 use Rattle.std.specs.Borrow.{Bor}
 use Rattle.std.specs.List.{sum_by}
 use Rattle.vortex_mask.specs.declared.mask.Mask.{Mask}
@@ -12,3 +12,7 @@ lists_of masks = map (λ mask. truth mask.now) masks
 -- the sum of the lengths
 abbrev pub total_len : List (List Bool) → ℕ
 total_len lists = sum_by length lists
+
+-- each value of each mask is v
+abbrev pub AreAll : Bool → List (Bor Mask) → Type 0
+AreAll v masks = All (λ mask. All (λ b. b ≡ v) (truth mask.now)) masks

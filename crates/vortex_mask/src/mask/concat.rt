@@ -1,9 +1,9 @@
-ghost use Rattle.std.specs.Prelude.{◌≡◌, ◌≢◌, ◌+◌, ◌<◌, ◌≤◌, ◌^◌, ◌⊎◌, ◌++◌, [], IsOk, IfOk, IfErr, OnOk, OnErr, All, Some, None, Bool, List, alloc_error, length};
+ghost use Rattle.std.specs.Prelude.{◌≡◌, ◌≢◌, ◌+◌, ◌<◌, ◌≤◌, ◌^◌, ◌⊎◌, ◌++◌, [], IsOk, IfOk, IfErr, OnOk, OnErr, All, Some, None, MatchOption, true, false, ◌↔◌, IsTrue, Bool, List, alloc_error, length};
 ghost use Rattle.std.specs.Borrow.{Bor};
 ghost use Rattle.std.specs.Iterator.{IsFinite, Drains};
 ghost use Rattle.mask_bits.specs.Buffer.{values};
 ghost use Rattle.mask_bits.specs.Lists.{joined};
-ghost use Rattle.vortex_mask.specs.Concat.{lists_of, total_len};
+ghost use Rattle.vortex_mask.specs.Concat.{lists_of, total_len, AreAll};
 ghost use Rattle.vortex_mask.specs.Mask.{truth, variant, fitting_variant, all_true, caches};
 ghost use Rattle.vortex_mask.specs.MaskValues.{no_caches};
 
@@ -24,10 +24,10 @@ impl Mask {
         let Some(len) = total_len(masks) else {
             return Err(MaskError::LengthOverflow);
         };
-        if masks.iter().all(|mask| mask.all_true()) {
+        if all_true(masks) {
             return Ok(Mask::AllTrue(len));
         }
-        if masks.iter().all(|mask| mask.all_false()) {
+        if all_false(masks) {
             return Ok(Mask::AllFalse(len));
         }
         let buffer = buffer_of(alloc, len, masks)?;
@@ -35,8 +35,25 @@ impl Mask {
     }
 }
 
+// Whether each value of each mask is true.
+fn all_true(masks: &[&Mask]) -> bool
+    ensures { IsTrue result ↔ AreAll true masks.now }
+{
+    masks.iter().all(|mask| mask.all_true())
+}
+
+// Whether each value of each mask is false.
+fn all_false(masks: &[&Mask]) -> bool
+    ensures { IsTrue result ↔ AreAll false masks.now }
+{
+    masks.iter().all(|mask| mask.all_false())
+}
+
 // The sum of the masks' lengths, if it fits.
-fn total_len(masks: &[&Mask]) -> Option<usize> {
+fn total_len(masks: &[&Mask]) -> Option<usize>
+    ensures { MatchOption result (2 ^ 64 ≤ total_len (lists_of masks.now))
+        (λ total. total ≡ total_len (lists_of masks.now)) }
+{
     let mut total: usize = 0;
     for mask in masks {
         total = total.checked_add(mask.len())?;
