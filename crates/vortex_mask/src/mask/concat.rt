@@ -6,12 +6,36 @@ ghost use Rattle.mask_bits.specs.Lists.{joined};
 ghost use Rattle.vortex_mask.specs.Concat.{lists_of, total_len, AreAll};
 ghost use Rattle.vortex_mask.specs.Mask.{truth, variant, fitting_variant, all_true, caches};
 ghost use Rattle.vortex_mask.specs.MaskValues.{no_caches};
+ghost use Rattle.vortex_mask.specs.declared.mask.Mask.{Mask as the_mask};
 
 use crate::mask::{Mask, MaskError};
 use mask_bits::{BitBuffer, BitBufferMut};
 use std::alloc::{AllocError, Global};
 
 impl Mask {
+    /// The values of the masks that an iterator yields, one mask after another. No values give
+    /// `AllTrue(0)`.
+    ///
+    /// # Errors
+    /// `LengthOverflow` where the sum of the masks' lengths is above `usize::MAX`.
+    pub fn concat<'a, I: Iterator<Item = &'a Mask>>(
+        alloc: Global,
+        masks: I,
+    ) -> Result<Mask, MaskError>
+        requires can { I.can_next masks }
+        requires ends { IsFinite (I.remaining masks) }
+        ensures joined { IfOk result (λ m. (ms : List (Bor the_mask)) × Drains I.next_gives masks ms
+            × (truth m ≡ joined (lists_of ms)) × (total_len (lists_of ms) < 2 ^ 64)) }
+        ensures variant { IfOk result (λ m. variant m ≡ fitting_variant all_true (truth m)) }
+        ensures caches { IfOk result (λ m. caches m ≡ no_caches) }
+        ensures errors { IfErr result (λ e. (e ≡ MaskError.Memory alloc_error)
+            ⊎ ((e ≡ MaskError.LengthOverflow) × ((ms : List (Bor the_mask)) × Drains I.next_gives masks ms
+            × (2 ^ 64 ≤ total_len (lists_of ms))))) }
+    {
+        let masks: Vec<&Mask> = masks.collect(alloc)?;
+        Mask::joined(alloc, &masks)
+    }
+
     // The masks' values one after another.
     fn joined(alloc: Global, masks: &[&Mask]) -> Result<Mask, MaskError>
         ensures list { IfOk result (λ m. truth m ≡ joined (lists_of masks.now)) }
