@@ -1,5 +1,5 @@
 -- Lists joined one after another.
-use Rattle.std.proofs.Common.{drop, get_or, ◌≡◌, ℕ, ◌+◌, ◌<◌, ◌≤◌, Bool, List, [], ◌∷◌, ◌++◌, length, true, false, suc, refl, inl, inr, sym, ap, ◌∙◌, arith}
+use Rattle.std.proofs.Common.{drop, map, get_or, ◌≡◌, ℕ, ◌+◌, ◌<◌, ◌≤◌, Bool, List, [], ◌∷◌, ◌++◌, length, true, false, suc, refl, inl, inr, sym, ap, ◌∙◌, arith}
 use Rattle.std.specs.Borrow.{Bor}
 use Rattle.std.specs.List.{All}
 use Rattle.std.proofs.lemmas.Bool.{cases_lt}
@@ -59,3 +59,8 @@ joined_so_far made masks i mask is h list =
     let next = at_drop_more (λ (ms : List (Bor Mask)). length (joined (lists_of ms))) masks i mask h in
     let same = ap (λ (m : Bor Mask). length (truth m.now)) is in
     omega (arith, ap length list, length-append made (joined (lists_of (drop i masks))), next, same, length-append (truth (get_or masks i mask).now) (joined (lists_of (drop (i + 1) masks))), length-joined (lists_of masks))
+
+-- the lists of masks that are lent are those of the masks
+pub lists_of-lent : (masks : List (Bor Mask)) → lists_of masks ≡ map truth (map (λ mask. mask.now) masks)
+lists_of-lent [] = refl
+lists_of-lent (mask ∷ masks) = ap (λ ms. truth mask.now ∷ ms) (lists_of-lent masks)

@@ -1,12 +1,13 @@
-ghost use Rattle.std.specs.Prelude.{◌≡◌, ◌≢◌, ◌+◌, ◌<◌, ◌≤◌, ◌^◌, ◌⊎◌, ◌++◌, [], IsOk, IfOk, IfErr, OnOk, OnErr, All, Some, None, MatchOption, true, false, ◌↔◌, IsTrue, Bool, List, alloc_error, length};
+ghost use Rattle.std.specs.Prelude.{◌≡◌, ◌≢◌, ◌+◌, ◌<◌, ◌≤◌, ◌^◌, ◌⊎◌, ◌++◌, [], IsOk, IfOk, IfErr, OnOk, OnErr, All, Some, None, MatchOption, true, false, ◌↔◌, IsTrue, Bool, List, map, alloc_error, length};
 ghost use Rattle.std.specs.Borrow.{Bor};
 ghost use Rattle.std.specs.Iterator.{IsFinite, Drains};
+ghost use Rattle.std.specs.Iterator.Runs.{WholeRun};
 ghost use Rattle.mask_bits.specs.Buffer.{values};
 ghost use Rattle.mask_bits.specs.Lists.{joined};
-ghost use Rattle.vortex_mask.specs.Concat.{lists_of, total_len, AreAll};
+ghost use Rattle.vortex_mask.specs.Concat.{lists_of, total_len, Joins, AreAll};
 ghost use Rattle.vortex_mask.specs.Mask.{truth, variant, fitting_variant, all_true, caches};
 ghost use Rattle.vortex_mask.specs.MaskValues.{no_caches};
-ghost use Rattle.vortex_mask.specs.declared.mask.Mask.{Mask as the_mask};
+ghost use Rattle.vortex_mask.specs.declared.mask.Mask.{Mask as mask};
 
 use crate::mask::{Mask, MaskError};
 use mask_bits::{BitBuffer, BitBufferMut};
@@ -24,22 +25,43 @@ impl Mask {
     ) -> Result<Mask, MaskError>
         requires can { I.can_next masks }
         requires ends { IsFinite (I.remaining masks) }
-        ensures joined { IfOk result (λ m. (ms : List (Bor the_mask)) × Drains I.next_gives masks ms
-            × (truth m ≡ joined (lists_of ms)) × (total_len (lists_of ms) < 2 ^ 64)) }
+        ensures list { IfOk result (λ m. (ms : List (Bor mask)) × Drains I.next_gives masks ms
+            × Joins (lists_of ms) m) }
+        ensures runs { IfOk result (λ m. WholeRun I.next_gives masks (λ p. Joins (lists_of p.items) m)) }
         ensures variant { IfOk result (λ m. variant m ≡ fitting_variant all_true (truth m)) }
         ensures caches { IfOk result (λ m. caches m ≡ no_caches) }
         ensures errors { IfErr result (λ e. (e ≡ MaskError.Memory alloc_error)
-            ⊎ ((e ≡ MaskError.LengthOverflow) × ((ms : List (Bor the_mask)) × Drains I.next_gives masks ms
+            ⊎ ((e ≡ MaskError.LengthOverflow) × ((ms : List (Bor mask)) × Drains I.next_gives masks ms
             × (2 ^ 64 ≤ total_len (lists_of ms))))) }
     {
         let masks: Vec<&Mask> = masks.collect(alloc)?;
         Mask::joined(alloc, &masks)
     }
 
+    /// The values of the masks that an iterator yields, one mask after another, as by `concat`. The
+    /// masks are given up.
+    ///
+    /// # Errors
+    /// `LengthOverflow` where the sum of the masks' lengths is above `usize::MAX`.
+    pub fn from_masks<I: Iterator<Item = Mask>>(alloc: Global, masks: I) -> Result<Mask, MaskError>
+        requires can { I.can_next masks }
+        requires ends { IsFinite (I.remaining masks) }
+        ensures list { IfOk result (λ m. (ms : List mask) × Drains I.next_gives masks ms
+            × Joins (map truth ms) m) }
+        ensures runs { IfOk result (λ m. WholeRun I.next_gives masks (λ p. Joins (map truth p.items) m)) }
+        ensures variant { IfOk result (λ m. variant m ≡ fitting_variant all_true (truth m)) }
+        ensures caches { IfOk result (λ m. caches m ≡ no_caches) }
+        ensures errors { IfErr result (λ e. (e ≡ MaskError.Memory alloc_error)
+            ⊎ ((e ≡ MaskError.LengthOverflow) × ((ms : List mask) × Drains I.next_gives masks ms
+            × (2 ^ 64 ≤ total_len (map truth ms))))) }
+    {
+        let masks: Vec<Mask> = masks.collect(alloc)?;
+        Mask::concat(alloc, masks.iter())
+    }
+
     // The masks' values one after another.
     fn joined(alloc: Global, masks: &[&Mask]) -> Result<Mask, MaskError>
-        ensures list { IfOk result (λ m. truth m ≡ joined (lists_of masks.now)) }
-        ensures fits { OnOk result (total_len (lists_of masks.now) < 2 ^ 64) }
+        ensures list { IfOk result (Joins (lists_of masks.now)) }
         ensures variant { IfOk result (λ m. variant m ≡ fitting_variant all_true (truth m)) }
         ensures caches { IfOk result (λ m. caches m ≡ no_caches) }
         ensures errors { IfErr result (λ e. (e ≡ MaskError.Memory alloc_error)

@@ -10,15 +10,19 @@ use Rattle.vortex_mask.proofs.ResultLemmas.{IfOk-both}
 use Rattle.vortex_mask.proofs.mask.Mask.joined.Goals as goal
 
 pub returns-then-all_true-clause-list : goal.returns-then-all_true-clause-list
-returns-then-all_true-clause-list c =
-    ap (λ n. repeated n true) c.in-Some.ensures ∙ sym (joined-one_value true c.args.masks.now (c.all_true.ensures.0 c.if-all_true.true))
+returns-then-all_true-clause-list c = record {
+  list = ap (λ n. repeated n true) c.in-Some.ensures ∙ sym (joined-one_value true c.args.masks.now (c.all_true.ensures.0 c.if-all_true.true));
+  fits = search rules;
+}
 
 pub returns-then-all_true-clause-variant : goal.returns-then-all_true-clause-variant
 returns-then-all_true-clause-variant c = sym (fitting_variant-repeated_true c.in-Some.len)
 
 pub returns-then-all_false-clause-list : goal.returns-then-all_false-clause-list
-returns-then-all_false-clause-list c =
-    ap (λ n. repeated n false) c.in-Some.ensures ∙ sym (joined-one_value false c.args.masks.now (c.all_false.ensures.0 c.if-all_false.true))
+returns-then-all_false-clause-list c = record {
+  list = ap (λ n. repeated n false) c.in-Some.ensures ∙ sym (joined-one_value false c.args.masks.now (c.all_false.ensures.0 c.if-all_false.true));
+  fits = search rules;
+}
 
 pub returns-then-all_false-clause-variant : goal.returns-then-all_false-clause-variant
 returns-then-all_false-clause-variant c =
