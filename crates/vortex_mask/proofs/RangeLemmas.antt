@@ -159,8 +159,8 @@ AreRanges-painted len rs o =
       within = subst (λ (n : ℕ). All (λ r. r.1 ≤ n) rs) (sym long) (within_from 0 len rs o);
       ordered = adjacent_from 0 len rs o;
       exact = λ i h.
-      let at_zero : 0 + i ≡ i = omega arith in
-      painted-at 0 len rs o i (omega arith) ∙ ap (λ k. list_any (is_inside k) rs) at_zero;
+          let at_zero : 0 + i ≡ i = omega arith in
+          painted-at 0 len rs o i (omega arith) ∙ ap (λ k. list_any (is_inside k) rs) at_zero;
     }
 
 -- ---- what the ranges of a mask tell of it

@@ -17,8 +17,8 @@ impl Mask {
     /// The values of the masks that an iterator yields, one mask after another. No values give
     /// `AllTrue(0)`.
     ///
-    /// # Errors
-    /// `LengthOverflow` where the sum of the masks' lengths is above `usize::MAX`.
+    /// The masks are listed first, so `Memory` may come before `LengthOverflow`, which is told
+    /// where the sum of all lengths is above `usize::MAX`.
     pub fn concat<'a, I: Iterator<Item = &'a Mask>>(
         alloc: Global,
         masks: I,
@@ -30,9 +30,14 @@ impl Mask {
         ensures runs { IfOk result (λ m. WholeRun I.next_gives masks (λ p. Joins (lists_of p.items) m)) }
         ensures variant { IfOk result (λ m. variant m ≡ fitting_variant all_true (truth m)) }
         ensures caches { IfOk result (λ m. caches m ≡ no_caches) }
-        ensures errors { IfErr result (λ e. (e ≡ MaskError.Memory alloc_error)
-            ⊎ ((e ≡ MaskError.LengthOverflow) × ((ms : List (Bor mask)) × Drains I.next_gives masks ms
-            × (2 ^ 64 ≤ total_len (lists_of ms))))) }
+
+        // A refusal is that the sum of all lengths does not fit, or want of memory.
+        ensures refused { IfErr result (λ e. (e ≡ MaskError.Memory alloc_error)
+            ⊎ ((ms : List (Bor mask)) × Drains I.next_gives masks ms
+            × (e ≡ MaskError.LengthOverflow) × (2 ^ 64 ≤ total_len (lists_of ms)))) }
+        ensures refused_runs { IfErr result (λ e. (e ≡ MaskError.Memory alloc_error)
+            ⊎ WholeRun I.next_gives masks
+            (λ p. (e ≡ MaskError.LengthOverflow) × (2 ^ 64 ≤ total_len (lists_of p.items)))) }
     {
         let masks: Vec<&Mask> = masks.collect(alloc)?;
         Mask::joined(alloc, &masks)
@@ -40,9 +45,6 @@ impl Mask {
 
     /// The values of the masks that an iterator yields, one mask after another, as by `concat`. The
     /// masks are given up.
-    ///
-    /// # Errors
-    /// `LengthOverflow` where the sum of the masks' lengths is above `usize::MAX`.
     pub fn from_masks<I: Iterator<Item = Mask>>(alloc: Global, masks: I) -> Result<Mask, MaskError>
         requires can { I.can_next masks }
         requires ends { IsFinite (I.remaining masks) }
@@ -51,9 +53,14 @@ impl Mask {
         ensures runs { IfOk result (λ m. WholeRun I.next_gives masks (λ p. Joins (map truth p.items) m)) }
         ensures variant { IfOk result (λ m. variant m ≡ fitting_variant all_true (truth m)) }
         ensures caches { IfOk result (λ m. caches m ≡ no_caches) }
-        ensures errors { IfErr result (λ e. (e ≡ MaskError.Memory alloc_error)
-            ⊎ ((e ≡ MaskError.LengthOverflow) × ((ms : List mask) × Drains I.next_gives masks ms
-            × (2 ^ 64 ≤ total_len (map truth ms))))) }
+
+        // A refusal is that the sum of all lengths does not fit, or want of memory.
+        ensures refused { IfErr result (λ e. (e ≡ MaskError.Memory alloc_error)
+            ⊎ ((ms : List mask) × Drains I.next_gives masks ms
+            × (e ≡ MaskError.LengthOverflow) × (2 ^ 64 ≤ total_len (map truth ms)))) }
+        ensures refused_runs { IfErr result (λ e. (e ≡ MaskError.Memory alloc_error)
+            ⊎ WholeRun I.next_gives masks
+            (λ p. (e ≡ MaskError.LengthOverflow) × (2 ^ 64 ≤ total_len (map truth p.items)))) }
     {
         let masks: Vec<Mask> = masks.collect(alloc)?;
         Mask::concat(alloc, masks.iter())
@@ -64,7 +71,7 @@ impl Mask {
         ensures list { IfOk result (Joins (lists_of masks.now)) }
         ensures variant { IfOk result (λ m. variant m ≡ fitting_variant all_true (truth m)) }
         ensures caches { IfOk result (λ m. caches m ≡ no_caches) }
-        ensures errors { IfErr result (λ e. (e ≡ MaskError.Memory alloc_error)
+        ensures refused { IfErr result (λ e. (e ≡ MaskError.Memory alloc_error)
             ⊎ ((e ≡ MaskError.LengthOverflow) × (2 ^ 64 ≤ total_len (lists_of masks.now)))) }
     {
         let Some(len) = total_len(masks) else {

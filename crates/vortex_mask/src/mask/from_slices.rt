@@ -15,25 +15,25 @@ impl Mask {
     /// The mask of `len` values that is true exactly in these ranges, which it keeps where some
     /// values are true and some are not. Ranges may touch. No values give `AllFalse(0)`.
     ///
-    /// # Errors
-    /// `BadRange` for the first range that is empty or passes the length; else `UnsortedRanges` or
-    /// `OverlappingRanges` for the first that does not start after the one before it, or starts
-    /// below its end. All ranges are tested before any memory is taken.
+    /// All ranges are tested before any memory is taken: `BadRange` is told of the first that is
+    /// empty or passes the length, else `UnsortedRanges` or `OverlappingRanges` of the first that
+    /// does not start after the start of the one before it, or starts below its end.
     pub fn from_slices(
         alloc: Global,
         len: usize,
         ranges: Vec<(usize, usize)>,
     ) -> Result<Mask, MaskError>
-        ensures refused { IfSome (range_fault len ranges.items) (λ e. result ≡ Err e) }
-        ensures passed { OnOk result (range_fault len ranges.items ≡ None) }
-        ensures errors { IfErr result (λ e. (range_fault len ranges.items ≡ Some e)
-            ⊎ (e ≡ MaskError.Memory alloc_error)) }
-
         ensures len { IfOk result (λ m. length (truth m) ≡ len) }
         ensures list { IfOk result (λ m. AreRanges (truth m) ranges.items) }
         ensures variant { IfOk result (λ m. variant m ≡ fitting_variant all_false (truth m)) }
         ensures caches { IfOk result
             (λ m. caches m ≡ where_mixed m (kept_ranges ranges.items)) }
+
+        // A fault is told before any memory is taken, and nothing else but want of memory is.
+        ensures faultless { OnOk result (range_fault len ranges.items ≡ None) }
+        ensures fault { IfSome (range_fault len ranges.items) (λ e. result ≡ Err e) }
+        ensures refused { IfErr result (λ e. (e ≡ MaskError.Memory alloc_error)
+            ⊎ (range_fault len ranges.items ≡ Some e)) }
 
         // Values that are all false or all true need no memory.
         ensures uniform { range_fault len ranges.items ≡ None
@@ -64,11 +64,7 @@ impl Mask {
     }
 
     // The mask of ranges in which no fault was found.
-    fn of_ranges(
-        alloc: Global,
-        len: usize,
-        ranges: Vec<(usize, usize)>,
-    ) -> Result<Mask, MaskError>
+    fn of_ranges(alloc: Global, len: usize, ranges: Vec<(usize, usize)>) -> Result<Mask, MaskError>
         requires { range_fault len ranges.items ≡ None }
         ensures len { IfOk result (λ m. length (truth m) ≡ len) }
         ensures list { IfOk result (λ m. AreRanges (truth m) ranges.items) }
@@ -132,11 +128,7 @@ fn places_held(ranges: &[(usize, usize)]) -> usize
 }
 
 // `len` values that are true exactly in the ranges.
-fn buffer_of(
-    alloc: Global,
-    len: usize,
-    ranges: &[(usize, usize)],
-) -> Result<BitBuffer, AllocError>
+fn buffer_of(alloc: Global, len: usize, ranges: &[(usize, usize)]) -> Result<BitBuffer, AllocError>
     requires { range_fault len ranges.now ≡ None }
     ensures len { IfOk result (λ b. length (values b) ≡ len) }
     ensures list { IfOk result (λ b. AreRanges (values b) ranges.now) }

@@ -30,14 +30,23 @@ returns-clause-runs g c =
     let same = same_lists (YieldsList-from_slice c.in_ok-masks.masks.items cc) h.0 h.1 run.0.items run.3.0 in
     (run.0, run.1, run.2, subst (λ ls. Joins ls m) same h.2)) c.concat.ensures.list
 
-pub returns-clause-errors : goal.returns-clause-errors
-returns-clause-errors g c =
+pub returns-clause-refused : goal.returns-clause-refused
+returns-clause-refused g c =
     let ran = c.in_ok-masks.ensures.ran in
     let end = ran.1.2 tt in
     IfErr-weaker c.concat.result _ _ (λ e h. elim h [
       | inl memory ↦ inl memory
       | inr over ↦
-          let came = over.1 in
-          let same = same_lists (YieldsList-from_slice c.in_ok-masks.masks.items cc) came.0 came.1 ran.0 ran.2.0 in
-          inr (over.0, (ran.0, (end.0, (ran.1.0, ran.1.1, end.1)), subst (λ ls. 2 ^ 64 ≤ total_len ls) same came.2))
-    ]) c.concat.ensures.errors
+          let same = same_lists (YieldsList-from_slice c.in_ok-masks.masks.items cc) over.0 over.1 ran.0 ran.2.0 in
+          inr (ran.0, (end.0, (ran.1.0, ran.1.1, end.1)), over.2, subst (λ ls. 2 ^ 64 ≤ total_len ls) same over.3)
+    ]) c.concat.ensures.refused
+
+pub returns-clause-refused_runs : goal.returns-clause-refused_runs
+returns-clause-refused_runs g c =
+    let run = c.in_ok-masks.ensures.runs tt in
+    IfErr-weaker c.concat.result _ _ (λ e h. elim h [
+      | inl memory ↦ inl memory
+      | inr over ↦
+          let same = same_lists (YieldsList-from_slice c.in_ok-masks.masks.items cc) over.0 over.1 run.0.items run.3.0 in
+          inr (run.0, run.1, run.2, (over.2, subst (λ ls. 2 ^ 64 ≤ total_len ls) same over.3))
+    ]) c.concat.ensures.refused
