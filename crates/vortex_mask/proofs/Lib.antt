@@ -1,4 +1,5 @@
 -- Lemmas.
+pub mod BitopLemmas
 pub mod ByteCountLemmas
 pub mod ByteLemmas
 pub mod DepositLemmas

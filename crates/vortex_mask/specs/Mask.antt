@@ -40,6 +40,20 @@ variant_and mixed all_true = mixed
 variant_and mixed all_false = all_false
 variant_and mixed mixed = mixed
 
+-- joined by `or`
+abbrev pub variant_or : Variant → Variant → Variant
+variant_or all_true w = all_true
+variant_or all_false w = w
+variant_or mixed all_true = all_true
+variant_or mixed all_false = mixed
+variant_or mixed mixed = mixed
+
+-- turned
+abbrev pub variant_not : Variant → Variant
+variant_not all_true = all_false
+variant_not all_false = all_true
+variant_not mixed = mixed
+
 -- no value differs from another: the list is empty, all true or all false
 abbrev pub IsUniform : List Bool → Type 0
 IsUniform m = (count m ≡ 0) ⊎ (count m ≡ length m)

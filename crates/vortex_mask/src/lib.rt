@@ -1,6 +1,7 @@
 //! Masks: lists of truth values that say which rows are chosen, and their rank intersection.
 #![tactic(auto)]
 
+mod bitops;
 mod choose;
 pub mod intersect_by_rank;
 pub mod laws;
