@@ -3,6 +3,7 @@
 
 mod bitops;
 mod choose;
+mod eq;
 pub mod intersect_by_rank;
 pub mod laws;
 pub mod mask;

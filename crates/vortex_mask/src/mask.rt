@@ -14,6 +14,7 @@ ghost use Rattle.vortex_mask.specs.declared.mask.Mask.TheVariants.{AllTrue};
 mod all_or;
 mod error;
 mod from_indices;
+mod parts;
 mod values;
 
 pub use all_or::AllOr;
