@@ -5,6 +5,7 @@ pub mod ByteLemmas
 pub mod DepositLemmas
 pub mod DepositListLemmas
 mod Examples
+pub mod EqLemmas
 pub mod HoleLemmas
 pub mod MaskLemmas
 pub mod NetworkLemmas

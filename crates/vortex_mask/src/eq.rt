@@ -4,6 +4,7 @@ ghost use Rattle.std.proofs.lemmas.Cmp.{on_equiv, lists_equiv};
 ghost use Rattle.vortex_mask.specs.Mask.{truth, same_truth};
 
 use crate::mask::Mask;
+use mask_bits::laws;
 
 // Two masks are equal where their lists are; kept lists, offsets and how an empty list is held
 // don't count.
@@ -30,7 +31,10 @@ fn same_lists(a: &Mask, b: &Mask) -> bool
     ensures { IsTrue result ↔ (truth a.now ≡ truth b.now) }
 {
     match (a, b) {
-        (Mask::Values(a), Mask::Values(b)) => a.bit_buffer() == b.bit_buffer(),
+        (Mask::Values(a), Mask::Values(b)) => {
+            laws::same_values_are_one_list();
+            a.bit_buffer() == b.bit_buffer()
+        }
         // one of them is of one value, so that the count tells the list
         _ => a.true_count() == b.true_count(),
     }

@@ -1,9 +1,9 @@
 -- A list limited to its first true values, and the count below a true place.
-use Rattle.std.proofs.Common.{◌≡◌, ℕ, zero, suc, ◌+◌, ◌-◌, ◌<◌, ◌≤◌, ◌++◌, min, Bool, true, false, ◌&&◌, nat_lt, List, [], ◌∷◌, length, get_or, take, map, Some, slice_get, refl, sym, ap, ◌∙◌, arith}
+use Rattle.std.proofs.Common.{◌≡◌, ℕ, zero, suc, ◌+◌, ◌-◌, ◌<◌, ◌≤◌, ◌++◌, min, Bool, true, false, ◌&&◌, nat_lt, List, [], ◌∷◌, length, get_or, take, slice_range, map, Some, slice_get, refl, sym, ap, ◌∙◌, arith}
 use Rattle.std.specs.List.{range_with_len}
 use Rattle.std.proofs.Math.Dec.{leb-suc-suc}
 use Rattle.std.proofs.lemmas.Bool.{le-ltb, lt-ltb}
-use Rattle.std.proofs.lemmas.List.{ext_get_or, get_or-map}
+use Rattle.std.proofs.lemmas.List.{ext_get_or, get_or-map, length-take}
 use Rattle.std.proofs.lemmas.Option.{slice_get_within, get_or_from_slice_get}
 use Rattle.std.proofs.lemmas.List.FromFn.{length-map-range_with_len, get_or-map-range_with_len}
 use Rattle.mask_bits.specs.Laws.{LimitOfLimit, HasLimitCount, CountBelowPosition}
@@ -150,3 +150,11 @@ limited-all m k h = limited-kept m k ∙ kept-all m k (omega (arith, count-trues
 pub limited-cut : (m : List Bool) (k p : ℕ) → slice_get (positions m) k ≡ Some p → limited m k ≡ take p m ++ repeated (length m - p) false
 limited-cut m k p at =
     limited-kept m k ∙ kept-cut m k (omega (arith, slice_get_within (positions m) k p at, count-trues m)) ∙ ap (cut_at m) (get_or_from_slice_get (positions m) k p 0 at)
+
+-- a part up to that place, and false values behind it
+pub limited-front : (m front : List Bool) (k p n : ℕ) → slice_get (positions m) k ≡ Some p → p < length m → front ≡ slice_range m 0 p → n ≡ length m → front ++ repeated (n - length front) false ≡ limited m k
+limited-front m front k p n at within is len =
+    let all : p - 0 ≡ p = omega arith in
+    let first : front ≡ take p m = is ∙ ap (λ j. take j m) all in
+    let rest : n - length front ≡ length m - p = omega (arith, ap length first, length-take p m) in
+    ap (λ (xs : List Bool). xs ++ repeated (n - length front) false) first ∙ ap (λ j. take p m ++ repeated j false) rest ∙ sym (limited-cut m k p at)

@@ -31,10 +31,11 @@ impl Mask {
             Mask::AllTrue(_) => Ok(Mask::AllTrue(end - start)),
             Mask::AllFalse(_) => Ok(Mask::AllFalse(end - start)),
             Mask::Values(values) => {
-                if end - start == values.len() {
+                let buffer = values.bit_buffer();
+                if end - start == buffer.len() {
                     return self.clone();
                 }
-                Mask::from_buffer(alloc, values.bit_buffer().slice(start, end)?)
+                Mask::from_buffer(alloc, buffer.slice(start, end)?)
             }
         }
     }
@@ -55,12 +56,19 @@ impl Mask {
             laws::one_variant(&self);
             return Ok(self);
         }
-        let len = self.len();
         if k == 0 {
-            return Ok(Mask::AllFalse(len));
+            return Ok(Mask::AllFalse(self.len()));
         }
+        Mask::from_buffer(alloc, self.first_true(alloc, k)?)
+    }
+
+    // The first `k` true values of more, packed.
+    fn first_true(&self, alloc: Global, k: usize) -> Result<BitBuffer, AllocError>
+        requires { k < count (truth self.now) }
+        ensures { IfOk result (λ b. values b ≡ limited (truth self.now) k) }
+    {
         let front = self.front(alloc, self.rank(k))?;
-        Mask::from_buffer(alloc, padded(alloc, &front, len)?)
+        padded(alloc, &front, self.len())
     }
 
     // The values before place `end`, packed.
