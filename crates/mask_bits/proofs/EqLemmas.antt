@@ -1,17 +1,18 @@
 -- When two buffers hold the same list, by their words.
-use Rattle.std.proofs.Common.{◌≡◌, ◌↔◌, nat_eq, ℕ, zero, suc, ◌+◌, ◌*◌, ◌-◌, ◌/◌, ◌%◌, ◌^◌, ◌<◌, ◌≤◌, Bool, true, false, List, ◌++◌, length, get_or, take, drop, refl, sym, ap, ◌∙◌, inl, inr, arith}
+use Rattle.std.proofs.Common.{◌≡◌, ◌↔◌, nat_eq, ℕ, zero, suc, ◌+◌, ◌*◌, ◌-◌, ◌/◌, ◌%◌, ◌^◌, ◌<◌, ◌≤◌, Bool, false, List, length, get_or, drop, refl, sym, ap, ◌∙◌, inl, inr, arith}
+use Rattle.std.specs.Bool.{IsTrue}
 use Rattle.std.specs.Int.{bit_at}
 use Rattle.std.proofs.lemmas.Bool.{cases_lt, false≢true}
 use Rattle.std.proofs.lemmas.List.{ext_get_or, get_or-drop, get_or_append_left, length-drop}
 use Rattle.std.proofs.lemmas.Nat.Bits.{same_from_bits_below, bit_at-lt}
-use Rattle.mask_bits.specs.Buffer.{Packed, IsWithinBytes, backing_bit, values}
+use Rattle.mask_bits.specs.Buffer.{Packed, IsWithinBytes, backing_bit, values, same_values}
 use Rattle.mask_bits.specs.Combine.{AreSameBits}
 use Rattle.mask_bits.specs.Positions.{repeated}
 use Rattle.mask_bits.specs.Words.{word_bits, window, padded_remainder}
-use Rattle.mask_bits.proofs.BufferLemmas.{length-values, get_or-values}
+use Rattle.mask_bits.proofs.BufferLemmas.{length-values, get_or-values, same_values-from_answer}
 use Rattle.mask_bits.proofs.CombineLemmas.{backing_bit-drop}
 use Rattle.mask_bits.proofs.Lists.FrontLemmas.{length-window, get_or-window}
-use Rattle.mask_bits.proofs.Lists.WordLemmas.{length-word_bits, get_or-word_bits}
+use Rattle.mask_bits.proofs.Lists.WordLemmas.{get_or-word_bits}
 
 -- ---- words
 
@@ -114,3 +115,9 @@ AreSameBits-at {a} {b} {a'} {b'} {p} {q} {n} {p'} {q'} {n'} is_a is_p is_b is_q 
     let bit_b : (i : ℕ) → backing_bit b' (q' + i) ≡ backing_bit b (q + i)
     = λ i. ap (λ (xs : List ℕ). backing_bit xs (q' + i)) is_b ∙ ap (λ k. backing_bit b (k + i)) is_q in
     (λ same i h. sym (bit_a i) ∙ same i (omega arith) ∙ bit_b i, λ same i h. bit_a i ∙ same i (omega arith) ∙ sym (bit_b i))
+
+-- ---- the answer
+
+-- a test that tells whether the lists are equal answers as the comparison does
+pub same_values_from_test : (a b : Packed) (r : Bool) → (IsTrue r ↔ (values a ≡ values b)) → r ≡ same_values a b
+same_values_from_test a b r tells = same_values-from_answer a b r tells.0 tells.1

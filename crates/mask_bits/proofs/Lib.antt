@@ -6,6 +6,7 @@ mod CombineLemmas
 mod EqLemmas
 mod Examples
 mod LawRules
+mod FirstLemmas
 pub mod Lists
 mod NumberLemmas
 mod WindowLemmas

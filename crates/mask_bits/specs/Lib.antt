@@ -8,4 +8,5 @@ pub mod Positions
 pub mod RunScan
 pub mod Runs
 pub mod Stacks
+pub mod Walk
 pub mod Words

@@ -28,7 +28,8 @@ impl Eq for BitBuffer {
 // Whether two buffers of one length have the same list.
 fn same_lists(a: &BitBuffer, b: &BitBuffer) -> bool
     requires { length (values a.now) ≡ length (values b.now) }
-    ensures { IsTrue result ↔ (values a.now ≡ values b.now) }
+    ensures answer { result ≡ same_values a.now b.now }
+    ensures same { IsTrue result ↔ (values a.now ≡ values b.now) }
 {
     same_words(a.bits(), a.offset(), b.bits(), b.offset(), a.len() / 64)
         && a.chunks().remainder_bits() == b.chunks().remainder_bits()

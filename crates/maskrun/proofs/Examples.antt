@@ -1,8 +1,10 @@
 -- Worked rows of the definitions, which the checker computes.
 use Rattle.std.proofs.Common.{◌≡◌, ℕ, Bool, true, false, List, [], ◌∷◌, Ok, Err, codes, refl}
-use Rattle.maskrun.specs.Answer.{line, mask_word}
+use Rattle.maskrun.specs.Commands.{command_of, line}
+use Rattle.maskrun.specs.Arguments.{mask_argument}
 use Rattle.mask_bits.specs.Buffer.{values}
 use Rattle.mask_bits.specs.Positions.{positions, count_below, repeated, true_at, rank_intersection, chosen}
+use Rattle.maskrun.specs.declared.answer.command.Command.TheVariants.{Rank}
 use Rattle.maskrun.specs.declared.answer.error.RunError.TheVariants.{Usage, BadBit, LengthsDiffer}
 
 -- 10011101 and 00101
@@ -46,6 +48,10 @@ the_last_bit : values (record { bytes = 128 ∷ []; offset = 7; len = 1 }) ≡ t
 unfolding values
 the_last_bit = refl
 
+-- a command with its arguments read
+rank_is_read : command_of (codes "rank" ∷ codes "01" ∷ codes "-" ∷ []) ≡ Ok (Rank (false ∷ true ∷ []) [])
+rank_is_read = refl
+
 -- lines and faults
 rank_of_two : line (codes "rank" ∷ codes "0110" ∷ codes "11" ∷ []) ≡ Ok (codes "0110")
 unfolding true_at
@@ -68,10 +74,10 @@ longer_mask = refl
 bad_digit : line (codes "rank" ∷ codes "1a1" ∷ codes "1b" ∷ []) ≡ Err (BadBit 1 1)
 bad_digit = refl
 
-empty_word : line (codes "rank" ∷ codes "1" ∷ [] ∷ []) ≡ Err (BadBit 2 0)
-empty_word = refl
+empty_argument : line (codes "rank" ∷ codes "1" ∷ [] ∷ []) ≡ Err (BadBit 2 0)
+empty_argument = refl
 
-two_dashes : mask_word 1 (codes "--") ≡ Err (BadBit 1 0)
+two_dashes : mask_argument 1 (codes "--") ≡ Err (BadBit 1 0)
 two_dashes = refl
 
 no_words : line [] ≡ Err Usage

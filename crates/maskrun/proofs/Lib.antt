@@ -1,3 +1,1 @@
--- Lemmas.
 pub mod Examples
-pub mod YieldLemmas

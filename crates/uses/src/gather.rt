@@ -1,5 +1,5 @@
 //! The rows that a mask chooses, by its variant and the places of its true values.
-ghost use Rattle.std.specs.Prelude.{◌≡◌, IfOk, length};
+ghost use Rattle.std.specs.Prelude.{◌≡◌, IfOk, length, slice_get};
 ghost use Rattle.mask_bits.specs.Buffer.{values};
 ghost use Rattle.mask_bits.specs.Positions.{chosen};
 ghost use Rattle.vortex_mask.specs.Mask.{truth};
@@ -28,8 +28,14 @@ fn at_places<T: Copy>(alloc: Global, rows: &[T], buffer: &BitBuffer) -> Result<V
     laws::choosing::<T>();
     buffer
         .set_indices()
-        .filter_map(|place| rows.get(place).copied())
+        .filter_map(|place| row_at(rows, place))
         .collect(alloc)
+}
+
+fn row_at<T: Copy>(rows: &[T], place: usize) -> Option<T>
+    ensures { result ≡ slice_get rows.now place }
+{
+    rows.get(place).copied()
 }
 
 #[cfg(test)]

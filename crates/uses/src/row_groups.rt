@@ -1,9 +1,9 @@
 //! Which groups of rows a reader may skip.
-ghost use Rattle.std.specs.Prelude.{ℕ, ◌≡◌, ◌*◌, ◌<◌, ◌≤◌, ◌↔◌, true, false, IfOk, IsTrue, Any, length, slice_index_or, vec_len};
+ghost use Rattle.std.specs.Prelude.{ℕ, ◌≡◌, ◌*◌, ◌<◌, ◌≤◌, false, IfOk, length, slice_index_or, vec_len};
 ghost use Rattle.mask_bits.specs.Buffer.{values};
-ghost use Rattle.uses.specs.RowGroups.{group, AreGroups};
+ghost use Rattle.uses.specs.RowGroups.{is_chosen_of, AreGroups};
 
-use mask_bits::{BitBuffer, laws};
+use mask_bits::BitBuffer;
 use std::alloc::{AllocError, Global};
 
 /// For each of the `groups` groups of `size` rows whether one of its rows is chosen; the last may
@@ -17,8 +17,7 @@ pub fn kept(
     requires { AreGroups groups size (length (values rows.now)) }
     ensures len { IfOk result (λ kept. vec_len kept ≡ groups) }
     ensures exact { IfOk result (λ kept. (g : ℕ) → g < groups
-        → (slice_index_or kept.items g false ≡ true)
-        ↔ Any (λ v. v ≡ true) (group (values rows.now) size g)) }
+        → slice_index_or kept.items g false ≡ is_chosen_of (values rows.now) size g) }
 {
     let mut kept = Vec::new(alloc);
     for number in 0..groups {
@@ -30,11 +29,11 @@ pub fn kept(
 /// Whether a row of group `number` is chosen.
 pub fn has_chosen(rows: &BitBuffer, size: usize, number: usize) -> bool
     requires { size * number < length (values rows.now) }
-    ensures { IsTrue result ↔ Any (λ v. v ≡ true) (group (values rows.now) size number) }
+    ensures { result ≡ is_chosen_of (values rows.now) size number }
 {
-    laws::counts();
+    let len = rows.len();
     let start = size * number;
-    let end = start + size.min(rows.len() - start);
+    let end = start + size.min(len - start);
     rows.count_range(start, end) > 0
 }
 

@@ -1,12 +1,7 @@
 -- The counts of set bits in each byte and below it, and what they say of places in the bytes.
-use Rattle.std.proofs.Common.{◌≡◌, ℕ, zero, suc, ◌+◌, ◌-◌, ◌*◌, ◌/◌, ◌%◌, ◌^◌, ◌<◌, ◌≤◌, ◌⊎◌, inl, inr, T, eqb, refl, sym, ap, ap₂, ◌∙◌, subst, arith, bit_and, bit_or, bit_xor, count_ones, eqb→eq, pow-suc, pow-add, lt_of_le_of_lt, mod-eq_of_lt, add_comm, mod-lt, pow_mono, mul_assoc, add-zero, zero-add, min, get_or, w64}
-use native.Mathlib.Nat.{div-eq_of_lt}
-use Rattle.std.proofs.Math.Nat.{one-le-pow}
-use lib.Arith.{mod-mul}
+use Rattle.std.proofs.Common.{◌≡◌, ℕ, zero, suc, ◌+◌, ◌-◌, ◌*◌, ◌/◌, ◌%◌, ◌^◌, ◌<◌, ◌≤◌, ◌⊎◌, inl, inr, refl, sym, ap, ap₂, ◌∙◌, arith, bit_and, count_ones, add_comm, mod-lt, add-zero, zero-add, min, get_or, w64}
 use Rattle.std.specs.Int.{bit_at, to_le_bytes}
-use Rattle.std.proofs.lemmas.Nat.{pow_pos, shr-shr, shl-shr, and_shr, or_shr, xor_shr, and_mod, or_mod, xor_mod, and_mask, and_le_r, and_le_l, or_lt, ones_cat, mod-pow-add, shr_split, shl_below, div-mul-add, mod-mul-add}
-use lib.Bits.{and_zero_r, or_zero_r}
-use lib.Pow.{field, mod-mod-pow}
+use Rattle.std.proofs.lemmas.Nat.{pow_pos, shr-shr, and_mask, and_le_r, and_le_l, ones_cat, mod-pow-add}
 use Rattle.std.proofs.lemmas.Bool.{cases_lt}
 use Rattle.vortex_mask.specs.Bytes.{byte_at, EachByte}
 use Rattle.mask_bits.proofs.Lists.WordLemmas.{ones_below-more}

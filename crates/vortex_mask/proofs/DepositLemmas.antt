@@ -1,5 +1,5 @@
 -- The deposit as a function of the two words, by their lowest bits, and that it is the one number that a deposit may give.
-use Rattle.std.proofs.Common.{◌≡◌, ℕ, zero, suc, ◌+◌, ◌-◌, ◌*◌, ◌/◌, ◌%◌, ◌^◌, ◌<◌, ◌≤◌, ◌⊎◌, inl, inr, min, refl, sym, ap, ap₂, ◌∙◌, subst, arith, pow-suc, bit_and, bit_or, bit_xor, count_ones, mul_right_comm, mul-one, mul-zero, zero-mul, lt_of_le_of_lt}
+use Rattle.std.proofs.Common.{◌≡◌, ℕ, zero, suc, ◌+◌, ◌-◌, ◌*◌, ◌/◌, ◌%◌, ◌^◌, ◌<◌, ◌≤◌, ◌⊎◌, inl, inr, min, refl, sym, ap, ap₂, ◌∙◌, arith, pow-suc, bit_and, bit_or, bit_xor, count_ones, mul_right_comm, mul-one, mul-zero, zero-mul, lt_of_le_of_lt}
 use Rattle.std.specs.Int.{bit_at}
 use Rattle.std.proofs.lemmas.Nat.{pow_pos, shr-shr, and_mask, and_le_l, and_assoc, zero_from_ones}
 use Rattle.std.proofs.lemmas.Nat.Bits.{bit_at_lowest, bit_at-suc, bit_at-lt, bit_at_or, same_from_bits}
@@ -28,11 +28,6 @@ deposit-even k s m e =
     let first : min (m % 2) (s % 2) ≡ 0 = omega arith in
     let all : s / 1 ≡ s = omega arith in
     ap₂ (λ b l. deposit k (s / 2 ^ b) (m / 2) * 2 + l) e first ∙ ap (λ x. deposit k x (m / 2) * 2 + 0) all ∙ omega arith
-
-pub deposit-lt : (k s m : ℕ) → deposit k s m < 2 ^ k
-unfolding deposit
-deposit-lt zero s m = omega arith
-deposit-lt (suc k) s m = omega (arith, deposit-lt k (s / 2 ^ (m % 2)) (m / 2), pow-suc 2 k)
 
 pub bit_at-deposit : (k s m i : ℕ) → i < k → bit_at (deposit k s m) i ≡ min (bit_at m i) (bit_at s (ones_below m i))
 unfolding deposit

@@ -2,7 +2,7 @@
 use Rattle.std.proofs.Common.{◌≡◌, ℕ, zero, suc, ◌+◌, ◌-◌, ◌*◌, ◌/◌, ◌%◌, ◌^◌, ◌<◌, ◌≤◌, ◌⊎◌, inl, inr, min, sym, ap, ap₂, ◌∙◌, subst, arith, pow-suc, bit_and, bit_or, bit_xor, count_ones, w64, mod-eq_of_lt}
 use Rattle.std.specs.Int.{bit_at}
 use Rattle.std.proofs.lemmas.Bool.{cases_lt, cases_order}
-use Rattle.std.proofs.lemmas.Nat.{pow_pos, shr_split, pow_below, and_mask, and_le_r}
+use Rattle.std.proofs.lemmas.Nat.{pow_pos, shr_split, pow_below, and_mask}
 use Rattle.std.proofs.lemmas.Nat.Bits.{bit_at_and, bit_at_or, bit_at_not, bit_at-lt, bit_at-suc, bit_at_ones, bit_at_ones_above, bit_at_cat_low, bit_at-trailing_zeros}
 use lib.Count.{count_trailing_zeros, under}
 use lib.Bits.{and_zero_r, or_zero_r}

@@ -1,4 +1,4 @@
-ghost use Rattle.std.specs.Prelude.{◌≡◌, ◌≢◌, ◌⊎◌, IsOk, IfOk, Ok, length};
+ghost use Rattle.std.specs.Prelude.{◌≡◌, ◌≢◌, ◌⊎◌, IsOk, IfOk, IsOkUnless, Ok, alloc_error, length};
 ghost use Rattle.mask_bits.specs.Lists.{and_of, or_of, not_of, and_not_of};
 ghost use Rattle.vortex_mask.specs.Bitops.{and_caches, or_caches, and_not_caches};
 ghost use Rattle.vortex_mask.specs.Mask.{truth, variant, fitting_variant, variant_and, variant_or, variant_not, all_true, all_false, mixed, caches};
@@ -24,6 +24,7 @@ impl Mask {
         ensures uniform { variant self.now ≢ mixed → variant other.now ≢ mixed → IsOk result }
         ensures none { (variant self.now ≡ all_false) ⊎ (variant other.now ≡ all_false)
             → IsOk result }
+        ensures refused { IsOkUnless result (MaskError.Memory alloc_error) }
     {
         match (self, other) {
             (Mask::AllTrue(_), _) => {
@@ -53,6 +54,7 @@ impl Mask {
         ensures uniform { variant self.now ≢ mixed → variant other.now ≢ mixed → IsOk result }
         ensures all { (variant self.now ≡ all_true) ⊎ (variant other.now ≡ all_true)
             → IsOk result }
+        ensures refused { IsOkUnless result (MaskError.Memory alloc_error) }
     {
         match (self, other) {
             (Mask::AllFalse(_), _) => {
@@ -79,6 +81,7 @@ impl Mask {
 
         // What needs no memory succeeds.
         ensures uniform { variant self.now ≢ mixed → IsOk result }
+        ensures refused { IsOkUnless result (MaskError.Memory alloc_error) }
     {
         match self {
             Mask::AllTrue(len) => Ok(Mask::AllFalse(*len)),
@@ -99,6 +102,7 @@ impl Mask {
         ensures uniform { variant self.now ≢ mixed → variant other.now ≢ mixed → IsOk result }
         ensures none { (variant self.now ≡ all_false) ⊎ (variant other.now ≡ all_true)
             → IsOk result }
+        ensures refused { IsOkUnless result (MaskError.Memory alloc_error) }
     {
         match (self, other) {
             (_, Mask::AllFalse(_)) => {
@@ -129,6 +133,7 @@ impl Mask {
         ensures uniform { variant self ≢ mixed → variant other.now ≢ mixed → IsOk result }
         ensures none { (variant self ≡ all_false) ⊎ (variant other.now ≡ all_false)
             → IsOk result }
+        ensures refused { IsOkUnless result (MaskError.Memory alloc_error) }
     {
         if let Mask::AllTrue(_) = other {
             laws::one_variant(&self);
@@ -150,6 +155,7 @@ impl Mask {
         ensures uniform { variant self ≢ mixed → variant other.now ≢ mixed → IsOk result }
         ensures all { (variant self ≡ all_true) ⊎ (variant other.now ≡ all_true)
             → IsOk result }
+        ensures refused { IsOkUnless result (MaskError.Memory alloc_error) }
     {
         if let Mask::AllFalse(_) = other {
             laws::one_variant(&self);
@@ -167,6 +173,7 @@ impl Mask {
 
         // What needs no memory succeeds.
         ensures uniform { variant self ≢ mixed → IsOk result }
+        ensures refused { IsOkUnless result (MaskError.Memory alloc_error) }
     {
         self.not(alloc)
     }
@@ -184,6 +191,7 @@ impl Mask {
         ensures uniform { variant self ≢ mixed → variant other.now ≢ mixed → IsOk result }
         ensures none { (variant self ≡ all_false) ⊎ (variant other.now ≡ all_true)
             → IsOk result }
+        ensures refused { IsOkUnless result (MaskError.Memory alloc_error) }
     {
         if let Mask::AllFalse(_) = other {
             laws::one_variant(&self);

@@ -5,7 +5,7 @@ mod steps;
 #[cfg(test)]
 mod tests;
 
-ghost use Rattle.std.specs.Prelude.{◌≡◌, ◌≢◌, ◌<◌, ◌⊎◌, IsOk, IfOk, All, length};
+ghost use Rattle.std.specs.Prelude.{◌≡◌, ◌≢◌, ◌<◌, ◌⊎◌, IsOk, IfOk, All, length, IsOkUnless, alloc_error};
 ghost use Rattle.vortex_mask.specs.Mask.{truth, variant, fitting_variant, variant_and, all_false, mixed, caches, narrowed_caches};
 ghost use Rattle.mask_bits.specs.Buffer.{values};
 ghost use Rattle.mask_bits.specs.Positions.{positions, count, at_places, rank_intersection};
@@ -41,6 +41,7 @@ impl Mask {
         ensures uniform { variant self.now ≢ mixed → variant mask.now ≢ mixed → IsOk result }
         ensures none { (variant self.now ≡ all_false) ⊎ (variant mask.now ≡ all_false)
             → IsOk result }
+        ensures refused { IsOkUnless result (MaskError.Memory alloc_error) }
     {
         self.narrowed(alloc, mask)
     }
@@ -57,6 +58,7 @@ impl Mask {
         ensures uniform { variant self.now ≢ mixed → variant mask.now ≢ mixed → IsOk result }
         ensures none { (variant self.now ≡ all_false) ⊎ (variant mask.now ≡ all_false)
             → IsOk result }
+        ensures refused { IsOkUnless result (MaskError.Memory alloc_error) }
     {
         match (self, mask) {
             (Mask::AllTrue(_), _) => {

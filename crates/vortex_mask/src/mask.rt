@@ -1,6 +1,6 @@
 //! Masks: lists of truth values that say which rows are chosen.
 
-ghost use Rattle.std.specs.Prelude.{◌≡◌, ◌≢◌, ◌+◌, ◌<◌, ◌↔◌, [], true, false, if◌then◌else◌, IsTrue, IsOk, IfOk, Some, length, All, slice_get};
+ghost use Rattle.std.specs.Prelude.{◌≡◌, ◌≢◌, ◌+◌, ◌<◌, ◌↔◌, [], true, false, if◌then◌else◌, IsTrue, IsOk, IfOk, Some, length, All, slice_get, IsOkUnless, alloc_error};
 ghost use Rattle.std.specs.Iterator.{UpTo, Drains};
 ghost use Rattle.std.specs.Iterator.Runs.{WholeRun};
 ghost use Rattle.std.specs.Option.{option_copied};
@@ -79,6 +79,7 @@ impl Mask {
         ensures variant { IfOk result (λ m. variant m ≡ fitting_variant all_false (values buffer)) }
         ensures caches { IfOk result (λ m. caches m ≡ no_caches) }
         ensures uniform { IsUniform (values buffer) → IsOk result }
+        ensures refused { IsOkUnless result (MaskError.Memory alloc_error) }
     {
         let len = buffer.len();
         let true_count = buffer.true_count();
@@ -99,6 +100,7 @@ impl Mask {
         ensures runs { IfOk result (λ m. WholeRun I.next_gives bools (λ p. truth m ≡ p.items)) }
         ensures variant { IfOk result (λ m. variant m ≡ fitting_variant all_false (truth m)) }
         ensures caches { IfOk result (λ m. caches m ≡ no_caches) }
+        ensures refused { IsOkUnless result (MaskError.Memory alloc_error) }
     {
         let buffer = BitBuffer::from_bools(alloc, bools)?;
         Mask::from_buffer(alloc, buffer)
@@ -111,6 +113,7 @@ impl Mask {
         ensures contents { IfOk result (λ m. contents m ≡ contents self.now) }
         ensures caches { IfOk result (λ m. caches m ≡ caches self.now) }
         ensures uniform { variant self.now ≢ mixed → IsOk result }
+        ensures refused { IsOkUnless result (MaskError.Memory alloc_error) }
     {
         match self {
             Mask::AllTrue(len) => Ok(Mask::AllTrue(*len)),

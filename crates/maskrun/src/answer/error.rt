@@ -4,16 +4,16 @@ ghost use Rattle.vortex_mask.specs.declared.mask.error.MaskError.TheVariants.{Me
 
 use std::alloc::AllocError;
 use thiserror::Error;
-use vortex_mask::mask::MaskError;
+use vortex_mask::MaskError;
 
 /// Why a command printed no line.
 #[derive(Debug, Drop, Error)]
 pub enum RunError {
-    /// An unknown command, none, or a wrong number of words.
+    /// An unknown command, none, or a wrong number of arguments.
     #[error("usage: maskrun COMMAND WORDS")]
     Usage,
-    /// The byte at place `at` of word number `word` is the first that is neither `0` nor `1`, or
-    /// the word is empty, and `at` is 0.
+    /// The byte at place `at` of argument number `word` is the first that is neither `0` nor
+    /// `1`, or the argument is empty, and `at` is 0.
     #[error("word {word}: byte {at} is not 0 or 1")]
     BadBit { word: usize, at: usize },
     /// A mask has `got` values where it has to have `want`.

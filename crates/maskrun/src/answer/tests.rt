@@ -1,7 +1,7 @@
 use crate::answer::{RunError, answer};
 use std::alloc::{AllocError, Global};
 use std::test::Fail;
-use vortex_mask::mask::MaskError;
+use vortex_mask::MaskError;
 
 // The line for a command line with single spaces between its words, or the fault's text.
 fn printed(alloc: Global, command_line: &str) -> Result<String, AllocError> {

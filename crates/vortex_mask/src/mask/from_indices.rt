@@ -1,4 +1,4 @@
-ghost use Rattle.std.specs.Prelude.{◌≡◌, ◌+◌, ◌<◌, ◌≤◌, ◌≢◌, ◌⊎◌, IsOk, IfOk, IfErr, All, Some, None, Ok, Err, length, vec_len};
+ghost use Rattle.std.specs.Prelude.{◌≡◌, ◌+◌, ◌<◌, ◌≤◌, ◌≢◌, ◌⊎◌, IsOk, IfOk, IfErr, All, Some, None, Ok, Err, length, vec_len, IsOkUnless, alloc_error};
 ghost use Rattle.std.specs.Iterator.{IsFinite, Drains};
 ghost use Rattle.std.specs.List.Sorted.{IsStrictlyIncreasing};
 ghost use Rattle.mask_bits.specs.Buffer.{values};
@@ -27,6 +27,7 @@ impl Mask {
         ensures caches { IfOk result
             (λ m. caches m ≡ where_mixed m (kept_indices indices.items)) }
         ensures uniform { (vec_len indices ≡ 0) ⊎ (vec_len indices ≡ len) → IsOk result }
+        ensures refused { IsOkUnless result (MaskError.Memory alloc_error) }
     {
         let true_count = indices.len();
         if true_count == 0 {
@@ -51,6 +52,7 @@ fn of_some_indices(
     requires not_all { vec_len indices ≢ len }
     ensures list { IfOk result (λ v. values v.value.buffer ≡ true_at len indices.items) }
     ensures caches { IfOk result (λ v. v.value.caches ≡ kept_indices indices.items) }
+    ensures refused { IsOkUnless result (MaskError.Memory alloc_error) }
 {
     let true_count = indices.len();
     let buffer = BitBuffer::from_indices(alloc, len, &indices)?;

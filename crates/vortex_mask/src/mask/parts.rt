@@ -1,4 +1,4 @@
-ghost use Rattle.std.specs.Prelude.{◌≡◌, ◌≢◌, ◌-◌, ◌<◌, ◌≤◌, ◌++◌, false, IsOk, IfOk, Ok, length, slice_range};
+ghost use Rattle.std.specs.Prelude.{◌≡◌, ◌≢◌, ◌-◌, ◌<◌, ◌≤◌, ◌++◌, false, IsOk, IfOk, IsOkUnless, Ok, alloc_error, length, slice_range};
 ghost use Rattle.mask_bits.specs.Buffer.{values};
 ghost use Rattle.mask_bits.specs.Lists.{limited};
 ghost use Rattle.mask_bits.specs.Positions.{count, repeated};
@@ -26,6 +26,7 @@ impl Mask {
 
         // What needs no memory succeeds.
         ensures uniform { variant self.now ≢ mixed → IsOk result }
+        ensures refused { IsOkUnless result (MaskError.Memory alloc_error) }
     {
         match self {
             Mask::AllTrue(_) => Ok(Mask::AllTrue(end - start)),
@@ -51,6 +52,7 @@ impl Mask {
         // What needs no memory succeeds.
         ensures unchanged { count (truth self) ≤ k → result ≡ Ok self }
         ensures none { k ≡ 0 → IsOk result }
+        ensures refused { IsOkUnless result (MaskError.Memory alloc_error) }
     {
         if self.true_count() <= k {
             laws::one_variant(&self);

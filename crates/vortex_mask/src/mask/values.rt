@@ -1,4 +1,4 @@
-ghost use Rattle.std.specs.Prelude.{◌≡◌, ◌<◌, ◌↔◌, [], IsTrue, IfOk, Some, length, slice_get};
+ghost use Rattle.std.specs.Prelude.{◌≡◌, ◌<◌, ◌↔◌, [], IsTrue, IfOk, Some, length, slice_get, IsOkUnless, alloc_error};
 ghost use Rattle.std.specs.Option.{option_map};
 ghost use Rattle.mask_bits.specs.Buffer.{values};
 ghost use Rattle.mask_bits.specs.Positions.{positions, count};
@@ -123,7 +123,8 @@ impl MaskValues {
 
     /// The same values with the same lists kept.
     pub fn clone(&self) -> Result<MaskValues, MaskError>
-        ensures { IfOk result (λ v. v ≡ self.now) }
+        ensures same { IfOk result (λ v. v ≡ self.now) }
+        ensures refused { IsOkUnless result (MaskError.Memory alloc_error) }
     {
         Ok(MaskValues {
             buffer: self.buffer.clone()?,

@@ -2,7 +2,6 @@ use Rattle.std.proofs.Common.{◌≡◌, ◌+◌, ◌*◌, ◌<◌, ◌^◌, ap,
 use Rattle.std.specs.Int.{bit_at}
 use Rattle.mask_bits.proofs.Lists.WordLemmas.{count-word_bits}
 use Rattle.vortex_mask.specs.Bytes.{byte_at}
-use Rattle.vortex_mask.specs.Deposit.{selected}
 use Rattle.vortex_mask.proofs.ByteCountLemmas.{item_is, ones_below-byte, place_of_byte}
 use Rattle.vortex_mask.proofs.DepositListLemmas.{selected-is}
 use Rattle.vortex_mask.proofs.SetPlaceLemmas.{ones_below}

@@ -1,0 +1,83 @@
+ghost use Rattle.std.specs.Prelude.{◌≡◌, ◌⊎◌, Ok, Err, map, IfOk, IfErr, length, string_bytes};
+ghost use Rattle.maskrun.specs.Commands.{command_of, command_named, two_masks, printed, text_if_len, out_of_memory};
+ghost use Rattle.mask_bits.specs.Positions.{count, rank_intersection};
+
+use crate::answer::RunError;
+use crate::answer::argument::MaskArgument;
+use crate::answer::name::Name;
+use crate::answer::text::mask_text;
+use std::alloc::Global;
+
+// A command with its arguments read.
+#[derive(Drop)]
+pub(crate) enum Command<'a> {
+    Rank(MaskArgument<'a>, MaskArgument<'a>),
+}
+
+impl<'a> Command<'a> {
+    // What the words of a command line say, which needs no memory.
+    pub(crate) fn read(words: &'a [String]) -> Result<Command<'a>, RunError>
+        ensures { result ≡ command_of (map string_bytes words.now) }
+    {
+        match words {
+            [name, arguments @ ..] => Command::named(Name::read(name.as_str())?, arguments),
+            [] => Err(RunError::Usage),
+        }
+    }
+
+    fn named(name: Name, arguments: &'a [String]) -> Result<Command<'a>, RunError>
+        ensures { result ≡ command_named name (map string_bytes arguments.now) }
+    {
+        match name {
+            Name::Rank => {
+                let (a, b) = read_two_masks(arguments)?;
+                Ok(Command::Rank(a, b))
+            }
+        }
+    }
+
+    // The line that the command prints.
+    pub(crate) fn line(&self, alloc: Global) -> Result<String, RunError>
+        ensures text { IfOk result (λ t. printed self.now ≡ Ok (string_bytes t)) }
+        ensures fault { IfErr result (λ e. (printed self.now ≡ Err e) ⊎ (e ≡ out_of_memory)) }
+    {
+        match self {
+            Command::Rank(a, b) => rank(alloc, a, b),
+        }
+    }
+}
+
+// Arguments that are two masks.
+fn read_two_masks<'a>(
+    arguments: &'a [String],
+) -> Result<(MaskArgument<'a>, MaskArgument<'a>), RunError>
+    ensures { result ≡ two_masks (map string_bytes arguments.now) }
+{
+    match arguments {
+        [a, b] => {
+            let a = MaskArgument::read(1, a.as_str())?;
+            let b = MaskArgument::read(2, b.as_str())?;
+            Ok((a, b))
+        }
+        _ => Err(RunError::Usage),
+    }
+}
+
+fn rank(alloc: Global, a: &MaskArgument, b: &MaskArgument) -> Result<String, RunError>
+    ensures text { IfOk result (λ t.
+        text_if_len (length b.now) (count a.now) (rank_intersection a.now b.now)
+        ≡ Ok (string_bytes t)) }
+    ensures fault { IfErr result (λ e.
+        (text_if_len (length b.now) (count a.now) (rank_intersection a.now b.now) ≡ Err e)
+        ⊎ (e ≡ out_of_memory)) }
+{
+    let a = a.mask(alloc)?;
+    let b = b.mask(alloc)?;
+    let want = a.true_count();
+    let got = b.len();
+    if got != want {
+        return Err(RunError::LengthsDiffer { want, got });
+    }
+    let mask = a.intersect_by_rank(alloc, &b)?;
+    Ok(mask_text(alloc, &mask)?)
+}
