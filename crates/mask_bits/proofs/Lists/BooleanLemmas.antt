@@ -1,5 +1,5 @@
 -- What holds of lists combined value by value: the laws of truth values, at each place.
-use Rattle.std.proofs.Common.{◌≡◌, ℕ, zero, suc, ◌<◌, Bool, true, false, not, ◌&&◌, ◌||◌, List, [], ◌∷◌, length, get_or, refl, sym, ap, ◌∙◌, arith}
+use Rattle.std.proofs.Common.{◌≡◌, ℕ, zero, suc, ◌<◌, Bool, true, false, not, ◌&&◌, ◌||◌, List, [], ◌∷◌, length, get_or, map, refl, sym, ap, ◌∙◌, arith}
 use Rattle.mask_bits.specs.Laws.{RankIntersectionOfAnd, RankIntersectionOfNot, IsFreeOfOrder, DistributesOver, Absorbs, HasComplements, AndNotIsAndOfNot, KeepsLength}
 use Rattle.mask_bits.specs.Lists.{combined, and_of, or_of, not_of, and_not_of}
 use Rattle.mask_bits.specs.Positions.{count, rank_intersection, repeated}
