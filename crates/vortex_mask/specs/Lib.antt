@@ -1,4 +1,5 @@
 pub mod AllOr
+pub mod Ascending
 pub mod Bytes
 pub mod Deposit
 pub mod Faults
