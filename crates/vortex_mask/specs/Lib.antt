@@ -1,4 +1,5 @@
 pub mod AllOr
+pub mod Ascending
 pub mod Bitops
 pub mod Bytes
 pub mod Concat
