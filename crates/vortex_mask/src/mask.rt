@@ -81,7 +81,7 @@ impl Mask {
         ensures variant { IfOk result (λ m. variant m ≡ fitting_variant all_false (values buffer)) }
         ensures caches { IfOk result (λ m. caches m ≡ no_caches) }
         ensures uniform { IsUniform (values buffer) → IsOk result }
-        ensures memory { IfErr result (λ e. e ≡ MaskError.Memory alloc_error) }
+        ensures refused { IsOkUnless result (MaskError.Memory alloc_error) }
     {
         Mask::of_buffer(alloc, buffer, None)
     }
@@ -98,7 +98,7 @@ impl Mask {
         ensures caches { IfOk result (λ m. caches m
             ≡ where_mixed m (record { indices = None; ranges = option_map (λ l. l.items) ranges })) }
         ensures uniform { IsUniform (values buffer) → IsOk result }
-        ensures memory { IfErr result (λ e. e ≡ MaskError.Memory alloc_error) }
+        ensures refused { IsOkUnless result (MaskError.Memory alloc_error) }
     {
         let len = buffer.len();
         let true_count = buffer.true_count();
