@@ -7,7 +7,9 @@ ghost use Rattle.maskrun.specs.Commands.{command_of, line, out_of_memory};
 mod argument;
 mod command;
 mod error;
+mod mask_list;
 mod name;
+mod number;
 #[cfg(test)]
 mod tests;
 mod text;
