@@ -1,7 +1,14 @@
 -- Worked examples of the words that make lists of truth values, computed by the checker.
-use Rattle.std.specs.Prelude.{◌≡◌, Bool, true, false, List, [], ◌∷◌, slice_range, refl}
+use Rattle.std.specs.Prelude.{ℕ, ◌≡◌, ◌<◌, ◌≤◌, Bool, true, false, List, [], ◌∷◌, slice_range, refl}
 use Rattle.std.proofs.Math.Bool.{beq}
 use Rattle.std.specs.Cmp.Lexicographic.{pointwise}
+use Rattle.std.proofs.Common.{arith}
+use Rattle.mask_bits.specs.Positions.{true_at, IsFirstFrom}
+use Rattle.mask_bits.specs.Runs.{AreRanges, AreRuns}
+use Rattle.mask_bits.specs.Stacks.{IsStack, folded_left}
+use Rattle.mask_bits.specs.Words.{word_bits, window}
+use Rattle.mask_bits.proofs.Lists.RangeLemmas.{ranges_add_up_to_the_count}
+use Rattle.mask_bits.proofs.Lists.RunLemmas.{AreRuns-runs_from, runs_are_ranges}
 use Rattle.mask_bits.specs.Lists.{and_of, or_of, not_of, and_not_of, joined, limited}
 
 -- 1100 and 1010
@@ -53,3 +60,74 @@ limited_to_more = refl
 limited_by_places : pointwise beq (limited m 2) (false ∷ true ∷ false ∷ false ∷ false ∷ []) ≡ false
 unfolding limited
 limited_by_places = refl
+
+-- ---- runs and ranges of 10110
+
+abbrev r : List Bool
+r = true ∷ false ∷ true ∷ true ∷ false ∷ []
+
+runs_example : AreRuns r ((0, 1) ∷ (2, 4) ∷ [])
+runs_example = AreRuns-runs_from r
+
+-- runs are ranges
+ranges_example : AreRanges r ((0, 1) ∷ (2, 4) ∷ [])
+ranges_example = runs_are_ranges r ((0, 1) ∷ (2, 4) ∷ []) runs_example
+
+-- ranges that touch are no runs
+touching_are_no_runs : AreRuns r ((0, 1) ∷ (2, 3) ∷ (3, 4) ∷ []) → ⊥
+touching_are_no_runs are =
+    let past : 3 < 3 = are.apart 1 (0, 0) (omega arith) in
+    omega arith
+
+-- ranges that overlap are no ranges of a list, and neither are those that leave a true place out
+overlapping_are_none : AreRanges r ((0, 1) ∷ (2, 4) ∷ (3, 4) ∷ []) → ⊥
+overlapping_are_none are =
+    let total : ◌≡◌ {A = ℕ} 4 3 = ranges_add_up_to_the_count r ((0, 1) ∷ (2, 4) ∷ (3, 4) ∷ []) are in
+    omega arith
+
+fewer_are_none : AreRanges r ((0, 1) ∷ (2, 3) ∷ []) → ⊥
+fewer_are_none are =
+    let total : ◌≡◌ {A = ℕ} 2 3 = ranges_add_up_to_the_count r ((0, 1) ∷ (2, 3) ∷ []) are in
+    omega arith
+
+-- an empty range holds no place
+empty_are_none : AreRanges r ((0, 1) ∷ (2, 2) ∷ (2, 4) ∷ []) → ⊥
+empty_are_none are =
+    let some : 2 < 2 = are.nonempty 1 (0, 0) (omega arith) in
+    omega arith
+
+-- ---- the first place of a value, from place 1 on
+
+-- a place that holds the other value is not it
+not_first : IsFirstFrom r 1 true 4 → ⊥
+not_first first =
+    let other : false ≡ true = first.holds (omega arith) in
+    absurd (cc)
+
+-- nor is one past the first
+past_first : IsFirstFrom r 1 true 3 → ⊥
+past_first first =
+    let passed : true ≡ false = first.passed 2 (omega arith) (omega arith) in
+    absurd (cc)
+
+-- ---- stacks
+
+a_stack : IsStack (r ∷ (true ∷ false ∷ true ∷ []) ∷ (false ∷ true ∷ []) ∷ [])
+a_stack = (refl, (refl, tt))
+
+no_stack : IsStack (r ∷ (true ∷ false ∷ []) ∷ []) → ⊥
+no_stack stack = omega (arith, stack.0)
+
+stack_folded : folded_left (r ∷ (true ∷ false ∷ true ∷ []) ∷ (false ∷ true ∷ []) ∷ []) ≡ false ∷ false ∷ false ∷ true ∷ false ∷ []
+unfolding true_at
+stack_folded = refl
+
+-- ---- words
+
+low_bits_first : slice_range (word_bits 6) 0 4 ≡ false ∷ true ∷ true ∷ false ∷ []
+unfolding word_bits
+low_bits_first = refl
+
+bits_from_the_offset : slice_range (window (180 ∷ 255 ∷ []) 2) 0 5 ≡ true ∷ false ∷ true ∷ true ∷ false ∷ []
+unfolding window
+bits_from_the_offset = refl

@@ -1,9 +1,14 @@
 -- Lemmas. Crates above may cite those of `Lists`, and no others.
 mod BitLemmas
 mod BufferLemmas
-mod LawRules
+mod BuilderLemmas
+mod CombineLemmas
+mod EqLemmas
 mod Examples
+mod LawRules
+mod FirstLemmas
 pub mod Lists
 mod NumberLemmas
 mod WindowLemmas
+mod WriteLemmas
 mod YieldLemmas

@@ -1,15 +1,21 @@
 -- Lemmas on lists of truth values, for this crate and for those above it.
+pub mod AscendingLemmas
+pub mod BitsLemmas
 pub mod BooleanLemmas
 pub mod ChooseLemmas
 pub mod CountLemmas
 pub mod FrontLemmas
 pub mod LawLemmas
 pub mod LimitLemmas
+pub mod LowestLemmas
+pub mod PaddedLemmas
 pub mod PartLemmas
 pub mod PlaceLemmas
 pub mod RangeLemmas
 pub mod RankLemmas
 pub mod RunLemmas
 pub mod ScanLemmas
+pub mod SelectLemmas
 pub mod ShiftLemmas
+pub mod WalkLemmas
 pub mod WordLemmas

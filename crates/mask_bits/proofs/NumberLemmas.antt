@@ -7,7 +7,7 @@ use Rattle.std.proofs.lemmas.Bool.{cases_lt}
 use Rattle.std.proofs.lemmas.List.{get_or-drop, get_or-take, get_or_past, length-append, length-drop, length-take, take_all, take_rest, drop-replicate}
 use Rattle.std.proofs.lemmas.Nat.Bits.{bit_at-zero, bit_at_cat_low, bit_at_cat_high, bit_at_and, bit_at_ones, bit_at_ones_above, bit_at-lt}
 use Rattle.mask_bits.specs.Number.{number}
-use Rattle.mask_bits.proofs.Lists.ShiftLemmas.{bit_at-shr}
+use Rattle.mask_bits.proofs.Lists.ShiftLemmas.{bit_at-shr, bit_at-low_mask}
 
 -- each entry is a byte
 abbrev pub AreBytes : List ℕ → Type 0
@@ -55,13 +55,6 @@ pub bit_at-number : (bytes : List ℕ) (q : ℕ) → AreBytes bytes → bit_at (
 bit_at-number bytes q are =
     let split : q ≡ 8 * (q / 8) + q % 8 = omega arith in
     ap (bit_at (number bytes)) split ∙ bit_at-number_split bytes (q / 8) (q % 8) are (omega arith)
-
--- the low bits of a number, by a mask
-pub bit_at-low_mask : (n k j : ℕ) → j < k → bit_at (bit_and n (2 ^ k - 1)) j ≡ bit_at n j
-bit_at-low_mask n k j h = omega (arith, bit_at_and n (2 ^ k - 1) j, bit_at_ones k j h, bit_at-lt n j)
-
-pub bit_at-past_mask : (n k j : ℕ) → k ≤ j → bit_at (bit_and n (2 ^ k - 1)) j ≡ 0
-bit_at-past_mask n k j h = omega (arith, bit_at_and n (2 ^ k - 1) j, bit_at_ones_above k j h)
 
 -- the bits that a window of sixteen bytes shows
 pub bit_at-window : (bytes : List ℕ) (p j : ℕ) → AreBytes bytes → j < 64 → bit_at (bit_and (number (take 16 (drop (p / 8) bytes)) / 2 ^ (p % 8)) 18446744073709551615) j ≡ bit_at (get_or bytes ((p + j) / 8) 0) ((p + j) % 8)

@@ -9,7 +9,8 @@ use Rattle.mask_bits.specs.Words.{word_bits, window, word_part, padded_remainder
 use Rattle.mask_bits.specs.Number.{number}
 use Rattle.mask_bits.proofs.BufferLemmas.{length-values, get_or-values, values-part}
 use Rattle.mask_bits.proofs.Lists.WordLemmas.{word_bits_from_bits, get_or-word_bits}
-use Rattle.mask_bits.proofs.NumberLemmas.{AreBytes, bit_at-window, bit_at-low_mask, bit_at-past_mask}
+use Rattle.mask_bits.proofs.Lists.ShiftLemmas.{bit_at-low_mask, bit_at-past_mask}
+use Rattle.mask_bits.proofs.NumberLemmas.{AreBytes, bit_at-window}
 
 -- a window is the list of 64 bits
 window-values : (bytes : List ℕ) (p : ℕ) → window bytes p ≡ values (record { bytes = bytes; offset = p; len = 64 })

@@ -1,6 +1,6 @@
 -- What holds of all lists of truth values, whatever holds them.
-use Rattle.std.specs.Prelude.{ℕ, ◌+◌, ◌-◌, ◌^◌, ◌≡◌, ◌<◌, ◌≤◌, ◌&&◌, ◌↔◌, Bool, true, false, IsTrue, List, [], ◌∷◌, ◌++◌, length, All, Any, sum_by, count_ones, slice_index, slice_index_or, min, slice_range}
-use Rattle.std.specs.List.{range_with_len}
+use Rattle.std.specs.Prelude.{ℕ, ◌+◌, ◌-◌, ◌^◌, ◌≡◌, ◌<◌, ◌≤◌, ◌&&◌, ◌↔◌, Bool, true, false, IsTrue, List, [], ◌∷◌, ◌++◌, length, All, Any, sum_by, count_ones, slice_get, slice_index, slice_index_or, min, slice_range}
+use Rattle.std.specs.List.{range_with_len, filter_map}
 use Rattle.mask_bits.specs.Buffer.{Packed, values, same_values}
 use Rattle.mask_bits.specs.Lists.{and_of, or_of, not_of, and_not_of, joined, limited}
 use Rattle.mask_bits.specs.Positions.{positions, count, count_below, repeated, at_places, rank_intersection, chosen}
@@ -55,6 +55,10 @@ ChosenByAllTrue X = (rows : List X) → chosen rows (repeated (length rows) true
 -- an all-false list chooses none
 abbrev pub ChosenByAllFalse : Type 0 → Type 0
 ChosenByAllFalse X = (rows : List X) (n : ℕ) → chosen rows (repeated n false) ≡ []
+
+-- the chosen rows are those that are read at the true places, in their order
+abbrev pub ChosenIsRowsAtPositions : Type 0 → Type 0
+ChosenIsRowsAtPositions X = (rows : List X) (m : List Bool) → chosen rows m ≡ filter_map (λ i. slice_get rows i) (positions m)
 
 -- as many rows are chosen as values are true
 abbrev pub CountOfChosen : Type 0 → Type 0

@@ -1,9 +1,12 @@
 pub mod Buffer
+pub mod BufferMut
+pub mod Combine
 pub mod Laws
-pub mod Number
 pub mod Lists
+pub mod Number
 pub mod Positions
 pub mod RunScan
 pub mod Runs
 pub mod Stacks
+pub mod Walk
 pub mod Words

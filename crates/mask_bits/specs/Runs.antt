@@ -1,5 +1,5 @@
 -- Ranges of places, and the maximal ones. A range is a pair: its first place, and the place past its last.
-use Rattle.std.specs.Prelude.{ℕ, ◌+◌, ◌≡◌, ◌<◌, ◌≤◌, ◌&&◌, Bool, true, false, List, [], ◌∷◌, length, All, nat_eq, nat_lt, nat_le, slice_index_or, if◌then◌else◌}
+use Rattle.std.specs.Prelude.{ℕ, ◌≡◌, ◌<◌, ◌≤◌, ◌&&◌, Bool, false, List, length, All, nat_lt, nat_le, slice_index_or}
 use Rattle.std.specs.List.{AllAdjacentBelow, list_any}
 
 -- place i lies in a range

@@ -1,5 +1,5 @@
 -- Words of 64 bits as lists of truth values.
-use Rattle.std.specs.Prelude.{ℕ, ◌+◌, ◌*◌, ◌-◌, ◌/◌, ◌%◌, Bool, false, nat_eq, List, [], ◌∷◌, ◌++◌, length, drop, map, slice_range}
+use Rattle.std.specs.Prelude.{ℕ, ◌+◌, ◌*◌, ◌-◌, ◌/◌, ◌%◌, Bool, false, nat_eq, List, ◌++◌, length, take, drop, map, slice_range}
 use Rattle.std.specs.Int.{bit_at}
 use Rattle.std.specs.List.{range_with_len}
 use Rattle.mask_bits.specs.Buffer.{backing_bit}
@@ -24,3 +24,15 @@ word_parts m = map (word_part m) (range_with_len 0 (length m / 64))
 -- the values past the whole words, and false values up to a whole word
 abbrev pub padded_remainder : List Bool → List Bool
 padded_remainder m = drop (64 * (length m / 64)) m ++ repeated (64 - length m % 64) false
+
+-- how many words of 64 values n values start
+abbrev pub started_words : ℕ → ℕ
+started_words n = (n + 63) / 64
+
+-- started part i of a list: its values from 64 * i on, and false values up to a whole word
+abbrev pub padded_part : List Bool → ℕ → List Bool
+padded_part m i = take 64 (drop (64 * i) m ++ repeated 64 false)
+
+-- the started parts of a list: the whole ones, and the remainder where there is one
+unfoldable pub padded_parts : List Bool → List (List Bool)
+padded_parts m = map (padded_part m) (range_with_len 0 (started_words (length m)))

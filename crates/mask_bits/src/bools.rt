@@ -4,6 +4,7 @@ ghost use Rattle.std.specs.Iterator.SizeHint.{IsWithinCount};
 ghost use Rattle.mask_bits.specs.Buffer.{values};
 
 use crate::buffer::BitBuffer;
+use crate::scan::word_ahead;
 use std::marker::Model;
 
 /// The values of a buffer, in their order.
@@ -11,24 +12,32 @@ use std::marker::Model;
 pub struct BitIterator<'a> {
     buffer: &'a BitBuffer,
     next: usize,
+    // from a place inside a word on, the rest of that word
+    word: u64,
 }
 
 impl<'a> Model for BitIterator<'a> {
-    ghost use Rattle.std.specs.Prelude.{Bool, List, ◌≤◌, drop, length};
+    ghost use Rattle.std.specs.Prelude.{Bool, List, ◌≤◌, ◌<◌, ◌%◌, drop, length};
     ghost use Rattle.mask_bits.specs.Buffer.{values};
+    ghost use Rattle.mask_bits.specs.Walk.{ShowsFrom};
 
     ghost Value = { List Bool };
 
     ghost view = { λ s. drop s.next (values s.buffer.now) };
 
-    ghost invariant = { λ s. s.next ≤ length (values s.buffer.now) };
+    ghost invariant = { λ s. (s.next ≤ length (values s.buffer.now))
+        × (0 < s.next % 64 → ShowsFrom (values s.buffer.now) s.next s.word) };
 }
 
 impl<'a> BitIterator<'a> {
     pub(crate) fn new(buffer: &'a BitBuffer) -> BitIterator<'a>
         ensures { result ≡ values buffer.now }
     {
-        BitIterator { buffer, next: 0 }
+        BitIterator {
+            buffer,
+            next: 0,
+            word: 0,
+        }
     }
 }
 
@@ -43,9 +52,10 @@ impl Iterator for BitIterator<'_> {
         if self.next == self.buffer.len() {
             return None;
         }
-        let value = self.buffer.value(self.next);
+        let word = word_ahead(&self.buffer.chunks(), self.next, self.word);
+        self.word = word >> 1;
         self.next += 1;
-        Some(value)
+        Some(word & 1 == 1)
     }
 
     fn size_hint(&self) -> (usize, Option<usize>)

@@ -7,7 +7,9 @@ ghost use Rattle.mask_bits.specs.Runs.{AreRuns};
 
 use crate::bools::BitIterator;
 use crate::chunks::BitChunks;
+use crate::counts::count_bits;
 use crate::indices::SetIndices;
+use crate::scan::{place_in_word, run_of_others};
 use crate::slices::SetSlices;
 use bytes::Bytes;
 use std::alloc::{AllocError, Global};
@@ -155,7 +157,7 @@ impl BitBuffer {
     pub fn true_count(&self) -> usize
         ensures { result ≡ count (values self.now) }
     {
-        self.set_indices().count()
+        count_bits(self.bytes.as_slice(), self.offset, self.len)
     }
 
     /// How many of the values from `start` to `end` are true.
@@ -164,13 +166,7 @@ impl BitBuffer {
         requires within { end ≤ length (values self.now) }
         ensures { result ≡ count (slice_range (values self.now) start end) }
     {
-        let mut count = 0;
-        for i in start..end {
-            if self.value(i) {
-                count += 1;
-            }
-        }
-        count
+        count_bits(self.bytes.as_slice(), self.offset + start, end - start)
     }
 
     /// The position of value 0 in the backing bytes, in bits.
@@ -180,11 +176,21 @@ impl BitBuffer {
         self.offset
     }
 
-    /// The backing bytes.
+    /// The backing bytes. All values are within them.
     pub fn inner(&self) -> &Bytes
-        ensures { result.now ≡ self.now.bytes }
+        ensures bytes { result.now ≡ self.now.bytes }
+        ensures within { IsWithinBytes self.now.bytes self.now.offset self.now.len }
     {
         &self.bytes
+    }
+
+    // The bytes, with what readers of them need to know.
+    pub(crate) fn bits(&self) -> &[u8]
+        ensures bytes { result.now ≡ self.now.bytes }
+        ensures within { IsWithinBytes result.now self.now.offset self.now.len }
+    {
+        let _ = &self.len;
+        self.bytes.as_slice()
     }
 
     /// Value `i`.
@@ -201,7 +207,17 @@ impl BitBuffer {
         ensures place { result ≡ slice_get (positions (values self.now)) n }
         ensures within { IfSome result (λ p. p < length (values self.now)) }
     {
-        self.set_indices().nth(n)
+        let chunks = self.chunks();
+        let mut left = n;
+        for i in 0..chunks.padded_len() {
+            let word = chunks.padded_word(i);
+            let ones = word.count_ones() as usize;
+            if left < ones {
+                return Some(64 * i + place_in_word(word, left));
+            }
+            left -= ones;
+        }
+        None
     }
 
     /// The place of the last true value, if there is one.
@@ -210,7 +226,16 @@ impl BitBuffer {
             ≡ slice_get (positions (values self.now)) (count (values self.now) - 1) }
         ensures within { IfSome result (λ p. p < length (values self.now)) }
     {
-        self.select(self.true_count().saturating_sub(1))
+        let chunks = self.chunks();
+        let mut i = chunks.padded_len();
+        while i > 0 {
+            i -= 1;
+            let last = chunks.padded_word(i);
+            if last != 0 {
+                return Some(64 * i + (63 - last.leading_zeros() as usize));
+            }
+        }
+        None
     }
 
     /// The first place from `from` on that holds `value`, and the length where none does.
@@ -218,12 +243,16 @@ impl BitBuffer {
         requires { from ≤ length (values self.now) }
         ensures { IsFirstFrom (values self.now) from value result }
     {
-        for place in from..self.len() {
-            if self.value(place) == value {
-                return place;
+        let bytes = self.bytes.as_slice();
+        let mut place = from;
+        while self.len - place > 64 {
+            let run = run_of_others(bytes, self.offset + place, value);
+            if run < 64 {
+                return place + run;
             }
+            place += 64;
         }
-        self.len()
+        place + run_of_others(bytes, self.offset + place, value).min(self.len - place)
     }
 
     /// The values in their order.
@@ -258,7 +287,8 @@ impl BitBuffer {
 
     /// The values in words of 64, the first value lowest.
     pub fn chunks(&self) -> BitChunks<'_>
-        ensures { result ≡ values self.now }
+        ensures list { result ≡ values self.now }
+        ensures fits { length result < 2 ^ 64 }
     {
         BitChunks::new(self.bytes.as_slice(), self.offset, self.len)
     }
@@ -273,7 +303,7 @@ fn zeroed(alloc: Global, len: usize) -> Result<Vec<u8>, AllocError>
 }
 
 // Sets the bit at one position and no other.
-fn set_bit(bytes: &mut [u8], position: usize)
+pub(crate) fn set_bit(bytes: &mut [u8], position: usize)
     requires { position < 8 * length bytes.old }
     ensures { (p : ℕ) → backing_bit bytes.new p ≡ (nat_eq p position || backing_bit bytes.old p) }
 {

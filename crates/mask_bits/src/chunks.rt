@@ -1,7 +1,9 @@
-ghost use Rattle.std.specs.Prelude.{◌≡◌, ◌+◌, ◌*◌, ◌/◌, ◌%◌, ◌<◌, ◌≤◌, ◌^◌, length};
-ghost use Rattle.std.specs.Iterator.{YieldsFirstBy, item_count};
+ghost use Rattle.std.specs.Prelude.{◌≡◌, ◌+◌, ◌*◌, ◌/◌, ◌%◌, ◌<◌, ◌≤◌, ◌^◌, length, IfSome, Some};
+ghost use Rattle.std.specs.Iterator.{YieldsFirstBy, UpTo, item_count};
+ghost use Rattle.std.specs.Iterator.SizeHint.{IsWithinCount};
 ghost use Rattle.mask_bits.specs.Buffer.{IsWithinBytes, values};
 ghost use Rattle.mask_bits.specs.Words.{word_bits, word_part, word_parts, padded_remainder};
+ghost use Rattle.mask_bits.specs.Words.{started_words, padded_part, padded_parts};
 
 use crate::words::window;
 use std::marker::Model;
@@ -73,6 +75,43 @@ impl<'a> BitChunks<'a> {
         let rest = self.len % 64;
         window(self.bytes, self.offset + (self.len - rest)) & ((1 << rest) - 1)
     }
+
+    /// The started words, in their order: the whole words, and the remainder word where there is a
+    /// remainder.
+    pub fn iter_padded(&self) -> PaddedWords<'a>
+        ensures parts { result ≡ padded_parts self.now }
+        ensures fits { length result < 2 ^ 64 }
+    {
+        PaddedWords {
+            chunks: BitChunks::new(self.bytes, self.offset, self.len),
+            next: 0,
+        }
+    }
+
+    // How many words are started.
+    #[inline]
+    pub(crate) fn padded_len(&self) -> usize
+        ensures words { result ≡ started_words (length self.now) }
+        ensures fits { length self.now < 2 ^ 64 }
+    {
+        self.len.div_ceil(64)
+    }
+
+    // Started word `i`, with zeros past the last value.
+    #[inline]
+    pub(crate) fn padded_word(&self, i: usize) -> u64
+        requires { i < started_words (length self.now) }
+        ensures { word_bits result ≡ padded_part self.now i }
+    {
+        let position = self.offset + 64 * i;
+        let word = window(self.bytes, position);
+        let left = self.len - 64 * i;
+        if left < 64 {
+            word & ((1 << left) - 1)
+        } else {
+            word
+        }
+    }
 }
 
 /// The whole words of a buffer, in their order.
@@ -107,5 +146,72 @@ impl Iterator for Words<'_> {
         let word = self.chunks.word(self.next);
         self.next += 1;
         Some(word)
+    }
+    fn size_hint(&self) -> (usize, Option<usize>)
+        ensures lower { IsWithinCount result.0 (item_count (λ s. s) self.now) }
+        ensures upper { IfSome result.1 (UpTo (item_count (λ s. s) self.now)) }
+        ensures exact { result.0 ≡ length self.now }
+        ensures known { result.1 ≡ Some result.0 }
+    {
+        let left = self.len();
+        (left, Some(left))
+    }
+}
+
+impl ExactSizeIterator for Words<'_> {
+    fn len(&self) -> usize {
+        self.chunks.len() - self.next
+    }
+}
+
+/// The started words of a buffer, in their order: the whole words, and the remainder word where
+/// there is a remainder.
+#[derive(Drop)]
+pub struct PaddedWords<'a> {
+    chunks: BitChunks<'a>,
+    next: usize,
+}
+
+impl<'a> Model for PaddedWords<'a> {
+    ghost use Rattle.std.specs.Prelude.{Bool, List, ◌≤◌, drop, length};
+    ghost use Rattle.mask_bits.specs.Words.{started_words, padded_parts};
+
+    ghost Value = { List (List Bool) };
+
+    ghost view = { λ w. drop w.next (padded_parts w.chunks) };
+
+    ghost invariant = { λ w. w.next ≤ started_words (length w.chunks) };
+}
+
+impl Iterator for PaddedWords<'_> {
+    type Item = u64;
+
+    ghost next_gives = { YieldsFirstBy word_bits (λ s. s) };
+
+    ghost remaining = { item_count (λ s. s) };
+
+    fn next(&mut self) -> Option<u64> {
+        if self.next == self.chunks.padded_len() {
+            return None;
+        }
+        let word = self.chunks.padded_word(self.next);
+        self.next += 1;
+        Some(word)
+    }
+
+    fn size_hint(&self) -> (usize, Option<usize>)
+        ensures lower { IsWithinCount result.0 (item_count (λ s. s) self.now) }
+        ensures upper { IfSome result.1 (UpTo (item_count (λ s. s) self.now)) }
+        ensures exact { result.0 ≡ length self.now }
+        ensures known { result.1 ≡ Some result.0 }
+    {
+        let left = self.len();
+        (left, Some(left))
+    }
+}
+
+impl ExactSizeIterator for PaddedWords<'_> {
+    fn len(&self) -> usize {
+        self.chunks.padded_len() - self.next
     }
 }

@@ -1,9 +1,11 @@
-ghost use Rattle.std.specs.Prelude.{◌≡◌, ◌↔◌, IsTrue};
+ghost use Rattle.std.specs.Prelude.{◌≡◌, ◌↔◌, ◌+◌, ◌*◌, ◌<◌, ◌≤◌, ℕ, length, IsTrue};
 ghost use Rattle.std.specs.Cmp.{bool_eq_equiv, partial_equiv_from_equiv};
 ghost use Rattle.std.proofs.lemmas.Cmp.{on_equiv, lists_equiv};
-ghost use Rattle.mask_bits.specs.Buffer.{values, same_values};
+ghost use Rattle.mask_bits.specs.Buffer.{IsWithinBytes, values, same_values};
+ghost use Rattle.mask_bits.specs.Combine.{AreSameBits, IsInTwoWords};
 
 use crate::buffer::BitBuffer;
+use crate::readers::{Anywhere, Neighbors, ReadWord, Whole};
 
 // Two buffers are equal where their lists are; offsets and the bits outside don't count.
 impl PartialEq for BitBuffer {
@@ -15,18 +17,90 @@ impl PartialEq for BitBuffer {
         ensures answer { result ≡ same_values self.now other.now }
         ensures same { IsTrue result ↔ (values self.now ≡ values other.now) }
     {
-        if self.len() != other.len() {
-            return false;
-        }
-        for i in 0..self.len() {
-            if self.value(i) != other.value(i) {
-                return false;
-            }
-        }
-        true
+        self.len() == other.len() && same_lists(self, other)
     }
 }
 
 impl Eq for BitBuffer {
     ghost laws = { on_equiv values (lists_equiv bool_eq_equiv) };
+}
+
+// Whether two buffers of one length have the same list.
+fn same_lists(a: &BitBuffer, b: &BitBuffer) -> bool
+    requires { length (values a.now) ≡ length (values b.now) }
+    ensures answer { result ≡ same_values a.now b.now }
+    ensures same { IsTrue result ↔ (values a.now ≡ values b.now) }
+{
+    same_words(a.bits(), a.offset(), b.bits(), b.offset(), a.len() / 64)
+        && a.chunks().remainder_bits() == b.chunks().remainder_bits()
+}
+
+// Whether the words of `a` from bit `a_offset` on are those of `b` from bit `b_offset` on.
+fn same_words(a: &[u8], a_offset: usize, b: &[u8], b_offset: usize, words: usize) -> bool
+    requires a_within { IsWithinBytes a.now a_offset (64 * words) }
+    requires b_within { IsWithinBytes b.now b_offset (64 * words) }
+    ensures { IsTrue result ↔ AreSameBits a.now a_offset b.now b_offset (64 * words) }
+{
+    let (a, a_low) = (&a[a_offset / 8..], (a_offset % 8) as u32);
+    let (b, b_low) = (&b[b_offset / 8..], (b_offset % 8) as u32);
+    // words that lie in whole words of both, up to the last
+    let inner = (a.len().min(b.len()) / 8).saturating_sub(1).min(words);
+    same_inner(a, a_low, b, b_low, inner) && agree::<Anywhere>(a, a_low, b, b_low, inner, words)
+}
+
+// Whether the first words are the same, which lie in whole words of both.
+fn same_inner(a: &[u8], a_low: u32, b: &[u8], b_low: u32, words: usize) -> bool
+    requires inner_a { (i : ℕ) → i < words → IsInTwoWords a.now a_low i }
+    requires inner_b { (i : ℕ) → i < words → IsInTwoWords b.now b_low i }
+    ensures { IsTrue result ↔ AreSameBits a.now a_low b.now b_low (64 * words) }
+{
+    if a_low == 0 && b_low == 0 {
+        agree::<Whole>(a, a_low, b, b_low, 0, words)
+    } else {
+        agree::<Neighbors>(a, a_low, b, b_low, 0, words)
+    }
+}
+
+// How many words are compared before an early return.
+const BLOCK: usize = 32;
+
+// Whether words `from` to `to` are the same, where those before are.
+fn agree<R: ReadWord>(a: &[u8], a_low: u32, b: &[u8], b_low: u32, from: usize, to: usize) -> bool
+    requires reads_a { (i : ℕ) → i < to → R.can_read a.now a_low i }
+    requires reads_b { (i : ℕ) → i < to → R.can_read b.now b_low i }
+    requires ordered { from ≤ to }
+    requires before { AreSameBits a.now a_low b.now b_low (64 * from) }
+    ensures { IsTrue result ↔ AreSameBits a.now a_low b.now b_low (64 * to) }
+{
+    let mut next = from;
+    while next < to {
+        let end = next + (to - next).min(BLOCK);
+        if !agree_block::<R>(a, a_low, b, b_low, next, end) {
+            return false;
+        }
+        next = end;
+    }
+    true
+}
+
+// The same with no early return, so that several words are compared at once.
+fn agree_block<R: ReadWord>(
+    a: &[u8],
+    a_low: u32,
+    b: &[u8],
+    b_low: u32,
+    from: usize,
+    to: usize,
+) -> bool
+    requires reads_a { (i : ℕ) → i < to → R.can_read a.now a_low i }
+    requires reads_b { (i : ℕ) → i < to → R.can_read b.now b_low i }
+    requires ordered { from ≤ to }
+    requires before { AreSameBits a.now a_low b.now b_low (64 * from) }
+    ensures { IsTrue result ↔ AreSameBits a.now a_low b.now b_low (64 * to) }
+{
+    let mut same = true;
+    for i in from..to {
+        same &= R::word(a, a_low, i) == R::word(b, b_low, i);
+    }
+    same
 }

@@ -3,32 +3,38 @@ ghost use Rattle.mask_bits.specs.Buffer.{values};
 ghost use Rattle.mask_bits.specs.Runs.{AreRuns};
 
 use crate::buffer::BitBuffer;
+use crate::chunks::BitChunks;
+use crate::scan::{first_word, next_word, past_full_words};
 use std::marker::Model;
 
 /// The maximal ranges of a buffer's true values, ascending.
 #[derive(Drop)]
 pub struct SetSlices<'a> {
-    buffer: &'a BitBuffer,
-    next: usize,
+    chunks: BitChunks<'a>,
+    // the started word at hand, and its bits that are in no range yet
+    at: usize,
+    word: u64,
 }
 
 impl<'a> Model for SetSlices<'a> {
-    ghost use Rattle.std.specs.Prelude.{ℕ, List, ◌≤◌, drop, length};
-    ghost use Rattle.mask_bits.specs.Buffer.{values};
+    ghost use Rattle.std.specs.Prelude.{ℕ, List, ◌<◌, ◌^◌, length};
     ghost use Rattle.mask_bits.specs.RunScan.{runs_from};
+    ghost use Rattle.mask_bits.specs.Walk.{left_of, IsLeft};
 
     ghost Value = { List (ℕ × ℕ) };
 
-    ghost view = { λ s. runs_from s.next (drop s.next (values s.buffer.now)) };
+    ghost view = { λ s. runs_from 0 (left_of s.chunks s.at s.word) };
 
-    ghost invariant = { λ s. s.next ≤ length (values s.buffer.now) };
+    ghost invariant = { λ s. IsLeft s.chunks s.at s.word × (length s.chunks < 2 ^ 64) };
 }
 
 impl<'a> SetSlices<'a> {
     pub(crate) fn new(buffer: &'a BitBuffer) -> SetSlices<'a>
         ensures { AreRuns (values buffer.now) result }
     {
-        SetSlices { buffer, next: 0 }
+        let chunks = buffer.chunks();
+        let word = first_word(&chunks);
+        SetSlices { chunks, at: 0, word }
     }
 }
 
@@ -40,14 +46,13 @@ impl Iterator for SetSlices<'_> {
     ghost remaining = { item_count (λ s. s) };
 
     fn next(&mut self) -> Option<(usize, usize)> {
-        let len = self.buffer.len();
-        let start = self.buffer.first_from(self.next, true);
-        if start == len {
-            self.next = len;
-            return None;
-        }
-        let end = self.buffer.first_from(start + 1, false);
-        self.next = end;
+        let (at, word) = next_word(&self.chunks, self.at, self.word)?;
+        let start = 64 * at + word.trailing_zeros() as usize;
+        // filled up from below, so that the run begins with the word
+        let (at, word) = past_full_words(&self.chunks, at, word | (word - 1));
+        let end = 64 * at + word.trailing_ones() as usize;
+        self.at = at;
+        self.word = word & word.wrapping_add(1);
         Some((start, end))
     }
 }

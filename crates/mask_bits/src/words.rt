@@ -1,10 +1,11 @@
 //! Words of 64 bits of some bytes: read, written, and joined at any bit position.
 
 ghost use Rattle.std.specs.Prelude.{◌≡◌, ◌+◌, ◌*◌, ◌<◌, ◌≤◌, ◌^◌, ℕ, length, take, drop};
-ghost use Rattle.std.specs.Prelude.{◌⊎◌, ◌++◌, slice_range};
+ghost use Rattle.std.specs.Prelude.{◌⊎◌, ◌++◌, ◌-◌, false, slice_range};
 ghost use Rattle.mask_bits.specs.Buffer.{backing_bit};
 ghost use Rattle.mask_bits.specs.Number.{number};
 ghost use Rattle.mask_bits.specs.Words.{window as bits_from, word_bits};
+ghost use Rattle.mask_bits.specs.Positions.{repeated};
 
 /// Word `i` of the whole words of `bytes`: bits `64 * i` to `64 * i + 63`, the first lowest.
 #[inline]
@@ -26,6 +27,16 @@ pub fn set_word(bytes: &mut [u8], i: usize, word: u64)
     ensures others { (p : ℕ) → ((p < 64 * i) ⊎ (64 * i + 64 ≤ p)) → backing_bit bytes.new p ≡ backing_bit bytes.old p }
 {
     bytes[8 * i..8 * i + 8].copy_from_slice(&word.to_le_bytes());
+}
+
+/// The lowest `count` bits of `word`, and zeros above them.
+#[inline]
+pub fn low_bits(word: u64, count: usize) -> u64
+    requires some { 0 < count }
+    requires few { count ≤ 64 }
+    ensures { word_bits result ≡ take count (word_bits word) ++ repeated (64 - count) false }
+{
+    word & (u64::MAX >> (64 - count))
 }
 
 /// The 64 bits from bit `low` of `word` on; those past its end are the first of `next`.

@@ -4,7 +4,7 @@ ghost use Rattle.vortex_mask.specs.Mask.{truth};
 ghost use Rattle.mask_bits.specs.Positions.{chosen};
 
 use std::alloc::Global;
-use vortex_mask::mask::{Mask, MaskError};
+use vortex_mask::{Mask, MaskError};
 
 /// The rows of two columns that a mask chooses, in two columns of one length.
 pub fn filtered<A: Copy, B: Copy>(
@@ -26,17 +26,17 @@ pub fn filtered<A: Copy, B: Copy>(
 
 #[cfg(test)]
 mod tests {
-use super::filtered;
-use crate::tests::{mask, same};
-use std::test::Fail;
+    use super::filtered;
+    use crate::tests::{mask, same};
+    use std::test::Fail;
 
-#[test]
-fn two_columns(rt: HostRuntime) -> Result<(), Fail> {
-    let mask = mask(rt.alloc(), "1011")?;
-    same(&rt, mask.len(), 4);
-    let (names, ages) = filtered(rt.alloc(), &mask, &["a", "b", "c", "d"], &[3, 1, 4, 1])?;
-    assert!(rt; names.as_slice() == ["a", "c", "d"].as_slice());
-    assert!(rt; ages.as_slice() == [3, 4, 1].as_slice());
-    Ok(())
-}
+    #[test]
+    fn two_columns(rt: HostRuntime) -> Result<(), Fail> {
+        let mask = mask(rt.alloc(), "1011")?;
+        same(&rt, mask.len(), 4);
+        let (names, ages) = filtered(rt.alloc(), &mask, &["a", "b", "c", "d"], &[3, 1, 4, 1])?;
+        assert!(rt; names.as_slice() == ["a", "c", "d"].as_slice());
+        assert!(rt; ages.as_slice() == [3, 4, 1].as_slice());
+        Ok(())
+    }
 }

@@ -1,10 +1,10 @@
 //! How many rows a filter leaves.
-ghost use Rattle.std.specs.Prelude.{◌≡◌, ◌*◌, ◌/◌, ◌<◌, ◌≤◌, length};
+ghost use Rattle.std.specs.Prelude.{◌≡◌, ◌++◌, ◌≤◌, Bool, List, length};
 ghost use Rattle.vortex_mask.specs.Mask.{truth};
 ghost use Rattle.mask_bits.specs.Positions.{count, rank_intersection};
 
 use mask_bits::laws;
-use vortex_mask::mask::Mask;
+use vortex_mask::Mask;
 
 /// How many rows two stacked filters leave, without joining them.
 pub fn left_by_both(first: &Mask, second: &Mask) -> usize
@@ -15,16 +15,59 @@ pub fn left_by_both(first: &Mask, second: &Mask) -> usize
     second.true_count()
 }
 
-/// About how many of `rows` rows a filter leaves, by what it leaves of a sample: rounded down, and
-/// all of them by an empty sample.
-pub fn left_of(rows: u32, sample: &Mask) -> u32
-    ensures share { 0 < length (truth sample.now)
-        → result ≡ rows * count (truth sample.now) / length (truth sample.now) }
-    ensures bound { result ≤ rows }
+/// The fewest and the most of `rows` rows that a filter leaves of which only the first are decided.
+pub fn left_of(decided: &Mask, rows: usize) -> (usize, usize)
+    requires { length (truth decided.now) ≤ rows }
+    ensures fewest { (rest : List Bool) → length (truth decided.now ++ rest) ≡ rows
+        → result.0 ≤ count (truth decided.now ++ rest) }
+    ensures most { (rest : List Bool) → length (truth decided.now ++ rest) ≡ rows
+        → count (truth decided.now ++ rest) ≤ result.1 }
+    ensures within { result.1 ≤ rows }
 {
-    if sample.is_empty() {
-        return rows;
+    laws::counts();
+    let fewest = decided.true_count();
+    (fewest, fewest + (rows - decided.len()))
+}
+
+#[cfg(test)]
+mod tests {
+    use super::{left_by_both, left_of};
+    use crate::tests::{mask, same};
+    use std::alloc::Global;
+    use std::process::Abort;
+    use std::test::Fail;
+    use vortex_mask::MaskError;
+
+    fn leaves(
+        rt: &impl Abort,
+        alloc: Global,
+        decided: &str,
+        want: (usize, usize),
+    ) -> Result<(), MaskError> {
+        let decided = mask(alloc, decided)?;
+        assert!(rt; decided.len() <= 6);
+        assert!(rt; left_of(&decided, 6) == want);
+        Ok(())
     }
-    let chosen = sample.true_count() as u128;
-    (u128::from(rows) * chosen / sample.len() as u128) as u32
+
+    #[test]
+    fn rows_by_the_first_values(rt: HostRuntime) -> Result<(), Fail> {
+        for (decided, want) in [
+            ("", (0, 6)),
+            ("0000", (0, 2)),
+            ("1011", (3, 5)),
+            ("111111", (6, 6)),
+        ] {
+            leaves(&rt, rt.alloc(), decided, want)?;
+        }
+        Ok(())
+    }
+
+    #[test]
+    fn rows_of_two_filters(rt: HostRuntime) -> Result<(), Fail> {
+        let (first, second) = (mask(rt.alloc(), "0110")?, mask(rt.alloc(), "01")?);
+        same(&rt, second.len(), first.true_count());
+        same(&rt, left_by_both(&first, &second), 1);
+        Ok(())
+    }
 }

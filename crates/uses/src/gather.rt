@@ -1,18 +1,19 @@
 //! The rows that a mask chooses, by its variant and the places of its true values.
-ghost use Rattle.std.specs.Prelude.{◌≡◌, IfOk, length};
+ghost use Rattle.std.specs.Prelude.{◌≡◌, IfOk, length, slice_get};
 ghost use Rattle.mask_bits.specs.Buffer.{values};
 ghost use Rattle.mask_bits.specs.Positions.{chosen};
 ghost use Rattle.vortex_mask.specs.Mask.{truth};
 
-use mask_bits::BitBuffer;
+use mask_bits::{BitBuffer, laws};
 use std::alloc::{AllocError, Global};
-use vortex_mask::mask::{AllOr, Mask};
+use vortex_mask::{AllOr, Mask};
 
 /// The rows at the true places: a copy of all, none, or one read at each place.
 pub fn gathered<T: Copy>(alloc: Global, rows: &[T], mask: &Mask) -> Result<Vec<T>, AllocError>
     requires { length rows.now ≡ length (truth mask.now) }
     ensures { IfOk result (λ v. v.items ≡ chosen rows.now (truth mask.now)) }
 {
+    laws::choosing::<T>();
     match mask.bit_buffer() {
         AllOr::All => Vec::from_slice(alloc, rows),
         AllOr::None => Ok(Vec::new(alloc)),
@@ -24,8 +25,44 @@ fn at_places<T: Copy>(alloc: Global, rows: &[T], buffer: &BitBuffer) -> Result<V
     requires { length rows.now ≡ length (values buffer.now) }
     ensures { IfOk result (λ v. v.items ≡ chosen rows.now (values buffer.now)) }
 {
+    laws::choosing::<T>();
     buffer
         .set_indices()
-        .filter_map(|place| rows.get(place).copied())
+        .filter_map(|place| row_at(rows, place))
         .collect(alloc)
+}
+
+fn row_at<T: Copy>(rows: &[T], place: usize) -> Option<T>
+    ensures { result ≡ slice_get rows.now place }
+{
+    rows.get(place).copied()
+}
+
+#[cfg(test)]
+mod tests {
+    use super::gathered;
+    use crate::tests::{mask, same};
+    use std::alloc::Global;
+    use std::process::Abort;
+    use std::test::Fail;
+    use vortex_mask::MaskError;
+
+    fn gathers(rt: &impl Abort, alloc: Global, text: &str, want: &[u8]) -> Result<(), MaskError> {
+        let mask = mask(alloc, text)?;
+        same(rt, mask.len(), 4);
+        assert!(rt; gathered(alloc, &[3, 1, 4, 1], &mask)?.as_slice() == want);
+        Ok(())
+    }
+
+    #[test]
+    fn four_rows(rt: HostRuntime) -> Result<(), Fail> {
+        for (mask, want) in [
+            ("1111", [3, 1, 4, 1].as_slice()),
+            ("0000", [].as_slice()),
+            ("1010", [3, 4].as_slice()),
+        ] {
+            gathers(&rt, rt.alloc(), mask, want)?;
+        }
+        Ok(())
+    }
 }

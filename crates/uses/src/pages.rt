@@ -34,3 +34,46 @@ pub fn first_invalid(validity: &BitBuffer, start: usize, end: usize) -> Option<u
     let row = validity.first_from(start, false);
     if row < end { Some(row) } else { None }
 }
+
+#[cfg(test)]
+mod tests {
+    use super::{first_invalid, valid_in_page, valid_rows};
+    use crate::tests::{buffer, same};
+    use mask_bits::BitBuffer;
+    use std::process::Abort;
+    use std::test::Fail;
+
+    #[test]
+    fn valid_rows_of_six(rt: HostRuntime) -> Result<(), Fail> {
+        let rows = valid_rows(rt.alloc(), &buffer(rt.alloc(), "011001")?)?;
+        assert!(rt; rows.as_slice() == [1, 2, 5].as_slice());
+        Ok(())
+    }
+
+    fn page(
+        rt: &impl Abort,
+        validity: &BitBuffer,
+        start: usize,
+        end: usize,
+        want: (usize, Option<usize>),
+    ) {
+        assert!(rt; start <= end && end <= validity.len());
+        same(rt, valid_in_page(validity, start, end), want.0);
+        assert!(rt; first_invalid(validity, start, end) == want.1);
+    }
+
+    #[test]
+    fn pages_of_six(rt: HostRuntime) -> Result<(), Fail> {
+        let validity = buffer(rt.alloc(), "011001")?;
+        for ((start, end), want) in [
+            ((2, 6), (2, Some(3))),
+            ((1, 3), (2, None)),
+            ((5, 6), (1, None)),
+            ((0, 6), (3, Some(0))),
+            ((6, 6), (0, None)),
+        ] {
+            page(&rt, &validity, start, end, want);
+        }
+        Ok(())
+    }
+}

@@ -1,11 +1,12 @@
 //! Filters that stand on the rows which the one before them chose.
-ghost use Rattle.std.specs.Prelude.{◌≡◌, IfOk, length};
+ghost use Rattle.std.specs.Prelude.{◌≡◌, ◌∷◌, IfOk, length, map};
 ghost use Rattle.vortex_mask.specs.Mask.{truth};
 ghost use Rattle.mask_bits.specs.Positions.{count, chosen, rank_intersection};
+ghost use Rattle.mask_bits.specs.Stacks.{IsStack, folded_left};
 
 use mask_bits::laws;
 use std::alloc::Global;
-use vortex_mask::mask::{Mask, MaskError};
+use vortex_mask::{Mask, MaskError};
 
 /// The rows that two stacked filters choose, by one mask in the place of both.
 pub fn filtered<T: Copy>(
@@ -75,18 +76,89 @@ pub fn folded_right(
     first.intersect_by_rank(alloc, &last_two)
 }
 
+/// Any number of stacked filters as one: the first, narrowed by each of the rest in turn.
+pub fn joined(alloc: Global, first: &Mask, rest: &[Mask]) -> Result<Mask, MaskError>
+    requires { IsStack (truth first.now ∷ map truth rest.now) }
+    ensures { IfOk result (λ m. truth m ≡ folded_left (truth first.now ∷ map truth rest.now)) }
+{
+    laws::folding_keeps_a_stack();
+    let mut joined = first.clone()?;
+    for mask in rest {
+        joined = joined.intersect_by_rank(alloc, mask)?;
+    }
+    Ok(joined)
+}
+
 #[cfg(test)]
 mod tests {
-use super::{filtered_both_ways, folded_left, folded_right};
-use crate::tests::{lists, mask, same};
-use std::alloc::Global;
-use std::process::Abort;
-use std::test::Fail;
-use vortex_mask::mask::{Mask, MaskError};
+    use super::{filtered_both_ways, folded_left, folded_right, joined};
+    use crate::tests::{lists, mask, same};
+    use std::alloc::Global;
+    use std::process::Abort;
+    use std::test::Fail;
+    use vortex_mask::{Mask, MaskError};
 
-fn chooses(rt: &impl Abort, first: &Mask, second: &Mask) -> Result<(), MaskError> {
-    same(rt, first.len(), 8);
-    same(rt, second.len(), first.true_count());
-    Ok(())
-}
+    fn choose(
+        rt: &impl Abort,
+        alloc: Global,
+        first: &Mask,
+        second: &Mask,
+    ) -> Result<(), MaskError> {
+        same(rt, first.len(), 8);
+        same(rt, second.len(), first.true_count());
+        let rows = [10, 11, 12, 13, 14, 15, 16, 17];
+        let (at_once, in_turn) = filtered_both_ways(alloc, &rows, first, second)?;
+        assert!(rt; at_once.as_slice() == [14, 17].as_slice());
+        assert!(rt; in_turn.as_slice() == [14, 17].as_slice());
+        Ok(())
+    }
+
+    #[test]
+    fn two_filters_choose_alike(rt: HostRuntime) -> Result<(), Fail> {
+        let alloc = rt.alloc();
+        choose(
+            &rt,
+            alloc,
+            &mask(alloc, "10011101")?,
+            &mask(alloc, "00101")?,
+        )?;
+        Ok(())
+    }
+
+    fn fold(rt: &impl Abort, alloc: Global, masks: (&Mask, &Mask, &Mask)) -> Result<(), MaskError> {
+        let (first, second, third) = masks;
+        same(rt, second.len(), first.true_count());
+        same(rt, third.len(), second.true_count());
+        lists(rt, &folded_left(alloc, first, second, third)?, "00001000");
+        lists(rt, &folded_right(alloc, first, second, third)?, "00001000");
+        Ok(())
+    }
+
+    #[test]
+    fn three_filters_in_either_grouping(rt: HostRuntime) -> Result<(), Fail> {
+        let alloc = rt.alloc();
+        let (first, second) = (mask(alloc, "10011101")?, mask(alloc, "00101")?);
+        fold(&rt, alloc, (&first, &second, &mask(alloc, "10")?))?;
+        Ok(())
+    }
+
+    fn join(
+        rt: &impl Abort,
+        alloc: Global,
+        first: &Mask,
+        rest: &[Mask; 2],
+    ) -> Result<(), MaskError> {
+        same(rt, rest[0].len(), first.true_count());
+        same(rt, rest[1].len(), rest[0].true_count());
+        lists(rt, &joined(alloc, first, rest)?, "00001000");
+        Ok(())
+    }
+
+    #[test]
+    fn a_loop_over_filters(rt: HostRuntime) -> Result<(), Fail> {
+        let alloc = rt.alloc();
+        let rest = [mask(alloc, "00101")?, mask(alloc, "10")?];
+        join(&rt, alloc, &mask(alloc, "10011101")?, &rest)?;
+        Ok(())
+    }
 }

@@ -7,7 +7,7 @@ mod sweep;
 use mask_bits::BitBuffer;
 use std::alloc::{AllocError, Global};
 use std::process::Abort;
-use vortex_mask::mask::{Mask, MaskError};
+use vortex_mask::{Mask, MaskError};
 
 pub(crate) fn same(rt: &impl Abort, got: usize, want: usize)
     ensures { got ≡ want }

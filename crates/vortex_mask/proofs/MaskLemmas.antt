@@ -1,16 +1,18 @@
 -- The variant that a list may have, by its count.
-use Rattle.std.proofs.Common.{◌≡◌, ℕ, zero, suc, ◌<◌, Bool, true, false, List, [], ◌∷◌, length, refl, sym, ap, ◌∙◌, arith, inl, inr, ◌⊎◌}
+use Rattle.std.proofs.Common.{◌≡◌, ℕ, zero, suc, ◌<◌, Bool, true, false, List, [], ◌∷◌, length, refl, sym, ap, ◌∙◌, arith, inl, inr, ◌⊎◌, Some, subst}
 use Rattle.std.proofs.lemmas.List.{length-replicate}
 use Rattle.vortex_mask.specs.Mask.{truth, variant_and, Variant, all_true, all_false, mixed, fitting_variant, variant, IsUniform}
-use Rattle.mask_bits.specs.Positions.{count, rank_intersection, repeated}
+use Rattle.mask_bits.specs.Positions.{count, rank_intersection, repeated, positions}
 use Rattle.vortex_mask.specs.declared.mask.Mask.{Mask}
 use Rattle.vortex_mask.specs.declared.mask.Mask.TheVariants.{AllTrue, AllFalse, Values}
 use Rattle.mask_bits.proofs.Lists.LawLemmas.{rank_intersection-none}
 use Rattle.mask_bits.proofs.Lists.PlaceLemmas.{count-le-length}
 use Rattle.mask_bits.proofs.Lists.RankLemmas.{rank_intersection-all_true, rank_intersection-by_all_true}
-use Rattle.mask_bits.proofs.Lists.CountLemmas.{count-repeated_true, count-repeated_false, all_true_from_count, all_false_from_count, list_all-count, list_all-count_less, list_any-count, list_any-count_zero}
+use Rattle.mask_bits.proofs.Lists.CountLemmas.{count-repeated_true, count-repeated_false, all_true_from_count, all_false_from_count, list_all-count, list_all-count_less, list_any-count, list_any-count_zero, length-repeated}
 use Rattle.std.specs.Prelude.{◌↔◌}
 use Rattle.vortex_mask.specs.Laws.{UniformIsOfOneValue}
+use Rattle.vortex_mask.specs.MaskValues.{AreOf, no_caches, kept_indices, kept_ranges}
+use Rattle.mask_bits.specs.Runs.{AreRanges}
 
 pub fitting_variant-all : (empty : Variant) (m : List Bool) → 0 < length m → count m ≡ length m → fitting_variant empty m ≡ all_true
 fitting_variant-all empty [] some e = absurd (omega arith)
@@ -41,6 +43,10 @@ fitting_variant-repeated_true (suc n) =
 pub fitting_variant-repeated_false : (n : ℕ) → fitting_variant all_false (repeated n false) ≡ all_false
 unfolding repeated
 fitting_variant-repeated_false n = fitting_variant-all_false (repeated n false) (count-repeated_false n)
+
+pub fitting_variant-some_true : (empty : Variant) (n : ℕ) → 0 < n → fitting_variant empty (repeated n true) ≡ all_true
+fitting_variant-some_true empty n some =
+    fitting_variant-all empty (repeated n true) (omega (arith, length-repeated n true)) (count-repeated_true n ∙ sym (length-repeated n true))
 
 -- a list with values has one variant
 pub fitting_variant-nonempty : (e f : Variant) (m : List Bool) → 0 < length m → fitting_variant e m ≡ fitting_variant f m
@@ -97,3 +103,18 @@ uniform_is_of_one_value m = (
     | inr none ↦ inl (ap count none ∙ count-repeated_false (length m))
   ],
 )
+
+-- ---- lists that are kept
+
+-- what a `Some` holds is one value
+some_one : {X : Type 0} (x y : X) → Some x ≡ Some y → x ≡ y
+some_one x y same = cc
+
+pub AreOf-no_caches : (m : List Bool) → AreOf m no_caches
+AreOf-no_caches m = record { indices = λ places is. absurd (cc); ranges = λ ranges is. absurd (cc) }
+
+pub AreOf-kept_indices : (m : List Bool) (places : List ℕ) → places ≡ positions m → AreOf m (kept_indices places)
+AreOf-kept_indices m places same = record { indices = λ kept is. sym (some_one places kept is) ∙ same; ranges = λ ranges is. absurd (cc) }
+
+pub AreOf-kept_ranges : (m : List Bool) (ranges : List (ℕ × ℕ)) → AreRanges m ranges → AreOf m (kept_ranges ranges)
+AreOf-kept_ranges m ranges are = record { indices = λ places is. absurd (cc); ranges = λ kept is. subst (AreRanges m) (some_one ranges kept is) are }

@@ -2,8 +2,8 @@
 use Rattle.std.specs.Prelude.{◌≡◌, Bool, true, false, List, [], ◌∷◌, length, Option, Some, None, if◌then◌else◌, ◌⊎◌}
 use Rattle.std.specs.List.{list_all, list_any}
 use Rattle.mask_bits.specs.Buffer.{Packed, values}
-use Rattle.vortex_mask.specs.MaskValues.{Contents}
-use Rattle.mask_bits.specs.Positions.{count, repeated}
+use Rattle.vortex_mask.specs.MaskValues.{Contents, Caches, no_caches, kept_indices}
+use Rattle.mask_bits.specs.Positions.{positions, count, repeated}
 use Rattle.vortex_mask.specs.declared.mask.all_or.AllOr.{AllOr}
 use Rattle.vortex_mask.specs.declared.mask.all_or.AllOr.TheVariants as all_or
 use Rattle.vortex_mask.specs.declared.mask.Mask.{Mask}
@@ -55,3 +55,24 @@ abbrev pub held_buffer : Mask → AllOr Packed
 held_buffer (AllTrue n) = all_or.All
 held_buffer (AllFalse n) = all_or.None
 held_buffer (Values v) = all_or.Some v.value.buffer
+
+-- the lists that a mask keeps of its true places
+abbrev pub caches : Mask → Caches
+caches (AllTrue n) = no_caches
+caches (AllFalse n) = no_caches
+caches (Values v) = v.value.caches
+
+-- these lists where a mask is held as `Values`, and neither elsewhere
+abbrev pub where_mixed : Mask → Caches → Caches
+where_mixed (AllTrue n) kept = no_caches
+where_mixed (AllFalse n) kept = no_caches
+where_mixed (Values v) kept = kept
+
+-- what a rank intersection m of two masks keeps: an all-true mask narrows to the other one with its lists, and two
+-- mixed ones to a mask that keeps its true places
+abbrev pub narrowed_caches : Mask → Mask → Mask → Caches
+narrowed_caches (AllTrue n) b m = caches b
+narrowed_caches (Values v) (AllTrue n) m = caches (Values v)
+narrowed_caches (Values v) (Values w) m = where_mixed m (kept_indices (positions (truth m)))
+narrowed_caches (Values v) (AllFalse n) m = no_caches
+narrowed_caches (AllFalse n) b m = no_caches

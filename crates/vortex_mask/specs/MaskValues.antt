@@ -1,15 +1,45 @@
 -- What a contract sees of a `MaskValues`.
-use Rattle.std.specs.Prelude.{ℕ, ◌≡◌, ◌<◌, length}
+use Rattle.std.specs.Prelude.{ℕ, ◌≡◌, ◌<◌, Bool, List, length, Option, Some, None}
+use Rattle.std.specs.Option.{ForSome}
 use Rattle.mask_bits.specs.Buffer.{Packed, values}
-use Rattle.mask_bits.specs.Positions.{count}
+use Rattle.mask_bits.specs.Positions.{positions, count}
+use Rattle.mask_bits.specs.Runs.{AreRanges}
 
--- a buffer, and how many of its values are true
+-- the lists that are kept of the true places, where they are: the places, and ranges that hold them
+pub record Caches : Type 0 where
+  pub indices : Option (List ℕ)
+  pub ranges : Option (List (ℕ × ℕ))
+
+-- neither list is kept
+abbrev pub no_caches : Caches
+no_caches = record { indices = None; ranges = None }
+
+-- the places alone
+abbrev pub kept_indices : List ℕ → Caches
+kept_indices places = record { indices = Some places; ranges = None }
+
+-- the ranges alone
+abbrev pub kept_ranges : List (ℕ × ℕ) → Caches
+kept_ranges ranges = record { indices = None; ranges = Some ranges }
+
+-- a buffer, how many of its values are true, and the lists that are kept of them
 pub record Contents : Type 0 where
   pub buffer : Packed
   pub true_count : ℕ
+  pub caches : Caches
 
 -- the count is the buffer's, and some values are true and some are not
 pub record IsMixed (buffer : Packed) (true_count : ℕ) : Type 0 where
   pub counted : true_count ≡ count (values buffer)
   pub some_true : 0 < true_count
   pub some_false : true_count < length (values buffer)
+
+-- kept places are the list's true places, and kept ranges hold exactly those
+pub record AreOf (m : List Bool) (caches : Caches) : Type 0 where
+  pub indices : ForSome caches.indices (λ places. places ≡ positions m)
+  pub ranges : ForSome caches.ranges (λ ranges. AreRanges m ranges)
+
+-- what every `MaskValues` keeps
+pub record IsWhole (contents : Contents) : Type 0 where
+  pub mixed : IsMixed contents.buffer contents.true_count
+  pub caches : AreOf (values contents.buffer) contents.caches

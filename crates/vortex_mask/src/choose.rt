@@ -1,4 +1,4 @@
-ghost use Rattle.std.specs.Prelude.{◌≡◌, IsOk, IfOk, length, vec_len};
+ghost use Rattle.std.specs.Prelude.{◌≡◌, IsOk, IfOk, length, vec_len, IsOkUnless, alloc_error};
 ghost use Rattle.mask_bits.specs.Buffer.{values};
 ghost use Rattle.vortex_mask.specs.Mask.{truth, variant, all_false};
 ghost use Rattle.mask_bits.specs.Positions.{count, chosen};
@@ -16,6 +16,7 @@ impl Mask {
 
         // Where no row is chosen, no memory is needed.
         ensures none { variant self.now ≡ all_false → IsOk result }
+        ensures refused { IsOkUnless result (MaskError.Memory alloc_error) }
     {
         self.rows_chosen(alloc, rows)
     }
@@ -25,6 +26,7 @@ impl Mask {
         requires { length rows.now ≡ length (truth self.now) }
         ensures rows { IfOk result (λ v. v.items ≡ chosen rows.now (truth self.now)) }
         ensures none { variant self.now ≡ all_false → IsOk result }
+        ensures refused { IsOkUnless result (MaskError.Memory alloc_error) }
     {
         match self {
             Mask::AllTrue(_) => Ok(Vec::from_slice(alloc, rows)?),

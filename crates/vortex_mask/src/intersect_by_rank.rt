@@ -1,12 +1,23 @@
-ghost use Rattle.std.specs.Prelude.{◌≡◌, ◌≢◌, ◌<◌, ◌⊎◌, IsOk, IfOk, All, length};
-ghost use Rattle.vortex_mask.specs.Mask.{truth, variant, fitting_variant, variant_and, all_false, mixed};
+mod bytewise;
+mod deposit;
+mod select;
+mod steps;
+#[cfg(test)]
+mod tests;
+
+ghost use Rattle.std.specs.Prelude.{◌≡◌, ◌≢◌, ◌<◌, ◌⊎◌, IsOk, IfOk, All, length, IsOkUnless, alloc_error};
+ghost use Rattle.vortex_mask.specs.Mask.{truth, variant, fitting_variant, variant_and, all_false, mixed, caches, narrowed_caches};
 ghost use Rattle.mask_bits.specs.Buffer.{values};
 ghost use Rattle.mask_bits.specs.Positions.{positions, count, at_places, rank_intersection};
 
 use crate::laws;
 use crate::mask::{Mask, MaskError};
+pub use bytewise::deposit_bytewise;
+pub use deposit::{DepositBits, Portable, PortableLoop, deposit_two_holes, deposit_two_lowest};
 use mask_bits::BitBuffer;
+pub use select::SelectBit;
 use std::alloc::{AllocError, Global};
+pub use steps::Steps;
 
 impl Mask {
     /// The mask in which the true values of this one are narrowed by a mask over them: true value
@@ -23,10 +34,14 @@ impl Mask {
         ensures variant { IfOk result (λ m. variant m
             ≡ fitting_variant (variant_and (variant self.now) (variant mask.now)) (truth m)) }
 
+        ensures caches { IfOk result
+            (λ m. caches m ≡ narrowed_caches self.now mask.now m) }
+
         // What needs no memory succeeds.
         ensures uniform { variant self.now ≢ mixed → variant mask.now ≢ mixed → IsOk result }
         ensures none { (variant self.now ≡ all_false) ⊎ (variant mask.now ≡ all_false)
             → IsOk result }
+        ensures refused { IsOkUnless result (MaskError.Memory alloc_error) }
     {
         self.narrowed(alloc, mask)
     }
@@ -38,9 +53,12 @@ impl Mask {
             (λ m. truth m ≡ rank_intersection (truth self.now) (truth mask.now)) }
         ensures variant { IfOk result (λ m. variant m
             ≡ fitting_variant (variant_and (variant self.now) (variant mask.now)) (truth m)) }
+        ensures caches { IfOk result
+            (λ m. caches m ≡ narrowed_caches self.now mask.now m) }
         ensures uniform { variant self.now ≢ mixed → variant mask.now ≢ mixed → IsOk result }
         ensures none { (variant self.now ≡ all_false) ⊎ (variant mask.now ≡ all_false)
             → IsOk result }
+        ensures refused { IsOkUnless result (MaskError.Memory alloc_error) }
     {
         match (self, mask) {
             (Mask::AllTrue(_), _) => {
@@ -53,27 +71,27 @@ impl Mask {
             }
             (Mask::AllFalse(_), _) | (_, Mask::AllFalse(_)) => Ok(Mask::new_false(self.len())),
             (Mask::Values(values), Mask::Values(ranks)) => {
-                let buffer = intersect_buffers(alloc, values.bit_buffer(), ranks.bit_buffer())?;
-                Mask::from_buffer(alloc, buffer)
+                let kept = intersect_places(alloc, values.bit_buffer(), ranks.bit_buffer())?;
+                let rows = self.len();
+                Mask::of_indices(alloc, rows, kept)
             }
         }
     }
 }
 
-// The list as long as `buffer` that is true at its true places taken at those of `ranks`.
-fn intersect_buffers(
+// The true places of `buffer` at those of `ranks`.
+fn intersect_places(
     alloc: Global,
     buffer: &BitBuffer,
     ranks: &BitBuffer,
-) -> Result<BitBuffer, AllocError>
+) -> Result<Vec<usize>, AllocError>
     requires { length (values ranks.now) ≡ count (values buffer.now) }
-    ensures { IfOk result
-        (λ b. values b ≡ rank_intersection (values buffer.now) (values ranks.now)) }
+    ensures { IfOk result (λ kept. kept.items
+        ≡ at_places (positions (values buffer.now)) (positions (values ranks.now))) }
 {
     let places = places_of(alloc, buffer)?;
     let ranks = places_of(alloc, ranks)?;
-    let kept = taken_at(alloc, &places, &ranks)?;
-    BitBuffer::from_indices(alloc, buffer.len(), &kept)
+    taken_at(alloc, &places, &ranks)
 }
 
 // The places of the true values.

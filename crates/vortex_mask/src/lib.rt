@@ -2,7 +2,7 @@
 #![tactic(auto)]
 
 mod choose;
-mod intersect_by_rank;
+pub mod intersect_by_rank;
 pub mod laws;
 pub mod mask;
 #[cfg(test)]

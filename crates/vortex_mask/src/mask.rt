@@ -1,17 +1,19 @@
 //! Masks: lists of truth values that say which rows are chosen.
 
-ghost use Rattle.std.specs.Prelude.{◌≡◌, ◌≢◌, ◌+◌, ◌<◌, ◌↔◌, [], true, false, if◌then◌else◌, IsTrue, IsOk, IfOk, Some, length, All, slice_get};
+ghost use Rattle.std.specs.Prelude.{◌≡◌, ◌≢◌, ◌+◌, ◌<◌, ◌↔◌, [], true, false, if◌then◌else◌, IsTrue, IsOk, IfOk, Some, length, All, slice_get, IsOkUnless, alloc_error};
 ghost use Rattle.std.specs.Iterator.{UpTo, Drains};
 ghost use Rattle.std.specs.Iterator.Runs.{WholeRun};
 ghost use Rattle.std.specs.Option.{option_copied};
 ghost use Rattle.vortex_mask.specs.AllOr.{all_or_copied, IsListOf};
 ghost use Rattle.mask_bits.specs.Buffer.{values};
-ghost use Rattle.vortex_mask.specs.Mask.{truth, variant, fitting_variant, all_true, all_false, mixed, IsUniform, contents, held_buffer};
+ghost use Rattle.vortex_mask.specs.Mask.{truth, variant, fitting_variant, all_true, all_false, mixed, IsUniform, contents, held_buffer, caches};
+ghost use Rattle.vortex_mask.specs.MaskValues.{no_caches};
 ghost use Rattle.mask_bits.specs.Positions.{positions, count};
 ghost use Rattle.vortex_mask.specs.declared.mask.Mask.TheVariants.{AllTrue};
 
 mod all_or;
 mod error;
+mod from_indices;
 mod values;
 
 pub use all_or::AllOr;
@@ -74,7 +76,9 @@ impl Mask {
     pub fn from_buffer(alloc: Global, buffer: BitBuffer) -> Result<Mask, MaskError>
         ensures list { IfOk result (λ m. truth m ≡ values buffer) }
         ensures variant { IfOk result (λ m. variant m ≡ fitting_variant all_false (values buffer)) }
+        ensures caches { IfOk result (λ m. caches m ≡ no_caches) }
         ensures uniform { IsUniform (values buffer) → IsOk result }
+        ensures refused { IsOkUnless result (MaskError.Memory alloc_error) }
     {
         let len = buffer.len();
         let true_count = buffer.true_count();
@@ -84,7 +88,7 @@ impl Mask {
         if true_count == len {
             return Ok(Mask::AllTrue(len));
         }
-        Ok(Mask::Values(Rc::new(alloc, MaskValues::new(buffer, true_count))?))
+        Ok(Mask::Values(Rc::new(alloc, MaskValues::new(buffer, true_count, None, None))?))
     }
 
     /// The values that an iterator yields, in their order. No values give `AllFalse(0)`.
@@ -94,6 +98,8 @@ impl Mask {
         ensures list { IfOk result (λ m. Drains I.next_gives bools (truth m)) }
         ensures runs { IfOk result (λ m. WholeRun I.next_gives bools (λ p. truth m ≡ p.items)) }
         ensures variant { IfOk result (λ m. variant m ≡ fitting_variant all_false (truth m)) }
+        ensures caches { IfOk result (λ m. caches m ≡ no_caches) }
+        ensures refused { IsOkUnless result (MaskError.Memory alloc_error) }
     {
         let buffer = BitBuffer::from_bools(alloc, bools)?;
         Mask::from_buffer(alloc, buffer)
@@ -104,7 +110,9 @@ impl Mask {
         ensures list { IfOk result (λ m. truth m ≡ truth self.now) }
         ensures variant { IfOk result (λ m. variant m ≡ variant self.now) }
         ensures contents { IfOk result (λ m. contents m ≡ contents self.now) }
+        ensures caches { IfOk result (λ m. caches m ≡ caches self.now) }
         ensures uniform { variant self.now ≢ mixed → IsOk result }
+        ensures refused { IsOkUnless result (MaskError.Memory alloc_error) }
     {
         match self {
             Mask::AllTrue(len) => Ok(Mask::AllTrue(*len)),

@@ -1,6 +1,5 @@
 -- What holds of lists combined value by value: the laws of truth values, at each place.
-use Rattle.std.proofs.Common.{◌≡◌, ℕ, zero, suc, ◌<◌, Bool, true, false, not, ◌&&◌, ◌||◌, List, [], ◌∷◌, length, get_or, map, refl, sym, ap, ◌∙◌, arith}
-use Rattle.std.specs.List.{zip}
+use Rattle.std.proofs.Common.{◌≡◌, ℕ, zero, suc, ◌<◌, Bool, true, false, not, ◌&&◌, ◌||◌, List, [], ◌∷◌, length, get_or, refl, sym, ap, ◌∙◌, arith}
 use Rattle.mask_bits.specs.Laws.{RankIntersectionOfAnd, RankIntersectionOfNot, IsFreeOfOrder, DistributesOver, Absorbs, HasComplements, AndNotIsAndOfNot, KeepsLength}
 use Rattle.mask_bits.specs.Lists.{combined, and_of, or_of, not_of, and_not_of}
 use Rattle.mask_bits.specs.Positions.{count, rank_intersection, repeated}
@@ -102,6 +101,11 @@ not_not : (a : List Bool) → not_of (not_of a) ≡ a
 not_not [] = refl
 not_not (true ∷ a) = ap (λ (xs : List Bool). true ∷ xs) (not_not a)
 not_not (false ∷ a) = ap (λ (xs : List Bool). false ∷ xs) (not_not a)
+
+-- an operation that takes no account of its second list
+pub combined_itself : (a : List Bool) → combined (λ x y. not x) a a ≡ not_of a
+combined_itself [] = refl
+combined_itself (x ∷ a) = ap (λ (xs : List Bool). not x ∷ xs) (combined_itself a)
 
 -- the value at a place
 pub get_or-combined : (f : Bool → Bool → Bool) (a b : List Bool) (i : ℕ) (d : Bool) → i < length a → length a ≡ length b → get_or (combined f a b) i d ≡ f (get_or a i d) (get_or b i d)

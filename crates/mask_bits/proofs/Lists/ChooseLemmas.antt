@@ -1,7 +1,7 @@
 -- Rows at the true places: all of them, none of them, and one more.
-use Rattle.std.proofs.Common.{◌≡◌, ℕ, zero, suc, true, false, List, [], ◌∷◌, ◌++◌, length, Some, slice_get, refl, sym, ap, ◌∙◌, append_assoc}
+use Rattle.std.proofs.Common.{◌≡◌, ℕ, zero, suc, Bool, true, false, List, [], ◌∷◌, ◌++◌, length, Some, slice_get, refl, sym, ap, ◌∙◌, append_assoc}
 use Rattle.std.specs.List.{cons_option, filter_map, items_where_true}
-use Rattle.mask_bits.specs.Positions.{repeated, chosen}
+use Rattle.mask_bits.specs.Positions.{positions, repeated, chosen}
 use Rattle.mask_bits.proofs.Lists.LawLemmas.{chosen-items_where_true}
 
 items_where_true-all_true : {X : Type 0} (rows : List X) → items_where_true (repeated (length rows) true) rows ≡ rows
@@ -33,3 +33,7 @@ chosen-step {X} rows out p ps r e =
 
 pub chosen_by_all_true : {X : Type 0} (rows : List X) → chosen rows (repeated (length rows) true) ≡ rows
 chosen_by_all_true rows = chosen-all_true rows (length rows) refl
+
+pub chosen_at_positions : {X : Type 0} (rows : List X) (m : List Bool) → chosen rows m ≡ filter_map (λ i. slice_get rows i) (positions m)
+unfolding chosen
+chosen_at_positions rows m = refl

@@ -1,7 +1,6 @@
 -- Words and first bits of some bytes: what a window shows, and a front that grows by a word.
-use Rattle.std.proofs.Common.{◌≡◌, ℕ, ◌+◌, ◌*◌, ◌-◌, ◌/◌, ◌%◌, ◌<◌, ◌≤◌, Bool, false, nat_eq, List, ◌++◌, length, get_or, take, drop, slice_range, replicate, refl, sym, subst, ap, ◌∙◌, inl, inr, arith, lit<}
+use Rattle.std.proofs.Common.{◌≡◌, ℕ, ◌+◌, ◌*◌, ◌-◌, ◌/◌, ◌%◌, ◌<◌, ◌≤◌, Bool, false, nat_eq, List, ◌++◌, length, get_or, take, drop, slice_range, refl, sym, subst, ap, ◌∙◌, inl, inr, arith, lit<}
 use Rattle.std.specs.Int.{w64, bit_at, from_le_bytes}
-use Rattle.std.specs.List.{range_with_len}
 use Rattle.std.proofs.lemmas.Bool.{cases_lt}
 use Rattle.std.proofs.lemmas.List.{length-append, length-take, get_or_append_left, get_or-append_right, get_or_past, get_or-drop, get_or-take}
 use Rattle.std.proofs.lemmas.List.Edits.{length-between, get_or-between}
@@ -9,8 +8,8 @@ use Rattle.std.proofs.lemmas.List.FromFn.{length-map-range_with_len, get_or-map-
 use Rattle.std.proofs.lemmas.Slice.{take-put_mid_below, drop-put_mid, between-put_mid}
 use Rattle.mask_bits.specs.Buffer.{Packed, backing_bit, values}
 use Rattle.mask_bits.specs.Words.{word_bits, window}
-use Rattle.mask_bits.proofs.BufferLemmas.{length-values, get_or-values, values_from_front}
-use Rattle.mask_bits.proofs.Lists.WordLemmas.{length-word_bits, get_or-word_bits, word_bits_from_bits}
+use Rattle.mask_bits.proofs.BufferLemmas.{length-values, get_or-values, values_from_bits, values_from_front}
+use Rattle.mask_bits.proofs.Lists.WordLemmas.{word_bits_from_bits}
 use Rattle.mask_bits.proofs.NumberLemmas.{AreBytes, bit_at-chunk}
 use borrow.Rule.Slice.PartMut.{put_mid}
 
@@ -119,3 +118,43 @@ front-more_word bytes i =
           sym (get_or-append_right front word (64 * i) p false len past
           ∙ get_or-window bytes (64 * i) (p - 64 * i) false (omega arith) ∙ ap (backing_bit bytes) place)
     ])
+
+-- ---- parts of a front
+
+-- the bits of one part and of the part that follows are those of both
+pub values-join : (bytes : List ℕ) (o n k : ℕ) → values (record { bytes = bytes; offset = o; len = n }) ++ values (record { bytes = bytes; offset = o + n; len = k }) ≡ values (record { bytes = bytes; offset = o; len = n + k })
+values-join bytes o n k =
+    let a : Packed = record { bytes = bytes; offset = o; len = n } in
+    let b : Packed = record { bytes = bytes; offset = o + n; len = k } in
+    let len : length (values a) ≡ n = length-values a in
+    sym (values_from_bits (record { bytes = bytes; offset = o; len = n + k }) (values a ++ values b) (omega (arith, length-append (values a) (values b), length-values b)) (λ i h.
+    elim (cases_lt i n) [
+      | inl before ↦ get_or_append_left (values a) (values b) false i (omega arith) ∙ get_or-values a i false before
+      | inr past ↦
+          let place : o + n + (i - n) ≡ o + i = omega arith in
+          get_or-append_right (values a) (values b) n i false len past ∙ get_or-values b (i - n) false (omega arith) ∙ ap (backing_bit bytes) place
+    ]))
+
+-- the first values of a window
+pub window-take : (bytes : List ℕ) (p n : ℕ) → n ≤ 64 → take n (window bytes p) ≡ values (record { bytes = bytes; offset = p; len = n })
+window-take bytes p n few =
+    let b : Packed = record { bytes = bytes; offset = p; len = n } in
+    let m : List Bool = take n (window bytes p) in
+    sym (values_from_bits b m (omega (arith, length-take n (window bytes p), length-window bytes p)) (λ i h.
+    get_or-take n (window bytes p) i false h ∙ get_or-window bytes p i false (omega arith)))
+
+-- all of it
+pub window-whole : (bytes : List ℕ) (p : ℕ) → window bytes p ≡ values (record { bytes = bytes; offset = p; len = 64 })
+unfolding window values
+window-whole bytes p = refl
+
+-- a window past the first bytes
+pub window-drop : (bytes : List ℕ) (k p q : ℕ) → 8 * k + p ≡ q → window (drop k bytes) p ≡ window bytes q
+window-drop bytes k p q place =
+    window_from_bits (drop k bytes) p (window bytes q) (length-window bytes q) (λ j h.
+    let byte : (q + j) / 8 ≡ k + (p + j) / 8 = omega arith in
+    let bit : (q + j) % 8 ≡ (p + j) % 8 = omega arith in
+    get_or-window bytes q j false h
+    ∙ ap (λ n. nat_eq (bit_at (get_or bytes n 0) ((q + j) % 8)) 1) byte
+    ∙ ap (λ n. nat_eq (bit_at (get_or bytes (k + (p + j) / 8) 0) n) 1) bit
+    ∙ ap (λ b. nat_eq (bit_at b ((p + j) % 8)) 1) (sym (get_or-drop k bytes ((p + j) / 8) 0)))

@@ -8,7 +8,7 @@ use Rattle.std.proofs.lemmas.List.Folds.{drop_split}
 use Rattle.std.proofs.lemmas.List.Sums.{sum_by-cons}
 use Rattle.mask_bits.specs.Laws.{RangesAddUpToTheCount}
 use Rattle.mask_bits.specs.Positions.{count, repeated}
-use Rattle.mask_bits.specs.Runs.{is_inside, AreRanges}
+use Rattle.mask_bits.specs.Runs.{is_inside}
 use Rattle.mask_bits.proofs.Lists.CountLemmas.{count-append, count-repeated_true, count-repeated_false}
 use Rattle.mask_bits.proofs.Lists.RunLemmas.{inside, inside-before, inside-past}
 

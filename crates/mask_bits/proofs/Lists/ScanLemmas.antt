@@ -7,7 +7,7 @@ use Rattle.mask_bits.specs.RunScan.{runs_from}
 use Rattle.mask_bits.proofs.Lists.RunLemmas.{runs_from-front}
 
 -- a function of the rest of a list that passes over a false value passes over k of them
-skip : {X : Type 0} (F : ℕ → List Bool → X) → ((i : ℕ) (xs : List Bool) → F i (false ∷ xs) ≡ F (i + 1) xs) → (m : List Bool) (n k : ℕ) → n + k ≤ length m → ((i : ℕ) → n ≤ i → i < n + k → get_or m i false ≡ false) → F n (drop n m) ≡ F (n + k) (drop (n + k) m)
+pub skip : {X : Type 0} (F : ℕ → List Bool → X) → ((i : ℕ) (xs : List Bool) → F i (false ∷ xs) ≡ F (i + 1) xs) → (m : List Bool) (n k : ℕ) → n + k ≤ length m → ((i : ℕ) → n ≤ i → i < n + k → get_or m i false ≡ false) → F n (drop n m) ≡ F (n + k) (drop (n + k) m)
 skip F pass m n zero fits clear =
     let same : n ≡ n + 0 = omega arith in
     ap (λ i. F i (drop i m)) same

@@ -1,13 +1,14 @@
 -- The bits of words that were shifted, masked and joined.
-use Rattle.std.proofs.Common.{◌≡◌, ℕ, zero, suc, ◌+◌, ◌*◌, ◌-◌, ◌/◌, ◌%◌, ◌^◌, ◌<◌, ◌≤◌, min, max, Bool, false, ◌&&◌, ◌||◌, not, nat_eq, List, ◌++◌, length, get_or, slice_range, refl, sym, ap, ◌∙◌, inl, inr, arith, add-zero}
+use Rattle.std.proofs.Common.{◌≡◌, ℕ, zero, suc, ◌+◌, ◌*◌, ◌-◌, ◌/◌, ◌%◌, ◌^◌, ◌<◌, ◌≤◌, min, max, Bool, false, ◌&&◌, ◌||◌, not, nat_eq, List, ◌++◌, length, get_or, take, replicate, slice_range, refl, sym, ap, ◌∙◌, inl, inr, arith, add-zero}
 use Rattle.std.specs.Int.{bit_at, bit_not, w64}
 use Rattle.std.specs.Int.RustNames.{bit_and, bit_or}
 use Rattle.std.proofs.lemmas.Bool.{cases_lt}
 use Rattle.std.proofs.Math.Bool.{or-false}
-use Rattle.std.proofs.lemmas.List.{length-append, get_or_append_left, get_or-append_right, get_or_past}
+use Rattle.std.proofs.lemmas.List.{length-append, length-take, length-replicate, get_or-take, get_or-replicate, get_or_append_left, get_or-append_right, get_or_past}
 use Rattle.std.proofs.lemmas.List.Edits.{length-between, get_or-between}
 use Rattle.std.proofs.lemmas.Nat.{shr-shr, and_mask, pow_pos}
-use Rattle.std.proofs.lemmas.Nat.Bits.{bit_at-zero, bit_at-lt, bit_at_and, bit_at_or, bit_at_not, bit_at_above, bit_at_ones, bit_at_cat_low, bit_at_cat_high}
+use Rattle.std.proofs.lemmas.Nat.Bits.{bit_at-zero, bit_at-lt, bit_at_and, bit_at_or, bit_at_not, bit_at_above, bit_at_ones, bit_at_ones_above, ones_shr, bit_at_cat_low, bit_at_cat_high}
+use Rattle.mask_bits.specs.Positions.{repeated}
 use Rattle.mask_bits.specs.Words.{word_bits}
 use Rattle.mask_bits.proofs.Lists.WordLemmas.{length-word_bits, get_or-word_bits, word_bits_from_bits}
 
@@ -22,6 +23,13 @@ pub bit_at-mod : (n k j : ℕ) → j < k → bit_at (n % 2 ^ k) j ≡ bit_at n j
 bit_at-mod n k j h =
     ap (λ x. bit_at x j) (sym (and_mask n k))
     ∙ omega (arith, bit_at_and n (2 ^ k - 1) j, bit_at_ones k j h, bit_at-lt n j)
+
+-- of one that was masked
+pub bit_at-low_mask : (n k j : ℕ) → j < k → bit_at (bit_and n (2 ^ k - 1)) j ≡ bit_at n j
+bit_at-low_mask n k j h = omega (arith, bit_at_and n (2 ^ k - 1) j, bit_at_ones k j h, bit_at-lt n j)
+
+pub bit_at-past_mask : (n k j : ℕ) → k ≤ j → bit_at (bit_and n (2 ^ k - 1)) j ≡ 0
+bit_at-past_mask n k j h = omega (arith, bit_at_and n (2 ^ k - 1) j, bit_at_ones_above k j h)
 
 -- of one shifted up
 pub bit_at-shl_low : (n k j : ℕ) → j < k → bit_at (n * 2 ^ k) j ≡ 0
@@ -95,6 +103,30 @@ get_or-word_bits_shl_high w k j h high =
     get_or-word_bits (w * 2 ^ k % 2 ^ 64) j false h
     ∙ ap (λ b. nat_eq b 1) (bit_at-mod (w * 2 ^ k) 64 j h ∙ bit_at-shl_high w k j high)
     ∙ sym (get_or-word_bits w (j - k) false (omega arith))
+
+-- the lowest bits by a mask, and zeros above them
+pub word_bits-low_mask : (w count : ℕ) → count ≤ 64 → word_bits (bit_and w (2 ^ count - 1)) ≡ take count (word_bits w) ++ repeated (64 - count) false
+unfolding repeated
+word_bits-low_mask w count few =
+    let low : List Bool = take count (word_bits w) in
+    let zeros : List Bool = replicate (64 - count) false in
+    let len : length low ≡ count = omega (arith, length-take count (word_bits w), length-word_bits w) in
+    word_bits_from_bits (bit_and w (2 ^ count - 1)) (low ++ zeros) (omega (arith, length-append low zeros, length-replicate (64 - count) false)) (λ j h.
+    elim (cases_lt j count) [
+      | inl inside ↦
+          ap (λ b. nat_eq b 1) (bit_at-low_mask w count j inside)
+          ∙ sym (get_or_append_left low zeros false j (omega arith) ∙ get_or-take count (word_bits w) j false inside ∙ get_or-word_bits w j false h)
+      | inr past ↦
+          ap (λ b. nat_eq b 1) (bit_at-past_mask w count j past)
+          ∙ sym (get_or-append_right low zeros count j false len past ∙ get_or-replicate (64 - count) (j - count) false false (omega arith))
+    ])
+
+-- the same by a mask that is all ones, shifted down
+pub word_bits-low_ones : (w count : ℕ) → count ≤ 64 → word_bits (bit_and w ((2 ^ 64 - 1) / 2 ^ (64 - count))) ≡ take count (word_bits w) ++ repeated (64 - count) false
+word_bits-low_ones w count few =
+    let places : 64 - (64 - count) ≡ count = omega arith in
+    ap (λ m. word_bits (bit_and w m)) (ones_shr 64 (64 - count) (omega arith) ∙ ap (λ n. 2 ^ n - 1) places)
+    ∙ word_bits-low_mask w count few
 
 -- ---- two words joined
 

@@ -5,7 +5,7 @@ use mask_bits::BitBuffer;
 use std::alloc::{AllocError, Global};
 use std::process::Abort;
 use std::test::Fail;
-use vortex_mask::mask::{Mask, MaskError};
+use vortex_mask::{Mask, MaskError};
 
 const LEN: usize = 30_011;
 
@@ -19,7 +19,12 @@ fn is_of_thirds(rt: &impl Abort, buffer: &BitBuffer) {
     same(rt, buffer.len(), LEN);
     same(rt, buffer.true_count(), TRUE_COUNT);
     assert!(rt; buffer.select(10_003) == Some(30_009));
-    assert!(rt; buffer.set_indices().enumerate().all(|(n, place)| place / 3 == n && place % 3 == 0));
+    assert!(rt;
+        buffer
+            .set_indices()
+            .enumerate()
+            .all(|(n, place)| place / 3 == n && place % 3 == 0)
+    );
 }
 
 #[test]

@@ -207,7 +207,11 @@ fn gives_words(
     let mut words = words_of(alloc, values)?;
     let chunks = buffer.chunks();
     same(rt, chunks.remainder_len(), values.len() % 64);
-    let rest = if values.len() % 64 == 0 { None } else { words.pop() };
+    let rest = if values.len() % 64 == 0 {
+        None
+    } else {
+        words.pop()
+    };
     assert!(rt; chunks.remainder_bits() == rest.unwrap_or(0));
     let all: Vec<u64> = chunks.iter().collect(alloc)?;
     assert!(rt; all.as_slice() == words.as_slice());

@@ -1,21 +1,16 @@
-use Rattle.std.proofs.Common.{slice_range, Some, true, false, ap, ◌∙◌, arith}
-use Rattle.std.proofs.lemmas.List.Edits.{length-between}
-use Rattle.mask_bits.specs.Buffer.{values}
-use Rattle.mask_bits.proofs.Lists.CountLemmas.{count-part_more}
-use Rattle.mask_bits.proofs.Lists.PlaceLemmas.{length-places_from}
+use Rattle.std.proofs.Common.{ℕ, List, ◌+◌, ◌-◌, slice_range, ap, refl, ◌∙◌, arith}
+use Rattle.mask_bits.specs.Buffer.{Packed, values}
+use Rattle.mask_bits.specs.Positions.{count}
+use Rattle.mask_bits.proofs.BufferLemmas.{len-of_list, values-part}
+use Rattle.mask_bits.proofs.Lists.BitsLemmas.{bits_at}
 use Rattle.mask_bits.proofs.buffer.BitBuffer.count_range.Goals as goal
-use Rattle.mask_bits.proofs.buffer.BitBuffer.count_range.Goals.{then-value, else-value}
 
-pub overflow_add-count : goal.overflow_add-count
-overflow_add-count c =
-    let m = values c.args.self.now in
-    let part = slice_range m c.args.start c.loop-i.i in
-    omega (arith, length-places_from 0 part, length-between m c.args.start c.loop-i.i (omega arith))
-
-pub loop-i-preserved : goal.loop-i-preserved
-loop-i-preserved c =
-    let m = values c.args.self.now in
-    elim c.if-value.branch [
-      | then-value w ↦ omega (arith, c.loop-i.invariant, w.count-is, count-part_more m c.args.start c.loop-i.i true c.loop-i.auto.i (c.value.ensures ∙ ap Some w.if-value.true))
-      | else-value w ↦ omega (arith, c.loop-i.invariant, w.count-is, count-part_more m c.args.start c.loop-i.i false c.loop-i.auto.i (c.value.ensures ∙ ap Some w.if-value.false))
-    ]
+pub returns : goal.returns
+returns c =
+    let b : Packed = record { bytes = c.self.inside.bytes; offset = c.self.inside.offset; len = c.self.inside.len } in
+    let start = c.args.start in
+    let «end» = c.args.end in
+    c.count_bits.ensures
+    ∙ ap (λ (bytes : List ℕ). count (bits_at bytes (b.offset + start) («end» - start))) c.as_slice.ensures
+    ∙ ap count (values-part b start «end» c.requires.ordered (omega (arith, c.requires.within, ap (λ p. p.len) c.self.view_is, len-of_list c.args.self.now refl)))
+    ∙ ap (λ p. count (slice_range (values p) start «end»)) c.self.view_is

@@ -1,19 +1,34 @@
-use Rattle.std.proofs.Common.{ℕ, Option, ◌<◌, length, subst, sym, ◌∙◌}
+use Rattle.std.proofs.Common.{Bool, ℕ, List, Option, ◌<◌, length, slice_get, subst, sym, ap, ◌∙◌, arith}
 use Rattle.std.specs.Option.{IfSome}
-use Rattle.std.proofs.lemmas.Iterator.Adapters.{option_map_id}
-use Rattle.std.proofs.lemmas.Iterator.Consumers.{nth_from_yields_List, YieldsList-from_first}
 use Rattle.mask_bits.specs.Buffer.{values}
-use Rattle.mask_bits.specs.Positions.{positions}
+use Rattle.mask_bits.specs.Positions.{positions, count}
 use Rattle.mask_bits.proofs.Lists.PlaceLemmas.{place-within}
+use Rattle.mask_bits.proofs.Lists.SelectLemmas.{place_in_word, place_none, count-word_more}
+use Rattle.mask_bits.proofs.Lists.WordLemmas.{count-word_bits}
 use Rattle.mask_bits.proofs.buffer.BitBuffer.select.Goals as goal
+
+pub place_in_word-requires : goal.place_in_word-requires
+place_in_word-requires c = omega (arith, c.if-left-ones.true, count-word_bits c.padded_word-word.result c.padded_word-word.type_inv)
+
+pub returns-then-left-ones-clause-place : goal.returns-then-left-ones-clause-place
+returns-then-left-ones-clause-place c =
+    let m = c.chunks-chunks.result in
+    let read = c.padded_word-word.ensures in
+    let here = ap (λ (xs : List Bool). slice_get (positions xs) c.loop-i.left) (sym read) ∙ c.place_in_word.ensures.place in
+    sym (place_in_word m c.loop-i.i c.args.n c.loop-i.left c.place_in_word.result (omega (arith, c.padded_len-i-end.ensures.words)) c.loop-i.invariant
+    (omega (arith, ap count read, count-word_bits c.padded_word-word.result c.padded_word-word.type_inv)) here)
+    ∙ ap (λ (xs : List Bool). slice_get (positions xs) c.args.n) c.chunks-chunks.ensures.list
+
+pub returns-then-left-ones-clause-within : goal.returns-then-left-ones-clause-within
+returns-then-left-ones-clause-within c =
+    let m = values c.args.self.now in
+    subst (λ (o : Option ℕ). IfSome o (λ p. p < length m)) (sym (returns-then-left-ones-clause-place c)) (place-within m c.args.n)
+
+pub loop-i-preserved : goal.loop-i-preserved
+loop-i-preserved c =
+    omega (arith, c.loop-i.invariant, count-word_more c.chunks-chunks.result c.loop-i.i, ap count c.padded_word-word.ensures, count-word_bits c.padded_word-word.result c.padded_word-word.type_inv)
 
 pub returns-clause-place : goal.returns-clause-place
 returns-clause-place c =
-    let places = positions (values c.args.self.now) in
-    let list = YieldsList-from_first (λ x. x) (λ s. s) places c.set_indices.ensures.places in
-    sym (option_map_id c.nth.result) ∙ nth_from_yields_List c.nth.result c.nth.new.self c.args.n c.nth.ensures.ran list
-
-pub returns-clause-within : goal.returns-clause-within
-returns-clause-within c =
-    let m = values c.args.self.now in
-    subst (λ (o : Option ℕ). IfSome o (λ p. p < length m)) (sym (returns-clause-place c)) (place-within m c.args.n)
+    sym (place_none c.chunks-chunks.result c.loop-i.i c.args.n c.loop-i.left (omega (arith, c.padded_len-i-end.ensures.words)) c.loop-i.invariant)
+    ∙ ap (λ (xs : List Bool). slice_get (positions xs) c.args.n) c.chunks-chunks.ensures.list

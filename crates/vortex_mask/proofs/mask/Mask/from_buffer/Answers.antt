@@ -3,7 +3,7 @@ use Rattle.mask_bits.specs.Buffer.{values}
 use Rattle.vortex_mask.specs.Mask.{all_false}
 use Rattle.mask_bits.specs.Positions.{repeated}
 use Rattle.mask_bits.proofs.Lists.CountLemmas.{all_true_from_count, all_false_from_count}
-use Rattle.vortex_mask.proofs.MaskLemmas.{fitting_variant-all, fitting_variant-all_false, fitting_variant-some}
+use Rattle.vortex_mask.proofs.MaskLemmas.{AreOf-no_caches, fitting_variant-all, fitting_variant-all_false, fitting_variant-some}
 use Rattle.mask_bits.proofs.Lists.PlaceLemmas.{length-places_from}
 use Rattle.vortex_mask.proofs.mask.Mask.from_buffer.Goals as goal
 
@@ -32,9 +32,12 @@ new-requires c =
     let some : c.true_count-true_count.result ≢ 0 = c.if-true_count-eq0.false in
     let not_all : c.true_count-true_count.result ≢ c.len-len.result = c.if-true_count-len.false in
     record {
-      counted = c.true_count-true_count.ensures;
-      some_true = omega arith;
-      some_false = omega (arith, length-places_from 0 (values c.args.buffer));
+      mixed = record {
+        counted = c.true_count-true_count.ensures;
+        some_true = omega arith;
+        some_false = omega (arith, length-places_from 0 (values c.args.buffer));
+      };
+      caches = AreOf-no_caches (values c.args.buffer);
     }
 
 pub returns-clause-variant : goal.returns-clause-variant

@@ -1,0 +1,69 @@
+-- The list of a builder, from its bytes.
+use Rattle.std.proofs.Common.{◌≡◌, ◌≢◌, ℕ, ◌+◌, ◌*◌, ◌%◌, ◌<◌, ◌≤◌, Bool, true, false, not, ◌&&◌, ◌||◌, nat_eq, List, [], ◌++◌, length, get_or, set, Result, Ok, Err, OnErr, refl, sym, ap, ◌∙◌, inl, inr, arith}
+use Rattle.std.proofs.lemmas.Bool.{cases_eq, eq-eqb, ne_eqb}
+use Rattle.std.proofs.lemmas.List.{length-set, get_or-set_same, get_or-set_other, nil_from_length}
+use Rattle.mask_bits.specs.Buffer.{Packed, backing_bit, values}
+use Rattle.mask_bits.specs.BufferMut.{IsWrittenBehind, IsRoom}
+use Rattle.mask_bits.proofs.BufferLemmas.{length-values, values_from_front}
+use Rattle.mask_bits.proofs.Lists.FrontLemmas.{get_or-front, front-same}
+use Rattle.mask_bits.proofs.WriteLemmas.{written-front, written-clear}
+
+-- a fact that holds at any answer
+pub on_err : {T E P : Type 0} (r : Result T E) → P → OnErr r P
+on_err (Ok x) p = tt
+on_err (Err e) p = p
+
+-- no bits are the empty list
+pub front-none : (bytes : List ℕ) → values (record { bytes = bytes; offset = 0; len = 0 }) ≡ []
+front-none bytes =
+    let b : Packed = record { bytes = bytes; offset = 0; len = 0 } in
+    nil_from_length (values b) (length-values b)
+
+-- ---- one value is set
+
+-- one bit is v, and the others stay
+pub front-set : (old new : List ℕ) (len q : ℕ) (v : Bool) → q < len → backing_bit new q ≡ v → ((p : ℕ) → p ≢ q → backing_bit new p ≡ backing_bit old p)
+    → values (record { bytes = new; offset = 0; len = len }) ≡ set (values (record { bytes = old; offset = 0; len = len })) q v
+front-set old new len q v h here others =
+    let m : List Bool = values (record { bytes = old; offset = 0; len = len }) in
+    let is_len : length m ≡ len = length-values (record { bytes = old; offset = 0; len = len }) in
+    values_from_front new (set m q v) len (length-set m q v ∙ is_len) (λ p within. elim (cases_eq p q) [
+      | inl same ↦ ap (backing_bit new) same ∙ here ∙ sym (ap (λ i. get_or (set m q v) i false) same ∙ get_or-set_same m q v false (omega arith))
+      | inr apart ↦ others p apart ∙ sym (get_or-set_other m q p v false apart ∙ get_or-front old len p false within)
+    ])
+
+pub set-here : (old new : List ℕ) (q : ℕ) → ((p : ℕ) → backing_bit new p ≡ (nat_eq p q || backing_bit old p)) → backing_bit new q ≡ true
+set-here old new q is = is q ∙ ap (λ b. b || backing_bit old q) (eq-eqb q q refl)
+
+pub set-others : (old new : List ℕ) (q : ℕ) → ((p : ℕ) → backing_bit new p ≡ (nat_eq p q || backing_bit old p)) → (p : ℕ) → p ≢ q → backing_bit new p ≡ backing_bit old p
+set-others old new q is p apart = is p ∙ ap (λ b. b || backing_bit old p) (ne_eqb p q apart)
+
+pub unset-here : (old new : List ℕ) (q : ℕ) → ((p : ℕ) → backing_bit new p ≡ (not (nat_eq p q) && backing_bit old p)) → backing_bit new q ≡ false
+unset-here old new q is = is q ∙ ap (λ b. not b && backing_bit old q) (eq-eqb q q refl)
+
+pub unset-others : (old new : List ℕ) (q : ℕ) → ((p : ℕ) → backing_bit new p ≡ (not (nat_eq p q) && backing_bit old p)) → (p : ℕ) → p ≢ q → backing_bit new p ≡ backing_bit old p
+unset-others old new q is p apart = is p ∙ ap (λ b. not b && backing_bit old p) (ne_eqb p q apart)
+
+-- the room stays
+pub room-set : (old new : List ℕ) (len q : ℕ) → q < len → length new ≡ length old → ((p : ℕ) → p ≢ q → backing_bit new p ≡ backing_bit old p) → IsRoom old len → IsRoom new len
+room-set old new len q h same others room = record {
+  whole = ap (λ n. n % 8) same ∙ room.whole;
+  covered = omega (arith, room.covered);
+  clear = λ p past. others p (omega arith) ∙ room.clear p past;
+}
+
+-- ---- values are appended
+
+-- room was made, and then m was written behind the list
+pub front-appended : (a b c : List ℕ) (at n : ℕ) (m l : List Bool) → values (record { bytes = a; offset = 0; len = at }) ≡ l → n ≡ at + length m
+    → ((p : ℕ) → backing_bit b p ≡ backing_bit a p) → IsWrittenBehind b c at m
+    → values (record { bytes = c; offset = 0; len = n }) ≡ l ++ m
+front-appended a b c at n m l was place stays w =
+    written-front b c at n m place w ∙ ap (λ (x : List Bool). x ++ m) (front-same a b at (λ p h. stays p) ∙ was)
+
+pub room-appended : (b c : List ℕ) (at n : ℕ) (m : List Bool) → n ≡ at + length m → length c ≡ length b → length b % 8 ≡ 0 → n ≤ 8 * length b → IsWrittenBehind b c at m → IsRoom c n
+room-appended b c at n m place len whole covered w = record {
+  whole = ap (λ x. x % 8) len ∙ whole;
+  covered = omega arith;
+  clear = written-clear b c at n m place w;
+}

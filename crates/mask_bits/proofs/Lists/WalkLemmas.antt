@@ -1,0 +1,383 @@
+-- Walks over a list by its started words: what is left of it after each step.
+use Rattle.std.proofs.Common.{◌≡◌, ℕ, zero, suc, ◌+◌, ◌*◌, ◌-◌, ◌/◌, ◌%◌, ◌^◌, ◌<◌, ◌≤◌, Bool, true, false, nat_eq, List, [], ◌∷◌, ◌++◌, length, get_or, drop, refl, sym, ap, ◌∙◌, inl, inr, arith, lit<}
+use Rattle.std.specs.Int.{bit_at}
+use Rattle.std.specs.Int.RustNames.{bit_and, bit_or}
+use Rattle.std.proofs.lemmas.Bool.{cases_eq, cases_lt, true≢false}
+use Rattle.std.proofs.lemmas.List.{ext_get_or, length-append, length-drop, length-take, get_or_append_left, get_or-append_right, get_or-drop, get_or-take, get_or_past, get_or-replicate, length-replicate}
+use Rattle.std.proofs.lemmas.Nat.{and_le_l, or_lt}
+use Rattle.std.proofs.lemmas.Nat.Bits.{bit_at-lt, bit_at-zero, bit_at-suc, bit_at_lowest, bit_at_ones}
+use Rattle.mask_bits.specs.Positions.{places_from, positions, repeated, IsFirstFrom}
+use Rattle.mask_bits.specs.RunScan.{runs_from}
+use Rattle.mask_bits.specs.Walk.{left_of, IsLeft, PassesTrue, ShowsFrom}
+use Rattle.mask_bits.specs.Words.{word_bits, padded_part, started_words}
+use Rattle.mask_bits.proofs.Lists.LowestLemmas.{low, low-within, low-set, low-first, bit_at-lowest_cleared, bit_at-lowest_others, bit_at-filled, bit_at-filled_others, ones, ones-few, ones-within, ones-set, ones-end, ones-of_full, bit_at-ones_cleared, bit_at-ones_others}
+use Rattle.mask_bits.proofs.Lists.PaddedLemmas.{get_or-padded_part}
+use Rattle.mask_bits.proofs.Lists.ScanLemmas.{skip, places_from-first, runs_from-first}
+use Rattle.mask_bits.proofs.Lists.WordLemmas.{length-word_bits, get_or-word_bits}
+
+-- ---- one step over lists
+
+-- two lists that agree from a place on have one rest from there
+drop-same : (m n : List Bool) (k : ℕ) → length n ≡ length m → ((i : ℕ) → k ≤ i → get_or n i false ≡ get_or m i false) → drop k n ≡ drop k m
+drop-same m n k len same =
+    ext_get_or false (drop k n) (drop k m) (omega (arith, length-drop k m, length-drop k n)) (λ i h.
+    get_or-drop k n i false ∙ same (k + i) (omega arith) ∙ sym (get_or-drop k m i false))
+
+-- what passes over false values passes over those in front of a place
+skip-front : {X : Type 0} (F : ℕ → List Bool → X) → ((i : ℕ) (xs : List Bool) → F i (false ∷ xs) ≡ F (i + 1) xs) → (n : List Bool) (k : ℕ) → k ≤ length n → ((i : ℕ) → i < k → get_or n i false ≡ false) → F 0 n ≡ F k (drop k n)
+skip-front F pass n k within clear =
+    let place : 0 + k ≡ k = omega arith in
+    skip F pass n 0 k (omega arith) (λ i _ h. clear i (omega arith)) ∙ ap (λ i. F i (drop i n)) place
+
+-- the first true place, and the places of the list without it
+pub places-step : (m n : List Bool) (place : ℕ) → place < length m → length n ≡ length m
+    → ((i : ℕ) → i < place → get_or m i false ≡ false) → get_or m place false ≡ true
+    → ((i : ℕ) → i ≤ place → get_or n i false ≡ false) → ((i : ℕ) → place < i → get_or n i false ≡ get_or m i false)
+    → positions m ≡ place ∷ positions n
+places-step m n place within len passed holds cleared same =
+    let first : IsFirstFrom m 0 true place = record { not_before = omega arith; within = omega arith; passed = λ i _ h. passed i h; holds = λ _. holds } in
+    places_from-first m 0 place first within
+    ∙ ap (λ (xs : List Bool). place ∷ places_from (place + 1) xs) (sym (drop-same m n (place + 1) len (λ i h. same i (omega arith))))
+    ∙ ap (λ (ps : List ℕ). place ∷ ps) (sym (skip-front places_from (λ _ _. refl) n (place + 1) (omega arith) (λ i h. cleared i (omega arith))))
+
+-- the first run, and the runs of the list without it
+pub runs-step : (m n : List Bool) (start stop : ℕ) → start < stop → stop ≤ length m → length n ≡ length m
+    → ((i : ℕ) → i < start → get_or m i false ≡ false) → ((i : ℕ) → start ≤ i → i < stop → get_or m i false ≡ true)
+    → (stop < length m → get_or m stop false ≡ false)
+    → ((i : ℕ) → i < stop → get_or n i false ≡ false) → ((i : ℕ) → stop ≤ i → get_or n i false ≡ get_or m i false)
+    → runs_from 0 m ≡ (start, stop) ∷ runs_from 0 n
+runs-step m n start stop some within len passed holds ends cleared same =
+    let first : IsFirstFrom m 0 true start = record { not_before = omega arith; within = omega arith; passed = λ i _ h. passed i h; holds = λ _. holds start (omega arith) some } in
+    let last : IsFirstFrom m (start + 1) false stop = record { not_before = omega arith; within = within; passed = λ i from to. holds i (omega arith) to; holds = ends } in
+    runs_from-first m 0 start stop first (omega arith) last
+    ∙ ap (λ (xs : List Bool). (start, stop) ∷ runs_from stop xs) (sym (drop-same m n stop len same))
+    ∙ ap (λ (rs : List (ℕ × ℕ)). (start, stop) ∷ rs) (sym (skip-front runs_from (λ _ _. refl) n stop (omega arith) cleared))
+
+-- ---- what is left
+
+pub length-left_of : (m : List Bool) (i w : ℕ) → 64 * i ≤ length m → length (left_of m i w) ≡ length m
+unfolding left_of repeated
+length-left_of m i w within =
+    let rest : List Bool = word_bits w ++ drop (64 * i + 64) m in
+    let passed : List Bool = repeated (64 * i) false in
+    omega (arith, length-take (length m) (passed ++ rest), length-append passed rest, length-append (word_bits w) (drop (64 * i + 64) m), length-word_bits w, length-drop (64 * i + 64) m, length-replicate (64 * i) false)
+
+-- of the words before, nothing
+pub left_of-before : (m : List Bool) (i w p : ℕ) → 64 * i ≤ length m → p < 64 * i → get_or (left_of m i w) p false ≡ false
+unfolding left_of repeated
+left_of-before m i w p within h =
+    let rest : List Bool = word_bits w ++ drop (64 * i + 64) m in
+    let passed : List Bool = repeated (64 * i) false in
+    get_or-take (length m) (passed ++ rest) p false (omega arith)
+    ∙ get_or_append_left passed rest false p (omega (arith, length-replicate (64 * i) false))
+    ∙ get_or-replicate (64 * i) p false false h
+
+-- of word i, the bits of w
+pub left_of-here : (m : List Bool) (i w p : ℕ) → 64 * i ≤ p → p < 64 * i + 64 → p < length m → get_or (left_of m i w) p false ≡ nat_eq (bit_at w (p - 64 * i)) 1
+unfolding left_of repeated
+left_of-here m i w p from to within =
+    let past : List Bool = drop (64 * i + 64) m in
+    let rest : List Bool = word_bits w ++ past in
+    let passed : List Bool = repeated (64 * i) false in
+    get_or-take (length m) (passed ++ rest) p false within
+    ∙ get_or-append_right passed rest (64 * i) p false (length-replicate (64 * i) false) from
+    ∙ get_or_append_left (word_bits w) past false (p - 64 * i) (omega (arith, length-word_bits w))
+    ∙ get_or-word_bits w (p - 64 * i) false (omega arith)
+
+-- past it, all
+pub left_of-past : (m : List Bool) (i w p : ℕ) → 64 * i ≤ length m → 64 * i + 64 ≤ p → get_or (left_of m i w) p false ≡ get_or m p false
+unfolding left_of repeated
+left_of-past m i w p within h =
+    let past : List Bool = drop (64 * i + 64) m in
+    let rest : List Bool = word_bits w ++ past in
+    let passed : List Bool = repeated (64 * i) false in
+    elim (cases_lt p (length m)) [
+      | inl inside ↦
+          let place : 64 * i + 64 + (p - 64 * i - 64) ≡ p = omega arith in
+          get_or-take (length m) (passed ++ rest) p false inside
+          ∙ get_or-append_right passed rest (64 * i) p false (length-replicate (64 * i) false) (omega arith)
+          ∙ get_or-append_right (word_bits w) past 64 (p - 64 * i) false (length-word_bits w) (omega arith)
+          ∙ get_or-drop (64 * i + 64) m (p - 64 * i - 64) false
+          ∙ ap (λ k. get_or m k false) place
+      | inr outside ↦
+          get_or_past (left_of m i w) p false (omega (arith, length-left_of m i w within)) ∙ sym (get_or_past m p false outside)
+    ]
+
+-- nothing is past the end
+left_of-outside : (m : List Bool) (i w p : ℕ) → 64 * i ≤ length m → length m ≤ p → get_or (left_of m i w) p false ≡ false
+left_of-outside m i w p within h = get_or_past (left_of m i w) p false (omega (arith, length-left_of m i w within))
+
+-- where w is 0 there too, as in an empty word
+pub left_of-clear : (m : List Bool) (i w p : ℕ) → 64 * i ≤ length m → 64 * i ≤ p → p < 64 * i + 64 → bit_at w (p - 64 * i) ≡ 0 → get_or (left_of m i w) p false ≡ false
+left_of-clear m i w p within from to clear = elim (cases_lt p (length m)) [
+  | inl inside ↦ left_of-here m i w p from to inside ∙ ap (λ b. nat_eq b 1) clear
+  | inr outside ↦ left_of-outside m i w p within outside
+]
+
+-- ---- words that are read
+
+bit_from_false : (b : ℕ) → b < 2 → nat_eq b 1 ≡ false → b ≡ 0
+bit_from_false zero h e = refl
+bit_from_false (suc zero) h e = cc
+bit_from_false (suc (suc b)) h e = absurd (omega arith)
+
+-- bit j of started word i
+pub bit-padded : (m : List Bool) (i w j : ℕ) → word_bits w ≡ padded_part m i → j < 64 → nat_eq (bit_at w j) 1 ≡ get_or m (64 * i + j) false
+bit-padded m i w j read h =
+    sym (get_or-word_bits w j false h) ∙ ap (λ (xs : List Bool). get_or xs j false) read ∙ get_or-padded_part m i j h
+
+pub IsLeft-read : (m : List Bool) (i w : ℕ) → w < 2 ^ 64 → word_bits w ≡ padded_part m i → i < started_words (length m) → IsLeft m i w
+IsLeft-read m i w fits read started = record {
+  word = fits;
+  within = omega arith;
+  ends = λ j few past. bit_from_false (bit_at w j) (bit_at-lt w j) (bit-padded m i w j read few ∙ get_or_past m (64 * i + j) false past);
+}
+
+-- where word i is read, nothing of it is passed
+left_of-read : (m : List Bool) (i w p : ℕ) → word_bits w ≡ padded_part m i → i < started_words (length m) → 64 * i ≤ p → get_or (left_of m i w) p false ≡ get_or m p false
+left_of-read m i w p read started from =
+    elim (cases_lt p (64 * i + 64)) [
+      | inr past ↦ left_of-past m i w p (omega arith) past
+      | inl here ↦ elim (cases_lt p (length m)) [
+        | inr outside ↦ left_of-outside m i w p (omega arith) outside ∙ sym (get_or_past m p false outside)
+        | inl inside ↦
+            let place : 64 * i + (p - 64 * i) ≡ p = omega arith in
+            left_of-here m i w p from here inside ∙ bit-padded m i w (p - 64 * i) read (omega arith) ∙ ap (λ k. get_or m k false) place
+      ]
+    ]
+
+-- the first word, and no word of the empty list
+pub left_of-first : (m : List Bool) (w : ℕ) → word_bits w ≡ padded_part m 0 → 0 < length m → left_of m 0 w ≡ m
+left_of-first m w read some =
+    ext_get_or false (left_of m 0 w) m (length-left_of m 0 w (omega arith)) (λ p h. left_of-read m 0 w p read (omega arith) (omega arith))
+
+pub left_of-none : (m : List Bool) (w : ℕ) → length m ≡ 0 → left_of m 0 w ≡ m
+left_of-none m w none =
+    let len = length-left_of m 0 w (omega arith) in
+    ext_get_or false (left_of m 0 w) m len (λ p h. absurd (omega (arith, len)))
+
+pub IsLeft-none : (m : List Bool) → length m ≡ 0 → IsLeft m 0 0
+IsLeft-none m none = record { word = lit< tt; within = omega arith; ends = λ j _ _. bit_at-zero j }
+
+-- past a word of which nothing is left comes the next
+pub left_of-next : (m : List Bool) (i w : ℕ) → i + 1 < started_words (length m) → word_bits w ≡ padded_part m (i + 1) → left_of m (i + 1) w ≡ left_of m i 0
+left_of-next m i w more read =
+    let within : 64 * i + 64 ≤ length m = omega arith in
+    ext_get_or false (left_of m (i + 1) w) (left_of m i 0) (length-left_of m (i + 1) w (omega arith) ∙ sym (length-left_of m i 0 (omega arith))) (λ p h.
+    elim (cases_lt p (64 * i)) [
+      | inl before ↦ left_of-before m (i + 1) w p (omega arith) (omega arith) ∙ sym (left_of-before m i 0 p (omega arith) before)
+      | inr from ↦ elim (cases_lt p (64 * i + 64)) [
+        | inl here ↦ left_of-before m (i + 1) w p (omega arith) (omega arith) ∙ sym (left_of-clear m i 0 p (omega arith) from here (bit_at-zero (p - 64 * i)))
+        | inr past ↦ left_of-read m (i + 1) w p read more (omega arith) ∙ sym (left_of-past m i 0 p (omega arith) past)
+      ]
+    ])
+
+-- and past the last one nothing
+pub left_of-last : (m : List Bool) (i : ℕ) → 64 * i ≤ length m → started_words (length m) ≤ i + 1 → left_of m i 0 ≡ repeated (length m) false
+unfolding repeated
+left_of-last m i within last =
+    let len = length-left_of m i 0 within in
+    ext_get_or false (left_of m i 0) (repeated (length m) false) (len ∙ sym (length-replicate (length m) false)) (λ p h.
+    elim (cases_lt p (64 * i)) [
+      | inl before ↦ left_of-before m i 0 p within before
+      | inr from ↦ left_of-clear m i 0 p within from (omega (arith, len)) (bit_at-zero (p - 64 * i))
+    ] ∙ sym (get_or-replicate (length m) p false false (omega (arith, len))))
+
+-- ---- the lowest true value of a word
+
+pub low-inside : (m : List Bool) (i w : ℕ) → 0 < w → w < 2 ^ 64 → IsLeft m i w → 64 * i + low w < length m
+low-inside m i w some fits left = elim (cases_lt (64 * i + low w) (length m)) [
+  | inl h ↦ h
+  | inr h ↦ absurd (omega (arith, low-set w some fits, left.ends (low w) (low-within w some fits) h))
+]
+
+-- before it nothing is left
+left_of-below_low : (m : List Bool) (i w p : ℕ) → 0 < w → w < 2 ^ 64 → 64 * i ≤ length m → p < 64 * i + low w → get_or (left_of m i w) p false ≡ false
+left_of-below_low m i w p some fits within h = elim (cases_lt p (64 * i)) [
+  | inl before ↦ left_of-before m i w p within before
+  | inr from ↦ left_of-clear m i w p within from (omega (arith, low-within w some fits)) (low-first w (p - 64 * i) some fits (omega arith))
+]
+
+-- it is true
+left_of-at : (m : List Bool) (i w p j : ℕ) → p ≡ 64 * i + j → j < 64 → p < length m → bit_at w j ≡ 1 → get_or (left_of m i w) p false ≡ true
+left_of-at m i w p j place few inside set =
+    let bit : p - 64 * i ≡ j = omega arith in
+    left_of-here m i w p (omega arith) (omega arith) inside ∙ ap (λ k. nat_eq (bit_at w k) 1) bit ∙ ap (λ b. nat_eq b 1) set
+
+-- two words that have the same bits there
+left_of-same : (m : List Bool) (i w v p : ℕ) → 64 * i ≤ length m → 64 * i ≤ p → ((j : ℕ) → j < 64 → p ≡ 64 * i + j → bit_at v j ≡ bit_at w j) → get_or (left_of m i v) p false ≡ get_or (left_of m i w) p false
+left_of-same m i w v p within from same = elim (cases_lt p (64 * i + 64)) [
+  | inr past ↦ left_of-past m i v p within past ∙ sym (left_of-past m i w p within past)
+  | inl here ↦ elim (cases_lt p (length m)) [
+    | inr outside ↦ left_of-outside m i v p within outside ∙ sym (left_of-outside m i w p within outside)
+    | inl inside ↦
+        left_of-here m i v p from here inside ∙ ap (λ b. nat_eq b 1) (same (p - 64 * i) (omega arith) (omega arith)) ∙ sym (left_of-here m i w p from here inside)
+  ]
+]
+
+pub IsLeft-cleared : (m : List Bool) (i w : ℕ) → 0 < w → w < 2 ^ 64 → IsLeft m i w → IsLeft m i (bit_and w (w - 1))
+IsLeft-cleared m i w some fits left = record {
+  word = omega (arith, and_le_l w (w - 1));
+  within = left.within;
+  ends = λ j few past. bit_at-lowest_others w j some fits (omega (arith, low-inside m i w some fits left)) ∙ left.ends j few past;
+}
+
+pub places-lowest : (m : List Bool) (i w : ℕ) → 0 < w → w < 2 ^ 64 → IsLeft m i w → positions (left_of m i w) ≡ (64 * i + low w) ∷ positions (left_of m i (bit_and w (w - 1)))
+places-lowest m i w some fits left =
+    let v : ℕ = bit_and w (w - 1) in
+    let within = left.within in
+    let inside = low-inside m i w some fits left in
+    let len = length-left_of m i w within in
+    let few = low-within w some fits in
+    places-step (left_of m i w) (left_of m i v) (64 * i + low w) (omega (arith, len, inside)) (length-left_of m i v within ∙ sym len)
+    (λ p h. left_of-below_low m i w p some fits within h)
+    (left_of-at m i w (64 * i + low w) (low w) refl few inside (low-set w some fits))
+    (λ p h. elim (cases_lt p (64 * i)) [
+      | inl before ↦ left_of-before m i v p within before
+      | inr from ↦ left_of-clear m i v p within from (omega (arith, few)) (bit_at-lowest_cleared w (p - 64 * i) some fits (omega arith))
+    ])
+    (λ p h. left_of-same m i w v p within (omega arith) (λ j _ place. bit_at-lowest_others w j some fits (omega arith)))
+
+-- ---- runs
+
+-- a word filled up to its lowest set bit
+pub IsLeft-filled : (m : List Bool) (i w : ℕ) → 0 < w → w < 2 ^ 64 → IsLeft m i w → IsLeft m i (bit_or w (w - 1))
+IsLeft-filled m i w some fits left = record {
+  word = or_lt 64 w (w - 1) fits (omega arith);
+  within = left.within;
+  ends = λ j few past. bit_at-filled_others w j some fits (omega (arith, low-inside m i w some fits left)) ∙ left.ends j few past;
+}
+
+pub PassesTrue-none : (m : List Bool) (i w : ℕ) → IsLeft m i w → PassesTrue m i w i w
+PassesTrue-none m i w left = record { is = left; later = omega arith; full = λ p from to. absurd (omega arith); rest = λ p _. refl }
+
+-- a full word more
+pub PassesTrue-more : (m : List Bool) (i w j v u : ℕ) → u < 2 ^ 64 → v ≡ 2 ^ 64 - 1 → j + 1 < started_words (length m) → word_bits u ≡ padded_part m (j + 1) → PassesTrue m i w j v → PassesTrue m i w (j + 1) u
+PassesTrue-more m i w j v u fits is_full more read so_far = record {
+  is = IsLeft-read m (j + 1) u fits read more;
+  later = omega (arith, so_far.later);
+  full = λ p from to. elim (cases_lt p (64 * j)) [
+    | inl before ↦ so_far.full p from before
+    | inr here ↦
+        sym (so_far.rest p here)
+        ∙ left_of-at m j v p (p - 64 * j) (omega arith) (omega arith) (omega arith) (ap (λ k. bit_at k (p - 64 * j)) is_full ∙ bit_at_ones 64 (p - 64 * j) (omega arith))
+  ];
+  rest = λ p from.
+      left_of-read m (j + 1) u p read more from
+      ∙ sym (left_of-past m j v p (omega arith) (omega arith))
+      ∙ so_far.rest p (omega arith);
+}
+
+-- the ones at the low end of what is left lie within the list
+pub ones-inside : (m : List Bool) (i w : ℕ) → w < 2 ^ 64 → IsLeft m i w → 64 * i + ones w ≤ length m
+ones-inside m i w fits left = elim (cases_lt (length m) (64 * i + ones w)) [
+  | inr h ↦ h
+  | inl h ↦
+      let j : ℕ = length m - 64 * i in
+      absurd (omega (arith, ones-within w fits, ones-set w j fits (omega (arith, left.within)), left.ends j (omega (arith, ones-within w fits, left.within)) (omega arith)))
+]
+
+pub IsLeft-ones_cleared : (m : List Bool) (i w : ℕ) → w < 2 ^ 64 → IsLeft m i w → IsLeft m i (bit_and w ((w + 1) % 2 ^ 64))
+IsLeft-ones_cleared m i w fits left = record {
+  word = omega (arith, and_le_l w ((w + 1) % 2 ^ 64));
+  within = left.within;
+  ends = λ j few past. bit_at-ones_others w j fits few (omega (arith, ones-inside m i w fits left)) ∙ left.ends j few past;
+}
+
+-- from its lowest set bit on, a word filled up to that is the word
+left_of-filled : (m : List Bool) (i w p : ℕ) → 0 < w → w < 2 ^ 64 → 64 * i ≤ length m → 64 * i + low w ≤ p → get_or (left_of m i (bit_or w (w - 1))) p false ≡ get_or (left_of m i w) p false
+left_of-filled m i w p some fits within h =
+    left_of-same m i w (bit_or w (w - 1)) p within (omega arith) (λ k _ place. bit_at-filled_others w k some fits (omega arith))
+
+-- all is true up to the end of the ones that the walk came to
+run_true : (m : List Bool) (i f j v p : ℕ) → v < 2 ^ 64 → PassesTrue m i f j v → 64 * i ≤ p → p < 64 * j + ones v → get_or (left_of m i f) p false ≡ true
+run_true m i f j v p v_fits passes from to = elim (cases_lt p (64 * j)) [
+  | inl before ↦ passes.full p from before
+  | inr here ↦
+      sym (passes.rest p here)
+      ∙ left_of-at m j v p (p - 64 * j) (omega arith) (omega (arith, ones-within v v_fits)) (omega (arith, ones-inside m j v v_fits passes.is)) (ones-set v (p - 64 * j) v_fits (omega arith))
+]
+
+-- where the run ends before the list does, it ends within the word
+run_ends : (m : List Bool) (j v : ℕ) → v < 2 ^ 64 → (v ≡ 2 ^ 64 - 1 → length m ≤ 64 * j + 64) → 64 * j + ones v < length m → 64 * j + ones v < 64 * j + 64
+run_ends m j v v_fits last inside = elim (cases_eq v (2 ^ 64 - 1)) [
+  | inl full ↦ absurd (omega (arith, ones-of_full v full, last full))
+  | inr some ↦ omega (arith, ones-few v v_fits some)
+]
+
+-- the lowest set bit of a word is in front of the end of its run
+runs-start_below_stop : (m : List Bool) (i w j v : ℕ) → 0 < w → w < 2 ^ 64 → v < 2 ^ 64 → IsLeft m i w → PassesTrue m i (bit_or w (w - 1)) j v → (v ≡ 2 ^ 64 - 1 → length m ≤ 64 * j + 64) → 64 * i + low w < 64 * j + ones v
+runs-start_below_stop m i w j v some fits v_fits left passes last =
+    let f : ℕ = bit_or w (w - 1) in
+    let k : ℕ = ones v in
+    let stop : ℕ = 64 * j + k in
+    elim (cases_lt (64 * i + low w) stop) [
+      | inl h ↦ h
+      | inr h ↦
+          let few = low-within w some fits in
+          let inside = low-inside m i w some fits left in
+          let same : j ≡ i = omega (arith, passes.later) in
+          let holds : get_or (left_of m i f) stop false ≡ true
+          = left_of-at m i f stop k (omega arith) (omega arith) (omega arith) (bit_at-filled w k some fits (omega arith)) in
+          let bit : stop - 64 * j ≡ k = omega arith in
+          let fails : get_or (left_of m j v) stop false ≡ false
+          = left_of-clear m j v stop passes.is.within (omega arith) (omega arith) (ap (bit_at v) bit ∙ ones-end v v_fits (omega arith)) in
+          absurd (true≢false (sym holds ∙ sym (passes.rest stop (omega arith)) ∙ fails))
+    ]
+
+-- where the run of a word's lowest true value ends
+pub runs-lowest : (m : List Bool) (i w j v : ℕ) → 0 < w → w < 2 ^ 64 → v < 2 ^ 64 → IsLeft m i w → PassesTrue m i (bit_or w (w - 1)) j v → (v ≡ 2 ^ 64 - 1 → length m ≤ 64 * j + 64)
+    → runs_from 0 (left_of m i w) ≡ (64 * i + low w, 64 * j + ones v) ∷ runs_from 0 (left_of m j (bit_and v ((v + 1) % 2 ^ 64)))
+runs-lowest m i w j v some fits v_fits left passes last =
+    let f : ℕ = bit_or w (w - 1) in
+    let u : ℕ = bit_and v ((v + 1) % 2 ^ 64) in
+    let within = left.within in
+    let inside = low-inside m i w some fits left in
+    let len = length-left_of m i w within in
+    let few = low-within w some fits in
+    let many = ones-within v v_fits in
+    let start : ℕ = 64 * i + low w in
+    let stop : ℕ = 64 * j + ones v in
+    let stop_inside = ones-inside m j v v_fits passes.is in
+    runs-step (left_of m i w) (left_of m j u) start stop
+    (runs-start_below_stop m i w j v some fits v_fits left passes last)
+    (omega (arith, len, stop_inside))
+    (length-left_of m j u passes.is.within ∙ sym len)
+    (λ p h. left_of-below_low m i w p some fits within h)
+    (λ p from to. sym (left_of-filled m i w p some fits within from) ∙ run_true m i f j v p v_fits passes (omega arith) to)
+    (λ h. sym (left_of-filled m i w stop some fits within (omega (arith, runs-start_below_stop m i w j v some fits v_fits left passes last)))
+    ∙ sym (passes.rest stop (omega arith))
+    ∙ left_of-clear m j v stop passes.is.within (omega arith) (run_ends m j v v_fits last (omega (arith, len))) (ap (bit_at v) (omega arith) ∙ ones-end v v_fits (omega (arith, run_ends m j v v_fits last (omega (arith, len))))))
+    (λ p h. elim (cases_lt p (64 * j)) [
+      | inl before ↦ left_of-before m j u p passes.is.within before
+      | inr from ↦ left_of-clear m j u p passes.is.within from (omega (arith, many)) (bit_at-ones_cleared v (p - 64 * j) v_fits (omega arith))
+    ])
+    (λ p h. left_of-same m j v u p passes.is.within (omega arith) (λ k few_k place. bit_at-ones_others v k v_fits few_k (omega arith))
+    ∙ passes.rest p (omega arith)
+    ∙ left_of-filled m i w p some fits within (omega (arith, runs-start_below_stop m i w j v some fits v_fits left passes last)))
+
+-- an all-false list has no run
+pub runs_from-repeated_false : (n k : ℕ) → runs_from n (repeated k false) ≡ []
+unfolding repeated
+runs_from-repeated_false n zero = refl
+runs_from-repeated_false n (suc k) = runs_from-repeated_false (n + 1) k
+
+-- ---- values one by one
+
+-- a word that is read at its first place
+pub ShowsFrom-read : (m : List Bool) (n i w : ℕ) → n ≡ 64 * i → word_bits w ≡ padded_part m i → ShowsFrom m n w
+ShowsFrom-read m n i w first read = λ j h.
+    let place : 64 * i + j ≡ n + j = omega arith in
+    bit-padded m i w j read (omega arith) ∙ ap (λ k. get_or m k false) place
+
+-- one place further inside a word
+pub ShowsFrom-next : (m : List Bool) (n w : ℕ) → ShowsFrom m n w → 0 < (n + 1) % 64 → ShowsFrom m (n + 1) (w / 2)
+ShowsFrom-next m n w shows inside = λ j h.
+    let place : n + suc j ≡ n + 1 + j = omega arith in
+    ap (λ b. nat_eq b 1) (sym (bit_at-suc w j)) ∙ shows (suc j) (omega arith) ∙ ap (λ k. get_or m k false) place
+
+-- the lowest bit is the value there
+pub ShowsFrom-first : (m : List Bool) (n w : ℕ) → ShowsFrom m n w → nat_eq (w % 2) 1 ≡ get_or m n false
+ShowsFrom-first m n w shows =
+    let place : n + 0 ≡ n = omega arith in
+    ap (λ b. nat_eq b 1) (sym (bit_at_lowest w)) ∙ shows 0 (omega arith) ∙ ap (λ k. get_or m k false) place

@@ -1,0 +1,299 @@
+-- Bits written behind the first bits of some bytes.
+use Rattle.std.proofs.Common.{◌≡◌, ℕ, ◌+◌, ◌*◌, ◌-◌, ◌/◌, ◌%◌, ◌^◌, ◌<◌, ◌≤◌, Bool, true, false, ◌||◌, nat_eq, List, [], ◌++◌, length, get_or, take, drop, slice_range, replicate, refl, sym, ap, ◌∙◌, inl, inr, ◌⊎◌, arith}
+use Rattle.std.specs.Int.{bit_at}
+use Rattle.std.specs.Int.RustNames.{bit_or}
+use Rattle.std.proofs.Math.Bool.{or-false}
+use Rattle.std.proofs.lemmas.Bool.{cases_lt}
+use Rattle.std.proofs.lemmas.List.{length-append, length-take, length-replicate, get_or-replicate, get_or_append_left, get_or-append_right, get_or_past, get_or-take, nil_from_length, ext_get_or, replicate-append-replicate}
+use Rattle.std.proofs.lemmas.Nat.Bits.{bit_at_ones}
+use borrow.Rule.Slice.PartMut.{put_mid}
+use Rattle.mask_bits.specs.Buffer.{Packed, backing_bit, values}
+use Rattle.mask_bits.specs.BufferMut.{IsWrittenBehind, AreClearFrom}
+use Rattle.mask_bits.specs.Positions.{repeated}
+use Rattle.mask_bits.specs.Words.{word_bits, window}
+use Rattle.mask_bits.proofs.BufferLemmas.{length-values, values_from_front}
+use Rattle.mask_bits.proofs.Lists.FrontLemmas.{get_or-window, get_or-front, get_or-put_mid_below, get_or-put_mid_above, get_or-put_mid_inside, values-join, window-between, window-drop}
+use Rattle.mask_bits.proofs.Lists.ShiftLemmas.{get_or-word_bits_or, get_or-word_bits_shl_low, get_or-word_bits_shl_high, get_or-word_bits_shr}
+use Rattle.mask_bits.proofs.Lists.WordLemmas.{length-word_bits, get_or-word_bits}
+
+-- ---- what is written joins what was
+
+-- one list written behind another
+pub written-join : (a b c : List ℕ) (at n : ℕ) (m k : List Bool) → n ≡ at + length m → IsWrittenBehind a b at m → IsWrittenBehind b c n k → IsWrittenBehind a c at (m ++ k)
+written-join a b c at n m k place first second = record {
+  stays = λ p h. second.stays p (omega arith) ∙ first.stays p h;
+  comes = λ i. elim (cases_lt i (length m)) [
+    | inl inside ↦ second.stays (at + i) (omega arith) ∙ first.comes i ∙ sym (get_or_append_left m k false i inside)
+    | inr past ↦
+        let here : at + i ≡ n + (i - length m) = omega arith in
+        ap (backing_bit c) here ∙ second.comes (i - length m)
+        ∙ sym (get_or-append_right m k (length m) i false refl past)
+  ];
+}
+
+-- what comes is known by another name
+pub written-is : (a b : List ℕ) (at : ℕ) (m k : List Bool) → m ≡ k → IsWrittenBehind a b at m → IsWrittenBehind a b at k
+written-is a b at m k same w = record {
+  stays = w.stays;
+  comes = λ i. w.comes i ∙ ap (λ (x : List Bool). get_or x i false) same;
+}
+
+-- the front that was, and what was written
+pub written-front : (a b : List ℕ) (at n : ℕ) (m : List Bool) → n ≡ at + length m → IsWrittenBehind a b at m
+    → values (record { bytes = b; offset = 0; len = n }) ≡ values (record { bytes = a; offset = 0; len = at }) ++ m
+written-front a b at n m place w =
+    let front : List Bool = values (record { bytes = a; offset = 0; len = at }) in
+    let len : length front ≡ at = length-values (record { bytes = a; offset = 0; len = at }) in
+    values_from_front b (front ++ m) n (omega (arith, length-append front m)) (λ p h. elim (cases_lt p at) [
+      | inl before ↦ w.stays p before ∙ sym (get_or_append_left front m false p (omega arith) ∙ get_or-front a at p false before)
+      | inr past ↦
+          let here : p ≡ at + (p - at) = omega arith in
+          ap (backing_bit b) here ∙ w.comes (p - at) ∙ sym (get_or-append_right front m at p false len past)
+    ])
+
+-- past what was written all is clear
+pub written-clear : (a b : List ℕ) (at n : ℕ) (m : List Bool) → n ≡ at + length m → IsWrittenBehind a b at m → AreClearFrom n b
+written-clear a b at n m place w = λ p h.
+    let here : p ≡ at + (p - at) = omega arith in
+    ap (backing_bit b) here ∙ w.comes (p - at) ∙ get_or_past m (p - at) false (omega arith)
+
+-- nothing is written
+pub written-none : (a : List ℕ) (at : ℕ) → AreClearFrom at a → IsWrittenBehind a a at []
+written-none a at clear = record { stays = λ p h. refl; comes = λ i. clear (at + i) (omega arith) }
+
+-- ---- a word
+
+-- what a shift leaves, past its end too
+shr_value : (w r j : ℕ) → w < 2 ^ 64 → get_or (word_bits (w / 2 ^ r)) j false ≡ get_or (word_bits w) (r + j) false
+shr_value w r j fits = elim (cases_lt j 64) [
+  | inl inside ↦ get_or-word_bits_shr w r j fits inside
+  | inr past ↦
+      get_or_past (word_bits (w / 2 ^ r)) j false (omega (arith, length-word_bits (w / 2 ^ r)))
+      ∙ sym (get_or_past (word_bits w) (r + j) false (omega (arith, length-word_bits w)))
+]
+
+-- the bits of the word in which the list begins
+word_begins : (old new : List ℕ) (i low w word j : ℕ) → low < 64 → j < 64
+    → word_bits w ≡ window old (64 * i) → window new (64 * i) ≡ word_bits (bit_or w (word * 2 ^ low % 2 ^ 64))
+    → backing_bit new (64 * i + j) ≡ (backing_bit old (64 * i + j) || get_or (word_bits (word * 2 ^ low % 2 ^ 64)) j false)
+word_begins old new i low w word j few h was here =
+    sym (get_or-window new (64 * i) j false h) ∙ ap (λ (x : List Bool). get_or x j false) here
+    ∙ get_or-word_bits_or w (word * 2 ^ low % 2 ^ 64) j h
+    ∙ ap (λ x. x || get_or (word_bits (word * 2 ^ low % 2 ^ 64)) j false)
+    (ap (λ (x : List Bool). get_or x j false) was ∙ get_or-window old (64 * i) j false h)
+
+-- one word is written, and it holds the list up to its end
+pub written-first_word : (old new : List ℕ) (at w word : ℕ)
+    → AreClearFrom at old → word_bits w ≡ window old (64 * (at / 64))
+    → window new (64 * (at / 64)) ≡ word_bits (bit_or w (word * 2 ^ (at % 64) % 2 ^ 64))
+    → ((p : ℕ) → ((p < 64 * (at / 64)) ⊎ (64 * (at / 64) + 64 ≤ p)) → backing_bit new p ≡ backing_bit old p)
+    → IsWrittenBehind old new at (take (64 - at % 64) (word_bits word))
+written-first_word old new at w word clear was here others =
+    let i : ℕ = at / 64 in
+    let low : ℕ = at % 64 in
+    let up : List Bool = word_bits (word * 2 ^ low % 2 ^ 64) in
+    let begins : (j : ℕ) → j < 64 → backing_bit new (64 * i + j) ≡ (backing_bit old (64 * i + j) || get_or up j false)
+    = λ j h. word_begins old new i low w word j (omega arith) h was here in
+    let part : List Bool = take (64 - low) (word_bits word) in
+    let part_len : length part ≤ 64 - low = omega (arith, length-take (64 - low) (word_bits word)) in
+    record {
+      stays = λ p h. elim (cases_lt p (64 * i)) [
+        | inl before ↦ others p (inl before)
+        | inr past ↦
+            let place : 64 * i + (p - 64 * i) ≡ p = omega arith in
+            ap (backing_bit new) (sym place) ∙ begins (p - 64 * i) (omega arith)
+            ∙ ap (λ x. backing_bit old (64 * i + (p - 64 * i)) || x) (get_or-word_bits_shl_low word low (p - 64 * i) (omega arith) (omega arith))
+            ∙ or-false (backing_bit old (64 * i + (p - 64 * i))) ∙ ap (backing_bit old) place
+      ];
+      comes = λ k. elim (cases_lt k (64 - low)) [
+        | inl inside ↦
+            let place : at + k ≡ 64 * i + (low + k) = omega arith in
+            let back : low + k - low ≡ k = omega arith in
+            ap (backing_bit new) place ∙ begins (low + k) (omega arith)
+            ∙ ap (λ x. x || get_or up (low + k) false) (clear (64 * i + (low + k)) (omega arith))
+            ∙ get_or-word_bits_shl_high word low (low + k) (omega arith) (omega arith)
+            ∙ ap (λ n. get_or (word_bits word) n false) back
+            ∙ sym (get_or-take (64 - low) (word_bits word) k false inside)
+        | inr past ↦ others (at + k) (inr (omega arith)) ∙ clear (at + k) (omega arith)
+            ∙ sym (get_or_past part k false (omega arith))
+      ];
+    }
+
+-- a whole word is written where all is clear
+pub written-word : (old new : List ℕ) (i : ℕ) (m : List Bool) → length m ≡ 64 → AreClearFrom (64 * i) old
+    → window new (64 * i) ≡ m
+    → ((p : ℕ) → ((p < 64 * i) ⊎ (64 * i + 64 ≤ p)) → backing_bit new p ≡ backing_bit old p)
+    → IsWrittenBehind old new (64 * i) m
+written-word old new i m len clear here others = record {
+  stays = λ p h. others p (inl h);
+  comes = λ k. elim (cases_lt k 64) [
+    | inl inside ↦ sym (get_or-window new (64 * i) k false inside) ∙ ap (λ (x : List Bool). get_or x k false) here
+    | inr past ↦ others (64 * i + k) (inr (omega arith)) ∙ clear (64 * i + k) (omega arith)
+        ∙ sym (get_or_past m k false (omega arith))
+  ];
+}
+
+-- ---- the lowest bits of a word
+
+-- zeros behind a list change no value
+padded_value : (m x : List Bool) (n i : ℕ) → x ≡ m ++ repeated n false → get_or x i false ≡ get_or m i false
+unfolding repeated
+padded_value m x n i is = ap (λ (y : List Bool). get_or y i false) is ∙ elim (cases_lt i (length m)) [
+  | inl inside ↦ get_or_append_left m (replicate n false) false i inside
+  | inr past ↦
+      get_or-append_right m (replicate n false) (length m) i false refl past
+      ∙ elim (cases_lt (i - length m) n) [
+        | inl low ↦ get_or-replicate n (i - length m) false false low
+        | inr high ↦ get_or_past (replicate n false) (i - length m) false (omega (arith, length-replicate n false))
+      ]
+      ∙ sym (get_or_past m i false past)
+]
+
+written-same : (a b : List ℕ) (at : ℕ) (m k : List Bool) → ((i : ℕ) → get_or m i false ≡ get_or k i false) → IsWrittenBehind a b at m → IsWrittenBehind a b at k
+written-same a b at m k same w = record { stays = w.stays; comes = λ i. w.comes i ∙ same i }
+
+-- within one word
+pub written-one : (old new : List ℕ) (at count word : ℕ) (m : List Bool)
+    → at % 64 + count ≤ 64 → length m ≡ count → word_bits word ≡ m ++ repeated (64 - count) false
+    → IsWrittenBehind old new at (take (64 - at % 64) (word_bits word)) → IsWrittenBehind old new at m
+written-one old new at count word m within len padded w =
+    let cut : ℕ = 64 - at % 64 in
+    written-same old new at (take cut (word_bits word)) m (λ i. elim (cases_lt i cut) [
+      | inl inside ↦ get_or-take cut (word_bits word) i false inside ∙ padded_value m (word_bits word) (64 - count) i padded
+      | inr past ↦
+          get_or_past (take cut (word_bits word)) i false (omega (arith, length-take cut (word_bits word)))
+          ∙ sym (get_or_past m i false (omega arith))
+    ]) w
+
+-- over the end of a word
+pub written-two : (old mid new : List ℕ) (at count word : ℕ) (m : List Bool)
+    → 64 < at % 64 + count → count ≤ 64 → word < 2 ^ 64 → word_bits word ≡ m ++ repeated (64 - count) false
+    → IsWrittenBehind old mid at (take (64 - at % 64) (word_bits word))
+    → window new (64 * (at / 64 + 1)) ≡ word_bits (word / 2 ^ (64 - at % 64))
+    → ((p : ℕ) → ((p < 64 * (at / 64 + 1)) ⊎ (64 * (at / 64 + 1) + 64 ≤ p)) → backing_bit new p ≡ backing_bit mid p)
+    → IsWrittenBehind old new at m
+written-two old mid new at count word m over few fits padded first here others =
+    let cut : ℕ = 64 - at % 64 in
+    let next : ℕ = at / 64 + 1 in
+    let begun : List Bool = take cut (word_bits word) in
+    let rest : List Bool = word_bits (word / 2 ^ cut) in
+    let begun_len : length begun ≡ cut = omega (arith, length-take cut (word_bits word), length-word_bits word) in
+    let place : 64 * next ≡ at + length begun = omega arith in
+    let second : IsWrittenBehind mid new (64 * next) rest
+    = written-word mid new next rest (length-word_bits (word / 2 ^ cut)) (written-clear old mid at (64 * next) begun place first) here others in
+    written-same old new at (begun ++ rest) m (λ i. elim (cases_lt i cut) [
+      | inl inside ↦
+          get_or_append_left begun rest false i (omega arith) ∙ get_or-take cut (word_bits word) i false inside
+          ∙ padded_value m (word_bits word) (64 - count) i padded
+      | inr past ↦
+          let back : cut + (i - cut) ≡ i = omega arith in
+          get_or-append_right begun rest cut i false begun_len past
+          ∙ shr_value word cut (i - cut) fits
+          ∙ ap (λ n. get_or (word_bits word) n false) back
+          ∙ padded_value m (word_bits word) (64 - count) i padded
+    ]) (written-join old mid new at (64 * next) begun rest place first second)
+
+-- ---- one value, many times
+
+pub length-repeated : (n : ℕ) (v : Bool) → length (repeated n v) ≡ n
+unfolding repeated
+length-repeated n v = length-replicate n v
+
+-- the lowest bits of a word of ones
+take-ones : (n : ℕ) → n ≤ 64 → take n (word_bits 18446744073709551615) ≡ repeated n true
+unfolding repeated
+take-ones n few =
+    let ones : List Bool = word_bits 18446744073709551615 in
+    sym (ext_get_or false (replicate n true) (take n ones) (length-replicate n true ∙ omega (arith, length-take n ones, length-word_bits 18446744073709551615)) (λ i h.
+    let low : i < n = omega (arith, length-replicate n true) in
+    get_or-replicate n i true false low
+    ∙ sym (get_or-take n ones i false low ∙ get_or-word_bits 18446744073709551615 i false (omega arith)
+    ∙ ap (λ b. nat_eq b 1) (bit_at_ones 64 i (omega arith)))))
+
+-- a word of ones writes ones
+pub written-ones : (a b : List ℕ) (at n : ℕ) → n ≤ 64 → IsWrittenBehind a b at (take n (word_bits 18446744073709551615)) → IsWrittenBehind a b at (repeated n true)
+written-ones a b at n few w = written-is a b at (take n (word_bits 18446744073709551615)) (repeated n true) (take-ones n few) w
+
+-- ones behind ones
+pub written-more_ones : (a b c : List ℕ) (at n k next : ℕ) → next ≡ at + n → IsWrittenBehind a b at (repeated n true) → IsWrittenBehind b c next (repeated k true) → IsWrittenBehind a c at (repeated (n + k) true)
+unfolding repeated
+written-more_ones a b c at n k next place first second =
+    written-is a c at (replicate n true ++ replicate k true) (replicate (n + k) true) (replicate-append-replicate n k true)
+    (written-join a b c at next (replicate n true) (replicate k true) (omega (arith, length-replicate n true)) first second)
+
+pub written-ones_clear : (a b : List ℕ) (at n next : ℕ) → next ≡ at + n → IsWrittenBehind a b at (repeated n true) → AreClearFrom next b
+written-ones_clear a b at n next place w = written-clear a b at next (repeated n true) (omega (arith, length-repeated n true)) w
+
+-- false values are there
+pub written-false : (a : List ℕ) (at n : ℕ) → AreClearFrom at a → IsWrittenBehind a a at (repeated n false)
+unfolding repeated
+written-false a at n clear = record {
+  stays = λ p h. refl;
+  comes = λ i. clear (at + i) (omega arith) ∙ sym (elim (cases_lt i n) [
+    | inl inside ↦ get_or-replicate n i false false inside
+    | inr past ↦ get_or_past (replicate n false) i false (omega (arith, length-replicate n false))
+  ]);
+}
+
+-- whole bytes of ones
+pub written-full : (old ys : List ℕ) (i k e : ℕ) → e ≡ 8 * (i + k) → e ≤ length old → AreClearFrom (64 * i) old → ys ≡ replicate (8 * k) 255
+    → IsWrittenBehind old (put_mid (8 * i) (e - 8 * i) old ys) (64 * i) (repeated (64 * k) true)
+unfolding repeated
+written-full old ys i k e is_end within clear ones =
+    let new : List ℕ = put_mid (8 * i) (e - 8 * i) old ys in
+    let len : length ys ≡ e - 8 * i = ap length ones ∙ length-replicate (8 * k) 255 ∙ omega arith in
+    record {
+      stays = λ p h. ap (λ b. nat_eq (bit_at b (p % 8)) 1) (get_or-put_mid_below (8 * i) (e - 8 * i) old ys (p / 8) (omega arith) (omega arith));
+      comes = λ j.
+          let byte : (64 * i + j) / 8 ≡ 8 * i + j / 8 = omega arith in
+          elim (cases_lt j (64 * k)) [
+            | inl inside ↦
+                ap (λ b. nat_eq (bit_at b ((64 * i + j) % 8)) 1)
+                (ap (λ n. get_or new n 0) byte ∙ get_or-put_mid_inside (8 * i) e old ys (j / 8) (omega arith) len (omega arith)
+                ∙ ap (λ (xs : List ℕ). get_or xs (j / 8) 0) ones ∙ get_or-replicate (8 * k) (j / 8) 255 0 (omega arith))
+                ∙ ap (λ v. nat_eq v 1) (bit_at_ones 8 ((64 * i + j) % 8) (omega arith))
+                ∙ sym (get_or-replicate (64 * k) j true false inside)
+            | inr past ↦
+                ap (λ b. nat_eq (bit_at b ((64 * i + j) % 8)) 1) (get_or-put_mid_above (8 * i) (e - 8 * i) old ys ((64 * i + j) / 8) (omega arith) len (omega arith))
+                ∙ clear (64 * i + j) (omega arith)
+                ∙ sym (get_or_past (replicate (64 * k) true) j false (omega (arith, length-replicate (64 * k) true)))
+          ];
+    }
+
+-- ---- the bits of other bytes
+
+-- none of them
+pub written-no_bits : (a from : List ℕ) (at offset : ℕ) → AreClearFrom at a → IsWrittenBehind a a at (values (record { bytes = from; offset = offset; len = 0 }))
+written-no_bits a from at offset clear =
+    let b : Packed = record { bytes = from; offset = offset; len = 0 } in
+    written-is a a at [] (values b) (sym (nil_from_length (values b) (length-values b))) (written-none a at clear)
+
+-- more of them
+pub written-more : (a b c from : List ℕ) (at offset n k next : ℕ) (m : List Bool) → next ≡ at + n → m ≡ values (record { bytes = from; offset = offset + n; len = k })
+    → IsWrittenBehind a b at (values (record { bytes = from; offset = offset; len = n })) → IsWrittenBehind b c next m
+    → IsWrittenBehind a c at (values (record { bytes = from; offset = offset; len = n + k }))
+written-more a b c from at offset n k next m place is first second =
+    let x : List Bool = values (record { bytes = from; offset = offset; len = n }) in
+    let y : List Bool = values (record { bytes = from; offset = offset + n; len = k }) in
+    written-is a c at (x ++ y) (values (record { bytes = from; offset = offset; len = n + k })) (values-join from offset n k)
+    (written-join a b c at next x y (omega (arith, length-values (record { bytes = from; offset = offset; len = n }))) first (written-is b c next m y is second))
+
+pub written-bits_clear : (a b from : List ℕ) (at offset n next : ℕ) → next ≡ at + n → IsWrittenBehind a b at (values (record { bytes = from; offset = offset; len = n })) → AreClearFrom next b
+written-bits_clear a b from at offset n next place w =
+    written-clear a b at next (values (record { bytes = from; offset = offset; len = n })) (omega (arith, length-values (record { bytes = from; offset = offset; len = n }))) w
+
+-- a word made of two words of the bytes from byte offset / 8 on
+pub joined-window : (from part : List ℕ) (offset i x y w : ℕ) → part ≡ drop (offset / 8) from
+    → word_bits x ≡ window part (64 * i) → word_bits y ≡ window part (64 * (i + 1))
+    → word_bits w ≡ slice_range (word_bits x ++ word_bits y) (offset % 8) (offset % 8 + 64)
+    → word_bits w ≡ window from (offset + 64 * i)
+joined-window from part offset i x y w is first second joined =
+    let low : ℕ = offset % 8 in
+    let next : 64 * (i + 1) ≡ 64 * i + 64 = omega arith in
+    let place : 8 * (offset / 8) + (64 * i + low) ≡ offset + 64 * i = omega arith in
+    joined
+    ∙ ap (λ (m : List Bool). slice_range (m ++ word_bits y) low (low + 64)) first
+    ∙ ap (λ (m : List Bool). slice_range (window part (64 * i) ++ m) low (low + 64)) (second ∙ ap (window part) next)
+    ∙ window-between part (64 * i) low (omega arith)
+    ∙ ap (λ (xs : List ℕ). window xs (64 * i + low)) is
+    ∙ window-drop from (offset / 8) (64 * i + low) (offset + 64 * i) place

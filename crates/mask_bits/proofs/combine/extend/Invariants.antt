@@ -1,0 +1,7 @@
+use Rattle.std.proofs.Common.{◌*◌}
+use Rattle.mask_bits.specs.Combine.{AreCombined}
+use Rattle.mask_bits.proofs.combine.extend.Given as goal
+
+-- the words before are written
+abbrev pub invariant-loop-i : goal.invariant-loop-i
+invariant-loop-i g l = AreCombined g.C.BitOp.of_bits l.a l.a_low l.b l.b_low l.out (64 * l.i)

@@ -1,0 +1,32 @@
+use Rattle.std.proofs.Common.{ℕ, ◌≡◌, ◌+◌, ◌-◌, ◌*◌, ◌/◌, ◌%◌, take, drop, length, ap, arith}
+use Rattle.std.proofs.lemmas.List.{take_rest}
+use Rattle.mask_bits.specs.Positions.{count}
+use Rattle.mask_bits.proofs.Lists.BitsLemmas.{bits_at, count-split, count-bits_at-le}
+use Rattle.mask_bits.proofs.counts.count_bits.Goals as goal
+
+pub overflow_add-result : goal.overflow_add-result
+overflow_add-result c =
+    let bytes = c.args.bytes.now in
+    let p = c.args.position in
+    let head : ℕ = (8 - p % 8) % 8 in
+    let byte : ℕ = (p + head) / 8 in
+    let words : ℕ = (c.args.len - head) / 64 in
+    omega (arith, c.count_few-2.ensures, c.count_words.ensures, c.if-len-lt64.false, c.ranges.len.fits,
+    count-bits_at-le bytes p head, count-bits_at-le (take (length bytes - byte) (drop byte bytes)) 0 (64 * words))
+
+pub returns : goal.returns
+returns c =
+    let bytes = c.args.bytes.now in
+    let p = c.args.position in
+    let n = c.args.len in
+    let head : ℕ = (8 - p % 8) % 8 in
+    let tail : ℕ = (n - head) % 64 in
+    let words : ℕ = (n - head) / 64 in
+    let byte : ℕ = (p + head) / 8 in
+    let from : n - tail ≡ head + 64 * words = omega (arith, c.if-len-lt64.false) in
+    omega (arith, c.count_few-2.ensures, c.count_words.ensures, c.count_few-3.ensures,
+    ap (λ k. count (bits_at bytes (p + k) tail)) from,
+    count-split bytes (take (length bytes - byte) (drop byte bytes)) p byte head (64 * words) tail n (omega arith) (take_rest bytes byte) (omega (arith, c.if-len-lt64.false)))
+
+pub overflow_add-result-2 : goal.overflow_add-result-2
+overflow_add-result-2 c = omega (arith, returns c, count-bits_at-le c.args.bytes.now c.args.position c.args.len)

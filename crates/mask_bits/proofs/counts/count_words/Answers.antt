@@ -1,0 +1,23 @@
+use Rattle.std.proofs.Common.{◌*◌, ◌+◌, ◌≡◌, ap, sym, ◌∙◌, arith, count_ones}
+use Rattle.mask_bits.specs.Positions.{count}
+use Rattle.mask_bits.proofs.Lists.BitsLemmas.{bits_at, count-bits_at-le}
+use Rattle.mask_bits.proofs.Lists.CountLemmas.{count-append}
+use Rattle.mask_bits.proofs.Lists.FrontLemmas.{front-more_word}
+use Rattle.mask_bits.proofs.Lists.WordLemmas.{count-word_bits}
+use Rattle.mask_bits.proofs.counts.count_words.Goals as goal
+
+pub loop-i-init : goal.loop-i-init
+loop-i-init c = omega (arith, count-bits_at-le c.args.bytes.now 0 0)
+
+more : (c : goal.After-word_of) → count (bits_at c.args.bytes.now 0 (64 * (c.loop-i.i + 1))) ≡ c.loop-i.count + count_ones c.word_of.result
+more c =
+    let front = bits_at c.args.bytes.now 0 (64 * c.loop-i.i) in
+    ap count (front-more_word c.args.bytes.now c.loop-i.i) ∙ count-append front _
+    ∙ omega (arith, c.loop-i.invariant, ap count c.word_of.ensures, count-word_bits c.word_of.result c.word_of.type_inv)
+
+pub overflow_add-count : goal.overflow_add-count
+overflow_add-count c =
+    omega (arith, more c, c.requires.fits, count-bits_at-le c.args.bytes.now 0 (64 * (c.loop-i.i + 1)))
+
+pub loop-i-preserved : goal.loop-i-preserved
+loop-i-preserved c = sym (more c)

@@ -1,0 +1,15 @@
+use Rattle.std.proofs.Common.{◌/◌, ◌*◌, ◌∙◌, sym, arith}
+use Rattle.std.proofs.lemmas.Bool.{false≢true}
+use Rattle.std.proofs.lemmas.List.{take_rest}
+use Rattle.mask_bits.proofs.EqLemmas.{AreSameBits-drop}
+use Rattle.mask_bits.proofs.eq.same_words.Goals as goal
+
+pub returns-then-same_inner : goal.returns-then-same_inner
+returns-then-same_inner c =
+    let moved = AreSameBits-drop c.args.a.now c.args.b.now _ _ c.args.a_offset c.args.b_offset (64 * c.args.words) (take_rest c.args.a.now (c.args.a_offset / 8)) (take_rest c.args.b.now (c.args.b_offset / 8)) in
+    (λ yes. moved.0 (c.agree.ensures.0 yes), λ same. c.agree.ensures.1 (moved.1 same))
+
+pub returns-else-same_inner : goal.returns-else-same_inner
+returns-else-same_inner c =
+    let moved = AreSameBits-drop c.args.a.now c.args.b.now _ _ c.args.a_offset c.args.b_offset (64 * c.args.words) (take_rest c.args.a.now (c.args.a_offset / 8)) (take_rest c.args.b.now (c.args.b_offset / 8)) in
+    (λ yes. absurd (false≢true (sym c.if-same_inner.false ∙ yes)), λ same. c.same_inner.ensures.1 (λ i h. moved.1 same i (omega (arith, c.min-inner.ensures))))

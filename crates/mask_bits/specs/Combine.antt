@@ -1,0 +1,25 @@
+-- What the loops over the words of two lists have made or found, bit by bit.
+use Rattle.std.specs.Prelude.{ℕ, ◌+◌, ◌*◌, ◌<◌, ◌≤◌, ◌≡◌, ◌^◌, Bool, List, length}
+use Rattle.mask_bits.specs.Buffer.{backing_bit}
+
+-- the first n bits of `out` are f of those of a from bit p on and of those of b from bit q on
+abbrev pub AreCombined : (Bool → Bool → Bool) → List ℕ → ℕ → List ℕ → ℕ → List ℕ → ℕ → Type 0
+AreCombined f a p b q out n = (i : ℕ) → i < n → backing_bit out i ≡ f (backing_bit a (p + i)) (backing_bit b (q + i))
+
+-- the n bits of a from bit p on are those of b from bit q on
+abbrev pub AreSameBits : List ℕ → ℕ → List ℕ → ℕ → ℕ → Type 0
+AreSameBits a p b q n = (i : ℕ) → i < n → backing_bit a (p + i) ≡ backing_bit b (q + i)
+
+-- word i is a whole word of the bytes
+pub record IsWholeWord (bytes : List ℕ) (low i : ℕ) : Type 0 where
+  pub whole : low ≡ 0
+  pub covered : 8 * i + 8 ≤ length bytes
+
+-- word i from bit `low` of the first byte on lies in two whole words of the bytes
+pub record IsInTwoWords (bytes : List ℕ) (low i : ℕ) : Type 0 where
+  pub few : low < 8
+  pub covered : 8 * i + 16 ≤ length bytes
+
+-- the place of word i from bit `low` on fits the machine
+pub record HasPlace (bytes : List ℕ) (low i : ℕ) : Type 0 where
+  pub fits : low + 64 * i < 2 ^ 64

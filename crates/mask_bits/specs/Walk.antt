@@ -1,0 +1,26 @@
+-- Walks over a list by its started words. No public clause cites these words.
+use Rattle.std.specs.Prelude.{ℕ, ◌+◌, ◌*◌, ◌≡◌, ◌<◌, ◌≤◌, ◌^◌, ◌%◌, Bool, true, false, nat_eq, List, ◌++◌, length, take, drop, slice_index_or}
+use Rattle.std.specs.Int.{bit_at}
+use Rattle.mask_bits.specs.Positions.{repeated}
+use Rattle.mask_bits.specs.Words.{word_bits}
+
+-- a list whose values before started word i are passed, and where those of word i are the bits of w: passed values are false
+unfoldable pub left_of : List Bool → ℕ → ℕ → List Bool
+left_of m i w = take (length m) (repeated (64 * i) false ++ (word_bits w ++ drop (64 * i + 64) m))
+
+-- word i begins within the list, and w is a word that has no bit past its end
+pub record IsLeft (m : List Bool) (i w : ℕ) : Type 0 where
+  pub word : w < 2 ^ 64
+  pub within : 64 * i ≤ length m
+  pub ends : (j : ℕ) → j < 64 → length m ≤ 64 * i + j → bit_at w j ≡ 0
+
+-- between the start of word i, where w is left, and that of word j, where v is, all values are true
+pub record PassesTrue (m : List Bool) (i w j v : ℕ) : Type 0 where
+  pub is : IsLeft m j v
+  pub later : i ≤ j
+  pub full : (p : ℕ) → 64 * i ≤ p → p < 64 * j → slice_index_or (left_of m i w) p false ≡ true
+  pub rest : (p : ℕ) → 64 * j ≤ p → slice_index_or (left_of m j v) p false ≡ slice_index_or (left_of m i w) p false
+
+-- the bits of w up to the end of the word of place n are the values from n on
+abbrev pub ShowsFrom : List Bool → ℕ → ℕ → Type 0
+ShowsFrom m n w = (j : ℕ) → n % 64 + j < 64 → nat_eq (bit_at w j) 1 ≡ slice_index_or m (n + j) false

@@ -1,0 +1,59 @@
+ghost use Rattle.std.specs.Prelude.{◌≡◌, length, IfOk};
+ghost use Rattle.mask_bits.specs.Buffer.{values};
+ghost use Rattle.mask_bits.specs.Lists.{and_of, or_of, and_not_of, not_of, combined};
+
+use crate::buffer::BitBuffer;
+use crate::combine::{And, AndNot, BitOp, Not, Or, combine};
+use bytes::Bytes;
+use std::alloc::{AllocError, Global};
+
+impl BitBuffer {
+    /// The values that are true in both.
+    pub fn bitand(&self, alloc: Global, other: &BitBuffer) -> Result<BitBuffer, AllocError>
+        requires { length (values self.now) ≡ length (values other.now) }
+        ensures { IfOk result (λ b. values b ≡ and_of (values self.now) (values other.now)) }
+    {
+        made::<And>(alloc, self, other)
+    }
+
+    /// The values that are true in one or in both.
+    pub fn bitor(&self, alloc: Global, other: &BitBuffer) -> Result<BitBuffer, AllocError>
+        requires { length (values self.now) ≡ length (values other.now) }
+        ensures { IfOk result (λ b. values b ≡ or_of (values self.now) (values other.now)) }
+    {
+        made::<Or>(alloc, self, other)
+    }
+
+    /// The values that are true here and not in `other`.
+    pub fn bitand_not(&self, alloc: Global, other: &BitBuffer) -> Result<BitBuffer, AllocError>
+        requires { length (values self.now) ≡ length (values other.now) }
+        ensures { IfOk result (λ b. values b ≡ and_not_of (values self.now) (values other.now)) }
+    {
+        made::<AndNot>(alloc, self, other)
+    }
+
+    /// The values turned.
+    #[tactic(auto, using(crate::proofs::Lists::BooleanLemmas::combined_itself))]
+    pub fn not(&self, alloc: Global) -> Result<BitBuffer, AllocError>
+        ensures { IfOk result (λ b. values b ≡ not_of (values self.now)) }
+    {
+        made::<Not>(alloc, self, self)
+    }
+}
+
+// A buffer of what `C` makes of two.
+fn made<C: BitOp>(alloc: Global, a: &BitBuffer, b: &BitBuffer) -> Result<BitBuffer, AllocError>
+    requires { length (values a.now) ≡ length (values b.now) }
+    ensures { IfOk result (λ r. values r ≡ combined C.of_bits (values a.now) (values b.now)) }
+{
+    let mut out = vec![in alloc; 0u8; 8 * a.len().div_ceil(64)]?;
+    combine::<C>(
+        a.bits(),
+        a.offset(),
+        b.bits(),
+        b.offset(),
+        a.len(),
+        &mut out,
+    );
+    Ok(BitBuffer::new(Bytes::from_vec(out)?, a.len()))
+}

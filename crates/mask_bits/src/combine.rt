@@ -1,0 +1,127 @@
+//! The list that an operation makes of two lists, value by value, over plain bytes.
+
+ghost use Rattle.std.specs.Prelude.{◌≡◌, ◌+◌, ◌*◌, ◌/◌, ◌<◌, ◌≤◌, ◌&&◌, ◌||◌, ℕ, not, length};
+ghost use Rattle.std.specs.Int.{div_ceil};
+ghost use Rattle.mask_bits.specs.Buffer.{IsWithinBytes, values};
+ghost use Rattle.mask_bits.specs.Combine.{AreCombined};
+ghost use Rattle.mask_bits.specs.Lists.{combined};
+ghost use Rattle.mask_bits.specs.Words.{word_bits};
+
+use crate::readers::{Anywhere, Neighbors, ReadWord, Whole};
+use crate::words::set_word;
+
+/// An operation on truth values, done on 64 at once.
+pub trait BitOp {
+    ghost use Rattle.std.specs.Prelude.{Bool};
+
+    ghost of_bits: { Bool → Bool → Bool };
+
+    fn of(x: u64, y: u64) -> u64
+        ensures { word_bits result ≡ combined of_bits (word_bits x) (word_bits y) };
+}
+
+/// True in both.
+#[derive(Drop)]
+pub struct And;
+
+/// True in one or in both.
+#[derive(Drop)]
+pub struct Or;
+
+/// True in the first, and not in the second.
+#[derive(Drop)]
+pub struct AndNot;
+
+/// Turns the first, and takes no account of the second.
+#[derive(Drop)]
+pub struct Not;
+
+impl BitOp for And {
+    ghost of_bits = { λ x y. x && y };
+
+    #[inline]
+    fn of(x: u64, y: u64) -> u64 {
+        x & y
+    }
+}
+
+impl BitOp for Or {
+    ghost of_bits = { λ x y. x || y };
+
+    #[inline]
+    fn of(x: u64, y: u64) -> u64 {
+        x | y
+    }
+}
+
+impl BitOp for AndNot {
+    ghost of_bits = { λ x y. x && not y };
+
+    #[inline]
+    fn of(x: u64, y: u64) -> u64 {
+        x & !y
+    }
+}
+
+impl BitOp for Not {
+    ghost of_bits = { λ x y. not x };
+
+    #[inline]
+    fn of(x: u64, _y: u64) -> u64 {
+        !x
+    }
+}
+
+/// Writes the list that `C` makes of the `len` bits of `a` from bit `a_offset` on and of those of
+/// `b` from bit `b_offset` on, value by value, to the front of `out`, which is room of whole words.
+/// The bits of `out` past the list have no meaning.
+pub fn combine<C: BitOp>(
+    a: &[u8],
+    a_offset: usize,
+    b: &[u8],
+    b_offset: usize,
+    len: usize,
+    out: &mut [u8],
+)
+    requires a_within { IsWithinBytes a.now a_offset len }
+    requires b_within { IsWithinBytes b.now b_offset len }
+    requires room { 8 * div_ceil len 64 ≤ length out.old }
+    ensures { values (record { bytes = out.new; offset = 0; len = len })
+        ≡ combined C.of_bits
+        (values (record { bytes = a.now; offset = a_offset; len = len }))
+        (values (record { bytes = b.now; offset = b_offset; len = len })) }
+{
+    let (a, a_low) = (&a[a_offset / 8..], (a_offset % 8) as u32);
+    let (b, b_low) = (&b[b_offset / 8..], (b_offset % 8) as u32);
+    let words = len.div_ceil(64);
+    // words that lie in whole words of both, up to the last
+    let inner = (a.len().min(b.len()) / 8).saturating_sub(1).min(words);
+    if a_low == 0 && b_low == 0 {
+        extend::<C, Whole>(a, a_low, b, b_low, 0, inner, out);
+    } else {
+        extend::<C, Neighbors>(a, a_low, b, b_low, 0, inner, out);
+    }
+    extend::<C, Anywhere>(a, a_low, b, b_low, inner, words, out);
+}
+
+// Writes words `from` to `to`, where those before are written.
+fn extend<C: BitOp, R: ReadWord>(
+    a: &[u8],
+    a_low: u32,
+    b: &[u8],
+    b_low: u32,
+    from: usize,
+    to: usize,
+    out: &mut [u8],
+)
+    requires reads_a { (i : ℕ) → i < to → R.can_read a.now a_low i }
+    requires reads_b { (i : ℕ) → i < to → R.can_read b.now b_low i }
+    requires ordered { from ≤ to }
+    requires room { 8 * to ≤ length out.old }
+    requires before { AreCombined C.of_bits a.now a_low b.now b_low out.old (64 * from) }
+    ensures { AreCombined C.of_bits a.now a_low b.now b_low out.new (64 * to) }
+{
+    for i in from..to {
+        set_word(out, i, C::of(R::word(a, a_low, i), R::word(b, b_low, i)));
+    }
+}

@@ -1,0 +1,91 @@
+-- What deposits and selections are for the lists of the words.
+use Rattle.std.proofs.Common.{◌≡◌, ℕ, zero, suc, ◌+◌, ◌<◌, ◌≤◌, ◌↔◌, inl, inr, Bool, true, false, ◌&&◌, nat_eq, List, [], ◌∷◌, length, get_or, take, refl, sym, ap, ap₂, ◌∙◌, arith}
+use Rattle.std.specs.Int.{bit_at}
+use Rattle.std.proofs.lemmas.List.{get_or-take, length-take}
+use Rattle.std.proofs.lemmas.Nat.Bits.{bit_at-lt}
+use Rattle.mask_bits.specs.Positions.{places_from, positions, count, count_below, rank_intersection}
+use Rattle.mask_bits.specs.Words.{word_bits}
+use Rattle.mask_bits.proofs.Lists.LawLemmas.{rank_intersection_value, length-rank_intersection}
+use Rattle.mask_bits.proofs.Lists.PlaceLemmas.{length-places_from, positions-within, trues, count-trues}
+use Rattle.mask_bits.proofs.Lists.WordLemmas.{length-word_bits, get_or-word_bits, word_bits_from_bits, count_below-word_bits}
+use Rattle.vortex_mask.specs.Deposit.{Deposits, selected}
+use Rattle.vortex_mask.proofs.SetPlaceLemmas.{ones_below, bit_cases}
+
+-- ---- a true value and its number
+
+-- a true value's number is below the count
+trues-take : (m : List Bool) (p : ℕ) → get_or m p false ≡ true → trues (take p m) < trues m
+trues-take [] p e = cc
+trues-take (true ∷ m) zero e = omega arith
+trues-take (false ∷ m) zero e = cc
+trues-take (true ∷ m) (suc p) e = omega (arith, trues-take m p e)
+trues-take (false ∷ m) (suc p) e = trues-take m p e
+
+-- and there it stands among the places
+places_from-trues : (n : ℕ) (m : List Bool) (p : ℕ) → get_or m p false ≡ true → get_or (places_from n m) (trues (take p m)) 0 ≡ n + p
+places_from-trues n [] p e = cc
+places_from-trues n (true ∷ m) zero e = omega arith
+places_from-trues n (false ∷ m) zero e = cc
+places_from-trues n (true ∷ m) (suc p) e = omega (arith, places_from-trues (n + 1) m p e)
+places_from-trues n (false ∷ m) (suc p) e = omega (arith, places_from-trues (n + 1) m p e)
+
+-- ---- selections
+
+pub selected-is : (w rank p : ℕ) → p < 64 → bit_at w p ≡ 1 → ones_below w p ≡ rank → selected w rank ≡ p
+selected-is w rank p inside set below =
+    let number : rank ≡ trues (take p (word_bits w))
+    = sym below ∙ sym (count_below-word_bits w p (omega arith)) ∙ count-trues (take p (word_bits w)) in
+    let holds : get_or (word_bits w) p false ≡ true = get_or-word_bits w p false inside ∙ ap (λ v. nat_eq v 1) set in
+    ap (λ n. get_or (positions (word_bits w)) n 0) number ∙ omega (arith, places_from-trues 0 (word_bits w) p holds)
+
+-- the place is one of the word's
+pub selected-lt : (w n : ℕ) → n < count (word_bits w) → selected w n < 64
+selected-lt w n h = omega (arith, positions-within (word_bits w) n 0 h, length-word_bits w)
+
+-- ---- deposits
+
+bits_and : (r m s : ℕ) → r < 2 → m < 2 → s < 2 → (r ≡ 1) ↔ ((m ≡ 1) × (s ≡ 1)) → nat_eq r 1 ≡ (nat_eq m 1 && nat_eq s 1)
+bits_and zero zero s hr hm hs h = refl
+bits_and zero (suc zero) zero hr hm hs h = refl
+bits_and zero (suc zero) (suc zero) hr hm hs h = absurd (omega (arith, h.1 (refl, refl)))
+bits_and zero (suc zero) (suc (suc s)) hr hm hs h = absurd (omega arith)
+bits_and zero (suc (suc m)) s hr hm hs h = absurd (omega arith)
+bits_and (suc zero) (suc zero) (suc zero) hr hm hs h = refl
+bits_and (suc zero) zero s hr hm hs h = absurd (omega (arith, (h.0 refl).0))
+bits_and (suc zero) (suc zero) zero hr hm hs h = absurd (omega (arith, (h.0 refl).1))
+bits_and (suc zero) (suc zero) (suc (suc s)) hr hm hs h = absurd (omega arith)
+bits_and (suc zero) (suc (suc m)) s hr hm hs h = absurd (omega arith)
+bits_and (suc (suc r)) m s hr hm hs h = absurd (omega arith)
+
+-- the source's first bits, as many as the mask's list has true values
+abbrev pub offered_bits : ℕ → ℕ → List Bool
+offered_bits s m = take (count (word_bits m)) (word_bits s)
+
+pub length-offered_bits : (s m : ℕ) → length (offered_bits s m) ≡ count (word_bits m)
+length-offered_bits s m =
+    omega (arith, length-take (count (word_bits m)) (word_bits s), length-word_bits s, length-word_bits m, length-places_from 0 (word_bits m))
+
+-- a deposit is the rank intersection of the mask's list and these bits
+pub word_bits-deposited : (s m r : ℕ) → Deposits s m r → word_bits r ≡ rank_intersection (word_bits m) (offered_bits s m)
+word_bits-deposited s m r is =
+    word_bits_from_bits r (rank_intersection (word_bits m) (offered_bits s m)) (length-rank_intersection (word_bits m) (offered_bits s m) ∙ length-word_bits m) (λ j h.
+    let k = count_below (word_bits m) j in
+    let a = get_or (word_bits m) j false in
+    let value : get_or (rank_intersection (word_bits m) (offered_bits s m)) j false ≡ (a && get_or (offered_bits s m) k false)
+    = rank_intersection_value (word_bits m) (offered_bits s m) j (length-offered_bits s m) in
+    let few : k ≤ 64 = omega (arith, length-places_from 0 (take j (word_bits m)), length-take j (word_bits m)) in
+    let bit : nat_eq (bit_at r j) 1 ≡ (nat_eq (bit_at m j) 1 && nat_eq (bit_at s k) 1)
+    = bits_and (bit_at r j) (bit_at m j) (bit_at s k) (bit_at-lt r j) (bit_at-lt m j) (bit_at-lt s k) (is.bits j h) in
+    let mask : a ≡ nat_eq (bit_at m j) 1 = get_or-word_bits m j false h in
+    elim (bit_cases m j) [
+      | inl clear ↦
+          let none : nat_eq (bit_at m j) 1 ≡ false = ap (λ v. nat_eq v 1) clear in
+          bit ∙ ap (λ b. b && nat_eq (bit_at s k) 1) none ∙ sym (value ∙ ap (λ b. b && get_or (offered_bits s m) k false) (mask ∙ none))
+      | inr set ↦
+          let one : a ≡ true = mask ∙ ap (λ v. nat_eq v 1) set in
+          let inside : k < count (word_bits m) = omega (arith, trues-take (word_bits m) j one, count-trues (word_bits m), count-trues (take j (word_bits m))) in
+          let source : get_or (offered_bits s m) k false ≡ nat_eq (bit_at s k) 1
+          = get_or-take (count (word_bits m)) (word_bits s) k false inside
+          ∙ get_or-word_bits s k false (omega (arith, length-word_bits m, length-places_from 0 (word_bits m))) in
+          bit ∙ ap₂ (λ b c. b && c) (sym mask) (sym source) ∙ sym value
+    ])

@@ -1,0 +1,59 @@
+-- The byte-wise deposit network, one byte at a time: what each step computes, and what stands where after it.
+use Rattle.std.specs.Prelude.{ℕ, zero, suc, ◌<◌, ◌+◌, ◌-◌, ◌*◌, ◌/◌, ◌%◌, ◌^◌, nat_eq, if◌then◌else◌, bit_and, bit_or, bit_xor, sum_by}
+use Rattle.std.specs.Int.{bit_at}
+use Rattle.std.specs.List.{range_with_len}
+
+-- byte j of a word, the lowest first
+unfoldable pub byte_at : ℕ → ℕ → ℕ
+byte_at w j = w / 2 ^ (8 * j) % 2 ^ 8
+
+-- what holds of each byte of a word
+abbrev pub EachByte : (ℕ → Type 0) → Type 0
+EachByte P = (j : ℕ) → j < 8 → P j
+
+-- ---- where the bits of a mask byte stand
+
+-- how many of the places below i are clear
+unfoldable pub clear_below : ℕ → ℕ → ℕ
+clear_below mask i = sum_by (λ k. 1 - bit_at mask k) (range_with_len 0 i)
+
+-- where the mask bit of place i stands after the first n stages: each stage s has moved it down by 2 ^ s if bit s of its clear places below is set
+unfoldable pub place_after : ℕ → ℕ → ℕ → ℕ
+place_after n mask i = i - clear_below mask i % 2 ^ n
+
+-- the mask bits as they stand after the first n stages
+unfoldable pub packed_after : ℕ → ℕ → ℕ
+packed_after n mask = sum_by (λ i. bit_at mask i * 2 ^ place_after n mask i) (range_with_len 0 8)
+
+-- those of them that stage s has moved, where they landed
+unfoldable pub landed_in : ℕ → ℕ → ℕ
+landed_in s mask = sum_by (λ i. bit_at mask i * bit_at (clear_below mask i) s * 2 ^ place_after (s + 1) mask i) (range_with_len 0 8)
+
+-- ---- what a stage computes
+
+-- the places p for which an odd number of the places p, p - step, p - 2 * step .. are set
+unfoldable pub odd_places : ℕ → ℕ → ℕ
+odd_places step b = sum_by (λ p. sum_by (λ k. if nat_eq ((p - k) % step) 0 then bit_at b k else 0) (range_with_len 0 (p + 1)) % 2 * 2 ^ p) (range_with_len 0 8)
+
+-- the bits that stand at odd places, moved down by a step
+unfoldable pub moved_down : ℕ → ℕ → ℕ → ℕ
+moved_down step packed odd = bit_and packed odd / 2 ^ step
+
+-- all bits once these have moved
+unfoldable pub with_moved : ℕ → ℕ → ℕ → ℕ
+with_moved step packed odd = bit_xor packed (bit_xor (bit_and packed odd) (moved_down step packed odd))
+
+-- every second zero, which is all that the later stages count: each is now marked at its place and a step below
+unfoldable pub halved : ℕ → ℕ → ℕ → ℕ
+halved step zeros odd = let even = bit_and zeros (255 - odd) in bit_xor even (even / 2 ^ step)
+
+-- the zeros that stage s begins with
+unfoldable pub zeros_before : ℕ → ℕ → ℕ
+zeros_before zero mask = 255 - mask
+zeros_before (suc s) mask = halved (2 ^ s) (zeros_before s mask) (odd_places (2 ^ s) (zeros_before s mask))
+
+-- ---- the way back
+
+-- the bits at these places, moved up by a step, and the others as they are
+unfoldable pub moved_up : ℕ → ℕ → ℕ → ℕ
+moved_up step places b = bit_or (bit_and b (255 - places)) (bit_and b places * 2 ^ step)

@@ -1,0 +1,48 @@
+-- What is wrong with a list of indices, or of ranges, that is to make a mask of a length. Places count from 0.
+use Rattle.std.specs.Prelude.{ℕ, ◌+◌, Bool, not, ◌&&◌, List, [], ◌∷◌, Option, Some, None, nat_eq, nat_lt, nat_le, position, find, if◌then◌else◌}
+use Rattle.std.specs.Option.{option_map}
+use Rattle.vortex_mask.specs.declared.mask.error.MaskError.{MaskError}
+use Rattle.vortex_mask.specs.declared.mask.error.MaskError.TheVariants.{UnsortedIndices, RepeatedIndex, IndexOutOfBounds, BadRange, UnsortedRanges, OverlappingRanges}
+
+-- the first, if it is there, or else the second
+abbrev pub or_else : {X : Type 0} → Option X → Option X → Option X
+or_else (Some x) other = Some x
+or_else None other = other
+
+-- the first index below the one before it, where the first of these stands at place n
+abbrev pub unsorted_from : ℕ → List ℕ → Option MaskError
+unsorted_from n [] = None
+unsorted_from n (x ∷ []) = None
+unsorted_from n (x ∷ y ∷ xs) = if nat_lt y x then Some (UnsortedIndices (n + 1)) else unsorted_from (n + 1) (y ∷ xs)
+
+-- the first index that equals the one before it
+abbrev pub repeated_from : ℕ → List ℕ → Option MaskError
+repeated_from n [] = None
+repeated_from n (x ∷ []) = None
+repeated_from n (x ∷ y ∷ xs) = if nat_eq y x then Some (RepeatedIndex (n + 1)) else repeated_from (n + 1) (y ∷ xs)
+
+-- the first index that is not below the length
+abbrev pub out_of_bounds : ℕ → List ℕ → Option MaskError
+out_of_bounds len xs = option_map (λ x. IndexOutOfBounds x len) (find (λ x. nat_le len x) xs)
+
+-- order over the whole list first, then repeats, then bounds
+abbrev pub index_fault : ℕ → List ℕ → Option MaskError
+index_fault len xs = or_else (unsorted_from 0 xs) (or_else (repeated_from 0 xs) (out_of_bounds len xs))
+
+-- the first range that is empty or passes the length
+abbrev pub bad_range : ℕ → List (ℕ × ℕ) → Option MaskError
+bad_range len rs = option_map (λ at. BadRange at) (position (λ r. not (nat_lt r.0 r.1 && nat_le r.1 len)) rs)
+
+-- a range that does not start after the one before it, or starts below its end, where it stands at a place
+abbrev pub neighbour_fault : ℕ × ℕ → ℕ × ℕ → ℕ → Option MaskError
+neighbour_fault r s at = if nat_le s.0 r.0 then Some (UnsortedRanges at) else (if nat_lt s.0 r.1 then Some (OverlappingRanges at) else None)
+
+-- the first such of neighbours in turn, where the first of these stands at place n
+abbrev pub neighbours_fault_from : ℕ → List (ℕ × ℕ) → Option MaskError
+neighbours_fault_from n [] = None
+neighbours_fault_from n (r ∷ []) = None
+neighbours_fault_from n (r ∷ s ∷ rs) = or_else (neighbour_fault r s (n + 1)) (neighbours_fault_from (n + 1) (s ∷ rs))
+
+-- bad ranges over all of them first, then neighbours in turn
+abbrev pub range_fault : ℕ → List (ℕ × ℕ) → Option MaskError
+range_fault len rs = or_else (bad_range len rs) (neighbours_fault_from 0 rs)

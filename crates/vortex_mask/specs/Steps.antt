@@ -1,0 +1,20 @@
+-- What a contract sees of `Steps`.
+use Rattle.std.specs.Prelude.{ℕ, ◌≤◌, ◌*◌}
+
+-- how many words were deposited, read and selected in, and sums over these steps: of the masks' counts, of the results' counts, and of the places selected
+pub record StepCounts : Type 0 where
+  pub deposits : ℕ
+  pub words : ℕ
+  pub selections : ℕ
+  pub offered : ℕ
+  pub placed : ℕ
+  pub spots : ℕ
+
+abbrev pub no_steps : StepCounts
+no_steps = record { deposits = 0; words = 0; selections = 0; offered = 0; placed = 0; spots = 0 }
+
+-- each step adds at most 64 to a sum
+pub record SumsFit (deposits selections offered placed spots : ℕ) : Type 0 where
+  pub offered_fits : offered ≤ 64 * deposits
+  pub placed_fits : placed ≤ 64 * deposits
+  pub spots_fit : spots ≤ 64 * selections
