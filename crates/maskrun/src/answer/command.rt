@@ -1,13 +1,17 @@
-ghost use Rattle.std.specs.Prelude.{◌≡◌, ◌⊎◌, Ok, Err, map, IfOk, IfErr, length, string_bytes};
-ghost use Rattle.maskrun.specs.Commands.{command_of, command_named, one_mask, two_masks, mask_and_number, mask_and_range, printed, text_if_len, out_of_memory};
-ghost use Rattle.mask_bits.specs.Positions.{count, rank_intersection};
+ghost use Rattle.std.specs.Prelude.{◌≡◌, ◌⊎◌, Ok, Err, map, IfOk, IfErr, string_bytes};
+ghost use Rattle.maskrun.specs.Commands.{command_of, command_named, printed, out_of_memory};
+
+mod boolean;
+mod part;
+mod rank;
+mod shapes;
 
 use crate::answer::RunError;
 use crate::answer::argument::MaskArgument;
 use crate::answer::mask_list::MaskList;
 use crate::answer::name::Name;
-use crate::answer::number::read_number;
-use crate::answer::text::mask_text;
+use rank::rank;
+use shapes::{mask_and_number, mask_and_range, one_mask, two_masks};
 use std::alloc::Global;
 
 // A command with its arguments read.
@@ -56,75 +60,13 @@ impl<'a> Command<'a> {
     {
         match self {
             Command::Rank(a, b) => rank(alloc, a, b),
+            Command::And(a, b) => boolean::and(alloc, a, b),
+            Command::Or(a, b) => boolean::or(alloc, a, b),
+            Command::AndNot(a, b) => boolean::and_not(alloc, a, b),
+            Command::Not(a) => boolean::not(alloc, a),
+            Command::Slice(a, start, end) => part::slice(alloc, a, *start, *end),
+            Command::Limit(a, k) => part::limit(alloc, a, *k),
             _ => Err(RunError::Usage),
         }
     }
-}
-
-fn one_mask<'a>(arguments: &'a [String]) -> Result<MaskArgument<'a>, RunError>
-    ensures { result ≡ one_mask (map string_bytes arguments.now) }
-{
-    match arguments {
-        [a] => MaskArgument::read(1, a.as_str()),
-        _ => Err(RunError::Usage),
-    }
-}
-
-fn two_masks<'a>(arguments: &'a [String]) -> Result<(MaskArgument<'a>, MaskArgument<'a>), RunError>
-    ensures { result ≡ two_masks (map string_bytes arguments.now) }
-{
-    match arguments {
-        [a, b] => {
-            let a = MaskArgument::read(1, a.as_str())?;
-            let b = MaskArgument::read(2, b.as_str())?;
-            Ok((a, b))
-        }
-        _ => Err(RunError::Usage),
-    }
-}
-
-fn mask_and_number<'a>(arguments: &'a [String]) -> Result<(MaskArgument<'a>, usize), RunError>
-    ensures { result ≡ mask_and_number (map string_bytes arguments.now) }
-{
-    match arguments {
-        [a, k] => {
-            let a = MaskArgument::read(1, a.as_str())?;
-            let k = read_number(2, k.as_str())?;
-            Ok((a, k))
-        }
-        _ => Err(RunError::Usage),
-    }
-}
-
-fn mask_and_range<'a>(arguments: &'a [String]) -> Result<(MaskArgument<'a>, usize, usize), RunError>
-    ensures { result ≡ mask_and_range (map string_bytes arguments.now) }
-{
-    match arguments {
-        [a, start, end] => {
-            let a = MaskArgument::read(1, a.as_str())?;
-            let start = read_number(2, start.as_str())?;
-            let end = read_number(3, end.as_str())?;
-            Ok((a, start, end))
-        }
-        _ => Err(RunError::Usage),
-    }
-}
-
-fn rank(alloc: Global, a: &MaskArgument, b: &MaskArgument) -> Result<String, RunError>
-    ensures text { IfOk result (λ t.
-        text_if_len (length b.now) (count a.now) (rank_intersection a.now b.now)
-        ≡ Ok (string_bytes t)) }
-    ensures fault { IfErr result (λ e.
-        (text_if_len (length b.now) (count a.now) (rank_intersection a.now b.now) ≡ Err e)
-        ⊎ (e ≡ out_of_memory)) }
-{
-    let a = a.mask(alloc)?;
-    let b = b.mask(alloc)?;
-    let want = a.true_count();
-    let got = b.len();
-    if got != want {
-        return Err(RunError::LengthsDiffer { want, got });
-    }
-    let mask = a.intersect_by_rank(alloc, &b)?;
-    Ok(mask_text(alloc, &mask)?)
 }
