@@ -1,5 +1,5 @@
 -- The commands: how each reads its arguments, and the line that it prints.
-use Rattle.std.specs.Prelude.{ℕ, ◌+◌, Bool, ◌==◌, nat_lt, List, [], ◌∷◌, length, slice_range, Result, Ok, Err, codes, alloc_error, if◌then◌else◌}
+use Rattle.std.specs.Prelude.{ℕ, ◌+◌, ◌^◌, Bool, ◌==◌, nat_lt, List, [], ◌∷◌, length, sum_by, slice_range, Result, Ok, Err, codes, alloc_error, if◌then◌else◌}
 use Rattle.std.specs.Str.{bytes_eq}
 use Rattle.mask_bits.specs.Lists.{and_of, or_of, and_not_of, not_of, limited, joined}
 use Rattle.mask_bits.specs.Positions.{count, rank_intersection}
@@ -11,7 +11,7 @@ use Rattle.maskrun.specs.declared.answer.error.RunError.{RunError}
 use Rattle.maskrun.specs.declared.answer.error.RunError.TheVariants.{Usage, LengthsDiffer, OutOfRange, Mask}
 use Rattle.maskrun.specs.declared.answer.name.Name.{Name}
 use Rattle.maskrun.specs.declared.answer.name.Name.TheVariants as named
-use Rattle.vortex_mask.specs.declared.mask.error.MaskError.TheVariants.{Memory}
+use Rattle.vortex_mask.specs.declared.mask.error.MaskError.TheVariants.{Memory, LengthOverflow}
 
 -- the first fault, or the next step at the value
 infixl 10 ◌>>=◌
@@ -106,7 +106,7 @@ printed (AndNot a b) = text_if_len (length b) (length a) (and_not_of a b)
 printed (Not a) = Ok (text (not_of a))
 printed (Slice a s e) = part_text a s e
 printed (Limit a k) = Ok (text (limited a k))
-printed (Cat ms) = Ok (text (joined ms))
+printed (Cat ms) = if nat_lt (sum_by length ms) (2 ^ 64) then Ok (text (joined ms)) else Err (Mask LengthOverflow)
 
 -- the line for a command line: the text, or the first fault
 abbrev pub line : List (List ℕ) → Result (List ℕ) RunError
