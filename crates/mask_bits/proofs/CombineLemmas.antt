@@ -1,10 +1,10 @@
 -- The bits that the loops over words write and compare.
-use Rattle.std.proofs.Common.{◌≡◌, nat_eq, ℕ, ◌+◌, ◌*◌, ◌-◌, ◌/◌, ◌%◌, ◌<◌, ◌≤◌, ◌⊎◌, Bool, true, false, List, ◌++◌, length, get_or, take, drop, slice_range, refl, sym, ap, ◌∙◌, inl, inr, arith, add_assoc, zero-add}
+use Rattle.std.proofs.Common.{◌≡◌, nat_eq, ℕ, ◌+◌, ◌*◌, ◌-◌, ◌/◌, ◌%◌, ◌<◌, ◌≤◌, ◌⊎◌, Bool, false, List, ◌++◌, length, get_or, take, drop, slice_range, sym, ap, ◌∙◌, inl, inr, arith}
 use Rattle.std.specs.Int.{bit_at}
 use Rattle.std.proofs.lemmas.Bool.{cases_lt}
 use Rattle.std.proofs.lemmas.List.{ext_get_or, get_or-drop, take-append-le, take_all}
 use Rattle.mask_bits.specs.Buffer.{Packed, IsWithinBytes, backing_bit, values}
-use Rattle.mask_bits.specs.Combine.{AreCombined, AreSameBits}
+use Rattle.mask_bits.specs.Combine.{AreCombined}
 use Rattle.mask_bits.specs.Lists.{combined}
 use Rattle.mask_bits.specs.Words.{word_bits, window}
 use Rattle.mask_bits.proofs.BufferLemmas.{length-values, get_or-values, values_from_front}

@@ -1,5 +1,5 @@
 -- When two buffers hold the same list, by their words.
-use Rattle.std.proofs.Common.{◌≡◌, ◌↔◌, nat_eq, ℕ, zero, suc, ◌+◌, ◌*◌, ◌-◌, ◌/◌, ◌%◌, ◌^◌, ◌<◌, ◌≤◌, Bool, true, false, List, ◌++◌, length, get_or, take, drop, refl, sym, ap, ◌∙◌, inl, inr, arith}
+use Rattle.std.proofs.Common.{◌≡◌, ◌↔◌, nat_eq, ℕ, zero, suc, ◌+◌, ◌*◌, ◌-◌, ◌/◌, ◌%◌, ◌^◌, ◌<◌, ◌≤◌, Bool, false, List, length, get_or, drop, refl, sym, ap, ◌∙◌, inl, inr, arith}
 use Rattle.std.specs.Bool.{IsTrue}
 use Rattle.std.specs.Int.{bit_at}
 use Rattle.std.proofs.lemmas.Bool.{cases_lt, false≢true}
@@ -12,7 +12,7 @@ use Rattle.mask_bits.specs.Words.{word_bits, window, padded_remainder}
 use Rattle.mask_bits.proofs.BufferLemmas.{length-values, get_or-values, same_values-from_answer}
 use Rattle.mask_bits.proofs.CombineLemmas.{backing_bit-drop}
 use Rattle.mask_bits.proofs.Lists.FrontLemmas.{length-window, get_or-window}
-use Rattle.mask_bits.proofs.Lists.WordLemmas.{length-word_bits, get_or-word_bits}
+use Rattle.mask_bits.proofs.Lists.WordLemmas.{get_or-word_bits}
 
 -- ---- words
 

@@ -238,9 +238,9 @@ impl BitBuffer {
         let mut i = chunks.padded_len();
         while i > 0 {
             i -= 1;
-            let word = chunks.padded_word(i);
-            if word != 0 {
-                return Some(64 * i + (63 - word.leading_zeros() as usize));
+            let last = chunks.padded_word(i);
+            if last != 0 {
+                return Some(64 * i + (63 - last.leading_zeros() as usize));
             }
         }
         None

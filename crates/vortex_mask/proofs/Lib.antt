@@ -1,14 +1,22 @@
 -- Lemmas.
+pub mod BitopLemmas
 pub mod ByteCountLemmas
 pub mod ByteLemmas
+pub mod CommonLemmas
+pub mod ConcatLemmas
 pub mod DepositLemmas
 pub mod DepositListLemmas
+pub mod EqLemmas
 mod Examples
+pub mod ExcludedLemmas
+pub mod FaultLemmas
 pub mod HoleLemmas
 pub mod MaskLemmas
 pub mod NetworkLemmas
 pub mod PlaceListLemmas
+pub mod RangeLemmas
 pub mod RankWordLemmas
 pub mod ResultLemmas
+pub mod RunLemmas
 pub mod SetPlaceLemmas
 pub mod WordKernelLemmas

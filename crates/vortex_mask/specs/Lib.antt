@@ -1,10 +1,14 @@
 pub mod AllOr
+pub mod Ascending
+pub mod Bitops
 pub mod Bytes
+pub mod Concat
 pub mod Deposit
 pub mod Faults
 pub mod Laws
 pub mod Mask
 pub mod MaskValues
+pub mod Ranges
 pub mod Ranks
 pub mod Steps
 pub use Rattle.mask_bits.specs.Buffer

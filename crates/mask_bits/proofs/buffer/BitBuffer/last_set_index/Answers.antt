@@ -7,24 +7,24 @@ use Rattle.mask_bits.proofs.Lists.PlaceLemmas.{place-within}
 use Rattle.mask_bits.proofs.Lists.SelectLemmas.{last_in_word, last_none, none_more}
 use Rattle.mask_bits.proofs.buffer.BitBuffer.last_set_index.Goals as goal
 
-pub returns-then-word-ne0-clause-place : goal.returns-then-word-ne0-clause-place
-returns-then-word-ne0-clause-place c =
+pub returns-then-last-ne0-clause-place : goal.returns-then-last-ne0-clause-place
+returns-then-last-ne0-clause-place c =
     let m = c.chunks-chunks.result in
-    let some : 0 < c.padded_word-word.result = omega (arith, c.if-word-ne0.true) in
-    sym (last_in_word m (c.loop-i.i - 1) c.padded_word-word.result some c.padded_word-word.type_inv c.padded_word-word.ensures (λ p h. c.loop-i.invariant.none p (omega (arith, c.loop-i-test.true))))
+    let some : 0 < c.padded_word-last.result = omega (arith, c.if-last-ne0.true) in
+    sym (last_in_word m (c.loop-i.i - 1) c.padded_word-last.result some c.padded_word-last.type_inv c.padded_word-last.ensures (λ p h. c.loop-i.invariant.none p (omega (arith, c.loop-i-test.true))))
     ∙ ap (λ (xs : List Bool). slice_get (positions xs) (count xs - 1)) c.chunks-chunks.ensures.list
 
-pub returns-then-word-ne0-clause-within : goal.returns-then-word-ne0-clause-within
-returns-then-word-ne0-clause-within c =
+pub returns-then-last-ne0-clause-within : goal.returns-then-last-ne0-clause-within
+returns-then-last-ne0-clause-within c =
     let m = values c.args.self.now in
-    subst (λ (o : Option ℕ). IfSome o (λ p. p < length m)) (sym (returns-then-word-ne0-clause-place c)) (place-within m (count m - 1))
+    subst (λ (o : Option ℕ). IfSome o (λ p. p < length m)) (sym (returns-then-last-ne0-clause-place c)) (place-within m (count m - 1))
 
 pub loop-i-preserved : goal.loop-i-preserved
 loop-i-preserved c =
     let m = c.chunks-chunks.result in
     record {
       within = omega (arith, c.loop-i.invariant.within);
-      none = none_more m (c.loop-i.i - 1) (ap word_bits (sym c.if-word-ne0.false) ∙ c.padded_word-word.ensures) (λ p h. c.loop-i.invariant.none p (omega (arith, c.loop-i-test.true)));
+      none = none_more m (c.loop-i.i - 1) (ap word_bits (sym c.if-last-ne0.false) ∙ c.padded_word-last.ensures) (λ p h. c.loop-i.invariant.none p (omega (arith, c.loop-i-test.true)));
     }
 
 pub returns-clause-place : goal.returns-clause-place
