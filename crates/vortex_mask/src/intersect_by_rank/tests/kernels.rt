@@ -7,7 +7,7 @@ ghost use Rattle.mask_bits.specs.Buffer.{values};
 use super::{Generator, same};
 use crate::intersect_by_rank::{
     DepositBits, Portable, PortableLoop, RankBits, Steps, intersect_bit_buffer_by_rank_indices,
-    intersect_bit_buffers, intersect_by_rank_indices,
+    intersect_bit_buffers, intersect_by_rank_indices, places_of,
 };
 use crate::mask::{Mask, MaskError};
 use bytes::Bytes;
@@ -69,7 +69,7 @@ fn numbers(alloc: Global, ranks: &BitBuffer) -> Result<Vec<usize>, AllocError>
     ensures ascending { IfOk result (λ v. IsStrictlyIncreasing v.items) }
     ensures within { IfOk result (λ v. All (λ k. k < length (values ranks.now)) v.items) }
 {
-    ranks.set_indices().collect(alloc)
+    places_of(alloc, ranks)
 }
 
 fn expect_steps(rt: &impl Abort, steps: &Steps, deposits: usize, offered: usize, placed: usize) {
@@ -267,8 +267,7 @@ fn push_run(
     words: &mut Generator,
     round: u32,
 ) -> Result<(), AllocError> {
-    let mut left = 1 + words.next() % 20;
-    while left > 0 {
+    for _ in 0..1 + words.next() % 20 {
         let word = match round % 3 {
             0 => 0,
             1 => u64::MAX,
@@ -276,7 +275,6 @@ fn push_run(
         };
         assert!(rt; built.len() < 1_000_000);
         built.push_word(word, 64)?;
-        left -= 1;
     }
     Ok(())
 }
