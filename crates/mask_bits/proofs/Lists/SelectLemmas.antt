@@ -189,10 +189,11 @@ high w some fits =
     let place : 63 - leading_zeros w64 w ≡ j = omega (arith, top.1) in
     let split : 1 * 2 ^ j + (w - 2 ^ j) ≡ w = omega (arith, top.2) in
     let small : w - 2 ^ j < 2 ^ j = omega (arith, top.2, top.3, pow-suc 2 j) in
-    let first : j - j ≡ 0 = omega arith in
-    (omega (arith, top.1),
-    ap (bit_at w) place ∙ ap (λ n. bit_at n j) (sym split) ∙ bit_at_cat_high 1 j (w - 2 ^ j) j small (omega arith) ∙ ap (bit_at 1) first ∙ bit_at_lowest 1,
-    λ i h. bit_at_above w (suc j) i top.3 (omega arith))
+    let first : j - j ≡ 0 = omega arith in (
+      omega (arith, top.1),
+      ap (bit_at w) place ∙ ap (λ n. bit_at n j) (sym split) ∙ bit_at_cat_high 1 j (w - 2 ^ j) j small (omega arith) ∙ ap (bit_at 1) first ∙ bit_at_lowest 1,
+      λ i h. bit_at_above w (suc j) i top.3 (omega arith),
+    )
 
 -- the last true value of a list, in the last started word that has one
 pub last_in_word : (m : List Bool) (i w : ℕ) → 0 < w → w < 2 ^ 64 → word_bits w ≡ padded_part m i → ((p : ℕ) → 64 * (i + 1) ≤ p → get_or m p false ≡ false)
