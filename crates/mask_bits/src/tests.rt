@@ -2,9 +2,6 @@
 // slow is inline asserts and `?` beside living values. So a helper makes one thing and asserts of it,
 // rows go as tuples through one loop over one helper, and a test function holds at most three `?` and
 // no chain of asserts. The sweeps and the callers stand in the crate `uses`.
-mod builder;
-mod pointwise;
-
 ghost use Rattle.std.specs.Prelude.{◌≡◌, ◌<◌, ◌≤◌};
 
 mod walks;

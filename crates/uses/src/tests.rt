@@ -1,7 +1,10 @@
 // How a test is written stands at the head of the tests of `mask_bits`. A caller's test stands in its file.
 ghost use Rattle.std.specs.Prelude.{◌≡◌};
 
+mod builder;
 mod large;
+mod packed;
+mod pointwise;
 mod sweep;
 
 use mask_bits::BitBuffer;

@@ -1,11 +1,15 @@
 -- Lemmas.
 pub mod ByteCountLemmas
 pub mod ByteLemmas
+pub mod CommonLemmas
 pub mod DepositLemmas
 pub mod DepositListLemmas
 mod Examples
+pub mod ExcludedLemmas
+pub mod FaultLemmas
 pub mod HoleLemmas
 pub mod MaskLemmas
 pub mod NetworkLemmas
 pub mod ResultLemmas
+pub mod RunLemmas
 pub mod SetPlaceLemmas

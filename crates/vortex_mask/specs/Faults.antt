@@ -1,6 +1,7 @@
 -- What is wrong with a list of indices, or of ranges, that is to make a mask of a length. Places count from 0.
 use Rattle.std.specs.Prelude.{ℕ, ◌+◌, Bool, not, ◌&&◌, List, [], ◌∷◌, Option, Some, None, nat_eq, nat_lt, nat_le, position, find, if◌then◌else◌}
 use Rattle.std.specs.Option.{option_map}
+use Rattle.std.specs.List.{filter, list_any}
 use Rattle.vortex_mask.specs.declared.mask.error.MaskError.{MaskError}
 use Rattle.vortex_mask.specs.declared.mask.error.MaskError.TheVariants.{UnsortedIndices, RepeatedIndex, IndexOutOfBounds, BadRange, UnsortedRanges, OverlappingRanges}
 
@@ -9,25 +10,35 @@ abbrev pub or_else : {X : Type 0} → Option X → Option X → Option X
 or_else (Some x) other = Some x
 or_else None other = other
 
--- the first index below the one before it, where the first of these stands at place n
-abbrev pub unsorted_from : ℕ → List ℕ → Option MaskError
-unsorted_from n [] = None
-unsorted_from n (x ∷ []) = None
-unsorted_from n (x ∷ y ∷ xs) = if nat_lt y x then Some (UnsortedIndices (n + 1)) else unsorted_from (n + 1) (y ∷ xs)
+-- the first place whose index stands so to the one before it, where the first of these stands at place n
+abbrev pub first_pair_from : (ℕ → ℕ → Bool) → ℕ → List ℕ → Option ℕ
+first_pair_from test n [] = None
+first_pair_from test n (x ∷ []) = None
+first_pair_from test n (x ∷ y ∷ xs) = if test x y then Some (n + 1) else first_pair_from test (n + 1) (y ∷ xs)
 
--- the first index that equals the one before it
-abbrev pub repeated_from : ℕ → List ℕ → Option MaskError
-repeated_from n [] = None
-repeated_from n (x ∷ []) = None
-repeated_from n (x ∷ y ∷ xs) = if nat_eq y x then Some (RepeatedIndex (n + 1)) else repeated_from (n + 1) (y ∷ xs)
+-- the first place whose index is below the one before it
+abbrev pub first_unsorted : List ℕ → Option ℕ
+first_unsorted xs = first_pair_from (λ x y. nat_lt y x) 0 xs
+
+-- the first place whose index equals the one before it
+abbrev pub first_repeated : List ℕ → Option ℕ
+first_repeated xs = first_pair_from (λ x y. nat_eq y x) 0 xs
 
 -- the first index that is not below the length
+abbrev pub first_past : ℕ → List ℕ → Option ℕ
+first_past len xs = find (λ x. nat_le len x) xs
+
+-- where there is one, that is the fault
 abbrev pub out_of_bounds : ℕ → List ℕ → Option MaskError
-out_of_bounds len xs = option_map (λ x. IndexOutOfBounds x len) (find (λ x. nat_le len x) xs)
+out_of_bounds len xs = option_map (λ x. IndexOutOfBounds x len) (first_past len xs)
 
 -- order over the whole list first, then repeats, then bounds
 abbrev pub index_fault : ℕ → List ℕ → Option MaskError
-index_fault len xs = or_else (unsorted_from 0 xs) (or_else (repeated_from 0 xs) (out_of_bounds len xs))
+index_fault len xs = or_else (option_map (λ at. UnsortedIndices at) (first_unsorted xs)) (or_else (option_map (λ at. RepeatedIndex at) (first_repeated xs)) (out_of_bounds len xs))
+
+-- those of the one list that the other has too
+abbrev pub common : List ℕ → List ℕ → List ℕ
+common xs ys = filter (λ x. list_any (nat_eq x) ys) xs
 
 -- the first range that is empty or passes the length
 abbrev pub bad_range : ℕ → List (ℕ × ℕ) → Option MaskError

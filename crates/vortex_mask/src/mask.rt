@@ -1,6 +1,6 @@
 //! Masks: lists of truth values that say which rows are chosen.
 
-ghost use Rattle.std.specs.Prelude.{◌≡◌, ◌≢◌, ◌+◌, ◌<◌, ◌↔◌, [], true, false, if◌then◌else◌, IsTrue, IsOk, IfOk, Some, length, All, slice_get, IsOkUnless, alloc_error};
+ghost use Rattle.std.specs.Prelude.{◌≡◌, ◌≢◌, ◌+◌, ◌<◌, ◌↔◌, [], true, false, if◌then◌else◌, IsTrue, IsOk, IfOk, Some, length, All, slice_get, IsOkUnless, alloc_error, IfErr};
 ghost use Rattle.std.specs.Iterator.{UpTo, Drains};
 ghost use Rattle.std.specs.Iterator.Runs.{WholeRun};
 ghost use Rattle.std.specs.Option.{option_copied};
@@ -13,7 +13,10 @@ ghost use Rattle.vortex_mask.specs.declared.mask.Mask.TheVariants.{AllTrue};
 
 mod all_or;
 mod error;
+mod from_excluded;
 mod from_indices;
+mod from_intersection;
+mod index_fault;
 mod values;
 
 pub use all_or::AllOr;
@@ -119,6 +122,16 @@ impl Mask {
             Mask::AllFalse(len) => Ok(Mask::AllFalse(*len)),
             Mask::Values(values) => Ok(Mask::Values(values.clone()?)),
         }
+    }
+}
+
+/// Changes.
+impl Mask {
+    /// Becomes `AllFalse(0)`. The old values are given up.
+    pub fn clear(&mut self)
+        ensures { self.new ≡ Mask.AllFalse 0 }
+    {
+        *self = Mask::AllFalse(0);
     }
 }
 

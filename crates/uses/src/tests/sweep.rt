@@ -1,65 +1,12 @@
 // Every reading call at every bit offset of two bytes and every length up to two words and some,
 // beside plain lists, with all bits outside the list set, and with all of them clear.
-use bytes::Bytes;
+use super::packed::{Generator, packed, some_values};
 use mask_bits::BitBuffer;
 use std::alloc::{AllocError, Global};
 use std::process::Abort;
 use std::test::Fail;
 
 const LONGEST: usize = 130;
-
-// A generator of 64-bit words with a fixed start.
-#[derive(Drop)]
-struct Generator(u64);
-
-impl Generator {
-    fn next(&mut self) -> u64 {
-        self.0 ^= self.0 << 13;
-        self.0 ^= self.0 >> 7;
-        self.0 ^= self.0 << 17;
-        self.0
-    }
-}
-
-fn some_values(alloc: Global, words: &mut Generator, len: usize) -> Result<Vec<bool>, AllocError> {
-    let mut values: Vec<bool> = Vec::new(alloc);
-    for _ in 0..len {
-        values.push(words.next() % 5 < 3)?;
-    }
-    Ok(values)
-}
-
-// The bit at a place where value 0 stands at bit `offset`, between bits that are all `outside`.
-fn bit(offset: usize, values: &[bool], outside: bool, place: usize) -> bool {
-    match place.checked_sub(offset) {
-        Some(i) => values.get(i).copied().unwrap_or(outside),
-        None => outside,
-    }
-}
-
-fn byte(offset: usize, values: &[bool], outside: bool, first: usize) -> u8 {
-    let mut byte = 0u8;
-    for i in 0..8usize {
-        if bit(offset, values, outside, first.saturating_add(i)) {
-            byte |= 1 << i;
-        }
-    }
-    byte
-}
-
-// The values from bit `offset` on, and more than a byte after them.
-fn packed(
-    alloc: Global,
-    offset: usize,
-    values: &[bool],
-    outside: bool,
-) -> Result<Vec<u8>, AllocError> {
-    let mut bytes: Vec<u8> = Vec::new(alloc);
-    for first in (0..offset.saturating_add(values.len()).saturating_add(9)).step_by(8) {
-        bytes.push(byte(offset, values, outside, first))?;
-    }
-    Ok(bytes)
-}
 
 fn same(rt: &impl Abort, got: usize, want: usize) {
     assert!(rt; got == want, "{got} for {want}");
@@ -229,7 +176,7 @@ fn reads(
     values: &[bool],
     outside: bool,
 ) -> Result<(), AllocError> {
-    let bytes = Bytes::from_vec(packed(alloc, offset, values, outside)?)?;
+    let bytes = packed(alloc, offset, values, outside)?;
     let len = values.len();
     assert!(rt; offset < 16 && len <= LONGEST && offset + len <= 8 * bytes.len().min(64));
     let buffer = BitBuffer::new_with_offset(bytes, offset, len);

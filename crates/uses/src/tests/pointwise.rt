@@ -3,8 +3,8 @@
 ghost use Rattle.std.specs.Prelude.{◌≡◌, length};
 ghost use Rattle.mask_bits.specs.Buffer.{values};
 
-use super::sweep::{Generator, packed};
-use crate::BitBuffer;
+use super::packed::{Generator, packed, some_values};
+use mask_bits::BitBuffer;
 use std::alloc::{AllocError, Global};
 use std::process::Abort;
 use std::test::Fail;
@@ -20,15 +20,6 @@ enum Op {
 }
 
 const OPS: [Op; 4] = [Op::And, Op::Or, Op::AndNot, Op::Not];
-
-// Values at random.
-fn some_values(alloc: Global, words: &mut Generator, len: usize) -> Result<Vec<bool>, AllocError> {
-    let mut values: Vec<bool> = Vec::new(alloc);
-    for _ in 0..len {
-        values.push(words.next() % 5 < 3)?;
-    }
-    Ok(values)
-}
 
 // What the operation makes of two plain lists.
 fn wanted(alloc: Global, op: Op, a: &[bool], b: &[bool]) -> Result<Vec<bool>, AllocError> {

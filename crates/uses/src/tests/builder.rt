@@ -1,6 +1,6 @@
 // The builder beside plain lists of bool, at pairs of bit offsets within a byte and around a word.
-use super::sweep::packed;
-use crate::{BitBuffer, BitBufferMut};
+use super::packed::packed;
+use mask_bits::{BitBuffer, BitBufferMut};
 use std::alloc::{AllocError, Global};
 use std::process::Abort;
 use std::test::Fail;

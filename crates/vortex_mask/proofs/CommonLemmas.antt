@@ -1,0 +1,75 @@
+-- The indices that two ascending lists have in common, found at their fronts.
+use Rattle.std.proofs.Common.{◌≡◌, ℕ, zero, suc, ◌+◌, ◌<◌, ◌≤◌, ◌||◌, Bool, true, false, nat_eq, List, [], ◌∷◌, length, get_or, drop, cond, refl, sym, ap, subst, ◌∙◌, ◌⊎◌, inl, inr, arith}
+use Rattle.std.specs.List.{All, filter, list_any}
+use Rattle.std.specs.List.Sorted.{IsStrictlyIncreasing}
+use Rattle.std.proofs.lemmas.Bool.{eq-eqb, ne_eqb}
+use Rattle.std.proofs.lemmas.List.{drop_more, length-drop, get_or-drop, drop_all, get_or_default}
+use Rattle.std.proofs.lemmas.List.Elements.{All-head, All-tail, All-cons, All-weaker}
+use Rattle.std.proofs.lemmas.List.Folds.{list_any_none}
+use Rattle.std.proofs.lemmas.List.Kept.{AllPairs-from_increasing}
+use Rattle.vortex_mask.specs.Faults.{common}
+
+-- the ones after place i are above the one at i
+above-after : (xs : List ℕ) (i : ℕ) → IsStrictlyIncreasing xs → All (λ z. get_or xs i 0 < z) (drop (i + 1) xs)
+above-after xs i ascending k d h =
+    let place : i + 1 + k < length xs = omega (arith, length-drop (i + 1) xs) in
+    let read : get_or (drop (i + 1) xs) k d ≡ get_or xs (i + 1 + k) 0 = get_or-drop (i + 1) xs k d ∙ get_or_default xs (i + 1 + k) d 0 place in
+    omega (arith, AllPairs-from_increasing xs ascending i (i + 1 + k) 0 (omega arith) place, read)
+
+-- from place i on all are above what the one at i is above
+above-from : (xs : List ℕ) (x i : ℕ) → IsStrictlyIncreasing xs → i < length xs → x < get_or xs i 0 → All (λ z. x < z) (drop i xs)
+above-from xs x i ascending h first =
+    subst (λ (ys : List ℕ). All (λ z. x < z) ys) (sym (drop_more xs i 0 h))
+    (All-cons (λ z. x < z) (get_or xs i 0) (drop (i + 1) xs) first
+    (All-weaker (λ z. get_or xs i 0 < z) (λ z. x < z) (λ z above. omega arith) (drop (i + 1) xs) (above-after xs i ascending)))
+
+common-none : (xs : List ℕ) → common xs [] ≡ []
+common-none [] = refl
+common-none (x ∷ xs) = common-none xs
+
+-- the one list's first is below all of the other
+common-left : (x : ℕ) (xs ys : List ℕ) → All (λ y. x < y) ys → common (x ∷ xs) ys ≡ common xs ys
+common-left x xs ys below = rw (list_any_none (nat_eq x) ys (λ k d h. ne_eqb x (get_or ys k d) (λ same. absurd (omega (arith, below k d h))))) refl
+
+-- the other's first is below all of the one
+common-right : (y : ℕ) (xs ys : List ℕ) → All (λ x. y < x) xs → common xs (y ∷ ys) ≡ common xs ys
+common-right y [] ys below = refl
+common-right y (x ∷ xs) ys below =
+    let apart : nat_eq x y ≡ false = ne_eqb x y (λ same. absurd (omega (arith, All-head (λ x. y < x) x xs below))) in
+    let rest = common-right y xs ys (All-tail (λ x. y < x) x xs below) in
+    ap (λ b. cond (b || list_any (nat_eq x) ys) (x ∷ common xs (y ∷ ys)) (common xs (y ∷ ys))) apart
+    ∙ ap (λ (zs : List ℕ). cond (list_any (nat_eq x) ys) (x ∷ zs) zs) rest
+
+-- both have the same first
+common-first : (x : ℕ) (xs ys : List ℕ) → All (λ z. x < z) xs → common (x ∷ xs) (x ∷ ys) ≡ x ∷ common xs ys
+common-first x xs ys below =
+    ap (λ b. cond (b || list_any (nat_eq x) ys) (x ∷ common xs (x ∷ ys)) (common xs (x ∷ ys))) (eq-eqb x x refl)
+    ∙ ap (λ (zs : List ℕ). x ∷ zs) (common-right x xs ys below)
+
+-- ---- what is left of two lists, from place i of the one and from place j of the other
+
+pub common-less : (xs ys : List ℕ) (i j : ℕ) → IsStrictlyIncreasing ys → i < length xs → j < length ys → get_or xs i 0 < get_or ys j 0
+    → common (drop i xs) (drop j ys) ≡ common (drop (i + 1) xs) (drop j ys)
+common-less xs ys i j ascending h k less =
+    ap (λ (zs : List ℕ). common zs (drop j ys)) (drop_more xs i 0 h)
+    ∙ common-left (get_or xs i 0) (drop (i + 1) xs) (drop j ys) (above-from ys (get_or xs i 0) j ascending k less)
+
+pub common-greater : (xs ys : List ℕ) (i j : ℕ) → IsStrictlyIncreasing xs → i < length xs → j < length ys → get_or ys j 0 < get_or xs i 0
+    → common (drop i xs) (drop j ys) ≡ common (drop i xs) (drop (j + 1) ys)
+common-greater xs ys i j ascending h k less =
+    ap (common (drop i xs)) (drop_more ys j 0 k)
+    ∙ common-right (get_or ys j 0) (drop i xs) (drop (j + 1) ys) (above-from xs (get_or ys j 0) i ascending h less)
+
+pub common-equal : (xs ys : List ℕ) (i j : ℕ) → IsStrictlyIncreasing xs → i < length xs → j < length ys → get_or xs i 0 ≡ get_or ys j 0
+    → common (drop i xs) (drop j ys) ≡ get_or xs i 0 ∷ common (drop (i + 1) xs) (drop (j + 1) ys)
+common-equal xs ys i j ascending h k same =
+    ap (λ (zs : List ℕ). common zs (drop j ys)) (drop_more xs i 0 h)
+    ∙ ap (common (get_or xs i 0 ∷ drop (i + 1) xs)) (drop_more ys j 0 k ∙ ap (λ y. y ∷ drop (j + 1) ys) (sym same))
+    ∙ common-first (get_or xs i 0) (drop (i + 1) xs) (drop (j + 1) ys) (above-after xs i ascending)
+
+-- one of them is at its end
+pub common-over : (xs ys : List ℕ) (i j : ℕ) → (length xs ≤ i) ⊎ (length ys ≤ j) → common (drop i xs) (drop j ys) ≡ []
+common-over xs ys i j over = elim over [
+  | inl h ↦ ap (λ (zs : List ℕ). common zs (drop j ys)) (drop_all i xs h)
+  | inr h ↦ ap (common (drop i xs)) (drop_all j ys h) ∙ common-none (drop i xs)
+]

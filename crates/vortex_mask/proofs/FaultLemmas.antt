@@ -1,0 +1,130 @@
+-- The faults of a list of indices: how a loop finds them, and what holds where there is none.
+use Rattle.std.proofs.Common.{◌≡◌, ℕ, zero, suc, ◌+◌, ◌<◌, ◌≤◌, Bool, true, false, nat_eq, nat_lt, nat_le, List, [], ◌∷◌, ◌++◌, length, get_or, drop, Option, Some, None, cond, refl, sym, ap, subst, ◌∙◌, arith}
+use Rattle.std.specs.List.{All}
+use Rattle.std.specs.Option.{option_map, option_or}
+use Rattle.std.proofs.lemmas.List.Folds.{find-append}
+use Rattle.std.specs.List.Sorted.{IsStrictlyIncreasing}
+use Rattle.std.proofs.lemmas.Bool.Decides.{nat_tests}
+use Rattle.std.proofs.lemmas.List.{drop_more, length-drop}
+use Rattle.std.proofs.lemmas.List.Elements.{All-nil, All-cons}
+use Rattle.vortex_mask.specs.Faults.{or_else, first_pair_from, first_unsorted, first_repeated, first_past, index_fault, out_of_bounds}
+use Rattle.vortex_mask.specs.declared.mask.error.MaskError.TheVariants.{UnsortedIndices, RepeatedIndex, IndexOutOfBounds}
+
+-- ---- pairs of neighbours
+
+-- a pair that does not stand so is passed
+first_pair-step : (test : ℕ → ℕ → Bool) (n x y : ℕ) (xs : List ℕ) → test x y ≡ false → first_pair_from test n (x ∷ y ∷ xs) ≡ first_pair_from test (n + 1) (y ∷ xs)
+first_pair-step test n x y xs e = rw e refl
+
+first_pair-here : (test : ℕ → ℕ → Bool) (n x y : ℕ) (xs : List ℕ) → test x y ≡ true → first_pair_from test n (x ∷ y ∷ xs) ≡ Some (n + 1)
+first_pair-here test n x y xs e = rw e refl
+
+-- the pair at k and k + 1 at the front of what is left
+drop_pair : (xs : List ℕ) (k : ℕ) (d e : ℕ) → k + 1 < length xs → drop k xs ≡ get_or xs k d ∷ get_or xs (k + 1) e ∷ drop (k + 1 + 1) xs
+drop_pair xs k d e h =
+    drop_more xs k d (omega arith) ∙ ap (λ (ys : List ℕ). get_or xs k d ∷ ys) (drop_more xs (k + 1) e h)
+
+pub first_pair-passed : (test : ℕ → ℕ → Bool) (xs : List ℕ) (k d e : ℕ) → k + 1 < length xs → test (get_or xs k d) (get_or xs (k + 1) e) ≡ false
+    → first_pair_from test k (drop k xs) ≡ first_pair_from test (k + 1) (drop (k + 1) xs)
+first_pair-passed test xs k d e h not_so =
+    ap (first_pair_from test k) (drop_pair xs k d e h)
+    ∙ first_pair-step test k (get_or xs k d) (get_or xs (k + 1) e) (drop (k + 1 + 1) xs) not_so
+    ∙ ap (first_pair_from test (k + 1)) (sym (drop_more xs (k + 1) e h))
+
+pub first_pair-found : (test : ℕ → ℕ → Bool) (xs : List ℕ) (k d e : ℕ) → k + 1 < length xs → test (get_or xs k d) (get_or xs (k + 1) e) ≡ true
+    → first_pair_from test k (drop k xs) ≡ Some (k + 1)
+first_pair-found test xs k d e h so =
+    ap (first_pair_from test k) (drop_pair xs k d e h) ∙ first_pair-here test k (get_or xs k d) (get_or xs (k + 1) e) (drop (k + 1 + 1) xs) so
+
+-- fewer than two indices are no pair
+first_pair-few : (test : ℕ → ℕ → Bool) (n : ℕ) (xs : List ℕ) → length xs ≤ 1 → first_pair_from test n xs ≡ None
+first_pair-few test n [] h = refl
+first_pair-few test n (x ∷ []) h = refl
+first_pair-few test n (x ∷ y ∷ xs) h = absurd (omega arith)
+
+pub first_pair-end : (test : ℕ → ℕ → Bool) (xs : List ℕ) (k : ℕ) → length xs ≤ k + 1 → first_pair_from test k (drop k xs) ≡ None
+first_pair-end test xs k h = first_pair-few test k (drop k xs) (omega (arith, length-drop k xs))
+
+-- ---- no fault
+
+if_none : (b : Bool) (n : ℕ) (o : Option ℕ) → cond b (Some n) o ≡ None → (b ≡ false) × (o ≡ None)
+if_none true n o e = absurd (cc)
+if_none false n o e = (refl, e)
+
+-- no index below or equal to the one before it
+pub ascending-faultless : (n : ℕ) (xs : List ℕ) → first_pair_from (λ x y. nat_lt y x) n xs ≡ None → first_pair_from (λ x y. nat_eq y x) n xs ≡ None → IsStrictlyIncreasing xs
+ascending-faultless n [] sorted unlike k h = absurd (omega arith)
+ascending-faultless n (x ∷ []) sorted unlike k h = absurd (omega arith)
+ascending-faultless n (x ∷ y ∷ xs) sorted unlike zero h =
+    let a = if_none (nat_lt y x) (n + 1) (first_pair_from (λ x y. nat_lt y x) (n + 1) (y ∷ xs)) sorted in
+    let b = if_none (nat_eq y x) (n + 1) (first_pair_from (λ x y. nat_eq y x) (n + 1) (y ∷ xs)) unlike in
+    above x y a.0 b.0
+  where
+    above : (x y : ℕ) → nat_lt y x ≡ false → nat_eq y x ≡ false → x < y
+    above x y a b = grind (arith, nat_tests)
+ascending-faultless n (x ∷ y ∷ xs) sorted unlike (suc k) h =
+    let a = if_none (nat_lt y x) (n + 1) (first_pair_from (λ x y. nat_lt y x) (n + 1) (y ∷ xs)) sorted in
+    let b = if_none (nat_eq y x) (n + 1) (first_pair_from (λ x y. nat_eq y x) (n + 1) (y ∷ xs)) unlike in
+    let next : suc (k + 1) ≡ suc k + 1 = omega arith in
+    subst (λ (j : ℕ). get_or (y ∷ xs) k 0 < get_or (x ∷ y ∷ xs) j 0) next (ascending-faultless (n + 1) (y ∷ xs) a.1 b.1 k (omega arith))
+
+within-step : (len x : ℕ) (xs : List ℕ) (b : Bool) → nat_le len x ≡ b → (first_past len xs ≡ None → All (λ i. i < len) xs) → first_past len (x ∷ xs) ≡ None → All (λ i. i < len) (x ∷ xs)
+within-step len x xs true e rest none = absurd (let found : first_past len (x ∷ xs) ≡ Some x = rw e refl in cc)
+within-step len x xs false e rest none =
+    let same : first_past len (x ∷ xs) ≡ first_past len xs = rw e refl in
+    All-cons (λ i. i < len) x xs (below len x e) (rest (sym same ∙ none))
+  where
+    below : (n x : ℕ) → nat_le n x ≡ false → x < n
+    below n x e = grind (arith, nat_tests)
+
+within-first_past : (len : ℕ) (xs : List ℕ) → first_past len xs ≡ None → All (λ i. i < len) xs
+within-first_past len [] none = All-nil (λ i. i < len)
+within-first_past len (x ∷ xs) none = within-step len x xs (nat_le len x) refl (within-first_past len xs) none
+
+none_mapped : {X Y : Type 0} (f : X → Y) (o : Option X) → option_map f o ≡ None → o ≡ None
+none_mapped f None e = refl
+none_mapped f (Some x) e = absurd (cc)
+
+-- no index past the length
+pub within-faultless : (len : ℕ) (xs : List ℕ) → out_of_bounds len xs ≡ None → All (λ i. i < len) xs
+within-faultless len xs none = within-first_past len xs (none_mapped (λ x. IndexOutOfBounds x len) (first_past len xs) none)
+
+or_else-none : {X : Type 0} (a b : Option X) → or_else a b ≡ None → (a ≡ None) × (b ≡ None)
+or_else-none (Some x) b e = absurd (cc)
+or_else-none None b e = (refl, e)
+
+-- what the order of the faults leaves where there is none
+pub index_fault-none : (len : ℕ) (xs : List ℕ) → index_fault len xs ≡ None → IsStrictlyIncreasing xs × All (λ i. i < len) xs
+index_fault-none len xs none =
+    let unsorted = option_map (λ at. UnsortedIndices at) (first_unsorted xs) in
+    let repeated = option_map (λ at. RepeatedIndex at) (first_repeated xs) in
+    let a = or_else-none unsorted (or_else repeated (out_of_bounds len xs)) none in
+    let b = or_else-none repeated (out_of_bounds len xs) a.1 in (
+      ascending-faultless 0 xs (none_mapped (λ at. UnsortedIndices at) (first_unsorted xs) a.0) (none_mapped (λ at. RepeatedIndex at) (first_repeated xs) b.0),
+      within-faultless len xs b.1,
+    )
+
+-- ---- one more index
+
+-- the first past the length, where one more came
+pub first_past-within : (len x : ℕ) (xs : List ℕ) → x < len → first_past len xs ≡ first_past len (xs ++ x ∷ [])
+first_past-within len x xs h =
+    sym (find-append (λ y. nat_le len y) xs (x ∷ []) ∙ ap (λ b. option_or (first_past len xs) (cond b (Some x) None)) (not_past len x h) ∙ or_none (first_past len xs))
+  where
+    not_past : (n x : ℕ) → x < n → nat_le n x ≡ false
+    not_past n x h = grind (arith, nat_tests)
+
+    or_none : (o : Option ℕ) → option_or o None ≡ o
+    or_none None = refl
+    or_none (Some y) = refl
+
+pub first_past-more : (len x : ℕ) (xs : List ℕ) → len ≤ x → option_or (first_past len xs) (Some x) ≡ first_past len (xs ++ x ∷ [])
+first_past-more len x xs h =
+    sym (find-append (λ y. nat_le len y) xs (x ∷ []) ∙ ap (λ b. option_or (first_past len xs) (cond b (Some x) None)) (past len x h))
+  where
+    past : (n x : ℕ) → n ≤ x → nat_le n x ≡ true
+    past n x h = grind (arith, nat_tests)
+
+-- the fault that the first past the length is
+pub out_of_bounds-first : (len n : ℕ) (xs : List ℕ) (o : Option ℕ) → n ≡ len → o ≡ first_past n xs → out_of_bounds len xs ≡ option_map (λ x. IndexOutOfBounds x len) o
+out_of_bounds-first len n xs o same is = ap (option_map (λ x. IndexOutOfBounds x len)) (ap (λ k. first_past k xs) (sym same) ∙ sym is)
