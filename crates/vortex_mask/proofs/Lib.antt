@@ -2,6 +2,7 @@
 pub mod ByteCountLemmas
 pub mod ByteLemmas
 pub mod CommonLemmas
+pub mod ConcatLemmas
 pub mod DepositLemmas
 pub mod DepositListLemmas
 mod Examples
@@ -10,6 +11,7 @@ pub mod FaultLemmas
 pub mod HoleLemmas
 pub mod MaskLemmas
 pub mod NetworkLemmas
+pub mod RangeLemmas
 pub mod ResultLemmas
 pub mod RunLemmas
 pub mod SetPlaceLemmas

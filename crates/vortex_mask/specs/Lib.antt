@@ -1,10 +1,12 @@
 pub mod AllOr
 pub mod Bytes
+pub mod Concat
 pub mod Deposit
 pub mod Faults
 pub mod Laws
 pub mod Mask
 pub mod MaskValues
+pub mod Ranges
 pub mod Steps
 pub use Rattle.mask_bits.specs.Buffer
 pub use Rattle.mask_bits.specs.Positions

@@ -3,20 +3,23 @@
 ghost use Rattle.std.specs.Prelude.{◌≡◌, ◌≢◌, ◌+◌, ◌<◌, ◌↔◌, [], true, false, if◌then◌else◌, IsTrue, IsOk, IfOk, Some, length, All, slice_get, IsOkUnless, alloc_error, IfErr};
 ghost use Rattle.std.specs.Iterator.{UpTo, Drains};
 ghost use Rattle.std.specs.Iterator.Runs.{WholeRun};
-ghost use Rattle.std.specs.Option.{option_copied};
+ghost use Rattle.std.specs.Option.{option_copied, option_map};
 ghost use Rattle.vortex_mask.specs.AllOr.{all_or_copied, IsListOf};
 ghost use Rattle.mask_bits.specs.Buffer.{values};
-ghost use Rattle.vortex_mask.specs.Mask.{truth, variant, fitting_variant, all_true, all_false, mixed, IsUniform, contents, held_buffer, caches};
-ghost use Rattle.vortex_mask.specs.MaskValues.{no_caches};
+ghost use Rattle.vortex_mask.specs.Mask.{truth, variant, fitting_variant, all_true, all_false, mixed, IsUniform, contents, held_buffer, caches, where_mixed};
+ghost use Rattle.vortex_mask.specs.MaskValues.{no_caches, AreOf};
 ghost use Rattle.mask_bits.specs.Positions.{positions, count};
 ghost use Rattle.vortex_mask.specs.declared.mask.Mask.TheVariants.{AllTrue};
 
 mod all_or;
+mod concat;
 mod error;
 mod from_excluded;
 mod from_indices;
 mod from_intersection;
+mod from_slices;
 mod index_fault;
+mod to_buffer;
 mod values;
 
 pub use all_or::AllOr;
@@ -83,6 +86,23 @@ impl Mask {
         ensures uniform { IsUniform (values buffer) → IsOk result }
         ensures refused { IsOkUnless result (MaskError.Memory alloc_error) }
     {
+        Mask::of_buffer(alloc, buffer, None)
+    }
+
+    // The values of a buffer, which keep these ranges of its true places where they are mixed.
+    fn of_buffer(
+        alloc: Global,
+        buffer: BitBuffer,
+        ranges: Option<Vec<(usize, usize)>>,
+    ) -> Result<Mask, MaskError>
+        requires { AreOf (values buffer) (record { indices = None; ranges = option_map (λ l. l.items) ranges }) }
+        ensures list { IfOk result (λ m. truth m ≡ values buffer) }
+        ensures variant { IfOk result (λ m. variant m ≡ fitting_variant all_false (values buffer)) }
+        ensures caches { IfOk result (λ m. caches m
+            ≡ where_mixed m (record { indices = None; ranges = option_map (λ l. l.items) ranges })) }
+        ensures uniform { IsUniform (values buffer) → IsOk result }
+        ensures refused { IsOkUnless result (MaskError.Memory alloc_error) }
+    {
         let len = buffer.len();
         let true_count = buffer.true_count();
         if true_count == 0 {
@@ -91,7 +111,8 @@ impl Mask {
         if true_count == len {
             return Ok(Mask::AllTrue(len));
         }
-        Ok(Mask::Values(Rc::new(alloc, MaskValues::new(buffer, true_count, None, None))?))
+        let values = MaskValues::new(buffer, true_count, None, ranges);
+        Ok(Mask::Values(Rc::new(alloc, values)?))
     }
 
     /// The values that an iterator yields, in their order. No values give `AllFalse(0)`.

@@ -1,6 +1,9 @@
 // How a test is written stands at the head of the tests of `mask_bits`.
 ghost use Rattle.std.specs.Prelude.{◌≡◌};
 
+mod concat;
+mod ranges;
+
 use crate::mask::{AllOr, Mask, MaskError, MaskValues};
 use bytes::Bytes;
 use mask_bits::BitBuffer;
@@ -202,10 +205,47 @@ fn what_the_values_of_a_mask_hold(rt: HostRuntime) -> Result<(), Fail> {
     Ok(())
 }
 
+fn reads(rt: &impl Abort, alloc: Global, error: &MaskError, want: &str) -> Result<(), AllocError> {
+    let text = format!(in alloc; "{error}")?;
+    assert!(rt; text.as_str() == want, "{text} for {want}");
+    Ok(())
+}
+
 #[test]
 fn texts_of_faults(rt: HostRuntime) -> Result<(), Fail> {
-    let text = format!(in rt.alloc(); "{}", MaskError::Memory(AllocError))?;
-    assert!(rt; text.as_str() == "out of memory");
+    for (error, want) in [
+        (MaskError::Memory(AllocError), "out of memory"),
+        (
+            MaskError::UnsortedIndices { at: 1 },
+            "index at place 1 is below the one before it",
+        ),
+        (
+            MaskError::RepeatedIndex { at: 2 },
+            "index at place 2 repeats the one before it",
+        ),
+        (
+            MaskError::IndexOutOfBounds { index: 5, len: 3 },
+            "index 5 is not below the length 3",
+        ),
+        (
+            MaskError::BadRange { at: 4 },
+            "range at place 4 is empty or passes the length",
+        ),
+        (
+            MaskError::UnsortedRanges { at: 6 },
+            "range at place 6 does not start after the one before it",
+        ),
+        (
+            MaskError::OverlappingRanges { at: 7 },
+            "range at place 7 overlaps the one before it",
+        ),
+        (
+            MaskError::LengthOverflow,
+            "the sum of the lengths does not fit",
+        ),
+    ] {
+        reads(&rt, rt.alloc(), &error, want)?;
+    }
     Ok(())
 }
 

@@ -21,16 +21,16 @@ part_of_one m v s e within same =
     (λ i h. get_or-between m s e i false (omega (arith, len)) ∙ same (s + i) (omega arith) (omega (arith, len)) ∙ sym (get_or-replicate (e - s) i v false (omega (arith, len))))
 
 -- nonempty ranges from low to high, each after the one before it
-abbrev Ordered : ℕ → ℕ → List (ℕ × ℕ) → Type 0
+abbrev pub Ordered : ℕ → ℕ → List (ℕ × ℕ) → Type 0
 Ordered low high [] = low ≤ high
 Ordered low high (r ∷ rs) = (low ≤ r.0) × (r.0 < r.1) × Ordered r.1 high rs
 
-Ordered-top : (low high : ℕ) (rs : List (ℕ × ℕ)) → Ordered low high rs → low ≤ high
+pub Ordered-top : (low high : ℕ) (rs : List (ℕ × ℕ)) → Ordered low high rs → low ≤ high
 Ordered-top low high [] o = o
 Ordered-top low high (r ∷ rs) o = omega (arith, Ordered-top r.1 high rs o.2)
 
 -- no place below the lower bound is inside
-none_below : (low high i : ℕ) (rs : List (ℕ × ℕ)) → Ordered low high rs → i < low → list_any (is_inside i) rs ≡ false
+pub none_below : (low high i : ℕ) (rs : List (ℕ × ℕ)) → Ordered low high rs → i < low → list_any (is_inside i) rs ≡ false
 none_below low high i [] o h = refl
 none_below low high i (r ∷ rs) o h =
     ap (λ b. b || list_any (is_inside i) rs) (inside-before i r (omega arith)) ∙ none_below r.1 high i rs o.2 (omega arith)

@@ -3,9 +3,9 @@ use Rattle.mask_bits.specs.Buffer.{values}
 use Rattle.vortex_mask.specs.Mask.{all_false}
 use Rattle.mask_bits.specs.Positions.{repeated}
 use Rattle.mask_bits.proofs.Lists.CountLemmas.{all_true_from_count, all_false_from_count}
-use Rattle.vortex_mask.proofs.MaskLemmas.{AreOf-no_caches, fitting_variant-all, fitting_variant-all_false, fitting_variant-some}
+use Rattle.vortex_mask.proofs.MaskLemmas.{fitting_variant-all, fitting_variant-all_false, fitting_variant-some}
 use Rattle.mask_bits.proofs.Lists.PlaceLemmas.{length-places_from}
-use Rattle.vortex_mask.proofs.mask.Mask.from_buffer.Goals as goal
+use Rattle.vortex_mask.proofs.mask.Mask.of_buffer.Goals as goal
 
 pub returns-then-true_count-eq0-clause-list : goal.returns-then-true_count-eq0-clause-list
 unfolding repeated
@@ -27,8 +27,8 @@ returns-then-true_count-len-clause-variant c =
     let some : c.true_count-true_count.result ≢ 0 = c.if-true_count-eq0.false in
     sym (fitting_variant-all all_false (values c.args.buffer) (omega arith) (omega arith))
 
-pub new-requires : goal.new-requires
-new-requires c =
+pub new-values-requires : goal.new-values-requires
+new-values-requires c =
     let some : c.true_count-true_count.result ≢ 0 = c.if-true_count-eq0.false in
     let not_all : c.true_count-true_count.result ≢ c.len-len.result = c.if-true_count-len.false in
     record {
@@ -37,7 +37,7 @@ new-requires c =
         some_true = omega arith;
         some_false = omega (arith, length-places_from 0 (values c.args.buffer));
       };
-      caches = AreOf-no_caches (values c.args.buffer);
+      caches = c.requires;
     }
 
 pub returns-clause-variant : goal.returns-clause-variant

@@ -1,0 +1,12 @@
+use Rattle.std.proofs.Common.{ℕ, ◌≡◌, Bool, not, ◌&&◌, nat_lt, nat_le, rules, tests}
+use Rattle.std.specs.List.{position}
+use Rattle.std.proofs.lemmas.Iterator.{YieldsList-from_slice}
+use Rattle.std.proofs.lemmas.Iterator.Search.{position_from_yields_List}
+use Rattle.vortex_mask.proofs.mask.from_slices.bad_range.Goals as goal
+
+pub returns : goal.returns
+returns c =
+    let bad : ℕ × ℕ → Bool = λ r. not (nat_lt r.0 r.1 && nat_le r.1 c.args.len) in
+    let at : c.position.result ≡ position bad c.args.ranges.now
+    = position_from_yields_List bad _ _ _ c.position.ensures.ran (YieldsList-from_slice c.args.ranges.now cc) (λ x b q k. search (rules, tests)) in
+    rw (← at) (search rules)

@@ -1,0 +1,24 @@
+-- The lists of masks that are put one after another.
+use Rattle.std.specs.Prelude.{ℕ, ◌≡◌, ◌<◌, ◌^◌, Bool, List, length, map, All}
+use Rattle.std.specs.Borrow.{Bor}
+use Rattle.std.specs.List.{sum_by}
+use Rattle.mask_bits.specs.Lists.{joined}
+use Rattle.vortex_mask.specs.declared.mask.Mask.{Mask}
+use Rattle.vortex_mask.specs.Mask.{truth}
+
+-- the list of each mask
+abbrev pub lists_of : List (Bor Mask) → List (List Bool)
+lists_of masks = map (λ mask. truth mask.now) masks
+
+-- the sum of the lengths
+abbrev pub total_len : List (List Bool) → ℕ
+total_len lists = sum_by length lists
+
+-- a mask is the lists one after another, whose lengths add up to one that fits
+pub record Joins (lists : List (List Bool)) (mask : Mask) : Type 0 where
+  pub list : truth mask ≡ joined lists
+  pub fits : total_len lists < 2 ^ 64
+
+-- each value of each mask is v
+abbrev pub AreAll : Bool → List (Bor Mask) → Type 0
+AreAll v masks = All (λ mask. All (λ b. b ≡ v) (truth mask.now)) masks

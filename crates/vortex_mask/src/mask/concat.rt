@@ -1,0 +1,138 @@
+ghost use Rattle.std.specs.Prelude.{◌≡◌, ◌≢◌, ◌+◌, ◌<◌, ◌≤◌, ◌^◌, ◌⊎◌, ◌++◌, [], IsOk, IfOk, IfErr, OnOk, OnErr, All, Some, None, MatchOption, true, false, ◌↔◌, IsTrue, Bool, List, map, alloc_error, length};
+ghost use Rattle.std.specs.Borrow.{Bor};
+ghost use Rattle.std.specs.Iterator.{IsFinite, Drains};
+ghost use Rattle.std.specs.Iterator.Runs.{WholeRun};
+ghost use Rattle.mask_bits.specs.Buffer.{values};
+ghost use Rattle.mask_bits.specs.Lists.{joined};
+ghost use Rattle.vortex_mask.specs.Concat.{lists_of, total_len, Joins, AreAll};
+ghost use Rattle.vortex_mask.specs.Mask.{truth, variant, fitting_variant, all_true, caches};
+ghost use Rattle.vortex_mask.specs.MaskValues.{no_caches};
+ghost use Rattle.vortex_mask.specs.declared.mask.Mask.{Mask as mask};
+
+use crate::mask::{Mask, MaskError};
+use mask_bits::{BitBuffer, BitBufferMut};
+use std::alloc::{AllocError, Global};
+
+impl Mask {
+    /// The values of the masks that an iterator yields, one mask after another. No values give
+    /// `AllTrue(0)`.
+    ///
+    /// The masks are listed first, so `Memory` may come before `LengthOverflow`, which is told
+    /// where the sum of all lengths is above `usize::MAX`.
+    pub fn concat<'a, I: Iterator<Item = &'a Mask>>(
+        alloc: Global,
+        masks: I,
+    ) -> Result<Mask, MaskError>
+        requires can { I.can_next masks }
+        requires ends { IsFinite (I.remaining masks) }
+        ensures list { IfOk result (λ m. (ms : List (Bor mask)) × Drains I.next_gives masks ms
+            × Joins (lists_of ms) m) }
+        ensures runs { IfOk result (λ m. WholeRun I.next_gives masks (λ p. Joins (lists_of p.items) m)) }
+        ensures variant { IfOk result (λ m. variant m ≡ fitting_variant all_true (truth m)) }
+        ensures caches { IfOk result (λ m. caches m ≡ no_caches) }
+
+        // A refusal is that the sum of all lengths does not fit, or want of memory.
+        ensures refused { IfErr result (λ e. (e ≡ MaskError.Memory alloc_error)
+            ⊎ ((ms : List (Bor mask)) × Drains I.next_gives masks ms
+            × (e ≡ MaskError.LengthOverflow) × (2 ^ 64 ≤ total_len (lists_of ms)))) }
+        ensures refused_runs { IfErr result (λ e. (e ≡ MaskError.Memory alloc_error)
+            ⊎ WholeRun I.next_gives masks
+            (λ p. (e ≡ MaskError.LengthOverflow) × (2 ^ 64 ≤ total_len (lists_of p.items)))) }
+    {
+        let masks: Vec<&Mask> = masks.collect(alloc)?;
+        Mask::joined(alloc, &masks)
+    }
+
+    /// The values of the masks that an iterator yields, one mask after another, as by `concat`. The
+    /// masks are given up.
+    pub fn from_masks<I: Iterator<Item = Mask>>(alloc: Global, masks: I) -> Result<Mask, MaskError>
+        requires can { I.can_next masks }
+        requires ends { IsFinite (I.remaining masks) }
+        ensures list { IfOk result (λ m. (ms : List mask) × Drains I.next_gives masks ms
+            × Joins (map truth ms) m) }
+        ensures runs { IfOk result (λ m. WholeRun I.next_gives masks (λ p. Joins (map truth p.items) m)) }
+        ensures variant { IfOk result (λ m. variant m ≡ fitting_variant all_true (truth m)) }
+        ensures caches { IfOk result (λ m. caches m ≡ no_caches) }
+
+        // A refusal is that the sum of all lengths does not fit, or want of memory.
+        ensures refused { IfErr result (λ e. (e ≡ MaskError.Memory alloc_error)
+            ⊎ ((ms : List mask) × Drains I.next_gives masks ms
+            × (e ≡ MaskError.LengthOverflow) × (2 ^ 64 ≤ total_len (map truth ms)))) }
+        ensures refused_runs { IfErr result (λ e. (e ≡ MaskError.Memory alloc_error)
+            ⊎ WholeRun I.next_gives masks
+            (λ p. (e ≡ MaskError.LengthOverflow) × (2 ^ 64 ≤ total_len (map truth p.items)))) }
+    {
+        let masks: Vec<Mask> = masks.collect(alloc)?;
+        Mask::concat(alloc, masks.iter())
+    }
+
+    // The masks' values one after another.
+    fn joined(alloc: Global, masks: &[&Mask]) -> Result<Mask, MaskError>
+        ensures list { IfOk result (Joins (lists_of masks.now)) }
+        ensures variant { IfOk result (λ m. variant m ≡ fitting_variant all_true (truth m)) }
+        ensures caches { IfOk result (λ m. caches m ≡ no_caches) }
+        ensures refused { IfErr result (λ e. (e ≡ MaskError.Memory alloc_error)
+            ⊎ ((e ≡ MaskError.LengthOverflow) × (2 ^ 64 ≤ total_len (lists_of masks.now)))) }
+    {
+        let Some(len) = total_len(masks) else {
+            return Err(MaskError::LengthOverflow);
+        };
+        if all_true(masks) {
+            return Ok(Mask::AllTrue(len));
+        }
+        if all_false(masks) {
+            return Ok(Mask::AllFalse(len));
+        }
+        let buffer = buffer_of(alloc, len, masks)?;
+        Mask::from_buffer(alloc, buffer)
+    }
+}
+
+// Whether each value of each mask is true.
+fn all_true(masks: &[&Mask]) -> bool
+    ensures { IsTrue result ↔ AreAll true masks.now }
+{
+    masks.iter().all(|mask| mask.all_true())
+}
+
+// Whether each value of each mask is false.
+fn all_false(masks: &[&Mask]) -> bool
+    ensures { IsTrue result ↔ AreAll false masks.now }
+{
+    masks.iter().all(|mask| mask.all_false())
+}
+
+// The sum of the masks' lengths, if it fits.
+fn total_len(masks: &[&Mask]) -> Option<usize>
+    ensures { MatchOption result (2 ^ 64 ≤ total_len (lists_of masks.now))
+        (λ total. total ≡ total_len (lists_of masks.now)) }
+{
+    let mut total: usize = 0;
+    for mask in masks {
+        total = total.checked_add(mask.len())?;
+    }
+    Some(total)
+}
+
+// The masks' values one after another, of which there are `len`.
+fn buffer_of(alloc: Global, len: usize, masks: &[&Mask]) -> Result<BitBuffer, AllocError>
+    requires { total_len (lists_of masks.now) ≡ len }
+    ensures { IfOk result (λ b. values b ≡ joined (lists_of masks.now)) }
+{
+    let mut buffer = BitBufferMut::with_capacity(alloc, len)?;
+    for mask in masks {
+        append(&mut buffer, mask)?;
+    }
+    buffer.freeze()
+}
+
+fn append(buffer: &mut BitBufferMut, mask: &Mask) -> Result<(), AllocError>
+    requires { length buffer.old + length (truth mask.now) < 2 ^ 64 }
+    ensures { OnOk result (buffer.new ≡ buffer.old ++ truth mask.now) }
+{
+    match mask {
+        Mask::AllTrue(len) => buffer.append_n(true, *len),
+        Mask::AllFalse(len) => buffer.append_n(false, *len),
+        Mask::Values(values) => buffer.append_buffer(values.bit_buffer()),
+    }
+}

@@ -1,0 +1,143 @@
+ghost use Rattle.std.specs.Prelude.{◌≡◌, ◌<◌, ◌≤◌, ◌^◌, ◌⊎◌, IsOk, IfOk, IfErr, OnOk, IfSome, All, Some, None, Ok, Err, alloc_error, length};
+ghost use Rattle.mask_bits.specs.Buffer.{values};
+ghost use Rattle.mask_bits.specs.Runs.{AreRanges};
+ghost use Rattle.vortex_mask.specs.Faults as faults;
+ghost use Rattle.vortex_mask.specs.Faults.{range_fault};
+ghost use Rattle.vortex_mask.specs.Mask.{truth, variant, fitting_variant, all_false, caches, where_mixed, IsUniform};
+ghost use Rattle.vortex_mask.specs.MaskValues.{kept_ranges};
+ghost use Rattle.vortex_mask.specs.Ranges.{places_held};
+
+use crate::mask::{Mask, MaskError};
+use mask_bits::{BitBuffer, BitBufferMut};
+use std::alloc::{AllocError, Global};
+
+impl Mask {
+    /// The mask of `len` values that is true exactly in these ranges, which it keeps where some
+    /// values are true and some are not. Ranges may touch. No values give `AllFalse(0)`.
+    ///
+    /// All ranges are tested before any memory is taken: `BadRange` is told of the first that is
+    /// empty or passes the length, else `UnsortedRanges` or `OverlappingRanges` of the first that
+    /// does not start after the start of the one before it, or starts below its end.
+    pub fn from_slices(
+        alloc: Global,
+        len: usize,
+        ranges: Vec<(usize, usize)>,
+    ) -> Result<Mask, MaskError>
+        ensures len { IfOk result (λ m. length (truth m) ≡ len) }
+        ensures list { IfOk result (λ m. AreRanges (truth m) ranges.items) }
+        ensures variant { IfOk result (λ m. variant m ≡ fitting_variant all_false (truth m)) }
+        ensures caches { IfOk result
+            (λ m. caches m ≡ where_mixed m (kept_ranges ranges.items)) }
+
+        // A fault is told before any memory is taken, and nothing else but want of memory is.
+        ensures faultless { OnOk result (range_fault len ranges.items ≡ None) }
+        ensures fault { IfSome (range_fault len ranges.items) (λ e. result ≡ Err e) }
+        ensures refused { IfErr result (λ e. (e ≡ MaskError.Memory alloc_error)
+            ⊎ (range_fault len ranges.items ≡ Some e)) }
+
+        // Values that are all false or all true need no memory.
+        ensures uniform { range_fault len ranges.items ≡ None
+            → (places_held ranges.items ≡ 0) ⊎ (places_held ranges.items ≡ len) → IsOk result }
+    {
+        if let Some(fault) = fault_of(len, &ranges) {
+            return Err(fault);
+        }
+        Mask::of_ranges(alloc, len, ranges)
+    }
+
+    /// The values of a buffer, which keep these ranges where some values are true and some are
+    /// not. The ranges may touch. An empty buffer gives `AllFalse(0)`.
+    pub fn from_buffer_with_slices(
+        alloc: Global,
+        buffer: BitBuffer,
+        ranges: Vec<(usize, usize)>,
+    ) -> Result<Mask, MaskError>
+        requires { AreRanges (values buffer) ranges.items }
+        ensures list { IfOk result (λ m. truth m ≡ values buffer) }
+        ensures variant { IfOk result (λ m. variant m ≡ fitting_variant all_false (values buffer)) }
+        ensures caches { IfOk result
+            (λ m. caches m ≡ where_mixed m (kept_ranges ranges.items)) }
+        ensures uniform { IsUniform (values buffer) → IsOk result }
+        ensures refused { IfErr result (λ e. e ≡ MaskError.Memory alloc_error) }
+    {
+        Mask::of_buffer(alloc, buffer, Some(ranges))
+    }
+
+    // The mask of ranges in which no fault was found.
+    fn of_ranges(alloc: Global, len: usize, ranges: Vec<(usize, usize)>) -> Result<Mask, MaskError>
+        requires { range_fault len ranges.items ≡ None }
+        ensures len { IfOk result (λ m. length (truth m) ≡ len) }
+        ensures list { IfOk result (λ m. AreRanges (truth m) ranges.items) }
+        ensures variant { IfOk result (λ m. variant m ≡ fitting_variant all_false (truth m)) }
+        ensures caches { IfOk result
+            (λ m. caches m ≡ where_mixed m (kept_ranges ranges.items)) }
+        ensures uniform { (places_held ranges.items ≡ 0) ⊎ (places_held ranges.items ≡ len)
+            → IsOk result }
+        ensures refused { IfErr result (λ e. e ≡ MaskError.Memory alloc_error) }
+    {
+        let true_count = places_held(&ranges);
+        if true_count == 0 {
+            return Ok(Mask::AllFalse(len));
+        }
+        if true_count == len {
+            return Ok(Mask::AllTrue(len));
+        }
+        let buffer = buffer_of(alloc, len, &ranges)?;
+        Mask::from_buffer_with_slices(alloc, buffer, ranges)
+    }
+}
+
+// What is wrong with ranges that are to make a mask of `len` values.
+fn fault_of(len: usize, ranges: &[(usize, usize)]) -> Option<MaskError>
+    ensures { result ≡ range_fault len ranges.now }
+{
+    bad_range(len, ranges).or_else(|| neighbours_fault(ranges))
+}
+
+fn bad_range(len: usize, ranges: &[(usize, usize)]) -> Option<MaskError>
+    ensures { result ≡ faults.bad_range len ranges.now }
+{
+    ranges
+        .iter()
+        .position(|(start, end)| !(start < end && *end <= len))
+        .map(|at| MaskError::BadRange { at })
+}
+
+fn neighbours_fault(ranges: &[(usize, usize)]) -> Option<MaskError>
+    ensures { result ≡ faults.neighbours_fault_from 0 ranges.now }
+{
+    for at in 1..ranges.len() {
+        let (before, range) = (ranges[at - 1], ranges[at]);
+        if range.0 <= before.0 {
+            return Some(MaskError::UnsortedRanges { at });
+        }
+        if range.0 < before.1 {
+            return Some(MaskError::OverlappingRanges { at });
+        }
+    }
+    None
+}
+
+// How many places the ranges hold.
+fn places_held(ranges: &[(usize, usize)]) -> usize
+    requires ascending { All (λ r. r.0 < r.1) ranges.now }
+    requires fits { places_held ranges.now < 2 ^ 64 }
+    ensures { result ≡ places_held ranges.now }
+{
+    ranges.iter().map(|(start, end)| end - start).sum()
+}
+
+// `len` values that are true exactly in the ranges.
+fn buffer_of(alloc: Global, len: usize, ranges: &[(usize, usize)]) -> Result<BitBuffer, AllocError>
+    requires { range_fault len ranges.now ≡ None }
+    ensures len { IfOk result (λ b. length (values b) ≡ len) }
+    ensures list { IfOk result (λ b. AreRanges (values b) ranges.now) }
+{
+    let mut buffer = BitBufferMut::with_capacity(alloc, len)?;
+    for (start, end) in ranges {
+        buffer.append_n(false, *start - buffer.len())?;
+        buffer.append_n(true, *end - *start)?;
+    }
+    buffer.append_n(false, len - buffer.len())?;
+    buffer.freeze()
+}

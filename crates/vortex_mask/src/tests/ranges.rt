@@ -1,0 +1,140 @@
+// Masks made of ranges, alone and with a buffer of their values.
+use super::{is_held_as, lists, same};
+use crate::mask::{Mask, MaskError};
+use std::alloc::{AllocError, Global};
+use std::process::Abort;
+use std::test::Fail;
+
+// A fault of ranges by its name and its place.
+fn fault(error: &MaskError) -> (&'static str, usize) {
+    match error {
+        MaskError::BadRange { at } => ("BadRange", *at),
+        MaskError::UnsortedRanges { at } => ("UnsortedRanges", *at),
+        MaskError::OverlappingRanges { at } => ("OverlappingRanges", *at),
+        _ => ("another", 0),
+    }
+}
+
+fn refuses(
+    rt: &impl Abort,
+    alloc: Global,
+    len: usize,
+    ranges: &[(usize, usize)],
+    want: (&str, usize),
+) -> Result<(), AllocError> {
+    match Mask::from_slices(alloc, len, ranges.to_vec(alloc)?) {
+        Ok(_) => assert!(rt; false, "these ranges are refused"),
+        Err(error) => {
+            let (name, at) = fault(&error);
+            assert!(rt; name == want.0, "{name}");
+            same(rt, at, want.1);
+        }
+    }
+    Ok(())
+}
+
+#[test]
+fn faults_of_ranges(rt: HostRuntime) -> Result<(), Fail> {
+    for (ranges, want) in [
+        ([(2, 2)].as_slice(), ("BadRange", 0)),
+        ([(0, 6)].as_slice(), ("BadRange", 0)),
+        ([(3, 1)].as_slice(), ("BadRange", 0)),
+        ([(0, 3), (2, 4)].as_slice(), ("OverlappingRanges", 1)),
+        ([(2, 3), (0, 1)].as_slice(), ("UnsortedRanges", 1)),
+        ([(1, 2), (1, 3)].as_slice(), ("UnsortedRanges", 1)),
+        ([(2, 4), (0, 1), (3, 9)].as_slice(), ("BadRange", 2)),
+        (
+            [(0, 1), (1, 3), (2, 5)].as_slice(),
+            ("OverlappingRanges", 2),
+        ),
+    ] {
+        refuses(&rt, rt.alloc(), 5, ranges, want)?;
+    }
+    refuses(&rt, rt.alloc(), 0, &[(0, 1)], ("BadRange", 0))?;
+    Ok(())
+}
+
+// Mixed values keep these ranges and no places.
+fn keeps(rt: &impl Abort, mask: &Mask, ranges: &[(usize, usize)]) {
+    if let Some(values) = mask.values() {
+        assert!(rt; values.cached_slices() == Some(ranges));
+        assert!(rt; values.cached_indices().is_none());
+    }
+}
+
+// The mask of the ranges, and the one of a buffer of its values with the same ranges.
+fn makes(
+    rt: &impl Abort,
+    alloc: Global,
+    len: usize,
+    ranges: &[(usize, usize)],
+    want: (&str, &str),
+) -> Result<(), MaskError> {
+    let made = Mask::from_slices(alloc, len, ranges.to_vec(alloc)?)?;
+    let buffer = made.to_bit_buffer(alloc)?;
+    let again = Mask::from_buffer_with_slices(alloc, buffer, ranges.to_vec(alloc)?)?;
+    for mask in [&made, &again] {
+        lists(rt, mask, want.0);
+        is_held_as(rt, mask, want.1);
+        keeps(rt, mask, ranges);
+    }
+    Ok(())
+}
+
+#[test]
+fn masks_of_ranges(rt: HostRuntime) -> Result<(), Fail> {
+    for (len, ranges, want) in [
+        (8, [(0, 3), (3, 8)].as_slice(), ("11111111", "AllTrue")),
+        (8, [(0, 8)].as_slice(), ("11111111", "AllTrue")),
+        (8, [].as_slice(), ("00000000", "AllFalse")),
+        (0, [].as_slice(), ("", "AllFalse")),
+        (
+            8,
+            [(1, 3), (3, 4), (6, 8)].as_slice(),
+            ("01110011", "Values"),
+        ),
+        (
+            10,
+            [(0, 3), (5, 7), (9, 10)].as_slice(),
+            ("1110011001", "Values"),
+        ),
+    ] {
+        makes(&rt, rt.alloc(), len, ranges, want)?;
+    }
+    Ok(())
+}
+
+// Of a mask that no buffer could hold.
+fn counts_of(
+    rt: &impl Abort,
+    alloc: Global,
+    len: usize,
+    ranges: &[(usize, usize)],
+    want: (usize, &str),
+) -> Result<(), MaskError> {
+    let mask = Mask::from_slices(alloc, len, ranges.to_vec(alloc)?)?;
+    same(rt, mask.len(), len);
+    same(rt, mask.true_count(), want.0);
+    is_held_as(rt, &mask, want.1);
+    Ok(())
+}
+
+#[test]
+fn long_masks_of_ranges(rt: HostRuntime) -> Result<(), Fail> {
+    for (len, ranges, want) in [
+        (
+            usize::MAX,
+            [(0, usize::MAX)].as_slice(),
+            (usize::MAX, "AllTrue"),
+        ),
+        (usize::MAX, [].as_slice(), (0, "AllFalse")),
+        (
+            12_000,
+            [(1, 5_001), (6_000, 12_000)].as_slice(),
+            (11_000, "Values"),
+        ),
+    ] {
+        counts_of(&rt, rt.alloc(), len, ranges, want)?;
+    }
+    Ok(())
+}
