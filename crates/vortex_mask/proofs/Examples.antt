@@ -1,7 +1,7 @@
 -- Worked rows of the words that masks are described in, computed by the checker.
 use Rattle.std.proofs.Common.{◌≡◌, ◌<◌, ◌≤◌, ℕ, Bool, true, false, List, [], ◌∷◌, Some, None, refl, inl, inr, arith}
 use Rattle.mask_bits.specs.Positions.{count}
-use Rattle.vortex_mask.specs.Faults.{index_fault, range_fault}
+use Rattle.vortex_mask.specs.Faults.{index_fault, out_of_bounds, common, range_fault}
 use Rattle.vortex_mask.specs.Mask.{all_true, all_false, mixed, fitting_variant, variant_and, IsUniform}
 use Rattle.vortex_mask.specs.declared.mask.error.MaskError.TheVariants.{UnsortedIndices, RepeatedIndex, IndexOutOfBounds, BadRange, UnsortedRanges, OverlappingRanges}
 
@@ -29,6 +29,16 @@ index_out_of_bounds = refl
 
 index_at_the_length : index_fault 5 (0 ∷ 2 ∷ 5 ∷ []) ≡ Some (IndexOutOfBounds 5 5)
 index_at_the_length = refl
+
+-- the first past the end is the first in the list, and not the smallest
+first_out_of_bounds : out_of_bounds 5 (3 ∷ 9 ∷ 7 ∷ []) ≡ Some (IndexOutOfBounds 9 5)
+first_out_of_bounds = refl
+
+in_common : common (1 ∷ 3 ∷ 6 ∷ 8 ∷ []) (3 ∷ 4 ∷ 8 ∷ 9 ∷ []) ≡ 3 ∷ 8 ∷ []
+in_common = refl
+
+nothing_in_common : common (1 ∷ 6 ∷ []) (2 ∷ 9 ∷ []) ≡ []
+nothing_in_common = refl
 
 -- ---- range lists of a mask of five values
 

@@ -6,7 +6,8 @@ use Rattle.std.proofs.lemmas.List.Folds.{find-append}
 use Rattle.std.specs.List.Sorted.{IsStrictlyIncreasing}
 use Rattle.std.proofs.lemmas.Bool.Decides.{nat_tests}
 use Rattle.std.proofs.lemmas.List.{drop_more, length-drop}
-use Rattle.std.proofs.lemmas.List.Elements.{All-nil, All-cons}
+use Rattle.std.proofs.lemmas.List.Elements.{All-nil, All-cons, All-head, All-tail}
+use Rattle.vortex_mask.specs.Laws.{NoIndexFault}
 use Rattle.vortex_mask.specs.Faults.{or_else, first_pair_from, first_unsorted, first_repeated, first_past, index_fault, out_of_bounds}
 use Rattle.vortex_mask.specs.declared.mask.error.MaskError.TheVariants.{UnsortedIndices, RepeatedIndex, IndexOutOfBounds}
 
@@ -104,6 +105,41 @@ index_fault-none len xs none =
       within-faultless len xs b.1,
     )
 
+-- each above the one before it makes no pair that stands otherwise
+first_pair-ascending : (test : ℕ → ℕ → Bool) (n : ℕ) (xs : List ℕ) → ((x y : ℕ) → x < y → test x y ≡ false) → IsStrictlyIncreasing xs → first_pair_from test n xs ≡ None
+first_pair-ascending test n [] not_so ascending = refl
+first_pair-ascending test n (x ∷ []) not_so ascending = refl
+first_pair-ascending test n (x ∷ y ∷ xs) not_so ascending =
+    first_pair-step test n x y xs (not_so x y (ascending 0 (omega arith)))
+    ∙ first_pair-ascending test (n + 1) (y ∷ xs) not_so (λ k h.
+    let next : suc k + 1 ≡ suc (k + 1) = omega arith in
+    subst (λ (j : ℕ). get_or (y ∷ xs) k 0 < get_or (x ∷ y ∷ xs) j 0) next (ascending (suc k) (omega arith)))
+
+not_past : (n x : ℕ) → x < n → nat_le n x ≡ false
+not_past n x h = grind (arith, nat_tests)
+
+first_past-none : (len : ℕ) (xs : List ℕ) → All (λ i. i < len) xs → first_past len xs ≡ None
+first_past-none len [] all = refl
+first_past-none len (x ∷ xs) all =
+    ap (λ b. cond b (Some x) (first_past len xs)) (not_past len x (All-head (λ i. i < len) x xs all))
+    ∙ first_past-none len xs (All-tail (λ i. i < len) x xs all)
+
+faultless : (len : ℕ) (xs : List ℕ) → IsStrictlyIncreasing xs → All (λ i. i < len) xs → index_fault len xs ≡ None
+faultless len xs ascending within =
+    ap (λ (o : Option ℕ). or_else (option_map (λ at. UnsortedIndices at) o) (or_else (option_map (λ at. RepeatedIndex at) (first_repeated xs)) (out_of_bounds len xs)))
+    (first_pair-ascending (λ x y. nat_lt y x) 0 xs above ascending)
+    ∙ ap (λ (o : Option ℕ). or_else (option_map (λ at. RepeatedIndex at) o) (out_of_bounds len xs)) (first_pair-ascending (λ x y. nat_eq y x) 0 xs unlike ascending)
+    ∙ ap (option_map (λ x. IndexOutOfBounds x len)) (first_past-none len xs within)
+  where
+    above : (x y : ℕ) → x < y → nat_lt y x ≡ false
+    above x y h = grind (arith, nat_tests)
+
+    unlike : (x y : ℕ) → x < y → nat_eq y x ≡ false
+    unlike x y h = grind (arith, nat_tests)
+
+pub no_index_fault : NoIndexFault
+no_index_fault len xs = (index_fault-none len xs, λ h. faultless len xs h.0 h.1)
+
 -- ---- one more index
 
 -- the first past the length, where one more came
@@ -111,9 +147,6 @@ pub first_past-within : (len x : ℕ) (xs : List ℕ) → x < len → first_past
 first_past-within len x xs h =
     sym (find-append (λ y. nat_le len y) xs (x ∷ []) ∙ ap (λ b. option_or (first_past len xs) (cond b (Some x) None)) (not_past len x h) ∙ or_none (first_past len xs))
   where
-    not_past : (n x : ℕ) → x < n → nat_le n x ≡ false
-    not_past n x h = grind (arith, nat_tests)
-
     or_none : (o : Option ℕ) → option_or o None ≡ o
     or_none None = refl
     or_none (Some y) = refl

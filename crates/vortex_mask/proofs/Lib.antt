@@ -1,10 +1,12 @@
 -- Lemmas.
+pub mod BitopLemmas
 pub mod ByteCountLemmas
 pub mod ByteLemmas
 pub mod CommonLemmas
 pub mod ConcatLemmas
 pub mod DepositLemmas
 pub mod DepositListLemmas
+pub mod EqLemmas
 mod Examples
 pub mod ExcludedLemmas
 pub mod FaultLemmas

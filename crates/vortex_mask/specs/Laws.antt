@@ -1,8 +1,14 @@
 -- What holds of the words that masks are described in.
-use Rattle.std.specs.Prelude.{◌≡◌, ◌↔◌, ◌⊎◌, Bool, true, false, List, length}
+use Rattle.std.specs.Prelude.{ℕ, ◌≡◌, ◌<◌, ◌↔◌, ◌⊎◌, Bool, true, false, List, length, All, None}
+use Rattle.std.specs.List.Sorted.{IsStrictlyIncreasing}
 use Rattle.mask_bits.specs.Positions.{repeated}
+use Rattle.vortex_mask.specs.Faults.{index_fault}
 use Rattle.vortex_mask.specs.Mask.{IsUniform}
 
 -- a list is uniform exactly if it is all true or all false
 abbrev pub UniformIsOfOneValue : Type 0
 UniformIsOfOneValue = (m : List Bool) → IsUniform m ↔ ((m ≡ repeated (length m) true) ⊎ (m ≡ repeated (length m) false))
+
+-- indices have no fault exactly if each is above the one before it and all are below the length
+abbrev pub NoIndexFault : Type 0
+NoIndexFault = (len : ℕ) (xs : List ℕ) → (index_fault len xs ≡ None) ↔ (IsStrictlyIncreasing xs × All (λ i. i < len) xs)

@@ -1,4 +1,6 @@
 pub mod AllOr
+pub mod Ascending
+pub mod Bitops
 pub mod Bytes
 pub mod Concat
 pub mod Deposit

@@ -1,6 +1,9 @@
 -- What a contract sees of a `Mask`: its list, the variant that holds it, and what is inside `Values`.
 use Rattle.std.specs.Prelude.{◌≡◌, Bool, true, false, List, [], ◌∷◌, length, Option, Some, None, if◌then◌else◌, ◌⊎◌}
+use Rattle.std.proofs.Math.Bool.{beq}
+use Rattle.std.specs.Cmp.Lexicographic.{pointwise}
 use Rattle.std.specs.List.{list_all, list_any}
+use Rattle.std.specs.Ordering.{on}
 use Rattle.mask_bits.specs.Buffer.{Packed, values}
 use Rattle.vortex_mask.specs.MaskValues.{Contents, Caches, no_caches, kept_indices}
 use Rattle.mask_bits.specs.Positions.{positions, count, repeated}
@@ -40,6 +43,26 @@ variant_and mixed all_true = mixed
 variant_and mixed all_false = all_false
 variant_and mixed mixed = mixed
 
+-- joined by `or`
+abbrev pub variant_or : Variant → Variant → Variant
+variant_or all_true w = all_true
+variant_or all_false w = w
+variant_or mixed all_true = all_true
+variant_or mixed all_false = mixed
+variant_or mixed mixed = mixed
+
+-- turned
+abbrev pub variant_not : Variant → Variant
+variant_not all_true = all_false
+variant_not all_false = all_true
+variant_not mixed = mixed
+
+-- how a part with no values is held: as the whole is, and as all false where that is mixed
+abbrev pub variant_of_no_part : Variant → Variant
+variant_of_no_part all_true = all_true
+variant_of_no_part all_false = all_false
+variant_of_no_part mixed = all_false
+
 -- no value differs from another: the list is empty, all true or all false
 abbrev pub IsUniform : List Bool → Type 0
 IsUniform m = (count m ≡ 0) ⊎ (count m ≡ length m)
@@ -76,3 +99,7 @@ narrowed_caches (Values v) (AllTrue n) m = caches (Values v)
 narrowed_caches (Values v) (Values w) m = where_mixed m (kept_indices (positions (truth m)))
 narrowed_caches (Values v) (AllFalse n) m = no_caches
 narrowed_caches (AllFalse n) b m = no_caches
+
+-- whether two masks have the same list
+abbrev pub same_truth : Mask → Mask → Bool
+same_truth = on truth (pointwise beq)

@@ -2,7 +2,7 @@
 //! law.
 
 ghost use Rattle.std.specs.Prelude.{◌≡◌};
-ghost use Rattle.vortex_mask.specs.Laws.{UniformIsOfOneValue};
+ghost use Rattle.vortex_mask.specs.Laws.{UniformIsOfOneValue, NoIndexFault};
 ghost use Rattle.vortex_mask.specs.Mask.{truth, variant, fitting_variant};
 
 use crate::mask::Mask;
@@ -25,4 +25,10 @@ pub fn one_variant(mask: &Mask)
 #[tactic(auto, using(crate::proofs::MaskLemmas::uniform_is_of_one_value))]
 pub fn uniform_is_of_one_value()
     ensures { UniformIsOfOneValue }
+{}
+
+/// Indices have no fault exactly if each is above the one before it and all are below the length.
+#[tactic(auto, using(crate::proofs::FaultLemmas::no_index_fault))]
+pub fn no_index_fault()
+    ensures { NoIndexFault }
 {}

@@ -1,7 +1,9 @@
 //! Masks: lists of truth values that say which rows are chosen, and their rank intersection.
 #![tactic(auto)]
 
+mod bitops;
 mod choose;
+mod eq;
 pub mod intersect_by_rank;
 pub mod laws;
 pub mod mask;

@@ -19,6 +19,7 @@ mod from_indices;
 mod from_intersection;
 mod from_slices;
 mod index_fault;
+mod parts;
 mod to_buffer;
 mod values;
 

@@ -1,7 +1,9 @@
 // How a test is written stands at the head of the tests of `mask_bits`.
 ghost use Rattle.std.specs.Prelude.{◌≡◌};
 
+mod callers;
 mod concat;
+mod indices;
 mod ranges;
 
 use crate::mask::{AllOr, Mask, MaskError, MaskValues};

@@ -1,5 +1,5 @@
 -- What holds of lists combined value by value: the laws of truth values, at each place.
-use Rattle.std.proofs.Common.{◌≡◌, ℕ, zero, suc, ◌<◌, Bool, true, false, not, ◌&&◌, ◌||◌, List, [], ◌∷◌, length, get_or, refl, sym, ap, ◌∙◌, arith}
+use Rattle.std.proofs.Common.{◌≡◌, ℕ, zero, suc, ◌<◌, Bool, true, false, not, ◌&&◌, ◌||◌, List, [], ◌∷◌, length, get_or, map, refl, sym, ap, ◌∙◌, arith}
 use Rattle.mask_bits.specs.Laws.{RankIntersectionOfAnd, RankIntersectionOfNot, IsFreeOfOrder, DistributesOver, Absorbs, HasComplements, AndNotIsAndOfNot, KeepsLength}
 use Rattle.mask_bits.specs.Lists.{combined, and_of, or_of, not_of, and_not_of}
 use Rattle.mask_bits.specs.Positions.{count, rank_intersection, repeated}
@@ -113,6 +113,36 @@ get_or-combined f [] b i d h len = absurd (omega arith)
 get_or-combined f (x ∷ a) [] i d h len = absurd (omega arith)
 get_or-combined f (x ∷ a) (y ∷ b) zero d h len = refl
 get_or-combined f (x ∷ a) (y ∷ b) (suc i) d h len = get_or-combined f a b i d (omega arith) (omega arith)
+
+-- ---- where one side is a list of one value
+
+-- g of the other side, where that is what the value makes of it
+pub combined-left : (f : Bool → Bool → Bool) (v : Bool) (g : Bool → Bool) → ((y : Bool) → f v y ≡ g y) → (b : List Bool) → combined f (repeated (length b) v) b ≡ map g b
+unfolding repeated
+combined-left f v g same [] = refl
+combined-left f v g same (y ∷ b) =
+    ap (λ (w : Bool). w ∷ combined f (repeated (length b) v) b) (same y) ∙ ap (λ (xs : List Bool). g y ∷ xs) (combined-left f v g same b)
+
+pub combined-right : (f : Bool → Bool → Bool) (v : Bool) (g : Bool → Bool) → ((x : Bool) → f x v ≡ g x) → (a : List Bool) → combined f a (repeated (length a) v) ≡ map g a
+unfolding repeated
+combined-right f v g same [] = refl
+combined-right f v g same (x ∷ a) =
+    ap (λ (w : Bool). w ∷ combined f a (repeated (length a) v)) (same x) ∙ ap (λ (xs : List Bool). g x ∷ xs) (combined-right f v g same a)
+
+-- the other side itself, or one value alone
+pub map-itself : (m : List Bool) → map (λ (x : Bool). x) m ≡ m
+map-itself [] = refl
+map-itself (x ∷ m) = ap (λ (xs : List Bool). x ∷ xs) (map-itself m)
+
+pub map-one : (v : Bool) (m : List Bool) → map (λ (x : Bool). v) m ≡ repeated (length m) v
+unfolding repeated
+map-one v [] = refl
+map-one v (x ∷ m) = ap (λ (xs : List Bool). v ∷ xs) (map-one v m)
+
+pub not_of-repeated : (n : ℕ) (v : Bool) → not_of (repeated n v) ≡ repeated n (not v)
+unfolding repeated
+not_of-repeated zero v = refl
+not_of-repeated (suc n) v = ap (λ (xs : List Bool). not v ∷ xs) (not_of-repeated n v)
 
 -- ---- the laws
 

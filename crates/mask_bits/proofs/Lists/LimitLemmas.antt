@@ -1,12 +1,13 @@
 -- A list limited to its first true values, and the count below a true place.
-use Rattle.std.proofs.Common.{◌≡◌, ℕ, zero, suc, ◌<◌, min, Bool, true, false, ◌&&◌, nat_lt, List, [], ◌∷◌, length, get_or, take, refl, sym, ap, ◌∙◌, arith}
+use Rattle.std.proofs.Common.{◌≡◌, ℕ, zero, suc, ◌+◌, ◌-◌, ◌<◌, ◌≤◌, ◌++◌, min, Bool, true, false, ◌&&◌, nat_lt, List, [], ◌∷◌, length, get_or, take, slice_range, Some, slice_get, refl, sym, ap, ◌∙◌, arith}
 use Rattle.std.proofs.Math.Dec.{leb-suc-suc}
 use Rattle.std.proofs.lemmas.Bool.{le-ltb, lt-ltb}
-use Rattle.std.proofs.lemmas.List.{ext_get_or, get_or-map}
+use Rattle.std.proofs.lemmas.List.{ext_get_or, get_or-map, length-take}
+use Rattle.std.proofs.lemmas.Option.{slice_get_within, get_or_from_slice_get}
 use Rattle.std.proofs.lemmas.List.FromFn.{length-map-range_with_len, get_or-map-range_with_len}
 use Rattle.mask_bits.specs.Laws.{LimitOfLimit, HasLimitCount, CountBelowPosition}
 use Rattle.mask_bits.specs.Lists.{limited}
-use Rattle.mask_bits.specs.Positions.{positions, count, count_below}
+use Rattle.mask_bits.specs.Positions.{positions, count, count_below, repeated}
 use Rattle.mask_bits.proofs.Lists.PlaceLemmas.{positions-true, positions-false, trues, count-trues}
 
 -- the first k true values, by recursion on the list
@@ -99,3 +100,60 @@ trues-below_place (false ∷ m) n h =
 pub count_below_position : CountBelowPosition
 count_below_position m n h =
     count-trues (take (get_or (positions m) n 0) m) ∙ trues-below_place m n (omega (arith, count-trues m))
+
+-- ---- the cut before true value number k
+
+-- no true value
+kept-none : (m : List Bool) → kept m zero ≡ repeated (length m) false
+unfolding repeated
+kept-none [] = refl
+kept-none (false ∷ m) = ap (λ (xs : List Bool). false ∷ xs) (kept-none m)
+kept-none (true ∷ m) = ap (λ (xs : List Bool). false ∷ xs) (kept-none m)
+
+-- all of them
+kept-all : (m : List Bool) (k : ℕ) → trues m ≤ k → kept m k ≡ m
+kept-all [] k h = refl
+kept-all (false ∷ m) k h = ap (λ (xs : List Bool). false ∷ xs) (kept-all m k h)
+kept-all (true ∷ m) zero h = absurd (omega arith)
+kept-all (true ∷ m) (suc k) h = ap (λ (xs : List Bool). true ∷ xs) (kept-all m k (omega arith))
+
+-- the values before the place of true value number k, and false ones behind them
+abbrev cut_at : List Bool → ℕ → List Bool
+cut_at m p = take p m ++ repeated (length m - p) false
+
+cut_at-next : (v : Bool) (m : List Bool) (p : ℕ) → v ∷ cut_at m p ≡ cut_at (v ∷ m) (suc p)
+cut_at-next v m p =
+    let rest : length m - p ≡ suc (length m) - suc p = omega arith in
+    ap (λ n. v ∷ (take p m ++ repeated n false)) rest
+
+kept-cut : (m : List Bool) (k : ℕ) → k < trues m → kept m k ≡ cut_at m (get_or (positions m) k 0)
+unfolding repeated
+kept-cut [] k h = absurd (omega arith)
+kept-cut (true ∷ m) zero h =
+    let rest : suc (length m) ≡ suc (length m) - 0 = omega arith in
+    ap (λ (xs : List Bool). false ∷ xs) (kept-none m) ∙ ap (λ n. repeated n false) rest ∙ sym (ap (λ (ps : List ℕ). cut_at (true ∷ m) (get_or ps 0 0)) (positions-true m))
+kept-cut (true ∷ m) (suc k) h =
+    let below : k < trues m = omega arith in
+    ap (λ (xs : List Bool). true ∷ xs) (kept-cut m k below) ∙ cut_at-next true m (get_or (positions m) k 0)
+    ∙ sym (ap (cut_at (true ∷ m)) (ap (λ (ps : List ℕ). get_or ps (suc k) 0) (positions-true m) ∙ get_or-map suc (positions m) k 0 0 (omega (arith, count-trues m))))
+kept-cut (false ∷ m) k h =
+    ap (λ (xs : List Bool). false ∷ xs) (kept-cut m k h) ∙ cut_at-next false m (get_or (positions m) k 0)
+    ∙ sym (ap (cut_at (false ∷ m)) (ap (λ (ps : List ℕ). get_or ps k 0) (positions-false m) ∙ get_or-map suc (positions m) k 0 0 (omega (arith, count-trues m))))
+
+pub limited-none : (m : List Bool) → limited m 0 ≡ repeated (length m) false
+limited-none m = limited-kept m 0 ∙ kept-none m
+
+pub limited-all : (m : List Bool) (k : ℕ) → count m ≤ k → limited m k ≡ m
+limited-all m k h = limited-kept m k ∙ kept-all m k (omega (arith, count-trues m))
+
+pub limited-cut : (m : List Bool) (k p : ℕ) → slice_get (positions m) k ≡ Some p → limited m k ≡ take p m ++ repeated (length m - p) false
+limited-cut m k p at =
+    limited-kept m k ∙ kept-cut m k (omega (arith, slice_get_within (positions m) k p at, count-trues m)) ∙ ap (cut_at m) (get_or_from_slice_get (positions m) k p 0 at)
+
+-- a part up to that place, and false values behind it
+pub limited-front : (m front : List Bool) (k p n : ℕ) → slice_get (positions m) k ≡ Some p → p < length m → front ≡ slice_range m 0 p → n ≡ length m → front ++ repeated (n - length front) false ≡ limited m k
+limited-front m front k p n at within is len =
+    let all : p - 0 ≡ p = omega arith in
+    let first : front ≡ take p m = is ∙ ap (λ j. take j m) all in
+    let rest : n - length front ≡ length m - p = omega (arith, ap length first, length-take p m) in
+    ap (λ (xs : List Bool). xs ++ repeated (n - length front) false) first ∙ ap (λ j. take p m ++ repeated j false) rest ∙ sym (limited-cut m k p at)

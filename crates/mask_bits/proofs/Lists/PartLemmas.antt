@@ -1,10 +1,13 @@
 -- Parts of parts, and of lists joined.
-use Rattle.std.proofs.Common.{◌≡◌, ◌+◌, ◌-◌, Bool, List, ◌∷◌, ◌++◌, length, take, drop, slice_range, inl, inr, sym, ap, ◌∙◌, arith}
+use Rattle.std.proofs.Common.{◌≡◌, ℕ, ◌+◌, ◌-◌, ◌≤◌, Bool, List, ◌∷◌, ◌++◌, length, take, drop, slice_range, inl, inr, sym, ap, ◌∙◌, arith}
 use Rattle.std.proofs.lemmas.Bool.{cases_lt}
-use Rattle.std.proofs.lemmas.List.{take-take, drop-drop, drop-take, take-append-le, drop-append-le, drop_all, take_all}
+use Rattle.std.proofs.lemmas.List.{ext_get_or, get_or-replicate, take-take, drop-drop, drop-take, take-append-le, drop-append-le, drop_all, take_all}
 use Rattle.std.proofs.lemmas.List.Concat.{flat_map-append}
+use Rattle.std.proofs.lemmas.List.Edits.{length-between, get_or-between}
 use Rattle.mask_bits.specs.Laws.{PartOfPart, PartOfJoined}
 use Rattle.mask_bits.specs.Lists.{joined}
+use Rattle.mask_bits.specs.Positions.{repeated}
+use Rattle.mask_bits.proofs.Lists.CountLemmas.{length-repeated}
 
 pub part_of_part : PartOfPart
 part_of_part m s e t u within =
@@ -36,3 +39,14 @@ pub part_of_joined : PartOfJoined
 part_of_joined before after m =
     ap (λ (zs : List Bool). slice_range zs (length (joined before)) (length (joined before) + length m)) (flat_map-append (λ (x : List Bool). x) before (m ∷ after))
     ∙ between-sides (joined before) m (joined after)
+
+-- a part of a list of one value
+pub part_of_repeated : (n : ℕ) (v : Bool) (s e : ℕ) → s ≤ e → e ≤ n → slice_range (repeated n v) s e ≡ repeated (e - s) v
+unfolding repeated
+part_of_repeated n v s e ordered within =
+    let part : List Bool = slice_range (repeated n v) s e in
+    let len : length part ≡ e - s = length-between (repeated n v) s e (omega (arith, length-repeated n v)) ∙ omega arith in
+    ext_get_or v part (repeated (e - s) v) (len ∙ sym (length-repeated (e - s) v)) (λ i h.
+    get_or-between (repeated n v) s e i v (omega arith)
+    ∙ get_or-replicate n (s + i) v v (omega arith)
+    ∙ sym (get_or-replicate (e - s) i v v (omega arith)))

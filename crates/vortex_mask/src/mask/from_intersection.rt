@@ -1,8 +1,9 @@
 ghost use Rattle.std.specs.Prelude.{◌≡◌, ◌⊎◌, ℕ, List, IfOk, IfErr, Some, None, alloc_error, length};
-ghost use Rattle.std.specs.Iterator.{IsFinite, HoldsAlong, Drains};
-ghost use Rattle.std.specs.Iterator.Runs.{WholeRun};
+ghost use Rattle.std.specs.Iterator.{IsFinite, Drains};
+ghost use Rattle.std.specs.Iterator.Runs.{WholeRun, EachRunFrom};
 ghost use Rattle.std.specs.List.Sorted.{IsStrictlyIncreasing};
 ghost use Rattle.mask_bits.specs.Positions.{positions};
+ghost use Rattle.vortex_mask.specs.Ascending.{IsAscending};
 ghost use Rattle.vortex_mask.specs.Faults.{common, out_of_bounds};
 ghost use Rattle.vortex_mask.specs.Mask.{truth, variant, fitting_variant, all_false, caches, where_mixed};
 ghost use Rattle.vortex_mask.specs.MaskValues.{kept_indices};
@@ -30,8 +31,8 @@ impl Mask {
         requires can_rhs { R.can_next rhs }
         requires lhs_ends { IsFinite (L.remaining lhs) }
         requires rhs_ends { IsFinite (R.remaining rhs) }
-        requires lhs_ascends { HoldsAlong L.next_gives lhs IsStrictlyIncreasing }
-        requires rhs_ascends { HoldsAlong R.next_gives rhs IsStrictlyIncreasing }
+        requires lhs_ascends { EachRunFrom L.next_gives lhs IsAscending }
+        requires rhs_ascends { EachRunFrom R.next_gives rhs IsAscending }
         ensures len { IfOk result (λ m. length (truth m) ≡ len) }
         ensures indices { IfOk result (λ m. (xs : List ℕ) × (ys : List ℕ)
             × Drains L.next_gives lhs xs × Drains R.next_gives rhs ys

@@ -1,4 +1,4 @@
-ghost use Rattle.std.specs.Prelude.{◌≡◌, ◌<◌, ◌≤◌, ◌^◌, ◌⊎◌, IsOk, IfOk, IfErr, OnOk, IfSome, All, Some, None, Ok, Err, alloc_error, length};
+ghost use Rattle.std.specs.Prelude.{◌≡◌, ◌<◌, ◌≤◌, ◌^◌, ◌⊎◌, IsOk, IfOk, IfErr, OnOk, IfSome, All, Some, None, Ok, Err, alloc_error, IsOkUnless, length};
 ghost use Rattle.mask_bits.specs.Buffer.{values};
 ghost use Rattle.mask_bits.specs.Runs.{AreRanges};
 ghost use Rattle.vortex_mask.specs.Faults as faults;
@@ -58,7 +58,7 @@ impl Mask {
         ensures caches { IfOk result
             (λ m. caches m ≡ where_mixed m (kept_ranges ranges.items)) }
         ensures uniform { IsUniform (values buffer) → IsOk result }
-        ensures refused { IfErr result (λ e. e ≡ MaskError.Memory alloc_error) }
+        ensures refused { IsOkUnless result (MaskError.Memory alloc_error) }
     {
         Mask::of_buffer(alloc, buffer, Some(ranges))
     }
@@ -73,7 +73,7 @@ impl Mask {
             (λ m. caches m ≡ where_mixed m (kept_ranges ranges.items)) }
         ensures uniform { (places_held ranges.items ≡ 0) ⊎ (places_held ranges.items ≡ len)
             → IsOk result }
-        ensures refused { IfErr result (λ e. e ≡ MaskError.Memory alloc_error) }
+        ensures refused { IsOkUnless result (MaskError.Memory alloc_error) }
     {
         let true_count = places_held(&ranges);
         if true_count == 0 {

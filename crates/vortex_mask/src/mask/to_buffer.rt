@@ -1,4 +1,4 @@
-ghost use Rattle.std.specs.Prelude.{◌≡◌, IfOk, IfErr, alloc_error};
+ghost use Rattle.std.specs.Prelude.{◌≡◌, IfOk, alloc_error, IsOkUnless};
 ghost use Rattle.mask_bits.specs.Buffer.{values};
 ghost use Rattle.vortex_mask.specs.Mask.{truth};
 
@@ -11,7 +11,7 @@ impl Mask {
     /// A buffer of the values. Mixed ones share their bytes with it.
     pub fn to_bit_buffer(&self, alloc: Global) -> Result<BitBuffer, MaskError>
         ensures list { IfOk result (λ b. values b ≡ truth self.now) }
-        ensures refused { IfErr result (λ e. e ≡ MaskError.Memory alloc_error) }
+        ensures refused { IsOkUnless result (MaskError.Memory alloc_error) }
     {
         match self {
             Mask::AllTrue(len) => Ok(BitBuffer::new_set(alloc, *len)?),
@@ -24,7 +24,7 @@ impl Mask {
     /// held, the buffer is theirs.
     pub fn into_bit_buffer(self, alloc: Global) -> Result<BitBuffer, MaskError>
         ensures list { IfOk result (λ b. values b ≡ truth self) }
-        ensures refused { IfErr result (λ e. e ≡ MaskError.Memory alloc_error) }
+        ensures refused { IsOkUnless result (MaskError.Memory alloc_error) }
     {
         match self {
             Mask::AllTrue(len) => Ok(BitBuffer::new_set(alloc, len)?),

@@ -1,4 +1,5 @@
-use Rattle.std.proofs.Common.{◌≡◌, List, ℕ, sym, ap, ◌∙◌}
+use Rattle.std.proofs.Common.{◌≡◌, List, ℕ, sym, ap, subst, ◌∙◌}
+use Rattle.std.specs.List.Sorted.{IsStrictlyIncreasing}
 use Rattle.std.proofs.lemmas.Result.{IfOk-weaker}
 use Rattle.vortex_mask.specs.Faults.{common, out_of_bounds}
 use Rattle.vortex_mask.proofs.ResultLemmas.{IfErr-or}
@@ -36,3 +37,13 @@ returns-clause-refused_runs g c =
     let right = c.in_ok-rhs.ensures.runs tt in
     let same = common_same _ _ _ _ (c.deref.ensures.value ∙ left.3.0) (c.deref-2.ensures.value ∙ right.3.0) in
     IfErr-or c.of_common.result _ _ _ (λ e fault. (left.0, left.1, left.2, (right.0, right.1, right.2, ap (out_of_bounds c.args.len) (sym same) ∙ fault))) c.of_common.ensures.refused
+
+pub of_common-requires-clause-lhs : goal.of_common-requires-clause-lhs
+of_common-requires-clause-lhs g c =
+    let run = c.in_ok-lhs.ensures.runs tt in
+    subst IsStrictlyIncreasing (sym (c.deref.ensures.value ∙ run.3.0)) (c.requires.lhs_ascends run.0 run.0.seen run.1 run.2)
+
+pub of_common-requires-clause-rhs : goal.of_common-requires-clause-rhs
+of_common-requires-clause-rhs g c =
+    let run = c.in_ok-rhs.ensures.runs tt in
+    subst IsStrictlyIncreasing (sym (c.deref-2.ensures.value ∙ run.3.0)) (c.requires.rhs_ascends run.0 run.0.seen run.1 run.2)

@@ -1,0 +1,48 @@
+use Rattle.std.proofs.Common.{◌≡◌, ◌⊎◌, ◌&&◌, not, rules, length, false, sym, ap, ◌∙◌}
+use Rattle.std.proofs.lemmas.Result.{IfOk-weaker}
+use Rattle.mask_bits.specs.Buffer.{values}
+use Rattle.mask_bits.specs.Positions.{repeated}
+use Rattle.vortex_mask.specs.Mask.{truth, variant, all_true, all_false, variant_and, variant_not}
+use Rattle.vortex_mask.proofs.BitopLemmas.{variant-kept, some-combined, and_not-by_true, and_not-with_false, and_not-none, variant_and_not-all_false}
+use Rattle.vortex_mask.proofs.MaskLemmas.{fitting_variant-repeated_false}
+use Rattle.vortex_mask.proofs.ResultLemmas.{IfOk-both}
+use Rattle.vortex_mask.proofs.mask.Mask.without.Goals as goal
+use Rattle.vortex_mask.proofs.mask.Mask.without.Goals.{in-AllTrue+in-AllFalse-1, in-AllTrue+in-AllTrue-self, in-Values+in-AllFalse-1}
+
+-- ---- one side is the result, or what it leaves out
+
+pub returns-in_default-AllFalse-clause-list : goal.returns-in_default-AllFalse-clause-list
+returns-in_default-AllFalse-clause-list c =
+    IfOk-weaker c.clone.result _ _ (λ m same.
+    same ∙ and_not-with_false c.args.self.now c.args.other.now c.requires (ap variant c.in_default-AllFalse.is-1)) c.clone.ensures.list
+
+pub returns-in-AllTrue-Values-clause-list : goal.returns-in-AllTrue-Values-clause-list
+returns-in-AllTrue-Values-clause-list c =
+    IfOk-weaker c.not.result _ _ (λ m same.
+    same ∙ and_not-by_true c.args.self.now c.args.other.now c.requires (ap variant c.in-AllTrue-Values.is-0)) c.not.ensures.list
+
+-- ---- one side decides
+
+pub returns-in-AllFalse-default-clause-list : goal.returns-in-AllFalse-default-clause-list
+returns-in-AllFalse-default-clause-list c =
+    let held : (variant c.args.self.now ≡ all_false) ⊎ (variant c.args.other.now ≡ all_true)
+    = elim c.in-AllFalse-default-1.branch [ in-AllTrue+in-AllFalse-1 w ↦ search rules | in-AllTrue+in-AllTrue-self w ↦ search rules | in-Values+in-AllFalse-1 w ↦ search rules ] in
+    ap truth c.new_false.ensures ∙ ap (λ k. repeated k false) c.len.ensures ∙ and_not-none c.args.self.now c.args.other.now c.requires held
+
+pub returns-in-AllFalse-default-clause-variant : goal.returns-in-AllFalse-default-clause-variant
+returns-in-AllFalse-default-clause-variant c =
+    let held : (variant c.args.self.now ≡ all_false) ⊎ (variant c.args.other.now ≡ all_true)
+    = elim c.in-AllFalse-default-1.branch [ in-AllTrue+in-AllFalse-1 w ↦ search rules | in-AllTrue+in-AllTrue-self w ↦ search rules | in-Values+in-AllFalse-1 w ↦ search rules ] in
+    rw (c.new_false.ensures, variant_and_not-all_false (variant c.args.self.now) (variant c.args.other.now) held) (sym (fitting_variant-repeated_false c.len.result))
+
+-- ---- two masks of mixed values
+
+pub returns-in_ok-bitand_not-in-Values-Values-clause-variant : goal.returns-in_ok-bitand_not-in-Values-Values-clause-variant
+returns-in_ok-bitand_not-in-Values-Values-clause-variant c =
+    let a = values c.bit_buffer.result.now in
+    let b = values c.bit_buffer-in-Values-Values.result.now in
+    let is_a : a ≡ truth c.args.self.now = ap values (c.bit_buffer.ensures.buffer ∙ ap (λ v. v.buffer) c.deref.ensures) ∙ sym (ap truth c.in-Values-Values.is-0) in
+    let is_b : b ≡ truth c.args.other.now = ap values (c.bit_buffer-in-Values-Values.ensures.buffer ∙ ap (λ v. v.buffer) c.deref-in-Values-Values.ensures) ∙ sym (ap truth c.in-Values-Values.is-1) in
+    let made = values c.in_ok-bitand_not-in-Values-Values.field-0 in
+    let some = some-combined (λ x y. x && not y) a b made _ c.bit_buffer.ensures.mixed.some_false (ap length is_a ∙ c.requires ∙ sym (ap length is_b)) c.in_ok-bitand_not-in-Values-Values.ensures in
+    IfOk-both c.from_buffer.result _ _ _ (λ m. variant-kept (variant_and (variant c.args.self.now) (variant_not (variant c.args.other.now))) m made some) c.from_buffer.ensures.list c.from_buffer.ensures.variant

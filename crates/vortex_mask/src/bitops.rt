@@ -1,0 +1,202 @@
+ghost use Rattle.std.specs.Prelude.{◌≡◌, ◌≢◌, ◌⊎◌, IsOk, IfOk, IsOkUnless, Ok, alloc_error, length};
+ghost use Rattle.mask_bits.specs.Lists.{and_of, or_of, not_of, and_not_of};
+ghost use Rattle.vortex_mask.specs.Bitops.{and_caches, or_caches, and_not_caches};
+ghost use Rattle.vortex_mask.specs.Mask.{truth, variant, fitting_variant, variant_and, variant_or, variant_not, all_true, all_false, mixed, caches};
+ghost use Rattle.vortex_mask.specs.MaskValues.{no_caches};
+
+use crate::laws;
+use crate::mask::{Mask, MaskError};
+use std::alloc::Global;
+
+/// Boolean calls, value by value, of masks of one length.
+///
+/// The result keeps an operand's lists of true places where it is that operand.
+impl Mask {
+    /// The values that are true in both.
+    pub fn bitand(&self, alloc: Global, other: &Mask) -> Result<Mask, MaskError>
+        requires { length (truth self.now) ≡ length (truth other.now) }
+        ensures list { IfOk result (λ m. truth m ≡ and_of (truth self.now) (truth other.now)) }
+        ensures variant { IfOk result (λ m. variant m
+            ≡ fitting_variant (variant_and (variant self.now) (variant other.now)) (truth m)) }
+        ensures caches { IfOk result (λ m. caches m ≡ and_caches self.now other.now) }
+
+        // What needs no memory succeeds.
+        ensures uniform { variant self.now ≢ mixed → variant other.now ≢ mixed → IsOk result }
+        ensures none { (variant self.now ≡ all_false) ⊎ (variant other.now ≡ all_false)
+            → IsOk result }
+        ensures refused { IsOkUnless result (MaskError.Memory alloc_error) }
+    {
+        match (self, other) {
+            (Mask::AllTrue(_), _) => {
+                laws::one_variant(other);
+                other.clone()
+            }
+            (_, Mask::AllTrue(_)) => {
+                laws::one_variant(self);
+                self.clone()
+            }
+            (Mask::AllFalse(_), _) | (_, Mask::AllFalse(_)) => Ok(Mask::new_false(self.len())),
+            (Mask::Values(a), Mask::Values(b)) => {
+                Mask::from_buffer(alloc, a.bit_buffer().bitand(alloc, b.bit_buffer())?)
+            }
+        }
+    }
+
+    /// The values that are true in one or in both.
+    pub fn bitor(&self, alloc: Global, other: &Mask) -> Result<Mask, MaskError>
+        requires { length (truth self.now) ≡ length (truth other.now) }
+        ensures list { IfOk result (λ m. truth m ≡ or_of (truth self.now) (truth other.now)) }
+        ensures variant { IfOk result (λ m. variant m
+            ≡ fitting_variant (variant_or (variant self.now) (variant other.now)) (truth m)) }
+        ensures caches { IfOk result (λ m. caches m ≡ or_caches self.now other.now) }
+
+        // What needs no memory succeeds.
+        ensures uniform { variant self.now ≢ mixed → variant other.now ≢ mixed → IsOk result }
+        ensures all { (variant self.now ≡ all_true) ⊎ (variant other.now ≡ all_true)
+            → IsOk result }
+        ensures refused { IsOkUnless result (MaskError.Memory alloc_error) }
+    {
+        match (self, other) {
+            (Mask::AllFalse(_), _) => {
+                laws::one_variant(other);
+                other.clone()
+            }
+            (_, Mask::AllFalse(_)) => {
+                laws::one_variant(self);
+                self.clone()
+            }
+            (Mask::AllTrue(_), _) | (_, Mask::AllTrue(_)) => Ok(Mask::new_true(self.len())),
+            (Mask::Values(a), Mask::Values(b)) => {
+                Mask::from_buffer(alloc, a.bit_buffer().bitor(alloc, b.bit_buffer())?)
+            }
+        }
+    }
+
+    /// The values turned.
+    pub fn not(&self, alloc: Global) -> Result<Mask, MaskError>
+        ensures list { IfOk result (λ m. truth m ≡ not_of (truth self.now)) }
+        ensures variant { IfOk result
+            (λ m. variant m ≡ fitting_variant (variant_not (variant self.now)) (truth m)) }
+        ensures caches { IfOk result (λ m. caches m ≡ no_caches) }
+
+        // What needs no memory succeeds.
+        ensures uniform { variant self.now ≢ mixed → IsOk result }
+        ensures refused { IsOkUnless result (MaskError.Memory alloc_error) }
+    {
+        match self {
+            Mask::AllTrue(len) => Ok(Mask::AllFalse(*len)),
+            Mask::AllFalse(len) => Ok(Mask::AllTrue(*len)),
+            Mask::Values(values) => {
+                Mask::from_buffer(alloc, values.bit_buffer().not(alloc)?)
+            }
+        }
+    }
+
+    // The values that are true here and not in `other`.
+    fn without(&self, alloc: Global, other: &Mask) -> Result<Mask, MaskError>
+        requires { length (truth self.now) ≡ length (truth other.now) }
+        ensures list { IfOk result (λ m. truth m ≡ and_not_of (truth self.now) (truth other.now)) }
+        ensures variant { IfOk result (λ m. variant m ≡ fitting_variant
+            (variant_and (variant self.now) (variant_not (variant other.now))) (truth m)) }
+        ensures caches { IfOk result (λ m. caches m ≡ and_not_caches self.now other.now) }
+        ensures uniform { variant self.now ≢ mixed → variant other.now ≢ mixed → IsOk result }
+        ensures none { (variant self.now ≡ all_false) ⊎ (variant other.now ≡ all_true)
+            → IsOk result }
+        ensures refused { IsOkUnless result (MaskError.Memory alloc_error) }
+    {
+        match (self, other) {
+            (_, Mask::AllFalse(_)) => {
+                laws::one_variant(self);
+                self.clone()
+            }
+            (Mask::AllFalse(_), _) | (_, Mask::AllTrue(_)) => Ok(Mask::new_false(self.len())),
+            (Mask::AllTrue(_), Mask::Values(_)) => other.not(alloc),
+            (Mask::Values(a), Mask::Values(b)) => {
+                Mask::from_buffer(alloc, a.bit_buffer().bitand_not(alloc, b.bit_buffer())?)
+            }
+        }
+    }
+}
+
+/// The same, of an operand that is given up. It is the result where the other side changes nothing.
+impl Mask {
+    /// The values that are true in both.
+    pub fn into_bitand(self, alloc: Global, other: &Mask) -> Result<Mask, MaskError>
+        requires { length (truth self) ≡ length (truth other.now) }
+        ensures list { IfOk result (λ m. truth m ≡ and_of (truth self) (truth other.now)) }
+        ensures variant { IfOk result (λ m. variant m
+            ≡ fitting_variant (variant_and (variant self) (variant other.now)) (truth m)) }
+        ensures caches { IfOk result (λ m. caches m ≡ and_caches self other.now) }
+
+        // What needs no memory succeeds.
+        ensures itself { variant other.now ≡ all_true → result ≡ Ok self }
+        ensures uniform { variant self ≢ mixed → variant other.now ≢ mixed → IsOk result }
+        ensures none { (variant self ≡ all_false) ⊎ (variant other.now ≡ all_false)
+            → IsOk result }
+        ensures refused { IsOkUnless result (MaskError.Memory alloc_error) }
+    {
+        if let Mask::AllTrue(_) = other {
+            laws::one_variant(&self);
+            return Ok(self);
+        }
+        self.bitand(alloc, other)
+    }
+
+    /// The values that are true in one or in both.
+    pub fn into_bitor(self, alloc: Global, other: &Mask) -> Result<Mask, MaskError>
+        requires { length (truth self) ≡ length (truth other.now) }
+        ensures list { IfOk result (λ m. truth m ≡ or_of (truth self) (truth other.now)) }
+        ensures variant { IfOk result (λ m. variant m
+            ≡ fitting_variant (variant_or (variant self) (variant other.now)) (truth m)) }
+        ensures caches { IfOk result (λ m. caches m ≡ or_caches self other.now) }
+
+        // What needs no memory succeeds.
+        ensures itself { variant other.now ≡ all_false → result ≡ Ok self }
+        ensures uniform { variant self ≢ mixed → variant other.now ≢ mixed → IsOk result }
+        ensures all { (variant self ≡ all_true) ⊎ (variant other.now ≡ all_true)
+            → IsOk result }
+        ensures refused { IsOkUnless result (MaskError.Memory alloc_error) }
+    {
+        if let Mask::AllFalse(_) = other {
+            laws::one_variant(&self);
+            return Ok(self);
+        }
+        self.bitor(alloc, other)
+    }
+
+    /// The values turned.
+    pub fn into_not(self, alloc: Global) -> Result<Mask, MaskError>
+        ensures list { IfOk result (λ m. truth m ≡ not_of (truth self)) }
+        ensures variant { IfOk result
+            (λ m. variant m ≡ fitting_variant (variant_not (variant self)) (truth m)) }
+        ensures caches { IfOk result (λ m. caches m ≡ no_caches) }
+
+        // What needs no memory succeeds.
+        ensures uniform { variant self ≢ mixed → IsOk result }
+        ensures refused { IsOkUnless result (MaskError.Memory alloc_error) }
+    {
+        self.not(alloc)
+    }
+
+    /// The values that are true here and not in `other`.
+    pub fn bitand_not(self, alloc: Global, other: &Mask) -> Result<Mask, MaskError>
+        requires { length (truth self) ≡ length (truth other.now) }
+        ensures list { IfOk result (λ m. truth m ≡ and_not_of (truth self) (truth other.now)) }
+        ensures variant { IfOk result (λ m. variant m ≡ fitting_variant
+            (variant_and (variant self) (variant_not (variant other.now))) (truth m)) }
+        ensures caches { IfOk result (λ m. caches m ≡ and_not_caches self other.now) }
+
+        // What needs no memory succeeds.
+        ensures itself { variant other.now ≡ all_false → result ≡ Ok self }
+        ensures uniform { variant self ≢ mixed → variant other.now ≢ mixed → IsOk result }
+        ensures none { (variant self ≡ all_false) ⊎ (variant other.now ≡ all_true)
+            → IsOk result }
+        ensures refused { IsOkUnless result (MaskError.Memory alloc_error) }
+    {
+        if let Mask::AllFalse(_) = other {
+            laws::one_variant(&self);
+            return Ok(self);
+        }
+        self.without(alloc, other)
+    }
+}

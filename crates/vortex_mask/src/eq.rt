@@ -1,0 +1,41 @@
+ghost use Rattle.std.specs.Prelude.{◌≡◌, ◌↔◌, length, IsTrue};
+ghost use Rattle.std.specs.Cmp.{bool_eq_equiv, partial_equiv_from_equiv};
+ghost use Rattle.std.proofs.lemmas.Cmp.{on_equiv, lists_equiv};
+ghost use Rattle.vortex_mask.specs.Mask.{truth, same_truth};
+
+use crate::mask::Mask;
+use mask_bits::laws;
+
+// Two masks are equal where their lists are; kept lists, offsets and how an empty list is held
+// don't count.
+impl PartialEq for Mask {
+    ghost eq = { same_truth };
+
+    ghost laws = { partial_equiv_from_equiv (on_equiv truth (lists_equiv bool_eq_equiv)) };
+
+    fn eq(&self, other: &Mask) -> bool
+        ensures answer { result ≡ same_truth self.now other.now }
+        ensures same { IsTrue result ↔ (truth self.now ≡ truth other.now) }
+    {
+        self.len() == other.len() && same_lists(self, other)
+    }
+}
+
+impl Eq for Mask {
+    ghost laws = { on_equiv truth (lists_equiv bool_eq_equiv) };
+}
+
+// Whether two masks of one length have the same list.
+fn same_lists(a: &Mask, b: &Mask) -> bool
+    requires { length (truth a.now) ≡ length (truth b.now) }
+    ensures { IsTrue result ↔ (truth a.now ≡ truth b.now) }
+{
+    match (a, b) {
+        (Mask::Values(a), Mask::Values(b)) => {
+            laws::same_values_are_one_list();
+            a.bit_buffer() == b.bit_buffer()
+        }
+        // one of them is of one value, so that the count tells the list
+        _ => a.true_count() == b.true_count(),
+    }
+}

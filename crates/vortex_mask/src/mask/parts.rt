@@ -1,0 +1,99 @@
+ghost use Rattle.std.specs.Prelude.{◌≡◌, ◌≢◌, ◌-◌, ◌<◌, ◌≤◌, ◌++◌, false, IsOk, IfOk, IsOkUnless, Ok, alloc_error, length, slice_range};
+ghost use Rattle.mask_bits.specs.Buffer.{values};
+ghost use Rattle.mask_bits.specs.Lists.{limited};
+ghost use Rattle.mask_bits.specs.Positions.{count, repeated};
+ghost use Rattle.vortex_mask.specs.Mask.{truth, variant, fitting_variant, variant_of_no_part, mixed, caches};
+ghost use Rattle.vortex_mask.specs.MaskValues.{no_caches};
+
+use crate::laws;
+use crate::mask::{Mask, MaskError};
+use mask_bits::{BitBuffer, BitBufferMut};
+use std::alloc::{AllocError, Global};
+
+impl Mask {
+    /// The values from `start` to `end`. All of them are the same mask with the lists that it
+    /// keeps, and any other part keeps none.
+    pub fn slice(&self, alloc: Global, start: usize, end: usize) -> Result<Mask, MaskError>
+        requires ordered { start ≤ end }
+        requires within { end ≤ length (truth self.now) }
+        ensures list { IfOk result (λ m. truth m ≡ slice_range (truth self.now) start end) }
+        ensures variant { IfOk result (λ m. variant m
+            ≡ fitting_variant (variant_of_no_part (variant self.now)) (truth m)) }
+        ensures whole { end - start ≡ length (truth self.now)
+            → IfOk result (λ m. caches m ≡ caches self.now) }
+        ensures part { end - start < length (truth self.now)
+            → IfOk result (λ m. caches m ≡ no_caches) }
+
+        // What needs no memory succeeds.
+        ensures uniform { variant self.now ≢ mixed → IsOk result }
+        ensures refused { IsOkUnless result (MaskError.Memory alloc_error) }
+    {
+        match self {
+            Mask::AllTrue(_) => Ok(Mask::AllTrue(end - start)),
+            Mask::AllFalse(_) => Ok(Mask::AllFalse(end - start)),
+            Mask::Values(values) => {
+                let buffer = values.bit_buffer();
+                if end - start == buffer.len() {
+                    return self.clone();
+                }
+                Mask::from_buffer(alloc, buffer.slice(start, end)?)
+            }
+        }
+    }
+
+    /// The first `k` true values, and false ones from there on. A mask that has no more true ones
+    /// stays as it is.
+    pub fn limit(self, alloc: Global, k: usize) -> Result<Mask, MaskError>
+        ensures list { IfOk result (λ m. truth m ≡ limited (truth self) k) }
+        ensures variant { IfOk result
+            (λ m. variant m ≡ fitting_variant (variant self) (truth m)) }
+        ensures cut { k < count (truth self) → IfOk result (λ m. caches m ≡ no_caches) }
+
+        // What needs no memory succeeds.
+        ensures unchanged { count (truth self) ≤ k → result ≡ Ok self }
+        ensures none { k ≡ 0 → IsOk result }
+        ensures refused { IsOkUnless result (MaskError.Memory alloc_error) }
+    {
+        if self.true_count() <= k {
+            laws::one_variant(&self);
+            return Ok(self);
+        }
+        if k == 0 {
+            return Ok(Mask::AllFalse(self.len()));
+        }
+        Mask::from_buffer(alloc, self.first_true(alloc, k)?)
+    }
+
+    // The first `k` true values of more, packed.
+    fn first_true(&self, alloc: Global, k: usize) -> Result<BitBuffer, AllocError>
+        requires { k < count (truth self.now) }
+        ensures { IfOk result (λ b. values b ≡ limited (truth self.now) k) }
+    {
+        let front = self.front(alloc, self.rank(k))?;
+        padded(alloc, &front, self.len())
+    }
+
+    // The values before place `end`, packed.
+    fn front(&self, alloc: Global, end: usize) -> Result<BitBuffer, AllocError>
+        requires { end ≤ length (truth self.now) }
+        ensures { IfOk result (λ b. values b ≡ slice_range (truth self.now) 0 end) }
+    {
+        match self {
+            Mask::AllTrue(_) => BitBuffer::new_set(alloc, end),
+            Mask::AllFalse(_) => BitBuffer::new_unset(alloc, end),
+            Mask::Values(values) => values.bit_buffer().slice(0, end),
+        }
+    }
+}
+
+// The values of a buffer, and false ones behind them up to `len`.
+fn padded(alloc: Global, front: &BitBuffer, len: usize) -> Result<BitBuffer, AllocError>
+    requires { length (values front.now) ≤ len }
+    ensures { IfOk result
+        (λ b. values b ≡ values front.now ++ repeated (len - length (values front.now)) false) }
+{
+    let mut bits = BitBufferMut::with_capacity(alloc, len)?;
+    bits.append_buffer(front)?;
+    bits.append_n(false, len - front.len())?;
+    bits.freeze()
+}
