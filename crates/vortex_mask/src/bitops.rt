@@ -86,9 +86,7 @@ impl Mask {
         match self {
             Mask::AllTrue(len) => Ok(Mask::AllFalse(*len)),
             Mask::AllFalse(len) => Ok(Mask::AllTrue(*len)),
-            Mask::Values(values) => {
-                Mask::from_buffer(alloc, values.bit_buffer().not(alloc)?)
-            }
+            Mask::Values(values) => { Mask::from_buffer(alloc, values.bit_buffer().not(alloc)?) }
         }
     }
 
