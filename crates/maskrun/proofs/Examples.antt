@@ -1,11 +1,12 @@
 -- Worked rows of the definitions, which the checker computes.
 use Rattle.std.proofs.Common.{◌≡◌, ℕ, Bool, true, false, List, [], ◌∷◌, Ok, Err, codes, refl}
 use Rattle.maskrun.specs.Commands.{command_of, line}
-use Rattle.maskrun.specs.Arguments.{mask_argument}
+use Rattle.maskrun.specs.Arguments.{mask_argument, number_argument}
 use Rattle.mask_bits.specs.Buffer.{values}
+use Rattle.mask_bits.specs.Lists.{limited}
 use Rattle.mask_bits.specs.Positions.{positions, count_below, repeated, true_at, rank_intersection, chosen}
 use Rattle.maskrun.specs.declared.answer.command.Command.TheVariants.{Rank}
-use Rattle.maskrun.specs.declared.answer.error.RunError.TheVariants.{Usage, BadBit, LengthsDiffer}
+use Rattle.maskrun.specs.declared.answer.error.RunError.TheVariants.{Usage, BadBit, LengthsDiffer, BadNumber, OutOfRange}
 
 -- 10011101 and 00101
 a : List Bool
@@ -83,5 +84,61 @@ two_dashes = refl
 no_words : line [] ≡ Err Usage
 no_words = refl
 
-other_command : line (codes "and" ∷ codes "1" ∷ codes "1" ∷ []) ≡ Err Usage
+other_command : line (codes "RANK" ∷ codes "1" ∷ codes "1" ∷ []) ≡ Err Usage
 other_command = refl
+
+both_of_two : line (codes "and" ∷ codes "1101" ∷ codes "0110" ∷ []) ≡ Ok (codes "0100")
+both_of_two = refl
+
+one_of_two : line (codes "or" ∷ codes "1100" ∷ codes "0101" ∷ []) ≡ Ok (codes "1101")
+one_of_two = refl
+
+first_alone : line (codes "andnot" ∷ codes "1101" ∷ codes "0110" ∷ []) ≡ Ok (codes "1001")
+first_alone = refl
+
+lengths_of_and : line (codes "and" ∷ codes "11" ∷ codes "1" ∷ []) ≡ Err (LengthsDiffer 2 1)
+lengths_of_and = refl
+
+turned : line (codes "not" ∷ codes "10110" ∷ []) ≡ Ok (codes "01001")
+turned = refl
+
+part : line (codes "slice" ∷ codes "10110" ∷ codes "1" ∷ codes "4" ∷ []) ≡ Ok (codes "011")
+part = refl
+
+empty_part : line (codes "slice" ∷ codes "10110" ∷ codes "3" ∷ codes "3" ∷ []) ≡ Ok (codes "-")
+empty_part = refl
+
+end_past_the_length : line (codes "slice" ∷ codes "10110" ∷ codes "7" ∷ codes "6" ∷ []) ≡ Err (OutOfRange 3)
+end_past_the_length = refl
+
+start_past_the_end : line (codes "slice" ∷ codes "10110" ∷ codes "4" ∷ codes "2" ∷ []) ≡ Err (OutOfRange 2)
+start_past_the_end = refl
+
+bad_number : line (codes "slice" ∷ codes "10110" ∷ codes "x" ∷ codes "2" ∷ []) ≡ Err (BadNumber 2)
+bad_number = refl
+
+first_two : line (codes "limit" ∷ codes "01101" ∷ codes "2" ∷ []) ≡ Ok (codes "01100")
+unfolding limited
+first_two = refl
+
+one_after_another : line (codes "cat" ∷ codes "10" ∷ codes "-" ∷ codes "011" ∷ []) ≡ Ok (codes "10011")
+one_after_another = refl
+
+nothing_to_join : line (codes "cat" ∷ []) ≡ Err Usage
+nothing_to_join = refl
+
+-- numbers
+leading_zeros : number_argument 2 (codes "0018") ≡ Ok 18
+leading_zeros = refl
+
+the_greatest_number : number_argument 2 (codes "18446744073709551615") ≡ Ok 18446744073709551615
+the_greatest_number = refl
+
+a_number_too_great : number_argument 2 (codes "18446744073709551616") ≡ Err (BadNumber 2)
+a_number_too_great = refl
+
+a_signed_number : number_argument 2 (codes "+1") ≡ Err (BadNumber 2)
+a_signed_number = refl
+
+no_number : number_argument 2 [] ≡ Err (BadNumber 2)
+no_number = refl

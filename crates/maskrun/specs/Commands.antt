@@ -1,16 +1,17 @@
 -- The commands: how each reads its arguments, and the line that it prints.
-use Rattle.std.specs.Prelude.{ℕ, Bool, ◌==◌, List, [], ◌∷◌, length, Result, Ok, Err, codes, alloc_error, if◌then◌else◌}
+use Rattle.std.specs.Prelude.{ℕ, ◌+◌, ◌^◌, Bool, ◌==◌, nat_lt, List, [], ◌∷◌, length, sum_by, slice_range, Result, Ok, Err, codes, alloc_error, if◌then◌else◌}
 use Rattle.std.specs.Str.{bytes_eq}
+use Rattle.mask_bits.specs.Lists.{and_of, or_of, and_not_of, not_of, limited, joined}
 use Rattle.mask_bits.specs.Positions.{count, rank_intersection}
-use Rattle.maskrun.specs.Arguments.{mask_argument}
+use Rattle.maskrun.specs.Arguments.{mask_argument, number_argument}
 use Rattle.maskrun.specs.Text.{text}
 use Rattle.maskrun.specs.declared.answer.command.Command.{Command}
-use Rattle.maskrun.specs.declared.answer.command.Command.TheVariants.{Rank}
+use Rattle.maskrun.specs.declared.answer.command.Command.TheVariants.{Rank, And, Or, AndNot, Not, Slice, Limit, Cat}
 use Rattle.maskrun.specs.declared.answer.error.RunError.{RunError}
-use Rattle.maskrun.specs.declared.answer.error.RunError.TheVariants.{Usage, LengthsDiffer, Mask}
+use Rattle.maskrun.specs.declared.answer.error.RunError.TheVariants.{Usage, LengthsDiffer, OutOfRange, Mask}
 use Rattle.maskrun.specs.declared.answer.name.Name.{Name}
 use Rattle.maskrun.specs.declared.answer.name.Name.TheVariants as named
-use Rattle.vortex_mask.specs.declared.mask.error.MaskError.TheVariants.{Memory}
+use Rattle.vortex_mask.specs.declared.mask.error.MaskError.TheVariants.{Memory, LengthOverflow}
 
 -- the first fault, or the next step at the value
 infixl 10 ◌>>=◌
@@ -18,7 +19,12 @@ abbrev pub ◌>>=◌ : {A B : Type 0} → Result A RunError → (A → Result B 
 (Ok x) >>= f = f x
 (Err e) >>= f = Err e
 
--- two masks and no more
+-- one mask and no more
+abbrev pub one_mask : List (List ℕ) → Result (List Bool) RunError
+one_mask (a ∷ []) = mask_argument 1 a
+one_mask _ = Err Usage
+
+-- two masks
 abbrev pub two_masks : List (List ℕ) → Result (List Bool × List Bool) RunError
 two_masks (a ∷ b ∷ []) = do
   m ← mask_argument 1 a
@@ -26,30 +32,81 @@ two_masks (a ∷ b ∷ []) = do
   Ok (m, n)
 two_masks _ = Err Usage
 
--- the command of this name
-abbrev pub name_of : List ℕ → Result Name RunError
-name_of cs = if bytes_eq cs (codes "rank") then Ok named.Rank else Err Usage
+-- a mask and a number
+abbrev pub mask_and_number : List (List ℕ) → Result (List Bool × ℕ) RunError
+mask_and_number (a ∷ k ∷ []) = do
+  m ← mask_argument 1 a
+  n ← number_argument 2 k
+  Ok (m, n)
+mask_and_number _ = Err Usage
+
+-- a mask and two numbers
+abbrev pub mask_and_range : List (List ℕ) → Result (List Bool × ℕ × ℕ) RunError
+mask_and_range (a ∷ s ∷ e ∷ []) = do
+  m ← mask_argument 1 a
+  start ← number_argument 2 s
+  end ← number_argument 3 e
+  Ok (m, start, end)
+mask_and_range _ = Err Usage
+
+-- masks, the first of which is argument n
+abbrev pub masks_from : ℕ → List (List ℕ) → Result (List (List Bool)) RunError
+masks_from n [] = Ok []
+masks_from n (a ∷ rest) = do
+  m ← mask_argument n a
+  ms ← masks_from (n + 1) rest
+  Ok (m ∷ ms)
+
+-- one mask or more
+abbrev pub masks : List (List ℕ) → Result (List (List Bool)) RunError
+masks [] = Err Usage
+masks (a ∷ rest) = masks_from 1 (a ∷ rest)
+
+-- the commands by their names
+abbrev pub names : List (List ℕ × Name)
+names = (codes "rank", named.Rank) ∷ (codes "and", named.And) ∷ (codes "or", named.Or) ∷ (codes "andnot", named.AndNot) ∷ (codes "not", named.Not) ∷ (codes "slice", named.Slice) ∷ (codes "limit", named.Limit) ∷ (codes "cat", named.Cat) ∷ []
+
+-- the command that has this name in a list of names
+abbrev pub named_in : List (List ℕ × Name) → List ℕ → Result Name RunError
+named_in [] cs = Err Usage
+named_in (n ∷ rest) cs = if bytes_eq cs n.0 then Ok n.1 else named_in rest cs
 
 -- a command with its arguments read
 abbrev pub command_named : Name → List (List ℕ) → Result Command RunError
-command_named named.Rank arguments = do
-  (a, b) ← two_masks arguments
-  Ok (Rank a b)
+command_named named.Rank arguments = two_masks arguments >>= (λ (a, b). Ok (Rank a b))
+command_named named.And arguments = two_masks arguments >>= (λ (a, b). Ok (And a b))
+command_named named.Or arguments = two_masks arguments >>= (λ (a, b). Ok (Or a b))
+command_named named.AndNot arguments = two_masks arguments >>= (λ (a, b). Ok (AndNot a b))
+command_named named.Not arguments = one_mask arguments >>= (λ a. Ok (Not a))
+command_named named.Slice arguments = mask_and_range arguments >>= (λ (a, s, e). Ok (Slice a s e))
+command_named named.Limit arguments = mask_and_number arguments >>= (λ (a, k). Ok (Limit a k))
+command_named named.Cat arguments = masks arguments >>= (λ ms. Ok (Cat ms))
 
 -- the command that the words of a command line say: its name, then its arguments
 abbrev pub command_of : List (List ℕ) → Result Command RunError
 command_of [] = Err Usage
 command_of (name ∷ arguments) = do
-  n ← name_of name
+  n ← named_in names name
   command_named n arguments
 
 -- the mask's text, where a mask of so many values has as many as it needs
 abbrev pub text_if_len : ℕ → ℕ → List Bool → Result (List ℕ) RunError
 text_if_len got want m = if got == want then Ok (text m) else Err (LengthsDiffer want got)
 
+-- the text of values s to e - 1, where the mask has them: the end is looked at first
+abbrev pub part_text : List Bool → ℕ → ℕ → Result (List ℕ) RunError
+part_text m s e = if nat_lt (length m) e then Err (OutOfRange 3) else (if nat_lt e s then Err (OutOfRange 2) else Ok (text (slice_range m s e)))
+
 -- what a command prints
 abbrev pub printed : Command → Result (List ℕ) RunError
 printed (Rank a b) = text_if_len (length b) (count a) (rank_intersection a b)
+printed (And a b) = text_if_len (length b) (length a) (and_of a b)
+printed (Or a b) = text_if_len (length b) (length a) (or_of a b)
+printed (AndNot a b) = text_if_len (length b) (length a) (and_not_of a b)
+printed (Not a) = Ok (text (not_of a))
+printed (Slice a s e) = part_text a s e
+printed (Limit a k) = Ok (text (limited a k))
+printed (Cat ms) = if nat_lt (sum_by length ms) (2 ^ 64) then Ok (text (joined ms)) else Err (Mask LengthOverflow)
 
 -- the line for a command line: the text, or the first fault
 abbrev pub line : List (List ℕ) → Result (List ℕ) RunError

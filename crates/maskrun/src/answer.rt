@@ -7,7 +7,9 @@ ghost use Rattle.maskrun.specs.Commands.{command_of, line, out_of_memory};
 mod argument;
 mod command;
 mod error;
+mod mask_list;
 mod name;
+mod number;
 #[cfg(test)]
 mod tests;
 mod text;
@@ -18,8 +20,16 @@ use std::alloc::Global;
 
 /// The line for `words`: the name of a command, and then its arguments.
 ///
-/// `rank A B` narrows mask `A` by mask `B` over its true values. A mask is `-`, which has no
-/// values, or a `0` or `1` for each value. Anything else is `RunError::Usage`.
+/// | Command | What it prints |
+/// |---|---|
+/// | `rank A B` | mask `A` narrowed by mask `B` over its true values |
+/// | `and A B`, `or A B`, `andnot A B`, `not A` | both, one of them, the first alone, `A` turned |
+/// | `slice A S E` | the values of `A` from `S` up to `E`, which is left out |
+/// | `limit A K` | `A` with its first `K` true values alone |
+/// | `cat A ..` | one mask or more, one after another |
+///
+/// A mask is `-`, which has no values, or a `0` or `1` for each value. A number is one or more
+/// digits. Anything else is `RunError::Usage`.
 ///
 /// All arguments are read before memory is asked for.
 pub fn answer(alloc: Global, words: &[String]) -> Result<String, RunError>

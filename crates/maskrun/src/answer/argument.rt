@@ -1,5 +1,5 @@
 ghost use Rattle.std.specs.Prelude.{◌≡◌, IfOk, IfErr, position};
-ghost use Rattle.maskrun.specs.Arguments.{mask_argument, is_bad_digit};
+ghost use Rattle.maskrun.specs.Arguments.{mask_argument, mask_said, is_bad_digit};
 ghost use Rattle.maskrun.specs.Commands.{out_of_memory};
 ghost use Rattle.vortex_mask.specs.Mask.{truth};
 
@@ -42,6 +42,19 @@ impl<'a> MaskArgument<'a> {
             None => Ok(MaskArgument {
                 digits: text.as_bytes(),
             }),
+        }
+    }
+
+    // What a well-formed argument says.
+    pub(crate) fn said(text: &'a str) -> MaskArgument<'a>
+        ensures { result ≡ mask_said text.now }
+    {
+        if text == "-" {
+            MaskArgument { digits: &[] }
+        } else {
+            MaskArgument {
+                digits: text.as_bytes(),
+            }
         }
     }
 

@@ -1,17 +1,30 @@
-ghost use Rattle.std.specs.Prelude.{◌≡◌, ◌⊎◌, Ok, Err, map, IfOk, IfErr, length, string_bytes};
-ghost use Rattle.maskrun.specs.Commands.{command_of, command_named, two_masks, printed, text_if_len, out_of_memory};
-ghost use Rattle.mask_bits.specs.Positions.{count, rank_intersection};
+ghost use Rattle.std.specs.Prelude.{◌≡◌, ◌⊎◌, Ok, Err, map, IfOk, IfErr, string_bytes};
+ghost use Rattle.maskrun.specs.Commands.{command_of, command_named, printed, out_of_memory};
+
+mod boolean;
+mod part;
+mod rank;
+mod shapes;
 
 use crate::answer::RunError;
 use crate::answer::argument::MaskArgument;
+use crate::answer::mask_list::MaskList;
 use crate::answer::name::Name;
-use crate::answer::text::mask_text;
+use rank::rank;
+use shapes::{mask_and_number, mask_and_range, one_mask, two_masks};
 use std::alloc::Global;
 
 // A command with its arguments read.
 #[derive(Drop)]
 pub(crate) enum Command<'a> {
     Rank(MaskArgument<'a>, MaskArgument<'a>),
+    And(MaskArgument<'a>, MaskArgument<'a>),
+    Or(MaskArgument<'a>, MaskArgument<'a>),
+    AndNot(MaskArgument<'a>, MaskArgument<'a>),
+    Not(MaskArgument<'a>),
+    Slice(MaskArgument<'a>, usize, usize),
+    Limit(MaskArgument<'a>, usize),
+    Cat(MaskList<'a>),
 }
 
 impl<'a> Command<'a> {
@@ -29,10 +42,14 @@ impl<'a> Command<'a> {
         ensures { result ≡ command_named name (map string_bytes arguments.now) }
     {
         match name {
-            Name::Rank => {
-                let (a, b) = read_two_masks(arguments)?;
-                Ok(Command::Rank(a, b))
-            }
+            Name::Rank => two_masks(arguments).map(|(a, b)| Command::Rank(a, b)),
+            Name::And => two_masks(arguments).map(|(a, b)| Command::And(a, b)),
+            Name::Or => two_masks(arguments).map(|(a, b)| Command::Or(a, b)),
+            Name::AndNot => two_masks(arguments).map(|(a, b)| Command::AndNot(a, b)),
+            Name::Not => one_mask(arguments).map(Command::Not),
+            Name::Slice => mask_and_range(arguments).map(|(a, s, e)| Command::Slice(a, s, e)),
+            Name::Limit => mask_and_number(arguments).map(|(a, k)| Command::Limit(a, k)),
+            Name::Cat => MaskList::read(arguments).map(Command::Cat),
         }
     }
 
@@ -43,41 +60,13 @@ impl<'a> Command<'a> {
     {
         match self {
             Command::Rank(a, b) => rank(alloc, a, b),
+            Command::And(a, b) => boolean::and(alloc, a, b),
+            Command::Or(a, b) => boolean::or(alloc, a, b),
+            Command::AndNot(a, b) => boolean::and_not(alloc, a, b),
+            Command::Not(a) => boolean::not(alloc, a),
+            Command::Slice(a, start, end) => part::slice(alloc, a, *start, *end),
+            Command::Limit(a, k) => part::limit(alloc, a, *k),
+            _ => Err(RunError::Usage),
         }
     }
-}
-
-// Arguments that are two masks.
-fn read_two_masks<'a>(
-    arguments: &'a [String],
-) -> Result<(MaskArgument<'a>, MaskArgument<'a>), RunError>
-    ensures { result ≡ two_masks (map string_bytes arguments.now) }
-{
-    match arguments {
-        [a, b] => {
-            let a = MaskArgument::read(1, a.as_str())?;
-            let b = MaskArgument::read(2, b.as_str())?;
-            Ok((a, b))
-        }
-        _ => Err(RunError::Usage),
-    }
-}
-
-fn rank(alloc: Global, a: &MaskArgument, b: &MaskArgument) -> Result<String, RunError>
-    ensures text { IfOk result (λ t.
-        text_if_len (length b.now) (count a.now) (rank_intersection a.now b.now)
-        ≡ Ok (string_bytes t)) }
-    ensures fault { IfErr result (λ e.
-        (text_if_len (length b.now) (count a.now) (rank_intersection a.now b.now) ≡ Err e)
-        ⊎ (e ≡ out_of_memory)) }
-{
-    let a = a.mask(alloc)?;
-    let b = b.mask(alloc)?;
-    let want = a.true_count();
-    let got = b.len();
-    if got != want {
-        return Err(RunError::LengthsDiffer { want, got });
-    }
-    let mask = a.intersect_by_rank(alloc, &b)?;
-    Ok(mask_text(alloc, &mask)?)
 }

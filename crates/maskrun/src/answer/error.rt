@@ -1,8 +1,8 @@
-ghost use Rattle.std.specs.Prelude.{◌≡◌};
+ghost use Rattle.std.specs.Prelude.{◌≡◌, alloc_error};
 ghost use Rattle.maskrun.specs.declared.answer.error.RunError.TheVariants as run_error;
 ghost use Rattle.vortex_mask.specs.declared.mask.error.MaskError.TheVariants.{Memory};
 
-use std::alloc::AllocError;
+use std::alloc::{AllocError, AllocFailed};
 use thiserror::Error;
 use vortex_mask::MaskError;
 
@@ -19,6 +19,12 @@ pub enum RunError {
     /// A mask has `got` values where it has to have `want`.
     #[error("length {got} where {want} is needed")]
     LengthsDiffer { want: usize, got: usize },
+    /// Argument number `word` is not one or more ASCII digits whose value fits 64 bits.
+    #[error("word {word}: not a number")]
+    BadNumber { word: usize },
+    /// The number in argument `word` lies outside of the mask.
+    #[error("word {word}: out of range")]
+    OutOfRange { word: usize },
     /// A call on masks was refused.
     #[error(transparent)]
     Mask(MaskError),
@@ -37,5 +43,13 @@ impl From<AllocError> for RunError {
 
     fn from(error: AllocError) -> RunError {
         RunError::Mask(MaskError::Memory(error))
+    }
+}
+
+impl<T: Drop> From<AllocFailed<T>> for RunError {
+    ghost from_gives = { λ _ r. r ≡ run_error.Mask (Memory alloc_error) };
+
+    fn from(_failed: AllocFailed<T>) -> RunError {
+        RunError::Mask(MaskError::Memory(AllocError))
     }
 }
