@@ -97,6 +97,10 @@ text_if_len got want m = if got == want then Ok (text m) else Err (LengthsDiffer
 abbrev pub part_text : List Bool → ℕ → ℕ → Result (List ℕ) RunError
 part_text m s e = if nat_lt (length m) e then Err (OutOfRange 3) else (if nat_lt e s then Err (OutOfRange 2) else Ok (text (slice_range m s e)))
 
+-- the text of lists one after another, where the sum of their lengths fits 64 bits
+abbrev pub joined_text : List (List Bool) → Result (List ℕ) RunError
+joined_text ms = if nat_lt (sum_by length ms) (2 ^ 64) then Ok (text (joined ms)) else Err (Mask LengthOverflow)
+
 -- what a command prints
 abbrev pub printed : Command → Result (List ℕ) RunError
 printed (Rank a b) = text_if_len (length b) (count a) (rank_intersection a b)
@@ -106,7 +110,7 @@ printed (AndNot a b) = text_if_len (length b) (length a) (and_not_of a b)
 printed (Not a) = Ok (text (not_of a))
 printed (Slice a s e) = part_text a s e
 printed (Limit a k) = Ok (text (limited a k))
-printed (Cat ms) = if nat_lt (sum_by length ms) (2 ^ 64) then Ok (text (joined ms)) else Err (Mask LengthOverflow)
+printed (Cat ms) = joined_text ms
 
 -- the line for a command line: the text, or the first fault
 abbrev pub line : List (List ℕ) → Result (List ℕ) RunError

@@ -1,4 +1,9 @@
 // How a test is written stands at the head of the tests of `mask_bits`.
+mod bitops;
+mod kept;
+mod large;
+mod parts;
+
 ghost use Rattle.std.specs.Prelude.{◌≡◌};
 
 mod callers;
