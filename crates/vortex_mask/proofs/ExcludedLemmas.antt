@@ -1,9 +1,9 @@
 -- The list that is false exactly at some places, as they come one by one.
-use Rattle.std.proofs.Common.{◌≡◌, ◌≢◌, ℕ, ◌+◌, ◌<◌, ◌≤◌, ◌||◌, Bool, true, false, not, nat_eq, nat_le, List, [], ◌∷◌, ◌++◌, length, get_or, set, map, zero, suc, inl, inr, Option, Some, None, refl, sym, ap, ◌∙◌, arith}
+use Rattle.std.proofs.Common.{◌≡◌, ◌≢◌, ℕ, ◌<◌, ◌≤◌, ◌||◌, Bool, true, false, not, nat_eq, List, [], ◌∷◌, ◌++◌, length, get_or, set, zero, suc, inl, inr, Option, Some, refl, sym, ap, ◌∙◌, arith}
 use Rattle.std.specs.Option.{option_or}
 use Rattle.vortex_mask.specs.Faults.{first_past}
 use Rattle.vortex_mask.proofs.FaultLemmas.{first_past-within, first_past-more}
-use Rattle.std.specs.List.{list_any, range_with_len}
+use Rattle.std.specs.List.{list_any}
 use Rattle.std.proofs.lemmas.Bool.{cases_lt, cases_eq, eq-eqb, ne_eqb}
 use Rattle.std.proofs.lemmas.List.{same_lists, length-set, get_or-set_same, get_or-set_other, length-replicate, get_or-replicate}
 use Rattle.std.proofs.lemmas.List.Folds.{list_any-append}

@@ -5,11 +5,11 @@ use Rattle.vortex_mask.proofs.intersect_by_rank.tests.steps_are_counted.Goals as
 
 pub word-requires-clause-there : goal.word-requires-clause-there
 word-requires-clause-there g c =
-    omega (arith, ap length c.chunks.ensures, ap length c.in_ok-buffer.ensures, length-repeated 130)
+    omega (arith, ap length c.chunks.ensures.list, ap length c.in_ok-buffer.ensures, length-repeated 130)
 
 pub word-requires-2-clause-there : goal.word-requires-2-clause-there
 word-requires-2-clause-there g c =
-    omega (arith, ap length c.chunks-2.ensures, ap length c.in_ok-buffer.ensures, length-repeated 130)
+    omega (arith, ap length c.chunks-2.ensures.list, ap length c.in_ok-buffer.ensures, length-repeated 130)
 
 pub deposit-requires-clause-counted : goal.deposit-requires-clause-counted
 deposit-requires-clause-counted g c = sym (count-word_bits 26 (omega arith))

@@ -1,4 +1,4 @@
-use Rattle.std.proofs.Common.{length, refl, ap, ◌∙◌}
+use Rattle.std.proofs.Common.{length, refl, ◌∙◌}
 use Rattle.vortex_mask.proofs.ExcludedLemmas.{without-none, excluded-more}
 use Rattle.vortex_mask.proofs.mask.from_excluded.exclude.Goals as goal
 
