@@ -56,6 +56,14 @@ impl BitBuffer {
         BitBuffer { bytes, offset, len }
     }
 
+    /// The first `len` bits of bytes that a caller has written.
+    pub fn from_vec(bytes: Vec<u8>, len: usize) -> Result<BitBuffer, AllocError>
+        requires { len ≤ 8 * vec_len bytes }
+        ensures { IfOk result (λ b. b ≡ record { bytes = bytes.items; offset = 0; len = len }) }
+    {
+        Ok(BitBuffer::new(Bytes::from_vec(bytes)?, len))
+    }
+
     /// `len` true values.
     pub fn new_set(alloc: Global, len: usize) -> Result<BitBuffer, AllocError>
         ensures { IfOk result (λ b. values b ≡ repeated len true) }

@@ -14,7 +14,7 @@ use Rattle.vortex_mask.proofs.SetPlaceLemmas.{ones_below, bit_cases}
 -- ---- a true value and its number
 
 -- a true value's number is below the count
-trues-take : (m : List Bool) (p : ℕ) → get_or m p false ≡ true → trues (take p m) < trues m
+pub trues-take : (m : List Bool) (p : ℕ) → get_or m p false ≡ true → trues (take p m) < trues m
 trues-take [] p e = cc
 trues-take (true ∷ m) zero e = omega arith
 trues-take (false ∷ m) zero e = cc
@@ -56,6 +56,15 @@ bits_and (suc zero) (suc zero) zero hr hm hs h = absurd (omega (arith, (h.0 refl
 bits_and (suc zero) (suc zero) (suc (suc s)) hr hm hs h = absurd (omega arith)
 bits_and (suc zero) (suc (suc m)) s hr hm hs h = absurd (omega arith)
 bits_and (suc (suc r)) m s hr hm hs h = absurd (omega arith)
+
+-- a bit of a deposit is a bit of the mask, and of the source at the count of mask bits below it
+pub deposited-value : (s m r j : ℕ) → Deposits s m r → j < 64 → get_or (word_bits r) j false ≡ (get_or (word_bits m) j false && get_or (word_bits s) (count_below (word_bits m) j) false)
+deposited-value s m r j is h =
+    let k = count_below (word_bits m) j in
+    let few : k < 64 = omega (arith, length-places_from 0 (take j (word_bits m)), length-take j (word_bits m)) in
+    get_or-word_bits r j false h
+    ∙ bits_and (bit_at r j) (bit_at m j) (bit_at s k) (bit_at-lt r j) (bit_at-lt m j) (bit_at-lt s k) (is.bits j h)
+    ∙ ap₂ (λ b c. b && c) (sym (get_or-word_bits m j false h)) (sym (get_or-word_bits s k false few))
 
 -- the source's first bits, as many as the mask's list has true values
 abbrev pub offered_bits : ℕ → ℕ → List Bool

@@ -13,7 +13,10 @@ pub mod FaultLemmas
 pub mod HoleLemmas
 pub mod MaskLemmas
 pub mod NetworkLemmas
+pub mod PlaceListLemmas
 pub mod RangeLemmas
+pub mod RankWordLemmas
 pub mod ResultLemmas
 pub mod RunLemmas
 pub mod SetPlaceLemmas
+pub mod WordKernelLemmas

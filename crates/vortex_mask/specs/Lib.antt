@@ -9,6 +9,7 @@ pub mod Laws
 pub mod Mask
 pub mod MaskValues
 pub mod Ranges
+pub mod Ranks
 pub mod Steps
 pub use Rattle.mask_bits.specs.Buffer
 pub use Rattle.mask_bits.specs.Positions

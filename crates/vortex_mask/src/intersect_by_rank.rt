@@ -1,9 +1,13 @@
 mod bytewise;
 mod deposit;
+mod indices;
+mod kernels;
+mod rank_bits;
 mod select;
 mod steps;
 #[cfg(test)]
 mod tests;
+pub mod words;
 
 ghost use Rattle.std.specs.Prelude.{◌≡◌, ◌≢◌, ◌<◌, ◌⊎◌, IsOk, IfOk, All, length, IsOkUnless, alloc_error};
 ghost use Rattle.vortex_mask.specs.Mask.{truth, variant, fitting_variant, variant_and, all_false, mixed, caches, narrowed_caches};
@@ -14,7 +18,10 @@ use crate::laws;
 use crate::mask::{Mask, MaskError};
 pub use bytewise::deposit_bytewise;
 pub use deposit::{DepositBits, Portable, PortableLoop, deposit_two_holes, deposit_two_lowest};
+pub use indices::intersect_by_rank_indices;
+pub use kernels::{intersect_bit_buffer_by_rank_indices, intersect_bit_buffers};
 use mask_bits::BitBuffer;
+pub use rank_bits::RankBits;
 pub use select::SelectBit;
 use std::alloc::{AllocError, Global};
 pub use steps::Steps;
