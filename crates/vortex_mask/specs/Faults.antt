@@ -1,5 +1,5 @@
 -- What is wrong with a list of indices, or of ranges, that is to make a mask of a length. Places count from 0.
-use Rattle.std.specs.Prelude.{ℕ, ◌+◌, Bool, not, ◌&&◌, List, [], ◌∷◌, Option, Some, None, nat_eq, nat_lt, nat_le, position, find, if◌then◌else◌}
+use Rattle.std.specs.Prelude.{ℕ, ◌+◌, not, ◌&&◌, List, [], ◌∷◌, Option, Some, None, nat_eq, nat_lt, nat_le, position, find, if◌then◌else◌}
 use Rattle.std.specs.Option.{option_map}
 use Rattle.std.specs.List.{filter, list_any}
 use Rattle.vortex_mask.specs.declared.mask.error.MaskError.{MaskError}
