@@ -110,9 +110,9 @@ gathered-bits ranks at end next bits few split g k h =
     ∙ sym (ap (list_any p) (sym (take-append-drop next ranks)) ∙ list_any-append p (take next ranks) rest
     ∙ ap (λ b. list_any p (take next ranks) || b) none ∙ or-false (list_any p (take next ranks)))
   where
-  or-false : (b : Bool) → (b || false) ≡ b
-  or-false true = refl
-  or-false false = refl
+    or-false : (b : Bool) → (b || false) ≡ b
+    or-false true = refl
+    or-false false = refl
 
 -- ---- ranks as rank bits
 

@@ -85,9 +85,9 @@ deposited-word a b i at s m w fits place shows source is =
     ∙ ap₂ (λ x y. x && y) here (ap (λ n. get_or b n false) number)
     ∙ sym value)
   where
-  kept : (x y z : Bool) → (x ≡ true → y ≡ z) → (x && y) ≡ (x && z)
-  kept true y z same = same refl
-  kept false y z same = refl
+    kept : (x y z : Bool) → (x ≡ true → y ≡ z) → (x && y) ≡ (x && z)
+    kept true y z same = same refl
+    kept false y z same = refl
 
 -- ---- the words so far
 

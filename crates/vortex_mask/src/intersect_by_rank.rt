@@ -3,6 +3,7 @@ mod deposit;
 mod indices;
 mod kernels;
 mod rank_bits;
+pub mod rank_words;
 mod select;
 mod steps;
 #[cfg(test)]

@@ -10,8 +10,9 @@ ghost use Rattle.vortex_mask.specs.Steps.{word_steps};
 
 use super::deposit::DepositBits;
 use super::rank_bits::RankBits;
+use super::rank_words::narrow_at_ranks;
 use super::steps::Steps;
-use super::words::{narrow_at_ranks, narrow_by_bits};
+use super::words::narrow_by_bits;
 use crate::mask::{Mask, MaskError, MaskValues};
 use mask_bits::BitBuffer;
 use std::alloc::Global;
@@ -65,12 +66,7 @@ pub fn intersect_bit_buffer_by_rank_indices<D: DepositBits>(
 }
 
 // The mask of the first `len` bits of `words`, of which `true_count` are true.
-fn of_words(
-    alloc: Global,
-    words: Vec<u8>,
-    len: usize,
-    true_count: usize,
-) -> Result<Mask, MaskError>
+fn of_words(alloc: Global, words: Vec<u8>, len: usize, true_count: usize) -> Result<Mask, MaskError>
     requires covered { len ≤ 8 * vec_len words }
     requires counted { true_count
         ≡ count (values (record { bytes = words.items; offset = 0; len = len })) }

@@ -2,8 +2,7 @@ ghost use Rattle.std.specs.Prelude.{◌≡◌, ◌+◌, ◌<◌, ◌^◌};
 ghost use Rattle.mask_bits.specs.Buffer.{IsWithinBytes};
 ghost use Rattle.mask_bits.specs.Words.{word_bits, window};
 
-use mask_bits::BitBuffer;
-use mask_bits::words;
+use mask_bits::{BitBuffer, words};
 use std::marker::Model;
 
 /// The bits of a rank mask, read 64 at a time from any place on.

@@ -1,3 +1,5 @@
+mod kernels;
+
 use super::{
     DepositBits, Portable, PortableLoop, SelectBit, Steps, deposit_bytewise, deposit_two_holes,
     deposit_two_lowest,

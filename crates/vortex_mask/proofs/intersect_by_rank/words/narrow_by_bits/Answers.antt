@@ -8,8 +8,8 @@ use Rattle.mask_bits.proofs.Lists.WordLemmas.{count-word_bits}
 use Rattle.vortex_mask.proofs.WordKernelLemmas.{word-started, deposited-more, rank_bits-window, place-within, place-after_within, rank_place-fits, deposited-list, deposited-steps}
 use Rattle.vortex_mask.proofs.intersect_by_rank.words.narrow_by_bits.Goals as goal
 
-pub read-requires : goal.read-requires
-read-requires g c =
+pub read-source-requires : goal.read-source-requires
+read-source-requires g c =
     let a = c.args.chunks.now in
     rank_place-fits a c.args.ranks.now c.loop-i.at c.requires.fitting (place-within a c.loop-i.i c.loop-i.at c.loop-i.invariant.place) c.requires.within.fits
 
@@ -34,10 +34,10 @@ loop-i-preserved g c =
     let at = c.loop-i.at in
     let shows : word_bits c.word-mask.result ≡ padded_part a i
     = word-started a i c.word-mask.result (omega (arith, c.loop-i-test.true, c.requires.room, c.loop-i.auto.out)) c.word-mask.ensures.whole c.word-mask.ensures.last in
-    deposited-more a (values ranks) i at c.read.result c.word-mask.result _ c.deposit-kept.result c.loop-i.out c.set_word.new.bytes
+    deposited-more a (values ranks) i at c.read-source.result c.word-mask.result _ c.deposit-kept.result c.loop-i.out c.set_word.new.bytes
     c.loop-i.steps c.word-mask.new.self c.deposit-kept.new.self c.requires.fitting c.loop-i.invariant shows
     (sym (count-word_bits c.word-mask.result (omega arith)))
-    (rank_bits-window a ranks i at c.read.result c.word-mask.result c.requires.fitting c.loop-i.invariant.place shows c.read.ensures)
+    (rank_bits-window a ranks i at c.read-source.result c.word-mask.result c.requires.fitting c.loop-i.invariant.place shows c.read-source.ensures)
     c.deposit-kept.ensures.deposited c.set_word.ensures.here c.set_word.ensures.others c.word-mask.ensures.ticked c.deposit-kept.ensures.ticked
 
 pub returns-clause-list : goal.returns-clause-list

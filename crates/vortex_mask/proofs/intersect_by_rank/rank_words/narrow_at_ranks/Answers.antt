@@ -9,7 +9,7 @@ use Rattle.vortex_mask.specs.Steps.{word_steps}
 use Rattle.vortex_mask.proofs.PlaceListLemmas.{narrowed_at}
 use Rattle.vortex_mask.proofs.RankWordLemmas.{rank_bits-listed}
 use Rattle.vortex_mask.proofs.WordKernelLemmas.{word-started, deposited-more, place-after_within, deposited-list, deposited-steps}
-use Rattle.vortex_mask.proofs.intersect_by_rank.words.narrow_at_ranks.Goals as goal
+use Rattle.vortex_mask.proofs.intersect_by_rank.rank_words.narrow_at_ranks.Goals as goal
 
 pub overflow_add-end : goal.overflow_add-end
 overflow_add-end g c =

@@ -1,7 +1,7 @@
 use Rattle.mask_bits.specs.Positions.{count, true_at, rank_intersection}
 use Rattle.vortex_mask.specs.Ranks.{AreSplit}
 use Rattle.vortex_mask.proofs.WordKernelLemmas.{IsDeposited}
-use Rattle.vortex_mask.proofs.intersect_by_rank.words.narrow_at_ranks.Given as goal
+use Rattle.vortex_mask.proofs.intersect_by_rank.rank_words.narrow_at_ranks.Given as goal
 
 -- the words before took their deposits, and the ranks below the running place are passed
 abbrev pub invariant-loop-i : goal.invariant-loop-i

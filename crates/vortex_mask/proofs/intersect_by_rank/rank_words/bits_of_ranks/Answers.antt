@@ -1,7 +1,7 @@
 use Rattle.std.proofs.Common.{◌≡◌, ◌-◌, ◌<◌, ◌≤◌, get_or, length, arith}
 use Rattle.vortex_mask.specs.Ranks.{AreSplit}
 use Rattle.vortex_mask.proofs.RankWordLemmas.{gathered-none, gathered-more, gathered-split, gathered-bits, pow_in_word}
-use Rattle.vortex_mask.proofs.intersect_by_rank.words.bits_of_ranks.Goals as goal
+use Rattle.vortex_mask.proofs.intersect_by_rank.rank_words.bits_of_ranks.Goals as goal
 
 pub loop-next-init : goal.loop-next-init
 loop-next-init c = gathered-none c.args.ranks.now c.args.at c.args.end c.args.next.now c.requires.ordered c.requires.from
