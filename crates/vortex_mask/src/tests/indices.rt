@@ -252,6 +252,7 @@ fn a_large_mask_of_indices(rt: HostRuntime) -> Result<(), Fail> {
         &rt,
         indices_of_a_vec(rt.alloc(), LEN, thirds(rt.alloc())?),
         10_004,
+        false,
     )?;
     Ok(())
 }
@@ -262,6 +263,7 @@ fn a_large_mask_of_excluded_indices(rt: HostRuntime) -> Result<(), Fail> {
         &rt,
         all_but_a_vec(rt.alloc(), LEN, thirds(rt.alloc())?),
         20_007,
+        true,
     )?;
     Ok(())
 }
