@@ -61,7 +61,8 @@ impl BitBuffer {
         requires { len ≤ 8 * vec_len bytes }
         ensures { IfOk result (λ b. b ≡ record { bytes = bytes.items; offset = 0; len = len }) }
     {
-        Ok(BitBuffer::new(Bytes::from_vec(bytes)?, len))
+        let shared = Bytes::from_vec(bytes)?;
+        Ok(BitBuffer::new(shared, len))
     }
 
     /// `len` true values.

@@ -82,7 +82,7 @@ command_named named.Slice arguments = mask_and_range arguments >>= (λ (a, s, e)
 command_named named.Limit arguments = mask_and_number arguments >>= (λ (a, k). Ok (Limit a k))
 command_named named.Cat arguments = masks arguments >>= (λ ms. Ok (Cat ms))
 
--- the command that the words of a command line say: its name, then its arguments
+-- the command that a command line says: its name, then its arguments
 abbrev pub command_of : List (List ℕ) → Result Command RunError
 command_of [] = Err Usage
 command_of (name ∷ arguments) = do

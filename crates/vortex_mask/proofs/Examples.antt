@@ -1,4 +1,4 @@
--- Worked rows of the words that masks are described in, computed by the checker.
+-- Worked rows of the terms that masks are described in, computed by the checker.
 use Rattle.std.proofs.Common.{◌≡◌, true, false, [], ◌∷◌, Some, None, refl, inl, inr, arith}
 use Rattle.vortex_mask.specs.Faults.{index_fault, out_of_bounds, common, range_fault}
 use Rattle.vortex_mask.specs.Mask.{all_true, all_false, mixed, fitting_variant, variant_and, IsUniform}

@@ -1,5 +1,5 @@
 -- A rank intersection word by word: each started word of the mask takes a deposit of rank bits.
-use Rattle.std.proofs.Common.{◌≡◌, ℕ, suc, ◌+◌, ◌*◌, ◌-◌, ◌/◌, ◌<◌, ◌≤◌, ◌⊎◌, Bool, true, false, ◌&&◌, List, [], ◌∷◌, ◌++◌, length, get_or, take, drop, count_ones, refl, sym, ap, ap₂, ◌∙◌, inl, inr, arith, ◌^◌}
+use Rattle.std.proofs.Common.{◌≡◌, ℕ, suc, ◌+◌, ◌*◌, ◌-◌, ◌/◌, ◌<◌, ◌≤◌, ◌⊎◌, Bool, true, false, ◌&&◌, List, [], ◌∷◌, length, get_or, take, drop, refl, sym, ap, ap₂, ◌∙◌, inl, inr, arith, ◌^◌}
 use Rattle.std.proofs.Math.Seq.{take-add}
 use Rattle.std.proofs.lemmas.Bool.{cases_lt}
 use Rattle.std.proofs.lemmas.List.{ext_get_or, get_or-take, get_or-drop, get_or_past, length-take, take_all, take-append-drop}
@@ -9,11 +9,11 @@ use Rattle.mask_bits.specs.Words.{word_bits, word_part, window, padded_part, pad
 use Rattle.mask_bits.proofs.Lists.BitsLemmas.{length-bits_at, get_or-bits_at}
 use Rattle.mask_bits.proofs.Lists.CountLemmas.{count-append}
 use Rattle.mask_bits.proofs.Lists.FrontLemmas.{get_or-window}
-use Rattle.mask_bits.proofs.Lists.LawLemmas.{rank_intersection_value, length-rank_intersection}
+use Rattle.mask_bits.proofs.Lists.LawLemmas.{rank_intersection_value}
 use Rattle.mask_bits.proofs.Lists.PaddedLemmas.{get_or-padded_part, padded_part_from_values, padded_part-whole, padded_part-remainder}
 use Rattle.mask_bits.proofs.Lists.PlaceLemmas.{count-le-length, trues, count-trues}
 use Rattle.mask_bits.proofs.Lists.SelectLemmas.{count-word_more}
-use Rattle.mask_bits.proofs.Lists.WordLemmas.{length-word_bits, count-word_bits}
+use Rattle.mask_bits.proofs.Lists.WordLemmas.{length-word_bits}
 use Rattle.vortex_mask.specs.Deposit.{Deposits}
 use Rattle.vortex_mask.specs.Steps.{StepCounts, word_steps}
 use Rattle.vortex_mask.proofs.DepositListLemmas.{deposited-value, trues-take}

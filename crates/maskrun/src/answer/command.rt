@@ -30,7 +30,7 @@ pub(crate) enum Command<'a> {
 }
 
 impl<'a> Command<'a> {
-    // What the words of a command line say, which needs no memory.
+    // What a command line says, which needs no memory.
     pub(crate) fn read(words: &'a [String]) -> Result<Command<'a>, RunError>
         ensures { result ≡ command_of (map string_bytes words.now) }
     {

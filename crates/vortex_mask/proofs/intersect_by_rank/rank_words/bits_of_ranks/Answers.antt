@@ -1,4 +1,4 @@
-use Rattle.std.proofs.Common.{◌≡◌, ◌-◌, ◌<◌, ◌≤◌, get_or, length, arith}
+use Rattle.std.proofs.Common.{◌-◌, ◌<◌, get_or, arith}
 use Rattle.vortex_mask.specs.Ranks.{AreSplit}
 use Rattle.vortex_mask.proofs.RankWordLemmas.{gathered-none, gathered-more, gathered-split, gathered-bits, pow_in_word}
 use Rattle.vortex_mask.proofs.intersect_by_rank.rank_words.bits_of_ranks.Goals as goal

@@ -1,6 +1,6 @@
-use Rattle.std.proofs.Common.{◌≡◌, ◌+◌, ◌<◌, ◌≤◌, length, sym, ap, ◌∙◌, refl, arith}
+use Rattle.std.proofs.Common.{◌≡◌, sym, ap, ◌∙◌, refl, arith}
 use Rattle.mask_bits.specs.Positions.{count, true_at, rank_intersection}
-use Rattle.mask_bits.specs.Words.{word_bits, padded_part, started_words}
+use Rattle.mask_bits.specs.Words.{word_bits, padded_part}
 use Rattle.mask_bits.proofs.Lists.LawLemmas.{length-rank_intersection}
 use Rattle.mask_bits.proofs.Lists.PlaceLemmas.{count-le-length}
 use Rattle.mask_bits.proofs.Lists.RankLemmas.{length-true_at}

@@ -1,8 +1,7 @@
-use Rattle.std.proofs.Common.{◌≡◌, ◌+◌, ◌*◌, ◌/◌, ◌≤◌, ◌<◌, sym, arith}
+use Rattle.std.proofs.Common.{◌≡◌, sym, arith}
 use Rattle.mask_bits.specs.Buffer.{values}
-use Rattle.mask_bits.specs.Positions.{count, rank_intersection}
-use Rattle.mask_bits.specs.Words.{word_bits, padded_part, started_words}
-use Rattle.std.proofs.Common.{length}
+use Rattle.mask_bits.specs.Positions.{rank_intersection}
+use Rattle.mask_bits.specs.Words.{word_bits, padded_part}
 use Rattle.mask_bits.proofs.Lists.LawLemmas.{length-rank_intersection}
 use Rattle.mask_bits.proofs.Lists.WordLemmas.{count-word_bits}
 use Rattle.vortex_mask.proofs.WordKernelLemmas.{word-started, deposited-more, rank_bits-window, place-within, place-after_within, rank_place-fits, deposited-list, deposited-steps}
