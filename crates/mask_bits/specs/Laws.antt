@@ -40,7 +40,7 @@ LengthOfRepeated = (n : ℕ) (v : Bool) → length (repeated n v) ≡ n
 abbrev pub PositionsOfAllTrue : Type 0
 PositionsOfAllTrue = (n : ℕ) → positions (repeated n true) ≡ range_with_len 0 n
 
--- and there are as many as places
+-- an all-true list has as many true values as places
 abbrev pub CountOfAllTrue : Type 0
 CountOfAllTrue = (n : ℕ) → count (repeated n true) ≡ n
 
@@ -137,7 +137,7 @@ FoldingKeepsAStack = (a b : List Bool) (ms : List (List Bool)) → IsStack (a �
 abbrev pub RunsExist : Type 0
 RunsExist = (m : List Bool) → (rs : List (ℕ × ℕ)) × AreRuns m rs
 
--- and no two lists of ranges are its runs
+-- no two lists of ranges are a list's runs
 abbrev pub RunsAreUnique : Type 0
 RunsAreUnique = (m : List Bool) (rs ss : List (ℕ × ℕ)) → AreRuns m rs → AreRuns m ss → rs ≡ ss
 
@@ -161,16 +161,16 @@ abbrev pub RankIntersectionOfNot : Type 0
 RankIntersectionOfNot = (a b : List Bool) → length b ≡ count a
     → rank_intersection a (not_of b) ≡ and_not_of a (rank_intersection a b)
 
--- a word on two lists that takes them in either order, and three in either grouping
+-- an operation on two lists that takes them in either order, and three in either grouping
 pub record IsFreeOfOrder (join : List Bool → List Bool → List Bool) : Type 0 where
   pub commutes : (a b : List Bool) → join a b ≡ join b a
   pub regroups : (a b c : List Bool) → join (join a b) c ≡ join a (join b c)
 
--- a word on two lists that may be brought inside another
+-- an operation on two lists that may be brought inside another
 abbrev pub DistributesOver : (List Bool → List Bool → List Bool) → (List Bool → List Bool → List Bool) → Type 0
 DistributesOver join other = (a b c : List Bool) → join a (other b c) ≡ other (join a b) (join a c)
 
--- a word on two lists that drops what another adds
+-- an operation on two lists that drops what another adds
 abbrev pub Absorbs : (List Bool → List Bool → List Bool) → (List Bool → List Bool → List Bool) → Type 0
 Absorbs join other = (a b : List Bool) → length a ≡ length b → join a (other a b) ≡ a
 

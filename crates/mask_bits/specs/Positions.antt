@@ -1,4 +1,4 @@
--- A mask is a list of truth values. These words say where its true values stand and how many there are.
+-- A mask is a list of truth values. These terms say where its true values stand and how many there are.
 use Rattle.std.specs.Prelude.{ℕ, ◌+◌, ◌≡◌, ◌<◌, ◌≤◌, Bool, true, false, not, nat_eq, List, [], ◌∷◌, length, take, map, replicate, slice_index_or, slice_get}
 use Rattle.std.specs.List.{list_any, range_with_len, filter_map}
 

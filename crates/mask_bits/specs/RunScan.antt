@@ -1,4 +1,4 @@
--- Runs one value at a time. No public clause cites these words: what runs are is `AreRuns`.
+-- Runs one value at a time. No public clause cites these terms: what runs are is `AreRuns`.
 use Rattle.std.specs.Prelude.{ℕ, ◌+◌, Bool, true, false, List, [], ◌∷◌, nat_eq, if◌then◌else◌}
 
 -- a true value at n in front of the runs past it: it lengthens a run that begins right after it, or is a run of its own

@@ -1,4 +1,4 @@
--- Walks over a list by its started words. No public clause cites these words.
+-- Walks over a list by its started words. No public clause cites these terms.
 use Rattle.std.specs.Prelude.{ℕ, ◌+◌, ◌*◌, ◌≡◌, ◌<◌, ◌≤◌, ◌^◌, ◌%◌, Bool, true, false, nat_eq, List, ◌++◌, length, take, drop, slice_index_or}
 use Rattle.std.specs.Int.{bit_at}
 use Rattle.mask_bits.specs.Positions.{repeated}

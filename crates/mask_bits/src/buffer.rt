@@ -1,4 +1,4 @@
-ghost use Rattle.std.specs.Prelude.{◌≡◌, ◌+◌, ◌-◌, ◌*◌, ◌<◌, ◌≤◌, ◌^◌, ◌↔◌, ◌||◌, ℕ, false, true, [], length, vec_len, nat_eq, All, IfOk, IfSome, IsTrue, Some, slice_get, slice_range};
+ghost use Rattle.std.specs.Prelude.{◌≡◌, ◌+◌, ◌-◌, ◌*◌, ◌<◌, ◌≤◌, ◌^◌, ◌↔◌, ◌||◌, ℕ, false, true, [], length, vec_len, nat_eq, All, IfOk, IfSome, IsTrue, Some, slice_get, slice_range, take};
 ghost use Rattle.std.specs.Iterator.{UpTo, Drains};
 ghost use Rattle.std.specs.Iterator.Runs.{WholeRun};
 ghost use Rattle.mask_bits.specs.Buffer.{Packed, IsWithinBytes, values, backing_bit};
@@ -61,7 +61,8 @@ impl BitBuffer {
         requires { len ≤ 8 * vec_len bytes }
         ensures { IfOk result (λ b. b ≡ record { bytes = bytes.items; offset = 0; len = len }) }
     {
-        Ok(BitBuffer::new(Bytes::from_vec(bytes)?, len))
+        let shared = Bytes::from_vec(bytes)?;
+        Ok(BitBuffer::new(shared, len))
     }
 
     /// `len` true values.
@@ -216,8 +217,9 @@ impl BitBuffer {
         ensures within { IfSome result (λ p. p < length (values self.now)) }
     {
         let chunks = self.chunks();
-        let mut left = n;
-        for i in 0..chunks.padded_len() {
+        let (first, rest) = self.passed_blocks(n);
+        let mut left = rest;
+        for i in first..chunks.padded_len() {
             let word = chunks.padded_word(i);
             let ones = word.count_ones() as usize;
             if left < ones {
@@ -226,6 +228,24 @@ impl BitBuffer {
             left -= ones;
         }
         None
+    }
+
+    // The word at which a block of 64 words begins, not past the word of true value number `n`, and
+    // that value's number among the values from there on.
+    fn passed_blocks(&self, n: usize) -> (usize, usize)
+        ensures { n ≡ count (take (64 * result.0) (values self.now)) + result.1 }
+    {
+        let mut word = 0;
+        let mut rest = n;
+        while self.len - 64 * word > 4096 {
+            let ones = self.count_range(64 * word, 64 * word + 4096);
+            if rest < ones {
+                return (word, rest);
+            }
+            rest -= ones;
+            word += 64;
+        }
+        (word, rest)
     }
 
     /// The place of the last true value, if there is one.

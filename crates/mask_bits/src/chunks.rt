@@ -147,6 +147,7 @@ impl Iterator for Words<'_> {
         self.next += 1;
         Some(word)
     }
+
     fn size_hint(&self) -> (usize, Option<usize>)
         ensures lower { IsWithinCount result.0 (item_count (λ s. s) self.now) }
         ensures upper { IfSome result.1 (UpTo (item_count (λ s. s) self.now)) }

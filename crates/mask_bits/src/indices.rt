@@ -35,7 +35,11 @@ impl<'a> SetIndices<'a> {
     {
         let chunks = buffer.chunks();
         let word = first_word(&chunks);
-        SetIndices { chunks, at: 0, word }
+        SetIndices {
+            chunks,
+            at: 0,
+            word,
+        }
     }
 }
 

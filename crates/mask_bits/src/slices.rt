@@ -34,7 +34,11 @@ impl<'a> SetSlices<'a> {
     {
         let chunks = buffer.chunks();
         let word = first_word(&chunks);
-        SetSlices { chunks, at: 0, word }
+        SetSlices {
+            chunks,
+            at: 0,
+            word,
+        }
     }
 }
 

@@ -1,9 +1,8 @@
 -- What `parse` gives of digits.
-use Rattle.std.proofs.Common.{◌≡◌, ℕ, ◌<◌, ◌^◌, ◌==◌, Bool, true, false, List, length, Result, Ok, Err, nat_lt, rules, arith, tests}
+use Rattle.std.proofs.Common.{◌≡◌, ℕ, ◌<◌, ◌^◌, true, List, length, Err, rules, arith, tests}
 use Rattle.std.proofs.lemmas.Str.Parse.{IsNumeralModel, numerals_by_value}
 use Rattle.std.specs.Char.{is_ascii_digit}
 use Rattle.std.specs.List.{list_all}
-use Rattle.std.specs.Result.{OkIff, MatchResult}
 use Rattle.std.specs.Str.Parse.{digits_value}
 use Rattle.maskrun.specs.Arguments.{number_argument}
 use Rattle.maskrun.specs.declared.answer.error.RunError.TheVariants.{BadNumber}

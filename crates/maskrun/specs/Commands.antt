@@ -82,7 +82,7 @@ command_named named.Slice arguments = mask_and_range arguments >>= (λ (a, s, e)
 command_named named.Limit arguments = mask_and_number arguments >>= (λ (a, k). Ok (Limit a k))
 command_named named.Cat arguments = masks arguments >>= (λ ms. Ok (Cat ms))
 
--- the command that the words of a command line say: its name, then its arguments
+-- the command that a command line says: its name, then its arguments
 abbrev pub command_of : List (List ℕ) → Result Command RunError
 command_of [] = Err Usage
 command_of (name ∷ arguments) = do
@@ -97,6 +97,10 @@ text_if_len got want m = if got == want then Ok (text m) else Err (LengthsDiffer
 abbrev pub part_text : List Bool → ℕ → ℕ → Result (List ℕ) RunError
 part_text m s e = if nat_lt (length m) e then Err (OutOfRange 3) else (if nat_lt e s then Err (OutOfRange 2) else Ok (text (slice_range m s e)))
 
+-- the text of lists one after another, where the sum of their lengths fits 64 bits
+abbrev pub joined_text : List (List Bool) → Result (List ℕ) RunError
+joined_text ms = if nat_lt (sum_by length ms) (2 ^ 64) then Ok (text (joined ms)) else Err (Mask LengthOverflow)
+
 -- what a command prints
 abbrev pub printed : Command → Result (List ℕ) RunError
 printed (Rank a b) = text_if_len (length b) (count a) (rank_intersection a b)
@@ -106,7 +110,7 @@ printed (AndNot a b) = text_if_len (length b) (length a) (and_not_of a b)
 printed (Not a) = Ok (text (not_of a))
 printed (Slice a s e) = part_text a s e
 printed (Limit a k) = Ok (text (limited a k))
-printed (Cat ms) = if nat_lt (sum_by length ms) (2 ^ 64) then Ok (text (joined ms)) else Err (Mask LengthOverflow)
+printed (Cat ms) = joined_text ms
 
 -- the line for a command line: the text, or the first fault
 abbrev pub line : List (List ℕ) → Result (List ℕ) RunError

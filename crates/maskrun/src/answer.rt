@@ -1,4 +1,4 @@
-//! What the program prints for the words of its command line.
+//! What the program prints for its command line.
 
 ghost use Rattle.std.specs.Prelude.{◌≡◌, ◌⊎◌, Ok, Err, Result, map, IfOk, IfErr, string_bytes};
 ghost use Rattle.std.specs.Result.{ForErr};
@@ -37,8 +37,8 @@ pub fn answer(alloc: Global, words: &[String]) -> Result<String, RunError>
     ensures fault { IfErr result (λ e. (line (map string_bytes words.now) ≡ Err e)
         ⊎ (e ≡ out_of_memory)) }
 
-    // A fault of the words themselves is never told as want of memory.
-    ensures words { ForErr (command_of (map string_bytes words.now)) (λ e. result ≡ Err e) }
+    // A fault of the arguments themselves is never told as want of memory.
+    ensures arguments { ForErr (command_of (map string_bytes words.now)) (λ e. result ≡ Err e) }
 {
     Command::read(words)?.line(alloc)
 }

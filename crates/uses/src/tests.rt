@@ -2,6 +2,7 @@
 ghost use Rattle.std.specs.Prelude.{◌≡◌};
 
 mod builder;
+mod constructors;
 mod large;
 mod packed;
 mod pointwise;

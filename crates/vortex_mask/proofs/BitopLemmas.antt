@@ -2,7 +2,7 @@
 use Rattle.std.proofs.Common.{◌≡◌, ℕ, ◌<◌, Bool, true, false, not, ◌&&◌, ◌||◌, List, length, map, refl, sym, ap, ◌∙◌, arith, inl, inr, ◌⊎◌}
 use Rattle.mask_bits.specs.Lists.{combined, and_of, or_of, not_of, and_not_of}
 use Rattle.mask_bits.specs.Positions.{repeated}
-use Rattle.mask_bits.proofs.Lists.BooleanLemmas.{length-combined, combined-left, combined-right, map-itself, map-one, not_of-repeated}
+use Rattle.mask_bits.proofs.Lists.BooleanLemmas.{length-combined, combined-left, combined-right, map-itself, map-one}
 use Rattle.mask_bits.proofs.Lists.CountLemmas.{length-repeated}
 use Rattle.vortex_mask.specs.Mask.{truth, variant, fitting_variant, Variant, all_true, all_false, mixed, variant_and, variant_or, variant_not}
 use Rattle.vortex_mask.specs.declared.mask.Mask.{Mask}

@@ -1,6 +1,5 @@
--- Worked rows of the words that masks are described in, computed by the checker.
-use Rattle.std.proofs.Common.{◌≡◌, ◌<◌, ◌≤◌, ℕ, Bool, true, false, List, [], ◌∷◌, Some, None, refl, inl, inr, arith}
-use Rattle.mask_bits.specs.Positions.{count}
+-- Worked rows of the terms that masks are described in, computed by the checker.
+use Rattle.std.proofs.Common.{◌≡◌, true, false, [], ◌∷◌, Some, None, refl, inl, inr, arith}
 use Rattle.vortex_mask.specs.Faults.{index_fault, out_of_bounds, common, range_fault}
 use Rattle.vortex_mask.specs.Mask.{all_true, all_false, mixed, fitting_variant, variant_and, IsUniform}
 use Rattle.vortex_mask.specs.declared.mask.error.MaskError.TheVariants.{UnsortedIndices, RepeatedIndex, IndexOutOfBounds, BadRange, UnsortedRanges, OverlappingRanges}

@@ -1,9 +1,12 @@
 -- The list that is false exactly at some places, as they come one by one.
-use Rattle.std.proofs.Common.{◌≡◌, ◌≢◌, ℕ, ◌+◌, ◌<◌, ◌≤◌, ◌||◌, Bool, true, false, not, nat_eq, nat_le, List, [], ◌∷◌, ◌++◌, length, get_or, set, map, zero, suc, inl, inr, Option, Some, None, refl, sym, ap, ◌∙◌, arith}
-use Rattle.std.specs.List.{find, list_any, range_with_len}
-use Rattle.std.proofs.lemmas.Bool.{cases_eq, eq-eqb, ne_eqb}
+use Rattle.std.proofs.Common.{◌≡◌, ◌≢◌, ℕ, ◌<◌, ◌≤◌, ◌||◌, Bool, true, false, not, nat_eq, List, [], ◌∷◌, ◌++◌, length, get_or, set, zero, suc, inl, inr, Option, Some, refl, sym, ap, ◌∙◌, arith}
+use Rattle.std.specs.Option.{option_or}
+use Rattle.vortex_mask.specs.Faults.{first_past}
+use Rattle.vortex_mask.proofs.FaultLemmas.{first_past-within, first_past-more}
+use Rattle.std.specs.List.{list_any}
+use Rattle.std.proofs.lemmas.Bool.{cases_lt, cases_eq, eq-eqb, ne_eqb}
 use Rattle.std.proofs.lemmas.List.{same_lists, length-set, get_or-set_same, get_or-set_other, length-replicate, get_or-replicate}
-use Rattle.std.proofs.lemmas.List.Folds.{list_any-append, find-append}
+use Rattle.std.proofs.lemmas.List.Folds.{list_any-append}
 use Rattle.std.proofs.lemmas.List.FromFn.{length-map-range_with_len, get_or-map-range_with_len}
 use Rattle.mask_bits.specs.Lists.{not_of}
 use Rattle.mask_bits.specs.Positions.{repeated, true_at}
@@ -79,3 +82,18 @@ without-past n x xs h =
     let below : i < n = omega (arith, length-without n xs) in
     get_or-without n xs i d below
     ∙ sym (get_or-without n (xs ++ x ∷ []) i d below ∙ ap not (among_other i x xs (λ same. absurd (omega arith)))))
+
+-- one more place: its value is made false, or it is the first past the end where none was
+pub excluded-more : (n x : ℕ) (xs : List ℕ) (old new : List Bool) (before after : Option ℕ) → old ≡ without n xs → before ≡ first_past n xs
+    → (x < length old → (new ≡ set old x false) × (after ≡ before)) → (length old ≤ x → (new ≡ old) × (after ≡ option_or before (Some x)))
+    → (new ≡ without n (xs ++ x ∷ [])) × (after ≡ first_past n (xs ++ x ∷ []))
+excluded-more n x xs old new before after list first within past =
+    let len : length old ≡ n = ap length list ∙ length-without n xs in
+    elim (cases_lt x n) [
+      | inl h ↦
+          let made = within (omega arith) in
+          (made.0 ∙ ap (λ (m : List Bool). set m x false) list ∙ without-set n x xs h, made.1 ∙ first ∙ first_past-within n x xs h)
+      | inr h ↦
+          let made = past (omega arith) in
+          (made.0 ∙ list ∙ without-past n x xs h, made.1 ∙ ap (λ (o : Option ℕ). option_or o (Some x)) first ∙ first_past-more n x xs h)
+    ]

@@ -87,8 +87,8 @@ none_mapped f None e = refl
 none_mapped f (Some x) e = absurd (cc)
 
 -- no index past the length
-pub within-faultless : (len : ℕ) (xs : List ℕ) → out_of_bounds len xs ≡ None → All (λ i. i < len) xs
-within-faultless len xs none = within-first_past len xs (none_mapped (λ x. IndexOutOfBounds x len) (first_past len xs) none)
+pub within_faultless : (len : ℕ) (xs : List ℕ) → out_of_bounds len xs ≡ None → All (λ i. i < len) xs
+within_faultless len xs none = within-first_past len xs (none_mapped (λ x. IndexOutOfBounds x len) (first_past len xs) none)
 
 or_else-none : {X : Type 0} (a b : Option X) → or_else a b ≡ None → (a ≡ None) × (b ≡ None)
 or_else-none (Some x) b e = absurd (cc)
@@ -102,7 +102,7 @@ index_fault-none len xs none =
     let a = or_else-none unsorted (or_else repeated (out_of_bounds len xs)) none in
     let b = or_else-none repeated (out_of_bounds len xs) a.1 in (
       ascending-faultless 0 xs (none_mapped (λ at. UnsortedIndices at) (first_unsorted xs) a.0) (none_mapped (λ at. RepeatedIndex at) (first_repeated xs) b.0),
-      within-faultless len xs b.1,
+      within_faultless len xs b.1,
     )
 
 -- each above the one before it makes no pair that stands otherwise

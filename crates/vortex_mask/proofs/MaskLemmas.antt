@@ -1,7 +1,7 @@
 -- The variant that a list may have, by its count.
 use Rattle.std.proofs.Common.{◌≡◌, ℕ, zero, suc, ◌<◌, Bool, true, false, List, [], ◌∷◌, length, refl, sym, ap, ◌∙◌, arith, inl, inr, ◌⊎◌, Some, subst}
 use Rattle.std.proofs.lemmas.List.{length-replicate}
-use Rattle.vortex_mask.specs.Mask.{truth, variant_and, Variant, all_true, all_false, mixed, fitting_variant, variant, IsUniform}
+use Rattle.vortex_mask.specs.Mask.{truth, variant_and, Variant, all_true, all_false, mixed, fitting_variant, variant}
 use Rattle.mask_bits.specs.Positions.{count, rank_intersection, repeated, positions}
 use Rattle.vortex_mask.specs.declared.mask.Mask.{Mask}
 use Rattle.vortex_mask.specs.declared.mask.Mask.TheVariants.{AllTrue, AllFalse, Values}
@@ -9,7 +9,6 @@ use Rattle.mask_bits.proofs.Lists.LawLemmas.{rank_intersection-none}
 use Rattle.mask_bits.proofs.Lists.PlaceLemmas.{count-le-length}
 use Rattle.mask_bits.proofs.Lists.RankLemmas.{rank_intersection-all_true, rank_intersection-by_all_true}
 use Rattle.mask_bits.proofs.Lists.CountLemmas.{count-repeated_true, count-repeated_false, all_true_from_count, all_false_from_count, list_all-count, list_all-count_less, list_any-count, list_any-count_zero, length-repeated}
-use Rattle.std.specs.Prelude.{◌↔◌}
 use Rattle.vortex_mask.specs.Laws.{UniformIsOfOneValue}
 use Rattle.vortex_mask.specs.MaskValues.{AreOf, no_caches, kept_indices, kept_ranges}
 use Rattle.mask_bits.specs.Runs.{AreRanges}

@@ -4,7 +4,7 @@ use Rattle.std.specs.List.{All, AllAdjacentBelow, list_any, prefix_len, position
 use Rattle.std.specs.Option.{option_map}
 use Rattle.std.proofs.lemmas.Bool.{cases_lt, or_left}
 use Rattle.std.proofs.lemmas.Bool.Decides.{nat_tests}
-use Rattle.std.proofs.lemmas.List.{at_drop_more, at_drop_all, length-append, get_or_append_left, get_or-append_right, get_or-replicate, length-replicate}
+use Rattle.std.proofs.lemmas.List.{at_drop_more, at_drop_all, length-append, get_or_append_left, get_or-append_right, get_or-replicate}
 use Rattle.std.proofs.lemmas.List.Elements.{All-nil, All-cons}
 use Rattle.std.proofs.lemmas.List.Sums.{prefix_len_passes}
 use Rattle.mask_bits.specs.Positions.{count, repeated}
@@ -12,10 +12,9 @@ use Rattle.mask_bits.specs.Runs.{is_inside, AreRanges}
 use Rattle.mask_bits.proofs.Lists.CountLemmas.{length-repeated, all_true_from_count, all_false_from_count}
 use Rattle.mask_bits.proofs.Lists.PlaceLemmas.{count-le-length}
 use Rattle.mask_bits.proofs.Lists.RangeLemmas.{Ordered, Ordered-top, none_below, ranges_add_up_to_the_count}
-use Rattle.mask_bits.proofs.Lists.RunLemmas.{inside, inside-before, inside-past}
+use Rattle.mask_bits.proofs.Lists.RunLemmas.{inside, inside-past}
 use Rattle.vortex_mask.specs.Faults.{or_else, bad_range, neighbour_fault, neighbours_fault_from, range_fault}
 use Rattle.vortex_mask.specs.Ranges.{places_held}
-use Rattle.vortex_mask.specs.declared.mask.error.MaskError.{MaskError}
 use Rattle.vortex_mask.specs.declared.mask.error.MaskError.TheVariants.{BadRange}
 
 -- ---- neighbours, one pair at a time

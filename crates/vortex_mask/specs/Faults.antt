@@ -10,7 +10,7 @@ abbrev pub or_else : {X : Type 0} → Option X → Option X → Option X
 or_else (Some x) other = Some x
 or_else None other = other
 
--- the first place whose index stands so to the one before it, where the first of these stands at place n
+-- the first place whose index, held to the one before it, passes the test, where the first of the list stands at place n
 abbrev pub first_pair_from : (ℕ → ℕ → Bool) → ℕ → List ℕ → Option ℕ
 first_pair_from test n [] = None
 first_pair_from test n (x ∷ []) = None
@@ -28,7 +28,7 @@ first_repeated xs = first_pair_from (λ x y. nat_eq y x) 0 xs
 abbrev pub first_past : ℕ → List ℕ → Option ℕ
 first_past len xs = find (λ x. nat_le len x) xs
 
--- where there is one, that is the fault
+-- the fault of the first index that is not below the length, where there is one
 abbrev pub out_of_bounds : ℕ → List ℕ → Option MaskError
 out_of_bounds len xs = option_map (λ x. IndexOutOfBounds x len) (first_past len xs)
 

@@ -1,4 +1,4 @@
--- What holds of the words that masks are described in.
+-- What holds of the terms that masks are described in.
 use Rattle.std.specs.Prelude.{ℕ, ◌≡◌, ◌<◌, ◌↔◌, ◌⊎◌, Bool, true, false, List, length, All, None}
 use Rattle.std.specs.List.Sorted.{IsStrictlyIncreasing}
 use Rattle.mask_bits.specs.Positions.{repeated}

@@ -43,7 +43,7 @@ variant_and mixed all_true = mixed
 variant_and mixed all_false = all_false
 variant_and mixed mixed = mixed
 
--- joined by `or`
+-- two variants read as truth values, and joined by `or`
 abbrev pub variant_or : Variant → Variant → Variant
 variant_or all_true w = all_true
 variant_or all_false w = w
@@ -51,7 +51,7 @@ variant_or mixed all_true = all_true
 variant_or mixed all_false = mixed
 variant_or mixed mixed = mixed
 
--- turned
+-- a variant read as a truth value, and turned
 abbrev pub variant_not : Variant → Variant
 variant_not all_true = all_false
 variant_not all_false = all_true

@@ -12,6 +12,7 @@ pub record StepCounts : Type 0 where
   pub placed : ℕ
   pub spots : ℕ
 
+-- nothing counted yet
 abbrev pub no_steps : StepCounts
 no_steps = record { deposits = 0; words = 0; selections = 0; offered = 0; placed = 0; spots = 0 }
 

@@ -86,7 +86,7 @@ impl Mask {
         match self {
             Mask::AllTrue(len) => Ok(Mask::AllFalse(*len)),
             Mask::AllFalse(len) => Ok(Mask::AllTrue(*len)),
-            Mask::Values(values) => { Mask::from_buffer(alloc, values.bit_buffer().not(alloc)?) }
+            Mask::Values(values) => Mask::from_buffer(alloc, values.bit_buffer().not(alloc)?),
         }
     }
 
@@ -191,10 +191,12 @@ impl Mask {
             → IsOk result }
         ensures refused { IsOkUnless result (MaskError.Memory alloc_error) }
     {
-        if let Mask::AllFalse(_) = other {
-            laws::one_variant(&self);
-            return Ok(self);
+        match other {
+            Mask::AllFalse(_) => {
+                laws::one_variant(&self);
+                Ok(self)
+            }
+            Mask::AllTrue(_) | Mask::Values(_) => self.without(alloc, other),
         }
-        self.without(alloc, other)
     }
 }

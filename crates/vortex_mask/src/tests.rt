@@ -1,9 +1,13 @@
 // How a test is written stands at the head of the tests of `mask_bits`.
 ghost use Rattle.std.specs.Prelude.{◌≡◌};
 
+mod bitops;
 mod callers;
 mod concat;
 mod indices;
+mod kept;
+mod large;
+mod parts;
 mod ranges;
 
 use crate::mask::{AllOr, Mask, MaskError, MaskValues};

@@ -1,5 +1,5 @@
 -- Ascending lists of places: the true places of a list are such a list, and each such list is one list's true places.
-use Rattle.std.proofs.Common.{◌≡◌, ℕ, zero, suc, ◌+◌, ◌<◌, ◌≤◌, ◌||◌, Bool, true, false, nat_eq, List, [], ◌∷◌, length, get_or, map, refl, sym, ap, subst, ◌∙◌, inl, inr, arith, add-zero}
+use Rattle.std.proofs.Common.{◌≡◌, ℕ, zero, suc, ◌+◌, ◌<◌, ◌≤◌, ◌||◌, Bool, true, false, nat_eq, List, [], ◌∷◌, length, get_or, map, refl, sym, ap, subst, ◌∙◌, inl, inr, arith}
 use Rattle.std.specs.List.{All, list_any, range_with_len}
 use Rattle.std.specs.List.Sorted.{IsStrictlyIncreasing}
 use Rattle.std.proofs.lemmas.Bool.{cases_eq, eq-eqb, ne_eqb}
@@ -34,9 +34,9 @@ Rising-from low high (p ∷ ps) first ascending within = (
       (λ k d h. within (suc k) d (omega arith)),
 )
   where
-  same_first : (xs : List ℕ) (d : ℕ) → 0 < length xs → get_or xs 0 d ≡ get_or xs 0 0
-  same_first [] d h = absurd (omega arith)
-  same_first (x ∷ xs) d h = refl
+    same_first : (xs : List ℕ) (d : ℕ) → 0 < length xs → get_or xs 0 d ≡ get_or xs 0 0
+    same_first [] d h = absurd (omega arith)
+    same_first (x ∷ xs) d h = refl
 
 pub Rising-ascending : (high : ℕ) (ps : List ℕ) → IsStrictlyIncreasing ps → All (λ p. p < high) ps → Rising 0 high ps
 Rising-ascending high ps ascending within = Rising-from 0 high ps (λ k d first h. omega arith) ascending within

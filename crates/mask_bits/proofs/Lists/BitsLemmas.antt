@@ -1,15 +1,15 @@
 -- The bits of some bytes from any position on: parts of them, the words that show them, and their counts.
-use Rattle.std.proofs.Common.{◌≡◌, ℕ, ◌+◌, ◌*◌, ◌-◌, ◌/◌, ◌%◌, ◌^◌, ◌<◌, ◌≤◌, Bool, false, nat_eq, List, ◌++◌, length, get_or, drop, sym, ap, ◌∙◌, inl, inr, arith, count_ones}
+use Rattle.std.proofs.Common.{◌≡◌, ℕ, ◌+◌, ◌*◌, ◌-◌, ◌/◌, ◌%◌, ◌^◌, ◌<◌, ◌≤◌, Bool, false, nat_eq, List, ◌++◌, length, get_or, take, drop, slice_range, refl, sym, ap, ◌∙◌, ◌⊎◌, inl, inr, arith, count_ones}
 use Rattle.std.specs.Int.{bit_at}
 use Rattle.std.specs.Int.RustNames.{bit_and}
 use Rattle.std.proofs.lemmas.Bool.{cases_lt}
-use Rattle.std.proofs.lemmas.List.{length-append, get_or_append_left, get_or-append_right, get_or-drop, length-replicate, get_or-replicate}
-use Rattle.mask_bits.specs.Buffer.{backing_bit, values}
+use Rattle.std.proofs.lemmas.List.{take-append-le, take_all, length-drop, length-append, get_or_append_left, get_or-append_right, get_or-drop, length-replicate, get_or-replicate}
+use Rattle.mask_bits.specs.Buffer.{Packed, backing_bit, values}
 use Rattle.mask_bits.specs.Positions.{count, repeated}
 use Rattle.mask_bits.specs.Words.{word_bits, window}
-use Rattle.mask_bits.proofs.BufferLemmas.{length-values, get_or-values, values_from_bits}
+use Rattle.mask_bits.proofs.BufferLemmas.{length-values, get_or-values, values_from_bits, values-part}
 use Rattle.mask_bits.proofs.Lists.CountLemmas.{count-append, count-repeated_false}
-use Rattle.mask_bits.proofs.Lists.FrontLemmas.{get_or-window}
+use Rattle.mask_bits.proofs.Lists.FrontLemmas.{get_or-window, front-more_word, front-same}
 use Rattle.mask_bits.proofs.Lists.WordLemmas.{word_bits_from_bits, get_or-word_bits, count-word_bits}
 use Rattle.mask_bits.proofs.Lists.PlaceLemmas.{count-le-length}
 use Rattle.mask_bits.proofs.Lists.ShiftLemmas.{bit_at-low_mask, bit_at-past_mask}
@@ -97,3 +97,41 @@ count-bits_at-le bytes p n = omega (arith, count-le-length (bits_at bytes p n), 
 pub bit-window : (bytes : List ℕ) (p w j : ℕ) → word_bits w ≡ window bytes p → j < 64 → nat_eq (bit_at w j) 1 ≡ backing_bit bytes (p + j)
 bit-window bytes p w j shows h =
     sym (get_or-word_bits w j false h) ∙ ap (λ (xs : List Bool). get_or xs j false) shows ∙ get_or-window bytes p j false h
+
+-- ---- words of a part of a buffer's list, from any value on
+
+-- a window is 64 bits
+pub window-bits_at : (bytes : List ℕ) (p : ℕ) → window bytes p ≡ bits_at bytes p 64
+unfolding window values
+window-bits_at bytes p = refl
+
+-- the word from value s on is the part of 64 values from there
+pub window-part : (b : Packed) (s : ℕ) → s + 64 ≤ b.len → window b.bytes (b.offset + s) ≡ slice_range (values b) s (s + 64)
+window-part b s within =
+    let len : 64 ≡ s + 64 - s = omega arith in
+    window-bits_at b.bytes (b.offset + s) ∙ ap (bits_at b.bytes (b.offset + s)) len ∙ values-part b s (s + 64) (omega arith) within
+
+-- and where fewer are left, its first values are those
+pub window-rest : (b : Packed) (s : ℕ) → s ≤ b.len → b.len - s ≤ 64 → take (b.len - s) (window b.bytes (b.offset + s)) ≡ drop s (values b)
+window-rest b s within few =
+    let n : ℕ = b.len - s in
+    let all : 64 ≡ n + (64 - n) = omega arith in
+    let whole : window b.bytes (b.offset + s) ≡ bits_at b.bytes (b.offset + s) n ++ bits_at b.bytes (b.offset + s + n) (64 - n)
+    = window-bits_at b.bytes (b.offset + s) ∙ ap (bits_at b.bytes (b.offset + s)) all ∙ bits_at-append b.bytes (b.offset + s) n (64 - n) in
+    let len = length-bits_at b.bytes (b.offset + s) n in
+    ap (take n) whole
+    ∙ take-append-le n (bits_at b.bytes (b.offset + s) n) (bits_at b.bytes (b.offset + s + n) (64 - n)) (omega arith)
+    ∙ take_all n (bits_at b.bytes (b.offset + s) n) (omega arith)
+    ∙ values-part b s b.len within (omega arith)
+    ∙ take_all n (drop s (values b)) (omega (arith, length-drop s (values b), length-values b))
+
+-- ---- a list that is written word by word
+
+-- after word i is written the first bits are those before it, and the word
+pub front-written : (old new : List ℕ) (i w : ℕ) → window new (64 * i) ≡ word_bits w
+    → ((p : ℕ) → ((p < 64 * i) ⊎ (64 * i + 64 ≤ p)) → backing_bit new p ≡ backing_bit old p)
+    → bits_at new 0 (64 * (i + 1)) ≡ bits_at old 0 (64 * i) ++ word_bits w
+front-written old new i w here others =
+    front-more_word new i
+    ∙ ap (λ (xs : List Bool). bits_at new 0 (64 * i) ++ xs) here
+    ∙ ap (λ (xs : List Bool). xs ++ word_bits w) (front-same old new (64 * i) (λ p h. others p (inl h)))

@@ -1,5 +1,5 @@
 -- Where true value number n of a list stands, found by the counts of its started words; and its last true value.
-use Rattle.std.proofs.Common.{◌≡◌, ℕ, zero, suc, ◌+◌, ◌*◌, ◌-◌, ◌^◌, ◌<◌, ◌≤◌, Bool, true, false, nat_eq, List, [], ◌∷◌, ◌++◌, length, get_or, take, drop, map, Some, None, slice_get, refl, sym, ap, ◌∙◌, inl, inr, arith, append-nil, add-zero, pow-suc, drop-drop, option_map}
+use Rattle.std.proofs.Common.{◌≡◌, ℕ, zero, suc, ◌+◌, ◌*◌, ◌-◌, ◌^◌, ◌<◌, ◌≤◌, Bool, true, false, nat_eq, List, [], ◌∷◌, ◌++◌, length, get_or, take, drop, map, Some, None, slice_get, slice_range, refl, sym, ap, ◌∙◌, inl, inr, arith, append-nil, add-zero, pow-suc, drop-drop, option_map}
 use Rattle.std.specs.Int.{bit_at, w64, leading_zeros}
 use Rattle.std.specs.Int.RustNames.{bit_and}
 use Rattle.std.proofs.lemmas.Bool.{cases_eq, cases_lt, true≢false}
@@ -189,10 +189,11 @@ high w some fits =
     let place : 63 - leading_zeros w64 w ≡ j = omega (arith, top.1) in
     let split : 1 * 2 ^ j + (w - 2 ^ j) ≡ w = omega (arith, top.2) in
     let small : w - 2 ^ j < 2 ^ j = omega (arith, top.2, top.3, pow-suc 2 j) in
-    let first : j - j ≡ 0 = omega arith in
-    (omega (arith, top.1),
-    ap (bit_at w) place ∙ ap (λ n. bit_at n j) (sym split) ∙ bit_at_cat_high 1 j (w - 2 ^ j) j small (omega arith) ∙ ap (bit_at 1) first ∙ bit_at_lowest 1,
-    λ i h. bit_at_above w (suc j) i top.3 (omega arith))
+    let first : j - j ≡ 0 = omega arith in (
+      omega (arith, top.1),
+      ap (bit_at w) place ∙ ap (λ n. bit_at n j) (sym split) ∙ bit_at_cat_high 1 j (w - 2 ^ j) j small (omega arith) ∙ ap (bit_at 1) first ∙ bit_at_lowest 1,
+      λ i h. bit_at_above w (suc j) i top.3 (omega arith),
+    )
 
 -- the last true value of a list, in the last started word that has one
 pub last_in_word : (m : List Bool) (i w : ℕ) → 0 < w → w < 2 ^ 64 → word_bits w ≡ padded_part m i → ((p : ℕ) → 64 * (i + 1) ≤ p → get_or m p false ≡ false)
@@ -220,3 +221,9 @@ none_more m i read none p from = elim (cases_lt p (64 * i + 64)) [
       let place : 64 * i + (p - 64 * i) ≡ p = omega arith in
       ap (λ k. get_or m k false) (sym place) ∙ sym (bit-padded m i 0 (p - 64 * i) read (omega arith)) ∙ ap (λ b. nat_eq b 1) (bit_at-zero (p - 64 * i))
 ]
+
+-- the true values up to a place, and those of the part from there
+pub count-part_further : (m : List Bool) (s n : ℕ) → count (take (s + n) m) ≡ count (take s m) + count (slice_range m s (s + n))
+count-part_further m s n =
+    let len : n ≡ s + n - s = omega arith in
+    ap count (take-add s n m) ∙ count-append (take s m) (take n (drop s m)) ∙ ap (λ k. count (take s m) + count (take k (drop s m))) len

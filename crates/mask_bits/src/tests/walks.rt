@@ -86,7 +86,10 @@ fn has_runs(
 fn runs_over_the_ends_of_words(rt: HostRuntime) -> Result<(), Fail> {
     for (indices, want) in [
         ([66, 67, 68].as_slice(), [(63, 66)].as_slice()),
-        ([65, 67, 130].as_slice(), [(62, 63), (64, 65), (127, 128)].as_slice()),
+        (
+            [65, 67, 130].as_slice(),
+            [(62, 63), (64, 65), (127, 128)].as_slice(),
+        ),
         ([3, 207].as_slice(), [(0, 1), (204, 205)].as_slice()),
         ([].as_slice(), [].as_slice()),
     ] {

@@ -2,6 +2,7 @@ ghost use Rattle.std.specs.Prelude.{◌≡◌, ◌⊎◌, Ok, Err, map, IfOk, If
 ghost use Rattle.maskrun.specs.Commands.{command_of, command_named, printed, out_of_memory};
 
 mod boolean;
+mod cat;
 mod part;
 mod rank;
 mod shapes;
@@ -10,6 +11,7 @@ use crate::answer::RunError;
 use crate::answer::argument::MaskArgument;
 use crate::answer::mask_list::MaskList;
 use crate::answer::name::Name;
+use cat::cat;
 use rank::rank;
 use shapes::{mask_and_number, mask_and_range, one_mask, two_masks};
 use std::alloc::Global;
@@ -28,7 +30,7 @@ pub(crate) enum Command<'a> {
 }
 
 impl<'a> Command<'a> {
-    // What the words of a command line say, which needs no memory.
+    // What a command line says, which needs no memory.
     pub(crate) fn read(words: &'a [String]) -> Result<Command<'a>, RunError>
         ensures { result ≡ command_of (map string_bytes words.now) }
     {
@@ -66,7 +68,7 @@ impl<'a> Command<'a> {
             Command::Not(a) => boolean::not(alloc, a),
             Command::Slice(a, start, end) => part::slice(alloc, a, *start, *end),
             Command::Limit(a, k) => part::limit(alloc, a, *k),
-            _ => Err(RunError::Usage),
+            Command::Cat(list) => cat(alloc, list),
         }
     }
 }

@@ -57,7 +57,9 @@ fn large_buffers_of_one_value(rt: HostRuntime) -> Result<(), Fail> {
 fn a_large_slice(rt: HostRuntime) -> Result<(), Fail> {
     let bytes = Bytes::from_vec(vec![in rt.alloc(); 0x55u8; 4_000]?)?;
     same(&rt, bytes.len(), 4_000);
-    let part = BitBuffer::new(bytes, 32_000).slice(1, 31_998)?;
+    let whole = BitBuffer::new(bytes, 32_000);
+    same(&rt, whole.len(), 32_000);
+    let part = whole.slice(1, 31_998)?;
     same(&rt, part.len(), 31_997);
     same(&rt, part.true_count(), 15_998);
     Ok(())

@@ -1,4 +1,5 @@
-ghost use Rattle.std.specs.Prelude.{◌≡◌, ◌<◌, ◌⊎◌, ℕ, List, true, IfOk, IfErr, Some, None, alloc_error, length};
+ghost use Rattle.std.specs.Prelude.{◌≡◌, ◌<◌, ◌≤◌, ◌⊎◌, ℕ, List, true, false, IfOk, IfErr, Some, None, alloc_error, length, slice_set};
+ghost use Rattle.std.specs.Option.{option_or};
 ghost use Rattle.std.specs.Iterator.{IsFinite, Drains};
 ghost use Rattle.std.specs.Iterator.Runs.{WholeRun};
 ghost use Rattle.mask_bits.specs.Buffer.{values};
@@ -70,14 +71,23 @@ fn exclude<I: Iterator<Item = usize>>(kept: &mut BitBufferMut, indices: I) -> Op
         × (kept.new ≡ not_of (true_at (length kept.old) xs))
         × (result ≡ first_past (length kept.old) xs) }
 {
-    let len = kept.len();
     let mut past_end = None;
     for index in indices {
-        if index < len {
-            kept.unset(index);
-        } else {
-            past_end = past_end.or(Some(index));
-        }
+        past_end = exclude_one(kept, index, past_end);
     }
     past_end
+}
+
+// Makes one value false, or notes that its place is past the end where none was noted yet.
+fn exclude_one(kept: &mut BitBufferMut, index: usize, past_end: Option<usize>) -> Option<usize>
+    ensures within { index < length kept.old
+        → (kept.new ≡ slice_set kept.old index false) × (result ≡ past_end) }
+    ensures past { length kept.old ≤ index
+        → (kept.new ≡ kept.old) × (result ≡ option_or past_end (Some index)) }
+{
+    if index < kept.len() {
+        kept.unset(index);
+        return past_end;
+    }
+    past_end.or(Some(index))
 }

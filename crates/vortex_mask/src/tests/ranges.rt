@@ -138,3 +138,44 @@ fn long_masks_of_ranges(rt: HostRuntime) -> Result<(), Fail> {
     }
     Ok(())
 }
+
+// A part of 1110011001, whose ranges are kept: what it lists, and the ranges that it keeps.
+fn part_keeps(
+    rt: &impl Abort,
+    alloc: Global,
+    range: (usize, usize),
+    want: (&str, Option<&[(usize, usize)]>),
+) -> Result<(), MaskError> {
+    let ranges = Vec::from_slice(alloc, &[(0, 3), (5, 7), (9, 10)])?;
+    let mask = Mask::from_slices(alloc, 10, ranges)?;
+    assert!(rt; range.0 <= range.1 && range.1 <= mask.len());
+    let part = mask.slice(alloc, range.0, range.1)?;
+    lists(rt, &part, want.0);
+    let kept = match part.values() {
+        Some(values) => values.cached_slices(),
+        None => None,
+    };
+    assert!(rt; kept == want.1);
+    Ok(())
+}
+
+#[test]
+fn parts_of_kept_ranges(rt: HostRuntime) -> Result<(), Fail> {
+    let whole = [(0, 3), (5, 7), (9, 10)];
+    for (range, want) in [
+        ((2, 7), ("10011", None)),
+        ((0, 10), ("1110011001", Some(whole.as_slice()))),
+    ] {
+        part_keeps(&rt, rt.alloc(), range, want)?;
+    }
+    Ok(())
+}
+
+#[test]
+fn kept_ranges_do_not_count(rt: HostRuntime) -> Result<(), Fail> {
+    let ranges = Vec::from_slice(rt.alloc(), &[(1, 3), (3, 4), (6, 8)])?;
+    let kept = Mask::from_slices(rt.alloc(), 8, ranges)?;
+    let plain = super::mask(rt.alloc(), "01110011")?;
+    assert!(rt; kept == plain);
+    Ok(())
+}

@@ -11,8 +11,15 @@ overflow_add-result c =
     let head : ℕ = (8 - p % 8) % 8 in
     let byte : ℕ = (p + head) / 8 in
     let words : ℕ = (c.args.len - head) / 64 in
-    omega (arith, c.count_few-2.ensures, c.count_words.ensures, c.if-len-lt64.false, c.ranges.len.fits,
-    count-bits_at-le bytes p head, count-bits_at-le (take (length bytes - byte) (drop byte bytes)) 0 (64 * words))
+    omega (
+      arith,
+      c.count_few-2.ensures,
+      c.count_words.ensures,
+      c.if-len-lt64.false,
+      c.ranges.len.fits,
+      count-bits_at-le bytes p head,
+      count-bits_at-le (take (length bytes - byte) (drop byte bytes)) 0 (64 * words),
+    )
 
 pub returns : goal.returns
 returns c =
@@ -24,9 +31,14 @@ returns c =
     let words : ℕ = (n - head) / 64 in
     let byte : ℕ = (p + head) / 8 in
     let from : n - tail ≡ head + 64 * words = omega (arith, c.if-len-lt64.false) in
-    omega (arith, c.count_few-2.ensures, c.count_words.ensures, c.count_few-3.ensures,
-    ap (λ k. count (bits_at bytes (p + k) tail)) from,
-    count-split bytes (take (length bytes - byte) (drop byte bytes)) p byte head (64 * words) tail n (omega arith) (take_rest bytes byte) (omega (arith, c.if-len-lt64.false)))
+    omega (
+      arith,
+      c.count_few-2.ensures,
+      c.count_words.ensures,
+      c.count_few-3.ensures,
+      ap (λ k. count (bits_at bytes (p + k) tail)) from,
+      count-split bytes (take (length bytes - byte) (drop byte bytes)) p byte head (64 * words) tail n (omega arith) (take_rest bytes byte) (omega (arith, c.if-len-lt64.false)),
+    )
 
 pub overflow_add-result-2 : goal.overflow_add-result-2
 overflow_add-result-2 c = omega (arith, returns c, count-bits_at-le c.args.bytes.now c.args.position c.args.len)

@@ -3,8 +3,7 @@ use Rattle.std.specs.List.{All}
 use Rattle.std.proofs.lemmas.Result.{IfOk-weaker}
 use Rattle.mask_bits.specs.Buffer.{values}
 use Rattle.mask_bits.specs.Positions.{positions, count, at_places}
-use Rattle.mask_bits.proofs.Lists.PlaceLemmas.{positions-within}
-use Rattle.mask_bits.proofs.Lists.RankLemmas.{All-at_places, positions-select}
+use Rattle.mask_bits.proofs.Lists.RankLemmas.{positions-select}
 use Rattle.vortex_mask.proofs.intersect_by_rank.intersect_places.Goals as goal
 
 pub taken_at-requires : goal.taken_at-requires

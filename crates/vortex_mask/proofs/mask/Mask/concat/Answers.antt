@@ -1,4 +1,4 @@
-use Rattle.std.proofs.Common.{◌≡◌, ◌≤◌, ◌^◌, List, ◌∙◌, subst, inl, inr}
+use Rattle.std.proofs.Common.{◌≤◌, ◌^◌, ◌∙◌, subst, inl, inr}
 use Rattle.std.proofs.lemmas.Result.{IfOk-weaker, IfErr-weaker}
 use Rattle.vortex_mask.specs.Concat.{lists_of, total_len, Joins}
 use Rattle.vortex_mask.proofs.mask.Mask.concat.Goals as goal

@@ -1,6 +1,5 @@
-use Rattle.std.proofs.Common.{◌≡◌, ◌<◌, List, Bool, true, false, IsTrue, length, sym, ap, ◌∙◌, arith, rules}
+use Rattle.std.proofs.Common.{◌<◌, List, Bool, true, false, length, sym, ap, ◌∙◌, arith, rules}
 use Rattle.mask_bits.specs.Buffer.{values}
-use Rattle.mask_bits.specs.Lists.{joined}
 use Rattle.mask_bits.specs.Positions.{repeated}
 use Rattle.vortex_mask.specs.Concat.{lists_of, AreAll}
 use Rattle.vortex_mask.specs.Mask.{all_true, all_false, fitting_variant}

@@ -2,7 +2,7 @@ use Rattle.std.proofs.Common.{◌<◌, false, length, sym, ap, ◌∙◌, arith}
 use Rattle.std.proofs.lemmas.Result.{IfOk-weaker}
 use Rattle.mask_bits.specs.Buffer.{values}
 use Rattle.mask_bits.specs.Lists.{limited}
-use Rattle.mask_bits.specs.Positions.{count, repeated}
+use Rattle.mask_bits.specs.Positions.{repeated}
 use Rattle.mask_bits.proofs.Lists.CountLemmas.{length-repeated, count-repeated_false}
 use Rattle.mask_bits.proofs.Lists.LimitLemmas.{limited-all, limited-none, length-limited}
 use Rattle.mask_bits.proofs.Lists.PlaceLemmas.{count-le-length}

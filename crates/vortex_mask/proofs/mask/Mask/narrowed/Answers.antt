@@ -1,7 +1,7 @@
-use Rattle.std.proofs.Common.{ℕ, List, subst, ◌≡◌, ◌⊎◌, inl, inr, rules, ◌<◌, length, false, sym, ap, ◌∙◌, arith}
+use Rattle.std.proofs.Common.{ℕ, List, subst, ◌≡◌, ◌⊎◌, rules, ◌<◌, length, false, sym, ap, ◌∙◌, arith}
 use Rattle.std.proofs.lemmas.Result.{IfOk-weaker}
 use Rattle.mask_bits.specs.Buffer.{values}
-use Rattle.vortex_mask.specs.Mask.{truth, variant, fitting_variant, variant_and, all_false, where_mixed}
+use Rattle.vortex_mask.specs.Mask.{truth, variant, variant_and, all_false, where_mixed}
 use Rattle.vortex_mask.specs.MaskValues.{kept_indices}
 use Rattle.std.specs.List.{All}
 use Rattle.std.specs.List.Sorted.{IsStrictlyIncreasing}
@@ -10,7 +10,6 @@ use Rattle.mask_bits.proofs.Lists.AscendingLemmas.{positions-ascending}
 use Rattle.mask_bits.proofs.Lists.LawLemmas.{positions-rank_intersection, length-rank_intersection, rank_intersection_is_the_list}
 use Rattle.mask_bits.proofs.Lists.PlaceLemmas.{positions-within}
 use Rattle.vortex_mask.proofs.MaskLemmas.{fitting_variant-nonempty, fitting_variant-repeated_false, truth-by_all_true_self, truth-by_all_true_mask, truth-by_all_false, variant_and-all_false}
-use Rattle.mask_bits.proofs.Lists.RankLemmas.{length-true_at}
 use Rattle.vortex_mask.proofs.ResultLemmas.{IfOk-both}
 use Rattle.vortex_mask.proofs.mask.Mask.narrowed.Goals as goal
 use Rattle.vortex_mask.proofs.mask.Mask.narrowed.Goals.{in-AllFalse+in-AllFalse-mask, in-AllFalse+in-Values-1, in-Values+in-AllFalse-1, in_default-AllTrue-via-in-AllFalse+in-AllTrue, in_default-AllTrue-via-in-Values+in-AllTrue}

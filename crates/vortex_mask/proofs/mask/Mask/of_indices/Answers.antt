@@ -1,7 +1,7 @@
-use Rattle.std.proofs.Common.{◌≡◌, ◌≢◌, ◌<◌, List, Bool, true, false, length, ap, sym, ◌∙◌, arith}
+use Rattle.std.proofs.Common.{List, Bool, true, false, length, ap, sym, ◌∙◌, arith}
 use Rattle.std.proofs.lemmas.List.{nil_from_length}
 use Rattle.mask_bits.specs.Buffer.{values}
-use Rattle.mask_bits.specs.Positions.{positions, true_at}
+use Rattle.mask_bits.specs.Positions.{positions}
 use Rattle.mask_bits.proofs.Lists.AscendingLemmas.{positions-true_at, positions-full}
 use Rattle.mask_bits.proofs.Lists.CountLemmas.{length-repeated, positions-all_false}
 use Rattle.mask_bits.proofs.Lists.PlaceLemmas.{count-le-length}

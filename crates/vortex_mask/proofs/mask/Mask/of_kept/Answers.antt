@@ -1,4 +1,4 @@
-use Rattle.std.proofs.Common.{◌≡◌, ◌<◌, List, Bool, true, length, refl, sym, ap, ◌∙◌, arith}
+use Rattle.std.proofs.Common.{true, sym, ◌∙◌}
 use Rattle.std.proofs.lemmas.List.{nil_from_length}
 use Rattle.mask_bits.specs.Positions.{repeated}
 use Rattle.mask_bits.proofs.Lists.CountLemmas.{length-repeated}

@@ -1,4 +1,4 @@
-use Rattle.std.proofs.Common.{◌≡◌, ◌≢◌, ℕ, ◌<◌, List, false, true, length, sym, ap, ◌∙◌, arith, subst}
+use Rattle.std.proofs.Common.{ℕ, ◌<◌, List, false, true, sym, ap, arith, subst}
 use Rattle.std.specs.List.{All}
 use Rattle.mask_bits.proofs.Lists.CountLemmas.{length-repeated}
 use Rattle.vortex_mask.specs.Mask.{all_false}

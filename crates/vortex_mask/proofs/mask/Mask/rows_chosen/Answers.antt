@@ -1,10 +1,8 @@
-use Rattle.std.proofs.Common.{length, sym, ap, ◌∙◌, arith}
-use Rattle.mask_bits.specs.Buffer.{values}
+use Rattle.std.proofs.Common.{length, sym, ap, ◌∙◌}
 use Rattle.vortex_mask.specs.Mask.{truth}
 use Rattle.mask_bits.specs.Positions.{chosen}
 use Rattle.mask_bits.proofs.Lists.ChooseLemmas.{chosen-all_true, chosen-all_false}
 use Rattle.mask_bits.proofs.Lists.CountLemmas.{length-repeated}
-use Rattle.mask_bits.proofs.Lists.LawLemmas.{length-chosen}
 use Rattle.vortex_mask.proofs.mask.Mask.rows_chosen.Goals as goal
 
 pub returns-in_ok-from_slice-in-AllTrue-clause-rows : goal.returns-in_ok-from_slice-in-AllTrue-clause-rows

@@ -1,8 +1,5 @@
-use Rattle.std.proofs.Common.{ℕ, ◌≡◌, ◌≤◌, ◌<◌, ◌+◌, ◌++◌, List, Bool, length, drop, sym, ap, ◌∙◌, arith}
-use Rattle.mask_bits.specs.Lists.{joined}
-use Rattle.vortex_mask.specs.Concat.{lists_of}
-use Rattle.vortex_mask.specs.Mask.{truth}
-use Rattle.vortex_mask.proofs.ConcatLemmas.{length-joined, joined_so_far}
+use Rattle.std.proofs.Common.{arith}
+use Rattle.vortex_mask.proofs.ConcatLemmas.{joined_so_far}
 use Rattle.vortex_mask.proofs.mask.concat.buffer_of.Goals as goal
 
 pub append-requires : goal.append-requires

@@ -1,4 +1,4 @@
-use Rattle.std.proofs.Common.{◌≡◌, ◌+◌, ◌≤◌, ◌⊎◌, ◌++◌, ◌∷◌, [], append-nil, ℕ, List, drop, length, get_or, append_assoc, sym, ap, ◌∙◌, arith, inl, inr}
+use Rattle.std.proofs.Common.{◌+◌, ◌≤◌, ◌⊎◌, ◌++◌, ◌∷◌, [], append-nil, ℕ, List, drop, length, get_or, append_assoc, sym, ap, ◌∙◌, arith, inl, inr}
 use Rattle.std.proofs.lemmas.Cmp.{ranked}
 use Rattle.vortex_mask.specs.Faults.{common}
 use Rattle.vortex_mask.proofs.CommonLemmas.{common-less, common-greater, common-equal, common-over}

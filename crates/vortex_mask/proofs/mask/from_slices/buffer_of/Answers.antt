@@ -1,7 +1,6 @@
 use Rattle.std.proofs.Common.{◌≡◌, ℕ, ◌+◌, ◌-◌, ◌<◌, ◌≤◌, ◌∷◌, List, Bool, [], ◌++◌, false, true, length, get_or, drop, sym, ap, ◌∙◌, arith, subst}
 use Rattle.std.proofs.lemmas.List.{at_drop_more, drop_all, length-append}
 use Rattle.std.proofs.lemmas.Result.{IfOk-weaker}
-use Rattle.mask_bits.specs.Buffer.{values}
 use Rattle.mask_bits.specs.Positions.{repeated}
 use Rattle.mask_bits.specs.Runs.{AreRanges}
 use Rattle.mask_bits.proofs.Lists.CountLemmas.{length-repeated}
