@@ -76,6 +76,10 @@ CountsOfWordsAddUp = (m : List Bool) → sum_by count (word_parts m) + count (pa
 
 -- ---- buffers
 
+-- a buffer's list is as long as the buffer says
+abbrev pub LengthOfValues : Type 0
+LengthOfValues = (b : Packed) → length (values b) ≡ b.len
+
 -- the test of two buffers' lists is true exactly where they are one list
 abbrev pub SameValuesAreOneList : Type 0
 SameValuesAreOneList = (a b : Packed) → IsTrue (same_values a b) ↔ (values a ≡ values b)

@@ -28,7 +28,8 @@ impl<'a> Model for BitChunks<'a> {
 }
 
 impl<'a> BitChunks<'a> {
-    pub(crate) fn new(bytes: &'a [u8], offset: usize, len: usize) -> BitChunks<'a>
+    /// The words of the `len` bits of `bytes` from bit position `offset` on, with no buffer of them.
+    pub fn new(bytes: &'a [u8], offset: usize, len: usize) -> BitChunks<'a>
         requires { IsWithinBytes bytes.now offset len }
         ensures { result ≡ values (record { bytes = bytes.now; offset = offset; len = len }) }
     {

@@ -3,7 +3,7 @@
 
 #![tactic(auto, using(crate::proofs::LawRules::laws))]
 
-ghost use Rattle.mask_bits.specs.Laws.{PlacesAreWithin, CountIsAtMostLength, CountIsLengthOfAllTrue, CountIsSomeOfAnyTrue, CountOfJoined, LengthOfRepeated, PositionsOfAllTrue, CountOfAllTrue, PositionsOfAllFalse, ChosenByAllTrue, ChosenByAllFalse, ChosenIsRowsAtPositions, CountOfChosen, CountOfWord, CountsOfWordsAddUp, SameValuesAreOneList, PositionsDetermineList, RankIntersectionIsTheList, RankIntersectionValue, ChoosingTwice, RankIntersectionAssociative, AllTrueLeftUnit, AllTrueRightUnit, RankIntersectionCount, RankIntersectionPosition, FoldingKeepsAStack, RunsExist, RunsAreUnique, RunsAreRanges, RangesAddUpToTheCount};
+ghost use Rattle.mask_bits.specs.Laws.{PlacesAreWithin, CountIsAtMostLength, CountIsLengthOfAllTrue, CountIsSomeOfAnyTrue, CountOfJoined, LengthOfRepeated, PositionsOfAllTrue, CountOfAllTrue, PositionsOfAllFalse, ChosenByAllTrue, ChosenByAllFalse, ChosenIsRowsAtPositions, CountOfChosen, CountOfWord, CountsOfWordsAddUp, LengthOfValues, SameValuesAreOneList, PositionsDetermineList, RankIntersectionIsTheList, RankIntersectionValue, ChoosingTwice, RankIntersectionAssociative, AllTrueLeftUnit, AllTrueRightUnit, RankIntersectionCount, RankIntersectionPosition, FoldingKeepsAStack, RunsExist, RunsAreUnique, RunsAreRanges, RangesAddUpToTheCount};
 
 /// A gather may read a row at each true place: it is one of the rows.
 pub fn places_are_within()
@@ -39,6 +39,11 @@ pub fn choosing<T>()
 pub fn counts_of_words()
     ensures word { CountOfWord }
     ensures parts { CountsOfWordsAddUp }
+{}
+
+/// A caller may take the length of a buffer for that of its list.
+pub fn length_of_values()
+    ensures len { LengthOfValues }
 {}
 
 /// A caller may compare buffers where it means their lists.

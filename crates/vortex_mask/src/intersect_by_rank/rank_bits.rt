@@ -2,21 +2,25 @@ ghost use Rattle.std.specs.Prelude.{◌≡◌, ◌+◌, ◌<◌, ◌^◌};
 ghost use Rattle.mask_bits.specs.Buffer.{IsWithinBytes};
 ghost use Rattle.mask_bits.specs.Words.{word_bits, window};
 
-use mask_bits::{BitBuffer, words};
+use mask_bits::{BitBuffer, laws, words};
 use std::marker::Model;
 
 /// The bits of a rank mask, read 64 at a time from any place on.
 #[derive(Drop)]
 pub struct RankBits<'a> {
-    buffer: &'a BitBuffer,
+    bytes: &'a [u8],
+    offset: usize,
+    len: usize,
 }
 
 impl<'a> Model for RankBits<'a> {
-    ghost use Rattle.mask_bits.specs.Buffer.{Packed};
+    ghost use Rattle.mask_bits.specs.Buffer.{Packed, IsWithinBytes};
 
     ghost Value = { Packed };
 
-    ghost view = { λ r. r.buffer.now };
+    ghost view = { λ r. record { bytes = r.bytes.now; offset = r.offset; len = r.len } };
+
+    ghost invariant = { λ r. IsWithinBytes r.bytes.now r.offset r.len };
 }
 
 impl<'a> RankBits<'a> {
@@ -25,9 +29,17 @@ impl<'a> RankBits<'a> {
         ensures buffer { result ≡ buffer.now }
         ensures within { IsWithinBytes result.bytes result.offset result.len }
     {
-        // named, so that the proof may use that the bits are within the bytes
-        let _ = buffer.inner();
-        RankBits { buffer }
+        laws::length_of_values();
+        RankBits::over(buffer.inner().as_slice(), buffer.offset(), buffer.len())
+    }
+
+    /// The `len` bits of `bytes` from bit position `offset` on, with no buffer of them.
+    pub fn over(bytes: &'a [u8], offset: usize, len: usize) -> RankBits<'a>
+        requires { IsWithinBytes bytes.now offset len }
+        ensures bits { result ≡ record { bytes = bytes.now; offset = offset; len = len } }
+        ensures within { IsWithinBytes result.bytes result.offset result.len }
+    {
+        RankBits { bytes, offset, len }
     }
 
     /// The 64 backing bits from value `offset` on, the first lowest.
@@ -38,7 +50,6 @@ impl<'a> RankBits<'a> {
         requires { self.now.offset + offset < 2 ^ 64 }
         ensures { word_bits result ≡ window self.now.bytes (self.now.offset + offset) }
     {
-        let bytes = self.buffer.inner().as_slice();
-        words::window(bytes, self.buffer.offset() + offset)
+        words::window(self.bytes, self.offset + offset)
     }
 }
