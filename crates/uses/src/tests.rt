@@ -4,6 +4,7 @@ ghost use Rattle.std.specs.Prelude.{◌≡◌};
 mod builder;
 mod constructors;
 mod large;
+mod masks;
 mod packed;
 mod pointwise;
 mod sweep;
