@@ -1,5 +1,6 @@
 // Every call of masks at every length up to 200, beside the same call on a plain list: masks by each
 // constructor, and by buffers at bit offsets from 0 to 63 with other bits before and after.
+mod lent;
 mod made;
 mod plain;
 mod read;

@@ -1,4 +1,5 @@
 // Masks of a plain list, by each constructor.
+use super::lent::lends_as;
 use super::plain::{Plain, places_of};
 use super::read::reads_as;
 use super::two::joins_as;
@@ -11,6 +12,7 @@ use vortex_mask::{Mask, MaskError};
 // Each call answers on the mask as on the plain list.
 fn acts_as(rt: &impl Abort, alloc: Global, mask: Mask, plain: &Plain) -> Result<(), MaskError> {
     joins_as(rt, alloc, &mask, plain)?;
+    lends_as(rt, alloc, &mask, plain)?;
     reads_as(rt, alloc, mask, plain)
 }
 

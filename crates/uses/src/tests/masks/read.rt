@@ -20,6 +20,10 @@ fn counts(rt: &impl Abort, mask: &Mask, plain: &Plain) {
     assert!(rt; mask.is_empty() == (len == 0));
     assert!(rt; mask.all_true() == (count == len));
     assert!(rt; mask.all_false() == (count == 0));
+    let density = mask.density();
+    assert!(rt;
+        len == 0 || density.num as u128 * len as u128 == count as u128 * density.den as u128
+    );
 }
 
 fn ranks(rt: &impl Abort, mask: &Mask, plain: &Plain) {
@@ -27,6 +31,44 @@ fn ranks(rt: &impl Abort, mask: &Mask, plain: &Plain) {
         assert!(rt; n < mask.true_count());
         same(rt, mask.rank(n), *place);
     }
+}
+
+fn ends(rt: &impl Abort, mask: &Mask, plain: &Plain) {
+    assert!(rt; mask.first() == plain.places.first().copied());
+    assert!(rt; mask.last() == plain.places.last().copied());
+}
+
+fn iterates(rt: &impl Abort, mask: &Mask, plain: &Plain) {
+    let mut iter = mask.iter();
+    let mut left = plain.values.len();
+    for value in &plain.values {
+        assert!(rt; iter.size_hint() == (left, Some(left)));
+        assert!(rt; iter.next() == Some(*value));
+        left = left.saturating_sub(1);
+    }
+    assert!(rt; iter.next().is_none());
+}
+
+// How many true values stand below each of these places.
+fn counted(alloc: Global, plain: &Plain, indices: &[usize]) -> Result<Vec<usize>, MaskError> {
+    let mut counts: Vec<usize> = Vec::new(alloc);
+    for index in indices {
+        counts.push(plain.places.iter().filter(|place| **place < *index).count())?;
+    }
+    Ok(counts)
+}
+
+fn counts_below(
+    rt: &impl Abort,
+    alloc: Global,
+    mask: &Mask,
+    plain: &Plain,
+) -> Result<(), MaskError> {
+    let (len, half) = (mask.len(), mask.len() / 2);
+    let indices = [0, half / 2, half, half, len, len];
+    let want = counted(alloc, plain, &indices)?;
+    assert!(rt; mask.valid_counts_for_indices(alloc, &indices)?.as_slice() == want.as_slice());
+    Ok(())
 }
 
 fn chooses(rt: &impl Abort, alloc: Global, mask: &Mask, plain: &Plain) -> Result<(), MaskError> {
@@ -105,12 +147,19 @@ pub(super) fn reads_as(
     has_values(rt, &mask, &plain.values);
     counts(rt, &mask, plain);
     ranks(rt, &mask, plain);
+    ends(rt, &mask, plain);
+    iterates(rt, &mask, plain);
     parts_as(rt, alloc, &mask, plain)?;
     gives_buffers(rt, alloc, mask, plain)
 }
 
 fn parts_as(rt: &impl Abort, alloc: Global, mask: &Mask, plain: &Plain) -> Result<(), MaskError> {
     chooses(rt, alloc, mask, plain)?;
+    counts_below(rt, alloc, mask, plain)?;
+    cuts(rt, alloc, mask, plain)
+}
+
+fn cuts(rt: &impl Abort, alloc: Global, mask: &Mask, plain: &Plain) -> Result<(), MaskError> {
     slices(rt, alloc, mask, plain)?;
     limits(rt, alloc, mask, plain)
 }
