@@ -6,6 +6,7 @@ pub mod Concat
 pub mod Deposit
 pub mod Faults
 pub mod Laws
+pub mod Lend
 pub mod Mask
 pub mod MaskValues
 pub mod Ranges

@@ -22,11 +22,23 @@ kept_indices places = record { indices = Some places; ranges = None }
 abbrev pub kept_ranges : List (ℕ × ℕ) → Caches
 kept_ranges ranges = record { indices = None; ranges = Some ranges }
 
+-- these lists, with the places kept beside the ranges
+abbrev pub with_indices : List ℕ → Caches → Caches
+with_indices places kept = record kept { indices = Some places }
+
+-- these lists, with the ranges kept beside the places
+abbrev pub with_ranges : List (ℕ × ℕ) → Caches → Caches
+with_ranges ranges kept = record kept { ranges = Some ranges }
+
 -- a buffer, how many of its values are true, and the lists that are kept of them
 pub record Contents : Type 0 where
   pub buffer : Packed
   pub true_count : ℕ
   pub caches : Caches
+
+-- the same values, with these lists kept
+abbrev pub keeping : Caches → Contents → Contents
+keeping kept v = record v { caches = kept }
 
 -- the count is the buffer's, and some values are true and some are not
 pub record IsMixed (buffer : Packed) (true_count : ℕ) : Type 0 where

@@ -19,12 +19,14 @@ mod from_indices;
 mod from_intersection;
 mod from_slices;
 mod index_fault;
+mod lend;
 mod parts;
 mod to_buffer;
 mod values;
 
 pub use all_or::AllOr;
 pub use error::MaskError;
+pub use lend::MaskIter;
 use mask_bits::BitBuffer;
 use std::alloc::Global;
 use std::rc::Rc;

@@ -4,6 +4,8 @@ ghost use Rattle.mask_bits.specs.Buffer.{values};
 ghost use Rattle.mask_bits.specs.Positions.{positions, count};
 ghost use Rattle.vortex_mask.specs.MaskValues.{IsMixed, IsWhole, AreOf};
 
+mod lend;
+
 use crate::mask::MaskError;
 use mask_bits::BitBuffer;
 use std::marker::Model;

@@ -1,0 +1,59 @@
+-- The lists of its true places that a mask lends.
+use Rattle.std.specs.Prelude.{ℕ, ◌≡◌, ◌*◌, ◌≤◌, Bool, true, false, List, length, MatchOption, ⊤}
+use Rattle.mask_bits.specs.Positions.{positions, count}
+use Rattle.mask_bits.specs.Runs.{AreRuns}
+use Rattle.vortex_mask.specs.Mask.{Variant, all_true, all_false, mixed, truth, variant, caches, held_buffer}
+use Rattle.vortex_mask.specs.MaskValues.{Caches, with_indices, with_ranges}
+use Rattle.vortex_mask.specs.declared.mask.all_or.AllOr.{AllOr}
+use Rattle.vortex_mask.specs.declared.mask.all_or.AllOr.TheVariants.{All, None, Some}
+use Rattle.vortex_mask.specs.declared.mask.lend.MaskIter.{MaskIter}
+use Rattle.vortex_mask.specs.declared.mask.lend.MaskIter.TheVariants.{Indices, Slices}
+use Rattle.vortex_mask.specs.declared.mask.Mask.{Mask}
+
+-- the ranges that are kept, and the maximal ones where none are
+abbrev pub AreKeptOrRuns : List Bool → Caches → List (ℕ × ℕ) → Type 0
+AreKeptOrRuns m kept ranges = MatchOption kept.ranges (AreRuns m ranges) (λ rs. ranges ≡ rs)
+
+-- of each den values at least num are true, taken over the whole list
+abbrev pub ReachesShare : List Bool → ℕ → ℕ → Type 0
+ReachesShare m num den = num * length m ≤ count m * den
+
+-- whether ranges are lent, and not places
+abbrev pub lends_ranges : MaskIter → Bool
+lends_ranges (Indices places) = false
+lends_ranges (Slices ranges) = true
+
+-- the true places are lent, or the ranges: those that are kept, else the maximal ones
+abbrev pub IsListOf : List Bool → Caches → MaskIter → Type 0
+IsListOf m kept (Indices places) = places.now ≡ positions m
+IsListOf m kept (Slices ranges) = AreKeptOrRuns m kept ranges.now
+
+-- these lists, with the one that is lent kept beside the other
+abbrev pub with_list : MaskIter → Caches → Caches
+with_list (Indices places) kept = with_indices places.now kept
+with_list (Slices ranges) kept = with_ranges ranges.now kept
+
+-- the variant of a mask that lends so: `All` where it is all true, `None` where it is all false
+abbrev pub lender_variant : {T : Type 0} → AllOr T → Variant
+lender_variant All = all_true
+lender_variant None = all_false
+lender_variant (Some list) = mixed
+
+-- P of the list that is lent, if there is one
+abbrev pub IfLent : {T : Type 0} → AllOr T → (T → Type 0) → Type 0
+IfLent All P = ⊤
+IfLent None P = ⊤
+IfLent (Some list) P = P list
+
+-- the lists that are kept once one may be lent: `add` keeps it
+abbrev pub with_lent : {T : Type 0} → (T → Caches → Caches) → AllOr T → Caches → Caches
+with_lent add All kept = kept
+with_lent add None kept = kept
+with_lent add (Some list) kept = add list kept
+
+-- the same list in the same variant over the same buffer, with these lists kept
+pub record IsKeeping (old : Mask) (kept : Caches) (new : Mask) : Type 0 where
+  pub list : truth new ≡ truth old
+  pub variant : variant new ≡ variant old
+  pub buffer : held_buffer new ≡ held_buffer old
+  pub caches : caches new ≡ kept
