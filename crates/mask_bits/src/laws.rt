@@ -216,7 +216,6 @@ pub fn count_below_position()
 ghost use Rattle.mask_bits.specs.Laws.{RunsAreTheList, RunOfAllTrue, RunsOfAllFalse, ChosenByRanges, CountOfPart};
 
 /// A planner may compute the runs of a filter, and compare them with any ranges that are its runs.
-#[tactic(auto, using(crate::proofs::Lists::RunListLemmas::runs_are_the_list))]
 pub fn runs_are_the_list()
     ensures only { RunsAreTheList }
 {}

@@ -11,12 +11,12 @@ use Rattle.mask_bits.proofs.Lists.RunLemmas.{inside, inside-before, inside-past}
 -- one item in front that passes, or does not
 counted : (p : ℕ → Bool) (x : ℕ) (xs : List ℕ) → p x ≡ true → count_by p (x ∷ xs) ≡ suc (count_by p xs)
 counted p x xs passes =
-    let first : cond (p x) 1 0 ≡ 1 = ap (λ b. cond b 1 0) passes in
+    let first : ◌≡◌ {A = ℕ} (cond (p x) 1 0) 1 = ap (λ b. cond b 1 0) passes in
     sum_by-cons (λ y. cond (p y) 1 0) x xs ∙ omega (arith, first)
 
 passed : (p : ℕ → Bool) (x : ℕ) (xs : List ℕ) → p x ≡ false → count_by p (x ∷ xs) ≡ count_by p xs
 passed p x xs fails =
-    let first : cond (p x) 1 0 ≡ 0 = ap (λ b. cond b 1 0) fails in
+    let first : ◌≡◌ {A = ℕ} (cond (p x) 1 0) 0 = ap (λ b. cond b 1 0) fails in
     sum_by-cons (λ y. cond (p y) 1 0) x xs ∙ omega (arith, first)
 
 -- the true places that lie in a part, where the list's first place is n

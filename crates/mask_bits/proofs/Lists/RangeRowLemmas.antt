@@ -25,7 +25,7 @@ chosen-append : {X : Type 0} (xs ys : List X) (a b : List Bool) → length xs �
 chosen-append {X} xs ys a b len =
     chosen-items_where_true (xs ++ ys) (a ++ b)
     ∙ items-append xs ys a b len
-    ∙ sym (ap (λ (zs : List X). zs ++ items_where_true b ys) (chosen-items_where_true xs a) ∙ ap (λ (zs : List X). chosen xs a ++ zs) (chosen-items_where_true ys b))
+    ∙ sym (ap (λ (zs : List X). chosen xs a ++ zs) (chosen-items_where_true ys b) ∙ ap (λ (zs : List X). zs ++ items_where_true b ys) (chosen-items_where_true xs a))
 
 -- a part before the rest, of rows and of values
 chosen-part : {X : Type 0} (rows : List X) (m : List Bool) (s e : ℕ) → length rows ≡ length m → s ≤ e → e ≤ length m
@@ -52,7 +52,7 @@ rows_from {X} rows m low [] len o exact =
     sym (chosen-part rows m low (length m) len o (omega arith)
     ∙ ap (λ (xs : List X). xs ++ chosen (drop (length m) rows) (drop (length m) m)) (chosen-gap rows m low (length m) (omega arith) (λ i from h. exact i from h))
     ∙ ap (chosen (drop (length m) rows)) (drop_all (length m) m (omega arith))
-    ∙ chosen-all_false (drop (length m) rows) 0)
+    ∙ chosen-items_where_true (drop (length m) rows) [])
 rows_from {X} rows m low (r ∷ rs) len o exact =
     let top = Ordered-top r.1 (length m) rs o.2 in
     let gap = chosen-gap rows m low r.0 (omega (arith, o.1, top)) (λ i from h.
