@@ -9,11 +9,14 @@ pub mod LawLemmas
 pub mod LimitLemmas
 pub mod LowestLemmas
 pub mod PaddedLemmas
+pub mod PartCountLemmas
 pub mod PartLemmas
 pub mod PlaceLemmas
 pub mod RangeLemmas
+pub mod RangeRowLemmas
 pub mod RankLemmas
 pub mod RunLemmas
+pub mod RunListLemmas
 pub mod ScanLemmas
 pub mod SelectLemmas
 pub mod ShiftLemmas

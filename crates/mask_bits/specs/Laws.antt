@@ -1,10 +1,11 @@
 -- What holds of all lists of truth values, whatever holds them.
-use Rattle.std.specs.Prelude.{ℕ, ◌+◌, ◌-◌, ◌^◌, ◌≡◌, ◌<◌, ◌≤◌, ◌&&◌, ◌↔◌, Bool, true, false, IsTrue, List, [], ◌∷◌, ◌++◌, length, All, Any, sum_by, count_ones, slice_get, slice_index, slice_index_or, min, slice_range}
+use Rattle.std.specs.Prelude.{ℕ, ◌+◌, ◌-◌, ◌^◌, ◌≡◌, ◌<◌, ◌≤◌, ◌&&◌, ◌↔◌, Bool, true, false, IsTrue, List, [], ◌∷◌, ◌++◌, length, All, Any, sum_by, count_by, count_ones, flat_map, slice_get, slice_index, slice_index_or, min, slice_range}
 use Rattle.std.specs.List.{range_with_len, filter_map}
 use Rattle.mask_bits.specs.Buffer.{Packed, values, same_values}
 use Rattle.mask_bits.specs.Lists.{and_of, or_of, not_of, and_not_of, joined, limited}
 use Rattle.mask_bits.specs.Positions.{positions, count, count_below, repeated, at_places, rank_intersection, chosen}
-use Rattle.mask_bits.specs.Runs.{AreRuns, AreRanges}
+use Rattle.mask_bits.specs.RunScan.{runs}
+use Rattle.mask_bits.specs.Runs.{is_inside, AreRuns, AreRanges}
 use Rattle.mask_bits.specs.Stacks.{IsStack}
 use Rattle.mask_bits.specs.Words.{word_bits, word_parts, padded_remainder}
 
@@ -145,6 +146,18 @@ RunsExist = (m : List Bool) → (rs : List (ℕ × ℕ)) × AreRuns m rs
 abbrev pub RunsAreUnique : Type 0
 RunsAreUnique = (m : List Bool) (rs ss : List (ℕ × ℕ)) → AreRuns m rs → AreRuns m ss → rs ≡ ss
 
+-- a list's runs are what `runs` gives, and no other list of ranges
+abbrev pub RunsAreTheList : Type 0
+RunsAreTheList = (m : List Bool) (rs : List (ℕ × ℕ)) → (rs ≡ runs m) ↔ AreRuns m rs
+
+-- an all-true list that isn't empty is one run
+abbrev pub RunOfAllTrue : Type 0
+RunOfAllTrue = (n : ℕ) → 0 < n → runs (repeated n true) ≡ (0, n) ∷ []
+
+-- an all-false list has no run
+abbrev pub RunsOfAllFalse : Type 0
+RunsOfAllFalse = (n : ℕ) → runs (repeated n false) ≡ []
+
 -- runs are ranges that hold exactly the true places
 abbrev pub RunsAreRanges : Type 0
 RunsAreRanges = (m : List Bool) (rs : List (ℕ × ℕ)) → AreRuns m rs → AreRanges m rs
@@ -152,6 +165,11 @@ RunsAreRanges = (m : List Bool) (rs : List (ℕ × ℕ)) → AreRuns m rs → Ar
 -- ranges hold as many places as values are true
 abbrev pub RangesAddUpToTheCount : Type 0
 RangesAddUpToTheCount = (m : List Bool) (rs : List (ℕ × ℕ)) → AreRanges m rs → sum_by (λ r. r.1 - r.0) rs ≡ count m
+
+-- the rows of ranges that hold exactly the true places, one range after another, are the chosen rows
+abbrev pub ChosenByRanges : Type 0 → Type 0
+ChosenByRanges X = (rows : List X) (m : List Bool) (rs : List (ℕ × ℕ)) → length rows ≡ length m → AreRanges m rs
+    → flat_map (λ r. slice_range rows r.0 r.1) rs ≡ chosen rows m
 
 -- ---- value by value
 
@@ -206,6 +224,10 @@ PartOfPart = (m : List Bool) (s e t u : ℕ) → u ≤ e - s
 abbrev pub PartOfJoined : Type 0
 PartOfJoined = (before after : List (List Bool)) (m : List Bool)
     → slice_range (joined (before ++ m ∷ after)) (length (joined before)) (length (joined before) + length m) ≡ m
+
+-- as many values of a part are true as true places lie in it
+abbrev pub CountOfPart : Type 0
+CountOfPart = (m : List Bool) (s e : ℕ) → s ≤ e → count (slice_range m s e) ≡ count_by (λ p. is_inside p (s, e)) (positions m)
 
 -- ---- limits
 

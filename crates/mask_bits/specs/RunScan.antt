@@ -1,4 +1,4 @@
--- Runs one value at a time. No public clause cites these terms: what runs are is `AreRuns`.
+-- The runs of a list, found one value at a time: the one list that `AreRuns` holds of.
 use Rattle.std.specs.Prelude.{ℕ, ◌+◌, Bool, true, false, List, [], ◌∷◌, nat_eq, if◌then◌else◌}
 
 -- a true value at n in front of the runs past it: it lengthens a run that begins right after it, or is a run of its own
@@ -11,3 +11,7 @@ abbrev pub runs_from : ℕ → List Bool → List (ℕ × ℕ)
 runs_from n [] = []
 runs_from n (true ∷ m) = with_place n (runs_from (n + 1) m)
 runs_from n (false ∷ m) = runs_from (n + 1) m
+
+-- the runs, ascending
+abbrev pub runs : List Bool → List (ℕ × ℕ)
+runs m = runs_from 0 m

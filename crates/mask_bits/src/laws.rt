@@ -212,3 +212,29 @@ pub fn limit_count()
 pub fn count_below_position()
     ensures number { CountBelowPosition }
 {}
+
+ghost use Rattle.mask_bits.specs.Laws.{RunsAreTheList, RunOfAllTrue, RunsOfAllFalse, ChosenByRanges, CountOfPart};
+
+/// A planner may compute the runs of a filter, and compare them with any ranges that are its runs.
+pub fn runs_are_the_list()
+    ensures only { RunsAreTheList }
+{}
+
+/// A planner knows the runs of a filter that treats all rows alike.
+#[tactic(auto, using(crate::proofs::Lists::RunListLemmas::run_of_all_true, crate::proofs::Lists::RunListLemmas::runs_of_all_false))]
+pub fn runs_of_one_value()
+    ensures whole { RunOfAllTrue }
+    ensures none { RunsOfAllFalse }
+{}
+
+/// A filter may copy range by range where the true places come as ranges.
+#[tactic(auto, using(crate::proofs::Lists::RangeRowLemmas::chosen_by_ranges))]
+pub fn choosing_by_ranges<T>()
+    ensures rows { ChosenByRanges T }
+{}
+
+/// A reader may count the true values of a part by the true places that lie in it.
+#[tactic(auto, using(crate::proofs::Lists::PartCountLemmas::count_of_part))]
+pub fn count_of_part()
+    ensures count { CountOfPart }
+{}

@@ -3,7 +3,8 @@
 
 ghost use Rattle.std.specs.Prelude.{◌≡◌};
 ghost use Rattle.vortex_mask.specs.Laws.{UniformIsOfOneValue, NoIndexFault};
-ghost use Rattle.vortex_mask.specs.Mask.{truth, variant, fitting_variant};
+ghost use Rattle.vortex_mask.specs.Mask.{truth, variant, fitting_variant, caches};
+ghost use Rattle.vortex_mask.specs.MaskValues.{AreOf};
 
 use crate::mask::Mask;
 
@@ -17,6 +18,20 @@ pub fn one_variant(mask: &Mask)
         Mask::Values(values) => {
             // some values are true and some are not, as its count tells
             let _ = values.true_count();
+        }
+    }
+}
+
+/// A caller may read the lists that a mask keeps: they are of its own true places.
+pub fn kept_lists(mask: &Mask)
+    ensures { AreOf (truth mask.now) (caches mask.now) }
+{
+    match mask {
+        Mask::AllTrue(_) => {}
+        Mask::AllFalse(_) => {}
+        Mask::Values(values) => {
+            // what it keeps is of its own list
+            let _ = values.cached_slices();
         }
     }
 }

@@ -8,12 +8,12 @@ use Rattle.std.proofs.lemmas.List.Folds.{drop_split}
 use Rattle.std.proofs.lemmas.List.Sums.{sum_by-cons}
 use Rattle.mask_bits.specs.Laws.{RangesAddUpToTheCount}
 use Rattle.mask_bits.specs.Positions.{count, repeated}
-use Rattle.mask_bits.specs.Runs.{is_inside}
+use Rattle.mask_bits.specs.Runs.{is_inside, AreRanges}
 use Rattle.mask_bits.proofs.Lists.CountLemmas.{count-append, count-repeated_true, count-repeated_false}
 use Rattle.mask_bits.proofs.Lists.RunLemmas.{inside, inside-before, inside-past}
 
 -- a part whose values are all v
-part_of_one : (m : List Bool) (v : Bool) (s e : ℕ) → e ≤ length m → ((i : ℕ) → s ≤ i → i < e → get_or m i false ≡ v) → slice_range m s e ≡ repeated (e - s) v
+pub part_of_one : (m : List Bool) (v : Bool) (s e : ℕ) → e ≤ length m → ((i : ℕ) → s ≤ i → i < e → get_or m i false ≡ v) → slice_range m s e ≡ repeated (e - s) v
 unfolding repeated
 part_of_one m v s e within same =
     let len = length-between m s e within in
@@ -78,6 +78,8 @@ Ordered-from low high (r ∷ rs) top first nonempty within ordered = (
       subst (λ (j : ℕ). (get_or rs k d).1 ≤ (get_or (r ∷ rs) j d).0) next (ordered (suc k) d (omega arith))),
 )
 
+pub Ordered-of : (m : List Bool) (rs : List (ℕ × ℕ)) → AreRanges m rs → Ordered 0 (length m) rs
+Ordered-of m rs are = Ordered-from 0 (length m) rs (omega arith) (λ k d first h. omega arith) are.nonempty are.within are.ordered
+
 pub ranges_add_up_to_the_count : RangesAddUpToTheCount
-ranges_add_up_to_the_count m rs are =
-    from_place m 0 rs (Ordered-from 0 (length m) rs (omega arith) (λ k d first h. omega arith) are.nonempty are.within are.ordered) (λ i from h. are.exact i h)
+ranges_add_up_to_the_count m rs are = from_place m 0 rs (Ordered-of m rs are) (λ i from h. are.exact i h)
