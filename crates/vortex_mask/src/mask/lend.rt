@@ -106,11 +106,12 @@ impl Mask {
             Mask::AllFalse(_) => return Ok(AllOr::None),
             Mask::Values(values) => values.reaches_share(num, den),
         };
-        if by_ranges {
-            self.fill_slices(alloc)?;
+        let filled = if by_ranges {
+            self.fill_slices(alloc)
         } else {
-            self.fill_indices(alloc)?;
-        }
+            self.fill_indices(alloc)
+        };
+        filled?;
         Ok(AllOr::Some(self.kept_list(by_ranges)))
     }
 
