@@ -10,4 +10,4 @@ pub mod mask;
 #[cfg(test)]
 mod tests;
 
-pub use mask::{AllOr, Mask, MaskError, MaskValues, MaskValuesRef};
+pub use mask::{AllOr, Fraction, Mask, MaskBoolIter, MaskError, MaskValues, MaskValuesRef};

@@ -1,6 +1,7 @@
 // How a test is written stands at the head of the tests of `mask_bits`.
 ghost use Rattle.std.specs.Prelude.{◌≡◌};
 
+mod all_or;
 mod bitops;
 mod callers;
 mod concat;
@@ -9,6 +10,7 @@ mod kept;
 mod large;
 mod parts;
 mod ranges;
+mod reading;
 
 use crate::mask::{AllOr, Mask, MaskError, MaskValues};
 use bytes::Bytes;
