@@ -1,4 +1,6 @@
 // Shares, the first and the last true place, counts below places, and the values one by one.
+ghost use Rattle.std.specs.List.Sorted.{IsNonDecreasing};
+
 use super::{lists, mask, same};
 use crate::mask::{Fraction, Mask, MaskError};
 use std::alloc::Global;
@@ -93,6 +95,12 @@ fn first_and_last_of_mixed_masks(rt: HostRuntime) -> Result<(), Fail> {
 
 // ---- counts below places
 
+fn ascend(rt: &impl Abort, indices: &[usize])
+    ensures { IsNonDecreasing indices.now }
+{
+    assert!(rt; indices.is_sorted());
+}
+
 fn counts(
     rt: &impl Abort,
     alloc: Global,
@@ -100,7 +108,8 @@ fn counts(
     indices: &[usize],
     want: &[usize],
 ) -> Result<(), MaskError> {
-    assert!(rt; indices.is_sorted() && indices.iter().all(|i| *i <= mask.len()));
+    ascend(rt, indices);
+    assert!(rt; indices.iter().all(|i| *i <= mask.len()));
     let counts = mask.valid_counts_for_indices(alloc, indices)?;
     assert!(rt; counts.as_slice() == want);
     Ok(())
