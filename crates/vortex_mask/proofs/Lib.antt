@@ -16,6 +16,7 @@ pub mod NetworkLemmas
 pub mod PlaceListLemmas
 pub mod RangeLemmas
 pub mod RankWordLemmas
+pub mod ReadingLemmas
 pub mod ResultLemmas
 pub mod RunLemmas
 pub mod SetPlaceLemmas

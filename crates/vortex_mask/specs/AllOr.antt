@@ -1,4 +1,4 @@
--- What an `AllOr` of a reference points to.
+-- What an `AllOr` has, and what one of a reference points to.
 use Rattle.std.specs.Prelude.{◌≡◌, Bool, true, false, List, length}
 use Rattle.std.specs.Borrow.{Bor}
 use Rattle.mask_bits.specs.Buffer.{Packed, values}
@@ -6,6 +6,21 @@ use Rattle.mask_bits.specs.Positions.{repeated}
 use Rattle.vortex_mask.specs.declared.mask.all_or.AllOr.{AllOr}
 use Rattle.vortex_mask.specs.declared.mask.all_or.AllOr.TheVariants.{All, None, Some}
 
+-- P of one that stands for all, Q of one that stands for none, and R of a value
+abbrev pub MatchAllOr : {T : Type 0} → AllOr T → Type 0 → Type 0 → (T → Type 0) → Type 0
+MatchAllOr All P Q R = P
+MatchAllOr None P Q R = Q
+MatchAllOr (Some x) P Q R = R x
+
+-- P of the value, in the form for a `requires`
+abbrev pub ForValue : {T : Type 0} → AllOr T → (T → Type 0) → Type 0
+ForValue {T} a P = (x : T) → a ≡ Some x → P x
+
+-- whatever a clone of x may be, it is x
+abbrev pub IsOnlyClone : {T : Type 0} → (T → T → Type 0) → T → Type 0
+IsOnlyClone {T} is_clone x = (y : T) → is_clone x y → y ≡ x
+
+-- the same, with what the reference points to in its place
 abbrev pub all_or_copied : {T : Type 0} → AllOr (Bor T) → AllOr T
 all_or_copied All = All
 all_or_copied None = None

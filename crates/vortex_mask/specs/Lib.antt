@@ -5,6 +5,8 @@ pub mod Bytes
 pub mod Concat
 pub mod Deposit
 pub mod Faults
+pub mod Fraction
+pub mod Iter
 pub mod Laws
 pub mod Lend
 pub mod Mask

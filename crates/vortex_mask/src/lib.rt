@@ -10,4 +10,6 @@ pub mod mask;
 #[cfg(test)]
 mod tests;
 
-pub use mask::{AllOr, Mask, MaskError, MaskIter, MaskValues, MaskValuesRef};
+pub use mask::{
+    AllOr, Fraction, Mask, MaskBoolIter, MaskError, MaskIter, MaskValues, MaskValuesRef,
+};

@@ -13,19 +13,25 @@ ghost use Rattle.vortex_mask.specs.declared.mask.Mask.TheVariants.{AllTrue};
 
 mod all_or;
 mod concat;
+mod debug;
 mod error;
+mod fraction;
 mod from_excluded;
 mod from_indices;
 mod from_intersection;
 mod from_slices;
 mod index_fault;
+mod iter;
 mod lend;
 mod parts;
+mod places;
 mod to_buffer;
 mod values;
 
 pub use all_or::AllOr;
 pub use error::MaskError;
+pub use fraction::Fraction;
+pub use iter::MaskBoolIter;
 pub use lend::MaskIter;
 use mask_bits::BitBuffer;
 use std::alloc::Global;

@@ -1,6 +1,7 @@
 // How a test is written stands at the head of the tests of `mask_bits`.
 ghost use Rattle.std.specs.Prelude.{◌≡◌};
 
+mod all_or;
 mod bitops;
 mod callers;
 mod concat;
@@ -10,6 +11,7 @@ mod large;
 mod lent;
 mod parts;
 mod ranges;
+mod reading;
 
 use crate::mask::{AllOr, Mask, MaskError, MaskValues};
 use bytes::Bytes;

@@ -1,7 +1,46 @@
+ghost use Rattle.std.specs.Prelude.{◌≡◌, IfErr, IfOk, IsOkUnless, alloc_error};
+ghost use Rattle.vortex_mask.specs.AllOr.{all_or_copied, MatchAllOr, ForValue, IsOnlyClone};
+
+use crate::mask::MaskError;
+
 /// A value, or that it stands for all or for none.
-#[derive(Drop)]
+#[derive(Debug, Drop, PartialEq, Eq)]
 pub enum AllOr<T> {
     All,
     None,
     Some(T),
+}
+
+impl<T> AllOr<T> {
+    /// The value, or what the one fitting closure answers. The other one isn't called.
+    pub fn unwrap_or_else<F: FnOnce() -> T, G: FnOnce() -> T>(self, all_true: F, all_false: G) -> T
+        requires all_true { self ≡ AllOr.All → F.pre all_true }
+        requires all_false { self ≡ AllOr.None → G.pre all_false }
+        ensures { MatchAllOr self (F.post all_true result) (G.post all_false result) (λ x. result ≡ x) }
+    {
+        match self {
+            AllOr::All => all_true(),
+            AllOr::None => all_false(),
+            AllOr::Some(value) => value,
+        }
+    }
+}
+
+impl<T: Clone> AllOr<&T> {
+    /// The value's clone in its place. The condition is for types whose clones may differ.
+    pub fn cloned(self) -> Result<AllOr<T>, MaskError>
+        requires { ForValue self (λ x. IsOnlyClone T.is_clone x.now) }
+        ensures same { IfOk result (λ a. a ≡ all_or_copied self.entry) }
+
+        // Memory is needed for the value's clone alone.
+        ensures clone { IfErr result
+            (λ _. MatchAllOr self.entry ⊥ ⊥ (λ x. ¬ (T.is_infallible x.now))) }
+        ensures refused { IsOkUnless result (MaskError.Memory alloc_error) }
+    {
+        match self {
+            AllOr::All => Ok(AllOr::All),
+            AllOr::None => Ok(AllOr::None),
+            AllOr::Some(value) => Ok(AllOr::Some(value.clone()?)),
+        }
+    }
 }

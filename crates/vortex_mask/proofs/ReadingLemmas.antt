@@ -1,0 +1,90 @@
+-- Masks that are read by values, places and counts.
+use Rattle.std.proofs.Common.{◌≡◌, ℕ, zero, suc, ◌+◌, ◌-◌, ◌<◌, ◌≤◌, Bool, true, false, List, [], ◌∷◌, length, map, take, drop, replicate, slice_range, refl, sym, ap, ap₂, ◌∙◌, arith}
+use Rattle.std.proofs.Common.{Option, Some, None, slice_get, nat_lt, inl, inr}
+use Rattle.std.specs.Bool.{then_some}
+use Rattle.std.specs.Iterator.{MakesProgress, item_count}
+use Rattle.std.specs.List.{All}
+use Rattle.std.specs.Option.{IfSome, SomeIff}
+use Rattle.std.proofs.lemmas.Bool.{cases_lt, lt-ltb}
+use Rattle.std.proofs.lemmas.List.{take-replicate, take-append-drop, length-take}
+use Rattle.std.proofs.lemmas.List.Elements.{All-head, All-tail}
+use Rattle.mask_bits.specs.Positions.{positions, count, count_below, repeated}
+use Rattle.mask_bits.proofs.Lists.CountLemmas.{count-repeated_true, count-repeated_false, count-append, length-repeated, positions-repeated_true_at, nil-repeated}
+use Rattle.mask_bits.proofs.Lists.PlaceLemmas.{count-le-length, positions-within, IfSome-slice_get}
+use Rattle.mask_bits.proofs.Lists.SelectLemmas.{count-part_further}
+
+-- ---- an iterator that gives the first of what is left goes on
+
+pub MakesProgress-left : {S A : Type 0} (left : S → List A) (s t : S) (x : A) → left s ≡ x ∷ left t → MakesProgress {S = S} {A = A} (λ _. Unit {0}) (item_count left) s (Some x) t
+MakesProgress-left left s t x e = record {
+  on = λ _. (tt, tt, omega (arith, ap length e));
+  keeps = tt;
+  rests = λ _. tt;
+}
+
+-- ---- lists of one value
+
+is_zero : (n : ℕ) → n ≤ 0 → n ≡ 0
+is_zero n h = omega (arith, h)
+
+-- no value has no place
+slice_get-none : (n : ℕ) → n ≡ 0 → (k : ℕ) → slice_get (positions (repeated n true)) k ≡ None
+slice_get-none n e k = ap (λ j. slice_get (positions (repeated j true)) k) e ∙ ap (λ (m : List Bool). slice_get (positions m) k) (nil-repeated true)
+
+pub first-all_true : (n : ℕ) → then_some (nat_lt 0 n) 0 ≡ slice_get (positions (repeated n true)) 0
+first-all_true n = elim (cases_lt 0 n) [
+  | inl some ↦ ap (λ b. then_some b 0) (lt-ltb 0 n some) ∙ sym (positions-repeated_true_at n 0 some)
+  | inr none ↦ ap (λ k. then_some (nat_lt 0 k) 0) (is_zero n none) ∙ sym (slice_get-none n (is_zero n none) 0)
+]
+
+pub first-within : (n : ℕ) → IfSome (then_some (nat_lt 0 n) 0) (λ p. p < length (repeated n true))
+first-within n =
+    rw (first-all_true n) (IfSome-slice_get (λ p. p < length (repeated n true)) (positions (repeated n true)) 0 (positions-within (repeated n true)))
+
+pub last-all_true : (n : ℕ) (o : Option ℕ) → SomeIff o (1 ≤ n) (n - 1) → o ≡ slice_get (positions (repeated n true)) (count (repeated n true) - 1)
+last-all_true n None none = sym (slice_get-none n (is_zero n (omega (arith, none))) (count (repeated n true) - 1))
+last-all_true n (Some p) some =
+    ap Some some.1 ∙ sym (positions-repeated_true_at n (n - 1) (omega (arith, some.0)))
+    ∙ ap (λ k. slice_get (positions (repeated n true)) (k - 1)) (sym (count-repeated_true n))
+
+pub last-within : (n : ℕ) (o : Option ℕ) → SomeIff o (1 ≤ n) (n - 1) → IfSome o (λ p. p < length (repeated n true))
+last-within n None none = tt
+last-within n (Some p) some = omega (arith, some.0, some.1, length-repeated n true)
+
+pub repeated-next : (n : ℕ) (v : Bool) → 0 < n → repeated n v ≡ v ∷ repeated (n - 1) v
+unfolding repeated
+repeated-next zero v h = absurd (omega (arith, h))
+repeated-next (suc n) v h = let e : suc n - 1 ≡ n = omega arith in ap (λ k. v ∷ replicate k v) (sym e)
+
+-- each of the values before a place of an all-true list is true
+pub count_below-all_true : (n i : ℕ) → i ≤ n → count_below (repeated n true) i ≡ i
+unfolding repeated
+count_below-all_true n i h = ap count (take-replicate i n true h) ∙ count-repeated_true i
+
+pub counts-all_true : (n : ℕ) (xs : List ℕ) → All (λ i. i ≤ n) xs → map (count_below (repeated n true)) xs ≡ xs
+counts-all_true n [] h = refl
+counts-all_true n (x ∷ xs) h =
+    ap₂ (λ (y : ℕ) (ys : List ℕ). y ∷ ys) (count_below-all_true n x (All-head (λ i. i ≤ n) x xs h)) (counts-all_true n xs (All-tail (λ i. i ≤ n) x xs h))
+
+-- and none of an all-false one
+count_below-all_false : (n i : ℕ) → count_below (repeated n false) i ≡ 0
+count_below-all_false n i =
+    let m : List Bool = repeated n false in
+    omega (arith, count-append (take i m) (drop i m), ap count (take-append-drop i m), count-repeated_false n)
+
+pub counts-all_false : (n : ℕ) (xs : List ℕ) → map (count_below (repeated n false)) xs ≡ replicate (length xs) 0
+counts-all_false n [] = refl
+counts-all_false n (x ∷ xs) = ap₂ (λ (y : ℕ) (ys : List ℕ). y ∷ ys) (count_below-all_false n x) (counts-all_false n xs)
+
+-- ---- counts that run on
+
+-- a count up to a place, and the true values from there to the next one, are the count up to that
+pub count-runs_on : (m : List Bool) (i j n k : ℕ) → i ≤ j → n ≡ count_below m i → k ≡ count (slice_range m i j) → n + k ≡ count_below m j
+count-runs_on m i j n k ordered before between =
+    let there : i + (j - i) ≡ j = omega arith in
+    ap₂ (λ a b. a + b) before (between ∙ ap (λ e. count (slice_range m i e)) (sym there))
+    ∙ sym (count-part_further m i (j - i)) ∙ ap (count_below m) there
+
+-- no count is above its place
+pub count_below-le : (m : List Bool) (i : ℕ) → count_below m i ≤ i
+count_below-le m i = omega (arith, count-le-length (take i m), length-take i m)

@@ -1,0 +1,14 @@
+use Rattle.std.proofs.Common.{slice_get, sym, ap, ◌∙◌}
+use Rattle.mask_bits.proofs.Lists.CountLemmas.{positions-all_false}
+use Rattle.vortex_mask.proofs.ReadingLemmas.{first-all_true, first-within}
+use Rattle.vortex_mask.proofs.mask.Mask.first.Goals as goal
+
+pub returns-in-AllTrue-clause-place : goal.returns-in-AllTrue-clause-place
+returns-in-AllTrue-clause-place c = c.then_some.ensures ∙ rw c.in-AllTrue.is (first-all_true c.in-AllTrue.len)
+
+pub returns-in-AllTrue-clause-within : goal.returns-in-AllTrue-clause-within
+returns-in-AllTrue-clause-within c = rw c.then_some.ensures (rw c.in-AllTrue.is (first-within c.in-AllTrue.len))
+
+pub returns-in-AllFalse-clause-place : goal.returns-in-AllFalse-clause-place
+returns-in-AllFalse-clause-place c =
+    rw c.in-AllFalse.is (sym (ap (λ places. slice_get places 0) (positions-all_false c.in-AllFalse.field-0)))

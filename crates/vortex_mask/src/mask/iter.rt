@@ -1,0 +1,77 @@
+ghost use Rattle.std.specs.Prelude.{◌≡◌, ◌<◌, ◌^◌, length, IfSome, Some};
+ghost use Rattle.std.specs.Iterator.{YieldsFirst, UpTo, item_count};
+ghost use Rattle.std.specs.Iterator.SizeHint.{IsWithinCount};
+ghost use Rattle.vortex_mask.specs.Iter.{values_left};
+ghost use Rattle.vortex_mask.specs.Mask.{truth};
+
+use crate::mask::Mask;
+use mask_bits::BitIterator;
+
+/// The values of a mask, in their order.
+#[derive(Drop)]
+pub enum MaskBoolIter<'a> {
+    /// One value, so many more times.
+    Repeat { value: bool, remaining: usize },
+    /// Those that are left of a buffer.
+    Bits(BitIterator<'a>),
+}
+
+impl Iterator for MaskBoolIter<'_> {
+    type Item = bool;
+
+    ghost next_gives = { YieldsFirst values_left };
+
+    ghost remaining = { item_count values_left };
+
+    fn next(&mut self) -> Option<bool> {
+        match self {
+            MaskBoolIter::Repeat { value, remaining } => {
+                if *remaining == 0 {
+                    return None;
+                }
+                *remaining -= 1;
+                Some(*value)
+            }
+            MaskBoolIter::Bits(bits) => bits.next(),
+        }
+    }
+
+    fn size_hint(&self) -> (usize, Option<usize>)
+        ensures lower { IsWithinCount result.0 (item_count values_left self.now) }
+        ensures upper { IfSome result.1 (UpTo (item_count values_left self.now)) }
+        ensures exact { result.0 ≡ length (values_left self.now) }
+        ensures known { result.1 ≡ Some result.0 }
+    {
+        let left = self.len();
+        (left, Some(left))
+    }
+}
+
+impl ExactSizeIterator for MaskBoolIter<'_> {
+    fn len(&self) -> usize {
+        match self {
+            MaskBoolIter::Repeat { remaining, .. } => *remaining,
+            MaskBoolIter::Bits(bits) => bits.len(),
+        }
+    }
+}
+
+impl Mask {
+    /// The values in their order.
+    pub fn iter(&self) -> MaskBoolIter<'_>
+        ensures list { values_left result ≡ truth self.now }
+        ensures fits { length (values_left result) < 2 ^ 64 }
+    {
+        match self {
+            Mask::AllTrue(len) => MaskBoolIter::Repeat {
+                value: true,
+                remaining: *len,
+            },
+            Mask::AllFalse(len) => MaskBoolIter::Repeat {
+                value: false,
+                remaining: *len,
+            },
+            Mask::Values(values) => MaskBoolIter::Bits(values.bit_buffer().iter()),
+        }
+    }
+}
