@@ -1,12 +1,13 @@
 //! The loop of the kernel over rank numbers: one selection for each, in words that are read in turn.
 
-ghost use Rattle.std.specs.Prelude.{◌≡◌, ◌+◌, ◌*◌, ◌<◌, ◌≤◌, ◌^◌, ◌%◌, ℕ, List, IfOk, length};
+ghost use Rattle.std.specs.Prelude.{◌≡◌, ◌+◌, ◌*◌, ◌<◌, ◌≤◌, ◌^◌, ◌%◌, ℕ, List, IfOk, Some, length, slice_get, vec_len};
 ghost use Rattle.std.specs.Iterator.{IsFinite, Drains};
 ghost use Rattle.std.specs.Iterator.Runs.{EachRunFrom, WholeRun};
 ghost use Rattle.std.specs.List.{sum_by};
 ghost use Rattle.mask_bits.specs.Positions.{positions, count, at_places};
 ghost use Rattle.mask_bits.specs.Words.{word_bits, started_words};
-ghost use Rattle.vortex_mask.specs.Ranks.{AreRanks};
+ghost use Rattle.vortex_mask.specs.Ranks.{AreRanks, HasReadTo};
+ghost use Rattle.vortex_mask.specs.Steps.{driven_places};
 
 use super::select::SelectBit;
 use super::steps::Steps;
@@ -25,14 +26,16 @@ pub fn places_at_ranks<S: SelectBit, I: Iterator<Item = usize>>(
     requires can { I.can_next ranks }
     requires ends { IsFinite (I.remaining ranks) }
     requires ranks { EachRunFrom I.next_gives ranks (AreRanks (count chunks.now) true_count) }
+    ensures places { IfOk result (λ r. WholeRun I.next_gives ranks
+        (λ p. r.0.items ≡ at_places (positions chunks.now) p.items)) }
+    ensures words { IfOk result (λ r. r.1.words ≤ started_words (length chunks.now)) }
+    ensures steps { IfOk result (λ r. r.1 ≡ driven_places r.1.words true_count r.0.items) }
 {
     let mut places = Vec::with_capacity(alloc, true_count)?;
     let mut steps = Steps::new();
     let mut reached = Reached::nothing();
     for rank in ranks {
-        reached.read_to(chunks, &mut steps, rank);
-        let place = steps.select::<S>(reached.word, rank - reached.before);
-        places.push(reached.start() + place)?;
+        places.push(reached.place_of::<S>(chunks, &mut steps, rank))?;
     }
     Ok((places, steps))
 }
@@ -57,21 +60,26 @@ impl Reached {
         }
     }
 
-    // The first place of the last word.
-    fn start(&self) -> usize {
-        64 * (self.words - 1)
+    // The place of true value number `rank`, which doesn't stand before the last word. Reads on
+    // until it is in the last word.
+    fn place_of<S: SelectBit>(
+        &mut self,
+        chunks: &BitChunks<'_>,
+        steps: &mut Steps,
+        rank: usize,
+    ) -> usize {
+        self.read_to(chunks, steps, rank);
+        64 * (self.words - 1) + steps.select::<S>(self.word, rank - self.before)
     }
 
     // Reads on until true value number `rank` is in the last word.
     fn read_to(&mut self, chunks: &BitChunks<'_>, steps: &mut Steps, rank: usize) {
-        loop {
-            let ones = self.word.count_ones() as usize;
-            if rank - self.before < ones {
-                return;
-            }
-            self.before += ones;
+        let mut end = self.before + self.word.count_ones() as usize;
+        while end <= rank {
+            self.before = end;
             self.word = steps.word(chunks, self.words);
             self.words += 1;
+            end += self.word.count_ones() as usize;
         }
     }
 }
