@@ -1,5 +1,7 @@
 mod bytewise;
 mod deposit;
+mod driven;
+pub mod driven_words;
 mod indices;
 mod kernels;
 mod rank_bits;
@@ -19,6 +21,7 @@ use crate::laws;
 use crate::mask::{Mask, MaskError};
 pub use bytewise::deposit_bytewise;
 pub use deposit::{DepositBits, Portable, PortableLoop, deposit_two_holes, deposit_two_lowest};
+pub use driven::intersect_mask_driven;
 pub use indices::intersect_by_rank_indices;
 pub use kernels::{intersect_bit_buffer_by_rank_indices, intersect_bit_buffers};
 use mask_bits::BitBuffer;
