@@ -13,6 +13,7 @@ pub mod FaultLemmas
 pub mod HoleLemmas
 pub mod MaskLemmas
 pub mod NetworkLemmas
+pub mod PathLemmas
 pub mod PlaceListLemmas
 pub mod RangeLemmas
 pub mod RankWordLemmas

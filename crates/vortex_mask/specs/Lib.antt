@@ -8,6 +8,7 @@ pub mod Faults
 pub mod Laws
 pub mod Mask
 pub mod MaskValues
+pub mod Path
 pub mod Ranges
 pub mod Ranks
 pub mod Steps

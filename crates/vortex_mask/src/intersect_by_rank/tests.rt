@@ -1,4 +1,5 @@
 mod kernels;
+mod path;
 
 use super::{
     DepositBits, Portable, PortableLoop, SelectBit, Steps, deposit_bytewise, deposit_two_holes,

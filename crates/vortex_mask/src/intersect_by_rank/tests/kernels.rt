@@ -121,11 +121,11 @@ fn by_places(
 // ---- rows
 
 // The list of `len` values that is true at some places.
-fn true_at(alloc: Global, len: usize, places: &[usize]) -> Result<BitBuffer, AllocError> {
+pub(super) fn true_at(alloc: Global, len: usize, places: &[usize]) -> Result<BitBuffer, AllocError> {
     BitBuffer::from_bools(alloc, (0..len).map(|i| places.contains(&i)))
 }
 
-fn expect_places(rt: &impl Abort, mask: &Mask, want: &[usize]) {
+pub(super) fn expect_places(rt: &impl Abort, mask: &Mask, want: &[usize]) {
     assert!(rt; mask.true_count() == want.len());
     for place in want {
         assert!(rt; *place < mask.len() && mask.value(*place), "{place}");
@@ -223,7 +223,7 @@ fn an_empty_mask_is_all_false(rt: HostRuntime) -> Result<(), Fail> {
 // ---- a sweep beside the plain list
 
 // A true row is as its rank is, and the others are false.
-fn expect_plain(rt: &impl Abort, mask: &Mask, rows: &BitBuffer, ranks: &BitBuffer) {
+pub(super) fn expect_plain(rt: &impl Abort, mask: &Mask, rows: &BitBuffer, ranks: &BitBuffer) {
     assert!(rt; mask.len() == rows.len());
     let mut rank = 0usize;
     for i in 0..rows.len() {
@@ -315,7 +315,7 @@ fn thinned(
     from_offset(rt, built, offset)
 }
 
-fn from_offset(
+pub(super) fn from_offset(
     rt: &impl Abort,
     built: BitBufferMut,
     offset: usize,
