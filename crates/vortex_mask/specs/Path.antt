@@ -1,11 +1,11 @@
 -- By which kernel two masks of mixed values are narrowed, what the result keeps of its places, and the steps that are taken.
-use Rattle.std.specs.Prelude.{ℕ, ◌≡◌, ◌*◌, Bool, true, false, ◌&&◌, List, length, nat_lt, is_some, if◌then◌else◌}
+use Rattle.std.specs.Prelude.{ℕ, ◌≡◌, ◌≤◌, ◌*◌, Bool, true, false, ◌&&◌, List, length, nat_lt, is_some, if◌then◌else◌}
 use Rattle.mask_bits.specs.Buffer.{values}
 use Rattle.mask_bits.specs.Positions.{positions, count}
 use Rattle.mask_bits.specs.Words.{started_words}
 use Rattle.vortex_mask.specs.Mask.{truth, caches, where_mixed}
 use Rattle.vortex_mask.specs.MaskValues.{Contents, Caches, no_caches, kept_indices}
-use Rattle.vortex_mask.specs.Steps.{StepCounts, no_steps, word_steps, AreSelections}
+use Rattle.vortex_mask.specs.Steps.{StepCounts, no_steps, word_steps, driven_steps}
 use Rattle.vortex_mask.specs.declared.intersect_by_rank.path.RankPath.{RankPath}
 use Rattle.vortex_mask.specs.declared.intersect_by_rank.path.RankPath.TheVariants.{Indices, MaskDriven, BitBuffers, RankIndices}
 use Rattle.vortex_mask.specs.declared.mask.Mask.{Mask}
@@ -43,10 +43,10 @@ narrowed_caches (Values v) (Values w) m = where_mixed m (path_caches (path_of v.
 narrowed_caches (Values v) (AllFalse n) m = no_caches
 narrowed_caches (AllFalse n) b m = no_caches
 
--- the steps s of a path from list a by ranks b to the result r: a deposit for each started word of a, or a selection for each true rank, or none
+-- the steps s of a path from list a by ranks b to the result r: a deposit for each started word of a, or a selection for each true rank in no more words than are started, or none
 abbrev pub AreStepsOf : RankPath → List Bool → List Bool → List Bool → StepCounts → Type 0
 AreStepsOf Indices a b r s = s ≡ no_steps
-AreStepsOf MaskDriven a b r s = AreSelections a b r s
+AreStepsOf MaskDriven a b r s = (s ≡ driven_steps s.words (count b) r) × (s.words ≤ started_words (length a))
 AreStepsOf BitBuffers a b r s = s ≡ word_steps a r
 AreStepsOf RankIndices a b r s = s ≡ word_steps a r
 

@@ -1,5 +1,6 @@
 -- What a contract sees of `Steps`.
-use Rattle.std.specs.Prelude.{ℕ, ◌≡◌, ◌≤◌, ◌*◌, ◌%◌, Bool, List, length, sum_by}
+use Rattle.std.specs.Prelude.{ℕ, ◌≤◌, ◌*◌, ◌%◌, Bool, List, length}
+use Rattle.std.specs.List.{sum_by}
 use Rattle.mask_bits.specs.Positions.{positions, count}
 use Rattle.mask_bits.specs.Words.{started_words}
 
@@ -20,14 +21,9 @@ no_steps = record { deposits = 0; words = 0; selections = 0; offered = 0; placed
 abbrev pub word_steps : List Bool → List Bool → StepCounts
 word_steps m r = record { deposits = started_words (length m); words = started_words (length m); selections = 0; offered = count m; placed = count r; spots = 0 }
 
--- a selection for each true rank of b, which find the places of the result r within their words, in no more words than a mask starts
-pub record AreSelections (m b r : List Bool) (s : StepCounts) : Type 0 where
-  pub selections : s.selections ≡ count b
-  pub spots : s.spots ≡ sum_by (λ p. p % 64) (positions r)
-  pub words : s.words ≤ started_words (length m)
-  pub no_deposits : s.deposits ≡ 0
-  pub none_offered : s.offered ≡ 0
-  pub none_placed : s.placed ≡ 0
+-- n selections in so many words, which find the true places of r: the sum is of these within their words
+abbrev pub driven_steps : ℕ → ℕ → List Bool → StepCounts
+driven_steps words n r = record { deposits = 0; words = words; selections = n; offered = 0; placed = 0; spots = sum_by (λ p. p % 64) (positions r) }
 
 -- each step adds at most 64 to a sum
 pub record SumsFit (deposits selections offered placed spots : ℕ) : Type 0 where

@@ -1,6 +1,8 @@
 mod by_path;
 mod bytewise;
 mod deposit;
+mod driven;
+pub mod driven_words;
 mod indices;
 mod kernels;
 mod path;
@@ -23,6 +25,7 @@ use crate::mask::{Mask, MaskError};
 use by_path::narrow_by_path;
 pub use bytewise::deposit_bytewise;
 pub use deposit::{DepositBits, Portable, PortableLoop, deposit_two_holes, deposit_two_lowest};
+pub use driven::intersect_mask_driven;
 pub use indices::intersect_by_rank_indices;
 pub use kernels::{intersect_bit_buffer_by_rank_indices, intersect_bit_buffers};
 use mask_bits::BitBuffer;

@@ -1,15 +1,17 @@
 //! A mask of mixed values narrowed by another, on each path. A list of true places that a path
 //! needs and that isn't cached is made for the one call, and given up with it.
 
-ghost use Rattle.std.specs.Prelude.{◌≡◌, ◌*◌, IfOk, IsOkUnless, IsTrue, alloc_error, is_some, length, nat_lt};
+ghost use Rattle.std.specs.Prelude.{◌≡◌, ◌≤◌, ◌*◌, IfOk, IsOkUnless, IsTrue, alloc_error, is_some, length, nat_lt};
 ghost use Rattle.mask_bits.specs.Buffer.{values};
 ghost use Rattle.mask_bits.specs.Positions.{positions, count, rank_intersection};
 ghost use Rattle.vortex_mask.specs.Mask.{truth, variant, fitting_variant, all_false, caches, where_mixed};
 ghost use Rattle.vortex_mask.specs.MaskValues.{no_caches, kept_indices};
 ghost use Rattle.vortex_mask.specs.Path.{path_of, path_caches, AreStepsOf};
-ghost use Rattle.vortex_mask.specs.Steps.{no_steps, word_steps, AreSelections};
+ghost use Rattle.vortex_mask.specs.Steps.{no_steps, word_steps, driven_steps};
+ghost use Rattle.mask_bits.specs.Words.{started_words};
 
 use super::deposit::{Portable, PortableLoop};
+use super::driven::intersect_mask_driven;
 use super::indices::intersect_by_rank_indices;
 use super::kernels::{intersect_bit_buffer_by_rank_indices, intersect_bit_buffers};
 use super::path::{RankPath, rank_path, times_true};
@@ -92,7 +94,7 @@ fn by_places(
     }
 }
 
-// By a selection for each true place of the second.
+// By a selection for each true place of the second, which are walked over where they aren't cached.
 fn by_selections(
     alloc: Global,
     rows: &MaskValues,
@@ -104,11 +106,23 @@ fn by_selections(
     ensures variant { IfOk result (λ r. variant r.0 ≡ fitting_variant all_false (truth r.0)) }
     ensures caches { IfOk result (λ r.
         caches r.0 ≡ where_mixed r.0 (kept_indices (positions (truth r.0)))) }
-    ensures steps { IfOk result (λ r. AreSelections
-        (values rows.now.buffer) (values ranks.now.buffer) (truth r.0) r.1) }
+    ensures steps { IfOk result (λ r. r.1
+        ≡ driven_steps r.1.words (count (values ranks.now.buffer)) (truth r.0)) }
+    ensures words { IfOk result
+        (λ r. r.1.words ≤ started_words (length (values rows.now.buffer))) }
     ensures refused { IsOkUnless result (MaskError.Memory alloc_error) }
 {
-    by_indices(alloc, rows, ranks)
+    let (buffer, true_count) = (rows.bit_buffer(), ranks.true_count());
+    match ranks.cached_indices() {
+        Some(numbers) => {
+            let numbers = numbers.iter().copied();
+            intersect_mask_driven::<Portable, _>(alloc, buffer, numbers, true_count)
+        }
+        None => {
+            let numbers = ranks.bit_buffer().set_indices();
+            intersect_mask_driven::<Portable, _>(alloc, buffer, numbers, true_count)
+        }
+    }
 }
 
 // By the bits of both.

@@ -1,3 +1,4 @@
+mod driven;
 mod kernels;
 mod path;
 

@@ -121,7 +121,11 @@ fn by_places(
 // ---- rows
 
 // The list of `len` values that is true at some places.
-pub(super) fn true_at(alloc: Global, len: usize, places: &[usize]) -> Result<BitBuffer, AllocError> {
+pub(super) fn true_at(
+    alloc: Global,
+    len: usize,
+    places: &[usize],
+) -> Result<BitBuffer, AllocError> {
     BitBuffer::from_bools(alloc, (0..len).map(|i| places.contains(&i)))
 }
 
@@ -280,7 +284,7 @@ fn push_run(
 }
 
 // From bit `offset` on, runs of words, and a few bits after them.
-fn runs(
+pub(super) fn runs(
     rt: &impl Abort,
     alloc: Global,
     words: &mut Generator,
@@ -298,7 +302,7 @@ fn runs(
 }
 
 // As many ranks as rows are true, from bit `offset` on, two of three of them true.
-fn thinned(
+pub(super) fn thinned(
     rt: &impl Abort,
     alloc: Global,
     words: &mut Generator,
