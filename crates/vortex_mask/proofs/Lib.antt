@@ -6,6 +6,7 @@ pub mod CommonLemmas
 pub mod ConcatLemmas
 pub mod DepositLemmas
 pub mod DepositListLemmas
+pub mod DrivenLemmas
 pub mod EqLemmas
 mod Examples
 pub mod ExcludedLemmas

@@ -1,7 +1,9 @@
 -- Ranks: numbers of true values, ascending. What an iterator of them yields, and where a walk over them stands.
-use Rattle.std.specs.Prelude.{ℕ, ◌≡◌, ◌<◌, ◌≤◌, true, Option, List, length, slice_index, All}
+use Rattle.std.specs.Prelude.{ℕ, ◌≡◌, ◌+◌, ◌-◌, ◌*◌, ◌<◌, ◌≤◌, Bool, true, Option, List, length, slice_index, count_ones, All}
 use Rattle.std.specs.Iterator.Runs.{Run}
 use Rattle.std.specs.List.Sorted.{IsStrictlyIncreasing}
+use Rattle.mask_bits.specs.Positions.{count_below}
+use Rattle.mask_bits.specs.Words.{word_bits, padded_part, started_words}
 
 -- numbers that a run of calls gave: each is above the one before it and below `top`, and where the run went on to the end there are n of them
 abbrev pub AreRanks : {S : Type 0} {steps : S → Option ℕ → S → Type 0} → ℕ → ℕ → Run steps → Type 0
@@ -12,3 +14,9 @@ pub record AreSplit (places : List ℕ) (n limit : ℕ) : Type 0 where
   pub within : n ≤ length places
   pub before : (k : ℕ) → k < n → slice_index places k < limit
   pub after : (k : ℕ) → n ≤ k → k < length places → limit ≤ slice_index places k
+
+-- the first n words of m are read: the last of them is w, and `before` of the values in front of it are true
+pub record HasRead (m : List Bool) (n w before : ℕ) : Type 0 where
+  pub within : n ≤ started_words (length m)
+  pub counted : before + count_ones w ≡ count_below m (64 * n)
+  pub last : 0 < n → word_bits w ≡ padded_part m (n - 1)

@@ -1,13 +1,12 @@
 //! The loop of the kernel over rank numbers: one selection for each, in words that are read in turn.
 
-ghost use Rattle.std.specs.Prelude.{◌≡◌, ◌+◌, ◌*◌, ◌<◌, ◌≤◌, ◌^◌, ◌%◌, ℕ, List, IfOk, Some, length, slice_get, vec_len};
-ghost use Rattle.std.specs.Iterator.{IsFinite, Drains};
+ghost use Rattle.std.specs.Prelude.{◌≡◌, ◌+◌, ◌*◌, ◌<◌, ◌≤◌, ◌^◌, ◌%◌, IfOk, Some, count_ones, length, slice_get};
+ghost use Rattle.std.specs.Iterator.{IsFinite};
 ghost use Rattle.std.specs.Iterator.Runs.{EachRunFrom, WholeRun};
 ghost use Rattle.std.specs.List.{sum_by};
 ghost use Rattle.mask_bits.specs.Positions.{positions, count, at_places};
-ghost use Rattle.mask_bits.specs.Words.{word_bits, started_words};
-ghost use Rattle.vortex_mask.specs.Ranks.{AreRanks, HasReadTo};
-ghost use Rattle.vortex_mask.specs.Steps.{driven_places};
+ghost use Rattle.mask_bits.specs.Words.{started_words};
+ghost use Rattle.vortex_mask.specs.Ranks.{AreRanks, HasRead};
 
 use super::select::SelectBit;
 use super::steps::Steps;
@@ -29,11 +28,22 @@ pub fn places_at_ranks<S: SelectBit, I: Iterator<Item = usize>>(
     ensures places { IfOk result (λ r. WholeRun I.next_gives ranks
         (λ p. r.0.items ≡ at_places (positions chunks.now) p.items)) }
     ensures words { IfOk result (λ r. r.1.words ≤ started_words (length chunks.now)) }
-    ensures steps { IfOk result (λ r. r.1 ≡ driven_places r.1.words true_count r.0.items) }
+    ensures steps { IfOk result (λ r. r.1 ≡ record {
+      deposits = 0;
+      words = r.1.words;
+      selections = true_count;
+      offered = 0;
+      placed = 0;
+      spots = sum_by (λ p. p % 64) r.0.items;
+    }) }
 {
     let mut places = Vec::with_capacity(alloc, true_count)?;
     let mut steps = Steps::new();
-    let mut reached = Reached::nothing();
+    let mut reached = Reached {
+        words: 0,
+        word: 0,
+        before: 0,
+    };
     for rank in ranks {
         places.push(reached.place_of::<S>(chunks, &mut steps, rank))?;
     }
@@ -52,14 +62,6 @@ struct Reached {
 }
 
 impl Reached {
-    fn nothing() -> Reached {
-        Reached {
-            words: 0,
-            word: 0,
-            before: 0,
-        }
-    }
-
     // The place of true value number `rank`, which doesn't stand before the last word. Reads on
     // until it is in the last word.
     fn place_of<S: SelectBit>(
@@ -67,13 +69,38 @@ impl Reached {
         chunks: &BitChunks<'_>,
         steps: &mut Steps,
         rank: usize,
-    ) -> usize {
+    ) -> usize
+        requires fits { length chunks.now < 2 ^ 64 }
+        requires read { HasRead chunks.now self.old.words self.old.word self.old.before }
+        requires ticked { steps.old.words ≡ self.old.words }
+        requires room { steps.old.selections < usize.MAX }
+        requires ahead { self.old.before ≤ rank }
+        requires there { rank < count chunks.now }
+        ensures place { slice_get (positions chunks.now) rank ≡ Some result }
+        ensures read { HasRead chunks.now self.new.words self.new.word self.new.before }
+        ensures reached { self.new.before ≤ rank }
+        ensures ticked { steps.new ≡ record steps.old {
+          words = self.new.words;
+          selections = steps.old.selections + 1;
+          spots = steps.old.spots + result % 64;
+        } }
+    {
         self.read_to(chunks, steps, rank);
         64 * (self.words - 1) + steps.select::<S>(self.word, rank - self.before)
     }
 
     // Reads on until true value number `rank` is in the last word.
-    fn read_to(&mut self, chunks: &BitChunks<'_>, steps: &mut Steps, rank: usize) {
+    fn read_to(&mut self, chunks: &BitChunks<'_>, steps: &mut Steps, rank: usize)
+        requires fits { length chunks.now < 2 ^ 64 }
+        requires read { HasRead chunks.now self.old.words self.old.word self.old.before }
+        requires ticked { steps.old.words ≡ self.old.words }
+        requires ahead { self.old.before ≤ rank }
+        requires there { rank < count chunks.now }
+        ensures read { HasRead chunks.now self.new.words self.new.word self.new.before }
+        ensures reached { self.new.before ≤ rank }
+        ensures inside { rank < self.new.before + count_ones self.new.word }
+        ensures ticked { steps.new ≡ record steps.old { words = self.new.words } }
+    {
         let mut end = self.before + self.word.count_ones() as usize;
         while end <= rank {
             self.before = end;
