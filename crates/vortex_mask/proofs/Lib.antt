@@ -17,6 +17,7 @@ pub mod NetworkLemmas
 pub mod PathLemmas
 pub mod PlaceListLemmas
 pub mod RangeLemmas
+pub mod RankRunLemmas
 pub mod RankWordLemmas
 pub mod ResultLemmas
 pub mod RunLemmas
