@@ -1,12 +1,28 @@
--- The kernel that goes by rank numbers: words that are read in turn, and the places found in them.
-use Rattle.std.proofs.Common.{◌≡◌, ℕ, ◌+◌, ◌-◌, ◌*◌, ◌/◌, ◌^◌, ◌<◌, ◌≤◌, Bool, List, length, get_or, sym, ap, ◌∙◌, inl, inr, arith, count_ones, Some, slice_get}
+-- The kernel that goes by rank numbers: words that are read in turn, the places found in them, and the run of calls that gave the ranks.
+use Rattle.std.proofs.Common.{◌≡◌, ℕ, suc, ◌+◌, ◌-◌, ◌*◌, ◌/◌, ◌^◌, ◌<◌, ◌≤◌, ◌%◌, Bool, List, [], ◌∷◌, ◌++◌, length, take, map, get_or, refl, sym, subst, ap, ap₂, ◌∙◌, inl, inr, arith, count_ones, slice_get}
+use Rattle.std.proofs.Math.Seq.{get_or-append_seam}
+use Rattle.std.proofs.iter.runs.Made.{run_of_turn, run_of_exit}
 use Rattle.std.proofs.lemmas.Bool.{cases_lt}
-use Rattle.std.proofs.lemmas.List.{take_all}
-use Rattle.mask_bits.specs.Positions.{positions, count}
+use Rattle.std.proofs.lemmas.List.{take_all, map-append, length-append, get_or_append_left}
+use Rattle.std.proofs.lemmas.List.Sums.{sum_by_push}
+use Rattle.std.proofs.lemmas.Nat.{ones-le}
+use Rattle.std.proofs.lemmas.Option.{slice_get-get_or, get_or_from_slice_get}
+use Rattle.std.specs.Iterator.{Yields}
+use Rattle.std.specs.Iterator.Runs.{EachRunFrom, WholeRun}
+use Rattle.std.specs.List.{All, sum_by}
+use Rattle.std.specs.List.Sorted.{IsStrictlyIncreasing}
+use Rattle.std.specs.declared.option.Option.{Option}
+use Rattle.std.specs.declared.option.Option.TheVariants.{Some, None}
+use Rattle.mask_bits.specs.Positions.{positions, count, true_at, at_places}
 use Rattle.mask_bits.specs.Words.{word_bits, word_part, padded_part, padded_remainder, started_words}
-use Rattle.mask_bits.proofs.Lists.SelectLemmas.{count-word_more}
-use Rattle.mask_bits.proofs.Lists.WordLemmas.{count-word_bits}
-use Rattle.vortex_mask.specs.Ranks.{HasRead}
+use Rattle.mask_bits.proofs.Lists.AscendingLemmas.{positions-true_at}
+use Rattle.mask_bits.proofs.Lists.PlaceLemmas.{count-le-length, positions-within}
+use Rattle.mask_bits.proofs.Lists.RankLemmas.{length-true_at}
+use Rattle.mask_bits.proofs.Lists.SelectLemmas.{count-word_more, place_in_word}
+use Rattle.mask_bits.proofs.Lists.WordLemmas.{count-word_bits, length-word_bits}
+use Rattle.vortex_mask.specs.Deposit.{selected}
+use Rattle.vortex_mask.specs.Ranks.{AreRanks, HasRead}
+use Rattle.vortex_mask.specs.Steps.{StepCounts, no_steps}
 use Rattle.vortex_mask.proofs.WordKernelLemmas.{word-started}
 
 -- where a true value stands past the words read, there is a further word
@@ -26,4 +42,108 @@ read-more m n w before next end read more ends fits whole last =
       within = omega arith;
       counted = omega (arith, read.counted, count-word_more m n, ap count shows, count-word_bits next fits);
       last = λ some. shows ∙ ap (padded_part m) (sym same);
+    }
+
+-- a word in which a value is found has been read
+some-word : (m : List Bool) (n w before rank : ℕ) → HasRead m n w before → before ≤ rank → rank < before + count_ones w → 0 < n
+some-word m n w before rank read reached inside = elim (cases_lt 0 n) [
+  | inl h ↦ h
+  | inr past ↦ let none : n ≡ 0 = omega arith in absurd (omega (arith, read.counted, ap (λ k. count (take (64 * k) m)) none))
+]
+
+-- a value's number in the last word, where it is in it
+pub number-inside : (w before rank : ℕ) → w < 2 ^ 64 → before ≤ rank → rank < before + count_ones w → rank - before < count (word_bits w)
+number-inside w before rank fits reached inside = omega (arith, count-word_bits w fits)
+
+pub place-few : (w n : ℕ) → n < count (word_bits w) → selected w n < 64
+place-few w n inside = omega (arith, positions-within (word_bits w) n 0 inside, length-word_bits w)
+
+-- the place of a value that is in the last word
+pub place-found : (m : List Bool) (n w before rank p : ℕ) → HasRead m n w before → w < 2 ^ 64 → before ≤ rank → rank < before + count_ones w → p ≡ selected w (rank - before)
+    → slice_get (positions m) rank ≡ Some (64 * (n - 1) + p)
+place-found m n w before rank p read fits reached inside is =
+    let i : ℕ = n - 1 in
+    let r : ℕ = rank - before in
+    let some = some-word m n w before rank read reached inside in
+    let again : i + 1 ≡ n = omega arith in
+    let shows : word_bits w ≡ padded_part m i = read.last some in
+    let here : r < count (word_bits w) = number-inside w before rank fits reached inside in
+    let front : before ≡ count (take (64 * i) m)
+    = omega (arith, read.counted, ap (λ k. count (take (64 * k) m)) again, count-word_more m i, ap count shows, count-word_bits w fits) in
+    place_in_word m i rank r p (omega (arith, read.within)) (omega arith) (omega (arith, ap count shows))
+    (ap (λ (xs : List Bool). slice_get (positions xs) r) (sym shows) ∙ slice_get-get_or (positions (word_bits w)) r 0 here ∙ ap Some (sym is))
+
+-- ---- ranks as an iterator gives them
+
+-- no more ascending numbers than the number that they are all below
+pub ascending-few : (top : ℕ) (ps : List ℕ) → IsStrictlyIncreasing ps → All (λ p. p < top) ps → length ps ≤ top
+ascending-few top ps ascending within =
+    omega (arith, ap length (positions-true_at top ps ascending within), count-le-length (true_at top ps), length-true_at top ps)
+
+-- what is not above the last is not above the next
+pub not-above-next : (xs : List ℕ) (x n : ℕ) → IsStrictlyIncreasing (xs ++ x ∷ []) → n ≤ get_or xs (length xs - 1) 0 → n ≤ x
+not-above-next [] x n ascending h = omega (arith, h)
+not-above-next (y ∷ ys) x n ascending h =
+    let xs : List ℕ = y ∷ ys in
+    let last : length xs - 1 ≡ length ys = omega arith in
+    let next : length ys + 1 ≡ length xs = omega arith in
+    let above = ascending (length ys) (omega (arith, length-append xs (x ∷ []))) in
+    let here = get_or_append_left xs (x ∷ []) 0 (length ys) (omega arith) in
+    let there : get_or (xs ++ x ∷ []) (length ys + 1) 0 ≡ x = ap (λ k. get_or (xs ++ x ∷ []) k 0) next ∙ get_or-append_seam xs x [] 0 in
+    omega (arith, h, above, here, there, ap (λ k. get_or xs k 0) last)
+
+module _ {S : Type 0} (steps : S → Option ℕ → S → Type 0) (s : S) (top n : ℕ) (ranks : EachRunFrom steps s (AreRanks top n)) (it : S) (same : it ≡ s) (xs : List ℕ) (t : S) (ran : Yields steps it xs t) where
+  -- the ranks so far, and the next one
+  pub ranks-at_turn : (x : ℕ) (u : S) → steps t (Some x) u → IsStrictlyIncreasing (xs ++ x ∷ []) × All (λ k. k < top) (xs ++ x ∷ [])
+  ranks-at_turn x u step =
+      let k = run_of_turn steps s xs t (subst (λ i. Yields steps i xs t) same ran) x u step in
+      let h = ranks k.0 k.0.seen k.1 in
+      (subst IsStrictlyIncreasing k.2.0 h.0, subst (λ (ys : List ℕ). All (λ r. r < top) ys) k.2.0 h.1)
+
+  -- all ranks
+  pub ranks-at_exit : (u : S) → steps t None u → WholeRun steps s (λ p. p.items ≡ xs) × (length xs ≡ n)
+  ranks-at_exit u step =
+      let k = run_of_exit steps s xs t (subst (λ i. Yields steps i xs t) same ran) u step in
+      ((k.0, k.1, k.2, k.3.0), sym k.3.1 ∙ (ranks k.0 k.0.seen k.1).2 k.2)
+
+-- ---- the places found
+
+-- the words read, the places found for the ranks so far, and the steps
+pub record AreFound (m : List Bool) (ranks : List ℕ) (words word before : ℕ) (places : List ℕ) (steps : StepCounts) : Type 0 where
+  pub read : HasRead m words word before
+  pub reached : before ≤ get_or ranks (length ranks - 1) 0
+  pub found : places ≡ at_places (positions m) ranks
+  pub counted : steps ≡ record { deposits = 0; words = words; selections = length ranks; offered = 0; placed = 0; spots = sum_by (λ p. p % 64) places }
+
+pub nothing-found : (m : List Bool) (places : List ℕ) (steps : StepCounts) → places ≡ [] → steps ≡ no_steps → AreFound m [] 0 0 0 places steps
+nothing-found m places steps none zero = record {
+  read = record {
+    within = omega arith;
+    counted = omega (arith, ones-le 0 0 (omega arith));
+    last = λ some. absurd (omega arith);
+  };
+  reached = omega arith;
+  found = none;
+  counted = zero ∙ ap (λ (ps : List ℕ). record { deposits = 0; words = 0; selections = 0; offered = 0; placed = 0; spots = sum_by (λ p. p % 64) ps }) (sym none);
+}
+
+pub found-more : (m : List Bool) (ranks : List ℕ) (x words word before more next passed : ℕ) (places new : List ℕ) (p : ℕ) (steps ticked : StepCounts)
+    → AreFound m ranks words word before places steps → slice_get (positions m) x ≡ Some p → HasRead m more next passed → passed ≤ x
+    → new ≡ places ++ p ∷ [] → ticked ≡ record steps { words = more; selections = steps.selections + 1; spots = steps.spots + p % 64 }
+    → AreFound m (ranks ++ x ∷ []) more next passed new ticked
+found-more m ranks x words word before more next passed places new p steps ticked so_far place read reached pushed counted =
+    let all : List ℕ = ranks ++ x ∷ [] in
+    let len = length-append ranks (x ∷ []) in
+    let last : length all - 1 ≡ length ranks = omega (arith, len) in
+    let longer : length ranks + 1 ≡ length all = omega (arith, len) in
+    let spots : sum_by (λ q. q % 64) places + p % 64 ≡ sum_by (λ q. q % 64) new
+    = sym (ap (sum_by (λ q. q % 64)) pushed ∙ sum_by_push (λ q. q % 64) places p) in
+    record {
+      read = read;
+      reached = omega (arith, reached, ap (λ k. get_or all k 0) last, get_or-append_seam ranks x [] 0);
+      found = pushed ∙ ap₂ (λ (ps : List ℕ) q. ps ++ q ∷ []) so_far.found (sym (get_or_from_slice_get (positions m) x p 0 place))
+          ∙ sym (map-append (λ k. get_or (positions m) k 0) ranks (x ∷ []));
+      counted = counted
+          ∙ ap (λ (s : StepCounts). record s { words = more; selections = s.selections + 1; spots = s.spots + p % 64 }) so_far.counted
+          ∙ ap₂ (λ n sum. record { deposits = 0; words = more; selections = n; offered = 0; placed = 0; spots = sum }) longer spots;
     }
