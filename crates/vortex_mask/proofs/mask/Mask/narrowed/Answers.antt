@@ -25,7 +25,10 @@ returns-in_ok-clone-in_default-AllTrue-clause-list c =
 -- ---- two masks of mixed values
 
 pub returns-in-Values-Values-clause-variant : goal.returns-in-Values-Values-clause-variant
-returns-in-Values-Values-clause-variant c = ?
+returns-in-Values-Values-clause-variant c =
+    let empty = variant_and (variant c.args.self.now) (variant c.args.mask.now) in
+    let a = values c.deref-in-Values-Values.result.now.buffer in
+    ?
 
 -- ---- one of them all false
 
