@@ -1,13 +1,13 @@
 -- The kernel that goes by rank numbers: words that are read in turn, the places found in them, and the run of calls that gave the ranks.
 use Rattle.std.proofs.Common.{◌≡◌, ℕ, suc, ◌+◌, ◌-◌, ◌*◌, ◌/◌, ◌^◌, ◌<◌, ◌≤◌, ◌%◌, Bool, List, [], ◌∷◌, ◌++◌, length, take, map, get_or, refl, sym, subst, ap, ap₂, ◌∙◌, inl, inr, arith, count_ones, slice_get}
 use Rattle.std.proofs.Math.Seq.{get_or-append_seam}
-use Rattle.std.proofs.iter.runs.Made.{run_of_turn, run_of_exit}
+use Rattle.std.proofs.iter.runs.Made.{run_of_turn, run_of_exit, took}
 use Rattle.std.proofs.lemmas.Bool.{cases_lt}
 use Rattle.std.proofs.lemmas.List.{take_all, map-append, length-append, get_or_append_left}
 use Rattle.std.proofs.lemmas.List.Sums.{sum_by_push}
 use Rattle.std.proofs.lemmas.Nat.{ones-le}
 use Rattle.std.proofs.lemmas.Option.{slice_get-get_or, get_or_from_slice_get}
-use Rattle.std.specs.Iterator.{Yields}
+use Rattle.std.specs.Iterator.{Yields, Drains}
 use Rattle.std.specs.Iterator.Runs.{EachRunFrom, WholeRun}
 use Rattle.std.specs.List.{All, sum_by}
 use Rattle.std.specs.List.Sorted.{IsStrictlyIncreasing}
@@ -15,14 +15,15 @@ use Rattle.std.specs.declared.option.Option.{Option}
 use Rattle.std.specs.declared.option.Option.TheVariants.{Some, None}
 use Rattle.mask_bits.specs.Positions.{positions, count, true_at, at_places}
 use Rattle.mask_bits.specs.Words.{word_bits, word_part, padded_part, padded_remainder, started_words}
-use Rattle.mask_bits.proofs.Lists.AscendingLemmas.{positions-true_at}
+use Rattle.mask_bits.proofs.Lists.AscendingLemmas.{positions-true_at, positions-ascending}
 use Rattle.mask_bits.proofs.Lists.PlaceLemmas.{count-le-length, positions-within}
-use Rattle.mask_bits.proofs.Lists.RankLemmas.{length-true_at}
+use Rattle.mask_bits.proofs.Lists.RankLemmas.{length-true_at, All-at_places}
 use Rattle.mask_bits.proofs.Lists.SelectLemmas.{count-word_more, place_in_word}
 use Rattle.mask_bits.proofs.Lists.WordLemmas.{count-word_bits, length-word_bits}
 use Rattle.vortex_mask.specs.Deposit.{selected}
 use Rattle.vortex_mask.specs.Ranks.{AreRanks, HasRead}
 use Rattle.vortex_mask.specs.Steps.{StepCounts, no_steps}
+use Rattle.vortex_mask.proofs.PlaceListLemmas.{at_places-ascending}
 use Rattle.vortex_mask.proofs.WordKernelLemmas.{word-started}
 
 -- where a true value stands past the words read, there is a further word
@@ -147,3 +148,29 @@ found-more m ranks x words word before more next passed places new p steps ticke
           ∙ ap (λ (s : StepCounts). record s { words = more; selections = s.selections + 1; spots = s.spots + p % 64 }) so_far.counted
           ∙ ap₂ (λ n sum. record { deposits = 0; words = more; selections = n; offered = 0; placed = 0; spots = sum }) longer spots;
     }
+
+-- the steps, once all n ranks have their places
+pub found-steps : (m : List Bool) (ranks : List ℕ) (words word before : ℕ) (places : List ℕ) (steps : StepCounts) (n : ℕ) → AreFound m ranks words word before places steps → length ranks ≡ n
+    → steps ≡ record { deposits = 0; words = steps.words; selections = n; offered = 0; placed = 0; spots = sum_by (λ p. p % 64) places }
+found-steps m ranks words word before places steps n all len =
+    all.counted
+    ∙ ap₂ (λ w k. record { deposits = 0; words = w; selections = k; offered = 0; placed = 0; spots = sum_by (λ p. p % 64) places }) (sym (ap (λ (s : StepCounts). s.words) all.counted)) len
+
+-- the places of all ranks ascend within the list
+module _ {S : Type 0} (steps : S → Option ℕ → S → Type 0) (s : S) (m : List Bool) (n : ℕ) (places : List ℕ) (ranks : EachRunFrom steps s (AreRanks (count m) n)) (run : WholeRun steps s (λ p. places ≡ at_places (positions m) p.items)) where
+  pub places-ascending : IsStrictlyIncreasing places
+  places-ascending =
+      let r = ranks run.0 run.0.seen run.1 in
+      subst IsStrictlyIncreasing (sym run.3) (at_places-ascending (length m) (positions m) run.0.items (positions-ascending m) (positions-within m) r.0 r.1)
+
+  pub places-within : All (λ i. i < length m) places
+  places-within =
+      let r = ranks run.0 run.0.seen run.1 in
+      subst (All (λ i. i < length m)) (sym run.3) (All-at_places (λ i. i < length m) (positions m) run.0.items (positions-within m) r.1)
+
+-- what a whole run gave is all that the iterator yields
+pub drained : {S A : Type 0} (steps : S → Option A → S → Type 0) (s : S) (P : List A → Type 0) → WholeRun steps s (λ p. P p.items) → (xs : List A) × Drains steps s xs × P xs
+drained steps s P run =
+    let past = took run.0 in
+    let end = past.2 run.2 in
+    (run.0.items, (end.0, (past.0, subst (λ i. Yields steps i run.0.items past.0) run.1 past.1, end.1)), run.3)

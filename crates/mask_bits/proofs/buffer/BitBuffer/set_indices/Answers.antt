@@ -1,7 +1,9 @@
 use Rattle.std.proofs.Common.{ℕ, List, ◌<◌, length, ap, sym, subst, arith}
 use Rattle.std.specs.List.{All}
+use Rattle.std.specs.List.Sorted.{IsStrictlyIncreasing}
 use Rattle.mask_bits.specs.Buffer.{values}
 use Rattle.mask_bits.proofs.BufferLemmas.{length-values}
+use Rattle.mask_bits.proofs.Lists.AscendingLemmas.{positions-ascending}
 use Rattle.mask_bits.proofs.Lists.PlaceLemmas.{length-places_from, positions-within}
 use Rattle.mask_bits.proofs.buffer.BitBuffer.set_indices.Goals as goal
 
@@ -14,3 +16,6 @@ pub returns-clause-within : goal.returns-clause-within
 returns-clause-within c =
     let m = values c.args.self.now in
     subst (λ (ps : List ℕ). All (λ p. p < length m) ps) (sym c.new.ensures) (positions-within m)
+
+pub returns-clause-ascending : goal.returns-clause-ascending
+returns-clause-ascending c = subst IsStrictlyIncreasing (sym c.new.ensures) (positions-ascending (values c.args.self.now))

@@ -4,7 +4,7 @@ use Rattle.std.specs.List.{sum_by}
 use Rattle.mask_bits.specs.Positions.{positions, count, at_places}
 use Rattle.mask_bits.proofs.Lists.PlaceLemmas.{count-le-length}
 use Rattle.vortex_mask.specs.Steps.{StepCounts}
-use Rattle.vortex_mask.proofs.DrivenLemmas.{ascending-few, not-above-next, ranks-at_turn, ranks-at_exit, nothing-found, found-more}
+use Rattle.vortex_mask.proofs.DrivenLemmas.{ascending-few, not-above-next, ranks-at_turn, ranks-at_exit, nothing-found, found-more, found-steps}
 use Rattle.vortex_mask.proofs.intersect_by_rank.driven_words.places_at_ranks.Goals as goal
 
 pub loop-rank-init : goal.loop-rank-init
@@ -51,6 +51,4 @@ pub returns-clause-steps : goal.returns-clause-steps
 returns-clause-steps g c =
     let m = c.args.chunks.now in
     let all = (ranks-at_exit g.I.Iterator.next_gives c.args.ranks (count m) c.args.true_count c.requires.ranks _ c.into_iter-rank-iterator.ensures.into_iter_gives c.loop-rank.yielded _ c.loop-rank.yielded_by c.next.new.self c.in-None.ensures.steps).1 in
-    c.loop-rank.invariant.counted
-    ∙ ap₂ (λ w n. record { deposits = 0; words = w; selections = n; offered = 0; placed = 0; spots = sum_by (λ p. p % 64) c.loop-rank.places.items })
-    (sym (ap (λ (s : StepCounts). s.words) c.loop-rank.invariant.counted)) all
+    found-steps m c.loop-rank.yielded _ _ _ c.loop-rank.places.items c.loop-rank.steps c.args.true_count c.loop-rank.invariant all
