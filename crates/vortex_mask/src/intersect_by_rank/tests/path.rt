@@ -261,6 +261,7 @@ fn expect_densities(rt: &impl Abort, alloc: Global, at: (usize, usize)) -> Resul
 }
 
 const LENGTHS: [usize; 6] = [1, 63, 64, 65, 1_000, 4_096];
+
 const OFFSETS: [usize; 3] = [0, 3, 67];
 
 #[test]

@@ -4,6 +4,8 @@ use Rattle.mask_bits.specs.Buffer.{values}
 use Rattle.vortex_mask.specs.Mask.{truth, variant, variant_and, all_false, where_mixed}
 use Rattle.mask_bits.specs.Positions.{positions, repeated}
 use Rattle.vortex_mask.proofs.MaskLemmas.{fitting_variant-nonempty, fitting_variant-repeated_false, truth-by_all_true_self, truth-by_all_true_mask, truth-by_all_false, variant_and-all_false}
+use Rattle.vortex_mask.proofs.ResultLemmas.{IfOk-both}
+use Rattle.mask_bits.proofs.Lists.LawLemmas.{length-rank_intersection}
 use Rattle.vortex_mask.proofs.mask.Mask.narrowed.Goals as goal
 use Rattle.vortex_mask.proofs.mask.Mask.narrowed.Goals.{in-AllFalse+in-AllFalse-mask, in-AllFalse+in-Values-1, in-Values+in-AllFalse-1, in_default-AllTrue-via-in-AllFalse+in-AllTrue, in_default-AllTrue-via-in-Values+in-AllTrue}
 
@@ -28,7 +30,11 @@ pub returns-in-Values-Values-clause-variant : goal.returns-in-Values-Values-clau
 returns-in-Values-Values-clause-variant c =
     let empty = variant_and (variant c.args.self.now) (variant c.args.mask.now) in
     let a = values c.deref-in-Values-Values.result.now.buffer in
-    ?
+    let b = values c.deref-in-Values-Values-2.result.now.buffer in
+    let rows = ap (λ v. length (values v.buffer)) (c.deref.ensures ∙ sym c.deref-in-Values-Values.ensures) in
+    let some = c.true_count.ensures.some_false in
+    IfOk-both c.narrow_by_path.result _ _ _ (λ r list held.
+    held ∙ fitting_variant-nonempty all_false empty (truth r.0) (omega (arith, ap length list, length-rank_intersection a b, rows, some))) c.narrow_by_path.ensures.list c.narrow_by_path.ensures.variant
 
 -- ---- one of them all false
 
