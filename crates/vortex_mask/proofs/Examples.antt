@@ -1,9 +1,11 @@
 -- Worked rows of the terms that masks are described in, computed by the checker.
-use Rattle.std.proofs.Common.{◌≡◌, true, false, [], ◌∷◌, Some, None, refl, inl, inr, arith}
+use Rattle.std.proofs.Common.{◌≡◌, ◌^◌, true, false, [], ◌∷◌, Some, None, refl, inl, inr, arith}
 use Rattle.vortex_mask.specs.Faults.{index_fault, out_of_bounds, common, range_fault}
 use Rattle.vortex_mask.specs.Lend.{ReachesShare, AreKeptOrRuns}
 use Rattle.vortex_mask.specs.Mask.{all_true, all_false, mixed, fitting_variant, variant_and, IsUniform}
 use Rattle.vortex_mask.specs.MaskValues.{kept_indices, kept_ranges, with_indices, with_ranges}
+use Rattle.vortex_mask.specs.Path.{path}
+use Rattle.vortex_mask.specs.declared.intersect_by_rank.path.RankPath.TheVariants.{Indices, MaskDriven, BitBuffers, RankIndices}
 use Rattle.vortex_mask.specs.declared.mask.error.MaskError.TheVariants.{UnsortedIndices, RepeatedIndex, IndexOutOfBounds, BadRange, UnsortedRanges, OverlappingRanges}
 
 -- ---- index lists of a mask of five values
@@ -112,3 +114,42 @@ kept_ranges_are_lent = refl
 -- a list that is kept stays beside the new one
 places_beside_ranges : with_indices (0 ∷ []) (kept_ranges ((0, 1) ∷ [])) ≡ with_ranges ((0, 1) ∷ []) (kept_indices (0 ∷ []))
 places_beside_ranges = refl
+
+-- ---- paths: self's values and true ones, the rank mask's, and whether the true places of each are kept
+
+as_many_ranks_as_words : path 130 6 6 3 true true ≡ BitBuffers
+as_many_ranks_as_words = refl
+
+fewer_ranks_than_words : path 130 6 6 1 true true ≡ Indices
+fewer_ranks_than_words = refl
+
+places_of_self_alone : path 130 6 6 1 true false ≡ BitBuffers
+places_of_self_alone = refl
+
+places_of_the_ranks_alone : path 130 6 6 1 false true ≡ RankIndices
+places_of_the_ranks_alone = refl
+
+few_ranks_are_listed : path 128 64 64 3 false true ≡ RankIndices
+few_ranks_are_listed = refl
+
+a_fourth_of_the_ranks : path 128 64 64 16 false true ≡ RankIndices
+a_fourth_of_the_ranks = refl
+
+above_a_fourth_of_the_ranks : path 128 64 64 17 false true ≡ BitBuffers
+above_a_fourth_of_the_ranks = refl
+
+below_one_rank_in_32 : path 128 64 64 1 false true ≡ MaskDriven
+below_one_rank_in_32 = refl
+
+one_rank_in_32 : path 128 64 64 2 false false ≡ BitBuffers
+one_rank_in_32 = refl
+
+one_row_in_64 : path 128 2 2 1 false false ≡ BitBuffers
+one_row_in_64 = refl
+
+below_one_row_in_64 : path 129 2 2 1 false false ≡ Indices
+below_one_row_in_64 = refl
+
+-- no product wraps
+a_product_past_64_bits : path (2 ^ 63) (2 ^ 62) (2 ^ 62) (2 ^ 61) false false ≡ BitBuffers
+a_product_past_64_bits = refl

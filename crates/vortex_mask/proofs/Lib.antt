@@ -14,8 +14,10 @@ pub mod FaultLemmas
 pub mod HoleLemmas
 pub mod MaskLemmas
 pub mod NetworkLemmas
+pub mod PathLemmas
 pub mod PlaceListLemmas
 pub mod RangeLemmas
+pub mod RankRunLemmas
 pub mod RankWordLemmas
 pub mod ReadingLemmas
 pub mod ResultLemmas

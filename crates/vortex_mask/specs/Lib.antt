@@ -11,6 +11,7 @@ pub mod Laws
 pub mod Lend
 pub mod Mask
 pub mod MaskValues
+pub mod Path
 pub mod Ranges
 pub mod Ranks
 pub mod Steps

@@ -5,8 +5,8 @@ use Rattle.std.specs.Cmp.Lexicographic.{pointwise}
 use Rattle.std.specs.List.{list_all, list_any}
 use Rattle.std.specs.Ordering.{on}
 use Rattle.mask_bits.specs.Buffer.{Packed, values}
-use Rattle.vortex_mask.specs.MaskValues.{Contents, Caches, no_caches, kept_indices}
-use Rattle.mask_bits.specs.Positions.{positions, count, repeated}
+use Rattle.vortex_mask.specs.MaskValues.{Contents, Caches, no_caches}
+use Rattle.mask_bits.specs.Positions.{count, repeated}
 use Rattle.vortex_mask.specs.declared.mask.all_or.AllOr.{AllOr}
 use Rattle.vortex_mask.specs.declared.mask.all_or.AllOr.TheVariants as all_or
 use Rattle.vortex_mask.specs.declared.mask.Mask.{Mask}
@@ -90,15 +90,6 @@ abbrev pub where_mixed : Mask → Caches → Caches
 where_mixed (AllTrue n) kept = no_caches
 where_mixed (AllFalse n) kept = no_caches
 where_mixed (Values v) kept = kept
-
--- what a rank intersection m of two masks keeps: an all-true mask narrows to the other one with its lists, and two
--- mixed ones to a mask that keeps its true places
-abbrev pub narrowed_caches : Mask → Mask → Mask → Caches
-narrowed_caches (AllTrue n) b m = caches b
-narrowed_caches (Values v) (AllTrue n) m = caches (Values v)
-narrowed_caches (Values v) (Values w) m = where_mixed m (kept_indices (positions (truth m)))
-narrowed_caches (Values v) (AllFalse n) m = no_caches
-narrowed_caches (AllFalse n) b m = no_caches
 
 -- whether two masks have the same list
 abbrev pub same_truth : Mask → Mask → Bool

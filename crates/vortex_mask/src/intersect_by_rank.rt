@@ -1,9 +1,11 @@
+mod by_path;
 mod bytewise;
 mod deposit;
 mod driven;
 pub mod driven_words;
 mod indices;
 mod kernels;
+mod path;
 mod rank_bits;
 pub mod rank_words;
 mod select;
@@ -13,18 +15,21 @@ mod tests;
 pub mod words;
 
 ghost use Rattle.std.specs.Prelude.{◌≡◌, ◌≢◌, ◌<◌, ◌⊎◌, IsOk, IfOk, All, length, IsOkUnless, alloc_error};
-ghost use Rattle.vortex_mask.specs.Mask.{truth, variant, fitting_variant, variant_and, all_false, mixed, caches, narrowed_caches};
+ghost use Rattle.vortex_mask.specs.Mask.{truth, variant, fitting_variant, variant_and, all_false, mixed, caches};
 ghost use Rattle.mask_bits.specs.Buffer.{values};
 ghost use Rattle.mask_bits.specs.Positions.{positions, count, at_places, rank_intersection};
+ghost use Rattle.vortex_mask.specs.Path.{narrowed_caches, AreNarrowingSteps};
 
 use crate::laws;
 use crate::mask::{Mask, MaskError};
+use by_path::narrow_by_path;
 pub use bytewise::deposit_bytewise;
 pub use deposit::{DepositBits, Portable, PortableLoop, deposit_two_holes, deposit_two_lowest};
 pub use driven::intersect_mask_driven;
 pub use indices::intersect_by_rank_indices;
 pub use kernels::{intersect_bit_buffer_by_rank_indices, intersect_bit_buffers};
 use mask_bits::BitBuffer;
+pub use path::{RankPath, rank_path};
 pub use rank_bits::RankBits;
 pub use select::SelectBit;
 use std::alloc::{AllocError, Global};
@@ -54,18 +59,47 @@ impl Mask {
             → IsOk result }
         ensures refused { IsOkUnless result (MaskError.Memory alloc_error) }
     {
+        Ok(self.intersect_by_rank_counted(alloc, mask)?.0)
+    }
+
+    /// The mask of `intersect_by_rank`, with the steps that its kernel takes. No step is counted
+    /// where no kernel runs: where a side is all true or all false.
+    pub fn intersect_by_rank_counted(
+        &self,
+        alloc: Global,
+        mask: &Mask,
+    ) -> Result<(Mask, Steps), MaskError>
+        requires { length (truth mask.now) ≡ count (truth self.now) }
+        ensures len { IfOk result (λ r. length (truth r.0) ≡ length (truth self.now)) }
+        ensures true_indices { IfOk result (λ r. positions (truth r.0)
+            ≡ at_places (positions (truth self.now)) (positions (truth mask.now))) }
+        ensures list { IfOk result
+            (λ r. truth r.0 ≡ rank_intersection (truth self.now) (truth mask.now)) }
+        ensures variant { IfOk result (λ r. variant r.0
+            ≡ fitting_variant (variant_and (variant self.now) (variant mask.now)) (truth r.0)) }
+        ensures caches { IfOk result
+            (λ r. caches r.0 ≡ narrowed_caches self.now mask.now r.0) }
+        ensures steps { IfOk result (λ r. AreNarrowingSteps self.now mask.now r.0 r.1) }
+
+        // What needs no memory succeeds.
+        ensures uniform { variant self.now ≢ mixed → variant mask.now ≢ mixed → IsOk result }
+        ensures none { (variant self.now ≡ all_false) ⊎ (variant mask.now ≡ all_false)
+            → IsOk result }
+        ensures refused { IsOkUnless result (MaskError.Memory alloc_error) }
+    {
         self.narrowed(alloc, mask)
     }
 
     // The mask of the one list that is the rank intersection. Its length and true indices follow.
-    fn narrowed(&self, alloc: Global, mask: &Mask) -> Result<Mask, MaskError>
+    fn narrowed(&self, alloc: Global, mask: &Mask) -> Result<(Mask, Steps), MaskError>
         requires { length (truth mask.now) ≡ count (truth self.now) }
         ensures list { IfOk result
-            (λ m. truth m ≡ rank_intersection (truth self.now) (truth mask.now)) }
-        ensures variant { IfOk result (λ m. variant m
-            ≡ fitting_variant (variant_and (variant self.now) (variant mask.now)) (truth m)) }
+            (λ r. truth r.0 ≡ rank_intersection (truth self.now) (truth mask.now)) }
+        ensures variant { IfOk result (λ r. variant r.0
+            ≡ fitting_variant (variant_and (variant self.now) (variant mask.now)) (truth r.0)) }
         ensures caches { IfOk result
-            (λ m. caches m ≡ narrowed_caches self.now mask.now m) }
+            (λ r. caches r.0 ≡ narrowed_caches self.now mask.now r.0) }
+        ensures steps { IfOk result (λ r. AreNarrowingSteps self.now mask.now r.0 r.1) }
         ensures uniform { variant self.now ≢ mixed → variant mask.now ≢ mixed → IsOk result }
         ensures none { (variant self.now ≡ all_false) ⊎ (variant mask.now ≡ all_false)
             → IsOk result }
@@ -74,35 +108,22 @@ impl Mask {
         match (self, mask) {
             (Mask::AllTrue(_), _) => {
                 laws::one_variant(mask);
-                mask.clone()
+                Ok((mask.clone()?, Steps::new()))
             }
             (_, Mask::AllTrue(_)) => {
                 laws::one_variant(self);
-                self.clone()
+                Ok((self.clone()?, Steps::new()))
             }
-            (Mask::AllFalse(_), _) | (_, Mask::AllFalse(_)) => Ok(Mask::new_false(self.len())),
+            (Mask::AllFalse(_), _) | (_, Mask::AllFalse(_)) => {
+                Ok((Mask::new_false(self.len()), Steps::new()))
+            }
             (Mask::Values(values), Mask::Values(ranks)) => {
-                let kept = intersect_places(alloc, values.bit_buffer(), ranks.bit_buffer())?;
-                let rows = self.len();
-                Mask::of_indices(alloc, rows, kept)
+                // some values are true and some are not, as their count tells
+                let _ = values.true_count();
+                narrow_by_path(alloc, values, ranks)
             }
         }
     }
-}
-
-// The true places of `buffer` at those of `ranks`.
-fn intersect_places(
-    alloc: Global,
-    buffer: &BitBuffer,
-    ranks: &BitBuffer,
-) -> Result<Vec<usize>, AllocError>
-    requires { length (values ranks.now) ≡ count (values buffer.now) }
-    ensures { IfOk result (λ kept. kept.items
-        ≡ at_places (positions (values buffer.now)) (positions (values ranks.now))) }
-{
-    let places = places_of(alloc, buffer)?;
-    let ranks = places_of(alloc, ranks)?;
-    taken_at(alloc, &places, &ranks)
 }
 
 // The places of the true values.

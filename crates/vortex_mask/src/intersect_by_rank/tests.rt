@@ -1,5 +1,6 @@
 mod driven;
 mod kernels;
+mod path;
 
 use super::{
     DepositBits, Portable, PortableLoop, SelectBit, Steps, deposit_bytewise, deposit_two_holes,

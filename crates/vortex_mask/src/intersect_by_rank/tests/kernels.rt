@@ -129,7 +129,7 @@ pub(super) fn true_at(
     BitBuffer::from_bools(alloc, (0..len).map(|i| places.contains(&i)))
 }
 
-fn expect_places(rt: &impl Abort, mask: &Mask, want: &[usize]) {
+pub(super) fn expect_places(rt: &impl Abort, mask: &Mask, want: &[usize]) {
     assert!(rt; mask.true_count() == want.len());
     for place in want {
         assert!(rt; *place < mask.len() && mask.value(*place), "{place}");
@@ -227,7 +227,7 @@ fn an_empty_mask_is_all_false(rt: HostRuntime) -> Result<(), Fail> {
 // ---- a sweep beside the plain list
 
 // A true row is as its rank is, and the others are false.
-fn expect_plain(rt: &impl Abort, mask: &Mask, rows: &BitBuffer, ranks: &BitBuffer) {
+pub(super) fn expect_plain(rt: &impl Abort, mask: &Mask, rows: &BitBuffer, ranks: &BitBuffer) {
     assert!(rt; mask.len() == rows.len());
     let mut rank = 0usize;
     for i in 0..rows.len() {
@@ -319,7 +319,7 @@ pub(super) fn thinned(
     from_offset(rt, built, offset)
 }
 
-fn from_offset(
+pub(super) fn from_offset(
     rt: &impl Abort,
     built: BitBufferMut,
     offset: usize,

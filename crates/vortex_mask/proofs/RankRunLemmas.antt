@@ -1,0 +1,45 @@
+-- An iterator that yields ascending numbers, as it is handed to the kernel that goes by them.
+use Rattle.std.proofs.Common.{◌≡◌, ℕ, ◌+◌, ◌<◌, Bool, true, List, length, get_or, take, Option, Some, None, Bor, refl, sym, subst, ap, ◌∙◌, arith}
+use Rattle.std.proofs.iter.Yields.{copies}
+use Rattle.std.proofs.lemmas.Iterator.{YieldsList}
+use Rattle.std.proofs.lemmas.Iterator.Consumers.{YieldsList-so_far, YieldsList-end}
+use Rattle.std.proofs.lemmas.List.{get_or-take, length-take, map-id}
+use Rattle.std.proofs.lemmas.List.Elements.{All-take}
+use Rattle.std.specs.Iterator.{Yields}
+use Rattle.std.specs.Iterator.Runs.{Run, EachRunFrom, WholeRun, YieldsRun}
+use Rattle.std.specs.List.{All}
+use Rattle.std.specs.List.Sorted.{IsStrictlyIncreasing}
+use Rattle.mask_bits.specs.Positions.{at_places}
+use Rattle.vortex_mask.specs.Ranks.{AreRanks}
+
+-- the first numbers of ascending ones ascend
+ascending-take : (n : ℕ) (xs : List ℕ) → IsStrictlyIncreasing xs → IsStrictlyIncreasing (take n xs)
+ascending-take n xs ascending = λ k more.
+    let short : k + 1 < length xs = omega (arith, length-take n xs) in
+    let first : k + 1 < n = omega (arith, length-take n xs) in
+    let step = ascending k short in
+    omega (arith, get_or-take n xs k 0 (omega arith), get_or-take n xs (k + 1) 0 first)
+
+module _ {S : Type 0} (steps : S → Option ℕ → S → Type 0) (s : S) (all : List ℕ) (yields : YieldsList steps (λ x. x) s all) where
+  -- a run gives the first of them
+  given : (p : Run steps) → p.from ≡ s → p.items ≡ take (length p.items) all
+  unfolding YieldsRun
+  given p at = sym (map-id p.items) ∙ YieldsList-so_far yields p.items p.gave.0.0 (subst (λ u. Yields steps u p.items p.gave.0.0) at p.gave.0.1)
+
+  -- and to the end all of them
+  given_whole : (p : Run steps) → p.from ≡ s → p.whole ≡ true → p.items ≡ all
+  unfolding YieldsRun
+  given_whole p at whole =
+      let last = p.gave.0.2 whole in
+      sym (map-id p.items) ∙ (YieldsList-end yields p.items p.gave.0.0 (subst (λ u. Yields steps u p.items p.gave.0.0) at p.gave.0.1) None last.0 refl last.1).0
+
+  pub are_ranks : (top n : ℕ) → IsStrictlyIncreasing all → All (λ k. k < top) all → length all ≡ n → EachRunFrom steps s (AreRanks top n)
+  are_ranks top n ascending within counted = λ p _ at. (
+    subst IsStrictlyIncreasing (sym (given p at)) (ascending-take (length p.items) all ascending),
+    subst (All (λ k. k < top)) (sym (given p at)) (All-take (λ k. k < top) (length p.items) all within),
+    λ whole. p.long ∙ ap length (given_whole p at whole) ∙ counted,
+  )
+
+  -- what is at the places that a run to the end gives is at all of them
+  pub taken_whole : (found places : List ℕ) → WholeRun steps s (λ p. found ≡ at_places places p.items) → found ≡ at_places places all
+  taken_whole found places run = run.3 ∙ ap (at_places places) (given_whole run.0 run.1 run.2)

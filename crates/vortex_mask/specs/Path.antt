@@ -1,0 +1,59 @@
+-- By which kernel two masks of mixed values are narrowed, what the result keeps of its places, and the steps that are taken.
+use Rattle.std.specs.Prelude.{ℕ, ◌≡◌, ◌≤◌, ◌*◌, Bool, true, false, ◌&&◌, List, length, nat_lt, is_some, if◌then◌else◌}
+use Rattle.mask_bits.specs.Buffer.{values}
+use Rattle.mask_bits.specs.Positions.{positions, count}
+use Rattle.mask_bits.specs.Words.{started_words}
+use Rattle.vortex_mask.specs.Mask.{truth, caches, where_mixed}
+use Rattle.vortex_mask.specs.MaskValues.{Contents, Caches, no_caches, kept_indices}
+use Rattle.vortex_mask.specs.Steps.{StepCounts, no_steps, word_steps, driven_steps}
+use Rattle.vortex_mask.specs.declared.intersect_by_rank.path.RankPath.{RankPath}
+use Rattle.vortex_mask.specs.declared.intersect_by_rank.path.RankPath.TheVariants.{Indices, MaskDriven, BitBuffers, RankIndices}
+use Rattle.vortex_mask.specs.declared.mask.Mask.{Mask}
+use Rattle.vortex_mask.specs.declared.mask.Mask.TheVariants.{AllTrue, AllFalse, Values}
+
+-- the path of a mask with so many values and true ones, narrowed by a rank mask with so many, where the true places of each are kept or not: the first test that holds decides
+abbrev pub path : ℕ → ℕ → ℕ → ℕ → Bool → Bool → RankPath
+path len trues rank_len rank_trues self_kept true =
+    if self_kept && nat_lt rank_trues (started_words len) then Indices
+    else (if nat_lt (64 * trues) len then Indices
+    else (if nat_lt (32 * rank_trues) rank_len then MaskDriven
+    else (if nat_lt rank_len (4 * rank_trues) then BitBuffers
+    else RankIndices)))
+path len trues rank_len rank_trues self_kept false =
+    if nat_lt (64 * trues) len then Indices
+    else (if nat_lt (32 * rank_trues) rank_len then MaskDriven
+    else BitBuffers)
+
+-- the path of two masks of mixed values
+abbrev pub path_of : Contents → Contents → RankPath
+path_of v w = path (length (values v.buffer)) (count (values v.buffer)) (length (values w.buffer)) (count (values w.buffer)) (is_some v.caches.indices) (is_some w.caches.indices)
+
+-- what a mixed result r keeps: its true places, where the path finds these one by one
+abbrev pub path_caches : RankPath → List Bool → Caches
+path_caches Indices r = kept_indices (positions r)
+path_caches MaskDriven r = kept_indices (positions r)
+path_caches BitBuffers r = no_caches
+path_caches RankIndices r = no_caches
+
+-- what a rank intersection m of two masks keeps: an all-true mask narrows to the other one with its lists, and two mixed ones to a mask that keeps what their path leaves
+abbrev pub narrowed_caches : Mask → Mask → Mask → Caches
+narrowed_caches (AllTrue n) b m = caches b
+narrowed_caches (Values v) (AllTrue n) m = caches (Values v)
+narrowed_caches (Values v) (Values w) m = where_mixed m (path_caches (path_of v.value w.value) (truth m))
+narrowed_caches (Values v) (AllFalse n) m = no_caches
+narrowed_caches (AllFalse n) b m = no_caches
+
+-- the steps s of a path from list a by ranks b to the result r: a deposit for each started word of a, or a selection for each true rank in no more words than are started, or none
+abbrev pub AreStepsOf : RankPath → List Bool → List Bool → List Bool → StepCounts → Type 0
+AreStepsOf Indices a b r s = s ≡ no_steps
+AreStepsOf MaskDriven a b r s = (s ≡ driven_steps s.words (count b) r) × (s.words ≤ started_words (length a))
+AreStepsOf BitBuffers a b r s = s ≡ word_steps a r
+AreStepsOf RankIndices a b r s = s ≡ word_steps a r
+
+-- the steps s that narrow mask a by mask b to m: those of their path where both are mixed, and none elsewhere
+abbrev pub AreNarrowingSteps : Mask → Mask → Mask → StepCounts → Type 0
+AreNarrowingSteps (Values v) (Values w) m s = AreStepsOf (path_of v.value w.value) (values v.value.buffer) (values w.value.buffer) (truth m) s
+AreNarrowingSteps (Values v) (AllTrue n) m s = s ≡ no_steps
+AreNarrowingSteps (Values v) (AllFalse n) m s = s ≡ no_steps
+AreNarrowingSteps (AllTrue n) b m s = s ≡ no_steps
+AreNarrowingSteps (AllFalse n) b m s = s ≡ no_steps
