@@ -19,4 +19,5 @@ pub mod RankWordLemmas
 pub mod ResultLemmas
 pub mod RunLemmas
 pub mod SetPlaceLemmas
+pub mod VariantLemmas
 pub mod WordKernelLemmas
