@@ -23,4 +23,5 @@ pub mod ReadingLemmas
 pub mod ResultLemmas
 pub mod RunLemmas
 pub mod SetPlaceLemmas
+pub mod VariantLemmas
 pub mod WordKernelLemmas

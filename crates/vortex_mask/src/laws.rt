@@ -2,7 +2,7 @@
 //! law.
 
 ghost use Rattle.std.specs.Prelude.{◌≡◌};
-ghost use Rattle.vortex_mask.specs.Laws.{UniformIsOfOneValue, NoIndexFault};
+ghost use Rattle.vortex_mask.specs.Laws.{UniformIsOfOneValue, NoIndexFault, AllTrueHasTrueValues, AllFalseHasFalseValues};
 ghost use Rattle.vortex_mask.specs.Mask.{truth, variant, fitting_variant, caches};
 ghost use Rattle.vortex_mask.specs.MaskValues.{AreOf};
 
@@ -46,4 +46,11 @@ pub fn uniform_is_of_one_value()
 #[tactic(auto, using(crate::proofs::FaultLemmas::no_index_fault))]
 pub fn no_index_fault()
     ensures { NoIndexFault }
+{}
+
+/// A caller knows the list of a mask that is held as all true or as all false by its length.
+#[tactic(auto, using(crate::proofs::VariantLemmas::all_true_has_true_values, crate::proofs::VariantLemmas::all_false_has_false_values))]
+pub fn variants_of_one_value()
+    ensures all_true { AllTrueHasTrueValues }
+    ensures all_false { AllFalseHasFalseValues }
 {}
