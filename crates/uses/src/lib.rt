@@ -10,4 +10,5 @@ pub mod row_groups;
 pub mod stacks;
 #[cfg(test)]
 mod tests;
+pub mod validity;
 pub mod words;

@@ -1,7 +1,9 @@
 -- Worked rows of the terms that masks are described in, computed by the checker.
 use Rattle.std.proofs.Common.{◌≡◌, true, false, [], ◌∷◌, Some, None, refl, inl, inr, arith}
 use Rattle.vortex_mask.specs.Faults.{index_fault, out_of_bounds, common, range_fault}
+use Rattle.vortex_mask.specs.Fraction.{share, share_by_variant}
 use Rattle.vortex_mask.specs.Mask.{all_true, all_false, mixed, fitting_variant, variant_and, IsUniform}
+use Rattle.vortex_mask.specs.declared.mask.Mask.TheVariants.{AllTrue, AllFalse}
 use Rattle.vortex_mask.specs.declared.mask.error.MaskError.TheVariants.{UnsortedIndices, RepeatedIndex, IndexOutOfBounds, BadRange, UnsortedRanges, OverlappingRanges}
 
 -- ---- index lists of a mask of five values
@@ -93,3 +95,14 @@ no_values_are_uniform = inl refl
 
 mixed_is_not_uniform : IsUniform (true ∷ false ∷ []) → ⊥
 mixed_is_not_uniform uniform = elim uniform [ inl none ↦ omega arith | inr all ↦ omega arith ]
+
+-- ---- shares
+
+three_of_five : share (true ∷ false ∷ true ∷ true ∷ false ∷ []) ≡ record { num = 3; den = 5 }
+three_of_five = refl
+
+all_of_none : share_by_variant (AllTrue 0) ≡ record { num = 1; den = 1 }
+all_of_none = refl
+
+none_of_none : share_by_variant (AllFalse 0) ≡ record { num = 0; den = 1 }
+none_of_none = refl
