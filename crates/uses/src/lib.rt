@@ -11,4 +11,5 @@ pub mod selected;
 pub mod stacks;
 #[cfg(test)]
 mod tests;
+pub mod validity;
 pub mod words;

@@ -1,11 +1,13 @@
 -- Worked rows of the terms that masks are described in, computed by the checker.
 use Rattle.std.proofs.Common.{◌≡◌, ◌^◌, true, false, [], ◌∷◌, Some, None, refl, inl, inr, arith}
 use Rattle.vortex_mask.specs.Faults.{index_fault, out_of_bounds, common, range_fault}
+use Rattle.vortex_mask.specs.Fraction.{share, share_by_variant}
 use Rattle.vortex_mask.specs.Lend.{ReachesShare, AreKeptOrRuns}
 use Rattle.vortex_mask.specs.Mask.{all_true, all_false, mixed, fitting_variant, variant_and, IsUniform}
 use Rattle.vortex_mask.specs.MaskValues.{kept_indices, kept_ranges, with_indices, with_ranges}
 use Rattle.vortex_mask.specs.Path.{path}
 use Rattle.vortex_mask.specs.declared.intersect_by_rank.path.RankPath.TheVariants.{Indices, MaskDriven, BitBuffers, RankIndices}
+use Rattle.vortex_mask.specs.declared.mask.Mask.TheVariants.{AllTrue, AllFalse}
 use Rattle.vortex_mask.specs.declared.mask.error.MaskError.TheVariants.{UnsortedIndices, RepeatedIndex, IndexOutOfBounds, BadRange, UnsortedRanges, OverlappingRanges}
 
 -- ---- index lists of a mask of five values
@@ -101,8 +103,8 @@ mixed_is_not_uniform uniform = elim uniform [ inl none ↦ omega arith | inr all
 -- ---- lists that are lent
 
 -- three of five values are true: that is as much as three of five asks, and less than seven of ten
-three_of_five : ReachesShare (true ∷ false ∷ true ∷ true ∷ false ∷ []) 3 5
-three_of_five = omega arith
+reaches_three_of_five : ReachesShare (true ∷ false ∷ true ∷ true ∷ false ∷ []) 3 5
+reaches_three_of_five = omega arith
 
 not_seven_of_ten : ReachesShare (true ∷ false ∷ true ∷ true ∷ false ∷ []) 7 10 → ⊥
 not_seven_of_ten reached = omega arith
@@ -153,3 +155,14 @@ below_one_row_in_64 = refl
 -- no product wraps
 a_product_past_64_bits : path (2 ^ 63) (2 ^ 62) (2 ^ 62) (2 ^ 61) false false ≡ BitBuffers
 a_product_past_64_bits = refl
+
+-- ---- shares
+
+three_of_five : share (true ∷ false ∷ true ∷ true ∷ false ∷ []) ≡ record { num = 3; den = 5 }
+three_of_five = refl
+
+all_of_none : share_by_variant (AllTrue 0) ≡ record { num = 1; den = 1 }
+all_of_none = refl
+
+none_of_none : share_by_variant (AllFalse 0) ≡ record { num = 0; den = 1 }
+none_of_none = refl

@@ -1,4 +1,4 @@
--- What an `AllOr` has, and what one of a reference points to.
+-- What an `AllOr` holds.
 use Rattle.std.specs.Prelude.{◌≡◌, Bool, true, false, List, length}
 use Rattle.std.specs.Borrow.{Bor}
 use Rattle.mask_bits.specs.Buffer.{Packed, values}
@@ -20,7 +20,7 @@ ForValue {T} a P = (x : T) → a ≡ Some x → P x
 abbrev pub IsOnlyClone : {T : Type 0} → (T → T → Type 0) → T → Type 0
 IsOnlyClone {T} is_clone x = (y : T) → is_clone x y → y ≡ x
 
--- the same, with what the reference points to in its place
+-- one of a reference, with what that points to in its place
 abbrev pub all_or_copied : {T : Type 0} → AllOr (Bor T) → AllOr T
 all_or_copied All = All
 all_or_copied None = None

@@ -56,6 +56,7 @@ impl ExactSizeIterator for MaskBoolIter<'_> {
     }
 }
 
+#[tactic(auto, using(mask_bits::proofs::Lists::CountLemmas::repeated_facts))]
 impl Mask {
     /// The values in their order.
     pub fn iter(&self) -> MaskBoolIter<'_>
