@@ -35,10 +35,10 @@ pub fn page_offsets_of_both(
         (λ v. v.items ≡ map (count_below (truth second.now)) starts.now)) }
     ensures none { IfOk result (λ both. IfNone both (truth first.now ≢ truth second.now)) }
 {
-    if first != second {
-        return Ok(None);
+    if *first == *second {
+        return Ok(Some(page_offsets(alloc, first, starts)?));
     }
-    Ok(Some(page_offsets(alloc, first, starts)?))
+    Ok(None)
 }
 
 /// For each row whether it is valid.

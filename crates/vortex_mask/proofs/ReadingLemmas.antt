@@ -9,7 +9,7 @@ use Rattle.std.proofs.lemmas.Bool.{cases_lt, lt-ltb}
 use Rattle.std.proofs.lemmas.List.{take-replicate, take-append-drop, length-take}
 use Rattle.std.proofs.lemmas.List.Elements.{All-head, All-tail}
 use Rattle.mask_bits.specs.Positions.{positions, count, count_below, repeated}
-use Rattle.mask_bits.proofs.Lists.CountLemmas.{count-repeated_true, count-repeated_false, count-append, length-repeated, positions-repeated_true_at, nil-repeated}
+use Rattle.mask_bits.proofs.Lists.CountLemmas.{count-repeated_true, count-repeated_false, count-append, length-repeated, positions-repeated_true_at, positions-all_false, nil-repeated}
 use Rattle.mask_bits.proofs.Lists.PlaceLemmas.{count-le-length, positions-within, IfSome-slice_get}
 use Rattle.mask_bits.proofs.Lists.SelectLemmas.{count-part_further}
 
@@ -50,6 +50,11 @@ last-all_true n (Some p) some =
 pub last-within : (n : ℕ) (o : Option ℕ) → SomeIff o (1 ≤ n) (n - 1) → IfSome o (λ p. p < length (repeated n true))
 last-within n None none = tt
 last-within n (Some p) some = omega (arith, some.0, some.1, length-repeated n true)
+
+pub slice_get-all_false : (n k : ℕ) → slice_get (positions (repeated n false)) k ≡ None
+slice_get-all_false n k = ap (λ places. slice_get places k) (positions-all_false n)
+
+pub ruleset end_facts = (slice_get-all_false)
 
 pub repeated-next : (n : ℕ) (v : Bool) → 0 < n → repeated n v ≡ v ∷ repeated (n - 1) v
 unfolding repeated

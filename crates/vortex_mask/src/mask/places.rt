@@ -9,6 +9,7 @@ use mask_bits::BitBuffer;
 use std::alloc::{AllocError, Global};
 
 /// The true values by their places.
+#[tactic(auto, using(crate::proofs::ReadingLemmas::end_facts))]
 impl Mask {
     /// The place of the first true value, if there is one.
     pub fn first(&self) -> Option<usize>

@@ -1,5 +1,4 @@
-use Rattle.std.proofs.Common.{slice_get, sym, ap, ◌∙◌}
-use Rattle.mask_bits.proofs.Lists.CountLemmas.{positions-all_false}
+use Rattle.std.proofs.Common.{◌∙◌}
 use Rattle.vortex_mask.proofs.ReadingLemmas.{first-all_true, first-within}
 use Rattle.vortex_mask.proofs.mask.Mask.first.Goals as goal
 
@@ -8,7 +7,3 @@ returns-in-AllTrue-clause-place c = c.then_some.ensures ∙ rw c.in-AllTrue.is (
 
 pub returns-in-AllTrue-clause-within : goal.returns-in-AllTrue-clause-within
 returns-in-AllTrue-clause-within c = rw c.then_some.ensures (rw c.in-AllTrue.is (first-within c.in-AllTrue.len))
-
-pub returns-in-AllFalse-clause-place : goal.returns-in-AllFalse-clause-place
-returns-in-AllFalse-clause-place c =
-    rw c.in-AllFalse.is (sym (ap (λ places. slice_get places 0) (positions-all_false c.in-AllFalse.field-0)))
