@@ -1,7 +1,9 @@
 -- Worked rows of the terms that masks are described in, computed by the checker.
 use Rattle.std.proofs.Common.{◌≡◌, true, false, [], ◌∷◌, Some, None, refl, inl, inr, arith}
 use Rattle.vortex_mask.specs.Faults.{index_fault, out_of_bounds, common, range_fault}
+use Rattle.vortex_mask.specs.Lend.{ReachesShare, AreKeptOrRuns}
 use Rattle.vortex_mask.specs.Mask.{all_true, all_false, mixed, fitting_variant, variant_and, IsUniform}
+use Rattle.vortex_mask.specs.MaskValues.{kept_indices, kept_ranges, with_indices, with_ranges}
 use Rattle.vortex_mask.specs.declared.mask.error.MaskError.TheVariants.{UnsortedIndices, RepeatedIndex, IndexOutOfBounds, BadRange, UnsortedRanges, OverlappingRanges}
 
 -- ---- index lists of a mask of five values
@@ -93,3 +95,20 @@ no_values_are_uniform = inl refl
 
 mixed_is_not_uniform : IsUniform (true ∷ false ∷ []) → ⊥
 mixed_is_not_uniform uniform = elim uniform [ inl none ↦ omega arith | inr all ↦ omega arith ]
+
+-- ---- lists that are lent
+
+-- three of five values are true: that is as much as three of five asks, and less than seven of ten
+three_of_five : ReachesShare (true ∷ false ∷ true ∷ true ∷ false ∷ []) 3 5
+three_of_five = omega arith
+
+not_seven_of_ten : ReachesShare (true ∷ false ∷ true ∷ true ∷ false ∷ []) 7 10 → ⊥
+not_seven_of_ten reached = omega arith
+
+-- kept ranges are lent as they are, though they touch
+kept_ranges_are_lent : AreKeptOrRuns (true ∷ true ∷ false ∷ []) (kept_ranges ((0, 1) ∷ (1, 2) ∷ [])) ((0, 1) ∷ (1, 2) ∷ [])
+kept_ranges_are_lent = refl
+
+-- a list that is kept stays beside the new one
+places_beside_ranges : with_indices (0 ∷ []) (kept_ranges ((0, 1) ∷ [])) ≡ with_ranges ((0, 1) ∷ []) (kept_indices (0 ∷ []))
+places_beside_ranges = refl

@@ -7,6 +7,7 @@ mod concat;
 mod indices;
 mod kept;
 mod large;
+mod lent;
 mod parts;
 mod ranges;
 

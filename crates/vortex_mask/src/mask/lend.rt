@@ -1,4 +1,4 @@
-ghost use Rattle.std.specs.Prelude.{◌≡◌, ◌≢◌, ◌*◌, ◌<◌, ◌↔◌, IsTrue, IsOk, IsSome, IsSomeAnd, IfOk, OnErr, Some, length, IsOkUnless, alloc_error};
+ghost use Rattle.std.specs.Prelude.{◌≡◌, ◌≢◌, ◌*◌, ◌<◌, ◌↔◌, true, false, IsTrue, IsOk, IsSome, IsSomeAnd, IfOk, OnErr, Some, length, IsOkUnless, alloc_error};
 ghost use Rattle.std.specs.Borrow.{sem};
 ghost use Rattle.std.specs.Io.BufRead.{Rests};
 ghost use Rattle.mask_bits.specs.Positions.{positions, count};
@@ -106,18 +106,20 @@ impl Mask {
             Mask::AllFalse(_) => return Ok(AllOr::None),
             Mask::Values(values) => values.reaches_share(num, den),
         };
-        if by_ranges {
-            self.fill_slices(alloc)?;
+        let filled = if by_ranges {
+            self.fill_slices(alloc)
         } else {
-            self.fill_indices(alloc)?;
-        }
+            self.fill_indices(alloc)
+        };
+        filled?;
         Ok(AllOr::Some(self.kept_list(by_ranges)))
     }
 
     // The ranges that a mixed mask keeps, or the true places that it keeps.
     fn kept_list(&self, by_ranges: bool) -> MaskIter<'_>
         requires mixed { variant self.now ≡ mixed }
-        requires kept { if by_ranges then IsSome (caches self.now).ranges else IsSome (caches self.now).indices }
+        requires ranges { by_ranges ≡ true → IsSome (caches self.now).ranges }
+        requires indices { by_ranges ≡ false → IsSome (caches self.now).indices }
         ensures choice { lends_ranges result ≡ by_ranges }
         ensures list { with_list result (caches self.now) ≡ caches self.now }
     {
