@@ -5,11 +5,11 @@ pub mod BooleanLemmas
 pub mod ChooseLemmas
 pub mod CountLemmas
 pub mod FrontLemmas
+pub mod GroupLemmas
 pub mod LawLemmas
 pub mod LimitLemmas
 pub mod LowestLemmas
 pub mod PaddedLemmas
-pub mod PartCountLemmas
 pub mod PartLemmas
 pub mod PlaceLemmas
 pub mod RangeLemmas

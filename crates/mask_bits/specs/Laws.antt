@@ -1,11 +1,12 @@
 -- What holds of all lists of truth values, whatever holds them.
-use Rattle.std.specs.Prelude.{ℕ, ◌+◌, ◌-◌, ◌^◌, ◌≡◌, ◌<◌, ◌≤◌, ◌&&◌, ◌↔◌, Bool, true, false, IsTrue, List, [], ◌∷◌, ◌++◌, length, All, Any, sum_by, count_by, count_ones, flat_map, slice_get, slice_index, slice_index_or, min, slice_range}
+use Rattle.std.specs.Prelude.{ℕ, ◌+◌, ◌-◌, ◌/◌, ◌^◌, ◌≡◌, ◌<◌, ◌≤◌, ◌&&◌, ◌↔◌, Bool, true, false, IsTrue, List, [], ◌∷◌, ◌++◌, length, All, Any, sum_by, nat_eq, count_by, count_ones, flat_map, slice_get, slice_index, slice_index_or, min, slice_range}
+use Rattle.std.specs.Int.{div_ceil}
 use Rattle.std.specs.List.{range_with_len, filter_map}
 use Rattle.mask_bits.specs.Buffer.{Packed, values, same_values}
-use Rattle.mask_bits.specs.Lists.{and_of, or_of, not_of, and_not_of, joined, limited}
+use Rattle.mask_bits.specs.Lists.{and_of, or_of, not_of, and_not_of, joined, limited, group}
 use Rattle.mask_bits.specs.Positions.{positions, count, count_below, repeated, at_places, rank_intersection, chosen}
 use Rattle.mask_bits.specs.RunScan.{runs}
-use Rattle.mask_bits.specs.Runs.{is_inside, AreRuns, AreRanges}
+use Rattle.mask_bits.specs.Runs.{AreRuns, AreRanges}
 use Rattle.mask_bits.specs.Stacks.{IsStack}
 use Rattle.mask_bits.specs.Words.{word_bits, word_parts, padded_remainder}
 
@@ -225,9 +226,13 @@ abbrev pub PartOfJoined : Type 0
 PartOfJoined = (before after : List (List Bool)) (m : List Bool)
     → slice_range (joined (before ++ m ∷ after)) (length (joined before)) (length (joined before) + length m) ≡ m
 
--- as many values of a part are true as true places lie in it
-abbrev pub CountOfPart : Type 0
-CountOfPart = (m : List Bool) (s e : ℕ) → s ≤ e → count (slice_range m s e) ≡ count_by (λ p. is_inside p (s, e)) (positions m)
+-- of a list in groups of one size, each true place p lies in group number p / size, which is one of them
+abbrev pub PlacesLieInGroups : Type 0
+PlacesLieInGroups = (m : List Bool) (size : ℕ) → 0 < size → All (λ p. p / size < div_ceil (length m) size) (positions m)
+
+-- as many values of a group are true as true places lie in it
+abbrev pub CountOfGroup : Type 0
+CountOfGroup = (m : List Bool) (size g : ℕ) → 0 < size → count (group m size g) ≡ count_by (λ p. nat_eq (p / size) g) (positions m)
 
 -- ---- limits
 

@@ -1,5 +1,5 @@
--- Lists of truth values that are made of others: value by value, one after another, and cut to the first true values.
-use Rattle.std.specs.Prelude.{ℕ, Bool, false, not, ◌&&◌, ◌||◌, nat_lt, List, length, map, zip, flat_map, slice_index_or}
+-- Lists of truth values that are made of others: value by value, one after another, in groups, and cut to the first true values.
+use Rattle.std.specs.Prelude.{ℕ, ◌+◌, ◌-◌, ◌*◌, Bool, false, not, ◌&&◌, ◌||◌, nat_lt, min, List, length, map, zip, flat_map, slice_index_or, slice_range}
 use Rattle.std.specs.List.{range_with_len}
 use Rattle.mask_bits.specs.Positions.{count_below}
 
@@ -26,6 +26,10 @@ not_of a = map not a
 -- the lists one after another
 abbrev pub joined : List (List Bool) → List Bool
 joined ms = flat_map (λ m. m) ms
+
+-- of a list in groups of one size, of which the last may have fewer values: the values of group number g
+abbrev pub group : List Bool → ℕ → ℕ → List Bool
+group m size g = slice_range m (size * g) (size * g + min size (length m - size * g))
 
 -- value i is true exactly if m's is and fewer than k of the values before it are true
 unfoldable pub limited : List Bool → ℕ → List Bool

@@ -213,7 +213,7 @@ pub fn count_below_position()
     ensures number { CountBelowPosition }
 {}
 
-ghost use Rattle.mask_bits.specs.Laws.{RunsAreTheList, RunOfAllTrue, RunsOfAllFalse, ChosenByRanges, CountOfPart};
+ghost use Rattle.mask_bits.specs.Laws.{RunsAreTheList, RunOfAllTrue, RunsOfAllFalse, ChosenByRanges, PlacesLieInGroups, CountOfGroup};
 
 /// A planner may compute the runs of a filter, and compare them with any ranges that are its runs.
 pub fn runs_are_the_list()
@@ -233,8 +233,10 @@ pub fn choosing_by_ranges<T>()
     ensures rows { ChosenByRanges T }
 {}
 
-/// A reader may count the true values of a part by the true places that lie in it.
-#[tactic(auto, using(crate::proofs::Lists::PartCountLemmas::count_of_part))]
-pub fn count_of_part()
-    ensures count { CountOfPart }
+/// A reader of row groups may go by the true places: the place divided by the size is the number of
+/// its group.
+#[tactic(auto, using(crate::proofs::Lists::GroupLemmas::places_lie_in_groups, crate::proofs::Lists::GroupLemmas::count_of_group))]
+pub fn groups()
+    ensures places { PlacesLieInGroups }
+    ensures count { CountOfGroup }
 {}

@@ -1,5 +1,6 @@
 -- Worked rows of the definitions, which the checker computes.
 use Rattle.std.proofs.Common.{◌≡◌, ℕ, Bool, true, false, List, [], ◌∷◌, Ok, Err, codes, refl}
+use Rattle.std.specs.Fmt.{digits}
 use Rattle.maskrun.specs.Commands.{command_of, line}
 use Rattle.maskrun.specs.Arguments.{mask_argument, number_argument}
 use Rattle.mask_bits.specs.Buffer.{values}
@@ -126,6 +127,31 @@ one_after_another = refl
 
 nothing_to_join : line (codes "cat" ∷ []) ≡ Err Usage
 nothing_to_join = refl
+
+true_places : line (codes "indices" ∷ codes "10110" ∷ []) ≡ Ok (codes "0 2 3")
+unfolding digits
+true_places = refl
+
+no_true_place : line (codes "indices" ∷ codes "000" ∷ []) ≡ Ok (codes "-")
+no_true_place = refl
+
+places_of_all_true : line (codes "indices" ∷ codes "11" ∷ []) ≡ Ok (codes "0 1")
+unfolding digits
+places_of_all_true = refl
+
+ranges_of_mixed : line (codes "ranges" ∷ codes "10110" ∷ []) ≡ Ok (codes "0..1 2..4")
+unfolding digits
+ranges_of_mixed = refl
+
+ranges_of_all_true : line (codes "ranges" ∷ codes "11" ∷ []) ≡ Ok (codes "0..2")
+unfolding digits
+ranges_of_all_true = refl
+
+no_range : line (codes "ranges" ∷ codes "00" ∷ []) ≡ Ok (codes "-")
+no_range = refl
+
+ranges_of_empty : line (codes "ranges" ∷ codes "-" ∷ []) ≡ Ok (codes "-")
+ranges_of_empty = refl
 
 -- numbers
 leading_zeros : number_argument 2 (codes "0018") ≡ Ok 18

@@ -1,12 +1,14 @@
 -- The commands: how each reads its arguments, and the line that it prints.
 use Rattle.std.specs.Prelude.{ℕ, ◌+◌, ◌^◌, Bool, ◌==◌, nat_lt, List, [], ◌∷◌, length, sum_by, slice_range, Result, Ok, Err, codes, alloc_error, if◌then◌else◌}
+use Rattle.std.specs.Fmt.{decimal}
 use Rattle.std.specs.Str.{bytes_eq}
 use Rattle.mask_bits.specs.Lists.{and_of, or_of, and_not_of, not_of, limited, joined}
-use Rattle.mask_bits.specs.Positions.{count, rank_intersection}
+use Rattle.mask_bits.specs.Positions.{positions, count, rank_intersection}
+use Rattle.mask_bits.specs.RunScan.{runs}
 use Rattle.maskrun.specs.Arguments.{mask_argument, number_argument}
-use Rattle.maskrun.specs.Text.{text}
+use Rattle.maskrun.specs.Text.{text, list_text, range_text}
 use Rattle.maskrun.specs.declared.answer.command.Command.{Command}
-use Rattle.maskrun.specs.declared.answer.command.Command.TheVariants.{Rank, And, Or, AndNot, Not, Slice, Limit, Cat}
+use Rattle.maskrun.specs.declared.answer.command.Command.TheVariants.{Rank, And, Or, AndNot, Not, Slice, Limit, Cat, Indices, Ranges}
 use Rattle.maskrun.specs.declared.answer.error.RunError.{RunError}
 use Rattle.maskrun.specs.declared.answer.error.RunError.TheVariants.{Usage, LengthsDiffer, OutOfRange, Mask}
 use Rattle.maskrun.specs.declared.answer.name.Name.{Name}
@@ -64,7 +66,7 @@ masks (a ∷ rest) = masks_from 1 (a ∷ rest)
 
 -- the commands by their names
 abbrev pub names : List (List ℕ × Name)
-names = (codes "rank", named.Rank) ∷ (codes "and", named.And) ∷ (codes "or", named.Or) ∷ (codes "andnot", named.AndNot) ∷ (codes "not", named.Not) ∷ (codes "slice", named.Slice) ∷ (codes "limit", named.Limit) ∷ (codes "cat", named.Cat) ∷ []
+names = (codes "rank", named.Rank) ∷ (codes "and", named.And) ∷ (codes "or", named.Or) ∷ (codes "andnot", named.AndNot) ∷ (codes "not", named.Not) ∷ (codes "slice", named.Slice) ∷ (codes "limit", named.Limit) ∷ (codes "cat", named.Cat) ∷ (codes "indices", named.Indices) ∷ (codes "ranges", named.Ranges) ∷ []
 
 -- the command that has this name in a list of names
 abbrev pub named_in : List (List ℕ × Name) → List ℕ → Result Name RunError
@@ -81,6 +83,8 @@ command_named named.Not arguments = one_mask arguments >>= (λ a. Ok (Not a))
 command_named named.Slice arguments = mask_and_range arguments >>= (λ (a, s, e). Ok (Slice a s e))
 command_named named.Limit arguments = mask_and_number arguments >>= (λ (a, k). Ok (Limit a k))
 command_named named.Cat arguments = masks arguments >>= (λ ms. Ok (Cat ms))
+command_named named.Indices arguments = one_mask arguments >>= (λ a. Ok (Indices a))
+command_named named.Ranges arguments = one_mask arguments >>= (λ a. Ok (Ranges a))
 
 -- the command that a command line says: its name, then its arguments
 abbrev pub command_of : List (List ℕ) → Result Command RunError
@@ -111,6 +115,8 @@ printed (Not a) = Ok (text (not_of a))
 printed (Slice a s e) = part_text a s e
 printed (Limit a k) = Ok (text (limited a k))
 printed (Cat ms) = joined_text ms
+printed (Indices a) = Ok (list_text decimal (positions a))
+printed (Ranges a) = Ok (list_text range_text (runs a))
 
 -- the line for a command line: the text, or the first fault
 abbrev pub line : List (List ℕ) → Result (List ℕ) RunError

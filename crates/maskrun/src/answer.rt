@@ -7,6 +7,7 @@ ghost use Rattle.maskrun.specs.Commands.{command_of, line, out_of_memory};
 mod argument;
 mod command;
 mod error;
+mod list;
 mod mask_list;
 mod name;
 mod number;
@@ -27,9 +28,12 @@ use std::alloc::Global;
 /// | `slice A S E` | the values of `A` from `S` up to `E`, which is left out |
 /// | `limit A K` | `A` with its first `K` true values alone |
 /// | `cat A ..` | one mask or more, one after another |
+/// | `indices A` | the places of the true values |
+/// | `ranges A` | the longest ranges of true values, each as its first place, `..` and the place past its last |
 ///
 /// A mask is `-`, which has no values, or a `0` or `1` for each value. A number is one or more
-/// digits. Anything else is `RunError::Usage`.
+/// digits. Anything else is `RunError::Usage`. A list is printed with a space between its items,
+/// and as `-` where it has none.
 ///
 /// All arguments are read before memory is asked for.
 pub fn answer(alloc: Global, words: &[String]) -> Result<String, RunError>

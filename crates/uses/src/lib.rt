@@ -4,6 +4,7 @@
 
 pub mod columns;
 pub mod estimates;
+pub mod filter;
 pub mod gather;
 pub mod pages;
 pub mod row_groups;

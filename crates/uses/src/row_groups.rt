@@ -1,24 +1,23 @@
 //! Which groups of rows a reader may skip.
-ghost use Rattle.std.specs.Prelude.{ℕ, ◌≡◌, ◌*◌, ◌<◌, ◌≤◌, false, IfOk, length, slice_index_or, vec_len};
+ghost use Rattle.std.specs.Prelude.{ℕ, ◌≡◌, ◌*◌, ◌<◌, ◌≤◌, All, count_by, false, IfOk, length, nat_eq, nat_lt, slice_index_or, vec_len};
+ghost use Rattle.std.specs.Int.{div_ceil};
 ghost use Rattle.mask_bits.specs.Buffer.{values};
-ghost use Rattle.uses.specs.RowGroups.{is_chosen_of, AreGroups};
+ghost use Rattle.mask_bits.specs.Runs.{is_inside};
+ghost use Rattle.uses.specs.RowGroups.{group_range, is_chosen_of};
+ghost use Rattle.vortex_mask.specs.Mask.{truth};
 
-use mask_bits::BitBuffer;
+use mask_bits::{BitBuffer, laws};
 use std::alloc::{AllocError, Global};
+use vortex_mask::{AllOr, Mask, MaskError};
 
-/// For each of the `groups` groups of `size` rows whether one of its rows is chosen; the last may
-/// have fewer rows.
-pub fn kept(
-    alloc: Global,
-    rows: &BitBuffer,
-    size: usize,
-    groups: usize,
-) -> Result<Vec<bool>, AllocError>
-    requires { AreGroups groups size (length (values rows.now)) }
-    ensures len { IfOk result (λ kept. vec_len kept ≡ groups) }
-    ensures exact { IfOk result (λ kept. (g : ℕ) → g < groups
+/// For each group of `size` rows whether one of its rows is chosen; the last may have fewer rows.
+pub fn kept(alloc: Global, rows: &BitBuffer, size: usize) -> Result<Vec<bool>, AllocError>
+    requires { 0 < size }
+    ensures len { IfOk result (λ kept. vec_len kept ≡ div_ceil (length (values rows.now)) size) }
+    ensures exact { IfOk result (λ kept. (g : ℕ) → size * g < length (values rows.now)
         → slice_index_or kept.items g false ≡ is_chosen_of (values rows.now) size g) }
 {
+    let groups = rows.len().div_ceil(size);
     let mut kept = Vec::new(alloc);
     for number in 0..groups {
         kept.push(has_chosen(rows, size, number))?;
@@ -37,20 +36,69 @@ pub fn has_chosen(rows: &BitBuffer, size: usize, number: usize) -> bool
     rows.count_range(start, end) > 0
 }
 
+/// The same of the rows that a mask chooses, by the list of places that it lends.
+pub fn kept_by_indices(alloc: Global, mask: &mut Mask, size: usize) -> Result<Vec<bool>, MaskError>
+    requires { 0 < size }
+    ensures len { IfOk result (λ kept. vec_len kept ≡ div_ceil (length (truth mask.old)) size) }
+    ensures exact { IfOk result (λ kept. (g : ℕ) → size * g < length (truth mask.old)
+        → slice_index_or kept.items g false ≡ is_chosen_of (truth mask.old) size g) }
+{
+    laws::places_are_within();
+    laws::count_of_part();
+    laws::lists_of_one_value();
+    vortex_mask::laws::variants_of_one_value();
+    let rows = mask.len();
+    Ok(match mask.indices(alloc)? {
+        AllOr::All => vec![in alloc; true; rows.div_ceil(size)]?,
+        AllOr::None => vec![in alloc; false; rows.div_ceil(size)]?,
+        AllOr::Some(places) => marked(alloc, places, rows, size)?,
+    })
+}
+
+// Which groups have one of these places.
+fn marked(
+    alloc: Global,
+    places: &[usize],
+    rows: usize,
+    size: usize,
+) -> Result<Vec<bool>, AllocError>
+    requires some { 0 < size }
+    requires within { All (λ p. p < rows) places.now }
+    ensures len { IfOk result (λ kept. vec_len kept ≡ div_ceil rows size) }
+    ensures exact { IfOk result (λ kept. (g : ℕ) → size * g < rows
+        → slice_index_or kept.items g false
+        ≡ nat_lt 0 (count_by (λ p. is_inside p (group_range rows size g)) places.now)) }
+{
+    let mut kept = vec![in alloc; false; rows.div_ceil(size)]?;
+    for place in places {
+        kept[group_of(*place, rows, size)] = true;
+    }
+    Ok(kept)
+}
+
+// The number of the group that has a row.
+fn group_of(row: usize, rows: usize, size: usize) -> usize
+    requires some { 0 < size }
+    requires within { row < rows }
+    ensures one { result < div_ceil rows size }
+    ensures only { (g : ℕ) → is_inside row (group_range rows size g) ≡ nat_eq g result }
+{
+    row / size
+}
+
 #[cfg(test)]
 mod tests {
-    use super::kept;
-    use crate::tests::buffer;
-    use std::alloc::{AllocError, Global};
+    use super::{kept, kept_by_indices};
+    use crate::tests::{buffer, mask};
+    use std::alloc::Global;
     use std::process::Abort;
     use std::test::Fail;
+    use vortex_mask::MaskError;
 
-    fn keeps(rt: &impl Abort, alloc: Global, rows: &str, want: &[bool]) -> Result<(), AllocError> {
-        let rows = buffer(alloc, rows)?;
-        let groups = want.len();
-        assert!(rt; groups == rows.len().div_ceil(3));
-        let kept = kept(alloc, &rows, 3, groups)?;
-        assert!(rt; kept.as_slice() == want);
+    fn keeps(rt: &impl Abort, alloc: Global, rows: &str, want: &[bool]) -> Result<(), MaskError> {
+        assert!(rt; kept(alloc, &buffer(alloc, rows)?, 3)?.as_slice() == want);
+        let mut mask = mask(alloc, rows)?;
+        assert!(rt; kept_by_indices(alloc, &mut mask, 3)?.as_slice() == want);
         Ok(())
     }
 
@@ -61,6 +109,8 @@ mod tests {
             ("010000001", [true, false, true].as_slice()),
             ("0000001", [false, false, true].as_slice()),
             ("11100", [true, false].as_slice()),
+            ("1111", [true, true].as_slice()),
+            ("0000", [false, false].as_slice()),
         ] {
             keeps(&rt, rt.alloc(), rows, want)?;
         }

@@ -1,7 +1,8 @@
 ghost use Rattle.std.specs.Prelude.{◌≡◌, IfOk, IfErr, position};
 ghost use Rattle.maskrun.specs.Arguments.{mask_argument, mask_said, is_bad_digit};
 ghost use Rattle.maskrun.specs.Commands.{out_of_memory};
-ghost use Rattle.vortex_mask.specs.Mask.{truth};
+ghost use Rattle.vortex_mask.specs.Mask.{truth, caches};
+ghost use Rattle.vortex_mask.specs.MaskValues.{no_caches};
 
 use crate::answer::RunError;
 use std::alloc::Global;
@@ -60,6 +61,7 @@ impl<'a> MaskArgument<'a> {
 
     pub(crate) fn mask(&self, alloc: Global) -> Result<Mask, RunError>
         ensures list { IfOk result (λ m. truth m ≡ self.now) }
+        ensures caches { IfOk result (λ m. caches m ≡ no_caches) }
         ensures fault { IfErr result (λ e. e ≡ out_of_memory) }
     {
         Ok(Mask::from_bools(alloc, self.digits.iter().map(|c| *c == b'1'))?)

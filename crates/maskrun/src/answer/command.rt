@@ -4,6 +4,7 @@ ghost use Rattle.maskrun.specs.Commands.{command_of, command_named, printed, out
 mod boolean;
 mod cat;
 mod part;
+mod places;
 mod rank;
 mod shapes;
 
@@ -27,6 +28,8 @@ pub(crate) enum Command<'a> {
     Slice(MaskArgument<'a>, usize, usize),
     Limit(MaskArgument<'a>, usize),
     Cat(MaskList<'a>),
+    Indices(MaskArgument<'a>),
+    Ranges(MaskArgument<'a>),
 }
 
 impl<'a> Command<'a> {
@@ -52,6 +55,8 @@ impl<'a> Command<'a> {
             Name::Slice => mask_and_range(arguments).map(|(a, s, e)| Command::Slice(a, s, e)),
             Name::Limit => mask_and_number(arguments).map(|(a, k)| Command::Limit(a, k)),
             Name::Cat => MaskList::read(arguments).map(Command::Cat),
+            Name::Indices => one_mask(arguments).map(Command::Indices),
+            Name::Ranges => one_mask(arguments).map(Command::Ranges),
         }
     }
 
@@ -69,6 +74,8 @@ impl<'a> Command<'a> {
             Command::Slice(a, start, end) => part::slice(alloc, a, *start, *end),
             Command::Limit(a, k) => part::limit(alloc, a, *k),
             Command::Cat(list) => cat(alloc, list),
+            Command::Indices(a) => places::indices(alloc, a),
+            Command::Ranges(a) => places::ranges(alloc, a),
         }
     }
 }

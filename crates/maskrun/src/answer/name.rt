@@ -13,6 +13,8 @@ pub(crate) enum Name {
     Slice,
     Limit,
     Cat,
+    Indices,
+    Ranges,
 }
 
 impl Name {
@@ -35,6 +37,10 @@ impl Name {
             Ok(Name::Limit)
         } else if text == "cat" {
             Ok(Name::Cat)
+        } else if text == "indices" {
+            Ok(Name::Indices)
+        } else if text == "ranges" {
+            Ok(Name::Ranges)
         } else {
             Err(RunError::Usage)
         }

@@ -44,6 +44,19 @@ fn holds(rt: &impl Abort, builder: BitBufferMut, wanted: &[bool]) -> Result<(), 
     Ok(())
 }
 
+// What is written next finds clear bits behind the list.
+fn goes_on(
+    rt: &impl Abort,
+    mut builder: BitBufferMut,
+    mut wanted: Vec<bool>,
+) -> Result<(), AllocError> {
+    assert!(rt; builder.len() <= 200_000);
+    builder.append_n(false, 5)?;
+    builder.push_word(0b010, 3)?;
+    wanted.extend_from_slice(&[false, false, false, false, false, false, true, false])?;
+    holds(rt, builder, &wanted)
+}
+
 fn append_buffer_at(
     rt: &impl Abort,
     alloc: Global,
@@ -55,11 +68,7 @@ fn append_buffer_at(
     assert!(rt; builder.len() <= 100_000 && other.len() <= 100_000);
     builder.append_buffer(other)?;
     wanted.extend_from_slice(added)?;
-    // what is written next finds clear bits behind the list
-    assert!(rt; builder.len() <= 200_000);
-    builder.push_word(0b010, 3)?;
-    wanted.extend_from_slice(&[false, true, false])?;
-    holds(rt, builder, &wanted)
+    goes_on(rt, builder, wanted)
 }
 
 fn append_part(
@@ -106,10 +115,7 @@ fn push_word_at(
     for i in 0..count {
         wanted.push((word >> (i % 64)) & 1 == 1)?;
     }
-    assert!(rt; builder.len() <= 200_000);
-    builder.append_n(false, 5)?;
-    wanted.extend_from_slice(&[false; 5])?;
-    holds(rt, builder, &wanted)
+    goes_on(rt, builder, wanted)
 }
 
 #[test]
@@ -137,10 +143,7 @@ fn append_n_at(
     for _ in 0..n {
         wanted.push(value)?;
     }
-    assert!(rt; builder.len() <= 200_000);
-    builder.append_n(!value, 3)?;
-    wanted.extend_from_slice(&[!value; 3])?;
-    holds(rt, builder, &wanted)
+    goes_on(rt, builder, wanted)
 }
 
 #[test]
@@ -175,9 +178,13 @@ fn set_and_unset_change_one_value(rt: HostRuntime) -> Result<(), Fail> {
     Ok(())
 }
 
-fn of_one_value(rt: &impl Abort, alloc: Global, len: usize) -> Result<(), AllocError> {
+fn all_set(rt: &impl Abort, alloc: Global, len: usize) -> Result<(), AllocError> {
     let set = BitBufferMut::new_set(alloc, len)?.freeze()?;
     assert!(rt; set == BitBuffer::new_set(alloc, len)?);
+    Ok(())
+}
+
+fn all_unset(rt: &impl Abort, alloc: Global, len: usize) -> Result<(), AllocError> {
     let unset = BitBufferMut::new_unset(alloc, len)?.freeze()?;
     assert!(rt; unset == BitBuffer::new_unset(alloc, len)?);
     Ok(())
@@ -186,29 +193,33 @@ fn of_one_value(rt: &impl Abort, alloc: Global, len: usize) -> Result<(), AllocE
 #[test]
 fn builders_of_one_value(rt: HostRuntime) -> Result<(), Fail> {
     for len in [0, 1, 8, 63, 64, 65, 200, 10_007] {
-        of_one_value(&rt, rt.alloc(), len)?;
+        all_set(&rt, rt.alloc(), len)?;
+        all_unset(&rt, rt.alloc(), len)?;
     }
     Ok(())
 }
 
 #[test]
-fn appends_above_ten_thousand_values(rt: HostRuntime) -> Result<(), Fail> {
-    let alloc = rt.alloc();
-    let values = values_of(alloc, 20_021)?;
-    let bytes = packed(alloc, 3, &values, true)?;
+fn append_buffer_above_ten_thousand_values(rt: HostRuntime) -> Result<(), Fail> {
+    let values = values_of(rt.alloc(), 20_021)?;
+    let bytes = packed(rt.alloc(), 3, &values, true)?;
     assert!(rt; 3 + 20_021 <= 8 * bytes.len().min(1_000_000));
     let other = BitBuffer::new_with_offset(bytes, 3, 20_021);
-    append_buffer_at(&rt, alloc, 10_003, &other, &values)?;
-    append_n_at(&rt, alloc, 10_003, true, 12_345)?;
-    push_word_at(&rt, alloc, 10_003, 0x0123_4567_89AB_CDEF, 64)?;
+    append_buffer_at(&rt, rt.alloc(), 10_003, &other, &values)?;
     Ok(())
 }
 
-// A value's bits do not depend on how often the builder had to grow.
 #[test]
-fn words_pushed_one_by_one(rt: HostRuntime) -> Result<(), Fail> {
-    let mut builder = BitBufferMut::with_capacity(rt.alloc(), 100)?;
-    let mut wanted = Vec::new(rt.alloc());
+fn appends_above_ten_thousand_values(rt: HostRuntime) -> Result<(), Fail> {
+    append_n_at(&rt, rt.alloc(), 10_003, true, 12_345)?;
+    push_word_at(&rt, rt.alloc(), 10_003, 0x0123_4567_89AB_CDEF, 64)?;
+    Ok(())
+}
+
+// A builder to which 400 words of 37 bits were pushed, and the same values as a list.
+fn pushed(rt: &impl Abort, alloc: Global) -> Result<(BitBufferMut, Vec<bool>), AllocError> {
+    let mut builder = BitBufferMut::with_capacity(alloc, 100)?;
+    let mut wanted = Vec::new(alloc);
     for i in 0..400u64 {
         assert!(rt; builder.len() <= 100_000);
         builder.push_word(i, 37)?;
@@ -216,6 +227,13 @@ fn words_pushed_one_by_one(rt: HostRuntime) -> Result<(), Fail> {
             wanted.push((i >> bit) & 1 == 1)?;
         }
     }
+    Ok((builder, wanted))
+}
+
+// A value's bits do not depend on how often the builder had to grow.
+#[test]
+fn words_pushed_one_by_one(rt: HostRuntime) -> Result<(), Fail> {
+    let (builder, wanted) = pushed(&rt, rt.alloc())?;
     holds(&rt, builder, &wanted)?;
     Ok(())
 }

@@ -1,0 +1,124 @@
+-- How many values of a part and of a group are true, by the true places.
+use Rattle.std.proofs.Common.{◌≡◌, ℕ, zero, suc, ◌+◌, ◌-◌, ◌*◌, ◌/◌, ◌%◌, ◌<◌, ◌≤◌, Bool, true, false, cond, nat_eq, min, List, [], ◌∷◌, length, get_or, take, drop, slice_range, refl, sym, ap, ◌∙◌, arith, add-one, inl, inr}
+use Rattle.std.specs.Int.{div_ceil}
+use Rattle.std.specs.List.{All, count_by}
+use Rattle.std.proofs.Math.Nat.{mul-div-le, lt-mul-div-succ, mul-le-mul_left, mul-suc, mod-eq-sub-mul-div}
+use Rattle.std.proofs.lemmas.Bool.{cases_order, eq-eqb, ne_eqb}
+use Rattle.std.proofs.lemmas.List.Elements.{All-head, All-tail}
+use Rattle.std.proofs.lemmas.List.Sums.{sum_by-cons}
+use Rattle.mask_bits.specs.Laws.{PlacesLieInGroups, CountOfGroup}
+use Rattle.mask_bits.specs.Lists.{group}
+use Rattle.mask_bits.specs.Positions.{places_from, positions, count}
+use Rattle.mask_bits.specs.Runs.{is_inside}
+use Rattle.mask_bits.proofs.Lists.PlaceLemmas.{trues, count-trues, positions-within}
+use Rattle.mask_bits.proofs.Lists.RunLemmas.{inside, inside-before, inside-past}
+
+-- one item in front that passes, or does not
+counted : (p : ℕ → Bool) (x : ℕ) (xs : List ℕ) → p x ≡ true → count_by p (x ∷ xs) ≡ suc (count_by p xs)
+counted p x xs passes =
+    let first : ◌≡◌ {A = ℕ} (cond (p x) 1 0) 1 = ap (λ b. cond b 1 0) passes in
+    sum_by-cons (λ y. cond (p y) 1 0) x xs ∙ omega (arith, first)
+
+passed : (p : ℕ → Bool) (x : ℕ) (xs : List ℕ) → p x ≡ false → count_by p (x ∷ xs) ≡ count_by p xs
+passed p x xs fails =
+    let first : ◌≡◌ {A = ℕ} (cond (p x) 1 0) 0 = ap (λ b. cond b 1 0) fails in
+    sum_by-cons (λ y. cond (p y) 1 0) x xs ∙ omega (arith, first)
+
+-- the true places that lie in a part, where the list's first place is n
+inside_from : ℕ → ℕ → ℕ → List Bool → ℕ
+inside_from s e n m = count_by (λ p. is_inside p (s, e)) (places_from n m)
+
+-- none lies in a part that ends at the first place or before it
+none_past : (s e n : ℕ) (m : List Bool) → e ≤ n → inside_from s e n m ≡ 0
+unfolding inside_from
+none_past s e n [] past = refl
+none_past s e n (true ∷ m) past = passed (λ p. is_inside p (s, e)) n (places_from (n + 1) m) (inside-past n (s, e) past) ∙ none_past s e (n + 1) m (omega arith)
+none_past s e n (false ∷ m) past = none_past s e (n + 1) m (omega arith)
+
+-- in a part that begins at the first place or before it, and has k values of the list
+inside_front : (s e n k : ℕ) (m : List Bool) → s ≤ n → e ≡ n + k → inside_from s e n m ≡ trues (take k m)
+unfolding inside_from
+inside_front s e n zero m begins ends = none_past s e n m (omega arith)
+inside_front s e n (suc k) [] begins ends = refl
+inside_front s e n (suc k) (true ∷ m) begins ends =
+    counted (λ p. is_inside p (s, e)) n (places_from (n + 1) m) (inside n (s, e) begins (omega arith)) ∙ ap suc (inside_front s e (n + 1) k m (omega arith) (omega arith))
+inside_front s e n (suc k) (false ∷ m) begins ends = inside_front s e (n + 1) k m (omega arith) (omega arith)
+
+-- in a part of k values that begins i values further on
+inside_part : (s e n i k : ℕ) (m : List Bool) → s ≡ n + i → e ≡ s + k → inside_from s e n m ≡ trues (take k (drop i m))
+unfolding inside_from
+inside_part s e n zero k m begins ends = inside_front s e n k m (omega arith) (omega arith)
+inside_part s e n (suc i) zero [] begins ends = refl
+inside_part s e n (suc i) (suc k) [] begins ends = refl
+inside_part s e n (suc i) k (true ∷ m) begins ends =
+    passed (λ p. is_inside p (s, e)) n (places_from (n + 1) m) (inside-before n (s, e) (omega arith)) ∙ inside_part s e (n + 1) i k m (omega arith) (omega arith)
+inside_part s e n (suc i) k (false ∷ m) begins ends = inside_part s e (n + 1) i k m (omega arith) (omega arith)
+
+-- a product grows with its second number
+product_below : (size a b : ℕ) → a < b → size * a + size ≤ size * b
+product_below size a b less =
+    let next : size * suc a ≤ size * b = mul-le-mul_left size (omega arith) in
+    omega (arith, mul-suc size a)
+
+-- a place's group begins at the place or before it, and ends past it
+group_of : (p size : ℕ) → 0 < size → (size * (p / size) ≤ p) × (p < size * (p / size) + size)
+group_of p size some =
+    let ends : p < size * suc (p / size) = rw add-one at (lt-mul-div-succ p some) in
+    (mul-div-le p size, omega (arith, mul-suc size (p / size)))
+
+-- a place lies in a group exactly if it is the place's own
+in_group : (n size g p : ℕ) → 0 < size → p < n → is_inside p (size * g, size * g + min size (n - size * g)) ≡ nat_eq (p / size) g
+in_group n size g p some within =
+    let own = group_of p size some in
+    let r : ℕ × ℕ = (size * g, size * g + min size (n - size * g)) in
+    elim (cases_order (p / size) g) [
+      | inl same ↦
+          let begins : size * (p / size) ≡ size * g = ap (λ k. size * k) same in
+          inside p r (omega (arith, own.0)) (omega (arith, own.1)) ∙ sym (eq-eqb (p / size) g same)
+      | inr apart ↦
+          let differs : nat_eq (p / size) g ≡ false = ne_eqb (p / size) g (λ same. elim apart [ inl h ↦ omega arith | inr h ↦ omega arith ]) in
+          let outside : is_inside p r ≡ false
+          = elim apart [
+            | inl before ↦ inside-before p r (omega (arith, own.1, product_below size (p / size) g before))
+            | inr past ↦ inside-past p r (omega (arith, own.0, product_below size g (p / size) past))
+          ] in
+          outside ∙ sym differs
+    ]
+
+-- tests that agree at each item count alike
+count_by-same : (p q : ℕ → Bool) (P : ℕ → Type 0) (xs : List ℕ) → ((x : ℕ) → P x → p x ≡ q x) → All P xs → count_by p xs ≡ count_by q xs
+count_by-same p q P [] agree all = refl
+count_by-same p q P (x ∷ xs) agree all =
+    let first : ◌≡◌ {A = ℕ} (cond (p x) 1 0) (cond (q x) 1 0) = ap (λ b. cond b 1 0) (agree x (All-head P x xs all)) in
+    sum_by-cons (λ y. cond (p y) 1 0) x xs
+    ∙ omega (arith, first, count_by-same p q P xs agree (All-tail P x xs all), sum_by-cons (λ y. cond (q y) 1 0) x xs)
+
+pub count_of_group : CountOfGroup
+unfolding inside_from
+count_of_group m size g some =
+    let s : ℕ = size * g in
+    let k : ℕ = min size (length m - s) in
+    let len : s + k - s ≡ k = omega arith in
+    count-trues (slice_range m s (s + k))
+    ∙ ap (λ n. trues (take n (drop s m))) len
+    ∙ sym (inside_part s (s + k) 0 s k m (omega arith) refl)
+    ∙ count_by-same (λ p. is_inside p (s, s + k)) (λ p. nat_eq (p / size) g) (λ p. p < length m) (positions m) (λ p within. in_group (length m) size g p some within) (positions-within m)
+
+-- a place below n lies in one of the groups of n values
+number_below : (n size p : ℕ) → 0 < size → p < n → p / size < div_ceil n size
+number_below n size p some within =
+    let own = group_of p size some in
+    let all = group_of n size some in
+    let rest = mod-eq-sub-mul-div n size in
+    elim (cases_order (p / size) (n / size)) [
+      | inl same ↦
+          let begins : size * (p / size) ≡ size * (n / size) = ap (λ k. size * k) same in
+          omega (arith, own.0, all.0, rest)
+      | inr apart ↦ elim apart [
+        | inl before ↦ omega arith
+        | inr past ↦ absurd (omega (arith, own.0, all.1, product_below size (n / size) (p / size) past))
+      ]
+    ]
+
+pub places_lie_in_groups : PlacesLieInGroups
+places_lie_in_groups m size some = λ k d h. number_below (length m) size (get_or (positions m) k d) some (positions-within m k d h)

@@ -1,0 +1,89 @@
+//! The rows that a mask chooses, copied range by range where it is dense and one by one where it isn't.
+ghost use Rattle.std.specs.Prelude.{◌≡◌, ◌≤◌, IfOk, All, flat_map, length, slice_get, slice_range};
+ghost use Rattle.std.specs.List.{filter_map};
+ghost use Rattle.mask_bits.specs.Positions.{chosen};
+ghost use Rattle.vortex_mask.specs.Mask.{truth};
+
+use mask_bits::laws;
+use std::alloc::{AllocError, Global};
+use vortex_mask::{AllOr, Mask, MaskError, MaskIter};
+
+/// The rows at the true places: by ranges from every second row on, else by places. The mask keeps
+/// the list that it lends.
+pub fn filtered<T: Copy>(alloc: Global, rows: &[T], mask: &mut Mask) -> Result<Vec<T>, MaskError>
+    requires { length rows.now ≡ length (truth mask.old) }
+    ensures { IfOk result (λ v. v.items ≡ chosen rows.now (truth mask.old)) }
+{
+    laws::choosing::<T>();
+    laws::choosing_by_ranges::<T>();
+    laws::runs_are_ranges();
+    vortex_mask::laws::kept_lists(mask);
+    vortex_mask::laws::variants_of_one_value();
+    Ok(match mask.threshold_iter(alloc, 1, 2)? {
+        AllOr::All => Vec::from_slice(alloc, rows)?,
+        AllOr::None => Vec::new(alloc),
+        AllOr::Some(MaskIter::Slices(ranges)) => by_ranges(alloc, rows, ranges)?,
+        AllOr::Some(MaskIter::Indices(places)) => by_places(alloc, rows, places)?,
+    })
+}
+
+fn by_ranges<T: Copy>(
+    alloc: Global,
+    rows: &[T],
+    ranges: &[(usize, usize)],
+) -> Result<Vec<T>, AllocError>
+    requires ordered { All (λ r. r.0 ≤ r.1) ranges.now }
+    requires within { All (λ r. r.1 ≤ length rows.now) ranges.now }
+    ensures { IfOk result (λ v. v.items ≡ flat_map (λ r. slice_range rows.now r.0 r.1) ranges.now) }
+{
+    let mut copied = Vec::new(alloc);
+    for (start, end) in ranges {
+        copied.extend_from_slice(&rows[*start..*end])?;
+    }
+    Ok(copied)
+}
+
+fn by_places<T: Copy>(alloc: Global, rows: &[T], places: &[usize]) -> Result<Vec<T>, AllocError>
+    ensures { IfOk result (λ v. v.items ≡ filter_map (λ i. slice_get rows.now i) places.now) }
+{
+    places
+        .iter()
+        .filter_map(|place| row_at(rows, *place))
+        .collect(alloc)
+}
+
+fn row_at<T: Copy>(rows: &[T], place: usize) -> Option<T>
+    ensures { result ≡ slice_get rows.now place }
+{
+    rows.get(place).copied()
+}
+
+#[cfg(test)]
+mod tests {
+    use super::filtered;
+    use crate::tests::{mask, same};
+    use std::alloc::Global;
+    use std::process::Abort;
+    use std::test::Fail;
+    use vortex_mask::MaskError;
+
+    fn filters(rt: &impl Abort, alloc: Global, text: &str, want: &[u8]) -> Result<(), MaskError> {
+        let mut mask = mask(alloc, text)?;
+        same(rt, mask.len(), 5);
+        assert!(rt; filtered(alloc, &[3, 1, 4, 1, 5], &mut mask)?.as_slice() == want);
+        Ok(())
+    }
+
+    #[test]
+    fn five_rows(rt: HostRuntime) -> Result<(), Fail> {
+        for (mask, want) in [
+            ("11111", [3, 1, 4, 1, 5].as_slice()),
+            ("00000", [].as_slice()),
+            ("10110", [3, 4, 1].as_slice()),
+            ("01001", [1, 5].as_slice()),
+        ] {
+            filters(&rt, rt.alloc(), mask, want)?;
+        }
+        Ok(())
+    }
+}
