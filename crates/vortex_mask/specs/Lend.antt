@@ -1,9 +1,10 @@
 -- The lists of its true places that a mask lends.
 use Rattle.std.specs.Prelude.{ℕ, ◌≡◌, ◌*◌, ◌≤◌, Bool, true, false, List, length, MatchOption, ⊤}
+use Rattle.std.specs.Option.{option_map}
 use Rattle.mask_bits.specs.Positions.{positions, count}
 use Rattle.mask_bits.specs.Runs.{AreRuns}
-use Rattle.vortex_mask.specs.Mask.{Variant, all_true, all_false, mixed, truth, variant, caches, held_buffer}
-use Rattle.vortex_mask.specs.MaskValues.{Caches, with_indices, with_ranges}
+use Rattle.vortex_mask.specs.Mask.{Variant, all_true, all_false, mixed, truth, variant, contents, caches}
+use Rattle.vortex_mask.specs.MaskValues.{Caches, keeping, with_indices, with_ranges}
 use Rattle.vortex_mask.specs.declared.mask.all_or.AllOr.{AllOr}
 use Rattle.vortex_mask.specs.declared.mask.all_or.AllOr.TheVariants.{All, None, Some}
 use Rattle.vortex_mask.specs.declared.mask.lend.MaskIter.{MaskIter}
@@ -24,9 +25,9 @@ lends_ranges (Indices places) = false
 lends_ranges (Slices ranges) = true
 
 -- the true places are lent, or the ranges: those that are kept, else the maximal ones
-abbrev pub IsListOf : List Bool → Caches → MaskIter → Type 0
-IsListOf m kept (Indices places) = places.now ≡ positions m
-IsListOf m kept (Slices ranges) = AreKeptOrRuns m kept ranges.now
+abbrev pub IsLentOf : List Bool → Caches → MaskIter → Type 0
+IsLentOf m kept (Indices places) = places.now ≡ positions m
+IsLentOf m kept (Slices ranges) = AreKeptOrRuns m kept ranges.now
 
 -- these lists, with the one that is lent kept beside the other
 abbrev pub with_list : MaskIter → Caches → Caches
@@ -51,9 +52,9 @@ with_lent add All kept = kept
 with_lent add None kept = kept
 with_lent add (Some list) kept = add list kept
 
--- the same list in the same variant over the same buffer, with these lists kept
+-- the same list in the same variant and with the same contents but that these lists are kept
 pub record IsKeeping (old : Mask) (kept : Caches) (new : Mask) : Type 0 where
   pub list : truth new ≡ truth old
   pub variant : variant new ≡ variant old
-  pub buffer : held_buffer new ≡ held_buffer old
+  pub contents : contents new ≡ option_map (keeping kept) (contents old)
   pub caches : caches new ≡ kept

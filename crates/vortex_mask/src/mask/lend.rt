@@ -2,7 +2,7 @@ ghost use Rattle.std.specs.Prelude.{◌≡◌, ◌≢◌, ◌*◌, ◌<◌, ◌�
 ghost use Rattle.std.specs.Borrow.{sem};
 ghost use Rattle.std.specs.Io.BufRead.{Rests};
 ghost use Rattle.mask_bits.specs.Positions.{positions, count};
-ghost use Rattle.vortex_mask.specs.Lend.{AreKeptOrRuns, ReachesShare, lends_ranges, IsListOf, with_list, lender_variant, IfLent, with_lent, IsKeeping};
+ghost use Rattle.vortex_mask.specs.Lend.{AreKeptOrRuns, ReachesShare, lends_ranges, IsLentOf, with_list, lender_variant, IfLent, with_lent, IsKeeping};
 ghost use Rattle.vortex_mask.specs.Mask.{truth, variant, mixed, caches};
 ghost use Rattle.vortex_mask.specs.MaskValues.{with_indices, with_ranges};
 ghost use Rattle.vortex_mask.specs.contracts.mask.Mask.{the_row};
@@ -21,7 +21,8 @@ pub enum MaskIter<'a> {
 }
 
 /// Lists of the true places, made where they are not kept yet, and kept from then on. Clones that
-/// were made before keep what they kept.
+/// were made before keep what they kept: a mask that makes one list no longer shares its values with
+/// them, and copies the other list, if it is kept.
 ///
 /// Where want of memory refuses a list, the mask stays as it was.
 impl Mask {
@@ -87,7 +88,7 @@ impl Mask {
         ensures threshold { IfOk result (λ lent. IfLent lent (λ list. IsTrue (lends_ranges list)
             ↔ ReachesShare (truth self.old) num den)) }
         ensures list { IfOk result (λ lent. IfLent lent
-            (IsListOf (truth self.old) (caches self.old))) }
+            (IsLentOf (truth self.old) (caches self.old))) }
 
         // Once the list is no longer borrowed, it is kept.
         ensures* after { sem 𝓛 (Rests the_row self.entry (λ new.

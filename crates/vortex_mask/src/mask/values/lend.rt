@@ -4,7 +4,7 @@ ghost use Rattle.std.specs.Io.BufRead.{Rests};
 ghost use Rattle.mask_bits.specs.Buffer.{values};
 ghost use Rattle.mask_bits.specs.Positions.{positions, count};
 ghost use Rattle.mask_bits.specs.Runs.{AreRuns};
-ghost use Rattle.vortex_mask.specs.Lend.{AreKeptOrRuns, ReachesShare, lends_ranges, IsListOf, with_list};
+ghost use Rattle.vortex_mask.specs.Lend.{AreKeptOrRuns, ReachesShare, lends_ranges, IsLentOf, with_list};
 ghost use Rattle.vortex_mask.specs.MaskValues.{keeping, with_indices, with_ranges};
 ghost use Rattle.vortex_mask.specs.contracts.mask.values.MaskValues.{the_row};
 
@@ -60,7 +60,7 @@ impl MaskValues {
         requires { 0 < den }
         ensures threshold { IfOk result (λ lent. IsTrue (lends_ranges lent)
             ↔ ReachesShare (values self.old.buffer) num den) }
-        ensures list { IfOk result (IsListOf (values self.old.buffer) self.old.caches) }
+        ensures list { IfOk result (IsLentOf (values self.old.buffer) self.old.caches) }
 
         // Once the list is no longer borrowed, it is kept.
         ensures* after { sem 𝓛 (Rests the_row self.entry (λ new.
