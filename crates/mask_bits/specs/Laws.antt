@@ -1,5 +1,5 @@
 -- What holds of all lists of truth values, whatever holds them.
-use Rattle.std.specs.Prelude.{ℕ, ◌+◌, ◌-◌, ◌/◌, ◌^◌, ◌≡◌, ◌<◌, ◌≤◌, ◌&&◌, ◌↔◌, Bool, true, false, IsTrue, List, [], ◌∷◌, ◌++◌, length, All, Any, sum_by, nat_eq, count_by, count_ones, flat_map, slice_get, slice_index, slice_index_or, min, slice_range}
+use Rattle.std.specs.Prelude.{ℕ, ◌+◌, ◌-◌, ◌*◌, ◌/◌, ◌^◌, ◌≡◌, ◌<◌, ◌≤◌, ◌&&◌, ◌↔◌, Bool, true, false, IsTrue, List, [], ◌∷◌, ◌++◌, length, All, Any, sum_by, nat_eq, count_by, count_ones, flat_map, slice_get, slice_index, slice_index_or, min, slice_range}
 use Rattle.std.specs.Int.{div_ceil}
 use Rattle.std.specs.List.{range_with_len, filter_map}
 use Rattle.mask_bits.specs.Buffer.{Packed, values, same_values}
@@ -225,6 +225,14 @@ PartOfPart = (m : List Bool) (s e t u : ℕ) → u ≤ e - s
 abbrev pub PartOfJoined : Type 0
 PartOfJoined = (before after : List (List Bool)) (m : List Bool)
     → slice_range (joined (before ++ m ∷ after)) (length (joined before)) (length (joined before) + length m) ≡ m
+
+-- of n values in groups of one size, those are groups which begin before the end
+abbrev pub GroupsBeginWithin : Type 0
+GroupsBeginWithin = (n size g : ℕ) → 0 < size → (g < div_ceil n size) ↔ (size * g < n)
+
+-- a group of a list of one value is such a list
+abbrev pub GroupOfRepeated : Type 0
+GroupOfRepeated = (n size g : ℕ) (v : Bool) → size * g < n → group (repeated n v) size g ≡ repeated (min size (n - size * g)) v
 
 -- of a list in groups of one size, each true place p lies in group number p / size, which is one of them
 abbrev pub PlacesLieInGroups : Type 0

@@ -213,7 +213,7 @@ pub fn count_below_position()
     ensures number { CountBelowPosition }
 {}
 
-ghost use Rattle.mask_bits.specs.Laws.{RunsAreTheList, RunOfAllTrue, RunsOfAllFalse, ChosenByRanges, PlacesLieInGroups, CountOfGroup};
+ghost use Rattle.mask_bits.specs.Laws.{RunsAreTheList, RunOfAllTrue, RunsOfAllFalse, ChosenByRanges, GroupsBeginWithin, GroupOfRepeated, PlacesLieInGroups, CountOfGroup};
 
 /// A planner may compute the runs of a filter, and compare them with any ranges that are its runs.
 pub fn runs_are_the_list()
@@ -235,8 +235,10 @@ pub fn choosing_by_ranges<T>()
 
 /// A reader of row groups may go by the true places: the place divided by the size is the number of
 /// its group.
-#[tactic(auto, using(crate::proofs::Lists::GroupLemmas::places_lie_in_groups, crate::proofs::Lists::GroupLemmas::count_of_group))]
+#[tactic(auto, using(crate::proofs::Lists::GroupLemmas::groups_begin_within, crate::proofs::Lists::GroupLemmas::group_of_repeated, crate::proofs::Lists::GroupLemmas::places_lie_in_groups, crate::proofs::Lists::GroupLemmas::count_of_group))]
 pub fn groups()
+    ensures begins { GroupsBeginWithin }
+    ensures one_value { GroupOfRepeated }
     ensures places { PlacesLieInGroups }
     ensures count { CountOfGroup }
 {}

@@ -1,9 +1,8 @@
 //! Which groups of rows a reader may skip.
-ghost use Rattle.std.specs.Prelude.{ℕ, ◌≡◌, ◌*◌, ◌<◌, ◌≤◌, All, count_by, false, IfOk, length, nat_eq, nat_lt, slice_index_or, vec_len};
+ghost use Rattle.std.specs.Prelude.{ℕ, ◌≡◌, ◌*◌, ◌/◌, ◌<◌, All, count_by, false, IfOk, length, nat_eq, nat_lt, slice_index_or, vec_len};
 ghost use Rattle.std.specs.Int.{div_ceil};
 ghost use Rattle.mask_bits.specs.Buffer.{values};
-ghost use Rattle.mask_bits.specs.Runs.{is_inside};
-ghost use Rattle.uses.specs.RowGroups.{group_range, is_chosen_of};
+ghost use Rattle.uses.specs.RowGroups.{is_chosen_of};
 ghost use Rattle.vortex_mask.specs.Mask.{truth};
 
 use mask_bits::{BitBuffer, laws};
@@ -40,50 +39,39 @@ pub fn has_chosen(rows: &BitBuffer, size: usize, number: usize) -> bool
 pub fn kept_by_indices(alloc: Global, mask: &mut Mask, size: usize) -> Result<Vec<bool>, MaskError>
     requires { 0 < size }
     ensures len { IfOk result (λ kept. vec_len kept ≡ div_ceil (length (truth mask.old)) size) }
-    ensures exact { IfOk result (λ kept. (g : ℕ) → size * g < length (truth mask.old)
+    ensures exact { IfOk result (λ kept. (g : ℕ) → g < div_ceil (length (truth mask.old)) size
         → slice_index_or kept.items g false ≡ is_chosen_of (truth mask.old) size g) }
 {
-    laws::places_are_within();
-    laws::count_of_part();
+    laws::groups();
     laws::lists_of_one_value();
     vortex_mask::laws::variants_of_one_value();
-    let rows = mask.len();
-    Ok(match mask.indices(alloc)? {
-        AllOr::All => vec![in alloc; true; rows.div_ceil(size)]?,
-        AllOr::None => vec![in alloc; false; rows.div_ceil(size)]?,
-        AllOr::Some(places) => marked(alloc, places, rows, size)?,
-    })
+    let groups = mask.len().div_ceil(size);
+    match mask.indices(alloc)? {
+        AllOr::All => Ok(vec![in alloc; true; groups]?),
+        AllOr::None => Ok(vec![in alloc; false; groups]?),
+        AllOr::Some(places) => Ok(marked(alloc, places, size, groups)?),
+    }
 }
 
 // Which groups have one of these places.
 fn marked(
     alloc: Global,
     places: &[usize],
-    rows: usize,
     size: usize,
+    groups: usize,
 ) -> Result<Vec<bool>, AllocError>
     requires some { 0 < size }
-    requires within { All (λ p. p < rows) places.now }
-    ensures len { IfOk result (λ kept. vec_len kept ≡ div_ceil rows size) }
-    ensures exact { IfOk result (λ kept. (g : ℕ) → size * g < rows
+    requires within { All (λ p. p / size < groups) places.now }
+    ensures len { IfOk result (λ kept. vec_len kept ≡ groups) }
+    ensures exact { IfOk result (λ kept. (g : ℕ) → g < groups
         → slice_index_or kept.items g false
-        ≡ nat_lt 0 (count_by (λ p. is_inside p (group_range rows size g)) places.now)) }
+        ≡ nat_lt 0 (count_by (λ p. nat_eq (p / size) g) places.now)) }
 {
-    let mut kept = vec![in alloc; false; rows.div_ceil(size)]?;
+    let mut kept = vec![in alloc; false; groups]?;
     for place in places {
-        kept[group_of(*place, rows, size)] = true;
+        kept[*place / size] = true;
     }
     Ok(kept)
-}
-
-// The number of the group that has a row.
-fn group_of(row: usize, rows: usize, size: usize) -> usize
-    requires some { 0 < size }
-    requires within { row < rows }
-    ensures one { result < div_ceil rows size }
-    ensures only { (g : ℕ) → is_inside row (group_range rows size g) ≡ nat_eq g result }
-{
-    row / size
 }
 
 #[cfg(test)]

@@ -6,10 +6,12 @@ use Rattle.std.proofs.Math.Nat.{mul-div-le, lt-mul-div-succ, mul-le-mul_left, mu
 use Rattle.std.proofs.lemmas.Bool.{cases_order, eq-eqb, ne_eqb}
 use Rattle.std.proofs.lemmas.List.Elements.{All-head, All-tail}
 use Rattle.std.proofs.lemmas.List.Sums.{sum_by-cons}
-use Rattle.mask_bits.specs.Laws.{PlacesLieInGroups, CountOfGroup}
+use Rattle.mask_bits.specs.Laws.{GroupsBeginWithin, GroupOfRepeated, PlacesLieInGroups, CountOfGroup}
 use Rattle.mask_bits.specs.Lists.{group}
-use Rattle.mask_bits.specs.Positions.{places_from, positions, count}
+use Rattle.mask_bits.specs.Positions.{places_from, positions, count, repeated}
 use Rattle.mask_bits.specs.Runs.{is_inside}
+use Rattle.mask_bits.proofs.Lists.CountLemmas.{length-repeated}
+use Rattle.mask_bits.proofs.Lists.PartLemmas.{part_of_repeated}
 use Rattle.mask_bits.proofs.Lists.PlaceLemmas.{trues, count-trues, positions-within}
 use Rattle.mask_bits.proofs.Lists.RunLemmas.{inside, inside-before, inside-past}
 
@@ -122,3 +124,44 @@ number_below n size p some within =
 
 pub places_lie_in_groups : PlacesLieInGroups
 places_lie_in_groups m size some = λ k d h. number_below (length m) size (get_or (positions m) k d) some (positions-within m k d h)
+
+-- a group with a number below is one that begins before the end
+begins_before : (n size g : ℕ) → 0 < size → g < div_ceil n size → size * g < n
+begins_before n size g some below =
+    let all = group_of n size some in
+    let rest = mod-eq-sub-mul-div n size in
+    elim (cases_order g (n / size)) [
+      | inl same ↦
+          let begins : size * g ≡ size * (n / size) = ap (λ k. size * k) same in
+          omega (arith, all.0, rest)
+      | inr apart ↦ elim apart [
+        | inl before ↦ omega (arith, some, all.0, product_below size g (n / size) before)
+        | inr past ↦ absurd (omega arith)
+      ]
+    ]
+
+number_from_begin : (n size g : ℕ) → 0 < size → size * g < n → g < div_ceil n size
+number_from_begin n size g some begins =
+    let all = group_of n size some in
+    let rest = mod-eq-sub-mul-div n size in
+    elim (cases_order g (n / size)) [
+      | inl same ↦
+          let here : size * g ≡ size * (n / size) = ap (λ k. size * k) same in
+          omega (arith, all.0, rest)
+      | inr apart ↦ elim apart [
+        | inl before ↦ omega arith
+        | inr past ↦ absurd (omega (arith, all.1, product_below size (n / size) g past))
+      ]
+    ]
+
+pub groups_begin_within : GroupsBeginWithin
+groups_begin_within n size g some = (begins_before n size g some, number_from_begin n size g some)
+
+pub group_of_repeated : GroupOfRepeated
+group_of_repeated n size g v begins =
+    let s : ℕ = size * g in
+    let len : length (repeated n v) ≡ n = length-repeated n v in
+    let same : s + min size (n - s) - s ≡ min size (n - s) = omega arith in
+    ap (λ k. slice_range (repeated n v) s (s + min size (k - s))) len
+    ∙ part_of_repeated n v s (s + min size (n - s)) (omega arith) (omega arith)
+    ∙ ap (λ k. repeated k v) same
