@@ -7,6 +7,7 @@ pub mod estimates;
 pub mod gather;
 pub mod pages;
 pub mod row_groups;
+pub mod selected;
 pub mod stacks;
 #[cfg(test)]
 mod tests;

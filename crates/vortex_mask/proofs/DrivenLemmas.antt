@@ -1,5 +1,5 @@
 -- The kernel that goes by rank numbers: words that are read in turn, the places found in them, and the run of calls that gave the ranks.
-use Rattle.std.proofs.Common.{◌≡◌, ℕ, suc, ◌+◌, ◌-◌, ◌*◌, ◌/◌, ◌^◌, ◌<◌, ◌≤◌, ◌%◌, Bool, List, [], ◌∷◌, ◌++◌, length, take, map, get_or, refl, sym, subst, ap, ap₂, ◌∙◌, inl, inr, arith, count_ones, slice_get}
+use Rattle.std.proofs.Common.{◌≡◌, ℕ, ◌+◌, ◌-◌, ◌*◌, ◌/◌, ◌^◌, ◌<◌, ◌≤◌, ◌%◌, Bool, List, [], ◌∷◌, ◌++◌, length, take, get_or, sym, subst, ap, ap₂, ◌∙◌, inl, inr, arith, count_ones, slice_get}
 use Rattle.std.proofs.Math.Seq.{get_or-append_seam}
 use Rattle.std.proofs.iter.runs.Made.{run_of_turn, run_of_exit, took}
 use Rattle.std.proofs.lemmas.Bool.{cases_lt}
@@ -14,7 +14,7 @@ use Rattle.std.specs.List.Sorted.{IsStrictlyIncreasing}
 use Rattle.std.specs.declared.option.Option.{Option}
 use Rattle.std.specs.declared.option.Option.TheVariants.{Some, None}
 use Rattle.mask_bits.specs.Positions.{positions, count, true_at, at_places}
-use Rattle.mask_bits.specs.Words.{word_bits, word_part, padded_part, padded_remainder, started_words}
+use Rattle.mask_bits.specs.Words.{word_bits, word_part, padded_part, padded_remainder}
 use Rattle.mask_bits.proofs.Lists.AscendingLemmas.{positions-true_at, positions-ascending}
 use Rattle.mask_bits.proofs.Lists.PlaceLemmas.{count-le-length, positions-within}
 use Rattle.mask_bits.proofs.Lists.RankLemmas.{length-true_at, All-at_places}

@@ -43,8 +43,6 @@ pub fn intersect_mask_driven<S: SelectBit, I: Iterator<Item = usize>>(
     ensures variant { IfOk result (λ r. variant r.0 ≡ fitting_variant all_false (truth r.0)) }
     ensures caches { IfOk result
         (λ r. caches r.0 ≡ where_mixed r.0 (kept_indices (positions (truth r.0)))) }
-
-    // No word is read twice.
     ensures words { IfOk result
         (λ r. r.1.words ≤ started_words (length (values self_buffer.now))) }
     ensures steps { IfOk result (λ r. r.1 ≡ driven_steps r.1.words true_count (truth r.0)) }

@@ -1,6 +1,5 @@
-use Rattle.std.proofs.Common.{◌≡◌, ◌+◌, ◌≤◌, ◌<◌, ◌%◌, [], ◌∷◌, ◌++◌, ℕ, List, length, sym, ap, ap₂, ◌∙◌, arith}
+use Rattle.std.proofs.Common.{[], ◌∷◌, ◌++◌, sym, ap, ◌∙◌, arith}
 use Rattle.std.proofs.lemmas.List.{length-append}
-use Rattle.std.specs.List.{sum_by}
 use Rattle.mask_bits.specs.Positions.{positions, count, at_places}
 use Rattle.mask_bits.proofs.Lists.PlaceLemmas.{count-le-length}
 use Rattle.vortex_mask.specs.Steps.{StepCounts}

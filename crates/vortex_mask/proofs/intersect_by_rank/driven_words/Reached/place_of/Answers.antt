@@ -1,4 +1,4 @@
-use Rattle.std.proofs.Common.{◌≡◌, ◌+◌, ◌-◌, ◌*◌, ◌%◌, ◌<◌, ap, ap₂, ◌∙◌, arith, sym}
+use Rattle.std.proofs.Common.{◌≡◌, ◌+◌, ◌-◌, ◌*◌, ◌%◌, ap, ◌∙◌, arith}
 use Rattle.vortex_mask.specs.Steps.{StepCounts}
 use Rattle.vortex_mask.proofs.DrivenLemmas.{number-inside, place-few, place-found}
 use Rattle.vortex_mask.proofs.intersect_by_rank.driven_words.Reached.place_of.Goals as goal

@@ -1,6 +1,5 @@
-use Rattle.std.proofs.Common.{◌+◌, ◌*◌, ◌<◌, length, refl, ap, ◌∙◌, arith}
+use Rattle.std.proofs.Common.{◌+◌, refl, ap, ◌∙◌, arith}
 use Rattle.mask_bits.proofs.Lists.PlaceLemmas.{count-le-length}
-use Rattle.vortex_mask.specs.Ranks.{HasRead}
 use Rattle.vortex_mask.specs.Steps.{StepCounts}
 use Rattle.vortex_mask.proofs.DrivenLemmas.{more-words, read-more}
 use Rattle.vortex_mask.proofs.WordKernelLemmas.{place-within}

@@ -1,0 +1,113 @@
+//! Rows picked among the chosen ones by their numbers.
+ghost use Rattle.std.specs.Prelude.{◌≡◌, ◌+◌, ◌<◌, ◌≤◌, ◌^◌, ◌++◌, All, IfOk, length};
+ghost use Rattle.std.specs.List.Sorted.{IsStrictlyIncreasing};
+ghost use Rattle.mask_bits.specs.Buffer.{values};
+ghost use Rattle.mask_bits.specs.Positions.{positions, count, at_places};
+ghost use Rattle.vortex_mask.specs.Mask.{truth};
+
+use mask_bits::BitBuffer;
+use std::alloc::Global;
+use vortex_mask::intersect_by_rank::{Portable, intersect_mask_driven};
+use vortex_mask::{Mask, MaskError};
+
+/// The chosen rows of these numbers, as a list has them.
+pub fn listed(alloc: Global, rows: &BitBuffer, numbers: &[usize]) -> Result<Mask, MaskError>
+    requires ascending { IsStrictlyIncreasing numbers.now }
+    requires within { All (λ n. n < count (values rows.now)) numbers.now }
+    ensures { IfOk result
+        (λ m. positions (truth m) ≡ at_places (positions (values rows.now)) numbers.now) }
+{
+    let picked = numbers.iter().copied();
+    let (mask, _) = intersect_mask_driven::<Portable, _>(alloc, rows, picked, numbers.len())?;
+    Ok(mask)
+}
+
+/// The chosen rows whose numbers a second filter has.
+pub fn filtered(alloc: Global, rows: &BitBuffer, kept: &BitBuffer) -> Result<Mask, MaskError>
+    requires { length (values kept.now) ≡ count (values rows.now) }
+    ensures { IfOk result (λ m. positions (truth m)
+        ≡ at_places (positions (values rows.now)) (positions (values kept.now))) }
+{
+    let picked = kept.set_indices();
+    let (mask, _) = intersect_mask_driven::<Portable, _>(alloc, rows, picked, kept.true_count())?;
+    Ok(mask)
+}
+
+/// The first `most` of the chosen rows of these numbers.
+pub fn first_listed(
+    alloc: Global,
+    rows: &BitBuffer,
+    numbers: &[usize],
+    most: usize,
+) -> Result<Mask, MaskError>
+    requires ascending { IsStrictlyIncreasing numbers.now }
+    requires within { All (λ n. n < count (values rows.now)) numbers.now }
+    requires enough { most ≤ length numbers.now }
+    ensures { IfOk result (λ m. count (truth m) ≡ most) }
+{
+    let picked = numbers.iter().copied().take(most);
+    let (mask, _) = intersect_mask_driven::<Portable, _>(alloc, rows, picked, most)?;
+    Ok(mask)
+}
+
+/// The chosen rows of the numbers in two lists, of which the second goes on from number `start`,
+/// where the first ends.
+pub fn of_two_lists(
+    alloc: Global,
+    rows: &BitBuffer,
+    first: &[usize],
+    second: &[usize],
+    start: usize,
+) -> Result<Mask, MaskError>
+    requires first_ascending { IsStrictlyIncreasing first.now }
+    requires first_within { All (λ n. n < start) first.now }
+    requires second_ascending { IsStrictlyIncreasing second.now }
+    requires second_after { All (λ n. start ≤ n) second.now }
+    requires second_within { All (λ n. n < count (values rows.now)) second.now }
+    requires start { start ≤ count (values rows.now) }
+    requires fits { length first.now + length second.now < 2 ^ 64 }
+    ensures { IfOk result (λ m. positions (truth m)
+        ≡ at_places (positions (values rows.now)) (first.now ++ second.now)) }
+{
+    let picked = first.iter().copied().chain(second.iter().copied());
+    let many = first.len() + second.len();
+    let (mask, _) = intersect_mask_driven::<Portable, _>(alloc, rows, picked, many)?;
+    Ok(mask)
+}
+
+#[cfg(test)]
+mod tests {
+    use super::{filtered, first_listed, listed, of_two_lists};
+    use crate::tests::{buffer, lists, same};
+    use mask_bits::BitBuffer;
+    use std::alloc::Global;
+    use std::process::Abort;
+    use std::test::Fail;
+    use vortex_mask::MaskError;
+
+    fn pick(rt: &impl Abort, alloc: Global, rows: &BitBuffer) -> Result<(), MaskError> {
+        same(rt, rows.true_count(), 5);
+        lists(rt, &listed(alloc, rows, &[2, 4])?, "00001001");
+        lists(rt, &first_listed(alloc, rows, &[2, 4], 1)?, "00001000");
+        lists(
+            rt,
+            &of_two_lists(alloc, rows, &[0, 2], &[4], 3)?,
+            "10001001",
+        );
+        Ok(())
+    }
+
+    fn filter(rt: &impl Abort, alloc: Global) -> Result<(), MaskError> {
+        let (rows, kept) = (buffer(alloc, "10011101")?, buffer(alloc, "00101")?);
+        assert!(rt; kept.len() == rows.true_count());
+        lists(rt, &filtered(alloc, &rows, &kept)?, "00001001");
+        Ok(())
+    }
+
+    #[test]
+    fn rows_by_number(rt: HostRuntime) -> Result<(), Fail> {
+        pick(&rt, rt.alloc(), &buffer(rt.alloc(), "10011101")?)?;
+        filter(&rt, rt.alloc())?;
+        Ok(())
+    }
+}
