@@ -1,5 +1,5 @@
 -- Two masks of mixed values, narrowed on their path.
-use Rattle.std.proofs.Common.{◌≡◌, ◌*◌, ◌<◌, ◌≤◌, ℕ, Bool, true, false, List, length, Option, Some, None, sym, subst, ap, ap₂, ◌∙◌}
+use Rattle.std.proofs.Common.{◌≡◌, ◌<◌, ℕ, Bool, List, length, Option, Some, sym, subst, ap, ap₂, ◌∙◌}
 use Rattle.std.specs.List.{All}
 use Rattle.std.specs.Borrow.{Bor}
 use Rattle.std.specs.Option.{option_map}
@@ -8,7 +8,6 @@ use Rattle.mask_bits.specs.Positions.{positions, count, at_places, rank_intersec
 use Rattle.mask_bits.proofs.Lists.AscendingLemmas.{positions-ascending}
 use Rattle.mask_bits.proofs.Lists.LawLemmas.{rank_intersection_is_the_list}
 use Rattle.mask_bits.proofs.Lists.PlaceLemmas.{positions-within}
-use Rattle.mask_bits.proofs.Lists.RankLemmas.{positions-select}
 use Rattle.vortex_mask.specs.MaskValues.{Caches, AreOf}
 
 -- kept places are the list's true places

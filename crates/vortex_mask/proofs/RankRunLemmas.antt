@@ -1,6 +1,5 @@
 -- An iterator that yields ascending numbers, as it is handed to the kernel that goes by them.
-use Rattle.std.proofs.Common.{◌≡◌, ℕ, ◌+◌, ◌<◌, Bool, true, List, length, get_or, take, Option, Some, None, Bor, refl, sym, subst, ap, ◌∙◌, arith}
-use Rattle.std.proofs.iter.Yields.{copies}
+use Rattle.std.proofs.Common.{◌≡◌, ℕ, ◌+◌, ◌<◌, true, List, length, take, Option, None, refl, sym, subst, ap, ◌∙◌, arith}
 use Rattle.std.proofs.lemmas.Iterator.{YieldsList}
 use Rattle.std.proofs.lemmas.Iterator.Consumers.{YieldsList-so_far, YieldsList-end}
 use Rattle.std.proofs.lemmas.List.{get_or-take, length-take, map-id}

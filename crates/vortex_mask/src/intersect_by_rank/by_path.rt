@@ -170,8 +170,8 @@ fn by_rank_indices(
     }
 }
 
-// Below this many rows for a true one the loop over a word's true rows is short, and beats the
-// network, which takes the same time at every word.
+// Where fewer than one row in 16 is true, a word has fewer than four of them on the average. The
+// loop over these is then quicker than the network, which takes the same time at every word.
 const ROWS_OF_A_SHORT_LOOP: u64 = 16;
 
 // Whether words of this density are deposited by the loop.

@@ -20,15 +20,15 @@ pub enum RankPath {
     RankIndices,
 }
 
-// A word kernel looks at each word of 64 rows. Where fewer than one row in 64 is true, most words
-// have no true row, and a list of the true ones is shorter than the words.
+// A word kernel looks at each word of 64 rows. Where fewer than one row in 64 is true, there are
+// fewer true rows than words, and it is quicker to go over a list of these.
 const ROWS_OF_A_WORD: u64 = 64;
 
-// A selection costs about what two words cost to read, count and deposit. So it pays to look for
-// the true ranks one by one where there are fewer of them than one in 32.
+// At one true rank in 32 there are at most two selections for a word of rows, and about there they
+// cost as much as to count and deposit each word. Fewer ranks are found one by one.
 const RANKS_OF_A_SELECTION: u64 = 32;
 
-// A list of true ranks has to be turned into bits, one by one. Above one true rank in four this
+// A list of true ranks has to be turned into bits, one by one. Above one true rank in four that
 // takes longer than to read the rank mask's bits as they are.
 const RANKS_OF_A_LISTED_ONE: u64 = 4;
 

@@ -1,4 +1,4 @@
-use Rattle.std.proofs.Common.{◌≡◌, List, length, ap, sym, ◌∙◌, refl}
+use Rattle.std.proofs.Common.{◌≡◌, length, ap, sym, ◌∙◌, refl}
 use Rattle.std.proofs.lemmas.Iterator.{YieldsList-from_slice}
 use Rattle.std.proofs.lemmas.Iterator.Consumers.{YieldsList-from_copied, YieldsList-from_first, YieldsList-at}
 use Rattle.mask_bits.specs.Buffer.{values}

@@ -1,8 +1,7 @@
-use Rattle.std.proofs.Common.{ℕ, List, subst, ◌≡◌, ◌⊎◌, rules, ◌<◌, length, false, sym, ap, ◌∙◌, arith}
-use Rattle.std.proofs.lemmas.Result.{IfOk-weaker}
+use Rattle.std.proofs.Common.{◌≡◌, ◌⊎◌, rules, length, false, sym, ap, ◌∙◌, arith}
 use Rattle.mask_bits.specs.Buffer.{values}
-use Rattle.vortex_mask.specs.Mask.{truth, variant, variant_and, all_false, where_mixed}
-use Rattle.mask_bits.specs.Positions.{positions, repeated}
+use Rattle.vortex_mask.specs.Mask.{truth, variant, variant_and, all_false}
+use Rattle.mask_bits.specs.Positions.{repeated}
 use Rattle.vortex_mask.proofs.MaskLemmas.{fitting_variant-nonempty, fitting_variant-repeated_false, truth-by_all_true_self, truth-by_all_true_mask, truth-by_all_false, variant_and-all_false}
 use Rattle.vortex_mask.proofs.ResultLemmas.{IfOk-both}
 use Rattle.mask_bits.proofs.Lists.LawLemmas.{length-rank_intersection}
