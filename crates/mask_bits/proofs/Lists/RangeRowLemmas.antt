@@ -34,7 +34,7 @@ chosen-part {X} rows m s e len ordered within =
     ap (λ (xs : List X). chosen xs (drop s m)) (drop_split rows s e ordered)
     ∙ ap (chosen (slice_range rows s e ++ drop e rows)) (drop_split m s e ordered)
     ∙ chosen-append (slice_range rows s e) (drop e rows) (slice_range m s e) (drop e m)
-        (length-between rows s e (omega arith) ∙ sym (length-between m s e within))
+    (length-between rows s e (omega arith) ∙ sym (length-between m s e within))
 
 -- a part whose values are all false, or all true
 chosen-gap : {X : Type 0} (rows : List X) (m : List Bool) (s e : ℕ) → e ≤ length m → ((i : ℕ) → s ≤ i → i < e → get_or m i false ≡ false) → chosen (slice_range rows s e) (slice_range m s e) ≡ []
