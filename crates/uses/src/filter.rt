@@ -19,12 +19,12 @@ pub fn filtered<T: Copy>(alloc: Global, rows: &[T], mask: &mut Mask) -> Result<V
     laws::runs_are_ranges();
     vortex_mask::laws::kept_lists(mask);
     vortex_mask::laws::variants_of_one_value();
-    Ok(match mask.threshold_iter(alloc, 1, 2)? {
-        AllOr::All => Vec::from_slice(alloc, rows)?,
-        AllOr::None => Vec::new(alloc),
-        AllOr::Some(MaskIter::Slices(ranges)) => by_ranges(alloc, rows, ranges)?,
-        AllOr::Some(MaskIter::Indices(places)) => by_places(alloc, rows, places)?,
-    })
+    match mask.threshold_iter(alloc, 1, 2)? {
+        AllOr::All => Ok(Vec::from_slice(alloc, rows)?),
+        AllOr::None => Ok(Vec::new(alloc)),
+        AllOr::Some(MaskIter::Slices(ranges)) => Ok(by_ranges(alloc, rows, ranges)?),
+        AllOr::Some(MaskIter::Indices(places)) => Ok(by_places(alloc, rows, places)?),
+    }
 }
 
 fn by_ranges<T: Copy>(

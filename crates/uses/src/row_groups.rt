@@ -13,7 +13,7 @@ use vortex_mask::{AllOr, Mask, MaskError};
 pub fn kept(alloc: Global, rows: &BitBuffer, size: usize) -> Result<Vec<bool>, AllocError>
     requires { 0 < size }
     ensures len { IfOk result (λ kept. vec_len kept ≡ div_ceil (length (values rows.now)) size) }
-    ensures exact { IfOk result (λ kept. (g : ℕ) → size * g < length (values rows.now)
+    ensures exact { IfOk result (λ kept. (g : ℕ) → g < div_ceil (length (values rows.now)) size
         → slice_index_or kept.items g false ≡ is_chosen_of (values rows.now) size g) }
 {
     let groups = rows.len().div_ceil(size);

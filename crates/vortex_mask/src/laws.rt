@@ -1,7 +1,9 @@
 //! Laws of masks. A call of one of these does nothing when it runs: a caller's proof then knows the
 //! law.
 
-ghost use Rattle.std.specs.Prelude.{◌≡◌};
+ghost use Rattle.std.specs.Prelude.{ℕ, ◌≡◌, List};
+ghost use Rattle.mask_bits.specs.Runs.{AreRanges};
+ghost use Rattle.vortex_mask.specs.Lend.{AreKeptOrRuns};
 ghost use Rattle.vortex_mask.specs.Laws.{UniformIsOfOneValue, NoIndexFault, AllTrueHasTrueValues, AllFalseHasFalseValues};
 ghost use Rattle.vortex_mask.specs.Mask.{truth, variant, fitting_variant, caches};
 ghost use Rattle.vortex_mask.specs.MaskValues.{AreOf};
@@ -22,9 +24,13 @@ pub fn one_variant(mask: &Mask)
     }
 }
 
-/// A caller may read the lists that a mask keeps: they are of its own true places.
+/// A caller may read the lists that a mask keeps, and the ranges that it lends: they are of its own
+/// true places.
+#[tactic(auto, using(crate::proofs::VariantLemmas::ranges_from_AreKeptOrRuns))]
 pub fn kept_lists(mask: &Mask)
-    ensures { AreOf (truth mask.now) (caches mask.now) }
+    ensures kept { AreOf (truth mask.now) (caches mask.now) }
+    ensures lent { (rs : List (ℕ × ℕ)) → AreKeptOrRuns (truth mask.now) (caches mask.now) rs
+        → AreRanges (truth mask.now) rs }
 {
     match mask {
         Mask::AllTrue(_) => {}

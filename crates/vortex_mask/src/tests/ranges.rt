@@ -1,4 +1,7 @@
 // Masks made of ranges, alone and with a buffer of their values.
+ghost use Rattle.mask_bits.specs.Runs.{AreRanges};
+ghost use Rattle.vortex_mask.specs.Mask.{truth};
+
 use super::{is_held_as, lists, same};
 use crate::mask::{Mask, MaskError};
 use std::alloc::{AllocError, Global};
@@ -62,6 +65,24 @@ fn keeps(rt: &impl Abort, mask: &Mask, ranges: &[(usize, usize)]) {
     }
 }
 
+fn is_made(rt: &impl Abort, mask: &Mask, ranges: &[(usize, usize)], want: (&str, &str)) {
+    lists(rt, mask, want.0);
+    is_held_as(rt, mask, want.1);
+    keeps(rt, mask, ranges);
+}
+
+// The mask of a buffer of a mask's values with ranges that hold exactly its true places.
+fn made_again(
+    alloc: Global,
+    mask: &Mask,
+    ranges: &[(usize, usize)],
+) -> Result<Mask, MaskError>
+    requires { AreRanges (truth mask.now) ranges.now }
+{
+    let buffer = mask.to_bit_buffer(alloc)?;
+    Mask::from_buffer_with_slices(alloc, buffer, ranges.to_vec(alloc)?)
+}
+
 // The mask of the ranges, and the one of a buffer of its values with the same ranges.
 fn makes(
     rt: &impl Abort,
@@ -70,14 +91,9 @@ fn makes(
     ranges: &[(usize, usize)],
     want: (&str, &str),
 ) -> Result<(), MaskError> {
-    let made = Mask::from_slices(alloc, len, ranges.to_vec(alloc)?)?;
-    let buffer = made.to_bit_buffer(alloc)?;
-    let again = Mask::from_buffer_with_slices(alloc, buffer, ranges.to_vec(alloc)?)?;
-    for mask in [&made, &again] {
-        lists(rt, mask, want.0);
-        is_held_as(rt, mask, want.1);
-        keeps(rt, mask, ranges);
-    }
+    let mask = Mask::from_slices(alloc, len, ranges.to_vec(alloc)?)?;
+    is_made(rt, &mask, ranges, want);
+    is_made(rt, &made_again(alloc, &mask, ranges)?, ranges, want);
     Ok(())
 }
 
