@@ -16,7 +16,6 @@ pub mod words;
 
 ghost use Rattle.std.specs.Prelude.{◌≡◌, ◌≢◌, ◌<◌, ◌⊎◌, IsOk, IfOk, All, length, IsOkUnless, alloc_error};
 ghost use Rattle.vortex_mask.specs.Mask.{truth, variant, fitting_variant, variant_and, all_false, mixed, caches};
-ghost use Rattle.mask_bits.specs.Buffer.{values};
 ghost use Rattle.mask_bits.specs.Positions.{positions, count, at_places, rank_intersection};
 ghost use Rattle.vortex_mask.specs.Path.{narrowed_caches, AreNarrowingSteps};
 
@@ -28,7 +27,6 @@ pub use deposit::{DepositBits, Portable, PortableLoop, deposit_two_holes, deposi
 pub use driven::intersect_mask_driven;
 pub use indices::intersect_by_rank_indices;
 pub use kernels::{intersect_bit_buffer_by_rank_indices, intersect_bit_buffers};
-use mask_bits::BitBuffer;
 pub use path::{RankPath, rank_path};
 pub use rank_bits::RankBits;
 pub use select::SelectBit;
@@ -126,19 +124,12 @@ impl Mask {
     }
 }
 
-// The places of the true values.
-fn places_of(alloc: Global, buffer: &BitBuffer) -> Result<Vec<usize>, AllocError>
-    ensures { IfOk result (λ places. places.items ≡ positions (values buffer.now)) }
-{
-    buffer.set_indices().collect(alloc)
-}
-
 // The entries of `places` at `ranks`, in the order of `ranks`.
 fn taken_at(alloc: Global, places: &[usize], ranks: &[usize]) -> Result<Vec<usize>, AllocError>
     requires { All (λ k. k < length places.now) ranks.now }
     ensures { IfOk result (λ kept. kept.items ≡ at_places places.now ranks.now) }
 {
-    let mut kept = Vec::new(alloc);
+    let mut kept = Vec::with_capacity(alloc, ranks.len())?;
     for rank in ranks {
         kept.push(places[*rank])?;
     }

@@ -15,7 +15,6 @@ use super::driven::intersect_mask_driven;
 use super::indices::intersect_by_rank_indices;
 use super::kernels::{intersect_bit_buffer_by_rank_indices, intersect_bit_buffers};
 use super::path::{RankPath, rank_path, times_true};
-use super::places_of;
 use super::steps::Steps;
 use crate::mask::{Mask, MaskError, MaskValues};
 use std::alloc::Global;
@@ -62,7 +61,7 @@ fn by_indices(
     match rows.cached_indices() {
         Some(places) => by_places(alloc, rows, places, ranks),
         None => {
-            let places = places_of(alloc, rows.bit_buffer())?;
+            let places = rows.places(alloc)?;
             by_places(alloc, rows, &places, ranks)
         }
     }
@@ -88,7 +87,7 @@ fn by_places(
     match ranks.cached_indices() {
         Some(numbers) => intersect_by_rank_indices(alloc, rows.len(), places, numbers),
         None => {
-            let numbers = places_of(alloc, ranks.bit_buffer())?;
+            let numbers = ranks.places(alloc)?;
             intersect_by_rank_indices(alloc, rows.len(), places, &numbers)
         }
     }

@@ -33,7 +33,7 @@ pub intersect_by_rank_indices-requires-in-None : goal.intersect_by_rank_indices-
 intersect_by_rank_indices-requires-in-None c =
     let a = values c.args.rows.now.buffer in
     let b = values c.args.ranks.now.buffer in
-    let same : c.deref.result.now ≡ positions b = c.deref.ensures.value ∙ c.in_ok-numbers-in-None.ensures ∙ ap (λ v. positions (values v)) c.bit_buffer.ensures.buffer in
+    let same : c.deref.result.now ≡ positions b = c.deref.ensures.value ∙ c.in_ok-numbers-in-None.ensures in
     record {
       self_ascending = places_ascend a c.args.places.now c.requires.places;
       self_within = places_within a c.len-in-None.result c.args.places.now c.len-in-None.ensures c.requires.places;
@@ -45,6 +45,6 @@ pub returns-in_ok-numbers-in-None-clause-list : goal.returns-in_ok-numbers-in-No
 returns-in_ok-numbers-in-None-clause-list c =
     let a = values c.args.rows.now.buffer in
     let b = values c.args.ranks.now.buffer in
-    let same : c.deref.result.now ≡ positions b = c.deref.ensures.value ∙ c.in_ok-numbers-in-None.ensures ∙ ap (λ v. positions (values v)) c.bit_buffer.ensures.buffer in
+    let same : c.deref.result.now ≡ positions b = c.deref.ensures.value ∙ c.in_ok-numbers-in-None.ensures in
     IfOk-both c.intersect_by_rank_indices-in-None.result _ _ _ (λ r len at.
     list_from_listed a b _ _ _ c.requires.fitting (len ∙ c.len-in-None.ensures) at c.requires.places same) c.intersect_by_rank_indices-in-None.ensures.len c.intersect_by_rank_indices-in-None.ensures.true_indices
