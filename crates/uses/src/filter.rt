@@ -1,7 +1,8 @@
 //! The rows that a mask chooses, copied range by range where it is dense and one by one where it isn't.
-ghost use Rattle.std.specs.Prelude.{◌≡◌, ◌≤◌, IfOk, All, flat_map, length, slice_get, slice_range};
+ghost use Rattle.std.specs.Prelude.{◌≡◌, ◌<◌, ◌≤◌, Bool, List, IfOk, All, length, slice_get};
 ghost use Rattle.std.specs.List.{filter_map};
 ghost use Rattle.mask_bits.specs.Positions.{chosen};
+ghost use Rattle.mask_bits.specs.Runs.{AreRanges};
 ghost use Rattle.vortex_mask.specs.Mask.{truth};
 
 use mask_bits::laws;
@@ -15,8 +16,6 @@ pub fn filtered<T: Copy>(alloc: Global, rows: &[T], mask: &mut Mask) -> Result<V
     ensures { IfOk result (λ v. v.items ≡ chosen rows.now (truth mask.old)) }
 {
     laws::choosing::<T>();
-    laws::choosing_by_ranges::<T>();
-    laws::runs_are_ranges();
     vortex_mask::laws::kept_lists(mask);
     vortex_mask::laws::variants_of_one_value();
     match mask.threshold_iter(alloc, 1, 2)? {
@@ -27,15 +26,18 @@ pub fn filtered<T: Copy>(alloc: Global, rows: &[T], mask: &mut Mask) -> Result<V
     }
 }
 
+// The rows of ranges that hold exactly the true places of a mask, whichever that is.
 fn by_ranges<T: Copy>(
     alloc: Global,
     rows: &[T],
     ranges: &[(usize, usize)],
 ) -> Result<Vec<T>, AllocError>
-    requires ordered { All (λ r. r.0 ≤ r.1) ranges.now }
+    requires nonempty { All (λ r. r.0 < r.1) ranges.now }
     requires within { All (λ r. r.1 ≤ length rows.now) ranges.now }
-    ensures { IfOk result (λ v. v.items ≡ flat_map (λ r. slice_range rows.now r.0 r.1) ranges.now) }
+    ensures { IfOk result (λ v. (m : List Bool) → length rows.now ≡ length m
+        → AreRanges m ranges.now → v.items ≡ chosen rows.now m) }
 {
+    laws::choosing_by_ranges::<T>();
     let mut copied = Vec::new(alloc);
     for (start, end) in ranges {
         copied.extend_from_slice(&rows[*start..*end])?;
