@@ -7,7 +7,7 @@ ghost use Rattle.mask_bits.specs.Buffer.{values};
 use super::{Generator, same};
 use crate::intersect_by_rank::{
     DepositBits, Portable, PortableLoop, RankBits, Steps, intersect_bit_buffer_by_rank_indices,
-    intersect_bit_buffers, intersect_by_rank_indices, places_of,
+    intersect_bit_buffers, intersect_by_rank_indices,
 };
 use crate::mask::{Mask, MaskError};
 use bytes::Bytes;
@@ -69,7 +69,7 @@ fn numbers(alloc: Global, ranks: &BitBuffer) -> Result<Vec<usize>, AllocError>
     ensures ascending { IfOk result (λ v. IsStrictlyIncreasing v.items) }
     ensures within { IfOk result (λ v. All (λ k. k < length (values ranks.now)) v.items) }
 {
-    places_of(alloc, ranks)
+    ranks.set_indices().collect(alloc)
 }
 
 fn expect_steps(rt: &impl Abort, steps: &Steps, deposits: usize, offered: usize, placed: usize) {

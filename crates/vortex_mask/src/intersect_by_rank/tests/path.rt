@@ -1,8 +1,12 @@
 //! The choice among the kernels, with the steps and the cached places of each.
 
+ghost use Rattle.std.specs.Prelude.{◌≡◌, IfOk};
+ghost use Rattle.mask_bits.specs.Buffer.{values};
+ghost use Rattle.mask_bits.specs.Positions.{positions};
+
 use super::Generator;
 use super::kernels::{expect_places, expect_plain, from_offset, true_at};
-use crate::intersect_by_rank::{RankPath, Steps, places_of, rank_path};
+use crate::intersect_by_rank::{RankPath, Steps, rank_path};
 use crate::mask::{Mask, MaskError, MaskValues};
 use mask_bits::{BitBuffer, BitBufferMut};
 use std::alloc::{AllocError, Global};
@@ -177,6 +181,12 @@ fn of_density(
         built.append_n(words.next() % 1_024 < threshold, 1)?;
     }
     from_offset(rt, built, offset)
+}
+
+fn places_of(alloc: Global, buffer: &BitBuffer) -> Result<Vec<usize>, AllocError>
+    ensures { IfOk result (λ places. places.items ≡ positions (values buffer.now)) }
+{
+    buffer.set_indices().collect(alloc)
 }
 
 // The mask of a buffer, with its true places cached.
