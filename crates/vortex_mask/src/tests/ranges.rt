@@ -72,11 +72,7 @@ fn is_made(rt: &impl Abort, mask: &Mask, ranges: &[(usize, usize)], want: (&str,
 }
 
 // The mask of a buffer of a mask's values with ranges that hold exactly its true places.
-fn made_again(
-    alloc: Global,
-    mask: &Mask,
-    ranges: &[(usize, usize)],
-) -> Result<Mask, MaskError>
+fn made_again(alloc: Global, mask: &Mask, ranges: &[(usize, usize)]) -> Result<Mask, MaskError>
     requires { AreRanges (truth mask.now) ranges.now }
 {
     let buffer = mask.to_bit_buffer(alloc)?;
