@@ -169,8 +169,8 @@ RangesAddUpToTheCount = (m : List Bool) (rs : List (ℕ × ℕ)) → AreRanges m
 
 -- the rows of ranges that hold exactly the true places, one range after another, are the chosen rows
 abbrev pub ChosenByRanges : Type 0 → Type 0
-ChosenByRanges X = (rows : List X) (m : List Bool) (rs : List (ℕ × ℕ)) → length rows ≡ length m → AreRanges m rs
-    → flat_map (λ r. slice_range rows r.0 r.1) rs ≡ chosen rows m
+ChosenByRanges X = (rows copied : List X) (m : List Bool) (rs : List (ℕ × ℕ)) → copied ≡ flat_map (λ r. slice_range rows r.0 r.1) rs
+    → length rows ≡ length m → AreRanges m rs → copied ≡ chosen rows m
 
 -- ---- value by value
 

@@ -1,5 +1,5 @@
 //! The rows that a mask chooses, copied range by range where it is dense and one by one where it isn't.
-ghost use Rattle.std.specs.Prelude.{◌≡◌, ◌<◌, ◌≤◌, Bool, List, IfOk, All, length, slice_get};
+ghost use Rattle.std.specs.Prelude.{◌≡◌, ◌<◌, ◌≤◌, Bool, List, IfOk, All, flat_map, length, slice_get, slice_range};
 ghost use Rattle.std.specs.List.{filter_map};
 ghost use Rattle.mask_bits.specs.Positions.{chosen};
 ghost use Rattle.mask_bits.specs.Runs.{AreRanges};
@@ -38,6 +38,19 @@ fn by_ranges<T: Copy>(
         → AreRanges m ranges.now → v.items ≡ chosen rows.now m) }
 {
     laws::choosing_by_ranges::<T>();
+    copied(alloc, rows, ranges)
+}
+
+// The rows of ranges, one range after another.
+fn copied<T: Copy>(
+    alloc: Global,
+    rows: &[T],
+    ranges: &[(usize, usize)],
+) -> Result<Vec<T>, AllocError>
+    requires nonempty { All (λ r. r.0 < r.1) ranges.now }
+    requires within { All (λ r. r.1 ≤ length rows.now) ranges.now }
+    ensures { IfOk result (λ v. v.items ≡ flat_map (λ r. slice_range rows.now r.0 r.1) ranges.now) }
+{
     let mut copied = Vec::new(alloc);
     for (start, end) in ranges {
         copied.extend_from_slice(&rows[*start..*end])?;

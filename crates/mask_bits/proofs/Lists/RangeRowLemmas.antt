@@ -68,4 +68,4 @@ rows_from {X} rows m low (r ∷ rs) len o exact =
     ∙ ap (λ (xs : List X). slice_range rows r.0 r.1 ++ xs) (sym rest))
 
 pub chosen_by_ranges : {X : Type 0} → ChosenByRanges X
-chosen_by_ranges rows m rs len are = rows_from rows m 0 rs len (Ordered-of m rs are) (λ i from h. are.exact i h)
+chosen_by_ranges rows copied m rs same len are = same ∙ rows_from rows m 0 rs len (Ordered-of m rs are) (λ i from h. are.exact i h)

@@ -1,5 +1,5 @@
 use Rattle.std.proofs.Common.{◌≡◌, take, flat_map, slice_range}
-use Rattle.uses.proofs.filter.by_ranges.Given as goal
+use Rattle.uses.proofs.filter.copied.Given as goal
 
 -- the rows of the ranges so far are copied
 abbrev pub invariant-loop-start : goal.invariant-loop-start
