@@ -5,6 +5,7 @@
 
 pub mod columns;
 pub mod estimates;
+pub mod explain;
 pub mod filter;
 pub mod gather;
 pub mod pages;

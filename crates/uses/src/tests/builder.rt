@@ -52,6 +52,7 @@ fn goes_on(
 ) -> Result<(), AllocError> {
     assert!(rt; builder.len() <= 200_000);
     builder.append_n(false, 5)?;
+    assert!(rt; builder.len() <= 200_005);
     builder.push_word(0b010, 3)?;
     wanted.extend_from_slice(&[false, false, false, false, false, false, true, false])?;
     holds(rt, builder, &wanted)

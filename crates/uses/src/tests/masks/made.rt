@@ -110,10 +110,13 @@ fn by_others(rt: &impl Abort, alloc: Global, plain: &Plain) -> Result<(), MaskEr
 
 // The values between true ones before them, and false, true, false after.
 fn surrounded(alloc: Global, offset: usize, values: &[bool]) -> Result<BitBuffer, MaskError> {
-    let before = std::iter::repeat(true).take(offset);
-    let after = [false, true, false].into_iter();
-    let all = before.chain(values.iter().copied()).chain(after);
-    Ok(BitBuffer::from_bools(alloc, all)?)
+    let mut all: Vec<bool> = Vec::new(alloc);
+    for _ in 0..offset {
+        all.push(true)?;
+    }
+    all.extend_from_slice(values)?;
+    all.extend_from_slice(&[false, true, false])?;
+    Ok(BitBuffer::from_bools(alloc, all.iter().copied())?)
 }
 
 fn at_offset(
