@@ -1,5 +1,5 @@
 -- How many values of a part and of a group are true, by the true places.
-use Rattle.std.proofs.Common.{◌≡◌, ℕ, zero, suc, ◌+◌, ◌-◌, ◌*◌, ◌/◌, ◌%◌, ◌<◌, ◌≤◌, Bool, true, false, cond, nat_eq, min, List, [], ◌∷◌, length, get_or, take, drop, slice_range, refl, sym, ap, ◌∙◌, arith, add-one, inl, inr}
+use Rattle.std.proofs.Common.{◌≡◌, ℕ, zero, suc, ◌+◌, ◌-◌, ◌*◌, ◌/◌, ◌<◌, ◌≤◌, Bool, true, false, cond, nat_eq, min, List, [], ◌∷◌, length, get_or, take, drop, slice_range, refl, sym, ap, ◌∙◌, arith, add-one, inl, inr}
 use Rattle.std.specs.Int.{div_ceil}
 use Rattle.std.specs.List.{All, count_by}
 use Rattle.std.proofs.Math.Nat.{mul-div-le, lt-mul-div-succ, mul-le-mul_left, mul-suc, mod-eq-sub-mul-div}
@@ -7,8 +7,7 @@ use Rattle.std.proofs.lemmas.Bool.{cases_order, eq-eqb, ne_eqb}
 use Rattle.std.proofs.lemmas.List.Elements.{All-head, All-tail}
 use Rattle.std.proofs.lemmas.List.Sums.{sum_by-cons}
 use Rattle.mask_bits.specs.Laws.{GroupsBeginWithin, GroupOfRepeated, PlacesLieInGroups, CountOfGroup}
-use Rattle.mask_bits.specs.Lists.{group}
-use Rattle.mask_bits.specs.Positions.{places_from, positions, count, repeated}
+use Rattle.mask_bits.specs.Positions.{places_from, positions, repeated}
 use Rattle.mask_bits.specs.Runs.{is_inside}
 use Rattle.mask_bits.proofs.Lists.CountLemmas.{length-repeated}
 use Rattle.mask_bits.proofs.Lists.PartLemmas.{part_of_repeated}

@@ -1,4 +1,3 @@
-use Rattle.std.proofs.Common.{rules}
 use Rattle.mask_bits.specs.Positions.{repeated}
 use Rattle.maskrun.proofs.answer.command.places.whole_range.Goals as goal
 
