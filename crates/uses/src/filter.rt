@@ -5,6 +5,7 @@ ghost use Rattle.mask_bits.specs.Positions.{chosen};
 ghost use Rattle.mask_bits.specs.Runs.{AreRanges};
 ghost use Rattle.vortex_mask.specs.Mask.{truth};
 
+use crate::gather::row_at;
 use mask_bits::laws;
 use std::alloc::{AllocError, Global};
 use vortex_mask::{AllOr, Mask, MaskError, MaskIter};
@@ -65,12 +66,6 @@ fn by_places<T: Copy>(alloc: Global, rows: &[T], places: &[usize]) -> Result<Vec
         .iter()
         .filter_map(|place| row_at(rows, *place))
         .collect(alloc)
-}
-
-fn row_at<T: Copy>(rows: &[T], place: usize) -> Option<T>
-    ensures { result ≡ slice_get rows.now place }
-{
-    rows.get(place).copied()
 }
 
 #[cfg(test)]

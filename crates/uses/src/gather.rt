@@ -32,7 +32,8 @@ fn at_places<T: Copy>(alloc: Global, rows: &[T], buffer: &BitBuffer) -> Result<V
         .collect(alloc)
 }
 
-fn row_at<T: Copy>(rows: &[T], place: usize) -> Option<T>
+// The row of a place, if there is one.
+pub(crate) fn row_at<T: Copy>(rows: &[T], place: usize) -> Option<T>
     ensures { result ≡ slice_get rows.now place }
 {
     rows.get(place).copied()
