@@ -134,11 +134,18 @@ mod tests {
         Ok(())
     }
 
+    fn fold_texts(
+        rt: &impl Abort,
+        alloc: Global,
+        (first, second, third): (&str, &str, &str),
+    ) -> Result<(), MaskError> {
+        let (first, second) = (mask(alloc, first)?, mask(alloc, second)?);
+        fold(rt, alloc, (&first, &second, &mask(alloc, third)?))
+    }
+
     #[test]
     fn three_filters_in_either_grouping(rt: HostRuntime) -> Result<(), Fail> {
-        let alloc = rt.alloc();
-        let (first, second) = (mask(alloc, "10011101")?, mask(alloc, "00101")?);
-        fold(&rt, alloc, (&first, &second, &mask(alloc, "10")?))?;
+        fold_texts(&rt, rt.alloc(), ("10011101", "00101", "10"))?;
         Ok(())
     }
 
@@ -154,11 +161,14 @@ mod tests {
         Ok(())
     }
 
+    fn two_masks(alloc: Global, first: &str, second: &str) -> Result<[Mask; 2], MaskError> {
+        Ok([mask(alloc, first)?, mask(alloc, second)?])
+    }
+
     #[test]
     fn a_loop_over_filters(rt: HostRuntime) -> Result<(), Fail> {
-        let alloc = rt.alloc();
-        let rest = [mask(alloc, "00101")?, mask(alloc, "10")?];
-        join(&rt, alloc, &mask(alloc, "10011101")?, &rest)?;
+        let rest = two_masks(rt.alloc(), "00101", "10")?;
+        join(&rt, rt.alloc(), &mask(rt.alloc(), "10011101")?, &rest)?;
         Ok(())
     }
 }

@@ -109,25 +109,13 @@ mod tests {
 
     #[test]
     fn rows_of_a_column(rt: HostRuntime) -> Result<(), Fail> {
-        let validity = mask(rt.alloc(), "110")?;
-        rows(
-            &rt,
-            rt.alloc(),
-            &validity,
-            ([true, true, false].as_slice(), Some(2)),
-        )?;
-        rows(
-            &rt,
-            rt.alloc(),
-            &Mask::new_true(2),
-            ([true, true].as_slice(), None),
-        )?;
-        rows(
-            &rt,
-            rt.alloc(),
-            &Mask::new_false(1),
-            ([false].as_slice(), Some(0)),
-        )?;
+        for (validity, want) in [
+            ("110", ([true, true, false].as_slice(), Some(2))),
+            ("11", ([true, true].as_slice(), None)),
+            ("0", ([false].as_slice(), Some(0))),
+        ] {
+            rows(&rt, rt.alloc(), &mask(rt.alloc(), validity)?, want)?;
+        }
         Ok(())
     }
 }

@@ -124,11 +124,15 @@ fn lists_that_differ_at_the_end(rt: HostRuntime) -> Result<(), Fail> {
     let mut words = Generator(0x2545_F491_4F6C_DD1D);
     for len in [1, 64, 65, 130] {
         let a = some_values(alloc, &mut words, len)?;
-        let b = last_turned(alloc, &a)?;
-        each_pair(&rt, alloc, (&a, &b), (true, false))?;
-        each_pair(&rt, alloc, (&a, &a), (true, false))?;
+        each_with_last_turned(&rt, alloc, &a)?;
     }
     Ok(())
+}
+
+fn each_with_last_turned(rt: &impl Abort, alloc: Global, a: &[bool]) -> Result<(), AllocError> {
+    let b = last_turned(alloc, a)?;
+    each_pair(rt, alloc, (a, &b), (true, false))?;
+    each_pair(rt, alloc, (a, a), (true, false))
 }
 
 fn last_turned(alloc: Global, values: &[bool]) -> Result<Vec<bool>, AllocError> {

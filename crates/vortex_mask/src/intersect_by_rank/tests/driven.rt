@@ -93,6 +93,11 @@ fn a_word_with_no_true_value_is_passed(rt: HostRuntime) -> Result<(), Fail> {
 fn every_rank_of_true_values(rt: HostRuntime) -> Result<(), Fail> {
     let rows = BitBuffer::new_set(rt.alloc(), 3)?;
     expect_rows(&rt, rt.alloc(), &rows, &[(&[0, 1, 2], &[0, 1, 2], 1)])?;
+    Ok(())
+}
+
+#[test]
+fn no_rank_of_no_value(rt: HostRuntime) -> Result<(), Fail> {
     let none = BitBuffer::new_set(rt.alloc(), 0)?;
     expect_rows(&rt, rt.alloc(), &none, &[(&[], &[], 0)])?;
     Ok(())
