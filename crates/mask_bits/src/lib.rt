@@ -14,8 +14,6 @@ pub mod laws;
 mod readers;
 mod scan;
 mod slices;
-#[cfg(test)]
-mod tests;
 pub mod words;
 mod writes;
 

@@ -1,4 +1,4 @@
-// How a test is written stands at the head of the tests of `mask_bits`. A caller's test stands in its file.
+// How a test is written stands at the head of the tests of `mask_tests`. A caller's test stands in its file.
 ghost use Rattle.std.specs.Prelude.{◌≡◌};
 
 mod builder;

@@ -10,8 +10,6 @@ mod rank_bits;
 pub mod rank_words;
 mod select;
 mod steps;
-#[cfg(test)]
-mod tests;
 pub mod words;
 
 ghost use Rattle.std.specs.Prelude.{◌≡◌, ◌≢◌, ◌<◌, ◌⊎◌, IsOk, IfOk, All, length, IsOkUnless, alloc_error};

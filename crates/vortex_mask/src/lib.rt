@@ -7,8 +7,6 @@ mod eq;
 pub mod intersect_by_rank;
 pub mod laws;
 pub mod mask;
-#[cfg(test)]
-mod tests;
 
 pub use mask::{
     AllOr, Fraction, Mask, MaskBoolIter, MaskError, MaskIter, MaskValues, MaskValuesRef,
