@@ -1,18 +1,13 @@
 //! The choice among the kernels, with the steps and the cached places of each.
 
-ghost use Rattle.std.specs.Prelude.{◌≡◌, IfOk};
-ghost use Rattle.mask_bits.specs.Buffer.{values};
-ghost use Rattle.mask_bits.specs.Positions.{positions};
-
 use super::Generator;
 use super::kernels::{expect_places, expect_plain, from_offset, true_at};
 use mask_bits::{BitBuffer, BitBufferMut};
 use std::alloc::{AllocError, Global};
 use std::process::Abort;
-use std::rc::Rc;
 use std::test::Fail;
 use vortex_mask::intersect_by_rank::{RankPath, Steps, rank_path};
-use vortex_mask::{Mask, MaskError, MaskValues};
+use vortex_mask::{Mask, MaskError};
 
 // ---- the choice alone
 
