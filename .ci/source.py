@@ -1,0 +1,143 @@
+"""Reads Rust with contracts: the functions of a crate, their clauses, and where they stand.
+
+What the scripts beside this file share. It reads text and runs nothing.
+"""
+import re
+import textwrap
+from pathlib import Path
+
+ROOT = Path(__file__).resolve().parent.parent
+CRATES = ROOT / "crates"
+
+
+class Function:
+    """A function: `name` as `Type::f` or `module::f`, `clauses` by name, and where its text stands.
+
+    `path` is its name for the check, without the crate and, of a method, without the module: `combine::extend`,
+    `Mask::clone`, `MaskPartialEq::eq`. `lines` are its first and last, counted from 1.
+    """
+
+    def __init__(self, file, text, name, path, start, sign, end, clauses, is_public, is_of_trait):
+        self.file, self.name, self.path, self.clauses = file, name, path, clauses
+        self.is_public, self.is_of_trait = is_public, is_of_trait
+        self.lines = text.count("\n", 0, start) + 1, text.count("\n", 0, end) + 1
+        line = text.rfind("\n", 0, start) + 1
+        self.contract = textwrap.dedent(text[line:sign]).strip()
+        before = text[:line].splitlines(keepends=True)
+        while before and re.match(r"\s*(///|#\[)", before[-1]):
+            line -= len(before.pop())
+        self.whole = textwrap.dedent(text[line:end]).strip()
+
+
+def spaces(text):
+    return re.sub(r"[^\n]", " ", text)
+
+
+def blanked(text):
+    """The text with comments, strings, characters and modules of tests as spaces, so that braces can be counted."""
+    parts = r"//[^\n]*|\"(?:\\.|[^\"\\])*\"|'(?:\\[^'\n]+|[^'\\\n])'"
+    code = re.sub(parts, lambda it: spaces(it[0]), text)
+    for it in re.finditer(r"#\[cfg\(test\)\]\s*mod \w+ \{", code):
+        end = closing(code, it.end() - 1)
+        code = code[: it.start()] + spaces(code[it.start() : end]) + code[end:]
+    return code
+
+
+def closing(text, at):
+    """The place past the brace that closes the one at `at`."""
+    depth = 0
+    for i in range(at, len(text)):
+        depth += {"{": 1, "}": -1}.get(text[i], 0)
+        if depth == 0:
+            return i + 1
+    return len(text)
+
+
+def without_generics(head):
+    while "<" in head:
+        shorter = re.sub(r"<[^<>]*>", "", head)
+        if shorter == head:
+            break
+        head = shorter
+    return head
+
+
+class Block:
+    """An impl or a trait: where it stands, its type, the trait of an impl, whether a public trait, its ghost members."""
+
+    def __init__(self, start, end, owner, trait, is_public_trait, ghosts):
+        self.start, self.end, self.owner, self.trait = start, end, owner, trait
+        self.is_public_trait, self.ghosts = is_public_trait, ghosts
+
+
+def blocks_of(code):
+    for it in re.finditer(r"^(?:pub )?(impl|trait)\b([^{;]*)\{", code, re.M):
+        end = closing(code, it.end() - 1)
+        head = " ".join(without_generics(it[2].replace("->", "")).split()).split(" where ")[0]
+        trait, _, owner = f" {head}".rpartition(" for ") if it[1] == "impl" else ("", "", head.split(":")[0])
+        owner, trait = ((re.findall(r"\w+", part) or [""])[-1] for part in (owner, trait))
+        ghosts = re.findall(r"\bghost (\w+) =", code[it.end() : end])
+        yield Block(it.start(), end, owner, trait, it[0].startswith("pub trait"), ghosts)
+
+
+def clauses_after(code, text, at):
+    """The clauses of the function whose name ends at `at`, where its body begins, and where it ends."""
+    clauses, depth, i = {}, 0, at
+    while i < len(code):
+        clause = re.compile(r"\b(requires|ensures)\b\*?\s*(\w*)\s*\{").match(code, i) if depth == 0 else None
+        if clause:
+            end = closing(code, clause.end() - 1)
+            clauses[clause[2] or clause[1]] = (clause[1], text[clause.end() : end - 1])
+            i = end
+            continue
+        depth += {"(": 1, "[": 1, ")": -1, "]": -1}.get(code[i], 0)
+        if depth == 0 and code[i] in "{;":
+            return clauses, i, closing(code, i) if code[i] == "{" else i + 1
+        i += 1
+    return clauses, i, i
+
+
+def module_of(file):
+    """The path of a file's module within its crate: nothing for the root."""
+    parts = file.with_suffix("").parts
+    parts = parts[len(parts) - parts[::-1].index("src") :]
+    return () if parts in [("lib",), ("main",)] else parts
+
+
+def functions_in(file):
+    text = file.read_text()
+    code = blanked(text)
+    blocks = list(blocks_of(code))
+    for it in re.finditer(r"\b(pub(?:\([^)]*\))? )?(?:const |unsafe )*fn (\w+)", code):
+        clauses, sign, end = clauses_after(code, text, it.end())
+        block = next((block for block in reversed(blocks) if block.start < it.start() < block.end), None)
+        owner = block.owner if block else file.stem
+        path = "::".join([block.owner + block.trait if block else "::".join(module_of(file)), it[2]]).removeprefix("::")
+        clauses = {**clauses, **{ghost: ("ghost", "") for ghost in (block.ghosts if block else ())}}
+        is_promised = block and (block.is_public_trait or block.trait and any(kind == "ensures" for kind, _ in clauses.values()))
+        is_public = bool(is_promised) or (it[1] or "").strip() == "pub"
+        is_of_trait = bool(block and block.trait)
+        yield Function(file, text, f"{owner}::{it[2]}", path, it.start(), sign, end, clauses, is_public, is_of_trait)
+
+
+def is_test(file):
+    return "tests" in file.parts or file.name == "tests.rt"
+
+
+def library_crates():
+    names = [line.split(":")[0].split()[0] for line in (ROOT / "crates.txt").read_text().splitlines() if ":" in line]
+    return [it for it in names if it != "uses"]
+
+
+def functions_of(crate):
+    files = sorted(it for it in (CRATES / crate / "src").rglob("*.rt") if not is_test(it.relative_to(CRATES)))
+    return [it for file in files for it in functions_in(file)]
+
+
+def types_of(crate):
+    """The ghost members of each type's impls: what always holds of it, and how it steps."""
+    found = {}
+    for file in (CRATES / crate / "src").rglob("*.rt"):
+        for block in blocks_of(blanked(file.read_text())):
+            found.setdefault(block.owner, set()).update(block.ghosts)
+    return found
