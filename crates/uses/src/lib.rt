@@ -9,6 +9,7 @@ pub mod explain;
 pub mod filter;
 pub mod gather;
 pub mod pages;
+pub mod reads;
 pub mod row_groups;
 pub mod selected;
 pub mod stacks;

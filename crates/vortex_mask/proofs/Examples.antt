@@ -2,9 +2,9 @@
 use Rattle.std.proofs.Common.{◌≡◌, ◌^◌, true, false, [], ◌∷◌, Some, None, refl, inl, inr, arith}
 use Rattle.vortex_mask.specs.Faults.{index_fault, out_of_bounds, common, range_fault}
 use Rattle.vortex_mask.specs.Fraction.{share, share_by_variant}
-use Rattle.vortex_mask.specs.Lend.{ReachesShare, AreKeptOrRuns}
+use Rattle.vortex_mask.specs.Lend.{ReachesShare}
 use Rattle.vortex_mask.specs.Mask.{all_true, all_false, mixed, fitting_variant, variant_and, IsUniform}
-use Rattle.vortex_mask.specs.MaskValues.{kept_indices, kept_ranges, with_indices, with_ranges}
+use Rattle.vortex_mask.specs.MaskValues.{AreOf, kept_indices, kept_ranges, with_indices, with_ranges}
 use Rattle.vortex_mask.specs.Path.{path}
 use Rattle.vortex_mask.specs.declared.intersect_by_rank.path.RankPath.TheVariants.{Indices, MaskDriven, BitBuffers, RankIndices}
 use Rattle.vortex_mask.specs.declared.mask.Mask.TheVariants.{AllTrue, AllFalse}
@@ -109,9 +109,9 @@ reaches_three_of_five = omega arith
 not_seven_of_ten : ReachesShare (true ∷ false ∷ true ∷ true ∷ false ∷ []) 7 10 → ⊥
 not_seven_of_ten reached = omega arith
 
--- kept ranges are lent as they are, though they touch
-kept_ranges_are_lent : AreKeptOrRuns (true ∷ true ∷ false ∷ []) (kept_ranges ((0, 1) ∷ (1, 2) ∷ [])) ((0, 1) ∷ (1, 2) ∷ [])
-kept_ranges_are_lent = refl
+-- ranges that touch are not kept
+touching_are_not_kept : AreOf (true ∷ true ∷ false ∷ []) (kept_ranges ((0, 1) ∷ (1, 2) ∷ [])) → ⊥
+touching_are_not_kept kept = cc (kept.ranges ((0, 1) ∷ (1, 2) ∷ []) refl)
 
 -- a list that is kept stays beside the new one
 places_beside_ranges : with_indices (0 ∷ []) (kept_ranges ((0, 1) ∷ [])) ≡ with_ranges ((0, 1) ∷ []) (kept_indices (0 ∷ []))

@@ -13,6 +13,7 @@ pub mod ExcludedLemmas
 pub mod FaultLemmas
 pub mod HoleLemmas
 pub mod MaskLemmas
+pub mod MergeLemmas
 pub mod NetworkLemmas
 pub mod PathLemmas
 pub mod PlaceListLemmas

@@ -11,7 +11,7 @@ use Rattle.mask_bits.proofs.Lists.RankLemmas.{rank_intersection-all_true, rank_i
 use Rattle.mask_bits.proofs.Lists.CountLemmas.{count-repeated_true, count-repeated_false, all_true_from_count, all_false_from_count, list_all-count, list_all-count_less, list_any-count, list_any-count_zero, length-repeated}
 use Rattle.vortex_mask.specs.Laws.{UniformIsOfOneValue}
 use Rattle.vortex_mask.specs.MaskValues.{AreOf, no_caches, kept_indices, kept_ranges}
-use Rattle.mask_bits.specs.Runs.{AreRanges}
+use Rattle.mask_bits.specs.RunScan.{runs}
 
 pub fitting_variant-all : (empty : Variant) (m : List Bool) → 0 < length m → count m ≡ length m → fitting_variant empty m ≡ all_true
 fitting_variant-all empty [] some e = absurd (omega arith)
@@ -115,5 +115,5 @@ AreOf-no_caches m = record { indices = λ places is. absurd (cc); ranges = λ ra
 pub AreOf-kept_indices : (m : List Bool) (places : List ℕ) → places ≡ positions m → AreOf m (kept_indices places)
 AreOf-kept_indices m places same = record { indices = λ kept is. sym (some_one places kept is) ∙ same; ranges = λ ranges is. absurd (cc) }
 
-pub AreOf-kept_ranges : (m : List Bool) (ranges : List (ℕ × ℕ)) → AreRanges m ranges → AreOf m (kept_ranges ranges)
-AreOf-kept_ranges m ranges are = record { indices = λ places is. absurd (cc); ranges = λ kept is. subst (AreRanges m) (some_one ranges kept is) are }
+pub AreOf-kept_ranges : (m : List Bool) (ranges : List (ℕ × ℕ)) → ranges ≡ runs m → AreOf m (kept_ranges ranges)
+AreOf-kept_ranges m ranges same = record { indices = λ places is. absurd (cc); ranges = λ kept is. sym (some_one ranges kept is) ∙ same }

@@ -1,8 +1,8 @@
 -- The lists of its true places that a mask lends.
-use Rattle.std.specs.Prelude.{ℕ, ◌≡◌, ◌*◌, ◌≤◌, Bool, true, false, List, length, MatchOption, ⊤}
+use Rattle.std.specs.Prelude.{ℕ, ◌≡◌, ◌*◌, ◌≤◌, Bool, true, false, List, length, ⊤}
 use Rattle.std.specs.Option.{option_map}
 use Rattle.mask_bits.specs.Positions.{positions, count}
-use Rattle.mask_bits.specs.Runs.{AreRuns}
+use Rattle.mask_bits.specs.RunScan.{runs}
 use Rattle.vortex_mask.specs.Mask.{Variant, all_true, all_false, mixed, truth, variant, contents, caches}
 use Rattle.vortex_mask.specs.MaskValues.{Caches, keeping, with_indices, with_ranges}
 use Rattle.vortex_mask.specs.declared.mask.all_or.AllOr.{AllOr}
@@ -10,10 +10,6 @@ use Rattle.vortex_mask.specs.declared.mask.all_or.AllOr.TheVariants.{All, None, 
 use Rattle.vortex_mask.specs.declared.mask.lend.MaskIter.{MaskIter}
 use Rattle.vortex_mask.specs.declared.mask.lend.MaskIter.TheVariants.{Indices, Slices}
 use Rattle.vortex_mask.specs.declared.mask.Mask.{Mask}
-
--- the ranges that are kept, and the maximal ones where none are
-abbrev pub AreKeptOrRuns : List Bool → Caches → List (ℕ × ℕ) → Type 0
-AreKeptOrRuns m kept ranges = MatchOption kept.ranges (AreRuns m ranges) (λ rs. ranges ≡ rs)
 
 -- of each den values at least num are true, taken over the whole list
 abbrev pub ReachesShare : List Bool → ℕ → ℕ → Type 0
@@ -24,10 +20,10 @@ abbrev pub lends_ranges : MaskIter → Bool
 lends_ranges (Indices places) = false
 lends_ranges (Slices ranges) = true
 
--- the true places are lent, or the ranges: those that are kept, else the maximal ones
-abbrev pub IsLentOf : List Bool → Caches → MaskIter → Type 0
-IsLentOf m kept (Indices places) = places.now ≡ positions m
-IsLentOf m kept (Slices ranges) = AreKeptOrRuns m kept ranges.now
+-- the true places are lent, or the runs
+abbrev pub IsLentOf : List Bool → MaskIter → Type 0
+IsLentOf m (Indices places) = places.now ≡ positions m
+IsLentOf m (Slices ranges) = ranges.now ≡ runs m
 
 -- these lists, with the one that is lent kept beside the other
 abbrev pub with_list : MaskIter → Caches → Caches

@@ -1,9 +1,10 @@
 //! Laws of masks. A call of one of these does nothing when it runs: a caller's proof then knows the
 //! law.
 
-ghost use Rattle.std.specs.Prelude.{ℕ, ◌≡◌, List};
+ghost use Rattle.std.specs.Prelude.{◌≡◌};
+ghost use Rattle.std.specs.Option.{ForSome};
+ghost use Rattle.mask_bits.specs.RunScan.{runs};
 ghost use Rattle.mask_bits.specs.Runs.{AreRanges};
-ghost use Rattle.vortex_mask.specs.Lend.{AreKeptOrRuns};
 ghost use Rattle.vortex_mask.specs.Laws.{UniformIsOfOneValue, NoIndexFault, AllTrueHasTrueValues, AllFalseHasFalseValues};
 ghost use Rattle.vortex_mask.specs.Mask.{truth, variant, fitting_variant, caches};
 ghost use Rattle.vortex_mask.specs.MaskValues.{AreOf};
@@ -24,13 +25,11 @@ pub fn one_variant(mask: &Mask)
     }
 }
 
-/// A caller may read the lists that a mask keeps, and the ranges that it lends: they are of its own
-/// true places.
-#[tactic(auto, using(crate::proofs::VariantLemmas::ranges_from_AreKeptOrRuns))]
+/// A caller may read the lists that a mask keeps or lends: they are its true places, and its runs,
+/// which hold exactly these places.
 pub fn kept_lists(mask: &Mask)
     ensures kept { AreOf (truth mask.now) (caches mask.now) }
-    ensures lent { (rs : List (ℕ × ℕ)) → AreKeptOrRuns (truth mask.now) (caches mask.now) rs
-        → AreRanges (truth mask.now) rs }
+    ensures lent { AreRanges (truth mask.now) (runs (truth mask.now)) }
 {
     match mask {
         Mask::AllTrue(_) => {}
@@ -40,6 +39,17 @@ pub fn kept_lists(mask: &Mask)
             let _ = values.cached_slices();
         }
     }
+}
+
+/// Masks of one list keep equal ranges where both keep them, however they were made. What they lend
+/// is equal by `Mask::slices`.
+pub fn one_list_of_ranges(left: &Mask, right: &Mask)
+    requires { truth left.now ≡ truth right.now }
+    ensures { ForSome (caches left.now).ranges
+        (λ rs. ForSome (caches right.now).ranges (λ ss. rs ≡ ss)) }
+{
+    kept_lists(left);
+    kept_lists(right);
 }
 
 /// A list is uniform exactly if it is a number of true values or of false ones.

@@ -24,15 +24,15 @@ inside-past i r h = and_right (nat_le r.0 i) (nat_lt i r.1) (le-ltb i r.1 h)
 -- ---- ranges that lie apart, by recursion
 
 -- nonempty ranges from low to high, with a place between each and the next
-abbrev Spread : ℕ → ℕ → List (ℕ × ℕ) → Type 0
+abbrev pub Spread : ℕ → ℕ → List (ℕ × ℕ) → Type 0
 Spread low high [] = Unit {0}
 Spread low high (r ∷ rs) = (low ≤ r.0) × (r.0 < r.1) × (r.1 ≤ high) × Spread (r.1 + 1) high rs
 
 -- the runs of a list whose first place is n, and whose end is high
-record RunsOf (n high : ℕ) (m : List Bool) (rs : List (ℕ × ℕ)) : Type 0 where
-  top : high ≡ n + length m
-  spread : Spread n high rs
-  exact : (i j : ℕ) → i ≡ n + j → j < length m → get_or m j false ≡ list_any (is_inside i) rs
+pub record RunsOf (n high : ℕ) (m : List Bool) (rs : List (ℕ × ℕ)) : Type 0 where
+  pub top : high ≡ n + length m
+  pub spread : Spread n high rs
+  pub exact : (i j : ℕ) → i ≡ n + j → j < length m → get_or m j false ≡ list_any (is_inside i) rs
 
 -- a lower bound may be lowered
 Spread-lower : (a b high : ℕ) (rs : List (ℕ × ℕ)) → a ≤ b → Spread b high rs → Spread a high rs
@@ -192,7 +192,7 @@ from_rest n high m (r ∷ rs) of rest =
     ]
 
 -- runs are the scan's
-runs_from-RunsOf : (n high : ℕ) (m : List Bool) (rs : List (ℕ × ℕ)) → RunsOf n high m rs → rs ≡ runs_from n m
+pub runs_from-RunsOf : (n high : ℕ) (m : List Bool) (rs : List (ℕ × ℕ)) → RunsOf n high m rs → rs ≡ runs_from n m
 runs_from-RunsOf n high [] [] of = refl
 runs_from-RunsOf n high [] (r ∷ rs) of =
     let s : Spread n high (r ∷ rs) = of.spread in

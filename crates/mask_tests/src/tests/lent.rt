@@ -45,19 +45,19 @@ fn lends_ranges(
     Ok(())
 }
 
-// A mask that keeps these ranges lends them and the places, and keeps both; so does its whole.
+// A mask of these ranges lends its runs and the places, and keeps both; so does its whole.
 fn of_ranges(
     rt: &impl Abort,
     alloc: Global,
     len: usize,
     ranges: &[(usize, usize)],
-    places: &[usize],
+    want: (&[usize], &[(usize, usize)]),
 ) -> Result<(), MaskError> {
     let mut mask = Mask::from_slices(alloc, len, ranges.to_vec(alloc)?)?;
-    lends_places(rt, alloc, &mut mask, places)?;
-    keeps(rt, &mask, (Some(places), Some(ranges)));
-    lends_ranges(rt, alloc, &mut mask, ranges)?;
-    keeps_in_parts(rt, alloc, &mask, (places, ranges))
+    lends_places(rt, alloc, &mut mask, want.0)?;
+    keeps(rt, &mask, (Some(want.0), Some(want.1)));
+    lends_ranges(rt, alloc, &mut mask, want.1)?;
+    keeps_in_parts(rt, alloc, &mask, want)
 }
 
 fn keeps_in_parts(
@@ -79,15 +79,21 @@ fn keeps_in_parts(
 
 #[test]
 fn masks_of_ranges(rt: HostRuntime) -> Result<(), Fail> {
-    for (len, ranges, places) in [
+    for (len, ranges, places, runs) in [
         (
             10,
             [(0, 3), (5, 7), (9, 10)].as_slice(),
             [0, 1, 2, 5, 6, 9].as_slice(),
+            [(0, 3), (5, 7), (9, 10)].as_slice(),
         ),
-        (8, [(1, 3), (3, 4)].as_slice(), [1, 2, 3].as_slice()),
+        (
+            8,
+            [(1, 3), (3, 4)].as_slice(),
+            [1, 2, 3].as_slice(),
+            [(1, 4)].as_slice(),
+        ),
     ] {
-        of_ranges(&rt, rt.alloc(), len, ranges, places)?;
+        of_ranges(&rt, rt.alloc(), len, ranges, (places, runs))?;
     }
     Ok(())
 }
@@ -168,6 +174,19 @@ fn thresholds(rt: HostRuntime) -> Result<(), Fail> {
         ((usize::MAX, usize::MAX), false),
     ] {
         at_threshold(&rt, rt.alloc(), share, by_ranges)?;
+    }
+    Ok(())
+}
+
+#[test]
+fn touching_ranges_at_a_threshold(rt: HostRuntime) -> Result<(), Fail> {
+    let ranges = Vec::from_slice(rt.alloc(), &[(1, 3), (3, 4), (6, 8)])?;
+    let mut mask = Mask::from_slices(rt.alloc(), 8, ranges)?;
+    match mask.threshold_iter(rt.alloc(), 1, 2)? {
+        AllOr::Some(MaskIter::Slices(runs)) => {
+            assert!(rt; runs == [(1, 4), (6, 8)].as_slice());
+        }
+        _ => assert!(rt; false, "ranges are lent"),
     }
     Ok(())
 }

@@ -1,4 +1,5 @@
 // Masks made of ranges, alone and with a buffer of their values.
+ghost use Rattle.std.specs.Prelude.{◌≤◌};
 ghost use Rattle.mask_bits.specs.Runs.{AreRanges};
 ghost use Rattle.vortex_mask.specs.Mask.{truth};
 
@@ -57,18 +58,18 @@ fn faults_of_ranges(rt: HostRuntime) -> Result<(), Fail> {
     Ok(())
 }
 
-// Mixed values keep these ranges and no places.
-fn keeps(rt: &impl Abort, mask: &Mask, ranges: &[(usize, usize)]) {
+// Mixed values keep these runs and no places.
+fn keeps(rt: &impl Abort, mask: &Mask, runs: &[(usize, usize)]) {
     if let Some(values) = mask.values() {
-        assert!(rt; values.cached_slices() == Some(ranges));
+        assert!(rt; values.cached_slices() == Some(runs));
         assert!(rt; values.cached_indices().is_none());
     }
 }
 
-fn is_made(rt: &impl Abort, mask: &Mask, ranges: &[(usize, usize)], want: (&str, &str)) {
+fn is_made(rt: &impl Abort, mask: &Mask, runs: &[(usize, usize)], want: (&str, &str)) {
     lists(rt, mask, want.0);
     is_held_as(rt, mask, want.1);
-    keeps(rt, mask, ranges);
+    keeps(rt, mask, runs);
 }
 
 // The mask of a buffer of a mask's values with ranges that hold exactly its true places.
@@ -79,17 +80,18 @@ fn made_again(alloc: Global, mask: &Mask, ranges: &[(usize, usize)]) -> Result<M
     Mask::from_buffer_with_slices(alloc, buffer, ranges.to_vec(alloc)?)
 }
 
-// The mask of the ranges, and the one of a buffer of its values with the same ranges.
+// The mask of the ranges, and the one of a buffer of its values with the same ranges, keep the runs.
 fn makes(
     rt: &impl Abort,
     alloc: Global,
     len: usize,
     ranges: &[(usize, usize)],
+    runs: &[(usize, usize)],
     want: (&str, &str),
 ) -> Result<(), MaskError> {
     let mask = Mask::from_slices(alloc, len, ranges.to_vec(alloc)?)?;
-    is_made(rt, &mask, ranges, want);
-    is_made(rt, &made_again(alloc, &mask, ranges)?, ranges, want);
+    is_made(rt, &mask, runs, want);
+    is_made(rt, &made_again(alloc, &mask, ranges)?, runs, want);
     Ok(())
 }
 
@@ -101,18 +103,70 @@ fn masks_of_ranges(rt: HostRuntime) -> Result<(), Fail> {
         (8, [].as_slice(), ("00000000", "AllFalse")),
         (0, [].as_slice(), ("", "AllFalse")),
         (
-            8,
-            [(1, 3), (3, 4), (6, 8)].as_slice(),
-            ("01110011", "Values"),
-        ),
-        (
             10,
             [(0, 3), (5, 7), (9, 10)].as_slice(),
             ("1110011001", "Values"),
         ),
     ] {
-        makes(&rt, rt.alloc(), len, ranges, want)?;
+        makes(&rt, rt.alloc(), len, ranges, ranges, want)?;
     }
+    Ok(())
+}
+
+#[test]
+fn touching_ranges(rt: HostRuntime) -> Result<(), Fail> {
+    for (ranges, runs, want) in [
+        (
+            [(1, 3), (3, 4), (6, 8)].as_slice(),
+            [(1, 4), (6, 8)].as_slice(),
+            "01110011",
+        ),
+        (
+            [(1, 3), (3, 4), (4, 5), (7, 8)].as_slice(),
+            [(1, 5), (7, 8)].as_slice(),
+            "01111001",
+        ),
+        (
+            [(0, 1), (2, 3), (4, 5), (5, 8)].as_slice(),
+            [(0, 1), (2, 3), (4, 8)].as_slice(),
+            "10101111",
+        ),
+        ([(1, 3), (3, 4)].as_slice(), [(1, 4)].as_slice(), "01110000"),
+    ] {
+        makes(&rt, rt.alloc(), 8, ranges, runs, (want, "Values"))?;
+    }
+    Ok(())
+}
+
+// The mask of ten thousand ranges of one place each: two that touch at each `stride` places.
+fn mask_of_pairs(alloc: Global, stride: usize) -> Result<Mask, MaskError>
+    requires { stride ≤ 3 }
+{
+    let mut ranges = Vec::new(alloc);
+    for pair in 0..5_000 {
+        let start = pair * stride;
+        ranges.push((start, start + 1))?;
+        ranges.push((start + 1, start + 2))?;
+    }
+    Mask::from_slices(alloc, 20_000, ranges)
+}
+
+#[test]
+fn ten_thousand_ranges_that_touch(rt: HostRuntime) -> Result<(), Fail> {
+    let mask = mask_of_pairs(rt.alloc(), 2)?;
+    same(&rt, mask.true_count(), 10_000);
+    keeps(&rt, &mask, &[(0, 10_000)]);
+    Ok(())
+}
+
+#[test]
+fn ten_thousand_ranges_that_touch_in_pairs(rt: HostRuntime) -> Result<(), Fail> {
+    let mask = mask_of_pairs(rt.alloc(), 3)?;
+    same(&rt, mask.true_count(), 10_000);
+    let runs: Vec<(usize, usize)> = (0..5_000)
+        .map(|pair| (3 * pair, 3 * pair + 2))
+        .collect(rt.alloc())?;
+    keeps(&rt, &mask, &runs);
     Ok(())
 }
 

@@ -1,5 +1,6 @@
-ghost use Rattle.std.specs.Prelude.{◌≡◌, ◌<◌, ◌≤◌, ◌^◌, ◌⊎◌, IsOk, IfOk, IfErr, OnOk, IfSome, All, Some, None, Ok, Err, alloc_error, IsOkUnless, length};
+ghost use Rattle.std.specs.Prelude.{◌≡◌, ◌<◌, ◌≤◌, ◌^◌, ◌⊎◌, if◌then◌else◌, IsOk, IfOk, IfErr, OnOk, IfSome, All, Some, None, Ok, Err, alloc_error, IsOkUnless, length, nat_eq, List, Bool};
 ghost use Rattle.mask_bits.specs.Buffer.{values};
+ghost use Rattle.mask_bits.specs.RunScan.{runs};
 ghost use Rattle.mask_bits.specs.Runs.{AreRanges};
 ghost use Rattle.vortex_mask.specs.Faults as faults;
 ghost use Rattle.vortex_mask.specs.Faults.{range_fault};
@@ -12,8 +13,9 @@ use mask_bits::{BitBuffer, BitBufferMut};
 use std::alloc::{AllocError, Global};
 
 impl Mask {
-    /// The mask of `len` values that is true exactly in these ranges, which it keeps where some
-    /// values are true and some are not. Ranges may touch. No values give `AllFalse(0)`.
+    /// The mask of `len` values that is true exactly in these ranges. Where some values are true and
+    /// some are not it keeps its maximal ranges: those that touch are merged, in the memory that
+    /// came with them. No values give `AllFalse(0)`.
     ///
     /// All ranges are tested before any memory is taken: `BadRange` is told of the first that is
     /// empty or passes the length, else `UnsortedRanges` or `OverlappingRanges` of the first that
@@ -27,7 +29,7 @@ impl Mask {
         ensures list { IfOk result (λ m. AreRanges (truth m) ranges.items) }
         ensures variant { IfOk result (λ m. variant m ≡ fitting_variant all_false (truth m)) }
         ensures caches { IfOk result
-            (λ m. caches m ≡ where_mixed m (kept_ranges ranges.items)) }
+            (λ m. caches m ≡ where_mixed m (kept_ranges (runs (truth m)))) }
 
         // A fault is told before any memory is taken, and nothing else but want of memory is.
         ensures faultless { OnOk result (range_fault len ranges.items ≡ None) }
@@ -45,21 +47,23 @@ impl Mask {
         Mask::of_ranges(alloc, len, ranges)
     }
 
-    /// The values of a buffer, which keep these ranges where some values are true and some are
-    /// not. The ranges may touch. An empty buffer gives `AllFalse(0)`.
+    /// The values of a buffer, whose true places these ranges hold. Where some values are true and
+    /// some are not the mask keeps its maximal ranges: those that touch are merged, in the memory
+    /// that came with them. An empty buffer gives `AllFalse(0)`.
     pub fn from_buffer_with_slices(
         alloc: Global,
         buffer: BitBuffer,
-        ranges: Vec<(usize, usize)>,
+        mut ranges: Vec<(usize, usize)>,
     ) -> Result<Mask, MaskError>
         requires { AreRanges (values buffer) ranges.items }
         ensures list { IfOk result (λ m. truth m ≡ values buffer) }
         ensures variant { IfOk result (λ m. variant m ≡ fitting_variant all_false (values buffer)) }
         ensures caches { IfOk result
-            (λ m. caches m ≡ where_mixed m (kept_ranges ranges.items)) }
+            (λ m. caches m ≡ where_mixed m (kept_ranges (runs (values buffer)))) }
         ensures uniform { IsUniform (values buffer) → IsOk result }
         ensures refused { IsOkUnless result (MaskError.Memory alloc_error) }
     {
+        merge_touching(&mut ranges);
         Mask::of_buffer(alloc, buffer, Some(ranges))
     }
 
@@ -70,7 +74,7 @@ impl Mask {
         ensures list { IfOk result (λ m. AreRanges (truth m) ranges.items) }
         ensures variant { IfOk result (λ m. variant m ≡ fitting_variant all_false (truth m)) }
         ensures caches { IfOk result
-            (λ m. caches m ≡ where_mixed m (kept_ranges ranges.items)) }
+            (λ m. caches m ≡ where_mixed m (kept_ranges (runs (truth m)))) }
         ensures uniform { (places_held ranges.items ≡ 0) ⊎ (places_held ranges.items ≡ len)
             → IsOk result }
         ensures refused { IsOkUnless result (MaskError.Memory alloc_error) }
@@ -116,6 +120,26 @@ fn neighbours_fault(ranges: &[(usize, usize)]) -> Option<MaskError>
         }
     }
     None
+}
+
+// Merges ranges that touch, in place: what held exactly the true places of a list is its runs then.
+fn merge_touching(ranges: &mut Vec<(usize, usize)>)
+    ensures runs { (m : List Bool) → AreRanges m ranges.old.items → ranges.new.items ≡ runs m }
+{
+    ranges.dedup_by(lengthens);
+}
+
+// Whether `range` begins where `run` ends, which then ends where `range` does.
+fn lengthens(range: &mut (usize, usize), run: &mut (usize, usize)) -> bool
+    ensures touch { result ≡ nat_eq range.old.0 run.old.1 }
+    ensures run { run.new ≡ (if result then (run.old.0, range.old.1) else run.old) }
+    ensures range { range.new ≡ range.old }
+{
+    let touch = range.0 == run.1;
+    if touch {
+        run.1 = range.1;
+    }
+    touch
 }
 
 // How many places the ranges hold.

@@ -1,8 +1,9 @@
-ghost use Rattle.std.specs.Prelude.{◌≡◌, ◌≢◌, ◌*◌, ◌<◌, ◌↔◌, true, false, IsTrue, IsOk, IsSome, IsSomeAnd, IfOk, OnErr, Some, length, IsOkUnless, alloc_error};
+ghost use Rattle.std.specs.Prelude.{◌≡◌, ◌≢◌, ◌*◌, ◌<◌, ◌↔◌, true, false, IsTrue, IsOk, IsSome, IfOk, OnErr, Some, length, IsOkUnless, alloc_error};
 ghost use Rattle.std.specs.Borrow.{sem};
 ghost use Rattle.std.specs.Io.BufRead.{Rests};
 ghost use Rattle.mask_bits.specs.Positions.{positions, count};
-ghost use Rattle.vortex_mask.specs.Lend.{AreKeptOrRuns, ReachesShare, lends_ranges, IsLentOf, with_list, lender_variant, IfLent, with_lent, IsKeeping};
+ghost use Rattle.mask_bits.specs.RunScan.{runs};
+ghost use Rattle.vortex_mask.specs.Lend.{ReachesShare, lends_ranges, IsLentOf, with_list, lender_variant, IfLent, with_lent, IsKeeping};
 ghost use Rattle.vortex_mask.specs.Mask.{truth, variant, mixed, caches};
 ghost use Rattle.vortex_mask.specs.MaskValues.{with_indices, with_ranges};
 ghost use Rattle.vortex_mask.specs.contracts.mask.Mask.{the_row};
@@ -11,12 +12,12 @@ use crate::mask::{AllOr, Mask, MaskError};
 use std::alloc::Global;
 use std::rc::Rc;
 
-/// A list of the true places of a mask: the places, or ranges that hold exactly these.
+/// A list of the true places of a mask: the places, or the maximal ranges that hold them.
 #[derive(Drop)]
 pub enum MaskIter<'a> {
     /// The places, ascending.
     Indices(&'a [usize]),
-    /// Ranges, ascending, each its first place and the place past its last.
+    /// The maximal ranges, ascending, each its first place and the place past its last.
     Slices(&'a [(usize, usize)]),
 }
 
@@ -49,13 +50,13 @@ impl Mask {
         })
     }
 
-    /// `All`, `None` or ranges that hold exactly the true places, ascending, by variant. The ranges
-    /// are those that are kept, else the maximal ones. Each is its first place and the place past
-    /// its last.
+    /// `All`, `None` or the maximal ranges of true places, ascending, by variant. Each is its first
+    /// place and the place past its last. Equal masks that are mixed lend equal ranges, however they
+    /// were made.
     pub fn slices(&mut self, alloc: Global) -> Result<AllOr<&[(usize, usize)]>, MaskError>
         ensures variant { IfOk result (λ lent. lender_variant lent ≡ variant self.old) }
         ensures list { IfOk result (λ lent. IfLent lent
-            (λ ranges. AreKeptOrRuns (truth self.old) (caches self.old) ranges.now)) }
+            (λ ranges. ranges.now ≡ runs (truth self.old))) }
 
         // Once the list is no longer borrowed, it is kept.
         ensures* after { sem 𝓛 (Rests the_row self.entry (λ new.
@@ -88,7 +89,7 @@ impl Mask {
         ensures threshold { IfOk result (λ lent. IfLent lent (λ list. IsTrue (lends_ranges list)
             ↔ ReachesShare (truth self.old) num den)) }
         ensures list { IfOk result (λ lent. IfLent lent
-            (IsLentOf (truth self.old) (caches self.old))) }
+            (IsLentOf (truth self.old))) }
 
         // Once the list is no longer borrowed, it is kept.
         ensures* after { sem 𝓛 (Rests the_row self.entry (λ new.
@@ -151,12 +152,10 @@ impl Mask {
         Ok(())
     }
 
-    // Keeps the maximal ranges where the mask is mixed and has none, in the same way.
+    // Keeps the maximal ranges where the mask is mixed, in the same way.
     fn fill_slices(&mut self, alloc: Global) -> Result<(), MaskError>
-        ensures filled { IfOk result (λ _. variant self.old ≡ mixed → IsSomeAnd (caches self.new).ranges
-            (AreKeptOrRuns (truth self.old) (caches self.old))) }
-        ensures rest { IsKeeping self.old
-            (record (caches self.old) { ranges = (caches self.new).ranges }) self.new }
+        ensures filled { IfOk result (λ _. variant self.old ≡ mixed → IsKeeping self.old
+            (with_ranges (runs (truth self.old)) (caches self.old)) self.new) }
         ensures stays { variant self.old ≢ mixed → self.new ≡ self.old }
         ensures unfilled { OnErr result (self.new ≡ self.old) }
         ensures kept { IsSome (caches self.old).ranges → IsOk result }

@@ -16,7 +16,7 @@ pub type MaskValuesRef = Rc<MaskValues>;
 
 /// A bit buffer in which some values are true and some are not, with the count of the true ones.
 ///
-/// It may keep the list of the true places, and a list of ranges that hold exactly these.
+/// It may keep the list of the true places, and the list of the maximal ranges that hold them.
 #[derive(Drop)]
 pub struct MaskValues {
     buffer: BitBuffer,
@@ -115,7 +115,7 @@ impl MaskValues {
         self.indices.as_deref()
     }
 
-    /// Ranges that hold exactly the true places, ascending, if they are kept.
+    /// The maximal ranges of true places, ascending, if they are kept.
     pub fn cached_slices(&self) -> Option<&[(usize, usize)]>
         ensures kept { option_map (λ ranges. ranges.now) result ≡ self.now.caches.ranges }
         ensures whole { AreOf (values self.now.buffer) self.now.caches }

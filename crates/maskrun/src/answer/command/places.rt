@@ -40,7 +40,6 @@ pub(crate) fn ranges(alloc: Global, a: &MaskArgument) -> Result<String, RunError
     ensures fault { IfErr result (λ e. e ≡ out_of_memory) }
 {
     laws::runs_of_one_value();
-    laws::runs_are_the_list();
     vortex_mask::laws::variants_of_one_value();
     let mut mask = a.mask(alloc)?;
     let len = mask.len();

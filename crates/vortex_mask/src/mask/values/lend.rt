@@ -1,14 +1,15 @@
-ghost use Rattle.std.specs.Prelude.{◌≡◌, ◌*◌, ◌<◌, ◌↔◌, IsTrue, IsOk, IsSome, IsSomeAnd, IfOk, OnErr, Some, length, IsOkUnless, alloc_error};
+ghost use Rattle.std.specs.Prelude.{◌≡◌, ◌*◌, ◌<◌, ◌↔◌, IsTrue, IsOk, IsSome, IfOk, OnErr, Some, length, IsOkUnless, alloc_error};
 ghost use Rattle.std.specs.Borrow.{sem};
 ghost use Rattle.std.specs.Io.BufRead.{Rests};
 ghost use Rattle.mask_bits.specs.Buffer.{values};
 ghost use Rattle.mask_bits.specs.Positions.{positions, count};
-ghost use Rattle.mask_bits.specs.Runs.{AreRuns};
-ghost use Rattle.vortex_mask.specs.Lend.{AreKeptOrRuns, ReachesShare, lends_ranges, IsLentOf, with_list};
+ghost use Rattle.mask_bits.specs.RunScan.{runs};
+ghost use Rattle.vortex_mask.specs.Lend.{ReachesShare, lends_ranges, IsLentOf, with_list};
 ghost use Rattle.vortex_mask.specs.MaskValues.{keeping, with_indices, with_ranges};
 ghost use Rattle.vortex_mask.specs.contracts.mask.values.MaskValues.{the_row};
 
 use crate::mask::{MaskError, MaskIter, MaskValues};
+use mask_bits::laws;
 use std::alloc::{AllocError, Global};
 
 /// Lists of the true places, made where they are not kept yet, and kept from then on.
@@ -31,11 +32,10 @@ impl MaskValues {
         Ok(self.kept_indices())
     }
 
-    /// Ranges that hold exactly the true places, ascending: those that are kept, else the maximal
-    /// ones. Each is its first place and the place past its last.
+    /// The maximal ranges of true places, ascending. Each is its first place and the place past its
+    /// last.
     pub fn slices(&mut self, alloc: Global) -> Result<&[(usize, usize)], MaskError>
-        ensures list { IfOk result (λ ranges.
-            AreKeptOrRuns (values self.old.buffer) self.old.caches ranges.now) }
+        ensures list { IfOk result (λ ranges. ranges.now ≡ runs (values self.old.buffer)) }
 
         // Once the list is no longer borrowed, it is kept.
         ensures* after { sem 𝓛 (Rests the_row self.entry (λ new.
@@ -60,7 +60,7 @@ impl MaskValues {
         requires { 0 < den }
         ensures threshold { IfOk result (λ lent. IsTrue (lends_ranges lent)
             ↔ ReachesShare (values self.old.buffer) num den) }
-        ensures list { IfOk result (IsLentOf (values self.old.buffer) self.old.caches) }
+        ensures list { IfOk result (IsLentOf (values self.old.buffer)) }
 
         // Once the list is no longer borrowed, it is kept.
         ensures* after { sem 𝓛 (Rests the_row self.entry (λ new.
@@ -99,10 +99,11 @@ impl MaskValues {
         self.indices.as_deref().unwrap()
     }
 
-    // The ranges, which are kept.
+    // The maximal ranges, which are kept.
     pub(crate) fn kept_slices(&self) -> &[(usize, usize)]
         requires { IsSome self.now.caches.ranges }
-        ensures { Some result.now ≡ self.now.caches.ranges }
+        ensures list { result.now ≡ runs (values self.now.buffer) }
+        ensures kept { Some result.now ≡ self.now.caches.ranges }
     {
         self.slices.as_deref().unwrap()
     }
@@ -123,10 +124,8 @@ impl MaskValues {
 
     // Makes the list of the maximal ranges, then keeps it, where there is none.
     fn fill_slices(&mut self, alloc: Global) -> Result<(), MaskError>
-        ensures filled { IfOk result (λ _. IsSomeAnd self.new.caches.ranges
-            (AreKeptOrRuns (values self.old.buffer) self.old.caches)) }
-        ensures rest { self.new
-            ≡ keeping (record self.old.caches { ranges = self.new.caches.ranges }) self.old }
+        ensures filled { IfOk result (λ _. self.new
+            ≡ keeping (with_ranges (runs (values self.old.buffer)) self.old.caches) self.old) }
         ensures unfilled { OnErr result (self.new ≡ self.old) }
         ensures kept { IsSome self.old.caches.ranges → IsOk result }
         ensures refused { IsOkUnless result (MaskError.Memory alloc_error) }
@@ -151,10 +150,8 @@ impl MaskValues {
 
     // The same values with their maximal ranges kept.
     pub(crate) fn with_slices(&self, alloc: Global) -> Result<MaskValues, MaskError>
-        ensures filled { IfOk result (λ v. IsSomeAnd v.caches.ranges
-            (AreRuns (values self.now.buffer))) }
-        ensures rest { IfOk result (λ v. v
-            ≡ keeping (record self.now.caches { ranges = v.caches.ranges }) self.now) }
+        ensures filled { IfOk result (λ v. v
+            ≡ keeping (with_ranges (runs (values self.now.buffer)) self.now.caches) self.now) }
         ensures refused { IsOkUnless result (MaskError.Memory alloc_error) }
     {
         let runs = self.runs(alloc)?;
@@ -174,8 +171,9 @@ impl MaskValues {
 
     // The maximal ranges of true places.
     fn runs(&self, alloc: Global) -> Result<Vec<(usize, usize)>, AllocError>
-        ensures { IfOk result (λ runs. AreRuns (values self.now.buffer) runs.items) }
+        ensures { IfOk result (λ ranges. ranges.items ≡ runs (values self.now.buffer)) }
     {
+        laws::runs_are_the_list();
         self.buffer.set_slices().collect(alloc)
     }
 }

@@ -1,0 +1,73 @@
+//! Reads of a column by ranges of rows: masks of the same rows are read by equal ranges, however they
+//! were made.
+ghost use Rattle.std.specs.Prelude.{◌≡◌, IfOk, IfSome};
+ghost use Rattle.mask_bits.specs.RunScan.{runs};
+ghost use Rattle.vortex_mask.specs.Mask.{truth};
+
+use std::alloc::Global;
+use vortex_mask::{AllOr, Mask, MaskError};
+
+/// The ranges of the rows of an index, given as ranges that may touch, and of a filter, given one by
+/// one. They are equal. There are none where the two do not choose the same rows.
+pub fn ranges_both_ways(
+    alloc: Global,
+    len: usize,
+    index: Vec<(usize, usize)>,
+    filter: &[usize],
+) -> Result<Option<(Vec<(usize, usize)>, Vec<(usize, usize)>)>, MaskError>
+    ensures same { IfOk result (λ both. IfSome both (λ lists. lists.0.items ≡ lists.1.items)) }
+{
+    let mut by_index = Mask::from_slices(alloc, len, index)?;
+    let mut by_filter = Mask::from_indices(alloc, len, filter.iter().copied())?;
+    if by_index == by_filter {
+        let left = ranges_of(alloc, &mut by_index)?;
+        let right = ranges_of(alloc, &mut by_filter)?;
+        Ok(Some((left, right)))
+    } else {
+        Ok(None)
+    }
+}
+
+/// The ranges of the rows that a mask chooses, none of which touches another.
+pub fn ranges_of(alloc: Global, mask: &mut Mask) -> Result<Vec<(usize, usize)>, MaskError>
+    ensures { IfOk result (λ ranges. ranges.items ≡ runs (truth mask.old)) }
+{
+    mask_bits::laws::runs_of_one_value();
+    vortex_mask::laws::variants_of_one_value();
+    let len = mask.len();
+    if mask.is_empty() {
+        return Ok(Vec::new(alloc));
+    }
+    match mask.slices(alloc)? {
+        AllOr::All => Ok(Vec::from_slice(alloc, &[(0, len)])?),
+        AllOr::None => Ok(Vec::new(alloc)),
+        AllOr::Some(ranges) => Ok(Vec::from_slice(alloc, ranges)?),
+    }
+}
+
+#[cfg(test)]
+mod tests {
+    use super::ranges_both_ways;
+    use std::process::Abort;
+    use std::test::Fail;
+
+    #[test]
+    fn of_touching_ranges(rt: HostRuntime) -> Result<(), Fail> {
+        for (filter, want) in [
+            (
+                [1, 2, 3, 4, 7].as_slice(),
+                Some([(1, 5), (7, 8)].as_slice()),
+            ),
+            ([1, 2, 3, 4].as_slice(), None),
+        ] {
+            let index = Vec::from_slice(rt.alloc(), &[(1, 3), (3, 4), (4, 5), (7, 8)])?;
+            match ranges_both_ways(rt.alloc(), 8, index, filter)? {
+                Some((left, right)) => {
+                    assert!(rt; want == Some(left.as_slice()) && want == Some(right.as_slice()));
+                }
+                None => assert!(rt; want.is_none()),
+            }
+        }
+        Ok(())
+    }
+}
