@@ -98,7 +98,7 @@ impl Mask {
         Mask::of_buffer(alloc, buffer, None)
     }
 
-    // The values of a buffer, which keep these ranges of its true places where they are mixed.
+    // The values of a buffer, which keep these ranges, its runs, where they are mixed.
     fn of_buffer(
         alloc: Global,
         buffer: BitBuffer,
