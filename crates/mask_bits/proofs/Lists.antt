@@ -20,5 +20,6 @@ pub mod RunListLemmas
 pub mod ScanLemmas
 pub mod SelectLemmas
 pub mod ShiftLemmas
+pub mod StackLemmas
 pub mod WalkLemmas
 pub mod WordLemmas

@@ -1,5 +1,5 @@
 -- What holds of all lists of truth values, whatever holds them.
-use Rattle.std.specs.Prelude.{ℕ, ◌+◌, ◌-◌, ◌*◌, ◌/◌, ◌^◌, ◌≡◌, ◌<◌, ◌≤◌, ◌&&◌, ◌↔◌, Bool, true, false, IsTrue, List, [], ◌∷◌, ◌++◌, length, All, Any, sum_by, nat_eq, count_by, count_ones, flat_map, slice_get, slice_index, slice_index_or, min, slice_range}
+use Rattle.std.specs.Prelude.{ℕ, ◌+◌, ◌-◌, ◌*◌, ◌/◌, ◌^◌, ◌≡◌, ◌<◌, ◌≤◌, ◌&&◌, ◌↔◌, Bool, true, false, IsTrue, List, [], ◌∷◌, ◌++◌, fold, length, All, Any, sum_by, nat_eq, count_by, count_ones, flat_map, slice_get, slice_index, slice_index_or, min, slice_range}
 use Rattle.std.specs.Int.{div_ceil}
 use Rattle.std.specs.List.{range_with_len, filter_map}
 use Rattle.mask_bits.specs.Buffer.{Packed, values, same_values}
@@ -7,7 +7,7 @@ use Rattle.mask_bits.specs.Lists.{and_of, or_of, not_of, and_not_of, joined, lim
 use Rattle.mask_bits.specs.Positions.{positions, count, count_below, repeated, at_places, rank_intersection, chosen}
 use Rattle.mask_bits.specs.RunScan.{runs}
 use Rattle.mask_bits.specs.Runs.{AreRuns, AreRanges}
-use Rattle.mask_bits.specs.Stacks.{IsStack}
+use Rattle.mask_bits.specs.Stacks.{IsStack, folded_left, folded_right}
 use Rattle.mask_bits.specs.Words.{word_bits, word_parts, padded_remainder}
 
 -- ---- true places, and how many there are
@@ -136,6 +136,42 @@ RankIntersectionPosition = (a b : List Bool) (n : ℕ) → length b ≡ count a 
 -- a stack whose first two masks are made one is a stack
 abbrev pub FoldingKeepsAStack : Type 0
 FoldingKeepsAStack = (a b : List Bool) (ms : List (List Bool)) → IsStack (a ∷ b ∷ ms) → IsStack (rank_intersection a b ∷ ms)
+
+-- ---- stacks
+
+-- a stack folds alike from the left and from the right
+abbrev pub StackFoldsAlike : Type 0
+StackFoldsAlike = (ms : List (List Bool)) → IsStack ms → folded_left ms ≡ folded_right ms
+
+-- a single mask is its own fold, from either end
+abbrev pub FoldOfOne : Type 0
+FoldOfOne = (m : List Bool) → (folded_left (m ∷ []) ≡ m) × (folded_right (m ∷ []) ≡ m)
+
+-- more masks fold from the left to the fold of all but the last, narrowed by the last
+abbrev pub FoldedLeftByTheLast : Type 0
+FoldedLeftByTheLast = (first last : List Bool) (ms : List (List Bool)) → folded_left (first ∷ ms ++ last ∷ []) ≡ rank_intersection (folded_left (first ∷ ms)) last
+
+-- the fold is as long as the first mask
+abbrev pub LengthOfFold : Type 0
+LengthOfFold = (first : List Bool) (ms : List (List Bool)) → length (folded_left (first ∷ ms)) ≡ length first
+
+-- the fold of a stack has as many true values as the last mask
+abbrev pub CountOfFold : Type 0
+CountOfFold = (last : List Bool) (ms : List (List Bool)) → IsStack (ms ++ last ∷ []) → count (folded_left (ms ++ last ∷ [])) ≡ count last
+
+-- a stack whose first mask has no true value folds to that mask
+abbrev pub FoldOfNoRow : Type 0
+FoldOfNoRow = (first : List Bool) (ms : List (List Bool)) → count first ≡ 0 → IsStack (first ∷ ms) → folded_left (first ∷ ms) ≡ first
+
+-- two neighbors of a stack may be made one: the masks are still a stack, with the same fold
+abbrev pub NeighborsMakeOne : Type 0
+NeighborsMakeOne = (below above : List (List Bool)) (a b : List Bool) → IsStack (below ++ a ∷ b ∷ above)
+    → IsStack (below ++ rank_intersection a b ∷ above) × (folded_left (below ++ rank_intersection a b ∷ above) ≡ folded_left (below ++ a ∷ b ∷ above))
+
+-- choosing by the fold of a stack is choosing by each of its masks in turn
+abbrev pub ChoosingInTurn : Type 0 → Type 0
+ChoosingInTurn X = (rows : List X) (first : List Bool) (ms : List (List Bool)) → length rows ≡ length first → IsStack (first ∷ ms)
+    → chosen rows (folded_left (first ∷ ms)) ≡ fold chosen rows (first ∷ ms)
 
 -- ---- runs
 

@@ -242,3 +242,35 @@ pub fn groups()
     ensures places { PlacesLieInGroups }
     ensures count { CountOfGroup }
 {}
+
+ghost use Rattle.mask_bits.specs.Laws.{StackFoldsAlike, FoldOfOne, FoldedLeftByTheLast, LengthOfFold, CountOfFold, FoldOfNoRow, NeighborsMakeOne, ChoosingInTurn};
+
+/// A planner may fold a stack of filters from either end.
+#[tactic(auto, using(crate::proofs::Lists::StackLemmas::stack_folds_alike))]
+pub fn stack_folds_alike()
+    ensures alike { StackFoldsAlike }
+{}
+
+/// A planner that folds from the left narrows what it has by the next filter. It knows how many rows
+/// the fold is of, and how many it chooses: as many as the last filter does. It may stop at a fold
+/// that chooses none.
+#[tactic(auto, using(crate::proofs::Lists::StackLemmas::fold_of_one, crate::proofs::Lists::StackLemmas::folded_left_by_the_last, crate::proofs::Lists::StackLemmas::length_of_fold, crate::proofs::Lists::StackLemmas::count_of_fold, crate::proofs::Lists::StackLemmas::fold_of_no_row))]
+pub fn folds()
+    ensures one { FoldOfOne }
+    ensures last { FoldedLeftByTheLast }
+    ensures len { LengthOfFold }
+    ensures count { CountOfFold }
+    ensures no_row { FoldOfNoRow }
+{}
+
+/// A planner may make any two neighbors of a stack one.
+#[tactic(auto, using(crate::proofs::Lists::StackLemmas::neighbors_make_one))]
+pub fn neighbors_make_one()
+    ensures one { NeighborsMakeOne }
+{}
+
+/// A planner may put the fold of a stack in the place of filters that run one after the other.
+#[tactic(auto, using(crate::proofs::Lists::StackLemmas::choosing_in_turn))]
+pub fn choosing_in_turn<T>()
+    ensures in_turn { ChoosingInTurn T }
+{}

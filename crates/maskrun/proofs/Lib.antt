@@ -1,3 +1,4 @@
 pub mod Examples
 pub mod MaskListLemmas
 pub mod NumberLemmas
+pub mod StackLemmas

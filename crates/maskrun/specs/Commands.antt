@@ -1,14 +1,15 @@
 -- The commands: how each reads its arguments, and the line that it prints.
-use Rattle.std.specs.Prelude.{ℕ, ◌+◌, ◌^◌, Bool, ◌==◌, nat_lt, List, [], ◌∷◌, length, sum_by, slice_range, Result, Ok, Err, codes, alloc_error, if◌then◌else◌}
+use Rattle.std.specs.Prelude.{ℕ, ◌+◌, ◌^◌, Bool, ◌==◌, nat_lt, List, [], ◌∷◌, length, sum_by, slice_range, Option, Some, None, Result, Ok, Err, codes, alloc_error, if◌then◌else◌}
 use Rattle.std.specs.Fmt.{decimal}
 use Rattle.std.specs.Str.{bytes_eq}
 use Rattle.mask_bits.specs.Lists.{and_of, or_of, and_not_of, not_of, limited, joined}
 use Rattle.mask_bits.specs.Positions.{positions, count, rank_intersection}
 use Rattle.mask_bits.specs.RunScan.{runs}
+use Rattle.mask_bits.specs.Stacks.{folded_left}
 use Rattle.maskrun.specs.Arguments.{mask_argument, number_argument}
 use Rattle.maskrun.specs.Text.{text, list_text, range_text}
 use Rattle.maskrun.specs.declared.answer.command.Command.{Command}
-use Rattle.maskrun.specs.declared.answer.command.Command.TheVariants.{Rank, And, Or, AndNot, Not, Slice, Limit, Cat, Indices, Ranges}
+use Rattle.maskrun.specs.declared.answer.command.Command.TheVariants.{Rank, And, Or, AndNot, Not, Slice, Limit, Cat, Pipe, Indices, Ranges}
 use Rattle.maskrun.specs.declared.answer.error.RunError.{RunError}
 use Rattle.maskrun.specs.declared.answer.error.RunError.TheVariants.{Usage, LengthsDiffer, OutOfRange, Mask}
 use Rattle.maskrun.specs.declared.answer.name.Name.{Name}
@@ -64,9 +65,14 @@ abbrev pub masks : List (List ℕ) → Result (List (List Bool)) RunError
 masks [] = Err Usage
 masks (a ∷ rest) = masks_from 1 (a ∷ rest)
 
+-- two masks or more
+abbrev pub two_masks_or_more : List (List ℕ) → Result (List (List Bool)) RunError
+two_masks_or_more (a ∷ b ∷ rest) = masks (a ∷ b ∷ rest)
+two_masks_or_more _ = Err Usage
+
 -- the commands by their names
 abbrev pub names : List (List ℕ × Name)
-names = (codes "rank", named.Rank) ∷ (codes "and", named.And) ∷ (codes "or", named.Or) ∷ (codes "andnot", named.AndNot) ∷ (codes "not", named.Not) ∷ (codes "slice", named.Slice) ∷ (codes "limit", named.Limit) ∷ (codes "cat", named.Cat) ∷ (codes "indices", named.Indices) ∷ (codes "ranges", named.Ranges) ∷ []
+names = (codes "rank", named.Rank) ∷ (codes "and", named.And) ∷ (codes "or", named.Or) ∷ (codes "andnot", named.AndNot) ∷ (codes "not", named.Not) ∷ (codes "slice", named.Slice) ∷ (codes "limit", named.Limit) ∷ (codes "cat", named.Cat) ∷ (codes "pipe", named.Pipe) ∷ (codes "indices", named.Indices) ∷ (codes "ranges", named.Ranges) ∷ []
 
 -- the command that has this name in a list of names
 abbrev pub named_in : List (List ℕ × Name) → List ℕ → Result Name RunError
@@ -83,6 +89,7 @@ command_named named.Not arguments = one_mask arguments >>= (λ a. Ok (Not a))
 command_named named.Slice arguments = mask_and_range arguments >>= (λ (a, s, e). Ok (Slice a s e))
 command_named named.Limit arguments = mask_and_number arguments >>= (λ (a, k). Ok (Limit a k))
 command_named named.Cat arguments = masks arguments >>= (λ ms. Ok (Cat ms))
+command_named named.Pipe arguments = two_masks_or_more arguments >>= (λ ms. Ok (Pipe ms))
 command_named named.Indices arguments = one_mask arguments >>= (λ a. Ok (Indices a))
 command_named named.Ranges arguments = one_mask arguments >>= (λ a. Ok (Ranges a))
 
@@ -105,6 +112,17 @@ part_text m s e = if nat_lt (length m) e then Err (OutOfRange 3) else (if nat_lt
 abbrev pub joined_text : List (List Bool) → Result (List ℕ) RunError
 joined_text ms = if nat_lt (sum_by length ms) (2 ^ 64) then Ok (text (joined ms)) else Err (Mask LengthOverflow)
 
+-- the fault of the first mask that is not as long as the one before it has true values
+abbrev pub misfit : List (List Bool) → Option RunError
+misfit [] = None
+misfit (a ∷ []) = None
+misfit (a ∷ b ∷ ms) = if length b == count a then misfit (b ∷ ms) else Some (LengthsDiffer (count a) (length b))
+
+-- the mask's text, where there is no fault
+abbrev pub text_unless : Option RunError → List Bool → Result (List ℕ) RunError
+text_unless None m = Ok (text m)
+text_unless (Some fault) m = Err fault
+
 -- what a command prints
 abbrev pub printed : Command → Result (List ℕ) RunError
 printed (Rank a b) = text_if_len (length b) (count a) (rank_intersection a b)
@@ -115,6 +133,7 @@ printed (Not a) = Ok (text (not_of a))
 printed (Slice a s e) = part_text a s e
 printed (Limit a k) = Ok (text (limited a k))
 printed (Cat ms) = joined_text ms
+printed (Pipe ms) = text_unless (misfit ms) (folded_left ms)
 printed (Indices a) = Ok (list_text decimal (positions a))
 printed (Ranges a) = Ok (list_text range_text (runs a))
 

@@ -28,6 +28,7 @@ use std::alloc::Global;
 /// | `slice A S E` | the values of `A` from `S` up to `E`, which is left out |
 /// | `limit A K` | `A` with its first `K` true values alone |
 /// | `cat A ..` | one mask or more, one after another |
+/// | `pipe A B ..` | mask `A` narrowed by each of one mask or more in turn, each over the true values of the one before it |
 /// | `indices A` | the places of the true values |
 /// | `ranges A` | the longest ranges of true values, each as its first place, `..` and the place past its last |
 ///

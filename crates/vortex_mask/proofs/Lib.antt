@@ -24,5 +24,6 @@ pub mod ReadingLemmas
 pub mod ResultLemmas
 pub mod RunLemmas
 pub mod SetPlaceLemmas
+pub mod StackLemmas
 pub mod VariantLemmas
 pub mod WordKernelLemmas

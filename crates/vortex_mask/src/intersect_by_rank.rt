@@ -12,9 +12,10 @@ mod select;
 mod steps;
 pub mod words;
 
-ghost use Rattle.std.specs.Prelude.{◌≡◌, ◌≢◌, ◌<◌, ◌⊎◌, IsOk, IfOk, All, length, IsOkUnless, alloc_error};
+ghost use Rattle.std.specs.Prelude.{◌≡◌, ◌≢◌, ◌<◌, ◌⊎◌, ◌∷◌, IsOk, IfOk, All, fold, map, length, IsOkUnless, alloc_error};
 ghost use Rattle.vortex_mask.specs.Mask.{truth, variant, fitting_variant, variant_and, all_false, mixed, caches};
 ghost use Rattle.mask_bits.specs.Positions.{positions, count, at_places, rank_intersection};
+ghost use Rattle.mask_bits.specs.Stacks.{IsStack, folded_left};
 ghost use Rattle.vortex_mask.specs.Path.{narrowed_caches, AreNarrowingSteps};
 
 use crate::laws;
@@ -84,6 +85,35 @@ impl Mask {
         ensures refused { IsOkUnless result (MaskError.Memory alloc_error) }
     {
         self.narrowed(alloc, mask)
+    }
+
+    /// This mask narrowed by each of `masks` in turn: by the first over its true values, and by each
+    /// next one over the true values of the one before it. Without `masks` it is a clone.
+    ///
+    /// A stack of filters becomes one by this call. Once the result so far is all false no kernel
+    /// runs. Which lists of its true indices the result keeps is left open: it depends on each step.
+    pub fn intersect_all_by_rank(&self, alloc: Global, masks: &[Mask]) -> Result<Mask, MaskError>
+        requires { IsStack (truth self.now ∷ map truth masks.now) }
+        ensures len { IfOk result (λ m. length (truth m) ≡ length (truth self.now)) }
+        ensures list { IfOk result
+            (λ m. truth m ≡ folded_left (truth self.now ∷ map truth masks.now)) }
+        ensures variant { IfOk result (λ m. variant m
+            ≡ fitting_variant (fold variant_and (variant self.now) (map variant masks.now)) (truth m)) }
+
+        // What needs no memory succeeds.
+        ensures uniform { variant self.now ≢ mixed → All (λ m. variant m ≢ mixed) masks.now
+            → IsOk result }
+        ensures none { variant self.now ≡ all_false → IsOk result }
+        ensures refused { IsOkUnless result (MaskError.Memory alloc_error) }
+    {
+        mask_bits::laws::folding_keeps_a_stack();
+        mask_bits::laws::folds();
+        let mut narrowed = self.clone()?;
+        for mask in masks {
+            narrowed = narrowed.intersect_by_rank(alloc, mask)?;
+        }
+        laws::one_variant(&narrowed);
+        Ok(narrowed)
     }
 
     // The mask of the one list that is the rank intersection. Its length and true indices follow.

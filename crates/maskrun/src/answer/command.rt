@@ -4,6 +4,7 @@ ghost use Rattle.maskrun.specs.Commands.{command_of, command_named, printed, out
 mod boolean;
 mod cat;
 mod part;
+mod pipe;
 mod places;
 mod rank;
 mod shapes;
@@ -13,8 +14,9 @@ use crate::answer::argument::MaskArgument;
 use crate::answer::mask_list::MaskList;
 use crate::answer::name::Name;
 use cat::cat;
+use pipe::pipe;
 use rank::rank;
-use shapes::{mask_and_number, mask_and_range, one_mask, two_masks};
+use shapes::{mask_and_number, mask_and_range, one_mask, two_masks, two_masks_or_more};
 use std::alloc::Global;
 
 // A command with its arguments read.
@@ -28,6 +30,7 @@ pub(crate) enum Command<'a> {
     Slice(MaskArgument<'a>, usize, usize),
     Limit(MaskArgument<'a>, usize),
     Cat(MaskList<'a>),
+    Pipe(MaskList<'a>),
     Indices(MaskArgument<'a>),
     Ranges(MaskArgument<'a>),
 }
@@ -55,6 +58,7 @@ impl<'a> Command<'a> {
             Name::Slice => mask_and_range(arguments).map(|(a, s, e)| Command::Slice(a, s, e)),
             Name::Limit => mask_and_number(arguments).map(|(a, k)| Command::Limit(a, k)),
             Name::Cat => MaskList::read(arguments).map(Command::Cat),
+            Name::Pipe => two_masks_or_more(arguments).map(Command::Pipe),
             Name::Indices => one_mask(arguments).map(Command::Indices),
             Name::Ranges => one_mask(arguments).map(Command::Ranges),
         }
@@ -74,6 +78,7 @@ impl<'a> Command<'a> {
             Command::Slice(a, start, end) => part::slice(alloc, a, *start, *end),
             Command::Limit(a, k) => part::limit(alloc, a, *k),
             Command::Cat(list) => cat(alloc, list),
+            Command::Pipe(list) => pipe(alloc, list),
             Command::Indices(a) => places::indices(alloc, a),
             Command::Ranges(a) => places::ranges(alloc, a),
         }

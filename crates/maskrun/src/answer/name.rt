@@ -13,6 +13,7 @@ pub(crate) enum Name {
     Slice,
     Limit,
     Cat,
+    Pipe,
     Indices,
     Ranges,
 }
@@ -37,6 +38,8 @@ impl Name {
             Ok(Name::Limit)
         } else if text == "cat" {
             Ok(Name::Cat)
+        } else if text == "pipe" {
+            Ok(Name::Pipe)
         } else if text == "indices" {
             Ok(Name::Indices)
         } else if text == "ranges" {

@@ -1,8 +1,9 @@
 ghost use Rattle.std.specs.Prelude.{◌≡◌, map, string_bytes};
-ghost use Rattle.maskrun.specs.Commands.{one_mask, two_masks, mask_and_number, mask_and_range};
+ghost use Rattle.maskrun.specs.Commands.{one_mask, two_masks, two_masks_or_more, mask_and_number, mask_and_range};
 
 use crate::answer::RunError;
 use crate::answer::argument::MaskArgument;
+use crate::answer::mask_list::MaskList;
 use crate::answer::number::read_number;
 
 pub(crate) fn one_mask<'a>(arguments: &'a [String]) -> Result<MaskArgument<'a>, RunError>
@@ -25,6 +26,15 @@ pub(crate) fn two_masks<'a>(
             let b = MaskArgument::read(2, b.as_str())?;
             Ok((a, b))
         }
+        _ => Err(RunError::Usage),
+    }
+}
+
+pub(crate) fn two_masks_or_more<'a>(arguments: &'a [String]) -> Result<MaskList<'a>, RunError>
+    ensures { result ≡ two_masks_or_more (map string_bytes arguments.now) }
+{
+    match arguments {
+        [_, _, ..] => MaskList::read(arguments),
         _ => Err(RunError::Usage),
     }
 }
