@@ -106,7 +106,6 @@ impl Mask {
         ensures none { variant self.now ≡ all_false → IsOk result }
         ensures refused { IsOkUnless result (MaskError.Memory alloc_error) }
     {
-        mask_bits::laws::folding_keeps_a_stack();
         mask_bits::laws::folds();
         let mut narrowed = self.clone()?;
         for mask in masks {

@@ -1,0 +1,5 @@
+use Rattle.vortex_mask.proofs.StackLemmas.{IsFoldSoFar}
+use Rattle.vortex_mask.proofs.mask.Mask.intersect_all_by_rank.Given as goal
+
+abbrev pub invariant-loop-mask : goal.invariant-loop-mask
+invariant-loop-mask l = IsFoldSoFar l.self l.masks l.mask-index l.narrowed
