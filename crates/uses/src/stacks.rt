@@ -1,8 +1,8 @@
 //! Filters that stand on the rows which the one before them chose.
-ghost use Rattle.std.specs.Prelude.{◌≡◌, ◌∷◌, IfOk, length, map};
+ghost use Rattle.std.specs.Prelude.{◌≡◌, ◌∷◌, ◌↔◌, IsTrue, IfOk, fold, length, map};
 ghost use Rattle.vortex_mask.specs.Mask.{truth};
 ghost use Rattle.mask_bits.specs.Positions.{count, chosen, rank_intersection};
-ghost use Rattle.mask_bits.specs.Stacks.{IsStack, folded_left};
+ghost use Rattle.mask_bits.specs.Stacks.{IsStack, folded_right};
 
 use mask_bits::laws;
 use std::alloc::Global;
@@ -76,22 +76,76 @@ pub fn folded_right(
     first.intersect_by_rank(alloc, &last_two)
 }
 
-/// Any number of stacked filters as one: the first, narrowed by each of the rest in turn.
-pub fn joined(alloc: Global, first: &Mask, rest: &[Mask]) -> Result<Mask, MaskError>
-    requires { IsStack (truth first.now ∷ map truth rest.now) }
-    ensures { IfOk result (λ m. truth m ≡ folded_left (truth first.now ∷ map truth rest.now)) }
+/// Whether filters are a stack: each after the first is as long as the one before it has true values.
+pub fn are_a_stack(first: &Mask, rest: &[Mask]) -> bool
+    ensures { IsTrue result ↔ IsStack (truth first.now ∷ map truth rest.now) }
 {
-    laws::folding_keeps_a_stack();
-    let mut joined = first.clone()?;
+    let mut before = first;
     for mask in rest {
-        joined = joined.intersect_by_rank(alloc, mask)?;
+        if mask.len() != before.true_count() {
+            return false;
+        }
+        before = mask;
     }
-    Ok(joined)
+    true
+}
+
+/// The rows that a stack of filters chooses one after the other, by one mask in the place of all.
+pub fn filtered_by_all<T: Copy>(
+    alloc: Global,
+    rows: &[T],
+    first: &Mask,
+    rest: &[Mask],
+) -> Result<Vec<T>, MaskError>
+    requires rows { length rows.now ≡ length (truth first.now) }
+    requires stack { IsStack (truth first.now ∷ map truth rest.now) }
+    ensures in_turn { IfOk result
+        (λ v. v.items ≡ fold chosen rows.now (truth first.now ∷ map truth rest.now)) }
+{
+    laws::choosing_in_turn::<T>();
+    first
+        .intersect_all_by_rank(alloc, rest)?
+        .choose(alloc, rows)
+}
+
+/// A stack of filters as one mask, regrouped: the last two are made one first, then the one below
+/// and these, and so on down.
+pub fn regrouped(alloc: Global, first: &Mask, rest: &[Mask]) -> Result<Mask, MaskError>
+    requires { IsStack (truth first.now ∷ map truth rest.now) }
+    ensures { IfOk result (λ m. truth m ≡ folded_right (truth first.now ∷ map truth rest.now)) }
+{
+    laws::stack_folds_alike();
+    laws::folds();
+    match rest {
+        [] => first.clone(),
+        [second, above @ ..] => {
+            let above = regrouped(alloc, second, above)?;
+            first.intersect_by_rank(alloc, &above)
+        }
+    }
+}
+
+/// The rows of the regrouped stack are the same.
+pub fn filtered_by_regrouped<T: Copy>(
+    alloc: Global,
+    rows: &[T],
+    first: &Mask,
+    rest: &[Mask],
+) -> Result<Vec<T>, MaskError>
+    requires rows { length rows.now ≡ length (truth first.now) }
+    requires stack { IsStack (truth first.now ∷ map truth rest.now) }
+    ensures in_turn { IfOk result
+        (λ v. v.items ≡ fold chosen rows.now (truth first.now ∷ map truth rest.now)) }
+{
+    laws::stack_folds_alike();
+    laws::folds();
+    laws::choosing_in_turn::<T>();
+    regrouped(alloc, first, rest)?.choose(alloc, rows)
 }
 
 #[cfg(test)]
 mod tests {
-    use super::{filtered_both_ways, folded_left, folded_right, joined};
+    use super::{are_a_stack, filtered_both_ways, filtered_by_all, filtered_by_regrouped, folded_left, folded_right, regrouped};
     use crate::tests::{lists, mask, same};
     use std::alloc::Global;
     use std::process::Abort;
@@ -149,26 +203,81 @@ mod tests {
         Ok(())
     }
 
-    fn join(
+    // A stack's fold by one call, and the fold of the regrouped stack.
+    fn folds(
         rt: &impl Abort,
         alloc: Global,
         first: &Mask,
-        rest: &[Mask; 2],
+        rest: &[Mask],
+        want: &str,
     ) -> Result<(), MaskError> {
-        same(rt, rest[0].len(), first.true_count());
-        same(rt, rest[1].len(), rest[0].true_count());
-        lists(rt, &joined(alloc, first, rest)?, "00001000");
+        assert!(rt; are_a_stack(first, rest));
+        lists(rt, &first.intersect_all_by_rank(alloc, rest)?, want);
+        lists(rt, &regrouped(alloc, first, rest)?, want);
         Ok(())
     }
 
-    fn two_masks(alloc: Global, first: &str, second: &str) -> Result<[Mask; 2], MaskError> {
-        Ok([mask(alloc, first)?, mask(alloc, second)?])
+    fn masks(alloc: Global, texts: &[&str]) -> Result<Vec<Mask>, MaskError> {
+        let mut masks = Vec::new(alloc);
+        for text in texts {
+            masks.push(mask(alloc, text)?)?;
+        }
+        Ok(masks)
     }
 
     #[test]
-    fn a_loop_over_filters(rt: HostRuntime) -> Result<(), Fail> {
-        let rest = two_masks(rt.alloc(), "00101", "10")?;
-        join(&rt, rt.alloc(), &mask(rt.alloc(), "10011101")?, &rest)?;
+    fn a_stack_folds_alike(rt: HostRuntime) -> Result<(), Fail> {
+        let alloc = rt.alloc();
+        for (first, rest, want) in [
+            ("10011101", ["00101", "10"].as_slice(), "00001000"),
+            ("101", ["10", "1", "1", "0"].as_slice(), "000"),
+            ("101", ["10", "0", ""].as_slice(), "000"),
+            ("101", [].as_slice(), "101"),
+        ] {
+            folds(
+                &rt,
+                alloc,
+                &mask(alloc, first)?,
+                &masks(alloc, rest)?,
+                want,
+            )?;
+        }
+        Ok(())
+    }
+
+    fn filter(
+        rt: &impl Abort,
+        alloc: Global,
+        first: &Mask,
+        rest: &[Mask],
+    ) -> Result<(), MaskError> {
+        same(rt, first.len(), 8);
+        assert!(rt; are_a_stack(first, rest));
+        let rows = [10, 11, 12, 13, 14, 15, 16, 17];
+        let by_all = filtered_by_all(alloc, &rows, first, rest)?;
+        let by_regrouped = filtered_by_regrouped(alloc, &rows, first, rest)?;
+        assert!(rt; by_all.as_slice() == [14].as_slice());
+        assert!(rt; by_regrouped.as_slice() == [14].as_slice());
+        Ok(())
+    }
+
+    #[test]
+    fn a_stack_chooses_alike(rt: HostRuntime) -> Result<(), Fail> {
+        let alloc = rt.alloc();
+        filter(
+            &rt,
+            alloc,
+            &mask(alloc, "10011101")?,
+            &masks(alloc, &["00101", "10"])?,
+        )?;
+        Ok(())
+    }
+
+    #[test]
+    fn no_stack(rt: HostRuntime) -> Result<(), Fail> {
+        let alloc = rt.alloc();
+        let first = mask(alloc, "10011101")?;
+        assert!(rt; !are_a_stack(&first, &masks(alloc, &["00101", "1"])?));
         Ok(())
     }
 }

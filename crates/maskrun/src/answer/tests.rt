@@ -61,6 +61,25 @@ fn lines_and_faults(rt: HostRuntime) -> Result<(), Fail> {
         ("limit 10 007", "10"),
         ("cat 10 - 011", "10011"),
         ("cat", "usage: maskrun COMMAND WORDS"),
+        ("pipe 10011101 00101 10", "00001000"),
+        ("rank 00101 10", "00100"),
+        ("rank 10011101 00100", "00001000"),
+        ("pipe 10011101 00101 1", "length 1 where 2 is needed"),
+        ("pipe 111 101", "101"),
+        ("pipe 101 10 1 1 0", "000"),
+        ("pipe 101 10 0 -", "000"),
+        ("pipe 101 10 0 - -", "000"),
+        ("pipe 101 10 0 - 0", "length 1 where 0 is needed"),
+        ("pipe 000 -", "000"),
+        ("pipe - -", "-"),
+        ("pipe - 1", "length 1 where 0 is needed"),
+        ("pipe 101 11 0", "length 1 where 2 is needed"),
+        ("pipe 101 110 0", "length 3 where 2 is needed"),
+        ("pipe 101 1 x", "word 3: byte 0 is not 0 or 1"),
+        ("pipe 11 1 1 1 1 0x", "word 6: byte 1 is not 0 or 1"),
+        ("pipe 1x 1x", "word 1: byte 1 is not 0 or 1"),
+        ("pipe 1", "usage: maskrun COMMAND WORDS"),
+        ("pipe", "usage: maskrun COMMAND WORDS"),
         ("indices 10110", "0 2 3"),
         ("indices 000", "-"),
         ("indices 11", "0 1"),
@@ -79,6 +98,29 @@ fn lines_and_faults(rt: HostRuntime) -> Result<(), Fail> {
         assert_eq!(rt; printed(rt.alloc(), words)?.as_str(), want, "{words}");
     }
     assert!(rt; matches!(answer(rt.alloc(), &[]), Err(RunError::Usage)));
+    Ok(())
+}
+
+// A command line of `pipe` with 1,000 masks.
+fn long_pipe(alloc: Global, last: &str) -> Result<String, AllocError> {
+    let mut command_line = String::from_str(alloc, "pipe 1101")?;
+    for _ in 0..998 {
+        command_line.push_str(" 111")?;
+    }
+    command_line.push_str(last)?;
+    Ok(command_line)
+}
+
+#[test]
+fn a_stack_of_a_thousand(rt: HostRuntime) -> Result<(), Fail> {
+    for (last, want) in [
+        (" 010", "0100"),
+        (" 01", "length 2 where 3 is needed"),
+        (" 0x0", "word 1000: byte 1 is not 0 or 1"),
+    ] {
+        let command_line = long_pipe(rt.alloc(), last)?;
+        assert_eq!(rt; printed(rt.alloc(), &command_line)?.as_str(), want);
+    }
     Ok(())
 }
 

@@ -1,4 +1,4 @@
-ghost use Rattle.std.specs.Prelude.{◌≡◌, ◌⊎◌, ◌∷◌, ◌↔◌, Ok, Err, Some, None, IsNone, IfOk, IfErr, map, string_bytes};
+ghost use Rattle.std.specs.Prelude.{◌≡◌, ◌⊎◌, ◌∷◌, ◌↔◌, Bool, List, Ok, Err, Some, None, IfOk, IfErr, map, string_bytes};
 ghost use Rattle.maskrun.specs.Commands.{misfit, text_unless, out_of_memory};
 ghost use Rattle.mask_bits.specs.Stacks.{IsStack, folded_left};
 ghost use Rattle.vortex_mask.specs.Mask.{truth};
@@ -30,6 +30,7 @@ fn folded(alloc: Global, masks: &[Mask]) -> Result<Mask, RunError>
     let [first, rest @ ..] = masks else {
         return Ok(Mask::new_false(0));
     };
+    stacks_have_no_misfit();
     match misfit(first, rest) {
         Some(fault) => Err(fault),
         None => Ok(first.intersect_all_by_rank(alloc, rest)?),
@@ -38,8 +39,7 @@ fn folded(alloc: Global, masks: &[Mask]) -> Result<Mask, RunError>
 
 // The first mask that has not a value for each true value of the one before it.
 fn misfit(first: &Mask, rest: &[Mask]) -> Option<RunError>
-    ensures first { result ≡ misfit (truth first.now ∷ map truth rest.now) }
-    ensures none { IsNone result ↔ IsStack (truth first.now ∷ map truth rest.now) }
+    ensures { result ≡ misfit (truth first.now ∷ map truth rest.now) }
 {
     let mut before = first;
     for mask in rest {
@@ -52,3 +52,9 @@ fn misfit(first: &Mask, rest: &[Mask]) -> Option<RunError>
     }
     None
 }
+
+// Masks without a misfit are a stack, and no others are.
+#[tactic(auto, using(crate::proofs::StackLemmas::stacks_have_no_misfit))]
+fn stacks_have_no_misfit()
+    ensures { (ms : List (List Bool)) → (misfit ms ≡ None) ↔ IsStack ms }
+{}
