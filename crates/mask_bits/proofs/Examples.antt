@@ -5,7 +5,7 @@ use Rattle.std.specs.Cmp.Lexicographic.{pointwise}
 use Rattle.std.proofs.Common.{arith}
 use Rattle.mask_bits.specs.Positions.{true_at, IsFirstFrom}
 use Rattle.mask_bits.specs.Runs.{AreRanges, AreRuns}
-use Rattle.mask_bits.specs.Stacks.{IsStack, folded_left}
+use Rattle.mask_bits.specs.Stacks.{IsStack, folded_left, folded_right}
 use Rattle.mask_bits.specs.Words.{word_bits, window}
 use Rattle.mask_bits.proofs.Lists.RangeLemmas.{ranges_add_up_to_the_count}
 use Rattle.mask_bits.proofs.Lists.RunLemmas.{AreRuns-runs_from, runs_are_ranges}
@@ -121,6 +121,13 @@ no_stack stack = omega (arith, stack.0)
 stack_folded : folded_left (r ∷ (true ∷ false ∷ true ∷ []) ∷ (false ∷ true ∷ []) ∷ []) ≡ false ∷ false ∷ false ∷ true ∷ false ∷ []
 unfolding true_at
 stack_folded = refl
+
+stack_folded_from_the_right : folded_right (r ∷ (true ∷ false ∷ true ∷ []) ∷ (false ∷ true ∷ []) ∷ []) ≡ false ∷ false ∷ false ∷ true ∷ false ∷ []
+unfolding true_at
+stack_folded_from_the_right = refl
+
+none_folded : (folded_left [] ≡ []) × (folded_right [] ≡ [])
+none_folded = (refl, refl)
 
 -- ---- words
 

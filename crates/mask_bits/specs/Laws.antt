@@ -143,6 +143,10 @@ FoldingKeepsAStack = (a b : List Bool) (ms : List (List Bool)) → IsStack (a �
 abbrev pub StackFoldsAlike : Type 0
 StackFoldsAlike = (ms : List (List Bool)) → IsStack ms → folded_left ms ≡ folded_right ms
 
+-- the fold of a stack of two masks or more is the first narrowed by the fold of the rest
+abbrev pub FoldedByTheFirst : Type 0
+FoldedByTheFirst = (first second : List Bool) (ms : List (List Bool)) → IsStack (first ∷ second ∷ ms) → folded_left (first ∷ second ∷ ms) ≡ rank_intersection first (folded_left (second ∷ ms))
+
 -- a single mask is its own fold, from either end
 abbrev pub FoldOfOne : Type 0
 FoldOfOne = (m : List Bool) → (folded_left (m ∷ []) ≡ m) × (folded_right (m ∷ []) ≡ m)

@@ -243,12 +243,14 @@ pub fn groups()
     ensures count { CountOfGroup }
 {}
 
-ghost use Rattle.mask_bits.specs.Laws.{StackFoldsAlike, FoldOfOne, FoldedLeftByTheLast, LengthOfFold, CountOfFold, FoldOfNoRow, NeighborsMakeOne, ChoosingInTurn};
+ghost use Rattle.mask_bits.specs.Laws.{StackFoldsAlike, FoldedByTheFirst, FoldOfOne, FoldedLeftByTheLast, LengthOfFold, CountOfFold, FoldOfNoRow, NeighborsMakeOne, ChoosingInTurn};
 
-/// A planner may fold a stack of filters from either end.
-#[tactic(auto, using(crate::proofs::Lists::StackLemmas::stack_folds_alike))]
+/// A planner may fold a stack of filters from either end: the first filter narrowed by the fold of the
+/// rest is the fold from the left too.
+#[tactic(auto, using(crate::proofs::Lists::StackLemmas::stack_folds_alike, crate::proofs::Lists::StackLemmas::folded_by_the_first))]
 pub fn stack_folds_alike()
     ensures alike { StackFoldsAlike }
+    ensures first { FoldedByTheFirst }
 {}
 
 /// A planner that folds from the left narrows what it has by the next filter. It knows how many rows

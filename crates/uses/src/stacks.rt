@@ -2,7 +2,7 @@
 ghost use Rattle.std.specs.Prelude.{◌≡◌, ◌∷◌, ◌↔◌, IsTrue, IfOk, fold, length, map};
 ghost use Rattle.vortex_mask.specs.Mask.{truth};
 ghost use Rattle.mask_bits.specs.Positions.{count, chosen, rank_intersection};
-ghost use Rattle.mask_bits.specs.Stacks.{IsStack, folded_right};
+ghost use Rattle.mask_bits.specs.Stacks.{IsStack, folded_left};
 
 use mask_bits::laws;
 use std::alloc::Global;
@@ -112,7 +112,7 @@ pub fn filtered_by_all<T: Copy>(
 /// and these, and so on down.
 pub fn regrouped(alloc: Global, first: &Mask, rest: &[Mask]) -> Result<Mask, MaskError>
     requires { IsStack (truth first.now ∷ map truth rest.now) }
-    ensures { IfOk result (λ m. truth m ≡ folded_right (truth first.now ∷ map truth rest.now)) }
+    ensures { IfOk result (λ m. truth m ≡ folded_left (truth first.now ∷ map truth rest.now)) }
 {
     laws::stack_folds_alike();
     laws::folds();
@@ -137,7 +137,6 @@ pub fn filtered_by_regrouped<T: Copy>(
     ensures in_turn { IfOk result
         (λ v. v.items ≡ fold chosen rows.now (truth first.now ∷ map truth rest.now)) }
 {
-    laws::stack_folds_alike();
     laws::folds();
     laws::choosing_in_turn::<T>();
     regrouped(alloc, first, rest)?.choose(alloc, rows)

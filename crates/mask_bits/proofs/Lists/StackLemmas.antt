@@ -1,6 +1,6 @@
 -- The laws of stacks, by recursion on the masks.
 use Rattle.std.proofs.Common.{◌≡◌, Bool, List, [], ◌∷◌, ◌++◌, length, fold, refl, sym, ap, subst, ◌∙◌, arith}
-use Rattle.mask_bits.specs.Laws.{StackFoldsAlike, FoldOfOne, FoldedLeftByTheLast, LengthOfFold, CountOfFold, FoldOfNoRow, NeighborsMakeOne, ChoosingInTurn}
+use Rattle.mask_bits.specs.Laws.{StackFoldsAlike, FoldedByTheFirst, FoldOfOne, FoldedLeftByTheLast, LengthOfFold, CountOfFold, FoldOfNoRow, NeighborsMakeOne, ChoosingInTurn}
 use Rattle.mask_bits.specs.Positions.{count, rank_intersection, chosen}
 use Rattle.mask_bits.specs.Stacks.{IsStack, folded_left, folded_right}
 use Rattle.mask_bits.proofs.Lists.LawLemmas.{length-rank_intersection, rank_intersection_associative, rank_intersection_count, choosing_twice, folding_keeps_a_stack, rank_intersection-none}
@@ -11,18 +11,17 @@ use Rattle.mask_bits.proofs.Lists.PlaceLemmas.{count-le-length}
 keeps_a_stack_above : (a b c : List Bool) (ms : List (List Bool)) → IsStack (a ∷ b ∷ c ∷ ms) → IsStack (a ∷ rank_intersection b c ∷ ms)
 keeps_a_stack_above a b c ms stack = (length-rank_intersection b c ∙ stack.0, folding_keeps_a_stack b c ms stack.1)
 
--- the first mask may be left for last
-first_last : (a b : List Bool) (ms : List (List Bool)) → IsStack (a ∷ b ∷ ms) → fold rank_intersection (rank_intersection a b) ms ≡ rank_intersection a (fold rank_intersection b ms)
-first_last a b [] stack = refl
-first_last a b (c ∷ ms) stack =
+pub folded_by_the_first : FoldedByTheFirst
+folded_by_the_first a b [] stack = refl
+folded_by_the_first a b (c ∷ ms) stack =
     ap (λ (m : List Bool). fold rank_intersection m ms) (rank_intersection_associative a b c stack.0 stack.1.0)
-    ∙ first_last a (rank_intersection b c) ms (keeps_a_stack_above a b c ms stack)
+    ∙ folded_by_the_first a (rank_intersection b c) ms (keeps_a_stack_above a b c ms stack)
 
 pub stack_folds_alike : StackFoldsAlike
 stack_folds_alike [] stack = refl
 stack_folds_alike (a ∷ []) stack = refl
 stack_folds_alike (a ∷ b ∷ ms) stack =
-    first_last a b ms stack ∙ ap (rank_intersection a) (stack_folds_alike (b ∷ ms) stack.1)
+    folded_by_the_first a b ms stack ∙ ap (rank_intersection a) (stack_folds_alike (b ∷ ms) stack.1)
 
 pub fold_of_one : FoldOfOne
 fold_of_one m = (refl, refl)
