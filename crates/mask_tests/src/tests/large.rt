@@ -41,6 +41,38 @@ fn turn(rt: &impl Abort, alloc: Global, a: &Mask) -> Result<(), MaskError> {
     Ok(())
 }
 
+// Masks of so many values, of which every second and every fifth is true.
+fn every_second_and_fifth(
+    alloc: Global,
+    seconds: usize,
+    fifths: usize,
+) -> Result<[Mask; 2], MaskError> {
+    Ok([
+        Mask::from_bools(alloc, (0..seconds).map(|i| i % 2 == 0))?,
+        Mask::from_bools(alloc, (0..fifths).map(|i| i % 5 == 0))?,
+    ])
+}
+
+fn narrow_by_all(
+    rt: &impl Abort,
+    alloc: Global,
+    first: &Mask,
+    rest: &[Mask; 2],
+) -> Result<(), MaskError> {
+    same(rt, rest[0].len(), first.true_count());
+    same(rt, rest[1].len(), rest[0].true_count());
+    has(rt, &first.intersect_all_by_rank(alloc, rest)?, ROWS, 667);
+    Ok(())
+}
+
+#[test]
+fn narrowed_by_a_stack(rt: HostRuntime) -> Result<(), Fail> {
+    let alloc = rt.alloc();
+    let rest = every_second_and_fifth(alloc, 6667, 3334)?;
+    narrow_by_all(&rt, alloc, &threes(alloc)?, &rest)?;
+    Ok(())
+}
+
 #[test]
 fn boolean_calls(rt: HostRuntime) -> Result<(), Fail> {
     let alloc = rt.alloc();
