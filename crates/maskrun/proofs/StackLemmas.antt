@@ -1,5 +1,5 @@
 -- Masks without a misfit are a stack, and no masks fold to no values.
-use Rattle.std.proofs.Common.{◌≡◌, ◌<◌, ◌↔◌, ◌==◌, Bool, true, false, List, [], ◌∷◌, length, map, None, inl, inr, refl, eq-eqb, arith, tests}
+use Rattle.std.proofs.Common.{◌≡◌, ◌<◌, ◌↔◌, ◌==◌, Bool, List, [], ◌∷◌, length, map, None, inl, inr, refl, eq-eqb, arith, tests}
 use Rattle.std.proofs.lemmas.Bool.{cases_Bool}
 use Rattle.mask_bits.specs.Positions.{count, repeated}
 use Rattle.mask_bits.specs.Stacks.{IsStack, folded_left}

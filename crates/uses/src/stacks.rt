@@ -144,7 +144,10 @@ pub fn filtered_by_regrouped<T: Copy>(
 
 #[cfg(test)]
 mod tests {
-    use super::{are_a_stack, filtered_both_ways, filtered_by_all, filtered_by_regrouped, folded_left, folded_right, regrouped};
+    use super::{
+        are_a_stack, filtered_both_ways, filtered_by_all, filtered_by_regrouped, folded_left,
+        folded_right, regrouped,
+    };
     use crate::tests::{lists, mask, same};
     use std::alloc::Global;
     use std::process::Abort;
@@ -233,13 +236,7 @@ mod tests {
             ("101", ["10", "0", ""].as_slice(), "000"),
             ("101", [].as_slice(), "101"),
         ] {
-            folds(
-                &rt,
-                alloc,
-                &mask(alloc, first)?,
-                &masks(alloc, rest)?,
-                want,
-            )?;
+            folds(&rt, alloc, &mask(alloc, first)?, &masks(alloc, rest)?, want)?;
         }
         Ok(())
     }

@@ -83,7 +83,7 @@ fold_more first masks i a b r within at so_far list held =
       stack = subst (λ (m : List Bool). IsStack (m ∷ map truth rest)) (sym list) (folding_keeps_a_stack (truth a) (truth b) (map truth rest) stack);
       folded = folded;
       held = fold_variant (variant r) (variant_and (variant a) (variant b)) (map variant rest) (truth r) all (sym (ap length folded) ∙ length_of_fold (truth r) (map truth rest)) held
-      ∙ ap (λ (ms : List Mask). fitting_variant (fold variant_and (variant a) (map variant ms)) all) (sym next) ∙ so_far.held;
+          ∙ ap (λ (ms : List Mask). fitting_variant (fold variant_and (variant a) (map variant ms)) all) (sym next) ∙ so_far.held;
       uniform = λ one each. stays_of_one_value a b r narrowed (so_far.uniform one each) (subst (λ (m : Mask). variant m ≢ mixed) (sym at) (each i b within));
       none = λ is. stays_all_false a b r narrowed (so_far.none is);
     }
