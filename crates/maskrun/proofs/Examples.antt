@@ -125,6 +125,19 @@ first_two = refl
 one_after_another : line (codes "cat" ∷ codes "10" ∷ codes "-" ∷ codes "011" ∷ []) ≡ Ok (codes "10011")
 one_after_another = refl
 
+piped : line (codes "pipe" ∷ codes "10011101" ∷ codes "00101" ∷ codes "10" ∷ []) ≡ Ok (codes "00001000")
+unfolding true_at
+piped = refl
+
+first_misfit : line (codes "pipe" ∷ codes "10011101" ∷ codes "00101" ∷ codes "1" ∷ []) ≡ Err (LengthsDiffer 2 1)
+first_misfit = refl
+
+all_words_are_read_first : line (codes "pipe" ∷ codes "101" ∷ codes "1" ∷ codes "x" ∷ []) ≡ Err (BadBit 3 0)
+all_words_are_read_first = refl
+
+pipe_of_one_mask : line (codes "pipe" ∷ codes "1" ∷ []) ≡ Err Usage
+pipe_of_one_mask = refl
+
 nothing_to_join : line (codes "cat" ∷ []) ≡ Err Usage
 nothing_to_join = refl
 
