@@ -123,7 +123,7 @@ impl BitBuffer {
         Ok(BitBuffer::new(Bytes::from_vec(bytes)?, bools.len()))
     }
 
-    /// Another owner of the same bytes, at the same offset and length.
+    /// A buffer of the same backing bytes, at the same offset and length.
     pub fn clone(&self) -> Result<BitBuffer, AllocError>
         ensures { IfOk result (λ b. b ≡ self.now) }
     {

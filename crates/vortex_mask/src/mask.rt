@@ -138,7 +138,7 @@ impl Mask {
         Mask::from_buffer(alloc, buffer)
     }
 
-    /// The same mask, which shares the values of this one.
+    /// The same mask, with the lists that this one has cached.
     pub fn clone(&self) -> Result<Mask, MaskError>
         ensures list { IfOk result (λ m. truth m ≡ truth self.now) }
         ensures variant { IfOk result (λ m. variant m ≡ variant self.now) }

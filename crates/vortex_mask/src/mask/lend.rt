@@ -22,8 +22,7 @@ pub enum MaskIter<'a> {
 }
 
 /// Lists of the true places, made where they are not kept yet, and kept from then on. Clones that
-/// were made before keep what they kept: a mask that makes one list no longer shares its values with
-/// them, and copies the other list, if it is kept.
+/// were made before keep what they kept.
 ///
 /// Where want of memory refuses a list, the mask stays as it was.
 impl Mask {

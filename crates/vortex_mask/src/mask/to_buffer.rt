@@ -8,7 +8,7 @@ use std::alloc::Global;
 use std::rc::Rc;
 
 impl Mask {
-    /// A buffer of the values. Mixed ones share their bytes with it.
+    /// A buffer of the values.
     pub fn to_bit_buffer(&self, alloc: Global) -> Result<BitBuffer, MaskError>
         ensures list { IfOk result (λ b. values b ≡ truth self.now) }
         ensures refused { IsOkUnless result (MaskError.Memory alloc_error) }
@@ -20,8 +20,7 @@ impl Mask {
         }
     }
 
-    /// A buffer of the values, for which the mask is given up. Where no clone of mixed values is
-    /// held, the buffer is theirs.
+    /// A buffer of the values, of a mask that is taken by value.
     pub fn into_bit_buffer(self, alloc: Global) -> Result<BitBuffer, MaskError>
         ensures list { IfOk result (λ b. values b ≡ truth self) }
         ensures refused { IsOkUnless result (MaskError.Memory alloc_error) }

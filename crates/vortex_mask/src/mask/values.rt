@@ -11,7 +11,7 @@ use mask_bits::BitBuffer;
 use std::marker::Model;
 use std::rc::Rc;
 
-/// The values of a mask that has both true and false ones, shared by its clones.
+/// The values of a mask that has both true and false ones.
 pub type MaskValuesRef = Rc<MaskValues>;
 
 /// A bit buffer in which some values are true and some are not, with the count of the true ones.
