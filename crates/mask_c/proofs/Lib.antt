@@ -1,0 +1,2 @@
+mod Bitmaps
+mod First

@@ -1,0 +1,30 @@
+use Rattle.std.proofs.Common.{not, inl, inr, arith}
+use Rattle.std.proofs.lemmas.Bool.{cases_lt}
+use Rattle.mask_c.proofs.First.{passed_more, first_index}
+use Rattle.mask_c.proofs.indices.first_from.Goals as goal
+
+pub returns-then-run-lt64 : goal.returns-then-run-lt64
+returns-then-run-lt64 c =
+    let run = c.run_of_others-run in
+    let so_far = c.loop-index.invariant in
+    first_index c.args.bytes.now c.args.offset c.args.len c.args.from c.loop-index.index run.result run.result c.args.value so_far.from
+    (omega (arith, c.loop-index-test.true)) so_far.within so_far.passed run.ensures.passed run.ensures.holds (inl c.if-run-lt64.true)
+
+pub loop-index-preserved : goal.loop-index-preserved
+loop-index-preserved c =
+    let run = c.run_of_others-run in
+    let so_far = c.loop-index.invariant in
+    record {
+      from = omega (arith, so_far.from);
+      within = omega (arith, c.loop-index-test.true);
+      passed = passed_more c.args.bytes.now c.args.offset c.args.len c.args.from c.loop-index.index 64 (not c.args.value) (omega (arith, c.loop-index-test.true))
+          so_far.passed (λ j h. run.ensures.passed j (omega (arith, c.if-run-lt64.false)));
+    }
+
+pub returns : goal.returns
+returns c =
+    let run = c.run_of_others in
+    let so_far = c.loop-index.invariant in
+    first_index c.args.bytes.now c.args.offset c.args.len c.args.from c.loop-index.index run.result c.min.result c.args.value so_far.from
+    c.min.ensures so_far.within so_far.passed run.ensures.passed run.ensures.holds
+    (elim (cases_lt run.result 64) [ inl h ↦ inl h | inr h ↦ inr (omega (arith, c.loop-index-test.false)) ])

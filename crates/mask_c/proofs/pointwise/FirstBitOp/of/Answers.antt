@@ -1,0 +1,8 @@
+use Rattle.std.proofs.Common.{sym, ◌∙◌}
+use Rattle.mask_bits.specs.Words.{word_bits}
+use Rattle.mask_bits.proofs.Lists.WordLemmas.{length-word_bits}
+use Rattle.mask_c.proofs.Bitmaps.{first_of}
+use Rattle.mask_c.proofs.pointwise.FirstBitOp.of.Goals as goal
+
+pub returns : goal.returns
+returns c = first_of (word_bits c.args.x) (word_bits c.args._y) (length-word_bits c.args.x ∙ sym (length-word_bits c.args._y))

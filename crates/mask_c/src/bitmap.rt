@@ -1,0 +1,33 @@
+//! What a bitmap is, and the room for one.
+
+ghost use Rattle.std.specs.Prelude.{◌≡◌, ◌↔◌, ◌*◌, ◌<◌, IsTrue, Some, slice_get};
+ghost use Rattle.std.specs.Int.{div_ceil};
+ghost use Rattle.mask_bits.specs.Buffer.{IsWithinBytes};
+ghost use Rattle.mask_c.specs.Bitmap.{bitmap};
+
+/// Whether the `len` bits from bit `offset` on are within the bytes, as each call on a bitmap asks.
+#[unsafe(no_mangle)]
+pub extern "C" fn row_mask_is_within(bytes: &[u8], offset: usize, len: usize) -> bool
+    ensures { IsTrue result ↔ IsWithinBytes bytes.now offset len }
+{
+    len <= usize::MAX - offset && (offset + len).div_ceil(8) <= bytes.len()
+}
+
+/// How many bytes of room a result of `len` values takes: whole words of 64.
+#[unsafe(no_mangle)]
+pub extern "C" fn row_mask_room(len: usize) -> usize
+    ensures { result ≡ 8 * div_ceil len 64 }
+{
+    8 * len.div_ceil(64)
+}
+
+/// Value `i`.
+#[unsafe(no_mangle)]
+pub extern "C" fn row_mask_value(bytes: &[u8], offset: usize, len: usize, i: usize) -> bool
+    requires bitmap { IsWithinBytes bytes.now offset len }
+    requires within { i < len }
+    ensures { slice_get (bitmap bytes.now offset len) i ≡ Some result }
+{
+    let position = offset + i;
+    (bytes[position / 8] >> (position % 8)) & 1 == 1
+}

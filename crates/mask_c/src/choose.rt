@@ -1,0 +1,147 @@
+//! The rows at the true values of a bitmap, by the size of a row.
+
+ghost use Rattle.std.specs.Prelude.{◌≡◌, ◌≢◌, ◌+◌, ◌*◌, ◌<◌, ◌≤◌, ◌++◌, All, length, slice_get, take};
+ghost use Rattle.std.specs.List.{filter_map};
+ghost use Rattle.mask_bits.specs.Buffer.{IsWithinBytes};
+ghost use Rattle.mask_bits.specs.Positions.{chosen, count, positions};
+ghost use Rattle.mask_bits.specs.Words.{word_bits};
+ghost use Rattle.mask_c.specs.Bitmap.{bitmap};
+
+use crate::started_word::started_word;
+use mask_bits::BitChunks;
+
+/// A row of 16 bytes.
+#[derive(Clone, Copy)]
+#[repr(C)]
+pub struct RowMask16 {
+    pub first: u64,
+    pub second: u64,
+}
+
+/// Writes the rows at the true values, in their order, to the front of `out`, and answers how many
+/// they are. A row has 1 byte.
+#[unsafe(no_mangle)]
+pub extern "C" fn row_mask_choose_1(
+    bytes: &[u8],
+    offset: usize,
+    len: usize,
+    rows: &[u8],
+    out: &mut [u8],
+) -> usize
+    requires bitmap { IsWithinBytes bytes.now offset len }
+    requires rows { length rows.now ≡ len }
+    requires room { count (bitmap bytes.now offset len) ≤ length out.old }
+    ensures rows { take result out.new ≡ chosen rows.now (bitmap bytes.now offset len) }
+    ensures count { result ≡ count (bitmap bytes.now offset len) }
+{
+    choose(bytes, offset, len, rows, out)
+}
+
+/// The same for rows of 2 bytes.
+#[unsafe(no_mangle)]
+pub extern "C" fn row_mask_choose_2(
+    bytes: &[u8],
+    offset: usize,
+    len: usize,
+    rows: &[u16],
+    out: &mut [u16],
+) -> usize
+    requires bitmap { IsWithinBytes bytes.now offset len }
+    requires rows { length rows.now ≡ len }
+    requires room { count (bitmap bytes.now offset len) ≤ length out.old }
+    ensures rows { take result out.new ≡ chosen rows.now (bitmap bytes.now offset len) }
+    ensures count { result ≡ count (bitmap bytes.now offset len) }
+{
+    choose(bytes, offset, len, rows, out)
+}
+
+/// The same for rows of 4 bytes.
+#[unsafe(no_mangle)]
+pub extern "C" fn row_mask_choose_4(
+    bytes: &[u8],
+    offset: usize,
+    len: usize,
+    rows: &[u32],
+    out: &mut [u32],
+) -> usize
+    requires bitmap { IsWithinBytes bytes.now offset len }
+    requires rows { length rows.now ≡ len }
+    requires room { count (bitmap bytes.now offset len) ≤ length out.old }
+    ensures rows { take result out.new ≡ chosen rows.now (bitmap bytes.now offset len) }
+    ensures count { result ≡ count (bitmap bytes.now offset len) }
+{
+    choose(bytes, offset, len, rows, out)
+}
+
+/// The same for rows of 8 bytes.
+#[unsafe(no_mangle)]
+pub extern "C" fn row_mask_choose_8(
+    bytes: &[u8],
+    offset: usize,
+    len: usize,
+    rows: &[u64],
+    out: &mut [u64],
+) -> usize
+    requires bitmap { IsWithinBytes bytes.now offset len }
+    requires rows { length rows.now ≡ len }
+    requires room { count (bitmap bytes.now offset len) ≤ length out.old }
+    ensures rows { take result out.new ≡ chosen rows.now (bitmap bytes.now offset len) }
+    ensures count { result ≡ count (bitmap bytes.now offset len) }
+{
+    choose(bytes, offset, len, rows, out)
+}
+
+/// The same for rows of 16 bytes.
+#[unsafe(no_mangle)]
+pub extern "C" fn row_mask_choose_16(
+    bytes: &[u8],
+    offset: usize,
+    len: usize,
+    rows: &[RowMask16],
+    out: &mut [RowMask16],
+) -> usize
+    requires bitmap { IsWithinBytes bytes.now offset len }
+    requires rows { length rows.now ≡ len }
+    requires room { count (bitmap bytes.now offset len) ≤ length out.old }
+    ensures rows { take result out.new ≡ chosen rows.now (bitmap bytes.now offset len) }
+    ensures count { result ≡ count (bitmap bytes.now offset len) }
+{
+    choose(bytes, offset, len, rows, out)
+}
+
+// The rows at the true values, word by word.
+#[inline]
+fn choose<T: Copy>(bytes: &[u8], offset: usize, len: usize, rows: &[T], out: &mut [T]) -> usize
+    requires bitmap { IsWithinBytes bytes.now offset len }
+    requires rows { length rows.now ≡ len }
+    requires room { count (bitmap bytes.now offset len) ≤ length out.old }
+    ensures rows { take result out.new ≡ chosen rows.now (bitmap bytes.now offset len) }
+    ensures count { result ≡ count (bitmap bytes.now offset len) }
+{
+    let chunks = BitChunks::new(bytes, offset, len);
+    let mut at = 0;
+    for i in 0..len.div_ceil(64) {
+        at = choose_by_word(started_word(&chunks, i), &rows[64 * i..], out, at);
+    }
+    at
+}
+
+// Writes the rows at the set bits of a word behind the first `at` rows, and answers how many there
+// are then.
+#[inline]
+fn choose_by_word<T: Copy>(word: u64, rows: &[T], out: &mut [T], at: usize) -> usize
+    requires within { All (λ p. p < length rows.now) (positions (word_bits word)) }
+    requires room { at + count (word_bits word) ≤ length out.old }
+    ensures rows { take result out.new
+        ≡ take at out.old ++ filter_map (λ p. slice_get rows.now p) (positions (word_bits word)) }
+    ensures count { result ≡ at + count (word_bits word) }
+{
+    let mut word = word;
+    let mut at = at;
+    while word != 0 {
+        out[at] = rows[word.trailing_zeros() as usize];
+        at += 1;
+        word &= word - 1;
+    }
+    at
+}

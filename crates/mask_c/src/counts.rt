@@ -1,0 +1,59 @@
+//! How many values of a bitmap are true.
+
+ghost use Rattle.std.specs.Prelude.{◌≡◌, ◌≤◌, All, length, map, slice_range};
+ghost use Rattle.std.specs.List.Sorted.{IsNonDecreasing};
+ghost use Rattle.mask_bits.specs.Buffer.{IsWithinBytes};
+ghost use Rattle.mask_bits.specs.Positions.{count, count_below};
+ghost use Rattle.mask_c.specs.Bitmap.{bitmap};
+
+use mask_bits::counts::count_bits;
+
+/// How many values are true.
+#[unsafe(no_mangle)]
+pub extern "C" fn row_mask_count(bytes: &[u8], offset: usize, len: usize) -> usize
+    requires { IsWithinBytes bytes.now offset len }
+    ensures { result ≡ count (bitmap bytes.now offset len) }
+{
+    count_bits(bytes, offset, len)
+}
+
+/// How many of the values from `start` to `end` are true.
+#[unsafe(no_mangle)]
+pub extern "C" fn row_mask_count_range(
+    bytes: &[u8],
+    offset: usize,
+    len: usize,
+    start: usize,
+    end: usize,
+) -> usize
+    requires bitmap { IsWithinBytes bytes.now offset len }
+    requires ordered { start ≤ end }
+    requires within { end ≤ len }
+    ensures { result ≡ count (slice_range (bitmap bytes.now offset len) start end) }
+{
+    count_bits(bytes, offset + start, end - start)
+}
+
+/// For each index how many of the values below it are true.
+#[unsafe(no_mangle)]
+pub extern "C" fn row_mask_counts_below(
+    bytes: &[u8],
+    offset: usize,
+    len: usize,
+    indices: &[usize],
+    out: &mut [usize],
+)
+    requires bitmap { IsWithinBytes bytes.now offset len }
+    requires ascending { IsNonDecreasing indices.now }
+    requires within { All (λ i. i ≤ len) indices.now }
+    requires room { length out.old ≡ length indices.now }
+    ensures { out.new ≡ map (count_below (bitmap bytes.now offset len)) indices.now }
+{
+    let mut from = 0;
+    let mut below = 0;
+    for (i, index) in indices.iter().enumerate() {
+        below += count_bits(bytes, offset + from, *index - from);
+        from = *index;
+        out[i] = below;
+    }
+}

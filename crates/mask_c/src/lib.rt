@@ -1,0 +1,13 @@
+//! The proved loops over bitmaps for programs in C and Rust: a bitmap is bytes, a bit offset and a
+//! length, and a result goes into room that the caller lends.
+#![tactic(auto)]
+
+mod bitmap;
+mod choose;
+mod counts;
+mod equal;
+mod indices;
+mod pointwise;
+mod rank;
+mod runs;
+mod started_word;

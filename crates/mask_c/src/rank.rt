@@ -1,0 +1,67 @@
+//! A bitmap narrowed by another over its true values.
+
+ghost use Rattle.std.specs.Prelude.{◌≡◌, ◌*◌, ◌<◌, All, length};
+ghost use Rattle.std.specs.Int.{div_ceil};
+ghost use Rattle.std.specs.List.Sorted.{IsStrictlyIncreasing};
+ghost use Rattle.mask_bits.specs.Buffer.{IsWithinBytes};
+ghost use Rattle.mask_bits.specs.Positions.{at_places, count, positions, rank_intersection};
+ghost use Rattle.mask_c.specs.Bitmap.{bitmap};
+
+use mask_bits::{BitChunks, laws};
+use vortex_mask::intersect_by_rank::rank_words::narrow_at_ranks;
+use vortex_mask::intersect_by_rank::words::narrow_by_bits;
+use vortex_mask::intersect_by_rank::{Portable, PortableLoop, RankBits};
+
+/// The bitmap in which true value number `k` stays true exactly where value `k` of `ranks` is true.
+#[unsafe(no_mangle)]
+pub extern "C" fn row_mask_intersect_by_rank(
+    bytes: &[u8],
+    offset: usize,
+    len: usize,
+    ranks: &[u8],
+    ranks_offset: usize,
+    ranks_len: usize,
+    out: &mut [u8],
+)
+    requires bitmap { IsWithinBytes bytes.now offset len }
+    requires ranks { IsWithinBytes ranks.now ranks_offset ranks_len }
+    requires fitting { ranks_len ≡ count (bitmap bytes.now offset len) }
+    requires room { length out.old ≡ 8 * div_ceil len 64 }
+    ensures { bitmap out.new 0 len
+        ≡ rank_intersection (bitmap bytes.now offset len) (bitmap ranks.now ranks_offset ranks_len) }
+{
+    laws::length_of_values();
+    let chunks = BitChunks::new(bytes, offset, len);
+    let ranks = RankBits::over(ranks, ranks_offset, ranks_len);
+    if are_sparse(ranks_len, len) {
+        let _ = narrow_by_bits::<PortableLoop>(&chunks, &ranks, out);
+    } else {
+        let _ = narrow_by_bits::<Portable>(&chunks, &ranks, out);
+    }
+}
+
+/// The bitmap in which the true values stay true whose numbers are `ranks`.
+#[unsafe(no_mangle)]
+pub extern "C" fn row_mask_intersect_at_ranks(
+    bytes: &[u8],
+    offset: usize,
+    len: usize,
+    ranks: &[usize],
+    out: &mut [u8],
+)
+    requires bitmap { IsWithinBytes bytes.now offset len }
+    requires ascending { IsStrictlyIncreasing ranks.now }
+    requires within { All (λ k. k < count (bitmap bytes.now offset len)) ranks.now }
+    requires room { length out.old ≡ 8 * div_ceil len 64 }
+    ensures { positions (bitmap out.new 0 len)
+        ≡ at_places (positions (bitmap bytes.now offset len)) ranks.now }
+{
+    laws::length_of_values();
+    let chunks = BitChunks::new(bytes, offset, len);
+    let _ = narrow_at_ranks::<Portable>(&chunks, ranks, out);
+}
+
+// Whether so few values are true that the deposit is quicker which goes from one to the next.
+fn are_sparse(true_count: usize, len: usize) -> bool {
+    true_count < len / 16
+}

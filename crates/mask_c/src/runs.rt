@@ -1,0 +1,34 @@
+//! The runs of true values of a bitmap.
+
+ghost use Rattle.std.specs.Prelude.{◌≤◌, true, false};
+ghost use Rattle.mask_bits.specs.Buffer.{IsWithinBytes};
+ghost use Rattle.mask_bits.specs.Positions.{IsFirstFrom};
+ghost use Rattle.mask_c.specs.Bitmap.{bitmap};
+
+use crate::indices::first_from;
+
+/// The indices from `start` to `end`, the end left out.
+#[derive(Clone, Copy)]
+#[repr(C)]
+pub struct RowMaskRun {
+    pub start: usize,
+    pub end: usize,
+}
+
+/// The first run of true values from `from` on, and from `len` to `len` where there is none.
+#[unsafe(no_mangle)]
+pub extern "C" fn row_mask_next_run(
+    bytes: &[u8],
+    offset: usize,
+    len: usize,
+    from: usize,
+) -> RowMaskRun
+    requires bitmap { IsWithinBytes bytes.now offset len }
+    requires within { from ≤ len }
+    ensures starts { IsFirstFrom (bitmap bytes.now offset len) from true result.start }
+    ensures ends { IsFirstFrom (bitmap bytes.now offset len) result.start false result.end }
+{
+    let start = first_from(bytes, offset, len, from, true);
+    let end = first_from(bytes, offset, len, start, false);
+    RowMaskRun { start, end }
+}
