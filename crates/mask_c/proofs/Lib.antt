@@ -1,2 +1,3 @@
-mod Bitmaps
-mod First
+mod BitmapLemmas
+mod ChooseLemmas
+mod FirstLemmas

@@ -89,7 +89,7 @@ pub extern "C" fn row_mask_not(bytes: &[u8], offset: usize, len: usize, out: &mu
 
 /// The same values, from bit 0 on.
 #[unsafe(no_mangle)]
-#[tactic(auto, using(crate::proofs::Bitmaps::first_of_itself))]
+#[tactic(auto, using(crate::proofs::BitmapLemmas::first_of_itself))]
 pub extern "C" fn row_mask_copy(bytes: &[u8], offset: usize, len: usize, out: &mut [u8])
     requires bitmap { IsWithinBytes bytes.now offset len }
     requires room { 8 * div_ceil len 64 ≤ length out.old }

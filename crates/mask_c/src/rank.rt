@@ -4,9 +4,10 @@ ghost use Rattle.std.specs.Prelude.{◌≡◌, ◌*◌, ◌<◌, All, length};
 ghost use Rattle.std.specs.Int.{div_ceil};
 ghost use Rattle.std.specs.List.Sorted.{IsStrictlyIncreasing};
 ghost use Rattle.mask_bits.specs.Buffer.{IsWithinBytes};
-ghost use Rattle.mask_bits.specs.Positions.{at_places, count, positions, rank_intersection};
+ghost use Rattle.mask_bits.specs.Positions.{at_places, count, positions, rank_intersection, true_at};
 ghost use Rattle.mask_c.specs.Bitmap.{bitmap};
 
+use mask_bits::counts::count_bits;
 use mask_bits::{BitChunks, laws};
 use vortex_mask::intersect_by_rank::rank_words::narrow_at_ranks;
 use vortex_mask::intersect_by_rank::words::narrow_by_bits;
@@ -53,12 +54,16 @@ pub extern "C" fn row_mask_intersect_at_ranks(
     requires ascending { IsStrictlyIncreasing ranks.now }
     requires within { All (λ k. k < count (bitmap bytes.now offset len)) ranks.now }
     requires room { length out.old ≡ 8 * div_ceil len 64 }
-    ensures { positions (bitmap out.new 0 len)
-        ≡ at_places (positions (bitmap bytes.now offset len)) ranks.now }
+    ensures { bitmap out.new 0 len
+        ≡ true_at len (at_places (positions (bitmap bytes.now offset len)) ranks.now) }
 {
     laws::length_of_values();
     let chunks = BitChunks::new(bytes, offset, len);
-    let _ = narrow_at_ranks::<Portable>(&chunks, ranks, out);
+    if are_sparse(count_bits(bytes, offset, len), len) {
+        let _ = narrow_at_ranks::<PortableLoop>(&chunks, ranks, out);
+    } else {
+        let _ = narrow_at_ranks::<Portable>(&chunks, ranks, out);
+    }
 }
 
 // Whether so few values are true that the deposit is quicker which goes from one to the next.

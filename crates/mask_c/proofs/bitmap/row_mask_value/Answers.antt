@@ -1,6 +1,6 @@
 use Rattle.std.proofs.Common.{◌+◌, ◌/◌, ◌%◌, get_or}
 use Rattle.std.proofs.lemmas.Nat.Bits.{shr_and_one}
-use Rattle.mask_c.proofs.Bitmaps.{slice_get-bitmap}
+use Rattle.mask_c.proofs.BitmapLemmas.{slice_get-bitmap}
 use Rattle.mask_c.proofs.bitmap.row_mask_value.Goals as goal
 
 pub returns : goal.returns

@@ -1,6 +1,6 @@
 use Rattle.std.proofs.Common.{ap, ◌∙◌}
 use Rattle.mask_bits.specs.Positions.{count}
-use Rattle.mask_c.proofs.Bitmaps.{bitmap-part}
+use Rattle.mask_c.proofs.BitmapLemmas.{bitmap-part}
 use Rattle.mask_c.proofs.counts.row_mask_count_range.Goals as goal
 
 pub returns : goal.returns

@@ -2,7 +2,7 @@ use Rattle.std.proofs.Common.{length, refl, sym, ap, ◌∙◌, arith}
 use Rattle.std.proofs.lemmas.Bool.{false≢true}
 use Rattle.std.proofs.lemmas.List.{ext_get_or}
 use Rattle.mask_bits.proofs.Lists.BitsLemmas.{length-bits_at}
-use Rattle.mask_c.proofs.Bitmaps.{same_word, same_values-more}
+use Rattle.mask_c.proofs.BitmapLemmas.{same_word, same_values-more}
 use Rattle.mask_c.proofs.equal.row_mask_equal.Goals as goal
 
 pub started_word-requires : goal.started_word-requires

@@ -1,6 +1,6 @@
 use Rattle.std.proofs.Common.{not, inl, inr, arith}
 use Rattle.std.proofs.lemmas.Bool.{cases_lt}
-use Rattle.mask_c.proofs.First.{passed_more, first_index}
+use Rattle.mask_c.proofs.FirstLemmas.{passed_more, first_index}
 use Rattle.mask_c.proofs.indices.first_from.Goals as goal
 
 pub returns-then-run-lt64 : goal.returns-then-run-lt64

@@ -1,7 +1,7 @@
 use Rattle.std.proofs.Common.{sym, ◌∙◌}
 use Rattle.mask_bits.specs.Words.{word_bits}
 use Rattle.mask_bits.proofs.Lists.WordLemmas.{length-word_bits}
-use Rattle.mask_c.proofs.Bitmaps.{first_of}
+use Rattle.mask_c.proofs.BitmapLemmas.{first_of}
 use Rattle.mask_c.proofs.pointwise.FirstBitOp.of.Goals as goal
 
 pub returns : goal.returns

@@ -1,0 +1,112 @@
+-- The rows at the true values of a list, one started word after another.
+use Rattle.std.proofs.Common.{◌≡◌, ℕ, suc, nat_eq, ◌+◌, ◌-◌, ◌*◌, ◌^◌, ◌<◌, ◌≤◌, Bool, true, false, List, [], ◌∷◌, ◌++◌, length, get_or, take, drop, map, slice_get, Some, refl, sym, subst, ap, ap₂, ◌∙◌, add-zero, inl, inr, arith}
+use Rattle.std.proofs.Math.Seq.{take-add}
+use Rattle.std.specs.Int.RustNames.{bit_and}
+use Rattle.std.specs.List.{All, cons_option, filter_map}
+use Rattle.std.proofs.lemmas.Bool.{cases_lt}
+use Rattle.std.proofs.lemmas.List.{get_or-drop, get_or-take, get_or_past, length-drop, length-take, take-append-drop, take_all}
+use Rattle.std.proofs.lemmas.List.Elements.{All-head, All-weaker, filter_map-append}
+use Rattle.std.proofs.lemmas.Nat.Bits.{bit_at-zero}
+use Rattle.std.proofs.lemmas.Option.{slice_get-get_or, slice_get_cases, slice_get_past}
+use Rattle.mask_bits.specs.Positions.{chosen, count, places_from, positions}
+use Rattle.mask_bits.specs.Words.{padded_part, word_bits}
+use Rattle.mask_bits.proofs.Lists.ChooseLemmas.{chosen_at_positions}
+use Rattle.mask_bits.proofs.Lists.CountLemmas.{count-append}
+use Rattle.mask_bits.proofs.Lists.LowestLemmas.{low}
+use Rattle.mask_bits.proofs.Lists.PaddedLemmas.{get_or-padded_part, length-padded_part}
+use Rattle.mask_bits.proofs.Lists.PlaceLemmas.{positions-within}
+use Rattle.mask_bits.proofs.Lists.SelectLemmas.{no_place, places_from-append, places_from-moved, positions-lowest}
+use Rattle.mask_bits.proofs.Lists.WordLemmas.{get_or-word_bits, length-word_bits}
+
+-- the rows at some indices
+abbrev pub rows_at : {X : Type 0} → List X → List ℕ → List X
+rows_at rows ps = filter_map (λ p. slice_get rows p) ps
+
+-- ---- places
+
+-- false values past the end have no place
+places-same : (n : ℕ) (xs ys : List Bool) → ((i : ℕ) → get_or xs i false ≡ get_or ys i false) → places_from n xs ≡ places_from n ys
+places-same n [] ys same = sym (no_place ys n (λ i. sym (same i)))
+places-same n (true ∷ xs) [] same = let h : true ≡ false = same 0 in absurd (cc)
+places-same n (false ∷ xs) [] same = places-same (n + 1) xs [] (λ i. same (suc i))
+places-same n (true ∷ xs) (true ∷ ys) same = ap (λ (ps : List ℕ). n ∷ ps) (places-same (n + 1) xs ys (λ i. same (suc i)))
+places-same n (true ∷ xs) (false ∷ ys) same = let h : true ≡ false = same 0 in absurd (cc)
+places-same n (false ∷ xs) (true ∷ ys) same = let h : false ≡ true = same 0 in absurd (cc)
+places-same n (false ∷ xs) (false ∷ ys) same = places-same (n + 1) xs ys (λ i. same (suc i))
+
+-- a started part has the places of its values
+places-part : (m : List Bool) (i n : ℕ) → places_from n (take 64 (drop (64 * i) m)) ≡ places_from n (padded_part m i)
+places-part m i n =
+    let rest : List Bool = drop (64 * i) m in
+    places-same n (take 64 rest) (padded_part m i) (λ j. elim (cases_lt j 64) [
+      | inl h ↦ get_or-take 64 rest j false h ∙ get_or-drop (64 * i) m j false ∙ sym (get_or-padded_part m i j h)
+      | inr past ↦ get_or_past (take 64 rest) j false (omega (arith, length-take 64 rest)) ∙ sym (get_or_past (padded_part m i) j false (omega (arith, length-padded_part m i)))
+    ])
+
+-- the places of one more started word
+positions-word_more : (m : List Bool) (i : ℕ) → 64 * i ≤ length m
+    → positions (take (64 * (i + 1)) m) ≡ positions (take (64 * i) m) ++ map (λ p. 64 * i + p) (positions (padded_part m i))
+positions-word_more m i within =
+    let front : List Bool = take (64 * i) m in
+    let here : List Bool = take 64 (drop (64 * i) m) in
+    let next : 64 * (i + 1) ≡ 64 * i + 64 = omega arith in
+    let len : 0 + length front ≡ 64 * i = omega (arith, length-take (64 * i) m) in
+    ap (λ n. positions (take n m)) next ∙ ap positions (take-add (64 * i) 64 m) ∙ places_from-append 0 front here
+    ∙ ap (λ (ps : List ℕ). positions front ++ ps)
+    (ap (λ n. places_from n here) len ∙ places-part m i (64 * i)
+    ∙ ap (λ n. places_from n (padded_part m i)) (sym (add-zero (64 * i))) ∙ places_from-moved (64 * i) 0 (padded_part m i))
+
+-- the lowest place of a word is a place of it
+pub lowest-within : (w n : ℕ) → 0 < w → w < 2 ^ 64 → All (λ p. p < n) (positions (word_bits w)) → low w < n
+lowest-within w n some fits within =
+    All-head (λ p. p < n) (low w) (positions (word_bits (bit_and w (w - 1)))) (subst (All (λ p. p < n)) (positions-lowest w some fits) within)
+
+-- no bit of 0 is set
+pub no_bits : (w : ℕ) → w ≡ 0 → positions (word_bits w) ≡ []
+no_bits w none =
+    ap (λ n. positions (word_bits n)) none
+    ∙ no_place (word_bits 0) 0 (λ i. elim (cases_lt i 64) [
+      | inl h ↦ get_or-word_bits 0 i false h ∙ ap (λ b. nat_eq b 1) (bit_at-zero i)
+      | inr past ↦ get_or_past (word_bits 0) i false (omega (arith, length-word_bits 0))
+    ])
+
+-- ---- rows
+
+slice_get-drop : {X : Type 0} (rows : List X) (n p : ℕ) → slice_get rows (n + p) ≡ slice_get (drop n rows) p
+slice_get-drop rows n p = elim (slice_get_cases rows (n + p)).1 [
+  | inl h ↦
+      h.2 ∙ sym (slice_get-get_or (drop n rows) p h.0 (omega (arith, length-drop n rows, h.1)) ∙ ap Some (get_or-drop n rows p h.0 ∙ h.3))
+  | inr h ↦ h.1 ∙ sym (slice_get_past (drop n rows) p (omega (arith, length-drop n rows, h.0)))
+]
+
+rows_at-moved : {X : Type 0} (rows : List X) (n : ℕ) (ps : List ℕ) → rows_at rows (map (λ p. n + p) ps) ≡ rows_at (drop n rows) ps
+rows_at-moved rows n [] = refl
+rows_at-moved {X} rows n (p ∷ ps) = ap₂ (λ o (xs : List X). cons_option o xs) (slice_get-drop rows n p) (rows_at-moved rows n ps)
+
+-- the rows of one more started word
+pub rows-word_more : {X : Type 0} (rows : List X) (m : List Bool) (i : ℕ) → 64 * i ≤ length m
+    → rows_at rows (positions (take (64 * (i + 1)) m)) ≡ rows_at rows (positions (take (64 * i) m)) ++ rows_at (drop (64 * i) rows) (positions (padded_part m i))
+rows-word_more {X} rows m i within =
+    let front : List ℕ = positions (take (64 * i) m) in
+    let here : List ℕ = positions (padded_part m i) in
+    ap (rows_at rows) (positions-word_more m i within)
+    ∙ filter_map-append (λ p. slice_get rows p) front (map (λ p. 64 * i + p) here)
+    ∙ ap (λ (xs : List X). rows_at rows front ++ xs) (rows_at-moved rows (64 * i) here)
+
+-- the places of a started part are those of rows
+pub part-within : {X : Type 0} (rows : List X) (m : List Bool) (i : ℕ) → length rows ≡ length m
+    → All (λ p. p < length (drop (64 * i) rows)) (positions (padded_part m i))
+part-within rows m i len =
+    let here : List Bool = take 64 (drop (64 * i) m) in
+    let few : length here ≤ length (drop (64 * i) rows) = omega (arith, length-take 64 (drop (64 * i) m), length-drop (64 * i) m, length-drop (64 * i) rows) in
+    subst (All (λ p. p < length (drop (64 * i) rows))) (places-part m i 0)
+    (All-weaker (λ p. p < length here) (λ p. p < length (drop (64 * i) rows)) (λ p h. omega arith) (positions here) (positions-within here))
+
+-- no part has more true values than the whole
+pub count_below-le-count : (m : List Bool) (n : ℕ) → count (take n m) ≤ count m
+count_below-le-count m n = omega (arith, count-append (take n m) (drop n m), ap count (take-append-drop n m))
+
+-- all words have all rows
+pub rows-all : {X : Type 0} (rows : List X) (m : List Bool) (n : ℕ) → length m ≤ n → rows_at rows (positions (take n m)) ≡ chosen rows m
+rows-all rows m n past =
+    ap (λ (x : List Bool). rows_at rows (positions x)) (take_all n m past) ∙ sym (chosen_at_positions rows m)
