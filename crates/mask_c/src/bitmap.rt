@@ -5,7 +5,8 @@ ghost use Rattle.std.specs.Int.{div_ceil};
 ghost use Rattle.mask_bits.specs.Buffer.{IsWithinBytes};
 ghost use Rattle.mask_c.specs.Bitmap.{bitmap};
 
-/// Whether the `len` bits from bit `offset` on are within the bytes, as each call on a bitmap asks.
+/// Whether the `len` bits from bit `offset` on are within the bytes, as each other call on a bitmap
+/// takes for granted.
 #[unsafe(no_mangle)]
 pub extern "C" fn row_mask_is_within(bytes: &[u8], offset: usize, len: usize) -> bool
     ensures { IsTrue result ↔ IsWithinBytes bytes.now offset len }
@@ -13,7 +14,7 @@ pub extern "C" fn row_mask_is_within(bytes: &[u8], offset: usize, len: usize) ->
     len <= usize::MAX - offset && (offset + len).div_ceil(8) <= bytes.len()
 }
 
-/// How many bytes of room a result of `len` values takes: whole words of 64.
+/// How many bytes of room a bitmap of `len` values takes: those of whole words of 64.
 #[unsafe(no_mangle)]
 pub extern "C" fn row_mask_room(len: usize) -> usize
     ensures { result ≡ 8 * div_ceil len 64 }
@@ -22,6 +23,8 @@ pub extern "C" fn row_mask_room(len: usize) -> usize
 }
 
 /// Value `i`.
+///
+/// Asks that `i < len`.
 #[unsafe(no_mangle)]
 pub extern "C" fn row_mask_value(bytes: &[u8], offset: usize, len: usize, i: usize) -> bool
     requires bitmap { IsWithinBytes bytes.now offset len }

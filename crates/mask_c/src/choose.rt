@@ -20,6 +20,8 @@ pub struct RowMask16 {
 
 /// Writes the rows at the true values, in their order, to the front of `out`, and answers how many
 /// they are. A row has 1 byte.
+///
+/// Asks that `rows_size == len`, and that `out_size` is at least the count of the true values.
 #[unsafe(no_mangle)]
 pub extern "C" fn row_mask_choose_1(
     bytes: &[u8],
@@ -37,7 +39,10 @@ pub extern "C" fn row_mask_choose_1(
     choose(bytes, offset, len, rows, out)
 }
 
-/// The same for rows of 2 bytes.
+/// Writes the rows at the true values, in their order, to the front of `out`, and answers how many
+/// they are. A row has 2 bytes.
+///
+/// Asks that `rows_size == len`, and that `out_size` is at least the count of the true values.
 #[unsafe(no_mangle)]
 pub extern "C" fn row_mask_choose_2(
     bytes: &[u8],
@@ -55,7 +60,10 @@ pub extern "C" fn row_mask_choose_2(
     choose(bytes, offset, len, rows, out)
 }
 
-/// The same for rows of 4 bytes.
+/// Writes the rows at the true values, in their order, to the front of `out`, and answers how many
+/// they are. A row has 4 bytes.
+///
+/// Asks that `rows_size == len`, and that `out_size` is at least the count of the true values.
 #[unsafe(no_mangle)]
 pub extern "C" fn row_mask_choose_4(
     bytes: &[u8],
@@ -73,7 +81,10 @@ pub extern "C" fn row_mask_choose_4(
     choose(bytes, offset, len, rows, out)
 }
 
-/// The same for rows of 8 bytes.
+/// Writes the rows at the true values, in their order, to the front of `out`, and answers how many
+/// they are. A row has 8 bytes.
+///
+/// Asks that `rows_size == len`, and that `out_size` is at least the count of the true values.
 #[unsafe(no_mangle)]
 pub extern "C" fn row_mask_choose_8(
     bytes: &[u8],
@@ -91,7 +102,10 @@ pub extern "C" fn row_mask_choose_8(
     choose(bytes, offset, len, rows, out)
 }
 
-/// The same for rows of 16 bytes.
+/// Writes the rows at the true values, in their order, to the front of `out`, and answers how many
+/// they are. A row has 16 bytes.
+///
+/// Asks that `rows_size == len`, and that `out_size` is at least the count of the true values.
 #[unsafe(no_mangle)]
 pub extern "C" fn row_mask_choose_16(
     bytes: &[u8],

@@ -17,7 +17,9 @@ pub extern "C" fn row_mask_count(bytes: &[u8], offset: usize, len: usize) -> usi
     count_bits(bytes, offset, len)
 }
 
-/// How many of the values from `start` to `end` are true.
+/// How many of the values from `start` to `end` are true, the end left out.
+///
+/// Asks that `start <= end` and `end <= len`.
 #[unsafe(no_mangle)]
 pub extern "C" fn row_mask_count_range(
     bytes: &[u8],
@@ -34,7 +36,11 @@ pub extern "C" fn row_mask_count_range(
     count_bits(bytes, offset + start, end - start)
 }
 
-/// For each index how many of the values below it are true.
+/// Writes for each index how many of the values below it are true. Values are counted once for all
+/// indices, up to the last of them.
+///
+/// Asks that the indices ascend (repeats are allowed), that each is at most `len`, and that
+/// `out_size == indices_size`.
 #[unsafe(no_mangle)]
 pub extern "C" fn row_mask_counts_below(
     bytes: &[u8],

@@ -43,7 +43,10 @@ fn place_in_word(word: u64, n: usize) -> usize
     word.trailing_zeros() as usize
 }
 
-/// The first index from `from` on whose value is true, and `len` where there is none.
+/// The first index from `from` on whose value is true, and `len` where there is none. So a walk over
+/// the true values goes on from one past the index that it got.
+///
+/// Asks that `from <= len`.
 #[unsafe(no_mangle)]
 pub extern "C" fn row_mask_next_index(
     bytes: &[u8],

@@ -21,7 +21,9 @@ impl BitOp for First {
     }
 }
 
-/// The values that are true in both.
+/// Writes the values that are true in both.
+///
+/// Asks that `out_size >= row_mask_room(len)`.
 #[unsafe(no_mangle)]
 pub extern "C" fn row_mask_and(
     a: &[u8],
@@ -39,7 +41,9 @@ pub extern "C" fn row_mask_and(
     combine::<And>(a, a_offset, b, b_offset, len, out);
 }
 
-/// The values that are true in one or in both.
+/// Writes the values that are true in one or in both.
+///
+/// Asks that `out_size >= row_mask_room(len)`.
 #[unsafe(no_mangle)]
 pub extern "C" fn row_mask_or(
     a: &[u8],
@@ -57,7 +61,9 @@ pub extern "C" fn row_mask_or(
     combine::<Or>(a, a_offset, b, b_offset, len, out);
 }
 
-/// The values that are true in `a` and not in `b`.
+/// Writes the values that are true in `a` and not in `b`.
+///
+/// Asks that `out_size >= row_mask_room(len)`.
 #[unsafe(no_mangle)]
 pub extern "C" fn row_mask_and_not(
     a: &[u8],
@@ -76,7 +82,9 @@ pub extern "C" fn row_mask_and_not(
     combine::<AndNot>(a, a_offset, b, b_offset, len, out);
 }
 
-/// Each value negated.
+/// Writes each value negated.
+///
+/// Asks that `out_size >= row_mask_room(len)`.
 #[unsafe(no_mangle)]
 #[tactic(auto, using(mask_bits::proofs::Lists::BooleanLemmas::combined_itself))]
 pub extern "C" fn row_mask_not(bytes: &[u8], offset: usize, len: usize, out: &mut [u8])
@@ -87,7 +95,9 @@ pub extern "C" fn row_mask_not(bytes: &[u8], offset: usize, len: usize, out: &mu
     combine::<Not>(bytes, offset, bytes, offset, len, out);
 }
 
-/// The same values, from bit 0 on.
+/// Writes the same values, from bit 0 on.
+///
+/// Asks that `out_size >= row_mask_room(len)`.
 #[unsafe(no_mangle)]
 #[tactic(auto, using(crate::proofs::BitmapLemmas::first_of_itself))]
 pub extern "C" fn row_mask_copy(bytes: &[u8], offset: usize, len: usize, out: &mut [u8])

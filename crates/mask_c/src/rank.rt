@@ -13,7 +13,11 @@ use vortex_mask::intersect_by_rank::rank_words::narrow_at_ranks;
 use vortex_mask::intersect_by_rank::words::narrow_by_bits;
 use vortex_mask::intersect_by_rank::{Portable, PortableLoop, RankBits};
 
-/// The bitmap in which true value number `k` stays true exactly where value `k` of `ranks` is true.
+/// Writes the bitmap narrowed by another over its true values: true value number `k` stays true
+/// exactly where value `k` of `ranks` is true.
+///
+/// Asks that `ranks_len` is the count of the bitmap's true values, and that
+/// `out_size == row_mask_room(len)`.
 #[unsafe(no_mangle)]
 pub extern "C" fn row_mask_intersect_by_rank(
     bytes: &[u8],
@@ -41,7 +45,10 @@ pub extern "C" fn row_mask_intersect_by_rank(
     }
 }
 
-/// The bitmap in which the true values stay true whose numbers are `ranks`.
+/// Writes the bitmap in which just those true values stay true whose numbers are `ranks`.
+///
+/// Asks that each rank is above the one before it and below the count of the bitmap's true values,
+/// and that `out_size == row_mask_room(len)`.
 #[unsafe(no_mangle)]
 pub extern "C" fn row_mask_intersect_at_ranks(
     bytes: &[u8],

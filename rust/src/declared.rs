@@ -1,0 +1,215 @@
+//! The exported functions. Made by `declarations` from `crates/mask_c`: edit that.
+
+/// The indices from `start` to `end`, the end left out.
+#[derive(Clone, Copy)]
+#[repr(C)]
+pub(crate) struct RowMaskRun {
+    pub(crate) start: usize,
+    pub(crate) end: usize,
+}
+
+/// A row of 16 bytes.
+#[derive(Clone, Copy)]
+#[repr(C)]
+pub(crate) struct RowMask16 {
+    pub(crate) first: u64,
+    pub(crate) second: u64,
+}
+
+unsafe extern "C" {
+    pub(crate) fn row_mask_is_within(
+        bytes: *const u8,
+        bytes_size: usize,
+        offset: usize,
+        len: usize,
+    ) -> bool;
+    pub(crate) fn row_mask_room(len: usize) -> usize;
+    pub(crate) fn row_mask_value(
+        bytes: *const u8,
+        bytes_size: usize,
+        offset: usize,
+        len: usize,
+        i: usize,
+    ) -> bool;
+    pub(crate) fn row_mask_count(
+        bytes: *const u8,
+        bytes_size: usize,
+        offset: usize,
+        len: usize,
+    ) -> usize;
+    pub(crate) fn row_mask_count_range(
+        bytes: *const u8,
+        bytes_size: usize,
+        offset: usize,
+        len: usize,
+        start: usize,
+        end: usize,
+    ) -> usize;
+    pub(crate) fn row_mask_counts_below(
+        bytes: *const u8,
+        bytes_size: usize,
+        offset: usize,
+        len: usize,
+        indices: *const usize,
+        indices_size: usize,
+        out: *mut usize,
+        out_size: usize,
+    );
+    pub(crate) fn row_mask_select(
+        bytes: *const u8,
+        bytes_size: usize,
+        offset: usize,
+        len: usize,
+        n: usize,
+    ) -> usize;
+    pub(crate) fn row_mask_next_index(
+        bytes: *const u8,
+        bytes_size: usize,
+        offset: usize,
+        len: usize,
+        from: usize,
+    ) -> usize;
+    pub(crate) fn row_mask_last_index(
+        bytes: *const u8,
+        bytes_size: usize,
+        offset: usize,
+        len: usize,
+    ) -> usize;
+    pub(crate) fn row_mask_next_run(
+        bytes: *const u8,
+        bytes_size: usize,
+        offset: usize,
+        len: usize,
+        from: usize,
+    ) -> RowMaskRun;
+    pub(crate) fn row_mask_and(
+        a: *const u8,
+        a_size: usize,
+        a_offset: usize,
+        b: *const u8,
+        b_size: usize,
+        b_offset: usize,
+        len: usize,
+        out: *mut u8,
+        out_size: usize,
+    );
+    pub(crate) fn row_mask_or(
+        a: *const u8,
+        a_size: usize,
+        a_offset: usize,
+        b: *const u8,
+        b_size: usize,
+        b_offset: usize,
+        len: usize,
+        out: *mut u8,
+        out_size: usize,
+    );
+    pub(crate) fn row_mask_and_not(
+        a: *const u8,
+        a_size: usize,
+        a_offset: usize,
+        b: *const u8,
+        b_size: usize,
+        b_offset: usize,
+        len: usize,
+        out: *mut u8,
+        out_size: usize,
+    );
+    pub(crate) fn row_mask_not(
+        bytes: *const u8,
+        bytes_size: usize,
+        offset: usize,
+        len: usize,
+        out: *mut u8,
+        out_size: usize,
+    );
+    pub(crate) fn row_mask_copy(
+        bytes: *const u8,
+        bytes_size: usize,
+        offset: usize,
+        len: usize,
+        out: *mut u8,
+        out_size: usize,
+    );
+    pub(crate) fn row_mask_equal(
+        a: *const u8,
+        a_size: usize,
+        a_offset: usize,
+        b: *const u8,
+        b_size: usize,
+        b_offset: usize,
+        len: usize,
+    ) -> bool;
+    pub(crate) fn row_mask_intersect_by_rank(
+        bytes: *const u8,
+        bytes_size: usize,
+        offset: usize,
+        len: usize,
+        ranks: *const u8,
+        ranks_size: usize,
+        ranks_offset: usize,
+        ranks_len: usize,
+        out: *mut u8,
+        out_size: usize,
+    );
+    pub(crate) fn row_mask_intersect_at_ranks(
+        bytes: *const u8,
+        bytes_size: usize,
+        offset: usize,
+        len: usize,
+        ranks: *const usize,
+        ranks_size: usize,
+        out: *mut u8,
+        out_size: usize,
+    );
+    pub(crate) fn row_mask_choose_1(
+        bytes: *const u8,
+        bytes_size: usize,
+        offset: usize,
+        len: usize,
+        rows: *const u8,
+        rows_size: usize,
+        out: *mut u8,
+        out_size: usize,
+    ) -> usize;
+    pub(crate) fn row_mask_choose_2(
+        bytes: *const u8,
+        bytes_size: usize,
+        offset: usize,
+        len: usize,
+        rows: *const u16,
+        rows_size: usize,
+        out: *mut u16,
+        out_size: usize,
+    ) -> usize;
+    pub(crate) fn row_mask_choose_4(
+        bytes: *const u8,
+        bytes_size: usize,
+        offset: usize,
+        len: usize,
+        rows: *const u32,
+        rows_size: usize,
+        out: *mut u32,
+        out_size: usize,
+    ) -> usize;
+    pub(crate) fn row_mask_choose_8(
+        bytes: *const u8,
+        bytes_size: usize,
+        offset: usize,
+        len: usize,
+        rows: *const u64,
+        rows_size: usize,
+        out: *mut u64,
+        out_size: usize,
+    ) -> usize;
+    pub(crate) fn row_mask_choose_16(
+        bytes: *const u8,
+        bytes_size: usize,
+        offset: usize,
+        len: usize,
+        rows: *const RowMask16,
+        rows_size: usize,
+        out: *mut RowMask16,
+        out_size: usize,
+    ) -> usize;
+}

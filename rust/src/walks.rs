@@ -1,0 +1,94 @@
+use crate::Bitmap;
+use std::iter::FusedIterator;
+use std::ops::Range;
+
+/// The values of a [`Bitmap`], in their order.
+#[derive(Clone, Debug)]
+pub struct Values<'a> {
+    bitmap: Bitmap<'a>,
+    next: usize,
+}
+
+/// The indices of the true values of a [`Bitmap`], ascending.
+#[derive(Clone, Debug)]
+pub struct Indices<'a> {
+    bitmap: Bitmap<'a>,
+    next: usize,
+}
+
+/// The maximal ranges of true values of a [`Bitmap`], ascending.
+#[derive(Clone, Debug)]
+pub struct Runs<'a> {
+    bitmap: Bitmap<'a>,
+    next: usize,
+}
+
+impl<'a> Values<'a> {
+    pub(crate) fn new(bitmap: Bitmap<'a>) -> Values<'a> {
+        Values { bitmap, next: 0 }
+    }
+}
+
+impl<'a> Indices<'a> {
+    pub(crate) fn new(bitmap: Bitmap<'a>) -> Indices<'a> {
+        Indices { bitmap, next: 0 }
+    }
+}
+
+impl<'a> Runs<'a> {
+    pub(crate) fn new(bitmap: Bitmap<'a>) -> Runs<'a> {
+        Runs { bitmap, next: 0 }
+    }
+}
+
+impl Iterator for Values<'_> {
+    type Item = bool;
+
+    fn next(&mut self) -> Option<bool> {
+        let value = self.bitmap.get(self.next)?;
+        self.next += 1;
+        Some(value)
+    }
+
+    fn size_hint(&self) -> (usize, Option<usize>) {
+        let left = self.bitmap.len() - self.next;
+        (left, Some(left))
+    }
+}
+
+impl ExactSizeIterator for Values<'_> {}
+
+impl FusedIterator for Values<'_> {}
+
+impl Iterator for Indices<'_> {
+    type Item = usize;
+
+    fn next(&mut self) -> Option<usize> {
+        let index = self.bitmap.next_index(self.next);
+        // past the last true value the walk stays at the end
+        self.next = index.map_or(self.bitmap.len(), |index| index + 1);
+        index
+    }
+
+    fn size_hint(&self) -> (usize, Option<usize>) {
+        (0, Some(self.bitmap.len() - self.next))
+    }
+}
+
+impl FusedIterator for Indices<'_> {}
+
+impl Iterator for Runs<'_> {
+    type Item = Range<usize>;
+
+    fn next(&mut self) -> Option<Range<usize>> {
+        let run = self.bitmap.next_run(self.next);
+        self.next = run.as_ref().map_or(self.bitmap.len(), |run| run.end);
+        run
+    }
+
+    fn size_hint(&self) -> (usize, Option<usize>) {
+        (0, Some((self.bitmap.len() - self.next).div_ceil(2)))
+    }
+}
+
+impl FusedIterator for Runs<'_> {}
