@@ -108,7 +108,7 @@ def functions_in(file):
     text = file.read_text()
     code = blanked(text)
     blocks = list(blocks_of(code))
-    for it in re.finditer(r"\b(pub(?:\([^)]*\))? )?(?:const |unsafe )*fn (\w+)", code):
+    for it in re.finditer(r"\b(pub(?:\([^)]*\))? )?(?:const |unsafe |extern +)*fn (\w+)", code):
         clauses, sign, end = clauses_after(code, text, it.end())
         block = next((block for block in reversed(blocks) if block.start < it.start() < block.end), None)
         owner = block.owner if block else file.stem

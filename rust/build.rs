@@ -43,23 +43,8 @@ fn build_fixedbitset() {
     };
     let out = env::var("OUT_DIR").expect("cargo sets OUT_DIR");
     let done = Command::new(env::var("RUSTC").expect("cargo sets RUSTC"))
-        .args([
-            "--crate-name",
-            "fixedbitset",
-            "--crate-type",
-            "rlib",
-            "--edition",
-            "2018",
-        ])
-        .args([
-            "-O",
-            "--cap-lints",
-            "allow",
-            "--cfg",
-            "feature=\"std\"",
-            "--out-dir",
-            &out,
-        ])
+        .args(["--crate-name", "fixedbitset", "--crate-type", "rlib", "--edition", "2018"])
+        .args(["-O", "--cap-lints", "allow", "--cfg", "feature=\"std\"", "--out-dir", &out])
         .arg(format!("{source}/src/lib.rs"))
         .status()
         .is_ok_and(|status| status.success());

@@ -23,10 +23,11 @@ pub struct Bitmap<'a> {
     len: usize,
 }
 
-// SAFETY of the calls in this file: `Bitmap::new` is the one place that makes a bitmap of bytes, and
-// tests that its bits are within them, so `row_mask_is_within` holds of each. The pointers and sizes
-// passed are those of slices, which are borrowed for the call, `out` is one that was made for it, and
-// what a function asks beside that is tested or made so just above its call.
+// SAFETY of the calls in this file: a bitmap is made by `new`, which tests that its bits are within
+// the bytes, by `slice`, which takes a part of them, and by `of_room`, whose bytes are room for the
+// values. So `row_mask_is_within` holds of each. The pointers and sizes passed are those of slices,
+// which are borrowed for the call, `out` is one that was made for it, and what a function asks beside
+// that is tested or made so just above its call.
 impl<'a> Bitmap<'a> {
     /// The `len` bits of `bytes` from bit `offset` on.
     ///
@@ -40,6 +41,12 @@ impl<'a> Bitmap<'a> {
         }
         let bytes = bytes.len();
         Err(Error::OutOfBytes { bytes, offset, len })
+    }
+
+    // The values of a `BitmapBuf`, whose bytes are room for them.
+    pub(crate) fn of_room(bytes: &'a [u8], len: usize) -> Bitmap<'a> {
+        debug_assert!(len <= 8 * bytes.len());
+        Bitmap { bytes, offset: 0, len }
     }
 
     /// How many values there are.
@@ -88,11 +95,7 @@ impl<'a> Bitmap<'a> {
     /// [`Error::BadRange`] where they are no range of the values.
     pub fn slice(self, start: usize, end: usize) -> Result<Bitmap<'a>, Error> {
         self.check_range(start, end)?;
-        Ok(Bitmap {
-            bytes: self.bytes,
-            offset: self.offset + start,
-            len: end - start,
-        })
+        Ok(Bitmap { bytes: self.bytes, offset: self.offset + start, len: end - start })
     }
 
     /// How many values are true.
@@ -142,10 +145,7 @@ impl<'a> Bitmap<'a> {
             return Err(Error::UnsortedIndices { at: at + 1 });
         }
         if let Some(&index) = indices.last().filter(|index| **index > self.len) {
-            return Err(Error::IndexOutOfBounds {
-                index,
-                len: self.len,
-            });
+            return Err(Error::IndexOutOfBounds { index, len: self.len });
         }
         let mut out = vec![0; indices.len()];
         // SAFETY: above; the indices ascend and so does the last bound them, and there is room for
@@ -292,10 +292,7 @@ impl<'a> Bitmap<'a> {
 
     /// Each value negated.
     #[must_use]
-    #[expect(
-        clippy::should_implement_trait,
-        reason = "`!` would hide that memory is taken"
-    )]
+    #[expect(clippy::should_implement_trait, reason = "`!` would hide that memory is taken")]
     pub fn not(self) -> BitmapBuf {
         BitmapBuf::filled(self.len, |out| {
             // SAFETY: above; `out` is room for the length.
@@ -339,10 +336,7 @@ impl<'a> Bitmap<'a> {
     pub fn intersect_by_rank(self, ranks: Bitmap<'_>) -> Result<BitmapBuf, Error> {
         let count = self.count();
         if ranks.len != count {
-            return Err(Error::RanksDiffer {
-                ranks: ranks.len,
-                count,
-            });
+            return Err(Error::RanksDiffer { ranks: ranks.len, count });
         }
         Ok(BitmapBuf::filled(self.len, |out| {
             // SAFETY: above; there is one rank for each true value, and `out` is the room for the
@@ -417,10 +411,7 @@ impl<'a> Bitmap<'a> {
     /// [`Error::RowsDiffer`] where there is not one row for each value.
     pub fn choose<T: Row>(self, rows: &[T]) -> Result<Vec<T>, Error> {
         if rows.len() != self.len {
-            return Err(Error::RowsDiffer {
-                rows: rows.len(),
-                len: self.len,
-            });
+            return Err(Error::RowsDiffer { rows: rows.len(), len: self.len });
         }
         let mut out = vec![T::default(); self.count()];
         // SAFETY: above; there is a row for each value, and `out` has one for each true value.
@@ -433,11 +424,7 @@ impl<'a> Bitmap<'a> {
         if start <= end && end <= self.len {
             return Ok(());
         }
-        Err(Error::BadRange {
-            start,
-            end,
-            len: self.len,
-        })
+        Err(Error::BadRange { start, end, len: self.len })
     }
 
     // An index, where a call answers the length for none.
@@ -447,10 +434,7 @@ impl<'a> Bitmap<'a> {
 
     fn joined(self, other: Bitmap<'_>, join: Join) -> Result<BitmapBuf, Error> {
         if self.len != other.len {
-            return Err(Error::LengthsDiffer {
-                left: self.len,
-                right: other.len,
-            });
+            return Err(Error::LengthsDiffer { left: self.len, right: other.len });
         }
         Ok(BitmapBuf::filled(self.len, |out| {
             // SAFETY: above; both have the length, and `out` is room for it.
@@ -507,10 +491,7 @@ impl<'a> IntoIterator for Bitmap<'a> {
 /// `1` for each true value and `0` for each false one, in their order.
 impl fmt::Display for Bitmap<'_> {
     fn fmt(&self, f: &mut fmt::Formatter<'_>) -> fmt::Result {
-        let text: String = self
-            .iter()
-            .map(|value| if value { '1' } else { '0' })
-            .collect();
+        let text: String = self.iter().map(|value| if value { '1' } else { '0' }).collect();
         f.pad(&text)
     }
 }

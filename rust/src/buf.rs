@@ -28,7 +28,7 @@ impl BitmapBuf {
     /// The values, borrowed.
     #[must_use]
     pub fn as_bitmap(&self) -> Bitmap<'_> {
-        Bitmap::new(&self.bytes, 0, self.len).expect("the bytes are room for the values")
+        Bitmap::of_room(&self.bytes, self.len)
     }
 
     /// How many values there are.

@@ -73,10 +73,7 @@ impl fmt::Display for Error {
     fn fmt(&self, f: &mut fmt::Formatter<'_>) -> fmt::Result {
         match *self {
             Error::OutOfBytes { bytes, offset, len } => {
-                write!(
-                    f,
-                    "{len} bits from bit {offset} on are not within {bytes} bytes"
-                )
+                write!(f, "{len} bits from bit {offset} on are not within {bytes} bytes")
             }
             Error::LengthsDiffer { left, right } => {
                 write!(f, "one bitmap has {left} values, and the other {right}")

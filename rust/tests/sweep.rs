@@ -4,7 +4,7 @@
 use row_mask::{Bitmap, BitmapBuf, Error};
 use std::ops::Range;
 
-/// Numbers that look random and are the same in each run (SplitMix64).
+/// Numbers that look random and are the same in each run (`SplitMix64`).
 struct Generator(u64);
 
 impl Generator {
@@ -47,6 +47,7 @@ struct Comparisons(usize);
 
 impl Comparisons {
     #[track_caller]
+    #[expect(clippy::needless_pass_by_value, reason = "calls read better")]
     fn same<T: PartialEq + std::fmt::Debug>(&mut self, got: T, want: T) {
         assert_eq!(got, want);
         self.0 += 1;
@@ -54,10 +55,7 @@ impl Comparisons {
 
     #[track_caller]
     fn same_list(&mut self, got: &BitmapBuf, want: &[bool]) {
-        assert!(
-            got.as_bitmap().iter().eq(want.iter().copied()),
-            "{got} for {want:?}"
-        );
+        assert!(got.as_bitmap().iter().eq(want.iter().copied()), "{got} for {want:?}");
         self.0 += 1;
     }
 }
@@ -102,41 +100,23 @@ fn reads(seen: &mut Comparisons, random: &mut Generator, list: &[bool], bitmap: 
     seen.same(bitmap.iter().eq(list.iter().copied()), true);
     seen.same(bitmap.indices().eq(indices.iter().copied()), true);
     seen.same(bitmap.runs().eq(runs_of(list)), true);
-    for n in [
-        0,
-        1,
-        indices.len() / 2,
-        indices.len().saturating_sub(1),
-        indices.len(),
-        usize::MAX,
-    ] {
+    for n in [0, 1, indices.len() / 2, indices.len().saturating_sub(1), indices.len(), usize::MAX] {
         seen.same(bitmap.select(n), indices.get(n).copied());
     }
     for from in [0, len / 3, random.below(len + 1), len] {
         seen.same(bitmap.get(from), list.get(from).copied());
-        seen.same(
-            bitmap.next_index(from),
-            indices.iter().copied().find(|i| *i >= from),
-        );
+        seen.same(bitmap.next_index(from), indices.iter().copied().find(|i| *i >= from));
         let run = runs_of(list).into_iter().find(|run| from < run.end);
-        seen.same(
-            bitmap.next_run(from),
-            run.map(|run| run.start.max(from)..run.end),
-        );
+        seen.same(bitmap.next_run(from), run.map(|run| run.start.max(from)..run.end));
         let end = from + random.below(len - from + 1);
-        seen.same(
-            bitmap.count_range(from, end),
-            Ok(count_of(&list[from..end])),
-        );
+        seen.same(bitmap.count_range(from, end), Ok(count_of(&list[from..end])));
         let part = bitmap.slice(from, end).unwrap();
         seen.same(part.iter().eq(list[from..end].iter().copied()), true);
         seen.same(part.count(), count_of(&list[from..end]));
     }
     seen.same(bitmap.next_index(len + 1), None);
     seen.same(bitmap.next_run(len + 1), None);
-    let mut places: Vec<usize> = (0..random.below(20))
-        .map(|_| random.below(len + 1))
-        .collect();
+    let mut places: Vec<usize> = (0..random.below(20)).map(|_| random.below(len + 1)).collect();
     places.sort_unstable();
     let below: Vec<usize> = places.iter().map(|i| count_of(&list[..*i])).collect();
     seen.same(bitmap.counts_below(&places), Ok(below));
@@ -167,10 +147,7 @@ fn makes(seen: &mut Comparisons, random: &mut Generator, list: &[bool], bitmap: 
         let mut changed = list.to_vec();
         let i = random.below(list.len());
         changed[i] = !changed[i];
-        seen.same(
-            bitmap == changed.into_iter().collect::<BitmapBuf>().as_bitmap(),
-            false,
-        );
+        seen.same(bitmap == changed.into_iter().collect::<BitmapBuf>().as_bitmap(), false);
     }
 }
 
@@ -181,10 +158,7 @@ fn narrows(seen: &mut Comparisons, random: &mut Generator, list: &[bool], bitmap
     let second = Bitmap::new(&bytes, offset, ranks.len()).unwrap();
     let want = narrowed(list, &ranks);
     seen.same_list(&bitmap.intersect_by_rank(second).unwrap(), &want);
-    seen.same_list(
-        &bitmap.intersect_at_ranks(&indices_of(&ranks)).unwrap(),
-        &want,
-    );
+    seen.same_list(&bitmap.intersect_at_ranks(&indices_of(&ranks)).unwrap(), &want);
 }
 
 fn chooses(seen: &mut Comparisons, random: &mut Generator, list: &[bool], bitmap: Bitmap<'_>) {
@@ -193,10 +167,7 @@ fn chooses(seen: &mut Comparisons, random: &mut Generator, list: &[bool], bitmap
     let (ones, twos): (Vec<u8>, Vec<u16>) =
         words.iter().map(|word| (*word as u8, *word as u16)).unzip();
     let fours: Vec<char> = ones.iter().map(|byte| char::from(*byte)).collect();
-    let sixteens: Vec<u128> = words
-        .iter()
-        .map(|word| u128::from(*word) << 64 | 7)
-        .collect();
+    let sixteens: Vec<u128> = words.iter().map(|word| u128::from(*word) << 64 | 7).collect();
     seen.same(bitmap.choose(&ones).unwrap(), chosen(&ones, list));
     seen.same(bitmap.choose(&twos).unwrap(), chosen(&twos, list));
     seen.same(bitmap.choose(&fours).unwrap(), chosen(&fours, list));
@@ -246,80 +217,35 @@ fn what_a_call_asks_is_tested() {
     assert_eq!(refused(0, 16), None);
     assert_eq!(refused(16, 0), None);
     for (offset, len) in [(0, 17), (17, 0), (9, 8), (usize::MAX, 1), (1, usize::MAX)] {
-        assert_eq!(
-            refused(offset, len),
-            Some(Error::OutOfBytes {
-                bytes: 2,
-                offset,
-                len
-            })
-        );
+        assert_eq!(refused(offset, len), Some(Error::OutOfBytes { bytes: 2, offset, len }));
     }
     assert_eq!(Bitmap::new(&[], 0, 0).unwrap().count(), 0);
 
     let eight = Bitmap::new(&bytes, 0, 8).unwrap();
     let seven = Bitmap::new(&bytes, 0, 7).unwrap();
-    assert_eq!(
-        eight.and(seven),
-        Err(Error::LengthsDiffer { left: 8, right: 7 })
-    );
+    assert_eq!(eight.and(seven), Err(Error::LengthsDiffer { left: 8, right: 7 }));
     assert_ne!(eight, seven);
     assert_eq!(eight.get(8), None);
-    assert_eq!(
-        eight.slice(3, 9).err(),
-        Some(Error::BadRange {
-            start: 3,
-            end: 9,
-            len: 8
-        })
-    );
-    assert_eq!(
-        eight.count_range(3, 2),
-        Err(Error::BadRange {
-            start: 3,
-            end: 2,
-            len: 8
-        })
-    );
-    assert_eq!(
-        eight.intersect_by_rank(seven),
-        Err(Error::RanksDiffer { ranks: 7, count: 5 })
-    );
-    assert_eq!(
-        eight.intersect_at_ranks(&[0, 2, 2]),
-        Err(Error::UnsortedRanks { at: 2 })
-    );
+    assert_eq!(eight.slice(3, 9).err(), Some(Error::BadRange { start: 3, end: 9, len: 8 }));
+    assert_eq!(eight.count_range(3, 2), Err(Error::BadRange { start: 3, end: 2, len: 8 }));
+    assert_eq!(eight.intersect_by_rank(seven), Err(Error::RanksDiffer { ranks: 7, count: 5 }));
+    assert_eq!(eight.intersect_at_ranks(&[0, 2, 2]), Err(Error::UnsortedRanks { at: 2 }));
     assert_eq!(
         eight.intersect_at_ranks(&[0, 5]),
         Err(Error::RankOutOfBounds { rank: 5, count: 5 })
     );
-    assert_eq!(
-        eight.counts_below(&[3, 3, 1]),
-        Err(Error::UnsortedIndices { at: 2 })
-    );
-    assert_eq!(
-        eight.counts_below(&[8, 9]),
-        Err(Error::IndexOutOfBounds { index: 9, len: 8 })
-    );
-    assert_eq!(
-        eight.choose(&[1, 2]),
-        Err(Error::RowsDiffer { rows: 2, len: 8 })
-    );
+    assert_eq!(eight.counts_below(&[3, 3, 1]), Err(Error::UnsortedIndices { at: 2 }));
+    assert_eq!(eight.counts_below(&[8, 9]), Err(Error::IndexOutOfBounds { index: 9, len: 8 }));
+    assert_eq!(eight.choose(&[1, 2]), Err(Error::RowsDiffer { rows: 2, len: 8 }));
 }
 
 #[test]
 fn texts() {
     let bitmap = Bitmap::new(&[0b0011_0010], 1, 6).unwrap();
-    assert_eq!(
-        format!("{bitmap}|{bitmap:>8}|{bitmap:?}"),
-        "100110|  100110|Bitmap(100110)"
-    );
+    assert_eq!(format!("{bitmap}|{bitmap:>8}|{bitmap:?}"), "100110|  100110|Bitmap(100110)");
     assert_eq!(format!("{:?}", bitmap.to_buf()), "BitmapBuf(100110)");
     let refused = bitmap.choose(&[0]).unwrap_err();
     assert_eq!(refused.to_string(), "there are 1 rows, and 6 values");
     let refused = Bitmap::new(&[0], 4, 5).unwrap_err();
-    assert_eq!(
-        refused.to_string(),
-        "5 bits from bit 4 on are not within 1 bytes"
-    );
+    assert_eq!(refused.to_string(), "5 bits from bit 4 on are not within 1 bytes");
 }
