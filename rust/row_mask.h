@@ -83,6 +83,15 @@ size_t row_mask_next_index(
 /* The index of the last true value, and `len` where there is none. */
 size_t row_mask_last_index(const uint8_t *bytes, size_t bytes_size, size_t offset, size_t len);
 
+/* Writes the indices of the true values from `from` on, ascending, to the front of `out`, as many
+ * as there are or as it takes, and answers how many these are. So a walk over all goes on from one
+ * past the last, until fewer come than `out` takes.
+ *
+ * Asks that `from <= len`. */
+size_t row_mask_next_indices(
+    const uint8_t *bytes, size_t bytes_size, size_t offset, size_t len, size_t from,
+    size_t *out, size_t out_size);
+
 /* The first run of true values from `from` on, and the empty one at `len` where there is none. A
  * run that `from` is inside begins there. So a walk over all runs goes on from the end of the one
  * that it got.

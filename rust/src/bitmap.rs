@@ -198,6 +198,26 @@ impl<'a> Bitmap<'a> {
         })
     }
 
+    /// Writes the indices of the true values from `from` on to the front of `out`, as many as there
+    /// are or as it takes, and answers how many these are.
+    pub fn next_indices(self, from: usize, out: &mut [usize]) -> usize {
+        if from > self.len {
+            return 0;
+        }
+        // SAFETY: above; `from` is at most the length.
+        unsafe {
+            declared::row_mask_next_indices(
+                self.bytes.as_ptr(),
+                self.bytes.len(),
+                self.offset,
+                self.len,
+                from,
+                out.as_mut_ptr(),
+                out.len(),
+            )
+        }
+    }
+
     /// The index of the last true value.
     #[must_use]
     pub fn last_index(self) -> Option<usize> {

@@ -75,6 +75,15 @@ unsafe extern "C" {
         offset: usize,
         len: usize,
     ) -> usize;
+    pub(crate) fn row_mask_next_indices(
+        bytes: *const u8,
+        bytes_size: usize,
+        offset: usize,
+        len: usize,
+        from: usize,
+        out: *mut usize,
+        out_size: usize,
+    ) -> usize;
     pub(crate) fn row_mask_next_run(
         bytes: *const u8,
         bytes_size: usize,

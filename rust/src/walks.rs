@@ -13,8 +13,15 @@ pub struct Values<'a> {
 #[derive(Clone, Debug)]
 pub struct Indices<'a> {
     bitmap: Bitmap<'a>,
+    // where the next batch begins, and the indices of this one that are left
     next: usize,
+    batch: [usize; BATCH],
+    given: usize,
+    filled: usize,
 }
+
+// A call gives so many indices, so that its cost is shared by them.
+const BATCH: usize = 64;
 
 /// The maximal ranges of true values of a [`Bitmap`], ascending.
 #[derive(Clone, Debug)]
@@ -31,7 +38,7 @@ impl<'a> Values<'a> {
 
 impl<'a> Indices<'a> {
     pub(crate) fn new(bitmap: Bitmap<'a>) -> Indices<'a> {
-        Indices { bitmap, next: 0 }
+        Indices { bitmap, next: 0, batch: [0; BATCH], given: 0, filled: 0 }
     }
 }
 
@@ -64,14 +71,23 @@ impl Iterator for Indices<'_> {
     type Item = usize;
 
     fn next(&mut self) -> Option<usize> {
-        let index = self.bitmap.next_index(self.next);
-        // past the last true value the walk stays at the end
-        self.next = index.map_or(self.bitmap.len(), |index| index + 1);
+        if self.given == self.filled {
+            self.given = 0;
+            self.filled = self.bitmap.next_indices(self.next, &mut self.batch);
+            // past the last true value the walk stays at the end
+            self.next = match self.filled {
+                BATCH => self.batch[BATCH - 1] + 1,
+                _ => self.bitmap.len(),
+            };
+        }
+        let index = self.batch[..self.filled].get(self.given).copied();
+        self.given += usize::from(index.is_some());
         index
     }
 
     fn size_hint(&self) -> (usize, Option<usize>) {
-        (0, Some(self.bitmap.len() - self.next))
+        let left = self.filled - self.given;
+        (left, Some(left + (self.bitmap.len() - self.next)))
     }
 }
 

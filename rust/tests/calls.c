@@ -136,6 +136,22 @@ static void counts(const bitmap *b, room indices_room, room out_room) {
         same(out[i], count_to(b, indices[i]), "counts_below");
 }
 
+static void walks(const bitmap *b, room out_room) {
+    size_t sizes[] = {0, 1, 9, 64, 300}, i, from, room, found;
+
+    for (i = 0; i < sizeof sizes / sizeof *sizes; i++)
+        for (from = 0; from <= b->len; from += 1 + b->len / 3) {
+            size_t *out = (size_t *)(void *)out_room.end - sizes[i];
+            size_t at = from;
+            found = row_mask_next_indices(WHOLE(b), from, out, sizes[i]);
+            for (room = 0; room < found; room++) {
+                at = next_in(b, at, true);
+                same(out[room], at++, "next_indices");
+            }
+            same(found == sizes[i] || next_in(b, at, true) == b->len, true, "next_indices");
+        }
+}
+
 static void joins(const bitmap *a, const bitmap *b, room out_room) {
     size_t i, len = a->len, size = row_mask_room(len);
     uint8_t *out = out_room.end - size;
@@ -216,6 +232,7 @@ int main(void) {
                 fill(&b, second, random_below(16), len, 128);
                 reads(&a);
                 counts(&a, third, fourth);
+                walks(&a, third);
                 joins(&a, &b, third);
                 narrows(&a, second, third, fourth);
                 choose_1(&a, third, fourth);

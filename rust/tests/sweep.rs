@@ -114,6 +114,13 @@ fn reads(seen: &mut Comparisons, random: &mut Generator, list: &[bool], bitmap: 
         seen.same(part.iter().eq(list[from..end].iter().copied()), true);
         seen.same(part.count(), count_of(&list[from..end]));
     }
+    for (room, from) in [(0, 0), (1, len / 2), (5, 0), (70, len / 3), (300, 0), (9, len)] {
+        let mut out = vec![7; room];
+        let found = bitmap.next_indices(from, &mut out);
+        let want: Vec<usize> = indices.iter().copied().filter(|i| *i >= from).take(room).collect();
+        seen.same(&out[..found], &want[..]);
+    }
+    seen.same(bitmap.next_indices(len + 1, &mut [0]), 0);
     seen.same(bitmap.next_index(len + 1), None);
     seen.same(bitmap.next_run(len + 1), None);
     let mut places: Vec<usize> = (0..random.below(20)).map(|_| random.below(len + 1)).collect();
@@ -196,7 +203,7 @@ fn lengths_and_offsets() {
         }
     }
     println!("{} comparisons of bitmaps of 0 to 200 values", seen.0);
-    assert!(seen.0 > 800_000, "{}", seen.0);
+    assert!(seen.0 > 900_000, "{}", seen.0);
 }
 
 #[test]

@@ -44,7 +44,7 @@ places-part m i n =
     ])
 
 -- the places of one more started word
-positions-word_more : (m : List Bool) (i : ℕ) → 64 * i ≤ length m
+pub positions-word_more : (m : List Bool) (i : ℕ) → 64 * i ≤ length m
     → positions (take (64 * (i + 1)) m) ≡ positions (take (64 * i) m) ++ map (λ p. 64 * i + p) (positions (padded_part m i))
 positions-word_more m i within =
     let front : List Bool = take (64 * i) m in

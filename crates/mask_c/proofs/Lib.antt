@@ -1,3 +1,4 @@
 mod BitmapLemmas
 mod ChooseLemmas
 mod FirstLemmas
+mod IndexLemmas

@@ -13,11 +13,11 @@ started_word-requires-in-loop-i c = omega (arith, ap length c.new-b.ensures, len
 
 pub returns-then-started_word : goal.returns-then-started_word
 returns-then-started_word c = (
-      λ no. absurd (false≢true no),
-      λ same. absurd (c.if-started_word.true
-          (same_word c.new-a.result c.new-b.result c.loop-i.i _ _ c.started_word.type_inv c.started_word-in-loop-i.type_inv c.started_word.ensures c.started_word-in-loop-i.ensures
-          (c.new-a.ensures ∙ same ∙ sym c.new-b.ensures))),
-    )
+  λ no. absurd (false≢true no),
+  λ same. absurd (c.if-started_word.true
+      (same_word c.new-a.result c.new-b.result c.loop-i.i _ _ c.started_word.type_inv c.started_word-in-loop-i.type_inv c.started_word.ensures c.started_word-in-loop-i.ensures
+      (c.new-a.ensures ∙ same ∙ sym c.new-b.ensures))),
+)
 
 pub loop-i-preserved : goal.loop-i-preserved
 loop-i-preserved c =

@@ -1,0 +1,104 @@
+-- The indices of true values from an index on, one started word after another, as many as there is room for.
+use Rattle.std.proofs.Common.{◌≡◌, ℕ, ◌+◌, ◌-◌, ◌*◌, ◌^◌, ◌<◌, ◌≤◌, ◌⊎◌, Bool, false, List, [], ◌∷◌, ◌++◌, length, get_or, take, drop, map, min, refl, sym, ap, ap₂, ◌∙◌, add-zero, add_assoc, append-nil, inl, inr, arith}
+use Rattle.std.specs.List.{All}
+use Rattle.std.proofs.lemmas.Bool.{cases_lt}
+use Rattle.std.proofs.lemmas.List.{ext_get_or, get_or-drop, length-drop, length-map, length-take, map-append, take-append-drop, take-append-le, take_all, take_at}
+use Rattle.std.proofs.lemmas.List.Elements.{All-weaker}
+use Rattle.mask_bits.specs.Buffer.{backing_bit}
+use Rattle.mask_bits.specs.Positions.{count, places_from, positions}
+use Rattle.mask_bits.specs.Words.{padded_part, word_bits}
+use Rattle.mask_bits.proofs.Lists.BitsLemmas.{length-bits_at, get_or-bits_at}
+use Rattle.mask_bits.proofs.Lists.SelectLemmas.{count-word_more, places_from-append, places_from-moved}
+use Rattle.mask_c.specs.Bitmap.{bitmap}
+use Rattle.mask_c.proofs.ChooseLemmas.{part-within, positions-word_more}
+
+-- the values from an index on
+pub bitmap-rest : (bytes : List ℕ) (offset len from : ℕ) → from ≤ len → bitmap bytes (offset + from) (len - from) ≡ drop from (bitmap bytes offset len)
+bitmap-rest bytes offset len from within =
+    let m : List Bool = bitmap bytes offset len in
+    let rest : List Bool = bitmap bytes (offset + from) (len - from) in
+    let len_rest : length rest ≡ len - from = length-bits_at bytes (offset + from) (len - from) in
+    let len_m : length m ≡ len = length-bits_at bytes offset len in
+    ext_get_or false rest (drop from m) (omega (arith, len_rest, len_m, length-drop from m)) (λ i h.
+    let inside : i < len - from = omega arith in
+    let there : from + i < len = omega arith in
+    let at : offset + from + i ≡ offset + (from + i) = add_assoc offset from i in
+    get_or-bits_at bytes (offset + from) (len - from) i false inside ∙ ap (backing_bit bytes) at
+    ∙ sym (get_or-drop from m i false ∙ get_or-bits_at bytes offset len (from + i) false there))
+
+-- ---- room
+
+-- what was written where nothing is left, or the room is full
+pub stopped : (n at : ℕ) (xs rest whole : List ℕ) → length xs ≡ at → at ≤ n → xs ++ rest ≡ whole → ((rest ≡ []) ⊎ (at ≡ n)) → xs ≡ take n whole
+stopped n at xs rest whole len room is either = elim either [
+  | inl none ↦
+      let all : xs ≡ whole = sym (append-nil xs) ∙ ap (λ ys. xs ++ ys) (sym none) ∙ is in
+      sym (take_all n xs (omega arith)) ∙ ap (take n) all
+  | inr full ↦ sym (take_at xs rest n (len ∙ full)) ∙ ap (take n) is
+]
+
+-- what more comes behind what fits
+pub more_room : (n : ℕ) (xs ys : List ℕ) → take n (take n xs ++ ys) ≡ take n (xs ++ ys)
+more_room n xs ys = elim (cases_lt n (length xs)) [
+  | inl less ↦ take_at (take n xs) ys n (omega (arith, length-take n xs)) ∙ sym (take-append-le n xs ys (omega arith))
+  | inr all ↦ ap (λ (zs : List ℕ). take n (zs ++ ys)) (take_all n xs all)
+]
+
+-- ---- words
+
+map-moved : (from k : ℕ) (ps : List ℕ) → map (λ p. from + p) (map (λ p. k + p) ps) ≡ map (λ p. from + k + p) ps
+map-moved from k [] = refl
+map-moved from k (p ∷ ps) = ap₂ (λ (x : ℕ) (xs : List ℕ). x ∷ xs) (sym (add_assoc from k p)) (map-moved from k ps)
+
+-- the indices of one more started word
+pub indices-word_more : (m : List Bool) (from i : ℕ) → 64 * i ≤ length m
+    → map (λ p. from + p) (positions (take (64 * (i + 1)) m))
+    ≡ map (λ p. from + p) (positions (take (64 * i) m)) ++ map (λ p. from + 64 * i + p) (positions (padded_part m i))
+indices-word_more m from i within =
+    let front : List ℕ = positions (take (64 * i) m) in
+    let here : List ℕ = positions (padded_part m i) in
+    ap (map (λ p. from + p)) (positions-word_more m i within)
+    ∙ map-append (λ p. from + p) front (map (λ p. 64 * i + p) here)
+    ∙ ap (λ (xs : List ℕ). map (λ p. from + p) front ++ xs) (map-moved from (64 * i) here)
+
+-- they are indices of the list
+pub indices-within : (m : List Bool) (from i : ℕ) → from + length m < 2 ^ 64 → 64 * i ≤ length m → All (λ p. from + 64 * i + p < 2 ^ 64) (positions (padded_part m i))
+indices-within m from i fits within =
+    All-weaker (λ p. p < length (drop (64 * i) m)) (λ p. from + 64 * i + p < 2 ^ 64) (λ p h. omega (arith, length-drop (64 * i) m))
+    (positions (padded_part m i)) (part-within m m i refl)
+
+-- all words have all indices
+all_places : (m : List Bool) (from : ℕ) → map (λ p. from + p) (positions m) ≡ places_from from m
+all_places m from = sym (places_from-moved from 0 m) ∙ ap (λ n. places_from n m) (add-zero from)
+
+pub all_indices : (m : List Bool) (from k : ℕ) → length m ≤ k → map (λ p. from + p) (positions (take k m)) ≡ places_from from m
+all_indices m from k past =
+    ap (λ (x : List Bool). map (λ p. from + p) (positions x)) (take_all k m past) ∙ all_places m from
+
+-- the first words have the first indices
+pub first_indices : (m : List Bool) (from n k : ℕ) → n ≤ count (take k m) → take n (map (λ p. from + p) (positions (take k m))) ≡ take n (places_from from m)
+first_indices m from n k many =
+    let front : List Bool = take k m in
+    let after : List ℕ = places_from (0 + length front) (drop k m) in
+    let split : positions m ≡ positions front ++ after
+    = sym (ap positions (take-append-drop k m)) ∙ places_from-append 0 front (drop k m) in
+    let len : length (map (λ p. from + p) (positions front)) ≡ count front = length-map (positions front) (λ p. from + p) in
+    sym (take-append-le n (map (λ p. from + p) (positions front)) (map (λ p. from + p) after) (omega arith))
+    ∙ ap (take n) (sym (map-append (λ p. from + p) (positions front) after) ∙ ap (map (λ p. from + p)) (sym split) ∙ all_places m from)
+
+-- ---- one more word
+
+pub word_done : (m : List Bool) (from i at next w n : ℕ) (out new : List ℕ) → 64 * i ≤ length m → word_bits w ≡ padded_part m i
+    → take at out ≡ take n (map (λ p. from + p) (positions (take (64 * i) m)))
+    → take next new ≡ take n (take at out ++ map (λ p. from + 64 * i + p) (positions (word_bits w)))
+    → take next new ≡ take n (map (λ p. from + p) (positions (take (64 * (i + 1)) m)))
+word_done m from i at next w n out new within read before after =
+    let front : List ℕ = map (λ p. from + p) (positions (take (64 * i) m)) in
+    let here : List ℕ = map (λ p. from + 64 * i + p) (positions (word_bits w)) in
+    after ∙ ap (λ (xs : List ℕ). take n (xs ++ here)) before ∙ more_room n front here
+    ∙ ap (λ (x : List Bool). take n (front ++ map (λ p. from + 64 * i + p) (positions x))) read
+    ∙ ap (take n) (sym (indices-word_more m from i within))
+
+pub word_counted : (m : List Bool) (i at next w n : ℕ) → word_bits w ≡ padded_part m i → at ≡ min n (count (take (64 * i) m))
+    → next ≡ min n (at + count (word_bits w)) → next ≡ min n (count (take (64 * (i + 1)) m))
+word_counted m i at next w n read before after = omega (arith, ap count read, count-word_more m i)

@@ -1,0 +1,18 @@
+use Rattle.std.proofs.Common.{ℕ, ◌≡◌, ◌+◌, ◌<◌, ◌≤◌, ◌^◌, ◌++◌, length, map, take}
+use Rattle.std.specs.List.{All}
+use Rattle.mask_bits.specs.Positions.{count, positions}
+use Rattle.mask_bits.specs.Words.{word_bits}
+use Rattle.mask_c.proofs.indices.indices_of_word.Given as goal
+
+-- the indices so far and those of the bits that are left are the indices of the word
+abbrev pub invariant-loop-word : goal.invariant-loop-word
+invariant-loop-word l = record {
+  indices : take l.at l.out ++ map (λ p. l.first + p) (positions (word_bits l.word))
+      ≡ take l.fn.at l.initial.out ++ map (λ p. l.first + p) (positions (word_bits l.fn.word));
+  counted : l.at + count (word_bits l.word) ≡ l.fn.at + count (word_bits l.fn.word);
+  fits : All (λ p. l.first + p < 2 ^ 64) (positions (word_bits l.word));
+  room : l.at ≤ length l.out;
+}
+
+abbrev pub decreases-loop-word : goal.decreases-loop-word
+decreases-loop-word l = l.word

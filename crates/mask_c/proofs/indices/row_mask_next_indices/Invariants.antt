@@ -1,0 +1,10 @@
+use Rattle.std.proofs.Common.{ℕ, ◌≡◌, ◌+◌, ◌*◌, length, map, min, take}
+use Rattle.mask_bits.specs.Positions.{count, positions}
+use Rattle.mask_c.proofs.indices.row_mask_next_indices.Given as goal
+
+-- the indices of the words so far, as many as there is room for
+abbrev pub invariant-loop-i : goal.invariant-loop-i
+invariant-loop-i l = record {
+  indices : take l.at l.out ≡ take (length l.out) (map (λ p. l.from + p) (positions (take (64 * l.i) l.chunks)));
+  counted : l.at ≡ min (length l.out) (count (take (64 * l.i) l.chunks));
+}
