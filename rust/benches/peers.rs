@@ -161,6 +161,7 @@ mod fixedbitset_peer {
 
     use super::Peer;
     use fixedbitset::FixedBitSet;
+    use std::hint::black_box;
 
     pub struct Fixed(FixedBitSet);
 
@@ -196,6 +197,7 @@ mod fixedbitset_peer {
 #[cfg(feature = "roaring")]
 mod roaring_peer {
     use super::Peer;
+    use std::hint::black_box;
 
     #[repr(C)]
     struct Raw([u8; 0]);

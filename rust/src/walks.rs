@@ -67,18 +67,25 @@ impl ExactSizeIterator for Values<'_> {}
 
 impl FusedIterator for Values<'_> {}
 
+impl Indices<'_> {
+    fn refill(&mut self) {
+        self.given = 0;
+        self.filled = self.bitmap.next_indices(self.next, &mut self.batch);
+        // past the last true value the walk stays at the end
+        self.next = match self.filled {
+            BATCH => self.batch[BATCH - 1] + 1,
+            _ => self.bitmap.len(),
+        };
+    }
+}
+
 impl Iterator for Indices<'_> {
     type Item = usize;
 
+    #[inline]
     fn next(&mut self) -> Option<usize> {
         if self.given == self.filled {
-            self.given = 0;
-            self.filled = self.bitmap.next_indices(self.next, &mut self.batch);
-            // past the last true value the walk stays at the end
-            self.next = match self.filled {
-                BATCH => self.batch[BATCH - 1] + 1,
-                _ => self.bitmap.len(),
-            };
+            self.refill();
         }
         let index = self.batch[..self.filled].get(self.given).copied();
         self.given += usize::from(index.is_some());
@@ -88,6 +95,21 @@ impl Iterator for Indices<'_> {
     fn size_hint(&self) -> (usize, Option<usize>) {
         let left = self.filled - self.given;
         (left, Some(left + (self.bitmap.len() - self.next)))
+    }
+
+    // batch by batch, for `sum`, `for_each` and the like
+    #[inline]
+    fn fold<B, F: FnMut(B, usize) -> B>(mut self, init: B, mut f: F) -> B {
+        let mut folded = init;
+        loop {
+            for index in &self.batch[self.given..self.filled] {
+                folded = f(folded, *index);
+            }
+            self.refill();
+            if self.filled == 0 {
+                return folded;
+            }
+        }
     }
 }
 

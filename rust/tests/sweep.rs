@@ -99,6 +99,9 @@ fn reads(seen: &mut Comparisons, random: &mut Generator, list: &[bool], bitmap: 
     seen.same(bitmap.last_index(), indices.last().copied());
     seen.same(bitmap.iter().eq(list.iter().copied()), true);
     seen.same(bitmap.indices().eq(indices.iter().copied()), true);
+    let mut walk = bitmap.indices();
+    seen.same(walk.next(), indices.first().copied());
+    seen.same(walk.sum::<usize>(), indices.iter().skip(1).sum());
     seen.same(bitmap.runs().eq(runs_of(list)), true);
     for n in [0, 1, indices.len() / 2, indices.len().saturating_sub(1), indices.len(), usize::MAX] {
         seen.same(bitmap.select(n), indices.get(n).copied());
