@@ -1,5 +1,5 @@
 -- Lists of bitmaps: their values and parts, and the words that show them.
-use Rattle.std.proofs.Common.{◌≡◌, ℕ, zero, suc, nat_eq, ◌^◌, ◌+◌, ◌-◌, ◌*◌, ◌/◌, ◌%◌, ◌<◌, ◌≤◌, Bool, false, List, [], ◌∷◌, length, get_or, slice_range, slice_get, Some, refl, sym, ap, ap₂, take, ◌∙◌, add_assoc, inl, inr, arith}
+use Rattle.std.proofs.Common.{◌≡◌, ℕ, zero, suc, nat_eq, ◌^◌, ◌+◌, ◌-◌, ◌*◌, ◌<◌, ◌≤◌, Bool, false, List, [], ◌∷◌, length, get_or, slice_range, slice_get, Some, refl, sym, ap, ap₂, take, ◌∙◌, add_assoc, inl, inr, arith}
 use Rattle.std.proofs.lemmas.Bool.{cases_lt, false≢true}
 use Rattle.std.proofs.lemmas.List.{ext_get_or, length-take}
 use Rattle.std.proofs.lemmas.List.Edits.{length-between, get_or-between}

@@ -1,4 +1,4 @@
-use Rattle.std.proofs.Common.{ℕ, suc, set, ◌≡◌, ◌<◌, ◌-◌, ◌+◌, ◌++◌, ◌∷◌, [], List, length, take, get_or, slice_get, Some, subst, sym, ap, ◌∙◌, append-nil, arith}
+use Rattle.std.proofs.Common.{ℕ, suc, set, ◌≡◌, ◌<◌, ◌-◌, ◌+◌, ◌++◌, List, length, take, Some, subst, sym, ap, ◌∙◌, append-nil, arith}
 use Rattle.std.proofs.Math.Seq.{take-suc-set}
 use Rattle.std.specs.Int.RustNames.{bit_and}
 use Rattle.std.specs.List.{All}

@@ -1,4 +1,4 @@
-use Rattle.std.proofs.Common.{ℕ, ◌≡◌, ◌+◌, ◌<◌, ◌≤◌, ◌^◌, ◌++◌, length, map, take}
+use Rattle.std.proofs.Common.{◌≡◌, ◌+◌, ◌<◌, ◌≤◌, ◌^◌, ◌++◌, length, map, take}
 use Rattle.std.specs.List.{All}
 use Rattle.mask_bits.specs.Positions.{count, positions}
 use Rattle.mask_bits.specs.Words.{word_bits}

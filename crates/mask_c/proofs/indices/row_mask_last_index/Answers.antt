@@ -1,4 +1,4 @@
-use Rattle.std.proofs.Common.{Bool, ℕ, List, ◌<◌, ◌-◌, length, get_or, sym, ap, ◌∙◌, arith}
+use Rattle.std.proofs.Common.{Bool, List, ◌<◌, ◌-◌, length, get_or, sym, ap, ◌∙◌, arith}
 use Rattle.std.proofs.lemmas.List.{get_or_past}
 use Rattle.std.proofs.lemmas.Option.{unwrap_or-slice_get}
 use Rattle.std.specs.Option.{unwrap_or}

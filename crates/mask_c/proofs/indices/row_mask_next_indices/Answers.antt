@@ -1,12 +1,10 @@
-use Rattle.std.proofs.Common.{Bool, ℕ, List, ◌≡◌, ◌<◌, ◌≤◌, ◌+◌, ◌-◌, ◌*◌, ◌^◌, ◌++◌, length, map, min, take, drop, subst, sym, ap, ◌∙◌, arith}
+use Rattle.std.proofs.Common.{Bool, List, ◌<◌, ◌+◌, ◌-◌, ◌*◌, ◌^◌, length, map, min, take, subst, sym, ap, ◌∙◌, arith}
 use Rattle.std.specs.List.{All}
 use Rattle.std.proofs.lemmas.List.{take_all}
 use Rattle.mask_bits.specs.Positions.{count, places_from, positions}
-use Rattle.mask_bits.specs.Words.{word_bits}
 use Rattle.mask_bits.proofs.Lists.BitsLemmas.{length-bits_at}
-use Rattle.mask_bits.proofs.Lists.SelectLemmas.{count-word_more}
 use Rattle.mask_c.proofs.ChooseLemmas.{count_below-le-count}
-use Rattle.mask_c.proofs.IndexLemmas.{bitmap-rest, more_room, indices-word_more, indices-within, all_indices, first_indices, word_done, word_counted}
+use Rattle.mask_c.proofs.IndexLemmas.{bitmap-rest, indices-within, all_indices, first_indices, word_done, word_counted}
 use Rattle.mask_c.proofs.indices.row_mask_next_indices.Goals as goal
 
 pub started_word-requires : goal.started_word-requires

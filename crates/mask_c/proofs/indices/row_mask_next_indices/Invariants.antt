@@ -1,4 +1,4 @@
-use Rattle.std.proofs.Common.{ℕ, ◌≡◌, ◌+◌, ◌*◌, length, map, min, take}
+use Rattle.std.proofs.Common.{◌≡◌, ◌+◌, ◌*◌, length, map, min, take}
 use Rattle.mask_bits.specs.Positions.{count, positions}
 use Rattle.mask_c.proofs.indices.row_mask_next_indices.Given as goal
 

@@ -3,7 +3,6 @@ use Rattle.std.proofs.lemmas.Option.{unwrap_or-slice_get}
 use Rattle.std.specs.Option.{unwrap_or}
 use Rattle.std.proofs.Common.{slice_get}
 use Rattle.mask_bits.specs.Positions.{positions, count}
-use Rattle.mask_bits.specs.Words.{word_bits}
 use Rattle.mask_bits.proofs.Lists.BitsLemmas.{length-bits_at}
 use Rattle.mask_bits.proofs.Lists.SelectLemmas.{place_in_word, place_none, count-word_more}
 use Rattle.mask_bits.proofs.Lists.WordLemmas.{count-word_bits}

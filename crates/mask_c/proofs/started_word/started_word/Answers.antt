@@ -1,4 +1,4 @@
-use Rattle.std.proofs.Common.{◌≡◌, ◌/◌, length, sym, ap, ◌∙◌, arith}
+use Rattle.std.proofs.Common.{◌≡◌, ◌/◌, length, ap, ◌∙◌, arith}
 use Rattle.mask_bits.specs.Words.{padded_part}
 use Rattle.mask_bits.proofs.Lists.PaddedLemmas.{padded_part-whole, padded_part-remainder}
 use Rattle.mask_c.proofs.started_word.started_word.Goals as goal
