@@ -2,21 +2,22 @@
 use Rattle.std.proofs.Common.{◌≡◌, ℕ, suc, nat_eq, ◌+◌, ◌-◌, ◌*◌, ◌^◌, ◌<◌, ◌≤◌, Bool, true, false, List, [], ◌∷◌, ◌++◌, length, get_or, take, drop, map, slice_get, Some, refl, sym, subst, ap, ap₂, ◌∙◌, add-zero, inl, inr, arith}
 use Rattle.std.proofs.Math.Seq.{take-add}
 use Rattle.std.specs.Int.RustNames.{bit_and}
-use Rattle.std.specs.List.{All, cons_option, filter_map}
+use Rattle.std.specs.List.{All, cons_option, filter_map, range_with_len}
 use Rattle.std.proofs.lemmas.Bool.{cases_lt}
 use Rattle.std.proofs.lemmas.List.{get_or-drop, get_or-take, get_or_past, length-drop, length-take, take-append-drop, take_all}
-use Rattle.std.proofs.lemmas.List.Elements.{All-head, All-weaker, filter_map-append}
+use Rattle.std.proofs.lemmas.List.Elements.{All-get_or, All-head, All-tail, All-weaker, filter_map-append}
+use Rattle.std.proofs.lemmas.List.FromFn.{get_or-range_with_len}
 use Rattle.std.proofs.lemmas.Nat.Bits.{bit_at-zero}
-use Rattle.std.proofs.lemmas.Option.{slice_get-get_or, slice_get_cases, slice_get_past}
-use Rattle.mask_bits.specs.Positions.{chosen, count, places_from, positions}
+use Rattle.std.proofs.lemmas.Option.{get_or_from_slice_get, slice_get-get_or, slice_get_cases, slice_get_past}
+use Rattle.mask_bits.specs.Positions.{chosen, count, places_from, positions, repeated}
 use Rattle.mask_bits.specs.Words.{padded_part, word_bits}
-use Rattle.mask_bits.proofs.Lists.ChooseLemmas.{chosen_at_positions}
-use Rattle.mask_bits.proofs.Lists.CountLemmas.{count-append}
-use Rattle.mask_bits.proofs.Lists.LowestLemmas.{low}
+use Rattle.mask_bits.proofs.Lists.ChooseLemmas.{chosen-all_true, chosen_at_positions}
+use Rattle.mask_bits.proofs.Lists.CountLemmas.{count-append, count-repeated_true, length-repeated, positions-all_true, slice_get-repeated}
+use Rattle.mask_bits.proofs.Lists.LowestLemmas.{low, ones-of_full, ones-set}
 use Rattle.mask_bits.proofs.Lists.PaddedLemmas.{get_or-padded_part, length-padded_part}
 use Rattle.mask_bits.proofs.Lists.PlaceLemmas.{positions-within}
 use Rattle.mask_bits.proofs.Lists.SelectLemmas.{no_place, places_from-append, places_from-moved, positions-lowest}
-use Rattle.mask_bits.proofs.Lists.WordLemmas.{get_or-word_bits, length-word_bits}
+use Rattle.mask_bits.proofs.Lists.WordLemmas.{get_or-word_bits, length-word_bits, word_bits_from_bits}
 
 -- the rows at some indices
 abbrev pub rows_at : {X : Type 0} → List X → List ℕ → List X
@@ -110,3 +111,50 @@ count_below-le-count m n = omega (arith, count-append (take n m) (drop n m), ap 
 pub rows-all : {X : Type 0} (rows : List X) (m : List Bool) (n : ℕ) → length m ≤ n → rows_at rows (positions (take n m)) ≡ chosen rows m
 rows-all rows m n past =
     ap (λ (x : List Bool). rows_at rows (positions x)) (take_all n m past) ∙ sym (chosen_at_positions rows m)
+
+-- ---- a full word
+
+-- all bits of a full word are set
+full_word : (w : ℕ) → w < 2 ^ 64 → w ≡ 2 ^ 64 - 1 → word_bits w ≡ repeated 64 true
+full_word w fits full =
+    word_bits_from_bits w (repeated 64 true) (length-repeated 64 true) (λ j h.
+    ap (λ b. nat_eq b 1) (ones-set w j fits (omega (arith, ones-of_full w full)))
+    ∙ sym (get_or_from_slice_get (repeated 64 true) j true false (slice_get-repeated 64 true j (omega (arith, length-repeated 64 true)))))
+
+pub positions-full : (w : ℕ) → w < 2 ^ 64 → w ≡ 2 ^ 64 - 1 → positions (word_bits w) ≡ range_with_len 0 64
+positions-full w fits full = ap positions (full_word w fits full) ∙ positions-all_true 64
+
+pub count-full : (w : ℕ) → w < 2 ^ 64 → w ≡ 2 ^ 64 - 1 → count (word_bits w) ≡ 64
+count-full w fits full = ap count (full_word w fits full) ∙ count-repeated_true 64
+
+-- so there are rows for all of them
+pub full-within : {X : Type 0} (rows : List X) (w : ℕ) → w < 2 ^ 64 → w ≡ 2 ^ 64 - 1 → All (λ p. p < length rows) (positions (word_bits w)) → 64 ≤ length rows
+full-within rows w fits full within =
+    let ps : List ℕ = positions (word_bits w) in
+    let last : get_or ps 63 0 ≡ 63 = ap (λ (qs : List ℕ). get_or qs 63 0) (positions-full w fits full) ∙ get_or-range_with_len 0 64 63 0 (omega arith) in
+    omega (arith, last, All-get_or (λ p. p < length rows) ps 63 0 (omega (arith, count-full w fits full)) within)
+
+slice_get-take : {X : Type 0} (rows : List X) (n p : ℕ) → p < n → slice_get (take n rows) p ≡ slice_get rows p
+slice_get-take rows n p few = elim (slice_get_cases rows p).1 [
+  | inl h ↦
+      slice_get-get_or (take n rows) p h.0 (omega (arith, length-take n rows, h.1)) ∙ ap Some (get_or-take n rows p h.0 few ∙ h.3) ∙ sym h.2
+  | inr h ↦ slice_get_past (take n rows) p (omega (arith, length-take n rows, h.0)) ∙ sym h.1
+]
+
+-- and they are the first ones
+rows_at-front : {X : Type 0} (rows : List X) (n : ℕ) (ps : List ℕ) → All (λ p. p < n) ps → rows_at rows ps ≡ rows_at (take n rows) ps
+rows_at-front rows n [] h = refl
+rows_at-front {X} rows n (p ∷ ps) h =
+    let few : p < n = All-head (λ q. q < n) p ps h in
+    ap₂ (λ o (xs : List X). cons_option o xs) (sym (slice_get-take rows n p few)) (rows_at-front rows n ps (All-tail (λ q. q < n) p ps h))
+
+pub rows-full : {X : Type 0} (rows : List X) (w : ℕ) → w < 2 ^ 64 → w ≡ 2 ^ 64 - 1 → 64 ≤ length rows → rows_at rows (positions (word_bits w)) ≡ take 64 rows
+rows-full {X} rows w fits full many =
+    let m : List Bool = repeated 64 true in
+    let front : List X = take 64 rows in
+    let len : length front ≡ 64 = omega (arith, length-take 64 rows) in
+    let few : All (λ p. p < 64) (positions m) = subst (λ n. All (λ p. p < n) (positions m)) (length-repeated 64 true) (positions-within m) in
+    ap (λ (x : List Bool). rows_at rows (positions x)) (full_word w fits full)
+    ∙ rows_at-front rows 64 (positions m) few
+    ∙ sym (chosen_at_positions front m)
+    ∙ chosen-all_true front 64 len

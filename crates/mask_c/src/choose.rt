@@ -140,10 +140,41 @@ fn choose<T: Copy>(bytes: &[u8], offset: usize, len: usize, rows: &[T], out: &mu
     at
 }
 
+// A word whose bits are all set.
+const FULL: u64 = u64::MAX;
+
 // Writes the rows at the set bits of a word behind the first `at` rows, and answers how many there
 // are then.
 #[inline]
 fn choose_by_word<T: Copy>(word: u64, rows: &[T], out: &mut [T], at: usize) -> usize
+    requires within { All (λ p. p < length rows.now) (positions (word_bits word)) }
+    requires room { at + count (word_bits word) ≤ length out.old }
+    ensures rows { take result out.new
+        ≡ take at out.old ++ filter_map (λ p. slice_get rows.now p) (positions (word_bits word)) }
+    ensures count { result ≡ at + count (word_bits word) }
+{
+    if word == FULL {
+        choose_64(rows, out, at)
+    } else {
+        choose_by_bits(word, rows, out, at)
+    }
+}
+
+// The first 64 rows, at once.
+#[inline]
+fn choose_64<T: Copy>(rows: &[T], out: &mut [T], at: usize) -> usize
+    requires within { 64 ≤ length rows.now }
+    requires room { at + 64 ≤ length out.old }
+    ensures rows { take result out.new ≡ take at out.old ++ take 64 rows.now }
+    ensures count { result ≡ at + 64 }
+{
+    out[at..at + 64].copy_from_slice(&rows[..64]);
+    at + 64
+}
+
+// One row after another.
+#[inline]
+fn choose_by_bits<T: Copy>(word: u64, rows: &[T], out: &mut [T], at: usize) -> usize
     requires within { All (λ p. p < length rows.now) (positions (word_bits word)) }
     requires room { at + count (word_bits word) ≤ length out.old }
     ensures rows { take result out.new

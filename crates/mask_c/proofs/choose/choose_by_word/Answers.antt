@@ -1,62 +1,21 @@
-use Rattle.std.proofs.Common.{ℕ, suc, set, ◌≡◌, ◌<◌, ◌-◌, ◌+◌, ◌++◌, List, length, take, Some, subst, sym, ap, ◌∙◌, append-nil, arith}
-use Rattle.std.proofs.Math.Seq.{take-suc-set}
-use Rattle.std.specs.Int.RustNames.{bit_and}
-use Rattle.std.specs.List.{All}
-use Rattle.std.proofs.lemmas.List.Elements.{All-head, All-tail}
-use Rattle.std.proofs.lemmas.Option.{slice_get-get_or}
-use Rattle.mask_bits.specs.Positions.{positions}
-use Rattle.mask_bits.specs.Words.{word_bits}
-use Rattle.mask_bits.proofs.Lists.ChooseLemmas.{chosen-step}
-use Rattle.mask_bits.proofs.Lists.LowestLemmas.{low}
-use Rattle.mask_bits.proofs.Lists.SelectLemmas.{positions-lowest}
-use Rattle.mask_c.proofs.ChooseLemmas.{rows_at, lowest-within, no_bits}
+use Rattle.std.proofs.Common.{◌++◌, take, sym, ap, ◌∙◌, arith}
+use Rattle.mask_c.proofs.ChooseLemmas.{full-within, count-full, rows-full}
 use Rattle.mask_c.proofs.choose.choose_by_word.Goals as goal
 
-pub bounds-rows-word : goal.bounds-rows-word
-bounds-rows-word g c =
-    lowest-within c.loop-word.word (length c.args.rows.now) (omega (arith, c.loop-word-test.true)) c.loop-word.auto.word-fits.fits c.loop-word.invariant.within
+pub choose_64-requires-clause-within : goal.choose_64-requires-clause-within
+choose_64-requires-clause-within g c = full-within c.args.rows.now c.args.word c.ranges.word.fits c.if-word-eq-FULL.true c.requires.within
 
-pub offset_bounds-rows-word : goal.offset_bounds-rows-word
-offset_bounds-rows-word g c = omega (arith, bounds-rows-word g c)
+pub choose_64-requires-clause-room : goal.choose_64-requires-clause-room
+choose_64-requires-clause-room g c = omega (arith, c.requires.room, count-full c.args.word c.ranges.word.fits c.if-word-eq-FULL.true)
 
-pub bounds-out-at : goal.bounds-out-at
-bounds-out-at g c =
-    let w = c.loop-word.word in
-    let first = positions-lowest w (omega (arith, c.loop-word-test.true)) c.loop-word.auto.word-fits.fits in
-    omega (arith, ap length first, c.loop-word.invariant.counted, c.requires.room, c.loop-word.auto.out)
-
-pub overflow_add-at : goal.overflow_add-at
-overflow_add-at g c = omega (arith, bounds-out-at g c, c.loop-word.auto.out)
-
-pub loop-word-preserved : goal.loop-word-preserved
-loop-word-preserved g c =
-    let w = c.loop-word.word in
+pub returns-then-word-eq-FULL-clause-rows : goal.returns-then-word-eq-FULL-clause-rows
+returns-then-word-eq-FULL-clause-rows g c =
     let rows = c.args.rows.now in
-    let out = c.loop-word.out in
-    let at = c.loop-word.at in
-    let row = c.index-rows-word.result in
-    let rest = positions (word_bits (bit_and w (w - 1))) in
-    let inside : ℕ → Type 0 = λ p. p < length rows in
-    let first = positions-lowest w (omega (arith, c.loop-word-test.true)) c.loop-word.auto.word-fits.fits in
-    let still = subst (All inside) first c.loop-word.invariant.within in
-    let read = slice_get-get_or rows (low w) row (All-head inside (low w) rest still) ∙ ap Some (sym c.index-rows-word.is) in
-    let next : at + 1 ≡ suc at = omega arith in
-    record {
-      rows = ap (λ n. take n (set out at row) ++ rows_at rows rest) next
-          ∙ ap (λ xs. xs ++ rows_at rows rest) (take-suc-set out at row (omega (arith, ap length first, c.loop-word.invariant.counted, c.requires.room, c.loop-word.auto.out)))
-          ∙ sym (chosen-step rows (take at out) (low w) rest row read)
-          ∙ ap (λ (ps : List ℕ). take at out ++ rows_at rows ps) (sym first)
-          ∙ c.loop-word.invariant.rows;
-      counted = omega (arith, ap length first, c.loop-word.invariant.counted);
-      within = All-tail inside (low w) rest still;
-    }
+    let full = c.if-word-eq-FULL.true in
+    let many = full-within rows c.args.word c.ranges.word.fits full c.requires.within in
+    c.choose_64.ensures.rows
+    ∙ ap (λ xs. take c.args.at c.args.out.now ++ xs) (sym (rows-full rows c.args.word c.ranges.word.fits full many))
 
-pub returns-clause-rows : goal.returns-clause-rows
-returns-clause-rows g c =
-    let none = no_bits c.loop-word.word c.loop-word-test.false in
-    sym (append-nil (take c.loop-word.at c.loop-word.out))
-    ∙ ap (λ (ps : List ℕ). take c.loop-word.at c.loop-word.out ++ rows_at c.args.rows.now ps) (sym none)
-    ∙ c.loop-word.invariant.rows
-
-pub returns-clause-count : goal.returns-clause-count
-returns-clause-count g c = omega (arith, ap length (no_bits c.loop-word.word c.loop-word-test.false), c.loop-word.invariant.counted)
+pub returns-then-word-eq-FULL-clause-count : goal.returns-then-word-eq-FULL-clause-count
+returns-then-word-eq-FULL-clause-count g c =
+    omega (arith, c.choose_64.ensures.count, count-full c.args.word c.ranges.word.fits c.if-word-eq-FULL.true)

@@ -3,7 +3,7 @@ use Rattle.std.specs.List.{All}
 use Rattle.mask_bits.specs.Positions.{count, positions}
 use Rattle.mask_bits.specs.Words.{word_bits}
 use Rattle.mask_c.proofs.ChooseLemmas.{rows_at}
-use Rattle.mask_c.proofs.choose.choose_by_word.Given as goal
+use Rattle.mask_c.proofs.choose.choose_by_bits.Given as goal
 
 -- the rows so far and those at the bits that are left are the rows of the word
 abbrev pub invariant-loop-word : goal.invariant-loop-word
