@@ -1,3 +1,5 @@
+mod refusals;
+
 use crate::answer::{RunError, answer};
 use std::alloc::{AllocError, Global};
 use std::test::Fail;

@@ -1,0 +1,5 @@
+//! Scenarios in which each request for memory is refused in turn.
+#![tactic(auto)]
+
+#[cfg(test)]
+mod tests;
