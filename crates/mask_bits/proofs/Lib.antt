@@ -5,6 +5,7 @@ mod BuilderLemmas
 mod CombineLemmas
 mod EqLemmas
 mod Examples
+mod LawExamples
 mod LawRules
 mod FirstLemmas
 pub mod Lists

@@ -6,6 +6,7 @@ pub mod ChooseLemmas
 pub mod CountLemmas
 pub mod FrontLemmas
 pub mod GroupLemmas
+pub mod IndexLemmas
 pub mod LawLemmas
 pub mod LimitLemmas
 pub mod LowestLemmas
@@ -15,6 +16,7 @@ pub mod PlaceLemmas
 pub mod RangeLemmas
 pub mod RangeRowLemmas
 pub mod RankLemmas
+pub mod RowLemmas
 pub mod RunLemmas
 pub mod RunListLemmas
 pub mod ScanLemmas

@@ -1,6 +1,8 @@
 pub mod Buffer
 pub mod BufferMut
+pub mod ChoosingLaws
 pub mod Combine
+pub mod IndexLaws
 pub mod Laws
 pub mod Lists
 pub mod Number

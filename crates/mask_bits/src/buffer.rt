@@ -1,6 +1,6 @@
-ghost use Rattle.std.specs.Prelude.{◌≡◌, ◌+◌, ◌-◌, ◌*◌, ◌<◌, ◌≤◌, ◌^◌, ◌↔◌, ◌||◌, ℕ, false, true, [], length, vec_len, nat_eq, All, IfOk, IfSome, IsTrue, Some, slice_get, slice_range, take};
-ghost use Rattle.std.specs.Iterator.{UpTo, Drains};
-ghost use Rattle.std.specs.Iterator.Runs.{WholeRun};
+ghost use Rattle.std.specs.Prelude.{◌≡◌, ◌+◌, ◌-◌, ◌*◌, ◌<◌, ◌≤◌, ◌^◌, ◌↔◌, ◌||◌, ℕ, Bool, false, true, [], length, vec_len, nat_eq, All, IfOk, IfSome, IsTrue, Some, slice_get, slice_range, take};
+ghost use Rattle.std.specs.Iterator.{UpTo, Drains, YieldsFirst};
+ghost use Rattle.std.specs.Iterator.Runs.{WholeRun, YieldsInOrder};
 ghost use Rattle.std.specs.List.Sorted.{IsStrictlyIncreasing};
 ghost use Rattle.mask_bits.specs.Buffer.{Packed, IsWithinBytes, values, backing_bit};
 ghost use Rattle.mask_bits.specs.Positions.{positions, count, repeated, true_at, IsFirstFrom};
@@ -38,12 +38,13 @@ impl Model for BitBuffer {
     ghost invariant = { λ b. IsWithinBytes b.bytes b.offset b.len };
 }
 
-#[tactic(auto, using(crate::proofs::BufferLemmas::buffer_facts))]
+#[tactic(auto, using(crate::proofs::BufferLemmas::buffer_facts, crate::proofs::YieldLemmas::whole_walks))]
 impl BitBuffer {
     /// The first `len` bits of `bytes`.
     pub fn new(bytes: Bytes, len: usize) -> BitBuffer
         requires { len ≤ 8 * length bytes }
-        ensures { result ≡ record { bytes = bytes; offset = 0; len = len } }
+        ensures buffer { result ≡ record { bytes = bytes; offset = 0; len = len } }
+        ensures len { length (values result) ≡ len }
     {
         BitBuffer::new_with_offset(bytes, 0, len)
     }
@@ -52,7 +53,8 @@ impl BitBuffer {
     pub fn new_with_offset(bytes: Bytes, offset: usize, len: usize) -> BitBuffer
         requires covered { offset + len ≤ 8 * length bytes }
         requires fits { offset + len < 2 ^ 64 }
-        ensures { result ≡ record { bytes = bytes; offset = offset; len = len } }
+        ensures buffer { result ≡ record { bytes = bytes; offset = offset; len = len } }
+        ensures len { length (values result) ≡ len }
     {
         BitBuffer { bytes, offset, len }
     }
@@ -60,7 +62,9 @@ impl BitBuffer {
     /// The first `len` bits of bytes that a caller has written.
     pub fn from_vec(bytes: Vec<u8>, len: usize) -> Result<BitBuffer, AllocError>
         requires { len ≤ 8 * vec_len bytes }
-        ensures { IfOk result (λ b. b ≡ record { bytes = bytes.items; offset = 0; len = len }) }
+        ensures buffer { IfOk result
+            (λ b. b ≡ record { bytes = bytes.items; offset = 0; len = len }) }
+        ensures len { IfOk result (λ b. length (values b) ≡ len) }
     {
         let shared = Bytes::from_vec(bytes)?;
         Ok(BitBuffer::new(shared, len))
@@ -165,16 +169,25 @@ impl BitBuffer {
 
     /// How many values are true.
     pub fn true_count(&self) -> usize
-        ensures { result ≡ count (values self.now) }
+        ensures counted { result ≡ count (values self.now) }
+        ensures at_most { result ≤ length (values self.now) }
     {
         count_bits(self.bytes.as_slice(), self.offset, self.len)
+    }
+
+    /// How many values are false.
+    pub fn false_count(&self) -> usize
+        ensures { count (values self.now) + result ≡ length (values self.now) }
+    {
+        self.len - self.true_count()
     }
 
     /// How many of the values from `start` to `end` are true.
     pub fn count_range(&self, start: usize, end: usize) -> usize
         requires ordered { start ≤ end }
         requires within { end ≤ length (values self.now) }
-        ensures { result ≡ count (slice_range (values self.now) start end) }
+        ensures counted { result ≡ count (slice_range (values self.now) start end) }
+        ensures at_most { result ≤ end - start }
     {
         count_bits(self.bytes.as_slice(), self.offset + start, end - start)
     }
@@ -287,6 +300,7 @@ impl BitBuffer {
     /// The values in their order.
     pub fn iter(&self) -> BitIterator<'_>
         ensures list { result ≡ values self.now }
+        ensures in_order { YieldsInOrder (YieldsFirst {A = Bool} (λ s. s)) (λ s. s) }
         ensures fits { length result < 2 ^ 64 }
     {
         // named, so that the proof may use that the length fits
@@ -297,6 +311,7 @@ impl BitBuffer {
     /// The places of the true values, ascending.
     pub fn set_indices(&self) -> SetIndices<'_>
         ensures places { result ≡ positions (values self.now) }
+        ensures in_order { YieldsInOrder (YieldsFirst {A = ℕ} (λ s. s)) (λ s. s) }
         ensures ascending { IsStrictlyIncreasing result }
         ensures within { All (λ p. p < length (values self.now)) result }
         ensures fits { length result < 2 ^ 64 }
@@ -309,6 +324,7 @@ impl BitBuffer {
     /// last.
     pub fn set_slices(&self) -> SetSlices<'_>
         ensures runs { AreRuns (values self.now) result }
+        ensures in_order { YieldsInOrder (YieldsFirst {A = ℕ × ℕ} (λ s. s)) (λ s. s) }
         ensures fits { length result < 2 ^ 64 }
     {
         let _ = &self.len;

@@ -1,5 +1,6 @@
 ghost use Rattle.std.specs.Prelude.{◌≡◌, ◌+◌, ◌*◌, ◌/◌, ◌%◌, ◌<◌, ◌≤◌, ◌^◌, length, IfSome, Some};
 ghost use Rattle.std.specs.Iterator.{YieldsFirstBy, UpTo, item_count};
+ghost use Rattle.std.specs.Iterator.Runs.{EveryRun, ItemsMapTo};
 ghost use Rattle.std.specs.Iterator.SizeHint.{IsWithinCount};
 ghost use Rattle.mask_bits.specs.Buffer.{IsWithinBytes, values};
 ghost use Rattle.mask_bits.specs.Words.{word_bits, word_part, word_parts, padded_remainder};
@@ -52,8 +53,11 @@ impl<'a> BitChunks<'a> {
     }
 
     /// The whole words, in their order.
+    #[tactic(auto, using(crate::proofs::YieldLemmas::words_in_order))]
     pub fn iter(&self) -> Words<'a>
         ensures parts { result ≡ word_parts self.now }
+        ensures in_order { EveryRun (YieldsFirstBy word_bits (λ s. s))
+            (λ p. ItemsMapTo p word_bits p.from) }
         ensures fits { length result < 2 ^ 64 }
     {
         Words {
@@ -79,8 +83,11 @@ impl<'a> BitChunks<'a> {
 
     /// The started words, in their order: the whole words, and the remainder word where there is a
     /// remainder.
+    #[tactic(auto, using(crate::proofs::YieldLemmas::words_in_order))]
     pub fn iter_padded(&self) -> PaddedWords<'a>
         ensures parts { result ≡ padded_parts self.now }
+        ensures in_order { EveryRun (YieldsFirstBy word_bits (λ s. s))
+            (λ p. ItemsMapTo p word_bits p.from) }
         ensures fits { length result < 2 ^ 64 }
     {
         PaddedWords {

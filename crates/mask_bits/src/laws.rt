@@ -276,3 +276,62 @@ pub fn neighbors_make_one()
 pub fn choosing_in_turn<T>()
     ensures in_turn { ChoosingInTurn T }
 {}
+
+ghost use Rattle.mask_bits.specs.ChoosingLaws.{ChosenByTest, ChosenOfTwoChunks, ChosenOfChunks, ChosenByLimit, PositionsOfLimit, LimitPastTheCount, LimitOfRankIntersection};
+ghost use Rattle.mask_bits.specs.IndexLaws.{PositionsAscend, FirstIsAtMostLast, CountBelowTheFirst, CountBelowTheNext, AllTrueIsOneRange, AllTrueIsOneRun, AllFalseHasNoRange, AllFalseHasNoRun};
+
+/// Choosing rows by a mask that was made by a test of each row is filtering the rows by it.
+#[tactic(auto, using(crate::proofs::Lists::RowLemmas::chosen_by_test))]
+pub fn choosing_by_a_test<T>()
+    ensures filter { ChosenByTest T }
+{}
+
+/// Chunks of rows, each filtered by its own mask, are all rows filtered by the masks one after
+/// another.
+#[tactic(auto, using(crate::proofs::Lists::RowLemmas::chosen_of_two_chunks, crate::proofs::Lists::RowLemmas::chosen_of_chunks))]
+pub fn choosing_by_chunks<T>()
+    ensures two { ChosenOfTwoChunks T }
+    ensures chunks { ChosenOfChunks T }
+{}
+
+/// A limited mask chooses the first of the rows that the mask chooses.
+#[tactic(auto, using(crate::proofs::Lists::RowLemmas::chosen_by_limit))]
+pub fn choosing_by_a_limit<T>()
+    ensures first { ChosenByLimit T }
+{}
+
+/// A limited mask has the first of the mask's true indices, and is the mask where it has no more.
+#[tactic(auto, using(crate::proofs::Lists::RowLemmas::positions_of_limit, crate::proofs::Lists::RowLemmas::limit_past_the_count))]
+pub fn limits()
+    ensures indices { PositionsOfLimit }
+    ensures unchanged { LimitPastTheCount }
+{}
+
+/// A limit of two stacked filters may be taken of the second alone.
+#[tactic(auto, using(crate::proofs::Lists::RowLemmas::limit_of_rank_intersection))]
+pub fn limit_of_rank_intersection()
+    ensures pushed { LimitOfRankIntersection }
+{}
+
+/// The true indices ascend, and so the first is at most the last.
+#[tactic(auto, using(crate::proofs::Lists::IndexLemmas::positions_ascend, crate::proofs::Lists::IndexLemmas::first_is_at_most_last))]
+pub fn positions_ascend()
+    ensures ascend { PositionsAscend }
+    ensures ends { FirstIsAtMostLast }
+{}
+
+/// The count below an index grows by one past each true value, from 0 on.
+#[tactic(auto, using(crate::proofs::Lists::IndexLemmas::count_below_the_first, crate::proofs::Lists::IndexLemmas::count_below_the_next))]
+pub fn count_below_by_steps()
+    ensures first { CountBelowTheFirst }
+    ensures next { CountBelowTheNext }
+{}
+
+/// The ranges of a list of one value, which are its runs: one of an all-true list that isn't empty,
+/// and none of an all-false one.
+pub fn ranges_of_one_value()
+    ensures one_range { AllTrueIsOneRange }
+    ensures one_run { AllTrueIsOneRun }
+    ensures no_range { AllFalseHasNoRange }
+    ensures no_run { AllFalseHasNoRun }
+{}

@@ -57,8 +57,11 @@ Rising-places_from n high (true ∷ m) e = (omega arith, omega arith, Rising-pla
 Rising-places_from n high (false ∷ m) e =
     Rising-lower n (n + 1) high (places_from (n + 1) m) (omega arith) (Rising-places_from (n + 1) high m (omega arith))
 
+pub positions-rising : (m : List Bool) → Rising 0 (length m) (positions m)
+positions-rising m = Rising-places_from 0 (length m) m (omega arith)
+
 pub positions-ascending : (m : List Bool) → IsStrictlyIncreasing (positions m)
-positions-ascending m = ascending-Rising 0 (length m) (positions m) (Rising-places_from 0 (length m) m (omega arith))
+positions-ascending m = ascending-Rising 0 (length m) (positions m) (positions-rising m)
 
 -- ---- the list that is true at such places
 

@@ -11,7 +11,7 @@ use Rattle.mask_bits.specs.Positions.{positions, count, count_below, repeated}
 use Rattle.mask_bits.proofs.Lists.PlaceLemmas.{positions-true, positions-false, trues, count-trues}
 
 -- the first k true values, by recursion on the list
-abbrev kept : List Bool → ℕ → List Bool
+abbrev pub kept : List Bool → ℕ → List Bool
 kept [] k = []
 kept (false ∷ m) k = false ∷ kept m k
 kept (true ∷ m) zero = false ∷ kept m zero
@@ -45,7 +45,7 @@ pub get_or-limited : (m : List Bool) (k i : ℕ) (d : Bool) → i < length m →
 unfolding limited
 get_or-limited m k i d h = get_or-map-range_with_len (λ j. get_or m j false && nat_lt (count_below m j) k) 0 (length m) i i d h (omega arith)
 
-limited-kept : (m : List Bool) (k : ℕ) → limited m k ≡ kept m k
+pub limited-kept : (m : List Bool) (k : ℕ) → limited m k ≡ kept m k
 limited-kept m k =
     ext_get_or false (limited m k) (kept m k) (length-limited m k ∙ sym (length-kept m k)) (λ i h.
     get_or-limited m k i false (omega (arith, length-limited m k))

@@ -20,7 +20,7 @@ returns g c =
     let other : List Bool = values (record { bytes = c.bits-2.result.now; offset = c.offset-2.result; len = c.len-2.result }) in
     let len : length c.combine.new.out ≡ c.in_ok-out.out.len = c.combine.auto.out ∙ c.deref_mut.ensures.len in
     let back = take_back c.in_ok-out.out.len c.combine.new.out c.in_ok-out.out.items len in
-    ap values c.new.ensures
+    ap values c.new.ensures.buffer
     ∙ ap (λ (xs : List ℕ). values (record { bytes = xs; offset = 0; len = c.len-3.result })) (c.in_ok-from_vec.ensures.ok ∙ back)
     ∙ ap (λ n. values (record { bytes = c.combine.new.out; offset = 0; len = n })) (c.len-3.ensures ∙ sym c.len-2.ensures)
     ∙ c.combine.ensures

@@ -9,7 +9,7 @@ pub returns : goal.returns
 returns c =
     let places = c.args.indices.now in
     let all = take_all c.loop-index.index-index places (omega arith) in
-    ap values c.new.ensures
+    ap values c.new.ensures.buffer
     ∙ values_from_places c.in_ok-from_vec.field-0 places c.args.len (λ p.
     ap (λ (bytes : List ℕ). backing_bit bytes p) c.in_ok-from_vec.ensures.ok
     ∙ c.loop-index.invariant.bits p

@@ -30,7 +30,7 @@ loop-i-preserved c =
 pub returns : goal.returns
 returns c =
     let all = take_all c.loop-i.i c.args.bools.now (omega arith) in
-    ap values c.new.ensures
+    ap values c.new.ensures.buffer
     ∙ values_from_front c.in_ok-from_vec.field-0 c.args.bools.now _ refl (λ p h.
     ap (λ (bytes : List ℕ). backing_bit bytes p) c.in_ok-from_vec.ensures.ok
     ∙ c.loop-i.invariant.bits p

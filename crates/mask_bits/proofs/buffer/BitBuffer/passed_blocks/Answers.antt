@@ -12,5 +12,5 @@ loop-word-preserved c =
     let next : 64 * (word + 64) ≡ 64 * word + 4096 = omega arith in
     record {
       within = omega (arith, len-of_list c.args.self.now refl, ap (λ p. p.len) c.self.view_is, c.loop-word-test.true);
-      passed = omega (arith, c.loop-word.invariant.passed, c.count_range-ones.ensures, ap (λ n. count (take n m)) next, count-part_further m (64 * word) 4096);
+      passed = omega (arith, c.loop-word.invariant.passed, c.count_range-ones.ensures.counted, ap (λ n. count (take n m)) next, count-part_further m (64 * word) 4096);
     }

@@ -33,7 +33,7 @@ new-values-requires c =
     let not_all : c.true_count-true_count.result ≢ c.len-len.result = c.if-true_count-len.false in
     record {
       mixed = record {
-        counted = c.true_count-true_count.ensures;
+        counted = c.true_count-true_count.ensures.counted;
         some_true = omega arith;
         some_false = omega (arith, length-places_from 0 (values c.args.buffer));
       };

@@ -11,7 +11,7 @@ overflow_add-count c =
     let i = c.loop-index.index-index in
     let index = get_or c.args.indices.now i 0 in
     let was = c.loop-index.invariant in
-    let further = count-runs_on m c.loop-index.counted_to index _ _ (was.behind i (omega arith) c.loop-index-test.true) was.count c.count_range-count.ensures in
+    let further = count-runs_on m c.loop-index.counted_to index _ _ (was.behind i (omega arith) c.loop-index-test.true) was.count c.count_range-count.ensures.counted in
     omega (arith, further, count_below-le m index, c.type_inv.indices i)
 
 pub loop-index-preserved : goal.loop-index-preserved
@@ -22,7 +22,7 @@ loop-index-preserved c =
     let index = get_or indices i 0 in
     let was = c.loop-index.invariant in
     let inside = c.loop-index-test.true in
-    let further = count-runs_on m c.loop-index.counted_to index _ _ (was.behind i (omega arith) inside) was.count c.count_range-count.ensures in
+    let further = count-runs_on m c.loop-index.counted_to index _ _ (was.behind i (omega arith) inside) was.count c.count_range-count.ensures.counted in
     record {
       counts = c.in_ok-push.ensures.items ∙ ap₂ (λ (xs : List ℕ) (x : ℕ). xs ++ x ∷ []) was.counts further ∙ sym (map_more (count_below m) indices i 0 inside);
       count = further;
