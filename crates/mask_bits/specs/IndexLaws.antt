@@ -1,6 +1,8 @@
--- What holds of the true indices of a list, of how many stand below one, and of the ranges of a list of one value.
-use Rattle.std.specs.Prelude.{ℕ, ◌+◌, ◌-◌, ◌≡◌, ◌<◌, ◌≤◌, Bool, true, false, List, [], ◌∷◌, Some, slice_get, slice_index_or, if◌then◌else◌}
-use Rattle.std.specs.List.Sorted.{IsStrictlyIncreasing}
+-- What holds of the true indices of a list, of how many stand below one, of the ranges of a list of one value, and of indices that a caller has tested.
+use Rattle.std.specs.Prelude.{ℕ, ◌+◌, ◌-◌, ◌≡◌, ◌<◌, ◌≤◌, Bool, true, false, List, [], ◌∷◌, length, Some, slice_get, slice_index_or, if◌then◌else◌}
+use Rattle.std.specs.List.{AllAdjacentBelow}
+use Rattle.std.specs.List.Sorted.{IsNonDecreasing, IsStrictlyIncreasing}
+use Rattle.std.specs.Ordering.{nat_cmp, partial_le}
 use Rattle.mask_bits.specs.Positions.{positions, count, count_below, repeated}
 use Rattle.mask_bits.specs.Runs.{AreRanges, AreRuns}
 
@@ -35,3 +37,11 @@ AllFalseHasNoRange = (n : ℕ) → AreRanges (repeated n false) []
 -- and no run
 abbrev pub AllFalseHasNoRun : Type 0
 AllFalseHasNoRun = (n : ℕ) → AreRuns (repeated n false) []
+
+-- numbers of which none is above the next don't fall
+abbrev pub NeighborsDoNotFall : Type 0
+NeighborsDoNotFall = (xs : List ℕ) → AllAdjacentBelow (λ x y. x ≤ y) xs (length xs) → IsNonDecreasing xs
+
+-- nor do numbers that `is_sorted` finds so
+abbrev pub SortedDoNotFall : Type 0
+SortedDoNotFall = (xs : List ℕ) → AllAdjacentBelow (λ x y. partial_le (λ a b. Some (nat_cmp a b)) x y ≡ true) xs (length xs) → IsNonDecreasing xs

@@ -278,7 +278,7 @@ pub fn choosing_in_turn<T>()
 {}
 
 ghost use Rattle.mask_bits.specs.ChoosingLaws.{ChosenByTest, ChosenOfTwoChunks, ChosenOfChunks, ChosenByLimit, PositionsOfLimit, LimitPastTheCount, LimitOfRankIntersection};
-ghost use Rattle.mask_bits.specs.IndexLaws.{PositionsAscend, FirstIsAtMostLast, CountBelowTheFirst, CountBelowTheNext, AllTrueIsOneRange, AllTrueIsOneRun, AllFalseHasNoRange, AllFalseHasNoRun};
+ghost use Rattle.mask_bits.specs.IndexLaws.{PositionsAscend, FirstIsAtMostLast, CountBelowTheFirst, CountBelowTheNext, AllTrueIsOneRange, AllTrueIsOneRun, AllFalseHasNoRange, AllFalseHasNoRun, NeighborsDoNotFall, SortedDoNotFall};
 
 /// Choosing rows by a mask that was made by a test of each row is filtering the rows by it.
 #[tactic(auto, using(crate::proofs::Lists::RowLemmas::chosen_by_test))]
@@ -334,4 +334,12 @@ pub fn ranges_of_one_value()
     ensures one_run { AllTrueIsOneRun }
     ensures no_range { AllFalseHasNoRange }
     ensures no_run { AllFalseHasNoRun }
+{}
+
+/// Numbers that a caller has found sorted, by `is_sorted` or neighbor by neighbor, are in order over
+/// the whole list, as `valid_counts_for_indices` asks.
+#[tactic(auto, using(crate::proofs::Lists::IndexLemmas::neighbors_do_not_fall))]
+pub fn sorted_numbers()
+    ensures neighbors { NeighborsDoNotFall }
+    ensures sorted { SortedDoNotFall }
 {}

@@ -8,6 +8,7 @@ mod buffer_mut;
 mod chunks;
 pub mod combine;
 pub mod counts;
+mod debug;
 mod eq;
 mod indices;
 pub mod laws;

@@ -6,6 +6,7 @@ use Rattle.std.proofs.lemmas.Bool.Decides.{same_from_decides}
 use Rattle.std.proofs.lemmas.Slice.Eq.{slice_eq-Decides}
 use Rattle.mask_bits.specs.Positions.{count, repeated}
 use Rattle.mask_bits.proofs.Lists.CountLemmas.{count-repeated_true, count-repeated_false, all_true_from_count, all_false_from_count, length-repeated}
+use Rattle.vortex_mask.specs.Laws.{SameTruthIsOneList}
 use Rattle.vortex_mask.specs.Mask.{truth, variant, mixed, IsUniform, same_truth}
 use Rattle.vortex_mask.specs.declared.mask.Mask.{Mask}
 use Rattle.vortex_mask.specs.declared.mask.Mask.TheVariants.{AllTrue, AllFalse, Values}
@@ -14,8 +15,11 @@ pub same_truth-from_answer : (a b : Mask) (r : Bool) → (r ≡ true → truth a
 same_truth-from_answer a b r told tells =
     same_from_decides r (same_truth a b) (told, tells) (slice_eq-Decides booleans_Decides (truth a) (truth b) (same_truth a b) refl)
 
+pub same_truth_is_one_list : SameTruthIsOneList
+same_truth_is_one_list a b = slice_eq-Decides booleans_Decides (truth a) (truth b) (same_truth a b) refl
+
 -- a list of one value is known by its length and count
-same_as_uniform : (a b : List Bool) → IsUniform a → length a ≡ length b → count a ≡ count b → a ≡ b
+pub same_as_uniform : (a b : List Bool) → IsUniform a → length a ≡ length b → count a ≡ count b → a ≡ b
 same_as_uniform a b uniform len counts = elim uniform [
   | inl none ↦
       all_false_from_count 0 a none ∙ ap (λ n. repeated n false) len ∙ sym (all_false_from_count 0 b (sym counts ∙ none))

@@ -4,6 +4,7 @@ pub mod ByteCountLemmas
 pub mod ByteLemmas
 pub mod CommonLemmas
 pub mod ConcatLemmas
+mod DepositLawLemmas
 pub mod DepositLemmas
 pub mod DepositListLemmas
 pub mod DrivenLemmas
@@ -26,4 +27,5 @@ pub mod RunLemmas
 pub mod SetPlaceLemmas
 pub mod StackLemmas
 pub mod VariantLemmas
+mod WalkLemmas
 pub mod WordKernelLemmas

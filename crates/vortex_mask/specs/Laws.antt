@@ -1,9 +1,9 @@
 -- What holds of the terms that masks are described in.
-use Rattle.std.specs.Prelude.{ℕ, ◌≡◌, ◌<◌, ◌↔◌, ◌⊎◌, Bool, true, false, List, length, All, None}
+use Rattle.std.specs.Prelude.{ℕ, ◌≡◌, ◌<◌, ◌↔◌, ◌⊎◌, IsTrue, Bool, true, false, List, length, All, None}
 use Rattle.std.specs.List.Sorted.{IsStrictlyIncreasing}
 use Rattle.mask_bits.specs.Positions.{repeated}
 use Rattle.vortex_mask.specs.Faults.{index_fault}
-use Rattle.vortex_mask.specs.Mask.{truth, variant, all_true, all_false, IsUniform}
+use Rattle.vortex_mask.specs.Mask.{truth, variant, all_true, all_false, IsUniform, same_truth}
 use Rattle.vortex_mask.specs.declared.mask.Mask.{Mask}
 
 -- a list is uniform exactly if it is all true or all false
@@ -21,3 +21,7 @@ AllTrueHasTrueValues = (m : Mask) → variant m ≡ all_true → truth m ≡ rep
 -- one that is held as all false has false values alone
 abbrev pub AllFalseHasFalseValues : Type 0
 AllFalseHasFalseValues = (m : Mask) → variant m ≡ all_false → truth m ≡ repeated (length (truth m)) false
+
+-- the test of two masks' lists is true exactly where they are one list
+abbrev pub SameTruthIsOneList : Type 0
+SameTruthIsOneList = (a b : Mask) → IsTrue (same_truth a b) ↔ (truth a ≡ truth b)

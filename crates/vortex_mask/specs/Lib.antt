@@ -4,6 +4,7 @@ pub mod Bitops
 pub mod Bytes
 pub mod Concat
 pub mod Deposit
+pub mod DepositLaws
 pub mod Faults
 pub mod Fraction
 pub mod Iter

@@ -90,8 +90,8 @@ impl Mask {
         }
     }
 
-    // The values that are true here and not in `other`.
-    fn without(&self, alloc: Global, other: &Mask) -> Result<Mask, MaskError>
+    /// The values that are true here and not in `other`: `bitand_not` of a mask that is only lent.
+    pub fn to_bitand_not(&self, alloc: Global, other: &Mask) -> Result<Mask, MaskError>
         requires { length (truth self.now) ≡ length (truth other.now) }
         ensures list { IfOk result (λ m. truth m ≡ and_not_of (truth self.now) (truth other.now)) }
         ensures variant { IfOk result (λ m. variant m ≡ fitting_variant
@@ -196,7 +196,7 @@ impl Mask {
                 laws::one_variant(&self);
                 Ok(self)
             }
-            Mask::AllTrue(_) | Mask::Values(_) => self.without(alloc, other),
+            Mask::AllTrue(_) | Mask::Values(_) => self.to_bitand_not(alloc, other),
         }
     }
 }

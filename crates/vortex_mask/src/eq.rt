@@ -1,10 +1,11 @@
 ghost use Rattle.std.specs.Prelude.{◌≡◌, ◌↔◌, length, IsTrue};
 ghost use Rattle.std.specs.Cmp.{bool_eq_equiv, partial_equiv_from_equiv};
 ghost use Rattle.std.proofs.lemmas.Cmp.{on_equiv, lists_equiv};
+ghost use Rattle.mask_bits.specs.Buffer.{values};
 ghost use Rattle.vortex_mask.specs.Mask.{truth, same_truth};
 
 use crate::mask::Mask;
-use mask_bits::laws;
+use mask_bits::{BitBuffer, laws};
 
 // Two masks are equal where their lists are; kept lists, offsets and how an empty list is held
 // don't count.
@@ -23,6 +24,30 @@ impl PartialEq for Mask {
 
 impl Eq for Mask {
     ghost laws = { on_equiv truth (lists_equiv bool_eq_equiv) };
+}
+
+impl Mask {
+    /// Whether these are the values of a buffer.
+    pub fn equals_buffer(&self, buffer: &BitBuffer) -> bool
+        ensures { IsTrue result ↔ (truth self.now ≡ values buffer.now) }
+    {
+        self.len() == buffer.len() && same_values(self, buffer)
+    }
+}
+
+// Whether a mask and a buffer of one length have the same list.
+fn same_values(mask: &Mask, buffer: &BitBuffer) -> bool
+    requires { length (truth mask.now) ≡ length (values buffer.now) }
+    ensures { IsTrue result ↔ (truth mask.now ≡ values buffer.now) }
+{
+    match mask {
+        Mask::AllTrue(len) => buffer.true_count() == *len,
+        Mask::AllFalse(_) => buffer.true_count() == 0,
+        Mask::Values(values) => {
+            laws::same_values_are_one_list();
+            values.bit_buffer() == buffer
+        }
+    }
 }
 
 // Whether two masks of one length have the same list.

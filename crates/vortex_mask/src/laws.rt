@@ -5,7 +5,8 @@ ghost use Rattle.std.specs.Prelude.{◌≡◌};
 ghost use Rattle.std.specs.Option.{ForSome};
 ghost use Rattle.mask_bits.specs.RunScan.{runs};
 ghost use Rattle.mask_bits.specs.Runs.{AreRanges};
-ghost use Rattle.vortex_mask.specs.Laws.{UniformIsOfOneValue, NoIndexFault, AllTrueHasTrueValues, AllFalseHasFalseValues};
+ghost use Rattle.vortex_mask.specs.DepositLaws.{DepositAtAllOnes, DepositIsRankIntersection};
+ghost use Rattle.vortex_mask.specs.Laws.{UniformIsOfOneValue, NoIndexFault, AllTrueHasTrueValues, AllFalseHasFalseValues, SameTruthIsOneList};
 ghost use Rattle.vortex_mask.specs.Mask.{truth, variant, fitting_variant, caches};
 ghost use Rattle.vortex_mask.specs.MaskValues.{AreOf};
 
@@ -69,4 +70,19 @@ pub fn no_index_fault()
 pub fn variants_of_one_value()
     ensures all_true { AllTrueHasTrueValues }
     ensures all_false { AllFalseHasFalseValues }
+{}
+
+/// A caller may compare two references to masks, by `==` as by any test that goes by it: they are
+/// equal exactly where the masks' lists are.
+#[tactic(auto, using(crate::proofs::EqLemmas::same_truth_is_one_list))]
+pub fn same_truth_is_one_list()
+    ensures same { SameTruthIsOneList }
+{}
+
+/// A deposit in the words of lists: the rank intersection of the mask's list and of as many of the
+/// source's values as the mask has set bits. At a mask of set bits alone it is the source.
+#[tactic(auto, using(crate::proofs::DepositLawLemmas::deposit_at_all_ones, crate::proofs::DepositLawLemmas::deposit_is_rank_intersection))]
+pub fn deposits()
+    ensures all_ones { DepositAtAllOnes }
+    ensures list { DepositIsRankIntersection }
 {}

@@ -9,5 +9,6 @@ pub mod laws;
 pub mod mask;
 
 pub use mask::{
-    AllOr, Fraction, Mask, MaskBoolIter, MaskError, MaskIter, MaskValues, MaskValuesRef,
+    AllOr, Fraction, Mask, MaskBoolIter, MaskError, MaskIter, MaskSetIndices, MaskSetSlices,
+    MaskValues, MaskValuesRef,
 };

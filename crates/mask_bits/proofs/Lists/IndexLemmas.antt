@@ -1,7 +1,9 @@
 -- True indices in their order, the count below the next one, and the ranges of a list of one value.
 use Rattle.std.proofs.Common.{◌≡◌, ℕ, zero, suc, ◌+◌, ◌-◌, ◌<◌, ◌≤◌, Bool, true, false, List, [], ◌∷◌, cond, length, get_or, take, Some, slice_get, refl, sym, ap, subst, ◌∙◌, arith}
+use Rattle.std.proofs.lemmas.List.Sorted.{IsNonDecreasingBy-from_all_adjacent}
+use Rattle.std.proofs.lemmas.Map.Keys.{le_from_is_le}
 use Rattle.std.proofs.lemmas.Option.{slice_get_within, get_or_from_slice_get}
-use Rattle.mask_bits.specs.IndexLaws.{PositionsAscend, FirstIsAtMostLast, CountBelowTheFirst, CountBelowTheNext, AllTrueIsOneRange, AllTrueIsOneRun, AllFalseHasNoRange, AllFalseHasNoRun}
+use Rattle.mask_bits.specs.IndexLaws.{PositionsAscend, FirstIsAtMostLast, CountBelowTheFirst, CountBelowTheNext, AllTrueIsOneRange, AllTrueIsOneRun, AllFalseHasNoRange, AllFalseHasNoRun, NeighborsDoNotFall, SortedDoNotFall}
 use Rattle.mask_bits.specs.Positions.{positions, count, count_below, repeated}
 use Rattle.mask_bits.specs.Runs.{AreRuns}
 use Rattle.mask_bits.proofs.Lists.AscendingLemmas.{Rising, positions-rising, positions-ascending}
@@ -62,3 +64,11 @@ all_true_is_one_range n some = runs_are_ranges (repeated n true) ((0, n) ∷ [])
 
 pub all_false_has_no_range : AllFalseHasNoRange
 all_false_has_no_range n = runs_are_ranges (repeated n false) [] (all_false_has_no_run n)
+
+-- ---- numbers that were tested
+
+pub neighbors_do_not_fall : NeighborsDoNotFall
+neighbors_do_not_fall xs all = IsNonDecreasingBy-from_all_adjacent (λ x. x) xs all
+
+pub sorted_do_not_fall : SortedDoNotFall
+sorted_do_not_fall xs all = neighbors_do_not_fall xs (λ k d h. le_from_is_le (get_or xs k d) (get_or xs (k + 1) d) (all k d h))

@@ -10,6 +10,7 @@ ghost use Rattle.vortex_mask.specs.Steps.{no_steps};
 use super::deposit::DepositBits;
 use super::select::SelectBit;
 use mask_bits::BitChunks;
+use std::fmt;
 use std::marker::Model;
 
 /// How many words a kernel has deposited, read and selected in, and sums over these steps.
@@ -148,5 +149,14 @@ impl Steps {
         self.selections += 1;
         self.spots += place as u128;
         place
+    }
+}
+
+impl fmt::Debug for Steps {
+    fn fmt<W: fmt::Write>(&self, f: &mut fmt::Formatter<W>) -> fmt::Result {
+        let (deposits, words, selections) = (self.deposits, self.words, self.selections);
+        let (offered, placed, spots) = (self.offered, self.placed, self.spots);
+        write!(f, "deposits={deposits}, words={words}, selections={selections}")?;
+        write!(f, ", offered={offered}, placed={placed}, spots={spots}")
     }
 }

@@ -5,7 +5,7 @@ use std::alloc::{AllocError, AllocFailed};
 use thiserror::Error;
 
 /// Why a call on masks was refused.
-#[derive(Debug, Drop, Error)]
+#[derive(Debug, Drop, Error, PartialEq, Eq)]
 pub enum MaskError {
     /// A growth was really refused.
     #[error("out of memory")]

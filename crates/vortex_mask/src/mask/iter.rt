@@ -1,5 +1,6 @@
 ghost use Rattle.std.specs.Prelude.{◌≡◌, ◌<◌, ◌^◌, length, IfSome, Some};
 ghost use Rattle.std.specs.Iterator.{YieldsFirst, UpTo, item_count};
+ghost use Rattle.std.specs.Iterator.Runs.{YieldsInOrder};
 ghost use Rattle.std.specs.Iterator.SizeHint.{IsWithinCount};
 ghost use Rattle.vortex_mask.specs.Iter.{values_left};
 ghost use Rattle.vortex_mask.specs.Mask.{truth};
@@ -56,11 +57,12 @@ impl ExactSizeIterator for MaskBoolIter<'_> {
     }
 }
 
-#[tactic(auto, using(mask_bits::proofs::Lists::CountLemmas::repeated_facts))]
+#[tactic(auto, using(mask_bits::proofs::Lists::CountLemmas::repeated_facts, crate::proofs::WalkLemmas::values_in_order))]
 impl Mask {
     /// The values in their order.
     pub fn iter(&self) -> MaskBoolIter<'_>
         ensures list { values_left result ≡ truth self.now }
+        ensures in_order { YieldsInOrder (YieldsFirst values_left) values_left }
         ensures fits { length (values_left result) < 2 ^ 64 }
     {
         match self {

@@ -58,6 +58,28 @@ impl Mask {
             laws::one_variant(&self);
             return Ok(self);
         }
+        self.to_limited(alloc, k)
+    }
+
+    /// The same of a mask that is only lent. Where it has no more true values, the result is its
+    /// clone.
+    pub fn to_limited(&self, alloc: Global, k: usize) -> Result<Mask, MaskError>
+        ensures list { IfOk result (λ m. truth m ≡ limited (truth self.now) k) }
+        ensures variant { IfOk result
+            (λ m. variant m ≡ fitting_variant (variant self.now) (truth m)) }
+        ensures cut { k < count (truth self.now) → IfOk result (λ m. caches m ≡ no_caches) }
+        ensures unchanged { count (truth self.now) ≤ k
+            → IfOk result (λ m. caches m ≡ caches self.now) }
+
+        // What needs no memory succeeds.
+        ensures uniform { count (truth self.now) ≤ k → variant self.now ≢ mixed → IsOk result }
+        ensures none { k ≡ 0 → 0 < count (truth self.now) → IsOk result }
+        ensures refused { IsOkUnless result (MaskError.Memory alloc_error) }
+    {
+        if self.true_count() <= k {
+            laws::one_variant(self);
+            return self.clone();
+        }
         if k == 0 {
             return Ok(Mask::AllFalse(self.len()));
         }

@@ -35,12 +35,12 @@ new-values-requires c =
     let some = c.if-true_count-eq0.false in
     let not_all = c.if-true_count-len.false in
     let len = length-bits_at c.args.words.items 0 c.args.len in
-    let counted = c.requires.counted ∙ ap (λ x. count (values x)) (sym c.in_ok-buffer.ensures) in
+    let counted = c.requires.counted ∙ ap (λ x. count (values x)) (sym c.in_ok-buffer.ensures.buffer) in
     record {
       mixed = record {
         counted = counted;
         some_true = omega arith;
-        some_false = omega (arith, counted, count-le-length (values b), len, ap (λ x. length (values x)) c.in_ok-buffer.ensures, c.requires.counted);
+        some_false = omega (arith, counted, count-le-length (values b), len, ap (λ x. length (values x)) c.in_ok-buffer.ensures.buffer, c.requires.counted);
       };
       caches = AreOf-no_caches (values c.in_ok-buffer.buffer);
     }
@@ -48,7 +48,7 @@ new-values-requires c =
 pub returns-clause-variant : goal.returns-clause-variant
 returns-clause-variant c =
     let m = values (record { bytes = c.args.words.items; offset = 0; len = c.args.len }) in
-    let list : values c.in_ok-new.field-0.value.buffer ≡ m = ap (λ v. values v.buffer) (c.in_ok-new.ensures.ok ∙ c.new-values.ensures) ∙ ap values c.in_ok-buffer.ensures in
+    let list : values c.in_ok-new.field-0.value.buffer ≡ m = ap (λ v. values v.buffer) (c.in_ok-new.ensures.ok ∙ c.new-values.ensures) ∙ ap values c.in_ok-buffer.ensures.buffer in
     let some = c.if-true_count-eq0.false in
     let not_all = c.if-true_count-len.false in
     let len = length-bits_at c.args.words.items 0 c.args.len in

@@ -6,8 +6,8 @@ use Rattle.vortex_mask.specs.Mask.{truth, variant, all_true, all_false, variant_
 use Rattle.vortex_mask.proofs.BitopLemmas.{variant-kept, some-combined, and_not-by_true, and_not-with_false, and_not-none, variant_and_not-all_false}
 use Rattle.vortex_mask.proofs.MaskLemmas.{fitting_variant-repeated_false}
 use Rattle.vortex_mask.proofs.ResultLemmas.{IfOk-both}
-use Rattle.vortex_mask.proofs.mask.Mask.without.Goals as goal
-use Rattle.vortex_mask.proofs.mask.Mask.without.Goals.{in-AllTrue+in-AllFalse-1, in-AllTrue+in-AllTrue-self, in-Values+in-AllFalse-1}
+use Rattle.vortex_mask.proofs.mask.Mask.to_bitand_not.Goals as goal
+use Rattle.vortex_mask.proofs.mask.Mask.to_bitand_not.Goals.{in-AllTrue+in-AllFalse-1, in-AllTrue+in-AllTrue-self, in-Values+in-AllFalse-1}
 
 -- ---- one side is the result, or what it leaves out
 

@@ -1,0 +1,5 @@
+use Rattle.mask_bits.proofs.Lists.IndexLemmas.{sorted_do_not_fall}
+use Rattle.mask_bits.proofs.laws.sorted_numbers.Goals as goal
+
+pub returns-clause-sorted : goal.returns-clause-sorted
+returns-clause-sorted c = sorted_do_not_fall

@@ -1,0 +1,27 @@
+//! The ranges of any mask as one list, and the span of its true rows.
+ghost use Rattle.std.specs.Prelude.{ℕ, ◌≡◌, ◌+◌, ◌-◌, IfOk, IfSome, Some, slice_get};
+ghost use Rattle.mask_bits.specs.Positions.{positions, count};
+ghost use Rattle.mask_bits.specs.Runs.{AreRuns};
+ghost use Rattle.vortex_mask.specs.Mask.{truth};
+
+use mask_bits::laws;
+use std::alloc::{AllocError, Global};
+use vortex_mask::Mask;
+
+/// The maximal ranges of the rows that a mask chooses, however it is held.
+pub fn ranges(alloc: Global, mask: &Mask) -> Result<Vec<(usize, usize)>, AllocError>
+    ensures { IfOk result (λ v. AreRuns (truth mask.now) v.items) }
+{
+    mask.set_slices().collect(alloc)
+}
+
+/// How many rows lie between the first and the last that a mask chooses, both counted.
+pub fn span(mask: &Mask) -> Option<usize>
+    ensures { IfSome result (λ n. (first last : ℕ) → slice_get (positions (truth mask.now)) 0 ≡ Some first
+        → slice_get (positions (truth mask.now)) (count (truth mask.now) - 1) ≡ Some last
+        → n ≡ last - first + 1) }
+{
+    laws::positions_ascend();
+    let (first, last) = (mask.first()?, mask.last()?);
+    Some(last - first + 1)
+}

@@ -1,0 +1,31 @@
+-- The walks over a mask: each run of calls gives what is left, and what a walk over a mask of one value has.
+use Rattle.std.proofs.Common.{◌≡◌, ℕ, suc, ◌+◌, ◌-◌, ◌<◌, List, ◌∷◌, length, ap, arith}
+use Rattle.std.specs.Iterator.{YieldsFirst}
+use Rattle.std.specs.List.{range_with_len}
+use Rattle.std.specs.Iterator.Runs.{YieldsInOrder}
+use Rattle.std.proofs.iter.runs.Sources.{from_front, as_is}
+use Rattle.vortex_mask.specs.Iter.{values_left, indices_left, ranges_left}
+
+in_order : {S A : Type 0} (left : S → List A) → YieldsInOrder (YieldsFirst left) left
+in_order left p seen = as_is p (left p.from) (from_front (YieldsFirst left) (λ x. x) left (λ s t h. ap length h.0) (λ s x t h. h) p seen)
+
+pub values_in_order : YieldsInOrder (YieldsFirst values_left) values_left
+values_in_order = in_order values_left
+
+pub indices_in_order : YieldsInOrder (YieldsFirst indices_left) indices_left
+indices_in_order = in_order indices_left
+
+pub ranges_in_order : YieldsInOrder (YieldsFirst ranges_left) ranges_left
+ranges_in_order = in_order ranges_left
+
+pub ruleset index_walks = (indices_in_order)
+
+pub ruleset range_walks = (ranges_in_order)
+
+-- ---- a range of indices
+
+-- the first of them, and those past it
+pub range-next : (n e : ℕ) → n < e → range_with_len n (e - n) ≡ n ∷ range_with_len (n + 1) (e - (n + 1))
+range-next n e h =
+    let more : e - n ≡ suc (e - (n + 1)) = omega arith in
+    ap (range_with_len n) more

@@ -1,0 +1,32 @@
+use Rattle.std.proofs.Common.{◌≡◌, ℕ, ◌-◌, ◌<◌, All, List, length, ap, sym, subst, ◌∙◌, arith}
+use Rattle.std.specs.List.{range_with_len}
+use Rattle.std.specs.List.Sorted.{IsStrictlyIncreasing}
+use Rattle.std.proofs.lemmas.List.FromFn.{length-range_with_len}
+use Rattle.mask_bits.specs.Positions.{positions}
+use Rattle.mask_bits.proofs.Lists.AscendingLemmas.{positions-ascending}
+use Rattle.mask_bits.proofs.Lists.CountLemmas.{positions-all_true, positions-all_false}
+use Rattle.mask_bits.proofs.Lists.PlaceLemmas.{positions-within}
+use Rattle.vortex_mask.specs.Mask.{truth}
+use Rattle.vortex_mask.proofs.mask.Mask.set_indices.Goals as goal
+
+pub returns-in-AllTrue-clause-indices : goal.returns-in-AllTrue-clause-indices
+returns-in-AllTrue-clause-indices c =
+    let n = c.in-AllTrue.len in
+    let all : n - 0 ≡ n = omega arith in
+    ap (range_with_len 0) all ∙ sym (positions-all_true n) ∙ sym (ap (λ m. positions (truth m)) c.in-AllTrue.is)
+
+pub returns-in-AllTrue-clause-ascending : goal.returns-in-AllTrue-clause-ascending
+returns-in-AllTrue-clause-ascending c =
+    subst IsStrictlyIncreasing (sym (returns-in-AllTrue-clause-indices c)) (positions-ascending (truth c.args.self.now))
+
+pub returns-in-AllTrue-clause-within : goal.returns-in-AllTrue-clause-within
+returns-in-AllTrue-clause-within c =
+    subst (λ (is : List ℕ). All (λ i. i < length (truth c.args.self.now)) is) (sym (returns-in-AllTrue-clause-indices c)) (positions-within (truth c.args.self.now))
+
+pub returns-in-AllTrue-clause-fits : goal.returns-in-AllTrue-clause-fits
+returns-in-AllTrue-clause-fits c =
+    grind (arith, length-range_with_len 0 (c.in-AllTrue.len - 0), c.well_formed)
+
+pub returns-in-AllFalse-clause-indices : goal.returns-in-AllFalse-clause-indices
+returns-in-AllFalse-clause-indices c =
+    sym (ap (λ m. positions (truth m)) c.in-AllFalse.is ∙ positions-all_false c.in-AllFalse.field-0)
