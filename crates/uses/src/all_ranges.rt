@@ -22,6 +22,8 @@ pub fn span(mask: &Mask) -> Option<usize>
         → n ≡ last - first + 1) }
 {
     laws::positions_ascend();
+    // no index passes the length, which fits
+    let _ = mask.len();
     let (first, last) = (mask.first()?, mask.last()?);
     Some(last - first + 1)
 }

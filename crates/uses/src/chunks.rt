@@ -7,19 +7,21 @@ use mask_bits::laws;
 use std::alloc::Global;
 use vortex_mask::{Mask, MaskError};
 
-/// The chosen rows of two chunks, one after the other.
+/// The rows that a mask for each of two chunks chooses, one chunk after the other.
 pub fn filtered<T: Copy>(
     alloc: Global,
-    first: (&[T], &Mask),
-    second: (&[T], &Mask),
+    first: &[T],
+    of_first: &Mask,
+    second: &[T],
+    of_second: &Mask,
 ) -> Result<Vec<T>, MaskError>
-    requires first { length first.0.now ≡ length (truth first.1.now) }
-    requires second { length second.0.now ≡ length (truth second.1.now) }
+    requires first { length first.now ≡ length (truth of_first.now) }
+    requires second { length second.now ≡ length (truth of_second.now) }
     ensures { IfOk result (λ v. v.items
-        ≡ chosen (first.0.now ++ second.0.now) (truth first.1.now ++ truth second.1.now)) }
+        ≡ chosen (first.now ++ second.now) (truth of_first.now ++ truth of_second.now)) }
 {
     laws::choosing_by_chunks::<T>();
-    let mut rows = first.1.choose(alloc, first.0)?;
-    rows.extend_from_slice(&second.1.choose(alloc, second.0)?)?;
+    let mut rows = of_first.choose(alloc, first)?;
+    rows.extend_from_slice(&of_second.choose(alloc, second)?)?;
     Ok(rows)
 }

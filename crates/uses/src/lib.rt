@@ -3,11 +3,17 @@
 //! `filter::by_ranges` for one line that applies a law.
 #![tactic(auto)]
 
+pub mod all_ranges;
+pub mod chunks;
+pub mod codes;
+pub mod column_filter;
 pub mod columns;
 pub mod estimates;
 pub mod explain;
 pub mod filter;
 pub mod gather;
+pub mod limits;
+pub mod own_deposit;
 pub mod pages;
 pub mod reads;
 pub mod row_groups;
@@ -16,4 +22,5 @@ pub mod stacks;
 #[cfg(test)]
 mod tests;
 pub mod validity;
+pub mod walks;
 pub mod words;

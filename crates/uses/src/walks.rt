@@ -37,5 +37,11 @@ pub fn side_by_side(
 ) -> Result<Vec<(bool, bool)>, AllocError>
     ensures { IfOk result (λ v. v.items ≡ zip (truth first.now) (truth second.now)) }
 {
-    first.iter().zip(second.iter()).collect(alloc)
+    let first: Vec<bool> = first.iter().collect(alloc)?;
+    let second: Vec<bool> = second.iter().collect(alloc)?;
+    first
+        .iter()
+        .copied()
+        .zip(second.iter().copied())
+        .collect(alloc)
 }
