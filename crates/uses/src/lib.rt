@@ -4,6 +4,7 @@
 #![tactic(auto)]
 
 pub mod all_ranges;
+pub mod batches;
 pub mod chunks;
 pub mod codes;
 pub mod column_filter;

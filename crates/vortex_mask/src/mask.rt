@@ -21,6 +21,7 @@ mod from_excluded;
 mod from_indices;
 mod from_intersection;
 mod from_slices;
+mod groups;
 mod index_fault;
 mod iter;
 mod lend;

@@ -76,7 +76,7 @@ impl Mask {
         ensures none { k ≡ 0 → 0 < count (truth self.now) → IsOk result }
         ensures refused { IsOkUnless result (MaskError.Memory alloc_error) }
     {
-        if self.true_count() <= k {
+        if k >= self.true_count() {
             laws::one_variant(self);
             return self.clone();
         }

@@ -1,0 +1,15 @@
+use Rattle.std.proofs.Common.{Bool, List, [], ◌∷◌, ◌++◌, map, sym, ap, ap₂, ◌∙◌, arith}
+use Rattle.std.proofs.lemmas.List.{map-append}
+use Rattle.std.proofs.lemmas.List.FromFn.{map-range_with_len_more}
+use Rattle.mask_bits.specs.Lists.{group}
+use Rattle.vortex_mask.specs.Mask.{truth}
+use Rattle.vortex_mask.proofs.mask.Mask.groups.Goals as goal
+
+-- one more group
+pub loop-number-preserved : goal.loop-number-preserved
+loop-number-preserved c =
+    let n = c.loop-number.number in
+    ap (map truth) c.in_ok-push.ensures.items
+    ∙ map-append truth c.loop-number.groups.items (c.in_ok-group.field-0 ∷ [])
+    ∙ ap₂ (λ (xs ys : List (List Bool)). xs ++ ys) c.loop-number.invariant (ap (λ (m : List Bool). m ∷ []) c.in_ok-group.ensures.list)
+    ∙ sym (map-range_with_len_more (group (truth c.args.self.now) c.args.size) 0 n n (omega arith))
