@@ -12,9 +12,9 @@ use Rattle.vortex_mask.proofs.MaskLemmas.{fitting_variant-none}
 use Rattle.vortex_mask.proofs.ResultLemmas.{IfOk-both}
 use Rattle.vortex_mask.proofs.mask.Mask.to_limited.Goals as goal
 
-pub returns-then-true_count-k-clause-list : goal.returns-then-true_count-k-clause-list
-returns-then-true_count-k-clause-list c =
-    let all = limited-all (truth c.args.self.now) c.args.k (omega (arith, c.if-true_count-k.true, c.true_count.ensures)) in
+pub returns-then-k-true_count-clause-list : goal.returns-then-k-true_count-clause-list
+returns-then-k-true_count-clause-list c =
+    let all = limited-all (truth c.args.self.now) c.args.k (omega (arith, c.if-k-true_count.true, c.true_count.ensures)) in
     IfOk-weaker c.clone.result _ _ (λ m same. same ∙ sym all) c.clone.ensures.list
 
 pub returns-then-k-eq0-clause-list : goal.returns-then-k-eq0-clause-list
@@ -26,7 +26,7 @@ pub returns-then-k-eq0-clause-variant : goal.returns-then-k-eq0-clause-variant
 returns-then-k-eq0-clause-variant c =
     let m = truth c.args.self.now in
     let n = c.len.result in
-    let some : 0 < n = omega (arith, c.if-true_count-k.false, c.true_count.ensures, count-le-length m, c.len.ensures) in
+    let some : 0 < n = omega (arith, c.if-k-true_count.false, c.true_count.ensures, count-le-length m, c.len.ensures) in
     sym (fitting_variant-none (variant c.args.self.now) (repeated n false) (omega (arith, length-repeated n false)) (count-repeated_false n))
 
 pub returns-clause-list : goal.returns-clause-list
@@ -37,6 +37,6 @@ pub returns-clause-variant : goal.returns-clause-variant
 returns-clause-variant c =
     let m = truth c.args.self.now in
     let made = values c.in_ok-first_true.field-0 in
-    let some : 0 < length made = omega (arith, c.if-true_count-k.false, c.true_count.ensures, count-le-length m, ap length c.in_ok-first_true.ensures, length-limited m c.args.k) in
+    let some : 0 < length made = omega (arith, c.if-k-true_count.false, c.true_count.ensures, count-le-length m, ap length c.in_ok-first_true.ensures, length-limited m c.args.k) in
     IfOk-both c.from_buffer.result _ _ _ (λ kept. variant-kept (variant c.args.self.now) kept made some) c.from_buffer.ensures.list c.from_buffer.ensures.variant
 
