@@ -2,7 +2,6 @@
 ghost use Rattle.std.specs.Prelude.{◌≡◌, ◌<◌, All, IfOk, length, map};
 ghost use Rattle.std.specs.Int.{div_ceil};
 ghost use Rattle.std.specs.List.{range_with_len};
-ghost use Rattle.std.specs.List.Sorted.{IsStrictlyIncreasing};
 ghost use Rattle.mask_bits.specs.Buffer.{values};
 ghost use Rattle.mask_bits.specs.Lists.{group};
 ghost use Rattle.mask_bits.specs.Positions.{true_at};
@@ -13,8 +12,8 @@ use mask_bits::{BitBuffer, laws};
 use std::alloc::{AllocError, Global};
 use vortex_mask::{Mask, MaskError};
 
-/// A mask for each row group of a file of `rows` rows, from the ascending numbers of the rows that are
-/// looked for.
+/// A mask for each row group of a file of `rows` rows, from the numbers of the rows that are looked
+/// for.
 pub fn by_row_group(
     alloc: Global,
     rows: usize,
@@ -22,13 +21,13 @@ pub fn by_row_group(
     size: usize,
 ) -> Result<Vec<Mask>, MaskError>
     requires size { 0 < size }
-    requires ascending { IsStrictlyIncreasing wanted.now }
     requires within { All (λ row. row < rows) wanted.now }
     ensures { IfOk result (λ v. map truth v.items
-        ≡ map (group (true_at rows wanted.now) size) (range_with_len 0 (div_ceil rows size))) }
+        ≡ map (group (true_at rows wanted.now) size)
+        (range_with_len 0 (div_ceil (length (true_at rows wanted.now)) size))) }
 {
-    let wanted = Mask::from_buffer(alloc, BitBuffer::from_indices(alloc, rows, wanted)?)?;
-    wanted.groups(alloc, size)
+    let wanted = BitBuffer::from_indices(alloc, rows, wanted)?;
+    Mask::from_buffer(alloc, wanted)?.groups(alloc, size)
 }
 
 /// How many rows of each batch are null.
