@@ -1,7 +1,7 @@
 // How the tests of these crates are written. A test is proved safe before it runs, and what makes that
 // slow is inline asserts and `?` beside living values. So a helper makes one thing and asserts of it,
 // rows go as tuples through one loop over one helper, and a test function holds at most three `?` and
-// no chain of asserts. Sweeps of buffers and of masks stand in the crate `uses`.
+// no chain of asserts.
 ghost use Rattle.std.specs.Prelude.{◌≡◌};
 
 mod all_or;
@@ -17,6 +17,8 @@ mod lent;
 mod parts;
 mod ranges;
 mod reading;
+mod sizes;
+mod sweeps;
 
 use bytes::Bytes;
 use mask_bits::BitBuffer;

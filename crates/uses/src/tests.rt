@@ -1,13 +1,5 @@
-// How a test is written stands at the head of the tests of `mask_tests`. A caller's test stands in its file.
+// What the tests of callers share. A caller's test stands in its file.
 ghost use Rattle.std.specs.Prelude.{◌≡◌};
-
-mod builder;
-mod constructors;
-mod large;
-mod masks;
-mod packed;
-mod pointwise;
-mod sweep;
 
 use mask_bits::BitBuffer;
 use std::alloc::{AllocError, Global};

@@ -1,5 +1,5 @@
 // A plain list of truth values, and what a plain scan finds in it.
-use crate::tests::packed::Generator;
+use crate::tests::sweeps::packed::Generator;
 use std::alloc::Global;
 use vortex_mask::MaskError;
 

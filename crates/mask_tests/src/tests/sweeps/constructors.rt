@@ -1,6 +1,7 @@
 // Every constructor of masks at each length up to 200, and of a buffer at several bit offsets,
 // beside a plain list of bool.
 use super::packed::{Generator, packed, some_values};
+use crate::tests::same;
 use mask_bits::BitBuffer;
 use std::alloc::Global;
 use std::process::Abort;
@@ -10,7 +11,7 @@ use vortex_mask::{Mask, MaskError};
 const LONGEST: usize = 200;
 
 fn is_list(rt: &impl Abort, mask: &Mask, values: &[bool]) {
-    super::same(rt, mask.len(), values.len());
+    same(rt, mask.len(), values.len());
     for (i, value) in values.iter().enumerate() {
         assert!(rt; mask.value(i) == *value, "value {i}");
     }
