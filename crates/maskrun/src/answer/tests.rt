@@ -2,6 +2,7 @@ mod refusals;
 
 use crate::answer::{RunError, answer};
 use std::alloc::{AllocError, Global};
+use std::process::Abort;
 use std::test::Fail;
 use vortex_mask::MaskError;
 
@@ -126,12 +127,70 @@ fn a_stack_of_a_thousand(rt: HostRuntime) -> Result<(), Fail> {
     Ok(())
 }
 
+// The values 01 so many times.
+fn pairs(alloc: Global, before: &str, times: usize) -> Result<String, AllocError> {
+    let mut text = String::new(alloc);
+    for _ in 0..times {
+        text.push_str(before)?;
+        text.push_str("01")?;
+    }
+    Ok(text)
+}
+
+// Masks of two values, one after another, print as one.
+fn joins(rt: &impl Abort, alloc: Global, times: usize) -> Result<(), AllocError> {
+    let mut command_line = String::from_str(alloc, "cat")?;
+    command_line.push_str(&pairs(alloc, " ", times)?)?;
+    let want = pairs(alloc, "", times)?;
+    assert!(rt;
+        printed(alloc, &command_line)?.as_str() == want.as_str(),
+        "{times}"
+    );
+    Ok(())
+}
+
+#[test]
+fn more_masks_than_a_word_has_bits(rt: HostRuntime) -> Result<(), Fail> {
+    for times in [32, 64, 65, 1_000] {
+        joins(&rt, rt.alloc(), times)?;
+    }
+    Ok(())
+}
+
+fn reads(rt: &impl Abort, alloc: Global, fault: &RunError, want: &str) -> Result<(), AllocError> {
+    let text = format!(in alloc; "{fault}")?;
+    assert!(rt; text.as_str() == want, "{text} for {want}");
+    Ok(())
+}
+
 #[test]
 fn texts_of_faults(rt: HostRuntime) -> Result<(), Fail> {
-    let fault = RunError::Mask(MaskError::Memory(AllocError));
-    assert_eq!(rt;
-        format!(in rt.alloc(); "{fault}")?.as_str(),
-        "out of memory"
-    );
+    for (fault, want) in [
+        (RunError::Usage, "usage: maskrun COMMAND WORDS"),
+        (
+            RunError::BadBit { word: 3, at: 7 },
+            "word 3: byte 7 is not 0 or 1",
+        ),
+        (
+            RunError::LengthsDiffer { want: 2, got: 1 },
+            "length 1 where 2 is needed",
+        ),
+        (RunError::BadNumber { word: 2 }, "word 2: not a number"),
+        (RunError::OutOfRange { word: 3 }, "word 3: out of range"),
+        (
+            RunError::Mask(MaskError::Memory(AllocError)),
+            "out of memory",
+        ),
+        (
+            RunError::Mask(MaskError::LengthOverflow),
+            "the sum of the lengths does not fit",
+        ),
+        (
+            RunError::Mask(MaskError::UnsortedIndices { at: 1 }),
+            "index at place 1 is below the one before it",
+        ),
+    ] {
+        reads(&rt, rt.alloc(), &fault, want)?;
+    }
     Ok(())
 }
