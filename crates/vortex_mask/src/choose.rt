@@ -14,7 +14,7 @@ impl Mask {
         ensures rows { IfOk result (λ v. v.items ≡ chosen rows.now (truth self.now)) }
         ensures len { IfOk result (λ v. vec_len v ≡ count (truth self.now)) }
 
-        // Where no row is chosen, no memory is needed.
+        // An all-false mask chooses no row, and needs no memory for it.
         ensures none { variant self.now ≡ all_false → IsOk result }
         ensures refused { IsOkUnless result (MaskError.Memory alloc_error) }
     {
