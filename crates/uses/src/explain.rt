@@ -33,9 +33,24 @@ pub fn stacked(alloc: Global, first: &Mask, second: &Mask) -> Result<(Mask, usiz
     Ok((mask, steps.deposits()))
 }
 
+/// The same, with how many words of the first filter were read: whatever ran, none was read twice.
+pub fn stacked_by_words(
+    alloc: Global,
+    first: &Mask,
+    second: &Mask,
+) -> Result<(Mask, usize), MaskError>
+    requires { length (truth second.now) ≡ count (truth first.now) }
+    ensures list { IfOk result
+        (λ r. truth r.0 ≡ rank_intersection (truth first.now) (truth second.now)) }
+    ensures words { IfOk result (λ r. r.1 ≤ started_words (length (truth first.now))) }
+{
+    let (mask, steps) = first.intersect_by_rank_counted(alloc, second)?;
+    Ok((mask, steps.words()))
+}
+
 #[cfg(test)]
 mod tests {
-    use super::{deposits_words, stacked};
+    use super::{deposits_words, stacked, stacked_by_words};
     use crate::tests::{lists, mask, same};
     use std::alloc::Global;
     use std::process::Abort;
@@ -58,6 +73,25 @@ mod tests {
         lists(rt, &stacked, want.0);
         same(rt, words, want.1);
         assert!(rt; deposits(&first, &second).unwrap_or(false) == (words > 0));
+        Ok(())
+    }
+
+    fn reads(
+        rt: &impl Abort,
+        alloc: Global,
+        first: &Mask,
+        second: &Mask,
+        want: usize,
+    ) -> Result<(), MaskError> {
+        same(rt, second.len(), first.true_count());
+        same(rt, stacked_by_words(alloc, first, second)?.1, want);
+        Ok(())
+    }
+
+    #[test]
+    fn words_of_five_rows(rt: HostRuntime) -> Result<(), Fail> {
+        let (first, second) = (mask(rt.alloc(), "10110")?, mask(rt.alloc(), "010")?);
+        reads(&rt, rt.alloc(), &first, &second, 1)?;
         Ok(())
     }
 

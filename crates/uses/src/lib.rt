@@ -5,10 +5,12 @@
 
 pub mod all_ranges;
 pub mod batches;
+pub mod bitmaps;
 pub mod chunks;
 pub mod codes;
 pub mod column_filter;
 pub mod columns;
+pub mod equality;
 pub mod estimates;
 pub mod explain;
 pub mod filter;
@@ -20,8 +22,8 @@ pub mod reads;
 pub mod row_groups;
 pub mod selected;
 pub mod stacks;
-#[cfg(test)]
-mod tests;
 pub mod validity;
 pub mod walks;
 pub mod words;
+#[cfg(test)]
+mod tests;
