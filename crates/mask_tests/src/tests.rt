@@ -2,18 +2,20 @@
 // slow is inline asserts and `?` beside living values. So a helper makes one thing and asserts of it,
 // rows go as tuples through one loop over one helper, and a test function holds at most three `?` and
 // no chain of asserts.
-ghost use Rattle.std.specs.Prelude.{◌≡◌};
-
 mod all_or;
 mod bitops;
 mod buffer;
 mod callers;
 mod concat;
+mod empty;
+mod from_buffer;
+mod helpers;
 mod indices;
 mod intersect_by_rank;
 mod kept;
 mod large;
 mod lent;
+mod longest;
 mod parts;
 mod ranges;
 mod reading;
@@ -21,41 +23,12 @@ mod sizes;
 mod sweeps;
 
 use bytes::Bytes;
+use helpers::{is_held_as, lists, mask, same};
 use mask_bits::BitBuffer;
 use std::alloc::{AllocError, Global};
 use std::process::Abort;
 use std::test::Fail;
 use vortex_mask::{AllOr, Mask, MaskError, MaskValues};
-
-fn same(rt: &impl Abort, got: usize, want: usize)
-    ensures { got ≡ want }
-{
-    assert!(rt; got == want, "{got} for {want}");
-}
-
-// A mask from a text of `0` and `1`.
-fn mask(alloc: Global, text: &str) -> Result<Mask, MaskError> {
-    Mask::from_bools(alloc, text.as_bytes().iter().map(|c| *c == b'1'))
-}
-
-// The mask's values, by `len` and `value`, are those of a text.
-fn lists(rt: &impl Abort, mask: &Mask, want: &str) {
-    let want = want.as_bytes();
-    same(rt, mask.len(), want.len());
-    for (i, digit) in want.iter().enumerate() {
-        assert!(rt; mask.value(i) == (*digit == b'1'), "value {i}");
-    }
-    assert!(rt; mask.is_empty() == want.is_empty());
-}
-
-fn is_held_as(rt: &impl Abort, mask: &Mask, want: &str) {
-    let variant = match mask {
-        Mask::AllTrue(_) => "AllTrue",
-        Mask::AllFalse(_) => "AllFalse",
-        Mask::Values(_) => "Values",
-    };
-    assert!(rt; variant == want, "{variant} for {want}");
-}
 
 fn narrows_to(
     rt: &impl Abort,

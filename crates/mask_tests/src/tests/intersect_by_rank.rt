@@ -1,7 +1,8 @@
-mod driven;
-mod kernels;
+pub(crate) mod driven;
+pub(crate) mod kernels;
 mod path;
 
+use crate::tests::helpers::Generator;
 use mask_bits::BitBuffer;
 use std::process::Abort;
 use std::test::Fail;
@@ -9,19 +10,6 @@ use vortex_mask::intersect_by_rank::{
     DepositBits, Portable, PortableLoop, SelectBit, Steps, deposit_bytewise, deposit_two_holes,
     deposit_two_lowest,
 };
-
-// A generator of 64-bit words with a fixed start.
-#[derive(Drop)]
-struct Generator(u64);
-
-impl Generator {
-    fn next(&mut self) -> u64 {
-        self.0 ^= self.0 << 13;
-        self.0 ^= self.0 >> 7;
-        self.0 ^= self.0 << 17;
-        self.0
-    }
-}
 
 fn same(rt: &impl Abort, got: u64, want: u64) {
     assert_eq!(rt; got, want);

@@ -1,5 +1,5 @@
 // The lists of true places that masks keep through boolean calls, parts and limits.
-use super::{lists, same};
+use super::{is_held_as, lists, same};
 use std::alloc::Global;
 use std::process::Abort;
 use std::test::Fail;
@@ -74,6 +74,17 @@ fn through_or(rt: HostRuntime) -> Result<(), Fail> {
     ] {
         or_keeps(&rt, rt.alloc(), a, b, want)?;
     }
+    Ok(())
+}
+
+// An all-true mask takes the place of one whose true places are kept.
+#[test]
+fn or_with_all_true_keeps_none(rt: HostRuntime) -> Result<(), Fail> {
+    let (mixed, all) = (made(rt.alloc())?, Mask::new_true(5));
+    same(&rt, mixed.len(), all.len());
+    let or = mixed.bitor(rt.alloc(), &all)?;
+    keeps(&rt, &or, "11111", None);
+    is_held_as(&rt, &or, "AllTrue");
     Ok(())
 }
 

@@ -131,11 +131,17 @@ fn counts_of_a_mixed_mask(rt: HostRuntime) -> Result<(), Fail> {
 #[test]
 fn counts_of_masks_of_one_value(rt: HostRuntime) -> Result<(), Fail> {
     for (mask, indices, want) in [
-        (Mask::new_true(4), [0, 4], [0, 4]),
-        (Mask::new_false(4), [4, 4], [0, 0]),
-        (Mask::new_true(MAX), [0, MAX], [0, MAX]),
+        (Mask::new_true(4), [0, 4].as_slice(), [0, 4].as_slice()),
+        (Mask::new_false(4), [4].as_slice(), [0].as_slice()),
+        (Mask::new_false(4), [4, 4].as_slice(), [0, 0].as_slice()),
+        (Mask::new_true(MAX), [MAX].as_slice(), [MAX].as_slice()),
+        (
+            Mask::new_true(MAX),
+            [0, MAX].as_slice(),
+            [0, MAX].as_slice(),
+        ),
     ] {
-        counts(&rt, rt.alloc(), &mask, &indices, &want)?;
+        counts(&rt, rt.alloc(), &mask, indices, want)?;
     }
     Ok(())
 }

@@ -2,6 +2,6 @@
 mod bitops;
 mod buffer;
 mod builder;
-mod constructors;
-mod mask;
-mod packed;
+pub(crate) mod kernels;
+pub(crate) mod mask;
+pub(crate) mod plain;

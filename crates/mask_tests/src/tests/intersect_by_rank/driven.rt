@@ -1,9 +1,8 @@
-//! The kernel that goes by rank numbers, and selection in a buffer, beside rows and plain lists.
+//! The kernel that goes by rank numbers, row by row.
 
-use super::Generator;
-use super::kernels::{runs, thinned, true_at};
+use super::kernels::true_at;
 use mask_bits::BitBuffer;
-use std::alloc::{AllocError, Global};
+use std::alloc::Global;
 use std::process::Abort;
 use std::test::Fail;
 use vortex_mask::intersect_by_rank::{Portable, Steps, intersect_mask_driven};
@@ -31,7 +30,7 @@ fn expect_steps(rt: &impl Abort, steps: &Steps, words: usize, places: &[usize]) 
     assert!(rt; (steps.deposits(), steps.offered(), steps.placed()) == (0, 0, 0));
 }
 
-fn expect_driven(
+pub(crate) fn expect_driven(
     rt: &impl Abort,
     alloc: Global,
     rows: &BitBuffer,
@@ -100,64 +99,5 @@ fn every_rank_of_true_values(rt: HostRuntime) -> Result<(), Fail> {
 fn no_rank_of_no_value(rt: HostRuntime) -> Result<(), Fail> {
     let none = BitBuffer::new_set(rt.alloc(), 0)?;
     expect_rows(&rt, rt.alloc(), &none, &[(&[], &[], 0)])?;
-    Ok(())
-}
-
-// ---- sweeps beside the plain list
-
-// The places of the true rows whose ranks are true.
-fn plain_places(
-    rt: &impl Abort,
-    alloc: Global,
-    rows: &BitBuffer,
-    ranks: &BitBuffer,
-) -> Result<Vec<usize>, AllocError> {
-    let mut places = Vec::new(alloc);
-    let mut rank = 0usize;
-    for i in 0..rows.len() {
-        if rows.value(i) {
-            assert!(rt; rank < ranks.len());
-            if ranks.value(rank) {
-                places.push(i)?;
-            }
-            rank += 1;
-        }
-    }
-    Ok(places)
-}
-
-// True value number `n` is where the plain list has it, and past the last there is none.
-fn expect_selected(rt: &impl Abort, rows: &BitBuffer) {
-    let mut n = 0usize;
-    for i in 0..rows.len() {
-        if rows.value(i) {
-            assert!(rt; n < 1_000_000 && rows.select(n) == Some(i), "{n}");
-            n += 1;
-        }
-    }
-    assert!(rt; rows.select(n).is_none());
-}
-
-fn expect_plain(
-    rt: &impl Abort,
-    alloc: Global,
-    rows: &BitBuffer,
-    ranks: &BitBuffer,
-) -> Result<(), MaskError> {
-    let want = plain_places(rt, alloc, rows, ranks)?;
-    // those up to the last place that stays
-    let words = want.last().map_or(0, |place| place / 64 + 1);
-    expect_driven(rt, alloc, rows, ranks, (&want, words))
-}
-
-#[test]
-fn selections_beside_plain_lists(rt: HostRuntime) -> Result<(), Fail> {
-    for offset in [0, 3, 67] {
-        let mut words = Generator(0x2545_F491_4F6C_DD1D);
-        let rows = runs(&rt, rt.alloc(), &mut words, offset)?;
-        let ranks = thinned(&rt, rt.alloc(), &mut words, offset, rows.true_count())?;
-        expect_selected(&rt, &rows);
-        expect_plain(&rt, rt.alloc(), &rows, &ranks)?;
-    }
     Ok(())
 }

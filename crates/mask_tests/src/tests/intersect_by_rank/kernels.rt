@@ -1,12 +1,12 @@
-//! The kernels beside plain lists, and the reader of rank bits.
+//! The kernels, row by row, and the reader of rank bits.
 
 ghost use Rattle.std.specs.Prelude.{◌<◌, All, IfOk, length};
 ghost use Rattle.std.specs.List.Sorted.{IsStrictlyIncreasing};
 ghost use Rattle.mask_bits.specs.Buffer.{values};
 
-use super::{Generator, same};
+use super::same;
 use bytes::Bytes;
-use mask_bits::{BitBuffer, BitBufferMut};
+use mask_bits::BitBuffer;
 use std::alloc::{AllocError, Global};
 use std::process::Abort;
 use std::test::Fail;
@@ -78,7 +78,7 @@ fn expect_steps(rt: &impl Abort, steps: &Steps, deposits: usize, offered: usize,
     assert!(rt; steps.spots() == 0);
 }
 
-fn by_bits<D: DepositBits>(
+pub(crate) fn by_bits<D: DepositBits>(
     rt: &impl Abort,
     alloc: Global,
     rows: &BitBuffer,
@@ -91,7 +91,7 @@ fn by_bits<D: DepositBits>(
     Ok(mask)
 }
 
-fn by_numbers<D: DepositBits>(
+pub(crate) fn by_numbers<D: DepositBits>(
     rt: &impl Abort,
     alloc: Global,
     rows: &BitBuffer,
@@ -105,7 +105,7 @@ fn by_numbers<D: DepositBits>(
     Ok(mask)
 }
 
-fn by_places(
+pub(crate) fn by_places(
     rt: &impl Abort,
     alloc: Global,
     rows: &BitBuffer,
@@ -129,10 +129,21 @@ pub(super) fn true_at(
     BitBuffer::from_bools(alloc, (0..len).map(|i| places.contains(&i)))
 }
 
-pub(super) fn expect_places(rt: &impl Abort, mask: &Mask, want: &[usize]) {
-    assert!(rt; mask.true_count() == want.len());
+// The mask has so many values, true at these places, and caches these, or nothing.
+pub(super) fn expect_places(
+    rt: &impl Abort,
+    mask: &Mask,
+    len: usize,
+    want: &[usize],
+    is_cached: bool,
+) {
+    assert!(rt; mask.len() == len && mask.true_count() == want.len());
     for place in want {
         assert!(rt; *place < mask.len() && mask.value(*place), "{place}");
+    }
+    if let Some(values) = mask.values() {
+        assert!(rt; values.cached_indices() == is_cached.then_some(want));
+        assert!(rt; values.cached_slices().is_none());
     }
 }
 
@@ -143,13 +154,12 @@ fn expect_kernels<D: DepositBits>(
     ranks: &BitBuffer,
     (want, deposits): (&[usize], usize),
 ) -> Result<(), MaskError> {
-    expect_places(rt, &by_bits::<D>(rt, alloc, rows, ranks, deposits)?, want);
-    expect_places(
-        rt,
-        &by_numbers::<D>(rt, alloc, rows, ranks, deposits)?,
-        want,
-    );
-    expect_places(rt, &by_places(rt, alloc, rows, ranks)?, want);
+    let of_bits = by_bits::<D>(rt, alloc, rows, ranks, deposits)?;
+    expect_places(rt, &of_bits, rows.len(), want, false);
+    let of_numbers = by_numbers::<D>(rt, alloc, rows, ranks, deposits)?;
+    expect_places(rt, &of_numbers, rows.len(), want, false);
+    let of_places = by_places(rt, alloc, rows, ranks)?;
+    expect_places(rt, &of_places, rows.len(), want, true);
     Ok(())
 }
 
@@ -222,130 +232,4 @@ fn an_empty_mask_is_all_false(rt: HostRuntime) -> Result<(), Fail> {
     let narrowed = by_bits::<PortableLoop>(&rt, rt.alloc(), &none, &none, 0)?;
     expect_all_false(&rt, &narrowed, 0);
     Ok(())
-}
-
-// ---- a sweep beside the plain list
-
-// A true row is as its rank is, and the others are false.
-pub(super) fn expect_plain(rt: &impl Abort, mask: &Mask, rows: &BitBuffer, ranks: &BitBuffer) {
-    assert!(rt; mask.len() == rows.len());
-    let mut rank = 0usize;
-    for i in 0..rows.len() {
-        let mut want = false;
-        if rows.value(i) {
-            assert!(rt; rank < ranks.len());
-            want = ranks.value(rank);
-            rank += 1;
-        }
-        assert!(rt; mask.value(i) == want, "{i}");
-    }
-}
-
-fn expect_words<D: DepositBits>(
-    rt: &impl Abort,
-    alloc: Global,
-    rows: &BitBuffer,
-    ranks: &BitBuffer,
-) -> Result<(), MaskError> {
-    let deposits = rows.len().div_ceil(64);
-    expect_plain(
-        rt,
-        &by_bits::<D>(rt, alloc, rows, ranks, deposits)?,
-        rows,
-        ranks,
-    );
-    expect_plain(
-        rt,
-        &by_numbers::<D>(rt, alloc, rows, ranks, deposits)?,
-        rows,
-        ranks,
-    );
-    Ok(())
-}
-
-// One to twenty words: clear where `round` is a multiple of 3, full after that, and then of any
-// bits.
-fn push_run(
-    rt: &impl Abort,
-    built: &mut BitBufferMut,
-    words: &mut Generator,
-    round: u32,
-) -> Result<(), AllocError> {
-    for _ in 0..1 + words.next() % 20 {
-        let word = match round % 3 {
-            0 => 0,
-            1 => u64::MAX,
-            _ => words.next(),
-        };
-        assert!(rt; built.len() < 1_000_000);
-        built.push_word(word, 64)?;
-    }
-    Ok(())
-}
-
-// From bit `offset` on, runs of words, and a few bits after them.
-pub(super) fn runs(
-    rt: &impl Abort,
-    alloc: Global,
-    words: &mut Generator,
-    offset: usize,
-) -> Result<BitBuffer, AllocError> {
-    let mut built = BitBufferMut::with_capacity(alloc, 0)?;
-    assert!(rt; offset < 100);
-    built.append_n(false, offset)?;
-    for round in 0..48u32 {
-        push_run(rt, &mut built, words, round)?;
-    }
-    assert!(rt; built.len() < 1_000_000);
-    built.push_word(0b01101, 5)?;
-    from_offset(rt, built, offset)
-}
-
-// As many ranks as rows are true, from bit `offset` on, two of three of them true.
-pub(super) fn thinned(
-    rt: &impl Abort,
-    alloc: Global,
-    words: &mut Generator,
-    offset: usize,
-    count: usize,
-) -> Result<BitBuffer, AllocError> {
-    let mut built = BitBufferMut::with_capacity(alloc, 0)?;
-    assert!(rt; offset < 100);
-    built.append_n(true, offset)?;
-    for _ in 0..count {
-        assert!(rt; built.len() < 1_000_000);
-        built.append_n(words.next() % 3 != 0, 1)?;
-    }
-    from_offset(rt, built, offset)
-}
-
-pub(super) fn from_offset(
-    rt: &impl Abort,
-    built: BitBufferMut,
-    offset: usize,
-) -> Result<BitBuffer, AllocError> {
-    let whole = built.freeze()?;
-    assert!(rt; offset <= whole.len());
-    whole.slice(offset, whole.len())
-}
-
-#[test]
-fn kernels_beside_plain_lists(rt: HostRuntime) -> Result<(), Fail> {
-    for offset in [0, 3, 67] {
-        let mut words = Generator(0x2545_F491_4F6C_DD1D);
-        let rows = runs(&rt, rt.alloc(), &mut words, offset)?;
-        let ranks = thinned(&rt, rt.alloc(), &mut words, offset, rows.true_count())?;
-        expect_words_of_both(&rt, rt.alloc(), &rows, &ranks)?;
-    }
-    Ok(())
-}
-
-fn expect_words_of_both(
-    rt: &impl Abort,
-    alloc: Global,
-    rows: &BitBuffer,
-    ranks: &BitBuffer,
-) -> Result<(), MaskError> {
-    expect_words::<PortableLoop>(rt, alloc, rows, ranks)?;
-    expect_words::<Portable>(rt, alloc, rows, ranks)
 }

@@ -1,9 +1,7 @@
 //! The choice among the kernels, with the steps and the cached places of each.
 
-use super::Generator;
-use super::kernels::{expect_places, expect_plain, from_offset, true_at};
-use mask_bits::{BitBuffer, BitBufferMut};
-use std::alloc::{AllocError, Global};
+use super::kernels::{expect_places, true_at};
+use std::alloc::Global;
 use std::process::Abort;
 use std::test::Fail;
 use vortex_mask::intersect_by_rank::{RankPath, Steps, rank_path};
@@ -33,7 +31,7 @@ fn expect_path(rt: &impl Abort, mask: &Mask, ranks: &Mask, want: RankPath) {
 }
 
 // Length, true values and whether they are cached, of self and of the rank mask.
-const PATHS: [((usize, usize, bool), (usize, usize, bool), RankPath); 11] = [
+const PATHS: [((usize, usize, bool), (usize, usize, bool), RankPath); 26] = [
     ((130, 6, true), (6, 3, true), RankPath::BitBuffers),
     ((130, 6, true), (6, 1, true), RankPath::Indices),
     ((130, 6, true), (6, 1, false), RankPath::BitBuffers),
@@ -45,6 +43,25 @@ const PATHS: [((usize, usize, bool), (usize, usize, bool), RankPath); 11] = [
     ((128, 64, false), (64, 2, false), RankPath::BitBuffers),
     ((128, 2, false), (2, 1, false), RankPath::BitBuffers),
     ((129, 2, false), (2, 1, false), RankPath::Indices),
+    // on both sides of each comparison: ranks beside started words
+    ((128, 64, true), (64, 1, true), RankPath::Indices),
+    ((128, 64, true), (64, 2, true), RankPath::RankIndices),
+    ((129, 64, true), (64, 2, true), RankPath::Indices),
+    ((129, 64, true), (64, 3, true), RankPath::RankIndices),
+    ((129, 64, true), (64, 2, false), RankPath::BitBuffers),
+    // one row in 64
+    ((129, 2, false), (2, 1, true), RankPath::Indices),
+    ((128, 2, false), (2, 1, true), RankPath::BitBuffers),
+    ((129, 2, true), (2, 1, false), RankPath::Indices),
+    // one rank in 32
+    ((130, 65, false), (65, 2, true), RankPath::MaskDriven),
+    ((128, 64, false), (64, 2, true), RankPath::RankIndices),
+    ((130, 65, false), (65, 2, false), RankPath::MaskDriven),
+    ((130, 65, true), (65, 2, false), RankPath::MaskDriven),
+    ((128, 64, true), (64, 2, false), RankPath::BitBuffers),
+    // one rank in four
+    ((128, 64, true), (64, 16, true), RankPath::RankIndices),
+    ((128, 64, true), (64, 17, true), RankPath::BitBuffers),
 ];
 
 #[test]
@@ -85,11 +102,9 @@ fn expect_narrowed(
     assert!(rt; ranks.len() == mask.true_count());
     let (narrowed, steps) = mask.intersect_by_rank_counted(alloc, ranks)?;
     expect_counts(rt, &steps, counts);
-    expect_places(rt, &narrowed, places);
-    assert!(rt; cached(&narrowed) == is_cached.then_some(places));
+    expect_places(rt, &narrowed, mask.len(), places, is_cached);
     let plain = mask.intersect_by_rank(alloc, ranks)?;
-    expect_places(rt, &plain, places);
-    assert!(rt; cached(&plain) == is_cached.then_some(places));
+    expect_places(rt, &plain, mask.len(), places, is_cached);
     Ok(())
 }
 
@@ -156,113 +171,5 @@ fn clones_take_no_step(rt: HostRuntime) -> Result<(), Fail> {
     let want = (ROWS.as_slice(), true, (0, 0, 0, 0, 0, 0));
     expect_narrowed(&rt, rt.alloc(), &mask, &Mask::new_true(6), want)?;
     expect_narrowed(&rt, rt.alloc(), &Mask::new_true(130), &mask, want)?;
-    Ok(())
-}
-
-// ---- a sweep of densities and offsets
-
-// From bit `offset` on, so many values, each true in so many of 1,024 cases.
-fn of_density(
-    rt: &impl Abort,
-    alloc: Global,
-    words: &mut Generator,
-    (len, offset, threshold): (usize, usize, u64),
-) -> Result<BitBuffer, AllocError> {
-    let mut built = BitBufferMut::with_capacity(alloc, 0)?;
-    assert!(rt; offset < 100);
-    built.append_n(true, offset)?;
-    for _ in 0..len {
-        assert!(rt; built.len() < 1_000_000);
-        built.append_n(words.next() % 1_024 < threshold, 1)?;
-    }
-    from_offset(rt, built, offset)
-}
-
-// The mask of a buffer, with its true places cached.
-fn with_places(alloc: Global, buffer: BitBuffer) -> Result<Mask, MaskError> {
-    let mut mask = Mask::from_buffer(alloc, buffer)?;
-    let _ = mask.indices(alloc)?;
-    Ok(mask)
-}
-
-fn of_buffer(alloc: Global, buffer: &BitBuffer, is_cached: bool) -> Result<Mask, MaskError> {
-    if is_cached {
-        with_places(alloc, buffer.clone()?)
-    } else {
-        Mask::from_buffer(alloc, buffer.clone()?)
-    }
-}
-
-// Whether a rank intersection has its places cached. A clone has those of its operand, and of two
-// mixed masks those paths keep them that find them one by one.
-fn keeps(rt: &impl Abort, mask: &Mask, ranks: &Mask) -> bool {
-    let (len, true_count) = (mask.len(), mask.true_count());
-    let (rank_len, rank_count) = (ranks.len(), ranks.true_count());
-    assert!(rt; len < 10_000 && true_count < 10_000 && rank_count < 10_000);
-    match (mask, ranks) {
-        (Mask::AllTrue(_), _) => cached(ranks).is_some(),
-        (_, Mask::AllTrue(_)) => cached(mask).is_some(),
-        (Mask::Values(_), Mask::Values(_)) => {
-            let both = cached(mask).is_some() && cached(ranks).is_some();
-            (both && rank_count < len.div_ceil(64))
-                || 64 * true_count < len
-                || 32 * rank_count < rank_len
-        }
-        _ => false,
-    }
-}
-
-fn expect_one(
-    rt: &impl Abort,
-    alloc: Global,
-    (rows, ranks): (&BitBuffer, &BitBuffer),
-    (rows_cached, ranks_cached): (bool, bool),
-) -> Result<(), MaskError> {
-    let mask = of_buffer(alloc, rows, rows_cached)?;
-    let narrowing = of_buffer(alloc, ranks, ranks_cached)?;
-    assert!(rt; narrowing.len() == mask.true_count());
-    let narrowed = mask.intersect_by_rank(alloc, &narrowing)?;
-    expect_plain(rt, &narrowed, rows, ranks);
-    let is_cached = narrowed.values().is_some() && keeps(rt, &mask, &narrowing);
-    assert!(rt; cached(&narrowed).is_some() == is_cached);
-    Ok(())
-}
-
-fn expect_case(
-    rt: &impl Abort,
-    alloc: Global,
-    (len, offset): (usize, usize),
-    (threshold, rank_threshold): (u64, u64),
-) -> Result<(), MaskError> {
-    let mut words = Generator(0x2545_F491_4F6C_DD1D);
-    let rows = of_density(rt, alloc, &mut words, (len, offset, threshold))?;
-    let case = (rows.true_count(), offset, rank_threshold);
-    let ranks = of_density(rt, alloc, &mut words, case)?;
-    for are_cached in [(false, false), (false, true), (true, false), (true, true)] {
-        expect_one(rt, alloc, (&rows, &ranks), are_cached)?;
-    }
-    Ok(())
-}
-
-const THRESHOLDS: [u64; 6] = [5, 10, 20, 128, 512, 1_000];
-
-// Each threshold for self with each for the rank mask.
-fn expect_densities(rt: &impl Abort, alloc: Global, at: (usize, usize)) -> Result<(), MaskError> {
-    for case in 0..36usize {
-        let thresholds = (THRESHOLDS[case / 6], THRESHOLDS[case % 6]);
-        expect_case(rt, alloc, at, thresholds)?;
-    }
-    Ok(())
-}
-
-const LENGTHS: [usize; 6] = [1, 63, 64, 65, 1_000, 4_096];
-
-const OFFSETS: [usize; 3] = [0, 3, 67];
-
-#[test]
-fn densities_and_offsets(rt: HostRuntime) -> Result<(), Fail> {
-    for case in 0..18usize {
-        expect_densities(&rt, rt.alloc(), (LENGTHS[case / 3], OFFSETS[case % 3]))?;
-    }
     Ok(())
 }

@@ -3,11 +3,18 @@
 ghost use Rattle.std.specs.Prelude.{◌≡◌, length};
 ghost use Rattle.mask_bits.specs.Buffer.{values};
 
-use super::packed::{Generator, packed, some_values};
+use crate::tests::helpers::{Generator, Outside, buffer_at, some_values};
 use mask_bits::BitBuffer;
 use std::alloc::{AllocError, Global};
 use std::process::Abort;
 use std::test::Fail;
+
+const OUTSIDE: [(Outside, Outside); 4] = [
+    (Outside::Clear, Outside::Clear),
+    (Outside::Clear, Outside::Set),
+    (Outside::Set, Outside::Clear),
+    (Outside::Set, Outside::Set),
+];
 
 const LENGTHS: [usize; 8] = [0, 1, 63, 64, 65, 128, 129, 130];
 
@@ -46,20 +53,6 @@ fn made(alloc: Global, op: Op, a: &BitBuffer, b: &BitBuffer) -> Result<BitBuffer
     }
 }
 
-// A buffer of these values from bit `offset` on, between bits that are all `outside`.
-fn buffer_at(
-    rt: &impl Abort,
-    alloc: Global,
-    values: &[bool],
-    offset: usize,
-    outside: bool,
-) -> Result<BitBuffer, AllocError> {
-    let bytes = packed(alloc, offset, values, outside)?;
-    assert!(rt; offset < 64 && values.len() < 1000);
-    assert!(rt; offset + values.len() <= 8 * bytes.len().min(200));
-    Ok(BitBuffer::new_with_offset(bytes, offset, values.len()))
-}
-
 fn same_list(rt: &impl Abort, got: &BitBuffer, want: &[bool]) {
     assert_eq!(rt; got.len(), want.len());
     for (i, value) in want.iter().enumerate() {
@@ -91,12 +84,12 @@ fn each_pair(
     rt: &impl Abort,
     alloc: Global,
     lists: (&[bool], &[bool]),
-    outside: (bool, bool),
+    outside: (Outside, Outside),
 ) -> Result<(), AllocError> {
     for a_offset in 0..=8 {
-        let a = buffer_at(rt, alloc, lists.0, a_offset, outside.0)?;
+        let a = buffer_at(rt, alloc, a_offset, lists.0, outside.0)?;
         for b_offset in 0..=8 {
-            let b = buffer_at(rt, alloc, lists.1, b_offset, outside.1)?;
+            let b = buffer_at(rt, alloc, b_offset, lists.1, outside.1)?;
             each_operation(rt, alloc, &a, &b, lists)?;
         }
     }
@@ -110,7 +103,7 @@ fn every_pair_of_offsets(rt: HostRuntime) -> Result<(), Fail> {
     for len in LENGTHS {
         let a = some_values(alloc, &mut words, len)?;
         let b = some_values(alloc, &mut words, len)?;
-        for outside in [(false, false), (false, true), (true, false), (true, true)] {
+        for outside in OUTSIDE {
             each_pair(&rt, alloc, (&a, &b), outside)?;
         }
     }
@@ -124,23 +117,23 @@ fn lists_that_differ_at_the_end(rt: HostRuntime) -> Result<(), Fail> {
     let mut words = Generator(0x2545_F491_4F6C_DD1D);
     for len in [1, 64, 65, 130] {
         let a = some_values(alloc, &mut words, len)?;
-        each_with_last_turned(&rt, alloc, &a)?;
+        each_with_last_negated(&rt, alloc, &a)?;
     }
     Ok(())
 }
 
-fn each_with_last_turned(rt: &impl Abort, alloc: Global, a: &[bool]) -> Result<(), AllocError> {
-    let b = last_turned(alloc, a)?;
-    each_pair(rt, alloc, (a, &b), (true, false))?;
-    each_pair(rt, alloc, (a, a), (true, false))
+fn each_with_last_negated(rt: &impl Abort, alloc: Global, a: &[bool]) -> Result<(), AllocError> {
+    let b = last_negated(alloc, a)?;
+    each_pair(rt, alloc, (a, &b), (Outside::Set, Outside::Clear))?;
+    each_pair(rt, alloc, (a, a), (Outside::Set, Outside::Clear))
 }
 
-fn last_turned(alloc: Global, values: &[bool]) -> Result<Vec<bool>, AllocError> {
-    let mut turned: Vec<bool> = Vec::new(alloc);
+fn last_negated(alloc: Global, values: &[bool]) -> Result<Vec<bool>, AllocError> {
+    let mut negated: Vec<bool> = Vec::new(alloc);
     for (i, value) in values.iter().enumerate() {
-        turned.push(*value != (i.saturating_add(1) == values.len()))?;
+        negated.push(*value != (i.saturating_add(1) == values.len()))?;
     }
-    Ok(turned)
+    Ok(negated)
 }
 
 const MANY: usize = 20_000;

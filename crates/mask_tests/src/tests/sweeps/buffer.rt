@@ -1,16 +1,13 @@
 // Every reading call at every bit offset of two bytes and every length up to two words and some,
-// beside plain lists, with all bits outside the list set, and with all of them clear.
-use super::packed::{Generator, packed, some_values};
+// beside plain lists, with all bits outside the list set, with all of them clear, and with some.
+use super::plain::{Plain, has_words};
+use crate::tests::helpers::{Generator, Outside, buffer_at, same, some_values};
 use mask_bits::BitBuffer;
 use std::alloc::{AllocError, Global};
 use std::process::Abort;
 use std::test::Fail;
 
 const LONGEST: usize = 130;
-
-fn same(rt: &impl Abort, got: usize, want: usize) {
-    assert!(rt; got == want, "{got} for {want}");
-}
 
 fn reads_values(rt: &impl Abort, buffer: &BitBuffer, values: &[bool]) {
     assert!(rt; buffer.len() == values.len());
@@ -45,17 +42,6 @@ fn equals(
     Ok(())
 }
 
-// The places of the true values, by a plain scan.
-fn places_in(alloc: Global, values: &[bool]) -> Result<Vec<usize>, AllocError> {
-    let mut places: Vec<usize> = Vec::new(alloc);
-    for (i, value) in values.iter().enumerate() {
-        if *value {
-            places.push(i)?;
-        }
-    }
-    Ok(places)
-}
-
 fn selects(rt: &impl Abort, buffer: &BitBuffer, places: &[usize]) {
     let count = places.len();
     same(rt, buffer.true_count(), count);
@@ -82,88 +68,37 @@ fn counts_ranges(rt: &impl Abort, buffer: &BitBuffer, places: &[usize]) {
     }
 }
 
+// The indices and the runs of the true values, and what follows from them.
 fn gives_places(
     rt: &impl Abort,
     alloc: Global,
     buffer: &BitBuffer,
-    values: &[bool],
+    plain: &Plain,
 ) -> Result<(), AllocError> {
-    let places = places_in(alloc, values)?;
     let found: Vec<usize> = buffer.set_indices().collect(alloc)?;
-    assert!(rt; found.as_slice() == places.as_slice());
-    selects(rt, buffer, &places);
-    counts_ranges(rt, buffer, &places);
+    assert!(rt; found.as_slice() == plain.indices.as_slice());
+    let runs: Vec<(usize, usize)> = buffer.set_slices().collect(alloc)?;
+    assert!(rt; runs.as_slice() == plain.runs.as_slice());
+    selects(rt, buffer, &plain.indices);
+    counts_ranges(rt, buffer, &plain.indices);
     Ok(())
 }
 
-// Puts one more true value behind the runs before it.
-fn push_run(runs: &mut Vec<(usize, usize)>, place: usize) -> Result<(), AllocError> {
-    let end = place.saturating_add(1);
-    if let Some(run) = runs.last_mut() {
-        if run.1 == place {
-            run.1 = end;
-            return Ok(());
-        }
-    }
-    runs.push((place, end))?;
-    Ok(())
-}
-
-fn gives_runs(
-    rt: &impl Abort,
-    alloc: Global,
-    buffer: &BitBuffer,
-    values: &[bool],
-) -> Result<(), AllocError> {
-    let mut runs: Vec<(usize, usize)> = Vec::new(alloc);
-    for (i, value) in values.iter().enumerate() {
-        if *value {
-            push_run(&mut runs, i)?;
-        }
-    }
-    let found: Vec<(usize, usize)> = buffer.set_slices().collect(alloc)?;
-    assert!(rt; found.as_slice() == runs.as_slice());
-    Ok(())
-}
-
-// The word whose bit i is value i.
-fn word_of(values: &[bool]) -> u64 {
-    let mut word = 0u64;
-    for (i, value) in values.iter().enumerate() {
-        if *value {
-            word |= 1 << (i % 64);
-        }
-    }
-    word
-}
-
-fn words_of(alloc: Global, values: &[bool]) -> Result<Vec<u64>, AllocError> {
-    let mut words: Vec<u64> = Vec::new(alloc);
-    for part in values.chunks(64) {
-        words.push(word_of(part))?;
-    }
-    Ok(words)
-}
-
+// The whole words, and what is left after them.
 fn gives_words(
     rt: &impl Abort,
     alloc: Global,
     buffer: &BitBuffer,
-    values: &[bool],
+    plain: &Plain,
 ) -> Result<(), AllocError> {
-    let mut words = words_of(alloc, values)?;
-    let chunks = buffer.chunks();
-    same(rt, chunks.remainder_len(), values.len() % 64);
-    let rest = if values.len() % 64 == 0 {
-        None
-    } else {
-        words.pop()
-    };
-    assert!(rt; chunks.remainder_bits() == rest.unwrap_or(0));
+    has_words(rt, buffer, plain);
+    let (chunks, whole) = (buffer.chunks(), plain.values.len() / 64);
+    same(rt, chunks.len(), whole);
+    same(rt, chunks.remainder_len(), plain.values.len() % 64);
+    assert!(rt; chunks.remainder_bits() == plain.words.get(whole).copied().unwrap_or(0));
     let all: Vec<u64> = chunks.iter().collect(alloc)?;
-    assert!(rt; all.as_slice() == words.as_slice());
-    assert!(rt; chunks.len() == words.len());
-    for (i, word) in words.iter().enumerate() {
+    assert!(rt; Some(all.as_slice()) == plain.words.get(..whole));
+    for (i, word) in all.iter().enumerate() {
         assert!(rt; chunks.word(i) == *word, "word {i}");
     }
     Ok(())
@@ -172,20 +107,26 @@ fn gives_words(
 fn reads(
     rt: &impl Abort,
     alloc: Global,
+    plain: &Plain,
     offset: usize,
-    values: &[bool],
-    outside: bool,
+    outside: Outside,
 ) -> Result<(), AllocError> {
-    let bytes = packed(alloc, offset, values, outside)?;
-    let len = values.len();
-    assert!(rt; offset < 16 && len <= LONGEST && offset + len <= 8 * bytes.len().min(64));
-    let buffer = BitBuffer::new_with_offset(bytes, offset, len);
-    reads_values(rt, &buffer, values);
-    iterates(rt, &buffer, values);
-    equals(rt, alloc, &buffer, values)?;
-    gives_places(rt, alloc, &buffer, values)?;
-    gives_runs(rt, alloc, &buffer, values)?;
-    gives_words(rt, alloc, &buffer, values)
+    let buffer = buffer_at(rt, alloc, offset, &plain.values, outside)?;
+    reads_values(rt, &buffer, &plain.values);
+    iterates(rt, &buffer, &plain.values);
+    equals(rt, alloc, &buffer, &plain.values)?;
+    gives_places(rt, alloc, &buffer, plain)?;
+    gives_words(rt, alloc, &buffer, plain)
+}
+
+// At each bit offset of two bytes, between bits of each kind.
+fn reads_everywhere(rt: &impl Abort, alloc: Global, plain: &Plain) -> Result<(), AllocError> {
+    for offset in 0..16usize {
+        for outside in [Outside::Set, Outside::Clear, Outside::Ends] {
+            reads(rt, alloc, plain, offset, outside)?;
+        }
+    }
+    Ok(())
 }
 
 #[test]
@@ -193,10 +134,7 @@ fn every_offset_and_length(rt: HostRuntime) -> Result<(), Fail> {
     let mut words = Generator(0x2545_F491_4F6C_DD1D);
     for len in 0..=LONGEST {
         let values = some_values(rt.alloc(), &mut words, len)?;
-        for offset in 0..16usize {
-            reads(&rt, rt.alloc(), offset, &values, false)?;
-            reads(&rt, rt.alloc(), offset, &values, true)?;
-        }
+        reads_everywhere(&rt, rt.alloc(), &Plain::of(rt.alloc(), values)?)?;
     }
     Ok(())
 }

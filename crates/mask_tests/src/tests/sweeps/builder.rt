@@ -1,5 +1,5 @@
 // The builder beside plain lists of bool, at pairs of bit offsets within a byte and around a word.
-use super::packed::packed;
+use crate::tests::helpers::{Outside, buffer_at};
 use mask_bits::{BitBuffer, BitBufferMut};
 use std::alloc::{AllocError, Global};
 use std::process::Abort;
@@ -80,10 +80,8 @@ fn append_part(
     len: usize,
 ) -> Result<(), AllocError> {
     let values = values_of(alloc, len)?;
-    for outside in [false, true] {
-        let bytes = packed(alloc, offset, &values, outside)?;
-        assert!(rt; offset <= 1000 && len <= 1000 && offset + len <= 8 * bytes.len().min(1000));
-        let other = BitBuffer::new_with_offset(bytes, offset, len);
+    for outside in [Outside::Set, Outside::Clear] {
+        let other = buffer_at(rt, alloc, offset, &values, outside)?;
         append_buffer_at(rt, alloc, at, &other, &values)?;
     }
     Ok(())
@@ -203,9 +201,7 @@ fn builders_of_one_value(rt: HostRuntime) -> Result<(), Fail> {
 #[test]
 fn append_buffer_above_ten_thousand_values(rt: HostRuntime) -> Result<(), Fail> {
     let values = values_of(rt.alloc(), 20_021)?;
-    let bytes = packed(rt.alloc(), 3, &values, true)?;
-    assert!(rt; 3 + 20_021 <= 8 * bytes.len().min(1_000_000));
-    let other = BitBuffer::new_with_offset(bytes, 3, 20_021);
+    let other = buffer_at(&rt, rt.alloc(), 3, &values, Outside::Set)?;
     append_buffer_at(&rt, rt.alloc(), 10_003, &other, &values)?;
     Ok(())
 }

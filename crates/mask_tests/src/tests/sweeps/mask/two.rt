@@ -1,128 +1,135 @@
-// Calls on a mask and another one, beside plain lists.
-ghost use Rattle.std.specs.Prelude.{◌≡◌, length};
-ghost use Rattle.vortex_mask.specs.Mask.{truth};
-
-use super::plain::Plain;
-use super::read::has_values;
+// Calls on a mask and others, beside plain lists.
+use super::super::plain::{Plain, is_list};
+use super::calls::Case;
+use crate::tests::helpers::same;
 use std::alloc::Global;
 use std::process::Abort;
 use vortex_mask::{Mask, MaskError};
 
-#[derive(Drop, Clone, Copy)]
-enum Op {
-    And,
-    Or,
-    AndNot,
+pub(crate) fn mask_of(alloc: Global, plain: &Plain) -> Result<Mask, MaskError> {
+    Mask::from_bools(alloc, plain.values.iter().copied())
 }
 
-const OPS: [Op; 3] = [Op::And, Op::Or, Op::AndNot];
-
-fn wanted(alloc: Global, op: Op, a: &[bool], b: &[bool]) -> Result<Vec<bool>, MaskError> {
-    let mut values: Vec<bool> = Vec::new(alloc);
-    for (x, y) in a.iter().zip(b) {
-        values.push(match op {
-            Op::And => *x && *y,
-            Op::Or => *x || *y,
-            Op::AndNot => *x && !*y,
-        })?;
-    }
-    Ok(values)
-}
-
-// The operation with both operands lent, where there is one.
-fn of_lent(alloc: Global, op: Op, a: &Mask, b: &Mask) -> Result<Mask, MaskError>
-    requires { length (truth a.now) ≡ length (truth b.now) }
-{
-    match op {
-        Op::And => a.bitand(alloc, b),
-        Op::Or => a.bitor(alloc, b),
-        Op::AndNot => a.clone()?.bitand_not(alloc, b),
-    }
-}
-
-// The operation with the first operand given up.
-fn of_given(alloc: Global, op: Op, a: Mask, b: &Mask) -> Result<Mask, MaskError>
-    requires { length (truth a) ≡ length (truth b.now) }
-{
-    match op {
-        Op::And => a.into_bitand(alloc, b),
-        Op::Or => a.into_bitor(alloc, b),
-        Op::AndNot => a.bitand_not(alloc, b),
-    }
-}
-
-fn joins(
+fn ands(
     rt: &impl Abort,
     alloc: Global,
-    op: Op,
-    masks: (&Mask, &Mask),
-    lists: (&[bool], &[bool]),
+    (a, b): (&Mask, &Mask),
+    want: &Plain,
 ) -> Result<(), MaskError> {
-    let (a, b) = masks;
     assert!(rt; a.len() == b.len());
-    let want = wanted(alloc, op, lists.0, lists.1)?;
-    has_values(rt, &of_lent(alloc, op, a, b)?, &want);
-    has_values(rt, &of_given(alloc, op, a.clone()?, b)?, &want);
+    is_list(rt, &a.bitand(alloc, b)?, want);
+    is_list(rt, &a.clone()?.into_bitand(alloc, b)?, want);
     Ok(())
 }
 
-fn turned(alloc: Global, values: &[bool]) -> Result<Vec<bool>, MaskError> {
-    let mut turned: Vec<bool> = Vec::new(alloc);
-    for value in values {
-        turned.push(!*value)?;
-    }
-    Ok(turned)
-}
-
-fn turns(rt: &impl Abort, alloc: Global, mask: &Mask, plain: &Plain) -> Result<(), MaskError> {
-    let want = turned(alloc, &plain.values)?;
-    let not = mask.not(alloc)?;
-    has_values(rt, &not, &want);
-    has_values(rt, &mask.clone()?.into_not(alloc)?, &want);
-    assert!(rt; (*mask == not) == want.is_empty());
+fn ors(
+    rt: &impl Abort,
+    alloc: Global,
+    (a, b): (&Mask, &Mask),
+    want: &Plain,
+) -> Result<(), MaskError> {
+    assert!(rt; a.len() == b.len());
+    is_list(rt, &a.bitor(alloc, b)?, want);
+    is_list(rt, &a.clone()?.into_bitor(alloc, b)?, want);
     Ok(())
 }
 
-// The values from the last to the first.
-fn reversed(alloc: Global, values: &[bool]) -> Result<Vec<bool>, MaskError> {
-    let mut reversed: Vec<bool> = Vec::new(alloc);
-    for value in values.iter().rev() {
-        reversed.push(*value)?;
-    }
-    Ok(reversed)
+fn and_nots(
+    rt: &impl Abort,
+    alloc: Global,
+    (a, b): (&Mask, &Mask),
+    want: &Plain,
+) -> Result<(), MaskError> {
+    assert!(rt; a.len() == b.len());
+    is_list(rt, &a.clone()?.bitand_not(alloc, b)?, want);
+    Ok(())
 }
 
-fn joins_reversed(
+fn combines(
+    rt: &impl Abort,
+    alloc: Global,
+    masks: (&Mask, &Mask),
+    case: &Case,
+) -> Result<(), MaskError> {
+    ands(rt, alloc, masks, &case.and)?;
+    ors(rt, alloc, masks, &case.or)?;
+    and_nots(rt, alloc, masks, &case.and_not)
+}
+
+fn negates(rt: &impl Abort, alloc: Global, mask: &Mask, case: &Case) -> Result<(), MaskError> {
+    is_list(rt, &mask.not(alloc)?, &case.negated);
+    is_list(rt, &mask.clone()?.into_not(alloc)?, &case.negated);
+    Ok(())
+}
+
+// The mask of these values, of which value `at` is negated.
+fn differing_at(alloc: Global, values: &[bool], at: usize) -> Result<Mask, MaskError> {
+    Mask::from_bools(
+        alloc,
+        values
+            .iter()
+            .enumerate()
+            .map(|(i, value)| *value != (i == at)),
+    )
+}
+
+// Equal to a mask of its values, and to none in which one value is negated.
+fn compares(rt: &impl Abort, alloc: Global, mask: &Mask, plain: &Plain) -> Result<(), MaskError> {
+    assert!(rt; *mask == mask_of(alloc, plain)?);
+    let last = plain.values.len().saturating_sub(1);
+    for at in [0, last / 2, last] {
+        let other = differing_at(alloc, &plain.values, at)?;
+        assert!(rt; (*mask == other) == plain.values.is_empty());
+        assert!(rt; (other == *mask) == plain.values.is_empty());
+    }
+    Ok(())
+}
+
+fn narrows(rt: &impl Abort, alloc: Global, mask: &Mask, case: &Case) -> Result<(), MaskError> {
+    let ranks = mask_of(alloc, &case.ranks)?;
+    assert!(rt; ranks.len() == mask.true_count());
+    is_list(rt, &mask.intersect_by_rank(alloc, &ranks)?, &case.narrowed);
+    let (narrowed, _) = mask.intersect_by_rank_counted(alloc, &ranks)?;
+    is_list(rt, &narrowed, &case.narrowed);
+    Ok(())
+}
+
+// A stack of the mask and its ranks.
+fn narrows_by_all(
     rt: &impl Abort,
     alloc: Global,
     mask: &Mask,
-    plain: &Plain,
+    case: &Case,
 ) -> Result<(), MaskError> {
-    let values = reversed(alloc, &plain.values)?;
-    let other = Mask::from_bools(alloc, values.iter().copied())?;
-    for op in OPS {
-        joins(rt, alloc, op, (mask, &other), (&plain.values, &values))?;
-    }
-    assert!(rt; (*mask == other) == (values.as_slice() == plain.values.as_slice()));
+    let ranks = [mask_of(alloc, &case.ranks)?];
+    same(rt, ranks[0].len(), mask.true_count());
+    is_list(
+        rt,
+        &mask.intersect_all_by_rank(alloc, &ranks)?,
+        &case.narrowed,
+    );
     Ok(())
 }
 
-// The values with only each true one left whose number is a multiple of 3.
-fn thirds(alloc: Global, plain: &Plain) -> Result<Vec<bool>, MaskError> {
-    let mut values = plain.values.clone()?;
-    for (n, place) in plain.places.iter().enumerate() {
-        if let Some(value) = values.get_mut(*place) {
-            *value = n % 3 == 0;
-        }
-    }
-    Ok(values)
+// The masks of the first third and of the rest.
+pub(crate) fn two_parts(alloc: Global, mask: &Mask) -> Result<(Mask, Mask), MaskError> {
+    let (len, third) = (mask.len(), mask.len() / 3);
+    Ok((mask.slice(alloc, 0, third)?, mask.slice(alloc, third, len)?))
 }
 
-fn narrows(rt: &impl Abort, alloc: Global, mask: &Mask, plain: &Plain) -> Result<(), MaskError> {
-    let ranks = Mask::from_bools(alloc, (0..plain.places.len()).map(|n| n % 3 == 0))?;
-    assert!(rt; ranks.len() == mask.true_count());
-    let want = thirds(alloc, plain)?;
-    has_values(rt, &mask.intersect_by_rank(alloc, &ranks)?, &want);
+// One after another, its parts are the mask.
+fn concats(rt: &impl Abort, alloc: Global, mask: &Mask, plain: &Plain) -> Result<(), MaskError> {
+    let (first, rest) = two_parts(alloc, mask)?;
+    is_list(
+        rt,
+        &Mask::concat(alloc, [&first, &rest].into_iter())?,
+        plain,
+    );
+    is_list(
+        rt,
+        &Mask::from_masks(alloc, [first, rest].into_iter())?,
+        plain,
+    );
     Ok(())
 }
 
@@ -131,9 +138,21 @@ pub(super) fn joins_as(
     rt: &impl Abort,
     alloc: Global,
     mask: &Mask,
-    plain: &Plain,
+    case: &Case,
 ) -> Result<(), MaskError> {
-    turns(rt, alloc, mask, plain)?;
-    joins_reversed(rt, alloc, mask, plain)?;
-    narrows(rt, alloc, mask, plain)
+    let reversed = mask_of(alloc, &case.reversed)?;
+    combines(rt, alloc, (mask, &reversed), case)?;
+    joins_parts(rt, alloc, mask, case)
+}
+
+fn joins_parts(rt: &impl Abort, alloc: Global, mask: &Mask, case: &Case) -> Result<(), MaskError> {
+    negates(rt, alloc, mask, case)?;
+    compares(rt, alloc, mask, &case.plain)?;
+    joins_ranks(rt, alloc, mask, case)
+}
+
+fn joins_ranks(rt: &impl Abort, alloc: Global, mask: &Mask, case: &Case) -> Result<(), MaskError> {
+    narrows(rt, alloc, mask, case)?;
+    narrows_by_all(rt, alloc, mask, case)?;
+    concats(rt, alloc, mask, &case.plain)
 }
