@@ -1,10 +1,10 @@
 -- The deposit as a function of the two words, by their lowest bits, and that it is the one number that a deposit may give.
-use Rattle.std.proofs.Common.{◌≡◌, ℕ, zero, suc, ◌+◌, ◌-◌, ◌*◌, ◌/◌, ◌%◌, ◌^◌, ◌<◌, ◌≤◌, ◌⊎◌, inl, inr, min, refl, sym, ap, ap₂, ◌∙◌, arith, pow-suc, bit_and, bit_or, bit_xor, count_ones, mul_right_comm, mul-one, mul-zero, zero-mul, lt_of_le_of_lt}
+use Rattle.std.proofs.Common.{◌≡◌, ℕ, zero, suc, ◌+◌, ◌-◌, ◌*◌, ◌/◌, ◌%◌, ◌^◌, ◌<◌, ◌≤◌, ◌⊎◌, inl, inr, min, refl, sym, ap, ap₂, ◌∙◌, arith, pow-suc, bit_and, bit_or, count_ones, mul_right_comm, mul-one, mul-zero, zero-mul, lt_of_le_of_lt}
 use Rattle.std.specs.Int.{bit_at}
-use Rattle.std.proofs.lemmas.Nat.{pow_pos, shr-shr, and_mask, and_le_l, and_assoc, zero_from_ones}
+use Rattle.std.proofs.lemmas.Nat.{pow_pos, shr-shr, and_mask, and_le_l, zero_from_ones}
 use Rattle.std.proofs.lemmas.Nat.Bits.{bit_at_lowest, bit_at-suc, bit_at-lt, bit_at_or, same_from_bits}
 use Rattle.std.proofs.lemmas.Bool.{cases_lt}
-use lib.Bits.{or_step, and_zero_r, or_zero_r, and_self, xor_add_and}
+use lib.Bits.{or_step, and_zero_r, or_zero_r}
 use Rattle.mask_bits.specs.Positions.{count_below}
 use Rattle.mask_bits.specs.Words.{word_bits}
 use Rattle.mask_bits.proofs.Lists.WordLemmas.{count_below-word_bits}
@@ -127,43 +127,34 @@ masked x s neg fits small e = by (parity s)
         let all : x % 2 ^ 64 ≡ x = omega arith in
         ap (bit_and x) n ∙ and_mask x 64 ∙ all ∙ sym (mul-one x) ∙ ap (λ d. x * d) (sym odd)
 
--- `m & -m`
-pub lowest_word : (m neg : ℕ) → m < 2 ^ 64 → neg < 2 ^ 64 → (neg + m) % 2 ^ 64 ≡ 0 → bit_and m neg ≡ lowest 64 m
-lowest_word m neg fits small e = by (cases_lt 0 m)
+-- `m & (m - 1)`, where the difference wraps
+pub cleared_word : (m : ℕ) → m < 2 ^ 64 → bit_and m ((m + (2 ^ 64 - 1)) % 2 ^ 64) ≡ cleared m
+cleared_word m fits = by (cases_lt 0 m)
   where
-    by : (0 < m) ⊎ (m ≤ 0) → bit_and m neg ≡ lowest 64 m
-    by (inl some) = let n : neg ≡ 2 ^ 64 - m = omega arith in ap (bit_and m) n
-    by (inr none) = let z : m ≡ 0 = omega arith in ap (λ x. bit_and x neg) z ∙ ap (lowest 64) (sym z)
+    by : (0 < m) ⊎ (m ≤ 0) → bit_and m ((m + (2 ^ 64 - 1)) % 2 ^ 64) ≡ cleared m
+    by (inl some) = let less : (m + (2 ^ 64 - 1)) % 2 ^ 64 ≡ m - 1 = omega arith in ap (bit_and m) less
+    by (inr none) = let z : m ≡ 0 = omega arith in ap (λ x. bit_and x ((m + (2 ^ 64 - 1)) % 2 ^ 64)) z ∙ sym (ap (λ x. bit_and x (m - 1)) z)
+
+-- the lowest set place is what the others leave
+pub left_of : (m : ℕ) → m < 2 ^ 64 → m - cleared m ≡ lowest 64 m
+left_of m fits = omega (arith, lowest_sum 64 m fits)
 
 -- one turn of the loop
-pub turn : (r s m t neg low : ℕ) → m < 2 ^ 64 → neg < 2 ^ 64 → low < 2 ^ 64 → (neg + m) % 2 ^ 64 ≡ 0 → (low + bit_and s 1) % 2 ^ 64 ≡ 0
-    → bit_or r (deposit 64 s m) ≡ t → bit_or (bit_or r (bit_and (bit_and m neg) low)) (deposit 64 (s / 2) (cleared m)) ≡ t
-turn r s m t neg low fits p q e f h =
-    let lead : bit_and (bit_and m neg) low ≡ first 64 s m =
-    masked (bit_and m neg) s low (lt_of_le_of_lt (and_le_l m neg) fits) q f ∙ ap (λ x. x * (s % 2)) (lowest_word m neg fits p e) in
-    or_assoc r _ _ ∙ ap (λ x. bit_or r (bit_or x (deposit 64 (s / 2) (cleared m)))) lead ∙ ap (bit_or r) (sym (deposit_step 64 s m fits)) ∙ h
+pub turn : (r s m t : ℕ) → m < 2 ^ 64 → bit_or r (deposit 64 s m) ≡ t → bit_or (bit_or r ((m - cleared m) * (s % 2))) (deposit 64 (s / 2) (cleared m)) ≡ t
+turn r s m t fits h =
+    or_assoc r _ _ ∙ ap (λ x. bit_or r (bit_or (x * (s % 2)) (deposit 64 (s / 2) (cleared m)))) (left_of m fits) ∙ ap (bit_or r) (sym (deposit_step 64 s m fits)) ∙ h
 
--- ---- two set places
-
--- the mask without its lowest set place, as `^` computes it
-pub rest_is : (m : ℕ) → m < 2 ^ 64 → bit_xor m (lowest 64 m) ≡ cleared m
-rest_is m fits =
-    let neg = 2 ^ 64 - m in
-    let inside : bit_and m (lowest 64 m) ≡ lowest 64 m = sym (and_assoc neg m m) ∙ ap (λ x. bit_and x neg) (and_self m) in
-    omega (arith, xor_add_and m (lowest 64 m), lowest_sum 64 m fits)
-
-pub two_lowest : (s m neg low neg' low' : ℕ) → m < 2 ^ 64 → neg < 2 ^ 64 → low < 2 ^ 64 → neg' < 2 ^ 64 → low' < 2 ^ 64 → count_ones m ≤ 2
-    → (neg + m) % 2 ^ 64 ≡ 0 → (low + bit_and s 1) % 2 ^ 64 ≡ 0 → (neg' + bit_xor m (bit_and m neg)) % 2 ^ 64 ≡ 0 → (low' + bit_and (s / 2) 1) % 2 ^ 64 ≡ 0
-    → bit_or (bit_and (bit_and m neg) low) (bit_and (bit_and (bit_xor m (bit_and m neg)) neg') low') ≡ deposit 64 s m
-two_lowest s m neg low neg' low' fits p q p' q' few e f e' f' =
-    let rest : bit_xor m (bit_and m neg) ≡ cleared m = ap (bit_xor m) (lowest_word m neg fits p e) ∙ rest_is m fits in
+-- of two set places none is left without the lowest and the one above it
+pub none_left : (m : ℕ) → m < 2 ^ 64 → count_ones m ≤ 2 → cleared (cleared m) ≡ 0
+none_left m fits few =
     let small : cleared m < 2 ^ 64 = lt_of_le_of_lt (and_le_l m (m - 1)) fits in
-    let g : (neg' + cleared m) % 2 ^ 64 ≡ 0 = rw rest at e' in
-    let none : cleared (cleared m) ≡ 0 = zero_from_ones _ (omega (arith, ones-cleared_le 64 m fits, ones-cleared_le 64 (cleared m) small)) in
-    let one : bit_and (bit_and m neg) low ≡ first 64 s m =
-    masked (bit_and m neg) s low (lt_of_le_of_lt (and_le_l m neg) fits) q f ∙ ap (λ x. x * (s % 2)) (lowest_word m neg fits p e) in
-    let two : bit_and (bit_and (cleared m) neg') low' ≡ first 64 (s / 2) (cleared m) =
-    masked (bit_and (cleared m) neg') (s / 2) low' (lt_of_le_of_lt (and_le_l (cleared m) neg') small) q' f' ∙ ap (λ x. x * (s / 2 % 2)) (lowest_word (cleared m) neg' small p' g) in
+    zero_from_ones _ (omega (arith, ones-cleared_le 64 m fits, ones-cleared_le 64 (cleared m) small))
+
+pub two_lowest : (s m : ℕ) → m < 2 ^ 64 → count_ones m ≤ 2 → bit_or ((m - cleared m) * (s % 2)) (cleared m * (s / 2 % 2)) ≡ deposit 64 s m
+two_lowest s m fits few =
+    let small : cleared m < 2 ^ 64 = lt_of_le_of_lt (and_le_l m (m - 1)) fits in
+    let none : cleared (cleared m) ≡ 0 = none_left m fits few in
+    let alone : cleared m ≡ lowest 64 (cleared m) = omega (arith, lowest_sum 64 (cleared m) small) in
     let last : deposit 64 (s / 2) (cleared m) ≡ first 64 (s / 2) (cleared m) =
     deposit_step 64 (s / 2) (cleared m) small ∙ ap (bit_or (first 64 (s / 2) (cleared m))) (ap (deposit 64 (s / 2 / 2)) none ∙ deposit-zero 64 (s / 2 / 2)) ∙ or_zero_r _ in
-    ap₂ bit_or one (ap (λ x. bit_and (bit_and x neg') low') rest ∙ two ∙ sym last) ∙ sym (deposit_step 64 s m fits)
+    ap₂ bit_or (ap (λ x. x * (s % 2)) (left_of m fits)) (ap (λ x. x * (s / 2 % 2)) alone ∙ sym last) ∙ sym (deposit_step 64 s m fits)

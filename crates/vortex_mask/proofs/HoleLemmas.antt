@@ -1,15 +1,14 @@
 -- A source that makes room for the clear places of a mask, one at a time.
-use Rattle.std.proofs.Common.{◌≡◌, ℕ, zero, suc, ◌+◌, ◌-◌, ◌*◌, ◌/◌, ◌%◌, ◌^◌, ◌<◌, ◌≤◌, ◌⊎◌, inl, inr, min, sym, ap, ap₂, ◌∙◌, subst, arith, pow-suc, bit_and, bit_or, bit_xor, count_ones, w64, mod-eq_of_lt}
+use Rattle.std.proofs.Common.{◌≡◌, ℕ, zero, suc, ◌+◌, ◌-◌, ◌*◌, ◌/◌, ◌%◌, ◌^◌, ◌<◌, ◌≤◌, ◌⊎◌, inl, inr, min, sym, ap, ◌∙◌, subst, arith, pow-suc, bit_and, count_ones, mod-eq_of_lt, mod-lt, mul_right_comm, w64}
 use Rattle.std.specs.Int.{bit_at}
 use Rattle.std.proofs.lemmas.Bool.{cases_lt, cases_order}
-use Rattle.std.proofs.lemmas.Nat.{pow_pos, shr_split, pow_below, and_mask}
-use Rattle.std.proofs.lemmas.Nat.Bits.{bit_at_and, bit_at_or, bit_at_not, bit_at-lt, bit_at-suc, bit_at_ones, bit_at_ones_above, bit_at_cat_low, bit_at-trailing_zeros}
+use Rattle.std.proofs.lemmas.Nat.{pow_pos, shr-shr, shr_split, pow_below, and_comm, and_mask, and-not}
+use Rattle.std.proofs.lemmas.Nat.Bits.{bit_at_and, bit_at_not, bit_at-lt, bit_at-suc, bit_at_cat_low, bit_at_cat_high, bit_at-trailing_zeros}
 use lib.Count.{count_trailing_zeros, under}
-use lib.Bits.{and_zero_r, or_zero_r}
 use Rattle.mask_bits.proofs.Lists.WordLemmas.{ones_below-more}
 use Rattle.vortex_mask.specs.Deposit.{Deposits}
-use Rattle.vortex_mask.proofs.SetPlaceLemmas.{ones_below, parity, bit_cases, cleared, cleared-odd, cleared-even, lowest, lowest-odd, lowest-even, ones_below-suc, ones_below-zero, ones_below_none, ones_below_nothing, ones-cleared_le}
-use Rattle.vortex_mask.proofs.DepositLemmas.{lowest_word, rest_is, Deposits-from_bits}
+use Rattle.vortex_mask.proofs.SetPlaceLemmas.{ones_below, parity, bit_cases, cleared, cleared-odd, cleared-even, lowest, lowest-odd, lowest-even, ones_below-suc, ones_below-zero, ones_below_none, ones_below_nothing}
+use Rattle.vortex_mask.proofs.DepositLemmas.{Deposits-from_bits}
 
 -- ---- the clear places and the set ones
 
@@ -83,88 +82,70 @@ Opened-first s m fits i h one =
 
 -- the source with room at place p
 abbrev pub opened : ℕ → ℕ → ℕ
-opened t below = bit_or (bit_and t below) (bit_and (t * 2 % 2 ^ 64) (flip below))
+opened t p = (t / 2 ^ p * 2 * 2 ^ p + t % 2 ^ p) % 2 ^ 64
 
 bit_at-mod : (t k i : ℕ) → i < k → bit_at (t % 2 ^ k) i ≡ bit_at t i
 bit_at-mod t k i h = sym (bit_at_cat_low (t / 2 ^ k) k (t % 2 ^ k) i h) ∙ ap (λ x. bit_at x i) (shr_split t k)
 
-doubled : (t i : ℕ) → suc i < 64 → bit_at (t * 2 % 2 ^ 64) (suc i) ≡ bit_at t i
-doubled t i h =
-    let e : t * 2 % 2 ^ 64 / 2 ≡ t % 2 ^ 63 = omega arith in
-    bit_at-suc (t * 2 % 2 ^ 64) i ∙ ap (λ x. bit_at x i) e ∙ bit_at-mod t 63 i (omega arith)
-
-opened_below : (t p i : ℕ) → p < 64 → i < p → bit_at (opened t (2 ^ p - 1)) i ≡ bit_at t i
+opened_below : (t p i : ℕ) → p < 64 → i < p → bit_at (opened t p) i ≡ bit_at t i
 opened_below t p i inside h =
-    let small : 2 ^ p - 1 < 2 ^ 64 = omega (arith, pow_below p 64 inside) in
-    omega (
-      arith,
-      bit_at_or (bit_and t (2 ^ p - 1)) (bit_and (t * 2 % 2 ^ 64) (flip (2 ^ p - 1))) i,
-      bit_at_and t (2 ^ p - 1) i,
-      bit_at_and (t * 2 % 2 ^ 64) (flip (2 ^ p - 1)) i,
-      bit_at_ones p i h,
-      bit_at_not w64 (2 ^ p - 1) i small (omega arith),
-      bit_at-lt t i,
-    )
+    bit_at-mod (t / 2 ^ p * 2 * 2 ^ p + t % 2 ^ p) 64 i (omega arith) ∙ bit_at_cat_low (t / 2 ^ p * 2) p (t % 2 ^ p) i h ∙ bit_at-mod t p i h
 
-opened_above : (t p i : ℕ) → p < 64 → p ≤ i → suc i < 64 → bit_at (opened t (2 ^ p - 1)) (suc i) ≡ bit_at t i
-opened_above t p i inside h fits =
-    let small : 2 ^ p - 1 < 2 ^ 64 = omega (arith, pow_below p 64 inside) in
-    omega (
-      arith,
-      bit_at_or (bit_and t (2 ^ p - 1)) (bit_and (t * 2 % 2 ^ 64) (flip (2 ^ p - 1))) (suc i),
-      bit_at_and t (2 ^ p - 1) (suc i),
-      bit_at_and (t * 2 % 2 ^ 64) (flip (2 ^ p - 1)) (suc i),
-      bit_at_ones_above p (suc i) (omega arith),
-      bit_at_not w64 (2 ^ p - 1) (suc i) small fits,
-      bit_at-lt t i,
-      doubled t i fits,
-    )
+opened_above : (t p i : ℕ) → p ≤ i → suc i < 64 → bit_at (opened t p) (suc i) ≡ bit_at t i
+opened_above t p i h fits =
+    let up : suc i - p ≡ suc (i - p) = omega arith in
+    let half : t / 2 ^ p * 2 / 2 ≡ t / 2 ^ p = omega arith in
+    let back : p + (i - p) ≡ i = omega arith in
+    bit_at-mod (t / 2 ^ p * 2 * 2 ^ p + t % 2 ^ p) 64 (suc i) fits ∙ bit_at_cat_high (t / 2 ^ p * 2) p (t % 2 ^ p) (suc i) (mod-lt t (pow_pos p)) (omega arith)
+    ∙ ap (bit_at (t / 2 ^ p * 2)) up ∙ bit_at-suc (t / 2 ^ p * 2) (i - p) ∙ ap (λ x. bit_at x (i - p)) half ∙ ap (λ x. x % 2) (shr-shr t p (i - p)) ∙ ap (bit_at t) back
+
+-- the bits from p on, added to all
+pub added_is : (t p neg : ℕ) → p < 64 → t < 2 ^ 64 → neg < 2 ^ 64 → (neg + 2 ^ p) % 2 ^ 64 ≡ 0 → (t + bit_and t neg) % 2 ^ 64 ≡ opened t p
+added_is t p neg inside fits small e =
+    let low : 2 ^ p - 1 < 2 ^ 64 = omega (arith, pow_below p 64 inside) in
+    let is : neg ≡ flip (2 ^ p - 1) = omega (arith, pow_pos p, pow_below p 64 inside) in
+    let split : t / 2 ^ p * 2 ^ p + t % 2 ^ p ≡ t = shr_split t p in
+    let above : bit_and t neg ≡ t / 2 ^ p * 2 ^ p
+    = ap (bit_and t) is ∙ and_comm t _ ∙ omega (arith, and-not 64 (2 ^ p - 1) t low fits, and_comm (2 ^ p - 1) t, and_mask t p, split) in
+    ap (λ x. x % 2 ^ 64) (omega (arith, above, split, mul_right_comm (t / 2 ^ p) 2 (2 ^ p)))
 
 -- the lowest hole, at p, gets its room
 open_at : (s m t holes p : ℕ) → p < 64 → bit_at holes p ≡ 1 → ((j : ℕ) → j < p → bit_at holes j ≡ 0) → ((i : ℕ) → p < i → ones_below holes i ≡ suc (ones_below (cleared holes) i))
-    → Opened s m t holes → Opened s m (opened t (2 ^ p - 1)) (cleared holes)
+    → Opened s m t holes → Opened s m (opened t p) (cleared holes)
 open_at s m t holes p inside set none above have i h one = by (have i h one) (cases_order i p)
   where
     by : (bit_at holes i ≡ 0) × (bit_at t (i - ones_below holes i) ≡ bit_at s (ones_below m i)) → (i ≡ p) ⊎ ((i < p) ⊎ (p < i))
-        → (bit_at (cleared holes) i ≡ 0) × (bit_at (opened t (2 ^ p - 1)) (i - ones_below (cleared holes) i) ≡ bit_at s (ones_below m i))
+        → (bit_at (cleared holes) i ≡ 0) × (bit_at (opened t p) (i - ones_below (cleared holes) i) ≡ bit_at s (ones_below m i))
     by here (inl e) = absurd (omega (arith, ap (bit_at holes) e, here.0))
     by here (inr (inl lt)) =
         let before : ones_below holes i ≡ 0 = ones_below_none holes i (λ j l. none j (omega arith)) in
         let after : ones_below (cleared holes) i ≡ 0 = ones_below_none (cleared holes) i (λ j l. omega (arith, bit_at_and holes (holes - 1) j, none j (omega arith))) in
         let same : i - ones_below (cleared holes) i ≡ i - ones_below holes i = omega arith in
-        (omega (arith, bit_at_and holes (holes - 1) i, here.0), ap (bit_at (opened t (2 ^ p - 1))) same ∙ opened_below t p _ inside (omega arith) ∙ here.1)
+        (omega (arith, bit_at_and holes (holes - 1) i, here.0), ap (bit_at (opened t p)) same ∙ opened_below t p _ inside (omega arith) ∙ here.1)
     by here (inr (inr gt)) =
         let more : ones_below holes i ≡ suc (ones_below (cleared holes) i) = above i gt in
         let few : ones_below holes i ≤ i - p = few_above holes p i (omega arith) none in
         let next : i - ones_below (cleared holes) i ≡ suc (i - ones_below holes i) = omega arith in
-        (omega (arith, bit_at_and holes (holes - 1) i, here.0), ap (bit_at (opened t (2 ^ p - 1))) next ∙ opened_above t p _ inside (omega arith) (omega arith) ∙ here.1)
+        (omega (arith, bit_at_and holes (holes - 1) i, here.0), ap (bit_at (opened t p)) next ∙ opened_above t p _ (omega arith) (omega arith) ∙ here.1)
 
-open_one : (s m t holes : ℕ) → 0 < holes → holes < 2 ^ 64 → Opened s m t holes → Opened s m (opened t (2 ^ place holes - 1)) (cleared holes)
+open_one : (s m t holes : ℕ) → 0 < holes → holes < 2 ^ 64 → Opened s m t holes → Opened s m (opened t (place holes)) (cleared holes)
 open_one s m t holes some fits have =
     let z = bit_at-trailing_zeros w64 holes some fits in
     open_at s m t holes (place holes) z.0 z.1 z.2 (λ i gt. above_lowest 64 holes i some fits gt) have
 
-pub turn : (s m t holes neg below : ℕ) → holes < 2 ^ 64 → neg < 2 ^ 64 → (neg + holes) % 2 ^ 64 ≡ 0 → below ≡ (bit_and holes neg + (2 ^ 64 - 1)) % 2 ^ 64 → t < 2 ^ 64
-    → Opened s m t holes → Opened s m (opened t below) (bit_xor holes (bit_and holes neg))
-turn s m t holes neg below fits p e f small have = by (cases_lt 0 holes)
+-- what the code makes of the source t at the lowest hole
+pub turn : (s m t holes hole next : ℕ) → holes < 2 ^ 64 → hole ≡ lowest 64 holes → ((p : ℕ) → p < 64 → hole ≡ 2 ^ p → next ≡ opened t p) → (hole ≡ 0 → next ≡ t)
+    → Opened s m t holes → Opened s m next (cleared holes)
+turn s m t holes hole next fits e room same have = by (cases_lt 0 holes)
   where
-    rest : bit_xor holes (bit_and holes neg) ≡ cleared holes
-    rest = ap (bit_xor holes) (lowest_word holes neg fits p e) ∙ rest_is holes fits
-
-    by : (0 < holes) ⊎ (holes ≤ 0) → Opened s m (opened t below) (bit_xor holes (bit_and holes neg))
+    by : (0 < holes) ⊎ (holes ≤ 0) → Opened s m next (cleared holes)
     by (inl some) =
-        let z = bit_at-trailing_zeros w64 holes some fits in
-        let hole : bit_and holes neg ≡ 2 ^ place holes = lowest_word holes neg fits p e ∙ lowest_pow 64 holes some fits in
-        let is : below ≡ 2 ^ place holes - 1 = omega (arith, f, hole, pow_pos (place holes), pow_below (place holes) 64 z.0) in
-        subst (Opened s m (opened t below)) (sym rest) (subst (λ b. Opened s m (opened t b) (cleared holes)) (sym is) (open_one s m t holes some fits have))
+        let inside = (bit_at-trailing_zeros w64 holes some fits).0 in
+        subst (λ x. Opened s m x (cleared holes)) (sym (room (place holes) inside (e ∙ lowest_pow 64 holes some fits))) (open_one s m t holes some fits have)
     by (inr empty) =
         let none : holes ≡ 0 = omega arith in
-        let hole : bit_and holes neg ≡ 0 = ap (λ h. bit_and h neg) none in
-        let is : below ≡ 2 ^ 64 - 1 = f ∙ ap (λ h. (h + (2 ^ 64 - 1)) % 2 ^ 64) hole in
-        let whole : t % 2 ^ 64 ≡ t = mod-eq_of_lt small in
-        let same : t ≡ opened t below = sym (ap (opened t) is ∙ ap₂ bit_or (and_mask t 64 ∙ whole) (and_zero_r (t * 2 % 2 ^ 64)) ∙ or_zero_r t) in
-        let kept : holes ≡ bit_xor holes (bit_and holes neg) = none ∙ sym (ap cleared none) ∙ sym rest in
-        subst (Opened s m (opened t below)) kept (subst (λ x. Opened s m x holes) same have)
+        let kept : holes ≡ cleared holes = none ∙ sym (ap cleared none) in
+        subst (Opened s m next) kept (subst (λ x. Opened s m x holes) (sym (same (e ∙ ap (lowest 64) none))) have)
 
 pub Deposits-from_Opened : (s m t holes : ℕ) → m < 2 ^ 64 → holes ≡ 0 → Opened s m t holes → Deposits s m (bit_and t m)
 Deposits-from_Opened s m t holes fits e have = Deposits-from_bits s m (bit_and t m) (λ i h. by i h (bit_cases m i))
@@ -174,8 +155,3 @@ Deposits-from_Opened s m t holes fits e have = Deposits-from_bits s m (bit_and t
     by i h (inr set) =
         let none : i - ones_below holes i ≡ i = omega (arith, ap (λ x. ones_below x i) e, ones_below_nothing i) in
         omega (arith, bit_at_and t m i, (have i h set).1, ap (bit_at t) none)
-
-pub fewer_holes : (holes neg : ℕ) → holes < 2 ^ 64 → neg < 2 ^ 64 → (neg + holes) % 2 ^ 64 ≡ 0 → count_ones (bit_xor holes (bit_and holes neg)) ≤ count_ones holes - 1
-fewer_holes holes neg fits p e =
-    let rest : bit_xor holes (bit_and holes neg) ≡ cleared holes = ap (bit_xor holes) (lowest_word holes neg fits p e) ∙ rest_is holes fits in
-    omega (arith, ap count_ones rest, ones-cleared_le 64 holes fits)

@@ -1,6 +1,6 @@
 //! Deposits: the bits of one word at the set places of another.
 
-ghost use Rattle.std.specs.Prelude.{◌≡◌, ◌≤◌};
+ghost use Rattle.std.specs.Prelude.{ℕ, ◌≡◌, ◌<◌, ◌≤◌, ◌+◌, ◌*◌, ◌/◌, ◌%◌, ◌^◌};
 ghost use Rattle.mask_bits.specs.Positions.{count};
 ghost use Rattle.mask_bits.specs.Words.{word_bits};
 ghost use Rattle.vortex_mask.specs.Deposit.{Deposits};
@@ -19,16 +19,21 @@ pub trait DepositBits {
         ensures { Deposits source mask result };
 }
 
+// So few bits of a mask, set or clear, are taken one by one.
+const FEW: usize = 2;
+
 /// Deposits in few steps at every mask: by a closed form where at most two bits of the mask are
 /// set or clear, and byte by byte between.
 pub struct Portable;
 
 impl DepositBits for Portable {
     fn deposit_bits(source: u64, mask: u64, mask_count: usize) -> u64 {
-        match mask_count {
-            0..=2 => deposit_two_lowest(source, mask),
-            62.. => deposit_two_holes(source, mask),
-            _ => deposit_bytewise(source, mask),
+        if mask_count <= FEW {
+            deposit_two_lowest(source, mask)
+        } else if mask_count >= 64 - FEW {
+            deposit_two_holes(source, mask)
+        } else {
+            deposit_bytewise(source, mask)
         }
     }
 }
@@ -38,27 +43,26 @@ pub struct PortableLoop;
 
 impl DepositBits for PortableLoop {
     fn deposit_bits(source: u64, mask: u64, mask_count: usize) -> u64 {
-        if mask_count <= 2 {
-            deposit_two_lowest(source, mask)
-        } else {
+        if mask_count > FEW {
             deposit_in_turn(source, mask)
+        } else {
+            deposit_two_lowest(source, mask)
         }
     }
 }
 
 // The lowest set place of the mask takes the lowest bit of the source, until either is used up.
-// A bit is kept by a mask of ones or zeros, since a branch on it would often be guessed wrong.
 fn deposit_in_turn(source: u64, mask: u64) -> u64
     ensures { Deposits source mask result }
 {
-    let mut source = source;
-    let mut mask = mask;
-    let mut result = 0u64;
-    while mask != 0 && source != 0 {
-        let lowest = mask & mask.wrapping_neg();
-        result |= lowest & (source & 1).wrapping_neg();
-        source >>= 1;
-        mask &= mask - 1;
+    let mut bits = source;
+    let mut places = mask;
+    let mut result = 0;
+    while bits != 0 && places != 0 {
+        let later = places & (places - 1);
+        result |= lowest_bit_at(places - later, bits);
+        bits >>= 1;
+        places = later;
     }
     result
 }
@@ -68,10 +72,17 @@ pub fn deposit_two_lowest(source: u64, mask: u64) -> u64
     requires { count (word_bits mask) ≤ 2 }
     ensures { Deposits source mask result }
 {
-    let lowest = mask & mask.wrapping_neg();
-    let rest = mask ^ lowest;
-    let second = rest & rest.wrapping_neg();
-    (lowest & (source & 1).wrapping_neg()) | (second & ((source >> 1) & 1).wrapping_neg())
+    let second = mask & mask.wrapping_sub(1);
+    let lowest = mask - second;
+    lowest_bit_at(lowest, source) | lowest_bit_at(second, source >> 1)
+}
+
+// The lowest bit of `source`, put at `place`: by a mask of ones or zeros, since a branch on the
+// bit would often be guessed wrong.
+fn lowest_bit_at(place: u64, source: u64) -> u64
+    ensures { result ≡ place * (source % 2) }
+{
+    place & (source & 1).wrapping_neg()
 }
 
 /// The deposit at a mask with at most two clear bits: the source makes room for each of these
@@ -80,14 +91,17 @@ pub fn deposit_two_holes(source: u64, mask: u64) -> u64
     requires { 62 ≤ count (word_bits mask) }
     ensures { Deposits source mask result }
 {
-    let mut source = source;
-    let mut holes = !mask;
-    for _ in 0..2u32 {
-        // Where no hole is left, all places count as below it, and the source stays.
-        let hole = holes & holes.wrapping_neg();
-        let below = hole.wrapping_sub(1);
-        source = (source & below) | ((source << 1) & !below);
-        holes ^= hole;
-    }
-    source & mask
+    let holes = !mask;
+    let second = holes & holes.wrapping_sub(1);
+    let lowest = holes - second;
+    with_room(with_room(source, lowest), second) & mask
+}
+
+// Moves the bits from a hole on up by one, by adding them to themselves. The hole is the word that
+// has its place alone, or 0 where there is none.
+fn with_room(source: u64, hole: u64) -> u64
+    ensures room { (p : ℕ) → p < 64 → hole ≡ 2 ^ p → result ≡ (source / 2 ^ p * 2 * 2 ^ p + source % 2 ^ p) % 2 ^ 64 }
+    ensures same { hole ≡ 0 → result ≡ source }
+{
+    source.wrapping_add(source & hole.wrapping_neg())
 }

@@ -1,17 +1,18 @@
-use Rattle.std.proofs.Common.{bit_or, sym, ap, ◌∙◌, arith, rules}
+use Rattle.std.proofs.Common.{◌/◌, bit_or, sym, ap, ◌∙◌, arith}
 use lib.Bits.{or_zero_r}
 use Rattle.vortex_mask.proofs.DepositLemmas.{deposit, turn, deposit-zero, deposit_no_source, Deposits-from_deposit}
+use Rattle.vortex_mask.proofs.SetPlaceLemmas.{cleared}
 use Rattle.vortex_mask.proofs.intersect_by_rank.deposit.deposit_in_turn.Goals as goal
 
-pub loop-mask-preserved : goal.loop-mask-preserved
-loop-mask-preserved c =
-    turn c.loop-mask.result c.loop-mask.source c.loop-mask.mask _ c.wrapping_neg.result c.wrapping_neg-in-loop-mask.result (omega arith) (search rules) (search rules)
-    c.wrapping_neg.ensures c.wrapping_neg-in-loop-mask.ensures c.loop-mask.invariant
+pub loop-bits-preserved : goal.loop-bits-preserved
+loop-bits-preserved c =
+    ap (λ x. bit_or (bit_or c.loop-bits.result x) (deposit 64 (c.loop-bits.bits / 2) (cleared c.loop-bits.places))) c.lowest_bit_at-result.ensures
+    ∙ turn c.loop-bits.result c.loop-bits.bits c.loop-bits.places _ (omega arith) c.loop-bits.invariant
 
-pub returns-else-source-ne0 : goal.returns-else-source-ne0
-returns-else-source-ne0 c =
-    Deposits-from_deposit _ _ _ (sym (or_zero_r c.loop-mask.result) ∙ ap (bit_or c.loop-mask.result) (sym (ap (λ s. deposit 64 s c.loop-mask.mask) c.if-source-ne0.false ∙ deposit_no_source 64 c.loop-mask.mask)) ∙ c.loop-mask.invariant)
+pub returns-else-places-ne0 : goal.returns-else-places-ne0
+returns-else-places-ne0 c =
+    Deposits-from_deposit _ _ _ (sym (or_zero_r c.loop-bits.result) ∙ ap (bit_or c.loop-bits.result) (sym (ap (deposit 64 c.loop-bits.bits) c.if-places-ne0.false ∙ deposit-zero 64 c.loop-bits.bits)) ∙ c.loop-bits.invariant)
 
-pub returns-after-loop-mask : goal.returns-after-loop-mask
-returns-after-loop-mask c =
-    Deposits-from_deposit _ _ _ (sym (or_zero_r c.loop-mask.result) ∙ ap (bit_or c.loop-mask.result) (sym (ap (deposit 64 c.loop-mask.source) c.loop-mask-test.false ∙ deposit-zero 64 c.loop-mask.source)) ∙ c.loop-mask.invariant)
+pub returns-after-loop-bits : goal.returns-after-loop-bits
+returns-after-loop-bits c =
+    Deposits-from_deposit _ _ _ (sym (or_zero_r c.loop-bits.result) ∙ ap (bit_or c.loop-bits.result) (sym (ap (λ s. deposit 64 s c.loop-bits.places) c.loop-bits-test.false ∙ deposit_no_source 64 c.loop-bits.places)) ∙ c.loop-bits.invariant)

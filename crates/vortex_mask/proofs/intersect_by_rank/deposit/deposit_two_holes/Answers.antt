@@ -1,22 +1,23 @@
-use Rattle.std.proofs.Common.{◌<◌, ◌^◌, refl, arith, rules}
-use Rattle.std.proofs.lemmas.Nat.{zero_from_ones}
+use Rattle.std.proofs.Common.{◌≡◌, ◌-◌, ◌<◌, ◌≤◌, ◌^◌, count_ones, ap, ◌∙◌, arith, lt_of_le_of_lt}
+use Rattle.std.proofs.lemmas.Nat.{and_le_l}
 use Rattle.mask_bits.proofs.Lists.WordLemmas.{count-word_bits}
-use Rattle.vortex_mask.proofs.HoleLemmas.{Opened-first, ones-flip, turn, fewer_holes, Deposits-from_Opened}
+use Rattle.vortex_mask.proofs.DepositLemmas.{cleared_word, left_of, none_left}
+use Rattle.vortex_mask.proofs.HoleLemmas.{Opened-first, flip, ones-flip, turn, Deposits-from_Opened}
+use Rattle.vortex_mask.proofs.SetPlaceLemmas.{cleared, lowest, lowest_sum}
 use Rattle.vortex_mask.proofs.intersect_by_rank.deposit.deposit_two_holes.Goals as goal
-
-pub loop-init : goal.loop-init
-loop-init c =
-    let fits : c.args.mask < 2 ^ 64 = search rules in
-    (omega (arith, ones-flip c.args.mask fits, count-word_bits c.args.mask fits), Opened-first c.args.source c.args.mask fits)
-
-pub loop-preserved : goal.loop-preserved
-loop-preserved c =
-    let fits : c.loop.holes < 2 ^ 64 = search rules in
-    let neg : c.wrapping_neg.result < 2 ^ 64 = search rules in (
-      omega (arith, fewer_holes c.loop.holes c.wrapping_neg.result fits neg c.wrapping_neg.ensures),
-      turn c.args.source c.args.mask c.loop.source c.loop.holes c.wrapping_neg.result _ fits neg c.wrapping_neg.ensures refl (search rules) c.loop.invariant.1,
-    )
 
 pub returns : goal.returns
 returns c =
-    Deposits-from_Opened c.args.source c.args.mask c.loop.source c.loop.holes (search rules) (zero_from_ones c.loop.holes (omega arith)) c.loop.invariant.1
+    let m = c.args.mask in
+    let holes = flip m in
+    let fits : m < 2 ^ 64 = omega arith in
+    let all : holes < 2 ^ 64 = omega arith in
+    let few : count_ones holes ≤ 2 = omega (arith, ones-flip m fits, count-word_bits m fits) in
+    let rest = cleared_word holes all in
+    let small : cleared holes < 2 ^ 64 = lt_of_le_of_lt (and_le_l holes (holes - 1)) all in
+    let none : cleared (cleared holes) ≡ 0 = none_left holes all few in
+    let first = left_of holes all in
+    let second : cleared holes ≡ lowest 64 (cleared holes) = omega (arith, lowest_sum 64 (cleared holes) small) in
+    Deposits-from_Opened c.args.source m c.with_room-2.result (cleared (cleared holes)) fits none
+    (turn c.args.source m c.with_room.result (cleared holes) _ c.with_room-2.result small (rest ∙ second) c.with_room-2.ensures.room c.with_room-2.ensures.same
+    (turn c.args.source m c.args.source holes _ c.with_room.result all (ap (λ x. holes - x) rest ∙ first) c.with_room.ensures.room c.with_room.ensures.same (Opened-first c.args.source m fits)))
