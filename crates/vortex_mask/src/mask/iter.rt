@@ -65,16 +65,12 @@ impl Mask {
         ensures in_order { YieldsInOrder (YieldsFirst values_left) values_left }
         ensures fits { length (values_left result) < 2 ^ 64 }
     {
-        match self {
-            Mask::AllTrue(len) => MaskBoolIter::Repeat {
-                value: true,
-                remaining: *len,
-            },
-            Mask::AllFalse(len) => MaskBoolIter::Repeat {
-                value: false,
-                remaining: *len,
-            },
-            Mask::Values(values) => MaskBoolIter::Bits(values.bit_buffer().iter()),
+        if let Mask::Values(values) = self {
+            return MaskBoolIter::Bits(values.bit_buffer().iter());
+        }
+        MaskBoolIter::Repeat {
+            value: matches!(self, Mask::AllTrue(_)),
+            remaining: self.len(),
         }
     }
 }
