@@ -1,14 +1,13 @@
 -- The counts of set bits in each byte and below it, and what they say of places in the bytes.
-use Rattle.std.proofs.Common.{◌≡◌, ℕ, zero, suc, ◌+◌, ◌-◌, ◌*◌, ◌/◌, ◌%◌, ◌^◌, ◌<◌, ◌≤◌, ◌⊎◌, inl, inr, refl, sym, ap, ap₂, ◌∙◌, arith, bit_and, count_ones, add_comm, mod-lt, add-zero, zero-add, min, get_or, w64}
+use Rattle.std.proofs.Common.{◌≡◌, ℕ, zero, suc, ◌+◌, ◌-◌, ◌*◌, ◌/◌, ◌%◌, ◌^◌, ◌<◌, ◌≤◌, ◌⊎◌, inl, inr, refl, sym, ap, ap₂, ◌∙◌, arith, bit_and, count_ones, add_comm, pow_mono, mod-lt, add-zero, zero-add, min, get_or, w64}
 use Rattle.std.specs.Int.{bit_at, to_le_bytes}
-use Rattle.std.proofs.lemmas.Nat.{pow_pos, shr-shr, and_mask, and_le_r, and_le_l, ones_cat, mod-pow-add}
+use Rattle.std.proofs.lemmas.Nat.{pow_pos, shr-shr, and_le_r, ones_cat, mod-pow-add}
 use Rattle.std.proofs.lemmas.Bool.{cases_lt}
-use Rattle.vortex_mask.specs.Bytes.{byte_at, EachByte}
+use Rattle.vortex_mask.specs.Bytes.{byte_at, EachByte, halves_summed}
 use Rattle.mask_bits.proofs.Lists.WordLemmas.{ones_below-more}
 use Rattle.vortex_mask.specs.Deposit.{Deposits}
-use Rattle.vortex_mask.proofs.ByteLemmas.{byte_at-lt, byte_at-zero, byte_at-suc, byte_at_and, byte_at_add, byte_at_sub, byte_at-low, byte_at_above, byte_at_shr, byte_at_shr_four, bit_at_byte}
+use Rattle.vortex_mask.proofs.ByteLemmas.{byte_at-zero, byte_at-suc, byte_at_and, byte_at_add, byte_at-low, byte_at_shr, bit_at_byte}
 use Rattle.vortex_mask.proofs.DepositLemmas.{deposit, bit_at-deposit, Deposits-from_bits}
-use Rattle.vortex_mask.proofs.NetworkLemmas.{pairs, nibbles, nibbles_small}
 use Rattle.vortex_mask.proofs.SetPlaceLemmas.{ones_below, ones_below-zero, ones_below-le}
 
 -- ---- the set bits below byte j
@@ -49,53 +48,19 @@ summed_is x w (suc j) counts h i l = by (λ v. summed_is x w j counts (omega ari
         ap (byte_at (summed x)) e ∙ byte_at_up (x * 0x0101010101010101 % 2 ^ 64) j (omega arith) ∙ ap (λ v. byte_at v j) (summed_again x)
         ∙ byte_at-low 8 (summed x + x) j (omega arith) ∙ byte_at_add (summed x) x j room ∙ next j (omega arith) ∙ ap (λ v. ones_below w (8 * v)) (sym e)
 
--- ---- the counts in each byte, as the code sums them: a, b, d and e are the masks of its four steps
+-- ---- the counts in each byte, as the code sums them
 
-module _ (m a b d e : ℕ) (fits : m < 2 ^ 64) (short : bit_and (m - bit_and (m / 2) a) b + bit_and ((m - bit_and (m / 2) a) / 4) d < 2 ^ 64)
-    (fives : EachByte (λ j. byte_at a j ≡ 0x55)) (threes : EachByte (λ j. byte_at b j ≡ 0x33)) (threes' : EachByte (λ j. byte_at d j ≡ 0x33)) (low : EachByte (λ j. byte_at e j ≡ 0x0F)) where
-  by_pairs : ℕ
-  by_pairs = m - bit_and (m / 2) a
+-- so few bits stay below half a byte
+pub half_small : (c s : ℕ) → 0 < s → c < 2 ^ (8 - s) → c < 128
+half_small c s some h = omega (arith, pow_mono {i = 8 - s} {j = 7} (omega arith))
 
-  by_nibbles : ℕ
-  unfolding by_pairs
-  by_nibbles = bit_and by_pairs b + bit_and (by_pairs / 4) d
-
-  pairs_at : (j : ℕ) → j < 8 → byte_at by_pairs j ≡ pairs (byte_at m j)
-  unfolding by_pairs pairs
-  pairs_at j h =
-      let odd : (i : ℕ) → i ≤ j → byte_at (bit_and (m / 2) a) i ≡ bit_and (byte_at m i / 2) 0x55 = λ i l. byte_at_shr 7 1 m a 0x55 i refl (omega arith) (fives i (omega arith)) in
-      byte_at_sub m _ j (omega (arith, and_le_l (m / 2) a)) (λ i l. omega (arith, odd i l, and_le_l (byte_at m i / 2) 0x55)) ∙ ap (λ v. byte_at m j - v) (odd j (omega arith))
-
-  nibbles_at : (j : ℕ) → j < 8 → byte_at by_nibbles j ≡ nibbles (byte_at m j)
-  unfolding by_nibbles nibbles
-  nibbles_at j h =
-      let left : (i : ℕ) → i ≤ j → byte_at (bit_and by_pairs b) i ≡ bit_and (pairs (byte_at m i)) 0x33 =
-      λ i l. byte_at_and by_pairs b i ∙ ap₂ bit_and (pairs_at i (omega arith)) (threes i (omega arith)) in
-      let right : (i : ℕ) → i ≤ j → byte_at (bit_and (by_pairs / 4) d) i ≡ bit_and (pairs (byte_at m i) / 4) 0x33 =
-      λ i l. byte_at_shr 6 2 by_pairs d 0x33 i refl (omega arith) (threes' i (omega arith)) ∙ ap (λ v. bit_and (v / 4) 0x33) (pairs_at i (omega arith)) in
-      byte_at_add _ _ j (λ i l. omega (arith, left i l, right i l, and_le_r (pairs (byte_at m i)) 0x33, and_le_r (pairs (byte_at m i) / 4) 0x33))
-      ∙ ap₂ (λ x y. x + y) (left j (omega arith)) (right j (omega arith))
-
-  next_small : (i : ℕ) → i < 8 → byte_at by_nibbles (suc i) % 16 < 5
-  unfolding by_nibbles by_pairs
-  next_small i h = by (cases_lt i 7)
-    where
-      by : (i < 7) ⊎ (7 ≤ i) → byte_at by_nibbles (suc i) % 16 < 5
-      by (inl lt) = omega (arith, nibbles_at (suc i) (omega arith), (nibbles_small (byte_at m (suc i)) (byte_at-lt m (suc i))).0)
-      by (inr ge) = omega (arith, byte_at_above 8 by_nibbles (suc i) short (omega arith))
-
-  pub counts_at : (j : ℕ) → j < 8
-      → byte_at (bit_and (bit_and (m - bit_and (m / 2) a) b + bit_and ((m - bit_and (m / 2) a) / 4) d + (bit_and (m - bit_and (m / 2) a) b + bit_and ((m - bit_and (m / 2) a) / 4) d) / 16) e) j
-      ≡ count_ones (byte_at m j)
-  unfolding by_nibbles by_pairs
-  counts_at j h =
-      let n = λ (i : ℕ). nibbles (byte_at m i) in
-      let small = λ (i : ℕ). nibbles_small (byte_at m i) (byte_at-lt m i) in
-      let sum : byte_at (by_nibbles + by_nibbles / 16) j ≡ byte_at by_nibbles j + (byte_at by_nibbles j / 16 + byte_at by_nibbles (suc j) % 16 * 16) =
-      byte_at_add by_nibbles (by_nibbles / 16) j (λ i l. omega (arith, nibbles_at i (omega arith), (small i).0, (small i).1, next_small i (omega arith), byte_at_shr_four by_nibbles i))
-      ∙ ap (λ v. byte_at by_nibbles j + v) (byte_at_shr_four by_nibbles j) in
-      byte_at_and (by_nibbles + by_nibbles / 16) e j ∙ ap (bit_and (byte_at (by_nibbles + by_nibbles / 16) j)) (low j h) ∙ and_mask _ 4
-      ∙ omega (arith, sum, nibbles_at j h, (small j).2)
+pub halves_at : (x w c s j : ℕ) → 0 < s → s < 8 → c < 2 ^ (8 - s) → EachByte (λ i. byte_at w i ≡ c) → j < 8
+    → byte_at (bit_and x w + bit_and (x / 2 ^ s) w) j ≡ halves_summed s c (byte_at x j)
+halves_at x w c s j some inside few each h =
+    let lower : (i : ℕ) → i < 8 → byte_at (bit_and x w) i ≡ bit_and (byte_at x i) c = λ i l. byte_at_and x w i ∙ ap (bit_and (byte_at x i)) (each i l) in
+    let upper : (i : ℕ) → i < 8 → byte_at (bit_and (x / 2 ^ s) w) i ≡ bit_and (byte_at x i / 2 ^ s) c = λ i l. byte_at_shr (8 - s) s x w c i (omega arith) few (each i l) in
+    byte_at_add _ _ j (λ i l. omega (arith, lower i (omega arith), upper i (omega arith), and_le_r (byte_at x i) c, and_le_r (byte_at x i / 2 ^ s) c, half_small c s some few))
+    ∙ ap₂ (λ a b. a + b) (lower j h) (upper j h)
 
 -- ---- a deposit by its bytes
 

@@ -4,7 +4,7 @@ use native.Mathlib.Nat.{div-eq_of_lt}
 use Rattle.std.proofs.Math.Nat.{one-le-pow}
 use lib.Arith.{mod-mul}
 use Rattle.std.specs.Int.{bit_at}
-use Rattle.std.proofs.lemmas.Nat.{shr-shr, shl-shr, and_shr, or_shr, xor_shr, and_mod, or_mod, xor_mod, and_mask, and_le_r, or_lt, shr_split, shl_below, div-mul-add, mod-mul-add}
+use Rattle.std.proofs.lemmas.Nat.{shr-shr, shl-shr, and_shr, or_shr, xor_shr, and_mod, or_mod, xor_mod, and_le_r, or_lt, shr_split, shl_below, div-mul-add, mod-mul-add}
 use lib.Bits.{and_zero_r, or_zero_r}
 use lib.Pow.{field, mod-mod-pow}
 use Rattle.vortex_mask.specs.Bytes.{byte_at}
@@ -23,11 +23,6 @@ byte_at-suc w j =
     let e : 8 * suc j ≡ 8 + 8 * j = omega arith in
     ap (λ k. w / 2 ^ k % 2 ^ 8) e ∙ ap (λ x. x % 2 ^ 8) (sym (shr-shr w 8 (8 * j)))
 
--- what code computes for byte j
-pub byte_at_read : (w j : ℕ) → bit_and (w / 2 ^ (8 * j)) 255 ≡ byte_at w j
-unfolding byte_at
-byte_at_read w j = and_mask (w / 2 ^ (8 * j)) 8
-
 -- ---- the operations that work bit by bit
 
 pub byte_at_and : (a b j : ℕ) → byte_at (bit_and a b) j ≡ bit_and (byte_at a j) (byte_at b j)
@@ -42,7 +37,7 @@ pub byte_at_xor : (a b j : ℕ) → byte_at (bit_xor a b) j ≡ bit_xor (byte_at
 unfolding byte_at
 byte_at_xor a b j = ap (λ x. x % 2 ^ 8) (xor_shr a b (8 * j)) ∙ xor_mod _ _ 8
 
--- ---- sums and differences that carry nothing from byte to byte
+-- ---- sums that carry nothing from byte to byte
 
 pub byte_at_add : (a b j : ℕ) → ((i : ℕ) → i ≤ j → byte_at a i + byte_at b i < 256) → byte_at (a + b) j ≡ byte_at a j + byte_at b j
 byte_at_add a b zero h = omega (arith, byte_at-zero (a + b), byte_at-zero a, byte_at-zero b, h 0 (omega arith))
@@ -51,14 +46,6 @@ byte_at_add a b (suc j) h =
     byte_at-suc (a + b) j ∙ ap (λ x. byte_at x j) e
     ∙ byte_at_add (a / 256) (b / 256) j (λ i l. omega (arith, h (suc i) (omega arith), byte_at-suc a i, byte_at-suc b i))
     ∙ sym (ap₂ (λ x y. x + y) (byte_at-suc a j) (byte_at-suc b j))
-
-pub byte_at_sub : (a b j : ℕ) → b ≤ a → ((i : ℕ) → i ≤ j → byte_at b i ≤ byte_at a i) → byte_at (a - b) j ≡ byte_at a j - byte_at b j
-byte_at_sub a b zero le h = omega (arith, byte_at-zero (a - b), byte_at-zero a, byte_at-zero b, h 0 (omega arith))
-byte_at_sub a b (suc j) le h =
-    let e : (a - b) / 256 ≡ a / 256 - b / 256 = omega (arith, byte_at-zero a, byte_at-zero b, h 0 (omega arith)) in
-    byte_at-suc (a - b) j ∙ ap (λ x. byte_at x j) e
-    ∙ byte_at_sub (a / 256) (b / 256) j (omega arith) (λ i l. omega (arith, h (suc i) (omega arith), byte_at-suc a i, byte_at-suc b i))
-    ∙ sym (ap₂ (λ x y. x - y) (byte_at-suc a j) (byte_at-suc b j))
 
 -- `!a`
 pub byte_at_not : (k a j : ℕ) → a < 256 ^ k → j < k → byte_at (256 ^ k - 1 - a) j ≡ 255 - byte_at a j
@@ -69,7 +56,7 @@ byte_at_not (suc k) a (suc j) fits h =
     byte_at-suc _ j ∙ ap (λ x. byte_at x j) e ∙ byte_at_not k (a / 256) j (omega (arith, pow-suc 256 k)) (omega arith)
     ∙ ap (λ x. 255 - x) (sym (byte_at-suc a j))
 
--- a word keeps the low bytes, and has none above
+-- a word keeps the low bytes
 low_split : (k x : ℕ) → x % 256 ^ suc k ≡ x / 256 % 256 ^ k * 256 + x % 256
 low_split k x = ap (λ y. x % y) (pow-suc 256 k) ∙ mod-mul x (one-le-pow k 256 (omega arith)) (omega arith)
 
@@ -79,15 +66,6 @@ byte_at-low (suc k) x zero h = omega (arith, low_split k x, byte_at-zero (x % 25
 byte_at-low (suc k) x (suc j) h =
     let e : x % 256 ^ suc k / 256 ≡ x / 256 % 256 ^ k = omega (arith, low_split k x) in
     byte_at-suc _ j ∙ ap (λ y. byte_at y j) e ∙ byte_at-low k (x / 256) j (omega arith) ∙ sym (byte_at-suc x j)
-
-byte_at_nothing : (j : ℕ) → byte_at 0 j ≡ 0
-byte_at_nothing zero = byte_at-zero 0
-byte_at_nothing (suc j) = byte_at-suc 0 j ∙ byte_at_nothing j
-
-pub byte_at_above : (k x j : ℕ) → x < 256 ^ k → k ≤ j → byte_at x j ≡ 0
-byte_at_above zero x j h le = let z : x ≡ 0 = omega arith in ap (λ y. byte_at y j) z ∙ byte_at_nothing j
-byte_at_above (suc k) x zero h le = absurd (omega arith)
-byte_at_above (suc k) x (suc j) h le = byte_at-suc x j ∙ byte_at_above k (x / 256) j (omega (arith, pow-suc 256 k)) (omega arith)
 
 -- ---- shifts
 
@@ -150,13 +128,6 @@ byte_at_shl_free k s x (suc j) sum h =
     byte_at-suc _ j ∙ ap (λ v. byte_at v j) (free_split k s x sum (h 0 (omega arith))).0
     ∙ byte_at_shl_free k s (x / 256) j sum (λ i l. subst (λ v. v < 2 ^ k) (byte_at-suc x i) (h (suc i) (omega arith)))
     ∙ ap (λ v. v * 2 ^ s) (sym (byte_at-suc x j))
-
--- `x >> 4`, with what the next byte gives
-pub byte_at_shr_four : (x j : ℕ) → byte_at (x / 16) j ≡ byte_at x j / 16 + byte_at x (suc j) % 16 * 16
-unfolding byte_at
-byte_at_shr_four x j =
-    let e : 8 * suc j ≡ 8 * j + 8 = omega arith in
-    omega (arith, swap_shr x 4 (8 * j), ap (λ w. x / 2 ^ w) e, shr-shr x (8 * j) 8)
 
 -- ---- bits
 

@@ -2,7 +2,7 @@
 use Rattle.std.proofs.Common.{◌≡◌, ℕ, zero, suc, ◌+◌, ◌-◌, ◌*◌, ◌/◌, ◌%◌, ◌^◌, ◌<◌, ◌≤◌, Bool, true, false, ◌&&◌, T, eqb, refl, ap, ◌∙◌, subst, arith, bit_and, bit_xor, eq-zero-or-pos, inl, inr, eqb→eq, ltb→lt, ltb, count_ones, pow-suc}
 use Rattle.std.proofs.lemmas.Nat.{ones-le, one_shl, pow_below}
 use lib.Count.{ones_step}
-use Rattle.vortex_mask.specs.Bytes.{clear_below, place_after, packed_after, landed_in, odd_places, moved_down, with_moved, halved, zeros_before, moved_up}
+use Rattle.vortex_mask.specs.Bytes.{halves_summed, clear_below, place_after, packed_after, landed_in, odd_places, moved_down, with_moved, halved, zeros_before, moved_up}
 use Rattle.vortex_mask.proofs.DepositLemmas.{deposit}
 
 -- ---- a test of each number below one
@@ -49,13 +49,7 @@ low_clear = tt
 pub none_low : (s : ℕ) → s < 8 → 255 * 2 ^ s % 2 ^ 8 % 2 ^ s ≡ 0
 none_low s h = eqb→eq _ _ (every_below (λ i. eqb (255 * 2 ^ i % 2 ^ 8 % 2 ^ i) 0) 8 low_clear s h)
 
--- ---- the count of a byte's set bits, by pairs and then by halves of the byte
-
-unfoldable pub pairs : ℕ → ℕ
-pairs mask = mask - bit_and (mask / 2) 0x55
-
-unfoldable pub nibbles : ℕ → ℕ
-nibbles mask = bit_and (pairs mask) 0x33 + bit_and (pairs mask / 4) 0x33
+-- ---- the count of a byte's set bits, by halves
 
 -- the set bits among the k lowest
 unfoldable ones_among : ℕ → ℕ → ℕ
@@ -67,20 +61,16 @@ unfolding ones_among
 ones_among-is zero n h = omega (arith, ones-le 0 n h)
 ones_among-is (suc k) n h = omega (arith, ones_step n, ones_among-is k (n / 2) (omega (arith, pow-suc 2 k)))
 
--- no part of the sum passes 4, and the two of them make the count
-count_table : ℕ → Bool
-count_table m = (ltb (nibbles m % 16) 5 && ltb (nibbles m / 16) 5) && eqb ((nibbles m + nibbles m / 16) % 16) (ones_among 8 m)
+-- the byte's bits, summed by two, by four and by eight
+abbrev halved_thrice : ℕ → ℕ
+halved_thrice b = halves_summed 4 0x0F (halves_summed 2 0x33 (halves_summed 1 0x55 b))
 
-counted : T (all_below count_table 256)
-unfolding count_table pairs nibbles ones_among
+counted : T (all_below (λ b. eqb (halved_thrice b) (ones_among 8 b)) 256)
+unfolding ones_among
 counted = tt
 
-pub nibbles_small : (m : ℕ) → m < 256 → (nibbles m % 16 < 5) × (nibbles m / 16 < 5) × ((nibbles m + nibbles m / 16) % 16 ≡ count_ones m)
-unfolding count_table
-nibbles_small m h =
-    let t = every_below count_table 256 counted m h in
-    let u = and_l (ltb (nibbles m % 16) 5 && ltb (nibbles m / 16) 5) _ t in
-    (ltb→lt _ _ (and_l _ _ u), ltb→lt _ _ (and_r (ltb (nibbles m % 16) 5) _ u), eqb→eq _ _ (and_r (ltb (nibbles m % 16) 5 && ltb (nibbles m / 16) 5) _ t) ∙ ones_among-is 8 m h)
+pub count_by_halves : (b : ℕ) → b < 256 → halves_summed 4 0x0F (halves_summed 2 0x33 (halves_summed 1 0x55 b)) ≡ count_ones b
+count_by_halves b h = eqb→eq _ _ (every_below (λ x. eqb (halved_thrice x) (ones_among 8 x)) 256 counted b h) ∙ ones_among-is 8 b h
 
 -- ---- the parity of the zeros, by doublings
 

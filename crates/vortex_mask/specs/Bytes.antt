@@ -11,6 +11,10 @@ byte_at w j = w / 2 ^ (8 * j) % 2 ^ 8
 abbrev pub EachByte : (ℕ → Type 0) → Type 0
 EachByte P = (j : ℕ) → j < 8 → P j
 
+-- the lower halves of fields, and the upper ones moved onto them by their width, summed: lower has all bits of the lower halves
+abbrev pub halves_summed : ℕ → ℕ → ℕ → ℕ
+halves_summed width lower b = bit_and b lower + bit_and (b / 2 ^ width) lower
+
 -- ---- where the bits of a mask byte stand
 
 -- how many of the places below i are clear

@@ -22,7 +22,7 @@
 ghost use Rattle.std.specs.Prelude.{◌≡◌, ◌+◌, ◌-◌, ◌*◌, ◌/◌, ◌%◌, ◌^◌, ◌<◌, bit_xor, count_ones};
 ghost use Rattle.mask_bits.specs.Positions.{count_below};
 ghost use Rattle.mask_bits.specs.Words.{word_bits};
-ghost use Rattle.vortex_mask.specs.Bytes.{byte_at, EachByte, packed_after, landed_in, odd_places, moved_down, with_moved, halved, moved_up};
+ghost use Rattle.vortex_mask.specs.Bytes.{byte_at, EachByte, packed_after, landed_in, odd_places, moved_down, with_moved, halved, moved_up, halves_summed};
 ghost use Rattle.vortex_mask.specs.Deposit.{Deposits};
 
 /// The deposit at every mask. It takes about as long at each: some hundred word operations.
@@ -37,7 +37,7 @@ pub fn deposit_bytewise(source: u64, mask: u64) -> u64
     word & mask
 }
 
-// `b` in every byte of a word.
+// The word whose eight bytes are all `b`.
 const fn bytes(b: u8) -> u64
     ensures value { result ≡ b * 0x0101010101010101 }
     ensures each { EachByte (λ j. byte_at result j ≡ b) }
@@ -45,13 +45,26 @@ const fn bytes(b: u8) -> u64
     b as u64 * 0x0101_0101_0101_0101
 }
 
-// In each byte, the number of its set bits: first of pairs of them, then of four, then of all.
+// In each byte, the number of its set bits: each field of two bits, of four and then of eight sums
+// its two halves, and starts from single bits.
 fn byte_counts(mask: u64) -> u64
     ensures { EachByte (λ j. byte_at result j ≡ count_ones (byte_at mask j)) }
 {
-    let pairs = mask - ((mask >> 1) & bytes(0x55));
-    let nibbles = (pairs & bytes(0x33)) + ((pairs >> 2) & bytes(0x33));
-    (nibbles + (nibbles >> 4)) & bytes(0x0F)
+    let of_two = sum_halves(mask, 1, 0b0101_0101);
+    let of_four = sum_halves(of_two, 2, 0b0011_0011);
+    sum_halves(of_four, 4, 0b0000_1111)
+}
+
+// In each byte, the sums of the two halves of each field: a half has `width` bits, and `lower` all
+// those of the lower halves.
+fn sum_halves(fields: u64, width: u32, lower: u8) -> u64
+    requires some { 0 < width }
+    requires inside { width < 8 }
+    requires lower { lower < 2 ^ (8 - width) }
+    ensures { EachByte (λ j. byte_at result j ≡ halves_summed width lower (byte_at fields j)) }
+{
+    let lower = bytes(lower);
+    (fields & lower) + ((fields >> width) & lower)
 }
 
 // In each byte, the number of set bits in all lower bytes: at most 56, so that no sum in the
@@ -154,12 +167,21 @@ fn gather(source: u64, below: u64) -> u64
     requires { EachByte (λ j. byte_at below j < 64) }
     ensures { EachByte (λ j. byte_at result j ≡ source / 2 ^ byte_at below j % 2 ^ 8) }
 {
-    let mut result = 0;
-    for byte in 0..8u32 {
-        let from = (below >> (8 * byte)) & 0xFF;
-        result |= ((source >> from) & 0xFF) << (8 * byte);
+    let mut gathered = 0;
+    for byte in 0..8u64 {
+        let place = 8 * byte;
+        let from = eight_bits(below, place);
+        gathered |= eight_bits(source, from) << place;
     }
-    result
+    gathered
+}
+
+// The eight bits of a word from `place` on.
+fn eight_bits(word: u64, place: u64) -> u64
+    requires { place < 64 }
+    ensures { result ≡ word / 2 ^ place % 2 ^ 8 }
+{
+    (word >> place) & 0xFF
 }
 
 // Moves the bits at `landed` back up by `2 ^ stage`.

@@ -1,11 +1,11 @@
-use Rattle.std.proofs.Common.{◌-◌, ◌/◌, arith, bit_and}
-use Rattle.std.proofs.lemmas.Nat.{and_le_r}
-use Rattle.vortex_mask.proofs.ByteCountLemmas.{counts_at}
+use Rattle.std.proofs.Common.{ap, ◌∙◌}
+use Rattle.vortex_mask.specs.Bytes.{byte_at, halves_summed}
+use Rattle.vortex_mask.proofs.ByteLemmas.{byte_at-lt}
+use Rattle.vortex_mask.proofs.NetworkLemmas.{count_by_halves}
 use Rattle.vortex_mask.proofs.intersect_by_rank.bytewise.byte_counts.Goals as goal
 
 pub returns : goal.returns
-returns c =
-    let p = c.args.mask - bit_and (c.args.mask / 2) c.bytes.result in
-    counts_at c.args.mask c.bytes.result c.bytes-2.result c.bytes-3.result c.bytes-4.result (omega arith)
-    (omega (arith, and_le_r p c.bytes-2.result, and_le_r (p / 4) c.bytes-3.result, c.bytes-2.ensures.value, c.bytes-3.ensures.value))
-    c.bytes.ensures.each c.bytes-2.ensures.each c.bytes-3.ensures.each c.bytes-4.ensures.each
+returns c = λ j h.
+    c.sum_halves.ensures j h
+    ∙ ap (halves_summed 4 15) (c.sum_halves-of_four.ensures j h ∙ ap (halves_summed 2 51) (c.sum_halves-of_two.ensures j h))
+    ∙ count_by_halves (byte_at c.args.mask j) (byte_at-lt c.args.mask j)
