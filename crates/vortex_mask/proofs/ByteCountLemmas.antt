@@ -1,7 +1,7 @@
 -- The counts of set bits in each byte and below it, and what they say of places in the bytes.
-use Rattle.std.proofs.Common.{◌≡◌, ℕ, zero, suc, ◌+◌, ◌-◌, ◌*◌, ◌/◌, ◌%◌, ◌^◌, ◌<◌, ◌≤◌, ◌⊎◌, inl, inr, refl, sym, ap, ap₂, ◌∙◌, arith, bit_and, count_ones, add_comm, pow_mono, mod-lt, add-zero, zero-add, min, get_or, w64}
-use Rattle.std.specs.Int.{bit_at, to_le_bytes}
-use Rattle.std.proofs.lemmas.Nat.{pow_pos, shr-shr, and_le_r, ones_cat, mod-pow-add}
+use Rattle.std.proofs.Common.{◌≡◌, ℕ, zero, suc, ◌+◌, ◌-◌, ◌*◌, ◌/◌, ◌%◌, ◌^◌, ◌<◌, ◌≤◌, ◌⊎◌, inl, inr, refl, sym, ap, ap₂, ◌∙◌, arith, bit_and, count_ones, add_comm, pow_mono, mod-lt, add-zero, zero-add, min}
+use Rattle.std.specs.Int.{bit_at}
+use Rattle.std.proofs.lemmas.Nat.{pow_pos, shr-shr, and_mask, and_le_r, one_shl, ones_cat, mod-pow-add}
 use Rattle.std.proofs.lemmas.Bool.{cases_lt}
 use Rattle.vortex_mask.specs.Bytes.{byte_at, EachByte, halves_summed}
 use Rattle.mask_bits.proofs.Lists.WordLemmas.{ones_below-more}
@@ -12,11 +12,14 @@ use Rattle.vortex_mask.proofs.SetPlaceLemmas.{ones_below, ones_below-zero, ones_
 
 -- ---- the set bits below byte j
 
-pub ones_below-byte : (w j : ℕ) → ones_below w (8 * suc j) ≡ ones_below w (8 * j) + count_ones (byte_at w j)
+-- those below a place, and those of the next k places
+pub ones_below-next : (w i k : ℕ) → ones_below w (i + k) ≡ ones_below w i + count_ones (w / 2 ^ i % 2 ^ k)
+ones_below-next w i k =
+    ap (λ n. count_ones (w % 2 ^ n)) (add_comm i k) ∙ ap count_ones (mod-pow-add w k i) ∙ ones_cat i _ _ (mod-lt w (pow_pos i)) ∙ add_comm _ _
+
+ones_below-byte : (w j : ℕ) → ones_below w (8 * suc j) ≡ ones_below w (8 * j) + count_ones (byte_at w j)
 unfolding byte_at
-ones_below-byte w j =
-    let e : 8 * suc j ≡ 8 + 8 * j = omega arith in
-    ap (λ i. count_ones (w % 2 ^ i)) e ∙ ap count_ones (mod-pow-add w 8 (8 * j)) ∙ ones_cat (8 * j) _ _ (mod-lt w (pow_pos (8 * j))) ∙ add_comm _ _
+ones_below-byte w j = let e : 8 * suc j ≡ 8 * j + 8 = omega arith in ap (ones_below w) e ∙ ones_below-next w (8 * j) 8
 
 -- ---- the counts below each byte, as one product: x's bytes are the counts
 
@@ -89,22 +92,18 @@ Deposits-from_bytes s m r h = Deposits-from_bits s m r (λ i inside.
     ap (bit_at r) (sym e) ∙ bit_at_byte r j t (omega arith) ∙ ap (λ v. bit_at v t) (h j (omega arith)) ∙ bit_at-deposit 8 _ b t (omega arith)
     ∙ ap₂ min (sym (bit_at_byte m j t (omega arith)) ∙ ap (bit_at m) e) there)
 
--- ---- the bytes as a list
+-- ---- a selection by halves
 
-by_eight : (P : ℕ → Type 0) → P 0 → P 1 → P 2 → P 3 → P 4 → P 5 → P 6 → P 7 → (j : ℕ) → j < 8 → P j
-by_eight P a b c d e f g h zero l = a
-by_eight P a b c d e f g h (suc zero) l = b
-by_eight P a b c d e f g h (suc (suc zero)) l = c
-by_eight P a b c d e f g h (suc (suc (suc zero))) l = d
-by_eight P a b c d e f g h (suc (suc (suc (suc zero)))) l = e
-by_eight P a b c d e f g h (suc (suc (suc (suc (suc zero))))) l = f
-by_eight P a b c d e f g h (suc (suc (suc (suc (suc (suc zero)))))) l = g
-by_eight P a b c d e f g h (suc (suc (suc (suc (suc (suc (suc zero))))))) l = h
-by_eight P a b c d e f g h (suc (suc (suc (suc (suc (suc (suc (suc j)))))))) l = absurd (omega arith)
+-- what h halvings leave of 64 places, and the half of it
+pub halved : (h : ℕ) → h < 3 → (64 / 2 ^ h ≡ 2 * (32 / 2 ^ h)) × (64 / 2 ^ (h + 1) ≡ 32 / 2 ^ h) × (32 / 2 ^ h % 8 ≡ 0) × (8 ≤ 32 / 2 ^ h) × (32 / 2 ^ h ≤ 32)
+halved zero l = (refl, refl, refl, omega arith, omega arith)
+halved (suc zero) l = (refl, refl, refl, omega arith, omega arith)
+halved (suc (suc zero)) l = (refl, refl, refl, omega arith, omega arith)
+halved (suc (suc (suc h))) l = absurd (omega arith)
 
-pub item_is : (w j : ℕ) → j < 8 → get_or (to_le_bytes w64 w) j 0 ≡ byte_at w j
-unfolding byte_at
-item_is w = by_eight (λ j. get_or (to_le_bytes w64 w) j 0 ≡ byte_at w j) (sym (byte_at-zero w)) refl refl refl refl refl refl refl
+-- the k lowest bits, as the code takes them
+pub lower_bits : (x k : ℕ) → k < 64 → bit_and x (1 * 2 ^ k % 2 ^ 64 - 1) ≡ x % 2 ^ k
+lower_bits x k h = ap (λ m. bit_and x (m - 1)) (one_shl k 64 h) ∙ and_mask x k
 
 -- a set place of byte j is one of the word
 pub place_of_byte : (w rank first j p : ℕ) → j < 8 → rank + ones_below w (8 * j) ≡ first → p < 8 → bit_at (byte_at w j) p ≡ 1 → ones_below (byte_at w j) p ≡ rank

@@ -17,19 +17,22 @@ pub trait SelectBit {
 }
 
 impl SelectBit for Portable {
-    // Passes over bytes by their count, and stops at the one that has the bit.
+    // Halves the bits that are left until they are a byte: the lower half is passed over where it
+    // has too few set bits.
     fn select_bit_position(word: u64, rank: usize) -> usize {
         let mut rank = rank;
-        let mut place = 0;
-        for byte in word.to_le_bytes() {
-            let count = byte.count_ones() as usize;
-            if rank < count {
-                return place + select_in_byte(byte, rank);
+        let mut place = 0usize;
+        for halving in 0..3u32 {
+            let half = 32usize >> halving;
+            let lower = (word >> place) & ((1u64 << half) - 1);
+            let count = lower.count_ones() as usize;
+            if count <= rank {
+                rank -= count;
+                place += half;
             }
-            rank -= count;
-            place += 8;
         }
-        unreachable!()
+        let byte = ((word >> place) & 0xFF) as u8;
+        place + select_in_byte(byte, rank)
     }
 }
 
