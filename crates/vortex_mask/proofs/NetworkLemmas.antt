@@ -155,13 +155,13 @@ landed_in-lt s m hs hm =
 
 -- ---- the way back
 
-back_by : ℕ → ℕ → ℕ → ℕ → ℕ → ℕ → ℕ
+back_by : ℕ → ℕ → ℕ → ℕ → ℕ → ℕ
 unfolding moved_up
-back_by l0 l1 l2 p m b = bit_and (moved_up 1 l0 (moved_up 2 l1 (moved_up 4 l2 (bit_and b p)))) m
+back_by l0 l1 l2 p b = moved_up 1 l0 (moved_up 2 l1 (moved_up 4 l2 (bit_and b p)))
 
 -- the mask's part of the work is done once for its 256 source bytes
 row : ℕ → ℕ → ℕ → ℕ → ℕ → Bool
-row l0 l1 l2 p m = all_below (λ b. eqb (back_by l0 l1 l2 p m b) (deposit 8 b m)) 256
+row l0 l1 l2 p m = all_below (λ b. eqb (back_by l0 l1 l2 p b) (deposit 8 b m)) 256
 
 table : ℕ → Bool
 table m = row (landed_in 0 m) (landed_in 1 m) (landed_in 2 m) (packed_after 3 m) m
@@ -171,7 +171,7 @@ unfolding table row back_by moved_up deposit landed_in packed_after place_after 
 computed = tt
 
 -- the source byte b, of which the lowest bits are taken, through the stages back to its places
-pub moved_back : (m b : ℕ) → m < 256 → b < 256 → bit_and (moved_up 1 (landed_in 0 m) (moved_up 2 (landed_in 1 m) (moved_up 4 (landed_in 2 m) (bit_and b (packed_after 3 m))))) m ≡ deposit 8 b m
+pub moved_back : (m b : ℕ) → m < 256 → b < 256 → moved_up 1 (landed_in 0 m) (moved_up 2 (landed_in 1 m) (moved_up 4 (landed_in 2 m) (bit_and b (packed_after 3 m)))) ≡ deposit 8 b m
 unfolding table row back_by
 moved_back m b hm hb =
-    eqb→eq _ _ (every_below (λ x. eqb (back_by (landed_in 0 m) (landed_in 1 m) (landed_in 2 m) (packed_after 3 m) m x) (deposit 8 x m)) 256 (every_below table 256 computed m hm) b hb)
+    eqb→eq _ _ (every_below (λ x. eqb (back_by (landed_in 0 m) (landed_in 1 m) (landed_in 2 m) (packed_after 3 m) x) (deposit 8 x m)) 256 (every_below table 256 computed m hm) b hb)

@@ -33,8 +33,7 @@ pub fn deposit_bytewise(source: u64, mask: u64) -> u64
     let word = gather(source, counts_below(mask)) & packing.packed;
     let word = move_up(word, packing.landed_2, 2);
     let word = move_up(word, packing.landed_1, 1);
-    let word = move_up(word, packing.landed_0, 0);
-    word & mask
+    move_up(word, packing.landed_0, 0)
 }
 
 // The word whose eight bytes are all `b`.

@@ -15,8 +15,8 @@ pub move_up-word-requires-2-clause-room : goal.move_up-word-requires-2-clause-ro
 move_up-word-requires-2-clause-room c = λ j h.
     omega (arith, c.compress-packing.ensures.landed_1 j h, landed_in-lt 1 (byte_at c.args.mask j) (omega arith) (byte_at-lt c.args.mask j))
 
-pub move_up-word-requires-3-clause-room : goal.move_up-word-requires-3-clause-room
-move_up-word-requires-3-clause-room c = λ j h.
+pub move_up-requires-clause-room : goal.move_up-requires-clause-room
+move_up-requires-clause-room c = λ j h.
     omega (arith, c.compress-packing.ensures.landed_0 j h, landed_in-lt 0 (byte_at c.args.mask j) (omega arith) (byte_at-lt c.args.mask j))
 
 pub returns : goal.returns
@@ -28,11 +28,10 @@ returns c =
     let taken = s / 2 ^ ones_below m (8 * j) % 2 ^ 8 in
     let from : byte_at c.gather.result j ≡ taken
     = c.gather.ensures j h ∙ ap (λ n. s / 2 ^ n % 2 ^ 8) (c.counts_below.ensures.counted j h ∙ count_below-word_bits m (8 * j) (omega arith)) in
-    let back : byte_at (bit_and c.move_up-word-3.result m) j ≡ bit_and (moved_up 1 (landed_in 0 b) (moved_up 2 (landed_in 1 b) (moved_up 4 (landed_in 2 b) (bit_and taken (packed_after 3 b))))) b
+    let back : byte_at c.move_up.result j ≡ moved_up 1 (landed_in 0 b) (moved_up 2 (landed_in 1 b) (moved_up 4 (landed_in 2 b) (bit_and taken (packed_after 3 b))))
     = cc (
       from,
-      byte_at_and c.move_up-word-3.result m j,
-      c.move_up-word-3.ensures j h,
+      c.move_up.ensures j h,
       c.move_up-word-2.ensures j h,
       c.move_up-word.ensures j h,
       byte_at_and c.gather.result c.compress-packing.result.packed j,
