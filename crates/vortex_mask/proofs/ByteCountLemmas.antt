@@ -1,5 +1,5 @@
 -- The counts of set bits in each byte and below it, and what they say of places in the bytes.
-use Rattle.std.proofs.Common.{◌≡◌, ℕ, zero, suc, ◌+◌, ◌-◌, ◌*◌, ◌/◌, ◌%◌, ◌^◌, ◌<◌, ◌≤◌, ◌⊎◌, inl, inr, refl, sym, ap, ap₂, ◌∙◌, arith, bit_and, count_ones, add_comm, pow_mono, mod-lt, add-zero, zero-add, min}
+use Rattle.std.proofs.Common.{eqb, eqb→eq, ◌≡◌, ℕ, zero, suc, ◌+◌, ◌-◌, ◌*◌, ◌/◌, ◌%◌, ◌^◌, ◌<◌, ◌≤◌, ◌⊎◌, inl, inr, sym, ap, ap₂, ◌∙◌, arith, bit_and, count_ones, add_comm, pow_mono, mod-lt, add-zero, zero-add, min}
 use Rattle.std.specs.Int.{bit_at}
 use Rattle.std.proofs.lemmas.Nat.{pow_pos, shr-shr, and_mask, and_le_r, one_shl, ones_cat, mod-pow-add}
 use Rattle.std.proofs.lemmas.Bool.{cases_lt}
@@ -8,6 +8,7 @@ use Rattle.mask_bits.proofs.Lists.WordLemmas.{ones_below-more}
 use Rattle.vortex_mask.specs.Deposit.{Deposits}
 use Rattle.vortex_mask.proofs.ByteLemmas.{byte_at-zero, byte_at-suc, byte_at_and, byte_at_add, byte_at-low, byte_at_shr, bit_at_byte}
 use Rattle.vortex_mask.proofs.DepositLemmas.{deposit, bit_at-deposit, Deposits-from_bits}
+use Rattle.vortex_mask.proofs.NetworkLemmas.{every_below}
 use Rattle.vortex_mask.proofs.SetPlaceLemmas.{ones_below, ones_below-zero, ones_below-le}
 
 -- ---- the set bits below byte j
@@ -95,18 +96,11 @@ Deposits-from_bytes s m r h = Deposits-from_bits s m r (λ i inside.
 -- ---- a selection by halves
 
 -- what h halvings leave of 64 places, and the half of it
-pub halved : (h : ℕ) → h < 3 → (64 / 2 ^ h ≡ 2 * (32 / 2 ^ h)) × (64 / 2 ^ (h + 1) ≡ 32 / 2 ^ h) × (32 / 2 ^ h % 8 ≡ 0) × (8 ≤ 32 / 2 ^ h) × (32 / 2 ^ h ≤ 32)
-halved zero l = (refl, refl, refl, omega arith, omega arith)
-halved (suc zero) l = (refl, refl, refl, omega arith, omega arith)
-halved (suc (suc zero)) l = (refl, refl, refl, omega arith, omega arith)
-halved (suc (suc (suc h))) l = absurd (omega arith)
+pub halved : (h : ℕ) → h < 6 → (64 / 2 ^ h ≡ 2 * (32 / 2 ^ h)) × (64 / 2 ^ (h + 1) ≡ 32 / 2 ^ h)
+halved h l =
+    let e : h + 1 ≡ 1 + h = omega arith in
+    (eqb→eq _ _ (every_below (λ i. eqb (64 / 2 ^ i) (2 * (32 / 2 ^ i))) 6 tt h l), ap (λ n. 64 / 2 ^ n) e ∙ sym (shr-shr 64 1 h))
 
 -- the k lowest bits, as the code takes them
 pub lower_bits : (x k : ℕ) → k < 64 → bit_and x (1 * 2 ^ k % 2 ^ 64 - 1) ≡ x % 2 ^ k
 lower_bits x k h = ap (λ m. bit_and x (m - 1)) (one_shl k 64 h) ∙ and_mask x k
-
--- a set place of byte j is one of the word
-pub place_of_byte : (w rank first j p : ℕ) → j < 8 → rank + ones_below w (8 * j) ≡ first → p < 8 → bit_at (byte_at w j) p ≡ 1 → ones_below (byte_at w j) p ≡ rank
-    → (8 * j + p < 64) × (bit_at w (8 * j + p) ≡ 1) × (ones_below w (8 * j + p) ≡ first)
-place_of_byte w rank first j p inside e low set below =
-    (omega arith, bit_at_byte w j p low ∙ set, omega (arith, ones_below-in_byte w j p (omega arith)))

@@ -19,7 +19,7 @@ pub trait DepositBits {
         ensures { Deposits source mask result };
 }
 
-// So few bits of a mask, set or clear, are taken one by one.
+// The closed forms take masks with at most so many bits that are set, or that are clear.
 const FEW: usize = 2;
 
 /// Deposits in few steps at every mask: by a closed form where at most two bits of the mask are

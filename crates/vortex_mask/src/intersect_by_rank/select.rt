@@ -1,7 +1,6 @@
 //! Selections: the place of a set bit by its number.
 
-ghost use Rattle.std.specs.Prelude.{◌≡◌, ◌%◌, ◌^◌, ◌<◌, count_ones};
-ghost use Rattle.std.specs.Int.{bit_at};
+ghost use Rattle.std.specs.Prelude.{◌≡◌, ◌<◌};
 ghost use Rattle.mask_bits.specs.Positions.{count};
 ghost use Rattle.mask_bits.specs.Words.{word_bits};
 ghost use Rattle.vortex_mask.specs.Deposit.{selected};
@@ -17,12 +16,12 @@ pub trait SelectBit {
 }
 
 impl SelectBit for Portable {
-    // Halves the bits that are left until they are a byte: the lower half is passed over where it
-    // has too few set bits.
+    // Halves the places that are left until one is: the lower half is passed over where it has too
+    // few set bits.
     fn select_bit_position(word: u64, rank: usize) -> usize {
         let mut rank = rank;
         let mut place = 0usize;
-        for halving in 0..3u32 {
+        for halving in 0..6u32 {
             let half = 32usize >> halving;
             let lower = (word >> place) & ((1u64 << half) - 1);
             let count = lower.count_ones() as usize;
@@ -31,21 +30,6 @@ impl SelectBit for Portable {
                 place += half;
             }
         }
-        let byte = ((word >> place) & 0xFF) as u8;
-        place + select_in_byte(byte, rank)
+        place
     }
-}
-
-// The place of set bit number `rank`: the lowest, once that many are cleared.
-fn select_in_byte(byte: u8, rank: usize) -> usize
-    requires { rank < count_ones byte }
-    ensures inside { result < 8 }
-    ensures set { bit_at byte result ≡ 1 }
-    ensures below { count_ones (byte % 2 ^ result) ≡ rank }
-{
-    let mut bits = byte;
-    for _ in 0..rank {
-        bits &= bits - 1;
-    }
-    bits.trailing_zeros() as usize
 }
