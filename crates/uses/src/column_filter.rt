@@ -1,5 +1,5 @@
 //! A column filtered by a test of its rows: the mask first, then the rows.
-ghost use Rattle.std.specs.Prelude.{◌≡◌, ◌++◌, ℕ, Bool, IfOk, filter, length, map, nat_lt, take};
+ghost use Rattle.std.specs.Prelude.{◌≡◌, IfOk, filter, map, nat_lt, take};
 ghost use Rattle.vortex_mask.specs.Mask.{truth};
 
 use mask_bits::laws;
@@ -36,4 +36,18 @@ pub fn first_filtered(
     above(alloc, rows, low)?
         .limit(alloc, k)?
         .choose(alloc, rows)
+}
+
+#[cfg(test)]
+mod tests {
+    use super::{filtered, first_filtered};
+    use std::test::Fail;
+
+    #[test]
+    fn rows_above_two(rt: HostRuntime) -> Result<(), Fail> {
+        let rows = [3, 1, 4, 1, 5];
+        assert!(rt; filtered(rt.alloc(), &rows, 2)?.as_slice() == [3, 4, 5].as_slice());
+        assert!(rt; first_filtered(rt.alloc(), &rows, 2, 2)?.as_slice() == [3, 4].as_slice());
+        Ok(())
+    }
 }

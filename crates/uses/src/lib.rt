@@ -18,6 +18,7 @@ pub mod gather;
 pub mod limits;
 pub mod own_deposit;
 pub mod pages;
+pub mod printing;
 pub mod reads;
 pub mod row_groups;
 pub mod selected;

@@ -39,3 +39,41 @@ pub fn alive(alloc: Global, filter: &Mask, deleted: &Mask) -> Result<Mask, MaskE
 {
     filter.to_bitand_not(alloc, deleted)
 }
+
+#[cfg(test)]
+mod tests {
+    use super::{alive, first_indices, first_of_both};
+    use crate::tests::{lists, mask, same};
+    use std::alloc::Global;
+    use std::process::Abort;
+    use std::test::Fail;
+    use vortex_mask::{Mask, MaskError};
+
+    fn limits(rt: &impl Abort, alloc: Global, masks: (&Mask, &Mask)) -> Result<(), MaskError> {
+        let (first, second) = masks;
+        same(rt, second.len(), first.true_count());
+        lists(rt, &first_of_both(alloc, first, second, 1)?, "00001000");
+        assert!(rt; first_indices(alloc, first, 2)?.as_slice() == [0, 3].as_slice());
+        Ok(())
+    }
+
+    #[test]
+    fn of_two_filters(rt: HostRuntime) -> Result<(), Fail> {
+        let masks = (mask(rt.alloc(), "10011101")?, mask(rt.alloc(), "00101")?);
+        limits(&rt, rt.alloc(), (&masks.0, &masks.1))?;
+        Ok(())
+    }
+
+    fn stay(rt: &impl Abort, alloc: Global, masks: (&Mask, &Mask)) -> Result<(), MaskError> {
+        same(rt, masks.0.len(), masks.1.len());
+        lists(rt, &alive(alloc, masks.0, masks.1)?, "1001");
+        Ok(())
+    }
+
+    #[test]
+    fn without_the_deleted(rt: HostRuntime) -> Result<(), Fail> {
+        let masks = (Mask::new_true(4), mask(rt.alloc(), "0110")?);
+        stay(&rt, rt.alloc(), (&masks.0, &masks.1))?;
+        Ok(())
+    }
+}
