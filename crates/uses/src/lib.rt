@@ -23,8 +23,8 @@ pub mod reads;
 pub mod row_groups;
 pub mod selected;
 pub mod stacks;
+#[cfg(test)]
+mod tests;
 pub mod validity;
 pub mod walks;
 pub mod words;
-#[cfg(test)]
-mod tests;

@@ -156,7 +156,10 @@ impl fmt::Debug for Steps {
     fn fmt<W: fmt::Write>(&self, f: &mut fmt::Formatter<W>) -> fmt::Result {
         let (deposits, words, selections) = (self.deposits, self.words, self.selections);
         let (offered, placed, spots) = (self.offered, self.placed, self.spots);
-        write!(f, "deposits={deposits}, words={words}, selections={selections}")?;
+        write!(
+            f,
+            "deposits={deposits}, words={words}, selections={selections}"
+        )?;
         write!(f, ", offered={offered}, placed={placed}, spots={spots}")
     }
 }

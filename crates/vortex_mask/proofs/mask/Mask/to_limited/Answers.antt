@@ -39,4 +39,3 @@ returns-clause-variant c =
     let made = values c.in_ok-first_true.field-0 in
     let some : 0 < length made = omega (arith, c.if-k-true_count.false, c.true_count.ensures, count-le-length m, ap length c.in_ok-first_true.ensures, length-limited m c.args.k) in
     IfOk-both c.from_buffer.result _ _ _ (λ kept. variant-kept (variant c.args.self.now) kept made some) c.from_buffer.ensures.list c.from_buffer.ensures.variant
-
