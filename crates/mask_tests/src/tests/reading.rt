@@ -101,7 +101,7 @@ fn ascend(rt: &impl Abort, indices: &[usize])
     assert!(rt; indices.is_sorted());
 }
 
-fn counts(
+pub(super) fn counts(
     rt: &impl Abort,
     alloc: Global,
     mask: &Mask,

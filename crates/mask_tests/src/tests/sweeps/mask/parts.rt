@@ -1,6 +1,7 @@
 // Parts, limits, chosen rows, counts and buffers of a mask, beside a plain list.
 use super::super::plain::{Plain, has_words, is_list};
 use super::calls::Case;
+use crate::tests::reading::counts;
 use std::alloc::Global;
 use std::process::Abort;
 use vortex_mask::{Mask, MaskError};
@@ -21,11 +22,10 @@ fn limits(rt: &impl Abort, alloc: Global, mask: &Mask, case: &Case) -> Result<()
     Ok(())
 }
 
+// Below each value, and below the end.
 fn counts_below(rt: &impl Abort, alloc: Global, mask: &Mask, case: &Case) -> Result<(), MaskError> {
     let indices: Vec<usize> = (0..=mask.len()).collect(alloc)?;
-    let counts = mask.valid_counts_for_indices(alloc, &indices)?;
-    assert!(rt; counts.as_slice() == case.counts.as_slice());
-    Ok(())
+    counts(rt, alloc, mask, &indices, &case.counts)
 }
 
 fn chooses(rt: &impl Abort, alloc: Global, mask: &Mask, plain: &Plain) -> Result<(), MaskError> {
