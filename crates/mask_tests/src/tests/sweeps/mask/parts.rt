@@ -14,12 +14,24 @@ fn slices(rt: &impl Abort, alloc: Global, mask: &Mask, case: &Case) -> Result<()
     Ok(())
 }
 
+// Of the mask lent, and of a clone taken by value.
+fn limits_to(
+    rt: &impl Abort,
+    alloc: Global,
+    mask: &Mask,
+    k: usize,
+    want: &Plain,
+) -> Result<(), MaskError> {
+    is_list(rt, &mask.to_limited(alloc, k)?, want);
+    is_list(rt, &mask.clone()?.limit(alloc, k)?, want);
+    Ok(())
+}
+
 fn limits(rt: &impl Abort, alloc: Global, mask: &Mask, case: &Case) -> Result<(), MaskError> {
     for (k, want) in &case.limited {
-        is_list(rt, &mask.clone()?.limit(alloc, *k)?, want);
+        limits_to(rt, alloc, mask, *k, want)?;
     }
-    is_list(rt, &mask.clone()?.limit(alloc, usize::MAX)?, &case.plain);
-    Ok(())
+    limits_to(rt, alloc, mask, usize::MAX, &case.plain)
 }
 
 // Below each value, and below the end.

@@ -41,6 +41,7 @@ fn and_nots(
     want: &Plain,
 ) -> Result<(), MaskError> {
     assert!(rt; a.len() == b.len());
+    is_list(rt, &a.to_bitand_not(alloc, b)?, want);
     is_list(rt, &a.clone()?.bitand_not(alloc, b)?, want);
     Ok(())
 }
@@ -133,6 +134,13 @@ fn concats(rt: &impl Abort, alloc: Global, mask: &Mask, plain: &Plain) -> Result
     Ok(())
 }
 
+// So are its groups.
+fn groups(rt: &impl Abort, alloc: Global, mask: &Mask, plain: &Plain) -> Result<(), MaskError> {
+    let groups = mask.groups(alloc, 65)?;
+    is_list(rt, &Mask::from_masks(alloc, groups.into_iter())?, plain);
+    Ok(())
+}
+
 // Each call on the mask and another.
 pub(super) fn joins_as(
     rt: &impl Abort,
@@ -146,9 +154,14 @@ pub(super) fn joins_as(
 }
 
 fn joins_parts(rt: &impl Abort, alloc: Global, mask: &Mask, case: &Case) -> Result<(), MaskError> {
-    negates(rt, alloc, mask, case)?;
+    joins_groups(rt, alloc, mask, case)?;
     compares(rt, alloc, mask, &case.plain)?;
     joins_ranks(rt, alloc, mask, case)
+}
+
+fn joins_groups(rt: &impl Abort, alloc: Global, mask: &Mask, case: &Case) -> Result<(), MaskError> {
+    negates(rt, alloc, mask, case)?;
+    groups(rt, alloc, mask, &case.plain)
 }
 
 fn joins_ranks(rt: &impl Abort, alloc: Global, mask: &Mask, case: &Case) -> Result<(), MaskError> {
