@@ -9,9 +9,9 @@ ghost use Rattle.mask_c.specs.Bitmap.{bitmap};
 
 use mask_bits::counts::count_bits;
 use mask_bits::{BitChunks, laws};
-use vortex_mask::intersect_by_rank::rank_words::narrow_at_ranks;
-use vortex_mask::intersect_by_rank::words::narrow_by_bits;
-use vortex_mask::intersect_by_rank::{Portable, PortableLoop, RankBits};
+use vortex_mask::intersect_by_rank::{
+    Portable, PortableLoop, RankBits, narrow_at_ranks, narrow_by_bits,
+};
 
 /// Writes the bitmap narrowed by another over its true values: true value number `k` stays true
 /// exactly where value `k` of `ranks` is true.

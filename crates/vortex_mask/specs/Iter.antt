@@ -5,10 +5,10 @@ use Rattle.std.specs.Option.{option_to_list}
 use Rattle.mask_bits.specs.Positions.{repeated}
 use Rattle.vortex_mask.specs.declared.mask.iter.MaskBoolIter.{MaskBoolIter}
 use Rattle.vortex_mask.specs.declared.mask.iter.MaskBoolIter.TheVariants.{Repeat, Bits}
-use Rattle.vortex_mask.specs.declared.mask.set_indices.MaskSetIndices.{MaskSetIndices}
-use Rattle.vortex_mask.specs.declared.mask.set_indices.MaskSetIndices.TheVariants as set_indices
-use Rattle.vortex_mask.specs.declared.mask.set_slices.MaskSetSlices.{MaskSetSlices}
-use Rattle.vortex_mask.specs.declared.mask.set_slices.MaskSetSlices.TheVariants as set_slices
+use Rattle.vortex_mask.specs.declared.mask.iter.MaskSetIndices.{MaskSetIndices}
+use Rattle.vortex_mask.specs.declared.mask.iter.MaskSetIndices.TheVariants as set_indices
+use Rattle.vortex_mask.specs.declared.mask.iter.MaskSetSlices.{MaskSetSlices}
+use Rattle.vortex_mask.specs.declared.mask.iter.MaskSetSlices.TheVariants as set_slices
 
 -- the values that it has still to give, in their order
 abbrev pub values_left : MaskBoolIter → List Bool

@@ -7,8 +7,8 @@ use Rattle.vortex_mask.specs.Mask.{Variant, all_true, all_false, mixed, truth, v
 use Rattle.vortex_mask.specs.MaskValues.{Caches, keeping, with_indices, with_ranges}
 use Rattle.vortex_mask.specs.declared.mask.all_or.AllOr.{AllOr}
 use Rattle.vortex_mask.specs.declared.mask.all_or.AllOr.TheVariants.{All, None, Some}
-use Rattle.vortex_mask.specs.declared.mask.lend.MaskIter.{MaskIter}
-use Rattle.vortex_mask.specs.declared.mask.lend.MaskIter.TheVariants.{Indices, Slices}
+use Rattle.vortex_mask.specs.declared.mask.cached.MaskIter.{MaskIter}
+use Rattle.vortex_mask.specs.declared.mask.cached.MaskIter.TheVariants.{Indices, Slices}
 use Rattle.vortex_mask.specs.declared.mask.Mask.{Mask}
 
 -- of each den values at least num are true, taken over the whole list

@@ -1,16 +1,11 @@
-mod by_path;
-mod bytewise;
+//! Rank intersection: a mask narrowed by a mask over its true values.
+
 mod deposit;
-mod driven;
-pub mod driven_words;
-mod indices;
 mod kernels;
 mod path;
 mod rank_bits;
-pub mod rank_words;
 mod select;
 mod steps;
-pub mod words;
 
 ghost use Rattle.std.specs.Prelude.{◌≡◌, ◌≢◌, ◌<◌, ◌⊎◌, ◌∷◌, IsOk, IfOk, All, fold, map, length, IsOkUnless, alloc_error};
 ghost use Rattle.vortex_mask.specs.Mask.{truth, variant, fitting_variant, variant_and, all_false, mixed, caches};
@@ -20,16 +15,18 @@ ghost use Rattle.vortex_mask.specs.Path.{narrowed_caches, AreNarrowingSteps};
 
 use crate::laws;
 use crate::mask::{Mask, MaskError};
-use by_path::narrow_by_path;
-pub use bytewise::deposit_bytewise;
-pub use deposit::{DepositBits, Portable, PortableLoop, deposit_two_holes, deposit_two_lowest};
-pub use driven::intersect_mask_driven;
-pub use indices::intersect_by_rank_indices;
-pub use kernels::{intersect_bit_buffer_by_rank_indices, intersect_bit_buffers};
+pub use deposit::{
+    DepositBits, Portable, PortableLoop, deposit_bytewise, deposit_two_holes, deposit_two_lowest,
+};
+pub use kernels::{
+    intersect_bit_buffer_by_rank_indices, intersect_bit_buffers, intersect_by_rank_indices,
+    intersect_mask_driven, narrow_at_ranks, narrow_by_bits, places_at_ranks,
+};
+use path::narrow_by_path;
 pub use path::{RankPath, rank_path};
 pub use rank_bits::RankBits;
 pub use select::SelectBit;
-use std::alloc::{AllocError, Global};
+use std::alloc::Global;
 pub use steps::Steps;
 
 impl Mask {
@@ -149,16 +146,4 @@ impl Mask {
             }
         }
     }
-}
-
-// The entries of `places` at `ranks`, in the order of `ranks`.
-fn taken_at(alloc: Global, places: &[usize], ranks: &[usize]) -> Result<Vec<usize>, AllocError>
-    requires { All (λ k. k < length places.now) ranks.now }
-    ensures { IfOk result (λ kept. kept.items ≡ at_places places.now ranks.now) }
-{
-    let mut kept = Vec::with_capacity(alloc, ranks.len())?;
-    for rank in ranks {
-        kept.push(places[*rank])?;
-    }
-    Ok(kept)
 }

@@ -2,7 +2,6 @@
 #![tactic(auto)]
 
 mod bitops;
-mod choose;
 mod eq;
 pub mod intersect_by_rank;
 pub mod laws;

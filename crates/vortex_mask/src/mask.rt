@@ -1,47 +1,34 @@
 //! Masks: lists of truth values that say which rows are chosen.
 
-ghost use Rattle.std.specs.Prelude.{◌≡◌, ◌≢◌, ◌+◌, ◌<◌, ◌↔◌, [], true, false, if◌then◌else◌, IsTrue, IsOk, IfOk, Some, length, All, slice_get, IsOkUnless, alloc_error, IfErr};
-ghost use Rattle.std.specs.Iterator.{UpTo, Drains};
-ghost use Rattle.std.specs.Iterator.Runs.{WholeRun};
-ghost use Rattle.std.specs.Option.{option_copied, option_map};
-ghost use Rattle.vortex_mask.specs.AllOr.{all_or_copied, IsListOf};
-ghost use Rattle.mask_bits.specs.Buffer.{values};
-ghost use Rattle.vortex_mask.specs.Mask.{truth, variant, fitting_variant, all_true, all_false, mixed, IsUniform, contents, held_buffer, caches, where_mixed};
-ghost use Rattle.vortex_mask.specs.MaskValues.{no_caches, AreOf};
-ghost use Rattle.mask_bits.specs.Positions.{positions, count};
-ghost use Rattle.vortex_mask.specs.declared.mask.Mask.TheVariants.{AllTrue};
-
 mod all_or;
+mod cached;
 mod concat;
-mod debug;
-mod display;
+mod convert;
 mod error;
 mod fraction;
-mod from_excluded;
 mod from_indices;
-mod from_intersection;
 mod from_slices;
-mod groups;
-mod index_fault;
 mod iter;
-mod lend;
-mod parts;
-mod places;
-mod set_indices;
-mod set_slices;
-mod to_buffer;
+mod slice;
 mod values;
 
+ghost use Rattle.std.specs.Prelude.{◌≡◌, ◌≢◌, ◌+◌, ◌<◌, ◌↔◌, [], true, false, if◌then◌else◌, IsTrue, IsOk, IfOk, Some, length, All, slice_get, IsOkUnless, alloc_error, ◌-◌, ◌≤◌, IfSome, map, ◌*◌};
+ghost use Rattle.std.specs.Option.{option_copied};
+ghost use Rattle.std.specs.List.Sorted.{IsNonDecreasing};
+ghost use Rattle.mask_bits.specs.Buffer.{values};
+ghost use Rattle.vortex_mask.specs.Mask.{truth, variant, all_true, all_false, mixed, contents, caches};
+ghost use Rattle.mask_bits.specs.Positions.{positions, count, count_below};
+ghost use Rattle.vortex_mask.specs.declared.mask.Mask.TheVariants.{AllTrue};
+ghost use Rattle.vortex_mask.specs.Fraction.{share, share_by_variant};
+
 pub use all_or::AllOr;
+pub use cached::MaskIter;
 pub use error::MaskError;
 pub use fraction::Fraction;
-pub use iter::MaskBoolIter;
-pub use lend::MaskIter;
+pub use iter::{MaskBoolIter, MaskSetIndices, MaskSetSlices};
 use mask_bits::BitBuffer;
-pub use set_indices::MaskSetIndices;
-pub use set_slices::MaskSetSlices;
-use std::alloc::Global;
-use std::rc::Rc;
+use std::alloc::{AllocError, Global};
+use std::fmt;
 pub use values::{MaskValues, MaskValuesRef};
 
 /// Which rows of a column are chosen: a list of truth values, one for each row.
@@ -66,7 +53,30 @@ impl Default for Mask {
     }
 }
 
-/// Constructors.
+impl fmt::Debug for Mask {
+    fn fmt<W: fmt::Write>(&self, f: &mut fmt::Formatter<W>) -> fmt::Result {
+        match self {
+            Mask::AllTrue(len) => write!(f, "All true({len})"),
+            Mask::AllFalse(len) => write!(f, "All false({len})"),
+            Mask::Values(values) => values.as_ref().fmt(f),
+        }
+    }
+}
+
+/// The values in their order, `1` for true and `0` for false, and `-` for a mask with no values.
+impl fmt::Display for Mask {
+    fn fmt<W: fmt::Write>(&self, f: &mut fmt::Formatter<W>) -> fmt::Result {
+        if self.is_empty() {
+            return f.write_str("-");
+        }
+        for is_true in self.iter() {
+            f.write_str(if is_true { "1" } else { "0" })?;
+        }
+        Ok(())
+    }
+}
+
+/// Masks of one value, and clones.
 impl Mask {
     /// `len` values, each of them `value`.
     pub fn new(len: usize, value: bool) -> Mask
@@ -93,57 +103,6 @@ impl Mask {
         Mask::AllFalse(len)
     }
 
-    /// The values of a buffer. An empty one gives `AllFalse(0)`.
-    pub fn from_buffer(alloc: Global, buffer: BitBuffer) -> Result<Mask, MaskError>
-        ensures list { IfOk result (λ m. truth m ≡ values buffer) }
-        ensures variant { IfOk result (λ m. variant m ≡ fitting_variant all_false (values buffer)) }
-        ensures caches { IfOk result (λ m. caches m ≡ no_caches) }
-        ensures uniform { IsUniform (values buffer) → IsOk result }
-        ensures refused { IsOkUnless result (MaskError.Memory alloc_error) }
-    {
-        Mask::of_buffer(alloc, buffer, None)
-    }
-
-    // The values of a buffer, which keep these ranges, its runs, where they are mixed.
-    fn of_buffer(
-        alloc: Global,
-        buffer: BitBuffer,
-        ranges: Option<Vec<(usize, usize)>>,
-    ) -> Result<Mask, MaskError>
-        requires { AreOf (values buffer) (record { indices = None; ranges = option_map (λ l. l.items) ranges }) }
-        ensures list { IfOk result (λ m. truth m ≡ values buffer) }
-        ensures variant { IfOk result (λ m. variant m ≡ fitting_variant all_false (values buffer)) }
-        ensures caches { IfOk result (λ m. caches m
-            ≡ where_mixed m (record { indices = None; ranges = option_map (λ l. l.items) ranges })) }
-        ensures uniform { IsUniform (values buffer) → IsOk result }
-        ensures refused { IsOkUnless result (MaskError.Memory alloc_error) }
-    {
-        let len = buffer.len();
-        let true_count = buffer.true_count();
-        if true_count == 0 {
-            return Ok(Mask::AllFalse(len));
-        }
-        if true_count == len {
-            return Ok(Mask::AllTrue(len));
-        }
-        let values = MaskValues::new(buffer, true_count, None, ranges);
-        Ok(Mask::Values(Rc::new(alloc, values)?))
-    }
-
-    /// The values that an iterator yields, in their order. No values give `AllFalse(0)`.
-    pub fn from_bools<I: Iterator<Item = bool>>(alloc: Global, bools: I) -> Result<Mask, MaskError>
-        requires can { I.can_next bools }
-        requires ends { UpTo (I.remaining bools) usize.MAX }
-        ensures list { IfOk result (λ m. Drains I.next_gives bools (truth m)) }
-        ensures runs { IfOk result (λ m. WholeRun I.next_gives bools (λ p. truth m ≡ p.items)) }
-        ensures variant { IfOk result (λ m. variant m ≡ fitting_variant all_false (truth m)) }
-        ensures caches { IfOk result (λ m. caches m ≡ no_caches) }
-        ensures refused { IsOkUnless result (MaskError.Memory alloc_error) }
-    {
-        let buffer = BitBuffer::from_bools(alloc, bools)?;
-        Mask::from_buffer(alloc, buffer)
-    }
-
     /// The same mask, with the lists that this one has cached.
     pub fn clone(&self) -> Result<Mask, MaskError>
         ensures list { IfOk result (λ m. truth m ≡ truth self.now) }
@@ -159,10 +118,7 @@ impl Mask {
             Mask::Values(values) => Ok(Mask::Values(values.clone()?)),
         }
     }
-}
 
-/// Changes.
-impl Mask {
     /// Becomes `AllFalse(0)`. The old values are given up.
     pub fn clear(&mut self)
         ensures { self.new ≡ Mask.AllFalse 0 }
@@ -248,18 +204,6 @@ impl Mask {
         }
     }
 
-    /// `All`, `None` or the packed values, by variant.
-    pub fn bit_buffer(&self) -> AllOr<&BitBuffer>
-        ensures held { all_or_copied result ≡ held_buffer self.now }
-        ensures list { IsListOf result (truth self.now) }
-    {
-        match self {
-            Mask::AllTrue(_) => AllOr::All,
-            Mask::AllFalse(_) => AllOr::None,
-            Mask::Values(values) => AllOr::Some(values.bit_buffer()),
-        }
-    }
-
     /// The values inside `Values`.
     pub fn values(&self) -> Option<&MaskValues>
         ensures { option_copied result ≡ contents self.now }
@@ -269,4 +213,91 @@ impl Mask {
             Mask::Values(values) => Some(values.as_ref()),
         }
     }
+}
+
+/// The true values by their indices.
+#[tactic(auto, using(crate::proofs::ReadingLemmas::end_facts))]
+impl Mask {
+    /// The place of the first true value, if there is one.
+    pub fn first(&self) -> Option<usize>
+        ensures place { result ≡ slice_get (positions (truth self.now)) 0 }
+        ensures within { IfSome result (λ p. p < length (truth self.now)) }
+    {
+        match self {
+            Mask::AllTrue(len) => (*len > 0).then_some(0),
+            Mask::AllFalse(_) => None,
+            Mask::Values(values) => values.bit_buffer().select(0),
+        }
+    }
+
+    /// The place of the last true value, if there is one.
+    pub fn last(&self) -> Option<usize>
+        ensures place { result
+            ≡ slice_get (positions (truth self.now)) (count (truth self.now) - 1) }
+        ensures within { IfSome result (λ p. p < length (truth self.now)) }
+    {
+        match self {
+            Mask::AllTrue(len) => len.checked_sub(1),
+            Mask::AllFalse(_) => None,
+            Mask::Values(values) => values.bit_buffer().last_set_index(),
+        }
+    }
+
+    /// For each index the number of true values below it. Values are counted once for all indices,
+    /// up to the last of them.
+    pub fn valid_counts_for_indices(
+        &self,
+        alloc: Global,
+        indices: &[usize],
+    ) -> Result<Vec<usize>, MaskError>
+        requires ascending { IsNonDecreasing indices.now }
+        requires within { All (λ i. i ≤ length (truth self.now)) indices.now }
+        ensures counts { IfOk result
+            (λ v. v.items ≡ map (count_below (truth self.now)) indices.now) }
+        ensures refused { IsOkUnless result (MaskError.Memory alloc_error) }
+    {
+        match self {
+            Mask::AllTrue(_) => Ok(Vec::from_slice(alloc, indices)?),
+            Mask::AllFalse(_) => Ok(vec![in alloc; 0; indices.len()]?),
+            Mask::Values(values) => Ok(counts_below(alloc, values.bit_buffer(), indices)?),
+        }
+    }
+}
+
+#[tactic(auto, using(crate::proofs::ReadingLemmas::one_value_facts))]
+impl Mask {
+    /// The share of true values: 1/1 of `AllTrue`, 0/1 of `AllFalse`, also where they are empty, and
+    /// else the true count over the length.
+    pub fn density(&self) -> Fraction
+        ensures by_variant { result ≡ share_by_variant self.now }
+        ensures share { result.num * length (truth self.now) ≡ count (truth self.now) * result.den }
+        ensures positive { 0 < result.den }
+    {
+        match self {
+            Mask::AllTrue(_) => Fraction { num: 1, den: 1 },
+            Mask::AllFalse(_) => Fraction { num: 0, den: 1 },
+            Mask::Values(values) => values.density(),
+        }
+    }
+}
+
+// For each index the number of true values below it, by a count that runs from one to the next.
+fn counts_below(
+    alloc: Global,
+    buffer: &BitBuffer,
+    indices: &[usize],
+) -> Result<Vec<usize>, AllocError>
+    requires ascending { IsNonDecreasing indices.now }
+    requires within { All (λ i. i ≤ length (values buffer.now)) indices.now }
+    ensures { IfOk result (λ v. v.items ≡ map (count_below (values buffer.now)) indices.now) }
+{
+    let mut counts = Vec::with_capacity(alloc, indices.len())?;
+    let mut counted_to = 0;
+    let mut count = 0;
+    for index in indices {
+        count += buffer.count_range(counted_to, *index);
+        counts.push(count)?;
+        counted_to = *index;
+    }
+    Ok(counts)
 }

@@ -1,11 +1,13 @@
 //! Deposits: the bits of one word at the set places of another.
 
+mod bytewise;
+
 ghost use Rattle.std.specs.Prelude.{ℕ, ◌≡◌, ◌<◌, ◌≤◌, ◌+◌, ◌*◌, ◌/◌, ◌%◌, ◌^◌};
 ghost use Rattle.mask_bits.specs.Positions.{count};
 ghost use Rattle.mask_bits.specs.Words.{word_bits};
 ghost use Rattle.vortex_mask.specs.Deposit.{Deposits};
 
-use super::bytewise::deposit_bytewise;
+pub use bytewise::deposit_bytewise;
 
 /// A way to deposit the low bits of a word at the set places of a mask word.
 pub trait DepositBits {

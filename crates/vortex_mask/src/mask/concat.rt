@@ -1,4 +1,6 @@
-ghost use Rattle.std.specs.Prelude.{◌≡◌, ◌≢◌, ◌+◌, ◌<◌, ◌≤◌, ◌^◌, ◌⊎◌, ◌++◌, [], IsOk, IfOk, IfErr, OnOk, OnErr, All, Some, None, MatchOption, true, false, ◌↔◌, IsTrue, Bool, List, map, alloc_error, length};
+//! Masks one after another.
+
+ghost use Rattle.std.specs.Prelude.{◌≡◌, ◌+◌, ◌<◌, ◌≤◌, ◌^◌, ◌⊎◌, ◌++◌, IfOk, IfErr, OnOk, Some, MatchOption, true, false, ◌↔◌, IsTrue, List, map, alloc_error, length};
 ghost use Rattle.std.specs.Borrow.{Bor};
 ghost use Rattle.std.specs.Iterator.{IsFinite, Drains};
 ghost use Rattle.std.specs.Iterator.Runs.{WholeRun};

@@ -1,20 +1,25 @@
-ghost use Rattle.std.specs.Prelude.{◌≡◌, ◌+◌, ◌<◌, ◌≤◌, ◌≢◌, ◌⊎◌, IsOk, IfOk, IfErr, All, Some, None, Ok, Err, length, vec_len, IsOkUnless, alloc_error, ℕ, List};
-ghost use Rattle.std.specs.Iterator.{IsFinite, Drains};
-ghost use Rattle.std.specs.Iterator.Runs.{WholeRun};
-ghost use Rattle.std.specs.List.Sorted.{IsStrictlyIncreasing};
-ghost use Rattle.mask_bits.specs.Buffer.{values};
-ghost use Rattle.mask_bits.specs.Positions.{positions, true_at};
-ghost use Rattle.vortex_mask.specs.Faults.{index_fault};
-ghost use Rattle.vortex_mask.specs.Mask.{truth, variant, fitting_variant, all_false, caches, where_mixed};
-ghost use Rattle.vortex_mask.specs.MaskValues.{kept_indices};
+//! Masks from indices, and what is wrong with a list of them.
 
-use crate::mask::index_fault::index_fault;
+ghost use Rattle.std.specs.Prelude.{◌≡◌, ◌+◌, ◌<◌, ◌≤◌, ◌≢◌, ◌⊎◌, IsOk, IfOk, IfErr, All, Some, None, Ok, Err, length, vec_len, IsOkUnless, alloc_error, ℕ, List, true, false, slice_set};
+ghost use Rattle.std.specs.Iterator.{IsFinite, Drains};
+ghost use Rattle.std.specs.Iterator.Runs.{WholeRun, EachRunFrom};
+ghost use Rattle.std.specs.List.Sorted.{IsStrictlyIncreasing};
+ghost use Rattle.std.specs.Option.{option_or};
+ghost use Rattle.mask_bits.specs.Buffer.{values};
+ghost use Rattle.mask_bits.specs.Positions.{positions, true_at, repeated};
+ghost use Rattle.vortex_mask.specs.Faults.{index_fault, first_unsorted, first_repeated, out_of_bounds, first_past, common};
+ghost use Rattle.vortex_mask.specs.Mask.{truth, variant, fitting_variant, all_false, caches, where_mixed, all_true};
+ghost use Rattle.vortex_mask.specs.MaskValues.{kept_indices, no_caches};
+ghost use Rattle.mask_bits.specs.Lists.{not_of};
+ghost use Rattle.vortex_mask.specs.Ascending.{IsAscending};
+
 use crate::mask::{Mask, MaskError, MaskValues, MaskValuesRef};
-use mask_bits::BitBuffer;
-use std::alloc::Global;
+use mask_bits::{BitBuffer, BitBufferMut};
+use std::alloc::{AllocError, Global};
+use std::cmp::Ordering;
 use std::rc::Rc;
 
-/// A mask of true places.
+/// Masks of true indices.
 impl Mask {
     /// The mask of `len` values that is true exactly at the places that an iterator yields, each
     /// above the one before it. Where both true and false values are there, it keeps the places.
@@ -110,4 +115,221 @@ fn of_some_indices(
     let buffer = BitBuffer::from_indices(alloc, len, &indices)?;
     let values = MaskValues::new(buffer, true_count, Some(indices), None);
     Ok(Rc::new(alloc, values)?)
+}
+
+// Order over the whole list first, then repeats, then bounds.
+fn index_fault(len: usize, indices: &[usize]) -> Option<MaskError>
+    ensures { result ≡ index_fault len indices.now }
+{
+    if let Some(at) = first_unsorted(indices) {
+        return Some(MaskError::UnsortedIndices { at });
+    }
+    if let Some(at) = first_repeated(indices) {
+        return Some(MaskError::RepeatedIndex { at });
+    }
+    out_of_bounds(len, indices)
+}
+
+// The first place whose index is below the one before it.
+fn first_unsorted(indices: &[usize]) -> Option<usize>
+    ensures { result ≡ first_unsorted indices.now }
+{
+    for at in 1..indices.len() {
+        if indices[at] < indices[at - 1] {
+            return Some(at);
+        }
+    }
+    None
+}
+
+// The first place whose index equals the one before it.
+fn first_repeated(indices: &[usize]) -> Option<usize>
+    ensures { result ≡ first_repeated indices.now }
+{
+    for at in 1..indices.len() {
+        if indices[at] == indices[at - 1] {
+            return Some(at);
+        }
+    }
+    None
+}
+
+// The first index that is not below the length.
+fn out_of_bounds(len: usize, indices: &[usize]) -> Option<MaskError>
+    ensures { result ≡ out_of_bounds len indices.now }
+{
+    for index in indices {
+        if *index >= len {
+            return Some(MaskError::IndexOutOfBounds { index: *index, len });
+        }
+    }
+    None
+}
+
+/// Masks of false indices.
+impl Mask {
+    /// The mask of `len` values that is false exactly at the places that an iterator yields, in
+    /// any order and with repeats. No values give `AllTrue(0)`.
+    ///
+    /// The values are made first, so `Memory` may come before the other refusal:
+    /// `IndexOutOfBounds` for the first place, as the iterator has them, that is not below `len`.
+    pub fn from_excluded_indices<I: Iterator<Item = usize>>(
+        alloc: Global,
+        len: usize,
+        indices: I,
+    ) -> Result<Mask, MaskError>
+        requires can { I.can_next indices }
+        requires ends { IsFinite (I.remaining indices) }
+        ensures list { IfOk result (λ m. (xs : List ℕ) × Drains I.next_gives indices xs
+            × (out_of_bounds len xs ≡ None) × (truth m ≡ not_of (true_at len xs))) }
+        ensures runs { IfOk result (λ m. WholeRun I.next_gives indices
+            (λ p. (out_of_bounds len p.items ≡ None) × (truth m ≡ not_of (true_at len p.items)))) }
+        ensures variant { IfOk result (λ m. variant m ≡ fitting_variant all_true (truth m)) }
+        ensures caches { IfOk result (λ m. caches m ≡ no_caches) }
+
+        // A refusal is the fault of what the iterator yielded, or want of memory.
+        ensures refused { IfErr result (λ e. (e ≡ MaskError.Memory alloc_error)
+            ⊎ ((xs : List ℕ) × Drains I.next_gives indices xs × (out_of_bounds len xs ≡ Some e))) }
+        ensures refused_runs { IfErr result (λ e. (e ≡ MaskError.Memory alloc_error)
+            ⊎ WholeRun I.next_gives indices (λ p. out_of_bounds len p.items ≡ Some e)) }
+    {
+        let mut kept = BitBufferMut::new_set(alloc, len)?;
+        if let Some(index) = exclude(&mut kept, indices) {
+            return Err(MaskError::IndexOutOfBounds { index, len });
+        }
+        Mask::of_kept(alloc, kept)
+    }
+
+    // The mask of these values. No values give `AllTrue(0)`.
+    fn of_kept(alloc: Global, kept: BitBufferMut) -> Result<Mask, MaskError>
+        ensures list { IfOk result (λ m. truth m ≡ kept) }
+        ensures variant { IfOk result (λ m. variant m ≡ fitting_variant all_true (truth m)) }
+        ensures caches { IfOk result (λ m. caches m ≡ no_caches) }
+        ensures refused { IfErr result (λ e. e ≡ MaskError.Memory alloc_error) }
+    {
+        if kept.len() == 0 {
+            return Ok(Mask::AllTrue(0));
+        }
+        let kept = kept.freeze()?;
+        Mask::from_buffer(alloc, kept)
+    }
+}
+
+// Makes the values at these places false, and tells the first place that is past the end.
+fn exclude<I: Iterator<Item = usize>>(kept: &mut BitBufferMut, indices: I) -> Option<usize>
+    requires can { I.can_next indices }
+    requires ends { IsFinite (I.remaining indices) }
+    requires all { kept.old ≡ repeated (length kept.old) true }
+    ensures { (xs : List ℕ) × Drains I.next_gives indices xs
+        × (kept.new ≡ not_of (true_at (length kept.old) xs))
+        × (result ≡ first_past (length kept.old) xs) }
+{
+    let mut past_end = None;
+    for index in indices {
+        past_end = exclude_one(kept, index, past_end);
+    }
+    past_end
+}
+
+// Makes one value false, or notes that its place is past the end where none was noted yet.
+fn exclude_one(kept: &mut BitBufferMut, index: usize, past_end: Option<usize>) -> Option<usize>
+    ensures within { index < length kept.old
+        → (kept.new ≡ slice_set kept.old index false) × (result ≡ past_end) }
+    ensures past { length kept.old ≤ index
+        → (kept.new ≡ kept.old) × (result ≡ option_or past_end (Some index)) }
+{
+    if index < kept.len() {
+        kept.unset(index);
+        return past_end;
+    }
+    past_end.or(Some(index))
+}
+
+/// Masks of the indices that two lists have in common.
+impl Mask {
+    /// The mask of `len` values that is true exactly at the places that both iterators yield, each
+    /// in ascending order. Where both true and false values are there, it keeps the places.
+    ///
+    /// A place that only one of them yields is dropped, past `len` too. The iterators are read to
+    /// their ends first, so `Memory` may come before the other refusal: `IndexOutOfBounds` for the
+    /// first place in common that is not below `len`.
+    pub fn from_intersection_indices<L: Iterator<Item = usize>, R: Iterator<Item = usize>>(
+        alloc: Global,
+        len: usize,
+        lhs: L,
+        rhs: R,
+    ) -> Result<Mask, MaskError>
+        requires can_lhs { L.can_next lhs }
+        requires can_rhs { R.can_next rhs }
+        requires lhs_ends { IsFinite (L.remaining lhs) }
+        requires rhs_ends { IsFinite (R.remaining rhs) }
+        requires lhs_ascends { EachRunFrom L.next_gives lhs IsAscending }
+        requires rhs_ascends { EachRunFrom R.next_gives rhs IsAscending }
+        ensures len { IfOk result (λ m. length (truth m) ≡ len) }
+        ensures indices { IfOk result (λ m. (xs : List ℕ) × (ys : List ℕ)
+            × Drains L.next_gives lhs xs × Drains R.next_gives rhs ys
+            × (positions (truth m) ≡ common xs ys)) }
+        ensures runs { IfOk result (λ m. WholeRun L.next_gives lhs
+            (λ p. WholeRun R.next_gives rhs (λ q. positions (truth m) ≡ common p.items q.items))) }
+        ensures within { IfOk result (λ m. out_of_bounds len (positions (truth m)) ≡ None) }
+        ensures variant { IfOk result (λ m. variant m ≡ fitting_variant all_false (truth m)) }
+        ensures caches { IfOk result
+            (λ m. caches m ≡ where_mixed m (kept_indices (positions (truth m)))) }
+
+        // A refusal is the fault of what the iterators yielded, or want of memory.
+        ensures refused { IfErr result (λ e. (e ≡ MaskError.Memory alloc_error)
+            ⊎ ((xs : List ℕ) × (ys : List ℕ)
+            × Drains L.next_gives lhs xs × Drains R.next_gives rhs ys
+            × (out_of_bounds len (common xs ys) ≡ Some e))) }
+        ensures refused_runs { IfErr result (λ e. (e ≡ MaskError.Memory alloc_error)
+            ⊎ WholeRun L.next_gives lhs (λ p. WholeRun R.next_gives rhs
+            (λ q. out_of_bounds len (common p.items q.items) ≡ Some e))) }
+    {
+        let lhs: Vec<usize> = lhs.collect(alloc)?;
+        let rhs: Vec<usize> = rhs.collect(alloc)?;
+        Mask::of_common(alloc, len, &lhs, &rhs)
+    }
+
+    // The same of two lists.
+    #[tactic(auto, using(crate::proofs::FaultLemmas::within_faultless))]
+    fn of_common(alloc: Global, len: usize, lhs: &[usize], rhs: &[usize]) -> Result<Mask, MaskError>
+        requires lhs { IsStrictlyIncreasing lhs.now }
+        requires rhs { IsStrictlyIncreasing rhs.now }
+        ensures len { IfOk result (λ m. length (truth m) ≡ len) }
+        ensures indices { IfOk result (λ m. positions (truth m) ≡ common lhs.now rhs.now) }
+        ensures within { IfOk result (λ m. out_of_bounds len (common lhs.now rhs.now) ≡ None) }
+        ensures variant { IfOk result (λ m. variant m ≡ fitting_variant all_false (truth m)) }
+        ensures caches { IfOk result
+            (λ m. caches m ≡ where_mixed m (kept_indices (common lhs.now rhs.now))) }
+        ensures refused { IfErr result (λ e. (e ≡ MaskError.Memory alloc_error)
+            ⊎ (out_of_bounds len (common lhs.now rhs.now) ≡ Some e)) }
+    {
+        let indices = common(alloc, lhs, rhs)?;
+        if let Some(fault) = out_of_bounds(len, &indices) {
+            return Err(fault);
+        }
+        Mask::of_indices(alloc, len, indices)
+    }
+}
+
+// The indices that both lists have.
+fn common(alloc: Global, lhs: &[usize], rhs: &[usize]) -> Result<Vec<usize>, AllocError>
+    requires lhs { IsStrictlyIncreasing lhs.now }
+    requires rhs { IsStrictlyIncreasing rhs.now }
+    ensures { IfOk result (λ both. both.items ≡ common lhs.now rhs.now) }
+{
+    let mut both = Vec::new(alloc);
+    let (mut i, mut j) = (0, 0);
+    while i < lhs.len() && j < rhs.len() {
+        match lhs[i].cmp(&rhs[j]) {
+            Ordering::Less => i += 1,
+            Ordering::Greater => j += 1,
+            Ordering::Equal => {
+                both.push(lhs[i])?;
+                i += 1;
+                j += 1;
+            }
+        }
+    }
+    Ok(both)
 }

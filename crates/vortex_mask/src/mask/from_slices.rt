@@ -1,10 +1,12 @@
-ghost use Rattle.std.specs.Prelude.{◌≡◌, ◌<◌, ◌≤◌, ◌^◌, ◌⊎◌, if◌then◌else◌, IsOk, IfOk, IfErr, OnOk, IfSome, All, Some, None, Ok, Err, alloc_error, IsOkUnless, length, nat_eq, List, Bool};
+//! Masks from ranges, and what is wrong with a list of them.
+
+ghost use Rattle.std.specs.Prelude.{◌≡◌, ◌<◌, ◌^◌, ◌⊎◌, if◌then◌else◌, IsOk, IfOk, IfErr, OnOk, IfSome, All, Some, None, Ok, Err, alloc_error, IsOkUnless, length, nat_eq, List, Bool};
+ghost use Rattle.vortex_mask.specs.Faults as faults;
 ghost use Rattle.mask_bits.specs.Buffer.{values};
 ghost use Rattle.mask_bits.specs.RunScan.{runs};
 ghost use Rattle.mask_bits.specs.Runs.{AreRanges};
-ghost use Rattle.vortex_mask.specs.Faults as faults;
 ghost use Rattle.vortex_mask.specs.Faults.{range_fault};
-ghost use Rattle.vortex_mask.specs.Mask.{truth, variant, fitting_variant, all_false, caches, where_mixed, IsUniform};
+ghost use Rattle.vortex_mask.specs.Mask.{truth, variant, fitting_variant, all_false, caches, where_mixed};
 ghost use Rattle.vortex_mask.specs.MaskValues.{kept_ranges};
 ghost use Rattle.vortex_mask.specs.Ranges.{places_held};
 
@@ -45,26 +47,6 @@ impl Mask {
             return Err(fault);
         }
         Mask::of_ranges(alloc, len, ranges)
-    }
-
-    /// The values of a buffer, whose true places these ranges hold. Where some values are true and
-    /// some are not the mask keeps its maximal ranges: those that touch are merged, in the memory
-    /// that came with them. An empty buffer gives `AllFalse(0)`.
-    pub fn from_buffer_with_slices(
-        alloc: Global,
-        buffer: BitBuffer,
-        mut ranges: Vec<(usize, usize)>,
-    ) -> Result<Mask, MaskError>
-        requires { AreRanges (values buffer) ranges.items }
-        ensures list { IfOk result (λ m. truth m ≡ values buffer) }
-        ensures variant { IfOk result (λ m. variant m ≡ fitting_variant all_false (values buffer)) }
-        ensures caches { IfOk result
-            (λ m. caches m ≡ where_mixed m (kept_ranges (runs (values buffer)))) }
-        ensures uniform { IsUniform (values buffer) → IsOk result }
-        ensures refused { IsOkUnless result (MaskError.Memory alloc_error) }
-    {
-        merge_touching(&mut ranges);
-        Mask::of_buffer(alloc, buffer, Some(ranges))
     }
 
     // The mask of ranges in which no fault was found.
@@ -123,7 +105,7 @@ fn neighbours_fault(ranges: &[(usize, usize)]) -> Option<MaskError>
 }
 
 // Merges ranges that touch, in place: what held exactly the true places of a list is its runs then.
-fn merge_touching(ranges: &mut Vec<(usize, usize)>)
+pub(super) fn merge_touching(ranges: &mut Vec<(usize, usize)>)
     ensures runs { (m : List Bool) → AreRanges m ranges.old.items → ranges.new.items ≡ runs m }
 {
     ranges.dedup_by(lengthens);

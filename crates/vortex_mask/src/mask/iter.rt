@@ -1,12 +1,18 @@
-ghost use Rattle.std.specs.Prelude.{◌≡◌, ◌<◌, ◌^◌, length, IfSome, Some};
+//! Walks over a mask that is only lent: its values, true indices and runs.
+
+ghost use Rattle.std.specs.Prelude.{◌≡◌, ◌<◌, ◌^◌, length, IfSome, Some, All, true};
 ghost use Rattle.std.specs.Iterator.{YieldsFirst, UpTo, item_count};
 ghost use Rattle.std.specs.Iterator.Runs.{YieldsInOrder};
 ghost use Rattle.std.specs.Iterator.SizeHint.{IsWithinCount};
-ghost use Rattle.vortex_mask.specs.Iter.{values_left};
+ghost use Rattle.std.specs.List.Sorted.{IsStrictlyIncreasing};
+ghost use Rattle.std.specs.Option.{option_to_list};
+ghost use Rattle.vortex_mask.specs.Iter.{values_left, indices_left, ranges_left};
 ghost use Rattle.vortex_mask.specs.Mask.{truth};
+ghost use Rattle.mask_bits.specs.Positions.{positions, repeated};
+ghost use Rattle.mask_bits.specs.Runs.{AreRuns};
 
 use crate::mask::Mask;
-use mask_bits::BitIterator;
+use mask_bits::{BitIterator, SetIndices, SetSlices};
 
 /// The values of a mask, in their order.
 #[derive(Drop)]
@@ -73,4 +79,105 @@ impl Mask {
             remaining: self.len(),
         }
     }
+}
+
+/// The indices of a mask's true values, ascending.
+#[derive(Drop)]
+pub enum MaskSetIndices<'a> {
+    /// Each index from `next` on, before `end`.
+    Range { next: usize, end: usize },
+    /// Those that are left of a buffer.
+    Bits(SetIndices<'a>),
+}
+
+impl Iterator for MaskSetIndices<'_> {
+    type Item = usize;
+
+    ghost next_gives = { YieldsFirst indices_left };
+
+    ghost remaining = { item_count indices_left };
+
+    fn next(&mut self) -> Option<usize> {
+        match self {
+            MaskSetIndices::Range { next, end } => {
+                if *next >= *end {
+                    return None;
+                }
+                let index = *next;
+                *next += 1;
+                Some(index)
+            }
+            MaskSetIndices::Bits(bits) => bits.next(),
+        }
+    }
+}
+
+#[tactic(auto, using(crate::proofs::WalkLemmas::index_walks))]
+impl Mask {
+    /// The indices of the true values, ascending, of a mask that is only lent. No list is made or
+    /// cached.
+    pub fn set_indices(&self) -> MaskSetIndices<'_>
+        ensures indices { indices_left result ≡ positions (truth self.now) }
+        ensures in_order { YieldsInOrder (YieldsFirst indices_left) indices_left }
+        ensures ascending { IsStrictlyIncreasing (indices_left result) }
+        ensures within { All (λ i. i < length (truth self.now)) (indices_left result) }
+        ensures fits { length (indices_left result) < 2 ^ 64 }
+    {
+        match self {
+            Mask::AllTrue(len) => MaskSetIndices::Range { next: 0, end: *len },
+            Mask::AllFalse(_) => MaskSetIndices::Range { next: 0, end: 0 },
+            Mask::Values(values) => MaskSetIndices::Bits(values.bit_buffer().set_indices()),
+        }
+    }
+}
+
+/// The runs of a mask's true values, ascending, each by its first index and the index past its last.
+#[derive(Drop)]
+pub enum MaskSetSlices<'a> {
+    /// One run, if it is still to come.
+    Whole(Option<(usize, usize)>),
+    /// Those that are left of a buffer.
+    Bits(SetSlices<'a>),
+}
+
+impl Iterator for MaskSetSlices<'_> {
+    type Item = (usize, usize);
+
+    ghost next_gives = { YieldsFirst ranges_left };
+
+    ghost remaining = { item_count ranges_left };
+
+    fn next(&mut self) -> Option<(usize, usize)> {
+        match self {
+            MaskSetSlices::Whole(run) => run.take(),
+            MaskSetSlices::Bits(bits) => bits.next(),
+        }
+    }
+}
+
+#[tactic(auto, using(crate::proofs::WalkLemmas::range_walks))]
+impl Mask {
+    /// The runs of the true values, ascending, of a mask that is only lent. No list is made or
+    /// cached.
+    pub fn set_slices(&self) -> MaskSetSlices<'_>
+        ensures runs { AreRuns (truth self.now) (ranges_left result) }
+        ensures in_order { YieldsInOrder (YieldsFirst ranges_left) ranges_left }
+        ensures fits { length (ranges_left result) < 2 ^ 64 }
+    {
+        match self {
+            Mask::AllTrue(len) => MaskSetSlices::Whole(whole_run(*len)),
+            Mask::AllFalse(_) => MaskSetSlices::Whole(None),
+            Mask::Values(values) => MaskSetSlices::Bits(values.bit_buffer().set_slices()),
+        }
+    }
+}
+
+// The run of so many true values, if there are any.
+fn whole_run(len: usize) -> Option<(usize, usize)>
+    ensures { AreRuns (repeated len true) (option_to_list result) }
+{
+    if len == 0 {
+        return None;
+    }
+    Some((0, len))
 }

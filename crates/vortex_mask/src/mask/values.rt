@@ -1,13 +1,21 @@
-ghost use Rattle.std.specs.Prelude.{◌≡◌, ◌<◌, ◌↔◌, [], IsTrue, IfOk, Some, length, slice_get, IsOkUnless, alloc_error};
+//! The values of a mask that has both true and false ones.
+
+ghost use Rattle.std.specs.Prelude.{◌≡◌, ◌<◌, ◌↔◌, [], IsTrue, IfOk, Some, length, slice_get, IsOkUnless, alloc_error, ◌*◌, IsOk, IsSome, OnErr};
 ghost use Rattle.std.specs.Option.{option_map};
+ghost use Rattle.std.specs.Borrow.{sem};
+ghost use Rattle.std.specs.Io.BufRead.{Rests};
 ghost use Rattle.mask_bits.specs.Buffer.{values};
-ghost use Rattle.mask_bits.specs.Positions.{positions, count};
-ghost use Rattle.vortex_mask.specs.MaskValues.{IsMixed, IsWhole, AreOf};
+ghost use Rattle.mask_bits.specs.Positions.{count, positions};
+ghost use Rattle.vortex_mask.specs.MaskValues.{IsMixed, IsWhole, AreOf, keeping, with_indices, with_ranges};
+ghost use Rattle.vortex_mask.specs.Fraction.{share};
+ghost use Rattle.mask_bits.specs.RunScan.{runs};
+ghost use Rattle.vortex_mask.specs.Lend.{ReachesShare, lends_ranges, IsLentOf, with_list};
+ghost use Rattle.vortex_mask.specs.contracts.mask.values.MaskValues.{the_row};
 
-mod lend;
-
-use crate::mask::MaskError;
-use mask_bits::BitBuffer;
+use crate::mask::{Fraction, MaskError, MaskIter};
+use mask_bits::{BitBuffer, laws};
+use std::alloc::{AllocError, Global};
+use std::fmt;
 use std::marker::Model;
 use std::rc::Rc;
 
@@ -34,6 +42,14 @@ impl Model for MaskValues {
     ghost view = { λ v. record { buffer = v.buffer; true_count = v.true_count; caches = record { indices = option_map (λ l. l.items) v.indices; ranges = option_map (λ l. l.items) v.slices } } };
 
     ghost invariant = { λ v. IsWhole (record { buffer = v.buffer; true_count = v.true_count; caches = record { indices = option_map (λ l. l.items) v.indices; ranges = option_map (λ l. l.items) v.slices } }) };
+}
+
+impl fmt::Debug for MaskValues {
+    fn fmt<W: fmt::Write>(&self, f: &mut fmt::Formatter<W>) -> fmt::Result {
+        let true_count = self.true_count();
+        let len = self.len();
+        write!(f, "true_count={true_count}, len={len}")
+    }
 }
 
 impl MaskValues {
@@ -134,5 +150,182 @@ impl MaskValues {
             indices: self.indices.clone()?,
             slices: self.slices.clone()?,
         })
+    }
+
+    /// The share of true values: the true count over the length.
+    pub fn density(&self) -> Fraction
+        ensures share { result ≡ share (values self.now.buffer) }
+        ensures positive { 0 < result.den }
+    {
+        Fraction {
+            num: self.true_count(),
+            den: self.len(),
+        }
+    }
+}
+
+/// Lists of the true places, made where they are not kept yet, and kept from then on.
+///
+/// Where want of memory refuses one, the values keep what they kept before.
+impl MaskValues {
+    /// The true places, ascending.
+    pub fn indices(&mut self, alloc: Global) -> Result<&[usize], MaskError>
+        ensures list { IfOk result (λ places. places.now ≡ positions (values self.old.buffer)) }
+
+        // Once the list is no longer borrowed, it is kept.
+        ensures* after { sem 𝓛 (Rests the_row self.entry (λ new.
+            IfOk result (λ places. new
+            ≡ keeping (with_indices places.now self.old.caches) self.old)
+            × OnErr result (new ≡ self.old))) }
+        ensures kept { IsSome self.old.caches.indices → IsOk result }
+        ensures refused { IsOkUnless result (MaskError.Memory alloc_error) }
+    {
+        self.cache_indices(alloc)?;
+        Ok(self.kept_indices())
+    }
+
+    /// The maximal ranges of true places, ascending. Each is its first place and the place past its
+    /// last.
+    pub fn slices(&mut self, alloc: Global) -> Result<&[(usize, usize)], MaskError>
+        ensures list { IfOk result (λ ranges. ranges.now ≡ runs (values self.old.buffer)) }
+
+        // Once the list is no longer borrowed, it is kept.
+        ensures* after { sem 𝓛 (Rests the_row self.entry (λ new.
+            IfOk result (λ ranges. new
+            ≡ keeping (with_ranges ranges.now self.old.caches) self.old)
+            × OnErr result (new ≡ self.old))) }
+        ensures kept { IsSome self.old.caches.ranges → IsOk result }
+        ensures refused { IsOkUnless result (MaskError.Memory alloc_error) }
+    {
+        self.cache_slices(alloc)?;
+        Ok(self.kept_slices())
+    }
+
+    /// The ranges of `slices` where at least `num` of each `den` values are true, taken over all
+    /// of them, else the places of `indices`. The comparison is exact.
+    pub fn threshold_iter(
+        &mut self,
+        alloc: Global,
+        num: usize,
+        den: usize,
+    ) -> Result<MaskIter<'_>, MaskError>
+        requires { 0 < den }
+        ensures threshold { IfOk result (λ lent. IsTrue (lends_ranges lent)
+            ↔ ReachesShare (values self.old.buffer) num den) }
+        ensures list { IfOk result (IsLentOf (values self.old.buffer)) }
+
+        // Once the list is no longer borrowed, it is kept.
+        ensures* after { sem 𝓛 (Rests the_row self.entry (λ new.
+            IfOk result (λ lent. new ≡ keeping (with_list lent self.old.caches) self.old)
+            × OnErr result (new ≡ self.old))) }
+        ensures kept_ranges { ReachesShare (values self.old.buffer) num den
+            → IsSome self.old.caches.ranges → IsOk result }
+        ensures kept_indices { count (values self.old.buffer) * den
+            < num * length (values self.old.buffer)
+            → IsSome self.old.caches.indices → IsOk result }
+        ensures refused { IsOkUnless result (MaskError.Memory alloc_error) }
+    {
+        if self.reaches_share(num, den) {
+            self.cache_slices(alloc)?;
+            Ok(MaskIter::Slices(self.kept_slices()))
+        } else {
+            self.cache_indices(alloc)?;
+            Ok(MaskIter::Indices(self.kept_indices()))
+        }
+    }
+
+    // Whether at least `num` of each `den` values are true.
+    pub(crate) fn reaches_share(&self, num: usize, den: usize) -> bool
+        ensures { IsTrue result ↔ ReachesShare (values self.now.buffer) num den }
+    {
+        let true_part = self.true_count as u128 * den as u128;
+        true_part >= num as u128 * self.buffer.len() as u128
+    }
+
+    // The true places, which are kept.
+    pub(crate) fn kept_indices(&self) -> &[usize]
+        requires { IsSome self.now.caches.indices }
+        ensures list { result.now ≡ positions (values self.now.buffer) }
+        ensures kept { Some result.now ≡ self.now.caches.indices }
+    {
+        self.indices.as_deref().unwrap()
+    }
+
+    // The maximal ranges, which are kept.
+    pub(crate) fn kept_slices(&self) -> &[(usize, usize)]
+        requires { IsSome self.now.caches.ranges }
+        ensures list { result.now ≡ runs (values self.now.buffer) }
+        ensures kept { Some result.now ≡ self.now.caches.ranges }
+    {
+        self.slices.as_deref().unwrap()
+    }
+
+    // Makes the list of the true places, then keeps it, where there is none.
+    fn cache_indices(&mut self, alloc: Global) -> Result<(), MaskError>
+        ensures filled { IfOk result (λ _. self.new
+            ≡ keeping (with_indices (positions (values self.old.buffer)) self.old.caches) self.old) }
+        ensures unfilled { OnErr result (self.new ≡ self.old) }
+        ensures kept { IsSome self.old.caches.indices → IsOk result }
+        ensures refused { IsOkUnless result (MaskError.Memory alloc_error) }
+    {
+        if self.indices.is_none() {
+            self.indices = Some(self.places(alloc)?);
+        }
+        Ok(())
+    }
+
+    // Makes the list of the maximal ranges, then keeps it, where there is none.
+    fn cache_slices(&mut self, alloc: Global) -> Result<(), MaskError>
+        ensures filled { IfOk result (λ _. self.new
+            ≡ keeping (with_ranges (runs (values self.old.buffer)) self.old.caches) self.old) }
+        ensures unfilled { OnErr result (self.new ≡ self.old) }
+        ensures kept { IsSome self.old.caches.ranges → IsOk result }
+        ensures refused { IsOkUnless result (MaskError.Memory alloc_error) }
+    {
+        if self.slices.is_none() {
+            self.slices = Some(self.runs(alloc)?);
+        }
+        Ok(())
+    }
+
+    // The same values with their true places kept.
+    pub(crate) fn with_indices(&self, alloc: Global) -> Result<MaskValues, MaskError>
+        ensures filled { IfOk result (λ v. v
+            ≡ keeping (with_indices (positions (values self.now.buffer)) self.now.caches) self.now) }
+        ensures refused { IsOkUnless result (MaskError.Memory alloc_error) }
+    {
+        let places = self.places(alloc)?;
+        let mut filled = self.clone()?;
+        filled.indices = Some(places);
+        Ok(filled)
+    }
+
+    // The same values with their maximal ranges kept.
+    pub(crate) fn with_slices(&self, alloc: Global) -> Result<MaskValues, MaskError>
+        ensures filled { IfOk result (λ v. v
+            ≡ keeping (with_ranges (runs (values self.now.buffer)) self.now.caches) self.now) }
+        ensures refused { IsOkUnless result (MaskError.Memory alloc_error) }
+    {
+        let runs = self.runs(alloc)?;
+        let mut filled = self.clone()?;
+        filled.slices = Some(runs);
+        Ok(filled)
+    }
+
+    // The true places, in room that is made once.
+    pub(crate) fn places(&self, alloc: Global) -> Result<Vec<usize>, AllocError>
+        ensures { IfOk result (λ places. places.items ≡ positions (values self.now.buffer)) }
+    {
+        let mut places = Vec::with_capacity(alloc, self.true_count)?;
+        places.extend(self.buffer.set_indices())?;
+        Ok(places)
+    }
+
+    // The maximal ranges of true places.
+    fn runs(&self, alloc: Global) -> Result<Vec<(usize, usize)>, AllocError>
+        ensures { IfOk result (λ ranges. ranges.items ≡ runs (values self.now.buffer)) }
+    {
+        laws::runs_are_the_list();
+        self.buffer.set_slices().collect(alloc)
     }
 }

@@ -1,0 +1,16 @@
+use Rattle.std.proofs.Common.{◌*◌, ◌%◌, ◌^◌, ap, sym, ◌∙◌, arith}
+use Rattle.mask_bits.proofs.Lists.WordLemmas.{count_below-word_bits}
+use Rattle.vortex_mask.specs.Bytes.{byte_at}
+use Rattle.vortex_mask.proofs.ByteCountLemmas.{summed_is}
+use Rattle.vortex_mask.proofs.SetPlaceLemmas.{ones_below-le}
+use Rattle.vortex_mask.proofs.intersect_by_rank.deposit.bytewise.counts_below.Goals as goal
+
+pub returns-clause-counted : goal.returns-clause-counted
+returns-clause-counted c = λ j h.
+    ap (λ ones. byte_at (c.byte_counts.result * ones % 2 ^ 64 * 2 ^ 8 % 2 ^ 64) j) c.bytes.ensures.value
+    ∙ summed_is c.byte_counts.result c.args.mask j c.byte_counts.ensures h j (omega arith)
+    ∙ sym (count_below-word_bits c.args.mask (8 * j) (omega arith))
+
+pub returns-clause-few : goal.returns-clause-few
+returns-clause-few c = λ j h.
+    omega (arith, returns-clause-counted c j h, count_below-word_bits c.args.mask (8 * j) (omega arith), ones_below-le c.args.mask (8 * j))

@@ -1,0 +1,13 @@
+use Rattle.std.proofs.Common.{◌/◌, ◌^◌, arith}
+use Rattle.std.proofs.lemmas.Nat.{and_le_r}
+use Rattle.vortex_mask.proofs.ByteCountLemmas.{half_small, halves_at}
+use Rattle.vortex_mask.proofs.intersect_by_rank.deposit.bytewise.sum_halves.Goals as goal
+
+pub overflow_add-result : goal.overflow_add-result
+overflow_add-result c =
+    let w = c.bytes-lower.result in
+    omega (arith, c.bytes-lower.ensures.value, half_small c.args.lower c.args.width c.requires.some c.requires.lower, and_le_r c.args.fields w, and_le_r (c.args.fields / 2 ^ c.args.width) w)
+
+pub returns : goal.returns
+returns c = λ j h.
+    halves_at c.args.fields c.bytes-lower.result c.args.lower c.args.width j c.requires.some c.requires.inside c.requires.lower c.bytes-lower.ensures.each h

@@ -1,0 +1,54 @@
+use Rattle.std.proofs.Common.{◌≡◌, sym, arith}
+use Rattle.mask_bits.specs.Buffer.{values}
+use Rattle.mask_bits.specs.Positions.{rank_intersection}
+use Rattle.mask_bits.specs.Words.{word_bits, padded_part}
+use Rattle.mask_bits.proofs.Lists.LawLemmas.{length-rank_intersection}
+use Rattle.mask_bits.proofs.Lists.WordLemmas.{count-word_bits}
+use Rattle.vortex_mask.proofs.WordKernelLemmas.{word-started, deposited-more, rank_bits-window, place-within, place-after_within, rank_place-fits, deposited-list, deposited-steps}
+use Rattle.vortex_mask.proofs.intersect_by_rank.kernels.bit_buffers.narrow_by_bits.Goals as goal
+
+pub read-source-requires : goal.read-source-requires
+read-source-requires g c =
+    let a = c.args.chunks.now in
+    rank_place-fits a c.args.ranks.now c.loop-i.at c.requires.fitting (place-within a c.loop-i.i c.loop-i.at c.loop-i.invariant.place) c.requires.within.fits
+
+pub deposit-kept-requires-clause-counted : goal.deposit-kept-requires-clause-counted
+deposit-kept-requires-clause-counted g c = sym (count-word_bits c.word-mask.result (omega arith))
+
+pub overflow_add-at : goal.overflow_add-at
+overflow_add-at g c =
+    let a = c.args.chunks.now in
+    let counted = sym (count-word_bits c.word-mask.result (omega arith)) in
+    let shows : word_bits c.word-mask.result ≡ padded_part a c.loop-i.i
+    = word-started a c.loop-i.i c.word-mask.result (omega (arith, c.loop-i-test.true, c.requires.room, c.loop-i.auto.out)) c.word-mask.ensures.whole c.word-mask.ensures.last in
+    let within = place-after_within a c.loop-i.i c.loop-i.at c.word-mask.result _ c.loop-i.invariant.place shows counted in
+    let fits = rank_place-fits a c.args.ranks.now _ c.requires.fitting within c.requires.within.fits in
+    omega arith
+
+pub loop-i-preserved : goal.loop-i-preserved
+loop-i-preserved g c =
+    let a = c.args.chunks.now in
+    let ranks = c.args.ranks.now in
+    let i = c.loop-i.i in
+    let at = c.loop-i.at in
+    let shows : word_bits c.word-mask.result ≡ padded_part a i
+    = word-started a i c.word-mask.result (omega (arith, c.loop-i-test.true, c.requires.room, c.loop-i.auto.out)) c.word-mask.ensures.whole c.word-mask.ensures.last in
+    deposited-more a (values ranks) i at c.read-source.result c.word-mask.result _ c.deposit-kept.result c.loop-i.out c.set_word.new.bytes
+    c.loop-i.steps c.word-mask.new.self c.deposit-kept.new.self c.requires.fitting c.loop-i.invariant shows
+    (sym (count-word_bits c.word-mask.result (omega arith)))
+    (rank_bits-window a ranks i at c.read-source.result c.word-mask.result c.requires.fitting c.loop-i.invariant.place shows c.read-source.ensures)
+    c.deposit-kept.ensures.deposited c.set_word.ensures.here c.set_word.ensures.others c.word-mask.ensures.ticked c.deposit-kept.ensures.ticked
+
+pub returns-clause-list : goal.returns-clause-list
+returns-clause-list g c =
+    let a = c.args.chunks.now in
+    let r = rank_intersection a (values c.args.ranks.now) in
+    deposited-list a r c.loop-i.i c.loop-i.at c.loop-i.out c.loop-i.steps (length-rank_intersection a (values c.args.ranks.now))
+    (omega (arith, c.loop-i-test.false, c.requires.room, c.loop-i.auto.out, c.loop-i.auto.i-end)) c.loop-i.invariant
+
+pub returns-clause-steps : goal.returns-clause-steps
+returns-clause-steps g c =
+    let a = c.args.chunks.now in
+    let r = rank_intersection a (values c.args.ranks.now) in
+    deposited-steps a r c.loop-i.i c.loop-i.at c.loop-i.out c.loop-i.steps (length-rank_intersection a (values c.args.ranks.now))
+    (omega (arith, c.loop-i-test.false, c.requires.room, c.loop-i.auto.out, c.loop-i.auto.i-end)) c.loop-i.invariant

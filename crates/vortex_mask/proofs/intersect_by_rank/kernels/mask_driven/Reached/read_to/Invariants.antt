@@ -1,0 +1,15 @@
+use Rattle.std.proofs.Common.{◌≡◌, ◌+◌, ◌-◌, ◌*◌, ◌≤◌, length, count_ones}
+use Rattle.vortex_mask.specs.Ranks.{HasRead}
+use Rattle.vortex_mask.proofs.intersect_by_rank.kernels.mask_driven.Reached.read_to.Given as goal
+
+-- the words so far, and the true values up to the end of the last
+abbrev pub invariant-loop-end : goal.invariant-loop-end
+invariant-loop-end l = record {
+  read : HasRead l.chunks l.self.words l.self.word l.self.before;
+  ends : l.end ≡ l.self.before + count_ones l.self.word;
+  reached : l.self.before ≤ l.rank;
+  ticked : l.steps ≡ record l.fn.steps { words = l.self.words };
+}
+
+abbrev pub decreases-loop-end : goal.decreases-loop-end
+decreases-loop-end l = length l.chunks - 64 * l.self.words

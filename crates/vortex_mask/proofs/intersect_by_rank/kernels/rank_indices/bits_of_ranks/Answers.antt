@@ -1,0 +1,24 @@
+use Rattle.std.proofs.Common.{◌-◌, ◌<◌, get_or, arith}
+use Rattle.vortex_mask.specs.Ranks.{AreSplit}
+use Rattle.vortex_mask.proofs.RankWordLemmas.{gathered-none, gathered-more, gathered-split, gathered-bits, pow_in_word}
+use Rattle.vortex_mask.proofs.intersect_by_rank.kernels.rank_indices.bits_of_ranks.Goals as goal
+
+pub loop-next-init : goal.loop-next-init
+loop-next-init c = gathered-none c.args.ranks.now c.args.at c.args.end c.args.next.now c.requires.ordered c.requires.from
+
+pub loop-next-preserved : goal.loop-next-preserved
+loop-next-preserved c =
+    let few : get_or c.args.ranks.now c.loop-next.next 0 - c.args.at < 64 = omega (arith, c.if-ranks-next.true, c.requires.few) in
+    gathered-more c.args.ranks.now c.args.at c.args.end c.loop-next.next c.loop-next.bits _ c.loop-next-test.true c.if-ranks-next.true
+    (pow_in_word (get_or c.args.ranks.now c.loop-next.next 0 - c.args.at) few) c.loop-next.invariant
+
+pub returns-else-ranks-next-clause-bits : goal.returns-else-ranks-next-clause-bits
+returns-else-ranks-next-clause-bits c =
+    let ranks = c.args.ranks.now in
+    let split : AreSplit ranks c.loop-next.next c.args.end
+    = gathered-split ranks c.args.at c.args.end c.loop-next.next c.loop-next.bits c.requires.ascending (λ h. c.if-ranks-next.false) c.loop-next.invariant in
+    gathered-bits ranks c.args.at c.args.end c.loop-next.next c.loop-next.bits c.requires.few split c.loop-next.invariant
+
+pub returns-else-ranks-next-clause-passed : goal.returns-else-ranks-next-clause-passed
+returns-else-ranks-next-clause-passed c =
+    gathered-split c.args.ranks.now c.args.at c.args.end c.loop-next.next c.loop-next.bits c.requires.ascending (λ h. c.if-ranks-next.false) c.loop-next.invariant

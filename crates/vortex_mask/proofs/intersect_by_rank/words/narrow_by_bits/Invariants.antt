@@ -1,8 +1,0 @@
-use Rattle.mask_bits.specs.Buffer.{values}
-use Rattle.mask_bits.specs.Positions.{rank_intersection}
-use Rattle.vortex_mask.proofs.WordKernelLemmas.{IsDeposited}
-use Rattle.vortex_mask.proofs.intersect_by_rank.words.narrow_by_bits.Given as goal
-
--- the words before took their deposits
-abbrev pub invariant-loop-i : goal.invariant-loop-i
-invariant-loop-i g l = IsDeposited l.chunks (rank_intersection l.chunks (values l.ranks)) l.i l.at l.out l.steps

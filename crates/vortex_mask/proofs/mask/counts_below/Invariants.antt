@@ -1,0 +1,12 @@
+use Rattle.std.proofs.Common.{ℕ, ◌≡◌, ◌<◌, ◌≤◌, length, map, take, get_or}
+use Rattle.mask_bits.specs.Buffer.{values}
+use Rattle.mask_bits.specs.Positions.{count_below}
+use Rattle.vortex_mask.proofs.mask.counts_below.Given as goal
+
+-- the counts so far, of which the last runs on, and no index to come is below where it stands
+abbrev pub invariant-loop-index : goal.invariant-loop-index
+invariant-loop-index l = record {
+  counts : l.counts.items ≡ map (count_below (values l.buffer)) (take l.index-index l.indices);
+  count : l.count ≡ count_below (values l.buffer) l.counted_to;
+  behind : (k : ℕ) → l.index-index ≤ k → k < length l.indices → l.counted_to ≤ get_or l.indices k 0;
+}

@@ -1,0 +1,69 @@
+//! The kernel over two bit buffers: one deposit for each started word.
+
+ghost use Rattle.std.specs.Prelude.{◌≡◌, ◌*◌, ◌<◌, IfOk, IsOkUnless, alloc_error, length};
+ghost use Rattle.mask_bits.specs.Buffer.{values, IsWithinBytes};
+ghost use Rattle.mask_bits.specs.Positions.{count, rank_intersection};
+ghost use Rattle.vortex_mask.specs.Mask.{truth, variant, fitting_variant, all_false, caches};
+ghost use Rattle.vortex_mask.specs.MaskValues.{no_caches};
+ghost use Rattle.vortex_mask.specs.Steps.{word_steps};
+ghost use Rattle.mask_bits.specs.Words.{started_words};
+
+use super::of_words;
+use crate::intersect_by_rank::{DepositBits, RankBits, Steps};
+use crate::mask::{Mask, MaskError};
+use mask_bits::words::set_word;
+use mask_bits::{BitBuffer, BitChunks};
+use std::alloc::Global;
+
+/// The values of one buffer narrowed by those of another, of which `true_count` are true. Each
+/// started word of the first takes one deposit.
+pub fn intersect_bit_buffers<D: DepositBits>(
+    alloc: Global,
+    self_buffer: &BitBuffer,
+    mask_buffer: &BitBuffer,
+    true_count: usize,
+) -> Result<(Mask, Steps), MaskError>
+    requires fitting { length (values mask_buffer.now) ≡ count (values self_buffer.now) }
+    requires counted { true_count ≡ count (values mask_buffer.now) }
+    ensures list { IfOk result (λ r.
+        truth r.0 ≡ rank_intersection (values self_buffer.now) (values mask_buffer.now)) }
+    ensures variant { IfOk result (λ r. variant r.0 ≡ fitting_variant all_false (truth r.0)) }
+    ensures caches { IfOk result (λ r. caches r.0 ≡ no_caches) }
+    ensures steps { IfOk result (λ r. r.1 ≡ word_steps (values self_buffer.now) (truth r.0)) }
+    ensures refused { IsOkUnless result (MaskError.Memory alloc_error) }
+{
+    let len = self_buffer.len();
+    let mut words = vec![in alloc; 0u8; 8 * len.div_ceil(64)]?;
+    let ranks = RankBits::new(mask_buffer);
+    let steps = narrow_by_bits::<D>(&self_buffer.chunks(), &ranks, &mut words);
+    Ok((of_words(alloc, words, len, true_count)?, steps))
+}
+
+/// Writes the values of `chunks` narrowed by those of `ranks` to `out`, which has just the bytes of
+/// the started words, and answers the steps.
+pub fn narrow_by_bits<D: DepositBits>(
+    chunks: &BitChunks<'_>,
+    ranks: &RankBits<'_>,
+    out: &mut [u8],
+) -> Steps
+    requires fitting { length (values ranks.now) ≡ count chunks.now }
+    requires within { IsWithinBytes ranks.now.bytes ranks.now.offset ranks.now.len }
+    requires room { length out.old ≡ 8 * started_words (length chunks.now) }
+    ensures list { values (record { bytes = out.new; offset = 0; len = length chunks.now })
+        ≡ rank_intersection chunks.now (values ranks.now) }
+    ensures steps { result
+        ≡ word_steps chunks.now (rank_intersection chunks.now (values ranks.now)) }
+{
+    let mut steps = Steps::new();
+    // the next rank bit is the one after those of all true values so far
+    let mut at = 0usize;
+    for i in 0..out.len() / 8 {
+        let mask = steps.word(chunks, i);
+        let ones = mask.count_ones() as usize;
+        let source = ranks.read(at);
+        let kept = steps.deposit::<D>(source, mask, ones);
+        set_word(out, i, kept);
+        at += ones;
+    }
+    steps
+}

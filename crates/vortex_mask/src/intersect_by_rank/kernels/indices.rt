@@ -1,0 +1,50 @@
+//! The kernel over two lists of indices.
+
+ghost use Rattle.std.specs.Prelude.{◌≡◌, ◌<◌, IfOk, IsOkUnless, All, alloc_error, length};
+ghost use Rattle.std.specs.List.Sorted.{IsStrictlyIncreasing};
+ghost use Rattle.mask_bits.specs.Positions.{positions, at_places};
+ghost use Rattle.vortex_mask.specs.Mask.{truth, variant, fitting_variant, all_false, caches, where_mixed};
+ghost use Rattle.vortex_mask.specs.MaskValues.{kept_indices};
+ghost use Rattle.vortex_mask.specs.Steps.{no_steps};
+
+use crate::intersect_by_rank::Steps;
+use crate::mask::{Mask, MaskError};
+use std::alloc::{AllocError, Global};
+
+/// The mask of `len` values whose true places are `self_indices` taken at `mask_indices`, which it
+/// keeps. No word is read and none is deposited.
+pub fn intersect_by_rank_indices(
+    alloc: Global,
+    len: usize,
+    self_indices: &[usize],
+    mask_indices: &[usize],
+) -> Result<(Mask, Steps), MaskError>
+    requires self_ascending { IsStrictlyIncreasing self_indices.now }
+    requires self_within { All (λ i. i < len) self_indices.now }
+    requires mask_ascending { IsStrictlyIncreasing mask_indices.now }
+    requires mask_within { All (λ k. k < length self_indices.now) mask_indices.now }
+    ensures len { IfOk result (λ r. length (truth r.0) ≡ len) }
+    ensures true_indices { IfOk result
+        (λ r. positions (truth r.0) ≡ at_places self_indices.now mask_indices.now) }
+    ensures variant { IfOk result (λ r. variant r.0 ≡ fitting_variant all_false (truth r.0)) }
+    ensures caches { IfOk result (λ r. caches r.0
+        ≡ where_mixed r.0 (kept_indices (at_places self_indices.now mask_indices.now))) }
+    ensures steps { IfOk result (λ r. r.1 ≡ no_steps) }
+    ensures refused { IsOkUnless result (MaskError.Memory alloc_error) }
+{
+    let kept = taken_at(alloc, self_indices, mask_indices)?;
+    let mask = Mask::of_indices(alloc, len, kept)?;
+    Ok((mask, Steps::new()))
+}
+
+// The entries of `places` at `ranks`, in the order of `ranks`.
+fn taken_at(alloc: Global, places: &[usize], ranks: &[usize]) -> Result<Vec<usize>, AllocError>
+    requires { All (λ k. k < length places.now) ranks.now }
+    ensures { IfOk result (λ kept. kept.items ≡ at_places places.now ranks.now) }
+{
+    let mut kept = Vec::with_capacity(alloc, ranks.len())?;
+    for rank in ranks {
+        kept.push(places[*rank])?;
+    }
+    Ok(kept)
+}

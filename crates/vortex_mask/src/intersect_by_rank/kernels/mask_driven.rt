@@ -1,0 +1,157 @@
+//! The kernel that goes by the numbers of the true values that stay: one selection for each, in words
+//! that are read in turn.
+
+ghost use Rattle.std.specs.Prelude.{◌≡◌, ◌≤◌, ℕ, List, IfOk, IsOkUnless, alloc_error, length, ◌+◌, ◌*◌, ◌<◌, ◌^◌, ◌%◌, Some, count_ones, slice_get};
+ghost use Rattle.std.specs.Iterator.{IsFinite, Drains};
+ghost use Rattle.std.specs.Iterator.Runs.{EachRunFrom, WholeRun};
+ghost use Rattle.std.specs.List.{sum_by};
+ghost use Rattle.mask_bits.specs.Buffer.{values};
+ghost use Rattle.mask_bits.specs.Positions.{positions, count, at_places};
+ghost use Rattle.mask_bits.specs.Words.{started_words};
+ghost use Rattle.vortex_mask.specs.Mask.{truth, variant, fitting_variant, all_false, caches, where_mixed};
+ghost use Rattle.vortex_mask.specs.MaskValues.{kept_indices};
+ghost use Rattle.vortex_mask.specs.Ranks.{AreRanks, HasRead};
+ghost use Rattle.vortex_mask.specs.Steps.{driven_steps};
+
+use crate::intersect_by_rank::{SelectBit, Steps};
+use crate::mask::{Mask, MaskError};
+use mask_bits::{BitBuffer, BitChunks};
+use std::alloc::{AllocError, Global};
+
+/// The values of a buffer narrowed to the true ones whose numbers `mask_indices` yields, ascending,
+/// `true_count` of them. It keeps their places.
+///
+/// Takes one selection for each number. A word of the buffer is read only once a number lies past
+/// the words read so far, and none is read again, so this is the kernel for few numbers. No word is
+/// deposited.
+pub fn intersect_mask_driven<S: SelectBit, I: Iterator<Item = usize>>(
+    alloc: Global,
+    self_buffer: &BitBuffer,
+    mask_indices: I,
+    true_count: usize,
+) -> Result<(Mask, Steps), MaskError>
+    requires can { I.can_next mask_indices }
+    requires ends { IsFinite (I.remaining mask_indices) }
+    requires ranks { EachRunFrom I.next_gives mask_indices
+        (AreRanks (count (values self_buffer.now)) true_count) }
+    ensures len { IfOk result (λ r. length (truth r.0) ≡ length (values self_buffer.now)) }
+    ensures true_indices { IfOk result (λ r. (xs : List ℕ) × Drains I.next_gives mask_indices xs
+        × (positions (truth r.0) ≡ at_places (positions (values self_buffer.now)) xs)) }
+    ensures runs { IfOk result (λ r. WholeRun I.next_gives mask_indices
+        (λ p. positions (truth r.0) ≡ at_places (positions (values self_buffer.now)) p.items)) }
+    ensures counted { IfOk result (λ r. count (truth r.0) ≡ true_count) }
+    ensures variant { IfOk result (λ r. variant r.0 ≡ fitting_variant all_false (truth r.0)) }
+    ensures caches { IfOk result
+        (λ r. caches r.0 ≡ where_mixed r.0 (kept_indices (positions (truth r.0)))) }
+    ensures words { IfOk result
+        (λ r. r.1.words ≤ started_words (length (values self_buffer.now))) }
+    ensures steps { IfOk result (λ r. r.1 ≡ driven_steps r.1.words true_count (truth r.0)) }
+    ensures refused { IsOkUnless result (MaskError.Memory alloc_error) }
+{
+    let len = self_buffer.len();
+    let (places, steps) = places_at_ranks::<S, I>(
+        alloc,
+        &self_buffer.chunks(),
+        mask_indices,
+        true_count,
+    )?;
+    Ok((Mask::of_indices(alloc, len, places)?, steps))
+}
+
+/// The places of the true values of `chunks` whose numbers are `ranks`, `true_count` of them, and
+/// the steps.
+pub fn places_at_ranks<S: SelectBit, I: Iterator<Item = usize>>(
+    alloc: Global,
+    chunks: &BitChunks<'_>,
+    ranks: I,
+    true_count: usize,
+) -> Result<(Vec<usize>, Steps), AllocError>
+    requires fits { length chunks.now < 2 ^ 64 }
+    requires can { I.can_next ranks }
+    requires ends { IsFinite (I.remaining ranks) }
+    requires ranks { EachRunFrom I.next_gives ranks (AreRanks (count chunks.now) true_count) }
+    ensures places { IfOk result (λ r. WholeRun I.next_gives ranks
+        (λ p. r.0.items ≡ at_places (positions chunks.now) p.items)) }
+    ensures words { IfOk result (λ r. r.1.words ≤ started_words (length chunks.now)) }
+    ensures steps { IfOk result (λ r. r.1 ≡ record {
+      deposits = 0;
+      words = r.1.words;
+      selections = true_count;
+      offered = 0;
+      placed = 0;
+      spots = sum_by (λ p. p % 64) r.0.items;
+    }) }
+{
+    let mut places = Vec::with_capacity(alloc, true_count)?;
+    let mut steps = Steps::new();
+    let mut reached = Reached {
+        words: 0,
+        word: 0,
+        before: 0,
+    };
+    for rank in ranks {
+        places.push(reached.place_of::<S>(chunks, &mut steps, rank))?;
+    }
+    Ok((places, steps))
+}
+
+// How far the words have been read.
+#[derive(Drop)]
+struct Reached {
+    // how many words
+    words: usize,
+    // the last of them
+    word: u64,
+    // how many true values stand before it
+    before: usize,
+}
+
+impl Reached {
+    // The place of true value number `rank`, which doesn't stand before the last word. Reads on
+    // until it is in the last word.
+    fn place_of<S: SelectBit>(
+        &mut self,
+        chunks: &BitChunks<'_>,
+        steps: &mut Steps,
+        rank: usize,
+    ) -> usize
+        requires fits { length chunks.now < 2 ^ 64 }
+        requires read { HasRead chunks.now self.old.words self.old.word self.old.before }
+        requires ticked { steps.old.words ≡ self.old.words }
+        requires room { steps.old.selections < usize.MAX }
+        requires ahead { self.old.before ≤ rank }
+        requires there { rank < count chunks.now }
+        ensures place { slice_get (positions chunks.now) rank ≡ Some result }
+        ensures read { HasRead chunks.now self.new.words self.new.word self.new.before }
+        ensures reached { self.new.before ≤ rank }
+        ensures ticked { steps.new ≡ record steps.old {
+          words = self.new.words;
+          selections = steps.old.selections + 1;
+          spots = steps.old.spots + result % 64;
+        } }
+    {
+        self.read_to(chunks, steps, rank);
+        64 * (self.words - 1) + steps.select::<S>(self.word, rank - self.before)
+    }
+
+    // Reads on until true value number `rank` is in the last word.
+    fn read_to(&mut self, chunks: &BitChunks<'_>, steps: &mut Steps, rank: usize)
+        requires fits { length chunks.now < 2 ^ 64 }
+        requires read { HasRead chunks.now self.old.words self.old.word self.old.before }
+        requires ticked { steps.old.words ≡ self.old.words }
+        requires ahead { self.old.before ≤ rank }
+        requires there { rank < count chunks.now }
+        ensures read { HasRead chunks.now self.new.words self.new.word self.new.before }
+        ensures reached { self.new.before ≤ rank }
+        ensures inside { rank < self.new.before + count_ones self.new.word }
+        ensures ticked { steps.new ≡ record steps.old { words = self.new.words } }
+    {
+        let mut end = self.before + self.word.count_ones() as usize;
+        while end <= rank {
+            self.before = end;
+            self.word = steps.word(chunks, self.words);
+            self.words += 1;
+            end += self.word.count_ones() as usize;
+        }
+    }
+}

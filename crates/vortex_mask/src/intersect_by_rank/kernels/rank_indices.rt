@@ -1,0 +1,93 @@
+//! The kernel over a bit buffer and the indices of a rank mask: one deposit for each started word.
+
+ghost use Rattle.std.specs.Prelude.{◌≡◌, ◌*◌, ◌<◌, ◌≤◌, All, IfOk, IsOkUnless, alloc_error, length, ◌+◌, ◌^◌, ℕ, false, nat_eq, slice_index_or};
+ghost use Rattle.std.specs.List.Sorted.{IsStrictlyIncreasing};
+ghost use Rattle.std.specs.List.{list_any};
+ghost use Rattle.mask_bits.specs.Buffer.{values};
+ghost use Rattle.mask_bits.specs.Positions.{positions, count, at_places, true_at};
+ghost use Rattle.vortex_mask.specs.Mask.{truth, variant, fitting_variant, all_false, caches};
+ghost use Rattle.vortex_mask.specs.MaskValues.{no_caches};
+ghost use Rattle.vortex_mask.specs.Steps.{word_steps};
+ghost use Rattle.mask_bits.specs.Words.{word_bits, started_words};
+ghost use Rattle.vortex_mask.specs.Ranks.{AreSplit};
+
+use super::of_words;
+use crate::intersect_by_rank::{DepositBits, Steps};
+use crate::mask::{Mask, MaskError};
+use mask_bits::words::set_word;
+use mask_bits::{BitBuffer, BitChunks};
+use std::alloc::Global;
+
+/// The values of a buffer narrowed to the true ones whose numbers are `mask_indices`. Each started
+/// word of the buffer takes one deposit.
+pub fn intersect_bit_buffer_by_rank_indices<D: DepositBits>(
+    alloc: Global,
+    self_buffer: &BitBuffer,
+    mask_indices: &[usize],
+) -> Result<(Mask, Steps), MaskError>
+    requires ascending { IsStrictlyIncreasing mask_indices.now }
+    requires within { All (λ k. k < count (values self_buffer.now)) mask_indices.now }
+    ensures len { IfOk result (λ r. length (truth r.0) ≡ length (values self_buffer.now)) }
+    ensures true_indices { IfOk result (λ r. positions (truth r.0)
+        ≡ at_places (positions (values self_buffer.now)) mask_indices.now) }
+    ensures variant { IfOk result (λ r. variant r.0 ≡ fitting_variant all_false (truth r.0)) }
+    ensures caches { IfOk result (λ r. caches r.0 ≡ no_caches) }
+    ensures steps { IfOk result (λ r. r.1 ≡ word_steps (values self_buffer.now) (truth r.0)) }
+    ensures refused { IsOkUnless result (MaskError.Memory alloc_error) }
+{
+    let len = self_buffer.len();
+    let mut words = vec![in alloc; 0u8; 8 * len.div_ceil(64)]?;
+    let steps = narrow_at_ranks::<D>(&self_buffer.chunks(), mask_indices, &mut words);
+    Ok((of_words(alloc, words, len, mask_indices.len())?, steps))
+}
+
+/// Writes the values of `chunks` narrowed to the true ones whose numbers are `ranks` to `out`, which
+/// has just the bytes of the started words, and answers the steps.
+pub fn narrow_at_ranks<D: DepositBits>(
+    chunks: &BitChunks<'_>,
+    ranks: &[usize],
+    out: &mut [u8],
+) -> Steps
+    requires fits { length chunks.now < 2 ^ 64 }
+    requires ascending { IsStrictlyIncreasing ranks.now }
+    requires within { All (λ k. k < count chunks.now) ranks.now }
+    requires room { length out.old ≡ 8 * started_words (length chunks.now) }
+    ensures list { values (record { bytes = out.new; offset = 0; len = length chunks.now })
+        ≡ true_at (length chunks.now) (at_places (positions chunks.now) ranks.now) }
+    ensures steps { result ≡ word_steps chunks.now
+        (true_at (length chunks.now) (at_places (positions chunks.now) ranks.now)) }
+{
+    let mut steps = Steps::new();
+    let mut at = 0usize;
+    let mut next = 0usize;
+    for i in 0..out.len() / 8 {
+        let mask = steps.word(chunks, i);
+        let ones = mask.count_ones() as usize;
+        let end = at + ones;
+        let source = bits_of_ranks(ranks, &mut next, at, end);
+        let kept = steps.deposit::<D>(source, mask, ones);
+        set_word(out, i, kept);
+        at = end;
+    }
+    steps
+}
+
+// The ranks from `at` up to `end` as set bits, that of `at` lowest. Their first one is number
+// `next`, which moves past them.
+#[inline]
+fn bits_of_ranks(ranks: &[usize], next: &mut usize, at: usize, end: usize) -> u64
+    requires ascending { IsStrictlyIncreasing ranks.now }
+    requires ordered { at ≤ end }
+    requires few { end ≤ at + 64 }
+    requires from { AreSplit ranks.now next.old at }
+    ensures bits { (k : ℕ) → at + k < end
+        → slice_index_or (word_bits result) k false ≡ list_any (nat_eq (at + k)) ranks.now }
+    ensures passed { AreSplit ranks.now next.new end }
+{
+    let mut bits = 0u64;
+    while *next < ranks.len() && ranks[*next] < end {
+        bits |= 1 << (ranks[*next] - at);
+        *next += 1;
+    }
+    bits
+}

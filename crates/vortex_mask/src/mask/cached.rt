@@ -1,0 +1,175 @@
+//! Lists of the true indices and of their runs, which a mask makes once and keeps.
+
+ghost use Rattle.std.specs.Prelude.{◌≡◌, ◌≢◌, ◌*◌, ◌<◌, ◌↔◌, true, false, IsTrue, IsOk, IsSome, IfOk, OnErr, Some, length, IsOkUnless, alloc_error};
+ghost use Rattle.std.specs.Borrow.{sem};
+ghost use Rattle.std.specs.Io.BufRead.{Rests};
+ghost use Rattle.mask_bits.specs.Positions.{positions, count};
+ghost use Rattle.mask_bits.specs.RunScan.{runs};
+ghost use Rattle.vortex_mask.specs.Lend.{ReachesShare, lends_ranges, IsLentOf, with_list, lender_variant, IfLent, with_lent, IsKeeping};
+ghost use Rattle.vortex_mask.specs.Mask.{truth, variant, mixed, caches};
+ghost use Rattle.vortex_mask.specs.MaskValues.{with_indices, with_ranges};
+ghost use Rattle.vortex_mask.specs.contracts.mask.Mask.{the_row};
+ghost use Rattle.mask_bits.specs.Buffer.{values};
+
+use crate::mask::{AllOr, Mask, MaskError};
+use std::alloc::Global;
+use std::rc::Rc;
+
+/// A list of the true places of a mask: the places, or the maximal ranges that hold them.
+#[derive(Drop)]
+pub enum MaskIter<'a> {
+    /// The places, ascending.
+    Indices(&'a [usize]),
+    /// The maximal ranges, ascending, each its first place and the place past its last.
+    Slices(&'a [(usize, usize)]),
+}
+
+/// Lists of the true places, made where they are not kept yet, and kept from then on. Clones that
+/// were made before keep what they kept.
+///
+/// Where want of memory refuses a list, the mask stays as it was.
+impl Mask {
+    /// `All`, `None` or the true places, ascending, by variant.
+    pub fn indices(&mut self, alloc: Global) -> Result<AllOr<&[usize]>, MaskError>
+        ensures variant { IfOk result (λ lent. lender_variant lent ≡ variant self.old) }
+        ensures list { IfOk result (λ lent. IfLent lent
+            (λ places. places.now ≡ positions (truth self.old))) }
+
+        // Once the list is no longer borrowed, it is kept.
+        ensures* after { sem 𝓛 (Rests the_row self.entry (λ new.
+            IfOk result (λ lent. IsKeeping self.old
+            (with_lent (λ places. with_indices places.now) lent (caches self.old)) new)
+            × OnErr result (new ≡ self.old))) }
+        ensures kept { IsSome (caches self.old).indices → IsOk result }
+        ensures uniform { variant self.old ≢ mixed → IsOk result }
+        ensures refused { IsOkUnless result (MaskError.Memory alloc_error) }
+    {
+        self.fill_indices(alloc)?;
+        Ok(match self {
+            Mask::AllTrue(_) => AllOr::All,
+            Mask::AllFalse(_) => AllOr::None,
+            Mask::Values(values) => AllOr::Some(values.kept_indices()),
+        })
+    }
+
+    /// `All`, `None` or the maximal ranges of true places, ascending, by variant. Each is its first
+    /// place and the place past its last. Equal masks that are mixed lend equal ranges, however they
+    /// were made.
+    pub fn slices(&mut self, alloc: Global) -> Result<AllOr<&[(usize, usize)]>, MaskError>
+        ensures variant { IfOk result (λ lent. lender_variant lent ≡ variant self.old) }
+        ensures list { IfOk result (λ lent. IfLent lent
+            (λ ranges. ranges.now ≡ runs (truth self.old))) }
+
+        // Once the list is no longer borrowed, it is kept.
+        ensures* after { sem 𝓛 (Rests the_row self.entry (λ new.
+            IfOk result (λ lent. IsKeeping self.old
+            (with_lent (λ ranges. with_ranges ranges.now) lent (caches self.old)) new)
+            × OnErr result (new ≡ self.old))) }
+        ensures kept { IsSome (caches self.old).ranges → IsOk result }
+        ensures uniform { variant self.old ≢ mixed → IsOk result }
+        ensures refused { IsOkUnless result (MaskError.Memory alloc_error) }
+    {
+        self.fill_slices(alloc)?;
+        Ok(match self {
+            Mask::AllTrue(_) => AllOr::All,
+            Mask::AllFalse(_) => AllOr::None,
+            Mask::Values(values) => AllOr::Some(values.kept_slices()),
+        })
+    }
+
+    /// `All`, `None` or a list, by variant: the ranges of `slices` where at least `num` of each
+    /// `den` values are true, taken over the whole mask, else the places of `indices`. The
+    /// comparison is exact.
+    pub fn threshold_iter(
+        &mut self,
+        alloc: Global,
+        num: usize,
+        den: usize,
+    ) -> Result<AllOr<MaskIter<'_>>, MaskError>
+        requires { 0 < den }
+        ensures variant { IfOk result (λ lent. lender_variant lent ≡ variant self.old) }
+        ensures threshold { IfOk result (λ lent. IfLent lent (λ list. IsTrue (lends_ranges list)
+            ↔ ReachesShare (truth self.old) num den)) }
+        ensures list { IfOk result (λ lent. IfLent lent
+            (IsLentOf (truth self.old))) }
+
+        // Once the list is no longer borrowed, it is kept.
+        ensures* after { sem 𝓛 (Rests the_row self.entry (λ new.
+            IfOk result (λ lent. IsKeeping self.old
+            (with_lent with_list lent (caches self.old)) new)
+            × OnErr result (new ≡ self.old))) }
+        ensures kept_ranges { ReachesShare (truth self.old) num den
+            → IsSome (caches self.old).ranges → IsOk result }
+        ensures kept_indices { count (truth self.old) * den < num * length (truth self.old)
+            → IsSome (caches self.old).indices → IsOk result }
+        ensures uniform { variant self.old ≢ mixed → IsOk result }
+        ensures refused { IsOkUnless result (MaskError.Memory alloc_error) }
+    {
+        let by_ranges = match &*self {
+            Mask::AllTrue(_) => return Ok(AllOr::All),
+            Mask::AllFalse(_) => return Ok(AllOr::None),
+            Mask::Values(values) => values.reaches_share(num, den),
+        };
+        let filled = if by_ranges {
+            self.fill_slices(alloc)
+        } else {
+            self.fill_indices(alloc)
+        };
+        filled?;
+        Ok(AllOr::Some(self.kept_list(by_ranges)))
+    }
+
+    // The ranges that a mixed mask keeps, or the true places that it keeps.
+    fn kept_list(&self, by_ranges: bool) -> MaskIter<'_>
+        requires mixed { variant self.now ≡ mixed }
+        requires ranges { by_ranges ≡ true → IsSome (caches self.now).ranges }
+        requires indices { by_ranges ≡ false → IsSome (caches self.now).indices }
+        ensures choice { lends_ranges result ≡ by_ranges }
+        ensures list { with_list result (caches self.now) ≡ caches self.now }
+    {
+        match self {
+            Mask::Values(values) if by_ranges => MaskIter::Slices(values.kept_slices()),
+            Mask::Values(values) => MaskIter::Indices(values.kept_indices()),
+            _ => unreachable!(),
+        }
+    }
+
+    // Keeps the true places where the mask is mixed: it makes the list, a clone of the values with
+    // it and what shares them, and becomes that.
+    fn fill_indices(&mut self, alloc: Global) -> Result<(), MaskError>
+        ensures filled { IfOk result (λ _. variant self.old ≡ mixed → IsKeeping self.old
+            (with_indices (positions (truth self.old)) (caches self.old)) self.new) }
+        ensures stays { variant self.old ≢ mixed → self.new ≡ self.old }
+        ensures unfilled { OnErr result (self.new ≡ self.old) }
+        ensures kept { IsSome (caches self.old).indices → IsOk result }
+        ensures uniform { variant self.old ≢ mixed → IsOk result }
+        ensures refused { IsOkUnless result (MaskError.Memory alloc_error) }
+    {
+        if let Mask::Values(values) = self {
+            if values.cached_indices().is_none() {
+                let filled = values.with_indices(alloc)?;
+                *self = Mask::Values(Rc::new(alloc, filled)?);
+            }
+        }
+        Ok(())
+    }
+
+    // Keeps the maximal ranges where the mask is mixed, in the same way.
+    fn fill_slices(&mut self, alloc: Global) -> Result<(), MaskError>
+        ensures filled { IfOk result (λ _. variant self.old ≡ mixed → IsKeeping self.old
+            (with_ranges (runs (truth self.old)) (caches self.old)) self.new) }
+        ensures stays { variant self.old ≢ mixed → self.new ≡ self.old }
+        ensures unfilled { OnErr result (self.new ≡ self.old) }
+        ensures kept { IsSome (caches self.old).ranges → IsOk result }
+        ensures uniform { variant self.old ≢ mixed → IsOk result }
+        ensures refused { IsOkUnless result (MaskError.Memory alloc_error) }
+    {
+        if let Mask::Values(values) = self {
+            if values.cached_slices().is_none() {
+                let filled = values.with_slices(alloc)?;
+                *self = Mask::Values(Rc::new(alloc, filled)?);
+            }
+        }
+        Ok(())
+    }
+}

@@ -1,0 +1,136 @@
+//! Masks from buffers and truth values, and buffers from masks.
+
+ghost use Rattle.std.specs.Prelude.{◌≡◌, ◌<◌, true, IsOk, IfOk, Some, All, IsOkUnless, alloc_error, None, Ok, Err};
+ghost use Rattle.std.specs.Iterator.{UpTo, Drains};
+ghost use Rattle.std.specs.Iterator.Runs.{WholeRun};
+ghost use Rattle.std.specs.Option.{option_map};
+ghost use Rattle.vortex_mask.specs.AllOr.{all_or_copied, IsListOf};
+ghost use Rattle.mask_bits.specs.Buffer.{values};
+ghost use Rattle.vortex_mask.specs.Mask.{truth, variant, fitting_variant, all_false, mixed, IsUniform, held_buffer, caches, where_mixed};
+ghost use Rattle.vortex_mask.specs.MaskValues.{no_caches, AreOf, kept_ranges};
+ghost use Rattle.vortex_mask.specs.declared.mask.Mask.TheVariants.{AllTrue};
+ghost use Rattle.mask_bits.specs.RunScan.{runs};
+ghost use Rattle.mask_bits.specs.Runs.{AreRanges};
+
+use crate::mask::from_slices::merge_touching;
+use crate::mask::{AllOr, Mask, MaskError, MaskValues};
+use mask_bits::BitBuffer;
+use std::alloc::Global;
+use std::rc::Rc;
+
+/// From packed or single values.
+impl Mask {
+    /// The values of a buffer. An empty one gives `AllFalse(0)`.
+    pub fn from_buffer(alloc: Global, buffer: BitBuffer) -> Result<Mask, MaskError>
+        ensures list { IfOk result (λ m. truth m ≡ values buffer) }
+        ensures variant { IfOk result (λ m. variant m ≡ fitting_variant all_false (values buffer)) }
+        ensures caches { IfOk result (λ m. caches m ≡ no_caches) }
+        ensures uniform { IsUniform (values buffer) → IsOk result }
+        ensures refused { IsOkUnless result (MaskError.Memory alloc_error) }
+    {
+        Mask::of_buffer(alloc, buffer, None)
+    }
+
+    /// The values of a buffer, whose true places these ranges hold. Where some values are true and
+    /// some are not the mask keeps its maximal ranges: those that touch are merged, in the memory
+    /// that came with them. An empty buffer gives `AllFalse(0)`.
+    pub fn from_buffer_with_slices(
+        alloc: Global,
+        buffer: BitBuffer,
+        mut ranges: Vec<(usize, usize)>,
+    ) -> Result<Mask, MaskError>
+        requires { AreRanges (values buffer) ranges.items }
+        ensures list { IfOk result (λ m. truth m ≡ values buffer) }
+        ensures variant { IfOk result (λ m. variant m ≡ fitting_variant all_false (values buffer)) }
+        ensures caches { IfOk result
+            (λ m. caches m ≡ where_mixed m (kept_ranges (runs (values buffer)))) }
+        ensures uniform { IsUniform (values buffer) → IsOk result }
+        ensures refused { IsOkUnless result (MaskError.Memory alloc_error) }
+    {
+        merge_touching(&mut ranges);
+        Mask::of_buffer(alloc, buffer, Some(ranges))
+    }
+
+    // The values of a buffer, which keep these ranges, its runs, where they are mixed.
+    fn of_buffer(
+        alloc: Global,
+        buffer: BitBuffer,
+        ranges: Option<Vec<(usize, usize)>>,
+    ) -> Result<Mask, MaskError>
+        requires { AreOf (values buffer) (record { indices = None; ranges = option_map (λ l. l.items) ranges }) }
+        ensures list { IfOk result (λ m. truth m ≡ values buffer) }
+        ensures variant { IfOk result (λ m. variant m ≡ fitting_variant all_false (values buffer)) }
+        ensures caches { IfOk result (λ m. caches m
+            ≡ where_mixed m (record { indices = None; ranges = option_map (λ l. l.items) ranges })) }
+        ensures uniform { IsUniform (values buffer) → IsOk result }
+        ensures refused { IsOkUnless result (MaskError.Memory alloc_error) }
+    {
+        let len = buffer.len();
+        let true_count = buffer.true_count();
+        if true_count == 0 {
+            return Ok(Mask::AllFalse(len));
+        }
+        if true_count == len {
+            return Ok(Mask::AllTrue(len));
+        }
+        let values = MaskValues::new(buffer, true_count, None, ranges);
+        Ok(Mask::Values(Rc::new(alloc, values)?))
+    }
+
+    /// The values that an iterator yields, in their order. No values give `AllFalse(0)`.
+    pub fn from_bools<I: Iterator<Item = bool>>(alloc: Global, bools: I) -> Result<Mask, MaskError>
+        requires can { I.can_next bools }
+        requires ends { UpTo (I.remaining bools) usize.MAX }
+        ensures list { IfOk result (λ m. Drains I.next_gives bools (truth m)) }
+        ensures runs { IfOk result (λ m. WholeRun I.next_gives bools (λ p. truth m ≡ p.items)) }
+        ensures variant { IfOk result (λ m. variant m ≡ fitting_variant all_false (truth m)) }
+        ensures caches { IfOk result (λ m. caches m ≡ no_caches) }
+        ensures refused { IsOkUnless result (MaskError.Memory alloc_error) }
+    {
+        let buffer = BitBuffer::from_bools(alloc, bools)?;
+        Mask::from_buffer(alloc, buffer)
+    }
+}
+
+/// To packed values.
+#[tactic(auto, using(mask_bits::proofs::Lists::CountLemmas::repeated_facts))]
+impl Mask {
+    /// `All`, `None` or the packed values, by variant.
+    pub fn bit_buffer(&self) -> AllOr<&BitBuffer>
+        ensures held { all_or_copied result ≡ held_buffer self.now }
+        ensures list { IsListOf result (truth self.now) }
+    {
+        match self {
+            Mask::AllTrue(_) => AllOr::All,
+            Mask::AllFalse(_) => AllOr::None,
+            Mask::Values(values) => AllOr::Some(values.bit_buffer()),
+        }
+    }
+
+    /// A buffer of the values.
+    pub fn to_bit_buffer(&self, alloc: Global) -> Result<BitBuffer, MaskError>
+        ensures list { IfOk result (λ b. values b ≡ truth self.now) }
+        ensures refused { IsOkUnless result (MaskError.Memory alloc_error) }
+    {
+        match self {
+            Mask::AllTrue(len) => Ok(BitBuffer::new_set(alloc, *len)?),
+            Mask::AllFalse(len) => Ok(BitBuffer::new_unset(alloc, *len)?),
+            Mask::Values(values) => Ok(values.bit_buffer().clone()?),
+        }
+    }
+
+    /// A buffer of the values, of a mask that is taken by value.
+    pub fn into_bit_buffer(self, alloc: Global) -> Result<BitBuffer, MaskError>
+        ensures list { IfOk result (λ b. values b ≡ truth self) }
+        ensures refused { IsOkUnless result (MaskError.Memory alloc_error) }
+    {
+        match self {
+            Mask::AllTrue(len) => Ok(BitBuffer::new_set(alloc, len)?),
+            Mask::AllFalse(len) => Ok(BitBuffer::new_unset(alloc, len)?),
+            Mask::Values(values) => match Rc::try_unwrap(values) {
+                Ok(values) => Ok(values.into_bit_buffer()),
+                Err(shared) => Ok(shared.bit_buffer().clone()?),
+            },
+        }
+    }
+}
