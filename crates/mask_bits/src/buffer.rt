@@ -1,19 +1,24 @@
-ghost use Rattle.std.specs.Prelude.{◌≡◌, ◌+◌, ◌-◌, ◌*◌, ◌<◌, ◌≤◌, ◌^◌, ◌↔◌, ◌||◌, ℕ, Bool, false, true, [], length, vec_len, nat_eq, All, IfOk, IfSome, IsTrue, Some, slice_get, slice_range, take};
+//! A list of truth values, packed.
+
+ghost use Rattle.std.specs.Prelude.{◌≡◌, ◌+◌, ◌-◌, ◌*◌, ◌<◌, ◌≤◌, ◌^◌, ◌↔◌, ℕ, Bool, false, true, [], length, vec_len, All, IfOk, IfSome, IsTrue, Some, slice_get, slice_range, take, ◌%◌, not};
 ghost use Rattle.std.specs.Iterator.{UpTo, Drains, YieldsFirst};
 ghost use Rattle.std.specs.Iterator.Runs.{WholeRun, YieldsInOrder};
 ghost use Rattle.std.specs.List.Sorted.{IsStrictlyIncreasing};
 ghost use Rattle.mask_bits.specs.Buffer.{Packed, IsWithinBytes, values, backing_bit};
 ghost use Rattle.mask_bits.specs.Positions.{positions, count, repeated, true_at, IsFirstFrom};
 ghost use Rattle.mask_bits.specs.Runs.{AreRuns};
+ghost use Rattle.mask_bits.specs.Words.{word_bits};
 
-use crate::bools::BitIterator;
+use crate::bit_iterator::BitIterator;
 use crate::chunks::BitChunks;
 use crate::counts::count_bits;
-use crate::indices::SetIndices;
-use crate::scan::{place_in_word, run_of_others};
-use crate::slices::SetSlices;
+use crate::set_indices::SetIndices;
+use crate::set_slices::SetSlices;
+use crate::words::window;
+use crate::write_bits::set_bit;
 use bytes::Bytes;
 use std::alloc::{AllocError, Global};
+use std::fmt;
 use std::marker::Model;
 
 /// An immutable list of truth values, packed eight to a byte.
@@ -340,6 +345,16 @@ impl BitBuffer {
     }
 }
 
+impl fmt::Debug for BitBuffer {
+    fn fmt<W: fmt::Write>(&self, f: &mut fmt::Formatter<W>) -> fmt::Result {
+        f.write_str("BitBuffer(")?;
+        for value in self.iter() {
+            f.write_str(if value { "1" } else { "0" })?;
+        }
+        f.write_str(")")
+    }
+}
+
 // Bytes for `len` bits, all clear.
 fn zeroed(alloc: Global, len: usize) -> Result<Vec<u8>, AllocError>
     ensures covered { IfOk result (λ bytes. len ≤ 8 * vec_len bytes) }
@@ -348,10 +363,31 @@ fn zeroed(alloc: Global, len: usize) -> Result<Vec<u8>, AllocError>
     Ok(vec![in alloc; 0u8; len.div_ceil(8)]?)
 }
 
-// Sets the bit at one position and no other.
-pub(crate) fn set_bit(bytes: &mut [u8], position: usize)
-    requires { position < 8 * length bytes.old }
-    ensures { (p : ℕ) → backing_bit bytes.new p ≡ (nat_eq p position || backing_bit bytes.old p) }
+// The place of set bit number `n`, counted from 0.
+#[inline]
+fn place_in_word(word: u64, n: usize) -> usize
+    requires { n < count (word_bits word) }
+    ensures place { slice_get (positions (word_bits word)) n ≡ Some result }
+    ensures few { result < 64 }
 {
-    bytes[position / 8] |= 1 << (position % 8);
+    let mut word = word;
+    for _ in 0..n {
+        word &= word - 1;
+    }
+    word.trailing_zeros() as usize
+}
+
+// How many of the 64 bits from bit `position` on come before the first that is `value`.
+#[inline]
+fn run_of_others(bytes: &[u8], position: usize, value: bool) -> usize
+    ensures few { result ≤ 64 }
+    ensures passed { (j : ℕ) → j < result → backing_bit bytes.now (position + j) ≡ not value }
+    ensures holds { result < 64 → backing_bit bytes.now (position + result) ≡ value }
+{
+    let word = window(bytes, position);
+    if value {
+        word.trailing_zeros() as usize
+    } else {
+        word.trailing_ones() as usize
+    }
 }

@@ -3,8 +3,8 @@ ghost use Rattle.mask_bits.specs.Buffer.{backing_bit, values};
 ghost use Rattle.mask_bits.specs.Positions.{repeated};
 ghost use Rattle.mask_bits.specs.Words.{word_bits};
 
-use crate::buffer::{BitBuffer, set_bit};
-use crate::writes::{clear_bit, put_bits, put_same, put_word};
+use crate::buffer::BitBuffer;
+use crate::write_bits::{clear_bit, put_bits, put_same, put_word, set_bit};
 use bytes::Bytes;
 use std::alloc::{AllocError, Global};
 use std::marker::Model;

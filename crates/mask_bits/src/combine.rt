@@ -7,7 +7,7 @@ ghost use Rattle.mask_bits.specs.Combine.{AreCombined};
 ghost use Rattle.mask_bits.specs.Lists.{combined};
 ghost use Rattle.mask_bits.specs.Words.{word_bits};
 
-use crate::readers::{Anywhere, Neighbors, ReadWord, Whole};
+use crate::read_word::{Anywhere, Neighbors, ReadWord, Whole};
 use crate::words::set_word;
 
 /// An operation on truth values, done on 64 at once.

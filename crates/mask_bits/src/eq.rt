@@ -5,7 +5,7 @@ ghost use Rattle.mask_bits.specs.Buffer.{IsWithinBytes, values, same_values};
 ghost use Rattle.mask_bits.specs.Combine.{AreSameBits, IsInTwoWords};
 
 use crate::buffer::BitBuffer;
-use crate::readers::{Anywhere, Neighbors, ReadWord, Whole};
+use crate::read_word::{Anywhere, Neighbors, ReadWord, Whole};
 
 // Two buffers are equal where their lists are; offsets and the bits outside don't count.
 impl PartialEq for BitBuffer {

@@ -1,26 +1,25 @@
 //! Packed bits: a list of truth values, eight to a byte, at any bit offset.
 #![tactic(auto)]
 
+mod bit_iterator;
 mod bitops;
-mod bools;
 mod buffer;
 mod buffer_mut;
 mod chunks;
 pub mod combine;
 pub mod counts;
-mod debug;
 mod eq;
-mod indices;
 pub mod laws;
-mod readers;
+mod read_word;
 mod scan;
-mod slices;
+mod set_indices;
+mod set_slices;
 pub mod words;
-mod writes;
+mod write_bits;
 
-pub use bools::BitIterator;
+pub use bit_iterator::BitIterator;
 pub use buffer::BitBuffer;
 pub use buffer_mut::BitBufferMut;
 pub use chunks::{BitChunks, PaddedWords, Words};
-pub use indices::SetIndices;
-pub use slices::SetSlices;
+pub use set_indices::SetIndices;
+pub use set_slices::SetSlices;

@@ -1,5 +1,0 @@
-use Rattle.mask_bits.proofs.BitLemmas.{backing_bit-with_bit}
-use Rattle.mask_bits.proofs.buffer.set_bit.Goals as goal
-
-pub returns : goal.returns
-returns c = λ p. backing_bit-with_bit c.args.bytes.now c.args.position p c.requires

@@ -1,8 +1,0 @@
-use Rattle.std.proofs.Common.{◌∙◌, arith}
-use Rattle.mask_bits.proofs.CombineLemmas.{window-neighbors}
-use Rattle.mask_bits.proofs.readers.NeighborsReadWord.word.Goals as goal
-
-pub returns : goal.returns
-returns c =
-    c.joined.ensures
-    ∙ window-neighbors c.args.bytes.now c.args.low c.args.i _ _ (omega (arith, c.requires.few)) c.word_of.ensures c.word_of-2.ensures

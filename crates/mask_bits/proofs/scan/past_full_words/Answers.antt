@@ -1,8 +1,0 @@
-use Rattle.std.proofs.Common.{arith}
-use Rattle.mask_bits.proofs.Lists.WalkLemmas.{PassesTrue-more}
-use Rattle.mask_bits.proofs.scan.past_full_words.Goals as goal
-
-pub loop-word-preserved : goal.loop-word-preserved
-loop-word-preserved c =
-    PassesTrue-more c.args.chunks.now c.args.at c.args.word c.loop-word.at c.loop-word.word c.padded_word-word.result c.padded_word-word.type_inv
-    c.loop-word-test.true (omega (arith, c.padded_len.ensures.words)) c.padded_word-word.ensures c.loop-word.invariant

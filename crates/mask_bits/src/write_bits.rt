@@ -1,0 +1,145 @@
+//! Bits written to bytes: one bit, a word, one value many times, or bits of other bytes.
+
+ghost use Rattle.std.specs.Prelude.{◌≡◌, ◌+◌, ◌*◌, ◌%◌, ◌^◌, ◌<◌, ◌≤◌, ◌&&◌, ℕ, not, true, nat_eq, length, take, ◌-◌, ◌||◌, false};
+ghost use Rattle.mask_bits.specs.Buffer.{IsWithinBytes, backing_bit, values};
+ghost use Rattle.mask_bits.specs.BufferMut.{IsWrittenBehind, AreClearFrom};
+ghost use Rattle.mask_bits.specs.Positions.{repeated, count};
+ghost use Rattle.mask_bits.specs.Words.{word_bits};
+
+use crate::words::{joined, low_bits, set_word, window, word_of};
+
+// Sets the bit at one position and no other.
+pub(crate) fn set_bit(bytes: &mut [u8], position: usize)
+    requires { position < 8 * length bytes.old }
+    ensures { (p : ℕ) → backing_bit bytes.new p ≡ (nat_eq p position || backing_bit bytes.old p) }
+{
+    bytes[position / 8] |= 1 << (position % 8);
+}
+
+// Clears the bit at one position and no other.
+pub(crate) fn clear_bit(bytes: &mut [u8], position: usize)
+    requires { position < 8 * length bytes.old }
+    ensures { (p : ℕ) → backing_bit bytes.new p
+        ≡ (not (nat_eq p position) && backing_bit bytes.old p) }
+{
+    bytes[position / 8] &= !(1 << (position % 8));
+}
+
+// Writes the lowest `count` bits of a word behind the first `at` bits.
+#[inline]
+pub(crate) fn put_word(bytes: &mut [u8], at: usize, word: u64, count: usize)
+    requires few { count ≤ 64 }
+    requires room { at + count ≤ 8 * length bytes.old }
+    requires whole { length bytes.old % 8 ≡ 0 }
+    requires clear { AreClearFrom at bytes.old }
+    ensures { IsWrittenBehind bytes.old bytes.new at (take count (word_bits word)) }
+{
+    if count == 0 {
+        return;
+    }
+    let word = low_bits(word, count);
+    let (first, low) = (at / 64, at % 64);
+    let begun = word_of(bytes, first) | (word << low);
+    set_word(bytes, first, begun);
+    if low + count > 64 {
+        set_word(bytes, first + 1, word >> (64 - low));
+    }
+}
+
+// Writes `value`, `n` times, behind the first `at` bits.
+pub(crate) fn put_same(bytes: &mut [u8], at: usize, value: bool, n: usize)
+    requires room { at + n ≤ 8 * length bytes.old }
+    requires fits { at + n < 2 ^ 64 }
+    requires whole { length bytes.old % 8 ≡ 0 }
+    requires clear { AreClearFrom at bytes.old }
+    ensures { IsWrittenBehind bytes.old bytes.new at (repeated n value) }
+{
+    // false values are there
+    if value {
+        put_ones(bytes, at, n);
+    }
+}
+
+fn put_ones(bytes: &mut [u8], at: usize, n: usize)
+    requires room { at + n ≤ 8 * length bytes.old }
+    requires fits { at + n < 2 ^ 64 }
+    requires whole { length bytes.old % 8 ≡ 0 }
+    requires clear { AreClearFrom at bytes.old }
+    ensures { IsWrittenBehind bytes.old bytes.new at (repeated n true) }
+{
+    let room = 64 - at % 64;
+    if n <= room {
+        put_word(bytes, at, u64::MAX, n);
+        return;
+    }
+    put_word(bytes, at, u64::MAX, room);
+    let (first, words) = (at / 64 + 1, (n - room) / 64);
+    put_full(bytes, first, words);
+    put_word(bytes, 64 * (first + words), u64::MAX, (n - room) % 64);
+}
+
+// Writes whole words of ones, from word `first` on.
+fn put_full(bytes: &mut [u8], first: usize, words: usize)
+    requires room { 8 * (first + words) ≤ length bytes.old }
+    requires clear { AreClearFrom (64 * first) bytes.old }
+    ensures { IsWrittenBehind bytes.old bytes.new (64 * first) (repeated (64 * words) true) }
+{
+    bytes[8 * first..8 * (first + words)].fill(0xFF);
+}
+
+// Writes the `n` bits of `from` from bit `offset` on behind the first `at` bits.
+pub(crate) fn put_bits(bytes: &mut [u8], at: usize, from: &[u8], offset: usize, n: usize)
+    requires room { at + n ≤ 8 * length bytes.old }
+    requires fits { at + n < 2 ^ 64 }
+    requires source { IsWithinBytes from.now offset n }
+    requires whole { length bytes.old % 8 ≡ 0 }
+    requires clear { AreClearFrom at bytes.old }
+    ensures { IsWrittenBehind bytes.old bytes.new at
+        (values (record { bytes = from.now; offset = offset; len = n })) }
+{
+    let room = 64 - at % 64;
+    if n < room + 128 {
+        put_windows(bytes, at, from, offset, n);
+        return;
+    }
+    put_windows(bytes, at, from, offset, room);
+    // beside each of these words the source goes on for another
+    let words = (n - room) / 64 - 1;
+    put_joined(bytes, at / 64 + 1, from, offset + room, words);
+    let done = room + 64 * words;
+    put_windows(bytes, at + done, from, offset + done, n - done);
+}
+
+// The same by a window for each word.
+fn put_windows(bytes: &mut [u8], at: usize, from: &[u8], offset: usize, n: usize)
+    requires room { at + n ≤ 8 * length bytes.old }
+    requires fits { at + n < 2 ^ 64 }
+    requires source { IsWithinBytes from.now offset n }
+    requires whole { length bytes.old % 8 ≡ 0 }
+    requires clear { AreClearFrom at bytes.old }
+    ensures { IsWrittenBehind bytes.old bytes.new at
+        (values (record { bytes = from.now; offset = offset; len = n })) }
+{
+    let mut done = 0;
+    while done < n {
+        let count = (n - done).min(64);
+        put_word(bytes, at + done, window(from, offset + done), count);
+        done += count;
+    }
+}
+
+// Writes whole words of `from`, from bit `offset` on, as the words from `first` on.
+fn put_joined(bytes: &mut [u8], first: usize, from: &[u8], offset: usize, words: usize)
+    requires room { 8 * (first + words) ≤ length bytes.old }
+    requires source { IsWithinBytes from.now offset (64 * words + 64) }
+    requires clear { AreClearFrom (64 * first) bytes.old }
+    ensures { IsWrittenBehind bytes.old bytes.new (64 * first)
+        (values (record { bytes = from.now; offset = offset; len = 64 * words })) }
+{
+    let part = &from[offset / 8..];
+    let low = (offset % 8) as u32;
+    for i in 0..words {
+        let word = joined(word_of(part, i), word_of(part, i + 1), low);
+        set_word(bytes, first + i, word);
+    }
+}
