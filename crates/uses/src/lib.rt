@@ -1,6 +1,4 @@
-//! Callers of `vortex_mask` and `mask_bits` as their readers write them, on public contracts alone: no
-//! caller has a proof file, but for the invariant of its loop or the measure of its recursion, and
-//! `filter::by_ranges` for one line that applies a law.
+//! Callers of `vortex_mask` and `mask_bits` as their readers write them, on public contracts alone.
 #![tactic(auto)]
 
 pub mod all_ranges;
