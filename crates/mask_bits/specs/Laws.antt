@@ -10,9 +10,9 @@ use Rattle.mask_bits.specs.Runs.{AreRuns, AreRanges}
 use Rattle.mask_bits.specs.Stacks.{IsStack, folded_left, folded_right}
 use Rattle.mask_bits.specs.Words.{word_bits, word_parts, padded_remainder}
 
--- ---- true places, and how many there are
+-- ---- true indices, and how many there are
 
--- each true place is one of the list's
+-- each true index is one of the list's
 abbrev pub PlacesAreWithin : Type 0
 PlacesAreWithin = (m : List Bool) → All (λ p. p < length m) (positions m)
 
@@ -46,7 +46,7 @@ PositionsOfAllTrue = (n : ℕ) → positions (repeated n true) ≡ range_with_le
 abbrev pub CountOfAllTrue : Type 0
 CountOfAllTrue = (n : ℕ) → count (repeated n true) ≡ n
 
--- an all-false list has no true place
+-- an all-false list has no true index
 abbrev pub PositionsOfAllFalse : Type 0
 PositionsOfAllFalse = (n : ℕ) → positions (repeated n false) ≡ []
 
@@ -58,7 +58,7 @@ ChosenByAllTrue X = (rows : List X) → chosen rows (repeated (length rows) true
 abbrev pub ChosenByAllFalse : Type 0 → Type 0
 ChosenByAllFalse X = (rows : List X) (n : ℕ) → chosen rows (repeated n false) ≡ []
 
--- the chosen rows are those that are read at the true places, in their order
+-- the chosen rows are those that are read at the true indices, in their order
 abbrev pub ChosenIsRowsAtPositions : Type 0 → Type 0
 ChosenIsRowsAtPositions X = (rows : List X) (m : List Bool) → chosen rows m ≡ filter_map (λ i. slice_get rows i) (positions m)
 
@@ -88,11 +88,11 @@ SameValuesAreOneList = (a b : Packed) → IsTrue (same_values a b) ↔ (values a
 
 -- ---- rank intersection
 
--- lists of one length with the same true places are one list
+-- lists of one length with the same true indices are one list
 abbrev pub PositionsDetermineList : Type 0
 PositionsDetermineList = (a b : List Bool) → length a ≡ length b → positions a ≡ positions b → a ≡ b
 
--- r is as long as a, and its true places are a's true places taken at b's
+-- r is as long as a, and its true indices are a's true indices taken at b's
 pub record IsRankIntersection (a b r : List Bool) : Type 0 where
   pub len : length r ≡ length a
   pub places : positions r ≡ at_places (positions a) (positions b)
@@ -199,7 +199,7 @@ RunOfAllTrue = (n : ℕ) → 0 < n → runs (repeated n true) ≡ (0, n) ∷ []
 abbrev pub RunsOfAllFalse : Type 0
 RunsOfAllFalse = (n : ℕ) → runs (repeated n false) ≡ []
 
--- runs are ranges that hold exactly the true places
+-- runs are ranges that hold exactly the true indices
 abbrev pub RunsAreRanges : Type 0
 RunsAreRanges = (m : List Bool) (rs : List (ℕ × ℕ)) → AreRuns m rs → AreRanges m rs
 
@@ -207,7 +207,7 @@ RunsAreRanges = (m : List Bool) (rs : List (ℕ × ℕ)) → AreRuns m rs → Ar
 abbrev pub RangesAddUpToTheCount : Type 0
 RangesAddUpToTheCount = (m : List Bool) (rs : List (ℕ × ℕ)) → AreRanges m rs → sum_by (λ r. r.1 - r.0) rs ≡ count m
 
--- the rows of ranges that hold exactly the true places, one range after another, are the chosen rows
+-- the rows of ranges that hold exactly the true indices, one range after another, are the chosen rows
 abbrev pub ChosenByRanges : Type 0 → Type 0
 ChosenByRanges X = (rows copied : List X) (m : List Bool) (rs : List (ℕ × ℕ)) → copied ≡ flat_map (λ r. slice_range rows r.0 r.1) rs
     → length rows ≡ length m → AreRanges m rs → copied ≡ chosen rows m
@@ -274,11 +274,11 @@ GroupsBeginWithin = (n size g : ℕ) → 0 < size → (g < div_ceil n size) ↔ 
 abbrev pub GroupOfRepeated : Type 0
 GroupOfRepeated = (n size g : ℕ) (v : Bool) → size * g < n → group (repeated n v) size g ≡ repeated (min size (n - size * g)) v
 
--- of a list in groups of one size, each true place p lies in group number p / size, which is one of them
+-- of a list in groups of one size, each true index p lies in group number p / size, which is one of them
 abbrev pub PlacesLieInGroups : Type 0
 PlacesLieInGroups = (m : List Bool) (size : ℕ) → 0 < size → All (λ p. p / size < div_ceil (length m) size) (positions m)
 
--- as many values of a group are true as true places lie in it
+-- as many values of a group are true as true indices lie in it
 abbrev pub CountOfGroup : Type 0
 CountOfGroup = (m : List Bool) (size g : ℕ) → 0 < size → count (group m size g) ≡ count_by (λ p. nat_eq (p / size) g) (positions m)
 

@@ -12,7 +12,7 @@ places_from n [] = []
 places_from n (true ∷ m) = n ∷ places_from (n + 1) m
 places_from n (false ∷ m) = places_from (n + 1) m
 
--- the places of the true values, ascending
+-- the indices of the true values, ascending
 abbrev pub positions : List Bool → List ℕ
 positions m = places_from 0 m
 
@@ -39,10 +39,10 @@ true_at n places = map (λ i. list_any (nat_eq i) places) (range_with_len 0 n)
 abbrev pub at_places : List ℕ → List ℕ → List ℕ
 at_places xs places = map (λ k. slice_index_or xs k 0) places
 
--- where b is as long as a has true values: the list of a's length that is true at a's true places taken at b's
+-- where b is as long as a has true values: the list of a's length that is true at a's true indices taken at b's
 abbrev pub rank_intersection : List Bool → List Bool → List Bool
 rank_intersection a b = true_at (length a) (at_places (positions a) (positions b))
 
--- the rows at the true places, in their order
+-- the rows at the true indices, in their order
 unfoldable pub chosen : {X : Type 0} → List X → List Bool → List X
 chosen rows m = filter_map (λ i. slice_get rows i) (positions m)

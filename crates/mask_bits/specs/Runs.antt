@@ -6,7 +6,7 @@ use Rattle.std.specs.List.{AllAdjacentBelow, list_any}
 abbrev pub is_inside : ℕ → ℕ × ℕ → Bool
 is_inside i r = nat_le r.0 i && nat_lt i r.1
 
--- nonempty ranges within the list, in order and with none over another, that hold exactly the true places
+-- nonempty ranges within the list, in order and with none over another, that hold exactly the true indices
 pub record AreRanges (m : List Bool) (rs : List (ℕ × ℕ)) : Type 0 where
   pub nonempty : All (λ r. r.0 < r.1) rs
   pub within : All (λ r. r.1 ≤ length m) rs

@@ -32,7 +32,7 @@ impl BitBuffer {
         made::<AndNot>(alloc, self, other)
     }
 
-    /// The values turned.
+    /// The complement: each value negated.
     #[tactic(auto, using(crate::proofs::Lists::BooleanLemmas::combined_itself))]
     pub fn not(&self, alloc: Global) -> Result<BitBuffer, AllocError>
         ensures { IfOk result (λ b. values b ≡ not_of (values self.now)) }

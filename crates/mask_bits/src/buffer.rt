@@ -230,7 +230,7 @@ impl BitBuffer {
         (self.bytes.as_slice()[position / 8] >> (position % 8)) & 1 == 1
     }
 
-    /// The place of true value number `n`, counted from 0, and `None` from the true count on.
+    /// The index of true value number `n`, counted from 0, and `None` from the true count on.
     pub fn select(&self, n: usize) -> Option<usize>
         ensures place { result ≡ slice_get (positions (values self.now)) n }
         ensures within { IfSome result (λ p. p < length (values self.now)) }
@@ -267,7 +267,7 @@ impl BitBuffer {
         (word, rest)
     }
 
-    /// The place of the last true value, if there is one.
+    /// The index of the last true value, if there is one.
     pub fn last_set_index(&self) -> Option<usize>
         ensures place { result
             ≡ slice_get (positions (values self.now)) (count (values self.now) - 1) }
@@ -313,7 +313,7 @@ impl BitBuffer {
         BitIterator::new(self)
     }
 
-    /// The places of the true values, ascending.
+    /// The indices of the true values, ascending.
     pub fn set_indices(&self) -> SetIndices<'_>
         ensures places { result ≡ positions (values self.now) }
         ensures in_order { YieldsInOrder (YieldsFirst {A = ℕ} (λ s. s)) (λ s. s) }

@@ -5,7 +5,7 @@
 
 ghost use Rattle.mask_bits.specs.Laws.{PlacesAreWithin, CountIsAtMostLength, CountIsLengthOfAllTrue, CountIsSomeOfAnyTrue, CountOfJoined, LengthOfRepeated, PositionsOfAllTrue, CountOfAllTrue, PositionsOfAllFalse, ChosenByAllTrue, ChosenByAllFalse, ChosenIsRowsAtPositions, CountOfChosen, CountOfWord, CountsOfWordsAddUp, LengthOfValues, SameValuesAreOneList, PositionsDetermineList, RankIntersectionIsTheList, RankIntersectionValue, ChoosingTwice, RankIntersectionAssociative, AllTrueLeftUnit, AllTrueRightUnit, RankIntersectionCount, RankIntersectionPosition, FoldingKeepsAStack, RunsExist, RunsAreUnique, RunsAreRanges, RangesAddUpToTheCount};
 
-/// A gather may read a row at each true place: it is one of the rows.
+/// A gather may read a row at each true index: it is one of the rows.
 pub fn places_are_within()
     ensures within { PlacesAreWithin }
 {}
@@ -51,7 +51,7 @@ pub fn same_values_are_one_list()
     ensures same { SameValuesAreOneList }
 {}
 
-/// A planner may compare filters of one length by their true places alone.
+/// A planner may compare filters of one length by their true indices alone.
 pub fn positions_determine_list()
     ensures equal { PositionsDetermineList }
 {}
@@ -114,7 +114,7 @@ pub fn runs_are_unique()
     ensures unique { RunsAreUnique }
 {}
 
-/// A planner may read runs where any ranges that hold exactly the true places will do.
+/// A planner may read runs where any ranges that hold exactly the true indices will do.
 pub fn runs_are_ranges()
     ensures ranges { RunsAreRanges }
 {}
@@ -165,13 +165,13 @@ pub fn and_or_absorb()
     ensures or { Absorbs or_of and_of }
 {}
 
-/// A planner knows what a filter and its opposite choose together, and may turn one twice.
+/// A planner knows what a filter and its complement choose together, and may negate one twice.
 #[tactic(auto, using(crate::proofs::Lists::BooleanLemmas::complements))]
 pub fn complements()
     ensures complements { HasComplements }
 {}
 
-/// A planner may take and-not for `and` with the opposite.
+/// A planner may take and-not for `and` with the complement.
 #[tactic(auto, using(crate::proofs::Lists::BooleanLemmas::and_not_is_and_of_not))]
 pub fn and_not_is_and_of_not()
     ensures same { AndNotIsAndOfNot }
@@ -227,13 +227,13 @@ pub fn runs_of_one_value()
     ensures none { RunsOfAllFalse }
 {}
 
-/// A filter may copy range by range where the true places come as ranges.
+/// A filter may copy range by range where the true indices come as ranges.
 #[tactic(auto, using(crate::proofs::Lists::RangeRowLemmas::chosen_by_ranges))]
 pub fn choosing_by_ranges<T>()
     ensures rows { ChosenByRanges T }
 {}
 
-/// A reader of row groups may go by the true places: the place divided by the size is the number of
+/// A reader of row groups may go by the true indices: the place divided by the size is the number of
 /// its group.
 #[tactic(auto, using(crate::proofs::Lists::GroupLemmas::groups_begin_within, crate::proofs::Lists::GroupLemmas::group_of_repeated, crate::proofs::Lists::GroupLemmas::places_lie_in_groups, crate::proofs::Lists::GroupLemmas::count_of_group))]
 pub fn groups()

@@ -10,7 +10,7 @@ use mask_bits::laws;
 use std::alloc::{AllocError, Global};
 use vortex_mask::{AllOr, Mask, MaskError, MaskIter};
 
-/// The rows at the true places: by ranges from every second row on, else by places. The mask keeps
+/// The rows at the true indices: by ranges from every second row on, else by places. The mask keeps
 /// the list that it lends.
 pub fn filtered<T: Copy>(alloc: Global, rows: &[T], mask: &mut Mask) -> Result<Vec<T>, MaskError>
     requires { length rows.now ≡ length (truth mask.old) }
@@ -27,7 +27,7 @@ pub fn filtered<T: Copy>(alloc: Global, rows: &[T], mask: &mut Mask) -> Result<V
     }
 }
 
-// The rows of ranges that hold exactly the true places of a mask, whichever that is.
+// The rows of ranges that hold exactly the true indices of a mask, whichever that is.
 fn by_ranges<T: Copy>(
     alloc: Global,
     rows: &[T],

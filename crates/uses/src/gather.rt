@@ -1,4 +1,4 @@
-//! The rows that a mask chooses, by its variant and the places of its true values.
+//! The rows that a mask chooses, by its variant and the indices of its true values.
 ghost use Rattle.std.specs.Prelude.{◌≡◌, IfOk, length, slice_get};
 ghost use Rattle.mask_bits.specs.Buffer.{values};
 ghost use Rattle.mask_bits.specs.Positions.{chosen};
@@ -8,7 +8,7 @@ use mask_bits::{BitBuffer, laws};
 use std::alloc::{AllocError, Global};
 use vortex_mask::{AllOr, Mask};
 
-/// The rows at the true places: a copy of all, none, or one read at each place.
+/// The rows at the true indices: a copy of all, none, or one read at each place.
 pub fn gathered<T: Copy>(alloc: Global, rows: &[T], mask: &Mask) -> Result<Vec<T>, AllocError>
     requires { length rows.now ≡ length (truth mask.now) }
     ensures { IfOk result (λ v. v.items ≡ chosen rows.now (truth mask.now)) }

@@ -11,7 +11,7 @@ use Rattle.vortex_mask.specs.Laws.{NoIndexFault}
 use Rattle.vortex_mask.specs.Faults.{or_else, first_pair_from, first_unsorted, first_repeated, first_past, index_fault, out_of_bounds}
 use Rattle.vortex_mask.specs.declared.mask.error.MaskError.TheVariants.{UnsortedIndices, RepeatedIndex, IndexOutOfBounds}
 
--- ---- pairs of neighbours
+-- ---- pairs of neighbors
 
 -- a pair that does not stand so is passed
 first_pair-step : (test : ℕ → ℕ → Bool) (n x y : ℕ) (xs : List ℕ) → test x y ≡ false → first_pair_from test n (x ∷ y ∷ xs) ≡ first_pair_from test (n + 1) (y ∷ xs)

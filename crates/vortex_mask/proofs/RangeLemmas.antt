@@ -13,34 +13,34 @@ use Rattle.mask_bits.proofs.Lists.CountLemmas.{length-repeated, all_true_from_co
 use Rattle.mask_bits.proofs.Lists.PlaceLemmas.{count-le-length}
 use Rattle.mask_bits.proofs.Lists.RangeLemmas.{Ordered, Ordered-top, none_below, ranges_add_up_to_the_count}
 use Rattle.mask_bits.proofs.Lists.RunLemmas.{inside, inside-past}
-use Rattle.vortex_mask.specs.Faults.{or_else, bad_range, neighbour_fault, neighbours_fault_from, range_fault}
+use Rattle.vortex_mask.specs.Faults.{or_else, bad_range, neighbor_fault, neighbors_fault_from, range_fault}
 use Rattle.vortex_mask.specs.Ranges.{places_held}
 use Rattle.vortex_mask.specs.declared.mask.error.MaskError.TheVariants.{BadRange}
 
--- ---- neighbours, one pair at a time
+-- ---- neighbors, one pair at a time
 
 -- the faults from a range on are those of it and the next, and else those from the next on
-pub neighbours-more : (rs : List (ℕ × ℕ)) (at : ℕ) (d : ℕ × ℕ) → 0 < at → at < length rs
-    → neighbours_fault_from (at - 1) (drop (at - 1) rs) ≡ or_else (neighbour_fault (get_or rs (at - 1) d) (get_or rs at d) at) (neighbours_fault_from at (drop at rs))
-neighbours-more rs at d some h =
+pub neighbors-more : (rs : List (ℕ × ℕ)) (at : ℕ) (d : ℕ × ℕ) → 0 < at → at < length rs
+    → neighbors_fault_from (at - 1) (drop (at - 1) rs) ≡ or_else (neighbor_fault (get_or rs (at - 1) d) (get_or rs at d) at) (neighbors_fault_from at (drop at rs))
+neighbors-more rs at d some h =
     let n : ℕ = at - 1 in
     let next : n + 1 ≡ at = omega arith in
     let r : ℕ × ℕ = get_or rs n d in
     let s : ℕ × ℕ = get_or rs (n + 1) d in
-    let first = at_drop_more (neighbours_fault_from n) rs n d (omega arith) in
-    let second = at_drop_more (λ ys. neighbours_fault_from n (r ∷ ys)) rs (n + 1) d (omega arith) in
-    let third = at_drop_more (λ ys. or_else (neighbour_fault r s (n + 1)) (neighbours_fault_from (n + 1) ys)) rs (n + 1) d (omega arith) in
-    subst (λ (k : ℕ). neighbours_fault_from n (drop n rs) ≡ or_else (neighbour_fault r (get_or rs k d) k) (neighbours_fault_from k (drop k rs))) next
+    let first = at_drop_more (neighbors_fault_from n) rs n d (omega arith) in
+    let second = at_drop_more (λ ys. neighbors_fault_from n (r ∷ ys)) rs (n + 1) d (omega arith) in
+    let third = at_drop_more (λ ys. or_else (neighbor_fault r s (n + 1)) (neighbors_fault_from (n + 1) ys)) rs (n + 1) d (omega arith) in
+    subst (λ (k : ℕ). neighbors_fault_from n (drop n rs) ≡ or_else (neighbor_fault r (get_or rs k d) k) (neighbors_fault_from k (drop k rs))) next
     (first ∙ second ∙ sym third)
 
 -- the last range has no next one
-pub neighbours-end : (rs : List (ℕ × ℕ)) (n : ℕ) → length rs ≤ n + 1 → neighbours_fault_from n (drop n rs) ≡ None
-neighbours-end rs n h =
+pub neighbors-end : (rs : List (ℕ × ℕ)) (n : ℕ) → length rs ≤ n + 1 → neighbors_fault_from n (drop n rs) ≡ None
+neighbors-end rs n h =
     elim (cases_lt n (length rs)) [
       | inl last ↦
           let d : ℕ × ℕ = (0, 0) in
-          at_drop_more (neighbours_fault_from n) rs n d last ∙ at_drop_all (λ ys. neighbours_fault_from n (get_or rs n d ∷ ys)) rs (n + 1) h
-      | inr past ↦ at_drop_all (neighbours_fault_from n) rs n past
+          at_drop_more (neighbors_fault_from n) rs n d last ∙ at_drop_all (λ ys. neighbors_fault_from n (get_or rs n d ∷ ys)) rs (n + 1) h
+      | inr past ↦ at_drop_all (neighbors_fault_from n) rs n past
     ]
 
 -- ---- no fault
@@ -69,20 +69,20 @@ all_good len rs none =
     let whole = position-None bad rs (option_map-None (λ at. BadRange at) (position bad rs) none) in
     λ k d h. good len (get_or rs k d) (prefix_len_passes (λ r. not (bad r)) rs k d (omega arith))
 
-apart : (r s : ℕ × ℕ) (at : ℕ) → neighbour_fault r s at ≡ None → r.1 ≤ s.0
+apart : (r s : ℕ × ℕ) (at : ℕ) → neighbor_fault r s at ≡ None → r.1 ≤ s.0
 apart r s at none = grind (arith, nat_tests)
 
-ordered_from : (n len low : ℕ) (r : ℕ × ℕ) (rs : List (ℕ × ℕ)) → low ≤ r.0 → All (IsGood len) (r ∷ rs) → neighbours_fault_from n (r ∷ rs) ≡ None → Ordered low len (r ∷ rs)
+ordered_from : (n len low : ℕ) (r : ℕ × ℕ) (rs : List (ℕ × ℕ)) → low ≤ r.0 → All (IsGood len) (r ∷ rs) → neighbors_fault_from n (r ∷ rs) ≡ None → Ordered low len (r ∷ rs)
 ordered_from n len low r [] from all none = (from, (all 0 r (omega arith)).0, (all 0 r (omega arith)).1)
 ordered_from n len low r (s ∷ rs) from all none =
-    let parts = or_else-None (neighbour_fault r s (n + 1)) (neighbours_fault_from (n + 1) (s ∷ rs)) none in
+    let parts = or_else-None (neighbor_fault r s (n + 1)) (neighbors_fault_from (n + 1) (s ∷ rs)) none in
     (from, (all 0 r (omega arith)).0, ordered_from (n + 1) len r.1 s rs (apart r s (n + 1) parts.0) (λ k d h. all (suc k) d (omega arith)) parts.1)
 
 -- ranges with no fault are nonempty, within the length, and each after the one before it
 pub Ordered-no_fault : (len : ℕ) (rs : List (ℕ × ℕ)) → range_fault len rs ≡ None → Ordered 0 len rs
 Ordered-no_fault len [] none = omega arith
 Ordered-no_fault len (r ∷ rs) none =
-    let parts = or_else-None (bad_range len (r ∷ rs)) (neighbours_fault_from 0 (r ∷ rs)) none in
+    let parts = or_else-None (bad_range len (r ∷ rs)) (neighbors_fault_from 0 (r ∷ rs)) none in
     ordered_from 0 len 0 r rs (omega arith) (all_good len (r ∷ rs) parts.0) parts.1
 
 -- ---- the values from low to high that are true exactly in ordered ranges

@@ -45,15 +45,15 @@ abbrev pub bad_range : ℕ → List (ℕ × ℕ) → Option MaskError
 bad_range len rs = option_map (λ at. BadRange at) (position (λ r. not (nat_lt r.0 r.1 && nat_le r.1 len)) rs)
 
 -- a range that does not start after the one before it, or starts below its end, where it stands at a place
-abbrev pub neighbour_fault : ℕ × ℕ → ℕ × ℕ → ℕ → Option MaskError
-neighbour_fault r s at = if nat_le s.0 r.0 then Some (UnsortedRanges at) else (if nat_lt s.0 r.1 then Some (OverlappingRanges at) else None)
+abbrev pub neighbor_fault : ℕ × ℕ → ℕ × ℕ → ℕ → Option MaskError
+neighbor_fault r s at = if nat_le s.0 r.0 then Some (UnsortedRanges at) else (if nat_lt s.0 r.1 then Some (OverlappingRanges at) else None)
 
--- the first such of neighbours in turn, where the first of these stands at place n
-abbrev pub neighbours_fault_from : ℕ → List (ℕ × ℕ) → Option MaskError
-neighbours_fault_from n [] = None
-neighbours_fault_from n (r ∷ []) = None
-neighbours_fault_from n (r ∷ s ∷ rs) = or_else (neighbour_fault r s (n + 1)) (neighbours_fault_from (n + 1) (s ∷ rs))
+-- the first such of neighbors in turn, where the first of these stands at place n
+abbrev pub neighbors_fault_from : ℕ → List (ℕ × ℕ) → Option MaskError
+neighbors_fault_from n [] = None
+neighbors_fault_from n (r ∷ []) = None
+neighbors_fault_from n (r ∷ s ∷ rs) = or_else (neighbor_fault r s (n + 1)) (neighbors_fault_from (n + 1) (s ∷ rs))
 
--- bad ranges over all of them first, then neighbours in turn
+-- bad ranges over all of them first, then neighbors in turn
 abbrev pub range_fault : ℕ → List (ℕ × ℕ) → Option MaskError
-range_fault len rs = or_else (bad_range len rs) (neighbours_fault_from 0 rs)
+range_fault len rs = or_else (bad_range len rs) (neighbors_fault_from 0 rs)

@@ -1,4 +1,4 @@
--- The lists of its true places that a mask lends.
+-- The lists of its true indices that a mask lends.
 use Rattle.std.specs.Prelude.{ℕ, ◌≡◌, ◌*◌, ◌≤◌, Bool, true, false, List, length, ⊤}
 use Rattle.std.specs.Option.{option_map}
 use Rattle.mask_bits.specs.Positions.{positions, count}
@@ -20,7 +20,7 @@ abbrev pub lends_ranges : MaskIter → Bool
 lends_ranges (Indices places) = false
 lends_ranges (Slices ranges) = true
 
--- the true places are lent, or the runs
+-- the true indices are lent, or the runs
 abbrev pub IsLentOf : List Bool → MaskIter → Type 0
 IsLentOf m (Indices places) = places.now ≡ positions m
 IsLentOf m (Slices ranges) = ranges.now ≡ runs m

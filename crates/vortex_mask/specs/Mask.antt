@@ -79,7 +79,7 @@ held_buffer (AllTrue n) = all_or.All
 held_buffer (AllFalse n) = all_or.None
 held_buffer (Values v) = all_or.Some v.value.buffer
 
--- the lists that a mask keeps of its true places
+-- the lists that a mask keeps of its true indices
 abbrev pub caches : Mask → Caches
 caches (AllTrue n) = no_caches
 caches (AllFalse n) = no_caches

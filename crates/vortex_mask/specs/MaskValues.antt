@@ -5,7 +5,7 @@ use Rattle.mask_bits.specs.Buffer.{Packed, values}
 use Rattle.mask_bits.specs.Positions.{positions, count}
 use Rattle.mask_bits.specs.RunScan.{runs}
 
--- the lists that are kept of the true places, where they are: the places, and their runs
+-- the lists that are kept of the true indices, where they are: the places, and their runs
 pub record Caches : Type 0 where
   pub indices : Option (List ℕ)
   pub ranges : Option (List (ℕ × ℕ))
@@ -46,7 +46,7 @@ pub record IsMixed (buffer : Packed) (true_count : ℕ) : Type 0 where
   pub some_true : 0 < true_count
   pub some_false : true_count < length (values buffer)
 
--- kept places are the list's true places, and kept ranges are its runs
+-- kept places are the list's true indices, and kept ranges are its runs
 pub record AreOf (m : List Bool) (caches : Caches) : Type 0 where
   pub indices : ForSome caches.indices (λ places. places ≡ positions m)
   pub ranges : ForSome caches.ranges (λ ranges. ranges ≡ runs m)

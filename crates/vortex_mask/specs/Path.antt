@@ -11,7 +11,7 @@ use Rattle.vortex_mask.specs.declared.intersect_by_rank.path.RankPath.TheVariant
 use Rattle.vortex_mask.specs.declared.mask.Mask.{Mask}
 use Rattle.vortex_mask.specs.declared.mask.Mask.TheVariants.{AllTrue, AllFalse, Values}
 
--- the path of a mask with so many values and true ones, narrowed by a rank mask with so many, where the true places of each are kept or not: the first test that holds decides
+-- the path of a mask with so many values and true ones, narrowed by a rank mask with so many, where the true indices of each are kept or not: the first test that holds decides
 abbrev pub path : ℕ → ℕ → ℕ → ℕ → Bool → Bool → RankPath
 path len trues rank_len rank_trues self_kept true =
     if self_kept && nat_lt rank_trues (started_words len) then Indices
@@ -28,7 +28,7 @@ path len trues rank_len rank_trues self_kept false =
 abbrev pub path_of : Contents → Contents → RankPath
 path_of v w = path (length (values v.buffer)) (count (values v.buffer)) (length (values w.buffer)) (count (values w.buffer)) (is_some v.caches.indices) (is_some w.caches.indices)
 
--- what a mixed result r keeps: its true places, where the path finds these one by one
+-- what a mixed result r keeps: its true indices, where the path finds these one by one
 abbrev pub path_caches : RankPath → List Bool → Caches
 path_caches Indices r = kept_indices (positions r)
 path_caches MaskDriven r = kept_indices (positions r)

@@ -21,7 +21,7 @@ no_steps = record { deposits = 0; words = 0; selections = 0; offered = 0; placed
 abbrev pub word_steps : List Bool → List Bool → StepCounts
 word_steps m r = record { deposits = started_words (length m); words = started_words (length m); selections = 0; offered = count m; placed = count r; spots = 0 }
 
--- n selections in so many words, which find the true places of r: the sum is of these within their words
+-- n selections in so many words, which find the true indices of r: the sum is of these within their words
 abbrev pub driven_steps : ℕ → ℕ → List Bool → StepCounts
 driven_steps words n r = record { deposits = 0; words = words; selections = n; offered = 0; placed = 0; spots = sum_by (λ p. p % 64) (positions r) }
 

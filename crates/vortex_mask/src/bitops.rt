@@ -10,7 +10,7 @@ use std::alloc::Global;
 
 /// Boolean calls, value by value, of masks of one length.
 ///
-/// The result keeps an operand's lists of true places where it is that operand.
+/// The result keeps an operand's lists of true indices where it is that operand.
 impl Mask {
     /// The values that are true in both.
     pub fn bitand(&self, alloc: Global, other: &Mask) -> Result<Mask, MaskError>
@@ -72,7 +72,7 @@ impl Mask {
         }
     }
 
-    /// The values turned.
+    /// The complement: each value negated.
     pub fn not(&self, alloc: Global) -> Result<Mask, MaskError>
         ensures list { IfOk result (λ m. truth m ≡ not_of (truth self.now)) }
         ensures variant { IfOk result
@@ -116,7 +116,7 @@ impl Mask {
     }
 }
 
-/// The same, of an operand that is given up. It is the result where the other side changes nothing.
+/// The same, of an operand that is taken by value. It is the result where the other side changes nothing.
 impl Mask {
     /// The values that are true in both.
     pub fn into_bitand(self, alloc: Global, other: &Mask) -> Result<Mask, MaskError>
@@ -162,7 +162,7 @@ impl Mask {
         self.bitor(alloc, other)
     }
 
-    /// The values turned.
+    /// The complement: each value negated.
     pub fn into_not(self, alloc: Global) -> Result<Mask, MaskError>
         ensures list { IfOk result (λ m. truth m ≡ not_of (truth self)) }
         ensures variant { IfOk result

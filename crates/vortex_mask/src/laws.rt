@@ -26,7 +26,7 @@ pub fn one_variant(mask: &Mask)
     }
 }
 
-/// A caller may read the lists that a mask keeps or lends: they are its true places, and its runs,
+/// A caller may read the lists that a mask keeps or lends: they are its true indices, and its runs,
 /// which hold exactly these places.
 pub fn kept_lists(mask: &Mask)
     ensures kept { AreOf (truth mask.now) (caches mask.now) }

@@ -119,7 +119,7 @@ impl Mask {
         }
     }
 
-    /// Becomes `AllFalse(0)`. The old values are given up.
+    /// Becomes `AllFalse(0)`. The old values are dropped.
     pub fn clear(&mut self)
         ensures { self.new ≡ Mask.AllFalse 0 }
     {
@@ -191,7 +191,7 @@ impl Mask {
         }
     }
 
-    /// The place of true value number `n`, counted from 0.
+    /// The index of true value number `n`, counted from 0.
     pub fn rank(&self, n: usize) -> usize
         requires { n < count (truth self.now) }
         ensures place { slice_get (positions (truth self.now)) n ≡ Some result }
@@ -218,7 +218,7 @@ impl Mask {
 /// The true values by their indices.
 #[tactic(auto, using(crate::proofs::ReadingLemmas::end_facts))]
 impl Mask {
-    /// The place of the first true value, if there is one.
+    /// The index of the first true value, if there is one.
     pub fn first(&self) -> Option<usize>
         ensures place { result ≡ slice_get (positions (truth self.now)) 0 }
         ensures within { IfSome result (λ p. p < length (truth self.now)) }
@@ -230,7 +230,7 @@ impl Mask {
         }
     }
 
-    /// The place of the last true value, if there is one.
+    /// The index of the last true value, if there is one.
     pub fn last(&self) -> Option<usize>
         ensures place { result
             ≡ slice_get (positions (truth self.now)) (count (truth self.now) - 1) }

@@ -42,7 +42,7 @@ const RANKS_OF_A_SELECTION: u64 = 32;
 const RANKS_OF_A_LISTED_ONE: u64 = 4;
 
 /// The kernel by which `intersect_by_rank` narrows `values` by `ranks`. It goes by the lengths, the
-/// counts and which lists of true places are cached, and makes none.
+/// counts and which lists of true indices are cached, and makes none.
 pub fn rank_path(values: &MaskValues, ranks: &MaskValues) -> RankPath
     ensures { result ≡ path_of values.now ranks.now }
 {
@@ -95,7 +95,7 @@ pub(super) fn narrow_by_path(
     }
 }
 
-// By the true places of both.
+// By the true indices of both.
 fn by_indices(
     alloc: Global,
     rows: &MaskValues,
@@ -119,7 +119,7 @@ fn by_indices(
     }
 }
 
-// The same with the true places of the first at hand.
+// The same with the true indices of the first at hand.
 fn by_places(
     alloc: Global,
     rows: &MaskValues,
@@ -145,7 +145,7 @@ fn by_places(
     }
 }
 
-// By a selection for each true place of the second, which are walked over where they aren't cached.
+// By a selection for each true index of the second, which are walked over where they aren't cached.
 fn by_selections(
     alloc: Global,
     rows: &MaskValues,
@@ -198,7 +198,7 @@ fn by_buffers(
     }
 }
 
-// By the bits of the first and the cached true places of the second.
+// By the bits of the first and the cached true indices of the second.
 fn by_rank_indices(
     alloc: Global,
     rows: &MaskValues,

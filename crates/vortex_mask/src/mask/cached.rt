@@ -15,7 +15,7 @@ use crate::mask::{AllOr, Mask, MaskError};
 use std::alloc::Global;
 use std::rc::Rc;
 
-/// A list of the true places of a mask: the places, or the maximal ranges that hold them.
+/// A list of the true indices of a mask: the places, or the maximal ranges that hold them.
 #[derive(Drop)]
 pub enum MaskIter<'a> {
     /// The places, ascending.
@@ -24,12 +24,12 @@ pub enum MaskIter<'a> {
     Slices(&'a [(usize, usize)]),
 }
 
-/// Lists of the true places, made where they are not kept yet, and kept from then on. Clones that
+/// Lists of the true indices, made where they are not kept yet, and kept from then on. Clones that
 /// were made before keep what they kept.
 ///
-/// Where want of memory refuses a list, the mask stays as it was.
+/// Where being out of memory refuses a list, the mask stays as it was.
 impl Mask {
-    /// `All`, `None` or the true places, ascending, by variant.
+    /// `All`, `None` or the true indices, ascending, by variant.
     pub fn indices(&mut self, alloc: Global) -> Result<AllOr<&[usize]>, MaskError>
         ensures variant { IfOk result (λ lent. lender_variant lent ≡ variant self.old) }
         ensures list { IfOk result (λ lent. IfLent lent
@@ -52,7 +52,7 @@ impl Mask {
         })
     }
 
-    /// `All`, `None` or the maximal ranges of true places, ascending, by variant. Each is its first
+    /// `All`, `None` or the maximal ranges of true indices, ascending, by variant. Each is its first
     /// place and the place past its last. Equal masks that are mixed lend equal ranges, however they
     /// were made.
     pub fn slices(&mut self, alloc: Global) -> Result<AllOr<&[(usize, usize)]>, MaskError>
@@ -119,7 +119,7 @@ impl Mask {
         Ok(AllOr::Some(self.kept_list(by_ranges)))
     }
 
-    // The ranges that a mixed mask keeps, or the true places that it keeps.
+    // The ranges that a mixed mask keeps, or the true indices that it keeps.
     fn kept_list(&self, by_ranges: bool) -> MaskIter<'_>
         requires mixed { variant self.now ≡ mixed }
         requires ranges { by_ranges ≡ true → IsSome (caches self.now).ranges }
@@ -134,7 +134,7 @@ impl Mask {
         }
     }
 
-    // Keeps the true places where the mask is mixed: it makes the list, a clone of the values with
+    // Keeps the true indices where the mask is mixed: it makes the list, a clone of the values with
     // it and what shares them, and becomes that.
     fn fill_indices(&mut self, alloc: Global) -> Result<(), MaskError>
         ensures filled { IfOk result (λ _. variant self.old ≡ mixed → IsKeeping self.old

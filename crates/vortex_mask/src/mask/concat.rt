@@ -33,7 +33,7 @@ impl Mask {
         ensures variant { IfOk result (λ m. variant m ≡ fitting_variant all_true (truth m)) }
         ensures caches { IfOk result (λ m. caches m ≡ no_caches) }
 
-        // A refusal is that the sum of all lengths does not fit, or want of memory.
+        // A refusal is that the sum of all lengths does not fit, or that memory is out.
         ensures refused { IfErr result (λ e. (e ≡ MaskError.Memory alloc_error)
             ⊎ ((ms : List (Bor mask)) × Drains I.next_gives masks ms
             × (e ≡ MaskError.LengthOverflow) × (2 ^ 64 ≤ total_len (lists_of ms)))) }
@@ -42,11 +42,11 @@ impl Mask {
             (λ p. (e ≡ MaskError.LengthOverflow) × (2 ^ 64 ≤ total_len (lists_of p.items)))) }
     {
         let masks: Vec<&Mask> = masks.collect(alloc)?;
-        Mask::joined(alloc, &masks)
+        Mask::concat_list(alloc, &masks)
     }
 
     /// The values of the masks that an iterator yields, one mask after another, as by `concat`. The
-    /// masks are given up.
+    /// masks are taken by value.
     pub fn from_masks<I: Iterator<Item = Mask>>(alloc: Global, masks: I) -> Result<Mask, MaskError>
         requires can { I.can_next masks }
         requires ends { IsFinite (I.remaining masks) }
@@ -56,7 +56,7 @@ impl Mask {
         ensures variant { IfOk result (λ m. variant m ≡ fitting_variant all_true (truth m)) }
         ensures caches { IfOk result (λ m. caches m ≡ no_caches) }
 
-        // A refusal is that the sum of all lengths does not fit, or want of memory.
+        // A refusal is that the sum of all lengths does not fit, or that memory is out.
         ensures refused { IfErr result (λ e. (e ≡ MaskError.Memory alloc_error)
             ⊎ ((ms : List mask) × Drains I.next_gives masks ms
             × (e ≡ MaskError.LengthOverflow) × (2 ^ 64 ≤ total_len (map truth ms)))) }
@@ -69,7 +69,7 @@ impl Mask {
     }
 
     // The masks' values one after another.
-    fn joined(alloc: Global, masks: &[&Mask]) -> Result<Mask, MaskError>
+    fn concat_list(alloc: Global, masks: &[&Mask]) -> Result<Mask, MaskError>
         ensures list { IfOk result (Joins (lists_of masks.now)) }
         ensures variant { IfOk result (λ m. variant m ≡ fitting_variant all_true (truth m)) }
         ensures caches { IfOk result (λ m. caches m ≡ no_caches) }

@@ -28,10 +28,10 @@ impl Mask {
         ensures uniform { IsUniform (values buffer) → IsOk result }
         ensures refused { IsOkUnless result (MaskError.Memory alloc_error) }
     {
-        Mask::of_buffer(alloc, buffer, None)
+        Mask::from_buffer_with_runs(alloc, buffer, None)
     }
 
-    /// The values of a buffer, whose true places these ranges hold. Where some values are true and
+    /// The values of a buffer, whose true indices these ranges hold. Where some values are true and
     /// some are not the mask keeps its maximal ranges: those that touch are merged, in the memory
     /// that came with them. An empty buffer gives `AllFalse(0)`.
     pub fn from_buffer_with_slices(
@@ -48,11 +48,11 @@ impl Mask {
         ensures refused { IsOkUnless result (MaskError.Memory alloc_error) }
     {
         merge_touching(&mut ranges);
-        Mask::of_buffer(alloc, buffer, Some(ranges))
+        Mask::from_buffer_with_runs(alloc, buffer, Some(ranges))
     }
 
     // The values of a buffer, which keep these ranges, its runs, where they are mixed.
-    fn of_buffer(
+    fn from_buffer_with_runs(
         alloc: Global,
         buffer: BitBuffer,
         ranges: Option<Vec<(usize, usize)>>,

@@ -43,7 +43,7 @@ impl Mask {
         ensures caches { IfOk result
             (λ m. caches m ≡ where_mixed m (kept_indices (positions (truth m)))) }
 
-        // A refusal is the fault of what the iterator yielded, or want of memory.
+        // A refusal is the fault of what the iterator yielded, or that memory is out.
         ensures refused { IfErr result (λ e. (e ≡ MaskError.Memory alloc_error)
             ⊎ ((xs : List ℕ) × Drains I.next_gives indices xs × (index_fault len xs ≡ Some e))) }
         ensures refused_runs { IfErr result (λ e. (e ≡ MaskError.Memory alloc_error)
@@ -187,7 +187,7 @@ impl Mask {
         ensures variant { IfOk result (λ m. variant m ≡ fitting_variant all_true (truth m)) }
         ensures caches { IfOk result (λ m. caches m ≡ no_caches) }
 
-        // A refusal is the fault of what the iterator yielded, or want of memory.
+        // A refusal is the fault of what the iterator yielded, or that memory is out.
         ensures refused { IfErr result (λ e. (e ≡ MaskError.Memory alloc_error)
             ⊎ ((xs : List ℕ) × Drains I.next_gives indices xs × (out_of_bounds len xs ≡ Some e))) }
         ensures refused_runs { IfErr result (λ e. (e ≡ MaskError.Memory alloc_error)
@@ -276,7 +276,7 @@ impl Mask {
         ensures caches { IfOk result
             (λ m. caches m ≡ where_mixed m (kept_indices (positions (truth m)))) }
 
-        // A refusal is the fault of what the iterators yielded, or want of memory.
+        // A refusal is the fault of what the iterators yielded, or that memory is out.
         ensures refused { IfErr result (λ e. (e ≡ MaskError.Memory alloc_error)
             ⊎ ((xs : List ℕ) × (ys : List ℕ)
             × Drains L.next_gives lhs xs × Drains R.next_gives rhs ys

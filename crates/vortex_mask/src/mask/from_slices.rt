@@ -33,7 +33,7 @@ impl Mask {
         ensures caches { IfOk result
             (λ m. caches m ≡ where_mixed m (kept_ranges (runs (truth m)))) }
 
-        // A fault is told before any memory is taken, and nothing else but want of memory is.
+        // A fault is told before any memory is taken, and after that being out of memory alone.
         ensures faultless { OnOk result (range_fault len ranges.items ≡ None) }
         ensures fault { IfSome (range_fault len ranges.items) (λ e. result ≡ Err e) }
         ensures refused { IfErr result (λ e. (e ≡ MaskError.Memory alloc_error)
@@ -77,7 +77,7 @@ impl Mask {
 fn fault_of(len: usize, ranges: &[(usize, usize)]) -> Option<MaskError>
     ensures { result ≡ range_fault len ranges.now }
 {
-    bad_range(len, ranges).or_else(|| neighbours_fault(ranges))
+    bad_range(len, ranges).or_else(|| neighbors_fault(ranges))
 }
 
 fn bad_range(len: usize, ranges: &[(usize, usize)]) -> Option<MaskError>
@@ -89,8 +89,8 @@ fn bad_range(len: usize, ranges: &[(usize, usize)]) -> Option<MaskError>
         .map(|at| MaskError::BadRange { at })
 }
 
-fn neighbours_fault(ranges: &[(usize, usize)]) -> Option<MaskError>
-    ensures { result ≡ faults.neighbours_fault_from 0 ranges.now }
+fn neighbors_fault(ranges: &[(usize, usize)]) -> Option<MaskError>
+    ensures { result ≡ faults.neighbors_fault_from 0 ranges.now }
 {
     for at in 1..ranges.len() {
         let (before, range) = (ranges[at - 1], ranges[at]);
@@ -104,7 +104,7 @@ fn neighbours_fault(ranges: &[(usize, usize)]) -> Option<MaskError>
     None
 }
 
-// Merges ranges that touch, in place: what held exactly the true places of a list is its runs then.
+// Merges ranges that touch, in place: what held exactly the true indices of a list is its runs then.
 pub(super) fn merge_touching(ranges: &mut Vec<(usize, usize)>)
     ensures runs { (m : List Bool) → AreRanges m ranges.old.items → ranges.new.items ≡ runs m }
 {

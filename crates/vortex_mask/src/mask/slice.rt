@@ -96,12 +96,12 @@ impl Mask {
         requires { k < count (truth self.now) }
         ensures { IfOk result (λ b. values b ≡ limited (truth self.now) k) }
     {
-        let front = self.front(alloc, self.rank(k))?;
-        padded(alloc, &front, self.len())
+        let front = self.first_values(alloc, self.rank(k))?;
+        with_false_behind(alloc, &front, self.len())
     }
 
     // The values before place `end`, packed.
-    fn front(&self, alloc: Global, end: usize) -> Result<BitBuffer, AllocError>
+    fn first_values(&self, alloc: Global, end: usize) -> Result<BitBuffer, AllocError>
         requires { end ≤ length (truth self.now) }
         ensures { IfOk result (λ b. values b ≡ slice_range (truth self.now) 0 end) }
     {
@@ -114,7 +114,7 @@ impl Mask {
 }
 
 // The values of a buffer, and false ones behind them up to `len`.
-fn padded(alloc: Global, front: &BitBuffer, len: usize) -> Result<BitBuffer, AllocError>
+fn with_false_behind(alloc: Global, front: &BitBuffer, len: usize) -> Result<BitBuffer, AllocError>
     requires { length (values front.now) ≤ len }
     ensures { IfOk result
         (λ b. values b ≡ values front.now ++ repeated (len - length (values front.now)) false) }
@@ -158,7 +158,7 @@ impl Mask {
 
 /// Rows.
 impl Mask {
-    /// The rows at the true places, in their order.
+    /// The rows at the true indices, in their order.
     pub fn choose<T: Copy>(&self, alloc: Global, rows: &[T]) -> Result<Vec<T>, MaskError>
         requires { length rows.now ≡ length (truth self.now) }
         ensures rows { IfOk result (λ v. v.items ≡ chosen rows.now (truth self.now)) }
@@ -171,7 +171,7 @@ impl Mask {
         self.rows_chosen(alloc, rows)
     }
 
-    // The rows at the true places. How many they are follows.
+    // The rows at the true indices. How many they are follows.
     fn rows_chosen<T: Copy>(&self, alloc: Global, rows: &[T]) -> Result<Vec<T>, MaskError>
         requires { length rows.now ≡ length (truth self.now) }
         ensures rows { IfOk result (λ v. v.items ≡ chosen rows.now (truth self.now)) }
@@ -186,7 +186,7 @@ impl Mask {
     }
 }
 
-// The rows at the true places of a buffer, in their order.
+// The rows at the true indices of a buffer, in their order.
 fn rows_at<T: Copy>(alloc: Global, rows: &[T], buffer: &BitBuffer) -> Result<Vec<T>, AllocError>
     requires { length rows.now ≡ length (values buffer.now) }
     ensures { IfOk result (λ v. v.items ≡ chosen rows.now (values buffer.now)) }

@@ -24,7 +24,7 @@ pub type MaskValuesRef = Rc<MaskValues>;
 
 /// A bit buffer in which some values are true and some are not, with the count of the true ones.
 ///
-/// It may keep the list of the true places, and the list of the maximal ranges that hold them.
+/// It may keep the list of the true indices, and the list of the maximal ranges that hold them.
 #[derive(Drop)]
 pub struct MaskValues {
     buffer: BitBuffer,
@@ -123,7 +123,7 @@ impl MaskValues {
         self.buffer.value(index)
     }
 
-    /// The true places, ascending, if they are kept.
+    /// The true indices, ascending, if they are kept.
     pub fn cached_indices(&self) -> Option<&[usize]>
         ensures kept { option_map (λ places. places.now) result ≡ self.now.caches.indices }
         ensures whole { AreOf (values self.now.buffer) self.now.caches }
@@ -131,7 +131,7 @@ impl MaskValues {
         self.indices.as_deref()
     }
 
-    /// The maximal ranges of true places, ascending, if they are kept.
+    /// The maximal ranges of true indices, ascending, if they are kept.
     pub fn cached_slices(&self) -> Option<&[(usize, usize)]>
         ensures kept { option_map (λ ranges. ranges.now) result ≡ self.now.caches.ranges }
         ensures whole { AreOf (values self.now.buffer) self.now.caches }
@@ -164,11 +164,11 @@ impl MaskValues {
     }
 }
 
-/// Lists of the true places, made where they are not kept yet, and kept from then on.
+/// Lists of the true indices, made where they are not kept yet, and kept from then on.
 ///
-/// Where want of memory refuses one, the values keep what they kept before.
+/// Where being out of memory refuses one, the values keep what they kept before.
 impl MaskValues {
-    /// The true places, ascending.
+    /// The true indices, ascending.
     pub fn indices(&mut self, alloc: Global) -> Result<&[usize], MaskError>
         ensures list { IfOk result (λ places. places.now ≡ positions (values self.old.buffer)) }
 
@@ -184,7 +184,7 @@ impl MaskValues {
         Ok(self.kept_indices())
     }
 
-    /// The maximal ranges of true places, ascending. Each is its first place and the place past its
+    /// The maximal ranges of true indices, ascending. Each is its first place and the place past its
     /// last.
     pub fn slices(&mut self, alloc: Global) -> Result<&[(usize, usize)], MaskError>
         ensures list { IfOk result (λ ranges. ranges.now ≡ runs (values self.old.buffer)) }
@@ -242,7 +242,7 @@ impl MaskValues {
         true_part >= num as u128 * self.buffer.len() as u128
     }
 
-    // The true places, which are kept.
+    // The true indices, which are kept.
     pub(crate) fn kept_indices(&self) -> &[usize]
         requires { IsSome self.now.caches.indices }
         ensures list { result.now ≡ positions (values self.now.buffer) }
@@ -260,7 +260,7 @@ impl MaskValues {
         self.slices.as_deref().unwrap()
     }
 
-    // Makes the list of the true places, then keeps it, where there is none.
+    // Makes the list of the true indices, then keeps it, where there is none.
     fn cache_indices(&mut self, alloc: Global) -> Result<(), MaskError>
         ensures filled { IfOk result (λ _. self.new
             ≡ keeping (with_indices (positions (values self.old.buffer)) self.old.caches) self.old) }
@@ -288,7 +288,7 @@ impl MaskValues {
         Ok(())
     }
 
-    // The same values with their true places kept.
+    // The same values with their true indices kept.
     pub(crate) fn with_indices(&self, alloc: Global) -> Result<MaskValues, MaskError>
         ensures filled { IfOk result (λ v. v
             ≡ keeping (with_indices (positions (values self.now.buffer)) self.now.caches) self.now) }
@@ -312,7 +312,7 @@ impl MaskValues {
         Ok(filled)
     }
 
-    // The true places, in room that is made once.
+    // The true indices, in room that is made once.
     pub(crate) fn places(&self, alloc: Global) -> Result<Vec<usize>, AllocError>
         ensures { IfOk result (λ places. places.items ≡ positions (values self.now.buffer)) }
     {
@@ -321,7 +321,7 @@ impl MaskValues {
         Ok(places)
     }
 
-    // The maximal ranges of true places.
+    // The maximal ranges of true indices.
     fn runs(&self, alloc: Global) -> Result<Vec<(usize, usize)>, AllocError>
         ensures { IfOk result (λ ranges. ranges.items ≡ runs (values self.now.buffer)) }
     {

@@ -11,7 +11,7 @@ use crate::intersect_by_rank::Steps;
 use crate::mask::{Mask, MaskError};
 use std::alloc::{AllocError, Global};
 
-/// The mask of `len` values whose true places are `self_indices` taken at `mask_indices`, which it
+/// The mask of `len` values whose true indices are `self_indices` taken at `mask_indices`, which it
 /// keeps. No word is read and none is deposited.
 pub fn intersect_by_rank_indices(
     alloc: Global,

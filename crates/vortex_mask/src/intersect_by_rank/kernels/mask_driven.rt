@@ -58,7 +58,7 @@ pub fn intersect_mask_driven<S: SelectBit, I: Iterator<Item = usize>>(
     Ok((Mask::of_indices(alloc, len, places)?, steps))
 }
 
-/// The places of the true values of `chunks` whose numbers are `ranks`, `true_count` of them, and
+/// The indices of the true values of `chunks` whose numbers are `ranks`, `true_count` of them, and
 /// the steps.
 pub fn places_at_ranks<S: SelectBit, I: Iterator<Item = usize>>(
     alloc: Global,
@@ -107,7 +107,7 @@ struct Reached {
 }
 
 impl Reached {
-    // The place of true value number `rank`, which doesn't stand before the last word. Reads on
+    // The index of true value number `rank`, which doesn't stand before the last word. Reads on
     // until it is in the last word.
     fn place_of<S: SelectBit>(
         &mut self,

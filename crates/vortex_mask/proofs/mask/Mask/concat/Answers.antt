@@ -6,12 +6,12 @@ use Rattle.vortex_mask.proofs.mask.Mask.concat.Goals as goal
 pub returns-clause-runs : goal.returns-clause-runs
 returns-clause-runs g c =
     let run = c.in_ok-masks.ensures.runs tt in
-    IfOk-weaker c.joined.result _ _ (λ m joins. (run.0, run.1, run.2, subst (λ ms. Joins (lists_of ms) m) (c.deref.ensures.value ∙ run.3.0) joins)) c.joined.ensures.list
+    IfOk-weaker c.concat_list.result _ _ (λ m joins. (run.0, run.1, run.2, subst (λ ms. Joins (lists_of ms) m) (c.deref.ensures.value ∙ run.3.0) joins)) c.concat_list.ensures.list
 
 pub returns-clause-refused_runs : goal.returns-clause-refused_runs
 returns-clause-refused_runs g c =
     let run = c.in_ok-masks.ensures.runs tt in
-    IfErr-weaker c.joined.result _ _ (λ e h. elim h [
+    IfErr-weaker c.concat_list.result _ _ (λ e h. elim h [
       | inl memory ↦ inl memory
       | inr over ↦ inr (run.0, run.1, run.2, (over.0, subst (λ ms. 2 ^ 64 ≤ total_len (lists_of ms)) (c.deref.ensures.value ∙ run.3.0) over.1))
-    ]) c.joined.ensures.refused
+    ]) c.concat_list.ensures.refused

@@ -6,7 +6,7 @@ use Rattle.vortex_mask.specs.Mask.{all_true, all_false, fitting_variant}
 use Rattle.vortex_mask.proofs.ConcatLemmas.{joined-one_value, length-joined, some_values, fitting_variant-some_false}
 use Rattle.vortex_mask.proofs.MaskLemmas.{fitting_variant-repeated_true, fitting_variant-nonempty}
 use Rattle.vortex_mask.proofs.ResultLemmas.{IfOk-both}
-use Rattle.vortex_mask.proofs.mask.Mask.joined.Goals as goal
+use Rattle.vortex_mask.proofs.mask.Mask.concat_list.Goals as goal
 
 pub returns-then-all_true-clause-list : goal.returns-then-all_true-clause-list
 returns-then-all_true-clause-list c = record {

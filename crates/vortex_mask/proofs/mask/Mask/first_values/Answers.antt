@@ -4,7 +4,7 @@ use Rattle.mask_bits.specs.Positions.{repeated}
 use Rattle.mask_bits.proofs.Lists.CountLemmas.{length-repeated}
 use Rattle.mask_bits.proofs.Lists.PartLemmas.{part_of_repeated}
 use Rattle.vortex_mask.specs.Mask.{truth}
-use Rattle.vortex_mask.proofs.mask.Mask.front.Goals as goal
+use Rattle.vortex_mask.proofs.mask.Mask.first_values.Goals as goal
 
 pub returns-in-AllTrue : goal.returns-in-AllTrue
 returns-in-AllTrue c =

@@ -5,7 +5,7 @@ use Rattle.mask_bits.specs.Positions.{repeated}
 use Rattle.mask_bits.proofs.Lists.CountLemmas.{all_true_from_count, all_false_from_count}
 use Rattle.vortex_mask.proofs.MaskLemmas.{fitting_variant-all, fitting_variant-all_false, fitting_variant-some}
 use Rattle.mask_bits.proofs.Lists.PlaceLemmas.{length-places_from}
-use Rattle.vortex_mask.proofs.mask.Mask.of_buffer.Goals as goal
+use Rattle.vortex_mask.proofs.mask.Mask.from_buffer_with_runs.Goals as goal
 
 pub returns-then-true_count-eq0-clause-list : goal.returns-then-true_count-eq0-clause-list
 unfolding repeated

@@ -1,0 +1,6 @@
+use Rattle.std.proofs.Common.{◌-◌, sym, ◌∙◌, arith}
+use Rattle.vortex_mask.proofs.RangeLemmas.{neighbors-end}
+use Rattle.vortex_mask.proofs.mask.from_slices.neighbors_fault.Goals as goal
+
+pub returns : goal.returns
+returns c = sym (neighbors-end c.args.ranges.now (c.loop-at.at - 1) (omega arith)) ∙ c.loop-at.invariant

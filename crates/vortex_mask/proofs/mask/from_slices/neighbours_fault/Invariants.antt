@@ -1,6 +1,0 @@
-use Rattle.std.proofs.Common.{◌≡◌, ◌-◌, drop}
-use Rattle.vortex_mask.specs.Faults.{neighbours_fault_from}
-use Rattle.vortex_mask.proofs.mask.from_slices.neighbours_fault.Given as goal
-
-abbrev pub invariant-loop-at : goal.invariant-loop-at
-invariant-loop-at l = neighbours_fault_from (l.at - 1) (drop (l.at - 1) l.ranges) ≡ neighbours_fault_from 0 l.ranges
