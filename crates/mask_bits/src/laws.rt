@@ -3,14 +3,20 @@
 
 #![tactic(auto, using(crate::proofs::LawRules::laws))]
 
-ghost use Rattle.mask_bits.specs.Laws.{PlacesAreWithin, CountIsAtMostLength, CountIsLengthOfAllTrue, CountIsSomeOfAnyTrue, CountOfJoined, LengthOfRepeated, PositionsOfAllTrue, CountOfAllTrue, PositionsOfAllFalse, ChosenByAllTrue, ChosenByAllFalse, ChosenIsRowsAtPositions, CountOfChosen, CountOfWord, CountsOfWordsAddUp, LengthOfValues, SameValuesAreOneList, PositionsDetermineList, RankIntersectionIsTheList, RankIntersectionValue, ChoosingTwice, RankIntersectionAssociative, AllTrueLeftUnit, AllTrueRightUnit, RankIntersectionCount, RankIntersectionPosition, FoldingKeepsAStack, RunsExist, RunsAreUnique, RunsAreRanges, RangesAddUpToTheCount};
+ghost use Rattle.mask_bits.specs.ChoosingLaws.{ChosenByTest, ChosenOfTwoChunks, ChosenOfChunks, ChosenByLimit, PositionsOfLimit, LimitPastTheCount, LimitOfRankIntersection};
+ghost use Rattle.mask_bits.specs.IndexLaws.{PositionsAscend, FirstIsAtMostLast, CountBelowTheFirst, CountBelowTheNext, AllTrueIsOneRange, AllTrueIsOneRun, AllFalseHasNoRange, AllFalseHasNoRun, NeighborsDoNotFall, SortedDoNotFall};
+ghost use Rattle.mask_bits.specs.Laws.{PlacesAreWithin, CountIsAtMostLength, CountIsLengthOfAllTrue, CountIsSomeOfAnyTrue, CountOfJoined, LengthOfRepeated, PositionsOfAllTrue, CountOfAllTrue, PositionsOfAllFalse, ChosenByAllTrue, ChosenByAllFalse, ChosenIsRowsAtPositions, CountOfChosen, CountOfWord, CountsOfWordsAddUp, LengthOfValues, SameValuesAreOneList, PositionsDetermineList, RankIntersectionIsTheList, RankIntersectionValue, ChoosingTwice, RankIntersectionAssociative, AllTrueLeftUnit, AllTrueRightUnit, RankIntersectionCount, RankIntersectionPosition, FoldingKeepsAStack, RunsExist, RunsAreUnique, RunsAreRanges, RangesAddUpToTheCount, RankIntersectionOfAnd, RankIntersectionOfNot, IsFreeOfOrder, DistributesOver, Absorbs, HasComplements, AndNotIsAndOfNot, KeepsLength, PartOfPart, PartOfJoined, LimitOfLimit, HasLimitCount, CountBelowPosition, RunsAreTheList, RunOfAllTrue, RunsOfAllFalse, ChosenByRanges, GroupsBeginWithin, GroupOfRepeated, PlacesLieInGroups, CountOfGroup, StackFoldsAlike, FoldedByTheFirst, FoldOfOne, FoldedLeftByTheLast, LengthOfFold, CountOfFold, FoldOfNoRow, NeighborsMakeOne, ChoosingInTurn};
+ghost use Rattle.mask_bits.specs.Lists.{and_of, or_of};
 
-/// A gather may read a row at each true index: it is one of the rows.
+// ---- true indices, and how many there are
+
+/// Each true index is below the length.
 pub fn places_are_within()
     ensures within { PlacesAreWithin }
 {}
 
-/// A planner may estimate by counts: how many rows a filter chooses, at most, and when all or some.
+/// A count is at most the length, is the length exactly if each value is true, and is more than
+/// none exactly if one is. The count of two lists, one after the other, is the sum of theirs.
 pub fn counts()
     ensures at_most { CountIsAtMostLength }
     ensures all { CountIsLengthOfAllTrue }
@@ -18,7 +24,9 @@ pub fn counts()
     ensures joined { CountOfJoined }
 {}
 
-/// A planner knows a filter that treats all rows alike by its length.
+// ---- lists of one value
+
+/// The length, the true indices and the count of a list of one value.
 pub fn lists_of_one_value()
     ensures len { LengthOfRepeated }
     ensures every_place { PositionsOfAllTrue }
@@ -26,8 +34,10 @@ pub fn lists_of_one_value()
     ensures no_place { PositionsOfAllFalse }
 {}
 
-/// A filter that chooses every row may be left out, one that chooses none needs no rows, and any
-/// chooses as many as it has true values.
+// ---- rows
+
+/// Choosing by an all-true list gives all rows, by an all-false one none, and by any list as many
+/// as its count: the rows at its true indices.
 pub fn choosing<T>()
     ensures every_row { ChosenByAllTrue T }
     ensures no_row { ChosenByAllFalse T }
@@ -35,206 +45,219 @@ pub fn choosing<T>()
     ensures at_positions { ChosenIsRowsAtPositions T }
 {}
 
-/// A reader may count by words.
+// ---- words and buffers
+
+/// The count of a word's values is that of its set bits, and the counts of a list's words add up to
+/// its count.
 pub fn counts_of_words()
     ensures word { CountOfWord }
     ensures parts { CountsOfWordsAddUp }
 {}
 
-/// A caller may take the length of a buffer for that of its list.
+/// The list of a buffer is as long as the buffer says.
 pub fn length_of_values()
     ensures len { LengthOfValues }
 {}
 
-/// A caller may compare buffers where it means their lists.
+/// `==` of two buffers says whether their lists are the same.
 pub fn same_values_are_one_list()
     ensures same { SameValuesAreOneList }
 {}
 
-/// A planner may compare filters of one length by their true indices alone.
+// ---- rank intersection
+
+/// Lists of one length with the same true indices are the same.
 pub fn positions_determine_list()
     ensures equal { PositionsDetermineList }
 {}
 
-/// A planner may take a rank intersection for the one list as long as the first mask whose true
-/// places are the first mask's taken at the second's.
+/// The rank intersection is the one list as long as the first whose true indices are the first's
+/// taken at the second's.
 pub fn rank_intersection_is_the_list()
     ensures only { RankIntersectionIsTheList }
 {}
 
-/// A planner may ask for one row of two stacked filters: the first decides, and then the second at
-/// the number of rows that the first chose before it.
+/// Value `i` of a rank intersection is true where it is in the first list, and in the second at the
+/// number of true values before it in the first.
 pub fn rank_intersection_value()
     ensures value { RankIntersectionValue }
 {}
 
-/// A planner may put one rank intersection in the place of two filters that run one after the
-/// other.
+/// Choosing by a rank intersection is choosing by the first list, then by the second.
 pub fn choosing_twice<T>()
     ensures twice { ChoosingTwice T }
 {}
 
-/// A planner may join stacked filters in any grouping.
+/// Rank intersections may be grouped in any way.
 pub fn rank_intersection_associative()
     ensures regrouped { RankIntersectionAssociative }
 {}
 
-/// A planner may drop a filter that chooses every row before another.
+/// An all-true list narrowed by another is the other one.
 pub fn all_true_left_unit()
     ensures unit { AllTrueLeftUnit }
 {}
 
-/// A planner may drop a filter that chooses every row after another.
+/// A list narrowed by an all-true one is the list.
 pub fn all_true_right_unit()
     ensures unit { AllTrueRightUnit }
 {}
 
-/// A planner knows how many rows two stacked filters choose: as many as the second does.
+/// A rank intersection has the second list's count.
 pub fn rank_intersection_count()
     ensures count { RankIntersectionCount }
 {}
 
-/// A planner may find the row that two stacked filters choose as number `n` by two look-ups.
+/// True index `n` of a rank intersection is the first list's true index at the second's true index
+/// `n`.
 pub fn rank_intersection_position()
     ensures position { RankIntersectionPosition }
 {}
 
-/// A planner may make the first two of stacked filters one, whatever stands above them.
+/// A stack whose first two lists are made one is a stack.
 pub fn folding_keeps_a_stack()
     ensures stack { FoldingKeepsAStack }
 {}
 
-/// A planner may speak of the runs of a filter: there is a list of them.
+// ---- runs
+
+/// Each list has a list of runs.
 pub fn runs_exist()
     ensures exist { RunsExist }
 {}
 
-/// A planner may compare filters by their runs: no filter has two lists of them.
+/// No list has two lists of runs.
 pub fn runs_are_unique()
     ensures unique { RunsAreUnique }
 {}
 
-/// A planner may read runs where any ranges that hold exactly the true indices will do.
+/// Runs are ranges that hold exactly the true indices.
 pub fn runs_are_ranges()
     ensures ranges { RunsAreRanges }
 {}
 
-/// A reader of ranges knows how many rows they hold.
+/// The lengths of ranges that hold exactly the true indices add up to the count.
 pub fn ranges_add_up_to_the_count()
     ensures count { RangesAddUpToTheCount }
 {}
 
-ghost use Rattle.mask_bits.specs.Laws.{RankIntersectionOfAnd, RankIntersectionOfNot, IsFreeOfOrder, DistributesOver, Absorbs, HasComplements, AndNotIsAndOfNot, KeepsLength, PartOfPart, PartOfJoined, LimitOfLimit, HasLimitCount, CountBelowPosition};
-ghost use Rattle.mask_bits.specs.Lists.{and_of, or_of};
+// ---- value by value
 
-/// A planner may join two second filters into one before it narrows the first by them.
+/// `and` of two rank intersections with one first list is its rank intersection with `and` of the
+/// second ones.
 #[tactic(auto, using(crate::proofs::Lists::BooleanLemmas::rank_intersection_of_and))]
 pub fn rank_intersection_of_and()
     ensures both { RankIntersectionOfAnd }
 {}
 
-/// A planner may turn a second filter after it narrowed the first by it.
+/// A list narrowed by a complement is the list without what the second list leaves of it.
 #[tactic(auto, using(crate::proofs::Lists::BooleanLemmas::rank_intersection_of_not))]
 pub fn rank_intersection_of_not()
     ensures turned { RankIntersectionOfNot }
 {}
 
-/// A planner may sort and regroup filters that all have to hold.
+/// `and` may be sorted and grouped in any way.
 #[tactic(auto, using(crate::proofs::Lists::BooleanLemmas::and_is_free_of_order))]
 pub fn and_is_free_of_order()
     ensures order { IsFreeOfOrder and_of }
 {}
 
-/// A planner may sort and regroup filters of which one has to hold.
+/// `or` may be sorted and grouped in any way.
 #[tactic(auto, using(crate::proofs::Lists::BooleanLemmas::or_is_free_of_order))]
 pub fn or_is_free_of_order()
     ensures order { IsFreeOfOrder or_of }
 {}
 
-/// A planner may bring `and` inside `or`, and `or` inside `and`, and back.
+/// `and` and `or` distribute over each other.
 #[tactic(auto, using(crate::proofs::Lists::BooleanLemmas::and_distributes, crate::proofs::Lists::BooleanLemmas::or_distributes))]
 pub fn and_or_distribute()
     ensures and { DistributesOver and_of or_of }
     ensures or { DistributesOver or_of and_of }
 {}
 
-/// A planner may drop what a filter says a second time.
+/// `and` and `or` absorb each other.
 #[tactic(auto, using(crate::proofs::Lists::BooleanLemmas::and_absorbs_or, crate::proofs::Lists::BooleanLemmas::or_absorbs_and))]
 pub fn and_or_absorb()
     ensures and { Absorbs and_of or_of }
     ensures or { Absorbs or_of and_of }
 {}
 
-/// A planner knows what a filter and its complement choose together, and may negate one twice.
+/// A list and its complement are never both true and never both false, and the complement of the
+/// complement is the list.
 #[tactic(auto, using(crate::proofs::Lists::BooleanLemmas::complements))]
 pub fn complements()
     ensures complements { HasComplements }
 {}
 
-/// A planner may take and-not for `and` with the complement.
+/// And-not is `and` with the complement.
 #[tactic(auto, using(crate::proofs::Lists::BooleanLemmas::and_not_is_and_of_not))]
 pub fn and_not_is_and_of_not()
     ensures same { AndNotIsAndOfNot }
 {}
 
-/// A planner knows the length of what filters of one length make.
+/// `and`, `or`, `not` and and-not of lists of one length have that length.
 #[tactic(auto, using(crate::proofs::Lists::BooleanLemmas::keeps_length))]
 pub fn keeps_length()
     ensures lengths { KeepsLength }
 {}
 
-/// A planner may cut once where it would cut a part again.
+// ---- parts and limits
+
+/// A part of a part is one part of the whole.
 #[tactic(auto, using(crate::proofs::Lists::PartLemmas::part_of_part))]
 pub fn part_of_part()
     ensures once { PartOfPart }
 {}
 
-/// A planner may take a filter for the part that it is of the joined one.
+/// Each of several lists is the part that it takes in them one after another.
 #[tactic(auto, using(crate::proofs::Lists::PartLemmas::part_of_joined))]
 pub fn part_of_joined()
     ensures part { PartOfJoined }
 {}
 
-/// A planner may limit once where it would limit again.
+/// A limit of a limit is the smaller limit.
 #[tactic(auto, using(crate::proofs::Lists::LimitLemmas::limit_of_limit))]
 pub fn limit_of_limit()
     ensures once { LimitOfLimit }
 {}
 
-/// A planner knows how many rows a limited filter chooses, and of how many.
+/// A limited list keeps its length, and has the smaller of its count and the limit.
 #[tactic(auto, using(crate::proofs::Lists::LimitLemmas::limit_count))]
 pub fn limit_count()
     ensures count { HasLimitCount }
 {}
 
-/// A planner finds the number of a chosen row by a count of those before it.
+/// The count below true index `n` is `n`.
 #[tactic(auto, using(crate::proofs::Lists::LimitLemmas::count_below_position))]
 pub fn count_below_position()
     ensures number { CountBelowPosition }
 {}
 
-ghost use Rattle.mask_bits.specs.Laws.{RunsAreTheList, RunOfAllTrue, RunsOfAllFalse, ChosenByRanges, GroupsBeginWithin, GroupOfRepeated, PlacesLieInGroups, CountOfGroup};
+// ---- runs as a list, and ranges
 
-/// A planner may compute the runs of a filter, and compare them with any ranges that are its runs.
+/// Ranges are a list's runs exactly if they are what `runs` gives.
 pub fn runs_are_the_list()
     ensures only { RunsAreTheList }
 {}
 
-/// A planner knows the runs of a filter that treats all rows alike.
+/// An all-true list that isn't empty is one run, and an all-false one has none.
 #[tactic(auto, using(crate::proofs::Lists::RunListLemmas::run_of_all_true, crate::proofs::Lists::RunListLemmas::runs_of_all_false))]
 pub fn runs_of_one_value()
     ensures whole { RunOfAllTrue }
     ensures none { RunsOfAllFalse }
 {}
 
-/// A filter may copy range by range where the true indices come as ranges.
+/// Rows copied range by range, by ranges that hold exactly the true indices, are the rows chosen.
 #[tactic(auto, using(crate::proofs::Lists::RangeRowLemmas::chosen_by_ranges))]
 pub fn choosing_by_ranges<T>()
     ensures rows { ChosenByRanges T }
 {}
 
-/// A reader of row groups may go by the true indices: the place divided by the size is the number of
-/// its group.
+// ---- groups
+
+/// A group is there exactly if it begins within the list. Groups of a list of one value are lists
+/// of that value. A true index lies in the group of its number divided by the size, which counts
+/// such indices.
 #[tactic(auto, using(crate::proofs::Lists::GroupLemmas::groups_begin_within, crate::proofs::Lists::GroupLemmas::group_of_repeated, crate::proofs::Lists::GroupLemmas::places_lie_in_groups, crate::proofs::Lists::GroupLemmas::count_of_group))]
 pub fn groups()
     ensures begins { GroupsBeginWithin }
@@ -243,19 +266,19 @@ pub fn groups()
     ensures count { CountOfGroup }
 {}
 
-ghost use Rattle.mask_bits.specs.Laws.{StackFoldsAlike, FoldedByTheFirst, FoldOfOne, FoldedLeftByTheLast, LengthOfFold, CountOfFold, FoldOfNoRow, NeighborsMakeOne, ChoosingInTurn};
+// ---- stacks
 
-/// A planner may fold a stack of filters from either end: the first filter narrowed by the fold of the
-/// rest is the fold from the left too.
+/// A stack folds alike from both ends: the first list narrowed by the fold of the rest is the fold
+/// from the left too.
 #[tactic(auto, using(crate::proofs::Lists::StackLemmas::stack_folds_alike, crate::proofs::Lists::StackLemmas::folded_by_the_first))]
 pub fn stack_folds_alike()
     ensures alike { StackFoldsAlike }
     ensures first { FoldedByTheFirst }
 {}
 
-/// A planner that folds from the left narrows what it has by the next filter. It knows how many rows
-/// the fold is of, and how many it chooses: as many as the last filter does. It may stop at a fold
-/// that chooses none.
+/// The fold of one list is the list; of more, the fold of all but the last, narrowed by the last.
+/// It is as long as the first and has the last one's count. Where the fold so far chooses none, the
+/// whole fold is it.
 #[tactic(auto, using(crate::proofs::Lists::StackLemmas::fold_of_one, crate::proofs::Lists::StackLemmas::folded_left_by_the_last, crate::proofs::Lists::StackLemmas::length_of_fold, crate::proofs::Lists::StackLemmas::count_of_fold, crate::proofs::Lists::StackLemmas::fold_of_no_row))]
 pub fn folds()
     ensures one { FoldOfOne }
@@ -265,20 +288,19 @@ pub fn folds()
     ensures no_row { FoldOfNoRow }
 {}
 
-/// A planner may make any two neighbors of a stack one.
+/// Any two neighbors of a stack may be made one.
 #[tactic(auto, using(crate::proofs::Lists::StackLemmas::neighbors_make_one))]
 pub fn neighbors_make_one()
     ensures one { NeighborsMakeOne }
 {}
 
-/// A planner may put the fold of a stack in the place of filters that run one after the other.
+/// Choosing by the fold of a stack is choosing by each of its lists in turn.
 #[tactic(auto, using(crate::proofs::Lists::StackLemmas::choosing_in_turn))]
 pub fn choosing_in_turn<T>()
     ensures in_turn { ChoosingInTurn T }
 {}
 
-ghost use Rattle.mask_bits.specs.ChoosingLaws.{ChosenByTest, ChosenOfTwoChunks, ChosenOfChunks, ChosenByLimit, PositionsOfLimit, LimitPastTheCount, LimitOfRankIntersection};
-ghost use Rattle.mask_bits.specs.IndexLaws.{PositionsAscend, FirstIsAtMostLast, CountBelowTheFirst, CountBelowTheNext, AllTrueIsOneRange, AllTrueIsOneRun, AllFalseHasNoRange, AllFalseHasNoRun, NeighborsDoNotFall, SortedDoNotFall};
+// ---- rows by tests, chunks and limits
 
 /// Choosing rows by a mask that was made by a test of each row is filtering the rows by it.
 #[tactic(auto, using(crate::proofs::Lists::RowLemmas::chosen_by_test))]
@@ -312,6 +334,8 @@ pub fn limits()
 pub fn limit_of_rank_intersection()
     ensures pushed { LimitOfRankIntersection }
 {}
+
+// ---- order of indices
 
 /// The true indices ascend, and so the first is at most the last.
 #[tactic(auto, using(crate::proofs::Lists::IndexLemmas::positions_ascend, crate::proofs::Lists::IndexLemmas::first_is_at_most_last))]

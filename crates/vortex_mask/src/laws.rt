@@ -12,7 +12,7 @@ ghost use Rattle.vortex_mask.specs.MaskValues.{AreOf};
 
 use crate::mask::Mask;
 
-/// A caller may match on a mask: it is held in the one variant that its list may have.
+/// A mask is held in the one variant that its list may have.
 pub fn one_variant(mask: &Mask)
     ensures { variant mask.now ≡ fitting_variant (variant mask.now) (truth mask.now) }
 {
@@ -26,8 +26,7 @@ pub fn one_variant(mask: &Mask)
     }
 }
 
-/// A caller may read the lists that a mask keeps or lends: they are its true indices, and its runs,
-/// which hold exactly these places.
+/// The lists that a mask keeps are its true indices and its runs, which hold exactly these indices.
 pub fn kept_lists(mask: &Mask)
     ensures kept { AreOf (truth mask.now) (caches mask.now) }
     ensures lent { AreRanges (truth mask.now) (runs (truth mask.now)) }
@@ -65,15 +64,16 @@ pub fn no_index_fault()
     ensures { NoIndexFault }
 {}
 
-/// A caller knows the list of a mask that is held as all true or as all false by its length.
+/// The list of a mask that is held as all true, or as all false, is as many such values as its
+/// length.
 #[tactic(auto, using(crate::proofs::VariantLemmas::all_true_has_true_values, crate::proofs::VariantLemmas::all_false_has_false_values))]
 pub fn variants_of_one_value()
     ensures all_true { AllTrueHasTrueValues }
     ensures all_false { AllFalseHasFalseValues }
 {}
 
-/// A caller may compare two references to masks, by `==` as by any test that goes by it: they are
-/// equal exactly where the masks' lists are.
+/// `same_truth`, as which `==` of masks and of references to them is told, says whether their lists
+/// are the same.
 #[tactic(auto, using(crate::proofs::EqLemmas::same_truth_is_one_list))]
 pub fn same_truth_is_one_list()
     ensures same { SameTruthIsOneList }
