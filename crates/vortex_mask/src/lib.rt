@@ -5,7 +5,7 @@ mod bitops;
 mod eq;
 pub mod intersect_by_rank;
 pub mod laws;
-pub mod mask;
+mod mask;
 
 pub use mask::{
     AllOr, Fraction, Mask, MaskBoolIter, MaskError, MaskIter, MaskSetIndices, MaskSetSlices,
