@@ -2,15 +2,16 @@
 use Rattle.std.proofs.Common.{◌≡◌, nat_eq, ℕ, ◌+◌, ◌*◌, ◌-◌, ◌/◌, ◌%◌, ◌<◌, ◌≤◌, ◌⊎◌, Bool, false, List, ◌++◌, length, get_or, take, drop, slice_range, sym, ap, ◌∙◌, inl, inr, arith}
 use Rattle.std.specs.Int.{bit_at}
 use Rattle.std.proofs.lemmas.Bool.{cases_lt}
-use Rattle.std.proofs.lemmas.List.{ext_get_or, get_or-drop, take-append-le, take_all}
+use Rattle.std.proofs.lemmas.List.{ext_get_or, get_or-drop, take-append-le, take_all, length-append, get_or_append_left, get_or-append_right}
+use Rattle.std.proofs.lemmas.List.Edits.{length-between, get_or-between}
 use Rattle.mask_bits.specs.Buffer.{Packed, IsWithinBytes, backing_bit, values}
 use Rattle.mask_bits.specs.Combine.{AreCombined}
 use Rattle.mask_bits.specs.Lists.{combined}
 use Rattle.mask_bits.specs.Words.{word_bits, window}
 use Rattle.mask_bits.proofs.BufferLemmas.{length-values, get_or-values, values_from_front}
 use Rattle.mask_bits.proofs.Lists.BooleanLemmas.{length-combined, get_or-combined}
-use Rattle.mask_bits.proofs.Lists.FrontLemmas.{length-window, get_or-window, window-between}
-use Rattle.mask_bits.proofs.Lists.WordLemmas.{length-word_bits}
+use Rattle.mask_bits.proofs.Lists.FrontLemmas.{length-window, get_or-window, window-between, window_from_bits}
+use Rattle.mask_bits.proofs.Lists.WordLemmas.{length-word_bits, get_or-word_bits}
 
 -- ---- windows
 
@@ -23,6 +24,27 @@ window-neighbors bytes low i v w few first second =
     ∙ ap (λ (m : List Bool). slice_range (window bytes (64 * i) ++ m) low (low + 64)) (second ∙ ap (window bytes) next)
     ∙ window-between bytes (64 * i) low few
     ∙ ap (window bytes) from
+
+-- a word and the byte that follows it show the window from a bit of its first byte on
+pub window-next_byte : (bytes : List ℕ) (low i byte : ℕ) (v : List Bool) → low < 8 → v ≡ window bytes (64 * i) → byte ≡ get_or bytes (8 * i + 8) 0 → slice_range (v ++ word_bits byte) low (low + 64) ≡ window bytes (low + 64 * i)
+window-next_byte bytes low i byte v few first next =
+    let w : List Bool = word_bits byte in
+    let len : length v ≡ 64 = ap length first ∙ length-window bytes (64 * i) in
+    let within : low + 64 ≤ length (v ++ w) = omega (arith, length-append v w, length-word_bits byte) in
+    sym (window_from_bits bytes (low + 64 * i) (slice_range (v ++ w) low (low + 64)) (length-between (v ++ w) low (low + 64) within ∙ omega arith)
+    (λ j h. get_or-between (v ++ w) low (low + 64) j false (omega arith)
+    ∙ elim (cases_lt (low + j) 64) [
+      | inl inside ↦
+          let place : 64 * i + (low + j) ≡ low + 64 * i + j = omega arith in
+          get_or_append_left v w false (low + j) (omega arith) ∙ ap (λ (m : List Bool). get_or m (low + j) false) first
+          ∙ get_or-window bytes (64 * i) (low + j) false inside ∙ ap (backing_bit bytes) place
+      | inr past ↦
+          let at : 8 * i + 8 ≡ (low + 64 * i + j) / 8 = omega arith in
+          let bit : low + j - 64 ≡ (low + 64 * i + j) % 8 = omega arith in
+          get_or-append_right v w 64 (low + j) false len past ∙ get_or-word_bits byte (low + j - 64) false (omega arith)
+          ∙ ap (λ x. nat_eq (bit_at x (low + j - 64)) 1) (next ∙ ap (λ k. get_or bytes k 0) at)
+          ∙ ap (λ k. nat_eq (bit_at (get_or bytes ((low + 64 * i + j) / 8) 0) k) 1) bit
+    ]))
 
 -- ---- words combined
 

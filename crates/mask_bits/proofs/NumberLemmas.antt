@@ -1,10 +1,11 @@
 -- Bytes as one number, the first byte lowest, and its bits.
 use Rattle.std.proofs.Common.{◌≡◌, ℕ, zero, suc, ◌+◌, ◌*◌, ◌-◌, ◌/◌, ◌%◌, ◌^◌, ◌<◌, ◌≤◌, List, [], ◌∷◌, ◌++◌, length, get_or, take, drop, replicate, refl, sym, ap, subst, ◌∙◌, inl, inr, arith, lit<}
-use Rattle.std.proofs.Math.Nat.{pow-suc, mul_assoc}
+use Rattle.std.proofs.Math.Nat.{pow-suc, mul_assoc, mul-div_cancel}
 use Rattle.std.specs.Int.{bit_at, w64, w128, from_le_bytes, to_le_bytes, bytes_low_first, byte_at, sum_through, byte_worth}
 use Rattle.std.specs.Int.RustNames.{bit_and}
 use Rattle.std.proofs.lemmas.Bool.{cases_lt}
-use Rattle.std.proofs.lemmas.List.{get_or-drop, get_or-take, get_or_past, length-append, length-drop, length-take, take_all, take_rest, drop-replicate}
+use Rattle.std.proofs.lemmas.List.{get_or-drop, get_or-take, get_or_past, length-append, length-drop, length-take, take_all, take_rest, drop-replicate, drop-drop}
+use Rattle.std.proofs.lemmas.Nat.{shr-shr, pow_pos}
 use Rattle.std.proofs.lemmas.Nat.Bits.{bit_at-zero, bit_at_cat_low, bit_at_cat_high}
 use Rattle.mask_bits.specs.Number.{number}
 use Rattle.mask_bits.proofs.Lists.ShiftLemmas.{bit_at-shr, bit_at-low_mask}
@@ -14,11 +15,15 @@ abbrev pub AreBytes : List ℕ → Type 0
 AreBytes bytes = (k : ℕ) → get_or bytes k 0 < 256
 
 -- and of the first ones too
-bytes-take : (n : ℕ) (bytes : List ℕ) → AreBytes bytes → AreBytes (take n bytes)
+pub bytes-take : (n : ℕ) (bytes : List ℕ) → AreBytes bytes → AreBytes (take n bytes)
 bytes-take n bytes are k = elim (cases_lt k n) [
   | inl h ↦ subst (λ (x : ℕ). x < 256) (sym (get_or-take n bytes k 0 h)) (are k)
   | inr h ↦ subst (λ (x : ℕ). x < 256) (sym (get_or_past (take n bytes) k 0 (omega (arith, length-take n bytes)))) (lit< tt)
 ]
+
+-- and of those past the first
+pub bytes-drop : (n : ℕ) (bytes : List ℕ) → AreBytes bytes → AreBytes (drop n bytes)
+bytes-drop n bytes are k = subst (λ (x : ℕ). x < 256) (sym (get_or-drop n bytes k 0)) (are (n + k))
 
 -- the bytes of a number
 byte_small : (i n : ℕ) → byte_at i n < 256
@@ -63,7 +68,7 @@ bit_at-window bytes p j are below =
     let q : ℕ = p % 8 + j in
     let read : (k : ℕ) → k < 16 → get_or part k 0 ≡ get_or bytes (p / 8 + k) 0
     = λ k h. get_or-take 16 (drop (p / 8) bytes) k 0 h ∙ get_or-drop (p / 8) bytes k 0 in
-    let are_part : AreBytes part = bytes-take 16 (drop (p / 8) bytes) (λ k. subst (λ (x : ℕ). x < 256) (sym (get_or-drop (p / 8) bytes k 0)) (are (p / 8 + k))) in
+    let are_part : AreBytes part = bytes-take 16 (drop (p / 8) bytes) (bytes-drop (p / 8) bytes are) in
     let byte : p / 8 + q / 8 ≡ (p + j) / 8 = omega arith in
     let bit : q % 8 ≡ (p + j) % 8 = omega arith in
     bit_at-low_mask (number part / 2 ^ (p % 8)) 64 j below
@@ -109,6 +114,29 @@ number-chunk bytes chunk k same =
     let whole : chunk ≡ part = same ∙ take_all 16 part len in
     number_of_sixteen chunk ∙ ap (λ xs. number (take 16 xs)) whole ∙ ap number (take_all 16 part len)
     ∙ ap (λ n. number (take n (drop k bytes))) count
+
+-- shifting bytes out leaves those after them
+number-drop : (k : ℕ) (bytes : List ℕ) → AreBytes bytes → number bytes / 2 ^ (8 * k) ≡ number (drop k bytes)
+number-drop zero bytes are = omega arith
+number-drop (suc k) [] are =
+    let none : 0 ≡ 0 * 2 ^ (8 * suc k) = omega arith in
+    ap (λ n. n / 2 ^ (8 * suc k)) none ∙ mul-div_cancel 0 (pow_pos (8 * suc k))
+number-drop (suc k) (b ∷ bs) are =
+    let small : b < 256 = are 0 in
+    let next : 8 * suc k ≡ 8 + 8 * k = omega arith in
+    let rest : (b + 256 * number bs) / 2 ^ 8 ≡ number bs = omega (arith, small) in
+    ap (λ e. number (b ∷ bs) / 2 ^ e) next ∙ sym (shr-shr (number (b ∷ bs)) 8 (8 * k))
+    ∙ ap (λ n. n / 2 ^ (8 * k)) rest ∙ number-drop k bs (λ j. are (suc j))
+
+-- the end of some bytes, by their last sixteen
+pub number-end : (bytes : List ℕ) (begin first : ℕ) → AreBytes bytes → length bytes ≡ begin + 16 → begin ≤ first → number (take 16 (drop begin bytes)) / 2 ^ (8 * (first - begin)) ≡ number (take 16 (drop first bytes))
+number-end bytes begin first are len after =
+    let last : List ℕ = drop begin bytes in
+    let place : begin + (first - begin) ≡ first = omega arith in
+    ap (λ (xs : List ℕ). number xs / 2 ^ (8 * (first - begin))) (take_all 16 last (omega (arith, length-drop begin bytes)))
+    ∙ number-drop (first - begin) last (bytes-drop begin bytes are)
+    ∙ ap number (drop-drop (first - begin) begin bytes ∙ ap (λ k. drop k bytes) place)
+    ∙ ap number (sym (take_all 16 (drop first bytes) (omega (arith, length-drop first bytes))))
 
 -- fewer than sixteen, and zeros after them
 pub number-padded_chunk : (bytes part : List ℕ) (k : ℕ) → part ≡ take (length bytes - k) (drop k bytes) → length bytes < k + 16

@@ -6,6 +6,7 @@ ghost use Rattle.mask_bits.specs.Buffer.{IsWithinBytes, values};
 ghost use Rattle.mask_bits.specs.Words.{word_bits, word_part, word_parts, padded_remainder};
 ghost use Rattle.mask_bits.specs.Words.{started_words, padded_part, padded_parts};
 
+use crate::read_word::{Covered, ReadWord};
 use crate::words::window;
 use std::marker::Model;
 
@@ -49,7 +50,8 @@ impl<'a> BitChunks<'a> {
         requires { i < length self.now / 64 }
         ensures { word_bits result ≡ word_part self.now i }
     {
-        window(self.bytes, self.offset + 64 * i)
+        let low = (self.offset % 8) as u32;
+        Covered::word(&self.bytes[self.offset / 8..], low, i)
     }
 
     /// The whole words, in their order.
@@ -78,6 +80,9 @@ impl<'a> BitChunks<'a> {
         ensures { word_bits result ≡ padded_remainder self.now }
     {
         let rest = self.len % 64;
+        if rest == 0 {
+            return 0;
+        }
         window(self.bytes, self.offset + (self.len - rest)) & ((1 << rest) - 1)
     }
 
@@ -111,13 +116,10 @@ impl<'a> BitChunks<'a> {
         requires { i < started_words (length self.now) }
         ensures { word_bits result ≡ padded_part self.now i }
     {
-        let position = self.offset + 64 * i;
-        let word = window(self.bytes, position);
-        let left = self.len - 64 * i;
-        if left < 64 {
-            word & ((1 << left) - 1)
+        if i < self.len / 64 {
+            self.word(i)
         } else {
-            word
+            self.remainder_bits()
         }
     }
 }

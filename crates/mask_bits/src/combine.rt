@@ -7,7 +7,7 @@ ghost use Rattle.mask_bits.specs.Combine.{AreCombined};
 ghost use Rattle.mask_bits.specs.Lists.{combined};
 ghost use Rattle.mask_bits.specs.Words.{word_bits};
 
-use crate::read_word::{Anywhere, Neighbors, ReadWord, Whole};
+use crate::read_word::{Anywhere, Covered, Neighbors, ReadWord, Whole};
 use crate::words::set_word;
 
 /// An operation on truth values, done on 64 at once.
@@ -93,15 +93,16 @@ pub fn combine<C: BitOp>(
 {
     let (a, a_low) = (&a[a_offset / 8..], (a_offset % 8) as u32);
     let (b, b_low) = (&b[b_offset / 8..], (b_offset % 8) as u32);
-    let words = len.div_ceil(64);
-    // words that lie in whole words of both, up to the last
-    let inner = (a.len().min(b.len()) / 8).saturating_sub(1).min(words);
+    let (whole, words) = (len / 64, len.div_ceil(64));
     if a_low == 0 && b_low == 0 {
-        extend::<C, Whole>(a, a_low, b, b_low, 0, inner, out);
+        extend::<C, Whole>(a, a_low, b, b_low, 0, whole, out);
     } else {
+        // words beside which another one lies in both, up to the last
+        let inner = (a.len().min(b.len()) / 8).saturating_sub(1).min(whole);
         extend::<C, Neighbors>(a, a_low, b, b_low, 0, inner, out);
+        extend::<C, Covered>(a, a_low, b, b_low, inner, whole, out);
     }
-    extend::<C, Anywhere>(a, a_low, b, b_low, inner, words, out);
+    extend::<C, Anywhere>(a, a_low, b, b_low, whole, words, out);
 }
 
 // Writes words `from` to `to`, where those before are written.

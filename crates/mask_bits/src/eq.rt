@@ -2,10 +2,10 @@ ghost use Rattle.std.specs.Prelude.{◌≡◌, ◌↔◌, ◌+◌, ◌*◌, ◌<
 ghost use Rattle.std.specs.Cmp.{bool_eq_equiv, partial_equiv_from_equiv};
 ghost use Rattle.std.proofs.lemmas.Cmp.{on_equiv, lists_equiv};
 ghost use Rattle.mask_bits.specs.Buffer.{IsWithinBytes, values, same_values};
-ghost use Rattle.mask_bits.specs.Combine.{AreSameBits, IsInTwoWords};
+ghost use Rattle.mask_bits.specs.Combine.{AreSameBits};
 
 use crate::buffer::BitBuffer;
-use crate::read_word::{Anywhere, Neighbors, ReadWord, Whole};
+use crate::read_word::{Covered, Neighbors, ReadWord};
 
 // Two buffers are equal where their lists are; offsets and the bits outside don't count.
 impl PartialEq for BitBuffer {
@@ -43,22 +43,14 @@ fn same_words(a: &[u8], a_offset: usize, b: &[u8], b_offset: usize, words: usize
 {
     let (a, a_low) = (&a[a_offset / 8..], (a_offset % 8) as u32);
     let (b, b_low) = (&b[b_offset / 8..], (b_offset % 8) as u32);
-    // words that lie in whole words of both, up to the last
-    let inner = (a.len().min(b.len()) / 8).saturating_sub(1).min(words);
-    same_inner(a, a_low, b, b_low, inner) && agree::<Anywhere>(a, a_low, b, b_low, inner, words)
-}
-
-// Whether the first words are the same, which lie in whole words of both.
-fn same_inner(a: &[u8], a_low: u32, b: &[u8], b_low: u32, words: usize) -> bool
-    requires inner_a { (i : ℕ) → i < words → IsInTwoWords a.now a_low i }
-    requires inner_b { (i : ℕ) → i < words → IsInTwoWords b.now b_low i }
-    ensures { IsTrue result ↔ AreSameBits a.now a_low b.now b_low (64 * words) }
-{
     if a_low == 0 && b_low == 0 {
-        agree::<Whole>(a, a_low, b, b_low, 0, words)
-    } else {
-        agree::<Neighbors>(a, a_low, b, b_low, 0, words)
+        // the library's own loop over bytes is quicker than one over words
+        return &a[..8 * words] == &b[..8 * words];
     }
+    // words beside which another one lies in both, up to the last
+    let inner = (a.len().min(b.len()) / 8).saturating_sub(1).min(words);
+    agree::<Neighbors>(a, a_low, b, b_low, 0, inner)
+        && agree::<Covered>(a, a_low, b, b_low, inner, words)
 }
 
 // How many words are compared before an early return.

@@ -3,7 +3,7 @@
 //! A loop that is generic over the way compiles to one that tests nothing per word.
 
 ghost use Rattle.std.specs.Prelude.{◌≡◌, ◌+◌, ◌*◌};
-ghost use Rattle.mask_bits.specs.Combine.{IsWholeWord, IsInTwoWords, HasPlace};
+ghost use Rattle.mask_bits.specs.Combine.{IsWholeWord, IsInTwoWords, IsCovered, HasPlace};
 ghost use Rattle.mask_bits.specs.Words.{window as bits_from, word_bits};
 
 use crate::words::{joined, window, word_of};
@@ -27,6 +27,10 @@ pub(crate) struct Whole;
 #[derive(Drop)]
 pub(crate) struct Neighbors;
 
+/// Words of which the bytes have all bits.
+#[derive(Drop)]
+pub(crate) struct Covered;
+
 /// Words wherever they are, the last bytes included.
 #[derive(Drop)]
 pub(crate) struct Anywhere;
@@ -46,6 +50,22 @@ impl ReadWord for Neighbors {
     #[inline]
     fn word(bytes: &[u8], low: u32, i: usize) -> u64 {
         joined(word_of(bytes, i), word_of(bytes, i + 1), low)
+    }
+}
+
+impl ReadWord for Covered {
+    ghost can_read = { IsCovered };
+
+    // tests nothing that a loop over words has to test again, and reads past no end, so that such a
+    // loop needs no slower way for its last words
+    #[inline]
+    fn word(bytes: &[u8], low: u32, i: usize) -> u64 {
+        let word = word_of(bytes, i);
+        if low == 0 {
+            word
+        } else {
+            joined(word, bytes[8 * i + 8] as u64, low)
+        }
     }
 }
 

@@ -65,12 +65,21 @@ fn sixteen(bytes: &[u8], first: usize) -> u128
     ensures { result ≡ number (take 16 (drop first bytes.now)) }
 {
     if first + 16 <= bytes.len() {
-        match bytes[first..first + 16].first_chunk::<16>() {
-            Some(chunk) => u128::from_le_bytes(*chunk),
-            None => unreachable!(),
-        }
+        sixteen_from(bytes, first)
     } else {
         fewer(bytes, first)
+    }
+}
+
+// The same where all sixteen bytes are there.
+#[inline]
+fn sixteen_from(bytes: &[u8], first: usize) -> u128
+    requires { first + 16 ≤ length bytes.now }
+    ensures { result ≡ number (take 16 (drop first bytes.now)) }
+{
+    match bytes[first..first + 16].first_chunk::<16>() {
+        Some(chunk) => u128::from_le_bytes(*chunk),
+        None => unreachable!(),
     }
 }
 
@@ -83,8 +92,24 @@ fn fewer(bytes: &[u8], first: usize) -> u128
     if bytes.len() <= first {
         return 0;
     }
+    // the end of a longer list is read as it stands, since to copy it takes longer
+    if bytes.len() >= 16 {
+        return end_of_last(bytes, first);
+    }
     let rest = &bytes[first..];
     let mut chunk = [0u8; 16];
     chunk[..rest.len()].copy_from_slice(rest);
     u128::from_le_bytes(chunk)
+}
+
+// The same by the last sixteen bytes, with those before byte `first` shifted out.
+#[inline]
+fn end_of_last(bytes: &[u8], first: usize) -> u128
+    requires some { first < length bytes.now }
+    requires near { length bytes.now < first + 16 }
+    requires enough { 16 ≤ length bytes.now }
+    ensures { result ≡ number (take 16 (drop first bytes.now)) }
+{
+    let begin = bytes.len() - 16;
+    sixteen_from(bytes, begin) >> (8 * (first - begin))
 }

@@ -1,17 +1,18 @@
 -- A list in started words: the last one has false values up to a whole word.
-use Rattle.std.proofs.Common.{◌≡◌, ℕ, ◌+◌, ◌*◌, ◌-◌, ◌/◌, ◌%◌, ◌^◌, ◌<◌, ◌≤◌, Bool, false, List, [], ◌∷◌, ◌++◌, length, get_or, drop, refl, sym, ap, ◌∙◌, inl, inr, arith, add_assoc}
+use Rattle.std.proofs.Common.{◌≡◌, ℕ, ◌+◌, ◌*◌, ◌-◌, ◌/◌, ◌%◌, ◌^◌, ◌<◌, ◌≤◌, Bool, false, nat_eq, List, [], ◌∷◌, ◌++◌, length, get_or, drop, refl, sym, ap, ◌∙◌, inl, inr, arith, add_assoc}
 use Rattle.std.specs.Int.RustNames.{bit_and}
 use Rattle.std.proofs.lemmas.Bool.{cases_lt}
 use Rattle.std.proofs.lemmas.List.{drop_more, drop_all, ext_get_or, length-append, length-drop, length-take, get_or_append_left, get_or-append_right, get_or-drop, get_or-take, get_or_past, get_or-replicate, length-replicate}
 use Rattle.std.proofs.lemmas.List.Edits.{length-between, get_or-between}
 use Rattle.std.proofs.lemmas.List.FromFn.{length-map-range_with_len, get_or-map-range_with_len}
+use Rattle.std.proofs.lemmas.Nat.Bits.{bit_at-zero}
 use Rattle.mask_bits.specs.Buffer.{Packed, backing_bit, values}
 use Rattle.mask_bits.specs.Positions.{repeated}
 use Rattle.mask_bits.specs.Words.{word_bits, window, word_part, padded_remainder, started_words, padded_part, padded_parts}
 use Rattle.mask_bits.proofs.BufferLemmas.{length-values, get_or-values}
 use Rattle.mask_bits.proofs.Lists.BitsLemmas.{bits_at, length-bits_at, get_or-bits_at, word_bits-low}
 use Rattle.mask_bits.proofs.Lists.FrontLemmas.{get_or-window}
-use Rattle.mask_bits.proofs.Lists.WordLemmas.{length-word_bits}
+use Rattle.mask_bits.proofs.Lists.WordLemmas.{length-word_bits, get_or-word_bits}
 
 pub length-padded_part : (m : List Bool) (i : ℕ) → length (padded_part m i) ≡ 64
 unfolding repeated
@@ -60,6 +61,14 @@ padded_part-remainder m =
           ∙ get_or-replicate (64 - length m % 64) (j - length front) false false (omega arith)
           ∙ sym (get_or_past m (64 * i + j) false (omega (arith, length-drop (64 * i) m)))
     ])
+
+-- where no value is past the whole parts, the remainder is false values alone
+pub word_bits-no_remainder : (m : List Bool) → length m % 64 ≡ 0 → word_bits 0 ≡ padded_remainder m
+word_bits-no_remainder m none =
+    padded_part_from_values m (word_bits 0) (length m / 64) (length-word_bits 0) (λ j h.
+    get_or-word_bits 0 j false h ∙ ap (λ b. nat_eq b 1) (bit_at-zero j)
+    ∙ sym (get_or_past m (64 * (length m / 64) + j) false (omega arith)))
+    ∙ sym (padded_part-remainder m)
 
 -- ---- the words that bytes show
 

@@ -1,22 +1,26 @@
-use Rattle.std.proofs.Common.{Bool, List, ap, ◌∙◌, arith}
+use Rattle.std.proofs.Common.{Bool, ℕ, List, ◌+◌, ◌*◌, ◌/◌, ◌%◌, length, ap, ◌∙◌, arith}
+use Rattle.std.proofs.lemmas.List.{length-drop, take_rest}
 use Rattle.mask_bits.specs.Buffer.{Packed}
-use Rattle.mask_bits.specs.Words.{word_part}
+use Rattle.mask_bits.specs.Words.{word_part, window}
 use Rattle.mask_bits.proofs.BufferLemmas.{len-of_list}
+use Rattle.mask_bits.proofs.Lists.FrontLemmas.{window-drop}
 use Rattle.mask_bits.proofs.WindowLemmas.{window-word_part}
 use Rattle.mask_bits.proofs.chunks.BitChunks.word.Goals as goal
 
-pub overflow_mul-i : goal.overflow_mul-i
-overflow_mul-i c = omega (arith, len-of_list _ c.self.view_is)
-
-pub overflow_add-self-inside : goal.overflow_add-self-inside
-overflow_add-self-inside c = omega (arith, len-of_list _ c.self.view_is)
-
-pub window-requires : goal.window-requires
-window-requires c = omega (arith, c.self.invariant.covered, len-of_list _ c.self.view_is)
+pub word-requires : goal.word-requires
+word-requires c =
+    let bytes = c.self.inside.bytes.now in
+    let first = c.self.inside.offset / 8 in record {
+      few = omega arith;
+      covered = omega (arith, c.self.invariant.covered, len-of_list _ c.self.view_is, length-drop first bytes, ap length (take_rest bytes first));
+    }
 
 pub returns : goal.returns
 returns c =
     let b : Packed = record { bytes = c.self.inside.bytes.now; offset = c.self.inside.offset; len = c.self.inside.len } in
-    c.window.ensures
+    let low : ℕ = b.offset % 8 + 64 * c.args.i in
+    c.word.ensures
+    ∙ ap (λ (xs : List ℕ). window xs low) (take_rest b.bytes (b.offset / 8))
+    ∙ window-drop b.bytes (b.offset / 8) low (b.offset + 64 * c.args.i) (omega arith)
     ∙ window-word_part b c.args.i (omega (arith, len-of_list _ c.self.view_is))
     ∙ ap (λ (m : List Bool). word_part m c.args.i) c.self.view_is

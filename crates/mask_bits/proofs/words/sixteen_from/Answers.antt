@@ -1,7 +1,7 @@
 use Rattle.std.proofs.Common.{◌∙◌}
 use Rattle.mask_bits.proofs.NumberLemmas.{number-chunk}
-use Rattle.mask_bits.proofs.words.sixteen.Goals as goal
+use Rattle.mask_bits.proofs.words.sixteen_from.Goals as goal
 
-pub returns-in-Some : goal.returns-in-Some
-returns-in-Some c =
+pub returns : goal.returns
+returns c =
     c.from_le_bytes.ensures ∙ number-chunk c.args.bytes.now c.in-Some.chunk.now c.args.first c.in-Some.ensures.cases.same
