@@ -14,6 +14,7 @@ pub mod Mask
 pub mod MaskValues
 pub mod Path
 pub mod Ranges
+pub mod RankBits
 pub mod Ranks
 pub mod Steps
 pub use Rattle.mask_bits.specs.Buffer

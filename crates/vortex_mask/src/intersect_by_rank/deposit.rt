@@ -29,6 +29,8 @@ const FEW: usize = 2;
 pub struct Portable;
 
 impl DepositBits for Portable {
+    // inlined into the loop of a kernel, which knows the count
+    #[inline(always)]
     fn deposit_bits(source: u64, mask: u64, mask_count: usize) -> u64 {
         if mask_count <= FEW {
             deposit_two_lowest(source, mask)
@@ -44,6 +46,7 @@ impl DepositBits for Portable {
 pub struct PortableLoop;
 
 impl DepositBits for PortableLoop {
+    #[inline(always)]
     fn deposit_bits(source: u64, mask: u64, mask_count: usize) -> u64 {
         if mask_count > FEW {
             deposit_in_turn(source, mask)

@@ -11,16 +11,22 @@ pub struct RankBits<'a> {
     bytes: &'a [u8],
     offset: usize,
     len: usize,
+    // The bytes from `tail_from` on, at most sixteen, and zeros behind them. A sparse mask has many
+    // reads that begin there, and by this copy each is a load, where bytes end before its own do.
+    tail: [u8; 32],
+    tail_from: usize,
 }
 
 impl<'a> Model for RankBits<'a> {
     ghost use Rattle.mask_bits.specs.Buffer.{Packed, IsWithinBytes};
+    ghost use Rattle.vortex_mask.specs.RankBits.{IsTail};
 
     ghost Value = { Packed };
 
     ghost view = { λ r. record { bytes = r.bytes.now; offset = r.offset; len = r.len } };
 
-    ghost invariant = { λ r. IsWithinBytes r.bytes.now r.offset r.len };
+    ghost invariant = { λ r. IsWithinBytes r.bytes.now r.offset r.len
+        × IsTail r.bytes.now r.tail r.tail_from };
 }
 
 impl<'a> RankBits<'a> {
@@ -39,17 +45,33 @@ impl<'a> RankBits<'a> {
         ensures bits { result ≡ record { bytes = bytes.now; offset = offset; len = len } }
         ensures within { IsWithinBytes result.bytes result.offset result.len }
     {
-        RankBits { bytes, offset, len }
+        let tail_from = bytes.len().saturating_sub(16);
+        let last = &bytes[tail_from..];
+        let mut tail = [0u8; 32];
+        tail[..last.len()].copy_from_slice(last);
+        RankBits {
+            bytes,
+            offset,
+            len,
+            tail,
+            tail_from,
+        }
     }
 
     /// The 64 backing bits from value `offset` on, the first lowest.
     ///
     /// Those past the bytes are 0. Those past the last value but inside the bytes are as they
     /// stand, since a deposit ignores the bits past its mask's count.
+    #[inline(always)]
     pub fn read(&self, offset: usize) -> u64
         requires { self.now.offset + offset < 2 ^ 64 }
         ensures { word_bits result ≡ window self.now.bytes (self.now.offset + offset) }
     {
-        words::window(self.bytes, self.offset + offset)
+        let position = self.offset + offset;
+        if position / 8 + 16 <= self.bytes.len() {
+            words::window(self.bytes, position)
+        } else {
+            words::window(&self.tail, position - 8 * self.tail_from)
+        }
     }
 }

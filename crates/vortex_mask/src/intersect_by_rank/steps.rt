@@ -16,6 +16,9 @@ use std::marker::Model;
 /// How many words a kernel has deposited, read and selected in, and sums over these steps.
 ///
 /// A step adds at most 64 to a sum, so a sum never passes its type.
+//
+// The steps are inlined always, so that a kernel's loop keeps the counters in registers: a call
+// would write them back for each word.
 #[derive(Drop)]
 pub struct Steps {
     deposits: usize,
@@ -101,6 +104,7 @@ impl Steps {
     }
 
     /// Deposits the bits of `source` at the set places of `mask`, of which there are `mask_count`.
+    #[inline(always)]
     pub fn deposit<D: DepositBits>(&mut self, source: u64, mask: u64, mask_count: usize) -> u64
         requires room { self.old.deposits < usize.MAX }
         requires counted { mask_count ≡ count (word_bits mask) }
@@ -120,6 +124,7 @@ impl Steps {
 
     /// Word `i` of the values: a whole word, or as the last one the values after the whole words
     /// in its low bits and zeros above.
+    #[inline(always)]
     pub fn word(&mut self, chunks: &BitChunks<'_>, i: usize) -> u64
         requires room { self.old.words < usize.MAX }
         requires there { 64 * i < length chunks.now }
@@ -136,6 +141,7 @@ impl Steps {
     }
 
     /// The place of set bit number `rank` of `word`.
+    #[inline(always)]
     pub fn select<S: SelectBit>(&mut self, word: u64, rank: usize) -> usize
         requires room { self.old.selections < usize.MAX }
         requires inside { rank < count (word_bits word) }

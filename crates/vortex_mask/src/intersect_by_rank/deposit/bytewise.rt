@@ -26,6 +26,8 @@ ghost use Rattle.vortex_mask.specs.Bytes.{byte_at, EachByte, packed_after, lande
 ghost use Rattle.vortex_mask.specs.Deposit.{Deposits};
 
 /// The deposit at every mask. It takes about as long at each: some hundred word operations.
+// Inlined, so that a kernel's loop loads the constants of the network once.
+#[inline(always)]
 pub fn deposit_bytewise(source: u64, mask: u64) -> u64
     ensures { Deposits source mask result }
 {
