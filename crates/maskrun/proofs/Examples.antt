@@ -6,8 +6,8 @@ use Rattle.maskrun.specs.Arguments.{mask_argument, number_argument}
 use Rattle.mask_bits.specs.Buffer.{values}
 use Rattle.mask_bits.specs.Lists.{limited}
 use Rattle.mask_bits.specs.Positions.{positions, count_below, repeated, true_at, rank_intersection, chosen}
-use Rattle.maskrun.specs.declared.answer.command.Command.TheVariants.{Rank}
-use Rattle.maskrun.specs.declared.answer.error.RunError.TheVariants.{Usage, BadBit, LengthsDiffer, BadNumber, OutOfRange}
+use Rattle.maskrun.specs.declared.command.Command.TheVariants.{Rank}
+use Rattle.maskrun.specs.declared.error.RunError.TheVariants.{Usage, BadBit, LengthsDiffer, BadNumber, OutOfRange}
 
 -- 10011101 and 00101
 a : List Bool

@@ -5,7 +5,7 @@ use Rattle.std.specs.Char.{is_ascii_digit}
 use Rattle.std.specs.List.{list_all}
 use Rattle.std.specs.Str.Parse.{digits_value}
 use Rattle.maskrun.specs.Arguments.{number_argument}
-use Rattle.maskrun.specs.declared.answer.error.RunError.TheVariants.{BadNumber}
+use Rattle.maskrun.specs.declared.error.RunError.TheVariants.{BadNumber}
 
 -- std's digits are these
 pub digits : IsNumeralModel (λ ds. list_all is_ascii_digit ds ≡ true) (digits_value 10)

@@ -1,12 +1,9 @@
--- Masks without a misfit are a stack, and no masks fold to no values.
-use Rattle.std.proofs.Common.{◌≡◌, ◌<◌, ◌↔◌, ◌==◌, Bool, List, [], ◌∷◌, length, map, None, inl, inr, refl, eq-eqb, arith, tests}
+-- Masks without a misfit are a stack, and no others are.
+use Rattle.std.proofs.Common.{◌≡◌, ◌↔◌, ◌==◌, Bool, List, [], ◌∷◌, length, None, inl, inr, refl, eq-eqb, arith, tests}
 use Rattle.std.proofs.lemmas.Bool.{cases_Bool}
-use Rattle.mask_bits.specs.Positions.{count, repeated}
-use Rattle.mask_bits.specs.Stacks.{IsStack, folded_left}
+use Rattle.mask_bits.specs.Positions.{count}
+use Rattle.mask_bits.specs.Stacks.{IsStack}
 use Rattle.maskrun.specs.Commands.{misfit}
-use Rattle.vortex_mask.specs.Mask.{truth}
-use Rattle.vortex_mask.specs.declared.mask.Mask.{Mask}
-use Rattle.vortex_mask.specs.declared.mask.Mask.TheVariants.{AllFalse}
 
 stack_from_no_misfit : (ms : List (List Bool)) → misfit ms ≡ None → IsStack ms
 stack_from_no_misfit [] none = tt
@@ -24,8 +21,3 @@ no_misfit_from_stack (a ∷ b ∷ ms) stack = rw (eq-eqb (length b) (count a) st
 
 pub stacks_have_no_misfit : (ms : List (List Bool)) → (misfit ms ≡ None) ↔ IsStack ms
 stacks_have_no_misfit ms = (stack_from_no_misfit ms, no_misfit_from_stack ms)
-
-pub no_masks : (masks : List Mask) → length masks < 1 → truth (AllFalse 0) ≡ folded_left (map truth masks)
-unfolding repeated
-no_masks [] none = refl
-no_masks (m ∷ masks) none = absurd (omega arith)

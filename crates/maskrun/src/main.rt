@@ -2,6 +2,12 @@
 #![tactic(auto)]
 
 pub mod answer;
+mod argument;
+mod command;
+mod error;
+mod print;
+#[cfg(test)]
+mod tests;
 
 use std::alloc::Global;
 use std::process::ExitCode;

@@ -1,0 +1,74 @@
+//! A mask and a list as they are printed.
+
+ghost use Rattle.std.specs.Prelude.{◌≡◌, ◌<◌, ◌++◌, IfOk, OnOk, string_bytes};
+ghost use Rattle.std.specs.Fmt.{decimal};
+ghost use Rattle.maskrun.specs.Text.{digit, text, list_text, range_text};
+ghost use Rattle.vortex_mask.specs.Mask.{truth};
+
+use std::alloc::{AllocError, Global};
+use vortex_mask::Mask;
+
+pub(crate) fn mask_text(alloc: Global, mask: &Mask) -> Result<String, AllocError>
+    ensures { IfOk result (λ t. string_bytes t ≡ text (truth mask.now)) }
+{
+    if mask.is_empty() {
+        return String::from_str(alloc, "-");
+    }
+    let mut digits = String::new(alloc);
+    for value in mask.iter() {
+        digits.push(digit_of(value))?;
+    }
+    Ok(digits)
+}
+
+fn digit_of(value: bool) -> char
+    ensures digit { result ≡ digit value }
+    ensures ascii { result < 128 }
+{
+    if value { '1' } else { '0' }
+}
+
+// What a printed list may have as an item.
+pub(crate) trait Item {
+    ghost use Rattle.std.specs.Prelude.{ℕ, List};
+
+    ghost text: { Self → List ℕ };
+
+    // Writes the item behind what is there.
+    fn write(&self, line: &mut String) -> Result<(), AllocError>
+        ensures { OnOk result (string_bytes line.new ≡ string_bytes line.old ++ text self.now) };
+}
+
+// A place.
+impl Item for usize {
+    ghost text = { decimal };
+
+    fn write(&self, line: &mut String) -> Result<(), AllocError> {
+        write!(line, "{self}")
+    }
+}
+
+// A range: its first place, and the place past its last.
+impl Item for (usize, usize) {
+    ghost text = { range_text };
+
+    fn write(&self, line: &mut String) -> Result<(), AllocError> {
+        let (start, end) = *self;
+        write!(line, "{start}..{end}")
+    }
+}
+
+pub(crate) fn list_text<T: Item>(alloc: Global, items: &[T]) -> Result<String, AllocError>
+    ensures { IfOk result (λ line. string_bytes line ≡ list_text T.text items.now) }
+{
+    let [first, rest @ ..] = items else {
+        return String::from_str(alloc, "-");
+    };
+    let mut line = String::new(alloc);
+    first.write(&mut line)?;
+    for item in rest {
+        line.push(' ')?;
+        item.write(&mut line)?;
+    }
+    Ok(line)
+}
