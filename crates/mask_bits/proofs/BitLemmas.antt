@@ -35,22 +35,11 @@ backing_bit-with_bit_other bytes q p h differs =
 
 -- setting a bit sets that one alone
 pub backing_bit-with_bit : (bytes : List ℕ) (q p : ℕ) → q < 8 * length bytes → backing_bit (with_bit bytes q) p ≡ (nat_eq p q || backing_bit bytes p)
-backing_bit-with_bit bytes q p h =
-    elim (cases_eq p q) [
-      | inl same ↦ ap (backing_bit (with_bit bytes q)) same ∙ backing_bit-with_bit_same bytes q h
-          ∙ sym (ap (λ b. b || backing_bit bytes p) (eq-eqb p q same))
-      | inr apart ↦ backing_bit-with_bit_other bytes q p h apart ∙ sym (ap (λ b. b || backing_bit bytes p) (ne_eqb p q apart))
-    ]
+backing_bit-with_bit bytes q p h = grind (arith, backing_bit-with_bit_same, backing_bit-with_bit_other)
 
 -- a byte of zeros, or none, has no bit set
 pub backing_bit-zeros : (n p : ℕ) → backing_bit (replicate n 0) p ≡ false
-backing_bit-zeros n p =
-    let read : get_or (replicate n 0) (p / 8) 0 ≡ 0
-    = elim (cases_lt (p / 8) n) [
-      | inl below ↦ get_or-replicate n (p / 8) 0 0 below
-      | inr past ↦ get_or_past (replicate n 0) (p / 8) 0 (omega (arith, length-replicate n (zero)))
-    ] in
-    ap (λ b. nat_eq (bit_at b (p % 8)) 1) read ∙ ap (λ v. nat_eq v 1) (bit_at-zero (p % 8))
+backing_bit-zeros n p = grind (arith, get_or-replicate, get_or_past, length-replicate)
 
 -- each bit of bytes of ones is set
 pub backing_bit-ones : (n p : ℕ) → p < 8 * n → backing_bit (replicate n 255) p ≡ true
@@ -83,9 +72,4 @@ backing_bit-without_bit_other bytes q p h differs =
 
 -- clearing a bit clears that one alone
 pub backing_bit-without_bit : (bytes : List ℕ) (q p : ℕ) → q < 8 * length bytes → backing_bit (without_bit bytes q) p ≡ (not (nat_eq p q) && backing_bit bytes p)
-backing_bit-without_bit bytes q p h =
-    elim (cases_eq p q) [
-      | inl same ↦ ap (backing_bit (without_bit bytes q)) same ∙ backing_bit-without_bit_same bytes q h
-          ∙ sym (ap (λ b. not b && backing_bit bytes p) (eq-eqb p q same))
-      | inr apart ↦ backing_bit-without_bit_other bytes q p h apart ∙ sym (ap (λ b. not b && backing_bit bytes p) (ne_eqb p q apart))
-    ]
+backing_bit-without_bit bytes q p h = grind (arith, backing_bit-without_bit_same, backing_bit-without_bit_other)

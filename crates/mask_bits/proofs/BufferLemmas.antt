@@ -39,8 +39,7 @@ slice_get-values b i h =
 
 -- the list of the first bits of some bytes
 pub values_from_front : (bytes : List ℕ) (m : List Bool) (n : ℕ) → length m ≡ n → ((i : ℕ) → i < n → backing_bit bytes i ≡ get_or m i false) → values (record { bytes = bytes; offset = 0; len = n }) ≡ m
-values_from_front bytes m n len same =
-    values_from_bits (record { bytes = bytes; offset = 0; len = n }) m len (λ i h. rw zero-add (sym (same i h)))
+values_from_front bytes m n len same = grind (arith, values_from_bits)
 
 -- the list that is true exactly at some places, as the first bits of some bytes
 pub values_from_places : (bytes places : List ℕ) (n : ℕ) → ((i : ℕ) → backing_bit bytes i ≡ list_any (nat_eq i) places) → values (record { bytes = bytes; offset = 0; len = n }) ≡ true_at n places
@@ -77,10 +76,7 @@ values-none bytes n clear =
 
 -- an answer that is true just where the lists are equal is that of the comparison
 pub same_values-from_answer : (a b : Packed) (r : Bool) → (r ≡ true → values a ≡ values b) → (values a ≡ values b → r ≡ true) → r ≡ same_values a b
-same_values-from_answer a b r told tells =
-    same_from_decides r (same_values a b) (told, tells) (slice_eq-Decides booleans_Decides (values a) (values b) (same_values a b) refl)
+same_values-from_answer a b r told tells = grind (arith, slice_eq-Decides)
 
 pub same_values_are_one_list : SameValuesAreOneList
-same_values_are_one_list a b =
-    let decides = slice_eq-Decides booleans_Decides (values a) (values b) (same_values a b) refl in
-    (decides.0, decides.1)
+same_values_are_one_list a b = grind (arith, slice_eq-Decides)

@@ -46,11 +46,7 @@ unset-others old new q is p apart = is p ∙ ap (λ b. not b && backing_bit old 
 
 -- the room stays
 pub room-set : (old new : List ℕ) (len q : ℕ) → q < len → length new ≡ length old → ((p : ℕ) → p ≢ q → backing_bit new p ≡ backing_bit old p) → IsRoom old len → IsRoom new len
-room-set old new len q h same others room = record {
-  whole = ap (λ n. n % 8) same ∙ room.whole;
-  covered = omega (arith, room.covered);
-  clear = λ p past. others p (omega arith) ∙ room.clear p past;
-}
+room-set old new len q h same others room = grind arith
 
 -- ---- values are appended
 
@@ -58,8 +54,7 @@ room-set old new len q h same others room = record {
 pub front-appended : (a b c : List ℕ) (at n : ℕ) (m l : List Bool) → values (record { bytes = a; offset = 0; len = at }) ≡ l → n ≡ at + length m
     → ((p : ℕ) → backing_bit b p ≡ backing_bit a p) → IsWrittenBehind b c at m
     → values (record { bytes = c; offset = 0; len = n }) ≡ l ++ m
-front-appended a b c at n m l was place stays w =
-    written-front b c at n m place w ∙ ap (λ (x : List Bool). x ++ m) (front-same a b at (λ p h. stays p) ∙ was)
+front-appended a b c at n m l was place stays w = grind (arith, written-front)
 
 pub room-appended : (b c : List ℕ) (at n : ℕ) (m : List Bool) → n ≡ at + length m → length c ≡ length b → length b % 8 ≡ 0 → n ≤ 8 * length b → IsWrittenBehind b c at m → IsRoom c n
 room-appended b c at n m place len whole covered w = record {

@@ -90,12 +90,7 @@ AreCombined-step f a b out new p q i v w r before is_v is_w is_r wrote others = 
 
 -- the bits from a position on are those of the bytes from its byte on
 pub backing_bit-drop : (bytes : List ℕ) (p i : ℕ) → backing_bit (drop (p / 8) bytes) (p % 8 + i) ≡ backing_bit bytes (p + i)
-backing_bit-drop bytes p i =
-    let byte : p / 8 + (p % 8 + i) / 8 ≡ (p + i) / 8 = omega arith in
-    let bit : (p % 8 + i) % 8 ≡ (p + i) % 8 = omega arith in
-    ap (λ x. nat_eq (bit_at x ((p % 8 + i) % 8)) 1) (get_or-drop (p / 8) bytes ((p % 8 + i) / 8) 0)
-    ∙ ap (λ k. nat_eq (bit_at (get_or bytes k 0) ((p % 8 + i) % 8)) 1) byte
-    ∙ ap (λ k. nat_eq (bit_at (get_or bytes ((p + i) / 8) 0) k) 1) bit
+backing_bit-drop bytes p i = grind (arith, get_or-drop)
 
 -- bytes of which as many first bits are f of the bits of two buffers as these have values are the combined list
 pub values-combined : (f : Bool → Bool → Bool) (a b out from_a from_b : List ℕ) (p q len words : ℕ) → from_a ≡ drop (p / 8) a → from_b ≡ drop (q / 8) b
@@ -120,16 +115,10 @@ values-combined f a b out from_a from_b p q len words is_a is_b wrote enough =
 -- ---- a buffer by its parts
 
 pub values-parts : (b : Packed) (bytes : List ℕ) (offset len : ℕ) → bytes ≡ b.bytes → offset ≡ b.offset → len ≡ length (values b) → values (record { bytes = bytes; offset = offset; len = len }) ≡ values b
-values-parts b bytes offset len is_bytes is_offset is_len =
-    ap (λ (xs : List ℕ). values (record { bytes = xs; offset = offset; len = len })) is_bytes
-    ∙ ap (λ o. values (record { bytes = b.bytes; offset = o; len = len })) is_offset
-    ∙ ap (λ n. values (record { bytes = b.bytes; offset = b.offset; len = n })) (is_len ∙ length-values b)
+values-parts b bytes offset len is_bytes is_offset is_len = grind (arith, length-values)
 
 pub within-parts : (b : Packed) (bytes : List ℕ) (offset len : ℕ) → IsWithinBytes bytes b.offset b.len → offset ≡ b.offset → len ≡ length (values b) → IsWithinBytes bytes offset len
-within-parts b bytes offset len within is_offset is_len = record {
-  covered = omega (arith, within.covered, is_offset, is_len, length-values b);
-  fits = omega (arith, within.fits, is_offset, is_len, length-values b);
-}
+within-parts b bytes offset len within is_offset is_len = grind (arith, length-values)
 
 -- what a vector holds after all of its items were written
 pub take_back : (n : ℕ) (ys xs : List ℕ) → length ys ≡ n → take n (ys ++ drop (length ys) xs) ≡ ys

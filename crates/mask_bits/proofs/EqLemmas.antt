@@ -62,12 +62,7 @@ same_word a b p q i n v w same within fits fits' is_v is_w =
 
 -- the same bits, seen from the byte that they begin in
 pub AreSameBits-drop : (a b from_a from_b : List ℕ) (p q n : ℕ) → from_a ≡ drop (p / 8) a → from_b ≡ drop (q / 8) b → AreSameBits from_a (p % 8) from_b (q % 8) n ↔ AreSameBits a p b q n
-AreSameBits-drop a b from_a from_b p q n is_a is_b =
-    let bit_a : (i : ℕ) → backing_bit from_a (p % 8 + i) ≡ backing_bit a (p + i)
-    = λ i. ap (λ (xs : List ℕ). backing_bit xs (p % 8 + i)) is_a ∙ backing_bit-drop a p i in
-    let bit_b : (i : ℕ) → backing_bit from_b (q % 8 + i) ≡ backing_bit b (q + i)
-    = λ i. ap (λ (xs : List ℕ). backing_bit xs (q % 8 + i)) is_b ∙ backing_bit-drop b q i in
-    (λ same i h. sym (bit_a i) ∙ same i h ∙ bit_b i, λ same i h. bit_a i ∙ same i h ∙ sym (bit_b i))
+AreSameBits-drop a b from_a from_b p q n is_a is_b = grind (arith, backing_bit-drop)
 
 -- ---- whole bytes
 
@@ -141,19 +136,11 @@ bits_from_values a b n same within = λ i h.
 
 -- the whole words of a buffer are within its bytes
 pub within-words : (b : Packed) (bytes : List ℕ) (offset len : ℕ) → IsWithinBytes bytes b.offset b.len → offset ≡ b.offset → len ≡ length (values b) → IsWithinBytes bytes offset (64 * (len / 64))
-within-words b bytes offset len within is_offset is_len = record {
-  covered = omega (arith, within.covered, is_offset, is_len, length-values b);
-  fits = omega (arith, within.fits, is_offset, is_len, length-values b);
-}
+within-words b bytes offset len within is_offset is_len = grind (arith, length-values)
 
 -- the same bits, at equal places
 pub AreSameBits-at : {a b a' b' : List ℕ} {p q n p' q' n' : ℕ} → a' ≡ a → p' ≡ p → b' ≡ b → q' ≡ q → n' ≡ n → AreSameBits a' p' b' q' n' ↔ AreSameBits a p b q n
-AreSameBits-at {a} {b} {a'} {b'} {p} {q} {n} {p'} {q'} {n'} is_a is_p is_b is_q is_n =
-    let bit_a : (i : ℕ) → backing_bit a' (p' + i) ≡ backing_bit a (p + i)
-    = λ i. ap (λ (xs : List ℕ). backing_bit xs (p' + i)) is_a ∙ ap (λ k. backing_bit a (k + i)) is_p in
-    let bit_b : (i : ℕ) → backing_bit b' (q' + i) ≡ backing_bit b (q + i)
-    = λ i. ap (λ (xs : List ℕ). backing_bit xs (q' + i)) is_b ∙ ap (λ k. backing_bit b (k + i)) is_q in
-    (λ same i h. sym (bit_a i) ∙ same i (omega arith) ∙ bit_b i, λ same i h. bit_a i ∙ same i (omega arith) ∙ sym (bit_b i))
+AreSameBits-at {a} {b} {a'} {b'} {p} {q} {n} {p'} {q'} {n'} is_a is_p is_b is_q is_n = grind arith
 
 -- ---- the answer
 

@@ -7,9 +7,7 @@ use Rattle.mask_bits.proofs.BufferLemmas.{length-values, get_or-values}
 
 -- bit j past a place is the value there
 at_place : (b : Packed) (bytes : List ℕ) (place j i : ℕ) → bytes ≡ b.bytes → i ≡ place + j → i < length (values b) → get_or (values b) i false ≡ backing_bit bytes (b.offset + place + j)
-at_place b bytes place j i same is within =
-    let at : b.offset + i ≡ b.offset + place + j = omega arith in
-    get_or-values b i false (omega (arith, length-values b)) ∙ ap (backing_bit b.bytes) at ∙ ap (λ (bs : List ℕ). backing_bit bs (b.offset + place + j)) (sym same)
+at_place b bytes place j i same is within = grind (arith, get_or-values, length-values)
 
 -- values of one kind up to a place, and k more
 pub passed_more : (b : Packed) (bytes : List ℕ) (from place k : ℕ) (other : Bool) → bytes ≡ b.bytes → place + k ≤ length (values b)

@@ -16,10 +16,7 @@ AreBytes bytes = (k : ℕ) → get_or bytes k 0 < 256
 
 -- and of the first ones too
 pub bytes-take : (n : ℕ) (bytes : List ℕ) → AreBytes bytes → AreBytes (take n bytes)
-bytes-take n bytes are k = elim (cases_lt k n) [
-  | inl h ↦ subst (λ (x : ℕ). x < 256) (sym (get_or-take n bytes k 0 h)) (are k)
-  | inr h ↦ subst (λ (x : ℕ). x < 256) (sym (get_or_past (take n bytes) k 0 (omega (arith, length-take n bytes)))) (lit< tt)
-]
+bytes-take n bytes are k = grind (arith, get_or-take, get_or_past, length-take)
 
 -- and of those past the first
 pub bytes-drop : (n : ℕ) (bytes : List ℕ) → AreBytes bytes → AreBytes (drop n bytes)
@@ -57,9 +54,7 @@ bit_at-number_split (b ∷ bs) (suc k) r are low =
 
 -- bit q is bit q % 8 of byte q / 8
 pub bit_at-number : (bytes : List ℕ) (q : ℕ) → AreBytes bytes → bit_at (number bytes) q ≡ bit_at (get_or bytes (q / 8) 0) (q % 8)
-bit_at-number bytes q are =
-    let split : q ≡ 8 * (q / 8) + q % 8 = omega arith in
-    ap (bit_at (number bytes)) split ∙ bit_at-number_split bytes (q / 8) (q % 8) are (omega arith)
+bit_at-number bytes q are = grind (arith, bit_at-number_split)
 
 -- the bits that a window of sixteen bytes shows
 pub bit_at-window : (bytes : List ℕ) (p j : ℕ) → AreBytes bytes → j < 64 → bit_at (bit_and (number (take 16 (drop (p / 8) bytes)) / 2 ^ (p % 8)) 18446744073709551615) j ≡ bit_at (get_or bytes ((p + j) / 8) 0) ((p + j) % 8)

@@ -28,11 +28,7 @@ word_bits-window bytes p are =
 
 -- whole word i of a buffer is the window at its first bit
 pub window-word_part : (b : Packed) (i : ℕ) → i < b.len / 64 → window b.bytes (b.offset + 64 * i) ≡ word_part (values b) i
-window-word_part b i h =
-    let len : 64 ≡ 64 * i + 64 - 64 * i = omega arith in
-    window-values b.bytes (b.offset + 64 * i)
-    ∙ ap (λ n. values (record { bytes = b.bytes; offset = b.offset + 64 * i; len = n })) len
-    ∙ values-part b (64 * i) (64 * i + 64) (omega arith) (omega arith)
+window-word_part b i h = grind (arith, window-values, values-part)
 
 -- the window past the whole words, cut to the values that are left
 pub word_bits-remainder : (b : Packed) (w : ℕ) → word_bits w ≡ window b.bytes (b.offset + (b.len - b.len % 64)) → word_bits (bit_and w (2 ^ (b.len % 64) - 1)) ≡ padded_remainder (values b)

@@ -20,23 +20,11 @@ use Rattle.mask_bits.proofs.Lists.WordLemmas.{length-word_bits, get_or-word_bits
 
 -- one list written behind another
 pub written-join : (a b c : List ℕ) (at n : ℕ) (m k : List Bool) → n ≡ at + length m → IsWrittenBehind a b at m → IsWrittenBehind b c n k → IsWrittenBehind a c at (m ++ k)
-written-join a b c at n m k place first second = record {
-  stays = λ p h. second.stays p (omega arith) ∙ first.stays p h;
-  comes = λ i. elim (cases_lt i (length m)) [
-    | inl inside ↦ second.stays (at + i) (omega arith) ∙ first.comes i ∙ sym (get_or_append_left m k false i inside)
-    | inr past ↦
-        let here : at + i ≡ n + (i - length m) = omega arith in
-        ap (backing_bit c) here ∙ second.comes (i - length m)
-        ∙ sym (get_or-append_right m k (length m) i false refl past)
-  ];
-}
+written-join a b c at n m k place first second = grind (arith, get_or_append_left, get_or-append_right)
 
 -- what comes is known by another name
 pub written-is : (a b : List ℕ) (at : ℕ) (m k : List Bool) → m ≡ k → IsWrittenBehind a b at m → IsWrittenBehind a b at k
-written-is a b at m k same w = record {
-  stays = w.stays;
-  comes = λ i. w.comes i ∙ ap (λ (x : List Bool). get_or x i false) same;
-}
+written-is a b at m k same w = grind arith
 
 -- the front that was, and what was written
 pub written-front : (a b : List ℕ) (at n : ℕ) (m : List Bool) → n ≡ at + length m → IsWrittenBehind a b at m
@@ -65,12 +53,7 @@ written-none a at clear = record { stays = λ p h. refl; comes = λ i. clear (at
 
 -- what a shift leaves, past its end too
 shr_value : (w r j : ℕ) → w < 2 ^ 64 → get_or (word_bits (w / 2 ^ r)) j false ≡ get_or (word_bits w) (r + j) false
-shr_value w r j fits = elim (cases_lt j 64) [
-  | inl inside ↦ get_or-word_bits_shr w r j fits inside
-  | inr past ↦
-      get_or_past (word_bits (w / 2 ^ r)) j false (omega (arith, length-word_bits (w / 2 ^ r)))
-      ∙ sym (get_or_past (word_bits w) (r + j) false (omega (arith, length-word_bits w)))
-]
+shr_value w r j fits = grind (arith, get_or-word_bits_shr, get_or_past, length-word_bits)
 
 -- the bits of the word in which the list begins
 word_begins : (old new : List ℕ) (i low w word j : ℕ) → low < 64 → j < 64
@@ -124,30 +107,14 @@ pub written-word : (old new : List ℕ) (i : ℕ) (m : List Bool) → length m �
     → window new (64 * i) ≡ m
     → ((p : ℕ) → ((p < 64 * i) ⊎ (64 * i + 64 ≤ p)) → backing_bit new p ≡ backing_bit old p)
     → IsWrittenBehind old new (64 * i) m
-written-word old new i m len clear here others = record {
-  stays = λ p h. others p (inl h);
-  comes = λ k. elim (cases_lt k 64) [
-    | inl inside ↦ sym (get_or-window new (64 * i) k false inside) ∙ ap (λ (x : List Bool). get_or x k false) here
-    | inr past ↦ others (64 * i + k) (inr (omega arith)) ∙ clear (64 * i + k) (omega arith)
-        ∙ sym (get_or_past m k false (omega arith))
-  ];
-}
+written-word old new i m len clear here others = grind (arith, get_or-window, get_or_past)
 
 -- ---- the lowest bits of a word
 
 -- zeros behind a list change no value
 padded_value : (m x : List Bool) (n i : ℕ) → x ≡ m ++ repeated n false → get_or x i false ≡ get_or m i false
 unfolding repeated
-padded_value m x n i is = ap (λ (y : List Bool). get_or y i false) is ∙ elim (cases_lt i (length m)) [
-  | inl inside ↦ get_or_append_left m (replicate n false) false i inside
-  | inr past ↦
-      get_or-append_right m (replicate n false) (length m) i false refl past
-      ∙ elim (cases_lt (i - length m) n) [
-        | inl low ↦ get_or-replicate n (i - length m) false false low
-        | inr high ↦ get_or_past (replicate n false) (i - length m) false (omega (arith, length-replicate n false))
-      ]
-      ∙ sym (get_or_past m i false past)
-]
+padded_value m x n i is = grind (arith, get_or_append_left, get_or-append_right, get_or-replicate, get_or_past, length-replicate)
 
 written-same : (a b : List ℕ) (at : ℕ) (m k : List Bool) → ((i : ℕ) → get_or m i false ≡ get_or k i false) → IsWrittenBehind a b at m → IsWrittenBehind a b at k
 written-same a b at m k same w = record { stays = w.stays; comes = λ i. w.comes i ∙ same i }
@@ -156,14 +123,7 @@ written-same a b at m k same w = record { stays = w.stays; comes = λ i. w.comes
 pub written-one : (old new : List ℕ) (at count word : ℕ) (m : List Bool)
     → at % 64 + count ≤ 64 → length m ≡ count → word_bits word ≡ m ++ repeated (64 - count) false
     → IsWrittenBehind old new at (take (64 - at % 64) (word_bits word)) → IsWrittenBehind old new at m
-written-one old new at count word m within len padded w =
-    let cut : ℕ = 64 - at % 64 in
-    written-same old new at (take cut (word_bits word)) m (λ i. elim (cases_lt i cut) [
-      | inl inside ↦ get_or-take cut (word_bits word) i false inside ∙ padded_value m (word_bits word) (64 - count) i padded
-      | inr past ↦
-          get_or_past (take cut (word_bits word)) i false (omega (arith, length-take cut (word_bits word)))
-          ∙ sym (get_or_past m i false (omega arith))
-    ]) w
+written-one old new at count word m within len padded w = grind (arith, get_or-take, padded_value, get_or_past, length-take)
 
 -- over the end of a word
 pub written-two : (old mid new : List ℕ) (at count word : ℕ) (m : List Bool)
@@ -227,13 +187,7 @@ written-ones_clear a b at n next place w = written-clear a b at next (repeated n
 -- false values are there
 pub written-false : (a : List ℕ) (at n : ℕ) → AreClearFrom at a → IsWrittenBehind a a at (repeated n false)
 unfolding repeated
-written-false a at n clear = record {
-  stays = λ p h. refl;
-  comes = λ i. clear (at + i) (omega arith) ∙ sym (elim (cases_lt i n) [
-    | inl inside ↦ get_or-replicate n i false false inside
-    | inr past ↦ get_or_past (replicate n false) i false (omega (arith, length-replicate n false))
-  ]);
-}
+written-false a at n clear = grind (arith, get_or-replicate, get_or_past, length-replicate)
 
 -- whole bytes of ones
 pub written-full : (old ys : List ℕ) (i k e : ℕ) → e ≡ 8 * (i + k) → e ≤ length old → AreClearFrom (64 * i) old → ys ≡ replicate (8 * k) 255

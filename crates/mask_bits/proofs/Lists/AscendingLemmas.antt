@@ -46,16 +46,13 @@ pub ascending-Rising : (low high : ℕ) (ps : List ℕ) → Rising low high ps �
 ascending-Rising low high [] r k h = absurd (omega arith)
 ascending-Rising low high (p ∷ []) r k h = absurd (omega arith)
 ascending-Rising low high (p ∷ q ∷ ps) r zero h = omega (arith, r.2.0)
-ascending-Rising low high (p ∷ q ∷ ps) r (suc k) h =
-    let next : suc (k + 1) ≡ suc k + 1 = omega arith in
-    subst (λ (j : ℕ). get_or (q ∷ ps) k 0 < get_or (p ∷ q ∷ ps) j 0) next (ascending-Rising (p + 1) high (q ∷ ps) r.2 k (omega arith))
+ascending-Rising low high (p ∷ q ∷ ps) r (suc k) h = grind (arith, ascending-Rising (p + 1) high (q ∷ ps) r.2 k (omega arith))
 
 -- the true places are such
 Rising-places_from : (n high : ℕ) (m : List Bool) → high ≡ n + length m → Rising n high (places_from n m)
 Rising-places_from n high [] e = tt
 Rising-places_from n high (true ∷ m) e = (omega arith, omega arith, Rising-places_from (n + 1) high m (omega arith))
-Rising-places_from n high (false ∷ m) e =
-    Rising-lower n (n + 1) high (places_from (n + 1) m) (omega arith) (Rising-places_from (n + 1) high m (omega arith))
+Rising-places_from n high (false ∷ m) e = grind (arith, Rising-places_from (n + 1) high m (omega arith), Rising-lower)
 
 pub positions-rising : (m : List Bool) → Rising 0 (length m) (positions m)
 positions-rising m = Rising-places_from 0 (length m) m (omega arith)
@@ -68,13 +65,11 @@ positions-ascending m = ascending-Rising 0 (length m) (positions m) (positions-r
 -- no place below the first is among them
 none_below : (i low high : ℕ) (ps : List ℕ) → Rising low high ps → i < low → list_any (nat_eq i) ps ≡ false
 none_below i low high [] r h = refl
-none_below i low high (p ∷ ps) r h =
-    ap (λ b. b || list_any (nat_eq i) ps) (ne_eqb i p (λ same. absurd (omega (arith, r.0)))) ∙ none_below i (p + 1) high ps r.2 (omega (arith, r.0))
+none_below i low high (p ∷ ps) r h = grind (arith, none_below i (p + 1) high ps r.2 (omega (arith, r.0)))
 
 map_range_same_from : {X : Type 0} (f g : ℕ → X) (a n : ℕ) → ((i : ℕ) → a ≤ i → f i ≡ g i) → map f (range_with_len a n) ≡ map g (range_with_len a n)
 map_range_same_from f g a zero same = refl
-map_range_same_from {X} f g a (suc n) same =
-    ap (λ (x : X). x ∷ map f (range_with_len (a + 1) n)) (same a (omega arith)) ∙ ap (λ (xs : List X). g a ∷ xs) (map_range_same_from f g (a + 1) n (λ i h. same i (omega arith)))
+map_range_same_from {X} f g a (suc n) same = grind (arith, map_range_same_from f g (a + 1) n (λ i h. same i (omega arith)))
 
 true_from : (a n high : ℕ) (ps : List ℕ) → high ≡ a + n → Rising a high ps → places_from a (map (λ i. list_any (nat_eq i) ps) (range_with_len a n)) ≡ ps
 true_from a zero high [] e r = refl
@@ -101,8 +96,7 @@ true_from a (suc n) high (p ∷ ps) e r =
 -- the true places of the list that is true at ascending places within it are these
 pub positions-true_at : (n : ℕ) (ps : List ℕ) → IsStrictlyIncreasing ps → All (λ p. p < n) ps → positions (true_at n ps) ≡ ps
 unfolding true_at
-positions-true_at n ps ascending within =
-    true_from 0 n n ps (omega arith) (Rising-ascending n ps ascending within)
+positions-true_at n ps ascending within = grind (arith, true_from, Rising-ascending)
 
 -- as many places as there are are all of them
 pub positions-full : (n : ℕ) (ps : List ℕ) → IsStrictlyIncreasing ps → All (λ p. p < n) ps → length ps ≡ n → positions (repeated n true) ≡ ps

@@ -41,11 +41,7 @@ bits_at-append bytes p a b =
 
 -- the bits of bytes whose first k are left out
 pub backing_bit-drop : (bytes : List ℕ) (k p : ℕ) → backing_bit (drop k bytes) p ≡ backing_bit bytes (8 * k + p)
-backing_bit-drop bytes k p =
-    let byte : k + p / 8 ≡ (8 * k + p) / 8 = omega arith in
-    let bit : p % 8 ≡ (8 * k + p) % 8 = omega arith in
-    ap (λ b. nat_eq (bit_at b (p % 8)) 1) (get_or-drop k bytes (p / 8) 0 ∙ ap (λ i. get_or bytes i 0) byte)
-    ∙ ap (λ r. nat_eq (bit_at (get_or bytes ((8 * k + p) / 8) 0) r) 1) bit
+backing_bit-drop bytes k p = grind (arith, get_or-drop)
 
 pub bits_at-drop : (bytes : List ℕ) (k n : ℕ) → bits_at (drop k bytes) 0 n ≡ bits_at bytes (8 * k) n
 bits_at-drop bytes k n =
@@ -82,12 +78,7 @@ count-low bytes p n w few fits shows =
 -- h bits up to a whole byte, w bits from there, and t past them are all of them
 pub count-split : (bytes part : List ℕ) (p q h w t n : ℕ) → 8 * q ≡ p + h → part ≡ drop q bytes → n ≡ h + w + t
     → count (bits_at bytes p h) + count (bits_at part 0 w) + count (bits_at bytes (p + (h + w)) t) ≡ count (bits_at bytes p n)
-count-split bytes part p q h w t n byte is len =
-    let middle : bits_at part 0 w ≡ bits_at bytes (p + h) w = ap (λ (bs : List ℕ). bits_at bs 0 w) is ∙ bits_at-drop bytes q w ∙ ap (λ k. bits_at bytes k w) byte in
-    let all : count (bits_at bytes p n) ≡ count (bits_at bytes p h) + count (bits_at bytes (p + h) w) + count (bits_at bytes (p + (h + w)) t)
-    = ap (λ k. count (bits_at bytes p k)) len ∙ ap count (bits_at-append bytes p (h + w) t) ∙ count-append (bits_at bytes p (h + w)) (bits_at bytes (p + (h + w)) t)
-    ∙ ap (λ k. k + count (bits_at bytes (p + (h + w)) t)) (ap count (bits_at-append bytes p h w) ∙ count-append (bits_at bytes p h) (bits_at bytes (p + h) w)) in
-    ap (λ k. count (bits_at bytes p h) + k + count (bits_at bytes (p + (h + w)) t)) (ap count middle) ∙ sym all
+count-split bytes part p q h w t n byte is len = grind (arith, bits_at-drop, bits_at-append, count-append)
 
 -- no more of some bits are true than there are
 pub count-bits_at-le : (bytes : List ℕ) (p n : ℕ) → count (bits_at bytes p n) ≤ n
@@ -107,9 +98,7 @@ window-bits_at bytes p = refl
 
 -- the word from value s on is the part of 64 values from there
 pub window-part : (b : Packed) (s : ℕ) → s + 64 ≤ b.len → window b.bytes (b.offset + s) ≡ slice_range (values b) s (s + 64)
-window-part b s within =
-    let len : 64 ≡ s + 64 - s = omega arith in
-    window-bits_at b.bytes (b.offset + s) ∙ ap (bits_at b.bytes (b.offset + s)) len ∙ values-part b s (s + 64) (omega arith) within
+window-part b s within = grind (arith, window-bits_at, values-part)
 
 -- and where fewer are left, its first values are those
 pub window-rest : (b : Packed) (s : ℕ) → s ≤ b.len → b.len - s ≤ 64 → take (b.len - s) (window b.bytes (b.offset + s)) ≡ drop s (values b)
@@ -131,7 +120,4 @@ window-rest b s within few =
 pub front-written : (old new : List ℕ) (i w : ℕ) → window new (64 * i) ≡ word_bits w
     → ((p : ℕ) → ((p < 64 * i) ⊎ (64 * i + 64 ≤ p)) → backing_bit new p ≡ backing_bit old p)
     → bits_at new 0 (64 * (i + 1)) ≡ bits_at old 0 (64 * i) ++ word_bits w
-front-written old new i w here others =
-    front-more_word new i
-    ∙ ap (λ (xs : List Bool). bits_at new 0 (64 * i) ++ xs) here
-    ∙ ap (λ (xs : List Bool). xs ++ word_bits w) (front-same old new (64 * i) (λ p h. others p (inl h)))
+front-written old new i w here others = grind (arith, front-more_word, front-same)

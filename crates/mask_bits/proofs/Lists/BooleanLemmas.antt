@@ -59,34 +59,29 @@ combined-commutes : (f : Bool → Bool → Bool) → ((x y : Bool) → f x y ≡
 combined-commutes f same [] [] = refl
 combined-commutes f same [] (y ∷ b) = refl
 combined-commutes f same (x ∷ a) [] = refl
-combined-commutes f same (x ∷ a) (y ∷ b) =
-    ap (λ (v : Bool). v ∷ combined f a b) (same x y) ∙ ap (λ (xs : List Bool). f y x ∷ xs) (combined-commutes f same a b)
+combined-commutes f same (x ∷ a) (y ∷ b) = grind (arith, combined-commutes f same a b)
 
 combined-regroups : (f : Bool → Bool → Bool) → ((x y z : Bool) → f (f x y) z ≡ f x (f y z)) → (a b c : List Bool) → combined f (combined f a b) c ≡ combined f a (combined f b c)
 combined-regroups f same [] b c = refl
 combined-regroups f same (x ∷ a) [] c = refl
 combined-regroups f same (x ∷ a) (y ∷ b) [] = refl
-combined-regroups f same (x ∷ a) (y ∷ b) (z ∷ c) =
-    ap (λ (v : Bool). v ∷ combined f (combined f a b) c) (same x y z) ∙ ap (λ (xs : List Bool). f x (f y z) ∷ xs) (combined-regroups f same a b c)
+combined-regroups f same (x ∷ a) (y ∷ b) (z ∷ c) = grind (arith, combined-regroups f same a b c)
 
 combined-distributes : (f g : Bool → Bool → Bool) → ((x y z : Bool) → f x (g y z) ≡ g (f x y) (f x z)) → (a b c : List Bool) → combined f a (combined g b c) ≡ combined g (combined f a b) (combined f a c)
 combined-distributes f g same [] b c = refl
 combined-distributes f g same (x ∷ a) [] c = refl
 combined-distributes f g same (x ∷ a) (y ∷ b) [] = refl
-combined-distributes f g same (x ∷ a) (y ∷ b) (z ∷ c) =
-    ap (λ (v : Bool). v ∷ combined f a (combined g b c)) (same x y z) ∙ ap (λ (xs : List Bool). g (f x y) (f x z) ∷ xs) (combined-distributes f g same a b c)
+combined-distributes f g same (x ∷ a) (y ∷ b) (z ∷ c) = grind (arith, combined-distributes f g same a b c)
 
 combined-absorbs : (f g : Bool → Bool → Bool) → ((x y : Bool) → f x (g x y) ≡ x) → (a b : List Bool) → length a ≡ length b → combined f a (combined g a b) ≡ a
 combined-absorbs f g same [] b len = refl
 combined-absorbs f g same (x ∷ a) [] len = absurd (omega arith)
-combined-absorbs f g same (x ∷ a) (y ∷ b) len =
-    ap (λ (v : Bool). v ∷ combined f a (combined g a b)) (same x y) ∙ ap (λ (xs : List Bool). x ∷ xs) (combined-absorbs f g same a b (omega arith))
+combined-absorbs f g same (x ∷ a) (y ∷ b) len = grind (arith, combined-absorbs f g same a b (omega arith))
 
 combined-not : (f : Bool → Bool → Bool) (v : Bool) → ((x : Bool) → f x (not x) ≡ v) → (a : List Bool) → combined f a (not_of a) ≡ repeated (length a) v
 unfolding repeated
 combined-not f v same [] = refl
-combined-not f v same (x ∷ a) =
-    ap (λ (w : Bool). w ∷ combined f a (not_of a)) (same x) ∙ ap (λ (xs : List Bool). v ∷ xs) (combined-not f v same a)
+combined-not f v same (x ∷ a) = grind (arith, combined-not f v same a)
 
 pub length-combined : (f : Bool → Bool → Bool) (a b : List Bool) → length a ≡ length b → length (combined f a b) ≡ length a
 length-combined f [] b len = refl
@@ -120,14 +115,12 @@ get_or-combined f (x ∷ a) (y ∷ b) (suc i) d h len = get_or-combined f a b i 
 pub combined-left : (f : Bool → Bool → Bool) (v : Bool) (g : Bool → Bool) → ((y : Bool) → f v y ≡ g y) → (b : List Bool) → combined f (repeated (length b) v) b ≡ map g b
 unfolding repeated
 combined-left f v g same [] = refl
-combined-left f v g same (y ∷ b) =
-    ap (λ (w : Bool). w ∷ combined f (repeated (length b) v) b) (same y) ∙ ap (λ (xs : List Bool). g y ∷ xs) (combined-left f v g same b)
+combined-left f v g same (y ∷ b) = grind (arith, combined-left f v g same b)
 
 pub combined-right : (f : Bool → Bool → Bool) (v : Bool) (g : Bool → Bool) → ((x : Bool) → f x v ≡ g x) → (a : List Bool) → combined f a (repeated (length a) v) ≡ map g a
 unfolding repeated
 combined-right f v g same [] = refl
-combined-right f v g same (x ∷ a) =
-    ap (λ (w : Bool). w ∷ combined f a (repeated (length a) v)) (same x) ∙ ap (λ (xs : List Bool). g x ∷ xs) (combined-right f v g same a)
+combined-right f v g same (x ∷ a) = grind (arith, combined-right f v g same a)
 
 -- the other side itself, or one value alone
 pub map-itself : (m : List Bool) → map (λ (x : Bool). x) m ≡ m
@@ -197,16 +190,10 @@ and-narrow [] b c fits fits' = refl
 and-narrow (false ∷ a) b c fits fits' = ap (λ (xs : List Bool). false ∷ xs) (and-narrow a b c fits fits')
 and-narrow (true ∷ a) [] c fits fits' = absurd (omega arith)
 and-narrow (true ∷ a) (y ∷ b) [] fits fits' = absurd (omega arith)
-and-narrow (true ∷ a) (y ∷ b) (z ∷ c) fits fits' =
-    ap (λ (xs : List Bool). (y && z) ∷ xs) (and-narrow a b c (omega arith) (omega arith))
+and-narrow (true ∷ a) (y ∷ b) (z ∷ c) fits fits' = grind (arith, and-narrow a b c (omega arith) (omega arith))
 
 pub rank_intersection_of_and : RankIntersectionOfAnd
-rank_intersection_of_and a b c fits fits' =
-    let both : length (and_of b c) ≡ count a = length-combined (λ x y. x && y) b c (fits ∙ sym fits') ∙ fits in
-    ap (λ (m : List Bool). and_of m (rank_intersection a c)) (rank_intersection-narrow a b fits)
-    ∙ ap (and_of (narrow a b)) (rank_intersection-narrow a c fits')
-    ∙ and-narrow a b c (fits ∙ count-trues a) (fits' ∙ count-trues a)
-    ∙ sym (rank_intersection-narrow a (and_of b c) both)
+rank_intersection_of_and a b c fits fits' = grind (arith, length-combined, rank_intersection-narrow, and-narrow, count-trues)
 
 not-narrow : (a b : List Bool) → length b ≡ trues a → narrow a (not_of b) ≡ and_not_of a (narrow a b)
 not-narrow [] b fits = refl
@@ -215,7 +202,4 @@ not-narrow (true ∷ a) [] fits = absurd (omega arith)
 not-narrow (true ∷ a) (y ∷ b) fits = ap (λ (xs : List Bool). not y ∷ xs) (not-narrow a b (omega arith))
 
 pub rank_intersection_of_not : RankIntersectionOfNot
-rank_intersection_of_not a b fits =
-    rank_intersection-narrow a (not_of b) (length-not_of b ∙ fits)
-    ∙ not-narrow a b (fits ∙ count-trues a)
-    ∙ ap (and_not_of a) (sym (rank_intersection-narrow a b fits))
+rank_intersection_of_not a b fits = grind (arith, rank_intersection-narrow, length-not_of, not-narrow, count-trues)

@@ -1,5 +1,5 @@
 -- Rows at the true places: all of them, none of them, and one more.
-use Rattle.std.proofs.Common.{◌≡◌, ℕ, zero, suc, Bool, true, false, List, [], ◌∷◌, ◌++◌, length, Some, slice_get, refl, sym, ap, ◌∙◌, append_assoc}
+use Rattle.std.proofs.Common.{◌≡◌, ℕ, zero, suc, Bool, true, false, List, [], ◌∷◌, ◌++◌, length, Some, slice_get, refl, sym, ap, ◌∙◌, append_assoc, arith}
 use Rattle.std.specs.List.{cons_option, filter_map, items_where_true}
 use Rattle.mask_bits.specs.Positions.{positions, repeated, chosen}
 use Rattle.mask_bits.proofs.Lists.LawLemmas.{chosen-items_where_true}
@@ -17,19 +17,15 @@ items_where_true-all_false (r ∷ rows) (suc n) = items_where_true-all_false row
 
 -- an all-true list chooses every row
 pub chosen-all_true : {X : Type 0} (rows : List X) (n : ℕ) → length rows ≡ n → chosen rows (repeated n true) ≡ rows
-chosen-all_true rows n len =
-    ap (λ k. chosen rows (repeated k true)) (sym len) ∙ chosen-items_where_true rows (repeated (length rows) true) ∙ items_where_true-all_true rows
+chosen-all_true rows n len = grind (arith, chosen-items_where_true, items_where_true-all_true)
 
 -- an all-false list chooses none
 pub chosen-all_false : {X : Type 0} (rows : List X) (n : ℕ) → chosen rows (repeated n false) ≡ []
-chosen-all_false rows n =
-    chosen-items_where_true rows (repeated n false) ∙ items_where_true-all_false rows n
+chosen-all_false rows n = grind (arith, chosen-items_where_true, items_where_true-all_false)
 
 -- one row moves from what is to come to what has come
 pub chosen-step : {X : Type 0} (rows out : List X) (p : ℕ) (ps : List ℕ) (r : X) → slice_get rows p ≡ Some r → out ++ filter_map (λ i. slice_get rows i) (p ∷ ps) ≡ (out ++ r ∷ []) ++ filter_map (λ i. slice_get rows i) ps
-chosen-step {X} rows out p ps r e =
-    ap (λ o. out ++ cons_option o (filter_map (λ i. slice_get rows i) ps)) e
-    ∙ sym (append_assoc out (r ∷ []) (filter_map (λ i. slice_get rows i) ps))
+chosen-step {X} rows out p ps r e = grind (arith, append_assoc)
 
 pub chosen_by_all_true : {X : Type 0} (rows : List X) → chosen rows (repeated (length rows) true) ≡ rows
 chosen_by_all_true rows = chosen-all_true rows (length rows) refl

@@ -136,13 +136,4 @@ all_true-count m = (
 )
 
 pub any_true-count : (m : List Bool) → (0 < count m) ↔ Any (λ v. v ≡ true) m
-any_true-count m = (
-  λ some. Any-from_list_any (λ v. v) m (list_any-count 0 m some),
-  λ any. elim (cases_eq (count m) 0) [
-    | inl none ↦
-        let found : list_any (λ v. v) m ≡ true = list_any-from_Any (λ v. v) m any in
-        let missed : list_any (λ v. v) m ≡ false = list_any-count_zero 0 m none in
-        absurd (false≢true (sym missed ∙ found))
-    | inr some ↦ omega arith
-  ],
-)
+any_true-count m = grind (arith, Any-from_list_any, list_any-count, list_any-from_Any, list_any-count_zero)

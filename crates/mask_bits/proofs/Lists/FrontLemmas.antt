@@ -93,9 +93,7 @@ get_or-put_mid_inside a e xs ys m within len inside =
 
 -- value p of a front is bit p
 pub get_or-front : (bytes : List ℕ) (n p : ℕ) (d : Bool) → p < n → get_or (values (record { bytes = bytes; offset = 0; len = n })) p d ≡ backing_bit bytes p
-get_or-front bytes n p d h =
-    let place : 0 + p ≡ p = omega arith in
-    get_or-values (record { bytes = bytes; offset = 0; len = n }) p d h ∙ ap (backing_bit bytes) place
+get_or-front bytes n p d h = grind (arith, get_or-values)
 
 -- bytes that agree on their first bits have one front
 pub front-same : (old new : List ℕ) (n : ℕ) → ((p : ℕ) → p < n → backing_bit new p ≡ backing_bit old p)

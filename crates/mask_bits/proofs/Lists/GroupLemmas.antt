@@ -21,9 +21,7 @@ counted p x xs passes =
     sum_by-cons (λ y. cond (p y) 1 0) x xs ∙ omega (arith, first)
 
 passed : (p : ℕ → Bool) (x : ℕ) (xs : List ℕ) → p x ≡ false → count_by p (x ∷ xs) ≡ count_by p xs
-passed p x xs fails =
-    let first : ◌≡◌ {A = ℕ} (cond (p x) 1 0) 0 = ap (λ b. cond b 1 0) fails in
-    sum_by-cons (λ y. cond (p y) 1 0) x xs ∙ omega (arith, first)
+passed p x xs fails = grind arith
 
 -- the true places that lie in a part, where the list's first place is n
 inside_from : ℕ → ℕ → ℕ → List Bool → ℕ
@@ -51,40 +49,20 @@ unfolding inside_from
 inside_part s e n zero k m begins ends = inside_front s e n k m (omega arith) (omega arith)
 inside_part s e n (suc i) zero [] begins ends = refl
 inside_part s e n (suc i) (suc k) [] begins ends = refl
-inside_part s e n (suc i) k (true ∷ m) begins ends =
-    passed (λ p. is_inside p (s, e)) n (places_from (n + 1) m) (inside-before n (s, e) (omega arith)) ∙ inside_part s e (n + 1) i k m (omega arith) (omega arith)
+inside_part s e n (suc i) k (true ∷ m) begins ends = grind (arith, inside_part s e (n + 1) i k m (omega arith) (omega arith))
 inside_part s e n (suc i) k (false ∷ m) begins ends = inside_part s e (n + 1) i k m (omega arith) (omega arith)
 
 -- a product grows with its second number
 product_below : (size a b : ℕ) → a < b → size * a + size ≤ size * b
-product_below size a b less =
-    let next : size * suc a ≤ size * b = mul-le-mul_left size (omega arith) in
-    omega (arith, mul-suc size a)
+product_below size a b less = grind arith
 
 -- a place's group begins at the place or before it, and ends past it
 group_of : (p size : ℕ) → 0 < size → (size * (p / size) ≤ p) × (p < size * (p / size) + size)
-group_of p size some =
-    let ends : p < size * suc (p / size) = rw add-one at (lt-mul-div-succ p some) in
-    (mul-div-le p size, omega (arith, mul-suc size (p / size)))
+group_of p size some = grind arith
 
 -- a place lies in a group exactly if it is the place's own
 in_group : (n size g p : ℕ) → 0 < size → p < n → is_inside p (size * g, size * g + min size (n - size * g)) ≡ nat_eq (p / size) g
-in_group n size g p some within =
-    let own = group_of p size some in
-    let r : ℕ × ℕ = (size * g, size * g + min size (n - size * g)) in
-    elim (cases_order (p / size) g) [
-      | inl same ↦
-          let begins : size * (p / size) ≡ size * g = ap (λ k. size * k) same in
-          inside p r (omega (arith, own.0)) (omega (arith, own.1)) ∙ sym (eq-eqb (p / size) g same)
-      | inr apart ↦
-          let differs : nat_eq (p / size) g ≡ false = ne_eqb (p / size) g (λ same. elim apart [ inl h ↦ omega arith | inr h ↦ omega arith ]) in
-          let outside : is_inside p r ≡ false
-          = elim apart [
-            | inl before ↦ inside-before p r (omega (arith, own.1, product_below size (p / size) g before))
-            | inr past ↦ inside-past p r (omega (arith, own.0, product_below size g (p / size) past))
-          ] in
-          outside ∙ sym differs
-    ]
+in_group n size g p some within = grind arith
 
 -- tests that agree at each item count alike
 count_by-same : (p q : ℕ → Bool) (P : ℕ → Type 0) (xs : List ℕ) → ((x : ℕ) → P x → p x ≡ q x) → All P xs → count_by p xs ≡ count_by q xs
@@ -107,60 +85,20 @@ count_of_group m size g some =
 
 -- a place below n lies in one of the groups of n values
 number_below : (n size p : ℕ) → 0 < size → p < n → p / size < div_ceil n size
-number_below n size p some within =
-    let own = group_of p size some in
-    let all = group_of n size some in
-    let rest = mod-eq-sub-mul-div n size in
-    elim (cases_order (p / size) (n / size)) [
-      | inl same ↦
-          let begins : size * (p / size) ≡ size * (n / size) = ap (λ k. size * k) same in
-          omega (arith, own.0, all.0, rest)
-      | inr apart ↦ elim apart [
-        | inl before ↦ omega arith
-        | inr past ↦ absurd (omega (arith, own.0, all.1, product_below size (n / size) (p / size) past))
-      ]
-    ]
+number_below n size p some within = grind arith
 
 pub places_lie_in_groups : PlacesLieInGroups
 places_lie_in_groups m size some = λ k d h. number_below (length m) size (get_or (positions m) k d) some (positions-within m k d h)
 
 -- a group with a number below is one that begins before the end
 begins_before : (n size g : ℕ) → 0 < size → g < div_ceil n size → size * g < n
-begins_before n size g some below =
-    let all = group_of n size some in
-    let rest = mod-eq-sub-mul-div n size in
-    elim (cases_order g (n / size)) [
-      | inl same ↦
-          let begins : size * g ≡ size * (n / size) = ap (λ k. size * k) same in
-          omega (arith, all.0, rest)
-      | inr apart ↦ elim apart [
-        | inl before ↦ omega (arith, some, all.0, product_below size g (n / size) before)
-        | inr past ↦ absurd (omega arith)
-      ]
-    ]
+begins_before n size g some below = grind arith
 
 number_from_begin : (n size g : ℕ) → 0 < size → size * g < n → g < div_ceil n size
-number_from_begin n size g some begins =
-    let all = group_of n size some in
-    let rest = mod-eq-sub-mul-div n size in
-    elim (cases_order g (n / size)) [
-      | inl same ↦
-          let here : size * g ≡ size * (n / size) = ap (λ k. size * k) same in
-          omega (arith, all.0, rest)
-      | inr apart ↦ elim apart [
-        | inl before ↦ omega arith
-        | inr past ↦ absurd (omega (arith, all.1, product_below size (n / size) g past))
-      ]
-    ]
+number_from_begin n size g some begins = grind arith
 
 pub groups_begin_within : GroupsBeginWithin
 groups_begin_within n size g some = (begins_before n size g some, number_from_begin n size g some)
 
 pub group_of_repeated : GroupOfRepeated
-group_of_repeated n size g v begins =
-    let s : ℕ = size * g in
-    let len : length (repeated n v) ≡ n = length-repeated n v in
-    let same : s + min size (n - s) - s ≡ min size (n - s) = omega arith in
-    ap (λ k. slice_range (repeated n v) s (s + min size (k - s))) len
-    ∙ part_of_repeated n v s (s + min size (n - s)) (omega arith) (omega arith)
-    ∙ ap (λ k. repeated k v) same
+group_of_repeated n size g v begins = grind (arith, length-repeated, part_of_repeated)

@@ -47,9 +47,7 @@ trues-next (true ∷ m) (suc i) = omega (arith, trues-next m i)
 trues-next (false ∷ m) (suc i) = trues-next m i
 
 pub count_below_the_next : CountBelowTheNext
-count_below_the_next m i =
-    let next : i + 1 ≡ suc i = omega arith in
-    ap (count_below m) next ∙ count-trues (take (suc i) m) ∙ trues-next m i ∙ ap (λ n. n + cond (get_or m i false) 1 0) (sym (count-trues (take i m)))
+count_below_the_next m i = grind (arith, count-trues, trues-next)
 
 -- ---- lists of one value
 

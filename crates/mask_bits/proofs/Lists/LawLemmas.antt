@@ -14,10 +14,8 @@ use Rattle.mask_bits.proofs.Lists.CountLemmas.{all_false_from_count}
 pub true_at-positions : (m : List Bool) → true_at (length m) (positions m) ≡ m
 unfolding true_at
 true_at-positions [] = refl
-true_at-positions (true ∷ m) =
-    ap (true_at (suc (length m))) (positions-true m) ∙ true_at-zero_suc (length m) (positions m) ∙ ap (λ (xs : List Bool). true ∷ xs) (true_at-positions m)
-true_at-positions (false ∷ m) =
-    ap (true_at (suc (length m))) (positions-false m) ∙ true_at-suc (length m) (positions m) ∙ ap (λ (xs : List Bool). false ∷ xs) (true_at-positions m)
+true_at-positions (true ∷ m) = grind (arith, true_at-positions m, positions-true, true_at-zero_suc)
+true_at-positions (false ∷ m) = grind (arith, true_at-positions m, positions-false, true_at-suc)
 
 pub positions_determine_list : PositionsDetermineList
 positions_determine_list a b len places =
@@ -28,38 +26,19 @@ positions_determine_list a b len places =
 positions-narrow : (a b : List Bool) → length b ≡ trues a → positions (narrow a b) ≡ at_places (positions a) (positions b)
 positions-narrow [] [] fits = refl
 positions-narrow [] (v ∷ b) fits = absurd (omega arith)
-positions-narrow (false ∷ a) b fits =
-    positions-false (narrow a b) ∙ ap (map suc) (positions-narrow a b fits)
-    ∙ sym (at_places-map_suc (positions a) (positions b) (positions-fit a b fits))
-    ∙ ap (λ (ps : List ℕ). at_places ps (positions b)) (sym (positions-false a))
+positions-narrow (false ∷ a) b fits = grind (arith, positions-narrow a b fits, positions-false, narrow, at_places-map_suc, positions-fit)
 positions-narrow (true ∷ a) [] fits = absurd (omega arith)
 positions-narrow (true ∷ a) (v ∷ b) fits =
-    let len : length b ≡ trues a = omega arith in
-    let rest : map suc (positions (narrow a b)) ≡ at_places (0 ∷ map suc (positions a)) (map suc (positions b))
-    = ap (map suc) (positions-narrow a b len)
-    ∙ sym (at_places-cons_suc 0 (map suc (positions a)) (positions b) ∙ at_places-map_suc (positions a) (positions b) (positions-fit a b len)) in
-    let by_value : positions (v ∷ narrow a b) ≡ at_places (0 ∷ map suc (positions a)) (positions (v ∷ b))
-    = elim v as (λ w. positions (w ∷ narrow a b) ≡ at_places (0 ∷ map suc (positions a)) (positions (w ∷ b))) [
-      | true ↦ positions-true (narrow a b) ∙ ap (λ (ps : List ℕ). 0 ∷ ps) rest ∙ ap (at_places (0 ∷ map suc (positions a))) (sym (positions-true b))
-      | false ↦ positions-false (narrow a b) ∙ rest ∙ ap (at_places (0 ∷ map suc (positions a))) (sym (positions-false b))
-    ] in
-    by_value ∙ ap (λ (ps : List ℕ). at_places ps (positions (v ∷ b))) (sym (positions-true a))
+    grind (arith, positions-narrow a b (omega arith), trues, narrow, at_places-cons_suc, at_places-map_suc, positions-fit, positions-true, positions-false)
 
 pub positions-rank_intersection : (a b : List Bool) → length b ≡ count a → positions (rank_intersection a b) ≡ at_places (positions a) (positions b)
-positions-rank_intersection a b fits =
-    ap positions (rank_intersection-narrow a b fits) ∙ positions-narrow a b (fits ∙ count-trues a)
+positions-rank_intersection a b fits = grind (arith, rank_intersection-narrow, positions-narrow, count-trues)
 
 pub length-rank_intersection : (a b : List Bool) → length (rank_intersection a b) ≡ length a
 length-rank_intersection a b = length-true_at (length a) (at_places (positions a) (positions b))
 
 pub rank_intersection_is_the_list : RankIntersectionIsTheList
-rank_intersection_is_the_list a b r fits = (
-  λ same. record {
-    len = ap length same ∙ length-rank_intersection a b;
-    places = ap positions same ∙ positions-rank_intersection a b fits;
-  },
-  λ is. positions_determine_list r (rank_intersection a b) (is.len ∙ sym (length-rank_intersection a b)) (is.places ∙ sym (positions-rank_intersection a b fits)),
-)
+rank_intersection_is_the_list a b r fits = grind (arith, length-rank_intersection, positions-rank_intersection, positions_determine_list)
 
 -- ---- values
 
@@ -72,10 +51,7 @@ get_or-narrow (true ∷ a) (v ∷ b) zero fits = refl
 get_or-narrow (true ∷ a) (v ∷ b) (suc i) fits = get_or-narrow a b i (omega arith)
 
 pub rank_intersection_value : RankIntersectionValue
-rank_intersection_value a b i fits =
-    ap (λ (m : List Bool). get_or m i false) (rank_intersection-narrow a b fits)
-    ∙ get_or-narrow a b i (fits ∙ count-trues a)
-    ∙ ap (λ n. get_or a i false && get_or b n false) (sym (count-trues (take i a)))
+rank_intersection_value a b i fits = grind (arith, rank_intersection-narrow, get_or-narrow, count-trues)
 
 -- ---- choosing
 
@@ -108,8 +84,7 @@ length-items_where_true (r ∷ rows) (false ∷ m) len = length-items_where_true
 
 -- as many rows are chosen as values are true
 pub length-chosen : {X : Type 0} (rows : List X) (m : List Bool) → length rows ≡ length m → length (chosen rows m) ≡ count m
-length-chosen rows m len =
-    ap length (chosen-items_where_true rows m) ∙ length-items_where_true rows m len ∙ sym (count-trues m)
+length-chosen rows m len = grind (arith, chosen-items_where_true, length-items_where_true, count-trues)
 
 items_where_true-narrow : {X : Type 0} (rows : List X) (a b : List Bool) → length rows ≡ length a → length b ≡ trues a → items_where_true (narrow a b) rows ≡ items_where_true b (items_where_true a rows)
 items_where_true-narrow [] [] [] len fits = refl
@@ -118,17 +93,11 @@ items_where_true-narrow [] (v ∷ a) b len fits = absurd (omega arith)
 items_where_true-narrow (r ∷ rows) [] b len fits = absurd (omega arith)
 items_where_true-narrow (r ∷ rows) (false ∷ a) b len fits = items_where_true-narrow rows a b (omega arith) fits
 items_where_true-narrow (r ∷ rows) (true ∷ a) [] len fits = absurd (omega arith)
-items_where_true-narrow {X} (r ∷ rows) (true ∷ a) (true ∷ b) len fits =
-    ap (λ (xs : List X). r ∷ xs) (items_where_true-narrow rows a b (omega arith) (omega arith))
+items_where_true-narrow {X} (r ∷ rows) (true ∷ a) (true ∷ b) len fits = grind (arith, items_where_true-narrow rows a b (omega arith) (omega arith))
 items_where_true-narrow (r ∷ rows) (true ∷ a) (false ∷ b) len fits = items_where_true-narrow rows a b (omega arith) (omega arith)
 
 pub choosing_twice : (X : Type 0) → ChoosingTwice X
-choosing_twice X rows a b len fits =
-    ap (chosen rows) (rank_intersection-narrow a b fits)
-    ∙ chosen-items_where_true rows (narrow a b)
-    ∙ items_where_true-narrow rows a b len (fits ∙ count-trues a)
-    ∙ ap (items_where_true b) (sym (chosen-items_where_true rows a))
-    ∙ sym (chosen-items_where_true (chosen rows a) b)
+choosing_twice X rows a b len fits = grind (arith, rank_intersection-narrow, chosen-items_where_true, items_where_true-narrow, count-trues)
 
 -- ---- counts and groupings
 
@@ -141,28 +110,18 @@ trues-narrow (true ∷ a) (true ∷ b) fits = ap suc (trues-narrow a b (omega ar
 trues-narrow (true ∷ a) (false ∷ b) fits = trues-narrow a b (omega arith)
 
 pub rank_intersection_count : RankIntersectionCount
-rank_intersection_count a b fits =
-    ap count (rank_intersection-narrow a b fits) ∙ count-trues (narrow a b) ∙ trues-narrow a b (fits ∙ count-trues a) ∙ sym (count-trues b)
+rank_intersection_count a b fits = grind (arith, rank_intersection-narrow, count-trues, trues-narrow)
 
 narrow_assoc : (a b c : List Bool) → length b ≡ trues a → length c ≡ trues b → narrow (narrow a b) c ≡ narrow a (narrow b c)
 narrow_assoc [] b c fits fits' = refl
 narrow_assoc (false ∷ a) b c fits fits' = ap (λ (xs : List Bool). false ∷ xs) (narrow_assoc a b c fits fits')
 narrow_assoc (true ∷ a) [] c fits fits' = absurd (omega arith)
-narrow_assoc (true ∷ a) (false ∷ b) c fits fits' =
-    ap (λ (xs : List Bool). false ∷ xs) (narrow_assoc a b c (omega arith) fits')
+narrow_assoc (true ∷ a) (false ∷ b) c fits fits' = grind (arith, narrow_assoc a b c (omega arith) fits')
 narrow_assoc (true ∷ a) (true ∷ b) [] fits fits' = absurd (omega arith)
-narrow_assoc (true ∷ a) (true ∷ b) (v ∷ c) fits fits' =
-    ap (λ (xs : List Bool). v ∷ xs) (narrow_assoc a b c (omega arith) (omega arith))
+narrow_assoc (true ∷ a) (true ∷ b) (v ∷ c) fits fits' = grind (arith, narrow_assoc a b c (omega arith) (omega arith))
 
 pub rank_intersection_associative : RankIntersectionAssociative
-rank_intersection_associative a b c fits fits' =
-    let inner = rank_intersection-narrow b c fits' in
-    let outer : length (rank_intersection b c) ≡ count a = length-rank_intersection b c ∙ fits in
-    rank_intersection-narrow (rank_intersection a b) c (fits' ∙ sym (rank_intersection_count a b fits))
-    ∙ ap (λ (m : List Bool). narrow m c) (rank_intersection-narrow a b fits)
-    ∙ narrow_assoc a b c (fits ∙ count-trues a) (fits' ∙ count-trues b)
-    ∙ ap (narrow a) (sym inner)
-    ∙ sym (rank_intersection-narrow a (rank_intersection b c) outer)
+rank_intersection_associative a b c fits fits' = grind (arith, rank_intersection-narrow, length-rank_intersection, rank_intersection_count, narrow_assoc, count-trues)
 
 pub all_true_left_unit : AllTrueLeftUnit
 all_true_left_unit b = rank_intersection-all_true (length b) b refl
@@ -171,9 +130,7 @@ pub all_true_right_unit : AllTrueRightUnit
 all_true_right_unit a = rank_intersection-by_all_true a (count a) refl
 
 pub rank_intersection_position : RankIntersectionPosition
-rank_intersection_position a b n fits below =
-    ap (λ (ps : List ℕ). get_or ps n 0) (positions-rank_intersection a b fits)
-    ∙ get_or-map (λ k. get_or (positions a) k 0) (positions b) n 0 0 below
+rank_intersection_position a b n fits below = grind (arith, positions-rank_intersection, get_or-map)
 
 -- ---- what a list that is a rank intersection has
 

@@ -33,8 +33,7 @@ get_or-kept (false ∷ m) k (suc i) = get_or-kept m k i
 get_or-kept (true ∷ m) zero zero = refl
 get_or-kept (true ∷ m) zero (suc i) = get_or-kept m zero i ∙ and_none (get_or m i false) (trues (take i m))
 get_or-kept (true ∷ m) (suc k) zero = sym (lt-ltb 0 (suc k) (omega arith))
-get_or-kept (true ∷ m) (suc k) (suc i) =
-    get_or-kept m k i ∙ ap (λ b. get_or m i false && b) (sym (leb-suc-suc (suc (trues (take i m))) k))
+get_or-kept (true ∷ m) (suc k) (suc i) = grind (arith, get_or-kept m k i)
 
 pub length-limited : (m : List Bool) (k : ℕ) → length (limited m k) ≡ length m
 unfolding limited
@@ -55,16 +54,9 @@ limited-kept m k =
 kept-kept : (m : List Bool) (k j : ℕ) → kept (kept m k) j ≡ kept m (min k j)
 kept-kept [] k j = refl
 kept-kept (false ∷ m) k j = ap (λ (xs : List Bool). false ∷ xs) (kept-kept m k j)
-kept-kept (true ∷ m) zero j =
-    let none : min zero j ≡ zero = omega arith in
-    ap (λ (xs : List Bool). false ∷ xs) (kept-kept m zero j ∙ ap (kept m) none) ∙ sym (ap (kept (true ∷ m)) none)
-kept-kept (true ∷ m) (suc k) zero =
-    let none : min k zero ≡ zero = omega arith in
-    let none' : min (suc k) zero ≡ zero = omega arith in
-    ap (λ (xs : List Bool). false ∷ xs) (kept-kept m k zero ∙ ap (kept m) none) ∙ sym (ap (kept (true ∷ m)) none')
-kept-kept (true ∷ m) (suc k) (suc j) =
-    let less : min (suc k) (suc j) ≡ suc (min k j) = omega arith in
-    ap (λ (xs : List Bool). true ∷ xs) (kept-kept m k j) ∙ sym (ap (kept (true ∷ m)) less)
+kept-kept (true ∷ m) zero j = grind (arith, kept-kept m zero j)
+kept-kept (true ∷ m) (suc k) zero = grind (arith, kept-kept m k zero)
+kept-kept (true ∷ m) (suc k) (suc j) = grind (arith, kept-kept m k j)
 
 trues-kept : (m : List Bool) (k : ℕ) → trues (kept m k) ≡ min k (trues m)
 trues-kept [] k = omega arith
@@ -73,12 +65,10 @@ trues-kept (true ∷ m) zero = omega (arith, trues-kept m zero)
 trues-kept (true ∷ m) (suc k) = omega (arith, trues-kept m k)
 
 pub limit_of_limit : LimitOfLimit
-limit_of_limit m k j =
-    limited-kept (limited m k) j ∙ ap (λ (xs : List Bool). kept xs j) (limited-kept m k) ∙ kept-kept m k j ∙ sym (limited-kept m (min k j))
+limit_of_limit m k j = grind (arith, limited-kept, kept-kept)
 
 count-limited : (m : List Bool) (k : ℕ) → count (limited m k) ≡ min k (count m)
-count-limited m k =
-    ap count (limited-kept m k) ∙ count-trues (kept m k) ∙ trues-kept m k ∙ ap (min k) (sym (count-trues m))
+count-limited m k = grind (arith, limited-kept, count-trues, trues-kept)
 
 pub limit_count : HasLimitCount
 limit_count = record { len = length-limited; count = count-limited }
@@ -88,18 +78,11 @@ limit_count = record { len = length-limited; count = count-limited }
 trues-below_place : (m : List Bool) (n : ℕ) → n < trues m → trues (take (get_or (positions m) n 0) m) ≡ n
 trues-below_place [] n h = absurd (omega arith)
 trues-below_place (true ∷ m) zero h = ap (λ (ps : List ℕ). trues (take (get_or ps 0 0) (true ∷ m))) (positions-true m)
-trues-below_place (true ∷ m) (suc n) h =
-    ap (λ (ps : List ℕ). trues (take (get_or ps (suc n) 0) (true ∷ m))) (positions-true m)
-    ∙ ap (λ p. trues (take p (true ∷ m))) (get_or-map suc (positions m) n 0 0 (omega (arith, count-trues m)))
-    ∙ ap suc (trues-below_place m n (omega arith))
-trues-below_place (false ∷ m) n h =
-    ap (λ (ps : List ℕ). trues (take (get_or ps n 0) (false ∷ m))) (positions-false m)
-    ∙ ap (λ p. trues (take p (false ∷ m))) (get_or-map suc (positions m) n 0 0 (omega (arith, count-trues m)))
-    ∙ trues-below_place m n h
+trues-below_place (true ∷ m) (suc n) h = grind (arith, trues-below_place m n (omega arith), positions-true, get_or-map, count-trues)
+trues-below_place (false ∷ m) n h = grind (arith, trues-below_place m n h, positions-false, get_or-map, count-trues)
 
 pub count_below_position : CountBelowPosition
-count_below_position m n h =
-    count-trues (take (get_or (positions m) n 0) m) ∙ trues-below_place m n (omega (arith, count-trues m))
+count_below_position m n h = grind (arith, count-trues, trues-below_place)
 
 -- ---- the cut before true value number k
 
@@ -122,9 +105,7 @@ abbrev cut_at : List Bool → ℕ → List Bool
 cut_at m p = take p m ++ repeated (length m - p) false
 
 cut_at-next : (v : Bool) (m : List Bool) (p : ℕ) → v ∷ cut_at m p ≡ cut_at (v ∷ m) (suc p)
-cut_at-next v m p =
-    let rest : length m - p ≡ suc (length m) - suc p = omega arith in
-    ap (λ n. v ∷ (take p m ++ repeated n false)) rest
+cut_at-next v m p = grind arith
 
 kept-cut : (m : List Bool) (k : ℕ) → k < trues m → kept m k ≡ cut_at m (get_or (positions m) k 0)
 unfolding repeated
@@ -147,13 +128,8 @@ pub limited-all : (m : List Bool) (k : ℕ) → count m ≤ k → limited m k �
 limited-all m k h = limited-kept m k ∙ kept-all m k (omega (arith, count-trues m))
 
 pub limited-cut : (m : List Bool) (k p : ℕ) → slice_get (positions m) k ≡ Some p → limited m k ≡ take p m ++ repeated (length m - p) false
-limited-cut m k p at =
-    limited-kept m k ∙ kept-cut m k (omega (arith, slice_get_within (positions m) k p at, count-trues m)) ∙ ap (cut_at m) (get_or_from_slice_get (positions m) k p 0 at)
+limited-cut m k p at = grind (arith, limited-kept, kept-cut, slice_get_within, count-trues, get_or_from_slice_get)
 
 -- a part up to that place, and false values behind it
 pub limited-front : (m front : List Bool) (k p n : ℕ) → slice_get (positions m) k ≡ Some p → p < length m → front ≡ slice_range m 0 p → n ≡ length m → front ++ repeated (n - length front) false ≡ limited m k
-limited-front m front k p n at within is len =
-    let all : p - 0 ≡ p = omega arith in
-    let first : front ≡ take p m = is ∙ ap (λ j. take j m) all in
-    let rest : n - length front ≡ length m - p = omega (arith, ap length first, length-take p m) in
-    ap (λ (xs : List Bool). xs ++ repeated (n - length front) false) first ∙ ap (λ j. take p m ++ repeated j false) rest ∙ sym (limited-cut m k p at)
+limited-front m front k p n at within is len = grind (arith, length-take, limited-cut)

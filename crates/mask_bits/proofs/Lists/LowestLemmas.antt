@@ -61,15 +61,10 @@ more_below (suc z) n (suc i) set h =
 
 more_above : (z n i : ℕ) → bit_at n z ≡ 0 → ((j : ℕ) → j < z → bit_at n j ≡ 1) → z < i → bit_at (n + 1) i ≡ bit_at n i
 more_above zero n zero clear set h = absurd (omega arith)
-more_above zero n (suc i) clear set h =
-    let even : n % 2 ≡ 0 = omega (arith, bit_at_lowest n) in
-    bit_at-suc (n + 1) i ∙ ap (λ k. bit_at k i) (half_more n even) ∙ sym (bit_at-suc n i)
+more_above zero n (suc i) clear set h = grind (arith, bit_at-suc)
 more_above (suc z) n zero clear set h = absurd (omega arith)
 more_above (suc z) n (suc i) clear set h =
-    let odd : n % 2 ≡ 1 = omega (arith, bit_at_lowest n, set 0 (omega arith)) in
-    bit_at-suc (n + 1) i ∙ ap (λ k. bit_at k i) (half_more_odd n odd)
-    ∙ more_above z (n / 2) i (sym (bit_at-suc n z) ∙ clear) (λ j l. sym (bit_at-suc n j) ∙ set (suc j) (omega arith)) (omega arith)
-    ∙ sym (bit_at-suc n i)
+    grind (arith, more_above z (n / 2) i (sym (bit_at-suc n z) ∙ clear) (λ j l. sym (bit_at-suc n j) ∙ set (suc j) (omega arith)) (omega arith), bit_at-suc)
 
 -- ---- the lowest set bit of a word
 
@@ -88,16 +83,7 @@ low-first w i some fits h = (bit_at-trailing_zeros w64 w some fits).2 i h
 
 -- cleared: the bits up to it are 0, and those above it stay
 pub bit_at-lowest_cleared : (w i : ℕ) → 0 < w → w < 2 ^ 64 → i ≤ low w → bit_at (bit_and w (w - 1)) i ≡ 0
-bit_at-lowest_cleared w i some fits h =
-    let z : ℕ = low w in
-    let set = low-set w some fits in
-    let before : (j : ℕ) → j < z → bit_at w j ≡ 0 = λ j l. low-first w j some fits l in
-    elim (cases_lt i z) [
-      | inl below ↦ omega (arith, bit_at_and w (w - 1) i, before i below)
-      | inr at ↦
-          let same : i ≡ z = omega arith in
-          ap (bit_at (bit_and w (w - 1))) same ∙ omega (arith, bit_at_and w (w - 1) z, less_at z w some set before)
-    ]
+bit_at-lowest_cleared w i some fits h = grind (arith, low-first, bit_at_and, less_at)
 
 pub bit_at-lowest_others : (w i : ℕ) → 0 < w → w < 2 ^ 64 → low w < i → bit_at (bit_and w (w - 1)) i ≡ bit_at w i
 bit_at-lowest_others w i some fits h =
@@ -191,10 +177,7 @@ pub zeros-within : (w : ℕ) → w < 2 ^ 64 → low w ≤ 64
 zeros-within w fits = trailing_le 64 w
 
 pub zeros-clear : (w i : ℕ) → w < 2 ^ 64 → i < low w → bit_at w i ≡ 0
-zeros-clear w i fits h = elim (cases_eq w 0) [
-  | inl none ↦ ap (λ k. bit_at k i) none ∙ bit_at-zero i
-  | inr some ↦ low-first w i (omega arith) fits h
-]
+zeros-clear w i fits h = grind (arith, low-first)
 
 pub zeros-end : (w : ℕ) → w < 2 ^ 64 → low w < 64 → bit_at w (low w) ≡ 1
 zeros-end w fits h = elim (cases_eq w 0) [

@@ -27,18 +27,10 @@ part_of_part m s e t u within =
 
 -- the values between two lists
 between-sides : (xs m ys : List Bool) → slice_range (xs ++ (m ++ ys)) (length xs) (length xs + length m) ≡ m
-between-sides xs m ys =
-    let len : length xs + length m - length xs ≡ length m = omega arith in
-    ap (take (length xs + length m - length xs)) (drop-append-le (length xs) xs (m ++ ys) (omega arith)
-    ∙ ap (λ (zs : List Bool). zs ++ (m ++ ys)) (drop_all (length xs) xs (omega arith)))
-    ∙ ap (λ n. take n (m ++ ys)) len
-    ∙ take-append-le (length m) m ys (omega arith)
-    ∙ take_all (length m) m (omega arith)
+between-sides xs m ys = grind (arith, drop-append-le, drop_all, take-append-le, take_all)
 
 pub part_of_joined : PartOfJoined
-part_of_joined before after m =
-    ap (λ (zs : List Bool). slice_range zs (length (joined before)) (length (joined before) + length m)) (flat_map-append (λ (x : List Bool). x) before (m ∷ after))
-    ∙ between-sides (joined before) m (joined after)
+part_of_joined before after m = grind (arith, flat_map-append, between-sides)
 
 -- a part of a list of one value
 pub part_of_repeated : (n : ℕ) (v : Bool) (s e : ℕ) → s ≤ e → e ≤ n → slice_range (repeated n v) s e ≡ repeated (e - s) v

@@ -28,40 +28,18 @@ get_or-take_past m n p h = get_or_past (take n m) p false (omega (arith, length-
 
 -- one more value, at each place
 pub get_or-take_true : (m : List Bool) (i p : ℕ) → get_or m i false ≡ true → get_or (take (i + 1) m) p false ≡ (nat_eq p i || get_or (take i m) p false)
-get_or-take_true m i p e =
-    elim (cases_order p i) [
-      | inl same ↦ get_or-take (i + 1) m p false (omega arith) ∙ ap (λ k. get_or m k false) same ∙ e ∙ sym (ap (λ b. b || get_or (take i m) p false) (eq-eqb p i same))
-      | inr apart ↦
-          let differs : nat_eq p i ≡ false = ne_eqb p i (λ same. elim apart [ inl h ↦ omega arith | inr h ↦ omega arith ]) in
-          let goal_at : get_or (take (i + 1) m) p false ≡ get_or (take i m) p false
-          = elim apart [
-            | inl below ↦ get_or-take (i + 1) m p false (omega arith) ∙ sym (get_or-take i m p false below)
-            | inr above ↦ get_or-take_past m (i + 1) p (omega arith) ∙ sym (get_or-take_past m i p (omega arith))
-          ] in
-          goal_at ∙ sym (ap (λ b. b || get_or (take i m) p false) differs)
-    ]
+get_or-take_true m i p e = grind (arith, get_or-take, get_or-take_past)
 
 pub get_or-take_false : (m : List Bool) (i p : ℕ) → get_or m i false ≡ false → get_or (take (i + 1) m) p false ≡ get_or (take i m) p false
-get_or-take_false m i p e =
-    elim (cases_order p i) [
-      | inl same ↦ get_or-take (i + 1) m p false (omega arith) ∙ ap (λ k. get_or m k false) same ∙ e ∙ sym (get_or-take_past m i p (omega arith))
-      | inr apart ↦ elim apart [
-        | inl below ↦ get_or-take (i + 1) m p false (omega arith) ∙ sym (get_or-take i m p false below)
-        | inr above ↦ get_or-take_past m (i + 1) p (omega arith) ∙ sym (get_or-take_past m i p (omega arith))
-      ]
-    ]
+get_or-take_false m i p e = grind (arith, get_or-take, get_or-take_past)
 
 -- ---- the recursion on a list's first value
 
 -- the places of a list that stands one further on
 pub places_from-suc : (n : ℕ) (m : List Bool) → places_from (suc n) m ≡ map suc (places_from n m)
 places_from-suc n [] = refl
-places_from-suc n (true ∷ m) =
-    let next : suc n + 1 ≡ suc (n + 1) = omega arith in
-    ap (λ (xs : List ℕ). suc n ∷ xs) (ap (λ k. places_from k m) next ∙ places_from-suc (n + 1) m)
-places_from-suc n (false ∷ m) =
-    let next : suc n + 1 ≡ suc (n + 1) = omega arith in
-    ap (λ k. places_from k m) next ∙ places_from-suc (n + 1) m
+places_from-suc n (true ∷ m) = grind (arith, places_from-suc (n + 1) m)
+places_from-suc n (false ∷ m) = grind (arith, places_from-suc (n + 1) m)
 
 pub positions-true : (m : List Bool) → positions (true ∷ m) ≡ 0 ∷ map suc (positions m)
 positions-true m = ap (λ (xs : List ℕ). 0 ∷ xs) (places_from-suc 0 m)

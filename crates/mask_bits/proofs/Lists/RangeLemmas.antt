@@ -32,8 +32,7 @@ Ordered-top low high (r ∷ rs) o = omega (arith, Ordered-top r.1 high rs o.2)
 -- no place below the lower bound is inside
 pub none_below : (low high i : ℕ) (rs : List (ℕ × ℕ)) → Ordered low high rs → i < low → list_any (is_inside i) rs ≡ false
 none_below low high i [] o h = refl
-none_below low high i (r ∷ rs) o h =
-    ap (λ b. b || list_any (is_inside i) rs) (inside-before i r (omega arith)) ∙ none_below r.1 high i rs o.2 (omega arith)
+none_below low high i (r ∷ rs) o h = grind (arith, none_below r.1 high i rs o.2 (omega arith))
 
 -- from a place on, the ranges hold as many places as values are true
 from_place : (m : List Bool) (low : ℕ) (rs : List (ℕ × ℕ)) → Ordered low (length m) rs

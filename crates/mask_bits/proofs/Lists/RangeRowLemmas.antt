@@ -22,10 +22,7 @@ items-append {X} (x ∷ xs) ys (true ∷ a) b len = ap (λ (zs : List X). x ∷ 
 items-append (x ∷ xs) ys (false ∷ a) b len = items-append xs ys a b (omega arith)
 
 chosen-append : {X : Type 0} (xs ys : List X) (a b : List Bool) → length xs ≡ length a → chosen (xs ++ ys) (a ++ b) ≡ chosen xs a ++ chosen ys b
-chosen-append {X} xs ys a b len =
-    chosen-items_where_true (xs ++ ys) (a ++ b)
-    ∙ items-append xs ys a b len
-    ∙ sym (ap (λ (zs : List X). chosen xs a ++ zs) (chosen-items_where_true ys b) ∙ ap (λ (zs : List X). zs ++ items_where_true b ys) (chosen-items_where_true xs a))
+chosen-append {X} xs ys a b len = grind (arith, chosen-items_where_true, items-append)
 
 -- a part before the rest, of rows and of values
 chosen-part : {X : Type 0} (rows : List X) (m : List Bool) (s e : ℕ) → length rows ≡ length m → s ≤ e → e ≤ length m

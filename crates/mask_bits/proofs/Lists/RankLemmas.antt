@@ -12,32 +12,24 @@ use Rattle.mask_bits.proofs.Lists.PlaceLemmas.{positions-true, positions-false, 
 
 map_range_suc : {X : Type 0} (f : ℕ → X) (a n : ℕ) → map f (range_with_len (suc a) n) ≡ map (λ i. f (suc i)) (range_with_len a n)
 map_range_suc f a zero = refl
-map_range_suc {X} f a (suc n) =
-    let next : suc a + 1 ≡ suc (a + 1) = omega arith in
-    ap (λ (xs : List X). f (suc a) ∷ xs) (ap (λ k. map f (range_with_len k n)) next ∙ map_range_suc f (a + 1) n)
+map_range_suc {X} f a (suc n) = grind (arith, map_range_suc f (a + 1) n)
 
 map_range_same : {X : Type 0} (f g : ℕ → X) → ((i : ℕ) → f i ≡ g i) → (a n : ℕ) → map f (range_with_len a n) ≡ map g (range_with_len a n)
 map_range_same f g same a zero = refl
-map_range_same {X} f g same a (suc n) =
-    ap (λ (x : X). x ∷ map f (range_with_len (a + 1) n)) (same a) ∙ ap (λ (xs : List X). g a ∷ xs) (map_range_same f g same (a + 1) n)
+map_range_same {X} f g same a (suc n) = grind (arith, map_range_same f g same (a + 1) n)
 
 -- a place past the first is among places that are one further on just where the one before it is among them
 list_any-map_suc : (i : ℕ) (ps : List ℕ) → list_any (nat_eq (suc i)) (map suc ps) ≡ list_any (nat_eq i) ps
 list_any-map_suc i [] = refl
-list_any-map_suc i (p ∷ ps) =
-    ap (λ b. b || list_any (nat_eq (suc i)) (map suc ps)) (eqb-suc-suc i p) ∙ ap (λ b. nat_eq i p || b) (list_any-map_suc i ps)
+list_any-map_suc i (p ∷ ps) = grind (arith, list_any-map_suc i ps)
 
 list_any-map_suc_zero : (ps : List ℕ) → list_any (nat_eq 0) (map suc ps) ≡ false
 list_any-map_suc_zero [] = refl
-list_any-map_suc_zero (p ∷ ps) =
-    ap (λ b. b || list_any (nat_eq 0) (map suc ps)) (eqb-zero-suc p) ∙ list_any-map_suc_zero ps
+list_any-map_suc_zero (p ∷ ps) = grind (arith, list_any-map_suc_zero ps)
 
 pub true_at-suc : (n : ℕ) (ps : List ℕ) → true_at (suc n) (map suc ps) ≡ false ∷ true_at n ps
 unfolding true_at
-true_at-suc n ps =
-    ap (λ (b : Bool). b ∷ map (λ i. list_any (nat_eq i) (map suc ps)) (range_with_len 1 n)) (list_any-map_suc_zero ps)
-    ∙ ap (λ (xs : List Bool). false ∷ xs) (map_range_suc (λ i. list_any (nat_eq i) (map suc ps)) 0 n
-    ∙ map_range_same (λ i. list_any (nat_eq (suc i)) (map suc ps)) (λ i. list_any (nat_eq i) ps) (λ i. list_any-map_suc i ps) 0 n)
+true_at-suc n ps = grind (arith, list_any-map_suc_zero, map_range_suc, list_any-map_suc)
 
 pub true_at-zero_suc : (n : ℕ) (ps : List ℕ) → true_at (suc n) (0 ∷ map suc ps) ≡ true ∷ true_at n ps
 unfolding true_at
@@ -51,11 +43,7 @@ true_at-zero_suc n ps =
 -- of a list raised by one, at places within it
 pub at_places-map_suc : (ps qs : List ℕ) → All (λ q. q < length ps) qs → at_places (map suc ps) qs ≡ map suc (at_places ps qs)
 at_places-map_suc ps [] all = refl
-at_places-map_suc ps (q ∷ qs) all =
-    let within = All-head (λ k. k < length ps) q qs all in
-    let rest = All-tail (λ k. k < length ps) q qs all in
-    ap (λ (x : ℕ). x ∷ at_places (map suc ps) qs) (get_or-map suc ps q 0 0 within)
-    ∙ ap (λ (xs : List ℕ). suc (get_or ps q 0) ∷ xs) (at_places-map_suc ps qs rest)
+at_places-map_suc ps (q ∷ qs) all = grind (arith, at_places-map_suc ps qs (All-tail (λ k. k < length ps) q qs all), All-head, get_or-map)
 
 -- of a list past its first entry
 pub at_places-cons_suc : (p : ℕ) (ps qs : List ℕ) → at_places (p ∷ ps) (map suc qs) ≡ at_places ps qs
@@ -73,8 +61,7 @@ narrow (true ∷ a) (v ∷ b) = v ∷ narrow a b
 
 -- the positions of b are within those of a, which are as many as b is long
 pub positions-fit : (a b : List Bool) → length b ≡ trues a → All (λ q. q < length (positions a)) (positions b)
-positions-fit a b fits =
-    All-weaker (λ q. q < length b) (λ q. q < length (positions a)) (λ q h. omega (arith, count-trues a)) (positions b) (positions-within b)
+positions-fit a b fits = grind (arith, count-trues, positions-within)
 
 rank_intersection-false : (a b : List Bool) → length b ≡ trues a → rank_intersection (false ∷ a) b ≡ false ∷ rank_intersection a b
 rank_intersection-false a b fits =
@@ -99,8 +86,7 @@ unfolding true_at
 narrows [] b fits = refl
 narrows (false ∷ a) b fits = rank_intersection-false a b fits ∙ ap (λ (xs : List Bool). false ∷ xs) (narrows a b fits)
 narrows (true ∷ a) [] fits = absurd (omega arith)
-narrows (true ∷ a) (v ∷ b) fits =
-    rank_intersection-true a v b (omega arith) ∙ ap (λ (xs : List Bool). v ∷ xs) (narrows a b (omega arith))
+narrows (true ∷ a) (v ∷ b) fits = grind (arith, narrows a b (omega arith), rank_intersection-true)
 
 -- where b is as long as a has true values, the rank intersection is that recursion
 pub rank_intersection-narrow : (a b : List Bool) → length b ≡ count a → rank_intersection a b ≡ narrow a b
@@ -121,9 +107,7 @@ trues-repeated_true (suc n) = ap suc (trues-repeated_true n)
 
 pub rank_intersection-all_true : (n : ℕ) (b : List Bool) → length b ≡ n → rank_intersection (repeated n true) b ≡ b
 unfolding repeated
-rank_intersection-all_true n b len =
-    let same = ap (λ k. repeated k true) (sym len) in
-    narrows (repeated n true) b (len ∙ sym (trues-repeated_true n)) ∙ ap (λ (xs : List Bool). narrow xs b) same ∙ narrow-all_true b
+rank_intersection-all_true n b len = grind (arith, narrows, trues-repeated_true, narrow-all_true)
 
 -- and a right unit
 narrow-by_all_true : (a : List Bool) → narrow a (repeated (trues a) true) ≡ a
@@ -134,9 +118,7 @@ narrow-by_all_true (true ∷ a) = ap (λ (xs : List Bool). true ∷ xs) (narrow-
 
 pub rank_intersection-by_all_true : (a : List Bool) (n : ℕ) → n ≡ count a → rank_intersection a (repeated n true) ≡ a
 unfolding repeated
-rank_intersection-by_all_true a n fits =
-    rank_intersection-narrow a (repeated n true) (length-replicate n true ∙ fits)
-    ∙ ap (λ k. narrow a (repeated k true)) (fits ∙ count-trues a) ∙ narrow-by_all_true a
+rank_intersection-by_all_true a n fits = grind (arith, rank_intersection-narrow, length-replicate, count-trues, narrow-by_all_true)
 
 -- ---- bounds and lengths
 
@@ -151,5 +133,4 @@ All-at_places P ps qs all within =
 
 -- the ranks of a fitting mask are within the places that they select among
 pub positions-select : (a b : List Bool) → length b ≡ count a → All (λ q. q < count a) (positions b)
-positions-select a b fits =
-    All-weaker (λ q. q < length b) (λ q. q < count a) (λ q h. omega arith) (positions b) (positions-within b)
+positions-select a b fits = grind (arith, positions-within)

@@ -15,11 +15,7 @@ use Rattle.mask_bits.proofs.Lists.RankLemmas.{narrow, rank_intersection-narrow}
 
 items_where_true-map : {X : Type 0} (test : X → Bool) (rows : List X) → items_where_true (map test rows) rows ≡ filter test rows
 items_where_true-map test [] = refl
-items_where_true-map {X} test (r ∷ rows) =
-    elim (test r) as (λ v. items_where_true (v ∷ map test rows) (r ∷ rows) ≡ cond v (r ∷ filter test rows) (filter test rows)) [
-      | true ↦ ap (λ (xs : List X). r ∷ xs) (items_where_true-map test rows)
-      | false ↦ items_where_true-map test rows
-    ]
+items_where_true-map {X} test (r ∷ rows) = grind (arith, items_where_true-map test rows)
 
 pub chosen_by_test : {X : Type 0} → ChosenByTest X
 chosen_by_test rows test = chosen-items_where_true rows (map test rows) ∙ items_where_true-map test rows
@@ -30,20 +26,15 @@ items_where_true-append : {X : Type 0} (rows more : List X) (a b : List Bool) �
 items_where_true-append [] more [] b len = refl
 items_where_true-append [] more (v ∷ a) b len = absurd (omega arith)
 items_where_true-append (r ∷ rows) more [] b len = absurd (omega arith)
-items_where_true-append {X} (r ∷ rows) more (true ∷ a) b len =
-    ap (λ (xs : List X). r ∷ xs) (items_where_true-append rows more a b (omega arith))
+items_where_true-append {X} (r ∷ rows) more (true ∷ a) b len = grind (arith, items_where_true-append rows more a b (omega arith))
 items_where_true-append (r ∷ rows) more (false ∷ a) b len = items_where_true-append rows more a b (omega arith)
 
 pub chosen_of_two_chunks : {X : Type 0} → ChosenOfTwoChunks X
-chosen_of_two_chunks {X} rows more a b len =
-    chosen-items_where_true (rows ++ more) (a ++ b) ∙ items_where_true-append rows more a b len
-    ∙ sym (ap₂ (λ (xs ys : List X). xs ++ ys) (chosen-items_where_true rows a) (chosen-items_where_true more b))
+chosen_of_two_chunks {X} rows more a b len = grind (arith, chosen-items_where_true, items_where_true-append)
 
 pub chosen_of_chunks : {X : Type 0} → ChosenOfChunks X
 chosen_of_chunks {X} [] all = chosen-items_where_true {X = X} [] []
-chosen_of_chunks {X} (c ∷ chunks) all =
-    chosen_of_two_chunks c.0 (flat_map (λ d. d.0) chunks) c.1 (flat_map (λ d. d.1) chunks) (All-head (λ d. length d.0 ≡ length d.1) c chunks all)
-    ∙ ap (λ (xs : List X). chosen c.0 c.1 ++ xs) (chosen_of_chunks chunks (All-tail (λ d. length d.0 ≡ length d.1) c chunks all))
+chosen_of_chunks {X} (c ∷ chunks) all = grind (arith, chosen_of_chunks chunks (All-tail (λ d. length d.0 ≡ length d.1) c chunks all), chosen_of_two_chunks, All-head)
 
 -- ---- the first of them
 
@@ -59,22 +50,14 @@ items_where_true-kept (r ∷ rows) (true ∷ m) zero = items_where_true-kept row
 items_where_true-kept {X} (r ∷ rows) (true ∷ m) (suc k) = ap (λ (xs : List X). r ∷ xs) (items_where_true-kept rows m k)
 
 pub chosen_by_limit : {X : Type 0} → ChosenByLimit X
-chosen_by_limit {X} rows m k =
-    ap (chosen rows) (limited-kept m k) ∙ chosen-items_where_true rows (kept m k) ∙ items_where_true-kept rows m k
-    ∙ ap (λ (xs : List X). take k xs) (sym (chosen-items_where_true rows m))
+chosen_by_limit {X} rows m k = grind (arith, limited-kept, chosen-items_where_true, items_where_true-kept)
 
 positions-kept : (m : List Bool) (k : ℕ) → positions (kept m k) ≡ take k (positions m)
 positions-kept [] zero = refl
 positions-kept [] (suc k) = refl
-positions-kept (false ∷ m) k =
-    positions-false (kept m k) ∙ ap (map suc) (positions-kept m k) ∙ sym (take-map suc k (positions m)) ∙ ap (take k) (sym (positions-false m))
-positions-kept (true ∷ m) zero =
-    positions-false (kept m zero) ∙ ap (map suc) (positions-kept m zero)
-positions-kept (true ∷ m) (suc k) =
-    positions-true (kept m k)
-    ∙ ap (λ (ps : List ℕ). 0 ∷ map suc ps) (positions-kept m k)
-    ∙ ap (λ (ps : List ℕ). 0 ∷ ps) (sym (take-map suc k (positions m)))
-    ∙ ap (take (suc k)) (sym (positions-true m))
+positions-kept (false ∷ m) k = grind (arith, positions-kept m k, positions-false, take-map)
+positions-kept (true ∷ m) zero = grind (arith, positions-kept m zero, positions-false)
+positions-kept (true ∷ m) (suc k) = grind (arith, positions-kept m k, positions-true, take-map)
 
 pub positions_of_limit : PositionsOfLimit
 positions_of_limit m k = ap positions (limited-kept m k) ∙ positions-kept m k
@@ -93,9 +76,4 @@ kept-narrow (true ∷ a) (true ∷ b) zero fits = ap (λ (xs : List Bool). false
 kept-narrow (true ∷ a) (true ∷ b) (suc k) fits = ap (λ (xs : List Bool). true ∷ xs) (kept-narrow a b k (omega arith))
 
 pub limit_of_rank_intersection : LimitOfRankIntersection
-limit_of_rank_intersection a b k fits =
-    limited-kept (rank_intersection a b) k
-    ∙ ap (λ (m : List Bool). kept m k) (rank_intersection-narrow a b fits)
-    ∙ kept-narrow a b k (fits ∙ count-trues a)
-    ∙ ap (narrow a) (sym (limited-kept b k))
-    ∙ sym (rank_intersection-narrow a (limited b k) (length-limited b k ∙ fits))
+limit_of_rank_intersection a b k fits = grind (arith, limited-kept, rank_intersection-narrow, kept-narrow, count-trues, length-limited)

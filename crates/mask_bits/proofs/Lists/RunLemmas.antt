@@ -42,37 +42,24 @@ Spread-lower a b high (r ∷ rs) h s = (omega arith, s.1, s.2, s.3)
 -- no place below the lower bound is inside
 any_below : (low high i : ℕ) (rs : List (ℕ × ℕ)) → Spread low high rs → i < low → list_any (is_inside i) rs ≡ false
 any_below low high i [] s h = refl
-any_below low high i (r ∷ rs) s h =
-    or_from (is_inside i r) (list_any (is_inside i) rs) (inside-before i r (omega arith)) (any_below (r.1 + 1) high i rs s.3 (omega arith))
+any_below low high i (r ∷ rs) s h = grind (arith, any_below (r.1 + 1) high i rs s.3 (omega arith))
 
 -- what holds of the first place and of the places past it holds of each place
 exact_cons : (n : ℕ) (v : Bool) (m : List Bool) (rs : List (ℕ × ℕ)) → v ≡ list_any (is_inside n) rs
     → ((i j : ℕ) → i ≡ (n + 1) + j → j < length m → get_or m j false ≡ list_any (is_inside i) rs)
     → (i j : ℕ) → i ≡ n + j → j < length (v ∷ m) → get_or (v ∷ m) j false ≡ list_any (is_inside i) rs
-exact_cons n v m rs first rest i zero e h =
-    let same : n ≡ i = omega arith in
-    subst (λ (k : ℕ). v ≡ list_any (is_inside k) rs) same first
+exact_cons n v m rs first rest i zero e h = grind arith
 exact_cons n v m rs first rest i (suc j) e h = rest i j (omega arith) (omega arith)
 
 -- ---- the scan finds runs
 
 -- a false value in front
 RunsOf-false : (n high : ℕ) (m : List Bool) (rs : List (ℕ × ℕ)) → RunsOf (n + 1) high m rs → RunsOf n high (false ∷ m) rs
-RunsOf-false n high m rs of = record {
-  top = omega arith;
-  spread = Spread-lower n (n + 1) high rs (omega arith) of.spread;
-  exact = exact_cons n false m rs (sym (any_below (n + 1) high n rs of.spread (omega arith))) of.exact;
-}
+RunsOf-false n high m rs of = grind (arith, Spread-lower, any_below)
 
 -- a true value in front that is a run of its own
 RunsOf-alone : (n high : ℕ) (m : List Bool) (rs : List (ℕ × ℕ)) → Spread ((n + 1) + 1) high rs → RunsOf (n + 1) high m rs → RunsOf n high (true ∷ m) ((n, n + 1) ∷ rs)
-RunsOf-alone n high m rs s of = record {
-  top = omega arith;
-  spread = (omega arith, omega arith, omega arith, s);
-  exact = exact_cons n true m ((n, n + 1) ∷ rs)
-      (sym (or_left (is_inside n (n, n + 1)) (list_any (is_inside n) rs) (inside n (n, n + 1) (omega arith) (omega arith))))
-      (λ i j e h. of.exact i j e h ∙ sym (ap (λ b. b || list_any (is_inside i) rs) (inside-past i (n, n + 1) (omega arith))));
-}
+RunsOf-alone n high m rs s of = grind arith
 
 -- from the first place on, a range's first place does not matter
 inside-lengthened : (i n : ℕ) (r : ℕ × ℕ) → n ≤ i → r.0 ≤ i → is_inside i (n, r.1) ≡ is_inside i r
@@ -80,26 +67,12 @@ inside-lengthened i n r h h' = ap (λ b. b && nat_lt i r.1) (le-leb n i h ∙ sy
 
 -- a true value in front that lengthens the first run
 RunsOf-joined : (n high : ℕ) (m : List Bool) (r : ℕ × ℕ) (rs : List (ℕ × ℕ)) → r.0 ≡ n + 1 → RunsOf (n + 1) high m (r ∷ rs) → RunsOf n high (true ∷ m) ((n, r.1) ∷ rs)
-RunsOf-joined n high m r rs starts of =
-    let s : Spread (n + 1) high (r ∷ rs) = of.spread in
-    record {
-      top = omega arith;
-      spread = (omega arith, omega arith, s.2, s.3);
-      exact = exact_cons n true m ((n, r.1) ∷ rs)
-          (sym (or_left (is_inside n (n, r.1)) (list_any (is_inside n) rs) (inside n (n, r.1) (omega arith) (omega arith))))
-          (λ i j e h. of.exact i j e h ∙ sym (ap (λ b. b || list_any (is_inside i) rs) (inside-lengthened i n r (omega arith) (omega arith))));
-    }
+RunsOf-joined n high m r rs starts of = grind arith
 
 -- a true value in front
 RunsOf-true : (n high : ℕ) (m : List Bool) (rs : List (ℕ × ℕ)) → RunsOf (n + 1) high m rs → RunsOf n high (true ∷ m) (with_place n rs)
 RunsOf-true n high m [] of = RunsOf-alone n high m [] tt of
-RunsOf-true n high m (r ∷ rs) of =
-    let s : Spread (n + 1) high (r ∷ rs) = of.spread in
-    cond_both (nat_eq r.0 (n + 1)) ((n, r.1) ∷ rs) ((n, n + 1) ∷ r ∷ rs) (λ xs. RunsOf n high (true ∷ m) xs)
-    (λ same. RunsOf-joined n high m r rs (eqb-true r.0 (n + 1) same) of)
-    (λ differs.
-    let apart : r.0 ≢ n + 1 = eqb-false r.0 (n + 1) differs in
-    RunsOf-alone n high m (r ∷ rs) (omega arith, s.1, s.2, s.3) of)
+RunsOf-true n high m (r ∷ rs) of = grind arith
 
 -- the scan's runs
 RunsOf-runs_from : (n high : ℕ) (m : List Bool) → high ≡ n + length m → RunsOf n high m (runs_from n m)
@@ -194,9 +167,7 @@ from_rest n high m (r ∷ rs) of rest =
 -- runs are the scan's
 pub runs_from-RunsOf : (n high : ℕ) (m : List Bool) (rs : List (ℕ × ℕ)) → RunsOf n high m rs → rs ≡ runs_from n m
 runs_from-RunsOf n high [] [] of = refl
-runs_from-RunsOf n high [] (r ∷ rs) of =
-    let s : Spread n high (r ∷ rs) = of.spread in
-    absurd (omega arith)
+runs_from-RunsOf n high [] (r ∷ rs) of = grind arith
 runs_from-RunsOf n high (true ∷ m) rs of = from_rest n high m rs of (λ ss is. runs_from-RunsOf (n + 1) high m ss is)
 runs_from-RunsOf n high (false ∷ m) rs of = runs_from-RunsOf (n + 1) high m rs (RunsOf-past_false n high m rs of)
 
@@ -273,14 +244,7 @@ pub runs_are_unique : RunsAreUnique
 runs_are_unique m rs ss are others = runs_from-AreRuns m rs are ∙ sym (runs_from-AreRuns m ss others)
 
 pub runs_are_ranges : RunsAreRanges
-runs_are_ranges m rs are = record {
-  nonempty = are.nonempty;
-  within = are.within;
-  ordered = λ k d h.
-      let past : (get_or rs k d).1 < (get_or rs (k + 1) d).0 = are.apart k d h in
-      omega arith;
-  exact = are.exact;
-}
+runs_are_ranges m rs are = grind arith
 
 -- the run at the front, with its end and the number of its values as variables
 front : (n k e : ℕ) (m : List Bool) → e ≡ n + k + 1 → k < length m → ((j : ℕ) → j ≤ k → get_or m j false ≡ true) → get_or m (suc k) false ≡ false → runs_from n m ≡ (n, e) ∷ runs_from e (drop (suc k) m)
@@ -303,16 +267,12 @@ front n (suc k) e (true ∷ m) len within all_true ends =
 
 -- a run at the front: from n on, k + 1 true values and then a false one or the end
 pub runs_from-front : (n k : ℕ) (m : List Bool) → k < length m → ((j : ℕ) → j ≤ k → get_or m j false ≡ true) → get_or m (k + 1) false ≡ false → runs_from n m ≡ (n, n + k + 1) ∷ runs_from (n + k + 1) (drop (k + 1) m)
-runs_from-front n k m within all_true ends =
-    let next : suc k ≡ k + 1 = omega arith in
-    let ends' : get_or m (suc k) false ≡ false = subst (λ (j : ℕ). get_or m j false ≡ false) (sym next) ends in
-    front n k (n + k + 1) m refl within all_true ends' ∙ ap (λ (j : ℕ). (n, n + k + 1) ∷ runs_from (n + k + 1) (drop j m)) next
+runs_from-front n k m within all_true ends = grind (arith, front)
 
 -- no more runs than values
 length-with_place : (n : ℕ) (rs : List (ℕ × ℕ)) → length (with_place n rs) ≤ suc (length rs)
 length-with_place n [] = omega arith
-length-with_place n (r ∷ rs) =
-    cond_both (nat_eq r.0 (n + 1)) ((n, r.1) ∷ rs) ((n, n + 1) ∷ r ∷ rs) (λ xs. length xs ≤ suc (length (r ∷ rs))) (λ _. omega arith) (λ _. omega arith)
+length-with_place n (r ∷ rs) = grind arith
 
 length-runs_from : (n : ℕ) (m : List Bool) → length (runs_from n m) ≤ length m
 length-runs_from n [] = omega arith

@@ -14,12 +14,8 @@ runs_are_the_list m rs = (λ same. subst (λ (ss : List (ℕ × ℕ)). AreRuns m
 -- from place i on, k + 1 true values
 runs_from-repeated_true : (i k e : ℕ) → e ≡ i + k + 1 → runs_from i (repeated (suc k) true) ≡ (i, e) ∷ []
 unfolding repeated
-runs_from-repeated_true i zero e len =
-    let ends : i + 1 ≡ e = omega arith in
-    ap (λ (j : ℕ). (i, j) ∷ []) ends
-runs_from-repeated_true i (suc k) e len =
-    ap (with_place i) (runs_from-repeated_true (i + 1) k e (omega arith))
-    ∙ cond-true (nat_eq (i + 1) (i + 1)) ((i, e) ∷ []) ((i, i + 1) ∷ (i + 1, e) ∷ []) (eq-eqb (i + 1) (i + 1) refl)
+runs_from-repeated_true i zero e len = grind arith
+runs_from-repeated_true i (suc k) e len = grind (arith, runs_from-repeated_true (i + 1) k e (omega arith))
 
 pub run_of_all_true : RunOfAllTrue
 run_of_all_true zero some = absurd (omega arith)

@@ -27,8 +27,7 @@ skip-first F pass m n place first =
 
 -- the true value itself
 drop-holds : (m : List Bool) (n place : ℕ) → IsFirstFrom m n true place → place < length m → drop place m ≡ true ∷ drop (place + 1) m
-drop-holds m n place first within =
-    drop_more m place false within ∙ ap (λ (b : Bool). b ∷ drop (place + 1) m) (first.holds within)
+drop-holds m n place first within = grind (arith, drop_more)
 
 pub places_from-first : (m : List Bool) (n place : ℕ) → IsFirstFrom m n true place → place < length m → places_from n (drop n m) ≡ place ∷ places_from (place + 1) (drop (place + 1) m)
 places_from-first m n place first within =

@@ -20,22 +20,14 @@ use Rattle.mask_bits.proofs.Lists.WordLemmas.{length-word_bits, get_or-word_bits
 
 pub places_from-append : (n : ℕ) (a b : List Bool) → places_from n (a ++ b) ≡ places_from n a ++ places_from (n + length a) b
 places_from-append n [] b = ap (λ k. places_from k b) (sym (add-zero n))
-places_from-append n (true ∷ a) b =
-    let next : n + 1 + length a ≡ n + suc (length a) = omega arith in
-    ap (λ (ps : List ℕ). n ∷ ps) (places_from-append (n + 1) a b ∙ ap (λ k. places_from (n + 1) a ++ places_from k b) next)
-places_from-append n (false ∷ a) b =
-    let next : n + 1 + length a ≡ n + suc (length a) = omega arith in
-    places_from-append (n + 1) a b ∙ ap (λ k. places_from (n + 1) a ++ places_from k b) next
+places_from-append n (true ∷ a) b = grind (arith, places_from-append (n + 1) a b)
+places_from-append n (false ∷ a) b = grind (arith, places_from-append (n + 1) a b)
 
 -- the places of a list that stands k further on
 pub places_from-moved : (k n : ℕ) (m : List Bool) → places_from (k + n) m ≡ map (λ p. k + p) (places_from n m)
 places_from-moved k n [] = refl
-places_from-moved k n (true ∷ m) =
-    let next : k + n + 1 ≡ k + (n + 1) = omega arith in
-    ap (λ (ps : List ℕ). (k + n) ∷ ps) (ap (λ i. places_from i m) next ∙ places_from-moved k (n + 1) m)
-places_from-moved k n (false ∷ m) =
-    let next : k + n + 1 ≡ k + (n + 1) = omega arith in
-    ap (λ i. places_from i m) next ∙ places_from-moved k (n + 1) m
+places_from-moved k n (true ∷ m) = grind (arith, places_from-moved k (n + 1) m)
+places_from-moved k n (false ∷ m) = grind (arith, places_from-moved k (n + 1) m)
 
 length-moved : (k : ℕ) (ps : List ℕ) → length (map (λ p. k + p) ps) ≡ length ps
 length-moved k [] = refl
@@ -72,10 +64,7 @@ part-split m i =
     ])
 
 count-part : (m : List Bool) (i : ℕ) → count (take 64 (drop (64 * i) m)) ≡ count (padded_part m i)
-count-part m i =
-    let rest : List Bool = drop (64 * i) m in
-    let n : ℕ = 64 - length rest in
-    omega (arith, ap count (part-split m i), count-append (take 64 rest) (repeated n false), count-repeated_false n)
+count-part m i = grind (arith, part-split, count-append, count-repeated_false)
 
 -- the true values of one more started word
 pub count-word_more : (m : List Bool) (i : ℕ) → count (take (64 * (i + 1)) m) ≡ count (take (64 * i) m) + count (padded_part m i)
@@ -116,8 +105,7 @@ place_in_word m i n r p within number inside at =
 
 -- past the last word there is none
 pub place_none : (m : List Bool) (i n r : ℕ) → length m ≤ 64 * i → n ≡ count (take (64 * i) m) + r → slice_get (positions m) n ≡ None
-place_none m i n r past number =
-    slice_get_past (positions m) n (omega (arith, ap count (take_all (64 * i) m past)))
+place_none m i n r past number = grind (arith, slice_get_past, take_all)
 
 -- ---- in one word
 
@@ -224,6 +212,4 @@ none_more m i read none p from = elim (cases_lt p (64 * i + 64)) [
 
 -- the true values up to a place, and those of the part from there
 pub count-part_further : (m : List Bool) (s n : ℕ) → count (take (s + n) m) ≡ count (take s m) + count (slice_range m s (s + n))
-count-part_further m s n =
-    let len : n ≡ s + n - s = omega arith in
-    ap count (take-add s n m) ∙ count-append (take s m) (take n (drop s m)) ∙ ap (λ k. count (take s m) + count (take k (drop s m))) len
+count-part_further m s n = grind (arith, take-add, count-append)

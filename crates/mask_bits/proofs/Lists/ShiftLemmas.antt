@@ -64,18 +64,10 @@ bit_of_not (suc zero) low = refl
 bit_of_not (suc (suc a)) low = absurd (omega arith)
 
 pub get_or-word_bits_and : (v w j : ℕ) → j < 64 → get_or (word_bits (bit_and v w)) j false ≡ (get_or (word_bits v) j false && get_or (word_bits w) j false)
-get_or-word_bits_and v w j h =
-    get_or-word_bits (bit_and v w) j false h ∙ ap (λ b. nat_eq b 1) (bit_at_and v w j)
-    ∙ bit_of_min (bit_at v j) (bit_at w j) (bit_at-lt v j) (bit_at-lt w j)
-    ∙ ap (λ x. x && nat_eq (bit_at w j) 1) (sym (get_or-word_bits v j false h))
-    ∙ ap (λ x. get_or (word_bits v) j false && x) (sym (get_or-word_bits w j false h))
+get_or-word_bits_and v w j h = grind (arith, get_or-word_bits, bit_at_and)
 
 pub get_or-word_bits_or : (v w j : ℕ) → j < 64 → get_or (word_bits (bit_or v w)) j false ≡ (get_or (word_bits v) j false || get_or (word_bits w) j false)
-get_or-word_bits_or v w j h =
-    get_or-word_bits (bit_or v w) j false h ∙ ap (λ b. nat_eq b 1) (bit_at_or v w j)
-    ∙ bit_of_max (bit_at v j) (bit_at w j) (bit_at-lt v j) (bit_at-lt w j)
-    ∙ ap (λ x. x || nat_eq (bit_at w j) 1) (sym (get_or-word_bits v j false h))
-    ∙ ap (λ x. get_or (word_bits v) j false || x) (sym (get_or-word_bits w j false h))
+get_or-word_bits_or v w j h = grind (arith, get_or-word_bits, bit_at_or)
 
 pub get_or-word_bits_not : (w j : ℕ) → w < 2 ^ 64 → j < 64 → get_or (word_bits (bit_not w64 w)) j false ≡ not (get_or (word_bits w) j false)
 get_or-word_bits_not w j fits h =

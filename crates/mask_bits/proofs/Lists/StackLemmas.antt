@@ -13,15 +13,12 @@ keeps_a_stack_above a b c ms stack = (length-rank_intersection b c ∙ stack.0, 
 
 pub folded_by_the_first : FoldedByTheFirst
 folded_by_the_first a b [] stack = refl
-folded_by_the_first a b (c ∷ ms) stack =
-    ap (λ (m : List Bool). fold rank_intersection m ms) (rank_intersection_associative a b c stack.0 stack.1.0)
-    ∙ folded_by_the_first a (rank_intersection b c) ms (keeps_a_stack_above a b c ms stack)
+folded_by_the_first a b (c ∷ ms) stack = grind (arith, folded_by_the_first a (rank_intersection b c) ms (keeps_a_stack_above a b c ms stack), rank_intersection_associative)
 
 pub stack_folds_alike : StackFoldsAlike
 stack_folds_alike [] stack = refl
 stack_folds_alike (a ∷ []) stack = refl
-stack_folds_alike (a ∷ b ∷ ms) stack =
-    folded_by_the_first a b ms stack ∙ ap (rank_intersection a) (stack_folds_alike (b ∷ ms) stack.1)
+stack_folds_alike (a ∷ b ∷ ms) stack = grind (arith, stack_folds_alike (b ∷ ms) stack.1, folded_by_the_first)
 
 pub fold_of_one : FoldOfOne
 fold_of_one m = (refl, refl)
@@ -37,8 +34,7 @@ length_of_fold first (m ∷ ms) = length_of_fold (rank_intersection first m) ms 
 -- the count of the fold of a first mask and others
 count_from : (first last : List Bool) (ms : List (List Bool)) → IsStack (first ∷ ms ++ last ∷ []) → count (folded_left (first ∷ ms ++ last ∷ [])) ≡ count last
 count_from first last [] stack = rank_intersection_count first last stack.0
-count_from first last (m ∷ ms) stack =
-    count_from (rank_intersection first m) last ms (folding_keeps_a_stack first m (ms ++ last ∷ []) stack)
+count_from first last (m ∷ ms) stack = grind (arith, count_from (rank_intersection first m) last ms (folding_keeps_a_stack first m (ms ++ last ∷ []) stack))
 
 pub count_of_fold : CountOfFold
 count_of_fold last [] stack = refl
@@ -46,16 +42,12 @@ count_of_fold last (m ∷ ms) stack = count_from m last ms stack
 
 -- a list with no true value stays as it is
 narrowed_none : (a b : List Bool) → count a ≡ 0 → length b ≡ count a → rank_intersection a b ≡ a
-narrowed_none a b none fits =
-    let no_rank : count b ≡ 0 = omega (arith, count-le-length b) in
-    rank_intersection-none a b fits no_rank ∙ sym (all_false_from_count 0 a none)
+narrowed_none a b none fits = grind (arith, count-le-length, rank_intersection-none, all_false_from_count)
 
 pub fold_of_no_row : FoldOfNoRow
 fold_of_no_row first [] none stack = refl
 fold_of_no_row first (m ∷ ms) none stack =
-    let same = narrowed_none first m none stack.0 in
-    ap (λ (a : List Bool). fold rank_intersection a ms) same
-    ∙ fold_of_no_row first ms none (subst (λ (a : List Bool). IsStack (a ∷ ms)) same (folding_keeps_a_stack first m ms stack))
+    grind (arith, fold_of_no_row first ms none (subst (λ (a : List Bool). IsStack (a ∷ ms)) (narrowed_none first m none stack.0) (folding_keeps_a_stack first m ms stack)), narrowed_none)
 
 -- neighbors above a first mask
 neighbors_above : (first a b : List Bool) (below above : List (List Bool)) → IsStack (first ∷ below ++ a ∷ b ∷ above)
@@ -75,5 +67,4 @@ neighbors_make_one (first ∷ below) above a b stack = neighbors_above first a b
 pub choosing_in_turn : (X : Type 0) → ChoosingInTurn X
 choosing_in_turn X rows first [] len stack = refl
 choosing_in_turn X rows first (m ∷ ms) len stack =
-    choosing_in_turn X rows (rank_intersection first m) ms (len ∙ sym (length-rank_intersection first m)) (folding_keeps_a_stack first m ms stack)
-    ∙ ap (λ (xs : List X). fold chosen xs ms) (choosing_twice X rows first m len stack.0)
+    grind (arith, choosing_in_turn X rows (rank_intersection first m) ms (len ∙ sym (length-rank_intersection first m)) (folding_keeps_a_stack first m ms stack), choosing_twice)

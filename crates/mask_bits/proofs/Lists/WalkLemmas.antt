@@ -57,51 +57,22 @@ runs-step m n start stop some within len passed holds ends cleared same =
 
 pub length-left_of : (m : List Bool) (i w : ℕ) → 64 * i ≤ length m → length (left_of m i w) ≡ length m
 unfolding left_of repeated
-length-left_of m i w within =
-    let rest : List Bool = word_bits w ++ drop (64 * i + 64) m in
-    let passed : List Bool = repeated (64 * i) false in
-    omega (arith, length-take (length m) (passed ++ rest), length-append passed rest, length-append (word_bits w) (drop (64 * i + 64) m), length-word_bits w, length-drop (64 * i + 64) m, length-replicate (64 * i) false)
+length-left_of m i w within = grind (arith, length-take, length-append, length-word_bits, length-drop, length-replicate)
 
 -- of the words before, nothing
 pub left_of-before : (m : List Bool) (i w p : ℕ) → 64 * i ≤ length m → p < 64 * i → get_or (left_of m i w) p false ≡ false
 unfolding left_of repeated
-left_of-before m i w p within h =
-    let rest : List Bool = word_bits w ++ drop (64 * i + 64) m in
-    let passed : List Bool = repeated (64 * i) false in
-    get_or-take (length m) (passed ++ rest) p false (omega arith)
-    ∙ get_or_append_left passed rest false p (omega (arith, length-replicate (64 * i) false))
-    ∙ get_or-replicate (64 * i) p false false h
+left_of-before m i w p within h = grind (arith, get_or-take, get_or_append_left, length-replicate, get_or-replicate)
 
 -- of word i, the bits of w
 pub left_of-here : (m : List Bool) (i w p : ℕ) → 64 * i ≤ p → p < 64 * i + 64 → p < length m → get_or (left_of m i w) p false ≡ nat_eq (bit_at w (p - 64 * i)) 1
 unfolding left_of repeated
-left_of-here m i w p from to within =
-    let past : List Bool = drop (64 * i + 64) m in
-    let rest : List Bool = word_bits w ++ past in
-    let passed : List Bool = repeated (64 * i) false in
-    get_or-take (length m) (passed ++ rest) p false within
-    ∙ get_or-append_right passed rest (64 * i) p false (length-replicate (64 * i) false) from
-    ∙ get_or_append_left (word_bits w) past false (p - 64 * i) (omega (arith, length-word_bits w))
-    ∙ get_or-word_bits w (p - 64 * i) false (omega arith)
+left_of-here m i w p from to within = grind (arith, get_or-take, get_or-append_right, length-replicate, get_or_append_left, length-word_bits, get_or-word_bits)
 
 -- past it, all
 pub left_of-past : (m : List Bool) (i w p : ℕ) → 64 * i ≤ length m → 64 * i + 64 ≤ p → get_or (left_of m i w) p false ≡ get_or m p false
 unfolding left_of repeated
-left_of-past m i w p within h =
-    let past : List Bool = drop (64 * i + 64) m in
-    let rest : List Bool = word_bits w ++ past in
-    let passed : List Bool = repeated (64 * i) false in
-    elim (cases_lt p (length m)) [
-      | inl inside ↦
-          let place : 64 * i + 64 + (p - 64 * i - 64) ≡ p = omega arith in
-          get_or-take (length m) (passed ++ rest) p false inside
-          ∙ get_or-append_right passed rest (64 * i) p false (length-replicate (64 * i) false) (omega arith)
-          ∙ get_or-append_right (word_bits w) past 64 (p - 64 * i) false (length-word_bits w) (omega arith)
-          ∙ get_or-drop (64 * i + 64) m (p - 64 * i - 64) false
-          ∙ ap (λ k. get_or m k false) place
-      | inr outside ↦
-          get_or_past (left_of m i w) p false (omega (arith, length-left_of m i w within)) ∙ sym (get_or_past m p false outside)
-    ]
+left_of-past m i w p within h = grind (arith, get_or-take, get_or-append_right, length-replicate, length-word_bits, get_or-drop, get_or_past, length-left_of)
 
 -- nothing is past the end
 left_of-outside : (m : List Bool) (i w p : ℕ) → 64 * i ≤ length m → length m ≤ p → get_or (left_of m i w) p false ≡ false
@@ -109,10 +80,7 @@ left_of-outside m i w p within h = get_or_past (left_of m i w) p false (omega (a
 
 -- where w is 0 there too, as in an empty word
 pub left_of-clear : (m : List Bool) (i w p : ℕ) → 64 * i ≤ length m → 64 * i ≤ p → p < 64 * i + 64 → bit_at w (p - 64 * i) ≡ 0 → get_or (left_of m i w) p false ≡ false
-left_of-clear m i w p within from to clear = elim (cases_lt p (length m)) [
-  | inl inside ↦ left_of-here m i w p from to inside ∙ ap (λ b. nat_eq b 1) clear
-  | inr outside ↦ left_of-outside m i w p within outside
-]
+left_of-clear m i w p within from to clear = grind (arith, left_of-here, left_of-outside)
 
 -- ---- words that are read
 
@@ -123,8 +91,7 @@ bit_from_false (suc (suc b)) h e = absurd (omega arith)
 
 -- bit j of started word i
 pub bit-padded : (m : List Bool) (i w j : ℕ) → word_bits w ≡ padded_part m i → j < 64 → nat_eq (bit_at w j) 1 ≡ get_or m (64 * i + j) false
-bit-padded m i w j read h =
-    sym (get_or-word_bits w j false h) ∙ ap (λ (xs : List Bool). get_or xs j false) read ∙ get_or-padded_part m i j h
+bit-padded m i w j read h = grind (arith, get_or-word_bits, get_or-padded_part)
 
 pub IsLeft-read : (m : List Bool) (i w : ℕ) → w < 2 ^ 64 → word_bits w ≡ padded_part m i → i < started_words (length m) → IsLeft m i w
 IsLeft-read m i w fits read started = record {
@@ -193,27 +160,15 @@ low-inside m i w some fits left = elim (cases_lt (64 * i + low w) (length m)) [
 
 -- before it nothing is left
 left_of-below_low : (m : List Bool) (i w p : ℕ) → 0 < w → w < 2 ^ 64 → 64 * i ≤ length m → p < 64 * i + low w → get_or (left_of m i w) p false ≡ false
-left_of-below_low m i w p some fits within h = elim (cases_lt p (64 * i)) [
-  | inl before ↦ left_of-before m i w p within before
-  | inr from ↦ left_of-clear m i w p within from (omega (arith, low-within w some fits)) (low-first w (p - 64 * i) some fits (omega arith))
-]
+left_of-below_low m i w p some fits within h = grind (arith, left_of-before, left_of-clear, low-within, low-first)
 
 -- it is true
 left_of-at : (m : List Bool) (i w p j : ℕ) → p ≡ 64 * i + j → j < 64 → p < length m → bit_at w j ≡ 1 → get_or (left_of m i w) p false ≡ true
-left_of-at m i w p j place few inside set =
-    let bit : p - 64 * i ≡ j = omega arith in
-    left_of-here m i w p (omega arith) (omega arith) inside ∙ ap (λ k. nat_eq (bit_at w k) 1) bit ∙ ap (λ b. nat_eq b 1) set
+left_of-at m i w p j place few inside set = grind (arith, left_of-here)
 
 -- two words that have the same bits there
 left_of-same : (m : List Bool) (i w v p : ℕ) → 64 * i ≤ length m → 64 * i ≤ p → ((j : ℕ) → j < 64 → p ≡ 64 * i + j → bit_at v j ≡ bit_at w j) → get_or (left_of m i v) p false ≡ get_or (left_of m i w) p false
-left_of-same m i w v p within from same = elim (cases_lt p (64 * i + 64)) [
-  | inr past ↦ left_of-past m i v p within past ∙ sym (left_of-past m i w p within past)
-  | inl here ↦ elim (cases_lt p (length m)) [
-    | inr outside ↦ left_of-outside m i v p within outside ∙ sym (left_of-outside m i w p within outside)
-    | inl inside ↦
-        left_of-here m i v p from here inside ∙ ap (λ b. nat_eq b 1) (same (p - 64 * i) (omega arith) (omega arith)) ∙ sym (left_of-here m i w p from here inside)
-  ]
-]
+left_of-same m i w v p within from same = grind (arith, left_of-past, left_of-outside, left_of-here)
 
 pub IsLeft-cleared : (m : List Bool) (i w : ℕ) → 0 < w → w < 2 ^ 64 → IsLeft m i w → IsLeft m i (bit_and w (w - 1))
 IsLeft-cleared m i w some fits left = record {
@@ -286,8 +241,7 @@ IsLeft-ones_cleared m i w fits left = record {
 
 -- from its lowest set bit on, a word filled up to that is the word
 left_of-filled : (m : List Bool) (i w p : ℕ) → 0 < w → w < 2 ^ 64 → 64 * i ≤ length m → 64 * i + low w ≤ p → get_or (left_of m i (bit_or w (w - 1))) p false ≡ get_or (left_of m i w) p false
-left_of-filled m i w p some fits within h =
-    left_of-same m i w (bit_or w (w - 1)) p within (omega arith) (λ k _ place. bit_at-filled_others w k some fits (omega arith))
+left_of-filled m i w p some fits within h = grind (arith, left_of-same, bit_at-filled_others)
 
 -- all is true up to the end of the ones that the walk came to
 run_true : (m : List Bool) (i f j v p : ℕ) → v < 2 ^ 64 → PassesTrue m i f j v → 64 * i ≤ p → p < 64 * j + ones v → get_or (left_of m i f) p false ≡ true
@@ -300,10 +254,7 @@ run_true m i f j v p v_fits passes from to = elim (cases_lt p (64 * j)) [
 
 -- where the run ends before the list does, it ends within the word
 run_ends : (m : List Bool) (j v : ℕ) → v < 2 ^ 64 → (v ≡ 2 ^ 64 - 1 → length m ≤ 64 * j + 64) → 64 * j + ones v < length m → 64 * j + ones v < 64 * j + 64
-run_ends m j v v_fits last inside = elim (cases_eq v (2 ^ 64 - 1)) [
-  | inl full ↦ absurd (omega (arith, ones-of_full v full, last full))
-  | inr some ↦ omega (arith, ones-few v v_fits some)
-]
+run_ends m j v v_fits last inside = grind (arith, ones-few)
 
 -- the lowest set bit of a word is in front of the end of its run
 runs-start_below_stop : (m : List Bool) (i w j v : ℕ) → 0 < w → w < 2 ^ 64 → v < 2 ^ 64 → IsLeft m i w → PassesTrue m i (bit_or w (w - 1)) j v → (v ≡ 2 ^ 64 - 1 → length m ≤ 64 * j + 64) → 64 * i + low w < 64 * j + ones v
@@ -366,9 +317,7 @@ runs_from-repeated_false n (suc k) = runs_from-repeated_false (n + 1) k
 
 -- a word that is read at its first place
 pub ShowsFrom-read : (m : List Bool) (n i w : ℕ) → n ≡ 64 * i → word_bits w ≡ padded_part m i → ShowsFrom m n w
-ShowsFrom-read m n i w first read = λ j h.
-    let place : 64 * i + j ≡ n + j = omega arith in
-    bit-padded m i w j read (omega arith) ∙ ap (λ k. get_or m k false) place
+ShowsFrom-read m n i w first read = grind (arith, bit-padded)
 
 -- one place further inside a word
 pub ShowsFrom-next : (m : List Bool) (n w : ℕ) → ShowsFrom m n w → 0 < (n + 1) % 64 → ShowsFrom m (n + 1) (w / 2)
@@ -378,6 +327,4 @@ ShowsFrom-next m n w shows inside = λ j h.
 
 -- the lowest bit is the value there
 pub ShowsFrom-first : (m : List Bool) (n w : ℕ) → ShowsFrom m n w → nat_eq (w % 2) 1 ≡ get_or m n false
-ShowsFrom-first m n w shows =
-    let place : n + 0 ≡ n = omega arith in
-    ap (λ b. nat_eq b 1) (sym (bit_at_lowest w)) ∙ shows 0 (omega arith) ∙ ap (λ k. get_or m k false) place
+ShowsFrom-first m n w shows = grind arith

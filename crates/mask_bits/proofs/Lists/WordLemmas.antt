@@ -100,8 +100,4 @@ counts_of_front m (suc k) h =
 
 pub counts_of_words_add_up : CountsOfWordsAddUp
 unfolding word_parts
-counts_of_words_add_up m =
-    let n : ℕ = length m / 64 in
-    let rest : List Bool = drop (64 * n) m in
-    let zeros : List Bool = repeated (64 - length m % 64) false in
-    omega (arith, counts_of_front m n (omega arith), count-append rest zeros, count-repeated_false (64 - length m % 64))
+counts_of_words_add_up m = grind (arith, counts_of_front, count-append, count-repeated_false)
