@@ -34,8 +34,7 @@ values_from_bits b m len same = sym (fill_by_all (λ i. backing_bit b.bytes (b.o
 
 -- what `value` answers
 pub slice_get-values : (b : Packed) (i : ℕ) → i < length (values b) → slice_get (values b) i ≡ Some (backing_bit b.bytes (b.offset + i))
-slice_get-values b i h =
-    slice_get-get_or (values b) i false h ∙ ap Some (get_or-values b i false (omega (arith, length-values b)))
+slice_get-values b i h = slice_get-get_or (values b) i false h ∙ ap Some (get_or-values b i false (omega (arith, length-values b)))
 
 -- the list of the first bits of some bytes
 pub values_from_front : (bytes : List ℕ) (m : List Bool) (n : ℕ) → length m ≡ n → ((i : ℕ) → i < n → backing_bit bytes i ≡ get_or m i false) → values (record { bytes = bytes; offset = 0; len = n }) ≡ m
@@ -57,9 +56,8 @@ pub ruleset buffer_facts = (length-values)
 -- a part of a buffer's list is the list of the same bytes from the part's first bit on
 pub values-part : (b : Packed) (s e : ℕ) → s ≤ e → e ≤ b.len → values (record b { offset = b.offset + s; len = e - s }) ≡ slice_range (values b) s e
 values-part b s e ordered within =
-    let fits : e ≤ length (values b) = omega (arith, length-values b) in
-    values_from_bits (record b { offset = b.offset + s; len = e - s }) (slice_range (values b) s e) (length-between (values b) s e fits)
-    (λ i h. get_or-between (values b) s e i false (omega arith) ∙ get_or-values b (s + i) false (omega arith) ∙ ap (backing_bit b.bytes) (sym (add_assoc b.offset s i)))
+    values_from_bits (record b { offset = b.offset + s; len = e - s }) (slice_range (values b) s e) (length-between (values b) s e (omega (arith, length-values b))) (λ i h.
+    grind (arith, get_or-between (values b) s e i false, get_or-values b (s + i) false))
 
 -- the first bits of bytes of one value
 pub values-ones : (n k : ℕ) → n ≤ 8 * k → values (record { bytes = replicate k 255; offset = 0; len = n }) ≡ repeated n true

@@ -28,7 +28,7 @@ front-set old new len q v h here others =
     let m : List Bool = values (record { bytes = old; offset = 0; len = len }) in
     let is_len : length m ≡ len = length-values (record { bytes = old; offset = 0; len = len }) in
     values_from_front new (set m q v) len (length-set m q v ∙ is_len) (λ p within. elim (cases_eq p q) [
-      | inl same ↦ ap (backing_bit new) same ∙ here ∙ sym (ap (λ i. get_or (set m q v) i false) same ∙ get_or-set_same m q v false (omega arith))
+      | inl same ↦ grind (arith, here, get_or-set_same m q v false)
       | inr apart ↦ others p apart ∙ sym (get_or-set_other m q p v false apart ∙ get_or-front old len p false within)
     ])
 

@@ -1,5 +1,5 @@
 -- The bits that the loops over words write and compare.
-use Rattle.std.proofs.Common.{◌≡◌, nat_eq, ℕ, ◌+◌, ◌*◌, ◌-◌, ◌/◌, ◌%◌, ◌<◌, ◌≤◌, ◌⊎◌, Bool, false, List, ◌++◌, length, get_or, take, drop, slice_range, sym, ap, ◌∙◌, inl, inr, arith}
+use Rattle.std.proofs.Common.{◌≡◌, nat_eq, ℕ, ◌+◌, ◌*◌, ◌-◌, ◌/◌, ◌%◌, ◌<◌, ◌≤◌, ◌⊎◌, Bool, false, List, ◌++◌, length, get_or, take, drop, slice_range, sym, ap, ◌∙◌, inl, inr, arith, ap₂}
 use Rattle.std.specs.Int.{bit_at}
 use Rattle.std.proofs.lemmas.Bool.{cases_lt}
 use Rattle.std.proofs.lemmas.List.{ext_get_or, get_or-drop, take-append-le, take_all, length-append, get_or_append_left, get_or-append_right}
@@ -17,13 +17,7 @@ use Rattle.mask_bits.proofs.Lists.WordLemmas.{length-word_bits, get_or-word_bits
 
 -- two whole words side by side show the window from a bit of the first on
 pub window-neighbors : (bytes : List ℕ) (low i : ℕ) (v w : List Bool) → low ≤ 64 → v ≡ window bytes (64 * i) → w ≡ window bytes (64 * (i + 1)) → slice_range (v ++ w) low (low + 64) ≡ window bytes (low + 64 * i)
-window-neighbors bytes low i v w few first second =
-    let next : 64 * (i + 1) ≡ 64 * i + 64 = omega arith in
-    let from : 64 * i + low ≡ low + 64 * i = omega arith in
-    ap (λ (m : List Bool). slice_range (m ++ w) low (low + 64)) first
-    ∙ ap (λ (m : List Bool). slice_range (window bytes (64 * i) ++ m) low (low + 64)) (second ∙ ap (window bytes) next)
-    ∙ window-between bytes (64 * i) low few
-    ∙ ap (window bytes) from
+window-neighbors bytes low i v w few first second = grind (arith, window-between bytes (64 * i) low few)
 
 -- a word and the byte that follows it show the window from a bit of its first byte on
 pub window-next_byte : (bytes : List ℕ) (low i byte : ℕ) (v : List Bool) → low < 8 → v ≡ window bytes (64 * i) → byte ≡ get_or bytes (8 * i + 8) 0 → slice_range (v ++ word_bits byte) low (low + 64) ≡ window bytes (low + 64 * i)
@@ -51,11 +45,9 @@ window-next_byte bytes low i byte v few first next =
 -- a word whose bits are f of those of two words has the combined list
 pub word_bits-combined : (f : Bool → Bool → Bool) (w x y : ℕ) → ((j : ℕ) → j < 64 → get_or (word_bits w) j false ≡ f (get_or (word_bits x) j false) (get_or (word_bits y) j false)) → word_bits w ≡ combined f (word_bits x) (word_bits y)
 word_bits-combined f w x y same =
-    let one_len : length (word_bits x) ≡ length (word_bits y) = length-word_bits x ∙ sym (length-word_bits y) in
-    ext_get_or false (word_bits w) (combined f (word_bits x) (word_bits y))
-    (length-word_bits w ∙ sym (length-word_bits x) ∙ sym (length-combined f (word_bits x) (word_bits y) one_len))
-    (λ j h. same j (omega (arith, length-word_bits w))
-    ∙ sym (get_or-combined f (word_bits x) (word_bits y) j false (omega (arith, length-word_bits w, length-word_bits x)) one_len))
+    let len = length-combined f (word_bits x) (word_bits y) in
+    ext_get_or false (word_bits w) (combined f (word_bits x) (word_bits y)) (grind (arith, length-word_bits, len)) (λ j h.
+    grind (arith, same j, length-word_bits, get_or-combined f (word_bits x) (word_bits y) j false))
 
 -- one more word
 pub AreCombined-step : (f : Bool → Bool → Bool) (a b out new : List ℕ) (p q i : ℕ) (v w : List Bool) (r : List Bool)
@@ -63,28 +55,12 @@ pub AreCombined-step : (f : Bool → Bool → Bool) (a b out new : List ℕ) (p 
     → v ≡ window a (p + 64 * i) → w ≡ window b (q + 64 * i) → r ≡ combined f v w → window new (64 * i) ≡ r
     → ((k : ℕ) → ((k < 64 * i) ⊎ (64 * i + 64 ≤ k)) → backing_bit new k ≡ backing_bit out k)
     → AreCombined f a p b q new (64 * (i + 1))
-AreCombined-step f a b out new p q i v w r before is_v is_w is_r wrote others = λ k h.
-    elim (cases_lt k (64 * i)) [
-      | inl earlier ↦ others k (inl earlier) ∙ before k earlier
-      | inr here ↦
-          let j : ℕ = k - 64 * i in
-          let small : j < 64 = omega arith in
-          let len_v : length v ≡ 64 = ap length is_v ∙ length-window a (p + 64 * i) in
-          let len_w : length w ≡ 64 = ap length is_w ∙ length-window b (q + 64 * i) in
-          let at : 64 * i + j ≡ k = omega arith in
-          let at_a : p + 64 * i + j ≡ p + k = omega arith in
-          let at_b : q + 64 * i + j ≡ q + k = omega arith in
-          let bit_a : get_or v j false ≡ backing_bit a (p + k)
-          = ap (λ (m : List Bool). get_or m j false) is_v ∙ get_or-window a (p + 64 * i) j false small ∙ ap (backing_bit a) at_a in
-          let bit_b : get_or w j false ≡ backing_bit b (q + k)
-          = ap (λ (m : List Bool). get_or m j false) is_w ∙ get_or-window b (q + 64 * i) j false small ∙ ap (backing_bit b) at_b in
-          ap (backing_bit new) (sym at)
-          ∙ sym (get_or-window new (64 * i) j false small)
-          ∙ ap (λ (m : List Bool). get_or m j false) (wrote ∙ is_r)
-          ∙ get_or-combined f v w j false (omega (arith, len_v)) (len_v ∙ sym len_w)
-          ∙ ap (λ (x : Bool). f x (get_or w j false)) bit_a
-          ∙ ap (λ (y : Bool). f (backing_bit a (p + k)) y) bit_b
-    ]
+AreCombined-step f a b out new p q i v w r before is_v is_w is_r wrote others = λ k h. elim (cases_lt k (64 * i)) [
+  | inl earlier ↦ others k (inl earlier) ∙ before k earlier
+  | inr here ↦
+      let j : ℕ = k - 64 * i in
+      grind (arith, is_v, is_w, is_r, wrote, get_or-window new (64 * i) j false, get_or-combined f v w j false, length-window a (p + 64 * i), length-window b (q + 64 * i), get_or-window a (p + 64 * i) j false, get_or-window b (q + 64 * i) j false)
+]
 
 -- ---- the list made
 
@@ -100,17 +76,10 @@ values-combined f a b out from_a from_b p q len words is_a is_b wrote enough =
     let va : Packed = record { bytes = a; offset = p; len = len } in
     let vb : Packed = record { bytes = b; offset = q; len = len } in
     let one_len : length (values va) ≡ length (values vb) = length-values va ∙ sym (length-values vb) in
-    values_from_front out (combined f (values va) (values vb)) len
-    (length-combined f (values va) (values vb) one_len ∙ length-values va)
-    (λ i h.
-    let bit_a : backing_bit from_a (p % 8 + i) ≡ get_or (values va) i false
-    = ap (λ (xs : List ℕ). backing_bit xs (p % 8 + i)) is_a ∙ backing_bit-drop a p i ∙ sym (get_or-values va i false h) in
-    let bit_b : backing_bit from_b (q % 8 + i) ≡ get_or (values vb) i false
-    = ap (λ (xs : List ℕ). backing_bit xs (q % 8 + i)) is_b ∙ backing_bit-drop b q i ∙ sym (get_or-values vb i false h) in
-    wrote i (omega arith)
-    ∙ ap (λ (x : Bool). f x (backing_bit from_b (q % 8 + i))) bit_a
-    ∙ ap (λ (y : Bool). f (get_or (values va) i false) y) bit_b
-    ∙ sym (get_or-combined f (values va) (values vb) i false (omega (arith, length-values va)) one_len))
+    values_from_front out (combined f (values va) (values vb)) len (length-combined f (values va) (values vb) one_len ∙ length-values va) (λ i h.
+    let bit_a = ap (λ (xs : List ℕ). backing_bit xs (p % 8 + i)) is_a ∙ backing_bit-drop a p i ∙ sym (get_or-values va i false h) in
+    let bit_b = ap (λ (xs : List ℕ). backing_bit xs (q % 8 + i)) is_b ∙ backing_bit-drop b q i ∙ sym (get_or-values vb i false h) in
+    wrote i (omega arith) ∙ ap₂ f bit_a bit_b ∙ sym (get_or-combined f (values va) (values vb) i false (omega (arith, length-values va)) one_len))
 
 -- ---- a buffer by its parts
 

@@ -14,51 +14,31 @@ use Rattle.mask_bits.proofs.NumberLemmas.{AreBytes, bytes-take, bytes-drop}
 use Rattle.mask_bits.proofs.CombineLemmas.{backing_bit-drop}
 use Rattle.mask_bits.proofs.Lists.FrontLemmas.{length-window, get_or-window}
 use Rattle.mask_bits.proofs.Lists.WordLemmas.{get_or-word_bits}
+use Rattle.std.proofs.lemmas.Bool.Decides.{nat_tests}
+use Rattle.mask_bits.proofs.Lists.CountLemmas.{get_or-padded}
 
 -- ---- words
 
 same_bit : (m n : ℕ) → m < 2 → n < 2 → nat_eq m 1 ≡ nat_eq n 1 → m ≡ n
-same_bit zero zero low low' e = refl
-same_bit zero (suc zero) low low' e = absurd (false≢true e)
-same_bit (suc zero) zero low low' e = absurd (false≢true (sym e))
-same_bit (suc zero) (suc zero) low low' e = refl
-same_bit (suc (suc m)) n low low' e = absurd (omega arith)
-same_bit m (suc (suc n)) low low' e = absurd (omega arith)
+same_bit m n low low' e = grind (arith, nat_tests)
 
 -- words of the same bits are the same
 pub word_from_bits : (v w : ℕ) → v < 2 ^ 64 → w < 2 ^ 64 → word_bits v ≡ word_bits w → v ≡ w
 word_from_bits v w fits fits' same =
-    same_from_bits_below 64 v w fits fits' (λ j h.
-    same_bit (bit_at v j) (bit_at w j) (bit_at-lt v j) (bit_at-lt w j)
-    (sym (get_or-word_bits v j false h) ∙ ap (λ (m : List Bool). get_or m j false) same ∙ get_or-word_bits w j false h))
+    same_from_bits_below 64 v w fits fits' (λ j h. grind (arith, same_bit (bit_at v j) (bit_at w j), bit_at-lt v j, bit_at-lt w j, get_or-word_bits v j false h, get_or-word_bits w j false h))
 
 -- one more word that is the same
 pub AreSameBits-step : (a b : List ℕ) (p q i v w : ℕ) → AreSameBits a p b q (64 * i) → word_bits v ≡ window a (p + 64 * i) → word_bits w ≡ window b (q + 64 * i) → v ≡ w → AreSameBits a p b q (64 * (i + 1))
 AreSameBits-step a b p q i v w before is_v is_w same = λ k h.
-    elim (cases_lt k (64 * i)) [
-      | inl earlier ↦ before k earlier
-      | inr here ↦
-          let j : ℕ = k - 64 * i in
-          let small : j < 64 = omega arith in
-          let at_a : p + 64 * i + j ≡ p + k = omega arith in
-          let at_b : q + 64 * i + j ≡ q + k = omega arith in
-          sym (get_or-window a (p + 64 * i) j false small ∙ ap (backing_bit a) at_a)
-          ∙ ap (λ (m : List Bool). get_or m j false) (sym is_v ∙ ap word_bits same ∙ is_w)
-          ∙ get_or-window b (q + 64 * i) j false small ∙ ap (backing_bit b) at_b
-    ]
+    grind (arith, before k, get_or-window a (p + 64 * i) (k - 64 * i) false, get_or-window b (q + 64 * i) (k - 64 * i) false)
 
 -- the same bits have the same words
 pub same_word : (a b : List ℕ) (p q i n v w : ℕ) → AreSameBits a p b q n → 64 * i + 64 ≤ n → v < 2 ^ 64 → w < 2 ^ 64 → word_bits v ≡ window a (p + 64 * i) → word_bits w ≡ window b (q + 64 * i) → v ≡ w
 same_word a b p q i n v w same within fits fits' is_v is_w =
-    word_from_bits v w fits fits' (is_v
-    ∙ ext_get_or false (window a (p + 64 * i)) (window b (q + 64 * i)) (length-window a (p + 64 * i) ∙ sym (length-window b (q + 64 * i))) (λ j h.
-    let small : j < 64 = omega (arith, length-window a (p + 64 * i)) in
-    let at_a : p + 64 * i + j ≡ p + (64 * i + j) = omega arith in
-    let at_b : q + 64 * i + j ≡ q + (64 * i + j) = omega arith in
-    get_or-window a (p + 64 * i) j false small ∙ ap (backing_bit a) at_a
-    ∙ same (64 * i + j) (omega arith)
-    ∙ sym (get_or-window b (q + 64 * i) j false small ∙ ap (backing_bit b) at_b))
-    ∙ sym is_w)
+    let bits : window a (p + 64 * i) ≡ window b (q + 64 * i)
+    = ext_get_or false (window a (p + 64 * i)) (window b (q + 64 * i)) (grind (arith, length-window)) (λ j h.
+    grind (arith, length-window a (p + 64 * i), get_or-window a (p + 64 * i) j false, same (64 * i + j), get_or-window b (q + 64 * i) j false)) in
+    word_from_bits v w fits fits' (is_v ∙ bits ∙ sym is_w)
 
 -- the same bits, seen from the byte that they begin in
 pub AreSameBits-drop : (a b from_a from_b : List ℕ) (p q n : ℕ) → from_a ≡ drop (p / 8) a → from_b ≡ drop (q / 8) b → AreSameBits from_a (p % 8) from_b (q % 8) n ↔ AreSameBits a p b q n
@@ -109,30 +89,15 @@ pub values_from_words : (a b : Packed) → length (values a) ≡ length (values 
 values_from_words a b len same rest =
     let m : List Bool = values a in
     let n : List Bool = values b in
-    let len_a = length-values a in
-    let len_b = length-values b in
-    ext_get_or false m n len (λ i h.
-    elim (cases_lt i (64 * (length m / 64))) [
-      | inl inside ↦ get_or-values a i false (omega arith) ∙ same i inside ∙ sym (get_or-values b i false (omega arith))
-      | inr past ↦
-          let k : ℕ = 64 * (length m / 64) in
-          let at : k + (i - k) ≡ i = omega arith in
-          let k' : k ≡ 64 * (length n / 64) = ap (λ x. 64 * (x / 64)) len in
-          let left : get_or (padded_remainder m) (i - k) false ≡ get_or m i false
-          = get_or_append_left (drop k m) (repeated (64 - length m % 64) false) false (i - k) (omega (arith, length-drop k m))
-          ∙ get_or-drop k m (i - k) false ∙ ap (λ j. get_or m j false) at in
-          let right : get_or (padded_remainder n) (i - k) false ≡ get_or n i false
-          = get_or_append_left (drop (64 * (length n / 64)) n) (repeated (64 - length n % 64) false) false (i - k) (omega (arith, length-drop (64 * (length n / 64)) n))
-          ∙ get_or-drop (64 * (length n / 64)) n (i - k) false ∙ ap (λ j. get_or n (j + (i - k)) false) (sym k') ∙ ap (λ j. get_or n j false) at in
-          sym left ∙ ap (λ (xs : List Bool). get_or xs (i - k) false) rest ∙ right
+    let k : ℕ = 64 * (length m / 64) in
+    ext_get_or false m n len (λ i h. elim (cases_lt i k) [
+      | inl inside ↦ grind (arith, length-values a, length-values b, get_or-values a i false, same i inside, get_or-values b i false)
+      | inr past ↦ grind (arith, rest, get_or-padded (drop k m) (64 - length m % 64) (i - k), get_or-drop k m (i - k) false, get_or-padded (drop (64 * (length n / 64)) n) (64 - length n % 64) (i - k), get_or-drop (64 * (length n / 64)) n (i - k) false)
     ])
 
 -- the same lists have the same bits
 pub bits_from_values : (a b : Packed) (n : ℕ) → values a ≡ values b → n ≤ length (values a) → AreSameBits a.bytes a.offset b.bytes b.offset n
-bits_from_values a b n same within = λ i h.
-    sym (get_or-values a i false (omega (arith, length-values a)))
-    ∙ ap (λ (m : List Bool). get_or m i false) same
-    ∙ get_or-values b i false (omega (arith, length-values b, ap length same, length-values a))
+bits_from_values a b n same within = λ i h. grind (arith, get_or-values a i false, get_or-values b i false, length-values a, length-values b)
 
 -- the whole words of a buffer are within its bytes
 pub within-words : (b : Packed) (bytes : List ℕ) (offset len : ℕ) → IsWithinBytes bytes b.offset b.len → offset ≡ b.offset → len ≡ length (values b) → IsWithinBytes bytes offset (64 * (len / 64))

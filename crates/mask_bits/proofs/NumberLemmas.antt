@@ -61,16 +61,13 @@ pub bit_at-window : (bytes : List ℕ) (p j : ℕ) → AreBytes bytes → j < 64
 bit_at-window bytes p j are below =
     let part : List ℕ = take 16 (drop (p / 8) bytes) in
     let q : ℕ = p % 8 + j in
-    let read : (k : ℕ) → k < 16 → get_or part k 0 ≡ get_or bytes (p / 8 + k) 0
-    = λ k h. get_or-take 16 (drop (p / 8) bytes) k 0 h ∙ get_or-drop (p / 8) bytes k 0 in
     let are_part : AreBytes part = bytes-take 16 (drop (p / 8) bytes) (bytes-drop (p / 8) bytes are) in
     let byte : p / 8 + q / 8 ≡ (p + j) / 8 = omega arith in
     let bit : q % 8 ≡ (p + j) % 8 = omega arith in
-    bit_at-low_mask (number part / 2 ^ (p % 8)) 64 j below
-    ∙ bit_at-shr (number part) (p % 8) j
-    ∙ bit_at-number part q are_part
-    ∙ ap (λ b. bit_at b (q % 8)) (read (q / 8) (omega arith) ∙ ap (λ k. get_or bytes k 0) byte)
-    ∙ ap (bit_at (get_or bytes ((p + j) / 8) 0)) bit
+    let read : get_or part (q / 8) 0 ≡ get_or bytes ((p + j) / 8) 0
+    = get_or-take 16 (drop (p / 8) bytes) (q / 8) 0 (omega arith) ∙ get_or-drop (p / 8) bytes (q / 8) 0 ∙ ap (λ k. get_or bytes k 0) byte in
+    bit_at-low_mask (number part / 2 ^ (p % 8)) 64 j below ∙ bit_at-shr (number part) (p % 8) j ∙ bit_at-number part q are_part
+    ∙ ap (λ b. bit_at b (q % 8)) read ∙ ap (bit_at (get_or bytes ((p + j) / 8) 0)) bit
 
 -- ---- sixteen bytes read as a number
 

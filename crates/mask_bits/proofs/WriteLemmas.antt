@@ -15,6 +15,7 @@ use Rattle.mask_bits.proofs.BufferLemmas.{length-values, values_from_front}
 use Rattle.mask_bits.proofs.Lists.FrontLemmas.{get_or-window, get_or-front, get_or-put_mid_below, get_or-put_mid_above, get_or-put_mid_inside, values-join, window-between, window-drop}
 use Rattle.mask_bits.proofs.Lists.ShiftLemmas.{get_or-word_bits_or, get_or-word_bits_shl_low, get_or-word_bits_shl_high, get_or-word_bits_shr}
 use Rattle.mask_bits.proofs.Lists.WordLemmas.{length-word_bits, get_or-word_bits}
+use Rattle.mask_bits.proofs.Lists.CountLemmas.{get_or-padded, length-repeated}
 
 -- ---- what is written joins what was
 
@@ -32,18 +33,12 @@ pub written-front : (a b : List ℕ) (at n : ℕ) (m : List Bool) → n ≡ at +
 written-front a b at n m place w =
     let front : List Bool = values (record { bytes = a; offset = 0; len = at }) in
     let len : length front ≡ at = length-values (record { bytes = a; offset = 0; len = at }) in
-    values_from_front b (front ++ m) n (omega (arith, length-append front m)) (λ p h. elim (cases_lt p at) [
-      | inl before ↦ w.stays p before ∙ sym (get_or_append_left front m false p (omega arith) ∙ get_or-front a at p false before)
-      | inr past ↦
-          let here : p ≡ at + (p - at) = omega arith in
-          ap (backing_bit b) here ∙ w.comes (p - at) ∙ sym (get_or-append_right front m at p false len past)
-    ])
+    values_from_front b (front ++ m) n (omega (arith, length-append front m)) (λ p h.
+    grind (arith, w.stays p, w.comes (p - at), get_or_append_left front m false p, get_or-front a at p false, get_or-append_right front m at p false len))
 
 -- past what was written all is clear
 pub written-clear : (a b : List ℕ) (at n : ℕ) (m : List Bool) → n ≡ at + length m → IsWrittenBehind a b at m → AreClearFrom n b
-written-clear a b at n m place w = λ p h.
-    let here : p ≡ at + (p - at) = omega arith in
-    ap (backing_bit b) here ∙ w.comes (p - at) ∙ get_or_past m (p - at) false (omega arith)
+written-clear a b at n m place w = λ p h. grind (arith, w.comes (p - at), get_or_past m (p - at) false)
 
 -- nothing is written
 pub written-none : (a : List ℕ) (at : ℕ) → AreClearFrom at a → IsWrittenBehind a a at []
@@ -60,10 +55,7 @@ word_begins : (old new : List ℕ) (i low w word j : ℕ) → low < 64 → j < 6
     → word_bits w ≡ window old (64 * i) → window new (64 * i) ≡ word_bits (bit_or w (word * 2 ^ low % 2 ^ 64))
     → backing_bit new (64 * i + j) ≡ (backing_bit old (64 * i + j) || get_or (word_bits (word * 2 ^ low % 2 ^ 64)) j false)
 word_begins old new i low w word j few h was here =
-    sym (get_or-window new (64 * i) j false h) ∙ ap (λ (x : List Bool). get_or x j false) here
-    ∙ get_or-word_bits_or w (word * 2 ^ low % 2 ^ 64) j h
-    ∙ ap (λ x. x || get_or (word_bits (word * 2 ^ low % 2 ^ 64)) j false)
-    (ap (λ (x : List Bool). get_or x j false) was ∙ get_or-window old (64 * i) j false h)
+    grind (arith, get_or-window new (64 * i) j false h, get_or-word_bits_or w (word * 2 ^ low % 2 ^ 64) j h, get_or-window old (64 * i) j false h)
 
 -- one word is written, and it holds the list up to its end
 pub written-first_word : (old new : List ℕ) (at w word : ℕ)
@@ -74,31 +66,15 @@ pub written-first_word : (old new : List ℕ) (at w word : ℕ)
 written-first_word old new at w word clear was here others =
     let i : ℕ = at / 64 in
     let low : ℕ = at % 64 in
-    let up : List Bool = word_bits (word * 2 ^ low % 2 ^ 64) in
-    let begins : (j : ℕ) → j < 64 → backing_bit new (64 * i + j) ≡ (backing_bit old (64 * i + j) || get_or up j false)
-    = λ j h. word_begins old new i low w word j (omega arith) h was here in
-    let part : List Bool = take (64 - low) (word_bits word) in
-    let part_len : length part ≤ 64 - low = omega (arith, length-take (64 - low) (word_bits word)) in
+    let begins = λ (j : ℕ) (h : j < 64). word_begins old new i low w word j (omega arith) h was here in
     record {
       stays = λ p h. elim (cases_lt p (64 * i)) [
         | inl before ↦ others p (inl before)
-        | inr past ↦
-            let place : 64 * i + (p - 64 * i) ≡ p = omega arith in
-            ap (backing_bit new) (sym place) ∙ begins (p - 64 * i) (omega arith)
-            ∙ ap (λ x. backing_bit old (64 * i + (p - 64 * i)) || x) (get_or-word_bits_shl_low word low (p - 64 * i) (omega arith) (omega arith))
-            ∙ or-false (backing_bit old (64 * i + (p - 64 * i))) ∙ ap (backing_bit old) place
+        | inr past ↦ grind (arith, begins (p - 64 * i), get_or-word_bits_shl_low word low (p - 64 * i), or-false)
       ];
       comes = λ k. elim (cases_lt k (64 - low)) [
-        | inl inside ↦
-            let place : at + k ≡ 64 * i + (low + k) = omega arith in
-            let back : low + k - low ≡ k = omega arith in
-            ap (backing_bit new) place ∙ begins (low + k) (omega arith)
-            ∙ ap (λ x. x || get_or up (low + k) false) (clear (64 * i + (low + k)) (omega arith))
-            ∙ get_or-word_bits_shl_high word low (low + k) (omega arith) (omega arith)
-            ∙ ap (λ n. get_or (word_bits word) n false) back
-            ∙ sym (get_or-take (64 - low) (word_bits word) k false inside)
-        | inr past ↦ others (at + k) (inr (omega arith)) ∙ clear (at + k) (omega arith)
-            ∙ sym (get_or_past part k false (omega arith))
+        | inl inside ↦ grind (arith, begins (low + k), clear (64 * i + (low + k)), get_or-word_bits_shl_high word low (low + k), get_or-take (64 - low) (word_bits word) k false inside)
+        | inr past ↦ others (at + k) (inr (omega arith)) ∙ grind (arith, clear (at + k), get_or_past (take (64 - low) (word_bits word)) k false, length-take (64 - low) (word_bits word))
       ];
     }
 
@@ -113,8 +89,7 @@ written-word old new i m len clear here others = grind (arith, get_or-window, ge
 
 -- zeros behind a list change no value
 padded_value : (m x : List Bool) (n i : ℕ) → x ≡ m ++ repeated n false → get_or x i false ≡ get_or m i false
-unfolding repeated
-padded_value m x n i is = grind (arith, get_or_append_left, get_or-append_right, get_or-replicate, get_or_past, length-replicate)
+padded_value m x n i is = ap (λ (y : List Bool). get_or y i false) is ∙ get_or-padded m n i
 
 written-same : (a b : List ℕ) (at : ℕ) (m k : List Bool) → ((i : ℕ) → get_or m i false ≡ get_or k i false) → IsWrittenBehind a b at m → IsWrittenBehind a b at k
 written-same a b at m k same w = record { stays = w.stays; comes = λ i. w.comes i ∙ same i }
@@ -139,36 +114,21 @@ written-two old mid new at count word m over few fits padded first here others =
     let rest : List Bool = word_bits (word / 2 ^ cut) in
     let begun_len : length begun ≡ cut = omega (arith, length-take cut (word_bits word), length-word_bits word) in
     let place : 64 * next ≡ at + length begun = omega arith in
-    let second : IsWrittenBehind mid new (64 * next) rest
-    = written-word mid new next rest (length-word_bits (word / 2 ^ cut)) (written-clear old mid at (64 * next) begun place first) here others in
-    written-same old new at (begun ++ rest) m (λ i. elim (cases_lt i cut) [
-      | inl inside ↦
-          get_or_append_left begun rest false i (omega arith) ∙ get_or-take cut (word_bits word) i false inside
-          ∙ padded_value m (word_bits word) (64 - count) i padded
-      | inr past ↦
-          let back : cut + (i - cut) ≡ i = omega arith in
-          get_or-append_right begun rest cut i false begun_len past
-          ∙ shr_value word cut (i - cut) fits
-          ∙ ap (λ n. get_or (word_bits word) n false) back
-          ∙ padded_value m (word_bits word) (64 - count) i padded
-    ]) (written-join old mid new at (64 * next) begun rest place first second)
+    let second = written-word mid new next rest (length-word_bits (word / 2 ^ cut)) (written-clear old mid at (64 * next) begun place first) here others in
+    written-same old new at (begun ++ rest) m (λ i.
+    grind (arith, get_or_append_left begun rest false i, get_or-take cut (word_bits word) i false, padded_value m (word_bits word) (64 - count) i padded, get_or-append_right begun rest cut i false begun_len, shr_value word cut (i - cut) fits))
+    (written-join old mid new at (64 * next) begun rest place first second)
 
 -- ---- one value, many times
-
-pub length-repeated : (n : ℕ) (v : Bool) → length (repeated n v) ≡ n
-unfolding repeated
-length-repeated n v = length-replicate n v
 
 -- the lowest bits of a word of ones
 take-ones : (n : ℕ) → n ≤ 64 → take n (word_bits 18446744073709551615) ≡ repeated n true
 unfolding repeated
 take-ones n few =
     let ones : List Bool = word_bits 18446744073709551615 in
-    sym (ext_get_or false (replicate n true) (take n ones) (length-replicate n true ∙ omega (arith, length-take n ones, length-word_bits 18446744073709551615)) (λ i h.
-    let low : i < n = omega (arith, length-replicate n true) in
-    get_or-replicate n i true false low
-    ∙ sym (get_or-take n ones i false low ∙ get_or-word_bits 18446744073709551615 i false (omega arith)
-    ∙ ap (λ b. nat_eq b 1) (bit_at_ones 64 i (omega arith)))))
+    ext_get_or false (take n ones) (replicate n true) (omega (arith, length-replicate n true, length-take n ones, length-word_bits 18446744073709551615)) (λ i h.
+    let low : i < n = omega (arith, length-take n ones) in
+    grind (arith, get_or-replicate n i true false low, get_or-take n ones i false low, get_or-word_bits 18446744073709551615 i false, bit_at_ones 64 i))
 
 -- a word of ones writes ones
 pub written-ones : (a b : List ℕ) (at n : ℕ) → n ≤ 64 → IsWrittenBehind a b at (take n (word_bits 18446744073709551615)) → IsWrittenBehind a b at (repeated n true)
@@ -194,23 +154,14 @@ pub written-full : (old ys : List ℕ) (i k e : ℕ) → e ≡ 8 * (i + k) → e
     → IsWrittenBehind old (put_mid (8 * i) (e - 8 * i) old ys) (64 * i) (repeated (64 * k) true)
 unfolding repeated
 written-full old ys i k e is_end within clear ones =
-    let new : List ℕ = put_mid (8 * i) (e - 8 * i) old ys in
     let len : length ys ≡ e - 8 * i = ap length ones ∙ length-replicate (8 * k) 255 ∙ omega arith in
     record {
       stays = λ p h. ap (λ b. nat_eq (bit_at b (p % 8)) 1) (get_or-put_mid_below (8 * i) (e - 8 * i) old ys (p / 8) (omega arith) (omega arith));
       comes = λ j.
           let byte : (64 * i + j) / 8 ≡ 8 * i + j / 8 = omega arith in
           elim (cases_lt j (64 * k)) [
-            | inl inside ↦
-                ap (λ b. nat_eq (bit_at b ((64 * i + j) % 8)) 1)
-                (ap (λ n. get_or new n 0) byte ∙ get_or-put_mid_inside (8 * i) e old ys (j / 8) (omega arith) len (omega arith)
-                ∙ ap (λ (xs : List ℕ). get_or xs (j / 8) 0) ones ∙ get_or-replicate (8 * k) (j / 8) 255 0 (omega arith))
-                ∙ ap (λ v. nat_eq v 1) (bit_at_ones 8 ((64 * i + j) % 8) (omega arith))
-                ∙ sym (get_or-replicate (64 * k) j true false inside)
-            | inr past ↦
-                ap (λ b. nat_eq (bit_at b ((64 * i + j) % 8)) 1) (get_or-put_mid_above (8 * i) (e - 8 * i) old ys ((64 * i + j) / 8) (omega arith) len (omega arith))
-                ∙ clear (64 * i + j) (omega arith)
-                ∙ sym (get_or_past (replicate (64 * k) true) j false (omega (arith, length-replicate (64 * k) true)))
+            | inl inside ↦ grind (arith, get_or-put_mid_inside (8 * i) e old ys (j / 8), get_or-replicate {A = ℕ} (8 * k) (j / 8) 255 0, bit_at_ones 8 ((64 * i + j) % 8), get_or-replicate (64 * k) j true false inside)
+            | inr past ↦ grind (arith, get_or-put_mid_above (8 * i) (e - 8 * i) old ys ((64 * i + j) / 8), clear (64 * i + j), get_or_past (replicate (64 * k) true) j false, length-replicate (64 * k) true)
           ];
     }
 
@@ -220,7 +171,7 @@ written-full old ys i k e is_end within clear ones =
 pub written-no_bits : (a from : List ℕ) (at offset : ℕ) → AreClearFrom at a → IsWrittenBehind a a at (values (record { bytes = from; offset = offset; len = 0 }))
 written-no_bits a from at offset clear =
     let b : Packed = record { bytes = from; offset = offset; len = 0 } in
-    written-is a a at [] (values b) (sym (nil_from_length (values b) (length-values b))) (written-none a at clear)
+    record { stays = λ p h. refl; comes = λ i. grind (arith, clear (at + i), length-values b, get_or_past (values b) i false) }
 
 -- more of them
 pub written-more : (a b c from : List ℕ) (at offset n k next : ℕ) (m : List Bool) → next ≡ at + n → m ≡ values (record { bytes = from; offset = offset + n; len = k })
@@ -242,12 +193,4 @@ pub joined-window : (from part : List ℕ) (offset i x y w : ℕ) → part ≡ d
     → word_bits w ≡ slice_range (word_bits x ++ word_bits y) (offset % 8) (offset % 8 + 64)
     → word_bits w ≡ window from (offset + 64 * i)
 joined-window from part offset i x y w is first second joined =
-    let low : ℕ = offset % 8 in
-    let next : 64 * (i + 1) ≡ 64 * i + 64 = omega arith in
-    let place : 8 * (offset / 8) + (64 * i + low) ≡ offset + 64 * i = omega arith in
-    joined
-    ∙ ap (λ (m : List Bool). slice_range (m ++ word_bits y) low (low + 64)) first
-    ∙ ap (λ (m : List Bool). slice_range (window part (64 * i) ++ m) low (low + 64)) (second ∙ ap (window part) next)
-    ∙ window-between part (64 * i) low (omega arith)
-    ∙ ap (λ (xs : List ℕ). window xs (64 * i + low)) is
-    ∙ window-drop from (offset / 8) (64 * i + low) (offset + 64 * i) place
+    grind (arith, joined, window-between part (64 * i) (offset % 8), window-drop from (offset / 8) (64 * i + offset % 8) (offset + 64 * i))

@@ -6,6 +6,7 @@ use Rattle.std.proofs.lemmas.Bool.{cases_eq, eq-eqb, ne_eqb}
 use Rattle.mask_bits.specs.Positions.{places_from, positions, true_at, repeated}
 use Rattle.mask_bits.proofs.Lists.CountLemmas.{all_true_from_count}
 use Rattle.mask_bits.proofs.Lists.RankLemmas.{length-true_at}
+use Rattle.std.proofs.lemmas.List.{get_or_default}
 
 -- places from low on, below high, each above the one before it
 abbrev pub Rising : ℕ → ℕ → List ℕ → Type 0
@@ -22,21 +23,8 @@ Rising-from low high [] first ascending within = tt
 Rising-from low high (p ∷ ps) first ascending within = (
   first 0 p (omega arith) (omega arith),
   within 0 p (omega arith),
-  Rising-from (p + 1) high ps
-      (λ k d below h.
-      let at_first : k ≡ 0 = omega arith in
-      let past : p < get_or ps 0 0 = ascending 0 (omega arith) in
-      let same : get_or ps k d ≡ get_or ps 0 0 = ap (λ j. get_or ps j d) at_first ∙ same_first ps d (omega arith) in
-      omega arith)
-      (λ k h.
-      let next : suc k + 1 ≡ suc (k + 1) = omega arith in
-      subst (λ (j : ℕ). get_or ps k 0 < get_or (p ∷ ps) j 0) next (ascending (suc k) (omega arith)))
-      (λ k d h. within (suc k) d (omega arith)),
+  Rising-from (p + 1) high ps (λ k d below h. grind (arith, ascending 0, get_or_default ps 0 d 0)) (λ k h. grind (arith, ascending (suc k))) (λ k d h. within (suc k) d (omega arith)),
 )
-  where
-    same_first : (xs : List ℕ) (d : ℕ) → 0 < length xs → get_or xs 0 d ≡ get_or xs 0 0
-    same_first [] d h = absurd (omega arith)
-    same_first (x ∷ xs) d h = refl
 
 pub Rising-ascending : (high : ℕ) (ps : List ℕ) → IsStrictlyIncreasing ps → All (λ p. p < high) ps → Rising 0 high ps
 Rising-ascending high ps ascending within = Rising-from 0 high ps (λ k d first h. omega arith) ascending within
@@ -51,8 +39,7 @@ ascending-Rising low high (p ∷ q ∷ ps) r (suc k) h = grind (arith, ascending
 -- the true places are such
 Rising-places_from : (n high : ℕ) (m : List Bool) → high ≡ n + length m → Rising n high (places_from n m)
 Rising-places_from n high [] e = tt
-Rising-places_from n high (true ∷ m) e = (omega arith, omega arith, Rising-places_from (n + 1) high m (omega arith))
-Rising-places_from n high (false ∷ m) e = grind (arith, Rising-places_from (n + 1) high m (omega arith), Rising-lower)
+Rising-places_from n high (v ∷ m) e = grind (arith, Rising-places_from (n + 1) high m, Rising-lower)
 
 pub positions-rising : (m : List Bool) → Rising 0 (length m) (positions m)
 positions-rising m = Rising-places_from 0 (length m) m (omega arith)
@@ -77,20 +64,16 @@ true_from a zero high (p ∷ ps) e r = absurd (omega (arith, r.0, r.1))
 true_from a (suc n) high [] e r = true_from (a + 1) n high [] (omega arith) tt
 true_from a (suc n) high (p ∷ ps) e r =
     let f : ℕ → Bool = λ i. list_any (nat_eq i) (p ∷ ps) in
-    let rest : List Bool = map f (range_with_len (a + 1) n) in
     elim (cases_eq a p) [
       | inl here ↦
           let found : f a ≡ true = ap (λ b. b || list_any (nat_eq a) ps) (eq-eqb a p here) in
-          let same : rest ≡ map (λ i. list_any (nat_eq i) ps) (range_with_len (a + 1) n)
+          let same : map f (range_with_len (a + 1) n) ≡ map (λ i. list_any (nat_eq i) ps) (range_with_len (a + 1) n)
           = map_range_same_from f (λ i. list_any (nat_eq i) ps) (a + 1) n (λ i h. ap (λ b. b || list_any (nat_eq i) ps) (ne_eqb i p (λ is. absurd (omega arith)))) in
-          let later : Rising (a + 1) high ps = subst (λ (k : ℕ). Rising (k + 1) high ps) (sym here) r.2 in
-          ap (λ b. places_from a (b ∷ rest)) found
-          ∙ ap (λ (m : List Bool). a ∷ places_from (a + 1) m) same
-          ∙ ap (λ (qs : List ℕ). a ∷ qs) (true_from (a + 1) n high ps (omega arith) later)
-          ∙ ap (λ (k : ℕ). k ∷ ps) here
+          let rest = true_from (a + 1) n high ps (omega arith) (subst (λ (k : ℕ). Rising (k + 1) high ps) (sym here) r.2) in
+          grind (arith, here, found, same, rest)
       | inr apart ↦
           let later : Rising (a + 1) high (p ∷ ps) = (omega (arith, r.0), r.1, r.2) in
-          ap (λ b. places_from a (b ∷ rest)) (none_below a (a + 1) high (p ∷ ps) later (omega arith)) ∙ true_from (a + 1) n high (p ∷ ps) (omega arith) later
+          grind (arith, none_below a (a + 1) high (p ∷ ps) later, true_from (a + 1) n high (p ∷ ps) (omega arith) later)
     ]
 
 -- the true places of the list that is true at ascending places within it are these
@@ -101,7 +84,6 @@ positions-true_at n ps ascending within = grind (arith, true_from, Rising-ascend
 -- as many places as there are are all of them
 pub positions-full : (n : ℕ) (ps : List ℕ) → IsStrictlyIncreasing ps → All (λ p. p < n) ps → length ps ≡ n → positions (repeated n true) ≡ ps
 positions-full n ps ascending within full =
-    let m : List Bool = true_at n ps in
-    let places : positions m ≡ ps = positions-true_at n ps ascending within in
-    let all : m ≡ repeated (length m) true = all_true_from_count 0 m (ap length places ∙ full ∙ sym (length-true_at n ps)) in
-    sym (ap positions (all ∙ ap (λ k. repeated k true) (length-true_at n ps))) ∙ places
+    let places : positions (true_at n ps) ≡ ps = positions-true_at n ps ascending within in
+    let all : true_at n ps ≡ repeated n true = grind (arith, all_true_from_count 0 (true_at n ps), ap length places, length-true_at n ps) in
+    sym (ap positions all) ∙ places

@@ -63,9 +63,7 @@ combined-commutes f same (x ∷ a) (y ∷ b) = grind (arith, combined-commutes f
 
 combined-regroups : (f : Bool → Bool → Bool) → ((x y z : Bool) → f (f x y) z ≡ f x (f y z)) → (a b c : List Bool) → combined f (combined f a b) c ≡ combined f a (combined f b c)
 combined-regroups f same [] b c = refl
-combined-regroups f same (x ∷ a) [] c = refl
-combined-regroups f same (x ∷ a) (y ∷ b) [] = refl
-combined-regroups f same (x ∷ a) (y ∷ b) (z ∷ c) = grind (arith, combined-regroups f same a b c)
+combined-regroups f same (v ∷ a) b c = grind (arith, combined-regroups f same a)
 
 combined-distributes : (f g : Bool → Bool → Bool) → ((x y z : Bool) → f x (g y z) ≡ g (f x y) (f x z)) → (a b c : List Bool) → combined f a (combined g b c) ≡ combined g (combined f a b) (combined f a c)
 combined-distributes f g same [] b c = refl
@@ -75,8 +73,7 @@ combined-distributes f g same (x ∷ a) (y ∷ b) (z ∷ c) = grind (arith, comb
 
 combined-absorbs : (f g : Bool → Bool → Bool) → ((x y : Bool) → f x (g x y) ≡ x) → (a b : List Bool) → length a ≡ length b → combined f a (combined g a b) ≡ a
 combined-absorbs f g same [] b len = refl
-combined-absorbs f g same (x ∷ a) [] len = absurd (omega arith)
-combined-absorbs f g same (x ∷ a) (y ∷ b) len = grind (arith, combined-absorbs f g same a b (omega arith))
+combined-absorbs f g same (v ∷ a) b len = grind (arith, combined-absorbs f g same a)
 
 combined-not : (f : Bool → Bool → Bool) (v : Bool) → ((x : Bool) → f x (not x) ≡ v) → (a : List Bool) → combined f a (not_of a) ≡ repeated (length a) v
 unfolding repeated
@@ -85,8 +82,7 @@ combined-not f v same (x ∷ a) = grind (arith, combined-not f v same a)
 
 pub length-combined : (f : Bool → Bool → Bool) (a b : List Bool) → length a ≡ length b → length (combined f a b) ≡ length a
 length-combined f [] b len = refl
-length-combined f (x ∷ a) [] len = absurd (omega arith)
-length-combined f (x ∷ a) (y ∷ b) len = ap suc (length-combined f a b (omega arith))
+length-combined f (v ∷ a) b len = grind (arith, length-combined f a)
 
 pub length-not_of : (a : List Bool) → length (not_of a) ≡ length a
 length-not_of [] = refl
@@ -94,8 +90,7 @@ length-not_of (x ∷ a) = ap suc (length-not_of a)
 
 not_not : (a : List Bool) → not_of (not_of a) ≡ a
 not_not [] = refl
-not_not (true ∷ a) = ap (λ (xs : List Bool). true ∷ xs) (not_not a)
-not_not (false ∷ a) = ap (λ (xs : List Bool). false ∷ xs) (not_not a)
+not_not (v ∷ a) = grind (arith, not_not a)
 
 -- an operation that takes no account of its second list
 pub combined_itself : (a : List Bool) → combined (λ x y. not x) a a ≡ not_of a
@@ -105,9 +100,7 @@ combined_itself (x ∷ a) = ap (λ (xs : List Bool). not x ∷ xs) (combined_its
 -- the value at a place
 pub get_or-combined : (f : Bool → Bool → Bool) (a b : List Bool) (i : ℕ) (d : Bool) → i < length a → length a ≡ length b → get_or (combined f a b) i d ≡ f (get_or a i d) (get_or b i d)
 get_or-combined f [] b i d h len = absurd (omega arith)
-get_or-combined f (x ∷ a) [] i d h len = absurd (omega arith)
-get_or-combined f (x ∷ a) (y ∷ b) zero d h len = refl
-get_or-combined f (x ∷ a) (y ∷ b) (suc i) d h len = get_or-combined f a b i d (omega arith) (omega arith)
+get_or-combined f (v ∷ a) b i d h len = grind (arith, get_or-combined f a)
 
 -- ---- where one side is a list of one value
 
@@ -172,8 +165,7 @@ complements = record {
 
 pub and_not_is_and_of_not : AndNotIsAndOfNot
 and_not_is_and_of_not [] b = refl
-and_not_is_and_of_not (x ∷ a) [] = refl
-and_not_is_and_of_not (x ∷ a) (y ∷ b) = ap (λ (xs : List Bool). (x && not y) ∷ xs) (and_not_is_and_of_not a b)
+and_not_is_and_of_not (v ∷ a) b = grind (arith, and_not_is_and_of_not a)
 
 pub keeps_length : KeepsLength
 keeps_length = record {
@@ -187,19 +179,14 @@ keeps_length = record {
 
 and-narrow : (a b c : List Bool) → length b ≡ trues a → length c ≡ trues a → and_of (narrow a b) (narrow a c) ≡ narrow a (and_of b c)
 and-narrow [] b c fits fits' = refl
-and-narrow (false ∷ a) b c fits fits' = ap (λ (xs : List Bool). false ∷ xs) (and-narrow a b c fits fits')
-and-narrow (true ∷ a) [] c fits fits' = absurd (omega arith)
-and-narrow (true ∷ a) (y ∷ b) [] fits fits' = absurd (omega arith)
-and-narrow (true ∷ a) (y ∷ b) (z ∷ c) fits fits' = grind (arith, and-narrow a b c (omega arith) (omega arith))
+and-narrow (v ∷ a) b c fits fits' = grind (arith, and-narrow a)
 
 pub rank_intersection_of_and : RankIntersectionOfAnd
 rank_intersection_of_and a b c fits fits' = grind (arith, length-combined, rank_intersection-narrow, and-narrow, count-trues)
 
 not-narrow : (a b : List Bool) → length b ≡ trues a → narrow a (not_of b) ≡ and_not_of a (narrow a b)
 not-narrow [] b fits = refl
-not-narrow (false ∷ a) b fits = ap (λ (xs : List Bool). false ∷ xs) (not-narrow a b fits)
-not-narrow (true ∷ a) [] fits = absurd (omega arith)
-not-narrow (true ∷ a) (y ∷ b) fits = ap (λ (xs : List Bool). not y ∷ xs) (not-narrow a b (omega arith))
+not-narrow (v ∷ a) b fits = grind (arith, not-narrow a)
 
 pub rank_intersection_of_not : RankIntersectionOfNot
 rank_intersection_of_not a b fits = grind (arith, rank_intersection-narrow, length-not_of, not-narrow, count-trues)

@@ -1,7 +1,7 @@
 -- How many values are true: of lists of one value, and what no or every true value says of a list.
-use Rattle.std.proofs.Common.{◌++◌, slice_range, ◌≡◌, ℕ, zero, suc, ◌+◌, ◌<◌, ◌≤◌, Bool, true, false, List, [], ◌∷◌, length, get_or, Some, slice_get, refl, sym, ap, ◌∙◌, arith, zero-add, inl, inr}
+use Rattle.std.proofs.Common.{◌++◌, slice_range, ◌≡◌, ℕ, zero, suc, ◌+◌, ◌<◌, ◌≤◌, Bool, true, false, List, [], ◌∷◌, length, get_or, Some, slice_get, refl, sym, ap, ◌∙◌, arith, zero-add, inl, inr, replicate, ◌-◌}
 use Rattle.std.specs.List.{All, list_all, list_any, range_with_len}
-use Rattle.std.proofs.lemmas.List.{ext_get_or, get_or-replicate, length-replicate}
+use Rattle.std.proofs.lemmas.List.{ext_get_or, get_or-replicate, length-replicate, get_or_append_left, get_or-append_right, get_or_past}
 use Rattle.std.proofs.lemmas.List.FromFn.{length-range_with_len, get_or-range_with_len}
 use Rattle.std.proofs.lemmas.Option.{slice_get-get_or, slice_get_within, get_or_from_slice_get}
 use Rattle.std.proofs.lemmas.List.Edits.{between_more}
@@ -32,32 +32,25 @@ count-repeated_false k = ap length (places_from-repeated_false 0 k)
 
 -- true value number n of an all-true list stands at n
 pub positions-repeated_true_at : (k n : ℕ) → n < k → slice_get (positions (repeated k true)) n ≡ Some n
-unfolding repeated
-positions-repeated_true_at k n h =
-    ap (λ (xs : List ℕ). slice_get xs n) (places_from-repeated_true 0 k)
-    ∙ slice_get-get_or (range_with_len 0 k) n 0 (rw (length-range_with_len 0 k) h)
-    ∙ ap Some (get_or-range_with_len 0 k n 0 h ∙ zero-add n)
+positions-repeated_true_at k n h = grind (arith, places_from-repeated_true 0 k, slice_get-get_or (range_with_len 0 k) n 0, length-range_with_len 0 k, get_or-range_with_len 0 k n 0 h)
 
 -- as many true values as values: all are true
 pub all_true_from_count : (n : ℕ) (m : List Bool) → length (places_from n m) ≡ length m → m ≡ repeated (length m) true
 unfolding repeated
 all_true_from_count n [] e = refl
-all_true_from_count n (true ∷ m) e = ap (λ (xs : List Bool). true ∷ xs) (all_true_from_count (n + 1) m (omega arith))
-all_true_from_count n (false ∷ m) e = absurd (omega (arith, length-places_from (n + 1) m))
+all_true_from_count n (v ∷ m) e = grind (arith, all_true_from_count (n + 1) m, length-places_from)
 
 -- no true value: all are false
 pub all_false_from_count : (n : ℕ) (m : List Bool) → length (places_from n m) ≡ 0 → m ≡ repeated (length m) false
 unfolding repeated
 all_false_from_count n [] e = refl
-all_false_from_count n (true ∷ m) e = absurd (omega arith)
-all_false_from_count n (false ∷ m) e = ap (λ (xs : List Bool). false ∷ xs) (all_false_from_count (n + 1) m e)
+all_false_from_count n (v ∷ m) e = grind (arith, all_false_from_count (n + 1) m)
 
 -- a list whose values are each b is so many of b
 pub repeated_from_All : (b : Bool) (m : List Bool) → All (λ v. v ≡ b) m → m ≡ repeated (length m) b
 unfolding repeated
-repeated_from_All b m all =
-    ext_get_or b m (repeated (length m) b) (sym (length-replicate (length m) b))
-    (λ i h. all i b h ∙ sym (get_or-replicate (length m) i b b h))
+repeated_from_All b [] all = refl
+repeated_from_All b (v ∷ m) all = grind (arith, all 0 b, repeated_from_All b m (λ i d h. all (suc i) d (omega arith)))
 
 pub All-repeated : (b : Bool) (m : List Bool) → m ≡ repeated (length m) b → All (λ v. v ≡ b) m
 unfolding repeated
@@ -66,23 +59,19 @@ All-repeated b m e = λ k d h. ap (λ (xs : List Bool). get_or xs k d) e ∙ get
 -- what the tests of all and of some value say, by the count
 pub list_all-count : (n : ℕ) (m : List Bool) → length (places_from n m) ≡ length m → list_all (λ b. b) m ≡ true
 list_all-count n [] e = refl
-list_all-count n (true ∷ m) e = list_all-count (n + 1) m (omega arith)
-list_all-count n (false ∷ m) e = absurd (omega (arith, length-places_from (n + 1) m))
+list_all-count n (v ∷ m) e = grind (arith, list_all-count (n + 1) m, length-places_from)
 
 pub list_all-count_less : (n : ℕ) (m : List Bool) → length (places_from n m) < length m → list_all (λ b. b) m ≡ false
 list_all-count_less n [] e = absurd (omega arith)
-list_all-count_less n (true ∷ m) e = list_all-count_less (n + 1) m (omega arith)
-list_all-count_less n (false ∷ m) e = refl
+list_all-count_less n (v ∷ m) e = grind (arith, list_all-count_less (n + 1) m)
 
 pub list_any-count : (n : ℕ) (m : List Bool) → 0 < length (places_from n m) → list_any (λ b. b) m ≡ true
 list_any-count n [] e = absurd (omega arith)
-list_any-count n (true ∷ m) e = refl
-list_any-count n (false ∷ m) e = list_any-count (n + 1) m e
+list_any-count n (v ∷ m) e = grind (arith, list_any-count (n + 1) m)
 
 pub list_any-count_zero : (n : ℕ) (m : List Bool) → length (places_from n m) ≡ 0 → list_any (λ b. b) m ≡ false
 list_any-count_zero n [] e = refl
-list_any-count_zero n (true ∷ m) e = absurd (omega arith)
-list_any-count_zero n (false ∷ m) e = list_any-count_zero (n + 1) m e
+list_any-count_zero n (v ∷ m) e = grind (arith, list_any-count_zero (n + 1) m)
 
 -- ---- reads of a list of one value
 
@@ -90,10 +79,18 @@ pub length-repeated : (n : ℕ) (v : Bool) → length (repeated n v) ≡ n
 unfolding repeated
 length-repeated n v = length-replicate n v
 
-pub slice_get-repeated : (n : ℕ) (v : Bool) (i : ℕ) → i < length (repeated n v) → slice_get (repeated n v) i ≡ Some v
+pub get_or-repeated : (n i : ℕ) (v d : Bool) → i < n → get_or (repeated n v) i d ≡ v
 unfolding repeated
-slice_get-repeated n v i h =
-    slice_get-get_or (repeated n v) i v h ∙ ap Some (get_or-replicate n i v v (omega (arith, length-replicate n v)))
+get_or-repeated n i v d h = get_or-replicate n i v d h
+
+-- false values behind a list change no value
+pub get_or-padded : (m : List Bool) (n i : ℕ) → get_or (m ++ repeated n false) i false ≡ get_or m i false
+unfolding repeated
+get_or-padded m n i =
+    grind (arith, get_or_append_left m (replicate n false) false i, get_or-append_right m (replicate n false) (length m) i false, get_or-replicate n (i - length m) false false, get_or_past (replicate n false) (i - length m) false, length-replicate n false, get_or_past m i false)
+
+pub slice_get-repeated : (n : ℕ) (v : Bool) (i : ℕ) → i < length (repeated n v) → slice_get (repeated n v) i ≡ Some v
+slice_get-repeated n v i h = grind (arith, slice_get-get_or (repeated n v) i v h, get_or-repeated n i v v, length-repeated)
 
 pub nil-repeated : (v : Bool) → repeated 0 v ≡ []
 unfolding repeated
@@ -106,20 +103,13 @@ pub ruleset repeated_facts = (length-repeated, slice_get-repeated)
 -- of two lists, one after the other
 trues-append : (a b : List Bool) → trues (a ++ b) ≡ trues a + trues b
 trues-append [] b = sym (zero-add (trues b))
-trues-append (true ∷ a) b = omega (arith, trues-append a b)
-trues-append (false ∷ a) b = trues-append a b
+trues-append (v ∷ a) b = grind (arith, trues-append a)
 
 pub count-append : (a b : List Bool) → count (a ++ b) ≡ count a + count b
 count-append a b = omega (arith, count-trues (a ++ b), trues-append a b, count-trues a, count-trues b)
 
 pub count-push : (m : List Bool) (v : Bool) → count (m ++ v ∷ []) ≡ count m + trues (v ∷ [])
 count-push m v = count-append m (v ∷ []) ∙ ap (λ n. count m + n) (count-trues (v ∷ []))
-
--- of a part that grows by a value
-pub count-part_more : (m : List Bool) (s i : ℕ) (v : Bool) → s ≤ i → slice_get m i ≡ Some v → count (slice_range m s (i + 1)) ≡ count (slice_range m s i) + trues (v ∷ [])
-count-part_more m s i v ordered e =
-    ap count (between_more m s i v ordered (slice_get_within m i v e) ∙ ap (λ (x : Bool). slice_range m s i ++ x ∷ []) (get_or_from_slice_get m i v v e))
-    ∙ count-push (slice_range m s i) v
 
 -- ---- what the count says of a list
 
@@ -130,10 +120,7 @@ pub positions-all_false : (n : ℕ) → positions (repeated n false) ≡ []
 positions-all_false n = places_from-repeated_false 0 n
 
 pub all_true-count : (m : List Bool) → (count m ≡ length m) ↔ All (λ v. v ≡ true) m
-all_true-count m = (
-  λ e. All-repeated true m (all_true_from_count 0 m e),
-  λ all. ap count (repeated_from_All true m all) ∙ count-repeated_true (length m),
-)
+all_true-count m = (λ e. All-repeated true m (all_true_from_count 0 m e), λ all. ap count (repeated_from_All true m all) ∙ count-repeated_true (length m))
 
 pub any_true-count : (m : List Bool) → (0 < count m) ↔ Any (λ v. v ≡ true) m
 any_true-count m = grind (arith, Any-from_list_any, list_any-count, list_any-from_Any, list_any-count_zero)

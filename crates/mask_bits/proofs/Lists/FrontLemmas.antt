@@ -33,18 +33,9 @@ pub window-between : (bytes : List ℕ) (p low : ℕ) → low ≤ 64 → slice_r
 window-between bytes p low h =
     let a : List Bool = window bytes p in
     let b : List Bool = window bytes (p + 64) in
-    let len = length-window bytes p in
-    let within : low + 64 ≤ length (a ++ b) = omega (arith, length-append a b, length-window bytes (p + 64)) in
-    sym (window_from_bits bytes (p + low) (slice_range (a ++ b) low (low + 64)) (length-between (a ++ b) low (low + 64) within ∙ omega arith)
-    (λ j few. get_or-between (a ++ b) low (low + 64) j false (omega arith)
-    ∙ elim (cases_lt (low + j) 64) [
-      | inl inside ↦
-          let place : p + (low + j) ≡ p + low + j = omega arith in
-          get_or_append_left a b false (low + j) (omega arith) ∙ get_or-window bytes p (low + j) false inside ∙ ap (backing_bit bytes) place
-      | inr past ↦
-          let place : p + 64 + (low + j - 64) ≡ p + low + j = omega arith in
-          get_or-append_right a b 64 (low + j) false len past ∙ get_or-window bytes (p + 64) (low + j - 64) false (omega arith) ∙ ap (backing_bit bytes) place
-    ]))
+    let within : low + 64 ≤ length (a ++ b) = omega (arith, length-append a b, length-window bytes p, length-window bytes (p + 64)) in
+    sym (window_from_bits bytes (p + low) (slice_range (a ++ b) low (low + 64)) (length-between (a ++ b) low (low + 64) within ∙ omega arith) (λ j few.
+    grind (arith, get_or-between (a ++ b) low (low + 64) j false, get_or_append_left a b false (low + j), length-window bytes p, get_or-window bytes p (low + j) false, get_or-append_right a b 64 (low + j) false, get_or-window bytes (p + 64) (low + j - 64) false)))
 
 -- ---- eight bytes as a word
 
@@ -54,10 +45,7 @@ word_bits-chunk bytes chunk i are same =
     word_bits_from_bits (from_le_bytes w64 chunk) (window bytes (64 * i)) (length-window bytes (64 * i)) (λ j h.
     let byte : 8 * i + j / 8 ≡ (64 * i + j) / 8 = omega arith in
     let bit : j % 8 ≡ (64 * i + j) % 8 = omega arith in
-    ap (λ b. nat_eq b 1) (bit_at-chunk chunk j are h
-    ∙ ap (λ b. bit_at b (j % 8)) (same (j / 8) (omega arith) ∙ ap (λ k. get_or bytes k 0) byte)
-    ∙ ap (bit_at (get_or bytes ((64 * i + j) / 8) 0)) bit)
-    ∙ sym (get_or-window bytes (64 * i) j false h))
+    grind (arith, bit_at-chunk chunk j are h, same (j / 8), get_or-window bytes (64 * i) j false h))
 
 -- and so are the first eight of the part of the bytes that begins there
 pub word_bits-first_chunk : (bytes chunk : List ℕ) (i : ℕ) → AreBytes bytes → 8 * i + 8 ≤ length bytes → chunk ≡ take 8 (slice_range bytes (8 * i) (8 * i + 8)) → word_bits (from_le_bytes w64 chunk) ≡ window bytes (64 * i)
@@ -65,29 +53,17 @@ word_bits-first_chunk bytes chunk i are within first =
     let part : List ℕ = slice_range bytes (8 * i) (8 * i + 8) in
     let read : (k : ℕ) → k < 8 → get_or chunk k 0 ≡ get_or bytes (8 * i + k) 0
     = λ k h. ap (λ (xs : List ℕ). get_or xs k 0) first ∙ get_or-take 8 part k 0 h ∙ get_or-between bytes (8 * i) (8 * i + 8) k 0 (omega arith) in
-    word_bits-chunk bytes chunk i (λ k. elim (cases_lt k 8) [
-      | inl h ↦ subst (λ (x : ℕ). x < 256) (sym (read k h)) (are (8 * i + k))
-      | inr h ↦ subst (λ (x : ℕ). x < 256) (sym (get_or_past chunk k 0 (omega (arith, ap length first, length-take 8 part)))) (lit< tt)
-    ]) read
+    word_bits-chunk bytes chunk i (λ k. grind (arith, read k, are (8 * i + k), get_or_past chunk k 0, ap length first, length-take 8 part)) read
 
 -- a part of some bytes that was written: what is before it, and past it
 pub get_or-put_mid_below : (a k : ℕ) (xs ys : List ℕ) (m : ℕ) → a ≤ length xs → m < a → get_or (put_mid a k xs ys) m 0 ≡ get_or xs m 0
-get_or-put_mid_below a k xs ys m within below =
-    sym (get_or-take a (put_mid a k xs ys) m 0 below)
-    ∙ ap (λ (zs : List ℕ). get_or zs m 0) (take-put_mid_below a k xs ys a (omega arith) within)
-    ∙ get_or-take a xs m 0 below
+get_or-put_mid_below a k xs ys m within below = grind (arith, get_or-take a (put_mid a k xs ys) m 0 below, take-put_mid_below a k xs ys a, get_or-take a xs m 0 below)
 
 pub get_or-put_mid_above : (a k : ℕ) (xs ys : List ℕ) (m : ℕ) → a ≤ length xs → length ys ≡ k → a + k ≤ m → get_or (put_mid a k xs ys) m 0 ≡ get_or xs m 0
-get_or-put_mid_above a k xs ys m within len above =
-    let place : m + 0 ≡ m = omega arith in
-    ap (λ i. get_or (put_mid a k xs ys) i 0) (sym place) ∙ sym (get_or-drop m (put_mid a k xs ys) 0 0)
-    ∙ ap (λ (zs : List ℕ). get_or zs 0 0) (drop-put_mid a k xs ys m above within len)
-    ∙ get_or-drop m xs 0 0 ∙ ap (λ i. get_or xs i 0) place
+get_or-put_mid_above a k xs ys m within len above = grind (arith, get_or-drop m (put_mid a k xs ys) 0 0, drop-put_mid a k xs ys m above within len, get_or-drop m xs 0 0)
 
 pub get_or-put_mid_inside : (a e : ℕ) (xs ys : List ℕ) (m : ℕ) → a ≤ length xs → length ys ≡ e - a → m < e - a → get_or (put_mid a (e - a) xs ys) (a + m) 0 ≡ get_or ys m 0
-get_or-put_mid_inside a e xs ys m within len inside =
-    sym (get_or-between (put_mid a (e - a) xs ys) a e m 0 (omega arith))
-    ∙ ap (λ (zs : List ℕ). get_or zs m 0) (between-put_mid a (e - a) xs ys e within len)
+get_or-put_mid_inside a e xs ys m within len inside = grind (arith, get_or-between (put_mid a (e - a) xs ys) a e m 0, between-put_mid a (e - a) xs ys e within len)
 
 -- ---- the first bits
 
@@ -109,13 +85,7 @@ front-more_word bytes i =
     let word : List Bool = window bytes (64 * i) in
     let len : length front ≡ 64 * i = length-values (record { bytes = bytes; offset = 0; len = 64 * i }) in
     values_from_front bytes (front ++ word) (64 * (i + 1)) (omega (arith, length-append front word, length-window bytes (64 * i))) (λ p h.
-    elim (cases_lt p (64 * i)) [
-      | inl before ↦ sym (get_or_append_left front word false p (omega arith) ∙ get_or-front bytes (64 * i) p false before)
-      | inr past ↦
-          let place : 64 * i + (p - 64 * i) ≡ p = omega arith in
-          sym (get_or-append_right front word (64 * i) p false len past
-          ∙ get_or-window bytes (64 * i) (p - 64 * i) false (omega arith) ∙ ap (backing_bit bytes) place)
-    ])
+    grind (arith, get_or_append_left front word false p, get_or-front bytes (64 * i) p false, get_or-append_right front word (64 * i) p false len, get_or-window bytes (64 * i) (p - 64 * i) false))
 
 -- ---- parts of a front
 
@@ -126,20 +96,13 @@ values-join bytes o n k =
     let b : Packed = record { bytes = bytes; offset = o + n; len = k } in
     let len : length (values a) ≡ n = length-values a in
     sym (values_from_bits (record { bytes = bytes; offset = o; len = n + k }) (values a ++ values b) (omega (arith, length-append (values a) (values b), length-values b)) (λ i h.
-    elim (cases_lt i n) [
-      | inl before ↦ get_or_append_left (values a) (values b) false i (omega arith) ∙ get_or-values a i false before
-      | inr past ↦
-          let place : o + n + (i - n) ≡ o + i = omega arith in
-          get_or-append_right (values a) (values b) n i false len past ∙ get_or-values b (i - n) false (omega arith) ∙ ap (backing_bit bytes) place
-    ]))
+    grind (arith, get_or_append_left (values a) (values b) false i, get_or-values a i false, get_or-append_right (values a) (values b) n i false len, get_or-values b (i - n) false)))
 
 -- the first values of a window
 pub window-take : (bytes : List ℕ) (p n : ℕ) → n ≤ 64 → take n (window bytes p) ≡ values (record { bytes = bytes; offset = p; len = n })
 window-take bytes p n few =
-    let b : Packed = record { bytes = bytes; offset = p; len = n } in
-    let m : List Bool = take n (window bytes p) in
-    sym (values_from_bits b m (omega (arith, length-take n (window bytes p), length-window bytes p)) (λ i h.
-    get_or-take n (window bytes p) i false h ∙ get_or-window bytes p i false (omega arith)))
+    sym (values_from_bits (record { bytes = bytes; offset = p; len = n }) (take n (window bytes p)) (omega (arith, length-take n (window bytes p), length-window bytes p)) (λ i h.
+    grind (arith, get_or-take n (window bytes p) i false h, get_or-window bytes p i false)))
 
 -- all of it
 pub window-whole : (bytes : List ℕ) (p : ℕ) → window bytes p ≡ values (record { bytes = bytes; offset = p; len = 64 })
@@ -152,7 +115,4 @@ window-drop bytes k p q place =
     window_from_bits (drop k bytes) p (window bytes q) (length-window bytes q) (λ j h.
     let byte : (q + j) / 8 ≡ k + (p + j) / 8 = omega arith in
     let bit : (q + j) % 8 ≡ (p + j) % 8 = omega arith in
-    get_or-window bytes q j false h
-    ∙ ap (λ n. nat_eq (bit_at (get_or bytes n 0) ((q + j) % 8)) 1) byte
-    ∙ ap (λ n. nat_eq (bit_at (get_or bytes (k + (p + j) / 8) 0) n) 1) bit
-    ∙ ap (λ b. nat_eq (bit_at b ((p + j) % 8)) 1) (sym (get_or-drop k bytes ((p + j) / 8) 0)))
+    grind (arith, get_or-window bytes q j false h, get_or-drop k bytes ((p + j) / 8) 0))

@@ -7,7 +7,7 @@ use Rattle.std.proofs.lemmas.Bool.{cases_order, eq-eqb, ne_eqb}
 use Rattle.std.proofs.lemmas.List.Elements.{All-head, All-tail}
 use Rattle.std.proofs.lemmas.List.Sums.{sum_by-cons}
 use Rattle.mask_bits.specs.Laws.{GroupsBeginWithin, GroupOfRepeated, PlacesLieInGroups, CountOfGroup}
-use Rattle.mask_bits.specs.Positions.{places_from, positions, repeated}
+use Rattle.mask_bits.specs.Positions.{places_from, positions, repeated, count}
 use Rattle.mask_bits.specs.Runs.{is_inside}
 use Rattle.mask_bits.proofs.Lists.CountLemmas.{length-repeated}
 use Rattle.mask_bits.proofs.Lists.PartLemmas.{part_of_repeated}
@@ -16,12 +16,7 @@ use Rattle.mask_bits.proofs.Lists.RunLemmas.{inside, inside-before, inside-past}
 
 -- one item in front that passes, or does not
 counted : (p : ℕ → Bool) (x : ℕ) (xs : List ℕ) → p x ≡ true → count_by p (x ∷ xs) ≡ suc (count_by p xs)
-counted p x xs passes =
-    let first : ◌≡◌ {A = ℕ} (cond (p x) 1 0) 1 = ap (λ b. cond b 1 0) passes in
-    sum_by-cons (λ y. cond (p y) 1 0) x xs ∙ omega (arith, first)
-
-passed : (p : ℕ → Bool) (x : ℕ) (xs : List ℕ) → p x ≡ false → count_by p (x ∷ xs) ≡ count_by p xs
-passed p x xs fails = grind arith
+counted p x xs passes = grind (arith, sum_by-cons (λ y. cond (p y) 1 0) x xs)
 
 -- the true places that lie in a part, where the list's first place is n
 inside_from : ℕ → ℕ → ℕ → List Bool → ℕ
@@ -31,8 +26,7 @@ inside_from s e n m = count_by (λ p. is_inside p (s, e)) (places_from n m)
 none_past : (s e n : ℕ) (m : List Bool) → e ≤ n → inside_from s e n m ≡ 0
 unfolding inside_from
 none_past s e n [] past = refl
-none_past s e n (true ∷ m) past = passed (λ p. is_inside p (s, e)) n (places_from (n + 1) m) (inside-past n (s, e) past) ∙ none_past s e (n + 1) m (omega arith)
-none_past s e n (false ∷ m) past = none_past s e (n + 1) m (omega arith)
+none_past s e n (v ∷ m) past = grind (arith, none_past s e (n + 1) m)
 
 -- in a part that begins at the first place or before it, and has k values of the list
 inside_front : (s e n k : ℕ) (m : List Bool) → s ≤ n → e ≡ n + k → inside_from s e n m ≡ trues (take k m)
@@ -40,7 +34,7 @@ unfolding inside_from
 inside_front s e n zero m begins ends = none_past s e n m (omega arith)
 inside_front s e n (suc k) [] begins ends = refl
 inside_front s e n (suc k) (true ∷ m) begins ends =
-    counted (λ p. is_inside p (s, e)) n (places_from (n + 1) m) (inside n (s, e) begins (omega arith)) ∙ ap suc (inside_front s e (n + 1) k m (omega arith) (omega arith))
+    counted (λ p. is_inside p (s, e)) n (places_from (n + 1) m) (grind arith) ∙ ap suc (inside_front s e (n + 1) k m (omega arith) (omega arith))
 inside_front s e n (suc k) (false ∷ m) begins ends = inside_front s e (n + 1) k m (omega arith) (omega arith)
 
 -- in a part of k values that begins i values further on
@@ -52,14 +46,6 @@ inside_part s e n (suc i) (suc k) [] begins ends = refl
 inside_part s e n (suc i) k (true ∷ m) begins ends = grind (arith, inside_part s e (n + 1) i k m (omega arith) (omega arith))
 inside_part s e n (suc i) k (false ∷ m) begins ends = inside_part s e (n + 1) i k m (omega arith) (omega arith)
 
--- a product grows with its second number
-product_below : (size a b : ℕ) → a < b → size * a + size ≤ size * b
-product_below size a b less = grind arith
-
--- a place's group begins at the place or before it, and ends past it
-group_of : (p size : ℕ) → 0 < size → (size * (p / size) ≤ p) × (p < size * (p / size) + size)
-group_of p size some = grind arith
-
 -- a place lies in a group exactly if it is the place's own
 in_group : (n size g p : ℕ) → 0 < size → p < n → is_inside p (size * g, size * g + min size (n - size * g)) ≡ nat_eq (p / size) g
 in_group n size g p some within = grind arith
@@ -68,37 +54,22 @@ in_group n size g p some within = grind arith
 count_by-same : (p q : ℕ → Bool) (P : ℕ → Type 0) (xs : List ℕ) → ((x : ℕ) → P x → p x ≡ q x) → All P xs → count_by p xs ≡ count_by q xs
 count_by-same p q P [] agree all = refl
 count_by-same p q P (x ∷ xs) agree all =
-    let first : ◌≡◌ {A = ℕ} (cond (p x) 1 0) (cond (q x) 1 0) = ap (λ b. cond b 1 0) (agree x (All-head P x xs all)) in
-    sum_by-cons (λ y. cond (p y) 1 0) x xs
-    ∙ omega (arith, first, count_by-same p q P xs agree (All-tail P x xs all), sum_by-cons (λ y. cond (q y) 1 0) x xs)
+    grind (arith, agree x (All-head P x xs all), count_by-same p q P xs agree (All-tail P x xs all), sum_by-cons (λ y. cond (p y) 1 0) x xs, sum_by-cons (λ y. cond (q y) 1 0) x xs)
 
 pub count_of_group : CountOfGroup
 unfolding inside_from
 count_of_group m size g some =
     let s : ℕ = size * g in
     let k : ℕ = min size (length m - s) in
-    let len : s + k - s ≡ k = omega arith in
-    count-trues (slice_range m s (s + k))
-    ∙ ap (λ n. trues (take n (drop s m))) len
-    ∙ sym (inside_part s (s + k) 0 s k m (omega arith) refl)
+    let part : count (slice_range m s (s + k)) ≡ trues (take k (drop s m)) = grind (arith, count-trues) in
+    part ∙ sym (inside_part s (s + k) 0 s k m (omega arith) refl)
     ∙ count_by-same (λ p. is_inside p (s, s + k)) (λ p. nat_eq (p / size) g) (λ p. p < length m) (positions m) (λ p within. in_group (length m) size g p some within) (positions-within m)
 
--- a place below n lies in one of the groups of n values
-number_below : (n size p : ℕ) → 0 < size → p < n → p / size < div_ceil n size
-number_below n size p some within = grind arith
-
 pub places_lie_in_groups : PlacesLieInGroups
-places_lie_in_groups m size some = λ k d h. number_below (length m) size (get_or (positions m) k d) some (positions-within m k d h)
-
--- a group with a number below is one that begins before the end
-begins_before : (n size g : ℕ) → 0 < size → g < div_ceil n size → size * g < n
-begins_before n size g some below = grind arith
-
-number_from_begin : (n size g : ℕ) → 0 < size → size * g < n → g < div_ceil n size
-number_from_begin n size g some begins = grind arith
+places_lie_in_groups m size some = λ k d h. grind (arith, positions-within m k d h)
 
 pub groups_begin_within : GroupsBeginWithin
-groups_begin_within n size g some = (begins_before n size g some, number_from_begin n size g some)
+groups_begin_within n size g some = (λ below. grind arith, λ begins. grind arith)
 
 pub group_of_repeated : GroupOfRepeated
 group_of_repeated n size g v begins = grind (arith, length-repeated, part_of_repeated)

@@ -14,8 +14,7 @@ use Rattle.mask_bits.proofs.Lists.CountLemmas.{all_false_from_count}
 pub true_at-positions : (m : List Bool) → true_at (length m) (positions m) ≡ m
 unfolding true_at
 true_at-positions [] = refl
-true_at-positions (true ∷ m) = grind (arith, true_at-positions m, positions-true, true_at-zero_suc)
-true_at-positions (false ∷ m) = grind (arith, true_at-positions m, positions-false, true_at-suc)
+true_at-positions (v ∷ m) = grind (arith, true_at-positions m, positions-true, true_at-zero_suc, positions-false, true_at-suc)
 
 pub positions_determine_list : PositionsDetermineList
 positions_determine_list a b len places =
@@ -44,11 +43,7 @@ rank_intersection_is_the_list a b r fits = grind (arith, length-rank_intersectio
 
 get_or-narrow : (a b : List Bool) (i : ℕ) → length b ≡ trues a → get_or (narrow a b) i false ≡ (get_or a i false && get_or b (trues (take i a)) false)
 get_or-narrow [] b i fits = refl
-get_or-narrow (false ∷ a) b zero fits = refl
-get_or-narrow (false ∷ a) b (suc i) fits = get_or-narrow a b i fits
-get_or-narrow (true ∷ a) [] i fits = absurd (omega arith)
-get_or-narrow (true ∷ a) (v ∷ b) zero fits = refl
-get_or-narrow (true ∷ a) (v ∷ b) (suc i) fits = get_or-narrow a b i (omega arith)
+get_or-narrow (v ∷ a) b i fits = grind (arith, get_or-narrow a)
 
 pub rank_intersection_value : RankIntersectionValue
 rank_intersection_value a b i fits = grind (arith, rank_intersection-narrow, get_or-narrow, count-trues)
@@ -114,11 +109,7 @@ rank_intersection_count a b fits = grind (arith, rank_intersection-narrow, count
 
 narrow_assoc : (a b c : List Bool) → length b ≡ trues a → length c ≡ trues b → narrow (narrow a b) c ≡ narrow a (narrow b c)
 narrow_assoc [] b c fits fits' = refl
-narrow_assoc (false ∷ a) b c fits fits' = ap (λ (xs : List Bool). false ∷ xs) (narrow_assoc a b c fits fits')
-narrow_assoc (true ∷ a) [] c fits fits' = absurd (omega arith)
-narrow_assoc (true ∷ a) (false ∷ b) c fits fits' = grind (arith, narrow_assoc a b c (omega arith) fits')
-narrow_assoc (true ∷ a) (true ∷ b) [] fits fits' = absurd (omega arith)
-narrow_assoc (true ∷ a) (true ∷ b) (v ∷ c) fits fits' = grind (arith, narrow_assoc a b c (omega arith) (omega arith))
+narrow_assoc (v ∷ a) b c fits fits' = grind (arith, narrow_assoc a)
 
 pub rank_intersection_associative : RankIntersectionAssociative
 rank_intersection_associative a b c fits fits' = grind (arith, rank_intersection-narrow, length-rank_intersection, rank_intersection_count, narrow_assoc, count-trues)

@@ -19,21 +19,14 @@ kept (true ∷ m) (suc k) = true ∷ kept m k
 
 length-kept : (m : List Bool) (k : ℕ) → length (kept m k) ≡ length m
 length-kept [] k = refl
-length-kept (false ∷ m) k = ap suc (length-kept m k)
-length-kept (true ∷ m) zero = ap suc (length-kept m zero)
-length-kept (true ∷ m) (suc k) = ap suc (length-kept m k)
+length-kept (v ∷ m) k = grind (arith, length-kept m)
 
 and_none : (v : Bool) (n : ℕ) → (v && nat_lt n 0) ≡ (v && nat_lt (suc n) 0)
 and_none v n = ap (λ b. v && b) (le-ltb n 0 (omega arith) ∙ sym (le-ltb (suc n) 0 (omega arith)))
 
 get_or-kept : (m : List Bool) (k i : ℕ) → get_or (kept m k) i false ≡ (get_or m i false && nat_lt (trues (take i m)) k)
 get_or-kept [] k i = refl
-get_or-kept (false ∷ m) k zero = refl
-get_or-kept (false ∷ m) k (suc i) = get_or-kept m k i
-get_or-kept (true ∷ m) zero zero = refl
-get_or-kept (true ∷ m) zero (suc i) = get_or-kept m zero i ∙ and_none (get_or m i false) (trues (take i m))
-get_or-kept (true ∷ m) (suc k) zero = sym (lt-ltb 0 (suc k) (omega arith))
-get_or-kept (true ∷ m) (suc k) (suc i) = grind (arith, get_or-kept m k i)
+get_or-kept (v ∷ m) k i = grind (arith, get_or-kept m)
 
 pub length-limited : (m : List Bool) (k : ℕ) → length (limited m k) ≡ length m
 unfolding limited
@@ -53,16 +46,11 @@ limited-kept m k =
 
 kept-kept : (m : List Bool) (k j : ℕ) → kept (kept m k) j ≡ kept m (min k j)
 kept-kept [] k j = refl
-kept-kept (false ∷ m) k j = ap (λ (xs : List Bool). false ∷ xs) (kept-kept m k j)
-kept-kept (true ∷ m) zero j = grind (arith, kept-kept m zero j)
-kept-kept (true ∷ m) (suc k) zero = grind (arith, kept-kept m k zero)
-kept-kept (true ∷ m) (suc k) (suc j) = grind (arith, kept-kept m k j)
+kept-kept (v ∷ m) k j = grind (arith, kept-kept m)
 
 trues-kept : (m : List Bool) (k : ℕ) → trues (kept m k) ≡ min k (trues m)
 trues-kept [] k = omega arith
-trues-kept (false ∷ m) k = trues-kept m k
-trues-kept (true ∷ m) zero = omega (arith, trues-kept m zero)
-trues-kept (true ∷ m) (suc k) = omega (arith, trues-kept m k)
+trues-kept (v ∷ m) k = grind (arith, trues-kept m)
 
 pub limit_of_limit : LimitOfLimit
 limit_of_limit m k j = grind (arith, limited-kept, kept-kept)
@@ -90,15 +78,12 @@ count_below_position m n h = grind (arith, count-trues, trues-below_place)
 kept-none : (m : List Bool) → kept m zero ≡ repeated (length m) false
 unfolding repeated
 kept-none [] = refl
-kept-none (false ∷ m) = ap (λ (xs : List Bool). false ∷ xs) (kept-none m)
-kept-none (true ∷ m) = ap (λ (xs : List Bool). false ∷ xs) (kept-none m)
+kept-none (v ∷ m) = grind (arith, kept-none m)
 
 -- all of them
 kept-all : (m : List Bool) (k : ℕ) → trues m ≤ k → kept m k ≡ m
 kept-all [] k h = refl
-kept-all (false ∷ m) k h = ap (λ (xs : List Bool). false ∷ xs) (kept-all m k h)
-kept-all (true ∷ m) zero h = absurd (omega arith)
-kept-all (true ∷ m) (suc k) h = ap (λ (xs : List Bool). true ∷ xs) (kept-all m k (omega arith))
+kept-all (v ∷ m) k h = grind (arith, kept-all m)
 
 -- the values before the place of true value number k, and false ones behind them
 abbrev cut_at : List Bool → ℕ → List Bool

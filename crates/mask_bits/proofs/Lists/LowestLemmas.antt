@@ -1,6 +1,6 @@
 -- The lowest set bit of a word, and its lowest run of set bits: cleared, and filled up from below.
 use Rattle.std.proofs.Common.{◌≡◌, ◌≢◌, ℕ, zero, suc, ◌+◌, ◌-◌, ◌/◌, ◌%◌, ◌^◌, ◌<◌, ◌≤◌, sym, ap, ◌∙◌, inl, inr, arith}
-use Rattle.std.specs.Int.{bit_at, w64, trailing_zeros, trailing_ones}
+use Rattle.std.specs.Int.{bit_at, w64, trailing_zeros, trailing_ones, bit_not}
 use Rattle.std.specs.Int.Count.{trailing_of_zero}
 use Rattle.std.specs.Int.RustNames.{bit_and, bit_or}
 use Rattle.std.proofs.lemmas.Nat.{trailing_le}
@@ -18,31 +18,26 @@ half_less_odd n odd = omega arith
 -- a number less one: the bits below the lowest set one turn to 1, that one to 0, and the others stay
 less_below : (z n i : ℕ) → 0 < n → bit_at n z ≡ 1 → ((j : ℕ) → j < z → bit_at n j ≡ 0) → i < z → bit_at (n - 1) i ≡ 1
 less_below zero n i some set clear h = absurd (omega arith)
-less_below (suc z) n zero some set clear h =
-    omega (arith, bit_at_lowest (n - 1), bit_at_lowest n, clear 0 (omega arith))
+less_below (suc z) n zero some set clear h = omega (arith, bit_at_lowest (n - 1), bit_at_lowest n, clear 0 (omega arith))
 less_below (suc z) n (suc i) some set clear h =
     let even : n % 2 ≡ 0 = omega (arith, bit_at_lowest n, clear 0 (omega arith)) in
-    bit_at-suc (n - 1) i ∙ ap (λ k. bit_at k i) (half_less n some even)
-    ∙ less_below z (n / 2) i (omega arith) (sym (bit_at-suc n z) ∙ set) (λ j l. sym (bit_at-suc n j) ∙ clear (suc j) (omega arith)) (omega arith)
+    let rest = less_below z (n / 2) i (omega arith) (sym (bit_at-suc n z) ∙ set) (λ j l. sym (bit_at-suc n j) ∙ clear (suc j) (omega arith)) (omega arith) in
+    grind (arith, bit_at-suc (n - 1) i, half_less n some even, rest)
 
 less_at : (z n : ℕ) → 0 < n → bit_at n z ≡ 1 → ((j : ℕ) → j < z → bit_at n j ≡ 0) → bit_at (n - 1) z ≡ 0
 less_at zero n some set clear = omega (arith, bit_at_lowest (n - 1), bit_at_lowest n)
 less_at (suc z) n some set clear =
     let even : n % 2 ≡ 0 = omega (arith, bit_at_lowest n, clear 0 (omega arith)) in
-    bit_at-suc (n - 1) z ∙ ap (λ k. bit_at k z) (half_less n some even)
-    ∙ less_at z (n / 2) (omega arith) (sym (bit_at-suc n z) ∙ set) (λ j l. sym (bit_at-suc n j) ∙ clear (suc j) (omega arith))
+    let rest = less_at z (n / 2) (omega arith) (sym (bit_at-suc n z) ∙ set) (λ j l. sym (bit_at-suc n j) ∙ clear (suc j) (omega arith)) in
+    grind (arith, bit_at-suc (n - 1) z, half_less n some even, rest)
 
 less_above : (z n i : ℕ) → 0 < n → bit_at n z ≡ 1 → ((j : ℕ) → j < z → bit_at n j ≡ 0) → z < i → bit_at (n - 1) i ≡ bit_at n i
-less_above zero n zero some set clear h = absurd (omega arith)
-less_above zero n (suc i) some set clear h =
-    let odd : n % 2 ≡ 1 = omega (arith, bit_at_lowest n) in
-    bit_at-suc (n - 1) i ∙ ap (λ k. bit_at k i) (half_less_odd n odd) ∙ sym (bit_at-suc n i)
-less_above (suc z) n zero some set clear h = absurd (omega arith)
+less_above z n zero some set clear h = absurd (omega arith)
+less_above zero n (suc i) some set clear h = grind (arith, bit_at_lowest n, bit_at-suc (n - 1) i, half_less_odd n, bit_at-suc n i)
 less_above (suc z) n (suc i) some set clear h =
     let even : n % 2 ≡ 0 = omega (arith, bit_at_lowest n, clear 0 (omega arith)) in
-    bit_at-suc (n - 1) i ∙ ap (λ k. bit_at k i) (half_less n some even)
-    ∙ less_above z (n / 2) i (omega arith) (sym (bit_at-suc n z) ∙ set) (λ j l. sym (bit_at-suc n j) ∙ clear (suc j) (omega arith)) (omega arith)
-    ∙ sym (bit_at-suc n i)
+    let rest = less_above z (n / 2) i (omega arith) (sym (bit_at-suc n z) ∙ set) (λ j l. sym (bit_at-suc n j) ∙ clear (suc j) (omega arith)) (omega arith) in
+    grind (arith, bit_at-suc (n - 1) i, half_less n some even, rest, bit_at-suc n i)
 
 half_more : (n : ℕ) → n % 2 ≡ 0 → (n + 1) / 2 ≡ n / 2
 half_more n even = omega arith
@@ -55,14 +50,12 @@ more_below : (z n i : ℕ) → ((j : ℕ) → j < z → bit_at n j ≡ 1) → i 
 more_below zero n i set h = absurd (omega arith)
 more_below (suc z) n zero set h = omega (arith, bit_at_lowest (n + 1), bit_at_lowest n, set 0 (omega arith))
 more_below (suc z) n (suc i) set h =
-    let odd : n % 2 ≡ 1 = omega (arith, bit_at_lowest n, set 0 (omega arith)) in
-    bit_at-suc (n + 1) i ∙ ap (λ k. bit_at k i) (half_more_odd n odd)
-    ∙ more_below z (n / 2) i (λ j l. sym (bit_at-suc n j) ∙ set (suc j) (omega arith)) (omega arith)
+    let rest = more_below z (n / 2) i (λ j l. sym (bit_at-suc n j) ∙ set (suc j) (omega arith)) (omega arith) in
+    grind (arith, bit_at_lowest n, set 0, bit_at-suc (n + 1) i, half_more_odd n, rest)
 
 more_above : (z n i : ℕ) → bit_at n z ≡ 0 → ((j : ℕ) → j < z → bit_at n j ≡ 1) → z < i → bit_at (n + 1) i ≡ bit_at n i
-more_above zero n zero clear set h = absurd (omega arith)
+more_above z n zero clear set h = absurd (omega arith)
 more_above zero n (suc i) clear set h = grind (arith, bit_at-suc)
-more_above (suc z) n zero clear set h = absurd (omega arith)
 more_above (suc z) n (suc i) clear set h =
     grind (arith, more_above z (n / 2) i (sym (bit_at-suc n z) ∙ clear) (λ j l. sym (bit_at-suc n j) ∙ set (suc j) (omega arith)) (omega arith), bit_at-suc)
 
@@ -92,26 +85,13 @@ bit_at-lowest_others w i some fits h =
 -- filled up from below: the bits up to it are 1, and those from it on stay
 pub bit_at-filled : (w i : ℕ) → 0 < w → w < 2 ^ 64 → i ≤ low w → bit_at (bit_or w (w - 1)) i ≡ 1
 bit_at-filled w i some fits h =
-    let z : ℕ = low w in
-    let set = low-set w some fits in
-    let before : (j : ℕ) → j < z → bit_at w j ≡ 0 = λ j l. low-first w j some fits l in
-    elim (cases_lt i z) [
-      | inl below ↦ omega (arith, bit_at_or w (w - 1) i, before i below, less_below z w i some set before below)
-      | inr at ↦
-          let same : i ≡ z = omega arith in
-          ap (bit_at (bit_or w (w - 1))) same ∙ omega (arith, bit_at_or w (w - 1) z, set, bit_at-lt (w - 1) z)
-    ]
+    let before : (j : ℕ) → j < low w → bit_at w j ≡ 0 = λ j l. low-first w j some fits l in
+    grind (arith, bit_at_or w (w - 1) i, before i, less_below (low w) w i some (low-set w some fits) before, low-set w some fits, bit_at-lt (w - 1) i)
 
 pub bit_at-filled_others : (w i : ℕ) → 0 < w → w < 2 ^ 64 → low w ≤ i → bit_at (bit_or w (w - 1)) i ≡ bit_at w i
 bit_at-filled_others w i some fits h =
-    let z : ℕ = low w in
     let set = low-set w some fits in
-    elim (cases_lt z i) [
-      | inl above ↦ omega (arith, bit_at_or w (w - 1) i, less_above z w i some set (λ j l. low-first w j some fits l) above)
-      | inr at ↦
-          let same : i ≡ z = omega arith in
-          ap (bit_at (bit_or w (w - 1))) same ∙ omega (arith, bit_at_or w (w - 1) z, set, bit_at-lt (w - 1) z) ∙ sym set ∙ ap (bit_at w) (sym same)
-    ]
+    grind (arith, bit_at_or w (w - 1) i, less_above (low w) w i some set (λ j l. low-first w j some fits l), set, bit_at-lt (w - 1) i)
 
 -- ---- the ones at the low end of a word
 
@@ -123,17 +103,14 @@ pub ones-of_full : (w : ℕ) → w ≡ 2 ^ 64 - 1 → ones w ≡ 64
 ones-of_full w full = ap ones full ∙ trailing_of_zero 64
 
 pub ones-within : (w : ℕ) → w < 2 ^ 64 → ones w ≤ 64
-ones-within w fits = elim (cases_eq w (2 ^ 64 - 1)) [
-  | inl full ↦ omega (arith, ones-of_full w full)
-  | inr some ↦ omega (arith, (bit_at-trailing_ones w64 w (omega arith)).0)
-]
+ones-within w fits = trailing_le 64 (bit_not w64 w)
 
 pub ones-few : (w : ℕ) → w < 2 ^ 64 → w ≢ 2 ^ 64 - 1 → ones w < 64
 ones-few w fits some = (bit_at-trailing_ones w64 w (omega arith)).0
 
 pub ones-set : (w i : ℕ) → w < 2 ^ 64 → i < ones w → bit_at w i ≡ 1
 ones-set w i fits h = elim (cases_eq w (2 ^ 64 - 1)) [
-  | inl full ↦ ap (λ k. bit_at k i) full ∙ bit_at_ones 64 i (omega (arith, ones-of_full w full))
+  | inl full ↦ grind (arith, bit_at_ones 64 i, ones-of_full w full)
   | inr some ↦ (bit_at-trailing_ones w64 w (omega arith)).2 i h
 ]
 
@@ -147,29 +124,14 @@ ones-end w fits h = elim (cases_eq w (2 ^ 64 - 1)) [
 -- cleared: the bits below their end are 0, and the others stay
 pub bit_at-ones_cleared : (w i : ℕ) → w < 2 ^ 64 → i < ones w → bit_at (bit_and w ((w + 1) % 2 ^ 64)) i ≡ 0
 bit_at-ones_cleared w i fits h = elim (cases_eq w (2 ^ 64 - 1)) [
-  | inl full ↦
-      let none : (w + 1) % 2 ^ 64 ≡ 0 = omega arith in
-      ap (λ k. bit_at (bit_and w k) i) none ∙ omega (arith, bit_at_and w 0 i, bit_at-zero i)
-  | inr some ↦
-      let next : (w + 1) % 2 ^ 64 ≡ w + 1 = omega arith in
-      ap (λ k. bit_at (bit_and w k) i) next
-      ∙ omega (arith, bit_at_and w (w + 1) i, more_below (ones w) w i (λ j l. ones-set w j fits l) h)
+  | inl full ↦ grind (arith, bit_at_and w ((w + 1) % 2 ^ 64) i, bit_at-zero i)
+  | inr some ↦ grind (arith, bit_at_and w ((w + 1) % 2 ^ 64) i, more_below (ones w) w i (λ j l. ones-set w j fits l) h)
 ]
 
 pub bit_at-ones_others : (w i : ℕ) → w < 2 ^ 64 → i < 64 → ones w ≤ i → bit_at (bit_and w ((w + 1) % 2 ^ 64)) i ≡ bit_at w i
-bit_at-ones_others w i fits low_enough h = elim (cases_eq w (2 ^ 64 - 1)) [
-  | inl full ↦ absurd (omega (arith, ones-of_full w full))
-  | inr some ↦
-      let next : (w + 1) % 2 ^ 64 ≡ w + 1 = omega arith in
-      let clear : bit_at w (ones w) ≡ 0 = (bit_at-trailing_ones w64 w (omega arith)).1 in
-      ap (λ k. bit_at (bit_and w k) i) next
-      ∙ elim (cases_lt (ones w) i) [
-        | inl above ↦ omega (arith, bit_at_and w (w + 1) i, more_above (ones w) w i clear (λ j l. ones-set w j fits l) above)
-        | inr at ↦
-            let same : i ≡ ones w = omega arith in
-            ap (bit_at (bit_and w (w + 1))) same ∙ omega (arith, bit_at_and w (w + 1) (ones w), clear) ∙ sym clear ∙ ap (bit_at w) (sym same)
-      ]
-]
+bit_at-ones_others w i fits low_enough h =
+    let clear : bit_at w (ones w) ≡ 0 = ones-end w fits (omega arith) in
+    grind (arith, ones-of_full w, bit_at_and w ((w + 1) % 2 ^ 64) i, more_above (ones w) w i clear (λ j l. ones-set w j fits l), clear)
 
 -- ---- zeros at the low end of a word, 64 where there is nothing else
 

@@ -13,26 +13,14 @@ use Rattle.mask_bits.proofs.BufferLemmas.{length-values, get_or-values}
 use Rattle.mask_bits.proofs.Lists.BitsLemmas.{bits_at, length-bits_at, get_or-bits_at, word_bits-low}
 use Rattle.mask_bits.proofs.Lists.FrontLemmas.{get_or-window}
 use Rattle.mask_bits.proofs.Lists.WordLemmas.{length-word_bits, get_or-word_bits}
+use Rattle.mask_bits.proofs.Lists.CountLemmas.{length-repeated, get_or-padded}
 
 pub length-padded_part : (m : List Bool) (i : ℕ) → length (padded_part m i) ≡ 64
-unfolding repeated
-length-padded_part m i =
-    let rest : List Bool = drop (64 * i) m in
-    omega (arith, length-take 64 (rest ++ repeated 64 false), length-append rest (repeated 64 false), length-replicate 64 false)
+length-padded_part m i = omega (arith, length-take 64 (drop (64 * i) m ++ repeated 64 false), length-append (drop (64 * i) m) (repeated 64 false), length-repeated 64 false)
 
 -- value j is value 64 * i + j of the list, and false past its end
 pub get_or-padded_part : (m : List Bool) (i j : ℕ) → j < 64 → get_or (padded_part m i) j false ≡ get_or m (64 * i + j) false
-unfolding repeated
-get_or-padded_part m i j h =
-    let rest : List Bool = drop (64 * i) m in
-    get_or-take 64 (rest ++ repeated 64 false) j false h
-    ∙ elim (cases_lt j (length rest)) [
-      | inl within ↦ get_or_append_left rest (repeated 64 false) false j within ∙ get_or-drop (64 * i) m j false
-      | inr past ↦
-          get_or-append_right rest (repeated 64 false) (length rest) j false refl past
-          ∙ get_or-replicate 64 (j - length rest) false false (omega arith)
-          ∙ sym (get_or_past m (64 * i + j) false (omega (arith, length-drop (64 * i) m)))
-    ]
+get_or-padded_part m i j h = get_or-take 64 (drop (64 * i) m ++ repeated 64 false) j false h ∙ get_or-padded (drop (64 * i) m) 64 j ∙ get_or-drop (64 * i) m j false
 
 -- a list of 64 values that are those is the part
 pub padded_part_from_values : (m xs : List Bool) (i : ℕ) → length xs ≡ 64 → ((j : ℕ) → j < 64 → get_or xs j false ≡ get_or m (64 * i + j) false) → xs ≡ padded_part m i
@@ -47,20 +35,11 @@ padded_part-whole m i within =
 
 -- what is past the whole parts is the part after them
 pub padded_part-remainder : (m : List Bool) → padded_remainder m ≡ padded_part m (length m / 64)
-unfolding repeated
 padded_part-remainder m =
-    let i : ℕ = length m / 64 in
-    let front : List Bool = drop (64 * i) m in
-    let zeros : List Bool = repeated (64 - length m % 64) false in
-    let len : length front ≡ length m % 64 = omega (arith, length-drop (64 * i) m) in
-    padded_part_from_values m (front ++ zeros) i (omega (arith, len, length-append front zeros, length-replicate (64 - length m % 64) false)) (λ j h.
-    elim (cases_lt j (length front)) [
-      | inl within ↦ get_or_append_left front zeros false j within ∙ get_or-drop (64 * i) m j false
-      | inr past ↦
-          get_or-append_right front zeros (length front) j false refl past
-          ∙ get_or-replicate (64 - length m % 64) (j - length front) false false (omega arith)
-          ∙ sym (get_or_past m (64 * i + j) false (omega (arith, length-drop (64 * i) m)))
-    ])
+    let front : List Bool = drop (64 * (length m / 64)) m in
+    let n : ℕ = 64 - length m % 64 in
+    padded_part_from_values m (front ++ repeated n false) (length m / 64) (omega (arith, length-drop (64 * (length m / 64)) m, length-append front (repeated n false), length-repeated n false)) (λ j h.
+    get_or-padded front n j ∙ get_or-drop (64 * (length m / 64)) m j false)
 
 -- where no value is past the whole parts, the remainder is false values alone
 pub word_bits-no_remainder : (m : List Bool) → length m % 64 ≡ 0 → word_bits 0 ≡ padded_remainder m
@@ -76,30 +55,17 @@ word_bits-no_remainder m none =
 pub padded_part-window : (b : Packed) (i w : ℕ) → 64 * i + 64 ≤ b.len → word_bits w ≡ window b.bytes (b.offset + 64 * i) → word_bits w ≡ padded_part (values b) i
 padded_part-window b i w within shows =
     padded_part_from_values (values b) (word_bits w) i (length-word_bits w) (λ j h.
-    ap (λ (xs : List Bool). get_or xs j false) shows ∙ get_or-window b.bytes (b.offset + 64 * i) j false h
-    ∙ ap (backing_bit b.bytes) (add_assoc b.offset (64 * i) j)
-    ∙ sym (get_or-values b (64 * i + j) false (omega arith)))
+    grind (arith, get_or-window b.bytes (b.offset + 64 * i) j false h, get_or-values b (64 * i + j) false))
 
 -- and of the last one, cut to the values that are left
 pub padded_part-low : (b : Packed) (i w : ℕ) → b.len - 64 * i ≤ 64 → word_bits w ≡ window b.bytes (b.offset + 64 * i) → word_bits (bit_and w (2 ^ (b.len - 64 * i) - 1)) ≡ padded_part (values b) i
-unfolding repeated
 padded_part-low b i w few shows =
     let n : ℕ = b.len - 64 * i in
     let p : ℕ = b.offset + 64 * i in
     let front : List Bool = bits_at b.bytes p n in
-    let zeros : List Bool = repeated (64 - n) false in
-    let len = length-bits_at b.bytes p n in
     word_bits-low b.bytes p n w few shows
-    ∙ padded_part_from_values (values b) (front ++ zeros) i (omega (arith, len, length-append front zeros, length-replicate (64 - n) false)) (λ j h.
-    elim (cases_lt j n) [
-      | inl within ↦
-          get_or_append_left front zeros false j (omega arith) ∙ get_or-bits_at b.bytes p n j false within
-          ∙ ap (backing_bit b.bytes) (add_assoc b.offset (64 * i) j)
-          ∙ sym (get_or-values b (64 * i + j) false (omega arith))
-      | inr past ↦
-          get_or-append_right front zeros n j false len past ∙ get_or-replicate (64 - n) (j - n) false false (omega arith)
-          ∙ sym (get_or_past (values b) (64 * i + j) false (omega (arith, length-values b)))
-    ])
+    ∙ padded_part_from_values (values b) (front ++ repeated (64 - n) false) i (omega (arith, length-bits_at b.bytes p n, length-append front (repeated (64 - n) false), length-repeated (64 - n) false)) (λ j h.
+    grind (arith, get_or-padded front (64 - n) j, get_or-bits_at b.bytes p n j false, get_or_past front j false, length-bits_at b.bytes p n, get_or-values b (64 * i + j) false, get_or_past (values b) (64 * i + j) false, length-values b))
 
 -- ---- the parts of a list
 
@@ -112,9 +78,7 @@ unfolding padded_parts
 get_or-padded_parts m i d h = get_or-map-range_with_len (padded_part m) 0 (started_words (length m)) i i d h (omega arith)
 
 pub drop-padded_parts : (m : List Bool) (i : ℕ) → i < started_words (length m) → drop i (padded_parts m) ≡ padded_part m i ∷ drop (i + 1) (padded_parts m)
-drop-padded_parts m i h =
-    drop_more (padded_parts m) i [] (omega (arith, length-padded_parts m))
-    ∙ ap (λ (x : List Bool). x ∷ drop (i + 1) (padded_parts m)) (get_or-padded_parts m i [] h)
+drop-padded_parts m i h = grind (arith, drop_more (padded_parts m) i [], length-padded_parts m, get_or-padded_parts m i [] h)
 
 pub drop-padded_parts_all : (m : List Bool) (i : ℕ) → started_words (length m) ≤ i → drop i (padded_parts m) ≡ []
 drop-padded_parts_all m i h = drop_all i (padded_parts m) (omega (arith, length-padded_parts m))

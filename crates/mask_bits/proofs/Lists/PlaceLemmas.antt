@@ -10,14 +10,12 @@ use Rattle.std.specs.Option.{IfSome}
 -- no list has more true values than values
 pub length-places_from : (n : ℕ) (m : List Bool) → length (places_from n m) ≤ length m
 length-places_from n [] = omega arith
-length-places_from n (true ∷ m) = omega (arith, length-places_from (n + 1) m)
-length-places_from n (false ∷ m) = omega (arith, length-places_from (n + 1) m)
+length-places_from n (v ∷ m) = grind (arith, length-places_from (n + 1) m)
 
 -- what is left from an element on
 drop_at : {X : Type 0} → (xs : List X) (i : ℕ) (x : X) → slice_get xs i ≡ Some x → drop i xs ≡ x ∷ drop (suc i) xs
 drop_at [] i x e = cc
-drop_at (y ∷ ys) zero x e = cc
-drop_at (y ∷ ys) (suc i) x e = drop_at ys i x e
+drop_at (v ∷ ys) i x e = grind (arith, drop_at ys)
 
 pub drop-slice_get : {X : Type 0} → (xs : List X) (i : ℕ) (x : X) → slice_get xs i ≡ Some x → drop i xs ≡ x ∷ drop (i + 1) xs
 drop-slice_get xs i x e = rw add-one (drop_at xs i x e)
@@ -38,8 +36,7 @@ get_or-take_false m i p e = grind (arith, get_or-take, get_or-take_past)
 -- the places of a list that stands one further on
 pub places_from-suc : (n : ℕ) (m : List Bool) → places_from (suc n) m ≡ map suc (places_from n m)
 places_from-suc n [] = refl
-places_from-suc n (true ∷ m) = grind (arith, places_from-suc (n + 1) m)
-places_from-suc n (false ∷ m) = grind (arith, places_from-suc (n + 1) m)
+places_from-suc n (v ∷ m) = grind (arith, places_from-suc (n + 1) m)
 
 pub positions-true : (m : List Bool) → positions (true ∷ m) ≡ 0 ∷ map suc (positions m)
 positions-true m = ap (λ (xs : List ℕ). 0 ∷ xs) (places_from-suc 0 m)
@@ -55,8 +52,7 @@ trues (false ∷ m) = trues m
 
 pub length-places_from-trues : (n : ℕ) (m : List Bool) → length (places_from n m) ≡ trues m
 length-places_from-trues n [] = refl
-length-places_from-trues n (true ∷ m) = ap suc (length-places_from-trues (n + 1) m)
-length-places_from-trues n (false ∷ m) = length-places_from-trues (n + 1) m
+length-places_from-trues n (v ∷ m) = grind (arith, length-places_from-trues (n + 1) m)
 
 pub count-trues : (m : List Bool) → count m ≡ trues m
 count-trues m = length-places_from-trues 0 m

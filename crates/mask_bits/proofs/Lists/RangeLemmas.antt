@@ -9,16 +9,14 @@ use Rattle.std.proofs.lemmas.List.Sums.{sum_by-cons}
 use Rattle.mask_bits.specs.Laws.{RangesAddUpToTheCount}
 use Rattle.mask_bits.specs.Positions.{count, repeated}
 use Rattle.mask_bits.specs.Runs.{is_inside, AreRanges}
-use Rattle.mask_bits.proofs.Lists.CountLemmas.{count-append, count-repeated_true, count-repeated_false}
+use Rattle.mask_bits.proofs.Lists.CountLemmas.{count-append, count-repeated_true, count-repeated_false, length-repeated, get_or-repeated}
 use Rattle.mask_bits.proofs.Lists.RunLemmas.{inside, inside-before, inside-past}
 
 -- a part whose values are all v
 pub part_of_one : (m : List Bool) (v : Bool) (s e : ℕ) → e ≤ length m → ((i : ℕ) → s ≤ i → i < e → get_or m i false ≡ v) → slice_range m s e ≡ repeated (e - s) v
-unfolding repeated
 part_of_one m v s e within same =
-    let len = length-between m s e within in
-    ext_get_or false (slice_range m s e) (repeated (e - s) v) (len ∙ sym (length-replicate (e - s) v))
-    (λ i h. get_or-between m s e i false (omega (arith, len)) ∙ same (s + i) (omega arith) (omega (arith, len)) ∙ sym (get_or-replicate (e - s) i v false (omega (arith, len))))
+    ext_get_or false (slice_range m s e) (repeated (e - s) v) (grind (arith, length-between m s e within, length-repeated)) (λ i h.
+    grind (arith, length-between m s e within, get_or-between m s e i false, same (s + i), get_or-repeated (e - s) i v false))
 
 -- nonempty ranges from low to high, each after the one before it
 abbrev pub Ordered : ℕ → ℕ → List (ℕ × ℕ) → Type 0
@@ -38,23 +36,14 @@ none_below low high i (r ∷ rs) o h = grind (arith, none_below r.1 high i rs o.
 from_place : (m : List Bool) (low : ℕ) (rs : List (ℕ × ℕ)) → Ordered low (length m) rs
     → ((i : ℕ) → low ≤ i → i < length m → get_or m i false ≡ list_any (is_inside i) rs) → sum_by (λ r. r.1 - r.0) rs ≡ count (drop low m)
 from_place m low [] o exact =
-    let part : List Bool = slice_range m low (length m) in
-    let none : count part ≡ 0 = ap count (part_of_one m false low (length m) (omega arith) (λ i from h. exact i from h)) ∙ count-repeated_false (length m - low) in
-    let split : count (drop low m) ≡ count part + count (drop (length m) m) = ap count (drop_split m low (length m) o) ∙ count-append part (drop (length m) m) in
-    let past : count (drop (length m) m) ≡ 0 = ap count (drop_all (length m) m (omega arith)) in
-    omega (arith, none, split, past)
+    let none = ap count (part_of_one m false low (length m) (omega arith) (λ i from h. exact i from h)) ∙ count-repeated_false (length m - low) in
+    let split = ap count (drop_split m low (length m) o) ∙ count-append (slice_range m low (length m)) (drop (length m) m) in
+    omega (arith, none, split, ap count (drop_all (length m) m (omega arith)))
 from_place m low (r ∷ rs) o exact =
     let top = Ordered-top r.1 (length m) rs o.2 in
-    let gap : count (slice_range m low r.0) ≡ 0
-    = ap count (part_of_one m false low r.0 (omega (arith, o.1, top)) (λ i from h.
-    exact i from (omega (arith, o.1, top)) ∙ none_below r.0 (length m) i (r ∷ rs) (omega arith, o.1, o.2) h))
-    ∙ count-repeated_false (r.0 - low) in
-    let held : count (slice_range m r.0 r.1) ≡ r.1 - r.0
-    = ap count (part_of_one m true r.0 r.1 top (λ i from h.
-    exact i (omega (arith, o.0)) (omega (arith, top)) ∙ or_left (is_inside i r) (list_any (is_inside i) rs) (inside i r from h)))
-    ∙ count-repeated_true (r.1 - r.0) in
-    let rest = from_place m r.1 rs o.2 (λ i from h.
-    exact i (omega (arith, o.0, o.1)) h ∙ ap (λ b. b || list_any (is_inside i) rs) (inside-past i r from)) in
+    let gap = ap count (part_of_one m false low r.0 (omega (arith, o.1, top)) (λ i from h. grind (arith, exact i from, o.1, top, none_below r.0 (length m) i (r ∷ rs) (omega arith, o.1, o.2) h))) ∙ count-repeated_false (r.0 - low) in
+    let held = ap count (part_of_one m true r.0 r.1 top (λ i from h. grind (arith, exact i, o.0, top, inside i r from h))) ∙ count-repeated_true (r.1 - r.0) in
+    let rest = from_place m r.1 rs o.2 (λ i from h. grind (arith, exact i, o.0, o.1, inside-past i r from)) in
     let first = ap count (drop_split m low r.0 o.0) ∙ count-append (slice_range m low r.0) (drop r.0 m) in
     let second = ap count (drop_split m r.0 r.1 (omega (arith, o.1))) ∙ count-append (slice_range m r.0 r.1) (drop r.1 m) in
     sum_by-cons (λ (s : ℕ × ℕ). s.1 - s.0) r rs ∙ omega (arith, gap, held, rest, first, second)
@@ -65,16 +54,8 @@ Ordered-from low high [] top first nonempty within ordered = top
 Ordered-from low high (r ∷ rs) top first nonempty within ordered = (
   first 0 r (omega arith) (omega arith),
   nonempty 0 r (omega arith),
-  Ordered-from r.1 high rs (within 0 r (omega arith))
-      (λ k d below h.
-      let at_first : k ≡ 0 = omega arith in
-      let past : r.1 ≤ (get_or rs 0 d).0 = ordered 0 d (omega arith) in
-      subst (λ (j : ℕ). r.1 ≤ (get_or rs j d).0) (sym at_first) past)
-      (λ k d h. nonempty (suc k) d (omega arith))
-      (λ k d h. within (suc k) d (omega arith))
-      (λ k d h.
-      let next : suc k + 1 ≡ suc (k + 1) = omega arith in
-      subst (λ (j : ℕ). (get_or rs k d).1 ≤ (get_or (r ∷ rs) j d).0) next (ordered (suc k) d (omega arith))),
+  Ordered-from r.1 high rs (within 0 r (omega arith)) (λ k d below h. grind (arith, ordered 0 d)) (λ k d h. nonempty (suc k) d (omega arith))
+      (λ k d h. within (suc k) d (omega arith)) (λ k d h. grind (arith, ordered (suc k) d)),
 )
 
 pub Ordered-of : (m : List Bool) (rs : List (ℕ × ℕ)) → AreRanges m rs → Ordered 0 (length m) rs

@@ -84,9 +84,7 @@ rank_intersection-true a false b fits =
 narrows : (a b : List Bool) → length b ≡ trues a → rank_intersection a b ≡ narrow a b
 unfolding true_at
 narrows [] b fits = refl
-narrows (false ∷ a) b fits = rank_intersection-false a b fits ∙ ap (λ (xs : List Bool). false ∷ xs) (narrows a b fits)
-narrows (true ∷ a) [] fits = absurd (omega arith)
-narrows (true ∷ a) (v ∷ b) fits = grind (arith, narrows a b (omega arith), rank_intersection-true)
+narrows (v ∷ a) b fits = grind (arith, narrows a, rank_intersection-false, rank_intersection-true)
 
 -- where b is as long as a has true values, the rank intersection is that recursion
 pub rank_intersection-narrow : (a b : List Bool) → length b ≡ count a → rank_intersection a b ≡ narrow a b
@@ -113,8 +111,7 @@ rank_intersection-all_true n b len = grind (arith, narrows, trues-repeated_true,
 narrow-by_all_true : (a : List Bool) → narrow a (repeated (trues a) true) ≡ a
 unfolding repeated
 narrow-by_all_true [] = refl
-narrow-by_all_true (false ∷ a) = ap (λ (xs : List Bool). false ∷ xs) (narrow-by_all_true a)
-narrow-by_all_true (true ∷ a) = ap (λ (xs : List Bool). true ∷ xs) (narrow-by_all_true a)
+narrow-by_all_true (v ∷ a) = grind (arith, narrow-by_all_true a)
 
 pub rank_intersection-by_all_true : (a : List Bool) (n : ℕ) → n ≡ count a → rank_intersection a (repeated n true) ≡ a
 unfolding repeated

@@ -69,11 +69,7 @@ limit_past_the_count = limited-all
 
 kept-narrow : (a b : List Bool) (k : ℕ) → length b ≡ trues a → kept (narrow a b) k ≡ narrow a (kept b k)
 kept-narrow [] b k fits = refl
-kept-narrow (false ∷ a) b k fits = ap (λ (xs : List Bool). false ∷ xs) (kept-narrow a b k fits)
-kept-narrow (true ∷ a) [] k fits = absurd (omega arith)
-kept-narrow (true ∷ a) (false ∷ b) k fits = ap (λ (xs : List Bool). false ∷ xs) (kept-narrow a b k (omega arith))
-kept-narrow (true ∷ a) (true ∷ b) zero fits = ap (λ (xs : List Bool). false ∷ xs) (kept-narrow a b zero (omega arith))
-kept-narrow (true ∷ a) (true ∷ b) (suc k) fits = ap (λ (xs : List Bool). true ∷ xs) (kept-narrow a b k (omega arith))
+kept-narrow (v ∷ a) b k fits = grind (arith, kept-narrow a)
 
 pub limit_of_rank_intersection : LimitOfRankIntersection
 limit_of_rank_intersection a b k fits = grind (arith, limited-kept, rank_intersection-narrow, kept-narrow, count-trues, length-limited)

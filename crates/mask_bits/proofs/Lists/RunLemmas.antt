@@ -1,6 +1,6 @@
 -- The runs of a list: there is one list of them, and the scan finds it.
 use Rattle.std.proofs.Common.{◌≡◌, ◌≢◌, ℕ, zero, suc, ◌+◌, ◌<◌, ◌≤◌, ◌&&◌, ◌||◌, Bool, true, false, nat_eq, List, [], ◌∷◌, length, get_or, drop, refl, sym, ap, subst, ◌∙◌, inl, inr, arith, add-one}
-use Rattle.std.proofs.lemmas.Bool.{cases_eq, eq-eqb, ne_eqb, eqb-true, eqb-false, le-leb, lt-leb, lt-ltb, le-ltb, and_from, and_left, and_right, or_from, or_left, cond-true, cond-false, cond_both}
+use Rattle.std.proofs.lemmas.Bool.{cases_eq, eq-eqb, ne_eqb, eqb-true, eqb-false, le-leb, lt-leb, lt-ltb, le-ltb, and_from, and_left, and_right, or_from, or_left, cond-true, cond-false, cond_both, true≢false}
 use Rattle.std.specs.Prelude.{nat_le, nat_lt}
 use Rattle.std.specs.List.{All, AllAdjacentBelow, list_any}
 use Rattle.mask_bits.specs.Laws.{RunsExist, RunsAreUnique, RunsAreRanges}
@@ -48,7 +48,7 @@ any_below low high i (r ∷ rs) s h = grind (arith, any_below (r.1 + 1) high i r
 exact_cons : (n : ℕ) (v : Bool) (m : List Bool) (rs : List (ℕ × ℕ)) → v ≡ list_any (is_inside n) rs
     → ((i j : ℕ) → i ≡ (n + 1) + j → j < length m → get_or m j false ≡ list_any (is_inside i) rs)
     → (i j : ℕ) → i ≡ n + j → j < length (v ∷ m) → get_or (v ∷ m) j false ≡ list_any (is_inside i) rs
-exact_cons n v m rs first rest i zero e h = grind arith
+exact_cons n v m rs first rest i zero e h = grind (arith, first)
 exact_cons n v m rs first rest i (suc j) e h = rest i j (omega arith) (omega arith)
 
 -- ---- the scan finds runs
@@ -84,25 +84,12 @@ RunsOf-runs_from n high (false ∷ m) e = RunsOf-false n high m (runs_from (n + 
 
 -- past a false value
 RunsOf-past_false : (n high : ℕ) (m : List Bool) (rs : List (ℕ × ℕ)) → RunsOf n high (false ∷ m) rs → RunsOf (n + 1) high m rs
-RunsOf-past_false n high m [] of = record {
-  top = omega arith;
-  spread = tt;
-  exact = λ i j e h. of.exact i (suc j) (omega arith) (omega arith);
-}
+RunsOf-past_false n high m [] of = record { top = omega arith; spread = tt; exact = λ i j e h. of.exact i (suc j) (omega arith) (omega arith) }
 RunsOf-past_false n high m (r ∷ rs) of =
     let s : Spread n high (r ∷ rs) = of.spread in
-    let later : n + 1 ≤ r.0 = elim (cases_eq r.0 n) [
-      | inl same ↦
-          let found : list_any (is_inside n) (r ∷ rs) ≡ true = or_left (is_inside n r) (list_any (is_inside n) rs) (inside n r (omega arith) (omega arith)) in
-          let missed : false ≡ list_any (is_inside n) (r ∷ rs) = of.exact n 0 (omega arith) (omega arith) in
-          cc
-      | inr apart ↦ omega arith
-    ] in
-    record {
-      top = omega arith;
-      spread = (later, s.1, s.2, s.3);
-      exact = λ i j e h. of.exact i (suc j) (omega arith) (omega arith);
-    }
+    let missed : false ≡ list_any (is_inside n) (r ∷ rs) = of.exact n 0 (omega arith) (omega arith) in
+    let later : n + 1 ≤ r.0 = grind (arith, s.0, s.1, missed, or_left (is_inside n r) (list_any (is_inside n) rs), inside n r) in
+    record { top = omega arith; spread = (later, s.1, s.2, s.3); exact = λ i j e h. of.exact i (suc j) (omega arith) (omega arith) }
 
 -- past a true value that is a run of its own
 RunsOf-past_alone : (n high : ℕ) (m : List Bool) (r : ℕ × ℕ) (rs : List (ℕ × ℕ)) → r.1 ≡ n + 1 → RunsOf n high (true ∷ m) (r ∷ rs) → RunsOf (n + 1) high m rs
@@ -140,28 +127,17 @@ same_first a b c d rs e f = ap (λ (k : ℕ). (k, c) ∷ rs) e ∙ ap (λ (k : �
 -- runs behind which the scan has found those past the first place, a true one
 from_rest : (n high : ℕ) (m : List Bool) (rs : List (ℕ × ℕ)) → RunsOf n high (true ∷ m) rs
     → ((ss : List (ℕ × ℕ)) → RunsOf (n + 1) high m ss → ss ≡ runs_from (n + 1) m) → rs ≡ with_place n (runs_from (n + 1) m)
-from_rest n high m [] of rest =
-    let missed : true ≡ false = of.exact n 0 (omega arith) (omega arith) in
-    cc
+from_rest n high m [] of rest = absurd (true≢false (of.exact n 0 (omega arith) (omega arith)))
 from_rest n high m (r ∷ rs) of rest =
     let s : Spread n high (r ∷ rs) = of.spread in
+    let found : true ≡ list_any (is_inside n) (r ∷ rs) = of.exact n 0 (omega arith) (omega arith) in
     let starts : r.0 ≡ n = elim (cases_eq r.0 n) [
       | inl same ↦ same
-      | inr apart ↦
-          let later : Spread (n + 1) high (r ∷ rs) = (omega arith, s.1, s.2, s.3) in
-          let none : list_any (is_inside n) (r ∷ rs) ≡ false = any_below (n + 1) high n (r ∷ rs) later (omega arith) in
-          let found : true ≡ list_any (is_inside n) (r ∷ rs) = of.exact n 0 (omega arith) (omega arith) in
-          cc
+      | inr apart ↦ absurd (true≢false (found ∙ any_below (n + 1) high n (r ∷ rs) (omega arith, s.1, s.2, s.3) (omega arith)))
     ] in
     elim (cases_eq r.1 (n + 1)) [
-      | inl stops ↦
-          same_first r.0 n r.1 (n + 1) rs starts stops
-          ∙ sym (with_place-alone n high rs (Spread-lower ((n + 1) + 1) (r.1 + 1) high rs (omega arith) s.3))
-          ∙ ap (with_place n) (rest rs (RunsOf-past_alone n high m r rs stops of))
-      | inr longer ↦
-          same_first r.0 n r.1 r.1 rs starts refl
-          ∙ sym (with_place-joined n r.1 rs)
-          ∙ ap (with_place n) (rest ((n + 1, r.1) ∷ rs) (RunsOf-past_joined n high m r rs starts longer of))
+      | inl stops ↦ grind (arith, with_place-alone n high rs (Spread-lower ((n + 1) + 1) (r.1 + 1) high rs (omega arith) s.3), rest rs (RunsOf-past_alone n high m r rs stops of))
+      | inr longer ↦ grind (arith, with_place-joined n r.1 rs, rest ((n + 1, r.1) ∷ rs) (RunsOf-past_joined n high m r rs starts longer of))
     ]
 
 -- runs are the scan's
@@ -181,23 +157,14 @@ Spread-from low high (r ∷ rs) first nonempty within apart = (
   first 0 r (omega arith) (omega arith),
   nonempty 0 r (omega arith),
   within 0 r (omega arith),
-  Spread-from (r.1 + 1) high rs
-      (λ k d below h.
-      let at_first : k ≡ 0 = omega arith in
-      let past : r.1 < (get_or rs 0 d).0 = apart 0 d (omega arith) in
-      subst (λ (j : ℕ). r.1 + 1 ≤ (get_or rs j d).0) (sym at_first) (omega arith))
-      (λ k d h. nonempty (suc k) d (omega arith))
-      (λ k d h. within (suc k) d (omega arith))
-      (λ k d h.
-      let next : suc k + 1 ≡ suc (k + 1) = omega arith in
-      subst (λ (j : ℕ). (get_or rs k d).1 < (get_or (r ∷ rs) j d).0) next (apart (suc k) d (omega arith))),
+  Spread-from (r.1 + 1) high rs (λ k d below h. grind (arith, apart 0 d)) (λ k d h. nonempty (suc k) d (omega arith))
+      (λ k d h. within (suc k) d (omega arith)) (λ k d h. grind (arith, apart (suc k) d)),
 )
 
 -- each is nonempty
 Spread-nonempty : (low high : ℕ) (rs : List (ℕ × ℕ)) → Spread low high rs → All (λ r. r.0 < r.1) rs
 Spread-nonempty low high [] s k d h = absurd (omega arith)
-Spread-nonempty low high (r ∷ rs) s zero d h = s.1
-Spread-nonempty low high (r ∷ rs) s (suc k) d h = Spread-nonempty (r.1 + 1) high rs s.3 k d (omega arith)
+Spread-nonempty low high (r ∷ rs) s k d h = grind (arith, Spread-nonempty (r.1 + 1) high rs)
 
 -- each ends within
 Spread-within : (low high : ℕ) (rs : List (ℕ × ℕ)) → Spread low high rs → All (λ r. r.1 ≤ high) rs
@@ -229,13 +196,12 @@ AreRuns-runs_from m =
 
 -- runs are what the scan finds
 pub runs_from-AreRuns : (m : List Bool) (rs : List (ℕ × ℕ)) → AreRuns m rs → rs ≡ runs_from 0 m
-runs_from-AreRuns m rs are = runs_from-RunsOf 0 (length m) m rs (record {
-  top = omega arith;
-  spread = Spread-from 0 (length m) rs (λ k d first h. omega arith) are.nonempty are.within are.apart;
-  exact = λ i j e h.
-      let same : j ≡ i = omega arith in
-      subst (λ (k : ℕ). get_or m j false ≡ list_any (is_inside k) rs) same (are.exact j h);
-})
+runs_from-AreRuns m rs are =
+    runs_from-RunsOf 0 (length m) m rs (record {
+      top = omega arith;
+      spread = Spread-from 0 (length m) rs (λ k d first h. omega arith) are.nonempty are.within are.apart;
+      exact = λ i j e h. grind (arith, are.exact j h);
+    })
 
 pub runs_exist : RunsExist
 runs_exist m = (runs_from 0 m, AreRuns-runs_from m)
@@ -249,21 +215,14 @@ runs_are_ranges m rs are = grind arith
 -- the run at the front, with its end and the number of its values as variables
 front : (n k e : ℕ) (m : List Bool) → e ≡ n + k + 1 → k < length m → ((j : ℕ) → j ≤ k → get_or m j false ≡ true) → get_or m (suc k) false ≡ false → runs_from n m ≡ (n, e) ∷ runs_from e (drop (suc k) m)
 front n k e [] len within all_true ends = absurd (omega arith)
-front n k e (false ∷ m) len within all_true ends =
-    let first : false ≡ true = all_true 0 (omega arith) in
-    cc
-front n zero e (true ∷ []) len within all_true ends =
-    let stops : n + 1 ≡ e = omega arith in
-    ap (λ (i : ℕ). (n, i) ∷ []) stops
+front n k e (false ∷ m) len within all_true ends = absurd (true≢false (sym (all_true 0 (omega arith))))
+front n zero e (true ∷ []) len within all_true ends = grind arith
 front n zero e (true ∷ true ∷ m) len within all_true ends = cc
 front n zero e (true ∷ false ∷ m) len within all_true ends =
-    let stops : n + 1 ≡ e = omega arith in
     let past = RunsOf-runs_from ((n + 1) + 1) ((n + 1) + 1 + length m) m refl in
-    with_place-alone n ((n + 1) + 1 + length m) (runs_from ((n + 1) + 1) m) past.spread
-    ∙ ap (λ (i : ℕ). (n, i) ∷ runs_from i (false ∷ m)) stops
+    grind (arith, with_place-alone n ((n + 1) + 1 + length m) (runs_from ((n + 1) + 1) m) past.spread)
 front n (suc k) e (true ∷ m) len within all_true ends =
-    ap (with_place n) (front (n + 1) k e m (omega arith) (omega arith) (λ j h. all_true (suc j) (omega arith)) ends)
-    ∙ with_place-joined n e (runs_from e (drop (suc k) m))
+    grind (arith, front (n + 1) k e m (omega arith) (omega arith) (λ j h. all_true (suc j) (omega arith)) ends, with_place-joined n e (runs_from e (drop (suc k) m)))
 
 -- a run at the front: from n on, k + 1 true values and then a false one or the end
 pub runs_from-front : (n k : ℕ) (m : List Bool) → k < length m → ((j : ℕ) → j ≤ k → get_or m j false ≡ true) → get_or m (k + 1) false ≡ false → runs_from n m ≡ (n, n + k + 1) ∷ runs_from (n + k + 1) (drop (k + 1) m)
@@ -276,8 +235,7 @@ length-with_place n (r ∷ rs) = grind arith
 
 length-runs_from : (n : ℕ) (m : List Bool) → length (runs_from n m) ≤ length m
 length-runs_from n [] = omega arith
-length-runs_from n (true ∷ m) = omega (arith, length-with_place n (runs_from (n + 1) m), length-runs_from (n + 1) m)
-length-runs_from n (false ∷ m) = omega (arith, length-runs_from (n + 1) m)
+length-runs_from n (v ∷ m) = grind (arith, length-runs_from (n + 1) m)
 
 pub length-AreRuns : (m : List Bool) (rs : List (ℕ × ℕ)) → AreRuns m rs → length rs ≤ length m
 length-AreRuns m rs are = omega (arith, ap length (runs_from-AreRuns m rs are), length-runs_from 0 m)

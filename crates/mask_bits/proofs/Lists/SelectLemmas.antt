@@ -10,7 +10,7 @@ use Rattle.std.proofs.lemmas.Nat.Bits.{bit_at_above, bit_at_cat_high, bit_at_low
 use Rattle.std.proofs.lemmas.Option.{slice_get-get_or, slice_get_past, slice_get-map}
 use Rattle.mask_bits.specs.Positions.{places_from, positions, count, repeated}
 use Rattle.mask_bits.specs.Words.{word_bits, padded_part}
-use Rattle.mask_bits.proofs.Lists.CountLemmas.{count-append, count-repeated_false, places_from-repeated_false}
+use Rattle.mask_bits.proofs.Lists.CountLemmas.{count-append, count-repeated_false, places_from-repeated_false, length-repeated, get_or-padded}
 use Rattle.mask_bits.proofs.Lists.LowestLemmas.{low, low-within, low-set, low-first, bit_at-lowest_cleared, bit_at-lowest_others}
 use Rattle.mask_bits.proofs.Lists.PaddedLemmas.{padded_part_from_values}
 use Rattle.mask_bits.proofs.Lists.WalkLemmas.{places-step, bit-padded}
@@ -20,14 +20,12 @@ use Rattle.mask_bits.proofs.Lists.WordLemmas.{length-word_bits, get_or-word_bits
 
 pub places_from-append : (n : ℕ) (a b : List Bool) → places_from n (a ++ b) ≡ places_from n a ++ places_from (n + length a) b
 places_from-append n [] b = ap (λ k. places_from k b) (sym (add-zero n))
-places_from-append n (true ∷ a) b = grind (arith, places_from-append (n + 1) a b)
-places_from-append n (false ∷ a) b = grind (arith, places_from-append (n + 1) a b)
+places_from-append n (v ∷ a) b = grind (arith, places_from-append (n + 1) a)
 
 -- the places of a list that stands k further on
 pub places_from-moved : (k n : ℕ) (m : List Bool) → places_from (k + n) m ≡ map (λ p. k + p) (places_from n m)
 places_from-moved k n [] = refl
-places_from-moved k n (true ∷ m) = grind (arith, places_from-moved k (n + 1) m)
-places_from-moved k n (false ∷ m) = grind (arith, places_from-moved k (n + 1) m)
+places_from-moved k n (v ∷ m) = grind (arith, places_from-moved k (n + 1) m)
 
 length-moved : (k : ℕ) (ps : List ℕ) → length (map (λ p. k + p) ps) ≡ length ps
 length-moved k [] = refl
@@ -36,42 +34,28 @@ length-moved k (p ∷ ps) = ap suc (length-moved k ps)
 -- an entry of the first list, and of the second
 slice_get-left : (xs ys : List ℕ) (i : ℕ) → i < length xs → slice_get (xs ++ ys) i ≡ slice_get xs i
 slice_get-left [] ys i h = absurd (omega arith)
-slice_get-left (x ∷ xs) ys zero h = refl
-slice_get-left (x ∷ xs) ys (suc i) h = slice_get-left xs ys i (omega arith)
+slice_get-left (v ∷ xs) ys i h = grind (arith, slice_get-left xs)
 
 slice_get-right : (xs ys : List ℕ) (i j : ℕ) → i ≡ length xs + j → slice_get (xs ++ ys) i ≡ slice_get ys j
 slice_get-right [] ys i j e = let same : i ≡ j = omega arith in ap (slice_get ys) same
-slice_get-right (x ∷ xs) ys zero j e = absurd (omega arith)
-slice_get-right (x ∷ xs) ys (suc i) j e = slice_get-right xs ys i j (omega arith)
+slice_get-right (v ∷ xs) ys i j e = grind (arith, slice_get-right xs)
 
 -- ---- started words
 
 -- a started part is the values that it has, and false ones
 part-split : (m : List Bool) (i : ℕ) → take 64 (drop (64 * i) m) ++ repeated (64 - length (drop (64 * i) m)) false ≡ padded_part m i
-unfolding repeated
 part-split m i =
-    let rest : List Bool = drop (64 * i) m in
-    let front : List Bool = take 64 rest in
-    let zeros : List Bool = repeated (64 - length rest) false in
-    let len = length-take 64 rest in
-    padded_part_from_values m (front ++ zeros) i (omega (arith, len, length-append front zeros, length-replicate (64 - length rest) false)) (λ j h.
-    elim (cases_lt j (length front)) [
-      | inl within ↦ get_or_append_left front zeros false j within ∙ get_or-take 64 rest j false h ∙ get_or-drop (64 * i) m j false
-      | inr past ↦
-          get_or-append_right front zeros (length front) j false refl past
-          ∙ get_or-replicate (64 - length rest) (j - length front) false false (omega (arith, len))
-          ∙ sym (get_or_past m (64 * i + j) false (omega (arith, len, length-drop (64 * i) m)))
-    ])
+    let front : List Bool = take 64 (drop (64 * i) m) in
+    let n : ℕ = 64 - length (drop (64 * i) m) in
+    padded_part_from_values m (front ++ repeated n false) i (omega (arith, length-take 64 (drop (64 * i) m), length-append front (repeated n false), length-repeated n false)) (λ j h.
+    get_or-padded front n j ∙ get_or-take 64 (drop (64 * i) m) j false h ∙ get_or-drop (64 * i) m j false)
 
 count-part : (m : List Bool) (i : ℕ) → count (take 64 (drop (64 * i) m)) ≡ count (padded_part m i)
 count-part m i = grind (arith, part-split, count-append, count-repeated_false)
 
 -- the true values of one more started word
 pub count-word_more : (m : List Bool) (i : ℕ) → count (take (64 * (i + 1)) m) ≡ count (take (64 * i) m) + count (padded_part m i)
-count-word_more m i =
-    let next : 64 * (i + 1) ≡ 64 * i + 64 = omega arith in
-    ap (λ n. count (take n m)) next ∙ ap count (take-add (64 * i) 64 m)
-    ∙ count-append (take (64 * i) m) (take 64 (drop (64 * i) m)) ∙ ap (λ n. count (take (64 * i) m) + n) (count-part m i)
+count-word_more m i = grind (arith, take-add (64 * i) 64 m, count-append (take (64 * i) m) (take 64 (drop (64 * i) m)), count-part m i)
 
 -- true value number n of a list is number n less those passed of the word where it stands
 pub place_in_word : (m : List Bool) (i n r p : ℕ) → 64 * i ≤ length m → n ≡ count (take (64 * i) m) + r → r < count (padded_part m i) → slice_get (positions (padded_part m i)) r ≡ Some p
@@ -79,29 +63,19 @@ pub place_in_word : (m : List Bool) (i n r p : ℕ) → 64 * i ≤ length m → 
 place_in_word m i n r p within number inside at =
     let front : List Bool = take (64 * i) m in
     let rest : List Bool = drop (64 * i) m in
-    let here : List Bool = take 64 rest in
-    let zeros : List Bool = repeated (64 - length rest) false in
-    let after : List ℕ = places_from (64 * i + length here) (drop 64 rest) in
+    let here : List ℕ = places_from (64 * i) (take 64 rest) in
+    let after : List ℕ = places_from (64 * i + length (take 64 rest)) (drop 64 rest) in
     let len : 0 + length front ≡ 64 * i = omega (arith, length-take (64 * i) m) in
-    let split : positions m ≡ positions front ++ places_from (64 * i) rest
-    = sym (ap positions (take-append-drop (64 * i) m)) ∙ places_from-append 0 front rest ∙ ap (λ k. positions front ++ places_from k rest) len in
-    let again : places_from (64 * i) rest ≡ places_from (64 * i) here ++ after
-    = sym (ap (places_from (64 * i)) (take-append-drop 64 rest)) ∙ places_from-append (64 * i) here (drop 64 rest) in
-    let padded : places_from (64 * i) (padded_part m i) ≡ places_from (64 * i) here
-    = sym (ap (places_from (64 * i)) (part-split m i)) ∙ places_from-append (64 * i) here zeros
-    ∙ ap (λ (ps : List ℕ). places_from (64 * i) here ++ ps) (places_from-repeated_false (64 * i + length here) (64 - length rest))
-    ∙ append-nil (places_from (64 * i) here) in
-    let moved : places_from (64 * i) (padded_part m i) ≡ map (λ k. 64 * i + k) (positions (padded_part m i))
-    = ap (λ k. places_from k (padded_part m i)) (sym (add-zero (64 * i))) ∙ places_from-moved (64 * i) 0 (padded_part m i) in
-    let many : r < length (places_from (64 * i) here)
-    = omega (arith, ap length padded, ap length moved, length-moved (64 * i) (positions (padded_part m i))) in
-    ap (λ (ps : List ℕ). slice_get ps n) split
-    ∙ slice_get-right (positions front) (places_from (64 * i) rest) n r number
-    ∙ ap (λ (ps : List ℕ). slice_get ps r) again
-    ∙ slice_get-left (places_from (64 * i) here) after r many
-    ∙ ap (λ (ps : List ℕ). slice_get ps r) (sym padded ∙ moved)
-    ∙ slice_get-map (λ k. 64 * i + k) (positions (padded_part m i)) r
-    ∙ ap (option_map (λ k. 64 * i + k)) at
+    let split : positions m ≡ positions front ++ (here ++ after)
+    = sym (ap positions (take-append-drop (64 * i) m)) ∙ places_from-append 0 front rest ∙ ap (λ k. positions front ++ places_from k rest) len
+    ∙ ap (λ (xs : List Bool). positions front ++ places_from (64 * i) xs) (sym (take-append-drop 64 rest)) ∙ ap (λ (ps : List ℕ). positions front ++ ps) (places_from-append (64 * i) (take 64 rest) (drop 64 rest)) in
+    let padded : here ≡ map (λ k. 64 * i + k) (positions (padded_part m i))
+    = sym (ap (places_from (64 * i)) (sym (part-split m i)) ∙ places_from-append (64 * i) (take 64 rest) (repeated (64 - length rest) false)
+    ∙ ap (λ (ps : List ℕ). here ++ ps) (places_from-repeated_false (64 * i + length (take 64 rest)) (64 - length rest)) ∙ append-nil here)
+    ∙ ap (λ k. places_from k (padded_part m i)) (sym (add-zero (64 * i))) ∙ places_from-moved (64 * i) 0 (padded_part m i) in
+    let many : r < length here = omega (arith, ap length padded, length-moved (64 * i) (positions (padded_part m i))) in
+    ap (λ (ps : List ℕ). slice_get ps n) split ∙ slice_get-right (positions front) (here ++ after) n r number ∙ slice_get-left here after r many
+    ∙ ap (λ (ps : List ℕ). slice_get ps r) padded ∙ slice_get-map (λ k. 64 * i + k) (positions (padded_part m i)) r ∙ ap (option_map (λ k. 64 * i + k)) at
 
 -- past the last word there is none
 pub place_none : (m : List Bool) (i n r : ℕ) → length m ≤ 64 * i → n ≡ count (take (64 * i) m) + r → slice_get (positions m) n ≡ None
@@ -113,28 +87,19 @@ pub positions-lowest : (w : ℕ) → 0 < w → w < 2 ^ 64 → positions (word_bi
 positions-lowest w some fits =
     let v : ℕ = bit_and w (w - 1) in
     let few = low-within w some fits in
-    let len = length-word_bits w in
-    places-step (word_bits w) (word_bits v) (low w) (omega (arith, len)) (length-word_bits v ∙ sym len)
-    (λ i h. get_or-word_bits w i false (omega arith) ∙ ap (λ b. nat_eq b 1) (low-first w i some fits h))
-    (get_or-word_bits w (low w) false few ∙ ap (λ b. nat_eq b 1) (low-set w some fits))
-    (λ i h. get_or-word_bits v i false (omega arith) ∙ ap (λ b. nat_eq b 1) (bit_at-lowest_cleared w i some fits h))
-    (λ i h. elim (cases_lt i 64) [
-      | inl inside ↦
-          get_or-word_bits v i false inside ∙ ap (λ b. nat_eq b 1) (bit_at-lowest_others w i some fits h) ∙ sym (get_or-word_bits w i false inside)
-      | inr outside ↦ get_or_past (word_bits v) i false (omega (arith, length-word_bits v)) ∙ sym (get_or_past (word_bits w) i false (omega (arith, len)))
-    ])
+    places-step (word_bits w) (word_bits v) (low w) (omega (arith, length-word_bits w)) (length-word_bits v ∙ sym (length-word_bits w))
+    (λ i h. grind (arith, get_or-word_bits w i false, low-first w i some fits h))
+    (grind (arith, get_or-word_bits w (low w) false, low-set w some fits))
+    (λ i h. grind (arith, get_or-word_bits v i false, bit_at-lowest_cleared w i some fits h))
+    (λ i h. grind (arith, get_or-word_bits, bit_at-lowest_others w i some fits h, get_or_past, length-word_bits))
 
 -- a word of which some places are left is not 0
 pub some_left : (w k : ℕ) (ps : List ℕ) → w < 2 ^ 64 → positions (word_bits w) ≡ drop k ps → k < length ps → 0 < w
-some_left w k ps fits left h = elim (cases_eq w 0) [
-  | inl none ↦ absurd (omega (arith, ap length left, length-drop k ps, count-word_bits w fits, ones-le 0 w (omega arith)))
-  | inr some ↦ omega arith
-]
+some_left w k ps fits left h = grind (arith, ap length left, length-drop k ps, count-word_bits w fits, ones-le 0 w)
 
 -- the places past the first k, one by one
 pub left-more : (w k : ℕ) (ps : List ℕ) → w < 2 ^ 64 → positions (word_bits w) ≡ drop k ps → k < length ps → positions (word_bits (bit_and w (w - 1))) ≡ drop (k + 1) ps
-left-more w k ps fits left h =
-    ap (drop 1) (sym (positions-lowest w (some_left w k ps fits left h) fits) ∙ left) ∙ drop-drop 1 k ps
+left-more w k ps fits left h = ap (drop 1) (sym (positions-lowest w (some_left w k ps fits left h) fits) ∙ left) ∙ drop-drop 1 k ps
 
 pub left-first : (w k : ℕ) (ps : List ℕ) → w < 2 ^ 64 → positions (word_bits w) ≡ drop k ps → k < length ps → slice_get ps k ≡ Some (low w)
 left-first w k ps fits left h =
@@ -145,24 +110,15 @@ left-first w k ps fits left h =
 
 -- a list with no true value has no place
 pub no_place : (m : List Bool) (n : ℕ) → ((i : ℕ) → get_or m i false ≡ false) → places_from n m ≡ []
-unfolding repeated
-no_place m n none =
-    ap (places_from n) (ext_get_or false m (repeated (length m) false) (sym (length-replicate (length m) false)) (λ i h. none i ∙ sym (get_or-replicate (length m) i false false h)))
-    ∙ places_from-repeated_false n (length m)
+no_place [] n none = refl
+no_place (v ∷ m) n none = grind (arith, none 0, no_place m (n + 1) (λ i. none (suc i)))
 
 pub last_place : (m : List Bool) (p : ℕ) → p < length m → get_or m p false ≡ true → ((i : ℕ) → p < i → get_or m i false ≡ false) → slice_get (positions m) (count m - 1) ≡ Some p
 last_place m p within holds past =
     let front : List ℕ = positions (take p m) in
-    let rest : List Bool = drop (p + 1) m in
-    let split : take p m ++ drop p m ≡ m = take-append-drop p m in
-    let at : drop p m ≡ true ∷ rest = drop_more m p false within ∙ ap (λ (b : Bool). b ∷ rest) holds in
-    let none : places_from (p + 1) rest ≡ [] = no_place rest (p + 1) (λ i. get_or-drop (p + 1) m i false ∙ past (p + 1 + i) (omega arith)) in
-    let len : 0 + length (take p m) ≡ p = omega (arith, length-take p m) in
+    let none : places_from (p + 1) (drop (p + 1) m) ≡ [] = no_place (drop (p + 1) m) (p + 1) (λ i. get_or-drop (p + 1) m i false ∙ past (p + 1 + i) (omega arith)) in
     let all : positions m ≡ front ++ p ∷ []
-    = sym (ap positions split) ∙ places_from-append 0 (take p m) (drop p m)
-    ∙ ap (λ k. front ++ places_from k (drop p m)) len
-    ∙ ap (λ (xs : List Bool). front ++ places_from p xs) at
-    ∙ ap (λ (ps : List ℕ). front ++ p ∷ ps) none in
+    = grind (arith, take-append-drop p m, drop_more m p false within, none, length-take p m, places_from-append 0 (take p m) (drop p m)) in
     ap (λ (ps : List ℕ). slice_get ps (length ps - 1)) all
     ∙ slice_get-right front (p ∷ []) (length (front ++ p ∷ []) - 1) 0 (omega (arith, length-append front (p ∷ [])))
 
@@ -175,13 +131,8 @@ high w some fits =
     let top = leading_top 64 w some fits in
     let j : ℕ = top.0 in
     let place : 63 - leading_zeros w64 w ≡ j = omega (arith, top.1) in
-    let split : 1 * 2 ^ j + (w - 2 ^ j) ≡ w = omega (arith, top.2) in
-    let small : w - 2 ^ j < 2 ^ j = omega (arith, top.2, top.3, pow-suc 2 j) in
-    let first : j - j ≡ 0 = omega arith in (
-      omega (arith, top.1),
-      ap (bit_at w) place ∙ ap (λ n. bit_at n j) (sym split) ∙ bit_at_cat_high 1 j (w - 2 ^ j) j small (omega arith) ∙ ap (bit_at 1) first ∙ bit_at_lowest 1,
-      λ i h. bit_at_above w (suc j) i top.3 (omega arith),
-    )
+    let set : bit_at (1 * 2 ^ j + (w - 2 ^ j)) j ≡ 1 = grind (arith, bit_at_cat_high 1 j (w - 2 ^ j) j, top.2, top.3, pow-suc 2 j, bit_at_lowest 1) in
+    (omega (arith, top.1), grind (arith, place, set, top.2), λ i h. bit_at_above w (suc j) i top.3 (omega arith))
 
 -- the last true value of a list, in the last started word that has one
 pub last_in_word : (m : List Bool) (i w : ℕ) → 0 < w → w < 2 ^ 64 → word_bits w ≡ padded_part m i → ((p : ℕ) → 64 * (i + 1) ≤ p → get_or m p false ≡ false)
@@ -189,26 +140,13 @@ pub last_in_word : (m : List Bool) (i w : ℕ) → 0 < w → w < 2 ^ 64 → word
 last_in_word m i w some fits read none =
     let top = high w some fits in
     let j : ℕ = 63 - leading_zeros w64 w in
-    let holds : get_or m (64 * i + j) false ≡ true = sym (bit-padded m i w j read (omega arith)) ∙ ap (λ b. nat_eq b 1) top.1 in
-    let within : 64 * i + j < length m = elim (cases_lt (64 * i + j) (length m)) [
-      | inl h ↦ h
-      | inr h ↦ absurd (true≢false (sym holds ∙ get_or_past m (64 * i + j) false h))
-    ] in
-    last_place m (64 * i + j) within holds (λ p h. elim (cases_lt p (64 * i + 64)) [
-      | inr past ↦ none p (omega arith)
-      | inl here ↦
-          let place : 64 * i + (p - 64 * i) ≡ p = omega arith in
-          ap (λ k. get_or m k false) (sym place) ∙ sym (bit-padded m i w (p - 64 * i) read (omega arith)) ∙ ap (λ b. nat_eq b 1) (top.2 (p - 64 * i) (omega arith))
-    ])
+    let holds : get_or m (64 * i + j) false ≡ true = grind (arith, bit-padded m i w j read, top.1) in
+    last_place m (64 * i + j) (grind (arith, holds, get_or_past m (64 * i + j) false)) holds (λ p h.
+    grind (arith, none p, bit-padded m i w (p - 64 * i) read, top.2 (p - 64 * i)))
 
 -- an empty word more
 pub none_more : (m : List Bool) (i : ℕ) → word_bits 0 ≡ padded_part m i → ((p : ℕ) → 64 * (i + 1) ≤ p → get_or m p false ≡ false) → (p : ℕ) → 64 * i ≤ p → get_or m p false ≡ false
-none_more m i read none p from = elim (cases_lt p (64 * i + 64)) [
-  | inr past ↦ none p (omega arith)
-  | inl here ↦
-      let place : 64 * i + (p - 64 * i) ≡ p = omega arith in
-      ap (λ k. get_or m k false) (sym place) ∙ sym (bit-padded m i 0 (p - 64 * i) read (omega arith)) ∙ ap (λ b. nat_eq b 1) (bit_at-zero (p - 64 * i))
-]
+none_more m i read none p from = grind (arith, none p, bit-padded m i 0 (p - 64 * i) read, bit_at-zero (p - 64 * i))
 
 -- the true values up to a place, and those of the part from there
 pub count-part_further : (m : List Bool) (s n : ℕ) → count (take (s + n) m) ≡ count (take s m) + count (slice_range m s (s + n))

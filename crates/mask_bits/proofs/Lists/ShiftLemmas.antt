@@ -11,6 +11,7 @@ use Rattle.std.proofs.lemmas.Nat.Bits.{bit_at-zero, bit_at-lt, bit_at_and, bit_a
 use Rattle.mask_bits.specs.Positions.{repeated}
 use Rattle.mask_bits.specs.Words.{word_bits}
 use Rattle.mask_bits.proofs.Lists.WordLemmas.{length-word_bits, get_or-word_bits, word_bits_from_bits}
+use Rattle.std.proofs.lemmas.Bool.Decides.{nat_tests}
 
 -- ---- one bit of a number
 
@@ -43,25 +44,13 @@ bit_at-shl_high n k j h =
 -- ---- the list of a word
 
 bit_of_min : (a b : ℕ) → a < 2 → b < 2 → nat_eq (min a b) 1 ≡ (nat_eq a 1 && nat_eq b 1)
-bit_of_min zero zero low high = refl
-bit_of_min zero (suc zero) low high = refl
-bit_of_min (suc zero) zero low high = refl
-bit_of_min (suc zero) (suc zero) low high = refl
-bit_of_min (suc (suc a)) b low high = absurd (omega arith)
-bit_of_min a (suc (suc b)) low high = absurd (omega arith)
+bit_of_min a b low high = grind (arith, nat_tests)
 
 bit_of_max : (a b : ℕ) → a < 2 → b < 2 → nat_eq (max a b) 1 ≡ (nat_eq a 1 || nat_eq b 1)
-bit_of_max zero zero low high = refl
-bit_of_max zero (suc zero) low high = refl
-bit_of_max (suc zero) zero low high = refl
-bit_of_max (suc zero) (suc zero) low high = refl
-bit_of_max (suc (suc a)) b low high = absurd (omega arith)
-bit_of_max a (suc (suc b)) low high = absurd (omega arith)
+bit_of_max a b low high = grind (arith, nat_tests)
 
 bit_of_not : (a : ℕ) → a < 2 → nat_eq (1 - a) 1 ≡ not (nat_eq a 1)
-bit_of_not zero low = refl
-bit_of_not (suc zero) low = refl
-bit_of_not (suc (suc a)) low = absurd (omega arith)
+bit_of_not a low = grind (arith, nat_tests)
 
 pub get_or-word_bits_and : (v w j : ℕ) → j < 64 → get_or (word_bits (bit_and v w)) j false ≡ (get_or (word_bits v) j false && get_or (word_bits w) j false)
 get_or-word_bits_and v w j h = grind (arith, get_or-word_bits, bit_at_and)
@@ -70,31 +59,20 @@ pub get_or-word_bits_or : (v w j : ℕ) → j < 64 → get_or (word_bits (bit_or
 get_or-word_bits_or v w j h = grind (arith, get_or-word_bits, bit_at_or)
 
 pub get_or-word_bits_not : (w j : ℕ) → w < 2 ^ 64 → j < 64 → get_or (word_bits (bit_not w64 w)) j false ≡ not (get_or (word_bits w) j false)
-get_or-word_bits_not w j fits h =
-    get_or-word_bits (bit_not w64 w) j false h ∙ ap (λ b. nat_eq b 1) (bit_at_not w64 w j fits h)
-    ∙ bit_of_not (bit_at w j) (bit_at-lt w j) ∙ ap not (sym (get_or-word_bits w j false h))
+get_or-word_bits_not w j fits h = grind (arith, get_or-word_bits (bit_not w64 w) j false, bit_at_not w64 w j fits h, bit_of_not (bit_at w j) (bit_at-lt w j), get_or-word_bits w j false)
 
 -- `word >> r`
 pub get_or-word_bits_shr : (w r j : ℕ) → w < 2 ^ 64 → j < 64 → get_or (word_bits (w / 2 ^ r)) j false ≡ get_or (word_bits w) (r + j) false
 get_or-word_bits_shr w r j fits h =
-    get_or-word_bits (w / 2 ^ r) j false h ∙ ap (λ b. nat_eq b 1) (bit_at-shr w r j)
-    ∙ elim (cases_lt (r + j) 64) [
-      | inl inside ↦ sym (get_or-word_bits w (r + j) false inside)
-      | inr past ↦ ap (λ b. nat_eq b 1) (bit_at_above w 64 (r + j) fits past)
-          ∙ sym (get_or_past (word_bits w) (r + j) false (omega (arith, length-word_bits w)))
-    ]
+    grind (arith, get_or-word_bits (w / 2 ^ r) j false h, bit_at-shr w r j, get_or-word_bits w (r + j) false, bit_at_above w 64 (r + j) fits, get_or_past (word_bits w) (r + j) false, length-word_bits w)
 
 -- `word << k`
 pub get_or-word_bits_shl_low : (w k j : ℕ) → j < 64 → j < k → get_or (word_bits (w * 2 ^ k % 2 ^ 64)) j false ≡ false
-get_or-word_bits_shl_low w k j h low =
-    get_or-word_bits (w * 2 ^ k % 2 ^ 64) j false h
-    ∙ ap (λ b. nat_eq b 1) (bit_at-mod (w * 2 ^ k) 64 j h ∙ bit_at-shl_low w k j low)
+get_or-word_bits_shl_low w k j h low = grind (arith, get_or-word_bits (w * 2 ^ k % 2 ^ 64) j false h, bit_at-mod (w * 2 ^ k) 64 j h, bit_at-shl_low w k j low)
 
 pub get_or-word_bits_shl_high : (w k j : ℕ) → j < 64 → k ≤ j → get_or (word_bits (w * 2 ^ k % 2 ^ 64)) j false ≡ get_or (word_bits w) (j - k) false
 get_or-word_bits_shl_high w k j h high =
-    get_or-word_bits (w * 2 ^ k % 2 ^ 64) j false h
-    ∙ ap (λ b. nat_eq b 1) (bit_at-mod (w * 2 ^ k) 64 j h ∙ bit_at-shl_high w k j high)
-    ∙ sym (get_or-word_bits w (j - k) false (omega arith))
+    grind (arith, get_or-word_bits (w * 2 ^ k % 2 ^ 64) j false h, bit_at-mod (w * 2 ^ k) 64 j h, bit_at-shl_high w k j high, get_or-word_bits w (j - k) false)
 
 -- the lowest bits by a mask, and zeros above them
 pub word_bits-low_mask : (w count : ℕ) → count ≤ 64 → word_bits (bit_and w (2 ^ count - 1)) ≡ take count (word_bits w) ++ repeated (64 - count) false
@@ -104,14 +82,7 @@ word_bits-low_mask w count few =
     let zeros : List Bool = replicate (64 - count) false in
     let len : length low ≡ count = omega (arith, length-take count (word_bits w), length-word_bits w) in
     word_bits_from_bits (bit_and w (2 ^ count - 1)) (low ++ zeros) (omega (arith, length-append low zeros, length-replicate (64 - count) false)) (λ j h.
-    elim (cases_lt j count) [
-      | inl inside ↦
-          ap (λ b. nat_eq b 1) (bit_at-low_mask w count j inside)
-          ∙ sym (get_or_append_left low zeros false j (omega arith) ∙ get_or-take count (word_bits w) j false inside ∙ get_or-word_bits w j false h)
-      | inr past ↦
-          ap (λ b. nat_eq b 1) (bit_at-past_mask w count j past)
-          ∙ sym (get_or-append_right low zeros count j false len past ∙ get_or-replicate (64 - count) (j - count) false false (omega arith))
-    ])
+    grind (arith, bit_at-low_mask w count j, get_or_append_left low zeros false j, get_or-take count (word_bits w) j false, get_or-word_bits w j false h, bit_at-past_mask w count j, get_or-append_right low zeros count j false len, get_or-replicate (64 - count) (j - count) false false))
 
 -- the same by a mask that is all ones, shifted down
 pub word_bits-low_ones : (w count : ℕ) → count ≤ 64 → word_bits (bit_and w ((2 ^ 64 - 1) / 2 ^ (64 - count))) ≡ take count (word_bits w) ++ repeated (64 - count) false
@@ -127,32 +98,16 @@ joined_bit : (lo hi low j : ℕ) → lo < 2 ^ 64 → low < 64 → j < 64
 joined_bit lo hi low j fits few h =
     let k : ℕ = 63 - low in
     let up : ℕ = hi * 2 ^ 1 % 2 ^ 64 in
-    let len = length-word_bits lo in
     let parts = get_or-word_bits_or (lo / 2 ^ low) (up * 2 ^ k % 2 ^ 64) j h in
     let first = get_or-word_bits_shr lo low j fits h in
     elim (cases_lt (low + j) 64) [
       | inl inside ↦
           let none : get_or (word_bits (up * 2 ^ k % 2 ^ 64)) j false ≡ false
-          = elim (cases_lt j k) [
-            | inl below ↦ get_or-word_bits_shl_low up k j h below
-            | inr at ↦
-                let first_bit : j - k ≡ 0 = omega arith in
-                get_or-word_bits_shl_high up k j h at
-                ∙ ap (λ i. get_or (word_bits up) i false) first_bit
-                ∙ get_or-word_bits_shl_low hi 1 0 (omega arith) (omega arith)
-          ] in
-          parts ∙ ap (λ x. get_or (word_bits (lo / 2 ^ low)) j false || x) none
-          ∙ or-false (get_or (word_bits (lo / 2 ^ low)) j false) ∙ first
-          ∙ sym (get_or_append_left (word_bits lo) (word_bits hi) false (low + j) (omega arith))
+          = grind (arith, get_or-word_bits_shl_low up k j h, get_or-word_bits_shl_high up k j h, get_or-word_bits_shl_low hi 1 0) in
+          grind (arith, parts, none, or-false, first, get_or_append_left (word_bits lo) (word_bits hi) false (low + j), length-word_bits lo)
       | inr past ↦
-          let none : get_or (word_bits (lo / 2 ^ low)) j false ≡ false
-          = first ∙ get_or_past (word_bits lo) (low + j) false (omega arith) in
-          let place : j - k - 1 ≡ low + j - 64 = omega arith in
-          parts ∙ ap (λ x. x || get_or (word_bits (up * 2 ^ k % 2 ^ 64)) j false) none
-          ∙ get_or-word_bits_shl_high up k j h (omega arith)
-          ∙ get_or-word_bits_shl_high hi 1 (j - k) (omega arith) (omega arith)
-          ∙ ap (λ i. get_or (word_bits hi) i false) place
-          ∙ sym (get_or-append_right (word_bits lo) (word_bits hi) 64 (low + j) false len past)
+          let up_bit = get_or-word_bits_shl_high up k j h in
+          grind (arith, parts, first, get_or_past (word_bits lo) (low + j) false, up_bit, get_or-word_bits_shl_high hi 1 (j - k), get_or-append_right (word_bits lo) (word_bits hi) 64 (low + j) false (length-word_bits lo), length-word_bits lo)
     ]
 
 -- the high bits of one word and then the low bits of the next
@@ -162,7 +117,5 @@ word_bits-joined lo hi low fits few =
     let both : List Bool = word_bits lo ++ word_bits hi in
     let w : ℕ = bit_or (lo / 2 ^ low) (hi * 2 ^ 1 % 2 ^ 64 * 2 ^ (63 - low) % 2 ^ 64) in
     let within : low + 64 ≤ length both = omega (arith, length-append (word_bits lo) (word_bits hi), length-word_bits lo, length-word_bits hi) in
-    word_bits_from_bits w (slice_range both low (low + 64))
-    (length-between both low (low + 64) within ∙ omega arith)
-    (λ j h. sym (get_or-word_bits w j false h) ∙ joined_bit lo hi low j fits few h
-    ∙ sym (get_or-between both low (low + 64) j false (omega arith)))
+    word_bits_from_bits w (slice_range both low (low + 64)) (length-between both low (low + 64) within ∙ omega arith) (λ j h.
+    grind (arith, get_or-word_bits w j false h, joined_bit lo hi low j fits few h, get_or-between both low (low + 64) j false))

@@ -17,8 +17,7 @@ folded_by_the_first a b (c ∷ ms) stack = grind (arith, folded_by_the_first a (
 
 pub stack_folds_alike : StackFoldsAlike
 stack_folds_alike [] stack = refl
-stack_folds_alike (a ∷ []) stack = refl
-stack_folds_alike (a ∷ b ∷ ms) stack = grind (arith, stack_folds_alike (b ∷ ms) stack.1, folded_by_the_first)
+stack_folds_alike (v ∷ ms) stack = grind (arith, stack_folds_alike ms, folded_by_the_first)
 
 pub fold_of_one : FoldOfOne
 fold_of_one m = (refl, refl)

@@ -94,24 +94,12 @@ pub bit-padded : (m : List Bool) (i w j : ℕ) → word_bits w ≡ padded_part m
 bit-padded m i w j read h = grind (arith, get_or-word_bits, get_or-padded_part)
 
 pub IsLeft-read : (m : List Bool) (i w : ℕ) → w < 2 ^ 64 → word_bits w ≡ padded_part m i → i < started_words (length m) → IsLeft m i w
-IsLeft-read m i w fits read started = record {
-  word = fits;
-  within = omega arith;
-  ends = λ j few past. bit_from_false (bit_at w j) (bit_at-lt w j) (bit-padded m i w j read few ∙ get_or_past m (64 * i + j) false past);
-}
+IsLeft-read m i w fits read started =
+    record { word = fits; within = omega arith; ends = λ j few past. grind (arith, bit_at-lt w j, bit-padded m i w j read few, get_or_past) }
 
 -- where word i is read, nothing of it is passed
 left_of-read : (m : List Bool) (i w p : ℕ) → word_bits w ≡ padded_part m i → i < started_words (length m) → 64 * i ≤ p → get_or (left_of m i w) p false ≡ get_or m p false
-left_of-read m i w p read started from =
-    elim (cases_lt p (64 * i + 64)) [
-      | inr past ↦ left_of-past m i w p (omega arith) past
-      | inl here ↦ elim (cases_lt p (length m)) [
-        | inr outside ↦ left_of-outside m i w p (omega arith) outside ∙ sym (get_or_past m p false outside)
-        | inl inside ↦
-            let place : 64 * i + (p - 64 * i) ≡ p = omega arith in
-            left_of-here m i w p from here inside ∙ bit-padded m i w (p - 64 * i) read (omega arith) ∙ ap (λ k. get_or m k false) place
-      ]
-    ]
+left_of-read m i w p read started from = grind (arith, left_of-past, left_of-outside, left_of-here, bit-padded m i w (p - 64 * i) read, get_or_past)
 
 -- the first word, and no word of the empty list
 pub left_of-first : (m : List Bool) (w : ℕ) → word_bits w ≡ padded_part m 0 → 0 < length m → left_of m 0 w ≡ m
@@ -129,34 +117,20 @@ IsLeft-none m none = record { word = lit< tt; within = omega arith; ends = λ j 
 -- past a word of which nothing is left comes the next
 pub left_of-next : (m : List Bool) (i w : ℕ) → i + 1 < started_words (length m) → word_bits w ≡ padded_part m (i + 1) → left_of m (i + 1) w ≡ left_of m i 0
 left_of-next m i w more read =
-    let within : 64 * i + 64 ≤ length m = omega arith in
-    ext_get_or false (left_of m (i + 1) w) (left_of m i 0) (length-left_of m (i + 1) w (omega arith) ∙ sym (length-left_of m i 0 (omega arith))) (λ p h.
-    elim (cases_lt p (64 * i)) [
-      | inl before ↦ left_of-before m (i + 1) w p (omega arith) (omega arith) ∙ sym (left_of-before m i 0 p (omega arith) before)
-      | inr from ↦ elim (cases_lt p (64 * i + 64)) [
-        | inl here ↦ left_of-before m (i + 1) w p (omega arith) (omega arith) ∙ sym (left_of-clear m i 0 p (omega arith) from here (bit_at-zero (p - 64 * i)))
-        | inr past ↦ left_of-read m (i + 1) w p read more (omega arith) ∙ sym (left_of-past m i 0 p (omega arith) past)
-      ]
-    ])
+    ext_get_or false (left_of m (i + 1) w) (left_of m i 0) (grind (arith, length-left_of)) (λ p h.
+    grind (arith, left_of-before, left_of-clear m i 0 p, left_of-read m (i + 1) w p read, left_of-past, bit_at-zero (p - 64 * i)))
 
 -- and past the last one nothing
 pub left_of-last : (m : List Bool) (i : ℕ) → 64 * i ≤ length m → started_words (length m) ≤ i + 1 → left_of m i 0 ≡ repeated (length m) false
 unfolding repeated
 left_of-last m i within last =
-    let len = length-left_of m i 0 within in
-    ext_get_or false (left_of m i 0) (repeated (length m) false) (len ∙ sym (length-replicate (length m) false)) (λ p h.
-    elim (cases_lt p (64 * i)) [
-      | inl before ↦ left_of-before m i 0 p within before
-      | inr from ↦ left_of-clear m i 0 p within from (omega (arith, len)) (bit_at-zero (p - 64 * i))
-    ] ∙ sym (get_or-replicate (length m) p false false (omega (arith, len))))
+    ext_get_or false (left_of m i 0) (repeated (length m) false) (grind (arith, length-left_of, length-replicate)) (λ p h.
+    grind (arith, length-left_of, left_of-before, left_of-clear m i 0 p, bit_at-zero (p - 64 * i), get_or-replicate))
 
 -- ---- the lowest true value of a word
 
 pub low-inside : (m : List Bool) (i w : ℕ) → 0 < w → w < 2 ^ 64 → IsLeft m i w → 64 * i + low w < length m
-low-inside m i w some fits left = elim (cases_lt (64 * i + low w) (length m)) [
-  | inl h ↦ h
-  | inr h ↦ absurd (omega (arith, low-set w some fits, left.ends (low w) (low-within w some fits) h))
-]
+low-inside m i w some fits left = grind (arith, low-set w some fits, left.ends (low w), low-within w some fits)
 
 -- before it nothing is left
 left_of-below_low : (m : List Bool) (i w p : ℕ) → 0 < w → w < 2 ^ 64 → 64 * i ≤ length m → p < 64 * i + low w → get_or (left_of m i w) p false ≡ false
@@ -174,24 +148,19 @@ pub IsLeft-cleared : (m : List Bool) (i w : ℕ) → 0 < w → w < 2 ^ 64 → Is
 IsLeft-cleared m i w some fits left = record {
   word = omega (arith, and_le_l w (w - 1));
   within = left.within;
-  ends = λ j few past. bit_at-lowest_others w j some fits (omega (arith, low-inside m i w some fits left)) ∙ left.ends j few past;
+  ends = λ j few past. grind (arith, bit_at-lowest_others w j some fits, low-inside m i w some fits left, left.ends j few past);
 }
 
 pub places-lowest : (m : List Bool) (i w : ℕ) → 0 < w → w < 2 ^ 64 → IsLeft m i w → positions (left_of m i w) ≡ (64 * i + low w) ∷ positions (left_of m i (bit_and w (w - 1)))
 places-lowest m i w some fits left =
     let v : ℕ = bit_and w (w - 1) in
-    let within = left.within in
     let inside = low-inside m i w some fits left in
-    let len = length-left_of m i w within in
     let few = low-within w some fits in
-    places-step (left_of m i w) (left_of m i v) (64 * i + low w) (omega (arith, len, inside)) (length-left_of m i v within ∙ sym len)
-    (λ p h. left_of-below_low m i w p some fits within h)
+    places-step (left_of m i w) (left_of m i v) (64 * i + low w) (grind (arith, length-left_of)) (grind (arith, length-left_of))
+    (λ p h. left_of-below_low m i w p some fits left.within h)
     (left_of-at m i w (64 * i + low w) (low w) refl few inside (low-set w some fits))
-    (λ p h. elim (cases_lt p (64 * i)) [
-      | inl before ↦ left_of-before m i v p within before
-      | inr from ↦ left_of-clear m i v p within from (omega (arith, few)) (bit_at-lowest_cleared w (p - 64 * i) some fits (omega arith))
-    ])
-    (λ p h. left_of-same m i w v p within (omega arith) (λ j _ place. bit_at-lowest_others w j some fits (omega arith)))
+    (λ p h. grind (arith, left_of-before, left_of-clear m i v p, bit_at-lowest_cleared w (p - 64 * i) some fits))
+    (λ p h. left_of-same m i w v p left.within (omega arith) (λ j _ place. bit_at-lowest_others w j some fits (omega arith)))
 
 -- ---- runs
 
@@ -211,32 +180,21 @@ pub PassesTrue-more : (m : List Bool) (i w j v u : ℕ) → u < 2 ^ 64 → v ≡
 PassesTrue-more m i w j v u fits is_full more read so_far = record {
   is = IsLeft-read m (j + 1) u fits read more;
   later = omega (arith, so_far.later);
-  full = λ p from to. elim (cases_lt p (64 * j)) [
-    | inl before ↦ so_far.full p from before
-    | inr here ↦
-        sym (so_far.rest p here)
-        ∙ left_of-at m j v p (p - 64 * j) (omega arith) (omega arith) (omega arith) (ap (λ k. bit_at k (p - 64 * j)) is_full ∙ bit_at_ones 64 (p - 64 * j) (omega arith))
-  ];
-  rest = λ p from.
-      left_of-read m (j + 1) u p read more from
-      ∙ sym (left_of-past m j v p (omega arith) (omega arith))
-      ∙ so_far.rest p (omega arith);
+  full = λ p from to. grind (arith, so_far.full p from, so_far.rest p, left_of-at m j v p (p - 64 * j), ap (λ k. bit_at k (p - 64 * j)) is_full, bit_at_ones 64 (p - 64 * j));
+  rest = λ p from. grind (arith, left_of-read m (j + 1) u p read more from, left_of-past m j v p, so_far.rest p);
 }
 
 -- the ones at the low end of what is left lie within the list
 pub ones-inside : (m : List Bool) (i w : ℕ) → w < 2 ^ 64 → IsLeft m i w → 64 * i + ones w ≤ length m
-ones-inside m i w fits left = elim (cases_lt (length m) (64 * i + ones w)) [
-  | inr h ↦ h
-  | inl h ↦
-      let j : ℕ = length m - 64 * i in
-      absurd (omega (arith, ones-within w fits, ones-set w j fits (omega (arith, left.within)), left.ends j (omega (arith, ones-within w fits, left.within)) (omega arith)))
-]
+ones-inside m i w fits left =
+    let j : ℕ = length m - 64 * i in
+    grind (arith, left.within, ones-within w fits, ones-set w j fits, left.ends j)
 
 pub IsLeft-ones_cleared : (m : List Bool) (i w : ℕ) → w < 2 ^ 64 → IsLeft m i w → IsLeft m i (bit_and w ((w + 1) % 2 ^ 64))
 IsLeft-ones_cleared m i w fits left = record {
   word = omega (arith, and_le_l w ((w + 1) % 2 ^ 64));
   within = left.within;
-  ends = λ j few past. bit_at-ones_others w j fits few (omega (arith, ones-inside m i w fits left)) ∙ left.ends j few past;
+  ends = λ j few past. grind (arith, bit_at-ones_others w j fits few, ones-inside m i w fits left, left.ends j few past);
 }
 
 -- from its lowest set bit on, a word filled up to that is the word
@@ -245,12 +203,8 @@ left_of-filled m i w p some fits within h = grind (arith, left_of-same, bit_at-f
 
 -- all is true up to the end of the ones that the walk came to
 run_true : (m : List Bool) (i f j v p : ℕ) → v < 2 ^ 64 → PassesTrue m i f j v → 64 * i ≤ p → p < 64 * j + ones v → get_or (left_of m i f) p false ≡ true
-run_true m i f j v p v_fits passes from to = elim (cases_lt p (64 * j)) [
-  | inl before ↦ passes.full p from before
-  | inr here ↦
-      sym (passes.rest p here)
-      ∙ left_of-at m j v p (p - 64 * j) (omega arith) (omega (arith, ones-within v v_fits)) (omega (arith, ones-inside m j v v_fits passes.is)) (ones-set v (p - 64 * j) v_fits (omega arith))
-]
+run_true m i f j v p v_fits passes from to =
+    grind (arith, passes.full p from, passes.rest p, left_of-at m j v p (p - 64 * j), ones-within v v_fits, ones-inside m j v v_fits passes.is, ones-set v (p - 64 * j) v_fits)
 
 -- where the run ends before the list does, it ends within the word
 run_ends : (m : List Bool) (j v : ℕ) → v < 2 ^ 64 → (v ≡ 2 ^ 64 - 1 → length m ≤ 64 * j + 64) → 64 * j + ones v < length m → 64 * j + ones v < 64 * j + 64
@@ -261,51 +215,29 @@ runs-start_below_stop : (m : List Bool) (i w j v : ℕ) → 0 < w → w < 2 ^ 64
 runs-start_below_stop m i w j v some fits v_fits left passes last =
     let f : ℕ = bit_or w (w - 1) in
     let k : ℕ = ones v in
-    let stop : ℕ = 64 * j + k in
-    elim (cases_lt (64 * i + low w) stop) [
-      | inl h ↦ h
-      | inr h ↦
-          let few = low-within w some fits in
-          let inside = low-inside m i w some fits left in
-          let same : j ≡ i = omega (arith, passes.later) in
-          let holds : get_or (left_of m i f) stop false ≡ true
-          = left_of-at m i f stop k (omega arith) (omega arith) (omega arith) (bit_at-filled w k some fits (omega arith)) in
-          let bit : stop - 64 * j ≡ k = omega arith in
-          let fails : get_or (left_of m j v) stop false ≡ false
-          = left_of-clear m j v stop passes.is.within (omega arith) (omega arith) (ap (bit_at v) bit ∙ ones-end v v_fits (omega arith)) in
-          absurd (true≢false (sym holds ∙ sym (passes.rest stop (omega arith)) ∙ fails))
-    ]
+    let few = low-within w some fits in
+    let inside = low-inside m i w some fits left in
+    grind (arith, passes.later, left_of-at m i f (64 * j + k) k, bit_at-filled w k some fits, left_of-clear m j v (64 * j + k), passes.is.within, ones-end v v_fits, passes.rest (64 * j + k), true≢false)
 
 -- where the run of a word's lowest true value ends
 pub runs-lowest : (m : List Bool) (i w j v : ℕ) → 0 < w → w < 2 ^ 64 → v < 2 ^ 64 → IsLeft m i w → PassesTrue m i (bit_or w (w - 1)) j v → (v ≡ 2 ^ 64 - 1 → length m ≤ 64 * j + 64)
     → runs_from 0 (left_of m i w) ≡ (64 * i + low w, 64 * j + ones v) ∷ runs_from 0 (left_of m j (bit_and v ((v + 1) % 2 ^ 64)))
 runs-lowest m i w j v some fits v_fits left passes last =
-    let f : ℕ = bit_or w (w - 1) in
     let u : ℕ = bit_and v ((v + 1) % 2 ^ 64) in
     let within = left.within in
-    let inside = low-inside m i w some fits left in
     let len = length-left_of m i w within in
-    let few = low-within w some fits in
     let many = ones-within v v_fits in
-    let start : ℕ = 64 * i + low w in
-    let stop : ℕ = 64 * j + ones v in
     let stop_inside = ones-inside m j v v_fits passes.is in
-    runs-step (left_of m i w) (left_of m j u) start stop
-    (runs-start_below_stop m i w j v some fits v_fits left passes last)
-    (omega (arith, len, stop_inside))
+    let some_run = runs-start_below_stop m i w j v some fits v_fits left passes last in
+    let ends = run_ends m j v v_fits last in
+    let same = λ (p : ℕ). left_of-filled m i w p some fits within in
+    runs-step (left_of m i w) (left_of m j u) (64 * i + low w) (64 * j + ones v) some_run (omega (arith, len, stop_inside))
     (length-left_of m j u passes.is.within ∙ sym len)
     (λ p h. left_of-below_low m i w p some fits within h)
-    (λ p from to. sym (left_of-filled m i w p some fits within from) ∙ run_true m i f j v p v_fits passes (omega arith) to)
-    (λ h. sym (left_of-filled m i w stop some fits within (omega (arith, runs-start_below_stop m i w j v some fits v_fits left passes last)))
-    ∙ sym (passes.rest stop (omega arith))
-    ∙ left_of-clear m j v stop passes.is.within (omega arith) (run_ends m j v v_fits last (omega (arith, len))) (ap (bit_at v) (omega arith) ∙ ones-end v v_fits (omega (arith, run_ends m j v v_fits last (omega (arith, len))))))
-    (λ p h. elim (cases_lt p (64 * j)) [
-      | inl before ↦ left_of-before m j u p passes.is.within before
-      | inr from ↦ left_of-clear m j u p passes.is.within from (omega (arith, many)) (bit_at-ones_cleared v (p - 64 * j) v_fits (omega arith))
-    ])
-    (λ p h. left_of-same m j v u p passes.is.within (omega arith) (λ k few_k place. bit_at-ones_others v k v_fits few_k (omega arith))
-    ∙ passes.rest p (omega arith)
-    ∙ left_of-filled m i w p some fits within (omega (arith, runs-start_below_stop m i w j v some fits v_fits left passes last)))
+    (λ p from to. sym (same p from) ∙ run_true m i (bit_or w (w - 1)) j v p v_fits passes (omega arith) to)
+    (λ h. grind (arith, same (64 * j + ones v), passes.rest (64 * j + ones v), left_of-clear m j v (64 * j + ones v), ones-end v v_fits, passes.is.within))
+    (λ p h. grind (arith, passes.is.within, left_of-before, left_of-clear m j u p, bit_at-ones_cleared v (p - 64 * j) v_fits))
+    (λ p h. left_of-same m j v u p passes.is.within (omega arith) (λ k few_k place. bit_at-ones_others v k v_fits few_k (omega arith)) ∙ passes.rest p (omega arith) ∙ same p (omega arith))
 
 -- an all-false list has no run
 pub runs_from-repeated_false : (n k : ℕ) → runs_from n (repeated k false) ≡ []
@@ -321,9 +253,7 @@ ShowsFrom-read m n i w first read = grind (arith, bit-padded)
 
 -- one place further inside a word
 pub ShowsFrom-next : (m : List Bool) (n w : ℕ) → ShowsFrom m n w → 0 < (n + 1) % 64 → ShowsFrom m (n + 1) (w / 2)
-ShowsFrom-next m n w shows inside = λ j h.
-    let place : n + suc j ≡ n + 1 + j = omega arith in
-    ap (λ b. nat_eq b 1) (sym (bit_at-suc w j)) ∙ shows (suc j) (omega arith) ∙ ap (λ k. get_or m k false) place
+ShowsFrom-next m n w shows inside = λ j h. grind (arith, bit_at-suc w j, shows (suc j))
 
 -- the lowest bit is the value there
 pub ShowsFrom-first : (m : List Bool) (n w : ℕ) → ShowsFrom m n w → nat_eq (w % 2) 1 ≡ get_or m n false

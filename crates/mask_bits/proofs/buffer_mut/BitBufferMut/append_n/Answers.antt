@@ -6,7 +6,7 @@ use Rattle.mask_bits.specs.Positions.{repeated}
 use Rattle.mask_bits.proofs.BufferLemmas.{len-of_list}
 use Rattle.mask_bits.proofs.BuilderLemmas.{on_err, front-appended, room-appended}
 use Rattle.mask_bits.proofs.Lists.FrontLemmas.{front-same}
-use Rattle.mask_bits.proofs.WriteLemmas.{length-repeated}
+use Rattle.mask_bits.proofs.Lists.CountLemmas.{length-repeated}
 use Rattle.mask_bits.proofs.buffer_mut.BitBufferMut.append_n.Goals as goal
 
 pub overflow_add-self-inside : goal.overflow_add-self-inside
