@@ -116,7 +116,7 @@ impl<'a> BitChunks<'a> {
         requires { i < started_words (length self.now) }
         ensures { word_bits result ≡ padded_part self.now i }
     {
-        if i < self.len / 64 {
+        if i < self.len() {
             self.word(i)
         } else {
             self.remainder_bits()
