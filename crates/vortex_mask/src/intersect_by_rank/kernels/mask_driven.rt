@@ -108,7 +108,8 @@ struct Reached {
 
 impl Reached {
     // The index of true value number `rank`, which doesn't stand before the last word. Reads on
-    // until it is in the last word.
+    // until it is in the last word. Inlined, so that what is reached stays in registers.
+    #[inline(always)]
     fn place_of<S: SelectBit>(
         &mut self,
         chunks: &BitChunks<'_>,
@@ -135,6 +136,7 @@ impl Reached {
     }
 
     // Reads on until true value number `rank` is in the last word.
+    #[inline(always)]
     fn read_to(&mut self, chunks: &BitChunks<'_>, steps: &mut Steps, rank: usize)
         requires fits { length chunks.now < 2 ^ 64 }
         requires read { HasRead chunks.now self.old.words self.old.word self.old.before }
