@@ -5,7 +5,7 @@ ghost use Rattle.std.specs.Prelude.{◌<◌, All, IfOk, length};
 ghost use Rattle.std.specs.List.Sorted.{IsStrictlyIncreasing};
 ghost use Rattle.mask_bits.specs.Buffer.{values};
 
-use super::masks::{Call, Row, try_rows};
+use super::masks::{Call, try_row};
 use super::{EVENS, Operand, Sample, THREE_OF_SIX, WORD_EDGES, Want, outcome, same, say, say_name};
 use mask_bits::BitBuffer;
 use std::alloc::{AllocError, Global};
@@ -24,13 +24,62 @@ const SOME_OF_64: Sample = Sample::Indices(64, &[3, 10, 63]);
 
 const SOME_BITS_OF_64: Sample = Sample::Bits(64, &[3, 10, 63]);
 
+const FIVE_AND_150: Sample = Sample::Bits(200, &[5, 150]);
+
+const SECOND_OF_2: Sample = Sample::Bits(2, &[1]);
+
+const OF_EDGES: Want = Want::TrueAt(130, &[63, 64, 129]);
+
+const OF_EVENS: Want = Want::TrueAt(128, &[6, 20, 126]);
+
+// A path by its name, and masks that go by it.
+type PathRow = (&'static str, RankPath, Sample, Sample, Want);
+
+const INDICES: Want = Want::TrueAt(130, &[63]);
+
+const DRIVEN: Want = Want::TrueAt(128, &[126]);
+
+const PATHS: [PathRow; 5] = [
+    ("Indices", RankPath::Indices, WORD_EDGES, ONE_OF_6, INDICES),
+    (
+        "MaskDriven",
+        RankPath::MaskDriven,
+        EVENS,
+        LAST_OF_64,
+        DRIVEN,
+    ),
+    (
+        "BitBuffers",
+        RankPath::BitBuffers,
+        WORD_EDGES,
+        THREE_OF_SIX,
+        OF_EDGES,
+    ),
+    (
+        "RankIndices",
+        RankPath::RankIndices,
+        EVENS,
+        SOME_OF_64,
+        OF_EVENS,
+    ),
+    (
+        "BitBuffers, none cached",
+        RankPath::BitBuffers,
+        EVENS,
+        SOME_BITS_OF_64,
+        OF_EVENS,
+    ),
+];
+
+fn say_path<R: Abort + Print>(rt: &R, path: &str, call: &str) {
+    assert!(rt; println!(rt; "scenario {path}/{call}").is_ok());
+}
+
 // ---- by the kernel alone
 
-type KernelRow = (&'static str, RankPath, Sample, Sample, Want);
-
-fn try_kernels<R: Abort + Print + AllocGlobal>(rt: &R, rows: &[KernelRow]) {
+fn try_kernels<R: Abort + Print + AllocGlobal>(rt: &R, rows: &[PathRow]) {
     for (name, path, a, b, want) in rows {
-        say_name(rt, name);
+        say_path(rt, name, "kernel");
         match (
             Operand::new(rt, rt.alloc(), *a),
             Operand::new(rt, rt.alloc(), *b),
@@ -184,154 +233,33 @@ fn by_rank_indices<R: Abort + Print + AllocGlobal>(
 
 #[test]
 fn kernels(rt: HostRuntime) {
-    let (of_edges, of_evens) = (
-        Want::TrueAt(130, &[63, 64, 129]),
-        Want::TrueAt(128, &[6, 20, 126]),
-    );
-    let rows: [KernelRow; 5] = [
-        (
-            "Indices/kernel",
-            RankPath::Indices,
-            WORD_EDGES,
-            ONE_OF_6,
-            Want::TrueAt(130, &[63]),
-        ),
-        (
-            "MaskDriven/kernel",
-            RankPath::MaskDriven,
-            EVENS,
-            LAST_OF_64,
-            Want::TrueAt(128, &[126]),
-        ),
-        (
-            "BitBuffers/kernel",
-            RankPath::BitBuffers,
-            WORD_EDGES,
-            THREE_OF_SIX,
-            of_edges,
-        ),
-        (
-            "RankIndices/kernel",
-            RankPath::RankIndices,
-            EVENS,
-            SOME_OF_64,
-            of_evens,
-        ),
-        (
-            "BitBuffers, none cached/kernel",
-            RankPath::BitBuffers,
-            EVENS,
-            SOME_BITS_OF_64,
-            of_evens,
-        ),
-    ];
-    try_kernels(&rt, &rows);
+    try_kernels(&rt, &PATHS);
 }
 
 // ---- by the path of both masks
 
+fn try_paths<R: Abort + Print + AllocGlobal>(rt: &R, call: Call, name: &str, rows: &[PathRow]) {
+    for (path, _, a, b, want) in rows {
+        say_path(rt, path, name);
+        try_row(rt, call, (*a, *b), want);
+    }
+}
+
 #[test]
 fn intersect_by_rank(rt: HostRuntime) {
-    let (of_edges, of_evens) = (
-        Want::TrueAt(130, &[63, 64, 129]),
-        Want::TrueAt(128, &[6, 20, 126]),
-    );
-    let call = Call::Narrow;
-    let rows: [Row; 6] = [
-        (
-            "Indices/intersect_by_rank",
-            call,
-            WORD_EDGES,
-            ONE_OF_6,
-            Want::TrueAt(130, &[63]),
-        ),
-        (
-            "MaskDriven/intersect_by_rank",
-            call,
-            EVENS,
-            LAST_OF_64,
-            Want::TrueAt(128, &[126]),
-        ),
-        (
-            "BitBuffers/intersect_by_rank",
-            call,
-            WORD_EDGES,
-            THREE_OF_SIX,
-            of_edges,
-        ),
-        (
-            "RankIndices/intersect_by_rank",
-            call,
-            EVENS,
-            SOME_OF_64,
-            of_evens,
-        ),
-        (
-            "BitBuffers, none cached/intersect_by_rank",
-            call,
-            EVENS,
-            SOME_BITS_OF_64,
-            of_evens,
-        ),
-        (
-            "few rows by intersect_by_rank",
-            call,
-            FIVE_AND_150,
-            SECOND_OF_2,
-            Want::TrueAt(200, &[150]),
-        ),
-    ];
-    try_rows(&rt, &rows);
+    try_paths(&rt, Call::Narrow, "intersect_by_rank", &PATHS);
+    say_name(&rt, "few rows by intersect_by_rank");
+    try_few(&rt, Call::Narrow);
 }
 
 #[test]
 fn counted(rt: HostRuntime) {
-    let (of_edges, of_evens) = (
-        Want::TrueAt(130, &[63, 64, 129]),
-        Want::TrueAt(128, &[6, 20, 126]),
-    );
-    let call = Call::NarrowCounted;
-    let rows: [Row; 6] = [
-        (
-            "Indices/counted",
-            call,
-            WORD_EDGES,
-            ONE_OF_6,
-            Want::TrueAt(130, &[63]),
-        ),
-        (
-            "MaskDriven/counted",
-            call,
-            EVENS,
-            LAST_OF_64,
-            Want::TrueAt(128, &[126]),
-        ),
-        (
-            "BitBuffers/counted",
-            call,
-            WORD_EDGES,
-            THREE_OF_SIX,
-            of_edges,
-        ),
-        ("RankIndices/counted", call, EVENS, SOME_OF_64, of_evens),
-        (
-            "BitBuffers, none cached/counted",
-            call,
-            EVENS,
-            SOME_BITS_OF_64,
-            of_evens,
-        ),
-        (
-            "few rows, counted",
-            call,
-            FIVE_AND_150,
-            SECOND_OF_2,
-            Want::TrueAt(200, &[150]),
-        ),
-    ];
-    try_rows(&rt, &rows);
+    try_paths(&rt, Call::NarrowCounted, "counted", &PATHS);
+    say_name(&rt, "few rows, counted");
+    try_few(&rt, Call::NarrowCounted);
 }
 
-const FIVE_AND_150: Sample = Sample::Bits(200, &[5, 150]);
-
-const SECOND_OF_2: Sample = Sample::Bits(2, &[1]);
+fn try_few<R: Abort + Print + AllocGlobal>(rt: &R, call: Call) {
+    let want = Want::TrueAt(200, &[150]);
+    try_row(rt, call, (FIVE_AND_150, SECOND_OF_2), &want);
+}

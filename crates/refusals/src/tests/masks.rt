@@ -87,13 +87,22 @@ pub(super) type Row = (&'static str, Call, Sample, Sample, Want);
 pub(super) fn try_rows<R: Abort + Print + AllocGlobal>(rt: &R, rows: &[Row]) {
     for (name, call, a, b, want) in rows {
         say_name(rt, name);
-        match (
-            Operand::new(rt, rt.alloc(), *a),
-            Operand::new(rt, rt.alloc(), *b),
-        ) {
-            (Ok(a), Ok(b)) => in_turn(rt, *call, &a, &b, want),
-            _ => say(rt, "not prepared"),
-        }
+        try_row(rt, *call, (*a, *b), want);
+    }
+}
+
+pub(super) fn try_row<R: Abort + Print + AllocGlobal>(
+    rt: &R,
+    call: Call,
+    (a, b): (Sample, Sample),
+    want: &Want,
+) {
+    match (
+        Operand::new(rt, rt.alloc(), a),
+        Operand::new(rt, rt.alloc(), b),
+    ) {
+        (Ok(a), Ok(b)) => in_turn(rt, call, &a, &b, want),
+        _ => say(rt, "not prepared"),
     }
 }
 

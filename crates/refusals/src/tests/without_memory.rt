@@ -129,41 +129,39 @@ fn where_the_operand_is_the_result(rt: HostRuntime) {
 
 const NO_RANK: Sample = Sample::AllFalse(3);
 
+const NO_VALUE_AT_ALL: Sample = Sample::AllTrue(0);
+
 #[test]
 fn rank_intersections(rt: HostRuntime) {
-    let rows: [Row; 8] = [
+    let rows: [Row; 4] = [
         ("all by all", Call::Narrow, ALL, ALL, EACH),
         ("all by none", Call::Narrow, ALL, NONE, NO_VALUE),
         (
             "none by no value",
             Call::Narrow,
             NONE,
-            Sample::AllTrue(0),
+            NO_VALUE_AT_ALL,
             NO_VALUE,
         ),
         ("mixed by none", Call::Narrow, OF_10, NO_RANK, NO_VALUE),
-        ("all by all, counted", Call::NarrowCounted, ALL, ALL, EACH),
-        (
-            "all by none, counted",
-            Call::NarrowCounted,
-            ALL,
-            NONE,
-            NO_VALUE,
-        ),
+    ];
+    try_rows(&rt, &rows);
+}
+
+#[test]
+fn counted(rt: HostRuntime) {
+    let call = Call::NarrowCounted;
+    let rows: [Row; 4] = [
+        ("all by all, counted", call, ALL, ALL, EACH),
+        ("all by none, counted", call, ALL, NONE, NO_VALUE),
         (
             "none by no value, counted",
-            Call::NarrowCounted,
+            call,
             NONE,
-            Sample::AllTrue(0),
+            NO_VALUE_AT_ALL,
             NO_VALUE,
         ),
-        (
-            "mixed by none, counted",
-            Call::NarrowCounted,
-            OF_10,
-            NO_RANK,
-            NO_VALUE,
-        ),
+        ("mixed by none, counted", call, OF_10, NO_RANK, NO_VALUE),
     ];
     try_rows(&rt, &rows);
 }
