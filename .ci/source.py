@@ -8,6 +8,8 @@ from pathlib import Path
 
 ROOT = Path(__file__).resolve().parent.parent
 CRATES = ROOT / "crates"
+# Crates that have nothing but tests.
+TEST_CRATES = "mask_tests", "mask_sweeps", "refusals"
 
 
 class Function:
@@ -121,7 +123,8 @@ def functions_in(file):
 
 
 def is_test(file):
-    return "tests" in file.parts or file.name == "tests.rt"
+    """Whether a file, by its path below the crates, has tests alone."""
+    return file.parts[0] in TEST_CRATES or "tests" in file.parts or file.name == "tests.rt"
 
 
 def library_crates():

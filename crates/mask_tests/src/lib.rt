@@ -1,5 +1,5 @@
-//! Tests of `mask_bits` and `vortex_mask`, from outside.
+//! Worked rows of `mask_bits` and `vortex_mask`, from outside.
 #![tactic(auto)]
 
 #[cfg(test)]
-mod tests;
+mod rows;

@@ -1,0 +1,147 @@
+// Deposits and selections of a word: rows, and words at random beside plain loops.
+use crate::helpers::Generator;
+use std::process::Abort;
+use vortex_mask::intersect_by_rank::{
+    DepositBits, Portable, PortableLoop, SelectBit, deposit_bytewise, deposit_two_holes,
+    deposit_two_lowest,
+};
+
+fn same(rt: &impl Abort, got: u64, want: u64) {
+    assert!(rt; got == want, "{got} for {want}");
+}
+
+// By both implementations, and by the network at every mask.
+fn deposits_to(rt: &impl Abort, source: u64, mask: u64, want: u64) {
+    let count = mask.count_ones() as usize;
+    same(rt, Portable::deposit_bits(source, mask, count), want);
+    same(rt, PortableLoop::deposit_bits(source, mask, count), want);
+    same(rt, deposit_bytewise(source, mask), want);
+}
+
+// Source, mask, result.
+const DEPOSITS: [(u64, u64, u64); 16] = [
+    (0b101, 0b11010, 0b10010),
+    (0b1001, 0x0303, 0x0201),
+    (0xA5, 0x0101_0101_0101_0101, 0x0100_0100_0001_0001),
+    (0x81, 0x0101_0101_0101_0101, 0x0100_0000_0000_0001),
+    (0x1234_5678, 0xF0F0_F0F0_F0F0_F0F0, 0x1020_3040_5060_7080),
+    (0x3FED, 0xB9, 0x31),
+    (0xFF, 0xFFFF_FFFF_FFFF_FF00, 0xFF00),
+    (
+        0x0123_4567_89AB_CDEF,
+        0xFFFF_FFFF_FFFF_FF00,
+        0x2345_6789_ABCD_EF00,
+    ),
+    (1, 0xFFFF_FFFF_FFFF_FFF8, 0x8),
+    (1 << 60, 0xFFFF_FFFF_FFFF_FFF8, 1 << 63),
+    (1 << 61, 0xFFFF_FFFF_FFFF_FFF8, 0),
+    (1, 0x7FFF_FFFF_FFFF_FFFE, 0x2),
+    (1 << 61, 0x7FFF_FFFF_FFFF_FFFE, 1 << 62),
+    (1 << 62, 0x7FFF_FFFF_FFFF_FFFE, 0),
+    (0b10, 0x8000_0000_0000_0001, 1 << 63),
+    (0b100, 0x8000_0000_0000_0001, 0),
+];
+
+fn deposits_of_rows(rt: &impl Abort, rows: &[(u64, u64, u64)]) {
+    for (source, mask, want) in rows {
+        deposits_to(rt, *source, *mask, *want);
+        deposits_to(rt, u64::MAX, *mask, *mask);
+        deposits_to(rt, *source, 0, 0);
+        deposits_to(rt, *source, u64::MAX, *source);
+    }
+}
+
+#[test]
+fn deposits(rt: HostRuntime) {
+    deposits_of_rows(&rt, &DEPOSITS);
+}
+
+fn two_holes(rt: &impl Abort, source: u64, mask: u64, want: u64) {
+    assert!(rt; mask.count_ones() >= 62);
+    same(rt, deposit_two_holes(source, mask), want);
+}
+
+fn two_lowest(rt: &impl Abort, source: u64, mask: u64, want: u64) {
+    assert!(rt; mask.count_ones() <= 2);
+    same(rt, deposit_two_lowest(source, mask), want);
+}
+
+#[test]
+fn closed_forms(rt: HostRuntime) {
+    two_holes(&rt, 1, 0xFFFF_FFFF_FFFF_FFFE, 2);
+    two_holes(&rt, 1 << 63, 0xFFFF_FFFF_FFFF_FFFE, 0);
+    two_lowest(&rt, u64::MAX, 0, 0);
+}
+
+// One set place after another.
+fn plain_deposit(source: u64, mask: u64) -> u64 {
+    let mut rest = source;
+    let mut result = 0u64;
+    for place in 0..64u32 {
+        if (mask >> place) & 1 == 1 {
+            result |= (rest & 1) << place;
+            rest >>= 1;
+        }
+    }
+    result
+}
+
+// Every seventh mask is a word, and the others have ever fewer set bits; every other one is complemented.
+fn mask_of_round(words: &mut Generator, round: u32) -> u64 {
+    let mut mask = words.next();
+    for _ in 0..round % 7 {
+        mask &= words.next();
+    }
+    if round % 2 == 1 { !mask } else { mask }
+}
+
+fn deposits_at_random(rt: &impl Abort) {
+    let mut words = Generator(0x9E37_79B9_7F4A_7C15);
+    for round in 0..20_000u32 {
+        let mask = mask_of_round(&mut words, round);
+        let source = words.next();
+        deposits_to(rt, source, mask, plain_deposit(source, mask));
+    }
+}
+
+#[test]
+fn deposits_beside_a_plain_loop(rt: HostRuntime) {
+    deposits_at_random(&rt);
+}
+
+fn selects(rt: &impl Abort, word: u64, rank: usize, want: usize) {
+    assert!(rt; rank < word.count_ones() as usize);
+    let place = Portable::select_bit_position(word, rank);
+    same(rt, place as u64, want as u64);
+}
+
+#[test]
+fn selections(rt: HostRuntime) {
+    selects(&rt, 0b11010, 2, 4);
+    selects(&rt, 1 << 63, 0, 63);
+    selects(&rt, 0x8000_0000_0000_0001, 1, 63);
+    selects(&rt, 0xFF00, 3, 11);
+    selects(&rt, u64::MAX, 40, 40);
+}
+
+fn selects_each(rt: &impl Abort, word: u64) {
+    let mut rank = 0usize;
+    for place in 0..64usize {
+        if (word >> place) & 1 == 1 {
+            selects(rt, word, rank, place);
+            rank = rank.saturating_add(1);
+        }
+    }
+}
+
+fn selections_at_random(rt: &impl Abort) {
+    let mut words = Generator(0x9E37_79B9_7F4A_7C15);
+    for round in 0..1_000u32 {
+        selects_each(rt, mask_of_round(&mut words, round));
+    }
+}
+
+#[test]
+fn selections_beside_a_plain_scan(rt: HostRuntime) {
+    selections_at_random(&rt);
+}

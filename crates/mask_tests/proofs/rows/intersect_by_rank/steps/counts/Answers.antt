@@ -1,0 +1,9 @@
+use Rattle.std.proofs.Common.{length, ap, sym, arith}
+use Rattle.mask_bits.proofs.Lists.WordLemmas.{count-word_bits}
+use Rattle.mask_tests.proofs.rows.intersect_by_rank.steps.counts.Goals as goal
+
+pub deposit-requires-clause-counted : goal.deposit-requires-clause-counted
+deposit-requires-clause-counted g c = sym (count-word_bits 26 (omega arith))
+
+pub select-requires-clause-inside : goal.select-requires-clause-inside
+select-requires-clause-inside g c = omega (arith, count-word_bits 26 (omega arith))

@@ -1,0 +1,30 @@
+// `Steps` counts each call.
+use crate::rows::helpers::found;
+use mask_bits::BitBuffer;
+use std::alloc::Global;
+use std::process::Abort;
+use vortex_mask::intersect_by_rank::{Portable, Steps};
+
+fn same(rt: &impl Abort, got: u64, want: u64) {
+    assert!(rt; got == want, "{got} for {want}");
+}
+
+fn counts(rt: &impl Abort, alloc: Global) {
+    let buffer = found(rt, BitBuffer::new_set(alloc, 130));
+    let mut steps = Steps::new();
+    assert!(rt; buffer.len() == 130);
+    same(rt, steps.word(&buffer.chunks(), 1), u64::MAX);
+    same(rt, steps.word(&buffer.chunks(), 2), 3);
+    let mask = 0b11010u64;
+    let count = mask.count_ones() as usize;
+    same(rt, steps.deposit::<Portable>(0b101, mask, count), 0b10010);
+    assert!(rt; 2 < count);
+    same(rt, steps.select::<Portable>(mask, 2) as u64, 4);
+    assert!(rt; (steps.deposits(), steps.words(), steps.selections()) == (1, 2, 1));
+    assert!(rt; (steps.offered(), steps.placed(), steps.spots()) == (3, 2, 4));
+}
+
+#[test]
+fn steps_are_counted(rt: HostRuntime) {
+    counts(&rt, rt.alloc());
+}

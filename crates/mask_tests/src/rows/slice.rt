@@ -1,0 +1,208 @@
+// `slice`, `limit` and `choose`.
+use super::helpers::{Lists, MAX, Of, caches, found, has, is, lists, mask, same};
+use std::alloc::Global;
+use std::process::Abort;
+use vortex_mask::Mask;
+
+pub(super) fn slice(rt: &impl Abort, alloc: Global, mask: &Mask, start: usize, end: usize) -> Mask {
+    assert!(rt; start <= end && end <= mask.len());
+    found(rt, mask.slice(alloc, start, end))
+}
+
+fn slices(rt: &impl Abort, alloc: Global, rows: &[(Of, (usize, usize), (&str, &str))]) {
+    for (of, (start, end), want) in rows {
+        is(
+            rt,
+            &slice(rt, alloc, &mask(rt, alloc, *of), *start, *end),
+            *want,
+        );
+    }
+}
+
+#[test]
+fn parts(rt: HostRuntime) {
+    const ROWS: [(Of, (usize, usize), (&str, &str)); 12] = [
+        (Of::Text("10110"), (1, 4), ("011", "Values")),
+        (Of::Text("10110"), (0, 5), ("10110", "Values")),
+        (Of::Text("10110"), (2, 4), ("11", "AllTrue")),
+        (Of::Text("10110"), (1, 2), ("0", "AllFalse")),
+        (Of::Text("10110"), (3, 3), ("", "AllFalse")),
+        (Of::Text("10110"), (5, 5), ("", "AllFalse")),
+        (Of::All(5), (1, 3), ("11", "AllTrue")),
+        (Of::None(5), (0, 3), ("000", "AllFalse")),
+        (Of::All(5), (2, 2), ("", "AllTrue")),
+        (Of::None(5), (5, 5), ("", "AllFalse")),
+        (Of::All(0), (0, 0), ("", "AllTrue")),
+        (Of::None(0), (0, 0), ("", "AllFalse")),
+    ];
+    slices(&rt, rt.alloc(), &ROWS);
+}
+
+// The mask itself stays as it is.
+fn slices_and_stays(rt: &impl Abort, alloc: Global) {
+    let mixed = mask(rt, alloc, Of::Text("10110"));
+    let _ = slice(rt, alloc, &mixed, 1, 4);
+    lists(rt, &mixed, "10110");
+}
+
+#[test]
+fn a_mask_stays_beside_its_part(rt: HostRuntime) {
+    slices_and_stays(&rt, rt.alloc());
+}
+
+fn slices_long(
+    rt: &impl Abort,
+    alloc: Global,
+    rows: &[(Of, (usize, usize), (usize, usize, &str))],
+) {
+    for (of, (start, end), want) in rows {
+        has(
+            rt,
+            &slice(rt, alloc, &mask(rt, alloc, *of), *start, *end),
+            *want,
+        );
+    }
+}
+
+// Of many values, and of masks for which no buffer could be made.
+#[test]
+fn long_parts(rt: HostRuntime) {
+    const ROWS: [(Of, (usize, usize), (usize, usize, &str)); 3] = [
+        (Of::OneIn(20_000, 3), (1, 15_001), (15_000, 5_000, "Values")),
+        (Of::All(MAX), (1, MAX), (MAX - 1, MAX - 1, "AllTrue")),
+        (Of::None(MAX), (1, MAX), (MAX - 1, 0, "AllFalse")),
+    ];
+    slices_long(&rt, rt.alloc(), &ROWS);
+}
+
+type Cached = (Of, (usize, usize), &'static str, Lists<'static>);
+
+fn slices_with_lists(rt: &impl Abort, alloc: Global, rows: &[Cached]) {
+    for (of, (start, end), list, want) in rows {
+        let part = slice(rt, alloc, &mask(rt, alloc, *of), *start, *end);
+        lists(rt, &part, list);
+        caches(rt, &part, *want);
+    }
+}
+
+// A part that is the whole has the cached lists, and another has none.
+#[test]
+fn cached_lists_of_parts(rt: HostRuntime) {
+    const INDICES: Of = Of::Indices(5, &[1, 3]);
+    const RANGES: Of = Of::Ranges(10, &[(0, 3), (5, 7), (9, 10)]);
+    const ROWS: [Cached; 5] = [
+        (INDICES, (0, 5), "01010", (Some(&[1, 3]), None)),
+        (INDICES, (0, 4), "0101", (None, None)),
+        (INDICES, (1, 4), "101", (None, None)),
+        (RANGES, (2, 7), "10011", (None, None)),
+        (
+            RANGES,
+            (0, 10),
+            "1110011001",
+            (None, Some(&[(0, 3), (5, 7), (9, 10)])),
+        ),
+    ];
+    slices_with_lists(&rt, rt.alloc(), &ROWS);
+}
+
+// ---- limits
+
+fn limits(rt: &impl Abort, alloc: Global, rows: &[(Of, usize, (&str, &str))]) {
+    for (of, k, want) in rows {
+        let limited = found(rt, mask(rt, alloc, *of).limit(alloc, *k));
+        is(rt, &limited, *want);
+    }
+}
+
+#[test]
+fn limits_of_masks(rt: HostRuntime) {
+    const ROWS: [(Of, usize, (&str, &str)); 13] = [
+        (Of::Text("01101"), 0, ("00000", "AllFalse")),
+        (Of::Text("01101"), 1, ("01000", "Values")),
+        (Of::Text("01101"), 2, ("01100", "Values")),
+        (Of::Text("01101"), 3, ("01101", "Values")),
+        (Of::Text("01101"), 9, ("01101", "Values")),
+        (Of::Text("01101"), MAX, ("01101", "Values")),
+        (Of::All(5), 0, ("00000", "AllFalse")),
+        (Of::All(5), 2, ("11000", "Values")),
+        (Of::All(5), 5, ("11111", "AllTrue")),
+        (Of::None(5), 0, ("00000", "AllFalse")),
+        (Of::None(5), 3, ("00000", "AllFalse")),
+        (Of::All(0), 0, ("", "AllTrue")),
+        (Of::None(0), 1, ("", "AllFalse")),
+    ];
+    limits(&rt, rt.alloc(), &ROWS);
+}
+
+fn limits_long(rt: &impl Abort, alloc: Global, rows: &[(Of, usize, (usize, usize, &str))]) {
+    for (of, k, want) in rows {
+        has(rt, &found(rt, mask(rt, alloc, *of).limit(alloc, *k)), *want);
+    }
+}
+
+#[test]
+fn long_limits(rt: HostRuntime) {
+    const ROWS: [(Of, usize, (usize, usize, &str)); 5] = [
+        (Of::OneIn(20_000, 3), 100, (20_000, 100, "Values")),
+        (Of::All(MAX), 0, (MAX, 0, "AllFalse")),
+        (Of::None(MAX), 0, (MAX, 0, "AllFalse")),
+        (Of::All(MAX), MAX, (MAX, MAX, "AllTrue")),
+        (Of::None(MAX), MAX, (MAX, 0, "AllFalse")),
+    ];
+    limits_long(&rt, rt.alloc(), &ROWS);
+}
+
+// The hundredth true value of every third is at 297.
+fn last_of_a_limit(rt: &impl Abort, alloc: Global) {
+    let limited = found(rt, mask(rt, alloc, Of::OneIn(20_000, 3)).limit(alloc, 100));
+    assert!(rt; limited.true_count() == 100);
+    same(rt, limited.rank(99), 297);
+}
+
+#[test]
+fn the_last_value_of_a_limit(rt: HostRuntime) {
+    last_of_a_limit(&rt, rt.alloc());
+}
+
+fn limits_with_lists(rt: &impl Abort, alloc: Global, k: usize, list: &str, want: Lists<'_>) {
+    let limited = found(rt, mask(rt, alloc, Of::Indices(5, &[1, 3])).limit(alloc, k));
+    lists(rt, &limited, list);
+    caches(rt, &limited, want);
+}
+
+#[test]
+fn cached_lists_of_limits(rt: HostRuntime) {
+    limits_with_lists(&rt, rt.alloc(), 2, "01010", (Some(&[1, 3]), None));
+    limits_with_lists(&rt, rt.alloc(), 1, "01000", (None, None));
+}
+
+// ---- chosen rows
+
+fn choose(rt: &impl Abort, alloc: Global, mask: &Mask, rows: &[u32], want: &[u32]) {
+    same(rt, rows.len(), mask.len());
+    assert!(rt; rows.len() == mask.len());
+    let chosen = found(rt, mask.choose(alloc, rows));
+    assert!(rt; chosen.as_slice() == want);
+}
+
+fn chooses(rt: &impl Abort, alloc: Global, rows: &[(Of, &[u32], &[u32])]) {
+    for (of, values, want) in rows {
+        choose(rt, alloc, &mask(rt, alloc, *of), values, want);
+    }
+}
+
+#[test]
+fn chosen_rows(rt: HostRuntime) {
+    const ROWS: [(Of, &[u32], &[u32]); 5] = [
+        (
+            Of::Text("10011101"),
+            &[10, 11, 12, 13, 14, 15, 16, 17],
+            &[10, 13, 14, 15, 17],
+        ),
+        (Of::Text("000"), &[1, 2, 3], &[]),
+        (Of::Text("111"), &[7, 7, 8], &[7, 7, 8]),
+        (Of::Text(""), &[], &[]),
+        (Of::All(3), &[7, 7, 8], &[7, 7, 8]),
+    ];
+    chooses(&rt, rt.alloc(), &ROWS);
+}

@@ -1,7 +1,0 @@
-// Calls beside plain lists of bool, at many lengths and at many bit offsets.
-mod bitops;
-mod buffer;
-mod builder;
-pub(crate) mod kernels;
-pub(crate) mod mask;
-pub(crate) mod plain;
