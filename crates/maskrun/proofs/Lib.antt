@@ -1,4 +1,3 @@
 pub mod Examples
-pub mod MaskListLemmas
 pub mod NumberLemmas
 pub mod StackLemmas

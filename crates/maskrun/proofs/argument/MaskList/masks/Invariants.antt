@@ -4,4 +4,4 @@ use Rattle.vortex_mask.specs.Mask.{truth}
 use Rattle.maskrun.proofs.argument.MaskList.masks.Given as goal
 
 abbrev pub invariant-loop-text : goal.invariant-loop-text
-invariant-loop-text l = map truth l.masks.items ≡ map mask_said (take l.text-index (map string_bytes l.text-items))
+invariant-loop-text l = map truth l.masks.items ≡ map mask_said (map string_bytes (take l.text-index l.text-items))
