@@ -28,10 +28,9 @@ mod tests {
     fn debugs(rt: &impl Abort, alloc: Global) -> Result<(), MaskError> {
         let (bits, steps) = (buffer(alloc, "0110")?, Steps::new());
         let text = format!(in alloc; "{bits:?} {steps:?}")?;
-        assert!(rt;
-            text.as_str()
-                == "BitBuffer(0110) deposits=0, words=0, selections=0, offered=0, placed=0, spots=0"
-        );
+        let counts = "deposits: 0, words: 0, selections: 0, offered: 0, placed: 0, spots: 0";
+        let want = format!(in alloc; "BitBuffer(0110) Steps {{ {counts} }}")?;
+        assert!(rt; text.as_str() == want.as_str());
         Ok(())
     }
 

@@ -10,7 +10,6 @@ ghost use Rattle.vortex_mask.specs.Steps.{no_steps};
 use super::deposit::DepositBits;
 use super::select::SelectBit;
 use mask_bits::BitChunks;
-use std::fmt;
 use std::marker::Model;
 
 /// How many words a kernel has deposited, read and selected in, and sums over these steps.
@@ -19,7 +18,7 @@ use std::marker::Model;
 //
 // The steps are inlined always, so that a kernel's loop keeps the counters in registers: a call
 // would write them back for each word.
-#[derive(Drop)]
+#[derive(Debug, Drop)]
 pub struct Steps {
     deposits: usize,
     words: usize,
@@ -155,17 +154,5 @@ impl Steps {
         self.selections += 1;
         self.spots += place as u128;
         place
-    }
-}
-
-impl fmt::Debug for Steps {
-    fn fmt<W: fmt::Write>(&self, f: &mut fmt::Formatter<W>) -> fmt::Result {
-        let (deposits, words, selections) = (self.deposits, self.words, self.selections);
-        let (offered, placed, spots) = (self.offered, self.placed, self.spots);
-        write!(
-            f,
-            "deposits={deposits}, words={words}, selections={selections}"
-        )?;
-        write!(f, ", offered={offered}, placed={placed}, spots={spots}")
     }
 }
