@@ -1,5 +1,6 @@
 -- Lemmas. Crates above may cite those of `Lists`, and no others.
 mod BitLemmas
+mod BoolsLemmas
 mod BufferLemmas
 mod BuilderLemmas
 mod CombineLemmas

@@ -50,7 +50,7 @@ fn same_words(a: &[u8], a_offset: usize, b: &[u8], b_offset: usize, words: usize
     // words beside which another one lies in both, up to the last
     let inner = (a.len().min(b.len()) / 8).saturating_sub(1).min(words);
     agree::<Neighbors>(a, a_low, b, b_low, 0, inner)
-        && agree::<Covered>(a, a_low, b, b_low, inner, words)
+        && agree_block::<Covered>(a, a_low, b, b_low, inner, words)
 }
 
 // How many words are compared before an early return.

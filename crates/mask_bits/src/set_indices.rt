@@ -1,14 +1,48 @@
-//! The walk over the indices of a buffer's true values.
+//! The indices of a buffer's true values: their list, and the walk over them.
 
-ghost use Rattle.std.specs.Prelude.{◌≡◌};
+ghost use Rattle.std.specs.Prelude.{◌≡◌, ◌*◌, ◌^◌, ◌<◌, ◌++◌, IfOk};
 ghost use Rattle.std.specs.Iterator.{YieldsFirst, item_count};
 ghost use Rattle.mask_bits.specs.Buffer.{values};
-ghost use Rattle.mask_bits.specs.Positions.{positions};
+ghost use Rattle.mask_bits.specs.Positions.{positions, places_from, count};
+ghost use Rattle.mask_bits.specs.Words.{word_bits};
 
 use crate::buffer::BitBuffer;
 use crate::chunks::BitChunks;
 use crate::scan::{first_word, next_word};
+use std::alloc::{AllocError, Global};
 use std::marker::Model;
+
+impl BitBuffer {
+    /// The indices of the true values, ascending, in room for just these.
+    ///
+    /// It takes less time than to collect `set_indices`.
+    pub fn indices(&self, alloc: Global, true_count: usize) -> Result<Vec<usize>, AllocError>
+        requires { true_count ≡ count (values self.now) }
+        ensures { IfOk result (λ indices. indices.items ≡ positions (values self.now)) }
+    {
+        let chunks = self.chunks();
+        let mut indices = Vec::with_capacity(alloc, true_count)?;
+        for i in 0..chunks.padded_len() {
+            push_indices(&mut indices, i, chunks.padded_word(i))?;
+        }
+        Ok(indices)
+    }
+}
+
+// Appends the indices of the set bits of word `i`. Within a word nothing is looked up but the word.
+#[inline]
+fn push_indices(indices: &mut Vec<usize>, i: usize, word: u64) -> Result<(), AllocError>
+    requires { 64 * i < 2 ^ 64 }
+    ensures { IfOk result (λ _. indices.new.items
+        ≡ indices.old.items ++ places_from (64 * i) (word_bits word)) }
+{
+    let mut left = word;
+    while left != 0 {
+        indices.push(64 * i + left.trailing_zeros() as usize)?;
+        left &= left - 1;
+    }
+    Ok(())
+}
 
 /// The places of a buffer's true values, ascending.
 #[derive(Drop)]

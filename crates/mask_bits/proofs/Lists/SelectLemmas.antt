@@ -57,6 +57,26 @@ count-part m i = grind (arith, part-split, count-append, count-repeated_false)
 pub count-word_more : (m : List Bool) (i : ℕ) → count (take (64 * (i + 1)) m) ≡ count (take (64 * i) m) + count (padded_part m i)
 count-word_more m i = grind (arith, take-add (64 * i) 64 m, count-append (take (64 * i) m) (take 64 (drop (64 * i) m)), count-part m i)
 
+-- the false values of the last word hold no place
+places-part : (m : List Bool) (n i : ℕ) → places_from n (padded_part m i) ≡ places_from n (take 64 (drop (64 * i) m))
+places-part m n i =
+    let rest : List Bool = drop (64 * i) m in
+    let here : List Bool = take 64 rest in
+    sym (ap (places_from n) (part-split m i)) ∙ places_from-append n here (repeated (64 - length rest) false)
+    ∙ ap (λ (ps : List ℕ). places_from n here ++ ps) (places_from-repeated_false (n + length here) (64 - length rest))
+    ∙ append-nil (places_from n here)
+
+-- the places of one more started word
+pub places-word_more : (m : List Bool) (i : ℕ) → 64 * i ≤ length m → positions (take (64 * (i + 1)) m) ≡ positions (take (64 * i) m) ++ places_from (64 * i) (padded_part m i)
+places-word_more m i within =
+    let next : 64 * (i + 1) ≡ 64 * i + 64 = omega arith in
+    let front : List Bool = take (64 * i) m in
+    let here : List Bool = take 64 (drop (64 * i) m) in
+    let len : 0 + length front ≡ 64 * i = omega (arith, length-take (64 * i) m) in
+    ap (λ n. positions (take n m)) next ∙ ap positions (take-add (64 * i) 64 m) ∙ places_from-append 0 front here
+    ∙ ap (λ k. positions front ++ places_from k here) len
+    ∙ ap (λ (ps : List ℕ). positions front ++ ps) (sym (places-part m (64 * i) i))
+
 -- true value number n of a list is number n less those passed of the word where it stands
 pub place_in_word : (m : List Bool) (i n r p : ℕ) → 64 * i ≤ length m → n ≡ count (take (64 * i) m) + r → r < count (padded_part m i) → slice_get (positions (padded_part m i)) r ≡ Some p
     → slice_get (positions m) n ≡ Some (64 * i + p)
@@ -70,8 +90,7 @@ place_in_word m i n r p within number inside at =
     = sym (ap positions (take-append-drop (64 * i) m)) ∙ places_from-append 0 front rest ∙ ap (λ k. positions front ++ places_from k rest) len
     ∙ ap (λ (xs : List Bool). positions front ++ places_from (64 * i) xs) (sym (take-append-drop 64 rest)) ∙ ap (λ (ps : List ℕ). positions front ++ ps) (places_from-append (64 * i) (take 64 rest) (drop 64 rest)) in
     let padded : here ≡ map (λ k. 64 * i + k) (positions (padded_part m i))
-    = sym (ap (places_from (64 * i)) (sym (part-split m i)) ∙ places_from-append (64 * i) (take 64 rest) (repeated (64 - length rest) false)
-    ∙ ap (λ (ps : List ℕ). here ++ ps) (places_from-repeated_false (64 * i + length (take 64 rest)) (64 - length rest)) ∙ append-nil here)
+    = sym (places-part m (64 * i) i)
     ∙ ap (λ k. places_from k (padded_part m i)) (sym (add-zero (64 * i))) ∙ places_from-moved (64 * i) 0 (padded_part m i) in
     let many : r < length here = omega (arith, ap length padded, length-moved (64 * i) (positions (padded_part m i))) in
     ap (λ (ps : List ℕ). slice_get ps n) split ∙ slice_get-right (positions front) (here ++ after) n r number ∙ slice_get-left here after r many
@@ -93,6 +112,14 @@ positions-lowest w some fits =
     (λ i h. grind (arith, get_or-word_bits v i false, bit_at-lowest_cleared w i some fits h))
     (λ i h. grind (arith, get_or-word_bits, bit_at-lowest_others w i some fits h, get_or_past, length-word_bits))
 
+-- the places of a word that stands n further on
+pub places-lowest : (n w : ℕ) → 0 < w → w < 2 ^ 64 → places_from n (word_bits w) ≡ (n + low w) ∷ places_from n (word_bits (bit_and w (w - 1)))
+places-lowest n w some fits =
+    let moved : (v : ℕ) → places_from n (word_bits v) ≡ map (λ p. n + p) (positions (word_bits v))
+    = λ v. ap (λ k. places_from k (word_bits v)) (sym (add-zero n)) ∙ places_from-moved n 0 (word_bits v) in
+    moved w ∙ ap (map (λ p. n + p)) (positions-lowest w some fits)
+    ∙ ap (λ (ps : List ℕ). (n + low w) ∷ ps) (sym (moved (bit_and w (w - 1))))
+
 -- a word of which some places are left is not 0
 pub some_left : (w k : ℕ) (ps : List ℕ) → w < 2 ^ 64 → positions (word_bits w) ≡ drop k ps → k < length ps → 0 < w
 some_left w k ps fits left h = grind (arith, ap length left, length-drop k ps, count-word_bits w fits, ones-le 0 w)
@@ -112,6 +139,14 @@ left-first w k ps fits left h =
 pub no_place : (m : List Bool) (n : ℕ) → ((i : ℕ) → get_or m i false ≡ false) → places_from n m ≡ []
 no_place [] n none = refl
 no_place (v ∷ m) n none = grind (arith, none 0, no_place m (n + 1) (λ i. none (suc i)))
+
+-- none in a word without bits
+pub places-of_none : (n : ℕ) → places_from n (word_bits 0) ≡ []
+places-of_none n = no_place (word_bits 0) n (λ i.
+    elim (cases_lt i 64) [
+      | inl inside ↦ get_or-word_bits 0 i false inside ∙ ap (λ b. nat_eq b 1) (bit_at-zero i)
+      | inr past ↦ get_or_past (word_bits 0) i false (omega (arith, length-word_bits 0))
+    ])
 
 pub last_place : (m : List Bool) (p : ℕ) → p < length m → get_or m p false ≡ true → ((i : ℕ) → p < i → get_or m i false ≡ false) → slice_get (positions m) (count m - 1) ≡ Some p
 last_place m p within holds past =

@@ -316,9 +316,7 @@ impl MaskValues {
     pub(crate) fn places(&self, alloc: Global) -> Result<Vec<usize>, AllocError>
         ensures { IfOk result (λ places. places.items ≡ positions (values self.now.buffer)) }
     {
-        let mut places = Vec::with_capacity(alloc, self.true_count)?;
-        places.extend(self.buffer.set_indices())?;
-        Ok(places)
+        self.buffer.indices(alloc, self.true_count)
     }
 
     // The maximal ranges of true indices.

@@ -24,7 +24,7 @@ returns-then-b_low-eq0 c =
 pub returns-then-agree : goal.returns-then-agree
 returns-then-agree c =
     let moved = AreSameBits-drop c.args.a.now c.args.b.now _ _ c.args.a_offset c.args.b_offset (64 * c.args.words) (take_rest c.args.a.now (c.args.a_offset / 8)) (take_rest c.args.b.now (c.args.b_offset / 8)) in
-    (λ yes. moved.0 (c.agree-then-agree.ensures.0 yes), λ same. c.agree-then-agree.ensures.1 (moved.1 same))
+    (λ yes. moved.0 (c.agree_block.ensures.0 yes), λ same. c.agree_block.ensures.1 (moved.1 same))
 
 pub returns-else-agree : goal.returns-else-agree
 returns-else-agree c =
