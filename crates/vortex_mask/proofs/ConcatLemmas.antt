@@ -1,10 +1,10 @@
 -- Lists joined one after another.
-use Rattle.std.proofs.Common.{drop, map, get_or, ◌≡◌, ℕ, ◌+◌, ◌<◌, ◌≤◌, Bool, List, [], ◌∷◌, ◌++◌, length, true, false, suc, refl, inl, inr, ap, ◌∙◌, arith}
+use Rattle.std.proofs.Common.{drop, map, get_or, ◌≡◌, ℕ, ◌+◌, ◌<◌, ◌≤◌, Bool, List, [], ◌∷◌, ◌++◌, length, true, false, suc, refl, sym, inl, inr, ap, ◌∙◌, arith}
 use Rattle.std.specs.Borrow.{Bor}
 use Rattle.std.specs.List.{All}
 use Rattle.std.proofs.lemmas.Bool.{cases_lt}
 use Rattle.std.proofs.lemmas.List.Concat.{length-flat_map}
-use Rattle.std.proofs.lemmas.List.{at_drop_more, length-append}
+use Rattle.std.proofs.lemmas.List.{append_assoc, at_drop_more, length-append}
 use Rattle.std.proofs.lemmas.List.Elements.{All-nil, All-cons, All-append}
 use Rattle.std.proofs.lemmas.List.Sums.{sum_by-cons}
 use Rattle.mask_bits.specs.Lists.{joined}
@@ -59,6 +59,15 @@ joined_so_far made masks i mask is h list =
     let next = at_drop_more (λ (ms : List (Bor Mask)). length (joined (lists_of ms))) masks i mask h in
     let same = ap (λ (m : Bor Mask). length (truth m.now)) is in
     omega (arith, ap length list, length-append made (joined (lists_of (drop i masks))), next, same, length-append (truth (get_or masks i mask).now) (joined (lists_of (drop (i + 1) masks))), length-joined (lists_of masks))
+
+-- and where that one is joined too
+pub joined-next : (made : List Bool) (masks : List (Bor Mask)) (i : ℕ) (mask : Bor Mask) → mask ≡ get_or masks i mask → i < length masks
+    → made ++ joined (lists_of (drop i masks)) ≡ joined (lists_of masks) → (made ++ truth mask.now) ++ joined (lists_of (drop (i + 1) masks)) ≡ joined (lists_of masks)
+joined-next made masks i mask is h list =
+    append_assoc made (truth mask.now) (joined (lists_of (drop (i + 1) masks)))
+    ∙ ap (λ (m : Bor Mask). made ++ (truth m.now ++ joined (lists_of (drop (i + 1) masks)))) is
+    ∙ sym (at_drop_more (λ (ms : List (Bor Mask)). made ++ joined (lists_of ms)) masks i mask h)
+    ∙ list
 
 -- the lists of masks that are lent are those of the masks
 pub lists_of-lent : (masks : List (Bor Mask)) → lists_of masks ≡ map truth (map (λ mask. mask.now) masks)

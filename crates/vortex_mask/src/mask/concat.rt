@@ -6,6 +6,7 @@ ghost use Rattle.std.specs.Iterator.{IsFinite, Drains};
 ghost use Rattle.std.specs.Iterator.Runs.{WholeRun};
 ghost use Rattle.mask_bits.specs.Buffer.{values};
 ghost use Rattle.mask_bits.specs.Lists.{joined};
+ghost use Rattle.mask_bits.specs.Positions.{count};
 ghost use Rattle.vortex_mask.specs.Concat.{lists_of, total_len, Joins, AreAll};
 ghost use Rattle.vortex_mask.specs.Mask.{truth, variant, fitting_variant, all_true, caches};
 ghost use Rattle.vortex_mask.specs.MaskValues.{no_caches};
@@ -85,8 +86,8 @@ impl Mask {
         if all_false(masks) {
             return Ok(Mask::AllFalse(len));
         }
-        let buffer = buffer_of(alloc, len, masks)?;
-        Mask::from_buffer(alloc, buffer)
+        let (buffer, true_count) = buffer_of(alloc, len, masks)?;
+        Mask::from_counted_buffer(alloc, buffer, true_count, None)
     }
 }
 
@@ -116,16 +117,20 @@ fn total_len(masks: &[&Mask]) -> Option<usize>
     Some(total)
 }
 
-// The masks' values one after another, of which there are `len`.
-fn buffer_of(alloc: Global, len: usize, masks: &[&Mask]) -> Result<BitBuffer, AllocError>
+// The masks' values one after another, of which there are `len`, and how many are true: the masks
+// know their counts, so no value is counted again.
+fn buffer_of(alloc: Global, len: usize, masks: &[&Mask]) -> Result<(BitBuffer, usize), AllocError>
     requires { total_len (lists_of masks.now) ≡ len }
-    ensures { IfOk result (λ b. values b ≡ joined (lists_of masks.now)) }
+    ensures list { IfOk result (λ r. values r.0 ≡ joined (lists_of masks.now)) }
+    ensures counted { IfOk result (λ r. r.1 ≡ count (values r.0)) }
 {
     let mut buffer = BitBufferMut::with_capacity(alloc, len)?;
+    let mut true_count = 0;
     for mask in masks {
         append(&mut buffer, mask)?;
+        true_count += mask.true_count();
     }
-    buffer.freeze()
+    Ok((buffer.freeze()?, true_count))
 }
 
 fn append(buffer: &mut BitBufferMut, mask: &Mask) -> Result<(), AllocError>

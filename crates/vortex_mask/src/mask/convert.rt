@@ -6,6 +6,7 @@ ghost use Rattle.std.specs.Iterator.Runs.{WholeRun};
 ghost use Rattle.std.specs.Option.{option_map};
 ghost use Rattle.vortex_mask.specs.AllOr.{all_or_copied, IsListOf};
 ghost use Rattle.mask_bits.specs.Buffer.{values};
+ghost use Rattle.mask_bits.specs.Positions.{count};
 ghost use Rattle.vortex_mask.specs.Mask.{truth, variant, fitting_variant, all_false, mixed, IsUniform, held_buffer, caches, where_mixed};
 ghost use Rattle.vortex_mask.specs.MaskValues.{no_caches, AreOf, kept_ranges};
 ghost use Rattle.vortex_mask.specs.declared.mask.Mask.TheVariants.{AllTrue};
@@ -28,7 +29,8 @@ impl Mask {
         ensures uniform { IsUniform (values buffer) → IsOk result }
         ensures refused { IsOkUnless result (MaskError.Memory alloc_error) }
     {
-        Mask::from_buffer_with_runs(alloc, buffer, None)
+        let true_count = buffer.true_count();
+        Mask::from_counted_buffer(alloc, buffer, true_count, None)
     }
 
     /// The values of a buffer, whose true indices these ranges hold. Where some values are true and
@@ -48,16 +50,20 @@ impl Mask {
         ensures refused { IsOkUnless result (MaskError.Memory alloc_error) }
     {
         merge_touching(&mut ranges);
-        Mask::from_buffer_with_runs(alloc, buffer, Some(ranges))
+        let true_count = buffer.true_count();
+        Mask::from_counted_buffer(alloc, buffer, true_count, Some(ranges))
     }
 
-    // The values of a buffer, which keep these ranges, its runs, where they are mixed.
-    fn from_buffer_with_runs(
+    // The values of a buffer, of which `true_count` are true. Where they are mixed they keep these
+    // ranges, the buffer's runs.
+    pub(crate) fn from_counted_buffer(
         alloc: Global,
         buffer: BitBuffer,
+        true_count: usize,
         ranges: Option<Vec<(usize, usize)>>,
     ) -> Result<Mask, MaskError>
-        requires { AreOf (values buffer) (record { indices = None; ranges = option_map (λ l. l.items) ranges }) }
+        requires counted { true_count ≡ count (values buffer) }
+        requires ranges { AreOf (values buffer) (record { indices = None; ranges = option_map (λ l. l.items) ranges }) }
         ensures list { IfOk result (λ m. truth m ≡ values buffer) }
         ensures variant { IfOk result (λ m. variant m ≡ fitting_variant all_false (values buffer)) }
         ensures caches { IfOk result (λ m. caches m
@@ -66,7 +72,6 @@ impl Mask {
         ensures refused { IsOkUnless result (MaskError.Memory alloc_error) }
     {
         let len = buffer.len();
-        let true_count = buffer.true_count();
         if true_count == 0 {
             return Ok(Mask::AllFalse(len));
         }

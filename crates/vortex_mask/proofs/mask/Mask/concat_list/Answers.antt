@@ -33,6 +33,6 @@ returns-clause-variant c =
     let not_all : ¬ (AreAll true c.args.masks.now) = λ all. absurd (cc (c.all_true.ensures.1 all, c.if-all_true.false)) in
     let m : List Bool = values c.in_ok-buffer.buffer in
     let lists = lists_of c.args.masks.now in
-    let some : 0 < length m = omega (arith, ap length c.in_ok-buffer.ensures, length-joined lists, some_values true c.args.masks.now not_all) in
-    IfOk-both c.from_buffer.result _ _ _ (λ r list held.
-    held ∙ fitting_variant-nonempty all_false all_true m some ∙ ap (fitting_variant all_true) (sym list)) c.from_buffer.ensures.list c.from_buffer.ensures.variant
+    let some : 0 < length m = omega (arith, ap length c.in_ok-buffer.ensures.list, length-joined lists, some_values true c.args.masks.now not_all) in
+    IfOk-both c.from_counted_buffer.result _ _ _ (λ r list held.
+    held ∙ fitting_variant-nonempty all_false all_true m some ∙ ap (fitting_variant all_true) (sym list)) c.from_counted_buffer.ensures.list c.from_counted_buffer.ensures.variant

@@ -5,7 +5,7 @@ use Rattle.mask_bits.specs.Positions.{repeated}
 use Rattle.mask_bits.proofs.Lists.CountLemmas.{all_true_from_count, all_false_from_count}
 use Rattle.vortex_mask.proofs.MaskLemmas.{fitting_variant-all, fitting_variant-all_false, fitting_variant-some}
 use Rattle.mask_bits.proofs.Lists.PlaceLemmas.{length-places_from}
-use Rattle.vortex_mask.proofs.mask.Mask.from_buffer_with_runs.Goals as goal
+use Rattle.vortex_mask.proofs.mask.Mask.from_counted_buffer.Goals as goal
 
 pub returns-then-true_count-eq0-clause-list : goal.returns-then-true_count-eq0-clause-list
 unfolding repeated
@@ -24,25 +24,25 @@ returns-then-true_count-len-clause-list c =
 
 pub returns-then-true_count-len-clause-variant : goal.returns-then-true_count-len-clause-variant
 returns-then-true_count-len-clause-variant c =
-    let some : c.true_count-true_count.result ≢ 0 = c.if-true_count-eq0.false in
+    let some : c.args.true_count ≢ 0 = c.if-true_count-eq0.false in
     sym (fitting_variant-all all_false (values c.args.buffer) (omega arith) (omega arith))
 
 pub new-values-requires : goal.new-values-requires
 new-values-requires c =
-    let some : c.true_count-true_count.result ≢ 0 = c.if-true_count-eq0.false in
-    let not_all : c.true_count-true_count.result ≢ c.len-len.result = c.if-true_count-len.false in
+    let some : c.args.true_count ≢ 0 = c.if-true_count-eq0.false in
+    let not_all : c.args.true_count ≢ c.len-len.result = c.if-true_count-len.false in
     record {
       mixed = record {
-        counted = c.true_count-true_count.ensures.counted;
+        counted = c.requires.counted;
         some_true = omega arith;
         some_false = omega (arith, length-places_from 0 (values c.args.buffer));
       };
-      caches = c.requires;
+      caches = c.requires.ranges;
     }
 
 pub returns-clause-variant : goal.returns-clause-variant
 returns-clause-variant c =
     let m = values c.args.buffer in
-    let some : c.true_count-true_count.result ≢ 0 = c.if-true_count-eq0.false in
-    let not_all : c.true_count-true_count.result ≢ c.len-len.result = c.if-true_count-len.false in
+    let some : c.args.true_count ≢ 0 = c.if-true_count-eq0.false in
+    let not_all : c.args.true_count ≢ c.len-len.result = c.if-true_count-len.false in
     sym (fitting_variant-some all_false m (omega arith) (omega (arith, length-places_from 0 m)))
