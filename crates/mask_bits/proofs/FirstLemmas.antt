@@ -14,10 +14,8 @@ pub passed_more : (b : Packed) (bytes : List ℕ) (from place k : ℕ) (other : 
     → ((i : ℕ) → from ≤ i → i < place → get_or (values b) i false ≡ other)
     → ((j : ℕ) → j < k → backing_bit bytes (b.offset + place + j) ≡ other)
     → (i : ℕ) → from ≤ i → i < place + k → get_or (values b) i false ≡ other
-passed_more b bytes from place k other same within so_far more i low high = elim (cases_lt i place) [
-  | inl before ↦ so_far i low before
-  | inr past ↦ at_place b bytes place (i - place) i same (omega arith) (omega arith) ∙ more (i - place) (omega arith)
-]
+passed_more b bytes from place k other same within so_far more i low high =
+    grind (arith, so_far i low, at_place b bytes place (i - place) i same, more (i - place))
 
 -- the first place, where the values up to it are others: the value stands there, or it is the end
 pub first_place : (b : Packed) (bytes : List ℕ) (from place run k : ℕ) (value : Bool) → bytes ≡ b.bytes → from ≤ place → k ≡ min run (length (values b) - place) → place ≤ length (values b)

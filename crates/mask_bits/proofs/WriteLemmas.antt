@@ -40,10 +40,6 @@ written-front a b at n m place w =
 pub written-clear : (a b : List ℕ) (at n : ℕ) (m : List Bool) → n ≡ at + length m → IsWrittenBehind a b at m → AreClearFrom n b
 written-clear a b at n m place w = λ p h. grind (arith, w.comes (p - at), get_or_past m (p - at) false)
 
--- nothing is written
-pub written-none : (a : List ℕ) (at : ℕ) → AreClearFrom at a → IsWrittenBehind a a at []
-written-none a at clear = record { stays = λ p h. refl; comes = λ i. clear (at + i) (omega arith) }
-
 -- ---- a word
 
 -- what a shift leaves, past its end too

@@ -64,9 +64,4 @@ bit-window bytes p w j shows h = grind (arith, get_or-word_bits w j false h, get
 
 -- ---- words of a part of a buffer's list, from any value on
 
--- a window is 64 bits
-pub window-bits_at : (bytes : List ℕ) (p : ℕ) → window bytes p ≡ bits_at bytes p 64
-unfolding window values
-window-bits_at bytes p = refl
-
 -- ---- a list that is written word by word

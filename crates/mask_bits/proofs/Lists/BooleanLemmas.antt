@@ -5,61 +5,16 @@ use Rattle.mask_bits.specs.Lists.{combined, and_of, or_of, not_of, and_not_of}
 use Rattle.mask_bits.specs.Positions.{count, rank_intersection, repeated}
 use Rattle.mask_bits.proofs.Lists.PlaceLemmas.{trues, count-trues}
 use Rattle.mask_bits.proofs.Lists.RankLemmas.{narrow, rank_intersection-narrow}
+use Rattle.std.proofs.Math.Bool.{and_comm, or_comm, and_assoc, or_assoc, and-or_distrib_left, or-and_distrib_left, and-not_self, or-not_self}
 
 -- ---- truth values
-
-and_commutes : (x y : Bool) → (x && y) ≡ (y && x)
-and_commutes true true = refl
-and_commutes true false = refl
-and_commutes false true = refl
-and_commutes false false = refl
-
-or_commutes : (x y : Bool) → (x || y) ≡ (y || x)
-or_commutes true true = refl
-or_commutes true false = refl
-or_commutes false true = refl
-or_commutes false false = refl
-
-and_regroups : (x y z : Bool) → ((x && y) && z) ≡ (x && (y && z))
-and_regroups true y z = refl
-and_regroups false y z = refl
-
-or_regroups : (x y z : Bool) → ((x || y) || z) ≡ (x || (y || z))
-or_regroups true y z = refl
-or_regroups false y z = refl
-
-and_over_or : (x y z : Bool) → (x && (y || z)) ≡ ((x && y) || (x && z))
-and_over_or true y z = refl
-and_over_or false y z = refl
-
-or_over_and : (x y z : Bool) → (x || (y && z)) ≡ ((x || y) && (x || z))
-or_over_and true y z = refl
-or_over_and false y z = refl
-
-and_absorbs : (x y : Bool) → (x && (x || y)) ≡ x
-and_absorbs true y = refl
-and_absorbs false y = refl
-
-or_absorbs : (x y : Bool) → (x || (x && y)) ≡ x
-or_absorbs true y = refl
-or_absorbs false true = refl
-or_absorbs false false = refl
-
-none_is_both : (x : Bool) → (x && not x) ≡ false
-none_is_both true = refl
-none_is_both false = refl
-
-each_is_one : (x : Bool) → (x || not x) ≡ true
-each_is_one true = refl
-each_is_one false = refl
 
 -- ---- at each place
 
 combined-commutes : (f : Bool → Bool → Bool) → ((x y : Bool) → f x y ≡ f y x) → (a b : List Bool) → combined f a b ≡ combined f b a
 combined-commutes f same [] [] = refl
 combined-commutes f same [] (y ∷ b) = refl
-combined-commutes f same (x ∷ a) [] = refl
-combined-commutes f same (x ∷ a) (y ∷ b) = grind (arith, combined-commutes f same a b)
+combined-commutes f same (x ∷ a) b = grind (arith, combined-commutes f same a)
 
 combined-regroups : (f : Bool → Bool → Bool) → ((x y z : Bool) → f (f x y) z ≡ f x (f y z)) → (a b c : List Bool) → combined f (combined f a b) c ≡ combined f a (combined f b c)
 combined-regroups f same [] b c = refl
@@ -68,8 +23,7 @@ combined-regroups f same (v ∷ a) b c = grind (arith, combined-regroups f same 
 combined-distributes : (f g : Bool → Bool → Bool) → ((x y z : Bool) → f x (g y z) ≡ g (f x y) (f x z)) → (a b c : List Bool) → combined f a (combined g b c) ≡ combined g (combined f a b) (combined f a c)
 combined-distributes f g same [] b c = refl
 combined-distributes f g same (x ∷ a) [] c = refl
-combined-distributes f g same (x ∷ a) (y ∷ b) [] = refl
-combined-distributes f g same (x ∷ a) (y ∷ b) (z ∷ c) = grind (arith, combined-distributes f g same a b c)
+combined-distributes f g same (x ∷ a) (y ∷ b) c = grind (arith, combined-distributes f g same a b)
 
 combined-absorbs : (f g : Bool → Bool → Bool) → ((x y : Bool) → f x (g x y) ≡ x) → (a b : List Bool) → length a ≡ length b → combined f a (combined g a b) ≡ a
 combined-absorbs f g same [] b len = refl
@@ -133,33 +87,27 @@ not_of-repeated (suc n) v = ap (λ (xs : List Bool). not v ∷ xs) (not_of-repea
 -- ---- the laws
 
 pub and_is_free_of_order : IsFreeOfOrder and_of
-and_is_free_of_order = record {
-  commutes = combined-commutes (λ x y. x && y) and_commutes;
-  regroups = combined-regroups (λ x y. x && y) and_regroups;
-}
+and_is_free_of_order = record { commutes = combined-commutes (λ x y. x && y) and_comm; regroups = combined-regroups (λ x y. x && y) and_assoc }
 
 pub or_is_free_of_order : IsFreeOfOrder or_of
-or_is_free_of_order = record {
-  commutes = combined-commutes (λ x y. x || y) or_commutes;
-  regroups = combined-regroups (λ x y. x || y) or_regroups;
-}
+or_is_free_of_order = record { commutes = combined-commutes (λ x y. x || y) or_comm; regroups = combined-regroups (λ x y. x || y) or_assoc }
 
 pub and_distributes : DistributesOver and_of or_of
-and_distributes = combined-distributes (λ x y. x && y) (λ x y. x || y) and_over_or
+and_distributes = combined-distributes (λ x y. x && y) (λ x y. x || y) and-or_distrib_left
 
 pub or_distributes : DistributesOver or_of and_of
-or_distributes = combined-distributes (λ x y. x || y) (λ x y. x && y) or_over_and
+or_distributes = combined-distributes (λ x y. x || y) (λ x y. x && y) or-and_distrib_left
 
 pub and_absorbs_or : Absorbs and_of or_of
-and_absorbs_or = combined-absorbs (λ x y. x && y) (λ x y. x || y) and_absorbs
+and_absorbs_or = combined-absorbs (λ x y. x && y) (λ x y. x || y) (λ x y. grind arith)
 
 pub or_absorbs_and : Absorbs or_of and_of
-or_absorbs_and = combined-absorbs (λ x y. x || y) (λ x y. x && y) or_absorbs
+or_absorbs_and = combined-absorbs (λ x y. x || y) (λ x y. x && y) (λ x y. grind arith)
 
 pub complements : HasComplements
 complements = record {
-  none_is_both = combined-not (λ x y. x && y) false none_is_both;
-  each_is_one = combined-not (λ x y. x || y) true each_is_one;
+  none_is_both = combined-not (λ x y. x && y) false and-not_self;
+  each_is_one = combined-not (λ x y. x || y) true or-not_self;
   twice = not_not;
 }
 

@@ -12,7 +12,7 @@ use Rattle.mask_bits.specs.Runs.{is_inside}
 use Rattle.mask_bits.proofs.Lists.CountLemmas.{length-repeated}
 use Rattle.mask_bits.proofs.Lists.PartLemmas.{part_of_repeated}
 use Rattle.mask_bits.proofs.Lists.PlaceLemmas.{trues, count-trues, positions-within}
-use Rattle.mask_bits.proofs.Lists.RunLemmas.{inside, inside-before, inside-past}
+use Rattle.mask_bits.proofs.Lists.RunLemmas.{inside, inside-past}
 
 -- one item in front that passes, or does not
 counted : (p : ℕ → Bool) (x : ℕ) (xs : List ℕ) → p x ≡ true → count_by p (x ∷ xs) ≡ suc (count_by p xs)

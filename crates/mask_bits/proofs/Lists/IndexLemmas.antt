@@ -20,11 +20,9 @@ Rising-low low high zero d (p ∷ ps) r h = r.0
 Rising-low low high (suc k) d (p ∷ ps) r h = omega (arith, r.0, Rising-low (p + 1) high k d ps r.2 (omega arith))
 
 Rising-first : (low high : ℕ) (ps : List ℕ) (k p q : ℕ) → Rising low high ps → slice_get ps 0 ≡ Some p → slice_get ps k ≡ Some q → p ≤ q
-Rising-first low high ps zero p q r first at =
-    omega (arith, get_or_from_slice_get ps 0 p 0 first, get_or_from_slice_get ps 0 q 0 at)
-Rising-first low high [] (suc k) p q r first at = let none : List ℕ = [] in absurd (omega (arith, slice_get_within none 0 p first))
-Rising-first low high (x ∷ ps) (suc k) p q r first at =
-    omega (arith, get_or_from_slice_get (x ∷ ps) 0 p 0 first, get_or_from_slice_get (x ∷ ps) (suc k) q 0 at, Rising-low (x + 1) high k 0 ps r.2 (omega (arith, slice_get_within (x ∷ ps) (suc k) q at)))
+Rising-first low high [] k p q r first at = absurd (omega (arith, slice_get_within {A = ℕ} [] 0 p first))
+Rising-first low high (x ∷ ps) k p q r first at =
+    grind (arith, get_or_from_slice_get (x ∷ ps) 0 p 0 first, get_or_from_slice_get (x ∷ ps) k q 0 at, Rising-low (x + 1) high (k - 1) 0 ps r.2, slice_get_within (x ∷ ps) k q at)
 
 pub positions_ascend : PositionsAscend
 positions_ascend = positions-ascending
@@ -41,10 +39,8 @@ count_below_the_first m = refl
 trues-next : (m : List Bool) (i : ℕ) → trues (take (suc i) m) ≡ trues (take i m) + cond (get_or m i false) 1 0
 trues-next [] zero = refl
 trues-next [] (suc i) = refl
-trues-next (true ∷ m) zero = refl
-trues-next (false ∷ m) zero = refl
-trues-next (true ∷ m) (suc i) = omega (arith, trues-next m i)
-trues-next (false ∷ m) (suc i) = trues-next m i
+trues-next (v ∷ m) zero = grind arith
+trues-next (v ∷ m) (suc i) = grind (arith, trues-next m i)
 
 pub count_below_the_next : CountBelowTheNext
 count_below_the_next m i = grind (arith, count-trues, trues-next)

@@ -1,5 +1,5 @@
 -- The laws of rank intersection and of choosing, by recursion on the first list.
-use Rattle.std.proofs.Common.{◌≡◌, ℕ, zero, suc, ◌&&◌, Bool, true, false, List, [], ◌∷◌, length, get_or, take, map, slice_get, refl, sym, ap, ◌∙◌, arith}
+use Rattle.std.proofs.Common.{◌≡◌, ℕ, zero, suc, ◌&&◌, Bool, true, false, List, [], ◌∷◌, length, get_or, take, map, slice_get, refl, sym, ap, ◌∙◌, arith, ap₂}
 use Rattle.std.specs.List.{cons_option, filter_map, items_where_true}
 use Rattle.std.proofs.lemmas.List.{get_or-map}
 use Rattle.mask_bits.specs.Laws.{PositionsDetermineList, RankIntersectionIsTheList, RankIntersectionValue, ChoosingTwice, RankIntersectionAssociative, AllTrueLeftUnit, AllTrueRightUnit, RankIntersectionCount, RankIntersectionPosition, FoldingKeepsAStack}
@@ -17,8 +17,7 @@ true_at-positions [] = refl
 true_at-positions (v ∷ m) = grind (arith, true_at-positions m, positions-true, true_at-zero_suc, positions-false, true_at-suc)
 
 pub positions_determine_list : PositionsDetermineList
-positions_determine_list a b len places =
-    sym (true_at-positions a) ∙ ap (λ n. true_at n (positions a)) len ∙ ap (true_at (length b)) places ∙ true_at-positions b
+positions_determine_list a b len places = sym (true_at-positions a) ∙ ap₂ true_at len places ∙ true_at-positions b
 
 -- ---- the true places of a rank intersection
 
@@ -64,18 +63,13 @@ pub chosen-items_where_true : {X : Type 0} (rows : List X) (m : List Bool) → c
 unfolding chosen
 chosen-items_where_true rows [] = refl
 chosen-items_where_true {X} [] (v ∷ m) = filter_map-none {X = X} (positions (v ∷ m))
-chosen-items_where_true {X} (r ∷ rows) (true ∷ m) =
-    ap (filter_map (λ i. slice_get (r ∷ rows) i)) (positions-true m)
-    ∙ ap (λ (xs : List X). r ∷ xs) (filter_map-map_suc r rows (positions m) ∙ chosen-items_where_true rows m)
-chosen-items_where_true (r ∷ rows) (false ∷ m) =
-    ap (filter_map (λ i. slice_get (r ∷ rows) i)) (positions-false m) ∙ filter_map-map_suc r rows (positions m) ∙ chosen-items_where_true rows m
+chosen-items_where_true {X} (r ∷ rows) (v ∷ m) = grind (arith, positions-true m, positions-false m, filter_map-map_suc r rows (positions m), chosen-items_where_true rows m)
 
 length-items_where_true : {X : Type 0} (rows : List X) (m : List Bool) → length rows ≡ length m → length (items_where_true m rows) ≡ trues m
 length-items_where_true [] [] len = refl
 length-items_where_true [] (v ∷ m) len = absurd (omega arith)
 length-items_where_true (r ∷ rows) [] len = absurd (omega arith)
-length-items_where_true (r ∷ rows) (true ∷ m) len = ap suc (length-items_where_true rows m (omega arith))
-length-items_where_true (r ∷ rows) (false ∷ m) len = length-items_where_true rows m (omega arith)
+length-items_where_true (r ∷ rows) (v ∷ m) len = grind (arith, length-items_where_true rows m)
 
 -- as many rows are chosen as values are true
 pub length-chosen : {X : Type 0} (rows : List X) (m : List Bool) → length rows ≡ length m → length (chosen rows m) ≡ count m
@@ -86,10 +80,7 @@ items_where_true-narrow [] [] [] len fits = refl
 items_where_true-narrow [] [] (v ∷ b) len fits = absurd (omega arith)
 items_where_true-narrow [] (v ∷ a) b len fits = absurd (omega arith)
 items_where_true-narrow (r ∷ rows) [] b len fits = absurd (omega arith)
-items_where_true-narrow (r ∷ rows) (false ∷ a) b len fits = items_where_true-narrow rows a b (omega arith) fits
-items_where_true-narrow (r ∷ rows) (true ∷ a) [] len fits = absurd (omega arith)
-items_where_true-narrow {X} (r ∷ rows) (true ∷ a) (true ∷ b) len fits = grind (arith, items_where_true-narrow rows a b (omega arith) (omega arith))
-items_where_true-narrow (r ∷ rows) (true ∷ a) (false ∷ b) len fits = items_where_true-narrow rows a b (omega arith) (omega arith)
+items_where_true-narrow (r ∷ rows) (v ∷ a) b len fits = grind (arith, items_where_true-narrow rows a)
 
 pub choosing_twice : (X : Type 0) → ChoosingTwice X
 choosing_twice X rows a b len fits = grind (arith, rank_intersection-narrow, chosen-items_where_true, items_where_true-narrow, count-trues)
@@ -99,10 +90,7 @@ choosing_twice X rows a b len fits = grind (arith, rank_intersection-narrow, cho
 trues-narrow : (a b : List Bool) → length b ≡ trues a → trues (narrow a b) ≡ trues b
 trues-narrow [] [] fits = refl
 trues-narrow [] (v ∷ b) fits = absurd (omega arith)
-trues-narrow (false ∷ a) b fits = trues-narrow a b fits
-trues-narrow (true ∷ a) [] fits = absurd (omega arith)
-trues-narrow (true ∷ a) (true ∷ b) fits = ap suc (trues-narrow a b (omega arith))
-trues-narrow (true ∷ a) (false ∷ b) fits = trues-narrow a b (omega arith)
+trues-narrow (v ∷ a) b fits = grind (arith, trues-narrow a)
 
 pub rank_intersection_count : RankIntersectionCount
 rank_intersection_count a b fits = grind (arith, rank_intersection-narrow, count-trues, trues-narrow)
@@ -139,6 +127,4 @@ folding_keeps_a_stack a b (c ∷ ms) stack = (stack.1.0 ∙ sym (rank_intersecti
 
 -- where the second chooses nothing, nothing stays
 pub rank_intersection-none : (a b : List Bool) → length b ≡ count a → count b ≡ 0 → rank_intersection a b ≡ repeated (length a) false
-rank_intersection-none a b fits none =
-    all_false_from_count 0 (rank_intersection a b) (rank_intersection_count a b fits ∙ none)
-    ∙ ap (λ n. repeated n false) (length-rank_intersection a b)
+rank_intersection-none a b fits none = grind (arith, all_false_from_count 0 (rank_intersection a b), rank_intersection_count, length-rank_intersection a b)

@@ -21,9 +21,6 @@ length-kept : (m : List Bool) (k : ℕ) → length (kept m k) ≡ length m
 length-kept [] k = refl
 length-kept (v ∷ m) k = grind (arith, length-kept m)
 
-and_none : (v : Bool) (n : ℕ) → (v && nat_lt n 0) ≡ (v && nat_lt (suc n) 0)
-and_none v n = ap (λ b. v && b) (le-ltb n 0 (omega arith) ∙ sym (le-ltb (suc n) 0 (omega arith)))
-
 get_or-kept : (m : List Bool) (k i : ℕ) → get_or (kept m k) i false ≡ (get_or m i false && nat_lt (trues (take i m)) k)
 get_or-kept [] k i = refl
 get_or-kept (v ∷ m) k i = grind (arith, get_or-kept m)
@@ -39,10 +36,7 @@ get_or-limited m k i d h = get_or-map-range_with_len (λ j. get_or m j false && 
 
 pub limited-kept : (m : List Bool) (k : ℕ) → limited m k ≡ kept m k
 limited-kept m k =
-    ext_get_or false (limited m k) (kept m k) (length-limited m k ∙ sym (length-kept m k)) (λ i h.
-    get_or-limited m k i false (omega (arith, length-limited m k))
-    ∙ ap (λ n. get_or m i false && nat_lt n k) (count-trues (take i m))
-    ∙ sym (get_or-kept m k i))
+    ext_get_or false (limited m k) (kept m k) (length-limited m k ∙ sym (length-kept m k)) (λ i h. grind (arith, get_or-limited m k i false, length-limited m k, count-trues (take i m), get_or-kept m k i))
 
 kept-kept : (m : List Bool) (k j : ℕ) → kept (kept m k) j ≡ kept m (min k j)
 kept-kept [] k j = refl
@@ -65,7 +59,7 @@ limit_count = record { len = length-limited; count = count-limited }
 
 trues-below_place : (m : List Bool) (n : ℕ) → n < trues m → trues (take (get_or (positions m) n 0) m) ≡ n
 trues-below_place [] n h = absurd (omega arith)
-trues-below_place (true ∷ m) zero h = ap (λ (ps : List ℕ). trues (take (get_or ps 0 0) (true ∷ m))) (positions-true m)
+trues-below_place (true ∷ m) zero h = grind (arith, positions-true)
 trues-below_place (true ∷ m) (suc n) h = grind (arith, trues-below_place m n (omega arith), positions-true, get_or-map, count-trues)
 trues-below_place (false ∷ m) n h = grind (arith, trues-below_place m n h, positions-false, get_or-map, count-trues)
 
@@ -89,22 +83,14 @@ kept-all (v ∷ m) k h = grind (arith, kept-all m)
 abbrev cut_at : List Bool → ℕ → List Bool
 cut_at m p = take p m ++ repeated (length m - p) false
 
-cut_at-next : (v : Bool) (m : List Bool) (p : ℕ) → v ∷ cut_at m p ≡ cut_at (v ∷ m) (suc p)
-cut_at-next v m p = grind arith
-
 kept-cut : (m : List Bool) (k : ℕ) → k < trues m → kept m k ≡ cut_at m (get_or (positions m) k 0)
 unfolding repeated
 kept-cut [] k h = absurd (omega arith)
 kept-cut (true ∷ m) zero h =
-    let rest : suc (length m) ≡ suc (length m) - 0 = omega arith in
-    ap (λ (xs : List Bool). false ∷ xs) (kept-none m) ∙ ap (λ n. repeated n false) rest ∙ sym (ap (λ (ps : List ℕ). cut_at (true ∷ m) (get_or ps 0 0)) (positions-true m))
-kept-cut (true ∷ m) (suc k) h =
-    let below : k < trues m = omega arith in
-    ap (λ (xs : List Bool). true ∷ xs) (kept-cut m k below) ∙ cut_at-next true m (get_or (positions m) k 0)
-    ∙ sym (ap (cut_at (true ∷ m)) (ap (λ (ps : List ℕ). get_or ps (suc k) 0) (positions-true m) ∙ get_or-map suc (positions m) k 0 0 (omega (arith, count-trues m))))
-kept-cut (false ∷ m) k h =
-    ap (λ (xs : List Bool). false ∷ xs) (kept-cut m k h) ∙ cut_at-next false m (get_or (positions m) k 0)
-    ∙ sym (ap (cut_at (false ∷ m)) (ap (λ (ps : List ℕ). get_or ps k 0) (positions-false m) ∙ get_or-map suc (positions m) k 0 0 (omega (arith, count-trues m))))
+    let rest : suc (length m) - 0 ≡ suc (length m) = omega arith in
+    grind (arith, kept-none m, positions-true m, ap (λ n. repeated n false) rest)
+kept-cut (true ∷ m) (suc k) h = grind (arith, kept-cut m k (omega arith), positions-true m, get_or-map suc (positions m) k 0 0, count-trues m)
+kept-cut (false ∷ m) k h = grind (arith, kept-cut m k h, positions-false m, get_or-map suc (positions m) k 0 0, count-trues m)
 
 pub limited-none : (m : List Bool) → limited m 0 ≡ repeated (length m) false
 limited-none m = limited-kept m 0 ∙ kept-none m

@@ -39,9 +39,6 @@ less_above (suc z) n (suc i) some set clear h =
     let rest = less_above z (n / 2) i (omega arith) (sym (bit_at-suc n z) ∙ set) (λ j l. sym (bit_at-suc n j) ∙ clear (suc j) (omega arith)) (omega arith) in
     grind (arith, bit_at-suc (n - 1) i, half_less n some even, rest, bit_at-suc n i)
 
-half_more : (n : ℕ) → n % 2 ≡ 0 → (n + 1) / 2 ≡ n / 2
-half_more n even = omega arith
-
 half_more_odd : (n : ℕ) → n % 2 ≡ 1 → (n + 1) / 2 ≡ n / 2 + 1
 half_more_odd n odd = omega arith
 

@@ -1,9 +1,9 @@
 -- The places of true values, over lists.
-use Rattle.std.proofs.Common.{◌≡◌, ℕ, zero, suc, ◌+◌, ◌<◌, ◌≤◌, Bool, true, false, List, [], ◌∷◌, length, get_or, take, drop, map, Some, slice_get, refl, sym, ap, subst, ◌∙◌, arith, add-one, inl, inr, nat_eq, ◌||◌}
+use Rattle.std.proofs.Common.{◌≡◌, ℕ, zero, suc, ◌+◌, ◌<◌, ◌≤◌, Bool, true, false, List, [], ◌∷◌, length, get_or, take, drop, map, Some, slice_get, refl, sym, ap, subst, ◌∙◌, arith, add-one, inl, inr, nat_eq, ◌||◌, ◌-◌}
 use Rattle.std.proofs.lemmas.Bool.{cases_order, eq-eqb, ne_eqb}
 use Rattle.std.specs.List.{All}
 use Rattle.std.proofs.lemmas.List.Elements.{All-nil, All-cons, All-weaker, All-map, All-head, All-tail}
-use Rattle.std.proofs.lemmas.List.{get_or-take, get_or_past, length-take}
+use Rattle.std.proofs.lemmas.List.{get_or-take, get_or_past, length-take, get_or-map, length-map}
 use Rattle.mask_bits.specs.Positions.{places_from, positions, count}
 use Rattle.std.specs.Option.{IfSome}
 
@@ -12,13 +12,9 @@ pub length-places_from : (n : ℕ) (m : List Bool) → length (places_from n m) 
 length-places_from n [] = omega arith
 length-places_from n (v ∷ m) = grind (arith, length-places_from (n + 1) m)
 
--- what is left from an element on
-drop_at : {X : Type 0} → (xs : List X) (i : ℕ) (x : X) → slice_get xs i ≡ Some x → drop i xs ≡ x ∷ drop (suc i) xs
-drop_at [] i x e = cc
-drop_at (v ∷ ys) i x e = grind (arith, drop_at ys)
-
 pub drop-slice_get : {X : Type 0} → (xs : List X) (i : ℕ) (x : X) → slice_get xs i ≡ Some x → drop i xs ≡ x ∷ drop (i + 1) xs
-drop-slice_get xs i x e = rw add-one (drop_at xs i x e)
+drop-slice_get [] i x e = cc
+drop-slice_get (v ∷ ys) i x e = grind (arith, drop-slice_get ys)
 
 -- a list cut at n reads false from n on
 get_or-take_past : (m : List Bool) (n p : ℕ) → n ≤ p → get_or (take n m) p false ≡ false
@@ -60,12 +56,7 @@ count-trues m = length-places_from-trues 0 m
 -- each place is one of the list's
 pub positions-within : (m : List Bool) → All (λ p. p < length m) (positions m)
 positions-within [] = All-nil (λ p. p < 0)
-positions-within (true ∷ m) =
-    let rest : All (λ p. p < suc (length m)) (map suc (positions m))
-    = All-map (λ p. p < suc (length m)) suc (positions m) (All-weaker (λ p. p < length m) (λ p. suc p < suc (length m)) (λ p h. omega arith) (positions m) (positions-within m)) in
-    subst (λ (ps : List ℕ). All (λ p. p < suc (length m)) ps) (sym (positions-true m)) (All-cons (λ p. p < suc (length m)) 0 (map suc (positions m)) (omega arith) rest)
-positions-within (false ∷ m) =
-    subst (λ (ps : List ℕ). All (λ p. p < suc (length m)) ps) (sym (positions-false m)) (All-map (λ p. p < suc (length m)) suc (positions m) (All-weaker (λ p. p < length m) (λ p. suc p < suc (length m)) (λ p h. omega arith) (positions m) (positions-within m)))
+positions-within (v ∷ m) = λ k d h. grind (arith, positions-true m, positions-false m, positions-within m, get_or-map suc (positions m) k d d, get_or-map suc (positions m) (k - 1) d d, length-map)
 
 pub count-le-length : (m : List Bool) → count m ≤ length m
 count-le-length m = length-places_from 0 m

@@ -10,7 +10,7 @@ use Rattle.mask_bits.specs.Laws.{RangesAddUpToTheCount}
 use Rattle.mask_bits.specs.Positions.{count, repeated}
 use Rattle.mask_bits.specs.Runs.{is_inside, AreRanges}
 use Rattle.mask_bits.proofs.Lists.CountLemmas.{count-append, count-repeated_true, count-repeated_false, length-repeated, get_or-repeated}
-use Rattle.mask_bits.proofs.Lists.RunLemmas.{inside, inside-before, inside-past}
+use Rattle.mask_bits.proofs.Lists.RunLemmas.{inside, inside-past}
 
 -- a part whose values are all v
 pub part_of_one : (m : List Bool) (v : Bool) (s e : ℕ) → e ≤ length m → ((i : ℕ) → s ≤ i → i < e → get_or m i false ≡ v) → slice_range m s e ≡ repeated (e - s) v

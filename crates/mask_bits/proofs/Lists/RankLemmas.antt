@@ -33,10 +33,7 @@ true_at-suc n ps = grind (arith, list_any-map_suc_zero, map_range_suc, list_any-
 
 pub true_at-zero_suc : (n : ℕ) (ps : List ℕ) → true_at (suc n) (0 ∷ map suc ps) ≡ true ∷ true_at n ps
 unfolding true_at
-true_at-zero_suc n ps =
-    ap (λ (xs : List Bool). true ∷ xs) (map_range_suc (λ i. list_any (nat_eq i) (0 ∷ map suc ps)) 0 n
-    ∙ map_range_same (λ i. list_any (nat_eq (suc i)) (0 ∷ map suc ps)) (λ i. list_any (nat_eq i) ps)
-    (λ i. ap (λ b. b || list_any (nat_eq (suc i)) (map suc ps)) (eqb-suc-zero i) ∙ list_any-map_suc i ps) 0 n)
+true_at-zero_suc n ps = grind (arith, map_range_suc (λ i. list_any (nat_eq i) (0 ∷ map suc ps)) 0 n, map_range_same (λ i. list_any (nat_eq (suc i)) (0 ∷ map suc ps)) (λ i. list_any (nat_eq i) ps) (λ i. grind (arith, list_any-map_suc i ps)) 0 n)
 
 -- ---- entries at places
 
@@ -65,21 +62,13 @@ positions-fit a b fits = grind (arith, count-trues, positions-within)
 
 rank_intersection-false : (a b : List Bool) → length b ≡ trues a → rank_intersection (false ∷ a) b ≡ false ∷ rank_intersection a b
 rank_intersection-false a b fits =
-    ap (λ (ps : List ℕ). true_at (suc (length a)) (at_places ps (positions b))) (positions-false a)
-    ∙ ap (true_at (suc (length a))) (at_places-map_suc (positions a) (positions b) (positions-fit a b fits))
-    ∙ true_at-suc (length a) (at_places (positions a) (positions b))
+    grind (arith, positions-false a, at_places-map_suc (positions a) (positions b) (positions-fit a b fits), true_at-suc (length a) (at_places (positions a) (positions b)))
 
 rank_intersection-true : (a : List Bool) (v : Bool) (b : List Bool) → length b ≡ trues a → rank_intersection (true ∷ a) (v ∷ b) ≡ v ∷ rank_intersection a b
 rank_intersection-true a true b fits =
-    ap (λ (ps : List ℕ). true_at (suc (length a)) (at_places ps (positions (true ∷ b)))) (positions-true a)
-    ∙ ap (λ (qs : List ℕ). true_at (suc (length a)) (at_places (0 ∷ map suc (positions a)) qs)) (positions-true b)
-    ∙ ap (λ (ps : List ℕ). true_at (suc (length a)) (0 ∷ ps)) (at_places-cons_suc 0 (map suc (positions a)) (positions b) ∙ at_places-map_suc (positions a) (positions b) (positions-fit a b fits))
-    ∙ true_at-zero_suc (length a) (at_places (positions a) (positions b))
+    grind (arith, positions-true a, positions-true b, at_places-cons_suc 0 (map suc (positions a)) (positions b), at_places-map_suc (positions a) (positions b) (positions-fit a b fits), true_at-zero_suc (length a) (at_places (positions a) (positions b)))
 rank_intersection-true a false b fits =
-    ap (λ (ps : List ℕ). true_at (suc (length a)) (at_places ps (positions (false ∷ b)))) (positions-true a)
-    ∙ ap (λ (qs : List ℕ). true_at (suc (length a)) (at_places (0 ∷ map suc (positions a)) qs)) (positions-false b)
-    ∙ ap (true_at (suc (length a))) (at_places-cons_suc 0 (map suc (positions a)) (positions b) ∙ at_places-map_suc (positions a) (positions b) (positions-fit a b fits))
-    ∙ true_at-suc (length a) (at_places (positions a) (positions b))
+    grind (arith, positions-true a, positions-false b, at_places-cons_suc 0 (map suc (positions a)) (positions b), at_places-map_suc (positions a) (positions b) (positions-fit a b fits), true_at-suc (length a) (at_places (positions a) (positions b)))
 
 narrows : (a b : List Bool) → length b ≡ trues a → rank_intersection a b ≡ narrow a b
 unfolding true_at
@@ -127,7 +116,3 @@ length-true_at n places = length-map-range_with_len (λ i. list_any (nat_eq i) p
 pub All-at_places : (P : ℕ → Type 0) (ps qs : List ℕ) → All P ps → All (λ q. q < length ps) qs → All P (at_places ps qs)
 All-at_places P ps qs all within =
     All-map P (λ q. get_or ps q 0) qs (All-weaker (λ q. q < length ps) (λ q. P (get_or ps q 0)) (λ q h. All-get_or P ps q 0 h all) qs within)
-
--- the ranks of a fitting mask are within the places that they select among
-pub positions-select : (a b : List Bool) → length b ≡ count a → All (λ q. q < count a) (positions b)
-positions-select a b fits = grind (arith, positions-within)

@@ -26,8 +26,7 @@ items_where_true-append : {X : Type 0} (rows more : List X) (a b : List Bool) �
 items_where_true-append [] more [] b len = refl
 items_where_true-append [] more (v ∷ a) b len = absurd (omega arith)
 items_where_true-append (r ∷ rows) more [] b len = absurd (omega arith)
-items_where_true-append {X} (r ∷ rows) more (true ∷ a) b len = grind (arith, items_where_true-append rows more a b (omega arith))
-items_where_true-append (r ∷ rows) more (false ∷ a) b len = items_where_true-append rows more a b (omega arith)
+items_where_true-append (r ∷ rows) more (v ∷ a) b len = grind (arith, items_where_true-append rows more a b)
 
 pub chosen_of_two_chunks : {X : Type 0} → ChosenOfTwoChunks X
 chosen_of_two_chunks {X} rows more a b len = grind (arith, chosen-items_where_true, items_where_true-append)
@@ -41,13 +40,9 @@ chosen_of_chunks {X} (c ∷ chunks) all = grind (arith, chosen_of_chunks chunks 
 items_where_true-kept : {X : Type 0} (rows : List X) (m : List Bool) (k : ℕ) → items_where_true (kept m k) rows ≡ take k (items_where_true m rows)
 items_where_true-kept rows [] zero = refl
 items_where_true-kept rows [] (suc k) = refl
-items_where_true-kept [] (false ∷ m) zero = refl
-items_where_true-kept [] (false ∷ m) (suc k) = refl
-items_where_true-kept [] (true ∷ m) zero = refl
-items_where_true-kept [] (true ∷ m) (suc k) = refl
-items_where_true-kept (r ∷ rows) (false ∷ m) k = items_where_true-kept rows m k
-items_where_true-kept (r ∷ rows) (true ∷ m) zero = items_where_true-kept rows m zero
-items_where_true-kept {X} (r ∷ rows) (true ∷ m) (suc k) = ap (λ (xs : List X). r ∷ xs) (items_where_true-kept rows m k)
+items_where_true-kept [] (v ∷ m) zero = grind arith
+items_where_true-kept [] (v ∷ m) (suc k) = grind arith
+items_where_true-kept (r ∷ rows) (v ∷ m) k = grind (arith, items_where_true-kept rows m)
 
 pub chosen_by_limit : {X : Type 0} → ChosenByLimit X
 chosen_by_limit {X} rows m k = grind (arith, limited-kept, chosen-items_where_true, items_where_true-kept)
@@ -55,9 +50,7 @@ chosen_by_limit {X} rows m k = grind (arith, limited-kept, chosen-items_where_tr
 positions-kept : (m : List Bool) (k : ℕ) → positions (kept m k) ≡ take k (positions m)
 positions-kept [] zero = refl
 positions-kept [] (suc k) = refl
-positions-kept (false ∷ m) k = grind (arith, positions-kept m k, positions-false, take-map)
-positions-kept (true ∷ m) zero = grind (arith, positions-kept m zero, positions-false)
-positions-kept (true ∷ m) (suc k) = grind (arith, positions-kept m k, positions-true, take-map)
+positions-kept (v ∷ m) k = grind (arith, positions-kept m, positions-true, positions-false, take-map)
 
 pub positions_of_limit : PositionsOfLimit
 positions_of_limit m k = ap positions (limited-kept m k) ∙ positions-kept m k

@@ -13,10 +13,6 @@ use Rattle.mask_bits.specs.RunScan.{with_place, runs_from}
 pub inside : (i : ℕ) (r : ℕ × ℕ) → r.0 ≤ i → i < r.1 → is_inside i r ≡ true
 inside i r low high = and_from (nat_le r.0 i) (nat_lt i r.1) (le-leb r.0 i low) (lt-ltb i r.1 high)
 
--- a place before the first is not
-pub inside-before : (i : ℕ) (r : ℕ × ℕ) → i < r.0 → is_inside i r ≡ false
-inside-before i r h = and_left (nat_le r.0 i) (nat_lt i r.1) (lt-leb r.0 i h)
-
 -- nor is a place past the end
 pub inside-past : (i : ℕ) (r : ℕ × ℕ) → r.1 ≤ i → is_inside i r ≡ false
 inside-past i r h = and_right (nat_le r.0 i) (nat_lt i r.1) (le-ltb i r.1 h)
@@ -44,13 +40,6 @@ any_below : (low high i : ℕ) (rs : List (ℕ × ℕ)) → Spread low high rs �
 any_below low high i [] s h = refl
 any_below low high i (r ∷ rs) s h = grind (arith, any_below (r.1 + 1) high i rs s.3 (omega arith))
 
--- what holds of the first place and of the places past it holds of each place
-exact_cons : (n : ℕ) (v : Bool) (m : List Bool) (rs : List (ℕ × ℕ)) → v ≡ list_any (is_inside n) rs
-    → ((i j : ℕ) → i ≡ (n + 1) + j → j < length m → get_or m j false ≡ list_any (is_inside i) rs)
-    → (i j : ℕ) → i ≡ n + j → j < length (v ∷ m) → get_or (v ∷ m) j false ≡ list_any (is_inside i) rs
-exact_cons n v m rs first rest i zero e h = grind (arith, first)
-exact_cons n v m rs first rest i (suc j) e h = rest i j (omega arith) (omega arith)
-
 -- ---- the scan finds runs
 
 -- a false value in front
@@ -64,10 +53,6 @@ RunsOf-alone n high m rs s of = grind arith
 -- from the first place on, a range's first place does not matter
 inside-lengthened : (i n : ℕ) (r : ℕ × ℕ) → n ≤ i → r.0 ≤ i → is_inside i (n, r.1) ≡ is_inside i r
 inside-lengthened i n r h h' = ap (λ b. b && nat_lt i r.1) (le-leb n i h ∙ sym (le-leb r.0 i h'))
-
--- a true value in front that lengthens the first run
-RunsOf-joined : (n high : ℕ) (m : List Bool) (r : ℕ × ℕ) (rs : List (ℕ × ℕ)) → r.0 ≡ n + 1 → RunsOf (n + 1) high m (r ∷ rs) → RunsOf n high (true ∷ m) ((n, r.1) ∷ rs)
-RunsOf-joined n high m r rs starts of = grind arith
 
 -- a true value in front
 RunsOf-true : (n high : ℕ) (m : List Bool) (rs : List (ℕ × ℕ)) → RunsOf (n + 1) high m rs → RunsOf n high (true ∷ m) (with_place n rs)
@@ -119,10 +104,6 @@ with_place-alone n high (r ∷ rs) s = cond-false (nat_eq r.0 (n + 1)) ((n, r.1)
 -- and it lengthens a run that begins right after it
 with_place-joined : (n e : ℕ) (rs : List (ℕ × ℕ)) → with_place n ((n + 1, e) ∷ rs) ≡ (n, e) ∷ rs
 with_place-joined n e rs = cond-true (nat_eq (n + 1) (n + 1)) ((n, e) ∷ rs) ((n, n + 1) ∷ (n + 1, e) ∷ rs) (eq-eqb (n + 1) (n + 1) refl)
-
--- a list of ranges by the ends of its first
-same_first : (a b c d : ℕ) (rs : List (ℕ × ℕ)) → a ≡ b → c ≡ d → (a, c) ∷ rs ≡ (b, d) ∷ rs
-same_first a b c d rs e f = ap (λ (k : ℕ). (k, c) ∷ rs) e ∙ ap (λ (k : ℕ). (b, k) ∷ rs) f
 
 -- runs behind which the scan has found those past the first place, a true one
 from_rest : (n high : ℕ) (m : List Bool) (rs : List (ℕ × ℕ)) → RunsOf n high (true ∷ m) rs
@@ -227,11 +208,6 @@ front n (suc k) e (true ∷ m) len within all_true ends =
 -- a run at the front: from n on, k + 1 true values and then a false one or the end
 pub runs_from-front : (n k : ℕ) (m : List Bool) → k < length m → ((j : ℕ) → j ≤ k → get_or m j false ≡ true) → get_or m (k + 1) false ≡ false → runs_from n m ≡ (n, n + k + 1) ∷ runs_from (n + k + 1) (drop (k + 1) m)
 runs_from-front n k m within all_true ends = grind (arith, front)
-
--- no more runs than values
-length-with_place : (n : ℕ) (rs : List (ℕ × ℕ)) → length (with_place n rs) ≤ suc (length rs)
-length-with_place n [] = omega arith
-length-with_place n (r ∷ rs) = grind arith
 
 length-runs_from : (n : ℕ) (m : List Bool) → length (runs_from n m) ≤ length m
 length-runs_from n [] = omega arith

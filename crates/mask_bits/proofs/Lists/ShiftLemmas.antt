@@ -43,12 +43,6 @@ bit_at-shl_high n k j h =
 
 -- ---- the list of a word
 
-bit_of_min : (a b : ℕ) → a < 2 → b < 2 → nat_eq (min a b) 1 ≡ (nat_eq a 1 && nat_eq b 1)
-bit_of_min a b low high = grind (arith, nat_tests)
-
-bit_of_max : (a b : ℕ) → a < 2 → b < 2 → nat_eq (max a b) 1 ≡ (nat_eq a 1 || nat_eq b 1)
-bit_of_max a b low high = grind (arith, nat_tests)
-
 bit_of_not : (a : ℕ) → a < 2 → nat_eq (1 - a) 1 ≡ not (nat_eq a 1)
 bit_of_not a low = grind (arith, nat_tests)
 

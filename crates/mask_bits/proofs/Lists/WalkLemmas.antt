@@ -84,11 +84,6 @@ left_of-clear m i w p within from to clear = grind (arith, left_of-here, left_of
 
 -- ---- words that are read
 
-bit_from_false : (b : ℕ) → b < 2 → nat_eq b 1 ≡ false → b ≡ 0
-bit_from_false zero h e = refl
-bit_from_false (suc zero) h e = cc
-bit_from_false (suc (suc b)) h e = absurd (omega arith)
-
 -- bit j of started word i
 pub bit-padded : (m : List Bool) (i w j : ℕ) → word_bits w ≡ padded_part m i → j < 64 → nat_eq (bit_at w j) 1 ≡ get_or m (64 * i + j) false
 bit-padded m i w j read h = grind (arith, get_or-word_bits, get_or-padded_part)
@@ -171,9 +166,6 @@ IsLeft-filled m i w some fits left = record {
   within = left.within;
   ends = λ j few past. bit_at-filled_others w j some fits (omega (arith, low-inside m i w some fits left)) ∙ left.ends j few past;
 }
-
-pub PassesTrue-none : (m : List Bool) (i w : ℕ) → IsLeft m i w → PassesTrue m i w i w
-PassesTrue-none m i w left = record { is = left; later = omega arith; full = λ p from to. absurd (omega arith); rest = λ p _. refl }
 
 -- a full word more
 pub PassesTrue-more : (m : List Bool) (i w j v u : ℕ) → u < 2 ^ 64 → v ≡ 2 ^ 64 - 1 → j + 1 < started_words (length m) → word_bits u ≡ padded_part m (j + 1) → PassesTrue m i w j v → PassesTrue m i w (j + 1) u
