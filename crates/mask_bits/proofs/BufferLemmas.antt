@@ -1,10 +1,8 @@
 -- What the list of a buffer is, from its backing bytes.
-use Rattle.std.proofs.Common.{◌-◌, ◌*◌, ◌≤◌, true, replicate, add_assoc, slice_range, ◌≡◌, ℕ, ◌+◌, ◌<◌, Bool, false, List, length, get_or, Some, slice_get, refl, sym, ap, ◌∙◌, arith, zero-add, map, nat_eq}
+use Rattle.std.proofs.Common.{◌-◌, ◌*◌, ◌≤◌, true, replicate, slice_range, ◌≡◌, ℕ, ◌+◌, ◌<◌, Bool, false, List, length, get_or, Some, slice_get, sym, ap, ◌∙◌, arith, map, nat_eq}
 use Rattle.std.specs.List.{list_any, range_with_len}
 use Rattle.std.proofs.lemmas.List.FromFn.{length-map-range_with_len, get_or-map-range_with_len, fill_by_all}
 use Rattle.std.proofs.lemmas.Option.{slice_get-get_or}
-use Rattle.std.specs.Cmp.{booleans_Decides}
-use Rattle.std.proofs.lemmas.Bool.Decides.{same_from_decides}
 use Rattle.std.proofs.lemmas.List.{length-replicate, get_or-replicate}
 use Rattle.std.proofs.lemmas.List.Edits.{length-between, get_or-between}
 use Rattle.std.proofs.lemmas.Slice.Eq.{slice_eq-Decides}

@@ -1,15 +1,11 @@
 -- The words that a buffer's bytes show.
-use Rattle.std.proofs.Common.{◌≡◌, ℕ, ◌+◌, ◌*◌, ◌-◌, ◌/◌, ◌%◌, ◌^◌, ◌<◌, Bool, false, nat_eq, List, ◌++◌, length, get_or, take, drop, refl, sym, ap, ◌∙◌, inl, inr, arith, add_assoc}
+use Rattle.std.proofs.Common.{◌≡◌, ℕ, ◌+◌, ◌*◌, ◌-◌, ◌/◌, ◌%◌, ◌^◌, ◌<◌, false, nat_eq, List, take, drop, sym, ap, ◌∙◌, arith}
 use Rattle.std.specs.Int.RustNames.{bit_and}
-use Rattle.std.proofs.lemmas.Bool.{cases_lt}
-use Rattle.std.proofs.lemmas.List.{length-append, length-drop, get_or-drop, get_or_append_left, get_or-append_right, length-replicate, get_or-replicate}
-use Rattle.mask_bits.specs.Buffer.{Packed, backing_bit, values}
-use Rattle.mask_bits.specs.Positions.{repeated}
+use Rattle.mask_bits.specs.Buffer.{Packed, values}
 use Rattle.mask_bits.specs.Words.{word_bits, window, word_part, padded_remainder, padded_part}
 use Rattle.mask_bits.specs.Number.{number}
-use Rattle.mask_bits.proofs.BufferLemmas.{length-values, get_or-values, values-part}
-use Rattle.mask_bits.proofs.Lists.WordLemmas.{word_bits_from_bits, get_or-word_bits}
-use Rattle.mask_bits.proofs.Lists.ShiftLemmas.{bit_at-low_mask, bit_at-past_mask}
+use Rattle.mask_bits.proofs.BufferLemmas.{length-values, values-part}
+use Rattle.mask_bits.proofs.Lists.WordLemmas.{word_bits_from_bits}
 use Rattle.mask_bits.proofs.NumberLemmas.{AreBytes, bit_at-window}
 use Rattle.mask_bits.proofs.Lists.FrontLemmas.{length-window, get_or-window, window-whole}
 use Rattle.mask_bits.proofs.Lists.PaddedLemmas.{padded_part-low, padded_part-remainder}

@@ -1,10 +1,10 @@
 -- Bits written behind the first bits of some bytes.
-use Rattle.std.proofs.Common.{◌≡◌, ℕ, ◌+◌, ◌*◌, ◌-◌, ◌/◌, ◌%◌, ◌^◌, ◌<◌, ◌≤◌, Bool, true, false, ◌||◌, nat_eq, List, [], ◌++◌, length, get_or, take, drop, slice_range, replicate, refl, sym, ap, ◌∙◌, inl, inr, ◌⊎◌, arith}
+use Rattle.std.proofs.Common.{◌≡◌, ℕ, ◌+◌, ◌*◌, ◌-◌, ◌/◌, ◌%◌, ◌^◌, ◌<◌, ◌≤◌, Bool, true, false, ◌||◌, nat_eq, List, ◌++◌, length, get_or, take, drop, slice_range, replicate, refl, ap, ◌∙◌, inl, inr, ◌⊎◌, arith}
 use Rattle.std.specs.Int.{bit_at}
 use Rattle.std.specs.Int.RustNames.{bit_or}
 use Rattle.std.proofs.Math.Bool.{or-false}
 use Rattle.std.proofs.lemmas.Bool.{cases_lt}
-use Rattle.std.proofs.lemmas.List.{length-append, length-take, length-replicate, get_or-replicate, get_or_append_left, get_or-append_right, get_or_past, get_or-take, nil_from_length, ext_get_or, replicate-append-replicate}
+use Rattle.std.proofs.lemmas.List.{length-append, length-take, length-replicate, get_or-replicate, get_or_append_left, get_or-append_right, get_or_past, get_or-take, ext_get_or, replicate-append-replicate}
 use Rattle.std.proofs.lemmas.Nat.Bits.{bit_at_ones}
 use borrow.Rule.Slice.PartMut.{put_mid}
 use Rattle.mask_bits.specs.Buffer.{Packed, backing_bit, values}

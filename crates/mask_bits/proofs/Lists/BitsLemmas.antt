@@ -1,18 +1,17 @@
 -- The bits of some bytes from any position on: parts of them, the words that show them, and their counts.
-use Rattle.std.proofs.Common.{◌≡◌, ℕ, ◌+◌, ◌*◌, ◌-◌, ◌/◌, ◌%◌, ◌^◌, ◌<◌, ◌≤◌, Bool, false, nat_eq, List, ◌++◌, length, get_or, take, drop, slice_range, refl, sym, ap, ◌∙◌, ◌⊎◌, inl, inr, arith, count_ones}
+use Rattle.std.proofs.Common.{◌≡◌, ℕ, ◌+◌, ◌*◌, ◌-◌, ◌/◌, ◌%◌, ◌^◌, ◌<◌, ◌≤◌, Bool, false, nat_eq, List, ◌++◌, length, get_or, take, drop, sym, ap, ◌∙◌, arith, count_ones}
 use Rattle.std.specs.Int.{bit_at}
 use Rattle.std.specs.Int.RustNames.{bit_and}
-use Rattle.std.proofs.lemmas.Bool.{cases_lt}
-use Rattle.std.proofs.lemmas.List.{take-append-le, take_all, length-drop, length-append, get_or_append_left, get_or-append_right, get_or-drop, length-replicate, get_or-replicate}
-use Rattle.mask_bits.specs.Buffer.{Packed, backing_bit, values}
+use Rattle.std.proofs.lemmas.List.{get_or-drop}
+use Rattle.mask_bits.specs.Buffer.{backing_bit, values}
 use Rattle.mask_bits.specs.Positions.{count, repeated}
 use Rattle.mask_bits.specs.Words.{word_bits, window}
-use Rattle.mask_bits.proofs.BufferLemmas.{length-values, get_or-values, values_from_bits, values-part, values_from_front}
+use Rattle.mask_bits.proofs.BufferLemmas.{length-values, get_or-values, values_from_front}
 use Rattle.mask_bits.proofs.Lists.CountLemmas.{count-append, count-repeated_false}
-use Rattle.mask_bits.proofs.Lists.FrontLemmas.{get_or-window, front-more_word, front-same, values-join, window-take}
-use Rattle.mask_bits.proofs.Lists.WordLemmas.{word_bits_from_bits, get_or-word_bits, count-word_bits}
+use Rattle.mask_bits.proofs.Lists.FrontLemmas.{get_or-window, values-join, window-take}
+use Rattle.mask_bits.proofs.Lists.WordLemmas.{get_or-word_bits, count-word_bits}
 use Rattle.mask_bits.proofs.Lists.PlaceLemmas.{count-le-length}
-use Rattle.mask_bits.proofs.Lists.ShiftLemmas.{bit_at-low_mask, bit_at-past_mask, word_bits-low_mask}
+use Rattle.mask_bits.proofs.Lists.ShiftLemmas.{word_bits-low_mask}
 
 -- the n bits from position p on
 abbrev pub bits_at : List ℕ → ℕ → ℕ → List Bool

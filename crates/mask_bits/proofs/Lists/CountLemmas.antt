@@ -1,15 +1,13 @@
 -- How many values are true: of lists of one value, and what no or every true value says of a list.
-use Rattle.std.proofs.Common.{◌++◌, slice_range, ◌≡◌, ℕ, zero, suc, ◌+◌, ◌<◌, ◌≤◌, Bool, true, false, List, [], ◌∷◌, length, get_or, Some, slice_get, refl, sym, ap, ◌∙◌, arith, zero-add, inl, inr, replicate, ◌-◌}
+use Rattle.std.proofs.Common.{◌++◌, ◌≡◌, ℕ, zero, suc, ◌+◌, ◌<◌, Bool, true, false, List, [], ◌∷◌, length, get_or, Some, slice_get, refl, sym, ap, ◌∙◌, arith, zero-add, replicate, ◌-◌}
 use Rattle.std.specs.List.{All, list_all, list_any, range_with_len}
-use Rattle.std.proofs.lemmas.List.{ext_get_or, get_or-replicate, length-replicate, get_or_append_left, get_or-append_right, get_or_past}
+use Rattle.std.proofs.lemmas.List.{get_or-replicate, length-replicate, get_or_append_left, get_or-append_right, get_or_past}
 use Rattle.std.proofs.lemmas.List.FromFn.{length-range_with_len, get_or-range_with_len}
-use Rattle.std.proofs.lemmas.Option.{slice_get-get_or, slice_get_within, get_or_from_slice_get}
-use Rattle.std.proofs.lemmas.List.Edits.{between_more}
+use Rattle.std.proofs.lemmas.Option.{slice_get-get_or}
 use Rattle.mask_bits.specs.Positions.{places_from, positions, count, repeated}
 use Rattle.mask_bits.proofs.Lists.PlaceLemmas.{length-places_from, trues, count-trues}
 use Rattle.std.specs.Prelude.{◌↔◌, Any}
 use Rattle.std.proofs.lemmas.List.Folds.{Any-from_list_any, list_any-from_Any}
-use Rattle.std.proofs.lemmas.Bool.{cases_eq, false≢true}
 
 -- every place of an all-true list, and none of an all-false one
 pub places_from-repeated_true : (n k : ℕ) → places_from n (repeated k true) ≡ range_with_len n k

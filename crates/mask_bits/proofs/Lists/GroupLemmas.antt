@@ -1,18 +1,14 @@
 -- How many values of a part and of a group are true, by the true places.
-use Rattle.std.proofs.Common.{◌≡◌, ℕ, zero, suc, ◌+◌, ◌-◌, ◌*◌, ◌/◌, ◌<◌, ◌≤◌, Bool, true, false, cond, nat_eq, min, List, [], ◌∷◌, length, get_or, take, drop, slice_range, refl, sym, ap, ◌∙◌, arith, add-one, inl, inr}
-use Rattle.std.specs.Int.{div_ceil}
+use Rattle.std.proofs.Common.{◌≡◌, ℕ, zero, suc, ◌+◌, ◌-◌, ◌*◌, ◌/◌, ◌<◌, ◌≤◌, Bool, true, false, cond, nat_eq, min, List, [], ◌∷◌, length, take, drop, slice_range, refl, sym, ap, ◌∙◌, arith}
 use Rattle.std.specs.List.{All, count_by}
-use Rattle.std.proofs.Math.Nat.{mul-div-le, lt-mul-div-succ, mul-le-mul_left, mul-suc, mod-eq-sub-mul-div}
-use Rattle.std.proofs.lemmas.Bool.{cases_order, eq-eqb, ne_eqb}
 use Rattle.std.proofs.lemmas.List.Elements.{All-head, All-tail}
 use Rattle.std.proofs.lemmas.List.Sums.{sum_by-cons}
 use Rattle.mask_bits.specs.Laws.{GroupsBeginWithin, GroupOfRepeated, PlacesLieInGroups, CountOfGroup}
-use Rattle.mask_bits.specs.Positions.{places_from, positions, repeated, count}
+use Rattle.mask_bits.specs.Positions.{places_from, positions, count}
 use Rattle.mask_bits.specs.Runs.{is_inside}
 use Rattle.mask_bits.proofs.Lists.CountLemmas.{length-repeated}
 use Rattle.mask_bits.proofs.Lists.PartLemmas.{part_of_repeated}
 use Rattle.mask_bits.proofs.Lists.PlaceLemmas.{trues, count-trues, positions-within}
-use Rattle.mask_bits.proofs.Lists.RunLemmas.{inside, inside-past}
 
 -- one item in front that passes, or does not
 counted : (p : ℕ → Bool) (x : ℕ) (xs : List ℕ) → p x ≡ true → count_by p (x ∷ xs) ≡ suc (count_by p xs)

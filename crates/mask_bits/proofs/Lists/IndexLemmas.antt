@@ -1,10 +1,10 @@
 -- True indices in their order, the count below the next one, and the ranges of a list of one value.
-use Rattle.std.proofs.Common.{◌≡◌, ℕ, zero, suc, ◌+◌, ◌-◌, ◌<◌, ◌≤◌, Bool, true, false, List, [], ◌∷◌, cond, length, get_or, take, Some, slice_get, refl, sym, ap, subst, ◌∙◌, arith}
+use Rattle.std.proofs.Common.{◌≡◌, ℕ, zero, suc, ◌+◌, ◌-◌, ◌<◌, ◌≤◌, Bool, true, false, List, [], ◌∷◌, cond, length, get_or, take, Some, slice_get, refl, subst, arith}
 use Rattle.std.proofs.lemmas.List.Sorted.{IsNonDecreasingBy-from_all_adjacent}
 use Rattle.std.proofs.lemmas.Map.Keys.{le_from_is_le}
 use Rattle.std.proofs.lemmas.Option.{slice_get_within, get_or_from_slice_get}
 use Rattle.mask_bits.specs.IndexLaws.{PositionsAscend, FirstIsAtMostLast, CountBelowTheFirst, CountBelowTheNext, AllTrueIsOneRange, AllTrueIsOneRun, AllFalseHasNoRange, AllFalseHasNoRun, NeighborsDoNotFall, SortedDoNotFall}
-use Rattle.mask_bits.specs.Positions.{positions, count, count_below, repeated}
+use Rattle.mask_bits.specs.Positions.{positions, count, repeated}
 use Rattle.mask_bits.specs.Runs.{AreRuns}
 use Rattle.mask_bits.proofs.Lists.AscendingLemmas.{Rising, positions-rising, positions-ascending}
 use Rattle.mask_bits.proofs.Lists.PlaceLemmas.{trues, count-trues}

@@ -1,7 +1,5 @@
 -- A list limited to its first true values, and the count below a true place.
 use Rattle.std.proofs.Common.{◌≡◌, ℕ, zero, suc, ◌-◌, ◌<◌, ◌≤◌, ◌++◌, min, Bool, true, false, ◌&&◌, nat_lt, List, [], ◌∷◌, length, get_or, take, slice_range, Some, slice_get, refl, sym, ap, ◌∙◌, arith}
-use Rattle.std.proofs.Math.Dec.{leb-suc-suc}
-use Rattle.std.proofs.lemmas.Bool.{le-ltb, lt-ltb}
 use Rattle.std.proofs.lemmas.List.{ext_get_or, get_or-map, length-take}
 use Rattle.std.proofs.lemmas.Option.{slice_get_within, get_or_from_slice_get}
 use Rattle.std.proofs.lemmas.List.FromFn.{length-map-range_with_len, get_or-map-range_with_len}

@@ -4,7 +4,7 @@ use Rattle.std.specs.Int.{bit_at, w64, trailing_zeros, trailing_ones, bit_not}
 use Rattle.std.specs.Int.Count.{trailing_of_zero}
 use Rattle.std.specs.Int.RustNames.{bit_and, bit_or}
 use Rattle.std.proofs.lemmas.Nat.{trailing_le}
-use Rattle.std.proofs.lemmas.Bool.{cases_lt, cases_eq}
+use Rattle.std.proofs.lemmas.Bool.{cases_eq}
 use Rattle.std.proofs.lemmas.Nat.Bits.{bit_at_lowest, bit_at-suc, bit_at_and, bit_at_or, bit_at-lt, bit_at-zero, bit_at_ones, bit_at-trailing_zeros, bit_at-trailing_ones}
 
 -- ---- one less, and one more

@@ -1,13 +1,10 @@
 -- Parts of parts, and of lists joined.
-use Rattle.std.proofs.Common.{◌≡◌, ℕ, ◌+◌, ◌-◌, ◌≤◌, Bool, List, ◌∷◌, ◌++◌, length, take, drop, slice_range, inl, inr, sym, ap, ◌∙◌, arith}
+use Rattle.std.proofs.Common.{◌≡◌, ℕ, ◌+◌, ◌-◌, ◌≤◌, Bool, List, ◌++◌, length, take, drop, slice_range, inl, inr, ap, ◌∙◌, arith}
 use Rattle.std.proofs.lemmas.Bool.{cases_lt}
-use Rattle.std.proofs.lemmas.List.{ext_get_or, get_or-replicate, take-take, drop-drop, drop-take, take-append-le, drop-append-le, drop_all, take_all, drop-replicate, take-replicate}
+use Rattle.std.proofs.lemmas.List.{take-take, drop-drop, drop-take, take-append-le, drop-append-le, drop_all, take_all, drop-replicate, take-replicate}
 use Rattle.std.proofs.lemmas.List.Concat.{flat_map-append}
-use Rattle.std.proofs.lemmas.List.Edits.{length-between, get_or-between}
 use Rattle.mask_bits.specs.Laws.{PartOfPart, PartOfJoined}
-use Rattle.mask_bits.specs.Lists.{joined}
 use Rattle.mask_bits.specs.Positions.{repeated}
-use Rattle.mask_bits.proofs.Lists.CountLemmas.{length-repeated}
 
 pub part_of_part : PartOfPart
 part_of_part m s e t u within = elim (cases_lt u t) [

@@ -1,6 +1,5 @@
 -- The rank intersection of two lists, by recursion on the first.
-use Rattle.std.proofs.Common.{◌≡◌, ℕ, zero, suc, ◌+◌, ◌<◌, Bool, true, false, ◌||◌, List, [], ◌∷◌, length, get_or, map, nat_eq, refl, sym, ap, ◌∙◌, arith}
-use Rattle.std.proofs.Math.Dec.{eqb-suc-suc, eqb-suc-zero, eqb-zero-suc}
+use Rattle.std.proofs.Common.{◌≡◌, ℕ, zero, suc, ◌+◌, ◌<◌, Bool, true, false, List, [], ◌∷◌, length, get_or, map, nat_eq, refl, ap, ◌∙◌, arith}
 use Rattle.std.specs.List.{All, list_any, range_with_len}
 use Rattle.std.proofs.lemmas.List.{get_or-map, length-replicate}
 use Rattle.std.proofs.lemmas.List.Elements.{All-head, All-tail, All-map, All-weaker, All-get_or}

@@ -1,11 +1,10 @@
 -- The rows that a list chooses, by recursion on the list: those that pass a test, the first of them, and rows in chunks.
-use Rattle.std.proofs.Common.{◌≡◌, ℕ, zero, suc, Bool, true, false, List, [], ◌∷◌, ◌++◌, cond, length, map, take, flat_map, refl, sym, ap, ap₂, ◌∙◌, arith}
+use Rattle.std.proofs.Common.{◌≡◌, ℕ, zero, suc, Bool, List, [], ◌∷◌, ◌++◌, length, map, take, refl, ap, ◌∙◌, arith}
 use Rattle.std.specs.List.{filter, items_where_true}
 use Rattle.std.proofs.lemmas.List.{take-map}
 use Rattle.std.proofs.lemmas.List.Elements.{All-head, All-tail}
 use Rattle.mask_bits.specs.ChoosingLaws.{ChosenByTest, ChosenOfTwoChunks, ChosenOfChunks, ChosenByLimit, PositionsOfLimit, LimitPastTheCount, LimitOfRankIntersection}
-use Rattle.mask_bits.specs.Lists.{limited}
-use Rattle.mask_bits.specs.Positions.{positions, rank_intersection, chosen}
+use Rattle.mask_bits.specs.Positions.{positions}
 use Rattle.mask_bits.proofs.Lists.LawLemmas.{chosen-items_where_true}
 use Rattle.mask_bits.proofs.Lists.LimitLemmas.{kept, limited-kept, limited-all, length-limited}
 use Rattle.mask_bits.proofs.Lists.PlaceLemmas.{positions-true, positions-false, trues, count-trues}

@@ -1,10 +1,9 @@
 -- The list of a list's runs, and that of lists of one value.
-use Rattle.std.proofs.Common.{◌≡◌, ℕ, zero, suc, ◌+◌, true, nat_eq, List, [], ◌∷◌, refl, sym, ap, subst, ◌∙◌, arith}
-use Rattle.std.proofs.lemmas.Bool.{eq-eqb, cond-true}
+use Rattle.std.proofs.Common.{◌≡◌, ℕ, zero, suc, ◌+◌, true, List, [], ◌∷◌, sym, subst, arith}
 use Rattle.mask_bits.specs.Laws.{RunsAreTheList, RunOfAllTrue, RunsOfAllFalse}
 use Rattle.mask_bits.specs.Positions.{repeated}
 use Rattle.mask_bits.specs.Runs.{AreRuns}
-use Rattle.mask_bits.specs.RunScan.{with_place, runs_from}
+use Rattle.mask_bits.specs.RunScan.{runs_from}
 use Rattle.mask_bits.proofs.Lists.RunLemmas.{AreRuns-runs_from, runs_from-AreRuns}
 use Rattle.mask_bits.proofs.Lists.WalkLemmas.{runs_from-repeated_false}
 

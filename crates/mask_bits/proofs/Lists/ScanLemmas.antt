@@ -1,7 +1,6 @@
 -- What a scan of a list from a place on passes over.
-use Rattle.std.proofs.Common.{◌≡◌, ℕ, zero, suc, ◌+◌, ◌-◌, ◌<◌, ◌≤◌, Bool, true, false, List, [], ◌∷◌, length, get_or, drop, refl, ap, ◌∙◌, inl, inr, arith}
-use Rattle.std.proofs.lemmas.Bool.{cases_eq, cases_lt}
-use Rattle.std.proofs.lemmas.List.{drop_more, drop_all, drop-drop, get_or-drop, get_or_past, length-drop}
+use Rattle.std.proofs.Common.{◌≡◌, ℕ, zero, suc, ◌+◌, ◌-◌, ◌<◌, ◌≤◌, Bool, true, false, List, ◌∷◌, length, get_or, drop, refl, ap, ◌∙◌, arith}
+use Rattle.std.proofs.lemmas.List.{drop_more, drop-drop, get_or-drop, get_or_past, length-drop}
 use Rattle.mask_bits.specs.Positions.{places_from, IsFirstFrom}
 use Rattle.mask_bits.specs.RunScan.{runs_from}
 use Rattle.mask_bits.proofs.Lists.RunLemmas.{runs_from-front}

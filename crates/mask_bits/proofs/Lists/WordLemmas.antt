@@ -1,11 +1,11 @@
 -- Words of 64 bits as lists of truth values.
-use Rattle.std.proofs.Common.{zero-add, ◌≡◌, ℕ, ◌+◌, ◌/◌, ◌<◌, ◌≤◌, Bool, false, nat_eq, List, [], ◌∷◌, length, get_or, drop, sym, ap, ◌∙◌, arith, ◌*◌, ◌-◌, ◌%◌, zero, suc, map, refl, ◌^◌, take, count_ones, mod-lt, mod-eq_of_lt}
+use Rattle.std.proofs.Common.{zero-add, ◌≡◌, ℕ, ◌+◌, ◌/◌, ◌<◌, ◌≤◌, Bool, false, nat_eq, List, [], ◌∷◌, length, get_or, drop, sym, ap, ◌∙◌, arith, ◌*◌, ◌%◌, zero, suc, map, ◌^◌, take, count_ones, mod-lt, mod-eq_of_lt}
 use Rattle.std.specs.Int.{bit_at}
 use Rattle.std.proofs.lemmas.List.{drop_more, drop_all, take_more, take_all}
 use Rattle.std.proofs.lemmas.List.FromFn.{length-map-range_with_len, get_or-map-range_with_len, fill_by_all, sum_by-map-range_with_len_more}
 use Rattle.mask_bits.specs.Words.{word_bits, word_part, word_parts}
 use Rattle.mask_bits.specs.Laws.{CountsOfWordsAddUp}
-use Rattle.mask_bits.specs.Positions.{count, repeated, count_below}
+use Rattle.mask_bits.specs.Positions.{count, count_below}
 use Rattle.mask_bits.proofs.Lists.CountLemmas.{count-append, count-repeated_false, count-push}
 use Rattle.std.specs.List.{sum_by, range_with_len}
 use Rattle.std.proofs.lemmas.List.Folds.{drop_split}
