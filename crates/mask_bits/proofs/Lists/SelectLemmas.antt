@@ -1,8 +1,9 @@
 -- Where true value number n of a list stands, found by the counts of its started words; and its last true value.
-use Rattle.std.proofs.Common.{◌≡◌, ℕ, suc, ◌+◌, ◌*◌, ◌-◌, ◌^◌, ◌<◌, ◌≤◌, Bool, true, false, List, [], ◌∷◌, ◌++◌, length, get_or, take, drop, map, Some, None, slice_get, slice_range, refl, sym, ap, ◌∙◌, arith, append-nil, add-zero, pow-suc, drop-drop, option_map}
+use Rattle.std.proofs.Common.{◌≡◌, ℕ, suc, ◌+◌, ◌*◌, ◌-◌, ◌^◌, ◌<◌, ◌≤◌, Bool, true, false, List, [], ◌∷◌, ◌++◌, length, get_or, take, drop, map, Some, None, slice_get, slice_range, refl, sym, ap, ◌∙◌, inl, inr, nat_eq, arith, append-nil, add-zero, pow-suc, drop-drop, option_map}
 use Rattle.std.specs.Int.{bit_at, w64, leading_zeros}
 use Rattle.std.specs.Int.RustNames.{bit_and}
 use Rattle.std.proofs.lemmas.List.{take-append-drop, drop-drop, drop_more, take_all, length-append, length-drop, length-take, get_or-drop, get_or-take, get_or_past}
+use Rattle.std.proofs.lemmas.Bool.{cases_lt}
 use Rattle.std.proofs.lemmas.Nat.{leading_top, ones-le}
 use lib.Seq.{take-add}
 use Rattle.std.proofs.lemmas.Nat.Bits.{bit_at_above, bit_at_cat_high, bit_at_lowest, bit_at-zero}
