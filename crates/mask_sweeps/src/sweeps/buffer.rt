@@ -74,6 +74,8 @@ fn counts_ranges(rt: &impl Abort, buffer: &BitBuffer, places: &[usize]) {
 fn gives_places(rt: &impl Abort, alloc: Global, buffer: &BitBuffer, plain: &Plain) {
     let found_at: Vec<usize> = found(rt, buffer.set_indices().collect(alloc));
     assert!(rt; found_at.as_slice() == plain.indices.as_slice());
+    let listed = found(rt, buffer.indices(alloc, buffer.true_count()));
+    assert!(rt; listed.as_slice() == plain.indices.as_slice());
     let runs: Vec<(usize, usize)> = found(rt, buffer.set_slices().collect(alloc));
     assert!(rt; runs.as_slice() == plain.runs.as_slice());
 }

@@ -22,9 +22,12 @@ fn lists(rt: &impl Abort, buffer: &BitBuffer, want: &str) {
 
 // The buffer's true values, by each call that tells their indices, are these.
 fn has_indices(rt: &impl Abort, alloc: Global, buffer: &BitBuffer, want: &[usize]) {
-    let indices: Vec<usize> = found(rt, buffer.set_indices().collect(alloc));
-    assert!(rt; indices.as_slice() == want);
-    same(rt, buffer.true_count(), want.len());
+    let walked: Vec<usize> = found(rt, buffer.set_indices().collect(alloc));
+    assert!(rt; walked.as_slice() == want);
+    let true_count = buffer.true_count();
+    same(rt, true_count, want.len());
+    let listed = found(rt, buffer.indices(alloc, true_count));
+    assert!(rt; listed.as_slice() == want);
     assert!(rt; buffer.last_set_index() == want.last().copied());
     for n in 0..10usize {
         assert!(rt; buffer.select(n) == want.get(n).copied(), "select {n}");
