@@ -1,4 +1,5 @@
-use Rattle.std.proofs.Common.{◌<◌, arith}
+use Rattle.std.proofs.Common.{◌+◌, ◌<◌, ap, arith}
+use Rattle.vortex_mask.specs.Steps.{StepCounts}
 use Rattle.vortex_mask.proofs.DepositListLemmas.{selected-lt}
 use Rattle.vortex_mask.proofs.intersect_by_rank.steps.Steps.select.Goals as goal
 
@@ -6,3 +7,7 @@ pub invariant_of-self : goal.invariant_of-self
 invariant_of-self g c =
     let inside : c.select_bit_position-place.result < 64 = omega (arith, selected-lt c.args.word c.args.rank c.requires.inside) in
     record { offered_fits = omega arith; placed_fits = omega arith; spots_fit = omega arith }
+
+pub returns-clause-ticked : goal.returns-clause-ticked
+returns-clause-ticked g c =
+    ap (λ (s : StepCounts). record s { selections = s.selections + 1; spots = s.spots + c.select_bit_position-place.result }) c.self.view_is
