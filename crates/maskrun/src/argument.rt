@@ -8,7 +8,6 @@ ghost use Rattle.maskrun.specs.Commands.{out_of_memory};
 ghost use Rattle.vortex_mask.specs.Mask.{truth};
 
 use crate::error::RunError;
-use mask_bits::BitBufferMut;
 use std::alloc::Global;
 use std::marker::Model;
 use vortex_mask::Mask;
@@ -47,11 +46,8 @@ impl<'a> MaskArgument<'a> {
         if self.text == "-" {
             return Ok(Mask::new_false(0));
         }
-        let mut bits = BitBufferMut::with_capacity(alloc, self.text.len())?;
-        for digit in self.text.as_bytes() {
-            bits.append_n(*digit == b'1', 1)?;
-        }
-        Ok(Mask::from_buffer(alloc, bits.freeze()?)?)
+        let digits = self.text.as_bytes().iter().copied();
+        Ok(Mask::from_bools(alloc, digits.map(|digit| digit == b'1'))?)
     }
 }
 
