@@ -79,11 +79,7 @@ impl<'a> BitChunks<'a> {
     pub fn remainder_bits(&self) -> u64
         ensures { word_bits result ≡ padded_remainder self.now }
     {
-        let rest = self.len % 64;
-        if rest == 0 {
-            return 0;
-        }
-        window(self.bytes, self.offset + (self.len - rest)) & ((1 << rest) - 1)
+        remainder(self.bytes, self.offset, self.len)
     }
 
     /// The started words, in their order: the whole words, and the remainder word where there is a
@@ -122,6 +118,22 @@ impl<'a> BitChunks<'a> {
             self.remainder_bits()
         }
     }
+}
+
+// The values after the whole words in the low bits, and zeros above.
+//
+// Never inlined: it is read once, and the walks over words stay small without it.
+#[inline(never)]
+fn remainder(bytes: &[u8], offset: usize, len: usize) -> u64
+    requires { IsWithinBytes bytes.now offset len }
+    ensures { word_bits result
+        ≡ padded_remainder (values (record { bytes = bytes.now; offset = offset; len = len })) }
+{
+    let rest = len % 64;
+    if rest == 0 {
+        return 0;
+    }
+    window(bytes, offset + (len - rest)) & ((1 << rest) - 1)
 }
 
 /// The whole words of a buffer, in their order.
