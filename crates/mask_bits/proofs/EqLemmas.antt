@@ -1,13 +1,12 @@
 -- When two buffers hold the same list, by their words.
-use Rattle.std.proofs.Common.{◌≡◌, ◌↔◌, nat_eq, ℕ, zero, suc, ◌+◌, ◌*◌, ◌-◌, ◌/◌, ◌%◌, ◌^◌, ◌<◌, ◌≤◌, Bool, false, List, length, get_or, take, drop, refl, sym, subst, ap, ◌∙◌, inl, inr, arith}
+use Rattle.std.proofs.Common.{◌≡◌, ◌↔◌, nat_eq, ℕ, ◌+◌, ◌*◌, ◌-◌, ◌/◌, ◌%◌, ◌^◌, ◌<◌, ◌≤◌, Bool, false, List, length, get_or, take, drop, sym, subst, ap, ◌∙◌, inl, inr, arith}
 use Rattle.std.specs.Bool.{IsTrue}
 use Rattle.std.specs.Int.{bit_at}
-use Rattle.std.proofs.lemmas.Bool.{cases_lt, false≢true}
-use Rattle.std.proofs.lemmas.List.{ext_get_or, get_or-drop, get_or-take, get_or_append_left, length-drop}
+use Rattle.std.proofs.lemmas.Bool.{cases_lt}
+use Rattle.std.proofs.lemmas.List.{ext_get_or, get_or-drop, get_or-take}
 use Rattle.std.proofs.lemmas.Nat.Bits.{same_from_bits_below, bit_at-lt}
 use Rattle.mask_bits.specs.Buffer.{Packed, IsWithinBytes, backing_bit, values, same_values}
 use Rattle.mask_bits.specs.Combine.{AreSameBits}
-use Rattle.mask_bits.specs.Positions.{repeated}
 use Rattle.mask_bits.specs.Words.{word_bits, window, padded_remainder}
 use Rattle.mask_bits.proofs.BufferLemmas.{length-values, get_or-values, same_values-from_answer}
 use Rattle.mask_bits.proofs.NumberLemmas.{AreBytes, bytes-take, bytes-drop}
