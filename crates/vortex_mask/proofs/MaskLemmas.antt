@@ -1,5 +1,5 @@
 -- The variant that a list may have, by its count.
-use Rattle.std.proofs.Common.{◌≡◌, ℕ, zero, suc, ◌<◌, Bool, true, false, List, [], ◌∷◌, length, refl, sym, ap, ◌∙◌, arith, inl, inr, ◌⊎◌, Some, subst}
+use Rattle.std.proofs.Common.{◌≡◌, ℕ, zero, suc, ◌<◌, Bool, true, false, List, [], ◌∷◌, length, refl, sym, ap, ◌∙◌, arith, inl, inr, ◌⊎◌, Some}
 use Rattle.std.proofs.lemmas.List.{length-replicate}
 use Rattle.vortex_mask.specs.Mask.{truth, variant_and, Variant, all_true, all_false, mixed, fitting_variant, variant}
 use Rattle.mask_bits.specs.Positions.{count, rank_intersection, repeated, positions}

@@ -1,6 +1,5 @@
 use Rattle.std.proofs.Common.{◌≡◌, ℕ, List, ◌-◌, length, take, drop, replicate, ◌++◌, ap, ap₂, ◌∙◌, arith}
-use Rattle.std.proofs.lemmas.List.{drop-replicate, length-take, length-drop, take_all}
-use Rattle.vortex_mask.specs.RankBits.{IsTail}
+use Rattle.std.proofs.lemmas.List.{drop-replicate, length-drop, take_all}
 use Rattle.vortex_mask.proofs.intersect_by_rank.rank_bits.RankBits.over.Goals as goal
 
 pub invariant_of-result : goal.invariant_of-result
