@@ -79,6 +79,9 @@ impl<'a> BitChunks<'a> {
     pub fn remainder_bits(&self) -> u64
         ensures { word_bits result ≡ padded_remainder self.now }
     {
+        if self.len % 64 == 0 {
+            return 0;
+        }
         remainder(self.bytes, self.offset, self.len)
     }
 
@@ -130,9 +133,6 @@ fn remainder(bytes: &[u8], offset: usize, len: usize) -> u64
         ≡ padded_remainder (values (record { bytes = bytes.now; offset = offset; len = len })) }
 {
     let rest = len % 64;
-    if rest == 0 {
-        return 0;
-    }
     window(bytes, offset + (len - rest)) & ((1 << rest) - 1)
 }
 

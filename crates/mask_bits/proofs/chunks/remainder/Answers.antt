@@ -1,10 +1,8 @@
 use Rattle.std.proofs.Common.{ℕ, ◌-◌, ◌%◌, ◌<◌, ap, ◌∙◌, refl, arith}
 use Rattle.std.specs.Int.RustNames.{bit_and}
 use Rattle.std.proofs.lemmas.Grind.{one_shifted}
-use Rattle.mask_bits.specs.Buffer.{Packed, values}
+use Rattle.mask_bits.specs.Buffer.{Packed}
 use Rattle.mask_bits.specs.Words.{word_bits}
-use Rattle.mask_bits.proofs.BufferLemmas.{length-values}
-use Rattle.mask_bits.proofs.Lists.PaddedLemmas.{word_bits-no_remainder}
 use Rattle.mask_bits.proofs.WindowLemmas.{word_bits-remainder}
 use Rattle.mask_bits.proofs.chunks.remainder.Goals as goal
 
@@ -15,8 +13,3 @@ returns c =
     let few : rest < 64 = omega arith in
     ap (λ n. word_bits (bit_and c.window.result (n - 1))) (one_shifted rest 18446744073709551615 refl few).0
     ∙ word_bits-remainder b c.window.result c.window.ensures
-
-pub returns-then-rest-eq0 : goal.returns-then-rest-eq0
-returns-then-rest-eq0 c =
-    let b : Packed = record { bytes = c.args.bytes.now; offset = c.args.offset; len = c.args.len } in
-    word_bits-no_remainder (values b) (omega (arith, c.if-rest-eq0.true, length-values b))
