@@ -42,18 +42,30 @@ fn of_owned(rt: &impl Abort, alloc: Global, op: Op, a: Mask, b: &Mask) -> Mask {
 
 type Row = (Of, Of, [(&'static str, &'static str); 4]);
 
-fn combines(rt: &impl Abort, alloc: Global, op: Op, (a, b): (&Mask, &Mask), want: (&str, &str)) {
+const OPS: [Op; 4] = [Op::And, Op::Or, Op::AndNot, Op::Not];
+
+fn combines(rt: &impl Abort, alloc: Global, op: Op, a: &Mask, b: &Mask, want: (&str, &str)) {
     is(rt, &of_lent(rt, alloc, op, a, b), want);
-    is(rt, &of_owned(rt, alloc, op, clone(rt, a), b), want);
+    let owned = of_owned(rt, alloc, op, clone(rt, a), b);
+    is(rt, &owned, want);
+}
+
+fn combines_each(
+    rt: &impl Abort,
+    alloc: Global,
+    a: &Mask,
+    b: &Mask,
+    wanted: &[(&'static str, &'static str); 4],
+) {
+    for (op, want) in OPS.iter().zip(wanted) {
+        combines(rt, alloc, *op, a, b, *want);
+    }
 }
 
 // The operands stay, shared as they are.
 fn combines_row(rt: &impl Abort, alloc: Global, row: &Row) {
     let (a, b) = (mask(rt, alloc, row.0), mask(rt, alloc, row.1));
-    combines(rt, alloc, Op::And, (&a, &b), row.2[0]);
-    combines(rt, alloc, Op::Or, (&a, &b), row.2[1]);
-    combines(rt, alloc, Op::AndNot, (&a, &b), row.2[2]);
-    combines(rt, alloc, Op::Not, (&a, &b), row.2[3]);
+    combines_each(rt, alloc, &a, &b, &row.2);
     stays(rt, alloc, row.0, &a);
     stays(rt, alloc, row.1, &b);
 }
@@ -208,9 +220,21 @@ type Cached = (Op, (Of, Of), (&'static str, Option<&'static [usize]>));
 fn combines_with_lists(rt: &impl Abort, alloc: Global, rows: &[Cached]) {
     for (op, (a, b), (list, indices)) in rows {
         let (a, b) = (mask(rt, alloc, *a), mask(rt, alloc, *b));
-        is_of(rt, &of_lent(rt, alloc, *op, &a, &b), list, (*indices, None));
-        is_of(rt, &of_owned(rt, alloc, *op, a, &b), list, (*indices, None));
+        combines_cached(rt, alloc, *op, a, &b, list, *indices);
     }
+}
+
+fn combines_cached(
+    rt: &impl Abort,
+    alloc: Global,
+    op: Op,
+    a: Mask,
+    b: &Mask,
+    list: &str,
+    indices: Option<&[usize]>,
+) {
+    is_of(rt, &of_lent(rt, alloc, op, &a, b), list, (indices, None));
+    is_of(rt, &of_owned(rt, alloc, op, a, b), list, (indices, None));
 }
 
 fn is_of(rt: &impl Abort, mask: &Mask, list: &str, want: Lists<'_>) {

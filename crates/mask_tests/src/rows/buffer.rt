@@ -172,10 +172,13 @@ fn slices_of_two_bytes(rt: HostRuntime) {
     slices(&rt, rt.alloc(), &ROWS);
 }
 
+fn is_equal(rt: &impl Abort, a: &BitBuffer, b: &BitBuffer, want: bool) {
+    assert!(rt; (*a == *b) == want);
+}
+
 fn compares(rt: &impl Abort, alloc: Global, rows: &[(&str, bool)]) {
     for (text, want) in rows {
-        let is_equal = five_bits(rt, alloc) == bits_of(rt, alloc, text);
-        assert!(rt; is_equal == *want, "{text}");
+        is_equal(rt, &five_bits(rt, alloc), &bits_of(rt, alloc, text), *want);
     }
 }
 

@@ -194,8 +194,7 @@ fn thirds(alloc: Global) -> Result<Vec<usize>, AllocError> {
 }
 
 // The indices of thirds are ascending, since they make a mask.
-fn thirds_twice(alloc: Global) -> Result<Mask, MaskError> {
-    let thirds = thirds(alloc)?;
+fn thirds_twice(alloc: Global, thirds: Vec<usize>) -> Result<Mask, MaskError> {
     let again = thirds.clone()?;
     let mask = Mask::from_indices(alloc, LEN, thirds.iter().copied())?;
     laws::no_index_fault();
@@ -213,7 +212,8 @@ fn of_many(rt: &impl Abort, alloc: Global) {
     has_last(rt, found(rt, made), 10_004, false);
     let made = callers::all_but_a_vec(alloc, LEN, found(rt, thirds(alloc)));
     has_last(rt, found(rt, made), 20_007, true);
-    has_last(rt, found(rt, thirds_twice(alloc)), 10_004, false);
+    let made = thirds_twice(alloc, found(rt, thirds(alloc)));
+    has_last(rt, found(rt, made), 10_004, false);
 }
 
 #[test]
