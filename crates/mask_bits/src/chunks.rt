@@ -118,7 +118,7 @@ impl<'a> BitChunks<'a> {
         if i < self.len() {
             self.word(i)
         } else {
-            self.remainder_bits()
+            remainder(self.bytes, self.offset, self.len)
         }
     }
 }

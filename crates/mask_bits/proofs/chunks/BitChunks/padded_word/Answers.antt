@@ -1,5 +1,5 @@
 use Rattle.std.proofs.Common.{◌≡◌, ◌/◌, length, ap, ◌∙◌, arith}
-use Rattle.mask_bits.specs.Words.{padded_part}
+use Rattle.mask_bits.specs.Words.{padded_part, padded_remainder}
 use Rattle.mask_bits.proofs.Lists.PaddedLemmas.{padded_part-whole, padded_part-remainder}
 use Rattle.mask_bits.proofs.chunks.BitChunks.padded_word.Goals as goal
 
@@ -10,4 +10,4 @@ returns-then-i-len c =
 pub returns-else-i-len : goal.returns-else-i-len
 returns-else-i-len c =
     let last : length c.args.self.now / 64 ≡ c.args.i = omega (arith, c.len.ensures) in
-    c.remainder_bits.ensures ∙ padded_part-remainder c.args.self.now ∙ ap (padded_part c.args.self.now) last
+    c.remainder.ensures ∙ ap padded_remainder c.self.view_is ∙ padded_part-remainder c.args.self.now ∙ ap (padded_part c.args.self.now) last
