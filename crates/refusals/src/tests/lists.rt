@@ -17,6 +17,7 @@ pub(super) enum Call {
     // of a clone, so that one is held
     IntoBitBuffer(Want),
     CloneValues,
+    Indices(&'static [usize]),
 }
 
 fn ascend(rt: &impl Abort, indices: &[usize])
@@ -36,6 +37,7 @@ fn answer(rt: &impl Abort, alloc: Global, call: Call, mask: &Mask) -> Result<(),
         Call::ToBitBuffer(want) => want.is_packed(rt, &mask.to_bit_buffer(alloc)?),
         Call::IntoBitBuffer(want) => want.is_packed(rt, &mask.clone()?.into_bit_buffer(alloc)?),
         Call::CloneValues => return clone_values(rt, mask),
+        Call::Indices(want) => return indices(rt, alloc, mask, want),
     }
     Ok(())
 }
@@ -56,6 +58,17 @@ fn counts(
 fn clone_values(rt: &impl Abort, mask: &Mask) -> Result<(), MaskError> {
     match mask.values() {
         Some(values) => hold_alike(rt, &values.clone()?, values),
+        None => panic!(rt; "these values are mixed"),
+    }
+    Ok(())
+}
+
+fn indices(rt: &impl Abort, alloc: Global, mask: &Mask, want: &[usize]) -> Result<(), MaskError> {
+    match mask.values() {
+        Some(values) => {
+            let listed = values.bit_buffer().indices(alloc, values.true_count())?;
+            assert!(rt; listed.as_slice() == want);
+        }
         None => panic!(rt; "these values are mixed"),
     }
     Ok(())
@@ -89,7 +102,7 @@ const ROWS: &[u32] = &[20, 21, 22, 23, 24, 25, 26, 27, 28, 29];
 
 #[test]
 fn lists_of_a_mask(rt: HostRuntime) {
-    let rows: [Row; 6] = [
+    let rows: [Row; 7] = [
         (
             "choose by ranges",
             Call::Choose(ROWS, &[20, 21, 22, 25, 26, 29]),
@@ -119,6 +132,11 @@ fn lists_of_a_mask(rt: HostRuntime) {
             "MaskValues::clone of touching ranges",
             Call::CloneValues,
             TOUCHING_RANGES,
+        ),
+        (
+            "BitBuffer::indices of ranges",
+            Call::Indices(&[0, 1, 2, 5, 6, 9]),
+            THREE_RANGES,
         ),
     ];
     try_rows(&rt, &rows);
