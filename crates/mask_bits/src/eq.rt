@@ -5,7 +5,7 @@ ghost use Rattle.mask_bits.specs.Buffer.{IsWithinBytes, values, same_values};
 ghost use Rattle.mask_bits.specs.Combine.{AreSameBits};
 
 use crate::buffer::BitBuffer;
-use crate::read_word::{Covered, Neighbors, ReadWord};
+use crate::read_word::{Covered, Neighbors, ReadWord, Whole};
 
 // Two buffers are equal where their lists are; offsets and the bits outside don't count.
 impl PartialEq for BitBuffer {
@@ -44,8 +44,7 @@ fn same_words(a: &[u8], a_offset: usize, b: &[u8], b_offset: usize, words: usize
     let (a, a_low) = (&a[a_offset / 8..], (a_offset % 8) as u32);
     let (b, b_low) = (&b[b_offset / 8..], (b_offset % 8) as u32);
     if a_low == 0 && b_low == 0 {
-        // the library's own loop over bytes is quicker than one over words
-        return &a[..8 * words] == &b[..8 * words];
+        return agree::<Whole>(a, a_low, b, b_low, 0, words);
     }
     // words beside which another one lies in both, up to the last
     let inner = (a.len().min(b.len()) / 8).saturating_sub(1).min(words);
@@ -54,7 +53,7 @@ fn same_words(a: &[u8], a_offset: usize, b: &[u8], b_offset: usize, words: usize
 }
 
 // How many words are compared before an early return.
-const BLOCK: usize = 32;
+const BLOCK: usize = 16;
 
 // Whether words `from` to `to` are the same, where those before are.
 fn agree<R: ReadWord>(a: &[u8], a_low: u32, b: &[u8], b_low: u32, from: usize, to: usize) -> bool
@@ -65,17 +64,18 @@ fn agree<R: ReadWord>(a: &[u8], a_low: u32, b: &[u8], b_low: u32, from: usize, t
     ensures { IsTrue result ↔ AreSameBits a.now a_low b.now b_low (64 * to) }
 {
     let mut next = from;
-    while next < to {
-        let end = next + (to - next).min(BLOCK);
-        if !agree_block::<R>(a, a_low, b, b_low, next, end) {
+    // whole blocks, so that each is a few vectors and no loop
+    while BLOCK <= to - next {
+        if !agree_block::<R>(a, a_low, b, b_low, next, next + BLOCK) {
             return false;
         }
-        next = end;
+        next += BLOCK;
     }
-    true
+    agree_block::<R>(a, a_low, b, b_low, next, to)
 }
 
 // The same with no early return, so that several words are compared at once.
+#[inline]
 fn agree_block<R: ReadWord>(
     a: &[u8],
     a_low: u32,
