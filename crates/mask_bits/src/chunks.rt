@@ -1,11 +1,13 @@
-ghost use Rattle.std.specs.Prelude.{◌≡◌, ◌+◌, ◌*◌, ◌/◌, ◌%◌, ◌<◌, ◌≤◌, ◌^◌, length, IfSome, Some};
+ghost use Rattle.std.specs.Prelude.{◌≡◌, ◌+◌, ◌*◌, ◌/◌, ◌%◌, ◌<◌, ◌≤◌, ◌^◌, length, drop, IfSome, Some};
 ghost use Rattle.std.specs.Iterator.{YieldsFirstBy, UpTo, item_count};
 ghost use Rattle.std.specs.Iterator.Runs.{EveryRun, ItemsMapTo};
 ghost use Rattle.std.specs.Iterator.SizeHint.{IsWithinCount};
 ghost use Rattle.mask_bits.specs.Buffer.{IsWithinBytes, values};
+ghost use Rattle.mask_bits.specs.Positions.{count};
 ghost use Rattle.mask_bits.specs.Words.{word_bits, word_part, word_parts, padded_remainder};
 ghost use Rattle.mask_bits.specs.Words.{started_words, padded_part, padded_parts};
 
+use crate::counts::count_bits;
 use crate::read_word::{Covered, ReadWord};
 use crate::words::window;
 use std::marker::Model;
@@ -98,6 +100,19 @@ impl<'a> BitChunks<'a> {
             chunks: BitChunks::new(self.bytes, self.offset, self.len),
             next: 0,
         }
+    }
+
+    // How many of the values from `start` on are true at least: those of the next 64 words alone are
+    // counted, so that this takes little time whatever the length is.
+    pub(crate) fn some_true_from(&self, start: usize) -> usize
+        requires { start ≤ length self.now }
+        ensures { result ≤ count (drop start self.now) }
+    {
+        count_bits(
+            self.bytes,
+            self.offset + start,
+            (self.len - start).min(4096),
+        )
     }
 
     // How many words are started.
