@@ -1,8 +1,9 @@
-use Rattle.std.proofs.Common.{◌≡◌, ◌⊎◌, ◌||◌, rules, length, true, sym, ap, ◌∙◌}
+use Rattle.std.proofs.Common.{◌≡◌, ◌⊎◌, ◌||◌, rules, length, true, refl, sym, ap, ◌∙◌}
 use Rattle.std.proofs.lemmas.Result.{IfOk-weaker}
 use Rattle.mask_bits.specs.Buffer.{values}
+use Rattle.mask_bits.specs.Lists.{combined}
 use Rattle.mask_bits.specs.Positions.{repeated}
-use Rattle.vortex_mask.specs.Mask.{truth, variant, all_true, variant_or}
+use Rattle.vortex_mask.specs.Mask.{truth, variant, all_true, variant_or, fitting_variant, all_false}
 use Rattle.vortex_mask.proofs.BitopLemmas.{variant-kept, some-combined, or-by_false, or-with_false, or-all, variant_or-all_true}
 use Rattle.vortex_mask.proofs.MaskLemmas.{fitting_variant-repeated_true}
 use Rattle.vortex_mask.proofs.ResultLemmas.{IfOk-both}
@@ -40,12 +41,13 @@ returns-in-AllTrue-default-clause-variant c =
 
 -- ---- two masks of mixed values
 
-pub returns-in_ok-bitor-in-Values-Values-clause-variant : goal.returns-in_ok-bitor-in-Values-Values-clause-variant
-returns-in_ok-bitor-in-Values-Values-clause-variant c =
+pub returns-in-Values-Values-clause-variant : goal.returns-in-Values-Values-clause-variant
+returns-in-Values-Values-clause-variant c =
     let a = values c.bit_buffer.result.now in
     let b = values c.bit_buffer-in-Values-Values.result.now in
     let is_a : a ≡ truth c.args.self.now = ap values (c.bit_buffer.ensures.buffer ∙ ap (λ v. v.buffer) c.deref.ensures) ∙ sym (ap truth c.in-Values-Values.is-0) in
     let is_b : b ≡ truth c.args.other.now = ap values (c.bit_buffer-in-Values-Values.ensures.buffer ∙ ap (λ v. v.buffer) c.deref-in-Values-Values.ensures) ∙ sym (ap truth c.in-Values-Values.is-1) in
-    let made = values c.in_ok-bitor-in-Values-Values.field-0 in
-    let some = some-combined (λ x y. x || y) a b made _ c.bit_buffer.ensures.mixed.some_false (ap length is_a ∙ c.requires ∙ sym (ap length is_b)) c.in_ok-bitor-in-Values-Values.ensures in
-    IfOk-both c.from_buffer.result _ _ _ (λ m. variant-kept (variant_or (variant c.args.self.now) (variant c.args.other.now)) m made some) c.from_buffer.ensures.list c.from_buffer.ensures.variant
+    let made = combined (λ x y. x || y) a b in
+    let some = some-combined (λ x y. x || y) a b made _ c.bit_buffer.ensures.mixed.some_false (ap length is_a ∙ c.requires ∙ sym (ap length is_b)) refl in
+    IfOk-both c.made.result _ _ _ (λ m list held.
+    variant-kept (variant_or (variant c.args.self.now) (variant c.args.other.now)) m made some list (held ∙ ap (fitting_variant all_false) list)) c.made.ensures.list c.made.ensures.variant

@@ -1,5 +1,11 @@
-use Rattle.std.proofs.Common.{true, false, sym}
-use Rattle.mask_bits.proofs.Lists.BooleanLemmas.{not_of-repeated}
+use Rattle.std.proofs.Common.{◌≡◌, true, false, not, refl, sym, ap, ◌∙◌}
+use Rattle.std.proofs.lemmas.Result.{IfOk-weaker}
+use Rattle.mask_bits.specs.Buffer.{values}
+use Rattle.mask_bits.specs.Lists.{combined, not_of}
+use Rattle.mask_bits.proofs.Lists.BooleanLemmas.{not_of-repeated, combined_itself}
+use Rattle.vortex_mask.specs.Mask.{truth, variant, variant_not, fitting_variant, all_false}
+use Rattle.vortex_mask.proofs.BitopLemmas.{variant-kept, some-combined}
+use Rattle.vortex_mask.proofs.ResultLemmas.{IfOk-both}
 use Rattle.vortex_mask.proofs.MaskLemmas.{fitting_variant-repeated_true, fitting_variant-repeated_false}
 use Rattle.vortex_mask.proofs.mask.Mask.not.Goals as goal
 
@@ -14,3 +20,17 @@ returns-in-AllFalse-clause-list c = rw c.in-AllFalse.is (sym (not_of-repeated c.
 
 pub returns-in-AllFalse-clause-variant : goal.returns-in-AllFalse-clause-variant
 returns-in-AllFalse-clause-variant c = rw c.in-AllFalse.is (sym (fitting_variant-repeated_true c.in-AllFalse.len))
+
+pub returns-in-Values-clause-list : goal.returns-in-Values-clause-list
+returns-in-Values-clause-list c =
+    let v = values c.bit_buffer-buffer.result.now in
+    let is : v ≡ truth c.args.self.now = ap values (c.bit_buffer-buffer.ensures.buffer ∙ ap (λ x. x.buffer) c.deref.ensures) ∙ sym (ap truth c.in-Values.is) in
+    IfOk-weaker c.made.result _ _ (λ m list. list ∙ combined_itself v ∙ ap not_of is) c.made.ensures.list
+
+pub returns-in-Values-clause-variant : goal.returns-in-Values-clause-variant
+returns-in-Values-clause-variant c =
+    let v = values c.bit_buffer-buffer.result.now in
+    let made = combined (λ x y. not x) v v in
+    let some = some-combined (λ x y. not x) v v made _ c.bit_buffer-buffer.ensures.mixed.some_false refl refl in
+    IfOk-both c.made.result _ _ _ (λ m list held.
+    variant-kept (variant_not (variant c.args.self.now)) m made some list (held ∙ ap (fitting_variant all_false) list)) c.made.ensures.list c.made.ensures.variant

@@ -6,7 +6,7 @@ use Rattle.mask_bits.proofs.Lists.CountLemmas.{all_true_from_count, all_false_fr
 use Rattle.mask_bits.proofs.Lists.PlaceLemmas.{count-le-length}
 use Rattle.vortex_mask.specs.Mask.{all_false, fitting_variant}
 use Rattle.vortex_mask.proofs.MaskLemmas.{AreOf-no_caches, fitting_variant-repeated_false, fitting_variant-some_true, fitting_variant-some}
-use Rattle.vortex_mask.proofs.intersect_by_rank.kernels.of_words.Goals as goal
+use Rattle.vortex_mask.proofs.mask.Mask.of_words.Goals as goal
 
 pub returns-then-true_count-eq0-clause-list : goal.returns-then-true_count-eq0-clause-list
 unfolding repeated
