@@ -22,9 +22,14 @@ impl BitBuffer {
     {
         let chunks = self.chunks();
         let mut indices = Vec::with_capacity(alloc, true_count)?;
-        for i in 0..chunks.padded_len() {
-            push_indices(&mut indices, i, chunks.padded_word(i))?;
+        // the whole words apart, so that none is tested for being the last
+        for i in 0..chunks.len() {
+            push_indices(&mut indices, i, chunks.word(i))?;
         }
+        if chunks.remainder_len() == 0 {
+            return Ok(indices);
+        }
+        push_indices(&mut indices, chunks.len(), chunks.remainder_bits())?;
         Ok(indices)
     }
 }

@@ -1,8 +1,9 @@
-use Rattle.std.proofs.Common.{◌≡◌, ◌*◌, ◌++◌, ℕ, Bool, List, length, take, ap, ◌∙◌, sym, arith}
+use Rattle.std.proofs.Common.{ℕ, ◌≡◌, ◌+◌, ◌-◌, ◌*◌, ◌/◌, ◌<◌, ◌++◌, Bool, List, length, take, ap, ◌∙◌, sym, arith}
 use Rattle.std.proofs.lemmas.List.{take_all}
 use Rattle.mask_bits.specs.Buffer.{values}
 use Rattle.mask_bits.specs.Positions.{positions, places_from}
-use Rattle.mask_bits.specs.Words.{word_bits, padded_part}
+use Rattle.mask_bits.specs.Words.{word_bits, word_part, padded_part, padded_remainder}
+use Rattle.mask_bits.proofs.Lists.PaddedLemmas.{padded_part-whole, padded_part-remainder}
 use Rattle.mask_bits.proofs.Lists.SelectLemmas.{places-word_more}
 use Rattle.mask_bits.proofs.buffer.BitBuffer.indices.Goals as goal
 
@@ -12,12 +13,31 @@ loop-i-preserved c =
     let i = c.loop-i.i in
     let same : length c.chunks-chunks.result ≡ length m = ap length c.chunks-chunks.ensures.list in
     c.in_ok-push_indices.ensures
-    ∙ ap (λ (xs : List ℕ). xs ++ places_from (64 * i) (word_bits c.padded_word.result)) c.loop-i.invariant
-    ∙ ap (λ (bits : List Bool). positions (take (64 * i) m) ++ places_from (64 * i) bits) (c.padded_word.ensures ∙ ap (λ (list : List Bool). padded_part list i) c.chunks-chunks.ensures.list)
-    ∙ sym (places-word_more m i (omega (arith, same, c.padded_len-i-end.ensures.words)))
+    ∙ ap (λ (xs : List ℕ). xs ++ places_from (64 * i) (word_bits c.word.result)) c.loop-i.invariant
+    ∙ ap (λ (bits : List Bool). positions (take (64 * i) m) ++ places_from (64 * i) bits)
+    (c.word.ensures ∙ ap (λ (list : List Bool). word_part list i) c.chunks-chunks.ensures.list ∙ padded_part-whole m i (omega (arith, same, c.loop-i-test.true, c.len-i-end.ensures)))
+    ∙ sym (places-word_more m i (omega (arith, same, c.loop-i-test.true, c.len-i-end.ensures)))
+
+pub returns-then-remainder_len-eq0 : goal.returns-then-remainder_len-eq0
+returns-then-remainder_len-eq0 c =
+    let m = values c.args.self.now in
+    let same : length c.chunks-chunks.result ≡ length m = ap length c.chunks-chunks.ensures.list in
+    c.loop-i.invariant ∙ ap positions (take_all (64 * c.loop-i.i) m (omega (arith, same, c.len-i-end.ensures, c.remainder_len.ensures, c.loop-i-test.false, c.loop-i.auto.i-end)))
 
 pub returns : goal.returns
 returns c =
     let m = values c.args.self.now in
+    let i = c.loop-i.i in
+    let rest : List Bool = word_bits c.remainder_bits.result in
+    let front : List ℕ = positions (take (64 * i) m) in
     let same : length c.chunks-chunks.result ≡ length m = ap length c.chunks-chunks.ensures.list in
-    c.loop-i.invariant ∙ ap positions (take_all (64 * c.loop-i.i) m (omega (arith, same, c.padded_len-i-end.ensures.words)))
+    let whole : i ≡ length m / 64 = omega (arith, same, c.len-i-end.ensures, c.loop-i-test.false, c.loop-i.auto.i-end) in
+    let last : c.len.result ≡ i = omega (arith, same, c.len.ensures, whole) in
+    let some : 0 < length m - 64 * i = omega (arith, same, whole, c.remainder_len.ensures, c.if-remainder_len-eq0.false) in
+    c.in_ok-push_indices-2.ensures
+    ∙ ap (λ (xs : List ℕ). xs ++ places_from (64 * c.len.result) rest) c.loop-i.invariant
+    ∙ ap (λ k. front ++ places_from (64 * k) rest) last
+    ∙ ap (λ (bits : List Bool). front ++ places_from (64 * i) bits)
+    (c.remainder_bits.ensures ∙ ap padded_remainder c.chunks-chunks.ensures.list ∙ padded_part-remainder m ∙ ap (padded_part m) (sym whole))
+    ∙ sym (places-word_more m i (omega (arith, some)))
+    ∙ ap positions (take_all (64 * (i + 1)) m (omega (arith, whole)))
