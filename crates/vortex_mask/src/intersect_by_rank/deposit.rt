@@ -25,7 +25,7 @@ pub trait DepositBits {
 const FEW: usize = 2;
 
 /// Deposits in few steps at every mask: by a closed form where at most two bits of the mask are
-/// set or clear, and byte by byte between.
+/// set or clear, and byte by byte between, unless the source is zero.
 pub struct Portable;
 
 impl DepositBits for Portable {
@@ -36,6 +36,8 @@ impl DepositBits for Portable {
             deposit_two_lowest(source, mask)
         } else if mask_count >= 64 - FEW {
             deposit_two_holes(source, mask)
+        } else if source == 0 {
+            0
         } else {
             deposit_bytewise(source, mask)
         }
