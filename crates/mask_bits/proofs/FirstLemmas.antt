@@ -1,33 +1,36 @@
--- Where a value first stands in a buffer from a place on, found in the backing bits.
-use Rattle.std.proofs.Common.{◌≡◌, ℕ, ◌+◌, ◌-◌, ◌<◌, ◌≤◌, Bool, false, not, List, length, get_or, min, ◌∙◌, ◌⊎◌, inl, inr, arith}
+-- Where a value first stands in a list from an index on, found in the backing bits.
+use Rattle.std.proofs.Common.{◌≡◌, ℕ, ◌+◌, ◌-◌, ◌<◌, ◌≤◌, Bool, false, not, List, get_or, min, ap, sym, ◌∙◌, ◌⊎◌, inl, inr, arith}
 use Rattle.mask_bits.specs.Buffer.{Packed, backing_bit, values}
 use Rattle.mask_bits.specs.Positions.{IsFirstFrom}
-use Rattle.mask_bits.proofs.BufferLemmas.{length-values, get_or-values}
+use Rattle.mask_bits.proofs.BufferLemmas.{len-of_list, get_or-values}
 
--- bit j past a place is the value there
-at_place : (b : Packed) (bytes : List ℕ) (place j i : ℕ) → bytes ≡ b.bytes → i ≡ place + j → i < length (values b) → get_or (values b) i false ≡ backing_bit bytes (b.offset + place + j)
-at_place b bytes place j i same is within = grind (arith, get_or-values, length-values)
+-- bit j past an index is the value there
+at_index : (b : Packed) {m : List Bool} (index j i : ℕ) → values b ≡ m → i ≡ index + j → i < b.len → get_or m i false ≡ backing_bit b.bytes (b.offset + index + j)
+at_index b index j i same is within =
+    let at : b.offset + i ≡ b.offset + index + j = omega arith in
+    sym (ap (λ (xs : List Bool). get_or xs i false) same) ∙ get_or-values b i false within ∙ ap (backing_bit b.bytes) at
 
--- values of one kind up to a place, and k more
-pub passed_more : (b : Packed) (bytes : List ℕ) (from place k : ℕ) (other : Bool) → bytes ≡ b.bytes → place + k ≤ length (values b)
-    → ((i : ℕ) → from ≤ i → i < place → get_or (values b) i false ≡ other)
-    → ((j : ℕ) → j < k → backing_bit bytes (b.offset + place + j) ≡ other)
-    → (i : ℕ) → from ≤ i → i < place + k → get_or (values b) i false ≡ other
-passed_more b bytes from place k other same within so_far more i low high =
-    grind (arith, so_far i low, at_place b bytes place (i - place) i same, more (i - place))
+-- values of one kind up to an index, and k more
+pub passed_more : (b : Packed) {m : List Bool} (from index k : ℕ) (other : Bool) → values b ≡ m → index + k ≤ b.len
+    → ((i : ℕ) → from ≤ i → i < index → get_or m i false ≡ other)
+    → ((j : ℕ) → j < k → backing_bit b.bytes (b.offset + index + j) ≡ other)
+    → (i : ℕ) → from ≤ i → i < index + k → get_or m i false ≡ other
+passed_more b from index k other same within so_far more i low high =
+    grind (arith, so_far i low, at_index b index (i - index) i same, more (i - index))
 
--- the first place, where the values up to it are others: the value stands there, or it is the end
-pub first_place : (b : Packed) (bytes : List ℕ) (from place run k : ℕ) (value : Bool) → bytes ≡ b.bytes → from ≤ place → k ≡ min run (length (values b) - place) → place ≤ length (values b)
-    → ((i : ℕ) → from ≤ i → i < place → get_or (values b) i false ≡ not value)
-    → ((j : ℕ) → j < run → backing_bit bytes (b.offset + place + j) ≡ not value)
-    → (run < 64 → backing_bit bytes (b.offset + place + run) ≡ value) → (run < 64) ⊎ (length (values b) - place ≤ run)
-    → IsFirstFrom (values b) from value (place + k)
-first_place b bytes from place run k value same low is within so_far more holds either = record {
-  not_before = omega arith;
-  within = omega arith;
-  passed = passed_more b bytes from place k (not value) same (omega arith) so_far (λ j h. more j (omega arith));
-  holds = λ inside.
-      let all : k ≡ run = omega arith in
-      let few : run < 64 = elim either [ inl h ↦ h | inr h ↦ absurd (omega arith) ] in
-      at_place b bytes place run (place + k) same (omega arith) inside ∙ holds few;
-}
+-- the first index, where the values up to it are others: the value stands there, or it is the end
+pub first_index : (b : Packed) {m : List Bool} (from index run k : ℕ) (value : Bool) → values b ≡ m → from ≤ index → k ≡ min run (b.len - index) → index ≤ b.len
+    → ((i : ℕ) → from ≤ i → i < index → get_or m i false ≡ not value)
+    → ((j : ℕ) → j < run → backing_bit b.bytes (b.offset + index + j) ≡ not value)
+    → (run < 64 → backing_bit b.bytes (b.offset + index + run) ≡ value) → (run < 64) ⊎ (b.len - index ≤ run)
+    → IsFirstFrom m from value (index + k)
+first_index b from index run k value same low is within so_far more holds either =
+    let len = len-of_list b same in record {
+      not_before = omega arith;
+      within = omega (arith, len);
+      passed = passed_more b from index k (not value) same (omega arith) so_far (λ j h. more j (omega arith));
+      holds = λ inside.
+          let all : k ≡ run = omega (arith, len) in
+          let few : run < 64 = elim either [ inl h ↦ h | inr h ↦ absurd (omega (arith, len)) ] in
+          at_index b index run (index + k) same (omega arith) (omega (arith, len)) ∙ holds few;
+    }

@@ -1,6 +1,6 @@
 -- What holds of all lists of truth values, whatever holds them.
 use Rattle.std.specs.Prelude.{ℕ, ◌+◌, ◌-◌, ◌*◌, ◌/◌, ◌^◌, ◌≡◌, ◌<◌, ◌≤◌, ◌&&◌, ◌↔◌, Bool, true, false, IsTrue, List, [], ◌∷◌, ◌++◌, fold, length, All, Any, sum_by, nat_eq, count_by, count_ones, flat_map, slice_get, slice_index, slice_index_or, min, slice_range}
-use Rattle.std.specs.Int.{div_ceil}
+use Rattle.std.specs.Int.{bit_at, div_ceil}
 use Rattle.std.specs.List.{range_with_len, filter_map}
 use Rattle.mask_bits.specs.Buffer.{Packed, values, same_values}
 use Rattle.mask_bits.specs.Lists.{and_of, or_of, not_of, and_not_of, joined, limited, group}
@@ -67,6 +67,10 @@ abbrev pub CountOfChosen : Type 0 → Type 0
 CountOfChosen X = (rows : List X) (m : List Bool) → length rows ≡ length m → length (chosen rows m) ≡ count m
 
 -- ---- words
+
+-- value i of a word's list is true exactly if bit i is set
+abbrev pub ValueOfWord : Type 0
+ValueOfWord = (w i : ℕ) → i < 64 → slice_index_or (word_bits w) i false ≡ nat_eq (bit_at w i) 1
 
 -- a word's list has as many true values as the word has ones
 abbrev pub CountOfWord : Type 0

@@ -1,20 +1,18 @@
 //! A list of truth values, packed.
 
-ghost use Rattle.std.specs.Prelude.{◌≡◌, ◌+◌, ◌-◌, ◌*◌, ◌<◌, ◌≤◌, ◌^◌, ◌↔◌, ℕ, Bool, false, true, [], length, vec_len, All, IfOk, IfSome, IsTrue, Some, slice_get, slice_range, take, ◌%◌, not};
+ghost use Rattle.std.specs.Prelude.{◌≡◌, ◌+◌, ◌-◌, ◌*◌, ◌<◌, ◌≤◌, ◌^◌, ◌↔◌, ℕ, Bool, false, true, [], length, vec_len, All, IfOk, IfSome, IsTrue, Some, slice_get, slice_range};
 ghost use Rattle.std.specs.Iterator.{UpTo, Drains, YieldsFirst};
 ghost use Rattle.std.specs.Iterator.Runs.{WholeRun, YieldsInOrder};
 ghost use Rattle.std.specs.List.Sorted.{IsStrictlyIncreasing};
 ghost use Rattle.mask_bits.specs.Buffer.{Packed, IsWithinBytes, values, backing_bit};
 ghost use Rattle.mask_bits.specs.Positions.{positions, count, repeated, true_at, IsFirstFrom};
 ghost use Rattle.mask_bits.specs.Runs.{AreRuns};
-ghost use Rattle.mask_bits.specs.Words.{word_bits};
 
 use crate::bit_iterator::BitIterator;
 use crate::chunks::BitChunks;
 use crate::counts::count_bits;
 use crate::set_indices::SetIndices;
 use crate::set_slices::SetSlices;
-use crate::words::window;
 use crate::write_bits::{put_bools, set_bit};
 use bytes::Bytes;
 use std::alloc::{AllocError, Global};
@@ -233,36 +231,7 @@ impl BitBuffer {
         ensures place { result ≡ slice_get (positions (values self.now)) n }
         ensures within { IfSome result (λ p. p < length (values self.now)) }
     {
-        let chunks = self.chunks();
-        let (first, rest) = self.passed_blocks(n);
-        let mut left = rest;
-        for i in first..chunks.padded_len() {
-            let word = chunks.padded_word(i);
-            let ones = word.count_ones() as usize;
-            if left < ones {
-                return Some(64 * i + place_in_word(word, left));
-            }
-            left -= ones;
-        }
-        None
-    }
-
-    // The word at which a block of 64 words begins, not past the word of true value number `n`, and
-    // that value's number among the values from there on.
-    fn passed_blocks(&self, n: usize) -> (usize, usize)
-        ensures { n ≡ count (take (64 * result.0) (values self.now)) + result.1 }
-    {
-        let mut word = 0;
-        let mut rest = n;
-        while self.len - 64 * word > 4096 {
-            let ones = self.count_range(64 * word, 64 * word + 4096);
-            if rest < ones {
-                return (word, rest);
-            }
-            rest -= ones;
-            word += 64;
-        }
-        (word, rest)
+        self.chunks().select(n)
     }
 
     /// The index of the last true value, if there is one.
@@ -271,33 +240,15 @@ impl BitBuffer {
             ≡ slice_get (positions (values self.now)) (count (values self.now) - 1) }
         ensures within { IfSome result (λ p. p < length (values self.now)) }
     {
-        let chunks = self.chunks();
-        let mut i = chunks.padded_len();
-        while i > 0 {
-            i -= 1;
-            let last = chunks.padded_word(i);
-            if last != 0 {
-                return Some(64 * i + (63 - last.leading_zeros() as usize));
-            }
-        }
-        None
+        self.chunks().last_set_index()
     }
 
-    /// The first place from `from` on that holds `value`, and the length where none does.
+    /// The first index from `from` on whose value is `value`, and the length where none is.
     pub fn first_from(&self, from: usize, value: bool) -> usize
         requires { from ≤ length (values self.now) }
         ensures { IsFirstFrom (values self.now) from value result }
     {
-        let bytes = self.bytes.as_slice();
-        let mut place = from;
-        while self.len - place > 64 {
-            let run = run_of_others(bytes, self.offset + place, value);
-            if run < 64 {
-                return place + run;
-            }
-            place += 64;
-        }
-        place + run_of_others(bytes, self.offset + place, value).min(self.len - place)
+        self.chunks().first_from(from, value)
     }
 
     /// The values in their order.
@@ -359,33 +310,4 @@ fn zeroed(alloc: Global, len: usize) -> Result<Vec<u8>, AllocError>
     ensures clear { IfOk result (λ bytes. (p : ℕ) → backing_bit bytes.items p ≡ false) }
 {
     Ok(vec![in alloc; 0u8; len.div_ceil(8)]?)
-}
-
-// The place of set bit number `n`, counted from 0.
-#[inline]
-fn place_in_word(word: u64, n: usize) -> usize
-    requires { n < count (word_bits word) }
-    ensures place { slice_get (positions (word_bits word)) n ≡ Some result }
-    ensures few { result < 64 }
-{
-    let mut word = word;
-    for _ in 0..n {
-        word &= word - 1;
-    }
-    word.trailing_zeros() as usize
-}
-
-// How many of the 64 bits from bit `position` on come before the first that is `value`.
-#[inline]
-fn run_of_others(bytes: &[u8], position: usize, value: bool) -> usize
-    ensures few { result ≤ 64 }
-    ensures passed { (j : ℕ) → j < result → backing_bit bytes.now (position + j) ≡ not value }
-    ensures holds { result < 64 → backing_bit bytes.now (position + result) ≡ value }
-{
-    let word = window(bytes, position);
-    if value {
-        word.trailing_zeros() as usize
-    } else {
-        word.trailing_ones() as usize
-    }
 }

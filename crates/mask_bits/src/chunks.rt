@@ -1,9 +1,9 @@
-ghost use Rattle.std.specs.Prelude.{◌≡◌, ◌+◌, ◌*◌, ◌/◌, ◌%◌, ◌<◌, ◌≤◌, ◌^◌, length, drop, IfSome, Some};
+ghost use Rattle.std.specs.Prelude.{◌≡◌, ◌+◌, ◌-◌, ◌*◌, ◌/◌, ◌%◌, ◌<◌, ◌≤◌, ◌^◌, ℕ, length, drop, not, slice_get, take, IfSome, Some};
 ghost use Rattle.std.specs.Iterator.{YieldsFirstBy, UpTo, item_count};
 ghost use Rattle.std.specs.Iterator.Runs.{EveryRun, ItemsMapTo};
 ghost use Rattle.std.specs.Iterator.SizeHint.{IsWithinCount};
-ghost use Rattle.mask_bits.specs.Buffer.{IsWithinBytes, values};
-ghost use Rattle.mask_bits.specs.Positions.{count};
+ghost use Rattle.mask_bits.specs.Buffer.{IsWithinBytes, backing_bit, values};
+ghost use Rattle.mask_bits.specs.Positions.{IsFirstFrom, count, positions};
 ghost use Rattle.mask_bits.specs.Words.{word_bits, word_part, word_parts, padded_remainder};
 ghost use Rattle.mask_bits.specs.Words.{started_words, padded_part, padded_parts};
 
@@ -35,7 +35,8 @@ impl<'a> BitChunks<'a> {
     /// The words of the `len` bits of `bytes` from bit position `offset` on, with no buffer of them.
     pub fn new(bytes: &'a [u8], offset: usize, len: usize) -> BitChunks<'a>
         requires { IsWithinBytes bytes.now offset len }
-        ensures { result ≡ values (record { bytes = bytes.now; offset = offset; len = len }) }
+        ensures list { result ≡ values (record { bytes = bytes.now; offset = offset; len = len }) }
+        ensures len { length result ≡ len }
     {
         BitChunks { bytes, offset, len }
     }
@@ -115,18 +116,87 @@ impl<'a> BitChunks<'a> {
         )
     }
 
-    // How many words are started.
+    /// The index of true value number `n`, counted from 0, and `None` from the true count on.
+    pub fn select(&self, n: usize) -> Option<usize>
+        ensures place { result ≡ slice_get (positions self.now) n }
+        ensures within { IfSome result (λ p. p < length self.now) }
+    {
+        let (first, rest) = self.passed_blocks(n);
+        let mut left = rest;
+        for i in first..self.padded_len() {
+            let word = self.padded_word(i);
+            let ones = word.count_ones() as usize;
+            if left < ones {
+                return Some(64 * i + index_in_word(word, left));
+            }
+            left -= ones;
+        }
+        None
+    }
+
+    /// The index of the last true value, if there is one.
+    pub fn last_set_index(&self) -> Option<usize>
+        ensures place { result
+            ≡ slice_get (positions self.now) (count self.now - 1) }
+        ensures within { IfSome result (λ p. p < length self.now) }
+    {
+        let mut i = self.padded_len();
+        while i > 0 {
+            i -= 1;
+            let last = self.padded_word(i);
+            if last != 0 {
+                return Some(64 * i + (63 - last.leading_zeros() as usize));
+            }
+        }
+        None
+    }
+
+    /// The first index from `from` on whose value is `value`, and the length where none is.
+    pub fn first_from(&self, from: usize, value: bool) -> usize
+        requires { from ≤ length self.now }
+        ensures { IsFirstFrom self.now from value result }
+    {
+        let mut index = from;
+        while self.len - index > 64 {
+            let run = run_of_others(self.bytes, self.offset + index, value);
+            if run < 64 {
+                return index + run;
+            }
+            index += 64;
+        }
+        index + run_of_others(self.bytes, self.offset + index, value).min(self.len - index)
+    }
+
+    // The word at which a block of 64 words begins, not past the word of true value number `n`, and
+    // that value's number among the values from there on.
+    fn passed_blocks(&self, n: usize) -> (usize, usize)
+        ensures { n ≡ count (take (64 * result.0) self.now) + result.1 }
+    {
+        let mut word = 0;
+        let mut rest = n;
+        while self.len - 64 * word > 4096 {
+            let ones = count_bits(self.bytes, self.offset + 64 * word, 4096);
+            if rest < ones {
+                return (word, rest);
+            }
+            rest -= ones;
+            word += 64;
+        }
+        (word, rest)
+    }
+
+    /// How many words are started: the whole ones, and one more where there is a remainder.
     #[inline]
-    pub(crate) fn padded_len(&self) -> usize
+    pub fn padded_len(&self) -> usize
         ensures words { result ≡ started_words (length self.now) }
         ensures fits { length self.now < 2 ^ 64 }
     {
         self.len.div_ceil(64)
     }
 
-    // Started word `i`, with zeros past the last value.
+    /// Started word `i`, with zeros past the last value.
     #[inline]
-    pub(crate) fn padded_word(&self, i: usize) -> u64
+    pub fn padded_word(&self, i: usize) -> u64
         requires { i < started_words (length self.now) }
         ensures { word_bits result ≡ padded_part self.now i }
     {
@@ -149,6 +219,35 @@ fn remainder(bytes: &[u8], offset: usize, len: usize) -> u64
 {
     let rest = len % 64;
     window(bytes, offset + (len - rest)) & ((1 << rest) - 1)
+}
+
+// The index of set bit number `n`, counted from 0.
+#[inline]
+fn index_in_word(word: u64, n: usize) -> usize
+    requires { n < count (word_bits word) }
+    ensures index { slice_get (positions (word_bits word)) n ≡ Some result }
+    ensures few { result < 64 }
+{
+    let mut word = word;
+    for _ in 0..n {
+        word &= word - 1;
+    }
+    word.trailing_zeros() as usize
+}
+
+// How many of the 64 bits from bit `position` on come before the first that is `value`.
+#[inline]
+fn run_of_others(bytes: &[u8], position: usize, value: bool) -> usize
+    ensures few { result ≤ 64 }
+    ensures passed { (j : ℕ) → j < result → backing_bit bytes.now (position + j) ≡ not value }
+    ensures holds { result < 64 → backing_bit bytes.now (position + result) ≡ value }
+{
+    let word = window(bytes, position);
+    if value {
+        word.trailing_zeros() as usize
+    } else {
+        word.trailing_ones() as usize
+    }
 }
 
 /// The whole words of a buffer, in their order.

@@ -1,4 +1,3 @@
 mod BitmapLemmas
 mod ChooseLemmas
-mod FirstLemmas
 mod IndexLemmas

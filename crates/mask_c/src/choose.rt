@@ -7,7 +7,6 @@ ghost use Rattle.mask_bits.specs.Positions.{chosen, count, positions};
 ghost use Rattle.mask_bits.specs.Words.{word_bits};
 ghost use Rattle.mask_c.specs.Bitmap.{bitmap};
 
-use crate::started_word::started_word;
 use mask_bits::BitChunks;
 
 /// A row of 16 bytes.
@@ -134,8 +133,8 @@ fn choose<T: Copy>(bytes: &[u8], offset: usize, len: usize, rows: &[T], out: &mu
 {
     let chunks = BitChunks::new(bytes, offset, len);
     let mut at = 0;
-    for i in 0..len.div_ceil(64) {
-        at = choose_by_word(started_word(&chunks, i), &rows[64 * i..], out, at);
+    for i in 0..chunks.padded_len() {
+        at = choose_by_word(chunks.padded_word(i), &rows[64 * i..], out, at);
     }
     at
 }

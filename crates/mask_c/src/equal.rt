@@ -4,7 +4,6 @@ ghost use Rattle.std.specs.Prelude.{◌≡◌, ◌↔◌, IsTrue};
 ghost use Rattle.mask_bits.specs.Buffer.{IsWithinBytes};
 ghost use Rattle.mask_c.specs.Bitmap.{bitmap};
 
-use crate::started_word::started_word;
 use mask_bits::BitChunks;
 
 /// Whether two bitmaps of one length have the same values.
@@ -22,8 +21,8 @@ pub extern "C" fn row_mask_equal(
 {
     let a = BitChunks::new(a, a_offset, len);
     let b = BitChunks::new(b, b_offset, len);
-    for i in 0..len.div_ceil(64) {
-        if started_word(&a, i) != started_word(&b, i) {
+    for i in 0..a.padded_len() {
+        if a.padded_word(i) != b.padded_word(i) {
             return false;
         }
     }

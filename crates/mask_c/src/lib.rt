@@ -10,4 +10,3 @@ mod indices;
 mod pointwise;
 mod rank;
 mod runs;
-mod started_word;

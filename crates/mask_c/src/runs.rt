@@ -5,7 +5,7 @@ ghost use Rattle.mask_bits.specs.Buffer.{IsWithinBytes};
 ghost use Rattle.mask_bits.specs.Positions.{IsFirstFrom};
 ghost use Rattle.mask_c.specs.Bitmap.{bitmap};
 
-use crate::indices::first_from;
+use mask_bits::BitChunks;
 
 /// The indices from `start` to `end`, the end left out.
 #[derive(Clone, Copy)]
@@ -32,7 +32,8 @@ pub extern "C" fn row_mask_next_run(
     ensures starts { IsFirstFrom (bitmap bytes.now offset len) from true result.start }
     ensures ends { IsFirstFrom (bitmap bytes.now offset len) result.start false result.end }
 {
-    let start = first_from(bytes, offset, len, from, true);
-    let end = first_from(bytes, offset, len, start, false);
+    let values = BitChunks::new(bytes, offset, len);
+    let start = values.first_from(from, true);
+    let end = values.first_from(start, false);
     RowMaskRun { start, end }
 }

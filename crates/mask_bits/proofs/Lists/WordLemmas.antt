@@ -4,7 +4,7 @@ use Rattle.std.specs.Int.{bit_at}
 use Rattle.std.proofs.lemmas.List.{drop_more, drop_all, take_more, take_all}
 use Rattle.std.proofs.lemmas.List.FromFn.{length-map-range_with_len, get_or-map-range_with_len, fill_by_all, sum_by-map-range_with_len_more}
 use Rattle.mask_bits.specs.Words.{word_bits, word_part, word_parts}
-use Rattle.mask_bits.specs.Laws.{CountsOfWordsAddUp}
+use Rattle.mask_bits.specs.Laws.{ValueOfWord, CountsOfWordsAddUp}
 use Rattle.mask_bits.specs.Positions.{count, count_below}
 use Rattle.mask_bits.proofs.Lists.CountLemmas.{count-append, count-repeated_false, count-push}
 use Rattle.std.specs.List.{sum_by, range_with_len}
@@ -84,6 +84,9 @@ counts_of_front m (suc k) h =
     let more = sum_by-map-range_with_len_more count (word_part m) 0 k k (omega arith) in
     let split = ap count (drop_split m (64 * k) (64 * k + 64) (omega arith)) ∙ count-append (word_part m k) (drop (64 * k + 64) m) in
     omega (arith, more, split, ap (λ n. sum_by count (map (word_part m) (range_with_len 0 n))) next, ap (λ n. count (drop n m)) here, counts_of_front m k (omega arith))
+
+pub value_of_word : ValueOfWord
+value_of_word w i h = get_or-word_bits w i false h
 
 pub counts_of_words_add_up : CountsOfWordsAddUp
 unfolding word_parts

@@ -3,55 +3,51 @@ use Rattle.std.specs.List.{All}
 use Rattle.std.proofs.lemmas.List.{take_all, take_rest}
 use Rattle.mask_bits.specs.Positions.{chosen, count, positions}
 use Rattle.mask_bits.specs.Words.{word_bits}
-use Rattle.mask_bits.proofs.Lists.BitsLemmas.{length-bits_at}
 use Rattle.mask_bits.proofs.Lists.SelectLemmas.{count-word_more}
 use Rattle.mask_c.proofs.ChooseLemmas.{rows_at, rows-word_more, part-within, count_below-le-count, rows-all}
 use Rattle.mask_c.proofs.choose.choose.Goals as goal
-
-pub started_word-requires : goal.started_word-requires
-started_word-requires g c = omega (arith, ap length c.new-chunks.ensures, length-bits_at c.args.bytes.now c.args.offset c.args.len)
 
 pub choose_by_word-at-requires-clause-within : goal.choose_by_word-at-requires-clause-within
 choose_by_word-at-requires-clause-within g c =
     let rows = c.args.rows.now in
     let m = c.new-chunks.result in
     let i = c.loop-i.i in
-    let len : length rows ≡ length m = c.requires.rows ∙ sym (ap length c.new-chunks.ensures ∙ length-bits_at c.args.bytes.now c.args.offset c.args.len) in
-    let places = ap positions c.started_word.ensures in
-    subst (λ xs. All (λ p. p < length xs) (positions (word_bits c.started_word.result))) (sym (take_rest rows (64 * i)))
+    let len : length rows ≡ length m = c.requires.rows ∙ sym c.new-chunks.ensures.len in
+    let places = ap positions c.padded_word.ensures in
+    subst (λ xs. All (λ p. p < length xs) (positions (word_bits c.padded_word.result))) (sym (take_rest rows (64 * i)))
     (subst (All (λ p. p < length (drop (64 * i) rows))) (sym places) (part-within rows m i len))
 
 pub choose_by_word-at-requires-clause-room : goal.choose_by_word-at-requires-clause-room
 choose_by_word-at-requires-clause-room g c =
     let m = c.new-chunks.result in
     let i = c.loop-i.i in
-    omega (arith, c.loop-i.invariant.counted, ap count c.started_word.ensures, count-word_more m i, count_below-le-count m (64 * (i + 1)), ap count c.new-chunks.ensures, c.requires.room, c.loop-i.auto.out)
+    omega (arith, c.loop-i.invariant.counted, ap count c.padded_word.ensures, count-word_more m i, count_below-le-count m (64 * (i + 1)), ap count c.new-chunks.ensures.list, c.requires.room, c.loop-i.auto.out)
 
 pub loop-i-preserved : goal.loop-i-preserved
 loop-i-preserved g c =
     let rows = c.args.rows.now in
     let m = c.new-chunks.result in
     let i = c.loop-i.i in
-    let len = ap length c.new-chunks.ensures ∙ length-bits_at c.args.bytes.now c.args.offset c.args.len in
+    let len = c.new-chunks.ensures.len in
     let before = rows_at rows (positions (take (64 * i) m)) in
     record {
       rows = c.choose_by_word-at.ensures.rows
-          ∙ ap (λ xs. xs ++ rows_at (take (length rows - 64 * i) (drop (64 * i) rows)) (positions (word_bits c.started_word.result))) c.loop-i.invariant.rows
-          ∙ ap (λ xs. before ++ rows_at xs (positions (word_bits c.started_word.result))) (take_rest rows (64 * i))
-          ∙ ap (λ (x : List Bool). before ++ rows_at (drop (64 * i) rows) (positions x)) c.started_word.ensures
+          ∙ ap (λ xs. xs ++ rows_at (take (length rows - 64 * i) (drop (64 * i) rows)) (positions (word_bits c.padded_word.result))) c.loop-i.invariant.rows
+          ∙ ap (λ xs. before ++ rows_at xs (positions (word_bits c.padded_word.result))) (take_rest rows (64 * i))
+          ∙ ap (λ (x : List Bool). before ++ rows_at (drop (64 * i) rows) (positions x)) c.padded_word.ensures
           ∙ sym (rows-word_more rows m i (omega arith));
-      counted = omega (arith, c.choose_by_word-at.ensures.count, c.loop-i.invariant.counted, ap count c.started_word.ensures, count-word_more m i);
+      counted = omega (arith, c.choose_by_word-at.ensures.count, c.loop-i.invariant.counted, ap count c.padded_word.ensures, count-word_more m i);
     }
 
 pub returns-clause-rows : goal.returns-clause-rows
 returns-clause-rows g c =
     let m = c.new-chunks.result in
-    let len = ap length c.new-chunks.ensures ∙ length-bits_at c.args.bytes.now c.args.offset c.args.len in
+    let len = c.new-chunks.ensures.len in
     c.loop-i.invariant.rows ∙ rows-all c.args.rows.now m (64 * c.loop-i.i) (omega arith)
-    ∙ ap (λ (x : List Bool). chosen c.args.rows.now x) c.new-chunks.ensures
+    ∙ ap (λ (x : List Bool). chosen c.args.rows.now x) c.new-chunks.ensures.list
 
 pub returns-clause-count : goal.returns-clause-count
 returns-clause-count g c =
     let m = c.new-chunks.result in
-    let len = ap length c.new-chunks.ensures ∙ length-bits_at c.args.bytes.now c.args.offset c.args.len in
-    c.loop-i.invariant.counted ∙ ap count (take_all (64 * c.loop-i.i) m (omega arith)) ∙ ap count c.new-chunks.ensures
+    let len = c.new-chunks.ensures.len in
+    c.loop-i.invariant.counted ∙ ap count (take_all (64 * c.loop-i.i) m (omega arith)) ∙ ap count c.new-chunks.ensures.list

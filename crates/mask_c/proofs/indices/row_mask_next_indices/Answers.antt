@@ -1,23 +1,18 @@
-use Rattle.std.proofs.Common.{Bool, List, ◌<◌, ◌+◌, ◌-◌, ◌*◌, ◌^◌, length, map, min, take, subst, sym, ap, ◌∙◌, arith}
+use Rattle.std.proofs.Common.{Bool, List, ◌<◌, ◌+◌, ◌*◌, ◌^◌, length, map, min, take, subst, sym, ap, ◌∙◌, arith}
 use Rattle.std.specs.List.{All}
 use Rattle.std.proofs.lemmas.List.{take_all}
 use Rattle.mask_bits.specs.Positions.{count, places_from, positions}
-use Rattle.mask_bits.proofs.Lists.BitsLemmas.{length-bits_at}
 use Rattle.mask_c.proofs.ChooseLemmas.{count_below-le-count}
 use Rattle.mask_c.proofs.IndexLemmas.{bitmap-rest, indices-within, all_indices, first_indices, word_done, word_counted}
 use Rattle.mask_c.proofs.indices.row_mask_next_indices.Goals as goal
-
-pub started_word-requires : goal.started_word-requires
-started_word-requires c =
-    omega (arith, ap length c.new-chunks.ensures, length-bits_at c.args.bytes.now (c.args.offset + c.args.from) (c.args.len - c.args.from))
 
 pub indices_of_word-at-requires-clause-fits : goal.indices_of_word-at-requires-clause-fits
 indices_of_word-at-requires-clause-fits c =
     let m = c.new-chunks.result in
     let from = c.args.from in
     let i = c.loop-i.i in
-    let len = ap length c.new-chunks.ensures ∙ length-bits_at c.args.bytes.now (c.args.offset + from) (c.args.len - from) in
-    subst (All (λ p. from + 64 * i + p < 2 ^ 64)) (sym (ap positions c.started_word.ensures))
+    let len = c.new-chunks.ensures.len in
+    subst (All (λ p. from + 64 * i + p < 2 ^ 64)) (sym (ap positions c.padded_word.ensures))
     (indices-within m from i (omega (arith, c.requires.within)) (omega arith))
 
 pub loop-i-preserved : goal.loop-i-preserved
@@ -27,11 +22,11 @@ loop-i-preserved c =
     let was = c.loop-i.invariant in
     let put = c.indices_of_word-at in
     let n = length c.loop-i.out in
-    let len = ap length c.new-chunks.ensures ∙ length-bits_at c.args.bytes.now (c.args.offset + c.args.from) (c.args.len - c.args.from) in
+    let len = c.new-chunks.ensures.len in
     record {
-      indices = word_done m c.args.from i c.loop-i.at put.result _ n c.loop-i.out put.new.out (omega arith) c.started_word.ensures was.indices put.ensures.indices
+      indices = word_done m c.args.from i c.loop-i.at put.result _ n c.loop-i.out put.new.out (omega arith) c.padded_word.ensures was.indices put.ensures.indices
           ∙ ap (λ k. take k (map (λ p. c.args.from + p) (positions (take (64 * (i + 1)) m)))) (sym put.auto.out);
-      counted = word_counted m i c.loop-i.at put.result _ n c.started_word.ensures was.counted put.ensures.count
+      counted = word_counted m i c.loop-i.at put.result _ n c.padded_word.ensures was.counted put.ensures.count
           ∙ ap (λ k. min k (count (take (64 * (i + 1)) m))) (sym put.auto.out);
     }
 
@@ -42,10 +37,10 @@ returns-then-at-out-clause-indices c =
     let was = c.loop-i.invariant in
     let put = c.indices_of_word-at in
     let n = length c.loop-i.out in
-    let len = ap length c.new-chunks.ensures ∙ length-bits_at c.args.bytes.now (c.args.offset + c.args.from) (c.args.len - c.args.from) in
-    let many = word_counted m i c.loop-i.at put.result _ n c.started_word.ensures was.counted put.ensures.count in
-    let rest = c.new-chunks.ensures ∙ bitmap-rest c.args.bytes.now c.args.offset c.args.len c.args.from c.requires.within in
-    word_done m c.args.from i c.loop-i.at put.result _ n c.loop-i.out put.new.out (omega arith) c.started_word.ensures was.indices put.ensures.indices
+    let len = c.new-chunks.ensures.len in
+    let many = word_counted m i c.loop-i.at put.result _ n c.padded_word.ensures was.counted put.ensures.count in
+    let rest = c.new-chunks.ensures.list ∙ bitmap-rest c.args.bytes.now c.args.offset c.args.len c.args.from c.requires.within in
+    word_done m c.args.from i c.loop-i.at put.result _ n c.loop-i.out put.new.out (omega arith) c.padded_word.ensures was.indices put.ensures.indices
     ∙ first_indices m c.args.from n (64 * (i + 1)) (omega (arith, many, c.if-at-out.true, put.auto.out))
     ∙ ap (λ k. take k (places_from c.args.from m)) c.loop-i.auto.out
     ∙ ap (λ (x : List Bool). take (length c.args.out.now) (places_from c.args.from x)) rest
@@ -55,15 +50,15 @@ returns-then-at-out-clause-count c =
     let m = c.new-chunks.result in
     let i = c.loop-i.i in
     let put = c.indices_of_word-at in
-    let many = word_counted m i c.loop-i.at put.result _ (length c.loop-i.out) c.started_word.ensures c.loop-i.invariant.counted put.ensures.count in
-    let rest = c.new-chunks.ensures ∙ bitmap-rest c.args.bytes.now c.args.offset c.args.len c.args.from c.requires.within in
+    let many = word_counted m i c.loop-i.at put.result _ (length c.loop-i.out) c.padded_word.ensures c.loop-i.invariant.counted put.ensures.count in
+    let rest = c.new-chunks.ensures.list ∙ bitmap-rest c.args.bytes.now c.args.offset c.args.len c.args.from c.requires.within in
     omega (arith, many, c.if-at-out.true, put.auto.out, c.loop-i.auto.out, count_below-le-count m (64 * (i + 1)), ap count rest)
 
 pub returns-clause-indices : goal.returns-clause-indices
 returns-clause-indices c =
     let m = c.new-chunks.result in
-    let len = ap length c.new-chunks.ensures ∙ length-bits_at c.args.bytes.now (c.args.offset + c.args.from) (c.args.len - c.args.from) in
-    let rest = c.new-chunks.ensures ∙ bitmap-rest c.args.bytes.now c.args.offset c.args.len c.args.from c.requires.within in
+    let len = c.new-chunks.ensures.len in
+    let rest = c.new-chunks.ensures.list ∙ bitmap-rest c.args.bytes.now c.args.offset c.args.len c.args.from c.requires.within in
     c.loop-i.invariant.indices
     ∙ ap (take (length c.loop-i.out)) (all_indices m c.args.from (64 * c.loop-i.i) (omega arith))
     ∙ ap (λ k. take k (places_from c.args.from m)) c.loop-i.auto.out
@@ -72,8 +67,8 @@ returns-clause-indices c =
 pub returns-clause-count : goal.returns-clause-count
 returns-clause-count c =
     let m = c.new-chunks.result in
-    let len = ap length c.new-chunks.ensures ∙ length-bits_at c.args.bytes.now (c.args.offset + c.args.from) (c.args.len - c.args.from) in
-    let rest = c.new-chunks.ensures ∙ bitmap-rest c.args.bytes.now c.args.offset c.args.len c.args.from c.requires.within in
+    let len = c.new-chunks.ensures.len in
+    let rest = c.new-chunks.ensures.list ∙ bitmap-rest c.args.bytes.now c.args.offset c.args.len c.args.from c.requires.within in
     c.loop-i.invariant.counted
     ∙ ap (λ k. min k (count (take (64 * c.loop-i.i) m))) c.loop-i.auto.out
     ∙ ap (λ (x : List Bool). min (length c.args.out.now) (count x)) (take_all (64 * c.loop-i.i) m (omega arith) ∙ rest)

@@ -1,7 +1,7 @@
 use Rattle.std.proofs.Common.{◌≡◌, drop}
 use Rattle.mask_bits.specs.Positions.{positions}
 use Rattle.mask_bits.specs.Words.{word_bits}
-use Rattle.mask_c.proofs.indices.place_in_word.Given as goal
+use Rattle.mask_bits.proofs.chunks.index_in_word.Given as goal
 
 -- the lowest set bits so far are cleared
 abbrev pub invariant-loop : goal.invariant-loop

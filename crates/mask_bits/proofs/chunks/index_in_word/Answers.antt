@@ -3,7 +3,7 @@ use Rattle.mask_bits.specs.Positions.{positions}
 use Rattle.mask_bits.specs.Words.{word_bits}
 use Rattle.mask_bits.proofs.Lists.LowestLemmas.{low-within}
 use Rattle.mask_bits.proofs.Lists.SelectLemmas.{some_left, left-more, left-first}
-use Rattle.mask_c.proofs.indices.place_in_word.Goals as goal
+use Rattle.mask_bits.proofs.chunks.index_in_word.Goals as goal
 
 pub overflow_sub-word : goal.overflow_sub-word
 overflow_sub-word c =
@@ -12,8 +12,8 @@ overflow_sub-word c =
 pub loop-preserved : goal.loop-preserved
 loop-preserved c = left-more c.loop.word c.loop.counter (positions (word_bits c.args.word)) c.loop.auto.word-fits.fits c.loop.invariant (omega arith)
 
-pub returns-clause-place : goal.returns-clause-place
-returns-clause-place c =
+pub returns-clause-index : goal.returns-clause-index
+returns-clause-index c =
     let ps = positions (word_bits c.args.word) in
     let last : c.loop.counter ≡ c.args.n = omega arith in
     ap (slice_get ps) (sym last) ∙ left-first c.loop.word c.loop.counter ps c.loop.auto.word-fits.fits c.loop.invariant (omega arith)

@@ -1,7 +1,7 @@
 use Rattle.std.proofs.Common.{◌≡◌, ◌+◌, ◌*◌, take}
 use Rattle.mask_bits.specs.Positions.{count}
-use Rattle.mask_bits.proofs.buffer.BitBuffer.select.Given as goal
+use Rattle.mask_bits.proofs.chunks.BitChunks.select.Given as goal
 
 -- the true values of the words so far, and those still to pass
 abbrev pub invariant-loop-i : goal.invariant-loop-i
-invariant-loop-i l = l.n ≡ count (take (64 * l.i) l.chunks) + l.left
+invariant-loop-i l = l.n ≡ count (take (64 * l.i) l.self) + l.left

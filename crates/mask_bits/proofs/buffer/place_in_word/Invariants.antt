@@ -1,8 +1,0 @@
-use Rattle.std.proofs.Common.{◌≡◌, drop}
-use Rattle.mask_bits.specs.Positions.{positions}
-use Rattle.mask_bits.specs.Words.{word_bits}
-use Rattle.mask_bits.proofs.buffer.place_in_word.Given as goal
-
--- the lowest set bits so far are cleared
-abbrev pub invariant-loop : goal.invariant-loop
-invariant-loop l = positions (word_bits l.word) ≡ drop l.counter (positions (word_bits l.fn.word))

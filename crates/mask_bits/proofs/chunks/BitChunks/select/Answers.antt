@@ -1,0 +1,31 @@
+use Rattle.std.proofs.Common.{Bool, ℕ, List, Option, ◌<◌, length, slice_get, subst, sym, ap, ◌∙◌, arith}
+use Rattle.std.specs.Option.{IfSome}
+use Rattle.mask_bits.specs.Positions.{positions, count}
+use Rattle.mask_bits.proofs.Lists.PlaceLemmas.{place-within}
+use Rattle.mask_bits.proofs.Lists.SelectLemmas.{place_in_word, place_none, count-word_more}
+use Rattle.mask_bits.proofs.Lists.WordLemmas.{count-word_bits}
+use Rattle.mask_bits.proofs.chunks.BitChunks.select.Goals as goal
+
+pub index_in_word-requires : goal.index_in_word-requires
+index_in_word-requires c = omega (arith, c.if-left-ones.true, count-word_bits c.padded_word-word.result c.padded_word-word.type_inv)
+
+pub returns-then-left-ones-clause-place : goal.returns-then-left-ones-clause-place
+returns-then-left-ones-clause-place c =
+    let m = c.args.self.now in
+    let read = c.padded_word-word.ensures in
+    let here = ap (λ (xs : List Bool). slice_get (positions xs) c.loop-i.left) (sym read) ∙ c.index_in_word.ensures.index in
+    sym (place_in_word m c.loop-i.i c.args.n c.loop-i.left c.index_in_word.result (omega (arith, c.padded_len-i-end.ensures.words)) c.loop-i.invariant
+    (omega (arith, ap count read, count-word_bits c.padded_word-word.result c.padded_word-word.type_inv)) here)
+
+pub returns-then-left-ones-clause-within : goal.returns-then-left-ones-clause-within
+returns-then-left-ones-clause-within c =
+    let m = c.args.self.now in
+    subst (λ (o : Option ℕ). IfSome o (λ p. p < length m)) (sym (returns-then-left-ones-clause-place c)) (place-within m c.args.n)
+
+pub loop-i-preserved : goal.loop-i-preserved
+loop-i-preserved c =
+    omega (arith, c.loop-i.invariant, count-word_more c.args.self.now c.loop-i.i, ap count c.padded_word-word.ensures, count-word_bits c.padded_word-word.result c.padded_word-word.type_inv)
+
+pub returns-clause-place : goal.returns-clause-place
+returns-clause-place c =
+    sym (place_none c.args.self.now c.loop-i.i c.args.n c.loop-i.left (omega (arith, c.padded_len-i-end.ensures.words)) c.loop-i.invariant)

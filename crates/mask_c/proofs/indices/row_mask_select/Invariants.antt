@@ -1,7 +1,0 @@
-use Rattle.std.proofs.Common.{◌≡◌, ◌+◌, ◌*◌, take}
-use Rattle.mask_bits.specs.Positions.{count}
-use Rattle.mask_c.proofs.indices.row_mask_select.Given as goal
-
--- the true values of the words so far, and those still to pass
-abbrev pub invariant-loop-i : goal.invariant-loop-i
-invariant-loop-i l = l.n ≡ count (take (64 * l.i) l.chunks) + l.left
