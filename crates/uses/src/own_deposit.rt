@@ -23,11 +23,74 @@ impl DepositBits for WholeWords {
     }
 }
 
-/// The rows of one bitmap that another one, over its true values, keeps: by that deposit.
-pub fn narrowed(alloc: Global, rows: &BitBuffer, kept: &BitBuffer) -> Result<Mask, MaskError>
+/// Deposits one place after another, from the lowest.
+pub struct InTurn;
+
+impl DepositBits for InTurn {
+    fn deposit_bits(source: u64, mask: u64, _mask_count: usize) -> u64 {
+        deposited(source, mask)
+    }
+}
+
+// Each set place of the mask takes the next bit of the source.
+fn deposited(source: u64, mask: u64) -> u64
+    ensures { Deposits source mask result }
+{
+    mask_bits::laws::values_of_words();
+    mask_bits::laws::count_below_by_steps();
+    let mut result = 0;
+    let mut rank = 0u32;
+    for i in 0..64u32 {
+        if (mask >> i) & 1 == 1 {
+            if (source >> rank) & 1 == 1 {
+                result |= 1 << i;
+            }
+            rank += 1;
+        }
+    }
+    result
+}
+
+/// The rows of one bitmap that another one, over its true values, keeps: by a deposit of one's own.
+pub fn narrowed<D: DepositBits>(
+    alloc: Global,
+    rows: &BitBuffer,
+    kept: &BitBuffer,
+) -> Result<Mask, MaskError>
     requires { length (values kept.now) ≡ count (values rows.now) }
     ensures { IfOk result (λ m. truth m ≡ rank_intersection (values rows.now) (values kept.now)) }
 {
-    let (mask, _) = intersect_bit_buffers::<WholeWords>(alloc, rows, kept, kept.true_count())?;
+    let (mask, _) = intersect_bit_buffers::<D>(alloc, rows, kept, kept.true_count())?;
     Ok(mask)
+}
+
+#[cfg(test)]
+mod tests {
+    use super::{InTurn, WholeWords, narrowed};
+    use crate::tests::{buffer, lists, same};
+    use mask_bits::BitBuffer;
+    use std::alloc::Global;
+    use std::process::Abort;
+    use std::test::Fail;
+    use vortex_mask::MaskError;
+
+    fn narrows(
+        rt: &impl Abort,
+        alloc: Global,
+        rows: &BitBuffer,
+        kept: &BitBuffer,
+    ) -> Result<(), MaskError> {
+        same(rt, kept.len(), rows.true_count());
+        lists(rt, &narrowed::<WholeWords>(alloc, rows, kept)?, "00001001");
+        lists(rt, &narrowed::<InTurn>(alloc, rows, kept)?, "00001001");
+        Ok(())
+    }
+
+    #[test]
+    fn of_two_bitmaps(rt: HostRuntime) -> Result<(), Fail> {
+        let rows = buffer(rt.alloc(), "10011101")?;
+        let kept = buffer(rt.alloc(), "00101")?;
+        narrows(&rt, rt.alloc(), &rows, &kept)?;
+        Ok(())
+    }
 }
