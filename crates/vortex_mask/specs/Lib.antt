@@ -12,6 +12,7 @@ pub mod Laws
 pub mod Lend
 pub mod Mask
 pub mod MaskValues
+pub mod Narrowed
 pub mod Path
 pub mod Ranges
 pub mod RankBits

@@ -81,7 +81,24 @@ impl Mask {
             → IsOk result }
         ensures refused { IsOkUnless result (MaskError.Memory alloc_error) }
     {
-        self.narrowed(alloc, mask)
+        match (self, mask) {
+            (Mask::AllTrue(_), _) => {
+                laws::one_variant(mask);
+                Ok((mask.clone()?, Steps::new()))
+            }
+            (_, Mask::AllTrue(_)) => {
+                laws::one_variant(self);
+                Ok((self.clone()?, Steps::new()))
+            }
+            (Mask::AllFalse(_), _) | (_, Mask::AllFalse(_)) => {
+                Ok((Mask::new_false(self.len()), Steps::new()))
+            }
+            (Mask::Values(values), Mask::Values(ranks)) => {
+                // some values are true and some are not, as their count tells
+                let _ = values.true_count();
+                narrow_by_path(alloc, values, ranks)
+            }
+        }
     }
 
     /// This mask narrowed by each of `masks` in turn: by the first over its true values, and by each
@@ -110,40 +127,5 @@ impl Mask {
         }
         laws::one_variant(&narrowed);
         Ok(narrowed)
-    }
-
-    // The mask of the one list that is the rank intersection. Its length and true indices follow.
-    fn narrowed(&self, alloc: Global, mask: &Mask) -> Result<(Mask, Steps), MaskError>
-        requires { length (truth mask.now) ≡ count (truth self.now) }
-        ensures list { IfOk result
-            (λ r. truth r.0 ≡ rank_intersection (truth self.now) (truth mask.now)) }
-        ensures variant { IfOk result (λ r. variant r.0
-            ≡ fitting_variant (variant_and (variant self.now) (variant mask.now)) (truth r.0)) }
-        ensures caches { IfOk result
-            (λ r. caches r.0 ≡ narrowed_caches self.now mask.now r.0) }
-        ensures steps { IfOk result (λ r. AreNarrowingSteps self.now mask.now r.0 r.1) }
-        ensures uniform { variant self.now ≢ mixed → variant mask.now ≢ mixed → IsOk result }
-        ensures none { (variant self.now ≡ all_false) ⊎ (variant mask.now ≡ all_false)
-            → IsOk result }
-        ensures refused { IsOkUnless result (MaskError.Memory alloc_error) }
-    {
-        match (self, mask) {
-            (Mask::AllTrue(_), _) => {
-                laws::one_variant(mask);
-                Ok((mask.clone()?, Steps::new()))
-            }
-            (_, Mask::AllTrue(_)) => {
-                laws::one_variant(self);
-                Ok((self.clone()?, Steps::new()))
-            }
-            (Mask::AllFalse(_), _) | (_, Mask::AllFalse(_)) => {
-                Ok((Mask::new_false(self.len()), Steps::new()))
-            }
-            (Mask::Values(values), Mask::Values(ranks)) => {
-                // some values are true and some are not, as their count tells
-                let _ = values.true_count();
-                narrow_by_path(alloc, values, ranks)
-            }
-        }
     }
 }

@@ -1,20 +1,19 @@
 //! Which kernel narrows two masks of mixed values, and the call of that kernel.
 
-ghost use Rattle.std.specs.Prelude.{◌≡◌, ◌*◌, ◌≤◌, IfOk, IsOkUnless, IsTrue, alloc_error, is_some, length, nat_lt};
+ghost use Rattle.std.specs.Prelude.{◌≡◌, ◌*◌, IfOk, IsOkUnless, IsSome, alloc_error, length, nat_lt};
+ghost use Rattle.std.specs.Cow.{cow_slice_items};
 ghost use Rattle.mask_bits.specs.Buffer.{values};
-ghost use Rattle.mask_bits.specs.Positions.{count, positions, rank_intersection};
-ghost use Rattle.vortex_mask.specs.Path.{path_of, path_caches, AreStepsOf};
-ghost use Rattle.vortex_mask.specs.Mask.{truth, variant, fitting_variant, all_false, caches, where_mixed};
-ghost use Rattle.vortex_mask.specs.MaskValues.{no_caches, kept_indices};
-ghost use Rattle.vortex_mask.specs.Steps.{no_steps, word_steps, driven_steps};
-ghost use Rattle.mask_bits.specs.Words.{started_words};
+ghost use Rattle.mask_bits.specs.Positions.{count, positions};
+ghost use Rattle.vortex_mask.specs.Path.{path_of};
+ghost use Rattle.vortex_mask.specs.Narrowed.{IsNarrowedOn};
 
 use crate::intersect_by_rank::{
-    Portable, PortableLoop, Steps, intersect_bit_buffer_by_rank_indices, intersect_bit_buffers,
-    intersect_by_rank_indices, intersect_mask_driven,
+    DepositBits, Portable, PortableLoop, Steps, intersect_bit_buffer_by_rank_indices,
+    intersect_bit_buffers, intersect_by_rank_indices, intersect_mask_driven,
 };
 use crate::mask::{Mask, MaskError, MaskValues};
-use std::alloc::Global;
+use std::alloc::{AllocError, Global};
+use std::borrow::CowSlice;
 
 /// How a mask of mixed values is narrowed by another: the kernel that runs.
 #[derive(Debug, Clone, Copy, PartialEq, Eq)]
@@ -78,20 +77,21 @@ pub(super) fn narrow_by_path(
     ranks: &MaskValues,
 ) -> Result<(Mask, Steps), MaskError>
     requires { length (values ranks.now.buffer) ≡ count (values rows.now.buffer) }
-    ensures list { IfOk result (λ r.
-        truth r.0 ≡ rank_intersection (values rows.now.buffer) (values ranks.now.buffer)) }
-    ensures variant { IfOk result (λ r. variant r.0 ≡ fitting_variant all_false (truth r.0)) }
-    ensures caches { IfOk result (λ r.
-        caches r.0 ≡ where_mixed r.0 (path_caches (path_of rows.now ranks.now) (truth r.0))) }
-    ensures steps { IfOk result (λ r. AreStepsOf (path_of rows.now ranks.now)
-        (values rows.now.buffer) (values ranks.now.buffer) (truth r.0) r.1) }
+    ensures narrowed { IfOk result
+        (λ r. IsNarrowedOn (path_of rows.now ranks.now) rows.now ranks.now r.0 r.1) }
     ensures refused { IsOkUnless result (MaskError.Memory alloc_error) }
 {
     match rank_path(rows, ranks) {
         RankPath::Indices => by_indices(alloc, rows, ranks),
         RankPath::MaskDriven => by_selections(alloc, rows, ranks),
-        RankPath::BitBuffers => by_buffers(alloc, rows, ranks),
-        RankPath::RankIndices => by_rank_indices(alloc, rows, ranks),
+        RankPath::BitBuffers if goes_by_loop(rows) => {
+            by_buffers::<PortableLoop>(alloc, rows, ranks)
+        }
+        RankPath::BitBuffers => by_buffers::<Portable>(alloc, rows, ranks),
+        RankPath::RankIndices if goes_by_loop(rows) => {
+            by_rank_indices::<PortableLoop>(alloc, rows, ranks)
+        }
+        RankPath::RankIndices => by_rank_indices::<Portable>(alloc, rows, ranks),
     }
 }
 
@@ -102,47 +102,23 @@ fn by_indices(
     ranks: &MaskValues,
 ) -> Result<(Mask, Steps), MaskError>
     requires { length (values ranks.now.buffer) ≡ count (values rows.now.buffer) }
-    ensures list { IfOk result (λ r.
-        truth r.0 ≡ rank_intersection (values rows.now.buffer) (values ranks.now.buffer)) }
-    ensures variant { IfOk result (λ r. variant r.0 ≡ fitting_variant all_false (truth r.0)) }
-    ensures caches { IfOk result (λ r.
-        caches r.0 ≡ where_mixed r.0 (kept_indices (positions (truth r.0)))) }
-    ensures steps { IfOk result (λ r. r.1 ≡ no_steps) }
+    ensures narrowed { IfOk result
+        (λ r. IsNarrowedOn RankPath.Indices rows.now ranks.now r.0 r.1) }
     ensures refused { IsOkUnless result (MaskError.Memory alloc_error) }
 {
-    match rows.cached_indices() {
-        Some(places) => by_places(alloc, rows, places, ranks),
-        None => {
-            let places = rows.places(alloc)?;
-            by_places(alloc, rows, &places, ranks)
-        }
-    }
+    let (places, ranks) = (true_indices(alloc, rows)?, true_indices(alloc, ranks)?);
+    intersect_by_rank_indices(alloc, rows.len(), places.as_slice(), ranks.as_slice())
 }
 
-// The same with the true indices of the first at hand.
-fn by_places(
-    alloc: Global,
-    rows: &MaskValues,
-    places: &[usize],
-    ranks: &MaskValues,
-) -> Result<(Mask, Steps), MaskError>
-    requires fitting { length (values ranks.now.buffer) ≡ count (values rows.now.buffer) }
-    requires places { places.now ≡ positions (values rows.now.buffer) }
-    ensures list { IfOk result (λ r.
-        truth r.0 ≡ rank_intersection (values rows.now.buffer) (values ranks.now.buffer)) }
-    ensures variant { IfOk result (λ r. variant r.0 ≡ fitting_variant all_false (truth r.0)) }
-    ensures caches { IfOk result (λ r.
-        caches r.0 ≡ where_mixed r.0 (kept_indices (positions (truth r.0)))) }
-    ensures steps { IfOk result (λ r. r.1 ≡ no_steps) }
-    ensures refused { IsOkUnless result (MaskError.Memory alloc_error) }
+// The true indices: the cached ones, or a list made for the call.
+fn true_indices(alloc: Global, mask: &MaskValues) -> Result<CowSlice<'_, usize>, AllocError>
+    ensures { IfOk result
+        (λ indices. cow_slice_items indices ≡ positions (values mask.now.buffer)) }
 {
-    match ranks.cached_indices() {
-        Some(numbers) => intersect_by_rank_indices(alloc, rows.len(), places, numbers),
-        None => {
-            let numbers = ranks.places(alloc)?;
-            intersect_by_rank_indices(alloc, rows.len(), places, &numbers)
-        }
-    }
+    Ok(match mask.cached_indices() {
+        Some(cached) => CowSlice::Borrowed(cached),
+        None => CowSlice::Owned(mask.places(alloc)?),
+    })
 }
 
 // By a selection for each true index of the second, which are walked over where they aren't cached.
@@ -152,73 +128,51 @@ fn by_selections(
     ranks: &MaskValues,
 ) -> Result<(Mask, Steps), MaskError>
     requires { length (values ranks.now.buffer) ≡ count (values rows.now.buffer) }
-    ensures list { IfOk result (λ r.
-        truth r.0 ≡ rank_intersection (values rows.now.buffer) (values ranks.now.buffer)) }
-    ensures variant { IfOk result (λ r. variant r.0 ≡ fitting_variant all_false (truth r.0)) }
-    ensures caches { IfOk result (λ r.
-        caches r.0 ≡ where_mixed r.0 (kept_indices (positions (truth r.0)))) }
-    ensures steps { IfOk result (λ r. r.1
-        ≡ driven_steps r.1.words (count (values ranks.now.buffer)) (truth r.0)) }
-    ensures words { IfOk result
-        (λ r. r.1.words ≤ started_words (length (values rows.now.buffer))) }
+    ensures narrowed { IfOk result
+        (λ r. IsNarrowedOn RankPath.MaskDriven rows.now ranks.now r.0 r.1) }
     ensures refused { IsOkUnless result (MaskError.Memory alloc_error) }
 {
     let (buffer, true_count) = (rows.bit_buffer(), ranks.true_count());
     match ranks.cached_indices() {
-        Some(numbers) => {
-            let numbers = numbers.iter().copied();
-            intersect_mask_driven::<Portable, _>(alloc, buffer, numbers, true_count)
+        Some(cached) => {
+            let ranks = cached.iter().copied();
+            intersect_mask_driven::<Portable, _>(alloc, buffer, ranks, true_count)
         }
         None => {
-            let numbers = ranks.bit_buffer().set_indices();
-            intersect_mask_driven::<Portable, _>(alloc, buffer, numbers, true_count)
+            let ranks = ranks.bit_buffer().set_indices();
+            intersect_mask_driven::<Portable, _>(alloc, buffer, ranks, true_count)
         }
     }
 }
 
 // By the bits of both.
-fn by_buffers(
+fn by_buffers<D: DepositBits>(
     alloc: Global,
     rows: &MaskValues,
     ranks: &MaskValues,
 ) -> Result<(Mask, Steps), MaskError>
     requires { length (values ranks.now.buffer) ≡ count (values rows.now.buffer) }
-    ensures list { IfOk result (λ r.
-        truth r.0 ≡ rank_intersection (values rows.now.buffer) (values ranks.now.buffer)) }
-    ensures variant { IfOk result (λ r. variant r.0 ≡ fitting_variant all_false (truth r.0)) }
-    ensures caches { IfOk result (λ r. caches r.0 ≡ no_caches) }
-    ensures steps { IfOk result (λ r. r.1 ≡ word_steps (values rows.now.buffer) (truth r.0)) }
+    ensures narrowed { IfOk result
+        (λ r. IsNarrowedOn RankPath.BitBuffers rows.now ranks.now r.0 r.1) }
     ensures refused { IsOkUnless result (MaskError.Memory alloc_error) }
 {
     let (buffer, bits, true_count) = (rows.bit_buffer(), ranks.bit_buffer(), ranks.true_count());
-    if goes_by_loop(rows) {
-        intersect_bit_buffers::<PortableLoop>(alloc, buffer, bits, true_count)
-    } else {
-        intersect_bit_buffers::<Portable>(alloc, buffer, bits, true_count)
-    }
+    intersect_bit_buffers::<D>(alloc, buffer, bits, true_count)
 }
 
 // By the bits of the first and the cached true indices of the second.
-fn by_rank_indices(
+fn by_rank_indices<D: DepositBits>(
     alloc: Global,
     rows: &MaskValues,
     ranks: &MaskValues,
 ) -> Result<(Mask, Steps), MaskError>
     requires fitting { length (values ranks.now.buffer) ≡ count (values rows.now.buffer) }
-    requires cached { IsTrue (is_some ranks.now.caches.indices) }
-    ensures list { IfOk result (λ r.
-        truth r.0 ≡ rank_intersection (values rows.now.buffer) (values ranks.now.buffer)) }
-    ensures variant { IfOk result (λ r. variant r.0 ≡ fitting_variant all_false (truth r.0)) }
-    ensures caches { IfOk result (λ r. caches r.0 ≡ no_caches) }
-    ensures steps { IfOk result (λ r. r.1 ≡ word_steps (values rows.now.buffer) (truth r.0)) }
+    requires cached { IsSome ranks.now.caches.indices }
+    ensures narrowed { IfOk result
+        (λ r. IsNarrowedOn RankPath.RankIndices rows.now ranks.now r.0 r.1) }
     ensures refused { IsOkUnless result (MaskError.Memory alloc_error) }
 {
-    let numbers = ranks.cached_indices().unwrap();
-    if goes_by_loop(rows) {
-        intersect_bit_buffer_by_rank_indices::<PortableLoop>(alloc, rows.bit_buffer(), numbers)
-    } else {
-        intersect_bit_buffer_by_rank_indices::<Portable>(alloc, rows.bit_buffer(), numbers)
-    }
+    intersect_bit_buffer_by_rank_indices::<D>(alloc, rows.bit_buffer(), ranks.kept_indices())
 }
 
 // Where fewer than one row in 16 is true, a word has fewer than four of them on the average. The

@@ -1,0 +1,16 @@
+use Rattle.std.proofs.Common.{arith}
+use Rattle.mask_bits.proofs.Lists.AscendingLemmas.{positions-ascending}
+use Rattle.mask_bits.proofs.Lists.PlaceLemmas.{positions-within}
+use Rattle.vortex_mask.proofs.PathLemmas.{list_from_places}
+use Rattle.vortex_mask.proofs.intersect_by_rank.path.by_indices.Goals as goal
+
+pub intersect_by_rank_indices-requires : goal.intersect_by_rank_indices-requires
+intersect_by_rank_indices-requires c = record {
+  self_ascending = grind (arith, positions-ascending);
+  self_within = grind (arith, positions-within);
+  mask_ascending = grind (arith, positions-ascending);
+  mask_within = grind (arith, positions-within);
+}
+
+pub returns-clause-narrowed : goal.returns-clause-narrowed
+returns-clause-narrowed c = grind (arith, list_from_places)
