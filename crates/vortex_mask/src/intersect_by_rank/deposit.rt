@@ -93,7 +93,7 @@ fn lowest_bit_at(place: u64, source: u64) -> u64
 }
 
 /// The deposit at a mask with at most two clear bits: the source makes room for each of these
-/// holes, the lowest first.
+/// holes, the lowest first. Room is clear.
 pub fn deposit_two_holes(source: u64, mask: u64) -> u64
     requires { 62 ≤ count (word_bits mask) }
     ensures { Deposits source mask result }
@@ -101,13 +101,14 @@ pub fn deposit_two_holes(source: u64, mask: u64) -> u64
     let holes = !mask;
     let second = holes & holes.wrapping_sub(1);
     let lowest = holes - second;
-    with_room(with_room(source, lowest), second) & mask
+    with_room(with_room(source, lowest), second)
 }
 
 // Moves the bits from a hole on up by one, by adding them to themselves. The hole is the word that
 // has its place alone, or 0 where there is none.
 fn with_room(source: u64, hole: u64) -> u64
-    ensures room { (p : ℕ) → p < 64 → hole ≡ 2 ^ p → result ≡ (source / 2 ^ p * 2 * 2 ^ p + source % 2 ^ p) % 2 ^ 64 }
+    ensures room { (p : ℕ) → p < 64 → hole ≡ 2 ^ p
+        → result ≡ (source + source / hole * hole) % 2 ^ 64 }
     ensures same { hole ≡ 0 → result ≡ source }
 {
     source.wrapping_add(source & hole.wrapping_neg())

@@ -1,11 +1,12 @@
-use Rattle.std.proofs.Common.{◌≡◌, ◌+◌, ◌%◌, ◌^◌, ap, ◌∙◌, bit_and, sym, arith, rules}
+use Rattle.std.proofs.Common.{◌≡◌, ◌+◌, ◌*◌, ◌/◌, ◌%◌, ◌^◌, ap, ◌∙◌, bit_and, sym, arith, rules}
 use lib.Bits.{and_zero_r}
-use Rattle.vortex_mask.proofs.HoleLemmas.{added_is}
+use Rattle.vortex_mask.proofs.HoleLemmas.{kept_from}
 use Rattle.vortex_mask.proofs.intersect_by_rank.deposit.with_room.Goals as goal
 
 pub returns-clause-room : goal.returns-clause-room
 returns-clause-room c = λ p inside e.
-    added_is c.args.source p c.wrapping_neg.result inside (search rules) (search rules) (ap (λ h. (c.wrapping_neg.result + h) % 2 ^ 64) (sym e) ∙ c.wrapping_neg.ensures)
+    let s = c.args.source in
+    ap (λ x. (s + x) % 2 ^ 64) (kept_from s p c.wrapping_neg.result inside (search rules) (search rules) (ap (λ h. (c.wrapping_neg.result + h) % 2 ^ 64) (sym e) ∙ c.wrapping_neg.ensures) ∙ ap (λ h. s / h * h) (sym e))
 
 pub returns-clause-same : goal.returns-clause-same
 returns-clause-same c = λ e.
