@@ -1,7 +1,8 @@
 -- What deposits and selections are for the lists of the words.
 use Rattle.std.proofs.Common.{◌≡◌, ℕ, zero, suc, ◌+◌, ◌<◌, ◌≤◌, ◌↔◌, inl, inr, Bool, true, false, ◌&&◌, nat_eq, List, [], ◌∷◌, length, get_or, take, refl, sym, ap, ap₂, ◌∙◌, arith}
 use Rattle.std.specs.Int.{bit_at}
-use Rattle.std.proofs.lemmas.List.{get_or-take, length-take}
+use Rattle.std.proofs.lemmas.List.{ext_get_or, get_or-take, length-take}
+use Rattle.std.proofs.lemmas.Bool.Decides.{nat_tests}
 use Rattle.std.proofs.lemmas.Nat.Bits.{bit_at-lt}
 use Rattle.mask_bits.specs.Positions.{places_from, positions, count, count_below, rank_intersection}
 use Rattle.mask_bits.specs.Words.{word_bits}
@@ -45,17 +46,12 @@ selected-lt w n h = omega (arith, positions-within (word_bits w) n 0 h, length-w
 -- ---- deposits
 
 bits_and : (r m s : ℕ) → r < 2 → m < 2 → s < 2 → (r ≡ 1) ↔ ((m ≡ 1) × (s ≡ 1)) → nat_eq r 1 ≡ (nat_eq m 1 && nat_eq s 1)
-bits_and zero zero s hr hm hs h = refl
-bits_and zero (suc zero) zero hr hm hs h = refl
-bits_and zero (suc zero) (suc zero) hr hm hs h = absurd (omega (arith, h.1 (refl, refl)))
-bits_and zero (suc zero) (suc (suc s)) hr hm hs h = absurd (omega arith)
-bits_and zero (suc (suc m)) s hr hm hs h = absurd (omega arith)
-bits_and (suc zero) (suc zero) (suc zero) hr hm hs h = refl
-bits_and (suc zero) zero s hr hm hs h = absurd (omega (arith, (h.0 refl).0))
-bits_and (suc zero) (suc zero) zero hr hm hs h = absurd (omega (arith, (h.0 refl).1))
-bits_and (suc zero) (suc zero) (suc (suc s)) hr hm hs h = absurd (omega arith)
-bits_and (suc zero) (suc (suc m)) s hr hm hs h = absurd (omega arith)
-bits_and (suc (suc r)) m s hr hm hs h = absurd (omega arith)
+bits_and r m s hr hm hs h = grind (arith, nat_tests, h.0, h.1)
+
+-- a source that counts only where the mask is set
+pub and_where : (x y z : Bool) → (x ≡ true → y ≡ z) → (x && y) ≡ (x && z)
+and_where true y z same = same refl
+and_where false y z same = refl
 
 -- a bit of a deposit is a bit of the mask, and of the source at the count of mask bits below it
 pub deposited-value : (s m r j : ℕ) → Deposits s m r → j < 64 → get_or (word_bits r) j false ≡ (get_or (word_bits m) j false && get_or (word_bits s) (count_below (word_bits m) j) false)
@@ -77,24 +73,11 @@ length-offered_bits s m =
 -- a deposit is the rank intersection of the mask's list and these bits
 pub word_bits-deposited : (s m r : ℕ) → Deposits s m r → word_bits r ≡ rank_intersection (word_bits m) (offered_bits s m)
 word_bits-deposited s m r is =
-    word_bits_from_bits r (rank_intersection (word_bits m) (offered_bits s m)) (length-rank_intersection (word_bits m) (offered_bits s m) ∙ length-word_bits m) (λ j h.
-    let k = count_below (word_bits m) j in
-    let a = get_or (word_bits m) j false in
-    let value : get_or (rank_intersection (word_bits m) (offered_bits s m)) j false ≡ (a && get_or (offered_bits s m) k false)
-    = rank_intersection_value (word_bits m) (offered_bits s m) j (length-offered_bits s m) in
-    let few : k ≤ 64 = omega (arith, length-places_from 0 (take j (word_bits m)), length-take j (word_bits m)) in
-    let bit : nat_eq (bit_at r j) 1 ≡ (nat_eq (bit_at m j) 1 && nat_eq (bit_at s k) 1)
-    = bits_and (bit_at r j) (bit_at m j) (bit_at s k) (bit_at-lt r j) (bit_at-lt m j) (bit_at-lt s k) (is.bits j h) in
-    let mask : a ≡ nat_eq (bit_at m j) 1 = get_or-word_bits m j false h in
-    elim (bit_cases m j) [
-      | inl clear ↦
-          let none : nat_eq (bit_at m j) 1 ≡ false = ap (λ v. nat_eq v 1) clear in
-          bit ∙ ap (λ b. b && nat_eq (bit_at s k) 1) none ∙ sym (value ∙ ap (λ b. b && get_or (offered_bits s m) k false) (mask ∙ none))
-      | inr set ↦
-          let one : a ≡ true = mask ∙ ap (λ v. nat_eq v 1) set in
-          let inside : k < count (word_bits m) = omega (arith, trues-take (word_bits m) j one, count-trues (word_bits m), count-trues (take j (word_bits m))) in
-          let source : get_or (offered_bits s m) k false ≡ nat_eq (bit_at s k) 1
-          = get_or-take (count (word_bits m)) (word_bits s) k false inside
-          ∙ get_or-word_bits s k false (omega (arith, length-word_bits m, length-places_from 0 (word_bits m))) in
-          bit ∙ ap₂ (λ b c. b && c) (sym mask) (sym source) ∙ sym value
-    ])
+    let a = word_bits m in
+    let b = offered_bits s m in
+    let len : length (word_bits r) ≡ length (rank_intersection a b) = omega (arith, length-rank_intersection a b, length-word_bits r, length-word_bits m) in
+    ext_get_or false (word_bits r) (rank_intersection a b) len (λ j h.
+    let k = count_below a j in
+    let stays : get_or a j false ≡ true → get_or (word_bits s) k false ≡ get_or b k false
+    = λ set. sym (get_or-take (count a) (word_bits s) k false (omega (arith, trues-take a j set, count-trues a, count-trues (take j a)))) in
+    deposited-value s m r j is (omega (arith, length-word_bits r)) ∙ and_where (get_or a j false) _ _ stays ∙ sym (rank_intersection_value a b j (length-offered_bits s m)))

@@ -28,10 +28,7 @@ use Rattle.vortex_mask.proofs.WordKernelLemmas.{word-started}
 
 -- where a true value stands past the words read, there is a further word
 pub more-words : (m : List Bool) (n w before rank : ℕ) → HasRead m n w before → before + count_ones w ≤ rank → rank < count m → 64 * n < length m
-more-words m n w before rank read passed there = elim (cases_lt (64 * n) (length m)) [
-  | inl h ↦ h
-  | inr past ↦ absurd (omega (arith, read.counted, ap count (take_all (64 * n) m past)))
-]
+more-words m n w before rank read passed there = grind (arith, read.counted, take_all)
 
 -- and it is read
 pub read-more : (m : List Bool) (n w before next end : ℕ) → HasRead m n w before → 64 * n < length m → end ≡ before + count_ones w → next < 2 ^ 64
@@ -47,17 +44,7 @@ read-more m n w before next end read more ends fits whole last =
 
 -- a word in which a value is found has been read
 some-word : (m : List Bool) (n w before rank : ℕ) → HasRead m n w before → before ≤ rank → rank < before + count_ones w → 0 < n
-some-word m n w before rank read reached inside = elim (cases_lt 0 n) [
-  | inl h ↦ h
-  | inr past ↦ let none : n ≡ 0 = omega arith in absurd (omega (arith, read.counted, ap (λ k. count (take (64 * k) m)) none))
-]
-
--- a value's number in the last word, where it is in it
-pub number-inside : (w before rank : ℕ) → w < 2 ^ 64 → before ≤ rank → rank < before + count_ones w → rank - before < count (word_bits w)
-number-inside w before rank fits reached inside = omega (arith, count-word_bits w fits)
-
-pub place-few : (w n : ℕ) → n < count (word_bits w) → selected w n < 64
-place-few w n inside = omega (arith, positions-within (word_bits w) n 0 inside, length-word_bits w)
+some-word m n w before rank read reached inside = grind (arith, read.counted)
 
 -- the place of a value that is in the last word
 pub place-found : (m : List Bool) (n w before rank p : ℕ) → HasRead m n w before → w < 2 ^ 64 → before ≤ rank → rank < before + count_ones w → p ≡ selected w (rank - before)
@@ -68,7 +55,7 @@ place-found m n w before rank p read fits reached inside is =
     let some = some-word m n w before rank read reached inside in
     let again : i + 1 ≡ n = omega arith in
     let shows : word_bits w ≡ padded_part m i = read.last some in
-    let here : r < count (word_bits w) = number-inside w before rank fits reached inside in
+    let here : r < count (word_bits w) = omega (arith, count-word_bits w fits) in
     let front : before ≡ count (take (64 * i) m)
     = omega (arith, read.counted, ap (λ k. count (take (64 * k) m)) again, count-word_more m i, ap count shows, count-word_bits w fits) in
     place_in_word m i rank r p (omega (arith, read.within)) (omega arith) (omega (arith, ap count shows))
@@ -84,14 +71,7 @@ ascending-few top ps ascending within =
 -- what is not above the last is not above the next
 pub not-above-next : (xs : List ℕ) (x n : ℕ) → IsStrictlyIncreasing (xs ++ x ∷ []) → n ≤ get_or xs (length xs - 1) 0 → n ≤ x
 not-above-next [] x n ascending h = omega (arith, h)
-not-above-next (y ∷ ys) x n ascending h =
-    let xs : List ℕ = y ∷ ys in
-    let last : length xs - 1 ≡ length ys = omega arith in
-    let next : length ys + 1 ≡ length xs = omega arith in
-    let above = ascending (length ys) (omega (arith, length-append xs (x ∷ []))) in
-    let here = get_or_append_left xs (x ∷ []) 0 (length ys) (omega arith) in
-    let there : get_or (xs ++ x ∷ []) (length ys + 1) 0 ≡ x = ap (λ k. get_or (xs ++ x ∷ []) k 0) next ∙ get_or-append_seam xs x [] 0 in
-    omega (arith, h, above, here, there, ap (λ k. get_or xs k 0) last)
+not-above-next (y ∷ ys) x n ascending h = grind (arith, ascending (length ys), length-append, get_or_append_left (y ∷ ys) (x ∷ []) 0 (length ys), get_or-append_seam (y ∷ ys) x [] 0)
 
 module _ {S : Type 0} (steps : S → Option ℕ → S → Type 0) (s : S) (top n : ℕ) (ranks : EachRunFrom steps s (AreRanks top n)) (it : S) (same : it ≡ s) (xs : List ℕ) (t : S) (ran : Yields steps it xs t) where
   -- the ranks so far, and the next one
@@ -125,7 +105,7 @@ nothing-found m places steps none zero = record {
   };
   reached = omega arith;
   found = none;
-  counted = zero ∙ ap (λ (ps : List ℕ). record { deposits = 0; words = 0; selections = 0; offered = 0; placed = 0; spots = sum_by (λ p. p % 64) ps }) (sym none);
+  counted = rw none zero;
 }
 
 pub found-more : (m : List Bool) (ranks : List ℕ) (x words word before more next passed : ℕ) (places new : List ℕ) (p : ℕ) (steps ticked : StepCounts)
@@ -144,17 +124,13 @@ found-more m ranks x words word before more next passed places new p steps ticke
       reached = omega (arith, reached, ap (λ k. get_or all k 0) last, get_or-append_seam ranks x [] 0);
       found = pushed ∙ ap₂ (λ (ps : List ℕ) q. ps ++ q ∷ []) so_far.found (sym (get_or_from_slice_get (positions m) x p 0 place))
           ∙ sym (map-append (λ k. get_or (positions m) k 0) ranks (x ∷ []));
-      counted = counted
-          ∙ ap (λ (s : StepCounts). record s { words = more; selections = s.selections + 1; spots = s.spots + p % 64 }) so_far.counted
-          ∙ ap₂ (λ n sum. record { deposits = 0; words = more; selections = n; offered = 0; placed = 0; spots = sum }) longer spots;
+      counted = rw (counted, so_far.counted, longer, spots);
     }
 
 -- the steps, once all n ranks have their places
 pub found-steps : (m : List Bool) (ranks : List ℕ) (words word before : ℕ) (places : List ℕ) (steps : StepCounts) (n : ℕ) → AreFound m ranks words word before places steps → length ranks ≡ n
     → steps ≡ record { deposits = 0; words = steps.words; selections = n; offered = 0; placed = 0; spots = sum_by (λ p. p % 64) places }
-found-steps m ranks words word before places steps n all len =
-    all.counted
-    ∙ ap₂ (λ w k. record { deposits = 0; words = w; selections = k; offered = 0; placed = 0; spots = sum_by (λ p. p % 64) places }) (sym (ap (λ (s : StepCounts). s.words) all.counted)) len
+found-steps m ranks words word before places steps n all len = rw (all.counted, len)
 
 -- the places of all ranks ascend within the list
 module _ {S : Type 0} (steps : S → Option ℕ → S → Type 0) (s : S) (m : List Bool) (n : ℕ) (places : List ℕ) (ranks : EachRunFrom steps s (AreRanks (count m) n)) (run : WholeRun steps s (λ p. places ≡ at_places (positions m) p.items)) where

@@ -1,5 +1,5 @@
 -- The network on one byte, computed at each of the 256 mask bytes and, for the way back, at each source byte too.
-use Rattle.std.proofs.Common.{◌≡◌, ℕ, zero, suc, ◌+◌, ◌-◌, ◌*◌, ◌/◌, ◌%◌, ◌^◌, ◌<◌, ◌≤◌, Bool, true, false, ◌&&◌, T, eqb, refl, ap, ◌∙◌, subst, arith, bit_and, bit_xor, eq-zero-or-pos, inl, inr, eqb→eq, ltb→lt, ltb, count_ones, pow-suc}
+use Rattle.std.proofs.Common.{◌≡◌, ℕ, zero, suc, ◌+◌, ◌-◌, ◌*◌, ◌/◌, ◌%◌, ◌^◌, ◌<◌, ◌≤◌, Bool, true, false, ◌&&◌, T, eqb, refl, ap, ◌∙◌, subst, arith, bit_and, bit_xor, eq-zero-or-pos, inl, inr, eqb→eq, ltb→lt, ltb, count_ones, pow-suc, sym}
 use Rattle.std.proofs.lemmas.Nat.{ones-le, one_shl, pow_below}
 use lib.Count.{ones_step}
 use Rattle.vortex_mask.specs.Bytes.{halves_summed, clear_below, place_after, packed_after, landed_in, odd_places, moved_down, with_moved, halved, zeros_before, moved_up}
@@ -135,6 +135,11 @@ landings = tt
 
 pub landed_in-is : (s m : ℕ) → s < 3 → m < 256 → moved_down (2 ^ s) (packed_after s m) (odd_places (2 ^ s) (zeros_before s m)) ≡ landed_in s m
 landed_in-is s m hs hm = agree 3 (λ t x. moved_down (2 ^ t) (packed_after t x) (odd_places (2 ^ t) (zeros_before t x))) landed_in s m landings hs hm
+
+-- a stage takes what the ones before it left
+pub stage : (s m packed zeros : ℕ) → s < 3 → m < 256 → packed ≡ packed_after s m → zeros ≡ zeros_before s m
+    → (with_moved (2 ^ s) packed (odd_places (2 ^ s) zeros) ≡ packed_after (s + 1) m) × (halved (2 ^ s) zeros (odd_places (2 ^ s) zeros) ≡ zeros_before (s + 1) m) × (moved_down (2 ^ s) packed (odd_places (2 ^ s) zeros) ≡ landed_in s m)
+stage s m packed zeros h fits p z = rw (p, z) (packed_after-more s m h fits, sym (zeros_before-more s m), landed_in-is s m h fits)
 
 -- a byte's bits end as its lowest ones
 full : T (all_below (λ m. eqb (packed_after 3 m) (2 ^ ones_among 8 m - 1)) 256)

@@ -16,21 +16,16 @@ use Rattle.mask_bits.proofs.Lists.SelectLemmas.{count-word_more}
 use Rattle.mask_bits.proofs.Lists.WordLemmas.{length-word_bits}
 use Rattle.vortex_mask.specs.Deposit.{Deposits}
 use Rattle.vortex_mask.specs.Steps.{StepCounts, word_steps}
-use Rattle.vortex_mask.proofs.DepositListLemmas.{deposited-value, trues-take}
+use Rattle.vortex_mask.proofs.DepositListLemmas.{deposited-value, and_where, trues-take}
 
 -- ---- counts of parts
 
 -- false values past the end count nothing
 trues-same : (xs ys : List Bool) → ((i : ℕ) → get_or xs i false ≡ get_or ys i false) → trues xs ≡ trues ys
 trues-same [] [] same = refl
-trues-same [] (true ∷ ys) same = let h : false ≡ true = same 0 in absurd (cc)
-trues-same [] (false ∷ ys) same = trues-same [] ys (λ i. same (suc i))
-trues-same (true ∷ xs) [] same = let h : true ≡ false = same 0 in absurd (cc)
-trues-same (false ∷ xs) [] same = trues-same xs [] (λ i. same (suc i))
-trues-same (true ∷ xs) (true ∷ ys) same = ap suc (trues-same xs ys (λ i. same (suc i)))
-trues-same (true ∷ xs) (false ∷ ys) same = let h : true ≡ false = same 0 in absurd (cc)
-trues-same (false ∷ xs) (true ∷ ys) same = let h : false ≡ true = same 0 in absurd (cc)
-trues-same (false ∷ xs) (false ∷ ys) same = trues-same xs ys (λ i. same (suc i))
+trues-same [] (w ∷ ys) same = grind (arith, same 0, trues-same [] ys (λ i. same (suc i)))
+trues-same (v ∷ xs) [] same = grind (arith, same 0, trues-same xs [] (λ i. same (suc i)))
+trues-same (v ∷ xs) (w ∷ ys) same = grind (arith, same 0, trues-same xs ys (λ i. same (suc i)))
 
 count-same : (xs ys : List Bool) → ((i : ℕ) → get_or xs i false ≡ get_or ys i false) → count xs ≡ count ys
 count-same xs ys same = count-trues xs ∙ trues-same xs ys same ∙ sym (count-trues ys)
@@ -80,14 +75,10 @@ deposited-word a b i at s m w fits place shows source is =
     let number : at + k ≡ count_below a p
     = ap (λ n. n + k) place ∙ ap (λ (x : List Bool). count_below a (64 * i) + count_below x j) shows ∙ sym (count_below-part a i j (omega arith)) in
     deposited-value s m w j is h
-    ∙ kept (get_or (word_bits m) j false) (get_or (word_bits s) k false) (get_or b (at + k) false) (λ set.
+    ∙ and_where (get_or (word_bits m) j false) (get_or (word_bits s) k false) (get_or b (at + k) false) (λ set.
     source k (omega (arith, trues-take (word_bits m) j set, count-trues (word_bits m), count-trues (take j (word_bits m)))))
     ∙ ap₂ (λ x y. x && y) here (ap (λ n. get_or b n false) number)
     ∙ sym value)
-  where
-    kept : (x y z : Bool) → (x ≡ true → y ≡ z) → (x && y) ≡ (x && z)
-    kept true y z same = same refl
-    kept false y z same = refl
 
 -- ---- the words so far
 
@@ -121,11 +112,7 @@ deposited-more a b i at s m ones w out new before read after fits so_far shows c
             ∙ ap (λ (x : List Bool). get_or x (p - 64 * i) false) (here ∙ word)
             ∙ get_or-padded_part r i (p - 64 * i) (omega arith) ∙ ap (λ n. get_or r n false) at_word
       ];
-      counted =
-          let n : ℕ = count (word_bits w) in
-          deposited
-          ∙ ap (λ (t : StepCounts). record t { deposits = t.deposits + 1; offered = t.offered + ones; placed = t.placed + n }) (read_one ∙ ap (λ (t : StepCounts). record t { words = t.words + 1 }) so_far.counted)
-          ∙ ap₂ (λ (x y : ℕ). record { deposits = i + 1; words = i + 1; selections = 0; offered = x; placed = y; spots = 0 }) offered placed;
+      counted = rw (deposited, read_one, so_far.counted, offered, placed);
     }
 
 -- rank bits of a buffer that are read from `at` on

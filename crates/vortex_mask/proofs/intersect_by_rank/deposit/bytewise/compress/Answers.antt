@@ -1,58 +1,22 @@
-use Rattle.std.proofs.Common.{arith, ◌∙◌}
+use Rattle.std.proofs.Common.{ℕ, ◌<◌, sym, arith, ◌∙◌}
 use Rattle.vortex_mask.specs.Bytes.{byte_at}
 use Rattle.vortex_mask.proofs.ByteLemmas.{byte_at_not, byte_at-lt}
-use Rattle.vortex_mask.proofs.NetworkLemmas.{packed_after-zero, packed_after-more, packed_after-full, zeros_before-zero, zeros_before-more, landed_in-is}
+use Rattle.vortex_mask.proofs.NetworkLemmas.{packed_after-zero, packed_after-full, zeros_before-zero, stage}
 use Rattle.vortex_mask.proofs.intersect_by_rank.deposit.bytewise.compress.Goals as goal
 
-pub returns-clause-landed_0 : goal.returns-clause-landed_0
-returns-clause-landed_0 c = λ j h.
-    let m = byte_at c.args.mask j in
-    let fits = byte_at-lt c.args.mask j in
-    let start = packed_after-zero m fits in
-    let zeros = byte_at_not 8 c.args.mask j (omega arith) h in
-    let none = zeros_before-zero m in
-    let landed = landed_in-is 0 m (omega arith) fits in
-    cc (c.run_stage-by_one.ensures.landed j h)
-
-pub returns-clause-landed_1 : goal.returns-clause-landed_1
-returns-clause-landed_1 c = λ j h.
-    let m = byte_at c.args.mask j in
-    let fits = byte_at-lt c.args.mask j in
-    let start = packed_after-zero m fits in
-    let zeros = byte_at_not 8 c.args.mask j (omega arith) h in
-    let none = zeros_before-zero m in
-    let packed_1 = packed_after-more 0 m (omega arith) fits in
-    let zeros_1 = zeros_before-more 0 m in
-    let landed = landed_in-is 1 m (omega arith) fits in
-    cc (c.run_stage-by_one.ensures.packed j h, c.run_stage-by_one.ensures.zeros j h, c.run_stage-by_two.ensures.landed j h)
-
-pub returns-clause-landed_2 : goal.returns-clause-landed_2
-returns-clause-landed_2 c = λ j h.
-    let m = byte_at c.args.mask j in
-    let fits = byte_at-lt c.args.mask j in
-    let start = packed_after-zero m fits in
-    let zeros = byte_at_not 8 c.args.mask j (omega arith) h in
-    let none = zeros_before-zero m in
-    let packed_1 = packed_after-more 0 m (omega arith) fits in
-    let zeros_1 = zeros_before-more 0 m in
-    let packed_2 = packed_after-more 1 m (omega arith) fits in
-    let zeros_2 = zeros_before-more 1 m in
-    let landed = landed_in-is 2 m (omega arith) fits in
-    cc (c.run_stage-by_one.ensures.packed j h, c.run_stage-by_one.ensures.zeros j h, c.run_stage-by_two.ensures.packed j h, c.run_stage-by_two.ensures.zeros j h, c.run_stage-by_four.ensures.landed j h)
-
-pub returns-clause-places : goal.returns-clause-places
-returns-clause-places c = λ j h.
-    let m = byte_at c.args.mask j in
-    let fits = byte_at-lt c.args.mask j in
-    let start = packed_after-zero m fits in
-    let zeros = byte_at_not 8 c.args.mask j (omega arith) h in
-    let none = zeros_before-zero m in
-    let packed_1 = packed_after-more 0 m (omega arith) fits in
-    let zeros_1 = zeros_before-more 0 m in
-    let packed_2 = packed_after-more 1 m (omega arith) fits in
-    let zeros_2 = zeros_before-more 1 m in
-    let packed_3 = packed_after-more 2 m (omega arith) fits in
-    cc (c.run_stage-by_one.ensures.packed j h, c.run_stage-by_one.ensures.zeros j h, c.run_stage-by_two.ensures.packed j h, c.run_stage-by_two.ensures.zeros j h, c.run_stage-by_four.ensures.packed j h)
-
-pub returns-clause-full : goal.returns-clause-full
-returns-clause-full c = λ j h. returns-clause-places c j h ∙ packed_after-full (byte_at c.args.mask j) (byte_at-lt c.args.mask j)
+pub returns : goal.returns
+returns c =
+    let m = c.args.mask in
+    let one = c.run_stage-by_one.ensures in
+    let two = c.run_stage-by_two.ensures in
+    let four = c.run_stage-by_four.ensures in
+    let first = λ (j : ℕ) (h : j < 8). stage 0 (byte_at m j) _ _ (omega arith) (byte_at-lt m j) (sym (packed_after-zero (byte_at m j) (byte_at-lt m j))) (byte_at_not 8 m j (omega arith) h ∙ sym (zeros_before-zero (byte_at m j))) in
+    let second = λ (j : ℕ) (h : j < 8). stage 1 (byte_at m j) _ _ (omega arith) (byte_at-lt m j) (one.packed j h ∙ (first j h).0) (one.zeros j h ∙ (first j h).1) in
+    let third = λ (j : ℕ) (h : j < 8). stage 2 (byte_at m j) _ _ (omega arith) (byte_at-lt m j) (two.packed j h ∙ (second j h).0) (two.zeros j h ∙ (second j h).1) in
+    record {
+      places = λ j h. four.packed j h ∙ (third j h).0;
+      full = λ j h. four.packed j h ∙ (third j h).0 ∙ packed_after-full (byte_at m j) (byte_at-lt m j);
+      landed_0 = λ j h. one.landed j h ∙ (first j h).2;
+      landed_1 = λ j h. two.landed j h ∙ (second j h).2;
+      landed_2 = λ j h. four.landed j h ∙ (third j h).2;
+    }

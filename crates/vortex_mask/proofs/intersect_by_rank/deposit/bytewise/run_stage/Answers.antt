@@ -16,9 +16,7 @@ moving_at packed odd odd_byte j = byte_at (bit_and packed odd) j ≡ bit_and (by
 
 pub returns-clause-landed : goal.returns-clause-landed
 unfolding moved_down
-returns-clause-landed c = λ j h.
-    let moving : moving_at c.args.packed c.odd_zeros-odd.result _ j = byte_at_and c.args.packed c.odd_zeros-odd.result j ∙ ap (bit_and (byte_at c.args.packed j)) (c.odd_zeros-odd.ensures j h) in
-    c.shift_down-landed.ensures j h ∙ ap₂ (λ x s. x / 2 ^ s) moving (shift_is c.args.stage c.requires)
+returns-clause-landed c = λ j h. grind (arith, byte_at_and, shift_is, c.shift_down-landed.ensures j h, c.odd_zeros-odd.ensures j h)
 
 pub returns-clause-packed : goal.returns-clause-packed
 unfolding with_moved
@@ -29,10 +27,4 @@ returns-clause-packed c = λ j h.
 
 pub returns-clause-zeros : goal.returns-clause-zeros
 unfolding halved
-returns-clause-zeros c = λ j h.
-    let odd = c.odd_zeros-odd.result in
-    let even : byte_at (bit_and c.args.zeros (18446744073709551615 - odd)) j ≡ bit_and (byte_at c.args.zeros j) (255 - byte_at odd j)
-    = byte_at_and c.args.zeros _ j ∙ ap (bit_and (byte_at c.args.zeros j)) (byte_at_not 8 odd j (omega arith) h) in
-    byte_at_xor (bit_and c.args.zeros (18446744073709551615 - odd)) _ j
-    ∙ ap₂ bit_xor even (c.shift_down.ensures j h ∙ ap₂ (λ x s. x / 2 ^ s) even (shift_is c.args.stage c.requires))
-    ∙ ap (λ o. bit_xor (bit_and (byte_at c.args.zeros j) (255 - o)) (bit_and (byte_at c.args.zeros j) (255 - o) / 2 ^ (2 ^ c.args.stage))) (c.odd_zeros-odd.ensures j h)
+returns-clause-zeros c = λ j h. grind (arith, byte_at_and, byte_at_xor, shift_is, c.shift_down.ensures j h, c.odd_zeros-odd.ensures j h, byte_at_not 8 c.odd_zeros-odd.result j (omega arith) h)

@@ -1,4 +1,4 @@
-use Rattle.std.proofs.Common.{◌<◌, subst, sym}
+use Rattle.std.proofs.Common.{◌<◌, subst, sym, arith}
 use Rattle.std.specs.List.{All}
 use Rattle.std.specs.List.Sorted.{IsStrictlyIncreasing}
 use Rattle.mask_bits.proofs.Lists.RankLemmas.{All-at_places}

@@ -9,16 +9,7 @@ use Rattle.vortex_mask.proofs.intersect_by_rank.rank_bits.RankBits.read.Goals as
 
 -- zeros behind bytes read as what is past them
 byte-padded : (bytes : List ℕ) (n i : ℕ) → get_or (bytes ++ replicate n 0) i 0 ≡ get_or bytes i 0
-byte-padded bytes n i = elim (cases_lt i (length bytes)) [
-  | inl inside ↦ get_or_append_left bytes (replicate n 0) 0 i inside
-  | inr past ↦
-      get_or-append_right bytes (replicate n 0) (length bytes) i 0 refl past
-      ∙ elim (cases_lt (i - length bytes) n) [
-        | inl zero ↦ get_or-replicate n (i - length bytes) 0 0 zero
-        | inr over ↦ get_or_past (replicate n 0) (i - length bytes) 0 (omega (arith, length-replicate {A = ℕ} n 0))
-      ]
-      ∙ sym (get_or_past bytes i 0 past)
-]
+byte-padded bytes n i = grind (arith, get_or_append_left, get_or-append_right, get_or-replicate, get_or_past, length-replicate {A = ℕ})
 
 window-padded : (bytes : List ℕ) (n p : ℕ) → window (bytes ++ replicate n 0) p ≡ window bytes p
 window-padded bytes n p =

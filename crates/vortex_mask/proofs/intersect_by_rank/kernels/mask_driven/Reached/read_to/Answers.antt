@@ -10,25 +10,10 @@ overflow_add-end c =
     let m = c.args.chunks.now in
     omega (arith, place-within m c.args.self.now.words _ c.requires.read.counted, count-le-length m, c.requires.fits)
 
-pub loop-end-init : goal.loop-end-init
-loop-end-init c = record {
-  read = c.requires.read;
-  ends = refl;
-  reached = c.requires.ahead;
-  ticked = ap (λ n. record c.args.steps.now { words = n }) c.requires.ticked;
-}
-
-pub word-self-requires-clause-room : goal.word-self-requires-clause-room
-word-self-requires-clause-room c =
-    omega (arith, ap (λ (s : StepCounts). s.words) c.loop-end.invariant.ticked, c.loop-end.invariant.read.within, c.requires.fits)
-
 pub word-self-requires-clause-there : goal.word-self-requires-clause-there
 word-self-requires-clause-there c =
     let read = c.loop-end.invariant in
     more-words c.args.chunks.now c.loop-end.self.words c.loop-end.self.word c.loop-end.self.before c.args.rank read.read (omega (arith, read.ends, c.loop-end-test.true)) c.requires.there
-
-pub overflow_add-self : goal.overflow_add-self
-overflow_add-self c = omega (arith, c.loop-end.invariant.read.within, c.requires.fits)
 
 pub overflow_add-end-in-loop-end : goal.overflow_add-end-in-loop-end
 overflow_add-end-in-loop-end c =
@@ -56,14 +41,3 @@ loop-end-preserved c =
       ticked = c.word-self.ensures.ticked ∙ ap (λ (s : StepCounts). record s { words = s.words + 1 }) before.ticked;
     }
 
-pub returns-clause-read : goal.returns-clause-read
-returns-clause-read c = c.loop-end.invariant.read
-
-pub returns-clause-reached : goal.returns-clause-reached
-returns-clause-reached c = c.loop-end.invariant.reached
-
-pub returns-clause-inside : goal.returns-clause-inside
-returns-clause-inside c = omega (arith, c.loop-end.invariant.ends, c.loop-end-test.false)
-
-pub returns-clause-ticked : goal.returns-clause-ticked
-returns-clause-ticked c = c.loop-end.invariant.ticked
