@@ -5,9 +5,7 @@ use Rattle.vortex_mask.proofs.SetPlaceLemmas.{cleared}
 use Rattle.vortex_mask.proofs.intersect_by_rank.deposit.deposit_in_turn.Goals as goal
 
 pub loop-bits-preserved : goal.loop-bits-preserved
-loop-bits-preserved c =
-    ap (λ x. bit_or (bit_or c.loop-bits.result x) (deposit 64 (c.loop-bits.bits / 2) (cleared c.loop-bits.places))) c.lowest_bit_at-result.ensures
-    ∙ turn c.loop-bits.result c.loop-bits.bits c.loop-bits.places _ (omega arith) c.loop-bits.invariant
+loop-bits-preserved c = grind (arith, cleared, deposit, turn)
 
 pub returns-else-places-ne0 : goal.returns-else-places-ne0
 returns-else-places-ne0 c =

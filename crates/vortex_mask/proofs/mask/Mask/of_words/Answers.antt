@@ -20,9 +20,7 @@ unfolding repeated
 returns-then-true_count-len-clause-list c = grind (arith, length-bits_at, all_true_from_count)
 
 pub returns-then-true_count-len-clause-variant : goal.returns-then-true_count-len-clause-variant
-returns-then-true_count-len-clause-variant c =
-    let some = c.if-true_count-eq0.false in
-    sym (fitting_variant-some_true all_false c.args.len (omega arith))
+returns-then-true_count-len-clause-variant c = grind (arith, fitting_variant-some_true)
 
 pub new-values-requires : goal.new-values-requires
 new-values-requires c = record { mixed = grind (arith, length-bits_at, count-le-length); caches = AreOf-no_caches (values c.in_ok-buffer.buffer) }

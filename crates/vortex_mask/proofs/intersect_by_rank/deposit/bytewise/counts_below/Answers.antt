@@ -6,10 +6,7 @@ use Rattle.vortex_mask.proofs.SetPlaceLemmas.{ones_below-le}
 use Rattle.vortex_mask.proofs.intersect_by_rank.deposit.bytewise.counts_below.Goals as goal
 
 pub returns-clause-counted : goal.returns-clause-counted
-returns-clause-counted c = λ j h.
-    ap (λ ones. byte_at (c.byte_counts.result * ones % 2 ^ 64 * 2 ^ 8 % 2 ^ 64) j) c.bytes.ensures.value
-    ∙ summed_is c.byte_counts.result c.args.mask j c.byte_counts.ensures h j (omega arith)
-    ∙ sym (count_below-word_bits c.args.mask (8 * j) (omega arith))
+returns-clause-counted c = λ j h. grind (arith, count_below-word_bits, summed_is)
 
 pub returns-clause-few : goal.returns-clause-few
 returns-clause-few c = λ j h.

@@ -8,16 +8,13 @@ use Rattle.vortex_mask.proofs.SetPlaceLemmas.{ones_below}
 use Rattle.vortex_mask.proofs.intersect_by_rank.deposit.bytewise.deposit_bytewise.Goals as goal
 
 pub move_up-word-requires-clause-room : goal.move_up-word-requires-clause-room
-move_up-word-requires-clause-room c = λ j h.
-    omega (arith, c.compress-packing.ensures.landed_2 j h, landed_in-lt 2 (byte_at c.args.mask j) (omega arith) (byte_at-lt c.args.mask j))
+move_up-word-requires-clause-room c = λ j h. grind (arith, byte_at-lt, landed_in-lt, c.compress-packing.ensures.landed_2 j h)
 
 pub move_up-word-requires-2-clause-room : goal.move_up-word-requires-2-clause-room
-move_up-word-requires-2-clause-room c = λ j h.
-    omega (arith, c.compress-packing.ensures.landed_1 j h, landed_in-lt 1 (byte_at c.args.mask j) (omega arith) (byte_at-lt c.args.mask j))
+move_up-word-requires-2-clause-room c = λ j h. grind (arith, byte_at-lt, landed_in-lt, c.compress-packing.ensures.landed_1 j h)
 
 pub move_up-requires-clause-room : goal.move_up-requires-clause-room
-move_up-requires-clause-room c = λ j h.
-    omega (arith, c.compress-packing.ensures.landed_0 j h, landed_in-lt 0 (byte_at c.args.mask j) (omega arith) (byte_at-lt c.args.mask j))
+move_up-requires-clause-room c = λ j h. grind (arith, byte_at-lt, landed_in-lt, c.compress-packing.ensures.landed_0 j h)
 
 pub returns : goal.returns
 returns c =

@@ -5,18 +5,10 @@ use Rattle.vortex_mask.proofs.NetworkLemmas.{doubled, xored_up, doubled-more, do
 use Rattle.vortex_mask.proofs.intersect_by_rank.deposit.bytewise.odd_zeros.Goals as goal
 
 pub xor_up-parity-requires : goal.xor_up-parity-requires
-xor_up-parity-requires c =
-    let h : c.loop-doubling.doubling < 3 = omega arith in
-    omega (arith, shift_is c.loop-doubling.doubling h, shift_small c.loop-doubling.doubling h)
+xor_up-parity-requires c = grind (arith, shift_is, shift_small)
 
 pub loop-doubling-preserved : goal.loop-doubling-preserved
-loop-doubling-preserved c = λ j h.
-    let s = c.loop-doubling.doubling in
-    let low : s < 3 = omega arith in
-    ap (doubled (3 - (s + 1)) (s + 1)) (c.xor_up-parity.ensures j h ∙ ap (λ step. xored_up step (byte_at c.loop-doubling.parity j)) (shift_is s low))
-    ∙ sym (doubled-more s _ low) ∙ c.loop-doubling.invariant j h
+loop-doubling-preserved c = λ j h. grind (arith, doubled, doubled-more, shift_is, xored_up, c.loop-doubling.invariant j h, c.xor_up-parity.ensures j h)
 
 pub returns : goal.returns
-returns c = λ j h.
-    sym (doubled-all c.loop-doubling.doubling _ (omega arith)) ∙ c.loop-doubling.invariant j h
-    ∙ doubled-is c.args.stage (byte_at c.args.zeros j) (omega arith) (byte_at-lt c.args.zeros j)
+returns c = λ j h. grind (arith, byte_at-lt, doubled-all, doubled-is, c.loop-doubling.invariant j h)

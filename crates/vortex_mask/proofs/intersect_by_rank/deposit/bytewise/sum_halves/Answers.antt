@@ -9,5 +9,4 @@ overflow_add-result c =
     omega (arith, c.bytes-lower.ensures.value, half_small c.args.lower c.args.width c.requires.some c.requires.lower, and_le_r c.args.fields w, and_le_r (c.args.fields / 2 ^ c.args.width) w)
 
 pub returns : goal.returns
-returns c = λ j h.
-    halves_at c.args.fields c.bytes-lower.result c.args.lower c.args.width j c.requires.some c.requires.inside c.requires.lower c.bytes-lower.ensures.each h
+returns c = λ j h. grind (arith, halves_at)

@@ -8,22 +8,13 @@ use Rattle.vortex_mask.proofs.WordKernelLemmas.{word-started, deposited-more, ra
 use Rattle.vortex_mask.proofs.intersect_by_rank.kernels.bit_buffers.narrow_by_bits.Goals as goal
 
 pub read-source-requires : goal.read-source-requires
-read-source-requires g c =
-    let a = c.args.chunks.now in
-    rank_place-fits a c.args.ranks.now c.loop-i.at c.requires.fitting (place-within a c.loop-i.i c.loop-i.at c.loop-i.invariant.place) c.requires.within.fits
+read-source-requires g c = grind (arith, place-within, rank_place-fits)
 
 pub deposit-kept-requires-clause-counted : goal.deposit-kept-requires-clause-counted
 deposit-kept-requires-clause-counted g c = sym (count-word_bits c.word-mask.result (omega arith))
 
 pub overflow_add-at : goal.overflow_add-at
-overflow_add-at g c =
-    let a = c.args.chunks.now in
-    let counted = sym (count-word_bits c.word-mask.result (omega arith)) in
-    let shows : word_bits c.word-mask.result ≡ padded_part a c.loop-i.i
-    = word-started a c.loop-i.i c.word-mask.result (omega (arith, c.loop-i-test.true, c.requires.room, c.loop-i.auto.out)) c.word-mask.ensures.whole c.word-mask.ensures.last in
-    let within = place-after_within a c.loop-i.i c.loop-i.at c.word-mask.result _ c.loop-i.invariant.place shows counted in
-    let fits = rank_place-fits a c.args.ranks.now _ c.requires.fitting within c.requires.within.fits in
-    omega arith
+overflow_add-at g c = grind (arith, count-word_bits, place-after_within, rank_place-fits, word-started)
 
 pub loop-i-preserved : goal.loop-i-preserved
 loop-i-preserved g c =

@@ -6,11 +6,7 @@ use Rattle.vortex_mask.proofs.PlaceListLemmas.{at_places-ascending}
 use Rattle.vortex_mask.proofs.intersect_by_rank.kernels.indices.intersect_by_rank_indices.Goals as goal
 
 pub of_indices-requires-clause-ascending : goal.of_indices-requires-clause-ascending
-of_indices-requires-clause-ascending c =
-    subst IsStrictlyIncreasing (sym c.in_ok-kept.ensures)
-    (at_places-ascending c.args.len c.args.self_indices.now c.args.mask_indices.now c.requires.self_ascending c.requires.self_within c.requires.mask_ascending c.requires.mask_within)
+of_indices-requires-clause-ascending c = grind (arith, at_places-ascending)
 
 pub of_indices-requires-clause-within : goal.of_indices-requires-clause-within
-of_indices-requires-clause-within c =
-    subst (All (λ i. i < c.args.len)) (sym c.in_ok-kept.ensures)
-    (All-at_places (λ i. i < c.args.len) c.args.self_indices.now c.args.mask_indices.now c.requires.self_within c.requires.mask_within)
+of_indices-requires-clause-within c = grind (arith)

@@ -24,13 +24,4 @@ pub overflow_sub-position : goal.overflow_sub-position
 overflow_sub-position c = omega (arith, c.self.invariant.1.from, c.if-position-self.false)
 
 pub returns-else-position-self : goal.returns-else-position-self
-returns-else-position-self c =
-    let r = c.self.inside in
-    let tail = c.self.invariant.1 in
-    let position : ℕ = r.offset + c.args.offset in
-    let there : 8 * r.tail_from + (position - 8 * r.tail_from) ≡ position = omega (arith, tail.from, c.if-position-self.false) in
-    c.window-else-position-self.ensures
-    ∙ ap (λ (bytes : List ℕ). window bytes (position - 8 * r.tail_from)) tail.copied
-    ∙ window-padded (drop r.tail_from r.bytes.now) (32 - (length r.bytes.now - r.tail_from)) (position - 8 * r.tail_from)
-    ∙ window-drop r.bytes.now r.tail_from (position - 8 * r.tail_from) position there
-    ∙ ap (λ (b : Packed). window b.bytes (b.offset + c.args.offset)) c.self.view_is
+returns-else-position-self c = grind (arith, window-drop, window-padded)

@@ -9,13 +9,7 @@ use Rattle.vortex_mask.proofs.intersect_by_rank.select.PortableSelectBit.select_
 use Rattle.vortex_mask.proofs.intersect_by_rank.select.PortableSelectBit.select_bit_position.Goals.{then-count-rank, else-count-rank}
 
 pub loop-halving-init : goal.loop-halving-init
-loop-halving-init c =
-    let w = c.args.word in
-    let fits : w < 2 ^ 64 = omega arith in record {
-      inside = search rules;
-      rank = omega (arith, ones_below-zero w);
-      left = omega (arith, count-word_bits w fits, ap count_ones (mod-eq_of_lt fits));
-    }
+loop-halving-init c = grind (arith, count-word_bits, mod-eq_of_lt, ones_below-zero)
 
 pub loop-halving-preserved : goal.loop-halving-preserved
 loop-halving-preserved c =
@@ -47,9 +41,4 @@ one_left : (h : ℕ) → 6 ≤ h → h ≤ 6 → 64 / 2 ^ h ≡ 1
 one_left h l u = let e : h ≡ 6 = omega arith in ap (λ n. 64 / 2 ^ n) e
 
 pub returns : goal.returns
-returns c =
-    let p = c.loop-halving.place in
-    let w = c.args.word in
-    let last = one_left c.loop-halving.halving (omega arith) (omega arith) in
-    let more : c.args.rank < ones_below w p + bit_at w p = omega (arith, ap (λ k. ones_below w (p + k)) last, ones_below-more w p, c.loop-halving.invariant.left) in
-    sym (selected-is w c.args.rank p (omega (arith, last, c.loop-halving.invariant.inside)) (omega (arith, more, bit_at-lt w p, c.loop-halving.invariant.rank)) (omega (arith, more, bit_at-lt w p, c.loop-halving.invariant.rank)))
+returns c = grind (arith, bit_at-lt, one_left, ones_below, ones_below-more, selected-is)

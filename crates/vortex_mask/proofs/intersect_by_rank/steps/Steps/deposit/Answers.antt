@@ -15,7 +15,4 @@ invariant_of-self g c =
     record { offered_fits = omega arith; placed_fits = omega arith; spots_fit = omega arith }
 
 pub returns-clause-ticked : goal.returns-clause-ticked
-returns-clause-ticked g c =
-    let fits : c.deposit_bits-result.result < 2 ^ 64 = omega arith in
-    let placed : c.from.result ≡ count (word_bits c.deposit_bits-result.result) = omega (arith, count-word_bits c.deposit_bits-result.result fits) in
-    ap₂ (λ (s : StepCounts) (n : ℕ). record s { deposits = s.deposits + 1; offered = s.offered + c.args.mask_count; placed = s.placed + n }) c.self.view_is placed
+returns-clause-ticked g c = grind (arith, count-word_bits)

@@ -4,9 +4,7 @@ use Rattle.vortex_mask.proofs.DepositListLemmas.{selected-lt}
 use Rattle.vortex_mask.proofs.intersect_by_rank.steps.Steps.select.Goals as goal
 
 pub invariant_of-self : goal.invariant_of-self
-invariant_of-self g c =
-    let inside : c.select_bit_position-place.result < 64 = omega (arith, selected-lt c.args.word c.args.rank c.requires.inside) in
-    record { offered_fits = omega arith; placed_fits = omega arith; spots_fit = omega arith }
+invariant_of-self g c = grind (arith, selected-lt)
 
 pub returns-clause-ticked : goal.returns-clause-ticked
 returns-clause-ticked g c =

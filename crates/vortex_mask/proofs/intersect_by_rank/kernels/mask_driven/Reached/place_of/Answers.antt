@@ -9,9 +9,7 @@ pub select-requires-clause-inside : goal.select-requires-clause-inside
 select-requires-clause-inside g c = omega (arith, count-word_bits c.read_to.new.self.word (omega arith))
 
 pub overflow_add-result : goal.overflow_add-result
-overflow_add-result g c =
-    let w = c.read_to.new.self.word in
-    omega (arith, c.select.ensures.selected, selected-lt w (c.args.rank - c.read_to.new.self.before) (omega (arith, count-word_bits w (omega arith))), c.read_to.ensures.read.within, c.requires.fits)
+overflow_add-result g c = grind (arith, count-word_bits, selected-lt)
 
 pub returns-clause-place : goal.returns-clause-place
 returns-clause-place g c =
@@ -19,10 +17,4 @@ returns-clause-place g c =
     c.read_to.ensures.read (omega arith) c.read_to.ensures.reached c.read_to.ensures.inside c.select.ensures.selected
 
 pub returns-clause-ticked : goal.returns-clause-ticked
-returns-clause-ticked g c =
-    let w = c.read_to.new.self.word in
-    let spot : c.select.result ≡ (64 * (c.read_to.new.self.words - 1) + c.select.result) % 64
-    = omega (arith, c.select.ensures.selected, selected-lt w (c.args.rank - c.read_to.new.self.before) (omega (arith, count-word_bits w (omega arith)))) in
-    c.select.ensures.ticked
-    ∙ ap (λ (s : StepCounts). record s { selections = s.selections + 1; spots = s.spots + c.select.result }) c.read_to.ensures.ticked
-    ∙ ap (λ n. record c.args.steps.now { words = c.read_to.new.self.words; selections = c.args.steps.now.selections + 1; spots = c.args.steps.now.spots + n }) spot
+returns-clause-ticked g c = grind (arith, count-word_bits, selected-lt)

@@ -6,9 +6,7 @@ use Rattle.vortex_mask.proofs.WordKernelLemmas.{place-within}
 use Rattle.vortex_mask.proofs.intersect_by_rank.kernels.mask_driven.Reached.read_to.Goals as goal
 
 pub overflow_add-end : goal.overflow_add-end
-overflow_add-end c =
-    let m = c.args.chunks.now in
-    omega (arith, place-within m c.args.self.now.words _ c.requires.read.counted, count-le-length m, c.requires.fits)
+overflow_add-end c = grind (arith, count-le-length, place-within)
 
 pub word-self-requires-clause-there : goal.word-self-requires-clause-there
 word-self-requires-clause-there c =
