@@ -18,23 +18,16 @@ deposit (suc k) s m = deposit k (s / 2 ^ (m % 2)) (m / 2) * 2 + min (m % 2) (s %
 
 pub deposit-odd : (k s m : ℕ) → m % 2 ≡ 1 → deposit (suc k) s m ≡ deposit k (s / 2) (m / 2) * 2 + s % 2
 unfolding deposit
-deposit-odd k s m e =
-    let first : min (m % 2) (s % 2) ≡ s % 2 = omega arith in
-    ap₂ (λ b l. deposit k (s / 2 ^ b) (m / 2) * 2 + l) e first
+deposit-odd k s m e = grind (arith)
 
 pub deposit-even : (k s m : ℕ) → m % 2 ≡ 0 → deposit (suc k) s m ≡ deposit k s (m / 2) * 2
 unfolding deposit
-deposit-even k s m e =
-    let first : min (m % 2) (s % 2) ≡ 0 = omega arith in
-    let all : s / 1 ≡ s = omega arith in
-    ap₂ (λ b l. deposit k (s / 2 ^ b) (m / 2) * 2 + l) e first ∙ ap (λ x. deposit k x (m / 2) * 2 + 0) all ∙ omega arith
+deposit-even k s m e = grind (arith)
 
 pub bit_at-deposit : (k s m i : ℕ) → i < k → bit_at (deposit k s m) i ≡ min (bit_at m i) (bit_at s (ones_below m i))
 unfolding deposit
 bit_at-deposit zero s m i h = absurd (omega arith)
-bit_at-deposit (suc k) s m zero h =
-    let e : bit_at s (ones_below m 0) ≡ s % 2 = ap (bit_at s) (ones_below-zero m) ∙ bit_at_lowest s in
-    omega (arith, bit_at_lowest (deposit (suc k) s m), bit_at_lowest m)
+bit_at-deposit (suc k) s m zero h = grind (arith, bit_at_lowest, ones_below, ones_below-zero, suc)
 bit_at-deposit (suc k) s m (suc i) h =
     let d = deposit k (s / 2 ^ (m % 2)) (m / 2) in
     let half : (d * 2 + min (m % 2) (s % 2)) / 2 ≡ d = omega arith in
@@ -74,22 +67,14 @@ abbrev pub first : ℕ → ℕ → ℕ → ℕ
 first k s m = lowest k m * (s % 2)
 
 or_twice : (a b : ℕ) → bit_or (a * 2) (b * 2) ≡ bit_or a b * 2
-or_twice a b =
-    let p : a * 2 / 2 ≡ a = omega arith in
-    let q : b * 2 / 2 ≡ b = omega arith in
-    omega (arith, or_step (a * 2) (b * 2), ap₂ bit_or p q)
+or_twice a b = grind (arith, or_step)
 
 or_lowest : (d b : ℕ) → d < 2 → bit_or (1 * d) (b * 2) ≡ b * 2 + d
-or_lowest d b h =
-    let p : 1 * d / 2 ≡ 0 = omega arith in
-    let q : b * 2 / 2 ≡ b = omega arith in
-    omega (arith, or_step (1 * d) (b * 2), ap₂ bit_or p q)
+or_lowest d b h = grind (arith, or_step)
 
 pub deposit_step : (k s m : ℕ) → m < 2 ^ k → deposit k s m ≡ bit_or (first k s m) (deposit k (s / 2) (cleared m))
 unfolding deposit
-deposit_step zero s m fits =
-    let z : m ≡ 0 = omega arith in
-    sym (or_zero_r (first 0 s m) ∙ ap (first 0 s) z ∙ zero-mul (s % 2))
+deposit_step zero s m fits = grind (arith, or_zero_r, zero-mul)
 deposit_step (suc k) s m fits = by (deposit_step k s (m / 2) (omega (arith, pow-suc 2 k))) (parity m)
   where
     by : (deposit k s (m / 2) ≡ bit_or (first k s (m / 2)) (deposit k (s / 2) (cleared (m / 2)))) → (m % 2 ≡ 0) ⊎ (m % 2 ≡ 1) → deposit (suc k) s m ≡ bit_or (first (suc k) s m) (deposit (suc k) (s / 2) (cleared m))

@@ -55,12 +55,7 @@ and_where false y z same = refl
 
 -- a bit of a deposit is a bit of the mask, and of the source at the count of mask bits below it
 pub deposited-value : (s m r j : ℕ) → Deposits s m r → j < 64 → get_or (word_bits r) j false ≡ (get_or (word_bits m) j false && get_or (word_bits s) (count_below (word_bits m) j) false)
-deposited-value s m r j is h =
-    let k = count_below (word_bits m) j in
-    let few : k < 64 = omega (arith, length-places_from 0 (take j (word_bits m)), length-take j (word_bits m)) in
-    get_or-word_bits r j false h
-    ∙ bits_and (bit_at r j) (bit_at m j) (bit_at s k) (bit_at-lt r j) (bit_at-lt m j) (bit_at-lt s k) (is.bits j h)
-    ∙ ap₂ (λ b c. b && c) (sym (get_or-word_bits m j false h)) (sym (get_or-word_bits s k false few))
+deposited-value s m r j is h = grind (arith, bit_at-lt, bits_and, get_or-word_bits, length-places_from, length-take)
 
 -- the source's first bits, as many as the mask's list has true values
 abbrev pub offered_bits : ℕ → ℕ → List Bool

@@ -33,14 +33,7 @@ more-words m n w before rank read passed there = grind (arith, read.counted, tak
 -- and it is read
 pub read-more : (m : List Bool) (n w before next end : ℕ) → HasRead m n w before → 64 * n < length m → end ≡ before + count_ones w → next < 2 ^ 64
     → (n < length m / 64 → word_bits next ≡ word_part m n) → (n ≡ length m / 64 → word_bits next ≡ padded_remainder m) → HasRead m (n + 1) next end
-read-more m n w before next end read more ends fits whole last =
-    let shows : word_bits next ≡ padded_part m n = word-started m n next (omega arith) whole last in
-    let same : n + 1 - 1 ≡ n = omega arith in
-    record {
-      within = omega arith;
-      counted = omega (arith, read.counted, count-word_more m n, ap count shows, count-word_bits next fits);
-      last = λ some. shows ∙ ap (padded_part m) (sym same);
-    }
+read-more m n w before next end read more ends fits whole last = grind (arith, count-word_bits, count-word_more, word-started)
 
 -- a word in which a value is found has been read
 some-word : (m : List Bool) (n w before rank : ℕ) → HasRead m n w before → before ≤ rank → rank < before + count_ones w → 0 < n

@@ -154,10 +154,4 @@ deposited-list a r i at out steps len all is =
 
 pub deposited-steps : (a r : List Bool) (i at : ℕ) (out : List ℕ) (steps : StepCounts) → length r ≡ length a → i ≡ started_words (length a)
     → IsDeposited a r i at out steps → steps ≡ word_steps a r
-deposited-steps a r i at out steps len all is =
-    let words : 64 * i ≡ 64 * started_words (length a) = omega arith in
-    let same : 64 * started_words (length a) ≡ 64 * started_words (length r) = ap (λ n. 64 * started_words n) (sym len) in
-    is.counted
-    ∙ ap₂ (λ (x y : ℕ). record { deposits = i; words = i; selections = 0; offered = x; placed = y; spots = 0 })
-    (ap (count_below a) words ∙ all_below a) (ap (count_below r) (words ∙ same) ∙ all_below r)
-    ∙ ap (λ (n : ℕ). record { deposits = n; words = n; selections = 0; offered = count a; placed = count r; spots = 0 }) all
+deposited-steps a r i at out steps len all is = grind (arith, all_below)
