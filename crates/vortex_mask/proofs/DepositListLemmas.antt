@@ -1,5 +1,5 @@
 -- What deposits and selections are for the lists of the words.
-use Rattle.std.proofs.Common.{◌≡◌, ℕ, zero, suc, ◌+◌, ◌<◌, ◌≤◌, ◌↔◌, inl, inr, Bool, true, false, ◌&&◌, nat_eq, List, [], ◌∷◌, length, get_or, take, refl, sym, ap, ap₂, ◌∙◌, arith}
+use Rattle.std.proofs.Common.{◌≡◌, ℕ, zero, suc, ◌+◌, ◌<◌, ◌↔◌, Bool, true, false, ◌&&◌, nat_eq, List, [], ◌∷◌, length, get_or, take, refl, sym, ap, ◌∙◌, arith}
 use Rattle.std.specs.Int.{bit_at}
 use Rattle.std.proofs.lemmas.List.{ext_get_or, get_or-take, length-take}
 use Rattle.std.proofs.lemmas.Bool.Decides.{nat_tests}
@@ -8,9 +8,9 @@ use Rattle.mask_bits.specs.Positions.{places_from, positions, count, count_below
 use Rattle.mask_bits.specs.Words.{word_bits}
 use Rattle.mask_bits.proofs.Lists.LawLemmas.{rank_intersection_value, length-rank_intersection}
 use Rattle.mask_bits.proofs.Lists.PlaceLemmas.{length-places_from, positions-within, trues, count-trues}
-use Rattle.mask_bits.proofs.Lists.WordLemmas.{length-word_bits, get_or-word_bits, word_bits_from_bits, count_below-word_bits}
+use Rattle.mask_bits.proofs.Lists.WordLemmas.{length-word_bits, get_or-word_bits, count_below-word_bits}
 use Rattle.vortex_mask.specs.Deposit.{Deposits, selected}
-use Rattle.vortex_mask.proofs.SetPlaceLemmas.{ones_below, bit_cases}
+use Rattle.vortex_mask.proofs.SetPlaceLemmas.{ones_below}
 
 -- ---- a true value and its number
 

@@ -1,8 +1,7 @@
 -- The kernel that goes by rank numbers: words that are read in turn, the places found in them, and the run of calls that gave the ranks.
-use Rattle.std.proofs.Common.{◌≡◌, ℕ, ◌+◌, ◌-◌, ◌*◌, ◌/◌, ◌^◌, ◌<◌, ◌≤◌, ◌%◌, Bool, List, [], ◌∷◌, ◌++◌, length, take, get_or, sym, subst, ap, ap₂, ◌∙◌, inl, inr, arith, count_ones, slice_get}
+use Rattle.std.proofs.Common.{◌≡◌, ℕ, ◌+◌, ◌-◌, ◌*◌, ◌/◌, ◌^◌, ◌<◌, ◌≤◌, ◌%◌, Bool, List, [], ◌∷◌, ◌++◌, length, take, get_or, sym, subst, ap, ap₂, ◌∙◌, arith, count_ones, slice_get}
 use Rattle.std.proofs.Math.Seq.{get_or-append_seam}
 use Rattle.std.proofs.iter.runs.Made.{run_of_turn, run_of_exit, took}
-use Rattle.std.proofs.lemmas.Bool.{cases_lt}
 use Rattle.std.proofs.lemmas.List.{take_all, map-append, length-append, get_or_append_left}
 use Rattle.std.proofs.lemmas.List.Sums.{sum_by_push}
 use Rattle.std.proofs.lemmas.Nat.{ones-le}
@@ -19,7 +18,7 @@ use Rattle.mask_bits.proofs.Lists.AscendingLemmas.{positions-true_at, positions-
 use Rattle.mask_bits.proofs.Lists.PlaceLemmas.{count-le-length, positions-within}
 use Rattle.mask_bits.proofs.Lists.RankLemmas.{length-true_at, All-at_places}
 use Rattle.mask_bits.proofs.Lists.SelectLemmas.{count-word_more, place_in_word}
-use Rattle.mask_bits.proofs.Lists.WordLemmas.{count-word_bits, length-word_bits}
+use Rattle.mask_bits.proofs.Lists.WordLemmas.{count-word_bits}
 use Rattle.vortex_mask.specs.Deposit.{selected}
 use Rattle.vortex_mask.specs.Ranks.{AreRanks, HasRead}
 use Rattle.vortex_mask.specs.Steps.{StepCounts, no_steps}

@@ -1,4 +1,4 @@
-use Rattle.std.proofs.Common.{◌/◌, bit_or, sym, ap, ◌∙◌, arith}
+use Rattle.std.proofs.Common.{bit_or, sym, ap, ◌∙◌, arith}
 use lib.Bits.{or_zero_r}
 use Rattle.vortex_mask.proofs.DepositLemmas.{deposit, turn, deposit-zero, deposit_no_source, Deposits-from_deposit}
 use Rattle.vortex_mask.proofs.SetPlaceLemmas.{cleared}

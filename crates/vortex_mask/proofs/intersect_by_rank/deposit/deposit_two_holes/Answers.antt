@@ -1,4 +1,4 @@
-use Rattle.std.proofs.Common.{◌-◌, ◌^◌, ap, arith, rules}
+use Rattle.std.proofs.Common.{◌-◌, ap, arith}
 use Rattle.mask_bits.proofs.Lists.WordLemmas.{count-word_bits}
 use Rattle.vortex_mask.proofs.DepositLemmas.{cleared_word, Deposits-from_deposit}
 use Rattle.vortex_mask.proofs.HoleLemmas.{clear, two_holes}

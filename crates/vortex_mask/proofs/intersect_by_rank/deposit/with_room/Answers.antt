@@ -1,4 +1,4 @@
-use Rattle.std.proofs.Common.{◌≡◌, ◌+◌, ◌*◌, ◌/◌, ◌%◌, ◌^◌, ap, ◌∙◌, bit_and, sym, arith, rules}
+use Rattle.std.proofs.Common.{arith}
 use lib.Bits.{and_zero_r}
 use Rattle.vortex_mask.proofs.HoleLemmas.{kept_from}
 use Rattle.vortex_mask.proofs.intersect_by_rank.deposit.with_room.Goals as goal

@@ -1,10 +1,9 @@
-use Rattle.std.proofs.Common.{◌≡◌, length, false, true, ap, sym, ◌∙◌, arith}
-use Rattle.mask_bits.specs.Buffer.{Packed, values}
-use Rattle.mask_bits.specs.Positions.{count, repeated}
+use Rattle.std.proofs.Common.{sym, arith}
+use Rattle.mask_bits.specs.Buffer.{values}
+use Rattle.mask_bits.specs.Positions.{repeated}
 use Rattle.mask_bits.proofs.Lists.BitsLemmas.{length-bits_at}
 use Rattle.mask_bits.proofs.Lists.CountLemmas.{all_true_from_count, all_false_from_count}
 use Rattle.mask_bits.proofs.Lists.PlaceLemmas.{count-le-length}
-use Rattle.vortex_mask.specs.Mask.{all_false, fitting_variant}
 use Rattle.vortex_mask.proofs.MaskLemmas.{AreOf-no_caches, fitting_variant-repeated_false, fitting_variant-some_true, fitting_variant-some}
 use Rattle.vortex_mask.proofs.mask.Mask.of_words.Goals as goal
 

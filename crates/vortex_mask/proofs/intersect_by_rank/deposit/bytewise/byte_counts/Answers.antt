@@ -1,5 +1,4 @@
-use Rattle.std.proofs.Common.{arith, ap, ◌∙◌}
-use Rattle.vortex_mask.specs.Bytes.{byte_at, halves_summed}
+use Rattle.std.proofs.Common.{arith}
 use Rattle.vortex_mask.proofs.ByteLemmas.{byte_at-lt}
 use Rattle.vortex_mask.proofs.NetworkLemmas.{count_by_halves}
 use Rattle.vortex_mask.proofs.intersect_by_rank.deposit.bytewise.byte_counts.Goals as goal

@@ -1,4 +1,4 @@
-use Rattle.std.proofs.Common.{arith, ◌*◌, T, eqb, eqb→eq}
+use Rattle.std.proofs.Common.{◌*◌, T, eqb, eqb→eq}
 use Rattle.vortex_mask.specs.Bytes.{byte_at}
 use Rattle.vortex_mask.proofs.NetworkLemmas.{all_below, every_below}
 use Rattle.vortex_mask.proofs.intersect_by_rank.deposit.bytewise.bytes.Goals as goal

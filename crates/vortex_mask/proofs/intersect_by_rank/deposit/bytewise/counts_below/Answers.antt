@@ -1,6 +1,5 @@
-use Rattle.std.proofs.Common.{◌*◌, ◌%◌, ◌^◌, ap, sym, ◌∙◌, arith}
+use Rattle.std.proofs.Common.{◌*◌, arith}
 use Rattle.mask_bits.proofs.Lists.WordLemmas.{count_below-word_bits}
-use Rattle.vortex_mask.specs.Bytes.{byte_at}
 use Rattle.vortex_mask.proofs.ByteCountLemmas.{summed_is}
 use Rattle.vortex_mask.proofs.SetPlaceLemmas.{ones_below-le}
 use Rattle.vortex_mask.proofs.intersect_by_rank.deposit.bytewise.counts_below.Goals as goal

@@ -1,4 +1,4 @@
-use Rattle.std.proofs.Common.{◌≡◌, ◌-◌, ◌/◌, ◌^◌, ℕ, ap, ap₂, ◌∙◌, bit_and, bit_xor, arith}
+use Rattle.std.proofs.Common.{◌≡◌, ℕ, ap, ap₂, ◌∙◌, bit_and, bit_xor, arith}
 use Rattle.vortex_mask.specs.Bytes.{byte_at, moved_down, with_moved, halved}
 use Rattle.vortex_mask.proofs.ByteLemmas.{byte_at_and, byte_at_xor, byte_at_not}
 use Rattle.vortex_mask.proofs.NetworkLemmas.{shift_is, shift_small}

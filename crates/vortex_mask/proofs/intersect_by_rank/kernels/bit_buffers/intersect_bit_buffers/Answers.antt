@@ -1,7 +1,5 @@
-use Rattle.std.proofs.Common.{◌≡◌, length, sym, ap, ap₂, ◌∙◌, arith}
+use Rattle.std.proofs.Common.{arith}
 use Rattle.std.proofs.lemmas.List.{take_at}
-use Rattle.mask_bits.specs.Buffer.{values}
-use Rattle.mask_bits.specs.Positions.{count, rank_intersection}
 use Rattle.mask_bits.proofs.Lists.LawLemmas.{rank_intersection_count}
 use Rattle.vortex_mask.proofs.intersect_by_rank.kernels.bit_buffers.intersect_bit_buffers.Goals as goal
 

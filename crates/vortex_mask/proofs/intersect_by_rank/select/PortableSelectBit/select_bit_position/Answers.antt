@@ -1,5 +1,4 @@
-use Rattle.std.proofs.Common.{◌≡◌, ℕ, ◌+◌, ◌/◌, ◌<◌, ◌≤◌, ◌^◌, ap, sym, arith, rules, count_ones, mod-eq_of_lt}
-use Rattle.std.specs.Int.{bit_at}
+use Rattle.std.proofs.Common.{◌≡◌, ℕ, ◌+◌, ◌/◌, ◌≤◌, ◌^◌, ap, arith, count_ones, mod-eq_of_lt}
 use Rattle.std.proofs.lemmas.Nat.Bits.{bit_at-lt}
 use Rattle.mask_bits.proofs.Lists.WordLemmas.{count-word_bits, ones_below-more}
 use Rattle.vortex_mask.proofs.ByteCountLemmas.{halved, lower_bits, ones_below-next}

@@ -1,5 +1,4 @@
-use Rattle.std.proofs.Common.{◌≡◌, ◌+◌, ◌-◌, ◌*◌, ◌%◌, ap, ◌∙◌, arith}
-use Rattle.vortex_mask.specs.Steps.{StepCounts}
+use Rattle.std.proofs.Common.{arith}
 use Rattle.mask_bits.proofs.Lists.WordLemmas.{count-word_bits}
 use Rattle.vortex_mask.proofs.DepositListLemmas.{selected-lt}
 use Rattle.vortex_mask.proofs.DrivenLemmas.{place-found}

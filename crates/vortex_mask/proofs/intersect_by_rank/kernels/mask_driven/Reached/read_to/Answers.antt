@@ -38,4 +38,3 @@ loop-end-preserved c =
       reached = c.loop-end-test.true;
       ticked = c.word-self.ensures.ticked ∙ ap (λ (s : StepCounts). record s { words = s.words + 1 }) before.ticked;
     }
-
