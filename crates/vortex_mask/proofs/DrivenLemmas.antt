@@ -1,4 +1,4 @@
--- The kernel that goes by rank numbers: words that are read in turn, the places found in them, and the run of calls that gave the ranks.
+-- The kernel that goes by ranks: words that are read in turn, the places found in them, and the run of calls that gave the ranks.
 use Rattle.std.proofs.Common.{◌≡◌, ℕ, ◌+◌, ◌-◌, ◌*◌, ◌/◌, ◌^◌, ◌<◌, ◌≤◌, ◌%◌, Bool, List, [], ◌∷◌, ◌++◌, length, take, get_or, sym, subst, ap, ap₂, ◌∙◌, arith, count_ones, slice_get}
 use Rattle.std.proofs.Math.Seq.{get_or-append_seam}
 use Rattle.std.proofs.iter.runs.Made.{run_of_turn, run_of_exit, took}

@@ -20,11 +20,11 @@ use std::borrow::CowSlice;
 pub enum RankPath {
     /// `intersect_by_rank_indices`: one list of places is taken at another.
     Indices,
-    /// `intersect_mask_driven`: each true rank is looked for in the words of self.
+    /// `intersect_mask_driven`: each rank is looked for in the words of self.
     MaskDriven,
     /// `intersect_bit_buffers`: the rank mask's bits are deposited into the words of self.
     BitBuffers,
-    /// `intersect_bit_buffer_by_rank_indices`: bits made of a list of true ranks are deposited.
+    /// `intersect_bit_buffer_by_rank_indices`: bits made of a list of ranks are deposited.
     RankIndices,
 }
 
@@ -32,11 +32,11 @@ pub enum RankPath {
 // fewer true rows than words, and it is quicker to go over a list of these.
 const ROWS_OF_A_WORD: u64 = 64;
 
-// At one true rank in 32 there are at most two selections for a word of rows, and about there they
+// At one rank in 32 values there are at most two selections for a word of rows, and about there they
 // cost as much as to count and deposit each word. Fewer ranks are found one by one.
 const RANKS_OF_A_SELECTION: u64 = 32;
 
-// A list of true ranks has to be turned into bits, one by one. Above one true rank in four that
+// A list of ranks has to be turned into bits, one by one. Above one rank in four values that
 // takes longer than to read the rank mask's bits as they are.
 const RANKS_OF_A_LISTED_ONE: u64 = 4;
 

@@ -57,11 +57,11 @@ pub fn narrow_by_bits<D: DepositBits>(
     // the next rank bit is the one after those of all true values so far
     let mut at = 0usize;
     for i in 0..out.len() / 8 {
-        let mask = steps.word(chunks, i);
-        let ones = mask.count_ones() as usize;
+        let chunk = steps.word(chunks, i);
+        let ones = chunk.count_ones() as usize;
         let source = ranks.read(at);
-        let kept = steps.deposit::<D>(source, mask, ones);
-        set_word(out, i, kept);
+        let word = steps.deposit::<D>(source, chunk, ones);
+        set_word(out, i, word);
         at += ones;
     }
     steps

@@ -12,7 +12,7 @@ use crate::mask::{Mask, MaskError};
 use std::alloc::{AllocError, Global};
 
 /// The mask of `len` values whose true indices are `self_indices` taken at `mask_indices`, which it
-/// keeps. No word is read and none is deposited.
+/// caches. No word is read and none is deposited.
 pub fn intersect_by_rank_indices(
     alloc: Global,
     len: usize,
@@ -32,19 +32,19 @@ pub fn intersect_by_rank_indices(
     ensures steps { IfOk result (λ r. r.1 ≡ no_steps) }
     ensures refused { IsOkUnless result (MaskError.Memory alloc_error) }
 {
-    let kept = taken_at(alloc, self_indices, mask_indices)?;
-    let mask = Mask::of_indices(alloc, len, kept)?;
+    let places = entries_at(alloc, self_indices, mask_indices)?;
+    let mask = Mask::of_indices(alloc, len, places)?;
     Ok((mask, Steps::new()))
 }
 
 // The entries of `places` at `ranks`, in the order of `ranks`.
-fn taken_at(alloc: Global, places: &[usize], ranks: &[usize]) -> Result<Vec<usize>, AllocError>
+fn entries_at(alloc: Global, places: &[usize], ranks: &[usize]) -> Result<Vec<usize>, AllocError>
     requires { All (λ k. k < length places.now) ranks.now }
-    ensures { IfOk result (λ kept. kept.items ≡ at_places places.now ranks.now) }
+    ensures { IfOk result (λ entries. entries.items ≡ at_places places.now ranks.now) }
 {
-    let mut kept = Vec::with_capacity(alloc, ranks.len())?;
+    let mut entries = Vec::with_capacity(alloc, ranks.len())?;
     for rank in ranks {
-        kept.push(places[*rank])?;
+        entries.push(places[*rank])?;
     }
-    Ok(kept)
+    Ok(entries)
 }

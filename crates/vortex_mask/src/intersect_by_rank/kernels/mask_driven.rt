@@ -1,5 +1,4 @@
-//! The kernel that goes by the numbers of the true values that stay: one selection for each, in words
-//! that are read in turn.
+//! The kernel that goes by ranks: one selection for each, in words that are read in turn.
 
 ghost use Rattle.std.specs.Prelude.{◌≡◌, ◌≤◌, ℕ, List, IfOk, IsOkUnless, alloc_error, length, ◌+◌, ◌*◌, ◌<◌, ◌^◌, ◌%◌, Some, count_ones, slice_get};
 ghost use Rattle.std.specs.Iterator.{IsFinite, Drains};
@@ -18,11 +17,11 @@ use crate::mask::{Mask, MaskError};
 use mask_bits::{BitBuffer, BitChunks};
 use std::alloc::{AllocError, Global};
 
-/// The values of a buffer narrowed to the true ones whose numbers `mask_indices` yields, ascending,
-/// `true_count` of them. It keeps their places.
+/// The values of a buffer narrowed to the true ones at the ranks that `mask_indices` yields,
+/// ascending, `true_count` of them. It caches their places.
 ///
-/// Takes one selection for each number. A word of the buffer is read only once a number lies past
-/// the words read so far, and none is read again, so this is the kernel for few numbers. No word is
+/// Takes one selection for each rank. A word of the buffer is read only once a rank lies past the
+/// words read so far, and none is read again, so this is the kernel for few ranks. No word is
 /// deposited.
 pub fn intersect_mask_driven<S: SelectBit, I: Iterator<Item = usize>>(
     alloc: Global,
@@ -58,8 +57,7 @@ pub fn intersect_mask_driven<S: SelectBit, I: Iterator<Item = usize>>(
     Ok((Mask::of_indices(alloc, len, places)?, steps))
 }
 
-/// The indices of the true values of `chunks` whose numbers are `ranks`, `true_count` of them, and
-/// the steps.
+/// The indices of the true values of `chunks` at `ranks`, `true_count` of them, and the steps.
 pub fn places_at_ranks<S: SelectBit, I: Iterator<Item = usize>>(
     alloc: Global,
     chunks: &BitChunks<'_>,
@@ -107,7 +105,7 @@ struct Reached {
 }
 
 impl Reached {
-    // The index of true value number `rank`, which doesn't stand before the last word. Reads on
+    // The index of the true value at `rank`, which doesn't stand before the last word. Reads on
     // until it is in the last word. Inlined, so that what is reached stays in registers.
     #[inline(always)]
     fn place_of<S: SelectBit>(
@@ -135,7 +133,7 @@ impl Reached {
         64 * (self.words - 1) + steps.select::<S>(self.word, rank - self.before)
     }
 
-    // Reads on until true value number `rank` is in the last word.
+    // Reads on until the true value at `rank` is in the last word.
     #[inline(always)]
     fn read_to(&mut self, chunks: &BitChunks<'_>, steps: &mut Steps, rank: usize)
         requires fits { length chunks.now < 2 ^ 64 }

@@ -10,8 +10,8 @@ use Rattle.vortex_mask.proofs.intersect_by_rank.kernels.bit_buffers.narrow_by_bi
 pub read-source-requires : goal.read-source-requires
 read-source-requires g c = grind (arith, place-within, rank_place-fits)
 
-pub deposit-kept-requires-clause-counted : goal.deposit-kept-requires-clause-counted
-deposit-kept-requires-clause-counted g c = sym (count-word_bits c.word-mask.result (omega arith))
+pub deposit-word-requires-clause-counted : goal.deposit-word-requires-clause-counted
+deposit-word-requires-clause-counted g c = sym (count-word_bits c.word-chunk.result (omega arith))
 
 pub overflow_add-at : goal.overflow_add-at
 overflow_add-at g c = grind (arith, count-word_bits, place-after_within, rank_place-fits, word-started)
@@ -22,13 +22,13 @@ loop-i-preserved g c =
     let ranks = c.args.ranks.now in
     let i = c.loop-i.i in
     let at = c.loop-i.at in
-    let shows : word_bits c.word-mask.result ≡ padded_part a i
-    = word-started a i c.word-mask.result (omega (arith, c.loop-i-test.true, c.requires.room, c.loop-i.auto.out)) c.word-mask.ensures.whole c.word-mask.ensures.last in
-    deposited-more a (values ranks) i at c.read-source.result c.word-mask.result _ c.deposit-kept.result c.loop-i.out c.set_word.new.bytes
-    c.loop-i.steps c.word-mask.new.self c.deposit-kept.new.self c.requires.fitting c.loop-i.invariant shows
-    (sym (count-word_bits c.word-mask.result (omega arith)))
-    (rank_bits-window a ranks i at c.read-source.result c.word-mask.result c.requires.fitting c.loop-i.invariant.place shows c.read-source.ensures)
-    c.deposit-kept.ensures.deposited c.set_word.ensures.here c.set_word.ensures.others c.word-mask.ensures.ticked c.deposit-kept.ensures.ticked
+    let shows : word_bits c.word-chunk.result ≡ padded_part a i
+    = word-started a i c.word-chunk.result (omega (arith, c.loop-i-test.true, c.requires.room, c.loop-i.auto.out)) c.word-chunk.ensures.whole c.word-chunk.ensures.last in
+    deposited-more a (values ranks) i at c.read-source.result c.word-chunk.result _ c.deposit-word.result c.loop-i.out c.set_word.new.bytes
+    c.loop-i.steps c.word-chunk.new.self c.deposit-word.new.self c.requires.fitting c.loop-i.invariant shows
+    (sym (count-word_bits c.word-chunk.result (omega arith)))
+    (rank_bits-window a ranks i at c.read-source.result c.word-chunk.result c.requires.fitting c.loop-i.invariant.place shows c.read-source.ensures)
+    c.deposit-word.ensures.deposited c.set_word.ensures.here c.set_word.ensures.others c.word-chunk.ensures.ticked c.deposit-word.ensures.ticked
 
 pub returns-clause-list : goal.returns-clause-list
 returns-clause-list g c =
