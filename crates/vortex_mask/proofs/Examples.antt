@@ -17,30 +17,22 @@ use Rattle.vortex_mask.specs.declared.mask.Mask.{Mask}
 use Rattle.vortex_mask.specs.declared.mask.Mask.TheVariants.{AllTrue, AllFalse, Values}
 use Rattle.vortex_mask.specs.declared.mask.error.MaskError.TheVariants.{UnsortedIndices, RepeatedIndex, IndexOutOfBounds, BadRange, UnsortedRanges, OverlappingRanges}
 
+-- each row has what the function is given, and what it gives
+abbrev Gives : {A B : Type 0} → (A → B) → List (A × B) → Type 0
+Gives f rows = map (λ row. f row.0) rows ≡ map (λ row. row.1) rows
+
 -- ---- index lists of a mask of five values
 
-no_index_fault : index_fault 5 (0 ∷ 2 ∷ 4 ∷ []) ≡ None
-no_index_fault = refl
-
-repeated_index : index_fault 5 (0 ∷ 2 ∷ 2 ∷ []) ≡ Some (RepeatedIndex 2)
-repeated_index = refl
-
--- order goes before repeats
-unsorted_before_repeated : index_fault 5 (3 ∷ 3 ∷ 1 ∷ []) ≡ Some (UnsortedIndices 2)
-unsorted_before_repeated = refl
-
--- and before bounds
-unsorted_before_bounds : index_fault 5 (2 ∷ 0 ∷ 9 ∷ []) ≡ Some (UnsortedIndices 1)
-unsorted_before_bounds = refl
-
-repeated_before_bounds : index_fault 5 (9 ∷ 9 ∷ []) ≡ Some (RepeatedIndex 1)
-repeated_before_bounds = refl
-
-index_out_of_bounds : index_fault 5 (1 ∷ 7 ∷ 9 ∷ []) ≡ Some (IndexOutOfBounds 7 5)
-index_out_of_bounds = refl
-
-index_at_the_length : index_fault 5 (0 ∷ 2 ∷ 5 ∷ []) ≡ Some (IndexOutOfBounds 5 5)
-index_at_the_length = refl
+index_faults : Gives (index_fault 5) (
+    (0 ∷ 2 ∷ 4 ∷ [], None)
+    ∷ (0 ∷ 2 ∷ 2 ∷ [], Some (RepeatedIndex 2))
+    ∷ (3 ∷ 3 ∷ 1 ∷ [], Some (UnsortedIndices 2))  -- order goes before repeats
+    ∷ (2 ∷ 0 ∷ 9 ∷ [], Some (UnsortedIndices 1))  -- and before bounds
+    ∷ (9 ∷ 9 ∷ [], Some (RepeatedIndex 1))
+    ∷ (1 ∷ 7 ∷ 9 ∷ [], Some (IndexOutOfBounds 7 5))
+    ∷ (0 ∷ 2 ∷ 5 ∷ [], Some (IndexOutOfBounds 5 5))
+    ∷ [])
+index_faults = refl
 
 -- the first past the end is the first in the list, and not the smallest
 first_out_of_bounds : out_of_bounds 5 (3 ∷ 9 ∷ 7 ∷ []) ≡ Some (IndexOutOfBounds 9 5)
@@ -54,116 +46,79 @@ nothing_in_common = refl
 
 -- ---- range lists of a mask of five values
 
-no_range_fault : range_fault 5 ((0, 1) ∷ (1, 3) ∷ (4, 5) ∷ []) ≡ None
-no_range_fault = refl
-
-empty_range : range_fault 5 ((2, 2) ∷ []) ≡ Some (BadRange 0)
-empty_range = refl
-
-range_past_the_length : range_fault 5 ((0, 6) ∷ []) ≡ Some (BadRange 0)
-range_past_the_length = refl
-
--- bad ranges go before order
-bad_before_unsorted : range_fault 5 ((2, 4) ∷ (0, 1) ∷ (3, 9) ∷ []) ≡ Some (BadRange 2)
-bad_before_unsorted = refl
-
-unsorted_ranges : range_fault 5 ((2, 3) ∷ (0, 1) ∷ []) ≡ Some (UnsortedRanges 1)
-unsorted_ranges = refl
-
-same_start : range_fault 5 ((1, 2) ∷ (1, 3) ∷ []) ≡ Some (UnsortedRanges 1)
-same_start = refl
-
-overlapping_ranges : range_fault 5 ((0, 3) ∷ (2, 4) ∷ []) ≡ Some (OverlappingRanges 1)
-overlapping_ranges = refl
+range_faults : Gives (range_fault 5) (
+    ((0, 1) ∷ (1, 3) ∷ (4, 5) ∷ [], None)
+    ∷ ((2, 2) ∷ [], Some (BadRange 0))
+    ∷ ((0, 6) ∷ [], Some (BadRange 0))
+    ∷ ((2, 4) ∷ (0, 1) ∷ (3, 9) ∷ [], Some (BadRange 2))  -- bad ranges go before order
+    ∷ ((2, 3) ∷ (0, 1) ∷ [], Some (UnsortedRanges 1))
+    ∷ ((1, 2) ∷ (1, 3) ∷ [], Some (UnsortedRanges 1))
+    ∷ ((0, 3) ∷ (2, 4) ∷ [], Some (OverlappingRanges 1))
+    ∷ [])
+range_faults = refl
 
 -- ---- variants
 
-mixed_list : fitting_variant all_false (true ∷ false ∷ []) ≡ mixed
-mixed_list = refl
+-- what an empty list is held as, and a list
+fitting_variants : Gives (λ (row : Variant × List Bool). fitting_variant row.0 row.1) (
+    ((all_false, true ∷ false ∷ []), mixed)
+    ∷ ((all_false, true ∷ true ∷ []), all_true)
+    ∷ ((all_true, false ∷ []), all_false)
+    ∷ ((all_true, []), all_true)
+    ∷ [])
+fitting_variants = refl
 
-all_true_list : fitting_variant all_false (true ∷ true ∷ []) ≡ all_true
-all_true_list = refl
+variants_by_or : Gives (λ (v : Variant × Variant). variant_or v.0 v.1) (
+    ((all_true, all_true), all_true)
+    ∷ ((all_true, all_false), all_true)
+    ∷ ((all_false, all_true), all_true)
+    ∷ ((all_false, all_false), all_false)
+    ∷ ((mixed, all_true), all_true)
+    ∷ ((mixed, all_false), mixed)
+    ∷ ((mixed, mixed), mixed)
+    ∷ ((all_true, mixed), all_true)
+    ∷ ((all_false, mixed), mixed)
+    ∷ [])
+variants_by_or = refl
 
-all_false_list : fitting_variant all_true (false ∷ []) ≡ all_false
-all_false_list = refl
+variants_by_and : Gives (λ (v : Variant × Variant). variant_and v.0 v.1) (
+    ((all_true, all_true), all_true)
+    ∷ ((all_true, all_false), all_false)
+    ∷ ((all_false, all_true), all_false)
+    ∷ ((all_false, all_false), all_false)
+    ∷ ((mixed, all_true), mixed)
+    ∷ ((mixed, all_false), all_false)
+    ∷ ((mixed, mixed), mixed)
+    ∷ ((all_true, mixed), mixed)
+    ∷ ((all_false, mixed), all_false)
+    ∷ [])
+variants_by_and = refl
 
-no_values : fitting_variant all_true [] ≡ all_true
-no_values = refl
-
-empty_and : variant_and all_true all_false ≡ all_false
-empty_and = refl
-
--- each pair of variants
-or_of_variants : map (λ (v : Variant × Variant). variant_or v.0 v.1) ((all_true, all_true) ∷ (all_true, all_false) ∷ (all_false, all_true) ∷ (all_false, all_false) ∷ []) ≡ all_true ∷ all_true ∷ all_true ∷ all_false ∷ []
-or_of_variants = refl
-
-or_of_a_mixed_one : map (λ (v : Variant × Variant). variant_or v.0 v.1) ((mixed, all_true) ∷ (mixed, all_false) ∷ (mixed, mixed) ∷ (all_true, mixed) ∷ (all_false, mixed) ∷ []) ≡ all_true ∷ mixed ∷ mixed ∷ all_true ∷ mixed ∷ []
-or_of_a_mixed_one = refl
-
-and_of_variants : map (λ (v : Variant × Variant). variant_and v.0 v.1) ((all_true, all_true) ∷ (all_true, all_false) ∷ (all_false, all_true) ∷ (all_false, all_false) ∷ []) ≡ all_true ∷ all_false ∷ all_false ∷ all_false ∷ []
-and_of_variants = refl
-
-and_of_a_mixed_one : map (λ (v : Variant × Variant). variant_and v.0 v.1) ((mixed, all_true) ∷ (mixed, all_false) ∷ (mixed, mixed) ∷ (all_true, mixed) ∷ (all_false, mixed) ∷ []) ≡ mixed ∷ all_false ∷ mixed ∷ mixed ∷ all_false ∷ []
-and_of_a_mixed_one = refl
-
-negated_variants : map variant_not (all_true ∷ all_false ∷ mixed ∷ []) ≡ all_false ∷ all_true ∷ mixed ∷ []
+negated_variants : Gives variant_not ((all_true, all_false) ∷ (all_false, all_true) ∷ (mixed, mixed) ∷ [])
 negated_variants = refl
 
-parts_with_no_values : map variant_of_no_part (all_true ∷ all_false ∷ mixed ∷ []) ≡ all_true ∷ all_false ∷ all_false ∷ []
+parts_with_no_values : Gives variant_of_no_part ((all_true, all_true) ∷ (all_false, all_false) ∷ (mixed, all_false) ∷ [])
 parts_with_no_values = refl
 
 -- ---- cached lists of what boolean calls make
 
-all_true_and_another : (n : ℕ) (b : Mask) → and_caches (AllTrue n) b ≡ caches b
-all_true_and_another n b = refl
+beside_all_true : (a : Mask) (n : ℕ) → (and_caches (AllTrue n) a ≡ caches a) × (and_caches a (AllTrue n) ≡ caches a) × (or_caches a (AllTrue n) ≡ no_caches) × (and_not_caches a (AllTrue n) ≡ no_caches)
+beside_all_true (AllTrue k) n = (refl, refl, refl, refl)
+beside_all_true (AllFalse k) n = (refl, refl, refl, refl)
+beside_all_true (Values v) n = (refl, refl, refl, refl)
 
-another_and_all_true : (a : Mask) (n : ℕ) → and_caches a (AllTrue n) ≡ caches a
-another_and_all_true (AllTrue k) n = refl
-another_and_all_true (AllFalse k) n = refl
-another_and_all_true (Values v) n = refl
+beside_all_false : (a : Mask) (n : ℕ) → (and_caches a (AllFalse n) ≡ no_caches) × (or_caches (AllFalse n) a ≡ caches a) × (or_caches a (AllFalse n) ≡ caches a) × (and_not_caches a (AllFalse n) ≡ caches a)
+beside_all_false (AllTrue k) n = (refl, refl, refl, refl)
+beside_all_false (AllFalse k) n = (refl, refl, refl, refl)
+beside_all_false (Values v) n = (refl, refl, refl, refl)
 
-nothing_of_and_all_false : (a : Mask) (n : ℕ) → and_caches a (AllFalse n) ≡ no_caches
-nothing_of_and_all_false (AllTrue k) n = refl
-nothing_of_and_all_false (AllFalse k) n = refl
-nothing_of_and_all_false (Values v) n = refl
-
-nothing_of_two_mixed_and : (a b : Mask) → variant a ≡ mixed → variant b ≡ mixed → and_caches a b ≡ no_caches
-nothing_of_two_mixed_and (AllTrue k) b held also = absurd (cc)
-nothing_of_two_mixed_and (AllFalse k) b held also = absurd (cc)
-nothing_of_two_mixed_and (Values v) (AllTrue n) held also = absurd (cc)
-nothing_of_two_mixed_and (Values v) (AllFalse n) held also = absurd (cc)
-nothing_of_two_mixed_and (Values v) (Values w) held also = refl
-
-all_false_or_another : (n : ℕ) (b : Mask) → or_caches (AllFalse n) b ≡ caches b
-all_false_or_another n b = refl
-
-another_or_all_false : (a : Mask) (n : ℕ) → or_caches a (AllFalse n) ≡ caches a
-another_or_all_false (AllTrue k) n = refl
-another_or_all_false (AllFalse k) n = refl
-another_or_all_false (Values v) n = refl
-
-nothing_of_or_all_true : (a : Mask) (n : ℕ) → or_caches a (AllTrue n) ≡ no_caches
-nothing_of_or_all_true (AllTrue k) n = refl
-nothing_of_or_all_true (AllFalse k) n = refl
-nothing_of_or_all_true (Values v) n = refl
-
-nothing_of_two_mixed_or : (a b : Mask) → variant a ≡ mixed → variant b ≡ mixed → or_caches a b ≡ no_caches
-nothing_of_two_mixed_or (AllTrue k) b held also = absurd (cc)
-nothing_of_two_mixed_or (AllFalse k) b held also = absurd (cc)
-nothing_of_two_mixed_or (Values v) (AllTrue n) held also = absurd (cc)
-nothing_of_two_mixed_or (Values v) (AllFalse n) held also = absurd (cc)
-nothing_of_two_mixed_or (Values v) (Values w) held also = refl
-
-without_all_false : (a : Mask) (n : ℕ) → and_not_caches a (AllFalse n) ≡ caches a
-without_all_false a n = refl
-
-nothing_without_all_true : (a : Mask) (n : ℕ) → and_not_caches a (AllTrue n) ≡ no_caches
-nothing_without_all_true a n = refl
+nothing_of_two_mixed : (a b : Mask) → variant a ≡ mixed → variant b ≡ mixed → (and_caches a b ≡ no_caches) × (or_caches a b ≡ no_caches)
+nothing_of_two_mixed (Values v) (Values w) held also = (refl, refl)
+nothing_of_two_mixed a b held also = absurd (cc)
 
 nothing_without_a_mixed_one : (a b : Mask) → variant b ≡ mixed → and_not_caches a b ≡ no_caches
-nothing_without_a_mixed_one a (AllTrue n) held = absurd (cc)
-nothing_without_a_mixed_one a (AllFalse n) held = absurd (cc)
 nothing_without_a_mixed_one a (Values w) held = refl
+nothing_without_a_mixed_one a b held = absurd (cc)
 
 -- ---- uniform lists
 
@@ -198,129 +153,63 @@ places_beside_ranges = refl
 
 -- ---- paths: self's values and true ones, the rank mask's, and whether the true places of each are kept
 
-as_many_ranks_as_words : path 130 6 6 3 true true ≡ BitBuffers
-as_many_ranks_as_words = refl
+paths : Gives (λ (m : ℕ × ℕ × ℕ × ℕ × Bool × Bool). path m.0 m.1 m.2 m.3 m.4 m.5) (
+    ((130, 6, 6, 3, true, true), BitBuffers)  -- as many ranks as words
+    ∷ ((130, 6, 6, 1, true, true), Indices)  -- and fewer
+    ∷ ((130, 6, 6, 1, true, false), BitBuffers)
+    ∷ ((130, 6, 6, 1, false, true), RankIndices)
+    ∷ ((128, 64, 64, 3, false, true), RankIndices)
+    ∷ ((128, 64, 64, 16, false, true), RankIndices)  -- a fourth of the ranks
+    ∷ ((128, 64, 64, 17, false, true), BitBuffers)  -- and above it
+    ∷ ((128, 64, 64, 1, false, true), MaskDriven)  -- below one rank in 32
+    ∷ ((128, 64, 64, 2, false, false), BitBuffers)  -- and one in 32
+    ∷ ((128, 2, 2, 1, false, false), BitBuffers)  -- one row in 64
+    ∷ ((129, 2, 2, 1, false, false), Indices)  -- and below that
+    ∷ [])
+paths = refl
 
-fewer_ranks_than_words : path 130 6 6 1 true true ≡ Indices
-fewer_ranks_than_words = refl
-
-places_of_self_alone : path 130 6 6 1 true false ≡ BitBuffers
-places_of_self_alone = refl
-
-places_of_the_ranks_alone : path 130 6 6 1 false true ≡ RankIndices
-places_of_the_ranks_alone = refl
-
-few_ranks_are_listed : path 128 64 64 3 false true ≡ RankIndices
-few_ranks_are_listed = refl
-
-a_fourth_of_the_ranks : path 128 64 64 16 false true ≡ RankIndices
-a_fourth_of_the_ranks = refl
-
-above_a_fourth_of_the_ranks : path 128 64 64 17 false true ≡ BitBuffers
-above_a_fourth_of_the_ranks = refl
-
-below_one_rank_in_32 : path 128 64 64 1 false true ≡ MaskDriven
-below_one_rank_in_32 = refl
-
-one_rank_in_32 : path 128 64 64 2 false false ≡ BitBuffers
-one_rank_in_32 = refl
-
-one_row_in_64 : path 128 2 2 1 false false ≡ BitBuffers
-one_row_in_64 = refl
-
-below_one_row_in_64 : path 129 2 2 1 false false ≡ Indices
-below_one_row_in_64 = refl
-
--- on both sides of each comparison. With the ranks kept: the count of the ranks beside self's started words
-one_rank_of_two_words : path 128 64 64 1 true true ≡ Indices
-one_rank_of_two_words = refl
-
-two_ranks_of_two_words : path 128 64 64 2 true true ≡ RankIndices
-two_ranks_of_two_words = refl
-
-two_ranks_of_three_words : path 129 64 64 2 true true ≡ Indices
-two_ranks_of_three_words = refl
-
-three_ranks_of_three_words : path 129 64 64 3 true true ≡ RankIndices
-three_ranks_of_three_words = refl
-
-two_ranks_of_three_words_that_are_not_listed : path 129 64 64 2 true false ≡ BitBuffers
-two_ranks_of_three_words_that_are_not_listed = refl
-
--- self's count beside one in 64
-listed_below_one_row_in_64 : path 129 2 2 1 false true ≡ Indices
-listed_below_one_row_in_64 = refl
-
-listed_one_row_in_64 : path 128 2 2 1 false true ≡ BitBuffers
-listed_one_row_in_64 = refl
-
-kept_below_one_row_in_64 : path 129 2 2 1 true false ≡ Indices
-kept_below_one_row_in_64 = refl
-
--- the ranks' count beside one in 32
-listed_below_one_rank_in_32 : path 130 65 65 2 false true ≡ MaskDriven
-listed_below_one_rank_in_32 = refl
-
-listed_one_rank_in_32 : path 128 64 64 2 false true ≡ RankIndices
-listed_one_rank_in_32 = refl
-
-unlisted_below_one_rank_in_32 : path 130 65 65 2 false false ≡ MaskDriven
-unlisted_below_one_rank_in_32 = refl
-
-kept_below_one_rank_in_32 : path 130 65 65 2 true false ≡ MaskDriven
-kept_below_one_rank_in_32 = refl
-
-kept_one_rank_in_32 : path 128 64 64 2 true false ≡ BitBuffers
-kept_one_rank_in_32 = refl
-
--- the ranks' count beside one in four, with self's list kept too
-kept_a_fourth_of_the_ranks : path 128 64 64 16 true true ≡ RankIndices
-kept_a_fourth_of_the_ranks = refl
-
-kept_above_a_fourth_of_the_ranks : path 128 64 64 17 true true ≡ BitBuffers
-kept_above_a_fourth_of_the_ranks = refl
-
--- no product wraps
-a_product_past_64_bits : path (2 ^ 63) (2 ^ 62) (2 ^ 62) (2 ^ 61) false false ≡ BitBuffers
-a_product_past_64_bits = refl
+paths_on_both_sides_of_each_comparison : Gives (λ (m : ℕ × ℕ × ℕ × ℕ × Bool × Bool). path m.0 m.1 m.2 m.3 m.4 m.5) (
+    ((128, 64, 64, 1, true, true), Indices)  -- with the ranks kept: their count beside self's started words
+    ∷ ((128, 64, 64, 2, true, true), RankIndices)
+    ∷ ((129, 64, 64, 2, true, true), Indices)
+    ∷ ((129, 64, 64, 3, true, true), RankIndices)
+    ∷ ((129, 64, 64, 2, true, false), BitBuffers)
+    ∷ ((129, 2, 2, 1, false, true), Indices)  -- self's count beside one in 64
+    ∷ ((128, 2, 2, 1, false, true), BitBuffers)
+    ∷ ((129, 2, 2, 1, true, false), Indices)
+    ∷ ((130, 65, 65, 2, false, true), MaskDriven)  -- the ranks' count beside one in 32
+    ∷ ((128, 64, 64, 2, false, true), RankIndices)
+    ∷ ((130, 65, 65, 2, false, false), MaskDriven)
+    ∷ ((130, 65, 65, 2, true, false), MaskDriven)
+    ∷ ((128, 64, 64, 2, true, false), BitBuffers)
+    ∷ ((128, 64, 64, 16, true, true), RankIndices)  -- beside one in four, with self's list kept too
+    ∷ ((128, 64, 64, 17, true, true), BitBuffers)
+    ∷ ((2 ^ 63, 2 ^ 62, 2 ^ 62, 2 ^ 61, false, false), BitBuffers)  -- no product wraps
+    ∷ [])
+paths_on_both_sides_of_each_comparison = refl
 
 -- ---- cached lists of what a rank intersection makes, by its path
 
-cached_by_indices : path_caches Indices (true ∷ false ∷ true ∷ []) ≡ kept_indices (0 ∷ 2 ∷ [])
-cached_by_indices = refl
+cached_by_path : Gives (λ path. path_caches path (true ∷ false ∷ true ∷ [])) (
+    (Indices, kept_indices (0 ∷ 2 ∷ []))
+    ∷ (MaskDriven, kept_indices (0 ∷ 2 ∷ []))
+    ∷ (BitBuffers, no_caches)
+    ∷ (RankIndices, no_caches)
+    ∷ [])
+cached_by_path = refl
 
-cached_by_selections : path_caches MaskDriven (true ∷ false ∷ true ∷ []) ≡ kept_indices (0 ∷ 2 ∷ [])
-cached_by_selections = refl
+narrowed_by_one_value : (a : Mask) (n : ℕ) (m : Mask) → (narrowed_caches a (AllTrue n) m ≡ caches a) × (narrowed_caches a (AllFalse n) m ≡ no_caches)
+narrowed_by_one_value (AllTrue k) n m = (refl, refl)
+narrowed_by_one_value (AllFalse k) n m = (refl, refl)
+narrowed_by_one_value (Values v) n m = (refl, refl)
 
-not_cached_by_deposits : path_caches BitBuffers (true ∷ false ∷ true ∷ []) ≡ no_caches
-not_cached_by_deposits = refl
-
-not_cached_by_deposits_of_listed_ranks : path_caches RankIndices (true ∷ false ∷ true ∷ []) ≡ no_caches
-not_cached_by_deposits_of_listed_ranks = refl
-
-narrowed_from_all_true : (n : ℕ) (b m : Mask) → narrowed_caches (AllTrue n) b m ≡ caches b
-narrowed_from_all_true n b m = refl
-
-narrowed_by_all_true : (a : Mask) (n : ℕ) (m : Mask) → narrowed_caches a (AllTrue n) m ≡ caches a
-narrowed_by_all_true (AllTrue k) n m = refl
-narrowed_by_all_true (AllFalse k) n m = refl
-narrowed_by_all_true (Values v) n m = refl
-
-narrowed_by_all_false : (a : Mask) (n : ℕ) (m : Mask) → narrowed_caches a (AllFalse n) m ≡ no_caches
-narrowed_by_all_false (AllTrue k) n m = refl
-narrowed_by_all_false (AllFalse k) n m = refl
-narrowed_by_all_false (Values v) n m = refl
-
-narrowed_from_all_false : (n : ℕ) (b m : Mask) → narrowed_caches (AllFalse n) b m ≡ no_caches
-narrowed_from_all_false n b m = refl
+narrowed_from_one_value : (n : ℕ) (b m : Mask) → (narrowed_caches (AllTrue n) b m ≡ caches b) × (narrowed_caches (AllFalse n) b m ≡ no_caches)
+narrowed_from_one_value n b m = (refl, refl)
 
 -- two mixed ones by their path, where the result is mixed too
 two_mixed_narrowed : (a b m : Mask) (v w : Contents) → contents a ≡ Some v → contents b ≡ Some w → narrowed_caches a b m ≡ where_mixed m (path_caches (path_of v w) (truth m))
-two_mixed_narrowed (AllTrue k) b m v w held also = absurd (cc)
-two_mixed_narrowed (AllFalse k) b m v w held also = absurd (cc)
-two_mixed_narrowed (Values x) (AllTrue k) m v w held also = absurd (cc)
-two_mixed_narrowed (Values x) (AllFalse k) m v w held also = absurd (cc)
 two_mixed_narrowed (Values x) (Values y) m v w held also = cc
+two_mixed_narrowed a b m v w held also = absurd (cc)
 
 -- ---- steps
 
@@ -357,11 +246,8 @@ no_other_number_of_selections steps =
     let number : ◌≡◌ {A = ℕ} 2 1 = ap (λ (s : StepCounts). s.selections) steps.0 in
     omega arith
 
-one_deposit_of_five : AreStepsOf BitBuffers rows (false ∷ true ∷ false ∷ []) left (word_steps rows left)
-one_deposit_of_five = refl
-
-one_deposit_of_five_listed : AreStepsOf RankIndices rows (false ∷ true ∷ false ∷ []) left (word_steps rows left)
-one_deposit_of_five_listed = refl
+one_deposit_of_five : AreStepsOf BitBuffers rows (false ∷ true ∷ false ∷ []) left (word_steps rows left) × AreStepsOf RankIndices rows (false ∷ true ∷ false ∷ []) left (word_steps rows left)
+one_deposit_of_five = (refl, refl)
 
 -- ---- deposits and selections, also at the last bit
 
@@ -382,29 +268,14 @@ no_bit_is_deposited_elsewhere are =
     let held : bit_at 2 0 ≡ 1 = ((are.bits 0 (omega arith)).0 refl).0 in
     absurd (cc)
 
-third_of_three : selected 26 2 ≡ 4
+selections : Gives (λ (row : ℕ × ℕ). selected row.0 row.1) (((26, 2), 4) ∷ ((2 ^ 63, 0), 63) ∷ ((2 ^ 63 + 1, 1), 63) ∷ ((65280, 3), 11) ∷ [])
 unfolding word_bits
-third_of_three = refl
-
-the_last_bit_alone : selected (2 ^ 63) 0 ≡ 63
-unfolding word_bits
-the_last_bit_alone = refl
-
-the_last_of_two : selected (2 ^ 63 + 1) 1 ≡ 63
-unfolding word_bits
-the_last_of_two = refl
-
-fourth_of_a_byte : selected 65280 3 ≡ 11
-unfolding word_bits
-fourth_of_a_byte = refl
+selections = refl
 
 -- ---- shares
 
 three_of_five : share (true ∷ false ∷ true ∷ true ∷ false ∷ []) ≡ record { num = 3; den = 5 }
 three_of_five = refl
 
-all_of_none : share_by_variant (AllTrue 0) ≡ record { num = 1; den = 1 }
-all_of_none = refl
-
-none_of_none : share_by_variant (AllFalse 0) ≡ record { num = 0; den = 1 }
-none_of_none = refl
+of_no_values : (share_by_variant (AllTrue 0) ≡ record { num = 1; den = 1 }) × (share_by_variant (AllFalse 0) ≡ record { num = 0; den = 1 })
+of_no_values = (refl, refl)
