@@ -1,5 +1,5 @@
 -- Lists joined one after another.
-use Rattle.std.proofs.Common.{drop, map, get_or, ◌≡◌, ℕ, ◌+◌, ◌<◌, ◌≤◌, Bool, List, [], ◌∷◌, ◌++◌, length, true, false, suc, refl, sym, inl, inr, ap, ◌∙◌, arith}
+use Rattle.std.proofs.Common.{drop, map, get_or, ◌≡◌, ℕ, ◌+◌, ◌<◌, ◌≤◌, Bool, List, [], ◌∷◌, ◌++◌, length, true, suc, refl, sym, inl, inr, ap, ◌∙◌, arith}
 use Rattle.std.specs.Borrow.{Bor}
 use Rattle.std.specs.List.{All}
 use Rattle.std.proofs.lemmas.Bool.{cases_lt}
@@ -9,17 +9,13 @@ use Rattle.std.proofs.lemmas.List.Elements.{All-nil, All-cons, All-append}
 use Rattle.std.proofs.lemmas.List.Sums.{sum_by-cons}
 use Rattle.mask_bits.specs.Lists.{joined}
 use Rattle.mask_bits.specs.Positions.{repeated}
-use Rattle.mask_bits.proofs.Lists.CountLemmas.{repeated_from_All, length-repeated, count-repeated_false}
+use Rattle.mask_bits.proofs.Lists.CountLemmas.{repeated_from_All}
 use Rattle.vortex_mask.specs.Concat.{lists_of, total_len, AreAll}
-use Rattle.vortex_mask.specs.Mask.{truth, all_true, all_false, fitting_variant}
+use Rattle.vortex_mask.specs.Mask.{truth}
 use Rattle.vortex_mask.specs.declared.mask.Mask.{Mask}
-use Rattle.vortex_mask.proofs.MaskLemmas.{fitting_variant-none}
 
 pub length-joined : (ms : List (List Bool)) → length (joined ms) ≡ total_len ms
 length-joined ms = length-flat_map (λ m. m) ms
-
-pub total_len-cons : (m : List Bool) (ms : List (List Bool)) → total_len (m ∷ ms) ≡ length m + total_len ms
-total_len-cons m ms = sum_by-cons length m ms
 
 all_joined : (v : Bool) (masks : List (Bor Mask)) → AreAll v masks → All (λ b. b ≡ v) (joined (lists_of masks))
 all_joined v [] all = All-nil (λ b. b ≡ v)
@@ -27,30 +23,26 @@ all_joined v (mask ∷ masks) all =
     All-append (λ b. b ≡ v) (truth mask.now) (joined (lists_of masks)) (all 0 mask (omega arith)) (all_joined v masks (λ k d h. all (suc k) d (omega arith)))
 
 -- masks of one value join to a list of it
-pub joined-one_value : (v : Bool) (masks : List (Bor Mask)) → AreAll v masks → joined (lists_of masks) ≡ repeated (total_len (lists_of masks)) v
+pub joined-one_value : (v : Bool) (masks : List (Bor Mask)) → AreAll v masks → repeated (total_len (lists_of masks)) v ≡ joined (lists_of masks)
 joined-one_value v masks all =
-    let m : List Bool = joined (lists_of masks) in
-    repeated_from_All v m (all_joined v masks all) ∙ ap (λ n. repeated n v) (length-joined (lists_of masks))
+    sym (repeated_from_All v (joined (lists_of masks)) (all_joined v masks all) ∙ ap (λ n. repeated n v) (length-joined (lists_of masks)))
 
 -- masks without values are of any value
-pub all-no_values : (v : Bool) (masks : List (Bor Mask)) → total_len (lists_of masks) ≡ 0 → AreAll v masks
+all-no_values : (v : Bool) (masks : List (Bor Mask)) → total_len (lists_of masks) ≡ 0 → AreAll v masks
 all-no_values v [] none = All-nil (λ mask. All (λ b. b ≡ v) (truth mask.now))
 all-no_values v (mask ∷ masks) none =
-    let sum = total_len-cons (truth mask.now) (lists_of masks) in
+    let sum = sum_by-cons length (truth mask.now) (lists_of masks) in
     All-cons (λ x. All (λ b. b ≡ v) (truth x.now)) mask masks (λ k d h. absurd (omega arith)) (all-no_values v masks (omega arith))
 
--- where not each value is v there are values
-pub some_values : (v : Bool) (masks : List (Bor Mask)) → ¬ (AreAll v masks) → 0 < total_len (lists_of masks)
-some_values v masks not_all =
+-- where not each value is true there are values
+pub some_values : (masks : List (Bor Mask)) → ¬ (AreAll true masks) → 0 < total_len (lists_of masks)
+some_values masks not_all =
     elim (cases_lt 0 (total_len (lists_of masks))) [
       | inl some ↦ some
-      | inr none ↦ absurd (not_all (all-no_values v masks (omega arith)))
+      | inr none ↦ absurd (not_all (all-no_values true masks (omega arith)))
     ]
 
-pub fitting_variant-some_false : (masks : List (Bor Mask)) → ¬ (AreAll true masks) → fitting_variant all_true (repeated (total_len (lists_of masks)) false) ≡ all_false
-fitting_variant-some_false masks not_all =
-    let n : ℕ = total_len (lists_of masks) in
-    fitting_variant-none all_true (repeated n false) (omega (arith, length-repeated n false, some_values true masks not_all)) (count-repeated_false n)
+pub ruleset concat_facts = (length-joined, joined-one_value, some_values)
 
 -- where some masks are joined, the next one's values are within the sum of all lengths
 pub joined_so_far : (made : List Bool) (masks : List (Bor Mask)) (i : ℕ) (mask : Bor Mask) → mask ≡ get_or masks i mask → i < length masks

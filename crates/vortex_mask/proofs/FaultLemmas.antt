@@ -1,14 +1,15 @@
 -- The faults of a list of indices: how a loop finds them, and what holds where there is none.
 use Rattle.std.proofs.Common.{◌≡◌, ℕ, zero, suc, ◌+◌, ◌<◌, ◌≤◌, Bool, true, false, nat_eq, nat_lt, nat_le, List, [], ◌∷◌, ◌++◌, length, get_or, drop, Option, Some, None, cond, refl, sym, ap, subst, ◌∙◌, arith}
-use Rattle.std.specs.List.{All}
+use Rattle.std.specs.List.{All, list_any}
 use Rattle.std.specs.Option.{option_map, option_or}
 use Rattle.std.proofs.lemmas.List.Folds.{find-append}
 use Rattle.std.specs.List.Sorted.{IsStrictlyIncreasing}
 use Rattle.std.proofs.lemmas.Bool.Decides.{nat_tests}
 use Rattle.std.proofs.lemmas.List.{drop_more, length-drop}
 use Rattle.std.proofs.lemmas.List.Elements.{All-nil, All-cons, All-head, All-tail}
+use Rattle.std.proofs.lemmas.List.Kept.{IsStrictlyIncreasing-filter}
 use Rattle.vortex_mask.specs.Laws.{NoIndexFault}
-use Rattle.vortex_mask.specs.Faults.{or_else, first_pair_from, first_unsorted, first_repeated, first_past, index_fault, out_of_bounds}
+use Rattle.vortex_mask.specs.Faults.{common, or_else, first_pair_from, first_unsorted, first_repeated, first_past, index_fault, out_of_bounds}
 use Rattle.vortex_mask.specs.declared.mask.error.MaskError.TheVariants.{UnsortedIndices, RepeatedIndex, IndexOutOfBounds}
 
 -- ---- pairs of neighbors
@@ -161,3 +162,10 @@ first_past-more len x xs h =
 -- the fault that the first past the length is
 pub out_of_bounds-first : (len n : ℕ) (xs : List ℕ) (o : Option ℕ) → n ≡ len → o ≡ first_past n xs → out_of_bounds len xs ≡ option_map (λ x. IndexOutOfBounds x len) o
 out_of_bounds-first len n xs o same is = ap (option_map (λ x. IndexOutOfBounds x len)) (ap (λ k. first_past k xs) (sym same) ∙ sym is)
+
+-- ---- what two lists have in common
+
+pub ascending-common : (xs ys : List ℕ) → IsStrictlyIncreasing xs → IsStrictlyIncreasing (common xs ys)
+ascending-common xs ys = IsStrictlyIncreasing-filter (λ x. list_any (nat_eq x) ys) xs
+
+pub ruleset common_facts = (within_faultless, ascending-common)

@@ -1,14 +1,18 @@
 -- The variant that a list may have, by its count.
-use Rattle.std.proofs.Common.{◌≡◌, ℕ, zero, suc, ◌<◌, Bool, true, false, List, [], ◌∷◌, length, refl, sym, ap, ◌∙◌, arith, inl, inr, ◌⊎◌, Some}
+use Rattle.std.specs.Prelude.{◌↔◌}
+use Rattle.std.proofs.Common.{◌-◌, ◌≤◌, slice_range, All, ◌≡◌, ℕ, zero, suc, ◌<◌, Bool, true, false, List, [], ◌∷◌, length, refl, sym, ap, ◌∙◌, arith, inl, inr, Some}
 use Rattle.std.proofs.lemmas.List.{length-replicate}
-use Rattle.vortex_mask.specs.Mask.{truth, variant_and, Variant, all_true, all_false, mixed, fitting_variant, variant}
-use Rattle.mask_bits.specs.Positions.{count, rank_intersection, repeated, positions}
+use Rattle.vortex_mask.specs.Mask.{truth, variant_and, variant_or, Variant, all_true, all_false, mixed, fitting_variant, variant}
+use Rattle.mask_bits.specs.Positions.{count, repeated, positions}
 use Rattle.vortex_mask.specs.declared.mask.Mask.{Mask}
 use Rattle.vortex_mask.specs.declared.mask.Mask.TheVariants.{AllTrue, AllFalse, Values}
-use Rattle.mask_bits.proofs.Lists.LawLemmas.{rank_intersection-none}
+use Rattle.mask_bits.proofs.Lists.ChooseLemmas.{chosen-all_true, chosen-all_false}
+use Rattle.mask_bits.proofs.Lists.LawLemmas.{length-chosen, positions-rank_intersection, rank_intersection-none, length-rank_intersection}
+use Rattle.mask_bits.proofs.Lists.LimitLemmas.{limited-front, limited-all, limited-none, length-limited}
+use Rattle.mask_bits.proofs.Lists.PartLemmas.{part_of_repeated}
 use Rattle.mask_bits.proofs.Lists.PlaceLemmas.{count-le-length}
 use Rattle.mask_bits.proofs.Lists.RankLemmas.{rank_intersection-all_true, rank_intersection-by_all_true}
-use Rattle.mask_bits.proofs.Lists.CountLemmas.{count-repeated_true, count-repeated_false, all_true_from_count, all_false_from_count, list_all-count, list_all-count_less, list_any-count, list_any-count_zero, length-repeated}
+use Rattle.mask_bits.proofs.Lists.CountLemmas.{slice_get-repeated, all_true-count, positions-repeated_true_at, All-repeated, repeated_from_All, count-repeated_true, count-repeated_false, all_true_from_count, all_false_from_count, list_all-count, list_all-count_less, list_any-count, list_any-count_zero, length-repeated}
 use Rattle.vortex_mask.specs.Laws.{UniformIsOfOneValue}
 use Rattle.vortex_mask.specs.MaskValues.{AreOf, no_caches, kept_indices, kept_ranges}
 use Rattle.mask_bits.specs.RunScan.{runs}
@@ -48,25 +52,25 @@ fitting_variant-some_true empty n some =
     fitting_variant-all empty (repeated n true) (omega (arith, length-repeated n true)) (count-repeated_true n ∙ sym (length-repeated n true))
 
 -- a list with values has one variant
-pub fitting_variant-nonempty : (e f : Variant) (m : List Bool) → 0 < length m → fitting_variant e m ≡ fitting_variant f m
-fitting_variant-nonempty e f [] some = absurd (omega arith)
-fitting_variant-nonempty e f (v ∷ m) some = refl
+pub fitting_variant-nonempty : (e : Variant) (m : List Bool) → 0 < length m → fitting_variant e m ≡ fitting_variant all_false m
+fitting_variant-nonempty e [] some = absurd (omega arith)
+fitting_variant-nonempty e (v ∷ m) some = refl
+
+-- as many true values as values, or none
+pub repeated-all : (m : List Bool) → count m ≡ length m → repeated (length m) true ≡ m
+repeated-all m e = sym (all_true_from_count 0 m e)
+
+pub repeated-none : (m : List Bool) → count m ≡ 0 → repeated (length m) false ≡ m
+repeated-none m e = sym (all_false_from_count 0 m e)
+
+pub all_false-count : (m : List Bool) → (count m ≡ 0) ↔ All (λ v. v ≡ false) m
+all_false-count m = (λ e. All-repeated false m (all_false_from_count 0 m e), λ all. ap count (repeated_from_All false m all) ∙ count-repeated_false (length m))
+
+pub ruleset value_facts = (slice_get-repeated, all_true-count, all_false-count, positions-repeated_true_at)
+
+pub ruleset variant_facts = (length-repeated, count-repeated_true, count-repeated_false, count-le-length, repeated-all, repeated-none, fitting_variant-repeated_true, fitting_variant-repeated_false, fitting_variant-some_true, fitting_variant-some, fitting_variant-all, fitting_variant-none, fitting_variant-nonempty)
 
 -- ---- the arms of rank intersection that need no list of places
-
-pub truth-by_all_true_self : (a b : Mask) (n : ℕ) → a ≡ AllTrue n → length (truth b) ≡ count (truth a) → truth b ≡ rank_intersection (truth a) (truth b)
-unfolding repeated
-truth-by_all_true_self a b n is fits =
-    let list = ap truth is in
-    sym (ap (λ (xs : List Bool). rank_intersection xs (truth b)) list
-    ∙ rank_intersection-all_true n (truth b) (fits ∙ ap count list ∙ count-repeated_true n))
-
-pub truth-by_all_true_mask : (a b : Mask) (n : ℕ) → b ≡ AllTrue n → length (truth b) ≡ count (truth a) → truth a ≡ rank_intersection (truth a) (truth b)
-unfolding repeated
-truth-by_all_true_mask a b n is fits =
-    let list = ap truth is in
-    sym (ap (rank_intersection (truth a)) list
-    ∙ rank_intersection-by_all_true (truth a) n (sym (ap length list ∙ length-replicate n true) ∙ fits))
 
 -- a mask held as all false has no true value
 count-all_false : (m : Mask) → variant m ≡ all_false → count (truth m) ≡ 0
@@ -74,21 +78,27 @@ count-all_false (AllTrue n) is = absurd (cc)
 count-all_false (AllFalse n) is = count-repeated_false n
 count-all_false (Values v) is = absurd (cc)
 
--- an operand that is held so leaves nothing
-pub truth-by_all_false : (a b : Mask) → length (truth b) ≡ count (truth a) → (variant a ≡ all_false) ⊎ (variant b ≡ all_false) → repeated (length (truth a)) false ≡ rank_intersection (truth a) (truth b)
-truth-by_all_false a b fits held =
-    let none : count (truth b) ≡ 0 = elim held [
-      | inl is ↦ omega (arith, count-all_false a is, count-le-length (truth b))
-      | inr is ↦ count-all_false b is
-    ] in
-    sym (rank_intersection-none (truth a) (truth b) fits none)
+-- an empty list's variant, where one side decides
+pub variant_and-all_false : (v : Variant) → variant_and v all_false ≡ all_false
+variant_and-all_false all_true = refl
+variant_and-all_false all_false = refl
+variant_and-all_false mixed = refl
 
-pub variant_and-all_false : (v w : Variant) → (v ≡ all_false) ⊎ (w ≡ all_false) → variant_and v w ≡ all_false
-variant_and-all_false all_true w held = elim held [ inl is ↦ absurd (cc) | inr is ↦ is ]
-variant_and-all_false all_false w held = refl
-variant_and-all_false mixed all_true held = elim held [ inl is ↦ absurd (cc) | inr is ↦ absurd (cc) ]
-variant_and-all_false mixed all_false held = refl
-variant_and-all_false mixed mixed held = elim held [ inl is ↦ absurd (cc) | inr is ↦ absurd (cc) ]
+pub variant_or-all_true : (v : Variant) → variant_or v all_true ≡ all_true
+variant_or-all_true all_true = refl
+variant_or-all_true all_false = refl
+variant_or-all_true mixed = refl
+
+pub front_of_repeated : (n : ℕ) (v : Bool) (e : ℕ) → e ≤ n → slice_range (repeated n v) 0 e ≡ repeated e v
+front_of_repeated n v e h =
+    let all : e - 0 ≡ e = omega arith in
+    part_of_repeated n v 0 e (omega arith) h ∙ ap (λ k. repeated k v) all
+
+pub ruleset part_facts = (front_of_repeated, limited-front, part_of_repeated, limited-all, limited-none, length-limited)
+
+pub ruleset row_facts = (length-repeated, length-chosen, chosen-all_true, chosen-all_false)
+
+pub ruleset narrowing_facts = (variant_and-all_false, rank_intersection-all_true, rank_intersection-by_all_true, rank_intersection-none, length-rank_intersection, positions-rank_intersection)
 
 -- a uniform list is of one value
 pub uniform_is_of_one_value : UniformIsOfOneValue

@@ -4,9 +4,12 @@ use Rattle.std.specs.List.{All}
 use Rattle.std.proofs.lemmas.List.{length-map}
 use Rattle.std.specs.List.Sorted.{IsStrictlyIncreasing}
 use Rattle.mask_bits.specs.Positions.{positions, count, true_at, at_places, rank_intersection}
-use Rattle.mask_bits.proofs.Lists.AscendingLemmas.{positions-true_at, positions-ascending}
+use Rattle.mask_bits.proofs.Lists.AscendingLemmas.{positions-true_at, positions-ascending, positions-full}
+use Rattle.mask_bits.proofs.Lists.CountLemmas.{positions-all_false}
 use Rattle.mask_bits.proofs.Lists.LawLemmas.{positions-rank_intersection}
 use Rattle.mask_bits.proofs.Lists.RankLemmas.{length-true_at}
+
+pub ruleset index_facts = (positions-true_at, length-true_at, positions-all_false, positions-full)
 
 -- a mask narrowed at ascending places among its true ones has these of its true places
 pub positions-narrowed_at : (a : List Bool) (qs : List ℕ) → IsStrictlyIncreasing qs → All (λ k. k < count a) qs → positions (rank_intersection a (true_at (count a) qs)) ≡ at_places (positions a) qs

@@ -224,3 +224,5 @@ painting-all len rs made none is = (
   ap length is.list ∙ long_painted len rs none,
   subst (λ (m : List Bool). AreRanges m rs) (sym is.list) (held_are_ranges len rs none),
 )
+
+pub ruleset range_facts = (nonempty-no_fault, places_held-le, AreRanges-none, AreRanges-all)

@@ -1,8 +1,7 @@
 -- Masks that are read by values, places and counts.
-use Rattle.std.proofs.Common.{◌≡◌, ℕ, zero, suc, ◌+◌, ◌-◌, ◌<◌, ◌≤◌, Bool, true, false, List, [], ◌∷◌, length, map, take, drop, replicate, slice_range, refl, sym, ap, ap₂, ◌∙◌, arith}
+use Rattle.std.proofs.Common.{◌≡◌, ℕ, ◌+◌, ◌-◌, ◌<◌, ◌≤◌, Bool, true, false, List, [], ◌∷◌, length, map, take, drop, replicate, slice_range, refl, sym, ap, ap₂, ◌∙◌, arith}
 use Rattle.std.proofs.Common.{Option, Some, None, slice_get, nat_lt, inl, inr}
 use Rattle.std.specs.Bool.{then_some}
-use Rattle.std.specs.Iterator.{MakesProgress, item_count}
 use Rattle.std.specs.List.{All}
 use Rattle.std.specs.Option.{IfSome, SomeIff}
 use Rattle.std.proofs.lemmas.Bool.{cases_lt, lt-ltb}
@@ -12,15 +11,6 @@ use Rattle.mask_bits.specs.Positions.{positions, count, count_below, repeated}
 use Rattle.mask_bits.proofs.Lists.CountLemmas.{count-repeated_true, count-repeated_false, count-append, length-repeated, positions-repeated_true_at, positions-all_false, nil-repeated}
 use Rattle.mask_bits.proofs.Lists.PlaceLemmas.{count-le-length, positions-within, IfSome-slice_get}
 use Rattle.mask_bits.proofs.Lists.SelectLemmas.{count-part_further}
-
--- ---- an iterator that gives the first of what is left goes on
-
-pub MakesProgress-left : {S A : Type 0} (left : S → List A) (s t : S) (x : A) → left s ≡ x ∷ left t → MakesProgress {S = S} {A = A} (λ _. Unit {0}) (item_count left) s (Some x) t
-MakesProgress-left left s t x e = record {
-  on = λ _. (tt, tt, omega (arith, ap length e));
-  keeps = tt;
-  rests = λ _. tt;
-}
 
 -- ---- lists of one value
 
@@ -55,11 +45,6 @@ pub slice_get-all_false : (n k : ℕ) → slice_get (positions (repeated n false
 slice_get-all_false n k = ap (λ places. slice_get places k) (positions-all_false n)
 
 pub ruleset end_facts = (slice_get-all_false)
-
-pub repeated-next : (n : ℕ) (v : Bool) → 0 < n → repeated n v ≡ v ∷ repeated (n - 1) v
-unfolding repeated
-repeated-next zero v h = absurd (omega (arith, h))
-repeated-next (suc n) v h = let e : suc n - 1 ≡ n = omega arith in ap (λ k. v ∷ replicate k v) (sym e)
 
 -- each of the values before a place of an all-true list is true
 pub count_below-all_true : (n i : ℕ) → i ≤ n → count_below (repeated n true) i ≡ i

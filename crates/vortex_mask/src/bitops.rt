@@ -14,6 +14,7 @@ use std::alloc::Global;
 /// Boolean calls, value by value, of masks of one length.
 ///
 /// The result keeps an operand's lists of true indices where it is that operand.
+#[tactic(auto, using(crate::proofs::MaskLemmas::variant_facts, crate::proofs::BitopLemmas::bitop_facts))]
 impl Mask {
     /// The values that are true in both.
     pub fn bitand(&self, alloc: Global, other: &Mask) -> Result<Mask, MaskError>
@@ -30,17 +31,18 @@ impl Mask {
         ensures refused { IsOkUnless result (MaskError.Memory alloc_error) }
     {
         match (self, other) {
-            (Mask::AllTrue(_), _) => {
-                laws::one_variant(other);
-                other.clone()
-            }
             (_, Mask::AllTrue(_)) => {
                 laws::one_variant(self);
-                self.clone()
+                Ok(self.clone()?)
             }
-            (Mask::AllFalse(_), _) | (_, Mask::AllFalse(_)) => Ok(Mask::new_false(self.len())),
+            (_, Mask::AllFalse(_)) => Ok(Mask::new_false(self.len())),
+            (Mask::AllTrue(_), Mask::Values(_)) => {
+                laws::one_variant(other);
+                Ok(other.clone()?)
+            }
+            (Mask::AllFalse(_), Mask::Values(_)) => Ok(Mask::new_false(self.len())),
             (Mask::Values(a), Mask::Values(b)) => {
-                made::<And>(alloc, a.bit_buffer(), b.bit_buffer())
+                Ok(made::<And>(alloc, a.bit_buffer(), b.bit_buffer())?)
             }
         }
     }
@@ -60,17 +62,18 @@ impl Mask {
         ensures refused { IsOkUnless result (MaskError.Memory alloc_error) }
     {
         match (self, other) {
-            (Mask::AllFalse(_), _) => {
-                laws::one_variant(other);
-                other.clone()
-            }
             (_, Mask::AllFalse(_)) => {
                 laws::one_variant(self);
-                self.clone()
+                Ok(self.clone()?)
             }
-            (Mask::AllTrue(_), _) | (_, Mask::AllTrue(_)) => Ok(Mask::new_true(self.len())),
+            (_, Mask::AllTrue(_)) => Ok(Mask::new_true(self.len())),
+            (Mask::AllFalse(_), Mask::Values(_)) => {
+                laws::one_variant(other);
+                Ok(other.clone()?)
+            }
+            (Mask::AllTrue(_), Mask::Values(_)) => Ok(Mask::new_true(self.len())),
             (Mask::Values(a), Mask::Values(b)) => {
-                made::<Or>(alloc, a.bit_buffer(), b.bit_buffer())
+                Ok(made::<Or>(alloc, a.bit_buffer(), b.bit_buffer())?)
             }
         }
     }
@@ -111,18 +114,20 @@ impl Mask {
         match (self, other) {
             (_, Mask::AllFalse(_)) => {
                 laws::one_variant(self);
-                self.clone()
+                Ok(self.clone()?)
             }
-            (Mask::AllFalse(_), _) | (_, Mask::AllTrue(_)) => Ok(Mask::new_false(self.len())),
-            (Mask::AllTrue(_), Mask::Values(_)) => other.not(alloc),
+            (_, Mask::AllTrue(_)) => Ok(Mask::new_false(self.len())),
+            (Mask::AllFalse(_), Mask::Values(_)) => Ok(Mask::new_false(self.len())),
+            (Mask::AllTrue(_), Mask::Values(_)) => Ok(other.not(alloc)?),
             (Mask::Values(a), Mask::Values(b)) => {
-                made::<AndNot>(alloc, a.bit_buffer(), b.bit_buffer())
+                Ok(made::<AndNot>(alloc, a.bit_buffer(), b.bit_buffer())?)
             }
         }
     }
 }
 
 /// The same, of an operand that is taken by value. It is the result where the other side changes nothing.
+#[tactic(auto, using(crate::proofs::MaskLemmas::variant_facts, crate::proofs::BitopLemmas::bitop_facts))]
 impl Mask {
     /// The values that are true in both.
     pub fn into_bitand(self, alloc: Global, other: &Mask) -> Result<Mask, MaskError>

@@ -36,6 +36,7 @@ impl Mask {
 }
 
 // Whether a mask and a buffer of one length have the same list.
+#[tactic(auto, using(crate::proofs::MaskLemmas::variant_facts))]
 fn same_values(mask: &Mask, buffer: &BitBuffer) -> bool
     requires { length (truth mask.now) ≡ length (values buffer.now) }
     ensures { IsTrue result ↔ (truth mask.now ≡ values buffer.now) }
@@ -51,6 +52,7 @@ fn same_values(mask: &Mask, buffer: &BitBuffer) -> bool
 }
 
 // Whether two masks of one length have the same list.
+#[tactic(auto, using(crate::proofs::MaskLemmas::variant_facts))]
 fn same_lists(a: &Mask, b: &Mask) -> bool
     requires { length (truth a.now) ≡ length (truth b.now) }
     ensures { IsTrue result ↔ (truth a.now ≡ truth b.now) }

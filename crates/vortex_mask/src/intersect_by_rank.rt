@@ -58,6 +58,7 @@ impl Mask {
 
     /// The mask of `intersect_by_rank`, with the steps that its kernel takes. No step is counted
     /// where no kernel runs: where a side is all true or all false.
+    #[tactic(auto, using(crate::proofs::MaskLemmas::variant_facts, crate::proofs::MaskLemmas::narrowing_facts))]
     pub fn intersect_by_rank_counted(
         &self,
         alloc: Global,
@@ -82,21 +83,22 @@ impl Mask {
         ensures refused { IsOkUnless result (MaskError.Memory alloc_error) }
     {
         match (self, mask) {
-            (Mask::AllTrue(_), _) => {
-                laws::one_variant(mask);
-                Ok((mask.clone()?, Steps::new()))
-            }
             (_, Mask::AllTrue(_)) => {
                 laws::one_variant(self);
                 Ok((self.clone()?, Steps::new()))
             }
-            (Mask::AllFalse(_), _) | (_, Mask::AllFalse(_)) => {
+            (_, Mask::AllFalse(_)) => Ok((Mask::new_false(self.len()), Steps::new())),
+            (Mask::AllTrue(_), Mask::Values(_)) => {
+                laws::one_variant(mask);
+                Ok((mask.clone()?, Steps::new()))
+            }
+            (Mask::AllFalse(_), Mask::Values(_)) => {
                 Ok((Mask::new_false(self.len()), Steps::new()))
             }
             (Mask::Values(values), Mask::Values(ranks)) => {
                 // some values are true and some are not, as their count tells
                 let _ = values.true_count();
-                narrow_by_path(alloc, values, ranks)
+                Ok(narrow_by_path(alloc, values, ranks)?)
             }
         }
     }

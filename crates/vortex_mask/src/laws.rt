@@ -13,6 +13,7 @@ ghost use Rattle.vortex_mask.specs.MaskValues.{AreOf};
 use crate::mask::Mask;
 
 /// A mask is held in the one variant that its list may have.
+#[tactic(auto, using(crate::proofs::MaskLemmas::variant_facts))]
 pub fn one_variant(mask: &Mask)
     ensures { variant mask.now ≡ fitting_variant (variant mask.now) (truth mask.now) }
 {

@@ -129,7 +129,7 @@ impl Mask {
 }
 
 /// What a mask holds.
-#[tactic(auto, using(mask_bits::proofs::Lists::CountLemmas::repeated_facts))]
+#[tactic(auto, using(crate::proofs::MaskLemmas::value_facts, crate::proofs::MaskLemmas::variant_facts))]
 impl Mask {
     /// How many values there are.
     pub fn len(&self) -> usize

@@ -70,6 +70,7 @@ impl Mask {
     }
 
     // The masks' values one after another.
+    #[tactic(auto, using(crate::proofs::MaskLemmas::variant_facts, crate::proofs::ConcatLemmas::concat_facts))]
     fn concat_list(alloc: Global, masks: &[&Mask]) -> Result<Mask, MaskError>
         ensures list { IfOk result (Joins (lists_of masks.now)) }
         ensures variant { IfOk result (λ m. variant m ≡ fitting_variant all_true (truth m)) }
@@ -87,7 +88,7 @@ impl Mask {
             return Ok(Mask::AllFalse(len));
         }
         let (buffer, true_count) = buffer_of(alloc, len, masks)?;
-        Mask::from_counted_buffer(alloc, buffer, true_count, None)
+        Ok(Mask::from_counted_buffer(alloc, buffer, true_count, None)?)
     }
 }
 
@@ -133,6 +134,7 @@ fn buffer_of(alloc: Global, len: usize, masks: &[&Mask]) -> Result<(BitBuffer, u
     Ok((buffer.freeze()?, true_count))
 }
 
+#[tactic(auto, using(mask_bits::proofs::Lists::CountLemmas::repeated_facts))]
 fn append(buffer: &mut BitBufferMut, mask: &Mask) -> Result<(), AllocError>
     requires { length buffer.old + length (truth mask.now) < 2 ^ 64 }
     ensures { OnOk result (buffer.new ≡ buffer.old ++ truth mask.now) }

@@ -54,6 +54,7 @@ impl Mask {
     }
 
     // The same of a list.
+    #[tactic(auto, using(crate::proofs::FaultLemmas::no_index_fault))]
     fn of_list(alloc: Global, len: usize, indices: Vec<usize>) -> Result<Mask, MaskError>
         ensures len { IfOk result (λ m. length (truth m) ≡ len) }
         ensures indices { IfOk result (λ m. positions (truth m) ≡ indices.items) }
@@ -71,6 +72,7 @@ impl Mask {
     }
 
     // The mask of `len` values that is true exactly at these indices, which it keeps.
+    #[tactic(auto, using(crate::proofs::MaskLemmas::variant_facts, crate::proofs::PlaceListLemmas::index_facts))]
     pub(crate) fn of_indices(
         alloc: Global,
         len: usize,
@@ -86,6 +88,7 @@ impl Mask {
         ensures uniform { (vec_len indices ≡ 0) ⊎ (vec_len indices ≡ len) → IsOk result }
         ensures refused { IsOkUnless result (MaskError.Memory alloc_error) }
     {
+        mask_bits::laws::lists_of_one_value();
         let true_count = indices.len();
         if true_count == 0 {
             return Ok(Mask::AllFalse(len));
@@ -201,6 +204,7 @@ impl Mask {
     }
 
     // The mask of these values. No values give `AllTrue(0)`.
+    #[tactic(auto, using(crate::proofs::MaskLemmas::variant_facts))]
     fn of_kept(alloc: Global, kept: BitBufferMut) -> Result<Mask, MaskError>
         ensures list { IfOk result (λ m. truth m ≡ kept) }
         ensures variant { IfOk result (λ m. variant m ≡ fitting_variant all_true (truth m)) }
@@ -211,7 +215,7 @@ impl Mask {
             return Ok(Mask::AllTrue(0));
         }
         let kept = kept.freeze()?;
-        Mask::from_buffer(alloc, kept)
+        Ok(Mask::from_buffer(alloc, kept)?)
     }
 }
 
@@ -291,7 +295,7 @@ impl Mask {
     }
 
     // The same of two lists.
-    #[tactic(auto, using(crate::proofs::FaultLemmas::within_faultless))]
+    #[tactic(auto, using(crate::proofs::FaultLemmas::common_facts))]
     fn of_common(alloc: Global, len: usize, lhs: &[usize], rhs: &[usize]) -> Result<Mask, MaskError>
         requires lhs { IsStrictlyIncreasing lhs.now }
         requires rhs { IsStrictlyIncreasing rhs.now }

@@ -23,6 +23,7 @@ pub enum MaskBoolIter<'a> {
     Bits(BitIterator<'a>),
 }
 
+#[tactic(auto, using(crate::proofs::WalkLemmas::next_facts))]
 impl Iterator for MaskBoolIter<'_> {
     type Item = bool;
 
@@ -54,6 +55,7 @@ impl Iterator for MaskBoolIter<'_> {
     }
 }
 
+#[tactic(auto, using(mask_bits::proofs::Lists::CountLemmas::repeated_facts))]
 impl ExactSizeIterator for MaskBoolIter<'_> {
     fn len(&self) -> usize {
         match self {
@@ -90,6 +92,7 @@ pub enum MaskSetIndices<'a> {
     Bits(SetIndices<'a>),
 }
 
+#[tactic(auto, using(crate::proofs::WalkLemmas::next_facts))]
 impl Iterator for MaskSetIndices<'_> {
     type Item = usize;
 

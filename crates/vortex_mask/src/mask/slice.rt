@@ -15,6 +15,7 @@ use mask_bits::{BitBuffer, BitBufferMut};
 use std::alloc::{AllocError, Global};
 
 /// Parts, and the first true values.
+#[tactic(auto, using(crate::proofs::MaskLemmas::variant_facts, crate::proofs::MaskLemmas::part_facts))]
 impl Mask {
     /// The values from `start` to `end`. All of them are the same mask with the lists that it
     /// keeps, and any other part keeps none.
@@ -83,12 +84,12 @@ impl Mask {
     {
         if k >= self.true_count() {
             laws::one_variant(self);
-            return self.clone();
+            return Ok(self.clone()?);
         }
         if k == 0 {
             return Ok(Mask::AllFalse(self.len()));
         }
-        Mask::from_buffer(alloc, self.first_true(alloc, k)?)
+        Ok(Mask::from_buffer(alloc, self.first_true(alloc, k)?)?)
     }
 
     // The first `k` true values of more, packed.
@@ -97,7 +98,7 @@ impl Mask {
         ensures { IfOk result (λ b. values b ≡ limited (truth self.now) k) }
     {
         let front = self.first_values(alloc, self.rank(k))?;
-        with_false_behind(alloc, &front, self.len())
+        Ok(with_false_behind(alloc, &front, self.len())?)
     }
 
     // The values before place `end`, packed.
@@ -106,8 +107,8 @@ impl Mask {
         ensures { IfOk result (λ b. values b ≡ slice_range (truth self.now) 0 end) }
     {
         match self {
-            Mask::AllTrue(_) => BitBuffer::new_set(alloc, end),
-            Mask::AllFalse(_) => BitBuffer::new_unset(alloc, end),
+            Mask::AllTrue(_) => Ok(BitBuffer::new_set(alloc, end)?),
+            Mask::AllFalse(_) => Ok(BitBuffer::new_unset(alloc, end)?),
             Mask::Values(values) => values.bit_buffer().slice(0, end),
         }
     }
@@ -157,6 +158,7 @@ impl Mask {
 }
 
 /// Rows.
+#[tactic(auto, using(crate::proofs::MaskLemmas::row_facts))]
 impl Mask {
     /// The rows at the true indices, in their order.
     pub fn choose<T: Copy>(&self, alloc: Global, rows: &[T]) -> Result<Vec<T>, MaskError>
@@ -168,7 +170,7 @@ impl Mask {
         ensures none { variant self.now ≡ all_false → IsOk result }
         ensures refused { IsOkUnless result (MaskError.Memory alloc_error) }
     {
-        self.rows_chosen(alloc, rows)
+        Ok(self.rows_chosen(alloc, rows)?)
     }
 
     // The rows at the true indices. How many they are follows.

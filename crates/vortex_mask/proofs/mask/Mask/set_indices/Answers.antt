@@ -4,7 +4,7 @@ use Rattle.std.specs.List.Sorted.{IsStrictlyIncreasing}
 use Rattle.std.proofs.lemmas.List.FromFn.{length-range_with_len}
 use Rattle.mask_bits.specs.Positions.{positions}
 use Rattle.mask_bits.proofs.Lists.AscendingLemmas.{positions-ascending}
-use Rattle.mask_bits.proofs.Lists.CountLemmas.{positions-all_true, positions-all_false}
+use Rattle.mask_bits.proofs.Lists.CountLemmas.{positions-all_true}
 use Rattle.mask_bits.proofs.Lists.PlaceLemmas.{positions-within}
 use Rattle.vortex_mask.specs.Mask.{truth}
 use Rattle.vortex_mask.proofs.mask.Mask.set_indices.Goals as goal
@@ -26,7 +26,3 @@ returns-in-AllTrue-clause-within c =
 pub returns-in-AllTrue-clause-fits : goal.returns-in-AllTrue-clause-fits
 returns-in-AllTrue-clause-fits c =
     grind (arith, length-range_with_len 0 (c.in-AllTrue.len - 0), c.well_formed)
-
-pub returns-in-AllFalse-clause-indices : goal.returns-in-AllFalse-clause-indices
-returns-in-AllFalse-clause-indices c =
-    sym (ap (λ m. positions (truth m)) c.in-AllFalse.is ∙ positions-all_false c.in-AllFalse.field-0)

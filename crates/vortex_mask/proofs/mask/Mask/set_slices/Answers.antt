@@ -1,13 +1,8 @@
 use Rattle.std.proofs.Common.{Bool, List, [], ap, sym, subst}
-use Rattle.std.specs.Option.{option_to_list}
 use Rattle.mask_bits.specs.Runs.{AreRuns}
 use Rattle.mask_bits.proofs.Lists.IndexLemmas.{all_false_has_no_run}
 use Rattle.vortex_mask.specs.Mask.{truth}
 use Rattle.vortex_mask.proofs.mask.Mask.set_slices.Goals as goal
-
-pub returns-in-AllTrue-clause-runs : goal.returns-in-AllTrue-clause-runs
-returns-in-AllTrue-clause-runs c =
-    subst (λ (m : List Bool). AreRuns m (option_to_list c.whole_run.result)) (sym (ap truth c.in-AllTrue.is)) c.whole_run.ensures
 
 pub returns-in-AllFalse-clause-runs : goal.returns-in-AllFalse-clause-runs
 returns-in-AllFalse-clause-runs c =
