@@ -1,5 +1,5 @@
 -- The indices that two ascending lists have in common, found at their fronts.
-use Rattle.std.proofs.Common.{◌≡◌, ℕ, ◌+◌, ◌<◌, ◌≤◌, ◌||◌, false, nat_eq, List, [], ◌∷◌, length, get_or, drop, cond, refl, sym, ap, subst, ◌∙◌, ◌⊎◌, inl, inr, arith}
+use Rattle.std.proofs.Common.{append_assoc, append-nil, ◌≡◌, ℕ, ◌+◌, ◌<◌, ◌≤◌, ◌||◌, false, nat_eq, List, [], ◌∷◌, length, get_or, drop, cond, refl, sym, ap, subst, ◌∙◌, ◌⊎◌, inl, inr, arith}
 use Rattle.std.specs.List.{All, list_any}
 use Rattle.std.specs.List.Sorted.{IsStrictlyIncreasing}
 use Rattle.std.proofs.lemmas.Bool.{eq-eqb, ne_eqb}
@@ -73,3 +73,5 @@ common-over xs ys i j over = elim over [
   | inl h ↦ ap (λ (zs : List ℕ). common zs (drop j ys)) (drop_all i xs h)
   | inr h ↦ ap (common (drop i xs)) (drop_all j ys h) ∙ common-none (drop i xs)
 ]
+
+pub ruleset common_facts = (common-less, common-greater, common-equal, common-over, append_assoc, append-nil)

@@ -2,10 +2,9 @@
 use Rattle.std.proofs.Common.{◌≡◌, ℕ, zero, suc, ◌+◌, ◌<◌, ◌≤◌, Bool, true, false, nat_eq, nat_lt, nat_le, List, [], ◌∷◌, ◌++◌, length, get_or, drop, Option, Some, None, cond, refl, sym, ap, subst, ◌∙◌, arith}
 use Rattle.std.specs.List.{All, list_any}
 use Rattle.std.specs.Option.{option_map, option_or}
-use Rattle.std.proofs.lemmas.List.Folds.{find-append}
 use Rattle.std.specs.List.Sorted.{IsStrictlyIncreasing}
 use Rattle.std.proofs.lemmas.Bool.Decides.{nat_tests}
-use Rattle.std.proofs.lemmas.List.{drop_more, length-drop}
+use Rattle.std.proofs.lemmas.List.{length-drop}
 use Rattle.std.proofs.lemmas.List.Elements.{All-nil, All-cons, All-head, All-tail}
 use Rattle.std.proofs.lemmas.List.Kept.{IsStrictlyIncreasing-filter}
 use Rattle.vortex_mask.specs.Laws.{NoIndexFault}
@@ -17,26 +16,6 @@ use Rattle.vortex_mask.specs.declared.mask.error.MaskError.TheVariants.{Unsorted
 -- a pair that does not stand so is passed
 first_pair-step : (test : ℕ → ℕ → Bool) (n x y : ℕ) (xs : List ℕ) → test x y ≡ false → first_pair_from test n (x ∷ y ∷ xs) ≡ first_pair_from test (n + 1) (y ∷ xs)
 first_pair-step test n x y xs e = rw e refl
-
-first_pair-here : (test : ℕ → ℕ → Bool) (n x y : ℕ) (xs : List ℕ) → test x y ≡ true → first_pair_from test n (x ∷ y ∷ xs) ≡ Some (n + 1)
-first_pair-here test n x y xs e = rw e refl
-
--- the pair at k and k + 1 at the front of what is left
-drop_pair : (xs : List ℕ) (k : ℕ) (d e : ℕ) → k + 1 < length xs → drop k xs ≡ get_or xs k d ∷ get_or xs (k + 1) e ∷ drop (k + 1 + 1) xs
-drop_pair xs k d e h =
-    drop_more xs k d (omega arith) ∙ ap (λ (ys : List ℕ). get_or xs k d ∷ ys) (drop_more xs (k + 1) e h)
-
-pub first_pair-passed : (test : ℕ → ℕ → Bool) (xs : List ℕ) (k d e : ℕ) → k + 1 < length xs → test (get_or xs k d) (get_or xs (k + 1) e) ≡ false
-    → first_pair_from test k (drop k xs) ≡ first_pair_from test (k + 1) (drop (k + 1) xs)
-first_pair-passed test xs k d e h not_so =
-    ap (first_pair_from test k) (drop_pair xs k d e h)
-    ∙ first_pair-step test k (get_or xs k d) (get_or xs (k + 1) e) (drop (k + 1 + 1) xs) not_so
-    ∙ ap (first_pair_from test (k + 1)) (sym (drop_more xs (k + 1) e h))
-
-pub first_pair-found : (test : ℕ → ℕ → Bool) (xs : List ℕ) (k d e : ℕ) → k + 1 < length xs → test (get_or xs k d) (get_or xs (k + 1) e) ≡ true
-    → first_pair_from test k (drop k xs) ≡ Some (k + 1)
-first_pair-found test xs k d e h so =
-    ap (first_pair_from test k) (drop_pair xs k d e h) ∙ first_pair-here test k (get_or xs k d) (get_or xs (k + 1) e) (drop (k + 1 + 1) xs) so
 
 -- fewer than two indices are no pair
 first_pair-few : (test : ℕ → ℕ → Bool) (n : ℕ) (xs : List ℕ) → length xs ≤ 1 → first_pair_from test n xs ≡ None
@@ -57,33 +36,22 @@ if_none false n o e = (refl, e)
 pub ascending-faultless : (n : ℕ) (xs : List ℕ) → first_pair_from (λ x y. nat_lt y x) n xs ≡ None → first_pair_from (λ x y. nat_eq y x) n xs ≡ None → IsStrictlyIncreasing xs
 ascending-faultless n [] sorted unlike k h = absurd (omega arith)
 ascending-faultless n (x ∷ []) sorted unlike k h = absurd (omega arith)
-ascending-faultless n (x ∷ y ∷ xs) sorted unlike zero h =
+ascending-faultless n (x ∷ y ∷ xs) sorted unlike k h =
     let a = if_none (nat_lt y x) (n + 1) (first_pair_from (λ x y. nat_lt y x) (n + 1) (y ∷ xs)) sorted in
     let b = if_none (nat_eq y x) (n + 1) (first_pair_from (λ x y. nat_eq y x) (n + 1) (y ∷ xs)) unlike in
-    above x y a.0 b.0
+    ascends x y xs a.0 b.0 (ascending-faultless (n + 1) (y ∷ xs) a.1 b.1) k h
   where
-    above : (x y : ℕ) → nat_lt y x ≡ false → nat_eq y x ≡ false → x < y
-    above x y a b = grind (arith, nat_tests)
-ascending-faultless n (x ∷ y ∷ xs) sorted unlike (suc k) h =
-    let a = if_none (nat_lt y x) (n + 1) (first_pair_from (λ x y. nat_lt y x) (n + 1) (y ∷ xs)) sorted in
-    let b = if_none (nat_eq y x) (n + 1) (first_pair_from (λ x y. nat_eq y x) (n + 1) (y ∷ xs)) unlike in
-    let next : suc (k + 1) ≡ suc k + 1 = omega arith in
-    subst (λ (j : ℕ). get_or (y ∷ xs) k 0 < get_or (x ∷ y ∷ xs) j 0) next (ascending-faultless (n + 1) (y ∷ xs) a.1 b.1 k (omega arith))
-
-within-step : (len x : ℕ) (xs : List ℕ) (b : Bool) → nat_le len x ≡ b → (first_past len xs ≡ None → All (λ i. i < len) xs) → first_past len (x ∷ xs) ≡ None → All (λ i. i < len) (x ∷ xs)
-within-step len x xs true e rest none = absurd (let found : first_past len (x ∷ xs) ≡ Some x = rw e refl in cc)
-within-step len x xs false e rest none =
-    let same : first_past len (x ∷ xs) ≡ first_past len xs = rw e refl in
-    All-cons (λ i. i < len) x xs (below len x e) (rest (sym same ∙ none))
-  where
-    below : (n x : ℕ) → nat_le n x ≡ false → x < n
-    below n x e = grind (arith, nat_tests)
+    ascends : (x y : ℕ) (xs : List ℕ) → nat_lt y x ≡ false → nat_eq y x ≡ false → IsStrictlyIncreasing (y ∷ xs) → IsStrictlyIncreasing (x ∷ y ∷ xs)
+    ascends x y xs a b rest zero h = grind (arith, nat_tests)
+    ascends x y xs a b rest (suc k) h = grind (arith, nat_tests, rest k)
 
 within-first_past : (len : ℕ) (xs : List ℕ) → first_past len xs ≡ None → All (λ i. i < len) xs
 within-first_past len [] none = All-nil (λ i. i < len)
-within-first_past len (x ∷ xs) none = within-step len x xs (nat_le len x) refl (within-first_past len xs) none
+within-first_past len (x ∷ xs) none =
+    let e = if_none (nat_le len x) x (first_past len xs) none in
+    All-cons (λ i. i < len) x xs (grind (arith, nat_tests)) (within-first_past len xs e.1)
 
-none_mapped : {X Y : Type 0} (f : X → Y) (o : Option X) → option_map f o ≡ None → o ≡ None
+pub none_mapped : {X Y : Type 0} (f : X → Y) (o : Option X) → option_map f o ≡ None → o ≡ None
 none_mapped f None e = refl
 none_mapped f (Some x) e = absurd (cc)
 
@@ -91,7 +59,7 @@ none_mapped f (Some x) e = absurd (cc)
 pub within_faultless : (len : ℕ) (xs : List ℕ) → out_of_bounds len xs ≡ None → All (λ i. i < len) xs
 within_faultless len xs none = within-first_past len xs (none_mapped (λ x. IndexOutOfBounds x len) (first_past len xs) none)
 
-or_else-none : {X : Type 0} (a b : Option X) → or_else a b ≡ None → (a ≡ None) × (b ≡ None)
+pub or_else-none : {X : Type 0} (a b : Option X) → or_else a b ≡ None → (a ≡ None) × (b ≡ None)
 or_else-none (Some x) b e = absurd (cc)
 or_else-none None b e = (refl, e)
 
@@ -116,27 +84,14 @@ first_pair-ascending test n (x ∷ y ∷ xs) not_so ascending =
     let next : suc k + 1 ≡ suc (k + 1) = omega arith in
     subst (λ (j : ℕ). get_or (y ∷ xs) k 0 < get_or (x ∷ y ∷ xs) j 0) next (ascending (suc k) (omega arith)))
 
-not_past : (n x : ℕ) → x < n → nat_le n x ≡ false
-not_past n x h = grind (arith, nat_tests)
-
 first_past-none : (len : ℕ) (xs : List ℕ) → All (λ i. i < len) xs → first_past len xs ≡ None
 first_past-none len [] all = refl
 first_past-none len (x ∷ xs) all =
-    ap (λ b. cond b (Some x) (first_past len xs)) (not_past len x (All-head (λ i. i < len) x xs all))
-    ∙ first_past-none len xs (All-tail (λ i. i < len) x xs all)
+    grind (arith, nat_tests, All-head (λ i. i < len) x xs all, first_past-none len xs (All-tail (λ i. i < len) x xs all))
 
 faultless : (len : ℕ) (xs : List ℕ) → IsStrictlyIncreasing xs → All (λ i. i < len) xs → index_fault len xs ≡ None
 faultless len xs ascending within =
-    ap (λ (o : Option ℕ). or_else (option_map (λ at. UnsortedIndices at) o) (or_else (option_map (λ at. RepeatedIndex at) (first_repeated xs)) (out_of_bounds len xs)))
-    (first_pair-ascending (λ x y. nat_lt y x) 0 xs above ascending)
-    ∙ ap (λ (o : Option ℕ). or_else (option_map (λ at. RepeatedIndex at) o) (out_of_bounds len xs)) (first_pair-ascending (λ x y. nat_eq y x) 0 xs unlike ascending)
-    ∙ ap (option_map (λ x. IndexOutOfBounds x len)) (first_past-none len xs within)
-  where
-    above : (x y : ℕ) → x < y → nat_lt y x ≡ false
-    above x y h = grind (arith, nat_tests)
-
-    unlike : (x y : ℕ) → x < y → nat_eq y x ≡ false
-    unlike x y h = grind (arith, nat_tests)
+    rw (first_pair-ascending (λ x y. nat_lt y x) 0 xs (λ x y h. grind (arith, nat_tests)) ascending, first_pair-ascending (λ x y. nat_eq y x) 0 xs (λ x y h. grind (arith, nat_tests)) ascending, first_past-none len xs within) refl
 
 pub no_index_fault : NoIndexFault
 no_index_fault len xs = (index_fault-none len xs, λ h. faultless len xs h.0 h.1)
@@ -145,19 +100,12 @@ no_index_fault len xs = (index_fault-none len xs, λ h. faultless len xs h.0 h.1
 
 -- the first past the length, where one more came
 pub first_past-within : (len x : ℕ) (xs : List ℕ) → x < len → first_past len xs ≡ first_past len (xs ++ x ∷ [])
-first_past-within len x xs h =
-    sym (find-append (λ y. nat_le len y) xs (x ∷ []) ∙ ap (λ b. option_or (first_past len xs) (cond b (Some x) None)) (not_past len x h) ∙ or_none (first_past len xs))
-  where
-    or_none : (o : Option ℕ) → option_or o None ≡ o
-    or_none None = refl
-    or_none (Some y) = refl
+first_past-within len x [] h = grind (arith, nat_tests)
+first_past-within len x (y ∷ xs) h = grind (arith, nat_tests, first_past-within len x xs)
 
 pub first_past-more : (len x : ℕ) (xs : List ℕ) → len ≤ x → option_or (first_past len xs) (Some x) ≡ first_past len (xs ++ x ∷ [])
-first_past-more len x xs h =
-    sym (find-append (λ y. nat_le len y) xs (x ∷ []) ∙ ap (λ b. option_or (first_past len xs) (cond b (Some x) None)) (past len x h))
-  where
-    past : (n x : ℕ) → n ≤ x → nat_le n x ≡ true
-    past n x h = grind (arith, nat_tests)
+first_past-more len x [] h = grind (arith, nat_tests)
+first_past-more len x (y ∷ xs) h = grind (arith, nat_tests, first_past-more len x xs)
 
 -- the fault that the first past the length is
 pub out_of_bounds-first : (len n : ℕ) (xs : List ℕ) (o : Option ℕ) → n ≡ len → o ≡ first_past n xs → out_of_bounds len xs ≡ option_map (λ x. IndexOutOfBounds x len) o

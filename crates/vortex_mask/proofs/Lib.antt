@@ -23,9 +23,7 @@ pub mod RankRunLemmas
 pub mod RankWordLemmas
 pub mod ReadingLemmas
 pub mod ResultLemmas
-pub mod RunLemmas
 pub mod SetPlaceLemmas
 pub mod StackLemmas
-pub mod VariantLemmas
-mod WalkLemmas
+pub mod WalkLemmas
 pub mod WordKernelLemmas

@@ -2,9 +2,8 @@
 use Rattle.std.specs.Prelude.{◌↔◌}
 use Rattle.std.proofs.Common.{◌-◌, ◌≤◌, slice_range, All, ◌≡◌, ℕ, zero, suc, ◌<◌, Bool, true, false, List, [], ◌∷◌, length, refl, sym, ap, ◌∙◌, arith, inl, inr, Some}
 use Rattle.std.proofs.lemmas.List.{length-replicate}
-use Rattle.vortex_mask.specs.Mask.{truth, variant_and, variant_or, Variant, all_true, all_false, mixed, fitting_variant, variant}
+use Rattle.vortex_mask.specs.Mask.{variant_and, variant_or, Variant, all_true, all_false, mixed, fitting_variant}
 use Rattle.mask_bits.specs.Positions.{count, repeated, positions}
-use Rattle.vortex_mask.specs.declared.mask.Mask.{Mask}
 use Rattle.vortex_mask.specs.declared.mask.Mask.TheVariants.{AllTrue, AllFalse, Values}
 use Rattle.mask_bits.proofs.Lists.ChooseLemmas.{chosen-all_true, chosen-all_false}
 use Rattle.mask_bits.proofs.Lists.LawLemmas.{length-chosen, positions-rank_intersection, rank_intersection-none, length-rank_intersection}
@@ -13,9 +12,8 @@ use Rattle.mask_bits.proofs.Lists.PartLemmas.{part_of_repeated}
 use Rattle.mask_bits.proofs.Lists.PlaceLemmas.{count-le-length}
 use Rattle.mask_bits.proofs.Lists.RankLemmas.{rank_intersection-all_true, rank_intersection-by_all_true}
 use Rattle.mask_bits.proofs.Lists.CountLemmas.{slice_get-repeated, all_true-count, positions-repeated_true_at, All-repeated, repeated_from_All, count-repeated_true, count-repeated_false, all_true_from_count, all_false_from_count, list_all-count, list_all-count_less, list_any-count, list_any-count_zero, length-repeated}
-use Rattle.vortex_mask.specs.Laws.{UniformIsOfOneValue}
-use Rattle.vortex_mask.specs.MaskValues.{AreOf, no_caches, kept_indices, kept_ranges}
-use Rattle.mask_bits.specs.RunScan.{runs}
+use Rattle.vortex_mask.specs.Laws.{UniformIsOfOneValue, AllTrueHasTrueValues, AllFalseHasFalseValues}
+use Rattle.vortex_mask.specs.MaskValues.{AreOf, no_caches, kept_indices}
 
 pub fitting_variant-all : (empty : Variant) (m : List Bool) → 0 < length m → count m ≡ length m → fitting_variant empty m ≡ all_true
 fitting_variant-all empty [] some e = absurd (omega arith)
@@ -72,12 +70,6 @@ pub ruleset variant_facts = (length-repeated, count-repeated_true, count-repeate
 
 -- ---- the arms of rank intersection that need no list of places
 
--- a mask held as all false has no true value
-count-all_false : (m : Mask) → variant m ≡ all_false → count (truth m) ≡ 0
-count-all_false (AllTrue n) is = absurd (cc)
-count-all_false (AllFalse n) is = count-repeated_false n
-count-all_false (Values v) is = absurd (cc)
-
 -- an empty list's variant, where one side decides
 pub variant_and-all_false : (v : Variant) → variant_and v all_false ≡ all_false
 variant_and-all_false all_true = refl
@@ -99,6 +91,20 @@ pub ruleset part_facts = (front_of_repeated, limited-front, part_of_repeated, li
 pub ruleset row_facts = (length-repeated, length-chosen, chosen-all_true, chosen-all_false)
 
 pub ruleset narrowing_facts = (variant_and-all_false, rank_intersection-all_true, rank_intersection-by_all_true, rank_intersection-none, length-rank_intersection, positions-rank_intersection)
+
+-- a list of one value, by its own length
+by_length : (n : ℕ) (v : Bool) → repeated n v ≡ repeated (length (repeated n v)) v
+by_length n v = sym (ap (λ (k : ℕ). repeated k v) (length-repeated n v))
+
+pub all_true_has_true_values : AllTrueHasTrueValues
+all_true_has_true_values (AllTrue n) held = by_length n true
+all_true_has_true_values (AllFalse n) held = cc
+all_true_has_true_values (Values v) held = cc
+
+pub all_false_has_false_values : AllFalseHasFalseValues
+all_false_has_false_values (AllTrue n) held = cc
+all_false_has_false_values (AllFalse n) held = by_length n false
+all_false_has_false_values (Values v) held = cc
 
 -- a uniform list is of one value
 pub uniform_is_of_one_value : UniformIsOfOneValue
@@ -124,6 +130,3 @@ AreOf-no_caches m = record { indices = λ places is. absurd (cc); ranges = λ ra
 
 pub AreOf-kept_indices : (m : List Bool) (places : List ℕ) → places ≡ positions m → AreOf m (kept_indices places)
 AreOf-kept_indices m places same = record { indices = λ kept is. sym (some_one places kept is) ∙ same; ranges = λ ranges is. absurd (cc) }
-
-pub AreOf-kept_ranges : (m : List Bool) (ranges : List (ℕ × ℕ)) → ranges ≡ runs m → AreOf m (kept_ranges ranges)
-AreOf-kept_ranges m ranges same = record { indices = λ places is. absurd (cc); ranges = λ kept is. sym (some_one ranges kept is) ∙ same }

@@ -1,7 +1,6 @@
 -- Ranges in which there is no fault, and the values that are true exactly in them.
-use Rattle.std.proofs.Common.{◌≡◌, ℕ, ◌+◌, ◌-◌, ◌<◌, ◌≤◌, ◌||◌, ◌&&◌, not, Bool, true, false, nat_lt, nat_le, List, [], ◌∷◌, ◌++◌, length, get_or, drop, zero, suc, Option, Some, None, append_assoc, refl, sym, ap, ◌∙◌, arith, subst, inl, inr}
+use Rattle.std.proofs.Common.{◌≡◌, ℕ, ◌+◌, ◌-◌, ◌<◌, ◌≤◌, ◌||◌, ◌&&◌, not, Bool, true, false, nat_lt, nat_le, List, [], ◌∷◌, ◌++◌, length, get_or, drop, zero, suc, None, append_assoc, refl, sym, ap, ◌∙◌, arith, subst, inl, inr}
 use Rattle.std.specs.List.{All, AllAdjacentBelow, list_any, prefix_len, position}
-use Rattle.std.specs.Option.{option_map}
 use Rattle.std.proofs.lemmas.Bool.{cases_lt, or_left}
 use Rattle.std.proofs.lemmas.Bool.Decides.{nat_tests}
 use Rattle.std.proofs.lemmas.List.{at_drop_more, at_drop_all, length-append, get_or_append_left, get_or-append_right, get_or-replicate}
@@ -13,25 +12,12 @@ use Rattle.mask_bits.proofs.Lists.CountLemmas.{length-repeated, all_true_from_co
 use Rattle.mask_bits.proofs.Lists.PlaceLemmas.{count-le-length}
 use Rattle.mask_bits.proofs.Lists.RangeLemmas.{Ordered, Ordered-top, none_below, ranges_add_up_to_the_count}
 use Rattle.mask_bits.proofs.Lists.RunLemmas.{inside, inside-past}
-use Rattle.vortex_mask.specs.Faults.{or_else, bad_range, neighbor_fault, neighbors_fault_from, range_fault}
+use Rattle.vortex_mask.specs.Faults.{bad_range, neighbor_fault, neighbors_fault_from, range_fault}
 use Rattle.vortex_mask.specs.Ranges.{places_held}
+use Rattle.vortex_mask.proofs.FaultLemmas.{or_else-none, none_mapped}
 use Rattle.vortex_mask.specs.declared.mask.error.MaskError.TheVariants.{BadRange}
 
 -- ---- neighbors, one pair at a time
-
--- the faults from a range on are those of it and the next, and else those from the next on
-pub neighbors-more : (rs : List (ℕ × ℕ)) (at : ℕ) (d : ℕ × ℕ) → 0 < at → at < length rs
-    → neighbors_fault_from (at - 1) (drop (at - 1) rs) ≡ or_else (neighbor_fault (get_or rs (at - 1) d) (get_or rs at d) at) (neighbors_fault_from at (drop at rs))
-neighbors-more rs at d some h =
-    let n : ℕ = at - 1 in
-    let next : n + 1 ≡ at = omega arith in
-    let r : ℕ × ℕ = get_or rs n d in
-    let s : ℕ × ℕ = get_or rs (n + 1) d in
-    let first = at_drop_more (neighbors_fault_from n) rs n d (omega arith) in
-    let second = at_drop_more (λ ys. neighbors_fault_from n (r ∷ ys)) rs (n + 1) d (omega arith) in
-    let third = at_drop_more (λ ys. or_else (neighbor_fault r s (n + 1)) (neighbors_fault_from (n + 1) ys)) rs (n + 1) d (omega arith) in
-    subst (λ (k : ℕ). neighbors_fault_from n (drop n rs) ≡ or_else (neighbor_fault r (get_or rs k d) k) (neighbors_fault_from k (drop k rs))) next
-    (first ∙ second ∙ sym third)
 
 -- the last range has no next one
 pub neighbors-end : (rs : List (ℕ × ℕ)) (n : ℕ) → length rs ≤ n + 1 → neighbors_fault_from n (drop n rs) ≡ None
@@ -44,14 +30,6 @@ neighbors-end rs n h =
     ]
 
 -- ---- no fault
-
-or_else-None : {X : Type 0} (a b : Option X) → or_else a b ≡ None → (a ≡ None) × (b ≡ None)
-or_else-None (Some x) b none = absurd (cc)
-or_else-None None b none = (refl, none)
-
-option_map-None : {X Y : Type 0} (f : X → Y) (o : Option X) → option_map f o ≡ None → o ≡ None
-option_map-None f (Some x) none = absurd (cc)
-option_map-None f None none = refl
 
 -- a range is not empty and within the length
 abbrev IsGood : ℕ → ℕ × ℕ → Type 0
@@ -66,7 +44,7 @@ position-None p xs none = grind (arith, nat_tests)
 all_good : (len : ℕ) (rs : List (ℕ × ℕ)) → bad_range len rs ≡ None → All (IsGood len) rs
 all_good len rs none =
     let bad : ℕ × ℕ → Bool = λ r. not (nat_lt r.0 r.1 && nat_le r.1 len) in
-    let whole = position-None bad rs (option_map-None (λ at. BadRange at) (position bad rs) none) in
+    let whole = position-None bad rs (none_mapped (λ at. BadRange at) (position bad rs) none) in
     λ k d h. good len (get_or rs k d) (prefix_len_passes (λ r. not (bad r)) rs k d (omega arith))
 
 apart : (r s : ℕ × ℕ) (at : ℕ) → neighbor_fault r s at ≡ None → r.1 ≤ s.0
@@ -75,14 +53,14 @@ apart r s at none = grind (arith, nat_tests)
 ordered_from : (n len low : ℕ) (r : ℕ × ℕ) (rs : List (ℕ × ℕ)) → low ≤ r.0 → All (IsGood len) (r ∷ rs) → neighbors_fault_from n (r ∷ rs) ≡ None → Ordered low len (r ∷ rs)
 ordered_from n len low r [] from all none = (from, (all 0 r (omega arith)).0, (all 0 r (omega arith)).1)
 ordered_from n len low r (s ∷ rs) from all none =
-    let parts = or_else-None (neighbor_fault r s (n + 1)) (neighbors_fault_from (n + 1) (s ∷ rs)) none in
+    let parts = or_else-none (neighbor_fault r s (n + 1)) (neighbors_fault_from (n + 1) (s ∷ rs)) none in
     (from, (all 0 r (omega arith)).0, ordered_from (n + 1) len r.1 s rs (apart r s (n + 1) parts.0) (λ k d h. all (suc k) d (omega arith)) parts.1)
 
 -- ranges with no fault are nonempty, within the length, and each after the one before it
 pub Ordered-no_fault : (len : ℕ) (rs : List (ℕ × ℕ)) → range_fault len rs ≡ None → Ordered 0 len rs
 Ordered-no_fault len [] none = omega arith
 Ordered-no_fault len (r ∷ rs) none =
-    let parts = or_else-None (bad_range len (r ∷ rs)) (neighbors_fault_from 0 (r ∷ rs)) none in
+    let parts = or_else-none (bad_range len (r ∷ rs)) (neighbors_fault_from 0 (r ∷ rs)) none in
     ordered_from 0 len 0 r rs (omega arith) (all_good len (r ∷ rs) parts.0) parts.1
 
 -- ---- the values from low to high that are true exactly in ordered ranges
@@ -134,13 +112,9 @@ painted-at low high (r ∷ rs) o j h =
           ∙ sym (ap (λ b. b || list_any (is_inside (low + j)) rs) (inside-past (low + j) r past))
     ]
 
-nonempty_from : (low high : ℕ) (rs : List (ℕ × ℕ)) → Ordered low high rs → All (λ r. r.0 < r.1) rs
-nonempty_from low high [] o = All-nil (λ r. r.0 < r.1)
-nonempty_from low high (r ∷ rs) o = All-cons (λ s. s.0 < s.1) r rs o.1 (nonempty_from r.1 high rs o.2)
-
-within_from : (low high : ℕ) (rs : List (ℕ × ℕ)) → Ordered low high rs → All (λ r. r.1 ≤ high) rs
-within_from low high [] o = All-nil (λ r. r.1 ≤ high)
-within_from low high (r ∷ rs) o = All-cons (λ s. s.1 ≤ high) r rs (Ordered-top r.1 high rs o.2) (within_from r.1 high rs o.2)
+good_from : (low high : ℕ) (rs : List (ℕ × ℕ)) → Ordered low high rs → All (IsGood high) rs
+good_from low high [] o = All-nil (IsGood high)
+good_from low high (r ∷ rs) o = All-cons (IsGood high) r rs (o.1, Ordered-top r.1 high rs o.2) (good_from r.1 high rs o.2)
 
 adjacent_from : (low high : ℕ) (rs : List (ℕ × ℕ)) → Ordered low high rs → AllAdjacentBelow (λ r s. r.1 ≤ s.0) rs (length rs)
 adjacent_from low high [] o k d h = absurd (omega arith)
@@ -154,8 +128,8 @@ AreRanges-painted : (len : ℕ) (rs : List (ℕ × ℕ)) → Ordered 0 len rs �
 AreRanges-painted len rs o =
     let long : length (painted 0 len rs) ≡ len = omega (arith, length-painted 0 len rs o) in
     record {
-      nonempty = nonempty_from 0 len rs o;
-      within = subst (λ (n : ℕ). All (λ r. r.1 ≤ n) rs) (sym long) (within_from 0 len rs o);
+      nonempty = λ k d h. (good_from 0 len rs o k d h).0;
+      within = subst (λ (n : ℕ). All (λ r. r.1 ≤ n) rs) (sym long) (λ k d h. (good_from 0 len rs o k d h).1);
       ordered = adjacent_from 0 len rs o;
       exact = λ i h.
           let at_zero : 0 + i ≡ i = omega arith in
@@ -177,7 +151,7 @@ pub places_held-le : (len : ℕ) (rs : List (ℕ × ℕ)) → range_fault len rs
 places_held-le len rs none = omega (arith, places_held-painted len rs none, count-le-length (painted 0 len rs), long_painted len rs none)
 
 pub nonempty-no_fault : (len : ℕ) (rs : List (ℕ × ℕ)) → range_fault len rs ≡ None → All (λ r. r.0 < r.1) rs
-nonempty-no_fault len rs none = nonempty_from 0 len rs (Ordered-no_fault len rs none)
+nonempty-no_fault len rs none = λ k d h. (good_from 0 len rs (Ordered-no_fault len rs none) k d h).0
 
 -- ranges that hold no place, or all
 pub AreRanges-none : (len : ℕ) (rs : List (ℕ × ℕ)) → range_fault len rs ≡ None → places_held rs ≡ 0 → AreRanges (repeated len false) rs

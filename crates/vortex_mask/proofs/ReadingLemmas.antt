@@ -5,7 +5,7 @@ use Rattle.std.specs.Bool.{then_some}
 use Rattle.std.specs.List.{All}
 use Rattle.std.specs.Option.{IfSome, SomeIff}
 use Rattle.std.proofs.lemmas.Bool.{cases_lt, lt-ltb}
-use Rattle.std.proofs.lemmas.List.{take-replicate, take-append-drop, length-take}
+use Rattle.std.proofs.lemmas.List.{map_more, take-replicate, take-append-drop, length-take}
 use Rattle.std.proofs.lemmas.List.Elements.{All-head, All-tail}
 use Rattle.mask_bits.specs.Positions.{positions, count, count_below, repeated}
 use Rattle.mask_bits.proofs.Lists.CountLemmas.{count-repeated_true, count-repeated_false, count-append, length-repeated, positions-repeated_true_at, positions-all_false, nil-repeated}
@@ -71,12 +71,13 @@ pub ruleset one_value_facts = (length-repeated, count-repeated_true, count-repea
 -- ---- counts that run on
 
 -- a count up to a place, and the true values from there to the next one, are the count up to that
-pub count-runs_on : (m : List Bool) (i j n k : ℕ) → i ≤ j → n ≡ count_below m i → k ≡ count (slice_range m i j) → n + k ≡ count_below m j
-count-runs_on m i j n k ordered before between =
+pub count-runs_on : (m : List Bool) (i j : ℕ) → i ≤ j → count_below m i + count (slice_range m i j) ≡ count_below m j
+count-runs_on m i j ordered =
     let there : i + (j - i) ≡ j = omega arith in
-    ap₂ (λ a b. a + b) before (between ∙ ap (λ e. count (slice_range m i e)) (sym there))
-    ∙ sym (count-part_further m i (j - i)) ∙ ap (count_below m) there
+    ap (λ e. count_below m i + count (slice_range m i e)) (sym there) ∙ sym (count-part_further m i (j - i)) ∙ ap (count_below m) there
 
 -- no count is above its place
 pub count_below-le : (m : List Bool) (i : ℕ) → count_below m i ≤ i
 count_below-le m i = omega (arith, count-le-length (take i m), length-take i m)
+
+pub ruleset running_counts = (map_more, count-runs_on, count_below-le)

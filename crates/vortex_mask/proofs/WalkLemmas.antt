@@ -1,8 +1,9 @@
 -- The walks over a mask: each run of calls gives what is left, and what a walk over a mask of one value has.
-use Rattle.std.proofs.Common.{zero, sym, Bool, replicate, Some, ◌≡◌, ℕ, suc, ◌+◌, ◌-◌, ◌<◌, List, ◌∷◌, length, ap, arith}
-use Rattle.std.specs.Iterator.{MakesProgress, item_count, YieldsFirst}
+use Rattle.std.proofs.Common.{Option, zero, sym, Bool, replicate, Some, ◌≡◌, ℕ, suc, ◌+◌, ◌-◌, ◌<◌, List, ◌∷◌, length, ap, arith}
+use Rattle.std.specs.Iterator.{Drains, DrainsIf, MakesProgress, item_count, YieldsFirst}
 use Rattle.std.specs.List.{range_with_len}
-use Rattle.std.specs.Iterator.Runs.{YieldsInOrder}
+use Rattle.std.specs.Iterator.Runs.{YieldsInOrder, WholeRun}
+use Rattle.std.proofs.iter.runs.Consumers.{total_runs}
 use Rattle.std.proofs.iter.runs.Sources.{from_front, as_is}
 use Rattle.mask_bits.specs.Positions.{repeated}
 use Rattle.mask_bits.proofs.Lists.CountLemmas.{length-repeated, nil-repeated, positions-all_true, positions-all_false}
@@ -49,3 +50,11 @@ MakesProgress-left left s t x e = record {
 }
 
 pub ruleset next_facts = (length-repeated, nil-repeated, repeated-next, range-next, MakesProgress-left)
+
+-- ---- what an iterator gave to its end, told as a list and as a run
+
+pub drained : {S A : Type 0} (steps : S → Option A → S → Type 0) (s : S) (xs : List A) → DrainsIf steps (Unit {0}) s xs → Drains steps s xs
+drained steps s xs d = let last = d.2 tt in (last.0, (d.0, d.1, last.1))
+
+pub whole_run : {S A : Type 0} (steps : S → Option A → S → Type 0) (s : S) (P : List A → Type 0) (xs : List A) → Drains steps s xs → P xs → WholeRun steps s (λ p. P p.items)
+whole_run steps s P xs came holds = total_runs steps s (Unit {0}) P (xs, λ u. came, holds) tt

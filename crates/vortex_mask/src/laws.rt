@@ -67,7 +67,7 @@ pub fn no_index_fault()
 
 /// The list of a mask that is held as all true, or as all false, is as many such values as its
 /// length.
-#[tactic(auto, using(crate::proofs::VariantLemmas::all_true_has_true_values, crate::proofs::VariantLemmas::all_false_has_false_values))]
+#[tactic(auto, using(crate::proofs::MaskLemmas::all_true_has_true_values, crate::proofs::MaskLemmas::all_false_has_false_values))]
 pub fn variants_of_one_value()
     ensures all_true { AllTrueHasTrueValues }
     ensures all_false { AllFalseHasFalseValues }

@@ -283,6 +283,7 @@ impl Mask {
 }
 
 // For each index the number of true values below it, by a count that runs from one to the next.
+#[tactic(auto, using(crate::proofs::ReadingLemmas::running_counts))]
 fn counts_below(
     alloc: Global,
     buffer: &BitBuffer,

@@ -317,6 +317,7 @@ impl Mask {
 }
 
 // The indices that both lists have.
+#[tactic(auto, using(crate::proofs::CommonLemmas::common_facts))]
 fn common(alloc: Global, lhs: &[usize], rhs: &[usize]) -> Result<Vec<usize>, AllocError>
     requires lhs { IsStrictlyIncreasing lhs.now }
     requires rhs { IsStrictlyIncreasing rhs.now }

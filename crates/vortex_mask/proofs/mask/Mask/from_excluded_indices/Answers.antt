@@ -8,7 +8,7 @@ use Rattle.vortex_mask.specs.Faults.{out_of_bounds}
 use Rattle.vortex_mask.specs.Mask.{truth}
 use Rattle.vortex_mask.specs.declared.mask.error.MaskError.TheVariants.{IndexOutOfBounds}
 use Rattle.vortex_mask.proofs.FaultLemmas.{out_of_bounds-first}
-use Rattle.vortex_mask.proofs.RunLemmas.{whole_run}
+use Rattle.vortex_mask.proofs.WalkLemmas.{whole_run}
 use Rattle.vortex_mask.proofs.mask.Mask.from_excluded_indices.Goals as goal
 
 pub exclude-requires-clause-all : goal.exclude-requires-clause-all
