@@ -36,29 +36,23 @@ common-right : (y : ℕ) (xs ys : List ℕ) → All (λ x. y < x) xs → common 
 common-right y [] ys below = refl
 common-right y (x ∷ xs) ys below =
     let apart : nat_eq x y ≡ false = ne_eqb x y (λ same. absurd (omega (arith, All-head (λ x. y < x) x xs below))) in
-    let rest = common-right y xs ys (All-tail (λ x. y < x) x xs below) in
-    ap (λ b. cond (b || list_any (nat_eq x) ys) (x ∷ common xs (y ∷ ys)) (common xs (y ∷ ys))) apart
-    ∙ ap (λ (zs : List ℕ). cond (list_any (nat_eq x) ys) (x ∷ zs) zs) rest
+    rw (apart, common-right y xs ys (All-tail (λ x. y < x) x xs below)) refl
 
 -- both have the same first
 common-first : (x : ℕ) (xs ys : List ℕ) → All (λ z. x < z) xs → common (x ∷ xs) (x ∷ ys) ≡ x ∷ common xs ys
-common-first x xs ys below =
-    ap (λ b. cond (b || list_any (nat_eq x) ys) (x ∷ common xs (x ∷ ys)) (common xs (x ∷ ys))) (eq-eqb x x refl)
-    ∙ ap (λ (zs : List ℕ). x ∷ zs) (common-right x xs ys below)
+common-first x xs ys below = rw (eq-eqb x x refl, common-right x xs ys below) refl
 
 -- ---- what is left of two lists, from place i of the one and from place j of the other
 
 pub common-less : (xs ys : List ℕ) (i j : ℕ) → IsStrictlyIncreasing ys → i < length xs → j < length ys → get_or xs i 0 < get_or ys j 0
     → common (drop i xs) (drop j ys) ≡ common (drop (i + 1) xs) (drop j ys)
 common-less xs ys i j ascending h k less =
-    ap (λ (zs : List ℕ). common zs (drop j ys)) (drop_more xs i 0 h)
-    ∙ common-left (get_or xs i 0) (drop (i + 1) xs) (drop j ys) (above-from ys (get_or xs i 0) j ascending k less)
+    rw (drop_more xs i 0 h) (common-left (get_or xs i 0) (drop (i + 1) xs) (drop j ys) (above-from ys (get_or xs i 0) j ascending k less))
 
 pub common-greater : (xs ys : List ℕ) (i j : ℕ) → IsStrictlyIncreasing xs → i < length xs → j < length ys → get_or ys j 0 < get_or xs i 0
     → common (drop i xs) (drop j ys) ≡ common (drop i xs) (drop (j + 1) ys)
 common-greater xs ys i j ascending h k less =
-    ap (common (drop i xs)) (drop_more ys j 0 k)
-    ∙ common-right (get_or ys j 0) (drop i xs) (drop (j + 1) ys) (above-from xs (get_or ys j 0) i ascending h less)
+    rw (drop_more ys j 0 k) (common-right (get_or ys j 0) (drop i xs) (drop (j + 1) ys) (above-from xs (get_or ys j 0) i ascending h less))
 
 pub common-equal : (xs ys : List ℕ) (i j : ℕ) → IsStrictlyIncreasing xs → i < length xs → j < length ys → get_or xs i 0 ≡ get_or ys j 0
     → common (drop i xs) (drop j ys) ≡ get_or xs i 0 ∷ common (drop (i + 1) xs) (drop (j + 1) ys)
@@ -69,9 +63,7 @@ common-equal xs ys i j ascending h k same =
 
 -- one of them is at its end
 pub common-over : (xs ys : List ℕ) (i j : ℕ) → (length xs ≤ i) ⊎ (length ys ≤ j) → common (drop i xs) (drop j ys) ≡ []
-common-over xs ys i j over = elim over [
-  | inl h ↦ ap (λ (zs : List ℕ). common zs (drop j ys)) (drop_all i xs h)
-  | inr h ↦ ap (common (drop i xs)) (drop_all j ys h) ∙ common-none (drop i xs)
-]
+common-over xs ys i j (inl h) = rw (drop_all i xs h) refl
+common-over xs ys i j (inr h) = rw (drop_all j ys h) (common-none (drop i xs))
 
 pub ruleset common_facts = (common-less, common-greater, common-equal, common-over, append_assoc, append-nil)

@@ -116,4 +116,4 @@ out_of_bounds-first len n xs o same is = ap (option_map (λ x. IndexOutOfBounds 
 pub ascending-common : (xs ys : List ℕ) → IsStrictlyIncreasing xs → IsStrictlyIncreasing (common xs ys)
 ascending-common xs ys = IsStrictlyIncreasing-filter (λ x. list_any (nat_eq x) ys) xs
 
-pub ruleset common_facts = (within_faultless, ascending-common)
+pub ruleset listed_facts = (within_faultless, ascending-common)

@@ -8,7 +8,6 @@ mod DepositLawLemmas
 pub mod DepositLemmas
 pub mod DepositListLemmas
 pub mod DrivenLemmas
-pub mod EqLemmas
 mod Examples
 pub mod ExcludedLemmas
 pub mod FaultLemmas

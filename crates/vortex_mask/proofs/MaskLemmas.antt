@@ -1,8 +1,10 @@
--- The variant that a list may have, by its count.
+-- Lists of one value, the variants that lists may have, and what masks keep.
 use Rattle.std.specs.Prelude.{◌↔◌}
 use Rattle.std.proofs.Common.{◌-◌, ◌≤◌, slice_range, All, ◌≡◌, ℕ, zero, suc, ◌<◌, Bool, true, false, List, [], ◌∷◌, length, refl, sym, ap, ◌∙◌, arith, inl, inr, Some}
+use Rattle.std.specs.Cmp.{booleans_Decides}
 use Rattle.std.proofs.lemmas.List.{length-replicate}
-use Rattle.vortex_mask.specs.Mask.{variant_and, variant_or, Variant, all_true, all_false, mixed, fitting_variant}
+use Rattle.std.proofs.lemmas.Slice.Eq.{slice_eq-Decides}
+use Rattle.vortex_mask.specs.Mask.{variant_and, variant_or, Variant, all_true, all_false, mixed, fitting_variant, truth, same_truth}
 use Rattle.mask_bits.specs.Positions.{count, repeated, positions}
 use Rattle.vortex_mask.specs.declared.mask.Mask.TheVariants.{AllTrue, AllFalse, Values}
 use Rattle.mask_bits.proofs.Lists.ChooseLemmas.{chosen-all_true, chosen-all_false}
@@ -12,7 +14,7 @@ use Rattle.mask_bits.proofs.Lists.PartLemmas.{part_of_repeated}
 use Rattle.mask_bits.proofs.Lists.PlaceLemmas.{count-le-length}
 use Rattle.mask_bits.proofs.Lists.RankLemmas.{rank_intersection-all_true, rank_intersection-by_all_true}
 use Rattle.mask_bits.proofs.Lists.CountLemmas.{slice_get-repeated, all_true-count, positions-repeated_true_at, All-repeated, repeated_from_All, count-repeated_true, count-repeated_false, all_true_from_count, all_false_from_count, list_all-count, list_all-count_less, list_any-count, list_any-count_zero, length-repeated}
-use Rattle.vortex_mask.specs.Laws.{UniformIsOfOneValue, AllTrueHasTrueValues, AllFalseHasFalseValues}
+use Rattle.vortex_mask.specs.Laws.{UniformIsOfOneValue, AllTrueHasTrueValues, AllFalseHasFalseValues, SameTruthIsOneList}
 use Rattle.vortex_mask.specs.MaskValues.{AreOf, no_caches, kept_indices}
 
 pub fitting_variant-all : (empty : Variant) (m : List Bool) → 0 < length m → count m ≡ length m → fitting_variant empty m ≡ all_true
@@ -68,8 +70,6 @@ pub ruleset value_facts = (slice_get-repeated, all_true-count, all_false-count, 
 
 pub ruleset variant_facts = (length-repeated, count-repeated_true, count-repeated_false, count-le-length, repeated-all, repeated-none, fitting_variant-repeated_true, fitting_variant-repeated_false, fitting_variant-some_true, fitting_variant-some, fitting_variant-all, fitting_variant-none, fitting_variant-nonempty)
 
--- ---- the arms of rank intersection that need no list of places
-
 -- an empty list's variant, where one side decides
 pub variant_and-all_false : (v : Variant) → variant_and v all_false ≡ all_false
 variant_and-all_false all_true = refl
@@ -92,32 +92,22 @@ pub ruleset row_facts = (length-repeated, length-chosen, chosen-all_true, chosen
 
 pub ruleset narrowing_facts = (variant_and-all_false, rank_intersection-all_true, rank_intersection-by_all_true, rank_intersection-none, length-rank_intersection, positions-rank_intersection)
 
--- a list of one value, by its own length
-by_length : (n : ℕ) (v : Bool) → repeated n v ≡ repeated (length (repeated n v)) v
-by_length n v = sym (ap (λ (k : ℕ). repeated k v) (length-repeated n v))
+-- ---- laws
 
 pub all_true_has_true_values : AllTrueHasTrueValues
-all_true_has_true_values (AllTrue n) held = by_length n true
-all_true_has_true_values (AllFalse n) held = cc
-all_true_has_true_values (Values v) held = cc
+all_true_has_true_values (AllTrue n) held = rw length-repeated refl
+all_true_has_true_values m held = absurd (cc)
 
 pub all_false_has_false_values : AllFalseHasFalseValues
-all_false_has_false_values (AllTrue n) held = cc
-all_false_has_false_values (AllFalse n) held = by_length n false
-all_false_has_false_values (Values v) held = cc
+all_false_has_false_values (AllFalse n) held = rw length-repeated refl
+all_false_has_false_values m held = absurd (cc)
 
 -- a uniform list is of one value
 pub uniform_is_of_one_value : UniformIsOfOneValue
-uniform_is_of_one_value m = (
-  λ uniform. elim uniform [
-    | inl none ↦ inr (all_false_from_count 0 m none)
-    | inr all ↦ inl (all_true_from_count 0 m all)
-  ],
-  λ one. elim one [
-    | inl all ↦ inr (ap count all ∙ count-repeated_true (length m))
-    | inr none ↦ inl (ap count none ∙ count-repeated_false (length m))
-  ],
-)
+uniform_is_of_one_value m = grind (arith, repeated-all m, repeated-none m, count-repeated_true (length m), count-repeated_false (length m))
+
+pub same_truth_is_one_list : SameTruthIsOneList
+same_truth_is_one_list a b = slice_eq-Decides booleans_Decides (truth a) (truth b) (same_truth a b) refl
 
 -- ---- lists that are kept
 

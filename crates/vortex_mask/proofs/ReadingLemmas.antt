@@ -1,41 +1,29 @@
 -- Masks that are read by values, places and counts.
-use Rattle.std.proofs.Common.{◌≡◌, ℕ, ◌+◌, ◌-◌, ◌<◌, ◌≤◌, Bool, true, false, List, [], ◌∷◌, length, map, take, drop, replicate, slice_range, refl, sym, ap, ap₂, ◌∙◌, arith}
-use Rattle.std.proofs.Common.{Option, Some, None, slice_get, nat_lt, inl, inr}
+use Rattle.std.proofs.Common.{Option, Some, None, slice_get, nat_lt, zero, suc, ◌≡◌, ℕ, ◌+◌, ◌-◌, ◌<◌, ◌≤◌, Bool, true, false, List, [], ◌∷◌, length, map, take, drop, replicate, slice_range, refl, sym, ap, ap₂, ◌∙◌, arith}
 use Rattle.std.specs.Bool.{then_some}
 use Rattle.std.specs.List.{All}
 use Rattle.std.specs.Option.{IfSome, SomeIff}
 use Rattle.std.proofs.lemmas.Bool.{cases_lt, lt-ltb}
 use Rattle.std.proofs.lemmas.List.{map_more, take-replicate, take-append-drop, length-take}
 use Rattle.std.proofs.lemmas.List.Elements.{All-head, All-tail}
+use Rattle.std.proofs.lemmas.Option.{slice_get_past}
 use Rattle.mask_bits.specs.Positions.{positions, count, count_below, repeated}
 use Rattle.mask_bits.proofs.Lists.CountLemmas.{count-repeated_true, count-repeated_false, count-append, length-repeated, positions-repeated_true_at, positions-all_false, nil-repeated}
-use Rattle.mask_bits.proofs.Lists.PlaceLemmas.{count-le-length, positions-within, IfSome-slice_get}
+use Rattle.mask_bits.proofs.Lists.PlaceLemmas.{place-within, count-le-length, positions-within, IfSome-slice_get}
 use Rattle.mask_bits.proofs.Lists.SelectLemmas.{count-part_further}
 
 -- ---- lists of one value
 
-is_zero : (n : ℕ) → n ≤ 0 → n ≡ 0
-is_zero n h = omega (arith, h)
-
--- no value has no place
-slice_get-none : (n : ℕ) → n ≡ 0 → (k : ℕ) → slice_get (positions (repeated n true)) k ≡ None
-slice_get-none n e k = ap (λ j. slice_get (positions (repeated j true)) k) e ∙ ap (λ (m : List Bool). slice_get (positions m) k) (nil-repeated true)
-
 pub first-all_true : (n : ℕ) → then_some (nat_lt 0 n) 0 ≡ slice_get (positions (repeated n true)) 0
-first-all_true n = elim (cases_lt 0 n) [
-  | inl some ↦ ap (λ b. then_some b 0) (lt-ltb 0 n some) ∙ sym (positions-repeated_true_at n 0 some)
-  | inr none ↦ ap (λ k. then_some (nat_lt 0 k) 0) (is_zero n none) ∙ sym (slice_get-none n (is_zero n none) 0)
-]
+first-all_true zero = rw (nil-repeated true) refl
+first-all_true (suc n) = rw (lt-ltb 0 (suc n) (omega arith)) (sym (positions-repeated_true_at (suc n) 0 (omega arith)))
 
 pub first-within : (n : ℕ) → IfSome (then_some (nat_lt 0 n) 0) (λ p. p < length (repeated n true))
-first-within n =
-    rw (first-all_true n) (IfSome-slice_get (λ p. p < length (repeated n true)) (positions (repeated n true)) 0 (positions-within (repeated n true)))
+first-within n = rw (first-all_true n) (place-within (repeated n true) 0)
 
 pub last-all_true : (n : ℕ) (o : Option ℕ) → SomeIff o (1 ≤ n) (n - 1) → o ≡ slice_get (positions (repeated n true)) (count (repeated n true) - 1)
-last-all_true n None none = sym (slice_get-none n (is_zero n (omega (arith, none))) (count (repeated n true) - 1))
-last-all_true n (Some p) some =
-    ap Some some.1 ∙ sym (positions-repeated_true_at n (n - 1) (omega (arith, some.0)))
-    ∙ ap (λ k. slice_get (positions (repeated n true)) (k - 1)) (sym (count-repeated_true n))
+last-all_true n None none = grind (arith, slice_get_past (positions (repeated n true)) (count (repeated n true) - 1), count-repeated_true n)
+last-all_true n (Some p) some = grind (arith, positions-repeated_true_at n (n - 1), count-repeated_true n)
 
 pub last-within : (n : ℕ) (o : Option ℕ) → SomeIff o (1 ≤ n) (n - 1) → IfSome o (λ p. p < length (repeated n true))
 last-within n None none = tt
@@ -54,7 +42,7 @@ count_below-all_true n i h = ap count (take-replicate i n true h) ∙ count-repe
 pub counts-all_true : (n : ℕ) (xs : List ℕ) → All (λ i. i ≤ n) xs → map (count_below (repeated n true)) xs ≡ xs
 counts-all_true n [] h = refl
 counts-all_true n (x ∷ xs) h =
-    ap₂ (λ (y : ℕ) (ys : List ℕ). y ∷ ys) (count_below-all_true n x (All-head (λ i. i ≤ n) x xs h)) (counts-all_true n xs (All-tail (λ i. i ≤ n) x xs h))
+    rw (count_below-all_true n x (All-head (λ i. i ≤ n) x xs h), counts-all_true n xs (All-tail (λ i. i ≤ n) x xs h)) refl
 
 -- and none of an all-false one
 count_below-all_false : (n i : ℕ) → count_below (repeated n false) i ≡ 0

@@ -14,7 +14,7 @@ impl PartialEq for Mask {
 
     ghost laws = { partial_equiv_from_equiv (on_equiv truth (lists_equiv bool_eq_equiv)) };
 
-    #[tactic(auto, using(crate::proofs::EqLemmas::same_truth_is_one_list))]
+    #[tactic(auto, using(crate::proofs::MaskLemmas::same_truth_is_one_list))]
     fn eq(&self, other: &Mask) -> bool
         ensures answer { result ≡ same_truth self.now other.now }
         ensures same { IsTrue result ↔ (truth self.now ≡ truth other.now) }

@@ -75,7 +75,7 @@ pub fn variants_of_one_value()
 
 /// `same_truth`, as which `==` of masks and of references to them is told, says whether their lists
 /// are the same.
-#[tactic(auto, using(crate::proofs::EqLemmas::same_truth_is_one_list))]
+#[tactic(auto, using(crate::proofs::MaskLemmas::same_truth_is_one_list))]
 pub fn same_truth_is_one_list()
     ensures same { SameTruthIsOneList }
 {}

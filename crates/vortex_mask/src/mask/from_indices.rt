@@ -295,7 +295,7 @@ impl Mask {
     }
 
     // The same of two lists.
-    #[tactic(auto, using(crate::proofs::FaultLemmas::common_facts))]
+    #[tactic(auto, using(crate::proofs::FaultLemmas::listed_facts))]
     fn of_common(alloc: Global, len: usize, lhs: &[usize], rhs: &[usize]) -> Result<Mask, MaskError>
         requires lhs { IsStrictlyIncreasing lhs.now }
         requires rhs { IsStrictlyIncreasing rhs.now }
