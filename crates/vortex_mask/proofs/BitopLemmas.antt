@@ -4,7 +4,7 @@ use Rattle.std.specs.Prelude.{if◌then◌else◌}
 use Rattle.std.proofs.Math.Bool.{and-true, and-false, or-true, or-false}
 use Rattle.mask_bits.specs.Lists.{and_of, or_of, not_of, and_not_of}
 use Rattle.mask_bits.specs.Positions.{repeated}
-use Rattle.mask_bits.proofs.Lists.BooleanLemmas.{length-combined, combined-left, combined-right, map-itself, map-one, not_of-repeated}
+use Rattle.mask_bits.proofs.Lists.BooleanLemmas.{combined_itself, length-combined, combined-left, combined-right, map-itself, map-one, not_of-repeated}
 use Rattle.vortex_mask.proofs.MaskLemmas.{variant_and-all_false, variant_or-all_true}
 
 pub and_of-left : (v : Bool) (n : ℕ) (b : List Bool) → n ≡ length b → and_of (repeated n v) b ≡ (if v then b else repeated n false)
@@ -31,4 +31,4 @@ pub and_not_of-right : (v : Bool) (n : ℕ) (a : List Bool) → n ≡ length a �
 and_not_of-right true n a e = rw e (combined-right (λ x y. x && not y) true (λ x. false) and-false a ∙ map-one false a)
 and_not_of-right false n a e = rw e (combined-right (λ x y. x && not y) false (λ x. x) and-true a ∙ map-itself a)
 
-pub ruleset bitop_facts = (length-combined, not_of-repeated, and_of-left, and_of-right, or_of-left, or_of-right, and_not_of-left, and_not_of-right, variant_and-all_false, variant_or-all_true)
+pub ruleset bitop_facts = (length-combined, combined_itself, not_of-repeated, and_of-left, and_of-right, or_of-left, or_of-right, and_not_of-left, and_not_of-right, variant_and-all_false, variant_or-all_true)
