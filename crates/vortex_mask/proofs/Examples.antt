@@ -122,14 +122,8 @@ nothing_without_a_mixed_one a b held = absurd (cc)
 
 -- ---- uniform lists
 
-all_true_is_uniform : IsUniform (true ∷ true ∷ [])
-all_true_is_uniform = inr refl
-
-all_false_is_uniform : IsUniform (false ∷ false ∷ [])
-all_false_is_uniform = inl refl
-
-no_values_are_uniform : IsUniform []
-no_values_are_uniform = inl refl
+uniform_lists : IsUniform (true ∷ true ∷ []) × IsUniform (false ∷ false ∷ []) × IsUniform []
+uniform_lists = (inr refl, inl refl, inl refl)
 
 mixed_is_not_uniform : IsUniform (true ∷ false ∷ []) → ⊥
 mixed_is_not_uniform uniform = elim uniform [ inl none ↦ omega arith | inr all ↦ omega arith ]

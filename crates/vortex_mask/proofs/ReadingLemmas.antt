@@ -3,13 +3,13 @@ use Rattle.std.proofs.Common.{Option, Some, None, slice_get, nat_lt, zero, suc, 
 use Rattle.std.specs.Bool.{then_some}
 use Rattle.std.specs.List.{All}
 use Rattle.std.specs.Option.{IfSome, SomeIff}
-use Rattle.std.proofs.lemmas.Bool.{cases_lt, lt-ltb}
+use Rattle.std.proofs.lemmas.Bool.{lt-ltb}
 use Rattle.std.proofs.lemmas.List.{map_more, take-replicate, take-append-drop, length-take}
 use Rattle.std.proofs.lemmas.List.Elements.{All-head, All-tail}
 use Rattle.std.proofs.lemmas.Option.{slice_get_past}
 use Rattle.mask_bits.specs.Positions.{positions, count, count_below, repeated}
 use Rattle.mask_bits.proofs.Lists.CountLemmas.{count-repeated_true, count-repeated_false, count-append, length-repeated, positions-repeated_true_at, positions-all_false, nil-repeated}
-use Rattle.mask_bits.proofs.Lists.PlaceLemmas.{place-within, count-le-length, positions-within, IfSome-slice_get}
+use Rattle.mask_bits.proofs.Lists.PlaceLemmas.{place-within, count-le-length}
 use Rattle.mask_bits.proofs.Lists.SelectLemmas.{count-part_further}
 
 -- ---- lists of one value

@@ -1,4 +1,4 @@
-use Rattle.std.proofs.Common.{◌≡◌, List, ℕ, sym, ap, subst, ◌∙◌}
+use Rattle.std.proofs.Common.{sym, ap, ap₂, subst, ◌∙◌}
 use Rattle.std.specs.List.Sorted.{IsStrictlyIncreasing}
 use Rattle.std.proofs.lemmas.Result.{IfOk-weaker}
 use Rattle.vortex_mask.specs.Faults.{common, out_of_bounds}
@@ -6,36 +6,32 @@ use Rattle.vortex_mask.proofs.ResultLemmas.{IfErr-or}
 use Rattle.vortex_mask.proofs.WalkLemmas.{drained}
 use Rattle.vortex_mask.proofs.mask.Mask.from_intersection_indices.Goals as goal
 
--- the same two lists have the same in common
-common_same : (us vs xs ys : List ℕ) → us ≡ xs → vs ≡ ys → common us vs ≡ common xs ys
-common_same us vs xs ys e f = ap (λ (zs : List ℕ). common zs vs) e ∙ ap (common xs) f
-
 pub returns-clause-indices : goal.returns-clause-indices
 returns-clause-indices g c =
     let left = c.in_ok-lhs.ensures.ran in
     let right = c.in_ok-rhs.ensures.ran in
-    let same = common_same _ _ _ _ (c.deref.ensures.value ∙ left.2.0) (c.deref-2.ensures.value ∙ right.2.0) in
+    let same = ap₂ common (c.deref.ensures.value ∙ left.2.0) (c.deref-2.ensures.value ∙ right.2.0) in
     IfOk-weaker c.of_common.result _ _ (λ m is. (left.0, right.0, drained g.L.Iterator.next_gives c.args.lhs left.0 left.1, drained g.R.Iterator.next_gives c.args.rhs right.0 right.1, is ∙ same)) c.of_common.ensures.indices
 
 pub returns-clause-runs : goal.returns-clause-runs
 returns-clause-runs g c =
     let left = c.in_ok-lhs.ensures.runs tt in
     let right = c.in_ok-rhs.ensures.runs tt in
-    let same = common_same _ _ _ _ (c.deref.ensures.value ∙ left.3.0) (c.deref-2.ensures.value ∙ right.3.0) in
+    let same = ap₂ common (c.deref.ensures.value ∙ left.3.0) (c.deref-2.ensures.value ∙ right.3.0) in
     IfOk-weaker c.of_common.result _ _ (λ m is. (left.0, left.1, left.2, (right.0, right.1, right.2, is ∙ same))) c.of_common.ensures.indices
 
 pub returns-clause-refused : goal.returns-clause-refused
 returns-clause-refused g c =
     let left = c.in_ok-lhs.ensures.ran in
     let right = c.in_ok-rhs.ensures.ran in
-    let same = common_same _ _ _ _ (c.deref.ensures.value ∙ left.2.0) (c.deref-2.ensures.value ∙ right.2.0) in
+    let same = ap₂ common (c.deref.ensures.value ∙ left.2.0) (c.deref-2.ensures.value ∙ right.2.0) in
     IfErr-or c.of_common.result _ _ _ (λ e fault. (left.0, right.0, drained g.L.Iterator.next_gives c.args.lhs left.0 left.1, drained g.R.Iterator.next_gives c.args.rhs right.0 right.1, ap (out_of_bounds c.args.len) (sym same) ∙ fault)) c.of_common.ensures.refused
 
 pub returns-clause-refused_runs : goal.returns-clause-refused_runs
 returns-clause-refused_runs g c =
     let left = c.in_ok-lhs.ensures.runs tt in
     let right = c.in_ok-rhs.ensures.runs tt in
-    let same = common_same _ _ _ _ (c.deref.ensures.value ∙ left.3.0) (c.deref-2.ensures.value ∙ right.3.0) in
+    let same = ap₂ common (c.deref.ensures.value ∙ left.3.0) (c.deref-2.ensures.value ∙ right.3.0) in
     IfErr-or c.of_common.result _ _ _ (λ e fault. (left.0, left.1, left.2, (right.0, right.1, right.2, ap (out_of_bounds c.args.len) (sym same) ∙ fault))) c.of_common.ensures.refused
 
 pub of_common-requires-clause-lhs : goal.of_common-requires-clause-lhs

@@ -51,16 +51,13 @@ made_all len n rs i all made new is past at added = (
   added ∙ ap (λ k. made ++ repeated (len - k) false) at,
 )
 
-pub returns-clause-len : goal.returns-clause-len
-returns-clause-len c =
+pub returns : goal.returns
+returns c =
     let rs = c.args.ranges.now in
     let made = c.loop-start.buffer in
     let end = made_all c.args.len c.len-2.result rs c.loop-start.start-index (painted 0 c.args.len rs) made c.append_n-2.new.self c.loop-start.invariant c.loop-start-test.false c.len-2.ensures c.in_ok-append_n-3.ensures.added in
-    IfOk-weaker c.freeze.result _ _ (λ b list. ap length (list ∙ end.1) ∙ (painting-all c.args.len rs made c.requires end.0).0) c.freeze.ensures
-
-pub returns-clause-list : goal.returns-clause-list
-returns-clause-list c =
-    let rs = c.args.ranges.now in
-    let made = c.loop-start.buffer in
-    let end = made_all c.args.len c.len-2.result rs c.loop-start.start-index (painted 0 c.args.len rs) made c.append_n-2.new.self c.loop-start.invariant c.loop-start-test.false c.len-2.ensures c.in_ok-append_n-3.ensures.added in
-    IfOk-weaker c.freeze.result _ _ (λ b list. subst (λ (m : List Bool). AreRanges m rs) (sym (list ∙ end.1)) (painting-all c.args.len rs made c.requires end.0).1) c.freeze.ensures
+    let all = painting-all c.args.len rs made c.requires end.0 in
+    record {
+      len = IfOk-weaker c.freeze.result _ _ (λ b list. ap length (list ∙ end.1) ∙ all.0) c.freeze.ensures;
+      list = IfOk-weaker c.freeze.result _ _ (λ b list. subst (λ (m : List Bool). AreRanges m rs) (sym (list ∙ end.1)) all.1) c.freeze.ensures;
+    }
