@@ -1,4 +1,7 @@
 -- The laws of deposits.
+use Rattle.vortex_mask.proofs.HoleLemmas.{deposit-all}
+use Rattle.vortex_mask.proofs.DepositLemmas.{Deposits-from_bits, bit_at-deposit}
+use Rattle.mask_bits.proofs.Lists.ShiftLemmas.{bit_at-mod}
 use Rattle.std.proofs.Common.{◌≡◌, ℕ, ◌-◌, ◌^◌, ◌<◌, true, false, nat_eq, sym, ap, ◌∙◌, arith}
 use Rattle.std.specs.Int.{bit_at}
 use Rattle.std.proofs.lemmas.List.{get_or-replicate}
@@ -11,22 +14,9 @@ use Rattle.vortex_mask.specs.DepositLaws.{DepositAtAllOnes, DepositIsRankInterse
 use Rattle.vortex_mask.proofs.DepositListLemmas.{word_bits-deposited}
 use Rattle.vortex_mask.proofs.ReadingLemmas.{count_below-all_true}
 
-word_bits-all_ones : word_bits (2 ^ 64 - 1) ≡ repeated 64 true
-unfolding repeated
-word_bits-all_ones =
-    word_bits_from_bits (2 ^ 64 - 1) (repeated 64 true) (length-repeated 64 true) (λ j h.
-    ap (λ v. nat_eq v 1) (bit_at_ones 64 j h) ∙ sym (get_or-replicate 64 j true false h))
-
-count_below-all_ones : (i : ℕ) → i < 64 → count_below (word_bits (2 ^ 64 - 1)) i ≡ i
-count_below-all_ones i h = ap (λ m. count_below m i) word_bits-all_ones ∙ count_below-all_true 64 i (omega arith)
-
 pub deposit_at_all_ones : DepositAtAllOnes
-deposit_at_all_ones source = record {
-  bits = λ i h. (
-    (λ set. (bit_at_ones 64 i h, ap (bit_at source) (count_below-all_ones i h) ∙ set)),
-    λ both. sym (ap (bit_at source) (count_below-all_ones i h)) ∙ both.1,
-  );
-}
+deposit_at_all_ones source =
+    Deposits-from_bits source (2 ^ 64 - 1) source (λ i h. sym (bit_at-mod source 64 i h) ∙ ap (λ x. bit_at x i) (sym (deposit-all 64 source)) ∙ bit_at-deposit 64 source (2 ^ 64 - 1) i h)
 
 pub deposit_is_rank_intersection : DepositIsRankIntersection
 deposit_is_rank_intersection = word_bits-deposited

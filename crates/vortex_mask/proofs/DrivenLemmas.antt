@@ -42,16 +42,14 @@ some-word m n w before rank read reached inside = grind (arith, read.counted)
 pub place-found : (m : List Bool) (n w before rank p : ℕ) → HasRead m n w before → w < 2 ^ 64 → before ≤ rank → rank < before + count_ones w → p ≡ selected w (rank - before)
     → slice_get (positions m) rank ≡ Some (64 * (n - 1) + p)
 place-found m n w before rank p read fits reached inside is =
-    let i : ℕ = n - 1 in
     let r : ℕ = rank - before in
-    let some = some-word m n w before rank read reached inside in
-    let again : i + 1 ≡ n = omega arith in
-    let shows : word_bits w ≡ padded_part m i = read.last some in
-    let here : r < count (word_bits w) = omega (arith, count-word_bits w fits) in
-    let front : before ≡ count (take (64 * i) m)
-    = omega (arith, read.counted, ap (λ k. count (take (64 * k) m)) again, count-word_more m i, ap count shows, count-word_bits w fits) in
-    place_in_word m i rank r p (omega (arith, read.within)) (omega arith) (omega (arith, ap count shows))
-    (ap (λ (xs : List Bool). slice_get (positions xs) r) (sym shows) ∙ slice_get-get_or (positions (word_bits w)) r 0 here ∙ ap Some (sym is))
+    let some : 0 < n = grind (arith, read.counted) in
+    let again : n - 1 + 1 ≡ n = omega arith in
+    let shows : word_bits w ≡ padded_part m (n - 1) = read.last some in
+    let front : before ≡ count (take (64 * (n - 1)) m)
+    = omega (arith, read.counted, ap (λ k. count (take (64 * k) m)) again, count-word_more m (n - 1), ap count shows, count-word_bits w fits) in
+    place_in_word m (n - 1) rank r p (omega (arith, read.within)) (omega arith) (omega (arith, ap count shows, count-word_bits w fits))
+    (rw (← shows) (slice_get-get_or (positions (word_bits w)) r 0 (omega (arith, count-word_bits w fits)) ∙ ap Some (sym is)))
 
 -- ---- ranks as an iterator gives them
 

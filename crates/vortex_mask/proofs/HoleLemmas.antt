@@ -68,7 +68,7 @@ deposit-low (suc k) (suc n) s m h =
     ]
 
 -- and all of them where no place is clear
-deposit-all : (k s : ℕ) → deposit k s (2 ^ k - 1) ≡ s % 2 ^ k
+pub deposit-all : (k s : ℕ) → deposit k s (2 ^ k - 1) ≡ s % 2 ^ k
 unfolding deposit
 deposit-all zero s = omega arith
 deposit-all (suc k) s =

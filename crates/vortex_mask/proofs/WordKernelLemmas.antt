@@ -66,19 +66,11 @@ AreRankBits b at s n = (k : ℕ) → k < n → get_or (word_bits s) k false ≡ 
 deposited-word : (a b : List Bool) (i at s m w : ℕ) → length b ≡ count a → at ≡ count_below a (64 * i) → word_bits m ≡ padded_part a i
     → AreRankBits b at s (count (word_bits m)) → Deposits s m w → word_bits w ≡ padded_part (rank_intersection a b) i
 deposited-word a b i at s m w fits place shows source is =
-    let r : List Bool = rank_intersection a b in
-    padded_part_from_values r (word_bits w) i (length-word_bits w) (λ j h.
+    padded_part_from_values (rank_intersection a b) (word_bits w) i (length-word_bits w) (λ j h.
     let k : ℕ = count_below (word_bits m) j in
-    let p : ℕ = 64 * i + j in
-    let value : get_or r p false ≡ (get_or a p false && get_or b (count_below a p) false) = rank_intersection_value a b p fits in
-    let here : get_or (word_bits m) j false ≡ get_or a p false = ap (λ (x : List Bool). get_or x j false) shows ∙ get_or-padded_part a i j h in
-    let number : at + k ≡ count_below a p
-    = ap (λ n. n + k) place ∙ ap (λ (x : List Bool). count_below a (64 * i) + count_below x j) shows ∙ sym (count_below-part a i j (omega arith)) in
-    deposited-value s m w j is h
-    ∙ and_where (get_or (word_bits m) j false) (get_or (word_bits s) k false) (get_or b (at + k) false) (λ set.
-    source k (omega (arith, trues-take (word_bits m) j set, count-trues (word_bits m), count-trues (take j (word_bits m)))))
-    ∙ ap₂ (λ x y. x && y) here (ap (λ n. get_or b n false) number)
-    ∙ sym value)
+    let stays = and_where (get_or (word_bits m) j false) (get_or (word_bits s) k false) (get_or b (at + k) false)
+    (λ set. source k (omega (arith, trues-take (word_bits m) j set, count-trues (word_bits m), count-trues (take j (word_bits m))))) in
+    grind (arith, stays, deposited-value s m w j is h, rank_intersection_value a b (64 * i + j) fits, count_below-part a i j (omega arith), get_or-padded_part a i j h))
 
 -- ---- the words so far
 
@@ -119,12 +111,9 @@ deposited-more a b i at s m ones w out new before read after fits so_far shows c
 pub rank_bits-window : (a : List Bool) (b : Packed) (i at s m : ℕ) → length (values b) ≡ count a → at ≡ count_below a (64 * i) → word_bits m ≡ padded_part a i
     → word_bits s ≡ window b.bytes (b.offset + at) → AreRankBits (values b) at s (count (word_bits m))
 rank_bits-window a b i at s m fits place shows read = λ k h.
-    let few : count (word_bits m) ≤ 64 = omega (arith, count-le-length (word_bits m), length-word_bits m) in
-    let next : at + count (word_bits m) ≡ count_below a (64 * (i + 1)) = ap₂ (λ x y. x + y) place (ap count shows) ∙ sym (count-word_more a i) in
-    let inside : at + k < b.len = omega (arith, next, count_below-le a (64 * (i + 1)), length-bits_at b.bytes b.offset b.len) in
-    let bit : b.offset + at + k ≡ b.offset + (at + k) = omega arith in
-    ap (λ (x : List Bool). get_or x k false) read ∙ get_or-window b.bytes (b.offset + at) k false (omega arith)
-    ∙ ap (backing_bit b.bytes) bit ∙ sym (get_or-bits_at b.bytes b.offset b.len (at + k) false inside)
+    let inside : at + k < b.len = omega (arith, ap count shows, count-word_more a i, count_below-le a (64 * (i + 1)), length-bits_at b.bytes b.offset b.len) in
+    let few : k < 64 = omega (arith, count-le-length (word_bits m), length-word_bits m) in
+    grind (arith, read, get_or-window b.bytes (b.offset + at) k false few, get_or-bits_at b.bytes b.offset b.len (at + k) false inside)
 
 -- the running place is a rank, before a word and after it
 pub place-within : (a : List Bool) (i at : ℕ) → at ≡ count_below a (64 * i) → at ≤ count a

@@ -6,15 +6,6 @@ use Rattle.vortex_mask.specs.Steps.{StepCounts}
 use Rattle.vortex_mask.proofs.DrivenLemmas.{ascending-few, not-above-next, ranks-at_turn, ranks-at_exit, nothing-found, found-more, found-steps}
 use Rattle.vortex_mask.proofs.intersect_by_rank.kernels.mask_driven.places_at_ranks.Goals as goal
 
-pub loop-rank-init : goal.loop-rank-init
-loop-rank-init g c = nothing-found c.args.chunks.now _ _ c.in_ok-places.ensures.items c.new-steps.ensures
-
-pub place_of-requires-clause-read : goal.place_of-requires-clause-read
-place_of-requires-clause-read g c = c.loop-rank.invariant.read
-
-pub place_of-requires-clause-ticked : goal.place_of-requires-clause-ticked
-place_of-requires-clause-ticked g c = ap (λ (s : StepCounts). s.words) c.loop-rank.invariant.counted
-
 pub place_of-requires-clause-room : goal.place_of-requires-clause-room
 place_of-requires-clause-room g c =
     let m = c.args.chunks.now in
@@ -42,9 +33,6 @@ returns-clause-places g c =
     let m = c.args.chunks.now in
     let run = (ranks-at_exit g.I.Iterator.next_gives c.args.ranks (count m) c.args.true_count c.requires.ranks _ c.into_iter-rank-iterator.ensures.into_iter_gives c.loop-rank.yielded _ c.loop-rank.yielded_by c.next.new.self c.in-None.ensures.steps).0 in
     (run.0, run.1, run.2, c.loop-rank.invariant.found ∙ ap (at_places (positions m)) (sym run.3))
-
-pub returns-clause-words : goal.returns-clause-words
-returns-clause-words g c = omega (arith, ap (λ (s : StepCounts). s.words) c.loop-rank.invariant.counted, c.loop-rank.invariant.read.within)
 
 pub returns-clause-steps : goal.returns-clause-steps
 returns-clause-steps g c =

@@ -9,32 +9,21 @@ pub overflow_add-end : goal.overflow_add-end
 overflow_add-end c = grind (arith, count-le-length, place-within)
 
 pub word-self-requires-clause-there : goal.word-self-requires-clause-there
-word-self-requires-clause-there c =
-    let read = c.loop-end.invariant in
-    more-words c.args.chunks.now c.loop-end.self.words c.loop-end.self.word c.loop-end.self.before c.args.rank read.read (omega (arith, read.ends, c.loop-end-test.true)) c.requires.there
+word-self-requires-clause-there c = omega (arith, more-words _ _ _ _ c.args.rank c.loop-end.invariant.read)
 
 pub overflow_add-end-in-loop-end : goal.overflow_add-end-in-loop-end
 overflow_add-end-in-loop-end c =
     let m = c.args.chunks.now in
-    let before = c.loop-end.invariant in
-    let more = more-words m c.loop-end.self.words c.loop-end.self.word c.loop-end.self.before c.args.rank before.read (omega (arith, before.ends, c.loop-end-test.true)) c.requires.there in
-    let read = read-more m c.loop-end.self.words c.loop-end.self.word c.loop-end.self.before c.word-self.result c.loop-end.end before.read more before.ends (omega arith) c.word-self.ensures.whole c.word-self.ensures.last in
+    let read = read-more m _ _ _ c.word-self.result c.loop-end.end c.loop-end.invariant.read (omega (arith, more-words _ _ _ _ c.args.rank c.loop-end.invariant.read)) c.loop-end.invariant.ends (omega arith) c.word-self.ensures.whole c.word-self.ensures.last in
     omega (arith, place-within m (c.loop-end.self.words + 1) _ read.counted, count-le-length m, c.requires.fits)
 
 pub loop-end-smaller : goal.loop-end-smaller
-loop-end-smaller c =
-    let before = c.loop-end.invariant in
-    let more = more-words c.args.chunks.now c.loop-end.self.words c.loop-end.self.word c.loop-end.self.before c.args.rank before.read (omega (arith, before.ends, c.loop-end-test.true)) c.requires.there in
-    omega (arith, more)
+loop-end-smaller c = omega (arith, more-words _ _ _ _ c.args.rank c.loop-end.invariant.read)
 
 pub loop-end-preserved : goal.loop-end-preserved
-loop-end-preserved c =
-    let m = c.args.chunks.now in
-    let before = c.loop-end.invariant in
-    let more = more-words m c.loop-end.self.words c.loop-end.self.word c.loop-end.self.before c.args.rank before.read (omega (arith, before.ends, c.loop-end-test.true)) c.requires.there in
-    record {
-      read = read-more m c.loop-end.self.words c.loop-end.self.word c.loop-end.self.before c.word-self.result c.loop-end.end before.read more before.ends (omega arith) c.word-self.ensures.whole c.word-self.ensures.last;
-      ends = refl;
-      reached = c.loop-end-test.true;
-      ticked = c.word-self.ensures.ticked ∙ ap (λ (s : StepCounts). record s { words = s.words + 1 }) before.ticked;
-    }
+loop-end-preserved c = record {
+  read = read-more c.args.chunks.now _ _ _ c.word-self.result c.loop-end.end c.loop-end.invariant.read (omega (arith, more-words _ _ _ _ c.args.rank c.loop-end.invariant.read)) c.loop-end.invariant.ends (omega arith) c.word-self.ensures.whole c.word-self.ensures.last;
+  ends = refl;
+  reached = c.loop-end-test.true;
+  ticked = rw (c.word-self.ensures.ticked, c.loop-end.invariant.ticked);
+}
