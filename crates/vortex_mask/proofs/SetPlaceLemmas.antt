@@ -6,7 +6,6 @@ use lib.Bits.{and_step, and_self}
 use lib.Count.{ones_step}
 use lib.Arith.{mod-mul}
 use Rattle.std.proofs.lemmas.Bool.{cases_lt}
-use Rattle.mask_bits.proofs.Lists.WordLemmas.{ones_below-more}
 
 -- how many of the places below i are set
 abbrev pub ones_below : ℕ → ℕ → ℕ
@@ -40,9 +39,6 @@ ones_below-suc w i =
 
 pub ones_below-le : (w i : ℕ) → ones_below w i ≤ i
 ones_below-le w i = ones-le i (w % 2 ^ i) (mod-lt w (pow_pos i))
-
-pub ones_below_nothing : (i : ℕ) → ones_below 0 i ≡ 0
-ones_below_nothing i = omega (arith, ones-le 0 (0 % 2 ^ i) (omega (arith, pow_pos i)))
 
 -- ---- a number without its lowest set place
 
@@ -105,9 +101,3 @@ ones-cleared_le k m fits = by (cases_lt 0 m)
     by : (0 < m) ⊎ (m ≤ 0) → count_ones (cleared m) ≤ count_ones m - 1
     by (inl some) = omega (arith, ones-cleared k m some fits)
     by (inr none) = let z : m ≡ 0 = omega arith in let w : cleared m ≡ 0 = ap cleared z in omega (arith, ap count_ones w, ones-le 0 0 (omega arith))
-
-pub ones_below_none : (m t : ℕ) → ((i : ℕ) → i < t → bit_at m i ≡ 0) → ones_below m t ≡ 0
-ones_below_none m zero h = ones_below-zero m
-ones_below_none m (suc t) h =
-    let e : suc t ≡ t + 1 = omega arith in
-    ap (ones_below m) e ∙ omega (arith, ones_below-more m t, ones_below_none m t (λ i l. h i (omega arith)), h t (omega arith))

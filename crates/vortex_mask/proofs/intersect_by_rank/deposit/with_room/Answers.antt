@@ -1,10 +1,6 @@
 use Rattle.std.proofs.Common.{arith}
-use lib.Bits.{and_zero_r}
 use Rattle.vortex_mask.proofs.HoleLemmas.{kept_from}
 use Rattle.vortex_mask.proofs.intersect_by_rank.deposit.with_room.Goals as goal
 
 pub returns-clause-room : goal.returns-clause-room
 returns-clause-room c = λ p inside e. grind (arith, kept_from)
-
-pub returns-clause-same : goal.returns-clause-same
-returns-clause-same c = λ e. grind (arith, and_zero_r)

@@ -15,11 +15,5 @@ window-padded bytes n p =
     get_or-window bytes p j false h
     ∙ ap (λ b. nat_eq (bit_at b ((p + j) % 8)) 1) (sym (byte-padded bytes n ((p + j) / 8))))
 
-pub overflow_mul-self-inside : goal.overflow_mul-self-inside
-overflow_mul-self-inside c = omega (arith, c.self.invariant.1.from, c.requires, c.if-position-self.false, ap (λ v. v.offset) c.self.view_is)
-
-pub overflow_sub-position : goal.overflow_sub-position
-overflow_sub-position c = omega (arith, c.self.invariant.1.from, c.if-position-self.false)
-
 pub returns-else-position-self : goal.returns-else-position-self
 returns-else-position-self c = grind (arith, window-drop, window-padded)

@@ -1,6 +1,5 @@
-use Rattle.std.proofs.Common.{◌+◌, refl, ap, ◌∙◌, arith}
+use Rattle.std.proofs.Common.{◌+◌, refl, arith}
 use Rattle.mask_bits.proofs.Lists.PlaceLemmas.{count-le-length}
-use Rattle.vortex_mask.specs.Steps.{StepCounts}
 use Rattle.vortex_mask.proofs.DrivenLemmas.{more-words, read-more}
 use Rattle.vortex_mask.proofs.WordKernelLemmas.{place-within}
 use Rattle.vortex_mask.proofs.intersect_by_rank.kernels.mask_driven.Reached.read_to.Goals as goal
@@ -8,17 +7,11 @@ use Rattle.vortex_mask.proofs.intersect_by_rank.kernels.mask_driven.Reached.read
 pub overflow_add-end : goal.overflow_add-end
 overflow_add-end c = grind (arith, count-le-length, place-within)
 
-pub word-self-requires-clause-there : goal.word-self-requires-clause-there
-word-self-requires-clause-there c = omega (arith, more-words _ _ _ _ c.args.rank c.loop-end.invariant.read)
-
 pub overflow_add-end-in-loop-end : goal.overflow_add-end-in-loop-end
 overflow_add-end-in-loop-end c =
     let m = c.args.chunks.now in
     let read = read-more m _ _ _ c.word-self.result c.loop-end.end c.loop-end.invariant.read (omega (arith, more-words _ _ _ _ c.args.rank c.loop-end.invariant.read)) c.loop-end.invariant.ends (omega arith) c.word-self.ensures.whole c.word-self.ensures.last in
     omega (arith, place-within m (c.loop-end.self.words + 1) _ read.counted, count-le-length m, c.requires.fits)
-
-pub loop-end-smaller : goal.loop-end-smaller
-loop-end-smaller c = omega (arith, more-words _ _ _ _ c.args.rank c.loop-end.invariant.read)
 
 pub loop-end-preserved : goal.loop-end-preserved
 loop-end-preserved c = record {
