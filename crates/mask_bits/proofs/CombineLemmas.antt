@@ -1,5 +1,5 @@
 -- The bits that the loops over words write and compare.
-use Rattle.std.proofs.Common.{◌≡◌, nat_eq, ℕ, ◌+◌, ◌*◌, ◌-◌, ◌/◌, ◌%◌, ◌^◌, ◌<◌, ◌≤◌, ◌⊎◌, Bool, false, List, ◌++◌, length, get_or, take, drop, slice_range, sym, subst, ap, ◌∙◌, inl, inr, arith, ap₂, count_ones}
+use Rattle.std.proofs.Common.{◌≡◌, nat_eq, ℕ, ◌+◌, ◌*◌, ◌-◌, ◌/◌, ◌%◌, ◌<◌, ◌≤◌, ◌⊎◌, Bool, false, List, ◌++◌, length, get_or, take, drop, slice_range, sym, subst, ap, ◌∙◌, inl, inr, arith, ap₂}
 use Rattle.std.specs.Int.{bit_at}
 use Rattle.std.proofs.lemmas.Bool.{cases_lt}
 use Rattle.std.proofs.lemmas.List.{ext_get_or, get_or-drop, take-append-le, take_all, length-append, get_or_append_left, get_or-append_right}
@@ -13,8 +13,8 @@ use Rattle.mask_bits.proofs.BufferLemmas.{length-values, get_or-values, values_f
 use Rattle.mask_bits.proofs.Lists.BooleanLemmas.{length-combined, get_or-combined}
 use Rattle.mask_bits.proofs.Lists.BitsLemmas.{bits_at, bits_at-append}
 use Rattle.mask_bits.proofs.Lists.CountLemmas.{count-append}
-use Rattle.mask_bits.proofs.Lists.FrontLemmas.{length-window, get_or-window, window-between, window_from_bits, front-more_word, front-same}
-use Rattle.mask_bits.proofs.Lists.WordLemmas.{length-word_bits, get_or-word_bits, count-word_bits}
+use Rattle.mask_bits.proofs.Lists.FrontLemmas.{length-window, get_or-window, window-between, window_from_bits, front-same}
+use Rattle.mask_bits.proofs.Lists.WordLemmas.{length-word_bits, get_or-word_bits}
 
 -- ---- windows
 
@@ -93,13 +93,6 @@ values-combined-bytes f a b out from_a from_b p q len words low_a low_b is_a is_
     (subst (λ k. AreCombined f from_a k from_b (q % 8) out (64 * words)) (sym low_a) (subst (λ k. AreCombined f from_a 0 from_b k out (64 * words)) (sym low_b) wrote)) enough
 
 -- ---- and counted
-
--- the ones of the words before, and of one more, are those of all
-pub counted-step : (out new : List ℕ) (i ones w : ℕ) → ones ≡ count (bits_at out 0 (64 * i)) → w < 2 ^ 64 → window new (64 * i) ≡ word_bits w
-    → ((k : ℕ) → ((k < 64 * i) ⊎ (64 * i + 64 ≤ k)) → backing_bit new k ≡ backing_bit out k)
-    → ones + count_ones w ≡ count (bits_at new 0 (64 * (i + 1)))
-counted-step out new i ones w before fits wrote others =
-    grind (arith, front-more_word new i, front-same out new (64 * i) (λ p h. others p (inl h)), count-append (bits_at new 0 (64 * i)) (window new (64 * i)), count-word_bits w fits)
 
 -- what is written past the first bits leaves their count, and the rest's count makes it whole
 pub counted-all : (f : Bool → Bool → Bool) (a b out new : List ℕ) (p q n m rest ones : ℕ) → AreCombined f a p b q out n → AreCombined f a p b q new m → n ≤ m

@@ -10,7 +10,7 @@ ghost use Rattle.mask_bits.specs.Words.{word_bits};
 
 use crate::counts::count_bits;
 use crate::read_word::{Anywhere, Covered, Neighbors, ReadWord, Whole};
-use crate::words::{set_word, word_of};
+use crate::words::set_word;
 
 /// An operation on truth values, done on 64 at once.
 pub trait BitOp {
@@ -136,8 +136,11 @@ pub fn combine_counted<C: BitOp>(
     ones + count_bits(out, 64 * whole, len % 64)
 }
 
-// Writes the first words of whole bytes, and answers how many of their bits are set. To count them
-// here takes less than a second pass, since a word's count is got while the next ones are loaded.
+// How many words are written before they are counted.
+const BLOCK: usize = 256;
+
+// Writes the first words of whole bytes, and answers how many of their bits are set: a block at a
+// time, so that it is counted while it is still near.
 fn extend_counted<C: BitOp>(a: &[u8], b: &[u8], words: usize, out: &mut [u8]) -> usize
     requires a_covered { 8 * words ≤ length a.now }
     requires b_covered { 8 * words ≤ length b.now }
@@ -148,10 +151,12 @@ fn extend_counted<C: BitOp>(a: &[u8], b: &[u8], words: usize, out: &mut [u8]) ->
         ≡ count (values (record { bytes = out.new; offset = 0; len = 64 * words })) }
 {
     let mut ones = 0;
-    for i in 0..words {
-        let word = C::of(word_of(a, i), word_of(b, i));
-        set_word(out, i, word);
-        ones += word.count_ones() as usize;
+    let mut next = 0;
+    while next < words {
+        let end = next + (words - next).min(BLOCK);
+        extend::<C, Whole>(a, 0, b, 0, next, end, out);
+        ones += count_bits(out, 64 * next, 64 * (end - next));
+        next = end;
     }
     ones
 }

@@ -44,6 +44,10 @@ fn same_words(a: &[u8], a_offset: usize, b: &[u8], b_offset: usize, words: usize
     let (a, a_low) = (&a[a_offset / 8..], (a_offset % 8) as u32);
     let (b, b_low) = (&b[b_offset / 8..], (b_offset % 8) as u32);
     if a_low == 0 && b_low == 0 {
+        if words >= LONG {
+            // the library's own loop over bytes is quicker than blocks of words, once it has begun
+            return &a[..8 * words] == &b[..8 * words];
+        }
         return agree::<Whole>(a, a_low, b, b_low, 0, words);
     }
     // words beside which another one lies in both, up to the last
@@ -51,6 +55,9 @@ fn same_words(a: &[u8], a_offset: usize, b: &[u8], b_offset: usize, words: usize
     agree::<Neighbors>(a, a_low, b, b_low, 0, inner)
         && agree_block::<Covered>(a, a_low, b, b_low, inner, words)
 }
+
+// From how many words on whole bytes are compared by the library.
+const LONG: usize = 64;
 
 // How many words are compared before an early return.
 const BLOCK: usize = 16;

@@ -1,26 +1,27 @@
-use Rattle.std.proofs.Common.{◌≡◌, ◌+◌, ◌*◌, ap, ◌∙◌, arith}
-use Rattle.mask_bits.specs.Words.{window}
-use Rattle.mask_bits.proofs.CombineLemmas.{AreCombined-step, counted-step}
-use Rattle.mask_bits.proofs.Lists.BitsLemmas.{count-bits_at-le}
+use Rattle.std.proofs.Common.{◌≡◌, ◌+◌, ◌-◌, ◌*◌, ap, ◌∙◌, arith}
+use Rattle.mask_bits.specs.Positions.{count}
+use Rattle.mask_bits.proofs.CombineLemmas.{counted-all}
+use Rattle.mask_bits.proofs.Lists.BitsLemmas.{bits_at, count-bits_at-le}
 use Rattle.mask_bits.proofs.combine.extend_counted.Goals as goal
 
-pub loop-i-init : goal.loop-i-init
-loop-i-init g c = record { list = λ i h. absurd (omega (arith, h)); counted = omega (arith, count-bits_at-le c.args.out.now 0 0) }
+pub loop-next-init : goal.loop-next-init
+loop-next-init g c = record { ordered = omega arith; list = λ i h. absurd (omega (arith, h)); counted = omega (arith, count-bits_at-le c.args.out.now 0 0) }
+
+pub loop-next-preserved : goal.loop-next-preserved
+loop-next-preserved g c =
+    let n = c.loop-next.next in
+    let k = c.min.result in
+    let new = c.extend.new.out in
+    let before = c.loop-next.invariant in
+    let block : 64 * n + 64 * (n + k - n) ≡ 64 * (n + k) = omega arith in
+    record {
+      ordered = omega (arith, c.min.ensures, before.ordered);
+      list = c.extend.ensures;
+      counted = ap (λ x. c.loop-next.ones + x) c.count_bits-ones.ensures
+          ∙ counted-all g.C.BitOp.of_bits c.args.a.now c.args.b.now c.loop-next.out new 0 0 (64 * n) (64 * (n + k)) (64 * (n + k - n)) c.loop-next.ones before.list c.extend.ensures (omega arith) before.counted
+          ∙ ap (λ x. count (bits_at new 0 x)) block;
+    }
 
 pub overflow_add-ones : goal.overflow_add-ones
 overflow_add-ones g c =
-    let new = c.set_word.new.bytes in
-    let more = counted-step c.loop-i.out new c.loop-i.i c.loop-i.ones c.of-word.result c.loop-i.invariant.counted c.of-word.type_inv c.set_word.ensures.here c.set_word.ensures.others in
-    omega (arith, more, c.requires.fits, c.loop-i-test.true, c.loop-i.auto.i-end, count-bits_at-le new 0 (64 * (c.loop-i.i + 1)))
-
-pub loop-i-preserved : goal.loop-i-preserved
-loop-i-preserved g c =
-    let a = c.args.a.now in
-    let b = c.args.b.now in
-    let new = c.set_word.new.bytes in
-    let place : 64 * c.loop-i.i ≡ 0 + 64 * c.loop-i.i = omega arith in
-    record {
-      list = AreCombined-step g.C.BitOp.of_bits a b c.loop-i.out new 0 0 c.loop-i.i _ _ _ c.loop-i.invariant.list
-          (c.word_of.ensures ∙ ap (window a) place) (c.word_of-in-loop-i.ensures ∙ ap (window b) place) c.of-word.ensures c.set_word.ensures.here c.set_word.ensures.others;
-      counted = counted-step c.loop-i.out new c.loop-i.i c.loop-i.ones c.of-word.result c.loop-i.invariant.counted c.of-word.type_inv c.set_word.ensures.here c.set_word.ensures.others;
-    }
+    omega (arith, (loop-next-preserved g c).counted, c.min.ensures, c.loop-next.invariant.ordered, c.requires.fits, count-bits_at-le c.extend.new.out 0 (64 * (c.loop-next.next + c.min.result)))
