@@ -9,7 +9,7 @@ from pathlib import Path
 ROOT = Path(__file__).resolve().parent.parent
 CRATES = ROOT / "crates"
 # Crates that have nothing but tests.
-TEST_CRATES = "mask_tests", "mask_sweeps", "refusals"
+TEST_CRATES = "mask_tests", "mask_sweeps", "refusals", "uses_tests"
 
 
 class Function:

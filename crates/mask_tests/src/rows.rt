@@ -5,7 +5,6 @@ mod all_or;
 mod bitops;
 mod buffer;
 mod cached;
-mod callers;
 mod concat;
 mod error;
 mod fraction;

@@ -27,38 +27,3 @@ pub fn span(mask: &Mask) -> Option<usize>
     let (first, last) = (mask.first()?, mask.last()?);
     Some(last - first + 1)
 }
-
-#[cfg(test)]
-mod tests {
-    use super::{ranges, span};
-    use crate::tests::mask;
-    use std::alloc::Global;
-    use std::process::Abort;
-    use std::test::Fail;
-    use vortex_mask::{Mask, MaskError};
-
-    fn has(
-        rt: &impl Abort,
-        alloc: Global,
-        mask: &Mask,
-        want: (&[(usize, usize)], Option<usize>),
-    ) -> Result<(), MaskError> {
-        assert!(rt; ranges(alloc, mask)?.as_slice() == want.0);
-        assert!(rt; span(mask) == want.1);
-        Ok(())
-    }
-
-    #[test]
-    fn of_each_variant(rt: HostRuntime) -> Result<(), Fail> {
-        let runs = [(1, 3), (4, 5)];
-        has(
-            &rt,
-            rt.alloc(),
-            &mask(rt.alloc(), "01101")?,
-            (&runs, Some(4)),
-        )?;
-        has(&rt, rt.alloc(), &Mask::new_true(5), (&[(0, 5)], Some(5)))?;
-        has(&rt, rt.alloc(), &Mask::new_false(5), (&[], None))?;
-        Ok(())
-    }
-}

@@ -58,30 +58,3 @@ fn nulls_in(validity: &BitBuffer, size: usize, number: usize) -> usize
     let rows = size.min(len - start);
     rows - validity.count_range(start, start + rows)
 }
-
-#[cfg(test)]
-mod tests {
-    use super::{by_row_group, nulls_by_batch};
-    use crate::tests::{buffer, lists, same};
-    use std::alloc::Global;
-    use std::process::Abort;
-    use std::test::Fail;
-    use vortex_mask::MaskError;
-
-    fn groups(rt: &impl Abort, alloc: Global) -> Result<(), MaskError> {
-        let masks = by_row_group(alloc, 5, &[0, 3, 4], 2)?;
-        same(rt, masks.len(), 3);
-        for (mask, want) in masks.iter().zip(["10", "01", "1"]) {
-            lists(rt, mask, want);
-        }
-        Ok(())
-    }
-
-    #[test]
-    fn five_rows_in_groups(rt: HostRuntime) -> Result<(), Fail> {
-        groups(&rt, rt.alloc())?;
-        let nulls = nulls_by_batch(rt.alloc(), &buffer(rt.alloc(), "10010")?, 2)?;
-        assert!(rt; nulls.as_slice() == [1, 1, 1].as_slice());
-        Ok(())
-    }
-}

@@ -23,29 +23,3 @@ pub fn is_full(validity: &Mask) -> bool
     laws::counts();
     validity.true_count() == validity.len()
 }
-
-#[cfg(test)]
-mod tests {
-    use super::{bitmap, is_full};
-    use crate::tests::mask;
-    use std::process::Abort;
-    use std::test::Fail;
-    use vortex_mask::Mask;
-
-    fn is_written(rt: &impl Abort, validity: &Mask, bits: Option<usize>, full: bool) {
-        assert!(rt; bitmap(validity).map(|bits| bits.true_count()) == bits);
-        assert!(rt; is_full(validity) == full);
-    }
-
-    #[test]
-    fn three_columns(rt: HostRuntime) -> Result<(), Fail> {
-        for (text, bits, full) in [
-            ("1101", Some(3), false),
-            ("1111", None, true),
-            ("0000", None, false),
-        ] {
-            is_written(&rt, &mask(rt.alloc(), text)?, bits, full);
-        }
-        Ok(())
-    }
-}

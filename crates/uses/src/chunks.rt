@@ -25,33 +25,3 @@ pub fn filtered<T: Copy>(
     rows.extend_from_slice(&of_second.choose(alloc, second)?)?;
     Ok(rows)
 }
-
-#[cfg(test)]
-mod tests {
-    use super::filtered;
-    use crate::tests::{mask, same};
-    use std::alloc::Global;
-    use std::process::Abort;
-    use std::test::Fail;
-    use vortex_mask::{Mask, MaskError};
-
-    fn joins(
-        rt: &impl Abort,
-        alloc: Global,
-        masks: (&Mask, &Mask),
-        want: &[u8],
-    ) -> Result<(), MaskError> {
-        same(rt, masks.0.len(), 2);
-        same(rt, masks.1.len(), 3);
-        let rows = filtered(alloc, &[3, 1], masks.0, &[4, 1, 5], masks.1)?;
-        assert!(rt; rows.as_slice() == want);
-        Ok(())
-    }
-
-    #[test]
-    fn two_chunks(rt: HostRuntime) -> Result<(), Fail> {
-        let masks = (mask(rt.alloc(), "10")?, mask(rt.alloc(), "101")?);
-        joins(&rt, rt.alloc(), (&masks.0, &masks.1), &[3, 4, 5])?;
-        Ok(())
-    }
-}

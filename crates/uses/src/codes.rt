@@ -24,36 +24,3 @@ pub fn counts_before(
     }
     Ok(Some(validity.valid_counts_for_indices(alloc, rows)?))
 }
-
-#[cfg(test)]
-mod tests {
-    use super::counts_before;
-    use crate::tests::mask;
-    use std::alloc::Global;
-    use std::process::Abort;
-    use std::test::Fail;
-    use vortex_mask::{Mask, MaskError};
-
-    fn counts(
-        rt: &impl Abort,
-        alloc: Global,
-        (validity, rows): (&Mask, &[usize]),
-        want: Option<&[usize]>,
-    ) -> Result<(), MaskError> {
-        assert!(rt; counts_before(alloc, validity, rows)?.as_deref() == want);
-        Ok(())
-    }
-
-    #[test]
-    fn of_five_rows(rt: HostRuntime) -> Result<(), Fail> {
-        let validity = mask(rt.alloc(), "10110")?;
-        for (rows, want) in [
-            ([0, 2, 5].as_slice(), Some([0, 1, 3].as_slice())),
-            ([2, 1].as_slice(), None),
-            ([6].as_slice(), None),
-        ] {
-            counts(&rt, rt.alloc(), (&validity, rows), want)?;
-        }
-        Ok(())
-    }
-}

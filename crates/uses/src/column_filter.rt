@@ -37,17 +37,3 @@ pub fn first_filtered(
         .limit(alloc, k)?
         .choose(alloc, rows)
 }
-
-#[cfg(test)]
-mod tests {
-    use super::{filtered, first_filtered};
-    use std::test::Fail;
-
-    #[test]
-    fn rows_above_two(rt: HostRuntime) -> Result<(), Fail> {
-        let rows = [3, 1, 4, 1, 5];
-        assert!(rt; filtered(rt.alloc(), &rows, 2)?.as_slice() == [3, 4, 5].as_slice());
-        assert!(rt; first_filtered(rt.alloc(), &rows, 2, 2)?.as_slice() == [3, 4].as_slice());
-        Ok(())
-    }
-}

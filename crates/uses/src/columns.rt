@@ -23,20 +23,3 @@ pub fn filtered<A: Copy, B: Copy>(
     let second = mask.choose(alloc, second)?;
     Ok((first, second))
 }
-
-#[cfg(test)]
-mod tests {
-    use super::filtered;
-    use crate::tests::{mask, same};
-    use std::test::Fail;
-
-    #[test]
-    fn two_columns(rt: HostRuntime) -> Result<(), Fail> {
-        let mask = mask(rt.alloc(), "1011")?;
-        same(&rt, mask.len(), 4);
-        let (names, ages) = filtered(rt.alloc(), &mask, &["a", "b", "c", "d"], &[3, 1, 4, 1])?;
-        assert!(rt; names.as_slice() == ["a", "c", "d"].as_slice());
-        assert!(rt; ages.as_slice() == [3, 4, 1].as_slice());
-        Ok(())
-    }
-}

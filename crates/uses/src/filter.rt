@@ -67,33 +67,3 @@ fn by_places<T: Copy>(alloc: Global, rows: &[T], places: &[usize]) -> Result<Vec
         .filter_map(|place| row_at(rows, *place))
         .collect(alloc)
 }
-
-#[cfg(test)]
-mod tests {
-    use super::filtered;
-    use crate::tests::{mask, same};
-    use std::alloc::Global;
-    use std::process::Abort;
-    use std::test::Fail;
-    use vortex_mask::MaskError;
-
-    fn filters(rt: &impl Abort, alloc: Global, text: &str, want: &[u8]) -> Result<(), MaskError> {
-        let mut mask = mask(alloc, text)?;
-        same(rt, mask.len(), 5);
-        assert!(rt; filtered(alloc, &[3, 1, 4, 1, 5], &mut mask)?.as_slice() == want);
-        Ok(())
-    }
-
-    #[test]
-    fn five_rows(rt: HostRuntime) -> Result<(), Fail> {
-        for (mask, want) in [
-            ("11111", [3, 1, 4, 1, 5].as_slice()),
-            ("00000", [].as_slice()),
-            ("10110", [3, 4, 1].as_slice()),
-            ("01001", [1, 5].as_slice()),
-        ] {
-            filters(&rt, rt.alloc(), mask, want)?;
-        }
-        Ok(())
-    }
-}

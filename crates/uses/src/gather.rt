@@ -38,32 +38,3 @@ pub(crate) fn row_at<T: Copy>(rows: &[T], place: usize) -> Option<T>
 {
     rows.get(place).copied()
 }
-
-#[cfg(test)]
-mod tests {
-    use super::gathered;
-    use crate::tests::{mask, same};
-    use std::alloc::Global;
-    use std::process::Abort;
-    use std::test::Fail;
-    use vortex_mask::MaskError;
-
-    fn gathers(rt: &impl Abort, alloc: Global, text: &str, want: &[u8]) -> Result<(), MaskError> {
-        let mask = mask(alloc, text)?;
-        same(rt, mask.len(), 4);
-        assert!(rt; gathered(alloc, &[3, 1, 4, 1], &mask)?.as_slice() == want);
-        Ok(())
-    }
-
-    #[test]
-    fn four_rows(rt: HostRuntime) -> Result<(), Fail> {
-        for (mask, want) in [
-            ("1111", [3, 1, 4, 1].as_slice()),
-            ("0000", [].as_slice()),
-            ("1010", [3, 4].as_slice()),
-        ] {
-            gathers(&rt, rt.alloc(), mask, want)?;
-        }
-        Ok(())
-    }
-}

@@ -13,6 +13,7 @@ pub mod estimates;
 pub mod explain;
 pub mod filter;
 pub mod gather;
+pub mod iterators;
 pub mod limits;
 pub mod own_deposit;
 pub mod pages;
@@ -21,8 +22,6 @@ pub mod reads;
 pub mod row_groups;
 pub mod selected;
 pub mod stacks;
-#[cfg(test)]
-mod tests;
 pub mod validity;
 pub mod walks;
 pub mod words;

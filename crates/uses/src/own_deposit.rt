@@ -63,34 +63,3 @@ pub fn narrowed<D: DepositBits>(
     let (mask, _) = intersect_bit_buffers::<D>(alloc, rows, kept, kept.true_count())?;
     Ok(mask)
 }
-
-#[cfg(test)]
-mod tests {
-    use super::{InTurn, WholeWords, narrowed};
-    use crate::tests::{buffer, lists, same};
-    use mask_bits::BitBuffer;
-    use std::alloc::Global;
-    use std::process::Abort;
-    use std::test::Fail;
-    use vortex_mask::MaskError;
-
-    fn narrows(
-        rt: &impl Abort,
-        alloc: Global,
-        rows: &BitBuffer,
-        kept: &BitBuffer,
-    ) -> Result<(), MaskError> {
-        same(rt, kept.len(), rows.true_count());
-        lists(rt, &narrowed::<WholeWords>(alloc, rows, kept)?, "00001001");
-        lists(rt, &narrowed::<InTurn>(alloc, rows, kept)?, "00001001");
-        Ok(())
-    }
-
-    #[test]
-    fn of_two_bitmaps(rt: HostRuntime) -> Result<(), Fail> {
-        let rows = buffer(rt.alloc(), "10011101")?;
-        let kept = buffer(rt.alloc(), "00101")?;
-        narrows(&rt, rt.alloc(), &rows, &kept)?;
-        Ok(())
-    }
-}

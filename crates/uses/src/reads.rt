@@ -44,30 +44,3 @@ pub fn ranges_of(alloc: Global, mask: &mut Mask) -> Result<Vec<(usize, usize)>, 
         AllOr::Some(ranges) => Ok(Vec::from_slice(alloc, ranges)?),
     }
 }
-
-#[cfg(test)]
-mod tests {
-    use super::ranges_both_ways;
-    use std::process::Abort;
-    use std::test::Fail;
-
-    #[test]
-    fn of_touching_ranges(rt: HostRuntime) -> Result<(), Fail> {
-        for (filter, want) in [
-            (
-                [1, 2, 3, 4, 7].as_slice(),
-                Some([(1, 5), (7, 8)].as_slice()),
-            ),
-            ([1, 2, 3, 4].as_slice(), None),
-        ] {
-            let index = Vec::from_slice(rt.alloc(), &[(1, 3), (3, 4), (4, 5), (7, 8)])?;
-            match ranges_both_ways(rt.alloc(), 8, index, filter)? {
-                Some((left, right)) => {
-                    assert!(rt; want == Some(left.as_slice()) && want == Some(right.as_slice()));
-                }
-                None => assert!(rt; want.is_none()),
-            }
-        }
-        Ok(())
-    }
-}

@@ -73,35 +73,3 @@ fn marked(
     }
     Ok(kept)
 }
-
-#[cfg(test)]
-mod tests {
-    use super::{kept, kept_by_indices};
-    use crate::tests::{buffer, mask};
-    use std::alloc::Global;
-    use std::process::Abort;
-    use std::test::Fail;
-    use vortex_mask::MaskError;
-
-    fn keeps(rt: &impl Abort, alloc: Global, rows: &str, want: &[bool]) -> Result<(), MaskError> {
-        assert!(rt; kept(alloc, &buffer(alloc, rows)?, 3)?.as_slice() == want);
-        let mut mask = mask(alloc, rows)?;
-        assert!(rt; kept_by_indices(alloc, &mut mask, 3)?.as_slice() == want);
-        Ok(())
-    }
-
-    #[test]
-    fn groups_of_three(rt: HostRuntime) -> Result<(), Fail> {
-        for (rows, want) in [
-            ("", [].as_slice()),
-            ("010000001", [true, false, true].as_slice()),
-            ("0000001", [false, false, true].as_slice()),
-            ("11100", [true, false].as_slice()),
-            ("1111", [true, true].as_slice()),
-            ("0000", [false, false].as_slice()),
-        ] {
-            keeps(&rt, rt.alloc(), rows, want)?;
-        }
-        Ok(())
-    }
-}

@@ -28,34 +28,3 @@ fn ones(word: u64) -> usize
     laws::counts_of_words();
     word.count_ones() as usize
 }
-
-#[cfg(test)]
-mod tests {
-    use super::counted;
-    use crate::tests::same;
-    use mask_bits::BitBuffer;
-    use std::alloc::{AllocError, Global};
-    use std::process::Abort;
-    use std::test::Fail;
-
-    fn counts(rt: &impl Abort, alloc: Global, len: usize, want: usize) -> Result<(), AllocError> {
-        let buffer = BitBuffer::from_bools(alloc, (0..len).map(|i| i % 3 == 0))?;
-        same(rt, counted(&buffer), want);
-        Ok(())
-    }
-
-    #[test]
-    fn every_third_value(rt: HostRuntime) -> Result<(), Fail> {
-        for (len, want) in [
-            (0, 0),
-            (1, 1),
-            (63, 21),
-            (64, 22),
-            (130, 44),
-            (12_800, 4_267),
-        ] {
-            counts(&rt, rt.alloc(), len, want)?;
-        }
-        Ok(())
-    }
-}

@@ -1,5 +1,4 @@
-// Callers that hand in an array's iterator, a chain of adapters or a `Vec` by value, and one that counts by a
-// list that is lent. None has a proof file.
+//! Masks made from an array's iterator, a chain of adapters or a `Vec` by value, and a count by a list that is lent.
 ghost use Rattle.std.specs.Prelude.{◌≡◌, ◌++◌, ◌∷◌, [], None, Some, IfOk, OnErr, length, map};
 ghost use Rattle.std.specs.List.{filter};
 ghost use Rattle.std.specs.List.Sorted.{IsStrictlyIncreasing};
@@ -11,13 +10,15 @@ ghost use Rattle.vortex_mask.specs.Mask.{truth, variant, mixed, caches};
 use std::alloc::Global;
 use vortex_mask::{AllOr, Mask, MaskError};
 
-pub(super) fn indices_of_an_array(alloc: Global, len: usize) -> Result<Mask, MaskError>
+/// By an array's iterator.
+pub fn indices_of_an_array(alloc: Global, len: usize) -> Result<Mask, MaskError>
     ensures { IfOk result (λ m. positions (truth m) ≡ 1 ∷ 3 ∷ []) }
 {
     Mask::from_indices(alloc, len, [1, 3].into_iter())
 }
 
-pub(super) fn indices_of_two_slices(
+/// By a chain of two slices, which ascend together where there is a mask.
+pub fn indices_of_two_slices(
     alloc: Global,
     len: usize,
     a: &[usize],
@@ -29,23 +30,22 @@ pub(super) fn indices_of_two_slices(
     Mask::from_indices(alloc, len, a.iter().copied().chain(b.iter().copied()))
 }
 
-pub(super) fn indices_of_a_vec(
-    alloc: Global,
-    len: usize,
-    indices: Vec<usize>,
-) -> Result<Mask, MaskError>
+/// By a `Vec`.
+pub fn indices_of_a_vec(alloc: Global, len: usize, indices: Vec<usize>) -> Result<Mask, MaskError>
     ensures { IfOk result (λ m. positions (truth m) ≡ indices.items) }
 {
     Mask::from_indices(alloc, len, indices.into_iter())
 }
 
-pub(super) fn all_but_an_array(alloc: Global, len: usize) -> Result<Mask, MaskError>
+/// All but those of an array, in any order and repeated.
+pub fn all_but_an_array(alloc: Global, len: usize) -> Result<Mask, MaskError>
     ensures { IfOk result (λ m. truth m ≡ not_of (true_at len (3 ∷ 1 ∷ 3 ∷ []))) }
 {
     Mask::from_excluded_indices(alloc, len, [3, 1, 3].into_iter())
 }
 
-pub(super) fn all_but_two_slices(
+/// All but those of two slices.
+pub fn all_but_two_slices(
     alloc: Global,
     len: usize,
     a: &[usize],
@@ -56,23 +56,22 @@ pub(super) fn all_but_two_slices(
     Mask::from_excluded_indices(alloc, len, a.iter().copied().chain(b.iter().copied()))
 }
 
-pub(super) fn all_but_a_vec(
-    alloc: Global,
-    len: usize,
-    indices: Vec<usize>,
-) -> Result<Mask, MaskError>
+/// All but those of a `Vec`.
+pub fn all_but_a_vec(alloc: Global, len: usize, indices: Vec<usize>) -> Result<Mask, MaskError>
     ensures { IfOk result (λ m. truth m ≡ not_of (true_at len indices.items)) }
 {
     Mask::from_excluded_indices(alloc, len, indices.into_iter())
 }
 
-pub(super) fn common_to_arrays(alloc: Global, len: usize) -> Result<Mask, MaskError>
+/// What two arrays have in common.
+pub fn common_to_arrays(alloc: Global, len: usize) -> Result<Mask, MaskError>
     ensures { IfOk result (λ m. positions (truth m) ≡ 6 ∷ []) }
 {
     Mask::from_intersection_indices(alloc, len, [1, 6].into_iter(), [6, 9].into_iter())
 }
 
-pub(super) fn common_to_slices(
+/// What two slices have in common.
+pub fn common_to_slices(
     alloc: Global,
     len: usize,
     a: &[usize],
@@ -85,7 +84,8 @@ pub(super) fn common_to_slices(
     Mask::from_intersection_indices(alloc, len, a.iter().copied(), b.iter().copied())
 }
 
-pub(super) fn common_to_vecs(
+/// What two `Vec`s have in common.
+pub fn common_to_vecs(
     alloc: Global,
     len: usize,
     a: Vec<usize>,
@@ -98,28 +98,33 @@ pub(super) fn common_to_vecs(
     Mask::from_intersection_indices(alloc, len, a.into_iter(), b.into_iter())
 }
 
-pub(super) fn concat_of_a_slice(alloc: Global, masks: &[Mask]) -> Result<Mask, MaskError>
+/// The masks of a slice, one after another.
+pub fn concat_of_a_slice(alloc: Global, masks: &[Mask]) -> Result<Mask, MaskError>
     ensures { IfOk result (λ m. truth m ≡ joined (map truth masks.now)) }
 {
     Mask::concat(alloc, masks.iter())
 }
 
-pub(super) fn concat_of_some(alloc: Global, masks: &[Mask]) -> Result<Mask, MaskError> {
+/// Those of a slice that are not empty, but for the first of them.
+pub fn concat_of_some(alloc: Global, masks: &[Mask]) -> Result<Mask, MaskError> {
     Mask::concat(alloc, masks.iter().filter(|mask| !mask.is_empty()).skip(1))
 }
 
-pub(super) fn concat_of_refs(alloc: Global, masks: Vec<&Mask>) -> Result<Mask, MaskError> {
+/// Masks that are lent one by one.
+pub fn concat_of_refs(alloc: Global, masks: Vec<&Mask>) -> Result<Mask, MaskError> {
     Mask::concat(alloc, masks.into_iter())
 }
 
-pub(super) fn masks_of_a_vec(alloc: Global, masks: Vec<Mask>) -> Result<Mask, MaskError>
+/// Masks that are handed over.
+pub fn masks_of_a_vec(alloc: Global, masks: Vec<Mask>) -> Result<Mask, MaskError>
     ensures { IfOk result (λ m. truth m ≡ joined (map truth masks.items)) }
 {
     Mask::from_masks(alloc, masks.into_iter())
 }
 
-// What a caller knows of the mask once the list is no longer borrowed.
-pub(super) fn count_by_indices(alloc: Global, mask: &mut Mask) -> Result<usize, MaskError>
+/// How many values are true, by the list of their places.
+/// The contract says what is known of the mask once the list is no longer borrowed.
+pub fn count_by_indices(alloc: Global, mask: &mut Mask) -> Result<usize, MaskError>
     ensures list { IfOk result (λ n. truth mask.new ≡ truth mask.old) }
     ensures kept { IfOk result (λ n. variant mask.old ≡ mixed
         → (caches mask.new).indices ≡ Some (positions (truth mask.old))) }

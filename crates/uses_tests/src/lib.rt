@@ -1,0 +1,5 @@
+//! Worked rows of the callers of `uses`.
+#![tactic(auto)]
+
+#[cfg(test)]
+mod rows;

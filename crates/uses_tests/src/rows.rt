@@ -1,0 +1,9 @@
+// Each file is named after what its callers do. They stand apart from the callers, since a crate with tests is
+// proved twice.
+mod filters;
+mod helpers;
+mod iterators;
+mod pages;
+mod plans;
+mod ranges;
+mod stacks;

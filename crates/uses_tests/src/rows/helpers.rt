@@ -1,0 +1,39 @@
+// What the rows share.
+use mask_bits::BitBuffer;
+use std::alloc::Global;
+use std::process::Abort;
+use vortex_mask::Mask;
+
+pub(super) fn same(rt: &impl Abort, got: usize, want: usize) {
+    assert!(rt; got == want, "{got} for {want}");
+}
+
+// The answer of a call for which memory is found.
+pub(super) fn found<T, E: Drop>(rt: &impl Abort, answer: Result<T, E>) -> T {
+    match answer {
+        Ok(it) => it,
+        Err(_) => panic!(rt; "refused"),
+    }
+}
+
+// A mask from a text of `0` and `1`.
+pub(super) fn mask(rt: &impl Abort, alloc: Global, text: &str) -> Mask {
+    let values = text.as_bytes().iter().map(|c| *c == b'1');
+    found(rt, Mask::from_bools(alloc, values))
+}
+
+// A buffer from a text of `0` and `1`.
+pub(super) fn buffer(rt: &impl Abort, alloc: Global, text: &str) -> BitBuffer {
+    let values = text.as_bytes().iter().map(|c| *c == b'1');
+    found(rt, BitBuffer::from_bools(alloc, values))
+}
+
+// The mask's values are those of a text.
+pub(super) fn lists(rt: &impl Abort, mask: &Mask, want: &str) {
+    let want = want.as_bytes();
+    same(rt, mask.len(), want.len());
+    for (i, digit) in want.iter().enumerate() {
+        assert!(rt; i < mask.len());
+        assert!(rt; mask.value(i) == (*digit == b'1'), "value {i}");
+    }
+}

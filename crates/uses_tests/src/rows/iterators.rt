@@ -1,0 +1,123 @@
+// Masks from iterators of each kind: what they list, and what they cache.
+use super::helpers::{found, lists, same};
+use std::alloc::Global;
+use std::process::Abort;
+use uses::iterators::{
+    all_but_a_vec, all_but_an_array, all_but_two_slices, common_to_arrays, common_to_slices,
+    common_to_vecs, count_by_indices, indices_of_a_vec, indices_of_an_array, indices_of_two_slices,
+};
+use vortex_mask::{Mask, MaskError, laws};
+
+// A mask of mixed values has this list, and caches these indices, or none, and no ranges.
+fn is(rt: &impl Abort, made: Result<Mask, MaskError>, list: &str, indices: Option<&[usize]>) {
+    let made = found(rt, made);
+    lists(rt, &made, list);
+    match made.values() {
+        Some(values) => {
+            assert!(rt; values.cached_indices() == indices);
+            assert!(rt; values.cached_slices().is_none());
+        }
+        None => panic!(rt; "these values are mixed"),
+    }
+}
+
+fn of_arrays(rt: &impl Abort, alloc: Global) {
+    is(rt, indices_of_an_array(alloc, 5), "01010", Some(&[1, 3]));
+    is(rt, all_but_an_array(alloc, 5), "10101", None);
+    is(rt, common_to_arrays(alloc, 8), "00000010", Some(&[6]));
+}
+
+fn of_chains(rt: &impl Abort, alloc: Global) {
+    let made = indices_of_two_slices(alloc, 5, &[0, 1], &[4]);
+    is(rt, made, "11001", Some(&[0, 1, 4]));
+    is(
+        rt,
+        all_but_two_slices(alloc, 5, &[0, 1], &[4]),
+        "00110",
+        None,
+    );
+    let made = common_to_slices(alloc, 5, &[0, 1], &[1, 4]);
+    is(rt, made, "01000", Some(&[1]));
+}
+
+#[test]
+fn indices_by_iterators(rt: HostRuntime) {
+    of_arrays(&rt, rt.alloc());
+    of_chains(&rt, rt.alloc());
+}
+
+fn is_refused(rt: &impl Abort, alloc: Global, made: Result<Mask, MaskError>, want: &str) {
+    match made {
+        Ok(_) => panic!(rt; "a mask for {want}"),
+        Err(error) => {
+            let text = found(rt, format!(in alloc; "{error:?}"));
+            assert!(rt; text.as_str() == want, "{text} for {want}");
+        }
+    }
+}
+
+#[test]
+fn common_indices_past_the_end(rt: HostRuntime) {
+    for (len, want) in [
+        (4, "IndexOutOfBounds { index: 6, len: 4 }"),
+        (6, "IndexOutOfBounds { index: 6, len: 6 }"),
+    ] {
+        is_refused(&rt, rt.alloc(), common_to_arrays(rt.alloc(), len), want);
+    }
+}
+
+// ---- above 10,000 values
+
+const LEN: usize = 30_011;
+
+fn thirds(rt: &impl Abort, alloc: Global) -> Vec<usize> {
+    found(rt, (0..LEN).step_by(3).collect(alloc))
+}
+
+// The indices of thirds are ascending, since they make a mask.
+fn thirds_twice(alloc: Global, thirds: Vec<usize>) -> Result<Mask, MaskError> {
+    let again = thirds.clone()?;
+    let mask = Mask::from_indices(alloc, LEN, thirds.iter().copied())?;
+    laws::no_index_fault();
+    let _ = mask.len();
+    common_to_vecs(alloc, LEN, thirds, again)
+}
+
+fn has_last(rt: &impl Abort, made: Result<Mask, MaskError>, true_count: usize, last: bool) {
+    let mask = found(rt, made);
+    same(rt, mask.true_count(), true_count);
+    assert!(rt; mask.values().is_some(), "these values are mixed");
+    assert!(rt; mask.len() == LEN && mask.value(30_010) == last);
+}
+
+fn of_many(rt: &impl Abort, alloc: Global) {
+    has_last(
+        rt,
+        indices_of_a_vec(alloc, LEN, thirds(rt, alloc)),
+        10_004,
+        false,
+    );
+    has_last(
+        rt,
+        all_but_a_vec(alloc, LEN, thirds(rt, alloc)),
+        20_007,
+        true,
+    );
+    has_last(rt, thirds_twice(alloc, thirds(rt, alloc)), 10_004, false);
+}
+
+#[test]
+fn many_indices(rt: HostRuntime) {
+    of_many(&rt, rt.alloc());
+}
+
+fn counts_many(rt: &impl Abort, alloc: Global) {
+    let values = (0..20_000usize).map(|i| i % 3 == 0);
+    let mut mask = found(rt, Mask::from_bools(alloc, values));
+    same(rt, found(rt, count_by_indices(alloc, &mut mask)), 6_667);
+}
+
+#[test]
+fn indices_of_a_long_mask(rt: HostRuntime) {
+    counts_many(&rt, rt.alloc());
+}

@@ -1,0 +1,151 @@
+// How plans run, what they leave, and how they are compared and printed.
+use super::helpers::{buffer, found, lists, mask, same};
+use std::alloc::Global;
+use std::process::Abort;
+use uses::equality::{same_kernel, same_number, same_share};
+use uses::estimates::{left_by_both, left_of};
+use uses::explain::{deposits_words, stacked, stacked_by_words};
+use uses::printing::difference;
+use vortex_mask::intersect_by_rank::{RankPath, Steps};
+use vortex_mask::{AllOr, Fraction, Mask, MaskError};
+
+fn deposits(first: &Mask, second: &Mask) -> Option<bool> {
+    Some(deposits_words(first.values()?, second.values()?))
+}
+
+fn explains(rt: &impl Abort, alloc: Global, first: &Mask, second: &Mask, want: (&str, usize)) {
+    assert!(rt; second.len() == first.true_count());
+    let (stacked, words) = found(rt, stacked(alloc, first, second));
+    lists(rt, &stacked, want.0);
+    same(rt, words, want.1);
+    assert!(rt; deposits(first, second).unwrap_or(false) == (words > 0));
+}
+
+fn reads(rt: &impl Abort, alloc: Global, first: &Mask, second: &Mask, want: usize) {
+    assert!(rt; second.len() == first.true_count());
+    same(
+        rt,
+        found(rt, stacked_by_words(alloc, first, second)).1,
+        want,
+    );
+}
+
+fn words_of_five_rows(rt: &impl Abort, alloc: Global) {
+    let first = mask(rt, alloc, "10110");
+    reads(rt, alloc, &first, &mask(rt, alloc, "010"), 1);
+}
+
+type Plan = (&'static str, &'static str, (&'static str, usize));
+
+fn explains_plan(rt: &impl Abort, alloc: Global, (first, second, want): Plan) {
+    let first = mask(rt, alloc, first);
+    explains(rt, alloc, &first, &mask(rt, alloc, second), want);
+}
+
+#[test]
+fn three_plans(rt: HostRuntime) {
+    const PLANS: [Plan; 3] = [
+        ("10011101", "00101", ("00001001", 1)),
+        ("1111", "0101", ("0101", 0)),
+        ("0110", "11", ("0110", 0)),
+    ];
+    words_of_five_rows(&rt, rt.alloc());
+    for plan in PLANS {
+        explains_plan(&rt, rt.alloc(), plan);
+    }
+}
+
+// ---- rows that are left
+
+fn leaves(rt: &impl Abort, alloc: Global, decided: &str, want: (usize, usize)) {
+    let decided = mask(rt, alloc, decided);
+    assert!(rt; decided.len() <= 6);
+    assert!(rt; left_of(&decided, 6) == want);
+}
+
+fn leaves_by_both(rt: &impl Abort, alloc: Global) {
+    let (first, second) = (mask(rt, alloc, "0110"), mask(rt, alloc, "01"));
+    assert!(rt; second.len() == first.true_count());
+    same(rt, left_by_both(&first, &second), 1);
+}
+
+#[test]
+fn rows_that_are_left(rt: HostRuntime) {
+    const DECIDED: [(&str, (usize, usize)); 4] = [
+        ("", (0, 6)),
+        ("0000", (0, 2)),
+        ("1011", (3, 5)),
+        ("111111", (6, 6)),
+    ];
+    leaves_by_both(&rt, rt.alloc());
+    for (decided, want) in DECIDED {
+        leaves(&rt, rt.alloc(), decided, want);
+    }
+}
+
+// ---- `==`
+
+fn is(rt: &impl Abort, got: bool, want: bool) {
+    assert!(rt; got == want);
+}
+
+fn pairs(rt: &impl Abort) {
+    let (half, quarters) = (Fraction { num: 1, den: 2 }, Fraction { num: 2, den: 4 });
+    let by_bits = RankPath::BitBuffers;
+    is(rt, same_kernel(RankPath::Indices, RankPath::Indices), true);
+    is(rt, same_kernel(RankPath::Indices, by_bits), false);
+    is(rt, same_share(half, half), true);
+    is(rt, same_share(half, quarters), false);
+    is(rt, same_number(AllOr::Some(3), AllOr::Some(3)), true);
+    is(rt, same_number(AllOr::All, AllOr::None), false);
+    is(
+        rt,
+        MaskError::LengthOverflow == MaskError::LengthOverflow,
+        true,
+    );
+    let (first, second) = (MaskError::BadRange { at: 1 }, MaskError::BadRange { at: 2 });
+    is(rt, first != second, true);
+}
+
+fn compares(rt: &impl Abort, alloc: Global, values: &str, is_same: bool) {
+    let mask = mask(rt, alloc, "0110");
+    is(rt, mask.equals_buffer(&buffer(rt, alloc, values)), is_same);
+}
+
+fn compares_ones(rt: &impl Abort, alloc: Global) {
+    let ones = buffer(rt, alloc, "11");
+    is(rt, Mask::new_true(2).equals_buffer(&ones), true);
+    is(rt, Mask::new_false(2).equals_buffer(&ones), false);
+    same(rt, ones.false_count(), 0);
+}
+
+#[test]
+fn equality(rt: HostRuntime) {
+    pairs(&rt);
+    for (values, is_same) in [("0110", true), ("0111", false), ("011", false)] {
+        compares(&rt, rt.alloc(), values, is_same);
+    }
+    compares_ones(&rt, rt.alloc());
+}
+
+// ---- texts
+
+fn differ(rt: &impl Abort, alloc: Global) {
+    let mask = mask(rt, alloc, "1010");
+    let text = found(rt, difference(alloc, &mask, &Mask::new_true(0)));
+    assert!(rt; text.as_str() == "1010 for -");
+}
+
+fn debugs(rt: &impl Abort, alloc: Global) {
+    let (bits, steps) = (buffer(rt, alloc, "0110"), Steps::new());
+    let text = found(rt, format!(in alloc; "{bits:?} {steps:?}"));
+    let want =
+        "BitBuffer(0110) Steps { deposits: 0, words: 0, selections: 0, offered: 0, placed: 0, spots: 0 }";
+    assert!(rt; text.as_str() == want);
+}
+
+#[test]
+fn texts(rt: HostRuntime) {
+    differ(&rt, rt.alloc());
+    debugs(&rt, rt.alloc());
+}

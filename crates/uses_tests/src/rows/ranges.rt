@@ -1,0 +1,67 @@
+// Ranges of masks, and words of buffers.
+use super::helpers::{found, mask, same};
+use mask_bits::BitBuffer;
+use std::alloc::Global;
+use std::process::Abort;
+use uses::all_ranges::{ranges, span};
+use uses::reads::ranges_both_ways;
+use uses::words::counted;
+use vortex_mask::Mask;
+
+type Runs = &'static [(usize, usize)];
+
+fn has(rt: &impl Abort, alloc: Global, mask: &Mask, runs: Runs, rows: Option<usize>) {
+    assert!(rt; found(rt, ranges(alloc, mask)).as_slice() == runs);
+    assert!(rt; span(mask) == rows);
+}
+
+fn of_each_variant(rt: &impl Abort, alloc: Global) {
+    let mixed = mask(rt, alloc, "01101");
+    has(rt, alloc, &mixed, &[(1, 3), (4, 5)], Some(4));
+    has(rt, alloc, &Mask::new_true(5), &[(0, 5)], Some(5));
+    has(rt, alloc, &Mask::new_false(5), &[], None);
+}
+
+const TOUCHING: Runs = &[(1, 3), (3, 4), (4, 5), (7, 8)];
+
+fn reads(rt: &impl Abort, alloc: Global, filter: &[usize], want: Option<Runs>) {
+    let index = found(rt, TOUCHING.to_vec(alloc));
+    match found(rt, ranges_both_ways(alloc, 8, index, filter)) {
+        Some((left, right)) => {
+            assert!(rt; want == Some(left.as_slice()) && want == Some(right.as_slice()));
+        }
+        None => assert!(rt; want.is_none()),
+    }
+}
+
+#[test]
+fn ranges_of_masks(rt: HostRuntime) {
+    const FILTERS: [(&[usize], Option<Runs>); 2] = [
+        (&[1, 2, 3, 4, 7], Some(&[(1, 5), (7, 8)])),
+        (&[1, 2, 3, 4], None),
+    ];
+    of_each_variant(&rt, rt.alloc());
+    for (filter, want) in FILTERS {
+        reads(&rt, rt.alloc(), filter, want);
+    }
+}
+
+fn counts(rt: &impl Abort, alloc: Global, len: usize, want: usize) {
+    let values = (0..len).map(|i| i % 3 == 0);
+    let buffer = found(rt, BitBuffer::from_bools(alloc, values));
+    same(rt, counted(&buffer), want);
+}
+
+#[test]
+fn every_third_value(rt: HostRuntime) {
+    for (len, want) in [
+        (0, 0),
+        (1, 1),
+        (63, 21),
+        (64, 22),
+        (130, 44),
+        (12_800, 4_267),
+    ] {
+        counts(&rt, rt.alloc(), len, want);
+    }
+}

@@ -1,0 +1,95 @@
+// Filters on the rows that another one chose.
+use super::helpers::{found, lists, mask};
+use std::alloc::Global;
+use std::process::Abort;
+use uses::stacks::{
+    are_a_stack, filtered_both_ways, filtered_by_all, filtered_by_regrouped, folded_left,
+    folded_right, regrouped,
+};
+use vortex_mask::Mask;
+
+const ROWS: [u8; 8] = [10, 11, 12, 13, 14, 15, 16, 17];
+
+fn choose(rt: &impl Abort, alloc: Global, first: &Mask, second: &Mask) {
+    assert!(rt; first.len() == 8 && second.len() == first.true_count());
+    let (at_once, in_turn) = found(rt, filtered_both_ways(alloc, &ROWS, first, second));
+    assert!(rt; at_once.as_slice() == [14, 17].as_slice());
+    assert!(rt; in_turn.as_slice() == [14, 17].as_slice());
+}
+
+fn fold(rt: &impl Abort, alloc: Global, first: &Mask, second: &Mask, third: &Mask) {
+    assert!(rt; second.len() == first.true_count() && third.len() == second.true_count());
+    let left = found(rt, folded_left(alloc, first, second, third));
+    lists(rt, &left, "00001000");
+    let right = found(rt, folded_right(alloc, first, second, third));
+    lists(rt, &right, "00001000");
+}
+
+fn of_three(rt: &impl Abort, alloc: Global) {
+    let (first, second) = (mask(rt, alloc, "10011101"), mask(rt, alloc, "00101"));
+    choose(rt, alloc, &first, &second);
+    fold(rt, alloc, &first, &second, &mask(rt, alloc, "10"));
+}
+
+#[test]
+fn three_filters_in_either_grouping(rt: HostRuntime) {
+    of_three(&rt, rt.alloc());
+}
+
+// ---- stacks
+
+fn masks(rt: &impl Abort, alloc: Global, texts: &[&str]) -> Vec<Mask> {
+    let mut masks = Vec::new(alloc);
+    for text in texts {
+        found(rt, masks.push(mask(rt, alloc, text)));
+    }
+    masks
+}
+
+// A stack's fold by one call, and the fold of the regrouped stack.
+fn folds(rt: &impl Abort, alloc: Global, first: &Mask, rest: &[Mask], want: &str) {
+    assert!(rt; are_a_stack(first, rest));
+    let folded = found(rt, first.intersect_all_by_rank(alloc, rest));
+    lists(rt, &folded, want);
+    lists(rt, &found(rt, regrouped(alloc, first, rest)), want);
+}
+
+type Row = (&'static str, &'static [&'static str], &'static str);
+
+fn folds_row(rt: &impl Abort, alloc: Global, (first, rest, want): Row) {
+    let first = mask(rt, alloc, first);
+    folds(rt, alloc, &first, &masks(rt, alloc, rest), want);
+}
+
+#[test]
+fn a_stack_folds_alike(rt: HostRuntime) {
+    const STACKS: [Row; 4] = [
+        ("10011101", &["00101", "10"], "00001000"),
+        ("101", &["10", "1", "1", "0"], "000"),
+        ("101", &["10", "0", ""], "000"),
+        ("101", &[], "101"),
+    ];
+    for row in STACKS {
+        folds_row(&rt, rt.alloc(), row);
+    }
+}
+
+fn filter(rt: &impl Abort, alloc: Global, first: &Mask, rest: &[Mask]) {
+    assert!(rt; first.len() == 8 && are_a_stack(first, rest));
+    let by_all = found(rt, filtered_by_all(alloc, &ROWS, first, rest));
+    assert!(rt; by_all.as_slice() == [14].as_slice());
+    let by_regrouped = found(rt, filtered_by_regrouped(alloc, &ROWS, first, rest));
+    assert!(rt; by_regrouped.as_slice() == [14].as_slice());
+}
+
+fn of_a_stack(rt: &impl Abort, alloc: Global) {
+    let first = mask(rt, alloc, "10011101");
+    filter(rt, alloc, &first, &masks(rt, alloc, &["00101", "10"]));
+    let rest = masks(rt, alloc, &["00101", "1"]);
+    assert!(rt; !are_a_stack(&first, &rest), "one rank is missing");
+}
+
+#[test]
+fn a_stack_chooses_alike(rt: HostRuntime) {
+    of_a_stack(&rt, rt.alloc());
+}
