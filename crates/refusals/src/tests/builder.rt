@@ -1,4 +1,5 @@
 // Calls of a builder of packed bits.
+use super::Want::{FalseAt, TrueAt};
 use super::packed::{bits_at_three, is_packed};
 use super::{Want, outcome, same, say, say_name};
 use mask_bits::{BitBuffer, BitBufferMut};
@@ -29,17 +30,13 @@ fn new_builders(rt: HostRuntime) {
         (
             "BitBufferMut::with_capacity",
             Source::WithCapacity,
-            Want::TrueAt(0, &[]),
+            TrueAt(0, &[]),
         ),
-        (
-            "BitBufferMut::new_set",
-            Source::NewSet,
-            Want::FalseAt(130, &[]),
-        ),
+        ("BitBufferMut::new_set", Source::NewSet, FalseAt(130, &[])),
         (
             "BitBufferMut::new_unset",
             Source::NewUnset,
-            Want::TrueAt(130, &[]),
+            TrueAt(130, &[]),
         ),
     ] {
         say_name(&rt, name);
@@ -104,10 +101,7 @@ fn call_append(
 // Each twice: a builder that refused is called again, or its values are looked at.
 #[test]
 fn appends(rt: HostRuntime) {
-    let (word, buffer) = (
-        Want::TrueAt(134, &[69, 70, 133]),
-        Want::TrueAt(200, &[69, 70, 199]),
-    );
+    let (word, buffer) = (TrueAt(134, &[69, 70, 133]), TrueAt(200, &[69, 70, 199]));
     for (name, call, want, calls_again) in [
         ("push_word", Append::Word, word, true),
         ("push_word, looked at", Append::Word, word, false),
@@ -121,7 +115,7 @@ fn appends(rt: HostRuntime) {
     }
 }
 
-const ONES_FROM_69: Want = Want::FalseAt(130, BELOW_69);
+const ONES_FROM_69: Want = FalseAt(130, BELOW_69);
 
 const BELOW_69: &[usize] = &[
     0, 1, 2, 3, 4, 5, 6, 7, 8, 9, 10, 11, 12, 13, 14, 15, 16, 17, 18, 19, 20, 21, 22, 23, 24, 25,
@@ -160,7 +154,7 @@ fn append_in_turn<R: Abort + Print>(
         );
         holds(rt, builder, want);
     } else {
-        holds(rt, builder, Want::TrueAt(70, &[69]));
+        holds(rt, builder, TrueAt(70, &[69]));
         say(rt, "looked at");
     }
 }
@@ -184,7 +178,7 @@ fn freeze(rt: HostRuntime) {
 }
 
 fn freeze_in_turn<R: Abort + Print>(rt: &R, first: BitBufferMut, second: BitBufferMut) {
-    let want = Want::TrueAt(70, &[69]);
+    let want = TrueAt(70, &[69]);
     say(rt, "calls");
     if !is_packed(rt, first.freeze(), want) {
         say(rt, "calls");

@@ -3,6 +3,7 @@ ghost use Rattle.std.specs.Prelude.{IfOk};
 ghost use Rattle.mask_bits.specs.Buffer.{values};
 ghost use Rattle.mask_bits.specs.Runs.{AreRanges};
 
+use super::Want::{FalseAt, TrueAt};
 use super::{Want, are_alike_packed, bits_of, outcome, say, say_name};
 use mask_bits::BitBuffer;
 use std::alloc::Global;
@@ -47,25 +48,21 @@ fn mask_of(alloc: Global, source: Source) -> Result<Mask, MaskError> {
 #[test]
 fn of_iterators(rt: HostRuntime) {
     for (name, source, want) in [
-        (
-            "from_bools",
-            Source::Bools,
-            Want::TrueAt(130, &[1, 65, 129]),
-        ),
+        ("from_bools", Source::Bools, TrueAt(130, &[1, 65, 129])),
         (
             "from_indices",
             Source::Indices,
-            Want::TrueAt(130, &[0, 63, 64, 129]),
+            TrueAt(130, &[0, 63, 64, 129]),
         ),
         (
             "from_excluded_indices",
             Source::Excluded,
-            Want::FalseAt(130, &[1, 64]),
+            FalseAt(130, &[1, 64]),
         ),
         (
             "from_intersection_indices",
             Source::Common,
-            Want::TrueAt(130, &[1, 2, 3, 65, 66, 129]),
+            TrueAt(130, &[1, 2, 3, 65, 66, 129]),
         ),
     ] {
         say_name(&rt, name);
@@ -94,7 +91,7 @@ fn of_a_buffer(rt: HostRuntime) {
         bits_of(rt.alloc(), 130, places),
     ) {
         (Ok(buffer), Ok(copy)) => {
-            from_buffer_in_turn(&rt, &buffer, Want::TrueAt(130, &[0, 63, 64, 129]));
+            from_buffer_in_turn(&rt, &buffer, TrueAt(130, &[0, 63, 64, 129]));
             are_alike_packed(&rt, &buffer, &copy);
         }
         _ => say(&rt, "not prepared"),
@@ -128,13 +125,13 @@ fn of_ranges(rt: HostRuntime) {
             "from_slices of ranges",
             10,
             [(0, 3), (5, 7), (9, 10)].as_slice(),
-            Want::TrueAt(10, &[0, 1, 2, 5, 6, 9]),
+            TrueAt(10, &[0, 1, 2, 5, 6, 9]),
         ),
         (
             "from_slices of touching ranges",
             8,
             [(1, 3), (3, 4), (6, 8)].as_slice(),
-            Want::FalseAt(8, &[0, 4, 5]),
+            FalseAt(8, &[0, 4, 5]),
         ),
     ] {
         say_name(&rt, name);
@@ -167,7 +164,7 @@ pub(super) fn from_slices_in_turn<R: Abort + Print + AllocGlobal>(
 fn of_a_buffer_and_ranges(rt: HostRuntime) {
     say_name(&rt, "from_buffer_with_slices");
     let ranges = [(1, 3), (3, 4), (6, 8)].as_slice();
-    from_buffer_with_slices_in_turn(&rt, 8, ranges, Want::FalseAt(8, &[0, 4, 5]));
+    from_buffer_with_slices_in_turn(&rt, 8, ranges, FalseAt(8, &[0, 4, 5]));
 }
 
 // A buffer that is true in some ranges, and these twice.

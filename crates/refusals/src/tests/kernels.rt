@@ -5,6 +5,7 @@ ghost use Rattle.std.specs.Prelude.{◌<◌, All, IfOk, length};
 ghost use Rattle.std.specs.List.Sorted.{IsStrictlyIncreasing};
 ghost use Rattle.mask_bits.specs.Buffer.{values};
 
+use super::Want::TrueAt;
 use super::masks::{Call, try_row};
 use super::{EVENS, Operand, Sample, THREE_OF_SIX, WORD_EDGES, Want, outcome, same, say, say_name};
 use mask_bits::BitBuffer;
@@ -28,16 +29,16 @@ const FIVE_AND_150: Sample = Sample::Bits(200, &[5, 150]);
 
 const SECOND_OF_2: Sample = Sample::Bits(2, &[1]);
 
-const OF_EDGES: Want = Want::TrueAt(130, &[63, 64, 129]);
+const OF_EDGES: Want = TrueAt(130, &[63, 64, 129]);
 
-const OF_EVENS: Want = Want::TrueAt(128, &[6, 20, 126]);
+const OF_EVENS: Want = TrueAt(128, &[6, 20, 126]);
 
 // A path by its name, and masks that go by it.
 type PathRow = (&'static str, RankPath, Sample, Sample, Want);
 
-const INDICES: Want = Want::TrueAt(130, &[63]);
+const INDICES: Want = TrueAt(130, &[63]);
 
-const DRIVEN: Want = Want::TrueAt(128, &[126]);
+const DRIVEN: Want = TrueAt(128, &[126]);
 
 const PATHS: [PathRow; 5] = [
     ("Indices", RankPath::Indices, WORD_EDGES, ONE_OF_6, INDICES),
@@ -260,6 +261,6 @@ fn counted(rt: HostRuntime) {
 }
 
 fn try_few<R: Abort + Print + AllocGlobal>(rt: &R, call: Call) {
-    let want = Want::TrueAt(200, &[150]);
+    let want = TrueAt(200, &[150]);
     try_row(rt, call, (FIVE_AND_150, SECOND_OF_2), &want);
 }

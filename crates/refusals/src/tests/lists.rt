@@ -1,6 +1,7 @@
 // Calls that take a mask and answer no mask.
 ghost use Rattle.std.specs.List.Sorted.{IsNonDecreasing};
 
+use super::Want::{FalseAt, TrueAt};
 use super::{
     EVENS, Operand, Sample, THREE_RANGES, TOUCHING_RANGES, WORD_EDGES, Want, hold_alike, outcome,
     same, say, say_name,
@@ -98,26 +99,22 @@ fn in_turn<R: Abort + Print + AllocGlobal>(rt: &R, call: Call, operand: &Operand
     panic!(rt; "refused once more");
 }
 
-const ROWS: &[u32] = &[20, 21, 22, 23, 24, 25, 26, 27, 28, 29];
+const TEN: &[u32] = &[20, 21, 22, 23, 24, 25, 26, 27, 28, 29];
 
 #[test]
 fn lists_of_a_mask(rt: HostRuntime) {
     let rows: [Row; 7] = [
         (
             "choose by ranges",
-            Call::Choose(ROWS, &[20, 21, 22, 25, 26, 29]),
+            Call::Choose(TEN, &[20, 21, 22, 25, 26, 29]),
             THREE_RANGES,
         ),
         (
             "choose by touching ranges",
-            Call::Choose(FEWER, &[21, 22, 23, 26, 27]),
+            Call::Choose(EIGHT, &[21, 22, 23, 26, 27]),
             TOUCHING_RANGES,
         ),
-        (
-            "choose by all",
-            Call::Choose(ROWS, ROWS),
-            Sample::AllTrue(10),
-        ),
+        ("choose by all", Call::Choose(TEN, TEN), Sample::AllTrue(10)),
         (
             "MaskValues::clone of word edges",
             Call::CloneValues,
@@ -142,7 +139,7 @@ fn lists_of_a_mask(rt: HostRuntime) {
     try_rows(&rt, &rows);
 }
 
-const FEWER: &[u32] = &[20, 21, 22, 23, 24, 25, 26, 27];
+const EIGHT: &[u32] = &[20, 21, 22, 23, 24, 25, 26, 27];
 
 #[test]
 fn counts_of_a_mask(rt: HostRuntime) {
@@ -178,26 +175,27 @@ fn counts_of_a_mask(rt: HostRuntime) {
 
 #[test]
 fn buffers_of_masks_of_one_value(rt: HostRuntime) {
-    let (all, none) = (Want::FalseAt(130, &[]), Want::TrueAt(130, &[]));
+    const ALL: Want = FalseAt(130, &[]);
+    const NONE: Want = TrueAt(130, &[]);
     let rows: [Row; 4] = [
         (
             "to_bit_buffer of all",
-            Call::ToBitBuffer(all),
+            Call::ToBitBuffer(ALL),
             Sample::AllTrue(130),
         ),
         (
             "to_bit_buffer of none",
-            Call::ToBitBuffer(none),
+            Call::ToBitBuffer(NONE),
             Sample::AllFalse(130),
         ),
         (
             "into_bit_buffer of all",
-            Call::IntoBitBuffer(all),
+            Call::IntoBitBuffer(ALL),
             Sample::AllTrue(130),
         ),
         (
             "into_bit_buffer of none",
-            Call::IntoBitBuffer(none),
+            Call::IntoBitBuffer(NONE),
             Sample::AllFalse(130),
         ),
     ];

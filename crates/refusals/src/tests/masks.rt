@@ -1,8 +1,10 @@
 // Calls that take masks and answer a mask.
+use super::Want::{FalseAt, InTurnFrom, TrueAt};
 use super::{
     EVENS, OF_8, OF_10, OF_128, OF_130, Operand, Sample, THREE_OF_SIX, THREE_RANGES,
     TOUCHING_RANGES, WORD_EDGES, Want, outcome, same, say, say_name,
 };
+use Call::{And, AndNot, Concat, FromMasks, IntoAnd, IntoNot, IntoOr, Limit, Not, Or, Slice};
 use std::alloc::Global;
 use std::process::Abort;
 use vortex_mask::{Mask, MaskError};
@@ -130,42 +132,42 @@ const NO_OTHER: Sample = Sample::AllFalse(0);
 
 #[test]
 fn pointwise_calls(rt: HostRuntime) {
-    const BOTH: Want = Want::TrueAt(130, &[0, 64, 129]);
-    const ANY: Want = Want::TrueAt(130, &[0, 63, 64, 100, 127, 128, 129]);
-    const FIRST: Want = Want::TrueAt(130, &[63, 127, 128]);
+    const BOTH: Want = TrueAt(130, &[0, 64, 129]);
+    const ANY: Want = TrueAt(130, &[0, 63, 64, 100, 127, 128, 129]);
+    const FIRST: Want = TrueAt(130, &[63, 127, 128]);
     let rows: [Row; 9] = [
-        ("bitand", Call::And, WORD_EDGES, OF_130, BOTH),
-        ("bitor", Call::Or, WORD_EDGES, OF_130, ANY),
-        ("into_bitand", Call::IntoAnd, WORD_EDGES, OF_130, BOTH),
-        ("into_bitor", Call::IntoOr, WORD_EDGES, OF_130, ANY),
-        ("bitand_not", Call::AndNot, WORD_EDGES, OF_130, FIRST),
+        ("bitand", And, WORD_EDGES, OF_130, BOTH),
+        ("bitor", Or, WORD_EDGES, OF_130, ANY),
+        ("into_bitand", IntoAnd, WORD_EDGES, OF_130, BOTH),
+        ("into_bitor", IntoOr, WORD_EDGES, OF_130, ANY),
+        ("bitand_not", AndNot, WORD_EDGES, OF_130, FIRST),
         (
             "bitand of ranges",
-            Call::And,
+            And,
             THREE_RANGES,
             OF_10,
-            Want::TrueAt(10, &[1, 5]),
+            TrueAt(10, &[1, 5]),
         ),
         (
             "bitor of ranges",
-            Call::Or,
+            Or,
             THREE_RANGES,
             OF_10,
-            Want::FalseAt(10, &[3, 4, 8]),
+            FalseAt(10, &[3, 4, 8]),
         ),
         (
             "bitand_not of ranges",
-            Call::AndNot,
+            AndNot,
             THREE_RANGES,
             OF_10,
-            Want::TrueAt(10, &[0, 2, 6, 9]),
+            TrueAt(10, &[0, 2, 6, 9]),
         ),
         (
             "bitand_not of all",
-            Call::AndNot,
+            AndNot,
             Sample::AllTrue(10),
             OF_10,
-            Want::FalseAt(10, &[1, 5, 7]),
+            FalseAt(10, &[1, 5, 7]),
         ),
     ];
     try_rows(&rt, &rows);
@@ -173,38 +175,33 @@ fn pointwise_calls(rt: HostRuntime) {
 
 #[test]
 fn pointwise_calls_of_other_operands(rt: HostRuntime) {
-    let (both, first) = (Want::TrueAt(128, &[0, 64]), Want::TrueAt(8, &[2, 3, 6, 7]));
-    let any = Want::FalseAt(8, &[4, 5]);
+    const BOTH: Want = TrueAt(128, &[0, 64]);
+    const FIRST: Want = TrueAt(8, &[2, 3, 6, 7]);
+    const ANY: Want = FalseAt(8, &[4, 5]);
     let rows: [Row; 6] = [
-        ("bitand of evens", Call::And, EVENS, OF_128, both),
-        ("into_bitand of evens", Call::IntoAnd, EVENS, OF_128, both),
-        (
-            "bitor of touching ranges",
-            Call::Or,
-            TOUCHING_RANGES,
-            OF_8,
-            any,
-        ),
+        ("bitand of evens", And, EVENS, OF_128, BOTH),
+        ("into_bitand of evens", IntoAnd, EVENS, OF_128, BOTH),
+        ("bitor of touching ranges", Or, TOUCHING_RANGES, OF_8, ANY),
         (
             "into_bitor of touching ranges",
-            Call::IntoOr,
+            IntoOr,
             TOUCHING_RANGES,
             OF_8,
-            any,
+            ANY,
         ),
         (
             "bitand_not of touching ranges",
-            Call::AndNot,
+            AndNot,
             TOUCHING_RANGES,
             OF_8,
-            first,
+            FIRST,
         ),
         (
             "bitand_not by touching ranges",
-            Call::AndNot,
+            AndNot,
             OF_8,
             TOUCHING_RANGES,
-            Want::TrueAt(8, &[0]),
+            TrueAt(8, &[0]),
         ),
     ];
     try_rows(&rt, &rows);
@@ -212,37 +209,31 @@ fn pointwise_calls_of_other_operands(rt: HostRuntime) {
 
 #[test]
 fn negations(rt: HostRuntime) {
-    const OTHERS: Want = Want::TrueAt(8, &[0, 4, 5]);
+    const OTHERS: Want = TrueAt(8, &[0, 4, 5]);
     let rows: [Row; 6] = [
-        (
-            "not of evens",
-            Call::Not,
-            EVENS,
-            NO_OTHER,
-            Want::InTurnFrom(128, 1),
-        ),
+        ("not of evens", Not, EVENS, NO_OTHER, InTurnFrom(128, 1)),
         (
             "into_not of ranges",
-            Call::IntoNot,
+            IntoNot,
             THREE_RANGES,
             NO_OTHER,
-            Want::TrueAt(10, &[3, 4, 7, 8]),
+            TrueAt(10, &[3, 4, 7, 8]),
         ),
-        ("not", Call::Not, TOUCHING_RANGES, NO_OTHER, OTHERS),
-        ("into_not", Call::IntoNot, TOUCHING_RANGES, NO_OTHER, OTHERS),
+        ("not", Not, TOUCHING_RANGES, NO_OTHER, OTHERS),
+        ("into_not", IntoNot, TOUCHING_RANGES, NO_OTHER, OTHERS),
         (
             "not of three of six",
-            Call::Not,
+            Not,
             THREE_OF_SIX,
             NO_OTHER,
-            Want::TrueAt(6, &[0, 3, 4]),
+            TrueAt(6, &[0, 3, 4]),
         ),
         (
             "not at an offset",
-            Call::Not,
+            Not,
             Sample::AtOffset,
             NO_OTHER,
-            Want::TrueAt(5, &[1, 4]),
+            TrueAt(5, &[1, 4]),
         ),
     ];
     try_rows(&rt, &rows);
@@ -253,52 +244,52 @@ fn parts(rt: HostRuntime) {
     let rows: [Row; 7] = [
         (
             "slice of word edges",
-            Call::Slice(1, 129),
+            Slice(1, 129),
             WORD_EDGES,
             NO_OTHER,
-            Want::TrueAt(128, &[62, 63, 126, 127]),
+            TrueAt(128, &[62, 63, 126, 127]),
         ),
         (
             "slice of evens",
-            Call::Slice(62, 70),
+            Slice(62, 70),
             EVENS,
             NO_OTHER,
-            Want::TrueAt(8, &[0, 2, 4, 6]),
+            TrueAt(8, &[0, 2, 4, 6]),
         ),
         (
             "slice of ranges",
-            Call::Slice(2, 7),
+            Slice(2, 7),
             THREE_RANGES,
             NO_OTHER,
-            Want::TrueAt(5, &[0, 3, 4]),
+            TrueAt(5, &[0, 3, 4]),
         ),
         (
             "slice of touching ranges",
-            Call::Slice(2, 7),
+            Slice(2, 7),
             TOUCHING_RANGES,
             NO_OTHER,
-            Want::TrueAt(5, &[0, 1, 4]),
+            TrueAt(5, &[0, 1, 4]),
         ),
         (
             "limit of word edges",
-            Call::Limit(2),
+            Limit(2),
             WORD_EDGES,
             NO_OTHER,
-            Want::TrueAt(130, &[0, 63]),
+            TrueAt(130, &[0, 63]),
         ),
         (
             "limit of evens",
-            Call::Limit(3),
+            Limit(3),
             EVENS,
             NO_OTHER,
-            Want::TrueAt(128, &[0, 2, 4]),
+            TrueAt(128, &[0, 2, 4]),
         ),
         (
             "limit of all",
-            Call::Limit(2),
+            Limit(2),
             Sample::AllTrue(5),
             NO_OTHER,
-            Want::TrueAt(5, &[0, 1]),
+            TrueAt(5, &[0, 1]),
         ),
     ];
     try_rows(&rt, &rows);
@@ -306,28 +297,22 @@ fn parts(rt: HostRuntime) {
 
 #[test]
 fn concat(rt: HostRuntime) {
-    const BOTH_LISTS: Want = Want::TrueAt(18, &[0, 1, 2, 5, 6, 9, 11, 12, 13, 16, 17]);
+    const BOTH_LISTS: Want = TrueAt(18, &[0, 1, 2, 5, 6, 9, 11, 12, 13, 16, 17]);
     let rows: [Row; 3] = [
-        (
-            "concat",
-            Call::Concat,
-            THREE_RANGES,
-            TOUCHING_RANGES,
-            BOTH_LISTS,
-        ),
+        ("concat", Concat, THREE_RANGES, TOUCHING_RANGES, BOTH_LISTS),
         (
             "from_masks",
-            Call::FromMasks,
+            FromMasks,
             THREE_RANGES,
             TOUCHING_RANGES,
             BOTH_LISTS,
         ),
         (
             "concat of both values",
-            Call::Concat,
+            Concat,
             Sample::AllTrue(2),
             Sample::AllFalse(3),
-            Want::TrueAt(5, &[0, 1]),
+            TrueAt(5, &[0, 1]),
         ),
     ];
     try_rows(&rt, &rows);

@@ -1,4 +1,5 @@
 // Calls of packed bits, on buffers of 130 bits at offset 3.
+use super::Want::{FalseAt, TrueAt};
 use super::{Want, are_alike_packed, bits_of, outcome, same, say, say_name};
 use mask_bits::BitBuffer;
 use std::alloc::{AllocError, Global};
@@ -138,21 +139,17 @@ fn in_turn<R: Abort + Print + AllocGlobal>(rt: &R, call: Call, operands: &Operan
 #[test]
 fn buffers(rt: HostRuntime) {
     let rows: [Row; 4] = [
-        ("BitBuffer::new_set", Call::NewSet, Want::FalseAt(130, &[])),
-        (
-            "BitBuffer::new_unset",
-            Call::NewUnset,
-            Want::TrueAt(130, &[]),
-        ),
+        ("BitBuffer::new_set", Call::NewSet, FalseAt(130, &[])),
+        ("BitBuffer::new_unset", Call::NewUnset, TrueAt(130, &[])),
         (
             "BitBuffer::from_indices",
             Call::FromIndices,
-            Want::TrueAt(130, &[0, 64, 129]),
+            TrueAt(130, &[0, 64, 129]),
         ),
         (
             "BitBuffer::from_bools",
             Call::FromBools,
-            Want::TrueAt(130, &[1, 65, 129]),
+            TrueAt(130, &[1, 65, 129]),
         ),
     ];
     try_rows(&rt, &rows);
@@ -161,25 +158,21 @@ fn buffers(rt: HostRuntime) {
 #[test]
 fn pointwise_calls(rt: HostRuntime) {
     let rows: [Row; 4] = [
-        (
-            "BitBuffer::bitand",
-            Call::And,
-            Want::TrueAt(130, &[0, 64, 129]),
-        ),
+        ("BitBuffer::bitand", Call::And, TrueAt(130, &[0, 64, 129])),
         (
             "BitBuffer::bitor",
             Call::Or,
-            Want::TrueAt(130, &[0, 63, 64, 100, 127, 129]),
+            TrueAt(130, &[0, 63, 64, 100, 127, 129]),
         ),
         (
             "BitBuffer::bitand_not",
             Call::AndNot,
-            Want::TrueAt(130, &[63, 127]),
+            TrueAt(130, &[63, 127]),
         ),
         (
             "BitBuffer::not",
             Call::Not,
-            Want::FalseAt(130, &[0, 63, 64, 127, 129]),
+            FalseAt(130, &[0, 63, 64, 127, 129]),
         ),
     ];
     try_rows(&rt, &rows);
@@ -200,7 +193,7 @@ fn of_bytes(rt: HostRuntime) {
 fn of_bytes_in_turn<R: Abort + Print>(rt: &R, first: Vec<u8>, second: Vec<u8>) {
     same(rt, first.len(), 2);
     same(rt, second.len(), 2);
-    let want = Want::TrueAt(16, &[0, 15]);
+    let want = TrueAt(16, &[0, 15]);
     say(rt, "calls");
     if !is_packed(rt, BitBuffer::from_vec(first, 16), want) {
         say(rt, "calls");

@@ -1,6 +1,10 @@
 // Calls that are promised to need no memory.
+use super::Want::{FalseAt, TrueAt};
 use super::constructors::{
     from_buffer_in_turn, from_buffer_with_slices_in_turn, from_slices_in_turn,
+};
+use super::masks::Call::{
+    And, AndNot, IntoAnd, IntoNot, IntoOr, Limit, Narrow, NarrowCounted, Not, Or, Slice,
 };
 use super::masks::{Call, Row, try_rows};
 use super::{OF_10, Sample, THREE_RANGES, Want, lent, lists, say, say_name};
@@ -14,35 +18,23 @@ const NONE: Sample = Sample::AllFalse(10);
 
 const NO_OTHER: Sample = Sample::AllFalse(0);
 
-const EACH: Want = Want::FalseAt(10, &[]);
+const EACH: Want = FalseAt(10, &[]);
 
-const NO_VALUE: Want = Want::TrueAt(10, &[]);
+const NO_VALUE: Want = TrueAt(10, &[]);
 
-const PLACES: Want = Want::TrueAt(10, &[1, 5, 7]);
+const PLACES: Want = TrueAt(10, &[1, 5, 7]);
 
 #[test]
 fn masks_of_one_value(rt: HostRuntime) {
     let rows: [Row; 8] = [
         ("clone of all", Call::Clone, ALL, NO_OTHER, EACH),
         ("clone of none", Call::Clone, NONE, NO_OTHER, NO_VALUE),
-        (
-            "slice of all",
-            Call::Slice(2, 5),
-            ALL,
-            NO_OTHER,
-            Want::FalseAt(3, &[]),
-        ),
-        (
-            "slice of none",
-            Call::Slice(2, 5),
-            NONE,
-            NO_OTHER,
-            Want::TrueAt(3, &[]),
-        ),
-        ("not of all", Call::Not, ALL, NO_OTHER, NO_VALUE),
-        ("not of none", Call::Not, NONE, NO_OTHER, EACH),
-        ("into_not of all", Call::IntoNot, ALL, NO_OTHER, NO_VALUE),
-        ("into_not of none", Call::IntoNot, NONE, NO_OTHER, EACH),
+        ("slice of all", Slice(2, 5), ALL, NO_OTHER, FalseAt(3, &[])),
+        ("slice of none", Slice(2, 5), NONE, NO_OTHER, TrueAt(3, &[])),
+        ("not of all", Not, ALL, NO_OTHER, NO_VALUE),
+        ("not of none", Not, NONE, NO_OTHER, EACH),
+        ("into_not of all", IntoNot, ALL, NO_OTHER, NO_VALUE),
+        ("into_not of none", IntoNot, NONE, NO_OTHER, EACH),
     ];
     try_rows(&rt, &rows);
 }
@@ -50,23 +42,11 @@ fn masks_of_one_value(rt: HostRuntime) {
 #[test]
 fn limits(rt: HostRuntime) {
     let rows: [Row; 5] = [
-        (
-            "limit by the count",
-            Call::Limit(3),
-            OF_10,
-            NO_OTHER,
-            PLACES,
-        ),
-        (
-            "limit past the count",
-            Call::Limit(9),
-            OF_10,
-            NO_OTHER,
-            PLACES,
-        ),
-        ("limit 0", Call::Limit(0), OF_10, NO_OTHER, NO_VALUE),
-        ("limit 0 of all", Call::Limit(0), ALL, NO_OTHER, NO_VALUE),
-        ("limit of none", Call::Limit(4), NONE, NO_OTHER, NO_VALUE),
+        ("limit by the count", Limit(3), OF_10, NO_OTHER, PLACES),
+        ("limit past the count", Limit(9), OF_10, NO_OTHER, PLACES),
+        ("limit 0", Limit(0), OF_10, NO_OTHER, NO_VALUE),
+        ("limit 0 of all", Limit(0), ALL, NO_OTHER, NO_VALUE),
+        ("limit of none", Limit(4), NONE, NO_OTHER, NO_VALUE),
     ];
     try_rows(&rt, &rows);
 }
@@ -74,16 +54,16 @@ fn limits(rt: HostRuntime) {
 #[test]
 fn pointwise_calls_of_one_value(rt: HostRuntime) {
     let rows: [Row; 10] = [
-        ("all and all", Call::And, ALL, ALL, EACH),
-        ("all and none", Call::And, ALL, NONE, NO_VALUE),
-        ("none or none", Call::Or, NONE, NONE, NO_VALUE),
-        ("all or none", Call::Or, ALL, NONE, EACH),
-        ("all and not none", Call::AndNot, ALL, NONE, EACH),
-        ("none and not none", Call::AndNot, NONE, NONE, NO_VALUE),
-        ("all into_bitand all", Call::IntoAnd, ALL, ALL, EACH),
-        ("none into_bitand all", Call::IntoAnd, NONE, ALL, NO_VALUE),
-        ("none into_bitor none", Call::IntoOr, NONE, NONE, NO_VALUE),
-        ("all into_bitor none", Call::IntoOr, ALL, NONE, EACH),
+        ("all and all", And, ALL, ALL, EACH),
+        ("all and none", And, ALL, NONE, NO_VALUE),
+        ("none or none", Or, NONE, NONE, NO_VALUE),
+        ("all or none", Or, ALL, NONE, EACH),
+        ("all and not none", AndNot, ALL, NONE, EACH),
+        ("none and not none", AndNot, NONE, NONE, NO_VALUE),
+        ("all into_bitand all", IntoAnd, ALL, ALL, EACH),
+        ("none into_bitand all", IntoAnd, NONE, ALL, NO_VALUE),
+        ("none into_bitor none", IntoOr, NONE, NONE, NO_VALUE),
+        ("all into_bitor none", IntoOr, ALL, NONE, EACH),
     ];
     try_rows(&rt, &rows);
 }
@@ -91,28 +71,16 @@ fn pointwise_calls_of_one_value(rt: HostRuntime) {
 #[test]
 fn where_one_side_decides(rt: HostRuntime) {
     let rows: [Row; 10] = [
-        ("mixed and none", Call::And, OF_10, NONE, NO_VALUE),
-        ("none and mixed", Call::And, NONE, OF_10, NO_VALUE),
-        ("mixed or all", Call::Or, OF_10, ALL, EACH),
-        ("all or mixed", Call::Or, ALL, OF_10, EACH),
-        ("none and not mixed", Call::AndNot, NONE, OF_10, NO_VALUE),
-        ("mixed and not all", Call::AndNot, OF_10, ALL, NO_VALUE),
-        (
-            "mixed into_bitand none",
-            Call::IntoAnd,
-            OF_10,
-            NONE,
-            NO_VALUE,
-        ),
-        (
-            "none into_bitand mixed",
-            Call::IntoAnd,
-            NONE,
-            OF_10,
-            NO_VALUE,
-        ),
-        ("mixed into_bitor all", Call::IntoOr, OF_10, ALL, EACH),
-        ("all into_bitor mixed", Call::IntoOr, ALL, OF_10, EACH),
+        ("mixed and none", And, OF_10, NONE, NO_VALUE),
+        ("none and mixed", And, NONE, OF_10, NO_VALUE),
+        ("mixed or all", Or, OF_10, ALL, EACH),
+        ("all or mixed", Or, ALL, OF_10, EACH),
+        ("none and not mixed", AndNot, NONE, OF_10, NO_VALUE),
+        ("mixed and not all", AndNot, OF_10, ALL, NO_VALUE),
+        ("mixed into_bitand none", IntoAnd, OF_10, NONE, NO_VALUE),
+        ("none into_bitand mixed", IntoAnd, NONE, OF_10, NO_VALUE),
+        ("mixed into_bitor all", IntoOr, OF_10, ALL, EACH),
+        ("all into_bitor mixed", IntoOr, ALL, OF_10, EACH),
     ];
     try_rows(&rt, &rows);
 }
@@ -120,9 +88,9 @@ fn where_one_side_decides(rt: HostRuntime) {
 #[test]
 fn where_the_operand_is_the_result(rt: HostRuntime) {
     let rows: [Row; 3] = [
-        ("mixed into_bitand all", Call::IntoAnd, OF_10, ALL, PLACES),
-        ("mixed into_bitor none", Call::IntoOr, OF_10, NONE, PLACES),
-        ("mixed and not none", Call::AndNot, OF_10, NONE, PLACES),
+        ("mixed into_bitand all", IntoAnd, OF_10, ALL, PLACES),
+        ("mixed into_bitor none", IntoOr, OF_10, NONE, PLACES),
+        ("mixed and not none", AndNot, OF_10, NONE, PLACES),
     ];
     try_rows(&rt, &rows);
 }
@@ -134,34 +102,28 @@ const NO_VALUE_AT_ALL: Sample = Sample::AllTrue(0);
 #[test]
 fn rank_intersections(rt: HostRuntime) {
     let rows: [Row; 4] = [
-        ("all by all", Call::Narrow, ALL, ALL, EACH),
-        ("all by none", Call::Narrow, ALL, NONE, NO_VALUE),
-        (
-            "none by no value",
-            Call::Narrow,
-            NONE,
-            NO_VALUE_AT_ALL,
-            NO_VALUE,
-        ),
-        ("mixed by none", Call::Narrow, OF_10, NO_RANK, NO_VALUE),
+        ("all by all", Narrow, ALL, ALL, EACH),
+        ("all by none", Narrow, ALL, NONE, NO_VALUE),
+        ("none by no value", Narrow, NONE, NO_VALUE_AT_ALL, NO_VALUE),
+        ("mixed by none", Narrow, OF_10, NO_RANK, NO_VALUE),
     ];
     try_rows(&rt, &rows);
 }
 
 #[test]
 fn counted(rt: HostRuntime) {
-    let call = Call::NarrowCounted;
+    const CALL: Call = NarrowCounted;
     let rows: [Row; 4] = [
-        ("all by all, counted", call, ALL, ALL, EACH),
-        ("all by none, counted", call, ALL, NONE, NO_VALUE),
+        ("all by all, counted", CALL, ALL, ALL, EACH),
+        ("all by none, counted", CALL, ALL, NONE, NO_VALUE),
         (
             "none by no value, counted",
-            call,
+            CALL,
             NONE,
             NO_VALUE_AT_ALL,
             NO_VALUE,
         ),
-        ("mixed by none, counted", call, OF_10, NO_RANK, NO_VALUE),
+        ("mixed by none, counted", CALL, OF_10, NO_RANK, NO_VALUE),
     ];
     try_rows(&rt, &rows);
 }
@@ -177,9 +139,9 @@ fn of_a_buffer(rt: HostRuntime) {
     ] {
         say_name(&rt, name);
         let want = if value {
-            Want::FalseAt(len, &[])
+            FalseAt(len, &[])
         } else {
-            Want::TrueAt(len, &[])
+            TrueAt(len, &[])
         };
         match bits_of_one_value(rt.alloc(), len, value) {
             Ok(buffer) => from_buffer_in_turn(&rt, &buffer, want),
@@ -199,23 +161,13 @@ fn bits_of_one_value(alloc: Global, len: usize, value: bool) -> Result<BitBuffer
 #[test]
 fn of_ranges(rt: HostRuntime) {
     for (name, len, ranges, want) in [
-        (
-            "from_slices of no values",
-            0,
-            [].as_slice(),
-            Want::TrueAt(0, &[]),
-        ),
-        (
-            "from_slices of no range",
-            8,
-            [].as_slice(),
-            Want::TrueAt(8, &[]),
-        ),
+        ("from_slices of no values", 0, [].as_slice(), TrueAt(0, &[])),
+        ("from_slices of no range", 8, [].as_slice(), TrueAt(8, &[])),
         (
             "from_slices of all",
             8,
             [(0, 3), (3, 8)].as_slice(),
-            Want::FalseAt(8, &[]),
+            FalseAt(8, &[]),
         ),
     ] {
         say_name(&rt, name);
@@ -230,19 +182,19 @@ fn of_a_buffer_and_ranges(rt: HostRuntime) {
             "from_buffer_with_slices of no values",
             0,
             [].as_slice(),
-            Want::TrueAt(0, &[]),
+            TrueAt(0, &[]),
         ),
         (
             "from_buffer_with_slices of no range",
             8,
             [].as_slice(),
-            Want::TrueAt(8, &[]),
+            TrueAt(8, &[]),
         ),
         (
             "from_buffer_with_slices of all",
             8,
             [(0, 8)].as_slice(),
-            Want::FalseAt(8, &[]),
+            FalseAt(8, &[]),
         ),
     ] {
         say_name(&rt, name);
