@@ -1,5 +1,5 @@
 -- The bits that the loops over words write and compare.
-use Rattle.std.proofs.Common.{◌≡◌, nat_eq, ℕ, ◌+◌, ◌*◌, ◌-◌, ◌/◌, ◌%◌, ◌<◌, ◌≤◌, ◌⊎◌, Bool, false, List, ◌++◌, length, get_or, take, drop, slice_range, sym, subst, ap, ◌∙◌, inl, inr, arith, ap₂}
+use Rattle.std.proofs.Common.{◌≡◌, nat_eq, ℕ, ◌+◌, ◌*◌, ◌-◌, ◌/◌, ◌%◌, ◌<◌, ◌≤◌, ◌⊎◌, Bool, false, List, ◌++◌, length, get_or, take, drop, slice_range, sym, ap, ◌∙◌, inl, inr, arith, ap₂}
 use Rattle.std.specs.Int.{bit_at}
 use Rattle.std.proofs.lemmas.Bool.{cases_lt}
 use Rattle.std.proofs.lemmas.List.{ext_get_or, get_or-drop, take-append-le, take_all, length-append, get_or_append_left, get_or-append_right}
@@ -7,13 +7,10 @@ use Rattle.std.proofs.lemmas.List.Edits.{length-between, get_or-between}
 use Rattle.mask_bits.specs.Buffer.{Packed, IsWithinBytes, backing_bit, values}
 use Rattle.mask_bits.specs.Combine.{AreCombined}
 use Rattle.mask_bits.specs.Lists.{combined}
-use Rattle.mask_bits.specs.Positions.{count}
 use Rattle.mask_bits.specs.Words.{word_bits, window}
 use Rattle.mask_bits.proofs.BufferLemmas.{length-values, get_or-values, values_from_front}
 use Rattle.mask_bits.proofs.Lists.BooleanLemmas.{length-combined, get_or-combined}
-use Rattle.mask_bits.proofs.Lists.BitsLemmas.{bits_at, bits_at-append}
-use Rattle.mask_bits.proofs.Lists.CountLemmas.{count-append}
-use Rattle.mask_bits.proofs.Lists.FrontLemmas.{length-window, get_or-window, window-between, window_from_bits, front-same}
+use Rattle.mask_bits.proofs.Lists.FrontLemmas.{length-window, get_or-window, window-between, window_from_bits}
 use Rattle.mask_bits.proofs.Lists.WordLemmas.{length-word_bits, get_or-word_bits}
 
 -- ---- windows
@@ -83,23 +80,6 @@ values-combined f a b out from_a from_b p q len words is_a is_b wrote enough =
     let bit_a = ap (λ (xs : List ℕ). backing_bit xs (p % 8 + i)) is_a ∙ backing_bit-drop a p i ∙ sym (get_or-values va i false h) in
     let bit_b = ap (λ (xs : List ℕ). backing_bit xs (q % 8 + i)) is_b ∙ backing_bit-drop b q i ∙ sym (get_or-values vb i false h) in
     wrote i (omega arith) ∙ ap₂ f bit_a bit_b ∙ sym (get_or-combined f (values va) (values vb) i false (omega (arith, length-values va)) one_len))
-
--- the same from whole bytes on
-pub values-combined-bytes : (f : Bool → Bool → Bool) (a b out from_a from_b : List ℕ) (p q len words : ℕ) → p % 8 ≡ 0 → q % 8 ≡ 0 → from_a ≡ drop (p / 8) a → from_b ≡ drop (q / 8) b
-    → AreCombined f from_a 0 from_b 0 out (64 * words) → len ≤ 64 * words
-    → values (record { bytes = out; offset = 0; len = len }) ≡ combined f (values (record { bytes = a; offset = p; len = len })) (values (record { bytes = b; offset = q; len = len }))
-values-combined-bytes f a b out from_a from_b p q len words low_a low_b is_a is_b wrote enough =
-    values-combined f a b out from_a from_b p q len words is_a is_b
-    (subst (λ k. AreCombined f from_a k from_b (q % 8) out (64 * words)) (sym low_a) (subst (λ k. AreCombined f from_a 0 from_b k out (64 * words)) (sym low_b) wrote)) enough
-
--- ---- and counted
-
--- what is written past the first bits leaves their count, and the rest's count makes it whole
-pub counted-all : (f : Bool → Bool → Bool) (a b out new : List ℕ) (p q n m rest ones : ℕ) → AreCombined f a p b q out n → AreCombined f a p b q new m → n ≤ m
-    → ones ≡ count (bits_at out 0 n) → ones + count (bits_at new n rest) ≡ count (bits_at new 0 (n + rest))
-counted-all f a b out new p q n m rest ones front all within is =
-    let same : bits_at new 0 n ≡ bits_at out 0 n = front-same out new n (λ i h. all i (omega arith) ∙ sym (front i h)) in
-    grind (arith, bits_at-append new 0 n rest, count-append (bits_at new 0 n) (bits_at new n rest))
 
 -- ---- a buffer by its parts
 

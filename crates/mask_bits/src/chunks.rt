@@ -1,4 +1,4 @@
-ghost use Rattle.std.specs.Prelude.{◌≡◌, ◌+◌, ◌-◌, ◌*◌, ◌/◌, ◌%◌, ◌<◌, ◌≤◌, ◌^◌, ℕ, length, drop, not, slice_get, take, IfSome, Some};
+ghost use Rattle.std.specs.Prelude.{◌≡◌, ◌+◌, ◌-◌, ◌*◌, ◌/◌, ◌%◌, ◌<◌, ◌≤◌, ◌^◌, ℕ, length, not, slice_get, take, IfSome, Some};
 ghost use Rattle.std.specs.Iterator.{YieldsFirstBy, UpTo, item_count};
 ghost use Rattle.std.specs.Iterator.Runs.{EveryRun, ItemsMapTo};
 ghost use Rattle.std.specs.Iterator.SizeHint.{IsWithinCount};
@@ -101,19 +101,6 @@ impl<'a> BitChunks<'a> {
             chunks: BitChunks::new(self.bytes, self.offset, self.len),
             next: 0,
         }
-    }
-
-    // How many of the values from `start` on are true at least: those of the next 64 words alone are
-    // counted, so that this takes little time whatever the length is.
-    pub(crate) fn some_true_from(&self, start: usize) -> usize
-        requires { start ≤ length self.now }
-        ensures { result ≤ count (drop start self.now) }
-    {
-        count_bits(
-            self.bytes,
-            self.offset + start,
-            (self.len - start).min(4096),
-        )
     }
 
     /// The index of true value number `n`, counted from 0, and `None` from the true count on.

@@ -1,14 +1,12 @@
 //! The list that an operation makes of two lists, value by value, over plain bytes.
 
-ghost use Rattle.std.specs.Prelude.{◌≡◌, ◌+◌, ◌*◌, ◌/◌, ◌<◌, ◌≤◌, ◌^◌, ◌&&◌, ◌||◌, ℕ, not, length};
+ghost use Rattle.std.specs.Prelude.{◌≡◌, ◌+◌, ◌*◌, ◌/◌, ◌<◌, ◌≤◌, ◌&&◌, ◌||◌, ℕ, not, length};
 ghost use Rattle.std.specs.Int.{div_ceil};
 ghost use Rattle.mask_bits.specs.Buffer.{IsWithinBytes, values};
 ghost use Rattle.mask_bits.specs.Combine.{AreCombined};
 ghost use Rattle.mask_bits.specs.Lists.{combined};
-ghost use Rattle.mask_bits.specs.Positions.{count};
 ghost use Rattle.mask_bits.specs.Words.{word_bits};
 
-use crate::counts::count_bits;
 use crate::read_word::{Anywhere, Covered, Neighbors, ReadWord, Whole};
 use crate::words::set_word;
 
@@ -105,60 +103,6 @@ pub fn combine<C: BitOp>(
         extend::<C, Covered>(a, a_low, b, b_low, inner, whole, out);
     }
     extend::<C, Anywhere>(a, a_low, b, b_low, whole, words, out);
-}
-
-/// Does what `combine` does, and answers how many values of the list are true.
-pub fn combine_counted<C: BitOp>(
-    a: &[u8],
-    a_offset: usize,
-    b: &[u8],
-    b_offset: usize,
-    len: usize,
-    out: &mut [u8],
-) -> usize
-    requires a_within { IsWithinBytes a.now a_offset len }
-    requires b_within { IsWithinBytes b.now b_offset len }
-    requires room { 8 * div_ceil len 64 ≤ length out.old }
-    ensures list { values (record { bytes = out.new; offset = 0; len = len })
-        ≡ combined C.of_bits
-        (values (record { bytes = a.now; offset = a_offset; len = len }))
-        (values (record { bytes = b.now; offset = b_offset; len = len })) }
-    ensures counted { result ≡ count (values (record { bytes = out.new; offset = 0; len = len })) }
-{
-    if a_offset % 8 != 0 || b_offset % 8 != 0 {
-        combine::<C>(a, a_offset, b, b_offset, len, out);
-        return count_bits(out, 0, len);
-    }
-    let (a, b) = (&a[a_offset / 8..], &b[b_offset / 8..]);
-    let whole = len / 64;
-    let ones = extend_counted::<C>(a, b, whole, out);
-    extend::<C, Anywhere>(a, 0, b, 0, whole, len.div_ceil(64), out);
-    ones + count_bits(out, 64 * whole, len % 64)
-}
-
-// How many words are written before they are counted.
-const BLOCK: usize = 256;
-
-// Writes the first words of whole bytes, and answers how many of their bits are set: a block at a
-// time, so that it is counted while it is still near.
-fn extend_counted<C: BitOp>(a: &[u8], b: &[u8], words: usize, out: &mut [u8]) -> usize
-    requires a_covered { 8 * words ≤ length a.now }
-    requires b_covered { 8 * words ≤ length b.now }
-    requires room { 8 * words ≤ length out.old }
-    requires fits { 64 * words < 2 ^ 64 }
-    ensures list { AreCombined C.of_bits a.now 0 b.now 0 out.new (64 * words) }
-    ensures counted { result
-        ≡ count (values (record { bytes = out.new; offset = 0; len = 64 * words })) }
-{
-    let mut ones = 0;
-    let mut next = 0;
-    while next < words {
-        let end = next + (words - next).min(BLOCK);
-        extend::<C, Whole>(a, 0, b, 0, next, end, out);
-        ones += count_bits(out, 64 * next, 64 * (end - next));
-        next = end;
-    }
-    ones
 }
 
 // Writes words `from` to `to`, where those before are written.

@@ -97,13 +97,4 @@ impl Iterator for SetIndices<'_> {
         self.word = word & (word - 1);
         Some(64 * at + word.trailing_zeros() as usize)
     }
-
-    // a bound from below, by which a list of few words is collected in room that is made once
-    fn size_hint(&self) -> (usize, Option<usize>) {
-        if self.chunks.padded_len() <= self.at + 1 {
-            return (0, None);
-        }
-        let later = self.chunks.some_true_from(64 * self.at + 64);
-        (self.word.count_ones() as usize + later, None)
-    }
 }

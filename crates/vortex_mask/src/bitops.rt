@@ -1,14 +1,11 @@
 ghost use Rattle.std.specs.Prelude.{◌≡◌, ◌≢◌, ◌⊎◌, IsOk, IfOk, IsOkUnless, Ok, alloc_error, length};
-ghost use Rattle.mask_bits.specs.Buffer.{values};
-ghost use Rattle.mask_bits.specs.Lists.{and_of, or_of, not_of, and_not_of, combined};
+ghost use Rattle.mask_bits.specs.Lists.{and_of, or_of, not_of, and_not_of};
 ghost use Rattle.vortex_mask.specs.Bitops.{and_caches, or_caches, and_not_caches};
 ghost use Rattle.vortex_mask.specs.Mask.{truth, variant, fitting_variant, variant_and, variant_or, variant_not, all_true, all_false, mixed, caches};
 ghost use Rattle.vortex_mask.specs.MaskValues.{no_caches};
 
 use crate::laws;
 use crate::mask::{Mask, MaskError};
-use mask_bits::BitBuffer;
-use mask_bits::combine::{And, AndNot, BitOp, Not, Or, combine_counted};
 use std::alloc::Global;
 
 /// Boolean calls, value by value, of masks of one length.
@@ -42,7 +39,7 @@ impl Mask {
             }
             (Mask::AllFalse(_), Mask::Values(_)) => Ok(Mask::new_false(self.len())),
             (Mask::Values(a), Mask::Values(b)) => {
-                Ok(made::<And>(alloc, a.bit_buffer(), b.bit_buffer())?)
+                Ok(Mask::from_buffer(alloc, a.bit_buffer().bitand(alloc, b.bit_buffer())?)?)
             }
         }
     }
@@ -73,7 +70,7 @@ impl Mask {
             }
             (Mask::AllTrue(_), Mask::Values(_)) => Ok(Mask::new_true(self.len())),
             (Mask::Values(a), Mask::Values(b)) => {
-                Ok(made::<Or>(alloc, a.bit_buffer(), b.bit_buffer())?)
+                Ok(Mask::from_buffer(alloc, a.bit_buffer().bitor(alloc, b.bit_buffer())?)?)
             }
         }
     }
@@ -92,10 +89,7 @@ impl Mask {
         match self {
             Mask::AllTrue(len) => Ok(Mask::AllFalse(*len)),
             Mask::AllFalse(len) => Ok(Mask::AllTrue(*len)),
-            Mask::Values(values) => {
-                let buffer = values.bit_buffer();
-                made::<Not>(alloc, buffer, buffer)
-            }
+            Mask::Values(values) => Mask::from_buffer(alloc, values.bit_buffer().not(alloc)?),
         }
     }
 
@@ -120,7 +114,7 @@ impl Mask {
             (Mask::AllFalse(_), Mask::Values(_)) => Ok(Mask::new_false(self.len())),
             (Mask::AllTrue(_), Mask::Values(_)) => Ok(other.not(alloc)?),
             (Mask::Values(a), Mask::Values(b)) => {
-                Ok(made::<AndNot>(alloc, a.bit_buffer(), b.bit_buffer())?)
+                Ok(Mask::from_buffer(alloc, a.bit_buffer().bitand_not(alloc, b.bit_buffer())?)?)
             }
         }
     }
@@ -210,26 +204,4 @@ impl Mask {
             Mask::AllTrue(_) | Mask::Values(_) => self.to_bitand_not(alloc, other),
         }
     }
-}
-
-// The mask of what `C` makes of two buffers.
-fn made<C: BitOp>(alloc: Global, a: &BitBuffer, b: &BitBuffer) -> Result<Mask, MaskError>
-    requires { length (values a.now) ≡ length (values b.now) }
-    ensures list { IfOk result
-        (λ m. truth m ≡ combined C.of_bits (values a.now) (values b.now)) }
-    ensures variant { IfOk result (λ m. variant m ≡ fitting_variant all_false (truth m)) }
-    ensures caches { IfOk result (λ m. caches m ≡ no_caches) }
-    ensures refused { IsOkUnless result (MaskError.Memory alloc_error) }
-{
-    let len = a.len();
-    let mut words = vec![in alloc; 0u8; 8 * len.div_ceil(64)]?;
-    let true_count = combine_counted::<C>(
-        a.inner().as_slice(),
-        a.offset(),
-        b.inner().as_slice(),
-        b.offset(),
-        len,
-        &mut words,
-    );
-    Mask::of_words(alloc, words, len, true_count)
 }

@@ -8,7 +8,6 @@ mod error;
 mod fraction;
 mod from_indices;
 mod from_slices;
-mod from_words;
 mod iter;
 mod slice;
 mod values;

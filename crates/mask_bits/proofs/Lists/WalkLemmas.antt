@@ -1,20 +1,19 @@
 -- Walks over a list by its started words: what is left of it after each step.
-use Rattle.std.proofs.Common.{◌≡◌, ℕ, zero, suc, ◌+◌, ◌*◌, ◌-◌, ◌/◌, ◌%◌, ◌^◌, ◌<◌, ◌≤◌, Bool, true, false, nat_eq, List, [], ◌∷◌, ◌++◌, length, get_or, drop, count_ones, refl, sym, ap, ◌∙◌, arith, lit<}
+use Rattle.std.proofs.Common.{◌≡◌, ℕ, zero, suc, ◌+◌, ◌*◌, ◌-◌, ◌/◌, ◌%◌, ◌^◌, ◌<◌, ◌≤◌, Bool, true, false, nat_eq, List, [], ◌∷◌, length, get_or, drop, refl, sym, ap, ◌∙◌, arith, lit<}
 use Rattle.std.specs.Int.{bit_at}
 use Rattle.std.specs.Int.RustNames.{bit_and, bit_or}
 use Rattle.std.proofs.lemmas.Bool.{true≢false}
-use Rattle.std.proofs.lemmas.List.{ext_get_or, length-append, length-drop, length-take, take_all, get_or_append_left, get_or-append_right, get_or-drop, get_or-take, get_or_past, get_or-replicate, length-replicate}
+use Rattle.std.proofs.lemmas.List.{ext_get_or, length-append, length-drop, length-take, get_or_append_left, get_or-append_right, get_or-drop, get_or-take, get_or_past, get_or-replicate, length-replicate}
 use Rattle.std.proofs.lemmas.Nat.{and_le_l, or_lt}
 use Rattle.std.proofs.lemmas.Nat.Bits.{bit_at-lt, bit_at-zero, bit_at-suc, bit_at_ones}
-use Rattle.mask_bits.specs.Positions.{places_from, positions, count, repeated, IsFirstFrom}
+use Rattle.mask_bits.specs.Positions.{places_from, positions, repeated, IsFirstFrom}
 use Rattle.mask_bits.specs.RunScan.{runs_from}
 use Rattle.mask_bits.specs.Walk.{left_of, IsLeft, PassesTrue, ShowsFrom}
 use Rattle.mask_bits.specs.Words.{word_bits, padded_part, started_words}
 use Rattle.mask_bits.proofs.Lists.LowestLemmas.{low, low-within, low-set, low-first, bit_at-lowest_cleared, bit_at-lowest_others, bit_at-filled, bit_at-filled_others, ones, ones-few, ones-within, ones-set, ones-end, bit_at-ones_cleared, bit_at-ones_others}
 use Rattle.mask_bits.proofs.Lists.PaddedLemmas.{get_or-padded_part}
 use Rattle.mask_bits.proofs.Lists.ScanLemmas.{skip, places_from-first, runs_from-first}
-use Rattle.mask_bits.proofs.Lists.CountLemmas.{length-repeated, count-repeated_false, count-append}
-use Rattle.mask_bits.proofs.Lists.WordLemmas.{length-word_bits, get_or-word_bits, count-word_bits}
+use Rattle.mask_bits.proofs.Lists.WordLemmas.{length-word_bits, get_or-word_bits}
 
 -- ---- one step over lists
 
@@ -74,17 +73,6 @@ left_of-here m i w p from to within = grind (arith, get_or-take, get_or-append_r
 pub left_of-past : (m : List Bool) (i w p : ℕ) → 64 * i ≤ length m → 64 * i + 64 ≤ p → get_or (left_of m i w) p false ≡ get_or m p false
 unfolding left_of repeated
 left_of-past m i w p within h = grind (arith, get_or-take, get_or-append_right, length-replicate, length-word_bits, get_or-drop, get_or_past, length-left_of)
-
--- the ones of w, and the true values past its word, are all that is left
-pub count-left_of : (m : List Bool) (i w : ℕ) → w < 2 ^ 64 → 64 * i + 64 ≤ length m → count (left_of m i w) ≡ count_ones w + count (drop (64 * i + 64) m)
-unfolding left_of
-count-left_of m i w fits within =
-    let rest : List Bool = drop (64 * i + 64) m in
-    let tail : List Bool = word_bits w ++ rest in
-    let front : List Bool = repeated (64 * i) false in
-    let len : length (front ++ tail) ≤ length m
-    = omega (arith, length-append front tail, length-repeated (64 * i) false, length-append (word_bits w) rest, length-word_bits w, length-drop (64 * i + 64) m) in
-    omega (arith, ap count (take_all (length m) (front ++ tail) len), count-append front tail, count-repeated_false (64 * i), count-append (word_bits w) rest, count-word_bits w fits)
 
 -- nothing is past the end
 left_of-outside : (m : List Bool) (i w p : ℕ) → 64 * i ≤ length m → length m ≤ p → get_or (left_of m i w) p false ≡ false
