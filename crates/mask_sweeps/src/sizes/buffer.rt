@@ -1,7 +1,7 @@
 // Buffers: from values, indices and bytes, copied, cut and combined.
 use super::{LENGTHS, LONGEST};
 use crate::helpers::{Outside, bits_of, buffer_at, found, part_of_bits, same};
-use crate::plain::{Op, Plain, has_words, repeating};
+use crate::plain::{Op, Plain, has_words};
 use crate::sweeps::mask::case::combined;
 use mask_bits::BitBuffer;
 use std::alloc::Global;
@@ -51,35 +51,25 @@ fn copies(rt: &impl Abort, alloc: Global, buffer: &BitBuffer, plain: &Plain) {
 fn combines(
     rt: &impl Abort,
     alloc: Global,
-    bits: &BitBuffer,
-    others: &BitBuffer,
+    (a, b): (&BitBuffer, &BitBuffer),
     wanted: &[(Op, Plain)],
 ) {
     for (op, want) in wanted {
-        has_words(rt, &op.of_buffers(rt, alloc, bits, others), want);
+        has_words(rt, &op.of_buffers(rt, alloc, a, b), want);
     }
 }
 
-// Of lists that begin at bits 3 and 5 of their bytes.
-fn of_lists(rt: &impl Abort, alloc: Global, a: &Plain, b: &[bool]) {
-    let bits = buffer_at(rt, alloc, 3, &a.values, Outside::Set);
-    copies(rt, alloc, &bits, a);
-    let others = buffer_at(rt, alloc, 5, b, Outside::Set);
-    combines(
-        rt,
-        alloc,
-        &bits,
-        &others,
-        &combined(rt, alloc, &a.values, b),
-    );
-}
-
-// Each call that answers a Result.
+// Each call that answers a Result, of lists that begin at bits 3 and 5 of their bytes.
 fn of_length(rt: &impl Abort, alloc: Global, len: usize) {
-    let plain = Plain::repeating(rt, alloc, len, (3, 1));
-    makes(rt, alloc, &plain);
+    let a = Plain::repeating(rt, alloc, len, (3, 1));
+    let b = Plain::repeating(rt, alloc, len, (7, 4));
+    makes(rt, alloc, &a);
     makes_of_one_value(rt, alloc, len);
-    of_lists(rt, alloc, &plain, &repeating(rt, alloc, len, (7, 4)));
+    let wanted = combined(rt, alloc, &a.values, &b.values);
+    let bits = buffer_at(rt, alloc, 3, &a.values, Outside::Set);
+    copies(rt, alloc, &bits, &a);
+    let others = buffer_at(rt, alloc, 5, &b.values, Outside::Set);
+    combines(rt, alloc, (&bits, &others), &wanted);
 }
 
 fn of_lengths(rt: &impl Abort, alloc: Global) {

@@ -1,7 +1,7 @@
 // Rank intersection by each path, and each kernel.
 use super::{LENGTHS, LONGEST};
 use crate::helpers::{Outside, buffer_at};
-use crate::plain::{Plain, repeating};
+use crate::plain::Plain;
 use crate::sweeps::kernels::densities::with_indices;
 use crate::sweeps::kernels::{Work, by_each_kernel};
 use crate::sweeps::mask::combine::narrows_to;
@@ -23,25 +23,15 @@ fn narrows_masks(
     }
 }
 
-// Of buffers at bits 3 and 5 of their bytes.
-fn of_lists(rt: &impl Abort, alloc: Global, rows: &[bool], ranks: &[bool], want: &Plain) {
-    let rows = buffer_at(rt, alloc, 3, rows, Outside::Set);
-    let ranks = buffer_at(rt, alloc, 5, ranks, Outside::Set);
-    narrows_masks(rt, alloc, (&rows, &ranks), want);
-    by_each_kernel(rt, alloc, (&rows, &ranks), want, Work::of(want));
-}
-
-// One row in so many is chosen, and one rank in so many.
+// One row in so many is chosen, and one rank in so many: of buffers at bits 3 and 5 of their bytes.
 fn of_densities(rt: &impl Abort, alloc: Global, len: usize, row_step: usize, rank_step: usize) {
     let rows = Plain::repeating(rt, alloc, len, (row_step, 1));
-    let ranks = repeating(rt, alloc, rows.indices.len(), (rank_step, 1));
-    of_lists(
-        rt,
-        alloc,
-        &rows.values,
-        &ranks,
-        &rows.narrowed(rt, alloc, &ranks),
-    );
+    let ranks = Plain::repeating(rt, alloc, rows.indices.len(), (rank_step, 1));
+    let want = rows.narrowed(rt, alloc, &ranks.values);
+    let rows = buffer_at(rt, alloc, 3, &rows.values, Outside::Set);
+    let ranks = buffer_at(rt, alloc, 5, &ranks.values, Outside::Set);
+    narrows_masks(rt, alloc, (&rows, &ranks), &want);
+    by_each_kernel(rt, alloc, (&rows, &ranks), &want, Work::of(&want));
 }
 
 // A path each where the ranks' indices are cached: words of bits, of listed ranks, ranks one by one, and indices.

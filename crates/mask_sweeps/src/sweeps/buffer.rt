@@ -88,12 +88,7 @@ fn gives_words(rt: &impl Abort, alloc: Global, buffer: &BitBuffer, plain: &Plain
     assert!(rt; chunks.remainder_bits() == plain.words.get(whole).copied().unwrap_or(0));
     let all: Vec<u64> = found(rt, chunks.iter().collect(alloc));
     assert!(rt; Some(all.as_slice()) == plain.words.get(..whole));
-    gives_each_word(rt, buffer, &all);
-}
-
-fn gives_each_word(rt: &impl Abort, buffer: &BitBuffer, words: &[u64]) {
-    let chunks = buffer.chunks();
-    for (i, word) in words.iter().enumerate() {
+    for (i, word) in all.iter().enumerate() {
         assert!(rt; i < chunks.len());
         assert!(rt; chunks.word(i) == *word, "word {i}");
     }

@@ -86,10 +86,14 @@ fn lends_by_threshold(
 
 pub(super) fn lends_by_thresholds(rt: &impl Abort, alloc: Global, mask: &Mask, plain: &Plain) {
     let (len, count) = (plain.values.len().max(1), plain.indices.len());
-    lends_by_threshold(rt, alloc, mask, plain, (1, 2));
-    lends_by_threshold(rt, alloc, mask, plain, (count, len));
-    lends_by_threshold(rt, alloc, mask, plain, (count.saturating_add(1), len));
-    lends_by_threshold(rt, alloc, mask, plain, (1, usize::MAX));
+    for threshold in [
+        (1, 2),
+        (count, len),
+        (count.saturating_add(1), len),
+        (1, usize::MAX),
+    ] {
+        lends_by_threshold(rt, alloc, mask, plain, threshold);
+    }
 }
 
 fn make_indices(rt: &impl Abort, alloc: Global, mask: &mut Mask) {
