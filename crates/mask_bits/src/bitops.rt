@@ -13,7 +13,7 @@ impl BitBuffer {
         requires { length (values self.now) ≡ length (values other.now) }
         ensures { IfOk result (λ b. values b ≡ and_of (values self.now) (values other.now)) }
     {
-        made::<And>(alloc, self, other)
+        combined_buffer::<And>(alloc, self, other)
     }
 
     /// The values that are true in one or in both.
@@ -21,7 +21,7 @@ impl BitBuffer {
         requires { length (values self.now) ≡ length (values other.now) }
         ensures { IfOk result (λ b. values b ≡ or_of (values self.now) (values other.now)) }
     {
-        made::<Or>(alloc, self, other)
+        combined_buffer::<Or>(alloc, self, other)
     }
 
     /// The values that are true here and not in `other`.
@@ -29,7 +29,7 @@ impl BitBuffer {
         requires { length (values self.now) ≡ length (values other.now) }
         ensures { IfOk result (λ b. values b ≡ and_not_of (values self.now) (values other.now)) }
     {
-        made::<AndNot>(alloc, self, other)
+        combined_buffer::<AndNot>(alloc, self, other)
     }
 
     /// The complement: each value negated.
@@ -37,12 +37,12 @@ impl BitBuffer {
     pub fn not(&self, alloc: Global) -> Result<BitBuffer, AllocError>
         ensures { IfOk result (λ b. values b ≡ not_of (values self.now)) }
     {
-        made::<Not>(alloc, self, self)
+        combined_buffer::<Not>(alloc, self, self)
     }
 }
 
 // A buffer of what `C` makes of two.
-fn made<C: BitOp>(alloc: Global, a: &BitBuffer, b: &BitBuffer) -> Result<BitBuffer, AllocError>
+fn combined_buffer<C: BitOp>(alloc: Global, a: &BitBuffer, b: &BitBuffer) -> Result<BitBuffer, AllocError>
     requires { length (values a.now) ≡ length (values b.now) }
     ensures { IfOk result (λ r. values r ≡ combined C.of_bits (values a.now) (values b.now)) }
 {

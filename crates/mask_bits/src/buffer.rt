@@ -274,7 +274,7 @@ impl BitBuffer {
         SetIndices::new(self)
     }
 
-    /// The maximal ranges of true values, ascending, each by its first place and the place past its
+    /// The maximal ranges of true values, ascending, each by its first index and the index past its
     /// last.
     pub fn set_slices(&self) -> SetSlices<'_>
         ensures runs { AreRuns (values self.now) result }

@@ -9,7 +9,7 @@ ghost use Rattle.mask_bits.specs.Words.{started_words, padded_part, padded_parts
 
 use crate::counts::count_bits;
 use crate::read_word::{Covered, ReadWord};
-use crate::words::window;
+use crate::words::word_at;
 use std::marker::Model;
 
 /// The values of a buffer in words of 64, the first value lowest.
@@ -205,7 +205,7 @@ fn remainder(bytes: &[u8], offset: usize, len: usize) -> u64
         ≡ padded_remainder (values (record { bytes = bytes.now; offset = offset; len = len })) }
 {
     let rest = len % 64;
-    window(bytes, offset + (len - rest)) & ((1 << rest) - 1)
+    word_at(bytes, offset + (len - rest)) & ((1 << rest) - 1)
 }
 
 // The index of set bit number `n`, counted from 0.
@@ -229,7 +229,7 @@ fn run_of_others(bytes: &[u8], position: usize, value: bool) -> usize
     ensures passed { (j : ℕ) → j < result → backing_bit bytes.now (position + j) ≡ not value }
     ensures holds { result < 64 → backing_bit bytes.now (position + result) ≡ value }
 {
-    let word = window(bytes, position);
+    let word = word_at(bytes, position);
     if value {
         word.trailing_zeros() as usize
     } else {

@@ -4,7 +4,7 @@ ghost use Rattle.std.specs.Prelude.{◌≡◌, ◌*◌, ◌<◌, ◌≤◌, ◌^
 ghost use Rattle.mask_bits.specs.Buffer.{IsWithinBytes, values};
 ghost use Rattle.mask_bits.specs.Positions.{count};
 
-use crate::words::{window, word_of};
+use crate::words::{word_at, word_of};
 
 /// How many of the `len` bits from bit `position` on are set.
 pub fn count_bits(bytes: &[u8], position: usize, len: usize) -> usize
@@ -29,7 +29,7 @@ fn count_few(bytes: &[u8], position: usize, len: usize) -> usize
     requires { len < 64 }
     ensures { result ≡ count (values (record { bytes = bytes.now; offset = position; len = len })) }
 {
-    (window(bytes, position) & ((1 << len) - 1)).count_ones() as usize
+    (word_at(bytes, position) & ((1 << len) - 1)).count_ones() as usize
 }
 
 // How many bits of the first words are set.

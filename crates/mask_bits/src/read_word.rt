@@ -4,9 +4,9 @@
 
 ghost use Rattle.std.specs.Prelude.{◌≡◌, ◌+◌, ◌*◌};
 ghost use Rattle.mask_bits.specs.Combine.{IsWholeWord, IsInTwoWords, IsCovered, HasPlace};
-ghost use Rattle.mask_bits.specs.Words.{window as bits_from, word_bits};
+ghost use Rattle.mask_bits.specs.Words.{window, word_bits};
 
-use crate::words::{joined, window, word_of};
+use crate::words::{funnel_shift, word_at, word_of};
 
 /// Reads 64 bits from bit `low` of the first byte on, `i` words further.
 pub(crate) trait ReadWord {
@@ -16,7 +16,7 @@ pub(crate) trait ReadWord {
 
     fn word(bytes: &[u8], low: u32, i: usize) -> u64
         requires { can_read bytes.now low i }
-        ensures { word_bits result ≡ bits_from bytes.now (low + 64 * i) };
+        ensures { word_bits result ≡ window bytes.now (low + 64 * i) };
 }
 
 /// Words that are whole in the bytes.
@@ -49,7 +49,7 @@ impl ReadWord for Neighbors {
 
     #[inline]
     fn word(bytes: &[u8], low: u32, i: usize) -> u64 {
-        joined(word_of(bytes, i), word_of(bytes, i + 1), low)
+        funnel_shift(word_of(bytes, i), word_of(bytes, i + 1), low)
     }
 }
 
@@ -64,7 +64,7 @@ impl ReadWord for Covered {
         if low == 0 {
             word
         } else {
-            joined(word, bytes[8 * i + 8] as u64, low)
+            funnel_shift(word, bytes[8 * i + 8] as u64, low)
         }
     }
 }
@@ -74,6 +74,6 @@ impl ReadWord for Anywhere {
 
     #[inline]
     fn word(bytes: &[u8], low: u32, i: usize) -> u64 {
-        window(bytes, low as usize + 64 * i)
+        word_at(bytes, low as usize + 64 * i)
     }
 }

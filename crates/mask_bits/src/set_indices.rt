@@ -49,7 +49,7 @@ fn push_indices(indices: &mut Vec<usize>, i: usize, word: u64) -> Result<(), All
     Ok(())
 }
 
-/// The places of a buffer's true values, ascending.
+/// The indices of a buffer's true values, ascending.
 #[derive(Drop)]
 pub struct SetIndices<'a> {
     chunks: BitChunks<'a>,

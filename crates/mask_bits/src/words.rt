@@ -4,14 +4,14 @@ ghost use Rattle.std.specs.Prelude.{◌≡◌, ◌+◌, ◌*◌, ◌<◌, ◌≤
 ghost use Rattle.std.specs.Prelude.{◌⊎◌, ◌++◌, ◌-◌, false, slice_range};
 ghost use Rattle.mask_bits.specs.Buffer.{backing_bit};
 ghost use Rattle.mask_bits.specs.Number.{number};
-ghost use Rattle.mask_bits.specs.Words.{window as bits_from, word_bits};
+ghost use Rattle.mask_bits.specs.Words.{window, word_bits};
 ghost use Rattle.mask_bits.specs.Positions.{repeated};
 
 /// Word `i` of the whole words of `bytes`: bits `64 * i` to `64 * i + 63`, the first lowest.
 #[inline]
 pub fn word_of(bytes: &[u8], i: usize) -> u64
     requires { 8 * i + 8 ≤ length bytes.now }
-    ensures { word_bits result ≡ bits_from bytes.now (64 * i) }
+    ensures { word_bits result ≡ window bytes.now (64 * i) }
 {
     match bytes[8 * i..8 * i + 8].first_chunk::<8>() {
         Some(chunk) => u64::from_le_bytes(*chunk),
@@ -23,7 +23,7 @@ pub fn word_of(bytes: &[u8], i: usize) -> u64
 #[inline]
 pub fn set_word(bytes: &mut [u8], i: usize, word: u64)
     requires { 8 * i + 8 ≤ length bytes.old }
-    ensures here { bits_from bytes.new (64 * i) ≡ word_bits word }
+    ensures here { window bytes.new (64 * i) ≡ word_bits word }
     ensures others { (p : ℕ) → ((p < 64 * i) ⊎ (64 * i + 64 ≤ p)) → backing_bit bytes.new p ≡ backing_bit bytes.old p }
 {
     bytes[8 * i..8 * i + 8].copy_from_slice(&word.to_le_bytes());
@@ -41,7 +41,7 @@ pub fn low_bits(word: u64, count: usize) -> u64
 
 /// The 64 bits from bit `low` of `word` on; those past its end are the first of `next`.
 #[inline]
-pub fn joined(word: u64, next: u64, low: u32) -> u64
+pub fn funnel_shift(word: u64, next: u64, low: u32) -> u64
     requires { low < 64 }
     ensures { word_bits result ≡ slice_range (word_bits word ++ word_bits next) low (low + 64) }
 {
@@ -51,29 +51,29 @@ pub fn joined(word: u64, next: u64, low: u32) -> u64
 
 /// The 64 bits from bit `position` on, wherever that is; those past the last byte are 0.
 #[inline]
-pub fn window(bytes: &[u8], position: usize) -> u64
-    ensures { word_bits result ≡ bits_from bytes.now position }
+pub fn word_at(bytes: &[u8], position: usize) -> u64
+    ensures { word_bits result ≡ window bytes.now position }
 {
     let low = (position % 8) as u32;
-    ((sixteen(bytes, position / 8) >> low) & 0xFFFF_FFFF_FFFF_FFFF) as u64
+    ((sixteen_bytes(bytes, position / 8) >> low) & 0xFFFF_FFFF_FFFF_FFFF) as u64
 }
 
 // The sixteen bytes from byte `first` on as one number, the first lowest; those past the end are 0.
 #[inline]
-fn sixteen(bytes: &[u8], first: usize) -> u128
+fn sixteen_bytes(bytes: &[u8], first: usize) -> u128
     requires { first < 2 ^ 61 }
     ensures { result ≡ number (take 16 (drop first bytes.now)) }
 {
     if first + 16 <= bytes.len() {
-        sixteen_from(bytes, first)
+        sixteen_whole_bytes(bytes, first)
     } else {
-        fewer(bytes, first)
+        last_bytes(bytes, first)
     }
 }
 
 // The same where all sixteen bytes are there.
 #[inline]
-fn sixteen_from(bytes: &[u8], first: usize) -> u128
+fn sixteen_whole_bytes(bytes: &[u8], first: usize) -> u128
     requires { first + 16 ≤ length bytes.now }
     ensures { result ≡ number (take 16 (drop first bytes.now)) }
 {
@@ -85,7 +85,7 @@ fn sixteen_from(bytes: &[u8], first: usize) -> u128
 
 #[cold]
 #[inline(never)]
-fn fewer(bytes: &[u8], first: usize) -> u128
+fn last_bytes(bytes: &[u8], first: usize) -> u128
     requires { length bytes.now < first + 16 }
     ensures { result ≡ number (take 16 (drop first bytes.now)) }
 {
@@ -94,7 +94,7 @@ fn fewer(bytes: &[u8], first: usize) -> u128
     }
     // the end of a longer list is read as it stands, since to copy it takes longer
     if bytes.len() >= 16 {
-        return end_of_last(bytes, first);
+        return end_of_sixteen(bytes, first);
     }
     let rest = &bytes[first..];
     let mut chunk = [0u8; 16];
@@ -104,12 +104,12 @@ fn fewer(bytes: &[u8], first: usize) -> u128
 
 // The same by the last sixteen bytes, with those before byte `first` shifted out.
 #[inline]
-fn end_of_last(bytes: &[u8], first: usize) -> u128
+fn end_of_sixteen(bytes: &[u8], first: usize) -> u128
     requires some { first < length bytes.now }
     requires near { length bytes.now < first + 16 }
     requires enough { 16 ≤ length bytes.now }
     ensures { result ≡ number (take 16 (drop first bytes.now)) }
 {
     let begin = bytes.len() - 16;
-    sixteen_from(bytes, begin) >> (8 * (first - begin))
+    sixteen_whole_bytes(bytes, begin) >> (8 * (first - begin))
 }

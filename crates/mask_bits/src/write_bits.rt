@@ -7,7 +7,7 @@ ghost use Rattle.mask_bits.specs.BufferMut.{IsWrittenBehind, AreClearFrom};
 ghost use Rattle.mask_bits.specs.Positions.{repeated, count};
 ghost use Rattle.mask_bits.specs.Words.{word_bits};
 
-use crate::words::{joined, low_bits, set_word, window, word_of};
+use crate::words::{funnel_shift, low_bits, set_word, word_at, word_of};
 
 // Sets the bit at one position and no other.
 pub(crate) fn set_bit(bytes: &mut [u8], position: usize)
@@ -138,7 +138,7 @@ pub(crate) fn put_bits(bytes: &mut [u8], at: usize, from: &[u8], offset: usize, 
     put_windows(bytes, at, from, offset, room);
     // beside each of these words the source goes on for another
     let words = (n - room) / 64 - 1;
-    put_joined(bytes, at / 64 + 1, from, offset + room, words);
+    put_shifted(bytes, at / 64 + 1, from, offset + room, words);
     let done = room + 64 * words;
     put_windows(bytes, at + done, from, offset + done, n - done);
 }
@@ -156,13 +156,13 @@ fn put_windows(bytes: &mut [u8], at: usize, from: &[u8], offset: usize, n: usize
     let mut done = 0;
     while done < n {
         let count = (n - done).min(64);
-        put_word(bytes, at + done, window(from, offset + done), count);
+        put_word(bytes, at + done, word_at(from, offset + done), count);
         done += count;
     }
 }
 
 // Writes whole words of `from`, from bit `offset` on, as the words from `first` on.
-fn put_joined(bytes: &mut [u8], first: usize, from: &[u8], offset: usize, words: usize)
+fn put_shifted(bytes: &mut [u8], first: usize, from: &[u8], offset: usize, words: usize)
     requires room { 8 * (first + words) ≤ length bytes.old }
     requires source { IsWithinBytes from.now offset (64 * words + 64) }
     requires clear { AreClearFrom (64 * first) bytes.old }
@@ -172,7 +172,7 @@ fn put_joined(bytes: &mut [u8], first: usize, from: &[u8], offset: usize, words:
     let part = &from[offset / 8..];
     let low = (offset % 8) as u32;
     for i in 0..words {
-        let word = joined(word_of(part, i), word_of(part, i + 1), low);
+        let word = funnel_shift(word_of(part, i), word_of(part, i + 1), low);
         set_word(bytes, first + i, word);
     }
 }

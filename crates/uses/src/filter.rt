@@ -17,7 +17,7 @@ pub fn filtered<T: Copy>(alloc: Global, rows: &[T], mask: &mut Mask) -> Result<V
     ensures { IfOk result (λ v. v.items ≡ chosen rows.now (truth mask.old)) }
 {
     laws::choosing::<T>();
-    vortex_mask::laws::kept_lists(mask);
+    vortex_mask::laws::cached_lists(mask);
     vortex_mask::laws::variants_of_one_value();
     match mask.threshold_iter(alloc, 1, 2)? {
         AllOr::All => Ok(Vec::from_slice(alloc, rows)?),

@@ -9,7 +9,7 @@ use Rattle.vortex_mask.specs.Faults.{index_fault, out_of_bounds, common, range_f
 use Rattle.vortex_mask.specs.Fraction.{share, share_by_variant}
 use Rattle.vortex_mask.specs.Lend.{ReachesShare}
 use Rattle.vortex_mask.specs.Mask.{Variant, truth, variant, contents, caches, where_mixed, all_true, all_false, mixed, fitting_variant, variant_and, variant_or, variant_not, variant_of_no_part, IsUniform}
-use Rattle.vortex_mask.specs.MaskValues.{AreOf, Contents, no_caches, kept_indices, kept_ranges, with_indices, with_ranges}
+use Rattle.vortex_mask.specs.MaskValues.{AreOf, Contents, no_caches, only_indices, only_ranges, with_indices, with_ranges}
 use Rattle.vortex_mask.specs.Path.{path, path_of, path_caches, narrowed_caches, AreStepsOf}
 use Rattle.vortex_mask.specs.Steps.{StepCounts, no_steps, word_steps, driven_steps}
 use Rattle.vortex_mask.specs.declared.intersect_by_rank.path.RankPath.TheVariants.{Indices, MaskDriven, BitBuffers, RankIndices}
@@ -138,11 +138,11 @@ not_seven_of_ten : ReachesShare (true ∷ false ∷ true ∷ true ∷ false ∷ 
 not_seven_of_ten reached = omega arith
 
 -- ranges that touch are not kept
-touching_are_not_kept : AreOf (true ∷ true ∷ false ∷ []) (kept_ranges ((0, 1) ∷ (1, 2) ∷ [])) → ⊥
+touching_are_not_kept : AreOf (true ∷ true ∷ false ∷ []) (only_ranges ((0, 1) ∷ (1, 2) ∷ [])) → ⊥
 touching_are_not_kept kept = cc (kept.ranges ((0, 1) ∷ (1, 2) ∷ []) refl)
 
 -- a list that is kept stays beside the new one
-places_beside_ranges : with_indices (0 ∷ []) (kept_ranges ((0, 1) ∷ [])) ≡ with_ranges ((0, 1) ∷ []) (kept_indices (0 ∷ []))
+places_beside_ranges : with_indices (0 ∷ []) (only_ranges ((0, 1) ∷ [])) ≡ with_ranges ((0, 1) ∷ []) (only_indices (0 ∷ []))
 places_beside_ranges = refl
 
 -- ---- paths: self's values and true ones, the rank mask's, and whether the true places of each are kept
@@ -185,8 +185,8 @@ paths_on_both_sides_of_each_comparison = refl
 -- ---- cached lists of what a rank intersection makes, by its path
 
 cached_by_path : Gives (λ path. path_caches path (true ∷ false ∷ true ∷ [])) (
-    (Indices, kept_indices (0 ∷ 2 ∷ []))
-    ∷ (MaskDriven, kept_indices (0 ∷ 2 ∷ []))
+    (Indices, only_indices (0 ∷ 2 ∷ []))
+    ∷ (MaskDriven, only_indices (0 ∷ 2 ∷ []))
     ∷ (BitBuffers, no_caches)
     ∷ (RankIndices, no_caches)
     ∷ [])

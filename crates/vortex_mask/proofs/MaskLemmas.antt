@@ -14,7 +14,7 @@ use Rattle.mask_bits.proofs.Lists.PlaceLemmas.{count-le-length}
 use Rattle.mask_bits.proofs.Lists.RankLemmas.{rank_intersection-all_true, rank_intersection-by_all_true}
 use Rattle.mask_bits.proofs.Lists.CountLemmas.{nil-repeated, slice_get-repeated, all_true-count, positions-repeated_true_at, All-repeated, repeated_from_All, count-repeated_true, count-repeated_false, all_true_from_count, all_false_from_count, list_all-count, list_all-count_less, list_any-count, list_any-count_zero, length-repeated}
 use Rattle.vortex_mask.specs.Laws.{UniformIsOfOneValue, AllTrueHasTrueValues, AllFalseHasFalseValues, SameTruthIsOneList}
-use Rattle.vortex_mask.specs.MaskValues.{AreOf, no_caches, kept_indices}
+use Rattle.vortex_mask.specs.MaskValues.{AreOf, no_caches, only_indices}
 
 pub fitting_variant-all : (empty : Variant) (m : List Bool) → 0 < length m → count m ≡ length m → fitting_variant empty m ≡ all_true
 fitting_variant-all empty [] some e = absurd (omega arith)
@@ -114,5 +114,5 @@ some_one x y same = cc
 pub AreOf-no_caches : (m : List Bool) → AreOf m no_caches
 AreOf-no_caches m = record { indices = λ places is. absurd (cc); ranges = λ ranges is. absurd (cc) }
 
-pub AreOf-kept_indices : (m : List Bool) (places : List ℕ) → places ≡ positions m → AreOf m (kept_indices places)
-AreOf-kept_indices m places same = record { indices = λ kept is. sym (some_one places kept is) ∙ same; ranges = λ ranges is. absurd (cc) }
+pub AreOf-only_indices : (m : List Bool) (places : List ℕ) → places ≡ positions m → AreOf m (only_indices places)
+AreOf-only_indices m places same = record { indices = λ kept is. sym (some_one places kept is) ∙ same; ranges = λ ranges is. absurd (cc) }

@@ -15,12 +15,12 @@ abbrev pub no_caches : Caches
 no_caches = record { indices = None; ranges = None }
 
 -- the places alone
-abbrev pub kept_indices : List ℕ → Caches
-kept_indices places = record { indices = Some places; ranges = None }
+abbrev pub only_indices : List ℕ → Caches
+only_indices places = record { indices = Some places; ranges = None }
 
 -- the ranges alone
-abbrev pub kept_ranges : List (ℕ × ℕ) → Caches
-kept_ranges ranges = record { indices = None; ranges = Some ranges }
+abbrev pub only_ranges : List (ℕ × ℕ) → Caches
+only_ranges ranges = record { indices = None; ranges = Some ranges }
 
 -- these lists, with the places kept beside the ranges
 abbrev pub with_indices : List ℕ → Caches → Caches

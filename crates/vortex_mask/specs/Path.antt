@@ -4,7 +4,7 @@ use Rattle.mask_bits.specs.Buffer.{values}
 use Rattle.mask_bits.specs.Positions.{positions, count}
 use Rattle.mask_bits.specs.Words.{started_words}
 use Rattle.vortex_mask.specs.Mask.{truth, caches, where_mixed}
-use Rattle.vortex_mask.specs.MaskValues.{Contents, Caches, no_caches, kept_indices}
+use Rattle.vortex_mask.specs.MaskValues.{Contents, Caches, no_caches, only_indices}
 use Rattle.vortex_mask.specs.Steps.{StepCounts, no_steps, word_steps, driven_steps}
 use Rattle.vortex_mask.specs.declared.intersect_by_rank.path.RankPath.{RankPath}
 use Rattle.vortex_mask.specs.declared.intersect_by_rank.path.RankPath.TheVariants.{Indices, MaskDriven, BitBuffers, RankIndices}
@@ -13,13 +13,13 @@ use Rattle.vortex_mask.specs.declared.mask.Mask.TheVariants.{AllTrue, AllFalse, 
 
 -- the path of a mask with so many values and true ones, narrowed by a rank mask with so many, where the true indices of each are kept or not: the first test that holds decides
 abbrev pub path : ℕ → ℕ → ℕ → ℕ → Bool → Bool → RankPath
-path len trues rank_len rank_trues self_kept true =
-    if self_kept && nat_lt rank_trues (started_words len) then Indices
+path len trues rank_len rank_trues self_cached true =
+    if self_cached && nat_lt rank_trues (started_words len) then Indices
     else (if nat_lt (64 * trues) len then Indices
     else (if nat_lt (32 * rank_trues) rank_len then MaskDriven
     else (if nat_lt rank_len (4 * rank_trues) then BitBuffers
     else RankIndices)))
-path len trues rank_len rank_trues self_kept false =
+path len trues rank_len rank_trues self_cached false =
     if nat_lt (64 * trues) len then Indices
     else (if nat_lt (32 * rank_trues) rank_len then MaskDriven
     else BitBuffers)
@@ -30,8 +30,8 @@ path_of v w = path (length (values v.buffer)) (count (values v.buffer)) (length 
 
 -- what a mixed result r keeps: its true indices, where the path finds these one by one
 abbrev pub path_caches : RankPath → List Bool → Caches
-path_caches Indices r = kept_indices (positions r)
-path_caches MaskDriven r = kept_indices (positions r)
+path_caches Indices r = only_indices (positions r)
+path_caches MaskDriven r = only_indices (positions r)
 path_caches BitBuffers r = no_caches
 path_caches RankIndices r = no_caches
 

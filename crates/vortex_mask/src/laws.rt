@@ -28,8 +28,8 @@ pub fn one_variant(mask: &Mask)
 }
 
 /// The lists that a mask keeps are its true indices and its runs, which hold exactly these indices.
-pub fn kept_lists(mask: &Mask)
-    ensures kept { AreOf (truth mask.now) (caches mask.now) }
+pub fn cached_lists(mask: &Mask)
+    ensures cached { AreOf (truth mask.now) (caches mask.now) }
     ensures lent { AreRanges (truth mask.now) (runs (truth mask.now)) }
 {
     match mask {
@@ -49,8 +49,8 @@ pub fn one_list_of_ranges(left: &Mask, right: &Mask)
     ensures { ForSome (caches left.now).ranges
         (λ rs. ForSome (caches right.now).ranges (λ ss. rs ≡ ss)) }
 {
-    kept_lists(left);
-    kept_lists(right);
+    cached_lists(left);
+    cached_lists(right);
 }
 
 /// A list is uniform exactly if it is a number of true values or of false ones.

@@ -172,7 +172,7 @@ fn by_rank_indices<D: DepositBits>(
         (λ r. IsNarrowedOn RankPath.RankIndices rows.now ranks.now r.0 r.1) }
     ensures refused { IsOkUnless result (MaskError.Memory alloc_error) }
 {
-    intersect_bit_buffer_by_rank_indices::<D>(alloc, rows.bit_buffer(), ranks.kept_indices())
+    intersect_bit_buffer_by_rank_indices::<D>(alloc, rows.bit_buffer(), ranks.lend_indices())
 }
 
 // Where fewer than one row in 16 is true, a word has fewer than four of them on the average. The

@@ -69,9 +69,9 @@ impl<'a> RankBits<'a> {
     {
         let position = self.offset + offset;
         if position / 8 + 16 <= self.bytes.len() {
-            words::window(self.bytes, position)
+            words::word_at(self.bytes, position)
         } else {
-            words::window(&self.tail, position - 8 * self.tail_from)
+            words::word_at(&self.tail, position - 8 * self.tail_from)
         }
     }
 }

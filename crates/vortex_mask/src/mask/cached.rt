@@ -15,17 +15,17 @@ use crate::mask::{AllOr, Mask, MaskError};
 use std::alloc::Global;
 use std::rc::Rc;
 
-/// A list of the true indices of a mask: the places, or the maximal ranges that hold them.
+/// A list of the true indices of a mask: the indices, or the maximal ranges that hold them.
 #[derive(Drop)]
 pub enum MaskIter<'a> {
-    /// The places, ascending.
+    /// The indices, ascending.
     Indices(&'a [usize]),
-    /// The maximal ranges, ascending, each its first place and the place past its last.
+    /// The maximal ranges, ascending, each its first index and the index past its last.
     Slices(&'a [(usize, usize)]),
 }
 
-/// Lists of the true indices, made where they are not kept yet, and kept from then on. Clones that
-/// were made before keep what they kept.
+/// Lists of the true indices, made where they are not cached yet, and cached from then on. Clones that
+/// were made before keep the lists they had.
 ///
 /// Where being out of memory refuses a list, the mask stays as it was.
 impl Mask {
@@ -35,12 +35,12 @@ impl Mask {
         ensures list { IfOk result (λ lent. IfLent lent
             (λ places. places.now ≡ positions (truth self.old))) }
 
-        // Once the list is no longer borrowed, it is kept.
+        // Once the list is no longer borrowed, it is cached.
         ensures* after { sem 𝓛 (Rests the_row self.entry (λ new.
             IfOk result (λ lent. IsKeeping self.old
             (with_lent (λ places. with_indices places.now) lent (caches self.old)) new)
             × OnErr result (new ≡ self.old))) }
-        ensures kept { IsSome (caches self.old).indices → IsOk result }
+        ensures cached { IsSome (caches self.old).indices → IsOk result }
         ensures uniform { variant self.old ≢ mixed → IsOk result }
         ensures refused { IsOkUnless result (MaskError.Memory alloc_error) }
     {
@@ -48,7 +48,7 @@ impl Mask {
         Ok(match self {
             Mask::AllTrue(_) => AllOr::All,
             Mask::AllFalse(_) => AllOr::None,
-            Mask::Values(values) => AllOr::Some(values.kept_indices()),
+            Mask::Values(values) => AllOr::Some(values.lend_indices()),
         })
     }
 
@@ -60,12 +60,12 @@ impl Mask {
         ensures list { IfOk result (λ lent. IfLent lent
             (λ ranges. ranges.now ≡ runs (truth self.old))) }
 
-        // Once the list is no longer borrowed, it is kept.
+        // Once the list is no longer borrowed, it is cached.
         ensures* after { sem 𝓛 (Rests the_row self.entry (λ new.
             IfOk result (λ lent. IsKeeping self.old
             (with_lent (λ ranges. with_ranges ranges.now) lent (caches self.old)) new)
             × OnErr result (new ≡ self.old))) }
-        ensures kept { IsSome (caches self.old).ranges → IsOk result }
+        ensures cached { IsSome (caches self.old).ranges → IsOk result }
         ensures uniform { variant self.old ≢ mixed → IsOk result }
         ensures refused { IsOkUnless result (MaskError.Memory alloc_error) }
     {
@@ -73,12 +73,12 @@ impl Mask {
         Ok(match self {
             Mask::AllTrue(_) => AllOr::All,
             Mask::AllFalse(_) => AllOr::None,
-            Mask::Values(values) => AllOr::Some(values.kept_slices()),
+            Mask::Values(values) => AllOr::Some(values.lend_slices()),
         })
     }
 
     /// `All`, `None` or a list, by variant: the ranges of `slices` where at least `num` of each
-    /// `den` values are true, taken over the whole mask, else the places of `indices`. The
+    /// `den` values are true, taken over the whole mask, else the list of `indices`. The
     /// comparison is exact.
     pub fn threshold_iter(
         &mut self,
@@ -93,14 +93,14 @@ impl Mask {
         ensures list { IfOk result (λ lent. IfLent lent
             (IsLentOf (truth self.old))) }
 
-        // Once the list is no longer borrowed, it is kept.
+        // Once the list is no longer borrowed, it is cached.
         ensures* after { sem 𝓛 (Rests the_row self.entry (λ new.
             IfOk result (λ lent. IsKeeping self.old
             (with_lent with_list lent (caches self.old)) new)
             × OnErr result (new ≡ self.old))) }
-        ensures kept_ranges { ReachesShare (truth self.old) num den
+        ensures cached_ranges { ReachesShare (truth self.old) num den
             → IsSome (caches self.old).ranges → IsOk result }
-        ensures kept_indices { count (truth self.old) * den < num * length (truth self.old)
+        ensures cached_indices { count (truth self.old) * den < num * length (truth self.old)
             → IsSome (caches self.old).indices → IsOk result }
         ensures uniform { variant self.old ≢ mixed → IsOk result }
         ensures refused { IsOkUnless result (MaskError.Memory alloc_error) }
@@ -116,11 +116,11 @@ impl Mask {
             self.fill_indices(alloc)
         };
         filled?;
-        Ok(AllOr::Some(self.kept_list(by_ranges)))
+        Ok(AllOr::Some(self.lend_list(by_ranges)))
     }
 
     // The ranges that a mixed mask keeps, or the true indices that it keeps.
-    fn kept_list(&self, by_ranges: bool) -> MaskIter<'_>
+    fn lend_list(&self, by_ranges: bool) -> MaskIter<'_>
         requires mixed { variant self.now ≡ mixed }
         requires ranges { by_ranges ≡ true → IsSome (caches self.now).ranges }
         requires indices { by_ranges ≡ false → IsSome (caches self.now).indices }
@@ -128,8 +128,8 @@ impl Mask {
         ensures list { with_list result (caches self.now) ≡ caches self.now }
     {
         match self {
-            Mask::Values(values) if by_ranges => MaskIter::Slices(values.kept_slices()),
-            Mask::Values(values) => MaskIter::Indices(values.kept_indices()),
+            Mask::Values(values) if by_ranges => MaskIter::Slices(values.lend_slices()),
+            Mask::Values(values) => MaskIter::Indices(values.lend_indices()),
             _ => unreachable!(),
         }
     }
@@ -141,7 +141,7 @@ impl Mask {
             (with_indices (positions (truth self.old)) (caches self.old)) self.new) }
         ensures stays { variant self.old ≢ mixed → self.new ≡ self.old }
         ensures unfilled { OnErr result (self.new ≡ self.old) }
-        ensures kept { IsSome (caches self.old).indices → IsOk result }
+        ensures cached { IsSome (caches self.old).indices → IsOk result }
         ensures uniform { variant self.old ≢ mixed → IsOk result }
         ensures refused { IsOkUnless result (MaskError.Memory alloc_error) }
     {
@@ -160,7 +160,7 @@ impl Mask {
             (with_ranges (runs (truth self.old)) (caches self.old)) self.new) }
         ensures stays { variant self.old ≢ mixed → self.new ≡ self.old }
         ensures unfilled { OnErr result (self.new ≡ self.old) }
-        ensures kept { IsSome (caches self.old).ranges → IsOk result }
+        ensures cached { IsSome (caches self.old).ranges → IsOk result }
         ensures uniform { variant self.old ≢ mixed → IsOk result }
         ensures refused { IsOkUnless result (MaskError.Memory alloc_error) }
     {

@@ -8,7 +8,7 @@ ghost use Rattle.vortex_mask.specs.AllOr.{all_or_copied, IsListOf};
 ghost use Rattle.mask_bits.specs.Buffer.{values};
 ghost use Rattle.mask_bits.specs.Positions.{count};
 ghost use Rattle.vortex_mask.specs.Mask.{truth, variant, fitting_variant, all_false, mixed, IsUniform, held_buffer, caches, where_mixed};
-ghost use Rattle.vortex_mask.specs.MaskValues.{no_caches, AreOf, kept_ranges};
+ghost use Rattle.vortex_mask.specs.MaskValues.{no_caches, AreOf, only_ranges};
 ghost use Rattle.vortex_mask.specs.declared.mask.Mask.TheVariants.{AllTrue};
 ghost use Rattle.mask_bits.specs.RunScan.{runs};
 ghost use Rattle.mask_bits.specs.Runs.{AreRanges};
@@ -46,7 +46,7 @@ impl Mask {
         ensures list { IfOk result (λ m. truth m ≡ values buffer) }
         ensures variant { IfOk result (λ m. variant m ≡ fitting_variant all_false (values buffer)) }
         ensures caches { IfOk result
-            (λ m. caches m ≡ where_mixed m (kept_ranges (runs (values buffer)))) }
+            (λ m. caches m ≡ where_mixed m (only_ranges (runs (values buffer)))) }
         ensures uniform { IsUniform (values buffer) → IsOk result }
         ensures refused { IsOkUnless result (MaskError.Memory alloc_error) }
     {

@@ -9,7 +9,7 @@ ghost use Rattle.mask_bits.specs.Buffer.{values};
 ghost use Rattle.mask_bits.specs.Positions.{positions, true_at, repeated};
 ghost use Rattle.vortex_mask.specs.Faults.{index_fault, first_unsorted, first_repeated, out_of_bounds, first_past, common};
 ghost use Rattle.vortex_mask.specs.Mask.{truth, variant, fitting_variant, all_false, caches, where_mixed, all_true};
-ghost use Rattle.vortex_mask.specs.MaskValues.{kept_indices, no_caches};
+ghost use Rattle.vortex_mask.specs.MaskValues.{only_indices, no_caches};
 ghost use Rattle.mask_bits.specs.Lists.{not_of};
 ghost use Rattle.vortex_mask.specs.Ascending.{IsAscending};
 
@@ -21,8 +21,8 @@ use std::rc::Rc;
 
 /// Masks of true indices.
 impl Mask {
-    /// The mask of `len` values that is true exactly at the places that an iterator yields, each
-    /// above the one before it. Where both true and false values are there, it keeps the places.
+    /// The mask of `len` values that is true exactly at the indices that an iterator yields, each
+    /// above the one before it. Where both true and false values are there, it caches them.
     ///
     /// The iterator is read to its end first, so `Memory` may come before the other refusals:
     /// `UnsortedIndices` for the first place below the one before it, else `RepeatedIndex` for the
@@ -41,7 +41,7 @@ impl Mask {
             (λ m. WholeRun I.next_gives indices (λ p. positions (truth m) ≡ p.items)) }
         ensures variant { IfOk result (λ m. variant m ≡ fitting_variant all_false (truth m)) }
         ensures caches { IfOk result
-            (λ m. caches m ≡ where_mixed m (kept_indices (positions (truth m)))) }
+            (λ m. caches m ≡ where_mixed m (only_indices (positions (truth m)))) }
 
         // A refusal is the fault of what the iterator yielded, or that memory is out.
         ensures refused { IfErr result (λ e. (e ≡ MaskError.Memory alloc_error)
@@ -61,7 +61,7 @@ impl Mask {
         ensures faultless { IfOk result (λ m. index_fault len indices.items ≡ None) }
         ensures variant { IfOk result (λ m. variant m ≡ fitting_variant all_false (truth m)) }
         ensures caches { IfOk result
-            (λ m. caches m ≡ where_mixed m (kept_indices indices.items)) }
+            (λ m. caches m ≡ where_mixed m (only_indices indices.items)) }
         ensures refused { IfErr result (λ e. (e ≡ MaskError.Memory alloc_error)
             ⊎ (index_fault len indices.items ≡ Some e)) }
     {
@@ -84,7 +84,7 @@ impl Mask {
         ensures indices { IfOk result (λ m. positions (truth m) ≡ indices.items) }
         ensures variant { IfOk result (λ m. variant m ≡ fitting_variant all_false (truth m)) }
         ensures caches { IfOk result
-            (λ m. caches m ≡ where_mixed m (kept_indices indices.items)) }
+            (λ m. caches m ≡ where_mixed m (only_indices indices.items)) }
         ensures uniform { (vec_len indices ≡ 0) ⊎ (vec_len indices ≡ len) → IsOk result }
         ensures refused { IsOkUnless result (MaskError.Memory alloc_error) }
     {
@@ -111,7 +111,7 @@ fn of_some_indices(
     requires some { 0 < vec_len indices }
     requires not_all { vec_len indices ≢ len }
     ensures list { IfOk result (λ v. values v.value.buffer ≡ true_at len indices.items) }
-    ensures caches { IfOk result (λ v. v.value.caches ≡ kept_indices indices.items) }
+    ensures caches { IfOk result (λ v. v.value.caches ≡ only_indices indices.items) }
     ensures refused { IsOkUnless result (MaskError.Memory alloc_error) }
 {
     let true_count = indices.len();
@@ -171,7 +171,7 @@ fn out_of_bounds(len: usize, indices: &[usize]) -> Option<MaskError>
 
 /// Masks of false indices.
 impl Mask {
-    /// The mask of `len` values that is false exactly at the places that an iterator yields, in
+    /// The mask of `len` values that is false exactly at the indices that an iterator yields, in
     /// any order and with repeats. No values give `AllTrue(0)`.
     ///
     /// The values are made first, so `Memory` may come before the other refusal:
@@ -219,7 +219,7 @@ impl Mask {
     }
 }
 
-// Makes the values at these places false, and tells the first place that is past the end.
+// Makes the values at these indices false, and tells the first place that is past the end.
 fn exclude<I: Iterator<Item = usize>>(kept: &mut BitBufferMut, indices: I) -> Option<usize>
     requires can { I.can_next indices }
     requires ends { IsFinite (I.remaining indices) }
@@ -251,10 +251,10 @@ fn exclude_one(kept: &mut BitBufferMut, index: usize, past_end: Option<usize>) -
 
 /// Masks of the indices that two lists have in common.
 impl Mask {
-    /// The mask of `len` values that is true exactly at the places that both iterators yield, each
-    /// in ascending order. Where both true and false values are there, it keeps the places.
+    /// The mask of `len` values that is true exactly at the indices that both iterators yield, each
+    /// in ascending order. Where both true and false values are there, it caches them.
     ///
-    /// A place that only one of them yields is dropped, past `len` too. The iterators are read to
+    /// An index that only one of them yields is dropped, past `len` too. The iterators are read to
     /// their ends first, so `Memory` may come before the other refusal: `IndexOutOfBounds` for the
     /// first place in common that is not below `len`.
     pub fn from_intersection_indices<L: Iterator<Item = usize>, R: Iterator<Item = usize>>(
@@ -278,7 +278,7 @@ impl Mask {
         ensures within { IfOk result (λ m. out_of_bounds len (positions (truth m)) ≡ None) }
         ensures variant { IfOk result (λ m. variant m ≡ fitting_variant all_false (truth m)) }
         ensures caches { IfOk result
-            (λ m. caches m ≡ where_mixed m (kept_indices (positions (truth m)))) }
+            (λ m. caches m ≡ where_mixed m (only_indices (positions (truth m)))) }
 
         // A refusal is the fault of what the iterators yielded, or that memory is out.
         ensures refused { IfErr result (λ e. (e ≡ MaskError.Memory alloc_error)
@@ -304,7 +304,7 @@ impl Mask {
         ensures within { IfOk result (λ m. out_of_bounds len (common lhs.now rhs.now) ≡ None) }
         ensures variant { IfOk result (λ m. variant m ≡ fitting_variant all_false (truth m)) }
         ensures caches { IfOk result
-            (λ m. caches m ≡ where_mixed m (kept_indices (common lhs.now rhs.now))) }
+            (λ m. caches m ≡ where_mixed m (only_indices (common lhs.now rhs.now))) }
         ensures refused { IfErr result (λ e. (e ≡ MaskError.Memory alloc_error)
             ⊎ (out_of_bounds len (common lhs.now rhs.now) ≡ Some e)) }
     {

@@ -7,7 +7,7 @@ ghost use Rattle.mask_bits.specs.RunScan.{runs};
 ghost use Rattle.mask_bits.specs.Runs.{AreRanges};
 ghost use Rattle.vortex_mask.specs.Faults.{range_fault};
 ghost use Rattle.vortex_mask.specs.Mask.{truth, variant, fitting_variant, all_false, caches, where_mixed};
-ghost use Rattle.vortex_mask.specs.MaskValues.{kept_ranges};
+ghost use Rattle.vortex_mask.specs.MaskValues.{only_ranges};
 ghost use Rattle.vortex_mask.specs.Ranges.{places_held};
 
 use crate::mask::{Mask, MaskError};
@@ -31,7 +31,7 @@ impl Mask {
         ensures list { IfOk result (λ m. AreRanges (truth m) ranges.items) }
         ensures variant { IfOk result (λ m. variant m ≡ fitting_variant all_false (truth m)) }
         ensures caches { IfOk result
-            (λ m. caches m ≡ where_mixed m (kept_ranges (runs (truth m)))) }
+            (λ m. caches m ≡ where_mixed m (only_ranges (runs (truth m)))) }
 
         // A fault is told before any memory is taken, and after that being out of memory alone.
         ensures faultless { OnOk result (range_fault len ranges.items ≡ None) }
@@ -57,7 +57,7 @@ impl Mask {
         ensures list { IfOk result (λ m. AreRanges (truth m) ranges.items) }
         ensures variant { IfOk result (λ m. variant m ≡ fitting_variant all_false (truth m)) }
         ensures caches { IfOk result
-            (λ m. caches m ≡ where_mixed m (kept_ranges (runs (truth m)))) }
+            (λ m. caches m ≡ where_mixed m (only_ranges (runs (truth m)))) }
         ensures uniform { (places_held ranges.items ≡ 0) ⊎ (places_held ranges.items ≡ len)
             → IsOk result }
         ensures refused { IsOkUnless result (MaskError.Memory alloc_error) }

@@ -102,7 +102,7 @@ impl MaskValues {
         &self.buffer
     }
 
-    /// The values, packed, without their count and the lists that were kept.
+    /// The values, packed, without their count and its cached lists.
     pub fn into_bit_buffer(self) -> BitBuffer
         ensures { result ≡ self.buffer }
     {
@@ -123,23 +123,23 @@ impl MaskValues {
         self.buffer.value(index)
     }
 
-    /// The true indices, ascending, if they are kept.
+    /// The true indices, ascending, if they are cached.
     pub fn cached_indices(&self) -> Option<&[usize]>
-        ensures kept { option_map (λ places. places.now) result ≡ self.now.caches.indices }
+        ensures cached { option_map (λ places. places.now) result ≡ self.now.caches.indices }
         ensures whole { AreOf (values self.now.buffer) self.now.caches }
     {
         self.indices.as_deref()
     }
 
-    /// The maximal ranges of true indices, ascending, if they are kept.
+    /// The maximal ranges of true indices, ascending, if they are cached.
     pub fn cached_slices(&self) -> Option<&[(usize, usize)]>
-        ensures kept { option_map (λ ranges. ranges.now) result ≡ self.now.caches.ranges }
+        ensures cached { option_map (λ ranges. ranges.now) result ≡ self.now.caches.ranges }
         ensures whole { AreOf (values self.now.buffer) self.now.caches }
     {
         self.slices.as_deref()
     }
 
-    /// The same values with the same lists kept.
+    /// The same values with the same lists cached.
     pub fn clone(&self) -> Result<MaskValues, MaskError>
         ensures same { IfOk result (λ v. v ≡ self.now) }
         ensures refused { IsOkUnless result (MaskError.Memory alloc_error) }
@@ -164,45 +164,45 @@ impl MaskValues {
     }
 }
 
-/// Lists of the true indices, made where they are not kept yet, and kept from then on.
+/// Lists of the true indices, made where they are not cached yet, and cached from then on.
 ///
-/// Where being out of memory refuses one, the values keep what they kept before.
+/// Where being out of memory refuses one, the cached lists stay as they were.
 impl MaskValues {
     /// The true indices, ascending.
     pub fn indices(&mut self, alloc: Global) -> Result<&[usize], MaskError>
         ensures list { IfOk result (λ places. places.now ≡ positions (values self.old.buffer)) }
 
-        // Once the list is no longer borrowed, it is kept.
+        // Once the list is no longer borrowed, it is cached.
         ensures* after { sem 𝓛 (Rests the_row self.entry (λ new.
             IfOk result (λ places. new
             ≡ keeping (with_indices places.now self.old.caches) self.old)
             × OnErr result (new ≡ self.old))) }
-        ensures kept { IsSome self.old.caches.indices → IsOk result }
+        ensures cached { IsSome self.old.caches.indices → IsOk result }
         ensures refused { IsOkUnless result (MaskError.Memory alloc_error) }
     {
         self.cache_indices(alloc)?;
-        Ok(self.kept_indices())
+        Ok(self.lend_indices())
     }
 
-    /// The maximal ranges of true indices, ascending. Each is its first place and the place past its
+    /// The maximal ranges of true indices, ascending. Each is its first index and the index past its
     /// last.
     pub fn slices(&mut self, alloc: Global) -> Result<&[(usize, usize)], MaskError>
         ensures list { IfOk result (λ ranges. ranges.now ≡ runs (values self.old.buffer)) }
 
-        // Once the list is no longer borrowed, it is kept.
+        // Once the list is no longer borrowed, it is cached.
         ensures* after { sem 𝓛 (Rests the_row self.entry (λ new.
             IfOk result (λ ranges. new
             ≡ keeping (with_ranges ranges.now self.old.caches) self.old)
             × OnErr result (new ≡ self.old))) }
-        ensures kept { IsSome self.old.caches.ranges → IsOk result }
+        ensures cached { IsSome self.old.caches.ranges → IsOk result }
         ensures refused { IsOkUnless result (MaskError.Memory alloc_error) }
     {
         self.cache_slices(alloc)?;
-        Ok(self.kept_slices())
+        Ok(self.lend_slices())
     }
 
     /// The ranges of `slices` where at least `num` of each `den` values are true, taken over all
-    /// of them, else the places of `indices`. The comparison is exact.
+    /// of them, else the list of `indices`. The comparison is exact.
     pub fn threshold_iter(
         &mut self,
         alloc: Global,
@@ -214,23 +214,23 @@ impl MaskValues {
             ↔ ReachesShare (values self.old.buffer) num den) }
         ensures list { IfOk result (IsLentOf (values self.old.buffer)) }
 
-        // Once the list is no longer borrowed, it is kept.
+        // Once the list is no longer borrowed, it is cached.
         ensures* after { sem 𝓛 (Rests the_row self.entry (λ new.
             IfOk result (λ lent. new ≡ keeping (with_list lent self.old.caches) self.old)
             × OnErr result (new ≡ self.old))) }
-        ensures kept_ranges { ReachesShare (values self.old.buffer) num den
+        ensures cached_ranges { ReachesShare (values self.old.buffer) num den
             → IsSome self.old.caches.ranges → IsOk result }
-        ensures kept_indices { count (values self.old.buffer) * den
+        ensures cached_indices { count (values self.old.buffer) * den
             < num * length (values self.old.buffer)
             → IsSome self.old.caches.indices → IsOk result }
         ensures refused { IsOkUnless result (MaskError.Memory alloc_error) }
     {
         if self.reaches_share(num, den) {
             self.cache_slices(alloc)?;
-            Ok(MaskIter::Slices(self.kept_slices()))
+            Ok(MaskIter::Slices(self.lend_slices()))
         } else {
             self.cache_indices(alloc)?;
-            Ok(MaskIter::Indices(self.kept_indices()))
+            Ok(MaskIter::Indices(self.lend_indices()))
         }
     }
 
@@ -242,20 +242,20 @@ impl MaskValues {
         true_part >= num as u128 * self.buffer.len() as u128
     }
 
-    // The true indices, which are kept.
-    pub(crate) fn kept_indices(&self) -> &[usize]
+    // The true indices, which are cached.
+    pub(crate) fn lend_indices(&self) -> &[usize]
         requires { IsSome self.now.caches.indices }
         ensures list { result.now ≡ positions (values self.now.buffer) }
-        ensures kept { Some result.now ≡ self.now.caches.indices }
+        ensures cached { Some result.now ≡ self.now.caches.indices }
     {
         self.indices.as_deref().unwrap()
     }
 
-    // The maximal ranges, which are kept.
-    pub(crate) fn kept_slices(&self) -> &[(usize, usize)]
+    // The maximal ranges, which are cached.
+    pub(crate) fn lend_slices(&self) -> &[(usize, usize)]
         requires { IsSome self.now.caches.ranges }
         ensures list { result.now ≡ runs (values self.now.buffer) }
-        ensures kept { Some result.now ≡ self.now.caches.ranges }
+        ensures cached { Some result.now ≡ self.now.caches.ranges }
     {
         self.slices.as_deref().unwrap()
     }
@@ -265,7 +265,7 @@ impl MaskValues {
         ensures filled { IfOk result (λ _. self.new
             ≡ keeping (with_indices (positions (values self.old.buffer)) self.old.caches) self.old) }
         ensures unfilled { OnErr result (self.new ≡ self.old) }
-        ensures kept { IsSome self.old.caches.indices → IsOk result }
+        ensures cached { IsSome self.old.caches.indices → IsOk result }
         ensures refused { IsOkUnless result (MaskError.Memory alloc_error) }
     {
         if self.indices.is_none() {
@@ -279,7 +279,7 @@ impl MaskValues {
         ensures filled { IfOk result (λ _. self.new
             ≡ keeping (with_ranges (runs (values self.old.buffer)) self.old.caches) self.old) }
         ensures unfilled { OnErr result (self.new ≡ self.old) }
-        ensures kept { IsSome self.old.caches.ranges → IsOk result }
+        ensures cached { IsSome self.old.caches.ranges → IsOk result }
         ensures refused { IsOkUnless result (MaskError.Memory alloc_error) }
     {
         if self.slices.is_none() {
@@ -288,7 +288,7 @@ impl MaskValues {
         Ok(())
     }
 
-    // The same values with their true indices kept.
+    // The same values with their true indices cached.
     pub(crate) fn with_indices(&self, alloc: Global) -> Result<MaskValues, MaskError>
         ensures filled { IfOk result (λ v. v
             ≡ keeping (with_indices (positions (values self.now.buffer)) self.now.caches) self.now) }
@@ -300,7 +300,7 @@ impl MaskValues {
         Ok(filled)
     }
 
-    // The same values with their maximal ranges kept.
+    // The same values with their maximal ranges cached.
     pub(crate) fn with_slices(&self, alloc: Global) -> Result<MaskValues, MaskError>
         ensures filled { IfOk result (λ v. v
             ≡ keeping (with_ranges (runs (values self.now.buffer)) self.now.caches) self.now) }

@@ -11,5 +11,5 @@ returns c =
     let b : Packed = record { bytes = c.args.bytes.now; offset = c.args.offset; len = c.args.len } in
     let rest : ℕ = b.len % 64 in
     let few : rest < 64 = omega arith in
-    ap (λ n. word_bits (bit_and c.window.result (n - 1))) (one_shifted rest 18446744073709551615 refl few).0
-    ∙ word_bits-remainder b c.window.result c.window.ensures
+    ap (λ n. word_bits (bit_and c.word_at.result (n - 1))) (one_shifted rest 18446744073709551615 refl few).0
+    ∙ word_bits-remainder b c.word_at.result c.word_at.ensures

@@ -6,27 +6,27 @@ use Rattle.mask_bits.proofs.chunks.run_of_others.Goals as goal
 
 pub returns-then-value-clause-passed : goal.returns-then-value-clause-passed
 returns-then-value-clause-passed c = λ j h.
-    let w = c.window-word.result in
-    sym (bit-window c.args.bytes.now c.args.position w j c.window-word.ensures (omega (arith, zeros-within w c.window-word.type_inv)))
-    ∙ ap (λ b. nat_eq b 1) (zeros-clear w j c.window-word.type_inv h) ∙ sym (ap not c.if-value.true)
+    let w = c.word_at-word.result in
+    sym (bit-window c.args.bytes.now c.args.position w j c.word_at-word.ensures (omega (arith, zeros-within w c.word_at-word.type_inv)))
+    ∙ ap (λ b. nat_eq b 1) (zeros-clear w j c.word_at-word.type_inv h) ∙ sym (ap not c.if-value.true)
 
 pub returns-then-value-clause-holds : goal.returns-then-value-clause-holds
 returns-then-value-clause-holds c = λ h.
-    let w = c.window-word.result in
-    sym (bit-window c.args.bytes.now c.args.position w _ c.window-word.ensures h)
-    ∙ ap (λ b. nat_eq b 1) (zeros-end w c.window-word.type_inv h) ∙ sym c.if-value.true
+    let w = c.word_at-word.result in
+    sym (bit-window c.args.bytes.now c.args.position w _ c.word_at-word.ensures h)
+    ∙ ap (λ b. nat_eq b 1) (zeros-end w c.word_at-word.type_inv h) ∙ sym c.if-value.true
 
 pub returns-else-value-clause-few : goal.returns-else-value-clause-few
-returns-else-value-clause-few c = omega (arith, c.trailing_ones.ensures, ones-within c.window-word.result c.window-word.type_inv)
+returns-else-value-clause-few c = omega (arith, c.trailing_ones.ensures, ones-within c.word_at-word.result c.word_at-word.type_inv)
 
 pub returns-else-value-clause-passed : goal.returns-else-value-clause-passed
 returns-else-value-clause-passed c = λ j h.
-    let w = c.window-word.result in
-    sym (bit-window c.args.bytes.now c.args.position w j c.window-word.ensures (omega (arith, c.trailing_ones.ensures, ones-within w c.window-word.type_inv)))
-    ∙ ap (λ b. nat_eq b 1) (ones-set w j c.window-word.type_inv (omega (arith, c.trailing_ones.ensures))) ∙ sym (ap not c.if-value.false)
+    let w = c.word_at-word.result in
+    sym (bit-window c.args.bytes.now c.args.position w j c.word_at-word.ensures (omega (arith, c.trailing_ones.ensures, ones-within w c.word_at-word.type_inv)))
+    ∙ ap (λ b. nat_eq b 1) (ones-set w j c.word_at-word.type_inv (omega (arith, c.trailing_ones.ensures))) ∙ sym (ap not c.if-value.false)
 
 pub returns-else-value-clause-holds : goal.returns-else-value-clause-holds
 returns-else-value-clause-holds c = λ h.
-    let w = c.window-word.result in
-    sym (bit-window c.args.bytes.now c.args.position w c.trailing_ones.result c.window-word.ensures h)
-    ∙ ap (λ b. nat_eq b 1) (ap (bit_at w) c.trailing_ones.ensures ∙ ones-end w c.window-word.type_inv (omega (arith, c.trailing_ones.ensures))) ∙ sym c.if-value.false
+    let w = c.word_at-word.result in
+    sym (bit-window c.args.bytes.now c.args.position w c.trailing_ones.result c.word_at-word.ensures h)
+    ∙ ap (λ b. nat_eq b 1) (ap (bit_at w) c.trailing_ones.ensures ∙ ones-end w c.word_at-word.type_inv (omega (arith, c.trailing_ones.ensures))) ∙ sym c.if-value.false

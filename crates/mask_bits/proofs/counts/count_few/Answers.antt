@@ -8,6 +8,6 @@ use Rattle.mask_bits.proofs.counts.count_few.Goals as goal
 pub returns : goal.returns
 returns c =
     let n = c.args.len in
-    let w = c.window.result in
+    let w = c.word_at.result in
     ap (λ k. count_ones (bit_and w (k - 1))) (one_shifted n 18446744073709551615 refl c.requires).0
-    ∙ count-low c.args.bytes.now c.args.position n w (omega arith) (omega (arith, and_le_l w (2 ^ n - 1), c.window.type_inv)) c.window.ensures
+    ∙ count-low c.args.bytes.now c.args.position n w (omega arith) (omega (arith, and_le_l w (2 ^ n - 1), c.word_at.type_inv)) c.word_at.ensures

@@ -22,6 +22,6 @@ loop-done-preserved c =
     record {
       within = omega (arith, c.min-count.ensures);
       written = written-more c.args.bytes.now c.loop-done.bytes c.put_word.new.bytes from c.args.at c.args.offset done count (c.args.at + done)
-          _ refl (ap (λ (m : List Bool). take count m) c.window.ensures ∙ window-take from (c.args.offset + done) count few)
+          _ refl (ap (λ (m : List Bool). take count m) c.word_at.ensures ∙ window-take from (c.args.offset + done) count few)
           c.loop-done.invariant.written c.put_word.ensures;
     }

@@ -4,7 +4,7 @@ ghost use Rattle.std.specs.Prelude.{◌≡◌, ◌<◌, IfOk, IsOkUnless, All, a
 ghost use Rattle.std.specs.List.Sorted.{IsStrictlyIncreasing};
 ghost use Rattle.mask_bits.specs.Positions.{positions, at_places};
 ghost use Rattle.vortex_mask.specs.Mask.{truth, variant, fitting_variant, all_false, caches, where_mixed};
-ghost use Rattle.vortex_mask.specs.MaskValues.{kept_indices};
+ghost use Rattle.vortex_mask.specs.MaskValues.{only_indices};
 ghost use Rattle.vortex_mask.specs.Steps.{no_steps};
 
 use crate::intersect_by_rank::Steps;
@@ -28,7 +28,7 @@ pub fn intersect_by_rank_indices(
         (λ r. positions (truth r.0) ≡ at_places self_indices.now mask_indices.now) }
     ensures variant { IfOk result (λ r. variant r.0 ≡ fitting_variant all_false (truth r.0)) }
     ensures caches { IfOk result (λ r. caches r.0
-        ≡ where_mixed r.0 (kept_indices (at_places self_indices.now mask_indices.now))) }
+        ≡ where_mixed r.0 (only_indices (at_places self_indices.now mask_indices.now))) }
     ensures steps { IfOk result (λ r. r.1 ≡ no_steps) }
     ensures refused { IsOkUnless result (MaskError.Memory alloc_error) }
 {

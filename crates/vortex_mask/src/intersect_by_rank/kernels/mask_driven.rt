@@ -8,7 +8,7 @@ ghost use Rattle.mask_bits.specs.Buffer.{values};
 ghost use Rattle.mask_bits.specs.Positions.{positions, count, at_places};
 ghost use Rattle.mask_bits.specs.Words.{started_words};
 ghost use Rattle.vortex_mask.specs.Mask.{truth, variant, fitting_variant, all_false, caches, where_mixed};
-ghost use Rattle.vortex_mask.specs.MaskValues.{kept_indices};
+ghost use Rattle.vortex_mask.specs.MaskValues.{only_indices};
 ghost use Rattle.vortex_mask.specs.Ranks.{AreRanks, HasRead};
 ghost use Rattle.vortex_mask.specs.Steps.{driven_steps};
 
@@ -41,7 +41,7 @@ pub fn intersect_mask_driven<S: SelectBit, I: Iterator<Item = usize>>(
     ensures counted { IfOk result (λ r. count (truth r.0) ≡ true_count) }
     ensures variant { IfOk result (λ r. variant r.0 ≡ fitting_variant all_false (truth r.0)) }
     ensures caches { IfOk result
-        (λ r. caches r.0 ≡ where_mixed r.0 (kept_indices (positions (truth r.0)))) }
+        (λ r. caches r.0 ≡ where_mixed r.0 (only_indices (positions (truth r.0)))) }
     ensures words { IfOk result
         (λ r. r.1.words ≤ started_words (length (values self_buffer.now))) }
     ensures steps { IfOk result (λ r. r.1 ≡ driven_steps r.1.words true_count (truth r.0)) }

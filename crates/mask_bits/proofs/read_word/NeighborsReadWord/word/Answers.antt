@@ -4,5 +4,5 @@ use Rattle.mask_bits.proofs.read_word.NeighborsReadWord.word.Goals as goal
 
 pub returns : goal.returns
 returns c =
-    c.joined.ensures
+    c.funnel_shift.ensures
     ∙ window-neighbors c.args.bytes.now c.args.low c.args.i _ _ (omega (arith, c.requires.few)) c.word_of.ensures c.word_of-2.ensures

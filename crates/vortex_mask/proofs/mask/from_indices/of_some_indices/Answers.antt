@@ -4,7 +4,7 @@ use Rattle.mask_bits.specs.Positions.{positions}
 use Rattle.mask_bits.proofs.Lists.AscendingLemmas.{positions-true_at}
 use Rattle.mask_bits.proofs.Lists.PlaceLemmas.{count-le-length}
 use Rattle.mask_bits.proofs.Lists.RankLemmas.{length-true_at}
-use Rattle.vortex_mask.proofs.MaskLemmas.{AreOf-kept_indices}
+use Rattle.vortex_mask.proofs.MaskLemmas.{AreOf-only_indices}
 use Rattle.vortex_mask.proofs.mask.from_indices.of_some_indices.Goals as goal
 
 pub new-values-requires : goal.new-values-requires
@@ -17,5 +17,5 @@ new-values-requires c =
         some_true = omega arith;
         some_false = grind (arith, places, length-true_at, count-le-length);
       };
-      caches = AreOf-kept_indices m c.args.indices.items (sym places);
+      caches = AreOf-only_indices m c.args.indices.items (sym places);
     }

@@ -6,7 +6,7 @@ use Rattle.mask_bits.specs.Words.{word_bits}
 use Rattle.mask_bits.proofs.Lists.FrontLemmas.{window-whole}
 use Rattle.mask_bits.proofs.Lists.WordLemmas.{length-word_bits}
 use Rattle.mask_bits.proofs.WriteLemmas.{written-no_bits, written-more, written-bits_clear, written-word, joined-window}
-use Rattle.mask_bits.proofs.write_bits.put_joined.Goals as goal
+use Rattle.mask_bits.proofs.write_bits.put_shifted.Goals as goal
 
 pub loop-i-init : goal.loop-i-init
 loop-i-init c = written-no_bits c.args.bytes.now c.args.from.now (64 * c.args.first) c.args.offset c.requires.clear
@@ -20,10 +20,10 @@ loop-i-preserved c =
     let a = c.args.bytes.now in
     let b = c.loop-i.bytes in
     let new = c.set_word.new.bytes in
-    let word = c.joined-word.result in
+    let word = c.funnel_shift-word.result in
     let part : List ℕ = take (length from - offset / 8) (drop (offset / 8) from) in
     let shows = joined-window from part offset i c.word_of.result c.word_of-in-loop-i.result word (take_rest from (offset / 8))
-    c.word_of.ensures c.word_of-in-loop-i.ensures c.joined-word.ensures in
+    c.word_of.ensures c.word_of-in-loop-i.ensures c.funnel_shift-word.ensures in
     let clear : AreClearFrom (64 * (first + i)) b
     = written-bits_clear a b from (64 * first) offset (64 * i) (64 * (first + i)) (omega arith) c.loop-i.invariant in
     let grown : 64 * i + 64 ≡ 64 * (i + 1) = omega arith in

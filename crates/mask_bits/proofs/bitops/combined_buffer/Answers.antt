@@ -2,7 +2,7 @@ use Rattle.std.proofs.Common.{◌≡◌, ℕ, Bool, List, length, sym, ap, ◌�
 use Rattle.mask_bits.specs.Buffer.{values}
 use Rattle.mask_bits.specs.Lists.{combined}
 use Rattle.mask_bits.proofs.CombineLemmas.{within-parts, values-parts, take_back}
-use Rattle.mask_bits.proofs.bitops.made.Goals as goal
+use Rattle.mask_bits.proofs.bitops.combined_buffer.Goals as goal
 
 pub combine-requires-clause-a_within : goal.combine-requires-clause-a_within
 combine-requires-clause-a_within g c =

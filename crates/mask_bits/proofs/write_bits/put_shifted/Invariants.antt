@@ -1,7 +1,7 @@
 use Rattle.std.proofs.Common.{◌*◌}
 use Rattle.mask_bits.specs.Buffer.{values}
 use Rattle.mask_bits.specs.BufferMut.{IsWrittenBehind}
-use Rattle.mask_bits.proofs.write_bits.put_joined.Given as goal
+use Rattle.mask_bits.proofs.write_bits.put_shifted.Given as goal
 
 -- the words so far are written
 abbrev pub invariant-loop-i : goal.invariant-loop-i

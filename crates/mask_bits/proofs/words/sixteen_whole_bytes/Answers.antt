@@ -1,6 +1,6 @@
 use Rattle.std.proofs.Common.{◌∙◌}
 use Rattle.mask_bits.proofs.NumberLemmas.{number-chunk}
-use Rattle.mask_bits.proofs.words.sixteen_from.Goals as goal
+use Rattle.mask_bits.proofs.words.sixteen_whole_bytes.Goals as goal
 
 pub returns : goal.returns
 returns c =

@@ -1,6 +1,6 @@
 use Rattle.std.proofs.Common.{◌∙◌}
 use Rattle.mask_bits.proofs.NumberLemmas.{number-padded_chunk}
-use Rattle.mask_bits.proofs.words.fewer.Goals as goal
+use Rattle.mask_bits.proofs.words.last_bytes.Goals as goal
 
 pub returns : goal.returns
 returns c =
