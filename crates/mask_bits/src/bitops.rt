@@ -42,7 +42,11 @@ impl BitBuffer {
 }
 
 // A buffer of what `C` makes of two.
-fn combined_buffer<C: BitOp>(alloc: Global, a: &BitBuffer, b: &BitBuffer) -> Result<BitBuffer, AllocError>
+fn combined_buffer<C: BitOp>(
+    alloc: Global,
+    a: &BitBuffer,
+    b: &BitBuffer,
+) -> Result<BitBuffer, AllocError>
     requires { length (values a.now) ≡ length (values b.now) }
     ensures { IfOk result (λ r. values r ≡ combined C.of_bits (values a.now) (values b.now)) }
 {
