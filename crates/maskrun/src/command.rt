@@ -1,9 +1,10 @@
 //! The commands: how each reads its arguments, and what it prints.
 
-ghost use Rattle.std.specs.Prelude.{◌≡◌, ◌⊎◌, ◌∷◌, ◌↔◌, Bool, List, Ok, Some, None, IfOk, IfErr, MatchResult, length, map, slice_range, string_bytes};
+ghost use Rattle.std.specs.Prelude.{◌≡◌, ◌⊎◌, ◌∷◌, ◌↔◌, Bool, List, Ok, Err, Some, None, IfOk, IfErr, MatchResult, length, map, slice_range, string_bytes};
 ghost use Rattle.std.specs.Fmt.{decimal};
 ghost use Rattle.maskrun.specs.Arguments.{◌unless◌};
 ghost use Rattle.maskrun.specs.Commands.{command_of, printed, Prints, len_fault, part_fault, sum_fault, misfit, out_of_memory};
+ghost use Rattle.maskrun.specs.declared.error.RunError.TheVariants as run_error;
 ghost use Rattle.maskrun.specs.Text.{text, list_text, range_text};
 ghost use Rattle.mask_bits.specs.Lists.{and_of, or_of, and_not_of, not_of, limited, joined};
 ghost use Rattle.mask_bits.specs.Positions.{positions, count, rank_intersection};
@@ -15,9 +16,9 @@ use crate::argument::{
     MaskArgument, MaskList, mask_and_number, mask_and_range, masks, one_mask, two_masks,
 };
 use crate::error::RunError;
-use crate::print::{list_text, mask_text};
+use crate::print::{Item, list_text, mask_text};
 use std::alloc::{AllocError, Global};
-use vortex_mask::Mask;
+use vortex_mask::{Mask, MaskError};
 
 // A command with its arguments read.
 #[derive(Drop)]
@@ -84,35 +85,60 @@ fn rank(alloc: Global, a: &MaskArgument, b: &MaskArgument) -> Result<String, Run
 {
     let (a, b) = (a.mask(alloc)?, b.mask(alloc)?);
     expect_len(&b, a.true_count())?;
-    let mask = a.intersect_by_rank(alloc, &b)?;
-    Ok(mask_text(alloc, &mask)?)
+    print(alloc, a.intersect_by_rank(alloc, &b))
 }
 
 fn and(alloc: Global, a: &MaskArgument, b: &MaskArgument) -> Result<String, RunError>
     ensures { Prints result (text (and_of a.now b.now) unless len_fault (length a.now) b.now) }
 {
-    let (a, b) = (a.mask(alloc)?, b.mask(alloc)?);
-    expect_len(&b, a.len())?;
-    let mask = a.into_bitand(alloc, &b)?;
-    Ok(mask_text(alloc, &mask)?)
+    let (a, b) = of_one_len(alloc, a, b)?;
+    print(alloc, a.into_bitand(alloc, &b))
 }
 
 fn or(alloc: Global, a: &MaskArgument, b: &MaskArgument) -> Result<String, RunError>
     ensures { Prints result (text (or_of a.now b.now) unless len_fault (length a.now) b.now) }
 {
-    let (a, b) = (a.mask(alloc)?, b.mask(alloc)?);
-    expect_len(&b, a.len())?;
-    let mask = a.into_bitor(alloc, &b)?;
-    Ok(mask_text(alloc, &mask)?)
+    let (a, b) = of_one_len(alloc, a, b)?;
+    print(alloc, a.into_bitor(alloc, &b))
 }
 
 fn and_not(alloc: Global, a: &MaskArgument, b: &MaskArgument) -> Result<String, RunError>
     ensures { Prints result (text (and_not_of a.now b.now) unless len_fault (length a.now) b.now) }
 {
+    let (a, b) = of_one_len(alloc, a, b)?;
+    print(alloc, a.bitand_not(alloc, &b))
+}
+
+// Two masks of the same length.
+fn of_one_len(alloc: Global, a: &MaskArgument, b: &MaskArgument) -> Result<(Mask, Mask), RunError>
+    ensures first { IfOk result (λ m. truth m.0 ≡ a.now) }
+    ensures second { IfOk result (λ m. truth m.1 ≡ b.now) }
+    ensures fits { IfOk result (λ _. len_fault (length a.now) b.now ≡ None) }
+    ensures fault { IfErr result (λ e.
+        (len_fault (length a.now) b.now ≡ Some e) ⊎ (e ≡ out_of_memory)) }
+{
     let (a, b) = (a.mask(alloc)?, b.mask(alloc)?);
     expect_len(&b, a.len())?;
-    let mask = a.bitand_not(alloc, &b)?;
-    Ok(mask_text(alloc, &mask)?)
+    Ok((a, b))
+}
+
+// The line of a mask, where it was found.
+fn print(alloc: Global, mask: Result<Mask, MaskError>) -> Result<String, RunError>
+    ensures found { IfOk mask (λ m. Prints result (Ok (text (truth m)))) }
+    ensures fault { IfErr mask (λ e. result ≡ Err (run_error.Mask e)) }
+{
+    Ok(mask_text(alloc, &mask?)?)
+}
+
+// The line of a list, where memory was found for it.
+fn print_list<T: Item + Drop>(
+    alloc: Global,
+    items: Result<Vec<T>, AllocError>,
+) -> Result<String, RunError>
+    ensures found { IfOk items (λ v. Prints result (Ok (list_text T.text v.items))) }
+    ensures fault { IfErr items (λ _. result ≡ Err out_of_memory) }
+{
+    Ok(list_text(alloc, &items?)?)
 }
 
 // The mask has so many values.
@@ -130,8 +156,7 @@ fn expect_len(mask: &Mask, want: usize) -> Result<(), RunError>
 fn not(alloc: Global, a: &MaskArgument) -> Result<String, RunError>
     ensures { Prints result (Ok (text (not_of a.now))) }
 {
-    let mask = a.mask(alloc)?.not(alloc)?;
-    Ok(mask_text(alloc, &mask)?)
+    print(alloc, a.mask(alloc)?.not(alloc))
 }
 
 fn slice(alloc: Global, a: &MaskArgument, start: usize, end: usize) -> Result<String, RunError>
@@ -144,23 +169,20 @@ fn slice(alloc: Global, a: &MaskArgument, start: usize, end: usize) -> Result<St
     if end < start {
         return Err(RunError::OutOfRange { word: 2 });
     }
-    let mask = a.slice(alloc, start, end)?;
-    Ok(mask_text(alloc, &mask)?)
+    print(alloc, a.slice(alloc, start, end))
 }
 
 fn limit(alloc: Global, a: &MaskArgument, k: usize) -> Result<String, RunError>
     ensures { Prints result (Ok (text (limited a.now k))) }
 {
-    let mask = a.mask(alloc)?.limit(alloc, k)?;
-    Ok(mask_text(alloc, &mask)?)
+    print(alloc, a.mask(alloc)?.limit(alloc, k))
 }
 
 fn cat(alloc: Global, list: &MaskList) -> Result<String, RunError>
     ensures { Prints result (text (joined list.now) unless sum_fault list.now) }
 {
     let masks = list.masks(alloc)?;
-    let mask = Mask::from_masks(alloc, masks.into_iter())?;
-    Ok(mask_text(alloc, &mask)?)
+    print(alloc, Mask::from_masks(alloc, masks.into_iter()))
 }
 
 fn pipe(alloc: Global, list: &MaskList) -> Result<String, RunError>
@@ -210,16 +232,14 @@ fn indices(alloc: Global, a: &MaskArgument) -> Result<String, RunError>
     ensures { Prints result (Ok (list_text decimal (positions a.now))) }
 {
     let mask = a.mask(alloc)?;
-    let indices: Vec<usize> = mask.set_indices().collect(alloc)?;
-    Ok(list_text(alloc, &indices)?)
+    print_list(alloc, mask.set_indices().collect(alloc))
 }
 
 fn ranges(alloc: Global, a: &MaskArgument) -> Result<String, RunError>
     ensures { Prints result (Ok (list_text range_text (runs a.now))) }
 {
     let mask = a.mask(alloc)?;
-    let ranges = runs(alloc, &mask)?;
-    Ok(list_text(alloc, &ranges)?)
+    print_list(alloc, runs(alloc, &mask))
 }
 
 // The longest ranges of true values.
