@@ -7,9 +7,9 @@ use Rattle.std.proofs.lemmas.Bool.{cases_eq, cases_lt, eq-eqb, ne_eqb}
 use Rattle.std.proofs.lemmas.Nat.Bits.{bit_at-zero, bit_at_set_same, bit_at_set_other}
 use Rattle.mask_bits.specs.Buffer.{backing_bit}
 use Rattle.mask_bits.specs.Words.{word_bits, window}
-use Rattle.mask_bits.proofs.Lists.FrontLemmas.{get_or-window}
-use Rattle.mask_bits.proofs.Lists.PlaceLemmas.{get_or-take_true, get_or-take_false}
-use Rattle.mask_bits.proofs.Lists.WordLemmas.{get_or-word_bits}
+use Rattle.mask_bits.proofs.Lists.Words.FrontLemmas.{get_or-window}
+use Rattle.mask_bits.proofs.Lists.Places.PlaceLemmas.{get_or-take_true, get_or-take_false}
+use Rattle.mask_bits.proofs.Lists.Words.WordLemmas.{get_or-word_bits}
 use mir.Val.{bool_byte}
 
 -- the bits of w are the first j values of m, and zeros

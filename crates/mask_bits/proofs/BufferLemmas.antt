@@ -8,7 +8,7 @@ use Rattle.std.proofs.lemmas.List.Edits.{length-between, get_or-between}
 use Rattle.std.proofs.lemmas.Slice.Eq.{slice_eq-Decides}
 use Rattle.mask_bits.specs.Buffer.{Packed, backing_bit, values, same_values}
 use Rattle.mask_bits.specs.Positions.{repeated, true_at}
-use Rattle.mask_bits.proofs.BitLemmas.{backing_bit-ones}
+use Rattle.mask_bits.proofs.SetBitLemmas.{backing_bit-ones}
 use Rattle.mask_bits.specs.Laws.{SameValuesAreOneList}
 
 -- a buffer's list is as long as the buffer says

@@ -5,7 +5,7 @@ use Rattle.std.proofs.lemmas.List.{length-set, get_or-set_same, get_or-set_other
 use Rattle.mask_bits.specs.Buffer.{Packed, backing_bit, values}
 use Rattle.mask_bits.specs.BufferMut.{IsWrittenBehind, IsRoom}
 use Rattle.mask_bits.proofs.BufferLemmas.{length-values, values_from_front}
-use Rattle.mask_bits.proofs.Lists.FrontLemmas.{get_or-front}
+use Rattle.mask_bits.proofs.Lists.Words.FrontLemmas.{get_or-front}
 use Rattle.mask_bits.proofs.WriteLemmas.{written-front, written-clear}
 
 -- a fact that holds at any answer

@@ -10,8 +10,8 @@ use Rattle.mask_bits.specs.Lists.{combined}
 use Rattle.mask_bits.specs.Words.{word_bits, window}
 use Rattle.mask_bits.proofs.BufferLemmas.{length-values, get_or-values, values_from_front}
 use Rattle.mask_bits.proofs.Lists.BooleanLemmas.{length-combined, get_or-combined}
-use Rattle.mask_bits.proofs.Lists.FrontLemmas.{length-window, get_or-window, window-between, window_from_bits}
-use Rattle.mask_bits.proofs.Lists.WordLemmas.{length-word_bits, get_or-word_bits}
+use Rattle.mask_bits.proofs.Lists.Words.FrontLemmas.{length-window, get_or-window, window-between, window_from_bits}
+use Rattle.mask_bits.proofs.Lists.Words.WordLemmas.{length-word_bits, get_or-word_bits}
 
 -- ---- windows
 

@@ -11,8 +11,8 @@ use Rattle.mask_bits.specs.Words.{word_bits, window, padded_remainder}
 use Rattle.mask_bits.proofs.BufferLemmas.{length-values, get_or-values, same_values-from_answer}
 use Rattle.mask_bits.proofs.NumberLemmas.{AreBytes, bytes-take, bytes-drop}
 use Rattle.mask_bits.proofs.CombineLemmas.{backing_bit-drop}
-use Rattle.mask_bits.proofs.Lists.FrontLemmas.{length-window, get_or-window}
-use Rattle.mask_bits.proofs.Lists.WordLemmas.{get_or-word_bits}
+use Rattle.mask_bits.proofs.Lists.Words.FrontLemmas.{length-window, get_or-window}
+use Rattle.mask_bits.proofs.Lists.Words.WordLemmas.{get_or-word_bits}
 use Rattle.std.proofs.lemmas.Bool.Decides.{nat_tests}
 use Rattle.mask_bits.proofs.Lists.CountLemmas.{get_or-padded}
 

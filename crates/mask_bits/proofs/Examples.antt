@@ -7,9 +7,9 @@ use Rattle.mask_bits.specs.Positions.{true_at, IsFirstFrom}
 use Rattle.mask_bits.specs.Runs.{AreRanges, AreRuns}
 use Rattle.mask_bits.specs.Stacks.{IsStack, folded_left, folded_right}
 use Rattle.mask_bits.specs.Words.{word_bits, window}
-use Rattle.mask_bits.proofs.Lists.RangeLemmas.{ranges_add_up_to_the_count}
-use Rattle.mask_bits.proofs.Lists.RunLemmas.{AreRuns-runs_from, runs_are_ranges}
-use Rattle.mask_bits.specs.Lists.{and_of, or_of, not_of, and_not_of, joined, limited}
+use Rattle.mask_bits.proofs.Lists.Runs.RangeLemmas.{ranges_add_up_to_the_count}
+use Rattle.mask_bits.proofs.Lists.Runs.RunLemmas.{AreRuns-runs_from, runs_are_ranges}
+use Rattle.mask_bits.specs.Lists.{and_of, or_of, not_of, and_not_of, concat, limited}
 
 -- 1100 and 1010
 abbrev a : List Bool
@@ -34,10 +34,10 @@ not_example = refl
 and_not_turned : pointwise beq (and_not_of a b) (and_not_of b a) ≡ false
 and_not_turned = refl
 
-joined_example : joined (a ∷ [] ∷ (true ∷ []) ∷ []) ≡ true ∷ true ∷ false ∷ false ∷ true ∷ []
-joined_example = refl
+concat_example : concat (a ∷ [] ∷ (true ∷ []) ∷ []) ≡ true ∷ true ∷ false ∷ false ∷ true ∷ []
+concat_example = refl
 
-part_example : slice_range (joined (a ∷ b ∷ [])) 4 8 ≡ b
+part_example : slice_range (concat (a ∷ b ∷ [])) 4 8 ≡ b
 part_example = refl
 
 -- 01101 limited to two true values, to none, and to more than it has

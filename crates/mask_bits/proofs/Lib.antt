@@ -1,16 +1,16 @@
 -- Lemmas. Crates above may cite those of `Lists`, and no others.
-mod BitLemmas
 mod BoolsLemmas
 mod BufferLemmas
 mod BuilderLemmas
 mod CombineLemmas
 mod EqLemmas
 mod Examples
+mod FirstLemmas
 mod LawExamples
 mod LawRules
-mod FirstLemmas
 pub mod Lists
 mod NumberLemmas
+mod SetBitLemmas
 mod WindowLemmas
 mod WriteLemmas
 mod YieldLemmas

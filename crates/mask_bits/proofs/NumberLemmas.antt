@@ -7,7 +7,7 @@ use Rattle.std.proofs.lemmas.List.{get_or-drop, get_or-take, get_or_past, length
 use Rattle.std.proofs.lemmas.Nat.{shr-shr, pow_pos}
 use Rattle.std.proofs.lemmas.Nat.Bits.{bit_at-zero, bit_at_cat_low, bit_at_cat_high}
 use Rattle.mask_bits.specs.Number.{number}
-use Rattle.mask_bits.proofs.Lists.ShiftLemmas.{bit_at-shr, bit_at-low_mask}
+use Rattle.mask_bits.proofs.Lists.Words.ShiftLemmas.{bit_at-shr, bit_at-low_mask}
 
 -- each entry is a byte
 abbrev pub AreBytes : List ℕ → Type 0

@@ -5,10 +5,10 @@ use Rattle.mask_bits.specs.Buffer.{Packed, values}
 use Rattle.mask_bits.specs.Words.{word_bits, window, word_part, padded_remainder, padded_part}
 use Rattle.mask_bits.specs.Number.{number}
 use Rattle.mask_bits.proofs.BufferLemmas.{length-values, values-part}
-use Rattle.mask_bits.proofs.Lists.WordLemmas.{word_bits_from_bits}
+use Rattle.mask_bits.proofs.Lists.Words.WordLemmas.{word_bits_from_bits}
 use Rattle.mask_bits.proofs.NumberLemmas.{AreBytes, bit_at-window}
-use Rattle.mask_bits.proofs.Lists.FrontLemmas.{length-window, get_or-window, window-whole}
-use Rattle.mask_bits.proofs.Lists.PaddedLemmas.{padded_part-low, padded_part-remainder}
+use Rattle.mask_bits.proofs.Lists.Words.FrontLemmas.{length-window, get_or-window, window-whole}
+use Rattle.mask_bits.proofs.Lists.Words.PaddedLemmas.{padded_part-low, padded_part-remainder}
 
 -- sixteen bytes, shifted and cut to a word, show the window
 pub word_bits-window : (bytes : List ℕ) (p : ℕ) → AreBytes bytes → word_bits (bit_and (number (take 16 (drop (p / 8) bytes)) / 2 ^ (p % 8)) 18446744073709551615) ≡ window bytes p

@@ -12,9 +12,9 @@ use Rattle.mask_bits.specs.BufferMut.{IsWrittenBehind, AreClearFrom}
 use Rattle.mask_bits.specs.Positions.{repeated}
 use Rattle.mask_bits.specs.Words.{word_bits, window}
 use Rattle.mask_bits.proofs.BufferLemmas.{length-values, values_from_front}
-use Rattle.mask_bits.proofs.Lists.FrontLemmas.{get_or-window, get_or-front, get_or-put_mid_below, get_or-put_mid_above, get_or-put_mid_inside, values-join, window-between, window-drop}
-use Rattle.mask_bits.proofs.Lists.ShiftLemmas.{get_or-word_bits_or, get_or-word_bits_shl_low, get_or-word_bits_shl_high, get_or-word_bits_shr}
-use Rattle.mask_bits.proofs.Lists.WordLemmas.{length-word_bits, get_or-word_bits}
+use Rattle.mask_bits.proofs.Lists.Words.FrontLemmas.{get_or-window, get_or-front, get_or-put_mid_below, get_or-put_mid_above, get_or-put_mid_inside, values-join, window-between, window-drop}
+use Rattle.mask_bits.proofs.Lists.Words.ShiftLemmas.{get_or-word_bits_or, get_or-word_bits_shl_low, get_or-word_bits_shl_high, get_or-word_bits_shr}
+use Rattle.mask_bits.proofs.Lists.Words.WordLemmas.{length-word_bits, get_or-word_bits}
 use Rattle.mask_bits.proofs.Lists.CountLemmas.{get_or-padded, length-repeated}
 
 -- ---- what is written joins what was
@@ -184,9 +184,9 @@ written-bits_clear a b from at offset n next place w =
     written-clear a b at next (values (record { bytes = from; offset = offset; len = n })) (omega (arith, length-values (record { bytes = from; offset = offset; len = n }))) w
 
 -- a word made of two words of the bytes from byte offset / 8 on
-pub joined-window : (from part : List ℕ) (offset i x y w : ℕ) → part ≡ drop (offset / 8) from
+pub funnel-window : (from part : List ℕ) (offset i x y w : ℕ) → part ≡ drop (offset / 8) from
     → word_bits x ≡ window part (64 * i) → word_bits y ≡ window part (64 * (i + 1))
     → word_bits w ≡ slice_range (word_bits x ++ word_bits y) (offset % 8) (offset % 8 + 64)
     → word_bits w ≡ window from (offset + 64 * i)
-joined-window from part offset i x y w is first second joined =
-    grind (arith, joined, window-between part (64 * i) (offset % 8), window-drop from (offset / 8) (64 * i + offset % 8) (offset + 64 * i))
+funnel-window from part offset i x y w is first second funnel =
+    grind (arith, funnel, window-between part (64 * i) (offset % 8), window-drop from (offset / 8) (64 * i + offset % 8) (offset + 64 * i))

@@ -3,7 +3,7 @@ use Rattle.std.specs.Prelude.{ℕ, ◌+◌, ◌-◌, ◌*◌, ◌/◌, ◌^◌, 
 use Rattle.std.specs.Int.{bit_at, div_ceil}
 use Rattle.std.specs.List.{range_with_len, filter_map}
 use Rattle.mask_bits.specs.Buffer.{Packed, values, same_values}
-use Rattle.mask_bits.specs.Lists.{and_of, or_of, not_of, and_not_of, joined, limited, group}
+use Rattle.mask_bits.specs.Lists.{and_of, or_of, not_of, and_not_of, concat, limited, group}
 use Rattle.mask_bits.specs.Positions.{positions, count, count_below, repeated, at_places, rank_intersection, chosen}
 use Rattle.mask_bits.specs.RunScan.{runs}
 use Rattle.mask_bits.specs.Runs.{AreRuns, AreRanges}
@@ -29,8 +29,8 @@ abbrev pub CountIsSomeOfAnyTrue : Type 0
 CountIsSomeOfAnyTrue = (m : List Bool) → (0 < count m) ↔ Any (λ v. v ≡ true) m
 
 -- a list followed by another has the true values of both
-abbrev pub CountOfJoined : Type 0
-CountOfJoined = (a b : List Bool) → count (a ++ b) ≡ count a + count b
+abbrev pub CountOfAppend : Type 0
+CountOfAppend = (a b : List Bool) → count (a ++ b) ≡ count a + count b
 
 -- ---- lists of one value
 
@@ -265,10 +265,10 @@ abbrev pub PartOfPart : Type 0
 PartOfPart = (m : List Bool) (s e t u : ℕ) → u ≤ e - s
     → slice_range (slice_range m s e) t u ≡ slice_range m (s + t) (s + u)
 
--- the part of joined lists at the place of one of them is that one
-abbrev pub PartOfJoined : Type 0
-PartOfJoined = (before after : List (List Bool)) (m : List Bool)
-    → slice_range (joined (before ++ m ∷ after)) (length (joined before)) (length (joined before) + length m) ≡ m
+-- the part of a concatenation at the place of one of its lists is that one
+abbrev pub PartOfConcat : Type 0
+PartOfConcat = (before after : List (List Bool)) (m : List Bool)
+    → slice_range (concat (before ++ m ∷ after)) (length (concat before)) (length (concat before) + length m) ≡ m
 
 -- of n values in groups of one size, those are groups which begin before the end
 abbrev pub GroupsBeginWithin : Type 0

@@ -24,8 +24,8 @@ abbrev pub not_of : List Bool → List Bool
 not_of a = map not a
 
 -- the lists one after another
-abbrev pub joined : List (List Bool) → List Bool
-joined ms = flat_map (λ m. m) ms
+abbrev pub concat : List (List Bool) → List Bool
+concat ms = flat_map (λ m. m) ms
 
 -- of a list in groups of one size, of which the last may have fewer values: the values of group number g
 abbrev pub group : List Bool → ℕ → ℕ → List Bool

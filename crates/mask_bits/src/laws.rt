@@ -5,7 +5,7 @@
 
 ghost use Rattle.mask_bits.specs.ChoosingLaws.{ChosenByTest, ChosenOfTwoChunks, ChosenOfChunks, ChosenByLimit, PositionsOfLimit, LimitPastTheCount, LimitOfRankIntersection};
 ghost use Rattle.mask_bits.specs.IndexLaws.{PositionsAscend, FirstIsAtMostLast, CountBelowTheFirst, CountBelowTheNext, AllTrueIsOneRange, AllTrueIsOneRun, AllFalseHasNoRange, AllFalseHasNoRun, NeighborsDoNotFall, SortedDoNotFall};
-ghost use Rattle.mask_bits.specs.Laws.{PlacesAreWithin, CountIsAtMostLength, CountIsLengthOfAllTrue, CountIsSomeOfAnyTrue, CountOfJoined, LengthOfRepeated, PositionsOfAllTrue, CountOfAllTrue, PositionsOfAllFalse, ChosenByAllTrue, ChosenByAllFalse, ChosenIsRowsAtPositions, CountOfChosen, ValueOfWord, CountOfWord, CountsOfWordsAddUp, LengthOfValues, SameValuesAreOneList, PositionsDetermineList, RankIntersectionIsTheList, RankIntersectionValue, ChoosingTwice, RankIntersectionAssociative, AllTrueLeftUnit, AllTrueRightUnit, RankIntersectionCount, RankIntersectionPosition, FoldingKeepsAStack, RunsExist, RunsAreUnique, RunsAreRanges, RangesAddUpToTheCount, RankIntersectionOfAnd, RankIntersectionOfNot, IsFreeOfOrder, DistributesOver, Absorbs, HasComplements, AndNotIsAndOfNot, KeepsLength, PartOfPart, PartOfJoined, LimitOfLimit, HasLimitCount, CountBelowPosition, RunsAreTheList, RunOfAllTrue, RunsOfAllFalse, ChosenByRanges, GroupsBeginWithin, GroupOfRepeated, PlacesLieInGroups, CountOfGroup, StackFoldsAlike, FoldedByTheFirst, FoldOfOne, FoldedLeftByTheLast, LengthOfFold, CountOfFold, FoldOfNoRow, NeighborsMakeOne, ChoosingInTurn};
+ghost use Rattle.mask_bits.specs.Laws.{PlacesAreWithin, CountIsAtMostLength, CountIsLengthOfAllTrue, CountIsSomeOfAnyTrue, CountOfAppend, LengthOfRepeated, PositionsOfAllTrue, CountOfAllTrue, PositionsOfAllFalse, ChosenByAllTrue, ChosenByAllFalse, ChosenIsRowsAtPositions, CountOfChosen, ValueOfWord, CountOfWord, CountsOfWordsAddUp, LengthOfValues, SameValuesAreOneList, PositionsDetermineList, RankIntersectionIsTheList, RankIntersectionValue, ChoosingTwice, RankIntersectionAssociative, AllTrueLeftUnit, AllTrueRightUnit, RankIntersectionCount, RankIntersectionPosition, FoldingKeepsAStack, RunsExist, RunsAreUnique, RunsAreRanges, RangesAddUpToTheCount, RankIntersectionOfAnd, RankIntersectionOfNot, IsFreeOfOrder, DistributesOver, Absorbs, HasComplements, AndNotIsAndOfNot, KeepsLength, PartOfPart, PartOfConcat, LimitOfLimit, HasLimitCount, CountBelowPosition, RunsAreTheList, RunOfAllTrue, RunsOfAllFalse, ChosenByRanges, GroupsBeginWithin, GroupOfRepeated, PlacesLieInGroups, CountOfGroup, StackFoldsAlike, FoldedByTheFirst, FoldOfOne, FoldedLeftByTheLast, LengthOfFold, CountOfFold, FoldOfNoRow, NeighborsMakeOne, ChoosingInTurn};
 ghost use Rattle.mask_bits.specs.Lists.{and_of, or_of};
 
 // ---- true indices, and how many there are
@@ -21,7 +21,7 @@ pub fn counts()
     ensures at_most { CountIsAtMostLength }
     ensures all { CountIsLengthOfAllTrue }
     ensures some { CountIsSomeOfAnyTrue }
-    ensures joined { CountOfJoined }
+    ensures append { CountOfAppend }
 {}
 
 // ---- lists of one value
@@ -215,9 +215,9 @@ pub fn part_of_part()
 {}
 
 /// Each of several lists is the part that it takes in them one after another.
-#[tactic(auto, using(crate::proofs::Lists::PartLemmas::part_of_joined))]
-pub fn part_of_joined()
-    ensures part { PartOfJoined }
+#[tactic(auto, using(crate::proofs::Lists::PartLemmas::part_of_concat))]
+pub fn part_of_concat()
+    ensures part { PartOfConcat }
 {}
 
 /// A limit of a limit is the smaller limit.
@@ -246,14 +246,14 @@ pub fn runs_are_the_list()
 {}
 
 /// An all-true list that isn't empty is one run, and an all-false one has none.
-#[tactic(auto, using(crate::proofs::Lists::RunListLemmas::run_of_all_true, crate::proofs::Lists::RunListLemmas::runs_of_all_false))]
+#[tactic(auto, using(crate::proofs::Lists::Runs::RunListLemmas::run_of_all_true, crate::proofs::Lists::Runs::RunListLemmas::runs_of_all_false))]
 pub fn runs_of_one_value()
     ensures whole { RunOfAllTrue }
     ensures none { RunsOfAllFalse }
 {}
 
 /// Rows copied range by range, by ranges that hold exactly the true indices, are the rows chosen.
-#[tactic(auto, using(crate::proofs::Lists::RangeRowLemmas::chosen_by_ranges))]
+#[tactic(auto, using(crate::proofs::Lists::Runs::RangeRowLemmas::chosen_by_ranges))]
 pub fn choosing_by_ranges<T>()
     ensures rows { ChosenByRanges T }
 {}
@@ -343,14 +343,14 @@ pub fn limit_of_rank_intersection()
 // ---- order of indices
 
 /// The true indices ascend, and so the first is at most the last.
-#[tactic(auto, using(crate::proofs::Lists::IndexLemmas::positions_ascend, crate::proofs::Lists::IndexLemmas::first_is_at_most_last))]
+#[tactic(auto, using(crate::proofs::Lists::Places::IndexLemmas::positions_ascend, crate::proofs::Lists::Places::IndexLemmas::first_is_at_most_last))]
 pub fn positions_ascend()
     ensures ascend { PositionsAscend }
     ensures ends { FirstIsAtMostLast }
 {}
 
 /// The count below an index grows by one past each true value, from 0 on.
-#[tactic(auto, using(crate::proofs::Lists::IndexLemmas::count_below_the_first, crate::proofs::Lists::IndexLemmas::count_below_the_next))]
+#[tactic(auto, using(crate::proofs::Lists::Places::IndexLemmas::count_below_the_first, crate::proofs::Lists::Places::IndexLemmas::count_below_the_next))]
 pub fn count_below_by_steps()
     ensures first { CountBelowTheFirst }
     ensures next { CountBelowTheNext }
@@ -367,7 +367,7 @@ pub fn ranges_of_one_value()
 
 /// Numbers that a caller has found sorted, by `is_sorted` or neighbor by neighbor, are in order over
 /// the whole list, as `valid_counts_for_indices` asks.
-#[tactic(auto, using(crate::proofs::Lists::IndexLemmas::neighbors_do_not_fall))]
+#[tactic(auto, using(crate::proofs::Lists::Places::IndexLemmas::neighbors_do_not_fall))]
 pub fn sorted_numbers()
     ensures neighbors { NeighborsDoNotFall }
     ensures sorted { SortedDoNotFall }

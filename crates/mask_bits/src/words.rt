@@ -1,4 +1,4 @@
-//! Words of 64 bits of some bytes: read, written, and joined at any bit position.
+//! Words of 64 bits of some bytes: read, written, and made of two neighbors.
 
 ghost use Rattle.std.specs.Prelude.{◌≡◌, ◌+◌, ◌*◌, ◌<◌, ◌≤◌, ◌^◌, ℕ, length, take, drop};
 ghost use Rattle.std.specs.Prelude.{◌⊎◌, ◌++◌, ◌-◌, false, slice_range};

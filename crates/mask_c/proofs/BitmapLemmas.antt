@@ -10,11 +10,11 @@ use Rattle.mask_bits.specs.Buffer.{backing_bit}
 use Rattle.mask_bits.specs.Lists.{combined}
 use Rattle.mask_bits.specs.Positions.{count, count_below}
 use Rattle.mask_bits.specs.Words.{word_bits, padded_part}
-use Rattle.mask_bits.proofs.Lists.BitsLemmas.{length-bits_at, get_or-bits_at}
-use Rattle.mask_bits.proofs.Lists.PaddedLemmas.{get_or-padded_part}
-use Rattle.mask_bits.proofs.Lists.PlaceLemmas.{count-le-length}
-use Rattle.mask_bits.proofs.Lists.SelectLemmas.{count-part_further}
-use Rattle.mask_bits.proofs.Lists.WordLemmas.{get_or-word_bits}
+use Rattle.mask_bits.proofs.Lists.Words.BackingBitLemmas.{length-bits_at, get_or-bits_at}
+use Rattle.mask_bits.proofs.Lists.Words.PaddedLemmas.{get_or-padded_part}
+use Rattle.mask_bits.proofs.Lists.Places.PlaceLemmas.{count-le-length}
+use Rattle.mask_bits.proofs.Lists.Places.SelectLemmas.{count-part_further}
+use Rattle.mask_bits.proofs.Lists.Words.WordLemmas.{get_or-word_bits}
 use Rattle.mask_c.specs.Bitmap.{bitmap}
 
 -- value i is the backing bit at offset + i

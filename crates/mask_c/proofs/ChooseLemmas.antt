@@ -13,11 +13,11 @@ use Rattle.mask_bits.specs.Positions.{chosen, count, places_from, positions, rep
 use Rattle.mask_bits.specs.Words.{padded_part, word_bits}
 use Rattle.mask_bits.proofs.Lists.ChooseLemmas.{chosen-all_true, chosen_at_positions}
 use Rattle.mask_bits.proofs.Lists.CountLemmas.{count-append, count-repeated_true, length-repeated, positions-all_true, slice_get-repeated}
-use Rattle.mask_bits.proofs.Lists.LowestLemmas.{low, ones-of_full, ones-set}
-use Rattle.mask_bits.proofs.Lists.PaddedLemmas.{get_or-padded_part, length-padded_part}
-use Rattle.mask_bits.proofs.Lists.PlaceLemmas.{positions-within}
-use Rattle.mask_bits.proofs.Lists.SelectLemmas.{no_place, places_from-append, places_from-moved, positions-lowest}
-use Rattle.mask_bits.proofs.Lists.WordLemmas.{get_or-word_bits, length-word_bits, word_bits_from_bits}
+use Rattle.mask_bits.proofs.Lists.Words.LowestLemmas.{low, ones-of_full, ones-set}
+use Rattle.mask_bits.proofs.Lists.Words.PaddedLemmas.{get_or-padded_part, length-padded_part}
+use Rattle.mask_bits.proofs.Lists.Places.PlaceLemmas.{positions-within}
+use Rattle.mask_bits.proofs.Lists.Places.SelectLemmas.{no_place, places_from-append, places_from-moved, positions-lowest}
+use Rattle.mask_bits.proofs.Lists.Words.WordLemmas.{get_or-word_bits, length-word_bits, word_bits_from_bits}
 
 -- the rows at some indices
 abbrev pub rows_at : {X : Type 0} → List X → List ℕ → List X

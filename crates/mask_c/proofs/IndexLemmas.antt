@@ -7,8 +7,8 @@ use Rattle.std.proofs.lemmas.List.Elements.{All-weaker}
 use Rattle.mask_bits.specs.Buffer.{backing_bit}
 use Rattle.mask_bits.specs.Positions.{count, places_from, positions}
 use Rattle.mask_bits.specs.Words.{padded_part, word_bits}
-use Rattle.mask_bits.proofs.Lists.BitsLemmas.{length-bits_at, get_or-bits_at}
-use Rattle.mask_bits.proofs.Lists.SelectLemmas.{count-word_more, places_from-append, places_from-moved}
+use Rattle.mask_bits.proofs.Lists.Words.BackingBitLemmas.{length-bits_at, get_or-bits_at}
+use Rattle.mask_bits.proofs.Lists.Places.SelectLemmas.{count-word_more, places_from-append, places_from-moved}
 use Rattle.mask_c.specs.Bitmap.{bitmap}
 use Rattle.mask_c.proofs.ChooseLemmas.{part-within, positions-word_more}
 

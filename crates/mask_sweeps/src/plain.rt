@@ -47,7 +47,12 @@ impl Plain {
     }
 
     // The values, of which true value number n stays where `ranks[n]` is true.
-    pub(crate) fn narrowed(&self, rt: &impl Abort, alloc: Global, ranks: &[bool]) -> Plain {
+    pub(crate) fn rank_intersection(
+        &self,
+        rt: &impl Abort,
+        alloc: Global,
+        ranks: &[bool],
+    ) -> Plain {
         let mut values = found(rt, self.values.clone());
         for (index, stays) in self.indices.iter().zip(ranks) {
             if let Some(value) = values.get_mut(*index) {
@@ -60,7 +65,7 @@ impl Plain {
     // The values, of which the first k true ones stay.
     pub(crate) fn limited(&self, rt: &impl Abort, alloc: Global, k: usize) -> Plain {
         let ranks = repeating(rt, alloc, self.indices.len(), (usize::MAX, k));
-        self.narrowed(rt, alloc, &ranks)
+        self.rank_intersection(rt, alloc, &ranks)
     }
 }
 

@@ -1,3 +1,3 @@
+pub mod DigitLemmas
 pub mod Examples
-pub mod NumberLemmas
-pub mod StackLemmas
+pub mod MisfitLemmas

@@ -3,7 +3,7 @@ use Rattle.std.specs.Prelude.{ℕ, ◌≡◌, ◌^◌, ◌⊎◌, Bool, ◌==◌
 use Rattle.std.specs.Fmt.{decimal}
 use Rattle.std.specs.declared.alloc.Global.{Global}
 use Rattle.std.specs.Str.{bytes_eq}
-use Rattle.mask_bits.specs.Lists.{and_of, or_of, and_not_of, not_of, limited, joined}
+use Rattle.mask_bits.specs.Lists.{and_of, or_of, and_not_of, not_of, limited, concat}
 use Rattle.mask_bits.specs.Positions.{positions, count, rank_intersection}
 use Rattle.mask_bits.specs.RunScan.{runs}
 use Rattle.mask_bits.specs.Stacks.{folded_left}
@@ -77,7 +77,7 @@ printed (AndNot a b) = text (and_not_of a b) unless len_fault (length a) b
 printed (Not a) = Ok (text (not_of a))
 printed (Slice a s e) = text (slice_range a s e) unless part_fault a s e
 printed (Limit a k) = Ok (text (limited a k))
-printed (Cat ms) = text (joined ms) unless sum_fault ms
+printed (Cat ms) = text (concat ms) unless sum_fault ms
 printed (Pipe ms) = text (folded_left ms) unless misfit ms
 printed (Indices a) = Ok (list_text decimal (positions a))
 printed (Ranges a) = Ok (list_text range_text (runs a))

@@ -6,7 +6,7 @@ ghost use Rattle.maskrun.specs.Arguments.{◌unless◌};
 ghost use Rattle.maskrun.specs.Commands.{command_of, printed, Prints, len_fault, part_fault, sum_fault, misfit, out_of_memory};
 ghost use Rattle.maskrun.specs.declared.error.RunError.TheVariants as run_error;
 ghost use Rattle.maskrun.specs.Text.{text, list_text, range_text};
-ghost use Rattle.mask_bits.specs.Lists.{and_of, or_of, and_not_of, not_of, limited, joined};
+ghost use Rattle.mask_bits.specs.Lists.{and_of, or_of, and_not_of, not_of, limited, concat};
 ghost use Rattle.mask_bits.specs.Positions.{positions, count, rank_intersection};
 ghost use Rattle.mask_bits.specs.RunScan.{runs};
 ghost use Rattle.mask_bits.specs.Stacks.{IsStack, folded_left};
@@ -179,7 +179,7 @@ fn limit(alloc: Global, a: &MaskArgument, k: usize) -> Result<String, RunError>
 }
 
 fn cat(alloc: Global, list: &MaskList) -> Result<String, RunError>
-    ensures { Prints result (text (joined list.now) unless sum_fault list.now) }
+    ensures { Prints result (text (concat list.now) unless sum_fault list.now) }
 {
     let masks = list.masks(alloc)?;
     print(alloc, Mask::from_masks(alloc, masks.into_iter()))
@@ -223,7 +223,7 @@ fn expect_stack(first: &Mask, rest: &[Mask]) -> Result<(), RunError>
 }
 
 // Masks without a misfit are a stack, and no others are.
-#[tactic(auto, using(crate::proofs::StackLemmas::stacks_have_no_misfit))]
+#[tactic(auto, using(crate::proofs::MisfitLemmas::stacks_have_no_misfit))]
 fn stacks_have_no_misfit()
     ensures { (ms : List (List Bool)) → (misfit ms ≡ None) ↔ IsStack ms }
 {}

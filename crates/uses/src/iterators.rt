@@ -2,7 +2,7 @@
 ghost use Rattle.std.specs.Prelude.{◌≡◌, ◌++◌, ◌∷◌, [], None, Some, IfOk, OnErr, length, map};
 ghost use Rattle.std.specs.List.{filter};
 ghost use Rattle.std.specs.List.Sorted.{IsStrictlyIncreasing};
-ghost use Rattle.mask_bits.specs.Lists.{joined, not_of};
+ghost use Rattle.mask_bits.specs.Lists.{concat, not_of};
 ghost use Rattle.mask_bits.specs.Positions.{positions, true_at};
 ghost use Rattle.vortex_mask.specs.Faults.{common, index_fault};
 ghost use Rattle.vortex_mask.specs.Mask.{truth, variant, mixed, caches};
@@ -100,7 +100,7 @@ pub fn common_to_vecs(
 
 /// The masks of a slice, one after another.
 pub fn concat_of_a_slice(alloc: Global, masks: &[Mask]) -> Result<Mask, MaskError>
-    ensures { IfOk result (λ m. truth m ≡ joined (map truth masks.now)) }
+    ensures { IfOk result (λ m. truth m ≡ concat (map truth masks.now)) }
 {
     Mask::concat(alloc, masks.iter())
 }
@@ -117,7 +117,7 @@ pub fn concat_of_refs(alloc: Global, masks: Vec<&Mask>) -> Result<Mask, MaskErro
 
 /// Masks that are handed over.
 pub fn masks_of_a_vec(alloc: Global, masks: Vec<Mask>) -> Result<Mask, MaskError>
-    ensures { IfOk result (λ m. truth m ≡ joined (map truth masks.items)) }
+    ensures { IfOk result (λ m. truth m ≡ concat (map truth masks.items)) }
 {
     Mask::from_masks(alloc, masks.into_iter())
 }

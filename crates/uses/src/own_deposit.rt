@@ -28,12 +28,12 @@ pub struct InTurn;
 
 impl DepositBits for InTurn {
     fn deposit_bits(source: u64, mask: u64, _mask_count: usize) -> u64 {
-        deposited(source, mask)
+        deposit_in_turn(source, mask)
     }
 }
 
 // Each set place of the mask takes the next bit of the source.
-fn deposited(source: u64, mask: u64) -> u64
+fn deposit_in_turn(source: u64, mask: u64) -> u64
     ensures { Deposits source mask result }
 {
     mask_bits::laws::values_of_words();
@@ -52,7 +52,7 @@ fn deposited(source: u64, mask: u64) -> u64
 }
 
 /// The rows of one bitmap that another one, over its true values, keeps: by a deposit of one's own.
-pub fn narrowed<D: DepositBits>(
+pub fn rank_intersection_by<D: DepositBits>(
     alloc: Global,
     rows: &BitBuffer,
     kept: &BitBuffer,

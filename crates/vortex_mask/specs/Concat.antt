@@ -2,7 +2,7 @@
 use Rattle.std.specs.Prelude.{ℕ, ◌≡◌, ◌<◌, ◌^◌, Bool, List, length, map, All}
 use Rattle.std.specs.Borrow.{Bor}
 use Rattle.std.specs.List.{sum_by}
-use Rattle.mask_bits.specs.Lists.{joined}
+use Rattle.mask_bits.specs.Lists.{concat}
 use Rattle.vortex_mask.specs.declared.mask.Mask.{Mask}
 use Rattle.vortex_mask.specs.Mask.{truth}
 
@@ -16,7 +16,7 @@ total_len lists = sum_by length lists
 
 -- a mask is the lists one after another, whose lengths add up to one that fits
 pub record Joins (lists : List (List Bool)) (mask : Mask) : Type 0 where
-  pub list : truth mask ≡ joined lists
+  pub list : truth mask ≡ concat lists
   pub fits : total_len lists < 2 ^ 64
 
 -- each value of each mask is v

@@ -4,7 +4,7 @@ use Rattle.std.specs.Option.{option_map}
 use Rattle.mask_bits.specs.Positions.{positions, count}
 use Rattle.mask_bits.specs.RunScan.{runs}
 use Rattle.vortex_mask.specs.Mask.{Variant, all_true, all_false, mixed, truth, variant, contents, caches}
-use Rattle.vortex_mask.specs.MaskValues.{Caches, keeping, with_indices, with_ranges}
+use Rattle.vortex_mask.specs.MaskValues.{Caches, with_caches, with_indices, with_ranges}
 use Rattle.vortex_mask.specs.declared.mask.all_or.AllOr.{AllOr}
 use Rattle.vortex_mask.specs.declared.mask.all_or.AllOr.TheVariants.{All, None, Some}
 use Rattle.vortex_mask.specs.declared.mask.cached.MaskIter.{MaskIter}
@@ -25,10 +25,10 @@ abbrev pub IsLentOf : List Bool → MaskIter → Type 0
 IsLentOf m (Indices places) = places.now ≡ positions m
 IsLentOf m (Slices ranges) = ranges.now ≡ runs m
 
--- these lists, with the one that is lent kept beside the other
+-- these lists, with the one that is lent cached beside the other
 abbrev pub with_list : MaskIter → Caches → Caches
-with_list (Indices places) kept = with_indices places.now kept
-with_list (Slices ranges) kept = with_ranges ranges.now kept
+with_list (Indices places) cached = with_indices places.now cached
+with_list (Slices ranges) cached = with_ranges ranges.now cached
 
 -- the variant of a mask that lends so: `All` where it is all true, `None` where it is all false
 abbrev pub lender_variant : {T : Type 0} → AllOr T → Variant
@@ -42,15 +42,15 @@ IfLent All P = ⊤
 IfLent None P = ⊤
 IfLent (Some list) P = P list
 
--- the lists that are kept once one may be lent: `add` keeps it
+-- the lists that are cached once one may be lent: `add` caches it
 abbrev pub with_lent : {T : Type 0} → (T → Caches → Caches) → AllOr T → Caches → Caches
-with_lent add All kept = kept
-with_lent add None kept = kept
-with_lent add (Some list) kept = add list kept
+with_lent add All cached = cached
+with_lent add None cached = cached
+with_lent add (Some list) cached = add list cached
 
--- the same list in the same variant and with the same contents but that these lists are kept
-pub record IsKeeping (old : Mask) (kept : Caches) (new : Mask) : Type 0 where
+-- the same list in the same variant and with the same contents but that these lists are cached
+pub record IsCaching (old : Mask) (cached : Caches) (new : Mask) : Type 0 where
   pub list : truth new ≡ truth old
   pub variant : variant new ≡ variant old
-  pub contents : contents new ≡ option_map (keeping kept) (contents old)
-  pub caches : caches new ≡ kept
+  pub contents : contents new ≡ option_map (with_caches cached) (contents old)
+  pub caches : caches new ≡ cached

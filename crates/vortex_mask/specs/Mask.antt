@@ -87,9 +87,9 @@ caches (Values v) = v.value.caches
 
 -- these lists where a mask is held as `Values`, and neither elsewhere
 abbrev pub where_mixed : Mask → Caches → Caches
-where_mixed (AllTrue n) kept = no_caches
-where_mixed (AllFalse n) kept = no_caches
-where_mixed (Values v) kept = kept
+where_mixed (AllTrue n) cached = no_caches
+where_mixed (AllFalse n) cached = no_caches
+where_mixed (Values v) cached = cached
 
 -- whether two masks have the same list
 abbrev pub same_truth : Mask → Mask → Bool

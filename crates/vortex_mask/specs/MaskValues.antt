@@ -5,12 +5,12 @@ use Rattle.mask_bits.specs.Buffer.{Packed, values}
 use Rattle.mask_bits.specs.Positions.{positions, count}
 use Rattle.mask_bits.specs.RunScan.{runs}
 
--- the lists that are kept of the true indices, where they are: the places, and their runs
+-- the cached lists of the true indices, where there are such: the places, and their runs
 pub record Caches : Type 0 where
   pub indices : Option (List ℕ)
   pub ranges : Option (List (ℕ × ℕ))
 
--- neither list is kept
+-- neither list is cached
 abbrev pub no_caches : Caches
 no_caches = record { indices = None; ranges = None }
 
@@ -22,23 +22,23 @@ only_indices places = record { indices = Some places; ranges = None }
 abbrev pub only_ranges : List (ℕ × ℕ) → Caches
 only_ranges ranges = record { indices = None; ranges = Some ranges }
 
--- these lists, with the places kept beside the ranges
+-- these lists, with the places cached beside the ranges
 abbrev pub with_indices : List ℕ → Caches → Caches
-with_indices places kept = record kept { indices = Some places }
+with_indices places cached = record cached { indices = Some places }
 
--- these lists, with the ranges kept beside the places
+-- these lists, with the ranges cached beside the places
 abbrev pub with_ranges : List (ℕ × ℕ) → Caches → Caches
-with_ranges ranges kept = record kept { ranges = Some ranges }
+with_ranges ranges cached = record cached { ranges = Some ranges }
 
--- a buffer, how many of its values are true, and the lists that are kept of them
+-- a buffer, how many of its values are true, and the cached lists of them
 pub record Contents : Type 0 where
   pub buffer : Packed
   pub true_count : ℕ
   pub caches : Caches
 
--- the same values, with these lists kept
-abbrev pub keeping : Caches → Contents → Contents
-keeping kept v = record v { caches = kept }
+-- the same values, with these lists cached
+abbrev pub with_caches : Caches → Contents → Contents
+with_caches cached v = record v { caches = cached }
 
 -- the count is the buffer's, and some values are true and some are not
 pub record IsMixed (buffer : Packed) (true_count : ℕ) : Type 0 where
@@ -46,7 +46,7 @@ pub record IsMixed (buffer : Packed) (true_count : ℕ) : Type 0 where
   pub some_true : 0 < true_count
   pub some_false : true_count < length (values buffer)
 
--- kept places are the list's true indices, and kept ranges are its runs
+-- cached places are the list's true indices, and cached ranges are its runs
 pub record AreOf (m : List Bool) (caches : Caches) : Type 0 where
   pub indices : ForSome caches.indices (λ places. places ≡ positions m)
   pub ranges : ForSome caches.ranges (λ ranges. ranges ≡ runs m)

@@ -11,7 +11,7 @@ use std::alloc::Global;
 /// Boolean calls, value by value, of masks of one length.
 ///
 /// The result keeps an operand's lists of true indices where it is that operand.
-#[tactic(auto, using(crate::proofs::MaskLemmas::variant_facts, crate::proofs::BitopLemmas::bitop_facts))]
+#[tactic(auto, using(crate::proofs::Masks::MaskLemmas::variant_facts, crate::proofs::Masks::BitopLemmas::bitop_facts))]
 impl Mask {
     /// The values that are true in both.
     pub fn bitand(&self, alloc: Global, other: &Mask) -> Result<Mask, MaskError>
@@ -121,7 +121,7 @@ impl Mask {
 }
 
 /// The same, of an operand that is taken by value. It is the result where the other side changes nothing.
-#[tactic(auto, using(crate::proofs::MaskLemmas::variant_facts, crate::proofs::BitopLemmas::bitop_facts))]
+#[tactic(auto, using(crate::proofs::Masks::MaskLemmas::variant_facts, crate::proofs::Masks::BitopLemmas::bitop_facts))]
 impl Mask {
     /// The values that are true in both.
     pub fn into_bitand(self, alloc: Global, other: &Mask) -> Result<Mask, MaskError>

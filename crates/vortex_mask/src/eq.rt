@@ -14,7 +14,7 @@ impl PartialEq for Mask {
 
     ghost laws = { partial_equiv_from_equiv (on_equiv truth (lists_equiv bool_eq_equiv)) };
 
-    #[tactic(auto, using(crate::proofs::MaskLemmas::same_truth_is_one_list))]
+    #[tactic(auto, using(crate::proofs::Masks::MaskLemmas::same_truth_is_one_list))]
     fn eq(&self, other: &Mask) -> bool
         ensures answer { result ≡ same_truth self.now other.now }
         ensures same { IsTrue result ↔ (truth self.now ≡ truth other.now) }
@@ -37,7 +37,7 @@ impl Mask {
 }
 
 // Whether a mask and a buffer of one length have the same list.
-#[tactic(auto, using(crate::proofs::MaskLemmas::variant_facts))]
+#[tactic(auto, using(crate::proofs::Masks::MaskLemmas::variant_facts))]
 fn same_values(mask: &Mask, buffer: &BitBuffer) -> bool
     requires { length (truth mask.now) ≡ length (values buffer.now) }
     ensures { IsTrue result ↔ (truth mask.now ≡ values buffer.now) }
@@ -53,7 +53,7 @@ fn same_values(mask: &Mask, buffer: &BitBuffer) -> bool
 }
 
 // Whether two masks of one length have the same list.
-#[tactic(auto, using(crate::proofs::MaskLemmas::variant_facts))]
+#[tactic(auto, using(crate::proofs::Masks::MaskLemmas::variant_facts))]
 fn same_lists(a: &Mask, b: &Mask) -> bool
     requires { length (truth a.now) ≡ length (truth b.now) }
     ensures { IsTrue result ↔ (truth a.now ≡ truth b.now) }

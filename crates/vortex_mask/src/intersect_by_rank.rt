@@ -58,7 +58,7 @@ impl Mask {
 
     /// The mask of `intersect_by_rank`, with the steps that its kernel takes. No step is counted
     /// where no kernel runs: where a side is all true or all false.
-    #[tactic(auto, using(crate::proofs::MaskLemmas::variant_facts, crate::proofs::MaskLemmas::narrowing_facts))]
+    #[tactic(auto, using(crate::proofs::Masks::MaskLemmas::variant_facts, crate::proofs::Masks::MaskLemmas::narrowing_facts))]
     pub fn intersect_by_rank_counted(
         &self,
         alloc: Global,

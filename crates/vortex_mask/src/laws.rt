@@ -13,7 +13,7 @@ ghost use Rattle.vortex_mask.specs.MaskValues.{AreOf};
 use crate::mask::Mask;
 
 /// A mask is held in the one variant that its list may have.
-#[tactic(auto, using(crate::proofs::MaskLemmas::variant_facts))]
+#[tactic(auto, using(crate::proofs::Masks::MaskLemmas::variant_facts))]
 pub fn one_variant(mask: &Mask)
     ensures { variant mask.now ≡ fitting_variant (variant mask.now) (truth mask.now) }
 {
@@ -54,20 +54,20 @@ pub fn one_list_of_ranges(left: &Mask, right: &Mask)
 }
 
 /// A list is uniform exactly if it is a number of true values or of false ones.
-#[tactic(auto, using(crate::proofs::MaskLemmas::uniform_is_of_one_value))]
+#[tactic(auto, using(crate::proofs::Masks::MaskLemmas::uniform_is_of_one_value))]
 pub fn uniform_is_of_one_value()
     ensures { UniformIsOfOneValue }
 {}
 
 /// Indices have no fault exactly if each is above the one before it and all are below the length.
-#[tactic(auto, using(crate::proofs::FaultLemmas::no_index_fault))]
+#[tactic(auto, using(crate::proofs::Masks::FaultLemmas::no_index_fault))]
 pub fn no_index_fault()
     ensures { NoIndexFault }
 {}
 
 /// The list of a mask that is held as all true, or as all false, is as many such values as its
 /// length.
-#[tactic(auto, using(crate::proofs::MaskLemmas::all_true_has_true_values, crate::proofs::MaskLemmas::all_false_has_false_values))]
+#[tactic(auto, using(crate::proofs::Masks::MaskLemmas::all_true_has_true_values, crate::proofs::Masks::MaskLemmas::all_false_has_false_values))]
 pub fn variants_of_one_value()
     ensures all_true { AllTrueHasTrueValues }
     ensures all_false { AllFalseHasFalseValues }
@@ -75,14 +75,14 @@ pub fn variants_of_one_value()
 
 /// `same_truth`, as which `==` of masks and of references to them is told, says whether their lists
 /// are the same.
-#[tactic(auto, using(crate::proofs::MaskLemmas::same_truth_is_one_list))]
+#[tactic(auto, using(crate::proofs::Masks::MaskLemmas::same_truth_is_one_list))]
 pub fn same_truth_is_one_list()
     ensures same { SameTruthIsOneList }
 {}
 
 /// A deposit in the words of lists: the rank intersection of the mask's list and of as many of the
 /// source's values as the mask has set bits. At a mask of set bits alone it is the source.
-#[tactic(auto, using(crate::proofs::DepositLawLemmas::deposit_at_all_ones, crate::proofs::DepositLawLemmas::deposit_is_rank_intersection))]
+#[tactic(auto, using(crate::proofs::Deposits::DepositLawLemmas::deposit_at_all_ones, crate::proofs::Deposits::DepositLawLemmas::deposit_is_rank_intersection))]
 pub fn deposits()
     ensures all_ones { DepositAtAllOnes }
     ensures list { DepositIsRankIntersection }

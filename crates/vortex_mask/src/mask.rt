@@ -2,6 +2,7 @@
 
 mod all_or;
 mod cached;
+mod choose;
 mod concat;
 mod convert;
 mod error;
@@ -128,7 +129,7 @@ impl Mask {
 }
 
 /// What a mask holds.
-#[tactic(auto, using(crate::proofs::MaskLemmas::value_facts, crate::proofs::MaskLemmas::variant_facts))]
+#[tactic(auto, using(crate::proofs::Masks::MaskLemmas::value_facts, crate::proofs::Masks::MaskLemmas::variant_facts))]
 impl Mask {
     /// How many values there are.
     pub fn len(&self) -> usize
@@ -216,7 +217,7 @@ impl Mask {
 }
 
 /// The true values by their indices.
-#[tactic(auto, using(crate::proofs::ReadingLemmas::end_facts))]
+#[tactic(auto, using(crate::proofs::Masks::ReadingLemmas::end_facts))]
 impl Mask {
     /// The index of the first true value, if there is one.
     pub fn first(&self) -> Option<usize>
@@ -264,7 +265,7 @@ impl Mask {
     }
 }
 
-#[tactic(auto, using(crate::proofs::ReadingLemmas::one_value_facts))]
+#[tactic(auto, using(crate::proofs::Masks::ReadingLemmas::one_value_facts))]
 impl Mask {
     /// The share of true values: 1/1 of `AllTrue`, 0/1 of `AllFalse`, also where they are empty, and
     /// else the true count over the length.
@@ -282,7 +283,7 @@ impl Mask {
 }
 
 // For each index the number of true values below it, by a count that runs from one to the next.
-#[tactic(auto, using(crate::proofs::ReadingLemmas::running_counts))]
+#[tactic(auto, using(crate::proofs::Masks::ReadingLemmas::running_counts))]
 fn counts_below(
     alloc: Global,
     buffer: &BitBuffer,

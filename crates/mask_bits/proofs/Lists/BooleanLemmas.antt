@@ -3,7 +3,7 @@ use Rattle.std.proofs.Common.{◌≡◌, ℕ, zero, suc, ◌<◌, Bool, true, fa
 use Rattle.mask_bits.specs.Laws.{RankIntersectionOfAnd, RankIntersectionOfNot, IsFreeOfOrder, DistributesOver, Absorbs, HasComplements, AndNotIsAndOfNot, KeepsLength}
 use Rattle.mask_bits.specs.Lists.{combined, and_of, or_of, not_of, and_not_of}
 use Rattle.mask_bits.specs.Positions.{repeated}
-use Rattle.mask_bits.proofs.Lists.PlaceLemmas.{trues, count-trues}
+use Rattle.mask_bits.proofs.Lists.Places.PlaceLemmas.{trues, count-trues}
 use Rattle.mask_bits.proofs.Lists.RankLemmas.{narrow, rank_intersection-narrow}
 use Rattle.std.proofs.Math.Bool.{and_comm, or_comm, and_assoc, or_assoc, and-or_distrib_left, or-and_distrib_left, and-not_self, or-not_self}
 

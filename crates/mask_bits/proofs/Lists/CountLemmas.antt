@@ -5,7 +5,7 @@ use Rattle.std.proofs.lemmas.List.{get_or-replicate, length-replicate, get_or_ap
 use Rattle.std.proofs.lemmas.List.FromFn.{length-range_with_len, get_or-range_with_len}
 use Rattle.std.proofs.lemmas.Option.{slice_get-get_or}
 use Rattle.mask_bits.specs.Positions.{places_from, positions, count, repeated}
-use Rattle.mask_bits.proofs.Lists.PlaceLemmas.{length-places_from, trues, count-trues}
+use Rattle.mask_bits.proofs.Lists.Places.PlaceLemmas.{length-places_from, trues, count-trues}
 use Rattle.std.specs.Prelude.{◌↔◌, Any}
 use Rattle.std.proofs.lemmas.List.Folds.{Any-from_list_any, list_any-from_Any}
 
@@ -96,7 +96,7 @@ nil-repeated v = refl
 
 pub ruleset repeated_facts = (length-repeated, slice_get-repeated)
 
--- ---- joined lists, and one more value
+-- ---- lists one after another, and one more value
 
 -- of two lists, one after the other
 trues-append : (a b : List Bool) → trues (a ++ b) ≡ trues a + trues b

@@ -8,7 +8,7 @@ use Rattle.mask_bits.specs.Positions.{places_from, positions, count}
 use Rattle.mask_bits.specs.Runs.{is_inside}
 use Rattle.mask_bits.proofs.Lists.CountLemmas.{length-repeated}
 use Rattle.mask_bits.proofs.Lists.PartLemmas.{part_of_repeated}
-use Rattle.mask_bits.proofs.Lists.PlaceLemmas.{trues, count-trues, positions-within}
+use Rattle.mask_bits.proofs.Lists.Places.PlaceLemmas.{trues, count-trues, positions-within}
 
 -- one item in front that passes, or does not
 counted : (p : ℕ → Bool) (x : ℕ) (xs : List ℕ) → p x ≡ true → count_by p (x ∷ xs) ≡ suc (count_by p xs)

@@ -6,7 +6,7 @@ use Rattle.std.proofs.lemmas.List.FromFn.{length-map-range_with_len, get_or-map-
 use Rattle.mask_bits.specs.Laws.{LimitOfLimit, HasLimitCount, CountBelowPosition}
 use Rattle.mask_bits.specs.Lists.{limited}
 use Rattle.mask_bits.specs.Positions.{positions, count, count_below, repeated}
-use Rattle.mask_bits.proofs.Lists.PlaceLemmas.{positions-true, positions-false, trues, count-trues}
+use Rattle.mask_bits.proofs.Lists.Places.PlaceLemmas.{positions-true, positions-false, trues, count-trues}
 
 -- the first k true values, by recursion on the list
 abbrev pub kept : List Bool → ℕ → List Bool

@@ -1,9 +1,9 @@
--- Parts of parts, and of lists joined.
+-- Parts of parts, and of lists one after another.
 use Rattle.std.proofs.Common.{◌≡◌, ℕ, ◌+◌, ◌-◌, ◌≤◌, Bool, List, ◌++◌, length, take, drop, slice_range, inl, inr, ap, ◌∙◌, arith}
 use Rattle.std.proofs.lemmas.Bool.{cases_lt}
 use Rattle.std.proofs.lemmas.List.{take-take, drop-drop, drop-take, take-append-le, drop-append-le, drop_all, take_all, drop-replicate, take-replicate}
 use Rattle.std.proofs.lemmas.List.Concat.{flat_map-append}
-use Rattle.mask_bits.specs.Laws.{PartOfPart, PartOfJoined}
+use Rattle.mask_bits.specs.Laws.{PartOfPart, PartOfConcat}
 use Rattle.mask_bits.specs.Positions.{repeated}
 
 pub part_of_part : PartOfPart
@@ -19,8 +19,8 @@ part_of_part m s e t u within = elim (cases_lt u t) [
 between-sides : (xs m ys : List Bool) → slice_range (xs ++ (m ++ ys)) (length xs) (length xs + length m) ≡ m
 between-sides xs m ys = grind (arith, drop-append-le, drop_all, take-append-le, take_all)
 
-pub part_of_joined : PartOfJoined
-part_of_joined before after m = grind (arith, flat_map-append, between-sides)
+pub part_of_concat : PartOfConcat
+part_of_concat before after m = grind (arith, flat_map-append, between-sides)
 
 -- a part of a list of one value
 pub part_of_repeated : (n : ℕ) (v : Bool) (s e : ℕ) → s ≤ e → e ≤ n → slice_range (repeated n v) s e ≡ repeated (e - s) v

@@ -5,7 +5,7 @@ use Rattle.std.proofs.lemmas.List.{get_or-map, length-replicate}
 use Rattle.std.proofs.lemmas.List.Elements.{All-head, All-tail, All-map, All-weaker, All-get_or}
 use Rattle.std.proofs.lemmas.List.FromFn.{length-map-range_with_len}
 use Rattle.mask_bits.specs.Positions.{positions, count, true_at, at_places, rank_intersection, repeated}
-use Rattle.mask_bits.proofs.Lists.PlaceLemmas.{positions-true, positions-false, trues, count-trues, positions-within}
+use Rattle.mask_bits.proofs.Lists.Places.PlaceLemmas.{positions-true, positions-false, trues, count-trues, positions-within}
 
 -- ---- lists that are true at some places, by their first value
 

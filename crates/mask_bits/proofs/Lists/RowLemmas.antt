@@ -7,7 +7,7 @@ use Rattle.mask_bits.specs.ChoosingLaws.{ChosenByTest, ChosenOfTwoChunks, Chosen
 use Rattle.mask_bits.specs.Positions.{positions}
 use Rattle.mask_bits.proofs.Lists.LawLemmas.{chosen-items_where_true}
 use Rattle.mask_bits.proofs.Lists.LimitLemmas.{kept, limited-kept, limited-all, length-limited}
-use Rattle.mask_bits.proofs.Lists.PlaceLemmas.{positions-true, positions-false, trues, count-trues}
+use Rattle.mask_bits.proofs.Lists.Places.PlaceLemmas.{positions-true, positions-false, trues, count-trues}
 use Rattle.mask_bits.proofs.Lists.RankLemmas.{narrow, rank_intersection-narrow}
 
 -- ---- rows that pass a test

@@ -5,7 +5,7 @@ use Rattle.mask_bits.specs.Positions.{count, rank_intersection}
 use Rattle.mask_bits.specs.Stacks.{IsStack, folded_left}
 use Rattle.mask_bits.proofs.Lists.LawLemmas.{length-rank_intersection, rank_intersection_associative, rank_intersection_count, choosing_twice, folding_keeps_a_stack, rank_intersection-none}
 use Rattle.mask_bits.proofs.Lists.CountLemmas.{all_false_from_count}
-use Rattle.mask_bits.proofs.Lists.PlaceLemmas.{count-le-length}
+use Rattle.mask_bits.proofs.Lists.Places.PlaceLemmas.{count-le-length}
 
 -- a stack whose second and third mask are made one is a stack
 keeps_a_stack_above : (a b c : List Bool) (ms : List (List Bool)) → IsStack (a ∷ b ∷ c ∷ ms) → IsStack (a ∷ rank_intersection b c ∷ ms)

@@ -27,7 +27,7 @@ fn narrows_masks(
 fn of_densities(rt: &impl Abort, alloc: Global, len: usize, row_step: usize, rank_step: usize) {
     let rows = Plain::repeating(rt, alloc, len, (row_step, 1));
     let ranks = Plain::repeating(rt, alloc, rows.indices.len(), (rank_step, 1));
-    let want = rows.narrowed(rt, alloc, &ranks.values);
+    let want = rows.rank_intersection(rt, alloc, &ranks.values);
     let rows = buffer_at(rt, alloc, 3, &rows.values, Outside::Set);
     let ranks = buffer_at(rt, alloc, 5, &ranks.values, Outside::Set);
     narrows_masks(rt, alloc, (&rows, &ranks), &want);

@@ -4,7 +4,7 @@ use crate::helpers::{Outside, buffer_at, found};
 use crate::plain::{Plain, is_list};
 use crate::sweeps::mask::calls::answers_as;
 use crate::sweeps::mask::case::Case;
-use crate::sweeps::mask::constructors::{CONSTRUCTORS, made};
+use crate::sweeps::mask::constructors::{CONSTRUCTORS, mask_by};
 use crate::sweeps::mask::lent::with_lists;
 use std::alloc::Global;
 use std::process::Abort;
@@ -43,7 +43,7 @@ fn of_mixed(rt: &impl Abort, alloc: Global, case: &Case) {
 
 fn by_constructors(rt: &impl Abort, alloc: Global, plain: &Plain) {
     for by in CONSTRUCTORS {
-        is_list(rt, &made(rt, alloc, plain, by), plain);
+        is_list(rt, &mask_by(rt, alloc, plain, by), plain);
     }
 }
 

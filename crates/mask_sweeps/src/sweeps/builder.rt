@@ -33,7 +33,7 @@ impl Built {
     }
 
     // So many values, appended one by one.
-    fn front(rt: &impl Abort, alloc: Global, len: usize) -> Built {
+    fn with_values(rt: &impl Abort, alloc: Global, len: usize) -> Built {
         let mut built = Built::empty(rt, alloc, 0);
         for i in 0..len {
             built.append_n(rt, value_at(i), 1);
@@ -90,7 +90,7 @@ impl Built {
 }
 
 fn append_buffer_at(rt: &impl Abort, alloc: Global, at: usize, other: &BitBuffer, added: &[bool]) {
-    let mut built = Built::front(rt, alloc, at);
+    let mut built = Built::with_values(rt, alloc, at);
     built.append_buffer(rt, other, added);
     built.goes_on(rt);
 }
@@ -121,7 +121,7 @@ fn append_buffer_at_every_pair_of_offsets(rt: HostRuntime) {
 }
 
 fn push_word_at(rt: &impl Abort, alloc: Global, at: usize, word: u64, count: usize) {
-    let mut built = Built::front(rt, alloc, at);
+    let mut built = Built::with_values(rt, alloc, at);
     built.push_word(rt, word, count);
     built.goes_on(rt);
 }
@@ -142,7 +142,7 @@ fn push_word_at_every_offset(rt: HostRuntime) {
 }
 
 fn append_n_at(rt: &impl Abort, alloc: Global, at: usize, value: bool, n: usize) {
-    let mut built = Built::front(rt, alloc, at);
+    let mut built = Built::with_values(rt, alloc, at);
     built.append_n(rt, value, n);
     built.goes_on(rt);
 }
@@ -163,7 +163,7 @@ fn append_n_at_every_offset(rt: HostRuntime) {
 
 fn change_each(rt: &impl Abort, alloc: Global, len: usize) {
     for i in 0..len {
-        let mut built = Built::front(rt, alloc, len);
+        let mut built = Built::with_values(rt, alloc, len);
         built.change(rt, i);
         built.holds(rt);
     }

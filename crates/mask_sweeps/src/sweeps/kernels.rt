@@ -235,7 +235,7 @@ fn at_offset(rt: &impl Abort, alloc: Global, offset: usize, outside: (Outside, O
     let mut words = Generator(0x2545_F491_4F6C_DD1D);
     let rows = runs(rt, alloc, &mut words);
     let ranks = TWO_IN_THREE.values(rt, alloc, &mut words, rows.indices.len());
-    let want = rows.narrowed(rt, alloc, &ranks);
+    let want = rows.rank_intersection(rt, alloc, &ranks);
     let buffer = buffer_at(rt, alloc, offset, &rows.values, outside.0);
     selects(rt, &buffer, &rows.indices);
     let ranks = buffer_at(rt, alloc, offset, &ranks, outside.1);

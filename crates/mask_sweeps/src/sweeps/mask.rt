@@ -12,7 +12,7 @@ use crate::helpers::{Generator, Outside, buffer_at, found};
 use crate::plain::{ODD, Plain};
 use calls::answers_as;
 use case::Case;
-use constructors::{CONSTRUCTORS, made};
+use constructors::{CONSTRUCTORS, mask_by};
 use std::alloc::Global;
 use std::process::Abort;
 use vortex_mask::Mask;
@@ -27,7 +27,7 @@ fn acts_as(rt: &impl Abort, alloc: Global, mask: Mask, case: &Case) {
 
 fn by_constructors(rt: &impl Abort, alloc: Global, case: &Case) {
     for by in CONSTRUCTORS {
-        acts_as(rt, alloc, made(rt, alloc, &case.plain, by), case);
+        acts_as(rt, alloc, mask_by(rt, alloc, &case.plain, by), case);
     }
 }
 

@@ -117,12 +117,12 @@ fn of_each_variant(rt: &impl Abort, alloc: Global) {
         mask(rt, alloc, Of::Text("01")),
         Mask::new_false(3),
     );
-    let joined = found(rt, Mask::concat(alloc, [&all, &mixed, &none].into_iter()));
-    caches(rt, &joined, (None, None));
-    same(rt, joined.len(), 75);
+    let mask = found(rt, Mask::concat(alloc, [&all, &mixed, &none].into_iter()));
+    caches(rt, &mask, (None, None));
+    same(rt, mask.len(), 75);
     for i in 0..75usize {
         assert!(rt;
-            i < joined.len() && joined.value(i) == (i < 70 || i == 71),
+            i < mask.len() && mask.value(i) == (i < 70 || i == 71),
             "value {i}"
         );
     }

@@ -92,26 +92,26 @@ fn refused_excluded_indices(rt: HostRuntime) {
 
 fn all_common(rt: &impl Abort, alloc: Global) {
     let all = [0, 1].into_iter();
-    let made = Mask::from_intersection_indices(alloc, 2, all, [0, 1, 2].into_iter());
-    is(rt, &found(rt, made), ("11", "AllTrue"));
+    let result = Mask::from_intersection_indices(alloc, 2, all, [0, 1, 2].into_iter());
+    is(rt, &found(rt, result), ("11", "AllTrue"));
 }
 
 fn none_common(rt: &impl Abort, alloc: Global) {
     let apart = [1, 9].into_iter();
-    let made = Mask::from_intersection_indices(alloc, 2, apart, [0].into_iter());
-    is(rt, &found(rt, made), ("00", "AllFalse"));
+    let result = Mask::from_intersection_indices(alloc, 2, apart, [0].into_iter());
+    is(rt, &found(rt, result), ("00", "AllFalse"));
 }
 
 fn none_common_of_no_value(rt: &impl Abort, alloc: Global) {
-    let made = Mask::from_intersection_indices(alloc, 0, [3].into_iter(), [].into_iter());
-    is(rt, &found(rt, made), ("", "AllFalse"));
+    let result = Mask::from_intersection_indices(alloc, 0, [3].into_iter(), [].into_iter());
+    is(rt, &found(rt, result), ("", "AllFalse"));
 }
 
 // Where no value is true no buffer is made, and the longest mask can be.
 fn none_common_of_the_longest(rt: &impl Abort, alloc: Global) {
     let apart = [1, 2].into_iter();
-    let made = Mask::from_intersection_indices(alloc, MAX, apart, [3].into_iter());
-    has(rt, &found(rt, made), (MAX, 0, "AllFalse"));
+    let result = Mask::from_intersection_indices(alloc, MAX, apart, [3].into_iter());
+    has(rt, &found(rt, result), (MAX, 0, "AllFalse"));
     has(
         rt,
         &found(rt, of_indices(alloc, MAX, &[])),
@@ -121,8 +121,8 @@ fn none_common_of_the_longest(rt: &impl Abort, alloc: Global) {
 
 fn refused_common(rt: &impl Abort, alloc: Global) {
     let last = [MAX].into_iter();
-    let made = Mask::from_intersection_indices(alloc, MAX, last, [MAX].into_iter());
-    refuses(rt, alloc, made, OF_MAX);
+    let result = Mask::from_intersection_indices(alloc, MAX, last, [MAX].into_iter());
+    refuses(rt, alloc, result, OF_MAX);
 }
 
 #[test]

@@ -8,12 +8,17 @@ use std::process::Abort;
 use vortex_mask::Mask;
 use vortex_mask::intersect_by_rank::Steps;
 
-fn narrowed(rt: &impl Abort, alloc: Global, mask: &Mask, ranks: &Mask) -> Mask {
+fn rank_intersection(rt: &impl Abort, alloc: Global, mask: &Mask, ranks: &Mask) -> Mask {
     assert!(rt; ranks.len() == mask.true_count());
     found(rt, mask.intersect_by_rank(alloc, ranks))
 }
 
-fn narrowed_counted(rt: &impl Abort, alloc: Global, mask: &Mask, ranks: &Mask) -> (Mask, Steps) {
+fn counted_rank_intersection(
+    rt: &impl Abort,
+    alloc: Global,
+    mask: &Mask,
+    ranks: &Mask,
+) -> (Mask, Steps) {
     assert!(rt; ranks.len() == mask.true_count());
     found(rt, mask.intersect_by_rank_counted(alloc, ranks))
 }
@@ -23,8 +28,12 @@ type Row = (Of, Of, (&'static str, &'static str));
 fn narrows(rt: &impl Abort, alloc: Global, rows: &[Row]) {
     for (rows, ranks, want) in rows {
         let (rows, ranks) = (mask(rt, alloc, *rows), mask(rt, alloc, *ranks));
-        is(rt, &narrowed(rt, alloc, &rows, &ranks), *want);
-        is(rt, &narrowed_counted(rt, alloc, &rows, &ranks).0, *want);
+        is(rt, &rank_intersection(rt, alloc, &rows, &ranks), *want);
+        is(
+            rt,
+            &counted_rank_intersection(rt, alloc, &rows, &ranks).0,
+            *want,
+        );
     }
 }
 
@@ -84,12 +93,12 @@ fn narrows_the_longest(rt: &impl Abort, alloc: Global) {
     let all = Mask::new_true(MAX);
     has(
         rt,
-        &narrowed(rt, alloc, &all, &Mask::new_false(MAX)),
+        &rank_intersection(rt, alloc, &all, &Mask::new_false(MAX)),
         (MAX, 0, "AllFalse"),
     );
     has(
         rt,
-        &narrowed(rt, alloc, &all, &Mask::new_true(MAX)),
+        &rank_intersection(rt, alloc, &all, &Mask::new_true(MAX)),
         (MAX, MAX, "AllTrue"),
     );
 }
@@ -108,8 +117,8 @@ fn narrows_by_all(rt: &impl Abort, alloc: Global) {
     ];
     assert!(rt; rest[0].len() == first.true_count());
     assert!(rt; rest[1].len() == rest[0].true_count());
-    let narrowed = found(rt, first.intersect_all_by_rank(alloc, &rest));
-    has(rt, &narrowed, (20_000, 667, "Values"));
+    let result = found(rt, first.intersect_all_by_rank(alloc, &rest));
+    has(rt, &result, (20_000, 667, "Values"));
 }
 
 #[test]

@@ -6,9 +6,9 @@ use vortex_mask::{AllOr, Mask, MaskValues};
 
 fn made_and_copied(rt: &impl Abort, alloc: Global, rows: &[(&'static str, &str)]) {
     for (text, variant) in rows {
-        let made = mask(rt, alloc, Of::Text(text));
-        is(rt, &made, (text, variant));
-        is(rt, &clone(rt, &made), (text, variant));
+        let found = mask(rt, alloc, Of::Text(text));
+        is(rt, &found, (text, variant));
+        is(rt, &clone(rt, &found), (text, variant));
     }
 }
 

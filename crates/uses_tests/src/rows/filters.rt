@@ -155,9 +155,9 @@ fn by_own_deposits(rt: &impl Abort, alloc: Global) {
     let rows = buffer(rt, alloc, "10011101");
     let kept = buffer(rt, alloc, "00101");
     assert!(rt; kept.len() == rows.true_count());
-    let narrowed = own_deposit::narrowed::<WholeWords>(alloc, &rows, &kept);
+    let narrowed = own_deposit::rank_intersection_by::<WholeWords>(alloc, &rows, &kept);
     lists(rt, &found(rt, narrowed), "00001001");
-    let narrowed = own_deposit::narrowed::<InTurn>(alloc, &rows, &kept);
+    let narrowed = own_deposit::rank_intersection_by::<InTurn>(alloc, &rows, &kept);
     lists(rt, &found(rt, narrowed), "00001001");
 }
 

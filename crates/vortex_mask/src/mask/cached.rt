@@ -5,7 +5,7 @@ ghost use Rattle.std.specs.Borrow.{sem};
 ghost use Rattle.std.specs.Io.BufRead.{Rests};
 ghost use Rattle.mask_bits.specs.Positions.{positions, count};
 ghost use Rattle.mask_bits.specs.RunScan.{runs};
-ghost use Rattle.vortex_mask.specs.Lend.{ReachesShare, lends_ranges, IsLentOf, with_list, lender_variant, IfLent, with_lent, IsKeeping};
+ghost use Rattle.vortex_mask.specs.Lend.{ReachesShare, lends_ranges, IsLentOf, with_list, lender_variant, IfLent, with_lent, IsCaching};
 ghost use Rattle.vortex_mask.specs.Mask.{truth, variant, mixed, caches};
 ghost use Rattle.vortex_mask.specs.MaskValues.{with_indices, with_ranges};
 ghost use Rattle.vortex_mask.specs.contracts.mask.Mask.{the_row};
@@ -37,7 +37,7 @@ impl Mask {
 
         // Once the list is no longer borrowed, it is cached.
         ensures* after { sem 𝓛 (Rests the_row self.entry (λ new.
-            IfOk result (λ lent. IsKeeping self.old
+            IfOk result (λ lent. IsCaching self.old
             (with_lent (λ places. with_indices places.now) lent (caches self.old)) new)
             × OnErr result (new ≡ self.old))) }
         ensures cached { IsSome (caches self.old).indices → IsOk result }
@@ -62,7 +62,7 @@ impl Mask {
 
         // Once the list is no longer borrowed, it is cached.
         ensures* after { sem 𝓛 (Rests the_row self.entry (λ new.
-            IfOk result (λ lent. IsKeeping self.old
+            IfOk result (λ lent. IsCaching self.old
             (with_lent (λ ranges. with_ranges ranges.now) lent (caches self.old)) new)
             × OnErr result (new ≡ self.old))) }
         ensures cached { IsSome (caches self.old).ranges → IsOk result }
@@ -95,7 +95,7 @@ impl Mask {
 
         // Once the list is no longer borrowed, it is cached.
         ensures* after { sem 𝓛 (Rests the_row self.entry (λ new.
-            IfOk result (λ lent. IsKeeping self.old
+            IfOk result (λ lent. IsCaching self.old
             (with_lent with_list lent (caches self.old)) new)
             × OnErr result (new ≡ self.old))) }
         ensures cached_ranges { ReachesShare (truth self.old) num den
@@ -137,7 +137,7 @@ impl Mask {
     // Keeps the true indices where the mask is mixed: it makes the list, a clone of the values with
     // it and what shares them, and becomes that.
     fn fill_indices(&mut self, alloc: Global) -> Result<(), MaskError>
-        ensures filled { IfOk result (λ _. variant self.old ≡ mixed → IsKeeping self.old
+        ensures filled { IfOk result (λ _. variant self.old ≡ mixed → IsCaching self.old
             (with_indices (positions (truth self.old)) (caches self.old)) self.new) }
         ensures stays { variant self.old ≢ mixed → self.new ≡ self.old }
         ensures unfilled { OnErr result (self.new ≡ self.old) }
@@ -156,7 +156,7 @@ impl Mask {
 
     // Keeps the maximal ranges where the mask is mixed, in the same way.
     fn fill_slices(&mut self, alloc: Global) -> Result<(), MaskError>
-        ensures filled { IfOk result (λ _. variant self.old ≡ mixed → IsKeeping self.old
+        ensures filled { IfOk result (λ _. variant self.old ≡ mixed → IsCaching self.old
             (with_ranges (runs (truth self.old)) (caches self.old)) self.new) }
         ensures stays { variant self.old ≢ mixed → self.new ≡ self.old }
         ensures unfilled { OnErr result (self.new ≡ self.old) }

@@ -5,7 +5,7 @@ ghost use Rattle.std.specs.Borrow.{Bor};
 ghost use Rattle.std.specs.Iterator.{IsFinite, Drains};
 ghost use Rattle.std.specs.Iterator.Runs.{WholeRun};
 ghost use Rattle.mask_bits.specs.Buffer.{values};
-ghost use Rattle.mask_bits.specs.Lists.{joined};
+ghost use Rattle.mask_bits.specs.Lists.{concat};
 ghost use Rattle.mask_bits.specs.Positions.{count};
 ghost use Rattle.vortex_mask.specs.Concat.{lists_of, total_len, Joins, AreAll};
 ghost use Rattle.vortex_mask.specs.Mask.{truth, variant, fitting_variant, all_true, caches};
@@ -70,7 +70,7 @@ impl Mask {
     }
 
     // The masks' values one after another.
-    #[tactic(auto, using(crate::proofs::MaskLemmas::variant_facts, crate::proofs::ConcatLemmas::concat_facts))]
+    #[tactic(auto, using(crate::proofs::Masks::MaskLemmas::variant_facts, crate::proofs::Masks::ConcatLemmas::concat_facts))]
     fn concat_list(alloc: Global, masks: &[&Mask]) -> Result<Mask, MaskError>
         ensures list { IfOk result (Joins (lists_of masks.now)) }
         ensures variant { IfOk result (λ m. variant m ≡ fitting_variant all_true (truth m)) }
@@ -122,7 +122,7 @@ fn total_len(masks: &[&Mask]) -> Option<usize>
 // know their counts, so no value is counted again.
 fn buffer_of(alloc: Global, len: usize, masks: &[&Mask]) -> Result<(BitBuffer, usize), AllocError>
     requires { total_len (lists_of masks.now) ≡ len }
-    ensures list { IfOk result (λ r. values r.0 ≡ joined (lists_of masks.now)) }
+    ensures list { IfOk result (λ r. values r.0 ≡ concat (lists_of masks.now)) }
     ensures counted { IfOk result (λ r. r.1 ≡ count (values r.0)) }
 {
     let mut buffer = BitBufferMut::with_capacity(alloc, len)?;

@@ -20,7 +20,7 @@ use std::alloc::Global;
 use std::rc::Rc;
 
 /// From packed or single values.
-#[tactic(auto, using(crate::proofs::MaskLemmas::variant_facts))]
+#[tactic(auto, using(crate::proofs::Masks::MaskLemmas::variant_facts))]
 impl Mask {
     /// The values of a buffer. An empty one gives `AllFalse(0)`.
     pub fn from_buffer(alloc: Global, buffer: BitBuffer) -> Result<Mask, MaskError>

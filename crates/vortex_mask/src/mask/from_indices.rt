@@ -54,7 +54,7 @@ impl Mask {
     }
 
     // The same of a list.
-    #[tactic(auto, using(crate::proofs::FaultLemmas::no_index_fault))]
+    #[tactic(auto, using(crate::proofs::Masks::FaultLemmas::no_index_fault))]
     fn of_list(alloc: Global, len: usize, indices: Vec<usize>) -> Result<Mask, MaskError>
         ensures len { IfOk result (λ m. length (truth m) ≡ len) }
         ensures indices { IfOk result (λ m. positions (truth m) ≡ indices.items) }
@@ -72,7 +72,7 @@ impl Mask {
     }
 
     // The mask of `len` values that is true exactly at these indices, which it keeps.
-    #[tactic(auto, using(crate::proofs::MaskLemmas::variant_facts, crate::proofs::PlaceListLemmas::index_facts))]
+    #[tactic(auto, using(crate::proofs::Masks::MaskLemmas::variant_facts, crate::proofs::Masks::PlaceListLemmas::index_facts))]
     pub(crate) fn of_indices(
         alloc: Global,
         len: usize,
@@ -196,54 +196,54 @@ impl Mask {
         ensures refused_runs { IfErr result (λ e. (e ≡ MaskError.Memory alloc_error)
             ⊎ WholeRun I.next_gives indices (λ p. out_of_bounds len p.items ≡ Some e)) }
     {
-        let mut kept = BitBufferMut::new_set(alloc, len)?;
-        if let Some(index) = exclude(&mut kept, indices) {
+        let mut builder = BitBufferMut::new_set(alloc, len)?;
+        if let Some(index) = exclude(&mut builder, indices) {
             return Err(MaskError::IndexOutOfBounds { index, len });
         }
-        Mask::of_kept(alloc, kept)
+        Mask::of_builder(alloc, builder)
     }
 
     // The mask of these values. No values give `AllTrue(0)`.
-    #[tactic(auto, using(crate::proofs::MaskLemmas::variant_facts))]
-    fn of_kept(alloc: Global, kept: BitBufferMut) -> Result<Mask, MaskError>
-        ensures list { IfOk result (λ m. truth m ≡ kept) }
+    #[tactic(auto, using(crate::proofs::Masks::MaskLemmas::variant_facts))]
+    fn of_builder(alloc: Global, builder: BitBufferMut) -> Result<Mask, MaskError>
+        ensures list { IfOk result (λ m. truth m ≡ builder) }
         ensures variant { IfOk result (λ m. variant m ≡ fitting_variant all_true (truth m)) }
         ensures caches { IfOk result (λ m. caches m ≡ no_caches) }
         ensures refused { IfErr result (λ e. e ≡ MaskError.Memory alloc_error) }
     {
-        if kept.len() == 0 {
+        if builder.len() == 0 {
             return Ok(Mask::AllTrue(0));
         }
-        let kept = kept.freeze()?;
-        Ok(Mask::from_buffer(alloc, kept)?)
+        let builder = builder.freeze()?;
+        Ok(Mask::from_buffer(alloc, builder)?)
     }
 }
 
 // Makes the values at these indices false, and tells the first place that is past the end.
-fn exclude<I: Iterator<Item = usize>>(kept: &mut BitBufferMut, indices: I) -> Option<usize>
+fn exclude<I: Iterator<Item = usize>>(builder: &mut BitBufferMut, indices: I) -> Option<usize>
     requires can { I.can_next indices }
     requires ends { IsFinite (I.remaining indices) }
-    requires all { kept.old ≡ repeated (length kept.old) true }
+    requires all { builder.old ≡ repeated (length builder.old) true }
     ensures { (xs : List ℕ) × Drains I.next_gives indices xs
-        × (kept.new ≡ not_of (true_at (length kept.old) xs))
-        × (result ≡ first_past (length kept.old) xs) }
+        × (builder.new ≡ not_of (true_at (length builder.old) xs))
+        × (result ≡ first_past (length builder.old) xs) }
 {
     let mut past_end = None;
     for index in indices {
-        past_end = exclude_one(kept, index, past_end);
+        past_end = exclude_one(builder, index, past_end);
     }
     past_end
 }
 
 // Makes one value false, or notes that its place is past the end where none was noted yet.
-fn exclude_one(kept: &mut BitBufferMut, index: usize, past_end: Option<usize>) -> Option<usize>
-    ensures within { index < length kept.old
-        → (kept.new ≡ slice_set kept.old index false) × (result ≡ past_end) }
-    ensures past { length kept.old ≤ index
-        → (kept.new ≡ kept.old) × (result ≡ option_or past_end (Some index)) }
+fn exclude_one(builder: &mut BitBufferMut, index: usize, past_end: Option<usize>) -> Option<usize>
+    ensures within { index < length builder.old
+        → (builder.new ≡ slice_set builder.old index false) × (result ≡ past_end) }
+    ensures past { length builder.old ≤ index
+        → (builder.new ≡ builder.old) × (result ≡ option_or past_end (Some index)) }
 {
-    if index < kept.len() {
-        kept.unset(index);
+    if index < builder.len() {
+        builder.unset(index);
         return past_end;
     }
     past_end.or(Some(index))
@@ -295,7 +295,7 @@ impl Mask {
     }
 
     // The same of two lists.
-    #[tactic(auto, using(crate::proofs::FaultLemmas::listed_facts))]
+    #[tactic(auto, using(crate::proofs::Masks::FaultLemmas::listed_facts))]
     fn of_common(alloc: Global, len: usize, lhs: &[usize], rhs: &[usize]) -> Result<Mask, MaskError>
         requires lhs { IsStrictlyIncreasing lhs.now }
         requires rhs { IsStrictlyIncreasing rhs.now }
@@ -317,7 +317,7 @@ impl Mask {
 }
 
 // The indices that both lists have.
-#[tactic(auto, using(crate::proofs::CommonLemmas::common_facts))]
+#[tactic(auto, using(crate::proofs::Masks::CommonLemmas::common_facts))]
 fn common(alloc: Global, lhs: &[usize], rhs: &[usize]) -> Result<Vec<usize>, AllocError>
     requires lhs { IsStrictlyIncreasing lhs.now }
     requires rhs { IsStrictlyIncreasing rhs.now }

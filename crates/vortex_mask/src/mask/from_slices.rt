@@ -50,7 +50,7 @@ impl Mask {
     }
 
     // The mask of ranges in which no fault was found.
-    #[tactic(auto, using(crate::proofs::MaskLemmas::variant_facts, crate::proofs::RangeLemmas::range_facts))]
+    #[tactic(auto, using(crate::proofs::Masks::MaskLemmas::variant_facts, crate::proofs::Masks::SoundRangeLemmas::range_facts))]
     fn of_ranges(alloc: Global, len: usize, ranges: Vec<(usize, usize)>) -> Result<Mask, MaskError>
         requires { range_fault len ranges.items ≡ None }
         ensures len { IfOk result (λ m. length (truth m) ≡ len) }

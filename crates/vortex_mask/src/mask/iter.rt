@@ -23,7 +23,7 @@ pub enum MaskBoolIter<'a> {
     Bits(BitIterator<'a>),
 }
 
-#[tactic(auto, using(crate::proofs::WalkLemmas::next_facts))]
+#[tactic(auto, using(crate::proofs::Masks::MaskWalkLemmas::next_facts))]
 impl Iterator for MaskBoolIter<'_> {
     type Item = bool;
 
@@ -65,7 +65,7 @@ impl ExactSizeIterator for MaskBoolIter<'_> {
     }
 }
 
-#[tactic(auto, using(mask_bits::proofs::Lists::CountLemmas::repeated_facts, crate::proofs::WalkLemmas::values_in_order))]
+#[tactic(auto, using(mask_bits::proofs::Lists::CountLemmas::repeated_facts, crate::proofs::Masks::MaskWalkLemmas::values_in_order))]
 impl Mask {
     /// The values in their order.
     pub fn iter(&self) -> MaskBoolIter<'_>
@@ -92,7 +92,7 @@ pub enum MaskSetIndices<'a> {
     Bits(SetIndices<'a>),
 }
 
-#[tactic(auto, using(crate::proofs::WalkLemmas::next_facts))]
+#[tactic(auto, using(crate::proofs::Masks::MaskWalkLemmas::next_facts))]
 impl Iterator for MaskSetIndices<'_> {
     type Item = usize;
 
@@ -115,7 +115,7 @@ impl Iterator for MaskSetIndices<'_> {
     }
 }
 
-#[tactic(auto, using(crate::proofs::WalkLemmas::index_walks))]
+#[tactic(auto, using(crate::proofs::Masks::MaskWalkLemmas::index_walks))]
 impl Mask {
     /// The indices of the true values, ascending, of a mask that is only lent. No list is made or
     /// cached.
@@ -158,7 +158,7 @@ impl Iterator for MaskSetSlices<'_> {
     }
 }
 
-#[tactic(auto, using(crate::proofs::WalkLemmas::range_walks))]
+#[tactic(auto, using(crate::proofs::Masks::MaskWalkLemmas::range_walks))]
 impl Mask {
     /// The runs of the true values, ascending, of a mask that is only lent. No list is made or
     /// cached.

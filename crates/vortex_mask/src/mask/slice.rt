@@ -1,12 +1,12 @@
-//! Parts of a mask, its first true values, its groups, and the rows that it chooses.
+//! Parts of a mask, its first true values, and its groups.
 
-ghost use Rattle.std.specs.Prelude.{◌≡◌, ◌≢◌, ◌-◌, ◌<◌, ◌≤◌, ◌++◌, false, IsOk, IfOk, IsOkUnless, Ok, alloc_error, length, slice_range, ◌*◌, map, vec_len};
+ghost use Rattle.std.specs.Prelude.{◌≡◌, ◌≢◌, ◌-◌, ◌<◌, ◌≤◌, ◌++◌, false, IsOk, IfOk, IsOkUnless, Ok, alloc_error, length, slice_range, ◌*◌, map};
 ghost use Rattle.std.specs.Int.{div_ceil};
 ghost use Rattle.std.specs.List.{range_with_len};
 ghost use Rattle.mask_bits.specs.Buffer.{values};
 ghost use Rattle.mask_bits.specs.Lists.{limited, group};
-ghost use Rattle.mask_bits.specs.Positions.{count, repeated, chosen};
-ghost use Rattle.vortex_mask.specs.Mask.{truth, variant, fitting_variant, variant_of_no_part, mixed, caches, all_false};
+ghost use Rattle.mask_bits.specs.Positions.{count, repeated};
+ghost use Rattle.vortex_mask.specs.Mask.{truth, variant, fitting_variant, variant_of_no_part, mixed, caches};
 ghost use Rattle.vortex_mask.specs.MaskValues.{no_caches};
 
 use crate::laws;
@@ -15,7 +15,7 @@ use mask_bits::{BitBuffer, BitBufferMut};
 use std::alloc::{AllocError, Global};
 
 /// Parts, and the first true values.
-#[tactic(auto, using(crate::proofs::MaskLemmas::variant_facts, crate::proofs::MaskLemmas::part_facts))]
+#[tactic(auto, using(crate::proofs::Masks::MaskLemmas::variant_facts, crate::proofs::Masks::MaskLemmas::part_facts))]
 impl Mask {
     /// The values from `start` to `end`. All of them are the same mask with the lists that it
     /// keeps, and any other part keeps none.
@@ -155,47 +155,4 @@ impl Mask {
         let end = start + size.min(len - start);
         self.slice(alloc, start, end)
     }
-}
-
-/// Rows.
-#[tactic(auto, using(crate::proofs::MaskLemmas::row_facts))]
-impl Mask {
-    /// The rows at the true indices, in their order.
-    pub fn choose<T: Copy>(&self, alloc: Global, rows: &[T]) -> Result<Vec<T>, MaskError>
-        requires { length rows.now ≡ length (truth self.now) }
-        ensures rows { IfOk result (λ v. v.items ≡ chosen rows.now (truth self.now)) }
-        ensures len { IfOk result (λ v. vec_len v ≡ count (truth self.now)) }
-
-        // An all-false mask chooses no row, and needs no memory for it.
-        ensures none { variant self.now ≡ all_false → IsOk result }
-        ensures refused { IsOkUnless result (MaskError.Memory alloc_error) }
-    {
-        Ok(self.rows_chosen(alloc, rows)?)
-    }
-
-    // The rows at the true indices. How many they are follows.
-    fn rows_chosen<T: Copy>(&self, alloc: Global, rows: &[T]) -> Result<Vec<T>, MaskError>
-        requires { length rows.now ≡ length (truth self.now) }
-        ensures rows { IfOk result (λ v. v.items ≡ chosen rows.now (truth self.now)) }
-        ensures none { variant self.now ≡ all_false → IsOk result }
-        ensures refused { IsOkUnless result (MaskError.Memory alloc_error) }
-    {
-        match self {
-            Mask::AllTrue(_) => Ok(Vec::from_slice(alloc, rows)?),
-            Mask::AllFalse(_) => Ok(Vec::new(alloc)),
-            Mask::Values(values) => Ok(rows_at(alloc, rows, values.bit_buffer())?),
-        }
-    }
-}
-
-// The rows at the true indices of a buffer, in their order.
-fn rows_at<T: Copy>(alloc: Global, rows: &[T], buffer: &BitBuffer) -> Result<Vec<T>, AllocError>
-    requires { length rows.now ≡ length (values buffer.now) }
-    ensures { IfOk result (λ v. v.items ≡ chosen rows.now (values buffer.now)) }
-{
-    let mut at_places = Vec::new(alloc);
-    for place in buffer.set_indices() {
-        at_places.push(rows[place])?;
-    }
-    Ok(at_places)
 }

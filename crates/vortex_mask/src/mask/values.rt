@@ -6,7 +6,7 @@ ghost use Rattle.std.specs.Borrow.{sem};
 ghost use Rattle.std.specs.Io.BufRead.{Rests};
 ghost use Rattle.mask_bits.specs.Buffer.{values};
 ghost use Rattle.mask_bits.specs.Positions.{count, positions};
-ghost use Rattle.vortex_mask.specs.MaskValues.{IsMixed, IsWhole, AreOf, keeping, with_indices, with_ranges};
+ghost use Rattle.vortex_mask.specs.MaskValues.{IsMixed, IsWhole, AreOf, with_caches, with_indices, with_ranges};
 ghost use Rattle.vortex_mask.specs.Fraction.{share};
 ghost use Rattle.mask_bits.specs.RunScan.{runs};
 ghost use Rattle.vortex_mask.specs.Lend.{ReachesShare, lends_ranges, IsLentOf, with_list};
@@ -175,7 +175,7 @@ impl MaskValues {
         // Once the list is no longer borrowed, it is cached.
         ensures* after { sem 𝓛 (Rests the_row self.entry (λ new.
             IfOk result (λ places. new
-            ≡ keeping (with_indices places.now self.old.caches) self.old)
+            ≡ with_caches (with_indices places.now self.old.caches) self.old)
             × OnErr result (new ≡ self.old))) }
         ensures cached { IsSome self.old.caches.indices → IsOk result }
         ensures refused { IsOkUnless result (MaskError.Memory alloc_error) }
@@ -192,7 +192,7 @@ impl MaskValues {
         // Once the list is no longer borrowed, it is cached.
         ensures* after { sem 𝓛 (Rests the_row self.entry (λ new.
             IfOk result (λ ranges. new
-            ≡ keeping (with_ranges ranges.now self.old.caches) self.old)
+            ≡ with_caches (with_ranges ranges.now self.old.caches) self.old)
             × OnErr result (new ≡ self.old))) }
         ensures cached { IsSome self.old.caches.ranges → IsOk result }
         ensures refused { IsOkUnless result (MaskError.Memory alloc_error) }
@@ -216,7 +216,7 @@ impl MaskValues {
 
         // Once the list is no longer borrowed, it is cached.
         ensures* after { sem 𝓛 (Rests the_row self.entry (λ new.
-            IfOk result (λ lent. new ≡ keeping (with_list lent self.old.caches) self.old)
+            IfOk result (λ lent. new ≡ with_caches (with_list lent self.old.caches) self.old)
             × OnErr result (new ≡ self.old))) }
         ensures cached_ranges { ReachesShare (values self.old.buffer) num den
             → IsSome self.old.caches.ranges → IsOk result }
@@ -263,7 +263,7 @@ impl MaskValues {
     // Makes the list of the true indices, then keeps it, where there is none.
     fn cache_indices(&mut self, alloc: Global) -> Result<(), MaskError>
         ensures filled { IfOk result (λ _. self.new
-            ≡ keeping (with_indices (positions (values self.old.buffer)) self.old.caches) self.old) }
+            ≡ with_caches (with_indices (positions (values self.old.buffer)) self.old.caches) self.old) }
         ensures unfilled { OnErr result (self.new ≡ self.old) }
         ensures cached { IsSome self.old.caches.indices → IsOk result }
         ensures refused { IsOkUnless result (MaskError.Memory alloc_error) }
@@ -277,7 +277,7 @@ impl MaskValues {
     // Makes the list of the maximal ranges, then keeps it, where there is none.
     fn cache_slices(&mut self, alloc: Global) -> Result<(), MaskError>
         ensures filled { IfOk result (λ _. self.new
-            ≡ keeping (with_ranges (runs (values self.old.buffer)) self.old.caches) self.old) }
+            ≡ with_caches (with_ranges (runs (values self.old.buffer)) self.old.caches) self.old) }
         ensures unfilled { OnErr result (self.new ≡ self.old) }
         ensures cached { IsSome self.old.caches.ranges → IsOk result }
         ensures refused { IsOkUnless result (MaskError.Memory alloc_error) }
@@ -291,7 +291,7 @@ impl MaskValues {
     // The same values with their true indices cached.
     pub(crate) fn with_indices(&self, alloc: Global) -> Result<MaskValues, MaskError>
         ensures filled { IfOk result (λ v. v
-            ≡ keeping (with_indices (positions (values self.now.buffer)) self.now.caches) self.now) }
+            ≡ with_caches (with_indices (positions (values self.now.buffer)) self.now.caches) self.now) }
         ensures refused { IsOkUnless result (MaskError.Memory alloc_error) }
     {
         let places = self.places(alloc)?;
@@ -303,7 +303,7 @@ impl MaskValues {
     // The same values with their maximal ranges cached.
     pub(crate) fn with_slices(&self, alloc: Global) -> Result<MaskValues, MaskError>
         ensures filled { IfOk result (λ v. v
-            ≡ keeping (with_ranges (runs (values self.now.buffer)) self.now.caches) self.now) }
+            ≡ with_caches (with_ranges (runs (values self.now.buffer)) self.now.caches) self.now) }
         ensures refused { IsOkUnless result (MaskError.Memory alloc_error) }
     {
         let runs = self.runs(alloc)?;

@@ -1,5 +1,5 @@
 use Rattle.std.proofs.Common.{◌/◌, arith}
-use Rattle.mask_bits.proofs.Lists.WalkLemmas.{ShowsFrom-read}
+use Rattle.mask_bits.proofs.Lists.Words.WalkLemmas.{ShowsFrom-read}
 use Rattle.mask_bits.proofs.bit_iterator.word_ahead.Goals as goal
 
 pub returns-then-next-eq0 : goal.returns-then-next-eq0

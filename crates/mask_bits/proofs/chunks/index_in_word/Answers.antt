@@ -1,8 +1,8 @@
 use Rattle.std.proofs.Common.{◌≡◌, slice_get, ap, ◌∙◌, sym, arith}
 use Rattle.mask_bits.specs.Positions.{positions}
 use Rattle.mask_bits.specs.Words.{word_bits}
-use Rattle.mask_bits.proofs.Lists.LowestLemmas.{low-within}
-use Rattle.mask_bits.proofs.Lists.SelectLemmas.{some_left, left-more, left-first}
+use Rattle.mask_bits.proofs.Lists.Words.LowestLemmas.{low-within}
+use Rattle.mask_bits.proofs.Lists.Places.SelectLemmas.{some_left, left-more, left-first}
 use Rattle.mask_bits.proofs.chunks.index_in_word.Goals as goal
 
 pub overflow_sub-word : goal.overflow_sub-word

@@ -1,7 +1,7 @@
 use Rattle.std.proofs.Common.{ℕ, ◌≡◌, ◌+◌, ◌-◌, ◌*◌, ◌/◌, ◌%◌, take, drop, length, ap, arith}
 use Rattle.std.proofs.lemmas.List.{take_rest}
 use Rattle.mask_bits.specs.Positions.{count}
-use Rattle.mask_bits.proofs.Lists.BitsLemmas.{bits_at, count-split, count-bits_at-le}
+use Rattle.mask_bits.proofs.Lists.Words.BackingBitLemmas.{bits_at, count-split, count-bits_at-le}
 use Rattle.mask_bits.proofs.counts.count_bits.Goals as goal
 
 pub overflow_add-result : goal.overflow_add-result

@@ -2,7 +2,7 @@ use Rattle.std.proofs.Common.{◌-◌, ◌^◌, ap, ◌∙◌, refl, arith, coun
 use Rattle.std.specs.Int.RustNames.{bit_and}
 use Rattle.std.proofs.lemmas.Grind.{one_shifted}
 use Rattle.std.proofs.lemmas.Nat.{and_le_l}
-use Rattle.mask_bits.proofs.Lists.BitsLemmas.{count-low}
+use Rattle.mask_bits.proofs.Lists.Words.BackingBitLemmas.{count-low}
 use Rattle.mask_bits.proofs.counts.count_few.Goals as goal
 
 pub returns : goal.returns

@@ -1,9 +1,9 @@
 use Rattle.std.proofs.Common.{◌*◌, ◌+◌, ◌≡◌, ap, sym, ◌∙◌, arith, count_ones}
 use Rattle.mask_bits.specs.Positions.{count}
-use Rattle.mask_bits.proofs.Lists.BitsLemmas.{bits_at, count-bits_at-le}
+use Rattle.mask_bits.proofs.Lists.Words.BackingBitLemmas.{bits_at, count-bits_at-le}
 use Rattle.mask_bits.proofs.Lists.CountLemmas.{count-append}
-use Rattle.mask_bits.proofs.Lists.FrontLemmas.{front-more_word}
-use Rattle.mask_bits.proofs.Lists.WordLemmas.{count-word_bits}
+use Rattle.mask_bits.proofs.Lists.Words.FrontLemmas.{front-more_word}
+use Rattle.mask_bits.proofs.Lists.Words.WordLemmas.{count-word_bits}
 use Rattle.mask_bits.proofs.counts.count_words.Goals as goal
 
 pub loop-i-init : goal.loop-i-init

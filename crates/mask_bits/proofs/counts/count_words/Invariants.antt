@@ -1,6 +1,6 @@
 use Rattle.std.proofs.Common.{◌≡◌, ◌*◌}
 use Rattle.mask_bits.specs.Positions.{count}
-use Rattle.mask_bits.proofs.Lists.BitsLemmas.{bits_at}
+use Rattle.mask_bits.proofs.Lists.Words.BackingBitLemmas.{bits_at}
 use Rattle.mask_bits.proofs.counts.count_words.Given as goal
 
 -- the ones of the words so far

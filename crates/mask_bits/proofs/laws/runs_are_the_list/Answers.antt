@@ -1,4 +1,4 @@
-use Rattle.mask_bits.proofs.Lists.RunListLemmas.{runs_are_the_list}
+use Rattle.mask_bits.proofs.Lists.Runs.RunListLemmas.{runs_are_the_list}
 use Rattle.mask_bits.proofs.laws.runs_are_the_list.Goals as goal
 
 pub returns : goal.returns

@@ -1,4 +1,4 @@
-use Rattle.mask_bits.proofs.Lists.RunLemmas.{runs_are_unique}
+use Rattle.mask_bits.proofs.Lists.Runs.RunLemmas.{runs_are_unique}
 use Rattle.mask_bits.proofs.laws.runs_are_unique.Goals as goal
 
 pub returns : goal.returns

@@ -1,4 +1,4 @@
-use Rattle.mask_bits.proofs.Lists.IndexLemmas.{sorted_do_not_fall}
+use Rattle.mask_bits.proofs.Lists.Places.IndexLemmas.{sorted_do_not_fall}
 use Rattle.mask_bits.proofs.laws.sorted_numbers.Goals as goal
 
 pub returns-clause-sorted : goal.returns-clause-sorted

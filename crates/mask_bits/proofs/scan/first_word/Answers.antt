@@ -1,5 +1,5 @@
 use Rattle.std.proofs.Common.{arith}
-use Rattle.mask_bits.proofs.Lists.WalkLemmas.{left_of-first, left_of-none, IsLeft-none, IsLeft-read}
+use Rattle.mask_bits.proofs.Lists.Words.WalkLemmas.{left_of-first, left_of-none, IsLeft-none, IsLeft-read}
 use Rattle.mask_bits.proofs.scan.first_word.Goals as goal
 
 pub returns-then-padded_len-eq0-clause-all : goal.returns-then-padded_len-eq0-clause-all

@@ -1,7 +1,7 @@
 use Rattle.std.proofs.Common.{◌+◌, ◌<◌, length, ap, sym, ◌∙◌, arith}
 use Rattle.mask_bits.specs.Walk.{left_of}
 use Rattle.mask_bits.specs.Words.{started_words}
-use Rattle.mask_bits.proofs.Lists.WalkLemmas.{left_of-next, left_of-last, IsLeft-read}
+use Rattle.mask_bits.proofs.Lists.Words.WalkLemmas.{left_of-next, left_of-last, IsLeft-read}
 use Rattle.mask_bits.proofs.scan.next_word.Goals as goal
 
 pub overflow_add-at : goal.overflow_add-at

@@ -2,7 +2,7 @@ use Rattle.std.proofs.Common.{ℕ, ◌*◌, ◌-◌, ◌++◌, List, sym, ap, �
 use Rattle.std.specs.Int.RustNames.{bit_and}
 use Rattle.mask_bits.specs.Positions.{places_from}
 use Rattle.mask_bits.specs.Words.{word_bits}
-use Rattle.mask_bits.proofs.Lists.SelectLemmas.{places-lowest, places-of_none}
+use Rattle.mask_bits.proofs.Lists.Places.SelectLemmas.{places-lowest, places-of_none}
 use Rattle.mask_bits.proofs.set_indices.push_indices.Goals as goal
 
 pub loop-left-preserved : goal.loop-left-preserved

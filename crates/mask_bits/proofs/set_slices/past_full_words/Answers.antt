@@ -1,5 +1,5 @@
 use Rattle.std.proofs.Common.{arith}
-use Rattle.mask_bits.proofs.Lists.WalkLemmas.{PassesTrue-more}
+use Rattle.mask_bits.proofs.Lists.Words.WalkLemmas.{PassesTrue-more}
 use Rattle.mask_bits.proofs.set_slices.past_full_words.Goals as goal
 
 pub loop-word-preserved : goal.loop-word-preserved

@@ -1,4 +1,4 @@
-use Rattle.mask_bits.proofs.Lists.ShiftLemmas.{word_bits-low_ones}
+use Rattle.mask_bits.proofs.Lists.Words.ShiftLemmas.{word_bits-low_ones}
 use Rattle.mask_bits.proofs.words.low_bits.Goals as goal
 
 pub returns : goal.returns

@@ -1,6 +1,6 @@
 use Rattle.std.proofs.Common.{ap, ◌∙◌}
 use Rattle.mask_bits.specs.Words.{word_bits}
-use Rattle.mask_bits.proofs.Lists.FrontLemmas.{word_bits-first_chunk}
+use Rattle.mask_bits.proofs.Lists.Words.FrontLemmas.{word_bits-first_chunk}
 use Rattle.mask_bits.proofs.words.word_of.Goals as goal
 
 pub returns : goal.returns

@@ -1,4 +1,4 @@
-use Rattle.mask_bits.proofs.BitLemmas.{backing_bit-without_bit}
+use Rattle.mask_bits.proofs.SetBitLemmas.{backing_bit-without_bit}
 use Rattle.mask_bits.proofs.write_bits.clear_bit.Goals as goal
 
 pub returns : goal.returns

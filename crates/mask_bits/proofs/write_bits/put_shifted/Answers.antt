@@ -3,9 +3,9 @@ use Rattle.std.proofs.lemmas.List.{take_rest}
 use Rattle.mask_bits.specs.Buffer.{values}
 use Rattle.mask_bits.specs.BufferMut.{IsWrittenBehind, AreClearFrom}
 use Rattle.mask_bits.specs.Words.{word_bits}
-use Rattle.mask_bits.proofs.Lists.FrontLemmas.{window-whole}
-use Rattle.mask_bits.proofs.Lists.WordLemmas.{length-word_bits}
-use Rattle.mask_bits.proofs.WriteLemmas.{written-no_bits, written-more, written-bits_clear, written-word, joined-window}
+use Rattle.mask_bits.proofs.Lists.Words.FrontLemmas.{window-whole}
+use Rattle.mask_bits.proofs.Lists.Words.WordLemmas.{length-word_bits}
+use Rattle.mask_bits.proofs.WriteLemmas.{written-no_bits, written-more, written-bits_clear, written-word, funnel-window}
 use Rattle.mask_bits.proofs.write_bits.put_shifted.Goals as goal
 
 pub loop-i-init : goal.loop-i-init
@@ -22,7 +22,7 @@ loop-i-preserved c =
     let new = c.set_word.new.bytes in
     let word = c.funnel_shift-word.result in
     let part : List ℕ = take (length from - offset / 8) (drop (offset / 8) from) in
-    let shows = joined-window from part offset i c.word_of.result c.word_of-in-loop-i.result word (take_rest from (offset / 8))
+    let shows = funnel-window from part offset i c.word_of.result c.word_of-in-loop-i.result word (take_rest from (offset / 8))
     c.word_of.ensures c.word_of-in-loop-i.ensures c.funnel_shift-word.ensures in
     let clear : AreClearFrom (64 * (first + i)) b
     = written-bits_clear a b from (64 * first) offset (64 * i) (64 * (first + i)) (omega arith) c.loop-i.invariant in

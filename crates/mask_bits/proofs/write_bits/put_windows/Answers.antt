@@ -1,5 +1,5 @@
 use Rattle.std.proofs.Common.{List, Bool, ◌≤◌, ◌+◌, take, refl, ap, ◌∙◌, arith}
-use Rattle.mask_bits.proofs.Lists.FrontLemmas.{window-take}
+use Rattle.mask_bits.proofs.Lists.Words.FrontLemmas.{window-take}
 use Rattle.mask_bits.proofs.WriteLemmas.{written-no_bits, written-more, written-bits_clear}
 use Rattle.mask_bits.proofs.write_bits.put_windows.Goals as goal
 

@@ -1,7 +1,7 @@
 use Rattle.std.proofs.Common.{List, Bool, length, ◌≡◌, take, arith}
 use Rattle.std.proofs.lemmas.List.{length-take}
 use Rattle.mask_bits.specs.Words.{word_bits}
-use Rattle.mask_bits.proofs.Lists.WordLemmas.{length-word_bits}
+use Rattle.mask_bits.proofs.Lists.Words.WordLemmas.{length-word_bits}
 use Rattle.mask_bits.proofs.WriteLemmas.{written-first_word, written-one, written-two}
 use Rattle.mask_bits.proofs.write_bits.put_word.Goals as goal
 

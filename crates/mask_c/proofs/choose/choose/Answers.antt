@@ -3,7 +3,7 @@ use Rattle.std.specs.List.{All}
 use Rattle.std.proofs.lemmas.List.{take_all, take_rest}
 use Rattle.mask_bits.specs.Positions.{chosen, count, positions}
 use Rattle.mask_bits.specs.Words.{word_bits}
-use Rattle.mask_bits.proofs.Lists.SelectLemmas.{count-word_more}
+use Rattle.mask_bits.proofs.Lists.Places.SelectLemmas.{count-word_more}
 use Rattle.mask_c.proofs.ChooseLemmas.{rows_at, rows-word_more, part-within, count_below-le-count, rows-all}
 use Rattle.mask_c.proofs.choose.choose.Goals as goal
 

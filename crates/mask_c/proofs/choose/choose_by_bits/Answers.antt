@@ -7,8 +7,8 @@ use Rattle.std.proofs.lemmas.Option.{slice_get-get_or}
 use Rattle.mask_bits.specs.Positions.{positions}
 use Rattle.mask_bits.specs.Words.{word_bits}
 use Rattle.mask_bits.proofs.Lists.ChooseLemmas.{chosen-step}
-use Rattle.mask_bits.proofs.Lists.LowestLemmas.{low}
-use Rattle.mask_bits.proofs.Lists.SelectLemmas.{positions-lowest}
+use Rattle.mask_bits.proofs.Lists.Words.LowestLemmas.{low}
+use Rattle.mask_bits.proofs.Lists.Places.SelectLemmas.{positions-lowest}
 use Rattle.mask_c.proofs.ChooseLemmas.{rows_at, lowest-within, no_bits}
 use Rattle.mask_c.proofs.choose.choose_by_bits.Goals as goal
 

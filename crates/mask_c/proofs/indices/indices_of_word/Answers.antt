@@ -6,8 +6,8 @@ use Rattle.std.proofs.lemmas.List.{length-set, length-take}
 use Rattle.std.proofs.lemmas.List.Elements.{All-head, All-tail}
 use Rattle.mask_bits.specs.Positions.{positions}
 use Rattle.mask_bits.specs.Words.{word_bits}
-use Rattle.mask_bits.proofs.Lists.LowestLemmas.{low}
-use Rattle.mask_bits.proofs.Lists.SelectLemmas.{positions-lowest}
+use Rattle.mask_bits.proofs.Lists.Words.LowestLemmas.{low}
+use Rattle.mask_bits.proofs.Lists.Places.SelectLemmas.{positions-lowest}
 use Rattle.mask_c.proofs.ChooseLemmas.{no_bits}
 use Rattle.mask_c.proofs.IndexLemmas.{stopped}
 use Rattle.mask_c.proofs.indices.indices_of_word.Goals as goal

@@ -2,7 +2,7 @@
 use super::caches;
 use crate::helpers::{Generator, Outside, buffer_at, found};
 use crate::plain::{Draw, Plain};
-use crate::sweeps::mask::combine::narrowed;
+use crate::sweeps::mask::combine::rank_intersection;
 use crate::sweeps::mask::lent::with_lists;
 use mask_bits::BitBuffer;
 use std::alloc::Global;
@@ -36,7 +36,7 @@ fn lists_of(
     let rows = in_1024(threshold).plain(rt, alloc, &mut words, len);
     let ranks = in_1024(rank_threshold).plain(rt, alloc, &mut words, rows.indices.len());
     Lists {
-        want: rows.narrowed(rt, alloc, &ranks.values),
+        want: rows.rank_intersection(rt, alloc, &ranks.values),
         rows,
         ranks,
     }
@@ -87,7 +87,7 @@ fn narrows(
     lists: &Lists,
     (rows_cached, ranks_cached): (bool, bool),
 ) {
-    let left = narrowed(rt, alloc, rows, ranks);
+    let left = rank_intersection(rt, alloc, rows, ranks);
     caches(rt, &left, &lists.want, caches_indices(rt, rows, ranks));
     caches(rt, rows, &lists.rows, rows_cached);
     caches(rt, ranks, &lists.ranks, ranks_cached);

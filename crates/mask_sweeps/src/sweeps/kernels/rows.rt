@@ -33,7 +33,7 @@ fn values_at(rt: &impl Abort, alloc: Global, len: usize, places: &[usize]) -> Ve
     values
 }
 
-// Rows of self, true ranks, true places of the result, deposits, words.
+// Rows of self, ranks, true places of the result, deposits, words.
 type Row = (Source, &'static [usize], &'static [usize], usize, usize);
 
 const ROWS: [Row; 12] = [

@@ -12,7 +12,7 @@ pub(crate) struct Case {
     pub(crate) combined: Vec<(Op, Plain)>,
     // a rank for each true value, and the values that are left by them
     pub(crate) ranks: Vec<bool>,
-    pub(crate) narrowed: Plain,
+    pub(crate) rank_intersection: Plain,
     // limits, and the values that each leaves
     pub(crate) limited: Vec<(usize, Plain)>,
     // where parts begin and end, and their values
@@ -41,7 +41,7 @@ impl Case {
         let ranks = repeating(rt, alloc, plain.indices.len(), (3, 1));
         Case {
             combined: combined(rt, alloc, &plain.values, &reversed.values),
-            narrowed: plain.narrowed(rt, alloc, &ranks),
+            rank_intersection: plain.rank_intersection(rt, alloc, &ranks),
             limited: limited(rt, alloc, &plain, limits),
             parts: parts(rt, alloc, &plain),
             counts: counts(rt, alloc, &plain.values),

@@ -64,18 +64,18 @@ pub(super) fn compares(rt: &impl Abort, alloc: Global, mask: &Mask, plain: &Plai
     }
 }
 
-pub(crate) fn narrowed(rt: &impl Abort, alloc: Global, mask: &Mask, ranks: &Mask) -> Mask {
+pub(crate) fn rank_intersection(rt: &impl Abort, alloc: Global, mask: &Mask, ranks: &Mask) -> Mask {
     assert!(rt; ranks.len() == mask.true_count());
     found(rt, mask.intersect_by_rank(alloc, ranks))
 }
 
-fn narrowed_counted(rt: &impl Abort, alloc: Global, mask: &Mask, ranks: &Mask) -> Mask {
+fn counted_rank_intersection(rt: &impl Abort, alloc: Global, mask: &Mask, ranks: &Mask) -> Mask {
     assert!(rt; ranks.len() == mask.true_count());
     found(rt, mask.intersect_by_rank_counted(alloc, ranks)).0
 }
 
 // A stack of the mask and its ranks.
-fn narrowed_by_all(rt: &impl Abort, alloc: Global, mask: &Mask, ranks: Mask) -> Mask {
+fn intersection_of_all(rt: &impl Abort, alloc: Global, mask: &Mask, ranks: Mask) -> Mask {
     let ranks = [ranks];
     assert!(rt; ranks[0].len() == mask.true_count());
     found(rt, mask.intersect_all_by_rank(alloc, &ranks))
@@ -83,14 +83,18 @@ fn narrowed_by_all(rt: &impl Abort, alloc: Global, mask: &Mask, ranks: Mask) -> 
 
 // By each form of rank intersection.
 pub(crate) fn narrows_to(rt: &impl Abort, alloc: Global, mask: &Mask, ranks: &Mask, want: &Plain) {
-    is_list(rt, &narrowed(rt, alloc, mask, ranks), want);
-    is_list(rt, &narrowed_counted(rt, alloc, mask, ranks), want);
+    is_list(rt, &rank_intersection(rt, alloc, mask, ranks), want);
+    is_list(rt, &counted_rank_intersection(rt, alloc, mask, ranks), want);
 }
 
 pub(super) fn narrows(rt: &impl Abort, alloc: Global, mask: &Mask, case: &Case) {
     let ranks = mask_of(rt, alloc, &case.ranks);
-    narrows_to(rt, alloc, mask, &ranks, &case.narrowed);
-    is_list(rt, &narrowed_by_all(rt, alloc, mask, ranks), &case.narrowed);
+    narrows_to(rt, alloc, mask, &ranks, &case.rank_intersection);
+    is_list(
+        rt,
+        &intersection_of_all(rt, alloc, mask, ranks),
+        &case.rank_intersection,
+    );
 }
 
 // One after another, its parts are the mask, and so are its groups.

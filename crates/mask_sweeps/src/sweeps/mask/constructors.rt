@@ -32,7 +32,7 @@ pub(crate) const CONSTRUCTORS: [Constructor; 9] = [
     Constructor::Masks,
 ];
 
-pub(crate) fn made(rt: &impl Abort, alloc: Global, plain: &Plain, by: Constructor) -> Mask {
+pub(crate) fn mask_by(rt: &impl Abort, alloc: Global, plain: &Plain, by: Constructor) -> Mask {
     match by {
         Constructor::Bools => mask_of(rt, alloc, &plain.values),
         Constructor::Indices => of_indices(rt, alloc, plain),

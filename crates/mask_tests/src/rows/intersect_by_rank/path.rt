@@ -1,5 +1,5 @@
 // The choice among the kernels, with the steps and the cached indices of each.
-use super::{narrowed, narrowed_counted};
+use super::{counted_rank_intersection, rank_intersection};
 use crate::rows::helpers::{Of, caches, mask, same};
 use std::alloc::Global;
 use std::process::Abort;
@@ -112,12 +112,12 @@ type Row = (
 // By both calls. The operands have cached what they had.
 fn narrows(rt: &impl Abort, alloc: Global, row: &Row) {
     let (rows, ranks) = (mask(rt, alloc, row.0.0), mask(rt, alloc, row.1.0));
-    let (counted, steps) = narrowed_counted(rt, alloc, &rows, &ranks);
+    let (counted, steps) = counted_rank_intersection(rt, alloc, &rows, &ranks);
     takes(rt, &steps, row.3);
     is_at(rt, &counted, rows.len(), row.2.0, row.2.1);
     is_at(
         rt,
-        &narrowed(rt, alloc, &rows, &ranks),
+        &rank_intersection(rt, alloc, &rows, &ranks),
         rows.len(),
         row.2.0,
         row.2.1,

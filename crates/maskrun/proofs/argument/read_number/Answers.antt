@@ -1,7 +1,7 @@
 use Rattle.std.proofs.Common.{sym, ◌∙◌}
 use Rattle.std.proofs.lemmas.Result.{OkIff-at_err}
 use Rattle.std.proofs.lemmas.Str.Parse.{parse_digits}
-use Rattle.maskrun.proofs.NumberLemmas.{digits, refused_number}
+use Rattle.maskrun.proofs.DigitLemmas.{digits, refused_number}
 use Rattle.maskrun.proofs.argument.read_number.Goals as goal
 
 pub returns-in-Err : goal.returns-in-Err

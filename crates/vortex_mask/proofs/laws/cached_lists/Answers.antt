@@ -1,4 +1,4 @@
-use Rattle.mask_bits.proofs.Lists.RunLemmas.{AreRuns-runs_from, runs_are_ranges}
+use Rattle.mask_bits.proofs.Lists.Runs.RunLemmas.{AreRuns-runs_from, runs_are_ranges}
 use Rattle.vortex_mask.specs.Mask.{truth}
 use Rattle.vortex_mask.proofs.laws.cached_lists.Goals as goal
 

@@ -2,7 +2,7 @@ use Rattle.std.proofs.Common.{arith}
 use Rattle.std.proofs.lemmas.List.{map_more}
 use Rattle.mask_bits.specs.Buffer.{values}
 use Rattle.mask_bits.specs.Positions.{count_below}
-use Rattle.vortex_mask.proofs.ReadingLemmas.{count-runs_on}
+use Rattle.vortex_mask.proofs.Masks.ReadingLemmas.{count-runs_on}
 use Rattle.vortex_mask.proofs.mask.counts_below.Goals as goal
 
 pub loop-index-preserved : goal.loop-index-preserved

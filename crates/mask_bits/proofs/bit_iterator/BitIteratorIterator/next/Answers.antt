@@ -3,7 +3,7 @@ use Rattle.std.proofs.lemmas.List.{drop_more}
 use Rattle.std.proofs.lemmas.Nat.{and_mask}
 use Rattle.mask_bits.specs.Buffer.{values}
 use Rattle.mask_bits.specs.Walk.{ShowsFrom}
-use Rattle.mask_bits.proofs.Lists.WalkLemmas.{ShowsFrom-first, ShowsFrom-next}
+use Rattle.mask_bits.proofs.Lists.Words.WalkLemmas.{ShowsFrom-first, ShowsFrom-next}
 use Rattle.mask_bits.proofs.bit_iterator.BitIteratorIterator.next.Goals as goal
 
 shows : (c : goal.After-self-2-1) → ShowsFrom (values c.self.inside.buffer.now) c.self.inside.next c.word_ahead-word.result

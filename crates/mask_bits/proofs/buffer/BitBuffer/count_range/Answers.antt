@@ -2,8 +2,8 @@ use Rattle.std.proofs.Common.{ℕ, List, ◌+◌, ◌-◌, slice_range, ap, refl
 use Rattle.mask_bits.specs.Buffer.{Packed, values}
 use Rattle.mask_bits.specs.Positions.{count}
 use Rattle.mask_bits.proofs.BufferLemmas.{len-of_list, length-values, values-part}
-use Rattle.mask_bits.proofs.Lists.BitsLemmas.{bits_at}
-use Rattle.mask_bits.proofs.Lists.PlaceLemmas.{count-le-length}
+use Rattle.mask_bits.proofs.Lists.Words.BackingBitLemmas.{bits_at}
+use Rattle.mask_bits.proofs.Lists.Places.PlaceLemmas.{count-le-length}
 use Rattle.mask_bits.proofs.buffer.BitBuffer.count_range.Goals as goal
 
 pub returns-clause-counted : goal.returns-clause-counted

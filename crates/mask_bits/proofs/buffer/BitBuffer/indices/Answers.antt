@@ -3,8 +3,8 @@ use Rattle.std.proofs.lemmas.List.{take_all}
 use Rattle.mask_bits.specs.Buffer.{values}
 use Rattle.mask_bits.specs.Positions.{positions, places_from}
 use Rattle.mask_bits.specs.Words.{word_bits, word_part, padded_part, padded_remainder}
-use Rattle.mask_bits.proofs.Lists.PaddedLemmas.{padded_part-whole, padded_part-remainder}
-use Rattle.mask_bits.proofs.Lists.SelectLemmas.{places-word_more}
+use Rattle.mask_bits.proofs.Lists.Words.PaddedLemmas.{padded_part-whole, padded_part-remainder}
+use Rattle.mask_bits.proofs.Lists.Places.SelectLemmas.{places-word_more}
 use Rattle.mask_bits.proofs.buffer.BitBuffer.indices.Goals as goal
 
 pub loop-i-preserved : goal.loop-i-preserved

@@ -3,8 +3,8 @@ use Rattle.std.specs.List.{All}
 use Rattle.std.specs.List.Sorted.{IsStrictlyIncreasing}
 use Rattle.mask_bits.specs.Buffer.{values}
 use Rattle.mask_bits.proofs.BufferLemmas.{length-values}
-use Rattle.mask_bits.proofs.Lists.AscendingLemmas.{positions-ascending}
-use Rattle.mask_bits.proofs.Lists.PlaceLemmas.{length-places_from, positions-within}
+use Rattle.mask_bits.proofs.Lists.Places.AscendingLemmas.{positions-ascending}
+use Rattle.mask_bits.proofs.Lists.Places.PlaceLemmas.{length-places_from, positions-within}
 use Rattle.mask_bits.proofs.buffer.BitBuffer.set_indices.Goals as goal
 
 pub returns-clause-fits : goal.returns-clause-fits

@@ -1,7 +1,7 @@
 use Rattle.std.proofs.Common.{ap, arith}
 use Rattle.mask_bits.specs.Buffer.{values}
 use Rattle.mask_bits.proofs.BufferLemmas.{length-values}
-use Rattle.mask_bits.proofs.Lists.RunLemmas.{length-AreRuns}
+use Rattle.mask_bits.proofs.Lists.Runs.RunLemmas.{length-AreRuns}
 use Rattle.mask_bits.proofs.buffer.BitBuffer.set_slices.Goals as goal
 
 pub returns-clause-fits : goal.returns-clause-fits

@@ -1,7 +1,7 @@
 use Rattle.std.proofs.Common.{ap, refl, arith}
 use Rattle.mask_bits.specs.Buffer.{Packed, values}
 use Rattle.mask_bits.proofs.BufferLemmas.{len-of_list, length-values}
-use Rattle.mask_bits.proofs.Lists.PlaceLemmas.{count-le-length}
+use Rattle.mask_bits.proofs.Lists.Places.PlaceLemmas.{count-le-length}
 use Rattle.mask_bits.proofs.buffer.BitBuffer.true_count.Goals as goal
 
 pub returns-clause-at_most : goal.returns-clause-at_most

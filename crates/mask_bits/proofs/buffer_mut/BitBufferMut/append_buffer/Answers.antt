@@ -4,7 +4,7 @@ use Rattle.mask_bits.specs.Buffer.{Packed, values, backing_bit}
 use Rattle.mask_bits.specs.BufferMut.{IsRoom}
 use Rattle.mask_bits.proofs.BufferLemmas.{length-values, len-of_list}
 use Rattle.mask_bits.proofs.BuilderLemmas.{on_err, front-appended, room-appended}
-use Rattle.mask_bits.proofs.Lists.FrontLemmas.{front-same}
+use Rattle.mask_bits.proofs.Lists.Words.FrontLemmas.{front-same}
 use Rattle.mask_bits.proofs.buffer_mut.BitBufferMut.append_buffer.Goals as goal
 
 pub overflow_add-self-inside : goal.overflow_add-self-inside

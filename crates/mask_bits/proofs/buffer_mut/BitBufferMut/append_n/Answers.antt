@@ -5,7 +5,7 @@ use Rattle.mask_bits.specs.BufferMut.{IsRoom}
 use Rattle.mask_bits.specs.Positions.{repeated}
 use Rattle.mask_bits.proofs.BufferLemmas.{len-of_list}
 use Rattle.mask_bits.proofs.BuilderLemmas.{on_err, front-appended, room-appended}
-use Rattle.mask_bits.proofs.Lists.FrontLemmas.{front-same}
+use Rattle.mask_bits.proofs.Lists.Words.FrontLemmas.{front-same}
 use Rattle.mask_bits.proofs.Lists.CountLemmas.{length-repeated}
 use Rattle.mask_bits.proofs.buffer_mut.BitBufferMut.append_n.Goals as goal
 

@@ -5,8 +5,8 @@ use Rattle.mask_bits.specs.BufferMut.{IsRoom}
 use Rattle.mask_bits.specs.Words.{word_bits}
 use Rattle.mask_bits.proofs.BufferLemmas.{len-of_list}
 use Rattle.mask_bits.proofs.BuilderLemmas.{on_err, front-appended, room-appended}
-use Rattle.mask_bits.proofs.Lists.FrontLemmas.{front-same}
-use Rattle.mask_bits.proofs.Lists.WordLemmas.{length-word_bits}
+use Rattle.mask_bits.proofs.Lists.Words.FrontLemmas.{front-same}
+use Rattle.mask_bits.proofs.Lists.Words.WordLemmas.{length-word_bits}
 use Rattle.mask_bits.proofs.buffer_mut.BitBufferMut.push_word.Goals as goal
 
 pub overflow_add-self-inside : goal.overflow_add-self-inside

@@ -2,8 +2,8 @@ use Rattle.std.proofs.Common.{ℕ, Option, ◌<◌, ◌-◌, length, subst, sym,
 use Rattle.std.specs.Option.{IfSome}
 use Rattle.mask_bits.specs.Positions.{count}
 use Rattle.mask_bits.specs.Words.{word_bits}
-use Rattle.mask_bits.proofs.Lists.PlaceLemmas.{place-within}
-use Rattle.mask_bits.proofs.Lists.SelectLemmas.{last_in_word, last_none, none_more}
+use Rattle.mask_bits.proofs.Lists.Places.PlaceLemmas.{place-within}
+use Rattle.mask_bits.proofs.Lists.Places.SelectLemmas.{last_in_word, last_none, none_more}
 use Rattle.mask_bits.proofs.chunks.BitChunks.last_set_index.Goals as goal
 
 pub returns-then-last-ne0-clause-place : goal.returns-then-last-ne0-clause-place

@@ -1,6 +1,6 @@
 use Rattle.std.proofs.Common.{◌≡◌, ◌/◌, length, ap, ◌∙◌, arith}
 use Rattle.mask_bits.specs.Words.{padded_part, padded_remainder}
-use Rattle.mask_bits.proofs.Lists.PaddedLemmas.{padded_part-whole, padded_part-remainder}
+use Rattle.mask_bits.proofs.Lists.Words.PaddedLemmas.{padded_part-whole, padded_part-remainder}
 use Rattle.mask_bits.proofs.chunks.BitChunks.padded_word.Goals as goal
 
 pub returns-then-i-len : goal.returns-then-i-len

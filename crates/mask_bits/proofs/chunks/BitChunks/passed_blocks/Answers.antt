@@ -2,7 +2,7 @@ use Rattle.std.proofs.Common.{Bool, List, ◌≡◌, ◌+◌, ◌*◌, ◌≤◌
 use Rattle.mask_bits.specs.Buffer.{Packed, values}
 use Rattle.mask_bits.specs.Positions.{count}
 use Rattle.mask_bits.proofs.BufferLemmas.{len-of_list, values-part}
-use Rattle.mask_bits.proofs.Lists.SelectLemmas.{count-part_further}
+use Rattle.mask_bits.proofs.Lists.Places.SelectLemmas.{count-part_further}
 use Rattle.mask_bits.proofs.chunks.BitChunks.passed_blocks.Goals as goal
 
 pub loop-word-preserved : goal.loop-word-preserved

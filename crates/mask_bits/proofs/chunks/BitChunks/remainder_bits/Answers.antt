@@ -1,7 +1,7 @@
 use Rattle.std.proofs.Common.{ap, ◌∙◌, arith}
 use Rattle.mask_bits.specs.Words.{padded_remainder}
 use Rattle.mask_bits.proofs.BufferLemmas.{len-of_list}
-use Rattle.mask_bits.proofs.Lists.PaddedLemmas.{word_bits-no_remainder}
+use Rattle.mask_bits.proofs.Lists.Words.PaddedLemmas.{word_bits-no_remainder}
 use Rattle.mask_bits.proofs.chunks.BitChunks.remainder_bits.Goals as goal
 
 pub returns-then-self-eq0 : goal.returns-then-self-eq0

@@ -1,9 +1,9 @@
 use Rattle.std.proofs.Common.{Bool, ℕ, List, Option, ◌<◌, length, slice_get, subst, sym, ap, ◌∙◌, arith}
 use Rattle.std.specs.Option.{IfSome}
 use Rattle.mask_bits.specs.Positions.{positions, count}
-use Rattle.mask_bits.proofs.Lists.PlaceLemmas.{place-within}
-use Rattle.mask_bits.proofs.Lists.SelectLemmas.{place_in_word, place_none, count-word_more}
-use Rattle.mask_bits.proofs.Lists.WordLemmas.{count-word_bits}
+use Rattle.mask_bits.proofs.Lists.Places.PlaceLemmas.{place-within}
+use Rattle.mask_bits.proofs.Lists.Places.SelectLemmas.{place_in_word, place_none, count-word_more}
+use Rattle.mask_bits.proofs.Lists.Words.WordLemmas.{count-word_bits}
 use Rattle.mask_bits.proofs.chunks.BitChunks.select.Goals as goal
 
 pub index_in_word-requires : goal.index_in_word-requires

@@ -3,7 +3,7 @@ use Rattle.std.proofs.lemmas.List.{length-drop, take_rest}
 use Rattle.mask_bits.specs.Buffer.{Packed}
 use Rattle.mask_bits.specs.Words.{word_part, window}
 use Rattle.mask_bits.proofs.BufferLemmas.{len-of_list}
-use Rattle.mask_bits.proofs.Lists.FrontLemmas.{window-drop}
+use Rattle.mask_bits.proofs.Lists.Words.FrontLemmas.{window-drop}
 use Rattle.mask_bits.proofs.WindowLemmas.{window-word_part}
 use Rattle.mask_bits.proofs.chunks.BitChunks.word.Goals as goal
 

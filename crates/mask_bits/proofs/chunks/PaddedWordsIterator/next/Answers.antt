@@ -1,6 +1,6 @@
 use Rattle.std.proofs.Common.{List, Bool, ◌∷◌, ◌+◌, drop, sym, ap, ◌∙◌, arith}
 use Rattle.mask_bits.specs.Words.{padded_parts}
-use Rattle.mask_bits.proofs.Lists.PaddedLemmas.{drop-padded_parts, drop-padded_parts_all}
+use Rattle.mask_bits.proofs.Lists.Words.PaddedLemmas.{drop-padded_parts, drop-padded_parts_all}
 use Rattle.mask_bits.proofs.YieldLemmas.{MakesProgress-item}
 use Rattle.mask_bits.proofs.chunks.PaddedWordsIterator.next.Goals as goal
 

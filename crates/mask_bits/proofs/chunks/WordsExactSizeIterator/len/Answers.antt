@@ -1,7 +1,7 @@
 use Rattle.std.proofs.Common.{length, ap, arith}
 use Rattle.std.proofs.lemmas.List.{length-drop}
 use Rattle.mask_bits.specs.Words.{word_parts}
-use Rattle.mask_bits.proofs.Lists.WordLemmas.{length-word_parts}
+use Rattle.mask_bits.proofs.Lists.Words.WordLemmas.{length-word_parts}
 use Rattle.mask_bits.proofs.chunks.WordsExactSizeIterator.len.Goals as goal
 
 pub returns-clause-value : goal.returns-clause-value

@@ -1,6 +1,6 @@
 use Rattle.std.proofs.Common.{List, Bool, ◌∷◌, ◌+◌, drop, sym, ap, ◌∙◌, arith}
 use Rattle.mask_bits.specs.Words.{word_parts}
-use Rattle.mask_bits.proofs.Lists.WordLemmas.{drop-word_parts, drop-word_parts_all}
+use Rattle.mask_bits.proofs.Lists.Words.WordLemmas.{drop-word_parts, drop-word_parts_all}
 use Rattle.mask_bits.proofs.YieldLemmas.{MakesProgress-item}
 use Rattle.mask_bits.proofs.chunks.WordsIterator.next.Goals as goal
 

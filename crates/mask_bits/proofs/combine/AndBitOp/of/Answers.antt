@@ -1,5 +1,5 @@
 use Rattle.mask_bits.proofs.CombineLemmas.{word_bits-combined}
-use Rattle.mask_bits.proofs.Lists.ShiftLemmas.{get_or-word_bits_and}
+use Rattle.mask_bits.proofs.Lists.Words.ShiftLemmas.{get_or-word_bits_and}
 use Rattle.mask_bits.proofs.combine.AndBitOp.of.Goals as goal
 
 pub returns : goal.returns

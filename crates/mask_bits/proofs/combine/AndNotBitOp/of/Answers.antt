@@ -2,7 +2,7 @@ use Rattle.std.proofs.Common.{◌&&◌, false, get_or, ap, ◌∙◌, rules}
 use Rattle.std.specs.Int.{bit_not, w64}
 use Rattle.mask_bits.specs.Words.{word_bits}
 use Rattle.mask_bits.proofs.CombineLemmas.{word_bits-combined}
-use Rattle.mask_bits.proofs.Lists.ShiftLemmas.{get_or-word_bits_and, get_or-word_bits_not}
+use Rattle.mask_bits.proofs.Lists.Words.ShiftLemmas.{get_or-word_bits_and, get_or-word_bits_not}
 use Rattle.mask_bits.proofs.combine.AndNotBitOp.of.Goals as goal
 
 pub returns : goal.returns

@@ -1,6 +1,6 @@
 use Rattle.std.proofs.Common.{rules}
 use Rattle.mask_bits.proofs.CombineLemmas.{word_bits-combined}
-use Rattle.mask_bits.proofs.Lists.ShiftLemmas.{get_or-word_bits_not}
+use Rattle.mask_bits.proofs.Lists.Words.ShiftLemmas.{get_or-word_bits_not}
 use Rattle.mask_bits.proofs.combine.NotBitOp.of.Goals as goal
 
 pub returns : goal.returns

@@ -1,7 +1,7 @@
 use Rattle.std.proofs.Common.{◌<◌, length, ap, sym, ◌∙◌, arith}
 use Rattle.mask_bits.specs.Positions.{positions}
 use Rattle.mask_bits.proofs.Lists.CountLemmas.{positions-all_false}
-use Rattle.mask_bits.proofs.Lists.WalkLemmas.{places-lowest, low-inside, IsLeft-cleared}
+use Rattle.mask_bits.proofs.Lists.Words.WalkLemmas.{places-lowest, low-inside, IsLeft-cleared}
 use Rattle.mask_bits.proofs.YieldLemmas.{MakesProgress-item}
 use Rattle.mask_bits.proofs.set_indices.SetIndicesIterator.next.Goals as goal
 

@@ -2,7 +2,7 @@ use Rattle.std.proofs.Common.{Bool, List, sym, subst, ◌∙◌}
 use Rattle.mask_bits.specs.Buffer.{values}
 use Rattle.mask_bits.specs.RunScan.{runs_from}
 use Rattle.mask_bits.specs.Runs.{AreRuns}
-use Rattle.mask_bits.proofs.Lists.RunLemmas.{AreRuns-runs_from}
+use Rattle.mask_bits.proofs.Lists.Runs.RunLemmas.{AreRuns-runs_from}
 use Rattle.mask_bits.proofs.set_slices.SetSlices.new.Goals as goal
 
 pub returns : goal.returns

@@ -1,6 +1,6 @@
 use Rattle.std.proofs.Common.{length, refl, ap, sym, ◌∙◌, arith}
 use Rattle.mask_bits.specs.RunScan.{runs_from}
-use Rattle.mask_bits.proofs.Lists.WalkLemmas.{runs-lowest, runs_from-repeated_false, ones-inside, IsLeft-filled, IsLeft-ones_cleared}
+use Rattle.mask_bits.proofs.Lists.Words.WalkLemmas.{runs-lowest, runs_from-repeated_false, ones-inside, IsLeft-filled, IsLeft-ones_cleared}
 use Rattle.mask_bits.proofs.YieldLemmas.{MakesProgress-item}
 use Rattle.mask_bits.proofs.set_slices.SetSlicesIterator.next.Goals as goal
 

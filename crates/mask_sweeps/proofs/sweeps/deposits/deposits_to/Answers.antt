@@ -1,5 +1,5 @@
 use Rattle.std.proofs.Common.{sym, arith}
-use Rattle.mask_bits.proofs.Lists.WordLemmas.{count-word_bits}
+use Rattle.mask_bits.proofs.Lists.Words.WordLemmas.{count-word_bits}
 use Rattle.mask_sweeps.proofs.sweeps.deposits.deposits_to.Goals as goal
 
 pub deposit_bits-requires : goal.deposit_bits-requires

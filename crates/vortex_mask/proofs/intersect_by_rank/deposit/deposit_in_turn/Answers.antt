@@ -1,7 +1,7 @@
 use Rattle.std.proofs.Common.{bit_or, sym, ap, ◌∙◌, arith}
 use lib.Bits.{or_zero_r}
-use Rattle.vortex_mask.proofs.DepositLemmas.{deposit, turn, deposit-zero, deposit_no_source, Deposits-from_deposit}
-use Rattle.vortex_mask.proofs.SetPlaceLemmas.{cleared}
+use Rattle.vortex_mask.proofs.Deposits.DepositLemmas.{deposit, turn, deposit-zero, deposit_no_source, Deposits-from_deposit}
+use Rattle.vortex_mask.proofs.Deposits.SetPlaceLemmas.{cleared}
 use Rattle.vortex_mask.proofs.intersect_by_rank.deposit.deposit_in_turn.Goals as goal
 
 pub loop-bits-preserved : goal.loop-bits-preserved

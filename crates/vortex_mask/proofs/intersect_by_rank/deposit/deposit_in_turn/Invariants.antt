@@ -1,5 +1,5 @@
 use Rattle.std.proofs.Common.{◌≡◌, bit_or}
-use Rattle.vortex_mask.proofs.DepositLemmas.{deposit}
+use Rattle.vortex_mask.proofs.Deposits.DepositLemmas.{deposit}
 use Rattle.vortex_mask.proofs.intersect_by_rank.deposit.deposit_in_turn.Given as goal
 
 abbrev pub invariant-loop-bits : goal.invariant-loop-bits

@@ -1,7 +1,7 @@
 use Rattle.std.proofs.Common.{◌-◌, ap, arith}
-use Rattle.mask_bits.proofs.Lists.WordLemmas.{count-word_bits}
-use Rattle.vortex_mask.proofs.DepositLemmas.{cleared_word, Deposits-from_deposit}
-use Rattle.vortex_mask.proofs.HoleLemmas.{clear, two_holes}
+use Rattle.mask_bits.proofs.Lists.Words.WordLemmas.{count-word_bits}
+use Rattle.vortex_mask.proofs.Deposits.DepositLemmas.{cleared_word, Deposits-from_deposit}
+use Rattle.vortex_mask.proofs.Deposits.HoleLemmas.{clear, two_holes}
 use Rattle.vortex_mask.proofs.intersect_by_rank.deposit.deposit_two_holes.Goals as goal
 
 pub returns : goal.returns

@@ -1,6 +1,6 @@
 use Rattle.std.proofs.Common.{◌<◌, ◌≤◌, ◌^◌, count_ones, arith}
-use Rattle.mask_bits.proofs.Lists.WordLemmas.{count-word_bits}
-use Rattle.vortex_mask.proofs.DepositLemmas.{cleared_word, two_lowest, Deposits-from_deposit}
+use Rattle.mask_bits.proofs.Lists.Words.WordLemmas.{count-word_bits}
+use Rattle.vortex_mask.proofs.Deposits.DepositLemmas.{cleared_word, two_lowest, Deposits-from_deposit}
 use Rattle.vortex_mask.proofs.intersect_by_rank.deposit.deposit_two_lowest.Goals as goal
 
 pub returns : goal.returns

@@ -1,5 +1,5 @@
 use Rattle.std.proofs.Common.{arith}
-use Rattle.vortex_mask.proofs.HoleLemmas.{kept_from}
+use Rattle.vortex_mask.proofs.Deposits.HoleLemmas.{kept_from}
 use Rattle.vortex_mask.proofs.intersect_by_rank.deposit.with_room.Goals as goal
 
 pub returns-clause-room : goal.returns-clause-room

@@ -1,10 +1,10 @@
 use Rattle.std.proofs.Common.{sym, arith}
 use Rattle.mask_bits.specs.Buffer.{values}
 use Rattle.mask_bits.specs.Positions.{repeated}
-use Rattle.mask_bits.proofs.Lists.BitsLemmas.{length-bits_at}
+use Rattle.mask_bits.proofs.Lists.Words.BackingBitLemmas.{length-bits_at}
 use Rattle.mask_bits.proofs.Lists.CountLemmas.{all_true_from_count, all_false_from_count}
-use Rattle.mask_bits.proofs.Lists.PlaceLemmas.{count-le-length}
-use Rattle.vortex_mask.proofs.MaskLemmas.{AreOf-no_caches, fitting_variant-repeated_false, fitting_variant-some_true, fitting_variant-some}
+use Rattle.mask_bits.proofs.Lists.Places.PlaceLemmas.{count-le-length}
+use Rattle.vortex_mask.proofs.Masks.MaskLemmas.{AreOf-no_caches, fitting_variant-repeated_false, fitting_variant-some_true, fitting_variant-some}
 use Rattle.vortex_mask.proofs.intersect_by_rank.kernels.of_words.Goals as goal
 
 pub returns-then-true_count-eq0-clause-list : goal.returns-then-true_count-eq0-clause-list

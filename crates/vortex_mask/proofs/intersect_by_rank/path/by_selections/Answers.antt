@@ -3,10 +3,10 @@ use Rattle.std.proofs.lemmas.Iterator.{YieldsList-from_slice}
 use Rattle.std.proofs.lemmas.Iterator.Consumers.{YieldsList-from_copied, YieldsList-from_first, YieldsList-at}
 use Rattle.mask_bits.specs.Buffer.{values}
 use Rattle.mask_bits.specs.Positions.{positions}
-use Rattle.mask_bits.proofs.Lists.AscendingLemmas.{positions-ascending}
-use Rattle.mask_bits.proofs.Lists.PlaceLemmas.{positions-within}
-use Rattle.vortex_mask.proofs.PathLemmas.{list_from_ranks}
-use Rattle.vortex_mask.proofs.RankRunLemmas.{are_ranks}
+use Rattle.mask_bits.proofs.Lists.Places.AscendingLemmas.{positions-ascending}
+use Rattle.mask_bits.proofs.Lists.Places.PlaceLemmas.{positions-within}
+use Rattle.vortex_mask.proofs.Kernels.PathLemmas.{list_from_ranks}
+use Rattle.vortex_mask.proofs.Kernels.RankRunLemmas.{are_ranks}
 use Rattle.vortex_mask.proofs.intersect_by_rank.path.by_selections.Goals as goal
 
 pub intersect_mask_driven-requires-clause-ranks : goal.intersect_mask_driven-requires-clause-ranks

@@ -1,5 +1,5 @@
 use Rattle.std.proofs.Common.{◌∙◌}
-use Rattle.vortex_mask.proofs.ReadingLemmas.{first-all_true, first-within}
+use Rattle.vortex_mask.proofs.Masks.ReadingLemmas.{first-all_true, first-within}
 use Rattle.vortex_mask.proofs.mask.Mask.first.Goals as goal
 
 pub returns-in-AllTrue-clause-place : goal.returns-in-AllTrue-clause-place

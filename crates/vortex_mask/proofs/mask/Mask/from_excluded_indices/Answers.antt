@@ -7,39 +7,39 @@ use Rattle.mask_bits.proofs.Lists.CountLemmas.{length-repeated}
 use Rattle.vortex_mask.specs.Faults.{out_of_bounds}
 use Rattle.vortex_mask.specs.Mask.{truth}
 use Rattle.vortex_mask.specs.declared.mask.error.MaskError.TheVariants.{IndexOutOfBounds}
-use Rattle.vortex_mask.proofs.FaultLemmas.{out_of_bounds-first}
-use Rattle.vortex_mask.proofs.WalkLemmas.{whole_run}
+use Rattle.vortex_mask.proofs.Masks.FaultLemmas.{out_of_bounds-first}
+use Rattle.vortex_mask.proofs.Masks.MaskWalkLemmas.{whole_run}
 use Rattle.vortex_mask.proofs.mask.Mask.from_excluded_indices.Goals as goal
 
 pub exclude-requires-clause-all : goal.exclude-requires-clause-all
 exclude-requires-clause-all g c =
-    c.in_ok-kept.ensures ∙ ap (λ n. repeated n true) (sym (ap length c.in_ok-kept.ensures ∙ length-repeated c.args.len true))
+    c.in_ok-builder.ensures ∙ ap (λ n. repeated n true) (sym (ap length c.in_ok-builder.ensures ∙ length-repeated c.args.len true))
 
 pub returns-in-Some-clause-refused : goal.returns-in-Some-clause-refused
 returns-in-Some-clause-refused g c =
     let came = c.exclude.ensures in
-    let n = ap length c.in_ok-kept.ensures ∙ length-repeated c.args.len true in
-    let fault = out_of_bounds-first c.args.len (length c.in_ok-kept.kept) came.0 c.exclude.result n came.3
+    let n = ap length c.in_ok-builder.ensures ∙ length-repeated c.args.len true in
+    let fault = out_of_bounds-first c.args.len (length c.in_ok-builder.builder) came.0 c.exclude.result n came.3
     ∙ ap (option_map (λ x. IndexOutOfBounds x c.args.len)) c.in-Some.is in
     inr (came.0, came.1, fault)
 
 pub returns-in-Some-clause-refused_runs : goal.returns-in-Some-clause-refused_runs
 returns-in-Some-clause-refused_runs g c =
     let came = c.exclude.ensures in
-    let n = ap length c.in_ok-kept.ensures ∙ length-repeated c.args.len true in
-    let fault = out_of_bounds-first c.args.len (length c.in_ok-kept.kept) came.0 c.exclude.result n came.3
+    let n = ap length c.in_ok-builder.ensures ∙ length-repeated c.args.len true in
+    let fault = out_of_bounds-first c.args.len (length c.in_ok-builder.builder) came.0 c.exclude.result n came.3
     ∙ ap (option_map (λ x. IndexOutOfBounds x c.args.len)) c.in-Some.is in
     inr (whole_run _ _ (λ (xs : List ℕ). out_of_bounds c.args.len xs ≡ Some (IndexOutOfBounds c.in-Some.index c.args.len)) came.0 came.1 fault)
 
 pub returns-clause-list : goal.returns-clause-list
 returns-clause-list g c =
     let came = c.exclude.ensures in
-    let n = ap length c.in_ok-kept.ensures ∙ length-repeated c.args.len true in
-    let none = out_of_bounds-first c.args.len (length c.in_ok-kept.kept) came.0 c.exclude.result n came.3
+    let n = ap length c.in_ok-builder.ensures ∙ length-repeated c.args.len true in
+    let none = out_of_bounds-first c.args.len (length c.in_ok-builder.builder) came.0 c.exclude.result n came.3
     ∙ ap (option_map (λ x. IndexOutOfBounds x c.args.len)) c.in_default.is in
-    IfOk-weaker c.of_kept.result _ _ (λ m same. (came.0, came.1, none, same ∙ came.2 ∙ ap (λ k. not_of (true_at k came.0)) n)) c.of_kept.ensures.list
+    IfOk-weaker c.of_builder.result _ _ (λ m same. (came.0, came.1, none, same ∙ came.2 ∙ ap (λ k. not_of (true_at k came.0)) n)) c.of_builder.ensures.list
 
 pub returns-clause-runs : goal.returns-clause-runs
 returns-clause-runs g c =
-    IfOk-weaker c.of_kept.result _ _ (λ m made.
+    IfOk-weaker c.of_builder.result _ _ (λ m made.
     whole_run _ _ (λ (xs : List ℕ). (out_of_bounds c.args.len xs ≡ None) × (truth m ≡ not_of (true_at c.args.len xs))) made.0 made.1 (made.2, made.3)) (returns-clause-list g c)

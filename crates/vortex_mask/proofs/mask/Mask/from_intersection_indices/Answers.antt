@@ -3,7 +3,7 @@ use Rattle.std.specs.List.Sorted.{IsStrictlyIncreasing}
 use Rattle.std.proofs.lemmas.Result.{IfOk-weaker}
 use Rattle.vortex_mask.specs.Faults.{common, out_of_bounds}
 use Rattle.vortex_mask.proofs.ResultLemmas.{IfErr-or}
-use Rattle.vortex_mask.proofs.WalkLemmas.{drained}
+use Rattle.vortex_mask.proofs.Masks.MaskWalkLemmas.{drained}
 use Rattle.vortex_mask.proofs.mask.Mask.from_intersection_indices.Goals as goal
 
 pub returns-clause-indices : goal.returns-clause-indices

@@ -6,7 +6,7 @@ use Rattle.std.proofs.lemmas.Result.{IfOk-weaker, IfErr-weaker}
 use Rattle.vortex_mask.specs.Concat.{lists_of, total_len, Joins}
 use Rattle.vortex_mask.specs.Mask.{truth}
 use Rattle.vortex_mask.specs.declared.mask.Mask.{Mask}
-use Rattle.vortex_mask.proofs.ConcatLemmas.{lists_of-lent}
+use Rattle.vortex_mask.proofs.Masks.ConcatLemmas.{lists_of-lent}
 use Rattle.vortex_mask.proofs.mask.Mask.from_masks.Goals as goal
 
 -- what is drawn of a slice's iterator, and what stood in the slice

@@ -1,4 +1,4 @@
-use Rattle.vortex_mask.proofs.StackLemmas.{IsFoldSoFar}
+use Rattle.vortex_mask.proofs.Masks.FoldLemmas.{IsFoldSoFar}
 use Rattle.vortex_mask.proofs.mask.Mask.intersect_all_by_rank.Given as goal
 
 abbrev pub invariant-loop-mask : goal.invariant-loop-mask

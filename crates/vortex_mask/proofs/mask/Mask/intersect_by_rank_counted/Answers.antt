@@ -1,7 +1,7 @@
 use Rattle.std.proofs.Common.{arith}
 use Rattle.mask_bits.proofs.Lists.LawLemmas.{positions-rank_intersection}
 use Rattle.vortex_mask.specs.Mask.{truth}
-use Rattle.vortex_mask.proofs.MaskLemmas.{narrowing_facts, variant_facts}
+use Rattle.vortex_mask.proofs.Masks.MaskLemmas.{narrowing_facts, variant_facts}
 use Rattle.vortex_mask.proofs.mask.Mask.intersect_by_rank_counted.Goals as goal
 
 pub returns-in_ok-clone-in_default-AllTrue-clause-true_indices : goal.returns-in_ok-clone-in_default-AllTrue-clause-true_indices

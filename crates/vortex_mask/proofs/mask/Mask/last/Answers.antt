@@ -1,4 +1,4 @@
-use Rattle.vortex_mask.proofs.ReadingLemmas.{last-all_true, last-within}
+use Rattle.vortex_mask.proofs.Masks.ReadingLemmas.{last-all_true, last-within}
 use Rattle.vortex_mask.proofs.mask.Mask.last.Goals as goal
 
 pub returns-in-AllTrue-clause-place : goal.returns-in-AllTrue-clause-place

@@ -3,9 +3,9 @@ use Rattle.std.specs.List.{range_with_len}
 use Rattle.std.specs.List.Sorted.{IsStrictlyIncreasing}
 use Rattle.std.proofs.lemmas.List.FromFn.{length-range_with_len}
 use Rattle.mask_bits.specs.Positions.{positions}
-use Rattle.mask_bits.proofs.Lists.AscendingLemmas.{positions-ascending}
+use Rattle.mask_bits.proofs.Lists.Places.AscendingLemmas.{positions-ascending}
 use Rattle.mask_bits.proofs.Lists.CountLemmas.{positions-all_true}
-use Rattle.mask_bits.proofs.Lists.PlaceLemmas.{positions-within}
+use Rattle.mask_bits.proofs.Lists.Places.PlaceLemmas.{positions-within}
 use Rattle.vortex_mask.specs.Mask.{truth}
 use Rattle.vortex_mask.proofs.mask.Mask.set_indices.Goals as goal
 

@@ -1,6 +1,6 @@
 use Rattle.std.proofs.Common.{Bool, List, [], ap, sym, subst}
 use Rattle.mask_bits.specs.Runs.{AreRuns}
-use Rattle.mask_bits.proofs.Lists.IndexLemmas.{all_false_has_no_run}
+use Rattle.mask_bits.proofs.Lists.Places.IndexLemmas.{all_false_has_no_run}
 use Rattle.vortex_mask.specs.Mask.{truth}
 use Rattle.vortex_mask.proofs.mask.Mask.set_slices.Goals as goal
 

@@ -2,7 +2,7 @@ use Rattle.std.proofs.Common.{◌≤◌, true, length, subst, sym, ap, ◌∙◌
 use Rattle.std.specs.List.{All}
 use Rattle.mask_bits.proofs.Lists.CountLemmas.{length-repeated}
 use Rattle.vortex_mask.specs.Mask.{truth}
-use Rattle.vortex_mask.proofs.ReadingLemmas.{counts-all_true, counts-all_false}
+use Rattle.vortex_mask.proofs.Masks.ReadingLemmas.{counts-all_true, counts-all_false}
 use Rattle.vortex_mask.proofs.mask.Mask.valid_counts_for_indices.Goals as goal
 
 pub returns-in_ok-from_slice-in-AllTrue-clause-counts : goal.returns-in_ok-from_slice-in-AllTrue-clause-counts

@@ -1,11 +1,11 @@
 use Rattle.std.proofs.Common.{◌≡◌, ◌++◌, drop}
-use Rattle.mask_bits.specs.Lists.{joined}
+use Rattle.mask_bits.specs.Lists.{concat}
 use Rattle.mask_bits.specs.Positions.{count}
 use Rattle.vortex_mask.specs.Concat.{lists_of}
 use Rattle.vortex_mask.proofs.mask.concat.buffer_of.Given as goal
 
 abbrev pub invariant-loop-mask : goal.invariant-loop-mask
 invariant-loop-mask l = record {
-  list : l.buffer ++ joined (lists_of (drop l.mask-index l.masks)) ≡ joined (lists_of l.masks);
+  list : l.buffer ++ concat (lists_of (drop l.mask-index l.masks)) ≡ concat (lists_of l.masks);
   counted : l.true_count ≡ count l.buffer;
 }

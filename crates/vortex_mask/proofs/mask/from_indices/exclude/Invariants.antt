@@ -1,11 +1,11 @@
 use Rattle.std.proofs.Common.{◌≡◌, length}
 use Rattle.vortex_mask.specs.Faults.{first_past}
-use Rattle.vortex_mask.proofs.ExcludedLemmas.{without}
+use Rattle.vortex_mask.proofs.Masks.ExcludedLemmas.{without}
 use Rattle.vortex_mask.proofs.mask.from_indices.exclude.Given as goal
 
 -- the list is false at the places so far, and the first of them past its end is noted
 abbrev pub invariant-loop-index : goal.invariant-loop-index
 invariant-loop-index g l = record {
-  list : l.kept ≡ without (length l.fn.kept) l.yielded;
-  past : l.past_end ≡ first_past (length l.fn.kept) l.yielded;
+  list : l.builder ≡ without (length l.fn.builder) l.yielded;
+  past : l.past_end ≡ first_past (length l.fn.builder) l.yielded;
 }

@@ -1,5 +1,5 @@
 use Rattle.std.proofs.Common.{◌-◌, ◌∙◌, sym, arith}
-use Rattle.vortex_mask.proofs.FaultLemmas.{first_pair-end}
+use Rattle.vortex_mask.proofs.Masks.FaultLemmas.{first_pair-end}
 use Rattle.vortex_mask.proofs.mask.from_indices.first_unsorted.Goals as goal
 
 pub returns : goal.returns

@@ -1,10 +1,10 @@
 use Rattle.std.proofs.Common.{◌≡◌, List, Bool, sym, arith}
 use Rattle.mask_bits.specs.Buffer.{values}
 use Rattle.mask_bits.specs.Positions.{positions}
-use Rattle.mask_bits.proofs.Lists.AscendingLemmas.{positions-true_at}
-use Rattle.mask_bits.proofs.Lists.PlaceLemmas.{count-le-length}
+use Rattle.mask_bits.proofs.Lists.Places.AscendingLemmas.{positions-true_at}
+use Rattle.mask_bits.proofs.Lists.Places.PlaceLemmas.{count-le-length}
 use Rattle.mask_bits.proofs.Lists.RankLemmas.{length-true_at}
-use Rattle.vortex_mask.proofs.MaskLemmas.{AreOf-only_indices}
+use Rattle.vortex_mask.proofs.Masks.MaskLemmas.{AreOf-only_indices}
 use Rattle.vortex_mask.proofs.mask.from_indices.of_some_indices.Goals as goal
 
 pub new-values-requires : goal.new-values-requires

@@ -4,8 +4,8 @@ use Rattle.std.proofs.lemmas.Result.{IfOk-weaker}
 use Rattle.mask_bits.specs.Positions.{repeated}
 use Rattle.mask_bits.specs.Runs.{AreRanges}
 use Rattle.mask_bits.proofs.Lists.CountLemmas.{length-repeated}
-use Rattle.mask_bits.proofs.Lists.RangeLemmas.{Ordered-top}
-use Rattle.vortex_mask.proofs.RangeLemmas.{IsPainting, painted, painting-none, painting-more, painting-all}
+use Rattle.mask_bits.proofs.Lists.Runs.RangeLemmas.{Ordered-top}
+use Rattle.vortex_mask.proofs.Masks.SoundRangeLemmas.{IsPainting, painted, painting-none, painting-more, painting-all}
 use Rattle.vortex_mask.proofs.mask.from_slices.buffer_of.Goals as goal
 
 -- what is painted, with the next range named

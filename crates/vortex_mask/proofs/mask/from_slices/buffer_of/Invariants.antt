@@ -1,5 +1,5 @@
 use Rattle.std.proofs.Common.{drop}
-use Rattle.vortex_mask.proofs.RangeLemmas.{IsPainting, painted}
+use Rattle.vortex_mask.proofs.Masks.SoundRangeLemmas.{IsPainting, painted}
 use Rattle.vortex_mask.proofs.mask.from_slices.buffer_of.Given as goal
 
 abbrev pub invariant-loop-start : goal.invariant-loop-start

@@ -1,5 +1,5 @@
 use Rattle.std.proofs.Common.{◌-◌, sym, ◌∙◌, arith}
-use Rattle.vortex_mask.proofs.RangeLemmas.{neighbors-end}
+use Rattle.vortex_mask.proofs.Masks.SoundRangeLemmas.{neighbors-end}
 use Rattle.vortex_mask.proofs.mask.from_slices.neighbors_fault.Goals as goal
 
 pub returns : goal.returns

@@ -2,7 +2,7 @@ use Rattle.std.proofs.Common.{Bool, true, false, List, [], ap, sym, subst, â—Œâˆ
 use Rattle.mask_bits.specs.Positions.{repeated}
 use Rattle.mask_bits.specs.Runs.{AreRuns}
 use Rattle.mask_bits.proofs.Lists.CountLemmas.{nil-repeated}
-use Rattle.mask_bits.proofs.Lists.IndexLemmas.{all_true_is_one_run, all_false_has_no_run}
+use Rattle.mask_bits.proofs.Lists.Places.IndexLemmas.{all_true_is_one_run, all_false_has_no_run}
 use Rattle.vortex_mask.proofs.mask.iter.whole_run.Goals as goal
 
 pub returns-then-len-eq0 : goal.returns-then-len-eq0

@@ -1,5 +1,5 @@
 use Rattle.std.proofs.Common.{length, ap, sym, arith}
-use Rattle.mask_bits.proofs.Lists.WordLemmas.{count-word_bits}
+use Rattle.mask_bits.proofs.Lists.Words.WordLemmas.{count-word_bits}
 use Rattle.mask_tests.proofs.rows.intersect_by_rank.steps.counts.Goals as goal
 
 pub deposit-requires-clause-counted : goal.deposit-requires-clause-counted

@@ -1,6 +1,6 @@
 use Rattle.std.proofs.Common.{sym, subst}
 use Rattle.vortex_mask.specs.Deposit.{Deposits}
-use Rattle.vortex_mask.proofs.DepositLemmas.{Deposits-from_deposit, deposit_no_source}
+use Rattle.vortex_mask.proofs.Deposits.DepositLemmas.{Deposits-from_deposit, deposit_no_source}
 use Rattle.vortex_mask.proofs.intersect_by_rank.deposit.PortableDepositBits.deposit_bits.Goals as goal
 
 pub returns-then-source-eq0 : goal.returns-then-source-eq0

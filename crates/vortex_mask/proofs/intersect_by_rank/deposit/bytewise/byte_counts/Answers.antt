@@ -1,6 +1,6 @@
 use Rattle.std.proofs.Common.{arith}
-use Rattle.vortex_mask.proofs.ByteLemmas.{byte_at-lt}
-use Rattle.vortex_mask.proofs.NetworkLemmas.{count_by_halves}
+use Rattle.vortex_mask.proofs.Deposits.ByteLemmas.{byte_at-lt}
+use Rattle.vortex_mask.proofs.Deposits.NetworkLemmas.{count_by_halves}
 use Rattle.vortex_mask.proofs.intersect_by_rank.deposit.bytewise.byte_counts.Goals as goal
 
 pub returns : goal.returns

@@ -1,6 +1,6 @@
 use Rattle.std.proofs.Common.{◌*◌, T, eqb, eqb→eq}
 use Rattle.vortex_mask.specs.Bytes.{byte_at}
-use Rattle.vortex_mask.proofs.NetworkLemmas.{all_below, every_below}
+use Rattle.vortex_mask.proofs.Deposits.NetworkLemmas.{all_below, every_below}
 use Rattle.vortex_mask.proofs.intersect_by_rank.deposit.bytewise.bytes.Goals as goal
 
 computed : T (all_below (λ b. all_below (λ j. eqb (byte_at (b * 0x0101010101010101) j) b) 8) 256)

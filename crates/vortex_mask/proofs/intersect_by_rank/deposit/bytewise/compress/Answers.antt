@@ -1,7 +1,7 @@
 use Rattle.std.proofs.Common.{ℕ, ◌<◌, sym, arith, ◌∙◌}
 use Rattle.vortex_mask.specs.Bytes.{byte_at}
-use Rattle.vortex_mask.proofs.ByteLemmas.{byte_at_not, byte_at-lt}
-use Rattle.vortex_mask.proofs.NetworkLemmas.{packed_after-zero, packed_after-full, zeros_before-zero, stage}
+use Rattle.vortex_mask.proofs.Deposits.ByteLemmas.{byte_at_not, byte_at-lt}
+use Rattle.vortex_mask.proofs.Deposits.NetworkLemmas.{packed_after-zero, packed_after-full, zeros_before-zero, stage}
 use Rattle.vortex_mask.proofs.intersect_by_rank.deposit.bytewise.compress.Goals as goal
 
 pub returns : goal.returns

@@ -1,7 +1,7 @@
 use Rattle.std.proofs.Common.{◌*◌, arith}
-use Rattle.mask_bits.proofs.Lists.WordLemmas.{count_below-word_bits}
-use Rattle.vortex_mask.proofs.ByteCountLemmas.{summed_is}
-use Rattle.vortex_mask.proofs.SetPlaceLemmas.{ones_below-le}
+use Rattle.mask_bits.proofs.Lists.Words.WordLemmas.{count_below-word_bits}
+use Rattle.vortex_mask.proofs.Deposits.ByteCountLemmas.{summed_is}
+use Rattle.vortex_mask.proofs.Deposits.SetPlaceLemmas.{ones_below-le}
 use Rattle.vortex_mask.proofs.intersect_by_rank.deposit.bytewise.counts_below.Goals as goal
 
 pub returns-clause-counted : goal.returns-clause-counted

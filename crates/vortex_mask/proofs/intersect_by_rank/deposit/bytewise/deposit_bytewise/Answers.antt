@@ -1,10 +1,10 @@
 use Rattle.std.proofs.Common.{◌≡◌, ◌*◌, ◌/◌, ◌%◌, ◌^◌, ap, ◌∙◌, bit_and, arith}
-use Rattle.mask_bits.proofs.Lists.WordLemmas.{count_below-word_bits}
+use Rattle.mask_bits.proofs.Lists.Words.WordLemmas.{count_below-word_bits}
 use Rattle.vortex_mask.specs.Bytes.{byte_at, packed_after, landed_in, moved_up}
-use Rattle.vortex_mask.proofs.ByteCountLemmas.{Deposits-from_bytes}
-use Rattle.vortex_mask.proofs.ByteLemmas.{byte_at_and, byte_at-lt}
-use Rattle.vortex_mask.proofs.NetworkLemmas.{landed_in-lt, moved_back}
-use Rattle.vortex_mask.proofs.SetPlaceLemmas.{ones_below}
+use Rattle.vortex_mask.proofs.Deposits.ByteCountLemmas.{Deposits-from_bytes}
+use Rattle.vortex_mask.proofs.Deposits.ByteLemmas.{byte_at_and, byte_at-lt}
+use Rattle.vortex_mask.proofs.Deposits.NetworkLemmas.{landed_in-lt, moved_back}
+use Rattle.vortex_mask.proofs.Deposits.SetPlaceLemmas.{ones_below}
 use Rattle.vortex_mask.proofs.intersect_by_rank.deposit.bytewise.deposit_bytewise.Goals as goal
 
 pub move_up-word-requires-clause-room : goal.move_up-word-requires-clause-room

@@ -1,6 +1,6 @@
 use Rattle.std.proofs.Common.{arith, below_more}
 use Rattle.vortex_mask.specs.Bytes.{byte_at}
-use Rattle.vortex_mask.proofs.ByteLemmas.{gathered_fits, gathered_below, gathered_at}
+use Rattle.vortex_mask.proofs.Deposits.ByteLemmas.{gathered_fits, gathered_below, gathered_at}
 use Rattle.vortex_mask.proofs.intersect_by_rank.deposit.bytewise.gather.Goals as goal
 
 pub eight_bits-requires : goal.eight_bits-requires

@@ -1,8 +1,8 @@
 use Rattle.std.proofs.Common.{◌≡◌, ◌+◌, ◌-◌, ◌*◌, ◌%◌, ◌<◌, ◌≤◌, ◌^◌, ap, ap₂, ◌∙◌, bit_and, bit_or, arith, lt_of_le_of_lt, subst, sym, ℕ}
 use Rattle.std.proofs.lemmas.Nat.{and_le_r}
 use Rattle.vortex_mask.specs.Bytes.{byte_at, moved_up}
-use Rattle.vortex_mask.proofs.ByteLemmas.{byte_at_and, byte_at_or, byte_at_not, byte_at-low, byte_at_shl_free}
-use Rattle.vortex_mask.proofs.NetworkLemmas.{shift_is, shift_small}
+use Rattle.vortex_mask.proofs.Deposits.ByteLemmas.{byte_at_and, byte_at_or, byte_at_not, byte_at-low, byte_at_shl_free}
+use Rattle.vortex_mask.proofs.Deposits.NetworkLemmas.{shift_is, shift_small}
 use Rattle.vortex_mask.proofs.intersect_by_rank.deposit.bytewise.move_up.Goals as goal
 
 pub overflow_shl-result-2 : goal.overflow_shl-result-2

@@ -1,6 +1,6 @@
 use Rattle.std.proofs.Common.{arith}
-use Rattle.vortex_mask.proofs.ByteLemmas.{byte_at-lt}
-use Rattle.vortex_mask.proofs.NetworkLemmas.{doubled, xored_up, doubled-more, doubled-all, doubled-is, shift_is, shift_small}
+use Rattle.vortex_mask.proofs.Deposits.ByteLemmas.{byte_at-lt}
+use Rattle.vortex_mask.proofs.Deposits.NetworkLemmas.{doubled, xored_up, doubled-more, doubled-all, doubled-is, shift_is, shift_small}
 use Rattle.vortex_mask.proofs.intersect_by_rank.deposit.bytewise.odd_zeros.Goals as goal
 
 pub xor_up-parity-requires : goal.xor_up-parity-requires

@@ -1,7 +1,7 @@
 use Rattle.std.proofs.Common.{◌≡◌, ℕ, ap, ap₂, ◌∙◌, bit_and, bit_xor, arith}
 use Rattle.vortex_mask.specs.Bytes.{byte_at, moved_down, with_moved, halved}
-use Rattle.vortex_mask.proofs.ByteLemmas.{byte_at_and, byte_at_xor, byte_at_not}
-use Rattle.vortex_mask.proofs.NetworkLemmas.{shift_is, shift_small}
+use Rattle.vortex_mask.proofs.Deposits.ByteLemmas.{byte_at_and, byte_at_xor, byte_at_not}
+use Rattle.vortex_mask.proofs.Deposits.NetworkLemmas.{shift_is, shift_small}
 use Rattle.vortex_mask.proofs.intersect_by_rank.deposit.bytewise.run_stage.Goals as goal
 
 pub shift_down-landed-requires : goal.shift_down-landed-requires

@@ -1,8 +1,8 @@
 use Rattle.std.proofs.Common.{◌≡◌, ◌+◌, ◌-◌, ◌<◌, ◌/◌, ◌^◌, ◌∙◌, subst, sym, arith}
 use Rattle.std.proofs.lemmas.Nat.{shr_below}
 use Rattle.vortex_mask.specs.Bytes.{byte_at}
-use Rattle.vortex_mask.proofs.ByteLemmas.{byte_at-lt, byte_at_shr}
-use Rattle.vortex_mask.proofs.NetworkLemmas.{kept_down}
+use Rattle.vortex_mask.proofs.Deposits.ByteLemmas.{byte_at-lt, byte_at_shr}
+use Rattle.vortex_mask.proofs.Deposits.NetworkLemmas.{kept_down}
 use Rattle.vortex_mask.proofs.intersect_by_rank.deposit.bytewise.shift_down.Goals as goal
 
 pub returns : goal.returns

@@ -1,6 +1,6 @@
 use Rattle.std.proofs.Common.{◌/◌, ◌^◌, arith}
 use Rattle.std.proofs.lemmas.Nat.{and_le_r}
-use Rattle.vortex_mask.proofs.ByteCountLemmas.{half_small, halves_at}
+use Rattle.vortex_mask.proofs.Deposits.ByteCountLemmas.{half_small, halves_at}
 use Rattle.vortex_mask.proofs.intersect_by_rank.deposit.bytewise.sum_halves.Goals as goal
 
 pub overflow_add-result : goal.overflow_add-result

@@ -1,7 +1,7 @@
 use Rattle.std.proofs.Common.{◌≡◌, ◌+◌, ◌-◌, ◌*◌, ◌%◌, ◌^◌, ◌<◌, ap, ◌∙◌, bit_xor, arith}
 use Rattle.vortex_mask.specs.Bytes.{byte_at}
-use Rattle.vortex_mask.proofs.ByteLemmas.{byte_at-lt, byte_at_shl, byte_at_xor}
-use Rattle.vortex_mask.proofs.NetworkLemmas.{kept_up, none_low}
+use Rattle.vortex_mask.proofs.Deposits.ByteLemmas.{byte_at-lt, byte_at_shl, byte_at_xor}
+use Rattle.vortex_mask.proofs.Deposits.NetworkLemmas.{kept_up, none_low}
 use Rattle.vortex_mask.proofs.intersect_by_rank.deposit.bytewise.xor_up.Goals as goal
 
 pub returns : goal.returns

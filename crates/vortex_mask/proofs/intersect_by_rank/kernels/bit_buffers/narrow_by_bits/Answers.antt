@@ -3,8 +3,8 @@ use Rattle.mask_bits.specs.Buffer.{values}
 use Rattle.mask_bits.specs.Positions.{rank_intersection}
 use Rattle.mask_bits.specs.Words.{word_bits, padded_part}
 use Rattle.mask_bits.proofs.Lists.LawLemmas.{length-rank_intersection}
-use Rattle.mask_bits.proofs.Lists.WordLemmas.{count-word_bits}
-use Rattle.vortex_mask.proofs.WordKernelLemmas.{word-started, deposited-more, rank_bits-window, place-within, place-after_within, rank_place-fits, deposited-list, deposited-steps}
+use Rattle.mask_bits.proofs.Lists.Words.WordLemmas.{count-word_bits}
+use Rattle.vortex_mask.proofs.Kernels.WordKernelLemmas.{word-started, deposited-more, rank_bits-window, place-within, place-after_within, rank_place-fits, deposited-list, deposited-steps}
 use Rattle.vortex_mask.proofs.intersect_by_rank.kernels.bit_buffers.narrow_by_bits.Goals as goal
 
 pub read-source-requires : goal.read-source-requires

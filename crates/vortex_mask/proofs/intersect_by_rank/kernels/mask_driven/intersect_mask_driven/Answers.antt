@@ -3,7 +3,7 @@ use Rattle.std.specs.List.{All}
 use Rattle.mask_bits.specs.Buffer.{values}
 use Rattle.mask_bits.specs.Positions.{positions, at_places}
 use Rattle.vortex_mask.specs.Mask.{truth}
-use Rattle.vortex_mask.proofs.DrivenLemmas.{places-ascending, places-within, drained}
+use Rattle.vortex_mask.proofs.Kernels.DrivenLemmas.{places-ascending, places-within, drained}
 use Rattle.vortex_mask.proofs.intersect_by_rank.kernels.mask_driven.intersect_mask_driven.Goals as goal
 
 pub of_indices-requires-clause-ascending : goal.of_indices-requires-clause-ascending

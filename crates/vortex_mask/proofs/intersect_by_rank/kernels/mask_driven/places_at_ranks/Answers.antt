@@ -1,9 +1,9 @@
 use Rattle.std.proofs.Common.{[], ◌∷◌, ◌++◌, sym, ap, ◌∙◌, arith}
 use Rattle.std.proofs.lemmas.List.{length-append}
 use Rattle.mask_bits.specs.Positions.{positions, count, at_places}
-use Rattle.mask_bits.proofs.Lists.PlaceLemmas.{count-le-length}
+use Rattle.mask_bits.proofs.Lists.Places.PlaceLemmas.{count-le-length}
 use Rattle.vortex_mask.specs.Steps.{StepCounts}
-use Rattle.vortex_mask.proofs.DrivenLemmas.{ascending-few, not-above-next, ranks-at_turn, ranks-at_exit, found-more, found-steps}
+use Rattle.vortex_mask.proofs.Kernels.DrivenLemmas.{ascending-few, not-above-next, ranks-at_turn, ranks-at_exit, found-more, found-steps}
 use Rattle.vortex_mask.proofs.intersect_by_rank.kernels.mask_driven.places_at_ranks.Goals as goal
 
 pub place_of-requires-clause-room : goal.place_of-requires-clause-room

@@ -1,4 +1,4 @@
-use Rattle.vortex_mask.proofs.DrivenLemmas.{AreFound}
+use Rattle.vortex_mask.proofs.Kernels.DrivenLemmas.{AreFound}
 use Rattle.vortex_mask.proofs.intersect_by_rank.kernels.mask_driven.places_at_ranks.Given as goal
 
 -- the ranks so far have their places

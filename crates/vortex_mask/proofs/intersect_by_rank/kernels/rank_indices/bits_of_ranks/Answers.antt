@@ -1,6 +1,6 @@
 use Rattle.std.proofs.Common.{◌-◌, ◌<◌, get_or, arith}
 use Rattle.vortex_mask.specs.Ranks.{AreSplit}
-use Rattle.vortex_mask.proofs.RankWordLemmas.{gathered-none, gathered-more, gathered-split, gathered-bits, pow_in_word}
+use Rattle.vortex_mask.proofs.Kernels.RankWordLemmas.{gathered-none, gathered-more, gathered-split, gathered-bits, pow_in_word}
 use Rattle.vortex_mask.proofs.intersect_by_rank.kernels.rank_indices.bits_of_ranks.Goals as goal
 
 pub loop-next-init : goal.loop-next-init

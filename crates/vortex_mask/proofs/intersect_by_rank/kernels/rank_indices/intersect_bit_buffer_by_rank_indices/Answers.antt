@@ -2,8 +2,8 @@ use Rattle.std.proofs.Common.{◌≡◌, ℕ, List, Bool, length, take, ◌++◌
 use Rattle.std.proofs.lemmas.List.{take_at}
 use Rattle.mask_bits.specs.Buffer.{values}
 use Rattle.mask_bits.specs.Positions.{positions, count, true_at, at_places}
-use Rattle.mask_bits.proofs.Lists.BitsLemmas.{length-bits_at}
-use Rattle.vortex_mask.proofs.PlaceListLemmas.{positions-at_places, count-at_places}
+use Rattle.mask_bits.proofs.Lists.Words.BackingBitLemmas.{length-bits_at}
+use Rattle.vortex_mask.proofs.Masks.PlaceListLemmas.{positions-at_places, count-at_places}
 use Rattle.vortex_mask.proofs.intersect_by_rank.kernels.rank_indices.intersect_bit_buffer_by_rank_indices.Goals as goal
 
 -- what is written, as the words are lent out and given back

@@ -2,13 +2,13 @@ use Rattle.std.proofs.Common.{◌≡◌, sym, ap, ◌∙◌, refl, arith}
 use Rattle.mask_bits.specs.Positions.{count, true_at, rank_intersection}
 use Rattle.mask_bits.specs.Words.{word_bits, padded_part}
 use Rattle.mask_bits.proofs.Lists.LawLemmas.{length-rank_intersection}
-use Rattle.mask_bits.proofs.Lists.PlaceLemmas.{count-le-length}
+use Rattle.mask_bits.proofs.Lists.Places.PlaceLemmas.{count-le-length}
 use Rattle.mask_bits.proofs.Lists.RankLemmas.{length-true_at}
-use Rattle.mask_bits.proofs.Lists.WordLemmas.{count-word_bits}
+use Rattle.mask_bits.proofs.Lists.Words.WordLemmas.{count-word_bits}
 use Rattle.vortex_mask.specs.Steps.{word_steps}
-use Rattle.vortex_mask.proofs.PlaceListLemmas.{narrowed_at}
-use Rattle.vortex_mask.proofs.RankWordLemmas.{rank_bits-listed}
-use Rattle.vortex_mask.proofs.WordKernelLemmas.{word-started, deposited-more, place-after_within, deposited-list, deposited-steps}
+use Rattle.vortex_mask.proofs.Masks.PlaceListLemmas.{narrowed_at}
+use Rattle.vortex_mask.proofs.Kernels.RankWordLemmas.{rank_bits-listed}
+use Rattle.vortex_mask.proofs.Kernels.WordKernelLemmas.{word-started, deposited-more, place-after_within, deposited-list, deposited-steps}
 use Rattle.vortex_mask.proofs.intersect_by_rank.kernels.rank_indices.narrow_at_ranks.Goals as goal
 
 pub overflow_add-end : goal.overflow_add-end

@@ -1,6 +1,6 @@
 use Rattle.mask_bits.specs.Positions.{count, true_at, rank_intersection}
 use Rattle.vortex_mask.specs.Ranks.{AreSplit}
-use Rattle.vortex_mask.proofs.WordKernelLemmas.{IsDeposited}
+use Rattle.vortex_mask.proofs.Kernels.WordKernelLemmas.{IsDeposited}
 use Rattle.vortex_mask.proofs.intersect_by_rank.kernels.rank_indices.narrow_at_ranks.Given as goal
 
 -- the words before took their deposits, and the ranks below the running place are passed

@@ -1,9 +1,9 @@
 use Rattle.std.proofs.Common.{◌≡◌, ℕ, ◌+◌, ◌/◌, ◌≤◌, ◌^◌, ap, arith, count_ones, mod-eq_of_lt}
 use Rattle.std.proofs.lemmas.Nat.Bits.{bit_at-lt}
-use Rattle.mask_bits.proofs.Lists.WordLemmas.{count-word_bits, ones_below-more}
-use Rattle.vortex_mask.proofs.ByteCountLemmas.{halved, lower_bits, ones_below-next}
-use Rattle.vortex_mask.proofs.DepositListLemmas.{selected-is}
-use Rattle.vortex_mask.proofs.SetPlaceLemmas.{ones_below, ones_below-zero}
+use Rattle.mask_bits.proofs.Lists.Words.WordLemmas.{count-word_bits, ones_below-more}
+use Rattle.vortex_mask.proofs.Deposits.ByteCountLemmas.{halved, lower_bits, ones_below-next}
+use Rattle.vortex_mask.proofs.Kernels.DepositListLemmas.{selected-is}
+use Rattle.vortex_mask.proofs.Deposits.SetPlaceLemmas.{ones_below, ones_below-zero}
 use Rattle.vortex_mask.proofs.intersect_by_rank.select.PortableSelectBit.select_bit_position.Goals as goal
 use Rattle.vortex_mask.proofs.intersect_by_rank.select.PortableSelectBit.select_bit_position.Goals.{then-count-rank, else-count-rank}
 

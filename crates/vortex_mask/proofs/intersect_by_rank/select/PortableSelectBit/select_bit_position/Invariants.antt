@@ -1,5 +1,5 @@
 use Rattle.std.proofs.Common.{◌≡◌, ◌<◌, ◌≤◌, ◌+◌, ◌/◌, ◌^◌}
-use Rattle.vortex_mask.proofs.SetPlaceLemmas.{ones_below}
+use Rattle.vortex_mask.proofs.Deposits.SetPlaceLemmas.{ones_below}
 use Rattle.vortex_mask.proofs.intersect_by_rank.select.PortableSelectBit.select_bit_position.Given as goal
 
 -- the bit is among the places that are left, from `place` on

@@ -1,8 +1,8 @@
 use Rattle.std.proofs.Common.{◌<◌, ◌≤◌, ◌^◌, count_ones, arith}
 use Rattle.std.proofs.lemmas.Nat.{ones-le}
 use Rattle.mask_bits.specs.Words.{word_bits}
-use Rattle.mask_bits.proofs.Lists.PlaceLemmas.{length-places_from}
-use Rattle.mask_bits.proofs.Lists.WordLemmas.{count-word_bits, length-word_bits}
+use Rattle.mask_bits.proofs.Lists.Places.PlaceLemmas.{length-places_from}
+use Rattle.mask_bits.proofs.Lists.Words.WordLemmas.{count-word_bits, length-word_bits}
 use Rattle.vortex_mask.proofs.intersect_by_rank.steps.Steps.deposit.Goals as goal
 
 pub invariant_of-self : goal.invariant_of-self

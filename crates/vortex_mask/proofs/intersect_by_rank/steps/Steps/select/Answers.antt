@@ -1,6 +1,6 @@
 use Rattle.std.proofs.Common.{◌+◌, ap, arith}
 use Rattle.vortex_mask.specs.Steps.{StepCounts}
-use Rattle.vortex_mask.proofs.DepositListLemmas.{selected-lt}
+use Rattle.vortex_mask.proofs.Kernels.DepositListLemmas.{selected-lt}
 use Rattle.vortex_mask.proofs.intersect_by_rank.steps.Steps.select.Goals as goal
 
 pub invariant_of-self : goal.invariant_of-self

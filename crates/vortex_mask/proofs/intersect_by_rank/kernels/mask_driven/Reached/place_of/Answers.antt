@@ -1,7 +1,7 @@
 use Rattle.std.proofs.Common.{arith}
-use Rattle.mask_bits.proofs.Lists.WordLemmas.{count-word_bits}
-use Rattle.vortex_mask.proofs.DepositListLemmas.{selected-lt}
-use Rattle.vortex_mask.proofs.DrivenLemmas.{place-found}
+use Rattle.mask_bits.proofs.Lists.Words.WordLemmas.{count-word_bits}
+use Rattle.vortex_mask.proofs.Kernels.DepositListLemmas.{selected-lt}
+use Rattle.vortex_mask.proofs.Kernels.DrivenLemmas.{place-found}
 use Rattle.vortex_mask.proofs.intersect_by_rank.kernels.mask_driven.Reached.place_of.Goals as goal
 
 pub select-requires-clause-inside : goal.select-requires-clause-inside

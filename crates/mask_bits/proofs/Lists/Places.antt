@@ -1,0 +1,6 @@
+-- Lemmas on the places of true values.
+pub mod AscendingLemmas
+pub mod IndexLemmas
+pub mod PlaceLemmas
+pub mod ScanLemmas
+pub mod SelectLemmas

@@ -1,0 +1,188 @@
+-- Where true value number n of a list stands, found by the counts of its started words; and its last true value.
+use Rattle.std.proofs.Common.{◌≡◌, ℕ, suc, ◌+◌, ◌*◌, ◌-◌, ◌^◌, ◌<◌, ◌≤◌, Bool, true, false, List, [], ◌∷◌, ◌++◌, length, get_or, take, drop, map, Some, None, slice_get, slice_range, refl, sym, ap, ◌∙◌, inl, inr, nat_eq, arith, append-nil, add-zero, pow-suc, drop-drop, option_map}
+use Rattle.std.specs.Int.{bit_at, w64, leading_zeros}
+use Rattle.std.specs.Int.RustNames.{bit_and}
+use Rattle.std.proofs.lemmas.List.{take-append-drop, drop-drop, drop_more, take_all, length-append, length-drop, length-take, get_or-drop, get_or-take, get_or_past}
+use Rattle.std.proofs.lemmas.Bool.{cases_lt}
+use Rattle.std.proofs.lemmas.Nat.{leading_top, ones-le}
+use lib.Seq.{take-add}
+use Rattle.std.proofs.lemmas.Nat.Bits.{bit_at_above, bit_at_cat_high, bit_at_lowest, bit_at-zero}
+use Rattle.std.proofs.lemmas.Option.{slice_get-get_or, slice_get_past, slice_get-map}
+use Rattle.mask_bits.specs.Positions.{places_from, positions, count, repeated}
+use Rattle.mask_bits.specs.Words.{word_bits, padded_part}
+use Rattle.mask_bits.proofs.Lists.CountLemmas.{count-append, count-repeated_false, places_from-repeated_false, length-repeated, get_or-padded}
+use Rattle.mask_bits.proofs.Lists.Words.LowestLemmas.{low, low-within, low-set, low-first, bit_at-lowest_cleared, bit_at-lowest_others}
+use Rattle.mask_bits.proofs.Lists.Words.PaddedLemmas.{padded_part_from_values}
+use Rattle.mask_bits.proofs.Lists.Words.WalkLemmas.{places-step, bit-padded}
+use Rattle.mask_bits.proofs.Lists.Words.WordLemmas.{length-word_bits, get_or-word_bits, count-word_bits}
+
+-- ---- places of lists one after the other
+
+pub places_from-append : (n : ℕ) (a b : List Bool) → places_from n (a ++ b) ≡ places_from n a ++ places_from (n + length a) b
+places_from-append n [] b = ap (λ k. places_from k b) (sym (add-zero n))
+places_from-append n (v ∷ a) b = grind (arith, places_from-append (n + 1) a)
+
+-- the places of a list that stands k further on
+pub places_from-moved : (k n : ℕ) (m : List Bool) → places_from (k + n) m ≡ map (λ p. k + p) (places_from n m)
+places_from-moved k n [] = refl
+places_from-moved k n (v ∷ m) = grind (arith, places_from-moved k (n + 1) m)
+
+length-moved : (k : ℕ) (ps : List ℕ) → length (map (λ p. k + p) ps) ≡ length ps
+length-moved k [] = refl
+length-moved k (p ∷ ps) = ap suc (length-moved k ps)
+
+-- an entry of the first list, and of the second
+slice_get-left : (xs ys : List ℕ) (i : ℕ) → i < length xs → slice_get (xs ++ ys) i ≡ slice_get xs i
+slice_get-left [] ys i h = absurd (omega arith)
+slice_get-left (v ∷ xs) ys i h = grind (arith, slice_get-left xs)
+
+slice_get-right : (xs ys : List ℕ) (i j : ℕ) → i ≡ length xs + j → slice_get (xs ++ ys) i ≡ slice_get ys j
+slice_get-right [] ys i j e = let same : i ≡ j = omega arith in ap (slice_get ys) same
+slice_get-right (v ∷ xs) ys i j e = grind (arith, slice_get-right xs)
+
+-- ---- started words
+
+-- a started part is the values that it has, and false ones
+part-split : (m : List Bool) (i : ℕ) → take 64 (drop (64 * i) m) ++ repeated (64 - length (drop (64 * i) m)) false ≡ padded_part m i
+part-split m i =
+    let front : List Bool = take 64 (drop (64 * i) m) in
+    let n : ℕ = 64 - length (drop (64 * i) m) in
+    padded_part_from_values m (front ++ repeated n false) i (omega (arith, length-take 64 (drop (64 * i) m), length-append front (repeated n false), length-repeated n false)) (λ j h.
+    get_or-padded front n j ∙ get_or-take 64 (drop (64 * i) m) j false h ∙ get_or-drop (64 * i) m j false)
+
+count-part : (m : List Bool) (i : ℕ) → count (take 64 (drop (64 * i) m)) ≡ count (padded_part m i)
+count-part m i = grind (arith, part-split, count-append, count-repeated_false)
+
+-- the true values of one more started word
+pub count-word_more : (m : List Bool) (i : ℕ) → count (take (64 * (i + 1)) m) ≡ count (take (64 * i) m) + count (padded_part m i)
+count-word_more m i = grind (arith, take-add (64 * i) 64 m, count-append (take (64 * i) m) (take 64 (drop (64 * i) m)), count-part m i)
+
+-- the false values of the last word hold no place
+places-part : (m : List Bool) (n i : ℕ) → places_from n (padded_part m i) ≡ places_from n (take 64 (drop (64 * i) m))
+places-part m n i =
+    let rest : List Bool = drop (64 * i) m in
+    let here : List Bool = take 64 rest in
+    sym (ap (places_from n) (part-split m i)) ∙ places_from-append n here (repeated (64 - length rest) false)
+    ∙ ap (λ (ps : List ℕ). places_from n here ++ ps) (places_from-repeated_false (n + length here) (64 - length rest))
+    ∙ append-nil (places_from n here)
+
+-- the places of one more started word
+pub places-word_more : (m : List Bool) (i : ℕ) → 64 * i ≤ length m → positions (take (64 * (i + 1)) m) ≡ positions (take (64 * i) m) ++ places_from (64 * i) (padded_part m i)
+places-word_more m i within =
+    let next : 64 * (i + 1) ≡ 64 * i + 64 = omega arith in
+    let front : List Bool = take (64 * i) m in
+    let here : List Bool = take 64 (drop (64 * i) m) in
+    let len : 0 + length front ≡ 64 * i = omega (arith, length-take (64 * i) m) in
+    ap (λ n. positions (take n m)) next ∙ ap positions (take-add (64 * i) 64 m) ∙ places_from-append 0 front here
+    ∙ ap (λ k. positions front ++ places_from k here) len
+    ∙ ap (λ (ps : List ℕ). positions front ++ ps) (sym (places-part m (64 * i) i))
+
+-- true value number n of a list is number n less those passed of the word where it stands
+pub place_in_word : (m : List Bool) (i n r p : ℕ) → 64 * i ≤ length m → n ≡ count (take (64 * i) m) + r → r < count (padded_part m i) → slice_get (positions (padded_part m i)) r ≡ Some p
+    → slice_get (positions m) n ≡ Some (64 * i + p)
+place_in_word m i n r p within number inside at =
+    let front : List Bool = take (64 * i) m in
+    let rest : List Bool = drop (64 * i) m in
+    let here : List ℕ = places_from (64 * i) (take 64 rest) in
+    let after : List ℕ = places_from (64 * i + length (take 64 rest)) (drop 64 rest) in
+    let len : 0 + length front ≡ 64 * i = omega (arith, length-take (64 * i) m) in
+    let split : positions m ≡ positions front ++ (here ++ after)
+    = sym (ap positions (take-append-drop (64 * i) m)) ∙ places_from-append 0 front rest ∙ ap (λ k. positions front ++ places_from k rest) len
+    ∙ ap (λ (xs : List Bool). positions front ++ places_from (64 * i) xs) (sym (take-append-drop 64 rest)) ∙ ap (λ (ps : List ℕ). positions front ++ ps) (places_from-append (64 * i) (take 64 rest) (drop 64 rest)) in
+    let padded : here ≡ map (λ k. 64 * i + k) (positions (padded_part m i))
+    = sym (places-part m (64 * i) i)
+    ∙ ap (λ k. places_from k (padded_part m i)) (sym (add-zero (64 * i))) ∙ places_from-moved (64 * i) 0 (padded_part m i) in
+    let many : r < length here = omega (arith, ap length padded, length-moved (64 * i) (positions (padded_part m i))) in
+    ap (λ (ps : List ℕ). slice_get ps n) split ∙ slice_get-right (positions front) (here ++ after) n r number ∙ slice_get-left here after r many
+    ∙ ap (λ (ps : List ℕ). slice_get ps r) padded ∙ slice_get-map (λ k. 64 * i + k) (positions (padded_part m i)) r ∙ ap (option_map (λ k. 64 * i + k)) at
+
+-- past the last word there is none
+pub place_none : (m : List Bool) (i n r : ℕ) → length m ≤ 64 * i → n ≡ count (take (64 * i) m) + r → slice_get (positions m) n ≡ None
+place_none m i n r past number = grind (arith, slice_get_past, take_all)
+
+-- ---- in one word
+
+pub positions-lowest : (w : ℕ) → 0 < w → w < 2 ^ 64 → positions (word_bits w) ≡ low w ∷ positions (word_bits (bit_and w (w - 1)))
+positions-lowest w some fits =
+    let v : ℕ = bit_and w (w - 1) in
+    let few = low-within w some fits in
+    places-step (word_bits w) (word_bits v) (low w) (omega (arith, length-word_bits w)) (length-word_bits v ∙ sym (length-word_bits w))
+    (λ i h. grind (arith, get_or-word_bits w i false, low-first w i some fits h))
+    (grind (arith, get_or-word_bits w (low w) false, low-set w some fits))
+    (λ i h. grind (arith, get_or-word_bits v i false, bit_at-lowest_cleared w i some fits h))
+    (λ i h. grind (arith, get_or-word_bits, bit_at-lowest_others w i some fits h, get_or_past, length-word_bits))
+
+-- the places of a word that stands n further on
+pub places-lowest : (n w : ℕ) → 0 < w → w < 2 ^ 64 → places_from n (word_bits w) ≡ (n + low w) ∷ places_from n (word_bits (bit_and w (w - 1)))
+places-lowest n w some fits =
+    let moved : (v : ℕ) → places_from n (word_bits v) ≡ map (λ p. n + p) (positions (word_bits v))
+    = λ v. ap (λ k. places_from k (word_bits v)) (sym (add-zero n)) ∙ places_from-moved n 0 (word_bits v) in
+    moved w ∙ ap (map (λ p. n + p)) (positions-lowest w some fits)
+    ∙ ap (λ (ps : List ℕ). (n + low w) ∷ ps) (sym (moved (bit_and w (w - 1))))
+
+-- a word of which some places are left is not 0
+pub some_left : (w k : ℕ) (ps : List ℕ) → w < 2 ^ 64 → positions (word_bits w) ≡ drop k ps → k < length ps → 0 < w
+some_left w k ps fits left h = grind (arith, ap length left, length-drop k ps, count-word_bits w fits, ones-le 0 w)
+
+-- the places past the first k, one by one
+pub left-more : (w k : ℕ) (ps : List ℕ) → w < 2 ^ 64 → positions (word_bits w) ≡ drop k ps → k < length ps → positions (word_bits (bit_and w (w - 1))) ≡ drop (k + 1) ps
+left-more w k ps fits left h = ap (drop 1) (sym (positions-lowest w (some_left w k ps fits left h) fits) ∙ left) ∙ drop-drop 1 k ps
+
+pub left-first : (w k : ℕ) (ps : List ℕ) → w < 2 ^ 64 → positions (word_bits w) ≡ drop k ps → k < length ps → slice_get ps k ≡ Some (low w)
+left-first w k ps fits left h =
+    let first : drop k ps ≡ low w ∷ positions (word_bits (bit_and w (w - 1))) = sym left ∙ positions-lowest w (some_left w k ps fits left h) fits in
+    slice_get-get_or ps k 0 h ∙ ap Some (ap (λ i. get_or ps i 0) (sym (add-zero k)) ∙ sym (get_or-drop k ps 0 0) ∙ ap (λ (xs : List ℕ). get_or xs 0 0) first)
+
+-- ---- the last true value
+
+-- a list with no true value has no place
+pub no_place : (m : List Bool) (n : ℕ) → ((i : ℕ) → get_or m i false ≡ false) → places_from n m ≡ []
+no_place [] n none = refl
+no_place (v ∷ m) n none = grind (arith, none 0, no_place m (n + 1) (λ i. none (suc i)))
+
+-- none in a word without bits
+pub places-of_none : (n : ℕ) → places_from n (word_bits 0) ≡ []
+places-of_none n = no_place (word_bits 0) n (λ i.
+    elim (cases_lt i 64) [
+      | inl inside ↦ get_or-word_bits 0 i false inside ∙ ap (λ b. nat_eq b 1) (bit_at-zero i)
+      | inr past ↦ get_or_past (word_bits 0) i false (omega (arith, length-word_bits 0))
+    ])
+
+pub last_place : (m : List Bool) (p : ℕ) → p < length m → get_or m p false ≡ true → ((i : ℕ) → p < i → get_or m i false ≡ false) → slice_get (positions m) (count m - 1) ≡ Some p
+last_place m p within holds past =
+    let front : List ℕ = positions (take p m) in
+    let none : places_from (p + 1) (drop (p + 1) m) ≡ [] = no_place (drop (p + 1) m) (p + 1) (λ i. get_or-drop (p + 1) m i false ∙ past (p + 1 + i) (omega arith)) in
+    let all : positions m ≡ front ++ p ∷ []
+    = grind (arith, take-append-drop p m, drop_more m p false within, none, length-take p m, places_from-append 0 (take p m) (drop p m)) in
+    ap (λ (ps : List ℕ). slice_get ps (length ps - 1)) all
+    ∙ slice_get-right front (p ∷ []) (length (front ++ p ∷ []) - 1) 0 (omega (arith, length-append front (p ∷ [])))
+
+pub last_none : (m : List Bool) (n : ℕ) → ((i : ℕ) → get_or m i false ≡ false) → slice_get (positions m) n ≡ None
+last_none m n none = ap (λ (ps : List ℕ). slice_get ps n) (no_place m 0 none)
+
+-- the highest set bit of a word that is not 0
+pub high : (w : ℕ) → 0 < w → w < 2 ^ 64 → (leading_zeros w64 w < 64) × (bit_at w (63 - leading_zeros w64 w) ≡ 1) × ((i : ℕ) → 63 - leading_zeros w64 w < i → bit_at w i ≡ 0)
+high w some fits =
+    let top = leading_top 64 w some fits in
+    let j : ℕ = top.0 in
+    let place : 63 - leading_zeros w64 w ≡ j = omega (arith, top.1) in
+    let set : bit_at (1 * 2 ^ j + (w - 2 ^ j)) j ≡ 1 = grind (arith, bit_at_cat_high 1 j (w - 2 ^ j) j, top.2, top.3, pow-suc 2 j, bit_at_lowest 1) in
+    (omega (arith, top.1), grind (arith, place, set, top.2), λ i h. bit_at_above w (suc j) i top.3 (omega arith))
+
+-- the last true value of a list, in the last started word that has one
+pub last_in_word : (m : List Bool) (i w : ℕ) → 0 < w → w < 2 ^ 64 → word_bits w ≡ padded_part m i → ((p : ℕ) → 64 * (i + 1) ≤ p → get_or m p false ≡ false)
+    → slice_get (positions m) (count m - 1) ≡ Some (64 * i + (63 - leading_zeros w64 w))
+last_in_word m i w some fits read none =
+    let top = high w some fits in
+    let j : ℕ = 63 - leading_zeros w64 w in
+    let holds : get_or m (64 * i + j) false ≡ true = grind (arith, bit-padded m i w j read, top.1) in
+    last_place m (64 * i + j) (grind (arith, holds, get_or_past m (64 * i + j) false)) holds (λ p h.
+    grind (arith, none p, bit-padded m i w (p - 64 * i) read, top.2 (p - 64 * i)))
+
+-- an empty word more
+pub none_more : (m : List Bool) (i : ℕ) → word_bits 0 ≡ padded_part m i → ((p : ℕ) → 64 * (i + 1) ≤ p → get_or m p false ≡ false) → (p : ℕ) → 64 * i ≤ p → get_or m p false ≡ false
+none_more m i read none p from = grind (arith, none p, bit-padded m i 0 (p - 64 * i) read, bit_at-zero (p - 64 * i))
+
+-- the true values up to a place, and those of the part from there
+pub count-part_further : (m : List Bool) (s n : ℕ) → count (take (s + n) m) ≡ count (take s m) + count (slice_range m s (s + n))
+count-part_further m s n = grind (arith, take-add, count-append)

@@ -1,0 +1,24 @@
+-- The list of a list's runs, and that of lists of one value.
+use Rattle.std.proofs.Common.{◌≡◌, ℕ, zero, suc, ◌+◌, true, List, [], ◌∷◌, sym, subst, arith}
+use Rattle.mask_bits.specs.Laws.{RunsAreTheList, RunOfAllTrue, RunsOfAllFalse}
+use Rattle.mask_bits.specs.Positions.{repeated}
+use Rattle.mask_bits.specs.Runs.{AreRuns}
+use Rattle.mask_bits.specs.RunScan.{runs_from}
+use Rattle.mask_bits.proofs.Lists.Runs.RunLemmas.{AreRuns-runs_from, runs_from-AreRuns}
+use Rattle.mask_bits.proofs.Lists.Words.WalkLemmas.{runs_from-repeated_false}
+
+pub runs_are_the_list : RunsAreTheList
+runs_are_the_list m rs = (λ same. subst (λ (ss : List (ℕ × ℕ)). AreRuns m ss) (sym same) (AreRuns-runs_from m), λ are. runs_from-AreRuns m rs are)
+
+-- from place i on, k + 1 true values
+runs_from-repeated_true : (i k e : ℕ) → e ≡ i + k + 1 → runs_from i (repeated (suc k) true) ≡ (i, e) ∷ []
+unfolding repeated
+runs_from-repeated_true i zero e len = grind arith
+runs_from-repeated_true i (suc k) e len = grind (arith, runs_from-repeated_true (i + 1) k e (omega arith))
+
+pub run_of_all_true : RunOfAllTrue
+run_of_all_true zero some = absurd (omega arith)
+run_of_all_true (suc k) some = runs_from-repeated_true 0 k (suc k) (omega arith)
+
+pub runs_of_all_false : RunsOfAllFalse
+runs_of_all_false n = runs_from-repeated_false 0 n

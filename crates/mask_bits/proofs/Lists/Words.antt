@@ -1,0 +1,8 @@
+-- Lemmas on lists by words, and on the bits of words.
+pub mod BackingBitLemmas
+pub mod FrontLemmas
+pub mod LowestLemmas
+pub mod PaddedLemmas
+pub mod ShiftLemmas
+pub mod WalkLemmas
+pub mod WordLemmas

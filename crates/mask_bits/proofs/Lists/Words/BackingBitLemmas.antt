@@ -1,0 +1,66 @@
+-- The bits of some bytes from any position on: parts of them, the words that show them, and their counts.
+use Rattle.std.proofs.Common.{◌≡◌, ℕ, ◌+◌, ◌*◌, ◌-◌, ◌/◌, ◌%◌, ◌^◌, ◌<◌, ◌≤◌, Bool, false, nat_eq, List, ◌++◌, length, get_or, take, drop, sym, ap, ◌∙◌, arith, count_ones}
+use Rattle.std.specs.Int.{bit_at}
+use Rattle.std.specs.Int.RustNames.{bit_and}
+use Rattle.std.proofs.lemmas.List.{get_or-drop}
+use Rattle.mask_bits.specs.Buffer.{backing_bit, values}
+use Rattle.mask_bits.specs.Positions.{count, repeated}
+use Rattle.mask_bits.specs.Words.{word_bits, window}
+use Rattle.mask_bits.proofs.BufferLemmas.{length-values, get_or-values, values_from_front}
+use Rattle.mask_bits.proofs.Lists.CountLemmas.{count-append, count-repeated_false}
+use Rattle.mask_bits.proofs.Lists.Words.FrontLemmas.{get_or-window, values-join, window-take}
+use Rattle.mask_bits.proofs.Lists.Words.WordLemmas.{get_or-word_bits, count-word_bits}
+use Rattle.mask_bits.proofs.Lists.Places.PlaceLemmas.{count-le-length}
+use Rattle.mask_bits.proofs.Lists.Words.ShiftLemmas.{word_bits-low_mask}
+
+-- the n bits from position p on
+abbrev pub bits_at : List ℕ → ℕ → ℕ → List Bool
+bits_at bytes p n = values (record { bytes = bytes; offset = p; len = n })
+
+pub length-bits_at : (bytes : List ℕ) (p n : ℕ) → length (bits_at bytes p n) ≡ n
+length-bits_at bytes p n = length-values (record { bytes = bytes; offset = p; len = n })
+
+pub get_or-bits_at : (bytes : List ℕ) (p n j : ℕ) (d : Bool) → j < n → get_or (bits_at bytes p n) j d ≡ backing_bit bytes (p + j)
+get_or-bits_at bytes p n j d h = get_or-values (record { bytes = bytes; offset = p; len = n }) j d h
+
+-- some bits, and those past them
+pub bits_at-append : (bytes : List ℕ) (p a b : ℕ) → bits_at bytes p (a + b) ≡ bits_at bytes p a ++ bits_at bytes (p + a) b
+bits_at-append bytes p a b = sym (values-join bytes p a b)
+
+-- the bits of bytes whose first k are left out
+pub backing_bit-drop : (bytes : List ℕ) (k p : ℕ) → backing_bit (drop k bytes) p ≡ backing_bit bytes (8 * k + p)
+backing_bit-drop bytes k p =
+    let byte : k + p / 8 ≡ (8 * k + p) / 8 = omega arith in
+    let bit : p % 8 ≡ (8 * k + p) % 8 = omega arith in
+    grind (arith, get_or-drop k bytes (p / 8) 0)
+
+pub bits_at-drop : (bytes : List ℕ) (k n : ℕ) → bits_at (drop k bytes) 0 n ≡ bits_at bytes (8 * k) n
+bits_at-drop bytes k n =
+    values_from_front (drop k bytes) (bits_at bytes (8 * k) n) n (length-bits_at bytes (8 * k) n) (λ j h. backing_bit-drop bytes k j ∙ sym (get_or-bits_at bytes (8 * k) n j false h))
+
+-- a word cut to its low bits shows those bits alone
+pub word_bits-low : (bytes : List ℕ) (p n w : ℕ) → n ≤ 64 → word_bits w ≡ window bytes p → word_bits (bit_and w (2 ^ n - 1)) ≡ bits_at bytes p n ++ repeated (64 - n) false
+word_bits-low bytes p n w few shows =
+    word_bits-low_mask w n few ∙ ap (λ (xs : List Bool). take n xs ++ repeated (64 - n) false) shows ∙ ap (λ (xs : List Bool). xs ++ repeated (64 - n) false) (window-take bytes p n few)
+
+-- and has as many ones as they have true values
+pub count-low : (bytes : List ℕ) (p n w : ℕ) → n ≤ 64 → bit_and w (2 ^ n - 1) < 2 ^ 64 → word_bits w ≡ window bytes p → count_ones (bit_and w (2 ^ n - 1)) ≡ count (bits_at bytes p n)
+count-low bytes p n w few fits shows =
+    grind (arith, count-word_bits (bit_and w (2 ^ n - 1)) fits, word_bits-low bytes p n w few shows, count-append (bits_at bytes p n) (repeated (64 - n) false), count-repeated_false (64 - n))
+
+-- h bits up to a whole byte, w bits from there, and t past them are all of them
+pub count-split : (bytes part : List ℕ) (p q h w t n : ℕ) → 8 * q ≡ p + h → part ≡ drop q bytes → n ≡ h + w + t
+    → count (bits_at bytes p h) + count (bits_at part 0 w) + count (bits_at bytes (p + (h + w)) t) ≡ count (bits_at bytes p n)
+count-split bytes part p q h w t n byte is len = grind (arith, bits_at-drop, bits_at-append, count-append)
+
+-- no more of some bits are true than there are
+pub count-bits_at-le : (bytes : List ℕ) (p n : ℕ) → count (bits_at bytes p n) ≤ n
+count-bits_at-le bytes p n = omega (arith, count-le-length (bits_at bytes p n), length-bits_at bytes p n)
+
+-- bit j of a word that shows the bits from p on
+pub bit-window : (bytes : List ℕ) (p w j : ℕ) → word_bits w ≡ window bytes p → j < 64 → nat_eq (bit_at w j) 1 ≡ backing_bit bytes (p + j)
+bit-window bytes p w j shows h = grind (arith, get_or-word_bits w j false h, get_or-window bytes p j false h)
+
+-- ---- words of a part of a buffer's list, from any value on
+
+-- ---- a list that is written word by word

@@ -1,0 +1,117 @@
+-- Words and first bits of some bytes: what a window shows, and a front that grows by a word.
+use Rattle.std.proofs.Common.{◌≡◌, ℕ, ◌+◌, ◌*◌, ◌-◌, ◌/◌, ◌%◌, ◌<◌, ◌≤◌, Bool, false, List, ◌++◌, length, get_or, take, drop, slice_range, refl, sym, ap, ◌∙◌, arith}
+use Rattle.std.specs.Int.{w64, from_le_bytes}
+use Rattle.std.proofs.lemmas.List.{length-append, length-take, get_or_append_left, get_or-append_right, get_or_past, get_or-drop, get_or-take}
+use Rattle.std.proofs.lemmas.List.Edits.{length-between, get_or-between}
+use Rattle.std.proofs.lemmas.List.FromFn.{length-map-range_with_len, get_or-map-range_with_len, fill_by_all}
+use Rattle.std.proofs.lemmas.Slice.{take-put_mid_below, drop-put_mid, between-put_mid}
+use Rattle.mask_bits.specs.Buffer.{Packed, backing_bit, values}
+use Rattle.mask_bits.specs.Words.{word_bits, window}
+use Rattle.mask_bits.proofs.BufferLemmas.{length-values, get_or-values, values_from_bits, values_from_front}
+use Rattle.mask_bits.proofs.Lists.Words.WordLemmas.{word_bits_from_bits}
+use Rattle.mask_bits.proofs.NumberLemmas.{AreBytes, bit_at-chunk}
+use borrow.Rule.Slice.PartMut.{put_mid}
+
+-- ---- windows
+
+pub length-window : (bytes : List ℕ) (p : ℕ) → length (window bytes p) ≡ 64
+unfolding window
+length-window bytes p = length-map-range_with_len (λ j. backing_bit bytes (p + j)) 0 64
+
+pub get_or-window : (bytes : List ℕ) (p j : ℕ) (d : Bool) → j < 64 → get_or (window bytes p) j d ≡ backing_bit bytes (p + j)
+unfolding window
+get_or-window bytes p j d h = get_or-map-range_with_len (λ j. backing_bit bytes (p + j)) 0 64 j j d h (omega arith)
+
+-- a list of 64 values that are the bits from p on is the window
+pub window_from_bits : (bytes : List ℕ) (p : ℕ) (m : List Bool) → length m ≡ 64 → ((j : ℕ) → j < 64 → get_or m j false ≡ backing_bit bytes (p + j)) → window bytes p ≡ m
+unfolding window
+window_from_bits bytes p m len same = sym (fill_by_all (λ j. backing_bit bytes (p + j)) m 64 false len same)
+
+-- two windows one after the other show the windows between them
+pub window-between : (bytes : List ℕ) (p low : ℕ) → low ≤ 64 → slice_range (window bytes p ++ window bytes (p + 64)) low (low + 64) ≡ window bytes (p + low)
+window-between bytes p low h =
+    let a : List Bool = window bytes p in
+    let b : List Bool = window bytes (p + 64) in
+    let within : low + 64 ≤ length (a ++ b) = omega (arith, length-append a b, length-window bytes p, length-window bytes (p + 64)) in
+    sym (window_from_bits bytes (p + low) (slice_range (a ++ b) low (low + 64)) (length-between (a ++ b) low (low + 64) within ∙ omega arith) (λ j few.
+    grind (arith, get_or-between (a ++ b) low (low + 64) j false, get_or_append_left a b false (low + j), length-window bytes p, get_or-window bytes p (low + j) false, get_or-append_right a b 64 (low + j) false, get_or-window bytes (p + 64) (low + j - 64) false)))
+
+-- ---- eight bytes as a word
+
+-- eight bytes that stand at byte 8 * i are word i
+pub word_bits-chunk : (bytes chunk : List ℕ) (i : ℕ) → AreBytes chunk → ((k : ℕ) → k < 8 → get_or chunk k 0 ≡ get_or bytes (8 * i + k) 0) → word_bits (from_le_bytes w64 chunk) ≡ window bytes (64 * i)
+word_bits-chunk bytes chunk i are same =
+    word_bits_from_bits (from_le_bytes w64 chunk) (window bytes (64 * i)) (length-window bytes (64 * i)) (λ j h.
+    let byte : 8 * i + j / 8 ≡ (64 * i + j) / 8 = omega arith in
+    let bit : j % 8 ≡ (64 * i + j) % 8 = omega arith in
+    grind (arith, bit_at-chunk chunk j are h, same (j / 8), get_or-window bytes (64 * i) j false h))
+
+-- and so are the first eight of the part of the bytes that begins there
+pub word_bits-first_chunk : (bytes chunk : List ℕ) (i : ℕ) → AreBytes bytes → 8 * i + 8 ≤ length bytes → chunk ≡ take 8 (slice_range bytes (8 * i) (8 * i + 8)) → word_bits (from_le_bytes w64 chunk) ≡ window bytes (64 * i)
+word_bits-first_chunk bytes chunk i are within first =
+    let part : List ℕ = slice_range bytes (8 * i) (8 * i + 8) in
+    let read : (k : ℕ) → k < 8 → get_or chunk k 0 ≡ get_or bytes (8 * i + k) 0
+    = λ k h. ap (λ (xs : List ℕ). get_or xs k 0) first ∙ get_or-take 8 part k 0 h ∙ get_or-between bytes (8 * i) (8 * i + 8) k 0 (omega arith) in
+    word_bits-chunk bytes chunk i (λ k. grind (arith, read k, are (8 * i + k), get_or_past chunk k 0, ap length first, length-take 8 part)) read
+
+-- a part of some bytes that was written: what is before it, and past it
+pub get_or-put_mid_below : (a k : ℕ) (xs ys : List ℕ) (m : ℕ) → a ≤ length xs → m < a → get_or (put_mid a k xs ys) m 0 ≡ get_or xs m 0
+get_or-put_mid_below a k xs ys m within below = grind (arith, get_or-take a (put_mid a k xs ys) m 0 below, take-put_mid_below a k xs ys a, get_or-take a xs m 0 below)
+
+pub get_or-put_mid_above : (a k : ℕ) (xs ys : List ℕ) (m : ℕ) → a ≤ length xs → length ys ≡ k → a + k ≤ m → get_or (put_mid a k xs ys) m 0 ≡ get_or xs m 0
+get_or-put_mid_above a k xs ys m within len above = grind (arith, get_or-drop m (put_mid a k xs ys) 0 0, drop-put_mid a k xs ys m above within len, get_or-drop m xs 0 0)
+
+pub get_or-put_mid_inside : (a e : ℕ) (xs ys : List ℕ) (m : ℕ) → a ≤ length xs → length ys ≡ e - a → m < e - a → get_or (put_mid a (e - a) xs ys) (a + m) 0 ≡ get_or ys m 0
+get_or-put_mid_inside a e xs ys m within len inside = grind (arith, get_or-between (put_mid a (e - a) xs ys) a e m 0, between-put_mid a (e - a) xs ys e within len)
+
+-- ---- the first bits
+
+-- value p of a front is bit p
+pub get_or-front : (bytes : List ℕ) (n p : ℕ) (d : Bool) → p < n → get_or (values (record { bytes = bytes; offset = 0; len = n })) p d ≡ backing_bit bytes p
+get_or-front bytes n p d h = grind (arith, get_or-values)
+
+-- bytes that agree on their first bits have one front
+pub front-same : (old new : List ℕ) (n : ℕ) → ((p : ℕ) → p < n → backing_bit new p ≡ backing_bit old p)
+    → values (record { bytes = new; offset = 0; len = n }) ≡ values (record { bytes = old; offset = 0; len = n })
+front-same old new n same =
+    let b : Packed = record { bytes = old; offset = 0; len = n } in
+    values_from_front new (values b) n (length-values b) (λ p h. same p h ∙ sym (get_or-front old n p false h))
+
+-- the front of one more whole word
+pub front-more_word : (bytes : List ℕ) (i : ℕ) → values (record { bytes = bytes; offset = 0; len = 64 * (i + 1) }) ≡ values (record { bytes = bytes; offset = 0; len = 64 * i }) ++ window bytes (64 * i)
+front-more_word bytes i =
+    let front : List Bool = values (record { bytes = bytes; offset = 0; len = 64 * i }) in
+    let word : List Bool = window bytes (64 * i) in
+    let len : length front ≡ 64 * i = length-values (record { bytes = bytes; offset = 0; len = 64 * i }) in
+    values_from_front bytes (front ++ word) (64 * (i + 1)) (omega (arith, length-append front word, length-window bytes (64 * i))) (λ p h.
+    grind (arith, get_or_append_left front word false p, get_or-front bytes (64 * i) p false, get_or-append_right front word (64 * i) p false len, get_or-window bytes (64 * i) (p - 64 * i) false))
+
+-- ---- parts of a front
+
+-- the bits of one part and of the part that follows are those of both
+pub values-join : (bytes : List ℕ) (o n k : ℕ) → values (record { bytes = bytes; offset = o; len = n }) ++ values (record { bytes = bytes; offset = o + n; len = k }) ≡ values (record { bytes = bytes; offset = o; len = n + k })
+values-join bytes o n k =
+    let a : Packed = record { bytes = bytes; offset = o; len = n } in
+    let b : Packed = record { bytes = bytes; offset = o + n; len = k } in
+    let len : length (values a) ≡ n = length-values a in
+    sym (values_from_bits (record { bytes = bytes; offset = o; len = n + k }) (values a ++ values b) (omega (arith, length-append (values a) (values b), length-values b)) (λ i h.
+    grind (arith, get_or_append_left (values a) (values b) false i, get_or-values a i false, get_or-append_right (values a) (values b) n i false len, get_or-values b (i - n) false)))
+
+-- the first values of a window
+pub window-take : (bytes : List ℕ) (p n : ℕ) → n ≤ 64 → take n (window bytes p) ≡ values (record { bytes = bytes; offset = p; len = n })
+window-take bytes p n few =
+    sym (values_from_bits (record { bytes = bytes; offset = p; len = n }) (take n (window bytes p)) (omega (arith, length-take n (window bytes p), length-window bytes p)) (λ i h.
+    grind (arith, get_or-take n (window bytes p) i false h, get_or-window bytes p i false)))
+
+-- all of it
+pub window-whole : (bytes : List ℕ) (p : ℕ) → window bytes p ≡ values (record { bytes = bytes; offset = p; len = 64 })
+unfolding window values
+window-whole bytes p = refl
+
+-- a window past the first bytes
+pub window-drop : (bytes : List ℕ) (k p q : ℕ) → 8 * k + p ≡ q → window (drop k bytes) p ≡ window bytes q
+window-drop bytes k p q place =
+    window_from_bits (drop k bytes) p (window bytes q) (length-window bytes q) (λ j h.
+    let byte : (q + j) / 8 ≡ k + (p + j) / 8 = omega arith in
+    let bit : (q + j) % 8 ≡ (p + j) % 8 = omega arith in
+    grind (arith, get_or-window bytes q j false h, get_or-drop k bytes ((p + j) / 8) 0))

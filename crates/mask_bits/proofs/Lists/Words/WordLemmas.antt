@@ -1,0 +1,93 @@
+-- Words of 64 bits as lists of truth values.
+use Rattle.std.proofs.Common.{zero-add, ◌≡◌, ℕ, ◌+◌, ◌/◌, ◌<◌, ◌≤◌, Bool, false, nat_eq, List, [], ◌∷◌, length, get_or, drop, sym, ap, ◌∙◌, arith, ◌*◌, ◌%◌, zero, suc, map, ◌^◌, take, count_ones, mod-lt, mod-eq_of_lt}
+use Rattle.std.specs.Int.{bit_at}
+use Rattle.std.proofs.lemmas.List.{drop_more, drop_all, take_more, take_all}
+use Rattle.std.proofs.lemmas.List.FromFn.{length-map-range_with_len, get_or-map-range_with_len, fill_by_all, sum_by-map-range_with_len_more}
+use Rattle.mask_bits.specs.Words.{word_bits, word_part, word_parts}
+use Rattle.mask_bits.specs.Laws.{ValueOfWord, CountsOfWordsAddUp}
+use Rattle.mask_bits.specs.Positions.{count, count_below}
+use Rattle.mask_bits.proofs.Lists.CountLemmas.{count-append, count-repeated_false, count-push}
+use Rattle.std.specs.List.{sum_by, range_with_len}
+use Rattle.std.proofs.lemmas.List.Folds.{drop_split}
+use lib.Count.{ones_step}
+use Rattle.std.proofs.lemmas.Nat.{pow_pos, ones-le, ones_cat, mod-pow-add}
+use Rattle.std.proofs.lemmas.Nat.Bits.{bit_at-lt}
+use Rattle.mask_bits.proofs.Lists.Places.PlaceLemmas.{trues}
+use Rattle.std.proofs.lemmas.Bool.Decides.{nat_tests}
+
+pub length-word_bits : (w : ℕ) → length (word_bits w) ≡ 64
+unfolding word_bits
+length-word_bits w = length-map-range_with_len (λ i. nat_eq (bit_at w i) 1) 0 64
+
+pub get_or-word_bits : (w j : ℕ) (d : Bool) → j < 64 → get_or (word_bits w) j d ≡ nat_eq (bit_at w j) 1
+unfolding word_bits
+get_or-word_bits w j d h = get_or-map-range_with_len (λ i. nat_eq (bit_at w i) 1) 0 64 j j d h (omega arith)
+
+-- a list of 64 values that are a word's bits is the word's list
+pub word_bits_from_bits : (w : ℕ) (m : List Bool) → length m ≡ 64 → ((j : ℕ) → j < 64 → nat_eq (bit_at w j) 1 ≡ get_or m j false) → word_bits w ≡ m
+unfolding word_bits
+word_bits_from_bits w m len same = sym (fill_by_all (λ i. nat_eq (bit_at w i) 1) m 64 false len (λ j h. sym (same j h)))
+
+-- ---- how many bits of a word are set
+
+ones_of_bit : (n : ℕ) → n < 2 → count_ones n ≡ n
+ones_of_bit n h =
+    let half : n / 2 ≡ 0 = omega arith in
+    omega (arith, ones_step n, ap count_ones half, ones-le 0 0 (omega arith))
+
+-- one more place
+pub ones_below-more : (w i : ℕ) → count_ones (w % 2 ^ (i + 1)) ≡ count_ones (w % 2 ^ i) + bit_at w i
+ones_below-more w i =
+    let next : i + 1 ≡ 1 + i = omega arith in
+    ap (λ k. count_ones (w % 2 ^ k)) next ∙ ap count_ones (mod-pow-add w 1 i) ∙ ones_cat i _ _ (mod-lt w (pow_pos i)) ∙ omega (arith, ones_of_bit (bit_at w i) (bit_at-lt w i))
+
+trues_of_bit : (n : ℕ) → n < 2 → trues (nat_eq n 1 ∷ []) ≡ n
+trues_of_bit n h = grind (arith, nat_tests)
+
+-- the true values among a word's first i are its set bits below i
+pub count_below-word_bits : (w i : ℕ) → i ≤ 64 → count_below (word_bits w) i ≡ count_ones (w % 2 ^ i)
+count_below-word_bits w zero h = omega (arith, ones-le 0 (w % 1) (omega arith))
+count_below-word_bits w (suc i) h =
+    let next : suc i ≡ i + 1 = omega arith in
+    let push = count-push (take i (word_bits w)) (get_or (word_bits w) i false) in
+    grind (arith, next, take_more (word_bits w) i false, length-word_bits w, push, get_or-word_bits w i false, count_below-word_bits w i (omega arith), ones_below-more w i, trues_of_bit (bit_at w i) (bit_at-lt w i))
+
+-- as many values of a word are true as bits of it are set
+pub count-word_bits : (w : ℕ) → w < 2 ^ 64 → count (word_bits w) ≡ count_ones w
+count-word_bits w fits = grind (arith, take_all 64 (word_bits w), length-word_bits w, count_below-word_bits w 64, mod-eq_of_lt fits)
+
+-- ---- the parts of a list
+
+pub length-word_parts : (m : List Bool) → length (word_parts m) ≡ length m / 64
+unfolding word_parts
+length-word_parts m = length-map-range_with_len (word_part m) 0 (length m / 64)
+
+get_or-word_parts : (m : List Bool) (i : ℕ) (d : List Bool) → i < length m / 64 → get_or (word_parts m) i d ≡ word_part m i
+unfolding word_parts
+get_or-word_parts m i d h = get_or-map-range_with_len (word_part m) 0 (length m / 64) i i d h (omega arith)
+
+-- the parts from one on, and past the last
+pub drop-word_parts : (m : List Bool) (i : ℕ) → i < length m / 64 → drop i (word_parts m) ≡ word_part m i ∷ drop (i + 1) (word_parts m)
+drop-word_parts m i h = grind (arith, drop_more (word_parts m) i [], length-word_parts m, get_or-word_parts m i [] h)
+
+pub drop-word_parts_all : (m : List Bool) (i : ℕ) → length m / 64 ≤ i → drop i (word_parts m) ≡ []
+drop-word_parts_all m i h = drop_all i (word_parts m) (omega (arith, length-word_parts m))
+
+-- ---- counts
+
+-- the parts so far and what comes after them have all true values
+counts_of_front : (m : List Bool) (k : ℕ) → 64 * k ≤ length m → sum_by count (map (word_part m) (range_with_len 0 k)) + count (drop (64 * k) m) ≡ count m
+counts_of_front m zero h = zero-add (count m)
+counts_of_front m (suc k) h =
+    let next : suc k ≡ k + 1 = omega arith in
+    let here : 64 * k + 64 ≡ 64 * suc k = omega arith in
+    let more = sum_by-map-range_with_len_more count (word_part m) 0 k k (omega arith) in
+    let split = ap count (drop_split m (64 * k) (64 * k + 64) (omega arith)) ∙ count-append (word_part m k) (drop (64 * k + 64) m) in
+    omega (arith, more, split, ap (λ n. sum_by count (map (word_part m) (range_with_len 0 n))) next, ap (λ n. count (drop n m)) here, counts_of_front m k (omega arith))
+
+pub value_of_word : ValueOfWord
+value_of_word w i h = get_or-word_bits w i false h
+
+pub counts_of_words_add_up : CountsOfWordsAddUp
+unfolding word_parts
+counts_of_words_add_up m = grind (arith, counts_of_front, count-append, count-repeated_false)

@@ -1,0 +1,106 @@
+-- The counts of set bits in each byte and below it, and what they say of places in the bytes.
+use Rattle.std.proofs.Common.{eqb, eqb→eq, ◌≡◌, ℕ, zero, suc, ◌+◌, ◌-◌, ◌*◌, ◌/◌, ◌%◌, ◌^◌, ◌<◌, ◌≤◌, ◌⊎◌, inl, inr, sym, ap, ap₂, ◌∙◌, arith, bit_and, count_ones, add_comm, pow_mono, mod-lt, add-zero, zero-add, min}
+use Rattle.std.specs.Int.{bit_at}
+use Rattle.std.proofs.lemmas.Nat.{pow_pos, shr-shr, and_mask, and_le_r, one_shl, ones_cat, mod-pow-add}
+use Rattle.std.proofs.lemmas.Bool.{cases_lt}
+use Rattle.vortex_mask.specs.Bytes.{byte_at, EachByte, halves_summed}
+use Rattle.mask_bits.proofs.Lists.Words.WordLemmas.{ones_below-more}
+use Rattle.vortex_mask.specs.Deposit.{Deposits}
+use Rattle.vortex_mask.proofs.Deposits.ByteLemmas.{byte_at-zero, byte_at-suc, byte_at_and, byte_at_add, byte_at-low, byte_at_shr, bit_at_byte}
+use Rattle.vortex_mask.proofs.Deposits.DepositLemmas.{deposit, bit_at-deposit, Deposits-from_bits}
+use Rattle.vortex_mask.proofs.Deposits.NetworkLemmas.{every_below}
+use Rattle.vortex_mask.proofs.Deposits.SetPlaceLemmas.{ones_below, ones_below-zero, ones_below-le}
+
+-- ---- the set bits below byte j
+
+-- those below a place, and those of the next k places
+pub ones_below-next : (w i k : ℕ) → ones_below w (i + k) ≡ ones_below w i + count_ones (w / 2 ^ i % 2 ^ k)
+ones_below-next w i k =
+    ap (λ n. count_ones (w % 2 ^ n)) (add_comm i k) ∙ ap count_ones (mod-pow-add w k i) ∙ ones_cat i _ _ (mod-lt w (pow_pos i)) ∙ add_comm _ _
+
+ones_below-byte : (w j : ℕ) → ones_below w (8 * suc j) ≡ ones_below w (8 * j) + count_ones (byte_at w j)
+unfolding byte_at
+ones_below-byte w j = let e : 8 * suc j ≡ 8 * j + 8 = omega arith in ap (ones_below w) e ∙ ones_below-next w (8 * j) 8
+
+-- ---- the counts below each byte, as one product: x's bytes are the counts
+
+-- the product by 0x01..01, one byte up
+abbrev pub summed : ℕ → ℕ
+summed x = x * 0x0101010101010101 % 2 ^ 64 * 2 ^ 8 % 2 ^ 64
+
+-- moving the sums up a byte and adding x again gives the same sums
+summed_again : (x : ℕ) → x * 0x0101010101010101 % 2 ^ 64 ≡ (summed x + x) % 2 ^ 64
+summed_again x = omega arith
+
+byte_at_up : (x j : ℕ) → j < 7 → byte_at (x * 2 ^ 8 % 2 ^ 64) (suc j) ≡ byte_at x j
+byte_at_up x j h =
+    let e : x * 256 / 256 ≡ x = omega arith in
+    byte_at-low 8 (x * 2 ^ 8) (suc j) (omega arith) ∙ byte_at-suc (x * 2 ^ 8) j ∙ ap (λ v. byte_at v j) e
+
+pub summed_is : (x w j : ℕ) → ((i : ℕ) → i < 8 → byte_at x i ≡ count_ones (byte_at w i)) → j < 8 → (i : ℕ) → i ≤ j → byte_at (summed x) i ≡ ones_below w (8 * i)
+summed_is x w zero counts h i l =
+    let z : i ≡ 0 = omega arith in
+    ap (byte_at (summed x)) z ∙ byte_at-zero (summed x) ∙ omega arith ∙ sym (ap (λ v. ones_below w (8 * v)) z ∙ ones_below-zero w)
+summed_is x w (suc j) counts h i l = by (λ v. summed_is x w j counts (omega arith) v) (cases_lt j i)
+  where
+    by : ((i : ℕ) → i ≤ j → byte_at (summed x) i ≡ ones_below w (8 * i)) → (j < i) ⊎ (i ≤ j) → byte_at (summed x) i ≡ ones_below w (8 * i)
+    by ih (inr le) = ih i le
+    by ih (inl lt) =
+        let e : i ≡ suc j = omega arith in
+        let next : (v : ℕ) → v ≤ j → byte_at (summed x) v + byte_at x v ≡ ones_below w (8 * suc v) = λ v m. ap₂ (λ a b. a + b) (ih v m) (counts v (omega arith)) ∙ sym (ones_below-byte w v) in
+        let room : (v : ℕ) → v ≤ j → byte_at (summed x) v + byte_at x v < 256 = λ v m. omega (arith, next v m, ones_below-le w (8 * suc v)) in
+        ap (byte_at (summed x)) e ∙ byte_at_up (x * 0x0101010101010101 % 2 ^ 64) j (omega arith) ∙ ap (λ v. byte_at v j) (summed_again x)
+        ∙ byte_at-low 8 (summed x + x) j (omega arith) ∙ byte_at_add (summed x) x j room ∙ next j (omega arith) ∙ ap (λ v. ones_below w (8 * v)) (sym e)
+
+-- ---- the counts in each byte, as the code sums them
+
+-- so few bits stay below half a byte
+pub half_small : (c s : ℕ) → 0 < s → c < 2 ^ (8 - s) → c < 128
+half_small c s some h = omega (arith, pow_mono {i = 8 - s} {j = 7} (omega arith))
+
+pub halves_at : (x w c s j : ℕ) → 0 < s → s < 8 → c < 2 ^ (8 - s) → EachByte (λ i. byte_at w i ≡ c) → j < 8
+    → byte_at (bit_and x w + bit_and (x / 2 ^ s) w) j ≡ halves_summed s c (byte_at x j)
+halves_at x w c s j some inside few each h =
+    let lower : (i : ℕ) → i < 8 → byte_at (bit_and x w) i ≡ bit_and (byte_at x i) c = λ i l. byte_at_and x w i ∙ ap (bit_and (byte_at x i)) (each i l) in
+    let upper : (i : ℕ) → i < 8 → byte_at (bit_and (x / 2 ^ s) w) i ≡ bit_and (byte_at x i / 2 ^ s) c = λ i l. byte_at_shr (8 - s) s x w c i (omega arith) few (each i l) in
+    byte_at_add _ _ j (λ i l. omega (arith, lower i (omega arith), upper i (omega arith), and_le_r (byte_at x i) c, and_le_r (byte_at x i / 2 ^ s) c, half_small c s some few))
+    ∙ ap₂ (λ a b. a + b) (lower j h) (upper j h)
+
+-- ---- a deposit by its bytes
+
+-- the set bits below place t of byte j
+ones_below-in_byte : (w j t : ℕ) → t ≤ 8 → ones_below w (8 * j + t) ≡ ones_below w (8 * j) + ones_below (byte_at w j) t
+ones_below-in_byte w j zero h = omega (arith, ap (ones_below w) (add-zero (8 * j)), ones_below-zero (byte_at w j))
+ones_below-in_byte w j (suc t) h =
+    let e : 8 * j + suc t ≡ 8 * j + t + 1 = omega arith in
+    let f : suc t ≡ t + 1 = omega arith in
+    omega (arith, ap (ones_below w) e, ones_below-more w (8 * j + t), ones_below-in_byte w j t (omega arith), ap (ones_below (byte_at w j)) f, ones_below-more (byte_at w j) t, bit_at_byte w j t (omega arith))
+
+bit_at-low : (y n : ℕ) → n < 8 → bit_at (y % 2 ^ 8) n ≡ bit_at y n
+bit_at-low y n h = ap (λ v. bit_at v n) (sym (byte_at-zero y)) ∙ sym (bit_at_byte y 0 n h) ∙ ap (bit_at y) (zero-add n)
+
+pub Deposits-from_bytes : (s m r : ℕ) → EachByte (λ j. byte_at r j ≡ deposit 8 (s / 2 ^ ones_below m (8 * j) % 2 ^ 8) (byte_at m j)) → Deposits s m r
+Deposits-from_bytes s m r h = Deposits-from_bits s m r (λ i inside.
+    let j = i / 8 in
+    let t = i % 8 in
+    let e : 8 * j + t ≡ i = omega arith in
+    let b = byte_at m j in
+    let from = ones_below m (8 * j) in
+    let n = ones_below b t in
+    let small : n < 8 = omega (arith, ones_below-le b t) in
+    let there : bit_at (s / 2 ^ from % 2 ^ 8) n ≡ bit_at s (ones_below m i) =
+    bit_at-low (s / 2 ^ from) n small ∙ ap (λ x. x % 2) (shr-shr s from n) ∙ ap (bit_at s) (sym (ones_below-in_byte m j t (omega arith)) ∙ ap (ones_below m) e) in
+    ap (bit_at r) (sym e) ∙ bit_at_byte r j t (omega arith) ∙ ap (λ v. bit_at v t) (h j (omega arith)) ∙ bit_at-deposit 8 _ b t (omega arith)
+    ∙ ap₂ min (sym (bit_at_byte m j t (omega arith)) ∙ ap (bit_at m) e) there)
+
+-- ---- a selection by halves
+
+-- what h halvings leave of 64 places, and the half of it
+pub halved : (h : ℕ) → h < 6 → (64 / 2 ^ h ≡ 2 * (32 / 2 ^ h)) × (64 / 2 ^ (h + 1) ≡ 32 / 2 ^ h)
+halved h l =
+    let e : h + 1 ≡ 1 + h = omega arith in
+    (eqb→eq _ _ (every_below (λ i. eqb (64 / 2 ^ i) (2 * (32 / 2 ^ i))) 6 tt h l), ap (λ n. 64 / 2 ^ n) e ∙ sym (shr-shr 64 1 h))
+
+-- the k lowest bits, as the code takes them
+pub lower_bits : (x k : ℕ) → k < 64 → bit_and x (1 * 2 ^ k % 2 ^ 64 - 1) ≡ x % 2 ^ k
+lower_bits x k h = ap (λ m. bit_and x (m - 1)) (one_shl k 64 h) ∙ and_mask x k

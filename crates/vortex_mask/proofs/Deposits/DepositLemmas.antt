@@ -1,0 +1,145 @@
+-- The deposit as a function of the two words, by their lowest bits, and that it is the one number that a deposit may give.
+use Rattle.std.proofs.Common.{◌≡◌, ℕ, zero, suc, ◌+◌, ◌-◌, ◌*◌, ◌/◌, ◌%◌, ◌^◌, ◌<◌, ◌≤◌, ◌⊎◌, inl, inr, min, refl, sym, ap, ap₂, ◌∙◌, arith, pow-suc, bit_and, bit_or, count_ones, mul_right_comm, mul-one, mul-zero, zero-mul, lt_of_le_of_lt}
+use Rattle.std.specs.Int.{bit_at}
+use Rattle.std.proofs.lemmas.Nat.{pow_pos, shr-shr, and_mask, and_le_l, zero_from_ones}
+use Rattle.std.proofs.lemmas.Nat.Bits.{bit_at_lowest, bit_at-suc, bit_at-lt, bit_at_or, same_from_bits}
+use Rattle.std.proofs.lemmas.Bool.{cases_lt}
+use lib.Bits.{or_step, and_zero_r, or_zero_r}
+use Rattle.mask_bits.specs.Positions.{count_below}
+use Rattle.mask_bits.specs.Words.{word_bits}
+use Rattle.mask_bits.proofs.Lists.Words.WordLemmas.{count_below-word_bits}
+use Rattle.vortex_mask.specs.Deposit.{Deposits}
+use Rattle.vortex_mask.proofs.Deposits.SetPlaceLemmas.{ones_below, parity, ones_below-zero, ones_below-suc, cleared, cleared-odd, cleared-even, lowest, lowest-odd, lowest-even, lowest_sum, ones-cleared_le}
+
+-- the low k bits of the deposit of s into m
+unfoldable pub deposit : ℕ → ℕ → ℕ → ℕ
+deposit zero s m = 0
+deposit (suc k) s m = deposit k (s / 2 ^ (m % 2)) (m / 2) * 2 + min (m % 2) (s % 2)
+
+pub deposit-odd : (k s m : ℕ) → m % 2 ≡ 1 → deposit (suc k) s m ≡ deposit k (s / 2) (m / 2) * 2 + s % 2
+unfolding deposit
+deposit-odd k s m e = grind (arith)
+
+pub deposit-even : (k s m : ℕ) → m % 2 ≡ 0 → deposit (suc k) s m ≡ deposit k s (m / 2) * 2
+unfolding deposit
+deposit-even k s m e = grind (arith)
+
+pub bit_at-deposit : (k s m i : ℕ) → i < k → bit_at (deposit k s m) i ≡ min (bit_at m i) (bit_at s (ones_below m i))
+unfolding deposit
+bit_at-deposit zero s m i h = absurd (omega arith)
+bit_at-deposit (suc k) s m zero h = grind (arith, bit_at_lowest, ones_below, ones_below-zero, suc)
+bit_at-deposit (suc k) s m (suc i) h =
+    let d = deposit k (s / 2 ^ (m % 2)) (m / 2) in
+    let half : (d * 2 + min (m % 2) (s % 2)) / 2 ≡ d = omega arith in
+    let moved : bit_at (s / 2 ^ (m % 2)) (ones_below (m / 2) i) ≡ bit_at s (ones_below m (suc i)) =
+    ap (λ x. x % 2) (shr-shr s (m % 2) (ones_below (m / 2) i)) ∙ ap (bit_at s) (sym (ones_below-suc m i)) in
+    bit_at-suc (deposit (suc k) s m) i ∙ ap (λ x. bit_at x i) half ∙ bit_at-deposit k (s / 2 ^ (m % 2)) (m / 2) i (omega arith)
+    ∙ ap₂ min (sym (bit_at-suc m i)) moved
+
+pub Deposits-from_bits : (s m r : ℕ) → ((i : ℕ) → i < 64 → bit_at r i ≡ min (bit_at m i) (bit_at s (ones_below m i))) → Deposits s m r
+Deposits-from_bits s m r h = record {
+  bits = λ i l.
+      let b : bit_at r i ≡ min (bit_at m i) (bit_at s (count_below (word_bits m) i))
+      = h i l ∙ ap (λ n. min (bit_at m i) (bit_at s n)) (sym (count_below-word_bits m i (omega arith))) in
+      (λ one. (omega (arith, bit_at-lt m i), omega (arith, bit_at-lt s (count_below (word_bits m) i))), λ p. omega (arith, p.0, p.1));
+}
+
+pub Deposits-from_deposit : (s m r : ℕ) → r ≡ deposit 64 s m → Deposits s m r
+Deposits-from_deposit s m r e =
+    Deposits-from_bits s m r (λ i h. ap (λ x. bit_at x i) e ∙ bit_at-deposit 64 s m i h)
+
+-- ---- the lowest set place takes the lowest bit of the source, and the others take the rest
+
+pub deposit-zero : (k s : ℕ) → deposit k s 0 ≡ 0
+unfolding deposit
+deposit-zero zero s = refl
+deposit-zero (suc k) s = omega (arith, deposit-zero k (s / 2 ^ 0))
+
+pub deposit_no_source : (k m : ℕ) → deposit k 0 m ≡ 0
+unfolding deposit
+deposit_no_source zero m = refl
+deposit_no_source (suc k) m =
+    let e : 0 / 2 ^ (m % 2) ≡ 0 = omega (arith, pow_pos (m % 2)) in
+    omega (arith, ap (λ x. deposit k x (m / 2)) e, deposit_no_source k (m / 2))
+
+-- the lowest set place of m, where s is odd
+abbrev pub first : ℕ → ℕ → ℕ → ℕ
+first k s m = lowest k m * (s % 2)
+
+or_twice : (a b : ℕ) → bit_or (a * 2) (b * 2) ≡ bit_or a b * 2
+or_twice a b = grind (arith, or_step)
+
+or_lowest : (d b : ℕ) → d < 2 → bit_or (1 * d) (b * 2) ≡ b * 2 + d
+or_lowest d b h = grind (arith, or_step)
+
+pub deposit_step : (k s m : ℕ) → m < 2 ^ k → deposit k s m ≡ bit_or (first k s m) (deposit k (s / 2) (cleared m))
+unfolding deposit
+deposit_step zero s m fits = grind (arith, or_zero_r, zero-mul)
+deposit_step (suc k) s m fits = by (deposit_step k s (m / 2) (omega (arith, pow-suc 2 k))) (parity m)
+  where
+    by : (deposit k s (m / 2) ≡ bit_or (first k s (m / 2)) (deposit k (s / 2) (cleared (m / 2)))) → (m % 2 ≡ 0) ⊎ (m % 2 ≡ 1) → deposit (suc k) s m ≡ bit_or (first (suc k) s m) (deposit (suc k) (s / 2) (cleared m))
+    by half (inl even) =
+        let c : cleared m / 2 ≡ cleared (m / 2) = omega (arith, cleared-even m even) in
+        let rest : deposit (suc k) (s / 2) (cleared m) ≡ deposit k (s / 2) (cleared (m / 2)) * 2 =
+        deposit-even k (s / 2) (cleared m) (omega (arith, cleared-even m even)) ∙ ap (λ x. deposit k (s / 2) x * 2) c in
+        let lead : first (suc k) s m ≡ first k s (m / 2) * 2 = ap (λ x. x * (s % 2)) (lowest-even k m fits even) ∙ mul_right_comm _ 2 (s % 2) in
+        deposit-even k s m even ∙ ap (λ x. x * 2) half
+        ∙ sym (ap₂ bit_or lead rest ∙ or_twice _ _)
+    by half (inr odd) =
+        let c : cleared m / 2 ≡ m / 2 = omega (arith, cleared-odd m odd) in
+        let rest : deposit (suc k) (s / 2) (cleared m) ≡ deposit k (s / 2) (m / 2) * 2 =
+        deposit-even k (s / 2) (cleared m) (omega (arith, cleared-odd m odd)) ∙ ap (λ x. deposit k (s / 2) x * 2) c in
+        let lead : first (suc k) s m ≡ 1 * (s % 2) = ap (λ x. x * (s % 2)) (lowest-odd k m fits odd) in
+        deposit-odd k s m odd ∙ sym (ap₂ bit_or lead rest ∙ or_lowest (s % 2) (deposit k (s / 2) (m / 2)) (omega arith))
+
+or_assoc : (a b c : ℕ) → bit_or (bit_or a b) c ≡ bit_or a (bit_or b c)
+or_assoc a b c =
+    same_from_bits _ _ (λ i. omega (arith, bit_at_or (bit_or a b) c i, bit_at_or a b i, bit_at_or a (bit_or b c) i, bit_at_or b c i))
+
+-- what the code computes for `x & -(s & 1)`, where `neg` is the negative of s's lowest bit
+pub masked : (x s neg : ℕ) → x < 2 ^ 64 → neg < 2 ^ 64 → (neg + bit_and s 1) % 2 ^ 64 ≡ 0 → bit_and x neg ≡ x * (s % 2)
+masked x s neg fits small e = by (parity s)
+  where
+    low : bit_and s 1 ≡ s % 2
+    low = and_mask s 1
+
+    by : (s % 2 ≡ 0) ⊎ (s % 2 ≡ 1) → bit_and x neg ≡ x * (s % 2)
+    by (inl even) =
+        let n : neg ≡ 0 = omega (arith, low) in
+        ap (bit_and x) n ∙ and_zero_r x ∙ sym (mul-zero x) ∙ ap (λ d. x * d) (sym even)
+    by (inr odd) =
+        let n : neg ≡ 2 ^ 64 - 1 = omega (arith, low) in
+        let all : x % 2 ^ 64 ≡ x = omega arith in
+        ap (bit_and x) n ∙ and_mask x 64 ∙ all ∙ sym (mul-one x) ∙ ap (λ d. x * d) (sym odd)
+
+-- `m & (m - 1)`, where the difference wraps
+pub cleared_word : (m : ℕ) → m < 2 ^ 64 → bit_and m ((m + (2 ^ 64 - 1)) % 2 ^ 64) ≡ cleared m
+cleared_word m fits = by (cases_lt 0 m)
+  where
+    by : (0 < m) ⊎ (m ≤ 0) → bit_and m ((m + (2 ^ 64 - 1)) % 2 ^ 64) ≡ cleared m
+    by (inl some) = let less : (m + (2 ^ 64 - 1)) % 2 ^ 64 ≡ m - 1 = omega arith in ap (bit_and m) less
+    by (inr none) = let z : m ≡ 0 = omega arith in ap (λ x. bit_and x ((m + (2 ^ 64 - 1)) % 2 ^ 64)) z ∙ sym (ap (λ x. bit_and x (m - 1)) z)
+
+-- the lowest set place is what the others leave
+pub left_of : (m : ℕ) → m < 2 ^ 64 → m - cleared m ≡ lowest 64 m
+left_of m fits = omega (arith, lowest_sum 64 m fits)
+
+-- one turn of the loop
+pub turn : (r s m t : ℕ) → m < 2 ^ 64 → bit_or r (deposit 64 s m) ≡ t → bit_or (bit_or r ((m - cleared m) * (s % 2))) (deposit 64 (s / 2) (cleared m)) ≡ t
+turn r s m t fits h =
+    or_assoc r _ _ ∙ ap (λ x. bit_or r (bit_or (x * (s % 2)) (deposit 64 (s / 2) (cleared m)))) (left_of m fits) ∙ ap (bit_or r) (sym (deposit_step 64 s m fits)) ∙ h
+
+-- of two set places none is left without the lowest and the one above it
+pub none_left : (m : ℕ) → m < 2 ^ 64 → count_ones m ≤ 2 → cleared (cleared m) ≡ 0
+none_left m fits few =
+    let small : cleared m < 2 ^ 64 = lt_of_le_of_lt (and_le_l m (m - 1)) fits in
+    zero_from_ones _ (omega (arith, ones-cleared_le 64 m fits, ones-cleared_le 64 (cleared m) small))
+
+pub two_lowest : (s m : ℕ) → m < 2 ^ 64 → count_ones m ≤ 2 → bit_or ((m - cleared m) * (s % 2)) (cleared m * (s / 2 % 2)) ≡ deposit 64 s m
+two_lowest s m fits few =
+    let small : cleared m < 2 ^ 64 = lt_of_le_of_lt (and_le_l m (m - 1)) fits in
+    let none : cleared (cleared m) ≡ 0 = none_left m fits few in
+    let alone : cleared m ≡ lowest 64 (cleared m) = omega (arith, lowest_sum 64 (cleared m) small) in
+    let last : deposit 64 (s / 2) (cleared m) ≡ first 64 (s / 2) (cleared m) =
+    deposit_step 64 (s / 2) (cleared m) small ∙ ap (bit_or (first 64 (s / 2) (cleared m))) (ap (deposit 64 (s / 2 / 2)) none ∙ deposit-zero 64 (s / 2 / 2)) ∙ or_zero_r _ in
+    ap₂ bit_or (ap (λ x. x * (s % 2)) (left_of m fits)) (ap (λ x. x * (s / 2 % 2)) alone ∙ sym last) ∙ sym (deposit_step 64 s m fits)

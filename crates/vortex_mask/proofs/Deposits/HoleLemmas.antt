@@ -1,0 +1,123 @@
+-- A source that makes room for the clear places of a mask, the lowest first.
+use Rattle.std.proofs.Common.{◌≡◌, ℕ, zero, suc, ◌+◌, ◌-◌, ◌*◌, ◌/◌, ◌%◌, ◌^◌, ◌<◌, ◌≤◌, ◌⊎◌, inl, inr, refl, sym, ap, ap₂, ◌∙◌, arith, pow-suc, bit_and, count_ones, lt_of_le_of_lt, mul_assoc, mul_comm}
+use Rattle.std.proofs.Math.Nat.{div-div-eq-div-mul}
+use Rattle.std.proofs.lemmas.Nat.{pow_pos, shr_split, pow_below, and_comm, and_mask, and-not, and_le_l, ones-le}
+use lib.Arith.{mod-mul}
+use lib.Count.{ones_step}
+use Rattle.vortex_mask.proofs.Deposits.SetPlaceLemmas.{parity, cleared, lowest, lowest-odd, lowest-even, lowest_sum}
+use Rattle.vortex_mask.proofs.Deposits.DepositLemmas.{deposit, deposit-odd, deposit-even, left_of, none_left}
+
+-- the clear places of a number of k bits
+abbrev pub clear : ℕ → ℕ → ℕ
+clear k m = 2 ^ k - 1 - m
+
+ones-clear : (k m : ℕ) → m < 2 ^ k → count_ones (clear k m) + count_ones m ≡ k
+ones-clear zero m fits = omega (arith, ones-le 0 m fits, ones-le 0 (clear 0 m) (omega arith))
+ones-clear (suc k) m fits =
+    let half : clear (suc k) m / 2 ≡ clear k (m / 2) = omega (arith, pow-suc 2 k) in
+    omega (arith, ones_step m, ones_step (clear (suc k) m), ap count_ones half, ones-clear k (m / 2) (omega (arith, pow-suc 2 k)), pow-suc 2 k)
+
+-- the source with its bits from a hole on moved up by one
+abbrev pub opened : ℕ → ℕ → ℕ
+opened s hole = s + s / hole * hole
+
+-- where the lowest hole is filled, a source with room there deposits the same
+fill : (k s m : ℕ) → m < 2 ^ k → deposit k (opened s (lowest k (clear k m))) (m + lowest k (clear k m)) ≡ deposit k s m
+unfolding deposit
+fill zero s m fits = refl
+fill (suc k) s m fits = by (fill k (s / 2) (m / 2) (omega (arith, pow-suc 2 k))) (parity m)
+  where
+    half : clear (suc k) m / 2 ≡ clear k (m / 2)
+    half = omega (arith, pow-suc 2 k)
+
+    inside : clear (suc k) m < 2 ^ suc k
+    inside = omega (arith, pow_pos (suc k))
+
+    by : deposit k (opened (s / 2) (lowest k (clear k (m / 2)))) (m / 2 + lowest k (clear k (m / 2))) ≡ deposit k (s / 2) (m / 2) → (m % 2 ≡ 0) ⊎ (m % 2 ≡ 1)
+        → deposit (suc k) (opened s (lowest (suc k) (clear (suc k) m))) (m + lowest (suc k) (clear (suc k) m)) ≡ deposit (suc k) s m
+    by rest (inl even) =
+        let one : lowest (suc k) (clear (suc k) m) ≡ 1 = lowest-odd k (clear (suc k) m) inside (omega (arith, pow-suc 2 k)) in
+        let source : opened s 1 / 2 ≡ s = omega arith in
+        let mask : (m + 1) / 2 ≡ m / 2 = omega arith in
+        ap (λ x. deposit (suc k) (opened s x) (m + x)) one ∙ omega (arith, deposit-odd k (opened s 1) (m + 1) (omega arith), ap₂ (deposit k) source mask, deposit-even k s m even)
+    by rest (inr odd) =
+        let hole = lowest k (clear k (m / 2)) in
+        let twice : lowest (suc k) (clear (suc k) m) ≡ hole * 2 = lowest-even k (clear (suc k) m) inside (omega (arith, pow-suc 2 k)) ∙ ap (λ x. lowest k x * 2) half in
+        let moved : s / (hole * 2) * (hole * 2) ≡ s / 2 / hole * hole * 2
+        = ap (λ x. x * (hole * 2)) (ap (λ x. s / x) (mul_comm hole 2) ∙ sym (div-div-eq-div-mul s 2 hole)) ∙ sym (mul_assoc (s / 2 / hole) hole 2) in
+        let source : opened s (hole * 2) / 2 ≡ opened (s / 2) hole = omega (arith, moved) in
+        let mask : (m + hole * 2) / 2 ≡ m / 2 + hole = omega arith in
+        ap (λ x. deposit (suc k) (opened s x) (m + x)) twice
+        ∙ omega (arith, moved, deposit-odd k (opened s (hole * 2)) (m + hole * 2) (omega arith), ap₂ (deposit k) source mask, rest, deposit-odd k s m odd)
+
+-- ---- k bits of a source
+
+low_bits : (k s : ℕ) → s % 2 ^ suc k ≡ s / 2 % 2 ^ k * 2 + s % 2
+low_bits k s = ap (λ x. s % x) (pow-suc 2 k) ∙ mod-mul s (pow_pos k) (pow_pos 1)
+
+-- no more of them are deposited at k places
+deposit-low : (k n s m : ℕ) → k ≤ n → deposit k (s % 2 ^ n) m ≡ deposit k s m
+unfolding deposit
+deposit-low zero n s m h = refl
+deposit-low (suc k) zero s m h = absurd (omega arith)
+deposit-low (suc k) (suc n) s m h =
+    let half : s % 2 ^ suc n / 2 ≡ s / 2 % 2 ^ n = omega (arith, low_bits n s) in
+    elim (parity m) [
+      | inl even ↦ omega (arith, deposit-even k (s % 2 ^ suc n) m even, deposit-even k s m even, deposit-low k (suc n) s (m / 2) (omega arith))
+      | inr odd ↦ omega (arith, low_bits n s, deposit-odd k (s % 2 ^ suc n) m odd, deposit-odd k s m odd, ap (λ x. deposit k x (m / 2)) half, deposit-low k n (s / 2) (m / 2) (omega arith))
+    ]
+
+-- and all of them where no place is clear
+pub deposit-all : (k s : ℕ) → deposit k s (2 ^ k - 1) ≡ s % 2 ^ k
+unfolding deposit
+deposit-all zero s = omega arith
+deposit-all (suc k) s =
+    let half : (2 ^ suc k - 1) / 2 ≡ 2 ^ k - 1 = omega (arith, pow-suc 2 k, pow_pos k) in
+    omega (arith, low_bits k s, deposit-odd k s (2 ^ suc k - 1) (omega (arith, pow-suc 2 k, pow_pos k)), ap (deposit k (s / 2)) half, deposit-all k (s / 2))
+
+-- ---- what the code computes
+
+-- t is s with room at a hole, which is a place, or 0 for none
+abbrev pub Opens : ℕ → ℕ → ℕ → Type 0
+Opens s hole t = ((p : ℕ) → p < 64 → hole ≡ 2 ^ p → t ≡ opened s hole % 2 ^ 64) × (hole ≡ 0 → t ≡ s)
+
+lowest_cases : (k m : ℕ) → m < 2 ^ k → (lowest k m ≡ 0) ⊎ ((p : ℕ) × (p < k) × (lowest k m ≡ 2 ^ p))
+lowest_cases zero m fits = let none : m ≡ 0 = omega arith in inl (ap (lowest 0) none)
+lowest_cases (suc k) m fits = elim (parity m) [
+  | inl even ↦ elim (lowest_cases k (m / 2) (omega (arith, pow-suc 2 k))) [
+    | inl none ↦ inl (lowest-even k m fits even ∙ ap (λ x. x * 2) none)
+    | inr some ↦ inr (suc some.0, omega (arith, some.1), lowest-even k m fits even ∙ ap (λ x. x * 2) some.2 ∙ sym (pow-suc 2 some.0))
+  ]
+  | inr odd ↦ inr (0, omega arith, lowest-odd k m fits odd)
+]
+
+opened-is : (s m hole t : ℕ) → s < 2 ^ 64 → m < 2 ^ 64 → hole ≡ lowest 64 m → Opens s hole t → t ≡ opened s hole % 2 ^ 64
+opened-is s m hole t small fits is opens = elim (lowest_cases 64 m fits) [
+  | inl none ↦ let zero_hole : hole ≡ 0 = is ∙ none in opens.1 zero_hole ∙ sym (ap (λ x. (s + s / x * x) % 2 ^ 64) zero_hole ∙ omega arith)
+  | inr some ↦ opens.0 some.0 some.1 (is ∙ some.2)
+]
+
+-- the bits from p on, as the negative of place p keeps them
+pub kept_from : (t p neg : ℕ) → p < 64 → t < 2 ^ 64 → neg < 2 ^ 64 → (neg + 2 ^ p) % 2 ^ 64 ≡ 0 → bit_and t neg ≡ t / 2 ^ p * 2 ^ p
+kept_from t p neg inside fits small e =
+    let low : 2 ^ p - 1 < 2 ^ 64 = omega (arith, pow_below p 64 inside) in
+    let is : neg ≡ clear 64 (2 ^ p - 1) = omega (arith, pow_pos p, pow_below p 64 inside) in
+    ap (bit_and t) is ∙ and_comm t _ ∙ omega (arith, and-not 64 (2 ^ p - 1) t low fits, and_comm (2 ^ p - 1) t, and_mask t p, shr_split t p)
+
+pub two_holes : (s m one other t r : ℕ) → s < 2 ^ 64 → m < 2 ^ 64 → 62 ≤ count_ones m → one ≡ clear 64 m - cleared (clear 64 m) → other ≡ cleared (clear 64 m)
+    → t < 2 ^ 64 → Opens s one t → Opens t other r → r ≡ deposit 64 s m
+two_holes s m one other t r small fits many is_one is_other inside first second =
+    let holes : ℕ = clear 64 m in
+    let all : holes < 2 ^ 64 = omega arith in
+    let less : cleared holes < 2 ^ 64 = lt_of_le_of_lt (and_le_l holes (holes - 1)) all in
+    let none = none_left holes all (omega (arith, ones-clear 64 m fits)) in
+    let lone : one ≡ lowest 64 holes = is_one ∙ left_of holes all in
+    let alone : other ≡ lowest 64 (cleared holes) = omega (arith, lowest_sum 64 (cleared holes) less) in
+    let rest : clear 64 (m + one) ≡ cleared holes = omega (arith, lowest_sum 64 holes all) in
+    let last : lowest 64 (clear 64 (m + one)) ≡ other = ap (lowest 64) rest ∙ sym alone in
+    let full : m + one + other ≡ 2 ^ 64 - 1 = omega (arith, lowest_sum 64 holes all) in
+    let again : deposit 64 (opened t other) (2 ^ 64 - 1) ≡ deposit 64 t (m + one)
+    = ap (deposit 64 (opened t other)) (sym full) ∙ sym (ap (λ x. deposit 64 (opened t x) (m + one + x)) last) ∙ fill 64 t (m + one) (omega (arith, lowest_sum 64 holes all)) in
+    opened-is t (cleared holes) other r inside less alone second ∙ sym (deposit-all 64 (opened t other)) ∙ again
+    ∙ ap (λ x. deposit 64 x (m + one)) (opened-is s holes one t small all lone first) ∙ deposit-low 64 64 (opened s one) (m + one) (omega arith)
+    ∙ ap (λ x. deposit 64 (opened s x) (m + x)) lone ∙ fill 64 s m fits

@@ -1,0 +1,182 @@
+-- The network on one byte, computed at each of the 256 mask bytes and, for the way back, at each source byte too.
+use Rattle.std.proofs.Common.{◌≡◌, ℕ, zero, suc, ◌+◌, ◌-◌, ◌*◌, ◌/◌, ◌%◌, ◌^◌, ◌<◌, ◌≤◌, Bool, true, false, ◌&&◌, T, eqb, refl, ap, ◌∙◌, subst, arith, bit_and, bit_xor, eq-zero-or-pos, inl, inr, eqb→eq, ltb→lt, ltb, count_ones, pow-suc, sym}
+use Rattle.std.proofs.lemmas.Nat.{ones-le, one_shl, pow_below}
+use lib.Count.{ones_step}
+use Rattle.vortex_mask.specs.Bytes.{halves_summed, clear_below, place_after, packed_after, landed_in, odd_places, moved_down, with_moved, halved, zeros_before, moved_up}
+use Rattle.vortex_mask.proofs.Deposits.DepositLemmas.{deposit}
+
+-- ---- a test of each number below one
+
+abbrev pub all_below : (ℕ → Bool) → ℕ → Bool
+all_below p zero = true
+all_below p (suc n) = p n && all_below p n
+
+and_l : (a b : Bool) → T (a && b) → T a
+and_l true b h = tt
+and_l false b h = absurd h
+
+and_r : (a b : Bool) → T (a && b) → T b
+and_r true b h = h
+and_r false b h = absurd h
+
+pub every_below : (p : ℕ → Bool) (n : ℕ) → T (all_below p n) → (i : ℕ) → i < n → T (p i)
+every_below p zero h i l = absurd (omega arith)
+every_below p (suc n) h i l =
+    elim (eq-zero-or-pos (n - i)) [
+      | inl z ↦ let e : n ≡ i = omega arith in subst (λ x. T (p x)) e (and_l _ _ h)
+      | inr g ↦ every_below p n (and_r (p n) _ h) i (omega arith)
+    ]
+
+-- two functions that agree at each number below n and each byte
+agree : (n : ℕ) (f g : ℕ → ℕ → ℕ) (s b : ℕ) → T (all_below (λ t. all_below (λ x. eqb (f t x) (g t x)) 256) n) → s < n → b < 256 → f s b ≡ g s b
+agree n f g s b h hs hb =
+    eqb→eq _ _ (every_below (λ x. eqb (f s x) (g s x)) 256 (every_below (λ t. all_below (λ x. eqb (f t x) (g t x)) 256) n h s hs) b hb)
+
+-- ---- what a shift leaves of a byte
+
+-- shifted down it is within what `255 >> s` keeps
+pub kept_down : (s b : ℕ) → s < 8 → b < 256 → bit_and (b / 2 ^ s) (255 / 2 ^ s) ≡ b / 2 ^ s
+kept_down s b hs hb = agree 8 (λ t x. bit_and (x / 2 ^ t) (255 / 2 ^ t)) (λ t x. x / 2 ^ t) s b tt hs hb
+
+-- and shifted up within what `255 << s` keeps
+pub kept_up : (s b : ℕ) → s < 8 → b < 256 → bit_and (b * 2 ^ s % 2 ^ 8) (255 * 2 ^ s % 2 ^ 8) ≡ b * 2 ^ s % 2 ^ 8
+kept_up s b hs hb = agree 8 (λ t x. bit_and (x * 2 ^ t % 2 ^ 8) (255 * 2 ^ t % 2 ^ 8)) (λ t x. x * 2 ^ t % 2 ^ 8) s b tt hs hb
+
+-- `255 << s` has no bit below s
+low_clear : T (all_below (λ s. eqb (255 * 2 ^ s % 2 ^ 8 % 2 ^ s) 0) 8)
+low_clear = tt
+
+pub none_low : (s : ℕ) → s < 8 → 255 * 2 ^ s % 2 ^ 8 % 2 ^ s ≡ 0
+none_low s h = eqb→eq _ _ (every_below (λ i. eqb (255 * 2 ^ i % 2 ^ 8 % 2 ^ i) 0) 8 low_clear s h)
+
+-- ---- the count of a byte's set bits, by halves
+
+-- the set bits among the k lowest
+unfoldable ones_among : ℕ → ℕ → ℕ
+ones_among zero n = 0
+ones_among (suc k) n = n % 2 + ones_among k (n / 2)
+
+ones_among-is : (k n : ℕ) → n < 2 ^ k → ones_among k n ≡ count_ones n
+unfolding ones_among
+ones_among-is zero n h = omega (arith, ones-le 0 n h)
+ones_among-is (suc k) n h = omega (arith, ones_step n, ones_among-is k (n / 2) (omega (arith, pow-suc 2 k)))
+
+-- the byte's bits, summed by two, by four and by eight
+abbrev halved_thrice : ℕ → ℕ
+halved_thrice b = halves_summed 4 0x0F (halves_summed 2 0x33 (halves_summed 1 0x55 b))
+
+counted : T (all_below (λ b. eqb (halved_thrice b) (ones_among 8 b)) 256)
+unfolding ones_among
+counted = tt
+
+pub count_by_halves : (b : ℕ) → b < 256 → halves_summed 4 0x0F (halves_summed 2 0x33 (halves_summed 1 0x55 b)) ≡ count_ones b
+count_by_halves b h = eqb→eq _ _ (every_below (λ x. eqb (halved_thrice x) (ones_among 8 x)) 256 counted b h) ∙ ones_among-is 8 b h
+
+-- ---- the parity of the zeros, by doublings
+
+-- `b ^ (b << step)` within the byte
+abbrev pub xored_up : ℕ → ℕ → ℕ
+xored_up step b = bit_xor b (b * 2 ^ step % 2 ^ 8)
+
+-- n doublings, the first by 2 ^ from
+unfoldable pub doubled : ℕ → ℕ → ℕ → ℕ
+doubled zero from b = b
+doubled (suc n) from b = doubled n (from + 1) (xored_up (2 ^ from) b)
+
+pub doubled-more : (s b : ℕ) → s < 3 → doubled (3 - s) s b ≡ doubled (3 - (s + 1)) (s + 1) (xored_up (2 ^ s) b)
+unfolding doubled
+doubled-more s b h = let e : 3 - s ≡ suc (3 - (s + 1)) = omega arith in ap (λ n. doubled n s b) e
+
+pub doubled-all : (s b : ℕ) → 3 ≤ s → doubled (3 - s) s b ≡ b
+unfolding doubled
+doubled-all s b h = let e : 3 - s ≡ 0 = omega arith in ap (λ n. doubled n s b) e
+
+parities : T (all_below (λ t. all_below (λ x. eqb (doubled (3 - t) t x) (odd_places (2 ^ t) x)) 256) 3)
+unfolding doubled odd_places
+parities = tt
+
+pub doubled-is : (s b : ℕ) → s < 3 → b < 256 → doubled (3 - s) s b ≡ odd_places (2 ^ s) b
+doubled-is s b hs hb = agree 3 (λ t x. doubled (3 - t) t x) (λ t x. odd_places (2 ^ t) x) s b parities hs hb
+
+-- the code's `1 << s`
+pub shift_is : (s : ℕ) → s < 3 → 1 * 2 ^ s % 2 ^ 32 ≡ 2 ^ s
+shift_is s h = one_shl s 32 (omega arith)
+
+pub shift_small : (s : ℕ) → s < 3 → 2 ^ s < 8
+shift_small s h = pow_below s 3 h
+
+-- ---- what each stage leaves
+
+pub zeros_before-zero : (m : ℕ) → zeros_before 0 m ≡ 255 - m
+unfolding zeros_before
+zeros_before-zero m = refl
+
+pub zeros_before-more : (s m : ℕ) → zeros_before (s + 1) m ≡ halved (2 ^ s) (zeros_before s m) (odd_places (2 ^ s) (zeros_before s m))
+unfolding zeros_before
+zeros_before-more s m = let e : s + 1 ≡ suc s = omega arith in ap (λ n. zeros_before n m) e
+
+none_moved : T (all_below (λ m. eqb (packed_after 0 m) m) 256)
+unfolding packed_after place_after clear_below
+none_moved = tt
+
+pub packed_after-zero : (m : ℕ) → m < 256 → packed_after 0 m ≡ m
+packed_after-zero m h = eqb→eq _ _ (every_below (λ x. eqb (packed_after 0 x) x) 256 none_moved m h)
+
+packings : T (all_below (λ t. all_below (λ x. eqb (with_moved (2 ^ t) (packed_after t x) (odd_places (2 ^ t) (zeros_before t x))) (packed_after (t + 1) x)) 256) 3)
+unfolding with_moved moved_down packed_after place_after clear_below odd_places zeros_before halved
+packings = tt
+
+pub packed_after-more : (s m : ℕ) → s < 3 → m < 256 → with_moved (2 ^ s) (packed_after s m) (odd_places (2 ^ s) (zeros_before s m)) ≡ packed_after (s + 1) m
+packed_after-more s m hs hm = agree 3 (λ t x. with_moved (2 ^ t) (packed_after t x) (odd_places (2 ^ t) (zeros_before t x))) (λ t x. packed_after (t + 1) x) s m packings hs hm
+
+landings : T (all_below (λ t. all_below (λ x. eqb (moved_down (2 ^ t) (packed_after t x) (odd_places (2 ^ t) (zeros_before t x))) (landed_in t x)) 256) 3)
+unfolding moved_down landed_in packed_after place_after clear_below odd_places zeros_before halved
+landings = tt
+
+pub landed_in-is : (s m : ℕ) → s < 3 → m < 256 → moved_down (2 ^ s) (packed_after s m) (odd_places (2 ^ s) (zeros_before s m)) ≡ landed_in s m
+landed_in-is s m hs hm = agree 3 (λ t x. moved_down (2 ^ t) (packed_after t x) (odd_places (2 ^ t) (zeros_before t x))) landed_in s m landings hs hm
+
+-- a stage takes what the ones before it left
+pub stage : (s m packed zeros : ℕ) → s < 3 → m < 256 → packed ≡ packed_after s m → zeros ≡ zeros_before s m
+    → (with_moved (2 ^ s) packed (odd_places (2 ^ s) zeros) ≡ packed_after (s + 1) m) × (halved (2 ^ s) zeros (odd_places (2 ^ s) zeros) ≡ zeros_before (s + 1) m) × (moved_down (2 ^ s) packed (odd_places (2 ^ s) zeros) ≡ landed_in s m)
+stage s m packed zeros h fits p z = rw (p, z) (packed_after-more s m h fits, sym (zeros_before-more s m), landed_in-is s m h fits)
+
+-- a byte's bits end as its lowest ones
+full : T (all_below (λ m. eqb (packed_after 3 m) (2 ^ ones_among 8 m - 1)) 256)
+unfolding ones_among packed_after place_after clear_below
+full = tt
+
+pub packed_after-full : (m : ℕ) → m < 256 → packed_after 3 m ≡ 2 ^ count_ones m - 1
+packed_after-full m h = eqb→eq _ _ (every_below (λ x. eqb (packed_after 3 x) (2 ^ ones_among 8 x - 1)) 256 full m h) ∙ ap (λ n. 2 ^ n - 1) (ones_among-is 8 m h)
+
+-- where the moved bits land, they leave room for their way back
+small : T (all_below (λ s. all_below (λ m. ltb (landed_in s m) (2 ^ (8 - 2 ^ s))) 256) 3)
+unfolding landed_in place_after clear_below
+small = tt
+
+pub landed_in-lt : (s m : ℕ) → s < 3 → m < 256 → landed_in s m < 2 ^ (8 - 2 ^ s)
+landed_in-lt s m hs hm =
+    ltb→lt _ _ (every_below (λ x. ltb (landed_in s x) (2 ^ (8 - 2 ^ s))) 256 (every_below (λ r. all_below (λ x. ltb (landed_in r x) (2 ^ (8 - 2 ^ r))) 256) 3 small s hs) m hm)
+
+-- ---- the way back
+
+back_by : ℕ → ℕ → ℕ → ℕ → ℕ → ℕ
+unfolding moved_up
+back_by l0 l1 l2 p b = moved_up 1 l0 (moved_up 2 l1 (moved_up 4 l2 (bit_and b p)))
+
+-- the mask's part of the work is done once for its 256 source bytes
+row : ℕ → ℕ → ℕ → ℕ → ℕ → Bool
+row l0 l1 l2 p m = all_below (λ b. eqb (back_by l0 l1 l2 p b) (deposit 8 b m)) 256
+
+table : ℕ → Bool
+table m = row (landed_in 0 m) (landed_in 1 m) (landed_in 2 m) (packed_after 3 m) m
+
+computed : T (all_below table 256)
+unfolding table row back_by moved_up deposit landed_in packed_after place_after clear_below
+computed = tt
+
+-- the source byte b, of which the lowest bits are taken, through the stages back to its places
+pub moved_back : (m b : ℕ) → m < 256 → b < 256 → moved_up 1 (landed_in 0 m) (moved_up 2 (landed_in 1 m) (moved_up 4 (landed_in 2 m) (bit_and b (packed_after 3 m)))) ≡ deposit 8 b m
+unfolding table row back_by
+moved_back m b hm hb =
+    eqb→eq _ _ (every_below (λ x. eqb (back_by (landed_in 0 m) (landed_in 1 m) (landed_in 2 m) (packed_after 3 m) x) (deposit 8 x m)) 256 (every_below table 256 computed m hm) b hb)

@@ -1,0 +1,7 @@
+-- Lemmas on the kernels and on the path that is taken.
+pub mod DepositListLemmas
+pub mod DrivenLemmas
+pub mod PathLemmas
+pub mod RankRunLemmas
+pub mod RankWordLemmas
+pub mod WordKernelLemmas

@@ -1,0 +1,142 @@
+-- The kernel that goes by ranks: words that are read in turn, the places found in them, and the run of calls that gave the ranks.
+use Rattle.std.proofs.Common.{◌≡◌, ℕ, ◌+◌, ◌-◌, ◌*◌, ◌/◌, ◌^◌, ◌<◌, ◌≤◌, ◌%◌, Bool, List, [], ◌∷◌, ◌++◌, length, take, get_or, sym, subst, ap, ap₂, ◌∙◌, arith, count_ones, slice_get}
+use Rattle.std.proofs.Math.Seq.{get_or-append_seam}
+use Rattle.std.proofs.iter.runs.Made.{run_of_turn, run_of_exit, took}
+use Rattle.std.proofs.lemmas.List.{take_all, map-append, length-append, get_or_append_left}
+use Rattle.std.proofs.lemmas.List.Sums.{sum_by_push}
+use Rattle.std.proofs.lemmas.Nat.{ones-le}
+use Rattle.std.proofs.lemmas.Option.{slice_get-get_or, get_or_from_slice_get}
+use Rattle.std.specs.Iterator.{Yields, Drains}
+use Rattle.std.specs.Iterator.Runs.{EachRunFrom, WholeRun}
+use Rattle.std.specs.List.{All, sum_by}
+use Rattle.std.specs.List.Sorted.{IsStrictlyIncreasing}
+use Rattle.std.specs.declared.option.Option.{Option}
+use Rattle.std.specs.declared.option.Option.TheVariants.{Some, None}
+use Rattle.mask_bits.specs.Positions.{positions, count, true_at, at_places}
+use Rattle.mask_bits.specs.Words.{word_bits, word_part, padded_part, padded_remainder}
+use Rattle.mask_bits.proofs.Lists.Places.AscendingLemmas.{positions-true_at, positions-ascending}
+use Rattle.mask_bits.proofs.Lists.Places.PlaceLemmas.{count-le-length, positions-within}
+use Rattle.mask_bits.proofs.Lists.RankLemmas.{length-true_at, All-at_places}
+use Rattle.mask_bits.proofs.Lists.Places.SelectLemmas.{count-word_more, place_in_word}
+use Rattle.mask_bits.proofs.Lists.Words.WordLemmas.{count-word_bits}
+use Rattle.vortex_mask.specs.Deposit.{selected}
+use Rattle.vortex_mask.specs.Ranks.{AreRanks, HasRead}
+use Rattle.vortex_mask.specs.Steps.{StepCounts, no_steps}
+use Rattle.vortex_mask.proofs.Masks.PlaceListLemmas.{at_places-ascending}
+use Rattle.vortex_mask.proofs.Kernels.WordKernelLemmas.{word-started}
+
+-- where a true value stands past the words read, there is a further word
+pub more-words : (m : List Bool) (n w before rank : ℕ) → HasRead m n w before → before + count_ones w ≤ rank → rank < count m → 64 * n < length m
+more-words m n w before rank read passed there = grind (arith, read.counted, take_all)
+
+-- and it is read
+pub read-more : (m : List Bool) (n w before next end : ℕ) → HasRead m n w before → 64 * n < length m → end ≡ before + count_ones w → next < 2 ^ 64
+    → (n < length m / 64 → word_bits next ≡ word_part m n) → (n ≡ length m / 64 → word_bits next ≡ padded_remainder m) → HasRead m (n + 1) next end
+read-more m n w before next end read more ends fits whole last = grind (arith, count-word_bits, count-word_more, word-started)
+
+-- a word in which a value is found has been read
+some-word : (m : List Bool) (n w before rank : ℕ) → HasRead m n w before → before ≤ rank → rank < before + count_ones w → 0 < n
+some-word m n w before rank read reached inside = grind (arith, read.counted)
+
+-- the place of a value that is in the last word
+pub place-found : (m : List Bool) (n w before rank p : ℕ) → HasRead m n w before → w < 2 ^ 64 → before ≤ rank → rank < before + count_ones w → p ≡ selected w (rank - before)
+    → slice_get (positions m) rank ≡ Some (64 * (n - 1) + p)
+place-found m n w before rank p read fits reached inside is =
+    let r : ℕ = rank - before in
+    let some : 0 < n = grind (arith, read.counted) in
+    let again : n - 1 + 1 ≡ n = omega arith in
+    let shows : word_bits w ≡ padded_part m (n - 1) = read.last some in
+    let front : before ≡ count (take (64 * (n - 1)) m)
+    = omega (arith, read.counted, ap (λ k. count (take (64 * k) m)) again, count-word_more m (n - 1), ap count shows, count-word_bits w fits) in
+    place_in_word m (n - 1) rank r p (omega (arith, read.within)) (omega arith) (omega (arith, ap count shows, count-word_bits w fits))
+    (rw (← shows) (slice_get-get_or (positions (word_bits w)) r 0 (omega (arith, count-word_bits w fits)) ∙ ap Some (sym is)))
+
+-- ---- ranks as an iterator gives them
+
+-- no more ascending numbers than the number that they are all below
+pub ascending-few : (top : ℕ) (ps : List ℕ) → IsStrictlyIncreasing ps → All (λ p. p < top) ps → length ps ≤ top
+ascending-few top ps ascending within =
+    omega (arith, ap length (positions-true_at top ps ascending within), count-le-length (true_at top ps), length-true_at top ps)
+
+-- what is not above the last is not above the next
+pub not-above-next : (xs : List ℕ) (x n : ℕ) → IsStrictlyIncreasing (xs ++ x ∷ []) → n ≤ get_or xs (length xs - 1) 0 → n ≤ x
+not-above-next [] x n ascending h = omega (arith, h)
+not-above-next (y ∷ ys) x n ascending h = grind (arith, ascending (length ys), length-append, get_or_append_left (y ∷ ys) (x ∷ []) 0 (length ys), get_or-append_seam (y ∷ ys) x [] 0)
+
+module _ {S : Type 0} (steps : S → Option ℕ → S → Type 0) (s : S) (top n : ℕ) (ranks : EachRunFrom steps s (AreRanks top n)) (it : S) (same : it ≡ s) (xs : List ℕ) (t : S) (ran : Yields steps it xs t) where
+  -- the ranks so far, and the next one
+  pub ranks-at_turn : (x : ℕ) (u : S) → steps t (Some x) u → IsStrictlyIncreasing (xs ++ x ∷ []) × All (λ k. k < top) (xs ++ x ∷ [])
+  ranks-at_turn x u step =
+      let k = run_of_turn steps s xs t (subst (λ i. Yields steps i xs t) same ran) x u step in
+      let h = ranks k.0 k.0.seen k.1 in
+      (subst IsStrictlyIncreasing k.2.0 h.0, subst (λ (ys : List ℕ). All (λ r. r < top) ys) k.2.0 h.1)
+
+  -- all ranks
+  pub ranks-at_exit : (u : S) → steps t None u → WholeRun steps s (λ p. p.items ≡ xs) × (length xs ≡ n)
+  ranks-at_exit u step =
+      let k = run_of_exit steps s xs t (subst (λ i. Yields steps i xs t) same ran) u step in
+      ((k.0, k.1, k.2, k.3.0), sym k.3.1 ∙ (ranks k.0 k.0.seen k.1).2 k.2)
+
+-- ---- the places found
+
+-- the words read, the places found for the ranks so far, and the steps
+pub record AreFound (m : List Bool) (ranks : List ℕ) (words word before : ℕ) (places : List ℕ) (steps : StepCounts) : Type 0 where
+  pub read : HasRead m words word before
+  pub reached : before ≤ get_or ranks (length ranks - 1) 0
+  pub found : places ≡ at_places (positions m) ranks
+  pub counted : steps ≡ record { deposits = 0; words = words; selections = length ranks; offered = 0; placed = 0; spots = sum_by (λ p. p % 64) places }
+
+pub nothing-found : (m : List Bool) (places : List ℕ) (steps : StepCounts) → places ≡ [] → steps ≡ no_steps → AreFound m [] 0 0 0 places steps
+nothing-found m places steps none zero = record {
+  read = record {
+    within = omega arith;
+    counted = omega (arith, ones-le 0 0 (omega arith));
+    last = λ some. absurd (omega arith);
+  };
+  reached = omega arith;
+  found = none;
+  counted = rw none zero;
+}
+
+pub found-more : (m : List Bool) (ranks : List ℕ) (x words word before more next passed : ℕ) (places new : List ℕ) (p : ℕ) (steps ticked : StepCounts)
+    → AreFound m ranks words word before places steps → slice_get (positions m) x ≡ Some p → HasRead m more next passed → passed ≤ x
+    → new ≡ places ++ p ∷ [] → ticked ≡ record steps { words = more; selections = steps.selections + 1; spots = steps.spots + p % 64 }
+    → AreFound m (ranks ++ x ∷ []) more next passed new ticked
+found-more m ranks x words word before more next passed places new p steps ticked so_far place read reached pushed counted =
+    let all : List ℕ = ranks ++ x ∷ [] in
+    let len = length-append ranks (x ∷ []) in
+    let last : length all - 1 ≡ length ranks = omega (arith, len) in
+    let longer : length ranks + 1 ≡ length all = omega (arith, len) in
+    let spots : sum_by (λ q. q % 64) places + p % 64 ≡ sum_by (λ q. q % 64) new
+    = sym (ap (sum_by (λ q. q % 64)) pushed ∙ sum_by_push (λ q. q % 64) places p) in
+    record {
+      read = read;
+      reached = omega (arith, reached, ap (λ k. get_or all k 0) last, get_or-append_seam ranks x [] 0);
+      found = pushed ∙ ap₂ (λ (ps : List ℕ) q. ps ++ q ∷ []) so_far.found (sym (get_or_from_slice_get (positions m) x p 0 place))
+          ∙ sym (map-append (λ k. get_or (positions m) k 0) ranks (x ∷ []));
+      counted = rw (counted, so_far.counted, longer, spots);
+    }
+
+-- the steps, once all n ranks have their places
+pub found-steps : (m : List Bool) (ranks : List ℕ) (words word before : ℕ) (places : List ℕ) (steps : StepCounts) (n : ℕ) → AreFound m ranks words word before places steps → length ranks ≡ n
+    → steps ≡ record { deposits = 0; words = steps.words; selections = n; offered = 0; placed = 0; spots = sum_by (λ p. p % 64) places }
+found-steps m ranks words word before places steps n all len = rw (all.counted, len)
+
+-- the places of all ranks ascend within the list
+module _ {S : Type 0} (steps : S → Option ℕ → S → Type 0) (s : S) (m : List Bool) (n : ℕ) (places : List ℕ) (ranks : EachRunFrom steps s (AreRanks (count m) n)) (run : WholeRun steps s (λ p. places ≡ at_places (positions m) p.items)) where
+  pub places-ascending : IsStrictlyIncreasing places
+  places-ascending =
+      let r = ranks run.0 run.0.seen run.1 in
+      subst IsStrictlyIncreasing (sym run.3) (at_places-ascending (length m) (positions m) run.0.items (positions-ascending m) (positions-within m) r.0 r.1)
+
+  pub places-within : All (λ i. i < length m) places
+  places-within =
+      let r = ranks run.0 run.0.seen run.1 in
+      subst (All (λ i. i < length m)) (sym run.3) (All-at_places (λ i. i < length m) (positions m) run.0.items (positions-within m) r.1)
+
+-- what a whole run gave is all that the iterator yields
+pub drained : {S A : Type 0} (steps : S → Option A → S → Type 0) (s : S) (P : List A → Type 0) → WholeRun steps s (λ p. P p.items) → (xs : List A) × Drains steps s xs × P xs
+drained steps s P run =
+    let past = took run.0 in
+    let end = past.2 run.2 in
+    (run.0.items, (end.0, (past.0, subst (λ i. Yields steps i run.0.items past.0) run.1 past.1, end.1)), run.3)

@@ -1,0 +1,13 @@
+-- Lemmas on masks, on what they are made of and on their faults.
+pub mod BitopLemmas
+pub mod CommonLemmas
+pub mod ConcatLemmas
+pub mod ExcludedLemmas
+pub mod FaultLemmas
+pub mod FoldLemmas
+pub mod MaskLemmas
+pub mod MaskWalkLemmas
+pub mod MergeLemmas
+pub mod PlaceListLemmas
+pub mod ReadingLemmas
+pub mod SoundRangeLemmas

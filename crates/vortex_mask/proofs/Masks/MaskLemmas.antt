@@ -1,0 +1,118 @@
+-- Lists of one value, the variants that lists may have, and what masks keep.
+use Rattle.std.specs.Prelude.{◌↔◌}
+use Rattle.std.proofs.Common.{◌-◌, ◌≤◌, slice_range, All, ◌≡◌, ℕ, zero, suc, ◌<◌, Bool, true, false, List, [], ◌∷◌, length, refl, sym, ap, ◌∙◌, arith, Some}
+use Rattle.std.specs.Cmp.{booleans_Decides}
+use Rattle.std.proofs.lemmas.Slice.Eq.{slice_eq-Decides}
+use Rattle.vortex_mask.specs.Mask.{variant_and, variant_or, Variant, all_true, all_false, mixed, fitting_variant, truth, same_truth}
+use Rattle.mask_bits.specs.Positions.{count, repeated, positions}
+use Rattle.vortex_mask.specs.declared.mask.Mask.TheVariants.{AllTrue, AllFalse}
+use Rattle.mask_bits.proofs.Lists.ChooseLemmas.{chosen-all_true, chosen-all_false}
+use Rattle.mask_bits.proofs.Lists.LawLemmas.{length-chosen, positions-rank_intersection, rank_intersection-none, length-rank_intersection}
+use Rattle.mask_bits.proofs.Lists.LimitLemmas.{limited-front, limited-all, limited-none, length-limited}
+use Rattle.mask_bits.proofs.Lists.PartLemmas.{part_of_repeated}
+use Rattle.mask_bits.proofs.Lists.Places.PlaceLemmas.{count-le-length}
+use Rattle.mask_bits.proofs.Lists.RankLemmas.{rank_intersection-all_true, rank_intersection-by_all_true}
+use Rattle.mask_bits.proofs.Lists.CountLemmas.{nil-repeated, slice_get-repeated, all_true-count, positions-repeated_true_at, All-repeated, repeated_from_All, count-repeated_true, count-repeated_false, all_true_from_count, all_false_from_count, list_all-count, list_all-count_less, list_any-count, list_any-count_zero, length-repeated}
+use Rattle.vortex_mask.specs.Laws.{UniformIsOfOneValue, AllTrueHasTrueValues, AllFalseHasFalseValues, SameTruthIsOneList}
+use Rattle.vortex_mask.specs.MaskValues.{AreOf, no_caches, only_indices}
+
+pub fitting_variant-all : (empty : Variant) (m : List Bool) → 0 < length m → count m ≡ length m → fitting_variant empty m ≡ all_true
+fitting_variant-all empty [] some e = absurd (omega arith)
+fitting_variant-all empty (v ∷ m) some e = rw (list_all-count 0 (v ∷ m) e) refl
+
+pub fitting_variant-none : (empty : Variant) (m : List Bool) → 0 < length m → count m ≡ 0 → fitting_variant empty m ≡ all_false
+fitting_variant-none empty [] some e = absurd (omega arith)
+fitting_variant-none empty (v ∷ m) some e =
+    rw (list_all-count_less 0 (v ∷ m) (omega arith), list_any-count_zero 0 (v ∷ m) e) refl
+
+pub fitting_variant-some : (empty : Variant) (m : List Bool) → 0 < count m → count m < length m → fitting_variant empty m ≡ mixed
+fitting_variant-some empty [] some less = absurd (omega arith)
+fitting_variant-some empty (v ∷ m) some less =
+    rw (list_all-count_less 0 (v ∷ m) less, list_any-count 0 (v ∷ m) some) refl
+
+-- a list with no true value, held as all false also where it is empty
+pub fitting_variant-all_false : (m : List Bool) → count m ≡ 0 → fitting_variant all_false m ≡ all_false
+fitting_variant-all_false [] e = refl
+fitting_variant-all_false (v ∷ m) e = fitting_variant-none all_false (v ∷ m) (omega arith) e
+
+-- the variants of lists of one value
+pub fitting_variant-some_true : (empty : Variant) (n : ℕ) → 0 < n → fitting_variant empty (repeated n true) ≡ all_true
+fitting_variant-some_true empty n some =
+    fitting_variant-all empty (repeated n true) (omega (arith, length-repeated n true)) (count-repeated_true n ∙ sym (length-repeated n true))
+
+pub fitting_variant-repeated_true : (n : ℕ) → fitting_variant all_true (repeated n true) ≡ all_true
+fitting_variant-repeated_true zero = rw (nil-repeated true) refl
+fitting_variant-repeated_true (suc n) = fitting_variant-some_true all_true (suc n) (omega arith)
+
+pub fitting_variant-repeated_false : (n : ℕ) → fitting_variant all_false (repeated n false) ≡ all_false
+fitting_variant-repeated_false n = fitting_variant-all_false (repeated n false) (count-repeated_false n)
+
+-- a list with values has one variant
+pub fitting_variant-nonempty : (e : Variant) (m : List Bool) → 0 < length m → fitting_variant e m ≡ fitting_variant all_false m
+fitting_variant-nonempty e [] some = absurd (omega arith)
+fitting_variant-nonempty e (v ∷ m) some = refl
+
+-- as many true values as values, or none
+pub repeated-all : (m : List Bool) → count m ≡ length m → repeated (length m) true ≡ m
+repeated-all m e = sym (all_true_from_count 0 m e)
+
+pub repeated-none : (m : List Bool) → count m ≡ 0 → repeated (length m) false ≡ m
+repeated-none m e = sym (all_false_from_count 0 m e)
+
+pub all_false-count : (m : List Bool) → (count m ≡ 0) ↔ All (λ v. v ≡ false) m
+all_false-count m = (λ e. All-repeated false m (all_false_from_count 0 m e), λ all. ap count (repeated_from_All false m all) ∙ count-repeated_false (length m))
+
+pub ruleset value_facts = (slice_get-repeated, all_true-count, all_false-count, positions-repeated_true_at)
+
+pub ruleset variant_facts = (length-repeated, count-repeated_true, count-repeated_false, count-le-length, repeated-all, repeated-none, fitting_variant-repeated_true, fitting_variant-repeated_false, fitting_variant-some_true, fitting_variant-some, fitting_variant-all, fitting_variant-none, fitting_variant-nonempty)
+
+-- an empty list's variant, where one side decides
+pub variant_and-all_false : (v : Variant) → variant_and v all_false ≡ all_false
+variant_and-all_false all_true = refl
+variant_and-all_false all_false = refl
+variant_and-all_false mixed = refl
+
+pub variant_or-all_true : (v : Variant) → variant_or v all_true ≡ all_true
+variant_or-all_true all_true = refl
+variant_or-all_true all_false = refl
+variant_or-all_true mixed = refl
+
+pub front_of_repeated : (n : ℕ) (v : Bool) (e : ℕ) → e ≤ n → slice_range (repeated n v) 0 e ≡ repeated e v
+front_of_repeated n v e h =
+    let all : e - 0 ≡ e = omega arith in
+    part_of_repeated n v 0 e (omega arith) h ∙ ap (λ k. repeated k v) all
+
+pub ruleset part_facts = (front_of_repeated, limited-front, part_of_repeated, limited-all, limited-none, length-limited)
+
+pub ruleset row_facts = (length-repeated, length-chosen, chosen-all_true, chosen-all_false)
+
+pub ruleset narrowing_facts = (variant_and-all_false, rank_intersection-all_true, rank_intersection-by_all_true, rank_intersection-none, length-rank_intersection, positions-rank_intersection)
+
+-- ---- laws
+
+pub all_true_has_true_values : AllTrueHasTrueValues
+all_true_has_true_values (AllTrue n) held = rw length-repeated refl
+all_true_has_true_values m held = absurd (cc)
+
+pub all_false_has_false_values : AllFalseHasFalseValues
+all_false_has_false_values (AllFalse n) held = rw length-repeated refl
+all_false_has_false_values m held = absurd (cc)
+
+-- a uniform list is of one value
+pub uniform_is_of_one_value : UniformIsOfOneValue
+uniform_is_of_one_value m = grind (arith, repeated-all m, repeated-none m, count-repeated_true (length m), count-repeated_false (length m))
+
+pub same_truth_is_one_list : SameTruthIsOneList
+same_truth_is_one_list a b = slice_eq-Decides booleans_Decides (truth a) (truth b) (same_truth a b) refl
+
+-- ---- lists that are kept
+
+-- what a `Some` holds is one value
+some_one : {X : Type 0} (x y : X) → Some x ≡ Some y → x ≡ y
+some_one x y same = cc
+
+pub AreOf-no_caches : (m : List Bool) → AreOf m no_caches
+AreOf-no_caches m = record { indices = λ places is. absurd (cc); ranges = λ ranges is. absurd (cc) }
+
+pub AreOf-only_indices : (m : List Bool) (places : List ℕ) → places ≡ positions m → AreOf m (only_indices places)
+AreOf-only_indices m places same = record { indices = λ kept is. sym (some_one places kept is) ∙ same; ranges = λ ranges is. absurd (cc) }

@@ -1,0 +1,71 @@
+-- Masks that are read by values, places and counts.
+use Rattle.std.proofs.Common.{Option, Some, None, slice_get, nat_lt, zero, suc, ◌≡◌, ℕ, ◌+◌, ◌-◌, ◌<◌, ◌≤◌, Bool, true, false, List, [], ◌∷◌, length, map, take, drop, replicate, slice_range, refl, sym, ap, ap₂, ◌∙◌, arith}
+use Rattle.std.specs.Bool.{then_some}
+use Rattle.std.specs.List.{All}
+use Rattle.std.specs.Option.{IfSome, SomeIff}
+use Rattle.std.proofs.lemmas.Bool.{lt-ltb}
+use Rattle.std.proofs.lemmas.List.{map_more, take-replicate, take-append-drop, length-take}
+use Rattle.std.proofs.lemmas.List.Elements.{All-head, All-tail}
+use Rattle.std.proofs.lemmas.Option.{slice_get_past}
+use Rattle.mask_bits.specs.Positions.{positions, count, count_below, repeated}
+use Rattle.mask_bits.proofs.Lists.CountLemmas.{count-repeated_true, count-repeated_false, count-append, length-repeated, positions-repeated_true_at, positions-all_false, nil-repeated}
+use Rattle.mask_bits.proofs.Lists.Places.PlaceLemmas.{place-within, count-le-length}
+use Rattle.mask_bits.proofs.Lists.Places.SelectLemmas.{count-part_further}
+
+-- ---- lists of one value
+
+pub first-all_true : (n : ℕ) → then_some (nat_lt 0 n) 0 ≡ slice_get (positions (repeated n true)) 0
+first-all_true zero = rw (nil-repeated true) refl
+first-all_true (suc n) = rw (lt-ltb 0 (suc n) (omega arith)) (sym (positions-repeated_true_at (suc n) 0 (omega arith)))
+
+pub first-within : (n : ℕ) → IfSome (then_some (nat_lt 0 n) 0) (λ p. p < length (repeated n true))
+first-within n = rw (first-all_true n) (place-within (repeated n true) 0)
+
+pub last-all_true : (n : ℕ) (o : Option ℕ) → SomeIff o (1 ≤ n) (n - 1) → o ≡ slice_get (positions (repeated n true)) (count (repeated n true) - 1)
+last-all_true n None none = grind (arith, slice_get_past (positions (repeated n true)) (count (repeated n true) - 1), count-repeated_true n)
+last-all_true n (Some p) some = grind (arith, positions-repeated_true_at n (n - 1), count-repeated_true n)
+
+pub last-within : (n : ℕ) (o : Option ℕ) → SomeIff o (1 ≤ n) (n - 1) → IfSome o (λ p. p < length (repeated n true))
+last-within n None none = tt
+last-within n (Some p) some = omega (arith, some.0, some.1, length-repeated n true)
+
+pub slice_get-all_false : (n k : ℕ) → slice_get (positions (repeated n false)) k ≡ None
+slice_get-all_false n k = ap (λ places. slice_get places k) (positions-all_false n)
+
+pub ruleset end_facts = (slice_get-all_false)
+
+-- each of the values before a place of an all-true list is true
+pub count_below-all_true : (n i : ℕ) → i ≤ n → count_below (repeated n true) i ≡ i
+unfolding repeated
+count_below-all_true n i h = ap count (take-replicate i n true h) ∙ count-repeated_true i
+
+pub counts-all_true : (n : ℕ) (xs : List ℕ) → All (λ i. i ≤ n) xs → map (count_below (repeated n true)) xs ≡ xs
+counts-all_true n [] h = refl
+counts-all_true n (x ∷ xs) h =
+    rw (count_below-all_true n x (All-head (λ i. i ≤ n) x xs h), counts-all_true n xs (All-tail (λ i. i ≤ n) x xs h)) refl
+
+-- and none of an all-false one
+count_below-all_false : (n i : ℕ) → count_below (repeated n false) i ≡ 0
+count_below-all_false n i =
+    let m : List Bool = repeated n false in
+    omega (arith, count-append (take i m) (drop i m), ap count (take-append-drop i m), count-repeated_false n)
+
+pub counts-all_false : (n : ℕ) (xs : List ℕ) → map (count_below (repeated n false)) xs ≡ replicate (length xs) 0
+counts-all_false n [] = refl
+counts-all_false n (x ∷ xs) = ap₂ (λ (y : ℕ) (ys : List ℕ). y ∷ ys) (count_below-all_false n x) (counts-all_false n xs)
+
+pub ruleset one_value_facts = (length-repeated, count-repeated_true, count-repeated_false)
+
+-- ---- counts that run on
+
+-- a count up to a place, and the true values from there to the next one, are the count up to that
+pub count-runs_on : (m : List Bool) (i j : ℕ) → i ≤ j → count_below m i + count (slice_range m i j) ≡ count_below m j
+count-runs_on m i j ordered =
+    let there : i + (j - i) ≡ j = omega arith in
+    ap (λ e. count_below m i + count (slice_range m i e)) (sym there) ∙ sym (count-part_further m i (j - i)) ∙ ap (count_below m) there
+
+-- no count is above its place
+pub count_below-le : (m : List Bool) (i : ℕ) → count_below m i ≤ i
+count_below-le m i = omega (arith, count-le-length (take i m), length-take i m)
+
+pub ruleset running_counts = (map_more, count-runs_on, count_below-le)

@@ -1,0 +1,53 @@
+//! The rows that a mask chooses.
+
+ghost use Rattle.std.specs.Prelude.{◌≡◌, IsOk, IfOk, IsOkUnless, alloc_error, length, vec_len};
+ghost use Rattle.mask_bits.specs.Buffer.{values};
+ghost use Rattle.mask_bits.specs.Positions.{count, chosen};
+ghost use Rattle.vortex_mask.specs.Mask.{truth, variant, all_false};
+
+use crate::mask::{Mask, MaskError};
+use mask_bits::BitBuffer;
+use std::alloc::{AllocError, Global};
+
+/// Rows.
+#[tactic(auto, using(crate::proofs::Masks::MaskLemmas::row_facts))]
+impl Mask {
+    /// The rows at the true indices, in their order.
+    pub fn choose<T: Copy>(&self, alloc: Global, rows: &[T]) -> Result<Vec<T>, MaskError>
+        requires { length rows.now ≡ length (truth self.now) }
+        ensures rows { IfOk result (λ v. v.items ≡ chosen rows.now (truth self.now)) }
+        ensures len { IfOk result (λ v. vec_len v ≡ count (truth self.now)) }
+
+        // An all-false mask chooses no row, and needs no memory for it.
+        ensures none { variant self.now ≡ all_false → IsOk result }
+        ensures refused { IsOkUnless result (MaskError.Memory alloc_error) }
+    {
+        Ok(self.rows_chosen(alloc, rows)?)
+    }
+
+    // The rows at the true indices. How many they are follows.
+    fn rows_chosen<T: Copy>(&self, alloc: Global, rows: &[T]) -> Result<Vec<T>, MaskError>
+        requires { length rows.now ≡ length (truth self.now) }
+        ensures rows { IfOk result (λ v. v.items ≡ chosen rows.now (truth self.now)) }
+        ensures none { variant self.now ≡ all_false → IsOk result }
+        ensures refused { IsOkUnless result (MaskError.Memory alloc_error) }
+    {
+        match self {
+            Mask::AllTrue(_) => Ok(Vec::from_slice(alloc, rows)?),
+            Mask::AllFalse(_) => Ok(Vec::new(alloc)),
+            Mask::Values(values) => Ok(rows_at(alloc, rows, values.bit_buffer())?),
+        }
+    }
+}
+
+// The rows at the true indices of a buffer, in their order.
+fn rows_at<T: Copy>(alloc: Global, rows: &[T], buffer: &BitBuffer) -> Result<Vec<T>, AllocError>
+    requires { length rows.now ≡ length (values buffer.now) }
+    ensures { IfOk result (λ v. v.items ≡ chosen rows.now (values buffer.now)) }
+{
+    let mut at_places = Vec::new(alloc);
+    for place in buffer.set_indices() {
+        at_places.push(rows[place])?;
+    }
+    Ok(at_places)
+}
