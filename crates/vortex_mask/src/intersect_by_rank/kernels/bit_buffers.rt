@@ -9,6 +9,7 @@ ghost use Rattle.vortex_mask.specs.Steps.{word_steps};
 ghost use Rattle.mask_bits.specs.Words.{started_words};
 
 use super::of_words;
+use crate::intersect_by_rank::steps::WordSteps;
 use crate::intersect_by_rank::{DepositBits, RankBits, Steps};
 use crate::mask::{Mask, MaskError};
 use mask_bits::words::set_word;
@@ -54,7 +55,7 @@ pub fn narrow_by_bits<D: DepositBits>(
     ensures steps { result
         ≡ word_steps chunks.now (rank_intersection chunks.now (values ranks.now)) }
 {
-    let mut steps = Steps::new();
+    let mut steps = WordSteps::new();
     // the next rank bit is the one after those of all true values so far
     let mut at = 0usize;
     for i in 0..out.len() / 8 {
@@ -65,5 +66,5 @@ pub fn narrow_by_bits<D: DepositBits>(
         set_word(out, i, word);
         at += ones;
     }
-    steps
+    steps.total()
 }

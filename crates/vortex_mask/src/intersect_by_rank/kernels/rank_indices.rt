@@ -12,6 +12,7 @@ ghost use Rattle.mask_bits.specs.Words.{word_bits, started_words};
 ghost use Rattle.vortex_mask.specs.Ranks.{AreSplit};
 
 use super::of_words;
+use crate::intersect_by_rank::steps::WordSteps;
 use crate::intersect_by_rank::{DepositBits, Steps};
 use crate::mask::{Mask, MaskError};
 use mask_bits::words::set_word;
@@ -57,19 +58,18 @@ pub fn narrow_at_ranks<D: DepositBits>(
     ensures steps { result ≡ word_steps chunks.now
         (true_at (length chunks.now) (at_places (positions chunks.now) ranks.now)) }
 {
-    let mut steps = Steps::new();
-    let mut at = 0usize;
+    let mut steps = WordSteps::new();
     let mut next = 0usize;
     for i in 0..out.len() / 8 {
+        // as many ranks are passed as the words so far have true values
+        let at = steps.offered();
         let mask = steps.word(chunks, i);
         let ones = mask.count_ones() as usize;
-        let end = at + ones;
-        let source = bits_of_ranks(ranks, &mut next, at, end);
+        let source = bits_of_ranks(ranks, &mut next, at, at + ones);
         let kept = steps.deposit::<D>(source, mask, ones);
         set_word(out, i, kept);
-        at = end;
     }
-    steps
+    steps.total()
 }
 
 // The ranks from `at` up to `end` as set bits, that of `at` lowest. Their first one is number
