@@ -1,5 +1,5 @@
 -- Walks over a list by its started words. No public clause cites these terms.
-use Rattle.std.specs.Prelude.{ℕ, ◌+◌, ◌*◌, ◌≡◌, ◌<◌, ◌≤◌, ◌^◌, ◌%◌, Bool, true, false, nat_eq, List, ◌++◌, length, take, drop, slice_index_or}
+use Rattle.std.specs.Prelude.{ℕ, ◌+◌, ◌*◌, ◌≡◌, ◌<◌, ◌≤◌, ◌^◌, Bool, true, false, List, ◌++◌, length, take, drop, slice_index_or}
 use Rattle.std.specs.Int.{bit_at}
 use Rattle.mask_bits.specs.Positions.{repeated}
 use Rattle.mask_bits.specs.Words.{word_bits}
@@ -20,7 +20,3 @@ pub record PassesTrue (m : List Bool) (i w j v : ℕ) : Type 0 where
   pub later : i ≤ j
   pub full : (p : ℕ) → 64 * i ≤ p → p < 64 * j → slice_index_or (left_of m i w) p false ≡ true
   pub rest : (p : ℕ) → 64 * j ≤ p → slice_index_or (left_of m j v) p false ≡ slice_index_or (left_of m i w) p false
-
--- the bits of w up to the end of the word of place n are the values from n on
-abbrev pub ShowsFrom : List Bool → ℕ → ℕ → Type 0
-ShowsFrom m n w = (j : ℕ) → n % 64 + j < 64 → nat_eq (bit_at w j) 1 ≡ slice_index_or m (n + j) false

@@ -1,10 +1,10 @@
 //! The walk over a buffer's values.
 
-ghost use Rattle.std.specs.Prelude.{◌≡◌, length, IfSome, Some, ◌+◌, ◌-◌, ◌≤◌, ◌<◌, ◌%◌};
+ghost use Rattle.std.specs.Prelude.{◌≡◌, length, IfSome, Some, ◌+◌, ◌-◌, ◌≤◌, ◌<◌, ◌/◌, ◌%◌};
 ghost use Rattle.std.specs.Iterator.{YieldsFirst, UpTo, item_count};
 ghost use Rattle.std.specs.Iterator.SizeHint.{IsWithinCount};
 ghost use Rattle.mask_bits.specs.Buffer.{values};
-ghost use Rattle.mask_bits.specs.Walk.{ShowsFrom};
+ghost use Rattle.mask_bits.specs.Words.{word_bits, padded_part};
 
 use crate::buffer::BitBuffer;
 use crate::chunks::BitChunks;
@@ -15,21 +15,21 @@ use std::marker::Model;
 pub struct BitIterator<'a> {
     buffer: &'a BitBuffer,
     next: usize,
-    // from a place inside a word on, the rest of that word
+    // inside a word, that word
     word: u64,
 }
 
 impl<'a> Model for BitIterator<'a> {
-    ghost use Rattle.std.specs.Prelude.{Bool, List, ◌≤◌, ◌<◌, ◌%◌, drop, length};
+    ghost use Rattle.std.specs.Prelude.{Bool, List, ◌≡◌, ◌≤◌, ◌<◌, ◌/◌, ◌%◌, drop, length};
     ghost use Rattle.mask_bits.specs.Buffer.{values};
-    ghost use Rattle.mask_bits.specs.Walk.{ShowsFrom};
+    ghost use Rattle.mask_bits.specs.Words.{word_bits, padded_part};
 
     ghost Value = { List Bool };
 
     ghost view = { λ s. drop s.next (values s.buffer.now) };
 
     ghost invariant = { λ s. (s.next ≤ length (values s.buffer.now))
-        × (0 < s.next % 64 → ShowsFrom (values s.buffer.now) s.next s.word) };
+        × (0 < s.next % 64 → word_bits s.word ≡ padded_part (values s.buffer.now) (s.next / 64)) };
 }
 
 impl<'a> BitIterator<'a> {
@@ -55,10 +55,11 @@ impl Iterator for BitIterator<'_> {
         if self.next == self.buffer.len() {
             return None;
         }
-        let word = word_ahead(&self.buffer.chunks(), self.next, self.word);
-        self.word = word >> 1;
+        // the word stays as it is, so that no value waits for the one before it
+        self.word = word_at_hand(&self.buffer.chunks(), self.next, self.word);
+        let bit = self.word >> (self.next % 64);
         self.next += 1;
-        Some(word & 1 == 1)
+        Some(bit & 1 == 1)
     }
 
     fn size_hint(&self) -> (usize, Option<usize>)
@@ -78,12 +79,12 @@ impl ExactSizeIterator for BitIterator<'_> {
     }
 }
 
-// The values of the word of place `next` from that place on, where `word` has them inside a word.
+// The word of place `next`, where inside a word `word` is that.
 #[inline]
-fn word_ahead(chunks: &BitChunks<'_>, next: usize, word: u64) -> u64
+fn word_at_hand(chunks: &BitChunks<'_>, next: usize, word: u64) -> u64
     requires within { next < length chunks.now }
-    requires inside { 0 < next % 64 → ShowsFrom chunks.now next word }
-    ensures { ShowsFrom chunks.now next result }
+    requires inside { 0 < next % 64 → word_bits word ≡ padded_part chunks.now (next / 64) }
+    ensures { word_bits result ≡ padded_part chunks.now (next / 64) }
 {
     if next % 64 == 0 {
         chunks.padded_word(next / 64)

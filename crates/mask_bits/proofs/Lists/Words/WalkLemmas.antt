@@ -1,14 +1,14 @@
 -- Walks over a list by its started words: what is left of it after each step.
-use Rattle.std.proofs.Common.{◌≡◌, ℕ, zero, suc, ◌+◌, ◌*◌, ◌-◌, ◌/◌, ◌%◌, ◌^◌, ◌<◌, ◌≤◌, Bool, true, false, nat_eq, List, [], ◌∷◌, length, get_or, drop, refl, sym, ap, ◌∙◌, arith, lit<}
+use Rattle.std.proofs.Common.{◌≡◌, ℕ, zero, suc, ◌+◌, ◌*◌, ◌-◌, ◌%◌, ◌^◌, ◌<◌, ◌≤◌, Bool, true, false, nat_eq, List, [], ◌∷◌, length, get_or, drop, refl, sym, ap, ◌∙◌, arith, lit<}
 use Rattle.std.specs.Int.{bit_at}
 use Rattle.std.specs.Int.RustNames.{bit_and, bit_or}
 use Rattle.std.proofs.lemmas.Bool.{true≢false}
 use Rattle.std.proofs.lemmas.List.{ext_get_or, length-append, length-drop, length-take, get_or_append_left, get_or-append_right, get_or-drop, get_or-take, get_or_past, get_or-replicate, length-replicate}
 use Rattle.std.proofs.lemmas.Nat.{and_le_l, or_lt}
-use Rattle.std.proofs.lemmas.Nat.Bits.{bit_at-lt, bit_at-zero, bit_at-suc, bit_at_ones}
+use Rattle.std.proofs.lemmas.Nat.Bits.{bit_at-lt, bit_at-zero, bit_at_ones}
 use Rattle.mask_bits.specs.Positions.{places_from, positions, repeated, IsFirstFrom}
 use Rattle.mask_bits.specs.RunScan.{runs_from}
-use Rattle.mask_bits.specs.Walk.{left_of, IsLeft, PassesTrue, ShowsFrom}
+use Rattle.mask_bits.specs.Walk.{left_of, IsLeft, PassesTrue}
 use Rattle.mask_bits.specs.Words.{word_bits, padded_part, started_words}
 use Rattle.mask_bits.proofs.Lists.Words.LowestLemmas.{low, low-within, low-set, low-first, bit_at-lowest_cleared, bit_at-lowest_others, bit_at-filled, bit_at-filled_others, ones, ones-few, ones-within, ones-set, ones-end, bit_at-ones_cleared, bit_at-ones_others}
 use Rattle.mask_bits.proofs.Lists.Words.PaddedLemmas.{get_or-padded_part}
@@ -236,17 +236,3 @@ pub runs_from-repeated_false : (n k : ℕ) → runs_from n (repeated k false) �
 unfolding repeated
 runs_from-repeated_false n zero = refl
 runs_from-repeated_false n (suc k) = runs_from-repeated_false (n + 1) k
-
--- ---- values one by one
-
--- a word that is read at its first place
-pub ShowsFrom-read : (m : List Bool) (n i w : ℕ) → n ≡ 64 * i → word_bits w ≡ padded_part m i → ShowsFrom m n w
-ShowsFrom-read m n i w first read = grind (arith, bit-padded)
-
--- one place further inside a word
-pub ShowsFrom-next : (m : List Bool) (n w : ℕ) → ShowsFrom m n w → 0 < (n + 1) % 64 → ShowsFrom m (n + 1) (w / 2)
-ShowsFrom-next m n w shows inside = λ j h. grind (arith, bit_at-suc w j, shows (suc j))
-
--- the lowest bit is the value there
-pub ShowsFrom-first : (m : List Bool) (n w : ℕ) → ShowsFrom m n w → nat_eq (w % 2) 1 ≡ get_or m n false
-ShowsFrom-first m n w shows = grind arith
