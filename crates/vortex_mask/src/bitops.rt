@@ -89,7 +89,11 @@ impl Mask {
         match self {
             Mask::AllTrue(len) => Ok(Mask::AllFalse(*len)),
             Mask::AllFalse(len) => Ok(Mask::AllTrue(*len)),
-            Mask::Values(values) => Mask::from_buffer(alloc, values.bit_buffer().not(alloc)?),
+            Mask::Values(values) => {
+                // what was false is true now, so nothing is counted
+                let true_count = values.len() - values.true_count();
+                Mask::from_counted_buffer(alloc, values.bit_buffer().not(alloc)?, true_count, None)
+            }
         }
     }
 

@@ -206,7 +206,12 @@ impl WordSteps {
     }
 
     #[inline(always)]
-    pub(crate) fn deposit<D: DepositBits>(&mut self, source: u64, mask: u64, mask_count: usize) -> u64
+    pub(crate) fn deposit<D: DepositBits>(
+        &mut self,
+        source: u64,
+        mask: u64,
+        mask_count: usize,
+    ) -> u64
         requires room { self.old.deposits < usize.MAX }
         requires fits { self.old.offered + mask_count < 2 ^ 64 }
         requires counted { mask_count ≡ count (word_bits mask) }

@@ -15,8 +15,16 @@ pub deposit-word-requires-clause-fits : goal.deposit-word-requires-clause-fits
 deposit-word-requires-clause-fits g c =
     let a = c.args.chunks.now in
     let within = place-after_within a c.loop-i.i c.loop-i.at c.word-chunk.result _ c.loop-i.invariant.place c.word-chunk.ensures.part (sym (count-word_bits c.word-chunk.result c.word-chunk.type_inv)) in
-    omega (arith, within, c.requires.fitting, c.requires.within.fits, length-bits_at c.args.ranks.now.bytes c.args.ranks.now.offset c.args.ranks.now.len, c.loop-i.invariant.place,
-    ap (λ (s : StepCounts). s.offered) c.loop-i.invariant.counted, ap (λ (s : StepCounts). s.offered) c.word-chunk.ensures.ticked)
+    omega (
+      arith,
+      within,
+      c.requires.fitting,
+      c.requires.within.fits,
+      length-bits_at c.args.ranks.now.bytes c.args.ranks.now.offset c.args.ranks.now.len,
+      c.loop-i.invariant.place,
+      ap (λ (s : StepCounts). s.offered) c.loop-i.invariant.counted,
+      ap (λ (s : StepCounts). s.offered) c.word-chunk.ensures.ticked,
+    )
 
 pub deposit-word-requires-clause-counted : goal.deposit-word-requires-clause-counted
 deposit-word-requires-clause-counted g c = sym (count-word_bits c.word-chunk.result (omega arith))

@@ -28,8 +28,12 @@ overflow_add-at g c =
 
 pub deposit-kept-requires-clause-fits : goal.deposit-kept-requires-clause-fits
 deposit-kept-requires-clause-fits g c =
-    omega (arith, ap (λ (s : StepCounts). s.offered) c.word-mask.ensures.ticked, c.offered-at.ensures,
-    after_fits c.args.chunks.now _ c.loop-i.i c.offered-at.result c.word-mask.result c.loop-i.out c.loop-i.steps c.requires.fits c.word-mask.type_inv c.offered-at.ensures c.loop-i.invariant.deposited c.word-mask.ensures.part)
+    omega (
+      arith,
+      ap (λ (s : StepCounts). s.offered) c.word-mask.ensures.ticked,
+      c.offered-at.ensures,
+      after_fits c.args.chunks.now _ c.loop-i.i c.offered-at.result c.word-mask.result c.loop-i.out c.loop-i.steps c.requires.fits c.word-mask.type_inv c.offered-at.ensures c.loop-i.invariant.deposited c.word-mask.ensures.part,
+    )
 
 pub deposit-kept-requires-clause-counted : goal.deposit-kept-requires-clause-counted
 deposit-kept-requires-clause-counted g c = sym (count-word_bits c.word-mask.result c.word-mask.type_inv)
