@@ -1,17 +1,24 @@
 -- The bits that the loops over words write and compare.
-use Rattle.std.proofs.Common.{◌≡◌, nat_eq, ℕ, ◌+◌, ◌*◌, ◌-◌, ◌/◌, ◌%◌, ◌<◌, ◌≤◌, ◌⊎◌, Bool, false, List, ◌++◌, length, get_or, take, drop, slice_range, sym, ap, ◌∙◌, inl, inr, arith, ap₂}
+use Rattle.std.proofs.Common.{◌≡◌, Result, nat_eq, ℕ, ◌+◌, ◌*◌, ◌-◌, ◌/◌, ◌%◌, ◌<◌, ◌≤◌, ◌⊎◌, min, not, set, Bool, false, List, ◌++◌, length, get_or, take, drop, slice_range, refl, sym, ap, ◌∙◌, inl, inr, arith, ap₂}
 use Rattle.std.specs.Int.{bit_at}
+use Rattle.std.specs.Int.RustNames.{bit_xor}
 use Rattle.std.proofs.lemmas.Bool.{cases_lt}
-use Rattle.std.proofs.lemmas.List.{ext_get_or, get_or-drop, take-append-le, take_all, length-append, get_or_append_left, get_or-append_right}
+use Rattle.std.proofs.lemmas.List.{ext_get_or, get_or-drop, get_or-set_other, length-take, get_or-take, take-append-le, take_all, length-append, get_or_append_left, get_or-append_right}
 use Rattle.std.proofs.lemmas.List.Edits.{length-between, get_or-between}
+use Rattle.std.proofs.lemmas.Grind.{get_or-set_at}
+use Rattle.std.proofs.lemmas.Nat.Bits.{bit_at-lt, bit_at_xor, bit_at_ones}
+use Rattle.std.specs.Result.{IfOk}
+use Rattle.std.proofs.lemmas.Result.{IfOk-weaker}
 use Rattle.mask_bits.specs.Buffer.{Packed, IsWithinBytes, backing_bit, values}
-use Rattle.mask_bits.specs.Combine.{AreCombined}
-use Rattle.mask_bits.specs.Lists.{combined}
+use Rattle.mask_bits.specs.Combine.{AreCombined, IsCombinedBetween}
+use Rattle.mask_bits.specs.Lists.{combined, not_of}
 use Rattle.mask_bits.specs.Words.{word_bits, window}
 use Rattle.mask_bits.proofs.BufferLemmas.{length-values, get_or-values, values_from_front}
-use Rattle.mask_bits.proofs.Lists.BooleanLemmas.{length-combined, get_or-combined}
-use Rattle.mask_bits.proofs.Lists.Words.FrontLemmas.{length-window, get_or-window, window-between, window_from_bits}
+use Rattle.mask_bits.proofs.Lists.BooleanLemmas.{combined_itself, length-combined, get_or-combined}
+use Rattle.mask_bits.proofs.Lists.Words.FrontLemmas.{get_or-put_mid_below, get_or-put_mid_above, get_or-put_mid_inside, length-window, get_or-window, window-between, window_from_bits}
+use Rattle.mask_bits.proofs.Lists.Words.ShiftLemmas.{bit_of_not}
 use Rattle.mask_bits.proofs.Lists.Words.WordLemmas.{length-word_bits, get_or-word_bits}
+use borrow.Rule.Slice.PartMut.{put_mid}
 
 -- ---- windows
 
@@ -49,6 +56,12 @@ word_bits-combined f w x y same =
     ext_get_or false (word_bits w) (combined f (word_bits x) (word_bits y)) (grind (arith, length-word_bits, len)) (λ j h.
     grind (arith, same j, length-word_bits, get_or-combined f (word_bits x) (word_bits y) j false))
 
+-- bit j of a combined word
+combined_bit : (f : Bool → Bool → Bool) (a b : List ℕ) (p q j : ℕ) (v w r : List Bool)
+    → v ≡ window a p → w ≡ window b q → r ≡ combined f v w → j < 64 → get_or r j false ≡ f (backing_bit a (p + j)) (backing_bit b (q + j))
+combined_bit f a b p q j v w r is_v is_w is_r h =
+    grind (arith, is_v, is_w, is_r, get_or-combined f v w j false, length-window a p, length-window b q, get_or-window a p j false, get_or-window b q j false)
+
 -- one more word
 pub AreCombined-step : (f : Bool → Bool → Bool) (a b out new : List ℕ) (p q i : ℕ) (v w : List Bool) (r : List Bool)
     → AreCombined f a p b q out (64 * i)
@@ -57,10 +70,79 @@ pub AreCombined-step : (f : Bool → Bool → Bool) (a b out new : List ℕ) (p 
     → AreCombined f a p b q new (64 * (i + 1))
 AreCombined-step f a b out new p q i v w r before is_v is_w is_r wrote others = λ k h. elim (cases_lt k (64 * i)) [
   | inl earlier ↦ others k (inl earlier) ∙ before k earlier
-  | inr here ↦
-      let j : ℕ = k - 64 * i in
-      grind (arith, is_v, is_w, is_r, wrote, get_or-window new (64 * i) j false, get_or-combined f v w j false, length-window a (p + 64 * i), length-window b (q + 64 * i), get_or-window a (p + 64 * i) j false, get_or-window b (q + 64 * i) j false)
+  | inr here ↦ grind (arith, wrote, get_or-window new (64 * i) (k - 64 * i) false, combined_bit f a b (p + 64 * i) (q + 64 * i) (k - 64 * i) v w r is_v is_w is_r)
 ]
+
+-- ---- words combined in place
+
+-- none of them
+pub between-none : (f : Bool → Bool → Bool) (a b : List ℕ) (q m : ℕ) → IsCombinedBetween f a b a q m m
+between-none f a b q m = record { inside = λ p from to. absurd (omega arith); outside = λ p apart. refl }
+
+-- more of them
+pub between-join : (f : Bool → Bool → Bool) (a b c d : List ℕ) (q m n k : ℕ) → m ≤ n → n ≤ k → IsCombinedBetween f a b c q m n → IsCombinedBetween f c b d q n k → IsCombinedBetween f a b d q m k
+between-join f a b c d q m n k first second to_n to_k = record {
+  inside = λ p from to. elim (cases_lt p n) [
+    | inl before ↦ to_k.outside p (inl before) ∙ to_n.inside p from before
+    | inr past ↦ to_k.inside p past to ∙ ap (λ x. f x (backing_bit b (q + p))) (to_n.outside p (inr past))
+  ];
+  outside = λ p apart. elim apart [
+    | inl before ↦ to_k.outside p (inl (omega arith)) ∙ to_n.outside p (inl before)
+    | inr past ↦ to_k.outside p (inr past) ∙ to_n.outside p (inr (omega arith))
+  ];
+}
+
+-- one of them
+pub between-word : (f : Bool → Bool → Bool) (a b new : List ℕ) (q i : ℕ) (v w : List Bool) (r : List Bool)
+    → v ≡ window a (64 * i) → w ≡ window b (q + 64 * i) → r ≡ combined f v w → window new (64 * i) ≡ r
+    → ((k : ℕ) → ((k < 64 * i) ⊎ (64 * i + 64 ≤ k)) → backing_bit new k ≡ backing_bit a k)
+    → IsCombinedBetween f a b new q (64 * i) (64 * (i + 1))
+between-word f a b new q i v w r is_v is_w is_r wrote others = record {
+  inside = λ p from to. grind (arith, wrote, get_or-window new (64 * i) (p - 64 * i) false, combined_bit f a b (64 * i) (q + 64 * i) (p - 64 * i) v w r is_v is_w is_r);
+  outside = λ p apart. elim apart [
+    | inl before ↦ others p (inl before)
+    | inr past ↦ others p (inr (omega arith))
+  ];
+}
+
+-- as much of one as the bytes have
+pub between-last : (f : Bool → Bool → Bool) (a b last ys : List ℕ) (q i e : ℕ) (v w r : List Bool)
+    → 8 * i ≤ length a → e ≡ min (length a) (8 * i + 8) → length last ≡ 8 → ys ≡ take (e - 8 * i) last
+    → v ≡ window a (0 + 64 * i) → w ≡ window b (q + 64 * i) → r ≡ combined f v w → window last 0 ≡ r
+    → IsCombinedBetween f a b (put_mid (8 * i) (e - 8 * i) a ys) q (64 * i) (min (64 * i + 64) (8 * length a))
+between-last f a b last ys q i e v w r begins is_e len is_ys is_v is_w is_r wrote =
+    let new : List ℕ = put_mid (8 * i) (e - 8 * i) a ys in
+    let ends : min (64 * i + 64) (8 * length a) ≡ 8 * e = omega arith in
+    let count : length ys ≡ e - 8 * i = ap length is_ys ∙ length-take (e - 8 * i) last ∙ omega arith in
+    record {
+      inside = λ p from to.
+          let j : ℕ = p - 64 * i in
+          let at : p / 8 ≡ 8 * i + j / 8 = omega arith in
+          let bit : p % 8 ≡ j % 8 = omega arith in
+          let few : j / 8 < e - 8 * i = omega arith in
+          let byte : get_or new (p / 8) 0 ≡ get_or last (j / 8) 0 = ap (λ k. get_or new k 0) at
+          ∙ get_or-put_mid_inside (8 * i) e a ys (j / 8) begins count few
+          ∙ ap (λ (xs : List ℕ). get_or xs (j / 8) 0) is_ys ∙ get_or-take (e - 8 * i) last (j / 8) 0 few in
+          let shown : backing_bit new p ≡ get_or (window last 0) j false = grind (arith, byte, bit, get_or-window last 0 j false) in
+          grind (arith, shown, wrote, combined_bit f a b (0 + 64 * i) (q + 64 * i) j v w r is_v is_w is_r);
+      outside = λ p apart. ap (λ x. nat_eq (bit_at x (p % 8)) 1) (elim apart [
+        | inl before ↦ get_or-put_mid_below (8 * i) (e - 8 * i) a ys (p / 8) begins (omega arith)
+        | inr past ↦ get_or-put_mid_above (8 * i) (e - 8 * i) a ys (p / 8) begins count (omega arith)
+      ]);
+    }
+
+-- the bits of a byte turned
+pub between-byte : (a b : List ℕ) (q i : ℕ) → i < length a → IsCombinedBetween (λ x y. not x) a b (set a i (bit_xor (get_or a i 0) 255)) q (8 * i) (8 * (i + 1))
+between-byte a b q i h =
+    let x = get_or a i 0 in
+    record {
+      inside = λ p from to.
+          let at : p / 8 ≡ i = omega arith in
+          let few : p % 8 < 8 = omega arith in
+          let turned : bit_at (bit_xor x 255) (p % 8) ≡ 1 - bit_at x (p % 8) = omega (arith, bit_at_xor x 255 (p % 8), bit_at_ones 8 (p % 8) few, bit_at-lt x (p % 8)) in
+          grind (arith, at, get_or-set_at a i (p / 8), turned, bit_of_not (bit_at x (p % 8)) (bit_at-lt x (p % 8)));
+      outside = λ p apart. grind (arith, get_or-set_other a i (p / 8));
+    }
 
 -- ---- the list made
 
@@ -69,10 +151,10 @@ pub backing_bit-drop : (bytes : List ℕ) (p i : ℕ) → backing_bit (drop (p /
 backing_bit-drop bytes p i = grind (arith, get_or-drop)
 
 -- bytes of which as many first bits are f of the bits of two buffers as these have values are the combined list
-pub values-combined : (f : Bool → Bool → Bool) (a b out from_a from_b : List ℕ) (p q len words : ℕ) → from_a ≡ drop (p / 8) a → from_b ≡ drop (q / 8) b
-    → AreCombined f from_a (p % 8) from_b (q % 8) out (64 * words) → len ≤ 64 * words
+pub values-combined : (f : Bool → Bool → Bool) (a b out from_a from_b : List ℕ) (p q len n : ℕ) → from_a ≡ drop (p / 8) a → from_b ≡ drop (q / 8) b
+    → AreCombined f from_a (p % 8) from_b (q % 8) out n → len ≤ n
     → values (record { bytes = out; offset = 0; len = len }) ≡ combined f (values (record { bytes = a; offset = p; len = len })) (values (record { bytes = b; offset = q; len = len }))
-values-combined f a b out from_a from_b p q len words is_a is_b wrote enough =
+values-combined f a b out from_a from_b p q len n is_a is_b wrote enough =
     let va : Packed = record { bytes = a; offset = p; len = len } in
     let vb : Packed = record { bytes = b; offset = q; len = len } in
     let one_len : length (values va) ≡ length (values vb) = length-values va ∙ sym (length-values vb) in
@@ -81,10 +163,29 @@ values-combined f a b out from_a from_b p q len words is_a is_b wrote enough =
     let bit_b = ap (λ (xs : List ℕ). backing_bit xs (q % 8 + i)) is_b ∙ backing_bit-drop b q i ∙ sym (get_or-values vb i false h) in
     wrote i (omega arith) ∙ ap₂ f bit_a bit_b ∙ sym (get_or-combined f (values va) (values vb) i false (omega (arith, length-values va)) one_len))
 
+-- the same where the bits of the first were in the same bytes
+pub values-in_place : (f : Bool → Bool → Bool) (a b out from_b : List ℕ) (q len n : ℕ) → from_b ≡ drop (q / 8) b
+    → IsCombinedBetween f a from_b out (q % 8) 0 n → len ≤ n
+    → values (record { bytes = out; offset = 0; len = len }) ≡ combined f (values (record { bytes = a; offset = 0; len = len })) (values (record { bytes = b; offset = q; len = len }))
+values-in_place f a b out from_b q len n is_b wrote enough =
+    values-combined f a b out a from_b 0 q len n refl is_b (λ i h. grind (arith, wrote.inside i)) enough
+
+-- the same of a negated one
+pub values-negated : (a out : List ℕ) (len n : ℕ) → IsCombinedBetween (λ x y. not x) a a out 0 0 n → len ≤ n
+    → values (record { bytes = out; offset = 0; len = len }) ≡ not_of (values (record { bytes = a; offset = 0; len = len }))
+values-negated a out len n turned enough =
+    values-in_place (λ x y. not x) a a out a 0 len n refl turned enough ∙ combined_itself (values (record { bytes = a; offset = 0; len = len }))
+
 -- ---- a buffer by its parts
 
 pub values-parts : (b : Packed) (bytes : List ℕ) (offset len : ℕ) → bytes ≡ b.bytes → offset ≡ b.offset → len ≡ length (values b) → values (record { bytes = bytes; offset = offset; len = len }) ≡ values b
 values-parts b bytes offset len is_bytes is_offset is_len = grind (arith, length-values)
+
+-- one that begins at a whole byte, by its bytes from there on
+pub values-from_byte : (b : Packed) (bytes : List ℕ) → bytes ≡ drop (b.offset / 8) b.bytes → b.offset % 8 ≡ 0 → values (record { bytes = bytes; offset = 0; len = b.len }) ≡ values b
+values-from_byte b bytes is_bytes whole =
+    values_from_front bytes (values b) b.len (length-values b) (λ i h.
+    grind (arith, is_bytes, whole, backing_bit-drop b.bytes b.offset i, get_or-values b i false h))
 
 pub within-parts : (b : Packed) (bytes : List ℕ) (offset len : ℕ) → IsWithinBytes bytes b.offset b.len → offset ≡ b.offset → len ≡ length (values b) → IsWithinBytes bytes offset len
 within-parts b bytes offset len within is_offset is_len = grind (arith, length-values)
@@ -92,3 +193,22 @@ within-parts b bytes offset len within is_offset is_len = grind (arith, length-v
 -- what a vector holds after all of its items were written
 pub take_back : (n : ℕ) (ys xs : List ℕ) → length ys ≡ n → take n (ys ++ drop (length ys) xs) ≡ ys
 take_back n ys xs len = take-append-le n ys (drop (length ys) xs) (omega arith) ∙ take_all n ys (omega arith)
+
+-- ---- a buffer's bytes as room
+
+-- lent, they show its list
+pub room-shows : (b : Packed) (xs ys : List ℕ) (len : ℕ) → values (record { bytes = xs; offset = 0; len = b.len }) ≡ values b → ys ≡ xs → len ≡ length (values b)
+    → values (record { bytes = ys; offset = 0; len = len }) ≡ values b
+room-shows b xs ys len list same is_len = grind (arith, length-values)
+
+-- written, they have bits for it
+pub room-covers : (b : Packed) (xs ys : List ℕ) (len : ℕ) → b.len ≤ 8 * length xs → length ys ≡ length xs → len ≡ length (values b) → len ≤ 8 * length (take (length xs) (ys ++ drop (length ys) xs))
+room-covers b xs ys len covered same is_len = omega (arith, length-values b, ap length (take_back (length xs) ys xs same))
+
+-- and show what was written
+pub values-written : {E : Type 0} (r : Result Packed E) (ys xs : List ℕ) (len : ℕ) (m : List Bool) → length ys ≡ length xs
+    → IfOk r (λ b. values b ≡ values (record { bytes = take (length xs) (ys ++ drop (length ys) xs); offset = 0; len = len }))
+    → values (record { bytes = ys; offset = 0; len = len }) ≡ m → IfOk r (λ b. values b ≡ m)
+values-written r ys xs len m same made is =
+    IfOk-weaker r (λ b. values b ≡ values (record { bytes = take (length xs) (ys ++ drop (length ys) xs); offset = 0; len = len })) (λ b. values b ≡ m)
+    (λ b wrote. wrote ∙ ap (λ (bytes : List ℕ). values (record { bytes = bytes; offset = 0; len = len })) (take_back (length xs) ys xs same) ∙ is) made

@@ -1,10 +1,15 @@
 -- What the loops over the words of two lists have made or found, bit by bit.
-use Rattle.std.specs.Prelude.{ℕ, ◌+◌, ◌*◌, ◌<◌, ◌≤◌, ◌≡◌, ◌^◌, Bool, List, length}
+use Rattle.std.specs.Prelude.{ℕ, ◌+◌, ◌*◌, ◌<◌, ◌≤◌, ◌≡◌, ◌⊎◌, ◌^◌, Bool, List, length}
 use Rattle.mask_bits.specs.Buffer.{backing_bit}
 
 -- the first n bits of `out` are f of those of a from bit p on and of those of b from bit q on
 abbrev pub AreCombined : (Bool → Bool → Bool) → List ℕ → ℕ → List ℕ → ℕ → List ℕ → ℕ → Type 0
 AreCombined f a p b q out n = (i : ℕ) → i < n → backing_bit out i ≡ f (backing_bit a (p + i)) (backing_bit b (q + i))
+
+-- bits m to n of `new` are f of those of `old` and of as many of b from bit q + m on, and all other bits are as they were
+pub record IsCombinedBetween (f : Bool → Bool → Bool) (old b new : List ℕ) (q m n : ℕ) : Type 0 where
+  pub inside : (p : ℕ) → m ≤ p → p < n → backing_bit new p ≡ f (backing_bit old p) (backing_bit b (q + p))
+  pub outside : (p : ℕ) → ((p < m) ⊎ (n ≤ p)) → backing_bit new p ≡ backing_bit old p
 
 -- the n bits of a from bit p on are those of b from bit q on
 abbrev pub AreSameBits : List ℕ → ℕ → List ℕ → ℕ → ℕ → Type 0

@@ -3,7 +3,7 @@ ghost use Rattle.mask_bits.specs.Buffer.{values};
 ghost use Rattle.mask_bits.specs.Lists.{and_of, or_of, and_not_of, not_of, combined};
 
 use crate::buffer::BitBuffer;
-use crate::combine::{And, AndNot, BitOp, Not, Or, combine};
+use crate::combine::{And, AndNot, BitOp, Not, Or, combine, combine_in_place, negate_in_place};
 use bytes::Bytes;
 use std::alloc::{AllocError, Global};
 
@@ -41,6 +41,48 @@ impl BitBuffer {
     }
 }
 
+/// The same, of a buffer that is taken by value. It is written into its own bytes where nobody else
+/// holds them and it begins at a whole one.
+impl BitBuffer {
+    /// The values that are true in both.
+    pub fn into_bitand(self, alloc: Global, other: &BitBuffer) -> Result<BitBuffer, AllocError>
+        requires { length (values self) ≡ length (values other.now) }
+        ensures { IfOk result (λ b. values b ≡ and_of (values self) (values other.now)) }
+    {
+        combined_into::<And>(alloc, self, other)
+    }
+
+    /// The values that are true in one or in both.
+    pub fn into_bitor(self, alloc: Global, other: &BitBuffer) -> Result<BitBuffer, AllocError>
+        requires { length (values self) ≡ length (values other.now) }
+        ensures { IfOk result (λ b. values b ≡ or_of (values self) (values other.now)) }
+    {
+        combined_into::<Or>(alloc, self, other)
+    }
+
+    /// The values that are true here and not in `other`.
+    pub fn into_bitand_not(self, alloc: Global, other: &BitBuffer) -> Result<BitBuffer, AllocError>
+        requires { length (values self) ≡ length (values other.now) }
+        ensures { IfOk result (λ b. values b ≡ and_not_of (values self) (values other.now)) }
+    {
+        combined_into::<AndNot>(alloc, self, other)
+    }
+
+    /// The complement: each value negated.
+    pub fn into_not(self, alloc: Global) -> Result<BitBuffer, AllocError>
+        ensures { IfOk result (λ b. values b ≡ not_of (values self)) }
+    {
+        let len = self.len();
+        match self.into_room() {
+            Ok(mut room) => {
+                negate_in_place(room.as_mut_slice(), len);
+                BitBuffer::from_room(room, len)
+            }
+            Err(shared) => shared.not(alloc),
+        }
+    }
+}
+
 // A buffer of what `C` makes of two.
 fn combined_buffer<C: BitOp>(
     alloc: Global,
@@ -60,4 +102,23 @@ fn combined_buffer<C: BitOp>(
         &mut out,
     );
     Ok(BitBuffer::new(Bytes::from_vec(out)?, a.len()))
+}
+
+// The same in the first one's bytes, where they are its own.
+fn combined_into<C: BitOp>(
+    alloc: Global,
+    a: BitBuffer,
+    b: &BitBuffer,
+) -> Result<BitBuffer, AllocError>
+    requires { length (values a) ≡ length (values b.now) }
+    ensures { IfOk result (λ r. values r ≡ combined C.of_bits (values a) (values b.now)) }
+{
+    let len = a.len();
+    match a.into_room() {
+        Ok(mut room) => {
+            combine_in_place::<C>(room.as_mut_slice(), b.bits(), b.offset(), len);
+            BitBuffer::from_room(room, len)
+        }
+        Err(shared) => combined_buffer::<C>(alloc, &shared, b),
+    }
 }

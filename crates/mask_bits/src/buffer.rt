@@ -1,6 +1,6 @@
 //! A list of truth values, packed.
 
-ghost use Rattle.std.specs.Prelude.{◌≡◌, ◌+◌, ◌-◌, ◌*◌, ◌<◌, ◌≤◌, ◌^◌, ◌↔◌, ℕ, Bool, false, true, [], length, vec_len, All, IfOk, IfSome, IsTrue, Some, slice_get, slice_range};
+ghost use Rattle.std.specs.Prelude.{◌≡◌, ◌+◌, ◌-◌, ◌*◌, ◌<◌, ◌≤◌, ◌^◌, ◌↔◌, ℕ, Bool, false, true, [], length, vec_len, All, IfOk, IfSome, IsTrue, MatchResult, Some, slice_get, slice_range};
 ghost use Rattle.std.specs.Iterator.{UpTo, Drains, YieldsFirst};
 ghost use Rattle.std.specs.Iterator.Runs.{WholeRun, YieldsInOrder};
 ghost use Rattle.std.specs.List.Sorted.{IsStrictlyIncreasing};
@@ -14,7 +14,7 @@ use crate::counts::count_bits;
 use crate::set_indices::SetIndices;
 use crate::set_slices::SetSlices;
 use crate::write_bits::{put_bools, set_bit};
-use bytes::Bytes;
+use bytes::{Bytes, BytesMut};
 use std::alloc::{AllocError, Global};
 use std::fmt;
 use std::marker::Model;
@@ -215,6 +215,35 @@ impl BitBuffer {
     {
         let _ = &self.len;
         self.bytes.as_slice()
+    }
+
+    // The bytes from the first value's on, where nobody else holds them and that value begins one.
+    pub(crate) fn into_room(self) -> Result<BytesMut, BitBuffer>
+        ensures list { MatchResult result
+            (λ room. values (record { bytes = room.items; offset = 0; len = self.len }) ≡ values self)
+            (λ b. b ≡ self) }
+        ensures covered { IfOk result (λ room. self.len ≤ 8 * length room.items) }
+    {
+        let BitBuffer { bytes, offset, len } = self;
+        if offset % 8 != 0 {
+            return Err(BitBuffer { bytes, offset, len });
+        }
+        match bytes.try_into_mut() {
+            Ok(mut room) => {
+                room.advance(offset / 8);
+                Ok(room)
+            }
+            Err(bytes) => Err(BitBuffer { bytes, offset, len }),
+        }
+    }
+
+    // The first `len` bits of bytes that were written in place.
+    pub(crate) fn from_room(room: BytesMut, len: usize) -> Result<BitBuffer, AllocError>
+        requires { len ≤ 8 * length room.items }
+        ensures { IfOk result
+            (λ b. values b ≡ values (record { bytes = room.items; offset = 0; len = len })) }
+    {
+        Ok(BitBuffer::new(room.freeze()?, len))
     }
 
     /// Value `i`.

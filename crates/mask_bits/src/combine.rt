@@ -1,14 +1,14 @@
 //! The list that an operation makes of two lists, value by value, over plain bytes.
 
-ghost use Rattle.std.specs.Prelude.{◌≡◌, ◌+◌, ◌*◌, ◌/◌, ◌<◌, ◌≤◌, ◌&&◌, ◌||◌, ℕ, not, length};
+ghost use Rattle.std.specs.Prelude.{◌≡◌, ◌+◌, ◌*◌, ◌/◌, ◌^◌, ◌<◌, ◌≤◌, ◌&&◌, ◌||◌, ℕ, not, min, length};
 ghost use Rattle.std.specs.Int.{div_ceil};
 ghost use Rattle.mask_bits.specs.Buffer.{IsWithinBytes, values};
-ghost use Rattle.mask_bits.specs.Combine.{AreCombined};
-ghost use Rattle.mask_bits.specs.Lists.{combined};
+ghost use Rattle.mask_bits.specs.Combine.{AreCombined, IsCombinedBetween};
+ghost use Rattle.mask_bits.specs.Lists.{combined, not_of};
 ghost use Rattle.mask_bits.specs.Words.{word_bits};
 
 use crate::read_word::{Anywhere, Covered, Neighbors, ReadWord, Whole};
-use crate::words::set_word;
+use crate::words::{set_word, word_of};
 
 /// An operation on truth values, done on 64 at once.
 pub trait BitOp {
@@ -124,5 +124,78 @@ fn extend<C: BitOp, R: ReadWord>(
 {
     for i in from..to {
         set_word(out, i, C::of(R::word(a, a_low, i), R::word(b, b_low, i)));
+    }
+}
+
+/// The same where the bits of `a` begin `bytes`: the list is written in their place. The bits of
+/// `bytes` past the list have no meaning.
+pub fn combine_in_place<C: BitOp>(bytes: &mut [u8], b: &[u8], b_offset: usize, len: usize)
+    requires within { len ≤ 8 * length bytes.old }
+    requires b_within { IsWithinBytes b.now b_offset len }
+    ensures { values (record { bytes = bytes.new; offset = 0; len = len })
+        ≡ combined C.of_bits
+        (values (record { bytes = bytes.old; offset = 0; len = len }))
+        (values (record { bytes = b.now; offset = b_offset; len = len })) }
+{
+    let (b, b_low) = (&b[b_offset / 8..], (b_offset % 8) as u32);
+    change_whole::<C>(bytes, b, b_low, len / 64);
+    if len % 64 != 0 {
+        change_last::<C>(bytes, b, b_low, len / 64);
+    }
+}
+
+// Combines the first words in place.
+fn change_whole<C: BitOp>(bytes: &mut [u8], b: &[u8], b_low: u32, words: usize)
+    requires b_within { IsWithinBytes b.now b_low (64 * words) }
+    requires few { b_low < 8 }
+    requires room { 8 * words ≤ length bytes.old }
+    ensures { IsCombinedBetween C.of_bits bytes.old b.now bytes.new b_low 0 (64 * words) }
+{
+    if b_low == 0 {
+        change::<C, Whole>(bytes, b, b_low, 0, words);
+    } else {
+        let inner = (b.len() / 8).saturating_sub(1).min(words);
+        change::<C, Neighbors>(bytes, b, b_low, 0, inner);
+        change::<C, Covered>(bytes, b, b_low, inner, words);
+    }
+}
+
+// Combines words `from` to `to` in place.
+fn change<C: BitOp, R: ReadWord>(bytes: &mut [u8], b: &[u8], b_low: u32, from: usize, to: usize)
+    requires reads { (i : ℕ) → i < to → R.can_read b.now b_low i }
+    requires ordered { from ≤ to }
+    requires room { 8 * to ≤ length bytes.old }
+    ensures { IsCombinedBetween C.of_bits bytes.old b.now bytes.new b_low (64 * from) (64 * to) }
+{
+    for i in from..to {
+        set_word(bytes, i, C::of(word_of(bytes, i), R::word(b, b_low, i)));
+    }
+}
+
+// Combines as much of word `i` in place as the bytes have.
+fn change_last<C: BitOp>(bytes: &mut [u8], b: &[u8], b_low: u32, i: usize)
+    requires begins { 8 * i ≤ length bytes.old }
+    requires fits { b_low + 64 * i < 2 ^ 64 }
+    ensures { IsCombinedBetween C.of_bits bytes.old b.now bytes.new b_low (64 * i)
+        (min (64 * i + 64) (8 * length bytes.old)) }
+{
+    let end = bytes.len().min(8 * i + 8);
+    let mut last = [0u8; 8];
+    set_word(
+        &mut last,
+        0,
+        C::of(Anywhere::word(bytes, 0, i), Anywhere::word(b, b_low, i)),
+    );
+    bytes[8 * i..end].copy_from_slice(&last[..end - 8 * i]);
+}
+
+/// Negates the first `len` bits of `bytes`. Those past them have no meaning.
+pub fn negate_in_place(bytes: &mut [u8], len: usize)
+    requires { len ≤ 8 * length bytes.old }
+    ensures { values (record { bytes = bytes.new; offset = 0; len = len })
+        ≡ not_of (values (record { bytes = bytes.old; offset = 0; len = len })) }
+{
+    for i in 0..len.div_ceil(8) {
+        bytes[i] ^= 0xFF;
     }
 }

@@ -5,7 +5,7 @@ ghost use Rattle.vortex_mask.specs.Mask.{truth, variant, fitting_variant, varian
 ghost use Rattle.vortex_mask.specs.MaskValues.{no_caches};
 
 use crate::laws;
-use crate::mask::{Mask, MaskError};
+use crate::mask::{Mask, MaskError, MaskValues};
 use std::alloc::Global;
 
 /// Boolean calls, value by value, of masks of one length.
@@ -146,7 +146,13 @@ impl Mask {
             laws::one_variant(&self);
             return Ok(self);
         }
-        self.bitand(alloc, other)
+        match (self, other) {
+            (Mask::Values(a), Mask::Values(b)) => {
+                let bits = MaskValues::buffer_of(a)?.into_bitand(alloc, b.bit_buffer())?;
+                Ok(Mask::from_buffer(alloc, bits)?)
+            }
+            (mask, other) => mask.bitand(alloc, other),
+        }
     }
 
     /// The values that are true in one or in both.
@@ -168,7 +174,13 @@ impl Mask {
             laws::one_variant(&self);
             return Ok(self);
         }
-        self.bitor(alloc, other)
+        match (self, other) {
+            (Mask::Values(a), Mask::Values(b)) => {
+                let bits = MaskValues::buffer_of(a)?.into_bitor(alloc, b.bit_buffer())?;
+                Ok(Mask::from_buffer(alloc, bits)?)
+            }
+            (mask, other) => mask.bitor(alloc, other),
+        }
     }
 
     /// The complement: each value negated.
@@ -182,7 +194,12 @@ impl Mask {
         ensures uniform { variant self ≢ mixed → IsOk result }
         ensures refused { IsOkUnless result (MaskError.Memory alloc_error) }
     {
-        self.not(alloc)
+        match self {
+            Mask::Values(values) => {
+                Mask::from_buffer(alloc, MaskValues::buffer_of(values)?.into_not(alloc)?)
+            }
+            mask => mask.not(alloc),
+        }
     }
 
     /// The values that are true here and not in `other`.
@@ -200,12 +217,16 @@ impl Mask {
             → IsOk result }
         ensures refused { IsOkUnless result (MaskError.Memory alloc_error) }
     {
-        match other {
-            Mask::AllFalse(_) => {
-                laws::one_variant(&self);
-                Ok(self)
+        match (self, other) {
+            (mask, Mask::AllFalse(_)) => {
+                laws::one_variant(&mask);
+                Ok(mask)
             }
-            Mask::AllTrue(_) | Mask::Values(_) => self.to_bitand_not(alloc, other),
+            (Mask::Values(a), Mask::Values(b)) => {
+                let bits = MaskValues::buffer_of(a)?.into_bitand_not(alloc, b.bit_buffer())?;
+                Ok(Mask::from_buffer(alloc, bits)?)
+            }
+            (mask, other) => mask.to_bitand_not(alloc, other),
         }
     }
 }

@@ -133,10 +133,7 @@ impl Mask {
         match self {
             Mask::AllTrue(len) => Ok(BitBuffer::new_set(alloc, len)?),
             Mask::AllFalse(len) => Ok(BitBuffer::new_unset(alloc, len)?),
-            Mask::Values(values) => match Rc::try_unwrap(values) {
-                Ok(values) => Ok(values.into_bit_buffer()),
-                Err(shared) => Ok(shared.bit_buffer().clone()?),
-            },
+            Mask::Values(values) => Ok(MaskValues::buffer_of(values)?),
         }
     }
 }

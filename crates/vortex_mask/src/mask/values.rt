@@ -139,6 +139,17 @@ impl MaskValues {
         self.slices.as_deref()
     }
 
+    // The buffer of values that somebody else may hold too.
+    pub(crate) fn buffer_of(held: MaskValuesRef) -> Result<BitBuffer, AllocError>
+        ensures buffer { IfOk result (λ b. b ≡ held.value.buffer) }
+        ensures mixed { IfOk result (λ b. IsMixed b held.value.true_count) }
+    {
+        match Rc::try_unwrap(held) {
+            Ok(own) => Ok(own.into_bit_buffer()),
+            Err(shared) => shared.bit_buffer().clone(),
+        }
+    }
+
     /// The same values with the same lists cached.
     pub fn clone(&self) -> Result<MaskValues, MaskError>
         ensures same { IfOk result (λ v. v ≡ self.now) }

@@ -43,7 +43,7 @@ bit_at-shl_high n k j h =
 
 -- ---- the list of a word
 
-bit_of_not : (a : ℕ) → a < 2 → nat_eq (1 - a) 1 ≡ not (nat_eq a 1)
+pub bit_of_not : (a : ℕ) → a < 2 → nat_eq (1 - a) 1 ≡ not (nat_eq a 1)
 bit_of_not a low = grind (arith, nat_tests)
 
 pub get_or-word_bits_and : (v w j : ℕ) → j < 64 → get_or (word_bits (bit_and v w)) j false ≡ (get_or (word_bits v) j false && get_or (word_bits w) j false)

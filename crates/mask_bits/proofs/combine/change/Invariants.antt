@@ -1,0 +1,7 @@
+use Rattle.std.proofs.Common.{◌*◌}
+use Rattle.mask_bits.specs.Combine.{IsCombinedBetween}
+use Rattle.mask_bits.proofs.combine.change.Given as goal
+
+-- the words before are combined
+abbrev pub invariant-loop-i : goal.invariant-loop-i
+invariant-loop-i g l = IsCombinedBetween g.C.BitOp.of_bits l.initial.bytes l.b l.bytes l.b_low (64 * l.from) (64 * l.i)
