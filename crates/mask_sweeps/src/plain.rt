@@ -199,6 +199,26 @@ impl Op {
             },
         )
     }
+
+    // The same of a buffer that is taken by value.
+    pub(crate) fn of_own_buffer(
+        self,
+        rt: &impl Abort,
+        alloc: Global,
+        a: BitBuffer,
+        b: &BitBuffer,
+    ) -> BitBuffer {
+        assert!(rt; a.len() == b.len());
+        found(
+            rt,
+            match self {
+                Op::And => a.into_bitand(alloc, b),
+                Op::Or => a.into_bitor(alloc, b),
+                Op::AndNot => a.into_bitand_not(alloc, b),
+                Op::Not => a.into_not(alloc),
+            },
+        )
+    }
 }
 
 // The places that hold a value.

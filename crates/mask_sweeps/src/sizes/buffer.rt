@@ -59,6 +59,19 @@ fn combines(
     }
 }
 
+// In bytes of their own, which begin with the list.
+fn combines_by_value(
+    rt: &impl Abort,
+    alloc: Global,
+    (a, b): (&[bool], &BitBuffer),
+    wanted: &[(Op, Plain)],
+) {
+    for (op, want) in wanted {
+        let own = bits_of(rt, alloc, a);
+        has_words(rt, &op.of_own_buffer(rt, alloc, own, b), want);
+    }
+}
+
 // Each call that answers a Result, of lists that begin at bits 3 and 5 of their bytes.
 fn of_length(rt: &impl Abort, alloc: Global, len: usize) {
     let a = Plain::repeating(rt, alloc, len, (3, 1));
@@ -70,6 +83,7 @@ fn of_length(rt: &impl Abort, alloc: Global, len: usize) {
     copies(rt, alloc, &bits, &a);
     let others = buffer_at(rt, alloc, 5, &b.values, Outside::Set);
     combines(rt, alloc, (&bits, &others), &wanted);
+    combines_by_value(rt, alloc, (&a.values, &others), &wanted);
 }
 
 fn of_lengths(rt: &impl Abort, alloc: Global) {

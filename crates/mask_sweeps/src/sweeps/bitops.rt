@@ -27,6 +27,25 @@ fn each_operation(
     assert!(rt; (*a == *b) == (lists.0 == lists.1));
 }
 
+// Each of them on a buffer that is taken by value: on bytes of its own, and on bytes that stay shared.
+fn each_operation_by_value(
+    rt: &impl Abort,
+    alloc: Global,
+    (offset, outside): (usize, Outside),
+    b: &BitBuffer,
+    lists: (&[bool], &[bool]),
+) {
+    for op in OPS {
+        let want = op.of_lists(rt, alloc, lists.0, lists.1);
+        let a = buffer_at(rt, alloc, offset, lists.0, outside);
+        let shared = found(rt, a.clone());
+        has_values(rt, &op.of_own_buffer(rt, alloc, shared, b), &want);
+        has_values(rt, &a, lists.0);
+        has_values(rt, &op.of_own_buffer(rt, alloc, a, b), &want);
+    }
+    has_values(rt, b, lists.1);
+}
+
 // Each operation on two lists at every pair of offsets.
 fn each_pair(
     rt: &impl Abort,
@@ -39,6 +58,7 @@ fn each_pair(
         for b_offset in 0..=8usize {
             let b = buffer_at(rt, alloc, b_offset, lists.1, outside.1);
             each_operation(rt, alloc, (&a, &b), lists);
+            each_operation_by_value(rt, alloc, (a_offset, outside.0), &b, lists);
         }
     }
 }

@@ -67,6 +67,19 @@ fn combines(rt: &impl Abort, alloc: Global, op: Op, a: &Mask, b: &Mask, want: (&
     is(rt, &owned, want);
 }
 
+// Of a mask whose bytes nobody else holds.
+fn combines_own(rt: &impl Abort, alloc: Global, row: &Row, b: &Mask) {
+    for (op, list, held) in [
+        (Op::And, row.2, row.3),
+        (Op::Or, row.4, row.5),
+        (Op::AndNot, row.6, row.7),
+        (Op::Not, row.8, row.9),
+    ] {
+        let own = mask(rt, alloc, Of::Text(row.0));
+        is(rt, &of_owned(rt, alloc, op, own, b), (list, held));
+    }
+}
+
 // The operands stay, shared as they are.
 fn combines_row(rt: &impl Abort, alloc: Global, row: &Row) {
     let (a, b) = (
@@ -77,6 +90,7 @@ fn combines_row(rt: &impl Abort, alloc: Global, row: &Row) {
     combines(rt, alloc, Op::Or, &a, &b, (row.4, row.5));
     combines(rt, alloc, Op::AndNot, &a, &b, (row.6, row.7));
     combines(rt, alloc, Op::Not, &a, &b, (row.8, row.9));
+    combines_own(rt, alloc, row, &b);
     stays(rt, alloc, row.0, &a);
     stays(rt, alloc, row.1, &b);
 }

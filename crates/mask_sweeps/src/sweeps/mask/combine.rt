@@ -41,6 +41,8 @@ pub(super) fn combines(rt: &impl Abort, alloc: Global, mask: &Mask, case: &Case)
         is_list(rt, &of_lent(rt, alloc, *op, mask, &other), want);
         let clone = found(rt, mask.clone());
         is_list(rt, &of_owned(rt, alloc, *op, clone, &other), want);
+        let own = mask_of(rt, alloc, &case.plain.values);
+        is_list(rt, &of_owned(rt, alloc, *op, own, &other), want);
     }
 }
 
