@@ -1,3 +1,5 @@
+//! The boolean calls of buffers.
+
 ghost use Rattle.std.specs.Prelude.{◌≡◌, length, IfOk};
 ghost use Rattle.mask_bits.specs.Buffer.{values};
 ghost use Rattle.mask_bits.specs.Lists.{and_of, or_of, and_not_of, not_of, combined};

@@ -112,7 +112,7 @@ impl BitBuffer {
         requires can { I.can_next bools }
         requires ends { UpTo (I.remaining bools) usize.MAX }
         ensures items { IfOk result (λ b. Drains I.next_gives bools (values b)) }
-        ensures runs { IfOk result (λ b. WholeRun I.next_gives bools (λ p. values b ≡ p.items)) }
+        ensures whole { IfOk result (λ b. WholeRun I.next_gives bools (λ p. values b ≡ p.items)) }
     {
         // listed first: a word is packed from 64 values in a row several times as fast as from an
         // iterator, which may end at each

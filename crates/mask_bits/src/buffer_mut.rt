@@ -1,3 +1,5 @@
+//! A builder of packed bits.
+
 ghost use Rattle.std.specs.Prelude.{◌≡◌, ◌+◌, ◌*◌, ◌%◌, ◌^◌, ◌<◌, ◌≤◌, ◌++◌, ℕ, true, false, [], length, take, slice_set, IfOk, OnOk, OnErr, vec_len};
 ghost use Rattle.mask_bits.specs.Buffer.{backing_bit, values};
 ghost use Rattle.mask_bits.specs.Positions.{repeated};

@@ -1,3 +1,5 @@
+//! The words of a list, and searches by words.
+
 ghost use Rattle.std.specs.Prelude.{◌≡◌, ◌+◌, ◌-◌, ◌*◌, ◌/◌, ◌%◌, ◌<◌, ◌≤◌, ◌^◌, ℕ, length, not, slice_get, take, drop, IfSome, Some};
 ghost use Rattle.std.specs.Iterator.{YieldsFirstBy, UpTo, item_count};
 ghost use Rattle.std.specs.Iterator.Runs.{EveryRun, ItemsMapTo};
@@ -32,7 +34,7 @@ impl<'a> Model for BitChunks<'a> {
 }
 
 impl<'a> BitChunks<'a> {
-    /// The words of the `len` bits of `bytes` from bit position `offset` on, with no buffer of them.
+    /// The words of `len` bits of `bytes` from bit `offset` on, without a `BitBuffer`.
     pub fn new(bytes: &'a [u8], offset: usize, len: usize) -> BitChunks<'a>
         requires { IsWithinBytes bytes.now offset len }
         ensures list { result ≡ values (record { bytes = bytes.now; offset = offset; len = len }) }

@@ -1,3 +1,5 @@
+//! The boolean calls of masks.
+
 ghost use Rattle.std.specs.Prelude.{◌≡◌, ◌≢◌, ◌⊎◌, IsOk, IfOk, IsOkUnless, Ok, alloc_error, length};
 ghost use Rattle.mask_bits.specs.Lists.{and_of, or_of, not_of, and_not_of};
 ghost use Rattle.vortex_mask.specs.Bitops.{and_caches, or_caches, and_not_caches};

@@ -38,11 +38,11 @@ pub use values::{MaskValues, MaskValuesRef};
 /// held as `AllTrue(0)` or `AllFalse(0)`; any other list has one variant.
 #[derive(Drop)]
 pub enum Mask {
-    /// So many values, each true.
+    /// All true: the number of values.
     AllTrue(usize),
-    /// So many values, each false.
+    /// All false: the number of values.
     AllFalse(usize),
-    /// Some values true, and some not.
+    /// At least one value true, and one false.
     Values(MaskValuesRef),
 }
 
@@ -205,7 +205,7 @@ impl Mask {
         }
     }
 
-    /// The values inside `Values`.
+    /// The mixed values, or `None` where the mask is all true or all false.
     pub fn values(&self) -> Option<&MaskValues>
         ensures { option_copied result ≡ contents self.now }
     {

@@ -9,7 +9,7 @@ ghost use Rattle.vortex_mask.specs.Deposit.{Deposits};
 
 pub use bytewise::deposit_bytewise;
 
-/// A way to deposit the low bits of a word at the set places of a mask word.
+/// Scatters the low bits of a word to the set bits of a mask word, as the instruction PDEP does.
 pub trait DepositBits {
     /// The word whose bit `i` is set exactly where bit `i` of `mask` is and so is the bit of
     /// `source` whose number is the count of mask bits below `i`. So the set places of `mask`
@@ -92,8 +92,8 @@ fn lowest_bit_at(place: u64, source: u64) -> u64
     place & (source & 1).wrapping_neg()
 }
 
-/// The deposit at a mask with at most two clear bits: the source makes room for each of these
-/// holes, the lowest first. Room is clear.
+/// The deposit at a mask with at most two clear bits: from each of these on, the lowest first, the
+/// bits of the source move up by one.
 pub fn deposit_two_holes(source: u64, mask: u64) -> u64
     requires { 62 ≤ count (word_bits mask) }
     ensures { Deposits source mask result }

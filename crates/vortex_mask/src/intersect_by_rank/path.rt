@@ -15,10 +15,10 @@ use crate::mask::{Mask, MaskError, MaskValues};
 use std::alloc::{AllocError, Global};
 use std::borrow::CowSlice;
 
-/// How a mask of mixed values is narrowed by another: the kernel that runs.
+/// The four kernels of rank intersection.
 #[derive(Debug, Clone, Copy, PartialEq, Eq)]
 pub enum RankPath {
-    /// `intersect_by_rank_indices`: one list of places is taken at another.
+    /// `intersect_by_rank_indices`: one list of true indices is taken at another.
     Indices,
     /// `intersect_mask_driven`: each rank is looked for in the words of self.
     MaskDriven,
@@ -40,8 +40,8 @@ const RANKS_OF_A_SELECTION: u64 = 32;
 // takes longer than to read the rank mask's bits as they are.
 const RANKS_OF_A_LISTED_ONE: u64 = 4;
 
-/// The kernel by which `intersect_by_rank` narrows `values` by `ranks`. It goes by the lengths, the
-/// counts and which lists of true indices are cached, and makes none.
+/// The path of two mixed masks, by their lengths, their counts and which lists of true indices are
+/// cached. It makes no list.
 pub fn rank_path(values: &MaskValues, ranks: &MaskValues) -> RankPath
     ensures { result ≡ path_of values.now ranks.now }
 {
@@ -70,7 +70,7 @@ fn times_true(mask: &MaskValues, times: u64) -> u128
     u128::from(times) * mask.true_count() as u128
 }
 
-// By the kernel of their path.
+// The rank intersection of two mixed masks, by the kernel that `rank_path` names.
 pub(super) fn narrow_by_path(
     alloc: Global,
     rows: &MaskValues,
@@ -95,7 +95,7 @@ pub(super) fn narrow_by_path(
     }
 }
 
-// By the true indices of both.
+// Of true indices of both, which are listed where they are not cached.
 fn by_indices(
     alloc: Global,
     rows: &MaskValues,
@@ -145,7 +145,7 @@ fn by_selections(
     }
 }
 
-// By the bits of both.
+// Of the bits of both: one deposit a word.
 fn by_buffers<D: DepositBits>(
     alloc: Global,
     rows: &MaskValues,
@@ -160,7 +160,7 @@ fn by_buffers<D: DepositBits>(
     intersect_bit_buffers::<D>(alloc, buffer, bits, true_count)
 }
 
-// By the bits of the first and the cached true indices of the second.
+// Of the bits of the first and the cached true indices of the second: one deposit a word.
 fn by_rank_indices<D: DepositBits>(
     alloc: Global,
     rows: &MaskValues,

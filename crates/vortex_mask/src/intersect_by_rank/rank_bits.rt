@@ -1,3 +1,5 @@
+//! The bits of a rank mask, read many at once from any bit on.
+
 ghost use Rattle.std.specs.Prelude.{◌≡◌, ◌+◌, ◌<◌, ◌^◌};
 ghost use Rattle.mask_bits.specs.Buffer.{IsWithinBytes};
 ghost use Rattle.mask_bits.specs.Words.{word_bits, window};
@@ -39,7 +41,7 @@ impl<'a> RankBits<'a> {
         RankBits::over(buffer.inner().as_slice(), buffer.offset(), buffer.len())
     }
 
-    /// The `len` bits of `bytes` from bit position `offset` on, with no buffer of them.
+    /// The `len` bits of `bytes` from bit `offset` on, without a `BitBuffer`.
     pub fn over(bytes: &'a [u8], offset: usize, len: usize) -> RankBits<'a>
         requires { IsWithinBytes bytes.now offset len }
         ensures bits { result ≡ record { bytes = bytes.now; offset = offset; len = len } }

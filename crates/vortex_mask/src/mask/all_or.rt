@@ -1,18 +1,23 @@
+//! A value, or all rows, or none.
+
 ghost use Rattle.std.specs.Prelude.{◌≡◌, IfErr, IfOk, IsOkUnless, alloc_error};
 ghost use Rattle.vortex_mask.specs.AllOr.{all_or_copied, MatchAllOr, ForValue, IsOnlyClone};
 
 use crate::mask::MaskError;
 
-/// A value, or that it stands for all or for none.
+/// All rows, no row, or a value that says which.
 #[derive(Debug, Drop, PartialEq, Eq)]
 pub enum AllOr<T> {
+    /// Each row.
     All,
+    /// No row.
     None,
+    /// The rows that a value says.
     Some(T),
 }
 
 impl<T> AllOr<T> {
-    /// The value, or what the one fitting closure answers. The other one isn't called.
+    /// The value of `Some`, or what `all_true` answers for `All` and `all_false` for `None`.
     pub fn unwrap_or_else<F: FnOnce() -> T, G: FnOnce() -> T>(self, all_true: F, all_false: G) -> T
         requires all_true { self ≡ AllOr.All → F.pre all_true }
         requires all_false { self ≡ AllOr.None → G.pre all_false }
@@ -27,7 +32,7 @@ impl<T> AllOr<T> {
 }
 
 impl<T: Clone> AllOr<&T> {
-    /// The value's clone in its place. The condition is for types whose clones may differ.
+    /// Clones the value behind the reference, which its clones have to equal.
     pub fn cloned(self) -> Result<AllOr<T>, MaskError>
         requires { ForValue self (λ x. IsOnlyClone T.is_clone x.now) }
         ensures same { IfOk result (λ a. a ≡ all_or_copied self.entry) }

@@ -1,4 +1,4 @@
-//! Lists of the true indices and of their runs, which a mask makes once and keeps.
+//! Lists of the true indices and of their runs, which a mask makes once and caches.
 
 ghost use Rattle.std.specs.Prelude.{◌≡◌, ◌≢◌, ◌*◌, ◌<◌, ◌↔◌, true, false, IsTrue, IsOk, IsSome, IfOk, OnErr, Some, length, IsOkUnless, alloc_error};
 ghost use Rattle.std.specs.Borrow.{sem};
@@ -27,7 +27,7 @@ pub enum MaskIter<'a> {
 /// Lists of the true indices, made where they are not cached yet, and cached from then on. Clones that
 /// were made before keep the lists they had.
 ///
-/// Where being out of memory refuses a list, the mask stays as it was.
+/// Where memory is out the mask stays as it was.
 impl Mask {
     /// `All`, `None` or the true indices, ascending, by variant.
     pub fn indices(&mut self, alloc: Global) -> Result<AllOr<&[usize]>, MaskError>
@@ -77,9 +77,8 @@ impl Mask {
         })
     }
 
-    /// `All`, `None` or a list, by variant: the ranges of `slices` where at least `num` of each
-    /// `den` values are true, taken over the whole mask, else the list of `indices`. The
-    /// comparison is exact.
+    /// `All`, `None` or a list, by variant: the ranges of `slices` where the share of true values is
+    /// `num / den` or more, else the list of `indices`. The comparison is exact.
     pub fn threshold_iter(
         &mut self,
         alloc: Global,
@@ -119,7 +118,7 @@ impl Mask {
         Ok(AllOr::Some(self.lend_list(by_ranges)))
     }
 
-    // The ranges that a mixed mask keeps, or the true indices that it keeps.
+    // The cached ranges of a mixed mask, or its cached true indices.
     fn lend_list(&self, by_ranges: bool) -> MaskIter<'_>
         requires mixed { variant self.now ≡ mixed }
         requires ranges { by_ranges ≡ true → IsSome (caches self.now).ranges }
@@ -134,8 +133,8 @@ impl Mask {
         }
     }
 
-    // Keeps the true indices where the mask is mixed: it makes the list, a clone of the values with
-    // it and what shares them, and becomes that.
+    // Caches the true indices where the mask is mixed: it makes the list and a clone of the values
+    // with it, and becomes a mask of that clone.
     fn fill_indices(&mut self, alloc: Global) -> Result<(), MaskError>
         ensures filled { IfOk result (λ _. variant self.old ≡ mixed → IsCaching self.old
             (with_indices (positions (truth self.old)) (caches self.old)) self.new) }
@@ -154,7 +153,7 @@ impl Mask {
         Ok(())
     }
 
-    // Keeps the maximal ranges where the mask is mixed, in the same way.
+    // Caches the runs where the mask is mixed, in the same way.
     fn fill_slices(&mut self, alloc: Global) -> Result<(), MaskError>
         ensures filled { IfOk result (λ _. variant self.old ≡ mixed → IsCaching self.old
             (with_ranges (runs (truth self.old)) (caches self.old)) self.new) }

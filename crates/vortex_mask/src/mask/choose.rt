@@ -9,7 +9,7 @@ use crate::mask::{Mask, MaskError};
 use mask_bits::BitBuffer;
 use std::alloc::{AllocError, Global};
 
-/// Rows.
+/// Choosing rows.
 #[tactic(auto, using(crate::proofs::Masks::MaskLemmas::row_facts))]
 impl Mask {
     /// The rows at the true indices, in their order.
@@ -45,9 +45,9 @@ fn rows_at<T: Copy>(alloc: Global, rows: &[T], buffer: &BitBuffer) -> Result<Vec
     requires { length rows.now ≡ length (values buffer.now) }
     ensures { IfOk result (λ v. v.items ≡ chosen rows.now (values buffer.now)) }
 {
-    let mut at_places = Vec::new(alloc);
-    for place in buffer.set_indices() {
-        at_places.push(rows[place])?;
+    let mut at_indices = Vec::new(alloc);
+    for index in buffer.set_indices() {
+        at_indices.push(rows[index])?;
     }
-    Ok(at_places)
+    Ok(at_indices)
 }

@@ -30,7 +30,7 @@ impl Mask {
         requires ends { IsFinite (I.remaining masks) }
         ensures list { IfOk result (λ m. (ms : List (Bor mask)) × Drains I.next_gives masks ms
             × Joins (lists_of ms) m) }
-        ensures runs { IfOk result (λ m. WholeRun I.next_gives masks (λ p. Joins (lists_of p.items) m)) }
+        ensures whole { IfOk result (λ m. WholeRun I.next_gives masks (λ p. Joins (lists_of p.items) m)) }
         ensures variant { IfOk result (λ m. variant m ≡ fitting_variant all_true (truth m)) }
         ensures caches { IfOk result (λ m. caches m ≡ no_caches) }
 
@@ -38,7 +38,7 @@ impl Mask {
         ensures refused { IfErr result (λ e. (e ≡ MaskError.Memory alloc_error)
             ⊎ ((ms : List (Bor mask)) × Drains I.next_gives masks ms
             × (e ≡ MaskError.LengthOverflow) × (2 ^ 64 ≤ total_len (lists_of ms)))) }
-        ensures refused_runs { IfErr result (λ e. (e ≡ MaskError.Memory alloc_error)
+        ensures refused_whole { IfErr result (λ e. (e ≡ MaskError.Memory alloc_error)
             ⊎ WholeRun I.next_gives masks
             (λ p. (e ≡ MaskError.LengthOverflow) × (2 ^ 64 ≤ total_len (lists_of p.items)))) }
     {
@@ -53,7 +53,7 @@ impl Mask {
         requires ends { IsFinite (I.remaining masks) }
         ensures list { IfOk result (λ m. (ms : List mask) × Drains I.next_gives masks ms
             × Joins (map truth ms) m) }
-        ensures runs { IfOk result (λ m. WholeRun I.next_gives masks (λ p. Joins (map truth p.items) m)) }
+        ensures whole { IfOk result (λ m. WholeRun I.next_gives masks (λ p. Joins (map truth p.items) m)) }
         ensures variant { IfOk result (λ m. variant m ≡ fitting_variant all_true (truth m)) }
         ensures caches { IfOk result (λ m. caches m ≡ no_caches) }
 
@@ -61,7 +61,7 @@ impl Mask {
         ensures refused { IfErr result (λ e. (e ≡ MaskError.Memory alloc_error)
             ⊎ ((ms : List mask) × Drains I.next_gives masks ms
             × (e ≡ MaskError.LengthOverflow) × (2 ^ 64 ≤ total_len (map truth ms)))) }
-        ensures refused_runs { IfErr result (λ e. (e ≡ MaskError.Memory alloc_error)
+        ensures refused_whole { IfErr result (λ e. (e ≡ MaskError.Memory alloc_error)
             ⊎ WholeRun I.next_gives masks
             (λ p. (e ≡ MaskError.LengthOverflow) × (2 ^ 64 ≤ total_len (map truth p.items)))) }
     {

@@ -88,7 +88,7 @@ impl Mask {
         requires can { I.can_next bools }
         requires ends { UpTo (I.remaining bools) usize.MAX }
         ensures list { IfOk result (λ m. Drains I.next_gives bools (truth m)) }
-        ensures runs { IfOk result (λ m. WholeRun I.next_gives bools (λ p. truth m ≡ p.items)) }
+        ensures whole { IfOk result (λ m. WholeRun I.next_gives bools (λ p. truth m ≡ p.items)) }
         ensures variant { IfOk result (λ m. variant m ≡ fitting_variant all_false (truth m)) }
         ensures caches { IfOk result (λ m. caches m ≡ no_caches) }
         ensures refused { IsOkUnless result (MaskError.Memory alloc_error) }

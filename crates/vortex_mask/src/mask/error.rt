@@ -1,3 +1,5 @@
+//! Why a call on masks is refused.
+
 ghost use Rattle.std.specs.Prelude.{◌≡◌, alloc_error};
 ghost use Rattle.vortex_mask.specs.declared.mask.error.MaskError.TheVariants.{Memory};
 
@@ -7,7 +9,7 @@ use thiserror::Error;
 /// Why a call on masks was refused.
 #[derive(Debug, Drop, Error, PartialEq, Eq)]
 pub enum MaskError {
-    /// A growth was really refused.
+    /// Out of memory.
     #[error("out of memory")]
     Memory(AllocError),
     /// The index at place `at` is below the one before it.

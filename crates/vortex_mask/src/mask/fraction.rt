@@ -11,7 +11,7 @@ pub struct Fraction {
 }
 
 impl Fraction {
-    /// Whether this is `other` or more. The products are exact.
+    /// Whether `self >= other`, compared exactly.
     pub fn at_least(self, other: Fraction) -> bool
         requires den { 0 < self.den }
         requires other_den { 0 < other.den }

@@ -37,7 +37,7 @@ impl Mask {
         ensures len { IfOk result (λ m. length (truth m) ≡ len) }
         ensures indices { IfOk result (λ m. Drains I.next_gives indices (positions (truth m))) }
         ensures faultless { IfOk result (λ m. index_fault len (positions (truth m)) ≡ None) }
-        ensures runs { IfOk result
+        ensures whole { IfOk result
             (λ m. WholeRun I.next_gives indices (λ p. positions (truth m) ≡ p.items)) }
         ensures variant { IfOk result (λ m. variant m ≡ fitting_variant all_false (truth m)) }
         ensures caches { IfOk result
@@ -46,7 +46,7 @@ impl Mask {
         // A refusal is the fault of what the iterator yielded, or that memory is out.
         ensures refused { IfErr result (λ e. (e ≡ MaskError.Memory alloc_error)
             ⊎ ((xs : List ℕ) × Drains I.next_gives indices xs × (index_fault len xs ≡ Some e))) }
-        ensures refused_runs { IfErr result (λ e. (e ≡ MaskError.Memory alloc_error)
+        ensures refused_whole { IfErr result (λ e. (e ≡ MaskError.Memory alloc_error)
             ⊎ WholeRun I.next_gives indices (λ p. index_fault len p.items ≡ Some e)) }
     {
         let indices: Vec<usize> = indices.collect(alloc)?;
@@ -185,7 +185,7 @@ impl Mask {
         requires ends { IsFinite (I.remaining indices) }
         ensures list { IfOk result (λ m. (xs : List ℕ) × Drains I.next_gives indices xs
             × (out_of_bounds len xs ≡ None) × (truth m ≡ not_of (true_at len xs))) }
-        ensures runs { IfOk result (λ m. WholeRun I.next_gives indices
+        ensures whole { IfOk result (λ m. WholeRun I.next_gives indices
             (λ p. (out_of_bounds len p.items ≡ None) × (truth m ≡ not_of (true_at len p.items)))) }
         ensures variant { IfOk result (λ m. variant m ≡ fitting_variant all_true (truth m)) }
         ensures caches { IfOk result (λ m. caches m ≡ no_caches) }
@@ -193,7 +193,7 @@ impl Mask {
         // A refusal is the fault of what the iterator yielded, or that memory is out.
         ensures refused { IfErr result (λ e. (e ≡ MaskError.Memory alloc_error)
             ⊎ ((xs : List ℕ) × Drains I.next_gives indices xs × (out_of_bounds len xs ≡ Some e))) }
-        ensures refused_runs { IfErr result (λ e. (e ≡ MaskError.Memory alloc_error)
+        ensures refused_whole { IfErr result (λ e. (e ≡ MaskError.Memory alloc_error)
             ⊎ WholeRun I.next_gives indices (λ p. out_of_bounds len p.items ≡ Some e)) }
     {
         let mut builder = BitBufferMut::new_set(alloc, len)?;
@@ -273,7 +273,7 @@ impl Mask {
         ensures indices { IfOk result (λ m. (xs : List ℕ) × (ys : List ℕ)
             × Drains L.next_gives lhs xs × Drains R.next_gives rhs ys
             × (positions (truth m) ≡ common xs ys)) }
-        ensures runs { IfOk result (λ m. WholeRun L.next_gives lhs
+        ensures whole { IfOk result (λ m. WholeRun L.next_gives lhs
             (λ p. WholeRun R.next_gives rhs (λ q. positions (truth m) ≡ common p.items q.items))) }
         ensures within { IfOk result (λ m. out_of_bounds len (positions (truth m)) ≡ None) }
         ensures variant { IfOk result (λ m. variant m ≡ fitting_variant all_false (truth m)) }
@@ -285,7 +285,7 @@ impl Mask {
             ⊎ ((xs : List ℕ) × (ys : List ℕ)
             × Drains L.next_gives lhs xs × Drains R.next_gives rhs ys
             × (out_of_bounds len (common xs ys) ≡ Some e))) }
-        ensures refused_runs { IfErr result (λ e. (e ≡ MaskError.Memory alloc_error)
+        ensures refused_whole { IfErr result (λ e. (e ≡ MaskError.Memory alloc_error)
             ⊎ WholeRun L.next_gives lhs (λ p. WholeRun R.next_gives rhs
             (λ q. out_of_bounds len (common p.items q.items) ≡ Some e))) }
     {

@@ -17,9 +17,9 @@ use mask_bits::{BitIterator, SetIndices, SetSlices};
 /// The values of a mask, in their order.
 #[derive(Drop)]
 pub enum MaskBoolIter<'a> {
-    /// One value, so many more times.
+    /// `value`, `remaining` more times.
     Repeat { value: bool, remaining: usize },
-    /// Those that are left of a buffer.
+    /// What is left of the values of a buffer.
     Bits(BitIterator<'a>),
 }
 
@@ -88,7 +88,7 @@ impl Mask {
 pub enum MaskSetIndices<'a> {
     /// Each index from `next` on, before `end`.
     Range { next: usize, end: usize },
-    /// Those that are left of a buffer.
+    /// What is left of the true indices of a buffer.
     Bits(SetIndices<'a>),
 }
 
@@ -139,7 +139,7 @@ impl Mask {
 pub enum MaskSetSlices<'a> {
     /// One run, if it is still to come.
     Whole(Option<(usize, usize)>),
-    /// Those that are left of a buffer.
+    /// What is left of the runs of a buffer.
     Bits(SetSlices<'a>),
 }
 

@@ -17,8 +17,7 @@ use std::alloc::{AllocError, Global};
 /// Parts, and the first true values.
 #[tactic(auto, using(crate::proofs::Masks::MaskLemmas::variant_facts, crate::proofs::Masks::MaskLemmas::part_facts))]
 impl Mask {
-    /// The values from `start` to `end`. All of them are the same mask with the lists that it
-    /// keeps, and any other part keeps none.
+    /// The values `start..end`. The whole mask has its cached lists, and any other part has none.
     pub fn slice(&self, alloc: Global, start: usize, end: usize) -> Result<Mask, MaskError>
         requires ordered { start ≤ end }
         requires within { end ≤ length (truth self.now) }

@@ -77,7 +77,7 @@ impl MaskValues {
         self.buffer.len()
     }
 
-    /// Whether there is no value, which is never so.
+    /// Always false: there are at least two values.
     pub fn is_empty(&self) -> bool
         ensures { IsTrue result ↔ (values self.now.buffer ≡ []) }
     {
@@ -102,7 +102,7 @@ impl MaskValues {
         &self.buffer
     }
 
-    /// The values, packed, without their count and its cached lists.
+    /// Takes the packed values out. Their count and the cached lists are dropped.
     pub fn into_bit_buffer(self) -> BitBuffer
         ensures { result ≡ self.buffer }
     {
@@ -212,8 +212,8 @@ impl MaskValues {
         Ok(self.lend_slices())
     }
 
-    /// The ranges of `slices` where at least `num` of each `den` values are true, taken over all
-    /// of them, else the list of `indices`. The comparison is exact.
+    /// The ranges of `slices` where the share of true values is `num / den` or more, else the list of
+    /// `indices`. The comparison is exact.
     pub fn threshold_iter(
         &mut self,
         alloc: Global,

@@ -25,7 +25,8 @@ ghost use Rattle.mask_bits.specs.Words.{word_bits};
 ghost use Rattle.vortex_mask.specs.Bytes.{byte_at, EachByte, packed_after, landed_in, odd_places, moved_down, with_moved, halved, moved_up, halves_summed};
 ghost use Rattle.vortex_mask.specs.Deposit.{Deposits};
 
-/// The deposit at every mask. It takes about as long at each: some hundred word operations.
+/// The deposit at any mask, by a network over its eight bytes at once. It takes about as long at
+/// each mask: some hundred word operations.
 // Inlined, so that a kernel's loop loads the constants of the network once.
 #[inline(always)]
 pub fn deposit_bytewise(source: u64, mask: u64) -> u64

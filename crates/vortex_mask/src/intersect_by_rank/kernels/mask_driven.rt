@@ -17,8 +17,8 @@ use crate::mask::{Mask, MaskError};
 use mask_bits::{BitBuffer, BitChunks};
 use std::alloc::{AllocError, Global};
 
-/// The values of a buffer narrowed to the true ones at the ranks that `mask_indices` yields,
-/// ascending, `true_count` of them. It caches their places.
+/// Keeps the true values of `self_buffer` at the ranks that `mask_indices` yields, ascending,
+/// `true_count` of them. The result caches its true indices.
 ///
 /// Takes one selection for each rank. A word of the buffer is read only once a rank lies past the
 /// words read so far, and none is read again, so this is the kernel for few ranks. No word is
@@ -36,7 +36,7 @@ pub fn intersect_mask_driven<S: SelectBit, I: Iterator<Item = usize>>(
     ensures len { IfOk result (λ r. length (truth r.0) ≡ length (values self_buffer.now)) }
     ensures true_indices { IfOk result (λ r. (xs : List ℕ) × Drains I.next_gives mask_indices xs
         × (positions (truth r.0) ≡ at_places (positions (values self_buffer.now)) xs)) }
-    ensures runs { IfOk result (λ r. WholeRun I.next_gives mask_indices
+    ensures whole { IfOk result (λ r. WholeRun I.next_gives mask_indices
         (λ p. positions (truth r.0) ≡ at_places (positions (values self_buffer.now)) p.items)) }
     ensures counted { IfOk result (λ r. count (truth r.0) ≡ true_count) }
     ensures variant { IfOk result (λ r. variant r.0 ≡ fitting_variant all_false (truth r.0)) }

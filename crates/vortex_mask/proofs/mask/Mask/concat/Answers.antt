@@ -3,13 +3,13 @@ use Rattle.std.proofs.lemmas.Result.{IfOk-weaker, IfErr-weaker}
 use Rattle.vortex_mask.specs.Concat.{lists_of, total_len, Joins}
 use Rattle.vortex_mask.proofs.mask.Mask.concat.Goals as goal
 
-pub returns-clause-runs : goal.returns-clause-runs
-returns-clause-runs g c =
+pub returns-clause-whole : goal.returns-clause-whole
+returns-clause-whole g c =
     let run = c.in_ok-masks.ensures.runs tt in
     IfOk-weaker c.concat_list.result _ _ (λ m joins. (run.0, run.1, run.2, subst (λ ms. Joins (lists_of ms) m) (c.deref.ensures.value ∙ run.3.0) joins)) c.concat_list.ensures.list
 
-pub returns-clause-refused_runs : goal.returns-clause-refused_runs
-returns-clause-refused_runs g c =
+pub returns-clause-refused_whole : goal.returns-clause-refused_whole
+returns-clause-refused_whole g c =
     let run = c.in_ok-masks.ensures.runs tt in
     IfErr-weaker c.concat_list.result _ _ (λ e h. elim h [
       | inl memory ↦ inl memory

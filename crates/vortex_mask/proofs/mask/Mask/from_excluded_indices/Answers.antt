@@ -23,8 +23,8 @@ returns-in-Some-clause-refused g c =
     ∙ ap (option_map (λ x. IndexOutOfBounds x c.args.len)) c.in-Some.is in
     inr (came.0, came.1, fault)
 
-pub returns-in-Some-clause-refused_runs : goal.returns-in-Some-clause-refused_runs
-returns-in-Some-clause-refused_runs g c =
+pub returns-in-Some-clause-refused_whole : goal.returns-in-Some-clause-refused_whole
+returns-in-Some-clause-refused_whole g c =
     let came = c.exclude.ensures in
     let n = ap length c.in_ok-builder.ensures ∙ length-repeated c.args.len true in
     let fault = out_of_bounds-first c.args.len (length c.in_ok-builder.builder) came.0 c.exclude.result n came.3
@@ -39,7 +39,7 @@ returns-clause-list g c =
     ∙ ap (option_map (λ x. IndexOutOfBounds x c.args.len)) c.in_default.is in
     IfOk-weaker c.of_builder.result _ _ (λ m same. (came.0, came.1, none, same ∙ came.2 ∙ ap (λ k. not_of (true_at k came.0)) n)) c.of_builder.ensures.list
 
-pub returns-clause-runs : goal.returns-clause-runs
-returns-clause-runs g c =
+pub returns-clause-whole : goal.returns-clause-whole
+returns-clause-whole g c =
     IfOk-weaker c.of_builder.result _ _ (λ m made.
     whole_run _ _ (λ (xs : List ℕ). (out_of_bounds c.args.len xs ≡ None) × (truth m ≡ not_of (true_at c.args.len xs))) made.0 made.1 (made.2, made.3)) (returns-clause-list g c)

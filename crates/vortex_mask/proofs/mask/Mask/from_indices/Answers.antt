@@ -4,12 +4,12 @@ use Rattle.vortex_mask.specs.Faults.{index_fault}
 use Rattle.vortex_mask.proofs.ResultLemmas.{IfErr-or}
 use Rattle.vortex_mask.proofs.mask.Mask.from_indices.Goals as goal
 
-pub returns-clause-runs : goal.returns-clause-runs
-returns-clause-runs g c =
+pub returns-clause-whole : goal.returns-clause-whole
+returns-clause-whole g c =
     let run = c.in_ok-indices.ensures.runs tt in
     IfOk-weaker c.of_list.result _ _ (λ m same. (run.0, run.1, run.2, same ∙ run.3.0)) c.of_list.ensures.indices
 
-pub returns-clause-refused_runs : goal.returns-clause-refused_runs
-returns-clause-refused_runs g c =
+pub returns-clause-refused_whole : goal.returns-clause-refused_whole
+returns-clause-refused_whole g c =
     let run = c.in_ok-indices.ensures.runs tt in
     IfErr-or c.of_list.result _ _ _ (λ e fault. (run.0, run.1, run.2, ap (index_fault c.args.len) (sym run.3.0) ∙ fault)) c.of_list.ensures.refused

@@ -13,8 +13,8 @@ returns-clause-indices g c =
     let same = ap₂ common (c.deref.ensures.value ∙ left.2.0) (c.deref-2.ensures.value ∙ right.2.0) in
     IfOk-weaker c.of_common.result _ _ (λ m is. (left.0, right.0, drained g.L.Iterator.next_gives c.args.lhs left.0 left.1, drained g.R.Iterator.next_gives c.args.rhs right.0 right.1, is ∙ same)) c.of_common.ensures.indices
 
-pub returns-clause-runs : goal.returns-clause-runs
-returns-clause-runs g c =
+pub returns-clause-whole : goal.returns-clause-whole
+returns-clause-whole g c =
     let left = c.in_ok-lhs.ensures.runs tt in
     let right = c.in_ok-rhs.ensures.runs tt in
     let same = ap₂ common (c.deref.ensures.value ∙ left.3.0) (c.deref-2.ensures.value ∙ right.3.0) in
@@ -27,8 +27,8 @@ returns-clause-refused g c =
     let same = ap₂ common (c.deref.ensures.value ∙ left.2.0) (c.deref-2.ensures.value ∙ right.2.0) in
     IfErr-or c.of_common.result _ _ _ (λ e fault. (left.0, right.0, drained g.L.Iterator.next_gives c.args.lhs left.0 left.1, drained g.R.Iterator.next_gives c.args.rhs right.0 right.1, ap (out_of_bounds c.args.len) (sym same) ∙ fault)) c.of_common.ensures.refused
 
-pub returns-clause-refused_runs : goal.returns-clause-refused_runs
-returns-clause-refused_runs g c =
+pub returns-clause-refused_whole : goal.returns-clause-refused_whole
+returns-clause-refused_whole g c =
     let left = c.in_ok-lhs.ensures.runs tt in
     let right = c.in_ok-rhs.ensures.runs tt in
     let same = ap₂ common (c.deref.ensures.value ∙ left.3.0) (c.deref-2.ensures.value ∙ right.3.0) in

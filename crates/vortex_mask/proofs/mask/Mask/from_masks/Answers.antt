@@ -23,8 +23,8 @@ returns-clause-list g c =
     let same = same_lists (YieldsList-from_slice c.in_ok-masks.masks.items cc) h.0 h.1 ran.0 ran.2.0 in
     (ran.0, (end.0, (ran.1.0, ran.1.1, end.1)), subst (λ ls. Joins ls m) same h.2)) c.concat.ensures.list
 
-pub returns-clause-runs : goal.returns-clause-runs
-returns-clause-runs g c =
+pub returns-clause-whole : goal.returns-clause-whole
+returns-clause-whole g c =
     let run = c.in_ok-masks.ensures.runs tt in
     IfOk-weaker c.concat.result _ _ (λ m h.
     let same = same_lists (YieldsList-from_slice c.in_ok-masks.masks.items cc) h.0 h.1 run.0.items run.3.0 in
@@ -41,8 +41,8 @@ returns-clause-refused g c =
           inr (ran.0, (end.0, (ran.1.0, ran.1.1, end.1)), over.2, subst (λ ls. 2 ^ 64 ≤ total_len ls) same over.3)
     ]) c.concat.ensures.refused
 
-pub returns-clause-refused_runs : goal.returns-clause-refused_runs
-returns-clause-refused_runs g c =
+pub returns-clause-refused_whole : goal.returns-clause-refused_whole
+returns-clause-refused_whole g c =
     let run = c.in_ok-masks.ensures.runs tt in
     IfErr-weaker c.concat.result _ _ (λ e h. elim h [
       | inl memory ↦ inl memory

@@ -8,44 +8,44 @@ use Rattle.mask_bits.proofs.Lists.ChooseLemmas.{chosen-step}
 use Rattle.mask_bits.proofs.Lists.Places.PlaceLemmas.{positions-within}
 use Rattle.vortex_mask.proofs.mask.choose.rows_at.Goals as goal
 
-pub loop-place-init : goal.loop-place-init
+pub loop-index-init : goal.loop-index-init
 unfolding chosen
-loop-place-init g c =
+loop-index-init g c =
     let rows = c.args.rows.now in
     let m = values c.args.buffer.now in
-    let places = c.into_iter-place-iterator.ensures.into_iter_gives ∙ c.set_indices-place-items.ensures.places in
+    let places = c.into_iter-index-iterator.ensures.into_iter_gives ∙ c.set_indices-index-items.ensures.places in
     record {
-      rows = ap (λ xs. xs ++ filter_map (λ i. slice_get rows i) c.into_iter-place-iterator.result) c.new-at_places.ensures.items
+      rows = ap (λ xs. xs ++ filter_map (λ i. slice_get rows i) c.into_iter-index-iterator.result) c.new-at_indices.ensures.items
           ∙ ap (filter_map (λ i. slice_get rows i)) places;
       within = subst (λ (ps : List ℕ). All (λ p. p < length rows) ps) (sym places)
           (subst (λ (n : ℕ). All (λ p. p < n) (positions m)) (sym c.requires) (positions-within m));
     }
 
-pub offset_bounds-rows-place : goal.offset_bounds-rows-place
-offset_bounds-rows-place g c =
+pub offset_bounds-rows-index : goal.offset_bounds-rows-index
+offset_bounds-rows-index g c =
     let within : ℕ → Type 0 = λ p. p < length c.args.rows.now in
-    let still = subst (All within) c.in-Some.ensures.steps c.loop-place.invariant.within in
-    omega (arith, All-head within c.in-Some.place _ still)
+    let still = subst (All within) c.in-Some.ensures.steps c.loop-index.invariant.within in
+    omega (arith, All-head within c.in-Some.index _ still)
 
-pub bounds-rows-place : goal.bounds-rows-place
-bounds-rows-place g c =
+pub bounds-rows-index : goal.bounds-rows-index
+bounds-rows-index g c =
     let within : ℕ → Type 0 = λ p. p < length c.args.rows.now in
-    All-head within c.in-Some.place _ (subst (All within) c.in-Some.ensures.steps c.loop-place.invariant.within)
+    All-head within c.in-Some.index _ (subst (All within) c.in-Some.ensures.steps c.loop-index.invariant.within)
 
-pub loop-place-preserved : goal.loop-place-preserved
-loop-place-preserved g c =
+pub loop-index-preserved : goal.loop-index-preserved
+loop-index-preserved g c =
     let rows = c.args.rows.now in
-    let place = c.in-Some.place in
-    let row = c.index-rows-place.result in
-    let out = c.loop-place.at_places.items in
+    let index = c.in-Some.index in
+    let row = c.index-rows-index.result in
+    let out = c.loop-index.at_indices.items in
     let rest = c.next.new.self in
     let within : ℕ → Type 0 = λ p. p < length rows in
-    let still = subst (All within) c.in-Some.ensures.steps c.loop-place.invariant.within in
-    let read = slice_get-get_or rows place row (All-head within place rest still) ∙ ap Some (sym c.index-rows-place.is) in
+    let still = subst (All within) c.in-Some.ensures.steps c.loop-index.invariant.within in
+    let read = slice_get-get_or rows index row (All-head within index rest still) ∙ ap Some (sym c.index-rows-index.is) in
     record {
       rows = ap (λ xs. xs ++ filter_map (λ i. slice_get rows i) rest) c.in_ok-push.ensures.items
-          ∙ sym (chosen-step rows out place rest row read)
+          ∙ sym (chosen-step rows out index rest row read)
           ∙ ap (λ (ps : List ℕ). out ++ filter_map (λ i. slice_get rows i) ps) (sym c.in-Some.ensures.steps)
-          ∙ c.loop-place.invariant.rows;
-      within = All-tail within place rest still;
+          ∙ c.loop-index.invariant.rows;
+      within = All-tail within index rest still;
     }

@@ -5,8 +5,8 @@ use Rattle.mask_bits.specs.Positions.{chosen}
 use Rattle.vortex_mask.proofs.mask.choose.rows_at.Given as goal
 
 -- the rows so far and those at the places to come are the rows chosen
-abbrev pub invariant-loop-place : goal.invariant-loop-place
-invariant-loop-place g l = record {
-  rows : l.at_places.items ++ filter_map (λ i. slice_get l.rows i) l.place-iterator ≡ chosen l.rows (values l.buffer);
-  within : All (λ p. p < length l.rows) l.place-iterator;
+abbrev pub invariant-loop-index : goal.invariant-loop-index
+invariant-loop-index g l = record {
+  rows : l.at_indices.items ++ filter_map (λ i. slice_get l.rows i) l.index-iterator ≡ chosen l.rows (values l.buffer);
+  within : All (λ p. p < length l.rows) l.index-iterator;
 }

@@ -21,12 +21,12 @@ of_indices-requires-clause-within g c =
     (places-within g.I.Iterator.next_gives c.args.mask_indices m c.args.true_count c.in_ok-places.places.items c.requires.ranks
     (run.0, run.1, run.2, run.3 ∙ ap (λ (xs : List Bool). at_places (positions xs) run.0.items) c.chunks.ensures.list))
 
-pub returns-clause-runs : goal.returns-clause-runs
-returns-clause-runs g c =
+pub returns-clause-whole : goal.returns-clause-whole
+returns-clause-whole g c =
     let run = c.in_ok-places.ensures.places in
     (run.0, run.1, run.2, c.in_ok-of_indices.ensures.indices ∙ run.3 ∙ ap (λ (xs : List Bool). at_places (positions xs) run.0.items) c.chunks.ensures.list)
 
 pub returns-clause-true_indices : goal.returns-clause-true_indices
 returns-clause-true_indices g c =
     let a = values c.args.self_buffer.now in
-    drained g.I.Iterator.next_gives c.args.mask_indices (λ (xs : List ℕ). positions (truth c.in_ok-of_indices.field-0) ≡ at_places (positions a) xs) (returns-clause-runs g c)
+    drained g.I.Iterator.next_gives c.args.mask_indices (λ (xs : List ℕ). positions (truth c.in_ok-of_indices.field-0) ≡ at_places (positions a) xs) (returns-clause-whole g c)
