@@ -4,10 +4,9 @@ ghost use Rattle.std.specs.Prelude.{◌≡◌, length, IfSome, Some, ◌+◌, �
 ghost use Rattle.std.specs.Iterator.{YieldsFirst, UpTo, item_count};
 ghost use Rattle.std.specs.Iterator.SizeHint.{IsWithinCount};
 ghost use Rattle.mask_bits.specs.Buffer.{values};
-ghost use Rattle.mask_bits.specs.Words.{word_bits, padded_part};
+ghost use Rattle.mask_bits.specs.Walk.{IsAtHand};
 
 use crate::buffer::BitBuffer;
-use crate::chunks::BitChunks;
 use std::marker::Model;
 
 /// The values of a buffer, in their order.
@@ -15,21 +14,21 @@ use std::marker::Model;
 pub struct BitIterator<'a> {
     buffer: &'a BitBuffer,
     next: usize,
-    // inside a word, that word
+    // the word at hand, and the place at which it ends or the list does
     word: u64,
+    end: usize,
 }
 
 impl<'a> Model for BitIterator<'a> {
     ghost use Rattle.std.specs.Prelude.{Bool, List, ◌≡◌, ◌≤◌, ◌<◌, ◌/◌, ◌%◌, drop, length};
     ghost use Rattle.mask_bits.specs.Buffer.{values};
-    ghost use Rattle.mask_bits.specs.Words.{word_bits, padded_part};
+    ghost use Rattle.mask_bits.specs.Walk.{IsAtHand};
 
     ghost Value = { List Bool };
 
     ghost view = { λ s. drop s.next (values s.buffer.now) };
 
-    ghost invariant = { λ s. (s.next ≤ length (values s.buffer.now))
-        × (0 < s.next % 64 → word_bits s.word ≡ padded_part (values s.buffer.now) (s.next / 64)) };
+    ghost invariant = { λ s. IsAtHand (values s.buffer.now) s.next s.end s.word };
 }
 
 impl<'a> BitIterator<'a> {
@@ -40,6 +39,7 @@ impl<'a> BitIterator<'a> {
             buffer,
             next: 0,
             word: 0,
+            end: 0,
         }
     }
 }
@@ -52,12 +52,14 @@ impl Iterator for BitIterator<'_> {
     ghost remaining = { item_count (λ s. s) };
 
     fn next(&mut self) -> Option<bool> {
-        if self.next == self.buffer.len() {
+        // within a word one test serves for its end and the list's
+        if self.next == self.end && self.next == self.buffer.len() {
             return None;
         }
-        // the word stays as it is, so that no value waits for the one before it
-        self.word = word_at_hand(&self.buffer.chunks(), self.next, self.word);
-        let bit = self.word >> (self.next % 64);
+        let (word, end) = word_at_hand(self.buffer, self.next, self.end, self.word);
+        self.word = word;
+        self.end = end;
+        let bit = word >> (self.next % 64);
         self.next += 1;
         Some(bit & 1 == 1)
     }
@@ -79,16 +81,19 @@ impl ExactSizeIterator for BitIterator<'_> {
     }
 }
 
-// The word of place `next`, where inside a word `word` is that.
+// The word of place `next`, and the place at which it ends or the list does, where `word` and `end`
+// are these unless `next` is `end`.
 #[inline]
-fn word_at_hand(chunks: &BitChunks<'_>, next: usize, word: u64) -> u64
-    requires within { next < length chunks.now }
-    requires inside { 0 < next % 64 → word_bits word ≡ padded_part chunks.now (next / 64) }
-    ensures { word_bits result ≡ padded_part chunks.now (next / 64) }
+fn word_at_hand(buffer: &BitBuffer, next: usize, end: usize, word: u64) -> (u64, usize)
+    requires within { next < length (values buffer.now) }
+    requires before { IsAtHand (values buffer.now) next end word }
+    ensures more { next < result.1 }
+    ensures at_hand { IsAtHand (values buffer.now) next result.1 result.0 }
 {
-    if next % 64 == 0 {
-        chunks.padded_word(next / 64)
+    if next == end {
+        let rest = buffer.len() - next;
+        (buffer.chunks().padded_word(next / 64), next + rest.min(64))
     } else {
-        word
+        (word, end)
     }
 }
