@@ -303,7 +303,7 @@ impl BitBuffer {
         SetIndices::new(self)
     }
 
-    /// The maximal ranges of true values, ascending, each by its first index and the index past its
+    /// The runs (maximal ranges) of true values, ascending, each by its first index and the index past its
     /// last.
     pub fn set_slices(&self) -> SetSlices<'_>
         ensures runs { AreRuns (values self.now) result }

@@ -11,7 +11,7 @@ use crate::chunks::BitChunks;
 use crate::scan::{first_word, next_word};
 use std::marker::Model;
 
-/// The maximal ranges of a buffer's true values, ascending.
+/// The runs (maximal ranges) of a buffer's true values, ascending.
 #[derive(Drop)]
 pub struct SetSlices<'a> {
     chunks: BitChunks<'a>,

@@ -242,7 +242,7 @@ fn ranges(alloc: Global, a: &MaskArgument) -> Result<String, RunError>
     print_list(alloc, runs(alloc, &mask))
 }
 
-// The longest ranges of true values.
+// The runs of true values.
 fn runs(alloc: Global, mask: &Mask) -> Result<Vec<(usize, usize)>, AllocError>
     ensures { IfOk result (λ v. v.items ≡ runs (truth mask.now)) }
 {

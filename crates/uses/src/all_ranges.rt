@@ -8,7 +8,7 @@ use mask_bits::laws;
 use std::alloc::{AllocError, Global};
 use vortex_mask::Mask;
 
-/// The maximal ranges of the rows that a mask chooses, however it is held.
+/// The runs of the rows that a mask chooses, however it is held.
 pub fn ranges(alloc: Global, mask: &Mask) -> Result<Vec<(usize, usize)>, AllocError>
     ensures { IfOk result (λ v. AreRuns (truth mask.now) v.items) }
 {

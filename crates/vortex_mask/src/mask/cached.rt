@@ -15,12 +15,12 @@ use crate::mask::{AllOr, Mask, MaskError};
 use std::alloc::Global;
 use std::rc::Rc;
 
-/// A list of the true indices of a mask: the indices, or the maximal ranges that hold them.
+/// A list of the true indices of a mask: the indices, or their runs: the maximal ranges that hold them.
 #[derive(Drop)]
 pub enum MaskIter<'a> {
     /// The indices, ascending.
     Indices(&'a [usize]),
-    /// The maximal ranges, ascending, each its first index and the index past its last.
+    /// The runs, ascending, each its first index and the index past its last.
     Slices(&'a [(usize, usize)]),
 }
 
@@ -52,7 +52,7 @@ impl Mask {
         })
     }
 
-    /// `All`, `None` or the maximal ranges of true indices, ascending, by variant. Each is its first
+    /// `All`, `None` or the runs of true indices, ascending, by variant. Each is its first
     /// place and the place past its last. Equal masks that are mixed lend equal ranges, however they
     /// were made.
     pub fn slices(&mut self, alloc: Global) -> Result<AllOr<&[(usize, usize)]>, MaskError>

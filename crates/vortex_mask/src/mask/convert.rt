@@ -35,7 +35,7 @@ impl Mask {
     }
 
     /// The values of a buffer, whose true indices these ranges hold. Where some values are true and
-    /// some are not the mask keeps its maximal ranges: those that touch are merged, in the memory
+    /// some are not the mask caches its runs: ranges that touch are merged, in the memory
     /// that came with them. An empty buffer gives `AllFalse(0)`.
     pub fn from_buffer_with_slices(
         alloc: Global,

@@ -16,7 +16,7 @@ use std::alloc::{AllocError, Global};
 
 impl Mask {
     /// The mask of `len` values that is true exactly in these ranges. Where some values are true and
-    /// some are not it keeps its maximal ranges: those that touch are merged, in the memory that
+    /// some are not it caches its runs: ranges that touch are merged, in the memory that
     /// came with them. No values give `AllFalse(0)`.
     ///
     /// All ranges are tested before any memory is taken: `BadRange` is told of the first that is

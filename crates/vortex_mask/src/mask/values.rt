@@ -24,7 +24,7 @@ pub type MaskValuesRef = Rc<MaskValues>;
 
 /// A bit buffer in which some values are true and some are not, with the count of the true ones.
 ///
-/// It may keep the list of the true indices, and the list of the maximal ranges that hold them.
+/// It may cache the list of the true indices, and the list of their runs.
 #[derive(Drop)]
 pub struct MaskValues {
     buffer: BitBuffer,
@@ -131,7 +131,7 @@ impl MaskValues {
         self.indices.as_deref()
     }
 
-    /// The maximal ranges of true indices, ascending, if they are cached.
+    /// The runs of true indices, ascending, if they are cached.
     pub fn cached_slices(&self) -> Option<&[(usize, usize)]>
         ensures cached { option_map (λ ranges. ranges.now) result ≡ self.now.caches.ranges }
         ensures whole { AreOf (values self.now.buffer) self.now.caches }
@@ -195,7 +195,7 @@ impl MaskValues {
         Ok(self.lend_indices())
     }
 
-    /// The maximal ranges of true indices, ascending. Each is its first index and the index past its
+    /// The runs of true indices, ascending. Each is its first index and the index past its
     /// last.
     pub fn slices(&mut self, alloc: Global) -> Result<&[(usize, usize)], MaskError>
         ensures list { IfOk result (λ ranges. ranges.now ≡ runs (values self.old.buffer)) }
@@ -262,7 +262,7 @@ impl MaskValues {
         self.indices.as_deref().unwrap()
     }
 
-    // The maximal ranges, which are cached.
+    // The runs, which are cached.
     pub(crate) fn lend_slices(&self) -> &[(usize, usize)]
         requires { IsSome self.now.caches.ranges }
         ensures list { result.now ≡ runs (values self.now.buffer) }
@@ -285,7 +285,7 @@ impl MaskValues {
         Ok(())
     }
 
-    // Makes the list of the maximal ranges, then keeps it, where there is none.
+    // Makes the list of the runs and caches it, where there is none.
     fn cache_slices(&mut self, alloc: Global) -> Result<(), MaskError>
         ensures filled { IfOk result (λ _. self.new
             ≡ with_caches (with_ranges (runs (values self.old.buffer)) self.old.caches) self.old) }
@@ -311,7 +311,7 @@ impl MaskValues {
         Ok(filled)
     }
 
-    // The same values with their maximal ranges cached.
+    // The same values with their runs cached.
     pub(crate) fn with_slices(&self, alloc: Global) -> Result<MaskValues, MaskError>
         ensures filled { IfOk result (λ v. v
             ≡ with_caches (with_ranges (runs (values self.now.buffer)) self.now.caches) self.now) }
