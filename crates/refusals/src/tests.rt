@@ -9,6 +9,7 @@ ghost use Rattle.std.specs.Prelude.{◌≡◌};
 
 mod builder;
 mod constructors;
+mod in_place;
 mod kernels;
 mod lent;
 mod lists;
