@@ -1,6 +1,6 @@
 //! The words of a list, and searches by words.
 
-ghost use Rattle.std.specs.Prelude.{◌≡◌, ◌+◌, ◌-◌, ◌*◌, ◌/◌, ◌%◌, ◌<◌, ◌≤◌, ◌^◌, ℕ, length, not, slice_get, take, drop, IfSome, Some};
+ghost use Rattle.std.specs.Prelude.{◌≡◌, ◌+◌, ◌-◌, ◌*◌, ◌/◌, ◌%◌, ◌<◌, ◌≤◌, ◌^◌, ℕ, length, not, slice_get, take, IfSome, Some};
 ghost use Rattle.std.specs.Iterator.{YieldsFirstBy, UpTo, item_count};
 ghost use Rattle.std.specs.Iterator.Runs.{EveryRun, ItemsMapTo};
 ghost use Rattle.std.specs.Iterator.SizeHint.{IsWithinCount};
@@ -172,18 +172,6 @@ impl<'a> BitChunks<'a> {
             word += 64;
         }
         (word, rest)
-    }
-
-    // How many of the 4096 values after started word `at` are true. To count more of them would take
-    // longer than what asks for a bound.
-    #[inline(always)]
-    pub(crate) fn count_ahead(&self, at: usize) -> usize
-        requires { 64 * at ≤ length self.now }
-        ensures few { result ≤ 4096 }
-        ensures within { result ≤ count (drop (64 * at + 64) self.now) }
-    {
-        let left = (self.len - 64 * at).saturating_sub(64);
-        count_bits(self.bytes, self.offset + (self.len - left), left.min(4096))
     }
 
     /// How many words are started: the whole ones, and one more where there is a remainder.

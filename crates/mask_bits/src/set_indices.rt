@@ -97,11 +97,4 @@ impl Iterator for SetIndices<'_> {
         self.word = word & (word - 1);
         Some(64 * at + word.trailing_zeros() as usize)
     }
-
-    // inlined always: by a call the walk would keep its place in memory
-    #[inline(always)]
-    fn size_hint(&self) -> (usize, Option<usize>) {
-        let ahead = self.chunks.count_ahead(self.at);
-        (self.word.count_ones() as usize + ahead, None)
-    }
 }

@@ -1,16 +1,15 @@
 -- Walks over a list by its started words: what is left of it after each step.
-use Rattle.std.proofs.Common.{◌≡◌, ℕ, zero, suc, ◌+◌, ◌*◌, ◌-◌, ◌%◌, ◌^◌, ◌<◌, ◌≤◌, Bool, true, false, nat_eq, List, [], ◌∷◌, ◌++◌, length, get_or, take, drop, refl, sym, ap, ◌∙◌, arith, lit<}
+use Rattle.std.proofs.Common.{◌≡◌, ℕ, zero, suc, ◌+◌, ◌*◌, ◌-◌, ◌%◌, ◌^◌, ◌<◌, ◌≤◌, Bool, true, false, nat_eq, List, [], ◌∷◌, length, get_or, drop, refl, sym, ap, ◌∙◌, arith, lit<}
 use Rattle.std.specs.Int.{bit_at}
 use Rattle.std.specs.Int.RustNames.{bit_and, bit_or}
 use Rattle.std.proofs.lemmas.Bool.{true≢false}
 use Rattle.std.proofs.lemmas.List.{ext_get_or, length-append, length-drop, length-take, get_or_append_left, get_or-append_right, get_or-drop, get_or-take, get_or_past, get_or-replicate, length-replicate}
 use Rattle.std.proofs.lemmas.Nat.{and_le_l, or_lt}
 use Rattle.std.proofs.lemmas.Nat.Bits.{bit_at-lt, bit_at-zero, bit_at_ones}
-use Rattle.mask_bits.specs.Positions.{count, places_from, positions, repeated, IsFirstFrom}
+use Rattle.mask_bits.specs.Positions.{places_from, positions, repeated, IsFirstFrom}
 use Rattle.mask_bits.specs.RunScan.{runs_from}
 use Rattle.mask_bits.specs.Walk.{left_of, IsLeft, PassesTrue}
 use Rattle.mask_bits.specs.Words.{word_bits, padded_part, started_words}
-use Rattle.mask_bits.proofs.Lists.CountLemmas.{count-append, positions-all_false}
 use Rattle.mask_bits.proofs.Lists.Words.LowestLemmas.{low, low-within, low-set, low-first, bit_at-lowest_cleared, bit_at-lowest_others, bit_at-filled, bit_at-filled_others, ones, ones-few, ones-within, ones-set, ones-end, bit_at-ones_cleared, bit_at-ones_others}
 use Rattle.mask_bits.proofs.Lists.Words.PaddedLemmas.{get_or-padded_part}
 use Rattle.mask_bits.proofs.Lists.Places.ScanLemmas.{skip, places_from-first, runs_from-first}
@@ -122,30 +121,6 @@ unfolding repeated
 left_of-last m i within last =
     ext_get_or false (left_of m i 0) (repeated (length m) false) (grind (arith, length-left_of, length-replicate)) (λ p h.
     grind (arith, length-left_of, left_of-before, left_of-clear m i 0 p, bit_at-zero (p - 64 * i), get_or-replicate))
-
--- what is left: the true values of the word, and all after it
-past_left_of : (m : List Bool) (i w p : ℕ) → IsLeft m i w → length m ≤ p → get_or (repeated (64 * i) false ++ (word_bits w ++ drop (64 * i + 64) m)) p false ≡ false
-unfolding repeated
-past_left_of m i w p left past = grind (arith, get_or-append_right, length-replicate, get_or_append_left, length-word_bits, get_or-word_bits, get_or-drop, get_or_past, left.ends (p - 64 * i))
-
-pub count-left_of : (m : List Bool) (i w : ℕ) → IsLeft m i w → count (left_of m i w) ≡ count (word_bits w) + count (drop (64 * i + 64) m)
-unfolding left_of repeated
-count-left_of m i w left =
-    let after = drop (64 * i + 64) m in
-    let all = repeated (64 * i) false ++ (word_bits w ++ after) in
-    let n = length m in
-    let rest = length all - n in
-    let cut : all ≡ take n all ++ repeated rest false = ext_get_or false all (take n all ++ repeated rest false) (grind (arith, length-append, length-take, length-replicate)) (λ p h.
-    grind (arith, past_left_of m i w p left, get_or_append_left, get_or-append_right, get_or-take, length-take, length-replicate, get_or-replicate)) in
-    omega (
-      arith,
-      ap count cut,
-      count-append (take n all) (repeated rest false),
-      count-append (repeated (64 * i) false) (word_bits w ++ after),
-      count-append (word_bits w) after,
-      ap length (positions-all_false (64 * i)),
-      ap length (positions-all_false rest),
-    )
 
 -- ---- the lowest true value of a word
 
