@@ -108,17 +108,23 @@ pub fn filtered_by_all<T: Copy>(
         .choose(alloc, rows)
 }
 
-/// A stack of filters as one mask, by a fold that stops before it begins where the first filter leaves
-/// no row.
+/// A stack of filters as one mask, by a fold that stops as soon as no row is left.
 pub fn stopped_early(alloc: Global, first: &Mask, rest: &[Mask]) -> Result<Mask, MaskError>
     requires { IsStack (truth first.now ∷ map truth rest.now) }
     ensures { IfOk result (λ m. truth m ≡ folded_left (truth first.now ∷ map truth rest.now)) }
 {
     laws::folds();
+    laws::folding_keeps_a_stack();
     if first.true_count() == 0 {
         return first.clone();
     }
-    first.intersect_all_by_rank(alloc, rest)
+    match rest {
+        [] => first.clone(),
+        [second, above @ ..] => {
+            let left = first.intersect_by_rank(alloc, second)?;
+            stopped_early(alloc, &left, above)
+        }
+    }
 }
 
 /// A stack of filters as one mask, regrouped: the last two are made one first, then the one below
