@@ -1,9 +1,12 @@
-//! The bitmap that is written beside a column, where its rows are not all alike.
-ghost use Rattle.std.specs.Prelude.{◌≡◌, ◌↔◌, All, IfSome, IsTrue, true};
+//! The bitmap that is written beside a column, where its rows are not all alike, and bitmaps as they are read.
+ghost use Rattle.std.specs.Prelude.{◌≡◌, ◌↔◌, ◌+◌, ◌*◌, ◌<◌, ◌≤◌, ◌^◌, All, IfOk, IfSome, IsTrue, length, true, vec_len};
 ghost use Rattle.mask_bits.specs.Buffer.{values};
+ghost use Rattle.mask_bits.specs.Lists.{and_of};
 ghost use Rattle.vortex_mask.specs.Mask.{truth};
 
+use bytes::Bytes;
 use mask_bits::{BitBuffer, laws};
+use std::alloc::{AllocError, Global};
 use vortex_mask::{AllOr, Mask};
 
 /// The bits to write, and nothing where one count says it all.
@@ -22,4 +25,39 @@ pub fn is_full(validity: &Mask) -> bool
 {
     laws::counts();
     validity.true_count() == validity.len()
+}
+
+/// The rows that are valid in both of two columns, by the bytes of their bitmaps.
+pub fn valid_in_both(
+    alloc: Global,
+    first: Bytes,
+    second: Bytes,
+    rows: usize,
+) -> Result<BitBuffer, AllocError>
+    requires first { rows ≤ 8 * length first }
+    requires second { rows ≤ 8 * length second }
+    ensures { IfOk result (λ b. values b ≡ and_of
+        (values (record { bytes = first; offset = 0; len = rows }))
+        (values (record { bytes = second; offset = 0; len = rows }))) }
+{
+    BitBuffer::new(first, rows).bitand(alloc, &BitBuffer::new(second, rows))
+}
+
+/// The same, where the first bitmap was written by the caller and the second begins at any bit.
+pub fn valid_in_part(
+    alloc: Global,
+    written: Vec<u8>,
+    column: Bytes,
+    start: usize,
+    rows: usize,
+) -> Result<BitBuffer, AllocError>
+    requires written { rows ≤ 8 * vec_len written }
+    requires column { start + rows ≤ 8 * length column }
+    requires fits { start + rows < 2 ^ 64 }
+    ensures { IfOk result (λ b. values b ≡ and_of
+        (values (record { bytes = written.items; offset = 0; len = rows }))
+        (values (record { bytes = column; offset = start; len = rows }))) }
+{
+    let written = BitBuffer::from_vec(written, rows)?;
+    written.bitand(alloc, &BitBuffer::new_with_offset(column, start, rows))
 }

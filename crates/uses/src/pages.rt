@@ -1,7 +1,8 @@
 //! Which rows of a page are valid, by the bits of a column's validity.
-ghost use Rattle.std.specs.Prelude.{ℕ, ◌≡◌, ◌<◌, ◌≤◌, true, false, IfOk, IfSome, IfNone, length, slice_index_or, slice_range};
+ghost use Rattle.std.specs.Prelude.{ℕ, ◌≡◌, ◌<◌, ◌≤◌, ◌-◌, true, false, IfOk, IfSome, IfNone, length, slice_index_or, slice_range};
 ghost use Rattle.mask_bits.specs.Buffer.{values};
 ghost use Rattle.mask_bits.specs.Positions.{positions, count, IsFirstFrom};
+ghost use Rattle.mask_bits.specs.Runs.{AreRuns};
 
 use mask_bits::BitBuffer;
 use std::alloc::{AllocError, Global};
@@ -11,6 +12,20 @@ pub fn valid_rows(alloc: Global, validity: &BitBuffer) -> Result<Vec<usize>, All
     ensures { IfOk result (λ rows. rows.items ≡ positions (values validity.now)) }
 {
     validity.set_indices().collect(alloc)
+}
+
+/// The maximal ranges of rows that are valid.
+pub fn valid_ranges(alloc: Global, validity: &BitBuffer) -> Result<Vec<(usize, usize)>, AllocError>
+    ensures { IfOk result (λ v. AreRuns (values validity.now) v.items) }
+{
+    validity.set_slices().collect(alloc)
+}
+
+/// How many rows are null.
+pub fn nulls(validity: &BitBuffer) -> usize
+    ensures { result ≡ length (values validity.now) - count (values validity.now) }
+{
+    validity.false_count()
 }
 
 /// How many rows of the page from `start` to `end` are valid.
