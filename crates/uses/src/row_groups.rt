@@ -17,18 +17,18 @@ pub fn kept(alloc: Global, rows: &BitBuffer, size: usize) -> Result<Vec<bool>, A
         → slice_index_or kept.items g false ≡ is_chosen_of (values rows.now) size g) }
 {
     let groups = rows.len().div_ceil(size);
-    let mut kept = Vec::new(alloc);
-    for number in 0..groups {
-        kept.push(has_chosen(rows, size, number))?;
-    }
-    Ok(kept)
+    (0..groups)
+        .map(|number| has_chosen(rows, size, number))
+        .collect(alloc)
 }
 
 /// Whether a row of group `number` is chosen.
 pub fn has_chosen(rows: &BitBuffer, size: usize, number: usize) -> bool
-    requires { size * number < length (values rows.now) }
+    requires size { 0 < size }
+    requires within { number < div_ceil (length (values rows.now)) size }
     ensures { result ≡ is_chosen_of (values rows.now) size number }
 {
+    laws::groups();
     let len = rows.len();
     let start = size * number;
     let end = start + size.min(len - start);
