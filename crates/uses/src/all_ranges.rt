@@ -1,7 +1,7 @@
 //! The ranges of any mask as one list, and the span of its true rows.
-ghost use Rattle.std.specs.Prelude.{ℕ, ◌≡◌, ◌+◌, ◌-◌, IfOk, IfSome, Some, slice_get};
-ghost use Rattle.mask_bits.specs.Positions.{positions, count};
-ghost use Rattle.mask_bits.specs.Runs.{AreRuns};
+ghost use Rattle.std.specs.Prelude.{ℕ, ◌≡◌, ◌+◌, ◌-◌, ◌<◌, true, IfOk, IfSome, Some, slice_get};
+ghost use Rattle.mask_bits.specs.Positions.{positions, count, repeated};
+ghost use Rattle.mask_bits.specs.Runs.{AreRanges, AreRuns};
 ghost use Rattle.vortex_mask.specs.Mask.{truth};
 
 use mask_bits::laws;
@@ -13,6 +13,15 @@ pub fn ranges(alloc: Global, mask: &Mask) -> Result<Vec<(usize, usize)>, AllocEr
     ensures { IfOk result (λ v. AreRuns (truth mask.now) v.items) }
 {
     mask.set_slices().collect(alloc)
+}
+
+/// The one range of a column whose rows are all chosen.
+pub fn whole(rows: usize) -> [(usize, usize); 1]
+    requires { 0 < rows }
+    ensures { AreRanges (repeated rows true) result }
+{
+    laws::ranges_of_one_value();
+    [(0, rows)]
 }
 
 /// How many rows lie between the first and the last that a mask chooses, both counted.

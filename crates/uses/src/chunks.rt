@@ -1,5 +1,5 @@
-//! A column in two chunks, each filtered by its own mask.
-ghost use Rattle.std.specs.Prelude.{◌≡◌, ◌++◌, IfOk, length};
+//! A column in chunks, each filtered by its own mask.
+ghost use Rattle.std.specs.Prelude.{◌≡◌, ◌++◌, All, IfOk, flat_map, length};
 ghost use Rattle.vortex_mask.specs.Mask.{truth};
 ghost use Rattle.mask_bits.specs.Positions.{chosen};
 
@@ -24,4 +24,22 @@ pub fn filtered<T: Copy>(
     let mut rows = of_first.choose(alloc, first)?;
     rows.extend_from_slice(&of_second.choose(alloc, second)?)?;
     Ok(rows)
+}
+
+/// The same of any number of chunks, each with its mask.
+pub fn filtered_all<T: Copy>(alloc: Global, chunks: &[(&[T], &Mask)]) -> Result<Vec<T>, MaskError>
+    requires { All (λ c. length c.0.now ≡ length (truth c.1.now)) chunks.now }
+    ensures { IfOk result (λ v. v.items ≡ chosen
+        (flat_map (λ c. c.0.now) chunks.now) (flat_map (λ c. truth c.1.now) chunks.now)) }
+{
+    laws::choosing_by_chunks::<T>();
+    laws::choosing::<T>();
+    match chunks {
+        [] => Ok(Vec::new(alloc)),
+        [(first, mask), others @ ..] => {
+            let mut rows = mask.choose(alloc, first)?;
+            rows.extend_from_slice(&filtered_all(alloc, others)?)?;
+            Ok(rows)
+        }
+    }
 }

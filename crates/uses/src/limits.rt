@@ -32,6 +32,27 @@ pub fn first_indices(alloc: Global, filter: &Mask, k: usize) -> Result<Vec<usize
     Ok(filter.set_indices().take(k).collect(alloc)?)
 }
 
+/// The same, by the filter of these rows.
+pub fn indices_of_first(alloc: Global, filter: &Mask, k: usize) -> Result<Vec<usize>, MaskError>
+    ensures { IfOk result (λ v. v.items ≡ take k (positions (truth filter.now))) }
+{
+    laws::limits();
+    let first = filter.to_limited(alloc, k)?;
+    Ok(first.set_indices().collect(alloc)?)
+}
+
+/// A filter's first `k` rows. A limit that the filter doesn't reach is dropped, so that the lists which
+/// the filter has cached stay.
+pub fn limited_filter(alloc: Global, filter: &Mask, k: usize) -> Result<Mask, MaskError>
+    ensures { IfOk result (λ m. truth m ≡ limited (truth filter.now) k) }
+{
+    laws::limits();
+    if filter.true_count() <= k {
+        return filter.clone();
+    }
+    filter.to_limited(alloc, k)
+}
+
 /// The rows of a filter that a tombstone mask doesn't delete.
 pub fn alive(alloc: Global, filter: &Mask, deleted: &Mask) -> Result<Mask, MaskError>
     requires { length (truth filter.now) ≡ length (truth deleted.now) }
