@@ -81,21 +81,21 @@ impl Steps {
         self.selections
     }
 
-    /// How many places the masks of all deposits had.
+    /// The sum of `mask_count` over all deposits: the set bits of their masks.
     pub fn offered(&self) -> u128
         ensures { result ≡ self.now.offered }
     {
         self.offered
     }
 
-    /// How many bits the results of all deposits had.
+    /// The set bits of all deposited words.
     pub fn placed(&self) -> u128
         ensures { result ≡ self.now.placed }
     {
         self.placed
     }
 
-    /// The sum of the places within their words that all selections found.
+    /// The sum of the bits' places within their words that all selections found.
     pub fn spots(&self) -> u128
         ensures { result ≡ self.now.spots }
     {

@@ -53,7 +53,7 @@ impl Mask {
     }
 
     /// `All`, `None` or the runs of true indices, ascending, by variant. Each is its first
-    /// place and the place past its last. Equal masks that are mixed lend equal ranges, however they
+    /// index and the index past its last. Equal masks that are mixed lend equal ranges, however they
     /// were made.
     pub fn slices(&mut self, alloc: Global) -> Result<AllOr<&[(usize, usize)]>, MaskError>
         ensures variant { IfOk result (λ lent. lender_variant lent ≡ variant self.old) }

@@ -175,7 +175,7 @@ impl Mask {
     /// any order and with repeats. No values give `AllTrue(0)`.
     ///
     /// The values are made first, so `Memory` may come before the other refusal:
-    /// `IndexOutOfBounds` for the first place, as the iterator has them, that is not below `len`.
+    /// `IndexOutOfBounds` for the first index, as the iterator has them, that is not below `len`.
     pub fn from_excluded_indices<I: Iterator<Item = usize>>(
         alloc: Global,
         len: usize,
@@ -219,7 +219,7 @@ impl Mask {
     }
 }
 
-// Makes the values at these indices false, and tells the first place that is past the end.
+// Makes the values at these indices false, and tells the first one that is past the end.
 fn exclude<I: Iterator<Item = usize>>(builder: &mut BitBufferMut, indices: I) -> Option<usize>
     requires can { I.can_next indices }
     requires ends { IsFinite (I.remaining indices) }
@@ -235,7 +235,7 @@ fn exclude<I: Iterator<Item = usize>>(builder: &mut BitBufferMut, indices: I) ->
     past_end
 }
 
-// Makes one value false, or notes that its place is past the end where none was noted yet.
+// Makes one value false, or notes that its index is past the end where none was noted yet.
 fn exclude_one(builder: &mut BitBufferMut, index: usize, past_end: Option<usize>) -> Option<usize>
     ensures within { index < length builder.old
         → (builder.new ≡ slice_set builder.old index false) × (result ≡ past_end) }
@@ -256,7 +256,7 @@ impl Mask {
     ///
     /// An index that only one of them yields is dropped, past `len` too. The iterators are read to
     /// their ends first, so `Memory` may come before the other refusal: `IndexOutOfBounds` for the
-    /// first place in common that is not below `len`.
+    /// first index in common that is not below `len`.
     pub fn from_intersection_indices<L: Iterator<Item = usize>, R: Iterator<Item = usize>>(
         alloc: Global,
         len: usize,

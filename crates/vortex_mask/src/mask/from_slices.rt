@@ -125,7 +125,7 @@ fn lengthens(range: &mut (usize, usize), run: &mut (usize, usize)) -> bool
     touch
 }
 
-// How many places the ranges hold.
+// How many indices the ranges hold.
 fn places_held(ranges: &[(usize, usize)]) -> usize
     requires ascending { All (λ r. r.0 < r.1) ranges.now }
     requires fits { places_held ranges.now < 2 ^ 64 }

@@ -100,7 +100,7 @@ impl Mask {
         Ok(with_false_behind(alloc, &front, self.len())?)
     }
 
-    // The values before place `end`, packed.
+    // The values before index `end`, packed.
     fn first_values(&self, alloc: Global, end: usize) -> Result<BitBuffer, AllocError>
         requires { end ≤ length (truth self.now) }
         ensures { IfOk result (λ b. values b ≡ slice_range (truth self.now) 0 end) }
