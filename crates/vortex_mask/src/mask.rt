@@ -150,7 +150,8 @@ impl Mask {
 
     /// How many values are true.
     pub fn true_count(&self) -> usize
-        ensures { result ≡ count (truth self.now) }
+        ensures counted { result ≡ count (truth self.now) }
+        ensures at_most { result ≤ length (truth self.now) }
     {
         match self {
             Mask::AllTrue(len) => *len,

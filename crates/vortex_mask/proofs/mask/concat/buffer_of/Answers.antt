@@ -16,7 +16,7 @@ append-requires c =
 pub overflow_add-true_count : goal.overflow_add-true_count
 overflow_add-true_count c =
     let within = concat_so_far c.loop-mask.buffer c.args.masks.now c.loop-mask.mask-index c.mask-item.result c.mask-item.is (omega arith) c.loop-mask.invariant.list in
-    omega (arith, within, c.requires, c.loop-mask.invariant.counted, c.true_count.ensures, count-le-length c.loop-mask.buffer, count-le-length (truth c.mask-item.result.now))
+    omega (arith, within, c.requires, c.loop-mask.invariant.counted, c.true_count.ensures.counted, count-le-length c.loop-mask.buffer, count-le-length (truth c.mask-item.result.now))
 
 pub loop-mask-preserved : goal.loop-mask-preserved
 loop-mask-preserved c =
@@ -25,6 +25,6 @@ loop-mask-preserved c =
     record {
       list = ap (λ made. made ++ concat (lists_of (drop (c.loop-mask.mask-index + 1) c.args.masks.now))) appended
           ∙ concat-next c.loop-mask.buffer c.args.masks.now c.loop-mask.mask-index c.mask-item.result c.mask-item.is (omega arith) c.loop-mask.invariant.list;
-      counted = ap₂ (λ x y. x + y) c.loop-mask.invariant.counted c.true_count.ensures
+      counted = ap₂ (λ x y. x + y) c.loop-mask.invariant.counted c.true_count.ensures.counted
           ∙ sym (count-append c.loop-mask.buffer m) ∙ sym (ap count appended);
     }
