@@ -44,7 +44,7 @@ fn outcome<T, R: Abort + Print>(rt: &R, answer: Result<T, MaskError>) -> Option<
             say(rt, "refused");
             None
         }
-        Err(_) => panic!(rt; "this is no want of memory"),
+        Err(_) => panic!(rt; "another refusal than out of memory"),
     }
 }
 

@@ -7,3 +7,4 @@ mod pages;
 mod plans;
 mod ranges;
 mod stacks;
+mod walks;

@@ -64,6 +64,6 @@ fn is_answered<R: Abort + Print>(rt: &R, answer: Result<String, RunError>, want:
             say(rt, "refused");
             false
         }
-        Err(_) => panic!(rt; "this is no want of memory"),
+        Err(_) => panic!(rt; "another refusal than out of memory"),
     }
 }

@@ -8,6 +8,8 @@ use vortex_mask::Mask;
 
 type Row = (&'static str, &'static [u8]);
 
+const FIVE: &str = "10011101";
+
 fn filters(rt: &impl Abort, alloc: Global, (text, want): Row) {
     let mut mask = mask(rt, alloc, text);
     assert!(rt; mask.len() == 5);
@@ -71,17 +73,23 @@ fn of_two_chunks(rt: &impl Abort, alloc: Global, first: &Mask, second: &Mask) {
     assert!(rt; rows.as_slice() == [3, 4, 5].as_slice());
 }
 
+// The same by one call, with a chunk of no row between the two.
+fn of_chunks(rt: &impl Abort, alloc: Global, first: &Mask, second: &Mask) {
+    assert!(rt; first.len() == 2 && second.len() == 3);
+    let empty = Mask::new_true(0);
+    let chunks: [(&[u8], &Mask); 3] = [(&[3, 1], first), (&[], &empty), (&[4, 1, 5], second)];
+    let rows = found(rt, chunks::filtered_all(alloc, &chunks));
+    assert!(rt; rows.as_slice() == [3, 4, 5].as_slice());
+}
+
 #[test]
 fn columns_and_chunks(rt: HostRuntime) {
     let alloc = rt.alloc();
     above_two(&rt, alloc);
     of_two_columns(&rt, alloc);
-    of_two_chunks(
-        &rt,
-        alloc,
-        &mask(&rt, alloc, "10"),
-        &mask(&rt, alloc, "101"),
-    );
+    let (first, second) = (mask(&rt, alloc, "10"), mask(&rt, alloc, "101"));
+    of_two_chunks(&rt, alloc, &first, &second);
+    of_chunks(&rt, alloc, &first, &second);
 }
 
 // ---- limits
@@ -95,6 +103,17 @@ fn first_of_both(rt: &impl Abort, alloc: Global, first: &Mask, second: &Mask) {
 fn first_indices(rt: &impl Abort, alloc: Global, first: &Mask) {
     let indices = found(rt, limits::first_indices(alloc, first, 2));
     assert!(rt; indices.as_slice() == [0, 3].as_slice());
+}
+
+fn limited(rt: &impl Abort, alloc: Global, (k, want, indices): (usize, &str, &[usize])) {
+    let filter = mask(rt, alloc, FIVE);
+    lists(
+        rt,
+        &found(rt, limits::limited_filter(alloc, &filter, k)),
+        want,
+    );
+    let first = found(rt, limits::indices_of_first(alloc, &filter, k));
+    assert!(rt; first.as_slice() == indices);
 }
 
 fn stay(rt: &impl Abort, alloc: Global, rows: &Mask, deleted: &Mask) {
@@ -111,12 +130,19 @@ fn of_two_filters(rt: &impl Abort, alloc: Global) {
 
 #[test]
 fn limited_rows(rt: HostRuntime) {
+    const LIMITS: [(usize, &str, &[usize]); 4] = [
+        (0, "00000000", &[]),
+        (2, "10010000", &[0, 3]),
+        (5, FIVE, &[0, 3, 4, 5, 7]),
+        (9, FIVE, &[0, 3, 4, 5, 7]),
+    ];
     of_two_filters(&rt, rt.alloc());
+    for row in LIMITS {
+        limited(&rt, rt.alloc(), row);
+    }
 }
 
 // ---- rows by their number among the chosen ones
-
-const FIVE: &str = "10011101";
 
 fn picks(rt: &impl Abort, alloc: Global) {
     let rows = buffer(rt, alloc, FIVE);

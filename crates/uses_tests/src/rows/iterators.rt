@@ -1,10 +1,11 @@
 // Masks from iterators of each kind: what they list, and what they cache.
-use super::helpers::{found, lists, same};
+use super::helpers::{found, lists, mask, same};
 use std::alloc::Global;
 use std::process::Abort;
 use uses::iterators::{
     all_but_a_vec, all_but_an_array, all_but_two_slices, common_to_arrays, common_to_slices,
-    common_to_vecs, count_by_indices, indices_of_a_vec, indices_of_an_array, indices_of_two_slices,
+    common_to_vecs, concat_of_a_slice, concat_of_refs, concat_of_some, count_by_indices,
+    indices_of_a_vec, indices_of_an_array, indices_of_two_slices, masks_of_a_vec,
 };
 use vortex_mask::{Mask, MaskError, laws};
 
@@ -64,6 +65,30 @@ fn common_indices_past_the_end(rt: HostRuntime) {
     ] {
         is_refused(&rt, rt.alloc(), common_to_arrays(rt.alloc(), len), want);
     }
+}
+
+// ---- masks one after another
+
+fn masks(rt: &impl Abort, alloc: Global) -> Vec<Mask> {
+    let mut masks = Vec::new(alloc);
+    for text in ["10", "", "110"] {
+        found(rt, masks.push(mask(rt, alloc, text)));
+    }
+    masks
+}
+
+fn concats(rt: &impl Abort, alloc: Global, masks: &[Mask]) {
+    lists(rt, &found(rt, concat_of_a_slice(alloc, masks)), "10110");
+    lists(rt, &found(rt, concat_of_some(alloc, masks)), "110");
+    let lent: Vec<&Mask> = found(rt, masks.iter().collect(alloc));
+    lists(rt, &found(rt, concat_of_refs(alloc, lent)), "10110");
+}
+
+#[test]
+fn masks_by_iterators(rt: HostRuntime) {
+    let masks = masks(&rt, rt.alloc());
+    concats(&rt, rt.alloc(), &masks);
+    lists(&rt, &found(&rt, masks_of_a_vec(rt.alloc(), masks)), "10110");
 }
 
 // ---- above 10,000 values

@@ -1,12 +1,13 @@
 // Validity by page, by batch and by row group.
 use super::helpers::{buffer, found, lists, mask, same};
+use bytes::Bytes;
 use mask_bits::BitBuffer;
 use std::alloc::Global;
 use std::process::Abort;
 use uses::batches::{by_row_group, nulls_by_batch};
-use uses::bitmaps::{bitmap, is_full};
+use uses::bitmaps::{bitmap, is_full, valid_in_both, valid_in_part};
 use uses::codes::counts_before;
-use uses::pages::{first_invalid, valid_in_page, valid_rows};
+use uses::pages::{first_invalid, nulls, valid_in_page, valid_ranges, valid_rows};
 use uses::row_groups::{kept, kept_by_indices};
 use uses::validity;
 use vortex_mask::Mask;
@@ -40,6 +41,9 @@ fn pages(rt: &impl Abort, validity: &BitBuffer) {
 fn rows_of_pages(rt: &impl Abort, alloc: Global, validity: &BitBuffer) {
     let rows = found(rt, valid_rows(alloc, validity));
     assert!(rt; rows.as_slice() == [1, 2, 5].as_slice());
+    let ranges = found(rt, valid_ranges(alloc, validity));
+    assert!(rt; ranges.as_slice() == [(1, 3), (5, 6)].as_slice());
+    same(rt, nulls(validity), 3);
 }
 
 #[test]
@@ -90,8 +94,37 @@ fn is_written(rt: &impl Abort, alloc: Global, text: &str, bits: Option<usize>, f
     assert!(rt; is_full(&validity) == full);
 }
 
+fn has(rt: &impl Abort, buffer: &BitBuffer, want: &[usize]) {
+    same(rt, buffer.true_count(), want.len());
+    for (row, want) in buffer.set_indices().zip(want) {
+        same(rt, row, *want);
+    }
+}
+
+// Rows 0, 2, 3 and 9 of ten are valid in both.
+fn of_two_bitmaps(rt: &impl Abort, alloc: Global) {
+    let first = Bytes::from_static(&[0b0000_1101, 0b1111_1110]);
+    let second = Bytes::from_static(&[0b1100_1111, 0b0000_0010]);
+    has(
+        rt,
+        &found(rt, valid_in_both(alloc, first, second, 10)),
+        &[0, 2, 3, 9],
+    );
+}
+
+// The second begins at bit 3.
+fn of_a_part(rt: &impl Abort, alloc: Global) {
+    let written = found(rt, [0b0001_0110u8].as_slice().to_vec(alloc));
+    assert!(rt; written.len() == 1);
+    let column = Bytes::from_static(&[0b1011_0111]);
+    let both = found(rt, valid_in_part(alloc, written, column, 3, 5));
+    has(rt, &both, &[1, 2, 4]);
+}
+
 #[test]
 fn bitmaps(rt: HostRuntime) {
+    of_two_bitmaps(&rt, rt.alloc());
+    of_a_part(&rt, rt.alloc());
     for (text, bits, full) in [
         ("1101", Some(3), false),
         ("1111", None, true),
@@ -129,7 +162,7 @@ fn groups(rt: &impl Abort, alloc: Global) {
     }
 }
 
-fn nulls(rt: &impl Abort, alloc: Global) {
+fn nulls_of_batches(rt: &impl Abort, alloc: Global) {
     let validity = buffer(rt, alloc, "10010");
     let nulls = found(rt, nulls_by_batch(alloc, &validity, 2));
     assert!(rt; nulls.as_slice() == [1, 1, 1].as_slice());
@@ -154,7 +187,7 @@ fn rows_in_groups(rt: HostRuntime) {
         ("0000", &[false, false]),
     ];
     groups(&rt, rt.alloc());
-    nulls(&rt, rt.alloc());
+    nulls_of_batches(&rt, rt.alloc());
     for (rows, want) in GROUPS {
         keeps(&rt, rt.alloc(), rows, want);
     }

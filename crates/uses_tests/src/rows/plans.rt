@@ -2,7 +2,9 @@
 use super::helpers::{buffer, found, lists, mask, same};
 use std::alloc::Global;
 use std::process::Abort;
-use uses::equality::{same_kernel, same_number, same_share};
+use uses::equality::{
+    chooses_valid, same_kernel, same_number, same_rows, same_share, same_validity,
+};
 use uses::estimates::{left_by_both, left_of};
 use uses::explain::{deposits_words, stacked, stacked_by_words};
 use uses::printing::difference;
@@ -108,8 +110,11 @@ fn pairs(rt: &impl Abort) {
 }
 
 fn compares(rt: &impl Abort, alloc: Global, values: &str, is_same: bool) {
-    let mask = mask(rt, alloc, "0110");
-    is(rt, mask.equals_buffer(&buffer(rt, alloc, values)), is_same);
+    let (filter, bits) = (mask(rt, alloc, "0110"), buffer(rt, alloc, values));
+    is(rt, chooses_valid(&filter, &bits), is_same);
+    is(rt, same_rows(&filter, &mask(rt, alloc, values)), is_same);
+    let validity = buffer(rt, alloc, "0110");
+    is(rt, same_validity(&validity, &bits), is_same);
 }
 
 fn compares_ones(rt: &impl Abort, alloc: Global) {

@@ -1,11 +1,11 @@
 // Ranges of masks, and words of buffers.
-use super::helpers::{found, mask, same};
+use super::helpers::{buffer, found, mask, same};
 use mask_bits::BitBuffer;
 use std::alloc::Global;
 use std::process::Abort;
-use uses::all_ranges::{ranges, span};
+use uses::all_ranges::{ranges, span, whole};
 use uses::reads::ranges_both_ways;
-use uses::words::counted;
+use uses::words::{counted, has_any, listed};
 use vortex_mask::Mask;
 
 type Runs = &'static [(usize, usize)];
@@ -20,6 +20,7 @@ fn of_each_variant(rt: &impl Abort, alloc: Global) {
     has(rt, alloc, &mixed, &[(1, 3), (4, 5)], Some(4));
     has(rt, alloc, &Mask::new_true(5), &[(0, 5)], Some(5));
     has(rt, alloc, &Mask::new_false(5), &[], None);
+    assert!(rt; whole(5) == [(0, 5)]);
 }
 
 const TOUCHING: Runs = &[(1, 3), (3, 4), (4, 5), (7, 8)];
@@ -63,5 +64,28 @@ fn every_third_value(rt: HostRuntime) {
         (12_800, 4_267),
     ] {
         counts(&rt, rt.alloc(), len, want);
+    }
+}
+
+fn words(rt: &impl Abort, alloc: Global, (text, words, any): (&str, &[u64], bool)) {
+    let buffer = buffer(rt, alloc, text);
+    assert!(rt; found(rt, listed(alloc, &buffer)).as_slice() == words);
+    assert!(rt; has_any(&buffer) == any);
+}
+
+#[test]
+fn words_of_few_values(rt: HostRuntime) {
+    const ROWS: [(&str, &[u64], bool); 4] = [
+        ("", &[], false),
+        ("000", &[0], false),
+        ("1011", &[13], true),
+        (
+            "00000000000000000000000000000000000000000000000000000000000000001",
+            &[0, 1],
+            true,
+        ),
+    ];
+    for row in ROWS {
+        words(&rt, rt.alloc(), row);
     }
 }

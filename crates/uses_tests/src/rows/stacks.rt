@@ -4,7 +4,7 @@ use std::alloc::Global;
 use std::process::Abort;
 use uses::stacks::{
     are_a_stack, filtered_both_ways, filtered_by_all, filtered_by_regrouped, folded_left,
-    folded_right, regrouped,
+    folded_right, regrouped, stopped_early,
 };
 use vortex_mask::Mask;
 
@@ -52,6 +52,7 @@ fn folds(rt: &impl Abort, alloc: Global, first: &Mask, rest: &[Mask], want: &str
     let folded = found(rt, first.intersect_all_by_rank(alloc, rest));
     lists(rt, &folded, want);
     lists(rt, &found(rt, regrouped(alloc, first, rest)), want);
+    lists(rt, &found(rt, stopped_early(alloc, first, rest)), want);
 }
 
 type Row = (&'static str, &'static [&'static str], &'static str);
