@@ -5,7 +5,7 @@ ghost use Rattle.mask_bits.specs.Lists.{and_of};
 ghost use Rattle.vortex_mask.specs.Mask.{truth};
 
 use bytes::Bytes;
-use mask_bits::BitBuffer;
+use mask_bits::{BitBuffer, laws};
 use std::alloc::{AllocError, Global};
 use vortex_mask::{AllOr, Mask};
 
@@ -23,6 +23,7 @@ pub fn bitmap(validity: &Mask) -> Option<&BitBuffer>
 pub fn is_full(validity: &Mask) -> bool
     ensures { IsTrue result ↔ All (λ valid. valid ≡ true) (truth validity.now) }
 {
+    laws::counts();
     validity.true_count() == validity.len()
 }
 

@@ -23,7 +23,7 @@ impl DepositBits for WholeWords {
     }
 }
 
-/// Deposits one place after another, from the lowest.
+/// Deposits at one set bit after another, from the lowest.
 pub struct InTurn;
 
 impl DepositBits for InTurn {
@@ -32,23 +32,21 @@ impl DepositBits for InTurn {
     }
 }
 
-// Each set place of the mask takes the next bit of the source.
+// The lowest set bit of the mask takes the lowest bit of the source, and the others take the rest.
 fn deposit_in_turn(source: u64, mask: u64) -> u64
     ensures { Deposits source mask result }
 {
-    mask_bits::laws::values_of_words();
-    mask_bits::laws::count_below_by_steps();
-    let mut result = 0;
-    let mut rank = 0u32;
-    for i in 0..64u32 {
-        if (mask >> i) & 1 == 1 {
-            if (source >> rank) & 1 == 1 {
-                result |= 1 << i;
-            }
-            rank += 1;
-        }
+    laws::deposits_by_lowest();
+    if mask == 0 {
+        return 0;
     }
-    result
+    let later = mask & (mask - 1);
+    let rest = deposit_in_turn(source / 2, later);
+    if source % 2 == 1 {
+        rest | (mask - later)
+    } else {
+        rest
+    }
 }
 
 /// The rows of one bitmap that another one, over its true values, keeps: by a deposit of one's own.

@@ -1,5 +1,5 @@
 -- What holds of all deposits.
-use Rattle.std.specs.Prelude.{ℕ, ◌-◌, ◌^◌, ◌≡◌, take}
+use Rattle.std.specs.Prelude.{ℕ, ◌-◌, ◌/◌, ◌%◌, ◌^◌, ◌≡◌, ◌<◌, bit_and, bit_or, take}
 use Rattle.mask_bits.specs.Positions.{count, rank_intersection}
 use Rattle.mask_bits.specs.Words.{word_bits}
 use Rattle.vortex_mask.specs.Deposit.{Deposits}
@@ -12,3 +12,25 @@ DepositAtAllOnes = (source : ℕ) → Deposits source (2 ^ 64 - 1) source
 abbrev pub DepositIsRankIntersection : Type 0
 DepositIsRankIntersection = (source mask result : ℕ) → Deposits source mask result
     → word_bits result ≡ rank_intersection (word_bits mask) (take (count (word_bits mask)) (word_bits source))
+
+-- at no set bit nothing is deposited
+abbrev pub DepositAtNoOnes : Type 0
+DepositAtNoOnes = (source : ℕ) → Deposits source 0 0
+
+-- the mask without its lowest set bit
+abbrev pub without_lowest : ℕ → ℕ
+without_lowest mask = bit_and mask (mask - 1)
+
+-- without its lowest set bit a mask is a smaller number
+abbrev pub WithoutLowestIsBelow : Type 0
+WithoutLowestIsBelow = (mask : ℕ) → 0 < mask → without_lowest mask < mask
+
+-- the lowest set bit of the mask is set in the result too where the source is odd, and the others take the source's other bits
+abbrev pub DepositOfOddSource : Type 0
+DepositOfOddSource = (source mask rest : ℕ) → mask < 2 ^ 64 → source % 2 ≡ 1 → Deposits (source / 2) (without_lowest mask) rest
+    → Deposits source mask (bit_or rest (mask - without_lowest mask))
+
+-- and it is clear in the result where the source is even
+abbrev pub DepositOfEvenSource : Type 0
+DepositOfEvenSource = (source mask rest : ℕ) → mask < 2 ^ 64 → source % 2 ≡ 0 → Deposits (source / 2) (without_lowest mask) rest
+    → Deposits source mask rest

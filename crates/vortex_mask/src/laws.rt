@@ -5,7 +5,7 @@ ghost use Rattle.std.specs.Prelude.{◌≡◌};
 ghost use Rattle.std.specs.Option.{ForSome};
 ghost use Rattle.mask_bits.specs.RunScan.{runs};
 ghost use Rattle.mask_bits.specs.Runs.{AreRanges};
-ghost use Rattle.vortex_mask.specs.DepositLaws.{DepositAtAllOnes, DepositIsRankIntersection};
+ghost use Rattle.vortex_mask.specs.DepositLaws.{DepositAtAllOnes, DepositAtNoOnes, DepositIsRankIntersection, DepositOfEvenSource, DepositOfOddSource, WithoutLowestIsBelow};
 ghost use Rattle.vortex_mask.specs.Laws.{UniformIsOfOneValue, NoIndexFault, AllTrueHasTrueValues, AllFalseHasFalseValues, SameTruthIsOneList};
 ghost use Rattle.vortex_mask.specs.Mask.{truth, variant, fitting_variant, caches};
 ghost use Rattle.vortex_mask.specs.MaskValues.{AreOf};
@@ -86,4 +86,14 @@ pub fn same_truth_is_one_list()
 pub fn deposits()
     ensures all_ones { DepositAtAllOnes }
     ensures list { DepositIsRankIntersection }
+{}
+
+/// A deposit by the lowest set bit of the mask: it takes the lowest bit of the source, and the other
+/// set bits take the rest. So a deposit of one's own may go on from one set bit to the next.
+#[tactic(auto, using(crate::proofs::Deposits::DepositLawLemmas::deposit_at_no_ones, crate::proofs::Deposits::DepositLawLemmas::without_lowest_is_below, crate::proofs::Deposits::DepositLawLemmas::deposit_of_odd_source, crate::proofs::Deposits::DepositLawLemmas::deposit_of_even_source))]
+pub fn deposits_by_lowest()
+    ensures no_ones { DepositAtNoOnes }
+    ensures below { WithoutLowestIsBelow }
+    ensures odd { DepositOfOddSource }
+    ensures even { DepositOfEvenSource }
 {}

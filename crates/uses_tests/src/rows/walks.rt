@@ -20,11 +20,7 @@ fn pairs(rt: &impl Abort, alloc: Global) {
     let (long, short) = (mask(rt, alloc, SIX), mask(rt, alloc, "110"));
     let pairs = found(rt, side_by_side(alloc, &long, &short));
     assert!(rt; pairs.as_slice() == [(false, true), (true, true), (true, false)].as_slice());
-    same(
-        rt,
-        found(rt, side_by_side(alloc, &short, &long)).len(),
-        3,
-    );
+    same(rt, found(rt, side_by_side(alloc, &short, &long)).len(), 3);
 }
 
 #[test]
