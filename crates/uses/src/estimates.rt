@@ -24,6 +24,7 @@ pub fn left_of(decided: &Mask, rows: usize) -> (usize, usize)
         → count (truth decided.now ++ rest) ≤ result.1 }
     ensures within { result.1 ≤ rows }
 {
+    laws::counts();
     let fewest = decided.true_count();
     (fewest, fewest + (rows - decided.len()))
 }
