@@ -4,7 +4,7 @@ use Rattle.std.specs.Int.{bit_at, div_ceil}
 use Rattle.std.specs.List.{range_with_len, filter_map}
 use Rattle.mask_bits.specs.Buffer.{Packed, values, same_values}
 use Rattle.mask_bits.specs.Lists.{and_of, or_of, not_of, and_not_of, concat, limited, group}
-use Rattle.mask_bits.specs.Positions.{positions, count, count_below, repeated, at_places, rank_intersection, chosen}
+use Rattle.mask_bits.specs.Positions.{positions, count, count_below, repeated, at_indices, rank_intersection, chosen}
 use Rattle.mask_bits.specs.RunScan.{runs}
 use Rattle.mask_bits.specs.Runs.{AreRuns, AreRanges}
 use Rattle.mask_bits.specs.Stacks.{IsStack, folded_left, folded_right}
@@ -13,8 +13,8 @@ use Rattle.mask_bits.specs.Words.{word_bits, word_parts, padded_remainder}
 -- ---- true indices, and how many there are
 
 -- each true index is one of the list's
-abbrev pub PlacesAreWithin : Type 0
-PlacesAreWithin = (m : List Bool) → All (λ p. p < length m) (positions m)
+abbrev pub IndicesAreWithin : Type 0
+IndicesAreWithin = (m : List Bool) → All (λ p. p < length m) (positions m)
 
 -- no more values are true than there are
 abbrev pub CountIsAtMostLength : Type 0
@@ -38,11 +38,11 @@ CountOfAppend = (a b : List Bool) → count (a ++ b) ≡ count a + count b
 abbrev pub LengthOfRepeated : Type 0
 LengthOfRepeated = (n : ℕ) (v : Bool) → length (repeated n v) ≡ n
 
--- every place of an all-true list is a true one
+-- every index of an all-true list is a true one
 abbrev pub PositionsOfAllTrue : Type 0
 PositionsOfAllTrue = (n : ℕ) → positions (repeated n true) ≡ range_with_len 0 n
 
--- an all-true list has as many true values as places
+-- an all-true list has as many true values as values
 abbrev pub CountOfAllTrue : Type 0
 CountOfAllTrue = (n : ℕ) → count (repeated n true) ≡ n
 
@@ -99,7 +99,7 @@ PositionsDetermineList = (a b : List Bool) → length a ≡ length b → positio
 -- r is as long as a, and its true indices are a's true indices taken at b's
 pub record IsRankIntersection (a b r : List Bool) : Type 0 where
   pub len : length r ≡ length a
-  pub places : positions r ≡ at_places (positions a) (positions b)
+  pub indices : positions r ≡ at_indices (positions a) (positions b)
 
 -- there is just one such list, and `rank_intersection` is it
 abbrev pub RankIntersectionIsTheList : Type 0
@@ -207,7 +207,7 @@ RunsOfAllFalse = (n : ℕ) → runs (repeated n false) ≡ []
 abbrev pub RunsAreRanges : Type 0
 RunsAreRanges = (m : List Bool) (rs : List (ℕ × ℕ)) → AreRuns m rs → AreRanges m rs
 
--- ranges hold as many places as values are true
+-- ranges hold as many indices as values are true
 abbrev pub RangesAddUpToTheCount : Type 0
 RangesAddUpToTheCount = (m : List Bool) (rs : List (ℕ × ℕ)) → AreRanges m rs → sum_by (λ r. r.1 - r.0) rs ≡ count m
 
@@ -265,7 +265,7 @@ abbrev pub PartOfPart : Type 0
 PartOfPart = (m : List Bool) (s e t u : ℕ) → u ≤ e - s
     → slice_range (slice_range m s e) t u ≡ slice_range m (s + t) (s + u)
 
--- the part of a concatenation at the place of one of its lists is that one
+-- the part of a concatenation where one of its lists stands is that list
 abbrev pub PartOfConcat : Type 0
 PartOfConcat = (before after : List (List Bool)) (m : List Bool)
     → slice_range (concat (before ++ m ∷ after)) (length (concat before)) (length (concat before) + length m) ≡ m
@@ -279,8 +279,8 @@ abbrev pub GroupOfRepeated : Type 0
 GroupOfRepeated = (n size g : ℕ) (v : Bool) → size * g < n → group (repeated n v) size g ≡ repeated (min size (n - size * g)) v
 
 -- of a list in groups of one size, each true index p lies in group number p / size, which is one of them
-abbrev pub PlacesLieInGroups : Type 0
-PlacesLieInGroups = (m : List Bool) (size : ℕ) → 0 < size → All (λ p. p / size < div_ceil (length m) size) (positions m)
+abbrev pub IndicesLieInGroups : Type 0
+IndicesLieInGroups = (m : List Bool) (size : ℕ) → 0 < size → All (λ p. p / size < div_ceil (length m) size) (positions m)
 
 -- as many values of a group are true as true indices lie in it
 abbrev pub CountOfGroup : Type 0

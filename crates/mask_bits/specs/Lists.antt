@@ -3,7 +3,7 @@ use Rattle.std.specs.Prelude.{ℕ, ◌+◌, ◌-◌, ◌*◌, Bool, false, not, 
 use Rattle.std.specs.List.{range_with_len}
 use Rattle.mask_bits.specs.Positions.{count_below}
 
--- f of the two values at each place, of lists of one length
+-- f of the two values at each index, of lists of one length
 abbrev pub combined : (Bool → Bool → Bool) → List Bool → List Bool → List Bool
 combined f a b = map (λ v. f v.0 v.1) (zip a b)
 

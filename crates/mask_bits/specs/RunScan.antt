@@ -2,14 +2,14 @@
 use Rattle.std.specs.Prelude.{ℕ, ◌+◌, Bool, true, false, List, [], ◌∷◌, nat_eq, if◌then◌else◌}
 
 -- a true value at n in front of the runs past it: it lengthens a run that begins right after it, or is a run of its own
-abbrev pub with_place : ℕ → List (ℕ × ℕ) → List (ℕ × ℕ)
-with_place n [] = (n, n + 1) ∷ []
-with_place n (r ∷ rs) = if nat_eq r.0 (n + 1) then (n, r.1) ∷ rs else (n, n + 1) ∷ r ∷ rs
+abbrev pub with_index : ℕ → List (ℕ × ℕ) → List (ℕ × ℕ)
+with_index n [] = (n, n + 1) ∷ []
+with_index n (r ∷ rs) = if nat_eq r.0 (n + 1) then (n, r.1) ∷ rs else (n, n + 1) ∷ r ∷ rs
 
--- the runs of a list whose first place is n, one value at a time
+-- the runs of a list whose first index is n, one value at a time
 abbrev pub runs_from : ℕ → List Bool → List (ℕ × ℕ)
 runs_from n [] = []
-runs_from n (true ∷ m) = with_place n (runs_from (n + 1) m)
+runs_from n (true ∷ m) = with_index n (runs_from (n + 1) m)
 runs_from n (false ∷ m) = runs_from (n + 1) m
 
 -- the runs, ascending

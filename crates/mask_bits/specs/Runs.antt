@@ -1,8 +1,8 @@
--- Ranges of places, and the maximal ones. A range is a pair: its first place, and the place past its last.
+-- Ranges of indices, and the maximal ones. A range is a pair: its first index, and the index past its last.
 use Rattle.std.specs.Prelude.{ℕ, ◌≡◌, ◌<◌, ◌≤◌, ◌&&◌, Bool, false, List, length, All, nat_lt, nat_le, slice_index_or}
 use Rattle.std.specs.List.{AllAdjacentBelow, list_any}
 
--- place i lies in a range
+-- index i lies in a range
 abbrev pub is_inside : ℕ → ℕ × ℕ → Bool
 is_inside i r = nat_le r.0 i && nat_lt i r.1
 

@@ -14,7 +14,7 @@ use std::marker::Model;
 pub struct BitIterator<'a> {
     buffer: &'a BitBuffer,
     next: usize,
-    // the word at hand, and the place at which it ends or the list does
+    // the word at hand, and the index at which it ends or the list does
     word: u64,
     end: usize,
 }
@@ -81,7 +81,7 @@ impl ExactSizeIterator for BitIterator<'_> {
     }
 }
 
-// The word of place `next`, and the place at which it ends or the list does, where `word` and `end`
+// The word of index `next`, and the index at which it ends or the list does, where `word` and `end`
 // are these unless `next` is `end`.
 #[inline]
 fn word_at_hand(buffer: &BitBuffer, next: usize, end: usize, word: u64) -> (u64, usize)

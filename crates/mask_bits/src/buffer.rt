@@ -257,7 +257,7 @@ impl BitBuffer {
 
     /// The index of true value number `n`, counted from 0, and `None` from the true count on.
     pub fn select(&self, n: usize) -> Option<usize>
-        ensures place { result ≡ slice_get (positions (values self.now)) n }
+        ensures index { result ≡ slice_get (positions (values self.now)) n }
         ensures within { IfSome result (λ p. p < length (values self.now)) }
     {
         self.chunks().select(n)
@@ -265,7 +265,7 @@ impl BitBuffer {
 
     /// The index of the last true value, if there is one.
     pub fn last_set_index(&self) -> Option<usize>
-        ensures place { result
+        ensures index { result
             ≡ slice_get (positions (values self.now)) (count (values self.now) - 1) }
         ensures within { IfSome result (λ p. p < length (values self.now)) }
     {
@@ -293,7 +293,7 @@ impl BitBuffer {
 
     /// The indices of the true values, ascending.
     pub fn set_indices(&self) -> SetIndices<'_>
-        ensures places { result ≡ positions (values self.now) }
+        ensures indices { result ≡ positions (values self.now) }
         ensures in_order { YieldsInOrder (YieldsFirst {A = ℕ} (λ s. s)) (λ s. s) }
         ensures ascending { IsStrictlyIncreasing result }
         ensures within { All (λ p. p < length (values self.now)) result }

@@ -107,7 +107,7 @@ impl<'a> BitChunks<'a> {
 
     /// The index of true value number `n`, counted from 0, and `None` from the true count on.
     pub fn select(&self, n: usize) -> Option<usize>
-        ensures place { result ≡ slice_get (positions self.now) n }
+        ensures index { result ≡ slice_get (positions self.now) n }
         ensures within { IfSome result (λ p. p < length self.now) }
     {
         let (first, rest) = self.passed_blocks(n);
@@ -125,7 +125,7 @@ impl<'a> BitChunks<'a> {
 
     /// The index of the last true value, if there is one.
     pub fn last_set_index(&self) -> Option<usize>
-        ensures place { result
+        ensures index { result
             ≡ slice_get (positions self.now) (count self.now - 1) }
         ensures within { IfSome result (λ p. p < length self.now) }
     {

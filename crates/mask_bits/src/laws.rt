@@ -5,14 +5,14 @@
 
 ghost use Rattle.mask_bits.specs.ChoosingLaws.{ChosenByTest, ChosenOfTwoChunks, ChosenOfChunks, ChosenByLimit, PositionsOfLimit, LimitPastTheCount, LimitOfRankIntersection};
 ghost use Rattle.mask_bits.specs.IndexLaws.{PositionsAscend, FirstIsAtMostLast, CountBelowTheFirst, CountBelowTheNext, AllTrueIsOneRange, AllTrueIsOneRun, AllFalseHasNoRange, AllFalseHasNoRun, NeighborsDoNotFall, SortedDoNotFall};
-ghost use Rattle.mask_bits.specs.Laws.{PlacesAreWithin, CountIsAtMostLength, CountIsLengthOfAllTrue, CountIsSomeOfAnyTrue, CountOfAppend, LengthOfRepeated, PositionsOfAllTrue, CountOfAllTrue, PositionsOfAllFalse, ChosenByAllTrue, ChosenByAllFalse, ChosenIsRowsAtPositions, CountOfChosen, ValueOfWord, CountOfWord, CountsOfWordsAddUp, LengthOfValues, SameValuesAreOneList, PositionsDetermineList, RankIntersectionIsTheList, RankIntersectionValue, ChoosingTwice, RankIntersectionAssociative, AllTrueLeftUnit, AllTrueRightUnit, RankIntersectionCount, RankIntersectionPosition, FoldingKeepsAStack, RunsExist, RunsAreUnique, RunsAreRanges, RangesAddUpToTheCount, RankIntersectionOfAnd, RankIntersectionOfNot, IsFreeOfOrder, DistributesOver, Absorbs, HasComplements, AndNotIsAndOfNot, KeepsLength, PartOfPart, PartOfConcat, LimitOfLimit, HasLimitCount, CountBelowPosition, RunsAreTheList, RunOfAllTrue, RunsOfAllFalse, ChosenByRanges, GroupsBeginWithin, GroupOfRepeated, PlacesLieInGroups, CountOfGroup, StackFoldsAlike, FoldedByTheFirst, FoldOfOne, FoldedLeftByTheLast, LengthOfFold, CountOfFold, FoldOfNoRow, NeighborsMakeOne, ChoosingInTurn};
+ghost use Rattle.mask_bits.specs.Laws.{IndicesAreWithin, CountIsAtMostLength, CountIsLengthOfAllTrue, CountIsSomeOfAnyTrue, CountOfAppend, LengthOfRepeated, PositionsOfAllTrue, CountOfAllTrue, PositionsOfAllFalse, ChosenByAllTrue, ChosenByAllFalse, ChosenIsRowsAtPositions, CountOfChosen, ValueOfWord, CountOfWord, CountsOfWordsAddUp, LengthOfValues, SameValuesAreOneList, PositionsDetermineList, RankIntersectionIsTheList, RankIntersectionValue, ChoosingTwice, RankIntersectionAssociative, AllTrueLeftUnit, AllTrueRightUnit, RankIntersectionCount, RankIntersectionPosition, FoldingKeepsAStack, RunsExist, RunsAreUnique, RunsAreRanges, RangesAddUpToTheCount, RankIntersectionOfAnd, RankIntersectionOfNot, IsFreeOfOrder, DistributesOver, Absorbs, HasComplements, AndNotIsAndOfNot, KeepsLength, PartOfPart, PartOfConcat, LimitOfLimit, HasLimitCount, CountBelowPosition, RunsAreTheList, RunOfAllTrue, RunsOfAllFalse, ChosenByRanges, GroupsBeginWithin, GroupOfRepeated, IndicesLieInGroups, CountOfGroup, StackFoldsAlike, FoldedByTheFirst, FoldOfOne, FoldedLeftByTheLast, LengthOfFold, CountOfFold, FoldOfNoRow, NeighborsMakeOne, ChoosingInTurn};
 ghost use Rattle.mask_bits.specs.Lists.{and_of, or_of};
 
 // ---- true indices, and how many there are
 
 /// Each true index is below the length.
-pub fn places_are_within()
-    ensures within { PlacesAreWithin }
+pub fn indices_are_within()
+    ensures within { IndicesAreWithin }
 {}
 
 /// A count is at most the length, is the length exactly if each value is true, and is more than
@@ -29,9 +29,9 @@ pub fn counts()
 /// The length, the true indices and the count of a list of one value.
 pub fn lists_of_one_value()
     ensures len { LengthOfRepeated }
-    ensures every_place { PositionsOfAllTrue }
+    ensures every_index { PositionsOfAllTrue }
     ensures count { CountOfAllTrue }
-    ensures no_place { PositionsOfAllFalse }
+    ensures no_index { PositionsOfAllFalse }
 {}
 
 // ---- rows
@@ -267,7 +267,7 @@ pub fn choosing_by_ranges<T>()
 pub fn groups()
     ensures begins { GroupsBeginWithin }
     ensures one_value { GroupOfRepeated }
-    ensures places { PlacesLieInGroups }
+    ensures indices { IndicesLieInGroups }
     ensures count { CountOfGroup }
 {}
 

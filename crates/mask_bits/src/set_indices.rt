@@ -3,7 +3,7 @@
 ghost use Rattle.std.specs.Prelude.{◌≡◌, ◌*◌, ◌^◌, ◌<◌, ◌++◌, IfOk};
 ghost use Rattle.std.specs.Iterator.{YieldsFirst, item_count};
 ghost use Rattle.mask_bits.specs.Buffer.{values};
-ghost use Rattle.mask_bits.specs.Positions.{positions, places_from, count};
+ghost use Rattle.mask_bits.specs.Positions.{positions, indices_from, count};
 ghost use Rattle.mask_bits.specs.Words.{word_bits};
 
 use crate::buffer::BitBuffer;
@@ -39,7 +39,7 @@ impl BitBuffer {
 fn push_indices(indices: &mut Vec<usize>, i: usize, word: u64) -> Result<(), AllocError>
     requires { 64 * i < 2 ^ 64 }
     ensures { IfOk result (λ _. indices.new.items
-        ≡ indices.old.items ++ places_from (64 * i) (word_bits word)) }
+        ≡ indices.old.items ++ indices_from (64 * i) (word_bits word)) }
 {
     let mut left = word;
     while left != 0 {

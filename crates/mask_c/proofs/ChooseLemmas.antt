@@ -9,14 +9,14 @@ use Rattle.std.proofs.lemmas.List.Elements.{All-get_or, All-head, All-tail, All-
 use Rattle.std.proofs.lemmas.List.FromFn.{get_or-range_with_len}
 use Rattle.std.proofs.lemmas.Nat.Bits.{bit_at-zero}
 use Rattle.std.proofs.lemmas.Option.{get_or_from_slice_get, slice_get-get_or, slice_get_cases, slice_get_past}
-use Rattle.mask_bits.specs.Positions.{chosen, count, places_from, positions, repeated}
+use Rattle.mask_bits.specs.Positions.{chosen, count, indices_from, positions, repeated}
 use Rattle.mask_bits.specs.Words.{padded_part, word_bits}
 use Rattle.mask_bits.proofs.Lists.ChooseLemmas.{chosen-all_true, chosen_at_positions}
 use Rattle.mask_bits.proofs.Lists.CountLemmas.{count-append, count-repeated_true, length-repeated, positions-all_true, slice_get-repeated}
 use Rattle.mask_bits.proofs.Lists.Words.LowestLemmas.{low, ones-of_full, ones-set}
 use Rattle.mask_bits.proofs.Lists.Words.PaddedLemmas.{get_or-padded_part, length-padded_part}
 use Rattle.mask_bits.proofs.Lists.Places.PlaceLemmas.{positions-within}
-use Rattle.mask_bits.proofs.Lists.Places.SelectLemmas.{no_place, places_from-append, places_from-moved, positions-lowest}
+use Rattle.mask_bits.proofs.Lists.Places.SelectLemmas.{no_index, indices_from-append, indices_from-moved, positions-lowest}
 use Rattle.mask_bits.proofs.Lists.Words.WordLemmas.{get_or-word_bits, length-word_bits, word_bits_from_bits}
 
 -- the rows at some indices
@@ -26,8 +26,8 @@ rows_at rows ps = filter_map (λ p. slice_get rows p) ps
 -- ---- places
 
 -- false values past the end have no place
-places-same : (n : ℕ) (xs ys : List Bool) → ((i : ℕ) → get_or xs i false ≡ get_or ys i false) → places_from n xs ≡ places_from n ys
-places-same n [] ys same = sym (no_place ys n (λ i. sym (same i)))
+places-same : (n : ℕ) (xs ys : List Bool) → ((i : ℕ) → get_or xs i false ≡ get_or ys i false) → indices_from n xs ≡ indices_from n ys
+places-same n [] ys same = sym (no_index ys n (λ i. sym (same i)))
 places-same n (true ∷ xs) [] same = let h : true ≡ false = same 0 in absurd (cc)
 places-same n (false ∷ xs) [] same = places-same (n + 1) xs [] (λ i. same (suc i))
 places-same n (true ∷ xs) (true ∷ ys) same = ap (λ (ps : List ℕ). n ∷ ps) (places-same (n + 1) xs ys (λ i. same (suc i)))
@@ -36,7 +36,7 @@ places-same n (false ∷ xs) (true ∷ ys) same = let h : false ≡ true = same 
 places-same n (false ∷ xs) (false ∷ ys) same = places-same (n + 1) xs ys (λ i. same (suc i))
 
 -- a started part has the places of its values
-places-part : (m : List Bool) (i n : ℕ) → places_from n (take 64 (drop (64 * i) m)) ≡ places_from n (padded_part m i)
+places-part : (m : List Bool) (i n : ℕ) → indices_from n (take 64 (drop (64 * i) m)) ≡ indices_from n (padded_part m i)
 places-part m i n =
     let rest : List Bool = drop (64 * i) m in
     places-same n (take 64 rest) (padded_part m i) (λ j. elim (cases_lt j 64) [
@@ -52,10 +52,10 @@ positions-word_more m i within =
     let here : List Bool = take 64 (drop (64 * i) m) in
     let next : 64 * (i + 1) ≡ 64 * i + 64 = omega arith in
     let len : 0 + length front ≡ 64 * i = omega (arith, length-take (64 * i) m) in
-    ap (λ n. positions (take n m)) next ∙ ap positions (take-add (64 * i) 64 m) ∙ places_from-append 0 front here
+    ap (λ n. positions (take n m)) next ∙ ap positions (take-add (64 * i) 64 m) ∙ indices_from-append 0 front here
     ∙ ap (λ (ps : List ℕ). positions front ++ ps)
-    (ap (λ n. places_from n here) len ∙ places-part m i (64 * i)
-    ∙ ap (λ n. places_from n (padded_part m i)) (sym (add-zero (64 * i))) ∙ places_from-moved (64 * i) 0 (padded_part m i))
+    (ap (λ n. indices_from n here) len ∙ places-part m i (64 * i)
+    ∙ ap (λ n. indices_from n (padded_part m i)) (sym (add-zero (64 * i))) ∙ indices_from-moved (64 * i) 0 (padded_part m i))
 
 -- the lowest place of a word is a place of it
 pub lowest-within : (w n : ℕ) → 0 < w → w < 2 ^ 64 → All (λ p. p < n) (positions (word_bits w)) → low w < n
@@ -66,7 +66,7 @@ lowest-within w n some fits within =
 pub no_bits : (w : ℕ) → w ≡ 0 → positions (word_bits w) ≡ []
 no_bits w none =
     ap (λ n. positions (word_bits n)) none
-    ∙ no_place (word_bits 0) 0 (λ i. elim (cases_lt i 64) [
+    ∙ no_index (word_bits 0) 0 (λ i. elim (cases_lt i 64) [
       | inl h ↦ get_or-word_bits 0 i false h ∙ ap (λ b. nat_eq b 1) (bit_at-zero i)
       | inr past ↦ get_or_past (word_bits 0) i false (omega (arith, length-word_bits 0))
     ])

@@ -5,10 +5,10 @@ use Rattle.std.proofs.lemmas.Bool.{cases_lt}
 use Rattle.std.proofs.lemmas.List.{ext_get_or, get_or-drop, length-drop, length-map, length-take, map-append, take-append-drop, take-append-le, take_all, take_at}
 use Rattle.std.proofs.lemmas.List.Elements.{All-weaker}
 use Rattle.mask_bits.specs.Buffer.{backing_bit}
-use Rattle.mask_bits.specs.Positions.{count, places_from, positions}
+use Rattle.mask_bits.specs.Positions.{count, indices_from, positions}
 use Rattle.mask_bits.specs.Words.{padded_part, word_bits}
 use Rattle.mask_bits.proofs.Lists.Words.BackingBitLemmas.{length-bits_at, get_or-bits_at}
-use Rattle.mask_bits.proofs.Lists.Places.SelectLemmas.{count-word_more, places_from-append, places_from-moved}
+use Rattle.mask_bits.proofs.Lists.Places.SelectLemmas.{count-word_more, indices_from-append, indices_from-moved}
 use Rattle.mask_c.specs.Bitmap.{bitmap}
 use Rattle.mask_c.proofs.ChooseLemmas.{part-within, positions-word_more}
 
@@ -68,20 +68,20 @@ indices-within m from i fits within =
     (positions (padded_part m i)) (part-within m m i refl)
 
 -- all words have all indices
-all_places : (m : List Bool) (from : ℕ) → map (λ p. from + p) (positions m) ≡ places_from from m
-all_places m from = sym (places_from-moved from 0 m) ∙ ap (λ n. places_from n m) (add-zero from)
+all_places : (m : List Bool) (from : ℕ) → map (λ p. from + p) (positions m) ≡ indices_from from m
+all_places m from = sym (indices_from-moved from 0 m) ∙ ap (λ n. indices_from n m) (add-zero from)
 
-pub all_indices : (m : List Bool) (from k : ℕ) → length m ≤ k → map (λ p. from + p) (positions (take k m)) ≡ places_from from m
+pub all_indices : (m : List Bool) (from k : ℕ) → length m ≤ k → map (λ p. from + p) (positions (take k m)) ≡ indices_from from m
 all_indices m from k past =
     ap (λ (x : List Bool). map (λ p. from + p) (positions x)) (take_all k m past) ∙ all_places m from
 
 -- the first words have the first indices
-pub first_indices : (m : List Bool) (from n k : ℕ) → n ≤ count (take k m) → take n (map (λ p. from + p) (positions (take k m))) ≡ take n (places_from from m)
+pub first_indices : (m : List Bool) (from n k : ℕ) → n ≤ count (take k m) → take n (map (λ p. from + p) (positions (take k m))) ≡ take n (indices_from from m)
 first_indices m from n k many =
     let front : List Bool = take k m in
-    let after : List ℕ = places_from (0 + length front) (drop k m) in
+    let after : List ℕ = indices_from (0 + length front) (drop k m) in
     let split : positions m ≡ positions front ++ after
-    = sym (ap positions (take-append-drop k m)) ∙ places_from-append 0 front (drop k m) in
+    = sym (ap positions (take-append-drop k m)) ∙ indices_from-append 0 front (drop k m) in
     let len : length (map (λ p. from + p) (positions front)) ≡ count front = length-map (positions front) (λ p. from + p) in
     sym (take-append-le n (map (λ p. from + p) (positions front)) (map (λ p. from + p) after) (omega arith))
     ∙ ap (take n) (sym (map-append (λ p. from + p) (positions front) after) ∙ ap (map (λ p. from + p)) (sym split) ∙ all_places m from)

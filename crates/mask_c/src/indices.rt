@@ -2,7 +2,7 @@
 
 ghost use Rattle.std.specs.Prelude.{◌≡◌, ◌-◌, ◌+◌, ◌*◌, ◌<◌, ◌≤◌, ◌^◌, ◌++◌, ℕ, All, drop, length, map, min, not, slice_index_or, Some, slice_get, take, true};
 ghost use Rattle.mask_bits.specs.Buffer.{IsWithinBytes, backing_bit};
-ghost use Rattle.mask_bits.specs.Positions.{IsFirstFrom, count, places_from, positions};
+ghost use Rattle.mask_bits.specs.Positions.{IsFirstFrom, count, indices_from, positions};
 ghost use Rattle.mask_bits.specs.Words.{word_bits};
 ghost use Rattle.mask_c.specs.Bitmap.{bitmap};
 
@@ -58,7 +58,7 @@ pub extern "C" fn row_mask_next_indices(
     requires bitmap { IsWithinBytes bytes.now offset len }
     requires within { from ≤ len }
     ensures indices { take result out.new ≡ take (length out.old)
-        (places_from from (drop from (bitmap bytes.now offset len))) }
+        (indices_from from (drop from (bitmap bytes.now offset len))) }
     ensures count { result ≡ min (length out.old)
         (count (drop from (bitmap bytes.now offset len))) }
 {
@@ -73,7 +73,7 @@ pub extern "C" fn row_mask_next_indices(
     at
 }
 
-// Writes `first` and the places of the set bits of a word from there on behind the first `at` indices,
+// Writes `first` and the indices of the set bits of a word from there on behind the first `at` indices,
 // as many as there is room for, and answers how many there are then.
 #[inline]
 fn indices_of_word(word: u64, first: usize, out: &mut [usize], at: usize) -> usize

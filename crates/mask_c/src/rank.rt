@@ -4,7 +4,7 @@ ghost use Rattle.std.specs.Prelude.{◌≡◌, ◌*◌, ◌<◌, All, length};
 ghost use Rattle.std.specs.Int.{div_ceil};
 ghost use Rattle.std.specs.List.Sorted.{IsStrictlyIncreasing};
 ghost use Rattle.mask_bits.specs.Buffer.{IsWithinBytes};
-ghost use Rattle.mask_bits.specs.Positions.{at_places, count, positions, rank_intersection, true_at};
+ghost use Rattle.mask_bits.specs.Positions.{at_indices, count, positions, rank_intersection, true_at};
 ghost use Rattle.mask_c.specs.Bitmap.{bitmap};
 
 use mask_bits::counts::count_bits;
@@ -62,7 +62,7 @@ pub extern "C" fn row_mask_intersect_at_ranks(
     requires within { All (λ k. k < count (bitmap bytes.now offset len)) ranks.now }
     requires room { length out.old ≡ 8 * div_ceil len 64 }
     ensures { bitmap out.new 0 len
-        ≡ true_at len (at_places (positions (bitmap bytes.now offset len)) ranks.now) }
+        ≡ true_at len (at_indices (positions (bitmap bytes.now offset len)) ranks.now) }
 {
     laws::length_of_values();
     let chunks = BitChunks::new(bytes, offset, len);

@@ -30,13 +30,13 @@ abbrev pub is_bad_digit : ℕ → Bool
 is_bad_digit c = not (c == 48 || c == 49)
 
 -- the place of the first byte that is no digit of a mask: place 0 where there is no byte
-abbrev pub bad_place : List ℕ → Option ℕ
-bad_place [] = Some 0
-bad_place (c ∷ cs) = position is_bad_digit (c ∷ cs)
+abbrev pub bad_digit : List ℕ → Option ℕ
+bad_digit [] = Some 0
+bad_digit (c ∷ cs) = position is_bad_digit (c ∷ cs)
 
 -- what is wrong with argument n as a mask: `-` is the empty one
 abbrev pub mask_fault : ℕ → List ℕ → Option RunError
-mask_fault n cs = if bytes_eq cs (codes "-") then None else option_map (BadBit n) (bad_place cs)
+mask_fault n cs = if bytes_eq cs (codes "-") then None else option_map (BadBit n) (bad_digit cs)
 
 -- the list that a well-formed mask says
 abbrev pub mask_said : List ℕ → List Bool

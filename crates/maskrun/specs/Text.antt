@@ -18,6 +18,6 @@ abbrev pub list_text : {T : Type 0} → (T → List ℕ) → List T → List ℕ
 list_text item [] = codes "-"
 list_text item (x ∷ xs) = join_by item (codes " ") (x ∷ xs)
 
--- a range: its first place, and the place past its last
+-- a range: its first index, and the index past its last
 abbrev pub range_text : ℕ × ℕ → List ℕ
 range_text r = decimal r.0 ++ codes ".." ++ decimal r.1

@@ -39,7 +39,7 @@ pub(crate) trait Item {
         ensures { OnOk result (string_bytes line.new ≡ string_bytes line.old ++ text self.now) };
 }
 
-// A place.
+// An index.
 impl Item for usize {
     ghost text = { decimal };
 
@@ -48,7 +48,7 @@ impl Item for usize {
     }
 }
 
-// A range: its first place, and the place past its last.
+// A range: its first index, and the index past its last.
 impl Item for (usize, usize) {
     ghost text = { range_text };
 

@@ -10,7 +10,7 @@ use mask_bits::laws;
 use std::alloc::{AllocError, Global};
 use vortex_mask::{AllOr, Mask, MaskError, MaskIter};
 
-/// The rows at the true indices: by ranges from every second row on, else by places. The mask keeps
+/// The rows at the true indices: by ranges from every second row on, else by indices. The mask keeps
 /// the list that it lends.
 pub fn filtered<T: Copy>(alloc: Global, rows: &[T], mask: &mut Mask) -> Result<Vec<T>, MaskError>
     requires { length rows.now ≡ length (truth mask.old) }
@@ -23,7 +23,7 @@ pub fn filtered<T: Copy>(alloc: Global, rows: &[T], mask: &mut Mask) -> Result<V
         AllOr::All => Ok(Vec::from_slice(alloc, rows)?),
         AllOr::None => Ok(Vec::new(alloc)),
         AllOr::Some(MaskIter::Slices(ranges)) => Ok(by_ranges(alloc, rows, ranges)?),
-        AllOr::Some(MaskIter::Indices(places)) => Ok(by_places(alloc, rows, places)?),
+        AllOr::Some(MaskIter::Indices(indices)) => Ok(by_indices(alloc, rows, indices)?),
     }
 }
 
@@ -59,11 +59,11 @@ fn copied<T: Copy>(
     Ok(copied)
 }
 
-fn by_places<T: Copy>(alloc: Global, rows: &[T], places: &[usize]) -> Result<Vec<T>, AllocError>
-    ensures { IfOk result (λ v. v.items ≡ filter_map (λ i. slice_get rows.now i) places.now) }
+fn by_indices<T: Copy>(alloc: Global, rows: &[T], indices: &[usize]) -> Result<Vec<T>, AllocError>
+    ensures { IfOk result (λ v. v.items ≡ filter_map (λ i. slice_get rows.now i) indices.now) }
 {
-    places
+    indices
         .iter()
-        .filter_map(|place| row_at(rows, *place))
+        .filter_map(|index| row_at(rows, *index))
         .collect(alloc)
 }

@@ -8,7 +8,7 @@ use mask_bits::{BitBuffer, laws};
 use std::alloc::{AllocError, Global};
 use vortex_mask::{AllOr, Mask};
 
-/// The rows at the true indices: a copy of all, none, or one read at each place.
+/// The rows at the true indices: a copy of all, none, or one read at each index.
 pub fn gathered<T: Copy>(alloc: Global, rows: &[T], mask: &Mask) -> Result<Vec<T>, AllocError>
     requires { length rows.now ≡ length (truth mask.now) }
     ensures { IfOk result (λ v. v.items ≡ chosen rows.now (truth mask.now)) }
@@ -17,24 +17,24 @@ pub fn gathered<T: Copy>(alloc: Global, rows: &[T], mask: &Mask) -> Result<Vec<T
     match mask.bit_buffer() {
         AllOr::All => Vec::from_slice(alloc, rows),
         AllOr::None => Ok(Vec::new(alloc)),
-        AllOr::Some(buffer) => at_places(alloc, rows, buffer),
+        AllOr::Some(buffer) => at_indices(alloc, rows, buffer),
     }
 }
 
-fn at_places<T: Copy>(alloc: Global, rows: &[T], buffer: &BitBuffer) -> Result<Vec<T>, AllocError>
+fn at_indices<T: Copy>(alloc: Global, rows: &[T], buffer: &BitBuffer) -> Result<Vec<T>, AllocError>
     requires { length rows.now ≡ length (values buffer.now) }
     ensures { IfOk result (λ v. v.items ≡ chosen rows.now (values buffer.now)) }
 {
     laws::choosing::<T>();
     buffer
         .set_indices()
-        .filter_map(|place| row_at(rows, place))
+        .filter_map(|index| row_at(rows, index))
         .collect(alloc)
 }
 
-// The row of a place, if there is one.
-pub(crate) fn row_at<T: Copy>(rows: &[T], place: usize) -> Option<T>
-    ensures { result ≡ slice_get rows.now place }
+// The row at an index, if there is one.
+pub(crate) fn row_at<T: Copy>(rows: &[T], index: usize) -> Option<T>
+    ensures { result ≡ slice_get rows.now index }
 {
-    rows.get(place).copied()
+    rows.get(index).copied()
 }

@@ -122,7 +122,7 @@ pub fn masks_of_a_vec(alloc: Global, masks: Vec<Mask>) -> Result<Mask, MaskError
     Mask::from_masks(alloc, masks.into_iter())
 }
 
-/// How many values are true, by the list of their places.
+/// How many values are true, by the list of their indices.
 /// The contract says what is known of the mask once the list is no longer borrowed.
 pub fn count_by_indices(alloc: Global, mask: &mut Mask) -> Result<usize, MaskError>
     ensures list { IfOk result (λ n. truth mask.new ≡ truth mask.old) }

@@ -35,7 +35,7 @@ pub fn has_chosen(rows: &BitBuffer, size: usize, number: usize) -> bool
     rows.count_range(start, end) > 0
 }
 
-/// The same of the rows that a mask chooses, by the list of places that it lends.
+/// The same of the rows that a mask chooses, by the list of indices that it lends.
 pub fn kept_by_indices(alloc: Global, mask: &mut Mask, size: usize) -> Result<Vec<bool>, MaskError>
     requires { 0 < size }
     ensures len { IfOk result (λ kept. vec_len kept ≡ div_ceil (length (truth mask.old)) size) }
@@ -49,27 +49,27 @@ pub fn kept_by_indices(alloc: Global, mask: &mut Mask, size: usize) -> Result<Ve
     match mask.indices(alloc)? {
         AllOr::All => Ok(vec![in alloc; true; groups]?),
         AllOr::None => Ok(vec![in alloc; false; groups]?),
-        AllOr::Some(places) => Ok(marked(alloc, places, size, groups)?),
+        AllOr::Some(indices) => Ok(marked(alloc, indices, size, groups)?),
     }
 }
 
-// Which groups have one of these places.
+// Which groups have one of these indices.
 fn marked(
     alloc: Global,
-    places: &[usize],
+    indices: &[usize],
     size: usize,
     groups: usize,
 ) -> Result<Vec<bool>, AllocError>
     requires some { 0 < size }
-    requires within { All (λ p. p / size < groups) places.now }
+    requires within { All (λ p. p / size < groups) indices.now }
     ensures len { IfOk result (λ kept. vec_len kept ≡ groups) }
     ensures exact { IfOk result (λ kept. (g : ℕ) → g < groups
         → slice_index_or kept.items g false
-        ≡ nat_lt 0 (count_by (λ p. nat_eq (p / size) g) places.now)) }
+        ≡ nat_lt 0 (count_by (λ p. nat_eq (p / size) g) indices.now)) }
 {
     let mut kept = vec![in alloc; false; groups]?;
-    for place in places {
-        kept[*place / size] = true;
+    for index in indices {
+        kept[*index / size] = true;
     }
     Ok(kept)
 }

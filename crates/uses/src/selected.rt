@@ -2,7 +2,7 @@
 ghost use Rattle.std.specs.Prelude.{◌≡◌, ◌+◌, ◌<◌, ◌≤◌, ◌^◌, ◌++◌, All, IfOk, length};
 ghost use Rattle.std.specs.List.Sorted.{IsStrictlyIncreasing};
 ghost use Rattle.mask_bits.specs.Buffer.{values};
-ghost use Rattle.mask_bits.specs.Positions.{positions, count, at_places};
+ghost use Rattle.mask_bits.specs.Positions.{positions, count, at_indices};
 ghost use Rattle.vortex_mask.specs.Mask.{truth};
 
 use mask_bits::BitBuffer;
@@ -15,7 +15,7 @@ pub fn listed(alloc: Global, rows: &BitBuffer, numbers: &[usize]) -> Result<Mask
     requires ascending { IsStrictlyIncreasing numbers.now }
     requires within { All (λ n. n < count (values rows.now)) numbers.now }
     ensures { IfOk result
-        (λ m. positions (truth m) ≡ at_places (positions (values rows.now)) numbers.now) }
+        (λ m. positions (truth m) ≡ at_indices (positions (values rows.now)) numbers.now) }
 {
     let picked = numbers.iter().copied();
     let (mask, _) = intersect_mask_driven::<Portable, _>(alloc, rows, picked, numbers.len())?;
@@ -26,7 +26,7 @@ pub fn listed(alloc: Global, rows: &BitBuffer, numbers: &[usize]) -> Result<Mask
 pub fn filtered(alloc: Global, rows: &BitBuffer, kept: &BitBuffer) -> Result<Mask, MaskError>
     requires { length (values kept.now) ≡ count (values rows.now) }
     ensures { IfOk result (λ m. positions (truth m)
-        ≡ at_places (positions (values rows.now)) (positions (values kept.now))) }
+        ≡ at_indices (positions (values rows.now)) (positions (values kept.now))) }
 {
     let picked = kept.set_indices();
     let (mask, _) = intersect_mask_driven::<Portable, _>(alloc, rows, picked, kept.true_count())?;
@@ -67,7 +67,7 @@ pub fn of_two_lists(
     requires start { start ≤ count (values rows.now) }
     requires fits { length first.now + length second.now < 2 ^ 64 }
     ensures { IfOk result (λ m. positions (truth m)
-        ≡ at_places (positions (values rows.now)) (first.now ++ second.now)) }
+        ≡ at_indices (positions (values rows.now)) (first.now ++ second.now)) }
 {
     let picked = first.iter().copied().chain(second.iter().copied());
     let many = first.len() + second.len();

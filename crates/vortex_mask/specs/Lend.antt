@@ -15,19 +15,19 @@ use Rattle.vortex_mask.specs.declared.mask.Mask.{Mask}
 abbrev pub ReachesShare : List Bool → ℕ → ℕ → Type 0
 ReachesShare m num den = num * length m ≤ count m * den
 
--- whether ranges are lent, and not places
+-- whether ranges are lent, and not indices
 abbrev pub lends_ranges : MaskIter → Bool
-lends_ranges (Indices places) = false
+lends_ranges (Indices indices) = false
 lends_ranges (Slices ranges) = true
 
 -- the true indices are lent, or the runs
 abbrev pub IsLentOf : List Bool → MaskIter → Type 0
-IsLentOf m (Indices places) = places.now ≡ positions m
+IsLentOf m (Indices indices) = indices.now ≡ positions m
 IsLentOf m (Slices ranges) = ranges.now ≡ runs m
 
 -- these lists, with the one that is lent cached beside the other
 abbrev pub with_list : MaskIter → Caches → Caches
-with_list (Indices places) cached = with_indices places.now cached
+with_list (Indices indices) cached = with_indices indices.now cached
 with_list (Slices ranges) cached = with_ranges ranges.now cached
 
 -- the variant of a mask that lends so: `All` where it is all true, `None` where it is all false

@@ -5,7 +5,7 @@ use Rattle.mask_bits.specs.Buffer.{Packed, values}
 use Rattle.mask_bits.specs.Positions.{positions, count}
 use Rattle.mask_bits.specs.RunScan.{runs}
 
--- the cached lists of the true indices, where there are such: the places, and their runs
+-- the cached lists of the true indices, where there are such: the indices, and their runs
 pub record Caches : Type 0 where
   pub indices : Option (List ℕ)
   pub ranges : Option (List (ℕ × ℕ))
@@ -14,19 +14,19 @@ pub record Caches : Type 0 where
 abbrev pub no_caches : Caches
 no_caches = record { indices = None; ranges = None }
 
--- the places alone
+-- the indices alone
 abbrev pub only_indices : List ℕ → Caches
-only_indices places = record { indices = Some places; ranges = None }
+only_indices indices = record { indices = Some indices; ranges = None }
 
 -- the ranges alone
 abbrev pub only_ranges : List (ℕ × ℕ) → Caches
 only_ranges ranges = record { indices = None; ranges = Some ranges }
 
--- these lists, with the places cached beside the ranges
+-- these lists, with the indices cached beside the ranges
 abbrev pub with_indices : List ℕ → Caches → Caches
-with_indices places cached = record cached { indices = Some places }
+with_indices indices cached = record cached { indices = Some indices }
 
--- these lists, with the ranges cached beside the places
+-- these lists, with the ranges cached beside the indices
 abbrev pub with_ranges : List (ℕ × ℕ) → Caches → Caches
 with_ranges ranges cached = record cached { ranges = Some ranges }
 
@@ -46,9 +46,9 @@ pub record IsMixed (buffer : Packed) (true_count : ℕ) : Type 0 where
   pub some_true : 0 < true_count
   pub some_false : true_count < length (values buffer)
 
--- cached places are the list's true indices, and cached ranges are its runs
+-- cached indices are the list's true indices, and cached ranges are its runs
 pub record AreOf (m : List Bool) (caches : Caches) : Type 0 where
-  pub indices : ForSome caches.indices (λ places. places ≡ positions m)
+  pub indices : ForSome caches.indices (λ indices. indices ≡ positions m)
   pub ranges : ForSome caches.ranges (λ ranges. ranges ≡ runs m)
 
 -- what every `MaskValues` keeps

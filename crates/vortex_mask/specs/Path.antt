@@ -1,4 +1,4 @@
--- By which kernel two masks of mixed values are narrowed, what the result keeps of its places, and the steps that are taken.
+-- By which kernel two masks of mixed values are narrowed, what the result caches, and the steps that are taken.
 use Rattle.std.specs.Prelude.{ℕ, ◌≡◌, ◌≤◌, ◌*◌, Bool, true, false, ◌&&◌, List, length, nat_lt, is_some, if◌then◌else◌}
 use Rattle.mask_bits.specs.Buffer.{values}
 use Rattle.mask_bits.specs.Positions.{positions, count}

@@ -9,11 +9,11 @@ use Rattle.mask_bits.specs.Words.{word_bits, padded_part, started_words}
 abbrev pub AreRanks : {S : Type 0} {steps : S → Option ℕ → S → Type 0} → ℕ → ℕ → Run steps → Type 0
 AreRanks top n p = IsStrictlyIncreasing p.items × All (λ k. k < top) p.items × (p.whole ≡ true → p.len ≡ n)
 
--- the first n of these places are those below `limit`
-pub record AreSplit (places : List ℕ) (n limit : ℕ) : Type 0 where
-  pub within : n ≤ length places
-  pub before : (k : ℕ) → k < n → slice_index places k < limit
-  pub after : (k : ℕ) → n ≤ k → k < length places → limit ≤ slice_index places k
+-- the first n of these indices are those below `limit`
+pub record AreSplit (indices : List ℕ) (n limit : ℕ) : Type 0 where
+  pub within : n ≤ length indices
+  pub before : (k : ℕ) → k < n → slice_index indices k < limit
+  pub after : (k : ℕ) → n ≤ k → k < length indices → limit ≤ slice_index indices k
 
 -- the first n words of m are read: the last of them is w, and `before` of the values in front of it are true
 pub record HasRead (m : List Bool) (n w before : ℕ) : Type 0 where

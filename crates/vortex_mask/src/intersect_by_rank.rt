@@ -9,7 +9,7 @@ mod steps;
 
 ghost use Rattle.std.specs.Prelude.{◌≡◌, ◌≢◌, ◌<◌, ◌⊎◌, ◌∷◌, IsOk, IfOk, All, fold, map, length, IsOkUnless, alloc_error};
 ghost use Rattle.vortex_mask.specs.Mask.{truth, variant, fitting_variant, variant_and, all_false, mixed, caches};
-ghost use Rattle.mask_bits.specs.Positions.{positions, count, at_places, rank_intersection};
+ghost use Rattle.mask_bits.specs.Positions.{positions, count, at_indices, rank_intersection};
 ghost use Rattle.mask_bits.specs.Stacks.{IsStack, folded_left};
 ghost use Rattle.vortex_mask.specs.Path.{narrowed_caches, AreNarrowingSteps};
 
@@ -19,8 +19,8 @@ pub use deposit::{
     DepositBits, Portable, PortableLoop, deposit_bytewise, deposit_two_holes, deposit_two_lowest,
 };
 pub use kernels::{
-    intersect_bit_buffer_by_rank_indices, intersect_bit_buffers, intersect_by_rank_indices,
-    intersect_mask_driven, narrow_at_ranks, narrow_by_bits, places_at_ranks,
+    indices_at_ranks, intersect_bit_buffer_by_rank_indices, intersect_bit_buffers,
+    intersect_by_rank_indices, intersect_mask_driven, narrow_at_ranks, narrow_by_bits,
 };
 use path::narrow_by_path;
 pub use path::{RankPath, rank_path};
@@ -36,7 +36,7 @@ impl Mask {
         requires { length (truth mask.now) ≡ count (truth self.now) }
         ensures len { IfOk result (λ m. length (truth m) ≡ length (truth self.now)) }
         ensures true_indices { IfOk result (λ m. positions (truth m)
-            ≡ at_places (positions (truth self.now)) (positions (truth mask.now))) }
+            ≡ at_indices (positions (truth self.now)) (positions (truth mask.now))) }
 
         // The one list of that length and with those true indices.
         ensures list { IfOk result
@@ -67,7 +67,7 @@ impl Mask {
         requires { length (truth mask.now) ≡ count (truth self.now) }
         ensures len { IfOk result (λ r. length (truth r.0) ≡ length (truth self.now)) }
         ensures true_indices { IfOk result (λ r. positions (truth r.0)
-            ≡ at_places (positions (truth self.now)) (positions (truth mask.now))) }
+            ≡ at_indices (positions (truth self.now)) (positions (truth mask.now))) }
         ensures list { IfOk result
             (λ r. truth r.0 ≡ rank_intersection (truth self.now) (truth mask.now)) }
         ensures variant { IfOk result (λ r. variant r.0

@@ -196,7 +196,7 @@ impl Mask {
     /// The index of true value number `n`, counted from 0.
     pub fn rank(&self, n: usize) -> usize
         requires { n < count (truth self.now) }
-        ensures place { slice_get (positions (truth self.now)) n ≡ Some result }
+        ensures index { slice_get (positions (truth self.now)) n ≡ Some result }
         ensures within { result < length (truth self.now) }
     {
         match self {
@@ -222,7 +222,7 @@ impl Mask {
 impl Mask {
     /// The index of the first true value, if there is one.
     pub fn first(&self) -> Option<usize>
-        ensures place { result ≡ slice_get (positions (truth self.now)) 0 }
+        ensures index { result ≡ slice_get (positions (truth self.now)) 0 }
         ensures within { IfSome result (λ p. p < length (truth self.now)) }
     {
         match self {
@@ -234,7 +234,7 @@ impl Mask {
 
     /// The index of the last true value, if there is one.
     pub fn last(&self) -> Option<usize>
-        ensures place { result
+        ensures index { result
             ≡ slice_get (positions (truth self.now)) (count (truth self.now) - 1) }
         ensures within { IfSome result (λ p. p < length (truth self.now)) }
     {

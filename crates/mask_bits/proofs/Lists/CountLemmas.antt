@@ -4,42 +4,42 @@ use Rattle.std.specs.List.{All, list_all, list_any, range_with_len}
 use Rattle.std.proofs.lemmas.List.{get_or-replicate, length-replicate, get_or_append_left, get_or-append_right, get_or_past}
 use Rattle.std.proofs.lemmas.List.FromFn.{length-range_with_len, get_or-range_with_len}
 use Rattle.std.proofs.lemmas.Option.{slice_get-get_or}
-use Rattle.mask_bits.specs.Positions.{places_from, positions, count, repeated}
-use Rattle.mask_bits.proofs.Lists.Places.PlaceLemmas.{length-places_from, trues, count-trues}
+use Rattle.mask_bits.specs.Positions.{indices_from, positions, count, repeated}
+use Rattle.mask_bits.proofs.Lists.Places.PlaceLemmas.{length-indices_from, trues, count-trues}
 use Rattle.std.specs.Prelude.{◌↔◌, Any}
 use Rattle.std.proofs.lemmas.List.Folds.{Any-from_list_any, list_any-from_Any}
 
 -- every place of an all-true list, and none of an all-false one
-pub places_from-repeated_true : (n k : ℕ) → places_from n (repeated k true) ≡ range_with_len n k
+pub indices_from-repeated_true : (n k : ℕ) → indices_from n (repeated k true) ≡ range_with_len n k
 unfolding repeated
-places_from-repeated_true n zero = refl
-places_from-repeated_true n (suc k) = ap (λ (xs : List ℕ). n ∷ xs) (places_from-repeated_true (n + 1) k)
+indices_from-repeated_true n zero = refl
+indices_from-repeated_true n (suc k) = ap (λ (xs : List ℕ). n ∷ xs) (indices_from-repeated_true (n + 1) k)
 
-pub places_from-repeated_false : (n k : ℕ) → places_from n (repeated k false) ≡ []
+pub indices_from-repeated_false : (n k : ℕ) → indices_from n (repeated k false) ≡ []
 unfolding repeated
-places_from-repeated_false n zero = refl
-places_from-repeated_false n (suc k) = places_from-repeated_false (n + 1) k
+indices_from-repeated_false n zero = refl
+indices_from-repeated_false n (suc k) = indices_from-repeated_false (n + 1) k
 
 pub count-repeated_true : (k : ℕ) → count (repeated k true) ≡ k
 unfolding repeated
-count-repeated_true k = ap length (places_from-repeated_true 0 k) ∙ length-range_with_len 0 k
+count-repeated_true k = ap length (indices_from-repeated_true 0 k) ∙ length-range_with_len 0 k
 
 pub count-repeated_false : (k : ℕ) → count (repeated k false) ≡ 0
 unfolding repeated
-count-repeated_false k = ap length (places_from-repeated_false 0 k)
+count-repeated_false k = ap length (indices_from-repeated_false 0 k)
 
 -- true value number n of an all-true list stands at n
 pub positions-repeated_true_at : (k n : ℕ) → n < k → slice_get (positions (repeated k true)) n ≡ Some n
-positions-repeated_true_at k n h = grind (arith, places_from-repeated_true 0 k, slice_get-get_or (range_with_len 0 k) n 0, length-range_with_len 0 k, get_or-range_with_len 0 k n 0 h)
+positions-repeated_true_at k n h = grind (arith, indices_from-repeated_true 0 k, slice_get-get_or (range_with_len 0 k) n 0, length-range_with_len 0 k, get_or-range_with_len 0 k n 0 h)
 
 -- as many true values as values: all are true
-pub all_true_from_count : (n : ℕ) (m : List Bool) → length (places_from n m) ≡ length m → m ≡ repeated (length m) true
+pub all_true_from_count : (n : ℕ) (m : List Bool) → length (indices_from n m) ≡ length m → m ≡ repeated (length m) true
 unfolding repeated
 all_true_from_count n [] e = refl
-all_true_from_count n (v ∷ m) e = grind (arith, all_true_from_count (n + 1) m, length-places_from)
+all_true_from_count n (v ∷ m) e = grind (arith, all_true_from_count (n + 1) m, length-indices_from)
 
 -- no true value: all are false
-pub all_false_from_count : (n : ℕ) (m : List Bool) → length (places_from n m) ≡ 0 → m ≡ repeated (length m) false
+pub all_false_from_count : (n : ℕ) (m : List Bool) → length (indices_from n m) ≡ 0 → m ≡ repeated (length m) false
 unfolding repeated
 all_false_from_count n [] e = refl
 all_false_from_count n (v ∷ m) e = grind (arith, all_false_from_count (n + 1) m)
@@ -55,19 +55,19 @@ unfolding repeated
 All-repeated b m e = λ k d h. ap (λ (xs : List Bool). get_or xs k d) e ∙ get_or-replicate (length m) k b d h
 
 -- what the tests of all and of some value say, by the count
-pub list_all-count : (n : ℕ) (m : List Bool) → length (places_from n m) ≡ length m → list_all (λ b. b) m ≡ true
+pub list_all-count : (n : ℕ) (m : List Bool) → length (indices_from n m) ≡ length m → list_all (λ b. b) m ≡ true
 list_all-count n [] e = refl
-list_all-count n (v ∷ m) e = grind (arith, list_all-count (n + 1) m, length-places_from)
+list_all-count n (v ∷ m) e = grind (arith, list_all-count (n + 1) m, length-indices_from)
 
-pub list_all-count_less : (n : ℕ) (m : List Bool) → length (places_from n m) < length m → list_all (λ b. b) m ≡ false
+pub list_all-count_less : (n : ℕ) (m : List Bool) → length (indices_from n m) < length m → list_all (λ b. b) m ≡ false
 list_all-count_less n [] e = absurd (omega arith)
 list_all-count_less n (v ∷ m) e = grind (arith, list_all-count_less (n + 1) m)
 
-pub list_any-count : (n : ℕ) (m : List Bool) → 0 < length (places_from n m) → list_any (λ b. b) m ≡ true
+pub list_any-count : (n : ℕ) (m : List Bool) → 0 < length (indices_from n m) → list_any (λ b. b) m ≡ true
 list_any-count n [] e = absurd (omega arith)
 list_any-count n (v ∷ m) e = grind (arith, list_any-count (n + 1) m)
 
-pub list_any-count_zero : (n : ℕ) (m : List Bool) → length (places_from n m) ≡ 0 → list_any (λ b. b) m ≡ false
+pub list_any-count_zero : (n : ℕ) (m : List Bool) → length (indices_from n m) ≡ 0 → list_any (λ b. b) m ≡ false
 list_any-count_zero n [] e = refl
 list_any-count_zero n (v ∷ m) e = grind (arith, list_any-count_zero (n + 1) m)
 
@@ -112,10 +112,10 @@ count-push m v = count-append m (v ∷ []) ∙ ap (λ n. count m + n) (count-tru
 -- ---- what the count says of a list
 
 pub positions-all_true : (n : ℕ) → positions (repeated n true) ≡ range_with_len 0 n
-positions-all_true n = places_from-repeated_true 0 n
+positions-all_true n = indices_from-repeated_true 0 n
 
 pub positions-all_false : (n : ℕ) → positions (repeated n false) ≡ []
-positions-all_false n = places_from-repeated_false 0 n
+positions-all_false n = indices_from-repeated_false 0 n
 
 pub all_true-count : (m : List Bool) → (count m ≡ length m) ↔ All (λ v. v ≡ true) m
 all_true-count m = (λ e. All-repeated true m (all_true_from_count 0 m e), λ all. ap count (repeated_from_All true m all) ∙ count-repeated_true (length m))

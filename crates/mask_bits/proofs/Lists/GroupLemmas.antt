@@ -3,8 +3,8 @@ use Rattle.std.proofs.Common.{◌≡◌, ℕ, zero, suc, ◌+◌, ◌-◌, ◌*�
 use Rattle.std.specs.List.{All, count_by}
 use Rattle.std.proofs.lemmas.List.Elements.{All-head, All-tail}
 use Rattle.std.proofs.lemmas.List.Sums.{sum_by-cons}
-use Rattle.mask_bits.specs.Laws.{GroupsBeginWithin, GroupOfRepeated, PlacesLieInGroups, CountOfGroup}
-use Rattle.mask_bits.specs.Positions.{places_from, positions, count}
+use Rattle.mask_bits.specs.Laws.{GroupsBeginWithin, GroupOfRepeated, IndicesLieInGroups, CountOfGroup}
+use Rattle.mask_bits.specs.Positions.{indices_from, positions, count}
 use Rattle.mask_bits.specs.Runs.{is_inside}
 use Rattle.mask_bits.proofs.Lists.CountLemmas.{length-repeated}
 use Rattle.mask_bits.proofs.Lists.PartLemmas.{part_of_repeated}
@@ -16,7 +16,7 @@ counted p x xs passes = grind (arith, sum_by-cons (λ y. cond (p y) 1 0) x xs)
 
 -- the true places that lie in a part, where the list's first place is n
 inside_from : ℕ → ℕ → ℕ → List Bool → ℕ
-inside_from s e n m = count_by (λ p. is_inside p (s, e)) (places_from n m)
+inside_from s e n m = count_by (λ p. is_inside p (s, e)) (indices_from n m)
 
 -- none lies in a part that ends at the first place or before it
 none_past : (s e n : ℕ) (m : List Bool) → e ≤ n → inside_from s e n m ≡ 0
@@ -30,7 +30,7 @@ unfolding inside_from
 inside_front s e n zero m begins ends = none_past s e n m (omega arith)
 inside_front s e n (suc k) [] begins ends = refl
 inside_front s e n (suc k) (true ∷ m) begins ends =
-    counted (λ p. is_inside p (s, e)) n (places_from (n + 1) m) (grind arith) ∙ ap suc (inside_front s e (n + 1) k m (omega arith) (omega arith))
+    counted (λ p. is_inside p (s, e)) n (indices_from (n + 1) m) (grind arith) ∙ ap suc (inside_front s e (n + 1) k m (omega arith) (omega arith))
 inside_front s e n (suc k) (false ∷ m) begins ends = inside_front s e (n + 1) k m (omega arith) (omega arith)
 
 -- in a part of k values that begins i values further on
@@ -61,7 +61,7 @@ count_of_group m size g some =
     part ∙ sym (inside_part s (s + k) 0 s k m (omega arith) refl)
     ∙ count_by-same (λ p. is_inside p (s, s + k)) (λ p. nat_eq (p / size) g) (λ p. p < length m) (positions m) (λ p within. in_group (length m) size g p some within) (positions-within m)
 
-pub places_lie_in_groups : PlacesLieInGroups
+pub places_lie_in_groups : IndicesLieInGroups
 places_lie_in_groups m size some = λ k d h. grind (arith, positions-within m k d h)
 
 pub groups_begin_within : GroupsBeginWithin

@@ -3,9 +3,9 @@ use Rattle.std.proofs.Common.{◌≡◌, ℕ, suc, ◌&&◌, Bool, true, false, 
 use Rattle.std.specs.List.{cons_option, filter_map, items_where_true}
 use Rattle.std.proofs.lemmas.List.{get_or-map}
 use Rattle.mask_bits.specs.Laws.{PositionsDetermineList, RankIntersectionIsTheList, RankIntersectionValue, ChoosingTwice, RankIntersectionAssociative, AllTrueLeftUnit, AllTrueRightUnit, RankIntersectionCount, RankIntersectionPosition, FoldingKeepsAStack}
-use Rattle.mask_bits.specs.Positions.{positions, count, true_at, at_places, rank_intersection, chosen, repeated}
+use Rattle.mask_bits.specs.Positions.{positions, count, true_at, at_indices, rank_intersection, chosen, repeated}
 use Rattle.mask_bits.proofs.Lists.Places.PlaceLemmas.{positions-true, positions-false, trues, count-trues}
-use Rattle.mask_bits.proofs.Lists.RankLemmas.{narrow, rank_intersection-narrow, positions-fit, at_places-map_suc, at_places-cons_suc, true_at-suc, true_at-zero_suc, length-true_at, rank_intersection-all_true, rank_intersection-by_all_true}
+use Rattle.mask_bits.proofs.Lists.RankLemmas.{narrow, rank_intersection-narrow, positions-fit, at_indices-map_suc, at_indices-cons_suc, true_at-suc, true_at-zero_suc, length-true_at, rank_intersection-all_true, rank_intersection-by_all_true}
 use Rattle.mask_bits.proofs.Lists.CountLemmas.{all_false_from_count}
 
 -- ---- a list by its true places
@@ -21,19 +21,19 @@ positions_determine_list a b len places = sym (true_at-positions a) ∙ ap₂ tr
 
 -- ---- the true places of a rank intersection
 
-positions-narrow : (a b : List Bool) → length b ≡ trues a → positions (narrow a b) ≡ at_places (positions a) (positions b)
+positions-narrow : (a b : List Bool) → length b ≡ trues a → positions (narrow a b) ≡ at_indices (positions a) (positions b)
 positions-narrow [] [] fits = refl
 positions-narrow [] (v ∷ b) fits = absurd (omega arith)
-positions-narrow (false ∷ a) b fits = grind (arith, positions-narrow a b fits, positions-false, narrow, at_places-map_suc, positions-fit)
+positions-narrow (false ∷ a) b fits = grind (arith, positions-narrow a b fits, positions-false, narrow, at_indices-map_suc, positions-fit)
 positions-narrow (true ∷ a) [] fits = absurd (omega arith)
 positions-narrow (true ∷ a) (v ∷ b) fits =
-    grind (arith, positions-narrow a b (omega arith), trues, narrow, at_places-cons_suc, at_places-map_suc, positions-fit, positions-true, positions-false)
+    grind (arith, positions-narrow a b (omega arith), trues, narrow, at_indices-cons_suc, at_indices-map_suc, positions-fit, positions-true, positions-false)
 
-pub positions-rank_intersection : (a b : List Bool) → length b ≡ count a → positions (rank_intersection a b) ≡ at_places (positions a) (positions b)
+pub positions-rank_intersection : (a b : List Bool) → length b ≡ count a → positions (rank_intersection a b) ≡ at_indices (positions a) (positions b)
 positions-rank_intersection a b fits = grind (arith, rank_intersection-narrow, positions-narrow, count-trues)
 
 pub length-rank_intersection : (a b : List Bool) → length (rank_intersection a b) ≡ length a
-length-rank_intersection a b = length-true_at (length a) (at_places (positions a) (positions b))
+length-rank_intersection a b = length-true_at (length a) (at_indices (positions a) (positions b))
 
 pub rank_intersection_is_the_list : RankIntersectionIsTheList
 rank_intersection_is_the_list a b r fits = grind (arith, length-rank_intersection, positions-rank_intersection, positions_determine_list)
@@ -116,7 +116,7 @@ rank_intersection_position a b n fits below = grind (arith, positions-rank_inter
 pub length_from_list : (m a b : List Bool) → m ≡ rank_intersection a b → length m ≡ length a
 length_from_list m a b same = ap length same ∙ length-rank_intersection a b
 
-pub places_from_list : (m a b : List Bool) → length b ≡ count a → m ≡ rank_intersection a b → positions m ≡ at_places (positions a) (positions b)
+pub places_from_list : (m a b : List Bool) → length b ≡ count a → m ≡ rank_intersection a b → positions m ≡ at_indices (positions a) (positions b)
 places_from_list m a b fits same = ap positions same ∙ positions-rank_intersection a b fits
 
 -- ---- stacks

@@ -4,7 +4,7 @@ use Rattle.std.specs.List.{All, list_any, range_with_len}
 use Rattle.std.proofs.lemmas.List.{get_or-map, length-replicate}
 use Rattle.std.proofs.lemmas.List.Elements.{All-head, All-tail, All-map, All-weaker, All-get_or}
 use Rattle.std.proofs.lemmas.List.FromFn.{length-map-range_with_len}
-use Rattle.mask_bits.specs.Positions.{positions, count, true_at, at_places, rank_intersection, repeated}
+use Rattle.mask_bits.specs.Positions.{positions, count, true_at, at_indices, rank_intersection, repeated}
 use Rattle.mask_bits.proofs.Lists.Places.PlaceLemmas.{positions-true, positions-false, trues, count-trues, positions-within}
 
 -- ---- lists that are true at some places, by their first value
@@ -37,14 +37,14 @@ true_at-zero_suc n ps = grind (arith, map_range_suc (λ i. list_any (nat_eq i) (
 -- ---- entries at places
 
 -- of a list raised by one, at places within it
-pub at_places-map_suc : (ps qs : List ℕ) → All (λ q. q < length ps) qs → at_places (map suc ps) qs ≡ map suc (at_places ps qs)
-at_places-map_suc ps [] all = refl
-at_places-map_suc ps (q ∷ qs) all = grind (arith, at_places-map_suc ps qs (All-tail (λ k. k < length ps) q qs all), All-head, get_or-map)
+pub at_indices-map_suc : (ps qs : List ℕ) → All (λ q. q < length ps) qs → at_indices (map suc ps) qs ≡ map suc (at_indices ps qs)
+at_indices-map_suc ps [] all = refl
+at_indices-map_suc ps (q ∷ qs) all = grind (arith, at_indices-map_suc ps qs (All-tail (λ k. k < length ps) q qs all), All-head, get_or-map)
 
 -- of a list past its first entry
-pub at_places-cons_suc : (p : ℕ) (ps qs : List ℕ) → at_places (p ∷ ps) (map suc qs) ≡ at_places ps qs
-at_places-cons_suc p ps [] = refl
-at_places-cons_suc p ps (q ∷ qs) = ap (λ (xs : List ℕ). get_or ps q 0 ∷ xs) (at_places-cons_suc p ps qs)
+pub at_indices-cons_suc : (p : ℕ) (ps qs : List ℕ) → at_indices (p ∷ ps) (map suc qs) ≡ at_indices ps qs
+at_indices-cons_suc p ps [] = refl
+at_indices-cons_suc p ps (q ∷ qs) = ap (λ (xs : List ℕ). get_or ps q 0 ∷ xs) (at_indices-cons_suc p ps qs)
 
 -- ---- the recursion
 
@@ -61,13 +61,13 @@ positions-fit a b fits = grind (arith, count-trues, positions-within)
 
 rank_intersection-false : (a b : List Bool) → length b ≡ trues a → rank_intersection (false ∷ a) b ≡ false ∷ rank_intersection a b
 rank_intersection-false a b fits =
-    grind (arith, positions-false a, at_places-map_suc (positions a) (positions b) (positions-fit a b fits), true_at-suc (length a) (at_places (positions a) (positions b)))
+    grind (arith, positions-false a, at_indices-map_suc (positions a) (positions b) (positions-fit a b fits), true_at-suc (length a) (at_indices (positions a) (positions b)))
 
 rank_intersection-true : (a : List Bool) (v : Bool) (b : List Bool) → length b ≡ trues a → rank_intersection (true ∷ a) (v ∷ b) ≡ v ∷ rank_intersection a b
 rank_intersection-true a true b fits =
-    grind (arith, positions-true a, positions-true b, at_places-cons_suc 0 (map suc (positions a)) (positions b), at_places-map_suc (positions a) (positions b) (positions-fit a b fits), true_at-zero_suc (length a) (at_places (positions a) (positions b)))
+    grind (arith, positions-true a, positions-true b, at_indices-cons_suc 0 (map suc (positions a)) (positions b), at_indices-map_suc (positions a) (positions b) (positions-fit a b fits), true_at-zero_suc (length a) (at_indices (positions a) (positions b)))
 rank_intersection-true a false b fits =
-    grind (arith, positions-true a, positions-false b, at_places-cons_suc 0 (map suc (positions a)) (positions b), at_places-map_suc (positions a) (positions b) (positions-fit a b fits), true_at-suc (length a) (at_places (positions a) (positions b)))
+    grind (arith, positions-true a, positions-false b, at_indices-cons_suc 0 (map suc (positions a)) (positions b), at_indices-map_suc (positions a) (positions b) (positions-fit a b fits), true_at-suc (length a) (at_indices (positions a) (positions b)))
 
 narrows : (a b : List Bool) → length b ≡ trues a → rank_intersection a b ≡ narrow a b
 unfolding true_at
@@ -112,6 +112,6 @@ unfolding true_at
 length-true_at n places = length-map-range_with_len (λ i. list_any (nat_eq i) places) 0 n
 
 -- each entry at places within a list has what each entry of the list has
-pub All-at_places : (P : ℕ → Type 0) (ps qs : List ℕ) → All P ps → All (λ q. q < length ps) qs → All P (at_places ps qs)
-All-at_places P ps qs all within =
+pub All-at_indices : (P : ℕ → Type 0) (ps qs : List ℕ) → All P ps → All (λ q. q < length ps) qs → All P (at_indices ps qs)
+All-at_indices P ps qs all within =
     All-map P (λ q. get_or ps q 0) qs (All-weaker (λ q. q < length ps) (λ q. P (get_or ps q 0)) (λ q h. All-get_or P ps q 0 h all) qs within)

@@ -4,10 +4,10 @@ use Rattle.std.specs.Int.{bit_at}
 use Rattle.std.proofs.lemmas.List.{ext_get_or, get_or-take, length-take}
 use Rattle.std.proofs.lemmas.Bool.Decides.{nat_tests}
 use Rattle.std.proofs.lemmas.Nat.Bits.{bit_at-lt}
-use Rattle.mask_bits.specs.Positions.{places_from, positions, count, count_below, rank_intersection}
+use Rattle.mask_bits.specs.Positions.{indices_from, positions, count, count_below, rank_intersection}
 use Rattle.mask_bits.specs.Words.{word_bits}
 use Rattle.mask_bits.proofs.Lists.LawLemmas.{rank_intersection_value, rank_intersection_count, length-rank_intersection}
-use Rattle.mask_bits.proofs.Lists.Places.PlaceLemmas.{length-places_from, positions-within, trues, count-trues, count-le-length}
+use Rattle.mask_bits.proofs.Lists.Places.PlaceLemmas.{length-indices_from, positions-within, trues, count-trues, count-le-length}
 use Rattle.mask_bits.proofs.Lists.Words.WordLemmas.{length-word_bits, get_or-word_bits, count_below-word_bits}
 use Rattle.vortex_mask.specs.Deposit.{Deposits, selected}
 use Rattle.vortex_mask.proofs.Deposits.SetPlaceLemmas.{ones_below}
@@ -22,13 +22,13 @@ trues-take (false ∷ m) zero e = cc
 trues-take (true ∷ m) (suc p) e = omega (arith, trues-take m p e)
 trues-take (false ∷ m) (suc p) e = trues-take m p e
 
--- and there it stands among the places
-places_from-trues : (n : ℕ) (m : List Bool) (p : ℕ) → get_or m p false ≡ true → get_or (places_from n m) (trues (take p m)) 0 ≡ n + p
-places_from-trues n [] p e = cc
-places_from-trues n (true ∷ m) zero e = omega arith
-places_from-trues n (false ∷ m) zero e = cc
-places_from-trues n (true ∷ m) (suc p) e = omega (arith, places_from-trues (n + 1) m p e)
-places_from-trues n (false ∷ m) (suc p) e = omega (arith, places_from-trues (n + 1) m p e)
+-- and there it stands among the indices
+indices_from-trues : (n : ℕ) (m : List Bool) (p : ℕ) → get_or m p false ≡ true → get_or (indices_from n m) (trues (take p m)) 0 ≡ n + p
+indices_from-trues n [] p e = cc
+indices_from-trues n (true ∷ m) zero e = omega arith
+indices_from-trues n (false ∷ m) zero e = cc
+indices_from-trues n (true ∷ m) (suc p) e = omega (arith, indices_from-trues (n + 1) m p e)
+indices_from-trues n (false ∷ m) (suc p) e = omega (arith, indices_from-trues (n + 1) m p e)
 
 -- ---- selections
 
@@ -37,7 +37,7 @@ selected-is w rank p inside set below =
     let number : rank ≡ trues (take p (word_bits w))
     = sym below ∙ sym (count_below-word_bits w p (omega arith)) ∙ count-trues (take p (word_bits w)) in
     let holds : get_or (word_bits w) p false ≡ true = get_or-word_bits w p false inside ∙ ap (λ v. nat_eq v 1) set in
-    ap (λ n. get_or (positions (word_bits w)) n 0) number ∙ omega (arith, places_from-trues 0 (word_bits w) p holds)
+    ap (λ n. get_or (positions (word_bits w)) n 0) number ∙ omega (arith, indices_from-trues 0 (word_bits w) p holds)
 
 -- the place is one of the word's
 pub selected-lt : (w n : ℕ) → n < count (word_bits w) → selected w n < 64
@@ -55,7 +55,7 @@ and_where false y z same = refl
 
 -- a bit of a deposit is a bit of the mask, and of the source at the count of mask bits below it
 pub deposited-value : (s m r j : ℕ) → Deposits s m r → j < 64 → get_or (word_bits r) j false ≡ (get_or (word_bits m) j false && get_or (word_bits s) (count_below (word_bits m) j) false)
-deposited-value s m r j is h = grind (arith, bit_at-lt, bits_and, get_or-word_bits, length-places_from, length-take)
+deposited-value s m r j is h = grind (arith, bit_at-lt, bits_and, get_or-word_bits, length-indices_from, length-take)
 
 -- the source's first bits, as many as the mask's list has true values
 abbrev pub offered_bits : ℕ → ℕ → List Bool
@@ -63,7 +63,7 @@ offered_bits s m = take (count (word_bits m)) (word_bits s)
 
 pub length-offered_bits : (s m : ℕ) → length (offered_bits s m) ≡ count (word_bits m)
 length-offered_bits s m =
-    omega (arith, length-take (count (word_bits m)) (word_bits s), length-word_bits s, length-word_bits m, length-places_from 0 (word_bits m))
+    omega (arith, length-take (count (word_bits m)) (word_bits s), length-word_bits s, length-word_bits m, length-indices_from 0 (word_bits m))
 
 -- a deposit is the rank intersection of the mask's list and these bits
 pub word_bits-deposited : (s m r : ℕ) → Deposits s m r → word_bits r ≡ rank_intersection (word_bits m) (offered_bits s m)

@@ -1,4 +1,4 @@
--- The kernel that goes by ranks: words that are read in turn, the places found in them, and the run of calls that gave the ranks.
+-- The kernel that goes by ranks: words that are read in turn, the indices found in them, and the run of calls that gave the ranks.
 use Rattle.std.proofs.Common.{◌≡◌, ℕ, ◌+◌, ◌-◌, ◌*◌, ◌/◌, ◌^◌, ◌<◌, ◌≤◌, ◌%◌, Bool, List, [], ◌∷◌, ◌++◌, length, take, get_or, sym, subst, ap, ap₂, ◌∙◌, arith, count_ones, slice_get}
 use Rattle.std.proofs.Math.Seq.{get_or-append_seam}
 use Rattle.std.proofs.iter.runs.Made.{run_of_turn, run_of_exit, took}
@@ -12,17 +12,17 @@ use Rattle.std.specs.List.{All, sum_by}
 use Rattle.std.specs.List.Sorted.{IsStrictlyIncreasing}
 use Rattle.std.specs.declared.option.Option.{Option}
 use Rattle.std.specs.declared.option.Option.TheVariants.{Some, None}
-use Rattle.mask_bits.specs.Positions.{positions, count, true_at, at_places}
+use Rattle.mask_bits.specs.Positions.{positions, count, true_at, at_indices}
 use Rattle.mask_bits.specs.Words.{word_bits, word_part, padded_part, padded_remainder}
 use Rattle.mask_bits.proofs.Lists.Places.AscendingLemmas.{positions-true_at, positions-ascending}
 use Rattle.mask_bits.proofs.Lists.Places.PlaceLemmas.{count-le-length, positions-within}
-use Rattle.mask_bits.proofs.Lists.RankLemmas.{length-true_at, All-at_places}
+use Rattle.mask_bits.proofs.Lists.RankLemmas.{length-true_at, All-at_indices}
 use Rattle.mask_bits.proofs.Lists.Places.SelectLemmas.{count-word_more, place_in_word}
 use Rattle.mask_bits.proofs.Lists.Words.WordLemmas.{count-word_bits}
 use Rattle.vortex_mask.specs.Deposit.{selected}
 use Rattle.vortex_mask.specs.Ranks.{AreRanks, HasRead}
 use Rattle.vortex_mask.specs.Steps.{StepCounts, no_steps}
-use Rattle.vortex_mask.proofs.Masks.PlaceListLemmas.{at_places-ascending}
+use Rattle.vortex_mask.proofs.Masks.PlaceListLemmas.{at_indices-ascending}
 use Rattle.vortex_mask.proofs.Kernels.WordKernelLemmas.{word-started}
 
 -- where a true value stands past the words read, there is a further word
@@ -77,17 +77,17 @@ module _ {S : Type 0} (steps : S → Option ℕ → S → Type 0) (s : S) (top n
       let k = run_of_exit steps s xs t (subst (λ i. Yields steps i xs t) same ran) u step in
       ((k.0, k.1, k.2, k.3.0), sym k.3.1 ∙ (ranks k.0 k.0.seen k.1).2 k.2)
 
--- ---- the places found
+-- ---- the indices found
 
--- the words read, the places found for the ranks so far, and the steps
-pub record AreFound (m : List Bool) (ranks : List ℕ) (words word before : ℕ) (places : List ℕ) (steps : StepCounts) : Type 0 where
+-- the words read, the indices found for the ranks so far, and the steps
+pub record AreFound (m : List Bool) (ranks : List ℕ) (words word before : ℕ) (indices : List ℕ) (steps : StepCounts) : Type 0 where
   pub read : HasRead m words word before
   pub reached : before ≤ get_or ranks (length ranks - 1) 0
-  pub found : places ≡ at_places (positions m) ranks
-  pub counted : steps ≡ record { deposits = 0; words = words; selections = length ranks; offered = 0; placed = 0; spots = sum_by (λ p. p % 64) places }
+  pub found : indices ≡ at_indices (positions m) ranks
+  pub counted : steps ≡ record { deposits = 0; words = words; selections = length ranks; offered = 0; placed = 0; spots = sum_by (λ p. p % 64) indices }
 
-pub nothing-found : (m : List Bool) (places : List ℕ) (steps : StepCounts) → places ≡ [] → steps ≡ no_steps → AreFound m [] 0 0 0 places steps
-nothing-found m places steps none zero = record {
+pub nothing-found : (m : List Bool) (indices : List ℕ) (steps : StepCounts) → indices ≡ [] → steps ≡ no_steps → AreFound m [] 0 0 0 indices steps
+nothing-found m indices steps none zero = record {
   read = record {
     within = omega arith;
     counted = omega (arith, ones-le 0 0 (omega arith));
@@ -98,17 +98,17 @@ nothing-found m places steps none zero = record {
   counted = rw none zero;
 }
 
-pub found-more : (m : List Bool) (ranks : List ℕ) (x words word before more next passed : ℕ) (places new : List ℕ) (p : ℕ) (steps ticked : StepCounts)
-    → AreFound m ranks words word before places steps → slice_get (positions m) x ≡ Some p → HasRead m more next passed → passed ≤ x
-    → new ≡ places ++ p ∷ [] → ticked ≡ record steps { words = more; selections = steps.selections + 1; spots = steps.spots + p % 64 }
+pub found-more : (m : List Bool) (ranks : List ℕ) (x words word before more next passed : ℕ) (indices new : List ℕ) (p : ℕ) (steps ticked : StepCounts)
+    → AreFound m ranks words word before indices steps → slice_get (positions m) x ≡ Some p → HasRead m more next passed → passed ≤ x
+    → new ≡ indices ++ p ∷ [] → ticked ≡ record steps { words = more; selections = steps.selections + 1; spots = steps.spots + p % 64 }
     → AreFound m (ranks ++ x ∷ []) more next passed new ticked
-found-more m ranks x words word before more next passed places new p steps ticked so_far place read reached pushed counted =
+found-more m ranks x words word before more next passed indices new p steps ticked so_far place read reached pushed counted =
     let all : List ℕ = ranks ++ x ∷ [] in
     let len = length-append ranks (x ∷ []) in
     let last : length all - 1 ≡ length ranks = omega (arith, len) in
     let longer : length ranks + 1 ≡ length all = omega (arith, len) in
-    let spots : sum_by (λ q. q % 64) places + p % 64 ≡ sum_by (λ q. q % 64) new
-    = sym (ap (sum_by (λ q. q % 64)) pushed ∙ sum_by_push (λ q. q % 64) places p) in
+    let spots : sum_by (λ q. q % 64) indices + p % 64 ≡ sum_by (λ q. q % 64) new
+    = sym (ap (sum_by (λ q. q % 64)) pushed ∙ sum_by_push (λ q. q % 64) indices p) in
     record {
       read = read;
       reached = omega (arith, reached, ap (λ k. get_or all k 0) last, get_or-append_seam ranks x [] 0);
@@ -117,22 +117,22 @@ found-more m ranks x words word before more next passed places new p steps ticke
       counted = rw (counted, so_far.counted, longer, spots);
     }
 
--- the steps, once all n ranks have their places
-pub found-steps : (m : List Bool) (ranks : List ℕ) (words word before : ℕ) (places : List ℕ) (steps : StepCounts) (n : ℕ) → AreFound m ranks words word before places steps → length ranks ≡ n
-    → steps ≡ record { deposits = 0; words = steps.words; selections = n; offered = 0; placed = 0; spots = sum_by (λ p. p % 64) places }
-found-steps m ranks words word before places steps n all len = rw (all.counted, len)
+-- the steps, once all n ranks have their indices
+pub found-steps : (m : List Bool) (ranks : List ℕ) (words word before : ℕ) (indices : List ℕ) (steps : StepCounts) (n : ℕ) → AreFound m ranks words word before indices steps → length ranks ≡ n
+    → steps ≡ record { deposits = 0; words = steps.words; selections = n; offered = 0; placed = 0; spots = sum_by (λ p. p % 64) indices }
+found-steps m ranks words word before indices steps n all len = rw (all.counted, len)
 
--- the places of all ranks ascend within the list
-module _ {S : Type 0} (steps : S → Option ℕ → S → Type 0) (s : S) (m : List Bool) (n : ℕ) (places : List ℕ) (ranks : EachRunFrom steps s (AreRanks (count m) n)) (run : WholeRun steps s (λ p. places ≡ at_places (positions m) p.items)) where
-  pub places-ascending : IsStrictlyIncreasing places
-  places-ascending =
+-- the indices of all ranks ascend within the list
+module _ {S : Type 0} (steps : S → Option ℕ → S → Type 0) (s : S) (m : List Bool) (n : ℕ) (indices : List ℕ) (ranks : EachRunFrom steps s (AreRanks (count m) n)) (run : WholeRun steps s (λ p. indices ≡ at_indices (positions m) p.items)) where
+  pub indices-ascending : IsStrictlyIncreasing indices
+  indices-ascending =
       let r = ranks run.0 run.0.seen run.1 in
-      subst IsStrictlyIncreasing (sym run.3) (at_places-ascending (length m) (positions m) run.0.items (positions-ascending m) (positions-within m) r.0 r.1)
+      subst IsStrictlyIncreasing (sym run.3) (at_indices-ascending (length m) (positions m) run.0.items (positions-ascending m) (positions-within m) r.0 r.1)
 
-  pub places-within : All (λ i. i < length m) places
-  places-within =
+  pub indices-within : All (λ i. i < length m) indices
+  indices-within =
       let r = ranks run.0 run.0.seen run.1 in
-      subst (All (λ i. i < length m)) (sym run.3) (All-at_places (λ i. i < length m) (positions m) run.0.items (positions-within m) r.1)
+      subst (All (λ i. i < length m)) (sym run.3) (All-at_indices (λ i. i < length m) (positions m) run.0.items (positions-within m) r.1)
 
 -- what a whole run gave is all that the iterator yields
 pub drained : {S A : Type 0} (steps : S → Option A → S → Type 0) (s : S) (P : List A → Type 0) → WholeRun steps s (λ p. P p.items) → (xs : List A) × Drains steps s xs × P xs

@@ -8,7 +8,7 @@ use Rattle.std.specs.Iterator.{Yields}
 use Rattle.std.specs.Iterator.Runs.{Run, EachRunFrom, WholeRun, YieldsRun}
 use Rattle.std.specs.List.{All}
 use Rattle.std.specs.List.Sorted.{IsStrictlyIncreasing}
-use Rattle.mask_bits.specs.Positions.{at_places}
+use Rattle.mask_bits.specs.Positions.{at_indices}
 use Rattle.vortex_mask.specs.Ranks.{AreRanks}
 
 -- the first numbers of ascending ones ascend
@@ -39,6 +39,6 @@ module _ {S : Type 0} (steps : S → Option ℕ → S → Type 0) (s : S) (all :
     λ whole. p.long ∙ ap length (given_whole p at whole) ∙ counted,
   )
 
-  -- what is at the places that a run to the end gives is at all of them
-  pub taken_whole : (found places : List ℕ) → WholeRun steps s (λ p. found ≡ at_places places p.items) → found ≡ at_places places all
-  taken_whole found places run = run.3 ∙ ap (at_places places) (given_whole run.0 run.1 run.2)
+  -- what is at the indices that a run to the end gives is at all of them
+  pub taken_whole : (found indices : List ℕ) → WholeRun steps s (λ p. found ≡ at_indices indices p.items) → found ≡ at_indices indices all
+  taken_whole found indices run = run.3 ∙ ap (at_indices indices) (given_whole run.0 run.1 run.2)

@@ -1,4 +1,4 @@
--- The list that is false exactly at some places, as they come one by one.
+-- The list that is false exactly at some indices, as they come one by one.
 use Rattle.std.proofs.Common.{◌≡◌, ℕ, ◌<◌, ◌≤◌, Bool, true, false, not, nat_eq, List, [], ◌∷◌, ◌++◌, length, get_or, set, inl, inr, Option, Some, sym, ap, ◌∙◌, arith}
 use Rattle.std.specs.Option.{option_or}
 use Rattle.std.specs.List.{list_any}
@@ -16,7 +16,7 @@ use Rattle.mask_bits.proofs.Lists.RankLemmas.{length-true_at}
 use Rattle.vortex_mask.specs.Faults.{first_past}
 use Rattle.vortex_mask.proofs.Masks.FaultLemmas.{first_past-within, first_past-more}
 
--- the list that is false exactly at these places
+-- the list that is false exactly at these indices
 abbrev pub without : ℕ → List ℕ → List Bool
 without n xs = not_of (true_at n xs)
 

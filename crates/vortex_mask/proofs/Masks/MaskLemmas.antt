@@ -112,7 +112,7 @@ some_one : {X : Type 0} (x y : X) → Some x ≡ Some y → x ≡ y
 some_one x y same = cc
 
 pub AreOf-no_caches : (m : List Bool) → AreOf m no_caches
-AreOf-no_caches m = record { indices = λ places is. absurd (cc); ranges = λ ranges is. absurd (cc) }
+AreOf-no_caches m = record { indices = λ indices is. absurd (cc); ranges = λ ranges is. absurd (cc) }
 
-pub AreOf-only_indices : (m : List Bool) (places : List ℕ) → places ≡ positions m → AreOf m (only_indices places)
-AreOf-only_indices m places same = record { indices = λ kept is. sym (some_one places kept is) ∙ same; ranges = λ ranges is. absurd (cc) }
+pub AreOf-only_indices : (m : List Bool) (indices : List ℕ) → indices ≡ positions m → AreOf m (only_indices indices)
+AreOf-only_indices m indices same = record { indices = λ kept is. sym (some_one indices kept is) ∙ same; ranges = λ ranges is. absurd (cc) }

@@ -20,13 +20,13 @@ pub record Lengthens (x k : ℕ × ℕ) (b : Bool) (x' k' : ℕ × ℕ) : Type 0
   pub range : x' ≡ x
   pub run : k' ≡ (if b then (k.0, x.1) else k)
 
--- the places of two ranges that touch are those of one
+-- the indices of two ranges that touch are those of one
 inside_both : (i : ℕ) (k x : ℕ × ℕ) → k.0 < k.1 → x.0 < x.1 → x.0 ≡ k.1 → is_inside i (k.0, x.1) ≡ is_inside i k || is_inside i x
 inside_both i k x some more touch = grind (arith, nat_tests)
 
 -- ---- all ranges
 
--- these lie apart, with the places of those
+-- these lie apart, with the indices of those
 record IsMerged (low high : ℕ) (rs ys : List (ℕ × ℕ)) : Type 0 where
   spread : Spread low high ys
   same : (i : ℕ) → list_any (is_inside i) ys ≡ list_any (is_inside i) rs
@@ -73,7 +73,7 @@ module _ {S : Type 0} (R : S → ℕ × ℕ → ℕ × ℕ → Bool → S → �
   merged_all high s [] ys o h = subst (IsMerged 0 high []) (sym h) (record { spread = tt; same = λ i. refl })
   merged_all high s (r ∷ rs) ys o h = merged_from rs 0 high s r ys o h
 
-  -- what is left of ranges that hold exactly the true places
+  -- what is left of ranges that hold exactly the true indices
   pub runs-merged : (s : S) (rs ys : List (ℕ × ℕ)) → IsDeduped R s rs ys → (m : List Bool) → AreRanges m rs → ys ≡ runs m
   runs-merged s rs ys h m are =
       let is = merged_all (length m) s rs ys (Ordered-of m rs are) h.told in

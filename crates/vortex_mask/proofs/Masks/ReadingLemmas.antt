@@ -1,4 +1,4 @@
--- Masks that are read by values, places and counts.
+-- Masks that are read by values, indices and counts.
 use Rattle.std.proofs.Common.{Option, Some, None, slice_get, nat_lt, zero, suc, ◌≡◌, ℕ, ◌+◌, ◌-◌, ◌<◌, ◌≤◌, Bool, true, false, List, [], ◌∷◌, length, map, take, drop, replicate, slice_range, refl, sym, ap, ap₂, ◌∙◌, arith}
 use Rattle.std.specs.Bool.{then_some}
 use Rattle.std.specs.List.{All}
@@ -30,7 +30,7 @@ last-within n None none = tt
 last-within n (Some p) some = omega (arith, some.0, some.1, length-repeated n true)
 
 pub slice_get-all_false : (n k : ℕ) → slice_get (positions (repeated n false)) k ≡ None
-slice_get-all_false n k = ap (λ places. slice_get places k) (positions-all_false n)
+slice_get-all_false n k = ap (λ indices. slice_get indices k) (positions-all_false n)
 
 pub ruleset end_facts = (slice_get-all_false)
 

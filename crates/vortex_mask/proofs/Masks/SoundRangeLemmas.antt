@@ -13,7 +13,7 @@ use Rattle.mask_bits.proofs.Lists.Places.PlaceLemmas.{count-le-length}
 use Rattle.mask_bits.proofs.Lists.Runs.RangeLemmas.{Ordered, Ordered-top, none_below, ranges_add_up_to_the_count}
 use Rattle.mask_bits.proofs.Lists.Runs.RunLemmas.{inside, inside-past}
 use Rattle.vortex_mask.specs.Faults.{bad_range, neighbor_fault, neighbors_fault_from, range_fault}
-use Rattle.vortex_mask.specs.Ranges.{places_held}
+use Rattle.vortex_mask.specs.Ranges.{rows_held}
 use Rattle.vortex_mask.proofs.Masks.FaultLemmas.{or_else-none, none_mapped}
 use Rattle.vortex_mask.specs.declared.mask.error.MaskError.TheVariants.{BadRange}
 
@@ -141,29 +141,29 @@ AreRanges-painted len rs o =
 pub held_are_ranges : (len : ℕ) (rs : List (ℕ × ℕ)) → range_fault len rs ≡ None → AreRanges (painted 0 len rs) rs
 held_are_ranges len rs none = AreRanges-painted len rs (Ordered-no_fault len rs none)
 
-pub places_held-painted : (len : ℕ) (rs : List (ℕ × ℕ)) → range_fault len rs ≡ None → places_held rs ≡ count (painted 0 len rs)
-places_held-painted len rs none = ranges_add_up_to_the_count (painted 0 len rs) rs (held_are_ranges len rs none)
+pub rows_held-painted : (len : ℕ) (rs : List (ℕ × ℕ)) → range_fault len rs ≡ None → rows_held rs ≡ count (painted 0 len rs)
+rows_held-painted len rs none = ranges_add_up_to_the_count (painted 0 len rs) rs (held_are_ranges len rs none)
 
 long_painted : (len : ℕ) (rs : List (ℕ × ℕ)) → range_fault len rs ≡ None → length (painted 0 len rs) ≡ len
 long_painted len rs none = omega (arith, length-painted 0 len rs (Ordered-no_fault len rs none))
 
-pub places_held-le : (len : ℕ) (rs : List (ℕ × ℕ)) → range_fault len rs ≡ None → places_held rs ≤ len
-places_held-le len rs none = omega (arith, places_held-painted len rs none, count-le-length (painted 0 len rs), long_painted len rs none)
+pub rows_held-le : (len : ℕ) (rs : List (ℕ × ℕ)) → range_fault len rs ≡ None → rows_held rs ≤ len
+rows_held-le len rs none = omega (arith, rows_held-painted len rs none, count-le-length (painted 0 len rs), long_painted len rs none)
 
 pub nonempty-no_fault : (len : ℕ) (rs : List (ℕ × ℕ)) → range_fault len rs ≡ None → All (λ r. r.0 < r.1) rs
 nonempty-no_fault len rs none = λ k d h. (good_from 0 len rs (Ordered-no_fault len rs none) k d h).0
 
 -- ranges that hold no place, or all
-pub AreRanges-none : (len : ℕ) (rs : List (ℕ × ℕ)) → range_fault len rs ≡ None → places_held rs ≡ 0 → AreRanges (repeated len false) rs
+pub AreRanges-none : (len : ℕ) (rs : List (ℕ × ℕ)) → range_fault len rs ≡ None → rows_held rs ≡ 0 → AreRanges (repeated len false) rs
 AreRanges-none len rs none held =
     let m : List Bool = painted 0 len rs in
-    subst (λ (n : List Bool). AreRanges n rs) (all_false_from_count 0 m (sym (places_held-painted len rs none) ∙ held) ∙ ap (λ n. repeated n false) (long_painted len rs none)) (held_are_ranges len rs none)
+    subst (λ (n : List Bool). AreRanges n rs) (all_false_from_count 0 m (sym (rows_held-painted len rs none) ∙ held) ∙ ap (λ n. repeated n false) (long_painted len rs none)) (held_are_ranges len rs none)
 
-pub AreRanges-all : (len : ℕ) (rs : List (ℕ × ℕ)) → range_fault len rs ≡ None → places_held rs ≡ len → AreRanges (repeated len true) rs
+pub AreRanges-all : (len : ℕ) (rs : List (ℕ × ℕ)) → range_fault len rs ≡ None → rows_held rs ≡ len → AreRanges (repeated len true) rs
 AreRanges-all len rs none held =
     let m : List Bool = painted 0 len rs in
     let long = long_painted len rs none in
-    subst (λ (n : List Bool). AreRanges n rs) (all_true_from_count 0 m (sym (places_held-painted len rs none) ∙ held ∙ sym long) ∙ ap (λ n. repeated n true) long) (held_are_ranges len rs none)
+    subst (λ (n : List Bool). AreRanges n rs) (all_true_from_count 0 m (sym (rows_held-painted len rs none) ∙ held ∙ sym long) ∙ ap (λ n. repeated n true) long) (held_are_ranges len rs none)
 
 -- ---- the values made, a gap and a range at a time
 
@@ -199,4 +199,4 @@ painting-all len rs made none is = (
   subst (λ (m : List Bool). AreRanges m rs) (sym is.list) (held_are_ranges len rs none),
 )
 
-pub ruleset range_facts = (nonempty-no_fault, places_held-le, AreRanges-none, AreRanges-all)
+pub ruleset range_facts = (nonempty-no_fault, rows_held-le, AreRanges-none, AreRanges-all)

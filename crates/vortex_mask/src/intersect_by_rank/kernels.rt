@@ -15,7 +15,7 @@ use crate::mask::{Mask, MaskError, MaskValues};
 pub use bit_buffers::{intersect_bit_buffers, narrow_by_bits};
 pub use indices::intersect_by_rank_indices;
 use mask_bits::BitBuffer;
-pub use mask_driven::{intersect_mask_driven, places_at_ranks};
+pub use mask_driven::{indices_at_ranks, intersect_mask_driven};
 pub use rank_indices::{intersect_bit_buffer_by_rank_indices, narrow_at_ranks};
 use std::alloc::Global;
 use std::rc::Rc;

@@ -106,8 +106,8 @@ fn by_indices(
         (λ r. IsNarrowedOn RankPath.Indices rows.now ranks.now r.0 r.1) }
     ensures refused { IsOkUnless result (MaskError.Memory alloc_error) }
 {
-    let (places, ranks) = (true_indices(alloc, rows)?, true_indices(alloc, ranks)?);
-    intersect_by_rank_indices(alloc, rows.len(), places.as_slice(), ranks.as_slice())
+    let (indices, ranks) = (true_indices(alloc, rows)?, true_indices(alloc, ranks)?);
+    intersect_by_rank_indices(alloc, rows.len(), indices.as_slice(), ranks.as_slice())
 }
 
 // The true indices: the cached ones, or a list made for the call.
@@ -117,7 +117,7 @@ fn true_indices(alloc: Global, mask: &MaskValues) -> Result<CowSlice<'_, usize>,
 {
     Ok(match mask.cached_indices() {
         Some(cached) => CowSlice::Borrowed(cached),
-        None => CowSlice::Owned(mask.places(alloc)?),
+        None => CowSlice::Owned(mask.index_list(alloc)?),
     })
 }
 

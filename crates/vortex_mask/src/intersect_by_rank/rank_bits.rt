@@ -7,7 +7,7 @@ ghost use Rattle.mask_bits.specs.Words.{word_bits, window};
 use mask_bits::{BitBuffer, laws, words};
 use std::marker::Model;
 
-/// The bits of a rank mask, read 64 at a time from any place on.
+/// The bits of a rank mask, read 64 at a time from any bit on.
 #[derive(Drop)]
 pub struct RankBits<'a> {
     bytes: &'a [u8],

@@ -33,12 +33,12 @@ impl Mask {
     pub fn indices(&mut self, alloc: Global) -> Result<AllOr<&[usize]>, MaskError>
         ensures variant { IfOk result (λ lent. lender_variant lent ≡ variant self.old) }
         ensures list { IfOk result (λ lent. IfLent lent
-            (λ places. places.now ≡ positions (truth self.old))) }
+            (λ indices. indices.now ≡ positions (truth self.old))) }
 
         // Once the list is no longer borrowed, it is cached.
         ensures* after { sem 𝓛 (Rests the_row self.entry (λ new.
             IfOk result (λ lent. IsCaching self.old
-            (with_lent (λ places. with_indices places.now) lent (caches self.old)) new)
+            (with_lent (λ indices. with_indices indices.now) lent (caches self.old)) new)
             × OnErr result (new ≡ self.old))) }
         ensures cached { IsSome (caches self.old).indices → IsOk result }
         ensures uniform { variant self.old ≢ mixed → IsOk result }

@@ -45,9 +45,9 @@ fn rows_at<T: Copy>(alloc: Global, rows: &[T], buffer: &BitBuffer) -> Result<Vec
     requires { length rows.now ≡ length (values buffer.now) }
     ensures { IfOk result (λ v. v.items ≡ chosen rows.now (values buffer.now)) }
 {
-    let mut at_indices = Vec::new(alloc);
+    let mut chosen_rows = Vec::new(alloc);
     for index in buffer.set_indices() {
-        at_indices.push(rows[index])?;
+        chosen_rows.push(rows[index])?;
     }
-    Ok(at_indices)
+    Ok(chosen_rows)
 }

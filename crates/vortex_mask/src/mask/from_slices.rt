@@ -8,7 +8,7 @@ ghost use Rattle.mask_bits.specs.Runs.{AreRanges};
 ghost use Rattle.vortex_mask.specs.Faults.{range_fault};
 ghost use Rattle.vortex_mask.specs.Mask.{truth, variant, fitting_variant, all_false, caches, where_mixed};
 ghost use Rattle.vortex_mask.specs.MaskValues.{only_ranges};
-ghost use Rattle.vortex_mask.specs.Ranges.{places_held};
+ghost use Rattle.vortex_mask.specs.Ranges.{rows_held};
 
 use crate::mask::{Mask, MaskError};
 use mask_bits::{BitBuffer, BitBufferMut};
@@ -41,7 +41,7 @@ impl Mask {
 
         // Values that are all false or all true need no memory.
         ensures uniform { range_fault len ranges.items ≡ None
-            → (places_held ranges.items ≡ 0) ⊎ (places_held ranges.items ≡ len) → IsOk result }
+            → (rows_held ranges.items ≡ 0) ⊎ (rows_held ranges.items ≡ len) → IsOk result }
     {
         if let Some(fault) = fault_of(len, &ranges) {
             return Err(fault);
@@ -58,11 +58,11 @@ impl Mask {
         ensures variant { IfOk result (λ m. variant m ≡ fitting_variant all_false (truth m)) }
         ensures caches { IfOk result
             (λ m. caches m ≡ where_mixed m (only_ranges (runs (truth m)))) }
-        ensures uniform { (places_held ranges.items ≡ 0) ⊎ (places_held ranges.items ≡ len)
+        ensures uniform { (rows_held ranges.items ≡ 0) ⊎ (rows_held ranges.items ≡ len)
             → IsOk result }
         ensures refused { IsOkUnless result (MaskError.Memory alloc_error) }
     {
-        let true_count = places_held(&ranges);
+        let true_count = rows_held(&ranges);
         if true_count == 0 {
             return Ok(Mask::AllFalse(len));
         }
@@ -126,10 +126,10 @@ fn lengthens(range: &mut (usize, usize), run: &mut (usize, usize)) -> bool
 }
 
 // How many indices the ranges hold.
-fn places_held(ranges: &[(usize, usize)]) -> usize
+fn rows_held(ranges: &[(usize, usize)]) -> usize
     requires ascending { All (λ r. r.0 < r.1) ranges.now }
-    requires fits { places_held ranges.now < 2 ^ 64 }
-    ensures { result ≡ places_held ranges.now }
+    requires fits { rows_held ranges.now < 2 ^ 64 }
+    ensures { result ≡ rows_held ranges.now }
 {
     ranges.iter().map(|(start, end)| end - start).sum()
 }

@@ -125,7 +125,7 @@ impl MaskValues {
 
     /// The true indices, ascending, if they are cached.
     pub fn cached_indices(&self) -> Option<&[usize]>
-        ensures cached { option_map (λ places. places.now) result ≡ self.now.caches.indices }
+        ensures cached { option_map (λ indices. indices.now) result ≡ self.now.caches.indices }
         ensures whole { AreOf (values self.now.buffer) self.now.caches }
     {
         self.indices.as_deref()
@@ -181,12 +181,12 @@ impl MaskValues {
 impl MaskValues {
     /// The true indices, ascending.
     pub fn indices(&mut self, alloc: Global) -> Result<&[usize], MaskError>
-        ensures list { IfOk result (λ places. places.now ≡ positions (values self.old.buffer)) }
+        ensures list { IfOk result (λ indices. indices.now ≡ positions (values self.old.buffer)) }
 
         // Once the list is no longer borrowed, it is cached.
         ensures* after { sem 𝓛 (Rests the_row self.entry (λ new.
-            IfOk result (λ places. new
-            ≡ with_caches (with_indices places.now self.old.caches) self.old)
+            IfOk result (λ indices. new
+            ≡ with_caches (with_indices indices.now self.old.caches) self.old)
             × OnErr result (new ≡ self.old))) }
         ensures cached { IsSome self.old.caches.indices → IsOk result }
         ensures refused { IsOkUnless result (MaskError.Memory alloc_error) }
@@ -280,7 +280,7 @@ impl MaskValues {
         ensures refused { IsOkUnless result (MaskError.Memory alloc_error) }
     {
         if self.indices.is_none() {
-            self.indices = Some(self.places(alloc)?);
+            self.indices = Some(self.index_list(alloc)?);
         }
         Ok(())
     }
@@ -305,9 +305,9 @@ impl MaskValues {
             ≡ with_caches (with_indices (positions (values self.now.buffer)) self.now.caches) self.now) }
         ensures refused { IsOkUnless result (MaskError.Memory alloc_error) }
     {
-        let places = self.places(alloc)?;
+        let indices = self.index_list(alloc)?;
         let mut filled = self.clone()?;
-        filled.indices = Some(places);
+        filled.indices = Some(indices);
         Ok(filled)
     }
 
@@ -324,8 +324,8 @@ impl MaskValues {
     }
 
     // The true indices, in room that is made once.
-    pub(crate) fn places(&self, alloc: Global) -> Result<Vec<usize>, AllocError>
-        ensures { IfOk result (λ places. places.items ≡ positions (values self.now.buffer)) }
+    pub(crate) fn index_list(&self, alloc: Global) -> Result<Vec<usize>, AllocError>
+        ensures { IfOk result (λ indices. indices.items ≡ positions (values self.now.buffer)) }
     {
         self.buffer.indices(alloc, self.true_count)
     }

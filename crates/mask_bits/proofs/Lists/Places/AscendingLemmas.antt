@@ -3,7 +3,7 @@ use Rattle.std.proofs.Common.{◌≡◌, ℕ, zero, suc, ◌+◌, ◌<◌, ◌�
 use Rattle.std.specs.List.{All, list_any, range_with_len}
 use Rattle.std.specs.List.Sorted.{IsStrictlyIncreasing}
 use Rattle.std.proofs.lemmas.Bool.{cases_eq, eq-eqb, ne_eqb}
-use Rattle.mask_bits.specs.Positions.{places_from, positions, true_at, repeated}
+use Rattle.mask_bits.specs.Positions.{indices_from, positions, true_at, repeated}
 use Rattle.mask_bits.proofs.Lists.CountLemmas.{all_true_from_count}
 use Rattle.mask_bits.proofs.Lists.RankLemmas.{length-true_at}
 use Rattle.std.proofs.lemmas.List.{get_or_default}
@@ -37,12 +37,12 @@ ascending-Rising low high (p ∷ q ∷ ps) r zero h = omega (arith, r.2.0)
 ascending-Rising low high (p ∷ q ∷ ps) r (suc k) h = grind (arith, ascending-Rising (p + 1) high (q ∷ ps) r.2 k (omega arith))
 
 -- the true places are such
-Rising-places_from : (n high : ℕ) (m : List Bool) → high ≡ n + length m → Rising n high (places_from n m)
-Rising-places_from n high [] e = tt
-Rising-places_from n high (v ∷ m) e = grind (arith, Rising-places_from (n + 1) high m, Rising-lower)
+Rising-indices_from : (n high : ℕ) (m : List Bool) → high ≡ n + length m → Rising n high (indices_from n m)
+Rising-indices_from n high [] e = tt
+Rising-indices_from n high (v ∷ m) e = grind (arith, Rising-indices_from (n + 1) high m, Rising-lower)
 
 pub positions-rising : (m : List Bool) → Rising 0 (length m) (positions m)
-positions-rising m = Rising-places_from 0 (length m) m (omega arith)
+positions-rising m = Rising-indices_from 0 (length m) m (omega arith)
 
 pub positions-ascending : (m : List Bool) → IsStrictlyIncreasing (positions m)
 positions-ascending m = ascending-Rising 0 (length m) (positions m) (positions-rising m)
@@ -58,7 +58,7 @@ map_range_same_from : {X : Type 0} (f g : ℕ → X) (a n : ℕ) → ((i : ℕ) 
 map_range_same_from f g a zero same = refl
 map_range_same_from {X} f g a (suc n) same = grind (arith, map_range_same_from f g (a + 1) n (λ i h. same i (omega arith)))
 
-true_from : (a n high : ℕ) (ps : List ℕ) → high ≡ a + n → Rising a high ps → places_from a (map (λ i. list_any (nat_eq i) ps) (range_with_len a n)) ≡ ps
+true_from : (a n high : ℕ) (ps : List ℕ) → high ≡ a + n → Rising a high ps → indices_from a (map (λ i. list_any (nat_eq i) ps) (range_with_len a n)) ≡ ps
 true_from a zero high [] e r = refl
 true_from a zero high (p ∷ ps) e r = absurd (omega (arith, r.0, r.1))
 true_from a (suc n) high [] e r = true_from (a + 1) n high [] (omega arith) tt

@@ -3,13 +3,13 @@ use Rattle.std.proofs.Common.{◌≡◌, ℕ, zero, suc, ◌+◌, ◌<◌, ◌�
 use Rattle.std.specs.List.{All}
 use Rattle.std.proofs.lemmas.List.Elements.{All-nil, All-head, All-tail}
 use Rattle.std.proofs.lemmas.List.{get_or-take, get_or_past, length-take, get_or-map, length-map}
-use Rattle.mask_bits.specs.Positions.{places_from, positions, count}
+use Rattle.mask_bits.specs.Positions.{indices_from, positions, count}
 use Rattle.std.specs.Option.{IfSome}
 
 -- no list has more true values than values
-pub length-places_from : (n : ℕ) (m : List Bool) → length (places_from n m) ≤ length m
-length-places_from n [] = omega arith
-length-places_from n (v ∷ m) = grind (arith, length-places_from (n + 1) m)
+pub length-indices_from : (n : ℕ) (m : List Bool) → length (indices_from n m) ≤ length m
+length-indices_from n [] = omega arith
+length-indices_from n (v ∷ m) = grind (arith, length-indices_from (n + 1) m)
 
 pub drop-slice_get : {X : Type 0} → (xs : List X) (i : ℕ) (x : X) → slice_get xs i ≡ Some x → drop i xs ≡ x ∷ drop (i + 1) xs
 drop-slice_get [] i x e = cc
@@ -29,15 +29,15 @@ get_or-take_false m i p e = grind (arith, get_or-take, get_or-take_past)
 -- ---- the recursion on a list's first value
 
 -- the places of a list that stands one further on
-pub places_from-suc : (n : ℕ) (m : List Bool) → places_from (suc n) m ≡ map suc (places_from n m)
-places_from-suc n [] = refl
-places_from-suc n (v ∷ m) = grind (arith, places_from-suc (n + 1) m)
+pub indices_from-suc : (n : ℕ) (m : List Bool) → indices_from (suc n) m ≡ map suc (indices_from n m)
+indices_from-suc n [] = refl
+indices_from-suc n (v ∷ m) = grind (arith, indices_from-suc (n + 1) m)
 
 pub positions-true : (m : List Bool) → positions (true ∷ m) ≡ 0 ∷ map suc (positions m)
-positions-true m = ap (λ (xs : List ℕ). 0 ∷ xs) (places_from-suc 0 m)
+positions-true m = ap (λ (xs : List ℕ). 0 ∷ xs) (indices_from-suc 0 m)
 
 pub positions-false : (m : List Bool) → positions (false ∷ m) ≡ map suc (positions m)
-positions-false m = places_from-suc 0 m
+positions-false m = indices_from-suc 0 m
 
 -- how many values are true, by recursion
 abbrev pub trues : List Bool → ℕ
@@ -45,12 +45,12 @@ trues [] = 0
 trues (true ∷ m) = suc (trues m)
 trues (false ∷ m) = trues m
 
-pub length-places_from-trues : (n : ℕ) (m : List Bool) → length (places_from n m) ≡ trues m
-length-places_from-trues n [] = refl
-length-places_from-trues n (v ∷ m) = grind (arith, length-places_from-trues (n + 1) m)
+pub length-indices_from-trues : (n : ℕ) (m : List Bool) → length (indices_from n m) ≡ trues m
+length-indices_from-trues n [] = refl
+length-indices_from-trues n (v ∷ m) = grind (arith, length-indices_from-trues (n + 1) m)
 
 pub count-trues : (m : List Bool) → count m ≡ trues m
-count-trues m = length-places_from-trues 0 m
+count-trues m = length-indices_from-trues 0 m
 
 -- each place is one of the list's
 pub positions-within : (m : List Bool) → All (λ p. p < length m) (positions m)
@@ -58,7 +58,7 @@ positions-within [] = All-nil (λ p. p < 0)
 positions-within (v ∷ m) = λ k d h. grind (arith, positions-true m, positions-false m, positions-within m, get_or-map suc (positions m) k d d, get_or-map suc (positions m) (k - 1) d d, length-map)
 
 pub count-le-length : (m : List Bool) → count m ≤ length m
-count-le-length m = length-places_from 0 m
+count-le-length m = length-indices_from 0 m
 
 -- an entry has what each entry has
 pub IfSome-slice_get : (P : ℕ → Type 0) (xs : List ℕ) (n : ℕ) → All P xs → IfSome (slice_get xs n) P

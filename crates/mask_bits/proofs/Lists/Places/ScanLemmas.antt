@@ -1,7 +1,7 @@
 -- What a scan of a list from a place on passes over.
 use Rattle.std.proofs.Common.{◌≡◌, ℕ, zero, suc, ◌+◌, ◌-◌, ◌<◌, ◌≤◌, Bool, true, false, List, ◌∷◌, length, get_or, drop, refl, ap, ◌∙◌, arith}
 use Rattle.std.proofs.lemmas.List.{drop_more, drop-drop, get_or-drop, get_or_past, length-drop}
-use Rattle.mask_bits.specs.Positions.{places_from, IsFirstFrom}
+use Rattle.mask_bits.specs.Positions.{indices_from, IsFirstFrom}
 use Rattle.mask_bits.specs.RunScan.{runs_from}
 use Rattle.mask_bits.proofs.Lists.Runs.RunLemmas.{runs_from-front}
 
@@ -21,8 +21,8 @@ skip-first F pass m n place first =
 drop-holds : (m : List Bool) (n place : ℕ) → IsFirstFrom m n true place → place < length m → drop place m ≡ true ∷ drop (place + 1) m
 drop-holds m n place first within = grind (arith, drop_more)
 
-pub places_from-first : (m : List Bool) (n place : ℕ) → IsFirstFrom m n true place → place < length m → places_from n (drop n m) ≡ place ∷ places_from (place + 1) (drop (place + 1) m)
-places_from-first m n place first within = skip-first places_from (λ _ _. refl) m n place first ∙ ap (places_from place) (drop-holds m n place first within)
+pub indices_from-first : (m : List Bool) (n place : ℕ) → IsFirstFrom m n true place → place < length m → indices_from n (drop n m) ≡ place ∷ indices_from (place + 1) (drop (place + 1) m)
+indices_from-first m n place first within = skip-first indices_from (λ _ _. refl) m n place first ∙ ap (indices_from place) (drop-holds m n place first within)
 
 -- a run, from its first true value to the first false one past it
 pub runs_from-first : (m : List Bool) (n start stop : ℕ) → IsFirstFrom m n true start → start < length m → IsFirstFrom m (start + 1) false stop → runs_from n (drop n m) ≡ (start, stop) ∷ runs_from stop (drop stop m)

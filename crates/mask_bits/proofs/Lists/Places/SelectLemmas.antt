@@ -8,9 +8,9 @@ use Rattle.std.proofs.lemmas.Nat.{leading_top, ones-le}
 use lib.Seq.{take-add}
 use Rattle.std.proofs.lemmas.Nat.Bits.{bit_at_above, bit_at_cat_high, bit_at_lowest, bit_at-zero}
 use Rattle.std.proofs.lemmas.Option.{slice_get-get_or, slice_get_past, slice_get-map}
-use Rattle.mask_bits.specs.Positions.{places_from, positions, count, repeated}
+use Rattle.mask_bits.specs.Positions.{indices_from, positions, count, repeated}
 use Rattle.mask_bits.specs.Words.{word_bits, padded_part}
-use Rattle.mask_bits.proofs.Lists.CountLemmas.{count-append, count-repeated_false, places_from-repeated_false, length-repeated, get_or-padded}
+use Rattle.mask_bits.proofs.Lists.CountLemmas.{count-append, count-repeated_false, indices_from-repeated_false, length-repeated, get_or-padded}
 use Rattle.mask_bits.proofs.Lists.Words.LowestLemmas.{low, low-within, low-set, low-first, bit_at-lowest_cleared, bit_at-lowest_others}
 use Rattle.mask_bits.proofs.Lists.Words.PaddedLemmas.{padded_part_from_values}
 use Rattle.mask_bits.proofs.Lists.Words.WalkLemmas.{places-step, bit-padded}
@@ -18,14 +18,14 @@ use Rattle.mask_bits.proofs.Lists.Words.WordLemmas.{length-word_bits, get_or-wor
 
 -- ---- places of lists one after the other
 
-pub places_from-append : (n : ℕ) (a b : List Bool) → places_from n (a ++ b) ≡ places_from n a ++ places_from (n + length a) b
-places_from-append n [] b = ap (λ k. places_from k b) (sym (add-zero n))
-places_from-append n (v ∷ a) b = grind (arith, places_from-append (n + 1) a)
+pub indices_from-append : (n : ℕ) (a b : List Bool) → indices_from n (a ++ b) ≡ indices_from n a ++ indices_from (n + length a) b
+indices_from-append n [] b = ap (λ k. indices_from k b) (sym (add-zero n))
+indices_from-append n (v ∷ a) b = grind (arith, indices_from-append (n + 1) a)
 
 -- the places of a list that stands k further on
-pub places_from-moved : (k n : ℕ) (m : List Bool) → places_from (k + n) m ≡ map (λ p. k + p) (places_from n m)
-places_from-moved k n [] = refl
-places_from-moved k n (v ∷ m) = grind (arith, places_from-moved k (n + 1) m)
+pub indices_from-moved : (k n : ℕ) (m : List Bool) → indices_from (k + n) m ≡ map (λ p. k + p) (indices_from n m)
+indices_from-moved k n [] = refl
+indices_from-moved k n (v ∷ m) = grind (arith, indices_from-moved k (n + 1) m)
 
 length-moved : (k : ℕ) (ps : List ℕ) → length (map (λ p. k + p) ps) ≡ length ps
 length-moved k [] = refl
@@ -58,23 +58,23 @@ pub count-word_more : (m : List Bool) (i : ℕ) → count (take (64 * (i + 1)) m
 count-word_more m i = grind (arith, take-add (64 * i) 64 m, count-append (take (64 * i) m) (take 64 (drop (64 * i) m)), count-part m i)
 
 -- the false values of the last word hold no place
-places-part : (m : List Bool) (n i : ℕ) → places_from n (padded_part m i) ≡ places_from n (take 64 (drop (64 * i) m))
+places-part : (m : List Bool) (n i : ℕ) → indices_from n (padded_part m i) ≡ indices_from n (take 64 (drop (64 * i) m))
 places-part m n i =
     let rest : List Bool = drop (64 * i) m in
     let here : List Bool = take 64 rest in
-    sym (ap (places_from n) (part-split m i)) ∙ places_from-append n here (repeated (64 - length rest) false)
-    ∙ ap (λ (ps : List ℕ). places_from n here ++ ps) (places_from-repeated_false (n + length here) (64 - length rest))
-    ∙ append-nil (places_from n here)
+    sym (ap (indices_from n) (part-split m i)) ∙ indices_from-append n here (repeated (64 - length rest) false)
+    ∙ ap (λ (ps : List ℕ). indices_from n here ++ ps) (indices_from-repeated_false (n + length here) (64 - length rest))
+    ∙ append-nil (indices_from n here)
 
 -- the places of one more started word
-pub places-word_more : (m : List Bool) (i : ℕ) → 64 * i ≤ length m → positions (take (64 * (i + 1)) m) ≡ positions (take (64 * i) m) ++ places_from (64 * i) (padded_part m i)
+pub places-word_more : (m : List Bool) (i : ℕ) → 64 * i ≤ length m → positions (take (64 * (i + 1)) m) ≡ positions (take (64 * i) m) ++ indices_from (64 * i) (padded_part m i)
 places-word_more m i within =
     let next : 64 * (i + 1) ≡ 64 * i + 64 = omega arith in
     let front : List Bool = take (64 * i) m in
     let here : List Bool = take 64 (drop (64 * i) m) in
     let len : 0 + length front ≡ 64 * i = omega (arith, length-take (64 * i) m) in
-    ap (λ n. positions (take n m)) next ∙ ap positions (take-add (64 * i) 64 m) ∙ places_from-append 0 front here
-    ∙ ap (λ k. positions front ++ places_from k here) len
+    ap (λ n. positions (take n m)) next ∙ ap positions (take-add (64 * i) 64 m) ∙ indices_from-append 0 front here
+    ∙ ap (λ k. positions front ++ indices_from k here) len
     ∙ ap (λ (ps : List ℕ). positions front ++ ps) (sym (places-part m (64 * i) i))
 
 -- true value number n of a list is number n less those passed of the word where it stands
@@ -83,15 +83,15 @@ pub place_in_word : (m : List Bool) (i n r p : ℕ) → 64 * i ≤ length m → 
 place_in_word m i n r p within number inside at =
     let front : List Bool = take (64 * i) m in
     let rest : List Bool = drop (64 * i) m in
-    let here : List ℕ = places_from (64 * i) (take 64 rest) in
-    let after : List ℕ = places_from (64 * i + length (take 64 rest)) (drop 64 rest) in
+    let here : List ℕ = indices_from (64 * i) (take 64 rest) in
+    let after : List ℕ = indices_from (64 * i + length (take 64 rest)) (drop 64 rest) in
     let len : 0 + length front ≡ 64 * i = omega (arith, length-take (64 * i) m) in
     let split : positions m ≡ positions front ++ (here ++ after)
-    = sym (ap positions (take-append-drop (64 * i) m)) ∙ places_from-append 0 front rest ∙ ap (λ k. positions front ++ places_from k rest) len
-    ∙ ap (λ (xs : List Bool). positions front ++ places_from (64 * i) xs) (sym (take-append-drop 64 rest)) ∙ ap (λ (ps : List ℕ). positions front ++ ps) (places_from-append (64 * i) (take 64 rest) (drop 64 rest)) in
+    = sym (ap positions (take-append-drop (64 * i) m)) ∙ indices_from-append 0 front rest ∙ ap (λ k. positions front ++ indices_from k rest) len
+    ∙ ap (λ (xs : List Bool). positions front ++ indices_from (64 * i) xs) (sym (take-append-drop 64 rest)) ∙ ap (λ (ps : List ℕ). positions front ++ ps) (indices_from-append (64 * i) (take 64 rest) (drop 64 rest)) in
     let padded : here ≡ map (λ k. 64 * i + k) (positions (padded_part m i))
     = sym (places-part m (64 * i) i)
-    ∙ ap (λ k. places_from k (padded_part m i)) (sym (add-zero (64 * i))) ∙ places_from-moved (64 * i) 0 (padded_part m i) in
+    ∙ ap (λ k. indices_from k (padded_part m i)) (sym (add-zero (64 * i))) ∙ indices_from-moved (64 * i) 0 (padded_part m i) in
     let many : r < length here = omega (arith, ap length padded, length-moved (64 * i) (positions (padded_part m i))) in
     ap (λ (ps : List ℕ). slice_get ps n) split ∙ slice_get-right (positions front) (here ++ after) n r number ∙ slice_get-left here after r many
     ∙ ap (λ (ps : List ℕ). slice_get ps r) padded ∙ slice_get-map (λ k. 64 * i + k) (positions (padded_part m i)) r ∙ ap (option_map (λ k. 64 * i + k)) at
@@ -113,10 +113,10 @@ positions-lowest w some fits =
     (λ i h. grind (arith, get_or-word_bits, bit_at-lowest_others w i some fits h, get_or_past, length-word_bits))
 
 -- the places of a word that stands n further on
-pub places-lowest : (n w : ℕ) → 0 < w → w < 2 ^ 64 → places_from n (word_bits w) ≡ (n + low w) ∷ places_from n (word_bits (bit_and w (w - 1)))
+pub places-lowest : (n w : ℕ) → 0 < w → w < 2 ^ 64 → indices_from n (word_bits w) ≡ (n + low w) ∷ indices_from n (word_bits (bit_and w (w - 1)))
 places-lowest n w some fits =
-    let moved : (v : ℕ) → places_from n (word_bits v) ≡ map (λ p. n + p) (positions (word_bits v))
-    = λ v. ap (λ k. places_from k (word_bits v)) (sym (add-zero n)) ∙ places_from-moved n 0 (word_bits v) in
+    let moved : (v : ℕ) → indices_from n (word_bits v) ≡ map (λ p. n + p) (positions (word_bits v))
+    = λ v. ap (λ k. indices_from k (word_bits v)) (sym (add-zero n)) ∙ indices_from-moved n 0 (word_bits v) in
     moved w ∙ ap (map (λ p. n + p)) (positions-lowest w some fits)
     ∙ ap (λ (ps : List ℕ). (n + low w) ∷ ps) (sym (moved (bit_and w (w - 1))))
 
@@ -136,13 +136,13 @@ left-first w k ps fits left h =
 -- ---- the last true value
 
 -- a list with no true value has no place
-pub no_place : (m : List Bool) (n : ℕ) → ((i : ℕ) → get_or m i false ≡ false) → places_from n m ≡ []
-no_place [] n none = refl
-no_place (v ∷ m) n none = grind (arith, none 0, no_place m (n + 1) (λ i. none (suc i)))
+pub no_index : (m : List Bool) (n : ℕ) → ((i : ℕ) → get_or m i false ≡ false) → indices_from n m ≡ []
+no_index [] n none = refl
+no_index (v ∷ m) n none = grind (arith, none 0, no_index m (n + 1) (λ i. none (suc i)))
 
 -- none in a word without bits
-pub places-of_none : (n : ℕ) → places_from n (word_bits 0) ≡ []
-places-of_none n = no_place (word_bits 0) n (λ i.
+pub places-of_none : (n : ℕ) → indices_from n (word_bits 0) ≡ []
+places-of_none n = no_index (word_bits 0) n (λ i.
     elim (cases_lt i 64) [
       | inl inside ↦ get_or-word_bits 0 i false inside ∙ ap (λ b. nat_eq b 1) (bit_at-zero i)
       | inr past ↦ get_or_past (word_bits 0) i false (omega (arith, length-word_bits 0))
@@ -151,14 +151,14 @@ places-of_none n = no_place (word_bits 0) n (λ i.
 pub last_place : (m : List Bool) (p : ℕ) → p < length m → get_or m p false ≡ true → ((i : ℕ) → p < i → get_or m i false ≡ false) → slice_get (positions m) (count m - 1) ≡ Some p
 last_place m p within holds past =
     let front : List ℕ = positions (take p m) in
-    let none : places_from (p + 1) (drop (p + 1) m) ≡ [] = no_place (drop (p + 1) m) (p + 1) (λ i. get_or-drop (p + 1) m i false ∙ past (p + 1 + i) (omega arith)) in
+    let none : indices_from (p + 1) (drop (p + 1) m) ≡ [] = no_index (drop (p + 1) m) (p + 1) (λ i. get_or-drop (p + 1) m i false ∙ past (p + 1 + i) (omega arith)) in
     let all : positions m ≡ front ++ p ∷ []
-    = grind (arith, take-append-drop p m, drop_more m p false within, none, length-take p m, places_from-append 0 (take p m) (drop p m)) in
+    = grind (arith, take-append-drop p m, drop_more m p false within, none, length-take p m, indices_from-append 0 (take p m) (drop p m)) in
     ap (λ (ps : List ℕ). slice_get ps (length ps - 1)) all
     ∙ slice_get-right front (p ∷ []) (length (front ++ p ∷ []) - 1) 0 (omega (arith, length-append front (p ∷ [])))
 
 pub last_none : (m : List Bool) (n : ℕ) → ((i : ℕ) → get_or m i false ≡ false) → slice_get (positions m) n ≡ None
-last_none m n none = ap (λ (ps : List ℕ). slice_get ps n) (no_place m 0 none)
+last_none m n none = ap (λ (ps : List ℕ). slice_get ps n) (no_index m 0 none)
 
 -- the highest set bit of a word that is not 0
 pub high : (w : ℕ) → 0 < w → w < 2 ^ 64 → (leading_zeros w64 w < 64) × (bit_at w (63 - leading_zeros w64 w) ≡ 1) × ((i : ℕ) → 63 - leading_zeros w64 w < i → bit_at w i ≡ 0)

@@ -5,7 +5,7 @@ use Rattle.std.specs.Prelude.{nat_le, nat_lt}
 use Rattle.std.specs.List.{All, AllAdjacentBelow, list_any}
 use Rattle.mask_bits.specs.Laws.{RunsExist, RunsAreUnique, RunsAreRanges}
 use Rattle.mask_bits.specs.Runs.{is_inside, AreRuns}
-use Rattle.mask_bits.specs.RunScan.{with_place, runs_from}
+use Rattle.mask_bits.specs.RunScan.{with_index, runs_from}
 
 -- ---- one range
 
@@ -55,7 +55,7 @@ inside-lengthened : (i n : ℕ) (r : ℕ × ℕ) → n ≤ i → r.0 ≤ i → i
 inside-lengthened i n r h h' = ap (λ b. b && nat_lt i r.1) (le-leb n i h ∙ sym (le-leb r.0 i h'))
 
 -- a true value in front
-RunsOf-true : (n high : ℕ) (m : List Bool) (rs : List (ℕ × ℕ)) → RunsOf (n + 1) high m rs → RunsOf n high (true ∷ m) (with_place n rs)
+RunsOf-true : (n high : ℕ) (m : List Bool) (rs : List (ℕ × ℕ)) → RunsOf (n + 1) high m rs → RunsOf n high (true ∷ m) (with_index n rs)
 RunsOf-true n high m [] of = RunsOf-alone n high m [] tt of
 RunsOf-true n high m (r ∷ rs) of = grind arith
 
@@ -97,17 +97,17 @@ RunsOf-past_longer n high m r rs starts stops of =
     }
 
 -- in front of runs that begin later, a true value is a run of its own
-with_place-alone : (n high : ℕ) (rs : List (ℕ × ℕ)) → Spread ((n + 1) + 1) high rs → with_place n rs ≡ (n, n + 1) ∷ rs
-with_place-alone n high [] s = refl
-with_place-alone n high (r ∷ rs) s = cond-false (nat_eq r.0 (n + 1)) ((n, r.1) ∷ rs) ((n, n + 1) ∷ r ∷ rs) (ne_eqb r.0 (n + 1) (λ same. omega arith))
+with_index-alone : (n high : ℕ) (rs : List (ℕ × ℕ)) → Spread ((n + 1) + 1) high rs → with_index n rs ≡ (n, n + 1) ∷ rs
+with_index-alone n high [] s = refl
+with_index-alone n high (r ∷ rs) s = cond-false (nat_eq r.0 (n + 1)) ((n, r.1) ∷ rs) ((n, n + 1) ∷ r ∷ rs) (ne_eqb r.0 (n + 1) (λ same. omega arith))
 
 -- and it lengthens a run that begins right after it
-with_place-longer : (n e : ℕ) (rs : List (ℕ × ℕ)) → with_place n ((n + 1, e) ∷ rs) ≡ (n, e) ∷ rs
-with_place-longer n e rs = cond-true (nat_eq (n + 1) (n + 1)) ((n, e) ∷ rs) ((n, n + 1) ∷ (n + 1, e) ∷ rs) (eq-eqb (n + 1) (n + 1) refl)
+with_index-longer : (n e : ℕ) (rs : List (ℕ × ℕ)) → with_index n ((n + 1, e) ∷ rs) ≡ (n, e) ∷ rs
+with_index-longer n e rs = cond-true (nat_eq (n + 1) (n + 1)) ((n, e) ∷ rs) ((n, n + 1) ∷ (n + 1, e) ∷ rs) (eq-eqb (n + 1) (n + 1) refl)
 
 -- runs behind which the scan has found those past the first place, a true one
 from_rest : (n high : ℕ) (m : List Bool) (rs : List (ℕ × ℕ)) → RunsOf n high (true ∷ m) rs
-    → ((ss : List (ℕ × ℕ)) → RunsOf (n + 1) high m ss → ss ≡ runs_from (n + 1) m) → rs ≡ with_place n (runs_from (n + 1) m)
+    → ((ss : List (ℕ × ℕ)) → RunsOf (n + 1) high m ss → ss ≡ runs_from (n + 1) m) → rs ≡ with_index n (runs_from (n + 1) m)
 from_rest n high m [] of rest = absurd (true≢false (of.exact n 0 (omega arith) (omega arith)))
 from_rest n high m (r ∷ rs) of rest =
     let s : Spread n high (r ∷ rs) = of.spread in
@@ -117,8 +117,8 @@ from_rest n high m (r ∷ rs) of rest =
       | inr apart ↦ absurd (true≢false (found ∙ any_below (n + 1) high n (r ∷ rs) (omega arith, s.1, s.2, s.3) (omega arith)))
     ] in
     elim (cases_eq r.1 (n + 1)) [
-      | inl stops ↦ grind (arith, with_place-alone n high rs (Spread-lower ((n + 1) + 1) (r.1 + 1) high rs (omega arith) s.3), rest rs (RunsOf-past_alone n high m r rs stops of))
-      | inr longer ↦ grind (arith, with_place-longer n r.1 rs, rest ((n + 1, r.1) ∷ rs) (RunsOf-past_longer n high m r rs starts longer of))
+      | inl stops ↦ grind (arith, with_index-alone n high rs (Spread-lower ((n + 1) + 1) (r.1 + 1) high rs (omega arith) s.3), rest rs (RunsOf-past_alone n high m r rs stops of))
+      | inr longer ↦ grind (arith, with_index-longer n r.1 rs, rest ((n + 1, r.1) ∷ rs) (RunsOf-past_longer n high m r rs starts longer of))
     ]
 
 -- runs are the scan's
@@ -201,9 +201,9 @@ front n zero e (true ∷ []) len within all_true ends = grind arith
 front n zero e (true ∷ true ∷ m) len within all_true ends = cc
 front n zero e (true ∷ false ∷ m) len within all_true ends =
     let past = RunsOf-runs_from ((n + 1) + 1) ((n + 1) + 1 + length m) m refl in
-    grind (arith, with_place-alone n ((n + 1) + 1 + length m) (runs_from ((n + 1) + 1) m) past.spread)
+    grind (arith, with_index-alone n ((n + 1) + 1 + length m) (runs_from ((n + 1) + 1) m) past.spread)
 front n (suc k) e (true ∷ m) len within all_true ends =
-    grind (arith, front (n + 1) k e m (omega arith) (omega arith) (λ j h. all_true (suc j) (omega arith)) ends, with_place-longer n e (runs_from e (drop (suc k) m)))
+    grind (arith, front (n + 1) k e m (omega arith) (omega arith) (λ j h. all_true (suc j) (omega arith)) ends, with_index-longer n e (runs_from e (drop (suc k) m)))
 
 -- a run at the front: from n on, k + 1 true values and then a false one or the end
 pub runs_from-front : (n k : ℕ) (m : List Bool) → k < length m → ((j : ℕ) → j ≤ k → get_or m j false ≡ true) → get_or m (k + 1) false ≡ false → runs_from n m ≡ (n, n + k + 1) ∷ runs_from (n + k + 1) (drop (k + 1) m)

@@ -6,13 +6,13 @@ use Rattle.std.proofs.lemmas.Bool.{true≢false}
 use Rattle.std.proofs.lemmas.List.{ext_get_or, length-append, length-drop, length-take, get_or_append_left, get_or-append_right, get_or-drop, get_or-take, get_or_past, get_or-replicate, length-replicate}
 use Rattle.std.proofs.lemmas.Nat.{and_le_l, or_lt}
 use Rattle.std.proofs.lemmas.Nat.Bits.{bit_at-lt, bit_at-zero, bit_at_ones}
-use Rattle.mask_bits.specs.Positions.{places_from, positions, repeated, IsFirstFrom}
+use Rattle.mask_bits.specs.Positions.{indices_from, positions, repeated, IsFirstFrom}
 use Rattle.mask_bits.specs.RunScan.{runs_from}
 use Rattle.mask_bits.specs.Walk.{left_of, IsLeft, PassesTrue}
 use Rattle.mask_bits.specs.Words.{word_bits, padded_part, started_words}
 use Rattle.mask_bits.proofs.Lists.Words.LowestLemmas.{low, low-within, low-set, low-first, bit_at-lowest_cleared, bit_at-lowest_others, bit_at-filled, bit_at-filled_others, ones, ones-few, ones-within, ones-set, ones-end, bit_at-ones_cleared, bit_at-ones_others}
 use Rattle.mask_bits.proofs.Lists.Words.PaddedLemmas.{get_or-padded_part}
-use Rattle.mask_bits.proofs.Lists.Places.ScanLemmas.{skip, places_from-first, runs_from-first}
+use Rattle.mask_bits.proofs.Lists.Places.ScanLemmas.{skip, indices_from-first, runs_from-first}
 use Rattle.mask_bits.proofs.Lists.Words.WordLemmas.{length-word_bits, get_or-word_bits}
 
 -- ---- one step over lists
@@ -36,9 +36,9 @@ pub places-step : (m n : List Bool) (place : ℕ) → place < length m → lengt
     → positions m ≡ place ∷ positions n
 places-step m n place within len passed holds cleared same =
     let first : IsFirstFrom m 0 true place = record { not_before = omega arith; within = omega arith; passed = λ i _ h. passed i h; holds = λ _. holds } in
-    places_from-first m 0 place first within
-    ∙ ap (λ (xs : List Bool). place ∷ places_from (place + 1) xs) (sym (drop-same m n (place + 1) len (λ i h. same i (omega arith))))
-    ∙ ap (λ (ps : List ℕ). place ∷ ps) (sym (skip-front places_from (λ _ _. refl) n (place + 1) (omega arith) (λ i h. cleared i (omega arith))))
+    indices_from-first m 0 place first within
+    ∙ ap (λ (xs : List Bool). place ∷ indices_from (place + 1) xs) (sym (drop-same m n (place + 1) len (λ i h. same i (omega arith))))
+    ∙ ap (λ (ps : List ℕ). place ∷ ps) (sym (skip-front indices_from (λ _ _. refl) n (place + 1) (omega arith) (λ i h. cleared i (omega arith))))
 
 -- the first run, and the runs of the list without it
 pub runs-step : (m n : List Bool) (start stop : ℕ) → start < stop → stop ≤ length m → length n ≡ length m

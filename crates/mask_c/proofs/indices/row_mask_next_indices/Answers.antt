@@ -1,7 +1,7 @@
 use Rattle.std.proofs.Common.{Bool, List, ◌<◌, ◌+◌, ◌*◌, ◌^◌, length, map, min, take, subst, sym, ap, ◌∙◌, arith}
 use Rattle.std.specs.List.{All}
 use Rattle.std.proofs.lemmas.List.{take_all}
-use Rattle.mask_bits.specs.Positions.{count, places_from, positions}
+use Rattle.mask_bits.specs.Positions.{count, indices_from, positions}
 use Rattle.mask_c.proofs.ChooseLemmas.{count_below-le-count}
 use Rattle.mask_c.proofs.IndexLemmas.{bitmap-rest, indices-within, all_indices, first_indices, word_done, word_counted}
 use Rattle.mask_c.proofs.indices.row_mask_next_indices.Goals as goal
@@ -42,8 +42,8 @@ returns-then-at-out-clause-indices c =
     let rest = c.new-chunks.ensures.list ∙ bitmap-rest c.args.bytes.now c.args.offset c.args.len c.args.from c.requires.within in
     word_done m c.args.from i c.loop-i.at put.result _ n c.loop-i.out put.new.out (omega arith) c.padded_word.ensures was.indices put.ensures.indices
     ∙ first_indices m c.args.from n (64 * (i + 1)) (omega (arith, many, c.if-at-out.true, put.auto.out))
-    ∙ ap (λ k. take k (places_from c.args.from m)) c.loop-i.auto.out
-    ∙ ap (λ (x : List Bool). take (length c.args.out.now) (places_from c.args.from x)) rest
+    ∙ ap (λ k. take k (indices_from c.args.from m)) c.loop-i.auto.out
+    ∙ ap (λ (x : List Bool). take (length c.args.out.now) (indices_from c.args.from x)) rest
 
 pub returns-then-at-out-clause-count : goal.returns-then-at-out-clause-count
 returns-then-at-out-clause-count c =
@@ -61,8 +61,8 @@ returns-clause-indices c =
     let rest = c.new-chunks.ensures.list ∙ bitmap-rest c.args.bytes.now c.args.offset c.args.len c.args.from c.requires.within in
     c.loop-i.invariant.indices
     ∙ ap (take (length c.loop-i.out)) (all_indices m c.args.from (64 * c.loop-i.i) (omega arith))
-    ∙ ap (λ k. take k (places_from c.args.from m)) c.loop-i.auto.out
-    ∙ ap (λ (x : List Bool). take (length c.args.out.now) (places_from c.args.from x)) rest
+    ∙ ap (λ k. take k (indices_from c.args.from m)) c.loop-i.auto.out
+    ∙ ap (λ (x : List Bool). take (length c.args.out.now) (indices_from c.args.from x)) rest
 
 pub returns-clause-count : goal.returns-clause-count
 returns-clause-count c =

@@ -2,7 +2,7 @@
 
 ghost use Rattle.std.specs.Prelude.{◌≡◌, ◌<◌, IfOk, IsOkUnless, All, alloc_error, length};
 ghost use Rattle.std.specs.List.Sorted.{IsStrictlyIncreasing};
-ghost use Rattle.mask_bits.specs.Positions.{positions, at_places};
+ghost use Rattle.mask_bits.specs.Positions.{positions, at_indices};
 ghost use Rattle.vortex_mask.specs.Mask.{truth, variant, fitting_variant, all_false, caches, where_mixed};
 ghost use Rattle.vortex_mask.specs.MaskValues.{only_indices};
 ghost use Rattle.vortex_mask.specs.Steps.{no_steps};
@@ -25,26 +25,26 @@ pub fn intersect_by_rank_indices(
     requires mask_within { All (λ k. k < length self_indices.now) mask_indices.now }
     ensures len { IfOk result (λ r. length (truth r.0) ≡ len) }
     ensures true_indices { IfOk result
-        (λ r. positions (truth r.0) ≡ at_places self_indices.now mask_indices.now) }
+        (λ r. positions (truth r.0) ≡ at_indices self_indices.now mask_indices.now) }
     ensures variant { IfOk result (λ r. variant r.0 ≡ fitting_variant all_false (truth r.0)) }
     ensures caches { IfOk result (λ r. caches r.0
-        ≡ where_mixed r.0 (only_indices (at_places self_indices.now mask_indices.now))) }
+        ≡ where_mixed r.0 (only_indices (at_indices self_indices.now mask_indices.now))) }
     ensures steps { IfOk result (λ r. r.1 ≡ no_steps) }
     ensures refused { IsOkUnless result (MaskError.Memory alloc_error) }
 {
-    let places = entries_at(alloc, self_indices, mask_indices)?;
-    let mask = Mask::of_indices(alloc, len, places)?;
+    let indices = entries_at(alloc, self_indices, mask_indices)?;
+    let mask = Mask::of_indices(alloc, len, indices)?;
     Ok((mask, Steps::new()))
 }
 
-// The entries of `places` at `ranks`, in the order of `ranks`.
-fn entries_at(alloc: Global, places: &[usize], ranks: &[usize]) -> Result<Vec<usize>, AllocError>
-    requires { All (λ k. k < length places.now) ranks.now }
-    ensures { IfOk result (λ entries. entries.items ≡ at_places places.now ranks.now) }
+// The entries of `indices` at `ranks`, in the order of `ranks`.
+fn entries_at(alloc: Global, indices: &[usize], ranks: &[usize]) -> Result<Vec<usize>, AllocError>
+    requires { All (λ k. k < length indices.now) ranks.now }
+    ensures { IfOk result (λ entries. entries.items ≡ at_indices indices.now ranks.now) }
 {
     let mut entries = Vec::with_capacity(alloc, ranks.len())?;
     for rank in ranks {
-        entries.push(places[*rank])?;
+        entries.push(indices[*rank])?;
     }
     Ok(entries)
 }

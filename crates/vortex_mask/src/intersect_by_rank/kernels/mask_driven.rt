@@ -5,7 +5,7 @@ ghost use Rattle.std.specs.Iterator.{IsFinite, Drains};
 ghost use Rattle.std.specs.Iterator.Runs.{EachRunFrom, WholeRun};
 ghost use Rattle.std.specs.List.{sum_by};
 ghost use Rattle.mask_bits.specs.Buffer.{values};
-ghost use Rattle.mask_bits.specs.Positions.{positions, count, at_places};
+ghost use Rattle.mask_bits.specs.Positions.{positions, count, at_indices};
 ghost use Rattle.mask_bits.specs.Words.{started_words};
 ghost use Rattle.vortex_mask.specs.Mask.{truth, variant, fitting_variant, all_false, caches, where_mixed};
 ghost use Rattle.vortex_mask.specs.MaskValues.{only_indices};
@@ -35,9 +35,9 @@ pub fn intersect_mask_driven<S: SelectBit, I: Iterator<Item = usize>>(
         (AreRanks (count (values self_buffer.now)) true_count) }
     ensures len { IfOk result (λ r. length (truth r.0) ≡ length (values self_buffer.now)) }
     ensures true_indices { IfOk result (λ r. (xs : List ℕ) × Drains I.next_gives mask_indices xs
-        × (positions (truth r.0) ≡ at_places (positions (values self_buffer.now)) xs)) }
+        × (positions (truth r.0) ≡ at_indices (positions (values self_buffer.now)) xs)) }
     ensures whole { IfOk result (λ r. WholeRun I.next_gives mask_indices
-        (λ p. positions (truth r.0) ≡ at_places (positions (values self_buffer.now)) p.items)) }
+        (λ p. positions (truth r.0) ≡ at_indices (positions (values self_buffer.now)) p.items)) }
     ensures counted { IfOk result (λ r. count (truth r.0) ≡ true_count) }
     ensures variant { IfOk result (λ r. variant r.0 ≡ fitting_variant all_false (truth r.0)) }
     ensures caches { IfOk result
@@ -48,17 +48,17 @@ pub fn intersect_mask_driven<S: SelectBit, I: Iterator<Item = usize>>(
     ensures refused { IsOkUnless result (MaskError.Memory alloc_error) }
 {
     let len = self_buffer.len();
-    let (places, steps) = places_at_ranks::<S, I>(
+    let (indices, steps) = indices_at_ranks::<S, I>(
         alloc,
         &self_buffer.chunks(),
         mask_indices,
         true_count,
     )?;
-    Ok((Mask::of_indices(alloc, len, places)?, steps))
+    Ok((Mask::of_indices(alloc, len, indices)?, steps))
 }
 
 /// The indices of the true values of `chunks` at `ranks`, `true_count` of them, and the steps.
-pub fn places_at_ranks<S: SelectBit, I: Iterator<Item = usize>>(
+pub fn indices_at_ranks<S: SelectBit, I: Iterator<Item = usize>>(
     alloc: Global,
     chunks: &BitChunks<'_>,
     ranks: I,
@@ -68,8 +68,8 @@ pub fn places_at_ranks<S: SelectBit, I: Iterator<Item = usize>>(
     requires can { I.can_next ranks }
     requires ends { IsFinite (I.remaining ranks) }
     requires ranks { EachRunFrom I.next_gives ranks (AreRanks (count chunks.now) true_count) }
-    ensures places { IfOk result (λ r. WholeRun I.next_gives ranks
-        (λ p. r.0.items ≡ at_places (positions chunks.now) p.items)) }
+    ensures indices { IfOk result (λ r. WholeRun I.next_gives ranks
+        (λ p. r.0.items ≡ at_indices (positions chunks.now) p.items)) }
     ensures words { IfOk result (λ r. r.1.words ≤ started_words (length chunks.now)) }
     ensures steps { IfOk result (λ r. r.1 ≡ record {
       deposits = 0;
@@ -80,7 +80,7 @@ pub fn places_at_ranks<S: SelectBit, I: Iterator<Item = usize>>(
       spots = sum_by (λ p. p % 64) r.0.items;
     }) }
 {
-    let mut places = Vec::with_capacity(alloc, true_count)?;
+    let mut indices = Vec::with_capacity(alloc, true_count)?;
     let mut steps = Steps::new();
     let mut reached = Reached {
         words: 0,
@@ -88,9 +88,9 @@ pub fn places_at_ranks<S: SelectBit, I: Iterator<Item = usize>>(
         before: 0,
     };
     for rank in ranks {
-        places.push(reached.place_of::<S>(chunks, &mut steps, rank))?;
+        indices.push(reached.index_of::<S>(chunks, &mut steps, rank))?;
     }
-    Ok((places, steps))
+    Ok((indices, steps))
 }
 
 // How far the words have been read.
@@ -108,7 +108,7 @@ impl Reached {
     // The index of the true value at `rank`, which doesn't stand before the last word. Reads on
     // until it is in the last word. Inlined, so that what is reached stays in registers.
     #[inline(always)]
-    fn place_of<S: SelectBit>(
+    fn index_of<S: SelectBit>(
         &mut self,
         chunks: &BitChunks<'_>,
         steps: &mut Steps,
@@ -120,7 +120,7 @@ impl Reached {
         requires room { steps.old.selections < usize.MAX }
         requires ahead { self.old.before ≤ rank }
         requires there { rank < count chunks.now }
-        ensures place { slice_get (positions chunks.now) rank ≡ Some result }
+        ensures index { slice_get (positions chunks.now) rank ≡ Some result }
         ensures read { HasRead chunks.now self.new.words self.new.word self.new.before }
         ensures reached { self.new.before ≤ rank }
         ensures ticked { steps.new ≡ record steps.old {

@@ -4,7 +4,7 @@ ghost use Rattle.std.specs.Prelude.{◌≡◌, ◌*◌, ◌<◌, ◌≤◌, All,
 ghost use Rattle.std.specs.List.Sorted.{IsStrictlyIncreasing};
 ghost use Rattle.std.specs.List.{list_any};
 ghost use Rattle.mask_bits.specs.Buffer.{values};
-ghost use Rattle.mask_bits.specs.Positions.{positions, count, at_places, true_at};
+ghost use Rattle.mask_bits.specs.Positions.{positions, count, at_indices, true_at};
 ghost use Rattle.vortex_mask.specs.Mask.{truth, variant, fitting_variant, all_false, caches};
 ghost use Rattle.vortex_mask.specs.MaskValues.{no_caches};
 ghost use Rattle.vortex_mask.specs.Steps.{word_steps};
@@ -30,7 +30,7 @@ pub fn intersect_bit_buffer_by_rank_indices<D: DepositBits>(
     requires within { All (λ k. k < count (values self_buffer.now)) mask_indices.now }
     ensures len { IfOk result (λ r. length (truth r.0) ≡ length (values self_buffer.now)) }
     ensures true_indices { IfOk result (λ r. positions (truth r.0)
-        ≡ at_places (positions (values self_buffer.now)) mask_indices.now) }
+        ≡ at_indices (positions (values self_buffer.now)) mask_indices.now) }
     ensures variant { IfOk result (λ r. variant r.0 ≡ fitting_variant all_false (truth r.0)) }
     ensures caches { IfOk result (λ r. caches r.0 ≡ no_caches) }
     ensures steps { IfOk result (λ r. r.1 ≡ word_steps (values self_buffer.now) (truth r.0)) }
@@ -54,9 +54,9 @@ pub fn narrow_at_ranks<D: DepositBits>(
     requires within { All (λ k. k < count chunks.now) ranks.now }
     requires room { length out.old ≡ 8 * started_words (length chunks.now) }
     ensures list { values (record { bytes = out.new; offset = 0; len = length chunks.now })
-        ≡ true_at (length chunks.now) (at_places (positions chunks.now) ranks.now) }
+        ≡ true_at (length chunks.now) (at_indices (positions chunks.now) ranks.now) }
     ensures steps { result ≡ word_steps chunks.now
-        (true_at (length chunks.now) (at_places (positions chunks.now) ranks.now)) }
+        (true_at (length chunks.now) (at_indices (positions chunks.now) ranks.now)) }
 {
     let mut steps = WordSteps::new();
     let mut next = 0usize;

@@ -1,7 +1,7 @@
 use Rattle.std.proofs.Common.{ℕ, ◌≡◌, ◌+◌, ◌-◌, ◌*◌, ◌/◌, ◌<◌, ◌++◌, Bool, List, length, take, ap, ◌∙◌, sym, arith}
 use Rattle.std.proofs.lemmas.List.{take_all}
 use Rattle.mask_bits.specs.Buffer.{values}
-use Rattle.mask_bits.specs.Positions.{positions, places_from}
+use Rattle.mask_bits.specs.Positions.{positions, indices_from}
 use Rattle.mask_bits.specs.Words.{word_bits, word_part, padded_part, padded_remainder}
 use Rattle.mask_bits.proofs.Lists.Words.PaddedLemmas.{padded_part-whole, padded_part-remainder}
 use Rattle.mask_bits.proofs.Lists.Places.SelectLemmas.{places-word_more}
@@ -13,8 +13,8 @@ loop-i-preserved c =
     let i = c.loop-i.i in
     let same : length c.chunks-chunks.result ≡ length m = ap length c.chunks-chunks.ensures.list in
     c.in_ok-push_indices.ensures
-    ∙ ap (λ (xs : List ℕ). xs ++ places_from (64 * i) (word_bits c.word.result)) c.loop-i.invariant
-    ∙ ap (λ (bits : List Bool). positions (take (64 * i) m) ++ places_from (64 * i) bits)
+    ∙ ap (λ (xs : List ℕ). xs ++ indices_from (64 * i) (word_bits c.word.result)) c.loop-i.invariant
+    ∙ ap (λ (bits : List Bool). positions (take (64 * i) m) ++ indices_from (64 * i) bits)
     (c.word.ensures ∙ ap (λ (list : List Bool). word_part list i) c.chunks-chunks.ensures.list ∙ padded_part-whole m i (omega (arith, same, c.loop-i-test.true, c.len-i-end.ensures)))
     ∙ sym (places-word_more m i (omega (arith, same, c.loop-i-test.true, c.len-i-end.ensures)))
 
@@ -35,9 +35,9 @@ returns c =
     let last : c.len.result ≡ i = omega (arith, same, c.len.ensures, whole) in
     let some : 0 < length m - 64 * i = omega (arith, same, whole, c.remainder_len.ensures, c.if-remainder_len-eq0.false) in
     c.in_ok-push_indices-2.ensures
-    ∙ ap (λ (xs : List ℕ). xs ++ places_from (64 * c.len.result) rest) c.loop-i.invariant
-    ∙ ap (λ k. front ++ places_from (64 * k) rest) last
-    ∙ ap (λ (bits : List Bool). front ++ places_from (64 * i) bits)
+    ∙ ap (λ (xs : List ℕ). xs ++ indices_from (64 * c.len.result) rest) c.loop-i.invariant
+    ∙ ap (λ k. front ++ indices_from (64 * k) rest) last
+    ∙ ap (λ (bits : List Bool). front ++ indices_from (64 * i) bits)
     (c.remainder_bits.ensures ∙ ap padded_remainder c.chunks-chunks.ensures.list ∙ padded_part-remainder m ∙ ap (padded_part m) (sym whole))
     ∙ sym (places-word_more m i (omega (arith, some)))
     ∙ ap positions (take_all (64 * (i + 1)) m (omega (arith, whole)))

@@ -6,8 +6,8 @@ use Rattle.mask_bits.proofs.Lists.Places.PlaceLemmas.{place-within}
 use Rattle.mask_bits.proofs.Lists.Places.SelectLemmas.{last_in_word, last_none, none_more}
 use Rattle.mask_bits.proofs.chunks.BitChunks.last_set_index.Goals as goal
 
-pub returns-then-last-ne0-clause-place : goal.returns-then-last-ne0-clause-place
-returns-then-last-ne0-clause-place c =
+pub returns-then-last-ne0-clause-index : goal.returns-then-last-ne0-clause-index
+returns-then-last-ne0-clause-index c =
     let m = c.args.self.now in
     let some : 0 < c.padded_word-last.result = omega (arith, c.if-last-ne0.true) in
     sym (last_in_word m (c.loop-i.i - 1) c.padded_word-last.result some c.padded_word-last.type_inv c.padded_word-last.ensures (λ p h. c.loop-i.invariant.none p (omega (arith, c.loop-i-test.true))))
@@ -15,7 +15,7 @@ returns-then-last-ne0-clause-place c =
 pub returns-then-last-ne0-clause-within : goal.returns-then-last-ne0-clause-within
 returns-then-last-ne0-clause-within c =
     let m = c.args.self.now in
-    subst (λ (o : Option ℕ). IfSome o (λ p. p < length m)) (sym (returns-then-last-ne0-clause-place c)) (place-within m (count m - 1))
+    subst (λ (o : Option ℕ). IfSome o (λ p. p < length m)) (sym (returns-then-last-ne0-clause-index c)) (place-within m (count m - 1))
 
 pub loop-i-preserved : goal.loop-i-preserved
 loop-i-preserved c =
@@ -25,7 +25,7 @@ loop-i-preserved c =
       none = none_more m (c.loop-i.i - 1) (ap word_bits (sym c.if-last-ne0.false) ∙ c.padded_word-last.ensures) (λ p h. c.loop-i.invariant.none p (omega (arith, c.loop-i-test.true)));
     }
 
-pub returns-clause-place : goal.returns-clause-place
-returns-clause-place c =
+pub returns-clause-index : goal.returns-clause-index
+returns-clause-index c =
     let m = c.args.self.now in
     sym (last_none m (count m - 1) (λ p. c.loop-i.invariant.none p (omega arith)))

@@ -9,8 +9,8 @@ use Rattle.mask_bits.proofs.chunks.BitChunks.select.Goals as goal
 pub index_in_word-requires : goal.index_in_word-requires
 index_in_word-requires c = omega (arith, c.if-left-ones.true, count-word_bits c.padded_word-word.result c.padded_word-word.type_inv)
 
-pub returns-then-left-ones-clause-place : goal.returns-then-left-ones-clause-place
-returns-then-left-ones-clause-place c =
+pub returns-then-left-ones-clause-index : goal.returns-then-left-ones-clause-index
+returns-then-left-ones-clause-index c =
     let m = c.args.self.now in
     let read = c.padded_word-word.ensures in
     let here = ap (λ (xs : List Bool). slice_get (positions xs) c.loop-i.left) (sym read) ∙ c.index_in_word.ensures.index in
@@ -20,12 +20,12 @@ returns-then-left-ones-clause-place c =
 pub returns-then-left-ones-clause-within : goal.returns-then-left-ones-clause-within
 returns-then-left-ones-clause-within c =
     let m = c.args.self.now in
-    subst (λ (o : Option ℕ). IfSome o (λ p. p < length m)) (sym (returns-then-left-ones-clause-place c)) (place-within m c.args.n)
+    subst (λ (o : Option ℕ). IfSome o (λ p. p < length m)) (sym (returns-then-left-ones-clause-index c)) (place-within m c.args.n)
 
 pub loop-i-preserved : goal.loop-i-preserved
 loop-i-preserved c =
     omega (arith, c.loop-i.invariant, count-word_more c.args.self.now c.loop-i.i, ap count c.padded_word-word.ensures, count-word_bits c.padded_word-word.result c.padded_word-word.type_inv)
 
-pub returns-clause-place : goal.returns-clause-place
-returns-clause-place c =
+pub returns-clause-index : goal.returns-clause-index
+returns-clause-index c =
     sym (place_none c.args.self.now c.loop-i.i c.args.n c.loop-i.left (omega (arith, c.padded_len-i-end.ensures.words)) c.loop-i.invariant)

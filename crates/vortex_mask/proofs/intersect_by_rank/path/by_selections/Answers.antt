@@ -25,5 +25,5 @@ returns-in-Some-clause-narrowed c =
 pub returns-in-None-clause-narrowed : goal.returns-in-None-clause-narrowed
 returns-in-None-clause-narrowed c =
     let list = list_from_ranks _ _ c.set_indices-ranks.result (YieldsList-from_first (λ x. x) (λ s. s) c.set_indices-ranks.result refl)
-    _ _ _ c.intersect_mask_driven-in-None.result c.requires (ap values c.bit_buffer-buffer.ensures.buffer) (c.set_indices-ranks.ensures.places ∙ ap (λ v. positions (values v)) c.bit_buffer.ensures.buffer) c.intersect_mask_driven-in-None.ensures.len c.intersect_mask_driven-in-None.ensures.whole in
+    _ _ _ c.intersect_mask_driven-in-None.result c.requires (ap values c.bit_buffer-buffer.ensures.buffer) (c.set_indices-ranks.ensures.indices ∙ ap (λ v. positions (values v)) c.bit_buffer.ensures.buffer) c.intersect_mask_driven-in-None.ensures.len c.intersect_mask_driven-in-None.ensures.whole in
     grind (arith, list)

@@ -13,9 +13,9 @@ unfolding chosen
 loop-index-init g c =
     let rows = c.args.rows.now in
     let m = values c.args.buffer.now in
-    let places = c.into_iter-index-iterator.ensures.into_iter_gives ∙ c.set_indices-index-items.ensures.places in
+    let places = c.into_iter-index-iterator.ensures.into_iter_gives ∙ c.set_indices-index-items.ensures.indices in
     record {
-      rows = ap (λ xs. xs ++ filter_map (λ i. slice_get rows i) c.into_iter-index-iterator.result) c.new-at_indices.ensures.items
+      rows = ap (λ xs. xs ++ filter_map (λ i. slice_get rows i) c.into_iter-index-iterator.result) c.new-chosen_rows.ensures.items
           ∙ ap (filter_map (λ i. slice_get rows i)) places;
       within = subst (λ (ps : List ℕ). All (λ p. p < length rows) ps) (sym places)
           (subst (λ (n : ℕ). All (λ p. p < n) (positions m)) (sym c.requires) (positions-within m));
@@ -37,7 +37,7 @@ loop-index-preserved g c =
     let rows = c.args.rows.now in
     let index = c.in-Some.index in
     let row = c.index-rows-index.result in
-    let out = c.loop-index.at_indices.items in
+    let out = c.loop-index.chosen_rows.items in
     let rest = c.next.new.self in
     let within : ℕ → Type 0 = λ p. p < length rows in
     let still = subst (All within) c.in-Some.ensures.steps c.loop-index.invariant.within in

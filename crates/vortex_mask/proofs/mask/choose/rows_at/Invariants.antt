@@ -7,6 +7,6 @@ use Rattle.vortex_mask.proofs.mask.choose.rows_at.Given as goal
 -- the rows so far and those at the places to come are the rows chosen
 abbrev pub invariant-loop-index : goal.invariant-loop-index
 invariant-loop-index g l = record {
-  rows : l.at_indices.items ++ filter_map (λ i. slice_get l.rows i) l.index-iterator ≡ chosen l.rows (values l.buffer);
+  rows : l.chosen_rows.items ++ filter_map (λ i. slice_get l.rows i) l.index-iterator ≡ chosen l.rows (values l.buffer);
   within : All (λ p. p < length l.rows) l.index-iterator;
 }

@@ -3,7 +3,7 @@ use Rattle.vortex_mask.specs.Faults.{first_past}
 use Rattle.vortex_mask.proofs.Masks.ExcludedLemmas.{without}
 use Rattle.vortex_mask.proofs.mask.from_indices.exclude.Given as goal
 
--- the list is false at the places so far, and the first of them past its end is noted
+-- the list is false at the indices so far, and the first of them past its end is noted
 abbrev pub invariant-loop-index : goal.invariant-loop-index
 invariant-loop-index g l = record {
   list : l.builder ≡ without (length l.fn.builder) l.yielded;

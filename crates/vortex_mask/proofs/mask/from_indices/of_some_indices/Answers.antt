@@ -10,12 +10,12 @@ use Rattle.vortex_mask.proofs.mask.from_indices.of_some_indices.Goals as goal
 pub new-values-requires : goal.new-values-requires
 new-values-requires c =
     let m : List Bool = values c.in_ok-buffer.buffer in
-    let places : positions m ≡ c.args.indices.items = grind (arith, positions-true_at) in
+    let indices : positions m ≡ c.args.indices.items = grind (arith, positions-true_at) in
     record {
       mixed = record {
-        counted = grind (arith, places);
+        counted = grind (arith, indices);
         some_true = omega arith;
-        some_false = grind (arith, places, length-true_at, count-le-length);
+        some_false = grind (arith, indices, length-true_at, count-le-length);
       };
-      caches = AreOf-only_indices m c.args.indices.items (sym places);
+      caches = AreOf-only_indices m c.args.indices.items (sym indices);
     }

@@ -1,6 +1,6 @@
 use Rattle.std.proofs.Common.{◌≡◌, take}
-use Rattle.mask_bits.specs.Positions.{at_places}
+use Rattle.mask_bits.specs.Positions.{at_indices}
 use Rattle.vortex_mask.proofs.intersect_by_rank.kernels.indices.entries_at.Given as goal
 
 abbrev pub invariant-loop-rank : goal.invariant-loop-rank
-invariant-loop-rank l = l.entries.items ≡ at_places l.places (take l.rank-index l.ranks)
+invariant-loop-rank l = l.entries.items ≡ at_indices l.indices (take l.rank-index l.ranks)

@@ -1,12 +1,12 @@
 use Rattle.std.proofs.Common.{◌<◌}
-use Rattle.mask_bits.proofs.Lists.RankLemmas.{All-at_places}
-use Rattle.vortex_mask.proofs.Masks.PlaceListLemmas.{at_places-ascending}
+use Rattle.mask_bits.proofs.Lists.RankLemmas.{All-at_indices}
+use Rattle.vortex_mask.proofs.Masks.PlaceListLemmas.{at_indices-ascending}
 use Rattle.vortex_mask.proofs.intersect_by_rank.kernels.indices.intersect_by_rank_indices.Goals as goal
 
 pub of_indices-requires-clause-ascending : goal.of_indices-requires-clause-ascending
 of_indices-requires-clause-ascending c =
-    rw c.in_ok-places.ensures (at_places-ascending c.args.len c.args.self_indices.now c.args.mask_indices.now c.requires.self_ascending c.requires.self_within c.requires.mask_ascending c.requires.mask_within)
+    rw c.in_ok-indices.ensures (at_indices-ascending c.args.len c.args.self_indices.now c.args.mask_indices.now c.requires.self_ascending c.requires.self_within c.requires.mask_ascending c.requires.mask_within)
 
 pub of_indices-requires-clause-within : goal.of_indices-requires-clause-within
 of_indices-requires-clause-within c =
-    rw c.in_ok-places.ensures (All-at_places (λ i. i < c.args.len) c.args.self_indices.now c.args.mask_indices.now c.requires.self_within c.requires.mask_within)
+    rw c.in_ok-indices.ensures (All-at_indices (λ i. i < c.args.len) c.args.self_indices.now c.args.mask_indices.now c.requires.self_within c.requires.mask_within)

@@ -1,26 +1,26 @@
 use Rattle.std.proofs.Common.{◌≡◌, ℕ, List, Bool, length, take, ◌++◌, sym, ap, ◌∙◌, arith}
 use Rattle.std.proofs.lemmas.List.{take_at}
 use Rattle.mask_bits.specs.Buffer.{values}
-use Rattle.mask_bits.specs.Positions.{positions, count, true_at, at_places}
+use Rattle.mask_bits.specs.Positions.{positions, count, true_at, at_indices}
 use Rattle.mask_bits.proofs.Lists.Words.BackingBitLemmas.{length-bits_at}
-use Rattle.vortex_mask.proofs.Masks.PlaceListLemmas.{positions-at_places, count-at_places}
+use Rattle.vortex_mask.proofs.Masks.PlaceListLemmas.{positions-at_indices, count-at_indices}
 use Rattle.vortex_mask.proofs.intersect_by_rank.kernels.rank_indices.intersect_bit_buffer_by_rank_indices.Goals as goal
 
 -- what is written, as the words are lent out and given back
 written : (out rest : List ℕ) (size len : ℕ) (a m : List Bool) (qs : List ℕ) → length out ≡ size → m ≡ a → len ≡ length a
-    → values (record { bytes = out; offset = 0; len = length m }) ≡ true_at (length m) (at_places (positions m) qs)
-    → values (record { bytes = take size (out ++ rest); offset = 0; len = len }) ≡ true_at (length a) (at_places (positions a) qs)
+    → values (record { bytes = out; offset = 0; len = length m }) ≡ true_at (length m) (at_indices (positions m) qs)
+    → values (record { bytes = take size (out ++ rest); offset = 0; len = len }) ≡ true_at (length a) (at_indices (positions a) qs)
 written out rest size len a m qs whole same is_len list =
     ap (λ (xs : List ℕ). values (record { bytes = xs; offset = 0; len = len })) (take_at out rest size whole)
     ∙ ap (λ n. values (record { bytes = out; offset = 0; len = n })) (is_len ∙ ap length (sym same))
-    ∙ list ∙ ap (λ (x : List Bool). true_at (length x) (at_places (positions x) qs)) same
+    ∙ list ∙ ap (λ (x : List Bool). true_at (length x) (at_indices (positions x) qs)) same
 
 pub of_words-requires-clause-counted : goal.of_words-requires-clause-counted
 of_words-requires-clause-counted g c =
     let a = values c.args.self_buffer.now in
     sym (ap count (written c.narrow_at_ranks-steps.new.out _ c.in_ok-words.words.len c.len-len.result a c.chunks.result c.args.mask_indices.now
     (omega (arith, c.narrow_at_ranks-steps.auto.out, c.deref_mut.ensures.len)) c.chunks.ensures.list c.len-len.ensures c.narrow_at_ranks-steps.ensures.list)
-    ∙ count-at_places a c.args.mask_indices.now c.requires.ascending c.requires.within)
+    ∙ count-at_indices a c.args.mask_indices.now c.requires.ascending c.requires.within)
 
 pub returns-clause-len : goal.returns-clause-len
 returns-clause-len g c = ap length c.in_ok-of_words.ensures.list ∙ length-bits_at _ 0 c.len-len.result ∙ c.len-len.ensures
@@ -31,4 +31,4 @@ returns-clause-true_indices g c =
     ap positions (c.in_ok-of_words.ensures.list
     ∙ written c.narrow_at_ranks-steps.new.out _ c.in_ok-words.words.len c.len-len.result a c.chunks.result c.args.mask_indices.now
     (omega (arith, c.narrow_at_ranks-steps.auto.out, c.deref_mut.ensures.len)) c.chunks.ensures.list c.len-len.ensures c.narrow_at_ranks-steps.ensures.list)
-    ∙ positions-at_places a c.args.mask_indices.now c.requires.ascending c.requires.within
+    ∙ positions-at_indices a c.args.mask_indices.now c.requires.ascending c.requires.within

@@ -1,5 +1,5 @@
 use Rattle.std.proofs.Common.{◌≡◌, ℕ, ◌<◌, ◌≤◌, ◌^◌, ap, count_ones, arith}
-use Rattle.mask_bits.proofs.Lists.Places.PlaceLemmas.{length-places_from}
+use Rattle.mask_bits.proofs.Lists.Places.PlaceLemmas.{length-indices_from}
 use Rattle.mask_bits.proofs.Lists.Words.WordLemmas.{count-word_bits, length-word_bits}
 use Rattle.mask_bits.specs.Positions.{count}
 use Rattle.mask_bits.specs.Words.{word_bits}
@@ -18,7 +18,7 @@ overflow_add-self-3 g c =
 
 pub invariant_of-self : goal.invariant_of-self
 invariant_of-self g c =
-    let few : c.args.mask_count ≤ 64 = omega (arith, length-places_from 0 (word_bits c.args.mask), length-word_bits c.args.mask) in
+    let few : c.args.mask_count ≤ 64 = omega (arith, length-indices_from 0 (word_bits c.args.mask), length-word_bits c.args.mask) in
     let placed = within c.args.source c.args.mask c.args.mask_count _ c.deposit_bits-result.type_inv c.requires.counted c.deposit_bits-result.ensures in
     (omega (arith, placed, c.self.invariant.0), omega (arith, few, c.self.invariant.1))
 

@@ -1,21 +1,21 @@
 use Rattle.std.proofs.Common.{[], ◌∷◌, ◌++◌, sym, ap, ◌∙◌, arith}
 use Rattle.std.proofs.lemmas.List.{length-append}
-use Rattle.mask_bits.specs.Positions.{positions, count, at_places}
+use Rattle.mask_bits.specs.Positions.{positions, count, at_indices}
 use Rattle.mask_bits.proofs.Lists.Places.PlaceLemmas.{count-le-length}
 use Rattle.vortex_mask.specs.Steps.{StepCounts}
 use Rattle.vortex_mask.proofs.Kernels.DrivenLemmas.{ascending-few, not-above-next, ranks-at_turn, ranks-at_exit, found-more, found-steps}
-use Rattle.vortex_mask.proofs.intersect_by_rank.kernels.mask_driven.places_at_ranks.Goals as goal
+use Rattle.vortex_mask.proofs.intersect_by_rank.kernels.mask_driven.indices_at_ranks.Goals as goal
 
-pub place_of-requires-clause-room : goal.place_of-requires-clause-room
-place_of-requires-clause-room g c =
+pub index_of-requires-clause-room : goal.index_of-requires-clause-room
+index_of-requires-clause-room g c =
     let m = c.args.chunks.now in
     let xs = c.loop-rank.yielded in
     let x = c.in-Some.rank in
     let ranks = ranks-at_turn g.I.Iterator.next_gives c.args.ranks (count m) c.args.true_count c.requires.ranks _ c.into_iter-rank-iterator.ensures.into_iter_gives xs _ c.loop-rank.yielded_by x c.next.new.self c.in-Some.ensures.steps in
     omega (arith, ap (λ (s : StepCounts). s.selections) c.loop-rank.invariant.counted, length-append xs (x ∷ []), ascending-few (count m) (xs ++ x ∷ []) ranks.0 ranks.1, count-le-length m, c.requires.fits)
 
-pub place_of-requires-clause-ahead : goal.place_of-requires-clause-ahead
-place_of-requires-clause-ahead g c =
+pub index_of-requires-clause-ahead : goal.index_of-requires-clause-ahead
+index_of-requires-clause-ahead g c =
     let m = c.args.chunks.now in
     let xs = c.loop-rank.yielded in
     let x = c.in-Some.rank in
@@ -24,18 +24,18 @@ place_of-requires-clause-ahead g c =
 
 pub loop-rank-preserved : goal.loop-rank-preserved
 loop-rank-preserved g c =
-    found-more c.args.chunks.now c.loop-rank.yielded c.in-Some.rank _ _ _ c.place_of.new.self.words c.place_of.new.self.word c.place_of.new.self.before
-    c.loop-rank.places.items c.push.new.self.items c.place_of.result c.loop-rank.steps c.place_of.new.steps
-    c.loop-rank.invariant c.place_of.ensures.place c.place_of.ensures.read c.place_of.ensures.reached c.in_ok-push.ensures.items c.place_of.ensures.ticked
+    found-more c.args.chunks.now c.loop-rank.yielded c.in-Some.rank _ _ _ c.index_of.new.self.words c.index_of.new.self.word c.index_of.new.self.before
+    c.loop-rank.indices.items c.push.new.self.items c.index_of.result c.loop-rank.steps c.index_of.new.steps
+    c.loop-rank.invariant c.index_of.ensures.index c.index_of.ensures.read c.index_of.ensures.reached c.in_ok-push.ensures.items c.index_of.ensures.ticked
 
-pub returns-clause-places : goal.returns-clause-places
-returns-clause-places g c =
+pub returns-clause-indices : goal.returns-clause-indices
+returns-clause-indices g c =
     let m = c.args.chunks.now in
     let run = (ranks-at_exit g.I.Iterator.next_gives c.args.ranks (count m) c.args.true_count c.requires.ranks _ c.into_iter-rank-iterator.ensures.into_iter_gives c.loop-rank.yielded _ c.loop-rank.yielded_by c.next.new.self c.in-None.ensures.steps).0 in
-    (run.0, run.1, run.2, c.loop-rank.invariant.found ∙ ap (at_places (positions m)) (sym run.3))
+    (run.0, run.1, run.2, c.loop-rank.invariant.found ∙ ap (at_indices (positions m)) (sym run.3))
 
 pub returns-clause-steps : goal.returns-clause-steps
 returns-clause-steps g c =
     let m = c.args.chunks.now in
     let all = (ranks-at_exit g.I.Iterator.next_gives c.args.ranks (count m) c.args.true_count c.requires.ranks _ c.into_iter-rank-iterator.ensures.into_iter_gives c.loop-rank.yielded _ c.loop-rank.yielded_by c.next.new.self c.in-None.ensures.steps).1 in
-    found-steps m c.loop-rank.yielded _ _ _ c.loop-rank.places.items c.loop-rank.steps c.args.true_count c.loop-rank.invariant all
+    found-steps m c.loop-rank.yielded _ _ _ c.loop-rank.indices.items c.loop-rank.steps c.args.true_count c.loop-rank.invariant all

@@ -2,7 +2,7 @@ use Rattle.std.proofs.Common.{arith}
 use Rattle.mask_bits.proofs.Lists.Words.WordLemmas.{count-word_bits}
 use Rattle.vortex_mask.proofs.Kernels.DepositListLemmas.{selected-lt}
 use Rattle.vortex_mask.proofs.Kernels.DrivenLemmas.{place-found}
-use Rattle.vortex_mask.proofs.intersect_by_rank.kernels.mask_driven.Reached.place_of.Goals as goal
+use Rattle.vortex_mask.proofs.intersect_by_rank.kernels.mask_driven.Reached.index_of.Goals as goal
 
 pub select-requires-clause-inside : goal.select-requires-clause-inside
 select-requires-clause-inside g c = omega (arith, count-word_bits c.read_to.new.self.word (omega arith))
@@ -10,8 +10,8 @@ select-requires-clause-inside g c = omega (arith, count-word_bits c.read_to.new.
 pub overflow_add-result : goal.overflow_add-result
 overflow_add-result g c = grind (arith, count-word_bits, selected-lt)
 
-pub returns-clause-place : goal.returns-clause-place
-returns-clause-place g c =
+pub returns-clause-index : goal.returns-clause-index
+returns-clause-index g c =
     place-found c.args.chunks.now c.read_to.new.self.words c.read_to.new.self.word c.read_to.new.self.before c.args.rank c.select.result
     c.read_to.ensures.read (omega arith) c.read_to.ensures.reached c.read_to.ensures.inside c.select.ensures.selected
 
