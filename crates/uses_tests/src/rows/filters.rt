@@ -74,12 +74,19 @@ fn of_two_chunks(rt: &impl Abort, alloc: Global, first: &Mask, second: &Mask) {
 }
 
 // The same by one call, with a chunk of no row between the two.
-fn of_chunks(rt: &impl Abort, alloc: Global, first: &Mask, second: &Mask) {
-    assert!(rt; first.len() == 2 && second.len() == 3);
-    let empty = Mask::new_true(0);
-    let chunks: [(&[u8], &Mask); 3] = [(&[3, 1], first), (&[], &empty), (&[4, 1, 5], second)];
-    let rows = found(rt, chunks::filtered_all(alloc, &chunks));
+fn of_chunks(rt: &impl Abort, alloc: Global, chunks: &[(&[u8], &Mask)]) {
+    assert!(rt; chunks.iter().all(|chunk| chunk.0.len() == chunk.1.len()));
+    let rows = found(rt, chunks::filtered_all(alloc, chunks));
     assert!(rt; rows.as_slice() == [3, 4, 5].as_slice());
+}
+
+fn of_three_chunks(rt: &impl Abort, alloc: Global, first: &Mask, second: &Mask) {
+    let empty = Mask::new_true(0);
+    of_chunks(
+        rt,
+        alloc,
+        &[(&[3, 1], first), (&[], &empty), (&[4, 1, 5], second)],
+    );
 }
 
 #[test]
@@ -89,7 +96,7 @@ fn columns_and_chunks(rt: HostRuntime) {
     of_two_columns(&rt, alloc);
     let (first, second) = (mask(&rt, alloc, "10"), mask(&rt, alloc, "101"));
     of_two_chunks(&rt, alloc, &first, &second);
-    of_chunks(&rt, alloc, &first, &second);
+    of_three_chunks(&rt, alloc, &first, &second);
 }
 
 // ---- limits
