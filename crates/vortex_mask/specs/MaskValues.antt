@@ -36,6 +36,10 @@ pub record Contents : Type 0 where
   pub true_count : ℕ
   pub caches : Caches
 
+-- these parts as one
+abbrev pub contents : Packed → ℕ → Option (List ℕ) → Option (List (ℕ × ℕ)) → Contents
+contents buffer true_count indices ranges = record { buffer = buffer; true_count = true_count; caches = record { indices = indices; ranges = ranges } }
+
 -- the same values, with these lists cached
 abbrev pub with_caches : Caches → Contents → Contents
 with_caches cached v = record v { caches = cached }

@@ -6,7 +6,7 @@ ghost use Rattle.std.specs.Borrow.{sem};
 ghost use Rattle.std.specs.Io.BufRead.{Rests};
 ghost use Rattle.mask_bits.specs.Buffer.{values};
 ghost use Rattle.mask_bits.specs.Positions.{count, positions};
-ghost use Rattle.vortex_mask.specs.MaskValues.{IsMixed, IsWhole, AreOf, with_caches, with_indices, with_ranges};
+ghost use Rattle.vortex_mask.specs.MaskValues.{IsMixed, IsWhole, AreOf, contents, with_caches, with_indices, with_ranges};
 ghost use Rattle.vortex_mask.specs.Fraction.{share};
 ghost use Rattle.mask_bits.specs.RunScan.{runs};
 ghost use Rattle.vortex_mask.specs.Lend.{ReachesShare, lends_ranges, IsLentOf, with_list};
@@ -35,13 +35,15 @@ pub struct MaskValues {
 
 impl Model for MaskValues {
     ghost use Rattle.std.specs.Option.{option_map};
-    ghost use Rattle.vortex_mask.specs.MaskValues.{Contents, IsWhole};
+    ghost use Rattle.vortex_mask.specs.MaskValues.{Contents, IsWhole, contents};
 
     ghost Value = { Contents };
 
-    ghost view = { λ v. record { buffer = v.buffer; true_count = v.true_count; caches = record { indices = option_map (λ l. l.items) v.indices; ranges = option_map (λ l. l.items) v.slices } } };
+    ghost view = { λ v. contents v.buffer v.true_count
+        (option_map (λ l. l.items) v.indices) (option_map (λ l. l.items) v.slices) };
 
-    ghost invariant = { λ v. IsWhole (record { buffer = v.buffer; true_count = v.true_count; caches = record { indices = option_map (λ l. l.items) v.indices; ranges = option_map (λ l. l.items) v.slices } }) };
+    ghost invariant = { λ v. IsWhole (contents v.buffer v.true_count
+        (option_map (λ l. l.items) v.indices) (option_map (λ l. l.items) v.slices)) };
 }
 
 impl fmt::Debug for MaskValues {
@@ -59,8 +61,10 @@ impl MaskValues {
         indices: Option<Vec<usize>>,
         slices: Option<Vec<(usize, usize)>>,
     ) -> MaskValues
-        requires { IsWhole (record { buffer = buffer; true_count = true_count; caches = record { indices = option_map (λ l. l.items) indices; ranges = option_map (λ l. l.items) slices } }) }
-        ensures { result ≡ record { buffer = buffer; true_count = true_count; caches = record { indices = option_map (λ l. l.items) indices; ranges = option_map (λ l. l.items) slices } } }
+        requires { IsWhole (contents buffer true_count
+            (option_map (λ l. l.items) indices) (option_map (λ l. l.items) slices)) }
+        ensures { result ≡ contents buffer true_count
+            (option_map (λ l. l.items) indices) (option_map (λ l. l.items) slices) }
     {
         MaskValues {
             buffer,
