@@ -73,20 +73,15 @@ fn of_two_chunks(rt: &impl Abort, alloc: Global, first: &Mask, second: &Mask) {
     assert!(rt; rows.as_slice() == [3, 4, 5].as_slice());
 }
 
-// The same by one call, with a chunk of no row between the two.
+// The same by one call.
 fn of_chunks(rt: &impl Abort, alloc: Global, chunks: &[(&[u8], &Mask)]) {
     assert!(rt; chunks.iter().all(|chunk| chunk.0.len() == chunk.1.len()));
     let rows = found(rt, chunks::filtered_all(alloc, chunks));
     assert!(rt; rows.as_slice() == [3, 4, 5].as_slice());
 }
 
-fn of_three_chunks(rt: &impl Abort, alloc: Global, first: &Mask, second: &Mask) {
-    let empty = Mask::new_true(0);
-    of_chunks(
-        rt,
-        alloc,
-        &[(&[3, 1], first), (&[], &empty), (&[4, 1, 5], second)],
-    );
+fn of_chunk_list(rt: &impl Abort, alloc: Global, rows: (&[u8], &[u8]), masks: (&Mask, &Mask)) {
+    of_chunks(rt, alloc, &[(rows.0, masks.0), (rows.1, masks.1)]);
 }
 
 #[test]
@@ -96,7 +91,7 @@ fn columns_and_chunks(rt: HostRuntime) {
     of_two_columns(&rt, alloc);
     let (first, second) = (mask(&rt, alloc, "10"), mask(&rt, alloc, "101"));
     of_two_chunks(&rt, alloc, &first, &second);
-    of_three_chunks(&rt, alloc, &first, &second);
+    of_chunk_list(&rt, alloc, (&[3, 1], &[4, 1, 5]), (&first, &second));
 }
 
 // ---- limits

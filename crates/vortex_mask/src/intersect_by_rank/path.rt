@@ -30,15 +30,15 @@ pub enum RankPath {
 
 // A word kernel looks at each word of 64 rows. Where fewer than one row in 64 is true, there are
 // fewer true rows than words, and it is quicker to go over a list of these.
-const ROWS_OF_A_WORD: u64 = 64;
+const ROWS_PER_TRUE_BY_INDICES: u64 = 64;
 
 // At one rank in 32 values there are at most two selections for a word of rows, and about there they
 // cost as much as to count and deposit each word. Fewer ranks are found one by one.
-const RANKS_OF_A_SELECTION: u64 = 32;
+const VALUES_PER_RANK_BY_SELECTION: u64 = 32;
 
 // A list of ranks has to be turned into bits, one by one. Above one rank in four values that
 // takes longer than to read the rank mask's bits as they are.
-const RANKS_OF_A_LISTED_ONE: u64 = 4;
+const VALUES_PER_RANK_BY_BITS: u64 = 4;
 
 /// The path of two mixed masks, by their lengths, their counts and which lists of true indices are
 /// cached. It makes no list.
@@ -51,13 +51,13 @@ pub fn rank_path(values: &MaskValues, ranks: &MaskValues) -> RankPath
     if is_listed && values.cached_indices().is_some() && are_few {
         return RankPath::Indices;
     }
-    if times_true(values, ROWS_OF_A_WORD) < values.len() as u128 {
+    if times_true(values, ROWS_PER_TRUE_BY_INDICES) < values.len() as u128 {
         return RankPath::Indices;
     }
-    if times_true(ranks, RANKS_OF_A_SELECTION) < ranks.len() as u128 {
+    if times_true(ranks, VALUES_PER_RANK_BY_SELECTION) < ranks.len() as u128 {
         return RankPath::MaskDriven;
     }
-    if !is_listed || times_true(ranks, RANKS_OF_A_LISTED_ONE) > ranks.len() as u128 {
+    if !is_listed || times_true(ranks, VALUES_PER_RANK_BY_BITS) > ranks.len() as u128 {
         return RankPath::BitBuffers;
     }
     RankPath::RankIndices
@@ -177,11 +177,11 @@ fn by_rank_indices<D: DepositBits>(
 
 // Where fewer than one row in 16 is true, a word has fewer than four of them on the average. The
 // loop over these is then quicker than the network, which takes the same time at every word.
-const ROWS_OF_A_SHORT_LOOP: u64 = 16;
+const ROWS_PER_TRUE_BY_LOOP: u64 = 16;
 
 // Whether words of this density are deposited by the loop.
 fn goes_by_loop(rows: &MaskValues) -> bool
     ensures { result ≡ nat_lt (16 * count (values rows.now.buffer)) (length (values rows.now.buffer)) }
 {
-    times_true(rows, ROWS_OF_A_SHORT_LOOP) < rows.len() as u128
+    times_true(rows, ROWS_PER_TRUE_BY_LOOP) < rows.len() as u128
 }
