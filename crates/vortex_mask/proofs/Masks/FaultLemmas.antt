@@ -1,12 +1,13 @@
 -- The faults of a list of indices: how a loop finds them, and what holds where there is none.
-use Rattle.std.proofs.Common.{◌≡◌, ℕ, zero, suc, ◌+◌, ◌<◌, ◌≤◌, Bool, true, false, nat_eq, nat_lt, nat_le, List, [], ◌∷◌, ◌++◌, length, get_or, drop, Option, Some, None, cond, refl, sym, ap, subst, ◌∙◌, arith}
+use Rattle.std.proofs.Common.{◌≡◌, ℕ, zero, suc, ◌+◌, ◌<◌, ◌≤◌, Bool, true, false, nat_eq, nat_lt, nat_le, List, [], ◌∷◌, ◌++◌, length, get_or, drop, Option, Some, None, cond, refl, sym, ap, subst, ◌∙◌, ◌-◌, inl, inr, arith}
 use Rattle.std.specs.List.{All, list_any}
 use Rattle.std.specs.Option.{option_map, option_or}
 use Rattle.std.specs.List.Sorted.{IsStrictlyIncreasing}
+use Rattle.std.proofs.lemmas.Bool.{cases_lt}
 use Rattle.std.proofs.lemmas.Bool.Decides.{nat_tests}
 use Rattle.std.proofs.lemmas.List.{length-drop}
-use Rattle.std.proofs.lemmas.List.Elements.{All-nil, All-cons, All-head, All-tail}
-use Rattle.std.proofs.lemmas.List.Kept.{IsStrictlyIncreasing-filter}
+use Rattle.std.proofs.lemmas.List.Elements.{All-nil, All-cons, All-head, All-tail, All-from_get_or}
+use Rattle.std.proofs.lemmas.List.Kept.{IsStrictlyIncreasing-filter, AllPairs-from_increasing}
 use Rattle.vortex_mask.specs.Laws.{NoIndexFault}
 use Rattle.vortex_mask.specs.Faults.{common, or_else, first_pair_from, first_unsorted, first_repeated, first_past, index_fault, out_of_bounds}
 use Rattle.vortex_mask.specs.declared.mask.error.MaskError.TheVariants.{UnsortedIndices, RepeatedIndex, IndexOutOfBounds}
@@ -92,6 +93,14 @@ first_past-none len (x ∷ xs) all =
 faultless : (len : ℕ) (xs : List ℕ) → IsStrictlyIncreasing xs → All (λ i. i < len) xs → index_fault len xs ≡ None
 faultless len xs ascending within =
     rw (first_pair-ascending (λ x y. nat_lt y x) 0 xs (λ x y h. grind (arith, nat_tests)) ascending, first_pair-ascending (λ x y. nat_eq y x) 0 xs (λ x y h. grind (arith, nat_tests)) ascending, first_past-none len xs within) refl
+
+-- none is past the length where the last one isn't
+pub faultless-by_last : (len : ℕ) (xs : List ℕ) → IsStrictlyIncreasing xs → (0 < length xs → get_or xs (length xs - 1) 0 < len) → None ≡ index_fault len xs
+faultless-by_last len xs ascending last =
+    sym (faultless len xs ascending (All-from_get_or (λ i. i < len) xs 0 (λ i h. elim (cases_lt (i + 1) (length xs)) [
+      | inl before ↦ omega (arith, AllPairs-from_increasing xs ascending i (length xs - 1) 0 (omega arith) (omega arith), last (omega arith))
+      | inr past ↦ subst (λ (k : ℕ). get_or xs k 0 < len) (omega arith) (last (omega arith))
+    ])))
 
 pub no_index_fault : NoIndexFault
 no_index_fault len xs = (index_fault-none len xs, λ h. faultless len xs h.0 h.1)
