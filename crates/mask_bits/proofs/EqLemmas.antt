@@ -1,15 +1,15 @@
 -- When two buffers hold the same list, by their words.
-use Rattle.std.proofs.Common.{◌≡◌, ◌↔◌, nat_eq, ℕ, ◌+◌, ◌*◌, ◌-◌, ◌/◌, ◌%◌, ◌^◌, ◌<◌, ◌≤◌, Bool, false, List, length, get_or, take, drop, sym, subst, ap, ◌∙◌, inl, inr, arith}
+use Rattle.std.proofs.Common.{◌≡◌, ◌↔◌, nat_eq, ℕ, ◌+◌, ◌*◌, ◌-◌, ◌/◌, ◌%◌, ◌^◌, ◌<◌, ◌≤◌, Bool, false, List, length, drop, sym, ap, ◌∙◌, inl, inr, arith}
 use Rattle.std.specs.Bool.{IsTrue}
 use Rattle.std.specs.Int.{bit_at}
+use Rattle.std.specs.Int.Bits.{bit_or, bit_xor, or_zero_l, xor_self}
 use Rattle.std.proofs.lemmas.Bool.{cases_lt}
-use Rattle.std.proofs.lemmas.List.{ext_get_or, get_or-drop, get_or-take}
-use Rattle.std.proofs.lemmas.Nat.Bits.{same_from_bits_below, bit_at-lt}
-use Rattle.mask_bits.specs.Buffer.{Packed, IsWithinBytes, backing_bit, values, same_values}
+use Rattle.std.proofs.lemmas.List.{ext_get_or, get_or-drop}
+use Rattle.std.proofs.lemmas.Nat.Bits.{same_from_bits, same_from_bits_below, bit_at-lt, bit_at-zero, bit_at_or, bit_at_xor}
+use Rattle.mask_bits.specs.Buffer.{Packed, IsWithinBytes, values, same_values}
 use Rattle.mask_bits.specs.Combine.{AreSameBits}
 use Rattle.mask_bits.specs.Words.{word_bits, window, padded_remainder}
 use Rattle.mask_bits.proofs.BufferLemmas.{length-values, get_or-values, same_values-from_answer}
-use Rattle.mask_bits.proofs.NumberLemmas.{AreBytes, bytes-take, bytes-drop}
 use Rattle.mask_bits.proofs.CombineLemmas.{backing_bit-drop}
 use Rattle.mask_bits.proofs.Lists.Words.FrontLemmas.{length-window, get_or-window}
 use Rattle.mask_bits.proofs.Lists.Words.WordLemmas.{get_or-word_bits}
@@ -25,6 +25,16 @@ same_bit m n low low' e = grind (arith, nat_tests)
 pub word_from_bits : (v w : ℕ) → v < 2 ^ 64 → w < 2 ^ 64 → word_bits v ≡ word_bits w → v ≡ w
 word_from_bits v w fits fits' same =
     same_from_bits_below 64 v w fits fits' (λ j h. grind (arith, same_bit (bit_at v j) (bit_at w j), bit_at-lt v j, bit_at-lt w j, get_or-word_bits v j false h, get_or-word_bits w j false h))
+
+-- no bit in which two words so far differ, with one more pair
+pub unlike-step : (u v w : ℕ) → (bit_or u (bit_xor v w) ≡ 0) ↔ ((u ≡ 0) × (v ≡ w))
+unlike-step u v w = (
+  λ none. (
+    same_from_bits u 0 (λ i. omega (arith, bit_at_or u (bit_xor v w) i, ap (λ n. bit_at n i) none, bit_at-zero i)),
+    same_from_bits v w (λ i. omega (arith, bit_at_or u (bit_xor v w) i, bit_at_xor v w i, ap (λ n. bit_at n i) none, bit_at-zero i, bit_at-lt v i, bit_at-lt w i)),
+  ),
+  λ h. rw (h.0, h.1) (or_zero_l (bit_xor w w) ∙ xor_self w),
+)
 
 -- one more word that is the same
 pub AreSameBits-step : (a b : List ℕ) (p q i v w : ℕ) → AreSameBits a p b q (64 * i) → word_bits v ≡ window a (p + 64 * i) → word_bits w ≡ window b (q + 64 * i) → v ≡ w → AreSameBits a p b q (64 * (i + 1))
@@ -42,44 +52,6 @@ same_word a b p q i n v w same within fits fits' is_v is_w =
 -- the same bits, seen from the byte that they begin in
 pub AreSameBits-drop : (a b from_a from_b : List ℕ) (p q n : ℕ) → from_a ≡ drop (p / 8) a → from_b ≡ drop (q / 8) b → AreSameBits from_a (p % 8) from_b (q % 8) n ↔ AreSameBits a p b q n
 AreSameBits-drop a b from_a from_b p q n is_a is_b = grind (arith, backing_bit-drop)
-
--- ---- whole bytes
-
--- bytes of the same bits are the same
-bytes_from_bits : (a b : List ℕ) → AreBytes a → AreBytes b → length a ≡ length b → AreSameBits a 0 b 0 (8 * length a) → a ≡ b
-bytes_from_bits a b are_a are_b len same =
-    ext_get_or 0 a b len (λ k h.
-    same_from_bits_below 8 (get_or a k 0) (get_or b k 0) (are_a k) (are_b k) (λ j low.
-    let byte : k ≡ (0 + (8 * k + j)) / 8 = omega arith in
-    let bit : j ≡ (0 + (8 * k + j)) % 8 = omega arith in
-    let read : (xs : List ℕ) → nat_eq (bit_at (get_or xs k 0) j) 1 ≡ backing_bit xs (0 + (8 * k + j))
-    = λ xs. ap (λ n. nat_eq (bit_at (get_or xs n 0) j) 1) byte ∙ ap (λ n. nat_eq (bit_at (get_or xs ((0 + (8 * k + j)) / 8) 0) n) 1) bit in
-    same_bit (bit_at (get_or a k 0) j) (bit_at (get_or b k 0) j) (bit_at-lt (get_or a k 0) j) (bit_at-lt (get_or b k 0) j)
-    (read a ∙ same (8 * k + j) (omega arith) ∙ sym (read b))))
-
--- the bits of the first bytes from a whole byte on
-backing_bit-bytes : (bytes from : List ℕ) (p k i : ℕ) → p % 8 ≡ 0 → from ≡ take k (drop (p / 8) bytes) → i < 8 * k → backing_bit from (0 + i) ≡ backing_bit bytes (p + i)
-backing_bit-bytes bytes from p k i whole is h =
-    let place : 0 + i ≡ p % 8 + i = omega (arith, whole) in
-    ap (λ (xs : List ℕ). backing_bit xs (0 + i)) is
-    ∙ ap (λ x. nat_eq (bit_at x ((0 + i) % 8)) 1) (get_or-take k (drop (p / 8) bytes) ((0 + i) / 8) 0 (omega arith))
-    ∙ ap (backing_bit (drop (p / 8) bytes)) place ∙ backing_bit-drop bytes p i
-
--- the same bits, as the same bytes
-pub AreSameBits-bytes : (a b from_a from_b : List ℕ) (p q words : ℕ) → AreBytes a → AreBytes b → p % 8 ≡ 0 → q % 8 ≡ 0
-    → from_a ≡ take (8 * words) (drop (p / 8) a) → from_b ≡ take (8 * words) (drop (q / 8) b) → length from_a ≡ 8 * words → length from_b ≡ 8 * words
-    → (from_a ≡ from_b) ↔ AreSameBits a p b q (64 * words)
-AreSameBits-bytes a b from_a from_b p q words are_a are_b whole_p whole_q is_a is_b len_a len_b =
-    let bit_a : (i : ℕ) → i < 64 * words → backing_bit from_a (0 + i) ≡ backing_bit a (p + i)
-    = λ i h. backing_bit-bytes a from_a p (8 * words) i whole_p is_a (omega arith) in
-    let bit_b : (i : ℕ) → i < 64 * words → backing_bit from_b (0 + i) ≡ backing_bit b (q + i)
-    = λ i h. backing_bit-bytes b from_b q (8 * words) i whole_q is_b (omega arith) in (
-      λ same i h. sym (bit_a i h) ∙ ap (λ (xs : List ℕ). backing_bit xs (0 + i)) same ∙ bit_b i h,
-      λ same. bytes_from_bits from_a from_b
-          (subst AreBytes (sym is_a) (bytes-take (8 * words) (drop (p / 8) a) (bytes-drop (p / 8) a are_a)))
-          (subst AreBytes (sym is_b) (bytes-take (8 * words) (drop (q / 8) b) (bytes-drop (q / 8) b are_b)))
-          (len_a ∙ sym len_b) (λ i h. bit_a i (omega arith) ∙ same i (omega arith) ∙ sym (bit_b i (omega arith))),
-    )
 
 -- ---- lists
 

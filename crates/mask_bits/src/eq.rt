@@ -1,6 +1,6 @@
 //! When two buffers are equal: they hold the same list.
 
-ghost use Rattle.std.specs.Prelude.{◌≡◌, ◌↔◌, ◌+◌, ◌*◌, ◌<◌, ◌≤◌, ℕ, length, IsTrue};
+ghost use Rattle.std.specs.Prelude.{◌≡◌, ◌↔◌, ◌+◌, ◌*◌, ◌<◌, ◌≤◌, ◌^◌, ℕ, length, IsTrue};
 ghost use Rattle.std.specs.Cmp.{bool_eq_equiv, partial_equiv_from_equiv};
 ghost use Rattle.std.proofs.lemmas.Cmp.{on_equiv, lists_equiv};
 ghost use Rattle.mask_bits.specs.Buffer.{IsWithinBytes, values, same_values};
@@ -46,44 +46,50 @@ fn same_words(a: &[u8], a_offset: usize, b: &[u8], b_offset: usize, words: usize
     let (a, a_low) = (&a[a_offset / 8..], (a_offset % 8) as u32);
     let (b, b_low) = (&b[b_offset / 8..], (b_offset % 8) as u32);
     if a_low == 0 && b_low == 0 {
-        if words >= LONG {
-            // the library's own loop over bytes is quicker than blocks of words, once it has begun
-            return &a[..8 * words] == &b[..8 * words];
-        }
-        return agree::<Whole>(a, a_low, b, b_low, 0, words);
+        return agree::<Whole>(a, a_low, b, b_low, words);
     }
+    same_shifted_words(a, a_low, b, b_low, words)
+}
+
+// The same where not both begin at a whole byte. Never inlined, so that the quicker case stays small.
+#[inline(never)]
+fn same_shifted_words(a: &[u8], a_low: u32, b: &[u8], b_low: u32, words: usize) -> bool
+    requires a_within { IsWithinBytes a.now a_low (64 * words) }
+    requires b_within { IsWithinBytes b.now b_low (64 * words) }
+    requires few_a { a_low < 8 }
+    requires few_b { b_low < 8 }
+    ensures { IsTrue result ↔ AreSameBits a.now a_low b.now b_low (64 * words) }
+{
     // words beside which another one lies in both, up to the last
     let inner = (a.len().min(b.len()) / 8).saturating_sub(1).min(words);
-    agree::<Neighbors>(a, a_low, b, b_low, 0, inner)
+    agree::<Neighbors>(a, a_low, b, b_low, inner)
         && agree_block::<Covered>(a, a_low, b, b_low, inner, words)
 }
 
-// From how many words on whole bytes are compared by the library.
-const LONG: usize = 64;
-
 // How many words are compared before an early return.
-const BLOCK: usize = 16;
+const BLOCK: usize = 32;
 
-// Whether words `from` to `to` are the same, where those before are.
-fn agree<R: ReadWord>(a: &[u8], a_low: u32, b: &[u8], b_low: u32, from: usize, to: usize) -> bool
-    requires reads_a { (i : ℕ) → i < to → R.can_read a.now a_low i }
-    requires reads_b { (i : ℕ) → i < to → R.can_read b.now b_low i }
-    requires ordered { from ≤ to }
-    requires before { AreSameBits a.now a_low b.now b_low (64 * from) }
-    ensures { IsTrue result ↔ AreSameBits a.now a_low b.now b_low (64 * to) }
+// Whether the first words are the same.
+#[inline]
+fn agree<R: ReadWord>(a: &[u8], a_low: u32, b: &[u8], b_low: u32, words: usize) -> bool
+    requires reads_a { (i : ℕ) → i < words → R.can_read a.now a_low i }
+    requires reads_b { (i : ℕ) → i < words → R.can_read b.now b_low i }
+    requires fits { 64 * words < 2 ^ 64 }
+    ensures { IsTrue result ↔ AreSameBits a.now a_low b.now b_low (64 * words) }
 {
-    let mut next = from;
+    let blocks = words / BLOCK;
     // whole blocks, so that each is a few vectors and no loop
-    while BLOCK <= to - next {
-        if !agree_block::<R>(a, a_low, b, b_low, next, next + BLOCK) {
+    for k in 0..blocks {
+        if !agree_block::<R>(a, a_low, b, b_low, BLOCK * k, BLOCK * k + BLOCK) {
             return false;
         }
-        next += BLOCK;
     }
-    agree_block::<R>(a, a_low, b, b_low, next, to)
+    agree_block::<R>(a, a_low, b, b_low, BLOCK * blocks, words)
 }
 
-// The same with no early return, so that several words are compared at once.
+// Whether words `from` to `to` are the same too, where those before are. With no early return, so
+// that several words are compared at once: the bits in which any two differ are gathered, and tested
+// at the end.
 #[inline]
 fn agree_block<R: ReadWord>(
     a: &[u8],
@@ -99,9 +105,9 @@ fn agree_block<R: ReadWord>(
     requires before { AreSameBits a.now a_low b.now b_low (64 * from) }
     ensures { IsTrue result ↔ AreSameBits a.now a_low b.now b_low (64 * to) }
 {
-    let mut same = true;
+    let mut unlike = 0;
     for i in from..to {
-        same &= R::word(a, a_low, i) == R::word(b, b_low, i);
+        unlike |= R::word(a, a_low, i) ^ R::word(b, b_low, i);
     }
-    same
+    unlike == 0
 }
