@@ -4,6 +4,7 @@ What the scripts beside this file share. It reads text and runs nothing.
 """
 import re
 import textwrap
+from functools import cache
 from pathlib import Path
 
 ROOT = Path(__file__).resolve().parent.parent
@@ -127,20 +128,33 @@ def is_test(file):
     return file.parts[0] in TEST_CRATES or "tests" in file.parts or file.name == "tests.rt"
 
 
+@cache
 def library_crates():
     names = [line.split(":")[0].split()[0] for line in (ROOT / "crates.txt").read_text().splitlines() if ":" in line]
     return [it for it in names if it != "uses"]
 
 
+@cache
 def functions_of(crate):
     files = sorted(it for it in (CRATES / crate / "src").rglob("*.rt") if not is_test(it.relative_to(CRATES)))
     return [it for file in files for it in functions_in(file)]
 
 
-def types_of(crate):
-    """The ghost members of each type's impls: what always holds of it, and how it steps."""
+def clauses_of(crate):
+    """The names of the clauses of each function, and of the ghost members of each type's impls: what always holds of
+    it, and how it steps."""
     found = {}
     for file in (CRATES / crate / "src").rglob("*.rt"):
         for block in blocks_of(blanked(file.read_text())):
             found.setdefault(block.owner, set()).update(block.ghosts)
+    for it in functions_of(crate):
+        found.setdefault(it.name, set()).update(it.clauses)
     return found
+
+
+@cache
+def imports(file):
+    """The imports of a file of code or of terms: each with `use` or `ghost use`, the path up to the names, and these."""
+    line = r"^(?:pub )?((?:ghost )?use) ([\w.:]+(?:\.|::))(?:\{([^}]*)\}|(\w+))"
+    found = re.findall(line, file.read_text(), re.M)
+    return [(kind, path, re.findall(r"[^\s,]+", group or name)) for kind, path, group, name in found]
