@@ -1,9 +1,10 @@
-"""Reads Rust with contracts: the functions of a crate, their clauses, and where they stand.
+"""Reads Rust with contracts: the functions of a crate, their clauses, and where they stand; and spec files.
 
 What the scripts beside this file share. It reads text and runs nothing.
 """
 import re
 import textwrap
+from collections import namedtuple
 from functools import cache
 from pathlib import Path
 
@@ -49,28 +50,20 @@ def blanked(text):
 def closing(text, at):
     """The place past the brace that closes the one at `at`."""
     depth = 0
-    for i in range(at, len(text)):
-        depth += {"{": 1, "}": -1}.get(text[i], 0)
+    for it in re.compile(r"[{}]").finditer(text, at):
+        depth += 1 if it[0] == "{" else -1
         if depth == 0:
-            return i + 1
+            return it.end()
     return len(text)
 
 
 def without_generics(head):
-    while "<" in head:
-        shorter = re.sub(r"<[^<>]*>", "", head)
-        if shorter == head:
-            break
-        head = shorter
-    return head
+    shorter = re.sub(r"<[^<>]*>", "", head)
+    return head if shorter == head else without_generics(shorter)
 
 
-class Block:
-    """An impl or a trait: where it stands, its type, the trait of an impl, whether a public trait, its ghost members."""
-
-    def __init__(self, start, end, owner, trait, is_public_trait, ghosts):
-        self.start, self.end, self.owner, self.trait = start, end, owner, trait
-        self.is_public_trait, self.ghosts = is_public_trait, ghosts
+# An impl or a trait: where it stands, its type, the trait of an impl, whether a public trait, its ghost members.
+Block = namedtuple("Block", "start end owner trait is_public_trait ghosts")
 
 
 def blocks_of(code):
@@ -85,19 +78,17 @@ def blocks_of(code):
 
 def clauses_after(code, text, at):
     """The clauses of the function whose name ends at `at`, where its body begins, and where it ends."""
-    clauses, depth, i = {}, 0, at
-    while i < len(code):
-        clause = re.compile(r"\b(requires|ensures)\b\*?\s*(\w*)\s*\{").match(code, i) if depth == 0 else None
-        if clause:
-            end = closing(code, clause.end() - 1)
-            clauses[clause[2] or clause[1]] = (clause[1], text[clause.end() : end - 1])
-            i = end
-            continue
-        depth += {"(": 1, "[": 1, ")": -1, "]": -1}.get(code[i], 0)
-        if depth == 0 and code[i] in "{;":
-            return clauses, i, closing(code, i) if code[i] == "{" else i + 1
-        i += 1
-    return clauses, i, i
+    clauses, depth = {}, 0
+    part = re.compile(r"[(\[]|[)\]]|\b(requires|ensures)\b\*?\s*(\w*)\s*\{|[{;]")
+    while it := part.search(code, at):
+        at = closing(code, it.end() - 1) if it[0].endswith("{") else it.end()
+        if it[0] in "([)]":
+            depth += 1 if it[0] in "([" else -1
+        elif it[1] and depth == 0:
+            clauses[it[2] or it[1]] = (it[1], text[it.end() : at - 1])
+        elif depth == 0:
+            return clauses, it.start(), at
+    return clauses, len(code), len(code)
 
 
 def module_of(file):
@@ -123,11 +114,6 @@ def functions_in(file):
         yield Function(file, text, f"{owner}::{it[2]}", path, it.start(), sign, end, clauses, is_public, is_of_trait)
 
 
-def is_test(file):
-    """Whether a file, by its path below the crates, has tests alone."""
-    return file.parts[0] in TEST_CRATES or "tests" in file.parts or file.name == "tests.rt"
-
-
 @cache
 def library_crates():
     names = [line.split(":")[0].split()[0] for line in (ROOT / "crates.txt").read_text().splitlines() if ":" in line]
@@ -136,13 +122,14 @@ def library_crates():
 
 @cache
 def functions_of(crate):
-    files = sorted(it for it in (CRATES / crate / "src").rglob("*.rt") if not is_test(it.relative_to(CRATES)))
+    """The functions of a crate, but for those of tests."""
+    files = sorted((CRATES / crate / "src").rglob("*.rt")) if crate not in TEST_CRATES else []
+    files = [it for it in files if "tests" not in it.relative_to(CRATES).with_suffix("").parts]
     return [it for file in files for it in functions_in(file)]
 
 
 def clauses_of(crate):
-    """The names of the clauses of each function, and of the ghost members of each type's impls: what always holds of
-    it, and how it steps."""
+    """The clauses of each function, and the ghost members of each type's impls, as what always holds of it."""
     found = {}
     for file in (CRATES / crate / "src").rglob("*.rt"):
         for block in blocks_of(blanked(file.read_text())):
@@ -153,8 +140,27 @@ def clauses_of(crate):
 
 
 @cache
-def imports(file):
-    """The imports of a file of code or of terms: each with `use` or `ghost use`, the path up to the names, and these."""
+def imports(text):
+    """The imports of code or of a spec file: `use` or `ghost use`, the path up to the names, and the names."""
     line = r"^(?:pub )?((?:ghost )?use) ([\w.:]+(?:\.|::))(?:\{([^}]*)\}|(\w+))"
-    found = re.findall(line, file.read_text(), re.M)
+    found = re.findall(line, text, re.M)
     return [(kind, path, re.findall(r"[^\s,]+", group or name)) for kind, path, group, name in found]
+
+
+@cache
+def specs():
+    """The texts of the spec files by module, crate by crate: those that most others import first, but each after
+    those that it imports."""
+    files = [it for crate in library_crates() for it in sorted((CRATES / crate / "specs").rglob("*.antt"))]
+    modules = {it: ".".join(["Rattle", *it.relative_to(CRATES).with_suffix("").parts]) for it in files}
+    texts = {modules[it]: it.read_text() for it in files if it.stem != "Lib"}
+    imported = {module: [path[:-1] for _, path, _ in imports(text)] for module, text in texts.items()}
+
+    def rank(module):
+        return library_crates().index(module.split(".")[1]), -sum(module in it for it in imported.values())
+
+    def with_imports(module):
+        return [*(it for low in imported.get(module, ()) for it in with_imports(low)), module]
+
+    ordered = [it for module in sorted(texts, key=rank) for it in with_imports(module)]
+    return {it: texts[it] for it in ordered if it in texts}
