@@ -163,7 +163,7 @@ fn is_appended<R: Abort + Print>(rt: &R, answer: Result<(), AllocError>) -> bool
     outcome(rt, answer.map_err(MaskError::Memory)).is_some()
 }
 
-// ---- a builder that is given up
+// ---- a builder that is taken by value
 
 #[test]
 fn freeze(rt: HostRuntime) {

@@ -178,7 +178,7 @@ fn pointwise_calls(rt: HostRuntime) {
     try_rows(&rt, &rows);
 }
 
-// ---- a buffer of bytes that are given up
+// ---- a buffer of bytes that are taken by value
 
 #[test]
 fn of_bytes(rt: HostRuntime) {
