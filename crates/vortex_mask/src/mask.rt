@@ -10,6 +10,7 @@ mod fraction;
 mod from_indices;
 mod from_slices;
 mod iter;
+mod limit;
 mod slice;
 mod values;
 
