@@ -1,9 +1,11 @@
 -- The network on one byte, computed at each of the 256 mask bytes and, for the way back, at each source byte too.
-use Rattle.std.proofs.Common.{◌≡◌, ℕ, zero, suc, ◌+◌, ◌-◌, ◌*◌, ◌/◌, ◌%◌, ◌^◌, ◌<◌, ◌≤◌, Bool, true, false, ◌&&◌, T, eqb, refl, ap, ◌∙◌, subst, arith, bit_and, bit_xor, eq-zero-or-pos, inl, inr, eqb→eq, ltb→lt, ltb, count_ones, pow-suc, sym}
-use Rattle.std.proofs.lemmas.Nat.{ones-le, one_shl, pow_below}
+use Rattle.std.proofs.Common.{◌≡◌, ℕ, zero, suc, ◌+◌, ◌-◌, ◌*◌, ◌/◌, ◌%◌, ◌^◌, ◌<◌, ◌≤◌, Bool, true, false, ◌&&◌, T, eqb, refl, ap, ◌∙◌, subst, arith, bit_and, bit_xor, eq-zero-or-pos, inl, inr, eqb→eq, ltb→lt, ltb, count_ones, pow-suc, sym, ap₂, ◌⊎◌, mod-lt}
+use Rattle.std.proofs.lemmas.Nat.{ones-le, one_shl, pow_below, pow_pos, and_mask}
 use lib.Count.{ones_step}
+use lib.Pow.{field, mod-mod-pow}
 use Rattle.vortex_mask.specs.Bytes.{halves_summed, clear_below, place_after, packed_after, landed_in, odd_places, moved_down, with_moved, halved, zeros_before, moved_up}
-use Rattle.vortex_mask.proofs.Deposits.DepositLemmas.{deposit}
+use Rattle.vortex_mask.proofs.Deposits.DepositLemmas.{deposit, deposit-odd, deposit-even}
+use Rattle.vortex_mask.proofs.Deposits.SetPlaceLemmas.{parity}
 
 -- ---- a test of each number below one
 
@@ -160,13 +162,31 @@ landed_in-lt s m hs hm =
 
 -- ---- the way back
 
-back_by : ℕ → ℕ → ℕ → ℕ → ℕ → ℕ
-unfolding moved_up
-back_by l0 l1 l2 p b = moved_up 1 l0 (moved_up 2 l1 (moved_up 4 l2 (bit_and b p)))
+-- of its source a mask takes as many low bits as it has set
+deposit-taken : (k s m : ℕ) → deposit k (s % 2 ^ ones_among k m) m ≡ deposit k s m
+unfolding deposit ones_among
+deposit-taken zero s m = refl
+deposit-taken (suc k) s m = by (λ x. deposit-taken k x (m / 2)) (parity m)
+  where
+    c : ℕ
+    c = ones_among k (m / 2)
 
--- the mask's part of the work is done once for its 256 source bytes
+    by : ((x : ℕ) → deposit k (x % 2 ^ c) (m / 2) ≡ deposit k x (m / 2)) → (m % 2 ≡ 0) ⊎ (m % 2 ≡ 1) → deposit (suc k) (s % 2 ^ ones_among (suc k) m) m ≡ deposit (suc k) s m
+    by half (inl even) =
+        let e : ones_among (suc k) m ≡ c = omega arith in
+        ap (λ n. deposit (suc k) (s % 2 ^ n) m) e ∙ deposit-even k _ m even ∙ ap (λ d. d * 2) (half s) ∙ sym (deposit-even k s m even)
+    by half (inr odd) =
+        let e : ones_among (suc k) m ≡ c + 1 = omega arith in
+        let rest : deposit k (s % 2 ^ (c + 1) / 2) (m / 2) ≡ deposit k (s / 2) (m / 2) = ap (λ x. deposit k x (m / 2)) (field s c 1) ∙ half (s / 2) in
+        ap (λ n. deposit (suc k) (s % 2 ^ n) m) e ∙ deposit-odd k _ m odd ∙ ap₂ (λ d b. d * 2 + b) rest (mod-mod-pow s c 1) ∙ sym (deposit-odd k s m odd)
+
+back_by : ℕ → ℕ → ℕ → ℕ → ℕ
+unfolding moved_up
+back_by l0 l1 l2 b = moved_up 1 l0 (moved_up 2 l1 (moved_up 4 l2 b))
+
+-- the mask's part of the work is done once, for all that its set bits may take
 row : ℕ → ℕ → ℕ → ℕ → ℕ → Bool
-row l0 l1 l2 p m = all_below (λ b. eqb (back_by l0 l1 l2 p b) (deposit 8 b m)) 256
+row l0 l1 l2 p m = all_below (λ b. eqb (back_by l0 l1 l2 b) (deposit 8 b m)) (p + 1)
 
 table : ℕ → Bool
 table m = row (landed_in 0 m) (landed_in 1 m) (landed_in 2 m) (packed_after 3 m) m
@@ -175,8 +195,14 @@ computed : T (all_below table 256)
 unfolding table row back_by moved_up deposit landed_in packed_after place_after clear_below
 computed = tt
 
--- the source byte b, of which the lowest bits are taken, through the stages back to its places
-pub moved_back : (m b : ℕ) → m < 256 → b < 256 → moved_up 1 (landed_in 0 m) (moved_up 2 (landed_in 1 m) (moved_up 4 (landed_in 2 m) (bit_and b (packed_after 3 m)))) ≡ deposit 8 b m
+-- the source, of which the lowest bits are taken, through the stages back to its places
+pub moved_back : (m b : ℕ) → m < 256 → moved_up 1 (landed_in 0 m) (moved_up 2 (landed_in 1 m) (moved_up 4 (landed_in 2 m) (bit_and b (packed_after 3 m)))) ≡ deposit 8 b m
 unfolding table row back_by
-moved_back m b hm hb =
-    eqb→eq _ _ (every_below (λ x. eqb (back_by (landed_in 0 m) (landed_in 1 m) (landed_in 2 m) (packed_after 3 m) x) (deposit 8 x m)) 256 (every_below table 256 computed m hm) b hb)
+moved_back m b hm =
+    let n = ones_among 8 m in
+    let p : packed_after 3 m ≡ 2 ^ n - 1 = eqb→eq _ _ (every_below (λ x. eqb (packed_after 3 x) (2 ^ ones_among 8 x - 1)) 256 full m hm) in
+    let taken : bit_and b (packed_after 3 m) ≡ b % 2 ^ n = ap (bit_and b) p ∙ and_mask b n in
+    let fits : b % 2 ^ n < packed_after 3 m + 1 = omega (arith, p, mod-lt b (pow_pos n)) in
+    ap (λ x. moved_up 1 (landed_in 0 m) (moved_up 2 (landed_in 1 m) (moved_up 4 (landed_in 2 m) x))) taken
+    ∙ eqb→eq _ _ (every_below (λ x. eqb (back_by (landed_in 0 m) (landed_in 1 m) (landed_in 2 m) x) (deposit 8 x m)) (packed_after 3 m + 1) (every_below table 256 computed m hm) (b % 2 ^ n) fits)
+    ∙ deposit-taken 8 b m

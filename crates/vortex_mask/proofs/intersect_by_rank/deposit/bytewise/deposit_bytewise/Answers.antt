@@ -37,4 +37,4 @@ returns c =
       c.compress-packing.ensures.landed_1 j h,
       c.compress-packing.ensures.landed_2 j h,
     ) in
-    back ∙ moved_back b taken (byte_at-lt m j) (omega arith))
+    back ∙ moved_back b taken (byte_at-lt m j))
