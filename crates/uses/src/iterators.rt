@@ -5,7 +5,8 @@ ghost use Rattle.std.specs.List.Sorted.{IsStrictlyIncreasing};
 ghost use Rattle.mask_bits.specs.Lists.{concat, not_of};
 ghost use Rattle.mask_bits.specs.Positions.{positions, true_at};
 ghost use Rattle.vortex_mask.specs.Faults.{common, index_fault};
-ghost use Rattle.vortex_mask.specs.Mask.{truth, variant, mixed, caches};
+ghost use Rattle.vortex_mask.specs.Caches.{caches};
+ghost use Rattle.vortex_mask.specs.Mask.{truth, variant, mixed};
 
 use std::alloc::Global;
 use vortex_mask::{AllOr, Mask, MaskError};

@@ -8,7 +8,8 @@ use Rattle.vortex_mask.specs.Deposit.{Deposits, selected}
 use Rattle.vortex_mask.specs.Faults.{index_fault, out_of_bounds, common, range_fault}
 use Rattle.vortex_mask.specs.Fraction.{share, share_by_variant}
 use Rattle.vortex_mask.specs.Lend.{ReachesShare}
-use Rattle.vortex_mask.specs.Mask.{Variant, truth, variant, contents, caches, where_mixed, all_true, all_false, mixed, fitting_variant, variant_and, variant_or, variant_not, variant_of_no_part, IsUniform}
+use Rattle.vortex_mask.specs.Caches.{caches, where_mixed}
+use Rattle.vortex_mask.specs.Mask.{Variant, truth, variant, contents, all_true, all_false, mixed, fitting_variant, variant_and, variant_or, variant_not, variant_of_no_part, IsUniform}
 use Rattle.vortex_mask.specs.MaskValues.{AreOf, Contents, no_caches, only_indices, only_ranges, with_indices, with_ranges}
 use Rattle.vortex_mask.specs.Path.{path, path_of, path_caches, narrowed_caches, AreStepsOf}
 use Rattle.vortex_mask.specs.Steps.{StepCounts, no_steps, word_steps, driven_steps}

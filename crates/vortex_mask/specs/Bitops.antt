@@ -1,5 +1,5 @@
--- What the result of a boolean call keeps of its operands' lists: where it is one of them, what that one keeps.
-use Rattle.vortex_mask.specs.Mask.{caches}
+-- What the result of a boolean call caches: where it is one of its operands, what that one caches.
+use Rattle.vortex_mask.specs.Caches.{caches}
 use Rattle.vortex_mask.specs.MaskValues.{Caches, no_caches}
 use Rattle.vortex_mask.specs.declared.mask.Mask.{Mask}
 use Rattle.vortex_mask.specs.declared.mask.Mask.TheVariants.{AllTrue, AllFalse, Values}

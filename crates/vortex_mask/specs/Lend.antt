@@ -3,7 +3,8 @@ use Rattle.std.specs.Prelude.{ℕ, ◌≡◌, ◌*◌, ◌≤◌, Bool, true, fa
 use Rattle.std.specs.Option.{option_map}
 use Rattle.mask_bits.specs.Positions.{positions, count}
 use Rattle.mask_bits.specs.RunScan.{runs}
-use Rattle.vortex_mask.specs.Mask.{Variant, all_true, all_false, mixed, truth, variant, contents, caches}
+use Rattle.vortex_mask.specs.Caches.{caches}
+use Rattle.vortex_mask.specs.Mask.{Variant, all_true, all_false, mixed, truth, variant, contents}
 use Rattle.vortex_mask.specs.MaskValues.{Caches, with_caches, with_indices, with_ranges}
 use Rattle.vortex_mask.specs.declared.mask.all_or.AllOr.{AllOr}
 use Rattle.vortex_mask.specs.declared.mask.all_or.AllOr.TheVariants.{All, None, Some}

@@ -2,6 +2,7 @@ pub mod AllOr
 pub mod Ascending
 pub mod Bitops
 pub mod Bytes
+pub mod Caches
 pub mod Concat
 pub mod Deposit
 pub mod DepositLaws

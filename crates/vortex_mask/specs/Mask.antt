@@ -5,7 +5,7 @@ use Rattle.std.specs.Cmp.Lexicographic.{pointwise}
 use Rattle.std.specs.List.{list_all, list_any}
 use Rattle.std.specs.Ordering.{on}
 use Rattle.mask_bits.specs.Buffer.{Packed, values}
-use Rattle.vortex_mask.specs.MaskValues.{Contents, Caches, no_caches}
+use Rattle.vortex_mask.specs.MaskValues.{Contents}
 use Rattle.mask_bits.specs.Positions.{count, repeated}
 use Rattle.vortex_mask.specs.declared.mask.all_or.AllOr.{AllOr}
 use Rattle.vortex_mask.specs.declared.mask.all_or.AllOr.TheVariants as all_or
@@ -78,18 +78,6 @@ abbrev pub held_buffer : Mask → AllOr Packed
 held_buffer (AllTrue n) = all_or.All
 held_buffer (AllFalse n) = all_or.None
 held_buffer (Values v) = all_or.Some v.value.buffer
-
--- the lists that a mask keeps of its true indices
-abbrev pub caches : Mask → Caches
-caches (AllTrue n) = no_caches
-caches (AllFalse n) = no_caches
-caches (Values v) = v.value.caches
-
--- these lists where a mask is held as `Values`, and neither elsewhere
-abbrev pub where_mixed : Mask → Caches → Caches
-where_mixed (AllTrue n) cached = no_caches
-where_mixed (AllFalse n) cached = no_caches
-where_mixed (Values v) cached = cached
 
 -- whether two masks have the same list
 abbrev pub same_truth : Mask → Mask → Bool

@@ -3,7 +3,8 @@ use Rattle.std.specs.Prelude.{ℕ, ◌≡◌, ◌≤◌, ◌*◌, Bool, true, fa
 use Rattle.mask_bits.specs.Buffer.{values}
 use Rattle.mask_bits.specs.Positions.{positions, count}
 use Rattle.mask_bits.specs.Words.{started_words}
-use Rattle.vortex_mask.specs.Mask.{truth, caches, where_mixed}
+use Rattle.vortex_mask.specs.Caches.{caches, where_mixed}
+use Rattle.vortex_mask.specs.Mask.{truth}
 use Rattle.vortex_mask.specs.MaskValues.{Contents, Caches, no_caches, only_indices}
 use Rattle.vortex_mask.specs.Steps.{StepCounts, no_steps, word_steps, driven_steps}
 use Rattle.vortex_mask.specs.declared.intersect_by_rank.path.RankPath.{RankPath}
@@ -28,14 +29,14 @@ path len trues rank_len rank_trues self_cached false =
 abbrev pub path_of : Contents → Contents → RankPath
 path_of v w = path (length (values v.buffer)) (count (values v.buffer)) (length (values w.buffer)) (count (values w.buffer)) (is_some v.caches.indices) (is_some w.caches.indices)
 
--- what a mixed result r keeps: its true indices, where the path finds these one by one
+-- what a mixed result r caches: its true indices, where the path finds these one by one
 abbrev pub path_caches : RankPath → List Bool → Caches
 path_caches Indices r = only_indices (positions r)
 path_caches MaskDriven r = only_indices (positions r)
 path_caches BitBuffers r = no_caches
 path_caches RankIndices r = no_caches
 
--- what a rank intersection m of two masks keeps: an all-true mask narrows to the other one with its lists, and two mixed ones to a mask that keeps what their path leaves
+-- what a rank intersection m of two masks caches: an all-true mask narrows to the other one with its lists, and two mixed ones to a mask that caches what their path leaves
 abbrev pub narrowed_caches : Mask → Mask → Mask → Caches
 narrowed_caches (AllTrue n) b m = caches b
 narrowed_caches (Values v) (AllTrue n) m = caches (Values v)

@@ -3,7 +3,8 @@
 ghost use Rattle.std.specs.Prelude.{◌≡◌, ◌≢◌, ◌⊎◌, IsOk, IfOk, IsOkUnless, Ok, alloc_error, length};
 ghost use Rattle.mask_bits.specs.Lists.{and_of, or_of, not_of, and_not_of};
 ghost use Rattle.vortex_mask.specs.Bitops.{and_caches, or_caches, and_not_caches};
-ghost use Rattle.vortex_mask.specs.Mask.{truth, variant, fitting_variant, variant_and, variant_or, variant_not, all_true, all_false, mixed, caches};
+ghost use Rattle.vortex_mask.specs.Caches.{caches};
+ghost use Rattle.vortex_mask.specs.Mask.{truth, variant, fitting_variant, variant_and, variant_or, variant_not, all_true, all_false, mixed};
 ghost use Rattle.vortex_mask.specs.MaskValues.{no_caches};
 
 use crate::laws;
@@ -12,7 +13,7 @@ use std::alloc::Global;
 
 /// Boolean calls, value by value, of masks of one length.
 ///
-/// The result keeps an operand's lists of true indices where it is that operand.
+/// The result caches an operand's lists of true indices where it is that operand.
 #[tactic(auto, using(crate::proofs::Masks::MaskLemmas::variant_facts, crate::proofs::Masks::BitopLemmas::bitop_facts))]
 impl Mask {
     /// The values that are true in both.

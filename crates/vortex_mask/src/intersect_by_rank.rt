@@ -8,7 +8,8 @@ mod select;
 mod steps;
 
 ghost use Rattle.std.specs.Prelude.{◌≡◌, ◌≢◌, ◌<◌, ◌⊎◌, ◌∷◌, IsOk, IfOk, All, fold, map, length, IsOkUnless, alloc_error};
-ghost use Rattle.vortex_mask.specs.Mask.{truth, variant, fitting_variant, variant_and, all_false, mixed, caches};
+ghost use Rattle.vortex_mask.specs.Caches.{caches};
+ghost use Rattle.vortex_mask.specs.Mask.{truth, variant, fitting_variant, variant_and, all_false, mixed};
 ghost use Rattle.mask_bits.specs.Positions.{positions, count, at_indices, rank_intersection};
 ghost use Rattle.mask_bits.specs.Stacks.{IsStack, folded_left};
 ghost use Rattle.vortex_mask.specs.Path.{narrowed_caches, AreNarrowingSteps};
@@ -107,7 +108,7 @@ impl Mask {
     /// next one over the true values of the one before it. Without `masks` it is a clone.
     ///
     /// A stack of filters becomes one by this call. Once the result so far is all false no kernel
-    /// runs. Which lists of its true indices the result keeps is left open: it depends on each step.
+    /// runs. Which lists of its true indices the result caches is left open: it depends on each step.
     pub fn intersect_all_by_rank(&self, alloc: Global, masks: &[Mask]) -> Result<Mask, MaskError>
         requires { IsStack (truth self.now ∷ map truth masks.now) }
         ensures len { IfOk result (λ m. length (truth m) ≡ length (truth self.now)) }

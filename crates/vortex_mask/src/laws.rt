@@ -7,7 +7,8 @@ ghost use Rattle.mask_bits.specs.RunScan.{runs};
 ghost use Rattle.mask_bits.specs.Runs.{AreRanges};
 ghost use Rattle.vortex_mask.specs.DepositLaws.{DepositAtAllOnes, DepositAtNoOnes, DepositIsRankIntersection, DepositOfEvenSource, DepositOfOddSource, WithoutLowestIsBelow};
 ghost use Rattle.vortex_mask.specs.Laws.{UniformIsOfOneValue, NoIndexFault, AllTrueHasTrueValues, AllFalseHasFalseValues, SameTruthIsOneList};
-ghost use Rattle.vortex_mask.specs.Mask.{truth, variant, fitting_variant, caches};
+ghost use Rattle.vortex_mask.specs.Caches.{caches};
+ghost use Rattle.vortex_mask.specs.Mask.{truth, variant, fitting_variant};
 ghost use Rattle.vortex_mask.specs.MaskValues.{AreOf};
 
 use crate::mask::Mask;
@@ -27,7 +28,7 @@ pub fn one_variant(mask: &Mask)
     }
 }
 
-/// The lists that a mask keeps are its true indices and its runs, which hold exactly these indices.
+/// The lists that a mask caches are its true indices and its runs, which hold exactly these indices.
 pub fn cached_lists(mask: &Mask)
     ensures cached { AreOf (truth mask.now) (caches mask.now) }
     ensures lent { AreRanges (truth mask.now) (runs (truth mask.now)) }
@@ -36,7 +37,7 @@ pub fn cached_lists(mask: &Mask)
         Mask::AllTrue(_) => {}
         Mask::AllFalse(_) => {}
         Mask::Values(values) => {
-            // what it keeps is of its own list
+            // what it caches is of its own list
             let _ = values.cached_slices();
         }
     }

@@ -18,7 +18,8 @@ ghost use Rattle.std.specs.Prelude.{◌≡◌, ◌≢◌, ◌+◌, ◌<◌, ◌�
 ghost use Rattle.std.specs.Option.{option_copied};
 ghost use Rattle.std.specs.List.Sorted.{IsNonDecreasing};
 ghost use Rattle.mask_bits.specs.Buffer.{values};
-ghost use Rattle.vortex_mask.specs.Mask.{truth, variant, all_true, all_false, mixed, contents, caches};
+ghost use Rattle.vortex_mask.specs.Caches.{caches};
+ghost use Rattle.vortex_mask.specs.Mask.{truth, variant, all_true, all_false, mixed, contents};
 ghost use Rattle.mask_bits.specs.Positions.{positions, count, count_below};
 ghost use Rattle.vortex_mask.specs.declared.mask.Mask.TheVariants.{AllTrue};
 ghost use Rattle.vortex_mask.specs.Fraction.{share, share_by_variant};

@@ -8,7 +8,8 @@ mod rank_indices;
 ghost use Rattle.std.specs.Prelude.{◌≡◌, ◌*◌, ◌<◌, ◌≤◌, IfOk, IsOkUnless, alloc_error, vec_len};
 ghost use Rattle.mask_bits.specs.Buffer.{values};
 ghost use Rattle.mask_bits.specs.Positions.{count};
-ghost use Rattle.vortex_mask.specs.Mask.{truth, variant, fitting_variant, all_false, caches};
+ghost use Rattle.vortex_mask.specs.Caches.{caches};
+ghost use Rattle.vortex_mask.specs.Mask.{truth, variant, fitting_variant, all_false};
 ghost use Rattle.vortex_mask.specs.MaskValues.{no_caches};
 
 use crate::mask::{Mask, MaskError, MaskValues};

@@ -8,7 +8,8 @@ ghost use Rattle.std.specs.Option.{option_or};
 ghost use Rattle.mask_bits.specs.Buffer.{values};
 ghost use Rattle.mask_bits.specs.Positions.{positions, true_at, repeated};
 ghost use Rattle.vortex_mask.specs.Faults.{index_fault, first_unsorted, first_repeated, out_of_bounds, first_past, common};
-ghost use Rattle.vortex_mask.specs.Mask.{truth, variant, fitting_variant, all_false, caches, where_mixed, all_true};
+ghost use Rattle.vortex_mask.specs.Caches.{caches, where_mixed};
+ghost use Rattle.vortex_mask.specs.Mask.{truth, variant, fitting_variant, all_false, all_true};
 ghost use Rattle.vortex_mask.specs.MaskValues.{only_indices, no_caches};
 ghost use Rattle.mask_bits.specs.Lists.{not_of};
 ghost use Rattle.vortex_mask.specs.Ascending.{IsAscending};
@@ -71,7 +72,7 @@ impl Mask {
         Mask::of_indices(alloc, len, indices)
     }
 
-    // The mask of `len` values that is true exactly at these indices, which it keeps.
+    // The mask of `len` values that is true exactly at these indices, which it caches.
     #[tactic(auto, using(crate::proofs::Masks::MaskLemmas::variant_facts, crate::proofs::Masks::PlaceListLemmas::index_facts))]
     pub(crate) fn of_indices(
         alloc: Global,

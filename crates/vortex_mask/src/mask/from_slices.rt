@@ -6,7 +6,8 @@ ghost use Rattle.mask_bits.specs.Buffer.{values};
 ghost use Rattle.mask_bits.specs.RunScan.{runs};
 ghost use Rattle.mask_bits.specs.Runs.{AreRanges};
 ghost use Rattle.vortex_mask.specs.Faults.{range_fault};
-ghost use Rattle.vortex_mask.specs.Mask.{truth, variant, fitting_variant, all_false, caches, where_mixed};
+ghost use Rattle.vortex_mask.specs.Caches.{caches, where_mixed};
+ghost use Rattle.vortex_mask.specs.Mask.{truth, variant, fitting_variant, all_false};
 ghost use Rattle.vortex_mask.specs.MaskValues.{only_ranges};
 ghost use Rattle.vortex_mask.specs.Ranges.{rows_held};
 

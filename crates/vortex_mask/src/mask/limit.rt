@@ -4,7 +4,8 @@ ghost use Rattle.std.specs.Prelude.{◌≡◌, ◌≢◌, ◌-◌, ◌<◌, ◌�
 ghost use Rattle.mask_bits.specs.Buffer.{values};
 ghost use Rattle.mask_bits.specs.Lists.{limited};
 ghost use Rattle.mask_bits.specs.Positions.{count, repeated};
-ghost use Rattle.vortex_mask.specs.Mask.{truth, variant, fitting_variant, mixed, caches};
+ghost use Rattle.vortex_mask.specs.Caches.{caches};
+ghost use Rattle.vortex_mask.specs.Mask.{truth, variant, fitting_variant, mixed};
 ghost use Rattle.vortex_mask.specs.MaskValues.{no_caches};
 
 use crate::laws;

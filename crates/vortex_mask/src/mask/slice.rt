@@ -5,7 +5,8 @@ ghost use Rattle.std.specs.Int.{div_ceil};
 ghost use Rattle.std.specs.List.{range_with_len};
 ghost use Rattle.mask_bits.specs.Buffer.{values};
 ghost use Rattle.mask_bits.specs.Lists.{group};
-ghost use Rattle.vortex_mask.specs.Mask.{truth, variant, fitting_variant, variant_of_no_part, mixed, caches};
+ghost use Rattle.vortex_mask.specs.Caches.{caches};
+ghost use Rattle.vortex_mask.specs.Mask.{truth, variant, fitting_variant, variant_of_no_part, mixed};
 ghost use Rattle.vortex_mask.specs.MaskValues.{no_caches};
 
 use crate::mask::{Mask, MaskError};

@@ -275,7 +275,7 @@ impl MaskValues {
         self.slices.as_deref().unwrap()
     }
 
-    // Makes the list of the true indices, then keeps it, where there is none.
+    // Makes the list of the true indices, then caches it, where there is none.
     fn cache_indices(&mut self, alloc: Global) -> Result<(), MaskError>
         ensures filled { IfOk result (λ _. self.new
             ≡ with_caches (with_indices (positions (values self.old.buffer)) self.old.caches) self.old) }

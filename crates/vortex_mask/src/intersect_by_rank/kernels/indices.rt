@@ -3,7 +3,8 @@
 ghost use Rattle.std.specs.Prelude.{◌≡◌, ◌<◌, IfOk, IsOkUnless, All, alloc_error, length};
 ghost use Rattle.std.specs.List.Sorted.{IsStrictlyIncreasing};
 ghost use Rattle.mask_bits.specs.Positions.{positions, at_indices};
-ghost use Rattle.vortex_mask.specs.Mask.{truth, variant, fitting_variant, all_false, caches, where_mixed};
+ghost use Rattle.vortex_mask.specs.Caches.{caches, where_mixed};
+ghost use Rattle.vortex_mask.specs.Mask.{truth, variant, fitting_variant, all_false};
 ghost use Rattle.vortex_mask.specs.MaskValues.{only_indices};
 ghost use Rattle.vortex_mask.specs.Steps.{no_steps};
 
