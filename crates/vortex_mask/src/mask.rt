@@ -22,7 +22,6 @@ ghost use Rattle.vortex_mask.specs.Caches.{caches};
 ghost use Rattle.vortex_mask.specs.Mask.{truth, variant, all_true, all_false, mixed, contents};
 ghost use Rattle.mask_bits.specs.Positions.{positions, count, count_below};
 ghost use Rattle.vortex_mask.specs.declared.mask.Mask.TheVariants.{AllTrue};
-ghost use Rattle.vortex_mask.specs.Fraction.{share, share_by_variant};
 
 pub use all_or::AllOr;
 pub use cached::MaskIter;
@@ -264,23 +263,6 @@ impl Mask {
             Mask::AllTrue(_) => Ok(Vec::from_slice(alloc, indices)?),
             Mask::AllFalse(_) => Ok(vec![in alloc; 0; indices.len()]?),
             Mask::Values(values) => Ok(counts_below(alloc, values.bit_buffer(), indices)?),
-        }
-    }
-}
-
-#[tactic(auto, using(crate::proofs::Masks::ReadingLemmas::one_value_facts))]
-impl Mask {
-    /// The share of true values: 1/1 of `AllTrue`, 0/1 of `AllFalse`, also where they are empty, and
-    /// else the true count over the length.
-    pub fn density(&self) -> Fraction
-        ensures by_variant { result ≡ share_by_variant self.now }
-        ensures share { result.num * length (truth self.now) ≡ count (truth self.now) * result.den }
-        ensures positive { 0 < result.den }
-    {
-        match self {
-            Mask::AllTrue(_) => Fraction { num: 1, den: 1 },
-            Mask::AllFalse(_) => Fraction { num: 0, den: 1 },
-            Mask::Values(values) => values.density(),
         }
     }
 }

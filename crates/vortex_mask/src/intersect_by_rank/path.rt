@@ -1,4 +1,12 @@
 //! Which kernel narrows two masks of mixed values, and the call of that kernel.
+//!
+//! | The first test that holds | Path |
+//! |---|---|
+//! | both lists of true indices are cached, and there are fewer ranks than started words | `Indices` |
+//! | fewer than one row in 64 is true | `Indices` |
+//! | fewer than one value of the rank mask in 32 is true | `MaskDriven` |
+//! | the list of ranks is not cached, or more than one value in four is true | `BitBuffers` |
+//! | none | `RankIndices` |
 
 ghost use Rattle.std.specs.Prelude.{◌≡◌, ◌*◌, IfOk, IsOkUnless, IsSome, alloc_error, length, nat_lt};
 ghost use Rattle.std.specs.Cow.{cow_slice_items};

@@ -7,12 +7,11 @@ ghost use Rattle.std.specs.Io.BufRead.{Rests};
 ghost use Rattle.mask_bits.specs.Buffer.{values};
 ghost use Rattle.mask_bits.specs.Positions.{count, positions};
 ghost use Rattle.vortex_mask.specs.MaskValues.{IsMixed, IsWhole, AreOf, contents, with_caches, with_indices, with_ranges};
-ghost use Rattle.vortex_mask.specs.Fraction.{share};
 ghost use Rattle.mask_bits.specs.RunScan.{runs};
 ghost use Rattle.vortex_mask.specs.Lend.{ReachesShare, lends_ranges, IsLentOf, with_list};
 ghost use Rattle.vortex_mask.specs.contracts.mask.values.MaskValues.{the_row};
 
-use crate::mask::{Fraction, MaskError, MaskIter};
+use crate::mask::{MaskError, MaskIter};
 use mask_bits::{BitBuffer, laws};
 use std::alloc::{AllocError, Global};
 use std::fmt;
@@ -165,17 +164,6 @@ impl MaskValues {
             indices: self.indices.clone()?,
             slices: self.slices.clone()?,
         })
-    }
-
-    /// The share of true values: the true count over the length.
-    pub fn density(&self) -> Fraction
-        ensures share { result ≡ share (values self.now.buffer) }
-        ensures positive { 0 < result.den }
-    {
-        Fraction {
-            num: self.true_count(),
-            den: self.len(),
-        }
     }
 }
 
