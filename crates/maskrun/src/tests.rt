@@ -29,88 +29,110 @@ fn prints(rt: &impl Abort, alloc: Global, words: &str, want: &str) -> Result<(),
     Ok(())
 }
 
+// The command line of a row, and what it prints.
+fn parts_of<'a>(rt: &impl Abort, row: &'a str) -> (&'a str, &'a str) {
+    match row.split_once(" => ") {
+        Some(parts) => parts,
+        None => panic!(rt; "no arrow in {row}"),
+    }
+}
+
+// Rows are lines of one text: a table of tuples of this length would take long to prove.
+fn prints_rows(
+    rt: &impl Abort,
+    alloc: Global,
+    rows: &str,
+    row_count: usize,
+) -> Result<(), AllocError> {
+    assert!(rt; rows.split('\n').count() == row_count);
+    for row in rows.split('\n') {
+        let (words, want) = parts_of(rt, row);
+        prints(rt, alloc, words, want)?;
+    }
+    Ok(())
+}
+
+const ROWS: &str = "\
+rank 10011101 00101 => 00001001
+rank 1111 0110 => 0110
+rank 0110 11 => 0110
+rank 0110 00 => 0000
+rank - - => -
+rank 000 - => 000
+rank 10 10 => length 2 where 1 is needed
+rank 101 1 => length 1 where 2 is needed
+rank 11 x => word 2: byte 0 is not 0 or 1
+rank 1a1 11 => word 1: byte 1 is not 0 or 1
+rank 1a1 1b => word 1: byte 1 is not 0 or 1
+rank  1 => word 1: byte 0 is not 0 or 1
+rank 1é 1 => word 1: byte 1 is not 0 or 1
+rank 1- 1 => word 1: byte 1 is not 0 or 1
+rank -- - => word 1: byte 0 is not 0 or 1
+rank 1 => usage: maskrun COMMAND WORDS
+rank 1 1 1 => usage: maskrun COMMAND WORDS
+RANK 1 1 => usage: maskrun COMMAND WORDS
+and 2 => usage: maskrun COMMAND WORDS
+and 1101 0110 => 0100
+or 1100 0101 => 1101
+andnot 1101 0110 => 1001
+and 11 1 => length 1 where 2 is needed
+not 10110 => 01001
+not - => -
+slice 10110 1 4 => 011
+slice 10110 3 3 => -
+slice - 0 0 => -
+slice 10110 3 6 => word 3: out of range
+slice 10110 7 6 => word 3: out of range
+slice 10110 4 2 => word 2: out of range
+slice 10110 x 2 => word 2: not a number
+slice 10x 9 z => word 1: byte 2 is not 0 or 1
+slice 10 9 z => word 3: not a number
+slice 1  1 => word 2: not a number
+limit 01101 2 => 01100
+limit 10 18446744073709551615 => 10
+limit 10 18446744073709551616 => word 2: not a number
+limit 10 +1 => word 2: not a number
+limit 10 -1 => word 2: not a number
+limit 10 007 => 10
+cat 10 - 011 => 10011
+cat => usage: maskrun COMMAND WORDS
+pipe 10011101 00101 10 => 00001000
+rank 00101 10 => 00100
+rank 10011101 00100 => 00001000
+pipe 10011101 00101 1 => length 1 where 2 is needed
+pipe 111 101 => 101
+pipe 101 10 1 1 0 => 000
+pipe 101 10 0 - => 000
+pipe 101 10 0 - - => 000
+pipe 101 10 0 - 0 => length 1 where 0 is needed
+pipe 000 - => 000
+pipe - - => -
+pipe - 1 => length 1 where 0 is needed
+pipe 101 11 0 => length 1 where 2 is needed
+pipe 101 110 0 => length 3 where 2 is needed
+pipe 101 1 x => word 3: byte 0 is not 0 or 1
+pipe 11 1 1 1 1 0x => word 6: byte 1 is not 0 or 1
+pipe 1x 1x => word 1: byte 1 is not 0 or 1
+pipe 1 => usage: maskrun COMMAND WORDS
+pipe => usage: maskrun COMMAND WORDS
+indices 10110 => 0 2 3
+indices 000 => -
+indices 11 => 0 1
+indices - => -
+indices 00000000001 => 10
+indices 1 1 => usage: maskrun COMMAND WORDS
+ranges 10110 => 0..1 2..4
+ranges 11 => 0..2
+ranges 00 => -
+ranges - => -
+ranges 0000000001100 => 9..11
+ranges => usage: maskrun COMMAND WORDS
+ranges 12 => word 1: byte 1 is not 0 or 1
+ => usage: maskrun COMMAND WORDS";
+
 #[test]
 fn lines_and_faults(rt: HostRuntime) -> Result<(), Fail> {
-    for (words, want) in [
-        ("rank 10011101 00101", "00001001"),
-        ("rank 1111 0110", "0110"),
-        ("rank 0110 11", "0110"),
-        ("rank 0110 00", "0000"),
-        ("rank - -", "-"),
-        ("rank 000 -", "000"),
-        ("rank 10 10", "length 2 where 1 is needed"),
-        ("rank 101 1", "length 1 where 2 is needed"),
-        ("rank 11 x", "word 2: byte 0 is not 0 or 1"),
-        ("rank 1a1 11", "word 1: byte 1 is not 0 or 1"),
-        ("rank 1a1 1b", "word 1: byte 1 is not 0 or 1"),
-        ("rank  1", "word 1: byte 0 is not 0 or 1"),
-        ("rank 1é 1", "word 1: byte 1 is not 0 or 1"),
-        ("rank 1- 1", "word 1: byte 1 is not 0 or 1"),
-        ("rank -- -", "word 1: byte 0 is not 0 or 1"),
-        ("rank 1", "usage: maskrun COMMAND WORDS"),
-        ("rank 1 1 1", "usage: maskrun COMMAND WORDS"),
-        ("RANK 1 1", "usage: maskrun COMMAND WORDS"),
-        ("and 2", "usage: maskrun COMMAND WORDS"),
-        ("and 1101 0110", "0100"),
-        ("or 1100 0101", "1101"),
-        ("andnot 1101 0110", "1001"),
-        ("and 11 1", "length 1 where 2 is needed"),
-        ("not 10110", "01001"),
-        ("not -", "-"),
-        ("slice 10110 1 4", "011"),
-        ("slice 10110 3 3", "-"),
-        ("slice - 0 0", "-"),
-        ("slice 10110 3 6", "word 3: out of range"),
-        ("slice 10110 7 6", "word 3: out of range"),
-        ("slice 10110 4 2", "word 2: out of range"),
-        ("slice 10110 x 2", "word 2: not a number"),
-        ("slice 10x 9 z", "word 1: byte 2 is not 0 or 1"),
-        ("slice 10 9 z", "word 3: not a number"),
-        ("slice 1  1", "word 2: not a number"),
-        ("limit 01101 2", "01100"),
-        ("limit 10 18446744073709551615", "10"),
-        ("limit 10 18446744073709551616", "word 2: not a number"),
-        ("limit 10 +1", "word 2: not a number"),
-        ("limit 10 -1", "word 2: not a number"),
-        ("limit 10 007", "10"),
-        ("cat 10 - 011", "10011"),
-        ("cat", "usage: maskrun COMMAND WORDS"),
-        ("pipe 10011101 00101 10", "00001000"),
-        ("rank 00101 10", "00100"),
-        ("rank 10011101 00100", "00001000"),
-        ("pipe 10011101 00101 1", "length 1 where 2 is needed"),
-        ("pipe 111 101", "101"),
-        ("pipe 101 10 1 1 0", "000"),
-        ("pipe 101 10 0 -", "000"),
-        ("pipe 101 10 0 - -", "000"),
-        ("pipe 101 10 0 - 0", "length 1 where 0 is needed"),
-        ("pipe 000 -", "000"),
-        ("pipe - -", "-"),
-        ("pipe - 1", "length 1 where 0 is needed"),
-        ("pipe 101 11 0", "length 1 where 2 is needed"),
-        ("pipe 101 110 0", "length 3 where 2 is needed"),
-        ("pipe 101 1 x", "word 3: byte 0 is not 0 or 1"),
-        ("pipe 11 1 1 1 1 0x", "word 6: byte 1 is not 0 or 1"),
-        ("pipe 1x 1x", "word 1: byte 1 is not 0 or 1"),
-        ("pipe 1", "usage: maskrun COMMAND WORDS"),
-        ("pipe", "usage: maskrun COMMAND WORDS"),
-        ("indices 10110", "0 2 3"),
-        ("indices 000", "-"),
-        ("indices 11", "0 1"),
-        ("indices -", "-"),
-        ("indices 00000000001", "10"),
-        ("indices 1 1", "usage: maskrun COMMAND WORDS"),
-        ("ranges 10110", "0..1 2..4"),
-        ("ranges 11", "0..2"),
-        ("ranges 00", "-"),
-        ("ranges -", "-"),
-        ("ranges 0000000001100", "9..11"),
-        ("ranges", "usage: maskrun COMMAND WORDS"),
-        ("ranges 12", "word 1: byte 1 is not 0 or 1"),
-        ("", "usage: maskrun COMMAND WORDS"),
-    ] {
-        prints(&rt, rt.alloc(), words, want)?;
-    }
+    prints_rows(&rt, rt.alloc(), ROWS, 76)?;
     assert!(rt; matches!(answer(rt.alloc(), &[]), Err(RunError::Usage)));
     Ok(())
 }
