@@ -1,5 +1,5 @@
 // Boolean calls of masks, in each form: the variants that they answer, and the lists that they cache.
-use super::helpers::{Lists, MAX, Of, caches, clone, found, has, is, is_held_as, lists, mask};
+use super::helpers::{MAX, Of, caches, clone, found, has, is, is_held_as, lists, mask};
 use std::alloc::Global;
 use std::process::Abort;
 use vortex_mask::Mask;
@@ -61,38 +61,34 @@ const NONE: &str = "AllFalse";
 
 const MIXED: &str = "Values";
 
-fn combines(rt: &impl Abort, alloc: Global, op: Op, a: &Mask, b: &Mask, want: (&str, &str)) {
-    is(rt, &of_lent(rt, alloc, op, a, b), want);
-    let owned = of_owned(rt, alloc, op, clone(rt, a), b);
-    is(rt, &owned, want);
-}
-
-// Of a mask whose bytes nobody else holds.
-fn combines_own(rt: &impl Abort, alloc: Global, row: &Row, b: &Mask) {
+fn combines_row(rt: &impl Abort, alloc: Global, row: &Row) {
     for (op, list, held) in [
         (Op::And, row.2, row.3),
         (Op::Or, row.4, row.5),
         (Op::AndNot, row.6, row.7),
         (Op::Not, row.8, row.9),
     ] {
-        let own = mask(rt, alloc, Of::Text(row.0));
-        is(rt, &of_owned(rt, alloc, op, own, b), (list, held));
+        combines(rt, alloc, op, (row.0, row.1), (list, held));
     }
 }
 
-// The operands stay, shared as they are.
-fn combines_row(rt: &impl Abort, alloc: Global, row: &Row) {
-    let (a, b) = (
-        mask(rt, alloc, Of::Text(row.0)),
-        mask(rt, alloc, Of::Text(row.1)),
-    );
-    combines(rt, alloc, Op::And, &a, &b, (row.2, row.3));
-    combines(rt, alloc, Op::Or, &a, &b, (row.4, row.5));
-    combines(rt, alloc, Op::AndNot, &a, &b, (row.6, row.7));
-    combines(rt, alloc, Op::Not, &a, &b, (row.8, row.9));
-    combines_own(rt, alloc, row, &b);
-    stays(rt, alloc, row.0, &a);
-    stays(rt, alloc, row.1, &b);
+// Of masks that are lent, of one that shares its bytes, and of one whose bytes nobody else holds. The operands
+// stay, shared as they are.
+fn combines(
+    rt: &impl Abort,
+    alloc: Global,
+    op: Op,
+    texts: (&'static str, &'static str),
+    want: (&str, &str),
+) {
+    let a = mask(rt, alloc, Of::Text(texts.0));
+    let b = mask(rt, alloc, Of::Text(texts.1));
+    is(rt, &of_lent(rt, alloc, op, &a, &b), want);
+    is(rt, &of_owned(rt, alloc, op, clone(rt, &a), &b), want);
+    let own = mask(rt, alloc, Of::Text(texts.0));
+    is(rt, &of_owned(rt, alloc, op, own, &b), want);
+    stays(rt, alloc, texts.0, &a);
+    stays(rt, alloc, texts.1, &b);
 }
 
 fn stays(rt: &impl Abort, alloc: Global, text: &'static str, mask_now: &Mask) {
@@ -150,29 +146,35 @@ fn each_pair_of_variants(rt: HostRuntime) {
     combines_rows(&rt, rt.alloc(), &ROWS);
 }
 
-fn combines_uniform(rt: &impl Abort, alloc: Global, op: Op, (a, b): (Of, Of), want: (usize, bool)) {
-    let (a, b) = (mask(rt, alloc, a), mask(rt, alloc, b));
-    let want = if want.1 {
-        (want.0, want.0, "AllTrue")
+fn uniform(len: usize, value: bool) -> Of {
+    if value { Of::All(len) } else { Of::None(len) }
+}
+
+fn combines_uniform(
+    rt: &impl Abort,
+    alloc: Global,
+    op: Op,
+    len: usize,
+    (a, b, want): (bool, bool, bool),
+) {
+    let a = mask(rt, alloc, uniform(len, a));
+    let b = mask(rt, alloc, uniform(len, b));
+    let want = if want {
+        (len, len, "AllTrue")
     } else {
-        (want.0, 0, "AllFalse")
+        (len, 0, "AllFalse")
     };
     has(rt, &of_lent(rt, alloc, op, &a, &b), want);
     has(rt, &of_owned(rt, alloc, op, a, &b), want);
 }
 
-fn uniform(len: usize, value: bool) -> Of {
-    if value { Of::All(len) } else { Of::None(len) }
-}
-
 // Of no values, and of masks for which no buffer could be made.
 fn combines_truth_values(rt: &impl Abort, alloc: Global, len: usize) {
     for (a, b) in [(true, true), (true, false), (false, true), (false, false)] {
-        let masks = (uniform(len, a), uniform(len, b));
-        combines_uniform(rt, alloc, Op::And, masks, (len, a && b));
-        combines_uniform(rt, alloc, Op::Or, masks, (len, a || b));
-        combines_uniform(rt, alloc, Op::AndNot, masks, (len, a && !b));
-        combines_uniform(rt, alloc, Op::Not, masks, (len, !a));
+        combines_uniform(rt, alloc, Op::And, len, (a, b, a && b));
+        combines_uniform(rt, alloc, Op::Or, len, (a, b, a || b));
+        combines_uniform(rt, alloc, Op::AndNot, len, (a, b, a && !b));
+        combines_uniform(rt, alloc, Op::Not, len, (a, b, !a));
     }
 }
 
@@ -211,33 +213,21 @@ fn many_values(rt: HostRuntime) {
 // ---- cached lists
 
 // 01010, whose indices are cached.
-const PLACES: Of = Of::Indices(5, &[1, 3]);
+const INDICES: Of = Of::Indices(5, &[1, 3]);
 
-type Cached = (Op, (Of, Of), (&'static str, Option<&'static [usize]>));
+type Cached = (Op, Of, Of, (&'static str, Option<&'static [usize]>));
 
 fn combines_with_lists(rt: &impl Abort, alloc: Global, rows: &[Cached]) {
-    for (op, (a, b), (list, indices)) in rows {
+    for (op, a, b, want) in rows {
         let (a, b) = (mask(rt, alloc, *a), mask(rt, alloc, *b));
-        combines_cached(rt, alloc, *op, a, &b, list, *indices);
+        is_of(rt, &of_lent(rt, alloc, *op, &a, &b), *want);
+        is_of(rt, &of_owned(rt, alloc, *op, a, &b), *want);
     }
 }
 
-fn combines_cached(
-    rt: &impl Abort,
-    alloc: Global,
-    op: Op,
-    a: Mask,
-    b: &Mask,
-    list: &str,
-    indices: Option<&[usize]>,
-) {
-    is_of(rt, &of_lent(rt, alloc, op, &a, b), list, (indices, None));
-    is_of(rt, &of_owned(rt, alloc, op, a, b), list, (indices, None));
-}
-
-fn is_of(rt: &impl Abort, mask: &Mask, list: &str, want: Lists<'_>) {
+fn is_of(rt: &impl Abort, mask: &Mask, (list, indices): (&str, Option<&[usize]>)) {
     lists(rt, mask, list);
-    caches(rt, mask, want);
+    caches(rt, mask, (indices, None));
 }
 
 // A result that is an operand has what that one has cached, and any other nothing.
@@ -245,24 +235,24 @@ fn is_of(rt: &impl Abort, mask: &Mask, list: &str, want: Lists<'_>) {
 fn cached_lists(rt: HostRuntime) {
     const KEPT: (&str, Option<&[usize]>) = ("01010", Some(&[1, 3]));
     const ROWS: [Cached; 11] = [
-        (Op::And, (Of::All(5), PLACES), KEPT),
-        (Op::And, (PLACES, Of::All(5)), KEPT),
-        (Op::And, (PLACES, PLACES), ("01010", None)),
-        (Op::Or, (Of::None(5), PLACES), KEPT),
-        (Op::Or, (PLACES, Of::None(5)), KEPT),
-        (Op::Or, (PLACES, PLACES), ("01010", None)),
-        (Op::Or, (PLACES, Of::All(5)), ("11111", None)),
+        (Op::And, Of::All(5), INDICES, KEPT),
+        (Op::And, INDICES, Of::All(5), KEPT),
+        (Op::And, INDICES, INDICES, ("01010", None)),
+        (Op::Or, Of::None(5), INDICES, KEPT),
+        (Op::Or, INDICES, Of::None(5), KEPT),
+        (Op::Or, INDICES, INDICES, ("01010", None)),
+        (Op::Or, INDICES, Of::All(5), ("11111", None)),
         // the other one negated
-        (Op::AndNot, (Of::All(5), PLACES), ("10101", None)),
-        (Op::AndNot, (PLACES, Of::None(5)), KEPT),
-        (Op::Not, (PLACES, PLACES), ("10101", None)),
-        (Op::AndNot, (PLACES, PLACES), ("00000", None)),
+        (Op::AndNot, Of::All(5), INDICES, ("10101", None)),
+        (Op::AndNot, INDICES, Of::None(5), KEPT),
+        (Op::Not, INDICES, INDICES, ("10101", None)),
+        (Op::AndNot, INDICES, INDICES, ("00000", None)),
     ];
     combines_with_lists(&rt, rt.alloc(), &ROWS);
 }
 
 fn or_with_all(rt: &impl Abort, alloc: Global) {
-    let (mixed, all) = (mask(rt, alloc, PLACES), Mask::new_true(5));
+    let (mixed, all) = (mask(rt, alloc, INDICES), Mask::new_true(5));
     is_held_as(rt, &of_lent(rt, alloc, Op::Or, &mixed, &all), "AllTrue");
 }
 

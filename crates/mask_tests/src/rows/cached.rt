@@ -1,5 +1,5 @@
 // Lists that masks lend, and cache from then on.
-use super::helpers::{Lists, MAX, Of, caches, clone, found, mask, same};
+use super::helpers::{Lists, MAX, Of, caches, clone, found, is_lent_as, mask, same};
 use super::slice::slice;
 use std::alloc::Global;
 use std::process::Abort;
@@ -48,17 +48,15 @@ fn lends_slices_first(rt: &impl Abort, alloc: Global, row: &Row, before: Lists<'
     caches(rt, &mask, (before.0, Some(row.2)));
 }
 
-fn lends_of_indices(rt: &impl Abort, alloc: Global, rows: &[Row]) {
+// Each mask has its indices cached, or each its ranges.
+fn lends_rows(rt: &impl Abort, alloc: Global, rows: &[Row], has_indices: bool) {
     for row in rows {
-        lends(rt, alloc, row, (Some(row.1), None));
-        lends_slices_first(rt, alloc, row, (Some(row.1), None));
-    }
-}
-
-fn lends_of_ranges(rt: &impl Abort, alloc: Global, rows: &[Row]) {
-    for row in rows {
-        lends(rt, alloc, row, (None, Some(row.2)));
-        lends_slices_first(rt, alloc, row, (None, Some(row.2)));
+        let before = match has_indices {
+            true => (Some(row.1), None),
+            false => (None, Some(row.2)),
+        };
+        lends(rt, alloc, row, before);
+        lends_slices_first(rt, alloc, row, before);
     }
 }
 
@@ -72,7 +70,7 @@ fn masks_of_indices(rt: HostRuntime) {
         ),
         (Of::Indices(5, &[1, 3]), &[1, 3], &[(1, 2), (3, 4)]),
     ];
-    lends_of_indices(&rt, rt.alloc(), &ROWS);
+    lends_rows(&rt, rt.alloc(), &ROWS, true);
 }
 
 #[test]
@@ -85,7 +83,7 @@ fn masks_of_ranges(rt: HostRuntime) {
         ),
         (Of::Ranges(8, &[(1, 3), (3, 4)]), &[1, 2, 3], &[(1, 4)]),
     ];
-    lends_of_ranges(&rt, rt.alloc(), &ROWS);
+    lends_rows(&rt, rt.alloc(), &ROWS, false);
 }
 
 // ---- by a threshold
@@ -140,20 +138,12 @@ fn thresholds(rt: HostRuntime) {
 
 // ---- of one value
 
-fn lent_as<T: Drop>(lent: AllOr<T>) -> &'static str {
-    match lent {
-        AllOr::All => "All",
-        AllOr::None => "None",
-        AllOr::Some(_) => "Some",
-    }
-}
-
 fn lends_no_list(rt: &impl Abort, alloc: Global, mask: Mask, want: &str) {
     let mut mask = mask;
-    assert!(rt; lent_as(found(rt, mask.indices(alloc))) == want);
-    assert!(rt; lent_as(found(rt, mask.slices(alloc))) == want);
-    assert!(rt; lent_as(found(rt, mask.threshold_iter(alloc, 1, 2))) == want);
-    assert!(rt; lent_as(mask.bit_buffer()) == want);
+    is_lent_as(rt, found(rt, mask.indices(alloc)), want);
+    is_lent_as(rt, found(rt, mask.slices(alloc)), want);
+    is_lent_as(rt, found(rt, mask.threshold_iter(alloc, 1, 2)), want);
+    is_lent_as(rt, mask.bit_buffer(), want);
 }
 
 #[test]

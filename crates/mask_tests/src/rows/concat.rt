@@ -2,7 +2,7 @@
 use super::helpers::{MAX, Of, caches, found, has, is, mask, refuses, same};
 use std::alloc::Global;
 use std::process::Abort;
-use vortex_mask::Mask;
+use vortex_mask::{Mask, MaskError};
 
 fn masks_of(rt: &impl Abort, alloc: Global, texts: &[&'static str]) -> Vec<Mask> {
     let mut masks = Vec::new(alloc);
@@ -46,16 +46,10 @@ type Long = ((Of, Of), (usize, usize, &'static str));
 fn joins_long(rt: &impl Abort, alloc: Global, rows: &[Long]) {
     for ((a, b), want) in rows {
         let (a, b) = (mask(rt, alloc, *a), mask(rt, alloc, *b));
-        has(
-            rt,
-            &found(rt, Mask::concat(alloc, [&a, &b].into_iter())),
-            *want,
-        );
-        has(
-            rt,
-            &found(rt, Mask::from_masks(alloc, [a, b].into_iter())),
-            *want,
-        );
+        let lent = found(rt, Mask::concat(alloc, [&a, &b].into_iter()));
+        has(rt, &lent, *want);
+        let owned = found(rt, Mask::from_masks(alloc, [a, b].into_iter()));
+        has(rt, &owned, *want);
     }
 }
 
@@ -75,33 +69,22 @@ fn masks_of_one_value(rt: HostRuntime) {
     joins_long(&rt, rt.alloc(), &ROWS);
 }
 
+fn refuses_sum(rt: &impl Abort, alloc: Global, answer: Result<Mask, MaskError>) {
+    refuses(rt, alloc, answer, "LengthOverflow");
+}
+
 // The sum passes the type at the second mask, and a third adds nothing.
 fn overflows(rt: &impl Abort, alloc: Global, all_true: bool) {
-    let masks = [
+    let two = [Mask::new(MAX, all_true), Mask::new_true(1)];
+    refuses_sum(rt, alloc, Mask::concat(alloc, two.iter()));
+    refuses_sum(rt, alloc, Mask::from_masks(alloc, two.into_iter()));
+    let three = [
         Mask::new(MAX, all_true),
         Mask::new_true(1),
         Mask::new_false(0),
     ];
-    refuses(
-        rt,
-        alloc,
-        Mask::concat(alloc, masks.iter()),
-        "LengthOverflow",
-    );
-    let two = [Mask::new(MAX, all_true), Mask::new_true(1)];
-    refuses(rt, alloc, Mask::concat(alloc, two.iter()), "LengthOverflow");
-    refuses(
-        rt,
-        alloc,
-        Mask::from_masks(alloc, masks.into_iter()),
-        "LengthOverflow",
-    );
-    refuses(
-        rt,
-        alloc,
-        Mask::from_masks(alloc, two.into_iter()),
-        "LengthOverflow",
-    );
+    refuses_sum(rt, alloc, Mask::concat(alloc, three.iter()));
+    refuses_sum(rt, alloc, Mask::from_masks(alloc, three.into_iter()));
 }
 
 #[test]

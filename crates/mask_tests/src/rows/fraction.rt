@@ -6,14 +6,8 @@ use vortex_mask::Fraction;
 
 fn densities(rt: &impl Abort, alloc: Global, rows: &[(Of, usize, usize)]) {
     for (of, num, den) in rows {
-        let density = mask(rt, alloc, *of).density();
-        assert!(rt;
-            density
-                == Fraction {
-                    num: *num,
-                    den: *den
-                }
-        );
+        let (num, den) = (*num, *den);
+        assert!(rt; mask(rt, alloc, *of).density() == Fraction { num, den });
     }
 }
 

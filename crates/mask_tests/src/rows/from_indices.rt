@@ -1,22 +1,28 @@
 // `from_indices`, `from_excluded_indices` and `from_intersection_indices`.
-use super::helpers::{Lists, MAX, caches, found, has, is, refuses};
-use std::alloc::{AllocError, Global};
+use super::helpers::{MAX, found, has, is, refuses};
+use std::alloc::Global;
 use std::process::Abort;
-use vortex_mask::{Mask, MaskError, laws};
+use vortex_mask::{Mask, MaskError};
 
-fn of_indices(alloc: Global, len: usize, indices: &[usize]) -> Result<Mask, MaskError> {
-    Mask::from_indices(alloc, len, indices.iter().copied())
+#[derive(Clone, Copy)]
+enum Call {
+    Indices,
+    Excluded,
 }
 
-fn of_excluded(alloc: Global, len: usize, indices: &[usize]) -> Result<Mask, MaskError> {
-    Mask::from_excluded_indices(alloc, len, indices.iter().copied())
+fn mask_by(alloc: Global, call: Call, len: usize, indices: &[usize]) -> Result<Mask, MaskError> {
+    let indices = indices.iter().copied();
+    match call {
+        Call::Indices => Mask::from_indices(alloc, len, indices),
+        Call::Excluded => Mask::from_excluded_indices(alloc, len, indices),
+    }
 }
 
 type Made = (usize, &'static [usize], (&'static str, &'static str));
 
-fn makes(rt: &impl Abort, alloc: Global, rows: &[Made]) {
+fn makes(rt: &impl Abort, alloc: Global, call: Call, rows: &[Made]) {
     for (len, indices, want) in rows {
-        is(rt, &found(rt, of_indices(alloc, *len, indices)), *want);
+        is(rt, &found(rt, mask_by(alloc, call, *len, indices)), *want);
     }
 }
 
@@ -28,14 +34,25 @@ fn masks_of_indices(rt: HostRuntime) {
         (3, &[], ("000", "AllFalse")),
         (5, &[1, 3], ("01010", "Values")),
     ];
-    makes(&rt, rt.alloc(), &ROWS);
+    makes(&rt, rt.alloc(), Call::Indices, &ROWS);
+}
+
+#[test]
+fn masks_of_excluded_indices(rt: HostRuntime) {
+    const ROWS: [Made; 4] = [
+        (5, &[3, 1, 3], ("10101", "Values")),
+        (2, &[1, 0], ("00", "AllFalse")),
+        (2, &[], ("11", "AllTrue")),
+        (0, &[], ("", "AllTrue")),
+    ];
+    makes(&rt, rt.alloc(), Call::Excluded, &ROWS);
 }
 
 type Refused = (usize, &'static [usize], &'static str);
 
-fn refuses_rows(rt: &impl Abort, alloc: Global, rows: &[Refused]) {
+fn refuses_rows(rt: &impl Abort, alloc: Global, call: Call, rows: &[Refused]) {
     for (len, indices, want) in rows {
-        refuses(rt, alloc, of_indices(alloc, *len, indices), want);
+        refuses(rt, alloc, mask_by(alloc, call, *len, indices), want);
     }
 }
 
@@ -52,30 +69,7 @@ fn refused_indices(rt: HostRuntime) {
         (0, &[0], "IndexOutOfBounds { index: 0, len: 0 }"),
         (MAX, &[MAX], OF_MAX),
     ];
-    refuses_rows(&rt, rt.alloc(), &ROWS);
-}
-
-fn excludes(rt: &impl Abort, alloc: Global, rows: &[Made]) {
-    for (len, indices, want) in rows {
-        is(rt, &found(rt, of_excluded(alloc, *len, indices)), *want);
-    }
-}
-
-#[test]
-fn masks_of_excluded_indices(rt: HostRuntime) {
-    const ROWS: [Made; 4] = [
-        (5, &[3, 1, 3], ("10101", "Values")),
-        (2, &[1, 0], ("00", "AllFalse")),
-        (2, &[], ("11", "AllTrue")),
-        (0, &[], ("", "AllTrue")),
-    ];
-    excludes(&rt, rt.alloc(), &ROWS);
-}
-
-fn refuses_excluded(rt: &impl Abort, alloc: Global, rows: &[Refused]) {
-    for (len, indices, want) in rows {
-        refuses(rt, alloc, of_excluded(alloc, *len, indices), want);
-    }
+    refuses_rows(&rt, rt.alloc(), Call::Indices, &ROWS);
 }
 
 #[test]
@@ -85,7 +79,7 @@ fn refused_excluded_indices(rt: HostRuntime) {
         (5, &[5], "IndexOutOfBounds { index: 5, len: 5 }"),
         (0, &[0], "IndexOutOfBounds { index: 0, len: 0 }"),
     ];
-    refuses_excluded(&rt, rt.alloc(), &ROWS);
+    refuses_rows(&rt, rt.alloc(), Call::Excluded, &ROWS);
 }
 
 // ---- indices that two lists share
@@ -112,11 +106,8 @@ fn none_common_of_the_longest(rt: &impl Abort, alloc: Global) {
     let apart = [1, 2].into_iter();
     let result = Mask::from_intersection_indices(alloc, MAX, apart, [3].into_iter());
     has(rt, &found(rt, result), (MAX, 0, "AllFalse"));
-    has(
-        rt,
-        &found(rt, of_indices(alloc, MAX, &[])),
-        (MAX, 0, "AllFalse"),
-    );
+    let none = mask_by(alloc, Call::Indices, MAX, &[]);
+    has(rt, &found(rt, none), (MAX, 0, "AllFalse"));
 }
 
 fn refused_common(rt: &impl Abort, alloc: Global) {

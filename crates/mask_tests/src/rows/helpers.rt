@@ -3,7 +3,7 @@ use bytes::Bytes;
 use mask_bits::BitBuffer;
 use std::alloc::Global;
 use std::process::Abort;
-use vortex_mask::{Mask, MaskError};
+use vortex_mask::{AllOr, Mask, MaskError};
 
 pub(super) const MAX: usize = usize::MAX;
 
@@ -159,6 +159,16 @@ pub(super) fn is_held_as(rt: &impl Abort, mask: &Mask, want: &str) {
         Mask::AllTrue(_) => "AllTrue",
         Mask::AllFalse(_) => "AllFalse",
         Mask::Values(_) => "Values",
+    };
+    assert!(rt; variant == want, "{variant} for {want}");
+}
+
+// The variant of what a mask lends.
+pub(super) fn is_lent_as<T: Drop>(rt: &impl Abort, lent: AllOr<T>, want: &str) {
+    let variant = match lent {
+        AllOr::All => "All",
+        AllOr::None => "None",
+        AllOr::Some(_) => "Some",
     };
     assert!(rt; variant == want, "{variant} for {want}");
 }

@@ -29,11 +29,8 @@ fn narrows(rt: &impl Abort, alloc: Global, rows: &[Row]) {
     for (rows, ranks, want) in rows {
         let (rows, ranks) = (mask(rt, alloc, *rows), mask(rt, alloc, *ranks));
         is(rt, &rank_intersection(rt, alloc, &rows, &ranks), *want);
-        is(
-            rt,
-            &counted_rank_intersection(rt, alloc, &rows, &ranks).0,
-            *want,
-        );
+        let (counted, _) = counted_rank_intersection(rt, alloc, &rows, &ranks);
+        is(rt, &counted, *want);
     }
 }
 
@@ -72,16 +69,10 @@ fn rank_intersections(rt: HostRuntime) {
 }
 
 fn ranks_at_an_offset(rt: &impl Abort, alloc: Global) {
-    is(
-        rt,
-        &mask(rt, alloc, Of::AtOffset(0xFF)),
-        ("10110", "Values"),
-    );
-    is(
-        rt,
-        &mask(rt, alloc, Of::AtOffset(0x00)),
-        ("10110", "Values"),
-    );
+    for second in [0xFF, 0x00] {
+        let ranks = mask(rt, alloc, Of::AtOffset(second));
+        is(rt, &ranks, ("10110", "Values"));
+    }
 }
 
 #[test]
@@ -91,16 +82,10 @@ fn bits_behind_a_list_do_not_count(rt: HostRuntime) {
 
 fn narrows_the_longest(rt: &impl Abort, alloc: Global) {
     let all = Mask::new_true(MAX);
-    has(
-        rt,
-        &rank_intersection(rt, alloc, &all, &Mask::new_false(MAX)),
-        (MAX, 0, "AllFalse"),
-    );
-    has(
-        rt,
-        &rank_intersection(rt, alloc, &all, &Mask::new_true(MAX)),
-        (MAX, MAX, "AllTrue"),
-    );
+    let by_none = rank_intersection(rt, alloc, &all, &Mask::new_false(MAX));
+    has(rt, &by_none, (MAX, 0, "AllFalse"));
+    let by_all = rank_intersection(rt, alloc, &all, &Mask::new_true(MAX));
+    has(rt, &by_all, (MAX, MAX, "AllTrue"));
 }
 
 #[test]

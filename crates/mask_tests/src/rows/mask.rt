@@ -1,8 +1,8 @@
 // Masks by `new` and of lists: variants, counts, ranks, equality, texts, `clear`.
-use super::helpers::{MAX, Of, clone, found, is, mask, same};
+use super::helpers::{MAX, Of, clone, found, is, is_lent_as, mask, same};
 use std::alloc::Global;
 use std::process::Abort;
-use vortex_mask::{AllOr, Mask, MaskValues};
+use vortex_mask::{Mask, MaskValues};
 
 fn made_and_copied(rt: &impl Abort, alloc: Global, rows: &[(&'static str, &str)]) {
     for (text, variant) in rows {
@@ -47,21 +47,12 @@ fn counts(rt: &impl Abort, mask: &Mask, len: usize, true_count: usize) {
     assert!(rt; mask.all_false() == (true_count == 0));
 }
 
-fn shows(rt: &impl Abort, mask: &Mask, want: &str) {
-    let shown = match mask.bit_buffer() {
-        AllOr::All => "All",
-        AllOr::None => "None",
-        AllOr::Some(_) => "Some",
-    };
-    assert!(rt; shown == want, "{shown} for {want}");
-    assert!(rt; mask.values().is_some() == (want == "Some"));
-}
-
 fn holds_counts(rt: &impl Abort, alloc: Global, rows: &[(Of, (usize, usize), &str)]) {
     for (of, (len, true_count), shown) in rows {
         let mask = mask(rt, alloc, *of);
         counts(rt, &mask, *len, *true_count);
-        shows(rt, &mask, shown);
+        is_lent_as(rt, mask.bit_buffer(), shown);
+        assert!(rt; mask.values().is_some() == (*shown == "Some"));
     }
 }
 

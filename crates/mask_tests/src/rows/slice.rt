@@ -11,11 +11,8 @@ pub(super) fn slice(rt: &impl Abort, alloc: Global, mask: &Mask, start: usize, e
 
 fn slices(rt: &impl Abort, alloc: Global, rows: &[(Of, (usize, usize), (&str, &str))]) {
     for (of, (start, end), want) in rows {
-        is(
-            rt,
-            &slice(rt, alloc, &mask(rt, alloc, *of), *start, *end),
-            *want,
-        );
+        let part = slice(rt, alloc, &mask(rt, alloc, *of), *start, *end);
+        is(rt, &part, *want);
     }
 }
 
@@ -56,11 +53,8 @@ fn slices_long(
     rows: &[(Of, (usize, usize), (usize, usize, &str))],
 ) {
     for (of, (start, end), want) in rows {
-        has(
-            rt,
-            &slice(rt, alloc, &mask(rt, alloc, *of), *start, *end),
-            *want,
-        );
+        let part = slice(rt, alloc, &mask(rt, alloc, *of), *start, *end);
+        has(rt, &part, *want);
     }
 }
 
@@ -107,10 +101,13 @@ fn cached_lists_of_parts(rt: HostRuntime) {
 
 // ---- limits
 
+fn limit(rt: &impl Abort, alloc: Global, of: Of, k: usize) -> Mask {
+    found(rt, mask(rt, alloc, of).limit(alloc, k))
+}
+
 fn limits(rt: &impl Abort, alloc: Global, rows: &[(Of, usize, (&str, &str))]) {
     for (of, k, want) in rows {
-        let limited = found(rt, mask(rt, alloc, *of).limit(alloc, *k));
-        is(rt, &limited, *want);
+        is(rt, &limit(rt, alloc, *of, *k), *want);
     }
 }
 
@@ -136,7 +133,7 @@ fn limits_of_masks(rt: HostRuntime) {
 
 fn limits_long(rt: &impl Abort, alloc: Global, rows: &[(Of, usize, (usize, usize, &str))]) {
     for (of, k, want) in rows {
-        has(rt, &found(rt, mask(rt, alloc, *of).limit(alloc, *k)), *want);
+        has(rt, &limit(rt, alloc, *of, *k), *want);
     }
 }
 
@@ -154,9 +151,9 @@ fn long_limits(rt: HostRuntime) {
 
 // The hundredth true value of every third is at 297.
 fn last_of_a_limit(rt: &impl Abort, alloc: Global) {
-    let limited = found(rt, mask(rt, alloc, Of::OneIn(20_000, 3)).limit(alloc, 100));
-    assert!(rt; limited.true_count() == 100);
-    same(rt, limited.rank(99), 297);
+    let front = limit(rt, alloc, Of::OneIn(20_000, 3), 100);
+    assert!(rt; front.true_count() == 100);
+    same(rt, front.rank(99), 297);
 }
 
 #[test]
@@ -165,9 +162,9 @@ fn the_last_value_of_a_limit(rt: HostRuntime) {
 }
 
 fn limits_with_lists(rt: &impl Abort, alloc: Global, k: usize, list: &str, want: Lists<'_>) {
-    let limited = found(rt, mask(rt, alloc, Of::Indices(5, &[1, 3])).limit(alloc, k));
-    lists(rt, &limited, list);
-    caches(rt, &limited, want);
+    let front = limit(rt, alloc, Of::Indices(5, &[1, 3]), k);
+    lists(rt, &front, list);
+    caches(rt, &front, want);
 }
 
 #[test]
