@@ -1,6 +1,5 @@
 // The calls of `AllOr`.
-use super::helpers::found;
-use std::alloc::Global;
+use super::helpers::{found, has_debug_text};
 use std::process::Abort;
 use vortex_mask::AllOr;
 
@@ -46,14 +45,9 @@ fn equal_variants_with_equal_values(rt: HostRuntime) {
     compares(&rt, &ROWS);
 }
 
-fn prints(rt: &impl Abort, alloc: Global, all_or: AllOr<usize>, want: &str) {
-    let text = found(rt, format!(in alloc; "{all_or:?}"));
-    assert!(rt; text.as_str() == want, "{text}");
-}
-
 #[test]
 fn texts(rt: HostRuntime) {
-    prints(&rt, rt.alloc(), AllOr::All, "All");
-    prints(&rt, rt.alloc(), AllOr::None, "None");
-    prints(&rt, rt.alloc(), AllOr::Some(3), "Some(3)");
+    has_debug_text(&rt, rt.alloc(), &AllOr::<usize>::All, "All");
+    has_debug_text(&rt, rt.alloc(), &AllOr::<usize>::None, "None");
+    has_debug_text(&rt, rt.alloc(), &AllOr::Some(3), "Some(3)");
 }

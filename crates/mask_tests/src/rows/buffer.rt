@@ -172,13 +172,10 @@ fn slices_of_two_bytes(rt: HostRuntime) {
     slices(&rt, rt.alloc(), &ROWS);
 }
 
-fn is_equal(rt: &impl Abort, a: &BitBuffer, b: &BitBuffer, want: bool) {
-    assert!(rt; (*a == *b) == want);
-}
-
 fn compares(rt: &impl Abort, alloc: Global, rows: &[(&str, bool)]) {
     for (text, want) in rows {
-        is_equal(rt, &five_bits(rt, alloc), &bits_of(rt, alloc, text), *want);
+        let (five, other) = (five_bits(rt, alloc), bits_of(rt, alloc, text));
+        assert!(rt; (five == other) == *want);
     }
 }
 

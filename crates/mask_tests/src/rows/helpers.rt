@@ -2,6 +2,7 @@
 use bytes::Bytes;
 use mask_bits::BitBuffer;
 use std::alloc::Global;
+use std::fmt::Debug;
 use std::process::Abort;
 use vortex_mask::{AllOr, Mask, MaskError};
 
@@ -9,10 +10,6 @@ pub(super) const MAX: usize = usize::MAX;
 
 pub(super) fn same(rt: &impl Abort, got: usize, want: usize) {
     assert!(rt; got == want, "{got} for {want}");
-}
-
-pub(super) fn holds(rt: &impl Abort, is_so: bool) {
-    assert!(rt; is_so);
 }
 
 // The answer of a call for which memory is found.
@@ -23,14 +20,16 @@ pub(super) fn found<T, E: Drop>(rt: &impl Abort, answer: Result<T, E>) -> T {
     }
 }
 
+pub(super) fn has_debug_text<T: Debug>(rt: &impl Abort, alloc: Global, value: &T, want: &str) {
+    let text = found(rt, format!(in alloc; "{value:?}"));
+    assert!(rt; text.as_str() == want, "{text} for {want}");
+}
+
 // What was refused, by its `Debug` text.
 pub(super) fn refuses(rt: &impl Abort, alloc: Global, answer: Result<Mask, MaskError>, want: &str) {
     match answer {
         Ok(_) => panic!(rt; "a mask for {want}"),
-        Err(error) => {
-            let text = found(rt, format!(in alloc; "{error:?}"));
-            assert!(rt; text.as_str() == want, "{text} for {want}");
-        }
+        Err(error) => has_debug_text(rt, alloc, &error, want),
     }
 }
 

@@ -1,14 +1,14 @@
 // Masks by `new` and of lists: variants, counts, ranks, equality, texts, `clear`.
-use super::helpers::{MAX, Of, clone, found, is, is_lent_as, mask, same};
+use super::helpers::{MAX, Of, clone, has_debug_text, is, is_lent_as, mask, same};
 use std::alloc::Global;
 use std::process::Abort;
 use vortex_mask::{Mask, MaskValues};
 
 fn made_and_copied(rt: &impl Abort, alloc: Global, rows: &[(&'static str, &str)]) {
     for (text, variant) in rows {
-        let found = mask(rt, alloc, Of::Text(text));
-        is(rt, &found, (text, variant));
-        is(rt, &clone(rt, &found), (text, variant));
+        let mask = mask(rt, alloc, Of::Text(text));
+        is(rt, &mask, (text, variant));
+        is(rt, &clone(rt, &mask), (text, variant));
     }
 }
 
@@ -68,14 +68,11 @@ fn what_a_mask_holds(rt: HostRuntime) {
     holds_counts(&rt, rt.alloc(), &ROWS);
 }
 
-fn rank(rt: &impl Abort, mask: &Mask, n: usize, want: usize) {
-    assert!(rt; n < mask.true_count());
-    same(rt, mask.rank(n), want);
-}
-
 fn ranks(rt: &impl Abort, alloc: Global, rows: &[(Of, usize, usize)]) {
     for (of, n, want) in rows {
-        rank(rt, &mask(rt, alloc, *of), *n, *want);
+        let mask = mask(rt, alloc, *of);
+        assert!(rt; *n < mask.true_count());
+        same(rt, mask.rank(*n), *want);
     }
 }
 
@@ -175,9 +172,7 @@ fn equal_by_length_and_list(rt: HostRuntime) {
 
 fn prints(rt: &impl Abort, alloc: Global, rows: &[(Of, &str)]) {
     for (of, want) in rows {
-        let mask = mask(rt, alloc, *of);
-        let text = found(rt, format!(in alloc; "{mask:?}"));
-        assert!(rt; text.as_str() == *want, "{text}");
+        has_debug_text(rt, alloc, &mask(rt, alloc, *of), want);
     }
 }
 
@@ -193,8 +188,7 @@ fn texts(rt: HostRuntime) {
 
 fn prints_values(rt: &impl Abort, alloc: Global) {
     let mixed = mask(rt, alloc, Of::Text("10110"));
-    let text = found(rt, format!(in alloc; "{:?}", mixed.values()));
-    assert!(rt; text.as_str() == "Some(true_count=3, len=5)", "{text}");
+    has_debug_text(rt, alloc, &mixed.values(), "Some(true_count=3, len=5)");
 }
 
 #[test]
