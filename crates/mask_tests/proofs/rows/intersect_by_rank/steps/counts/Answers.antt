@@ -1,4 +1,4 @@
-use Rattle.std.proofs.Common.{length, ap, sym, arith}
+use Rattle.std.proofs.Common.{sym, arith}
 use Rattle.mask_bits.proofs.Lists.Words.WordLemmas.{count-word_bits}
 use Rattle.mask_tests.proofs.rows.intersect_by_rank.steps.counts.Goals as goal
 
