@@ -1,5 +1,5 @@
 // `concat` and `from_masks`.
-use super::helpers::{MAX, Of, caches, found, has, is, mask, refuses, same};
+use super::helpers::{MAX, Of, caches, found, has, is, lists, mask, refuses};
 use std::alloc::Global;
 use std::process::Abort;
 use vortex_mask::{Mask, MaskError};
@@ -93,22 +93,15 @@ fn lengths_that_do_not_fit(rt: HostRuntime) {
     overflows(&rt, rt.alloc(), false);
 }
 
-// True values, two mixed ones and false values.
+// 70 true values, two mixed ones and three false values.
 fn of_each_variant(rt: &impl Abort, alloc: Global) {
-    let (all, mixed, none) = (
-        Mask::new_true(70),
-        mask(rt, alloc, Of::Text("01")),
-        Mask::new_false(3),
-    );
+    let all = Mask::new_true(70);
+    let mixed = mask(rt, alloc, Of::Text("01"));
+    let none = Mask::new_false(3);
     let mask = found(rt, Mask::concat(alloc, [&all, &mixed, &none].into_iter()));
     caches(rt, &mask, (None, None));
-    same(rt, mask.len(), 75);
-    for i in 0..75usize {
-        assert!(rt;
-            i < mask.len() && mask.value(i) == (i < 70 || i == 71),
-            "value {i}"
-        );
-    }
+    let want = "111111111111111111111111111111111111111111111111111111111111111111111101000";
+    lists(rt, &mask, want);
 }
 
 #[test]

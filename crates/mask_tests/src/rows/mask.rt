@@ -26,15 +26,16 @@ fn one_variant_for_each_list(rt: HostRuntime) {
     made_and_copied(&rt, rt.alloc(), &ROWS);
 }
 
-fn constructors(rt: &impl Abort) {
-    is(rt, &Mask::new(3, true), ("111", "AllTrue"));
-    is(rt, &Mask::new(3, false), ("000", "AllFalse"));
-    is(rt, &Mask::default(), ("", "AllTrue"));
+// Takes the mask by value: the test then holds none while it makes the next.
+fn has_variant(rt: &impl Abort, mask: Mask, list: &str, variant: &str) {
+    is(rt, &mask, (list, variant));
 }
 
 #[test]
 fn variants_of_constructors(rt: HostRuntime) {
-    constructors(&rt);
+    has_variant(&rt, Mask::new(3, true), "111", "AllTrue");
+    has_variant(&rt, Mask::new(3, false), "000", "AllFalse");
+    has_variant(&rt, Mask::default(), "", "AllTrue");
 }
 
 // The counts of a mask, what follows from them, and how `bit_buffer` and `values` show it.
