@@ -38,13 +38,7 @@ fn parts_of<'a>(rt: &impl Abort, row: &'a str) -> (&'a str, &'a str) {
 }
 
 // Rows are lines of one text: a table of tuples of this length would take long to prove.
-fn prints_rows(
-    rt: &impl Abort,
-    alloc: Global,
-    rows: &str,
-    row_count: usize,
-) -> Result<(), AllocError> {
-    assert!(rt; rows.split('\n').count() == row_count);
+fn prints_rows(rt: &impl Abort, alloc: Global, rows: &str) -> Result<(), AllocError> {
     for row in rows.split('\n') {
         let (words, want) = parts_of(rt, row);
         prints(rt, alloc, words, want)?;
@@ -132,7 +126,8 @@ ranges 12 => word 1: byte 1 is not 0 or 1
 
 #[test]
 fn lines_and_faults(rt: HostRuntime) -> Result<(), Fail> {
-    prints_rows(&rt, rt.alloc(), ROWS, 76)?;
+    assert!(rt; ROWS.split('\n').count() == 76);
+    prints_rows(&rt, rt.alloc(), ROWS)?;
     assert!(rt; matches!(answer(rt.alloc(), &[]), Err(RunError::Usage)));
     Ok(())
 }
