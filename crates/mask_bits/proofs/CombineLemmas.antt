@@ -59,8 +59,7 @@ word_bits-combined f w x y same =
 -- bit j of a combined word
 combined_bit : (f : Bool → Bool → Bool) (a b : List ℕ) (p q j : ℕ) (v w r : List Bool)
     → v ≡ window a p → w ≡ window b q → r ≡ combined f v w → j < 64 → get_or r j false ≡ f (backing_bit a (p + j)) (backing_bit b (q + j))
-combined_bit f a b p q j v w r is_v is_w is_r h =
-    grind (arith, is_v, is_w, is_r, get_or-combined f v w j false, length-window a p, length-window b q, get_or-window a p j false, get_or-window b q j false)
+combined_bit f a b p q j v w r is_v is_w is_r h = grind (arith, get_or-combined, length-window, get_or-window)
 
 -- one more word
 pub AreCombined-step : (f : Bool → Bool → Bool) (a b out new : List ℕ) (p q i : ℕ) (v w : List Bool) (r : List Bool)
@@ -81,16 +80,7 @@ between-none f a b q m = record { inside = λ p from to. absurd (omega arith); o
 
 -- more of them
 pub between-join : (f : Bool → Bool → Bool) (a b c d : List ℕ) (q m n k : ℕ) → m ≤ n → n ≤ k → IsCombinedBetween f a b c q m n → IsCombinedBetween f c b d q n k → IsCombinedBetween f a b d q m k
-between-join f a b c d q m n k first second to_n to_k = record {
-  inside = λ p from to. elim (cases_lt p n) [
-    | inl before ↦ to_k.outside p (inl before) ∙ to_n.inside p from before
-    | inr past ↦ to_k.inside p past to ∙ ap (λ x. f x (backing_bit b (q + p))) (to_n.outside p (inr past))
-  ];
-  outside = λ p apart. elim apart [
-    | inl before ↦ to_k.outside p (inl (omega arith)) ∙ to_n.outside p (inl before)
-    | inr past ↦ to_k.outside p (inr past) ∙ to_n.outside p (inr (omega arith))
-  ];
-}
+between-join f a b c d q m n k first second to_n to_k = grind (arith, cases_lt)
 
 -- one of them
 pub between-word : (f : Bool → Bool → Bool) (a b new : List ℕ) (q i : ℕ) (v w : List Bool) (r : List Bool)
@@ -209,6 +199,4 @@ room-covers b xs ys len covered same is_len = omega (arith, length-values b, ap 
 pub values-written : {E : Type 0} (r : Result Packed E) (ys xs : List ℕ) (len : ℕ) (m : List Bool) → length ys ≡ length xs
     → IfOk r (λ b. values b ≡ values (record { bytes = take (length xs) (ys ++ drop (length ys) xs); offset = 0; len = len }))
     → values (record { bytes = ys; offset = 0; len = len }) ≡ m → IfOk r (λ b. values b ≡ m)
-values-written r ys xs len m same made is =
-    IfOk-weaker r (λ b. values b ≡ values (record { bytes = take (length xs) (ys ++ drop (length ys) xs); offset = 0; len = len })) (λ b. values b ≡ m)
-    (λ b wrote. wrote ∙ ap (λ (bytes : List ℕ). values (record { bytes = bytes; offset = 0; len = len })) (take_back (length xs) ys xs same) ∙ is) made
+values-written r ys xs len m same made is = grind (arith, IfOk-weaker, take_back)

@@ -1,14 +1,12 @@
 -- Where a value first stands in a list from an index on, found in the backing bits.
-use Rattle.std.proofs.Common.{◌≡◌, ℕ, ◌+◌, ◌-◌, ◌<◌, ◌≤◌, Bool, false, not, List, get_or, min, ap, sym, ◌∙◌, ◌⊎◌, inl, inr, arith}
+use Rattle.std.proofs.Common.{◌≡◌, ℕ, ◌+◌, ◌-◌, ◌<◌, ◌≤◌, Bool, false, not, List, get_or, min, ◌∙◌, ◌⊎◌, inl, inr, arith}
 use Rattle.mask_bits.specs.Buffer.{Packed, backing_bit, values}
 use Rattle.mask_bits.specs.Positions.{IsFirstFrom}
 use Rattle.mask_bits.proofs.BufferLemmas.{len-of_list, get_or-values}
 
 -- bit j past an index is the value there
 at_index : (b : Packed) {m : List Bool} (index j i : ℕ) → values b ≡ m → i ≡ index + j → i < b.len → get_or m i false ≡ backing_bit b.bytes (b.offset + index + j)
-at_index b index j i same is within =
-    let at : b.offset + i ≡ b.offset + index + j = omega arith in
-    sym (ap (λ (xs : List Bool). get_or xs i false) same) ∙ get_or-values b i false within ∙ ap (backing_bit b.bytes) at
+at_index b index j i same is within = grind (arith, get_or-values)
 
 -- values of one kind up to an index, and k more
 pub passed_more : (b : Packed) {m : List Bool} (from index k : ℕ) (other : Bool) → values b ≡ m → index + k ≤ b.len

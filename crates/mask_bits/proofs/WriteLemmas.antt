@@ -1,5 +1,5 @@
 -- Bits written behind the first bits of some bytes.
-use Rattle.std.proofs.Common.{◌≡◌, ℕ, ◌+◌, ◌*◌, ◌-◌, ◌/◌, ◌%◌, ◌^◌, ◌<◌, ◌≤◌, Bool, true, false, ◌||◌, nat_eq, List, ◌++◌, length, get_or, take, drop, slice_range, replicate, refl, ap, ◌∙◌, inl, inr, ◌⊎◌, arith}
+use Rattle.std.proofs.Common.{◌≡◌, ℕ, ◌+◌, ◌*◌, ◌-◌, ◌/◌, ◌%◌, ◌^◌, ◌<◌, ◌≤◌, Bool, true, false, ◌||◌, nat_eq, List, ◌++◌, length, get_or, take, drop, slice_range, replicate, ap, ◌∙◌, inl, inr, ◌⊎◌, arith}
 use Rattle.std.specs.Int.{bit_at}
 use Rattle.std.specs.Int.RustNames.{bit_or}
 use Rattle.std.proofs.Math.Bool.{or-false}
@@ -7,7 +7,7 @@ use Rattle.std.proofs.lemmas.Bool.{cases_lt}
 use Rattle.std.proofs.lemmas.List.{length-append, length-take, length-replicate, get_or-replicate, get_or_append_left, get_or-append_right, get_or_past, get_or-take, ext_get_or, replicate-append-replicate}
 use Rattle.std.proofs.lemmas.Nat.Bits.{bit_at_ones}
 use borrow.Rule.Slice.PartMut.{put_mid}
-use Rattle.mask_bits.specs.Buffer.{Packed, backing_bit, values}
+use Rattle.mask_bits.specs.Buffer.{backing_bit, values}
 use Rattle.mask_bits.specs.BufferMut.{IsWrittenBehind, AreClearFrom}
 use Rattle.mask_bits.specs.Positions.{repeated}
 use Rattle.mask_bits.specs.Words.{word_bits, window}
@@ -165,9 +165,7 @@ written-full old ys i k e is_end within clear ones =
 
 -- none of them
 pub written-no_bits : (a from : List ℕ) (at offset : ℕ) → AreClearFrom at a → IsWrittenBehind a a at (values (record { bytes = from; offset = offset; len = 0 }))
-written-no_bits a from at offset clear =
-    let b : Packed = record { bytes = from; offset = offset; len = 0 } in
-    record { stays = λ p h. refl; comes = λ i. grind (arith, clear (at + i), length-values b, get_or_past (values b) i false) }
+written-no_bits a from at offset clear = grind (arith, length-values, get_or_past)
 
 -- more of them
 pub written-more : (a b c from : List ℕ) (at offset n k next : ℕ) (m : List Bool) → next ≡ at + n → m ≡ values (record { bytes = from; offset = offset + n; len = k })

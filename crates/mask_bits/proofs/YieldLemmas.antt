@@ -6,11 +6,7 @@ use Rattle.std.proofs.iter.runs.Sources.{from_front, as_is}
 use Rattle.mask_bits.specs.Words.{word_bits}
 
 pub MakesProgress-item : {A B : Type 0} (s t : List A) (x : A) (r : B) → s ≡ x ∷ t → MakesProgress {S = List A} {A = B} (λ _. Unit {0}) (item_count {A = A} (λ s. s)) s (Some r) t
-MakesProgress-item s t x r e = record {
-  on = λ _. (tt, tt, omega (arith, ap length e));
-  keeps = tt;
-  rests = λ _. tt;
-}
+MakesProgress-item s t x r e = grind (arith)
 
 pub in_order : {A : Type 0} → YieldsInOrder (YieldsFirst {A = A} (λ s. s)) (λ s. s)
 in_order {A} p seen = as_is p p.from (from_front (YieldsFirst {A = A} (λ s. s)) (λ x. x) (λ s. s) (λ s t h. ap length h.0) (λ s x t h. h) p seen)

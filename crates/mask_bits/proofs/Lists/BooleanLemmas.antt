@@ -116,12 +116,7 @@ and_not_is_and_of_not [] b = refl
 and_not_is_and_of_not (v ∷ a) b = grind (arith, and_not_is_and_of_not a)
 
 pub keeps_length : KeepsLength
-keeps_length = record {
-  and = length-combined (λ x y. x && y);
-  or = length-combined (λ x y. x || y);
-  and_not = length-combined (λ x y. x && not y);
-  not = length-not_of;
-}
+keeps_length = grind (arith, length-combined, length-not_of)
 
 -- ---- under a rank intersection
 

@@ -1,5 +1,5 @@
 -- How many values are true: of lists of one value, and what no or every true value says of a list.
-use Rattle.std.proofs.Common.{◌++◌, ◌≡◌, ℕ, zero, suc, ◌+◌, ◌<◌, Bool, true, false, List, [], ◌∷◌, length, get_or, Some, slice_get, refl, sym, ap, ◌∙◌, arith, zero-add, replicate, ◌-◌}
+use Rattle.std.proofs.Common.{◌++◌, ◌≡◌, ℕ, zero, suc, ◌+◌, ◌<◌, Bool, true, false, List, [], ◌∷◌, length, get_or, Some, slice_get, refl, sym, ap, ◌∙◌, arith, zero-add}
 use Rattle.std.specs.List.{All, list_all, list_any, range_with_len}
 use Rattle.std.proofs.lemmas.List.{get_or-replicate, length-replicate, get_or_append_left, get_or-append_right, get_or_past}
 use Rattle.std.proofs.lemmas.List.FromFn.{length-range_with_len, get_or-range_with_len}
@@ -84,8 +84,7 @@ get_or-repeated n i v d h = get_or-replicate n i v d h
 -- false values behind a list change no value
 pub get_or-padded : (m : List Bool) (n i : ℕ) → get_or (m ++ repeated n false) i false ≡ get_or m i false
 unfolding repeated
-get_or-padded m n i =
-    grind (arith, get_or_append_left m (replicate n false) false i, get_or-append_right m (replicate n false) (length m) i false, get_or-replicate n (i - length m) false false, get_or_past (replicate n false) (i - length m) false, length-replicate n false, get_or_past m i false)
+get_or-padded m n i = grind (arith, get_or_append_left, get_or-append_right, get_or-replicate, get_or_past, length-replicate)
 
 pub slice_get-repeated : (n : ℕ) (v : Bool) (i : ℕ) → i < length (repeated n v) → slice_get (repeated n v) i ≡ Some v
 slice_get-repeated n v i h = grind (arith, slice_get-get_or (repeated n v) i v h, get_or-repeated n i v v, length-repeated)

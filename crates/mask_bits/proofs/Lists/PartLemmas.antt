@@ -25,5 +25,4 @@ part_of_concat before after m = grind (arith, flat_map-append, between-sides)
 -- a part of a list of one value
 pub part_of_repeated : (n : ℕ) (v : Bool) (s e : ℕ) → s ≤ e → e ≤ n → slice_range (repeated n v) s e ≡ repeated (e - s) v
 unfolding repeated
-part_of_repeated n v s e ordered within =
-    ap (take (e - s)) (drop-replicate s n v) ∙ take-replicate (e - s) (n - s) v (omega arith)
+part_of_repeated n v s e ordered within = grind (arith, drop-replicate, take-replicate)

@@ -1,5 +1,5 @@
 -- Where true value number n of a list stands, found by the counts of its started words; and its last true value.
-use Rattle.std.proofs.Common.{◌≡◌, ℕ, suc, ◌+◌, ◌*◌, ◌-◌, ◌^◌, ◌<◌, ◌≤◌, Bool, true, false, List, [], ◌∷◌, ◌++◌, length, get_or, take, drop, map, Some, None, slice_get, slice_range, refl, sym, ap, ◌∙◌, inl, inr, nat_eq, arith, append-nil, add-zero, pow-suc, drop-drop, option_map}
+use Rattle.std.proofs.Common.{◌≡◌, ℕ, suc, ◌+◌, ◌*◌, ◌-◌, ◌^◌, ◌<◌, ◌≤◌, Bool, true, false, List, [], ◌∷◌, ◌++◌, length, get_or, take, drop, map, Some, None, slice_get, slice_range, refl, sym, ap, ◌∙◌, arith, append-nil, add-zero, pow-suc, drop-drop, option_map}
 use Rattle.std.specs.Int.{bit_at, w64, leading_zeros}
 use Rattle.std.specs.Int.RustNames.{bit_and}
 use Rattle.std.proofs.lemmas.List.{take-append-drop, drop-drop, drop_more, take_all, length-append, length-drop, length-take, get_or-drop, get_or-take, get_or_past}
@@ -59,12 +59,7 @@ count-word_more m i = grind (arith, take-add (64 * i) 64 m, count-append (take (
 
 -- the false values of the last word hold no place
 places-part : (m : List Bool) (n i : ℕ) → indices_from n (padded_part m i) ≡ indices_from n (take 64 (drop (64 * i) m))
-places-part m n i =
-    let rest : List Bool = drop (64 * i) m in
-    let here : List Bool = take 64 rest in
-    sym (ap (indices_from n) (part-split m i)) ∙ indices_from-append n here (repeated (64 - length rest) false)
-    ∙ ap (λ (ps : List ℕ). indices_from n here ++ ps) (indices_from-repeated_false (n + length here) (64 - length rest))
-    ∙ append-nil (indices_from n here)
+places-part m n i = grind (arith, part-split, indices_from-append, indices_from-repeated_false, append-nil)
 
 -- the places of one more started word
 pub places-word_more : (m : List Bool) (i : ℕ) → 64 * i ≤ length m → positions (take (64 * (i + 1)) m) ≡ positions (take (64 * i) m) ++ indices_from (64 * i) (padded_part m i)
@@ -142,11 +137,7 @@ no_index (v ∷ m) n none = grind (arith, none 0, no_index m (n + 1) (λ i. none
 
 -- none in a word without bits
 pub places-of_none : (n : ℕ) → indices_from n (word_bits 0) ≡ []
-places-of_none n = no_index (word_bits 0) n (λ i.
-    elim (cases_lt i 64) [
-      | inl inside ↦ get_or-word_bits 0 i false inside ∙ ap (λ b. nat_eq b 1) (bit_at-zero i)
-      | inr past ↦ get_or_past (word_bits 0) i false (omega (arith, length-word_bits 0))
-    ])
+places-of_none n = grind (arith, no_index, cases_lt, get_or-word_bits, bit_at-zero, get_or_past, length-word_bits)
 
 pub last_place : (m : List Bool) (p : ℕ) → p < length m → get_or m p false ≡ true → ((i : ℕ) → p < i → get_or m i false ≡ false) → slice_get (positions m) (count m - 1) ≡ Some p
 last_place m p within holds past =

@@ -1,5 +1,5 @@
 -- The bits of some bytes from any position on: parts of them, the words that show them, and their counts.
-use Rattle.std.proofs.Common.{◌≡◌, ℕ, ◌+◌, ◌*◌, ◌-◌, ◌/◌, ◌%◌, ◌^◌, ◌<◌, ◌≤◌, Bool, false, nat_eq, List, ◌++◌, length, get_or, take, drop, sym, ap, ◌∙◌, arith, count_ones}
+use Rattle.std.proofs.Common.{◌≡◌, ℕ, ◌+◌, ◌*◌, ◌-◌, ◌^◌, ◌<◌, ◌≤◌, Bool, false, nat_eq, List, ◌++◌, length, get_or, drop, sym, ◌∙◌, arith, count_ones}
 use Rattle.std.specs.Int.{bit_at}
 use Rattle.std.specs.Int.RustNames.{bit_and}
 use Rattle.std.proofs.lemmas.List.{get_or-drop}
@@ -29,10 +29,7 @@ bits_at-append bytes p a b = sym (values-join bytes p a b)
 
 -- the bits of bytes whose first k are left out
 pub backing_bit-drop : (bytes : List ℕ) (k p : ℕ) → backing_bit (drop k bytes) p ≡ backing_bit bytes (8 * k + p)
-backing_bit-drop bytes k p =
-    let byte : k + p / 8 ≡ (8 * k + p) / 8 = omega arith in
-    let bit : p % 8 ≡ (8 * k + p) % 8 = omega arith in
-    grind (arith, get_or-drop k bytes (p / 8) 0)
+backing_bit-drop bytes k p = grind (arith, get_or-drop)
 
 pub bits_at-drop : (bytes : List ℕ) (k n : ℕ) → bits_at (drop k bytes) 0 n ≡ bits_at bytes (8 * k) n
 bits_at-drop bytes k n =
@@ -40,8 +37,7 @@ bits_at-drop bytes k n =
 
 -- a word cut to its low bits shows those bits alone
 pub word_bits-low : (bytes : List ℕ) (p n w : ℕ) → n ≤ 64 → word_bits w ≡ window bytes p → word_bits (bit_and w (2 ^ n - 1)) ≡ bits_at bytes p n ++ repeated (64 - n) false
-word_bits-low bytes p n w few shows =
-    word_bits-low_mask w n few ∙ ap (λ (xs : List Bool). take n xs ++ repeated (64 - n) false) shows ∙ ap (λ (xs : List Bool). xs ++ repeated (64 - n) false) (window-take bytes p n few)
+word_bits-low bytes p n w few shows = grind (arith, word_bits-low_mask, window-take)
 
 -- and has as many ones as they have true values
 pub count-low : (bytes : List ℕ) (p n w : ℕ) → n ≤ 64 → bit_and w (2 ^ n - 1) < 2 ^ 64 → word_bits w ≡ window bytes p → count_ones (bit_and w (2 ^ n - 1)) ≡ count (bits_at bytes p n)

@@ -6,17 +6,13 @@ use Rattle.mask_bits.proofs.CombineLemmas.{within-parts, values-parts, room-show
 use Rattle.mask_bits.proofs.bitops.combined_into.Goals as goal
 
 pub combine_in_place-requires-clause-within : goal.combine_in_place-requires-clause-within
-combine_in_place-requires-clause-within g c =
-    omega (arith, c.len-len.ensures, length-values c.args.a, c.in-Ok.ensures.covered, ap length c.as_mut_slice.ensures.value)
+combine_in_place-requires-clause-within g c = grind (arith, length-values)
 
 pub combine_in_place-requires-clause-b_within : goal.combine_in_place-requires-clause-b_within
-combine_in_place-requires-clause-b_within g c =
-    within-parts c.args.b.now _ _ _ c.bits.ensures.within c.offset.ensures (c.len-len.ensures ∙ c.requires)
+combine_in_place-requires-clause-b_within g c = grind (arith, within-parts)
 
 pub from_room-requires : goal.from_room-requires
-from_room-requires g c =
-    room-covers c.args.a c.in-Ok.room.items c.combine_in_place.new.bytes c.len-len.result c.in-Ok.ensures.covered
-    (c.combine_in_place.auto.bytes ∙ ap length c.as_mut_slice.ensures.value) c.len-len.ensures
+from_room-requires g c = grind (arith, room-covers)
 
 pub returns-in-Ok : goal.returns-in-Ok
 returns-in-Ok g c =

@@ -1,4 +1,4 @@
-use Rattle.std.proofs.Common.{◌≡◌, slice_get, ap, ◌∙◌, sym, arith}
+use Rattle.std.proofs.Common.{slice_get, arith}
 use Rattle.mask_bits.specs.Positions.{positions}
 use Rattle.mask_bits.specs.Words.{word_bits}
 use Rattle.mask_bits.proofs.Lists.Words.LowestLemmas.{low-within}
@@ -6,19 +6,13 @@ use Rattle.mask_bits.proofs.Lists.Places.SelectLemmas.{some_left, left-more, lef
 use Rattle.mask_bits.proofs.chunks.index_in_word.Goals as goal
 
 pub overflow_sub-word : goal.overflow_sub-word
-overflow_sub-word c =
-    omega (arith, some_left c.loop.word c.loop.counter (positions (word_bits c.args.word)) c.loop.auto.word-fits.fits c.loop.invariant (omega arith))
+overflow_sub-word c = grind (arith, some_left)
 
 pub loop-preserved : goal.loop-preserved
 loop-preserved c = left-more c.loop.word c.loop.counter (positions (word_bits c.args.word)) c.loop.auto.word-fits.fits c.loop.invariant (omega arith)
 
 pub returns-clause-index : goal.returns-clause-index
-returns-clause-index c =
-    let ps = positions (word_bits c.args.word) in
-    let last : c.loop.counter ≡ c.args.n = omega arith in
-    ap (slice_get ps) (sym last) ∙ left-first c.loop.word c.loop.counter ps c.loop.auto.word-fits.fits c.loop.invariant (omega arith)
+returns-clause-index c = grind (arith, slice_get, left-first)
 
 pub returns-clause-few : goal.returns-clause-few
-returns-clause-few c =
-    let some = some_left c.loop.word c.loop.counter (positions (word_bits c.args.word)) c.loop.auto.word-fits.fits c.loop.invariant (omega arith) in
-    low-within c.loop.word some c.loop.auto.word-fits.fits
+returns-clause-few c = grind (arith, some_left, low-within)

@@ -9,6 +9,4 @@ returns-then-len-ne0 g c =
     (between-join _ _ _ _ _ _ _ (64 * (c.args.len / 64)) _ (omega arith) (omega arith) c.change_whole.ensures c.change_last.ensures) (omega arith)
 
 pub returns-else-len-ne0 : goal.returns-else-len-ne0
-returns-else-len-ne0 g c =
-    values-in_place g.C.BitOp.of_bits c.args.bytes.now c.args.b.now c.change_whole.new.bytes _ c.args.b_offset c.args.len _ (take_rest c.args.b.now (c.args.b_offset / 8))
-    c.change_whole.ensures (omega arith)
+returns-else-len-ne0 g c = grind (arith, values-in_place, take_rest)

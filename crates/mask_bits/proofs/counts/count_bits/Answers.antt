@@ -5,21 +5,7 @@ use Rattle.mask_bits.proofs.Lists.Words.BackingBitLemmas.{bits_at, count-split, 
 use Rattle.mask_bits.proofs.counts.count_bits.Goals as goal
 
 pub overflow_add-result : goal.overflow_add-result
-overflow_add-result c =
-    let bytes = c.args.bytes.now in
-    let p = c.args.position in
-    let head : ℕ = (8 - p % 8) % 8 in
-    let byte : ℕ = (p + head) / 8 in
-    let words : ℕ = (c.args.len - head) / 64 in
-    omega (
-      arith,
-      c.count_few-2.ensures,
-      c.count_words.ensures,
-      c.if-len-lt64.false,
-      c.ranges.len.fits,
-      count-bits_at-le bytes p head,
-      count-bits_at-le (take (length bytes - byte) (drop byte bytes)) 0 (64 * words),
-    )
+overflow_add-result c = grind (arith, count-bits_at-le)
 
 pub returns : goal.returns
 returns c =

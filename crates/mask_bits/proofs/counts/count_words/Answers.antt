@@ -1,4 +1,4 @@
-use Rattle.std.proofs.Common.{◌*◌, ◌+◌, ◌≡◌, ap, sym, ◌∙◌, arith, count_ones}
+use Rattle.std.proofs.Common.{◌*◌, ◌+◌, ◌≡◌, sym, arith, count_ones}
 use Rattle.mask_bits.specs.Positions.{count}
 use Rattle.mask_bits.proofs.Lists.Words.BackingBitLemmas.{bits_at, count-bits_at-le}
 use Rattle.mask_bits.proofs.Lists.CountLemmas.{count-append}
@@ -10,10 +10,7 @@ pub loop-i-init : goal.loop-i-init
 loop-i-init c = omega (arith, count-bits_at-le c.args.bytes.now 0 0)
 
 more : (c : goal.After-word_of) → count (bits_at c.args.bytes.now 0 (64 * (c.loop-i.i + 1))) ≡ c.loop-i.count + count_ones c.word_of.result
-more c =
-    let front = bits_at c.args.bytes.now 0 (64 * c.loop-i.i) in
-    ap count (front-more_word c.args.bytes.now c.loop-i.i) ∙ count-append front _
-    ∙ omega (arith, c.loop-i.invariant, ap count c.word_of.ensures, count-word_bits c.word_of.result c.word_of.type_inv)
+more c = grind (arith, front-more_word, count-append, count-word_bits)
 
 pub overflow_add-count : goal.overflow_add-count
 overflow_add-count c =

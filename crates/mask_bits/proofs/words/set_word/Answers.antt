@@ -1,6 +1,6 @@
-use Rattle.std.proofs.Common.{◌≡◌, ℕ, ◌+◌, ◌*◌, ◌-◌, ◌/◌, ◌%◌, ◌<◌, List, subst, length, get_or, nat_eq, ap, sym, ◌∙◌, arith, rules, inl, inr}
+use Rattle.std.proofs.Common.{ℕ, ◌+◌, ◌*◌, ◌<◌, List, subst, length, get_or, ap, sym, ◌∙◌, arith, rules}
 use Rattle.std.proofs.lemmas.Nat.{from_le_bytes-to_le_bytes_8}
-use Rattle.std.specs.Int.{w64, bit_at, from_le_bytes}
+use Rattle.std.specs.Int.{w64, from_le_bytes}
 use Rattle.mask_bits.specs.Words.{word_bits}
 use Rattle.mask_bits.proofs.Lists.Words.FrontLemmas.{word_bits-chunk, get_or-put_mid_below, get_or-put_mid_above, get_or-put_mid_inside}
 use Rattle.mask_bits.proofs.NumberLemmas.{bytes-of_word}
@@ -15,9 +15,4 @@ returns-clause-here c =
     ∙ ap word_bits (ap (from_le_bytes w64) wrote ∙ from_le_bytes-to_le_bytes_8 c.args.word (search rules))
 
 pub returns-clause-others : goal.returns-clause-others
-returns-clause-others c = λ p apart.
-    let len : length c.copy_from_slice.new.self ≡ 8 * c.args.i + 8 - 8 * c.args.i = ap length (c.copy_from_slice.ensures.after ∙ c.to_le_bytes.ensures) ∙ omega arith in
-    ap (λ b. nat_eq (bit_at b (p % 8)) 1) (elim apart [
-      | inl below ↦ get_or-put_mid_below (8 * c.args.i) (8 * c.args.i + 8 - 8 * c.args.i) c.args.bytes.now c.copy_from_slice.new.self (p / 8) (omega arith) (omega arith)
-      | inr above ↦ get_or-put_mid_above (8 * c.args.i) (8 * c.args.i + 8 - 8 * c.args.i) c.args.bytes.now c.copy_from_slice.new.self (p / 8) (omega arith) len (omega arith)
-    ])
+returns-clause-others c = grind (arith, get_or-put_mid_below, get_or-put_mid_above)

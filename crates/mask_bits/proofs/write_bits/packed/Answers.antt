@@ -1,4 +1,4 @@
-use Rattle.std.proofs.Common.{Bool, List, false, get_or, ap, ◌∙◌, arith}
+use Rattle.std.proofs.Common.{arith}
 use Rattle.std.proofs.lemmas.List.{take_all}
 use Rattle.mask_bits.proofs.BoolsLemmas.{packed-none, packed-more}
 use Rattle.mask_bits.proofs.write_bits.packed.Goals as goal
@@ -10,5 +10,4 @@ pub loop-j-preserved : goal.loop-j-preserved
 loop-j-preserved c = packed-more c.args.bools.now c.loop-j.j c.loop-j.word (omega (arith, c.requires)) c.loop-j.invariant
 
 pub returns : goal.returns
-returns c = λ k h.
-    c.loop-j.invariant k h ∙ ap (λ (m : List Bool). get_or m k false) (take_all c.loop-j.j c.args.bools.now (omega arith))
+returns c = grind (arith, take_all)

@@ -17,6 +17,4 @@ returns-clause-counted c =
     ∙ ap (λ p. count (slice_range (values p) start «end»)) c.self.view_is
 
 pub returns-clause-at_most : goal.returns-clause-at_most
-returns-clause-at_most c =
-    let part : Packed = record { bytes = c.as_slice.result.now; offset = c.self.inside.offset + c.args.start; len = c.args.end - c.args.start } in
-    omega (arith, c.count_bits.ensures, count-le-length (values part), length-values part)
+returns-clause-at_most c = grind (arith, count-le-length, length-values)

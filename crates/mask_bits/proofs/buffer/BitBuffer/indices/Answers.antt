@@ -2,27 +2,16 @@ use Rattle.std.proofs.Common.{ℕ, ◌≡◌, ◌+◌, ◌-◌, ◌*◌, ◌/◌
 use Rattle.std.proofs.lemmas.List.{take_all}
 use Rattle.mask_bits.specs.Buffer.{values}
 use Rattle.mask_bits.specs.Positions.{positions, indices_from}
-use Rattle.mask_bits.specs.Words.{word_bits, word_part, padded_part, padded_remainder}
+use Rattle.mask_bits.specs.Words.{word_bits, padded_part, padded_remainder}
 use Rattle.mask_bits.proofs.Lists.Words.PaddedLemmas.{padded_part-whole, padded_part-remainder}
 use Rattle.mask_bits.proofs.Lists.Places.SelectLemmas.{places-word_more}
 use Rattle.mask_bits.proofs.buffer.BitBuffer.indices.Goals as goal
 
 pub loop-i-preserved : goal.loop-i-preserved
-loop-i-preserved c =
-    let m = values c.args.self.now in
-    let i = c.loop-i.i in
-    let same : length c.chunks-chunks.result ≡ length m = ap length c.chunks-chunks.ensures.list in
-    c.in_ok-push_indices.ensures
-    ∙ ap (λ (xs : List ℕ). xs ++ indices_from (64 * i) (word_bits c.word.result)) c.loop-i.invariant
-    ∙ ap (λ (bits : List Bool). positions (take (64 * i) m) ++ indices_from (64 * i) bits)
-    (c.word.ensures ∙ ap (λ (list : List Bool). word_part list i) c.chunks-chunks.ensures.list ∙ padded_part-whole m i (omega (arith, same, c.loop-i-test.true, c.len-i-end.ensures)))
-    ∙ sym (places-word_more m i (omega (arith, same, c.loop-i-test.true, c.len-i-end.ensures)))
+loop-i-preserved c = grind (arith, padded_part-whole, places-word_more)
 
 pub returns-then-remainder_len-eq0 : goal.returns-then-remainder_len-eq0
-returns-then-remainder_len-eq0 c =
-    let m = values c.args.self.now in
-    let same : length c.chunks-chunks.result ≡ length m = ap length c.chunks-chunks.ensures.list in
-    c.loop-i.invariant ∙ ap positions (take_all (64 * c.loop-i.i) m (omega (arith, same, c.len-i-end.ensures, c.remainder_len.ensures, c.loop-i-test.false, c.loop-i.auto.i-end)))
+returns-then-remainder_len-eq0 c = grind (arith, take_all)
 
 pub returns : goal.returns
 returns c =

@@ -6,13 +6,10 @@ use Rattle.mask_bits.proofs.CombineLemmas.{room-shows, room-covers, values-writt
 use Rattle.mask_bits.proofs.buffer.BitBuffer.into_not.Goals as goal
 
 pub negate_in_place-requires : goal.negate_in_place-requires
-negate_in_place-requires c =
-    omega (arith, c.len-len.ensures, length-values c.args.self, c.in-Ok.ensures.covered, ap length c.as_mut_slice.ensures.value)
+negate_in_place-requires c = grind (arith, length-values)
 
 pub from_room-requires : goal.from_room-requires
-from_room-requires c =
-    room-covers c.args.self c.in-Ok.room.items c.negate_in_place.new.bytes c.len-len.result c.in-Ok.ensures.covered
-    (c.negate_in_place.auto.bytes ∙ ap length c.as_mut_slice.ensures.value) c.len-len.ensures
+from_room-requires c = grind (arith, room-covers)
 
 pub returns-in-Ok : goal.returns-in-Ok
 returns-in-Ok c =

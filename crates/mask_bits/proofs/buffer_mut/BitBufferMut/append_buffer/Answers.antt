@@ -1,6 +1,6 @@
-use Rattle.std.proofs.Common.{ℕ, List, Bool, ◌≡◌, ◌++◌, ◌+◌, length, sym, ap, subst, ◌∙◌, arith, rules}
+use Rattle.std.proofs.Common.{ℕ, List, Bool, ◌≡◌, ◌+◌, length, sym, ap, subst, ◌∙◌, arith, rules}
 use Rattle.std.proofs.lemmas.List.{with_items_is}
-use Rattle.mask_bits.specs.Buffer.{Packed, values, backing_bit}
+use Rattle.mask_bits.specs.Buffer.{Packed, values}
 use Rattle.mask_bits.specs.BufferMut.{IsRoom}
 use Rattle.mask_bits.proofs.BufferLemmas.{length-values, len-of_list}
 use Rattle.mask_bits.proofs.BuilderLemmas.{on_err, front-appended, room-appended}
@@ -11,22 +11,13 @@ pub overflow_add-self-inside : goal.overflow_add-self-inside
 overflow_add-self-inside c = omega (arith, len-of_list _ c.self.view_is, c.requires)
 
 pub returns-in_err-make_room-clause-refused : goal.returns-in_err-make_room-clause-refused
-returns-in_err-make_room-clause-refused c =
-    on_err c.from_residual.result (front-same c.self.inside.bytes.items c.make_room.new.bytes.items c.self.inside.len (λ p h. c.make_room.ensures.stays p) ∙ c.self.view_is)
+returns-in_err-make_room-clause-refused c = grind (arith, on_err, front-same)
 
 pub put_bits-requires-clause-fits : goal.put_bits-requires-clause-fits
 put_bits-requires-clause-fits c = omega (arith, len-of_list _ c.self.view_is, c.requires)
 
 pub put_bits-requires-clause-source : goal.put_bits-requires-clause-source
-put_bits-requires-clause-source c =
-    let other = c.args.other.now in
-    let bytes = c.as_slice.ensures ∙ c.inner.ensures.bytes in
-    let within = c.inner.ensures.within in
-    let len = length-values other in
-    record {
-      covered = omega (arith, within.covered, ap length bytes, c.offset.ensures, c.len-n.ensures, len);
-      fits = omega (arith, within.fits, c.offset.ensures, c.len-n.ensures, len);
-    }
+put_bits-requires-clause-source c = grind (arith, length-values)
 
 pub overflow_add-self : goal.overflow_add-self
 overflow_add-self c = omega (arith, len-of_list _ c.self.view_is, c.requires)
@@ -49,12 +40,4 @@ other_values b bytes offset len same at all =
     ∙ ap (λ n. values (record { bytes = b.bytes; offset = b.offset; len = n })) (all ∙ length-values b)
 
 pub returns-clause-added : goal.returns-clause-added
-returns-clause-added c =
-    let room = c.make_room.new.bytes in
-    let new = c.put_bits.new.bytes in
-    let m : List Bool = values (record { bytes = c.as_slice.result.now; offset = c.offset.result; len = c.len-n.result }) in
-    let at = c.self.inside.len in
-    ap (λ (bytes : List ℕ). values (record { bytes = bytes; offset = 0; len = at + c.len-n.result })) (with_items_is room new (search rules))
-    ∙ front-appended c.self.inside.bytes.items c.deref_mut.result.now new at (at + c.len-n.result) m c.args.self.now c.self.view_is (omega (arith, length-values (record { bytes = c.as_slice.result.now; offset = c.offset.result; len = c.len-n.result })))
-    (λ p. ap (λ (bytes : List ℕ). backing_bit bytes p) c.deref_mut.ensures.value ∙ c.make_room.ensures.stays p) c.put_bits.ensures
-    ∙ ap (λ (x : List Bool). c.args.self.now ++ x) (other_values c.args.other.now c.as_slice.result.now c.offset.result c.len-n.result (c.as_slice.ensures ∙ c.inner.ensures.bytes) c.offset.ensures c.len-n.ensures)
+returns-clause-added c = grind (arith, with_items_is, front-appended, length-values, other_values)

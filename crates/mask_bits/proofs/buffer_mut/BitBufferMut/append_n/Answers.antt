@@ -1,6 +1,5 @@
-use Rattle.std.proofs.Common.{ℕ, List, Bool, ◌+◌, sym, ap, subst, ◌∙◌, arith, rules}
+use Rattle.std.proofs.Common.{ℕ, List, Bool, ◌+◌, sym, subst, arith, rules}
 use Rattle.std.proofs.lemmas.List.{with_items_is}
-use Rattle.mask_bits.specs.Buffer.{values, backing_bit}
 use Rattle.mask_bits.specs.BufferMut.{IsRoom}
 use Rattle.mask_bits.specs.Positions.{repeated}
 use Rattle.mask_bits.proofs.BufferLemmas.{len-of_list}
@@ -13,8 +12,7 @@ pub overflow_add-self-inside : goal.overflow_add-self-inside
 overflow_add-self-inside c = omega (arith, len-of_list _ c.self.view_is, c.requires)
 
 pub returns-in_err-make_room-clause-refused : goal.returns-in_err-make_room-clause-refused
-returns-in_err-make_room-clause-refused c =
-    on_err c.from_residual.result (front-same c.self.inside.bytes.items c.make_room.new.bytes.items c.self.inside.len (λ p h. c.make_room.ensures.stays p) ∙ c.self.view_is)
+returns-in_err-make_room-clause-refused c = grind (arith, on_err, front-same)
 
 pub put_same-requires-clause-fits : goal.put_same-requires-clause-fits
 put_same-requires-clause-fits c = omega (arith, len-of_list _ c.self.view_is, c.requires)
@@ -33,11 +31,4 @@ invariant_of-self-2 c =
     (omega (arith, c.make_room.ensures.whole, c.deref_mut.ensures.len)) (omega (arith, c.in_ok-make_room.ensures.room, c.deref_mut.ensures.len)) c.put_same.ensures)
 
 pub returns-clause-added : goal.returns-clause-added
-returns-clause-added c =
-    let room = c.make_room.new.bytes in
-    let new = c.put_same.new.bytes in
-    let m : List Bool = repeated c.args.n c.args.value in
-    let at = c.self.inside.len in
-    ap (λ (bytes : List ℕ). values (record { bytes = bytes; offset = 0; len = at + c.args.n })) (with_items_is room new (search rules))
-    ∙ front-appended c.self.inside.bytes.items c.deref_mut.result.now new at (at + c.args.n) m c.args.self.now c.self.view_is (omega (arith, length-repeated c.args.n c.args.value))
-    (λ p. ap (λ (bytes : List ℕ). backing_bit bytes p) c.deref_mut.ensures.value ∙ c.make_room.ensures.stays p) c.put_same.ensures
+returns-clause-added c = grind (arith, with_items_is, front-appended, length-repeated)

@@ -1,7 +1,5 @@
-use Rattle.std.proofs.Common.{ℕ, List, Bool, false, set, sym, ap, subst, ◌∙◌, arith, rules}
+use Rattle.std.proofs.Common.{arith}
 use Rattle.std.proofs.lemmas.List.{with_items_is}
-use Rattle.mask_bits.specs.Buffer.{values, backing_bit}
-use Rattle.mask_bits.specs.BufferMut.{IsRoom}
 use Rattle.mask_bits.proofs.BufferLemmas.{len-of_list}
 use Rattle.mask_bits.proofs.BuilderLemmas.{front-set, unset-here, unset-others, room-set}
 use Rattle.mask_bits.proofs.buffer_mut.BitBufferMut.unset.Goals as goal
@@ -10,22 +8,7 @@ pub clear_bit-requires : goal.clear_bit-requires
 clear_bit-requires c = omega (arith, c.self.invariant.covered, len-of_list _ c.self.view_is, c.deref_mut.ensures.len, c.requires)
 
 pub invariant_of-self : goal.invariant_of-self
-invariant_of-self c =
-    let old = c.self.inside.bytes.items in
-    let items = with_items_is c.self.inside.bytes c.clear_bit.new.bytes (search rules) in
-    subst (λ (bytes : List ℕ). IsRoom bytes c.self.inside.len) (sym items)
-    (room-set old c.clear_bit.new.bytes c.self.inside.len c.args.i (omega (arith, len-of_list _ c.self.view_is, c.requires)) (search rules)
-    (λ p apart. unset-others c.deref_mut.result.now c.clear_bit.new.bytes c.args.i c.clear_bit.ensures p apart ∙ ap (λ (bytes : List ℕ). backing_bit bytes p) c.deref_mut.ensures.value)
-    c.self.invariant)
+invariant_of-self c = grind (arith, with_items_is, room-set, len-of_list, unset-others)
 
 pub returns : goal.returns
-returns c =
-    let was = c.deref_mut.result.now in
-    let i = c.args.i in
-    let new = c.clear_bit.new.bytes in
-    let len = c.self.inside.len in
-    let items = with_items_is c.self.inside.bytes new (search rules) in
-    ap (λ (bytes : List ℕ). values (record { bytes = bytes; offset = 0; len = len })) items
-    ∙ front-set was new len i false (omega (arith, len-of_list _ c.self.view_is, c.requires)) (unset-here was new i c.clear_bit.ensures) (unset-others was new i c.clear_bit.ensures)
-    ∙ ap (λ (bytes : List ℕ). set (values (record { bytes = bytes; offset = 0; len = len })) i false) c.deref_mut.ensures.value
-    ∙ ap (λ (m : List Bool). set m i false) c.self.view_is
+returns c = grind (arith, with_items_is, front-set, len-of_list, unset-here, unset-others)

@@ -3,5 +3,4 @@ use Rattle.mask_bits.proofs.Lists.Words.PaddedLemmas.{length-padded_parts}
 use Rattle.mask_bits.proofs.chunks.BitChunks.iter_padded.Goals as goal
 
 pub returns-clause-fits : goal.returns-clause-fits
-returns-clause-fits c =
-    omega (arith, length-padded_parts c.new.result, c.new.ensures.len)
+returns-clause-fits c = grind (arith, length-padded_parts)

@@ -1,7 +1,6 @@
-use Rattle.std.proofs.Common.{ℕ, Option, ◌<◌, ◌-◌, length, subst, sym, ap, ◌∙◌, arith}
+use Rattle.std.proofs.Common.{ℕ, Option, ◌<◌, ◌-◌, length, subst, sym, arith}
 use Rattle.std.specs.Option.{IfSome}
 use Rattle.mask_bits.specs.Positions.{count}
-use Rattle.mask_bits.specs.Words.{word_bits}
 use Rattle.mask_bits.proofs.Lists.Places.PlaceLemmas.{place-within}
 use Rattle.mask_bits.proofs.Lists.Places.SelectLemmas.{last_in_word, last_none, none_more}
 use Rattle.mask_bits.proofs.chunks.BitChunks.last_set_index.Goals as goal
@@ -18,14 +17,7 @@ returns-then-last-ne0-clause-within c =
     subst (λ (o : Option ℕ). IfSome o (λ p. p < length m)) (sym (returns-then-last-ne0-clause-index c)) (place-within m (count m - 1))
 
 pub loop-i-preserved : goal.loop-i-preserved
-loop-i-preserved c =
-    let m = c.args.self.now in
-    record {
-      within = omega (arith, c.loop-i.invariant.within);
-      none = none_more m (c.loop-i.i - 1) (ap word_bits (sym c.if-last-ne0.false) ∙ c.padded_word-last.ensures) (λ p h. c.loop-i.invariant.none p (omega (arith, c.loop-i-test.true)));
-    }
+loop-i-preserved c = grind (arith, none_more)
 
 pub returns-clause-index : goal.returns-clause-index
-returns-clause-index c =
-    let m = c.args.self.now in
-    sym (last_none m (count m - 1) (λ p. c.loop-i.invariant.none p (omega arith)))
+returns-clause-index c = grind (arith, last_none)

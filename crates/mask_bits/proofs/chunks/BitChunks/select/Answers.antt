@@ -23,8 +23,7 @@ returns-then-left-ones-clause-within c =
     subst (λ (o : Option ℕ). IfSome o (λ p. p < length m)) (sym (returns-then-left-ones-clause-index c)) (place-within m c.args.n)
 
 pub loop-i-preserved : goal.loop-i-preserved
-loop-i-preserved c =
-    omega (arith, c.loop-i.invariant, count-word_more c.args.self.now c.loop-i.i, ap count c.padded_word-word.ensures, count-word_bits c.padded_word-word.result c.padded_word-word.type_inv)
+loop-i-preserved c = grind (arith, count-word_more, count-word_bits)
 
 pub returns-clause-index : goal.returns-clause-index
 returns-clause-index c =

@@ -1,4 +1,4 @@
-use Rattle.std.proofs.Common.{Bool, ℕ, List, ◌+◌, ◌*◌, ◌/◌, ◌%◌, length, ap, ◌∙◌, arith}
+use Rattle.std.proofs.Common.{Bool, ℕ, List, ◌+◌, ◌*◌, ◌/◌, ◌%◌, ap, ◌∙◌, arith}
 use Rattle.std.proofs.lemmas.List.{length-drop, take_rest}
 use Rattle.mask_bits.specs.Buffer.{Packed}
 use Rattle.mask_bits.specs.Words.{word_part, window}
@@ -8,12 +8,7 @@ use Rattle.mask_bits.proofs.WindowLemmas.{window-word_part}
 use Rattle.mask_bits.proofs.chunks.BitChunks.word.Goals as goal
 
 pub word-requires : goal.word-requires
-word-requires c =
-    let bytes = c.self.inside.bytes.now in
-    let first = c.self.inside.offset / 8 in record {
-      few = omega arith;
-      covered = omega (arith, c.self.invariant.covered, len-of_list _ c.self.view_is, length-drop first bytes, ap length (take_rest bytes first));
-    }
+word-requires c = grind (arith, len-of_list, length-drop, take_rest)
 
 pub returns : goal.returns
 returns c =

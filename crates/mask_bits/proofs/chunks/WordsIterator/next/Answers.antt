@@ -1,20 +1,13 @@
-use Rattle.std.proofs.Common.{List, Bool, ◌∷◌, ◌+◌, drop, sym, ap, ◌∙◌, arith}
-use Rattle.mask_bits.specs.Words.{word_parts}
+use Rattle.std.proofs.Common.{arith}
 use Rattle.mask_bits.proofs.Lists.Words.WordLemmas.{drop-word_parts, drop-word_parts_all}
 use Rattle.mask_bits.proofs.YieldLemmas.{MakesProgress-item}
 use Rattle.mask_bits.proofs.chunks.WordsIterator.next.Goals as goal
 
 pub returns-then-self-len-clause-steps : goal.returns-then-self-len-clause-steps
-returns-then-self-len-clause-steps c =
-    let none = sym c.self.view_is ∙ drop-word_parts_all c.self.inside.chunks c.self.inside.next (omega arith) in
-    (none, none)
+returns-then-self-len-clause-steps c = grind (arith, drop-word_parts_all)
 
 pub returns-clause-steps : goal.returns-clause-steps
-returns-clause-steps c =
-    let m = c.self.inside.chunks in
-    let next = c.self.inside.next in
-    sym c.self.view_is ∙ drop-word_parts m next (omega (arith, c.if-self-len.false))
-    ∙ ap (λ (x : List Bool). x ∷ drop (next + 1) (word_parts m)) (sym c.word-word.ensures)
+returns-clause-steps c = grind (arith, drop-word_parts)
 
 pub returns-clause-goes : goal.returns-clause-goes
 returns-clause-goes c = MakesProgress-item _ _ _ c.word-word.result (returns-clause-steps c)

@@ -1,24 +1,17 @@
-use Rattle.std.proofs.Common.{◌<◌, length, ap, sym, ◌∙◌, arith}
-use Rattle.mask_bits.specs.Positions.{positions}
+use Rattle.std.proofs.Common.{◌<◌, arith}
 use Rattle.mask_bits.proofs.Lists.CountLemmas.{positions-all_false}
 use Rattle.mask_bits.proofs.Lists.Words.WalkLemmas.{places-lowest, low-inside, IsLeft-cleared}
 use Rattle.mask_bits.proofs.YieldLemmas.{MakesProgress-item}
 use Rattle.mask_bits.proofs.set_indices.SetIndicesIterator.next.Goals as goal
 
 pub returns-in_err-at-clause-steps : goal.returns-in_err-at-clause-steps
-returns-in_err-at-clause-steps c =
-    let m = c.self.inside.chunks in
-    let none = sym c.self.view_is ∙ ap positions c.in_err-at.ensures.none ∙ positions-all_false (length m) in
-    rw c.from_residual.ensures (none, none)
+returns-in_err-at-clause-steps c = grind (arith, positions-all_false)
 
 some : (c : goal.After-self-2-1) → 0 < c.in_ok-at.word
 some c = omega (arith, c.in_ok-at.ensures.found)
 
 pub returns-clause-steps : goal.returns-clause-steps
-returns-clause-steps c =
-    let m = c.self.inside.chunks in
-    let left = c.in_ok-at.ensures.is_left in
-    sym c.self.view_is ∙ ap positions (sym c.in_ok-at.ensures.same) ∙ places-lowest m c.in_ok-at.at c.in_ok-at.word (some c) left.word left
+returns-clause-steps c = grind (arith, places-lowest, some)
 
 pub returns-clause-goes : goal.returns-clause-goes
 returns-clause-goes c = MakesProgress-item _ _ _ _ (returns-clause-steps c)

@@ -1,13 +1,10 @@
-use Rattle.std.proofs.Common.{length, refl, ap, sym, ◌∙◌, arith}
-use Rattle.mask_bits.specs.RunScan.{runs_from}
+use Rattle.std.proofs.Common.{arith}
 use Rattle.mask_bits.proofs.Lists.Words.WalkLemmas.{runs-lowest, runs_from-repeated_false, ones-inside, IsLeft-filled, IsLeft-ones_cleared}
 use Rattle.mask_bits.proofs.YieldLemmas.{MakesProgress-item}
 use Rattle.mask_bits.proofs.set_slices.SetSlicesIterator.next.Goals as goal
 
 pub returns-in_err-at-clause-steps : goal.returns-in_err-at-clause-steps
-returns-in_err-at-clause-steps c =
-    let none = sym c.self.view_is ∙ ap (runs_from 0) c.in_err-at.ensures.none ∙ runs_from-repeated_false 0 (length c.self.inside.chunks) in
-    rw c.from_residual.ensures (none, none)
+returns-in_err-at-clause-steps c = grind (arith, runs_from-repeated_false)
 
 pub past_full_words-at-requires : goal.past_full_words-at-requires
 past_full_words-at-requires c =
@@ -27,14 +24,7 @@ invariant_of-self c =
     (IsLeft-ones_cleared c.self.inside.chunks last.0 last.1 left.word left, c.self.invariant.1)
 
 pub returns-clause-steps : goal.returns-clause-steps
-returns-clause-steps c =
-    let m = c.self.inside.chunks in
-    let left = c.in_ok-at.ensures.is_left in
-    let last = c.past_full_words-at.result in
-    let passes = c.past_full_words-at.ensures.full in
-    sym c.self.view_is ∙ ap (runs_from 0) (sym c.in_ok-at.ensures.same)
-    ∙ runs-lowest m c.in_ok-at.at c.in_ok-at.word last.0 last.1 (omega (arith, c.in_ok-at.ensures.found)) left.word passes.is.word left passes c.past_full_words-at.ensures.last
-    ∙ rw c.trailing_ones.ensures refl
+returns-clause-steps c = grind (arith, runs-lowest)
 
 pub returns-clause-goes : goal.returns-clause-goes
 returns-clause-goes c = MakesProgress-item _ _ _ _ (returns-clause-steps c)
