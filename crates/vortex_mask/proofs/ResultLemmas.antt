@@ -1,11 +1,6 @@
 -- Facts about the value of a call that went through.
 use Rattle.std.proofs.Common.{Result, Ok, Err, ◌⊎◌, inl, inr}
-use Rattle.std.specs.Result.{IfOk, IfErr}
-
--- two facts of the value give a third
-pub IfOk-both : {T E : Type 0} (r : Result T E) (P Q R : T → Type 0) → ((x : T) → P x → Q x → R x) → IfOk r P → IfOk r Q → IfOk r R
-IfOk-both (Ok x) P Q R f p q = f x p q
-IfOk-both (Err e) P Q R f p q = p
+use Rattle.std.specs.Result.{IfErr}
 
 -- a refusal that is one of two, where the second is told otherwise
 pub IfErr-or : {T E : Type 0} (r : Result T E) (P Q R : E → Type 0) → ((e : E) → Q e → R e) → IfErr r (λ e. P e ⊎ Q e) → IfErr r (λ e. P e ⊎ R e)

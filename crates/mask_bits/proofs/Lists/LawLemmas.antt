@@ -113,12 +113,6 @@ rank_intersection_position a b n fits below = grind (arith, positions-rank_inter
 
 -- ---- what a list that is a rank intersection has
 
-pub length_from_list : (m a b : List Bool) → m ≡ rank_intersection a b → length m ≡ length a
-length_from_list m a b same = ap length same ∙ length-rank_intersection a b
-
-pub places_from_list : (m a b : List Bool) → length b ≡ count a → m ≡ rank_intersection a b → positions m ≡ at_indices (positions a) (positions b)
-places_from_list m a b fits same = ap positions same ∙ positions-rank_intersection a b fits
-
 -- ---- stacks
 
 pub folding_keeps_a_stack : FoldingKeepsAStack

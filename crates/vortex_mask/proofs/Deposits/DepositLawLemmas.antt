@@ -1,13 +1,11 @@
 -- The laws of deposits.
-use Rattle.std.proofs.Common.{◌≡◌, ℕ, ◌-◌, ◌*◌, ◌/◌, ◌^◌, ◌<◌, min, sym, ap, subst, ◌∙◌, arith, bit_or, mul-one, mul-zero}
+use Rattle.std.proofs.Common.{◌≡◌, ℕ, ◌-◌, ◌*◌, ◌/◌, ◌^◌, ◌<◌, sym, ap, subst, ◌∙◌, arith, bit_or, mul-one, mul-zero}
 use Rattle.std.specs.Int.{bit_at}
 use lib.Bits.{or_zero_r}
 use Rattle.std.proofs.lemmas.Nat.{and_le_r}
 use Rattle.std.proofs.lemmas.Nat.Bits.{bit_at-lt, bit_at_or}
 use Rattle.mask_bits.proofs.Lists.Words.ShiftLemmas.{bit_at-mod}
 use Rattle.mask_bits.proofs.Lists.Words.WordLemmas.{count_below-word_bits}
-use Rattle.mask_bits.specs.Positions.{count_below}
-use Rattle.mask_bits.specs.Words.{word_bits}
 use Rattle.vortex_mask.specs.Deposit.{Deposits}
 use Rattle.vortex_mask.specs.DepositLaws.{DepositAtAllOnes, DepositIsRankIntersection, DepositAtNoOnes, WithoutLowestIsBelow, DepositOfOddSource, DepositOfEvenSource, without_lowest}
 use Rattle.vortex_mask.proofs.Deposits.DepositLemmas.{Deposits-from_bits, Deposits-from_deposit, bit_at-deposit, deposit, deposit-zero, deposit_step, first, left_of}
@@ -32,11 +30,7 @@ without_lowest_is_below mask some = omega (arith, and_le_r mask (mask - 1))
 
 -- each bit of a deposit is that of the deposit as a function
 bits_of : (s m r i : ℕ) → i < 64 → Deposits s m r → bit_at r i ≡ bit_at (deposit 64 s m) i
-bits_of s m r i h d =
-    let same : count_below (word_bits m) i ≡ ones_below m i = count_below-word_bits m i (omega arith) in
-    let put = d.bits i h in
-    let is : bit_at (deposit 64 s m) i ≡ min (bit_at m i) (bit_at s (count_below (word_bits m) i)) = bit_at-deposit 64 s m i h ∙ ap (λ n. min (bit_at m i) (bit_at s n)) (sym same) in
-    grind (arith, put, is, bit_at-lt r i, bit_at-lt m i, bit_at-lt s (count_below (word_bits m) i))
+bits_of s m r i h d = grind (arith, ones_below, count_below-word_bits, deposit, bit_at-deposit, bit_at-lt)
 
 by_lowest : (s m rest lead : ℕ) → m < 2 ^ 64 → lead ≡ first 64 s m → Deposits (s / 2) (without_lowest m) rest → Deposits s m (bit_or rest lead)
 by_lowest s m rest lead fits is d =
@@ -47,8 +41,7 @@ by_lowest s m rest lead fits is d =
     omega (arith, others, step, led, bit_at_or rest lead i, bit_at_or (first 64 s m) (deposit 64 (s / 2) (without_lowest m)) i) ∙ bit_at-deposit 64 s m i h)
 
 pub deposit_of_odd_source : DepositOfOddSource
-deposit_of_odd_source source mask rest fits odd d =
-    by_lowest source mask rest _ fits (left_of mask fits ∙ sym (mul-one (lowest 64 mask)) ∙ ap (λ b. lowest 64 mask * b) (sym odd)) d
+deposit_of_odd_source source mask rest fits odd d = grind (arith, by_lowest, left_of, mul-one, lowest)
 
 pub deposit_of_even_source : DepositOfEvenSource
 deposit_of_even_source source mask rest fits even d =

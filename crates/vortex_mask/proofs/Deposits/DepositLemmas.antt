@@ -5,8 +5,6 @@ use Rattle.std.proofs.lemmas.Nat.{pow_pos, shr-shr, and_mask, and_le_l, zero_fro
 use Rattle.std.proofs.lemmas.Nat.Bits.{bit_at_lowest, bit_at-suc, bit_at-lt, bit_at_or, same_from_bits}
 use Rattle.std.proofs.lemmas.Bool.{cases_lt}
 use lib.Bits.{or_step, and_zero_r, or_zero_r}
-use Rattle.mask_bits.specs.Positions.{count_below}
-use Rattle.mask_bits.specs.Words.{word_bits}
 use Rattle.mask_bits.proofs.Lists.Words.WordLemmas.{count_below-word_bits}
 use Rattle.vortex_mask.specs.Deposit.{Deposits}
 use Rattle.vortex_mask.proofs.Deposits.SetPlaceLemmas.{ones_below, parity, ones_below-zero, ones_below-suc, cleared, cleared-odd, cleared-even, lowest, lowest-odd, lowest-even, lowest_sum, ones-cleared_le}
@@ -37,16 +35,10 @@ bit_at-deposit (suc k) s m (suc i) h =
     ∙ ap₂ min (sym (bit_at-suc m i)) moved
 
 pub Deposits-from_bits : (s m r : ℕ) → ((i : ℕ) → i < 64 → bit_at r i ≡ min (bit_at m i) (bit_at s (ones_below m i))) → Deposits s m r
-Deposits-from_bits s m r h = record {
-  bits = λ i l.
-      let b : bit_at r i ≡ min (bit_at m i) (bit_at s (count_below (word_bits m) i))
-      = h i l ∙ ap (λ n. min (bit_at m i) (bit_at s n)) (sym (count_below-word_bits m i (omega arith))) in
-      (λ one. (omega (arith, bit_at-lt m i), omega (arith, bit_at-lt s (count_below (word_bits m) i))), λ p. omega (arith, p.0, p.1));
-}
+Deposits-from_bits s m r h = grind (arith, count_below-word_bits, bit_at-lt)
 
 pub Deposits-from_deposit : (s m r : ℕ) → r ≡ deposit 64 s m → Deposits s m r
-Deposits-from_deposit s m r e =
-    Deposits-from_bits s m r (λ i h. ap (λ x. bit_at x i) e ∙ bit_at-deposit 64 s m i h)
+Deposits-from_deposit s m r e = grind (arith, Deposits-from_bits, bit_at-deposit)
 
 -- ---- the lowest set place takes the lowest bit of the source, and the others take the rest
 
@@ -114,11 +106,7 @@ masked x s neg fits small e = by (parity s)
 
 -- `m & (m - 1)`, where the difference wraps
 pub cleared_word : (m : ℕ) → m < 2 ^ 64 → bit_and m ((m + (2 ^ 64 - 1)) % 2 ^ 64) ≡ cleared m
-cleared_word m fits = by (cases_lt 0 m)
-  where
-    by : (0 < m) ⊎ (m ≤ 0) → bit_and m ((m + (2 ^ 64 - 1)) % 2 ^ 64) ≡ cleared m
-    by (inl some) = let less : (m + (2 ^ 64 - 1)) % 2 ^ 64 ≡ m - 1 = omega arith in ap (bit_and m) less
-    by (inr none) = let z : m ≡ 0 = omega arith in ap (λ x. bit_and x ((m + (2 ^ 64 - 1)) % 2 ^ 64)) z ∙ sym (ap (λ x. bit_and x (m - 1)) z)
+cleared_word m fits = grind (arith, cases_lt, cleared)
 
 -- the lowest set place is what the others leave
 pub left_of : (m : ℕ) → m < 2 ^ 64 → m - cleared m ≡ lowest 64 m
@@ -126,8 +114,7 @@ left_of m fits = omega (arith, lowest_sum 64 m fits)
 
 -- one turn of the loop
 pub turn : (r s m t : ℕ) → m < 2 ^ 64 → bit_or r (deposit 64 s m) ≡ t → bit_or (bit_or r ((m - cleared m) * (s % 2))) (deposit 64 (s / 2) (cleared m)) ≡ t
-turn r s m t fits h =
-    or_assoc r _ _ ∙ ap (λ x. bit_or r (bit_or (x * (s % 2)) (deposit 64 (s / 2) (cleared m)))) (left_of m fits) ∙ ap (bit_or r) (sym (deposit_step 64 s m fits)) ∙ h
+turn r s m t fits h = grind (arith, or_assoc, cleared, left_of, deposit_step)
 
 -- of two set places none is left without the lowest and the one above it
 pub none_left : (m : ℕ) → m < 2 ^ 64 → count_ones m ≤ 2 → cleared (cleared m) ≡ 0

@@ -1,6 +1,5 @@
 -- The set places of a number: how many are below a place, the lowest one, and the number without it.
-use Rattle.std.proofs.Common.{◌≡◌, ℕ, zero, suc, ◌+◌, ◌-◌, ◌*◌, ◌/◌, ◌%◌, ◌^◌, ◌<◌, ◌≤◌, ◌⊎◌, inl, inr, refl, sym, ap, ap₂, ◌∙◌, arith, pow-suc, bit_and, count_ones, mod-lt}
-use Rattle.std.specs.Int.{bit_at}
+use Rattle.std.proofs.Common.{◌≡◌, ℕ, zero, suc, ◌+◌, ◌-◌, ◌*◌, ◌/◌, ◌%◌, ◌^◌, ◌<◌, ◌≤◌, ◌⊎◌, inl, inr, sym, ap, ◌∙◌, arith, pow-suc, bit_and, count_ones, mod-lt}
 use Rattle.std.proofs.lemmas.Nat.{pow_pos, and_comm, and-not, ones-le}
 use lib.Bits.{and_step, and_self}
 use lib.Count.{ones_step}
@@ -13,15 +12,7 @@ ones_below w i = count_ones (w % 2 ^ i)
 
 -- an even or an odd number
 pub parity : (n : ℕ) → (n % 2 ≡ 0) ⊎ (n % 2 ≡ 1)
-parity n = by (n % 2) refl
-  where
-    by : (d : ℕ) → n % 2 ≡ d → (n % 2 ≡ 0) ⊎ (n % 2 ≡ 1)
-    by zero e = inl e
-    by (suc zero) e = inr e
-    by (suc (suc d)) e = absurd (omega arith)
-
-pub bit_cases : (n i : ℕ) → (bit_at n i ≡ 0) ⊎ (bit_at n i ≡ 1)
-bit_cases n i = parity (n / 2 ^ i)
+parity n = grind (arith)
 
 -- ---- how many places below i are set
 
@@ -30,12 +21,7 @@ ones_below-zero w = omega (arith, ones-le 0 (w % 1) (omega arith))
 
 -- the lowest place, and the others of the half
 pub ones_below-suc : (w i : ℕ) → ones_below w (suc i) ≡ w % 2 + ones_below (w / 2) i
-ones_below-suc w i =
-    let split = mod-mul w (pow_pos i) (pow_pos 1) in
-    let all : w % 2 ^ suc i ≡ w / 2 % 2 ^ i * 2 + w % 2 = ap (λ x. w % x) (pow-suc 2 i) ∙ split in
-    let low : w % 2 ^ suc i % 2 ≡ w % 2 = omega arith in
-    let high : w % 2 ^ suc i / 2 ≡ w / 2 % 2 ^ i = omega arith in
-    ones_step (w % 2 ^ suc i) ∙ ap₂ (λ a b. a + count_ones b) low high
+ones_below-suc w i = grind (arith, mod-mul, pow_pos, pow-suc, ones_step)
 
 pub ones_below-le : (w i : ℕ) → ones_below w i ≤ i
 ones_below-le w i = ones-le i (w % 2 ^ i) (mod-lt w (pow_pos i))
@@ -46,16 +32,10 @@ abbrev pub cleared : ℕ → ℕ
 cleared m = bit_and m (m - 1)
 
 pub cleared-odd : (m : ℕ) → m % 2 ≡ 1 → cleared m ≡ m / 2 * 2
-cleared-odd m e =
-    let half : (m - 1) / 2 ≡ m / 2 = omega arith in
-    let same : bit_and (m / 2) ((m - 1) / 2) ≡ m / 2 = ap (bit_and (m / 2)) half ∙ and_self (m / 2) in
-    omega (arith, and_step m (m - 1))
+cleared-odd m e = grind (arith, and_self, and_step)
 
 pub cleared-even : (m : ℕ) → m % 2 ≡ 0 → cleared m ≡ cleared (m / 2) * 2
-cleared-even m e =
-    let half : (m - 1) / 2 ≡ m / 2 - 1 = omega arith in
-    let same : bit_and (m / 2) ((m - 1) / 2) ≡ cleared (m / 2) = ap (bit_and (m / 2)) half in
-    omega (arith, and_step m (m - 1))
+cleared-even m e = grind (arith, and_step)
 
 -- the lowest set place alone, among k places
 abbrev pub lowest : ℕ → ℕ → ℕ
@@ -69,10 +49,7 @@ lowest-odd k m fits e =
     omega (arith, and_step m (2 ^ suc k - m), pow-suc 2 k)
 
 pub lowest-even : (k m : ℕ) → m < 2 ^ suc k → m % 2 ≡ 0 → lowest (suc k) m ≡ lowest k (m / 2) * 2
-lowest-even k m fits e =
-    let half : (2 ^ suc k - m) / 2 ≡ 2 ^ k - m / 2 = omega (arith, pow-suc 2 k) in
-    let same : bit_and (m / 2) ((2 ^ suc k - m) / 2) ≡ lowest k (m / 2) = ap (bit_and (m / 2)) half in
-    omega (arith, and_step m (2 ^ suc k - m), pow-suc 2 k)
+lowest-even k m fits e = grind (arith, pow-suc, and_step)
 
 -- the lowest set place and the others make the number
 pub lowest_sum : (k m : ℕ) → m < 2 ^ k → cleared m + lowest k m ≡ m

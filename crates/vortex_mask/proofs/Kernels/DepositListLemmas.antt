@@ -62,8 +62,7 @@ abbrev pub offered_bits : ℕ → ℕ → List Bool
 offered_bits s m = take (count (word_bits m)) (word_bits s)
 
 pub length-offered_bits : (s m : ℕ) → length (offered_bits s m) ≡ count (word_bits m)
-length-offered_bits s m =
-    omega (arith, length-take (count (word_bits m)) (word_bits s), length-word_bits s, length-word_bits m, length-indices_from 0 (word_bits m))
+length-offered_bits s m = grind (arith, length-take, length-word_bits, length-indices_from)
 
 -- a deposit is the rank intersection of the mask's list and these bits
 pub word_bits-deposited : (s m r : ℕ) → Deposits s m r → word_bits r ≡ rank_intersection (word_bits m) (offered_bits s m)
@@ -79,7 +78,4 @@ word_bits-deposited s m r is =
 
 -- so it has no more true values than the mask
 pub deposited-count : (s m r : ℕ) → Deposits s m r → count (word_bits r) ≤ count (word_bits m)
-deposited-count s m r is =
-    let b = offered_bits s m in
-    let fits = length-offered_bits s m in
-    omega (arith, ap count (word_bits-deposited s m r is), rank_intersection_count (word_bits m) b fits, count-le-length b, fits)
+deposited-count s m r is = grind (arith, length-offered_bits, word_bits-deposited, rank_intersection_count, count-le-length)

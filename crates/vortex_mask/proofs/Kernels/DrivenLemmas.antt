@@ -4,7 +4,6 @@ use Rattle.std.proofs.Math.Seq.{get_or-append_seam}
 use Rattle.std.proofs.iter.runs.Made.{run_of_turn, run_of_exit, took}
 use Rattle.std.proofs.lemmas.List.{take_all, map-append, length-append, get_or_append_left}
 use Rattle.std.proofs.lemmas.List.Sums.{sum_by_push}
-use Rattle.std.proofs.lemmas.Nat.{ones-le}
 use Rattle.std.proofs.lemmas.Option.{slice_get-get_or, get_or_from_slice_get}
 use Rattle.std.specs.Iterator.{Yields, Drains}
 use Rattle.std.specs.Iterator.Runs.{EachRunFrom, WholeRun}
@@ -21,7 +20,7 @@ use Rattle.mask_bits.proofs.Lists.Places.SelectLemmas.{count-word_more, place_in
 use Rattle.mask_bits.proofs.Lists.Words.WordLemmas.{count-word_bits}
 use Rattle.vortex_mask.specs.Deposit.{selected}
 use Rattle.vortex_mask.specs.Ranks.{AreRanks, HasRead}
-use Rattle.vortex_mask.specs.Steps.{StepCounts, no_steps}
+use Rattle.vortex_mask.specs.Steps.{StepCounts}
 use Rattle.vortex_mask.proofs.Masks.PlaceListLemmas.{at_indices-ascending}
 use Rattle.vortex_mask.proofs.Kernels.WordKernelLemmas.{word-started}
 
@@ -33,10 +32,6 @@ more-words m n w before rank read passed there = grind (arith, read.counted, tak
 pub read-more : (m : List Bool) (n w before next end : ℕ) → HasRead m n w before → 64 * n < length m → end ≡ before + count_ones w → next < 2 ^ 64
     → (n < length m / 64 → word_bits next ≡ word_part m n) → (n ≡ length m / 64 → word_bits next ≡ padded_remainder m) → HasRead m (n + 1) next end
 read-more m n w before next end read more ends fits whole last = grind (arith, count-word_bits, count-word_more, word-started)
-
--- a word in which a value is found has been read
-some-word : (m : List Bool) (n w before rank : ℕ) → HasRead m n w before → before ≤ rank → rank < before + count_ones w → 0 < n
-some-word m n w before rank read reached inside = grind (arith, read.counted)
 
 -- the place of a value that is in the last word
 pub place-found : (m : List Bool) (n w before rank p : ℕ) → HasRead m n w before → w < 2 ^ 64 → before ≤ rank → rank < before + count_ones w → p ≡ selected w (rank - before)
@@ -85,18 +80,6 @@ pub record AreFound (m : List Bool) (ranks : List ℕ) (words word before : ℕ)
   pub reached : before ≤ get_or ranks (length ranks - 1) 0
   pub found : indices ≡ at_indices (positions m) ranks
   pub counted : steps ≡ record { deposits = 0; words = words; selections = length ranks; offered = 0; placed = 0; spots = sum_by (λ p. p % 64) indices }
-
-pub nothing-found : (m : List Bool) (indices : List ℕ) (steps : StepCounts) → indices ≡ [] → steps ≡ no_steps → AreFound m [] 0 0 0 indices steps
-nothing-found m indices steps none zero = record {
-  read = record {
-    within = omega arith;
-    counted = omega (arith, ones-le 0 0 (omega arith));
-    last = λ some. absurd (omega arith);
-  };
-  reached = omega arith;
-  found = none;
-  counted = rw none zero;
-}
 
 pub found-more : (m : List Bool) (ranks : List ℕ) (x words word before more next passed : ℕ) (indices new : List ℕ) (p : ℕ) (steps ticked : StepCounts)
     → AreFound m ranks words word before indices steps → slice_get (positions m) x ≡ Some p → HasRead m more next passed → passed ≤ x

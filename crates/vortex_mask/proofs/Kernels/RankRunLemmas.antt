@@ -1,5 +1,5 @@
 -- An iterator that yields ascending numbers, as it is handed to the kernel that goes by them.
-use Rattle.std.proofs.Common.{◌≡◌, ℕ, ◌+◌, ◌<◌, true, List, length, take, Option, None, refl, sym, subst, ap, ◌∙◌, arith}
+use Rattle.std.proofs.Common.{◌≡◌, ℕ, ◌<◌, true, List, length, take, Option, None, refl, sym, subst, ap, ◌∙◌, arith}
 use Rattle.std.proofs.lemmas.Iterator.{YieldsList}
 use Rattle.std.proofs.lemmas.Iterator.Consumers.{YieldsList-so_far, YieldsList-end}
 use Rattle.std.proofs.lemmas.List.{get_or-take, length-take, map-id}
@@ -13,11 +13,7 @@ use Rattle.vortex_mask.specs.Ranks.{AreRanks}
 
 -- the first numbers of ascending ones ascend
 ascending-take : (n : ℕ) (xs : List ℕ) → IsStrictlyIncreasing xs → IsStrictlyIncreasing (take n xs)
-ascending-take n xs ascending = λ k more.
-    let short : k + 1 < length xs = omega (arith, length-take n xs) in
-    let first : k + 1 < n = omega (arith, length-take n xs) in
-    let step = ascending k short in
-    omega (arith, get_or-take n xs k 0 (omega arith), get_or-take n xs (k + 1) 0 first)
+ascending-take n xs ascending = grind (arith, length-take, get_or-take)
 
 module _ {S : Type 0} (steps : S → Option ℕ → S → Type 0) (s : S) (all : List ℕ) (yields : YieldsList steps (λ x. x) s all) where
   -- a run gives the first of them

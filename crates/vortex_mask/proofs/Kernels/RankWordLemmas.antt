@@ -1,7 +1,6 @@
 -- Ascending ranks as the rank bits of a word.
 use Rattle.std.proofs.Common.{◌≡◌, ℕ, zero, suc, ◌+◌, ◌-◌, ◌*◌, ◌<◌, ◌≤◌, ◌^◌, ◌||◌, Bool, true, false, nat_eq, List, [], ◌∷◌, length, get_or, take, drop, refl, sym, ap, ap₂, ◌∙◌, inl, inr, arith, ◌%◌, mod-eq_of_lt}
 use Rattle.std.proofs.Math.Pow.{pow-lt}
-use Rattle.std.specs.Int.{bit_at}
 use Rattle.std.specs.Int.RustNames.{bit_or}
 use Rattle.std.specs.List.{list_any}
 use Rattle.std.specs.List.Sorted.{IsStrictlyIncreasing}
@@ -48,26 +47,11 @@ rises-to xs i k ascending h inside =
 -- ---- the walk
 
 pub gathered-none : (ranks : List ℕ) (at end next : ℕ) → at ≤ end → AreSplit ranks next at → IsGathered ranks at end next 0
-gathered-none ranks at end next ordered split = record {
-  within = split.within;
-  before = λ k h. omega (arith, split.before k h);
-  after = split.after;
-  set = λ j h.
-      get_or-word_bits 0 j false h ∙ ap (λ v. nat_eq v 1) (bit_at-zero j)
-      ∙ sym (none-is (at + j) (take next ranks) (λ k within same.
-      let earlier : k < next = omega (arith, length-take next ranks) in
-      omega (arith, get_or-take next ranks k 0 earlier, split.before k earlier)));
-}
+gathered-none ranks at end next ordered split = grind (arith, get_or-word_bits, bit_at-zero, none-is, length-take, get_or-take)
 
 -- the one bit of a power of two
 bit_of_pow : (at x j : ℕ) → at ≤ x → j < 64 → get_or (word_bits (2 ^ (x - at))) j false ≡ (nat_eq (at + j) x || false)
-bit_of_pow at x j h few = get_or-word_bits (2 ^ (x - at)) j false few ∙ elim (cases_eq (at + j) x) [
-  | inl same ↦
-      let here : j ≡ x - at = omega arith in
-      ap (λ v. nat_eq v 1) (ap (bit_at (2 ^ (x - at))) here ∙ bit_at-pow_same (x - at)) ∙ sym (ap (λ b. b || false) (eq-eqb (at + j) x same))
-  | inr apart ↦
-      ap (λ v. nat_eq v 1) (bit_at-pow_other (x - at) j (λ same. apart (omega arith))) ∙ sym (ap (λ b. b || false) (ne_eqb (at + j) x apart))
-]
+bit_of_pow at x j h few = grind (arith, get_or-word_bits, cases_eq, bit_at-pow_same, eq-eqb, bit_at-pow_other, ne_eqb)
 
 -- and it is in a word
 pub pow_in_word : (d : ℕ) → d < 64 → 1 * 2 ^ d % 2 ^ 64 ≡ 2 ^ d
@@ -92,11 +76,7 @@ gathered-more ranks at end next bits bit inside below is g =
     }
 
 pub gathered-split : (ranks : List ℕ) (at end next bits : ℕ) → IsStrictlyIncreasing ranks → (next < length ranks → end ≤ get_or ranks next 0) → IsGathered ranks at end next bits → AreSplit ranks next end
-gathered-split ranks at end next bits ascending stop g = record {
-  within = g.within;
-  before = g.before;
-  after = λ k h inside. omega (arith, stop (omega arith), rises-to ranks next k ascending h inside);
-}
+gathered-split ranks at end next bits ascending stop g = grind (arith, rises-to)
 
 pub gathered-bits : (ranks : List ℕ) (at end next bits : ℕ) → end ≤ at + 64 → AreSplit ranks next end → IsGathered ranks at end next bits
     → (k : ℕ) → at + k < end → get_or (word_bits bits) k false ≡ list_any (nat_eq (at + k)) ranks
@@ -123,6 +103,4 @@ get_or-true_at n ps p h = get_or-map-range_with_len (λ i. list_any (nat_eq i) p
 -- the set bits of a word's ranks are the values from `at` on of the list that is true at the ranks
 pub rank_bits-listed : (a : List Bool) (ranks : List ℕ) (i at end s m ones : ℕ) → at ≡ count_below a (64 * i) → word_bits m ≡ padded_part a i → ones ≡ count (word_bits m) → end ≡ at + ones
     → ((k : ℕ) → at + k < end → get_or (word_bits s) k false ≡ list_any (nat_eq (at + k)) ranks) → AreRankBits (true_at (count a) ranks) at s (count (word_bits m))
-rank_bits-listed a ranks i at end s m ones place shows counted ends bits = λ k h.
-    bits k (omega arith)
-    ∙ sym (get_or-true_at (count a) ranks (at + k) (omega (arith, place-after_within a i at m ones place shows counted)))
+rank_bits-listed a ranks i at end s m ones place shows counted ends bits = grind (arith, get_or-true_at, place-after_within)

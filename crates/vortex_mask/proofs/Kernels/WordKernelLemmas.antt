@@ -51,12 +51,7 @@ count_below-le m n = omega (arith, count-append (take n m) (drop n m), ap count 
 pub word-started : (a : List Bool) (i m : ℕ) → i < started_words (length a)
     → (i < length a / 64 → word_bits m ≡ word_part a i) → (i ≡ length a / 64 → word_bits m ≡ padded_remainder a)
     → word_bits m ≡ padded_part a i
-word-started a i m started whole last = elim (cases_lt i (length a / 64)) [
-  | inl h ↦ whole h ∙ padded_part-whole a i (omega arith)
-  | inr past ↦
-      let same : i ≡ length a / 64 = omega arith in
-      last same ∙ padded_part-remainder a ∙ ap (padded_part a) (sym same)
-]
+word-started a i m started whole last = grind (arith, cases_lt, padded_part-whole, padded_part-remainder)
 
 -- the bits of a source are values of b from `at` on, as many as the word of the mask has true ones
 abbrev pub AreRankBits : List Bool → ℕ → ℕ → ℕ → Type 0

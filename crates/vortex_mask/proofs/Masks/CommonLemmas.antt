@@ -18,10 +18,7 @@ above-after xs i ascending k d h =
 
 -- from place i on all are above what the one at i is above
 above-from : (xs : List ℕ) (x i : ℕ) → IsStrictlyIncreasing xs → i < length xs → x < get_or xs i 0 → All (λ z. x < z) (drop i xs)
-above-from xs x i ascending h first =
-    subst (λ (ys : List ℕ). All (λ z. x < z) ys) (sym (drop_more xs i 0 h))
-    (All-cons (λ z. x < z) (get_or xs i 0) (drop (i + 1) xs) first
-    (All-weaker (λ z. get_or xs i 0 < z) (λ z. x < z) (λ z above. omega arith) (drop (i + 1) xs) (above-after xs i ascending)))
+above-from xs x i ascending h first = grind (arith, drop_more, All-cons, All-weaker, above-after)
 
 common-none : (xs : List ℕ) → common xs [] ≡ []
 common-none [] = refl
@@ -56,10 +53,7 @@ common-greater xs ys i j ascending h k less =
 
 pub common-equal : (xs ys : List ℕ) (i j : ℕ) → IsStrictlyIncreasing xs → i < length xs → j < length ys → get_or xs i 0 ≡ get_or ys j 0
     → common (drop i xs) (drop j ys) ≡ get_or xs i 0 ∷ common (drop (i + 1) xs) (drop (j + 1) ys)
-common-equal xs ys i j ascending h k same =
-    ap (λ (zs : List ℕ). common zs (drop j ys)) (drop_more xs i 0 h)
-    ∙ ap (common (get_or xs i 0 ∷ drop (i + 1) xs)) (drop_more ys j 0 k ∙ ap (λ y. y ∷ drop (j + 1) ys) (sym same))
-    ∙ common-first (get_or xs i 0) (drop (i + 1) xs) (drop (j + 1) ys) (above-after xs i ascending)
+common-equal xs ys i j ascending h k same = grind (arith, drop_more, common-first, above-after)
 
 -- one of them is at its end
 pub common-over : (xs ys : List ℕ) (i j : ℕ) → (length xs ≤ i) ⊎ (length ys ≤ j) → common (drop i xs) (drop j ys) ≡ []

@@ -1,9 +1,8 @@
 -- The list that is false exactly at some indices, as they come one by one.
-use Rattle.std.proofs.Common.{◌≡◌, ℕ, ◌<◌, ◌≤◌, Bool, true, false, not, nat_eq, List, [], ◌∷◌, ◌++◌, length, get_or, set, inl, inr, Option, Some, sym, ap, ◌∙◌, arith}
+use Rattle.std.proofs.Common.{◌≡◌, ℕ, ◌<◌, ◌≤◌, Bool, true, false, not, nat_eq, List, [], ◌∷◌, ◌++◌, length, get_or, set, Option, Some, ap, ◌∙◌, arith}
 use Rattle.std.specs.Option.{option_or}
 use Rattle.std.specs.List.{list_any}
 use Rattle.std.proofs.lemmas.Bool.{cases_lt, cases_eq}
-use Rattle.std.proofs.lemmas.Bool.Decides.{nat_tests}
 use Rattle.std.proofs.lemmas.List.{same_lists, length-set, get_or-map, get_or-set_other}
 use Rattle.std.proofs.lemmas.Grind.{get_or-set_at}
 use Rattle.std.proofs.lemmas.List.Folds.{list_any-append}
@@ -30,39 +29,18 @@ get_or-without n xs i d h =
 
 -- no place yet
 pub without-none : (n : ℕ) → repeated n true ≡ without n []
-without-none n =
-    same_lists (repeated n true) (without n []) (length-repeated n true ∙ sym (length-without n [])) (λ i d h. grind (arith, length-repeated, get_or-repeated n i true d, get_or-without n [] i d))
+without-none n = grind (arith, same_lists, length-repeated, length-without, get_or-repeated, get_or-without)
 
 -- one more place of the list
 pub without-set : (n x : ℕ) (xs : List ℕ) → x < n → set (without n xs) x false ≡ without n (xs ++ x ∷ [])
-without-set n x xs h =
-    let m : List Bool = without n xs in
-    let len : length (set m x false) ≡ n = length-set m x false ∙ length-without n xs in
-    same_lists (set m x false) (without n (xs ++ x ∷ [])) (len ∙ sym (length-without n (xs ++ x ∷ []))) (λ i d within.
-    elim (cases_eq i x) [
-      | inl same ↦
-          grind (arith, nat_tests, length-without, get_or-set_at m x i false d same, get_or-without n (xs ++ x ∷ []) i d, list_any-append (nat_eq i) xs (x ∷ []))
-      | inr apart ↦
-          grind (arith, nat_tests, get_or-set_other m x i false d apart, get_or-without n xs i d, get_or-without n (xs ++ x ∷ []) i d, list_any-append (nat_eq i) xs (x ∷ []))
-    ])
+without-set n x xs h = grind (arith, length-set, length-without, same_lists, cases_eq, get_or-set_at, get_or-without, list_any-append, get_or-set_other)
 
 -- one more place past its end
 pub without-past : (n x : ℕ) (xs : List ℕ) → n ≤ x → without n xs ≡ without n (xs ++ x ∷ [])
-without-past n x xs h =
-    same_lists (without n xs) (without n (xs ++ x ∷ [])) (length-without n xs ∙ sym (length-without n (xs ++ x ∷ []))) (λ i d within.
-    grind (arith, nat_tests, length-without, get_or-without n xs i d, get_or-without n (xs ++ x ∷ []) i d, list_any-append (nat_eq i) xs (x ∷ [])))
+without-past n x xs h = grind (arith, same_lists, length-without, get_or-without, list_any-append)
 
 -- one more place: its value is made false, or it is the first past the end where none was
 pub excluded-more : (n x : ℕ) (xs : List ℕ) (old new : List Bool) (before after : Option ℕ) → old ≡ without n xs → before ≡ first_past n xs
     → (x < length old → (new ≡ set old x false) × (after ≡ before)) → (length old ≤ x → (new ≡ old) × (after ≡ option_or before (Some x)))
     → (new ≡ without n (xs ++ x ∷ [])) × (after ≡ first_past n (xs ++ x ∷ []))
-excluded-more n x xs old new before after list first within past =
-    let len : length old ≡ n = ap length list ∙ length-without n xs in
-    elim (cases_lt x n) [
-      | inl h ↦
-          let made = within (omega arith) in
-          (grind (arith, without-set), grind (arith, first_past-within))
-      | inr h ↦
-          let made = past (omega arith) in
-          (grind (arith, without-past), grind (arith, first_past-more))
-    ]
+excluded-more n x xs old new before after list first within past = grind (arith, length-without, cases_lt, without-set, first_past-within, without-past, first_past-more)

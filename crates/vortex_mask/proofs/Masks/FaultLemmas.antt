@@ -9,8 +9,8 @@ use Rattle.std.proofs.lemmas.List.{length-drop}
 use Rattle.std.proofs.lemmas.List.Elements.{All-nil, All-cons, All-head, All-tail, All-from_get_or}
 use Rattle.std.proofs.lemmas.List.Kept.{IsStrictlyIncreasing-filter, AllPairs-from_increasing}
 use Rattle.vortex_mask.specs.Laws.{NoIndexFault}
-use Rattle.vortex_mask.specs.Faults.{common, or_else, first_pair_from, first_unsorted, first_repeated, first_past, index_fault, out_of_bounds}
-use Rattle.vortex_mask.specs.declared.mask.error.MaskError.TheVariants.{UnsortedIndices, RepeatedIndex, IndexOutOfBounds}
+use Rattle.vortex_mask.specs.Faults.{common, or_else, first_pair_from, first_past, index_fault, out_of_bounds}
+use Rattle.vortex_mask.specs.declared.mask.error.MaskError.TheVariants.{IndexOutOfBounds}
 
 -- ---- pairs of neighbors
 
@@ -66,14 +66,7 @@ or_else-none None b e = (refl, e)
 
 -- what the order of the faults leaves where there is none
 pub index_fault-none : (len : ℕ) (xs : List ℕ) → index_fault len xs ≡ None → IsStrictlyIncreasing xs × All (λ i. i < len) xs
-index_fault-none len xs none =
-    let unsorted = option_map (λ at. UnsortedIndices at) (first_unsorted xs) in
-    let repeated = option_map (λ at. RepeatedIndex at) (first_repeated xs) in
-    let a = or_else-none unsorted (or_else repeated (out_of_bounds len xs)) none in
-    let b = or_else-none repeated (out_of_bounds len xs) a.1 in (
-      ascending-faultless 0 xs (none_mapped (λ at. UnsortedIndices at) (first_unsorted xs) a.0) (none_mapped (λ at. RepeatedIndex at) (first_repeated xs) b.0),
-      within_faultless len xs b.1,
-    )
+index_fault-none len xs none = grind (arith, or_else-none, ascending-faultless, none_mapped, within_faultless)
 
 -- each above the one before it makes no pair that stands otherwise
 first_pair-ascending : (test : ℕ → ℕ → Bool) (n : ℕ) (xs : List ℕ) → ((x y : ℕ) → x < y → test x y ≡ false) → IsStrictlyIncreasing xs → first_pair_from test n xs ≡ None
@@ -91,8 +84,7 @@ first_past-none len (x ∷ xs) all =
     grind (arith, nat_tests, All-head (λ i. i < len) x xs all, first_past-none len xs (All-tail (λ i. i < len) x xs all))
 
 faultless : (len : ℕ) (xs : List ℕ) → IsStrictlyIncreasing xs → All (λ i. i < len) xs → index_fault len xs ≡ None
-faultless len xs ascending within =
-    rw (first_pair-ascending (λ x y. nat_lt y x) 0 xs (λ x y h. grind (arith, nat_tests)) ascending, first_pair-ascending (λ x y. nat_eq y x) 0 xs (λ x y h. grind (arith, nat_tests)) ascending, first_past-none len xs within) refl
+faultless len xs ascending within = grind (arith, first_pair-ascending, nat_lt, first_past-none)
 
 -- none is past the length where the last one isn't
 pub faultless-by_last : (len : ℕ) (xs : List ℕ) → IsStrictlyIncreasing xs → (0 < length xs → get_or xs (length xs - 1) 0 < len) → None ≡ index_fault len xs

@@ -1,5 +1,5 @@
 -- The variant of a fold, and folds that need no memory.
-use Rattle.std.proofs.Common.{◌≡◌, ◌≢◌, ℕ, ◌+◌, ◌<◌, Bool, List, [], ◌∷◌, length, get_or, drop, fold, map, refl, sym, ap, subst, ◌∙◌, arith}
+use Rattle.std.proofs.Common.{◌≡◌, ◌≢◌, ℕ, ◌+◌, ◌<◌, Bool, List, [], ◌∷◌, length, get_or, drop, fold, map, refl, ap, arith}
 use Rattle.std.proofs.lemmas.List.{drop_more}
 use Rattle.std.specs.List.{All}
 use Rattle.mask_bits.specs.Positions.{count, rank_intersection}
@@ -62,20 +62,4 @@ pub record IsFoldSoFar (first : Mask) (masks : List Mask) (i : ℕ) (r : Mask) :
 
 pub fold_more : (first : Mask) (masks : List Mask) (i : ℕ) (a b r : Mask) → i < length masks → b ≡ get_or masks i b → IsFoldSoFar first masks i a
     → truth r ≡ rank_intersection (truth a) (truth b) → variant r ≡ fitting_variant (variant_and (variant a) (variant b)) (truth r) → IsFoldSoFar first masks (i + 1) r
-fold_more first masks i a b r within at so_far list held =
-    let rest : List Mask = drop (i + 1) masks in
-    let all : List Bool = folded_left (truth first ∷ map truth masks) in
-    let next : drop i masks ≡ b ∷ rest = drop_more masks i b within ∙ ap (λ (m : Mask). m ∷ rest) (sym at) in
-    let stack : IsStack (truth a ∷ truth b ∷ map truth rest) = subst (λ (ms : List Mask). IsStack (truth a ∷ map truth ms)) next so_far.stack in
-    let narrowed : IsNarrowed a b r = record { fits = stack.0; list = list; held = held } in
-    let folded : folded_left (truth r ∷ map truth rest) ≡ all
-    = ap (λ (m : List Bool). folded_left (m ∷ map truth rest)) list
-    ∙ ap (λ (ms : List Mask). folded_left (truth a ∷ map truth ms)) (sym next) ∙ so_far.folded in
-    record {
-      stack = subst (λ (m : List Bool). IsStack (m ∷ map truth rest)) (sym list) (folding_keeps_a_stack (truth a) (truth b) (map truth rest) stack);
-      folded = folded;
-      held = fold_variant (variant r) (variant_and (variant a) (variant b)) (map variant rest) (truth r) all (sym (ap length folded) ∙ length_of_fold (truth r) (map truth rest)) held
-          ∙ ap (λ (ms : List Mask). fitting_variant (fold variant_and (variant a) (map variant ms)) all) (sym next) ∙ so_far.held;
-      uniform = λ one each. stays_of_one_value a b r narrowed (so_far.uniform one each) (subst (λ (m : Mask). variant m ≢ mixed) (sym at) (each i b within));
-      none = λ is. stays_all_false a b r narrowed (so_far.none is);
-    }
+fold_more first masks i a b r within at so_far list held = grind (arith, drop_more, folding_keeps_a_stack, fold_variant, length_of_fold, stays_of_one_value, stays_all_false)

@@ -37,8 +37,7 @@ fitting_variant-all_false (v ∷ m) e = fitting_variant-none all_false (v ∷ m)
 
 -- the variants of lists of one value
 pub fitting_variant-some_true : (empty : Variant) (n : ℕ) → 0 < n → fitting_variant empty (repeated n true) ≡ all_true
-fitting_variant-some_true empty n some =
-    fitting_variant-all empty (repeated n true) (omega (arith, length-repeated n true)) (count-repeated_true n ∙ sym (length-repeated n true))
+fitting_variant-some_true empty n some = grind (arith, fitting_variant-all, length-repeated, count-repeated_true)
 
 pub fitting_variant-repeated_true : (n : ℕ) → fitting_variant all_true (repeated n true) ≡ all_true
 fitting_variant-repeated_true zero = rw (nil-repeated true) refl

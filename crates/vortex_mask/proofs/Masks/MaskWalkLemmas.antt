@@ -31,9 +31,7 @@ pub ruleset range_walks = (ranges_in_order)
 
 -- the first of them, and those past it
 pub range-next : (n e : ℕ) → n < e → range_with_len n (e - n) ≡ n ∷ range_with_len (n + 1) (e - (n + 1))
-range-next n e h =
-    let more : e - n ≡ suc (e - (n + 1)) = omega arith in
-    ap (range_with_len n) more
+range-next n e h = grind (arith)
 
 pub repeated-next : (n : ℕ) (v : Bool) → 0 < n → repeated n v ≡ v ∷ repeated (n - 1) v
 unfolding repeated
@@ -43,11 +41,7 @@ repeated-next (suc n) v h = let e : suc n - 1 ≡ n = omega arith in ap (λ k. v
 -- ---- an iterator that gives the first of what is left goes on
 
 pub MakesProgress-left : {S A : Type 0} (left : S → List A) (s t : S) (x : A) → left s ≡ x ∷ left t → MakesProgress {S = S} {A = A} (λ _. Unit {0}) (item_count left) s (Some x) t
-MakesProgress-left left s t x e = record {
-  on = λ _. (tt, tt, omega (arith, ap length e));
-  keeps = tt;
-  rests = λ _. tt;
-}
+MakesProgress-left left s t x e = grind (arith)
 
 pub ruleset next_facts = (length-repeated, nil-repeated, repeated-next, range-next, MakesProgress-left)
 

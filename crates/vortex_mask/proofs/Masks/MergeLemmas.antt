@@ -33,20 +33,11 @@ record IsMerged (low high : ℕ) (rs ys : List (ℕ × ℕ)) : Type 0 where
 
 -- two ranges that touch
 merged_more : (low high : ℕ) (k x : ℕ × ℕ) (xs ys : List (ℕ × ℕ)) → k.0 < k.1 → x.0 < x.1 → x.0 ≡ k.1 → IsMerged low high ((k.0, x.1) ∷ xs) ys → IsMerged low high (k ∷ x ∷ xs) ys
-merged_more low high k x xs ys some more touch is = record {
-  spread = is.spread;
-  same = λ i.
-      is.same i
-      ∙ ap (λ b. b || list_any (is_inside i) xs) (inside_both i k x some more touch)
-      ∙ or_assoc (is_inside i k) (is_inside i x) (list_any (is_inside i) xs);
-}
+merged_more low high k x xs ys some more touch is = grind (arith, inside_both, or_assoc)
 
 -- two ranges with a place between them
 merged_apart : (low high : ℕ) (k x : ℕ × ℕ) (xs zs : List (ℕ × ℕ)) → Ordered low high (k ∷ x ∷ xs) → IsMerged (k.1 + 1) high (x ∷ xs) zs → IsMerged low high (k ∷ x ∷ xs) (k ∷ zs)
-merged_apart low high k x xs zs o is = record {
-  spread = (o.0, o.1, Ordered-top k.1 high (x ∷ xs) o.2, is.spread);
-  same = λ i. ap (λ b. is_inside i k || b) (is.same i);
-}
+merged_apart low high k x xs zs o is = grind (arith, Ordered-top)
 
 module _ {S : Type 0} (R : S → ℕ × ℕ → ℕ × ℕ → Bool → S → ℕ × ℕ → ℕ × ℕ → Type 0)
     (told : (s : S) (x k : ℕ × ℕ) (b : Bool) (t : S) (x' k' : ℕ × ℕ) → R s x k b t x' k' → Lengthens x k b x' k') where

@@ -60,9 +60,7 @@ pub ruleset one_value_facts = (length-repeated, count-repeated_true, count-repea
 
 -- a count up to a place, and the true values from there to the next one, are the count up to that
 pub count-runs_on : (m : List Bool) (i j : ℕ) → i ≤ j → count_below m i + count (slice_range m i j) ≡ count_below m j
-count-runs_on m i j ordered =
-    let there : i + (j - i) ≡ j = omega arith in
-    ap (λ e. count_below m i + count (slice_range m i e)) (sym there) ∙ sym (count-part_further m i (j - i)) ∙ ap (count_below m) there
+count-runs_on m i j ordered = grind (arith, count-part_further)
 
 -- no count is above its place
 pub count_below-le : (m : List Bool) (i : ℕ) → count_below m i ≤ i

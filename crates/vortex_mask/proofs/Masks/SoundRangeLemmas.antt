@@ -1,5 +1,5 @@
 -- Ranges in which there is no fault, and the values that are true exactly in them.
-use Rattle.std.proofs.Common.{◌≡◌, ℕ, ◌+◌, ◌-◌, ◌<◌, ◌≤◌, ◌||◌, ◌&&◌, not, Bool, true, false, nat_lt, nat_le, List, [], ◌∷◌, ◌++◌, length, get_or, drop, zero, suc, None, append_assoc, refl, sym, ap, ◌∙◌, arith, subst, inl, inr}
+use Rattle.std.proofs.Common.{◌≡◌, ℕ, ◌+◌, ◌-◌, ◌<◌, ◌≤◌, ◌||◌, ◌&&◌, not, Bool, true, false, nat_lt, nat_le, List, [], ◌∷◌, ◌++◌, length, get_or, drop, zero, suc, None, append_assoc, sym, ap, ◌∙◌, arith, subst, inl, inr}
 use Rattle.std.specs.List.{All, AllAdjacentBelow, list_any, prefix_len, position}
 use Rattle.std.proofs.lemmas.Bool.{cases_lt, or_left}
 use Rattle.std.proofs.lemmas.Bool.Decides.{nat_tests}
@@ -15,7 +15,6 @@ use Rattle.mask_bits.proofs.Lists.Runs.RunLemmas.{inside, inside-past}
 use Rattle.vortex_mask.specs.Faults.{bad_range, neighbor_fault, neighbors_fault_from, range_fault}
 use Rattle.vortex_mask.specs.Ranges.{rows_held}
 use Rattle.vortex_mask.proofs.Masks.FaultLemmas.{or_else-none, none_mapped}
-use Rattle.vortex_mask.specs.declared.mask.error.MaskError.TheVariants.{BadRange}
 
 -- ---- neighbors, one pair at a time
 
@@ -42,10 +41,7 @@ position-None : {X : Type 0} (p : X → Bool) (xs : List X) → position p xs �
 position-None p xs none = grind (arith, nat_tests)
 
 all_good : (len : ℕ) (rs : List (ℕ × ℕ)) → bad_range len rs ≡ None → All (IsGood len) rs
-all_good len rs none =
-    let bad : ℕ × ℕ → Bool = λ r. not (nat_lt r.0 r.1 && nat_le r.1 len) in
-    let whole = position-None bad rs (none_mapped (λ at. BadRange at) (position bad rs) none) in
-    λ k d h. good len (get_or rs k d) (prefix_len_passes (λ r. not (bad r)) rs k d (omega arith))
+all_good len rs none = grind (arith, nat_lt, nat_le, position-None, none_mapped, good, prefix_len_passes)
 
 apart : (r s : ℕ × ℕ) (at : ℕ) → neighbor_fault r s at ≡ None → r.1 ≤ s.0
 apart r s at none = grind (arith, nat_tests)
@@ -70,8 +66,7 @@ painted low high [] = repeated (high - low) false
 painted low high (r ∷ rs) = (repeated (r.0 - low) false ++ repeated (r.1 - r.0) true) ++ painted r.1 high rs
 
 length-first : (low : ℕ) (r : ℕ × ℕ) → low ≤ r.0 → r.0 < r.1 → length (repeated (r.0 - low) false ++ repeated (r.1 - r.0) true) ≡ r.1 - low
-length-first low r from some =
-    omega (arith, length-append (repeated (r.0 - low) false) (repeated (r.1 - r.0) true), length-repeated (r.0 - low) false, length-repeated (r.1 - r.0) true)
+length-first low r from some = grind (arith, length-append, length-repeated)
 
 pub length-painted : (low high : ℕ) (rs : List (ℕ × ℕ)) → Ordered low high rs → length (painted low high rs) ≡ high - low
 length-painted low high [] o = length-repeated (high - low) false
@@ -125,16 +120,7 @@ adjacent_from low high (r ∷ s ∷ rs) o (suc k) d h =
     subst (λ (j : ℕ). (get_or (s ∷ rs) k d).1 ≤ (get_or (r ∷ s ∷ rs) j d).0) next (adjacent_from r.1 high (s ∷ rs) o.2 k d (omega arith))
 
 AreRanges-painted : (len : ℕ) (rs : List (ℕ × ℕ)) → Ordered 0 len rs → AreRanges (painted 0 len rs) rs
-AreRanges-painted len rs o =
-    let long : length (painted 0 len rs) ≡ len = omega (arith, length-painted 0 len rs o) in
-    record {
-      nonempty = λ k d h. (good_from 0 len rs o k d h).0;
-      within = subst (λ (n : ℕ). All (λ r. r.1 ≤ n) rs) (sym long) (λ k d h. (good_from 0 len rs o k d h).1);
-      ordered = adjacent_from 0 len rs o;
-      exact = λ i h.
-          let at_zero : 0 + i ≡ i = omega arith in
-          painted-at 0 len rs o i (omega arith) ∙ ap (λ k. list_any (is_inside k) rs) at_zero;
-    }
+AreRanges-painted len rs o = grind (arith, length-painted, good_from, adjacent_from, painted-at)
 
 -- ---- what the ranges of a mask tell of it
 
@@ -173,30 +159,14 @@ pub record IsPainting (len : ℕ) (all : List Bool) (made : List Bool) (rest : L
 
 pub painting-more : (len : ℕ) (all made : List Bool) (r : ℕ × ℕ) (rs : List (ℕ × ℕ)) → IsPainting len all made (r ∷ rs)
     → IsPainting len all ((made ++ repeated (r.0 - length made) false) ++ repeated (r.1 - r.0) true) rs
-painting-more len all made r rs is =
-    let gap : List Bool = repeated (r.0 - length made) false in
-    let held : List Bool = repeated (r.1 - r.0) true in
-    let long : length ((made ++ gap) ++ held) ≡ r.1
-    = omega (arith, length-append (made ++ gap) held, length-append made gap, length-repeated (r.0 - length made) false, length-repeated (r.1 - r.0) true, is.ordered.0, is.ordered.1) in
-    record {
-      list =
-          ap (λ n. ((made ++ gap) ++ held) ++ painted n len rs) long
-          ∙ ap (λ (xs : List Bool). xs ++ painted r.1 len rs) (append_assoc made gap held)
-          ∙ append_assoc made (gap ++ held) (painted r.1 len rs)
-          ∙ is.list;
-      ordered = subst (λ (n : ℕ). Ordered n len rs) (sym long) is.ordered.2;
-    }
+painting-more len all made r rs is = grind (arith, length-append, length-repeated, append_assoc, Ordered)
 
 pub painting-none : (len : ℕ) (rs : List (ℕ × ℕ)) (made : List Bool) → made ≡ [] → range_fault len rs ≡ None → IsPainting len (painted 0 len rs) made rs
-painting-none len rs made empty none =
-    subst (λ (xs : List Bool). IsPainting len (painted 0 len rs) xs rs) (sym empty) (record { list = refl; ordered = Ordered-no_fault len rs none })
+painting-none len rs made empty none = grind (arith, Ordered-no_fault)
 
 -- the values past the last range end the list
 pub painting-all : (len : ℕ) (rs : List (ℕ × ℕ)) (made : List Bool) → range_fault len rs ≡ None → IsPainting len (painted 0 len rs) made []
     → (length (made ++ repeated (len - length made) false) ≡ len) × AreRanges (made ++ repeated (len - length made) false) rs
-painting-all len rs made none is = (
-  ap length is.list ∙ long_painted len rs none,
-  subst (λ (m : List Bool). AreRanges m rs) (sym is.list) (held_are_ranges len rs none),
-)
+painting-all len rs made none is = grind (arith, long_painted, held_are_ranges)
 
 pub ruleset range_facts = (nonempty-no_fault, rows_held-le, AreRanges-none, AreRanges-all)

@@ -1,5 +1,5 @@
 -- The places of true values, over lists.
-use Rattle.std.proofs.Common.{◌≡◌, ℕ, zero, suc, ◌+◌, ◌<◌, ◌≤◌, Bool, true, false, List, [], ◌∷◌, length, get_or, take, drop, map, Some, slice_get, refl, ap, arith, nat_eq, ◌||◌, ◌-◌}
+use Rattle.std.proofs.Common.{◌≡◌, ℕ, zero, suc, ◌+◌, ◌<◌, ◌≤◌, Bool, true, false, List, [], ◌∷◌, length, get_or, take, map, slice_get, refl, ap, arith, nat_eq, ◌||◌, ◌-◌}
 use Rattle.std.specs.List.{All}
 use Rattle.std.proofs.lemmas.List.Elements.{All-nil, All-head, All-tail}
 use Rattle.std.proofs.lemmas.List.{get_or-take, get_or_past, length-take, get_or-map, length-map}
@@ -10,10 +10,6 @@ use Rattle.std.specs.Option.{IfSome}
 pub length-indices_from : (n : ℕ) (m : List Bool) → length (indices_from n m) ≤ length m
 length-indices_from n [] = omega arith
 length-indices_from n (v ∷ m) = grind (arith, length-indices_from (n + 1) m)
-
-pub drop-slice_get : {X : Type 0} → (xs : List X) (i : ℕ) (x : X) → slice_get xs i ≡ Some x → drop i xs ≡ x ∷ drop (i + 1) xs
-drop-slice_get [] i x e = cc
-drop-slice_get (v ∷ ys) i x e = grind (arith, drop-slice_get ys)
 
 -- a list cut at n reads false from n on
 get_or-take_past : (m : List Bool) (n p : ℕ) → n ≤ p → get_or (take n m) p false ≡ false

@@ -10,7 +10,6 @@ use Rattle.mask_bits.specs.Positions.{repeated}
 use Rattle.mask_bits.specs.Words.{word_bits, window, word_part, padded_remainder, started_words, padded_part, padded_parts}
 use Rattle.mask_bits.proofs.BufferLemmas.{length-values, get_or-values}
 use Rattle.mask_bits.proofs.Lists.Words.BackingBitLemmas.{bits_at, length-bits_at, get_or-bits_at, word_bits-low}
-use Rattle.mask_bits.proofs.Lists.Words.FrontLemmas.{get_or-window}
 use Rattle.mask_bits.proofs.Lists.Words.WordLemmas.{length-word_bits, get_or-word_bits}
 use Rattle.mask_bits.proofs.Lists.CountLemmas.{length-repeated, get_or-padded}
 
@@ -49,12 +48,6 @@ word_bits-no_remainder m none =
     ∙ sym (padded_part-remainder m)
 
 -- ---- the words that bytes show
-
--- of a part that bytes show whole
-pub padded_part-window : (b : Packed) (i w : ℕ) → 64 * i + 64 ≤ b.len → word_bits w ≡ window b.bytes (b.offset + 64 * i) → word_bits w ≡ padded_part (values b) i
-padded_part-window b i w within shows =
-    padded_part_from_values (values b) (word_bits w) i (length-word_bits w) (λ j h.
-    grind (arith, get_or-window b.bytes (b.offset + 64 * i) j false h, get_or-values b (64 * i + j) false))
 
 -- and of the last one, cut to the values that are left
 pub padded_part-low : (b : Packed) (i w : ℕ) → b.len - 64 * i ≤ 64 → word_bits w ≡ window b.bytes (b.offset + 64 * i) → word_bits (bit_and w (2 ^ (b.len - 64 * i) - 1)) ≡ padded_part (values b) i

@@ -5,12 +5,7 @@ use Rattle.vortex_mask.proofs.Kernels.PathLemmas.{list_from_places}
 use Rattle.vortex_mask.proofs.intersect_by_rank.path.by_indices.Goals as goal
 
 pub intersect_by_rank_indices-requires : goal.intersect_by_rank_indices-requires
-intersect_by_rank_indices-requires c = record {
-  self_ascending = grind (arith, positions-ascending);
-  self_within = grind (arith, positions-within);
-  mask_ascending = grind (arith, positions-ascending);
-  mask_within = grind (arith, positions-within);
-}
+intersect_by_rank_indices-requires c = grind (arith, positions-ascending, positions-within)
 
 pub returns-clause-narrowed : goal.returns-clause-narrowed
 returns-clause-narrowed c = grind (arith, list_from_places)

@@ -1,8 +1,6 @@
-use Rattle.std.proofs.Common.{◌≡◌, ℕ, ◌-◌, ◌<◌, All, List, length, ap, sym, subst, ◌∙◌, arith}
-use Rattle.std.specs.List.{range_with_len}
+use Rattle.std.proofs.Common.{ℕ, ◌<◌, All, List, length, sym, subst, arith}
 use Rattle.std.specs.List.Sorted.{IsStrictlyIncreasing}
 use Rattle.std.proofs.lemmas.List.FromFn.{length-range_with_len}
-use Rattle.mask_bits.specs.Positions.{positions}
 use Rattle.mask_bits.proofs.Lists.Places.AscendingLemmas.{positions-ascending}
 use Rattle.mask_bits.proofs.Lists.CountLemmas.{positions-all_true}
 use Rattle.mask_bits.proofs.Lists.Places.PlaceLemmas.{positions-within}
@@ -10,10 +8,7 @@ use Rattle.vortex_mask.specs.Mask.{truth}
 use Rattle.vortex_mask.proofs.mask.Mask.set_indices.Goals as goal
 
 pub returns-in-AllTrue-clause-indices : goal.returns-in-AllTrue-clause-indices
-returns-in-AllTrue-clause-indices c =
-    let n = c.in-AllTrue.len in
-    let all : n - 0 ≡ n = omega arith in
-    ap (range_with_len 0) all ∙ sym (positions-all_true n) ∙ sym (ap (λ m. positions (truth m)) c.in-AllTrue.is)
+returns-in-AllTrue-clause-indices c = grind (arith, positions-all_true)
 
 pub returns-in-AllTrue-clause-ascending : goal.returns-in-AllTrue-clause-ascending
 returns-in-AllTrue-clause-ascending c =
@@ -24,5 +19,4 @@ returns-in-AllTrue-clause-within c =
     subst (λ (is : List ℕ). All (λ i. i < length (truth c.args.self.now)) is) (sym (returns-in-AllTrue-clause-indices c)) (positions-within (truth c.args.self.now))
 
 pub returns-in-AllTrue-clause-fits : goal.returns-in-AllTrue-clause-fits
-returns-in-AllTrue-clause-fits c =
-    grind (arith, length-range_with_len 0 (c.in-AllTrue.len - 0), c.well_formed)
+returns-in-AllTrue-clause-fits c = grind (arith, length-range_with_len)

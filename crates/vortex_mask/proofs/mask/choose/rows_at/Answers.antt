@@ -2,35 +2,20 @@ use Rattle.std.proofs.Common.{ℕ, ◌<◌, ◌++◌, List, length, slice_get, S
 use Rattle.std.specs.List.{All, filter_map}
 use Rattle.std.proofs.lemmas.List.Elements.{All-head, All-tail}
 use Rattle.std.proofs.lemmas.Option.{slice_get-get_or}
-use Rattle.mask_bits.specs.Buffer.{values}
-use Rattle.mask_bits.specs.Positions.{positions, chosen}
+use Rattle.mask_bits.specs.Positions.{chosen}
 use Rattle.mask_bits.proofs.Lists.ChooseLemmas.{chosen-step}
 use Rattle.mask_bits.proofs.Lists.Places.PlaceLemmas.{positions-within}
 use Rattle.vortex_mask.proofs.mask.choose.rows_at.Goals as goal
 
 pub loop-index-init : goal.loop-index-init
 unfolding chosen
-loop-index-init g c =
-    let rows = c.args.rows.now in
-    let m = values c.args.buffer.now in
-    let places = c.into_iter-index-iterator.ensures.into_iter_gives ∙ c.set_indices-index-items.ensures.indices in
-    record {
-      rows = ap (λ xs. xs ++ filter_map (λ i. slice_get rows i) c.into_iter-index-iterator.result) c.new-chosen_rows.ensures.items
-          ∙ ap (filter_map (λ i. slice_get rows i)) places;
-      within = subst (λ (ps : List ℕ). All (λ p. p < length rows) ps) (sym places)
-          (subst (λ (n : ℕ). All (λ p. p < n) (positions m)) (sym c.requires) (positions-within m));
-    }
+loop-index-init g c = grind (arith, slice_get, positions-within)
 
 pub offset_bounds-rows-index : goal.offset_bounds-rows-index
-offset_bounds-rows-index g c =
-    let within : ℕ → Type 0 = λ p. p < length c.args.rows.now in
-    let still = subst (All within) c.in-Some.ensures.steps c.loop-index.invariant.within in
-    omega (arith, All-head within c.in-Some.index _ still)
+offset_bounds-rows-index g c = grind (arith, All-head)
 
 pub bounds-rows-index : goal.bounds-rows-index
-bounds-rows-index g c =
-    let within : ℕ → Type 0 = λ p. p < length c.args.rows.now in
-    All-head within c.in-Some.index _ (subst (All within) c.in-Some.ensures.steps c.loop-index.invariant.within)
+bounds-rows-index g c = grind (arith, All-head)
 
 pub loop-index-preserved : goal.loop-index-preserved
 loop-index-preserved g c =

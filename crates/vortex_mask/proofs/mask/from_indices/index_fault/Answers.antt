@@ -3,5 +3,4 @@ use Rattle.vortex_mask.proofs.Masks.FaultLemmas.{faultless-by_last}
 use Rattle.vortex_mask.proofs.mask.from_indices.index_fault.Goals as goal
 
 pub returns-then-ascends : goal.returns-then-ascends
-returns-then-ascends c =
-    faultless-by_last c.args.len c.args.indices.now (c.ascends.ensures.0 c.if-ascends.true) (λ some. grind (arith, some, c.if-last-len.true))
+returns-then-ascends c = grind (arith, faultless-by_last)

@@ -1,7 +1,7 @@
 use Rattle.std.proofs.Common.{◌≡◌, ℕ, List, Bool, length, take, ◌++◌, sym, ap, ◌∙◌, arith}
 use Rattle.std.proofs.lemmas.List.{take_at}
 use Rattle.mask_bits.specs.Buffer.{values}
-use Rattle.mask_bits.specs.Positions.{positions, count, true_at, at_indices}
+use Rattle.mask_bits.specs.Positions.{positions, true_at, at_indices}
 use Rattle.mask_bits.proofs.Lists.Words.BackingBitLemmas.{length-bits_at}
 use Rattle.vortex_mask.proofs.Masks.PlaceListLemmas.{positions-at_indices, count-at_indices}
 use Rattle.vortex_mask.proofs.intersect_by_rank.kernels.rank_indices.intersect_bit_buffer_by_rank_indices.Goals as goal
@@ -16,19 +16,10 @@ written out rest size len a m qs whole same is_len list =
     ∙ list ∙ ap (λ (x : List Bool). true_at (length x) (at_indices (positions x) qs)) same
 
 pub of_words-requires-clause-counted : goal.of_words-requires-clause-counted
-of_words-requires-clause-counted g c =
-    let a = values c.args.self_buffer.now in
-    sym (ap count (written c.narrow_at_ranks-steps.new.out _ c.in_ok-words.words.len c.len-len.result a c.chunks.result c.args.mask_indices.now
-    (omega (arith, c.narrow_at_ranks-steps.auto.out, c.deref_mut.ensures.len)) c.chunks.ensures.list c.len-len.ensures c.narrow_at_ranks-steps.ensures.list)
-    ∙ count-at_indices a c.args.mask_indices.now c.requires.ascending c.requires.within)
+of_words-requires-clause-counted g c = grind (arith, written, count-at_indices)
 
 pub returns-clause-len : goal.returns-clause-len
 returns-clause-len g c = ap length c.in_ok-of_words.ensures.list ∙ length-bits_at _ 0 c.len-len.result ∙ c.len-len.ensures
 
 pub returns-clause-true_indices : goal.returns-clause-true_indices
-returns-clause-true_indices g c =
-    let a = values c.args.self_buffer.now in
-    ap positions (c.in_ok-of_words.ensures.list
-    ∙ written c.narrow_at_ranks-steps.new.out _ c.in_ok-words.words.len c.len-len.result a c.chunks.result c.args.mask_indices.now
-    (omega (arith, c.narrow_at_ranks-steps.auto.out, c.deref_mut.ensures.len)) c.chunks.ensures.list c.len-len.ensures c.narrow_at_ranks-steps.ensures.list)
-    ∙ positions-at_indices a c.args.mask_indices.now c.requires.ascending c.requires.within
+returns-clause-true_indices g c = grind (arith, written, positions-at_indices)

@@ -1,10 +1,9 @@
-use Rattle.std.proofs.Common.{◌≡◌, ℕ, ◌<◌, ◌≤◌, ◌^◌, ap, count_ones, arith}
+use Rattle.std.proofs.Common.{◌≡◌, ℕ, ◌<◌, ◌≤◌, ◌^◌, count_ones, arith}
 use Rattle.mask_bits.proofs.Lists.Places.PlaceLemmas.{length-indices_from}
 use Rattle.mask_bits.proofs.Lists.Words.WordLemmas.{count-word_bits, length-word_bits}
 use Rattle.mask_bits.specs.Positions.{count}
 use Rattle.mask_bits.specs.Words.{word_bits}
 use Rattle.vortex_mask.specs.Deposit.{Deposits}
-use Rattle.vortex_mask.specs.Steps.{StepCounts}
 use Rattle.vortex_mask.proofs.Kernels.DepositListLemmas.{deposited-count}
 use Rattle.vortex_mask.proofs.intersect_by_rank.steps.WordSteps.deposit.Goals as goal
 
@@ -13,14 +12,10 @@ within : (s m ones r : ℕ) → r < 2 ^ 64 → ones ≡ count (word_bits m) → 
 within s m ones r fits counted is = omega (arith, count-word_bits r fits, deposited-count s m r is, counted)
 
 pub overflow_add-self-3 : goal.overflow_add-self-3
-overflow_add-self-3 g c =
-    omega (arith, within c.args.source c.args.mask c.args.mask_count _ c.deposit_bits-result.type_inv c.requires.counted c.deposit_bits-result.ensures, c.requires.fits, c.self.invariant.0, ap (λ (s : StepCounts). s.offered) c.self.view_is)
+overflow_add-self-3 g c = grind (arith, within)
 
 pub invariant_of-self : goal.invariant_of-self
-invariant_of-self g c =
-    let few : c.args.mask_count ≤ 64 = omega (arith, length-indices_from 0 (word_bits c.args.mask), length-word_bits c.args.mask) in
-    let placed = within c.args.source c.args.mask c.args.mask_count _ c.deposit_bits-result.type_inv c.requires.counted c.deposit_bits-result.ensures in
-    (omega (arith, placed, c.self.invariant.0), omega (arith, few, c.self.invariant.1))
+invariant_of-self g c = grind (arith, length-indices_from, length-word_bits, within)
 
 pub returns-clause-ticked : goal.returns-clause-ticked
 returns-clause-ticked g c = grind (arith, count-word_bits)
