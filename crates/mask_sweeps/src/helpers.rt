@@ -43,9 +43,9 @@ pub(crate) enum Outside {
 }
 
 impl Outside {
-    // The bit at a place, where value 0 stands at bit `offset`.
-    fn bit(self, offset: usize, values: &[bool], place: usize) -> bool {
-        match place.checked_sub(offset) {
+    // The bit at a position, where value 0 stands at bit `offset`.
+    fn bit(self, offset: usize, values: &[bool], position: usize) -> bool {
+        match position.checked_sub(offset) {
             None => !matches!(self, Outside::Clear),
             Some(i) => match values.get(i) {
                 Some(value) => *value,
@@ -54,12 +54,12 @@ impl Outside {
         }
     }
 
-    // The bit so many places after the list.
-    fn after(self, place: usize) -> bool {
+    // The bit at this distance from the end of the list.
+    fn after(self, distance: usize) -> bool {
         match self {
             Outside::Set => true,
             Outside::Clear => false,
-            Outside::Ends => place == 1,
+            Outside::Ends => distance == 1,
         }
     }
 

@@ -78,7 +78,7 @@ pub(crate) fn repeating(
     let mut values: Vec<bool> = Vec::new(alloc);
     for i in 0..len {
         let is_true = match i.checked_rem(period) {
-            Some(place) => place < trues,
+            Some(rest) => rest < trues,
             None => false,
         };
         found(rt, values.push(is_true));
@@ -221,7 +221,7 @@ impl Op {
     }
 }
 
-// The places that hold a value.
+// The indices that hold a value.
 pub(crate) fn indices_of(
     rt: &impl Abort,
     alloc: Global,

@@ -103,12 +103,12 @@ fn lists_that_differ_at_the_end(rt: HostRuntime) {
 
 const MANY: usize = 20_000;
 
-fn true_at(rt: &impl Abort, alloc: Global, places: &[usize]) -> BitBuffer {
-    assert!(rt; places.iter().all(|place| *place < MANY));
-    found(rt, BitBuffer::from_indices(alloc, MANY, places))
+fn true_at(rt: &impl Abort, alloc: Global, indices: &[usize]) -> BitBuffer {
+    assert!(rt; indices.iter().all(|index| *index < MANY));
+    found(rt, BitBuffer::from_indices(alloc, MANY, indices))
 }
 
-// The places of the true values that an operation leaves of two long lists.
+// The indices of the true values that an operation leaves of two long lists.
 fn places_of_many(rt: &impl Abort, alloc: Global, op: Op) -> Vec<usize> {
     let a = true_at(rt, alloc, &[3, 10_000, 19_999]);
     let b = true_at(rt, alloc, &[3, 64, 19_999]);

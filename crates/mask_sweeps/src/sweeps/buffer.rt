@@ -31,41 +31,41 @@ fn equals(rt: &impl Abort, alloc: Global, buffer: &BitBuffer, values: &[bool]) {
     assert!(rt; (*buffer == other) == values.is_empty());
 }
 
-fn selects(rt: &impl Abort, buffer: &BitBuffer, places: &[usize]) {
-    let count = places.len();
+fn selects(rt: &impl Abort, buffer: &BitBuffer, indices: &[usize]) {
+    let count = indices.len();
     same(rt, buffer.true_count(), count);
-    assert!(rt; buffer.last_set_index() == places.last().copied());
+    assert!(rt; buffer.last_set_index() == indices.last().copied());
     let (last, past) = (count.saturating_sub(1), count.saturating_add(1));
     for n in [0, 1, 7, last, count, past] {
-        assert!(rt; buffer.select(n) == places.get(n).copied(), "select {n}");
+        assert!(rt; buffer.select(n) == indices.get(n).copied(), "select {n}");
     }
 }
 
-fn count_within(places: &[usize], start: usize, end: usize) -> usize {
+fn count_within(indices: &[usize], start: usize, end: usize) -> usize {
     let mut count = 0usize;
-    for place in places {
-        if start <= *place && *place < end {
+    for index in indices {
+        if start <= *index && *index < end {
             count = count.saturating_add(1);
         }
     }
     count
 }
 
-fn counts_within(rt: &impl Abort, buffer: &BitBuffer, places: &[usize], start: usize, end: usize) {
+fn counts_within(rt: &impl Abort, buffer: &BitBuffer, indices: &[usize], start: usize, end: usize) {
     if start <= end && end <= buffer.len() {
         same(
             rt,
             buffer.count_range(start, end),
-            count_within(places, start, end),
+            count_within(indices, start, end),
         );
     }
 }
 
-fn counts_ranges(rt: &impl Abort, buffer: &BitBuffer, places: &[usize]) {
+fn counts_ranges(rt: &impl Abort, buffer: &BitBuffer, indices: &[usize]) {
     let len = buffer.len();
     for start in [0, 1, len / 3, 63, 64, len] {
         for end in [0, 8, len / 2, 64, 65, len] {
-            counts_within(rt, buffer, places, start, end);
+            counts_within(rt, buffer, indices, start, end);
         }
     }
 }

@@ -76,9 +76,9 @@ fn by_indices(
     rows: &BitBuffer,
     ranks: &BitBuffer,
 ) -> Result<(Mask, Steps), MaskError> {
-    let (places, numbers) = (indices(alloc, rows)?, indices(alloc, ranks)?);
-    assert!(rt; ranks.len() == places.len());
-    intersect_by_rank_indices(alloc, rows.len(), &places, &numbers)
+    let (row_indices, numbers) = (indices(alloc, rows)?, indices(alloc, ranks)?);
+    assert!(rt; ranks.len() == row_indices.len());
+    intersect_by_rank_indices(alloc, rows.len(), &row_indices, &numbers)
 }
 
 fn driven(
@@ -131,7 +131,7 @@ fn caches(rt: &impl Abort, mask: &Mask, want: &Plain, indices: bool) {
     }
 }
 
-// The places of these within their words, added up.
+// Where these indices stand within their words, added up.
 fn spots(indices: &[usize]) -> u128 {
     let mut spots = 0u128;
     for index in indices {
@@ -141,7 +141,7 @@ fn spots(indices: &[usize]) -> u128 {
 }
 
 // How many deposits a word kernel does, and how many words the kernel reads that goes by ranks: none past the
-// last place that stays.
+// last index that stays.
 #[derive(Clone, Copy)]
 pub(crate) struct Work {
     deposits: usize,

@@ -20,10 +20,10 @@ pub(super) fn bits(
 }
 
 fn reads(rt: &impl Abort, buffer: &BitBuffer, rows: &[(usize, u64)]) {
-    for (place, want) in rows {
-        assert!(rt; buffer.offset() < 8 && *place <= 1_000);
-        let word = RankBits::new(buffer).read(*place);
-        assert!(rt; word == *want, "{word} at {place}");
+    for (position, want) in rows {
+        assert!(rt; buffer.offset() < 8 && *position <= 1_000);
+        let word = RankBits::new(buffer).read(*position);
+        assert!(rt; word == *want, "{word} at {position}");
     }
 }
 

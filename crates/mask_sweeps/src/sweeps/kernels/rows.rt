@@ -10,7 +10,7 @@ use std::process::Abort;
 // How the rows of self are made.
 #[derive(Clone, Copy)]
 enum Source {
-    // so many values, true at these places
+    // so many values, true at these indices
     At(usize, &'static [usize]),
     // so many values, of which the first of each so many is true
     OneIn(usize, usize),
@@ -19,21 +19,21 @@ enum Source {
 impl Source {
     fn values(self, rt: &impl Abort, alloc: Global) -> Vec<bool> {
         match self {
-            Source::At(len, places) => values_at(rt, alloc, len, places),
+            Source::At(len, indices) => values_at(rt, alloc, len, indices),
             Source::OneIn(len, period) => repeating(rt, alloc, len, (period, 1)),
         }
     }
 }
 
-fn values_at(rt: &impl Abort, alloc: Global, len: usize, places: &[usize]) -> Vec<bool> {
+fn values_at(rt: &impl Abort, alloc: Global, len: usize, indices: &[usize]) -> Vec<bool> {
     let mut values = Vec::new(alloc);
     for i in 0..len {
-        found(rt, values.push(places.contains(&i)));
+        found(rt, values.push(indices.contains(&i)));
     }
     values
 }
 
-// Rows of self, ranks, true places of the result, deposits, words.
+// Rows of self, ranks, true indices of the result, deposits, words.
 type Row = (Source, &'static [usize], &'static [usize], usize, usize);
 
 const ROWS: [Row; 12] = [
@@ -63,12 +63,12 @@ const ROWS: [Row; 12] = [
     (Source::OneIn(128, 2), &[], &[], 2, 0),
 ];
 
-fn bits_at(rt: &impl Abort, alloc: Global, len: usize, places: &[usize]) -> BitBuffer {
-    bits_of(rt, alloc, &values_at(rt, alloc, len, places))
+fn bits_at(rt: &impl Abort, alloc: Global, len: usize, indices: &[usize]) -> BitBuffer {
+    bits_of(rt, alloc, &values_at(rt, alloc, len, indices))
 }
 
-fn plain_at(rt: &impl Abort, alloc: Global, len: usize, places: &[usize]) -> Plain {
-    Plain::of(rt, alloc, values_at(rt, alloc, len, places))
+fn plain_at(rt: &impl Abort, alloc: Global, len: usize, indices: &[usize]) -> Plain {
+    Plain::of(rt, alloc, values_at(rt, alloc, len, indices))
 }
 
 fn narrows(rt: &impl Abort, alloc: Global, (source, ranks, want, deposits, words): Row) {
