@@ -36,8 +36,8 @@ places-same n (false ∷ xs) (true ∷ ys) same = let h : false ≡ true = same 
 places-same n (false ∷ xs) (false ∷ ys) same = places-same (n + 1) xs ys (λ i. same (suc i))
 
 -- a started part has the places of its values
-places-part : (m : List Bool) (i n : ℕ) → indices_from n (take 64 (drop (64 * i) m)) ≡ indices_from n (padded_part m i)
-places-part m i n =
+indices-part : (m : List Bool) (i n : ℕ) → indices_from n (take 64 (drop (64 * i) m)) ≡ indices_from n (padded_part m i)
+indices-part m i n =
     let rest : List Bool = drop (64 * i) m in
     places-same n (take 64 rest) (padded_part m i) (λ j. elim (cases_lt j 64) [
       | inl h ↦ get_or-take 64 rest j false h ∙ get_or-drop (64 * i) m j false ∙ sym (get_or-padded_part m i j h)
@@ -54,7 +54,7 @@ positions-word_more m i within =
     let len : 0 + length front ≡ 64 * i = omega (arith, length-take (64 * i) m) in
     ap (λ n. positions (take n m)) next ∙ ap positions (take-add (64 * i) 64 m) ∙ indices_from-append 0 front here
     ∙ ap (λ (ps : List ℕ). positions front ++ ps)
-    (ap (λ n. indices_from n here) len ∙ places-part m i (64 * i)
+    (ap (λ n. indices_from n here) len ∙ indices-part m i (64 * i)
     ∙ ap (λ n. indices_from n (padded_part m i)) (sym (add-zero (64 * i))) ∙ indices_from-moved (64 * i) 0 (padded_part m i))
 
 -- the lowest place of a word is a place of it
@@ -100,7 +100,7 @@ pub part-within : {X : Type 0} (rows : List X) (m : List Bool) (i : ℕ) → len
 part-within rows m i len =
     let here : List Bool = take 64 (drop (64 * i) m) in
     let few : length here ≤ length (drop (64 * i) rows) = omega (arith, length-take 64 (drop (64 * i) m), length-drop (64 * i) m, length-drop (64 * i) rows) in
-    subst (All (λ p. p < length (drop (64 * i) rows))) (places-part m i 0)
+    subst (All (λ p. p < length (drop (64 * i) rows))) (indices-part m i 0)
     (All-weaker (λ p. p < length here) (λ p. p < length (drop (64 * i) rows)) (λ p h. omega arith) (positions here) (positions-within here))
 
 -- no part has more true values than the whole

@@ -16,7 +16,7 @@ above-after xs i ascending k d h =
     let read : get_or (drop (i + 1) xs) k d ≡ get_or xs (i + 1 + k) 0 = get_or-drop (i + 1) xs k d ∙ get_or_default xs (i + 1 + k) d 0 place in
     omega (arith, AllPairs-from_increasing xs ascending i (i + 1 + k) 0 (omega arith) place, read)
 
--- from place i on all are above what the one at i is above
+-- from index i on all are above what the one at i is above
 above-from : (xs : List ℕ) (x i : ℕ) → IsStrictlyIncreasing xs → i < length xs → x < get_or xs i 0 → All (λ z. x < z) (drop i xs)
 above-from xs x i ascending h first = grind (arith, drop_more, All-cons, All-weaker, above-after)
 

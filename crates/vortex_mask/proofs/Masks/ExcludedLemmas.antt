@@ -27,19 +27,19 @@ unfolding true_at
 get_or-without n xs i d h =
     get_or-map not (true_at n xs) i d d (omega (arith, length-true_at n xs)) ∙ ap not (get_or-map-range_with_len (λ j. list_any (nat_eq j) xs) 0 n i i d h (omega arith))
 
--- no place yet
+-- no index yet
 pub without-none : (n : ℕ) → repeated n true ≡ without n []
 without-none n = grind (arith, same_lists, length-repeated, length-without, get_or-repeated, get_or-without)
 
--- one more place of the list
+-- one more index of the list
 pub without-set : (n x : ℕ) (xs : List ℕ) → x < n → set (without n xs) x false ≡ without n (xs ++ x ∷ [])
 without-set n x xs h = grind (arith, length-set, length-without, same_lists, cases_eq, get_or-set_at, get_or-without, list_any-append, get_or-set_other)
 
--- one more place past its end
+-- one more index past its end
 pub without-past : (n x : ℕ) (xs : List ℕ) → n ≤ x → without n xs ≡ without n (xs ++ x ∷ [])
 without-past n x xs h = grind (arith, same_lists, length-without, get_or-without, list_any-append)
 
--- one more place: its value is made false, or it is the first past the end where none was
+-- one more index: its value is made false, or it is the first past the end where none was
 pub excluded-more : (n x : ℕ) (xs : List ℕ) (old new : List Bool) (before after : Option ℕ) → old ≡ without n xs → before ≡ first_past n xs
     → (x < length old → (new ≡ set old x false) × (after ≡ before)) → (length old ≤ x → (new ≡ old) × (after ≡ option_or before (Some x)))
     → (new ≡ without n (xs ++ x ∷ [])) × (after ≡ first_past n (xs ++ x ∷ []))

@@ -35,7 +35,7 @@ record IsMerged (low high : ℕ) (rs ys : List (ℕ × ℕ)) : Type 0 where
 merged_more : (low high : ℕ) (k x : ℕ × ℕ) (xs ys : List (ℕ × ℕ)) → k.0 < k.1 → x.0 < x.1 → x.0 ≡ k.1 → IsMerged low high ((k.0, x.1) ∷ xs) ys → IsMerged low high (k ∷ x ∷ xs) ys
 merged_more low high k x xs ys some more touch is = grind (arith, inside_both, or_assoc)
 
--- two ranges with a place between them
+-- two ranges with an index between them
 merged_apart : (low high : ℕ) (k x : ℕ × ℕ) (xs zs : List (ℕ × ℕ)) → Ordered low high (k ∷ x ∷ xs) → IsMerged (k.1 + 1) high (x ∷ xs) zs → IsMerged low high (k ∷ x ∷ xs) (k ∷ zs)
 merged_apart low high k x xs zs o is = grind (arith, Ordered-top)
 

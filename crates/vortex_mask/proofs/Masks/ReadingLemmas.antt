@@ -58,7 +58,7 @@ pub ruleset one_value_facts = (length-repeated, count-repeated_true, count-repea
 
 -- ---- counts that run on
 
--- a count up to a place, and the true values from there to the next one, are the count up to that
+-- a count up to an index, and the true values from there to the next one, are the count up to that
 pub count-runs_on : (m : List Bool) (i j : ℕ) → i ≤ j → count_below m i + count (slice_range m i j) ≡ count_below m j
 count-runs_on m i j ordered = grind (arith, count-part_further)
 

@@ -57,9 +57,9 @@ count-part m i = grind (arith, part-split, count-append, count-repeated_false)
 pub count-word_more : (m : List Bool) (i : ℕ) → count (take (64 * (i + 1)) m) ≡ count (take (64 * i) m) + count (padded_part m i)
 count-word_more m i = grind (arith, take-add (64 * i) 64 m, count-append (take (64 * i) m) (take 64 (drop (64 * i) m)), count-part m i)
 
--- the false values of the last word hold no place
-places-part : (m : List Bool) (n i : ℕ) → indices_from n (padded_part m i) ≡ indices_from n (take 64 (drop (64 * i) m))
-places-part m n i = grind (arith, part-split, indices_from-append, indices_from-repeated_false, append-nil)
+-- the false values of the last word hold no index
+indices-part : (m : List Bool) (n i : ℕ) → indices_from n (padded_part m i) ≡ indices_from n (take 64 (drop (64 * i) m))
+indices-part m n i = grind (arith, part-split, indices_from-append, indices_from-repeated_false, append-nil)
 
 -- the places of one more started word
 pub places-word_more : (m : List Bool) (i : ℕ) → 64 * i ≤ length m → positions (take (64 * (i + 1)) m) ≡ positions (take (64 * i) m) ++ indices_from (64 * i) (padded_part m i)
@@ -70,7 +70,7 @@ places-word_more m i within =
     let len : 0 + length front ≡ 64 * i = omega (arith, length-take (64 * i) m) in
     ap (λ n. positions (take n m)) next ∙ ap positions (take-add (64 * i) 64 m) ∙ indices_from-append 0 front here
     ∙ ap (λ k. positions front ++ indices_from k here) len
-    ∙ ap (λ (ps : List ℕ). positions front ++ ps) (sym (places-part m (64 * i) i))
+    ∙ ap (λ (ps : List ℕ). positions front ++ ps) (sym (indices-part m (64 * i) i))
 
 -- true value number n of a list is number n less those passed of the word where it stands
 pub place_in_word : (m : List Bool) (i n r p : ℕ) → 64 * i ≤ length m → n ≡ count (take (64 * i) m) + r → r < count (padded_part m i) → slice_get (positions (padded_part m i)) r ≡ Some p
@@ -85,7 +85,7 @@ place_in_word m i n r p within number inside at =
     = sym (ap positions (take-append-drop (64 * i) m)) ∙ indices_from-append 0 front rest ∙ ap (λ k. positions front ++ indices_from k rest) len
     ∙ ap (λ (xs : List Bool). positions front ++ indices_from (64 * i) xs) (sym (take-append-drop 64 rest)) ∙ ap (λ (ps : List ℕ). positions front ++ ps) (indices_from-append (64 * i) (take 64 rest) (drop 64 rest)) in
     let padded : here ≡ map (λ k. 64 * i + k) (positions (padded_part m i))
-    = sym (places-part m (64 * i) i)
+    = sym (indices-part m (64 * i) i)
     ∙ ap (λ k. indices_from k (padded_part m i)) (sym (add-zero (64 * i))) ∙ indices_from-moved (64 * i) 0 (padded_part m i) in
     let many : r < length here = omega (arith, ap length padded, length-moved (64 * i) (positions (padded_part m i))) in
     ap (λ (ps : List ℕ). slice_get ps n) split ∙ slice_get-right (positions front) (here ++ after) n r number ∙ slice_get-left here after r many
@@ -136,8 +136,8 @@ no_index [] n none = refl
 no_index (v ∷ m) n none = grind (arith, none 0, no_index m (n + 1) (λ i. none (suc i)))
 
 -- none in a word without bits
-pub places-of_none : (n : ℕ) → indices_from n (word_bits 0) ≡ []
-places-of_none n = grind (arith, no_index, cases_lt, get_or-word_bits, bit_at-zero, get_or_past, length-word_bits)
+pub indices-of_none : (n : ℕ) → indices_from n (word_bits 0) ≡ []
+indices-of_none n = grind (arith, no_index, cases_lt, get_or-word_bits, bit_at-zero, get_or_past, length-word_bits)
 
 pub last_place : (m : List Bool) (p : ℕ) → p < length m → get_or m p false ≡ true → ((i : ℕ) → p < i → get_or m i false ≡ false) → slice_get (positions m) (count m - 1) ≡ Some p
 last_place m p within holds past =
