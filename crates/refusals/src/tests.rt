@@ -56,7 +56,7 @@ fn same(rt: &impl Abort, got: usize, want: usize)
 
 // ---- lists that are wanted
 
-// So many values, of which those at some places are true, or false, and the others are not; or true and
+// So many values, of which those at these indices are true, or false, and the others are not; or true and
 // false ones in turn, of which the first one true is given.
 #[derive(Clone, Copy)]
 enum Want {
@@ -72,11 +72,11 @@ impl Want {
         }
     }
 
-    fn value(&self, place: usize) -> bool {
+    fn value(&self, index: usize) -> bool {
         match self {
-            Want::TrueAt(_, places) => places.contains(&place),
-            Want::FalseAt(_, places) => !places.contains(&place),
-            Want::InTurnFrom(_, first) => place % 2 == *first,
+            Want::TrueAt(_, indices) => indices.contains(&index),
+            Want::FalseAt(_, indices) => !indices.contains(&index),
+            Want::InTurnFrom(_, first) => index % 2 == *first,
         }
     }
 
@@ -100,11 +100,11 @@ impl Want {
 // A mask, by how it is made.
 #[derive(Clone, Copy)]
 enum Sample {
-    // of its true places, which it caches
+    // of its true indices, which it caches
     Indices(usize, &'static [usize]),
-    // of a buffer that is true at these places; nothing is cached
+    // of a buffer that is true at these indices; nothing is cached
     Bits(usize, &'static [usize]),
-    // of bools that are true at the even places
+    // of bools that are true at the even indices
     Evens(usize),
     // of ranges, which it caches
     Ranges(usize, &'static [(usize, usize)]),
@@ -119,8 +119,8 @@ enum Sample {
 impl Sample {
     fn mask(&self, rt: &impl Abort, alloc: Global) -> Result<Mask, MaskError> {
         match *self {
-            Sample::Indices(len, places) => Mask::from_indices(alloc, len, places.iter().copied()),
-            Sample::Bits(len, places) => Mask::from_buffer(alloc, bits_of(alloc, len, places)?),
+            Sample::Indices(len, indices) => Mask::from_indices(alloc, len, indices.iter().copied()),
+            Sample::Bits(len, indices) => Mask::from_buffer(alloc, bits_of(alloc, len, indices)?),
             Sample::Evens(len) => Mask::from_bools(alloc, (0..len).map(|i| i % 2 == 0)),
             Sample::Ranges(len, ranges) => Mask::from_slices(alloc, len, ranges.to_vec(alloc)?),
             Sample::BufferWithRanges(len, ranges) => mask_of_buffer_and_ranges(alloc, len, ranges),
@@ -131,8 +131,8 @@ impl Sample {
     }
 }
 
-fn bits_of(alloc: Global, len: usize, places: &[usize]) -> Result<BitBuffer, AllocError> {
-    BitBuffer::from_bools(alloc, (0..len).map(|i| places.contains(&i)))
+fn bits_of(alloc: Global, len: usize, indices: &[usize]) -> Result<BitBuffer, AllocError> {
+    BitBuffer::from_bools(alloc, (0..len).map(|i| indices.contains(&i)))
 }
 
 fn mask_of_buffer_and_ranges(

@@ -134,7 +134,7 @@ fn repeating(
     let mut values = Vec::new(alloc);
     for i in 0..len {
         let is_true = match i.checked_rem(period) {
-            Some(place) => place < trues,
+            Some(rest) => rest < trues,
             None => false,
         };
         found(rt, values.push(is_true));

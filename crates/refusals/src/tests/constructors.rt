@@ -85,10 +85,10 @@ fn of_source_in_turn<R: Abort + Print + AllocGlobal>(rt: &R, source: Source, wan
 #[test]
 fn of_a_buffer(rt: HostRuntime) {
     say_name(&rt, "from_buffer");
-    let places = [0, 63, 64, 129].as_slice();
+    let indices = [0, 63, 64, 129].as_slice();
     match (
-        bits_of(rt.alloc(), 130, places),
-        bits_of(rt.alloc(), 130, places),
+        bits_of(rt.alloc(), 130, indices),
+        bits_of(rt.alloc(), 130, indices),
     ) {
         (Ok(buffer), Ok(copy)) => {
             from_buffer_in_turn(&rt, &buffer, TrueAt(130, &[0, 63, 64, 129]));

@@ -136,7 +136,7 @@ fn is_narrowed<R: Abort + Print>(
     }
 }
 
-// The true places, as a mask that caches them has them.
+// The true indices, as a mask that caches them has them.
 fn indices_of(alloc: Global, buffer: &BitBuffer) -> Result<Vec<usize>, AllocError>
     ensures ascending { IfOk result (λ v. IsStrictlyIncreasing v.items) }
     ensures within { IfOk result (λ v. All (λ k. k < length (values buffer.now)) v.items) }

@@ -14,7 +14,7 @@ pub(super) enum Call {
     All,
 }
 
-// The true places of ranges, and its ranges.
+// The true indices of ranges, and its ranges.
 const INDICES: &[usize] = &[0, 1, 2, 5, 6, 9];
 
 const RANGES: &[(usize, usize)] = &[(0, 3), (5, 7), (9, 10)];

@@ -52,21 +52,21 @@ impl Operands {
 fn with_copy(
     rt: &impl Abort,
     alloc: Global,
-    places: &[usize],
+    indices: &[usize],
 ) -> Result<(BitBuffer, BitBuffer), AllocError> {
     Ok((
-        bits_at_three(rt, alloc, places)?,
-        bits_at_three(rt, alloc, places)?,
+        bits_at_three(rt, alloc, indices)?,
+        bits_at_three(rt, alloc, indices)?,
     ))
 }
 
-// The values from place 3 on of a list that is true at these places.
+// The values from index 3 on of a list that is true at these indices.
 pub(super) fn bits_at_three(
     rt: &impl Abort,
     alloc: Global,
-    places: &[usize],
+    indices: &[usize],
 ) -> Result<BitBuffer, AllocError> {
-    let whole = bits_of(alloc, 133, places)?;
+    let whole = bits_of(alloc, 133, indices)?;
     same(rt, whole.len(), 133);
     whole.slice(3, 133)
 }
