@@ -1,5 +1,5 @@
 -- Lists of bitmaps: their values and parts, and the words that show them.
-use Rattle.std.proofs.Common.{◌≡◌, ℕ, zero, suc, nat_eq, ◌^◌, ◌+◌, ◌-◌, ◌*◌, ◌<◌, ◌≤◌, Bool, false, List, [], ◌∷◌, length, get_or, slice_range, slice_get, Some, refl, sym, ap, ap₂, take, ◌∙◌, add_assoc, inl, inr, arith}
+use Rattle.std.proofs.Common.{◌≡◌, ℕ, zero, suc, nat_eq, ◌^◌, ◌+◌, ◌-◌, ◌*◌, ◌<◌, ◌≤◌, Bool, false, List, [], ◌∷◌, length, get_or, slice_range, slice_get, Some, refl, sym, ap, take, ◌∙◌, add_assoc, inl, inr, arith}
 use Rattle.std.proofs.lemmas.Bool.{cases_lt, false≢true}
 use Rattle.std.proofs.lemmas.List.{ext_get_or, length-take}
 use Rattle.std.proofs.lemmas.List.Edits.{length-between, get_or-between}
@@ -42,11 +42,7 @@ bitmap-part bytes offset len s e ordered within =
 -- the true values below an index, and those from there to the next one
 pub count-runs_on : (bytes : List ℕ) (offset len i j n k : ℕ) → i ≤ j → j ≤ len → n ≡ count_below (bitmap bytes offset len) i
     → k ≡ count (bitmap bytes (offset + i) (j - i)) → n + k ≡ count_below (bitmap bytes offset len) j
-count-runs_on bytes offset len i j n k ordered within before between =
-    let m : List Bool = bitmap bytes offset len in
-    let there : i + (j - i) ≡ j = omega arith in
-    ap₂ (λ a b. a + b) before (between ∙ ap count (bitmap-part bytes offset len i j ordered within) ∙ ap (λ e. count (slice_range m i e)) (sym there))
-    ∙ sym (count-part_further m i (j - i)) ∙ ap (count_below m) there
+count-runs_on bytes offset len i j n k ordered within before between = grind (arith, bitmap-part, count-part_further)
 
 -- no more than there are
 pub count_below-le : (m : List Bool) (i : ℕ) → count_below m i ≤ i
@@ -81,8 +77,7 @@ word_from_bits v w fits fits' same =
 
 -- word i of one list is word i of a list that is the same
 pub same_word : (a b : List Bool) (i v w : ℕ) → v < 2 ^ 64 → w < 2 ^ 64 → word_bits v ≡ padded_part a i → word_bits w ≡ padded_part b i → a ≡ b → v ≡ w
-same_word a b i v w fits fits' is_v is_w same =
-    word_from_bits v w fits fits' (is_v ∙ ap (λ (m : List Bool). padded_part m i) same ∙ sym is_w)
+same_word a b i v w fits fits' is_v is_w same = grind (arith, word_from_bits)
 
 -- the values of one more word that is the same
 pub same_values-more : (a b : List Bool) (i v w : ℕ) → word_bits v ≡ padded_part a i → word_bits w ≡ padded_part b i → v ≡ w

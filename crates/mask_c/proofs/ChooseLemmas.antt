@@ -1,7 +1,6 @@
 -- The rows at the true values of a list, one started word after another.
-use Rattle.std.proofs.Common.{◌≡◌, ℕ, suc, nat_eq, ◌+◌, ◌-◌, ◌*◌, ◌^◌, ◌<◌, ◌≤◌, Bool, true, false, List, [], ◌∷◌, ◌++◌, length, get_or, take, drop, map, slice_get, Some, refl, sym, subst, ap, ap₂, ◌∙◌, add-zero, inl, inr, arith}
+use Rattle.std.proofs.Common.{◌≡◌, ℕ, suc, nat_eq, ◌+◌, ◌-◌, ◌*◌, ◌^◌, ◌<◌, ◌≤◌, Bool, true, false, List, [], ◌∷◌, ◌++◌, length, get_or, take, drop, map, slice_get, refl, sym, subst, ap, ap₂, ◌∙◌, add-zero, inl, inr, arith}
 use Rattle.std.proofs.Math.Seq.{take-add}
-use Rattle.std.specs.Int.RustNames.{bit_and}
 use Rattle.std.specs.List.{All, cons_option, filter_map, range_with_len}
 use Rattle.std.proofs.lemmas.Bool.{cases_lt}
 use Rattle.std.proofs.lemmas.List.{get_or-drop, get_or-take, get_or_past, length-drop, length-take, take-append-drop, take_all}
@@ -59,26 +58,16 @@ positions-word_more m i within =
 
 -- the lowest place of a word is a place of it
 pub lowest-within : (w n : ℕ) → 0 < w → w < 2 ^ 64 → All (λ p. p < n) (positions (word_bits w)) → low w < n
-lowest-within w n some fits within =
-    All-head (λ p. p < n) (low w) (positions (word_bits (bit_and w (w - 1)))) (subst (All (λ p. p < n)) (positions-lowest w some fits) within)
+lowest-within w n some fits within = grind (arith, All-head, positions-lowest)
 
 -- no bit of 0 is set
 pub no_bits : (w : ℕ) → w ≡ 0 → positions (word_bits w) ≡ []
-no_bits w none =
-    ap (λ n. positions (word_bits n)) none
-    ∙ no_index (word_bits 0) 0 (λ i. elim (cases_lt i 64) [
-      | inl h ↦ get_or-word_bits 0 i false h ∙ ap (λ b. nat_eq b 1) (bit_at-zero i)
-      | inr past ↦ get_or_past (word_bits 0) i false (omega (arith, length-word_bits 0))
-    ])
+no_bits w none = grind (arith, no_index, cases_lt, get_or-word_bits, bit_at-zero, get_or_past, length-word_bits)
 
 -- ---- rows
 
 slice_get-drop : {X : Type 0} (rows : List X) (n p : ℕ) → slice_get rows (n + p) ≡ slice_get (drop n rows) p
-slice_get-drop rows n p = elim (slice_get_cases rows (n + p)).1 [
-  | inl h ↦
-      h.2 ∙ sym (slice_get-get_or (drop n rows) p h.0 (omega (arith, length-drop n rows, h.1)) ∙ ap Some (get_or-drop n rows p h.0 ∙ h.3))
-  | inr h ↦ h.1 ∙ sym (slice_get_past (drop n rows) p (omega (arith, length-drop n rows, h.0)))
-]
+slice_get-drop rows n p = grind (arith, slice_get_cases, slice_get-get_or, length-drop, get_or-drop, slice_get_past)
 
 rows_at-moved : {X : Type 0} (rows : List X) (n : ℕ) (ps : List ℕ) → rows_at rows (map (λ p. n + p) ps) ≡ rows_at (drop n rows) ps
 rows_at-moved rows n [] = refl
@@ -109,8 +98,7 @@ count_below-le-count m n = omega (arith, count-append (take n m) (drop n m), ap 
 
 -- all words have all rows
 pub rows-all : {X : Type 0} (rows : List X) (m : List Bool) (n : ℕ) → length m ≤ n → rows_at rows (positions (take n m)) ≡ chosen rows m
-rows-all rows m n past =
-    ap (λ (x : List Bool). rows_at rows (positions x)) (take_all n m past) ∙ sym (chosen_at_positions rows m)
+rows-all rows m n past = grind (arith, take_all, chosen_at_positions)
 
 -- ---- a full word
 
@@ -129,17 +117,10 @@ count-full w fits full = ap count (full_word w fits full) ∙ count-repeated_tru
 
 -- so there are rows for all of them
 pub full-within : {X : Type 0} (rows : List X) (w : ℕ) → w < 2 ^ 64 → w ≡ 2 ^ 64 - 1 → All (λ p. p < length rows) (positions (word_bits w)) → 64 ≤ length rows
-full-within rows w fits full within =
-    let ps : List ℕ = positions (word_bits w) in
-    let last : get_or ps 63 0 ≡ 63 = ap (λ (qs : List ℕ). get_or qs 63 0) (positions-full w fits full) ∙ get_or-range_with_len 0 64 63 0 (omega arith) in
-    omega (arith, last, All-get_or (λ p. p < length rows) ps 63 0 (omega (arith, count-full w fits full)) within)
+full-within rows w fits full within = grind (arith, positions-full, get_or-range_with_len, All-get_or, count-full)
 
 slice_get-take : {X : Type 0} (rows : List X) (n p : ℕ) → p < n → slice_get (take n rows) p ≡ slice_get rows p
-slice_get-take rows n p few = elim (slice_get_cases rows p).1 [
-  | inl h ↦
-      slice_get-get_or (take n rows) p h.0 (omega (arith, length-take n rows, h.1)) ∙ ap Some (get_or-take n rows p h.0 few ∙ h.3) ∙ sym h.2
-  | inr h ↦ slice_get_past (take n rows) p (omega (arith, length-take n rows, h.0)) ∙ sym h.1
-]
+slice_get-take rows n p few = grind (arith, slice_get_cases, slice_get-get_or, length-take, get_or-take, slice_get_past)
 
 -- and they are the first ones
 rows_at-front : {X : Type 0} (rows : List X) (n : ℕ) (ps : List ℕ) → All (λ p. p < n) ps → rows_at rows ps ≡ rows_at (take n rows) ps

@@ -1,5 +1,5 @@
 -- The indices of true values from an index on, one started word after another, as many as there is room for.
-use Rattle.std.proofs.Common.{◌≡◌, ℕ, ◌+◌, ◌-◌, ◌*◌, ◌^◌, ◌<◌, ◌≤◌, ◌⊎◌, Bool, false, List, [], ◌∷◌, ◌++◌, length, take, drop, map, min, refl, sym, ap, ap₂, ◌∙◌, add-zero, add_assoc, append-nil, inl, inr, arith}
+use Rattle.std.proofs.Common.{◌≡◌, ℕ, ◌+◌, ◌-◌, ◌*◌, ◌^◌, ◌<◌, ◌≤◌, ◌⊎◌, Bool, false, List, [], ◌∷◌, ◌++◌, length, take, drop, map, min, refl, sym, ap, ap₂, ◌∙◌, add-zero, add_assoc, append-nil, arith}
 use Rattle.std.specs.List.{All}
 use Rattle.std.proofs.lemmas.Bool.{cases_lt}
 use Rattle.std.proofs.lemmas.List.{ext_get_or, get_or-drop, length-drop, length-map, length-take, map-append, take-append-drop, take-append-le, take_all, take_at}
@@ -30,19 +30,11 @@ bitmap-rest bytes offset len from within =
 
 -- what was written where nothing is left, or the room is full
 pub stopped : (n at : ℕ) (xs rest whole : List ℕ) → length xs ≡ at → at ≤ n → xs ++ rest ≡ whole → ((rest ≡ []) ⊎ (at ≡ n)) → xs ≡ take n whole
-stopped n at xs rest whole len room is either = elim either [
-  | inl none ↦
-      let all : xs ≡ whole = sym (append-nil xs) ∙ ap (λ ys. xs ++ ys) (sym none) ∙ is in
-      sym (take_all n xs (omega arith)) ∙ ap (take n) all
-  | inr full ↦ sym (take_at xs rest n (len ∙ full)) ∙ ap (take n) is
-]
+stopped n at xs rest whole len room is either = grind (arith, append-nil, take_all, take_at)
 
 -- what more comes behind what fits
 pub more_room : (n : ℕ) (xs ys : List ℕ) → take n (take n xs ++ ys) ≡ take n (xs ++ ys)
-more_room n xs ys = elim (cases_lt n (length xs)) [
-  | inl less ↦ take_at (take n xs) ys n (omega (arith, length-take n xs)) ∙ sym (take-append-le n xs ys (omega arith))
-  | inr all ↦ ap (λ (zs : List ℕ). take n (zs ++ ys)) (take_all n xs all)
-]
+more_room n xs ys = grind (arith, cases_lt, take_at, length-take, take-append-le, take_all)
 
 -- ---- words
 
@@ -72,8 +64,7 @@ all_places : (m : List Bool) (from : ℕ) → map (λ p. from + p) (positions m)
 all_places m from = sym (indices_from-moved from 0 m) ∙ ap (λ n. indices_from n m) (add-zero from)
 
 pub all_indices : (m : List Bool) (from k : ℕ) → length m ≤ k → map (λ p. from + p) (positions (take k m)) ≡ indices_from from m
-all_indices m from k past =
-    ap (λ (x : List Bool). map (λ p. from + p) (positions x)) (take_all k m past) ∙ all_places m from
+all_indices m from k past = grind (arith, take_all, all_places)
 
 -- the first words have the first indices
 pub first_indices : (m : List Bool) (from n k : ℕ) → n ≤ count (take k m) → take n (map (λ p. from + p) (positions (take k m))) ≡ take n (indices_from from m)
@@ -92,12 +83,7 @@ pub word_done : (m : List Bool) (from i at next w n : ℕ) (out new : List ℕ) 
     → take at out ≡ take n (map (λ p. from + p) (positions (take (64 * i) m)))
     → take next new ≡ take n (take at out ++ map (λ p. from + 64 * i + p) (positions (word_bits w)))
     → take next new ≡ take n (map (λ p. from + p) (positions (take (64 * (i + 1)) m)))
-word_done m from i at next w n out new within read before after =
-    let front : List ℕ = map (λ p. from + p) (positions (take (64 * i) m)) in
-    let here : List ℕ = map (λ p. from + 64 * i + p) (positions (word_bits w)) in
-    after ∙ ap (λ (xs : List ℕ). take n (xs ++ here)) before ∙ more_room n front here
-    ∙ ap (λ (x : List Bool). take n (front ++ map (λ p. from + 64 * i + p) (positions x))) read
-    ∙ ap (take n) (sym (indices-word_more m from i within))
+word_done m from i at next w n out new within read before after = grind (arith, more_room, indices-word_more)
 
 pub word_counted : (m : List Bool) (i at next w n : ℕ) → word_bits w ≡ padded_part m i → at ≡ min n (count (take (64 * i) m))
     → next ≡ min n (at + count (word_bits w)) → next ≡ min n (count (take (64 * (i + 1)) m))

@@ -1,7 +1,7 @@
-use Rattle.std.proofs.Common.{Bool, List, ◌≡◌, ◌<◌, ◌+◌, ◌-◌, ◌*◌, ◌++◌, length, take, drop, subst, sym, ap, ◌∙◌, arith}
+use Rattle.std.proofs.Common.{◌≡◌, ◌<◌, ◌+◌, ◌*◌, length, drop, subst, sym, ap, ◌∙◌, arith}
 use Rattle.std.specs.List.{All}
 use Rattle.std.proofs.lemmas.List.{take_all, take_rest}
-use Rattle.mask_bits.specs.Positions.{chosen, count, positions}
+use Rattle.mask_bits.specs.Positions.{count, positions}
 use Rattle.mask_bits.specs.Words.{word_bits}
 use Rattle.mask_bits.proofs.Lists.Places.SelectLemmas.{count-word_more}
 use Rattle.mask_c.proofs.ChooseLemmas.{rows_at, rows-word_more, part-within, count_below-le-count, rows-all}
@@ -24,30 +24,10 @@ choose_by_word-at-requires-clause-room g c =
     omega (arith, c.loop-i.invariant.counted, ap count c.padded_word.ensures, count-word_more m i, count_below-le-count m (64 * (i + 1)), ap count c.new-chunks.ensures.list, c.requires.room, c.loop-i.auto.out)
 
 pub loop-i-preserved : goal.loop-i-preserved
-loop-i-preserved g c =
-    let rows = c.args.rows.now in
-    let m = c.new-chunks.result in
-    let i = c.loop-i.i in
-    let len = c.new-chunks.ensures.len in
-    let before = rows_at rows (positions (take (64 * i) m)) in
-    record {
-      rows = c.choose_by_word-at.ensures.rows
-          ∙ ap (λ xs. xs ++ rows_at (take (length rows - 64 * i) (drop (64 * i) rows)) (positions (word_bits c.padded_word.result))) c.loop-i.invariant.rows
-          ∙ ap (λ xs. before ++ rows_at xs (positions (word_bits c.padded_word.result))) (take_rest rows (64 * i))
-          ∙ ap (λ (x : List Bool). before ++ rows_at (drop (64 * i) rows) (positions x)) c.padded_word.ensures
-          ∙ sym (rows-word_more rows m i (omega arith));
-      counted = omega (arith, c.choose_by_word-at.ensures.count, c.loop-i.invariant.counted, ap count c.padded_word.ensures, count-word_more m i);
-    }
+loop-i-preserved g c = grind (arith, rows_at, take_rest, rows-word_more, count-word_more)
 
 pub returns-clause-rows : goal.returns-clause-rows
-returns-clause-rows g c =
-    let m = c.new-chunks.result in
-    let len = c.new-chunks.ensures.len in
-    c.loop-i.invariant.rows ∙ rows-all c.args.rows.now m (64 * c.loop-i.i) (omega arith)
-    ∙ ap (λ (x : List Bool). chosen c.args.rows.now x) c.new-chunks.ensures.list
+returns-clause-rows g c = grind (arith, rows-all)
 
 pub returns-clause-count : goal.returns-clause-count
-returns-clause-count g c =
-    let m = c.new-chunks.result in
-    let len = c.new-chunks.ensures.len in
-    c.loop-i.invariant.counted ∙ ap count (take_all (64 * c.loop-i.i) m (omega arith)) ∙ ap count c.new-chunks.ensures.list
+returns-clause-count g c = grind (arith, take_all)

@@ -13,17 +13,13 @@ use Rattle.mask_c.proofs.ChooseLemmas.{rows_at, lowest-within, no_bits}
 use Rattle.mask_c.proofs.choose.choose_by_bits.Goals as goal
 
 pub bounds-rows-word : goal.bounds-rows-word
-bounds-rows-word g c =
-    lowest-within c.loop-word.word (length c.args.rows.now) (omega (arith, c.loop-word-test.true)) c.loop-word.auto.word-fits.fits c.loop-word.invariant.within
+bounds-rows-word g c = grind (arith, lowest-within)
 
 pub offset_bounds-rows-word : goal.offset_bounds-rows-word
 offset_bounds-rows-word g c = omega (arith, bounds-rows-word g c)
 
 pub bounds-out-at : goal.bounds-out-at
-bounds-out-at g c =
-    let w = c.loop-word.word in
-    let first = positions-lowest w (omega (arith, c.loop-word-test.true)) c.loop-word.auto.word-fits.fits in
-    omega (arith, ap length first, c.loop-word.invariant.counted, c.requires.room, c.loop-word.auto.out)
+bounds-out-at g c = grind (arith, positions-lowest)
 
 pub overflow_add-at : goal.overflow_add-at
 overflow_add-at g c = omega (arith, bounds-out-at g c, c.loop-word.auto.out)
@@ -52,11 +48,7 @@ loop-word-preserved g c =
     }
 
 pub returns-clause-rows : goal.returns-clause-rows
-returns-clause-rows g c =
-    let none = no_bits c.loop-word.word c.loop-word-test.false in
-    sym (append-nil (take c.loop-word.at c.loop-word.out))
-    ∙ ap (λ (ps : List ℕ). take c.loop-word.at c.loop-word.out ++ rows_at c.args.rows.now ps) (sym none)
-    ∙ c.loop-word.invariant.rows
+returns-clause-rows g c = grind (arith, no_bits, append-nil, rows_at)
 
 pub returns-clause-count : goal.returns-clause-count
 returns-clause-count g c = omega (arith, ap length (no_bits c.loop-word.word c.loop-word-test.false), c.loop-word.invariant.counted)

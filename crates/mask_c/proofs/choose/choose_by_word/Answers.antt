@@ -17,5 +17,4 @@ returns-then-word-eq-FULL-clause-rows g c =
     ∙ ap (λ xs. take c.args.at c.args.out.now ++ xs) (sym (rows-full rows c.args.word c.ranges.word.fits full many))
 
 pub returns-then-word-eq-FULL-clause-count : goal.returns-then-word-eq-FULL-clause-count
-returns-then-word-eq-FULL-clause-count g c =
-    omega (arith, c.choose_64.ensures.count, count-full c.args.word c.ranges.word.fits c.if-word-eq-FULL.true)
+returns-then-word-eq-FULL-clause-count g c = grind (arith, count-full)

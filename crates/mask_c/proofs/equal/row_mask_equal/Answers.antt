@@ -5,16 +5,10 @@ use Rattle.mask_c.proofs.BitmapLemmas.{same_word, same_values-more}
 use Rattle.mask_c.proofs.equal.row_mask_equal.Goals as goal
 
 pub returns-then-padded_word : goal.returns-then-padded_word
-returns-then-padded_word c = (
-  λ no. absurd (false≢true no),
-  λ same. absurd (c.if-padded_word.true
-      (same_word c.new-a.result c.new-b.result c.loop-i.i _ _ c.padded_word.type_inv c.padded_word-in-loop-i.type_inv c.padded_word.ensures c.padded_word-in-loop-i.ensures
-      (c.new-a.ensures.list ∙ same ∙ sym c.new-b.ensures.list))),
-)
+returns-then-padded_word c = grind (arith, false≢true, same_word)
 
 pub loop-i-preserved : goal.loop-i-preserved
-loop-i-preserved c =
-    same_values-more c.new-a.result c.new-b.result c.loop-i.i _ _ c.padded_word.ensures c.padded_word-in-loop-i.ensures c.if-padded_word.false c.loop-i.invariant
+loop-i-preserved c = grind (arith, same_values-more)
 
 pub returns : goal.returns
 returns c =

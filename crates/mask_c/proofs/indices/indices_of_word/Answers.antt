@@ -13,12 +13,7 @@ use Rattle.mask_c.proofs.IndexLemmas.{stopped}
 use Rattle.mask_c.proofs.indices.indices_of_word.Goals as goal
 
 pub overflow_add-out : goal.overflow_add-out
-overflow_add-out c =
-    let w = c.loop-word.word in
-    let fits : ℕ → Type 0 = λ p. c.args.first + p < 2 ^ 64 in
-    let first = positions-lowest w (omega (arith, c.loop-word-test.true)) c.loop-word.auto.word-fits.fits in
-    let below = All-head fits (low w) (positions (word_bits (bit_and w (w - 1)))) (subst (All fits) first c.loop-word.invariant.fits) in
-    omega (arith, below)
+overflow_add-out c = grind (arith, positions-lowest, All-head)
 
 pub loop-word-preserved : goal.loop-word-preserved
 loop-word-preserved c =
@@ -50,8 +45,7 @@ returns-then-at-out-clause-indices c =
     (inr (omega (arith, c.if-at-out.true, c.loop-word.auto.out)))
 
 pub returns-then-at-out-clause-count : goal.returns-then-at-out-clause-count
-returns-then-at-out-clause-count c =
-    omega (arith, c.loop-word.invariant.counted, c.if-at-out.true, c.loop-word.auto.out)
+returns-then-at-out-clause-count c = grind (arith)
 
 pub returns-clause-indices : goal.returns-clause-indices
 returns-clause-indices c =
@@ -61,5 +55,4 @@ returns-clause-indices c =
     (inl (ap (map (λ p. c.args.first + p)) (no_bits c.loop-word.word c.loop-word-test.false)))
 
 pub returns-clause-count : goal.returns-clause-count
-returns-clause-count c =
-    omega (arith, c.loop-word.invariant.counted, c.loop-word.invariant.room, c.loop-word.auto.out, ap length (no_bits c.loop-word.word c.loop-word-test.false))
+returns-clause-count c = grind (arith, no_bits)

@@ -65,10 +65,4 @@ returns-clause-indices c =
     ∙ ap (λ (x : List Bool). take (length c.args.out.now) (indices_from c.args.from x)) rest
 
 pub returns-clause-count : goal.returns-clause-count
-returns-clause-count c =
-    let m = c.new-chunks.result in
-    let len = c.new-chunks.ensures.len in
-    let rest = c.new-chunks.ensures.list ∙ bitmap-rest c.args.bytes.now c.args.offset c.args.len c.args.from c.requires.within in
-    c.loop-i.invariant.counted
-    ∙ ap (λ k. min k (count (take (64 * c.loop-i.i) m))) c.loop-i.auto.out
-    ∙ ap (λ (x : List Bool). min (length c.args.out.now) (count x)) (take_all (64 * c.loop-i.i) m (omega arith) ∙ rest)
+returns-clause-count c = grind (arith, bitmap-rest, take_all)
