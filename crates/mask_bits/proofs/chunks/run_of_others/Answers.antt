@@ -16,9 +16,6 @@ returns-then-value-clause-holds c = λ h.
     sym (bit-window c.args.bytes.now c.args.position w _ c.word_at-word.ensures h)
     ∙ ap (λ b. nat_eq b 1) (zeros-end w c.word_at-word.type_inv h) ∙ sym c.if-value.true
 
-pub returns-else-value-clause-few : goal.returns-else-value-clause-few
-returns-else-value-clause-few c = omega (arith, c.trailing_ones.ensures, ones-within c.word_at-word.result c.word_at-word.type_inv)
-
 pub returns-else-value-clause-passed : goal.returns-else-value-clause-passed
 returns-else-value-clause-passed c = λ j h.
     let w = c.word_at-word.result in

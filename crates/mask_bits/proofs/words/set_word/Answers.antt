@@ -13,6 +13,3 @@ returns-clause-here c =
     sym (word_bits-chunk _ c.copy_from_slice.new.self i (λ k. subst (λ (xs : List ℕ). get_or xs k 0 < 256) (sym wrote) (bytes-of_word c.args.word k)) (λ k h.
     sym (get_or-put_mid_inside (8 * i) (8 * i + 8) c.args.bytes.now c.copy_from_slice.new.self k (omega arith) (ap length wrote ∙ omega arith) (omega arith))))
     ∙ ap word_bits (ap (from_le_bytes w64) wrote ∙ from_le_bytes-to_le_bytes_8 c.args.word (search rules))
-
-pub returns-clause-others : goal.returns-clause-others
-returns-clause-others c = grind (arith, get_or-put_mid_below, get_or-put_mid_above)

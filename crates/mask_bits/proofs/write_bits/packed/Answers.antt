@@ -8,6 +8,3 @@ loop-j-init c = packed-none c.args.bools.now
 
 pub loop-j-preserved : goal.loop-j-preserved
 loop-j-preserved c = packed-more c.args.bools.now c.loop-j.j c.loop-j.word (omega (arith, c.requires)) c.loop-j.invariant
-
-pub returns : goal.returns
-returns c = grind (arith, take_all)
