@@ -1,5 +1,4 @@
 use Rattle.std.proofs.Common.{arith}
-use Rattle.std.proofs.lemmas.List.{take_all}
 use Rattle.mask_bits.proofs.BoolsLemmas.{packed-none, packed-more}
 use Rattle.mask_bits.proofs.write_bits.packed.Goals as goal
 

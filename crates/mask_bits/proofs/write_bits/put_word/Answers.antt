@@ -1,4 +1,5 @@
-use Rattle.std.proofs.Common.{List, Bool, length, ◌≡◌, take, arith}
+use Rattle.std.proofs.lemmas.Grind.{common_steps}
+use Rattle.std.proofs.Common.{take, arith}
 use Rattle.std.proofs.lemmas.List.{length-take}
 use Rattle.mask_bits.specs.Words.{word_bits}
 use Rattle.mask_bits.proofs.Lists.Words.WordLemmas.{length-word_bits}
@@ -16,11 +17,4 @@ returns-then-low-count-gt64 c =
     c.set_word-then-low-count-gt64.ensures.here c.set_word-then-low-count-gt64.ensures.others
 
 pub returns-else-low-count-gt64 : goal.returns-else-low-count-gt64
-returns-else-low-count-gt64 c =
-    let old = c.args.bytes.now in
-    let at = c.args.at in
-    let word = c.low_bits-word.result in
-    let m : List Bool = take c.args.count (word_bits c.args.word) in
-    let len : length m ≡ c.args.count = omega (arith, c.requires.few, length-take c.args.count (word_bits c.args.word), length-word_bits c.args.word) in
-    written-one old c.set_word.new.bytes at c.args.count word m (omega arith) len c.low_bits-word.ensures
-    (written-first_word old c.set_word.new.bytes at c.word_of.result word c.requires.clear c.word_of.ensures c.set_word.ensures.here c.set_word.ensures.others)
+returns-else-low-count-gt64 c = grind (arith, common_steps, length-take, length-word_bits, written-one, written-first_word)
