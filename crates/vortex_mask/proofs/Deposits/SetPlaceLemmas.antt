@@ -1,4 +1,5 @@
 -- The set places of a number: how many are below a place, the lowest one, and the number without it.
+use Rattle.std.proofs.lemmas.Grind.{common_steps}
 use Rattle.std.proofs.Common.{◌≡◌, ℕ, zero, suc, ◌+◌, ◌-◌, ◌*◌, ◌/◌, ◌%◌, ◌^◌, ◌<◌, ◌≤◌, ◌⊎◌, inl, inr, sym, ap, ◌∙◌, arith, pow-suc, bit_and, count_ones, mod-lt}
 use Rattle.std.proofs.lemmas.Nat.{pow_pos, and_comm, and-not, ones-le}
 use lib.Bits.{and_step, and_self}
@@ -73,8 +74,4 @@ ones-cleared (suc k) m some fits = by (λ h. ones-cleared k (m / 2) h (omega (ar
         omega (arith, ones_step m, ones_step (cleared m), ap count_ones c, cleared-odd m odd)
 
 pub ones-cleared_le : (k m : ℕ) → m < 2 ^ k → count_ones (cleared m) ≤ count_ones m - 1
-ones-cleared_le k m fits = by (cases_lt 0 m)
-  where
-    by : (0 < m) ⊎ (m ≤ 0) → count_ones (cleared m) ≤ count_ones m - 1
-    by (inl some) = omega (arith, ones-cleared k m some fits)
-    by (inr none) = let z : m ≡ 0 = omega arith in let w : cleared m ≡ 0 = ap cleared z in omega (arith, ap count_ones w, ones-le 0 0 (omega arith))
+ones-cleared_le k m fits = grind (arith, common_steps, cases_lt, ones-cleared, ones-le)

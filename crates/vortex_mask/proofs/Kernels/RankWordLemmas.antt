@@ -1,5 +1,6 @@
 -- Ascending ranks as the rank bits of a word.
-use Rattle.std.proofs.Common.{◌≡◌, ℕ, zero, suc, ◌+◌, ◌-◌, ◌*◌, ◌<◌, ◌≤◌, ◌^◌, ◌||◌, Bool, true, false, nat_eq, List, [], ◌∷◌, length, get_or, take, drop, refl, sym, ap, ap₂, ◌∙◌, inl, inr, arith, ◌%◌, mod-eq_of_lt}
+use Rattle.std.proofs.lemmas.Grind.{common_steps}
+use Rattle.std.proofs.Common.{◌≡◌, ℕ, zero, suc, ◌+◌, ◌-◌, ◌*◌, ◌<◌, ◌≤◌, ◌^◌, ◌||◌, Bool, true, false, nat_eq, List, [], ◌∷◌, length, get_or, take, drop, refl, sym, ap, ◌∙◌, arith, ◌%◌, mod-eq_of_lt}
 use Rattle.std.proofs.Math.Pow.{pow-lt}
 use Rattle.std.specs.Int.RustNames.{bit_or}
 use Rattle.std.specs.List.{list_any}
@@ -59,21 +60,7 @@ pow_in_word d few = let small : 2 ^ d < 2 ^ 64 = pow-lt few in omega (arith, mod
 
 pub gathered-more : (ranks : List ℕ) (at end next bits bit : ℕ) → next < length ranks → get_or ranks next 0 < end → bit ≡ 2 ^ (get_or ranks next 0 - at)
     → IsGathered ranks at end next bits → IsGathered ranks at end (next + 1) (bit_or bits bit)
-gathered-more ranks at end next bits bit inside below is g =
-    let x : ℕ = get_or ranks next 0 in
-    let above : at ≤ x = g.after next (omega arith) inside in
-    record {
-      within = omega arith;
-      before = λ k h. elim (cases_lt k next) [
-        | inl earlier ↦ g.before k earlier
-        | inr past ↦ let here : k ≡ next = omega arith in omega (arith, ap (λ j. get_or ranks j 0) here)
-      ];
-      after = λ k h. g.after k (omega arith);
-      set = λ j h.
-          get_or-word_bits_or bits bit j h
-          ∙ ap₂ (λ b c. b || c) (g.set j h) (ap (λ w. get_or (word_bits w) j false) is ∙ bit_of_pow at x j above h)
-          ∙ sym (ap (list_any (nat_eq (at + j))) (take_more ranks next 0 inside) ∙ list_any-append (nat_eq (at + j)) (take next ranks) (x ∷ []));
-    }
+gathered-more ranks at end next bits bit inside below is g = grind (arith, common_steps, cases_lt, get_or-word_bits_or, bit_of_pow, take_more, list_any-append)
 
 pub gathered-split : (ranks : List ℕ) (at end next bits : ℕ) → IsStrictlyIncreasing ranks → (next < length ranks → end ≤ get_or ranks next 0) → IsGathered ranks at end next bits → AreSplit ranks next end
 gathered-split ranks at end next bits ascending stop g = grind (arith, rises-to)

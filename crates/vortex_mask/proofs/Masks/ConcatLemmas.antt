@@ -1,4 +1,5 @@
 -- Lists one after another.
+use Rattle.std.proofs.lemmas.Grind.{common_steps}
 use Rattle.std.proofs.Common.{drop, map, get_or, ◌≡◌, ℕ, ◌+◌, ◌<◌, ◌≤◌, Bool, List, [], ◌∷◌, ◌++◌, length, true, suc, refl, sym, inl, inr, ap, ◌∙◌, arith}
 use Rattle.std.specs.Borrow.{Bor}
 use Rattle.std.specs.List.{All}
@@ -55,11 +56,7 @@ concat_so_far made masks i mask is h list =
 -- and behind that one too
 pub concat-next : (made : List Bool) (masks : List (Bor Mask)) (i : ℕ) (mask : Bor Mask) → mask ≡ get_or masks i mask → i < length masks
     → made ++ concat (lists_of (drop i masks)) ≡ concat (lists_of masks) → (made ++ truth mask.now) ++ concat (lists_of (drop (i + 1) masks)) ≡ concat (lists_of masks)
-concat-next made masks i mask is h list =
-    append_assoc made (truth mask.now) (concat (lists_of (drop (i + 1) masks)))
-    ∙ ap (λ (m : Bor Mask). made ++ (truth m.now ++ concat (lists_of (drop (i + 1) masks)))) is
-    ∙ sym (at_drop_more (λ (ms : List (Bor Mask)). made ++ concat (lists_of ms)) masks i mask h)
-    ∙ list
+concat-next made masks i mask is h list = grind (arith, common_steps, append_assoc, at_drop_more)
 
 -- the lists of masks that are lent are those of the masks
 pub lists_of-lent : (masks : List (Bor Mask)) → lists_of masks ≡ map truth (map (λ mask. mask.now) masks)

@@ -1,8 +1,8 @@
+use Rattle.std.proofs.lemmas.Grind.{common_steps}
 use Rattle.std.proofs.Common.{◌≡◌, ℕ, ◌+◌, ◌-◌, ◌<◌, ◌≤◌, ◌∷◌, List, Bool, [], ◌++◌, false, true, length, get_or, drop, sym, ap, ◌∙◌, arith, subst}
 use Rattle.std.proofs.lemmas.List.{at_drop_more, drop_all, length-append}
 use Rattle.std.proofs.lemmas.Result.{IfOk-weaker}
 use Rattle.mask_bits.specs.Positions.{repeated}
-use Rattle.mask_bits.specs.Runs.{AreRanges}
 use Rattle.mask_bits.proofs.Lists.CountLemmas.{length-repeated}
 use Rattle.mask_bits.proofs.Lists.Runs.RangeLemmas.{Ordered-top}
 use Rattle.vortex_mask.proofs.Masks.SoundRangeLemmas.{IsPainting, painted, painting-none, painting-more, painting-all}
@@ -17,17 +17,7 @@ pub loop-start-init : goal.loop-start-init
 loop-start-init c = painting-none c.args.len c.args.ranges.now c.in_ok-buffer.buffer c.in_ok-buffer.ensures c.requires
 
 pub append_n-requires-in-loop-start : goal.append_n-requires-in-loop-start
-append_n-requires-in-loop-start c =
-    let rs = c.args.ranges.now in
-    let i = c.loop-start.start-index in
-    let r : ℕ × ℕ = get_or rs i (0, 0) in
-    let made = c.loop-start.buffer in
-    let is = next_range c.args.len (painted 0 c.args.len rs) made rs i c.loop-start-test.true c.loop-start.invariant in
-    let gap : List Bool = repeated (r.0 - c.len.result) false in
-    let long : length c.append_n.new.self ≡ length made + (r.0 - c.len.result)
-    = ap length c.in_ok-append_n.ensures.added ∙ omega (arith, length-append made gap, length-repeated (r.0 - c.len.result) false) in
-    let top = Ordered-top r.1 c.args.len (drop (i + 1) rs) is.ordered.2 in
-    omega (arith, long, top, is.ordered.0, is.ordered.1, c.len.ensures, c.ranges.len.fits)
+append_n-requires-in-loop-start c = grind (arith, common_steps, next_range, painted, length-append, length-repeated, Ordered-top)
 
 pub loop-start-preserved : goal.loop-start-preserved
 loop-start-preserved c =
@@ -52,12 +42,4 @@ made_all len n rs i all made new is past at added = (
 )
 
 pub returns : goal.returns
-returns c =
-    let rs = c.args.ranges.now in
-    let made = c.loop-start.buffer in
-    let end = made_all c.args.len c.len-2.result rs c.loop-start.start-index (painted 0 c.args.len rs) made c.append_n-2.new.self c.loop-start.invariant c.loop-start-test.false c.len-2.ensures c.in_ok-append_n-3.ensures.added in
-    let all = painting-all c.args.len rs made c.requires end.0 in
-    record {
-      len = IfOk-weaker c.freeze.result _ _ (λ b list. ap length (list ∙ end.1) ∙ all.0) c.freeze.ensures;
-      list = IfOk-weaker c.freeze.result _ _ (λ b list. subst (λ (m : List Bool). AreRanges m rs) (sym (list ∙ end.1)) all.1) c.freeze.ensures;
-    }
+returns c = grind (arith, common_steps, made_all, painted, painting-all, IfOk-weaker)

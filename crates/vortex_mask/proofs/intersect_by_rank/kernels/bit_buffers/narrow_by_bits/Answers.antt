@@ -1,4 +1,5 @@
-use Rattle.std.proofs.Common.{sym, ap, ◌∙◌, arith}
+use Rattle.std.proofs.lemmas.Grind.{common_steps}
+use Rattle.std.proofs.Common.{sym, ap, arith}
 use Rattle.mask_bits.specs.Buffer.{values}
 use Rattle.mask_bits.specs.Positions.{rank_intersection}
 use Rattle.mask_bits.proofs.Lists.Words.BackingBitLemmas.{length-bits_at}
@@ -53,8 +54,4 @@ returns-clause-list g c =
     (omega (arith, c.loop-i-test.false, c.requires.room, c.loop-i.auto.out, c.loop-i.auto.i-end)) c.loop-i.invariant
 
 pub returns-clause-steps : goal.returns-clause-steps
-returns-clause-steps g c =
-    let a = c.args.chunks.now in
-    let r = rank_intersection a (values c.args.ranks.now) in
-    c.total.ensures ∙ deposited-steps a r c.loop-i.i c.loop-i.at c.loop-i.out c.loop-i.steps (length-rank_intersection a (values c.args.ranks.now))
-    (omega (arith, c.loop-i-test.false, c.requires.room, c.loop-i.auto.out, c.loop-i.auto.i-end)) c.loop-i.invariant
+returns-clause-steps g c = grind (arith, common_steps, deposited-steps, length-rank_intersection)

@@ -1,18 +1,13 @@
-use Rattle.std.proofs.Common.{[], ◌∷◌, ◌++◌, sym, ap, ◌∙◌, arith}
+use Rattle.std.proofs.lemmas.Grind.{common_steps}
+use Rattle.std.proofs.Common.{sym, ap, ◌∙◌, arith}
 use Rattle.std.proofs.lemmas.List.{length-append}
 use Rattle.mask_bits.specs.Positions.{positions, count, at_indices}
 use Rattle.mask_bits.proofs.Lists.Places.PlaceLemmas.{count-le-length}
-use Rattle.vortex_mask.specs.Steps.{StepCounts}
 use Rattle.vortex_mask.proofs.Kernels.DrivenLemmas.{ascending-few, not-above-next, ranks-at_turn, ranks-at_exit, found-more, found-steps}
 use Rattle.vortex_mask.proofs.intersect_by_rank.kernels.mask_driven.indices_at_ranks.Goals as goal
 
 pub index_of-requires-clause-room : goal.index_of-requires-clause-room
-index_of-requires-clause-room g c =
-    let m = c.args.chunks.now in
-    let xs = c.loop-rank.yielded in
-    let x = c.in-Some.rank in
-    let ranks = ranks-at_turn g.I.Iterator.next_gives c.args.ranks (count m) c.args.true_count c.requires.ranks _ c.into_iter-rank-iterator.ensures.into_iter_gives xs _ c.loop-rank.yielded_by x c.next.new.self c.in-Some.ensures.steps in
-    omega (arith, ap (λ (s : StepCounts). s.selections) c.loop-rank.invariant.counted, length-append xs (x ∷ []), ascending-few (count m) (xs ++ x ∷ []) ranks.0 ranks.1, count-le-length m, c.requires.fits)
+index_of-requires-clause-room g c = grind (arith, common_steps, ranks-at_turn, length-append, ascending-few, count-le-length)
 
 pub index_of-requires-clause-ahead : goal.index_of-requires-clause-ahead
 index_of-requires-clause-ahead g c =

@@ -1,3 +1,4 @@
+use Rattle.std.proofs.lemmas.Grind.{common_steps}
 use Rattle.std.proofs.Common.{◌≡◌, ℕ, ◌+◌, ◌<◌, ◌^◌, Bool, List, length, count_ones, subst, sym, ap, ◌∙◌, refl, arith}
 use Rattle.mask_bits.specs.Positions.{count, true_at, rank_intersection}
 use Rattle.mask_bits.specs.Words.{word_bits, padded_part}
@@ -6,7 +7,7 @@ use Rattle.mask_bits.proofs.Lists.Places.PlaceLemmas.{count-le-length}
 use Rattle.mask_bits.proofs.Lists.RankLemmas.{length-true_at}
 use Rattle.mask_bits.proofs.Lists.Words.WordLemmas.{count-word_bits}
 use Rattle.vortex_mask.specs.Ranks.{AreSplit}
-use Rattle.vortex_mask.specs.Steps.{StepCounts, word_steps}
+use Rattle.vortex_mask.specs.Steps.{StepCounts}
 use Rattle.vortex_mask.proofs.Masks.PlaceListLemmas.{narrowed_at}
 use Rattle.vortex_mask.proofs.Kernels.RankWordLemmas.{rank_bits-listed}
 use Rattle.vortex_mask.proofs.Kernels.WordKernelLemmas.{IsDeposited, deposited-more, place-after_within, deposited-list, deposited-steps}
@@ -68,9 +69,4 @@ returns-clause-list g c =
     ∙ narrowed_at a c.args.ranks.now c.requires.ascending c.requires.within
 
 pub returns-clause-steps : goal.returns-clause-steps
-returns-clause-steps g c =
-    let a = c.args.chunks.now in
-    let b = true_at (count a) c.args.ranks.now in
-    c.total.ensures ∙ deposited-steps a (rank_intersection a b) c.loop-i.i c.loop-i.steps.offered c.loop-i.out c.loop-i.steps (length-rank_intersection a b)
-    (omega (arith, c.loop-i-test.false, c.requires.room, c.loop-i.auto.out, c.loop-i.auto.i-end)) c.loop-i.invariant.deposited
-    ∙ ap (word_steps a) (narrowed_at a c.args.ranks.now c.requires.ascending c.requires.within)
+returns-clause-steps g c = grind (arith, common_steps, deposited-steps, length-rank_intersection, narrowed_at)
