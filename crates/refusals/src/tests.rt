@@ -119,7 +119,11 @@ enum Sample {
 impl Sample {
     fn mask(&self, rt: &impl Abort, alloc: Global) -> Result<Mask, MaskError> {
         match *self {
-            Sample::Indices(len, indices) => Mask::from_indices(alloc, len, indices.iter().copied()),
+            Sample::Indices(len, indices) => Mask::from_indices(
+                alloc,
+                len,
+                indices.iter().copied(),
+            ),
             Sample::Bits(len, indices) => Mask::from_buffer(alloc, bits_of(alloc, len, indices)?),
             Sample::Evens(len) => Mask::from_bools(alloc, (0..len).map(|i| i % 2 == 0)),
             Sample::Ranges(len, ranges) => Mask::from_slices(alloc, len, ranges.to_vec(alloc)?),
