@@ -98,8 +98,9 @@ def module_of(file):
     return () if parts in [("lib",), ("main",)] else parts
 
 
-def functions_in(file):
-    text = file.read_text()
+def functions_in(file, text=None):
+    """The functions of a file, or of another text in its place."""
+    text = file.read_text() if text is None else text
     code = blanked(text)
     blocks = list(blocks_of(code))
     for it in re.finditer(r"\b(pub(?:\([^)]*\))? )?(?:const |unsafe |extern +)*fn (\w+)", code):

@@ -10,7 +10,7 @@ ghost use Rattle.mask_c.specs.Bitmap.{bitmap};
 use mask_bits::counts::count_bits;
 use mask_bits::{BitChunks, laws};
 use vortex_mask::intersect_by_rank::{
-    Portable, PortableLoop, RankBits, narrow_at_ranks, narrow_by_bits,
+    Portable, PortableLoop, RankBits, deposits_by_loop, narrow_at_ranks, narrow_by_bits,
 };
 
 /// Writes the bitmap narrowed by another over its true values: true value number `k` stays true
@@ -38,7 +38,7 @@ pub extern "C" fn row_mask_intersect_by_rank(
     laws::length_of_values();
     let chunks = BitChunks::new(bytes, offset, len);
     let ranks = RankBits::over(ranks, ranks_offset, ranks_len);
-    if are_sparse(ranks_len, len) {
+    if deposits_by_loop(len, ranks_len) {
         let _ = narrow_by_bits::<PortableLoop>(&chunks, &ranks, out);
     } else {
         let _ = narrow_by_bits::<Portable>(&chunks, &ranks, out);
@@ -66,14 +66,9 @@ pub extern "C" fn row_mask_intersect_at_ranks(
 {
     laws::length_of_values();
     let chunks = BitChunks::new(bytes, offset, len);
-    if are_sparse(count_bits(bytes, offset, len), len) {
+    if deposits_by_loop(len, count_bits(bytes, offset, len)) {
         let _ = narrow_at_ranks::<PortableLoop>(&chunks, ranks, out);
     } else {
         let _ = narrow_at_ranks::<Portable>(&chunks, ranks, out);
     }
-}
-
-// Whether so few values are true that the deposit is quicker which goes from one to the next.
-fn are_sparse(true_count: usize, len: usize) -> bool {
-    true_count < len / 16
 }

@@ -11,7 +11,7 @@ use Rattle.vortex_mask.specs.Lend.{ReachesShare}
 use Rattle.vortex_mask.specs.Caches.{caches, where_mixed}
 use Rattle.vortex_mask.specs.Mask.{Variant, truth, variant, contents, all_true, all_false, mixed, fitting_variant, variant_and, variant_or, variant_not, variant_of_no_part, IsUniform}
 use Rattle.vortex_mask.specs.MaskValues.{AreOf, Contents, no_caches, only_indices, only_ranges, with_indices, with_ranges}
-use Rattle.vortex_mask.specs.Path.{path, path_of, path_caches, narrowed_caches, AreStepsOf}
+use Rattle.vortex_mask.specs.Path.{path, path_of, is_deposited_by_loop, path_caches, narrowed_caches, AreStepsOf}
 use Rattle.vortex_mask.specs.Steps.{StepCounts, no_steps, word_steps, driven_steps}
 use Rattle.vortex_mask.specs.declared.intersect_by_rank.path.RankPath.TheVariants.{Indices, MaskDriven, BitBuffers, RankIndices}
 use Rattle.vortex_mask.specs.declared.mask.Mask.{Mask}
@@ -29,6 +29,8 @@ index_faults : Gives (index_fault 5) (
     ∷ (0 ∷ 2 ∷ 2 ∷ [], Some (RepeatedIndex 2))
     ∷ (3 ∷ 3 ∷ 1 ∷ [], Some (UnsortedIndices 2))  -- order goes before repeats
     ∷ (2 ∷ 0 ∷ 9 ∷ [], Some (UnsortedIndices 1))  -- and before bounds
+    ∷ (3 ∷ 1 ∷ 2 ∷ 0 ∷ [], Some (UnsortedIndices 1))  -- the first of two
+    ∷ (1 ∷ 1 ∷ 2 ∷ 2 ∷ [], Some (RepeatedIndex 1))
     ∷ (9 ∷ 9 ∷ [], Some (RepeatedIndex 1))
     ∷ (1 ∷ 7 ∷ 9 ∷ [], Some (IndexOutOfBounds 7 5))
     ∷ (0 ∷ 2 ∷ 5 ∷ [], Some (IndexOutOfBounds 5 5))
@@ -55,6 +57,9 @@ range_faults : Gives (range_fault 5) (
     ∷ ((2, 3) ∷ (0, 1) ∷ [], Some (UnsortedRanges 1))
     ∷ ((1, 2) ∷ (1, 3) ∷ [], Some (UnsortedRanges 1))
     ∷ ((0, 3) ∷ (2, 4) ∷ [], Some (OverlappingRanges 1))
+    ∷ ((2, 2) ∷ (3, 3) ∷ [], Some (BadRange 0))  -- the first of two
+    ∷ ((0, 3) ∷ (2, 4) ∷ (1, 5) ∷ [], Some (OverlappingRanges 1))
+    ∷ ((2, 3) ∷ (1, 5) ∷ (4, 5) ∷ [], Some (UnsortedRanges 1))
     ∷ [])
 range_faults = refl
 
@@ -182,6 +187,36 @@ paths_on_both_sides_of_each_comparison : Gives (λ (m : ℕ × ℕ × ℕ × ℕ
     ∷ ((2 ^ 63, 2 ^ 62, 2 ^ 62, 2 ^ 61, false, false), BitBuffers)  -- no product wraps
     ∷ [])
 paths_on_both_sides_of_each_comparison = refl
+
+paths_of_thousands_of_values : Gives (λ (m : ℕ × ℕ × ℕ × ℕ × Bool × Bool). path m.0 m.1 m.2 m.3 m.4 m.5) (
+    ((128, 2, 2, 1, true, false), BitBuffers)  -- self's list alone is cached, and no test of it counts
+    ∷ ((128, 97, 97, 3, true, true), MaskDriven)
+    ∷ ((128, 96, 96, 3, true, true), RankIndices)
+    ∷ ((1280, 20, 20, 1, false, false), BitBuffers)
+    ∷ ((1281, 20, 20, 1, false, false), Indices)
+    ∷ ((4096, 640, 640, 20, false, false), BitBuffers)
+    ∷ ((4096, 641, 641, 20, false, false), MaskDriven)
+    ∷ ((4096, 2000, 2000, 500, false, true), RankIndices)
+    ∷ ((4096, 2000, 2000, 501, false, true), BitBuffers)
+    ∷ ((65536, 4096, 4096, 1023, true, true), Indices)  -- 1,024 words are started
+    ∷ ((65536, 4096, 4096, 1024, true, true), RankIndices)
+    ∷ ((65537, 4096, 4096, 1024, true, true), Indices)
+    ∷ [])
+paths_of_thousands_of_values = refl
+
+-- one value in 16 is not fewer
+deposited_by_loop : Gives (λ (m : ℕ × ℕ). is_deposited_by_loop m.0 m.1) (
+    ((16, 1), false)
+    ∷ ((17, 1), true)
+    ∷ ((32, 2), false)
+    ∷ ((33, 2), true)
+    ∷ ((0, 0), false)
+    ∷ ((1, 0), true)
+    ∷ ((1048576, 65536), false)
+    ∷ ((1048577, 65536), true)
+    ∷ ((2 ^ 63, 2 ^ 59), false)  -- no product wraps
+    ∷ [])
+deposited_by_loop = refl
 
 -- ---- cached lists of what a rank intersection makes, by its path
 

@@ -29,6 +29,10 @@ path len trues rank_len rank_trues self_cached false =
 abbrev pub path_of : Contents → Contents → RankPath
 path_of v w = path (length (values v.buffer)) (count (values v.buffer)) (length (values w.buffer)) (count (values w.buffer)) (is_some v.caches.indices) (is_some w.caches.indices)
 
+-- whether the words of so many values, of which so many are true, are deposited by the loop: fewer than one in 16 is
+abbrev pub is_deposited_by_loop : ℕ → ℕ → Bool
+is_deposited_by_loop len trues = nat_lt (16 * trues) len
+
 -- what a mixed result r caches: its true indices, where the path finds these one by one
 abbrev pub path_caches : RankPath → List Bool → Caches
 path_caches Indices r = only_indices (positions r)

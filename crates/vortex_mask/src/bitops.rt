@@ -94,8 +94,8 @@ impl Mask {
             Mask::AllFalse(len) => Ok(Mask::AllTrue(*len)),
             Mask::Values(values) => {
                 // what was false is true now, so nothing is counted
-                let true_count = values.len() - values.true_count();
-                Mask::from_counted_buffer(alloc, values.bit_buffer().not(alloc)?, true_count, None)
+                let false_count = values.len() - values.true_count();
+                Mask::from_counted_buffer(alloc, values.bit_buffer().not(alloc)?, false_count, None)
             }
         }
     }
@@ -200,7 +200,9 @@ impl Mask {
     {
         match self {
             Mask::Values(values) => {
-                Mask::from_buffer(alloc, MaskValues::buffer_of(values)?.into_not(alloc)?)
+                let false_count = values.len() - values.true_count();
+                let bits = MaskValues::buffer_of(values)?.into_not(alloc)?;
+                Mask::from_counted_buffer(alloc, bits, false_count, None)
             }
             mask => mask.not(alloc),
         }

@@ -24,7 +24,7 @@ pub use kernels::{
     intersect_by_rank_indices, intersect_mask_driven, narrow_at_ranks, narrow_by_bits,
 };
 use path::narrow_by_path;
-pub use path::{RankPath, rank_path};
+pub use path::{RankPath, deposits_by_loop, rank_path};
 pub use rank_bits::RankBits;
 pub use select::SelectBit;
 use std::alloc::Global;

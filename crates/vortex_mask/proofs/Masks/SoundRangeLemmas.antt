@@ -169,4 +169,4 @@ pub painting-all : (len : ℕ) (rs : List (ℕ × ℕ)) (made : List Bool) → r
     → (length (made ++ repeated (len - length made) false) ≡ len) × AreRanges (made ++ repeated (len - length made) false) rs
 painting-all len rs made none is = grind (arith, long_painted, held_are_ranges)
 
-pub ruleset range_facts = (nonempty-no_fault, rows_held-le, AreRanges-none, AreRanges-all)
+pub ruleset range_facts = (nonempty-no_fault, rows_held-le, AreRanges-none, AreRanges-all, ranges_add_up_to_the_count)

@@ -12,7 +12,7 @@ ghost use Rattle.std.specs.Prelude.{◌≡◌, ◌*◌, IfOk, IsOkUnless, IsSome
 ghost use Rattle.std.specs.Cow.{cow_slice_items};
 ghost use Rattle.mask_bits.specs.Buffer.{values};
 ghost use Rattle.mask_bits.specs.Positions.{count, positions};
-ghost use Rattle.vortex_mask.specs.Path.{path_of};
+ghost use Rattle.vortex_mask.specs.Path.{path_of, is_deposited_by_loop};
 ghost use Rattle.vortex_mask.specs.Narrowed.{IsNarrowedOn};
 
 use crate::intersect_by_rank::{
@@ -92,11 +92,11 @@ pub(super) fn narrow_by_path(
     match rank_path(rows, ranks) {
         RankPath::Indices => by_indices(alloc, rows, ranks),
         RankPath::MaskDriven => by_selections(alloc, rows, ranks),
-        RankPath::BitBuffers if goes_by_loop(rows) => {
+        RankPath::BitBuffers if deposits_by_loop(rows.len(), rows.true_count()) => {
             by_buffers::<PortableLoop>(alloc, rows, ranks)
         }
         RankPath::BitBuffers => by_buffers::<Portable>(alloc, rows, ranks),
-        RankPath::RankIndices if goes_by_loop(rows) => {
+        RankPath::RankIndices if deposits_by_loop(rows.len(), rows.true_count()) => {
             by_rank_indices::<PortableLoop>(alloc, rows, ranks)
         }
         RankPath::RankIndices => by_rank_indices::<Portable>(alloc, rows, ranks),
@@ -183,13 +183,14 @@ fn by_rank_indices<D: DepositBits>(
     intersect_bit_buffer_by_rank_indices::<D>(alloc, rows.bit_buffer(), ranks.lend_indices())
 }
 
-// Where fewer than one row in 16 is true, a word has fewer than four of them on the average. The
-// loop over these is then quicker than the network, which takes the same time at every word.
-const ROWS_PER_TRUE_BY_LOOP: u64 = 16;
+// A word has fewer than four true values on the average then. The loop over these is quicker than the
+// network, which takes the same time at every word.
+const VALUES_PER_TRUE_BY_LOOP: u64 = 16;
 
-// Whether words of this density are deposited by the loop.
-fn goes_by_loop(rows: &MaskValues) -> bool
-    ensures { result ≡ nat_lt (16 * count (values rows.now.buffer)) (length (values rows.now.buffer)) }
+/// Whether a word kernel over `len` values, of which `true_count` are true, deposits by `PortableLoop`:
+/// where fewer than one in 16 is. Else it deposits by `Portable`.
+pub fn deposits_by_loop(len: usize, true_count: usize) -> bool
+    ensures { result ≡ is_deposited_by_loop len true_count }
 {
-    times_true(rows, ROWS_PER_TRUE_BY_LOOP) < rows.len() as u128
+    u128::from(VALUES_PER_TRUE_BY_LOOP) * (true_count as u128) < len as u128
 }

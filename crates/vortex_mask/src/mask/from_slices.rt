@@ -52,7 +52,11 @@ impl Mask {
 
     // The mask of ranges in which no fault was found.
     #[tactic(auto, using(crate::proofs::Masks::MaskLemmas::variant_facts, crate::proofs::Masks::SoundRangeLemmas::range_facts))]
-    fn of_ranges(alloc: Global, len: usize, ranges: Vec<(usize, usize)>) -> Result<Mask, MaskError>
+    fn of_ranges(
+        alloc: Global,
+        len: usize,
+        mut ranges: Vec<(usize, usize)>,
+    ) -> Result<Mask, MaskError>
         requires { range_fault len ranges.items ≡ None }
         ensures len { IfOk result (λ m. length (truth m) ≡ len) }
         ensures list { IfOk result (λ m. AreRanges (truth m) ranges.items) }
@@ -71,7 +75,8 @@ impl Mask {
             return Ok(Mask::AllTrue(len));
         }
         let buffer = buffer_of(alloc, len, &ranges)?;
-        Mask::from_buffer_with_slices(alloc, buffer, ranges)
+        merge_touching(&mut ranges);
+        Mask::from_counted_buffer(alloc, buffer, true_count, Some(ranges))
     }
 }
 
