@@ -1,5 +1,5 @@
 -- Worked rows of the definitions, which the checker computes.
-use Rattle.std.proofs.Common.{◌≡◌, ℕ, Bool, true, false, List, [], ◌∷◌, Ok, Err, codes, refl}
+use Rattle.std.proofs.Common.{◌≡◌, ℕ, Bool, true, false, List, [], ◌∷◌, Ok, Err, codes, map, refl}
 use Rattle.std.specs.Fmt.{digits}
 use Rattle.maskrun.specs.Commands.{command_of, line}
 use Rattle.maskrun.specs.Arguments.{mask_argument, number_argument}
@@ -81,6 +81,40 @@ empty_argument = refl
 
 two_dashes : mask_argument 1 (codes "--") ≡ Err (BadBit 1 0)
 two_dashes = refl
+
+-- of two bad words the first is named, whatever a command asks of them
+first_bad_words : map line (
+    (codes "rank" ∷ codes "1x" ∷ codes "1y" ∷ [])
+    ∷ (codes "rank" ∷ codes "1" ∷ codes "1y" ∷ [])
+    ∷ (codes "and" ∷ codes "1x" ∷ codes "1y" ∷ [])
+    ∷ (codes "or" ∷ codes "1x" ∷ codes "1y" ∷ [])
+    ∷ (codes "andnot" ∷ codes "1x" ∷ codes "1y" ∷ [])
+    ∷ (codes "slice" ∷ codes "10" ∷ codes "x" ∷ codes "y" ∷ [])
+    ∷ (codes "slice" ∷ codes "1x" ∷ codes "y" ∷ codes "1" ∷ [])
+    ∷ (codes "slice" ∷ codes "1x" ∷ codes "1" ∷ codes "y" ∷ [])
+    ∷ (codes "slice" ∷ codes "10" ∷ codes "0" ∷ codes "y" ∷ [])
+    ∷ (codes "limit" ∷ codes "1x" ∷ codes "y" ∷ [])
+    ∷ (codes "cat" ∷ codes "1x" ∷ codes "1y" ∷ [])
+    ∷ (codes "cat" ∷ codes "1" ∷ codes "1x" ∷ codes "1y" ∷ [])
+    ∷ (codes "pipe" ∷ codes "1x" ∷ codes "1y" ∷ [])
+    ∷ (codes "pipe" ∷ codes "1" ∷ codes "1x" ∷ codes "1y" ∷ [])
+    ∷ []) ≡ (
+    Err (BadBit 1 1)
+    ∷ Err (BadBit 2 1)
+    ∷ Err (BadBit 1 1)
+    ∷ Err (BadBit 1 1)
+    ∷ Err (BadBit 1 1)
+    ∷ Err (BadNumber 2)
+    ∷ Err (BadBit 1 1)
+    ∷ Err (BadBit 1 1)
+    ∷ Err (BadNumber 3)
+    ∷ Err (BadBit 1 1)
+    ∷ Err (BadBit 1 1)
+    ∷ Err (BadBit 2 1)
+    ∷ Err (BadBit 1 1)
+    ∷ Err (BadBit 2 1)
+    ∷ [])
+first_bad_words = refl
 
 no_words : line [] ≡ Err Usage
 no_words = refl

@@ -122,11 +122,25 @@ ranges - => -
 ranges 0000000001100 => 9..11
 ranges => usage: maskrun COMMAND WORDS
 ranges 12 => word 1: byte 1 is not 0 or 1
+rank 1x 1y => word 1: byte 1 is not 0 or 1
+rank 1 1y => word 2: byte 1 is not 0 or 1
+and 1x 1y => word 1: byte 1 is not 0 or 1
+or 1x 1y => word 1: byte 1 is not 0 or 1
+andnot 1x 1y => word 1: byte 1 is not 0 or 1
+slice 10 x y => word 2: not a number
+slice 1x y 1 => word 1: byte 1 is not 0 or 1
+slice 1x 1 y => word 1: byte 1 is not 0 or 1
+slice 10 0 y => word 3: not a number
+limit 1x y => word 1: byte 1 is not 0 or 1
+cat 1x 1y => word 1: byte 1 is not 0 or 1
+cat 1 1x 1y => word 2: byte 1 is not 0 or 1
+pipe 1x 1y => word 1: byte 1 is not 0 or 1
+pipe 1 1x 1y => word 2: byte 1 is not 0 or 1
  => usage: maskrun COMMAND WORDS";
 
 #[test]
 fn lines_and_faults(rt: HostRuntime) -> Result<(), Fail> {
-    assert!(rt; ROWS.split('\n').count() == 76);
+    assert!(rt; ROWS.split('\n').count() == 90);
     prints_rows(&rt, rt.alloc(), ROWS)?;
     assert!(rt; matches!(answer(rt.alloc(), &[]), Err(RunError::Usage)));
     Ok(())
