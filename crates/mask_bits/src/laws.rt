@@ -282,8 +282,8 @@ pub fn stack_folds_alike()
 {}
 
 /// The fold of one list is the list; of more, the fold of all but the last, narrowed by the last.
-/// It is as long as the first and has the last one's count. Where the fold so far chooses none, the
-/// whole fold is it.
+/// It is as long as the first and has the last one's count. Where the first chooses none, the
+/// fold is the first.
 #[tactic(auto, using(crate::proofs::Lists::StackLemmas::fold_of_one, crate::proofs::Lists::StackLemmas::folded_left_by_the_last, crate::proofs::Lists::StackLemmas::length_of_fold, crate::proofs::Lists::StackLemmas::count_of_fold, crate::proofs::Lists::StackLemmas::fold_of_no_row))]
 pub fn folds()
     ensures one { FoldOfOne }

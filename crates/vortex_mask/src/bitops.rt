@@ -128,7 +128,8 @@ impl Mask {
 }
 
 /// The same, of an operand that is taken by value. It is the result where the other side changes nothing.
-/// Else the result is written into its bytes where nobody else holds them.
+/// Else a result of mixed masks is written into its bytes, where nobody else holds them and it begins
+/// at a whole one.
 #[tactic(auto, using(crate::proofs::Masks::MaskLemmas::variant_facts, crate::proofs::Masks::BitopLemmas::bitop_facts))]
 impl Mask {
     /// The values that are true in both.

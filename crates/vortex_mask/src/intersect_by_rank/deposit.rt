@@ -25,7 +25,7 @@ pub trait DepositBits {
 const FEW: usize = 2;
 
 /// Deposits in few steps at every mask: by a closed form where at most two bits of the mask are
-/// set or clear, and byte by byte between, unless the source is zero.
+/// set or clear, and by the network between, unless the source is zero.
 pub struct Portable;
 
 impl DepositBits for Portable {
