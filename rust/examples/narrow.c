@@ -1,13 +1,13 @@
 /* A filter chooses the rows 0, 3, 4, 5 and 7 of eight. A second one ran over these five. Prints the
  * filter that stands for both. */
-#include "../row_mask.h"
+#include "row_mask.h"
 
 #include <stdio.h>
 
 int main(void) {
     const uint8_t rows[] = {0xB9};
     const uint8_t ranks[] = {0x14};
-    uint8_t both[8];
+    uint8_t both[1];
     size_t len = 8, ranks_len = 5, i;
 
     if (!row_mask_is_within(rows, sizeof rows, 0, len)

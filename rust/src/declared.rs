@@ -17,6 +17,7 @@ pub(crate) struct RowMask16 {
 }
 
 unsafe extern "C" {
+    pub(crate) fn row_mask_version() -> u32;
     pub(crate) fn row_mask_is_within(
         bytes: *const u8,
         bytes_size: usize,
@@ -51,9 +52,9 @@ unsafe extern "C" {
         offset: usize,
         len: usize,
         indices: *const usize,
-        indices_size: usize,
+        indices_count: usize,
         out: *mut usize,
-        out_size: usize,
+        out_count: usize,
     );
     pub(crate) fn row_mask_select(
         bytes: *const u8,
@@ -82,7 +83,7 @@ unsafe extern "C" {
         len: usize,
         from: usize,
         out: *mut usize,
-        out_size: usize,
+        out_count: usize,
     ) -> usize;
     pub(crate) fn row_mask_next_run(
         bytes: *const u8,
@@ -140,6 +141,31 @@ unsafe extern "C" {
         out: *mut u8,
         out_size: usize,
     );
+    pub(crate) fn row_mask_and_in_place(
+        a: *mut u8,
+        a_size: usize,
+        b: *const u8,
+        b_size: usize,
+        b_offset: usize,
+        len: usize,
+    );
+    pub(crate) fn row_mask_or_in_place(
+        a: *mut u8,
+        a_size: usize,
+        b: *const u8,
+        b_size: usize,
+        b_offset: usize,
+        len: usize,
+    );
+    pub(crate) fn row_mask_and_not_in_place(
+        a: *mut u8,
+        a_size: usize,
+        b: *const u8,
+        b_size: usize,
+        b_offset: usize,
+        len: usize,
+    );
+    pub(crate) fn row_mask_not_in_place(bytes: *mut u8, bytes_size: usize, len: usize);
     pub(crate) fn row_mask_equal(
         a: *const u8,
         a_size: usize,
@@ -167,7 +193,7 @@ unsafe extern "C" {
         offset: usize,
         len: usize,
         ranks: *const usize,
-        ranks_size: usize,
+        ranks_count: usize,
         out: *mut u8,
         out_size: usize,
     );
@@ -177,9 +203,9 @@ unsafe extern "C" {
         offset: usize,
         len: usize,
         rows: *const u8,
-        rows_size: usize,
+        rows_count: usize,
         out: *mut u8,
-        out_size: usize,
+        out_count: usize,
     ) -> usize;
     pub(crate) fn row_mask_choose_2(
         bytes: *const u8,
@@ -187,9 +213,9 @@ unsafe extern "C" {
         offset: usize,
         len: usize,
         rows: *const u16,
-        rows_size: usize,
+        rows_count: usize,
         out: *mut u16,
-        out_size: usize,
+        out_count: usize,
     ) -> usize;
     pub(crate) fn row_mask_choose_4(
         bytes: *const u8,
@@ -197,9 +223,9 @@ unsafe extern "C" {
         offset: usize,
         len: usize,
         rows: *const u32,
-        rows_size: usize,
+        rows_count: usize,
         out: *mut u32,
-        out_size: usize,
+        out_count: usize,
     ) -> usize;
     pub(crate) fn row_mask_choose_8(
         bytes: *const u8,
@@ -207,9 +233,9 @@ unsafe extern "C" {
         offset: usize,
         len: usize,
         rows: *const u64,
-        rows_size: usize,
+        rows_count: usize,
         out: *mut u64,
-        out_size: usize,
+        out_count: usize,
     ) -> usize;
     pub(crate) fn row_mask_choose_16(
         bytes: *const u8,
@@ -217,8 +243,8 @@ unsafe extern "C" {
         offset: usize,
         len: usize,
         rows: *const RowMask16,
-        rows_size: usize,
+        rows_count: usize,
         out: *mut RowMask16,
-        out_size: usize,
+        out_count: usize,
     ) -> usize;
 }

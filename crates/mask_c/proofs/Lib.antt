@@ -1,3 +1,5 @@
 mod BitmapLemmas
 mod ChooseLemmas
 mod IndexLemmas
+mod LastLemmas
+mod LastRankLemmas

@@ -1,6 +1,6 @@
 //! What a bitmap is, and the room for one.
 
-ghost use Rattle.std.specs.Prelude.{◌≡◌, ◌↔◌, ◌*◌, ◌<◌, IsTrue, Some, slice_get};
+ghost use Rattle.std.specs.Prelude.{◌≡◌, ◌↔◌, ◌<◌, IsTrue, Some, slice_get};
 ghost use Rattle.std.specs.Int.{div_ceil};
 ghost use Rattle.mask_bits.specs.Buffer.{IsWithinBytes};
 ghost use Rattle.mask_c.specs.Bitmap.{bitmap};
@@ -14,12 +14,13 @@ pub extern "C" fn row_mask_is_within(bytes: &[u8], offset: usize, len: usize) ->
     len <= usize::MAX - offset && (offset + len).div_ceil(8) <= bytes.len()
 }
 
-/// How many bytes of room a bitmap of `len` values takes: those of whole words of 64.
+/// How many bytes a bitmap of `len` values takes from bit 0 on: `(len + 7) / 8`, which this call
+/// computes without a sum that could wrap.
 #[unsafe(no_mangle)]
 pub extern "C" fn row_mask_room(len: usize) -> usize
-    ensures { result ≡ 8 * div_ceil len 64 }
+    ensures { result ≡ div_ceil len 8 }
 {
-    8 * len.div_ceil(64)
+    len.div_ceil(8)
 }
 
 /// Value `i`.

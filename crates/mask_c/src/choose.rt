@@ -20,7 +20,7 @@ pub struct RowMask16 {
 /// Writes the rows at the true values, in their order, to the front of `out`, and answers how many
 /// they are. A row has 1 byte.
 ///
-/// Asks that `rows_size == len`, and that `out_size` is at least the count of the true values.
+/// Asks that `rows_count == len`, and that `out_count` is at least the count of the true values.
 #[unsafe(no_mangle)]
 pub extern "C" fn row_mask_choose_1(
     bytes: &[u8],
@@ -41,7 +41,7 @@ pub extern "C" fn row_mask_choose_1(
 /// Writes the rows at the true values, in their order, to the front of `out`, and answers how many
 /// they are. A row has 2 bytes.
 ///
-/// Asks that `rows_size == len`, and that `out_size` is at least the count of the true values.
+/// Asks that `rows_count == len`, and that `out_count` is at least the count of the true values.
 #[unsafe(no_mangle)]
 pub extern "C" fn row_mask_choose_2(
     bytes: &[u8],
@@ -62,7 +62,7 @@ pub extern "C" fn row_mask_choose_2(
 /// Writes the rows at the true values, in their order, to the front of `out`, and answers how many
 /// they are. A row has 4 bytes.
 ///
-/// Asks that `rows_size == len`, and that `out_size` is at least the count of the true values.
+/// Asks that `rows_count == len`, and that `out_count` is at least the count of the true values.
 #[unsafe(no_mangle)]
 pub extern "C" fn row_mask_choose_4(
     bytes: &[u8],
@@ -83,7 +83,7 @@ pub extern "C" fn row_mask_choose_4(
 /// Writes the rows at the true values, in their order, to the front of `out`, and answers how many
 /// they are. A row has 8 bytes.
 ///
-/// Asks that `rows_size == len`, and that `out_size` is at least the count of the true values.
+/// Asks that `rows_count == len`, and that `out_count` is at least the count of the true values.
 #[unsafe(no_mangle)]
 pub extern "C" fn row_mask_choose_8(
     bytes: &[u8],
@@ -104,7 +104,7 @@ pub extern "C" fn row_mask_choose_8(
 /// Writes the rows at the true values, in their order, to the front of `out`, and answers how many
 /// they are. A row has 16 bytes.
 ///
-/// Asks that `rows_size == len`, and that `out_size` is at least the count of the true values.
+/// Asks that `rows_count == len`, and that `out_count` is at least the count of the true values.
 #[unsafe(no_mangle)]
 pub extern "C" fn row_mask_choose_16(
     bytes: &[u8],

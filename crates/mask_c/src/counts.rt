@@ -40,7 +40,7 @@ pub extern "C" fn row_mask_count_range(
 /// indices, up to the last of them.
 ///
 /// Asks that the indices ascend (repeats are allowed), that each is at most `len`, and that
-/// `out_size == indices_size`.
+/// `out_count == indices_count`.
 #[unsafe(no_mangle)]
 pub extern "C" fn row_mask_counts_below(
     bytes: &[u8],

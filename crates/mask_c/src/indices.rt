@@ -17,17 +17,15 @@ pub extern "C" fn row_mask_select(bytes: &[u8], offset: usize, len: usize, n: us
     BitChunks::new(bytes, offset, len).select(n).unwrap_or(len)
 }
 
-/// The first index from `from` on whose value is true, and `len` where there is none. So a walk over
-/// the true values goes on from one past the index that it got.
-///
-/// Asks that `from <= len`.
+/// The first index from `from` on whose value is true, and `len` where there is none, also from past
+/// the end. So a walk over the true values goes on from one past the index that it got, and ends where
+/// it got `len`.
 #[unsafe(no_mangle)]
 pub extern "C" fn row_mask_next_index(bytes: &[u8], offset: usize, len: usize, from: usize) -> usize
-    requires bitmap { IsWithinBytes bytes.now offset len }
-    requires within { from ≤ len }
-    ensures { IsFirstFrom (bitmap bytes.now offset len) from true result }
+    requires { IsWithinBytes bytes.now offset len }
+    ensures { IsFirstFrom (bitmap bytes.now offset len) (min from len) true result }
 {
-    BitChunks::new(bytes, offset, len).first_from(from, true)
+    BitChunks::new(bytes, offset, len).first_from(from.min(len), true)
 }
 
 /// The index of the last true value, and `len` where there is none.
@@ -43,12 +41,31 @@ pub extern "C" fn row_mask_last_index(bytes: &[u8], offset: usize, len: usize) -
 }
 
 /// Writes the indices of the true values from `from` on, ascending, to the front of `out`, as many as
-/// there are or as it takes, and answers how many these are. So a walk over all goes on from one past
-/// the last, until fewer come than `out` takes.
-///
-/// Asks that `from <= len`.
+/// there are or as it takes, and answers how many these are: none from past the end. So a walk over all
+/// goes on from one past the last, until fewer come than `out` takes.
 #[unsafe(no_mangle)]
 pub extern "C" fn row_mask_next_indices(
+    bytes: &[u8],
+    offset: usize,
+    len: usize,
+    from: usize,
+    out: &mut [usize],
+) -> usize
+    requires { IsWithinBytes bytes.now offset len }
+    ensures indices { take result out.new ≡ take (length out.old)
+        (indices_from from (drop from (bitmap bytes.now offset len))) }
+    ensures count { result ≡ min (length out.old)
+        (count (drop from (bitmap bytes.now offset len))) }
+{
+    if from > len {
+        return 0;
+    }
+    indices_of_words(bytes, offset, len, from, out)
+}
+
+// The same from an index on, word by word.
+#[inline]
+fn indices_of_words(
     bytes: &[u8],
     offset: usize,
     len: usize,

@@ -1,12 +1,14 @@
 //! The bitmap that an operation makes of one or two, value by value.
 
-ghost use Rattle.std.specs.Prelude.{◌≡◌, ◌*◌, ◌≤◌, length};
+ghost use Rattle.std.specs.Prelude.{◌≡◌, ◌≤◌, drop, length};
 ghost use Rattle.std.specs.Int.{div_ceil};
 ghost use Rattle.mask_bits.specs.Buffer.{IsWithinBytes};
-ghost use Rattle.mask_bits.specs.Lists.{and_of, or_of, and_not_of, not_of};
-ghost use Rattle.mask_c.specs.Bitmap.{bitmap};
+ghost use Rattle.mask_bits.specs.Lists.{and_of, or_of, and_not_of, combined, not_of};
+ghost use Rattle.mask_c.specs.Bitmap.{AreClearBehind, bitmap};
 
+use crate::last::put_last;
 use mask_bits::combine::{And, AndNot, BitOp, Not, Or, combine};
+use mask_bits::words::word_at;
 
 // The first, whatever the second is.
 #[derive(Drop)]
@@ -35,10 +37,13 @@ pub extern "C" fn row_mask_and(
 )
     requires a { IsWithinBytes a.now a_offset len }
     requires b { IsWithinBytes b.now b_offset len }
-    requires room { 8 * div_ceil len 64 ≤ length out.old }
-    ensures { bitmap out.new 0 len ≡ and_of (bitmap a.now a_offset len) (bitmap b.now b_offset len) }
+    requires room { div_ceil len 8 ≤ length out.old }
+    ensures values { bitmap out.new 0 len
+        ≡ and_of (bitmap a.now a_offset len) (bitmap b.now b_offset len) }
+    ensures clear { AreClearBehind out.new len }
+    ensures behind { drop (div_ceil len 8) out.new ≡ drop (div_ceil len 8) out.old }
 {
-    combine::<And>(a, a_offset, b, b_offset, len, out);
+    write::<And>(a, a_offset, b, b_offset, len, out);
 }
 
 /// Writes the values that are true in one or in both.
@@ -55,10 +60,13 @@ pub extern "C" fn row_mask_or(
 )
     requires a { IsWithinBytes a.now a_offset len }
     requires b { IsWithinBytes b.now b_offset len }
-    requires room { 8 * div_ceil len 64 ≤ length out.old }
-    ensures { bitmap out.new 0 len ≡ or_of (bitmap a.now a_offset len) (bitmap b.now b_offset len) }
+    requires room { div_ceil len 8 ≤ length out.old }
+    ensures values { bitmap out.new 0 len
+        ≡ or_of (bitmap a.now a_offset len) (bitmap b.now b_offset len) }
+    ensures clear { AreClearBehind out.new len }
+    ensures behind { drop (div_ceil len 8) out.new ≡ drop (div_ceil len 8) out.old }
 {
-    combine::<Or>(a, a_offset, b, b_offset, len, out);
+    write::<Or>(a, a_offset, b, b_offset, len, out);
 }
 
 /// Writes the values that are true in `a` and not in `b`.
@@ -75,11 +83,13 @@ pub extern "C" fn row_mask_and_not(
 )
     requires a { IsWithinBytes a.now a_offset len }
     requires b { IsWithinBytes b.now b_offset len }
-    requires room { 8 * div_ceil len 64 ≤ length out.old }
-    ensures { bitmap out.new 0 len
+    requires room { div_ceil len 8 ≤ length out.old }
+    ensures values { bitmap out.new 0 len
         ≡ and_not_of (bitmap a.now a_offset len) (bitmap b.now b_offset len) }
+    ensures clear { AreClearBehind out.new len }
+    ensures behind { drop (div_ceil len 8) out.new ≡ drop (div_ceil len 8) out.old }
 {
-    combine::<AndNot>(a, a_offset, b, b_offset, len, out);
+    write::<AndNot>(a, a_offset, b, b_offset, len, out);
 }
 
 /// Writes each value negated.
@@ -89,10 +99,12 @@ pub extern "C" fn row_mask_and_not(
 #[tactic(auto, using(mask_bits::proofs::Lists::BooleanLemmas::combined_itself))]
 pub extern "C" fn row_mask_not(bytes: &[u8], offset: usize, len: usize, out: &mut [u8])
     requires bitmap { IsWithinBytes bytes.now offset len }
-    requires room { 8 * div_ceil len 64 ≤ length out.old }
-    ensures { bitmap out.new 0 len ≡ not_of (bitmap bytes.now offset len) }
+    requires room { div_ceil len 8 ≤ length out.old }
+    ensures values { bitmap out.new 0 len ≡ not_of (bitmap bytes.now offset len) }
+    ensures clear { AreClearBehind out.new len }
+    ensures behind { drop (div_ceil len 8) out.new ≡ drop (div_ceil len 8) out.old }
 {
-    combine::<Not>(bytes, offset, bytes, offset, len, out);
+    write::<Not>(bytes, offset, bytes, offset, len, out);
 }
 
 /// Writes the same values, from bit 0 on.
@@ -102,8 +114,33 @@ pub extern "C" fn row_mask_not(bytes: &[u8], offset: usize, len: usize, out: &mu
 #[tactic(auto, using(crate::proofs::BitmapLemmas::first_of_itself))]
 pub extern "C" fn row_mask_copy(bytes: &[u8], offset: usize, len: usize, out: &mut [u8])
     requires bitmap { IsWithinBytes bytes.now offset len }
-    requires room { 8 * div_ceil len 64 ≤ length out.old }
-    ensures { bitmap out.new 0 len ≡ bitmap bytes.now offset len }
+    requires room { div_ceil len 8 ≤ length out.old }
+    ensures values { bitmap out.new 0 len ≡ bitmap bytes.now offset len }
+    ensures clear { AreClearBehind out.new len }
+    ensures behind { drop (div_ceil len 8) out.new ≡ drop (div_ceil len 8) out.old }
 {
-    combine::<First>(bytes, offset, bytes, offset, len, out);
+    write::<First>(bytes, offset, bytes, offset, len, out);
+}
+
+// The values that `C` makes of two bitmaps: whole words by the loop of `mask_bits`, and then the last
+// values, by a word.
+fn write<C: BitOp>(a: &[u8], a_offset: usize, b: &[u8], b_offset: usize, len: usize, out: &mut [u8])
+    requires a { IsWithinBytes a.now a_offset len }
+    requires b { IsWithinBytes b.now b_offset len }
+    requires room { div_ceil len 8 ≤ length out.old }
+    ensures values { bitmap out.new 0 len
+        ≡ combined C.of_bits (bitmap a.now a_offset len) (bitmap b.now b_offset len) }
+    ensures clear { AreClearBehind out.new len }
+    ensures behind { drop (div_ceil len 8) out.new ≡ drop (div_ceil len 8) out.old }
+{
+    let whole = len / 64;
+    combine::<C>(a, a_offset, b, b_offset, 64 * whole, &mut out[..8 * whole]);
+    if len % 64 != 0 {
+        let position = 64 * whole;
+        let last = C::of(
+            word_at(a, a_offset + position),
+            word_at(b, b_offset + position),
+        );
+        put_last(out, whole, last, len % 64);
+    }
 }

@@ -1,25 +1,97 @@
 //! A bitmap narrowed by another over its true values.
 
-ghost use Rattle.std.specs.Prelude.{◌≡◌, ◌*◌, ◌<◌, All, length};
+ghost use Rattle.std.specs.Prelude.{◌≡◌, ◌+◌, ◌*◌, ◌<◌, ◌≤◌, ℕ, All, drop, false, length, nat_eq, slice_index_or};
 ghost use Rattle.std.specs.Int.{div_ceil};
+ghost use Rattle.std.specs.List.{list_any};
 ghost use Rattle.std.specs.List.Sorted.{IsStrictlyIncreasing};
 ghost use Rattle.mask_bits.specs.Buffer.{IsWithinBytes};
 ghost use Rattle.mask_bits.specs.Positions.{at_indices, count, positions, rank_intersection, true_at};
-ghost use Rattle.mask_c.specs.Bitmap.{bitmap};
+ghost use Rattle.mask_bits.specs.Words.{word_bits};
+ghost use Rattle.mask_c.specs.Bitmap.{AreClearBehind, bitmap};
+ghost use Rattle.vortex_mask.specs.Ranks.{AreSplit};
 
+use crate::last::put_last;
 use mask_bits::counts::count_bits;
+use mask_bits::words::{set_word, word_of};
 use mask_bits::{BitChunks, laws};
 use vortex_mask::intersect_by_rank::{
-    Portable, PortableLoop, RankBits, deposits_by_loop, narrow_at_ranks, narrow_by_bits,
+    DepositBits, Portable, PortableLoop, RankBits, deposits_by_loop, narrow_at_ranks,
+    narrow_by_bits,
 };
 
 /// Writes the bitmap narrowed by another over its true values: true value number `k` stays true
 /// exactly where value `k` of `ranks` is true.
 ///
 /// Asks that `ranks_len` is the count of the bitmap's true values, and that
-/// `out_size == row_mask_room(len)`.
+/// `out_size >= row_mask_room(len)`.
 #[unsafe(no_mangle)]
 pub extern "C" fn row_mask_intersect_by_rank(
+    bytes: &[u8],
+    offset: usize,
+    len: usize,
+    ranks: &[u8],
+    ranks_offset: usize,
+    ranks_len: usize,
+    out: &mut [u8],
+)
+    requires bitmap { IsWithinBytes bytes.now offset len }
+    requires ranks { IsWithinBytes ranks.now ranks_offset ranks_len }
+    requires fitting { ranks_len ≡ count (bitmap bytes.now offset len) }
+    requires room { div_ceil len 8 ≤ length out.old }
+    ensures values { bitmap out.new 0 len
+        ≡ rank_intersection (bitmap bytes.now offset len) (bitmap ranks.now ranks_offset ranks_len) }
+    ensures clear { AreClearBehind out.new len }
+    ensures behind { drop (div_ceil len 8) out.new ≡ drop (div_ceil len 8) out.old }
+{
+    if deposits_by_loop(len, ranks_len) {
+        narrow::<PortableLoop>(bytes, offset, len, ranks, ranks_offset, ranks_len, out);
+    } else {
+        narrow::<Portable>(bytes, offset, len, ranks, ranks_offset, ranks_len, out);
+    }
+}
+
+// Narrows the whole words, and then the last values.
+fn narrow<D: DepositBits>(
+    bytes: &[u8],
+    offset: usize,
+    len: usize,
+    ranks: &[u8],
+    ranks_offset: usize,
+    ranks_len: usize,
+    out: &mut [u8],
+)
+    requires bitmap { IsWithinBytes bytes.now offset len }
+    requires ranks { IsWithinBytes ranks.now ranks_offset ranks_len }
+    requires fitting { ranks_len ≡ count (bitmap bytes.now offset len) }
+    requires room { div_ceil len 8 ≤ length out.old }
+    ensures values { bitmap out.new 0 len
+        ≡ rank_intersection (bitmap bytes.now offset len) (bitmap ranks.now ranks_offset ranks_len) }
+    ensures clear { AreClearBehind out.new len }
+    ensures behind { drop (div_ceil len 8) out.new ≡ drop (div_ceil len 8) out.old }
+{
+    let (whole, rest) = (len / 64, len % 64);
+    let ones = count_bits(bytes, offset + 64 * whole, rest);
+    let before = ranks_len - ones;
+    let front = &mut out[..8 * whole];
+    narrow_words::<D>(
+        bytes,
+        offset,
+        64 * whole,
+        ranks,
+        ranks_offset,
+        before,
+        front,
+    );
+    if rest != 0 {
+        let (offset, ranks_offset) = (offset + 64 * whole, ranks_offset + before);
+        let mut last = [0u8; 8];
+        narrow_words::<D>(bytes, offset, rest, ranks, ranks_offset, ones, &mut last);
+        put_last(out, whole, word_of(&last, 0), rest);
+    }
+}
+
+// Narrows a bitmap into room of whole words, by the kernel of `vortex_mask`.
+fn narrow_words<D: DepositBits>(
     bytes: &[u8],
     offset: usize,
     len: usize,
@@ -37,20 +109,84 @@ pub extern "C" fn row_mask_intersect_by_rank(
 {
     laws::length_of_values();
     let chunks = BitChunks::new(bytes, offset, len);
-    let ranks = RankBits::over(ranks, ranks_offset, ranks_len);
-    if deposits_by_loop(len, ranks_len) {
-        let _ = narrow_by_bits::<PortableLoop>(&chunks, &ranks, out);
-    } else {
-        let _ = narrow_by_bits::<Portable>(&chunks, &ranks, out);
-    }
+    let _ = narrow_by_bits::<D>(
+        &chunks,
+        &RankBits::over(ranks, ranks_offset, ranks_len),
+        out,
+    );
 }
 
 /// Writes the bitmap in which just those true values stay true whose numbers are `ranks`.
 ///
 /// Asks that each rank is above the one before it and below the count of the bitmap's true values,
-/// and that `out_size == row_mask_room(len)`.
+/// and that `out_size >= row_mask_room(len)`.
 #[unsafe(no_mangle)]
 pub extern "C" fn row_mask_intersect_at_ranks(
+    bytes: &[u8],
+    offset: usize,
+    len: usize,
+    ranks: &[usize],
+    out: &mut [u8],
+)
+    requires bitmap { IsWithinBytes bytes.now offset len }
+    requires ascending { IsStrictlyIncreasing ranks.now }
+    requires within { All (λ k. k < count (bitmap bytes.now offset len)) ranks.now }
+    requires room { div_ceil len 8 ≤ length out.old }
+    ensures values { bitmap out.new 0 len
+        ≡ true_at len (at_indices (positions (bitmap bytes.now offset len)) ranks.now) }
+    ensures clear { AreClearBehind out.new len }
+    ensures behind { drop (div_ceil len 8) out.new ≡ drop (div_ceil len 8) out.old }
+{
+    let true_count = count_bits(bytes, offset, len);
+    if deposits_by_loop(len, true_count) {
+        narrow_at::<PortableLoop>(bytes, offset, len, true_count, ranks, out);
+    } else {
+        narrow_at::<Portable>(bytes, offset, len, true_count, ranks, out);
+    }
+}
+
+// Narrows the whole words, and then the last values, by their ranks as bits.
+fn narrow_at<D: DepositBits>(
+    bytes: &[u8],
+    offset: usize,
+    len: usize,
+    true_count: usize,
+    ranks: &[usize],
+    out: &mut [u8],
+)
+    requires bitmap { IsWithinBytes bytes.now offset len }
+    requires counted { true_count ≡ count (bitmap bytes.now offset len) }
+    requires ascending { IsStrictlyIncreasing ranks.now }
+    requires within { All (λ k. k < true_count) ranks.now }
+    requires room { div_ceil len 8 ≤ length out.old }
+    ensures values { bitmap out.new 0 len
+        ≡ true_at len (at_indices (positions (bitmap bytes.now offset len)) ranks.now) }
+    ensures clear { AreClearBehind out.new len }
+    ensures behind { drop (div_ceil len 8) out.new ≡ drop (div_ceil len 8) out.old }
+{
+    let (whole, rest) = (len / 64, len % 64);
+    let ones = count_bits(bytes, offset + 64 * whole, rest);
+    let (cut, bits) = last_ranks(ranks, true_count - ones);
+    let front = &mut out[..8 * whole];
+    narrow_words_at::<D>(bytes, offset, 64 * whole, &ranks[..cut], front);
+    if rest != 0 {
+        let (mut source, mut last) = ([0u8; 8], [0u8; 8]);
+        set_word(&mut source, 0, bits);
+        narrow_words::<D>(
+            bytes,
+            offset + 64 * whole,
+            rest,
+            &source,
+            0,
+            ones,
+            &mut last,
+        );
+        put_last(out, whole, word_of(&last, 0), rest);
+    }
+}
+
+// Narrows a bitmap at ranks into room of whole words, by the kernel of `vortex_mask`.
+fn narrow_words_at<D: DepositBits>(
     bytes: &[u8],
     offset: usize,
     len: usize,
@@ -65,10 +201,22 @@ pub extern "C" fn row_mask_intersect_at_ranks(
         ≡ true_at len (at_indices (positions (bitmap bytes.now offset len)) ranks.now) }
 {
     laws::length_of_values();
-    let chunks = BitChunks::new(bytes, offset, len);
-    if deposits_by_loop(len, count_bits(bytes, offset, len)) {
-        let _ = narrow_at_ranks::<PortableLoop>(&chunks, ranks, out);
-    } else {
-        let _ = narrow_at_ranks::<Portable>(&chunks, ranks, out);
+    let _ = narrow_at_ranks::<D>(&BitChunks::new(bytes, offset, len), ranks, out);
+}
+
+// How many ranks are below `from`, and the others as set bits, that of `from` lowest.
+fn last_ranks(ranks: &[usize], from: usize) -> (usize, u64)
+    requires ascending { IsStrictlyIncreasing ranks.now }
+    requires few { All (λ k. k < from + 64) ranks.now }
+    ensures split { AreSplit ranks.now result.0 from }
+    ensures bits { (j : ℕ) → j < 64
+        → slice_index_or (word_bits result.1) j false ≡ list_any (nat_eq (from + j)) ranks.now }
+{
+    let mut cut = ranks.len();
+    let mut bits = 0u64;
+    while cut > 0 && ranks[cut - 1] >= from {
+        cut -= 1;
+        bits |= 1 << (ranks[cut] - from);
     }
+    (cut, bits)
 }

@@ -1,6 +1,6 @@
 //! The runs of true values of a bitmap.
 
-ghost use Rattle.std.specs.Prelude.{◌≤◌, true, false};
+ghost use Rattle.std.specs.Prelude.{min, true, false};
 ghost use Rattle.mask_bits.specs.Buffer.{IsWithinBytes};
 ghost use Rattle.mask_bits.specs.Positions.{IsFirstFrom};
 ghost use Rattle.mask_c.specs.Bitmap.{bitmap};
@@ -15,11 +15,9 @@ pub struct RowMaskRun {
     pub end: usize,
 }
 
-/// The first run of true values from `from` on, and the empty one at `len` where there is none. A run
-/// that `from` is inside begins there. So a walk over all runs goes on from the end of the one that it
-/// got.
-///
-/// Asks that `from <= len`.
+/// The first run of true values from `from` on, and the empty one at `len` where there is none, also
+/// from past the end. A run that `from` is inside begins there. So a walk over all runs goes on from the
+/// end of the one that it got.
 #[unsafe(no_mangle)]
 pub extern "C" fn row_mask_next_run(
     bytes: &[u8],
@@ -27,13 +25,12 @@ pub extern "C" fn row_mask_next_run(
     len: usize,
     from: usize,
 ) -> RowMaskRun
-    requires bitmap { IsWithinBytes bytes.now offset len }
-    requires within { from ≤ len }
-    ensures starts { IsFirstFrom (bitmap bytes.now offset len) from true result.start }
+    requires { IsWithinBytes bytes.now offset len }
+    ensures starts { IsFirstFrom (bitmap bytes.now offset len) (min from len) true result.start }
     ensures ends { IsFirstFrom (bitmap bytes.now offset len) result.start false result.end }
 {
     let values = BitChunks::new(bytes, offset, len);
-    let start = values.first_from(from, true);
+    let start = values.first_from(from.min(len), true);
     let end = values.first_from(start, false);
     RowMaskRun { start, end }
 }

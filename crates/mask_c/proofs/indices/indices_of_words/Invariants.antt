@@ -1,6 +1,6 @@
 use Rattle.std.proofs.Common.{◌≡◌, ◌+◌, ◌*◌, length, map, min, take}
 use Rattle.mask_bits.specs.Positions.{count, positions}
-use Rattle.mask_c.proofs.indices.row_mask_next_indices.Given as goal
+use Rattle.mask_c.proofs.indices.indices_of_words.Given as goal
 
 -- the indices of the words so far, as many as there is room for
 abbrev pub invariant-loop-i : goal.invariant-loop-i

@@ -1,0 +1,216 @@
+-- The last values of a bitmap that is written, and the values before them.
+use Rattle.std.proofs.Common.{◌≡◌, ℕ, zero, suc, nat_eq, set, ◌^◌, ◌+◌, ◌-◌, ◌*◌, ◌/◌, ◌%◌, ◌<◌, ◌≤◌, Bool, true, false, List, [], ◌∷◌, ◌++◌, length, get_or, take, drop, refl, sym, ap, ap₂, ◌∙◌, inl, inr, arith, mod-eq_of_lt}
+use Rattle.std.proofs.Math.Pow.{pow-lt}
+use Rattle.std.specs.Int.{bit_at, div_ceil}
+use Rattle.std.specs.Int.RustNames.{bit_and}
+use Rattle.std.proofs.lemmas.Bool.{cases_eq}
+use Rattle.std.proofs.lemmas.Grind.{get_or-set_at}
+use Rattle.std.proofs.lemmas.List.{ext_get_or, get_or-set_other, get_or-take, get_or_append_left, get_or-append_right, length-append, length-take}
+use Rattle.std.proofs.lemmas.Nat.Bits.{bit_at-lt, bit_at_and, bit_at_ones, bit_at_ones_above}
+use Rattle.std.proofs.lemmas.Slice.{drop-put_mid}
+use Rattle.mask_bits.specs.Buffer.{backing_bit}
+use Rattle.mask_bits.specs.Lists.{combined}
+use Rattle.mask_bits.specs.Positions.{count, rank_intersection, repeated}
+use Rattle.mask_bits.specs.Words.{window}
+use Rattle.mask_bits.proofs.Lists.CountLemmas.{count-append, get_or-repeated}
+use Rattle.mask_bits.proofs.Lists.Places.PlaceLemmas.{trues, count-trues}
+use Rattle.mask_bits.proofs.Lists.RankLemmas.{narrow, rank_intersection-narrow}
+use Rattle.mask_bits.proofs.Lists.Words.BackingBitLemmas.{bits_at-append, length-bits_at, get_or-bits_at}
+use Rattle.mask_bits.proofs.Lists.Words.FrontLemmas.{front-same, get_or-put_mid_below, get_or-put_mid_inside, get_or-window, window-take}
+use Rattle.mask_c.specs.Bitmap.{AreClearBehind, bitmap}
+use borrow.Rule.Slice.PartMut.{put_mid}
+
+-- ---- a front
+
+-- bytes that follow have no part in it
+pub front-appended : (xs ys : List ℕ) (n : ℕ) → n ≤ 8 * length xs → bitmap (xs ++ ys) 0 n ≡ bitmap xs 0 n
+front-appended xs ys n few =
+    front-same xs (xs ++ ys) n (λ p h. ap (λ x. nat_eq (bit_at x (p % 8)) 1) (get_or_append_left xs ys 0 (p / 8) (omega arith)))
+
+-- nor have bytes that are left out
+pub front-taken : (xs : List ℕ) (k n : ℕ) → n ≤ 8 * k → bitmap (take k xs) 0 n ≡ bitmap xs 0 n
+front-taken xs k n few =
+    front-same xs (take k xs) n (λ p h. ap (λ x. nat_eq (bit_at x (p % 8)) 1) (get_or-take k xs (p / 8) 0 (omega arith)))
+
+-- ---- the bytes of the last values, written
+
+-- a bit of them
+put-bit : (old last ys : List ℕ) (w e j : ℕ) → 8 * w ≤ length old → length last ≡ 8 → 8 * w ≤ e → e ≤ 8 * w + 8 → ys ≡ take (e - 8 * w) last
+    → j < 8 * (e - 8 * w) → backing_bit (put_mid (8 * w) (e - 8 * w) old ys) (64 * w + j) ≡ get_or (window last 0) j false
+put-bit old last ys w e j begins len from to is few =
+    let new : List ℕ = put_mid (8 * w) (e - 8 * w) old ys in
+    let at : (64 * w + j) / 8 ≡ 8 * w + j / 8 = omega arith in
+    let bit : (64 * w + j) % 8 ≡ j % 8 = omega arith in
+    let written : length ys ≡ e - 8 * w = ap length is ∙ length-take (e - 8 * w) last ∙ omega arith in
+    let byte : get_or new ((64 * w + j) / 8) 0 ≡ get_or last (j / 8) 0 = ap (λ k. get_or new k 0) at
+    ∙ get_or-put_mid_inside (8 * w) e old ys (j / 8) begins written (omega arith)
+    ∙ ap (λ (xs : List ℕ). get_or xs (j / 8) 0) is ∙ get_or-take (e - 8 * w) last (j / 8) 0 (omega arith) in
+    let place : j ≡ 0 + j = omega arith in
+    ap₂ (λ x k. nat_eq (bit_at x k) 1) byte bit ∙ ap (backing_bit last) place ∙ sym (get_or-window last 0 j false (omega arith))
+
+-- a bit of a word that was cut to its low bits
+low-bit : (m cut : List Bool) (rest j : ℕ) → length m ≡ 64 → rest ≤ 64 → cut ≡ take rest m ++ repeated (64 - rest) false → j < rest → get_or cut j false ≡ get_or (take rest m) j false
+low-bit m cut rest j len few is h =
+    ap (λ (xs : List Bool). get_or xs j false) is ∙ get_or_append_left (take rest m) (repeated (64 - rest) false) false j (omega (arith, length-take rest m))
+
+high-bit : (m cut : List Bool) (rest j : ℕ) → length m ≡ 64 → rest ≤ 64 → cut ≡ take rest m ++ repeated (64 - rest) false → rest ≤ j → j < 64 → get_or cut j false ≡ false
+high-bit m cut rest j len few is h in_word =
+    ap (λ (xs : List Bool). get_or xs j false) is
+    ∙ get_or-append_right (take rest m) (repeated (64 - rest) false) rest j false (length-take rest m ∙ omega arith) h
+    ∙ get_or-repeated (64 - rest) (j - rest) false false (omega arith)
+
+-- the values before them
+pub put-before : (old ys : List ℕ) (w k : ℕ) → 8 * w ≤ length old → bitmap (put_mid (8 * w) k old ys) 0 (64 * w) ≡ bitmap old 0 (64 * w)
+put-before old ys w k begins =
+    front-same old (put_mid (8 * w) k old ys) (64 * w) (λ p h.
+    ap (λ x. nat_eq (bit_at x (p % 8)) 1) (get_or-put_mid_below (8 * w) k old ys (p / 8) begins (omega arith)))
+
+-- these values
+pub put-list : (old last ys : List ℕ) (m cut : List Bool) (w e rest : ℕ) → 8 * w ≤ length old → length last ≡ 8 → 8 * w ≤ e → e ≤ 8 * w + 8 → ys ≡ take (e - 8 * w) last
+    → length m ≡ 64 → rest ≤ 8 * (e - 8 * w) → window last 0 ≡ cut → cut ≡ take rest m ++ repeated (64 - rest) false
+    → bitmap (put_mid (8 * w) (e - 8 * w) old ys) (64 * w) rest ≡ take rest m
+put-list old last ys m cut w e rest begins len from to is word few shows low =
+    let new : List ℕ = put_mid (8 * w) (e - 8 * w) old ys in
+    ext_get_or false (bitmap new (64 * w) rest) (take rest m) (length-bits_at new (64 * w) rest ∙ sym (length-take rest m ∙ omega arith)) (λ j h.
+    let small : j < rest = omega (arith, length-bits_at new (64 * w) rest) in
+    get_or-bits_at new (64 * w) rest j false small
+    ∙ put-bit old last ys w e j begins len from to is (omega arith)
+    ∙ ap (λ (xs : List Bool). get_or xs j false) shows
+    ∙ low-bit m cut rest j word (omega arith) low small)
+
+-- the bits behind them
+pub put-clear : (old last ys : List ℕ) (m cut : List Bool) (w e rest : ℕ) → 8 * w ≤ length old → length last ≡ 8 → e ≡ 8 * w + div_ceil rest 8 → rest < 64 → ys ≡ take (e - 8 * w) last
+    → length m ≡ 64 → window last 0 ≡ cut → cut ≡ take rest m ++ repeated (64 - rest) false
+    → AreClearBehind (put_mid (8 * w) (e - 8 * w) old ys) (64 * w + rest)
+put-clear old last ys m cut w e rest begins len end few is word shows low = λ p from to.
+    let new : List ℕ = put_mid (8 * w) (e - 8 * w) old ys in
+    let at : 64 * w + (p - 64 * w) ≡ p = omega arith in
+    ap (backing_bit new) (sym at)
+    ∙ put-bit old last ys w e (p - 64 * w) begins len (omega arith) (omega arith) is (omega arith)
+    ∙ ap (λ (xs : List Bool). get_or xs (p - 64 * w) false) shows
+    ∙ high-bit m cut rest (p - 64 * w) word (omega arith) low (omega arith) (omega arith)
+
+-- the bytes behind them
+pub put-behind : (old ys : List ℕ) (w e rest : ℕ) → 8 * w ≤ length old → e ≡ 8 * w + div_ceil rest 8 → length ys ≡ e - 8 * w
+    → drop (div_ceil (64 * w + rest) 8) (put_mid (8 * w) (e - 8 * w) old ys) ≡ drop (div_ceil (64 * w + rest) 8) old
+put-behind old ys w e rest begins end len = drop-put_mid (8 * w) (e - 8 * w) old ys (div_ceil (64 * w + rest) 8) (omega arith) begins len
+
+-- ---- the bits behind the last value cleared
+
+low_ones : (k : ℕ) → k < 8 → 1 * 2 ^ k % 256 - 1 ≡ 2 ^ k - 1
+low_ones k few = let small : 2 ^ k < 2 ^ 8 = pow-lt few in omega (arith, mod-eq_of_lt small)
+
+kept_bit : (x k j : ℕ) → j < k → bit_at (bit_and x (2 ^ k - 1)) j ≡ bit_at x j
+kept_bit x k j h = omega (arith, bit_at_and x (2 ^ k - 1) j, bit_at_ones k j h, bit_at-lt x j)
+
+cleared_bit : (x k j : ℕ) → k ≤ j → bit_at (bit_and x (2 ^ k - 1)) j ≡ 0
+cleared_bit x k j h = omega (arith, bit_at_and x (2 ^ k - 1) j, bit_at_ones_above k j h)
+
+pub cleared-list : (bytes : List ℕ) (n : ℕ) → (n % 8 ≡ 0 → ⊥) → div_ceil n 8 ≤ length bytes
+    → bitmap (set bytes (n / 8) (bit_and (get_or bytes (n / 8) 0) (1 * 2 ^ (n % 8) % 256 - 1))) 0 n ≡ bitmap bytes 0 n
+cleared-list bytes n part room =
+    let x : ℕ = get_or bytes (n / 8) 0 in
+    let y : ℕ = bit_and x (1 * 2 ^ (n % 8) % 256 - 1) in
+    let inside : n / 8 < length bytes = omega (arith, part) in
+    front-same bytes (set bytes (n / 8) y) n (λ p h. elim (cases_eq (p / 8) (n / 8)) [
+      | inl same ↦
+          let few : p % 8 < n % 8 = omega arith in
+          ap (λ z. nat_eq (bit_at z (p % 8)) 1) (get_or-set_at bytes (n / 8) (p / 8) y 0 same inside)
+          ∙ ap (λ z. nat_eq (bit_at (bit_and x z) (p % 8)) 1) (low_ones (n % 8) (omega arith))
+          ∙ ap (λ z. nat_eq z 1) (kept_bit x (n % 8) (p % 8) few)
+          ∙ ap (λ k. nat_eq (bit_at (get_or bytes k 0) (p % 8)) 1) (sym same)
+      | inr other ↦ ap (λ z. nat_eq (bit_at z (p % 8)) 1) (get_or-set_other bytes (n / 8) (p / 8) y 0 other)
+    ])
+
+pub cleared-clear : (bytes : List ℕ) (n : ℕ) → (n % 8 ≡ 0 → ⊥) → div_ceil n 8 ≤ length bytes
+    → AreClearBehind (set bytes (n / 8) (bit_and (get_or bytes (n / 8) 0) (1 * 2 ^ (n % 8) % 256 - 1))) n
+cleared-clear bytes n part room = λ p from to.
+    let x : ℕ = get_or bytes (n / 8) 0 in
+    let y : ℕ = bit_and x (1 * 2 ^ (n % 8) % 256 - 1) in
+    let same : p / 8 ≡ n / 8 = omega (arith, part) in
+    ap (λ z. nat_eq (bit_at z (p % 8)) 1) (get_or-set_at bytes (n / 8) (p / 8) y 0 same (omega (arith, part)))
+    ∙ ap (λ z. nat_eq (bit_at (bit_and x z) (p % 8)) 1) (low_ones (n % 8) (omega arith))
+    ∙ ap (λ z. nat_eq z 1) (cleared_bit x (n % 8) (p % 8) (omega arith))
+
+-- ---- lists of two parts
+
+-- the values of whole words, and those past them
+pub bitmap-split : (bytes : List ℕ) (offset len : ℕ)
+    → bitmap bytes offset len ≡ bitmap bytes offset (64 * (len / 64)) ++ bitmap bytes (offset + 64 * (len / 64)) (len % 64)
+bitmap-split bytes offset len =
+    let parts : len ≡ 64 * (len / 64) + len % 64 = omega arith in
+    ap (bitmap bytes offset) parts ∙ bits_at-append bytes offset (64 * (len / 64)) (len % 64)
+
+pub front-split : (bytes : List ℕ) (len : ℕ) → bitmap bytes 0 len ≡ bitmap bytes 0 (64 * (len / 64)) ++ bitmap bytes (64 * (len / 64)) (len % 64)
+front-split bytes len =
+    let place : 0 + 64 * (len / 64) ≡ 64 * (len / 64) = omega arith in
+    bitmap-split bytes 0 len ∙ ap (λ p. bitmap bytes 0 (64 * (len / 64)) ++ bitmap bytes p (len % 64)) place
+
+combined-append : (f : Bool → Bool → Bool) (a b c d : List Bool) → length a ≡ length b → combined f (a ++ c) (b ++ d) ≡ combined f a b ++ combined f c d
+combined-append f [] [] c d len = refl
+combined-append f [] (y ∷ b) c d len = absurd (omega arith)
+combined-append f (x ∷ a) [] c d len = absurd (omega arith)
+combined-append f (x ∷ a) (y ∷ b) c d len = ap (λ (xs : List Bool). f x y ∷ xs) (combined-append f a b c d (omega arith))
+
+combined-take : (f : Bool → Bool → Bool) (n : ℕ) (a b : List Bool) → take n (combined f a b) ≡ combined f (take n a) (take n b)
+combined-take f zero a b = refl
+combined-take f (suc n) [] b = refl
+combined-take f (suc n) (x ∷ a) [] = refl
+combined-take f (suc n) (x ∷ a) (y ∷ b) = ap (λ (xs : List Bool). f x y ∷ xs) (combined-take f n a b)
+
+narrow-append : (a c b d : List Bool) → length b ≡ trues a → narrow (a ++ c) (b ++ d) ≡ narrow a b ++ narrow c d
+narrow-append [] c [] d len = refl
+narrow-append [] c (y ∷ b) d len = absurd (omega arith)
+narrow-append (false ∷ a) c b d len = ap (λ (xs : List Bool). false ∷ xs) (narrow-append a c b d len)
+narrow-append (true ∷ a) c [] d len = absurd (omega arith)
+narrow-append (true ∷ a) c (y ∷ b) d len = ap (λ (xs : List Bool). y ∷ xs) (narrow-append a c b d (omega arith))
+
+-- the rank intersection of two parts
+pub rank_intersection-append : (a c b d : List Bool) → length b ≡ count a → length d ≡ count c
+    → rank_intersection (a ++ c) (b ++ d) ≡ rank_intersection a b ++ rank_intersection c d
+rank_intersection-append a c b d fits fits' =
+    rank_intersection-narrow (a ++ c) (b ++ d) (omega (arith, length-append b d, count-append a c))
+    ∙ narrow-append a c b d (fits ∙ count-trues a)
+    ∙ sym (ap₂ (λ (xs ys : List Bool). xs ++ ys) (rank_intersection-narrow a b fits) (rank_intersection-narrow c d fits'))
+
+-- ---- what a call has written
+
+-- whole words combined, and the last values by a word
+pub written-combined : (f : Bool → Bool → Bool) (a b front out : List ℕ) (p q len : ℕ) (more : List ℕ) (v x y : List Bool)
+    → 64 * (len / 64) ≤ 8 * length front
+    → bitmap front 0 (64 * (len / 64)) ≡ combined f (bitmap a p (64 * (len / 64))) (bitmap b q (64 * (len / 64)))
+    → x ≡ window a (p + 64 * (len / 64)) → y ≡ window b (q + 64 * (len / 64)) → v ≡ combined f x y
+    → bitmap out 0 (64 * (len / 64)) ≡ bitmap (front ++ more) 0 (64 * (len / 64)) → bitmap out (64 * (len / 64)) (len % 64) ≡ take (len % 64) v
+    → bitmap out 0 len ≡ combined f (bitmap a p len) (bitmap b q len)
+written-combined f a b front out p q len more v x y covers list is_x is_y is_v before last =
+    let w : ℕ = 64 * (len / 64) in
+    let rest : ℕ = len % 64 in
+    let first : bitmap out 0 w ≡ combined f (bitmap a p w) (bitmap b q w) = before ∙ front-appended front more w covers ∙ list in
+    let second : bitmap out w rest ≡ combined f (bitmap a (p + w) rest) (bitmap b (q + w) rest)
+    = last ∙ ap (take rest) (is_v ∙ ap₂ (combined f) is_x is_y) ∙ combined-take f rest (window a (p + w)) (window b (q + w))
+    ∙ ap₂ (combined f) (window-take a (p + w) rest (omega arith)) (window-take b (q + w) rest (omega arith)) in
+    front-split out len
+    ∙ ap₂ (λ (xs ys : List Bool). xs ++ ys) first second
+    ∙ sym (combined-append f (bitmap a p w) (bitmap b q w) (bitmap a (p + w) rest) (bitmap b (q + w) rest) (length-bits_at a p w ∙ sym (length-bits_at b q w)))
+    ∙ ap₂ (combined f) (sym (bitmap-split a p len)) (sym (bitmap-split b q len))
+
+-- how many values are true past whole words, and in them
+pub count-split : (bytes : List ℕ) (offset len : ℕ) → count (bitmap bytes offset len) ≡ count (bitmap bytes offset (64 * (len / 64))) + count (bitmap bytes (offset + 64 * (len / 64)) (len % 64))
+count-split bytes offset len = ap count (bitmap-split bytes offset len) ∙ count-append (bitmap bytes offset (64 * (len / 64))) (bitmap bytes (offset + 64 * (len / 64)) (len % 64))
+
+-- whole words narrowed, and the last values
+pub written-narrowed : (a b front last out more : List ℕ) (p q len n k : ℕ)
+    → 64 * (len / 64) ≤ 8 * length front
+    → n ≡ count (bitmap a p (64 * (len / 64))) → k ≡ count (bitmap a (p + 64 * (len / 64)) (len % 64))
+    → bitmap front 0 (64 * (len / 64)) ≡ rank_intersection (bitmap a p (64 * (len / 64))) (bitmap b q n)
+    → bitmap last 0 (len % 64) ≡ rank_intersection (bitmap a (p + 64 * (len / 64)) (len % 64)) (bitmap b (q + n) k)
+    → bitmap out 0 (64 * (len / 64)) ≡ bitmap (front ++ more) 0 (64 * (len / 64)) → bitmap out (64 * (len / 64)) (len % 64) ≡ bitmap last 0 (len % 64)
+    → bitmap out 0 len ≡ rank_intersection (bitmap a p len) (bitmap b q (n + k))
+written-narrowed a b front last out more p q len n k covers is_n is_k whole part before after =
+    let w : ℕ = 64 * (len / 64) in
+    let rest : ℕ = len % 64 in
+    front-split out len
+    ∙ ap₂ (λ (xs ys : List Bool). xs ++ ys) (before ∙ front-appended front more w covers ∙ whole) (after ∙ part)
+    ∙ sym (rank_intersection-append (bitmap a p w) (bitmap a (p + w) rest) (bitmap b q n) (bitmap b (q + n) k)
+    (length-bits_at b q n ∙ is_n) (length-bits_at b (q + n) k ∙ is_k))
+    ∙ ap₂ rank_intersection (sym (bitmap-split a p len)) (sym (bits_at-append b q n k))

@@ -1,0 +1,68 @@
+use Rattle.std.proofs.Common.{Bool, List, ◌<◌, ◌+◌, ◌*◌, ◌^◌, length, map, min, take, subst, sym, ap, ◌∙◌, arith}
+use Rattle.std.specs.List.{All}
+use Rattle.std.proofs.lemmas.List.{take_all}
+use Rattle.mask_bits.specs.Positions.{count, indices_from, positions}
+use Rattle.mask_c.proofs.ChooseLemmas.{count_below-le-count}
+use Rattle.mask_c.proofs.IndexLemmas.{bitmap-rest, indices-within, all_indices, first_indices, word_done, word_counted}
+use Rattle.mask_c.proofs.indices.indices_of_words.Goals as goal
+
+pub indices_of_word-at-requires-clause-fits : goal.indices_of_word-at-requires-clause-fits
+indices_of_word-at-requires-clause-fits c =
+    let m = c.new-chunks.result in
+    let from = c.args.from in
+    let i = c.loop-i.i in
+    let len = c.new-chunks.ensures.len in
+    subst (All (λ p. from + 64 * i + p < 2 ^ 64)) (sym (ap positions c.padded_word.ensures))
+    (indices-within m from i (omega (arith, c.requires.within)) (omega arith))
+
+pub loop-i-preserved : goal.loop-i-preserved
+loop-i-preserved c =
+    let m = c.new-chunks.result in
+    let i = c.loop-i.i in
+    let was = c.loop-i.invariant in
+    let put = c.indices_of_word-at in
+    let n = length c.loop-i.out in
+    let len = c.new-chunks.ensures.len in
+    record {
+      indices = word_done m c.args.from i c.loop-i.at put.result _ n c.loop-i.out put.new.out (omega arith) c.padded_word.ensures was.indices put.ensures.indices
+          ∙ ap (λ k. take k (map (λ p. c.args.from + p) (positions (take (64 * (i + 1)) m)))) (sym put.auto.out);
+      counted = word_counted m i c.loop-i.at put.result _ n c.padded_word.ensures was.counted put.ensures.count
+          ∙ ap (λ k. min k (count (take (64 * (i + 1)) m))) (sym put.auto.out);
+    }
+
+pub returns-then-at-out-clause-indices : goal.returns-then-at-out-clause-indices
+returns-then-at-out-clause-indices c =
+    let m = c.new-chunks.result in
+    let i = c.loop-i.i in
+    let was = c.loop-i.invariant in
+    let put = c.indices_of_word-at in
+    let n = length c.loop-i.out in
+    let len = c.new-chunks.ensures.len in
+    let many = word_counted m i c.loop-i.at put.result _ n c.padded_word.ensures was.counted put.ensures.count in
+    let rest = c.new-chunks.ensures.list ∙ bitmap-rest c.args.bytes.now c.args.offset c.args.len c.args.from c.requires.within in
+    word_done m c.args.from i c.loop-i.at put.result _ n c.loop-i.out put.new.out (omega arith) c.padded_word.ensures was.indices put.ensures.indices
+    ∙ first_indices m c.args.from n (64 * (i + 1)) (omega (arith, many, c.if-at-out.true, put.auto.out))
+    ∙ ap (λ k. take k (indices_from c.args.from m)) c.loop-i.auto.out
+    ∙ ap (λ (x : List Bool). take (length c.args.out.now) (indices_from c.args.from x)) rest
+
+pub returns-then-at-out-clause-count : goal.returns-then-at-out-clause-count
+returns-then-at-out-clause-count c =
+    let m = c.new-chunks.result in
+    let i = c.loop-i.i in
+    let put = c.indices_of_word-at in
+    let many = word_counted m i c.loop-i.at put.result _ (length c.loop-i.out) c.padded_word.ensures c.loop-i.invariant.counted put.ensures.count in
+    let rest = c.new-chunks.ensures.list ∙ bitmap-rest c.args.bytes.now c.args.offset c.args.len c.args.from c.requires.within in
+    omega (arith, many, c.if-at-out.true, put.auto.out, c.loop-i.auto.out, count_below-le-count m (64 * (i + 1)), ap count rest)
+
+pub returns-clause-indices : goal.returns-clause-indices
+returns-clause-indices c =
+    let m = c.new-chunks.result in
+    let len = c.new-chunks.ensures.len in
+    let rest = c.new-chunks.ensures.list ∙ bitmap-rest c.args.bytes.now c.args.offset c.args.len c.args.from c.requires.within in
+    c.loop-i.invariant.indices
+    ∙ ap (take (length c.loop-i.out)) (all_indices m c.args.from (64 * c.loop-i.i) (omega arith))
+    ∙ ap (λ k. take k (indices_from c.args.from m)) c.loop-i.auto.out
+    ∙ ap (λ (x : List Bool). take (length c.args.out.now) (indices_from c.args.from x)) rest
+
+pub returns-clause-count : goal.returns-clause-count
+returns-clause-count c = grind (arith, bitmap-rest, take_all)
