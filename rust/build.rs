@@ -1,55 +1,62 @@
-//! Links the static library of the proved loops, which `rt lib` makes in `crates/mask_c`.
+//! Links the static library of the proved loops: the shipped one for the target's features, or the one
+//! in the folder that `ROW_MASK_LIB` names.
 
 use std::env;
 use std::path::{Path, PathBuf};
-use std::process::Command;
+
+const LIBRARY: &str = "libmask_c.a";
+
+/// What x86-64-v3 has above x86-64-v2.
+const V3: [&str; 7] = ["avx2", "bmi1", "bmi2", "f16c", "fma", "lzcnt", "movbe"];
 
 fn main() {
     println!("cargo::rerun-if-changed=build.rs");
     println!("cargo::rerun-if-env-changed=ROW_MASK_LIB");
-    link_loops();
-    if env::var_os("CARGO_FEATURE_ROARING").is_some() {
-        println!("cargo::rustc-link-arg-benches=-lroaring");
+    println!("cargo::rerun-if-env-changed=DOCS_RS");
+    println!("cargo::rustc-check-cfg=cfg(row_mask_library)");
+    // (asked for when this runs: what `env!` gives is part of the program, which other checkouts share)
+    let package = PathBuf::from(set("CARGO_MANIFEST_DIR"));
+    println!("cargo::metadata=include={}", package.display());
+    if package.join("../crates/mask_c").exists() {
+        // checkouts may share a target folder, and cargo would take this one's answer for another's
+        println!("cargo::rerun-if-env-changed=PWD");
     }
-    if env::var_os("CARGO_FEATURE_FIXEDBITSET").is_some() {
-        build_fixedbitset();
+    if env::var_os("DOCS_RS").is_some() {
+        println!("cargo::rustc-cfg=row_mask_library");
+    } else if let Some(folder) = folder(&package) {
+        link(&folder);
     }
 }
 
-/// `ROW_MASK_LIB` names another folder that has the library.
-fn link_loops() {
-    let folder = match env::var_os("ROW_MASK_LIB") {
-        Some(folder) => PathBuf::from(folder),
-        None => Path::new(env!("CARGO_MANIFEST_DIR")).join("../crates/mask_c/out"),
-    };
-    let library = folder.join("libmask_c.a");
+fn set(name: &str) -> String {
+    env::var(name).unwrap_or_else(|_| panic!("cargo sets {name}"))
+}
+
+/// Where the library is, unless there is none for the target, which the crate itself then says.
+fn folder(package: &Path) -> Option<PathBuf> {
+    if let Some(folder) = env::var_os("ROW_MASK_LIB") {
+        return Some(PathBuf::from(folder));
+    }
+    let target = ["ARCH", "OS", "POINTER_WIDTH"].map(|it| set(&format!("CARGO_CFG_TARGET_{it}")));
+    if target != ["x86_64", "linux", "64"] {
+        return None;
+    }
+    let features = env::var("CARGO_CFG_TARGET_FEATURE").unwrap_or_default();
+    let is_v3 = V3.iter().all(|it| features.split(',').any(|feature| feature == *it));
+    Some(package.join("lib").join(if is_v3 { "x86-64-v3" } else { "x86-64-v2" }))
+}
+
+fn link(folder: &Path) {
+    let library = folder.join(LIBRARY);
     println!("cargo::rerun-if-changed={}", library.display());
     if !library.is_file() {
         let library = library.display();
-        println!("cargo::error=there is no {library}: run `rt lib` in crates/mask_c first");
+        println!("cargo::error=there is no {library}: set ROW_MASK_LIB to a folder that has one");
+        println!("cargo::error=(in a checkout with the Rattle kit, rust/ship makes it)");
         return;
     }
+    println!("cargo::rustc-cfg=row_mask_library");
+    println!("cargo::metadata=lib={}", folder.display());
     println!("cargo::rustc-link-search=native={}", folder.display());
     println!("cargo::rustc-link-lib=static=mask_c");
-}
-
-/// Compiles the source that Debian's `librust-fixedbitset-dev` installs, for the benchmark alone: a
-/// dependency in `Cargo.toml`, even an optional one, would ask a registry for it at every build.
-fn build_fixedbitset() {
-    println!("cargo::rerun-if-env-changed=FIXEDBITSET");
-    let Ok(source) = env::var("FIXEDBITSET") else {
-        println!("cargo::error=set FIXEDBITSET to the folder of the crate fixedbitset");
-        return;
-    };
-    let out = env::var("OUT_DIR").expect("cargo sets OUT_DIR");
-    let done = Command::new(env::var("RUSTC").expect("cargo sets RUSTC"))
-        .args(["--crate-name", "fixedbitset", "--crate-type", "rlib", "--edition", "2018"])
-        .args(["-O", "--cap-lints", "allow", "--cfg", "feature=\"std\"", "--out-dir", &out])
-        .arg(format!("{source}/src/lib.rs"))
-        .status()
-        .is_ok_and(|status| status.success());
-    if !done {
-        println!("cargo::error={source} does not compile");
-    }
-    println!("cargo::rustc-link-search=crate={out}");
 }

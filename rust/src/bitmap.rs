@@ -1,7 +1,7 @@
 use crate::declared;
 use crate::{BitmapBuf, Error, Indices, Row, Runs, Values};
 use std::fmt;
-use std::ops::Range;
+use std::ops::{Bound, Not, Range, RangeBounds};
 
 /// A list of truth values, packed eight to a byte, that lies in borrowed bytes: value `i` is the bit
 /// at position `p = offset + i`, which is bit `p % 8`, counted from the lowest, of byte `p / 8`.
@@ -88,13 +88,20 @@ impl<'a> Bitmap<'a> {
         })
     }
 
-    /// The values from `start` to `end`, in the same bytes.
+    /// The values of a range, in the same bytes.
+    ///
+    /// ```
+    /// # use row_mask::Bitmap;
+    /// let rows = Bitmap::new(&[0b0_1101], 0, 5)?;
+    /// assert_eq!(rows.slice(2..)?.to_string(), "110");
+    /// # Ok::<(), row_mask::Error>(())
+    /// ```
     ///
     /// # Errors
     ///
-    /// [`Error::BadRange`] where they are no range of the values.
-    pub fn slice(self, start: usize, end: usize) -> Result<Bitmap<'a>, Error> {
-        self.check_range(start, end)?;
+    /// [`Error::BadRange`] where it is no range of the values.
+    pub fn slice(self, range: impl RangeBounds<usize>) -> Result<Bitmap<'a>, Error> {
+        let Range { start, end } = self.range(&range)?;
         Ok(Bitmap { bytes: self.bytes, offset: self.offset + start, len: end - start })
     }
 
@@ -107,13 +114,13 @@ impl<'a> Bitmap<'a> {
         }
     }
 
-    /// How many of the values from `start` to `end` are true.
+    /// How many of the values of a range are true.
     ///
     /// # Errors
     ///
-    /// [`Error::BadRange`] where they are no range of the values.
-    pub fn count_range(self, start: usize, end: usize) -> Result<usize, Error> {
-        self.check_range(start, end)?;
+    /// [`Error::BadRange`] where it is no range of the values.
+    pub fn count_range(self, range: impl RangeBounds<usize>) -> Result<usize, Error> {
+        let Range { start, end } = self.range(&range)?;
         // SAFETY: above; the range was tested.
         Ok(unsafe {
             declared::row_mask_count_range(
@@ -183,10 +190,7 @@ impl<'a> Bitmap<'a> {
     /// The first index from `from` on whose value is true.
     #[must_use]
     pub fn next_index(self, from: usize) -> Option<usize> {
-        if from > self.len {
-            return None;
-        }
-        // SAFETY: above; `from` is at most the length.
+        // SAFETY: above.
         self.inside(unsafe {
             declared::row_mask_next_index(
                 self.bytes.as_ptr(),
@@ -201,10 +205,7 @@ impl<'a> Bitmap<'a> {
     /// Writes the indices of the true values from `from` on to the front of `out`, as many as there
     /// are or as it takes, and answers how many these are.
     pub fn next_indices(self, from: usize, out: &mut [usize]) -> usize {
-        if from > self.len {
-            return 0;
-        }
-        // SAFETY: above; `from` is at most the length.
+        // SAFETY: above.
         unsafe {
             declared::row_mask_next_indices(
                 self.bytes.as_ptr(),
@@ -235,10 +236,7 @@ impl<'a> Bitmap<'a> {
     /// The first run of true values from `from` on. A run that `from` is inside begins there.
     #[must_use]
     pub fn next_run(self, from: usize) -> Option<Range<usize>> {
-        if from > self.len {
-            return None;
-        }
-        // SAFETY: above; `from` is at most the length.
+        // SAFETY: above.
         let run = unsafe {
             declared::row_mask_next_run(
                 self.bytes.as_ptr(),
@@ -289,7 +287,7 @@ impl<'a> Bitmap<'a> {
     ///
     /// [`Error::LengthsDiffer`].
     pub fn and(self, other: Bitmap<'_>) -> Result<BitmapBuf, Error> {
-        self.joined(other, declared::row_mask_and)
+        self.combined(other, declared::row_mask_and)
     }
 
     /// The values that are true in one or in both.
@@ -298,7 +296,7 @@ impl<'a> Bitmap<'a> {
     ///
     /// [`Error::LengthsDiffer`].
     pub fn or(self, other: Bitmap<'_>) -> Result<BitmapBuf, Error> {
-        self.joined(other, declared::row_mask_or)
+        self.combined(other, declared::row_mask_or)
     }
 
     /// The values that are true here and not in `other`.
@@ -307,26 +305,7 @@ impl<'a> Bitmap<'a> {
     ///
     /// [`Error::LengthsDiffer`].
     pub fn and_not(self, other: Bitmap<'_>) -> Result<BitmapBuf, Error> {
-        self.joined(other, declared::row_mask_and_not)
-    }
-
-    /// Each value negated.
-    #[must_use]
-    #[expect(clippy::should_implement_trait, reason = "`!` would hide that memory is taken")]
-    pub fn not(self) -> BitmapBuf {
-        BitmapBuf::filled(self.len, |out| {
-            // SAFETY: above; `out` is room for the length.
-            unsafe {
-                declared::row_mask_not(
-                    self.bytes.as_ptr(),
-                    self.bytes.len(),
-                    self.offset,
-                    self.len,
-                    out.as_mut_ptr(),
-                    out.len(),
-                );
-            }
-        })
+        self.combined(other, declared::row_mask_and_not)
     }
 
     /// The same values in bytes of their own, from bit 0 on.
@@ -359,8 +338,7 @@ impl<'a> Bitmap<'a> {
             return Err(Error::RanksDiffer { ranks: ranks.len, count });
         }
         Ok(BitmapBuf::filled(self.len, |out| {
-            // SAFETY: above; there is one rank for each true value, and `out` is the room for the
-            // length.
+            // SAFETY: above; there is one rank for each true value, and `out` is room for the length.
             unsafe {
                 declared::row_mask_intersect_by_rank(
                     self.bytes.as_ptr(),
@@ -401,7 +379,7 @@ impl<'a> Bitmap<'a> {
         }
         Ok(BitmapBuf::filled(self.len, |out| {
             // SAFETY: above; the ranks ascend and their last is below the count, so all are, and
-            // `out` is the room for the length.
+            // `out` is room for the length.
             unsafe {
                 declared::row_mask_intersect_at_ranks(
                     self.bytes.as_ptr(),
@@ -440,9 +418,20 @@ impl<'a> Bitmap<'a> {
         Ok(out)
     }
 
-    fn check_range(self, start: usize, end: usize) -> Result<(), Error> {
+    // (a bound that is past the last number can't be told from that number, and neither is within)
+    fn range(self, range: &impl RangeBounds<usize>) -> Result<Range<usize>, Error> {
+        let start = match range.start_bound() {
+            Bound::Included(start) => *start,
+            Bound::Excluded(before) => before.saturating_add(1),
+            Bound::Unbounded => 0,
+        };
+        let end = match range.end_bound() {
+            Bound::Included(last) => last.saturating_add(1),
+            Bound::Excluded(end) => *end,
+            Bound::Unbounded => self.len,
+        };
         if start <= end && end <= self.len {
-            return Ok(());
+            return Ok(start..end);
         }
         Err(Error::BadRange { start, end, len: self.len })
     }
@@ -452,14 +441,14 @@ impl<'a> Bitmap<'a> {
         (index < self.len).then_some(index)
     }
 
-    fn joined(self, other: Bitmap<'_>, join: Join) -> Result<BitmapBuf, Error> {
+    fn combined(self, other: Bitmap<'_>, combine: Combine) -> Result<BitmapBuf, Error> {
         if self.len != other.len {
             return Err(Error::LengthsDiffer { left: self.len, right: other.len });
         }
         Ok(BitmapBuf::filled(self.len, |out| {
             // SAFETY: above; both have the length, and `out` is room for it.
             unsafe {
-                join(
+                combine(
                     self.bytes.as_ptr(),
                     self.bytes.len(),
                     self.offset,
@@ -475,7 +464,7 @@ impl<'a> Bitmap<'a> {
     }
 }
 
-type Join =
+type Combine =
     unsafe extern "C" fn(*const u8, usize, usize, *const u8, usize, usize, usize, *mut u8, usize);
 
 /// Equal where the values are: bytes, offsets and the bits around the values don't count.
@@ -499,6 +488,39 @@ impl PartialEq<Bitmap<'_>> for Bitmap<'_> {
 
 impl Eq for Bitmap<'_> {}
 
+impl PartialEq<BitmapBuf> for Bitmap<'_> {
+    fn eq(&self, other: &BitmapBuf) -> bool {
+        *self == other.as_bitmap()
+    }
+}
+
+impl<'a> From<&'a BitmapBuf> for Bitmap<'a> {
+    fn from(buf: &'a BitmapBuf) -> Bitmap<'a> {
+        buf.as_bitmap()
+    }
+}
+
+/// Each value negated, in bytes of their own.
+impl Not for Bitmap<'_> {
+    type Output = BitmapBuf;
+
+    fn not(self) -> BitmapBuf {
+        BitmapBuf::filled(self.len, |out| {
+            // SAFETY: above; `out` is room for the length.
+            unsafe {
+                declared::row_mask_not(
+                    self.bytes.as_ptr(),
+                    self.bytes.len(),
+                    self.offset,
+                    self.len,
+                    out.as_mut_ptr(),
+                    out.len(),
+                );
+            }
+        })
+    }
+}
+
 impl<'a> IntoIterator for Bitmap<'a> {
     type Item = bool;
     type IntoIter = Values<'a>;
@@ -516,8 +538,22 @@ impl fmt::Display for Bitmap<'_> {
     }
 }
 
+/// The length, how many values are true, and the first values.
 impl fmt::Debug for Bitmap<'_> {
     fn fmt(&self, f: &mut fmt::Formatter<'_>) -> fmt::Result {
-        write!(f, "Bitmap({self})")
+        debug(*self, "Bitmap", f)
     }
+}
+
+// As many values are printed of a bitmap that may have millions.
+const PRINTED: usize = 64;
+
+pub(crate) fn debug(bitmap: Bitmap<'_>, name: &str, f: &mut fmt::Formatter<'_>) -> fmt::Result {
+    let first = Bitmap { len: bitmap.len.min(PRINTED), ..bitmap };
+    let more = if bitmap.len > PRINTED { ".." } else { "" };
+    f.debug_struct(name)
+        .field("len", &bitmap.len)
+        .field("count", &bitmap.count())
+        .field("values", &format_args!("{first}{more}"))
+        .finish()
 }

@@ -3,6 +3,7 @@ use std::fmt;
 
 /// Why a call was refused. Nothing was done.
 #[derive(Debug, Clone, Copy, PartialEq, Eq)]
+#[non_exhaustive]
 pub enum Error {
     /// The `len` bits from bit `offset` on are not within so many bytes.
     OutOfBytes {
@@ -13,7 +14,7 @@ pub enum Error {
         /// How many bits were asked for.
         len: usize,
     },
-    /// Two bitmaps that are joined value by value have two lengths.
+    /// Two bitmaps that are combined value by value have two lengths.
     LengthsDiffer {
         /// The length of the first.
         left: usize,

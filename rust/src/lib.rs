@@ -1,27 +1,10 @@
-//! Bitmaps as Arrow has them, counted, joined, walked, narrowed by other bitmaps and used to choose
-//! rows, by loops that are proved in Rattle and linked as a static library.
-//!
-//! A [`Bitmap`] is borrowed bytes, a bit offset and a length, tested once when it is made. Calls that
-//! make a bitmap give a [`BitmapBuf`].
-//!
-//! ```
-//! use row_mask::Bitmap;
-//!
-//! // A first filter chooses the rows 0, 3, 4, 5 and 7 of eight. A second one ran over these five.
-//! let first = Bitmap::new(&[0b1011_1001], 0, 8)?;
-//! let second = Bitmap::new(&[0b1_0100], 0, 5)?;
-//! let both = first.intersect_by_rank(second)?;
-//! assert_eq!(both.to_string(), "00001001");
-//!
-//! let column = [10, 11, 12, 13, 14, 15, 16, 17];
-//! assert_eq!(both.as_bitmap().choose(&column)?, [14, 17]);
-//! # Ok::<(), row_mask::Error>(())
-//! ```
-//!
-//! What is proved is each loop, from its source: its answer by the list of truth values, and that it
-//! neither reads nor writes outside what it is given. What is not: this crate, which tests what a
-//! loop asks before it calls it; the declarations, which a script makes from the sources of the
-//! loops; and the compilers.
+#![doc = include_str!("../README.md")]
+
+#[cfg(not(any(doc, row_mask_library)))]
+compile_error!(
+    "row-mask has its loops compiled for x86-64 Linux alone: for another target, set ROW_MASK_LIB to a \
+     folder that has libmask_c.a"
+);
 
 #[cfg(not(target_pointer_width = "64"))]
 compile_error!("the loops are compiled for machines of 64 bits");
@@ -38,3 +21,27 @@ pub use buf::BitmapBuf;
 pub use error::Error;
 pub use row::Row;
 pub use walks::{Indices, Runs, Values};
+
+/// The version of the library that is linked, as `10000 * major + 100 * minor + patch`. It is the
+/// crate's own, unless `ROW_MASK_LIB` named another library when the crate was built.
+#[must_use]
+pub fn library_version() -> u32 {
+    // SAFETY: this function asks nothing.
+    unsafe { declared::row_mask_version() }
+}
+
+#[cfg(test)]
+mod tests {
+    /// The library that is linked, the header's macro and the crate are of one version.
+    #[test]
+    fn versions_agree() {
+        let parts: Vec<u32> =
+            env!("CARGO_PKG_VERSION").split('.').map(|it| it.parse().unwrap()).collect();
+        let version = 10_000 * parts[0] + 100 * parts[1] + parts[2];
+        assert_eq!(crate::library_version(), version);
+        let said = format!("\n#define ROW_MASK_VERSION {version}\n");
+        assert!(include_str!("../row_mask.h").contains(&said));
+        let said = format!("\nVersion: {}\n", env!("CARGO_PKG_VERSION"));
+        assert!(include_str!("../row-mask.pc").contains(&said));
+    }
+}

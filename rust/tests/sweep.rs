@@ -55,9 +55,17 @@ impl Comparisons {
 
     #[track_caller]
     fn same_list(&mut self, got: &BitmapBuf, want: &[bool]) {
-        assert!(got.as_bitmap().iter().eq(want.iter().copied()), "{got} for {want:?}");
-        self.0 += 1;
+        assert!(got.iter().eq(want.iter().copied()), "{got} for {want:?}");
+        assert_eq!(got.as_bytes(), packed(want), "{got}");
+        self.0 += 2;
     }
+}
+
+/// Just the bytes that a list takes, with zeros behind it.
+fn packed(list: &[bool]) -> Vec<u8> {
+    let byte =
+        |part: &[bool]| part.iter().rev().fold(0, |byte, value| byte << 1 | u8::from(*value));
+    list.chunks(8).map(byte).collect()
 }
 
 fn indices_of(list: &[bool]) -> Vec<usize> {
@@ -112,8 +120,8 @@ fn reads(seen: &mut Comparisons, random: &mut Generator, list: &[bool], bitmap: 
         let run = runs_of(list).into_iter().find(|run| from < run.end);
         seen.same(bitmap.next_run(from), run.map(|run| run.start.max(from)..run.end));
         let end = from + random.below(len - from + 1);
-        seen.same(bitmap.count_range(from, end), Ok(count_of(&list[from..end])));
-        let part = bitmap.slice(from, end).unwrap();
+        seen.same(bitmap.count_range(from..end), Ok(count_of(&list[from..end])));
+        let part = bitmap.slice(from..end).unwrap();
         seen.same(part.iter().eq(list[from..end].iter().copied()), true);
         seen.same(part.count(), count_of(&list[from..end]));
     }
@@ -138,19 +146,32 @@ fn makes(seen: &mut Comparisons, random: &mut Generator, list: &[bool], bitmap: 
     let bytes = random.packed(&other, offset);
     let second = Bitmap::new(&bytes, offset, list.len()).unwrap();
     let pairs = || list.iter().zip(&other);
-    seen.same_list(
-        &bitmap.and(second).unwrap(),
-        &pairs().map(|(a, b)| *a && *b).collect::<Vec<_>>(),
-    );
-    seen.same_list(
-        &bitmap.or(second).unwrap(),
-        &pairs().map(|(a, b)| *a || *b).collect::<Vec<_>>(),
-    );
-    let left = pairs().map(|(a, b)| *a && !*b).collect::<Vec<_>>();
+    let both: Vec<bool> = pairs().map(|(a, b)| *a && *b).collect();
+    let either: Vec<bool> = pairs().map(|(a, b)| *a || *b).collect();
+    let left: Vec<bool> = pairs().map(|(a, b)| *a && !*b).collect();
+    let negated: Vec<bool> = list.iter().map(|a| !*a).collect();
+    seen.same_list(&bitmap.and(second).unwrap(), &both);
+    seen.same_list(&bitmap.or(second).unwrap(), &either);
     seen.same_list(&bitmap.and_not(second).unwrap(), &left);
-    seen.same_list(&bitmap.not(), &list.iter().map(|a| !*a).collect::<Vec<_>>());
+    seen.same_list(&!bitmap, &negated);
     let copy = bitmap.to_buf();
     seen.same_list(&copy, list);
+    seen.same_list(&!&copy, &negated);
+    seen.same_list(&list.iter().copied().collect(), list);
+    let in_place = |change: fn(&mut BitmapBuf, Bitmap<'_>) -> Result<(), Error>| {
+        let mut changed = bitmap.to_buf();
+        change(&mut changed, second).map(|()| changed).unwrap()
+    };
+    seen.same_list(&in_place(BitmapBuf::and_with), &both);
+    seen.same_list(&in_place(BitmapBuf::or_with), &either);
+    seen.same_list(&in_place(BitmapBuf::and_not_with), &left);
+    let mut turned = bitmap.to_buf();
+    turned.negate();
+    seen.same_list(&turned, &negated);
+    seen.same(bitmap == copy, true);
+    seen.same(PartialEq::<Bitmap<'_>>::eq(&copy, &bitmap), true);
+    seen.same(Bitmap::from(&copy), bitmap);
+    seen.same((&copy).into_iter().eq(list.iter().copied()), true);
     seen.same(bitmap == second, *list == other[..]);
     seen.same(bitmap == copy.as_bitmap(), true);
     if !list.is_empty() {
@@ -231,13 +252,19 @@ fn what_a_call_asks_is_tested() {
     }
     assert_eq!(Bitmap::new(&[], 0, 0).unwrap().count(), 0);
 
+    let start = 3;
     let eight = Bitmap::new(&bytes, 0, 8).unwrap();
     let seven = Bitmap::new(&bytes, 0, 7).unwrap();
     assert_eq!(eight.and(seven), Err(Error::LengthsDiffer { left: 8, right: 7 }));
     assert_ne!(eight, seven);
     assert_eq!(eight.get(8), None);
-    assert_eq!(eight.slice(3, 9).err(), Some(Error::BadRange { start: 3, end: 9, len: 8 }));
-    assert_eq!(eight.count_range(3, 2), Err(Error::BadRange { start: 3, end: 2, len: 8 }));
+    assert_eq!(eight.slice(3..9).err(), Some(Error::BadRange { start: 3, end: 9, len: 8 }));
+    assert_eq!(eight.count_range(start..2), Err(Error::BadRange { start: 3, end: 2, len: 8 }));
+    assert_eq!(eight.slice(..=8).err(), Some(Error::BadRange { start: 0, end: 9, len: 8 }));
+    assert!(eight.slice(..=usize::MAX).is_err());
+    assert_eq!(eight.slice(..=2).unwrap().len(), 3);
+    assert_eq!(eight.slice(..).unwrap(), eight);
+    assert_eq!(eight.to_buf().and_with(seven), Err(Error::LengthsDiffer { left: 8, right: 7 }));
     assert_eq!(eight.intersect_by_rank(seven), Err(Error::RanksDiffer { ranks: 7, count: 5 }));
     assert_eq!(eight.intersect_at_ranks(&[0, 2, 2]), Err(Error::UnsortedRanks { at: 2 }));
     assert_eq!(
@@ -252,8 +279,16 @@ fn what_a_call_asks_is_tested() {
 #[test]
 fn texts() {
     let bitmap = Bitmap::new(&[0b0011_0010], 1, 6).unwrap();
-    assert_eq!(format!("{bitmap}|{bitmap:>8}|{bitmap:?}"), "100110|  100110|Bitmap(100110)");
-    assert_eq!(format!("{:?}", bitmap.to_buf()), "BitmapBuf(100110)");
+    assert_eq!(format!("{bitmap}|{bitmap:>8}"), "100110|  100110");
+    let said = "{ len: 6, count: 3, values: 100110 }";
+    assert_eq!(format!("{bitmap:?}"), format!("Bitmap {said}"));
+    assert_eq!(format!("{:?}", bitmap.to_buf()), format!("BitmapBuf {said}"));
+    let long: BitmapBuf = (0..1000).map(|i| i == 1 || i == 999).collect();
+    let values = format!("01{}..", "0".repeat(62));
+    assert_eq!(
+        format!("{long:?}"),
+        format!("BitmapBuf {{ len: 1000, count: 2, values: {values} }}")
+    );
     let refused = bitmap.choose(&[0]).unwrap_err();
     assert_eq!(refused.to_string(), "there are 1 rows, and 6 values");
     let refused = Bitmap::new(&[0], 4, 5).unwrap_err();

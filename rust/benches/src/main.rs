@@ -1,4 +1,4 @@
-//! Times this crate beside what else a user may take, and prints a table: `cargo bench --offline`.
+//! Times `row-mask` beside what else a user may take, and prints a table: `cargo run --release` in this folder.
 //!
 //! `words` is the loop over a `Vec<u64>` that one writes by hand, and `bools` the one over a
 //! `Vec<bool>`. With `--features roaring` and `--features fixedbitset` it times these too, where
