@@ -10,17 +10,14 @@ const LIBRARY: &str = "libmask_c.a";
 const V3: [&str; 7] = ["avx2", "bmi1", "bmi2", "f16c", "fma", "lzcnt", "movbe"];
 
 fn main() {
-    println!("cargo::rerun-if-changed=build.rs");
+    // (asked for when this runs: what `env!` gives is part of the program, which other checkouts share)
+    let package = PathBuf::from(set("CARGO_MANIFEST_DIR"));
+    // (by its whole path: then cargo takes this run for none of another checkout with the same target folder)
+    println!("cargo::rerun-if-changed={}", package.join("build.rs").display());
     println!("cargo::rerun-if-env-changed=ROW_MASK_LIB");
     println!("cargo::rerun-if-env-changed=DOCS_RS");
     println!("cargo::rustc-check-cfg=cfg(row_mask_library)");
-    // (asked for when this runs: what `env!` gives is part of the program, which other checkouts share)
-    let package = PathBuf::from(set("CARGO_MANIFEST_DIR"));
     println!("cargo::metadata=include={}", package.display());
-    if package.join("../crates/mask_c").exists() {
-        // checkouts may share a target folder, and cargo would take this one's answer for another's
-        println!("cargo::rerun-if-env-changed=PWD");
-    }
     if env::var_os("DOCS_RS").is_some() {
         println!("cargo::rustc-cfg=row_mask_library");
     } else if let Some(folder) = folder(&package) {

@@ -167,14 +167,17 @@ static void reads(const bitmap *b) {
 
 static void counts(const bitmap *b, room indices_room, room out_room) {
     size_t *indices, *out, i, many = b->len / 3 + 1;
+    int place;
 
     indices = (size_t *)(void *)indices_room.end - many;
-    out = (size_t *)(void *)out_room.end - many;
     for (i = 0; i < many; i++)
         indices[i] = i + 1 == many ? b->len : 2 * i;
-    row_mask_counts_below(WHOLE(b), indices, many, out, many);
-    for (i = 0; i < many; i++)
-        same(out[i], count_to(b, indices[i]), "counts_below");
+    for (place = FIRST; place <= LAST; place++) {
+        out = (size_t *)(void *)marked(out_room, place, many * sizeof *out);
+        row_mask_counts_below(WHOLE(b), indices, many, out, many);
+        for (i = 0; i < many; i++)
+            same(out[i], count_to(b, indices[i]), "counts_below");
+    }
 }
 
 static void walks(const bitmap *b, room out_room) {
@@ -182,7 +185,7 @@ static void walks(const bitmap *b, room out_room) {
 
     for (i = 0; i < sizeof sizes / sizeof *sizes; i++)
         for (from = 0; from <= b->len; from += 1 + b->len / 3) {
-            size_t *out = (size_t *)(void *)out_room.end - sizes[i];
+            size_t *out = (size_t *)(void *)marked(out_room, from % 2 ? FIRST : LAST, sizes[i] * sizeof *out);
             size_t at = from;
             found = row_mask_next_indices(WHOLE(b), from, out, sizes[i]);
             for (room = 0; room < found; room++) {
