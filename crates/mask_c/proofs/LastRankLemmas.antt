@@ -1,8 +1,9 @@
 -- The ranks of the last values of a bitmap, as set bits.
-use Rattle.std.proofs.Common.{◌≡◌, ℕ, zero, suc, ◌+◌, ◌-◌, ◌*◌, ◌/◌, ◌%◌, ◌<◌, ◌≤◌, ◌^◌, ◌||◌, Bool, true, false, nat_eq, List, ◌∷◌, ◌++◌, length, get_or, take, drop, refl, sym, subst, ap, ap₂, ◌∙◌, inl, inr, arith}
+use Rattle.std.proofs.Common.{◌≡◌, ℕ, zero, suc, ◌+◌, ◌-◌, ◌*◌, ◌/◌, ◌%◌, ◌<◌, ◌≤◌, ◌^◌, ◌||◌, Bool, true, false, nat_eq, List, ◌∷◌, ◌++◌, length, get_or, take, drop, refl, sym, subst, ap, ap₂, ◌∙◌, inl, inr, arith, mod-eq_of_lt}
 use Rattle.std.specs.Int.RustNames.{bit_or}
 use Rattle.std.specs.List.{All, list_any}
 use Rattle.std.specs.List.Sorted.{IsStrictlyIncreasing}
+use Rattle.std.proofs.Math.Pow.{pow-lt}
 use Rattle.std.proofs.lemmas.Bool.{cases_lt, cases_eq, eq-eqb, ne_eqb}
 use Rattle.std.proofs.lemmas.List.{drop_more, ext_get_or, get_or-drop, get_or-take, get_or_append_left, get_or-append_right, length-append, length-drop, length-take, take-append-drop, take_all}
 use Rattle.std.proofs.lemmas.List.Elements.{All-from_get_or}
@@ -11,12 +12,12 @@ use Rattle.std.proofs.lemmas.List.FromFn.{get_or-map-range_with_len}
 use Rattle.std.proofs.lemmas.Nat.Bits.{bit_at-zero, bit_at-pow_same, bit_at-pow_other}
 use Rattle.mask_bits.specs.Positions.{at_indices, count, positions, rank_intersection, true_at}
 use Rattle.mask_bits.specs.Words.{word_bits}
+use Rattle.mask_bits.proofs.Lists.Places.AscendingLemmas.{positions-true_at}
 use Rattle.mask_bits.proofs.Lists.RankLemmas.{length-true_at}
 use Rattle.mask_bits.proofs.Lists.Words.BackingBitLemmas.{length-bits_at}
 use Rattle.mask_bits.proofs.Lists.Words.ShiftLemmas.{get_or-word_bits_or}
 use Rattle.mask_bits.proofs.Lists.Words.WordLemmas.{get_or-word_bits}
 use Rattle.vortex_mask.specs.Ranks.{AreSplit}
-use Rattle.vortex_mask.proofs.Masks.PlaceListLemmas.{narrowed_at}
 use Rattle.mask_c.specs.Bitmap.{bitmap}
 use Rattle.mask_c.proofs.LastLemmas.{bitmap-split, count-split, front-appended, front-split, rank_intersection-append}
 
@@ -33,6 +34,15 @@ gathered-none ranks from = record {
   set = λ j h. get_or-word_bits 0 j false h ∙ ap (λ x. nat_eq x 1) (bit_at-zero j)
       ∙ sym (list_any_none (nat_eq (from + j)) (drop (length ranks) ranks) (All-from_get_or (λ x. nat_eq (from + j) x ≡ false) (drop (length ranks) ranks) 0 (λ i inside. absurd (omega (arith, length-drop (length ranks) ranks)))));
 }
+
+-- a list narrowed at ascending ranks is the one that is true at its indices of these ranks
+narrowed_at : (a : List Bool) (ranks : List ℕ) → IsStrictlyIncreasing ranks → All (λ k. k < count a) ranks → rank_intersection a (true_at (count a) ranks) ≡ true_at (length a) (at_indices (positions a) ranks)
+narrowed_at a ranks ascending within =
+    ap (λ (ps : List ℕ). true_at (length a) (at_indices (positions a) ps)) (positions-true_at (count a) ranks ascending within)
+
+-- a bit that is shifted within a word stays in it
+pub pow_in_word : (d : ℕ) → d < 64 → 1 * 2 ^ d % 2 ^ 64 ≡ 2 ^ d
+pow_in_word d few = let small : 2 ^ d < 2 ^ 64 = pow-lt few in omega (arith, mod-eq_of_lt small)
 
 -- the one bit of a power of two
 bit_of_pow : (from x j : ℕ) → from ≤ x → j < 64 → get_or (word_bits (2 ^ (x - from))) j false ≡ nat_eq (from + j) x

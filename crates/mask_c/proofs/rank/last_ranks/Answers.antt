@@ -1,6 +1,5 @@
 use Rattle.std.proofs.Common.{◌-◌, ◌<◌, get_or, length, arith}
-use Rattle.vortex_mask.proofs.Kernels.RankWordLemmas.{pow_in_word}
-use Rattle.mask_c.proofs.LastRankLemmas.{gathered-none, gathered-more, gathered-split, gathered-bits}
+use Rattle.mask_c.proofs.LastRankLemmas.{pow_in_word, gathered-none, gathered-more, gathered-split, gathered-bits}
 use Rattle.mask_c.proofs.rank.last_ranks.Goals as goal
 
 pub loop-cut-init : goal.loop-cut-init
