@@ -132,7 +132,9 @@ type Change = unsafe extern "C" fn(*mut u8, usize, *const u8, usize, usize, usiz
 
 impl FromIterator<bool> for BitmapBuf {
     fn from_iter<I: IntoIterator<Item = bool>>(values: I) -> BitmapBuf {
-        let (mut bytes, mut len) = (Vec::new(), 0);
+        let values = values.into_iter();
+        let mut bytes = Vec::with_capacity(values.size_hint().0.div_ceil(8));
+        let mut len = 0;
         for value in values {
             if len % 8 == 0 {
                 bytes.push(0);
