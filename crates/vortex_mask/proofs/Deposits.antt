@@ -4,5 +4,6 @@ pub mod ByteLemmas
 pub mod DepositLawLemmas
 pub mod DepositLemmas
 pub mod HoleLemmas
+pub mod LaneLemmas
 pub mod NetworkLemmas
 pub mod SetPlaceLemmas

@@ -1,5 +1,5 @@
 -- The byte-wise deposit network, one byte at a time: what each step computes, and what stands where after it.
-use Rattle.std.specs.Prelude.{ℕ, zero, suc, ◌<◌, ◌+◌, ◌-◌, ◌*◌, ◌/◌, ◌%◌, ◌^◌, nat_eq, if◌then◌else◌, bit_and, bit_or, bit_xor, sum_by}
+use Rattle.std.specs.Prelude.{ℕ, List, zero, suc, length, slice_index, ◌≡◌, ◌<◌, ◌+◌, ◌-◌, ◌*◌, ◌/◌, ◌%◌, ◌^◌, nat_eq, if◌then◌else◌, bit_and, bit_or, bit_xor, sum_by}
 use Rattle.std.specs.Int.{bit_at}
 use Rattle.std.specs.List.{range_with_len}
 
@@ -7,13 +7,18 @@ use Rattle.std.specs.List.{range_with_len}
 unfoldable pub byte_at : ℕ → ℕ → ℕ
 byte_at w j = w / 2 ^ (8 * j) % 2 ^ 8
 
--- what holds of each byte of a word
-abbrev pub EachByte : (ℕ → Type 0) → Type 0
-EachByte P = (j : ℕ) → j < 8 → P j
+-- byte j of two words: those of the first one, and from j = 8 on those of the second
+abbrev pub byte_of_two : List ℕ → ℕ → ℕ
+byte_of_two words j = byte_at (slice_index words (j / 8)) (j % 8)
 
--- the lower halves of fields, and the upper ones moved onto them by their width, summed: lower has all bits of the lower halves
-abbrev pub halves_summed : ℕ → ℕ → ℕ → ℕ
-halves_summed width lower b = bit_and b lower + bit_and (b / 2 ^ width) lower
+-- what holds of each byte of two words
+abbrev pub EachLane : (ℕ → Type 0) → Type 0
+EachLane P = (j : ℕ) → j < 16 → P j
+
+-- v has a lane for each byte of two words, and lane j holds f j
+pub record HasLanes (v : List ℕ) (f : ℕ → ℕ) : Type 0 where
+  pub lanes : length v ≡ 16
+  pub each : EachLane (λ j. slice_index v j ≡ f j)
 
 -- ---- where the bits of a mask byte stand
 

@@ -1,12 +1,12 @@
 -- The counts of set bits in each byte and below it, and what they say of places in the bytes.
-use Rattle.std.proofs.Common.{eqb, eqb→eq, ◌≡◌, ℕ, zero, suc, ◌+◌, ◌-◌, ◌*◌, ◌/◌, ◌%◌, ◌^◌, ◌<◌, ◌≤◌, ◌⊎◌, inl, inr, sym, ap, ap₂, ◌∙◌, arith, bit_and, count_ones, add_comm, pow_mono, mod-lt, add-zero, zero-add, min}
+use Rattle.std.proofs.Common.{eqb, eqb→eq, ◌≡◌, ℕ, zero, suc, ◌+◌, ◌-◌, ◌*◌, ◌/◌, ◌%◌, ◌^◌, ◌<◌, ◌≤◌, ◌⊎◌, inl, inr, sym, ap, ap₂, ◌∙◌, arith, bit_and, count_ones, add_comm, mod-lt, add-zero, zero-add, min}
 use Rattle.std.specs.Int.{bit_at}
-use Rattle.std.proofs.lemmas.Nat.{pow_pos, shr-shr, and_mask, and_le_r, one_shl, ones_cat, mod-pow-add}
+use Rattle.std.proofs.lemmas.Nat.{pow_pos, shr-shr, and_mask, one_shl, ones_cat, mod-pow-add}
 use Rattle.std.proofs.lemmas.Bool.{cases_lt}
-use Rattle.vortex_mask.specs.Bytes.{byte_at, EachByte, halves_summed}
+use Rattle.vortex_mask.specs.Bytes.{byte_at}
 use Rattle.mask_bits.proofs.Lists.Words.WordLemmas.{ones_below-more}
 use Rattle.vortex_mask.specs.Deposit.{Deposits}
-use Rattle.vortex_mask.proofs.Deposits.ByteLemmas.{byte_at-zero, byte_at-suc, byte_at_and, byte_at_add, byte_at-low, byte_at_shr, bit_at_byte}
+use Rattle.vortex_mask.proofs.Deposits.ByteLemmas.{byte_at-zero, byte_at-suc, byte_at_add, byte_at-low, bit_at_byte}
 use Rattle.vortex_mask.proofs.Deposits.DepositLemmas.{deposit, bit_at-deposit, Deposits-from_bits}
 use Rattle.vortex_mask.proofs.Deposits.NetworkLemmas.{every_below}
 use Rattle.vortex_mask.proofs.Deposits.SetPlaceLemmas.{ones_below, ones_below-zero, ones_below-le}
@@ -18,7 +18,7 @@ pub ones_below-next : (w i k : ℕ) → ones_below w (i + k) ≡ ones_below w i 
 ones_below-next w i k =
     ap (λ n. count_ones (w % 2 ^ n)) (add_comm i k) ∙ ap count_ones (mod-pow-add w k i) ∙ ones_cat i _ _ (mod-lt w (pow_pos i)) ∙ add_comm _ _
 
-ones_below-byte : (w j : ℕ) → ones_below w (8 * suc j) ≡ ones_below w (8 * j) + count_ones (byte_at w j)
+pub ones_below-byte : (w j : ℕ) → ones_below w (8 * suc j) ≡ ones_below w (8 * j) + count_ones (byte_at w j)
 unfolding byte_at
 ones_below-byte w j = let e : 8 * suc j ≡ 8 * j + 8 = omega arith in ap (ones_below w) e ∙ ones_below-next w (8 * j) 8
 
@@ -52,20 +52,6 @@ summed_is x w (suc j) counts h i l = by (λ v. summed_is x w j counts (omega ari
         ap (byte_at (summed x)) e ∙ byte_at_up (x * 0x0101010101010101 % 2 ^ 64) j (omega arith) ∙ ap (λ v. byte_at v j) (summed_again x)
         ∙ byte_at-low 8 (summed x + x) j (omega arith) ∙ byte_at_add (summed x) x j room ∙ next j (omega arith) ∙ ap (λ v. ones_below w (8 * v)) (sym e)
 
--- ---- the counts in each byte, as the code sums them
-
--- so few bits stay below half a byte
-pub half_small : (c s : ℕ) → 0 < s → c < 2 ^ (8 - s) → c < 128
-half_small c s some h = omega (arith, pow_mono {i = 8 - s} {j = 7} (omega arith))
-
-pub halves_at : (x w c s j : ℕ) → 0 < s → s < 8 → c < 2 ^ (8 - s) → EachByte (λ i. byte_at w i ≡ c) → j < 8
-    → byte_at (bit_and x w + bit_and (x / 2 ^ s) w) j ≡ halves_summed s c (byte_at x j)
-halves_at x w c s j some inside few each h =
-    let lower : (i : ℕ) → i < 8 → byte_at (bit_and x w) i ≡ bit_and (byte_at x i) c = λ i l. byte_at_and x w i ∙ ap (bit_and (byte_at x i)) (each i l) in
-    let upper : (i : ℕ) → i < 8 → byte_at (bit_and (x / 2 ^ s) w) i ≡ bit_and (byte_at x i / 2 ^ s) c = λ i l. byte_at_shr (8 - s) s x w c i (omega arith) few (each i l) in
-    byte_at_add _ _ j (λ i l. omega (arith, lower i (omega arith), upper i (omega arith), and_le_r (byte_at x i) c, and_le_r (byte_at x i / 2 ^ s) c, half_small c s some few))
-    ∙ ap₂ (λ a b. a + b) (lower j h) (upper j h)
-
 -- ---- a deposit by its bytes
 
 -- the set bits below place t of byte j
@@ -79,7 +65,7 @@ ones_below-in_byte w j (suc t) h =
 bit_at-low : (y n : ℕ) → n < 8 → bit_at (y % 2 ^ 8) n ≡ bit_at y n
 bit_at-low y n h = ap (λ v. bit_at v n) (sym (byte_at-zero y)) ∙ sym (bit_at_byte y 0 n h) ∙ ap (bit_at y) (zero-add n)
 
-pub Deposits-from_bytes : (s m r : ℕ) → EachByte (λ j. byte_at r j ≡ deposit 8 (s / 2 ^ ones_below m (8 * j) % 2 ^ 8) (byte_at m j)) → Deposits s m r
+pub Deposits-from_bytes : (s m r : ℕ) → ((j : ℕ) → j < 8 → byte_at r j ≡ deposit 8 (s / 2 ^ ones_below m (8 * j) % 2 ^ 8) (byte_at m j)) → Deposits s m r
 Deposits-from_bytes s m r h = Deposits-from_bits s m r (λ i inside.
     let j = i / 8 in
     let t = i % 8 in

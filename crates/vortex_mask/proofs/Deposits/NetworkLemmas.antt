@@ -3,7 +3,7 @@ use Rattle.std.proofs.Common.{◌≡◌, ℕ, zero, suc, ◌+◌, ◌-◌, ◌*�
 use Rattle.std.proofs.lemmas.Nat.{ones-le, one_shl, pow_below, pow_pos, and_mask}
 use lib.Count.{ones_step}
 use lib.Pow.{field, mod-mod-pow}
-use Rattle.vortex_mask.specs.Bytes.{halves_summed, clear_below, place_after, packed_after, landed_in, odd_places, moved_down, with_moved, halved, zeros_before, moved_up}
+use Rattle.vortex_mask.specs.Bytes.{clear_below, place_after, packed_after, landed_in, odd_places, moved_down, with_moved, halved, zeros_before, moved_up}
 use Rattle.vortex_mask.proofs.Deposits.DepositLemmas.{deposit, deposit-odd, deposit-even}
 use Rattle.vortex_mask.proofs.Deposits.SetPlaceLemmas.{parity}
 
@@ -34,24 +34,7 @@ agree : (n : ℕ) (f g : ℕ → ℕ → ℕ) (s b : ℕ) → T (all_below (λ t
 agree n f g s b h hs hb =
     eqb→eq _ _ (every_below (λ x. eqb (f s x) (g s x)) 256 (every_below (λ t. all_below (λ x. eqb (f t x) (g t x)) 256) n h s hs) b hb)
 
--- ---- what a shift leaves of a byte
-
--- shifted down it is within what `255 >> s` keeps
-pub kept_down : (s b : ℕ) → s < 8 → b < 256 → bit_and (b / 2 ^ s) (255 / 2 ^ s) ≡ b / 2 ^ s
-kept_down s b hs hb = agree 8 (λ t x. bit_and (x / 2 ^ t) (255 / 2 ^ t)) (λ t x. x / 2 ^ t) s b tt hs hb
-
--- and shifted up within what `255 << s` keeps
-pub kept_up : (s b : ℕ) → s < 8 → b < 256 → bit_and (b * 2 ^ s % 2 ^ 8) (255 * 2 ^ s % 2 ^ 8) ≡ b * 2 ^ s % 2 ^ 8
-kept_up s b hs hb = agree 8 (λ t x. bit_and (x * 2 ^ t % 2 ^ 8) (255 * 2 ^ t % 2 ^ 8)) (λ t x. x * 2 ^ t % 2 ^ 8) s b tt hs hb
-
--- `255 << s` has no bit below s
-low_clear : T (all_below (λ s. eqb (255 * 2 ^ s % 2 ^ 8 % 2 ^ s) 0) 8)
-low_clear = tt
-
-pub none_low : (s : ℕ) → s < 8 → 255 * 2 ^ s % 2 ^ 8 % 2 ^ s ≡ 0
-none_low s h = eqb→eq _ _ (every_below (λ i. eqb (255 * 2 ^ i % 2 ^ 8 % 2 ^ i) 0) 8 low_clear s h)
-
--- ---- the count of a byte's set bits, by halves
+-- ---- the count of a byte's set bits
 
 -- the set bits among the k lowest
 unfoldable ones_among : ℕ → ℕ → ℕ
@@ -62,17 +45,6 @@ ones_among-is : (k n : ℕ) → n < 2 ^ k → ones_among k n ≡ count_ones n
 unfolding ones_among
 ones_among-is zero n h = omega (arith, ones-le 0 n h)
 ones_among-is (suc k) n h = omega (arith, ones_step n, ones_among-is k (n / 2) (omega (arith, pow-suc 2 k)))
-
--- the byte's bits, summed by two, by four and by eight
-abbrev halved_thrice : ℕ → ℕ
-halved_thrice b = halves_summed 4 0x0F (halves_summed 2 0x33 (halves_summed 1 0x55 b))
-
-counted : T (all_below (λ b. eqb (halved_thrice b) (ones_among 8 b)) 256)
-unfolding ones_among
-counted = tt
-
-pub count_by_halves : (b : ℕ) → b < 256 → halves_summed 4 0x0F (halves_summed 2 0x33 (halves_summed 1 0x55 b)) ≡ count_ones b
-count_by_halves b h = eqb→eq _ _ (every_below (λ x. eqb (halved_thrice x) (ones_among 8 x)) 256 counted b h) ∙ ones_among-is 8 b h
 
 -- ---- the parity of the zeros, by doublings
 
@@ -101,8 +73,8 @@ pub doubled-is : (s b : ℕ) → s < 3 → b < 256 → doubled (3 - s) s b ≡ o
 doubled-is s b hs hb = agree 3 (λ t x. doubled (3 - t) t x) (λ t x. odd_places (2 ^ t) x) s b parities hs hb
 
 -- the code's `1 << s`
-pub shift_is : (s : ℕ) → s < 3 → 1 * 2 ^ s % 2 ^ 32 ≡ 2 ^ s
-shift_is s h = one_shl s 32 (omega arith)
+pub shift_is : (s : ℕ) → s < 3 → 1 * 2 ^ s % 2 ^ 8 ≡ 2 ^ s
+shift_is s h = one_shl s 8 (omega arith)
 
 pub shift_small : (s : ℕ) → s < 3 → 2 ^ s < 8
 shift_small s h = pow_below s 3 h
@@ -206,3 +178,10 @@ moved_back m b hm =
     ap (λ x. moved_up 1 (landed_in 0 m) (moved_up 2 (landed_in 1 m) (moved_up 4 (landed_in 2 m) x))) taken
     ∙ eqb→eq _ _ (every_below (λ x. eqb (back_by (landed_in 0 m) (landed_in 1 m) (landed_in 2 m) x) (deposit 8 x m)) (packed_after 3 m + 1) (every_below table 256 computed m hm) (b % 2 ^ n) fits)
     ∙ deposit-taken 8 b m
+
+-- a mask's deposit is decided by as many low bits as it has set
+pub deposit_alike : (a b m : ℕ) → m < 256 → a % 2 ^ count_ones m ≡ b % 2 ^ count_ones m → deposit 8 a m ≡ deposit 8 b m
+deposit_alike a b m h e =
+    let n = ones_among-is 8 m h in
+    let taken : (x : ℕ) → deposit 8 (x % 2 ^ count_ones m) m ≡ deposit 8 x m = λ x. ap (λ k. deposit 8 (x % 2 ^ k) m) (sym n) ∙ deposit-taken 8 x m in
+    sym (taken a) ∙ ap (λ x. deposit 8 x m) e ∙ taken b

@@ -1,10 +1,28 @@
-//! A deposit that works on the eight bytes of a word at once, with no branch: the network of the
-//! Rust crate.
+//! Deposits that work on the sixteen bytes of two words at once, with no branch: the network of the
+//! Rust crate, with a lane of a vector for each byte.
+//!
+//! ```text
+//!  lane  15 14 13 12 11 10  9  8 | 7 6 5 4 3 2 1 0
+//!           the second word      |  the first word
+//!  base   8  8  8  8  8  8  8  8 | 0 0 0 0 0 0 0 0
+//! ```
 //!
 //! The set places of a mask byte take that many source bits, from the one on whose number is the
-//! count of mask bits in all lower bytes. These bits come in as the byte's lowest ones, and each
-//! has to move up by the number of clear places below its set place. That number is below 8, so
-//! three moves do: by 4, by 2 and by 1, each where that bit of the number is set.
+//! count of mask bits in all lower bytes of its word. These bits lie in two neighboring bytes of the
+//! source: with 21 mask bits below they begin at bit 5 of byte 2. So each lane fetches the lane of
+//! its base and 2, and the next one, and takes eight bits of both from bit 5 on:
+//!
+//! ```text
+//!         byte 3            byte 2
+//!  . . . h g f e d | c b a . . . . .      the lane holds h g f e d c b a
+//! ```
+//!
+//! Behind the last byte of a word another one's is fetched. But a mask byte uses no more bits than
+//! it has, so none past the 64 of the source.
+//!
+//! These bits come in as the byte's lowest ones, and each has to move up by the number of clear
+//! places below its set place. That number is below 8, so three moves do: by 4, by 2 and by 1, each
+//! where that bit of the number is set.
 //!
 //! Which bits have to move is found the other way round, by moving the mask's own bits down to
 //! the low end of their byte, by 1, by 2 and by 4, and noting after each stage where the moved
@@ -19,139 +37,139 @@
 //! stage 2, by 4  . . . . 1 1 1 1   3        from 7, with 4 below
 //! ```
 
-ghost use Rattle.std.specs.Prelude.{◌≡◌, ◌+◌, ◌-◌, ◌*◌, ◌/◌, ◌%◌, ◌^◌, ◌<◌, bit_xor, count_ones};
+ghost use Rattle.std.specs.Prelude.{◌≡◌, ℕ, ◌+◌, ◌-◌, ◌*◌, ◌/◌, ◌%◌, ◌^◌, ◌<◌, ◌≤◌, slice_index, length, count_ones};
 ghost use Rattle.mask_bits.specs.Positions.{count_below};
 ghost use Rattle.mask_bits.specs.Words.{word_bits};
-ghost use Rattle.vortex_mask.specs.Bytes.{byte_at, EachByte, packed_after, landed_in, odd_places, moved_down, with_moved, halved, moved_up, halves_summed};
+ghost use Rattle.vortex_mask.specs.Bytes.{EachLane, HasLanes, byte_of_two, packed_after, landed_in, odd_places, moved_down, with_moved, halved, moved_up};
 ghost use Rattle.vortex_mask.specs.Deposit.{Deposits};
 
+use std::simd::prelude::*;
+
 /// The deposit at any mask, by a network over its eight bytes at once. It takes about as long at
-/// each mask: some hundred word operations.
-// Inlined, so that a kernel's loop loads the constants of the network once.
+/// each mask, and as long as two deposits by [`deposit_two_bytewise`].
 #[inline(always)]
 pub fn deposit_bytewise(source: u64, mask: u64) -> u64
     ensures { Deposits source mask result }
 {
-    let packing = compress(mask);
-    let word = gather(source, counts_below(mask)) & packing.packed;
-    let word = move_up(word, packing.landed_2, 2);
-    let word = move_up(word, packing.landed_1, 1);
-    move_up(word, packing.landed_0, 0)
+    deposit_two_bytewise([source, 0], [mask, 0])[0]
 }
 
-// The word whose eight bytes are all `b`.
-const fn bytes(b: u8) -> u64
-    ensures value { result ≡ b * 0x0101010101010101 }
-    ensures each { EachByte (λ j. byte_at result j ≡ b) }
+/// The deposits of two words at any masks, by a network over their sixteen bytes at once.
+// Inlined, so that a kernel's loop loads the constants of the network once.
+#[inline(always)]
+pub(super) fn deposit_two_bytewise(sources: [u64; 2], masks: [u64; 2]) -> [u64; 2]
+    ensures first { Deposits (slice_index sources 0) (slice_index masks 0) (slice_index result 0) }
+    ensures second { Deposits (slice_index sources 1) (slice_index masks 1) (slice_index result 1) }
 {
-    b as u64 * 0x0101_0101_0101_0101
+    let masks = u64x2::from_array(masks);
+    let packing = compress(bytes_of(masks));
+    let bits = gather(u64x2::from_array(sources), counts_below(masks));
+    let lanes = move_up(bits & packing.packed, packing.landed_2, 2);
+    let lanes = move_up(lanes, packing.landed_1, 1);
+    words_of(move_up(lanes, packing.landed_0, 0)).to_array()
 }
 
-// In each byte, the number of its set bits: each field of two bits, of four and then of eight sums
-// its two halves, and starts from single bits.
-fn byte_counts(mask: u64) -> u64
-    ensures { EachByte (λ j. byte_at result j ≡ count_ones (byte_at mask j)) }
+// The bytes of two words as lanes.
+#[inline(always)]
+fn bytes_of(words: u64x2) -> u8x16
+    ensures { HasLanes result (byte_of_two words) }
 {
-    let of_two = sum_halves(mask, 1, 0b0101_0101);
-    let of_four = sum_halves(of_two, 2, 0b0011_0011);
-    sum_halves(of_four, 4, 0b0000_1111)
+    words.to_le_bytes()
 }
 
-// In each byte, the sums of the two halves of each field: a half has `width` bits, and `lower` all
-// those of the lower halves.
-fn sum_halves(fields: u64, width: u32, lower: u8) -> u64
-    requires some { 0 < width }
-    requires inside { width < 8 }
-    requires lower { lower < 2 ^ (8 - width) }
-    ensures { EachByte (λ j. byte_at result j ≡ halves_summed width lower (byte_at fields j)) }
+// The words whose bytes the lanes are.
+#[inline(always)]
+fn words_of(lanes: u8x16) -> u64x2
+    ensures words { length result ≡ 2 }
+    ensures bytes { EachLane (λ j. byte_of_two result j ≡ slice_index lanes j) }
 {
-    let lower = bytes(lower);
-    (fields & lower) + ((fields >> width) & lower)
+    u64x2::from_le_bytes(lanes)
 }
 
-// In each byte, the number of set bits in all lower bytes: at most 56, so that no sum in the
-// product carries into the next byte.
-fn counts_below(mask: u64) -> u64
-    ensures counted { EachByte (λ j. byte_at result j ≡ count_below (word_bits mask) (8 * j)) }
-    ensures few { EachByte (λ j. byte_at result j < 64) }
+// In each lane, the number of set bits in all lower bytes of its word.
+#[inline(always)]
+fn counts_below(masks: u64x2) -> u8x16
+    ensures { HasLanes result
+        (λ j. count_below (word_bits (slice_index masks (j / 8))) (8 * (j % 8))) }
 {
-    byte_counts(mask).wrapping_mul(bytes(1)) << 8
+    bytes_of(sums_below(words_of(bytes_of(masks).count_ones())))
 }
 
-// `word >> step`, within each byte.
-fn shift_down(word: u64, step: u32) -> u64
-    requires { step < 8 }
-    ensures { EachByte (λ j. byte_at result j ≡ byte_at word j / 2 ^ step) }
+// Of each word, the sums of all lower bytes, in each byte: of one lower byte, of two, of four and
+// then of all.
+#[inline(always)]
+fn sums_below(words: u64x2) -> u64x2
+    ensures sums { (w : ℕ) → w < 2 → slice_index result w
+        ≡ slice_index words w * 0x0101010101010101 % 2 ^ 64 * 2 ^ 8 % 2 ^ 64 }
 {
-    (word >> step) & bytes(0xFF >> step)
+    let sums = words << u64x2::splat(8);
+    let sums = sums + (sums << u64x2::splat(8));
+    let sums = sums + (sums << u64x2::splat(16));
+    sums + (sums << u64x2::splat(32))
 }
 
-// `word ^ (word << step)`, within each byte.
-fn xor_up(word: u64, step: u32) -> u64
-    requires { step < 8 }
-    ensures { EachByte (λ j. byte_at result j ≡ bit_xor (byte_at word j) (byte_at word j * 2 ^ step % 2 ^ 8)) }
-{
-    word ^ ((word << step) & bytes(0xFF << step))
-}
-
-// In each byte, the places at which an odd number of zeros have been passed, where the zeros
+// In each lane, the places at which an odd number of zeros have been passed, where the zeros
 // stand in groups of `2 ^ stage` and only one place of each group is looked at.
-fn odd_zeros(zeros: u64, stage: u32) -> u64
+#[inline(always)]
+fn odd_zeros(zeros: u8x16, stage: u8) -> u8x16
     requires { stage < 3 }
-    ensures { EachByte (λ j. byte_at result j ≡ odd_places (2 ^ stage) (byte_at zeros j)) }
+    ensures { HasLanes result (λ j. odd_places (2 ^ stage) (slice_index zeros j)) }
 {
     let mut parity = zeros;
     for doubling in stage..3 {
-        parity = xor_up(parity, 1 << doubling);
+        parity ^= parity << u8x16::splat(1 << doubling);
     }
     parity
 }
 
 #[derive(Clone, Copy)]
 struct Stage {
-    packed: u64,
-    zeros: u64,
-    landed: u64,
+    packed: u8x16,
+    zeros: u8x16,
+    landed: u8x16,
 }
 
 // Moves down by `2 ^ stage` the packed bits that have an odd number of zeros below them, and
 // keeps every second zero for the stages after this one.
-fn run_stage(packed: u64, zeros: u64, stage: u32) -> Stage
+#[inline(always)]
+fn run_stage(packed: u8x16, zeros: u8x16, stage: u8) -> Stage
     requires { stage < 3 }
-    ensures landed { EachByte (λ j. byte_at result.landed j
-        ≡ moved_down (2 ^ stage) (byte_at packed j) (odd_places (2 ^ stage) (byte_at zeros j))) }
-    ensures packed { EachByte (λ j. byte_at result.packed j
-        ≡ with_moved (2 ^ stage) (byte_at packed j) (odd_places (2 ^ stage) (byte_at zeros j))) }
-    ensures zeros { EachByte (λ j. byte_at result.zeros j
-        ≡ halved (2 ^ stage) (byte_at zeros j) (odd_places (2 ^ stage) (byte_at zeros j))) }
+    ensures landed { HasLanes result.landed (λ j.
+        moved_down (2 ^ stage) (slice_index packed j) (odd_places (2 ^ stage) (slice_index zeros j))) }
+    ensures packed { HasLanes result.packed (λ j.
+        with_moved (2 ^ stage) (slice_index packed j) (odd_places (2 ^ stage) (slice_index zeros j))) }
+    ensures zeros { HasLanes result.zeros (λ j.
+        halved (2 ^ stage) (slice_index zeros j) (odd_places (2 ^ stage) (slice_index zeros j))) }
 {
+    let step = u8x16::splat(1 << stage);
     let odd = odd_zeros(zeros, stage);
     let moving = packed & odd;
-    let landed = shift_down(moving, 1 << stage);
+    let landed = moving >> step;
     let even = zeros & !odd;
     Stage {
         packed: packed ^ (moving ^ landed),
-        zeros: even ^ shift_down(even, 1 << stage),
+        zeros: even ^ (even >> step),
         landed,
     }
 }
 
 #[derive(Clone, Copy)]
 struct Packing {
-    packed: u64,
-    landed_0: u64,
-    landed_1: u64,
-    landed_2: u64,
+    packed: u8x16,
+    landed_0: u8x16,
+    landed_1: u8x16,
+    landed_2: u8x16,
 }
 
 // Moves the bits of each mask byte down to its low end, and says where those landed that each
 // stage has moved.
-fn compress(mask: u64) -> Packing
-    ensures places { EachByte (λ j. byte_at result.packed j ≡ packed_after 3 (byte_at mask j)) }
-    ensures full { EachByte (λ j. byte_at result.packed j ≡ 2 ^ count_ones (byte_at mask j) - 1) }
-    ensures landed_0 { EachByte (λ j. byte_at result.landed_0 j ≡ landed_in 0 (byte_at mask j)) }
-    ensures landed_1 { EachByte (λ j. byte_at result.landed_1 j ≡ landed_in 1 (byte_at mask j)) }
-    ensures landed_2 { EachByte (λ j. byte_at result.landed_2 j ≡ landed_in 2 (byte_at mask j)) }
+#[inline(always)]
+fn compress(mask: u8x16) -> Packing
+    ensures places { HasLanes result.packed (λ j. packed_after 3 (slice_index mask j)) }
+    ensures full { HasLanes result.packed (λ j. 2 ^ count_ones (slice_index mask j) - 1) }
+    ensures landed_0 { HasLanes result.landed_0 (λ j. landed_in 0 (slice_index mask j)) }
+    ensures landed_1 { HasLanes result.landed_1 (λ j. landed_in 1 (slice_index mask j)) }
+    ensures landed_2 { HasLanes result.landed_2 (λ j. landed_in 2 (slice_index mask j)) }
 {
     let by_one = run_stage(mask, !mask, 0);
     let by_two = run_stage(by_one.packed, by_one.zeros, 1);
@@ -164,34 +182,45 @@ fn compress(mask: u64) -> Packing
     }
 }
 
-// In each byte, the eight bits of `source` from that byte of `below` on.
-fn gather(source: u64, below: u64) -> u64
-    requires { EachByte (λ j. byte_at below j < 64) }
-    ensures { EachByte (λ j. byte_at result j ≡ source / 2 ^ byte_at below j % 2 ^ 8) }
+// In each lane, eight bits of its word, from that lane of `below` on. What would lie past the end of
+// the word is of no use, and may be any bits.
+#[inline(always)]
+fn gather(words: u64x2, below: u8x16) -> u8x16
+    requires { EachLane (λ j. slice_index below j < 64) }
+    ensures lanes { length result ≡ 16 }
+    ensures bits { EachLane (λ j. (n : ℕ) → n ≤ 8 → slice_index below j + n ≤ 64
+        → slice_index result j % 2 ^ n
+        ≡ slice_index words (j / 8) / 2 ^ slice_index below j % 2 ^ n) }
 {
-    let mut gathered = 0;
-    for byte in 0..8u64 {
-        let place = 8 * byte;
-        let from = eight_bits(below, place);
-        gathered |= eight_bits(source, from) << place;
-    }
-    gathered
+    let bytes = bytes_of(words);
+    // the second word's bytes are the lanes from 8 on
+    let base = u8x16::from_array([0, 0, 0, 0, 0, 0, 0, 0, 8, 8, 8, 8, 8, 8, 8, 8]);
+    let at = base + (below >> u8x16::splat(3));
+    let next = (at + u8x16::splat(1)) & u8x16::splat(15);
+    eight_bits(bytes.swizzle_dyn(at), bytes.swizzle_dyn(next), below)
 }
 
-// The eight bits of a word from `place` on.
-fn eight_bits(word: u64, place: u64) -> u64
-    requires { place < 64 }
-    ensures { result ≡ word / 2 ^ place % 2 ^ 8 }
+// In each lane, eight bits of the number whose two bytes are `low` and `high`, from that lane of
+// `from` on, modulo eight: moved up to bit 7 and cut there, since a lane is moved up by a product
+// with a power of two and not by a number of its own.
+#[inline(always)]
+fn eight_bits(low: u8x16, high: u8x16, from: u8x16) -> u8x16
+    ensures { HasLanes result (λ j. (slice_index low j + slice_index high j * 2 ^ 8)
+        / 2 ^ (slice_index from j % 8) % 2 ^ 8) }
 {
-    (word >> place) & 0xFF
+    let powers = u8x16::from_array([128, 64, 32, 16, 8, 4, 2, 1, 128, 64, 32, 16, 8, 4, 2, 1]);
+    let power = powers.swizzle_dyn(from & u8x16::splat(7)).cast::<u16>();
+    let both = low.cast::<u16>() + (high.cast::<u16>() << u16x16::splat(8));
+    (((both * power) >> u16x16::splat(7)) & u16x16::splat(0xFF)).cast::<u8>()
 }
 
 // Moves the bits at `landed` back up by `2 ^ stage`.
-fn move_up(word: u64, landed: u64, stage: u32) -> u64
+#[inline(always)]
+fn move_up(lanes: u8x16, landed: u8x16, stage: u8) -> u8x16
     requires stage { stage < 3 }
-    requires room { EachByte (λ j. byte_at landed j < 2 ^ (8 - 2 ^ stage)) }
-    ensures { EachByte (λ j. byte_at result j
-        ≡ moved_up (2 ^ stage) (byte_at landed j) (byte_at word j)) }
+    requires room { EachLane (λ j. slice_index landed j < 2 ^ (8 - 2 ^ stage)) }
+    ensures { HasLanes result (λ j.
+        moved_up (2 ^ stage) (slice_index landed j) (slice_index lanes j)) }
 {
-    (word & !landed) | ((word & landed) << (1u32 << stage))
+    (lanes & !landed) | ((lanes & landed) << u8x16::splat(1 << stage))
 }

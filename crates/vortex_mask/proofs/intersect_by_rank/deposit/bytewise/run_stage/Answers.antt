@@ -1,30 +1,34 @@
-use Rattle.std.proofs.Common.{◌≡◌, ℕ, ap, ap₂, ◌∙◌, bit_and, bit_xor, arith}
-use Rattle.vortex_mask.specs.Bytes.{byte_at, moved_down, with_moved, halved}
-use Rattle.vortex_mask.proofs.Deposits.ByteLemmas.{byte_at_and, byte_at_xor, byte_at_not}
+use Rattle.std.proofs.Common.{◌-◌, ◌/◌, ◌^◌, ℕ, ap, bit_and, bit_xor, arith, get_or}
+use Rattle.std.proofs.lemmas.Simd.{shifts_fit_splat}
+use Rattle.vortex_mask.specs.Bytes.{moved_down, with_moved, halved, odd_places}
+use Rattle.vortex_mask.proofs.Deposits.LaneLemmas.{HasLanes-itself, HasLanes-map, HasLanes-zip2, HasLanes-splat, HasLanes-same}
 use Rattle.vortex_mask.proofs.Deposits.NetworkLemmas.{shift_is, shift_small}
 use Rattle.vortex_mask.proofs.intersect_by_rank.deposit.bytewise.run_stage.Goals as goal
 
-pub shift_down-landed-requires : goal.shift_down-landed-requires
-shift_down-landed-requires c = omega (arith, shift_is c.args.stage c.requires, shift_small c.args.stage c.requires)
+pub overflow_shr-landed : goal.overflow_shr-landed
+overflow_shr-landed c = shifts_fit_splat 8 _ 16 _ (omega (arith, shift_is c.args.stage c.requires, shift_small c.args.stage c.requires))
 
-pub shift_down-requires : goal.shift_down-requires
-shift_down-requires c = omega (arith, shift_is c.args.stage c.requires, shift_small c.args.stage c.requires)
-
--- the moving bits of a byte
-abbrev moving_at : (packed odd odd_byte j : ℕ) → Type 0
-moving_at packed odd odd_byte j = byte_at (bit_and packed odd) j ≡ bit_and (byte_at packed j) odd_byte
+pub overflow_shr-result : goal.overflow_shr-result
+overflow_shr-result c = shifts_fit_splat 8 _ 16 _ (omega (arith, shift_is c.args.stage c.requires, shift_small c.args.stage c.requires))
 
 pub returns-clause-landed : goal.returns-clause-landed
 unfolding moved_down
-returns-clause-landed c = λ j h. grind (arith, byte_at_and, shift_is, c.shift_down-landed.ensures j h, c.odd_zeros-odd.ensures j h)
+returns-clause-landed c =
+    HasLanes-same (HasLanes-zip2 (λ a b. a / 2 ^ b) (HasLanes-zip2 bit_and (HasLanes-itself c.args.packed c.fits-packed.0) c.odd_zeros-odd.ensures) (HasLanes-splat _))
+    (λ j h. ap (λ t. bit_and (get_or c.args.packed j 0) (odd_places (2 ^ c.args.stage) (get_or c.args.zeros j 0)) / 2 ^ t) (shift_is c.args.stage c.requires))
 
 pub returns-clause-packed : goal.returns-clause-packed
 unfolding with_moved
-returns-clause-packed c = λ j h.
-    let moving : moving_at c.args.packed c.odd_zeros-odd.result _ j = byte_at_and c.args.packed c.odd_zeros-odd.result j ∙ ap (bit_and (byte_at c.args.packed j)) (c.odd_zeros-odd.ensures j h) in
-    byte_at_xor c.args.packed _ j
-    ∙ ap (bit_xor (byte_at c.args.packed j)) (byte_at_xor (bit_and c.args.packed c.odd_zeros-odd.result) _ j ∙ ap₂ bit_xor moving (returns-clause-landed c j h))
+returns-clause-packed c =
+    let own = HasLanes-itself c.args.packed c.fits-packed.0 in
+    HasLanes-zip2 bit_xor own (HasLanes-zip2 bit_xor (HasLanes-zip2 bit_and own c.odd_zeros-odd.ensures) (returns-clause-landed c))
 
 pub returns-clause-zeros : goal.returns-clause-zeros
 unfolding halved
-returns-clause-zeros c = λ j h. grind (arith, byte_at_and, byte_at_xor, shift_is, c.shift_down.ensures j h, c.odd_zeros-odd.ensures j h, byte_at_not 8 c.odd_zeros-odd.result j (omega arith) h)
+returns-clause-zeros c =
+    let odd = λ (j : ℕ). odd_places (2 ^ c.args.stage) (get_or c.args.zeros j 0) in
+    let even = HasLanes-zip2 bit_and (HasLanes-itself c.args.zeros c.fits-zeros.0) (HasLanes-map (λ a. 255 - a) c.odd_zeros-odd.ensures) in
+    HasLanes-same (HasLanes-zip2 bit_xor even (HasLanes-zip2 (λ a b. a / 2 ^ b) even (HasLanes-splat _)))
+    (λ j h.
+    let e = bit_and (get_or c.args.zeros j 0) (255 - odd j) in
+    ap (λ t. bit_xor e (e / 2 ^ t)) (shift_is c.args.stage c.requires))

@@ -1,0 +1,216 @@
+-- Vectors of the bytes of two words, lane by lane.
+use Rattle.std.proofs.Common.{◌≡◌, ℕ, zero, suc, ◌+◌, ◌-◌, ◌*◌, ◌/◌, ◌%◌, ◌^◌, ◌<◌, ◌≤◌, ◌⊎◌, inl, inr, List, [], ◌∷◌, length, get_or, map, replicate, refl, sym, ap, ap₂, subst, ◌∙◌, arith, w8, bit_and, Fits, count_ones, pow-add, pow-suc}
+use Rattle.std.specs.Simd.Lanes.{zip2, Each1, number_l, digits_l, chunk}
+use Rattle.std.proofs.lemmas.Simd.{length-zip2, get_or-zip2, get_or-replicate, length-swz_l, get_or-swz_l_below, swz_l, SwzOk, SwzOk-from_below, Each1-from_get_or, Each1-get_or, Each1-chunk, get_or-chunk, get_or_wider, get_or_narrower}
+use Rattle.std.proofs.lemmas.List.{length-map, get_or-map}
+use Rattle.std.proofs.lemmas.Nat.{shr-shr, shl-shr, and_mask, ones-le}
+use Rattle.std.proofs.lemmas.Bool.{cases_lt}
+use Rattle.std.proofs.Math.Nat.{zero-div}
+use lib.Pow.{field, mod-mod-pow}
+use Rattle.vortex_mask.specs.Bytes.{byte_at, HasLanes, EachLane, byte_of_two, landed_in}
+use Rattle.vortex_mask.proofs.Deposits.ByteCountLemmas.{summed, ones_below-byte, Deposits-from_bytes}
+use Rattle.vortex_mask.proofs.Deposits.ByteLemmas.{byte_at-lt, byte_at-zero, byte_at-suc}
+use Rattle.vortex_mask.proofs.Deposits.NetworkLemmas.{deposit_alike, landed_in-lt}
+use Rattle.vortex_mask.proofs.Deposits.DepositLemmas.{deposit}
+use Rattle.vortex_mask.proofs.Deposits.SetPlaceLemmas.{ones_below, ones_below-le}
+use Rattle.vortex_mask.specs.Deposit.{Deposits}
+
+-- ---- what an operator leaves in each lane
+
+pub HasLanes-itself : (v : List ℕ) → length v ≡ 16 → HasLanes v (λ j. get_or v j 0)
+HasLanes-itself v long = record { lanes = long; each = λ j l. refl }
+
+pub HasLanes-map : (f : ℕ → ℕ) {a : List ℕ} {g : ℕ → ℕ} → HasLanes a g → HasLanes (map f a) (λ j. f (g j))
+HasLanes-map f {a} {g} h =
+    let long = h.lanes in
+    record {
+      lanes = length-map a f ∙ long;
+      each = λ j l. get_or-map f a j 0 0 (omega arith) ∙ ap f (h.each j l);
+    }
+
+pub HasLanes-zip2 : (f : ℕ → ℕ → ℕ) {a b : List ℕ} {g h : ℕ → ℕ} → HasLanes a g → HasLanes b h → HasLanes (zip2 f a b) (λ j. f (g j) (h j))
+HasLanes-zip2 f {a} {b} {g} {h} p q =
+    let pl = p.lanes in
+    let ql = q.lanes in
+    record {
+      lanes = length-zip2 f a b (pl ∙ sym ql) ∙ pl;
+      each = λ j l. get_or-zip2 f a b j 0 0 0 (omega arith) (omega arith) ∙ ap₂ f (p.each j l) (q.each j l);
+    }
+
+pub HasLanes-splat : (x : ℕ) → HasLanes (replicate 16 x) (λ j. x)
+HasLanes-splat x = record { lanes = refl; each = λ j l. get_or-replicate 16 j x 0 l }
+
+-- the same lanes said otherwise
+pub HasLanes-same : {v : List ℕ} {f g : ℕ → ℕ} → HasLanes v f → EachLane (λ j. f j ≡ g j) → HasLanes v g
+HasLanes-same h e = record { lanes = h.lanes; each = λ j l. h.each j l ∙ e j l }
+
+pub EachLane-fits : (v : List ℕ) → length v ≡ 16 → Each1 (Fits w8) v → EachLane (λ j. get_or v j 0 < 256)
+EachLane-fits v long fits = λ j l. (Each1-get_or (Fits w8) v j 0 (omega arith) fits).fits
+
+-- ---- lanes by their numbers
+
+module _ (js : List ℕ) (f : ℕ → ℕ) (h : HasLanes js f) (small : EachLane (λ j. f j < 16)) where
+  pub SwzOk-lanes : SwzOk w8 16 16 0 js
+  SwzOk-lanes =
+      let long = h.lanes in
+      SwzOk-from_below w8 16 1 16 0 js refl (omega arith) (Each1-from_get_or (λ j. j < 16) js 0 (λ i l. omega (arith, h.each i (omega arith), small i (omega arith))))
+
+  pub HasLanes-swz_l : (v : List ℕ) → HasLanes (swz_l w8 16 v 0 js) (λ j. get_or v (f j) 0)
+  HasLanes-swz_l v =
+      let long = h.lanes in
+      record {
+        lanes = length-swz_l w8 16 v 0 js ∙ long;
+        each = λ j l.
+            let e = h.each j l in
+            get_or-swz_l_below w8 16 v 0 js j (omega arith) (omega (arith, small j l)) ∙ ap (λ k. get_or v k 0) (omega arith);
+      }
+
+-- ---- the bytes of two words
+
+pow_256 : (i : ℕ) → 2 ^ (8 * i) ≡ 256 ^ i
+pow_256 zero = refl
+pow_256 (suc i) =
+    let e : 8 * suc i ≡ 8 * i + 8 = omega arith in
+    ap (λ k. 2 ^ k) e ∙ omega (arith, pow-add 2 (8 * i) 8, pow-suc 256 i, pow_256 i)
+
+byte_at-is : (w i : ℕ) → byte_at w i ≡ w / 256 ^ i % 256
+unfolding byte_at
+byte_at-is w i = ap (λ x. w / x % 256) (pow_256 i)
+
+-- the place of a lane in its word
+pub lane_is : (j : ℕ) → 8 * (j / 8) + j % 8 ≡ j
+lane_is j = omega arith
+
+pub HasLanes-words : (words : List ℕ) → Each1 (λ w. w < 2 ^ 64) words → HasLanes (digits_l 256 16 (number_l (2 ^ 64) words)) (byte_of_two words)
+HasLanes-words words fit = record {
+  lanes = refl;
+  each = λ j l.
+      ap (λ k. get_or (digits_l 256 16 (number_l (2 ^ 64) words)) k 0) (sym (lane_is j))
+      ∙ get_or_narrower (2 ^ 64) 8 256 16 words (j / 8) (j % 8) refl fit (omega arith) (omega arith) ∙ sym (byte_at-is (get_or words (j / 8) 0) (j % 8));
+}
+
+byte_at_none : (i : ℕ) → byte_at 0 i ≡ 0
+unfolding byte_at
+byte_at_none i = ap (λ x. x % 256) (zero-div (2 ^ (8 * i)))
+
+pub bytes_fit : {v : List ℕ} (words : List ℕ) → HasLanes v (byte_of_two words) → EachLane (λ j. get_or v j 0 < 256)
+bytes_fit {v} words h = λ j l. subst (λ x. x < 256) (sym (h.each j l)) (byte_at-lt (get_or words (j / 8) 0) (j % 8))
+
+-- what a stage has moved leaves room for its way back
+pub landed_fit : (s : ℕ) (v : List ℕ) {l : List ℕ} → s < 3 → EachLane (λ j. get_or v j 0 < 256) → HasLanes l (λ j. landed_in s (get_or v j 0)) → EachLane (λ j. get_or l j 0 < 2 ^ (8 - 2 ^ s))
+landed_fit s v {l} few fit h = λ j i. subst (λ x. x < 2 ^ (8 - 2 ^ s)) (sym (h.each j i)) (landed_in-lt s (get_or v j 0) few (fit j i))
+
+-- byte i of a number by its bytes
+byte_at-number : (xs : List ℕ) (i : ℕ) → Each1 (λ x. x < 256) xs → byte_at (number_l 256 xs) i ≡ get_or xs i 0
+byte_at-number [] i fit = byte_at_none i
+byte_at-number (x ∷ xs) zero fit = byte_at-zero (x + 256 * number_l 256 xs) ∙ omega (arith, fit.0)
+byte_at-number (x ∷ xs) (suc i) fit =
+    let rest : (x + 256 * number_l 256 xs) / 256 ≡ number_l 256 xs = omega (arith, fit.0) in
+    byte_at-suc (x + 256 * number_l 256 xs) i ∙ ap (λ v. byte_at v i) rest ∙ byte_at-number xs i fit.1
+
+-- word k of a vector's bytes
+pub byte_at-word : (v : List ℕ) (k i : ℕ) → Each1 (λ x. x < 256) v → k < 2 → i < 8 → byte_at (get_or (digits_l (2 ^ 64) 2 (number_l 256 v)) k 0) i ≡ get_or v (8 * k + i) 0
+byte_at-word v k i fit h l =
+    ap (λ w. byte_at w i) (get_or_wider 256 8 (2 ^ 64) 2 v k refl fit h) ∙ byte_at-number (chunk (8 * k) 8 v) i (Each1-chunk (λ x. x < 256) (8 * k) 8 v fit) ∙ get_or-chunk (8 * k) 8 v i 0 l
+
+-- ---- eight bits of a word, from the two bytes in which they lie
+
+-- two bytes as one number, moved up to bit 7 and cut there
+pub cut_out : (x r : ℕ) → r < 8 → bit_and (x * 2 ^ (7 - r) % 2 ^ 16 / 2 ^ 7) 255 ≡ x / 2 ^ r % 2 ^ 8
+cut_out x r h =
+    let e : 7 - r + r ≡ 7 = omega arith in
+    and_mask (x * 2 ^ (7 - r) % 2 ^ 16 / 2 ^ 7) 8
+    ∙ ap (λ y. y % 2 ^ 8) (field (x * 2 ^ (7 - r)) 9 7) ∙ mod-mod-pow (x * 2 ^ (7 - r) / 2 ^ 7) 1 8
+    ∙ ap (λ k. x * 2 ^ (7 - r) / 2 ^ k % 2 ^ 8) (sym e) ∙ ap (λ y. y % 2 ^ 8) (sym (shr-shr (x * 2 ^ (7 - r)) (7 - r) r) ∙ ap (λ y. y / 2 ^ r) (shl-shr x (7 - r)))
+
+module _ (s b n low high : ℕ) (first : low ≡ byte_at s (b / 8)) (next : b / 8 < 7 → high ≡ byte_at s (b / 8 + 1)) where
+  -- the lowest bits of the two bytes are those of the word
+  same_low : n ≤ 8 → b + n ≤ 64 → (8 < n + b % 8) ⊎ (n + b % 8 ≤ 8) → (low + high * 2 ^ 8) % 2 ^ (n + b % 8) ≡ s / 2 ^ (8 * (b / 8)) % 2 ^ (n + b % 8)
+  unfolding byte_at
+  same_low few inside (inr le) =
+      let k = n + b % 8 in
+      let x = low + high * 2 ^ 8 in
+      let y = s / 2 ^ (8 * (b / 8)) in
+      let e : 8 - k + k ≡ 8 = omega arith in
+      let cut : (v : ℕ) → v % 2 ^ 8 % 2 ^ k ≡ v % 2 ^ k = λ v. ap (λ i. v % 2 ^ i % 2 ^ k) (sym e) ∙ mod-mod-pow v (8 - k) k in
+      let byte : x % 2 ^ 8 ≡ y % 2 ^ 8 = omega (arith, first) in
+      sym (cut x) ∙ ap (λ v. v % 2 ^ k) byte ∙ cut y
+  same_low few inside (inl gt) =
+      let k = n + b % 8 in
+      let x = low + high * 2 ^ 8 in
+      let y = s / 2 ^ (8 * (b / 8)) in
+      let e : 16 - k + k ≡ 16 = omega arith in
+      let f : 8 * (b / 8 + 1) ≡ 8 * (b / 8) + 8 = omega arith in
+      let cut : (v : ℕ) → v % 2 ^ 16 % 2 ^ k ≡ v % 2 ^ k = λ v. ap (λ i. v % 2 ^ i % 2 ^ k) (sym e) ∙ mod-mod-pow v (16 - k) k in
+      let upper : high ≡ y / 2 ^ 8 % 2 ^ 8 = next (omega arith) ∙ ap (λ i. s / 2 ^ i % 2 ^ 8) f ∙ ap (λ v. v % 2 ^ 8) (sym (shr-shr s (8 * (b / 8)) 8)) in
+      let bytes : x % 2 ^ 16 ≡ y % 2 ^ 16 = omega (arith, first, upper) in
+      sym (cut x) ∙ ap (λ v. v % 2 ^ k) bytes ∙ cut y
+
+  pub eight_from : n ≤ 8 → b + n ≤ 64 → (low + high * 2 ^ 8) / 2 ^ (b % 8) % 2 ^ 8 % 2 ^ n ≡ s / 2 ^ b % 2 ^ n
+  eight_from few inside =
+      let r = b % 8 in
+      let x = low + high * 2 ^ 8 in
+      let y = s / 2 ^ (8 * (b / 8)) in
+      let e : 8 - n + n ≡ 8 = omega arith in
+      let f : 8 * (b / 8) + r ≡ b = omega arith in
+      ap (λ k. x / 2 ^ r % 2 ^ k % 2 ^ n) (sym e) ∙ mod-mod-pow (x / 2 ^ r) (8 - n) n ∙ sym (field x n r)
+      ∙ ap (λ v. v / 2 ^ r) (same_low few inside (cases_lt 8 (n + r))) ∙ field y n r
+      ∙ ap (λ v. v % 2 ^ n) (shr-shr s (8 * (b / 8)) r ∙ ap (λ k. s / 2 ^ k) f)
+
+-- ---- the counts below each byte, as sums moved up
+
+-- over one lower byte, over two, over four and over all
+abbrev pub summed_up : ℕ → ℕ
+summed_up x =
+    let one = x * 2 ^ 8 % 2 ^ 64 in
+    let two = (one + one * 2 ^ 8 % 2 ^ 64) % 2 ^ 64 in
+    let four = (two + two * 2 ^ 16 % 2 ^ 64) % 2 ^ 64 in
+    (four + four * 2 ^ 32 % 2 ^ 64) % 2 ^ 64
+
+summed_up-is : (x : ℕ) → summed_up x ≡ summed x
+summed_up-is x = omega arith
+
+-- the same of both words
+abbrev pub moved : ℕ → List ℕ → List ℕ
+moved n xs = zip2 (λ a b. a * 2 ^ b % 2 ^ 64) xs (n ∷ n ∷ [])
+
+abbrev pub added : ℕ → List ℕ → List ℕ
+added n xs = zip2 (λ a b. (a + b) % 2 ^ 64) xs (moved n xs)
+
+pub sums_at : (xs : List ℕ) → length xs ≡ 2 → (w : ℕ) → w < 2 → get_or (added 32 (added 16 (added 8 (moved 8 xs)))) w 0 ≡ summed (get_or xs w 0)
+sums_at [] long w h = absurd (omega arith)
+sums_at (x ∷ []) long w h = absurd (omega arith)
+sums_at (x ∷ y ∷ []) long zero h = summed_up-is x
+sums_at (x ∷ y ∷ []) long (suc zero) h = summed_up-is y
+sums_at (x ∷ y ∷ []) long (suc (suc w)) h = absurd (omega arith)
+sums_at (x ∷ y ∷ z ∷ zs) long w h = absurd (omega arith)
+
+-- ---- bytes that fit
+
+pub HasLanes-fit : {v : List ℕ} {f : ℕ → ℕ} → HasLanes v f → EachLane (λ j. f j < 256) → Each1 (Fits w8) v
+HasLanes-fit {v} {f} h small =
+    let long = h.lanes in
+    Each1-from_get_or (Fits w8) v 0 (λ i l. record { fits = subst (λ x. x < 256) (sym (h.each i (omega arith))) (small i (omega arith)) })
+
+-- ---- two deposits by their bytes
+
+pub Deposits-from_lanes : (sources masks results : List ℕ)
+    → EachLane (λ j. byte_of_two results j ≡ deposit 8 (get_or sources (j / 8) 0 / 2 ^ ones_below (get_or masks (j / 8) 0) (8 * (j % 8)) % 2 ^ 8) (byte_of_two masks j))
+    → (k : ℕ) → k < 2 → Deposits (get_or sources k 0) (get_or masks k 0) (get_or results k 0)
+Deposits-from_lanes sources masks results each k h = Deposits-from_bytes (get_or sources k 0) (get_or masks k 0) (get_or results k 0) (λ i l.
+    let d : (8 * k + i) / 8 ≡ k = omega arith in
+    let m : (8 * k + i) % 8 ≡ i = omega arith in
+    sym (ap₂ (λ a b. byte_at (get_or results a 0) b) d m) ∙ each (8 * k + i) (omega arith)
+    ∙ ap₂ (λ a b. deposit 8 (get_or sources a 0 / 2 ^ ones_below (get_or masks a 0) (8 * b) % 2 ^ 8) (byte_at (get_or masks a 0) b)) d m)
+
+-- a byte's deposit takes from the gathered bits as many as lie within the word
+pub gathered_alike : (s w i g : ℕ) → i < 8 → ((n : ℕ) → n ≤ 8 → ones_below w (8 * i) + n ≤ 64 → g % 2 ^ n ≡ s / 2 ^ ones_below w (8 * i) % 2 ^ n)
+    → deposit 8 g (byte_at w i) ≡ deposit 8 (s / 2 ^ ones_below w (8 * i) % 2 ^ 8) (byte_at w i)
+gathered_alike s w i g h bits =
+    let b = byte_at w i in
+    let n = count_ones b in
+    let few : n ≤ 8 = ones-le 8 b (byte_at-lt w i) in
+    let e : 8 - n + n ≡ 8 = omega arith in
+    let x = s / 2 ^ ones_below w (8 * i) in
+    deposit_alike g (x % 2 ^ 8) b (byte_at-lt w i)
+    (bits n few (omega (arith, ones_below-byte w i, ones_below-le w (8 * suc i))) ∙ sym (ap (λ k. x % 2 ^ k % 2 ^ n) (sym e) ∙ mod-mod-pow x (8 - n) n))

@@ -1,0 +1,8 @@
+use Rattle.std.proofs.Common.{w8, ap, ◌∙◌, arith, get_or}
+use Rattle.std.proofs.lemmas.Simd.{below_from_Fits}
+use Rattle.vortex_mask.proofs.Deposits.LaneLemmas.{byte_at-word, lane_is}
+use Rattle.vortex_mask.proofs.intersect_by_rank.deposit.bytewise.words_of.Goals as goal
+
+pub returns-clause-bytes : goal.returns-clause-bytes
+returns-clause-bytes c = λ j h.
+    byte_at-word c.args.lanes _ _ (below_from_Fits w8 c.args.lanes c.fits-lanes.1) (omega arith) (omega arith) ∙ ap (λ k. get_or c.args.lanes k 0) (lane_is j)
