@@ -2,12 +2,13 @@
 
 mod bytewise;
 
-ghost use Rattle.std.specs.Prelude.{ℕ, ◌≡◌, ◌<◌, ◌≤◌, ◌+◌, ◌*◌, ◌/◌, ◌%◌, ◌^◌};
+ghost use Rattle.std.specs.Prelude.{ℕ, ◌≡◌, ◌<◌, ◌≤◌, ◌+◌, ◌*◌, ◌/◌, ◌%◌, ◌^◌, ◌↔◌, ◌⊎◌, IsTrue, slice_index};
 ghost use Rattle.mask_bits.specs.Positions.{count};
 ghost use Rattle.mask_bits.specs.Words.{word_bits};
 ghost use Rattle.vortex_mask.specs.Deposit.{Deposits};
 
 pub use bytewise::deposit_bytewise;
+use bytewise::deposit_two_bytewise;
 
 /// Scatters the low bits of a word to the set bits of a mask word, as the instruction PDEP does.
 pub trait DepositBits {
@@ -19,6 +20,24 @@ pub trait DepositBits {
     fn deposit_bits(source: u64, mask: u64, mask_count: usize) -> u64
         requires { mask_count ≡ count (word_bits mask) }
         ensures { Deposits source mask result };
+
+    /// The deposits of two words, each as [`DepositBits::deposit_bits`] has it, which answers them one
+    /// by one where an implementation says nothing else. The kernels deposit two words at a time.
+    fn deposit_two(sources: [u64; 2], masks: [u64; 2], mask_counts: [usize; 2]) -> [u64; 2]
+        requires counted_first { slice_index mask_counts 0
+            ≡ count (word_bits (slice_index masks 0)) }
+        requires counted_second { slice_index mask_counts 1
+            ≡ count (word_bits (slice_index masks 1)) }
+        ensures first { Deposits (slice_index sources 0) (slice_index masks 0)
+            (slice_index result 0) }
+        ensures second { Deposits (slice_index sources 1) (slice_index masks 1)
+            (slice_index result 1) }
+    {
+        [
+            Self::deposit_bits(sources[0], masks[0], mask_counts[0]),
+            Self::deposit_bits(sources[1], masks[1], mask_counts[1]),
+        ]
+    }
 }
 
 // The closed forms take masks with at most so many bits that are set, or that are clear.
@@ -41,6 +60,42 @@ impl DepositBits for Portable {
         } else {
             deposit_bytewise(source, mask)
         }
+    }
+
+    #[inline(always)]
+    fn deposit_two(sources: [u64; 2], masks: [u64; 2], mask_counts: [usize; 2]) -> [u64; 2] {
+        if is_closed(mask_counts[0]) && is_closed(mask_counts[1]) {
+            [
+                deposit_closed(sources[0], masks[0], mask_counts[0]),
+                deposit_closed(sources[1], masks[1], mask_counts[1]),
+            ]
+        } else if sources[0] | sources[1] == 0 {
+            [0, 0]
+        } else {
+            deposit_two_bytewise(sources, masks)
+        }
+    }
+}
+
+// Whether a mask with so many set bits has a closed form.
+#[inline(always)]
+fn is_closed(mask_count: usize) -> bool
+    ensures { IsTrue result ↔ ((mask_count ≤ 2) ⊎ (62 ≤ mask_count)) }
+{
+    mask_count <= FEW || mask_count >= 64 - FEW
+}
+
+// The deposit by the closed form of its mask.
+#[inline(always)]
+fn deposit_closed(source: u64, mask: u64, mask_count: usize) -> u64
+    requires counted { mask_count ≡ count (word_bits mask) }
+    requires closed { (mask_count ≤ 2) ⊎ (62 ≤ mask_count) }
+    ensures { Deposits source mask result }
+{
+    if mask_count <= FEW {
+        deposit_two_lowest(source, mask)
+    } else {
+        deposit_two_holes(source, mask)
     }
 }
 
