@@ -92,10 +92,10 @@ fn deposit_closed(source: u64, mask: u64, mask_count: usize) -> u64
     requires closed { (mask_count ≤ 2) ⊎ (62 ≤ mask_count) }
     ensures { Deposits source mask result }
 {
-    if mask_count <= FEW {
-        deposit_two_lowest(source, mask)
-    } else {
+    if mask_count >= 64 - FEW {
         deposit_two_holes(source, mask)
+    } else {
+        deposit_two_lowest(source, mask)
     }
 }
 

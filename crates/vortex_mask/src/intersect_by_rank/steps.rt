@@ -1,9 +1,9 @@
 //! The steps that a kernel takes, counted. The fields are private to this file, so that the calls
 //! here alone change them.
 
-ghost use Rattle.std.specs.Prelude.{◌≡◌, ◌+◌, ◌*◌, ◌/◌, ◌<◌, ◌^◌, length};
+ghost use Rattle.std.specs.Prelude.{◌≡◌, ◌+◌, ◌*◌, ◌/◌, ◌<◌, ◌^◌, length, slice_index};
 ghost use Rattle.mask_bits.specs.Positions.{count};
-ghost use Rattle.mask_bits.specs.Words.{word_bits, word_part, padded_part, padded_remainder, started_words};
+ghost use Rattle.mask_bits.specs.Words.{word_bits, word_part, padded_remainder};
 ghost use Rattle.vortex_mask.specs.Deposit.{Deposits, selected};
 ghost use Rattle.vortex_mask.specs.Steps.{no_steps};
 
@@ -121,6 +121,37 @@ impl Steps {
         result
     }
 
+    /// Deposits two words, and counts what two calls of [`Steps::deposit`] would.
+    #[inline(always)]
+    pub fn deposit_two<D: DepositBits>(
+        &mut self,
+        sources: [u64; 2],
+        masks: [u64; 2],
+        mask_counts: [usize; 2],
+    ) -> [u64; 2]
+        requires room { self.old.deposits + 1 < usize.MAX }
+        requires counted_first { slice_index mask_counts 0
+            ≡ count (word_bits (slice_index masks 0)) }
+        requires counted_second { slice_index mask_counts 1
+            ≡ count (word_bits (slice_index masks 1)) }
+        ensures first { Deposits (slice_index sources 0) (slice_index masks 0)
+            (slice_index result 0) }
+        ensures second { Deposits (slice_index sources 1) (slice_index masks 1)
+            (slice_index result 1) }
+        ensures ticked { self.new ≡ record self.old {
+          deposits = self.old.deposits + 2;
+          offered = self.old.offered + slice_index mask_counts 0 + slice_index mask_counts 1;
+          placed = self.old.placed + count (word_bits (slice_index result 0))
+              + count (word_bits (slice_index result 1));
+        } }
+    {
+        let results = D::deposit_two(sources, masks, mask_counts);
+        self.deposits += 2;
+        self.offered += (mask_counts[0] + mask_counts[1]) as u128;
+        self.placed += u128::from(results[0].count_ones() + results[1].count_ones());
+        results
+    }
+
     /// Word `i` of the values: a whole word, or as the last one the values after the whole words
     /// in its low bits and zeros above.
     #[inline(always)]
@@ -154,102 +185,5 @@ impl Steps {
         self.selections += 1;
         self.spots += place as u128;
         place
-    }
-}
-
-/// The steps of a kernel that deposits in each word of a list.
-//
-// The masks' counts sum up to a place of that list, so a word holds each sum: the carries into a
-// second one took such a loop up to half as long again.
-#[derive(Drop)]
-pub(crate) struct WordSteps {
-    deposits: usize,
-    words: usize,
-    offered: usize,
-    placed: usize,
-}
-
-impl Model for WordSteps {
-    ghost use Rattle.std.specs.Prelude.{◌≤◌, ◌*◌};
-    ghost use Rattle.vortex_mask.specs.Steps.{StepCounts};
-
-    ghost Value = { StepCounts };
-
-    ghost view = { λ s. record {
-      deposits = s.deposits;
-      words = s.words;
-      selections = 0;
-      offered = s.offered;
-      placed = s.placed;
-      spots = 0;
-    } };
-
-    ghost invariant = { λ s. (s.placed ≤ s.offered) × (s.offered ≤ 64 * s.deposits) };
-}
-
-impl WordSteps {
-    pub(crate) fn new() -> WordSteps
-        ensures { result ≡ no_steps }
-    {
-        WordSteps {
-            deposits: 0,
-            words: 0,
-            offered: 0,
-            placed: 0,
-        }
-    }
-
-    pub(crate) fn offered(&self) -> usize
-        ensures { result ≡ self.now.offered }
-    {
-        self.offered
-    }
-
-    #[inline(always)]
-    pub(crate) fn deposit<D: DepositBits>(
-        &mut self,
-        source: u64,
-        mask: u64,
-        mask_count: usize,
-    ) -> u64
-        requires room { self.old.deposits < usize.MAX }
-        requires fits { self.old.offered + mask_count < 2 ^ 64 }
-        requires counted { mask_count ≡ count (word_bits mask) }
-        ensures deposited { Deposits source mask result }
-        ensures ticked { self.new ≡ record self.old {
-          deposits = self.old.deposits + 1;
-          offered = self.old.offered + mask_count;
-          placed = self.old.placed + count (word_bits result);
-        } }
-    {
-        let result = D::deposit_bits(source, mask, mask_count);
-        self.deposits += 1;
-        self.offered += mask_count;
-        self.placed += result.count_ones() as usize;
-        result
-    }
-
-    #[inline(always)]
-    pub(crate) fn word(&mut self, chunks: &BitChunks<'_>, i: usize) -> u64
-        requires room { self.old.words < usize.MAX }
-        requires there { i < started_words (length chunks.now) }
-        ensures part { word_bits result ≡ padded_part chunks.now i }
-        ensures ticked { self.new ≡ record self.old { words = self.old.words + 1 } }
-    {
-        self.words += 1;
-        chunks.padded_word(i)
-    }
-
-    pub(crate) fn total(&self) -> Steps
-        ensures { result ≡ self.now }
-    {
-        Steps {
-            deposits: self.deposits,
-            words: self.words,
-            selections: 0,
-            offered: self.offered as u128,
-            placed: self.placed as u128,
-            spots: 0,
-        }
     }
 }

@@ -10,7 +10,6 @@ ghost use Rattle.vortex_mask.specs.Steps.{word_steps};
 ghost use Rattle.mask_bits.specs.Words.{started_words};
 
 use super::of_words;
-use crate::intersect_by_rank::steps::WordSteps;
 use crate::intersect_by_rank::{DepositBits, RankBits, Steps};
 use crate::mask::{Mask, MaskError};
 use mask_bits::words::set_word;
@@ -56,16 +55,27 @@ pub fn narrow_by_bits<D: DepositBits>(
     ensures steps { result
         ≡ word_steps chunks.now (rank_intersection chunks.now (values ranks.now)) }
 {
-    let mut steps = WordSteps::new();
+    let mut steps = Steps::new();
     // the next rank bit is the one after those of all true values so far
     let mut at = 0usize;
-    for i in 0..out.len() / 8 {
-        let chunk = steps.word(chunks, i);
+    let words = out.len() / 8;
+    for pair in 0..words / 2 {
+        let i = 2 * pair;
+        let masks = [steps.word(chunks, i), steps.word(chunks, i + 1)];
+        let ones = [masks[0].count_ones() as usize, masks[1].count_ones() as usize];
+        let next = at + ones[0];
+        let sources = [ranks.read(at), ranks.read(next)];
+        let kept = steps.deposit_two::<D>(sources, masks, ones);
+        set_word(out, i, kept[0]);
+        set_word(out, i + 1, kept[1]);
+        at = next + ones[1];
+    }
+    if words % 2 == 1 {
+        let chunk = steps.word(chunks, words - 1);
         let ones = chunk.count_ones() as usize;
         let source = ranks.read(at);
         let word = steps.deposit::<D>(source, chunk, ones);
-        set_word(out, i, word);
-        at += ones;
+        set_word(out, words - 1, word);
     }
-    steps.total()
+    steps
 }

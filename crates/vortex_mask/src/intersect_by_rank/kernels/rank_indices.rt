@@ -13,7 +13,6 @@ ghost use Rattle.mask_bits.specs.Words.{word_bits, started_words};
 ghost use Rattle.vortex_mask.specs.Ranks.{AreSplit};
 
 use super::of_words;
-use crate::intersect_by_rank::steps::WordSteps;
 use crate::intersect_by_rank::{DepositBits, Steps};
 use crate::mask::{Mask, MaskError};
 use mask_bits::words::set_word;
@@ -59,18 +58,32 @@ pub fn narrow_at_ranks<D: DepositBits>(
     ensures steps { result ≡ word_steps chunks.now
         (true_at (length chunks.now) (at_indices (positions chunks.now) ranks.now)) }
 {
-    let mut steps = WordSteps::new();
+    let mut steps = Steps::new();
+    // as many ranks are passed as the words so far have true values
+    let mut at = 0usize;
     let mut next = 0usize;
-    for i in 0..out.len() / 8 {
-        // as many ranks are passed as the words so far have true values
-        let at = steps.offered();
-        let mask = steps.word(chunks, i);
+    let words = out.len() / 8;
+    for pair in 0..words / 2 {
+        let i = 2 * pair;
+        let masks = [steps.word(chunks, i), steps.word(chunks, i + 1)];
+        let ones = [masks[0].count_ones() as usize, masks[1].count_ones() as usize];
+        let middle = at + ones[0];
+        let end = middle + ones[1];
+        let first = bits_of_ranks(ranks, &mut next, at, middle);
+        let second = bits_of_ranks(ranks, &mut next, middle, end);
+        let kept = steps.deposit_two::<D>([first, second], masks, ones);
+        set_word(out, i, kept[0]);
+        set_word(out, i + 1, kept[1]);
+        at = end;
+    }
+    if words % 2 == 1 {
+        let mask = steps.word(chunks, words - 1);
         let ones = mask.count_ones() as usize;
         let source = bits_of_ranks(ranks, &mut next, at, at + ones);
         let kept = steps.deposit::<D>(source, mask, ones);
-        set_word(out, i, kept);
+        set_word(out, words - 1, kept);
     }
-    steps.total()
+    steps
 }
 
 // The ranks from `at` up to `end` as set bits, that of `at` lowest. Their first one is number

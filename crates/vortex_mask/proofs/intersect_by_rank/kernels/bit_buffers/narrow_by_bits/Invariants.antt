@@ -1,8 +1,9 @@
+use Rattle.std.proofs.Common.{◌*◌}
 use Rattle.mask_bits.specs.Buffer.{values}
 use Rattle.mask_bits.specs.Positions.{rank_intersection}
 use Rattle.vortex_mask.proofs.Kernels.WordKernelLemmas.{IsDeposited}
 use Rattle.vortex_mask.proofs.intersect_by_rank.kernels.bit_buffers.narrow_by_bits.Given as goal
 
--- the words before took their deposits
-abbrev pub invariant-loop-i : goal.invariant-loop-i
-invariant-loop-i g l = IsDeposited l.chunks (rank_intersection l.chunks (values l.ranks)) l.i l.at l.out l.steps
+-- the pairs of words before took their deposits
+abbrev pub invariant-loop-pair : goal.invariant-loop-pair
+invariant-loop-pair g l = IsDeposited l.chunks (rank_intersection l.chunks (values l.ranks)) (2 * l.pair) l.at l.out l.steps

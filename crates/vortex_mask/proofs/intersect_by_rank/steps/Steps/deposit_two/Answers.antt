@@ -1,0 +1,26 @@
+use Rattle.std.proofs.Common.{◌≤◌, ℕ, count_ones, arith, get_or}
+use Rattle.std.proofs.lemmas.Nat.{ones-le}
+use Rattle.mask_bits.specs.Positions.{count}
+use Rattle.mask_bits.specs.Words.{word_bits}
+use Rattle.mask_bits.proofs.Lists.Places.PlaceLemmas.{count-le-length}
+use Rattle.mask_bits.proofs.Lists.Words.WordLemmas.{count-word_bits, length-word_bits}
+use Rattle.vortex_mask.proofs.intersect_by_rank.steps.Steps.deposit_two.Goals as goal
+
+few : (m : ℕ) → count (word_bits m) ≤ 64
+few m = omega (arith, count-le-length (word_bits m), length-word_bits m)
+
+pub overflow_add-self-2 : goal.overflow_add-self-2
+overflow_add-self-2 g c = grind (arith, few)
+
+pub invariant_of-self : goal.invariant_of-self
+invariant_of-self g c =
+    let first : count_ones (get_or c.deposit_two-results.result 0 0) ≤ 64 = ones-le 64 _ (omega arith) in
+    let second : count_ones (get_or c.deposit_two-results.result 1 0) ≤ 64 = ones-le 64 _ (omega arith) in
+    record {
+      offered_fits = omega (arith, few (get_or c.args.masks 0 0), few (get_or c.args.masks 1 0));
+      placed_fits = omega arith;
+      spots_fit = omega arith;
+    }
+
+pub returns-clause-ticked : goal.returns-clause-ticked
+returns-clause-ticked g c = grind (arith, count-word_bits)
