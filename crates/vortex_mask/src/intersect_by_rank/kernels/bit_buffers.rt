@@ -62,7 +62,10 @@ pub fn narrow_by_bits<D: DepositBits>(
     for pair in 0..words / 2 {
         let i = 2 * pair;
         let masks = [steps.word(chunks, i), steps.word(chunks, i + 1)];
-        let ones = [masks[0].count_ones() as usize, masks[1].count_ones() as usize];
+        let ones = [
+            masks[0].count_ones() as usize,
+            masks[1].count_ones() as usize,
+        ];
         let next = at + ones[0];
         let sources = [ranks.read(at), ranks.read(next)];
         let kept = steps.deposit_two::<D>(sources, masks, ones);

@@ -66,7 +66,10 @@ pub fn narrow_at_ranks<D: DepositBits>(
     for pair in 0..words / 2 {
         let i = 2 * pair;
         let masks = [steps.word(chunks, i), steps.word(chunks, i + 1)];
-        let ones = [masks[0].count_ones() as usize, masks[1].count_ones() as usize];
+        let ones = [
+            masks[0].count_ones() as usize,
+            masks[1].count_ones() as usize,
+        ];
         let middle = at + ones[0];
         let end = middle + ones[1];
         let first = bits_of_ranks(ranks, &mut next, at, middle);

@@ -96,9 +96,9 @@ returns-then-words-eq1-clause-list g c =
     let counted = sym (count-word_bits m c.word-chunk.type_inv) in
     let shows = word-started a i m (omega arith) c.word-chunk.ensures.whole c.word-chunk.ensures.last in
     let all = deposited-more a (values ranks) i at c.read-source.result m _ c.deposit-word.result c.loop-pair.out c.set_word-then-words-eq1.new.bytes
-              c.loop-pair.steps c.word-chunk.new.self c.deposit-word.new.self c.requires.fitting before shows counted
-              (rank_bits-window a ranks i at c.read-source.result m c.requires.fitting before.place shows c.read-source.ensures)
-              c.deposit-word.ensures.deposited c.set_word-then-words-eq1.ensures.here c.set_word-then-words-eq1.ensures.others c.word-chunk.ensures.ticked c.deposit-word.ensures.ticked in
+    c.loop-pair.steps c.word-chunk.new.self c.deposit-word.new.self c.requires.fitting before shows counted
+    (rank_bits-window a ranks i at c.read-source.result m c.requires.fitting before.place shows c.read-source.ensures)
+    c.deposit-word.ensures.deposited c.set_word-then-words-eq1.ensures.here c.set_word-then-words-eq1.ensures.others c.word-chunk.ensures.ticked c.deposit-word.ensures.ticked in
     deposited-list a r (i + 1) _ c.set_word-then-words-eq1.new.bytes c.deposit-word.new.self (length-rank_intersection a (values ranks)) (omega arith) all
 
 pub returns-then-words-eq1-clause-steps : goal.returns-then-words-eq1-clause-steps
@@ -114,9 +114,9 @@ returns-then-words-eq1-clause-steps g c =
     let counted = sym (count-word_bits m c.word-chunk.type_inv) in
     let shows = word-started a i m (omega arith) c.word-chunk.ensures.whole c.word-chunk.ensures.last in
     let all = deposited-more a (values ranks) i at c.read-source.result m _ c.deposit-word.result c.loop-pair.out c.set_word-then-words-eq1.new.bytes
-              c.loop-pair.steps c.word-chunk.new.self c.deposit-word.new.self c.requires.fitting before shows counted
-              (rank_bits-window a ranks i at c.read-source.result m c.requires.fitting before.place shows c.read-source.ensures)
-              c.deposit-word.ensures.deposited c.set_word-then-words-eq1.ensures.here c.set_word-then-words-eq1.ensures.others c.word-chunk.ensures.ticked c.deposit-word.ensures.ticked in
+    c.loop-pair.steps c.word-chunk.new.self c.deposit-word.new.self c.requires.fitting before shows counted
+    (rank_bits-window a ranks i at c.read-source.result m c.requires.fitting before.place shows c.read-source.ensures)
+    c.deposit-word.ensures.deposited c.set_word-then-words-eq1.ensures.here c.set_word-then-words-eq1.ensures.others c.word-chunk.ensures.ticked c.deposit-word.ensures.ticked in
     deposited-steps a r (i + 1) _ c.set_word-then-words-eq1.new.bytes c.deposit-word.new.self (length-rank_intersection a (values ranks)) (omega arith) all
 
 pub returns-else-words-eq1-clause-list : goal.returns-else-words-eq1-clause-list

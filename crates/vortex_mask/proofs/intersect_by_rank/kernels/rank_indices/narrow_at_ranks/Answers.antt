@@ -95,9 +95,9 @@ returns-then-words-eq1-clause-list g c =
     let counted = sym (count-word_bits m c.word-mask.type_inv) in
     let shows = word-started a i m (omega arith) c.word-mask.ensures.whole c.word-mask.ensures.last in
     let all = deposited-more a b i at c.bits_of_ranks-source.result m _ c.deposit-kept.result c.loop-pair.out c.set_word-then-words-eq1.new.bytes
-              c.loop-pair.steps c.word-mask.new.self c.deposit-kept.new.self (length-true_at (count a) ranks) before shows counted
-              (rank_bits-listed a ranks i at _ c.bits_of_ranks-source.result m _ before.place shows counted refl c.bits_of_ranks-source.ensures.bits)
-              c.deposit-kept.ensures.deposited c.set_word-then-words-eq1.ensures.here c.set_word-then-words-eq1.ensures.others c.word-mask.ensures.ticked c.deposit-kept.ensures.ticked in
+    c.loop-pair.steps c.word-mask.new.self c.deposit-kept.new.self (length-true_at (count a) ranks) before shows counted
+    (rank_bits-listed a ranks i at _ c.bits_of_ranks-source.result m _ before.place shows counted refl c.bits_of_ranks-source.ensures.bits)
+    c.deposit-kept.ensures.deposited c.set_word-then-words-eq1.ensures.here c.set_word-then-words-eq1.ensures.others c.word-mask.ensures.ticked c.deposit-kept.ensures.ticked in
     deposited-list a r (i + 1) _ c.set_word-then-words-eq1.new.bytes c.deposit-kept.new.self (length-rank_intersection a b) (omega arith) all ∙ narrowed_at a ranks c.requires.ascending c.requires.within
 
 pub returns-then-words-eq1-clause-steps : goal.returns-then-words-eq1-clause-steps
@@ -114,9 +114,9 @@ returns-then-words-eq1-clause-steps g c =
     let counted = sym (count-word_bits m c.word-mask.type_inv) in
     let shows = word-started a i m (omega arith) c.word-mask.ensures.whole c.word-mask.ensures.last in
     let all = deposited-more a b i at c.bits_of_ranks-source.result m _ c.deposit-kept.result c.loop-pair.out c.set_word-then-words-eq1.new.bytes
-              c.loop-pair.steps c.word-mask.new.self c.deposit-kept.new.self (length-true_at (count a) ranks) before shows counted
-              (rank_bits-listed a ranks i at _ c.bits_of_ranks-source.result m _ before.place shows counted refl c.bits_of_ranks-source.ensures.bits)
-              c.deposit-kept.ensures.deposited c.set_word-then-words-eq1.ensures.here c.set_word-then-words-eq1.ensures.others c.word-mask.ensures.ticked c.deposit-kept.ensures.ticked in
+    c.loop-pair.steps c.word-mask.new.self c.deposit-kept.new.self (length-true_at (count a) ranks) before shows counted
+    (rank_bits-listed a ranks i at _ c.bits_of_ranks-source.result m _ before.place shows counted refl c.bits_of_ranks-source.ensures.bits)
+    c.deposit-kept.ensures.deposited c.set_word-then-words-eq1.ensures.here c.set_word-then-words-eq1.ensures.others c.word-mask.ensures.ticked c.deposit-kept.ensures.ticked in
     deposited-steps a r (i + 1) _ c.set_word-then-words-eq1.new.bytes c.deposit-kept.new.self (length-rank_intersection a b) (omega arith) all ∙ ap (word_steps a) (narrowed_at a ranks c.requires.ascending c.requires.within)
 
 pub returns-else-words-eq1-clause-list : goal.returns-else-words-eq1-clause-list
