@@ -1,4 +1,5 @@
 -- Lemmas. Crates above may cite those of `Lists`, and no others.
+mod AnswerLemmas
 mod BoolsLemmas
 mod BufferLemmas
 mod BuilderLemmas
@@ -7,6 +8,7 @@ mod EqLemmas
 mod Examples
 mod FirstLemmas
 mod LawExamples
+mod LawRows
 mod LawRules
 pub mod Lists
 mod NumberLemmas

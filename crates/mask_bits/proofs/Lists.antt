@@ -1,5 +1,6 @@
 -- Lemmas on lists of truth values, for this crate and for those above it.
 pub mod BooleanLemmas
+pub mod BooleanValueLemmas
 pub mod ChooseLemmas
 pub mod CountLemmas
 pub mod GroupLemmas

@@ -1,3 +1,4 @@
+pub mod BooleanLaws
 pub mod Buffer
 pub mod BufferMut
 pub mod ChoosingLaws
@@ -7,6 +8,7 @@ pub mod Laws
 pub mod Lists
 pub mod Number
 pub mod Positions
+pub mod Rows
 pub mod RunScan
 pub mod Runs
 pub mod Stacks

@@ -9,11 +9,13 @@ use crate::combine::{And, AndNot, BitOp, Not, Or, combine, combine_in_place, neg
 use bytes::Bytes;
 use std::alloc::{AllocError, Global};
 
+#[tactic(auto, using(crate::proofs::Lists::BooleanLemmas::length_facts))]
 impl BitBuffer {
     /// The values that are true in both.
     pub fn bitand(&self, alloc: Global, other: &BitBuffer) -> Result<BitBuffer, AllocError>
         requires { length (values self.now) ≡ length (values other.now) }
-        ensures { IfOk result (λ b. values b ≡ and_of (values self.now) (values other.now)) }
+        ensures list { IfOk result (λ b. values b ≡ and_of (values self.now) (values other.now)) }
+        ensures len { IfOk result (λ b. length (values b) ≡ length (values self.now)) }
     {
         combined_buffer::<And>(alloc, self, other)
     }
@@ -21,7 +23,8 @@ impl BitBuffer {
     /// The values that are true in one or in both.
     pub fn bitor(&self, alloc: Global, other: &BitBuffer) -> Result<BitBuffer, AllocError>
         requires { length (values self.now) ≡ length (values other.now) }
-        ensures { IfOk result (λ b. values b ≡ or_of (values self.now) (values other.now)) }
+        ensures list { IfOk result (λ b. values b ≡ or_of (values self.now) (values other.now)) }
+        ensures len { IfOk result (λ b. length (values b) ≡ length (values self.now)) }
     {
         combined_buffer::<Or>(alloc, self, other)
     }
@@ -29,15 +32,16 @@ impl BitBuffer {
     /// The values that are true here and not in `other`.
     pub fn bitand_not(&self, alloc: Global, other: &BitBuffer) -> Result<BitBuffer, AllocError>
         requires { length (values self.now) ≡ length (values other.now) }
-        ensures { IfOk result (λ b. values b ≡ and_not_of (values self.now) (values other.now)) }
+        ensures list { IfOk result (λ b. values b ≡ and_not_of (values self.now) (values other.now)) }
+        ensures len { IfOk result (λ b. length (values b) ≡ length (values self.now)) }
     {
         combined_buffer::<AndNot>(alloc, self, other)
     }
 
     /// The complement: each value negated.
-    #[tactic(auto, using(crate::proofs::Lists::BooleanLemmas::combined_itself))]
     pub fn not(&self, alloc: Global) -> Result<BitBuffer, AllocError>
-        ensures { IfOk result (λ b. values b ≡ not_of (values self.now)) }
+        ensures list { IfOk result (λ b. values b ≡ not_of (values self.now)) }
+        ensures len { IfOk result (λ b. length (values b) ≡ length (values self.now)) }
     {
         combined_buffer::<Not>(alloc, self, self)
     }
@@ -45,11 +49,13 @@ impl BitBuffer {
 
 /// The same, of a buffer that is taken by value. It is written into its own bytes where nobody else
 /// holds them and it begins at a whole one.
+#[tactic(auto, using(crate::proofs::Lists::BooleanLemmas::length_facts))]
 impl BitBuffer {
     /// The values that are true in both.
     pub fn into_bitand(self, alloc: Global, other: &BitBuffer) -> Result<BitBuffer, AllocError>
         requires { length (values self) ≡ length (values other.now) }
-        ensures { IfOk result (λ b. values b ≡ and_of (values self) (values other.now)) }
+        ensures list { IfOk result (λ b. values b ≡ and_of (values self) (values other.now)) }
+        ensures len { IfOk result (λ b. length (values b) ≡ length (values self)) }
     {
         combined_into::<And>(alloc, self, other)
     }
@@ -57,7 +63,8 @@ impl BitBuffer {
     /// The values that are true in one or in both.
     pub fn into_bitor(self, alloc: Global, other: &BitBuffer) -> Result<BitBuffer, AllocError>
         requires { length (values self) ≡ length (values other.now) }
-        ensures { IfOk result (λ b. values b ≡ or_of (values self) (values other.now)) }
+        ensures list { IfOk result (λ b. values b ≡ or_of (values self) (values other.now)) }
+        ensures len { IfOk result (λ b. length (values b) ≡ length (values self)) }
     {
         combined_into::<Or>(alloc, self, other)
     }
@@ -65,14 +72,16 @@ impl BitBuffer {
     /// The values that are true here and not in `other`.
     pub fn into_bitand_not(self, alloc: Global, other: &BitBuffer) -> Result<BitBuffer, AllocError>
         requires { length (values self) ≡ length (values other.now) }
-        ensures { IfOk result (λ b. values b ≡ and_not_of (values self) (values other.now)) }
+        ensures list { IfOk result (λ b. values b ≡ and_not_of (values self) (values other.now)) }
+        ensures len { IfOk result (λ b. length (values b) ≡ length (values self)) }
     {
         combined_into::<AndNot>(alloc, self, other)
     }
 
     /// The complement: each value negated.
     pub fn into_not(self, alloc: Global) -> Result<BitBuffer, AllocError>
-        ensures { IfOk result (λ b. values b ≡ not_of (values self)) }
+        ensures list { IfOk result (λ b. values b ≡ not_of (values self)) }
+        ensures len { IfOk result (λ b. length (values b) ≡ length (values self)) }
     {
         let len = self.len();
         match self.into_room() {

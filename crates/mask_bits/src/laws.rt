@@ -3,6 +3,7 @@
 
 #![tactic(auto, using(crate::proofs::LawRules::laws))]
 
+ghost use Rattle.mask_bits.specs.BooleanLaws.{ValueOfAnd, ValueOfOr, ValueOfAndNot, ValueOfNot, LengthOfTrueAt, ValueOfTrueAt, ComplementOfAnd, ComplementOfOr, ListOfOneValue, CountOfComplement, CountOfAnd, CountOfAndWithOr, CountOfAndWithAndNot, CountOfFoldIsAtMostTheFirst, ChosenAndTheRest};
 ghost use Rattle.mask_bits.specs.ChoosingLaws.{ChosenByTest, ChosenOfTwoChunks, ChosenOfChunks, ChosenByLimit, PositionsOfLimit, LimitPastTheCount, LimitOfRankIntersection};
 ghost use Rattle.mask_bits.specs.IndexLaws.{PositionsAscend, FirstIsAtMostLast, CountBelowTheFirst, CountBelowTheNext, AllTrueIsOneRange, AllTrueIsOneRun, AllFalseHasNoRange, AllFalseHasNoRun, NeighborsDoNotFall, SortedDoNotFall};
 ghost use Rattle.mask_bits.specs.Laws.{IndicesAreWithin, CountIsAtMostLength, CountIsLengthOfAllTrue, CountIsSomeOfAnyTrue, CountOfAppend, LengthOfRepeated, PositionsOfAllTrue, CountOfAllTrue, PositionsOfAllFalse, ChosenByAllTrue, ChosenByAllFalse, ChosenIsRowsAtPositions, CountOfChosen, ValueOfWord, CountOfWord, CountsOfWordsAddUp, LengthOfValues, SameValuesAreOneList, PositionsDetermineList, RankIntersectionIsTheList, RankIntersectionValue, ChoosingTwice, RankIntersectionAssociative, AllTrueLeftUnit, AllTrueRightUnit, RankIntersectionCount, RankIntersectionPosition, FoldingKeepsAStack, RunsExist, RunsAreUnique, RunsAreRanges, RangesAddUpToTheCount, RankIntersectionOfAnd, RankIntersectionOfNot, IsFreeOfOrder, DistributesOver, Absorbs, HasComplements, AndNotIsAndOfNot, KeepsLength, PartOfPart, PartOfConcat, LimitOfLimit, HasLimitCount, CountBelowPosition, RunsAreTheList, RunOfAllTrue, RunsOfAllFalse, ChosenByRanges, GroupsBeginWithin, GroupOfRepeated, IndicesLieInGroups, CountOfGroup, StackFoldsAlike, FoldedByTheFirst, FoldOfOne, FoldedLeftByTheLast, LengthOfFold, CountOfFold, FoldOfNoRow, NeighborsMakeOne, ChoosingInTurn};
@@ -26,12 +27,14 @@ pub fn counts()
 
 // ---- lists of one value
 
-/// The length, the true indices and the count of a list of one value.
+/// The length, the true indices and the count of a list of one value, and that a list whose values
+/// are all the same is one.
 pub fn lists_of_one_value()
     ensures len { LengthOfRepeated }
     ensures every_index { PositionsOfAllTrue }
     ensures count { CountOfAllTrue }
     ensures no_index { PositionsOfAllFalse }
+    ensures only { ListOfOneValue }
 {}
 
 // ---- rows
@@ -206,6 +209,47 @@ pub fn keeps_length()
     ensures lengths { KeepsLength }
 {}
 
+/// Each value of `and`, `or`, and-not and a complement, by the values at its index.
+#[tactic(auto, using(crate::proofs::Lists::BooleanValueLemmas::value_of_and, crate::proofs::Lists::BooleanValueLemmas::value_of_or, crate::proofs::Lists::BooleanValueLemmas::value_of_and_not, crate::proofs::Lists::BooleanValueLemmas::value_of_not))]
+pub fn boolean_values()
+    ensures and { ValueOfAnd }
+    ensures or { ValueOfOr }
+    ensures and_not { ValueOfAndNot }
+    ensures not { ValueOfNot }
+{}
+
+/// A list that is true exactly at some indices, as that of a buffer made of them: its length, and
+/// each of its values.
+#[tactic(auto, using(crate::proofs::Lists::BooleanValueLemmas::value_of_true_at, crate::proofs::Lists::RankLemmas::true_at_facts))]
+pub fn true_at_indices()
+    ensures len { LengthOfTrueAt }
+    ensures value { ValueOfTrueAt }
+{}
+
+/// How many values are true: of a list and its complement, of `and`, of `and` and `or` together, and
+/// of what a second list leaves of the first and takes from it.
+#[tactic(auto, using(crate::proofs::Lists::BooleanValueLemmas::count_of_complement, crate::proofs::Lists::BooleanValueLemmas::count_of_and, crate::proofs::Lists::BooleanValueLemmas::count_of_and_with_or, crate::proofs::Lists::BooleanValueLemmas::count_of_and_with_and_not))]
+pub fn boolean_counts()
+    ensures complement { CountOfComplement }
+    ensures and { CountOfAnd }
+    ensures and_with_or { CountOfAndWithOr }
+    ensures and_with_and_not { CountOfAndWithAndNot }
+{}
+
+/// De Morgan's laws: the complement of `and` is `or` of the complements, and the other way round.
+#[tactic(auto, using(crate::proofs::Lists::BooleanValueLemmas::complement_of_and, crate::proofs::Lists::BooleanValueLemmas::complement_of_or))]
+pub fn de_morgan()
+    ensures and { ComplementOfAnd }
+    ensures or { ComplementOfOr }
+{}
+
+/// The rows that a list chooses, and then those that its complement chooses, are all rows in another
+/// order.
+#[tactic(auto, using(crate::proofs::Lists::BooleanValueLemmas::chosen_and_the_rest))]
+pub fn chosen_and_the_rest<T>()
+    ensures permuted { ChosenAndTheRest T }
+{}
+
 // ---- parts and limits
 
 /// A part of a part is one part of the whole.
@@ -282,14 +326,15 @@ pub fn stack_folds_alike()
 {}
 
 /// The fold of one list is the list; of more, the fold of all but the last, narrowed by the last.
-/// It is as long as the first and has the last one's count. Where the first chooses none, the
-/// fold is the first.
-#[tactic(auto, using(crate::proofs::Lists::StackLemmas::fold_of_one, crate::proofs::Lists::StackLemmas::folded_left_by_the_last, crate::proofs::Lists::StackLemmas::length_of_fold, crate::proofs::Lists::StackLemmas::count_of_fold, crate::proofs::Lists::StackLemmas::fold_of_no_row))]
+/// It is as long as the first, and has the last one's count, which is at most the first one's. Where the
+/// first chooses none, the fold is the first.
+#[tactic(auto, using(crate::proofs::Lists::BooleanValueLemmas::count_of_fold_is_at_most_the_first, crate::proofs::Lists::StackLemmas::fold_of_one, crate::proofs::Lists::StackLemmas::folded_left_by_the_last, crate::proofs::Lists::StackLemmas::length_of_fold, crate::proofs::Lists::StackLemmas::count_of_fold, crate::proofs::Lists::StackLemmas::fold_of_no_row))]
 pub fn folds()
     ensures one { FoldOfOne }
     ensures last { FoldedLeftByTheLast }
     ensures len { LengthOfFold }
     ensures count { CountOfFold }
+    ensures at_most { CountOfFoldIsAtMostTheFirst }
     ensures no_row { FoldOfNoRow }
 {}
 

@@ -9,6 +9,7 @@ mod chunks;
 pub mod combine;
 pub mod counts;
 mod eq;
+mod from_rows;
 pub mod laws;
 mod read_word;
 mod scan;

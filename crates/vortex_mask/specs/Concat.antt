@@ -14,9 +14,10 @@ lists_of masks = map (λ mask. truth mask.now) masks
 abbrev pub total_len : List (List Bool) → ℕ
 total_len lists = sum_by length lists
 
--- a mask is the lists one after another, whose lengths add up to one that fits
+-- a mask is the lists one after another, whose lengths add up to its own, which fits
 pub record Joins (lists : List (List Bool)) (mask : Mask) : Type 0 where
   pub list : truth mask ≡ concat lists
+  pub len : length (truth mask) ≡ total_len lists
   pub fits : total_len lists < 2 ^ 64
 
 -- each value of each mask is v

@@ -20,6 +20,7 @@ impl Mask {
     pub fn bitand(&self, alloc: Global, other: &Mask) -> Result<Mask, MaskError>
         requires { length (truth self.now) ≡ length (truth other.now) }
         ensures list { IfOk result (λ m. truth m ≡ and_of (truth self.now) (truth other.now)) }
+        ensures len { IfOk result (λ m. length (truth m) ≡ length (truth self.now)) }
         ensures variant { IfOk result (λ m. variant m
             ≡ fitting_variant (variant_and (variant self.now) (variant other.now)) (truth m)) }
         ensures caches { IfOk result (λ m. caches m ≡ and_caches self.now other.now) }
@@ -51,6 +52,7 @@ impl Mask {
     pub fn bitor(&self, alloc: Global, other: &Mask) -> Result<Mask, MaskError>
         requires { length (truth self.now) ≡ length (truth other.now) }
         ensures list { IfOk result (λ m. truth m ≡ or_of (truth self.now) (truth other.now)) }
+        ensures len { IfOk result (λ m. length (truth m) ≡ length (truth self.now)) }
         ensures variant { IfOk result (λ m. variant m
             ≡ fitting_variant (variant_or (variant self.now) (variant other.now)) (truth m)) }
         ensures caches { IfOk result (λ m. caches m ≡ or_caches self.now other.now) }
@@ -81,6 +83,7 @@ impl Mask {
     /// The complement: each value negated.
     pub fn not(&self, alloc: Global) -> Result<Mask, MaskError>
         ensures list { IfOk result (λ m. truth m ≡ not_of (truth self.now)) }
+        ensures len { IfOk result (λ m. length (truth m) ≡ length (truth self.now)) }
         ensures variant { IfOk result
             (λ m. variant m ≡ fitting_variant (variant_not (variant self.now)) (truth m)) }
         ensures caches { IfOk result (λ m. caches m ≡ no_caches) }
@@ -104,6 +107,7 @@ impl Mask {
     pub fn to_bitand_not(&self, alloc: Global, other: &Mask) -> Result<Mask, MaskError>
         requires { length (truth self.now) ≡ length (truth other.now) }
         ensures list { IfOk result (λ m. truth m ≡ and_not_of (truth self.now) (truth other.now)) }
+        ensures len { IfOk result (λ m. length (truth m) ≡ length (truth self.now)) }
         ensures variant { IfOk result (λ m. variant m ≡ fitting_variant
             (variant_and (variant self.now) (variant_not (variant other.now))) (truth m)) }
         ensures caches { IfOk result (λ m. caches m ≡ and_not_caches self.now other.now) }
@@ -136,6 +140,7 @@ impl Mask {
     pub fn into_bitand(self, alloc: Global, other: &Mask) -> Result<Mask, MaskError>
         requires { length (truth self) ≡ length (truth other.now) }
         ensures list { IfOk result (λ m. truth m ≡ and_of (truth self) (truth other.now)) }
+        ensures len { IfOk result (λ m. length (truth m) ≡ length (truth self)) }
         ensures variant { IfOk result (λ m. variant m
             ≡ fitting_variant (variant_and (variant self) (variant other.now)) (truth m)) }
         ensures caches { IfOk result (λ m. caches m ≡ and_caches self other.now) }
@@ -164,6 +169,7 @@ impl Mask {
     pub fn into_bitor(self, alloc: Global, other: &Mask) -> Result<Mask, MaskError>
         requires { length (truth self) ≡ length (truth other.now) }
         ensures list { IfOk result (λ m. truth m ≡ or_of (truth self) (truth other.now)) }
+        ensures len { IfOk result (λ m. length (truth m) ≡ length (truth self)) }
         ensures variant { IfOk result (λ m. variant m
             ≡ fitting_variant (variant_or (variant self) (variant other.now)) (truth m)) }
         ensures caches { IfOk result (λ m. caches m ≡ or_caches self other.now) }
@@ -191,6 +197,7 @@ impl Mask {
     /// The complement: each value negated.
     pub fn into_not(self, alloc: Global) -> Result<Mask, MaskError>
         ensures list { IfOk result (λ m. truth m ≡ not_of (truth self)) }
+        ensures len { IfOk result (λ m. length (truth m) ≡ length (truth self)) }
         ensures variant { IfOk result
             (λ m. variant m ≡ fitting_variant (variant_not (variant self)) (truth m)) }
         ensures caches { IfOk result (λ m. caches m ≡ no_caches) }
@@ -213,6 +220,7 @@ impl Mask {
     pub fn bitand_not(self, alloc: Global, other: &Mask) -> Result<Mask, MaskError>
         requires { length (truth self) ≡ length (truth other.now) }
         ensures list { IfOk result (λ m. truth m ≡ and_not_of (truth self) (truth other.now)) }
+        ensures len { IfOk result (λ m. length (truth m) ≡ length (truth self)) }
         ensures variant { IfOk result (λ m. variant m ≡ fitting_variant
             (variant_and (variant self) (variant_not (variant other.now))) (truth m)) }
         ensures caches { IfOk result (λ m. caches m ≡ and_not_caches self other.now) }

@@ -7,7 +7,7 @@ mod rank_bits;
 mod select;
 mod steps;
 
-ghost use Rattle.std.specs.Prelude.{◌≡◌, ◌≢◌, ◌<◌, ◌⊎◌, ◌∷◌, IsOk, IfOk, All, fold, map, length, IsOkUnless, alloc_error};
+ghost use Rattle.std.specs.Prelude.{◌≡◌, ◌≢◌, ◌<◌, ◌⊎◌, ◌∷◌, [], IsOk, IfOk, All, fold, map, length, IsOkUnless, alloc_error};
 ghost use Rattle.vortex_mask.specs.Caches.{caches};
 ghost use Rattle.vortex_mask.specs.Mask.{truth, variant, fitting_variant, variant_and, all_false, mixed};
 ghost use Rattle.mask_bits.specs.Positions.{positions, count, at_indices, rank_intersection};
@@ -108,7 +108,8 @@ impl Mask {
     /// next one over the true values of the one before it. Without `masks` it is a clone.
     ///
     /// A stack of filters becomes one by this call. Once the result so far is all false no kernel
-    /// runs. Which lists of its true indices the result caches is left open: it depends on each step.
+    /// runs. Which lists of its true indices the result of one mask or more caches is
+    /// left open: it depends on each step.
     pub fn intersect_all_by_rank(&self, alloc: Global, masks: &[Mask]) -> Result<Mask, MaskError>
         requires { IsStack (truth self.now ∷ map truth masks.now) }
         ensures len { IfOk result (λ m. length (truth m) ≡ length (truth self.now)) }
@@ -116,6 +117,7 @@ impl Mask {
             (λ m. truth m ≡ folded_left (truth self.now ∷ map truth masks.now)) }
         ensures variant { IfOk result (λ m. variant m
             ≡ fitting_variant (fold variant_and (variant self.now) (map variant masks.now)) (truth m)) }
+        ensures alone { masks.now ≡ [] → IfOk result (λ m. caches m ≡ caches self.now) }
 
         // What needs no memory succeeds.
         ensures uniform { variant self.now ≢ mixed → All (λ m. variant m ≢ mixed) masks.now

@@ -14,7 +14,7 @@ mod limit;
 mod slice;
 mod values;
 
-ghost use Rattle.std.specs.Prelude.{◌≡◌, ◌≢◌, ◌+◌, ◌<◌, ◌↔◌, [], true, false, if◌then◌else◌, IsTrue, IsOk, IfOk, Some, length, All, slice_get, IsOkUnless, alloc_error, ◌-◌, ◌≤◌, IfSome, map, ◌*◌};
+ghost use Rattle.std.specs.Prelude.{◌≡◌, ◌≢◌, ◌+◌, ◌<◌, ◌↔◌, [], true, false, if◌then◌else◌, IsTrue, IsOk, IfOk, Some, length, All, slice_get, IsOkUnless, alloc_error, ◌-◌, ◌≤◌, IfSome, map, ◌*◌, slice_range};
 ghost use Rattle.std.specs.Option.{option_copied};
 ghost use Rattle.std.specs.List.Sorted.{IsNonDecreasing};
 ghost use Rattle.mask_bits.specs.Buffer.{values};
@@ -214,6 +214,24 @@ impl Mask {
         match self {
             Mask::AllTrue(_) | Mask::AllFalse(_) => None,
             Mask::Values(values) => Some(values.as_ref()),
+        }
+    }
+}
+
+/// Counts of a part.
+#[tactic(auto, using(crate::proofs::Masks::MaskLemmas::count_facts))]
+impl Mask {
+    /// How many of the values from `start` to `end` are true.
+    pub fn count_range(&self, start: usize, end: usize) -> usize
+        requires ordered { start ≤ end }
+        requires within { end ≤ length (truth self.now) }
+        ensures counted { result ≡ count (slice_range (truth self.now) start end) }
+        ensures at_most { result ≤ end - start }
+    {
+        match self {
+            Mask::AllTrue(_) => end - start,
+            Mask::AllFalse(_) => 0,
+            Mask::Values(values) => values.bit_buffer().count_range(start, end),
         }
     }
 }

@@ -133,3 +133,6 @@ not-narrow (v ∷ a) b fits = grind (arith, not-narrow a)
 
 pub rank_intersection_of_not : RankIntersectionOfNot
 rank_intersection_of_not a b fits = grind (arith, rank_intersection-narrow, length-not_of, not-narrow, count-trues)
+
+-- how long the results of boolean calls are
+pub ruleset length_facts = (length-combined, length-not_of, combined_itself)

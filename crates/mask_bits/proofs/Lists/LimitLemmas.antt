@@ -47,7 +47,7 @@ trues-kept (v ∷ m) k = grind (arith, trues-kept m)
 pub limit_of_limit : LimitOfLimit
 limit_of_limit m k j = grind (arith, limited-kept, kept-kept)
 
-count-limited : (m : List Bool) (k : ℕ) → count (limited m k) ≡ min k (count m)
+pub count-limited : (m : List Bool) (k : ℕ) → count (limited m k) ≡ min k (count m)
 count-limited m k = grind (arith, limited-kept, count-trues, trues-kept)
 
 pub limit_count : HasLimitCount

@@ -115,3 +115,5 @@ length-true_at n places = length-map-range_with_len (λ i. list_any (nat_eq i) p
 pub All-at_indices : (P : ℕ → Type 0) (ps qs : List ℕ) → All P ps → All (λ q. q < length ps) qs → All P (at_indices ps qs)
 All-at_indices P ps qs all within =
     All-map P (λ q. get_or ps q 0) qs (All-weaker (λ q. q < length ps) (λ q. P (get_or ps q 0)) (λ q h. All-get_or P ps q 0 h all) qs within)
+
+pub ruleset true_at_facts = (length-true_at)

@@ -4,7 +4,7 @@ use Rattle.std.specs.Prelude.{if◌then◌else◌}
 use Rattle.std.proofs.Math.Bool.{and-true, and-false, or-true, or-false}
 use Rattle.mask_bits.specs.Lists.{and_of, or_of, not_of, and_not_of}
 use Rattle.mask_bits.specs.Positions.{count, repeated}
-use Rattle.mask_bits.proofs.Lists.BooleanLemmas.{combined_itself, length-combined, combined-left, combined-right, map-itself, map-one, not_of-repeated}
+use Rattle.mask_bits.proofs.Lists.BooleanLemmas.{combined_itself, length-combined, length-not_of, combined-left, combined-right, map-itself, map-one, not_of-repeated}
 use Rattle.mask_bits.proofs.Lists.Places.PlaceLemmas.{trues, count-trues}
 use Rattle.vortex_mask.proofs.Masks.MaskLemmas.{variant_and-all_false, variant_or-all_true}
 
@@ -41,4 +41,4 @@ trues-not (false ∷ m) = omega (arith, trues-not m)
 pub count-not_of : (m : List Bool) → count (not_of m) ≡ length m - count m
 count-not_of m = omega (arith, trues-not m, count-trues m, count-trues (not_of m))
 
-pub ruleset bitop_facts = (count-not_of, length-combined, combined_itself, not_of-repeated, and_of-left, and_of-right, or_of-left, or_of-right, and_not_of-left, and_not_of-right, variant_and-all_false, variant_or-all_true)
+pub ruleset bitop_facts = (count-not_of, length-combined, length-not_of, combined_itself, not_of-repeated, and_of-left, and_of-right, or_of-left, or_of-right, and_not_of-left, and_not_of-right, variant_and-all_false, variant_or-all_true)

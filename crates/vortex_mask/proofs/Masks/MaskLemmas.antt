@@ -8,7 +8,7 @@ use Rattle.mask_bits.specs.Positions.{count, repeated, positions}
 use Rattle.vortex_mask.specs.declared.mask.Mask.TheVariants.{AllTrue, AllFalse}
 use Rattle.mask_bits.proofs.Lists.ChooseLemmas.{chosen-all_true, chosen-all_false}
 use Rattle.mask_bits.proofs.Lists.LawLemmas.{length-chosen, positions-rank_intersection, rank_intersection-none, length-rank_intersection}
-use Rattle.mask_bits.proofs.Lists.LimitLemmas.{limited-front, limited-all, limited-none, length-limited}
+use Rattle.mask_bits.proofs.Lists.LimitLemmas.{limited-front, limited-all, limited-none, length-limited, count-limited}
 use Rattle.mask_bits.proofs.Lists.PartLemmas.{part_of_repeated}
 use Rattle.mask_bits.proofs.Lists.Places.PlaceLemmas.{count-le-length}
 use Rattle.mask_bits.proofs.Lists.RankLemmas.{rank_intersection-all_true, rank_intersection-by_all_true}
@@ -81,7 +81,9 @@ front_of_repeated n v e h =
     let all : e - 0 ≡ e = omega arith in
     part_of_repeated n v 0 e (omega arith) h ∙ ap (λ k. repeated k v) all
 
-pub ruleset part_facts = (front_of_repeated, limited-front, part_of_repeated, limited-all, limited-none, length-limited)
+pub ruleset part_facts = (front_of_repeated, limited-front, part_of_repeated, limited-all, limited-none, length-limited, count-limited)
+
+pub ruleset count_facts = (part_of_repeated, length-repeated, count-repeated_true, count-repeated_false)
 
 pub ruleset row_facts = (length-repeated, length-chosen, chosen-all_true, chosen-all_false)
 

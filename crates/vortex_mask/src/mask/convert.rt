@@ -1,12 +1,14 @@
 //! Masks from buffers and truth values, and buffers from masks.
 
 ghost use Rattle.std.specs.Prelude.{◌≡◌, ◌<◌, true, IsOk, IfOk, Some, All, IsOkUnless, alloc_error, None, Ok, Err};
+ghost use Rattle.std.specs.Fn.{FnReturnsAt};
 ghost use Rattle.std.specs.Iterator.{UpTo, Drains};
 ghost use Rattle.std.specs.Iterator.Runs.{WholeRun};
 ghost use Rattle.std.specs.Option.{option_map};
 ghost use Rattle.vortex_mask.specs.AllOr.{all_or_copied, IsListOf};
 ghost use Rattle.mask_bits.specs.Buffer.{values};
 ghost use Rattle.mask_bits.specs.Positions.{count};
+ghost use Rattle.mask_bits.specs.Rows.{AreAnswers, AreAsComputed};
 ghost use Rattle.vortex_mask.specs.Caches.{caches, where_mixed};
 ghost use Rattle.vortex_mask.specs.Mask.{truth, variant, fitting_variant, all_false, mixed, IsUniform, held_buffer};
 ghost use Rattle.vortex_mask.specs.MaskValues.{no_caches, AreOf, only_ranges};
@@ -95,6 +97,27 @@ impl Mask {
         ensures refused { IsOkUnless result (MaskError.Memory alloc_error) }
     {
         let buffer = BitBuffer::from_bools(alloc, bools)?;
+        Mask::from_buffer(alloc, buffer)
+    }
+
+    /// What a test answers of each row, in their order: value `i` is its answer of row `i`. No rows
+    /// give `AllFalse(0)`.
+    ///
+    /// The filter of a column by a test of its rows: `Mask::from_rows(alloc, rows, |row| *row > low)`.
+    pub fn from_rows<T, F: Fn(&T) -> bool>(
+        alloc: Global,
+        rows: &[T],
+        test: F,
+    ) -> Result<Mask, MaskError>
+        requires { F.IsAlwaysCallable test }
+        ensures answers { IfOk result
+            (λ m. AreAnswers (FnReturnsAt F.Fn test) rows.now (truth m)) }
+        ensures list { IfOk result (λ m. AreAsComputed (F.post test) rows.now (truth m)) }
+        ensures variant { IfOk result (λ m. variant m ≡ fitting_variant all_false (truth m)) }
+        ensures caches { IfOk result (λ m. caches m ≡ no_caches) }
+        ensures refused { IsOkUnless result (MaskError.Memory alloc_error) }
+    {
+        let buffer = BitBuffer::from_rows(alloc, rows, test)?;
         Mask::from_buffer(alloc, buffer)
     }
 }

@@ -202,6 +202,7 @@ impl Mask {
     ) -> Result<Mask, MaskError>
         requires can { I.can_next indices }
         requires ends { IsFinite (I.remaining indices) }
+        ensures len { IfOk result (λ m. length (truth m) ≡ len) }
         ensures list { IfOk result (λ m. (xs : List ℕ) × Drains I.next_gives indices xs
             × (out_of_bounds len xs ≡ None) × (truth m ≡ not_of (true_at len xs))) }
         ensures whole { IfOk result (λ m. WholeRun I.next_gives indices

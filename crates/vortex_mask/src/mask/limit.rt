@@ -1,6 +1,6 @@
 //! The first true values of a mask.
 
-ghost use Rattle.std.specs.Prelude.{◌≡◌, ◌≢◌, ◌-◌, ◌<◌, ◌≤◌, ◌++◌, false, IsOk, IfOk, IsOkUnless, Ok, alloc_error, length, slice_range};
+ghost use Rattle.std.specs.Prelude.{◌≡◌, ◌≢◌, ◌-◌, ◌<◌, ◌≤◌, ◌++◌, false, IsOk, IfOk, IsOkUnless, Ok, alloc_error, length, min, slice_range};
 ghost use Rattle.mask_bits.specs.Buffer.{values};
 ghost use Rattle.mask_bits.specs.Lists.{limited};
 ghost use Rattle.mask_bits.specs.Positions.{count, repeated};
@@ -20,6 +20,8 @@ impl Mask {
     /// stays as it is.
     pub fn limit(self, alloc: Global, k: usize) -> Result<Mask, MaskError>
         ensures list { IfOk result (λ m. truth m ≡ limited (truth self) k) }
+        ensures len { IfOk result (λ m. length (truth m) ≡ length (truth self)) }
+        ensures count { IfOk result (λ m. count (truth m) ≡ min k (count (truth self))) }
         ensures variant { IfOk result
             (λ m. variant m ≡ fitting_variant (variant self) (truth m)) }
         ensures cut { k < count (truth self) → IfOk result (λ m. caches m ≡ no_caches) }
@@ -40,6 +42,8 @@ impl Mask {
     /// clone.
     pub fn to_limited(&self, alloc: Global, k: usize) -> Result<Mask, MaskError>
         ensures list { IfOk result (λ m. truth m ≡ limited (truth self.now) k) }
+        ensures len { IfOk result (λ m. length (truth m) ≡ length (truth self.now)) }
+        ensures count { IfOk result (λ m. count (truth m) ≡ min k (count (truth self.now))) }
         ensures variant { IfOk result
             (λ m. variant m ≡ fitting_variant (variant self.now) (truth m)) }
         ensures cut { k < count (truth self.now) → IfOk result (λ m. caches m ≡ no_caches) }

@@ -1,10 +1,11 @@
 //! Parts of a mask, and its groups.
 
-ghost use Rattle.std.specs.Prelude.{◌≡◌, ◌≢◌, ◌-◌, ◌<◌, ◌≤◌, IsOk, IfOk, IsOkUnless, Ok, alloc_error, length, slice_range, ◌*◌, map};
+ghost use Rattle.std.specs.Prelude.{◌≡◌, ◌≢◌, ◌-◌, ◌<◌, ◌≤◌, IsOk, IfOk, IsOkUnless, Ok, alloc_error, length, slice_range, ◌*◌, map, vec_len};
 ghost use Rattle.std.specs.Int.{div_ceil};
 ghost use Rattle.std.specs.List.{range_with_len};
 ghost use Rattle.mask_bits.specs.Buffer.{values};
 ghost use Rattle.mask_bits.specs.Lists.{group};
+ghost use Rattle.mask_bits.specs.Positions.{count};
 ghost use Rattle.vortex_mask.specs.Caches.{caches};
 ghost use Rattle.vortex_mask.specs.Mask.{truth, variant, fitting_variant, variant_of_no_part, mixed};
 ghost use Rattle.vortex_mask.specs.MaskValues.{no_caches};
@@ -46,12 +47,18 @@ impl Mask {
 }
 
 /// Groups of values.
+#[tactic(auto, using(crate::proofs::Masks::GroupLemmas::group_facts))]
 impl Mask {
     /// A mask for each group of `size` values, as for the row groups of a file or the batches of a
     /// scan. The last group may have fewer values, and no values give no group.
     pub fn groups(&self, alloc: Global, size: usize) -> Result<Vec<Mask>, MaskError>
         requires { 0 < size }
         ensures groups { IfOk result (λ v. map truth v.items ≡ map (group (truth self.now) size)
+            (range_with_len 0 (div_ceil (length (truth self.now)) size))) }
+        ensures len { IfOk result
+            (λ v. vec_len v ≡ div_ceil (length (truth self.now)) size) }
+        ensures counts { IfOk result (λ v. map (λ m. count (truth m)) v.items
+            ≡ map (λ g. count (group (truth self.now) size g))
             (range_with_len 0 (div_ceil (length (truth self.now)) size))) }
         ensures refused { IsOkUnless result (MaskError.Memory alloc_error) }
     {

@@ -7,6 +7,7 @@ use Rattle.mask_bits.proofs.Lists.CountLemmas.{length-repeated}
 use Rattle.vortex_mask.specs.Faults.{out_of_bounds}
 use Rattle.vortex_mask.specs.Mask.{truth}
 use Rattle.vortex_mask.specs.declared.mask.error.MaskError.TheVariants.{IndexOutOfBounds}
+use Rattle.vortex_mask.proofs.Masks.ExcludedLemmas.{length-without}
 use Rattle.vortex_mask.proofs.Masks.FaultLemmas.{out_of_bounds-first}
 use Rattle.vortex_mask.proofs.Masks.MaskWalkLemmas.{whole_run}
 use Rattle.vortex_mask.proofs.mask.Mask.from_excluded_indices.Goals as goal
@@ -43,3 +44,9 @@ pub returns-clause-whole : goal.returns-clause-whole
 returns-clause-whole g c =
     IfOk-weaker c.of_builder.result _ _ (λ m made.
     whole_run _ _ (λ (xs : List ℕ). (out_of_bounds c.args.len xs ≡ None) × (truth m ≡ not_of (true_at c.args.len xs))) made.0 made.1 (made.2, made.3)) (returns-clause-list g c)
+
+pub returns-clause-len : goal.returns-clause-len
+returns-clause-len g c =
+    let came = c.exclude.ensures in
+    let n = ap length c.in_ok-builder.ensures ∙ length-repeated c.args.len true in
+    IfOk-weaker c.of_builder.result _ _ (λ m same. ap length (same ∙ came.2) ∙ length-without (length c.in_ok-builder.builder) came.0 ∙ n) c.of_builder.ensures.list

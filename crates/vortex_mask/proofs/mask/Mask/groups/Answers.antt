@@ -1,8 +1,11 @@
-use Rattle.std.proofs.Common.{Bool, List, [], ◌∷◌, ◌++◌, map, sym, ap, ap₂, ◌∙◌, arith}
+use Rattle.std.proofs.Common.{◌≡◌, Bool, List, [], ◌∷◌, ◌++◌, length, map, sym, ap, ap₂, ◌∙◌, arith}
+use Rattle.std.specs.Int.{div_ceil}
+use Rattle.std.specs.List.{range_with_len}
 use Rattle.std.proofs.lemmas.List.{map-append}
 use Rattle.std.proofs.lemmas.List.FromFn.{map-range_with_len_more}
 use Rattle.mask_bits.specs.Lists.{group}
 use Rattle.vortex_mask.specs.Mask.{truth}
+use Rattle.vortex_mask.proofs.Masks.GroupLemmas.{counts-groups}
 use Rattle.vortex_mask.proofs.mask.Mask.groups.Goals as goal
 
 -- one more group
@@ -13,3 +16,10 @@ loop-number-preserved c =
     ∙ map-append truth c.loop-number.groups.items (c.in_ok-group.field-0 ∷ [])
     ∙ ap₂ (λ (xs ys : List (List Bool)). xs ++ ys) c.loop-number.invariant (ap (λ (m : List Bool). m ∷ []) c.in_ok-group.ensures.list)
     ∙ sym (map-range_with_len_more (group (truth c.args.self.now) c.args.size) 0 n n (omega arith))
+
+pub returns-clause-counts : goal.returns-clause-counts
+returns-clause-counts c =
+    let groups = group (truth c.args.self.now) c.args.size in
+    let end : c.loop-number.number ≡ div_ceil (length (truth c.args.self.now)) c.args.size =
+    omega (arith, c.loop-number-test.false, c.loop-number.auto.number-end) ∙ c.div_ceil-number-end.ensures ∙ ap (λ n. div_ceil n c.args.size) c.len.ensures in
+    counts-groups c.loop-number.groups.items groups _ (c.loop-number.invariant ∙ ap (λ n. map groups (range_with_len 0 n)) end)

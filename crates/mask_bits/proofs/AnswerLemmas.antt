@@ -1,0 +1,107 @@
+-- What a test answers of rows, row by row and word by word.
+use Rattle.std.proofs.Common.{◌≡◌, ℕ, drop, ◌+◌, ◌-◌, ◌*◌, ◌%◌, ◌^◌, ◌<◌, ◌≤◌, Bool, false, List, [], ◌∷◌, ◌++◌, length, get_or, map, take, zip, refl, sym, ap, ap₂, subst, ◌∙◌, arith}
+use Rattle.std.specs.Borrow.{Bor}
+use Rattle.std.specs.Fn.{FnReturnsAt, Shared}
+use Rattle.std.specs.Int.RustNames.{bit_or}
+use Rattle.std.specs.List.{All}
+use Rattle.std.proofs.lemmas.List.{ext_get_or, get_or-take, length-take, length-append, length-drop, length-take-le, take-append-le, take-take, take-append-drop, drop-take}
+use Rattle.std.proofs.Math.Seq.{get_or-append_seam}
+use Rattle.std.proofs.lemmas.List.Elements.{All-nil, All-cons, All-head, All-tail}
+use Rattle.mask_bits.specs.Rows.{AreAnswers, AreAsComputed}
+use Rattle.mask_bits.specs.Words.{word_bits}
+use Rattle.mask_bits.proofs.BoolsLemmas.{IsPacked, packed-none, packed-more}
+use Rattle.mask_bits.proofs.Lists.Words.WordLemmas.{length-word_bits}
+use mir.Val.{bool_byte}
+
+-- the answers are those of any function that the test computes
+as_computed : {F T : Type 0} (g : Shared F (Bor T × Unit {0}) Bool) (test : F) (rows : List T) (answers : List Bool) (f : T → Bool)
+    → ((row : Bor T) (b : Bool) → g.post test (row, tt) b → b ≡ f row.now) → length answers ≡ length rows → All (λ p. FnReturnsAt g test p.0 p.1) (zip rows answers) → answers ≡ map f rows
+as_computed g test [] [] f is len all = refl
+as_computed g test [] (b ∷ answers) f is len all = absurd (omega arith)
+as_computed g test (r ∷ rows) [] f is len all = absurd (omega arith)
+as_computed {F} {T} g test (r ∷ rows) (b ∷ answers) f is len all =
+    let here : FnReturnsAt g test r b = All-head (λ (p : T × Bool). FnReturnsAt g test p.0 p.1) (r, b) (zip rows answers) all in
+    ap₂ (λ (x : Bool) (xs : List Bool). x ∷ xs) (is here.shown b here.says.met ∙ ap f here.shows)
+    (as_computed g test rows answers f is (omega arith) (All-tail (λ (p : T × Bool). FnReturnsAt g test p.0 p.1) (r, b) (zip rows answers) all))
+
+pub computed_of_answers : {F T : Type 0} (g : Shared F (Bor T × Unit {0}) Bool) (test : F) (rows : List T) (answers : List Bool) → AreAnswers (FnReturnsAt g test) rows answers
+    → AreAsComputed (λ row b. g.post test (row, tt) b) rows answers
+computed_of_answers g test rows answers are f is = as_computed g test rows answers f is are.len are.each
+
+-- ---- one after another
+
+pub no_answers : {T : Type 0} (gives : T → Bool → Type 0) → AreAnswers gives [] []
+no_answers gives = record { len = refl; each = All-nil (λ p. gives p.0 p.1) }
+
+answers_behind : {T : Type 0} (gives : T → Bool → Type 0) (rows more : List T) (a b : List Bool) → length a ≡ length rows
+    → All (λ p. gives p.0 p.1) (zip rows a) → All (λ p. gives p.0 p.1) (zip more b) → All (λ p. gives p.0 p.1) (zip (rows ++ more) (a ++ b))
+answers_behind gives [] more [] b len front back = back
+answers_behind gives [] more (x ∷ a) b len front back = absurd (omega arith)
+answers_behind gives (r ∷ rows) more [] b len front back = absurd (omega arith)
+answers_behind {T} gives (r ∷ rows) more (x ∷ a) b len front back =
+    All-cons (λ (p : T × Bool). gives p.0 p.1) (r, x) (zip (rows ++ more) (a ++ b)) (All-head (λ (p : T × Bool). gives p.0 p.1) (r, x) (zip rows a) front)
+    (answers_behind gives rows more a b (omega arith) (All-tail (λ (p : T × Bool). gives p.0 p.1) (r, x) (zip rows a) front) back)
+
+pub answers-append : {T : Type 0} (gives : T → Bool → Type 0) (rows more : List T) (a b : List Bool) → AreAnswers gives rows a → AreAnswers gives more b → AreAnswers gives (rows ++ more) (a ++ b)
+answers-append gives rows more a b front back = record {
+  len = omega (arith, front.len, back.len, length-append rows more, length-append a b);
+  each = answers_behind gives rows more a b front.len front.each back.each;
+}
+
+pub one_answer : {T : Type 0} (gives : T → Bool → Type 0) (row : T) (b : Bool) → gives row b → AreAnswers gives (row ∷ []) (b ∷ [])
+one_answer {T} gives row b is = record { len = refl; each = All-cons (λ (p : T × Bool). gives p.0 p.1) (row, b) [] is (All-nil (λ (p : T × Bool). gives p.0 p.1)) }
+
+-- the front of a list, and the part behind it
+pub take_part : {T : Type 0} (n m : ℕ) (rows : List T) → take n rows ++ take m (drop n rows) ≡ take (n + m) rows
+take_part n m rows =
+    ap₂ (λ xs ys. xs ++ ys) (sym (take-take n (n + m) rows (omega arith))) (sym (drop-take n m rows)) ∙ take-append-drop n (take (n + m) rows)
+
+pub length-part : {T : Type 0} (rows : List T) (n e : ℕ) → e ≤ length rows → length (take (e - n) (drop n rows)) ≡ e - n
+length-part rows n e within = length-take-le (e - n) (drop n rows) (omega (arith, length-drop n rows))
+
+-- the next rows' answers, behind those of the first n
+pub answers-more : {T : Type 0} (gives : T → Bool → Type 0) (rows : List T) (n e w : ℕ) (a new : List Bool) → n ≤ e → AreAnswers gives (take n rows) a
+    → AreAnswers gives (take (e - n) (drop n rows)) (take (length (take (e - n) (drop n rows))) (word_bits w)) → new ≡ a ++ take (length (take (e - n) (drop n rows))) (word_bits w)
+    → AreAnswers gives (take e rows) new
+answers-more gives rows n e w a new ordered front back same =
+    let part = take (e - n) (drop n rows) in
+    let sum : n + (e - n) ≡ e = omega arith in
+    subst (λ (xs : List Bool). AreAnswers gives (take e rows) xs) (sym same)
+    (subst (λ rs. AreAnswers gives rs (a ++ take (length part) (word_bits w))) (take_part n (e - n) rows ∙ ap (λ k. take k rows) sum) (answers-append gives (take n rows) part a (take (length part) (word_bits w)) front back))
+
+-- ---- in a word
+
+-- the word's lowest bits are the answers at the rows so far
+pub record ArePacked {T : Type 0} (gives : T → Bool → Type 0) (rows : List T) (w : ℕ) : Type 0 where
+  pub list : List Bool
+  pub answers : AreAnswers gives rows list
+  pub packed : IsPacked list (length rows) w
+
+pub packed_no_answers : {T : Type 0} (gives : T → Bool → Type 0) → ArePacked gives [] 0
+packed_no_answers gives = record { list = []; answers = no_answers gives; packed = packed-none [] }
+
+pub packed_one_more : {T : Type 0} (gives : T → Bool → Type 0) (rows : List T) (j w : ℕ) (row : T) (b : Bool) → length rows ≡ j → j < 64 → gives row b → ArePacked gives rows w
+    → ArePacked gives (rows ++ row ∷ []) (bit_or w (bool_byte b * 2 ^ j % 2 ^ 64))
+packed_one_more gives rows j w row b at few is so_far =
+    let list : List Bool = so_far.list in
+    let len : length list ≡ j = so_far.answers.len ∙ at in
+    let before : IsPacked (list ++ b ∷ []) j w = λ k h. so_far.packed k h ∙ ap (λ (n : ℕ). get_or (take n list) k false) at ∙ ap (λ (xs : List Bool). get_or xs k false) (sym (take-append-le j list (b ∷ []) (omega (arith, len)))) in
+    let value : get_or (list ++ b ∷ []) j false ≡ b = subst (λ (n : ℕ). get_or (list ++ b ∷ []) n false ≡ b) len (get_or-append_seam list b [] false) in
+    let longer : length (rows ++ row ∷ []) ≡ j + 1 = omega (arith, length-append rows (row ∷ []), at) in
+    record {
+      list = list ++ b ∷ [];
+      answers = answers-append gives rows (row ∷ []) list (b ∷ []) so_far.answers (one_answer gives row b is);
+      packed = subst (λ (n : ℕ). IsPacked (list ++ b ∷ []) n (bit_or w (bool_byte b * 2 ^ j % 2 ^ 64))) (sym longer)
+          (subst (λ (v : Bool). IsPacked (list ++ b ∷ []) (j + 1) (bit_or w (bool_byte v * 2 ^ j % 2 ^ 64))) value (packed-more (list ++ b ∷ []) j w few before));
+    }
+
+-- the word's lowest bits are the answers
+pub answers_of_word : {T : Type 0} (gives : T → Bool → Type 0) (rows : List T) (w : ℕ) → length rows ≤ 64 → ArePacked gives rows w → AreAnswers gives rows (take (length rows) (word_bits w))
+answers_of_word gives rows w few packed =
+    let n : ℕ = length rows in
+    let list : List Bool = packed.list in
+    let len : length (take n (word_bits w)) ≡ n = length-take n (word_bits w) ∙ omega (arith, length-word_bits w) in
+    let same : list ≡ take n (word_bits w) =
+    ext_get_or false list (take n (word_bits w)) (packed.answers.len ∙ sym len)
+    (λ k h. sym (get_or-take n (word_bits w) k false (omega (arith, packed.answers.len)) ∙ packed.packed k (omega (arith, packed.answers.len)) ∙ get_or-take n list k false (omega (arith, packed.answers.len)))) in
+    subst (λ (xs : List Bool). AreAnswers gives rows xs) same packed.answers

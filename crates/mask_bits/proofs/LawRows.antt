@@ -1,0 +1,150 @@
+-- What the laws that stand for themselves say of lists that are known: each row takes a law, and computes one instance of it.
+use Rattle.std.specs.Prelude.{ℕ, ◌≡◌, ◌+◌, ◌-◌, ◌<◌, ◌&&◌, Bool, true, false, List, [], ◌∷◌, length, All, slice_index, slice_index_or, slice_range, sum_by, refl}
+use Rattle.std.proofs.Common.{arith}
+use Rattle.mask_bits.specs.BooleanLaws.{ValueOfAndNot, ValueOfNot, CountOfComplement, CountOfAndWithOr, ComplementOfOr, ListOfOneValue, CountOfFoldIsAtMostTheFirst}
+use Rattle.mask_bits.specs.IndexLaws.{CountBelowTheFirst, CountBelowTheNext}
+use Rattle.mask_bits.specs.Laws.{IndicesAreWithin, ValueOfWord, PositionsDetermineList, IsRankIntersection, RankIntersectionIsTheList, RankIntersectionValue, AllTrueLeftUnit, AllTrueRightUnit, RankIntersectionPosition, RunsExist, RunsAreUnique, RunsAreRanges, RangesAddUpToTheCount, RankIntersectionOfAnd, RankIntersectionOfNot, IsFreeOfOrder, DistributesOver, Absorbs, HasComplements, AndNotIsAndOfNot, KeepsLength, PartOfPart, PartOfConcat, LimitOfLimit, CountBelowPosition, NeighborsMakeOne}
+use Rattle.mask_bits.specs.Lists.{and_of, or_of, not_of, and_not_of, concat, limited}
+use Rattle.mask_bits.specs.Positions.{positions, count, count_below, rank_intersection, repeated}
+use Rattle.mask_bits.specs.Runs.{AreRanges, AreRuns}
+use Rattle.mask_bits.specs.Stacks.{folded_left}
+use Rattle.mask_bits.specs.Words.{word_bits}
+
+-- 10101, and 011 and 010 over its true values
+abbrev m : List Bool
+m = true ∷ false ∷ true ∷ false ∷ true ∷ []
+
+abbrev b : List Bool
+b = false ∷ true ∷ true ∷ []
+
+abbrev c : List Bool
+c = false ∷ true ∷ false ∷ []
+
+-- ---- true indices and words
+
+indices_are_within : IndicesAreWithin → All (λ p. p < 5) (0 ∷ 2 ∷ 4 ∷ [])
+indices_are_within law = law m
+
+value_of_word : ValueOfWord → slice_index_or (word_bits 6) 1 false ≡ true
+value_of_word law = law 6 1 (omega arith)
+
+positions_determine_list : PositionsDetermineList → (xs : List Bool) → length xs ≡ 3 → positions xs ≡ 1 ∷ [] → xs ≡ c
+positions_determine_list law xs len at = law xs c len at
+
+count_below_position : CountBelowPosition → count_below m (slice_index (positions m) 2) ≡ 2
+count_below_position law = law m 2 (omega arith)
+
+count_below_the_first : CountBelowTheFirst → (xs : List Bool) → count_below xs 0 ≡ 0
+count_below_the_first law = law
+
+count_below_the_next : CountBelowTheNext → count_below m (2 + 1) ≡ 2
+count_below_the_next law = law m 2
+
+-- ---- rank intersection
+
+only_rank_intersection : RankIntersectionIsTheList → (r : List Bool) → IsRankIntersection m b r → r ≡ rank_intersection m b
+only_rank_intersection law r is = (law m b r refl).1 is
+
+rank_intersection_value : RankIntersectionValue → slice_index_or (rank_intersection m b) 2 false ≡ true
+rank_intersection_value law = law m b 2 refl
+
+rank_intersection_position : RankIntersectionPosition → slice_index (positions (rank_intersection m b)) 1 ≡ 4
+rank_intersection_position law = law m b 1 refl (omega arith)
+
+all_true_left_unit : AllTrueLeftUnit → rank_intersection (repeated 3 true) b ≡ b
+all_true_left_unit law = law b
+
+all_true_right_unit : AllTrueRightUnit → rank_intersection m (repeated 3 true) ≡ m
+all_true_right_unit law = law m
+
+rank_intersection_of_and : RankIntersectionOfAnd → and_of (rank_intersection m b) (rank_intersection m c) ≡ rank_intersection m (false ∷ true ∷ false ∷ [])
+rank_intersection_of_and law = law m b c refl refl
+
+rank_intersection_of_not : RankIntersectionOfNot → rank_intersection m (true ∷ false ∷ false ∷ []) ≡ and_not_of m (rank_intersection m b)
+rank_intersection_of_not law = law m b refl
+
+-- 11111, 10101 and 011: the last two as one
+neighbors_make_one : NeighborsMakeOne → folded_left (repeated 5 true ∷ rank_intersection m b ∷ []) ≡ folded_left (repeated 5 true ∷ m ∷ b ∷ [])
+unfolding repeated
+neighbors_make_one law = (law (repeated 5 true ∷ []) [] m b (refl, (refl, tt))).1
+
+-- ---- runs
+
+runs_exist : RunsExist → (rs : List (ℕ × ℕ)) × AreRuns m rs
+runs_exist law = law m
+
+runs_are_unique : RunsAreUnique → (rs ss : List (ℕ × ℕ)) → AreRuns m rs → AreRuns m ss → rs ≡ ss
+runs_are_unique law = law m
+
+runs_are_ranges : RunsAreRanges → (rs : List (ℕ × ℕ)) → AreRuns m rs → AreRanges m rs
+runs_are_ranges law = law m
+
+ranges_add_up_to_the_count : RangesAddUpToTheCount → (rs : List (ℕ × ℕ)) → AreRanges m rs → sum_by (λ r. r.1 - r.0) rs ≡ 3
+ranges_add_up_to_the_count law = law m
+
+-- ---- value by value, of a list that isn't known and one that is
+
+and_commutes : IsFreeOfOrder and_of → (a : List Bool) → and_of a b ≡ and_of b a
+and_commutes law a = law.commutes a b
+
+or_regroups : IsFreeOfOrder or_of → (a : List Bool) → or_of (or_of a b) c ≡ or_of a (false ∷ true ∷ true ∷ [])
+or_regroups law a = law.regroups a b c
+
+and_distributes : DistributesOver and_of or_of → (a : List Bool) → and_of a (false ∷ true ∷ true ∷ []) ≡ or_of (and_of a b) (and_of a c)
+and_distributes law a = law a b c
+
+or_distributes : DistributesOver or_of and_of → (a : List Bool) → or_of a (false ∷ true ∷ false ∷ []) ≡ and_of (or_of a b) (or_of a c)
+or_distributes law a = law a b c
+
+and_absorbs : Absorbs and_of or_of → (a : List Bool) → length a ≡ 3 → and_of a (or_of a b) ≡ a
+and_absorbs law a len = law a b len
+
+or_absorbs : Absorbs or_of and_of → (a : List Bool) → length a ≡ 3 → or_of a (and_of a b) ≡ a
+or_absorbs law a len = law a b len
+
+none_is_both : HasComplements → (a : List Bool) → and_of a (not_of a) ≡ repeated (length a) false
+none_is_both law = law.none_is_both
+
+each_is_one : HasComplements → (a : List Bool) → or_of a (not_of a) ≡ repeated (length a) true
+each_is_one law = law.each_is_one
+
+complement_twice : HasComplements → (a : List Bool) → not_of (not_of a) ≡ a
+complement_twice law = law.twice
+
+and_not_is_and_of_not : AndNotIsAndOfNot → (a : List Bool) → and_not_of a b ≡ and_of a (true ∷ false ∷ false ∷ [])
+and_not_is_and_of_not law a = law a b
+
+keeps_length : KeepsLength → (a : List Bool) → length a ≡ 3 → length (and_of a b) + length (or_of a b) + length (and_not_of a b) + length (not_of a) ≡ 12
+keeps_length law a len = omega (arith, law.and a b len, law.or a b len, law.and_not a b len, law.not a)
+
+value_of_and_not : ValueOfAndNot → (a : List Bool) → length a ≡ 3 → slice_index_or (and_not_of a b) 1 false ≡ (slice_index_or a 1 false && false)
+value_of_and_not law a len = law a b 1 len
+
+value_of_not : ValueOfNot → slice_index_or (not_of m) 1 false ≡ true
+value_of_not law = law m 1 (omega arith)
+
+complement_of_or : ComplementOfOr → (a : List Bool) → not_of (or_of a b) ≡ and_of (not_of a) (true ∷ false ∷ false ∷ [])
+complement_of_or law a = law a b
+
+count_of_complement : CountOfComplement → 3 + count (not_of m) ≡ 5
+count_of_complement law = law m
+
+count_of_and_with_or : CountOfAndWithOr → count (and_of b c) + count (or_of b c) ≡ 3
+count_of_and_with_or law = law b c refl
+
+list_of_one_value : ListOfOneValue → (xs : List Bool) → All (λ v. v ≡ false) xs → xs ≡ repeated (length xs) false
+list_of_one_value law xs = law xs false
+
+fold_has_at_most_the_first : CountOfFoldIsAtMostTheFirst → count (folded_left (m ∷ b ∷ [])) < 4
+fold_has_at_most_the_first law = omega (arith, law m (b ∷ []) (refl, tt))
+
+-- ---- parts and limits
+
+part_of_part : PartOfPart → (xs : List Bool) → slice_range (slice_range xs 1 4) 1 3 ≡ slice_range xs 2 4
+part_of_part law xs = law xs 1 4 1 3 (omega arith)
+
+part_of_concat : PartOfConcat → (xs : List Bool) → slice_range (concat (m ∷ b ∷ xs ∷ [])) 5 8 ≡ b
+part_of_concat law xs = law (m ∷ []) (xs ∷ []) b
+
+limit_of_limit : LimitOfLimit → (xs : List Bool) → limited (limited xs 2) 1 ≡ limited xs 1
+limit_of_limit law xs = law xs 2 1

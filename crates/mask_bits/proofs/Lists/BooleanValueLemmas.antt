@@ -1,0 +1,130 @@
+-- The values of boolean calls, how many of them are true, and the rows that they choose: by recursion on the first list.
+use Rattle.std.proofs.Common.{◌≡◌, zero, suc, ◌+◌, ◌≤◌, Bool, true, false, nat_eq, List, [], ◌∷◌, ◌++◌, length, refl, sym, ap₂, subst, arith}
+use Rattle.std.specs.Prelude.{IsPermutation}
+use Rattle.std.specs.List.{items_where_true, list_any}
+use Rattle.std.proofs.lemmas.List.FromFn.{get_or-map-range_with_len}
+use Rattle.std.proofs.lemmas.List.Sorted.{IsPermutation-cons, IsPermutation-middle, IsPermutation-refl, IsPermutation-trans}
+use Rattle.mask_bits.specs.BooleanLaws.{ValueOfAnd, ValueOfOr, ValueOfAndNot, ValueOfNot, ValueOfTrueAt, ComplementOfAnd, ComplementOfOr, ListOfOneValue, CountOfComplement, CountOfAnd, CountOfAndWithOr, CountOfAndWithAndNot, CountOfFoldIsAtMostTheFirst, ChosenAndTheRest}
+use Rattle.mask_bits.specs.Lists.{and_of, or_of, not_of, and_not_of}
+use Rattle.mask_bits.specs.Positions.{true_at, rank_intersection}
+use Rattle.mask_bits.proofs.Lists.CountLemmas.{repeated_from_All}
+use Rattle.mask_bits.proofs.Lists.LawLemmas.{chosen-items_where_true, rank_intersection_count, folding_keeps_a_stack}
+use Rattle.mask_bits.proofs.Lists.Places.PlaceLemmas.{trues, count-trues, count-le-length}
+
+-- ---- values
+
+pub value_of_and : ValueOfAnd
+value_of_and [] b i = refl
+value_of_and (x ∷ a) [] i = grind arith
+value_of_and (x ∷ a) (y ∷ b) zero = refl
+value_of_and (x ∷ a) (y ∷ b) (suc i) = value_of_and a b i
+
+pub value_of_or : ValueOfOr
+value_of_or [] [] i len = refl
+value_of_or [] (y ∷ b) i len = absurd (omega arith)
+value_of_or (x ∷ a) [] i len = absurd (omega arith)
+value_of_or (x ∷ a) (y ∷ b) zero len = refl
+value_of_or (x ∷ a) (y ∷ b) (suc i) len = value_of_or a b i (omega arith)
+
+pub value_of_and_not : ValueOfAndNot
+value_of_and_not [] [] i len = refl
+value_of_and_not [] (y ∷ b) i len = absurd (omega arith)
+value_of_and_not (x ∷ a) [] i len = absurd (omega arith)
+value_of_and_not (x ∷ a) (y ∷ b) zero len = refl
+value_of_and_not (x ∷ a) (y ∷ b) (suc i) len = value_of_and_not a b i (omega arith)
+
+pub value_of_not : ValueOfNot
+value_of_not [] i h = absurd (omega arith)
+value_of_not (x ∷ a) zero h = refl
+value_of_not (x ∷ a) (suc i) h = value_of_not a i (omega arith)
+
+pub value_of_true_at : ValueOfTrueAt
+unfolding true_at
+value_of_true_at n indices i h = get_or-map-range_with_len (λ j. list_any (nat_eq j) indices) 0 n i i false h (omega arith)
+
+pub complement_of_and : ComplementOfAnd
+complement_of_and [] b = refl
+complement_of_and (x ∷ a) [] = refl
+complement_of_and (x ∷ a) (y ∷ b) = grind (arith, complement_of_and a b)
+
+pub complement_of_or : ComplementOfOr
+complement_of_or [] b = refl
+complement_of_or (x ∷ a) [] = refl
+complement_of_or (x ∷ a) (y ∷ b) = grind (arith, complement_of_or a b)
+
+pub list_of_one_value : ListOfOneValue
+list_of_one_value m v all = repeated_from_All v m all
+
+-- ---- counts
+
+trues-complement : (m : List Bool) → trues m + trues (not_of m) ≡ length m
+trues-complement [] = refl
+trues-complement (true ∷ m) = omega (arith, trues-complement m)
+trues-complement (false ∷ m) = omega (arith, trues-complement m)
+
+pub count_of_complement : CountOfComplement
+count_of_complement m = omega (arith, trues-complement m, count-trues m, count-trues (not_of m))
+
+trues-and_first : (a b : List Bool) → trues (and_of a b) ≤ trues a
+trues-and_first [] b = omega arith
+trues-and_first (x ∷ a) [] = omega arith
+trues-and_first (true ∷ a) (true ∷ b) = omega (arith, trues-and_first a b)
+trues-and_first (true ∷ a) (false ∷ b) = omega (arith, trues-and_first a b)
+trues-and_first (false ∷ a) (y ∷ b) = trues-and_first a b
+
+trues-and_second : (a b : List Bool) → trues (and_of a b) ≤ trues b
+trues-and_second [] b = omega arith
+trues-and_second (x ∷ a) [] = omega arith
+trues-and_second (true ∷ a) (true ∷ b) = omega (arith, trues-and_second a b)
+trues-and_second (true ∷ a) (false ∷ b) = trues-and_second a b
+trues-and_second (false ∷ a) (true ∷ b) = omega (arith, trues-and_second a b)
+trues-and_second (false ∷ a) (false ∷ b) = trues-and_second a b
+
+pub count_of_and : CountOfAnd
+count_of_and a b =
+    (omega (arith, trues-and_first a b, count-trues a, count-trues (and_of a b)), omega (arith, trues-and_second a b, count-trues b, count-trues (and_of a b)))
+
+trues-and_or : (a b : List Bool) → length a ≡ length b → trues (and_of a b) + trues (or_of a b) ≡ trues a + trues b
+trues-and_or [] [] len = refl
+trues-and_or [] (y ∷ b) len = absurd (omega arith)
+trues-and_or (x ∷ a) [] len = absurd (omega arith)
+trues-and_or (true ∷ a) (true ∷ b) len = omega (arith, trues-and_or a b (omega arith))
+trues-and_or (true ∷ a) (false ∷ b) len = omega (arith, trues-and_or a b (omega arith))
+trues-and_or (false ∷ a) (true ∷ b) len = omega (arith, trues-and_or a b (omega arith))
+trues-and_or (false ∷ a) (false ∷ b) len = trues-and_or a b (omega arith)
+
+pub count_of_and_with_or : CountOfAndWithOr
+count_of_and_with_or a b len = omega (arith, trues-and_or a b len, count-trues a, count-trues b, count-trues (and_of a b), count-trues (or_of a b))
+
+trues-and_and_not : (a b : List Bool) → length a ≡ length b → trues (and_of a b) + trues (and_not_of a b) ≡ trues a
+trues-and_and_not [] [] len = refl
+trues-and_and_not [] (y ∷ b) len = absurd (omega arith)
+trues-and_and_not (x ∷ a) [] len = absurd (omega arith)
+trues-and_and_not (true ∷ a) (true ∷ b) len = omega (arith, trues-and_and_not a b (omega arith))
+trues-and_and_not (true ∷ a) (false ∷ b) len = omega (arith, trues-and_and_not a b (omega arith))
+trues-and_and_not (false ∷ a) (y ∷ b) len = trues-and_and_not a b (omega arith)
+
+pub count_of_and_with_and_not : CountOfAndWithAndNot
+count_of_and_with_and_not a b len = omega (arith, trues-and_and_not a b len, count-trues a, count-trues (and_of a b), count-trues (and_not_of a b))
+
+pub count_of_fold_is_at_most_the_first : CountOfFoldIsAtMostTheFirst
+count_of_fold_is_at_most_the_first first [] stack = omega arith
+count_of_fold_is_at_most_the_first first (m ∷ ms) stack =
+    omega (arith, count_of_fold_is_at_most_the_first (rank_intersection first m) ms (folding_keeps_a_stack first m ms stack), rank_intersection_count first m stack.0, count-le-length m, stack.0)
+
+-- ---- rows
+
+permuted : {X : Type 0} (rows : List X) (m : List Bool) → length rows ≡ length m → IsPermutation (items_where_true m rows ++ items_where_true (not_of m) rows) rows
+permuted [] [] len = IsPermutation-refl []
+permuted [] (v ∷ m) len = absurd (omega arith)
+permuted (r ∷ rows) [] len = absurd (omega arith)
+permuted (r ∷ rows) (true ∷ m) len = IsPermutation-cons r (items_where_true m rows ++ items_where_true (not_of m) rows) rows (permuted rows m (omega arith))
+permuted (r ∷ rows) (false ∷ m) len =
+    let front = items_where_true m rows in
+    let back = items_where_true (not_of m) rows in
+    IsPermutation-trans (front ++ r ∷ back) (r ∷ (front ++ back)) (r ∷ rows) (IsPermutation-middle front r back)
+    (IsPermutation-cons r (front ++ back) rows (permuted rows m (omega arith)))
+
+pub chosen_and_the_rest : {X : Type 0} → ChosenAndTheRest X
+chosen_and_the_rest rows m len =
+    subst (λ xs. IsPermutation xs rows) (sym (ap₂ (λ xs ys. xs ++ ys) (chosen-items_where_true rows m) (chosen-items_where_true rows (not_of m)))) (permuted rows m len)
