@@ -1,10 +1,11 @@
 //! Rows in batches and row groups of one size.
-ghost use Rattle.std.specs.Prelude.{◌≡◌, ◌<◌, All, IfOk, length, map};
+ghost use Rattle.std.specs.Prelude.{◌≡◌, ◌<◌, ◌≤◌, All, IfOk, length, map};
 ghost use Rattle.std.specs.Int.{div_ceil};
 ghost use Rattle.std.specs.List.{range_with_len};
 ghost use Rattle.mask_bits.specs.Buffer.{values};
-ghost use Rattle.mask_bits.specs.Lists.{group};
-ghost use Rattle.mask_bits.specs.Positions.{true_at};
+ghost use Rattle.mask_bits.specs.Lists.{concat, group};
+ghost use Rattle.mask_bits.specs.Positions.{count, true_at};
+ghost use Rattle.mask_bits.specs.Runs.{AreRuns};
 ghost use Rattle.uses.specs.RowGroups.{nulls_of};
 ghost use Rattle.vortex_mask.specs.Mask.{truth};
 
@@ -57,4 +58,37 @@ fn nulls_in(validity: &BitBuffer, size: usize, number: usize) -> usize
     let start = size * number;
     let rows = size.min(len - start);
     rows - validity.count_range(start, start + rows)
+}
+
+/// How many rows of each group a filter chooses.
+pub fn counts_by_group(alloc: Global, filter: &Mask, size: usize) -> Result<Vec<usize>, MaskError>
+    requires { 0 < size }
+    ensures { IfOk result (λ v. v.items
+        ≡ map (λ g. count (group (truth filter.now) size g))
+        (range_with_len 0 (div_ceil (length (truth filter.now)) size))) }
+{
+    let groups = filter.groups(alloc, size)?;
+    Ok(
+        groups
+            .iter()
+            .map(|group| group.true_count())
+            .collect(alloc)?,
+    )
+}
+
+/// How many groups have a row that a filter chooses.
+pub fn live_groups(alloc: Global, filter: &Mask, size: usize) -> Result<usize, MaskError>
+    requires { 0 < size }
+    ensures { IfOk result (λ n. n ≤ div_ceil (length (truth filter.now)) size) }
+{
+    let groups = filter.groups(alloc, size)?;
+    Ok(groups.iter().filter(|group| group.true_count() > 0).count())
+}
+
+/// The runs of the rows that the filters of some groups choose, one group after another.
+pub fn merged(alloc: Global, groups: &[Mask]) -> Result<Vec<(usize, usize)>, MaskError>
+    ensures { IfOk result (λ v. AreRuns (concat (map truth groups.now)) v.items) }
+{
+    let rows = Mask::concat(alloc, groups.iter())?;
+    Ok(rows.set_slices().collect(alloc)?)
 }

@@ -1,5 +1,5 @@
 //! The bitmap that is written beside a column, where its rows are not all alike, and bitmaps as they are read.
-ghost use Rattle.std.specs.Prelude.{◌≡◌, ◌↔◌, ◌+◌, ◌*◌, ◌<◌, ◌≤◌, ◌^◌, All, IfOk, IfSome, IsTrue, length, true, vec_len};
+ghost use Rattle.std.specs.Prelude.{ℕ, ◌≡◌, ◌≢◌, ◌↔◌, ◌+◌, ◌*◌, ◌<◌, ◌≤◌, ◌^◌, All, IfOk, IfSome, IsTrue, false, length, slice_index_or, true, vec_len};
 ghost use Rattle.mask_bits.specs.Buffer.{values};
 ghost use Rattle.mask_bits.specs.Lists.{and_of};
 ghost use Rattle.vortex_mask.specs.Mask.{truth};
@@ -60,4 +60,17 @@ pub fn valid_in_part(
 {
     let written = BitBuffer::from_vec(written, rows)?;
     written.bitand(alloc, &BitBuffer::new_with_offset(column, start, rows))
+}
+
+/// A bitmap of valid rows with one row taken out of it.
+pub fn without_row(alloc: Global, valid: &BitBuffer, row: usize) -> Result<BitBuffer, AllocError>
+    requires { row < length (values valid.now) }
+    ensures out { IfOk result (λ b. slice_index_or (values b) row false ≡ false) }
+    ensures others { IfOk result (λ b. (i : ℕ) → i < length (values valid.now) → i ≢ row
+        → slice_index_or (values b) i false ≡ slice_index_or (values valid.now) i false) }
+{
+    laws::true_at_indices();
+    laws::boolean_values();
+    let taken = BitBuffer::from_indices(alloc, valid.len(), &[row])?;
+    valid.bitand_not(alloc, &taken)
 }

@@ -10,7 +10,7 @@ use vortex_mask::{Mask, MaskError};
 pub fn above(alloc: Global, rows: &[u64], low: u64) -> Result<Mask, MaskError>
     ensures { IfOk result (λ m. truth m ≡ map (nat_lt low) rows.now) }
 {
-    Mask::from_bools(alloc, rows.iter().copied().map(|row| row > low))
+    Mask::from_rows(alloc, rows, |row| *row > low)
 }
 
 /// The rows above `low`.
@@ -32,7 +32,6 @@ pub fn first_filtered(
 {
     laws::choosing_by_a_test::<u64>();
     laws::choosing_by_a_limit::<u64>();
-    laws::limit_count();
     above(alloc, rows, low)?
         .limit(alloc, k)?
         .choose(alloc, rows)

@@ -20,7 +20,6 @@ pub fn first_of_both(
     ensures { IfOk result (λ m. truth m
         ≡ limited (rank_intersection (truth first.now) (truth second.now)) k) }
 {
-    laws::limit_count();
     laws::limit_of_rank_intersection();
     first.intersect_by_rank(alloc, &second.to_limited(alloc, k)?)
 }
