@@ -1,0 +1,18 @@
+//! The calls of `mask_bits` and `vortex_mask` as tests make them: each at one place, of operands that a line of
+//! text can say, with an answer that is compared as text or as values.
+#![tactic(auto)]
+
+mod answer;
+mod call;
+mod fault;
+pub mod masks;
+mod operand;
+pub mod packed;
+mod row;
+pub mod words;
+
+pub use answer::Answer;
+pub use call::Call;
+pub use fault::Fault;
+pub use operand::Operand;
+pub use row::{Row, answer_text, rows_of};

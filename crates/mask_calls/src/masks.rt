@@ -1,0 +1,9 @@
+//! The calls of masks. Each tests what its call requires, and hands out the answer with no clause.
+
+pub mod lent;
+pub mod lists;
+pub mod made;
+pub mod many;
+pub mod one;
+pub mod parts;
+pub mod two;

@@ -1,0 +1,66 @@
+//! Calls of a list of masks.
+
+use crate::answer::Answer;
+use crate::fault::{Fault, answer};
+use crate::operand::mask;
+use std::alloc::Global;
+use std::mem;
+use vortex_mask::Mask;
+
+pub fn concat(alloc: Global, masks: &[Mask]) -> Result<Mask, Fault> {
+    answer(Mask::concat(alloc, masks.iter()))
+}
+
+pub fn from_masks(alloc: Global, masks: Vec<Mask>) -> Result<Mask, Fault> {
+    answer(Mask::from_masks(alloc, masks.into_iter()))
+}
+
+fn of_taken(alloc: Global, masks: &mut Vec<Mask>) -> Result<Mask, Fault> {
+    let masks = mem::replace(masks, Vec::new(alloc));
+    from_masks(alloc, masks)
+}
+
+/// A call of a list of masks.
+#[derive(Drop, Clone, Copy)]
+pub enum OfMany {
+    Concat,
+    FromMasks,
+}
+
+impl OfMany {
+    /// The call of this name.
+    pub fn named(name: &str) -> Option<OfMany> {
+        match name {
+            "concat" => Some(OfMany::Concat),
+            "from_masks" => Some(OfMany::FromMasks),
+            _ => None,
+        }
+    }
+
+    /// Makes the call. Masks by value are gone after it.
+    pub fn run<'a>(self, alloc: Global, masks: &'a mut Vec<Mask>) -> Result<Answer<'a>, Fault> {
+        match self {
+            OfMany::Concat => Answer::of_mask(concat(alloc, masks)),
+            OfMany::FromMasks => Answer::of_mask(of_taken(alloc, masks)),
+        }
+    }
+}
+
+fn push_mask(alloc: Global, masks: &mut Vec<Mask>, word: &str) -> Result<(), Fault> {
+    let mask = mask(alloc, word)?;
+    match masks.push(mask) {
+        Ok(()) => Ok(()),
+        Err(_) => Err(Fault::Memory),
+    }
+}
+
+/// Masks by words with a space between two, or none for `()`.
+pub fn read_masks(alloc: Global, words: &str) -> Result<Vec<Mask>, Fault> {
+    let mut masks: Vec<Mask> = Vec::new(alloc);
+    if words != "()" {
+        for word in words.split(' ') {
+            push_mask(alloc, &mut masks, word)?;
+        }
+    }
+    Ok(masks)
+}
