@@ -1,16 +1,21 @@
 //! What calls answer, and how a row says it.
 
+use crate::bits::walks;
 use crate::fault::Fault;
-use mask_bits::BitBuffer;
+use mask_bits::{BitBuffer, BitChunks, BitIterator, SetIndices, SetSlices};
 use std::alloc::{AllocError, Global};
 use vortex_mask::intersect_by_rank::{RankPath, Steps};
-use vortex_mask::{AllOr, Fraction, Mask, MaskIter};
+use vortex_mask::{
+    AllOr, Fraction, Mask, MaskBoolIter, MaskIter, MaskSetIndices, MaskSetSlices, MaskValues,
+};
 
 /// The answer of a call.
 #[derive(Drop)]
 pub enum Answer<'a> {
     Mask(Mask),
     Lent(&'a Mask),
+    // a mask whose cached lists are left open
+    Uncached(Mask),
     Counted(Mask, Steps),
     Masks(Vec<Mask>),
     Buffer(BitBuffer),
@@ -24,6 +29,27 @@ pub enum Answer<'a> {
     Iter(AllOr<MaskIter<'a>>),
     Fraction(Fraction),
     Path(RankPath),
+    Values(MaskBoolIter<'a>),
+    SetIndices(MaskSetIndices<'a>),
+    SetSlices(MaskSetSlices<'a>),
+    Display(&'a Mask),
+    Debug(&'a Mask),
+    DebugValues(Option<&'a MaskValues>),
+    Mixed(MaskValues),
+    DebugValue(&'a MaskValues),
+    List(&'a [usize]),
+    Ranges(&'a [(usize, usize)]),
+    Part(MaskIter<'a>),
+    Word(u64),
+    BufferPart(BitBuffer),
+    LentPart(&'a BitBuffer),
+    BitValues(BitIterator<'a>),
+    BitIndices(SetIndices<'a>),
+    BitSlices(SetSlices<'a>),
+    Words(BitChunks<'a>),
+    PaddedWords(BitChunks<'a>),
+    Selected(&'a BitBuffer, usize),
+    PartBuffer(&'a BitBuffer),
     Done,
 }
 
@@ -38,6 +64,30 @@ impl<'a> Answer<'a> {
     pub(crate) fn of_counted(outcome: Result<(Mask, Steps), Fault>) -> Result<Answer<'a>, Fault> {
         match outcome {
             Ok((mask, steps)) => Ok(Answer::Counted(mask, steps)),
+            Err(fault) => Err(fault),
+        }
+    }
+
+    // Of the mask alone.
+    pub(crate) fn of_list_counted(
+        outcome: Result<(Mask, Steps), Fault>,
+    ) -> Result<Answer<'a>, Fault> {
+        match outcome {
+            Ok((mask, _)) => Ok(Answer::Mask(mask)),
+            Err(fault) => Err(fault),
+        }
+    }
+
+    pub(crate) fn of_uncached(outcome: Result<Mask, Fault>) -> Result<Answer<'a>, Fault> {
+        match outcome {
+            Ok(mask) => Ok(Answer::Uncached(mask)),
+            Err(fault) => Err(fault),
+        }
+    }
+
+    pub(crate) fn of_part_buffer(outcome: Result<BitBuffer, Fault>) -> Result<Answer<'a>, Fault> {
+        match outcome {
+            Ok(buffer) => Ok(Answer::BufferPart(buffer)),
             Err(fault) => Err(fault),
         }
     }
@@ -77,6 +127,13 @@ impl<'a> Answer<'a> {
         }
     }
 
+    pub(crate) fn of_word(outcome: Result<u64, Fault>) -> Result<Answer<'a>, Fault> {
+        match outcome {
+            Ok(word) => Ok(Answer::Word(word)),
+            Err(fault) => Err(fault),
+        }
+    }
+
     pub(crate) fn of_path(outcome: Result<RankPath, Fault>) -> Result<Answer<'a>, Fault> {
         match outcome {
             Ok(path) => Ok(Answer::Path(path)),
@@ -102,6 +159,36 @@ impl<'a> Answer<'a> {
         }
     }
 
+    pub(crate) fn of_mixed(outcome: Result<MaskValues, Fault>) -> Result<Answer<'a>, Fault> {
+        match outcome {
+            Ok(values) => Ok(Answer::Mixed(values)),
+            Err(fault) => Err(fault),
+        }
+    }
+
+    pub(crate) fn of_list(outcome: Result<&'a [usize], Fault>) -> Result<Answer<'a>, Fault> {
+        match outcome {
+            Ok(list) => Ok(Answer::List(list)),
+            Err(fault) => Err(fault),
+        }
+    }
+
+    pub(crate) fn of_ranges(
+        outcome: Result<&'a [(usize, usize)], Fault>,
+    ) -> Result<Answer<'a>, Fault> {
+        match outcome {
+            Ok(list) => Ok(Answer::Ranges(list)),
+            Err(fault) => Err(fault),
+        }
+    }
+
+    pub(crate) fn of_part(outcome: Result<MaskIter<'a>, Fault>) -> Result<Answer<'a>, Fault> {
+        match outcome {
+            Ok(list) => Ok(Answer::Part(list)),
+            Err(fault) => Err(fault),
+        }
+    }
+
     pub(crate) fn of_iter(
         outcome: Result<AllOr<MaskIter<'a>>, Fault>,
     ) -> Result<Answer<'a>, Fault> {
@@ -122,6 +209,7 @@ impl<'a> Answer<'a> {
         match self {
             Answer::Mask(mask) => write_mask(text, mask),
             Answer::Lent(mask) => write_mask(text, *mask),
+            Answer::Uncached(mask) => write_uncached(text, mask),
             Answer::Counted(mask, steps) => write_counted(text, mask, steps),
             Answer::Masks(masks) => write_masks(text, masks),
             Answer::Buffer(buffer) => write_buffer(text, buffer),
@@ -130,19 +218,59 @@ impl<'a> Answer<'a> {
             Answer::Indices(lent) => write_indices(text, lent),
             Answer::Slices(lent) => write_slices(text, lent),
             Answer::Iter(lent) => write_iter(text, lent),
+            Answer::List(list) => write_numbers(text, *list),
+            Answer::Ranges(list) => write_ranges(text, *list),
+            Answer::Part(list) => write_part(text, list),
+            Answer::PartBuffer(buffer) => write_buffer(text, *buffer),
+            Answer::Mixed(values) => write_mixed(text, values),
             _ => self.write_value(text),
+        }
+    }
+
+    /// The answer as a row says it. A walk is at its end after that.
+    pub fn walked_text(self, alloc: Global) -> Result<String, AllocError> {
+        let mut text = String::new(alloc);
+        self.write_walk(&mut text)?;
+        Ok(text)
+    }
+
+    fn write_walk(self, text: &mut String) -> Result<(), AllocError> {
+        match self {
+            Answer::Values(values) => write_values(text, values),
+            Answer::SetIndices(indices) => write_set_indices(text, indices),
+            Answer::SetSlices(ranges) => write_set_slices(text, ranges),
+            other => other.write_bits(text),
+        }
+    }
+
+    fn write_bits(self, text: &mut String) -> Result<(), AllocError> {
+        match self {
+            Answer::BitValues(values) => walks::write_values(text, values),
+            Answer::BitIndices(indices) => walks::write_indices(text, indices),
+            Answer::BitSlices(ranges) => walks::write_slices(text, ranges),
+            Answer::Words(chunks) => walks::write_words(text, &chunks),
+            Answer::PaddedWords(chunks) => walks::write_padded(text, &chunks),
+            Answer::Selected(buffer, numbers) => walks::write_selected(text, buffer, numbers),
+            Answer::BufferPart(buffer) => walks::write_backed(text, &buffer),
+            Answer::LentPart(buffer) => walks::write_backed(text, buffer),
+            other => other.write(text),
         }
     }
 
     fn write_value(&self, text: &mut String) -> Result<(), AllocError> {
         match self {
-            Answer::Flag(flag) => write!(text, "{flag}"),
-            Answer::Number(number) => write!(text, "{number}"),
-            Answer::Index(Some(index)) => write!(text, "{index}"),
-            Answer::Index(None) => text.push_str("none"),
-            Answer::Fraction(it) => write!(text, "{}/{}", it.num, it.den),
+            Answer::Flag(flag) => put(text, if *flag { "true" } else { "false" }),
+            Answer::Number(number) => put_number(text, *number),
+            Answer::Index(Some(index)) => put_number(text, *index),
+            Answer::Index(None) => put(text, "none"),
+            Answer::Fraction(it) => put_numbers(text, (it.num, "/", it.den)),
             Answer::Path(path) => write!(text, "{path:?}"),
-            _ => text.push_str("done"),
+            Answer::Display(mask) => write!(text, "{mask}"),
+            Answer::Word(word) => write!(text, "{word:#X}"),
+            Answer::Debug(mask) => write!(text, "{mask:?}"),
+            Answer::DebugValue(values) => write!(text, "{values:?}"),
+            Answer::DebugValues(values) => write!(text, "{values:?}"),
+            _ => put(text, "done"),
         }
     }
 }
@@ -150,32 +278,80 @@ impl<'a> Answer<'a> {
 // Longer lists are written by their length.
 const LONGEST: usize = 200;
 
+const MOST_VALUES: usize = 80;
+
+const MOST_INDICES: usize = 100;
+
+// These two say nothing of the text: so a body that writes much is proved soon.
+pub fn put(text: &mut String, part: &str) -> Result<(), AllocError> {
+    text.push_str(part)
+}
+
+pub fn put_number(text: &mut String, number: usize) -> Result<(), AllocError> {
+    write!(text, "{number}")
+}
+
+fn put_numbers(text: &mut String, numbers: (usize, &str, usize)) -> Result<(), AllocError> {
+    put_number(text, numbers.0)?;
+    put(text, numbers.1)?;
+    put_number(text, numbers.2)
+}
+
+pub(crate) fn put_count(text: &mut String, count: usize, what: &str) -> Result<(), AllocError> {
+    put_number(text, count)?;
+    put(text, what)
+}
+
+pub(crate) fn put_next(text: &mut String, mark: &str, number: usize) -> Result<(), AllocError> {
+    put(text, mark)?;
+    put_number(text, number)
+}
+
+// An item of a list, which may be the next one after another.
+fn put_item(text: &mut String, is_next: bool, number: usize) -> Result<(), AllocError> {
+    if is_next {
+        put(text, ",")?;
+    }
+    put_number(text, number)
+}
+
 /// Writes the numbers with a comma between two, or `-`, or how many they are if they are many.
 pub fn write_numbers(text: &mut String, numbers: &[usize]) -> Result<(), AllocError> {
-    if numbers.len() > LONGEST {
-        return write!(text, "{} numbers", numbers.len());
+    if numbers.is_empty() {
+        return put(text, "-");
     }
-    let [first, rest @ ..] = numbers else {
-        return text.push_str("-");
-    };
-    write!(text, "{first}")?;
-    for number in rest {
-        write!(text, ",{number}")?;
+    if numbers.len() > LONGEST {
+        return put_count(text, numbers.len(), " numbers");
+    }
+    let mut is_next = false;
+    for number in numbers {
+        put_item(text, is_next, *number)?;
+        is_next = true;
     }
     Ok(())
 }
 
+pub(crate) fn put_range(
+    text: &mut String,
+    mark: &str,
+    range: (usize, usize),
+) -> Result<(), AllocError> {
+    put(text, mark)?;
+    put_numbers(text, (range.0, "..", range.1))
+}
+
 /// Writes the ranges with a comma between two, or `-`, or how many they are if they are many.
 pub fn write_ranges(text: &mut String, ranges: &[(usize, usize)]) -> Result<(), AllocError> {
-    if ranges.len() > LONGEST {
-        return write!(text, "{} ranges", ranges.len());
+    if ranges.is_empty() {
+        return put(text, "-");
     }
-    let [first, rest @ ..] = ranges else {
-        return text.push_str("-");
-    };
-    write!(text, "{}..{}", first.0, first.1)?;
-    for range in rest {
-        write!(text, ",{}..{}", range.0, range.1)?;
+    if ranges.len() > LONGEST {
+        return put_count(text, ranges.len(), " ranges");
+    }
+    let mut mark = "";
+    for range in ranges {
+        put_range(text, mark, *range)?;
+        mark = ",";
     }
     Ok(())
 }
@@ -187,11 +363,11 @@ fn digit_of(value: bool) -> &'static str {
 // The values of a mask one by one, or `-`.
 fn write_list(text: &mut String, mask: &Mask) -> Result<(), AllocError> {
     if mask.is_empty() {
-        return text.push_str("-");
+        return put(text, "-");
     }
     for i in 0..mask.len() {
         if i < mask.len() {
-            text.push_str(digit_of(mask.value(i)))?;
+            put(text, digit_of(mask.value(i)))?;
         }
     }
     Ok(())
@@ -199,37 +375,69 @@ fn write_list(text: &mut String, mask: &Mask) -> Result<(), AllocError> {
 
 fn variant_of(mask: &Mask) -> &'static str {
     match mask {
-        Mask::AllTrue(_) => "AllTrue",
-        Mask::AllFalse(_) => "AllFalse",
-        Mask::Values(_) => "Values",
+        Mask::AllTrue(_) => " AllTrue",
+        Mask::AllFalse(_) => " AllFalse",
+        Mask::Values(_) => " Values",
     }
 }
 
-/// Writes the list, or of a long mask its length and how many values are true, the variant, and what is cached.
+/// Writes the list of a mask, its variant, and what is cached.
+///
+/// A list of more than 80 values is its length with the indices of those that are true, as `130:63,64`, where they
+/// are mixed and at most a hundred are true, and otherwise how many are true: `3334 of 20000`.
 pub fn write_mask(text: &mut String, mask: &Mask) -> Result<(), AllocError> {
-    if mask.len() > LONGEST {
-        write!(text, "{} of {}", mask.true_count(), mask.len())?;
-    } else {
-        write_list(text, mask)?;
-    }
-    write!(text, " {}", variant_of(mask))?;
+    write_uncached(text, mask)?;
     write_caches(text, mask)
+}
+
+fn write_uncached(text: &mut String, mask: &Mask) -> Result<(), AllocError> {
+    if mask.len() <= MOST_VALUES {
+        write_list(text, mask)?;
+    } else {
+        write_long(text, mask)?;
+    }
+    put(text, variant_of(mask))
+}
+
+fn write_long(text: &mut String, mask: &Mask) -> Result<(), AllocError> {
+    if mask.values().is_some() && mask.true_count() <= MOST_INDICES {
+        put_count(text, mask.len(), ":")?;
+        return write_true(text, mask);
+    }
+    put_numbers(text, (mask.true_count(), " of ", mask.len()))
+}
+
+fn write_true(text: &mut String, mask: &Mask) -> Result<(), AllocError> {
+    let mut is_next = false;
+    for index in mask.set_indices() {
+        put_item(text, is_next, index)?;
+        is_next = true;
+    }
+    Ok(())
 }
 
 fn write_caches(text: &mut String, mask: &Mask) -> Result<(), AllocError> {
     match mask.values() {
-        Some(values) => {
-            write_cached_indices(text, values.cached_indices())?;
-            write_cached_ranges(text, values.cached_slices())
-        }
+        Some(values) => write_lists(text, values),
         None => Ok(()),
     }
+}
+
+fn write_lists(text: &mut String, values: &MaskValues) -> Result<(), AllocError> {
+    write_cached_indices(text, values.cached_indices())?;
+    write_cached_ranges(text, values.cached_slices())
+}
+
+/// Writes the list, and what is cached.
+pub fn write_mixed(text: &mut String, values: &MaskValues) -> Result<(), AllocError> {
+    write_buffer(text, values.bit_buffer())?;
+    write_lists(text, values)
 }
 
 fn write_cached_indices(text: &mut String, list: Option<&[usize]>) -> Result<(), AllocError> {
     match list {
         Some(indices) => {
-            text.push_str(" indices ")?;
+            put(text, " indices ")?;
             write_numbers(text, indices)
         }
         None => Ok(()),
@@ -242,7 +450,7 @@ fn write_cached_ranges(
 ) -> Result<(), AllocError> {
     match list {
         Some(ranges) => {
-            text.push_str(" ranges ")?;
+            put(text, " ranges ")?;
             write_ranges(text, ranges)
         }
         None => Ok(()),
@@ -251,7 +459,7 @@ fn write_cached_ranges(
 
 fn write_counted(text: &mut String, mask: &Mask, steps: &Steps) -> Result<(), AllocError> {
     write_mask(text, mask)?;
-    text.push_str(" steps ")?;
+    put(text, " steps ")?;
     write_steps(text, steps)
 }
 
@@ -274,9 +482,9 @@ pub fn write_steps(text: &mut String, steps: &Steps) -> Result<(), AllocError> {
 }
 
 fn write_masks(text: &mut String, masks: &[Mask]) -> Result<(), AllocError> {
-    write!(text, "{}:", masks.len())?;
+    put_count(text, masks.len(), ":")?;
     for mask in masks {
-        text.push_str(" ")?;
+        put(text, " ")?;
         write_mask(text, mask)?;
     }
     Ok(())
@@ -285,14 +493,14 @@ fn write_masks(text: &mut String, masks: &[Mask]) -> Result<(), AllocError> {
 /// Writes the list of a buffer, or of a long one its length and how many values are true.
 pub fn write_buffer(text: &mut String, buffer: &BitBuffer) -> Result<(), AllocError> {
     if buffer.len() > LONGEST {
-        return write!(text, "{} of {}", buffer.true_count(), buffer.len());
+        return put_numbers(text, (buffer.true_count(), " of ", buffer.len()));
     }
     if buffer.is_empty() {
-        return text.push_str("-");
+        return put(text, "-");
     }
     for i in 0..buffer.len() {
         if i < buffer.len() {
-            text.push_str(digit_of(buffer.value(i)))?;
+            put(text, digit_of(buffer.value(i)))?;
         }
     }
     Ok(())
@@ -300,21 +508,48 @@ pub fn write_buffer(text: &mut String, buffer: &BitBuffer) -> Result<(), AllocEr
 
 fn write_lent_buffer(text: &mut String, lent: &AllOr<&BitBuffer>) -> Result<(), AllocError> {
     match lent {
-        AllOr::All => text.push_str("All"),
-        AllOr::None => text.push_str("None"),
+        AllOr::All => put(text, "All"),
+        AllOr::None => put(text, "None"),
         AllOr::Some(buffer) => {
-            text.push_str("Some ")?;
+            put(text, "Some ")?;
             write_buffer(text, *buffer)
         }
     }
 }
 
+// Each value, with how many are said to be left before it; and how many past the last.
+fn write_values(text: &mut String, values: MaskBoolIter<'_>) -> Result<(), AllocError> {
+    let mut values = values;
+    for _ in 0..values.len() {
+        walks::write_hint(text, values.len(), values.size_hint())?;
+        walks::write_next(text, values.next())?;
+    }
+    walks::write_hint(text, values.len(), values.size_hint())?;
+    walks::write_end(text, values.next().is_none())
+}
+
+fn write_set_indices(text: &mut String, indices: MaskSetIndices<'_>) -> Result<(), AllocError> {
+    put(text, "indices")?;
+    for index in indices {
+        put_next(text, " ", index)?;
+    }
+    Ok(())
+}
+
+fn write_set_slices(text: &mut String, ranges: MaskSetSlices<'_>) -> Result<(), AllocError> {
+    put(text, "ranges")?;
+    for range in ranges {
+        put_range(text, " ", range)?;
+    }
+    Ok(())
+}
+
 fn write_indices(text: &mut String, lent: &AllOr<&[usize]>) -> Result<(), AllocError> {
     match lent {
-        AllOr::All => text.push_str("All"),
-        AllOr::None => text.push_str("None"),
+        AllOr::All => put(text, "All"),
+        AllOr::None => put(text, "None"),
         AllOr::Some(indices) => {
-            text.push_str("Indices ")?;
+            put(text, "Indices ")?;
             write_numbers(text, *indices)
         }
     }
@@ -322,10 +557,10 @@ fn write_indices(text: &mut String, lent: &AllOr<&[usize]>) -> Result<(), AllocE
 
 fn write_slices(text: &mut String, lent: &AllOr<&[(usize, usize)]>) -> Result<(), AllocError> {
     match lent {
-        AllOr::All => text.push_str("All"),
-        AllOr::None => text.push_str("None"),
+        AllOr::All => put(text, "All"),
+        AllOr::None => put(text, "None"),
         AllOr::Some(ranges) => {
-            text.push_str("Slices ")?;
+            put(text, "Slices ")?;
             write_ranges(text, *ranges)
         }
     }
@@ -333,14 +568,20 @@ fn write_slices(text: &mut String, lent: &AllOr<&[(usize, usize)]>) -> Result<()
 
 fn write_iter(text: &mut String, lent: &AllOr<MaskIter<'_>>) -> Result<(), AllocError> {
     match lent {
-        AllOr::All => text.push_str("All"),
-        AllOr::None => text.push_str("None"),
-        AllOr::Some(MaskIter::Indices(indices)) => {
-            text.push_str("Indices ")?;
+        AllOr::All => put(text, "All"),
+        AllOr::None => put(text, "None"),
+        AllOr::Some(list) => write_part(text, list),
+    }
+}
+
+fn write_part(text: &mut String, list: &MaskIter<'_>) -> Result<(), AllocError> {
+    match list {
+        MaskIter::Indices(indices) => {
+            put(text, "Indices ")?;
             write_numbers(text, *indices)
         }
-        AllOr::Some(MaskIter::Slices(ranges)) => {
-            text.push_str("Slices ")?;
+        MaskIter::Slices(ranges) => {
+            put(text, "Slices ")?;
             write_ranges(text, *ranges)
         }
     }

@@ -3,11 +3,13 @@
 #![tactic(auto)]
 
 mod answer;
+pub mod bits;
 mod call;
 mod fault;
 pub mod masks;
 mod operand;
 pub mod packed;
+mod ranged;
 mod row;
 pub mod words;
 
@@ -15,4 +17,5 @@ pub use answer::Answer;
 pub use call::Call;
 pub use fault::Fault;
 pub use operand::Operand;
-pub use row::{Row, answer_text, rows_of};
+pub use ranged::Ranged;
+pub use row::{Outcome, Row, answer_text, rows_of};

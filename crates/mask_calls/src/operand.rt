@@ -1,12 +1,13 @@
 //! Masks as operands, by the words of a row.
 
+use crate::answer::write_mask;
 use crate::fault::Fault;
 use crate::masks::lent::cached_by;
-use crate::masks::made::{from_bools, from_buffer, from_indices, from_slices};
+use crate::masks::made::{ByLength, from_bools, from_buffer, from_indices, from_slices};
 use crate::masks::one::clone;
 use crate::packed;
 use crate::words::{number, numbers, ranges, values};
-use std::alloc::Global;
+use std::alloc::{AllocError, Global};
 use std::mem;
 use vortex_mask::Mask;
 
@@ -29,6 +30,17 @@ impl Operand {
     pub fn hold(&mut self) -> Result<(), Fault> {
         self.held = Some(clone(&self.mask)?);
         Ok(())
+    }
+
+    /// Writes the clone that is held, and the mask where it was lent.
+    pub fn write_kept(&self, text: &mut String, is_lent: bool) -> Result<(), AllocError> {
+        if is_lent {
+            write_mask(text, &self.mask)?;
+        }
+        match &self.held {
+            Some(held) => write_mask(text, held),
+            None => Ok(()),
+        }
     }
 
     /// The mask, by value.
@@ -69,8 +81,8 @@ pub fn mask(alloc: Global, word: &str) -> Result<Mask, Fault> {
 
 fn mask_by(alloc: Global, word: &str, form: &str, rest: &str) -> Result<Mask, Fault> {
     match form {
-        "all" => Ok(Mask::new_true(number(rest)?)),
-        "none" => Ok(Mask::new_false(number(rest)?)),
+        "all" => Ok(ByLength::NewTrue.mask(number(rest)?, true)),
+        "none" => Ok(ByLength::NewFalse.mask(number(rest)?, false)),
         "every" | "first" | "at" => of_bits(alloc, word),
         _ => listed(alloc, number(form)?, rest),
     }

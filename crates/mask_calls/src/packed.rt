@@ -1,7 +1,10 @@
 //! Packed bits at an offset, with bits outside the list that are as a test wants them.
 
+use crate::bits::one::clone;
+use crate::bits::parts::slice;
+use crate::bits::{from_indices, uniform};
 use crate::fault::{Fault, made};
-use crate::words::{digits, number, values};
+use crate::words::{digits, number, numbers, values};
 use bytes::Bytes;
 use mask_bits::BitBuffer;
 use std::alloc::Global;
@@ -107,9 +110,80 @@ pub fn buffer_at(
     new_with_offset(bytes, offset, values.len())
 }
 
-/// A buffer by a word: truth values, or `3+10110` and `3-10110` of values from bit 3 on with set and with clear
-/// bits around them.
+fn read_own(alloc: Global, word: &str) -> Result<BitBuffer, Fault> {
+    match word.split_once(':') {
+        Some(("bytes", rest)) => of_bytes(alloc, rest),
+        Some(("true", rest)) => of_indices(alloc, rest),
+        _ => of_values(alloc, word),
+    }
+}
+
+// From a bit on to the end.
+fn of_part(alloc: Global, rest: &str) -> Result<BitBuffer, Fault> {
+    match rest.split_once(':') {
+        Some((start, word)) => {
+            let buffer = read_own(alloc, word)?;
+            slice(&buffer, number(start)?, buffer.len())
+        }
+        None => Err(Fault::Malformed("a part")),
+    }
+}
+
+// A length, and the indices of the true values in any order.
+fn of_indices(alloc: Global, rest: &str) -> Result<BitBuffer, Fault> {
+    match rest.split_once(':') {
+        Some((len, list)) => {
+            let list = numbers(alloc, list)?;
+            from_indices(alloc, number(len)?, &list)
+        }
+        None => Err(Fault::Malformed("a length and indices")),
+    }
+}
+
+// Bytes, offset and length.
+fn of_bytes(alloc: Global, rest: &str) -> Result<BitBuffer, Fault> {
+    let Some((list, part)) = rest.split_once(':') else {
+        return Err(Fault::Malformed("bytes"));
+    };
+    let Some((offset, len)) = part.split_once(':') else {
+        return Err(Fault::Malformed("an offset and a length"));
+    };
+    let bytes = own_bytes(bytes_of(alloc, list)?)?;
+    new_with_offset(bytes, number(offset)?, number(len)?)
+}
+
+fn bytes_of(alloc: Global, list: &str) -> Result<Vec<u8>, Fault> {
+    let mut bytes: Vec<u8> = Vec::new(alloc);
+    for word in list.split(',') {
+        push_byte(&mut bytes, byte(word)?)?;
+    }
+    Ok(bytes)
+}
+
+fn byte(word: &str) -> Result<u8, Fault> {
+    match u8::try_from(number(word)?) {
+        Ok(byte) => Ok(byte),
+        Err(_) => Err(Fault::Malformed("a byte")),
+    }
+}
+
+/// A buffer by a word: truth values; `all:130` and `none:130`; `3+10110` and `3-10110` of values from bit 3 on with
+/// set and with clear bits around them; `bytes:180,255:2:5` of five values from bit 2 of these bytes on;
+/// `true:12:9,0` of 12 values by the indices of the true ones; `part:3:W` of such a word from bit 3 on, and
+/// `clone:W`.
 pub fn read(alloc: Global, word: &str) -> Result<BitBuffer, Fault> {
+    match word.split_once(':') {
+        Some(("all", len)) => uniform(alloc, number(len)?, true),
+        Some(("none", len)) => uniform(alloc, number(len)?, false),
+        Some(("bytes", rest)) => of_bytes(alloc, rest),
+        Some(("true", rest)) => of_indices(alloc, rest),
+        Some(("part", rest)) => of_part(alloc, rest),
+        Some(("clone", rest)) => clone(&read_own(alloc, rest)?),
+        _ => of_values(alloc, word),
+    }
+}
+
+fn of_values(alloc: Global, word: &str) -> Result<BitBuffer, Fault> {
     match offset_of(word) {
         Some((offset, outside, list)) => {
             let list = digits(alloc, list)?;

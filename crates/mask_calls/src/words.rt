@@ -3,16 +3,36 @@
 use crate::fault::{Fault, made};
 use std::alloc::Global;
 
-/// A number: its digits, `max`, or `max-1`.
+/// A number: its digits, `0x` and hexadecimal ones, `max`, or `max-1`.
 pub fn number(word: &str) -> Result<usize, Fault> {
     match word {
         "max" => Ok(usize::MAX),
         "max-1" => Ok(usize::MAX - 1),
-        _ => match word.parse::<usize>() {
-            Ok(number) => Ok(number),
-            Err(_) => Err(Fault::Malformed("a number")),
-        },
+        _ => parsed(word),
     }
+}
+
+fn parsed(word: &str) -> Result<usize, Fault> {
+    match match word.strip_prefix("0x") {
+        Some(digits) => usize::from_str_radix(digits, 16),
+        None => word.parse::<usize>(),
+    } {
+        Ok(number) => Ok(number),
+        Err(_) => Err(Fault::Malformed("a number")),
+    }
+}
+
+/// The place of a name among names with a space between two, or their number. To compare numbers is proved sooner
+/// than to compare texts.
+pub fn place_of(name: &str, names: &str) -> usize {
+    let mut place = 0usize;
+    for each in names.split(' ') {
+        if each == name {
+            return place;
+        }
+        place = place.saturating_add(1);
+    }
+    place
 }
 
 fn push<T: Drop>(list: &mut Vec<T>, item: T) -> Result<(), Fault> {

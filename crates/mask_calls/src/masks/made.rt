@@ -2,6 +2,8 @@
 
 use crate::answer::Answer;
 use crate::fault::{Fault, answer};
+use crate::ranged::Ranged;
+use crate::words::place_of;
 use mask_bits::BitBuffer;
 use std::alloc::Global;
 use std::mem;
@@ -27,6 +29,74 @@ pub fn from_slices(alloc: Global, len: usize, ranges: Vec<(usize, usize)>) -> Re
     answer(Mask::from_slices(alloc, len, ranges))
 }
 
+/// `Mask::from_bools` of what `Mask::iter` yields.
+pub fn from_iter_of(alloc: Global, mask: &Mask) -> Result<Mask, Fault> {
+    answer(Mask::from_bools(alloc, mask.iter()))
+}
+
+/// The indices that two buffers have in common.
+pub fn from_intersection_indices(
+    alloc: Global,
+    len: usize,
+    lhs: &BitBuffer,
+    rhs: &BitBuffer,
+) -> Result<Mask, Fault> {
+    answer(Mask::from_intersection_indices(alloc, len, lhs.set_indices(), rhs.set_indices()))
+}
+
+/// The index that two lists of one have in common, also where no buffer is that long.
+pub fn from_intersection_of_one(
+    alloc: Global,
+    len: usize,
+    lhs: usize,
+    rhs: usize,
+) -> Result<Mask, Fault> {
+    let (lhs, rhs) = ([lhs].into_iter(), [rhs].into_iter());
+    answer(Mask::from_intersection_indices(alloc, len, lhs, rhs))
+}
+
+/// Makes the call of `from_buffer`, by value.
+pub fn run_from_buffer<'a>(
+    alloc: Global,
+    buffer: &'a mut Option<BitBuffer>,
+) -> Result<Answer<'a>, Fault> {
+    match buffer.take() {
+        Some(buffer) => Answer::of_mask(from_buffer(alloc, buffer)),
+        None => Err(Fault::Unmet("a buffer that is there")),
+    }
+}
+
+/// Makes the call of `from_buffer_with_slices`, by value.
+pub fn run_with_slices<'a>(
+    alloc: Global,
+    ranged: &'a mut Option<Ranged>,
+) -> Result<Answer<'a>, Fault> {
+    match ranged.take() {
+        Some(ranged) => Answer::of_mask(ranged.mask(alloc)),
+        None => Err(Fault::Unmet("a buffer that is there")),
+    }
+}
+
+/// Makes the call of `from_intersection_indices`.
+pub fn run_common<'a>(
+    alloc: Global,
+    len: usize,
+    lhs: &'a mut BitBuffer,
+    rhs: &'a mut BitBuffer,
+) -> Result<Answer<'a>, Fault> {
+    Answer::of_mask(from_intersection_indices(alloc, len, lhs, rhs))
+}
+
+/// Makes the call of `from_intersection_indices` of one index each.
+pub fn run_common_of_one<'a>(
+    alloc: Global,
+    len: usize,
+    lhs: &'a mut usize,
+    rhs: usize,
+) -> Result<Answer<'a>, Fault> {
+    Answer::of_mask(from_intersection_of_one(alloc, len, *lhs, rhs))
+}
+
 /// Makes the call of `from_slices`, by value.
 pub fn run_from_slices<'a>(
     alloc: Global,
@@ -42,6 +112,42 @@ pub fn run_from_slices<'a>(
 pub enum ByIndices {
     FromIndices,
     FromExcludedIndices,
+}
+
+/// Constructors of a length.
+#[derive(Drop, Clone, Copy)]
+pub enum ByLength {
+    New,
+    NewTrue,
+    NewFalse,
+    Default,
+}
+
+impl ByLength {
+    /// The call of this name.
+    pub fn named(name: &str) -> Option<ByLength> {
+        match place_of(name, "new_true new_false default") {
+            0 => Some(ByLength::NewTrue),
+            1 => Some(ByLength::NewFalse),
+            2 => Some(ByLength::Default),
+            _ => None,
+        }
+    }
+
+    /// Makes the call.
+    pub fn run<'a>(self, len: &'a mut usize, value: bool) -> Result<Answer<'a>, Fault> {
+        Ok(Answer::Mask(self.mask(*len, value)))
+    }
+
+    /// The mask: of `New` of these values.
+    pub fn mask(self, len: usize, value: bool) -> Mask {
+        match self {
+            ByLength::New => Mask::new(len, value),
+            ByLength::NewTrue => Mask::new_true(len),
+            ByLength::NewFalse => Mask::new_false(len),
+            ByLength::Default => Mask::default(),
+        }
+    }
 }
 
 impl ByIndices {

@@ -2,7 +2,7 @@
 
 use crate::answer::Answer;
 use crate::fault::{Fault, answer};
-use crate::operand::mask;
+use crate::operand::{Operand, mask};
 use std::alloc::Global;
 use std::mem;
 use vortex_mask::Mask;
@@ -44,6 +44,30 @@ impl OfMany {
             OfMany::FromMasks => Answer::of_mask(of_taken(alloc, masks)),
         }
     }
+}
+
+/// `intersect_all_by_rank` of two masks more.
+pub fn intersect_all_by_rank(
+    alloc: Global,
+    first: &Mask,
+    second: Mask,
+    third: Mask,
+) -> Result<Mask, Fault> {
+    if second.len() != first.true_count() || third.len() != second.true_count() {
+        return Err(Fault::Unmet("a rank for each true value"));
+    }
+    answer(first.intersect_all_by_rank(alloc, &[second, third]))
+}
+
+/// Makes the call of `intersect_all_by_rank`: the first mask is lent.
+pub fn run_intersect_all<'a>(
+    alloc: Global,
+    first: &'a mut Operand,
+    second: &'a mut Operand,
+    third: &'a mut Operand,
+) -> Result<Answer<'a>, Fault> {
+    let (second, third) = (second.take(), third.take());
+    Answer::of_uncached(intersect_all_by_rank(alloc, &first.mask, second, third))
 }
 
 fn push_mask(alloc: Global, masks: &mut Vec<Mask>, word: &str) -> Result<(), Fault> {

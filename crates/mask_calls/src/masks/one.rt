@@ -2,7 +2,9 @@
 
 use crate::answer::Answer;
 use crate::fault::{Fault, answer};
+use crate::masks::made::from_iter_of;
 use crate::operand::Operand;
+use crate::words::place_of;
 use mask_bits::BitBuffer;
 use std::alloc::Global;
 use vortex_mask::Mask;
@@ -27,6 +29,14 @@ pub fn into_bit_buffer(alloc: Global, mask: Mask) -> Result<BitBuffer, Fault> {
     answer(mask.into_bit_buffer(alloc))
 }
 
+/// Makes the call of `equals_buffer`.
+pub fn run_equals_buffer<'a>(
+    operand: &'a mut Operand,
+    buffer: &'a mut BitBuffer,
+) -> Result<Answer<'a>, Fault> {
+    Ok(Answer::Flag(operand.mask.equals_buffer(buffer)))
+}
+
 /// A call of one mask.
 #[derive(Drop, Clone, Copy)]
 pub enum OfOne {
@@ -36,6 +46,7 @@ pub enum OfOne {
     ToBitBuffer,
     IntoBitBuffer,
     Clear,
+    FromBools,
     Read(Read),
 }
 
@@ -53,23 +64,38 @@ pub enum Read {
     Last,
     Density,
     BitBuffer,
+    Iter,
+    SetIndices,
+    SetSlices,
+    Display,
+    Debug,
+    DebugValues,
 }
 
 impl OfOne {
     /// The call of this name.
     pub fn named(name: &str) -> Option<OfOne> {
-        match name {
-            "clone" => Some(OfOne::Clone),
-            "not" => Some(OfOne::Not),
-            "into_not" => Some(OfOne::IntoNot),
-            "to_bit_buffer" => Some(OfOne::ToBitBuffer),
-            "into_bit_buffer" => Some(OfOne::IntoBitBuffer),
-            "clear" => Some(OfOne::Clear),
+        match place_of(
+            name,
+            "clone not into_not to_bit_buffer into_bit_buffer clear from_bools",
+        ) {
+            0 => Some(OfOne::Clone),
+            1 => Some(OfOne::Not),
+            2 => Some(OfOne::IntoNot),
+            3 => Some(OfOne::ToBitBuffer),
+            4 => Some(OfOne::IntoBitBuffer),
+            5 => Some(OfOne::Clear),
+            6 => Some(OfOne::FromBools),
             _ => match Read::named(name) {
                 Some(read) => Some(OfOne::Read(read)),
                 None => None,
             },
         }
+    }
+
+    /// Whether the mask is lent, and stays as it is.
+    pub fn lends(self) -> bool {
+        !matches!(self, OfOne::IntoNot | OfOne::IntoBitBuffer | OfOne::Clear)
     }
 
     /// Makes the call. An operand by value is gone after it.
@@ -80,6 +106,7 @@ impl OfOne {
             OfOne::IntoNot => Answer::of_mask(into_not(alloc, operand.take())),
             OfOne::ToBitBuffer => Answer::of_buffer(to_bit_buffer(alloc, &operand.mask)),
             OfOne::IntoBitBuffer => Answer::of_buffer(into_bit_buffer(alloc, operand.take())),
+            OfOne::FromBools => Answer::of_mask(from_iter_of(alloc, &operand.mask)),
             OfOne::Clear => {
                 operand.mask.clear();
                 Ok(Answer::Done)
@@ -91,18 +118,36 @@ impl OfOne {
 
 impl Read {
     fn named(name: &str) -> Option<Read> {
-        match name {
-            "mask" => Some(Read::Mask),
-            "len" => Some(Read::Len),
-            "is_empty" => Some(Read::IsEmpty),
-            "true_count" => Some(Read::TrueCount),
-            "false_count" => Some(Read::FalseCount),
-            "all_true" => Some(Read::AllTrue),
-            "all_false" => Some(Read::AllFalse),
-            "first" => Some(Read::First),
-            "last" => Some(Read::Last),
-            "density" => Some(Read::Density),
-            "bit_buffer" => Some(Read::BitBuffer),
+        match place_of(
+            name,
+            "mask len is_empty true_count false_count all_true all_false first last density bit_buffer",
+        ) {
+            0 => Some(Read::Mask),
+            1 => Some(Read::Len),
+            2 => Some(Read::IsEmpty),
+            3 => Some(Read::TrueCount),
+            4 => Some(Read::FalseCount),
+            5 => Some(Read::AllTrue),
+            6 => Some(Read::AllFalse),
+            7 => Some(Read::First),
+            8 => Some(Read::Last),
+            9 => Some(Read::Density),
+            10 => Some(Read::BitBuffer),
+            _ => Read::walk_or_text(name),
+        }
+    }
+
+    fn walk_or_text(name: &str) -> Option<Read> {
+        match place_of(
+            name,
+            "iter set_indices set_slices display debug debug_values",
+        ) {
+            0 => Some(Read::Iter),
+            1 => Some(Read::SetIndices),
+            2 => Some(Read::SetSlices),
+            3 => Some(Read::Display),
+            4 => Some(Read::Debug),
+            5 => Some(Read::DebugValues),
             _ => None,
         }
     }
@@ -120,6 +165,18 @@ impl Read {
             Read::Last => Answer::Index(mask.last()),
             Read::Density => Answer::Fraction(mask.density()),
             Read::BitBuffer => Answer::LentBuffer(mask.bit_buffer()),
+            _ => self.walk_or_text_of(mask),
+        }
+    }
+
+    fn walk_or_text_of(self, mask: &Mask) -> Answer<'_> {
+        match self {
+            Read::Iter => Answer::Values(mask.iter()),
+            Read::SetIndices => Answer::SetIndices(mask.set_indices()),
+            Read::SetSlices => Answer::SetSlices(mask.set_slices()),
+            Read::Display => Answer::Display(mask),
+            Read::Debug => Answer::Debug(mask),
+            _ => Answer::DebugValues(mask.values()),
         }
     }
 }

@@ -3,6 +3,7 @@
 use crate::answer::Answer;
 use crate::fault::{Fault, answer};
 use crate::operand::Operand;
+use crate::words::place_of;
 use std::alloc::Global;
 use vortex_mask::Mask;
 
@@ -65,14 +66,19 @@ pub enum WithNumber {
 impl WithNumber {
     /// The call of this name.
     pub fn named(name: &str) -> Option<WithNumber> {
-        match name {
-            "limit" => Some(WithNumber::Limit),
-            "to_limited" => Some(WithNumber::ToLimited),
-            "groups" => Some(WithNumber::Groups),
-            "value" => Some(WithNumber::Value),
-            "rank" => Some(WithNumber::Rank),
+        match place_of(name, "limit to_limited groups value rank") {
+            0 => Some(WithNumber::Limit),
+            1 => Some(WithNumber::ToLimited),
+            2 => Some(WithNumber::Groups),
+            3 => Some(WithNumber::Value),
+            4 => Some(WithNumber::Rank),
             _ => None,
         }
+    }
+
+    /// Whether the mask is lent, and stays as it is.
+    pub fn lends(self) -> bool {
+        !matches!(self, WithNumber::Limit)
     }
 
     /// Makes the call. An operand by value is gone after it.

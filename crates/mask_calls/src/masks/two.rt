@@ -3,6 +3,7 @@
 use crate::answer::Answer;
 use crate::fault::{Fault, answer};
 use crate::operand::Operand;
+use crate::words::place_of;
 use std::alloc::Global;
 use vortex_mask::Mask;
 use vortex_mask::intersect_by_rank::{RankPath, Steps, rank_path};
@@ -90,26 +91,41 @@ pub enum OfTwo {
     BitandNot,
     IntersectByRank,
     IntersectByRankCounted,
+    CountedList,
     RankPath,
     Equal,
+    EqualSwapped,
 }
 
 impl OfTwo {
     /// The call of this name.
     pub fn named(name: &str) -> Option<OfTwo> {
-        match name {
-            "bitand" => Some(OfTwo::Bitand),
-            "bitor" => Some(OfTwo::Bitor),
-            "to_bitand_not" => Some(OfTwo::ToBitandNot),
-            "into_bitand" => Some(OfTwo::IntoBitand),
-            "into_bitor" => Some(OfTwo::IntoBitor),
-            "bitand_not" => Some(OfTwo::BitandNot),
-            "intersect_by_rank" => Some(OfTwo::IntersectByRank),
-            "intersect_by_rank_counted" => Some(OfTwo::IntersectByRankCounted),
-            "rank_path" => Some(OfTwo::RankPath),
-            "equal" => Some(OfTwo::Equal),
+        match place_of(
+            name,
+            "bitand bitor to_bitand_not into_bitand into_bitor bitand_not intersect_by_rank intersect_by_rank_counted rank_path counted_list equal equal_swapped",
+        ) {
+            0 => Some(OfTwo::Bitand),
+            1 => Some(OfTwo::Bitor),
+            2 => Some(OfTwo::ToBitandNot),
+            3 => Some(OfTwo::IntoBitand),
+            4 => Some(OfTwo::IntoBitor),
+            5 => Some(OfTwo::BitandNot),
+            6 => Some(OfTwo::IntersectByRank),
+            7 => Some(OfTwo::IntersectByRankCounted),
+            8 => Some(OfTwo::RankPath),
+            9 => Some(OfTwo::CountedList),
+            10 => Some(OfTwo::Equal),
+            11 => Some(OfTwo::EqualSwapped),
             _ => None,
         }
+    }
+
+    /// Whether the first mask is lent, and stays as it is.
+    pub fn lends(self) -> bool {
+        !matches!(
+            self,
+            OfTwo::IntoBitand | OfTwo::IntoBitor | OfTwo::BitandNot
+        )
     }
 
     /// Makes the call. An operand by value is gone after it.
@@ -136,7 +152,9 @@ impl OfTwo {
             OfTwo::IntersectByRankCounted => {
                 Answer::of_counted(intersect_by_rank_counted(alloc, a, b))
             }
+            OfTwo::CountedList => Answer::of_list_counted(intersect_by_rank_counted(alloc, a, b)),
             OfTwo::RankPath => Answer::of_path(path(a, b)),
+            OfTwo::EqualSwapped => Ok(Answer::Flag(b == a)),
             _ => Ok(Answer::Flag(a == b)),
         }
     }

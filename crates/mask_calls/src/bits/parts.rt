@@ -1,0 +1,93 @@
+//! Calls of a buffer and numbers.
+
+use crate::answer::Answer;
+use crate::bits::Bits;
+use crate::fault::{Fault, made};
+use crate::words::place_of;
+use mask_bits::BitBuffer;
+
+pub fn slice(buffer: &BitBuffer, start: usize, end: usize) -> Result<BitBuffer, Fault> {
+    if start > end || end > buffer.len() {
+        return Err(Fault::Unmet("a range within the buffer"));
+    }
+    made(buffer.slice(start, end))
+}
+
+pub fn count_range(buffer: &BitBuffer, start: usize, end: usize) -> Result<usize, Fault> {
+    if start > end || end > buffer.len() {
+        return Err(Fault::Unmet("a range within the buffer"));
+    }
+    Ok(buffer.count_range(start, end))
+}
+
+pub fn value(buffer: &BitBuffer, index: usize) -> Result<bool, Fault> {
+    if index >= buffer.len() {
+        return Err(Fault::Unmet("an index within the buffer"));
+    }
+    Ok(buffer.value(index))
+}
+
+pub fn first_from(buffer: &BitBuffer, from: usize, value: bool) -> Result<usize, Fault> {
+    if from > buffer.len() {
+        return Err(Fault::Unmet("an index within the buffer"));
+    }
+    Ok(buffer.first_from(from, value))
+}
+
+pub fn select(buffer: &BitBuffer, n: usize) -> Option<usize> {
+    buffer.select(n)
+}
+
+/// A call of a buffer and one or two numbers.
+#[derive(Drop, Clone, Copy)]
+pub enum WithNumbers {
+    Slice,
+    CountRange,
+    Value,
+    FirstFrom,
+    Select,
+    // each number below this one
+    SelectEach,
+}
+
+impl WithNumbers {
+    /// The call of this name.
+    pub fn named(name: &str) -> Option<WithNumbers> {
+        match place_of(
+            name,
+            "slice count_range value first_from select select_each",
+        ) {
+            0 => Some(WithNumbers::Slice),
+            1 => Some(WithNumbers::CountRange),
+            2 => Some(WithNumbers::Value),
+            3 => Some(WithNumbers::FirstFrom),
+            4 => Some(WithNumbers::Select),
+            5 => Some(WithNumbers::SelectEach),
+            _ => None,
+        }
+    }
+
+    /// Makes the call.
+    pub fn run<'a>(
+        self,
+        bits: &'a mut Bits,
+        first: usize,
+        second: usize,
+    ) -> Result<Answer<'a>, Fault> {
+        match bits.get() {
+            Ok(buffer) => self.of(buffer, first, second),
+            Err(fault) => Err(fault),
+        }
+    }
+
+    fn of(self, buffer: &BitBuffer, first: usize, second: usize) -> Result<Answer<'_>, Fault> {
+        match self {
+            WithNumbers::Slice => Answer::of_part_buffer(slice(buffer, first, second)),
+            WithNumbers::CountRange => Answer::of_number(count_range(buffer, first, second)),
+            WithNumbers::Value => Answer::of_flag(value(buffer, first)),
+            WithNumbers::FirstFrom => Answer::of_number(first_from(buffer, first, second == 1)),
+            WithNumbers::Select => Ok(Answer::Index(select(buffer, first))),
+            WithNumbers::SelectEach => Ok(Answer::Selected(buffer, first)),
+        }
+    }
+}

@@ -1,0 +1,56 @@
+//! Fractions.
+
+use crate::answer::Answer;
+use crate::fault::Fault;
+use crate::words::number;
+use vortex_mask::Fraction;
+
+pub fn at_least(a: Fraction, b: Fraction) -> Result<bool, Fault> {
+    if a.den == 0 || b.den == 0 {
+        return Err(Fault::Unmet("denominators above 0"));
+    }
+    Ok(a.at_least(b))
+}
+
+/// A call of two fractions.
+#[derive(Drop, Clone, Copy)]
+pub enum OfFractions {
+    AtLeast,
+    Equal,
+}
+
+impl OfFractions {
+    /// The call of this name.
+    pub fn named(name: &str) -> Option<OfFractions> {
+        match name {
+            "at_least" => Some(OfFractions::AtLeast),
+            "equal_fractions" => Some(OfFractions::Equal),
+            _ => None,
+        }
+    }
+
+    /// Makes the call.
+    pub fn run<'a>(
+        self,
+        a: &'a mut (usize, usize),
+        b: &'a mut (usize, usize),
+    ) -> Result<Answer<'a>, Fault> {
+        let (a, b) = (fraction(*a), fraction(*b));
+        match self {
+            OfFractions::AtLeast => Answer::of_flag(at_least(a, b)),
+            OfFractions::Equal => Ok(Answer::Flag(a == b)),
+        }
+    }
+}
+
+fn fraction((num, den): (usize, usize)) -> Fraction {
+    Fraction { num, den }
+}
+
+/// A fraction, as `3/5`.
+pub fn read(word: &str) -> Result<(usize, usize), Fault> {
+    match word.split_once('/') {
+        Some((num, den)) => Ok((number(num)?, number(den)?)),
+        None => Err(Fault::Malformed("a fraction")),
+    }
+}

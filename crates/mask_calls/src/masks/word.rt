@@ -1,0 +1,81 @@
+//! Deposits and selections of a word.
+
+use crate::answer::Answer;
+use crate::fault::Fault;
+use crate::words::{number, place_of};
+use vortex_mask::intersect_by_rank::{
+    DepositBits, Portable, PortableLoop, SelectBit, deposit_bytewise, deposit_two_holes,
+    deposit_two_lowest,
+};
+
+pub fn deposit_bits<D: DepositBits>(source: u64, mask: u64) -> u64 {
+    D::deposit_bits(source, mask, mask.count_ones() as usize)
+}
+
+pub fn two_lowest(source: u64, mask: u64) -> Result<u64, Fault> {
+    if mask.count_ones() > 2 {
+        return Err(Fault::Unmet("at most two set bits"));
+    }
+    Ok(deposit_two_lowest(source, mask))
+}
+
+pub fn two_holes(source: u64, mask: u64) -> Result<u64, Fault> {
+    if mask.count_ones() < 62 {
+        return Err(Fault::Unmet("at most two clear bits"));
+    }
+    Ok(deposit_two_holes(source, mask))
+}
+
+pub fn select(word: u64, rank: usize) -> Result<usize, Fault> {
+    if rank >= word.count_ones() as usize {
+        return Err(Fault::Unmet("a set bit of this number"));
+    }
+    Ok(Portable::select_bit_position(word, rank))
+}
+
+/// A call of two words.
+#[derive(Drop, Clone, Copy)]
+pub enum OfWords {
+    Deposit,
+    DepositByLoop,
+    Bytewise,
+    TwoLowest,
+    TwoHoles,
+    Select,
+}
+
+impl OfWords {
+    /// The call of this name.
+    pub fn named(name: &str) -> Option<OfWords> {
+        match place_of(
+            name,
+            "deposit deposit_by_loop deposit_bytewise deposit_two_lowest deposit_two_holes select",
+        ) {
+            0 => Some(OfWords::Deposit),
+            1 => Some(OfWords::DepositByLoop),
+            2 => Some(OfWords::Bytewise),
+            3 => Some(OfWords::TwoLowest),
+            4 => Some(OfWords::TwoHoles),
+            5 => Some(OfWords::Select),
+            _ => None,
+        }
+    }
+
+    /// Makes the call.
+    pub fn run<'a>(self, first: &'a mut usize, second: usize) -> Result<Answer<'a>, Fault> {
+        let (source, mask) = (*first as u64, second as u64);
+        match self {
+            OfWords::Deposit => Ok(Answer::Word(deposit_bits::<Portable>(source, mask))),
+            OfWords::DepositByLoop => Ok(Answer::Word(deposit_bits::<PortableLoop>(source, mask))),
+            OfWords::Bytewise => Ok(Answer::Word(deposit_bytewise(source, mask))),
+            OfWords::TwoLowest => Answer::of_word(two_lowest(source, mask)),
+            OfWords::TwoHoles => Answer::of_word(two_holes(source, mask)),
+            OfWords::Select => Answer::of_number(select(source, second)),
+        }
+    }
+}
+
+/// The words, of a row such as `0x5 0x1A`.
+pub fn read(first: &str, second: &str) -> Result<(usize, usize), Fault> {
+    Ok((number(first)?, number(second)?))
+}
