@@ -4,6 +4,7 @@
 // be made it says `not prepared`.
 use super::{parts_of, words_of};
 use crate::answer::{RunError, answer};
+use std::alloc::AllocError;
 use std::process::Abort;
 use vortex_mask::MaskError;
 
@@ -14,23 +15,50 @@ fn say<R: Abort + Print>(rt: &R, line: &str) {
 const ROWS: &str = "\
 rank 10011101 00101 => 00001001
 and 1101 0110 => 0100
+and 11 1 => length 1 where 2 is needed
 or 1100 0101 => 1101
 andnot 1101 0110 => 1001
 not 10110 => 01001
+not - => -
 slice 10110 1 4 => 011
+slice 10110 3 3 => -
+slice - 0 0 => -
+slice 1110011001 2 7 => 10011
+slice 1110011001 0 10 => 1110011001
+slice 10110 3 6 => word 3: out of range
+slice 10110 4 2 => word 2: out of range
+slice 10110 x 2 => word 2: not a number
 limit 01101 2 => 01100
+limit 01101 3 => 01101
+limit 01101 9 => 01101
+limit 01101 0 => 00000
+limit - 0 => -
+limit 10 18446744073709551615 => 10
+limit 10 18446744073709551616 => word 2: not a number
+limit 10 +1 => word 2: not a number
 cat 10 - 011 => 10011
+cat 000 - => 000
 pipe 10011101 00101 10 => 00001000
+pipe 10011101 00101 1 => length 1 where 2 is needed
 indices 10110 => 0 2 3
+indices 000 => -
 ranges 10110 => 0..1 2..4";
 
 #[test]
 fn each_command(rt: HostRuntime) {
-    assert!(rt; ROWS.split('\n').count() == 11);
-    for row in ROWS.split('\n') {
-        let (command_line, want) = parts_of(&rt, row);
+    try_rows(&rt, ROWS);
+}
+
+#[test]
+fn usage_without_memory(rt: HostRuntime) {
+    try_rows(&rt, "cat => usage: maskrun COMMAND WORDS");
+}
+
+fn try_rows<R: Abort + Print + AllocGlobal>(rt: &R, rows: &str) {
+    for row in rows.split('\n') {
+        let (command_line, want) = parts_of(rt, row);
         assert!(rt; println!(rt; "scenario {command_line}").is_ok());
-        command(&rt, command_line, want);
+        command(rt, command_line, want);
     }
 }
 
@@ -56,7 +84,11 @@ fn in_turn<R: Abort + Print + AllocGlobal>(rt: &R, words: &[String], copy: &[Str
     panic!(rt; "refused once more");
 }
 
-fn is_answered<R: Abort + Print>(rt: &R, answer: Result<String, RunError>, want: &str) -> bool {
+fn is_answered<R: Abort + Print + AllocGlobal>(
+    rt: &R,
+    answer: Result<String, RunError>,
+    want: &str,
+) -> bool {
     match answer {
         Ok(line) => {
             say(rt, "answered");
@@ -67,6 +99,17 @@ fn is_answered<R: Abort + Print>(rt: &R, answer: Result<String, RunError>, want:
             say(rt, "refused");
             false
         }
-        Err(_) => panic!(rt; "another refusal than out of memory"),
+        Err(fault) => {
+            say(rt, "answered");
+            is_told(rt, format!(in rt.alloc(); "{fault}"), want);
+            true
+        }
+    }
+}
+
+// A text for which no memory is found is not compared.
+fn is_told(rt: &impl Abort, text: Result<String, AllocError>, want: &str) {
+    if let Ok(text) = text {
+        assert!(rt; text.as_str() == want, "{text} for {want}");
     }
 }

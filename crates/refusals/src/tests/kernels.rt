@@ -1,139 +1,139 @@
 // Rank intersection on each path: by its kernel alone, by `intersect_by_rank` and by its counted form.
 // Scenarios named `PATH/CALL` of one path are refused equally often, which the script compares: a body
 // that answers by lists and makes the cached ones up would ask more often.
-ghost use Rattle.std.specs.Prelude.{◌<◌, All, IfOk, length};
+ghost use Rattle.std.specs.Prelude.{◌≡◌, ◌<◌, All, IfOk, length};
 ghost use Rattle.std.specs.List.Sorted.{IsStrictlyIncreasing};
 ghost use Rattle.mask_bits.specs.Buffer.{values};
 
-use super::Want::TrueAt;
-use super::masks::{Call, try_row};
-use super::{EVENS, Operand, Sample, THREE_OF_SIX, WORD_EDGES, Want, outcome, same, say, say_name};
+use super::alike::are_alike;
+use super::{Want, ended, say, try_call};
 use mask_bits::BitBuffer;
+use mask_calls::masks::two::path;
+use mask_calls::{Answer, Fault, Operand, Row};
 use std::alloc::{AllocError, Global};
 use std::process::Abort;
 use vortex_mask::intersect_by_rank::{
     Portable, PortableLoop, RankPath, Steps, intersect_bit_buffer_by_rank_indices,
-    intersect_bit_buffers, intersect_by_rank_indices, intersect_mask_driven, rank_path,
+    intersect_bit_buffers, intersect_by_rank_indices, intersect_mask_driven,
 };
 use vortex_mask::{Mask, MaskError};
 
-const ONE_OF_6: Sample = Sample::Indices(6, &[1]);
+// A path by its name, and masks that go by it: of values at the edges of words, and of the even ones of 128.
+const PATHS: &str = "\
+Indices 130:0,63,64,127,128,129 6:1 -> list 130 at:130:63
+MaskDriven every:2:128 64:63 -> list 128 at:128:126
+BitBuffers 130:0,63,64,127,128,129 6:1,2,5 -> list 130 at:130:63,64,129
+RankIndices every:2:128 64:3,10,63 -> list 128 at:128:6,20,126
+BitBuffers_uncached every:2:128 at:64:3,10,63 -> list 128 at:128:6,20,126";
 
-const LAST_OF_64: Sample = Sample::Indices(64, &[63]);
+// Few values of a long mask, by indices that nothing caches, so that `intersect_by_rank` lists them first.
+const FEW: &str = "Indices at:200:5,150 01 -> list 200 at:200:150";
 
-const SOME_OF_64: Sample = Sample::Indices(64, &[3, 10, 63]);
+// ---- by the path of both masks
 
-const SOME_BITS_OF_64: Sample = Sample::Bits(64, &[3, 10, 63]);
-
-const FIVE_AND_150: Sample = Sample::Bits(200, &[5, 150]);
-
-const SECOND_OF_2: Sample = Sample::Bits(2, &[1]);
-
-const OF_EDGES: Want = TrueAt(130, &[63, 64, 129]);
-
-const OF_EVENS: Want = TrueAt(128, &[6, 20, 126]);
-
-// A path by its name, and masks that go by it.
-type PathRow = (&'static str, RankPath, Sample, Sample, Want);
-
-const INDICES: Want = TrueAt(130, &[63]);
-
-const DRIVEN: Want = TrueAt(128, &[126]);
-
-const PATHS: [PathRow; 5] = [
-    ("Indices", RankPath::Indices, WORD_EDGES, ONE_OF_6, INDICES),
-    (
-        "MaskDriven",
-        RankPath::MaskDriven,
-        EVENS,
-        LAST_OF_64,
-        DRIVEN,
-    ),
-    (
-        "BitBuffers",
-        RankPath::BitBuffers,
-        WORD_EDGES,
-        THREE_OF_SIX,
-        OF_EDGES,
-    ),
-    (
-        "RankIndices",
-        RankPath::RankIndices,
-        EVENS,
-        SOME_OF_64,
-        OF_EVENS,
-    ),
-    (
-        "BitBuffers, none cached",
-        RankPath::BitBuffers,
-        EVENS,
-        SOME_BITS_OF_64,
-        OF_EVENS,
-    ),
-];
-
-fn say_path<R: Abort + Print>(rt: &R, path: &str, call: &str) {
-    assert!(rt; println!(rt; "scenario {path}/{call}").is_ok());
-}
-
-// ---- by the kernel alone
-
-fn try_kernels<R: Abort + Print + AllocGlobal>(rt: &R, rows: &[PathRow]) {
-    for (name, path, a, b, want) in rows {
-        say_path(rt, name, "kernel");
-        match (
-            Operand::new(rt, rt.alloc(), *a),
-            Operand::new(rt, rt.alloc(), *b),
-        ) {
-            (Ok(a), Ok(b)) => {
-                by_path(rt, *path, &a.mask, &b.mask, *want);
-                a.is_as_before(rt);
-                b.is_as_before(rt);
+fn try_paths<R: Abort + Print + AllocGlobal>(rt: &R, call: &str) {
+    for line in PATHS.split('\n') {
+        match Row::read(line) {
+            Some(row) => {
+                assert!(rt; println!(rt; "scenario {}/{call}", row.names).is_ok());
+                try_path(rt, call, row);
             }
-            _ => say(rt, "not prepared"),
+            None => panic!(rt; "not a row: {line}"),
         }
     }
 }
 
-// The path is that of both masks.
-fn by_path<R: Abort + Print + AllocGlobal>(rt: &R, path: RankPath, a: &Mask, b: &Mask, want: Want) {
+fn try_few<R: Abort + Print + AllocGlobal>(rt: &R, call: &str) {
+    assert!(rt; println!(rt; "scenario few values by {call}").is_ok());
+    match Row::read(FEW) {
+        Some(row) => try_path(rt, call, row),
+        None => panic!(rt; "not a row"),
+    }
+}
+
+fn try_path<R: Abort + Print + AllocGlobal>(rt: &R, call: &str, row: Row<'_>) {
+    match call {
+        "kernel" => try_kernel(rt, row),
+        _ => try_call(rt, call, row.words, Want::read(row.want)),
+    }
+}
+
+#[test]
+fn intersect_by_rank(rt: HostRuntime) {
+    try_paths(&rt, "intersect_by_rank");
+    try_few(&rt, "intersect_by_rank");
+}
+
+#[test]
+fn counted(rt: HostRuntime) {
+    try_paths(&rt, "intersect_by_rank_counted");
+    try_few(&rt, "intersect_by_rank_counted");
+}
+
+#[test]
+fn kernels(rt: HostRuntime) {
+    try_paths(&rt, "kernel");
+    try_few(&rt, "kernel");
+}
+
+// ---- by the kernel alone
+
+fn try_kernel<R: Abort + Print + AllocGlobal>(rt: &R, row: Row<'_>) {
+    match row.words.split_once(' ') {
+        Some((a, b)) => match (pair(rt.alloc(), a), pair(rt.alloc(), b)) {
+            (Ok(a), Ok(b)) => {
+                by_path(rt, row.names, (&a.0, &b.0), Want::read(row.want));
+                assert!(rt; are_alike(&a.0, &a.1) && are_alike(&b.0, &b.1));
+            }
+            _ => say(rt, "not prepared"),
+        },
+        None => panic!(rt; "not two masks"),
+    }
+}
+
+// A mask by a word, and its copy.
+fn pair(alloc: Global, word: &str) -> Result<(Mask, Mask), Fault> {
+    let mask = Operand::read(alloc, word)?.mask;
+    let copy = Operand::read(alloc, word)?.mask;
+    Ok((mask, copy))
+}
+
+// The kernel of this path, which is that of both masks.
+fn by_path<R: Abort + Print + AllocGlobal>(
+    rt: &R,
+    name: &str,
+    (a, b): (&Mask, &Mask),
+    want: Want<'_>,
+) {
+    let path = path(a, b);
     match (a.values(), b.values()) {
         (Some(a), Some(b)) => {
-            assert!(rt; rank_path(a, b) == path, "another path");
-            by_kernel(rt, path, a.bit_buffer(), b.bit_buffer(), want);
+            let (rows, ranks) = (a.bit_buffer(), b.bit_buffer());
+            match (path, name) {
+                (Ok(RankPath::Indices), "Indices") => by_indices(rt, rows, ranks, want),
+                (Ok(RankPath::MaskDriven), "MaskDriven") => driven(rt, rows, ranks, want),
+                (Ok(RankPath::RankIndices), "RankIndices") => by_rank_indices(
+                    rt, rows, ranks, want,
+                ),
+                (Ok(RankPath::BitBuffers), _) => by_buffers(rt, rows, ranks, want),
+                _ => panic!(rt; "another path than {name}"),
+            }
         }
         _ => panic!(rt; "these values are mixed"),
     }
 }
 
-fn by_kernel<R: Abort + Print + AllocGlobal>(
-    rt: &R,
-    path: RankPath,
-    rows: &BitBuffer,
-    ranks: &BitBuffer,
-    want: Want,
-) {
-    match path {
-        RankPath::Indices => by_indices(rt, rows, ranks, want),
-        RankPath::MaskDriven => driven(rt, rows, ranks, want),
-        RankPath::BitBuffers => by_buffers(rt, rows, ranks, want),
-        RankPath::RankIndices => by_rank_indices(rt, rows, ranks, want),
+fn answer_of<'a>(outcome: Result<(Mask, Steps), MaskError>) -> Result<Answer<'a>, Fault> {
+    match outcome {
+        Ok((mask, steps)) => Ok(Answer::Counted(mask, steps)),
+        Err(error) => Err(Fault::of(error)),
     }
 }
 
-// Whether a kernel was outcome, by what is wanted.
-fn is_narrowed<R: Abort + Print>(
-    rt: &R,
-    answer: Result<(Mask, Steps), MaskError>,
-    want: Want,
-) -> bool {
-    match outcome(rt, answer) {
-        Some((mask, _)) => {
-            want.is_of(rt, &mask);
-            true
-        }
-        None => false,
-    }
+fn same(rt: &impl Abort, got: usize, want: usize)
+    ensures { got ≡ want }
+{
+    assert!(rt; got == want, "{got} for {want}");
 }
 
 // The true indices, as a mask that caches them has them.
@@ -148,15 +148,15 @@ fn by_indices<R: Abort + Print + AllocGlobal>(
     rt: &R,
     rows: &BitBuffer,
     ranks: &BitBuffer,
-    want: Want,
+    want: Want<'_>,
 ) {
     match (indices_of(rt.alloc(), rows), indices_of(rt.alloc(), ranks)) {
         (Ok(indices), Ok(numbers)) => {
             same(rt, ranks.len(), indices.len());
             for _ in 0..2 {
                 say(rt, "calls");
-                let answer = intersect_by_rank_indices(rt.alloc(), rows.len(), &indices, &numbers);
-                if is_narrowed(rt, answer, want) {
+                let made = intersect_by_rank_indices(rt.alloc(), rows.len(), &indices, &numbers);
+                if ended(rt, answer_of(made), want) {
                     return;
                 }
             }
@@ -166,18 +166,18 @@ fn by_indices<R: Abort + Print + AllocGlobal>(
     }
 }
 
-fn driven<R: Abort + Print + AllocGlobal>(rt: &R, rows: &BitBuffer, ranks: &BitBuffer, want: Want) {
+fn driven<R: Abort + Print + AllocGlobal>(
+    rt: &R,
+    rows: &BitBuffer,
+    ranks: &BitBuffer,
+    want: Want<'_>,
+) {
     same(rt, ranks.len(), rows.true_count());
     for _ in 0..2 {
         say(rt, "calls");
-        let numbers = ranks.set_indices();
-        let answer = intersect_mask_driven::<Portable, _>(
-            rt.alloc(),
-            rows,
-            numbers,
-            ranks.true_count(),
-        );
-        if is_narrowed(rt, answer, want) {
+        let (numbers, count) = (ranks.set_indices(), ranks.true_count());
+        let made = intersect_mask_driven::<Portable, _>(rt.alloc(), rows, numbers, count);
+        if ended(rt, answer_of(made), want) {
             return;
         }
     }
@@ -188,18 +188,14 @@ fn by_buffers<R: Abort + Print + AllocGlobal>(
     rt: &R,
     rows: &BitBuffer,
     ranks: &BitBuffer,
-    want: Want,
+    want: Want<'_>,
 ) {
     same(rt, ranks.len(), rows.true_count());
     for _ in 0..2 {
         say(rt, "calls");
-        let answer = intersect_bit_buffers::<PortableLoop>(
-            rt.alloc(),
-            rows,
-            ranks,
-            ranks.true_count(),
-        );
-        if is_narrowed(rt, answer, want) {
+        let count = ranks.true_count();
+        let made = intersect_bit_buffers::<PortableLoop>(rt.alloc(), rows, ranks, count);
+        if ended(rt, answer_of(made), want) {
             return;
         }
     }
@@ -210,19 +206,19 @@ fn by_rank_indices<R: Abort + Print + AllocGlobal>(
     rt: &R,
     rows: &BitBuffer,
     ranks: &BitBuffer,
-    want: Want,
+    want: Want<'_>,
 ) {
     match indices_of(rt.alloc(), ranks) {
         Ok(numbers) => {
             same(rt, ranks.len(), rows.true_count());
             for _ in 0..2 {
                 say(rt, "calls");
-                let answer = intersect_bit_buffer_by_rank_indices::<Portable>(
+                let made = intersect_bit_buffer_by_rank_indices::<Portable>(
                     rt.alloc(),
                     rows,
                     &numbers,
                 );
-                if is_narrowed(rt, answer, want) {
+                if ended(rt, answer_of(made), want) {
                     return;
                 }
             }
@@ -230,37 +226,4 @@ fn by_rank_indices<R: Abort + Print + AllocGlobal>(
         }
         Err(_) => say(rt, "not prepared"),
     }
-}
-
-#[test]
-fn kernels(rt: HostRuntime) {
-    try_kernels(&rt, &PATHS);
-}
-
-// ---- by the path of both masks
-
-fn try_paths<R: Abort + Print + AllocGlobal>(rt: &R, call: Call, name: &str, rows: &[PathRow]) {
-    for (path, _, a, b, want) in rows {
-        say_path(rt, path, name);
-        try_row(rt, call, (*a, *b), want);
-    }
-}
-
-#[test]
-fn intersect_by_rank(rt: HostRuntime) {
-    try_paths(&rt, Call::Narrow, "intersect_by_rank", &PATHS);
-    say_name(&rt, "few rows by intersect_by_rank");
-    try_few(&rt, Call::Narrow);
-}
-
-#[test]
-fn counted(rt: HostRuntime) {
-    try_paths(&rt, Call::NarrowCounted, "counted", &PATHS);
-    say_name(&rt, "few rows, counted");
-    try_few(&rt, Call::NarrowCounted);
-}
-
-fn try_few<R: Abort + Print + AllocGlobal>(rt: &R, call: Call) {
-    let want = TrueAt(200, &[150]);
-    try_row(rt, call, (FIVE_AND_150, SECOND_OF_2), &want);
 }

@@ -1,319 +1,221 @@
-// Calls that take masks and answer a mask.
-use super::Want::{FalseAt, InTurnFrom, TrueAt};
-use super::{
-    EVENS, OF_8, OF_10, OF_128, OF_130, Operand, Sample, THREE_OF_SIX, THREE_RANGES,
-    TOUCHING_RANGES, WORD_EDGES, Want, outcome, same, say, say_name,
-};
-use Call::{And, AndNot, Concat, FromMasks, IntoAnd, IntoNot, IntoOr, Limit, Not, Or, Slice};
-use std::alloc::Global;
+// Each call of masks on each mask.
+use super::plain::{FIRST_ROW, List, Plain};
+use super::{Want, say, try_call};
+use mask_calls::words::number;
+use std::alloc::{AllocError, Global};
 use std::process::Abort;
-use vortex_mask::{Mask, MaskError};
 
-#[derive(Clone, Copy)]
-pub(super) enum Call {
-    And,
-    Or,
-    IntoAnd,
-    IntoOr,
-    AndNot,
-    Not,
-    IntoNot,
-    Clone,
-    Slice(usize, usize),
-    Limit(usize),
-    Concat,
-    FromMasks,
-    Narrow,
-    NarrowCounted,
+// ---- masks
+
+// A mask in each line: its name, its length, the word that it is made by, a mask of its length, a range within it,
+// and indices. These are made of their true indices, which they cache: of 130 values beside the edges of words,
+// and the ranks that narrow it and the even ones.
+pub(super) const OF_INDICES: &str = "\
+edges 130 130:0,63,64,127,128,129 at:130:0,64,100,129 1 129 0,64,130
+ranks_of_edges 6 6:1,2,5 at:6:0,1 1 5 0,2,6
+ranks_of_evens 64 64:3,10,63 at:64:3,4 2 40 0,11,64";
+
+// These are made with ranges, which they cache: of ranges alone, and of a buffer with ranges of which two touch.
+pub(super) const OF_RANGES: &str = "\
+ranges 10 10:0..3,5..7,9..10 10:1,5,7 2 7 0,0,3,9,10
+touching 8 8:1..3,3..4,6..8 at:8:0,1 2 7 2,8";
+
+// This is made of bools, and caches nothing.
+pub(super) const OF_BITS: &str = "evens 128 every:2:128 at:128:0,1,64,127 62 70 0,3,128";
+
+#[derive(Drop, Clone, Copy)]
+struct Line<'a> {
+    name: &'a str,
+    len: &'a str,
+    mask: List<'a>,
+    other: &'a str,
+    range: &'a str,
 }
 
-// Where a call takes its operand by value, it gets a clone of `a`.
-fn answer(
-    rt: &impl Abort,
-    alloc: Global,
-    call: Call,
-    a: &Mask,
-    b: &Mask,
-) -> Result<Mask, MaskError> {
-    match call {
-        Call::And | Call::Or | Call::IntoAnd | Call::IntoOr | Call::AndNot => {
-            pointwise(rt, alloc, call, a, b)
-        }
-        Call::Not => a.not(alloc),
-        Call::IntoNot => a.clone()?.into_not(alloc),
-        Call::Clone => a.clone(),
-        Call::Slice(start, end) => {
-            assert!(rt; start <= end && end <= a.len());
-            a.slice(alloc, start, end)
-        }
-        Call::Limit(k) => a.clone()?.limit(alloc, k),
-        Call::Concat => Mask::concat(alloc, [a, b].into_iter()),
-        Call::FromMasks => Mask::from_masks(alloc, [a.clone()?, b.clone()?].into_iter()),
-        Call::Narrow | Call::NarrowCounted => narrow(rt, alloc, call, a, b),
+impl<'a> Line<'a> {
+    fn read(line: &'a str) -> Option<Line<'a>> {
+        let (name, rest) = line.split_once(' ')?;
+        let (len, rest) = rest.split_once(' ')?;
+        let (word, rest) = rest.split_once(' ')?;
+        let (other, range) = rest.split_once(' ')?;
+        let mask = List {
+            len: number(len).unwrap_or(0),
+            word,
+        };
+        Some(Line {
+            name,
+            len,
+            mask,
+            other,
+            range,
+        })
     }
-}
 
-fn pointwise(
-    rt: &impl Abort,
-    alloc: Global,
-    call: Call,
-    a: &Mask,
-    b: &Mask,
-) -> Result<Mask, MaskError> {
-    same(rt, a.len(), b.len());
-    match call {
-        Call::And => a.bitand(alloc, b),
-        Call::Or => a.bitor(alloc, b),
-        Call::IntoAnd => a.clone()?.into_bitand(alloc, b),
-        Call::IntoOr => a.clone()?.into_bitor(alloc, b),
-        _ => a.clone()?.bitand_not(alloc, b),
-    }
-}
-
-fn narrow(
-    rt: &impl Abort,
-    alloc: Global,
-    call: Call,
-    a: &Mask,
-    b: &Mask,
-) -> Result<Mask, MaskError> {
-    same(rt, b.len(), a.true_count());
-    match call {
-        Call::Narrow => a.intersect_by_rank(alloc, b),
-        _ => Ok(a.intersect_by_rank_counted(alloc, b)?.0),
-    }
-}
-
-pub(super) type Row = (&'static str, Call, Sample, Sample, Want);
-
-pub(super) fn try_rows<R: Abort + Print + AllocGlobal>(rt: &R, rows: &[Row]) {
-    for (name, call, a, b, want) in rows {
-        say_name(rt, name);
-        try_row(rt, *call, (*a, *b), want);
-    }
-}
-
-pub(super) fn try_row<R: Abort + Print + AllocGlobal>(
-    rt: &R,
-    call: Call,
-    (a, b): (Sample, Sample),
-    want: &Want,
-) {
-    match (
-        Operand::new(rt, rt.alloc(), a),
-        Operand::new(rt, rt.alloc(), b),
-    ) {
-        (Ok(a), Ok(b)) => in_turn(rt, call, &a, &b, want),
-        _ => say(rt, "not prepared"),
-    }
-}
-
-fn in_turn<R: Abort + Print + AllocGlobal>(
-    rt: &R,
-    call: Call,
-    a: &Operand,
-    b: &Operand,
-    want: &Want,
-) {
-    for _ in 0..2 {
-        say(rt, "calls");
-        let made = outcome(rt, answer(rt, rt.alloc(), call, &a.mask, &b.mask));
-        a.is_as_before(rt);
-        b.is_as_before(rt);
-        if let Some(mask) = made {
-            want.is_of(rt, &mask);
-            return;
+    // What a word of a call stands for: `A` for the mask, `B` for the other, `S` and `E` for the range, `I` for the
+    // indices, `L` for the length, and a number for itself.
+    fn word(self, word: &'a str) -> &'a str {
+        match word {
+            "A" => self.mask.word,
+            "B" => self.other,
+            "S" => part(self.range, 0),
+            "E" => part(self.range, 1),
+            "L" => self.len,
+            "I" => part(self.range, 2),
+            _ => word,
         }
     }
-    panic!(rt; "refused once more");
+
+    fn write(self, line: &mut String, word: &'a str) -> Result<(), AllocError> {
+        match word.strip_suffix("&") {
+            Some(word) => write!(line, " {}&", self.word(word)),
+            None if word == "ROWS" => write_rows(line, self.mask.len),
+            None => write!(line, " {}", self.word(word)),
+        }
+    }
+
+    // The words of a call, with a space before each.
+    fn words(self, alloc: Global, call: &'a str) -> Result<String, AllocError> {
+        let mut line = String::new(alloc);
+        for word in call.split(' ').skip(1) {
+            self.write(&mut line, word)?;
+        }
+        Ok(line)
+    }
 }
 
-const NO_OTHER: Sample = Sample::AllFalse(0);
+fn part(words: &str, place: usize) -> &str {
+    words.split(' ').nth(place).unwrap_or("")
+}
 
-#[test]
-fn pointwise_calls(rt: HostRuntime) {
-    const BOTH: Want = TrueAt(130, &[0, 64, 129]);
-    const ANY: Want = TrueAt(130, &[0, 63, 64, 100, 127, 128, 129]);
-    const FIRST: Want = TrueAt(130, &[63, 127, 128]);
-    let rows: [Row; 9] = [
-        ("bitand", And, WORD_EDGES, OF_130, BOTH),
-        ("bitor", Or, WORD_EDGES, OF_130, ANY),
-        ("into_bitand", IntoAnd, WORD_EDGES, OF_130, BOTH),
-        ("into_bitor", IntoOr, WORD_EDGES, OF_130, ANY),
-        ("bitand_not", AndNot, WORD_EDGES, OF_130, FIRST),
-        (
-            "bitand of ranges",
-            And,
-            THREE_RANGES,
-            OF_10,
-            TrueAt(10, &[1, 5]),
-        ),
-        (
-            "bitor of ranges",
-            Or,
-            THREE_RANGES,
-            OF_10,
-            FalseAt(10, &[3, 4, 8]),
-        ),
-        (
-            "bitand_not of ranges",
-            AndNot,
-            THREE_RANGES,
-            OF_10,
-            TrueAt(10, &[0, 2, 6, 9]),
-        ),
-        (
-            "bitand_not of all",
-            AndNot,
-            Sample::AllTrue(10),
-            OF_10,
-            FalseAt(10, &[1, 5, 7]),
-        ),
-    ];
-    try_rows(&rt, &rows);
+fn write_rows(line: &mut String, len: usize) -> Result<(), AllocError> {
+    write!(line, " {FIRST_ROW}")?;
+    for i in 1..len {
+        write!(line, ",{}", FIRST_ROW.saturating_add(i))?;
+    }
+    Ok(())
+}
+
+// ---- calls of masks
+
+// Each of the calls, a line each, of each of the masks.
+pub(super) fn try_calls<R: Abort + Print + AllocGlobal>(rt: &R, calls: &str, masks: &str) {
+    for line in masks.split('\n') {
+        match Line::read(line) {
+            Some(line) => try_calls_of(rt, calls, line),
+            None => panic!(rt; "not a mask: {line}"),
+        }
+    }
+}
+
+fn try_calls_of<R: Abort + Print + AllocGlobal>(rt: &R, calls: &str, line: Line<'_>) {
+    for call in calls.split('\n') {
+        assert!(rt; println!(rt; "scenario {}: {call}", line.name).is_ok());
+        match line.words(rt.alloc(), call) {
+            Ok(words) => try_words(rt, call, words.trim_start(), line),
+            Err(_) => say(rt, "not prepared"),
+        }
+    }
+}
+
+fn try_words<R: Abort + Print + AllocGlobal>(rt: &R, call: &str, words: &str, line: Line<'_>) {
+    let name = part(call, 0);
+    let (mask, other) = (
+        line.mask,
+        List {
+            len: line.mask.len,
+            word: line.other,
+        },
+    );
+    let plain = Plain {
+        name,
+        words,
+        mask,
+        other,
+    };
+    try_call(rt, name, words, Want::Plain(plain));
+}
+
+pub(super) fn try_all<R: Abort + Print + AllocGlobal>(rt: &R, calls: &str) {
+    try_calls(rt, calls, OF_INDICES);
+    try_calls(rt, calls, OF_RANGES);
+    try_calls(rt, calls, OF_BITS);
 }
 
 #[test]
-fn pointwise_calls_of_other_operands(rt: HostRuntime) {
-    const BOTH: Want = TrueAt(128, &[0, 64]);
-    const FIRST: Want = TrueAt(8, &[2, 3, 6, 7]);
-    const ANY: Want = FalseAt(8, &[4, 5]);
-    let rows: [Row; 6] = [
-        ("bitand of evens", And, EVENS, OF_128, BOTH),
-        ("into_bitand of evens", IntoAnd, EVENS, OF_128, BOTH),
-        ("bitor of touching ranges", Or, TOUCHING_RANGES, OF_8, ANY),
-        (
-            "into_bitor of touching ranges",
-            IntoOr,
-            TOUCHING_RANGES,
-            OF_8,
-            ANY,
-        ),
-        (
-            "bitand_not of touching ranges",
-            AndNot,
-            TOUCHING_RANGES,
-            OF_8,
-            FIRST,
-        ),
-        (
-            "bitand_not by touching ranges",
-            AndNot,
-            OF_8,
-            TOUCHING_RANGES,
-            TrueAt(8, &[0]),
-        ),
-    ];
-    try_rows(&rt, &rows);
+fn boolean_calls(rt: HostRuntime) {
+    try_all(&rt, "bitand A B\nbitor A B\nto_bitand_not A B\nnot A");
 }
 
 #[test]
-fn negations(rt: HostRuntime) {
-    const OTHERS: Want = TrueAt(8, &[0, 4, 5]);
-    let rows: [Row; 6] = [
-        ("not of evens", Not, EVENS, NO_OTHER, InTurnFrom(128, 1)),
-        (
-            "into_not of ranges",
-            IntoNot,
-            THREE_RANGES,
-            NO_OTHER,
-            TrueAt(10, &[3, 4, 7, 8]),
-        ),
-        ("not", Not, TOUCHING_RANGES, NO_OTHER, OTHERS),
-        ("into_not", IntoNot, TOUCHING_RANGES, NO_OTHER, OTHERS),
-        (
-            "not of three of six",
-            Not,
-            THREE_OF_SIX,
-            NO_OTHER,
-            TrueAt(6, &[0, 3, 4]),
-        ),
-        (
-            "not at an offset",
-            Not,
-            Sample::AtOffset,
-            NO_OTHER,
-            TrueAt(5, &[1, 4]),
-        ),
-    ];
-    try_rows(&rt, &rows);
+fn by_value(rt: HostRuntime) {
+    try_all(
+        &rt,
+        "into_bitand A B\ninto_bitor A B\nbitand_not A B\ninto_not A",
+    );
+}
+
+#[test]
+fn by_value_with_a_clone_held(rt: HostRuntime) {
+    try_all(
+        &rt,
+        "into_bitand A& B\ninto_bitor A& B\nbitand_not A& B\ninto_not A&",
+    );
 }
 
 #[test]
 fn parts(rt: HostRuntime) {
-    let rows: [Row; 7] = [
-        (
-            "slice of word edges",
-            Slice(1, 129),
-            WORD_EDGES,
-            NO_OTHER,
-            TrueAt(128, &[62, 63, 126, 127]),
-        ),
-        (
-            "slice of evens",
-            Slice(62, 70),
-            EVENS,
-            NO_OTHER,
-            TrueAt(8, &[0, 2, 4, 6]),
-        ),
-        (
-            "slice of ranges",
-            Slice(2, 7),
-            THREE_RANGES,
-            NO_OTHER,
-            TrueAt(5, &[0, 3, 4]),
-        ),
-        (
-            "slice of touching ranges",
-            Slice(2, 7),
-            TOUCHING_RANGES,
-            NO_OTHER,
-            TrueAt(5, &[0, 1, 4]),
-        ),
-        (
-            "limit of word edges",
-            Limit(2),
-            WORD_EDGES,
-            NO_OTHER,
-            TrueAt(130, &[0, 63]),
-        ),
-        (
-            "limit of evens",
-            Limit(3),
-            EVENS,
-            NO_OTHER,
-            TrueAt(128, &[0, 2, 4]),
-        ),
-        (
-            "limit of all",
-            Limit(2),
-            Sample::AllTrue(5),
-            NO_OTHER,
-            TrueAt(5, &[0, 1]),
-        ),
-    ];
-    try_rows(&rt, &rows);
+    try_all(
+        &rt,
+        "slice A S E\nlimit A 2\nlimit A& 2\nto_limited A 2\nconcat A B\nfrom_masks A B",
+    );
 }
 
 #[test]
-fn concat(rt: HostRuntime) {
-    const BOTH_LISTS: Want = TrueAt(18, &[0, 1, 2, 5, 6, 9, 11, 12, 13, 16, 17]);
-    let rows: [Row; 3] = [
-        ("concat", Concat, THREE_RANGES, TOUCHING_RANGES, BOTH_LISTS),
-        (
-            "from_masks",
-            FromMasks,
-            THREE_RANGES,
-            TOUCHING_RANGES,
-            BOTH_LISTS,
-        ),
-        (
-            "concat of both values",
-            Concat,
-            Sample::AllTrue(2),
-            Sample::AllFalse(3),
-            TrueAt(5, &[0, 1]),
-        ),
-    ];
-    try_rows(&rt, &rows);
+fn lists(rt: HostRuntime) {
+    try_all(&rt, "choose A ROWS\nvalid_counts_for_indices A I");
+}
+
+// Masks whose bytes nobody else holds. Scenarios of one path are refused equally often, which the script compares:
+// a call that copies the bytes would ask more often, and one that grows a copy of long ones more often yet.
+const IN_PLACE: &str = "\
+in_place/short 128 every:2:128 at:128:0,1,64,127 62 70 0,4
+in_place/long 5000 every:2:5000 at:5000:0,1,64,4999 62 70 0,4";
+
+#[test]
+fn in_place(rt: HostRuntime) {
+    try_calls(
+        &rt,
+        "into_bitand A B\ninto_bitor A B\nbitand_not A B\ninto_not A",
+        IN_PLACE,
+    );
+}
+
+// ---- lists that masks lend, and cache from then on
+
+pub(super) const SLICES: &str =
+    "slices A&\nthreshold_iter A& 1 1000\nvalues.slices A\nvalues.threshold_iter A 1 1000";
+
+pub(super) const INDICES: &str =
+    "indices A&\nthreshold_iter A& 1000 1\nvalues.indices A\nvalues.threshold_iter A 1000 1";
+
+// 10,000 values, each a range.
+const MANY_RANGES: &str = "thirds 30000 every:3:30000 all:30000 2 7 0,4";
+
+#[test]
+fn lent_slices(rt: HostRuntime) {
+    try_calls(&rt, SLICES, OF_INDICES);
+    try_calls(&rt, SLICES, OF_BITS);
+    try_calls(&rt, "slices A", MANY_RANGES);
+}
+
+#[test]
+fn lent_indices(rt: HostRuntime) {
+    try_calls(&rt, INDICES, OF_RANGES);
+    try_calls(&rt, INDICES, OF_BITS);
+}
+
+#[test]
+fn clones_of_values(rt: HostRuntime) {
+    try_calls(&rt, "values.clone A", OF_INDICES);
+    try_calls(&rt, "values.clone A", OF_RANGES);
 }

@@ -1,0 +1,75 @@
+// Calls of packed bits: of 130 values at offset 3 that are lent, and of 130 whose bytes nobody else holds.
+use super::rows::try_rows;
+use super::{Want, ended, say, say_name};
+use mask_bits::BitBuffer;
+use mask_calls::{Answer, Fault};
+use std::alloc::{AllocError, Global};
+use std::process::Abort;
+
+const LENT: &str = "\
+bits.new_set 130 -> list 130 all:130
+bits.new_unset 130 -> list 130 none:130
+bits.from_indices 130 129,0,64,0 -> list 130 at:130:0,64,129
+bits.from_bools at:130:1,65,129 -> list 130 at:130:1,65,129
+bits.bitand part:3:at:133:2,3,66,67,130,132 part:3:at:133:0,3,67,103,132 -> list 130 at:130:0,64,129
+bits.bitor part:3:at:133:2,3,66,67,130,132 part:3:at:133:0,3,67,103,132 -> list 130 at:130:0,63,64,100,127,129
+bits.bitand_not part:3:at:133:2,3,66,67,130,132 part:3:at:133:0,3,67,103,132 -> list 130 at:130:63,127
+bits.not part:3:at:133:2,3,66,67,130,132 -> list 130 but:130:0,63,64,127,129
+bits.indices part:3:at:133:2,3,66,67,130,132 -> 0,63,64,127,129";
+
+#[test]
+fn lent(rt: HostRuntime) {
+    try_rows(&rt, LENT);
+}
+
+const BY_VALUE: &str = "\
+bits.into_bitand at:130:0,63,64,127,129 at:130:0,64,100,129 -> list 130 at:130:0,64,129
+bits.into_bitor at:130:0,63,64,127,129 at:130:0,64,100,129 -> list 130 at:130:0,63,64,100,127,129
+bits.into_bitand_not at:130:0,63,64,127,129 at:130:0,64,100,129 -> list 130 at:130:63,127
+bits.into_not at:130:0,63,64,127,129 -> list 130 but:130:0,63,64,127,129";
+
+const BY_VALUE_AT_THREE: &str = "\
+bits.into_bitand part:3:at:133:2,3,66,67,130,132 part:3:at:133:0,3,67,103,132 -> list 130 at:130:0,64,129
+bits.into_bitor part:3:at:133:2,3,66,67,130,132 part:3:at:133:0,3,67,103,132 -> list 130 at:130:0,63,64,100,127,129
+bits.into_bitand_not part:3:at:133:2,3,66,67,130,132 part:3:at:133:0,3,67,103,132 -> list 130 at:130:63,127
+bits.into_not part:3:at:133:2,3,66,67,130,132 -> list 130 but:130:0,63,64,127,129";
+
+#[test]
+fn by_value(rt: HostRuntime) {
+    try_rows(&rt, BY_VALUE);
+    try_rows(&rt, BY_VALUE_AT_THREE);
+}
+
+// ---- a buffer of bytes by value
+
+#[test]
+fn of_bytes(rt: HostRuntime) {
+    say_name(&rt, "BitBuffer::from_vec");
+    match (bytes(rt.alloc()), bytes(rt.alloc())) {
+        (Ok(first), Ok(second)) => of_bytes_in_turn(&rt, first, second),
+        _ => say(&rt, "not prepared"),
+    }
+}
+
+fn bytes(alloc: Global) -> Result<Vec<u8>, AllocError> {
+    [0x01, 0x80].to_vec(alloc)
+}
+
+fn from_vec<'a>(bytes: Vec<u8>) -> Result<Answer<'a>, Fault> {
+    if bytes.len() != 2 {
+        return Err(Fault::Unmet("two bytes"));
+    }
+    match BitBuffer::from_vec(bytes, 16) {
+        Ok(buffer) => Ok(Answer::Buffer(buffer)),
+        Err(_) => Err(Fault::Memory),
+    }
+}
+
+fn of_bytes_in_turn<R: Abort + Print + AllocGlobal>(rt: &R, first: Vec<u8>, second: Vec<u8>) {
+    let want = Want::list(16, "at:16:0,15");
+    say(rt, "calls");
+    if !ended(rt, from_vec(first), want) {
+        say(rt, "calls");
+        assert!(rt; ended(rt, from_vec(second), want), "refused once more");
+    }
+}

@@ -1,0 +1,276 @@
+// What calls answer, by plain lists.
+use mask_bits::BitBuffer;
+use mask_calls::words::{number, range};
+use mask_calls::{Answer, Fault};
+use std::alloc::Global;
+use vortex_mask::{AllOr, Mask, MaskIter};
+
+// A list by the word that its mask is made by, and its length; of `but:5:1,3` it is true but at 1 and 3.
+#[derive(Drop, Clone, Copy)]
+pub(super) struct List<'a> {
+    pub(super) len: usize,
+    pub(super) word: &'a str,
+}
+
+impl List<'_> {
+    // A list as in `5 at:5:1,3`.
+    pub(super) fn read(list: &str) -> List<'_> {
+        match list.split_once(' ') {
+            Some((len, word)) => List {
+                len: number(len).unwrap_or(0),
+                word,
+            },
+            None => List { len: 0, word: list },
+        }
+    }
+
+    fn values(self, alloc: Global) -> Result<Vec<bool>, Fault> {
+        match self.word.rsplit_once(':') {
+            Some(("all", _)) => same(alloc, self.len, true),
+            Some((form, list)) => match form.strip_prefix("every:") {
+                Some(period) => repeating(alloc, self.len, number(period)?),
+                None => listed(alloc, self.len, list, form.starts_with("but")),
+            },
+            None => Err(Fault::Malformed("a list")),
+        }
+    }
+}
+
+fn same(alloc: Global, len: usize, value: bool) -> Result<Vec<bool>, Fault> {
+    match vec![in alloc; value; len] {
+        Ok(values) => Ok(values),
+        Err(_) => Err(Fault::Memory),
+    }
+}
+
+fn repeating(alloc: Global, len: usize, period: usize) -> Result<Vec<bool>, Fault> {
+    let mut values = same(alloc, len, false)?;
+    for i in 0..len {
+        set(&mut values, i, i.checked_rem(period) == Some(0));
+    }
+    Ok(values)
+}
+
+// True at these indices and in these ranges, or false there and true elsewhere; of `none:5` nowhere.
+fn listed(alloc: Global, len: usize, list: &str, is_negated: bool) -> Result<Vec<bool>, Fault> {
+    let mut values = same(alloc, len, is_negated)?;
+    for part in list.split(',') {
+        match range(part) {
+            Ok((start, end)) => set_range(&mut values, start, end, !is_negated),
+            Err(_) => set(&mut values, number(part)?, !is_negated),
+        }
+    }
+    Ok(values)
+}
+
+fn set_range(values: &mut [bool], start: usize, end: usize, value: bool) {
+    for i in start..end {
+        set(values, i, value);
+    }
+}
+
+fn set(values: &mut [bool], index: usize, value: bool) {
+    if let Some(it) = values.get_mut(index) {
+        *it = value;
+    }
+}
+
+fn is_true(values: &[bool], index: usize) -> bool {
+    values.get(index) == Some(&true)
+}
+
+fn count_below(values: &[bool], end: usize) -> usize {
+    values.iter().take(end).filter(|it| **it).count()
+}
+
+// ---- calls
+
+// A call of a mask and what stands beside it.
+#[derive(Drop, Clone, Copy)]
+pub(super) struct Plain<'a> {
+    pub(super) name: &'a str,
+    // the words behind the name
+    pub(super) words: &'a str,
+    pub(super) mask: List<'a>,
+    pub(super) other: List<'a>,
+}
+
+impl<'a> Plain<'a> {
+    // A call that answers this list.
+    pub(super) fn of_list(list: List<'a>) -> Plain<'a> {
+        Plain {
+            name: "list",
+            words: "",
+            mask: list,
+            other: list,
+        }
+    }
+
+    // The word at a place, as a number.
+    fn number(self, place: usize) -> usize {
+        match self.words.split(' ').nth(place) {
+            Some(word) => number(word).unwrap_or(0),
+            None => 0,
+        }
+    }
+
+    // The list that a call answers, or of which it lends, chooses or counts.
+    fn list(self, alloc: Global) -> Result<Vec<bool>, Fault> {
+        let a = self.mask.values(alloc)?;
+        match self.name {
+            "slice" => self.slice(alloc, &a),
+            "limit" | "to_limited" => self.limited(a),
+            "not" | "into_not" => negated(a),
+            "bitand" | "into_bitand" | "bitor" | "into_bitor" | "bitand_not" | "to_bitand_not" => {
+                self.pointwise(alloc, a)
+            }
+            "concat" | "from_masks" => self.concat(alloc, &a),
+            _ => Ok(a),
+        }
+    }
+
+    fn pointwise(self, alloc: Global, a: Vec<bool>) -> Result<Vec<bool>, Fault> {
+        let mut a = a;
+        let b = self.other.values(alloc)?;
+        for (a, b) in a.iter_mut().zip(b.iter()) {
+            *a = match self.name {
+                "bitand" | "into_bitand" => *a && *b,
+                "bitor" | "into_bitor" => *a || *b,
+                _ => *a && !*b,
+            };
+        }
+        Ok(a)
+    }
+
+    fn slice(self, alloc: Global, a: &[bool]) -> Result<Vec<bool>, Fault> {
+        let (start, end) = (self.number(1), self.number(2));
+        let mut part = same(alloc, end.saturating_sub(start), false)?;
+        for (value, it) in part.iter_mut().zip(a.iter().skip(start)) {
+            *value = *it;
+        }
+        Ok(part)
+    }
+
+    fn limited(self, a: Vec<bool>) -> Result<Vec<bool>, Fault> {
+        let (mut a, mut left) = (a, self.number(1));
+        for value in a.iter_mut() {
+            *value = *value && left > 0;
+            left = left.saturating_sub(usize::from(*value));
+        }
+        Ok(a)
+    }
+
+    fn concat(self, alloc: Global, a: &[bool]) -> Result<Vec<bool>, Fault> {
+        let b = self.other.values(alloc)?;
+        let mut whole = same(alloc, a.len().saturating_add(b.len()), false)?;
+        for (value, it) in whole.iter_mut().zip(a.iter().chain(b.iter())) {
+            *value = *it;
+        }
+        Ok(whole)
+    }
+
+    // Whether an answer says this call's list: of `choose` the rows at its true values, of
+    // `valid_counts_for_indices` the counts below the indices. Memory may be refused.
+    pub(super) fn is_said_by(self, alloc: Global, answer: &Answer<'_>) -> Result<bool, Fault> {
+        let list = self.list(alloc)?;
+        Ok(match answer {
+            Answer::Numbers(counts) if self.name == "valid_counts_for_indices" => {
+                self.are_counts(&list, counts)
+            }
+            Answer::Numbers(rows) => are_indices(&list, rows, FIRST_ROW),
+            _ => is_list(&list, answer),
+        })
+    }
+
+    fn are_counts(self, list: &[bool], counts: &[usize]) -> bool {
+        match self.words.rsplit_once(' ') {
+            Some((_, indices)) => {
+                counts.len() == indices.split(',').count()
+                    && indices.split(',').zip(counts).all(|(index, got)| {
+                        number(index).is_ok_and(|index| *got == count_below(list, index))
+                    })
+            }
+            None => false,
+        }
+    }
+}
+
+fn negated(a: Vec<bool>) -> Result<Vec<bool>, Fault> {
+    let mut a = a;
+    for value in a.iter_mut() {
+        *value = !*value;
+    }
+    Ok(a)
+}
+
+// The first of the rows that `choose` is given, each the one after the last.
+pub(super) const FIRST_ROW: usize = 100;
+
+// ---- answers
+
+fn is_list(list: &[bool], answer: &Answer<'_>) -> bool {
+    match answer {
+        Answer::Mask(mask) | Answer::Counted(mask, _) => is_mask(list, mask),
+        Answer::Buffer(buffer) | Answer::BufferPart(buffer) => is_packed(list, buffer),
+        Answer::Mixed(values) => is_packed(list, values.bit_buffer()),
+        Answer::Indices(AllOr::Some(indices)) => are_indices(list, *indices, 0),
+        Answer::Slices(AllOr::Some(ranges)) => are_runs(list, *ranges),
+        Answer::Iter(AllOr::Some(lent)) => is_lent(list, lent),
+        Answer::List(indices) => are_indices(list, *indices, 0),
+        Answer::Ranges(ranges) => are_runs(list, *ranges),
+        Answer::Part(lent) => is_lent(list, lent),
+        _ => false,
+    }
+}
+
+fn is_mask(list: &[bool], mask: &Mask) -> bool {
+    let count = count_below(list, list.len());
+    let is_variant = match mask {
+        Mask::AllTrue(_) => count == list.len(),
+        Mask::AllFalse(_) => count == 0,
+        Mask::Values(_) => 0 < count && count < list.len(),
+    };
+    is_variant && mask.len() == list.len() && mask.iter().zip(list).all(|(got, want)| got == *want)
+}
+
+fn is_packed(list: &[bool], buffer: &BitBuffer) -> bool {
+    buffer.len() == list.len() && buffer.iter().zip(list).all(|(got, want)| got == *want)
+}
+
+fn is_lent(list: &[bool], lent: &MaskIter<'_>) -> bool {
+    match lent {
+        MaskIter::Indices(indices) => are_indices(list, *indices, 0),
+        MaskIter::Slices(ranges) => are_runs(list, *ranges),
+    }
+}
+
+// The true indices, or rows of which the first is this.
+fn are_indices(list: &[bool], indices: &[usize], first: usize) -> bool {
+    indices.len() == count_below(list, list.len())
+        && (0..list.len())
+            .filter(|i| is_true(list, *i))
+            .zip(indices)
+            .all(|(i, got)| *got == i.saturating_add(first))
+}
+
+// As many runs as begin, in order, of true values each with none beside it.
+fn are_runs(list: &[bool], ranges: &[(usize, usize)]) -> bool {
+    ranges.len() == (0..list.len()).filter(|i| begins(list, *i)).count()
+        && ranges.iter().all(|range| is_run(list, range.0, range.1))
+        && ranges
+            .iter()
+            .zip(ranges.iter().skip(1))
+            .all(|(a, b)| a.1 < b.0)
+}
+
+fn is_run(list: &[bool], start: usize, end: usize) -> bool {
+    begins(list, start) && (start..end).all(|i| is_true(list, i)) && !is_true(list, end)
+}
+
+fn begins(list: &[bool], index: usize) -> bool {
+    is_true(list, index)
+        && match index.checked_sub(1) {
+            Some(before) => !is_true(list, before),
+            None => true,
+        }
+}
