@@ -2,10 +2,20 @@
 #![tactic(auto)]
 
 #[cfg(test)]
-mod helpers;
+mod bits;
+#[cfg(test)]
+mod judge;
+#[cfg(test)]
+mod kernels;
+#[cfg(test)]
+mod masks;
 #[cfg(test)]
 mod plain;
+#[cfg(test)]
+mod questions;
 #[cfg(test)]
 mod sizes;
 #[cfg(test)]
 mod sweeps;
+#[cfg(test)]
+mod texts;

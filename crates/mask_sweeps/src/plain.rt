@@ -1,9 +1,7 @@
 // A plain list of truth values, what plain loops find in it, and what they make of it.
-use crate::helpers::{Generator, found, same};
-use mask_bits::BitBuffer;
-use std::alloc::Global;
+use crate::judge::{Generator, Judge};
+use mask_calls::words::repeating;
 use std::process::Abort;
-use vortex_mask::{AllOr, Mask};
 
 #[derive(Drop)]
 pub(crate) struct Plain {
@@ -11,79 +9,122 @@ pub(crate) struct Plain {
     pub(crate) indices: Vec<usize>,
     pub(crate) runs: Vec<(usize, usize)>,
     pub(crate) words: Vec<u64>,
+    // whether a mask of these values is held as `AllTrue`: of no values that depends on the call that made it
+    pub(crate) is_all_true: bool,
 }
 
 impl Plain {
-    pub(crate) fn of(rt: &impl Abort, alloc: Global, values: Vec<bool>) -> Plain {
-        let indices = indices_of(rt, alloc, &values, true);
+    pub(crate) fn of<A: Abort>(judge: &Judge<'_, A>, values: Vec<bool>) -> Plain {
+        let indices = indices_of(judge, &values, true);
         Plain {
-            runs: runs_of(rt, alloc, &indices),
-            words: words_of(rt, alloc, &values),
+            runs: runs_of(judge, &indices),
+            words: words_of(judge, &values),
+            is_all_true: !values.is_empty() && indices.len() == values.len(),
             indices,
             values,
         }
     }
 
+    // The same list, which is held as `AllTrue` if it is empty and that is said.
+    pub(crate) fn if_empty(self, is_all_true: bool) -> Plain {
+        let mut plain = self;
+        if plain.values.is_empty() {
+            plain.is_all_true = is_all_true;
+        }
+        plain
+    }
+
+    pub(crate) fn len(&self) -> usize {
+        self.values.len()
+    }
+
+    pub(crate) fn count(&self) -> usize {
+        self.indices.len()
+    }
+
+    pub(crate) fn is_mixed(&self) -> bool {
+        0 < self.count() && self.count() < self.len()
+    }
+
     // Of each `period` values the first `trues` are true.
-    pub(crate) fn repeating(
-        rt: &impl Abort,
-        alloc: Global,
+    pub(crate) fn repeating<A: Abort>(
+        judge: &Judge<'_, A>,
         len: usize,
         repeat: (usize, usize),
     ) -> Plain {
-        Plain::of(rt, alloc, repeating(rt, alloc, len, repeat))
+        Plain::of(
+            judge,
+            judge.found("a list", repeating(judge.alloc, len, repeat)),
+        )
+    }
+
+    pub(crate) fn copy<A: Abort>(&self, judge: &Judge<'_, A>) -> Plain {
+        Plain::of(judge, judge.found("a copy", self.values.clone())).if_empty(self.is_all_true)
     }
 
     // The values from the last to the first.
-    pub(crate) fn reversed(&self, rt: &impl Abort, alloc: Global) -> Plain {
-        let values = found(rt, self.values.iter().rev().copied().collect(alloc));
-        Plain::of(rt, alloc, values)
+    pub(crate) fn reversed<A: Abort>(&self, judge: &Judge<'_, A>) -> Plain {
+        let values = self.values.iter().rev().copied().collect(judge.alloc);
+        Plain::of(judge, judge.found("a list", values)).if_empty(self.is_all_true)
+    }
+
+    // The values, of which one is negated.
+    pub(crate) fn negated_at<A: Abort>(&self, judge: &Judge<'_, A>, at: usize) -> Plain {
+        let mut values = judge.found("a copy", self.values.clone());
+        if let Some(value) = values.get_mut(at) {
+            *value = !*value;
+        }
+        Plain::of(judge, values).if_empty(self.is_all_true)
     }
 
     // The values from `start` on that stand before `end`.
-    pub(crate) fn part(&self, rt: &impl Abort, alloc: Global, start: usize, end: usize) -> Plain {
-        let values = self.values.get(start..end).unwrap_or(&[]).to_vec(alloc);
-        Plain::of(rt, alloc, found(rt, values))
+    pub(crate) fn part<A: Abort>(&self, judge: &Judge<'_, A>, start: usize, end: usize) -> Plain {
+        let values = self
+            .values
+            .get(start..end)
+            .unwrap_or(&[])
+            .to_vec(judge.alloc);
+        Plain::of(judge, judge.found("a part", values)).if_empty(self.is_all_true)
     }
 
     // The values, of which true value number n stays where `ranks[n]` is true.
-    pub(crate) fn rank_intersection(
-        &self,
-        rt: &impl Abort,
-        alloc: Global,
-        ranks: &[bool],
-    ) -> Plain {
-        let mut values = found(rt, self.values.clone());
-        for (index, stays) in self.indices.iter().zip(ranks) {
+    pub(crate) fn rank_intersection<A: Abort>(&self, judge: &Judge<'_, A>, ranks: &Plain) -> Plain {
+        let mut values = judge.found("a copy", self.values.clone());
+        for (index, stays) in self.indices.iter().zip(&ranks.values) {
             if let Some(value) = values.get_mut(*index) {
                 *value = *stays;
             }
         }
-        Plain::of(rt, alloc, values)
+        Plain::of(judge, values).if_empty(self.is_all_true && ranks.is_all_true)
     }
 
     // The values, of which the first k true ones stay.
-    pub(crate) fn limited(&self, rt: &impl Abort, alloc: Global, k: usize) -> Plain {
-        let ranks = repeating(rt, alloc, self.indices.len(), (usize::MAX, k));
-        self.rank_intersection(rt, alloc, &ranks)
+    pub(crate) fn limited<A: Abort>(&self, judge: &Judge<'_, A>, k: usize) -> Plain {
+        let ranks = Plain::repeating(judge, self.count(), (usize::MAX, k)).if_empty(true);
+        self.rank_intersection(judge, &ranks)
     }
-}
 
-pub(crate) fn repeating(
-    rt: &impl Abort,
-    alloc: Global,
-    len: usize,
-    (period, trues): (usize, usize),
-) -> Vec<bool> {
-    let mut values: Vec<bool> = Vec::new(alloc);
-    for i in 0..len {
-        let is_true = match i.checked_rem(period) {
-            Some(rest) => rest < trues,
-            None => false,
-        };
-        found(rt, values.push(is_true));
+    // How many true values stand before each value, and in all.
+    pub(crate) fn counts<A: Abort>(&self, judge: &Judge<'_, A>) -> Vec<usize> {
+        let mut counts: Vec<usize> = Vec::new(judge.alloc);
+        let mut count = 0usize;
+        for value in &self.values {
+            judge.found("a count", counts.push(count));
+            count = count.saturating_add(*value as usize);
+        }
+        judge.found("a count", counts.push(count));
+        counts
     }
-    values
+
+    // What an operation makes of two lists of one length. Of empty ones it is held as the operation makes of how
+    // both are held.
+    pub(crate) fn combined<A: Abort>(&self, judge: &Judge<'_, A>, op: Op, other: &Plain) -> Plain {
+        let mut values: Vec<bool> = Vec::new(judge.alloc);
+        for (x, y) in self.values.iter().zip(&other.values) {
+            judge.found("a value", values.push(op.of_values(*x, *y)));
+        }
+        Plain::of(judge, values).if_empty(op.of_values(self.is_all_true, other.is_all_true))
+    }
 }
 
 // As many values as words are drawn. A value is true where what is left of its word by `by` is from `first` on
@@ -114,20 +155,6 @@ pub(crate) const TWO_IN_THREE: Draw = Draw {
 };
 
 impl Draw {
-    pub(crate) fn values(
-        self,
-        rt: &impl Abort,
-        alloc: Global,
-        words: &mut Generator,
-        len: usize,
-    ) -> Vec<bool> {
-        let mut values: Vec<bool> = Vec::new(alloc);
-        for _ in 0..len {
-            found(rt, values.push(self.is_true(words.next())));
-        }
-        values
-    }
-
     fn is_true(self, word: u64) -> bool {
         match word.checked_rem(self.by) {
             Some(rest) => self.first <= rest && rest < self.end,
@@ -135,18 +162,21 @@ impl Draw {
         }
     }
 
-    pub(crate) fn plain(
+    pub(crate) fn plain<A: Abort>(
         self,
-        rt: &impl Abort,
-        alloc: Global,
+        judge: &Judge<'_, A>,
         words: &mut Generator,
         len: usize,
     ) -> Plain {
-        Plain::of(rt, alloc, self.values(rt, alloc, words, len))
+        let mut values: Vec<bool> = Vec::new(judge.alloc);
+        for _ in 0..len {
+            judge.found("a value", values.push(self.is_true(words.next())));
+        }
+        Plain::of(judge, values)
     }
 }
 
-#[derive(Clone, Copy)]
+#[derive(Clone, Copy, PartialEq)]
 pub(crate) enum Op {
     And,
     Or,
@@ -166,91 +196,55 @@ impl Op {
         }
     }
 
-    // What it makes of two lists of one length.
-    pub(crate) fn of_lists(
-        self,
-        rt: &impl Abort,
-        alloc: Global,
-        a: &[bool],
-        b: &[bool],
-    ) -> Vec<bool> {
-        let mut values: Vec<bool> = Vec::new(alloc);
-        for (x, y) in a.iter().zip(b) {
-            found(rt, values.push(self.of_values(*x, *y)));
+    // The call of buffers that are lent, and of one that is taken by value.
+    pub(crate) fn name(self) -> &'static str {
+        match self {
+            Op::And => "BitBuffer::bitand",
+            Op::Or => "BitBuffer::bitor",
+            Op::AndNot => "BitBuffer::bitand_not",
+            Op::Not => "BitBuffer::not",
         }
-        values
     }
 
-    pub(crate) fn of_buffers(
-        self,
-        rt: &impl Abort,
-        alloc: Global,
-        a: &BitBuffer,
-        b: &BitBuffer,
-    ) -> BitBuffer {
-        assert!(rt; a.len() == b.len());
-        found(
-            rt,
-            match self {
-                Op::And => a.bitand(alloc, b),
-                Op::Or => a.bitor(alloc, b),
-                Op::AndNot => a.bitand_not(alloc, b),
-                Op::Not => a.not(alloc),
-            },
-        )
-    }
-
-    // The same of a buffer that is taken by value.
-    pub(crate) fn of_own_buffer(
-        self,
-        rt: &impl Abort,
-        alloc: Global,
-        a: BitBuffer,
-        b: &BitBuffer,
-    ) -> BitBuffer {
-        assert!(rt; a.len() == b.len());
-        found(
-            rt,
-            match self {
-                Op::And => a.into_bitand(alloc, b),
-                Op::Or => a.into_bitor(alloc, b),
-                Op::AndNot => a.into_bitand_not(alloc, b),
-                Op::Not => a.into_not(alloc),
-            },
-        )
+    pub(crate) fn name_by_value(self) -> &'static str {
+        match self {
+            Op::And => "BitBuffer::into_bitand",
+            Op::Or => "BitBuffer::into_bitor",
+            Op::AndNot => "BitBuffer::into_bitand_not",
+            Op::Not => "BitBuffer::into_not",
+        }
     }
 }
 
 // The indices that hold a value.
-pub(crate) fn indices_of(
-    rt: &impl Abort,
-    alloc: Global,
+pub(crate) fn indices_of<A: Abort>(
+    judge: &Judge<'_, A>,
     values: &[bool],
     held: bool,
 ) -> Vec<usize> {
-    let mut indices: Vec<usize> = Vec::new(alloc);
+    let mut indices: Vec<usize> = Vec::new(judge.alloc);
     for (i, value) in values.iter().enumerate() {
         if *value == held {
-            found(rt, indices.push(i));
+            judge.found("an index", indices.push(i));
         }
     }
     indices
 }
 
 // Neighboring indices in one range each.
-fn runs_of(rt: &impl Abort, alloc: Global, indices: &[usize]) -> Vec<(usize, usize)> {
-    let mut runs: Vec<(usize, usize)> = Vec::new(alloc);
+fn runs_of<A: Abort>(judge: &Judge<'_, A>, indices: &[usize]) -> Vec<(usize, usize)> {
+    let mut runs: Vec<(usize, usize)> = Vec::new(judge.alloc);
     for index in indices {
-        push_index(rt, &mut runs, *index);
+        push_index(judge, &mut runs, *index);
     }
     runs
 }
 
-fn push_index(rt: &impl Abort, runs: &mut Vec<(usize, usize)>, index: usize) {
+fn push_index<A: Abort>(judge: &Judge<'_, A>, runs: &mut Vec<(usize, usize)>, index: usize) {
     let end = index.saturating_add(1);
     match runs.last_mut() {
         Some(run) if run.1 == index => run.1 = end,
-        _ => found(rt, runs.push((index, end))),
+        _ => judge.found("a range", runs.push((index, end))),
     }
 }
 
@@ -265,34 +259,10 @@ fn word_of(values: &[bool]) -> u64 {
     word
 }
 
-fn words_of(rt: &impl Abort, alloc: Global, values: &[bool]) -> Vec<u64> {
-    let mut words: Vec<u64> = Vec::new(alloc);
+fn words_of<A: Abort>(judge: &Judge<'_, A>, values: &[bool]) -> Vec<u64> {
+    let mut words: Vec<u64> = Vec::new(judge.alloc);
     for part in values.chunks(64) {
-        found(rt, words.push(word_of(part)));
+        judge.found("a word", words.push(word_of(part)));
     }
     words
-}
-
-// The buffer's started words are those of a plain list.
-pub(crate) fn has_words(rt: &impl Abort, buffer: &BitBuffer, want: &Plain) {
-    same(rt, buffer.len(), want.values.len());
-    let mut words = buffer.chunks().iter_padded();
-    for word in &want.words {
-        assert!(rt; words.next() == Some(*word));
-    }
-    assert!(rt; words.next().is_none());
-}
-
-// The mask has a plain list, and is held as that asks.
-pub(crate) fn is_list(rt: &impl Abort, mask: &Mask, want: &Plain) {
-    let (len, count) = (want.values.len(), want.indices.len());
-    same(rt, mask.len(), len);
-    match mask.bit_buffer() {
-        AllOr::All => same(rt, count, len),
-        AllOr::None => same(rt, count, 0),
-        AllOr::Some(buffer) => {
-            assert!(rt; 0 < count && count < len);
-            has_words(rt, buffer, want);
-        }
-    }
 }

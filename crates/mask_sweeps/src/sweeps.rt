@@ -1,7 +1,7 @@
 // Calls beside plain lists of bool, at many lengths and at many bit offsets.
-mod bitops;
-mod buffer;
-mod builder;
+pub(crate) mod bitops;
+pub(crate) mod buffers;
+pub(crate) mod builders;
 mod deposits;
 pub(crate) mod kernels;
-pub(crate) mod mask;
+mod masks;

@@ -1,58 +1,85 @@
 // Rank intersection by each path, and each kernel.
-use super::{LENGTHS, LONGEST};
-use crate::helpers::{Outside, buffer_at};
+use super::{LONGEST, OFFSETS, SIZES};
+use crate::judge::Judge;
+use crate::masks::{EACH_INDICES, bits_at, gives_mask, is_mask, mask_of};
 use crate::plain::Plain;
-use crate::sweeps::kernels::densities::with_indices;
 use crate::sweeps::kernels::{Work, by_each_kernel};
-use crate::sweeps::mask::combine::narrows_to;
 use mask_bits::BitBuffer;
-use std::alloc::Global;
+use mask_calls::masks::two::{intersect_by_rank, intersect_by_rank_counted};
+use mask_calls::packed::Outside;
 use std::process::Abort;
+use vortex_mask::Mask;
+
+fn narrows<A: Abort>(judge: &Judge<'_, A>, rows: &Mask, ranks: &Mask, want: &Plain) {
+    gives_mask(
+        judge,
+        "intersect_by_rank",
+        intersect_by_rank(judge.alloc, rows, ranks),
+        want,
+    );
+    let call = "intersect_by_rank_counted";
+    let (left, _) = judge.found(call, intersect_by_rank_counted(judge.alloc, rows, ranks));
+    is_mask(judge, call, &left, want);
+}
 
 // With each operand's indices cached and not.
-fn narrows_masks(
-    rt: &impl Abort,
-    alloc: Global,
+fn narrows_masks<A: Abort>(
+    judge: &Judge<'_, A>,
     (rows, ranks): (&BitBuffer, &BitBuffer),
     want: &Plain,
 ) {
-    for (of_rows, of_ranks) in [(false, false), (false, true), (true, false), (true, true)] {
-        let rows = with_indices(rt, alloc, rows, of_rows);
-        let ranks = with_indices(rt, alloc, ranks, of_ranks);
-        narrows_to(rt, alloc, &rows, &ranks, want);
+    for cached in EACH_INDICES {
+        let rows = mask_of(judge, rows, (cached.0, false));
+        let ranks = mask_of(judge, ranks, (cached.1, false));
+        narrows(judge, &rows, &ranks, want);
     }
 }
 
-// One row in so many is chosen, and one rank in so many: of buffers at bits 3 and 5 of their bytes.
-fn of_densities(rt: &impl Abort, alloc: Global, len: usize, row_step: usize, rank_step: usize) {
-    let rows = Plain::repeating(rt, alloc, len, (row_step, 1));
-    let ranks = Plain::repeating(rt, alloc, rows.indices.len(), (rank_step, 1));
-    let want = rows.rank_intersection(rt, alloc, &ranks.values);
-    let rows = buffer_at(rt, alloc, 3, &rows.values, Outside::Set);
-    let ranks = buffer_at(rt, alloc, 5, &ranks.values, Outside::Set);
-    narrows_masks(rt, alloc, (&rows, &ranks), &want);
-    by_each_kernel(rt, alloc, (&rows, &ranks), &want, Work::of(&want));
+// Rows, ranks and what is left, with the rows at a bit offset and the ranks at each.
+fn at_offset<A: Abort>(
+    judge: &Judge<'_, A>,
+    (rows, ranks, want): (&Plain, &Plain, &Plain),
+    offset: usize,
+) {
+    let buffer = bits_at(judge, rows, offset, Outside::Set);
+    for of_ranks in OFFSETS {
+        let ranks = bits_at(judge, ranks, of_ranks, Outside::Set);
+        narrows_masks(judge, (&buffer, &ranks), want);
+        by_each_kernel(judge, (&buffer, &ranks), want, Work::of(want), rows.count());
+    }
+}
+
+// One row in so many is chosen, and one rank in so many.
+fn of_densities<A: Abort>(judge: &Judge<'_, A>, len: usize, row_step: usize, rank_step: usize) {
+    let rows = Plain::repeating(judge, len, (row_step, 1));
+    let ranks = Plain::repeating(judge, rows.count(), (rank_step, 1));
+    let want = rows.rank_intersection(judge, &ranks);
+    for offset in OFFSETS {
+        at_offset(judge, (&rows, &ranks, &want), offset);
+    }
 }
 
 // A path each where the ranks' indices are cached: words of bits, of listed ranks, ranks one by one, and indices.
-fn of_length(rt: &impl Abort, alloc: Global, len: usize) {
+fn of_length<A: Abort>(judge: &Judge<'_, A>, len: usize) {
     for (row_step, rank_step) in [(3, 2), (3, 8), (3, 64), (100, 2)] {
-        of_densities(rt, alloc, len, row_step, rank_step);
+        of_densities(judge, len, row_step, rank_step);
     }
 }
 
-fn of_lengths(rt: &impl Abort, alloc: Global) {
-    for len in LENGTHS {
-        of_length(rt, alloc, len);
+fn of_lengths<A: Abort>(judge: &Judge<'_, A>) {
+    for len in SIZES {
+        if len < LONGEST {
+            of_length(judge, len);
+        }
     }
 }
 
 #[test]
 fn rank_intersections(rt: HostRuntime) {
-    of_lengths(&rt, rt.alloc());
+    of_lengths(&Judge::new(&rt, rt.alloc()));
 }
 
 #[test]
 fn the_longest_rank_intersections(rt: HostRuntime) {
-    of_length(&rt, rt.alloc(), LONGEST);
+    of_length(&Judge::new(&rt, rt.alloc()), LONGEST);
 }

@@ -1,21 +1,23 @@
 // Deposits and selections of a word: rows, and words at random beside plain loops.
-use crate::helpers::Generator;
+use crate::judge::{Generator, Judge};
 use std::process::Abort;
 use vortex_mask::intersect_by_rank::{
     DepositBits, Portable, PortableLoop, SelectBit, deposit_bytewise, deposit_two_holes,
     deposit_two_lowest,
 };
 
-fn same(rt: &impl Abort, got: u64, want: u64) {
-    assert!(rt; got == want, "{got} for {want}");
-}
-
 // By both implementations, and by the network at every mask.
-fn deposits_to(rt: &impl Abort, source: u64, mask: u64, want: u64) {
+fn deposits_to<A: Abort>(judge: &Judge<'_, A>, source: u64, mask: u64, want: u64) {
     let count = mask.count_ones() as usize;
-    same(rt, Portable::deposit_bits(source, mask, count), want);
-    same(rt, PortableLoop::deposit_bits(source, mask, count), want);
-    same(rt, deposit_bytewise(source, mask), want);
+    judge.holds(
+        "Portable::deposit_bits",
+        Portable::deposit_bits(source, mask, count) == want,
+    );
+    judge.holds(
+        "PortableLoop::deposit_bits",
+        PortableLoop::deposit_bits(source, mask, count) == want,
+    );
+    judge.holds("deposit_bytewise", deposit_bytewise(source, mask) == want);
 }
 
 // Source, mask, result.
@@ -42,35 +44,52 @@ const DEPOSITS: [(u64, u64, u64); 16] = [
     (0b100, 0x8000_0000_0000_0001, 0),
 ];
 
-fn deposits_of_rows(rt: &impl Abort, rows: &[(u64, u64, u64)]) {
+fn deposits_of_rows<A: Abort>(judge: &Judge<'_, A>, rows: &[(u64, u64, u64)]) {
     for (source, mask, want) in rows {
-        deposits_to(rt, *source, *mask, *want);
-        deposits_to(rt, u64::MAX, *mask, *mask);
-        deposits_to(rt, *source, 0, 0);
-        deposits_to(rt, *source, u64::MAX, *source);
+        deposits_to(judge, *source, *mask, *want);
+        deposits_to(judge, u64::MAX, *mask, *mask);
+        deposits_to(judge, *source, 0, 0);
+        deposits_to(judge, *source, u64::MAX, *source);
     }
 }
 
 #[test]
 fn deposits(rt: HostRuntime) {
-    deposits_of_rows(&rt, &DEPOSITS);
+    deposits_of_rows(&Judge::new(&rt, rt.alloc()), &DEPOSITS);
 }
 
-fn two_holes(rt: &impl Abort, source: u64, mask: u64, want: u64) {
-    assert!(rt; mask.count_ones() >= 62);
-    same(rt, deposit_two_holes(source, mask), want);
+fn two_holes<A: Abort>(judge: &Judge<'_, A>, source: u64, mask: u64, want: u64) {
+    let few = mask.count_ones() >= 62;
+    judge.holds(
+        "deposit_two_holes",
+        few && deposit_two_holes(source, mask) == want,
+    );
 }
 
-fn two_lowest(rt: &impl Abort, source: u64, mask: u64, want: u64) {
-    assert!(rt; mask.count_ones() <= 2);
-    same(rt, deposit_two_lowest(source, mask), want);
+fn two_lowest<A: Abort>(judge: &Judge<'_, A>, source: u64, mask: u64, want: u64) {
+    let few = mask.count_ones() <= 2;
+    judge.holds(
+        "deposit_two_lowest",
+        few && deposit_two_lowest(source, mask) == want,
+    );
+}
+
+// Source, mask, result.
+const TWO_HOLES: [(u64, u64, u64); 2] = [
+    (1, 0xFFFF_FFFF_FFFF_FFFE, 2),
+    (1 << 63, 0xFFFF_FFFF_FFFF_FFFE, 0),
+];
+
+fn by_closed_forms<A: Abort>(judge: &Judge<'_, A>) {
+    for (source, mask, want) in TWO_HOLES {
+        two_holes(judge, source, mask, want);
+    }
+    two_lowest(judge, u64::MAX, 0, 0);
 }
 
 #[test]
 fn closed_forms(rt: HostRuntime) {
-    two_holes(&rt, 1, 0xFFFF_FFFF_FFFF_FFFE, 2);
-    two_holes(&rt, 1 << 63, 0xFFFF_FFFF_FFFF_FFFE, 0);
-    two_lowest(&rt, u64::MAX, 0, 0);
+    by_closed_forms(&Judge::new(&rt, rt.alloc()));
 }
 
 // One set place after another.
@@ -95,53 +114,66 @@ fn mask_of_round(words: &mut Generator, round: u32) -> u64 {
     if round % 2 == 1 { !mask } else { mask }
 }
 
-fn deposits_at_random(rt: &impl Abort) {
+fn deposits_at_random<A: Abort>(judge: &Judge<'_, A>) {
     let mut words = Generator(0x9E37_79B9_7F4A_7C15);
     for round in 0..20_000u32 {
         let mask = mask_of_round(&mut words, round);
         let source = words.next();
-        deposits_to(rt, source, mask, plain_deposit(source, mask));
+        deposits_to(judge, source, mask, plain_deposit(source, mask));
     }
 }
 
 #[test]
 fn deposits_beside_a_plain_loop(rt: HostRuntime) {
-    deposits_at_random(&rt);
+    deposits_at_random(&Judge::new(&rt, rt.alloc()));
 }
 
-fn selects(rt: &impl Abort, word: u64, rank: usize, want: usize) {
-    assert!(rt; rank < word.count_ones() as usize);
-    let place = Portable::select_bit_position(word, rank);
-    same(rt, place as u64, want as u64);
+fn selects<A: Abort>(judge: &Judge<'_, A>, word: u64, rank: usize, want: usize) {
+    let is_there = rank < word.count_ones() as usize;
+    judge.holds(
+        "select_bit_position",
+        is_there && Portable::select_bit_position(word, rank) == want,
+    );
+}
+
+// Word, rank, place.
+const SELECTIONS: [(u64, usize, usize); 5] = [
+    (0b11010, 2, 4),
+    (1 << 63, 0, 63),
+    (0x8000_0000_0000_0001, 1, 63),
+    (0xFF00, 3, 11),
+    (u64::MAX, 40, 40),
+];
+
+fn selections_of_rows<A: Abort>(judge: &Judge<'_, A>) {
+    for (word, rank, place) in SELECTIONS {
+        selects(judge, word, rank, place);
+    }
 }
 
 #[test]
 fn selections(rt: HostRuntime) {
-    selects(&rt, 0b11010, 2, 4);
-    selects(&rt, 1 << 63, 0, 63);
-    selects(&rt, 0x8000_0000_0000_0001, 1, 63);
-    selects(&rt, 0xFF00, 3, 11);
-    selects(&rt, u64::MAX, 40, 40);
+    selections_of_rows(&Judge::new(&rt, rt.alloc()));
 }
 
-fn selects_each(rt: &impl Abort, word: u64) {
+fn selects_each<A: Abort>(judge: &Judge<'_, A>, word: u64) {
     let mut rank = 0usize;
     for place in 0..64usize {
         if (word >> place) & 1 == 1 {
-            selects(rt, word, rank, place);
+            selects(judge, word, rank, place);
             rank = rank.saturating_add(1);
         }
     }
 }
 
-fn selections_at_random(rt: &impl Abort) {
+fn selections_at_random<A: Abort>(judge: &Judge<'_, A>) {
     let mut words = Generator(0x9E37_79B9_7F4A_7C15);
     for round in 0..1_000u32 {
-        selects_each(rt, mask_of_round(&mut words, round));
+        selects_each(judge, mask_of_round(&mut words, round));
     }
 }
 
 #[test]
 fn selections_beside_a_plain_scan(rt: HostRuntime) {
-    selections_at_random(&rt);
+    selections_at_random(&Judge::new(&rt, rt.alloc()));
 }

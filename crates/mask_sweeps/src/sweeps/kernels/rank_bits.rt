@@ -1,29 +1,37 @@
 // The reader of rank bits.
-use crate::helpers::found;
-use bytes::Bytes;
+use crate::judge::Judge;
 use mask_bits::BitBuffer;
-use std::alloc::Global;
+use mask_calls::Fault;
+use mask_calls::packed::{new_with_offset, own_bytes};
 use std::process::Abort;
 use vortex_mask::intersect_by_rank::RankBits;
 
 // Bits `start` to `end` of some bytes.
-pub(super) fn bits(
-    rt: &impl Abort,
-    alloc: Global,
+pub(super) fn bits<A: Abort>(
+    judge: &Judge<'_, A>,
     bytes: &[u8],
-    start: usize,
-    end: usize,
+    (start, end): (usize, usize),
 ) -> BitBuffer {
-    let bytes = found(rt, Bytes::copy_from_slice(alloc, bytes));
-    assert!(rt; bytes.len() < 1_000 && start <= end && end <= 8 * bytes.len());
-    BitBuffer::new_with_offset(bytes, start, end - start)
+    let bytes = judge.found("bytes", bytes.to_vec(judge.alloc));
+    let bytes = judge.found("bytes", own_bytes(bytes));
+    judge.found(
+        "new_with_offset",
+        new_with_offset(bytes, start, end.saturating_sub(start)),
+    )
 }
 
-fn reads(rt: &impl Abort, buffer: &BitBuffer, rows: &[(usize, u64)]) {
+fn read(buffer: &BitBuffer, position: usize) -> Result<u64, Fault> {
+    if buffer.offset() < 8 && position <= 1_000 {
+        Ok(RankBits::new(buffer).read(position))
+    } else {
+        Err(Fault::Unmet("a position that fits"))
+    }
+}
+
+fn reads<A: Abort>(judge: &Judge<'_, A>, buffer: &BitBuffer, rows: &[(usize, u64)]) {
     for (position, want) in rows {
-        assert!(rt; buffer.offset() < 8 && *position <= 1_000);
-        let word = RankBits::new(buffer).read(*position);
-        assert!(rt; word == *want, "{word} at {position}");
+        let word = judge.found("RankBits::read", read(buffer, *position));
+        judge.holds("RankBits::read", word == *want);
     }
 }
 
@@ -40,13 +48,13 @@ const OF_TWENTY: [(usize, u64); 6] = [
     (1_000, 0),
 ];
 
-fn reads_both(rt: &impl Abort, alloc: Global) {
-    let five = bits(rt, alloc, &[0xB4, 0xFF], 2, 7);
-    reads(rt, &five, &[(0, 0x3FED), (5, 0x1FF), (14, 0)]);
-    reads(rt, &bits(rt, alloc, &TWENTY, 0, 160), &OF_TWENTY);
+fn reads_both<A: Abort>(judge: &Judge<'_, A>) {
+    let five = bits(judge, &[0xB4, 0xFF], (2, 7));
+    reads(judge, &five, &[(0, 0x3FED), (5, 0x1FF), (14, 0)]);
+    reads(judge, &bits(judge, &TWENTY, (0, 160)), &OF_TWENTY);
 }
 
 #[test]
 fn rank_bits(rt: HostRuntime) {
-    reads_both(&rt, rt.alloc());
+    reads_both(&Judge::new(&rt, rt.alloc()));
 }

@@ -1,106 +1,100 @@
 // The kernels, row by row.
 use super::rank_bits::bits;
 use super::{Work, by_each_kernel};
-use crate::helpers::{bits_of, found};
-use crate::plain::{Plain, repeating};
-use mask_bits::BitBuffer;
-use std::alloc::Global;
+use crate::judge::Judge;
+use crate::masks::plain_buffer;
+use crate::plain::Plain;
+use mask_calls::words::{number, numbers, true_at, values};
 use std::process::Abort;
 
-// How the rows of self are made.
-#[derive(Clone, Copy)]
-enum Source {
-    // so many values, true at these indices
-    At(usize, &'static [usize]),
-    // so many values, of which the first of each so many is true
-    OneIn(usize, usize),
-}
+// Values of self, ranks, and then the true indices of the result, deposits, words.
+const ROWS: &'static str = "at:8:0,3,4,5,7 by 0,2,3 -> 0,4,5 by 1 1
+at:130:0,63,64,127,128,129 by 1,2,5 -> 63,64,129 by 3 3
+- by - -> - by 0 0
+at:200:5,150 by 1 -> 150 by 4 3
+at:200:5,150 by 0 -> 5 by 4 1
+every:1:3 by 0,1,2 -> 0,1,2 by 1 1
+every:1:64 by 0,63 -> 0,63 by 1 1
+every:1:65 by - -> - by 2 0
+every:2:128 by 3,10,63 -> 6,20,126 by 2 2
+every:2:128 by 63 -> 126 by 2 2
+every:2:128 by - -> - by 2 0";
 
-impl Source {
-    fn values(self, rt: &impl Abort, alloc: Global) -> Vec<bool> {
-        match self {
-            Source::At(len, indices) => values_at(rt, alloc, len, indices),
-            Source::OneIn(len, period) => repeating(rt, alloc, len, (period, 1)),
+// The parts of a line around a mark.
+fn parts<'a, A: Abort>(
+    judge: &Judge<'_, A>,
+    line: &'a str,
+    mark: &'static str,
+) -> (&'a str, &'a str) {
+    match line.split_once(mark) {
+        Some(parts) => parts,
+        None => {
+            judge.holds("a row", false);
+            (line, line)
         }
     }
 }
 
-fn values_at(rt: &impl Abort, alloc: Global, len: usize, indices: &[usize]) -> Vec<bool> {
-    let mut values = Vec::new(alloc);
-    for i in 0..len {
-        found(rt, values.push(indices.contains(&i)));
+fn plain_at<A: Abort>(judge: &Judge<'_, A>, len: usize, word: &str) -> Plain {
+    let indices = judge.found("indices", numbers(judge.alloc, word));
+    Plain::of(
+        judge,
+        judge.found("a list", true_at(judge.alloc, len, &indices)),
+    )
+}
+
+fn work_of<A: Abort>(judge: &Judge<'_, A>, words: &str) -> Work {
+    let (deposits, words) = parts(judge, words, " ");
+    Work {
+        deposits: judge.found("deposits", number(deposits)),
+        words: judge.found("words", number(words)),
     }
-    values
 }
 
-// Rows of self, ranks, true indices of the result, deposits, words.
-type Row = (Source, &'static [usize], &'static [usize], usize, usize);
-
-const ROWS: [Row; 12] = [
-    (
-        Source::At(8, &[0, 3, 4, 5, 7]),
-        &[0, 2, 3],
-        &[0, 4, 5],
-        1,
-        1,
-    ),
-    (
-        Source::At(130, &[0, 63, 64, 127, 128, 129]),
-        &[1, 2, 5],
-        &[63, 64, 129],
-        3,
-        3,
-    ),
-    (Source::At(0, &[]), &[], &[], 0, 0),
-    (Source::At(200, &[5, 150]), &[1], &[150], 4, 3),
-    (Source::At(200, &[5, 150]), &[0], &[5], 4, 1),
-    (Source::OneIn(0, 1), &[], &[], 0, 0),
-    (Source::OneIn(3, 1), &[0, 1, 2], &[0, 1, 2], 1, 1),
-    (Source::OneIn(64, 1), &[0, 63], &[0, 63], 1, 1),
-    (Source::OneIn(65, 1), &[], &[], 2, 0),
-    (Source::OneIn(128, 2), &[3, 10, 63], &[6, 20, 126], 2, 2),
-    (Source::OneIn(128, 2), &[63], &[126], 2, 2),
-    (Source::OneIn(128, 2), &[], &[], 2, 0),
-];
-
-fn bits_at(rt: &impl Abort, alloc: Global, len: usize, indices: &[usize]) -> BitBuffer {
-    bits_of(rt, alloc, &values_at(rt, alloc, len, indices))
+fn narrows<A: Abort>(judge: &Judge<'_, A>, line: &str) {
+    let (masks, answer) = parts(judge, line, " -> ");
+    let (rows, ranks) = parts(judge, masks, " by ");
+    let (want, work) = parts(judge, answer, " by ");
+    let rows = Plain::of(judge, judge.found("values", values(judge.alloc, rows)));
+    let ranks = plain_at(judge, rows.count(), ranks);
+    narrows_to(
+        judge,
+        (&rows, &ranks),
+        &plain_at(judge, rows.len(), want),
+        work_of(judge, work),
+    );
 }
 
-fn plain_at(rt: &impl Abort, alloc: Global, len: usize, indices: &[usize]) -> Plain {
-    Plain::of(rt, alloc, values_at(rt, alloc, len, indices))
+fn narrows_to<A: Abort>(
+    judge: &Judge<'_, A>,
+    (rows, ranks): (&Plain, &Plain),
+    want: &Plain,
+    work: Work,
+) {
+    let buffers = (&plain_buffer(judge, rows), &plain_buffer(judge, ranks));
+    by_each_kernel(judge, buffers, want, work, rows.count());
 }
 
-fn narrows(rt: &impl Abort, alloc: Global, (source, ranks, want, deposits, words): Row) {
-    let rows = bits_of(rt, alloc, &source.values(rt, alloc));
-    let ranks = bits_at(rt, alloc, rows.true_count(), ranks);
-    let want = plain_at(rt, alloc, rows.len(), want);
-    by_each_kernel(rt, alloc, (&rows, &ranks), &want, Work { deposits, words });
-}
-
-fn narrows_rows(rt: &impl Abort, alloc: Global, rows: &[Row]) {
-    for row in rows {
-        narrows(rt, alloc, *row);
+fn narrows_rows<A: Abort>(judge: &Judge<'_, A>) {
+    judge.holds("eleven rows", ROWS.split('\n').count() == 11);
+    for line in ROWS.split('\n') {
+        narrows(judge, line);
     }
 }
 
 #[test]
 fn rows_by_each_kernel(rt: HostRuntime) {
-    narrows_rows(&rt, rt.alloc(), &ROWS);
+    narrows_rows(&Judge::new(&rt, rt.alloc()));
 }
 
-fn narrows_at_an_odd_offset(rt: &impl Abort, alloc: Global) {
-    let rows = bits_at(rt, alloc, 8, &[0, 3, 4, 5, 7]);
-    let ranks = bits(rt, alloc, &[0xB4, 0xFF], 2, 7);
-    let want = plain_at(rt, alloc, 8, &[0, 4, 5]);
-    let work = Work {
-        deposits: 1,
-        words: 1,
-    };
-    by_each_kernel(rt, alloc, (&rows, &ranks), &want, work);
+fn narrows_at_an_odd_offset<A: Abort>(judge: &Judge<'_, A>) {
+    let rows = plain_buffer(judge, &plain_at(judge, 8, "0,3,4,5,7"));
+    let want = plain_at(judge, 8, "0,4,5");
+    let ranks = bits(judge, &[0xB4, 0xFF], (2, 7));
+    by_each_kernel(judge, (&rows, &ranks), &want, Work::of(&want), 5);
 }
 
 #[test]
 fn ranks_at_an_odd_offset_with_set_bits_past_them(rt: HostRuntime) {
-    narrows_at_an_odd_offset(&rt, rt.alloc());
+    narrows_at_an_odd_offset(&Judge::new(&rt, rt.alloc()));
 }

@@ -1,0 +1,316 @@
+// Masks of a plain list, by each constructor and of buffers at each bit offset, and what is seen of a mask.
+ghost use Rattle.mask_bits.specs.Stacks.{IsStack};
+ghost use Rattle.std.specs.Prelude.{◌∷◌, ◌↔◌, IsTrue, map};
+ghost use Rattle.vortex_mask.specs.Mask.{truth};
+
+use crate::bits::{copy_of, own_copy};
+use crate::judge::Judge;
+use crate::plain::{Plain, indices_of};
+use mask_bits::{BitBuffer, laws};
+use mask_calls::Fault;
+use mask_calls::masks::lent::cached_by;
+use mask_calls::masks::made::{
+    from_bools, from_buffer, from_excluded_indices, from_indices, from_slices,
+};
+use mask_calls::masks::many::{concat, from_masks};
+use mask_calls::masks::parts::slice;
+use mask_calls::packed::{Outside, buffer_at};
+use std::alloc::Global;
+use std::process::Abort;
+use vortex_mask::{AllOr, Mask, MaskError};
+
+fn answer<T>(outcome: Result<T, MaskError>) -> Result<T, Fault> {
+    match outcome {
+        Ok(it) => Ok(it),
+        Err(error) => Err(Fault::of(error)),
+    }
+}
+
+// ---- calls that need a proof of what they require
+
+// By the runs that the buffer itself has.
+fn from_buffer_with_slices(alloc: Global, buffer: BitBuffer) -> Result<Mask, Fault> {
+    laws::runs_are_ranges();
+    match buffer.set_slices().collect(alloc) {
+        Ok(runs) => answer(Mask::from_buffer_with_slices(alloc, buffer, runs)),
+        Err(_) => Err(Fault::Memory),
+    }
+}
+
+fn from_intersection_indices(alloc: Global, buffer: &BitBuffer) -> Result<Mask, Fault> {
+    let (left, right) = (buffer.set_indices(), buffer.set_indices());
+    answer(Mask::from_intersection_indices(alloc, buffer.len(), left, right))
+}
+
+// Whether each mask is as long as the one before it has true values.
+fn are_a_stack(first: &Mask, rest: &[Mask]) -> bool
+    ensures { IsTrue result ↔ IsStack (truth first.now ∷ map truth rest.now) }
+{
+    let mut before = first;
+    for mask in rest {
+        if mask.len() != before.true_count() {
+            return false;
+        }
+        before = mask;
+    }
+    true
+}
+
+pub(crate) fn intersect_all_by_rank(
+    alloc: Global,
+    first: &Mask,
+    rest: &[Mask],
+) -> Result<Mask, Fault> {
+    if !are_a_stack(first, rest) {
+        return Err(Fault::Unmet("a stack"));
+    }
+    answer(first.intersect_all_by_rank(alloc, rest))
+}
+
+// ---- masks of a plain list
+
+#[derive(Clone, Copy)]
+pub(crate) enum Source {
+    Bools,
+    Indices,
+    ExcludedIndices,
+    IntersectionIndices,
+    Slices,
+    Buffer,
+    BufferWithSlices,
+    Concat,
+    Masks,
+    // `new`, of one value
+    One,
+    // of a buffer whose list begins at a bit of its bytes
+    At(usize, Outside),
+}
+
+pub(crate) const CONSTRUCTORS: [Source; 9] = [
+    Source::Bools,
+    Source::Indices,
+    Source::ExcludedIndices,
+    Source::IntersectionIndices,
+    Source::Slices,
+    Source::Buffer,
+    Source::BufferWithSlices,
+    Source::Concat,
+    Source::Masks,
+];
+
+impl Source {
+    pub(crate) fn name(self) -> &'static str {
+        match self {
+            Source::Bools => "from_bools",
+            Source::Indices => "from_indices",
+            Source::ExcludedIndices => "from_excluded_indices",
+            Source::IntersectionIndices => "from_intersection_indices",
+            Source::Slices => "from_slices",
+            Source::Buffer => "from_buffer",
+            Source::BufferWithSlices => "from_buffer_with_slices",
+            Source::Concat => "concat",
+            Source::Masks => "from_masks",
+            Source::One => "new",
+            Source::At(_, _) => "from_buffer at a bit",
+        }
+    }
+
+    // Whether it holds no values as `AllTrue`.
+    pub(crate) fn is_all_true_if_empty(self) -> bool {
+        matches!(
+            self,
+            Source::ExcludedIndices | Source::Concat | Source::Masks
+        )
+    }
+
+    pub(crate) fn mask<A: Abort>(self, judge: &Judge<'_, A>, plain: &Plain) -> Mask {
+        judge.makes(plain.len(), 0);
+        let mask = match self {
+            Source::Bools => from_bools(judge.alloc, &plain.values),
+            Source::Indices => from_indices(judge.alloc, plain.len(), &plain.indices),
+            Source::Slices => of_slices(judge, plain),
+            Source::ExcludedIndices => of_excluded(judge, plain),
+            Source::Concat => of_two_lent(judge, plain),
+            Source::Masks => of_two(judge, plain),
+            Source::One => Ok(Mask::new(plain.len(), plain.is_all_true)),
+            Source::At(offset, outside) => {
+                from_buffer(judge.alloc, bits_at(judge, plain, offset, outside))
+            }
+            _ => self.of_buffer(judge.alloc, plain_buffer(judge, plain)),
+        };
+        judge.found(self.name(), mask)
+    }
+
+    fn of_buffer(self, alloc: Global, buffer: BitBuffer) -> Result<Mask, Fault> {
+        match self {
+            Source::IntersectionIndices => from_intersection_indices(alloc, &buffer),
+            Source::BufferWithSlices => from_buffer_with_slices(alloc, buffer),
+            _ => from_buffer(alloc, buffer),
+        }
+    }
+}
+
+pub(crate) fn plain_buffer<A: Abort>(judge: &Judge<'_, A>, plain: &Plain) -> BitBuffer {
+    let buffer = mask_calls::packed::from_bools(judge.alloc, &plain.values);
+    judge.found("BitBuffer::from_bools", buffer)
+}
+
+fn of_slices<A: Abort>(judge: &Judge<'_, A>, plain: &Plain) -> Result<Mask, Fault> {
+    let runs = judge.found("a copy", plain.runs.clone());
+    from_slices(judge.alloc, plain.len(), runs)
+}
+
+fn of_excluded<A: Abort>(judge: &Judge<'_, A>, plain: &Plain) -> Result<Mask, Fault> {
+    let indices = indices_of(judge, &plain.values, false);
+    from_excluded_indices(judge.alloc, plain.len(), &indices)
+}
+
+// The first third, and the rest.
+fn parts_of<A: Abort>(judge: &Judge<'_, A>, plain: &Plain) -> Vec<Mask> {
+    let mask = judge.found("from_bools", from_bools(judge.alloc, &plain.values));
+    let third = plain.len() / 3;
+    let mut parts: Vec<Mask> = Vec::new(judge.alloc);
+    for (start, end) in [(0, third), (third, plain.len())] {
+        let part = judge.found("slice", slice(judge.alloc, &mask, start, end));
+        judge.found("a list", parts.push(part));
+    }
+    parts
+}
+
+fn of_two_lent<A: Abort>(judge: &Judge<'_, A>, plain: &Plain) -> Result<Mask, Fault> {
+    concat(judge.alloc, &parts_of(judge, plain))
+}
+
+fn of_two<A: Abort>(judge: &Judge<'_, A>, plain: &Plain) -> Result<Mask, Fault> {
+    from_masks(judge.alloc, parts_of(judge, plain))
+}
+
+// Of a buffer whose list begins at a bit of its bytes.
+pub(crate) fn bits_at<A: Abort>(
+    judge: &Judge<'_, A>,
+    plain: &Plain,
+    offset: usize,
+    outside: Outside,
+) -> BitBuffer {
+    judge.makes(plain.len(), offset);
+    let buffer = buffer_at(judge.alloc, offset, &plain.values, outside);
+    judge.found("new_with_offset", buffer)
+}
+
+// Which lists are cached: the indices, the slices.
+pub(crate) type Caches = (bool, bool);
+
+pub(crate) const EACH_CACHES: [Caches; 4] = [
+    (false, false),
+    (true, false),
+    (false, true),
+    (true, true),
+];
+
+// The same of the indices of two masks.
+pub(crate) const EACH_INDICES: [(bool, bool); 4] = EACH_CACHES;
+
+pub(crate) fn with_lists<A: Abort>(judge: &Judge<'_, A>, mask: Mask, caches: Caches) -> Mask {
+    let lists = match caches {
+        (false, false) => return mask,
+        (true, false) => "i",
+        (false, true) => "r",
+        (true, true) => "i!r",
+    };
+    judge.found("indices or slices", cached_by(judge.alloc, mask, lists))
+}
+
+// Of a clone of a buffer.
+pub(crate) fn mask_of<A: Abort>(judge: &Judge<'_, A>, buffer: &BitBuffer, caches: Caches) -> Mask {
+    let buffer = judge.found("BitBuffer::clone", copy_of(buffer));
+    with_lists(
+        judge,
+        judge.found("from_buffer", from_buffer(judge.alloc, buffer)),
+        caches,
+    )
+}
+
+// The same mask, of bytes that nobody else holds.
+pub(crate) fn own_mask<A: Abort>(judge: &Judge<'_, A>, mask: &Mask, caches: Caches) -> Mask {
+    match mask.bit_buffer() {
+        AllOr::All => Mask::new_true(mask.len()),
+        AllOr::None => Mask::new_false(mask.len()),
+        AllOr::Some(buffer) => {
+            let own = judge.found("a copy", own_copy(judge.alloc, buffer));
+            with_lists(
+                judge,
+                judge.found("from_buffer", from_buffer(judge.alloc, own)),
+                caches,
+            )
+        }
+    }
+}
+
+// ---- what is seen of a mask
+
+// The buffer's started words are those of a plain list.
+pub(crate) fn has_words<A: Abort>(
+    judge: &Judge<'_, A>,
+    call: &'static str,
+    buffer: &BitBuffer,
+    want: &Plain,
+) {
+    judge.holds(call, buffer.len() == want.len());
+    let mut words = buffer.chunks().iter_padded();
+    for word in &want.words {
+        judge.holds(call, words.next() == Some(*word));
+    }
+    judge.holds(call, words.next().is_none());
+}
+
+// The same of what a call answers.
+pub(crate) fn gives_bits<A: Abort>(
+    judge: &Judge<'_, A>,
+    call: &'static str,
+    answer: Result<BitBuffer, Fault>,
+    want: &Plain,
+) {
+    has_words(judge, call, &judge.found(call, answer), want);
+}
+
+pub(crate) fn gives_mask<A: Abort>(
+    judge: &Judge<'_, A>,
+    call: &'static str,
+    answer: Result<Mask, Fault>,
+    want: &Plain,
+) {
+    is_mask(judge, call, &judge.found(call, answer), want);
+}
+
+// The mask has a plain list, and is held as that is.
+pub(crate) fn is_mask<A: Abort>(
+    judge: &Judge<'_, A>,
+    call: &'static str,
+    mask: &Mask,
+    want: &Plain,
+) {
+    judge.holds(call, mask.len() == want.len());
+    match mask.bit_buffer() {
+        AllOr::All => judge.holds(call, want.is_all_true),
+        AllOr::None => judge.holds(call, !want.is_all_true && want.count() == 0),
+        AllOr::Some(buffer) => {
+            judge.holds(call, want.is_mixed());
+            has_words(judge, call, buffer, want);
+        }
+    }
+}
+
+// Of its lists these are cached, if it is mixed.
+pub(crate) fn has_caches<A: Abort>(
+    judge: &Judge<'_, A>,
+    call: &'static str,
+    mask: &Mask,
+    want: &Plain,
+    caches: Caches,
+) {
+    if let Some(values) = mask.values() {
+        let (indices, slices) = (values.cached_indices(), values.cached_slices());
+        judge.holds(call, indices == caches.0.then_some(want.indices.as_slice()));
+        judge.holds(call, slices == caches.1.then_some(want.runs.as_slice()));
+    }
+}
