@@ -6,7 +6,7 @@ compile_error!(
      folder that has libmask_c.a"
 );
 
-#[cfg(not(target_pointer_width = "64"))]
+#[cfg(all(row_mask_library, not(doc), not(target_pointer_width = "64")))]
 compile_error!("the loops are compiled for machines of 64 bits");
 
 mod bitmap;
