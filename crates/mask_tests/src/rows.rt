@@ -1,6 +1,5 @@
-// Each file is named after what its rows are of. A test is one call of a function that walks a table, and each
-// call of a library, with what it requires asserted, stands in a small function that has no clause and takes its
-// answer by `found`: what makes a test slow to prove is `?` beside living values, and what clauses say.
+// Worked examples, as lines of text: a line has calls, their operands, and what each of them answers. Each file is
+// named after what its rows are of. `mask_calls` reads a line and makes its calls.
 mod all_or;
 mod bitops;
 mod buffer;

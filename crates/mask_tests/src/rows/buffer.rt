@@ -1,258 +1,315 @@
 // Packed bits, row by row.
-ghost use Rattle.std.specs.Prelude.{◌<◌};
+use crate::rows::helpers::answer_rows;
 
-mod words;
+const ROWS: &str = "\
+# 13 values, lowest bit first, at each bit offset, with bits around them that are clear and that are set; and
+# of a copy.
+bits.buffer,bits.clone bytes:205,17,0,0:0:13 -> 1011001110001 at 0 of 205 17 0 0
+bits.set_indices bytes:205,17,0,0:0:13 -> indices 0 2 3 6 7 8 12
+bits.indices bytes:205,17,0,0:0:13 -> 0,2,3,6,7,8,12
+bits.true_count bytes:205,17,0,0:0:13 -> 7
+bits.last_set_index bytes:205,17,0,0:0:13 -> 12
+bits.select_each bytes:205,17,0,0:0:13 10 -> 0 2 3 6 7 8 12 none none none by number
+bits.buffer,bits.clone clone:bytes:205,17,0,0:0:13 -> 1011001110001 at 0 of 205 17 0 0
+bits.set_indices clone:bytes:205,17,0,0:0:13 -> indices 0 2 3 6 7 8 12
+bits.indices clone:bytes:205,17,0,0:0:13 -> 0,2,3,6,7,8,12
+bits.true_count clone:bytes:205,17,0,0:0:13 -> 7
+bits.last_set_index clone:bytes:205,17,0,0:0:13 -> 12
+bits.select_each clone:bytes:205,17,0,0:0:13 10 -> 0 2 3 6 7 8 12 none none none by number
+bits.buffer,bits.clone bytes:205,241,255,255:0:13 -> 1011001110001 at 0 of 205 241 255 255
+bits.set_indices bytes:205,241,255,255:0:13 -> indices 0 2 3 6 7 8 12
+bits.indices bytes:205,241,255,255:0:13 -> 0,2,3,6,7,8,12
+bits.true_count bytes:205,241,255,255:0:13 -> 7
+bits.last_set_index bytes:205,241,255,255:0:13 -> 12
+bits.select_each bytes:205,241,255,255:0:13 10 -> 0 2 3 6 7 8 12 none none none by number
+bits.buffer,bits.clone clone:bytes:205,241,255,255:0:13 -> 1011001110001 at 0 of 205 241 255 255
+bits.set_indices clone:bytes:205,241,255,255:0:13 -> indices 0 2 3 6 7 8 12
+bits.indices clone:bytes:205,241,255,255:0:13 -> 0,2,3,6,7,8,12
+bits.true_count clone:bytes:205,241,255,255:0:13 -> 7
+bits.last_set_index clone:bytes:205,241,255,255:0:13 -> 12
+bits.select_each clone:bytes:205,241,255,255:0:13 10 -> 0 2 3 6 7 8 12 none none none by number
+bits.buffer,bits.clone bytes:154,35,0,0:1:13 -> 1011001110001 at 1 of 154 35 0 0
+bits.set_indices bytes:154,35,0,0:1:13 -> indices 0 2 3 6 7 8 12
+bits.indices bytes:154,35,0,0:1:13 -> 0,2,3,6,7,8,12
+bits.true_count bytes:154,35,0,0:1:13 -> 7
+bits.last_set_index bytes:154,35,0,0:1:13 -> 12
+bits.select_each bytes:154,35,0,0:1:13 10 -> 0 2 3 6 7 8 12 none none none by number
+bits.buffer,bits.clone clone:bytes:154,35,0,0:1:13 -> 1011001110001 at 1 of 154 35 0 0
+bits.set_indices clone:bytes:154,35,0,0:1:13 -> indices 0 2 3 6 7 8 12
+bits.indices clone:bytes:154,35,0,0:1:13 -> 0,2,3,6,7,8,12
+bits.true_count clone:bytes:154,35,0,0:1:13 -> 7
+bits.last_set_index clone:bytes:154,35,0,0:1:13 -> 12
+bits.select_each clone:bytes:154,35,0,0:1:13 10 -> 0 2 3 6 7 8 12 none none none by number
+bits.buffer,bits.clone bytes:155,227,255,255:1:13 -> 1011001110001 at 1 of 155 227 255 255
+bits.set_indices bytes:155,227,255,255:1:13 -> indices 0 2 3 6 7 8 12
+bits.indices bytes:155,227,255,255:1:13 -> 0,2,3,6,7,8,12
+bits.true_count bytes:155,227,255,255:1:13 -> 7
+bits.last_set_index bytes:155,227,255,255:1:13 -> 12
+bits.select_each bytes:155,227,255,255:1:13 10 -> 0 2 3 6 7 8 12 none none none by number
+bits.buffer,bits.clone clone:bytes:155,227,255,255:1:13 -> 1011001110001 at 1 of 155 227 255 255
+bits.set_indices clone:bytes:155,227,255,255:1:13 -> indices 0 2 3 6 7 8 12
+bits.indices clone:bytes:155,227,255,255:1:13 -> 0,2,3,6,7,8,12
+bits.true_count clone:bytes:155,227,255,255:1:13 -> 7
+bits.last_set_index clone:bytes:155,227,255,255:1:13 -> 12
+bits.select_each clone:bytes:155,227,255,255:1:13 10 -> 0 2 3 6 7 8 12 none none none by number
+bits.buffer,bits.clone bytes:52,71,0,0:2:13 -> 1011001110001 at 2 of 52 71 0 0
+bits.set_indices bytes:52,71,0,0:2:13 -> indices 0 2 3 6 7 8 12
+bits.indices bytes:52,71,0,0:2:13 -> 0,2,3,6,7,8,12
+bits.true_count bytes:52,71,0,0:2:13 -> 7
+bits.last_set_index bytes:52,71,0,0:2:13 -> 12
+bits.select_each bytes:52,71,0,0:2:13 10 -> 0 2 3 6 7 8 12 none none none by number
+bits.buffer,bits.clone clone:bytes:52,71,0,0:2:13 -> 1011001110001 at 2 of 52 71 0 0
+bits.set_indices clone:bytes:52,71,0,0:2:13 -> indices 0 2 3 6 7 8 12
+bits.indices clone:bytes:52,71,0,0:2:13 -> 0,2,3,6,7,8,12
+bits.true_count clone:bytes:52,71,0,0:2:13 -> 7
+bits.last_set_index clone:bytes:52,71,0,0:2:13 -> 12
+bits.select_each clone:bytes:52,71,0,0:2:13 10 -> 0 2 3 6 7 8 12 none none none by number
+bits.buffer,bits.clone bytes:55,199,255,255:2:13 -> 1011001110001 at 2 of 55 199 255 255
+bits.set_indices bytes:55,199,255,255:2:13 -> indices 0 2 3 6 7 8 12
+bits.indices bytes:55,199,255,255:2:13 -> 0,2,3,6,7,8,12
+bits.true_count bytes:55,199,255,255:2:13 -> 7
+bits.last_set_index bytes:55,199,255,255:2:13 -> 12
+bits.select_each bytes:55,199,255,255:2:13 10 -> 0 2 3 6 7 8 12 none none none by number
+bits.buffer,bits.clone clone:bytes:55,199,255,255:2:13 -> 1011001110001 at 2 of 55 199 255 255
+bits.set_indices clone:bytes:55,199,255,255:2:13 -> indices 0 2 3 6 7 8 12
+bits.indices clone:bytes:55,199,255,255:2:13 -> 0,2,3,6,7,8,12
+bits.true_count clone:bytes:55,199,255,255:2:13 -> 7
+bits.last_set_index clone:bytes:55,199,255,255:2:13 -> 12
+bits.select_each clone:bytes:55,199,255,255:2:13 10 -> 0 2 3 6 7 8 12 none none none by number
+bits.buffer,bits.clone bytes:104,142,0,0:3:13 -> 1011001110001 at 3 of 104 142 0 0
+bits.set_indices bytes:104,142,0,0:3:13 -> indices 0 2 3 6 7 8 12
+bits.indices bytes:104,142,0,0:3:13 -> 0,2,3,6,7,8,12
+bits.true_count bytes:104,142,0,0:3:13 -> 7
+bits.last_set_index bytes:104,142,0,0:3:13 -> 12
+bits.select_each bytes:104,142,0,0:3:13 10 -> 0 2 3 6 7 8 12 none none none by number
+bits.buffer,bits.clone clone:bytes:104,142,0,0:3:13 -> 1011001110001 at 3 of 104 142 0 0
+bits.set_indices clone:bytes:104,142,0,0:3:13 -> indices 0 2 3 6 7 8 12
+bits.indices clone:bytes:104,142,0,0:3:13 -> 0,2,3,6,7,8,12
+bits.true_count clone:bytes:104,142,0,0:3:13 -> 7
+bits.last_set_index clone:bytes:104,142,0,0:3:13 -> 12
+bits.select_each clone:bytes:104,142,0,0:3:13 10 -> 0 2 3 6 7 8 12 none none none by number
+bits.buffer,bits.clone bytes:111,142,255,255:3:13 -> 1011001110001 at 3 of 111 142 255 255
+bits.set_indices bytes:111,142,255,255:3:13 -> indices 0 2 3 6 7 8 12
+bits.indices bytes:111,142,255,255:3:13 -> 0,2,3,6,7,8,12
+bits.true_count bytes:111,142,255,255:3:13 -> 7
+bits.last_set_index bytes:111,142,255,255:3:13 -> 12
+bits.select_each bytes:111,142,255,255:3:13 10 -> 0 2 3 6 7 8 12 none none none by number
+bits.buffer,bits.clone clone:bytes:111,142,255,255:3:13 -> 1011001110001 at 3 of 111 142 255 255
+bits.set_indices clone:bytes:111,142,255,255:3:13 -> indices 0 2 3 6 7 8 12
+bits.indices clone:bytes:111,142,255,255:3:13 -> 0,2,3,6,7,8,12
+bits.true_count clone:bytes:111,142,255,255:3:13 -> 7
+bits.last_set_index clone:bytes:111,142,255,255:3:13 -> 12
+bits.select_each clone:bytes:111,142,255,255:3:13 10 -> 0 2 3 6 7 8 12 none none none by number
+bits.buffer,bits.clone bytes:208,28,1,0:4:13 -> 1011001110001 at 4 of 208 28 1 0
+bits.set_indices bytes:208,28,1,0:4:13 -> indices 0 2 3 6 7 8 12
+bits.indices bytes:208,28,1,0:4:13 -> 0,2,3,6,7,8,12
+bits.true_count bytes:208,28,1,0:4:13 -> 7
+bits.last_set_index bytes:208,28,1,0:4:13 -> 12
+bits.select_each bytes:208,28,1,0:4:13 10 -> 0 2 3 6 7 8 12 none none none by number
+bits.buffer,bits.clone clone:bytes:208,28,1,0:4:13 -> 1011001110001 at 4 of 208 28 1 0
+bits.set_indices clone:bytes:208,28,1,0:4:13 -> indices 0 2 3 6 7 8 12
+bits.indices clone:bytes:208,28,1,0:4:13 -> 0,2,3,6,7,8,12
+bits.true_count clone:bytes:208,28,1,0:4:13 -> 7
+bits.last_set_index clone:bytes:208,28,1,0:4:13 -> 12
+bits.select_each clone:bytes:208,28,1,0:4:13 10 -> 0 2 3 6 7 8 12 none none none by number
+bits.buffer,bits.clone bytes:223,28,255,255:4:13 -> 1011001110001 at 4 of 223 28 255 255
+bits.set_indices bytes:223,28,255,255:4:13 -> indices 0 2 3 6 7 8 12
+bits.indices bytes:223,28,255,255:4:13 -> 0,2,3,6,7,8,12
+bits.true_count bytes:223,28,255,255:4:13 -> 7
+bits.last_set_index bytes:223,28,255,255:4:13 -> 12
+bits.select_each bytes:223,28,255,255:4:13 10 -> 0 2 3 6 7 8 12 none none none by number
+bits.buffer,bits.clone clone:bytes:223,28,255,255:4:13 -> 1011001110001 at 4 of 223 28 255 255
+bits.set_indices clone:bytes:223,28,255,255:4:13 -> indices 0 2 3 6 7 8 12
+bits.indices clone:bytes:223,28,255,255:4:13 -> 0,2,3,6,7,8,12
+bits.true_count clone:bytes:223,28,255,255:4:13 -> 7
+bits.last_set_index clone:bytes:223,28,255,255:4:13 -> 12
+bits.select_each clone:bytes:223,28,255,255:4:13 10 -> 0 2 3 6 7 8 12 none none none by number
+bits.buffer,bits.clone bytes:160,57,2,0:5:13 -> 1011001110001 at 5 of 160 57 2 0
+bits.set_indices bytes:160,57,2,0:5:13 -> indices 0 2 3 6 7 8 12
+bits.indices bytes:160,57,2,0:5:13 -> 0,2,3,6,7,8,12
+bits.true_count bytes:160,57,2,0:5:13 -> 7
+bits.last_set_index bytes:160,57,2,0:5:13 -> 12
+bits.select_each bytes:160,57,2,0:5:13 10 -> 0 2 3 6 7 8 12 none none none by number
+bits.buffer,bits.clone clone:bytes:160,57,2,0:5:13 -> 1011001110001 at 5 of 160 57 2 0
+bits.set_indices clone:bytes:160,57,2,0:5:13 -> indices 0 2 3 6 7 8 12
+bits.indices clone:bytes:160,57,2,0:5:13 -> 0,2,3,6,7,8,12
+bits.true_count clone:bytes:160,57,2,0:5:13 -> 7
+bits.last_set_index clone:bytes:160,57,2,0:5:13 -> 12
+bits.select_each clone:bytes:160,57,2,0:5:13 10 -> 0 2 3 6 7 8 12 none none none by number
+bits.buffer,bits.clone bytes:191,57,254,255:5:13 -> 1011001110001 at 5 of 191 57 254 255
+bits.set_indices bytes:191,57,254,255:5:13 -> indices 0 2 3 6 7 8 12
+bits.indices bytes:191,57,254,255:5:13 -> 0,2,3,6,7,8,12
+bits.true_count bytes:191,57,254,255:5:13 -> 7
+bits.last_set_index bytes:191,57,254,255:5:13 -> 12
+bits.select_each bytes:191,57,254,255:5:13 10 -> 0 2 3 6 7 8 12 none none none by number
+bits.buffer,bits.clone clone:bytes:191,57,254,255:5:13 -> 1011001110001 at 5 of 191 57 254 255
+bits.set_indices clone:bytes:191,57,254,255:5:13 -> indices 0 2 3 6 7 8 12
+bits.indices clone:bytes:191,57,254,255:5:13 -> 0,2,3,6,7,8,12
+bits.true_count clone:bytes:191,57,254,255:5:13 -> 7
+bits.last_set_index clone:bytes:191,57,254,255:5:13 -> 12
+bits.select_each clone:bytes:191,57,254,255:5:13 10 -> 0 2 3 6 7 8 12 none none none by number
+bits.buffer,bits.clone bytes:64,115,4,0:6:13 -> 1011001110001 at 6 of 64 115 4 0
+bits.set_indices bytes:64,115,4,0:6:13 -> indices 0 2 3 6 7 8 12
+bits.indices bytes:64,115,4,0:6:13 -> 0,2,3,6,7,8,12
+bits.true_count bytes:64,115,4,0:6:13 -> 7
+bits.last_set_index bytes:64,115,4,0:6:13 -> 12
+bits.select_each bytes:64,115,4,0:6:13 10 -> 0 2 3 6 7 8 12 none none none by number
+bits.buffer,bits.clone clone:bytes:64,115,4,0:6:13 -> 1011001110001 at 6 of 64 115 4 0
+bits.set_indices clone:bytes:64,115,4,0:6:13 -> indices 0 2 3 6 7 8 12
+bits.indices clone:bytes:64,115,4,0:6:13 -> 0,2,3,6,7,8,12
+bits.true_count clone:bytes:64,115,4,0:6:13 -> 7
+bits.last_set_index clone:bytes:64,115,4,0:6:13 -> 12
+bits.select_each clone:bytes:64,115,4,0:6:13 10 -> 0 2 3 6 7 8 12 none none none by number
+bits.buffer,bits.clone bytes:127,115,252,255:6:13 -> 1011001110001 at 6 of 127 115 252 255
+bits.set_indices bytes:127,115,252,255:6:13 -> indices 0 2 3 6 7 8 12
+bits.indices bytes:127,115,252,255:6:13 -> 0,2,3,6,7,8,12
+bits.true_count bytes:127,115,252,255:6:13 -> 7
+bits.last_set_index bytes:127,115,252,255:6:13 -> 12
+bits.select_each bytes:127,115,252,255:6:13 10 -> 0 2 3 6 7 8 12 none none none by number
+bits.buffer,bits.clone clone:bytes:127,115,252,255:6:13 -> 1011001110001 at 6 of 127 115 252 255
+bits.set_indices clone:bytes:127,115,252,255:6:13 -> indices 0 2 3 6 7 8 12
+bits.indices clone:bytes:127,115,252,255:6:13 -> 0,2,3,6,7,8,12
+bits.true_count clone:bytes:127,115,252,255:6:13 -> 7
+bits.last_set_index clone:bytes:127,115,252,255:6:13 -> 12
+bits.select_each clone:bytes:127,115,252,255:6:13 10 -> 0 2 3 6 7 8 12 none none none by number
+bits.buffer,bits.clone bytes:128,230,8,0:7:13 -> 1011001110001 at 7 of 128 230 8 0
+bits.set_indices bytes:128,230,8,0:7:13 -> indices 0 2 3 6 7 8 12
+bits.indices bytes:128,230,8,0:7:13 -> 0,2,3,6,7,8,12
+bits.true_count bytes:128,230,8,0:7:13 -> 7
+bits.last_set_index bytes:128,230,8,0:7:13 -> 12
+bits.select_each bytes:128,230,8,0:7:13 10 -> 0 2 3 6 7 8 12 none none none by number
+bits.buffer,bits.clone clone:bytes:128,230,8,0:7:13 -> 1011001110001 at 7 of 128 230 8 0
+bits.set_indices clone:bytes:128,230,8,0:7:13 -> indices 0 2 3 6 7 8 12
+bits.indices clone:bytes:128,230,8,0:7:13 -> 0,2,3,6,7,8,12
+bits.true_count clone:bytes:128,230,8,0:7:13 -> 7
+bits.last_set_index clone:bytes:128,230,8,0:7:13 -> 12
+bits.select_each clone:bytes:128,230,8,0:7:13 10 -> 0 2 3 6 7 8 12 none none none by number
+bits.buffer,bits.clone bytes:255,230,248,255:7:13 -> 1011001110001 at 7 of 255 230 248 255
+bits.set_indices bytes:255,230,248,255:7:13 -> indices 0 2 3 6 7 8 12
+bits.indices bytes:255,230,248,255:7:13 -> 0,2,3,6,7,8,12
+bits.true_count bytes:255,230,248,255:7:13 -> 7
+bits.last_set_index bytes:255,230,248,255:7:13 -> 12
+bits.select_each bytes:255,230,248,255:7:13 10 -> 0 2 3 6 7 8 12 none none none by number
+bits.buffer,bits.clone clone:bytes:255,230,248,255:7:13 -> 1011001110001 at 7 of 255 230 248 255
+bits.set_indices clone:bytes:255,230,248,255:7:13 -> indices 0 2 3 6 7 8 12
+bits.indices clone:bytes:255,230,248,255:7:13 -> 0,2,3,6,7,8,12
+bits.true_count clone:bytes:255,230,248,255:7:13 -> 7
+bits.last_set_index clone:bytes:255,230,248,255:7:13 -> 12
+bits.select_each clone:bytes:255,230,248,255:7:13 10 -> 0 2 3 6 7 8 12 none none none by number
 
-use super::helpers::{bits, bits_of, found, same};
-use bytes::Bytes;
-use mask_bits::{BitBuffer, BitIterator};
-use std::alloc::Global;
-use std::process::Abort;
+# Bits of a byte.
+bits.buffer bytes:166:0:3 -> 011 at 0 of 166
+bits.buffer bytes:166:2:6 -> 100101 at 2 of 166
+bits.buffer bytes:128:7:1 -> 1 at 7 of 128
+bits.buffer bytes:128:8:0 -> - at 8 of 128
 
-// The buffer's values, by `len` and `value`, are those of a text of `0` and `1`.
-fn lists(rt: &impl Abort, buffer: &BitBuffer, want: &str) {
-    let want = want.as_bytes();
-    same(rt, buffer.len(), want.len());
-    for (i, digit) in want.iter().enumerate() {
-        assert!(rt; i < buffer.len());
-        assert!(rt; buffer.value(i) == (*digit == b'1'), "value {i}");
-    }
-    assert!(rt; buffer.is_empty() == want.is_empty());
-}
+# From indices in any order, with repeats, and from the values themselves.
+bits.from_indices 12 9,0,9,11 -> 100000000101
+bits.from_bools 100000000101 -> 100000000101
+bits.is_empty true:12:9,0,9,11 -> false
+bits.len true:12:9,0,9,11 -> 12
+bits.set_indices true:12:9,0,9,11 -> indices 0 9 11
+bits.indices true:12:9,0,9,11 -> 0,9,11
+bits.true_count true:12:9,0,9,11 -> 3
+bits.last_set_index true:12:9,0,9,11 -> 11
+bits.select_each true:12:9,0,9,11 10 -> 0 9 11 none none none none none none none by number
+bits.from_indices 0 - -> -
+bits.from_bools - -> -
+bits.is_empty true:0:- -> true
+bits.len true:0:- -> 0
+bits.set_indices true:0:- -> indices
+bits.indices true:0:- -> -
+bits.true_count true:0:- -> 0
+bits.last_set_index true:0:- -> none
+bits.select_each true:0:- 10 -> none none none none none none none none none none by number
+bits.from_indices 3 - -> 000
+bits.from_bools 000 -> 000
+bits.is_empty true:3:- -> false
+bits.len true:3:- -> 3
+bits.set_indices true:3:- -> indices
+bits.indices true:3:- -> -
+bits.true_count true:3:- -> 0
+bits.last_set_index true:3:- -> none
+bits.select_each true:3:- 10 -> none none none none none none none none none none by number
+bits.from_indices 13 - -> 0000000000000
+bits.from_bools 0000000000000 -> 0000000000000
+bits.is_empty true:13:- -> false
+bits.len true:13:- -> 13
+bits.set_indices true:13:- -> indices
+bits.indices true:13:- -> -
+bits.true_count true:13:- -> 0
+bits.last_set_index true:13:- -> none
+bits.select_each true:13:- 10 -> none none none none none none none none none none by number
+bits.from_indices 13 0,2,3,6,7,8,12 -> 1011001110001
+bits.from_bools 1011001110001 -> 1011001110001
+bits.is_empty true:13:0,2,3,6,7,8,12 -> false
+bits.len true:13:0,2,3,6,7,8,12 -> 13
+bits.set_indices true:13:0,2,3,6,7,8,12 -> indices 0 2 3 6 7 8 12
+bits.indices true:13:0,2,3,6,7,8,12 -> 0,2,3,6,7,8,12
+bits.true_count true:13:0,2,3,6,7,8,12 -> 7
+bits.last_set_index true:13:0,2,3,6,7,8,12 -> 12
+bits.select_each true:13:0,2,3,6,7,8,12 10 -> 0 2 3 6 7 8 12 none none none by number
 
-// The buffer's true values, by each call that tells their indices, are these.
-fn has_indices(rt: &impl Abort, alloc: Global, buffer: &BitBuffer, want: &[usize]) {
-    let walked: Vec<usize> = found(rt, buffer.set_indices().collect(alloc));
-    assert!(rt; walked.as_slice() == want);
-    let true_count = buffer.true_count();
-    same(rt, true_count, want.len());
-    let listed = found(rt, buffer.indices(alloc, true_count));
-    assert!(rt; listed.as_slice() == want);
-    assert!(rt; buffer.last_set_index() == want.last().copied());
-    for n in 0..10usize {
-        assert!(rt; buffer.select(n) == want.get(n).copied(), "select {n}");
-    }
-}
+# False values.
+bits.new_unset 13 -> 0000000000000
+bits.set_indices none:13 -> indices
+bits.indices none:13 -> -
+bits.true_count none:13 -> 0
+bits.last_set_index none:13 -> none
+bits.select_each none:13 10 -> none none none none none none none none none none by number
 
-// The buffer stands at this bit offset of these bytes.
-fn is_backed_by(rt: &impl Abort, buffer: &BitBuffer, offset: usize, bytes: &[u8]) {
-    same(rt, buffer.offset(), offset);
-    assert!(rt; buffer.inner().as_slice() == bytes);
-}
+# 10110, of bits 2 to 6 of two bytes.
+bits.slice bytes:180,255:2:5 0 5 -> 10110 at 2 of 180 255
+bits.slice bytes:180,255:2:5 1 5 -> 0110 at 3 of 180 255
+bits.slice bytes:180,255:2:5 5 5 -> - at 7 of 180 255
 
-// 13 values, lowest bit first.
-const PATTERN: u32 = 0b1_0001_1100_1101;
+# Equal where the lists are.
+bits.equal bytes:180,255:2:5 10110 -> true
+bits.equal bytes:180,255:2:5 10111 -> false
+bits.equal bytes:180,255:2:5 0110 -> false
+bits.equal bytes:180,255:2:5 101100 -> false
 
-const PATTERN_TEXT: &str = "1011001110001";
+# Runs and counts of two bytes.
+bits.set_indices bytes:180,255:2:5 -> indices 0 2 3
+bits.indices bytes:180,255:2:5 -> 0,2,3
+bits.true_count bytes:180,255:2:5 -> 3
+bits.last_set_index bytes:180,255:2:5 -> 3
+bits.select_each bytes:180,255:2:5 10 -> 0 2 3 none none none none none none none by number
+bits.set_slices bytes:180,255:2:5 -> ranges 0..1 2..4
+bits.count_range bytes:180,255:2:5 1 3 -> 1
 
-const PATTERN_INDICES: [usize; 7] = [0, 2, 3, 6, 7, 8, 12];
+# From bit 3 on of 208 bits: also over the ends of words, and at the last value.
+bits.set_slices part:3:true:208:66,67,68 -> ranges 63..66
+bits.set_slices part:3:true:208:65,67,130 -> ranges 62..63 64..65 127..128
+bits.set_slices part:3:true:208:3,207 -> ranges 0..1 204..205
+bits.set_slices part:3:true:208:- -> ranges
 
-// The pattern at a bit offset, with those of `outside` for all bits before and after it, and a copy.
-fn pattern_reads(rt: &impl Abort, alloc: Global, offset: u32, outside: u32)
-    requires { offset < 8 }
-{
-    let inside = ((1 << 13) - 1) << offset;
-    let bytes = ((outside & !inside) | (PATTERN << offset)).to_le_bytes();
-    let (start, end) = (offset as usize, offset as usize + 13);
-    let buffer = bits(rt, alloc, &bytes, start, end);
-    pattern_is_read(rt, alloc, &buffer, start, &bytes);
-    let copy = found(rt, buffer.clone());
-    pattern_is_read(rt, alloc, &copy, start, &bytes);
-}
+# The iterator says what is left.
+bits.iter bytes:180,255:2:5 -> 5:1 4:0 3:1 2:1 1:0 00
 
-fn pattern_is_read(
-    rt: &impl Abort,
-    alloc: Global,
-    buffer: &BitBuffer,
-    offset: usize,
-    bytes: &[u8],
-) {
-    is_backed_by(rt, buffer, offset, bytes);
-    lists(rt, buffer, PATTERN_TEXT);
-    has_indices(rt, alloc, buffer, &PATTERN_INDICES);
-}
-
-fn pattern_at_each_offset(rt: &impl Abort, alloc: Global) {
-    for offset in 0..8u32 {
-        pattern_reads(rt, alloc, offset, 0);
-        pattern_reads(rt, alloc, offset, u32::MAX);
-    }
-}
+# Whole words, each with how many are left before it, and by its number; what is left after them; and started
+# words.
+bits.words all:130 -> 2:18446744073709551615 1:18446744073709551615 0 of 2 18446744073709551615 \
+18446744073709551615 rest 2 3
+bits.padded all:130 -> 3:18446744073709551615 2:18446744073709551615 1:3 0
+bits.true_count all:130 -> 130
+bits.words all:64 -> 1:18446744073709551615 0 of 1 18446744073709551615 rest 0 0
+bits.padded all:64 -> 1:18446744073709551615 0
+bits.true_count all:64 -> 64
+bits.words all:63 -> 0 of 0 rest 63 9223372036854775807
+bits.padded all:63 -> 1:9223372036854775807 0
+bits.true_count all:63 -> 63
+bits.words all:0 -> 0 of 0 rest 0 0
+bits.padded all:0 -> 0
+bits.true_count all:0 -> 0
+bits.words bytes:180,255:2:5 -> 0 of 0 rest 5 13
+bits.padded bytes:180,255:2:5 -> 1:13 0
+bits.words none:130 -> 2:0 1:0 0 of 2 0 0 rest 2 0
+bits.padded none:130 -> 3:0 2:0 1:0 0
+bits.words none:128 -> 2:0 1:0 0 of 2 0 0 rest 0 0
+bits.padded none:128 -> 2:0 1:0 0";
 
 #[test]
-fn every_offset_reads_its_own_bits(rt: HostRuntime) {
-    pattern_at_each_offset(&rt, rt.alloc());
-}
-
-// One byte's bits from `start` to `end`.
-fn bytes_list(rt: &impl Abort, alloc: Global, rows: &[(u8, usize, usize, &str)]) {
-    for (byte, start, end, want) in rows {
-        lists(rt, &bits(rt, alloc, &[*byte], *start, *end), want);
-    }
-}
-
-#[test]
-fn bits_of_a_byte(rt: HostRuntime) {
-    const ROWS: [(u8, usize, usize, &str); 4] = [
-        (0b1010_0110, 0, 3, "011"),
-        (0b1010_0110, 2, 8, "100101"),
-        (0x80, 7, 8, "1"),
-        (0x80, 8, 8, ""),
-    ];
-    bytes_list(&rt, rt.alloc(), &ROWS);
-}
-
-fn true_at(rt: &impl Abort, alloc: Global, len: usize, indices: &[usize]) -> BitBuffer {
-    assert!(rt; indices.iter().all(|i| *i < len));
-    found(rt, BitBuffer::from_indices(alloc, len, indices))
-}
-
-// From indices in any order, with repeats, and from the values themselves.
-fn makes(rt: &impl Abort, alloc: Global, rows: &[(&[usize], &str, &[usize])]) {
-    for (indices, want, sorted) in rows {
-        let buffer = true_at(rt, alloc, want.len(), indices);
-        lists(rt, &buffer, want);
-        has_indices(rt, alloc, &buffer, sorted);
-        lists(rt, &bits_of(rt, alloc, want), want);
-    }
-}
-
-#[test]
-fn made_from_indices_and_values(rt: HostRuntime) {
-    const ROWS: [(&[usize], &str, &[usize]); 5] = [
-        (&[9, 0, 9, 11], "100000000101", &[0, 9, 11]),
-        (&[], "", &[]),
-        (&[], "000", &[]),
-        (&[], "0000000000000", &[]),
-        (&PATTERN_INDICES, PATTERN_TEXT, &PATTERN_INDICES),
-    ];
-    makes(&rt, rt.alloc(), &ROWS);
-}
-
-fn all_unset(rt: &impl Abort, alloc: Global) {
-    let unset = found(rt, BitBuffer::new_unset(alloc, 13));
-    lists(rt, &unset, "0000000000000");
-    has_indices(rt, alloc, &unset, &[]);
-}
-
-#[test]
-fn false_values(rt: HostRuntime) {
-    all_unset(&rt, rt.alloc());
-}
-
-// ---- parts
-
-fn slice(rt: &impl Abort, buffer: &BitBuffer, start: usize, end: usize) -> BitBuffer {
-    assert!(rt; start <= end && end <= buffer.len());
-    found(rt, buffer.slice(start, end))
-}
-
-// Bits 2 to 6 of two bytes: 10110.
-fn five_bits(rt: &impl Abort, alloc: Global) -> BitBuffer {
-    let bytes = found(rt, Bytes::copy_from_slice(alloc, &[0xB4, 0xFF]));
-    assert!(rt; bytes.len() == 2);
-    slice(rt, &BitBuffer::new(bytes, 16), 2, 7)
-}
-
-fn slices(rt: &impl Abort, alloc: Global, rows: &[(usize, usize, usize, &str)]) {
-    for (start, end, offset, want) in rows {
-        let part = slice(rt, &five_bits(rt, alloc), *start, *end);
-        is_backed_by(rt, &part, *offset, &[0xB4, 0xFF]);
-        lists(rt, &part, want);
-    }
-}
-
-#[test]
-fn slices_of_two_bytes(rt: HostRuntime) {
-    const ROWS: [(usize, usize, usize, &str); 3] = [
-        (0, 5, 2, "10110"),
-        (1, 5, 3, "0110"),
-        (5, 5, 7, ""),
-    ];
-    slices(&rt, rt.alloc(), &ROWS);
-}
-
-fn compares(rt: &impl Abort, alloc: Global, rows: &[(&str, bool)]) {
-    for (text, want) in rows {
-        let (five, other) = (five_bits(rt, alloc), bits_of(rt, alloc, text));
-        assert!(rt; (five == other) == *want);
-    }
-}
-
-#[test]
-fn equal_where_the_lists_are(rt: HostRuntime) {
-    const ROWS: [(&str, bool); 4] = [
-        ("10110", true),
-        ("10111", false),
-        ("0110", false),
-        ("101100", false),
-    ];
-    compares(&rt, rt.alloc(), &ROWS);
-}
-
-fn has_runs(rt: &impl Abort, alloc: Global, buffer: &BitBuffer, want: &[(usize, usize)]) {
-    let runs: Vec<(usize, usize)> = found(rt, buffer.set_slices().collect(alloc));
-    assert!(rt; runs.as_slice() == want);
-}
-
-fn runs_and_counts(rt: &impl Abort, alloc: Global) {
-    let five = five_bits(rt, alloc);
-    has_indices(rt, alloc, &five, &[0, 2, 3]);
-    has_runs(rt, alloc, &five, &[(0, 1), (2, 4)]);
-    assert!(rt; five.len() == 5);
-    same(rt, five.count_range(1, 3), 1);
-}
-
-#[test]
-fn runs_and_counts_of_two_bytes(rt: HostRuntime) {
-    runs_and_counts(&rt, rt.alloc());
-}
-
-// The runs from bit 3 on of 208 bits, true at these: also over the ends of words, and at the last value.
-fn has_each_runs(rt: &impl Abort, alloc: Global, rows: &[(&[usize], &[(usize, usize)])]) {
-    for (indices, want) in rows {
-        let all = true_at(rt, alloc, 208, indices);
-        has_runs(rt, alloc, &slice(rt, &all, 3, 208), want);
-    }
-}
-
-#[test]
-fn runs_over_the_ends_of_words(rt: HostRuntime) {
-    const ROWS: [(&[usize], &[(usize, usize)]); 4] = [
-        (&[66, 67, 68], &[(63, 66)]),
-        (&[65, 67, 130], &[(62, 63), (64, 65), (127, 128)]),
-        (&[3, 207], &[(0, 1), (204, 205)]),
-        (&[], &[]),
-    ];
-    has_each_runs(&rt, rt.alloc(), &ROWS);
-}
-
-// ---- the values one by one
-
-// What an iterator has left, and what it gives next.
-fn has_left(rt: &impl Abort, bits: &mut BitIterator<'_>, left: usize, next: Option<bool>) {
-    assert!(rt; bits.size_hint() == (left, Some(left)));
-    same(rt, bits.len(), left);
-    assert!(rt; bits.next() == next);
-}
-
-fn says_what_is_left(rt: &impl Abort, buffer: &BitBuffer, rows: &[(usize, Option<bool>)]) {
-    let mut bits = buffer.iter();
-    for (left, next) in rows {
-        has_left(rt, &mut bits, *left, *next);
-    }
-}
-
-#[test]
-fn the_iterator_says_what_is_left(rt: HostRuntime) {
-    const ROWS: [(usize, Option<bool>); 7] = [
-        (5, Some(true)),
-        (4, Some(false)),
-        (3, Some(true)),
-        (2, Some(true)),
-        (1, Some(false)),
-        (0, None),
-        (0, None),
-    ];
-    says_what_is_left(&rt, &five_bits(&rt, rt.alloc()), &ROWS);
+fn rows(rt: HostRuntime) {
+    answer_rows(&rt, rt.alloc(), 284, ROWS);
 }

@@ -1,56 +1,33 @@
 // `density`, and fractions.
-use super::helpers::{MAX, Of, mask};
-use std::alloc::Global;
-use std::process::Abort;
-use vortex_mask::Fraction;
+use crate::rows::helpers::answer_rows;
 
-fn densities(rt: &impl Abort, alloc: Global, rows: &[(Of, usize, usize)]) {
-    for (of, num, den) in rows {
-        let (num, den) = (*num, *den);
-        assert!(rt; mask(rt, alloc, *of).density() == Fraction { num, den });
-    }
-}
+const ROWS: &str = "\
+# Densities of masks.
+density all:0 -> 1/1
+density none:0 -> 0/1
+density all:7 -> 1/1
+density none:7 -> 0/1
+density,values.density 10110 -> 3/5
+density,values.density 0101 -> 2/4
 
-#[test]
-fn densities_of_masks(rt: HostRuntime) {
-    const ROWS: [(Of, usize, usize); 6] = [
-        (Of::All(0), 1, 1),
-        (Of::None(0), 0, 1),
-        (Of::All(7), 1, 1),
-        (Of::None(7), 0, 1),
-        (Of::Text("10110"), 3, 5),
-        (Of::Text("0101"), 2, 4),
-    ];
-    densities(&rt, rt.alloc(), &ROWS);
-}
+# Compared by exact products.
+at_least 1/2 2/4 -> true
+at_least 3/5 3/5 -> true
+at_least 3/5 7/10 -> false
+at_least 0/1 0/max -> true
+at_least max/1 1/max -> true
+at_least 1/max max/1 -> false
+at_least max/max 1/1 -> true
+at_least 1/2 2/3 -> false
+at_least 2/3 1/2 -> true
+at_least 3/5 5/8 -> false
+at_least 5/8 3/5 -> true
 
-fn compares(rt: &impl Abort, rows: &[((usize, usize), (usize, usize), bool)]) {
-    for (a, b, want) in rows {
-        let (a, b) = (
-            Fraction { num: a.0, den: a.1 },
-            Fraction { num: b.0, den: b.1 },
-        );
-        assert!(rt; a.den > 0 && b.den > 0);
-        assert!(rt; a.at_least(b) == *want);
-    }
-}
+# Equal fractions have equal parts.
+equal_fractions 1/2 1/2 -> true
+equal_fractions 1/2 2/4 -> false";
 
 #[test]
-fn compared_by_exact_products(rt: HostRuntime) {
-    const ROWS: [((usize, usize), (usize, usize), bool); 7] = [
-        ((1, 2), (2, 4), true),
-        ((3, 5), (3, 5), true),
-        ((3, 5), (7, 10), false),
-        ((0, 1), (0, MAX), true),
-        ((MAX, 1), (1, MAX), true),
-        ((1, MAX), (MAX, 1), false),
-        ((MAX, MAX), (1, 1), true),
-    ];
-    compares(&rt, &ROWS);
-}
-
-#[test]
-fn equal_fractions_have_equal_parts(rt: HostRuntime) {
-    let (half, quarters) = (Fraction { num: 1, den: 2 }, Fraction { num: 2, den: 4 });
-    assert!(rt; half == half && half != quarters);
+fn rows(rt: HostRuntime) {
+    answer_rows(&rt, rt.alloc(), 19, ROWS);
 }

@@ -1,112 +1,39 @@
 // `intersect_by_rank` and its other forms. The kernels and the deposits have their rows in `mask_sweeps`.
+mod deposit;
 mod path;
 mod steps;
 
-use super::helpers::{MAX, Of, found, has, is, mask};
-use std::alloc::Global;
-use std::process::Abort;
-use vortex_mask::Mask;
-use vortex_mask::intersect_by_rank::Steps;
+use crate::rows::helpers::answer_rows;
 
-fn rank_intersection(rt: &impl Abort, alloc: Global, mask: &Mask, ranks: &Mask) -> Mask {
-    assert!(rt; ranks.len() == mask.true_count());
-    found(rt, mask.intersect_by_rank(alloc, ranks))
-}
+const ROWS: &str = "\
+# Bits around the ranks do not count. Of no values the variants decide, read as truth values and joined by
+# `and`.
+intersect_by_rank,counted_list 10011101 00101 -> 00001001 Values
+intersect_by_rank,counted_list 1111 0110 -> 0110 Values
+intersect_by_rank,counted_list 0110 11 -> 0110 Values
+intersect_by_rank,counted_list 0110 00 -> 0000 AllFalse
+intersect_by_rank,counted_list - - -> - AllFalse
+intersect_by_rank,counted_list 000 - -> 000 AllFalse
+intersect_by_rank,counted_list none:4 all:0 -> 0000 AllFalse
+intersect_by_rank,counted_list 10011101 2+10110 -> 10001100 Values
+intersect_by_rank,counted_list 10011101 2-10110 -> 10001100 Values
+intersect_by_rank,counted_list all:0 all:0 -> - AllTrue
+intersect_by_rank,counted_list all:0 none:0 -> - AllFalse
+intersect_by_rank,counted_list none:0 all:0 -> - AllFalse
+intersect_by_rank,counted_list none:0 none:0 -> - AllFalse
 
-fn counted_rank_intersection(
-    rt: &impl Abort,
-    alloc: Global,
-    mask: &Mask,
-    ranks: &Mask,
-) -> (Mask, Steps) {
-    assert!(rt; ranks.len() == mask.true_count());
-    found(rt, mask.intersect_by_rank_counted(alloc, ranks))
-}
+# Bits behind a list do not count.
+mask 2+10110 -> 10110 Values
+mask 2-10110 -> 10110 Values
 
-type Row = (Of, Of, (&'static str, &'static str));
+# The longest.
+intersect_by_rank all:max none:max -> 0 of 18446744073709551615 AllFalse
+intersect_by_rank all:max all:max -> 18446744073709551615 of 18446744073709551615 AllTrue
 
-fn narrows(rt: &impl Abort, alloc: Global, rows: &[Row]) {
-    for (rows, ranks, want) in rows {
-        let (rows, ranks) = (mask(rt, alloc, *rows), mask(rt, alloc, *ranks));
-        is(rt, &rank_intersection(rt, alloc, &rows, &ranks), *want);
-        let (counted, _) = counted_rank_intersection(rt, alloc, &rows, &ranks);
-        is(rt, &counted, *want);
-    }
-}
+# Every third of many, of these every second, and of these every fifth.
+intersect_all_by_rank every:3:20000 every:2:6667 every:5:3334 -> 667 of 20000 Values";
 
 #[test]
-fn rank_intersections(rt: HostRuntime) {
-    const ROWS: [Row; 13] = [
-        (
-            Of::Text("10011101"),
-            Of::Text("00101"),
-            ("00001001", "Values"),
-        ),
-        (Of::Text("1111"), Of::Text("0110"), ("0110", "Values")),
-        (Of::Text("0110"), Of::Text("11"), ("0110", "Values")),
-        (Of::Text("0110"), Of::Text("00"), ("0000", "AllFalse")),
-        (Of::Text(""), Of::Text(""), ("", "AllFalse")),
-        (Of::Text("000"), Of::Text(""), ("000", "AllFalse")),
-        (Of::None(4), Of::All(0), ("0000", "AllFalse")),
-        // bits behind the ranks do not count
-        (
-            Of::Text("10011101"),
-            Of::AtOffset(0xFF),
-            ("10001100", "Values"),
-        ),
-        (
-            Of::Text("10011101"),
-            Of::AtOffset(0x00),
-            ("10001100", "Values"),
-        ),
-        // of no values: as the variants say, read as truth values and joined by `and`
-        (Of::All(0), Of::All(0), ("", "AllTrue")),
-        (Of::All(0), Of::None(0), ("", "AllFalse")),
-        (Of::None(0), Of::All(0), ("", "AllFalse")),
-        (Of::None(0), Of::None(0), ("", "AllFalse")),
-    ];
-    narrows(&rt, rt.alloc(), &ROWS);
-}
-
-fn ranks_at_an_offset(rt: &impl Abort, alloc: Global) {
-    for second in [0xFF, 0x00] {
-        let ranks = mask(rt, alloc, Of::AtOffset(second));
-        is(rt, &ranks, ("10110", "Values"));
-    }
-}
-
-#[test]
-fn bits_behind_a_list_do_not_count(rt: HostRuntime) {
-    ranks_at_an_offset(&rt, rt.alloc());
-}
-
-fn narrows_the_longest(rt: &impl Abort, alloc: Global) {
-    let all = Mask::new_true(MAX);
-    let by_none = rank_intersection(rt, alloc, &all, &Mask::new_false(MAX));
-    has(rt, &by_none, (MAX, 0, "AllFalse"));
-    let by_all = rank_intersection(rt, alloc, &all, &Mask::new_true(MAX));
-    has(rt, &by_all, (MAX, MAX, "AllTrue"));
-}
-
-#[test]
-fn the_longest(rt: HostRuntime) {
-    narrows_the_longest(&rt, rt.alloc());
-}
-
-// Every third of many, of these every second, and of these every fifth.
-fn narrows_by_all(rt: &impl Abort, alloc: Global) {
-    let first = mask(rt, alloc, Of::OneIn(20_000, 3));
-    let rest = [
-        mask(rt, alloc, Of::OneIn(6_667, 2)),
-        mask(rt, alloc, Of::OneIn(3_334, 5)),
-    ];
-    assert!(rt; rest[0].len() == first.true_count());
-    assert!(rt; rest[1].len() == rest[0].true_count());
-    let result = found(rt, first.intersect_all_by_rank(alloc, &rest));
-    has(rt, &result, (20_000, 667, "Values"));
-}
-
-#[test]
-fn by_a_stack(rt: HostRuntime) {
-    narrows_by_all(&rt, rt.alloc());
+fn rows(rt: HostRuntime) {
+    answer_rows(&rt, rt.alloc(), 18, ROWS);
 }

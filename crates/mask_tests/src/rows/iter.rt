@@ -1,50 +1,32 @@
-// The values of a mask, one by one.
-use super::helpers::{Of, found, lists, mask, same};
-use std::alloc::Global;
-use std::process::Abort;
-use vortex_mask::Mask;
+// The values of a mask, one by one: each with how many are left before it.
+use crate::rows::helpers::answer_rows;
 
-// What comes out, and how much is told to be left before and after each step.
-fn yields(rt: &impl Abort, mask: &Mask, want: &str) {
-    let mut values = mask.iter();
-    let mut left = want.len();
-    for digit in want.as_bytes() {
-        assert!(rt; left > 0 && values.size_hint() == (left, Some(left)));
-        assert!(rt; values.next() == Some(*digit == b'1'));
-        left -= 1;
-    }
-    same(rt, values.len(), 0);
-    assert!(rt; values.next().is_none());
-}
+const ROWS: &str = "\
+# Values of masks.
+iter 10110 -> 5:1 4:0 3:1 2:1 1:0 0
+iter 00101 -> 5:0 4:0 3:1 2:0 1:1 0
+iter 01 -> 2:0 1:1 0
+iter 111 -> 3:1 2:1 1:1 0
+iter 000 -> 3:0 2:0 1:0 0
+iter - -> 0
+iter all:3 -> 3:1 2:1 1:1 0
+iter none:3 -> 3:0 2:0 1:0 0
+iter all:0 -> 0
+iter none:0 -> 0
 
-// A mask of the values that another one yields has its list.
-fn is_made_again(rt: &impl Abort, alloc: Global, mask: &Mask, want: &str) {
-    let again = found(rt, Mask::from_bools(alloc, mask.iter()));
-    lists(rt, &again, want);
-    assert!(rt; again == *mask);
-}
-
-fn yields_rows(rt: &impl Abort, alloc: Global, rows: &[(Of, &str)]) {
-    for (of, want) in rows {
-        let mask = mask(rt, alloc, *of);
-        yields(rt, &mask, want);
-        is_made_again(rt, alloc, &mask, want);
-    }
-}
+# Masks of what masks yield.
+from_bools 10110 -> 10110 Values
+from_bools 00101 -> 00101 Values
+from_bools 01 -> 01 Values
+from_bools 111 -> 111 AllTrue
+from_bools 000 -> 000 AllFalse
+from_bools - -> - AllFalse
+from_bools all:3 -> 111 AllTrue
+from_bools none:3 -> 000 AllFalse
+from_bools all:0 -> - AllFalse
+from_bools none:0 -> - AllFalse";
 
 #[test]
-fn values_of_masks(rt: HostRuntime) {
-    const ROWS: [(Of, &str); 10] = [
-        (Of::Text("10110"), "10110"),
-        (Of::Text("00101"), "00101"),
-        (Of::Text("01"), "01"),
-        (Of::Text("111"), "111"),
-        (Of::Text("000"), "000"),
-        (Of::Text(""), ""),
-        (Of::All(3), "111"),
-        (Of::None(3), "000"),
-        (Of::All(0), ""),
-        (Of::None(0), ""),
-    ];
-    yields_rows(&rt, rt.alloc(), &ROWS);
+fn rows(rt: HostRuntime) {
+    answer_rows(&rt, rt.alloc(), 20, ROWS);
 }

@@ -1,77 +1,40 @@
 // The first true values of masks.
-use super::helpers::{Lists, MAX, Of, caches, found, has, is, lists, mask, same};
-use std::alloc::Global;
-use std::process::Abort;
-use vortex_mask::Mask;
+use crate::rows::helpers::answer_rows;
 
-fn limit(rt: &impl Abort, alloc: Global, of: Of, k: usize) -> Mask {
-    found(rt, mask(rt, alloc, of).limit(alloc, k))
-}
+const ROWS: &str = "\
+# Limits of masks.
+limit,to_limited 01101 0 -> 00000 AllFalse
+limit,to_limited 01101 1 -> 01000 Values
+limit,to_limited 01101 2 -> 01100 Values
+limit,to_limited 01101 3 -> 01101 Values
+limit,to_limited 01101 9 -> 01101 Values
+limit,to_limited 01101 max -> 01101 Values
+limit,to_limited all:5 0 -> 00000 AllFalse
+limit,to_limited all:5 2 -> 11000 Values
+limit,to_limited all:5 5 -> 11111 AllTrue
+limit,to_limited none:5 0 -> 00000 AllFalse
+limit,to_limited none:5 3 -> 00000 AllFalse
+limit,to_limited all:0 0 -> - AllTrue
+limit,to_limited none:0 1 -> - AllFalse
 
-fn limits(rt: &impl Abort, alloc: Global, rows: &[(Of, usize, (&str, &str))]) {
-    for (of, k, want) in rows {
-        is(rt, &limit(rt, alloc, *of, *k), *want);
-    }
-}
+# Long limits.
+limit,to_limited every:3:20000 101 -> 101 of 20000 Values
+limit,to_limited all:max 0 -> 0 of 18446744073709551615 AllFalse
+limit,to_limited none:max 0 -> 0 of 18446744073709551615 AllFalse
+limit,to_limited all:max max -> 18446744073709551615 of 18446744073709551615 AllTrue
+limit,to_limited none:max max -> 0 of 18446744073709551615 AllFalse
 
-#[test]
-fn limits_of_masks(rt: HostRuntime) {
-    const ROWS: [(Of, usize, (&str, &str)); 13] = [
-        (Of::Text("01101"), 0, ("00000", "AllFalse")),
-        (Of::Text("01101"), 1, ("01000", "Values")),
-        (Of::Text("01101"), 2, ("01100", "Values")),
-        (Of::Text("01101"), 3, ("01101", "Values")),
-        (Of::Text("01101"), 9, ("01101", "Values")),
-        (Of::Text("01101"), MAX, ("01101", "Values")),
-        (Of::All(5), 0, ("00000", "AllFalse")),
-        (Of::All(5), 2, ("11000", "Values")),
-        (Of::All(5), 5, ("11111", "AllTrue")),
-        (Of::None(5), 0, ("00000", "AllFalse")),
-        (Of::None(5), 3, ("00000", "AllFalse")),
-        (Of::All(0), 0, ("", "AllTrue")),
-        (Of::None(0), 1, ("", "AllFalse")),
-    ];
-    limits(&rt, rt.alloc(), &ROWS);
-}
+# The hundredth true value of every third is at 297.
+limit,to_limited every:3:20000 100 -> 20000:0,3,6,9,12,15,18,21,24,27,30,33,36,39,42,45,48,51,54,57,60,63,\
+66,69,72,75,78,81,84,87,90,93,96,99,102,105,108,111,114,117,120,123,126,129,132,135,138,141,144,147,150,153,\
+156,159,162,165,168,171,174,177,180,183,186,189,192,195,198,201,204,207,210,213,216,219,222,225,228,231,234,\
+237,240,243,246,249,252,255,258,261,264,267,270,273,276,279,282,285,288,291,294,297 Values
 
-fn limits_long(rt: &impl Abort, alloc: Global, rows: &[(Of, usize, (usize, usize, &str))]) {
-    for (of, k, want) in rows {
-        has(rt, &limit(rt, alloc, *of, *k), *want);
-    }
-}
+# Cached lists of limits.
+limit,to_limited 5:1,3 2 -> 01010 Values indices 1,3
+limit,to_limited 5:1,3 1 -> 01000 Values";
 
 #[test]
-fn long_limits(rt: HostRuntime) {
-    const ROWS: [(Of, usize, (usize, usize, &str)); 5] = [
-        (Of::OneIn(20_000, 3), 100, (20_000, 100, "Values")),
-        (Of::All(MAX), 0, (MAX, 0, "AllFalse")),
-        (Of::None(MAX), 0, (MAX, 0, "AllFalse")),
-        (Of::All(MAX), MAX, (MAX, MAX, "AllTrue")),
-        (Of::None(MAX), MAX, (MAX, 0, "AllFalse")),
-    ];
-    limits_long(&rt, rt.alloc(), &ROWS);
-}
-
-// The hundredth true value of every third is at 297.
-fn last_of_a_limit(rt: &impl Abort, alloc: Global) {
-    let front = limit(rt, alloc, Of::OneIn(20_000, 3), 100);
-    assert!(rt; front.true_count() == 100);
-    same(rt, front.rank(99), 297);
-}
-
-#[test]
-fn the_last_value_of_a_limit(rt: HostRuntime) {
-    last_of_a_limit(&rt, rt.alloc());
-}
-
-fn limits_with_lists(rt: &impl Abort, alloc: Global, k: usize, list: &str, want: Lists<'_>) {
-    let front = limit(rt, alloc, Of::Indices(5, &[1, 3]), k);
-    lists(rt, &front, list);
-    caches(rt, &front, want);
-}
-
-#[test]
-fn cached_lists_of_limits(rt: HostRuntime) {
-    limits_with_lists(&rt, rt.alloc(), 2, "01010", (Some(&[1, 3]), None));
-    limits_with_lists(&rt, rt.alloc(), 1, "01000", (None, None));
+fn rows(rt: HostRuntime) {
+    answer_rows(&rt, rt.alloc(), 21, ROWS);
 }

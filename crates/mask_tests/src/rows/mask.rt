@@ -1,210 +1,112 @@
 // Masks by `new` and of lists: variants, counts, ranks, equality, texts, `clear`.
-use super::helpers::{MAX, Of, clone, has_debug_text, is, is_lent_as, mask, same};
-use std::alloc::Global;
-use std::process::Abort;
-use vortex_mask::{Mask, MaskValues};
+use crate::rows::helpers::answer_rows;
 
-fn made_and_copied(rt: &impl Abort, alloc: Global, rows: &[(&'static str, &str)]) {
-    for (text, variant) in rows {
-        let mask = mask(rt, alloc, Of::Text(text));
-        is(rt, &mask, (text, variant));
-        is(rt, &clone(rt, &mask), (text, variant));
-    }
-}
+const ROWS: &str = "\
+# One variant for each list.
+mask,clone - -> - AllFalse
+mask,clone 0 -> 0 AllFalse
+mask,clone 11 -> 11 AllTrue
+mask,clone 10 -> 10 Values
+mask,clone 000000000 -> 000000000 AllFalse
+mask,clone 111111111 -> 111111111 AllTrue
+mask,clone 111111110 -> 111111110 Values
 
-#[test]
-fn one_variant_for_each_list(rt: HostRuntime) {
-    const ROWS: [(&str, &str); 7] = [
-        ("", "AllFalse"),
-        ("0", "AllFalse"),
-        ("11", "AllTrue"),
-        ("10", "Values"),
-        ("000000000", "AllFalse"),
-        ("111111111", "AllTrue"),
-        ("111111110", "Values"),
-    ];
-    made_and_copied(&rt, rt.alloc(), &ROWS);
-}
+# Variants of constructors.
+new 3 1 -> 111 AllTrue
+new 3 0 -> 000 AllFalse
+new_true 3 -> 111 AllTrue
+new_false 3 -> 000 AllFalse
+default 0 -> - AllTrue
 
-// Takes the mask by value: the test then holds none while it makes the next.
-fn has_variant(rt: &impl Abort, mask: Mask, list: &str, variant: &str) {
-    is(rt, &mask, (list, variant));
-}
+# What a mask holds.
+len 0110100 -> 7
+true_count 0110100 -> 3
+false_count 0110100 -> 4
+is_empty,all_true,all_false 0110100 -> false
+bit_buffer 0110100 -> Some 0110100
+debug_values 0110100 -> Some(true_count=3, len=7)
+len,true_count all:max -> 18446744073709551615
+false_count all:max -> 0
+is_empty,all_false all:max -> false
+all_true all:max -> true
+bit_buffer all:max -> All
+debug_values all:max -> None
+len,false_count none:5 -> 5
+true_count none:5 -> 0
+is_empty,all_true none:5 -> false
+all_false none:5 -> true
+bit_buffer none:5 -> None
+debug_values none:5 -> None
+len,true_count,false_count all:0 -> 0
+is_empty,all_true,all_false all:0 -> true
+bit_buffer all:0 -> All
+debug_values all:0 -> None
+len,true_count,false_count none:0 -> 0
+is_empty,all_true,all_false none:0 -> true
+bit_buffer none:0 -> None
+debug_values none:0 -> None
 
-#[test]
-fn variants_of_constructors(rt: HostRuntime) {
-    has_variant(&rt, Mask::new(3, true), "111", "AllTrue");
-    has_variant(&rt, Mask::new(3, false), "000", "AllFalse");
-    has_variant(&rt, Mask::default(), "", "AllTrue");
-}
+# True values by rank.
+rank 0110100 0 -> 1
+rank 0110100 1 -> 2
+rank 0110100 2 -> 4
+rank all:max max-1 -> 18446744073709551614
 
-// The counts of a mask, what follows from them, and how `bit_buffer` and `values` show it.
-fn counts(rt: &impl Abort, mask: &Mask, len: usize, true_count: usize) {
-    same(rt, mask.len(), len);
-    same(rt, mask.true_count(), true_count);
-    same(rt, mask.false_count(), len.saturating_sub(true_count));
-    assert!(rt; mask.is_empty() == (len == 0));
-    assert!(rt; mask.all_true() == (true_count == len));
-    assert!(rt; mask.all_false() == (true_count == 0));
-}
+# What the values of a mask hold.
+values.len 0110100 -> 7
+values.true_count 0110100 -> 3
+values.is_empty 0110100 -> false
+values.value 0110100 1 -> true
+values.value 0110100 0 -> false
+values.bit_buffer 0110100 -> 0110100
 
-fn holds_counts(rt: &impl Abort, alloc: Global, rows: &[(Of, (usize, usize), &str)]) {
-    for (of, (len, true_count), shown) in rows {
-        let mask = mask(rt, alloc, *of);
-        counts(rt, &mask, *len, *true_count);
-        is_lent_as(rt, mask.bit_buffer(), shown);
-        assert!(rt; mask.values().is_some() == (*shown == "Some"));
-    }
-}
+# First and last.
+first all:4 -> 0
+last all:4 -> 3
+first,last all:1 -> 0
+first,last all:0 -> none
+first,last none:4 -> none
+first,last none:0 -> none
+first 00101 -> 2
+last 00101 -> 4
+first 10110 -> 0
+last 10110 -> 3
+first,last 0010 -> 2
 
-#[test]
-fn what_a_mask_holds(rt: HostRuntime) {
-    const ROWS: [(Of, (usize, usize), &str); 5] = [
-        (Of::Text("0110100"), (7, 3), "Some"),
-        (Of::All(MAX), (MAX, MAX), "All"),
-        (Of::None(5), (5, 0), "None"),
-        (Of::All(0), (0, 0), "All"),
-        (Of::None(0), (0, 0), "None"),
-    ];
-    holds_counts(&rt, rt.alloc(), &ROWS);
-}
+# Equal lists, however they are held: at a bit offset with set or clear bits around, with lists cached, of
+# many values.
+equal,equal_swapped all:0 none:0 -> true
+equal,equal_swapped all:3 all:3 -> true
+equal,equal_swapped none:3 none:3 -> true
+equal,equal_swapped all:3 none:3 -> false
+equal,equal_swapped all:3 all:4 -> false
+equal,equal_swapped none:3 none:0 -> false
+equal,equal_swapped 2+10110 10110 -> true
+equal,equal_swapped 2+10110 10101 -> false
+equal,equal_swapped 2+10110 1011 -> false
+equal,equal_swapped 2+10110 101101 -> false
+equal,equal_swapped 2+10110 11111 -> false
+equal,equal_swapped 2+10110 00000 -> false
+equal,equal_swapped 2+10110 - -> false
+equal,equal_swapped 2+10110 2-10110 -> true
+equal,equal_swapped 5:1,3 01010 -> true
+equal,equal_swapped 8:1..3,3..4,6..8 01110011 -> true
+equal,equal_swapped every:3:20000 every:3:20000 -> true
+equal,equal_swapped every:3:20000 every:2:20000 -> false
+equal,equal_swapped 2+10110 2+10110 -> true
+equal,equal_swapped 2-10110 10110 -> true
 
-fn ranks(rt: &impl Abort, alloc: Global, rows: &[(Of, usize, usize)]) {
-    for (of, n, want) in rows {
-        let mask = mask(rt, alloc, *of);
-        assert!(rt; *n < mask.true_count());
-        same(rt, mask.rank(*n), *want);
-    }
-}
+# Texts.
+debug all:3 -> All true(3)
+debug none:0 -> All false(0)
+debug,values.debug 10110 -> true_count=3, len=5
+debug_values 10110 -> Some(true_count=3, len=5)
 
-#[test]
-fn true_values_by_rank(rt: HostRuntime) {
-    const ROWS: [(Of, usize, usize); 4] = [
-        (Of::Text("0110100"), 0, 1),
-        (Of::Text("0110100"), 1, 2),
-        (Of::Text("0110100"), 2, 4),
-        (Of::All(MAX), MAX - 1, MAX - 1),
-    ];
-    ranks(&rt, rt.alloc(), &ROWS);
-}
-
-// The values inside a mask of 0110100.
-fn has_values(rt: &impl Abort, values: &MaskValues) {
-    same(rt, values.len(), 7);
-    same(rt, values.true_count(), 3);
-    assert!(rt; !values.is_empty());
-    assert!(rt; values.len() == 7 && values.value(1) && !values.value(0));
-    assert!(rt; values.bit_buffer().select(0) == Some(1));
-}
-
-fn values_of_a_mask(rt: &impl Abort, alloc: Global) {
-    match mask(rt, alloc, Of::Text("0110100")).values() {
-        Some(values) => has_values(rt, values),
-        None => panic!(rt; "these values are mixed"),
-    }
-}
-
-#[test]
-fn what_the_values_of_a_mask_hold(rt: HostRuntime) {
-    values_of_a_mask(&rt, rt.alloc());
-}
-
-fn ends_at(rt: &impl Abort, alloc: Global, rows: &[(Of, Option<usize>, Option<usize>)]) {
-    for (of, first, last) in rows {
-        let mask = mask(rt, alloc, *of);
-        assert!(rt; mask.first() == *first && mask.last() == *last);
-    }
-}
+# Clear leaves no values.
+clear 5:1,3 -> done then - AllFalse
+clear all:3 -> done then - AllFalse";
 
 #[test]
-fn first_and_last(rt: HostRuntime) {
-    const ROWS: [(Of, Option<usize>, Option<usize>); 8] = [
-        (Of::All(4), Some(0), Some(3)),
-        (Of::All(1), Some(0), Some(0)),
-        (Of::All(0), None, None),
-        (Of::None(4), None, None),
-        (Of::None(0), None, None),
-        (Of::Text("00101"), Some(2), Some(4)),
-        (Of::Text("10110"), Some(0), Some(3)),
-        (Of::Text("0010"), Some(2), Some(2)),
-    ];
-    ends_at(&rt, rt.alloc(), &ROWS);
-}
-
-fn compares(rt: &impl Abort, alloc: Global, rows: &[(Of, Of, bool)]) {
-    for (a, b, want) in rows {
-        let (a, b) = (mask(rt, alloc, *a), mask(rt, alloc, *b));
-        assert!(rt; (a == b) == *want && (b == a) == *want);
-    }
-}
-
-#[test]
-fn equal_by_length_and_list(rt: HostRuntime) {
-    const ROWS: [(Of, Of, bool); 20] = [
-        (Of::All(0), Of::None(0), true),
-        (Of::All(3), Of::All(3), true),
-        (Of::None(3), Of::None(3), true),
-        (Of::All(3), Of::None(3), false),
-        (Of::All(3), Of::All(4), false),
-        (Of::None(3), Of::None(0), false),
-        // 10110 at a bit offset, with set bits past it
-        (Of::AtOffset(0xFF), Of::Text("10110"), true),
-        (Of::AtOffset(0xFF), Of::Text("10101"), false),
-        (Of::AtOffset(0xFF), Of::Text("1011"), false),
-        (Of::AtOffset(0xFF), Of::Text("101101"), false),
-        (Of::AtOffset(0xFF), Of::Text("11111"), false),
-        (Of::AtOffset(0xFF), Of::Text("00000"), false),
-        (Of::AtOffset(0xFF), Of::Text(""), false),
-        (Of::AtOffset(0xFF), Of::AtOffset(0x00), true),
-        // lists that are cached do not count
-        (Of::Indices(5, &[1, 3]), Of::Text("01010"), true),
-        (
-            Of::Ranges(8, &[(1, 3), (3, 4), (6, 8)]),
-            Of::Text("01110011"),
-            true,
-        ),
-        (Of::OneIn(20_000, 3), Of::OneIn(20_000, 3), true),
-        (Of::OneIn(20_000, 3), Of::OneIn(20_000, 2), false),
-        (Of::AtOffset(0xFF), Of::AtOffset(0xFF), true),
-        (Of::AtOffset(0x00), Of::Text("10110"), true),
-    ];
-    compares(&rt, rt.alloc(), &ROWS);
-}
-
-fn prints(rt: &impl Abort, alloc: Global, rows: &[(Of, &str)]) {
-    for (of, want) in rows {
-        has_debug_text(rt, alloc, &mask(rt, alloc, *of), want);
-    }
-}
-
-#[test]
-fn texts(rt: HostRuntime) {
-    const ROWS: [(Of, &str); 3] = [
-        (Of::All(3), "All true(3)"),
-        (Of::None(0), "All false(0)"),
-        (Of::Text("10110"), "true_count=3, len=5"),
-    ];
-    prints(&rt, rt.alloc(), &ROWS);
-}
-
-fn prints_values(rt: &impl Abort, alloc: Global) {
-    let mixed = mask(rt, alloc, Of::Text("10110"));
-    has_debug_text(rt, alloc, &mixed.values(), "Some(true_count=3, len=5)");
-}
-
-#[test]
-fn text_of_mixed_values(rt: HostRuntime) {
-    prints_values(&rt, rt.alloc());
-}
-
-fn cleared(rt: &impl Abort, mask: Mask) {
-    let mut mask = mask;
-    mask.clear();
-    is(rt, &mask, ("", "AllFalse"));
-}
-
-#[test]
-fn clear_leaves_no_values(rt: HostRuntime) {
-    cleared(&rt, mask(&rt, rt.alloc(), Of::Indices(5, &[1, 3])));
-    cleared(&rt, Mask::new_true(3));
+fn rows(rt: HostRuntime) {
+    answer_rows(&rt, rt.alloc(), 85, ROWS);
 }
