@@ -1,11 +1,12 @@
 -- What the laws that stand for themselves say of lists that are known: each row takes a law, and computes one instance of it.
-use Rattle.std.specs.Prelude.{ℕ, ◌≡◌, ◌+◌, ◌-◌, ◌<◌, ◌&&◌, Bool, true, false, List, [], ◌∷◌, length, All, slice_index, slice_index_or, slice_range, sum_by, refl}
+use Rattle.std.specs.Prelude.{ℕ, ◌≡◌, ◌+◌, ◌-◌, ◌<◌, ◌&&◌, Bool, true, false, List, [], ◌∷◌, length, nat_lt, All, slice_index, slice_index_or, slice_range, sum_by, refl}
 use Rattle.std.proofs.Common.{arith}
 use Rattle.mask_bits.specs.BooleanLaws.{ValueOfAndNot, ValueOfNot, CountOfComplement, CountOfAndWithOr, ComplementOfOr, ListOfOneValue, CountOfFoldIsAtMostTheFirst}
 use Rattle.mask_bits.specs.IndexLaws.{CountBelowTheFirst, CountBelowTheNext}
 use Rattle.mask_bits.specs.Laws.{IndicesAreWithin, ValueOfWord, PositionsDetermineList, IsRankIntersection, RankIntersectionIsTheList, RankIntersectionValue, AllTrueLeftUnit, AllTrueRightUnit, RankIntersectionPosition, RunsExist, RunsAreUnique, RunsAreRanges, RangesAddUpToTheCount, RankIntersectionOfAnd, RankIntersectionOfNot, IsFreeOfOrder, DistributesOver, Absorbs, HasComplements, AndNotIsAndOfNot, KeepsLength, PartOfPart, PartOfConcat, LimitOfLimit, CountBelowPosition, NeighborsMakeOne}
 use Rattle.mask_bits.specs.Lists.{and_of, or_of, not_of, and_not_of, concat, limited}
 use Rattle.mask_bits.specs.Positions.{positions, count, count_below, rank_intersection, repeated}
+use Rattle.mask_bits.specs.Rows.{AreAnswers, AreAsComputed}
 use Rattle.mask_bits.specs.Runs.{AreRanges, AreRuns}
 use Rattle.mask_bits.specs.Stacks.{folded_left}
 use Rattle.mask_bits.specs.Words.{word_bits}
@@ -148,3 +149,14 @@ part_of_concat law xs = law (m ∷ []) (xs ∷ []) b
 
 limit_of_limit : LimitOfLimit → (xs : List Bool) → limited (limited xs 2) 1 ≡ limited xs 1
 limit_of_limit law xs = law xs 2 1
+
+-- ---- answers of a test
+
+one_answer : (gives : ℕ → Bool → Type 0) → AreAnswers gives (7 ∷ []) (true ∷ []) → gives 7 true
+one_answer gives are = are.each 0 (7, true) (omega arith)
+
+as_many_answers : (gives : ℕ → Bool → Type 0) (xs : List Bool) → AreAnswers gives (7 ∷ 8 ∷ []) xs → length xs ≡ 2
+as_many_answers gives xs are = are.len
+
+answers_of_a_function : (xs : List Bool) → AreAsComputed (λ row answer. answer ≡ nat_lt 2 row.now) (3 ∷ 1 ∷ 4 ∷ []) xs → xs ≡ true ∷ false ∷ true ∷ []
+answers_of_a_function xs are = are (nat_lt 2) (λ row answer same. same)

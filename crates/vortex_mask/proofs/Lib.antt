@@ -2,5 +2,6 @@
 pub mod Deposits
 mod Examples
 pub mod Kernels
+mod LawRows
 pub mod Masks
 pub mod ResultLemmas
