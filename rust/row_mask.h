@@ -4,9 +4,10 @@
 
 /* A bitmap is bytes, the position of its first bit, and how many bits it has. Value `i` is the bit at
  * position `p = offset + i`: bit `p % 8`, counted from the lowest, of byte `p / 8`. These are the
- * bitmaps of Arrow. Indices, ranks and bits count from 0. A length `len` is in values. A `_size` says
- * how many bytes the pointer before it points to, and a `_count` how many items: of rows of 8 bytes, an
- * eighth of what `sizeof` says.
+ * bitmaps of Arrow. Indices, ranks and bits count from 0. A rank is the number of a true value among the
+ * true ones, and no order or score of a row. A length `len` is in values. A `_size` says how many bytes
+ * the pointer before it points to, and a `_count` how many items: of rows of 8 bytes, an eighth of what
+ * `sizeof` says.
  *
  * What a caller owes to each function, beside what its comment asks:
  *

@@ -27,15 +27,12 @@ slice 1110011001 2 7 => 10011
 slice 1110011001 0 10 => 1110011001
 slice 10110 3 6 => word 3: out of range
 slice 10110 4 2 => word 2: out of range
-slice 10110 x 2 => word 2: not a number
 limit 01101 2 => 01100
 limit 01101 3 => 01101
 limit 01101 9 => 01101
 limit 01101 0 => 00000
 limit - 0 => -
 limit 10 18446744073709551615 => 10
-limit 10 18446744073709551616 => word 2: not a number
-limit 10 +1 => word 2: not a number
 cat 10 - 011 => 10011
 cat 000 - => 000
 pipe 10011101 00101 10 => 00001000
@@ -49,9 +46,15 @@ fn each_command(rt: HostRuntime) {
     try_rows(&rt, ROWS);
 }
 
+const FAULTS_OF_ARGUMENTS: &str = "\
+cat => usage: maskrun COMMAND WORDS
+slice 10110 x 2 => word 2: not a number
+limit 10 18446744073709551616 => word 2: not a number
+limit 10 +1 => word 2: not a number";
+
 #[test]
-fn usage_without_memory(rt: HostRuntime) {
-    try_rows(&rt, "cat => usage: maskrun COMMAND WORDS");
+fn faults_of_arguments_without_memory(rt: HostRuntime) {
+    try_rows(&rt, FAULTS_OF_ARGUMENTS);
 }
 
 fn try_rows<R: Abort + Print + AllocGlobal>(rt: &R, rows: &str) {
