@@ -67,7 +67,7 @@ Block = namedtuple("Block", "start end owner trait is_public_trait ghosts")
 
 
 def blocks_of(code):
-    for it in re.finditer(r"^(?:pub )?(impl|trait)\b([^{;]*)\{", code, re.M):
+    for it in re.finditer(r"^(?:pub(?:\([^)]*\))? )?(impl|trait)\b([^{;]*)\{", code, re.M):
         end = closing(code, it.end() - 1)
         head = " ".join(without_generics(it[2].replace("->", "")).split()).split(" where ")[0]
         trait, _, owner = f" {head}".rpartition(" for ") if it[1] == "impl" else ("", "", head.split(":")[0])

@@ -7,7 +7,8 @@
  * bitmaps of Arrow. Indices, ranks and bits count from 0. A rank is the number of a true value among the
  * true ones, and no order or score of a row. A length `len` is in values. A `_size` says how many bytes
  * the pointer before it points to, and a `_count` how many items: of rows of 8 bytes, an eighth of what
- * `sizeof` says.
+ * `sizeof` says. Offsets of strings are Arrow's, which are `int32_t` and `int64_t` there: none is negative,
+ * so the bytes are the same.
  *
  * What a caller owes to each function, beside what its comment asks:
  *
@@ -28,10 +29,15 @@
 #include <stdbool.h>
 #include <stddef.h>
 #include <stdint.h>
+#include <string.h>
+
+#if defined(__x86_64__) && defined(__GNUC__)
+#include <immintrin.h>
+#endif
 
 /* The version that a program is compiled for: 10000 * major + 100 * minor + patch. The library that it
  * is linked with says its own by row_mask_version(). */
-#define ROW_MASK_VERSION 200
+#define ROW_MASK_VERSION 300
 
 #if SIZE_MAX != UINT64_MAX
 #error "row_mask: the library is for x86-64, where size_t has 64 bits"
@@ -88,6 +94,15 @@ size_t row_mask_room(size_t len);
 ROW_MASK_READ(1, 2)
 bool row_mask_value(const uint8_t *bytes, size_t bytes_size, size_t offset, size_t len, size_t i);
 
+/* Writes words of 64 values, from word `from` on, to the front of `out`, as many as the bitmap
+ * starts or as it takes, and answers how many these are: none from past the end. Bit `j` of word
+ * `i` is value `64 * i + j`, and 0 past the last value. So a walk over all words goes on from one
+ * past the last, until fewer come than `out` takes. */
+ROW_MASK_READ(1, 2) ROW_MASK_WRITE(6, 7)
+size_t row_mask_words(
+    const uint8_t *bytes, size_t bytes_size, size_t offset, size_t len, size_t from,
+    uint64_t *out, size_t out_count);
+
 /* How many values are true. */
 ROW_MASK_READ(1, 2)
 size_t row_mask_count(const uint8_t *bytes, size_t bytes_size, size_t offset, size_t len);
@@ -108,6 +123,12 @@ ROW_MASK_READ(1, 2) ROW_MASK_READ(5, 6) ROW_MASK_WRITE(7, 8)
 void row_mask_counts_below(
     const uint8_t *bytes, size_t bytes_size, size_t offset, size_t len,
     const size_t *indices, size_t indices_count, size_t *out, size_t out_count);
+
+/* How many values are true in both. */
+ROW_MASK_READ(1, 2) ROW_MASK_READ(4, 5)
+size_t row_mask_and_count(
+    const uint8_t *a, size_t a_size, size_t a_offset, const uint8_t *b, size_t b_size,
+    size_t b_offset, size_t len);
 
 /* The index of true value number `n`, counted from 0, and `len` where there is none. */
 ROW_MASK_READ(1, 2)
@@ -140,6 +161,20 @@ ROW_MASK_READ(1, 2)
 row_mask_run row_mask_next_run(
     const uint8_t *bytes, size_t bytes_size, size_t offset, size_t len, size_t from);
 
+/* Writes truth values as a bitmap, from bit 0 on.
+ *
+ * Asks that `out_size >= row_mask_room(values_count)`. */
+ROW_MASK_READ(1, 2) ROW_MASK_WRITE(3, 4)
+void row_mask_from_bools(const bool *values, size_t values_count, uint8_t *out, size_t out_size);
+
+/* Writes the bitmap of `len` values, from bit 0 on, in which just the values at `indices` are true.
+ * Indices may come in any order and more than once.
+ *
+ * Asks that each index is below `len`, and that `out_size >= row_mask_room(len)`. */
+ROW_MASK_READ(1, 2) ROW_MASK_WRITE(4, 5)
+void row_mask_from_indices(
+    const size_t *indices, size_t indices_count, size_t len, uint8_t *out, size_t out_size);
+
 /* Writes the values that are true in both.
  *
  * Asks that `out_size >= row_mask_room(len)`. */
@@ -161,6 +196,14 @@ void row_mask_or(
  * Asks that `out_size >= row_mask_room(len)`. */
 ROW_MASK_READ(1, 2) ROW_MASK_READ(4, 5) ROW_MASK_WRITE(8, 9)
 void row_mask_and_not(
+    const uint8_t *a, size_t a_size, size_t a_offset, const uint8_t *b, size_t b_size,
+    size_t b_offset, size_t len, uint8_t *out, size_t out_size);
+
+/* Writes the values that are true in one and not in the other.
+ *
+ * Asks that `out_size >= row_mask_room(len)`. */
+ROW_MASK_READ(1, 2) ROW_MASK_READ(4, 5) ROW_MASK_WRITE(8, 9)
+void row_mask_xor(
     const uint8_t *a, size_t a_size, size_t a_offset, const uint8_t *b, size_t b_size,
     size_t b_offset, size_t len, uint8_t *out, size_t out_size);
 
@@ -201,15 +244,52 @@ ROW_MASK_CHANGE(1, 2) ROW_MASK_READ(3, 4)
 void row_mask_and_not_in_place(
     uint8_t *a, size_t a_size, const uint8_t *b, size_t b_size, size_t b_offset, size_t len);
 
+/* Writes the values that are true in one and not in the other in the place of `a`, which begins at
+ * bit 0.
+ *
+ * Asks that `a_size >= row_mask_room(len)`. */
+ROW_MASK_CHANGE(1, 2) ROW_MASK_READ(3, 4)
+void row_mask_xor_in_place(
+    uint8_t *a, size_t a_size, const uint8_t *b, size_t b_size, size_t b_offset, size_t len);
+
 /* Writes each value negated in its place. The bitmap begins at bit 0.
  *
  * Asks that `bytes_size >= row_mask_room(len)`. */
 ROW_MASK_CHANGE(1, 2)
 void row_mask_not_in_place(uint8_t *bytes, size_t bytes_size, size_t len);
 
+/* Writes the values of `more` behind the first `len` values of `bytes`, which begin at bit 0. So
+ * bitmaps are joined by a call for each.
+ *
+ * Asks that `len + more_len` doesn't overflow, and that `bytes_size >= row_mask_room(len +
+ * more_len)`. */
+ROW_MASK_CHANGE(1, 2) ROW_MASK_READ(4, 5)
+void row_mask_append(
+    uint8_t *bytes, size_t bytes_size, size_t len, const uint8_t *more, size_t more_size,
+    size_t more_offset, size_t more_len);
+
+/* Writes `value` to the bits from position `start` to `end`, the end left out, and leaves all
+ * others as they were. Of a bitmap with an offset, value `i` is the bit at position `offset + i`.
+ *
+ * Asks that `start <= end` and `end <= 8 * bytes_size`. */
+ROW_MASK_CHANGE(1, 2)
+void row_mask_fill_range(uint8_t *bytes, size_t bytes_size, size_t start, size_t end, bool value);
+
 /* Whether two bitmaps of one length have the same values. */
 ROW_MASK_READ(1, 2) ROW_MASK_READ(4, 5)
 bool row_mask_equal(
+    const uint8_t *a, size_t a_size, size_t a_offset, const uint8_t *b, size_t b_size,
+    size_t b_offset, size_t len);
+
+/* Whether each true value of `a` is true in `b`. */
+ROW_MASK_READ(1, 2) ROW_MASK_READ(4, 5)
+bool row_mask_is_subset(
+    const uint8_t *a, size_t a_size, size_t a_offset, const uint8_t *b, size_t b_size,
+    size_t b_offset, size_t len);
+
+/* Whether some value is true in both. */
+ROW_MASK_READ(1, 2) ROW_MASK_READ(4, 5)
+bool row_mask_intersects(
     const uint8_t *a, size_t a_size, size_t a_offset, const uint8_t *b, size_t b_size,
     size_t b_offset, size_t len);
 
@@ -232,6 +312,21 @@ ROW_MASK_READ(1, 2) ROW_MASK_READ(5, 6) ROW_MASK_WRITE(7, 8)
 void row_mask_intersect_at_ranks(
     const uint8_t *bytes, size_t bytes_size, size_t offset, size_t len,
     const size_t *ranks, size_t ranks_count, uint8_t *out, size_t out_size);
+
+/* Writes the next words of a bitmap, from word `from` on, to `words`, and for each to `sources` the
+ * 64 bits of `ranks` from the number of true values before that word on. Bit `j` of word `i` is
+ * value `64 * i + j`, and 0 past the last value. The answer is how many values are true before the
+ * word after these, which is `at` for the next call. So whoever deposits each source at its word,
+ * as the instruction `pdep` does, has the words of the rank intersection.
+ *
+ * Asks that `ranks_len` is the count of the bitmap's true values, that `at` is how many values are
+ * true before word `from` (0 at word 0), that `from + words_count` is at most how many words the
+ * bitmap starts, `(len + 63) / 64`, and that `sources_count == words_count`. */
+ROW_MASK_READ(1, 2) ROW_MASK_READ(5, 6) ROW_MASK_WRITE(11, 12) ROW_MASK_WRITE(13, 14)
+size_t row_mask_rank_words(
+    const uint8_t *bytes, size_t bytes_size, size_t offset, size_t len,
+    const uint8_t *ranks, size_t ranks_size, size_t ranks_offset, size_t ranks_len, size_t from,
+    size_t at, uint64_t *words, size_t words_count, uint64_t *sources, size_t sources_count);
 
 /* Writes the rows at the true values, in their order, to the front of `out`, and answers how many
  * they are. A row has 1 byte.
@@ -277,6 +372,206 @@ ROW_MASK_READ(1, 2) ROW_MASK_READ(5, 6) ROW_MASK_WRITE(7, 8)
 size_t row_mask_choose_16(
     const uint8_t *bytes, size_t bytes_size, size_t offset, size_t len,
     const row_mask_16 *rows, size_t rows_count, row_mask_16 *out, size_t out_count);
+
+/* Writes the rows at `indices`, in their order, to the front of `out`. A row has 1 byte. Indices
+ * may come in any order and more than once. So a bitmap that chooses rows of many columns is read
+ * once, by `row_mask_next_indices`.
+ *
+ * Asks that each index is below `rows_count`, and that `out_count >= indices_count`. */
+ROW_MASK_READ(1, 2) ROW_MASK_READ(3, 4) ROW_MASK_WRITE(5, 6)
+void row_mask_take_1(
+    const size_t *indices, size_t indices_count, const uint8_t *rows, size_t rows_count,
+    uint8_t *out, size_t out_count);
+
+/* Writes the rows at `indices`, in their order, to the front of `out`. A row has 2 bytes. Indices
+ * may come in any order and more than once. So a bitmap that chooses rows of many columns is read
+ * once, by `row_mask_next_indices`.
+ *
+ * Asks that each index is below `rows_count`, and that `out_count >= indices_count`. */
+ROW_MASK_READ(1, 2) ROW_MASK_READ(3, 4) ROW_MASK_WRITE(5, 6)
+void row_mask_take_2(
+    const size_t *indices, size_t indices_count, const uint16_t *rows, size_t rows_count,
+    uint16_t *out, size_t out_count);
+
+/* Writes the rows at `indices`, in their order, to the front of `out`. A row has 4 bytes. Indices
+ * may come in any order and more than once. So a bitmap that chooses rows of many columns is read
+ * once, by `row_mask_next_indices`.
+ *
+ * Asks that each index is below `rows_count`, and that `out_count >= indices_count`. */
+ROW_MASK_READ(1, 2) ROW_MASK_READ(3, 4) ROW_MASK_WRITE(5, 6)
+void row_mask_take_4(
+    const size_t *indices, size_t indices_count, const uint32_t *rows, size_t rows_count,
+    uint32_t *out, size_t out_count);
+
+/* Writes the rows at `indices`, in their order, to the front of `out`. A row has 8 bytes. Indices
+ * may come in any order and more than once. So a bitmap that chooses rows of many columns is read
+ * once, by `row_mask_next_indices`.
+ *
+ * Asks that each index is below `rows_count`, and that `out_count >= indices_count`. */
+ROW_MASK_READ(1, 2) ROW_MASK_READ(3, 4) ROW_MASK_WRITE(5, 6)
+void row_mask_take_8(
+    const size_t *indices, size_t indices_count, const uint64_t *rows, size_t rows_count,
+    uint64_t *out, size_t out_count);
+
+/* Writes the rows at `indices`, in their order, to the front of `out`. A row has 16 bytes. Indices
+ * may come in any order and more than once. So a bitmap that chooses rows of many columns is read
+ * once, by `row_mask_next_indices`.
+ *
+ * Asks that each index is below `rows_count`, and that `out_count >= indices_count`. */
+ROW_MASK_READ(1, 2) ROW_MASK_READ(3, 4) ROW_MASK_WRITE(5, 6)
+void row_mask_take_16(
+    const size_t *indices, size_t indices_count, const row_mask_16 *rows, size_t rows_count,
+    row_mask_16 *out, size_t out_count);
+
+/* Writes the offsets of the strings at the true values to the front of `out`: 0, and then where
+ * each of these ends if they stand one behind the other. Answers how many bytes they have, which is
+ * the room for `row_mask_choose_bytes_4`. String `i` has the bytes from `offsets[i]` to `offsets[i
+ * + 1]`, and an offset has 4 bytes.
+ *
+ * Asks that `offsets_count == len + 1`, that no offset is below the one before it, and that
+ * `out_count` is above the count of the true values. */
+ROW_MASK_READ(1, 2) ROW_MASK_READ(5, 6) ROW_MASK_WRITE(7, 8)
+size_t row_mask_choose_offsets_4(
+    const uint8_t *bytes, size_t bytes_size, size_t offset, size_t len,
+    const uint32_t *offsets, size_t offsets_count, uint32_t *out, size_t out_count);
+
+/* Writes the offsets of the strings at the true values to the front of `out`: 0, and then where
+ * each of these ends if they stand one behind the other. Answers how many bytes they have, which is
+ * the room for `row_mask_choose_bytes_8`. String `i` has the bytes from `offsets[i]` to `offsets[i
+ * + 1]`, and an offset has 8 bytes.
+ *
+ * Asks that `offsets_count == len + 1`, that no offset is below the one before it, and that
+ * `out_count` is above the count of the true values. */
+ROW_MASK_READ(1, 2) ROW_MASK_READ(5, 6) ROW_MASK_WRITE(7, 8)
+size_t row_mask_choose_offsets_8(
+    const uint8_t *bytes, size_t bytes_size, size_t offset, size_t len,
+    const uint64_t *offsets, size_t offsets_count, uint64_t *out, size_t out_count);
+
+/* Writes the offsets of the strings at `indices` to the front of `out`: 0, and then where each of
+ * these ends if they stand one behind the other, in the order of the indices. Answers how many
+ * bytes they have, which is the room for `row_mask_take_bytes_4`. Indices may come in any order and
+ * more than once. String `i` has the bytes from `offsets[i]` to `offsets[i + 1]`, and an offset has
+ * 4 bytes.
+ *
+ * Asks that each index is below `offsets_count - 1`, that no offset is below the one before it,
+ * that the bytes are fewer than 2 to the 32, as they are where no index comes twice, and that
+ * `out_count` is above `indices_count`. */
+ROW_MASK_READ(1, 2) ROW_MASK_READ(3, 4) ROW_MASK_WRITE(5, 6)
+size_t row_mask_take_offsets_4(
+    const size_t *indices, size_t indices_count, const uint32_t *offsets, size_t offsets_count,
+    uint32_t *out, size_t out_count);
+
+/* Writes the offsets of the strings at `indices` to the front of `out`: 0, and then where each of
+ * these ends if they stand one behind the other, in the order of the indices. Answers how many
+ * bytes they have, which is the room for `row_mask_take_bytes_8`. Indices may come in any order and
+ * more than once. String `i` has the bytes from `offsets[i]` to `offsets[i + 1]`, and an offset has
+ * 8 bytes.
+ *
+ * Asks that each index is below `offsets_count - 1`, that no offset is below the one before it,
+ * that the bytes are fewer than 2 to the 64, as they are where no index comes twice, and that
+ * `out_count` is above `indices_count`. */
+ROW_MASK_READ(1, 2) ROW_MASK_READ(3, 4) ROW_MASK_WRITE(5, 6)
+size_t row_mask_take_offsets_8(
+    const size_t *indices, size_t indices_count, const uint64_t *offsets, size_t offsets_count,
+    uint64_t *out, size_t out_count);
+
+/* Writes the bytes of the strings at the true values, one string behind another, to the front of
+ * `out`, and answers how many these are. String `i` has the bytes from `offsets[i]` to `offsets[i +
+ * 1]`, and an offset has 4 bytes.
+ *
+ * Asks that `offsets_count == len + 1`, that no offset is below the one before it and the last is
+ * at most `string_bytes_size`, and that `out_size` is at least what `row_mask_choose_offsets_4`
+ * answers. */
+ROW_MASK_READ(1, 2) ROW_MASK_READ(5, 6) ROW_MASK_READ(7, 8) ROW_MASK_WRITE(9, 10)
+size_t row_mask_choose_bytes_4(
+    const uint8_t *bytes, size_t bytes_size, size_t offset, size_t len,
+    const uint32_t *offsets, size_t offsets_count,
+    const uint8_t *string_bytes, size_t string_bytes_size, uint8_t *out, size_t out_size);
+
+/* Writes the bytes of the strings at the true values, one string behind another, to the front of
+ * `out`, and answers how many these are. String `i` has the bytes from `offsets[i]` to `offsets[i +
+ * 1]`, and an offset has 8 bytes.
+ *
+ * Asks that `offsets_count == len + 1`, that no offset is below the one before it and the last is
+ * at most `string_bytes_size`, and that `out_size` is at least what `row_mask_choose_offsets_8`
+ * answers. */
+ROW_MASK_READ(1, 2) ROW_MASK_READ(5, 6) ROW_MASK_READ(7, 8) ROW_MASK_WRITE(9, 10)
+size_t row_mask_choose_bytes_8(
+    const uint8_t *bytes, size_t bytes_size, size_t offset, size_t len,
+    const uint64_t *offsets, size_t offsets_count,
+    const uint8_t *string_bytes, size_t string_bytes_size, uint8_t *out, size_t out_size);
+
+/* Writes the bytes of the strings at `indices`, in their order and one behind another, to the front
+ * of `out`, and answers how many these are. Indices may come in any order and more than once.
+ * String `i` has the bytes from `offsets[i]` to `offsets[i + 1]`, and an offset has 4 bytes.
+ *
+ * Asks that each index is below `offsets_count - 1`, that no offset is below the one before it and
+ * the last is at most `string_bytes_size`, and that `out_size` is at least what
+ * `row_mask_take_offsets_4` answers. */
+ROW_MASK_READ(1, 2) ROW_MASK_READ(3, 4) ROW_MASK_READ(5, 6) ROW_MASK_WRITE(7, 8)
+size_t row_mask_take_bytes_4(
+    const size_t *indices, size_t indices_count, const uint32_t *offsets, size_t offsets_count,
+    const uint8_t *string_bytes, size_t string_bytes_size, uint8_t *out, size_t out_size);
+
+/* Writes the bytes of the strings at `indices`, in their order and one behind another, to the front
+ * of `out`, and answers how many these are. Indices may come in any order and more than once.
+ * String `i` has the bytes from `offsets[i]` to `offsets[i + 1]`, and an offset has 8 bytes.
+ *
+ * Asks that each index is below `offsets_count - 1`, that no offset is below the one before it and
+ * the last is at most `string_bytes_size`, and that `out_size` is at least what
+ * `row_mask_take_offsets_8` answers. */
+ROW_MASK_READ(1, 2) ROW_MASK_READ(3, 4) ROW_MASK_READ(5, 6) ROW_MASK_WRITE(7, 8)
+size_t row_mask_take_bytes_8(
+    const size_t *indices, size_t indices_count, const uint64_t *offsets, size_t offsets_count,
+    const uint8_t *string_bytes, size_t string_bytes_size, uint8_t *out, size_t out_size);
+
+/* Rank intersection by the instruction `pdep` of the processor, compiled into the program. The words and
+ * sources are those of the proved `row_mask_rank_words`. Beside the compiler, the instruction is trusted
+ * here, and the loop over blocks that deposits and writes. */
+#if defined(__x86_64__) && defined(__GNUC__)
+
+/* Whether the processor has the instruction, in a few cycles. Those of AMD before Zen 3 take up to
+ * hundreds. */
+static inline bool row_mask_has_quick_pdep(void) {
+    return __builtin_cpu_supports("bmi2") && !__builtin_cpu_is("amdfam15h") && !__builtin_cpu_is("amdfam17h");
+}
+
+/* Deposits each source at its word. The processor has the instruction. */
+__attribute__((target("bmi2")))
+static inline void row_mask_deposit(uint64_t *words, const uint64_t *sources, size_t count) {
+    for (size_t i = 0; i < count; i++)
+        words[i] = _pdep_u64(sources[i], words[i]);
+}
+
+/* As `row_mask_intersect_by_rank`, which it calls where there is no quick `pdep`, and where all values
+ * are true, since that call then copies the ranks. */
+static inline void row_mask_intersect_by_pdep(
+    const uint8_t *bytes, size_t bytes_size, size_t offset, size_t len,
+    const uint8_t *ranks, size_t ranks_size, size_t ranks_offset, size_t ranks_len,
+    uint8_t *out, size_t out_size) {
+    uint64_t words[64], sources[64];
+    size_t left = row_mask_room(len), from = 0, at = 0;
+
+    if (ranks_len == len || !row_mask_has_quick_pdep()) {
+        row_mask_intersect_by_rank(
+            bytes, bytes_size, offset, len, ranks, ranks_size, ranks_offset, ranks_len, out, out_size);
+        return;
+    }
+    while (left > 0) {
+        size_t size = left < sizeof words ? left : sizeof words, count = (size + 7) / 8;
+        at = row_mask_rank_words(
+            bytes, bytes_size, offset, len, ranks, ranks_size, ranks_offset, ranks_len, from, at,
+            words, count, sources, count);
+        row_mask_deposit(words, sources, count);
+        memcpy(out + 8 * from, words, size);
+        from += count;
+        left -= size;
+    }
+}
+
+#else
+#define row_mask_intersect_by_pdep row_mask_intersect_by_rank
+#endif
 
 #undef ROW_MASK_READ
 #undef ROW_MASK_WRITE

@@ -1,6 +1,7 @@
 //! Links the peers that are asked for.
 
 use std::env;
+use std::fs;
 use std::process::Command;
 
 fn main() {
@@ -13,7 +14,14 @@ fn main() {
     }
 }
 
-/// Compiles the source that Debian's `librust-fixedbitset-dev` installs: a dependency in `Cargo.toml`,
+/// What the package of a peer says.
+fn version(source: &str) -> String {
+    let package = fs::read_to_string(format!("{source}/Cargo.toml")).unwrap_or_default();
+    let said = package.lines().find_map(|line| line.strip_prefix("version = "));
+    said.unwrap_or("of no version").trim_matches('"').to_string()
+}
+
+/// Compiles the source, with all that the compiler is told of the processor, that Debian's `librust-fixedbitset-dev` installs: a dependency in `Cargo.toml`,
 /// even an optional one, would ask a registry for it at every build.
 fn build_fixedbitset() {
     println!("cargo::rerun-if-env-changed=FIXEDBITSET");
@@ -22,9 +30,20 @@ fn build_fixedbitset() {
         return;
     };
     let out = env::var("OUT_DIR").expect("cargo sets OUT_DIR");
+    let flags = env::var("CARGO_ENCODED_RUSTFLAGS").unwrap_or_default();
     let done = Command::new(env::var("RUSTC").expect("cargo sets RUSTC"))
         .args(["--crate-name", "fixedbitset", "--crate-type", "rlib", "--edition", "2018"])
-        .args(["-O", "--cap-lints", "allow", "--cfg", "feature=\"std\"", "--out-dir", &out])
+        .args([
+            "-C",
+            "opt-level=3",
+            "--cap-lints",
+            "allow",
+            "--cfg",
+            "feature=\"std\"",
+            "--out-dir",
+            &out,
+        ])
+        .args(flags.split('\u{1f}').filter(|flag| !flag.is_empty()))
         .arg(format!("{source}/src/lib.rs"))
         .status()
         .is_ok_and(|status| status.success());
@@ -32,4 +51,5 @@ fn build_fixedbitset() {
         println!("cargo::error={source} does not compile");
     }
     println!("cargo::rustc-link-search=crate={out}");
+    println!("cargo::rustc-env=FIXEDBITSET_VERSION={}", version(&source));
 }

@@ -16,6 +16,8 @@ pub(crate) struct RowMask16 {
     pub(crate) second: u64,
 }
 
+// Some of them C alone calls.
+#[allow(dead_code)]
 unsafe extern "C" {
     pub(crate) fn row_mask_version() -> u32;
     pub(crate) fn row_mask_is_within(
@@ -32,6 +34,15 @@ unsafe extern "C" {
         len: usize,
         i: usize,
     ) -> bool;
+    pub(crate) fn row_mask_words(
+        bytes: *const u8,
+        bytes_size: usize,
+        offset: usize,
+        len: usize,
+        from: usize,
+        out: *mut u64,
+        out_count: usize,
+    ) -> usize;
     pub(crate) fn row_mask_count(
         bytes: *const u8,
         bytes_size: usize,
@@ -56,6 +67,15 @@ unsafe extern "C" {
         out: *mut usize,
         out_count: usize,
     );
+    pub(crate) fn row_mask_and_count(
+        a: *const u8,
+        a_size: usize,
+        a_offset: usize,
+        b: *const u8,
+        b_size: usize,
+        b_offset: usize,
+        len: usize,
+    ) -> usize;
     pub(crate) fn row_mask_select(
         bytes: *const u8,
         bytes_size: usize,
@@ -92,6 +112,19 @@ unsafe extern "C" {
         len: usize,
         from: usize,
     ) -> RowMaskRun;
+    pub(crate) fn row_mask_from_bools(
+        values: *const bool,
+        values_count: usize,
+        out: *mut u8,
+        out_size: usize,
+    );
+    pub(crate) fn row_mask_from_indices(
+        indices: *const usize,
+        indices_count: usize,
+        len: usize,
+        out: *mut u8,
+        out_size: usize,
+    );
     pub(crate) fn row_mask_and(
         a: *const u8,
         a_size: usize,
@@ -115,6 +148,17 @@ unsafe extern "C" {
         out_size: usize,
     );
     pub(crate) fn row_mask_and_not(
+        a: *const u8,
+        a_size: usize,
+        a_offset: usize,
+        b: *const u8,
+        b_size: usize,
+        b_offset: usize,
+        len: usize,
+        out: *mut u8,
+        out_size: usize,
+    );
+    pub(crate) fn row_mask_xor(
         a: *const u8,
         a_size: usize,
         a_offset: usize,
@@ -165,8 +209,50 @@ unsafe extern "C" {
         b_offset: usize,
         len: usize,
     );
+    pub(crate) fn row_mask_xor_in_place(
+        a: *mut u8,
+        a_size: usize,
+        b: *const u8,
+        b_size: usize,
+        b_offset: usize,
+        len: usize,
+    );
     pub(crate) fn row_mask_not_in_place(bytes: *mut u8, bytes_size: usize, len: usize);
+    pub(crate) fn row_mask_append(
+        bytes: *mut u8,
+        bytes_size: usize,
+        len: usize,
+        more: *const u8,
+        more_size: usize,
+        more_offset: usize,
+        more_len: usize,
+    );
+    pub(crate) fn row_mask_fill_range(
+        bytes: *mut u8,
+        bytes_size: usize,
+        start: usize,
+        end: usize,
+        value: bool,
+    );
     pub(crate) fn row_mask_equal(
+        a: *const u8,
+        a_size: usize,
+        a_offset: usize,
+        b: *const u8,
+        b_size: usize,
+        b_offset: usize,
+        len: usize,
+    ) -> bool;
+    pub(crate) fn row_mask_is_subset(
+        a: *const u8,
+        a_size: usize,
+        a_offset: usize,
+        b: *const u8,
+        b_size: usize,
+        b_offset: usize,
+        len: usize,
+    ) -> bool;
+    pub(crate) fn row_mask_intersects(
         a: *const u8,
         a_size: usize,
         a_offset: usize,
@@ -197,6 +283,22 @@ unsafe extern "C" {
         out: *mut u8,
         out_size: usize,
     );
+    pub(crate) fn row_mask_rank_words(
+        bytes: *const u8,
+        bytes_size: usize,
+        offset: usize,
+        len: usize,
+        ranks: *const u8,
+        ranks_size: usize,
+        ranks_offset: usize,
+        ranks_len: usize,
+        from: usize,
+        at: usize,
+        words: *mut u64,
+        words_count: usize,
+        sources: *mut u64,
+        sources_count: usize,
+    ) -> usize;
     pub(crate) fn row_mask_choose_1(
         bytes: *const u8,
         bytes_size: usize,
@@ -246,5 +348,125 @@ unsafe extern "C" {
         rows_count: usize,
         out: *mut RowMask16,
         out_count: usize,
+    ) -> usize;
+    pub(crate) fn row_mask_take_1(
+        indices: *const usize,
+        indices_count: usize,
+        rows: *const u8,
+        rows_count: usize,
+        out: *mut u8,
+        out_count: usize,
+    );
+    pub(crate) fn row_mask_take_2(
+        indices: *const usize,
+        indices_count: usize,
+        rows: *const u16,
+        rows_count: usize,
+        out: *mut u16,
+        out_count: usize,
+    );
+    pub(crate) fn row_mask_take_4(
+        indices: *const usize,
+        indices_count: usize,
+        rows: *const u32,
+        rows_count: usize,
+        out: *mut u32,
+        out_count: usize,
+    );
+    pub(crate) fn row_mask_take_8(
+        indices: *const usize,
+        indices_count: usize,
+        rows: *const u64,
+        rows_count: usize,
+        out: *mut u64,
+        out_count: usize,
+    );
+    pub(crate) fn row_mask_take_16(
+        indices: *const usize,
+        indices_count: usize,
+        rows: *const RowMask16,
+        rows_count: usize,
+        out: *mut RowMask16,
+        out_count: usize,
+    );
+    pub(crate) fn row_mask_choose_offsets_4(
+        bytes: *const u8,
+        bytes_size: usize,
+        offset: usize,
+        len: usize,
+        offsets: *const u32,
+        offsets_count: usize,
+        out: *mut u32,
+        out_count: usize,
+    ) -> usize;
+    pub(crate) fn row_mask_choose_offsets_8(
+        bytes: *const u8,
+        bytes_size: usize,
+        offset: usize,
+        len: usize,
+        offsets: *const u64,
+        offsets_count: usize,
+        out: *mut u64,
+        out_count: usize,
+    ) -> usize;
+    pub(crate) fn row_mask_take_offsets_4(
+        indices: *const usize,
+        indices_count: usize,
+        offsets: *const u32,
+        offsets_count: usize,
+        out: *mut u32,
+        out_count: usize,
+    ) -> usize;
+    pub(crate) fn row_mask_take_offsets_8(
+        indices: *const usize,
+        indices_count: usize,
+        offsets: *const u64,
+        offsets_count: usize,
+        out: *mut u64,
+        out_count: usize,
+    ) -> usize;
+    pub(crate) fn row_mask_choose_bytes_4(
+        bytes: *const u8,
+        bytes_size: usize,
+        offset: usize,
+        len: usize,
+        offsets: *const u32,
+        offsets_count: usize,
+        string_bytes: *const u8,
+        string_bytes_size: usize,
+        out: *mut u8,
+        out_size: usize,
+    ) -> usize;
+    pub(crate) fn row_mask_choose_bytes_8(
+        bytes: *const u8,
+        bytes_size: usize,
+        offset: usize,
+        len: usize,
+        offsets: *const u64,
+        offsets_count: usize,
+        string_bytes: *const u8,
+        string_bytes_size: usize,
+        out: *mut u8,
+        out_size: usize,
+    ) -> usize;
+    pub(crate) fn row_mask_take_bytes_4(
+        indices: *const usize,
+        indices_count: usize,
+        offsets: *const u32,
+        offsets_count: usize,
+        string_bytes: *const u8,
+        string_bytes_size: usize,
+        out: *mut u8,
+        out_size: usize,
+    ) -> usize;
+    pub(crate) fn row_mask_take_bytes_8(
+        indices: *const usize,
+        indices_count: usize,
+        offsets: *const u64,
+        offsets_count: usize,
+        string_bytes: *const u8,
+        string_bytes_size: usize,
+        out: *mut u8,
+        out_size: usize,
     ) -> usize;
 }

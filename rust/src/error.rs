@@ -68,6 +68,32 @@ pub enum Error {
         /// How many values there are.
         len: usize,
     },
+    /// There is not one offset more than there are rows.
+    OffsetsDiffer {
+        /// How many offsets there are.
+        offsets: usize,
+        /// How many rows there are.
+        len: usize,
+    },
+    /// An offset is negative, or below the one before it.
+    UnsortedOffsets {
+        /// The place of the offset in the list.
+        at: usize,
+    },
+    /// The last offset is past the end of the bytes.
+    OffsetOutOfBounds {
+        /// The offset.
+        offset: usize,
+        /// How many bytes there are.
+        size: usize,
+    },
+    /// What is to be written has no room.
+    RoomTooSmall {
+        /// How many bytes or items there is room for.
+        room: usize,
+        /// How many there are to write.
+        needed: usize,
+    },
 }
 
 impl fmt::Display for Error {
@@ -99,6 +125,18 @@ impl fmt::Display for Error {
             }
             Error::IndexOutOfBounds { index, len } => {
                 write!(f, "index {index} is past the end of {len} values")
+            }
+            Error::OffsetsDiffer { offsets, len } => {
+                write!(f, "there are {offsets} offsets, and {len} rows")
+            }
+            Error::UnsortedOffsets { at } => {
+                write!(f, "offset number {at} is negative, or below the one before it")
+            }
+            Error::OffsetOutOfBounds { offset, size } => {
+                write!(f, "offset {offset} is past the end of {size} bytes")
+            }
+            Error::RoomTooSmall { room, needed } => {
+                write!(f, "there is room for {room}, and {needed} are to be written")
             }
         }
     }

@@ -198,27 +198,149 @@ static void walks(const bitmap *b, room out_room) {
 
 static void combines(const bitmap *a, const bitmap *b, room where) {
     size_t i, len = a->len;
-    bool and[LONGEST], or[LONGEST], and_not[LONGEST], not[LONGEST], equal = true;
+    bool and[LONGEST], or[LONGEST], and_not[LONGEST], xor[LONGEST], not[LONGEST], equal = true;
+    size_t both = 0, first_alone = 0;
     int place;
 
     for (i = 0; i < len; i++) {
         and[i] = a->list[i] && b->list[i];
         or[i] = a->list[i] || b->list[i];
         and_not[i] = a->list[i] && !b->list[i];
+        xor[i] = a->list[i] != b->list[i];
         not[i] = !a->list[i];
         equal = equal && a->list[i] == b->list[i];
+        both += and[i];
+        first_alone += and_not[i];
     }
     WRITES(where, len, and, row_mask_and, BYTES(a), BYTES(b), len)
     WRITES(where, len, or, row_mask_or, BYTES(a), BYTES(b), len)
     WRITES(where, len, and_not, row_mask_and_not, BYTES(a), BYTES(b), len)
+    WRITES(where, len, xor, row_mask_xor, BYTES(a), BYTES(b), len)
     WRITES(where, len, not, row_mask_not, WHOLE(a))
     CHANGES(where, len, a->list, and, row_mask_and_in_place, BYTES(b), len)
     CHANGES(where, len, a->list, or, row_mask_or_in_place, BYTES(b), len)
     CHANGES(where, len, a->list, and_not, row_mask_and_not_in_place, BYTES(b), len)
+    CHANGES(where, len, a->list, xor, row_mask_xor_in_place, BYTES(b), len)
     CHANGES(where, len, a->list, not, row_mask_not_in_place, len)
     WRITES(where, len, a->list, row_mask_copy, WHOLE(a))
     same(row_mask_equal(BYTES(a), where.start, row_mask_room(len), 0, len), true, "equal");
     same(row_mask_equal(BYTES(a), BYTES(b), len), equal, "equal");
+    same(row_mask_and_count(BYTES(a), BYTES(b), len), both, "and_count");
+    same(row_mask_intersects(BYTES(a), BYTES(b), len), both > 0, "intersects");
+    same(row_mask_is_subset(BYTES(a), BYTES(b), len), first_alone == 0, "is_subset");
+    row_mask_and_not(BYTES(a), BYTES(b), len, where.start, row_mask_room(len));
+    same(row_mask_intersects(where.start, row_mask_room(len), 0, BYTES(b), len), false, "intersects");
+    same(row_mask_is_subset(where.start, row_mask_room(len), 0, BYTES(a), len), true, "is_subset");
+}
+
+/* The values of one bitmap behind those of another. */
+static void appends(const bitmap *a, const bitmap *b, room where) {
+    size_t i, len = a->len + b->len;
+    bool want[2 * LONGEST];
+    int place;
+
+    for (i = 0; i < len; i++)
+        want[i] = i < a->len ? a->list[i] : b->list[i - a->len];
+    for (place = 0; place < PLACES; place++) {
+        uint8_t *out = marked(where, place, size_at(place, len));
+        for (i = 0; i < a->len; i++)
+            out[i / 8] = (uint8_t)((out[i / 8] & ~(1u << (i % 8))) | (unsigned)want[i] << (i % 8));
+        row_mask_append(out, size_at(place, len), a->len, WHOLE(b));
+        same_written(where, out, len, want, "append");
+    }
+}
+
+/* Word i of a bitmap, with zeros past its last value. */
+static uint64_t word_in(const bitmap *b, size_t i) {
+    uint64_t word = 0;
+    size_t j;
+
+    for (j = 0; j < 64 && 64 * i + j < b->len; j++)
+        word |= (uint64_t)b->list[64 * i + j] << j;
+    return word;
+}
+
+/* The words from each one on, into room of several sizes. What is behind them stays. */
+static void words(const bitmap *b, room out_room) {
+    size_t all = (b->len + 63) / 64, from, room, i;
+    uint64_t mark;
+
+    memset(&mark, MARK, sizeof mark);
+    for (from = 0; from <= all + 1; from++)
+        for (room = 0; room <= all + 1; room++) {
+            size_t left = from < all ? all - from : 0, found;
+            uint64_t *out = (uint64_t *)(void *)marked(out_room, from % 2 ? FIRST : LAST, room * sizeof *out);
+            found = row_mask_words(WHOLE(b), from, out, room);
+            same(found, left < room ? left : room, "words");
+            for (i = 0; i < room; i++)
+                same(out[i], i < found ? word_in(b, from + i) : mark, "words");
+        }
+}
+
+static void from_bools(const bitmap *b, room bools_room, room where) {
+    bool *values = (bool *)(void *)bools_room.end - b->len;
+    size_t i;
+    int place;
+
+    for (i = 0; i < b->len; i++)
+        values[i] = b->list[i];
+    WRITES(where, b->len, b->list, row_mask_from_bools, values, b->len)
+}
+
+/* The bitmap of its own indices, backwards and the first of them twice. */
+static void from_indices(const bitmap *b, room indices_room, room where) {
+    size_t i, count = count_to(b, b->len), many = count + (count > 0);
+    size_t *indices = (size_t *)(void *)indices_room.end - many, at = 0;
+    int place;
+
+    if (count > 0)
+        indices[at++] = next_in(b, 0, true);
+    for (i = b->len; i-- > 0;)
+        if (b->list[i])
+            indices[at++] = i;
+    WRITES(where, b->len, b->list, row_mask_from_indices, indices, many, b->len)
+}
+
+/* A range of bits of one value, and all others as they were. */
+static void fills(room where, size_t size) {
+    size_t start, end, p;
+
+    for (start = 0; start <= 8 * size; start += 1 + size / 4)
+        for (end = start; end <= 8 * size; end += 1 + size / 2) {
+            uint8_t *out = marked(where, end % 2 ? FIRST : LAST, size), *it;
+            row_mask_fill_range(out, size, start, end, start % 2);
+            for (p = 0; p < 8 * size; p++)
+                same((size_t)(out[p / 8] >> (p % 8) & 1),
+                     p >= start && p < end ? start % 2 : (size_t)(MARK >> (p % 8) & 1), "fill_range");
+            for (it = where.start; it < where.end; it++)
+                if (*it != MARK && (it < out || it >= out + size))
+                    same(*it, MARK, "fill_range");
+        }
+}
+
+/* The words in blocks, and beside each the bits of the ranks from its place on. */
+static void rank_words(const bitmap *a, const bitmap *ranks, room words_room, room sources_room) {
+    size_t all = (a->len + 63) / 64, block, i, k;
+
+    for (block = 1; block <= 3; block++) {
+        size_t from = 0, at = 0, count;
+        for (; from < all; from += count) {
+            uint64_t *words, *sources;
+            count = all - from < block ? all - from : block;
+            words = (uint64_t *)(void *)marked(words_room, block % 2 ? FIRST : LAST, count * sizeof *words);
+            sources = (uint64_t *)(void *)marked(sources_room, block % 2 ? LAST : FIRST, count * sizeof *sources);
+            at = row_mask_rank_words(WHOLE(a), WHOLE(ranks), from, at, words, count, sources, count);
+            for (i = 0; i < count; i++) {
+                uint64_t source = 0;
+                size_t first = ranks->offset + count_to(a, 64 * (from + i));
+                for (k = 0; k < 64 && first + k < 8 * ranks->size; k++)
+                    source |= (uint64_t)(ranks->bytes[(first + k) / 8] >> ((first + k) % 8) & 1) << k;
+                same(words[i], word_in(a, from + i), "rank_words");
+                same(sources[i], source, "rank_words");
+            }
+            same(at, count_to(a, 64 * (from + count) < a->len ? 64 * (from + count) : a->len), "rank_words");
+        }
+    }
 }
 
 static void narrows(const bitmap *a, room ranks_room, room list_room, room where) {
@@ -236,7 +358,9 @@ static void narrows(const bitmap *a, room ranks_room, room list_room, room where
     for (i = 0; i < a->len; i++)
         want[i] = a->list[i] && ranks.list[k++];
     WRITES(where, a->len, want, row_mask_intersect_by_rank, WHOLE(a), WHOLE(&ranks))
+    WRITES(where, a->len, want, row_mask_intersect_by_pdep, WHOLE(a), WHOLE(&ranks))
     WRITES(where, a->len, want, row_mask_intersect_at_ranks, WHOLE(a), list, many)
+    rank_words(a, &ranks, list_room, where);
 }
 
 /* Rows whose bytes tell their index, and the same for each size of a row. */
@@ -263,9 +387,91 @@ CHOOSES(choose_4, uint32_t, row_mask_choose_4)
 CHOOSES(choose_8, uint64_t, row_mask_choose_8)
 CHOOSES(choose_16, row_mask_16, row_mask_choose_16)
 
+/* Rows at indices that go back and forth, and what is behind them as it was. */
+#define TAKES(name, type, call)                                                     \
+    static void name(size_t len, room indices_room, room rows_room, room out_room) { \
+        size_t i, many = len ? len / 2 + 3 : 0;                                     \
+        size_t *indices = (size_t *)(void *)indices_room.end - many;                \
+        type *rows = (type *)(void *)rows_room.end - len, mark;                     \
+        int place;                                                                  \
+        memset(&mark, MARK, sizeof mark);                                           \
+        for (i = 0; i < len; i++)                                                   \
+            memset(&rows[i], (int)i, sizeof rows[i]);                               \
+        for (i = 0; i < many; i++)                                                  \
+            indices[i] = random_below(len);                                         \
+        for (place = FIRST; place <= LAST; place++) {                               \
+            type *out = (type *)(void *)marked(out_room, place, (many + 1) * sizeof *out); \
+            call(indices, many, rows, len, out, many + 1);                          \
+            for (i = 0; i < many; i++)                                              \
+                same((size_t)memcmp(&out[i], &rows[indices[i]], sizeof rows[i]), 0, #call); \
+            same((size_t)memcmp(&out[many], &mark, sizeof mark), 0, #call);         \
+        }                                                                           \
+    }
+
+TAKES(take_1, uint8_t, row_mask_take_1)
+TAKES(take_2, uint16_t, row_mask_take_2)
+TAKES(take_4, uint32_t, row_mask_take_4)
+TAKES(take_8, uint64_t, row_mask_take_8)
+TAKES(take_16, row_mask_16, row_mask_take_16)
+
+/* Strings of 0 to 6 bytes that tell their index, at true values and at indices that go back and forth. */
+#define STRINGS(name, type, choose_offsets, choose_bytes, take_offsets, take_bytes)  \
+    static void name(const bitmap *b, room offsets_room, room bytes_room, room out_room) { \
+        type *offsets = (type *)(void *)offsets_room.end - (b->len + 1), mark;      \
+        size_t indices[LONGEST], many = 0, i, k, size, at;                          \
+        uint8_t *string_bytes;                                                      \
+        int place, taken;                                                           \
+        memset(&mark, MARK, sizeof mark);                                           \
+        for (i = 0, offsets[0] = 0; i < b->len; i++)                                \
+            offsets[i + 1] = (type)(offsets[i] + random_below(7));                  \
+        string_bytes = bytes_room.end - offsets[b->len];                            \
+        for (i = 0; i < b->len; i++)                                                \
+            memset(string_bytes + offsets[i], (int)(i + 1), (size_t)(offsets[i + 1] - offsets[i])); \
+        for (taken = 0; taken < 2; taken++) {                                       \
+            if (taken)                                                              \
+                for (i = 0, many = b->len / 2; i < many; i++)                       \
+                    indices[i] = random_below(b->len);                              \
+            else                                                                    \
+                for (i = 0; i < b->len; i++)                                        \
+                    if (b->list[i])                                                 \
+                        indices[many++] = i;                                        \
+            for (k = 0, size = 0; k < many; k++)                                    \
+                size += (size_t)(offsets[indices[k] + 1] - offsets[indices[k]]);    \
+            for (place = FIRST; place <= LAST; place++) {                           \
+                type *ends = (type *)(void *)marked(out_room, place, (many + 2) * sizeof *ends); \
+                uint8_t *out, *it;                                                  \
+                same(taken ? take_offsets(indices, many, offsets, b->len + 1, ends, many + 2) \
+                           : choose_offsets(WHOLE(b), offsets, b->len + 1, ends, many + 2), \
+                     size, #name);                                                  \
+                for (k = 0, at = 0; k <= many; k++) {                               \
+                    same((size_t)ends[k], at, #choose_offsets);                     \
+                    at += k < many ? (size_t)(offsets[indices[k] + 1] - offsets[indices[k]]) : 0; \
+                }                                                                   \
+                same((size_t)memcmp(&ends[many + 1], &mark, sizeof mark), 0, #choose_offsets); \
+                out = marked(out_room, place, size);                                \
+                same(taken ? take_bytes(indices, many, offsets, b->len + 1, string_bytes, offsets[b->len], out, size) \
+                           : choose_bytes(WHOLE(b), offsets, b->len + 1, string_bytes, offsets[b->len], out, size), \
+                     size, #name);                                                  \
+                for (k = 0, at = 0; k < many; k++)                                  \
+                    for (i = offsets[indices[k]]; i < offsets[indices[k] + 1]; i++) \
+                        same(out[at++], string_bytes[i], #choose_bytes);            \
+                for (it = out_room.start; it < out_room.end; it++)                  \
+                    if (*it != MARK && (it < out || it >= out + size))              \
+                        same(*it, MARK, #choose_bytes);                             \
+            }                                                                       \
+        }                                                                           \
+    }
+
+STRINGS(strings_4, uint32_t, row_mask_choose_offsets_4, row_mask_choose_bytes_4, row_mask_take_offsets_4,
+        row_mask_take_bytes_4)
+STRINGS(strings_8, uint64_t, row_mask_choose_offsets_8, row_mask_choose_bytes_8, row_mask_take_offsets_8,
+        row_mask_take_bytes_8)
+
 /* No bytes, by a null pointer, as an empty vector of C++ has it. */
 static void nothing(void) {
     row_mask_run run = row_mask_next_run(NULL, 0, 0, 0, 0);
+    const uint32_t no_offset_4 = 0;
+    const uint64_t no_offset_8 = 0;
 
     same(row_mask_is_within(NULL, 0, 0, 0), true, "is_within");
     same(row_mask_count(NULL, 0, 0, 0), 0, "count");
@@ -279,20 +485,41 @@ static void nothing(void) {
     row_mask_and(NULL, 0, 0, NULL, 0, 0, 0, NULL, 0);
     row_mask_or(NULL, 0, 0, NULL, 0, 0, 0, NULL, 0);
     row_mask_and_not(NULL, 0, 0, NULL, 0, 0, 0, NULL, 0);
+    row_mask_xor(NULL, 0, 0, NULL, 0, 0, 0, NULL, 0);
     row_mask_not(NULL, 0, 0, 0, NULL, 0);
     row_mask_copy(NULL, 0, 0, 0, NULL, 0);
     row_mask_and_in_place(NULL, 0, NULL, 0, 0, 0);
     row_mask_or_in_place(NULL, 0, NULL, 0, 0, 0);
     row_mask_and_not_in_place(NULL, 0, NULL, 0, 0, 0);
+    row_mask_xor_in_place(NULL, 0, NULL, 0, 0, 0);
     row_mask_not_in_place(NULL, 0, 0);
+    row_mask_from_bools(NULL, 0, NULL, 0);
+    row_mask_from_indices(NULL, 0, 0, NULL, 0);
+    row_mask_fill_range(NULL, 0, 0, 0, true);
+    row_mask_append(NULL, 0, 0, NULL, 0, 0, 0);
     same(row_mask_equal(NULL, 0, 0, NULL, 0, 0, 0), true, "equal");
+    same(row_mask_is_subset(NULL, 0, 0, NULL, 0, 0, 0), true, "is_subset");
+    same(row_mask_intersects(NULL, 0, 0, NULL, 0, 0, 0), false, "intersects");
+    same(row_mask_and_count(NULL, 0, 0, NULL, 0, 0, 0), 0, "and_count");
+    same(row_mask_words(NULL, 0, 0, 0, 0, NULL, 0), 0, "words");
+    same(row_mask_rank_words(NULL, 0, 0, 0, NULL, 0, 0, 0, 0, 0, NULL, 0, NULL, 0), 0, "rank_words");
     row_mask_intersect_by_rank(NULL, 0, 0, 0, NULL, 0, 0, 0, NULL, 0);
+    row_mask_intersect_by_pdep(NULL, 0, 0, 0, NULL, 0, 0, 0, NULL, 0);
     row_mask_intersect_at_ranks(NULL, 0, 0, 0, NULL, 0, NULL, 0);
     same(row_mask_choose_1(NULL, 0, 0, 0, NULL, 0, NULL, 0), 0, "choose_1");
     same(row_mask_choose_2(NULL, 0, 0, 0, NULL, 0, NULL, 0), 0, "choose_2");
     same(row_mask_choose_4(NULL, 0, 0, 0, NULL, 0, NULL, 0), 0, "choose_4");
     same(row_mask_choose_8(NULL, 0, 0, 0, NULL, 0, NULL, 0), 0, "choose_8");
     same(row_mask_choose_16(NULL, 0, 0, 0, NULL, 0, NULL, 0), 0, "choose_16");
+    row_mask_take_1(NULL, 0, NULL, 0, NULL, 0);
+    row_mask_take_2(NULL, 0, NULL, 0, NULL, 0);
+    row_mask_take_4(NULL, 0, NULL, 0, NULL, 0);
+    row_mask_take_8(NULL, 0, NULL, 0, NULL, 0);
+    row_mask_take_16(NULL, 0, NULL, 0, NULL, 0);
+    same(row_mask_choose_bytes_4(NULL, 0, 0, 0, &no_offset_4, 1, NULL, 0, NULL, 0), 0, "choose_bytes_4");
+    same(row_mask_choose_bytes_8(NULL, 0, 0, 0, &no_offset_8, 1, NULL, 0, NULL, 0), 0, "choose_bytes_8");
+    same(row_mask_take_bytes_4(NULL, 0, &no_offset_4, 1, NULL, 0, NULL, 0), 0, "take_bytes_4");
+    same(row_mask_take_bytes_8(NULL, 0, &no_offset_8, 1, NULL, 0, NULL, 0), 0, "take_bytes_8");
 }
 
 int main(void) {
@@ -311,14 +538,32 @@ int main(void) {
                 reads(&a);
                 counts(&a, third, fourth);
                 walks(&a, third);
+                words(&a, third);
+                from_bools(&a, second, third);
+                from_indices(&a, second, third);
+                fill(&b, second, random_below(16), len, 128);
                 combines(&a, &b, third);
+                fill(&b, second, random_below(16), random_below(LONGEST + 1), 128);
+                appends(&a, &b, third);
                 narrows(&a, second, third, fourth);
                 choose_1(&a, third, fourth);
                 choose_2(&a, third, fourth);
                 choose_4(&a, third, fourth);
                 choose_8(&a, third, fourth);
                 choose_16(&a, third, fourth);
+                if (offset % 2 == 0)
+                    strings_4(&a, second, third, fourth);
+                else
+                    strings_8(&a, second, third, fourth);
             }
+    for (len = 0; len <= LONGEST; len += 1 + len / 8) {
+        fills(first, len / 8);
+        take_1(len, first, second, third);
+        take_2(len, first, second, third);
+        take_4(len, first, second, third);
+        take_8(len, first, second, third);
+        take_16(len, first, second, third);
+    }
     printf("%zu comparisons\n", compared);
     return 0;
 }

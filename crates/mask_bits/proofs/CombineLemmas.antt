@@ -57,7 +57,7 @@ word_bits-combined f w x y same =
     grind (arith, same j, length-word_bits, get_or-combined f (word_bits x) (word_bits y) j false))
 
 -- bit j of a combined word
-combined_bit : (f : Bool → Bool → Bool) (a b : List ℕ) (p q j : ℕ) (v w r : List Bool)
+pub combined_bit : (f : Bool → Bool → Bool) (a b : List ℕ) (p q j : ℕ) (v w r : List Bool)
     → v ≡ window a p → w ≡ window b q → r ≡ combined f v w → j < 64 → get_or r j false ≡ f (backing_bit a (p + j)) (backing_bit b (q + j))
 combined_bit f a b p q j v w r is_v is_w is_r h = grind (arith, get_or-combined, length-window, get_or-window)
 

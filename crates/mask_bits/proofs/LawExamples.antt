@@ -47,6 +47,21 @@ rank_intersection_of_limit : rank_intersection m (limited (false ∷ true ∷ tr
 unfolding limited true_at
 rank_intersection_of_limit = refl
 
+-- the values of 11001 at the rows of 10101
+values_at_rows : chosen (true ∷ true ∷ false ∷ false ∷ true ∷ []) m ≡ true ∷ false ∷ true ∷ []
+unfolding chosen
+values_at_rows = refl
+
+-- 10101 narrowed by these
+narrowed_by_values : rank_intersection m (true ∷ false ∷ true ∷ []) ≡ true ∷ false ∷ false ∷ false ∷ true ∷ []
+unfolding true_at
+narrowed_by_values = refl
+
+-- and the narrowing's values at the rows
+values_of_narrowing : chosen (true ∷ false ∷ false ∷ false ∷ true ∷ []) m ≡ true ∷ false ∷ true ∷ []
+unfolding chosen
+values_of_narrowing = refl
+
 -- how many are true below each index
 counts_below : map (count_below m) (0 ∷ 1 ∷ 2 ∷ 3 ∷ 4 ∷ 5 ∷ []) ≡ 0 ∷ 1 ∷ 1 ∷ 2 ∷ 2 ∷ 3 ∷ []
 counts_below = refl

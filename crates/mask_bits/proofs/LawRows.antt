@@ -1,11 +1,14 @@
 -- What the laws that stand for themselves say of lists that are known: each row takes a law, and computes one instance of it.
-use Rattle.std.specs.Prelude.{ℕ, ◌≡◌, ◌+◌, ◌-◌, ◌<◌, ◌&&◌, Bool, true, false, List, [], ◌∷◌, length, nat_lt, All, slice_index, slice_index_or, slice_range, sum_by, refl}
-use Rattle.std.proofs.Common.{arith}
-use Rattle.mask_bits.specs.BooleanLaws.{ValueOfAndNot, ValueOfNot, CountOfComplement, CountOfAndWithOr, ComplementOfOr, ListOfOneValue, CountOfFoldIsAtMostTheFirst}
-use Rattle.mask_bits.specs.IndexLaws.{CountBelowTheFirst, CountBelowTheNext}
-use Rattle.mask_bits.specs.Laws.{IndicesAreWithin, ValueOfWord, PositionsDetermineList, IsRankIntersection, RankIntersectionIsTheList, RankIntersectionValue, AllTrueLeftUnit, AllTrueRightUnit, RankIntersectionPosition, RunsExist, RunsAreUnique, RunsAreRanges, RangesAddUpToTheCount, RankIntersectionOfAnd, RankIntersectionOfNot, IsFreeOfOrder, DistributesOver, Absorbs, HasComplements, AndNotIsAndOfNot, KeepsLength, PartOfPart, PartOfConcat, LimitOfLimit, CountBelowPosition, NeighborsMakeOne}
+use Rattle.std.specs.Prelude.{ℕ, ◌≡◌, ◌+◌, ◌-◌, ◌<◌, ◌≤◌, ◌&&◌, ◌||◌, Bool, true, false, List, [], ◌∷◌, length, nat_lt, All, Any, slice_index, slice_index_or, slice_range, sum_by, take, refl}
+use Rattle.std.specs.List.{AllAdjacentBelow}
+use Rattle.std.specs.List.Sorted.{IsNonDecreasing, IsStrictlyIncreasing}
+use Rattle.std.proofs.Common.{arith, ap}
+use Rattle.mask_bits.specs.BooleanLaws.{ValueOfAnd, ValueOfOr, ValueOfAndNot, ValueOfNot, CountOfComplement, CountOfAndWithOr, ComplementOfAnd, ComplementOfOr, ListOfOneValue, CountOfFoldIsAtMostTheFirst}
+use Rattle.mask_bits.specs.Extract.{Extracts, ExtractIsChosenValues}
+use Rattle.mask_bits.specs.IndexLaws.{PositionsAscend, CountBelowTheFirst, CountBelowTheNext, AllTrueIsOneRange, AllTrueIsOneRun, AllFalseHasNoRange, AllFalseHasNoRun, NeighborsDoNotFall}
+use Rattle.mask_bits.specs.Laws.{IndicesAreWithin, CountIsSomeOfAnyTrue, CountOfFold, ValueOfWord, PositionsDetermineList, IsRankIntersection, RankIntersectionIsTheList, RankIntersectionValue, AllTrueLeftUnit, AllTrueRightUnit, RankIntersectionPosition, RunsExist, RunsAreUnique, RunsAreRanges, RangesAddUpToTheCount, RankIntersectionOfAnd, RankIntersectionOfNot, IsFreeOfOrder, DistributesOver, Absorbs, HasComplements, AndNotIsAndOfNot, KeepsLength, PartOfPart, PartOfConcat, LimitOfLimit, HasLimitCount, CountBelowPosition, NeighborsMakeOne}
 use Rattle.mask_bits.specs.Lists.{and_of, or_of, not_of, and_not_of, concat, limited}
-use Rattle.mask_bits.specs.Positions.{positions, count, count_below, rank_intersection, repeated}
+use Rattle.mask_bits.specs.Positions.{positions, count, count_below, rank_intersection, repeated, chosen}
 use Rattle.mask_bits.specs.Rows.{AreAnswers, AreAsComputed}
 use Rattle.mask_bits.specs.Runs.{AreRanges, AreRuns}
 use Rattle.mask_bits.specs.Stacks.{folded_left}
@@ -29,8 +32,25 @@ indices_are_within law = law m
 value_of_word : ValueOfWord → slice_index_or (word_bits 6) 1 false ≡ true
 value_of_word law = law 6 1 (omega arith)
 
+-- 6 at the places of 12: its bits 2 and 3
+extract_is_chosen_values : ExtractIsChosenValues → (r : ℕ) → Extracts 6 12 r → take 3 (word_bits r) ≡ true ∷ false ∷ false ∷ []
+unfolding word_bits chosen repeated
+extract_is_chosen_values law r is = ap (take 3) (law 6 12 r is)
+
 positions_determine_list : PositionsDetermineList → (xs : List Bool) → length xs ≡ 3 → positions xs ≡ 1 ∷ [] → xs ≡ c
 positions_determine_list law xs len at = law xs c len at
+
+positions_ascend : PositionsAscend → IsStrictlyIncreasing (0 ∷ 2 ∷ 4 ∷ [])
+positions_ascend law = law m
+
+some_are_true : CountIsSomeOfAnyTrue → (xs : List Bool) → 0 < count xs → Any (λ v. v ≡ true) xs
+some_are_true law xs = (law xs).0
+
+one_is_counted : CountIsSomeOfAnyTrue → (xs : List Bool) → Any (λ v. v ≡ true) xs → 0 < count xs
+one_is_counted law xs = (law xs).1
+
+neighbors_do_not_fall : NeighborsDoNotFall → (xs : List ℕ) → AllAdjacentBelow (λ x y. x ≤ y) xs (length xs) → IsNonDecreasing xs
+neighbors_do_not_fall law = law
 
 count_below_position : CountBelowPosition → count_below m (slice_index (positions m) 2) ≡ 2
 count_below_position law = law m 2 (omega arith)
@@ -80,6 +100,23 @@ runs_are_unique law = law m
 runs_are_ranges : RunsAreRanges → (rs : List (ℕ × ℕ)) → AreRuns m rs → AreRanges m rs
 runs_are_ranges law = law m
 
+-- a list of one value, of three values
+all_true_is_one_range : AllTrueIsOneRange → AreRanges (true ∷ true ∷ true ∷ []) ((0, 3) ∷ [])
+unfolding repeated
+all_true_is_one_range law = law 3 (omega arith)
+
+all_true_is_one_run : AllTrueIsOneRun → AreRuns (true ∷ true ∷ true ∷ []) ((0, 3) ∷ [])
+unfolding repeated
+all_true_is_one_run law = law 3 (omega arith)
+
+all_false_has_no_range : AllFalseHasNoRange → AreRanges (false ∷ false ∷ false ∷ []) []
+unfolding repeated
+all_false_has_no_range law = law 3
+
+all_false_has_no_run : AllFalseHasNoRun → AreRuns (false ∷ false ∷ false ∷ []) []
+unfolding repeated
+all_false_has_no_run law = law 3
+
 ranges_add_up_to_the_count : RangesAddUpToTheCount → (rs : List (ℕ × ℕ)) → AreRanges m rs → sum_by (λ r. r.1 - r.0) rs ≡ 3
 ranges_add_up_to_the_count law = law m
 
@@ -87,6 +124,12 @@ ranges_add_up_to_the_count law = law m
 
 and_commutes : IsFreeOfOrder and_of → (a : List Bool) → and_of a b ≡ and_of b a
 and_commutes law a = law.commutes a b
+
+and_regroups : IsFreeOfOrder and_of → (a : List Bool) → and_of (and_of a b) c ≡ and_of a (false ∷ true ∷ false ∷ [])
+and_regroups law a = law.regroups a b c
+
+or_commutes : IsFreeOfOrder or_of → (a : List Bool) → or_of a b ≡ or_of b a
+or_commutes law a = law.commutes a b
 
 or_regroups : IsFreeOfOrder or_of → (a : List Bool) → or_of (or_of a b) c ≡ or_of a (false ∷ true ∷ true ∷ [])
 or_regroups law a = law.regroups a b c
@@ -118,11 +161,20 @@ and_not_is_and_of_not law a = law a b
 keeps_length : KeepsLength → (a : List Bool) → length a ≡ 3 → length (and_of a b) + length (or_of a b) + length (and_not_of a b) + length (not_of a) ≡ 12
 keeps_length law a len = omega (arith, law.and a b len, law.or a b len, law.and_not a b len, law.not a)
 
+value_of_and : ValueOfAnd → (a : List Bool) → slice_index_or (and_of a b) 1 false ≡ (slice_index_or a 1 false && true)
+value_of_and law a = law a b 1
+
+value_of_or : ValueOfOr → (a : List Bool) → length a ≡ 3 → slice_index_or (or_of a b) 0 false ≡ (slice_index_or a 0 false || false)
+value_of_or law a len = law a b 0 len
+
 value_of_and_not : ValueOfAndNot → (a : List Bool) → length a ≡ 3 → slice_index_or (and_not_of a b) 1 false ≡ (slice_index_or a 1 false && false)
 value_of_and_not law a len = law a b 1 len
 
 value_of_not : ValueOfNot → slice_index_or (not_of m) 1 false ≡ true
 value_of_not law = law m 1 (omega arith)
+
+complement_of_and : ComplementOfAnd → (a : List Bool) → not_of (and_of a b) ≡ or_of (not_of a) (true ∷ false ∷ false ∷ [])
+complement_of_and law a = law a b
 
 complement_of_or : ComplementOfOr → (a : List Bool) → not_of (or_of a b) ≡ and_of (not_of a) (true ∷ false ∷ false ∷ [])
 complement_of_or law a = law a b
@@ -139,6 +191,9 @@ list_of_one_value law xs = law xs false
 fold_has_at_most_the_first : CountOfFoldIsAtMostTheFirst → count (folded_left (m ∷ b ∷ [])) < 4
 fold_has_at_most_the_first law = omega (arith, law m (b ∷ []) (refl, tt))
 
+fold_has_as_many_as_the_last : CountOfFold → count (folded_left (m ∷ b ∷ [])) ≡ 2
+fold_has_as_many_as_the_last law = law b (m ∷ []) (refl, tt)
+
 -- ---- parts and limits
 
 part_of_part : PartOfPart → (xs : List Bool) → slice_range (slice_range xs 1 4) 1 3 ≡ slice_range xs 2 4
@@ -149,6 +204,15 @@ part_of_concat law xs = law (m ∷ []) (xs ∷ []) b
 
 limit_of_limit : LimitOfLimit → (xs : List Bool) → limited (limited xs 2) 1 ≡ limited xs 1
 limit_of_limit law xs = law xs 2 1
+
+length_of_limit : HasLimitCount → (xs : List Bool) → length (limited xs 2) ≡ length xs
+length_of_limit law xs = law.len xs 2
+
+count_of_limit : HasLimitCount → count (limited m 2) ≡ 2
+count_of_limit law = law.count m 2
+
+count_of_limit_past_the_count : HasLimitCount → count (limited m 9) ≡ 3
+count_of_limit_past_the_count law = law.count m 9
 
 -- ---- answers of a test
 

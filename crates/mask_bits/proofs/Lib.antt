@@ -4,6 +4,7 @@ mod BoolsLemmas
 mod BufferLemmas
 mod BuilderLemmas
 mod CombineLemmas
+mod CompareLemmas
 mod EqLemmas
 mod Examples
 mod FirstLemmas

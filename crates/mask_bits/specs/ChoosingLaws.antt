@@ -1,7 +1,7 @@
--- What holds of the rows that a list of truth values chooses: those that pass a test, the first of them, and rows in chunks.
+-- What holds of the rows that a list of truth values chooses: those that pass a test, the first of them, rows in chunks, and rows that are truth values.
 use Rattle.std.specs.Prelude.{ℕ, ◌≡◌, ◌≤◌, Bool, List, ◌++◌, length, map, take, All, flat_map}
 use Rattle.std.specs.List.{filter}
-use Rattle.mask_bits.specs.Lists.{limited}
+use Rattle.mask_bits.specs.Lists.{and_of, limited}
 use Rattle.mask_bits.specs.Positions.{positions, count, rank_intersection, chosen}
 
 -- choosing the rows that pass a test is filtering them by it
@@ -34,3 +34,11 @@ LimitPastTheCount = (m : List Bool) (k : ℕ) → count m ≤ k → limited m k 
 abbrev pub LimitOfRankIntersection : Type 0
 LimitOfRankIntersection = (a b : List Bool) (k : ℕ) → length b ≡ count a
     → limited (rank_intersection a b) k ≡ rank_intersection a (limited b k)
+
+-- a narrowed by the values of c at a's true indices is true where both are
+abbrev pub NarrowedByChosen : Type 0
+NarrowedByChosen = (a c : List Bool) → length c ≡ length a → rank_intersection a (chosen c a) ≡ and_of a c
+
+-- the values of a narrowing at a's true indices are the list that it was narrowed by
+abbrev pub ChosenOfNarrowing : Type 0
+ChosenOfNarrowing = (a b : List Bool) → length b ≡ count a → chosen (rank_intersection a b) a ≡ b

@@ -1,5 +1,5 @@
 -- What the loops over the words of two lists have made or found, bit by bit.
-use Rattle.std.specs.Prelude.{ℕ, ◌+◌, ◌*◌, ◌<◌, ◌≤◌, ◌≡◌, ◌⊎◌, ◌^◌, Bool, List, length}
+use Rattle.std.specs.Prelude.{ℕ, ◌+◌, ◌*◌, ◌<◌, ◌≤◌, ◌≡◌, ◌⊎◌, ◌^◌, Bool, false, List, length}
 use Rattle.mask_bits.specs.Buffer.{backing_bit}
 
 -- the first n bits of `out` are f of those of a from bit p on and of those of b from bit q on
@@ -11,9 +11,9 @@ pub record IsCombinedBetween (f : Bool → Bool → Bool) (old b new : List ℕ)
   pub inside : (p : ℕ) → m ≤ p → p < n → backing_bit new p ≡ f (backing_bit old p) (backing_bit b (q + p))
   pub outside : (p : ℕ) → ((p < m) ⊎ (n ≤ p)) → backing_bit new p ≡ backing_bit old p
 
--- the n bits of a from bit p on are those of b from bit q on
-abbrev pub AreSameBits : List ℕ → ℕ → List ℕ → ℕ → ℕ → Type 0
-AreSameBits a p b q n = (i : ℕ) → i < n → backing_bit a (p + i) ≡ backing_bit b (q + i)
+-- f makes no true value of the n bits of a from bit p on and of as many of b from bit q on
+abbrev pub IsNoneTrue : (Bool → Bool → Bool) → List ℕ → ℕ → List ℕ → ℕ → ℕ → Type 0
+IsNoneTrue f a p b q n = (i : ℕ) → i < n → f (backing_bit a (p + i)) (backing_bit b (q + i)) ≡ false
 
 -- word i is a whole word of the bytes
 pub record IsWholeWord (bytes : List ℕ) (low i : ℕ) : Type 0 where

@@ -3,6 +3,7 @@ pub mod Buffer
 pub mod BufferMut
 pub mod ChoosingLaws
 pub mod Combine
+pub mod Extract
 pub mod IndexLaws
 pub mod Laws
 pub mod Lists
@@ -12,5 +13,6 @@ pub mod Rows
 pub mod RunScan
 pub mod Runs
 pub mod Stacks
+pub mod Text
 pub mod Walk
 pub mod Words

@@ -19,6 +19,10 @@ or_of a b = combined (λ x y. x || y) a b
 abbrev pub and_not_of : List Bool → List Bool → List Bool
 and_not_of a b = combined (λ x y. x && not y) a b
 
+-- one true, and not the other
+abbrev pub xor_of : List Bool → List Bool → List Bool
+xor_of a b = combined (λ x y. x && not y || not x && y) a b
+
 -- each value turned
 abbrev pub not_of : List Bool → List Bool
 not_of a = map not a

@@ -7,13 +7,15 @@ ghost use Rattle.std.specs.List.Sorted.{IsStrictlyIncreasing};
 ghost use Rattle.mask_bits.specs.Buffer.{Packed, IsWithinBytes, values, backing_bit};
 ghost use Rattle.mask_bits.specs.Positions.{positions, count, repeated, true_at, IsFirstFrom};
 ghost use Rattle.mask_bits.specs.Runs.{AreRuns};
+ghost use Rattle.mask_bits.specs.Text.{buffer_text};
 
 use crate::bit_iterator::BitIterator;
+use crate::bools::put_bools;
 use crate::chunks::BitChunks;
 use crate::counts::count_bits;
 use crate::set_indices::SetIndices;
 use crate::set_slices::SetSlices;
-use crate::write_bits::{put_bools, set_bit};
+use crate::write_bits::set_bit;
 use bytes::{Bytes, BytesMut};
 use std::alloc::{AllocError, Global};
 use std::fmt;
@@ -324,6 +326,8 @@ impl BitBuffer {
 }
 
 impl fmt::Debug for BitBuffer {
+    ghost debug_output = { λ b. Some (buffer_text (values b)) };
+
     fn fmt<W: fmt::Write>(&self, f: &mut fmt::Formatter<W>) -> fmt::Result {
         f.write_str("BitBuffer(")?;
         for value in self.iter() {

@@ -32,7 +32,11 @@ pub struct Or;
 #[derive(Drop)]
 pub struct AndNot;
 
-/// Turns the first, and takes no account of the second.
+/// True in one, and not in the other.
+#[derive(Drop)]
+pub struct Xor;
+
+/// Negates the first, and takes no account of the second.
 #[derive(Drop)]
 pub struct Not;
 
@@ -60,6 +64,15 @@ impl BitOp for AndNot {
     #[inline]
     fn of(x: u64, y: u64) -> u64 {
         x & !y
+    }
+}
+
+impl BitOp for Xor {
+    ghost of_bits = { λ x y. x && not y || not x && y };
+
+    #[inline]
+    fn of(x: u64, y: u64) -> u64 {
+        x ^ y
     }
 }
 

@@ -4,7 +4,8 @@
 #![tactic(auto, using(crate::proofs::LawRules::laws))]
 
 ghost use Rattle.mask_bits.specs.BooleanLaws.{ValueOfAnd, ValueOfOr, ValueOfAndNot, ValueOfNot, LengthOfTrueAt, ValueOfTrueAt, ComplementOfAnd, ComplementOfOr, ListOfOneValue, CountOfComplement, CountOfAnd, CountOfAndWithOr, CountOfAndWithAndNot, CountOfFoldIsAtMostTheFirst, ChosenAndTheRest};
-ghost use Rattle.mask_bits.specs.ChoosingLaws.{ChosenByTest, ChosenOfTwoChunks, ChosenOfChunks, ChosenByLimit, PositionsOfLimit, LimitPastTheCount, LimitOfRankIntersection};
+ghost use Rattle.mask_bits.specs.ChoosingLaws.{ChosenByTest, ChosenOfTwoChunks, ChosenOfChunks, ChosenByLimit, PositionsOfLimit, LimitPastTheCount, LimitOfRankIntersection, NarrowedByChosen, ChosenOfNarrowing};
+ghost use Rattle.mask_bits.specs.Extract.{ExtractIsChosenValues};
 ghost use Rattle.mask_bits.specs.IndexLaws.{PositionsAscend, FirstIsAtMostLast, CountBelowTheFirst, CountBelowTheNext, AllTrueIsOneRange, AllTrueIsOneRun, AllFalseHasNoRange, AllFalseHasNoRun, NeighborsDoNotFall, SortedDoNotFall};
 ghost use Rattle.mask_bits.specs.Laws.{IndicesAreWithin, CountIsAtMostLength, CountIsLengthOfAllTrue, CountIsSomeOfAnyTrue, CountOfAppend, LengthOfRepeated, PositionsOfAllTrue, CountOfAllTrue, PositionsOfAllFalse, ChosenByAllTrue, ChosenByAllFalse, ChosenIsRowsAtPositions, CountOfChosen, ValueOfWord, CountOfWord, CountsOfWordsAddUp, LengthOfValues, SameValuesAreOneList, PositionsDetermineList, RankIntersectionIsTheList, RankIntersectionValue, ChoosingTwice, RankIntersectionAssociative, AllTrueLeftUnit, AllTrueRightUnit, RankIntersectionCount, RankIntersectionPosition, FoldingKeepsAStack, RunsExist, RunsAreUnique, RunsAreRanges, RangesAddUpToTheCount, RankIntersectionOfAnd, RankIntersectionOfNot, IsFreeOfOrder, DistributesOver, Absorbs, HasComplements, AndNotIsAndOfNot, KeepsLength, PartOfPart, PartOfConcat, LimitOfLimit, HasLimitCount, CountBelowPosition, RunsAreTheList, RunOfAllTrue, RunsOfAllFalse, ChosenByRanges, GroupsBeginWithin, GroupOfRepeated, IndicesLieInGroups, CountOfGroup, StackFoldsAlike, FoldedByTheFirst, FoldOfOne, FoldedLeftByTheLast, LengthOfFold, CountOfFold, FoldOfNoRow, NeighborsMakeOne, ChoosingInTurn};
 ghost use Rattle.mask_bits.specs.Lists.{and_of, or_of};
@@ -383,6 +384,22 @@ pub fn limits()
 #[tactic(auto, using(crate::proofs::Lists::RowLemmas::limit_of_rank_intersection))]
 pub fn limit_of_rank_intersection()
     ensures pushed { LimitOfRankIntersection }
+{}
+
+/// Choosing truth values undoes a rank intersection: a list narrowed by another one's values at its
+/// true indices is `and` of both, and the values of a narrowing at the first list's true indices are
+/// the second list.
+#[tactic(auto, using(crate::proofs::Lists::RowLemmas::narrowed_by_chosen, crate::proofs::Lists::RowLemmas::chosen_of_narrowing))]
+pub fn choosing_values()
+    ensures and { NarrowedByChosen }
+    ensures back { ChosenOfNarrowing }
+{}
+
+/// An extract of a word, as a list: the source's values at the mask's true indices, and false values
+/// behind them.
+#[tactic(auto, using(crate::proofs::Lists::Words::ExtractLemmas::extract_is_chosen_values))]
+pub fn extracts()
+    ensures list { ExtractIsChosenValues }
 {}
 
 // ---- order of indices

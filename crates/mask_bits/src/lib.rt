@@ -3,12 +3,16 @@
 
 mod bit_iterator;
 mod bitops;
+pub mod bools;
 mod buffer;
 mod buffer_mut;
+mod choose_values;
 mod chunks;
 pub mod combine;
+pub mod compare;
 pub mod counts;
 mod eq;
+pub mod extract;
 mod from_rows;
 pub mod laws;
 mod read_word;
@@ -16,7 +20,7 @@ mod scan;
 mod set_indices;
 mod set_slices;
 pub mod words;
-mod write_bits;
+pub mod write_bits;
 
 pub use bit_iterator::BitIterator;
 pub use buffer::BitBuffer;

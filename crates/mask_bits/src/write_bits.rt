@@ -1,4 +1,4 @@
-//! Bits written to bytes: one bit, truth values, a word, one value many times, or bits of other bytes.
+//! Bits written to bytes: one bit, a word, one value many times, or bits of other bytes.
 
 ghost use Rattle.std.specs.Prelude.{◌≡◌, ◌+◌, ◌*◌, ◌%◌, ◌^◌, ◌<◌, ◌≤◌, ◌&&◌, ℕ, not, true, nat_eq, length, take, ◌-◌, ◌||◌, false, slice_index_or};
 ghost use Rattle.std.specs.Int.{div_ceil};
@@ -9,53 +9,21 @@ ghost use Rattle.mask_bits.specs.Words.{word_bits};
 
 use crate::words::{funnel_shift, low_bits, set_word, word_at, word_of};
 
-// Sets the bit at one position and no other.
-pub(crate) fn set_bit(bytes: &mut [u8], position: usize)
+/// Sets the bit at one position and no other.
+pub fn set_bit(bytes: &mut [u8], position: usize)
     requires { position < 8 * length bytes.old }
     ensures { (p : ℕ) → backing_bit bytes.new p ≡ (nat_eq p position || backing_bit bytes.old p) }
 {
     bytes[position / 8] |= 1 << (position % 8);
 }
 
-// Clears the bit at one position and no other.
-pub(crate) fn clear_bit(bytes: &mut [u8], position: usize)
+/// Clears the bit at one position and no other.
+pub fn clear_bit(bytes: &mut [u8], position: usize)
     requires { position < 8 * length bytes.old }
     ensures { (p : ℕ) → backing_bit bytes.new p
         ≡ (not (nat_eq p position) && backing_bit bytes.old p) }
 {
     bytes[position / 8] &= !(1 << (position % 8));
-}
-
-// Writes truth values to the front, a word at a time.
-pub(crate) fn put_bools(bytes: &mut [u8], bools: &[bool])
-    requires { 8 * div_ceil (length bools.now) 64 ≤ length bytes.old }
-    ensures { (i : ℕ) → i < length bools.now
-        → backing_bit bytes.new i ≡ slice_index_or bools.now i false }
-{
-    let whole = bools.len() / 64;
-    for i in 0..whole {
-        set_word(bytes, i, packed(&bools[64 * i..64 * i + 64]));
-    }
-    if 64 * whole < bools.len() {
-        set_word(bytes, whole, packed(&bools[64 * whole..]));
-    }
-}
-
-// The word of at most 64 values, the first lowest, with zeros past them.
-//
-// With no branch for a value, and always inlined: where there are 64 the loop becomes one of a few
-// steps, each of which takes several values.
-#[inline(always)]
-fn packed(bools: &[bool]) -> u64
-    requires { length bools.now ≤ 64 }
-    ensures { (j : ℕ) → j < 64
-        → slice_index_or (word_bits result) j false ≡ slice_index_or bools.now j false }
-{
-    let mut word = 0;
-    for j in 0..bools.len() {
-        word |= (bools[j] as u64) << j;
-    }
-    word
 }
 
 // Writes the lowest `count` bits of a word behind the first `at` bits.

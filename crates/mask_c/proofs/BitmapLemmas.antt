@@ -1,21 +1,19 @@
 -- Lists of bitmaps: their values and parts, and the words that show them.
-use Rattle.std.proofs.Common.{◌≡◌, ℕ, zero, suc, nat_eq, ◌^◌, ◌+◌, ◌-◌, ◌*◌, ◌<◌, ◌≤◌, Bool, false, List, [], ◌∷◌, length, get_or, slice_range, slice_get, Some, refl, sym, ap, take, ◌∙◌, add_assoc, inl, inr, arith}
+use Rattle.std.proofs.Common.{◌≡◌, ◌↔◌, ℕ, ◌+◌, ◌-◌, ◌<◌, ◌≤◌, ◌&&◌, not, Bool, true, false, List, [], ◌∷◌, length, get_or, slice_range, slice_get, Some, refl, sym, ap, take, ◌∙◌, add_assoc, inl, inr, arith}
+use Rattle.std.specs.Bool.{IsTrue}
 use Rattle.std.proofs.lemmas.Bool.{cases_lt, false≢true}
 use Rattle.std.proofs.lemmas.List.{ext_get_or, length-take}
 use Rattle.std.proofs.lemmas.List.Edits.{length-between, get_or-between}
 use Rattle.std.proofs.lemmas.Option.{slice_get-get_or}
-use Rattle.std.proofs.lemmas.Nat.Bits.{same_from_bits_below, bit_at-lt}
-use Rattle.std.specs.Int.{bit_at}
 use Rattle.mask_bits.specs.Buffer.{backing_bit}
-use Rattle.mask_bits.specs.Lists.{combined}
-use Rattle.mask_bits.specs.Positions.{count, count_below}
-use Rattle.mask_bits.specs.Words.{word_bits, padded_part}
+use Rattle.mask_bits.specs.Lists.{and_not_of, combined}
+use Rattle.mask_bits.specs.Positions.{count, count_below, repeated}
 use Rattle.mask_bits.proofs.Lists.Words.BackingBitLemmas.{length-bits_at, get_or-bits_at}
-use Rattle.mask_bits.proofs.Lists.Words.PaddedLemmas.{get_or-padded_part}
+use Rattle.mask_bits.proofs.Lists.BooleanLemmas.{get_or-combined, length-combined}
+use Rattle.mask_bits.proofs.Lists.CountLemmas.{all_false_from_count, count-repeated_false, get_or-repeated, length-repeated}
 use Rattle.mask_bits.proofs.Lists.Places.PlaceLemmas.{count-le-length}
 use Rattle.mask_bits.proofs.Lists.Places.SelectLemmas.{count-part_further}
-use Rattle.mask_bits.proofs.Lists.Words.WordLemmas.{get_or-word_bits}
-use Rattle.mask_c.specs.Bitmap.{bitmap}
+use Rattle.mask_c.specs.Bitmap.{IsSubset, bitmap}
 
 -- value i is the backing bit at offset + i
 pub slice_get-bitmap : (bytes : List ℕ) (offset len i : ℕ) → i < len → slice_get (bitmap bytes offset len) i ≡ Some (backing_bit bytes (offset + i))
@@ -58,40 +56,26 @@ first_of (v ∷ a) (w ∷ b) len = ap (λ (xs : List Bool). v ∷ xs) (first_of 
 pub first_of_itself : (a : List Bool) → combined (λ x y. x) a a ≡ a
 first_of_itself a = sym (first_of a a refl)
 
--- ---- words
+-- ---- two lists
 
-same_bit : (m n : ℕ) → m < 2 → n < 2 → nat_eq m 1 ≡ nat_eq n 1 → m ≡ n
-same_bit zero zero low low' e = refl
-same_bit zero (suc zero) low low' e = absurd (false≢true e)
-same_bit (suc zero) zero low low' e = absurd (false≢true (sym e))
-same_bit (suc zero) (suc zero) low low' e = refl
-same_bit (suc (suc m)) n low low' e = absurd (omega arith)
-same_bit m (suc (suc n)) low low' e = absurd (omega arith)
+-- no value of a is true that b hasn't
+pub subset_from_none : (a b : List Bool) (n : ℕ) → length a ≡ n → length b ≡ n → (and_not_of a b ≡ repeated n false) ↔ IsSubset a b
+subset_from_none a b n len len_b =
+    let value : (i : ℕ) → i < n → get_or (and_not_of a b) i false ≡ (get_or a i false && not (get_or b i false))
+    = λ i h. get_or-combined (λ x y. x && not y) a b i false (omega arith) (len ∙ sym len_b) in (
+      λ none i h holds. grind (arith, value i, ap (λ (m : List Bool). get_or m i false) none, get_or-repeated n i false false),
+      λ subset. ext_get_or false (and_not_of a b) (repeated n false) (length-combined (λ x y. x && not y) a b (len ∙ sym len_b) ∙ len ∙ sym (length-repeated n false)) (λ i h.
+          let few : i < n = omega (arith, length-combined (λ x y. x && not y) a b (len ∙ sym len_b)) in
+          grind (arith, value i few, subset i, get_or-repeated n i false false)),
+    )
 
--- words of the same bits are the same
-word_from_bits : (v w : ℕ) → v < 2 ^ 64 → w < 2 ^ 64 → word_bits v ≡ word_bits w → v ≡ w
-word_from_bits v w fits fits' same =
-    same_from_bits_below 64 v w fits fits' (λ j h.
-    same_bit (bit_at v j) (bit_at w j) (bit_at-lt v j) (bit_at-lt w j)
-    (sym (get_or-word_bits v j false h) ∙ ap (λ (m : List Bool). get_or m j false) same ∙ get_or-word_bits w j false h))
-
--- word i of one list is word i of a list that is the same
-pub same_word : (a b : List Bool) (i v w : ℕ) → v < 2 ^ 64 → w < 2 ^ 64 → word_bits v ≡ padded_part a i → word_bits w ≡ padded_part b i → a ≡ b → v ≡ w
-same_word a b i v w fits fits' is_v is_w same = grind (arith, word_from_bits)
-
--- the values of one more word that is the same
-pub same_values-more : (a b : List Bool) (i v w : ℕ) → word_bits v ≡ padded_part a i → word_bits w ≡ padded_part b i → v ≡ w
-    → ((p : ℕ) → p < 64 * i → get_or a p false ≡ get_or b p false)
-    → (p : ℕ) → p < 64 * (i + 1) → get_or a p false ≡ get_or b p false
-same_values-more a b i v w is_v is_w same before p h = elim (cases_lt p (64 * i)) [
-  | inl earlier ↦ before p earlier
-  | inr past ↦
-      let j : ℕ = p - 64 * i in
-      let small : j < 64 = omega arith in
-      let at : 64 * i + j ≡ p = omega arith in
-      ap (λ n. get_or a n false) (sym at)
-      ∙ sym (get_or-padded_part a i j small)
-      ∙ ap (λ (m : List Bool). get_or m j false) (sym is_v ∙ ap word_bits same ∙ is_w)
-      ∙ get_or-padded_part b i j small
-      ∙ ap (λ n. get_or b n false) at
-]
+-- where it isn't so that no value is true, some are
+pub some_from_none : (r : Bool) (m : List Bool) (n : ℕ) → length m ≡ n → (IsTrue r ↔ (m ≡ repeated n false)) → IsTrue (not r) ↔ (0 < count m)
+some_from_none true m n len none = (λ h. absurd (false≢true h), λ some. absurd (omega (arith, ap count (none.0 refl), count-repeated_false n)))
+some_from_none false m n len none = (
+  λ h. elim (cases_lt 0 (count m)) [
+    | inl some ↦ some
+    | inr few ↦ absurd (false≢true (none.1 (all_false_from_count 0 m (omega arith) ∙ ap (λ k. repeated k false) len)))
+  ],
+  λ some. refl,
+)

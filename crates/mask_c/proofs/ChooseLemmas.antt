@@ -1,9 +1,9 @@
 -- The rows at the true values of a list, one started word after another.
-use Rattle.std.proofs.Common.{◌≡◌, ℕ, suc, nat_eq, ◌+◌, ◌-◌, ◌*◌, ◌^◌, ◌<◌, ◌≤◌, Bool, true, false, List, [], ◌∷◌, ◌++◌, length, get_or, take, drop, map, slice_get, refl, sym, subst, ap, ap₂, ◌∙◌, add-zero, inl, inr, arith}
+use Rattle.std.proofs.Common.{◌≡◌, ℕ, suc, nat_eq, ◌+◌, ◌-◌, ◌*◌, ◌^◌, ◌<◌, ◌≤◌, Bool, true, false, List, [], ◌∷◌, ◌++◌, length, get_or, set, take, drop, map, slice_get, Some, refl, sym, subst, ap, ap₂, ◌∙◌, add-zero, inl, inr, arith}
 use Rattle.std.proofs.Math.Seq.{take-add}
 use Rattle.std.specs.List.{All, cons_option, filter_map, range_with_len}
 use Rattle.std.proofs.lemmas.Bool.{cases_lt}
-use Rattle.std.proofs.lemmas.List.{get_or-drop, get_or-take, get_or_past, length-drop, length-take, take-append-drop, take_all}
+use Rattle.std.proofs.lemmas.List.{get_or-drop, get_or-take, get_or_past, length-drop, length-take, take-append-drop, take_all, take_more, take_more_set}
 use Rattle.std.proofs.lemmas.List.Elements.{All-get_or, All-head, All-tail, All-weaker, filter_map-append}
 use Rattle.std.proofs.lemmas.List.FromFn.{get_or-range_with_len}
 use Rattle.std.proofs.lemmas.Nat.Bits.{bit_at-zero}
@@ -139,3 +139,15 @@ rows-full {X} rows w fits full many =
     ∙ rows_at-front rows 64 (positions m) few
     ∙ sym (chosen_at_positions front m)
     ∙ chosen-all_true front 64 len
+
+-- the rows at one more index
+pub rows_at-more : {X : Type 0} (rows : List X) (ps : List ℕ) (out : List X) (k : ℕ) (row : X) → k < length ps → k < length out
+    → take k out ≡ rows_at rows (take k ps) → slice_get rows (get_or ps k 0) ≡ Some row
+    → take (k + 1) (set out k row) ≡ rows_at rows (take (k + 1) ps)
+rows_at-more {X} rows ps out k row few room so_far read =
+    let p : ℕ = get_or ps k 0 in
+    let one : rows_at rows (p ∷ []) ≡ row ∷ [] = ap (λ o. cons_option o []) read in
+    take_more_set out k row room
+    ∙ ap₂ (λ (xs ys : List X). xs ++ ys) so_far (sym one)
+    ∙ sym (filter_map-append (λ i. slice_get rows i) (take k ps) (p ∷ []))
+    ∙ ap (rows_at rows) (sym (take_more ps k 0 few))

@@ -1,20 +1,21 @@
 -- The last values of a bitmap that is written, and the values before them.
-use Rattle.std.proofs.Common.{◌≡◌, ℕ, zero, suc, nat_eq, set, ◌^◌, ◌+◌, ◌-◌, ◌*◌, ◌/◌, ◌%◌, ◌<◌, ◌≤◌, Bool, true, false, List, [], ◌∷◌, ◌++◌, length, get_or, take, drop, refl, sym, ap, ap₂, ◌∙◌, inl, inr, arith, mod-eq_of_lt}
+use Rattle.std.proofs.Common.{◌≡◌, ℕ, nat_eq, set, ◌^◌, ◌+◌, ◌-◌, ◌*◌, ◌/◌, ◌%◌, ◌<◌, ◌≤◌, Bool, true, false, List, [], ◌∷◌, ◌++◌, length, get_or, take, drop, refl, sym, ap, ap₂, ◌∙◌, inl, inr, arith, mod-eq_of_lt}
 use Rattle.std.proofs.Math.Pow.{pow-lt}
 use Rattle.std.specs.Int.{bit_at, div_ceil}
 use Rattle.std.specs.Int.RustNames.{bit_and}
 use Rattle.std.proofs.lemmas.Bool.{cases_eq}
 use Rattle.std.proofs.lemmas.Grind.{get_or-set_at}
-use Rattle.std.proofs.lemmas.List.{ext_get_or, get_or-set_other, get_or-take, get_or_append_left, get_or-append_right, length-append, length-take}
+use Rattle.std.proofs.lemmas.List.{ext_get_or, get_or-set_other, get_or-take, get_or_append_left, get_or-append_right, length-append, length-drop, length-take, take-append-drop}
 use Rattle.std.proofs.lemmas.Nat.Bits.{bit_at-lt, bit_at_and, bit_at_ones, bit_at_ones_above}
 use Rattle.std.proofs.lemmas.Slice.{drop-put_mid}
 use Rattle.mask_bits.specs.Buffer.{backing_bit}
 use Rattle.mask_bits.specs.Lists.{combined}
 use Rattle.mask_bits.specs.Positions.{count, rank_intersection, repeated}
 use Rattle.mask_bits.specs.Words.{window}
-use Rattle.mask_bits.proofs.Lists.CountLemmas.{count-append, get_or-repeated}
+use Rattle.mask_bits.proofs.Lists.BooleanLemmas.{combined-append, combined-take}
+use Rattle.mask_bits.proofs.Lists.CountLemmas.{all_true_from_count, count-append, get_or-repeated}
 use Rattle.mask_bits.proofs.Lists.Places.PlaceLemmas.{trues, count-trues}
-use Rattle.mask_bits.proofs.Lists.RankLemmas.{narrow, rank_intersection-narrow}
+use Rattle.mask_bits.proofs.Lists.RankLemmas.{narrow, rank_intersection-all_true, rank_intersection-narrow}
 use Rattle.mask_bits.proofs.Lists.Words.BackingBitLemmas.{bits_at-append, length-bits_at, get_or-bits_at}
 use Rattle.mask_bits.proofs.Lists.Words.FrontLemmas.{front-same, get_or-put_mid_below, get_or-put_mid_inside, get_or-window, window-take}
 use Rattle.mask_c.specs.Bitmap.{AreClearBehind, bitmap}
@@ -146,18 +147,6 @@ front-split bytes len =
     let place : 0 + 64 * (len / 64) ≡ 64 * (len / 64) = omega arith in
     bitmap-split bytes 0 len ∙ ap (λ p. bitmap bytes 0 (64 * (len / 64)) ++ bitmap bytes p (len % 64)) place
 
-combined-append : (f : Bool → Bool → Bool) (a b c d : List Bool) → length a ≡ length b → combined f (a ++ c) (b ++ d) ≡ combined f a b ++ combined f c d
-combined-append f [] [] c d len = refl
-combined-append f [] (y ∷ b) c d len = absurd (omega arith)
-combined-append f (x ∷ a) [] c d len = absurd (omega arith)
-combined-append f (x ∷ a) (y ∷ b) c d len = ap (λ (xs : List Bool). f x y ∷ xs) (combined-append f a b c d (omega arith))
-
-combined-take : (f : Bool → Bool → Bool) (n : ℕ) (a b : List Bool) → take n (combined f a b) ≡ combined f (take n a) (take n b)
-combined-take f zero a b = refl
-combined-take f (suc n) [] b = refl
-combined-take f (suc n) (x ∷ a) [] = refl
-combined-take f (suc n) (x ∷ a) (y ∷ b) = ap (λ (xs : List Bool). f x y ∷ xs) (combined-take f n a b)
-
 narrow-append : (a c b d : List Bool) → length b ≡ trues a → narrow (a ++ c) (b ++ d) ≡ narrow a b ++ narrow c d
 narrow-append [] c [] d len = refl
 narrow-append [] c (y ∷ b) d len = absurd (omega arith)
@@ -214,3 +203,43 @@ written-narrowed a b front last out more p q len n k covers is_n is_k whole part
     ∙ sym (rank_intersection-append (bitmap a p w) (bitmap a (p + w) rest) (bitmap b q n) (bitmap b (q + n) k)
     (length-bits_at b q n ∙ is_n) (length-bits_at b (q + n) k ∙ is_k))
     ∙ ap₂ rank_intersection (sym (bitmap-split a p len)) (sym (bits_at-append b q n k))
+
+-- whole words of a list, and its last values
+pub written-list : (m : List Bool) (front out more : List ℕ) (len : ℕ) (v : List Bool) → length m ≡ len → 64 * (len / 64) ≤ 8 * length front
+    → ((p : ℕ) → p < length (take (64 * (len / 64)) m) → backing_bit front p ≡ get_or (take (64 * (len / 64)) m) p false)
+    → length v ≡ 64 → ((j : ℕ) → j < 64 → get_or v j false ≡ get_or (drop (64 * (len / 64)) m) j false)
+    → bitmap out 0 (64 * (len / 64)) ≡ bitmap (front ++ more) 0 (64 * (len / 64)) → bitmap out (64 * (len / 64)) (len % 64) ≡ take (len % 64) v
+    → bitmap out 0 len ≡ m
+written-list m front out more len v is_len covers list word shows before last =
+    let w : ℕ = 64 * (len / 64) in
+    let rest : ℕ = len % 64 in
+    let length_front : length (take w m) ≡ w = omega (arith, length-take w m) in
+    let length_rest : length (drop w m) ≡ rest = omega (arith, length-drop w m) in
+    let first : bitmap front 0 w ≡ take w m
+    = ext_get_or false (bitmap front 0 w) (take w m) (length-bits_at front 0 w ∙ sym length_front) (λ p h.
+    let few : p < w = omega (arith, length-bits_at front 0 w) in
+    let place : 0 + p ≡ p = omega arith in
+    get_or-bits_at front 0 w p false few ∙ ap (backing_bit front) place ∙ list p (omega arith)) in
+    let second : take rest v ≡ drop w m
+    = ext_get_or false (take rest v) (drop w m) (omega (arith, length-take rest v)) (λ j h.
+    let few : j < rest = omega (arith, length-take rest v) in
+    get_or-take rest v j false few ∙ shows j (omega arith)) in
+    front-split out len
+    ∙ ap₂ (λ (xs ys : List Bool). xs ++ ys) (before ∙ front-appended front more w covers ∙ first) (last ∙ second)
+    ∙ take-append-drop w m
+
+-- whole words alone
+pub written-whole : (m : List Bool) (front more : List ℕ) (len : ℕ) → length m ≡ len → len % 64 ≡ 0 → 64 * (len / 64) ≤ 8 * length front
+    → ((p : ℕ) → p < length (take (64 * (len / 64)) m) → backing_bit front p ≡ get_or (take (64 * (len / 64)) m) p false)
+    → bitmap (front ++ more) 0 len ≡ m
+written-whole m front more len is_len none covers list =
+    ext_get_or false (bitmap (front ++ more) 0 len) m (length-bits_at (front ++ more) 0 len ∙ sym is_len) (λ p h.
+    let few : p < len = omega (arith, length-bits_at (front ++ more) 0 len) in
+    let place : 0 + p ≡ p = omega arith in
+    let inside : p < length (take (64 * (len / 64)) m) = omega (arith, length-take (64 * (len / 64)) m) in
+    ap (λ (xs : List Bool). get_or xs p false) (front-appended front more len (omega arith))
+    ∙ get_or-bits_at front 0 len p false few ∙ ap (backing_bit front) place ∙ list p inside ∙ get_or-take (64 * (len / 64)) m p false (omega arith))
+
+-- where all values are true, the ranks are the whole
+pub narrowed_by_all : (m r : List Bool) → count m ≡ length m → length r ≡ length m → rank_intersection m r ≡ r
+narrowed_by_all m r all len = ap (λ (x : List Bool). rank_intersection x r) (all_true_from_count 0 m all) ∙ rank_intersection-all_true (length m) r len

@@ -106,7 +106,7 @@ gathered-bits ranks from cut bits split g j h =
 
 -- ---- ranks as a list of two parts
 
-get_or-true_at : (n : ℕ) (ps : List ℕ) (p : ℕ) → p < n → get_or (true_at n ps) p false ≡ list_any (nat_eq p) ps
+pub get_or-true_at : (n : ℕ) (ps : List ℕ) (p : ℕ) → p < n → get_or (true_at n ps) p false ≡ list_any (nat_eq p) ps
 unfolding true_at
 get_or-true_at n ps p h = get_or-map-range_with_len (λ i. list_any (nat_eq i) ps) 0 n p p false h (omega arith)
 

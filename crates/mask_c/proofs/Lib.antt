@@ -1,5 +1,11 @@
+mod AppendLemmas
 mod BitmapLemmas
 mod ChooseLemmas
+mod ChosenStringLemmas
+mod Examples
+mod FillLemmas
+mod FromIndicesLemmas
 mod IndexLemmas
 mod LastLemmas
 mod LastRankLemmas
+mod StringLemmas

@@ -1,5 +1,5 @@
 -- A bitmap as C has it: bytes, the position of the first bit, and how many bits there are.
-use Rattle.std.specs.Prelude.{ℕ, ◌*◌, ◌<◌, ◌≤◌, ◌≡◌, Bool, false, List}
+use Rattle.std.specs.Prelude.{ℕ, ◌*◌, ◌<◌, ◌≤◌, ◌≡◌, ◌⊎◌, Bool, true, false, List, length, slice_index_or}
 use Rattle.std.specs.Int.{div_ceil}
 use Rattle.mask_bits.specs.Buffer.{backing_bit, values}
 
@@ -10,3 +10,12 @@ bitmap bytes offset len = values (record { bytes = bytes; offset = offset; len =
 -- in the bytes that n values take from bit 0 on, the bits behind the last value are clear
 abbrev pub AreClearBehind : List ℕ → ℕ → Type 0
 AreClearBehind bytes n = (p : ℕ) → n ≤ p → p < 8 * div_ceil n 8 → backing_bit bytes p ≡ false
+
+-- each true value of a is true in b
+abbrev pub IsSubset : List Bool → List Bool → Type 0
+IsSubset a b = (i : ℕ) → i < length a → slice_index_or a i false ≡ true → slice_index_or b i false ≡ true
+
+-- the bits from position m to n are `value`, and all others as they were
+pub record IsFilled (old new : List ℕ) (m n : ℕ) (value : Bool) : Type 0 where
+  pub inside : (p : ℕ) → m ≤ p → p < n → backing_bit new p ≡ value
+  pub outside : (p : ℕ) → ((p < m) ⊎ (n ≤ p)) → backing_bit new p ≡ backing_bit old p

@@ -1,1 +1,2 @@
 pub mod Bitmap
+pub mod Strings

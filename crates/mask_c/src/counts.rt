@@ -3,9 +3,12 @@
 ghost use Rattle.std.specs.Prelude.{◌≡◌, ◌≤◌, All, length, map, slice_range};
 ghost use Rattle.std.specs.List.Sorted.{IsNonDecreasing};
 ghost use Rattle.mask_bits.specs.Buffer.{IsWithinBytes};
+ghost use Rattle.mask_bits.specs.Lists.{and_of};
 ghost use Rattle.mask_bits.specs.Positions.{count, count_below};
 ghost use Rattle.mask_c.specs.Bitmap.{bitmap};
 
+use mask_bits::combine::And;
+use mask_bits::compare::count_true;
 use mask_bits::counts::count_bits;
 
 /// How many values are true.
@@ -62,4 +65,20 @@ pub extern "C" fn row_mask_counts_below(
         from = *index;
         out[i] = below;
     }
+}
+
+/// How many values are true in both.
+#[unsafe(no_mangle)]
+pub extern "C" fn row_mask_and_count(
+    a: &[u8],
+    a_offset: usize,
+    b: &[u8],
+    b_offset: usize,
+    len: usize,
+) -> usize
+    requires a { IsWithinBytes a.now a_offset len }
+    requires b { IsWithinBytes b.now b_offset len }
+    ensures { result ≡ count (and_of (bitmap a.now a_offset len) (bitmap b.now b_offset len)) }
+{
+    count_true::<And>(a, a_offset, b, b_offset, len)
 }

@@ -3,11 +3,11 @@
 ghost use Rattle.std.specs.Prelude.{◌≡◌, ◌≤◌, drop, length};
 ghost use Rattle.std.specs.Int.{div_ceil};
 ghost use Rattle.mask_bits.specs.Buffer.{IsWithinBytes};
-ghost use Rattle.mask_bits.specs.Lists.{and_of, or_of, and_not_of, combined, not_of};
+ghost use Rattle.mask_bits.specs.Lists.{and_of, or_of, and_not_of, combined, not_of, xor_of};
 ghost use Rattle.mask_c.specs.Bitmap.{AreClearBehind, bitmap};
 
 use crate::last::clear_behind;
-use mask_bits::combine::{And, AndNot, BitOp, Or, combine_in_place, negate_in_place};
+use mask_bits::combine::{And, AndNot, BitOp, Or, Xor, combine_in_place, negate_in_place};
 
 /// Writes the values that are true in both in the place of `a`, which begins at bit 0.
 ///
@@ -52,6 +52,22 @@ pub extern "C" fn row_mask_and_not_in_place(a: &mut [u8], b: &[u8], b_offset: us
     ensures behind { drop (div_ceil len 8) a.new ≡ drop (div_ceil len 8) a.old }
 {
     change::<AndNot>(a, b, b_offset, len);
+}
+
+/// Writes the values that are true in one and not in the other in the place of `a`, which begins at
+/// bit 0.
+///
+/// Asks that `a_size >= row_mask_room(len)`.
+#[unsafe(no_mangle)]
+pub extern "C" fn row_mask_xor_in_place(a: &mut [u8], b: &[u8], b_offset: usize, len: usize)
+    requires room { div_ceil len 8 ≤ length a.old }
+    requires b { IsWithinBytes b.now b_offset len }
+    ensures values { bitmap a.new 0 len
+        ≡ xor_of (bitmap a.old 0 len) (bitmap b.now b_offset len) }
+    ensures clear { AreClearBehind a.new len }
+    ensures behind { drop (div_ceil len 8) a.new ≡ drop (div_ceil len 8) a.old }
+{
+    change::<Xor>(a, b, b_offset, len);
 }
 
 /// Writes each value negated in its place. The bitmap begins at bit 0.

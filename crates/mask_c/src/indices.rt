@@ -3,7 +3,7 @@
 ghost use Rattle.std.specs.Prelude.{◌≡◌, ◌-◌, ◌+◌, ◌*◌, ◌<◌, ◌≤◌, ◌^◌, ◌++◌, ℕ, All, drop, length, map, min, not, slice_index_or, Some, slice_get, take, true};
 ghost use Rattle.mask_bits.specs.Buffer.{IsWithinBytes, backing_bit};
 ghost use Rattle.mask_bits.specs.Positions.{IsFirstFrom, count, indices_from, positions};
-ghost use Rattle.mask_bits.specs.Words.{word_bits};
+ghost use Rattle.mask_bits.specs.Words.{started_words, word_bits};
 ghost use Rattle.mask_c.specs.Bitmap.{bitmap};
 
 use mask_bits::BitChunks;
@@ -111,4 +111,17 @@ fn indices_of_word(word: u64, first: usize, out: &mut [usize], at: usize) -> usi
         word &= word - 1;
     }
     at
+}
+
+// Writes the indices of the true values of started word `i` to the front of `block`, and answers how
+// many these are.
+#[inline]
+pub(crate) fn indices_in_word(chunks: &BitChunks, i: usize, block: &mut [usize; 64]) -> usize
+    requires within { i < started_words (length chunks.now) }
+    requires fits { length chunks.now < 2 ^ 64 }
+    ensures few { result ≤ 64 }
+    ensures indices { positions (take (64 * (i + 1)) chunks.now)
+        ≡ positions (take (64 * i) chunks.now) ++ take result block.new }
+{
+    indices_of_word(chunks.padded_word(i), 64 * i, block, 0)
 }

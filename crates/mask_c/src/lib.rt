@@ -2,14 +2,23 @@
 //! length, and a result goes into room that the caller lends.
 #![tactic(auto)]
 
+mod append;
 mod bitmap;
+mod bools;
 mod choose;
+mod compare;
 mod counts;
-mod equal;
+mod fill;
+mod from_indices;
 mod in_place;
 mod indices;
 mod last;
+mod offsets;
 mod pointwise;
 mod rank;
+mod rank_words;
 mod runs;
+mod strings;
+mod take;
 mod version;
+mod words;

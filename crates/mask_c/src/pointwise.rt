@@ -3,11 +3,11 @@
 ghost use Rattle.std.specs.Prelude.{◌≡◌, ◌≤◌, drop, length};
 ghost use Rattle.std.specs.Int.{div_ceil};
 ghost use Rattle.mask_bits.specs.Buffer.{IsWithinBytes};
-ghost use Rattle.mask_bits.specs.Lists.{and_of, or_of, and_not_of, combined, not_of};
+ghost use Rattle.mask_bits.specs.Lists.{and_of, or_of, and_not_of, combined, not_of, xor_of};
 ghost use Rattle.mask_c.specs.Bitmap.{AreClearBehind, bitmap};
 
 use crate::last::put_last;
-use mask_bits::combine::{And, AndNot, BitOp, Not, Or, combine};
+use mask_bits::combine::{And, AndNot, BitOp, Not, Or, Xor, combine};
 use mask_bits::words::word_at;
 
 // The first, whatever the second is.
@@ -90,6 +90,29 @@ pub extern "C" fn row_mask_and_not(
     ensures behind { drop (div_ceil len 8) out.new ≡ drop (div_ceil len 8) out.old }
 {
     write::<AndNot>(a, a_offset, b, b_offset, len, out);
+}
+
+/// Writes the values that are true in one and not in the other.
+///
+/// Asks that `out_size >= row_mask_room(len)`.
+#[unsafe(no_mangle)]
+pub extern "C" fn row_mask_xor(
+    a: &[u8],
+    a_offset: usize,
+    b: &[u8],
+    b_offset: usize,
+    len: usize,
+    out: &mut [u8],
+)
+    requires a { IsWithinBytes a.now a_offset len }
+    requires b { IsWithinBytes b.now b_offset len }
+    requires room { div_ceil len 8 ≤ length out.old }
+    ensures values { bitmap out.new 0 len
+        ≡ xor_of (bitmap a.now a_offset len) (bitmap b.now b_offset len) }
+    ensures clear { AreClearBehind out.new len }
+    ensures behind { drop (div_ceil len 8) out.new ≡ drop (div_ceil len 8) out.old }
+{
+    write::<Xor>(a, a_offset, b, b_offset, len, out);
 }
 
 /// Writes each value negated.

@@ -11,6 +11,7 @@ ghost use Rattle.mask_c.specs.Bitmap.{AreClearBehind, bitmap};
 ghost use Rattle.vortex_mask.specs.Ranks.{AreSplit};
 
 use crate::last::put_last;
+use crate::pointwise::row_mask_copy;
 use mask_bits::counts::count_bits;
 use mask_bits::words::{set_word, word_of};
 use mask_bits::{BitChunks, laws};
@@ -43,7 +44,10 @@ pub extern "C" fn row_mask_intersect_by_rank(
     ensures clear { AreClearBehind out.new len }
     ensures behind { drop (div_ceil len 8) out.new ≡ drop (div_ceil len 8) out.old }
 {
-    if deposits_by_loop(len, ranks_len) {
+    if ranks_len == len {
+        // all values are true, so that the ranks are the whole
+        row_mask_copy(ranks, ranks_offset, len, out);
+    } else if deposits_by_loop(len, ranks_len) {
         narrow::<PortableLoop>(bytes, offset, len, ranks, ranks_offset, ranks_len, out);
     } else {
         narrow::<Portable>(bytes, offset, len, ranks, ranks_offset, ranks_len, out);

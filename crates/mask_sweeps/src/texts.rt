@@ -1,4 +1,4 @@
-// Texts that no clause says, beside plain ones: `Display` of a mask, and `Debug` of buffers and masks.
+// Texts of masks and buffers beside plain ones. Contracts say what is written; that it is written is tested here.
 use crate::judge::Judge;
 use crate::masks::{Source, plain_buffer};
 use crate::plain::Plain;

@@ -8,13 +8,14 @@ use Rattle.mask_bits.specs.Positions.{positions, count, rank_intersection}
 use Rattle.mask_bits.specs.RunScan.{runs}
 use Rattle.mask_bits.specs.Stacks.{folded_left}
 use Rattle.maskrun.specs.Arguments.{◌unless◌, ◌>>=◌, one_mask, two_masks, mask_and_number, mask_and_range, masks}
-use Rattle.maskrun.specs.Text.{text, list_text, range_text}
+use Rattle.maskrun.specs.Text.{list_text, range_text}
 use Rattle.maskrun.specs.declared.command.Command.{Command}
 use Rattle.maskrun.specs.declared.command.Command.TheVariants.{Rank, And, Or, AndNot, Not, Slice, Limit, Cat, Pipe, Indices, Ranges}
 use Rattle.maskrun.specs.declared.error.RunError.{RunError}
 use Rattle.maskrun.specs.declared.error.RunError.TheVariants.{Usage, LengthsDiffer, OutOfRange, Mask}
 use Rattle.vortex_mask.specs.declared.mask.error.MaskError.TheVariants.{Memory, LengthOverflow}
 use Rattle.vortex_mask.specs.Faults.{or_else}
+use Rattle.vortex_mask.specs.Text.{mask_text}
 
 -- how a command reads its arguments
 abbrev pub Reads : Type 0
@@ -70,15 +71,15 @@ misfit (a ∷ b ∷ ms) = or_else (len_fault (count a) b) (misfit (b ∷ ms))
 
 -- what a command prints
 abbrev pub printed : Command → Result (List ℕ) RunError
-printed (Rank a b) = text (rank_intersection a b) unless len_fault (count a) b
-printed (And a b) = text (and_of a b) unless len_fault (length a) b
-printed (Or a b) = text (or_of a b) unless len_fault (length a) b
-printed (AndNot a b) = text (and_not_of a b) unless len_fault (length a) b
-printed (Not a) = Ok (text (not_of a))
-printed (Slice a s e) = text (slice_range a s e) unless part_fault a s e
-printed (Limit a k) = Ok (text (limited a k))
-printed (Cat ms) = text (concat ms) unless sum_fault ms
-printed (Pipe ms) = text (folded_left ms) unless misfit ms
+printed (Rank a b) = mask_text (rank_intersection a b) unless len_fault (count a) b
+printed (And a b) = mask_text (and_of a b) unless len_fault (length a) b
+printed (Or a b) = mask_text (or_of a b) unless len_fault (length a) b
+printed (AndNot a b) = mask_text (and_not_of a b) unless len_fault (length a) b
+printed (Not a) = Ok (mask_text (not_of a))
+printed (Slice a s e) = mask_text (slice_range a s e) unless part_fault a s e
+printed (Limit a k) = Ok (mask_text (limited a k))
+printed (Cat ms) = mask_text (concat ms) unless sum_fault ms
+printed (Pipe ms) = mask_text (folded_left ms) unless misfit ms
 printed (Indices a) = Ok (list_text decimal (positions a))
 printed (Ranges a) = Ok (list_text range_text (runs a))
 

@@ -5,18 +5,19 @@ ghost use Rattle.std.specs.Fmt.{decimal};
 ghost use Rattle.maskrun.specs.Arguments.{◌unless◌};
 ghost use Rattle.maskrun.specs.Commands.{command_of, printed, Prints, len_fault, part_fault, sum_fault, misfit, out_of_memory};
 ghost use Rattle.maskrun.specs.declared.error.RunError.TheVariants as run_error;
-ghost use Rattle.maskrun.specs.Text.{text, list_text, range_text};
+ghost use Rattle.maskrun.specs.Text.{list_text, range_text};
 ghost use Rattle.mask_bits.specs.Lists.{and_of, or_of, and_not_of, not_of, limited, concat};
 ghost use Rattle.mask_bits.specs.Positions.{positions, count, rank_intersection};
 ghost use Rattle.mask_bits.specs.RunScan.{runs};
 ghost use Rattle.mask_bits.specs.Stacks.{IsStack, folded_left};
 ghost use Rattle.vortex_mask.specs.Mask.{truth};
+ghost use Rattle.vortex_mask.specs.Text.{mask_text};
 
 use crate::argument::{
     MaskArgument, MaskList, mask_and_number, mask_and_range, masks, one_mask, two_masks,
 };
 use crate::error::RunError;
-use crate::print::{Item, list_text, mask_text};
+use crate::print::{Item, list_text};
 use std::alloc::{AllocError, Global};
 use vortex_mask::{Mask, MaskError};
 
@@ -81,7 +82,7 @@ impl<'a> Command<'a> {
 }
 
 fn rank(alloc: Global, a: &MaskArgument, b: &MaskArgument) -> Result<String, RunError>
-    ensures { Prints result (text (rank_intersection a.now b.now) unless len_fault (count a.now) b.now) }
+    ensures { Prints result (mask_text (rank_intersection a.now b.now) unless len_fault (count a.now) b.now) }
 {
     let (a, b) = (a.mask(alloc)?, b.mask(alloc)?);
     expect_len(&b, a.true_count())?;
@@ -89,21 +90,21 @@ fn rank(alloc: Global, a: &MaskArgument, b: &MaskArgument) -> Result<String, Run
 }
 
 fn and(alloc: Global, a: &MaskArgument, b: &MaskArgument) -> Result<String, RunError>
-    ensures { Prints result (text (and_of a.now b.now) unless len_fault (length a.now) b.now) }
+    ensures { Prints result (mask_text (and_of a.now b.now) unless len_fault (length a.now) b.now) }
 {
     let (a, b) = of_one_len(alloc, a, b)?;
     print(alloc, a.into_bitand(alloc, &b))
 }
 
 fn or(alloc: Global, a: &MaskArgument, b: &MaskArgument) -> Result<String, RunError>
-    ensures { Prints result (text (or_of a.now b.now) unless len_fault (length a.now) b.now) }
+    ensures { Prints result (mask_text (or_of a.now b.now) unless len_fault (length a.now) b.now) }
 {
     let (a, b) = of_one_len(alloc, a, b)?;
     print(alloc, a.into_bitor(alloc, &b))
 }
 
 fn and_not(alloc: Global, a: &MaskArgument, b: &MaskArgument) -> Result<String, RunError>
-    ensures { Prints result (text (and_not_of a.now b.now) unless len_fault (length a.now) b.now) }
+    ensures { Prints result (mask_text (and_not_of a.now b.now) unless len_fault (length a.now) b.now) }
 {
     let (a, b) = of_one_len(alloc, a, b)?;
     print(alloc, a.bitand_not(alloc, &b))
@@ -124,10 +125,10 @@ fn of_one_len(alloc: Global, a: &MaskArgument, b: &MaskArgument) -> Result<(Mask
 
 // The line of a mask, where it was found.
 fn print(alloc: Global, mask: Result<Mask, MaskError>) -> Result<String, RunError>
-    ensures found { IfOk mask (λ m. Prints result (Ok (text (truth m)))) }
+    ensures found { IfOk mask (λ m. Prints result (Ok (mask_text (truth m)))) }
     ensures fault { IfErr mask (λ e. result ≡ Err (run_error.Mask e)) }
 {
-    Ok(mask_text(alloc, &mask?)?)
+    Ok(mask?.to_string(alloc)?)
 }
 
 // The line of a list, where memory was found for it.
@@ -154,13 +155,13 @@ fn expect_len(mask: &Mask, want: usize) -> Result<(), RunError>
 }
 
 fn not(alloc: Global, a: &MaskArgument) -> Result<String, RunError>
-    ensures { Prints result (Ok (text (not_of a.now))) }
+    ensures { Prints result (Ok (mask_text (not_of a.now))) }
 {
     print(alloc, a.mask(alloc)?.not(alloc))
 }
 
 fn slice(alloc: Global, a: &MaskArgument, start: usize, end: usize) -> Result<String, RunError>
-    ensures { Prints result (text (slice_range a.now start end) unless part_fault a.now start end) }
+    ensures { Prints result (mask_text (slice_range a.now start end) unless part_fault a.now start end) }
 {
     let a = a.mask(alloc)?;
     if a.len() < end {
@@ -173,24 +174,24 @@ fn slice(alloc: Global, a: &MaskArgument, start: usize, end: usize) -> Result<St
 }
 
 fn limit(alloc: Global, a: &MaskArgument, k: usize) -> Result<String, RunError>
-    ensures { Prints result (Ok (text (limited a.now k))) }
+    ensures { Prints result (Ok (mask_text (limited a.now k))) }
 {
     print(alloc, a.mask(alloc)?.limit(alloc, k))
 }
 
 fn cat(alloc: Global, list: &MaskList) -> Result<String, RunError>
-    ensures { Prints result (text (concat list.now) unless sum_fault list.now) }
+    ensures { Prints result (mask_text (concat list.now) unless sum_fault list.now) }
 {
     let masks = list.masks(alloc)?;
     print(alloc, Mask::from_masks(alloc, masks.into_iter()))
 }
 
 fn pipe(alloc: Global, list: &MaskList) -> Result<String, RunError>
-    ensures { Prints result (text (folded_left list.now) unless misfit list.now) }
+    ensures { Prints result (mask_text (folded_left list.now) unless misfit list.now) }
 {
     let masks = list.masks(alloc)?;
     let mask = folded(alloc, &masks)?;
-    Ok(mask_text(alloc, &mask)?)
+    Ok(mask.to_string(alloc)?)
 }
 
 // The fold of a stack of masks. No masks fold to the empty one.

@@ -1,32 +1,10 @@
-//! A mask and a list as they are printed.
+//! A list as it is printed.
 
-ghost use Rattle.std.specs.Prelude.{◌≡◌, ◌<◌, ◌++◌, IfOk, OnOk, string_bytes};
+ghost use Rattle.std.specs.Prelude.{◌≡◌, ◌++◌, IfOk, OnOk, string_bytes};
 ghost use Rattle.std.specs.Fmt.{decimal};
-ghost use Rattle.maskrun.specs.Text.{digit, text, list_text, range_text};
-ghost use Rattle.vortex_mask.specs.Mask.{truth};
+ghost use Rattle.maskrun.specs.Text.{list_text, range_text};
 
 use std::alloc::{AllocError, Global};
-use vortex_mask::Mask;
-
-pub(crate) fn mask_text(alloc: Global, mask: &Mask) -> Result<String, AllocError>
-    ensures { IfOk result (λ t. string_bytes t ≡ text (truth mask.now)) }
-{
-    if mask.is_empty() {
-        return String::from_str(alloc, "-");
-    }
-    let mut digits = String::new(alloc);
-    for value in mask.iter() {
-        digits.push(digit_of(value))?;
-    }
-    Ok(digits)
-}
-
-fn digit_of(value: bool) -> char
-    ensures digit { result ≡ digit value }
-    ensures ascii { result < 128 }
-{
-    if value { '1' } else { '0' }
-}
 
 // What a printed list may have as an item.
 pub(crate) trait Item {

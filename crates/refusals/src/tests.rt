@@ -10,11 +10,15 @@
 mod alike;
 mod buffers;
 mod builders;
+mod constructors;
+mod items;
 mod kernels;
 mod masks;
+mod of_rows;
 mod plain;
 mod rows;
 mod sharing;
+mod stacks;
 mod without_memory;
 
 use alike::{is_by_value, is_kept};

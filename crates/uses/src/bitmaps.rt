@@ -1,13 +1,14 @@
 //! The bitmap that is written beside a column, where its rows are not all alike, and bitmaps as they are read.
-ghost use Rattle.std.specs.Prelude.{ℕ, ◌≡◌, ◌≢◌, ◌↔◌, ◌+◌, ◌*◌, ◌<◌, ◌≤◌, ◌^◌, All, IfOk, IfSome, IsTrue, false, length, slice_index_or, true, vec_len};
+ghost use Rattle.std.specs.Prelude.{ℕ, ◌≡◌, ◌≢◌, ◌↔◌, ◌+◌, ◌*◌, ◌<◌, ◌≤◌, ◌^◌, All, IfOk, IfSome, IsOk, IsTrue, false, length, slice_index_or, true, vec_len};
 ghost use Rattle.mask_bits.specs.Buffer.{values};
 ghost use Rattle.mask_bits.specs.Lists.{and_of};
+ghost use Rattle.mask_bits.specs.Positions.{count, positions, repeated, true_at};
 ghost use Rattle.vortex_mask.specs.Mask.{truth};
 
 use bytes::Bytes;
 use mask_bits::{BitBuffer, laws};
 use std::alloc::{AllocError, Global};
-use vortex_mask::{AllOr, Mask};
+use vortex_mask::{AllOr, Mask, MaskError};
 
 /// The bits to write, and nothing where one count says it all.
 pub fn bitmap(validity: &Mask) -> Option<&BitBuffer>
@@ -73,4 +74,37 @@ pub fn without_row(alloc: Global, valid: &BitBuffer, row: usize) -> Result<BitBu
     laws::boolean_values();
     let taken = BitBuffer::from_indices(alloc, valid.len(), &[row])?;
     valid.bitand_not(alloc, &taken)
+}
+
+/// How many rows of a column are valid, by the bytes of its bitmap: no more than it has rows.
+pub fn valid_in(column: Bytes, start: usize, rows: usize) -> usize
+    requires column { start + rows ≤ 8 * length column }
+    requires fits { start + rows < 2 ^ 64 }
+    ensures counted { result
+        ≡ count (values (record { bytes = column; offset = start; len = rows })) }
+    ensures at_most { result ≤ rows }
+{
+    laws::length_of_values();
+    laws::counts();
+    BitBuffer::new_with_offset(column, start, rows).true_count()
+}
+
+/// The mask of a column without nulls, which takes no memory for its bits.
+pub fn of_full_column(alloc: Global, validity: BitBuffer) -> Result<Mask, MaskError>
+    requires { values validity ≡ repeated (length (values validity)) true }
+    ensures list { IfOk result (λ m. truth m ≡ values validity) }
+    ensures no_memory { IsOk result }
+{
+    vortex_mask::laws::uniform_is_of_one_value();
+    Mask::from_buffer(alloc, validity)
+}
+
+/// The bitmap that is true at the rows of a filter, and a mask's own list.
+pub fn bitmap_of_rows(alloc: Global, filter: &Mask) -> Result<BitBuffer, AllocError>
+    ensures { IfOk result
+        (λ b. values b ≡ true_at (length (truth filter.now)) (positions (truth filter.now))) }
+{
+    laws::indices_are_within();
+    let rows: Vec<usize> = filter.set_indices().collect(alloc)?;
+    BitBuffer::from_indices(alloc, filter.len(), &rows)
 }

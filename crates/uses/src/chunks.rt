@@ -1,6 +1,7 @@
 //! A column in chunks, each filtered by its own mask.
-ghost use Rattle.std.specs.Prelude.{◌≡◌, ◌++◌, All, IfOk, flat_map, length};
+ghost use Rattle.std.specs.Prelude.{◌≡◌, ◌++◌, ◌+◌, ◌∷◌, ◌≤◌, ◌<◌, ◌^◌, map, All, IfOk, flat_map, length};
 ghost use Rattle.vortex_mask.specs.Mask.{truth};
+ghost use Rattle.mask_bits.specs.Lists.{concat};
 ghost use Rattle.mask_bits.specs.Positions.{chosen};
 
 use mask_bits::laws;
@@ -42,4 +43,24 @@ pub fn filtered_all<T: Copy>(alloc: Global, chunks: &[(&[T], &Mask)]) -> Result<
             Ok(rows)
         }
     }
+}
+
+/// The mask of one chunk, cut from the mask of all.
+pub fn of_chunk(
+    alloc: Global,
+    all: &Mask,
+    before: &[Mask],
+    chunk: &Mask,
+    after: &[Mask],
+    start: usize,
+) -> Result<Mask, MaskError>
+    requires all { truth all.now
+        ≡ concat (map truth before.now ++ truth chunk.now ∷ map truth after.now) }
+    requires start { start ≡ length (concat (map truth before.now)) }
+    requires within { start + length (truth chunk.now) ≤ length (truth all.now) }
+    ensures { IfOk result (λ m. truth m ≡ truth chunk.now) }
+{
+    laws::part_of_concat();
+    let _ = all.len();
+    all.slice(alloc, start, start + chunk.len())
 }

@@ -1,11 +1,11 @@
 //! Plans, shares, answers and masks that a caller compares: they are the same exactly where `==` says so.
-ghost use Rattle.std.specs.Prelude.{◌≡◌, ◌↔◌, IsTrue};
+ghost use Rattle.std.specs.Prelude.{◌≡◌, ◌↔◌, IfOk, IsTrue};
 ghost use Rattle.mask_bits.specs.Buffer.{values};
-ghost use Rattle.vortex_mask.specs.Mask.{truth};
+ghost use Rattle.vortex_mask.specs.Mask.{fitting_variant, truth, variant};
 
 use mask_bits::BitBuffer;
 use vortex_mask::intersect_by_rank::RankPath;
-use vortex_mask::{AllOr, Fraction, Mask, laws};
+use vortex_mask::{AllOr, Fraction, Mask, MaskError, laws};
 
 /// Whether two stacks of filters run the same kernel.
 pub fn same_kernel(first: RankPath, second: RankPath) -> bool
@@ -49,4 +49,13 @@ pub fn chooses_valid(filter: &Mask, validity: &BitBuffer) -> bool
     ensures { IsTrue result ↔ (truth filter.now ≡ values validity.now) }
 {
     filter.equals_buffer(validity)
+}
+
+/// A filter behind a clone is held as its list asks: all true, all false, or mixed.
+pub fn held_alike(filter: &Mask) -> Result<Mask, MaskError>
+    ensures { IfOk result
+        (λ m. variant m ≡ fitting_variant (variant filter.now) (truth filter.now)) }
+{
+    laws::one_variant(filter);
+    filter.clone()
 }

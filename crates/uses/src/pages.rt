@@ -1,10 +1,10 @@
 //! Which rows of a page are valid, by the bits of a column's validity.
-ghost use Rattle.std.specs.Prelude.{ℕ, ◌≡◌, ◌<◌, ◌≤◌, ◌-◌, true, false, IfOk, IfSome, IfNone, length, slice_index_or, slice_range};
+ghost use Rattle.std.specs.Prelude.{ℕ, ◌≡◌, ◌<◌, ◌≤◌, ◌-◌, ◌+◌, true, false, IfOk, IfSome, IfNone, length, slice_index_or, slice_range};
 ghost use Rattle.mask_bits.specs.Buffer.{values};
 ghost use Rattle.mask_bits.specs.Positions.{positions, count, IsFirstFrom};
 ghost use Rattle.mask_bits.specs.Runs.{AreRuns};
 
-use mask_bits::BitBuffer;
+use mask_bits::{BitBuffer, laws};
 use std::alloc::{AllocError, Global};
 
 /// The rows that are valid.
@@ -48,4 +48,20 @@ pub fn first_invalid(validity: &BitBuffer, start: usize, end: usize) -> Option<u
 {
     let row = validity.first_from(start, false);
     if row < end { Some(row) } else { None }
+}
+
+/// The rows of a page within a group of rows that are valid, taken at once.
+pub fn validity_of_page(
+    validity: &BitBuffer,
+    group: (usize, usize),
+    page: (usize, usize),
+) -> Result<BitBuffer, AllocError>
+    requires group { group.1 ≤ length (values validity.now) }
+    requires ordered { page.0 ≤ page.1 }
+    requires within { group.0 + page.1 ≤ group.1 }
+    ensures { IfOk result (λ b. values b ≡ slice_range
+        (slice_range (values validity.now) group.0 group.1) page.0 page.1) }
+{
+    laws::part_of_part();
+    validity.slice(group.0 + page.0, group.0 + page.1)
 }

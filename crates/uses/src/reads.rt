@@ -1,9 +1,13 @@
 //! Reads of a column by ranges of rows: masks of the same rows are read by equal ranges, however they
 //! were made.
-ghost use Rattle.std.specs.Prelude.{◌≡◌, IfOk, IfSome};
+ghost use Rattle.std.specs.Prelude.{ℕ, ◌≡◌, ◌-◌, IfOk, IfSome, List, sum_by};
 ghost use Rattle.mask_bits.specs.RunScan.{runs};
+ghost use Rattle.mask_bits.specs.Runs.{AreRuns};
+ghost use Rattle.std.specs.Option.{ForSome};
+ghost use Rattle.vortex_mask.specs.Caches.{caches};
 ghost use Rattle.vortex_mask.specs.Mask.{truth};
 
+use mask_bits::laws;
 use std::alloc::Global;
 use vortex_mask::{AllOr, Mask, MaskError};
 
@@ -32,7 +36,7 @@ pub fn ranges_both_ways(
 pub fn ranges_of(alloc: Global, mask: &mut Mask) -> Result<Vec<(usize, usize)>, MaskError>
     ensures { IfOk result (λ ranges. ranges.items ≡ runs (truth mask.old)) }
 {
-    mask_bits::laws::runs_of_one_value();
+    laws::runs_of_one_value();
     vortex_mask::laws::variants_of_one_value();
     let len = mask.len();
     if mask.is_empty() {
@@ -43,4 +47,26 @@ pub fn ranges_of(alloc: Global, mask: &mut Mask) -> Result<Vec<(usize, usize)>, 
         AllOr::None => Ok(Vec::new(alloc)),
         AllOr::Some(ranges) => Ok(Vec::from_slice(alloc, ranges)?),
     }
+}
+
+/// A filter can be read by maximal ranges, and as many rows are read as it chooses.
+pub fn rows_by_ranges(filter: &Mask) -> usize
+    ensures exist { (ranges : List (ℕ × ℕ)) × AreRuns (truth filter.now) ranges }
+    ensures rows { (ranges : List (ℕ × ℕ)) → AreRuns (truth filter.now) ranges
+        → sum_by (λ r. r.1 - r.0) ranges ≡ result }
+{
+    laws::runs_exist();
+    laws::runs_are_ranges();
+    laws::ranges_add_up_to_the_count();
+    filter.true_count()
+}
+
+/// The ranges that two filters of the same rows cache: whichever is read, they are the same.
+pub fn cached_in_both(first: &Mask, second: &Mask) -> bool
+    requires { truth first.now ≡ truth second.now }
+    ensures { ForSome (caches first.now).ranges
+        (λ rs. ForSome (caches second.now).ranges (λ ss. rs ≡ ss)) }
+{
+    vortex_mask::laws::one_list_of_ranges(first, second);
+    first.len() == second.len()
 }

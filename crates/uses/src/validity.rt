@@ -1,9 +1,10 @@
 //! Where the values of pages begin, in a column that stores values of its valid rows alone.
-ghost use Rattle.std.specs.Prelude.{ℕ, ◌≡◌, ◌≢◌, ◌≤◌, ◌<◌, All, IfNone, IfOk, IfSome, false, length, map, slice_index_or, true};
+ghost use Rattle.std.specs.Prelude.{ℕ, ◌≡◌, ◌≢◌, ◌+◌, ◌≤◌, ◌<◌, All, IfNone, IfOk, IfSome, false, length, map, slice_index_or, true};
 ghost use Rattle.std.specs.List.Sorted.{IsNonDecreasing};
 ghost use Rattle.mask_bits.specs.Positions.{count_below};
 ghost use Rattle.vortex_mask.specs.Mask.{truth};
 
+use mask_bits::laws;
 use std::alloc::{AllocError, Global};
 use vortex_mask::{Mask, MaskError};
 
@@ -57,4 +58,20 @@ pub fn first_invalid(validity: &Mask) -> Option<usize>
     ensures none { IfNone result (All (λ valid. valid ≡ true) (truth validity.now)) }
 {
     validity.iter().position(|valid| !valid)
+}
+
+/// How many values are stored before row `row + 1`, from how many there are before row `row`.
+pub fn next_offset(validity: &Mask, row: usize, before: usize) -> usize
+    requires row { row < length (truth validity.now) }
+    requires before { before ≡ count_below (truth validity.now) row }
+    requires at_most { before ≤ row }
+    ensures { result ≡ count_below (truth validity.now) (row + 1) }
+{
+    laws::count_below_by_steps();
+    let _ = validity.len();
+    if validity.value(row) {
+        before + 1
+    } else {
+        before
+    }
 }

@@ -1,5 +1,6 @@
 -- Lemmas on the kernels and on the path that is taken.
 pub mod DepositListLemmas
+pub mod DepositedWordLemmas
 pub mod DrivenLemmas
 pub mod PathLemmas
 pub mod RankRunLemmas

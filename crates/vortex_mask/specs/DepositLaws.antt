@@ -1,7 +1,10 @@
--- What holds of all deposits.
-use Rattle.std.specs.Prelude.{ℕ, ◌-◌, ◌/◌, ◌%◌, ◌^◌, ◌≡◌, ◌<◌, bit_and, bit_or, take}
-use Rattle.mask_bits.specs.Positions.{count, rank_intersection}
-use Rattle.mask_bits.specs.Words.{word_bits}
+-- What holds of all deposits, and of extracts beside them.
+use Rattle.std.specs.Prelude.{ℕ, ◌+◌, ◌-◌, ◌*◌, ◌/◌, ◌%◌, ◌^◌, ◌≡◌, ◌<◌, ◌++◌, Bool, false, List, bit_and, bit_or, length, take}
+use Rattle.mask_bits.specs.Buffer.{Packed, values}
+use Rattle.mask_bits.specs.Extract.{Extracts}
+use Rattle.mask_bits.specs.Lists.{and_of}
+use Rattle.mask_bits.specs.Positions.{count, count_below, rank_intersection, repeated}
+use Rattle.mask_bits.specs.Words.{padded_part, started_words, window, word_bits}
 use Rattle.vortex_mask.specs.Deposit.{Deposits}
 
 -- at a mask of 64 set bits a word is deposited as it is
@@ -34,3 +37,24 @@ DepositOfOddSource = (source mask rest : ℕ) → mask < 2 ^ 64 → source % 2 �
 abbrev pub DepositOfEvenSource : Type 0
 DepositOfEvenSource = (source mask rest : ℕ) → mask < 2 ^ 64 → source % 2 ≡ 0 → Deposits (source / 2) (without_lowest mask) rest
     → Deposits source mask rest
+
+-- at a started word of a list, a deposit of the rank bits from the number of true values before that word on is that word of the rank intersection
+abbrev pub DepositIsWordOfRankIntersection : Type 0
+DepositIsWordOfRankIntersection = (m : List Bool) (ranks : Packed) (i source mask result : ℕ) → length (values ranks) ≡ count m
+    → word_bits mask ≡ padded_part m i → word_bits source ≡ window ranks.bytes (ranks.offset + count_below m (64 * i)) → Deposits source mask result
+    → word_bits result ≡ padded_part (rank_intersection m (values ranks)) i
+
+-- bytes whose words are the started words of a list have that list from bit 0 on
+abbrev pub StartedWordsAreTheList : Type 0
+StartedWordsAreTheList = (m : List Bool) (bytes : List ℕ) → ((i : ℕ) → i < started_words (length m) → window bytes (64 * i) ≡ padded_part m i)
+    → values (record { bytes = bytes; offset = 0; len = length m }) ≡ m
+
+-- a deposit of an extract cuts the source to the mask: it has the bits that both have
+abbrev pub DepositOfExtract : Type 0
+DepositOfExtract = (source mask picked result : ℕ) → Extracts source mask picked → Deposits picked mask result
+    → word_bits result ≡ and_of (word_bits mask) (word_bits source)
+
+-- an extract of a deposit is the source's low bits, as many as the mask has set ones
+abbrev pub ExtractOfDeposit : Type 0
+ExtractOfDeposit = (source mask placed result : ℕ) → Deposits source mask placed → Extracts placed mask result
+    → word_bits result ≡ take (count (word_bits mask)) (word_bits source) ++ repeated (64 - count (word_bits mask)) false

@@ -19,6 +19,7 @@ pub mod Ranges
 pub mod RankBits
 pub mod Ranks
 pub mod Steps
+pub mod Text
 pub use Rattle.mask_bits.specs.Buffer
 pub use Rattle.mask_bits.specs.Positions
 pub use Rattle.mask_bits.specs.Runs

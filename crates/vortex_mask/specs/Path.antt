@@ -12,7 +12,7 @@ use Rattle.vortex_mask.specs.declared.intersect_by_rank.path.RankPath.TheVariant
 use Rattle.vortex_mask.specs.declared.mask.Mask.{Mask}
 use Rattle.vortex_mask.specs.declared.mask.Mask.TheVariants.{AllTrue, AllFalse, Values}
 
--- the path of a mask with so many values and true ones, narrowed by a rank mask with so many, where the true indices of each are kept or not: the first test that holds decides
+-- the path of a mask with so many values and true ones, narrowed by a rank mask with so many, where the true indices of each are cached or not: the first test that holds decides
 abbrev pub path : ℕ → ℕ → ℕ → ℕ → Bool → Bool → RankPath
 path len trues rank_len rank_trues self_cached true =
     if self_cached && nat_lt rank_trues (started_words len) then Indices

@@ -1,6 +1,7 @@
 //! Rank intersection: a mask narrowed by a mask over its true values.
 
 mod deposit;
+mod extract;
 mod kernels;
 mod path;
 mod rank_bits;
@@ -19,6 +20,7 @@ use crate::mask::{Mask, MaskError};
 pub use deposit::{
     DepositBits, Portable, PortableLoop, deposit_bytewise, deposit_two_holes, deposit_two_lowest,
 };
+pub use extract::ExtractBits;
 pub use kernels::{
     indices_at_ranks, intersect_bit_buffer_by_rank_indices, intersect_bit_buffers,
     intersect_by_rank_indices, intersect_mask_driven, narrow_at_ranks, narrow_by_bits,

@@ -5,7 +5,7 @@ ghost use Rattle.std.specs.Prelude.{◌≡◌};
 ghost use Rattle.std.specs.Option.{ForSome};
 ghost use Rattle.mask_bits.specs.RunScan.{runs};
 ghost use Rattle.mask_bits.specs.Runs.{AreRanges};
-ghost use Rattle.vortex_mask.specs.DepositLaws.{DepositAtAllOnes, DepositAtNoOnes, DepositIsRankIntersection, DepositOfEvenSource, DepositOfOddSource, WithoutLowestIsBelow};
+ghost use Rattle.vortex_mask.specs.DepositLaws.{DepositAtAllOnes, DepositAtNoOnes, DepositIsRankIntersection, DepositIsWordOfRankIntersection, DepositOfEvenSource, DepositOfExtract, DepositOfOddSource, ExtractOfDeposit, StartedWordsAreTheList, WithoutLowestIsBelow};
 ghost use Rattle.vortex_mask.specs.Laws.{UniformIsOfOneValue, NoIndexFault, AllTrueHasTrueValues, AllFalseHasFalseValues, SameTruthIsOneList};
 ghost use Rattle.vortex_mask.specs.Caches.{caches};
 ghost use Rattle.vortex_mask.specs.Mask.{truth, variant, fitting_variant};
@@ -97,4 +97,21 @@ pub fn deposits_by_lowest()
     ensures below { WithoutLowestIsBelow }
     ensures odd { DepositOfOddSource }
     ensures even { DepositOfEvenSource }
+{}
+
+/// A rank intersection word by word: at each started word of the mask a deposit of the rank bits, from
+/// the number of true values before that word on. Whoever writes these deposits one after another has
+/// the whole.
+#[tactic(auto, using(crate::proofs::Kernels::DepositedWordLemmas::deposit_is_word_of_rank_intersection, crate::proofs::Kernels::DepositedWordLemmas::started_words_are_the_list))]
+pub fn deposits_by_words()
+    ensures word { DepositIsWordOfRankIntersection }
+    ensures list { StartedWordsAreTheList }
+{}
+
+/// Extracts and deposits at one mask undo each other: a deposit of an extract is the source cut to the
+/// mask, and an extract of a deposit is the source's low bits.
+#[tactic(auto, using(crate::proofs::Deposits::DepositLawLemmas::deposit_of_extract, crate::proofs::Deposits::DepositLawLemmas::extract_of_deposit))]
+pub fn extracts_and_deposits()
+    ensures cut { DepositOfExtract }
+    ensures low { ExtractOfDeposit }
 {}

@@ -3,6 +3,7 @@
 mod all_or;
 mod cached;
 mod choose;
+mod choose_values;
 mod concat;
 mod convert;
 mod error;
@@ -19,6 +20,7 @@ ghost use Rattle.std.specs.Option.{option_copied};
 ghost use Rattle.std.specs.List.Sorted.{IsNonDecreasing};
 ghost use Rattle.mask_bits.specs.Buffer.{values};
 ghost use Rattle.vortex_mask.specs.Caches.{caches};
+ghost use Rattle.vortex_mask.specs.Text.{mask_text, debug_text};
 ghost use Rattle.vortex_mask.specs.Mask.{truth, variant, all_true, all_false, mixed, contents};
 ghost use Rattle.mask_bits.specs.Positions.{positions, count, count_below};
 ghost use Rattle.vortex_mask.specs.declared.mask.Mask.TheVariants.{AllTrue};
@@ -56,6 +58,8 @@ impl Default for Mask {
 }
 
 impl fmt::Debug for Mask {
+    ghost debug_output = { λ mask. Some (debug_text mask) };
+
     fn fmt<W: fmt::Write>(&self, f: &mut fmt::Formatter<W>) -> fmt::Result {
         match self {
             Mask::AllTrue(len) => write!(f, "All true({len})"),
@@ -67,6 +71,8 @@ impl fmt::Debug for Mask {
 
 /// The values in their order, `1` for true and `0` for false, and `-` for a mask with no values.
 impl fmt::Display for Mask {
+    ghost output = { λ mask. Some (mask_text (truth mask)) };
+
     fn fmt<W: fmt::Write>(&self, f: &mut fmt::Formatter<W>) -> fmt::Result {
         if self.is_empty() {
             return f.write_str("-");

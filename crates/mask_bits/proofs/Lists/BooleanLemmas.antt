@@ -1,5 +1,5 @@
 -- What holds of lists combined value by value: the laws of truth values, at each place.
-use Rattle.std.proofs.Common.{◌≡◌, ℕ, zero, suc, ◌<◌, Bool, true, false, not, ◌&&◌, ◌||◌, List, [], ◌∷◌, length, get_or, map, refl, ap, arith}
+use Rattle.std.proofs.Common.{◌≡◌, ℕ, zero, suc, ◌<◌, Bool, true, false, not, ◌&&◌, ◌||◌, List, [], ◌∷◌, ◌++◌, length, get_or, take, map, refl, ap, arith}
 use Rattle.mask_bits.specs.Laws.{RankIntersectionOfAnd, RankIntersectionOfNot, IsFreeOfOrder, DistributesOver, Absorbs, HasComplements, AndNotIsAndOfNot, KeepsLength}
 use Rattle.mask_bits.specs.Lists.{combined, and_of, or_of, not_of, and_not_of}
 use Rattle.mask_bits.specs.Positions.{repeated}
@@ -68,6 +68,20 @@ pub combined-right : (f : Bool → Bool → Bool) (v : Bool) (g : Bool → Bool)
 unfolding repeated
 combined-right f v g same [] = refl
 combined-right f v g same (x ∷ a) = grind (arith, combined-right f v g same a)
+
+-- the values of two parts
+pub combined-append : (f : Bool → Bool → Bool) (a b c d : List Bool) → length a ≡ length b → combined f (a ++ c) (b ++ d) ≡ combined f a b ++ combined f c d
+combined-append f [] [] c d len = refl
+combined-append f [] (y ∷ b) c d len = absurd (omega arith)
+combined-append f (x ∷ a) [] c d len = absurd (omega arith)
+combined-append f (x ∷ a) (y ∷ b) c d len = ap (λ (xs : List Bool). f x y ∷ xs) (combined-append f a b c d (omega arith))
+
+-- the first values
+pub combined-take : (f : Bool → Bool → Bool) (n : ℕ) (a b : List Bool) → take n (combined f a b) ≡ combined f (take n a) (take n b)
+combined-take f zero a b = refl
+combined-take f (suc n) [] b = refl
+combined-take f (suc n) (x ∷ a) [] = refl
+combined-take f (suc n) (x ∷ a) (y ∷ b) = ap (λ (xs : List Bool). f x y ∷ xs) (combined-take f n a b)
 
 -- the other side itself, or one value alone
 pub map-itself : (m : List Bool) → map (λ (x : Bool). x) m ≡ m

@@ -1,8 +1,9 @@
 -- Rows at the true places: all of them, none of them, and one more.
-use Rattle.std.proofs.Common.{◌≡◌, ℕ, zero, suc, Bool, true, false, List, [], ◌∷◌, ◌++◌, length, Some, slice_get, refl, ap, append_assoc, arith}
+use Rattle.std.proofs.Common.{◌≡◌, ℕ, zero, suc, Bool, true, false, List, [], ◌∷◌, ◌++◌, length, Some, slice_get, refl, ap, sym, ◌∙◌, append_assoc, arith}
 use Rattle.std.specs.List.{filter_map, items_where_true}
-use Rattle.mask_bits.specs.Positions.{positions, repeated, chosen}
+use Rattle.mask_bits.specs.Positions.{positions, count, repeated, chosen}
 use Rattle.mask_bits.proofs.Lists.LawLemmas.{chosen-items_where_true}
+use Rattle.mask_bits.proofs.Lists.Places.PlaceLemmas.{trues, count-trues}
 
 items_where_true-all_true : {X : Type 0} (rows : List X) → items_where_true (repeated (length rows) true) rows ≡ rows
 unfolding repeated
@@ -33,3 +34,14 @@ chosen_by_all_true rows = chosen-all_true rows (length rows) refl
 pub chosen_at_positions : {X : Type 0} (rows : List X) (m : List Bool) → chosen rows m ≡ filter_map (λ i. slice_get rows i) (positions m)
 unfolding chosen
 chosen_at_positions rows m = refl
+
+-- ---- of a list of one value, one for each true value
+
+items_where_true-repeated : (v : Bool) (m : List Bool) → items_where_true m (repeated (length m) v) ≡ repeated (trues m) v
+unfolding repeated
+items_where_true-repeated v [] = refl
+items_where_true-repeated v (true ∷ m) = ap (λ (xs : List Bool). v ∷ xs) (items_where_true-repeated v m)
+items_where_true-repeated v (false ∷ m) = items_where_true-repeated v m
+
+pub chosen_of_repeated : (n : ℕ) (v : Bool) (m : List Bool) → n ≡ length m → chosen (repeated n v) m ≡ repeated (count m) v
+chosen_of_repeated n v m len = ap (λ k. chosen (repeated k v) m) len ∙ chosen-items_where_true (repeated (length m) v) m ∙ items_where_true-repeated v m ∙ ap (λ k. repeated k v) (sym (count-trues m))

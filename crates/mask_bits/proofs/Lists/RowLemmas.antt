@@ -1,11 +1,12 @@
--- The rows that a list chooses, by recursion on the list: those that pass a test, the first of them, and rows in chunks.
-use Rattle.std.proofs.Common.{◌≡◌, ℕ, zero, suc, Bool, List, [], ◌∷◌, ◌++◌, length, map, take, refl, ap, ◌∙◌, arith}
+-- The rows that a list chooses, by recursion on the list: those that pass a test, the first of them, rows in chunks, and rows that are truth values.
+use Rattle.std.proofs.Common.{◌≡◌, ℕ, zero, suc, Bool, true, false, List, [], ◌∷◌, ◌++◌, length, map, take, refl, ap, ◌∙◌, arith}
 use Rattle.std.specs.List.{filter, items_where_true}
 use Rattle.std.proofs.lemmas.List.{take-map}
 use Rattle.std.proofs.lemmas.List.Elements.{All-head, All-tail}
-use Rattle.mask_bits.specs.ChoosingLaws.{ChosenByTest, ChosenOfTwoChunks, ChosenOfChunks, ChosenByLimit, PositionsOfLimit, LimitPastTheCount, LimitOfRankIntersection}
+use Rattle.mask_bits.specs.ChoosingLaws.{ChosenByTest, ChosenOfTwoChunks, ChosenOfChunks, ChosenByLimit, PositionsOfLimit, LimitPastTheCount, LimitOfRankIntersection, NarrowedByChosen, ChosenOfNarrowing}
+use Rattle.mask_bits.specs.Lists.{and_of}
 use Rattle.mask_bits.specs.Positions.{positions}
-use Rattle.mask_bits.proofs.Lists.LawLemmas.{chosen-items_where_true}
+use Rattle.mask_bits.proofs.Lists.LawLemmas.{chosen-items_where_true, length-chosen}
 use Rattle.mask_bits.proofs.Lists.LimitLemmas.{kept, limited-kept, limited-all, length-limited}
 use Rattle.mask_bits.proofs.Lists.Places.PlaceLemmas.{positions-true, positions-false, trues, count-trues}
 use Rattle.mask_bits.proofs.Lists.RankLemmas.{narrow, rank_intersection-narrow}
@@ -65,3 +66,24 @@ kept-narrow (v ∷ a) b k fits = grind (arith, kept-narrow a)
 
 pub limit_of_rank_intersection : LimitOfRankIntersection
 limit_of_rank_intersection a b k fits = grind (arith, limited-kept, rank_intersection-narrow, kept-narrow, count-trues, length-limited)
+
+-- ---- rows that are truth values
+
+narrow-chosen : (a c : List Bool) → length c ≡ length a → narrow a (items_where_true a c) ≡ and_of a c
+narrow-chosen [] [] len = refl
+narrow-chosen [] (v ∷ c) len = absurd (omega arith)
+narrow-chosen (v ∷ a) [] len = absurd (omega arith)
+narrow-chosen (v ∷ a) (w ∷ c) len = grind (arith, narrow-chosen a c)
+
+pub narrowed_by_chosen : NarrowedByChosen
+narrowed_by_chosen a c len = grind (arith, chosen-items_where_true, length-chosen, rank_intersection-narrow, narrow-chosen)
+
+chosen-narrow : (a b : List Bool) → length b ≡ trues a → items_where_true a (narrow a b) ≡ b
+chosen-narrow [] [] fits = refl
+chosen-narrow [] (v ∷ b) fits = absurd (omega arith)
+chosen-narrow (true ∷ a) [] fits = absurd (omega arith)
+chosen-narrow (true ∷ a) (v ∷ b) fits = ap (λ (xs : List Bool). v ∷ xs) (chosen-narrow a b (omega arith))
+chosen-narrow (false ∷ a) b fits = chosen-narrow a b fits
+
+pub chosen_of_narrowing : ChosenOfNarrowing
+chosen_of_narrowing a b fits = grind (arith, rank_intersection-narrow, chosen-items_where_true, chosen-narrow, count-trues)

@@ -1,5 +1,7 @@
 -- Lemmas on lists by words, and on the bits of words.
 pub mod BackingBitLemmas
+pub mod ChosenWordLemmas
+pub mod ExtractLemmas
 pub mod FrontLemmas
 pub mod LowestLemmas
 pub mod PaddedLemmas

@@ -24,8 +24,10 @@ impl List<'_> {
         }
     }
 
-    fn values(self, alloc: Global) -> Result<Vec<bool>, Fault> {
-        match self.word.rsplit_once(':') {
+    // (behind `!` stands what the mask caches, which its list knows nothing of)
+    pub(super) fn values(self, alloc: Global) -> Result<Vec<bool>, Fault> {
+        let word = self.word.split('!').next().unwrap_or("");
+        match word.rsplit_once(':') {
             Some(("all", _)) => same(alloc, self.len, true),
             Some((form, list)) => match form.strip_prefix("every:") {
                 Some(period) => repeating(alloc, self.len, number(period)?),
@@ -75,7 +77,7 @@ fn set(values: &mut [bool], index: usize, value: bool) {
     }
 }
 
-fn is_true(values: &[bool], index: usize) -> bool {
+pub(super) fn is_true(values: &[bool], index: usize) -> bool {
     values.get(index) == Some(&true)
 }
 
@@ -212,6 +214,7 @@ fn is_list(list: &[bool], answer: &Answer<'_>) -> bool {
     match answer {
         Answer::Mask(mask) | Answer::Counted(mask, _) => is_mask(list, mask),
         Answer::Buffer(buffer) | Answer::BufferPart(buffer) => is_packed(list, buffer),
+        Answer::Masks(parts) => are_parts(list, parts),
         Answer::Mixed(values) => is_packed(list, values.bit_buffer()),
         Answer::Indices(AllOr::Some(indices)) => are_indices(list, *indices, 0),
         Answer::Slices(AllOr::Some(ranges)) => are_runs(list, *ranges),
@@ -231,6 +234,19 @@ fn is_mask(list: &[bool], mask: &Mask) -> bool {
         Mask::Values(_) => 0 < count && count < list.len(),
     };
     is_variant && mask.len() == list.len() && mask.iter().zip(list).all(|(got, want)| got == *want)
+}
+
+// One behind another.
+fn are_parts(list: &[bool], parts: &[Mask]) -> bool {
+    let mut left = list;
+    for part in parts {
+        let (first, rest) = left.split_at(part.len().min(left.len()));
+        if !is_mask(first, part) {
+            return false;
+        }
+        left = rest;
+    }
+    left.is_empty()
 }
 
 fn is_packed(list: &[bool], buffer: &BitBuffer) -> bool {
@@ -267,7 +283,7 @@ fn is_run(list: &[bool], start: usize, end: usize) -> bool {
     begins(list, start) && (start..end).all(|i| is_true(list, i)) && !is_true(list, end)
 }
 
-fn begins(list: &[bool], index: usize) -> bool {
+pub(super) fn begins(list: &[bool], index: usize) -> bool {
     is_true(list, index)
         && match index.checked_sub(1) {
             Some(before) => !is_true(list, before),

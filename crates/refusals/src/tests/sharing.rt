@@ -1,12 +1,13 @@
 // Calls that may take memory, and ask for none here: their answer shares what the operand holds.
 use super::masks::{OF_BITS, try_all, try_calls};
 use super::rows::try_rows;
+use super::stacks::try_alone;
 
 #[test]
 fn of_masks(rt: HostRuntime) {
     try_all(
         &rt,
-        "clone A\nslice A 0 L\nto_bit_buffer A\ninto_bit_buffer A\ninto_bit_buffer A&",
+        "clone A\nclone A&\nslice A 0 L\nto_bit_buffer A\ninto_bit_buffer A\ninto_bit_buffer A&",
     );
     try_calls(&rt, "values.clone A", OF_BITS);
 }
@@ -37,4 +38,10 @@ bits.slice part:3:at:133:2,3,66,67,130,132 1 129 -> list 128 at:128:62,63,126";
 #[test]
 fn of_buffers(rt: HostRuntime) {
     try_rows(&rt, OF_BUFFERS);
+}
+
+#[test]
+fn of_a_stack_of_one(rt: HostRuntime) {
+    try_alone(&rt, "10:1,5,7", "0100010100 Values indices 1,5,7");
+    try_alone(&rt, "every:2:128", "list 128 every:2:128");
 }

@@ -1,6 +1,6 @@
 // Calls that are promised to need no memory.
 use super::builders::try_room;
-use super::masks::{INDICES, OF_INDICES, OF_RANGES, SLICES, try_calls};
+use super::masks::{INDICES, OF_BOTH, OF_INDICES, OF_RANGES, SLICES, try_calls};
 use super::rows::try_rows;
 
 // Masks of one value each, beside one another.
@@ -106,6 +106,8 @@ fn constructors(rt: HostRuntime) {
 fn lists_that_are_cached(rt: HostRuntime) {
     try_calls(&rt, INDICES, OF_INDICES);
     try_calls(&rt, SLICES, OF_RANGES);
+    try_calls(&rt, INDICES, OF_BOTH);
+    try_calls(&rt, SLICES, OF_BOTH);
 }
 
 const NO_LIST: &str = "\

@@ -58,7 +58,7 @@ abbrev pub AreRankBits : List Bool → ℕ → ℕ → ℕ → Type 0
 AreRankBits b at s n = (k : ℕ) → k < n → get_or (word_bits s) k false ≡ get_or b (at + k) false
 
 -- a deposit at word i of the mask is word i of the rank intersection
-deposited-word : (a b : List Bool) (i at s m w : ℕ) → length b ≡ count a → at ≡ count_below a (64 * i) → word_bits m ≡ padded_part a i
+pub deposited-word : (a b : List Bool) (i at s m w : ℕ) → length b ≡ count a → at ≡ count_below a (64 * i) → word_bits m ≡ padded_part a i
     → AreRankBits b at s (count (word_bits m)) → Deposits s m w → word_bits w ≡ padded_part (rank_intersection a b) i
 deposited-word a b i at s m w fits place shows source is =
     padded_part_from_values (rank_intersection a b) (word_bits w) i (length-word_bits w) (λ j h.

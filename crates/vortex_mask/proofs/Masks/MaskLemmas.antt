@@ -6,7 +6,7 @@ use Rattle.std.proofs.lemmas.Slice.Eq.{slice_eq-Decides}
 use Rattle.vortex_mask.specs.Mask.{variant_and, variant_or, Variant, all_true, all_false, mixed, fitting_variant, truth, same_truth}
 use Rattle.mask_bits.specs.Positions.{count, repeated, positions}
 use Rattle.vortex_mask.specs.declared.mask.Mask.TheVariants.{AllTrue, AllFalse}
-use Rattle.mask_bits.proofs.Lists.ChooseLemmas.{chosen-all_true, chosen-all_false}
+use Rattle.mask_bits.proofs.Lists.ChooseLemmas.{chosen-all_true, chosen-all_false, chosen_of_repeated}
 use Rattle.mask_bits.proofs.Lists.LawLemmas.{length-chosen, positions-rank_intersection, rank_intersection-none, length-rank_intersection}
 use Rattle.mask_bits.proofs.Lists.LimitLemmas.{limited-front, limited-all, limited-none, length-limited, count-limited}
 use Rattle.mask_bits.proofs.Lists.PartLemmas.{part_of_repeated}
@@ -86,6 +86,8 @@ pub ruleset part_facts = (front_of_repeated, limited-front, part_of_repeated, li
 pub ruleset count_facts = (part_of_repeated, length-repeated, count-repeated_true, count-repeated_false)
 
 pub ruleset row_facts = (length-repeated, length-chosen, chosen-all_true, chosen-all_false)
+
+pub ruleset chosen_value_facts = (length-repeated, length-chosen, chosen-all_true, chosen-all_false, chosen_of_repeated)
 
 pub ruleset narrowing_facts = (variant_and-all_false, rank_intersection-all_true, rank_intersection-by_all_true, rank_intersection-none, length-rank_intersection, positions-rank_intersection)
 

@@ -9,6 +9,7 @@ ghost use Rattle.mask_bits.specs.Positions.{count, positions};
 ghost use Rattle.vortex_mask.specs.MaskValues.{IsMixed, IsWhole, AreOf, contents, with_caches, with_indices, with_ranges};
 ghost use Rattle.mask_bits.specs.RunScan.{runs};
 ghost use Rattle.vortex_mask.specs.Lend.{ReachesShare, lends_ranges, IsLentOf, with_list};
+ghost use Rattle.vortex_mask.specs.Text.{counts_text};
 ghost use Rattle.vortex_mask.specs.contracts.mask.values.MaskValues.{the_row};
 
 use crate::mask::{MaskError, MaskIter};
@@ -46,6 +47,8 @@ impl Model for MaskValues {
 }
 
 impl fmt::Debug for MaskValues {
+    ghost debug_output = { λ v. Some (counts_text (values v.buffer)) };
+
     fn fmt<W: fmt::Write>(&self, f: &mut fmt::Formatter<W>) -> fmt::Result {
         let true_count = self.true_count();
         let len = self.len();

@@ -1,0 +1,202 @@
+-- Which values an operation makes true of two lists, by words.
+use Rattle.std.proofs.Common.{◌≡◌, ◌↔◌, nat_eq, ℕ, ◌+◌, ◌*◌, ◌-◌, ◌/◌, ◌%◌, ◌^◌, ◌<◌, ◌≤◌, ◌&&◌, ◌||◌, not, Bool, false, List, ◌++◌, length, get_or, take, drop, refl, sym, ap, ap₂, subst, ◌∙◌, inl, inr, arith, mod-eq_of_lt, count_ones}
+use Rattle.std.proofs.Math.Pow.{pow-lt}
+use Rattle.std.specs.Int.{bit_at}
+use Rattle.std.specs.Int.Bits.{bit_and, bit_or, bit_xor}
+use Rattle.std.proofs.lemmas.Bool.{cases_lt}
+use Rattle.std.proofs.lemmas.Bool.Decides.{nat_tests}
+use Rattle.std.proofs.lemmas.List.{ext_get_or}
+use Rattle.std.proofs.lemmas.Nat.{and_le_l}
+use Rattle.std.proofs.lemmas.Nat.Bits.{same_from_bits, same_from_bits_below, bit_at-lt, bit_at-zero, bit_at_or, bit_at_xor}
+use Rattle.mask_bits.specs.Buffer.{Packed, backing_bit, values}
+use Rattle.mask_bits.specs.Combine.{IsNoneTrue}
+use Rattle.mask_bits.specs.Lists.{combined, xor_of}
+use Rattle.mask_bits.specs.Positions.{count, repeated}
+use Rattle.mask_bits.specs.Words.{word_bits, window}
+use Rattle.mask_bits.proofs.BufferLemmas.{length-values, get_or-values}
+use Rattle.mask_bits.proofs.CombineLemmas.{backing_bit-drop, combined_bit}
+use Rattle.mask_bits.proofs.Lists.BooleanLemmas.{combined-append, combined-take, length-combined, get_or-combined}
+use Rattle.mask_bits.proofs.Lists.CountLemmas.{count-append, count-repeated_false, length-repeated, get_or-repeated}
+use Rattle.mask_bits.proofs.Lists.Places.PlaceLemmas.{count-le-length}
+use Rattle.mask_bits.proofs.Lists.Words.BackingBitLemmas.{bits_at, bits_at-append, length-bits_at, get_or-bits_at}
+use Rattle.mask_bits.proofs.Lists.Words.FrontLemmas.{window-take, window-whole}
+use Rattle.mask_bits.proofs.Lists.Words.ShiftLemmas.{bit_at-low_mask, bit_at-past_mask, word_bits-low_mask}
+use Rattle.mask_bits.proofs.Lists.Words.WordLemmas.{count-word_bits, get_or-word_bits}
+
+-- ---- words
+
+-- an exclusive or of words, bit by bit
+pub get_or-word_bits_xor : (v w j : ℕ) → j < 64 → get_or (word_bits (bit_xor v w)) j false
+    ≡ (get_or (word_bits v) j false && not (get_or (word_bits w) j false) || not (get_or (word_bits v) j false) && get_or (word_bits w) j false)
+get_or-word_bits_xor v w j h = grind (arith, get_or-word_bits, bit_at_xor, bit_at-lt, nat_tests)
+
+bit_of_false : (n : ℕ) → n < 2 → nat_eq n 1 ≡ false → n ≡ 0
+bit_of_false n few is = grind (arith, nat_tests)
+
+-- a word with no set bit is 0
+pub none_set : (w : ℕ) → w < 2 ^ 64 → (w ≡ 0) ↔ ((j : ℕ) → j < 64 → get_or (word_bits w) j false ≡ false)
+none_set w fits = (
+  λ none j h. get_or-word_bits w j false h ∙ ap (λ n. nat_eq (bit_at n j) 1) none ∙ ap (λ b. nat_eq b 1) (bit_at-zero j),
+  λ all. same_from_bits_below 64 w 0 fits (omega arith) (λ j h. bit_of_false (bit_at w j) (bit_at-lt w j) (sym (get_or-word_bits w j false h) ∙ all j h) ∙ sym (bit_at-zero j)),
+)
+
+-- nor has either of two where both together have none
+pub none-or : (u w : ℕ) → (bit_or u w ≡ 0) ↔ ((u ≡ 0) × (w ≡ 0))
+none-or u w = (
+  λ none. (
+    same_from_bits u 0 (λ i. omega (arith, bit_at_or u w i, ap (λ n. bit_at n i) none, bit_at-zero i)),
+    same_from_bits w 0 (λ i. omega (arith, bit_at_or u w i, ap (λ n. bit_at n i) none, bit_at-zero i)),
+  ),
+  λ h. rw (h.0, h.1) refl,
+)
+
+-- ---- bits
+
+-- a combined word that is 0 has none
+pub none-word : (f : Bool → Bool → Bool) (a b : List ℕ) (p q v w r : ℕ) → r < 2 ^ 64
+    → word_bits v ≡ window a p → word_bits w ≡ window b q → word_bits r ≡ combined f (word_bits v) (word_bits w)
+    → (r ≡ 0) ↔ IsNoneTrue f a p b q 64
+none-word f a b p q v w r fits is_v is_w is_r =
+    let bit : (j : ℕ) → j < 64 → get_or (word_bits r) j false ≡ f (backing_bit a (p + j)) (backing_bit b (q + j))
+    = λ j h. combined_bit f a b p q j (word_bits v) (word_bits w) (word_bits r) is_v is_w is_r h in (
+      λ none j h. sym (bit j h) ∙ (none_set r fits).0 none j h,
+      λ all. (none_set r fits).1 (λ j h. bit j h ∙ all j h),
+    )
+
+-- some bits, and those past them
+pub none-join : (f : Bool → Bool → Bool) (a b : List ℕ) (p q m n : ℕ) → IsNoneTrue f a p b q (m + n) ↔ (IsNoneTrue f a p b q m × IsNoneTrue f a (p + m) b (q + m) n)
+none-join f a b p q m n = (
+  λ all. (λ i h. all i (omega arith), λ i h. grind (arith, all (m + i))),
+  λ both i h. elim (cases_lt i m) [
+    | inl before ↦ both.0 i before
+    | inr past ↦ grind (arith, both.1 (i - m))
+  ],
+)
+
+-- the first bits of a word, where the others are cleared
+none-low_bits : (f : Bool → Bool → Bool) (a b : List ℕ) (p q v w r n : ℕ) → n < 64 → r < 2 ^ 64
+    → word_bits v ≡ window a p → word_bits w ≡ window b q → word_bits r ≡ combined f (word_bits v) (word_bits w)
+    → (bit_and r (2 ^ n - 1) ≡ 0) ↔ IsNoneTrue f a p b q n
+none-low_bits f a b p q v w r n few fits is_v is_w is_r =
+    let cut : ℕ = bit_and r (2 ^ n - 1) in
+    let bit : (j : ℕ) → j < n → nat_eq (bit_at cut j) 1 ≡ f (backing_bit a (p + j)) (backing_bit b (q + j))
+    = λ j h. ap (λ x. nat_eq x 1) (bit_at-low_mask r n j h) ∙ sym (get_or-word_bits r j false (omega arith)) ∙ combined_bit f a b p q j (word_bits v) (word_bits w) (word_bits r) is_v is_w is_r (omega arith) in (
+      λ none j h. sym (bit j h) ∙ ap (λ x. nat_eq (bit_at x j) 1) none ∙ ap (λ x. nat_eq x 1) (bit_at-zero j),
+      λ all. same_from_bits_below 64 cut 0 (omega (arith, and_le_l r (2 ^ n - 1))) (omega arith) (λ j h. elim (cases_lt j n) [
+        | inl low ↦ bit_of_false (bit_at cut j) (bit_at-lt cut j) (bit j low ∙ all j low) ∙ sym (bit_at-zero j)
+        | inr past ↦ bit_at-past_mask r n j past ∙ sym (bit_at-zero j)
+      ]),
+    )
+
+pub none-low : (f : Bool → Bool → Bool) (a b : List ℕ) (p q v w r mask n : ℕ) → n < 64 → r < 2 ^ 64
+    → word_bits v ≡ window a p → word_bits w ≡ window b q → word_bits r ≡ combined f (word_bits v) (word_bits w) → mask ≡ 2 ^ n - 1
+    → (bit_and r mask ≡ 0) ↔ IsNoneTrue f a p b q n
+none-low f a b p q v w r mask n few fits is_v is_w is_r is =
+    let same : bit_and r mask ≡ bit_and r (2 ^ n - 1) = ap (bit_and r) is in
+    let low = none-low_bits f a b p q v w r n few fits is_v is_w is_r in
+    (λ none. low.0 (sym same ∙ none), λ all. same ∙ low.1 all)
+
+-- the mask of the first bits
+pub low_mask : (n : ℕ) → n < 64 → 1 * 2 ^ n % 2 ^ 64 - 1 ≡ 2 ^ n - 1
+low_mask n few = let small : 2 ^ n < 2 ^ 64 = pow-lt few in omega (arith, mod-eq_of_lt small)
+
+-- some whole words, and the bits past them
+pub none-parts : (f : Bool → Bool → Bool) (a b : List ℕ) (p q n : ℕ)
+    → IsNoneTrue f a p b q n ↔ (IsNoneTrue f a p b q (64 * (n / 64)) × IsNoneTrue f a (p + 64 * (n / 64)) b (q + 64 * (n / 64)) (n % 64))
+none-parts f a b p q n =
+    let e : 64 * (n / 64) + n % 64 ≡ n = omega arith in
+    let join = none-join f a b p q (64 * (n / 64)) (n % 64) in
+    (λ all. join.0 (subst (IsNoneTrue f a p b q) (sym e) all), λ both. subst (IsNoneTrue f a p b q) e (join.1 both))
+
+-- the same bits, seen from the byte that they begin in
+pub none-drop : (f : Bool → Bool → Bool) (a b from_a from_b : List ℕ) (p q n : ℕ) → from_a ≡ drop (p / 8) a → from_b ≡ drop (q / 8) b
+    → IsNoneTrue f from_a (p % 8) from_b (q % 8) n ↔ IsNoneTrue f a p b q n
+none-drop f a b from_a from_b p q n is_a is_b = grind (arith, backing_bit-drop)
+
+-- ---- lists
+
+-- no value of the combined list is true
+pub none_from_list : (f : Bool → Bool → Bool) (a b : List ℕ) (p q n : ℕ)
+    → IsNoneTrue f a p b q n ↔ (combined f (values (record { bytes = a; offset = p; len = n })) (values (record { bytes = b; offset = q; len = n })) ≡ repeated n false)
+none_from_list f a b p q n =
+    let va : Packed = record { bytes = a; offset = p; len = n } in
+    let vb : Packed = record { bytes = b; offset = q; len = n } in
+    let made : List Bool = combined f (values va) (values vb) in
+    let alike : length (values va) ≡ length (values vb) = length-values va ∙ sym (length-values vb) in
+    let len : length made ≡ n = length-combined f (values va) (values vb) alike ∙ length-values va in
+    let value : (i : ℕ) → i < n → get_or made i false ≡ f (backing_bit a (p + i)) (backing_bit b (q + i))
+    = λ i h. grind (arith, get_or-combined f (values va) (values vb) i false, length-values va, alike, get_or-values va i false, get_or-values vb i false) in (
+      λ none. ext_get_or false made (repeated n false) (len ∙ sym (length-repeated n false)) (λ i h. value i (omega arith) ∙ none i (omega arith) ∙ sym (get_or-repeated n i false false (omega arith))),
+      λ all i h. sym (value i h) ∙ ap (λ (m : List Bool). get_or m i false) all ∙ get_or-repeated n i false false h,
+    )
+
+-- two lists of one length are the same where no value differs
+pub same_from_none_unlike : (a b : List Bool) (n : ℕ) → length a ≡ n → length b ≡ n → (xor_of a b ≡ repeated n false) ↔ (a ≡ b)
+same_from_none_unlike a b n len len_b = (
+  λ none. ext_get_or false a b (len ∙ sym len_b) (λ i h.
+      grind (arith, get_or-combined (λ x y. x && not y || not x && y) a b i false, ap (λ (m : List Bool). get_or m i false) none, get_or-repeated n i false false)),
+  λ same. ext_get_or false (xor_of a b) (repeated n false) (length-combined (λ x y. x && not y || not x && y) a b (len ∙ sym len_b) ∙ len ∙ sym (length-repeated n false)) (λ i h.
+      grind (arith, length-combined (λ x y. x && not y || not x && y) a b, get_or-combined (λ x y. x && not y || not x && y) a b i false, get_or-repeated n i false false)),
+)
+
+-- ---- counts
+
+-- some values, and those past them
+bits_at-combined : (f : Bool → Bool → Bool) (a b : List ℕ) (p q m n : ℕ)
+    → combined f (bits_at a p m) (bits_at b q m) ++ combined f (bits_at a (p + m) n) (bits_at b (q + m) n) ≡ combined f (bits_at a p (m + n)) (bits_at b q (m + n))
+bits_at-combined f a b p q m n =
+    sym (ap₂ (combined f) (bits_at-append a p m n) (bits_at-append b q m n)
+    ∙ combined-append f (bits_at a p m) (bits_at b q m) (bits_at a (p + m) n) (bits_at b (q + m) n) (length-bits_at a p m ∙ sym (length-bits_at b q m)))
+
+-- the true values of one more word
+pub count-step : (f : Bool → Bool → Bool) (a b : List ℕ) (p q i n v w r : ℕ)
+    → n ≡ count (combined f (bits_at a p (64 * i)) (bits_at b q (64 * i))) → r < 2 ^ 64
+    → word_bits v ≡ window a (p + 64 * i) → word_bits w ≡ window b (q + 64 * i) → word_bits r ≡ combined f (word_bits v) (word_bits w)
+    → n + count_ones r ≡ count (combined f (bits_at a p (64 * (i + 1))) (bits_at b q (64 * (i + 1))))
+count-step f a b p q i n v w r before fits is_v is_w is_r =
+    let next : 64 * i + 64 ≡ 64 * (i + 1) = omega arith in
+    let here : word_bits r ≡ combined f (bits_at a (p + 64 * i) 64) (bits_at b (q + 64 * i) 64)
+    = is_r ∙ ap₂ (combined f) (is_v ∙ window-whole a (p + 64 * i)) (is_w ∙ window-whole b (q + 64 * i)) in
+    ap₂ (λ (x y : ℕ). x + y) before (sym (count-word_bits r fits) ∙ ap count here)
+    ∙ sym (count-append (combined f (bits_at a p (64 * i)) (bits_at b q (64 * i))) (combined f (bits_at a (p + 64 * i) 64) (bits_at b (q + 64 * i) 64)))
+    ∙ ap count (bits_at-combined f a b p q (64 * i) 64)
+    ∙ ap (λ k. count (combined f (bits_at a p k) (bits_at b q k))) next
+
+-- of none
+pub count-none : (f : Bool → Bool → Bool) (a b : List ℕ) (p q : ℕ) → 0 ≡ count (combined f (bits_at a p 0) (bits_at b q 0))
+count-none f a b p q = omega (arith, count-le-length (combined f (bits_at a p 0) (bits_at b q 0)), length-combined f (bits_at a p 0) (bits_at b q 0), length-bits_at a p 0, length-bits_at b q 0)
+
+-- no more are true than there are
+pub count-at_most : (f : Bool → Bool → Bool) (a b : List ℕ) (p q n : ℕ) → count (combined f (bits_at a p n) (bits_at b q n)) ≤ n
+count-at_most f a b p q n = omega (arith, count-le-length (combined f (bits_at a p n) (bits_at b q n)), length-combined f (bits_at a p n) (bits_at b q n), length-bits_at a p n, length-bits_at b q n)
+
+-- the first bits of a word
+pub count-low : (f : Bool → Bool → Bool) (a b : List ℕ) (p q v w r mask n : ℕ) → n < 64 → bit_and r mask < 2 ^ 64
+    → word_bits v ≡ window a p → word_bits w ≡ window b q → word_bits r ≡ combined f (word_bits v) (word_bits w) → mask ≡ 2 ^ n - 1
+    → count_ones (bit_and r mask) ≡ count (combined f (bits_at a p n) (bits_at b q n))
+count-low f a b p q v w r mask n few fits is_v is_w is_r is =
+    let front : take n (word_bits r) ≡ combined f (bits_at a p n) (bits_at b q n)
+    = ap (take n) (is_r ∙ ap₂ (combined f) is_v is_w) ∙ combined-take f n (window a p) (window b q)
+    ∙ ap₂ (combined f) (window-take a p n (omega arith)) (window-take b q n (omega arith)) in
+    sym (count-word_bits (bit_and r mask) fits) ∙ ap (λ m. count (word_bits (bit_and r m))) is
+    ∙ ap count (word_bits-low_mask r n (omega arith))
+    ∙ count-append (take n (word_bits r)) (repeated (64 - n) false)
+    ∙ omega (arith, ap count front, count-repeated_false (64 - n))
+
+-- the same bits, seen from the byte that they begin in
+pub bits_at-byte : (bytes from : List ℕ) (p n : ℕ) → from ≡ drop (p / 8) bytes → bits_at from (p % 8) n ≡ bits_at bytes p n
+bits_at-byte bytes from p n is =
+    ext_get_or false (bits_at from (p % 8) n) (bits_at bytes p n) (length-bits_at from (p % 8) n ∙ sym (length-bits_at bytes p n)) (λ j h.
+    let few : j < n = omega (arith, length-bits_at from (p % 8) n) in
+    get_or-bits_at from (p % 8) n j false few ∙ ap (λ (xs : List ℕ). backing_bit xs (p % 8 + j)) is ∙ backing_bit-drop bytes p j ∙ sym (get_or-bits_at bytes p n j false few))
+
+-- whole words, and the bits past them
+pub count-parts : (f : Bool → Bool → Bool) (a b : List ℕ) (p q n : ℕ)
+    → count (combined f (bits_at a p (64 * (n / 64))) (bits_at b q (64 * (n / 64)))) + count (combined f (bits_at a (p + 64 * (n / 64)) (n % 64)) (bits_at b (q + 64 * (n / 64)) (n % 64)))
+    ≡ count (combined f (bits_at a p n) (bits_at b q n))
+count-parts f a b p q n =
+    let w : ℕ = 64 * (n / 64) in
+    let e : w + n % 64 ≡ n = omega arith in
+    sym (count-append (combined f (bits_at a p w) (bits_at b q w)) (combined f (bits_at a (p + w) (n % 64)) (bits_at b (q + w) (n % 64))))
+    ∙ ap count (bits_at-combined f a b p q w (n % 64))
+    ∙ ap (λ k. count (combined f (bits_at a p k) (bits_at b q k))) e

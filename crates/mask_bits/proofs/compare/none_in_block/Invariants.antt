@@ -1,0 +1,7 @@
+use Rattle.std.proofs.Common.{◌≡◌, ◌*◌, ◌↔◌}
+use Rattle.mask_bits.specs.Combine.{IsNoneTrue}
+use Rattle.mask_bits.proofs.compare.none_in_block.Given as goal
+
+-- `found` tells whether there is none in the words before
+abbrev pub invariant-loop-i : goal.invariant-loop-i
+invariant-loop-i g l = (l.found ≡ 0) ↔ IsNoneTrue g.C.BitOp.of_bits l.a l.a_low l.b l.b_low (64 * l.i)

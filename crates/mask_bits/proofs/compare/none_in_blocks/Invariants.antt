@@ -1,0 +1,7 @@
+use Rattle.std.proofs.Common.{◌*◌}
+use Rattle.mask_bits.specs.Combine.{IsNoneTrue}
+use Rattle.mask_bits.proofs.compare.none_in_blocks.Given as goal
+
+-- there is none in the blocks before
+abbrev pub invariant-loop-k : goal.invariant-loop-k
+invariant-loop-k g l = IsNoneTrue g.C.BitOp.of_bits l.a l.a_low l.b l.b_low (64 * (32 * l.k))

@@ -1,6 +1,0 @@
-use Rattle.mask_bits.proofs.BoolsLemmas.{IsPacked}
-use Rattle.mask_bits.proofs.write_bits.packed.Given as goal
-
--- the values so far are packed
-abbrev pub invariant-loop-j : goal.invariant-loop-j
-invariant-loop-j l = IsPacked l.bools l.j l.word

@@ -1,7 +1,0 @@
-use Rattle.std.proofs.Common.{◌≡◌, ℕ, ◌*◌, ◌<◌, false, get_or}
-use Rattle.mask_bits.specs.Buffer.{backing_bit}
-use Rattle.mask_bits.proofs.write_bits.put_bools.Given as goal
-
--- the values of the words so far are written
-abbrev pub invariant-loop-i : goal.invariant-loop-i
-invariant-loop-i l = (p : ℕ) → p < 64 * l.i → backing_bit l.bytes p ≡ get_or l.bools p false

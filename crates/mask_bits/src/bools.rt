@@ -1,0 +1,41 @@
+//! Truth values packed into words.
+
+ghost use Rattle.std.specs.Prelude.{◌≡◌, ◌*◌, ◌<◌, ◌≤◌, ℕ, false, length, slice_index_or};
+ghost use Rattle.std.specs.Int.{div_ceil};
+ghost use Rattle.mask_bits.specs.Buffer.{backing_bit};
+ghost use Rattle.mask_bits.specs.Words.{word_bits};
+
+use crate::words::set_word;
+
+/// Writes truth values to the front of `bytes`, which is room of whole words, a word at a time. The bits
+/// past them have no meaning.
+pub fn put_bools(bytes: &mut [u8], bools: &[bool])
+    requires { 8 * div_ceil (length bools.now) 64 ≤ length bytes.old }
+    ensures { (i : ℕ) → i < length bools.now
+        → backing_bit bytes.new i ≡ slice_index_or bools.now i false }
+{
+    let whole = bools.len() / 64;
+    for i in 0..whole {
+        set_word(bytes, i, word_of_bools(&bools[64 * i..64 * i + 64]));
+    }
+    if 64 * whole < bools.len() {
+        set_word(bytes, whole, word_of_bools(&bools[64 * whole..]));
+    }
+}
+
+/// The word of at most 64 values, the first lowest, with zeros past them.
+//
+// With no branch for a value, and always inlined: where there are 64 the loop becomes one of a few
+// steps, each of which takes several values.
+#[inline(always)]
+pub fn word_of_bools(bools: &[bool]) -> u64
+    requires { length bools.now ≤ 64 }
+    ensures { (j : ℕ) → j < 64
+        → slice_index_or (word_bits result) j false ≡ slice_index_or bools.now j false }
+{
+    let mut word = 0;
+    for j in 0..bools.len() {
+        word |= (bools[j] as u64) << j;
+    }
+    word
+}

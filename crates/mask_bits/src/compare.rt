@@ -1,0 +1,219 @@
+//! The true values that an operation makes of two lists: whether there is one, and how many; and whether
+//! two lists are the same. Over plain bytes.
+
+ghost use Rattle.std.specs.Prelude.{◌≡◌, ◌↔◌, ◌+◌, ◌*◌, ◌<◌, ◌≤◌, ◌^◌, ℕ, false, IsTrue};
+ghost use Rattle.mask_bits.specs.Buffer.{IsWithinBytes, values};
+ghost use Rattle.mask_bits.specs.Combine.{IsNoneTrue};
+ghost use Rattle.mask_bits.specs.Lists.{combined};
+ghost use Rattle.mask_bits.specs.Positions.{count, repeated};
+
+use crate::combine::{BitOp, Xor};
+use crate::read_word::{Covered, Neighbors, ReadWord, Whole};
+use crate::words::word_at;
+
+/// Whether the `len` bits of `a` from bit `a_offset` on are those of `b` from bit `b_offset` on.
+#[tactic(auto, using(crate::proofs::CompareLemmas::same_from_none_unlike))]
+pub fn same_bits(a: &[u8], a_offset: usize, b: &[u8], b_offset: usize, len: usize) -> bool
+    requires a_within { IsWithinBytes a.now a_offset len }
+    requires b_within { IsWithinBytes b.now b_offset len }
+    ensures { IsTrue result ↔ (values (record { bytes = a.now; offset = a_offset; len = len })
+        ≡ values (record { bytes = b.now; offset = b_offset; len = len })) }
+{
+    none_true::<Xor>(a, a_offset, b, b_offset, len)
+}
+
+/// Whether no value is true that `C` makes of the `len` bits of `a` from bit `a_offset` on and of those
+/// of `b` from bit `b_offset` on.
+pub fn none_true<C: BitOp>(a: &[u8], a_offset: usize, b: &[u8], b_offset: usize, len: usize) -> bool
+    requires a_within { IsWithinBytes a.now a_offset len }
+    requires b_within { IsWithinBytes b.now b_offset len }
+    ensures { IsTrue result ↔ (combined C.of_bits
+        (values (record { bytes = a.now; offset = a_offset; len = len }))
+        (values (record { bytes = b.now; offset = b_offset; len = len }))
+        ≡ repeated len false) }
+{
+    let whole = 64 * (len / 64);
+    none_in_words::<C>(a, a_offset, b, b_offset, len / 64)
+        && none_in_last::<C>(a, a_offset + whole, b, b_offset + whole, len % 64)
+}
+
+// The same of fewer than 64 bits.
+#[inline]
+fn none_in_last<C: BitOp>(a: &[u8], p: usize, b: &[u8], q: usize, rest: usize) -> bool
+    requires { rest < 64 }
+    ensures { IsTrue result ↔ IsNoneTrue C.of_bits a.now p b.now q rest }
+{
+    C::of(word_at(a, p), word_at(b, q)) & ((1 << rest) - 1) == 0
+}
+
+// The same of whole words.
+fn none_in_words<C: BitOp>(
+    a: &[u8],
+    a_offset: usize,
+    b: &[u8],
+    b_offset: usize,
+    words: usize,
+) -> bool
+    requires a_within { IsWithinBytes a.now a_offset (64 * words) }
+    requires b_within { IsWithinBytes b.now b_offset (64 * words) }
+    ensures { IsTrue result ↔ IsNoneTrue C.of_bits a.now a_offset b.now b_offset (64 * words) }
+{
+    let (a, a_low) = (&a[a_offset / 8..], (a_offset % 8) as u32);
+    let (b, b_low) = (&b[b_offset / 8..], (b_offset % 8) as u32);
+    if a_low == 0 && b_low == 0 {
+        return none_in_blocks::<C, Whole>(a, a_low, b, b_low, words);
+    }
+    none_in_shifted_words::<C>(a, a_low, b, b_low, words)
+}
+
+// The same where not both begin at a whole byte. Never inlined, so that the quicker case stays small.
+#[inline(never)]
+fn none_in_shifted_words<C: BitOp>(a: &[u8], a_low: u32, b: &[u8], b_low: u32, words: usize) -> bool
+    requires a_within { IsWithinBytes a.now a_low (64 * words) }
+    requires b_within { IsWithinBytes b.now b_low (64 * words) }
+    requires few_a { a_low < 8 }
+    requires few_b { b_low < 8 }
+    ensures { IsTrue result ↔ IsNoneTrue C.of_bits a.now a_low b.now b_low (64 * words) }
+{
+    // words beside which another one lies in both, up to the last
+    let inner = (a.len().min(b.len()) / 8).saturating_sub(1).min(words);
+    none_in_blocks::<C, Neighbors>(a, a_low, b, b_low, inner)
+        && none_in_block::<C, Covered>(a, a_low, b, b_low, inner, words)
+}
+
+// How many words are looked at before an early return.
+const BLOCK: usize = 32;
+
+// The same of the first words.
+#[inline]
+fn none_in_blocks<C: BitOp, R: ReadWord>(
+    a: &[u8],
+    a_low: u32,
+    b: &[u8],
+    b_low: u32,
+    words: usize,
+) -> bool
+    requires reads_a { (i : ℕ) → i < words → R.can_read a.now a_low i }
+    requires reads_b { (i : ℕ) → i < words → R.can_read b.now b_low i }
+    requires fits { 64 * words < 2 ^ 64 }
+    ensures { IsTrue result ↔ IsNoneTrue C.of_bits a.now a_low b.now b_low (64 * words) }
+{
+    let blocks = words / BLOCK;
+    // whole blocks, so that each is a few vectors and no loop
+    for k in 0..blocks {
+        if !none_in_block::<C, R>(a, a_low, b, b_low, BLOCK * k, BLOCK * k + BLOCK) {
+            return false;
+        }
+    }
+    none_in_block::<C, R>(a, a_low, b, b_low, BLOCK * blocks, words)
+}
+
+// Whether there is none up to word `to`, where there is none before word `from`. With no early return, so
+// that several words are looked at at once: the true values of all are gathered, and tested at the end.
+#[inline]
+fn none_in_block<C: BitOp, R: ReadWord>(
+    a: &[u8],
+    a_low: u32,
+    b: &[u8],
+    b_low: u32,
+    from: usize,
+    to: usize,
+) -> bool
+    requires reads_a { (i : ℕ) → i < to → R.can_read a.now a_low i }
+    requires reads_b { (i : ℕ) → i < to → R.can_read b.now b_low i }
+    requires ordered { from ≤ to }
+    requires before { IsNoneTrue C.of_bits a.now a_low b.now b_low (64 * from) }
+    ensures { IsTrue result ↔ IsNoneTrue C.of_bits a.now a_low b.now b_low (64 * to) }
+{
+    let mut found = 0;
+    for i in from..to {
+        found |= C::of(R::word(a, a_low, i), R::word(b, b_low, i));
+    }
+    found == 0
+}
+
+/// How many values are true that `C` makes of the `len` bits of `a` from bit `a_offset` on and of those of
+/// `b` from bit `b_offset` on.
+pub fn count_true<C: BitOp>(
+    a: &[u8],
+    a_offset: usize,
+    b: &[u8],
+    b_offset: usize,
+    len: usize,
+) -> usize
+    requires a_within { IsWithinBytes a.now a_offset len }
+    requires b_within { IsWithinBytes b.now b_offset len }
+    ensures { result ≡ count (combined C.of_bits
+        (values (record { bytes = a.now; offset = a_offset; len = len }))
+        (values (record { bytes = b.now; offset = b_offset; len = len }))) }
+{
+    let whole = 64 * (len / 64);
+    count_in_words::<C>(a, a_offset, b, b_offset, len / 64)
+        + count_in_last::<C>(a, a_offset + whole, b, b_offset + whole, len % 64)
+}
+
+// The same of fewer than 64 bits.
+#[inline]
+fn count_in_last<C: BitOp>(a: &[u8], p: usize, b: &[u8], q: usize, rest: usize) -> usize
+    requires { rest < 64 }
+    ensures { result ≡ count (combined C.of_bits
+        (values (record { bytes = a.now; offset = p; len = rest }))
+        (values (record { bytes = b.now; offset = q; len = rest }))) }
+{
+    let made = C::of(word_at(a, p), word_at(b, q));
+    (made & ((1 << rest) - 1)).count_ones() as usize
+}
+
+// The same of whole words.
+fn count_in_words<C: BitOp>(
+    a: &[u8],
+    a_offset: usize,
+    b: &[u8],
+    b_offset: usize,
+    words: usize,
+) -> usize
+    requires a_within { IsWithinBytes a.now a_offset (64 * words) }
+    requires b_within { IsWithinBytes b.now b_offset (64 * words) }
+    ensures { result ≡ count (combined C.of_bits
+        (values (record { bytes = a.now; offset = a_offset; len = 64 * words }))
+        (values (record { bytes = b.now; offset = b_offset; len = 64 * words }))) }
+{
+    let (a, a_low) = (&a[a_offset / 8..], (a_offset % 8) as u32);
+    let (b, b_low) = (&b[b_offset / 8..], (b_offset % 8) as u32);
+    if a_low == 0 && b_low == 0 {
+        return count_on::<C, Whole>(a, a_low, b, b_low, 0, words, 0);
+    }
+    // words beside which another one lies in both, up to the last
+    let inner = (a.len().min(b.len()) / 8).saturating_sub(1).min(words);
+    let first = count_on::<C, Neighbors>(a, a_low, b, b_low, 0, inner, 0);
+    count_on::<C, Covered>(a, a_low, b, b_low, inner, words, first)
+}
+
+// How many are true up to word `to`, where `before` are before word `from`.
+#[inline]
+fn count_on<C: BitOp, R: ReadWord>(
+    a: &[u8],
+    a_low: u32,
+    b: &[u8],
+    b_low: u32,
+    from: usize,
+    to: usize,
+    before: usize,
+) -> usize
+    requires reads_a { (i : ℕ) → i < to → R.can_read a.now a_low i }
+    requires reads_b { (i : ℕ) → i < to → R.can_read b.now b_low i }
+    requires ordered { from ≤ to }
+    requires fits { 64 * to < 2 ^ 64 }
+    requires counted { before ≡ count (combined C.of_bits
+        (values (record { bytes = a.now; offset = a_low; len = 64 * from }))
+        (values (record { bytes = b.now; offset = b_low; len = 64 * from }))) }
+    ensures { result ≡ count (combined C.of_bits
+        (values (record { bytes = a.now; offset = a_low; len = 64 * to }))
+        (values (record { bytes = b.now; offset = b_low; len = 64 * to }))) }
+{
+    let mut count = before;
+    for i in from..to {
+        count += C::of(R::word(a, a_low, i), R::word(b, b_low, i)).count_ones() as usize;
+    }
+    count
+}

@@ -1,0 +1,67 @@
+-- Bits that are written with one value.
+use Rattle.std.proofs.Common.{◌≡◌, nat_eq, ℕ, ◌+◌, ◌-◌, ◌*◌, ◌/◌, ◌%◌, ◌<◌, ◌≤◌, ◌||◌, ◌&&◌, not, Bool, true, false, List, length, get_or, replicate, refl, sym, ap, ◌∙◌, inl, inr, arith}
+use Rattle.std.specs.Int.{bit_at}
+use Rattle.std.proofs.lemmas.Bool.{cases_lt, eq-eqb, ne_eqb}
+use Rattle.std.proofs.lemmas.List.{length-replicate, get_or-replicate}
+use Rattle.std.proofs.lemmas.Nat.Bits.{bit_at-zero, bit_at_ones}
+use Rattle.mask_bits.specs.Buffer.{backing_bit}
+use Rattle.mask_bits.proofs.Lists.Words.FrontLemmas.{get_or-put_mid_below, get_or-put_mid_above, get_or-put_mid_inside}
+use Rattle.mask_c.specs.Bitmap.{IsFilled}
+use borrow.Rule.Slice.PartMut.{put_mid}
+
+-- none of them
+pub filled-none : (a : List ℕ) (m : ℕ) (v : Bool) → IsFilled a a m m v
+filled-none a m v = record { inside = λ p from to. absurd (omega arith); outside = λ p apart. refl }
+
+-- some, and those past them
+pub filled-join : (a b c : List ℕ) (m n k : ℕ) (v : Bool) → m ≤ n → n ≤ k → IsFilled a b m n v → IsFilled b c n k v → IsFilled a c m k v
+filled-join a b c m n k v to_n to_k first second = record {
+  inside = λ p from to. elim (cases_lt p n) [
+    | inl before ↦ second.outside p (inl before) ∙ first.inside p from before
+    | inr past ↦ second.inside p past to
+  ];
+  outside = λ p apart. elim apart [
+    | inl before ↦ second.outside p (inl (omega arith)) ∙ first.outside p (inl before)
+    | inr past ↦ second.outside p (inr past) ∙ first.outside p (inr (omega arith))
+  ];
+}
+
+-- one bit set
+pub filled_set : (a b : List ℕ) (i : ℕ) (v : Bool) → v ≡ true → ((p : ℕ) → backing_bit b p ≡ (nat_eq p i || backing_bit a p)) → IsFilled a b i (i + 1) v
+filled_set a b i v holds is = record {
+  inside = λ p from to. let same : p ≡ i = omega arith in is p ∙ ap (λ t. t || backing_bit a p) (eq-eqb p i same) ∙ sym holds;
+  outside = λ p apart. is p ∙ ap (λ t. t || backing_bit a p) (ne_eqb p i (λ same. elim apart [ inl before ↦ omega arith | inr past ↦ omega arith ]));
+}
+
+-- one bit cleared
+pub filled_clear : (a b : List ℕ) (i : ℕ) (v : Bool) → v ≡ false → ((p : ℕ) → backing_bit b p ≡ (not (nat_eq p i) && backing_bit a p)) → IsFilled a b i (i + 1) v
+filled_clear a b i v fails is = record {
+  inside = λ p from to. let same : p ≡ i = omega arith in is p ∙ ap (λ t. not t && backing_bit a p) (eq-eqb p i same) ∙ sym fails;
+  outside = λ p apart. is p ∙ ap (λ t. not t && backing_bit a p) (ne_eqb p i (λ same. elim apart [ inl before ↦ omega arith | inr past ↦ omega arith ]));
+}
+
+-- whole bytes of one value
+pub filled-bytes : (a ys : List ℕ) (m n byte : ℕ) (v : Bool) → m ≤ n → n ≤ length a → ys ≡ replicate (n - m) byte
+    → ((j : ℕ) → j < 8 → nat_eq (bit_at byte j) 1 ≡ v) → IsFilled a (put_mid m (n - m) a ys) (8 * m) (8 * n) v
+filled-bytes a ys m n byte v ordered within is bits =
+    let new : List ℕ = put_mid m (n - m) a ys in
+    let len : length ys ≡ n - m = ap length is ∙ length-replicate (n - m) byte in
+    record {
+      inside = λ p from to.
+          let at : p / 8 ≡ m + (p / 8 - m) = omega arith in
+          let few : p / 8 - m < n - m = omega arith in
+          let here : get_or new (p / 8) 0 ≡ byte = ap (λ k. get_or new k 0) at
+          ∙ get_or-put_mid_inside m n a ys (p / 8 - m) (omega arith) len few
+          ∙ ap (λ (xs : List ℕ). get_or xs (p / 8 - m) 0) is ∙ get_or-replicate (n - m) (p / 8 - m) byte 0 few in
+          ap (λ x. nat_eq (bit_at x (p % 8)) 1) here ∙ bits (p % 8) (omega arith);
+      outside = λ p apart. ap (λ x. nat_eq (bit_at x (p % 8)) 1) (elim apart [
+        | inl before ↦ get_or-put_mid_below m (n - m) a ys (p / 8) (omega arith) (omega arith)
+        | inr past ↦ get_or-put_mid_above m (n - m) a ys (p / 8) (omega arith) len (omega arith)
+      ]);
+    }
+
+pub bits_of_ones : (j : ℕ) → j < 8 → nat_eq (bit_at 255 j) 1 ≡ true
+bits_of_ones j h = ap (λ b. nat_eq b 1) (bit_at_ones 8 j h)
+
+pub bits_of_zeros : (j : ℕ) → j < 8 → nat_eq (bit_at 0 j) 1 ≡ false
+bits_of_zeros j h = ap (λ b. nat_eq b 1) (bit_at-zero j)

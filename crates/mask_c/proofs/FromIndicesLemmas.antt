@@ -1,0 +1,46 @@
+-- A bitmap whose set bits stand at a list of positions.
+use Rattle.std.proofs.Common.{◌≡◌, nat_eq, ℕ, ◌+◌, ◌*◌, ◌/◌, ◌%◌, ◌<◌, ◌≤◌, ◌||◌, false, List, ◌++◌, length, get_or, take, replicate, sym, ap, ◌∙◌, arith}
+use Rattle.std.proofs.Math.Bool.{or_comm}
+use Rattle.std.specs.Int.{bit_at, div_ceil}
+use Rattle.std.specs.List.{All, list_any}
+use Rattle.std.proofs.lemmas.Bool.{ne_eqb}
+use Rattle.std.proofs.lemmas.List.{ext_get_or, get_or-replicate, get_or_append_left}
+use Rattle.std.proofs.lemmas.List.Elements.{All-weaker}
+use Rattle.std.proofs.lemmas.List.Folds.{list_any_more, list_any_none}
+use Rattle.std.proofs.lemmas.Nat.Bits.{bit_at-zero}
+use Rattle.mask_bits.specs.Buffer.{backing_bit}
+use Rattle.mask_bits.specs.Positions.{true_at}
+use Rattle.mask_bits.proofs.Lists.RankLemmas.{length-true_at}
+use Rattle.mask_bits.proofs.Lists.Words.BackingBitLemmas.{length-bits_at, get_or-bits_at}
+use Rattle.mask_c.specs.Bitmap.{AreClearBehind, bitmap}
+use Rattle.mask_c.proofs.LastLemmas.{front-appended}
+use Rattle.mask_c.proofs.LastRankLemmas.{get_or-true_at}
+
+-- the set bits of the bytes are those at some positions
+abbrev pub AreSetAt : List ℕ → List ℕ → Type 0
+AreSetAt bytes ps = (p : ℕ) → p < 8 * length bytes → backing_bit bytes p ≡ list_any (nat_eq p) ps
+
+-- none at first
+pub set_at-none : (n p : ℕ) → p < 8 * n → backing_bit (replicate n 0) p ≡ false
+set_at-none n p h = ap (λ x. nat_eq (bit_at x (p % 8)) 1) (get_or-replicate n (p / 8) 0 0 (omega arith)) ∙ ap (λ b. nat_eq b 1) (bit_at-zero (p % 8))
+
+-- one more
+pub set_at-more : (old new ps : List ℕ) (i : ℕ) → i < length ps → length new ≡ length old → AreSetAt old (take i ps)
+    → ((p : ℕ) → backing_bit new p ≡ (nat_eq p (get_or ps i 0) || backing_bit old p)) → AreSetAt new (take (i + 1) ps)
+set_at-more old new ps i few len so_far set = λ p h.
+    let q : ℕ = get_or ps i 0 in
+    set p ∙ ap (λ b. nat_eq p q || b) (so_far p (omega arith)) ∙ or_comm (nat_eq p q) (list_any (nat_eq p) (take i ps)) ∙ sym (list_any_more (nat_eq p) ps i 0 few)
+
+pub list_from_set : (bytes more ps : List ℕ) (len : ℕ) → len ≤ 8 * length bytes → AreSetAt bytes ps → bitmap (bytes ++ more) 0 len ≡ true_at len ps
+list_from_set bytes more ps len few set =
+    front-appended bytes more len few
+    ∙ ext_get_or false (bitmap bytes 0 len) (true_at len ps) (length-bits_at bytes 0 len ∙ sym (length-true_at len ps)) (λ p h.
+    let inside : p < len = omega (arith, length-bits_at bytes 0 len) in
+    let place : 0 + p ≡ p = omega arith in
+    get_or-bits_at bytes 0 len p false inside ∙ ap (backing_bit bytes) place ∙ set p (omega arith) ∙ sym (get_or-true_at len ps p inside))
+
+pub clear_from_set : (bytes more ps : List ℕ) (len : ℕ) → 8 * div_ceil len 8 ≤ 8 * length bytes → All (λ i. i < len) ps → AreSetAt bytes ps → AreClearBehind (bytes ++ more) len
+clear_from_set bytes more ps len few within set = λ p from to.
+    ap (λ x. nat_eq (bit_at x (p % 8)) 1) (get_or_append_left bytes more 0 (p / 8) (omega arith))
+    ∙ set p (omega arith)
+    ∙ list_any_none (nat_eq p) ps (All-weaker (λ i. i < len) (λ i. nat_eq p i ≡ false) (λ i h. ne_eqb p i (λ same. omega arith)) ps within)

@@ -1,0 +1,67 @@
+use Rattle.std.proofs.Common.{ℕ, Bool, List, ◌≡◌, ◌+◌, ◌-◌, ◌++◌, length, drop, append_assoc, subst, sym, ap, ◌∙◌, arith}
+use Rattle.std.specs.Int.{div_ceil}
+use Rattle.std.proofs.lemmas.List.{length-drop, length-take, take_rest}
+use Rattle.mask_bits.proofs.Lists.Words.BackingBitLemmas.{bits_at-append}
+use Rattle.mask_c.specs.Bitmap.{AreClearBehind, bitmap}
+use Rattle.mask_c.proofs.AppendLemmas.{full_or_none, same_end, appended-values, appended-clear, appended-behind}
+use borrow.Rule.Slice.PartMut.{put_mid}
+use Rattle.mask_c.proofs.append.row_mask_append.Goals as goal
+
+pub returns-clause-values : goal.returns-clause-values
+returns-clause-values c =
+    let old = c.args.bytes.now in
+    let more = c.args.more.now in
+    let offset = c.args.more_offset in
+    let xs = c.fill_last-filled.new.bytes in
+    let ys = c.row_mask_copy.new.out in
+    let k = c.div_ceil.result in
+    let len = c.args.len in
+    let filled = c.fill_last-filled.result in
+    let rest = c.args.more_len - filled in
+    let all : len + c.args.more_len ≡ len + filled + rest = omega (arith, c.fill_last-filled.ensures.count) in
+    let each : filled + rest ≡ c.args.more_len = omega (arith, c.fill_last-filled.ensures.count) in
+    ap (bitmap _ 0) all
+    ∙ appended-values xs ys k (len + filled) rest _ _
+    (omega (arith, c.div_ceil.ensures, c.fill_last-filled.auto.bytes, c.requires.room))
+    (c.row_mask_copy.auto.out ∙ ap (λ (us : List ℕ). length us) (take_rest xs k) ∙ length-drop k xs)
+    (omega (arith, c.div_ceil.ensures, c.fill_last-filled.ensures.count))
+    (omega (arith, c.row_mask_copy.auto.out, length-drop k xs, length-take (length xs - k) (drop k xs), c.div_ceil.ensures, c.fill_last-filled.auto.bytes, c.fill_last-filled.ensures.count, c.requires.room))
+    (full_or_none len c.args.more_len k filled c.div_ceil.ensures (omega (arith, c.div_ceil.ensures, c.fill_last-filled.ensures.count)))
+    c.fill_last-filled.ensures.values c.row_mask_copy.ensures.values
+    ∙ append_assoc (bitmap old 0 len) (bitmap more offset filled) (bitmap more (offset + filled) rest)
+    ∙ ap (λ (us : List Bool). bitmap old 0 len ++ us) (sym (bits_at-append more offset filled rest) ∙ ap (bitmap more offset) each)
+
+pub returns-clause-clear : goal.returns-clause-clear
+returns-clause-clear c =
+    let xs = c.fill_last-filled.new.bytes in
+    let ys = c.row_mask_copy.new.out in
+    let k = c.div_ceil.result in
+    let len = c.args.len in
+    let filled = c.fill_last-filled.result in
+    let rest = c.args.more_len - filled in
+    let all : len + filled + rest ≡ len + c.args.more_len = omega (arith, c.fill_last-filled.ensures.count) in
+    subst (AreClearBehind _) all (appended-clear xs ys k (len + filled) rest
+    (omega (arith, c.div_ceil.ensures, c.fill_last-filled.auto.bytes, c.requires.room))
+    (c.row_mask_copy.auto.out ∙ ap (λ (us : List ℕ). length us) (take_rest xs k) ∙ length-drop k xs)
+    (c.div_ceil.ensures ∙ same_end len c.args.more_len filled (omega (arith, c.div_ceil.ensures, c.fill_last-filled.ensures.count)))
+    (omega (arith, c.row_mask_copy.auto.out, length-drop k xs, length-take (length xs - k) (drop k xs), c.div_ceil.ensures, c.fill_last-filled.auto.bytes, c.fill_last-filled.ensures.count, c.requires.room))
+    (full_or_none len c.args.more_len k filled c.div_ceil.ensures (omega (arith, c.div_ceil.ensures, c.fill_last-filled.ensures.count)))
+    c.fill_last-filled.ensures.clear c.row_mask_copy.ensures.clear)
+
+pub returns-clause-behind : goal.returns-clause-behind
+returns-clause-behind c =
+    let old = c.args.bytes.now in
+    let xs = c.fill_last-filled.new.bytes in
+    let ys = c.row_mask_copy.new.out in
+    let k = c.div_ceil.result in
+    let len = c.args.len in
+    let filled = c.fill_last-filled.result in
+    let rest = c.args.more_len - filled in
+    let all : len + filled + rest ≡ len + c.args.more_len = omega (arith, c.fill_last-filled.ensures.count) in
+    subst (λ n. drop (div_ceil n 8) (put_mid k (length xs - k) xs ys) ≡ drop (div_ceil n 8) old) all (appended-behind old xs ys _ k (len + filled) rest
+    (omega (arith, c.div_ceil.ensures, c.fill_last-filled.auto.bytes, c.requires.room))
+    (c.row_mask_copy.auto.out ∙ ap (λ (us : List ℕ). length us) (take_rest xs k) ∙ length-drop k xs)
+    (c.div_ceil.ensures ∙ same_end len c.args.more_len filled (omega (arith, c.div_ceil.ensures, c.fill_last-filled.ensures.count)))
+    (omega (arith, c.row_mask_copy.auto.out, length-drop k xs, length-take (length xs - k) (drop k xs), c.div_ceil.ensures, c.fill_last-filled.auto.bytes, c.fill_last-filled.ensures.count, c.requires.room))
+    (full_or_none len c.args.more_len k filled c.div_ceil.ensures (omega (arith, c.div_ceil.ensures, c.fill_last-filled.ensures.count)))
+    (take_rest xs k) (subst (λ n. drop n xs ≡ drop n old) (sym c.div_ceil.ensures) c.fill_last-filled.ensures.behind) c.row_mask_copy.ensures.behind)

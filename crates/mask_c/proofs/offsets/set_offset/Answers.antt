@@ -1,0 +1,6 @@
+use Rattle.std.proofs.Common.{map, slice_set, ap, ◌∙◌}
+use Rattle.std.proofs.lemmas.List.{map-set}
+use Rattle.mask_c.proofs.offsets.set_offset.Goals as goal
+
+pub returns : goal.returns
+returns g c = map-set g.O.Offset.number c.args.offsets.now c.args.i c.of.result ∙ ap (slice_set (map g.O.Offset.number c.args.offsets.now) c.args.i) c.of.ensures

@@ -1,0 +1,10 @@
+use Rattle.std.proofs.Common.{◌+◌, ◌-◌, arith}
+use Rattle.std.proofs.lemmas.Slice.{drop-put_mid}
+use Rattle.mask_c.proofs.strings.put_part.Goals as goal
+
+pub returns-clause-behind : goal.returns-clause-behind
+returns-clause-behind c =
+    let at = c.args.at in
+    let end = c.args.at + (c.args.end - c.args.begin) in
+    drop-put_mid at (end - at) c.args.out.now c.copy_from_slice.new.self end (omega arith) (omega (arith, c.requires.room))
+    (omega (arith, c.copy_from_slice.auto.self, c.requires.room, c.requires.within))

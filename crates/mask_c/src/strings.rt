@@ -1,0 +1,230 @@
+//! The bytes of strings that are chosen.
+
+ghost use Rattle.std.specs.Prelude.{◌≡◌, ◌+◌, ◌-◌, ◌<◌, ◌≤◌, ◌++◌, All, drop, length, map, slice_index, slice_range, take};
+ghost use Rattle.std.specs.List.{concat, sum};
+ghost use Rattle.std.specs.List.Sorted.{IsNonDecreasing};
+ghost use Rattle.mask_bits.specs.Buffer.{IsWithinBytes};
+ghost use Rattle.mask_bits.specs.Positions.{chosen};
+ghost use Rattle.mask_c.specs.Bitmap.{bitmap};
+ghost use Rattle.mask_c.specs.Strings.{items_at, sizes, strings};
+
+use crate::indices::indices_in_word;
+use crate::offsets::{Offset, offset_at};
+use mask_bits::BitChunks;
+
+/// Writes the bytes of the strings at the true values, one string behind another, to the front of `out`, and
+/// answers how many these are. String `i` has the bytes from `offsets[i]` to `offsets[i + 1]`, and an offset
+/// has 4 bytes.
+///
+/// Asks that `offsets_count == len + 1`, that no offset is below the one before it and the last is at most
+/// `string_bytes_size`, and that `out_size` is at least what `row_mask_choose_offsets_4` answers.
+#[unsafe(no_mangle)]
+#[tactic(auto, using(crate::proofs::StringLemmas::number_itself))]
+pub extern "C" fn row_mask_choose_bytes_4(
+    bytes: &[u8],
+    offset: usize,
+    len: usize,
+    offsets: &[u32],
+    string_bytes: &[u8],
+    out: &mut [u8],
+) -> usize
+    requires bitmap { IsWithinBytes bytes.now offset len }
+    requires offsets { length offsets.now ≡ len + 1 }
+    requires ascending { IsNonDecreasing offsets.now }
+    requires covered { slice_index offsets.now len ≤ length string_bytes.now }
+    requires room { sum (chosen (sizes offsets.now) (bitmap bytes.now offset len)) ≤ length out.old }
+    ensures strings { take result out.new
+        ≡ concat (chosen (strings offsets.now string_bytes.now) (bitmap bytes.now offset len)) }
+    ensures behind { drop result out.new ≡ drop result out.old }
+    ensures size { result ≡ sum (chosen (sizes offsets.now) (bitmap bytes.now offset len)) }
+{
+    choose_strings(bytes, offset, len, offsets, string_bytes, out)
+}
+
+/// Writes the bytes of the strings at the true values, one string behind another, to the front of `out`, and
+/// answers how many these are. String `i` has the bytes from `offsets[i]` to `offsets[i + 1]`, and an offset
+/// has 8 bytes.
+///
+/// Asks that `offsets_count == len + 1`, that no offset is below the one before it and the last is at most
+/// `string_bytes_size`, and that `out_size` is at least what `row_mask_choose_offsets_8` answers.
+#[unsafe(no_mangle)]
+#[tactic(auto, using(crate::proofs::StringLemmas::number_itself))]
+pub extern "C" fn row_mask_choose_bytes_8(
+    bytes: &[u8],
+    offset: usize,
+    len: usize,
+    offsets: &[u64],
+    string_bytes: &[u8],
+    out: &mut [u8],
+) -> usize
+    requires bitmap { IsWithinBytes bytes.now offset len }
+    requires offsets { length offsets.now ≡ len + 1 }
+    requires ascending { IsNonDecreasing offsets.now }
+    requires covered { slice_index offsets.now len ≤ length string_bytes.now }
+    requires room { sum (chosen (sizes offsets.now) (bitmap bytes.now offset len)) ≤ length out.old }
+    ensures strings { take result out.new
+        ≡ concat (chosen (strings offsets.now string_bytes.now) (bitmap bytes.now offset len)) }
+    ensures behind { drop result out.new ≡ drop result out.old }
+    ensures size { result ≡ sum (chosen (sizes offsets.now) (bitmap bytes.now offset len)) }
+{
+    choose_strings(bytes, offset, len, offsets, string_bytes, out)
+}
+
+/// Writes the bytes of the strings at `indices`, in their order and one behind another, to the front of
+/// `out`, and answers how many these are. Indices may come in any order and more than once. String `i` has
+/// the bytes from `offsets[i]` to `offsets[i + 1]`, and an offset has 4 bytes.
+///
+/// Asks that each index is below `offsets_count - 1`, that no offset is below the one before it and the last
+/// is at most `string_bytes_size`, and that `out_size` is at least what `row_mask_take_offsets_4` answers.
+#[unsafe(no_mangle)]
+#[tactic(auto, using(crate::proofs::StringLemmas::number_itself))]
+pub extern "C" fn row_mask_take_bytes_4(
+    indices: &[usize],
+    offsets: &[u32],
+    string_bytes: &[u8],
+    out: &mut [u8],
+) -> usize
+    requires within { All (λ i. i + 1 < length offsets.now) indices.now }
+    requires ascending { IsNonDecreasing offsets.now }
+    requires covered { slice_index offsets.now (length offsets.now - 1) ≤ length string_bytes.now }
+    requires room { sum (items_at (sizes offsets.now) indices.now) ≤ length out.old }
+    ensures strings { take result out.new
+        ≡ concat (items_at (strings offsets.now string_bytes.now) indices.now) }
+    ensures behind { drop result out.new ≡ drop result out.old }
+    ensures size { result ≡ sum (items_at (sizes offsets.now) indices.now) }
+{
+    put_strings(indices, offsets, string_bytes, out, 0)
+}
+
+/// Writes the bytes of the strings at `indices`, in their order and one behind another, to the front of
+/// `out`, and answers how many these are. Indices may come in any order and more than once. String `i` has
+/// the bytes from `offsets[i]` to `offsets[i + 1]`, and an offset has 8 bytes.
+///
+/// Asks that each index is below `offsets_count - 1`, that no offset is below the one before it and the last
+/// is at most `string_bytes_size`, and that `out_size` is at least what `row_mask_take_offsets_8` answers.
+#[unsafe(no_mangle)]
+#[tactic(auto, using(crate::proofs::StringLemmas::number_itself))]
+pub extern "C" fn row_mask_take_bytes_8(
+    indices: &[usize],
+    offsets: &[u64],
+    string_bytes: &[u8],
+    out: &mut [u8],
+) -> usize
+    requires within { All (λ i. i + 1 < length offsets.now) indices.now }
+    requires ascending { IsNonDecreasing offsets.now }
+    requires covered { slice_index offsets.now (length offsets.now - 1) ≤ length string_bytes.now }
+    requires room { sum (items_at (sizes offsets.now) indices.now) ≤ length out.old }
+    ensures strings { take result out.new
+        ≡ concat (items_at (strings offsets.now string_bytes.now) indices.now) }
+    ensures behind { drop result out.new ≡ drop result out.old }
+    ensures size { result ≡ sum (items_at (sizes offsets.now) indices.now) }
+{
+    put_strings(indices, offsets, string_bytes, out, 0)
+}
+
+// The strings at the true values, word by word.
+#[inline]
+fn choose_strings<O: Offset>(
+    bytes: &[u8],
+    offset: usize,
+    len: usize,
+    offsets: &[O],
+    string_bytes: &[u8],
+    out: &mut [u8],
+) -> usize
+    requires bitmap { IsWithinBytes bytes.now offset len }
+    requires offsets { length offsets.now ≡ len + 1 }
+    requires ascending { IsNonDecreasing (map O.number offsets.now) }
+    requires covered { slice_index (map O.number offsets.now) len ≤ length string_bytes.now }
+    requires room { sum (chosen (sizes (map O.number offsets.now)) (bitmap bytes.now offset len))
+        ≤ length out.old }
+    ensures strings { take result out.new
+        ≡ concat (chosen (strings (map O.number offsets.now) string_bytes.now) (bitmap bytes.now offset len)) }
+    ensures behind { drop result out.new ≡ drop result out.old }
+    ensures size { result
+        ≡ sum (chosen (sizes (map O.number offsets.now)) (bitmap bytes.now offset len)) }
+{
+    let chunks = BitChunks::new(bytes, offset, len);
+    let mut block = [0; 64];
+    let mut at = 0;
+    for i in 0..chunks.padded_len() {
+        let some = indices_in_word(&chunks, i, &mut block);
+        at = put_strings(&block[..some], offsets, string_bytes, out, at);
+    }
+    at
+}
+
+// Writes the strings at some indices behind the first `at` bytes, and answers how many bytes there are
+// then. Strings that are neighbors are copied at once.
+#[inline]
+fn put_strings<O: Offset>(
+    indices: &[usize],
+    offsets: &[O],
+    string_bytes: &[u8],
+    out: &mut [u8],
+    at: usize,
+) -> usize
+    requires within { All (λ i. i + 1 < length offsets.now) indices.now }
+    requires ascending { IsNonDecreasing (map O.number offsets.now) }
+    requires covered { slice_index (map O.number offsets.now) (length offsets.now - 1)
+        ≤ length string_bytes.now }
+    requires room { at + sum (items_at (sizes (map O.number offsets.now)) indices.now) ≤ length out.old }
+    ensures strings { take result out.new ≡ take at out.old
+        ++ concat (items_at (strings (map O.number offsets.now) string_bytes.now) indices.now) }
+    ensures behind { drop result out.new ≡ drop result out.old }
+    ensures size { result ≡ at + sum (items_at (sizes (map O.number offsets.now)) indices.now) }
+{
+    let (mut written, mut begin, mut end) = (at, 0, 0);
+    for k in 0..indices.len() {
+        let from = offset_at(offsets, indices[k]);
+        let to = offset_at(offsets, indices[k] + 1);
+        let part = part_before(string_bytes, begin, end, from, out, written);
+        begin = part.0;
+        written = part.1;
+        end = to;
+    }
+    put_part(string_bytes, begin, end, out, written)
+}
+
+// The part of the bytes from `begin` to `end` waits to be copied. It goes on if the next string begins
+// where it ends. Else it is copied, and a part begins there. Answers where the part begins that waits
+// then, and how many bytes are written.
+#[inline]
+fn part_before(
+    bytes: &[u8],
+    begin: usize,
+    end: usize,
+    next: usize,
+    out: &mut [u8],
+    at: usize,
+) -> (usize, usize)
+    requires ordered { begin ≤ end }
+    requires within { end ≤ length bytes.now }
+    requires room { at + (end - begin) ≤ length out.old }
+    ensures ordered { result.0 ≤ next }
+    ensures later { at ≤ result.1 }
+    ensures bytes { take result.1 out.new ++ slice_range bytes.now result.0 next
+        ≡ take at out.old ++ slice_range bytes.now begin end }
+    ensures behind { drop result.1 out.new ≡ drop result.1 out.old }
+    ensures size { result.1 + (next - result.0) ≡ at + (end - begin) }
+{
+    if next == end {
+        return (begin, at);
+    }
+    (next, put_part(bytes, begin, end, out, at))
+}
+
+// Writes a part of some bytes behind the first `at`, and answers how many there are then.
+#[inline]
+fn put_part(bytes: &[u8], begin: usize, end: usize, out: &mut [u8], at: usize) -> usize
+    requires ordered { begin ≤ end }
+    requires within { end ≤ length bytes.now }
+    requires room { at + (end - begin) ≤ length out.old }
+    ensures bytes { take result out.new ≡ take at out.old ++ slice_range bytes.now begin end }
+    ensures behind { drop result out.new ≡ drop result out.old }
+    ensures size { result ≡ at + (end - begin) }
+{
+    let written = at + (end - begin);
+    out[at..written].copy_from_slice(&bytes[begin..end]);
+    written
+}

@@ -1,0 +1,279 @@
+//! Loops over words, as one who knows the processor writes them. Where there are several, all are timed, and the
+//! quickest is the one that counts.
+
+use crate::Call;
+use crate::lists::{Lists, bytes_from, words};
+use crate::ours::OFFSETS;
+use std::arch::x86_64::_pdep_u64;
+use std::hint::black_box;
+
+pub struct ByHand<'a> {
+    lists: &'a Lists,
+    list: Vec<u64>,
+    other: Vec<u64>,
+    copy: Vec<u64>,
+    ranks: Vec<u64>,
+    moved: (Vec<u8>, Vec<u8>),
+}
+
+impl<'a> ByHand<'a> {
+    pub fn new(lists: &'a Lists) -> ByHand<'a> {
+        let mut ranks = words(&lists.ranks);
+        ranks.extend([0; 2]);
+        ByHand {
+            lists,
+            list: words(&lists.list),
+            other: words(&lists.other),
+            copy: words(&lists.list),
+            ranks,
+            moved: (bytes_from(&lists.list, OFFSETS.0), bytes_from(&lists.other, OFFSETS.1)),
+        }
+    }
+
+    pub fn calls(&self, name: &str) -> Vec<Call<'_>> {
+        let (a, b, ranks, lists) = (&self.list[..], &self.other[..], &self.ranks[..], self.lists);
+        let (copy, (a_moved, b_moved)) = (&self.copy[..], &self.moved);
+        let (rows, column, len) = (&lists.rows[..], &lists.column[..], lists.len);
+        match name {
+            "count" => vec![Box::new(move || count(a) as u64)],
+            "and" => vec![Box::new(move || last(&and(a, b), len))],
+            "and, at odd bits" => {
+                vec![Box::new(move || last(&and_moved(a_moved, b_moved, len), len))]
+            }
+            "==" => vec![Box::new(move || u64::from(a == copy))],
+            "==, at odd bits" => vec![Box::new(move || u64::from(equal_moved(a_moved, copy, len)))],
+            "rank intersection" => vec![
+                Box::new(move || last(&by_pdep(a, ranks), len)),
+                Box::new(move || last(&bit_by_bit(a, ranks), len)),
+            ],
+            "rank intersection, no pdep" => {
+                vec![Box::new(move || last(&bit_by_bit(a, ranks), len))]
+            }
+            "choose" => vec![
+                Box::new(move || choose(a, rows).last().copied().unwrap_or(0)),
+                Box::new(move || choose_by_pushes(a, rows).last().copied().unwrap_or(0)),
+                Box::new(move || choose_all(a, rows).last().copied().unwrap_or(0)),
+            ],
+            "for over indices" => vec![Box::new(move || sum_of_rows(a, rows))],
+            "sum of indices" => vec![Box::new(move || sum_of_indices(a))],
+            "for over values" => {
+                let (mut first, mut second) = (Vec::with_capacity(len), Vec::with_capacity(len));
+                vec![
+                    Box::new(move || found(a, rows, &mut first)),
+                    Box::new(move || found_by_words(a, rows, &mut second)),
+                ]
+            }
+            "collect a predicate" | "from_fn of a predicate" => vec![
+                Box::new(move || last(&packed(column, |it| it < lists.share), len)),
+                Box::new(move || last(&packed_by_shifts(column, |it| it < lists.share), len)),
+                Box::new(move || last(&packed_by_eights(column, |it| it < lists.share), len)),
+            ],
+            _ => vec![],
+        }
+    }
+}
+
+/// The last byte of a list, where it is kept in words.
+fn last(words: &[u64], len: usize) -> u64 {
+    let at = (len - 1) / 8;
+    black_box(words)[at / 8] >> (8 * (at % 8)) & 0xFF
+}
+
+fn count(words: &[u64]) -> usize {
+    words.iter().map(|word| word.count_ones() as usize).sum()
+}
+
+fn and(a: &[u64], b: &[u64]) -> Vec<u64> {
+    a.iter().zip(b).map(|(a, b)| a & b).collect()
+}
+
+/// 64 bits from a bit on, with bytes behind them to read.
+#[inline]
+fn word_at(bytes: &[u8], bit: usize) -> u64 {
+    let at = &bytes[bit / 8..bit / 8 + 9];
+    let low = u64::from_le_bytes(at[..8].try_into().unwrap());
+    low >> (bit % 8) | u64::from(at[8]) << 1 << (63 - bit % 8)
+}
+
+fn and_moved(a: &[u8], b: &[u8], len: usize) -> Vec<u64> {
+    let both = |i| word_at(a, OFFSETS.0 + 64 * i) & word_at(b, OFFSETS.1 + 64 * i);
+    (0..len.div_ceil(64)).map(both).collect()
+}
+
+fn equal_moved(a: &[u8], b: &[u64], len: usize) -> bool {
+    (0..len.div_ceil(64)).all(|i| word_at(a, OFFSETS.0 + 64 * i) == b[i])
+}
+
+/// The 64 ranks from one on, with words behind them to read.
+#[inline]
+fn ranks_at(ranks: &[u64], at: usize) -> u64 {
+    ranks[at / 64] >> (at % 64) | ranks[at / 64 + 1] << 1 << (63 - at % 64)
+}
+
+fn by_pdep(mask: &[u64], ranks: &[u64]) -> Vec<u64> {
+    if !is_x86_feature_detected!("bmi2") {
+        return bit_by_bit(mask, ranks);
+    }
+    #[target_feature(enable = "bmi2,popcnt")]
+    fn deposited(mask: &[u64], ranks: &[u64]) -> Vec<u64> {
+        let (mut out, mut at) = (Vec::with_capacity(mask.len()), 0);
+        for word in mask {
+            out.push(_pdep_u64(ranks_at(ranks, at), *word));
+            at += word.count_ones() as usize;
+        }
+        out
+    }
+    // SAFETY: the processor has both.
+    unsafe { deposited(mask, ranks) }
+}
+
+fn bit_by_bit(mask: &[u64], ranks: &[u64]) -> Vec<u64> {
+    let (mut out, mut at) = (Vec::with_capacity(mask.len()), 0);
+    for word in mask {
+        let (mut left, mut taken, mut made) = (*word, ranks_at(ranks, at), 0);
+        while left != 0 {
+            let low = left & left.wrapping_neg();
+            made |= low & (taken & 1).wrapping_neg();
+            taken >>= 1;
+            left ^= low;
+        }
+        out.push(made);
+        at += word.count_ones() as usize;
+    }
+    out
+}
+
+fn choose(words: &[u64], rows: &[u64]) -> Vec<u64> {
+    let mut out = vec![0; count(words)];
+    let mut filled = 0;
+    for (word, rows) in words.iter().zip(rows.chunks(64)) {
+        if *word == !0 {
+            out[filled..filled + 64].copy_from_slice(rows);
+            filled += 64;
+            continue;
+        }
+        let mut left = *word;
+        while left != 0 {
+            out[filled] = rows[left.trailing_zeros() as usize];
+            filled += 1;
+            left &= left - 1;
+        }
+    }
+    out
+}
+
+fn choose_by_pushes(words: &[u64], rows: &[u64]) -> Vec<u64> {
+    let mut out = Vec::with_capacity(count(words));
+    for (word, rows) in words.iter().zip(rows.chunks(64)) {
+        let mut left = *word;
+        while left != 0 {
+            out.push(rows[left.trailing_zeros() as usize]);
+            left &= left - 1;
+        }
+    }
+    out
+}
+
+/// Each row is written, and the next one over it where it isn't chosen.
+fn choose_all(words: &[u64], rows: &[u64]) -> Vec<u64> {
+    let count = count(words);
+    let mut out = vec![0; count + 1];
+    let mut filled = 0;
+    for (word, rows) in words.iter().zip(rows.chunks(64)) {
+        for (bit, row) in rows.iter().enumerate() {
+            out[filled] = *row;
+            filled += (word >> bit & 1) as usize;
+        }
+    }
+    out.truncate(count);
+    out
+}
+
+fn sum_of_rows(words: &[u64], rows: &[u64]) -> u64 {
+    let mut sum = 0;
+    for (i, word) in words.iter().enumerate() {
+        let mut left = *word;
+        while left != 0 {
+            sum += rows[64 * i + left.trailing_zeros() as usize];
+            left &= left - 1;
+        }
+    }
+    sum
+}
+
+fn sum_of_indices(words: &[u64]) -> u64 {
+    let mut sum = 0;
+    for (i, word) in words.iter().enumerate() {
+        let mut left = *word;
+        while left != 0 {
+            sum += 64 * i + left.trailing_zeros() as usize;
+            left &= left - 1;
+        }
+    }
+    sum as u64
+}
+
+/// The rows whose value is true, looked at one by one.
+fn found(words: &[u64], rows: &[u64], found: &mut Vec<u64>) -> u64 {
+    found.clear();
+    for (i, row) in rows.iter().enumerate() {
+        if words[i / 64] >> (i % 64) & 1 == 1 {
+            found.push(*row);
+        }
+    }
+    found.len() as u64
+}
+
+fn found_by_words(words: &[u64], rows: &[u64], found: &mut Vec<u64>) -> u64 {
+    found.clear();
+    for (word, rows) in words.iter().zip(rows.chunks(64)) {
+        let mut word = *word;
+        for row in rows {
+            if word & 1 == 1 {
+                found.push(*row);
+            }
+            word >>= 1;
+        }
+    }
+    found.len() as u64
+}
+
+#[inline]
+fn packed(column: &[u32], is_true: impl Fn(u32) -> bool) -> Vec<u64> {
+    let word = |part: &[u32]| {
+        part.iter().enumerate().fold(0, |word, (bit, it)| word | u64::from(is_true(*it)) << bit)
+    };
+    let (whole, last) = column.as_chunks::<64>();
+    let mut out = Vec::with_capacity(column.len().div_ceil(64));
+    out.extend(whole.iter().map(|part| word(part)));
+    if !last.is_empty() {
+        out.push(word(last));
+    }
+    out
+}
+
+#[inline]
+fn packed_by_shifts(column: &[u32], is_true: impl Fn(u32) -> bool) -> Vec<u64> {
+    let word =
+        |part: &[u32]| part.iter().rev().fold(0, |word, it| word << 1 | u64::from(is_true(*it)));
+    column.chunks(64).map(word).collect()
+}
+
+/// Eight values at a time, which one product brings together in a byte.
+#[inline]
+fn packed_by_eights(column: &[u32], is_true: impl Fn(u32) -> bool) -> Vec<u64> {
+    let byte = |part: &[u32; 8]| {
+        let spread = u64::from_le_bytes(part.map(|it| u8::from(is_true(it))));
+        spread.wrapping_mul(0x0102_0408_1020_4080) >> 56
+    };
+    let (whole, last) = column.as_chunks::<64>();
+    let mut out = Vec::with_capacity(column.len().div_ceil(64));
+    for part in whole {
+        let (eights, _) = part.as_chunks::<8>();
+        out.push(eights.iter().rev().fold(0, |word, part| word << 8 | byte(part)));
+    }
+    if !last.is_empty() {
+        out.push(last.iter().rev().fold(0, |word, it| word << 1 | u64::from(is_true(*it))));
+    }
+    out
+}

@@ -1,0 +1,51 @@
+//! Lists that look random and are the same in each run, and bitmaps of them.
+
+use row_mask::BitmapBuf;
+
+/// How many of 1,000 values are true.
+pub type Share = u64;
+
+/// What calls are timed on: a bitmap, another of its length, one with a value for each true value, and rows.
+pub struct Lists {
+    pub len: usize,
+    pub list: Vec<bool>,
+    pub other: Vec<bool>,
+    pub ranks: Vec<bool>,
+    pub rows: Vec<u64>,
+    /// Below 1,000, and below the share where the value is true.
+    pub column: Vec<u32>,
+    pub share: u32,
+}
+
+impl Lists {
+    pub fn new(len: usize, share: Share) -> Lists {
+        let mut state = 0x2545_F491_4F6C_DD1D_u64;
+        let mut number = || {
+            state ^= state << 13;
+            state ^= state >> 7;
+            state ^= state << 17;
+            u32::try_from((state >> 20) % 1000).unwrap()
+        };
+        let share = u32::try_from(share).unwrap();
+        let column: Vec<u32> = (0..len).map(|_| number()).collect();
+        let list: Vec<bool> = column.iter().map(|it| *it < share).collect();
+        let other = (0..len).map(|_| number() < share).collect();
+        let count = list.iter().filter(|value| **value).count();
+        let ranks = (0..count).map(|_| number() < 500).collect();
+        Lists { len, list, other, ranks, rows: (0..len as u64).collect(), column, share }
+    }
+}
+
+/// A bitmap as a peer by hand has it: words from bit 0 on.
+pub fn words(list: &[bool]) -> Vec<u64> {
+    BitmapBuf::from(list).as_bitmap().to_words()
+}
+
+/// The bytes of a list from a bit on, with 16 more behind them, so that a loop by hand reads past its end.
+pub fn bytes_from(list: &[bool], offset: usize) -> Vec<u8> {
+    let mut moved = vec![false; offset];
+    moved.extend_from_slice(list);
+    let mut bytes = BitmapBuf::from(&moved[..]).into_bytes();
+    bytes.extend([0; 16]);
+    bytes
+}

@@ -1,0 +1,116 @@
+//! The calls of `row-mask`.
+
+use crate::Call;
+use crate::lists::{Lists, bytes_from};
+use row_mask::{Bitmap, BitmapBuf};
+
+/// The bitmaps of the lists, from bit 0 on, and the first two from other bits on.
+pub struct Ours<'a> {
+    lists: &'a Lists,
+    list: BitmapBuf,
+    other: BitmapBuf,
+    ranks: BitmapBuf,
+    moved: (Vec<u8>, Vec<u8>),
+}
+
+pub const OFFSETS: (usize, usize) = (3, 6);
+
+impl<'a> Ours<'a> {
+    pub fn new(lists: &'a Lists) -> Ours<'a> {
+        let of = |list: &[bool]| BitmapBuf::from(list);
+        Ours {
+            lists,
+            list: of(&lists.list),
+            other: of(&lists.other),
+            ranks: of(&lists.ranks),
+            moved: (bytes_from(&lists.list, OFFSETS.0), bytes_from(&lists.other, OFFSETS.1)),
+        }
+    }
+
+    fn moved(&self) -> (Bitmap<'_>, Bitmap<'_>) {
+        let ((a, b), len) = (&self.moved, self.lists.len);
+        (Bitmap::new(a, OFFSETS.0, len).unwrap(), Bitmap::new(b, OFFSETS.1, len).unwrap())
+    }
+
+    pub fn call(&self, name: &str) -> Option<Call<'_>> {
+        let (a, b, ranks) = (self.list.as_bitmap(), self.other.as_bitmap(), self.ranks.as_bitmap());
+        let (lists, (a_moved, b_moved)) = (self.lists, self.moved());
+        let copy = BitmapBuf::from(a);
+        let last = |made: BitmapBuf| made.as_bytes().last().copied().map_or(0, u64::from);
+        Some(match name {
+            "count" => Box::new(move || a.count() as u64),
+            "and" => Box::new(move || last(a.and(b).unwrap())),
+            "and, at odd bits" => Box::new(move || last(a_moved.and(b_moved).unwrap())),
+            "==" => Box::new(move || u64::from(a == copy)),
+            "==, at odd bits" => Box::new(move || u64::from(a_moved == copy)),
+            "rank intersection" => Box::new(move || last(a.intersect_by_rank(ranks).unwrap())),
+            "rank intersection, no pdep" => Box::new(move || last(without_pdep(a, ranks))),
+            "choose" => {
+                Box::new(move || a.choose(&lists.rows).unwrap().last().copied().unwrap_or(0))
+            }
+            "for over indices" => Box::new(move || {
+                let mut sum = 0;
+                for i in a.indices() {
+                    sum += lists.rows[i];
+                }
+                sum
+            }),
+            "sum of indices" => Box::new(move || a.indices().sum::<usize>() as u64),
+            "for over values" => {
+                let mut found = Vec::with_capacity(lists.len);
+                Box::new(move || {
+                    found.clear();
+                    for (value, row) in a.iter().zip(&lists.rows) {
+                        if value {
+                            found.push(*row);
+                        }
+                    }
+                    found.len() as u64
+                })
+            }
+            "collect a predicate" => Box::new(move || {
+                last(lists.column.iter().map(|it| *it < lists.share).collect::<BitmapBuf>())
+            }),
+            "from_fn of a predicate" => Box::new(move || {
+                last(BitmapBuf::from_fn(lists.len, |i| lists.column[i] < lists.share))
+            }),
+            _ => return None,
+        })
+    }
+}
+
+unsafe extern "C" {
+    fn row_mask_intersect_by_rank(
+        bytes: *const u8,
+        bytes_size: usize,
+        offset: usize,
+        len: usize,
+        ranks: *const u8,
+        ranks_size: usize,
+        ranks_offset: usize,
+        ranks_len: usize,
+        out: *mut u8,
+        out_size: usize,
+    );
+}
+
+/// What the crate does where the processor has no such instruction.
+fn without_pdep(rows: Bitmap<'_>, ranks: Bitmap<'_>) -> BitmapBuf {
+    let mut out = vec![0; rows.len().div_ceil(8)];
+    // SAFETY: both are bitmaps of this length and of as many ranks as there are true rows, and `out` is room.
+    unsafe {
+        row_mask_intersect_by_rank(
+            rows.bytes().as_ptr(),
+            rows.bytes().len(),
+            rows.offset(),
+            rows.len(),
+            ranks.bytes().as_ptr(),
+            ranks.bytes().len(),
+            ranks.offset(),
+            ranks.len(),
+            out.as_mut_ptr(),
+            out.len(),
+        );
+    }
+    BitmapBuf::from_vec(out, 0, rows.len()).unwrap()
+}

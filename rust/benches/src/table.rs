@@ -1,0 +1,146 @@
+//! The table: each call's time beside the best loop by hand, as a ratio.
+
+use crate::Call;
+use crate::by_hand::ByHand;
+use crate::lists::Lists;
+use crate::ours::Ours;
+use crate::timed::least;
+use std::fmt::Write;
+use std::fs;
+use std::marker::PhantomData;
+
+const LENGTHS: [usize; 2] = [1 << 16, 1 << 20];
+const SHARES: [(u64, &str); 3] = [(10, "1 of 100"), (500, "1 of 2"), (990, "99 of 100")];
+const CALLS: [&str; 13] = [
+    "count",
+    "and",
+    "and, at odd bits",
+    "==",
+    "==, at odd bits",
+    "rank intersection",
+    "rank intersection, no pdep",
+    "choose",
+    "for over indices",
+    "sum of indices",
+    "for over values",
+    "collect a predicate",
+    "from_fn of a predicate",
+];
+// Peers whose answer to these is no digest of the result.
+const PEERS: [&str; 2] = ["fixedbitset", "CRoaring"];
+
+pub fn table(is_asked: impl Fn(&str) -> bool) -> String {
+    let mut table = format!(
+        "| Call | Rows | True | by hand, ns | row-mask | {} |\n|---|---|---|---|---|---|---|\n",
+        PEERS.join(" | ")
+    );
+    for name in CALLS.into_iter().filter(|name| is_asked(name)) {
+        for len in LENGTHS {
+            for (share, said) in SHARES {
+                let line = line(name, &Lists::new(len, share));
+                writeln!(table, "| {name} | {} | {said} | {line} |", grouped(len)).unwrap();
+            }
+        }
+    }
+    table
+}
+
+/// A number with commas between groups of three digits.
+fn grouped(number: usize) -> String {
+    let digits = number.to_string();
+    let groups: Vec<&str> = digits
+        .as_bytes()
+        .rchunks(3)
+        .rev()
+        .map(|group| std::str::from_utf8(group).unwrap())
+        .collect();
+    groups.join(",")
+}
+
+/// The time of the best loop by hand, and the ratios of the others to it.
+fn line(name: &str, lists: &Lists) -> String {
+    let (by_hand, ours, peers) = (ByHand::new(lists), Ours::new(lists), Peers::new(lists));
+    let mut calls = by_hand.calls(name);
+    let hands = calls.len();
+    calls.push(ours.call(name).unwrap());
+    let answers: Vec<u64> = calls.iter_mut().map(|call| call()).collect();
+    assert!(answers.iter().all(|it| *it == answers[0]), "{name}: {answers:?}");
+    let peers = peers.calls(name);
+    let has: Vec<bool> = peers.iter().map(Option::is_some).collect();
+    calls.extend(peers.into_iter().flatten());
+    let times = least(&mut calls);
+    let best = times[..hands].iter().copied().fold(f64::INFINITY, f64::min);
+    let mut ratios = times[hands..].iter().map(|time| format!("{:.2}", time / best));
+    let mut cells = vec![nanoseconds(best), ratios.next().unwrap()];
+    cells.extend(has.iter().map(|has| has.then(|| ratios.next()).flatten().unwrap_or("-".into())));
+    cells.join(" | ")
+}
+
+fn nanoseconds(time: f64) -> String {
+    #[expect(clippy::cast_possible_truncation, clippy::cast_sign_loss, reason = "a time")]
+    grouped(time.round() as usize)
+}
+
+/// The libraries, where they are asked for.
+struct Peers<'a> {
+    #[cfg(feature = "fixedbitset")]
+    fixed: crate::fixed::Fixed<'a>,
+    #[cfg(feature = "roaring")]
+    roaring: crate::roaring::Roaring<'a>,
+    lists: PhantomData<&'a Lists>,
+}
+
+impl<'a> Peers<'a> {
+    fn new(lists: &'a Lists) -> Peers<'a> {
+        let _ = lists;
+        Peers {
+            #[cfg(feature = "fixedbitset")]
+            fixed: crate::fixed::Fixed::new(lists),
+            #[cfg(feature = "roaring")]
+            roaring: crate::roaring::Roaring::new(lists),
+            lists: PhantomData,
+        }
+    }
+
+    /// Their calls, as many as `PEERS`, where they have such a call.
+    fn calls(&self, name: &str) -> Vec<Option<Call<'_>>> {
+        let _ = (name, self.lists);
+        vec![
+            #[cfg(feature = "fixedbitset")]
+            self.fixed.call(name),
+            #[cfg(not(feature = "fixedbitset"))]
+            None,
+            #[cfg(feature = "roaring")]
+            self.roaring.call(name),
+            #[cfg(not(feature = "roaring"))]
+            None,
+        ]
+    }
+}
+
+/// Puts the table where the one before it stands in a page: below its heading, above that of the picture.
+pub fn write(page: &str, table: &str, taken: &str) {
+    let text = fs::read_to_string(page).expect("the page is there");
+    let (before, rest) = text.split_once("## Table\n").expect("the page has a table");
+    let (_, after) = rest.split_once("## Picture\n").expect("the page has a picture");
+    let lines = wrapped(taken);
+    let text = format!("{before}## Table\n\n{lines}\n{table}\n## Picture\n{after}");
+    fs::write(page, text).expect("the page can be written");
+}
+
+fn wrapped(text: &str) -> String {
+    let mut lines = String::new();
+    let mut width = 0;
+    for word in text.split(' ') {
+        if width + word.len() > 118 {
+            lines.push('\n');
+            width = 0;
+        } else if width > 0 {
+            lines.push(' ');
+        }
+        lines.push_str(word);
+        width += word.len() + 1;
+    }
+    lines.push('\n');
+    lines
+}

@@ -1,0 +1,169 @@
+//! Bitmaps combined value by value.
+
+use super::call;
+use super::room::Room;
+use crate::{Bitmap, BitmapBuf, Error, declared};
+use std::mem::MaybeUninit;
+use std::ops::Not;
+
+type Combine =
+    unsafe extern "C" fn(*const u8, usize, usize, *const u8, usize, usize, usize, *mut u8, usize);
+
+impl Bitmap<'_> {
+    /// The values that are true in both.
+    ///
+    /// # Errors
+    ///
+    /// [`Error::LengthsDiffer`].
+    pub fn and(self, other: Bitmap<'_>) -> Result<BitmapBuf, Error> {
+        self.combined(other, declared::row_mask_and)
+    }
+
+    /// The values that are true in both, written into `out`.
+    ///
+    /// # Errors
+    ///
+    /// [`Error::LengthsDiffer`], and [`Error::RoomTooSmall`].
+    pub fn and_into(self, other: Bitmap<'_>, out: &mut (impl Room + ?Sized)) -> Result<(), Error> {
+        self.combined_into(other, declared::row_mask_and, out)
+    }
+
+    /// The values that are true in one or in both.
+    ///
+    /// # Errors
+    ///
+    /// [`Error::LengthsDiffer`].
+    pub fn or(self, other: Bitmap<'_>) -> Result<BitmapBuf, Error> {
+        self.combined(other, declared::row_mask_or)
+    }
+
+    /// The values that are true in one or in both, written into `out`.
+    ///
+    /// # Errors
+    ///
+    /// [`Error::LengthsDiffer`], and [`Error::RoomTooSmall`].
+    pub fn or_into(self, other: Bitmap<'_>, out: &mut (impl Room + ?Sized)) -> Result<(), Error> {
+        self.combined_into(other, declared::row_mask_or, out)
+    }
+
+    /// The values that are true here and not in `other`.
+    ///
+    /// # Errors
+    ///
+    /// [`Error::LengthsDiffer`].
+    pub fn and_not(self, other: Bitmap<'_>) -> Result<BitmapBuf, Error> {
+        self.combined(other, declared::row_mask_and_not)
+    }
+
+    /// The values that are true here and not in `other`, written into `out`.
+    ///
+    /// # Errors
+    ///
+    /// [`Error::LengthsDiffer`], and [`Error::RoomTooSmall`].
+    pub fn and_not_into(
+        self,
+        other: Bitmap<'_>,
+        out: &mut (impl Room + ?Sized),
+    ) -> Result<(), Error> {
+        self.combined_into(other, declared::row_mask_and_not, out)
+    }
+
+    /// The values that are true in one and not in the other.
+    ///
+    /// # Errors
+    ///
+    /// [`Error::LengthsDiffer`].
+    pub fn xor(self, other: Bitmap<'_>) -> Result<BitmapBuf, Error> {
+        self.combined(other, declared::row_mask_xor)
+    }
+
+    /// The values that are true in one and not in the other, written into `out`.
+    ///
+    /// # Errors
+    ///
+    /// [`Error::LengthsDiffer`], and [`Error::RoomTooSmall`].
+    pub fn xor_into(self, other: Bitmap<'_>, out: &mut (impl Room + ?Sized)) -> Result<(), Error> {
+        self.combined_into(other, declared::row_mask_xor, out)
+    }
+
+    /// Each value negated, written into `out`.
+    ///
+    /// # Errors
+    ///
+    /// [`Error::RoomTooSmall`].
+    pub fn not_into(self, out: &mut (impl Room + ?Sized)) -> Result<(), Error> {
+        // SAFETY: as `call` says; `out` is room for the length, and each byte of it is written.
+        unsafe {
+            out.write(self.len, |out| call!(row_mask_not(self, out.as_mut_ptr().cast(), out.len())))
+        }
+    }
+
+    /// The same values, written into `out`.
+    ///
+    /// # Errors
+    ///
+    /// [`Error::RoomTooSmall`].
+    pub fn copy_into(self, out: &mut (impl Room + ?Sized)) -> Result<(), Error> {
+        // SAFETY: it writes each byte.
+        unsafe { out.write(self.len, |out| self.copy_to(out)) }
+    }
+
+    /// The same values in bytes of their own, from bit 0 on.
+    #[must_use]
+    pub fn to_buf(self) -> BitmapBuf {
+        let mut made = BitmapBuf::default();
+        // SAFETY: it writes each byte.
+        unsafe { made.refill(self.len, |out| self.copy_to(out)) };
+        made
+    }
+
+    // Writes the bytes of the values to the front of room for them.
+    pub(crate) fn copy_to(self, out: &mut [MaybeUninit<u8>]) {
+        debug_assert!(out.len() >= self.len.div_ceil(8));
+        // SAFETY: as `call` says; `out` is room for the length.
+        unsafe { call!(row_mask_copy(self, out.as_mut_ptr().cast(), out.len())) }
+    }
+
+    fn combined(self, other: Bitmap<'_>, combine: Combine) -> Result<BitmapBuf, Error> {
+        let mut out = BitmapBuf::default();
+        self.combined_into(other, combine, &mut out)?;
+        Ok(out)
+    }
+
+    fn combined_into(
+        self,
+        other: Bitmap<'_>,
+        combine: Combine,
+        out: &mut (impl Room + ?Sized),
+    ) -> Result<(), Error> {
+        self.of_length_of(other)?;
+        // SAFETY: as `call` says; both have the length, and `out` is room for it, of which each byte
+        // is written.
+        unsafe {
+            out.write(self.len, |out| {
+                combine(
+                    self.bytes.as_ptr(),
+                    self.bytes.len(),
+                    self.offset,
+                    other.bytes.as_ptr(),
+                    other.bytes.len(),
+                    other.offset,
+                    self.len,
+                    out.as_mut_ptr().cast(),
+                    out.len(),
+                );
+            })
+        }
+    }
+}
+
+/// Each value negated, in bytes of their own.
+impl Not for Bitmap<'_> {
+    type Output = BitmapBuf;
+
+    fn not(self) -> BitmapBuf {
+        let mut made = BitmapBuf::default();
+        self.not_into(&mut made).expect("there is room");
+        made
+    }
+}

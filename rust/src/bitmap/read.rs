@@ -1,0 +1,185 @@
+//! Counts, indices and runs of a bitmap, and its words.
+
+use super::{call, front, range_within};
+use crate::{Bitmap, Error, Indices, Runs, Values};
+use std::ops::{Range, RangeBounds};
+
+impl<'a> Bitmap<'a> {
+    /// How many values are true.
+    #[must_use]
+    pub fn count(self) -> usize {
+        // SAFETY: as `call` says.
+        unsafe { call!(row_mask_count(self)) }
+    }
+
+    /// How many of the values of a range are true.
+    ///
+    /// # Errors
+    ///
+    /// [`Error::BadRange`] where it is no range of the values.
+    pub fn count_range(self, range: impl RangeBounds<usize>) -> Result<usize, Error> {
+        let Range { start, end } = range_within(&range, self.len)?;
+        // SAFETY: as `call` says; the range was tested.
+        Ok(unsafe { call!(row_mask_count_range(self, start, end)) })
+    }
+
+    /// Whether some value is true.
+    #[must_use]
+    pub fn any(self) -> bool {
+        self.next_index(0).is_some()
+    }
+
+    /// Whether no value is false.
+    #[must_use]
+    pub fn all(self) -> bool {
+        self.is_empty() || self.next_run(0) == Some(0..self.len)
+    }
+
+    /// For each index how many of the values below it are true, all in one pass.
+    ///
+    /// ```
+    /// # use row_mask::Bitmap;
+    /// let rows = Bitmap::new(&[0b0_1101], 0, 5)?;
+    /// assert_eq!(rows.counts_below(&[0, 1, 3, 5])?, [0, 1, 2, 3]);
+    /// # Ok::<(), row_mask::Error>(())
+    /// ```
+    ///
+    /// # Errors
+    ///
+    /// [`Error::UnsortedIndices`] where an index is below the one before it, and
+    /// [`Error::IndexOutOfBounds`] where one is above the length.
+    pub fn counts_below(self, indices: &[usize]) -> Result<Vec<usize>, Error> {
+        let mut out = vec![0; indices.len()];
+        self.counts_below_into(indices, &mut out)?;
+        Ok(out)
+    }
+
+    /// As [`counts_below`](Bitmap::counts_below), to the front of `out`.
+    ///
+    /// # Errors
+    ///
+    /// As there, and [`Error::RoomTooSmall`] where `out` has fewer items than there are indices.
+    pub fn counts_below_into(self, indices: &[usize], out: &mut [usize]) -> Result<(), Error> {
+        if let Some(at) = indices.windows(2).position(|pair| pair[1] < pair[0]) {
+            return Err(Error::UnsortedIndices { at: at + 1 });
+        }
+        if let Some(&index) = indices.last().filter(|index| **index > self.len) {
+            return Err(Error::IndexOutOfBounds { index, len: self.len });
+        }
+        let out = front(out, indices.len())?;
+        let (indices, count) = (indices.as_ptr(), indices.len());
+        let (out, out_count) = (out.as_mut_ptr().cast(), out.len());
+        // SAFETY: as `call` says; the indices ascend and so does the last bound them, and there is
+        // room for as many counts.
+        unsafe { call!(row_mask_counts_below(self, indices, count, out, out_count)) }
+        Ok(())
+    }
+
+    /// The index of true value number `n`, counted from 0.
+    #[must_use]
+    pub fn select(self, n: usize) -> Option<usize> {
+        // SAFETY: as `call` says.
+        self.inside(unsafe { call!(row_mask_select(self, n)) })
+    }
+
+    /// The first index from `from` on whose value is true.
+    #[must_use]
+    pub fn next_index(self, from: usize) -> Option<usize> {
+        // SAFETY: as `call` says.
+        self.inside(unsafe { call!(row_mask_next_index(self, from)) })
+    }
+
+    /// Writes the indices of the true values from `from` on to the front of `out`, as many as there
+    /// are or as it takes, and answers how many these are.
+    pub fn next_indices(self, from: usize, out: &mut [usize]) -> usize {
+        // SAFETY: as `call` says.
+        unsafe { call!(row_mask_next_indices(self, from, out.as_mut_ptr(), out.len())) }
+    }
+
+    /// The indices of the true values, ascending, in room for just as many.
+    #[must_use]
+    pub fn to_indices(self) -> Vec<usize> {
+        let mut indices = vec![0; self.count()];
+        let found = self.next_indices(0, &mut indices);
+        debug_assert_eq!(found, indices.len());
+        indices
+    }
+
+    /// The index of the last true value.
+    #[must_use]
+    pub fn last_index(self) -> Option<usize> {
+        // SAFETY: as `call` says.
+        self.inside(unsafe { call!(row_mask_last_index(self)) })
+    }
+
+    /// The first run of true values from `from` on. A run that `from` is inside begins there.
+    #[must_use]
+    pub fn next_run(self, from: usize) -> Option<Range<usize>> {
+        // SAFETY: as `call` says.
+        let run = unsafe { call!(row_mask_next_run(self, from)) };
+        (run.start < self.len).then_some(run.start..run.end)
+    }
+
+    /// Writes the words of 64 values from word `from` on to the front of `out`, as many as there are
+    /// or as it takes, and answers how many these are. Bit `b` of word `w` is value `64 * w + b`, and
+    /// the bits past the last value are clear.
+    ///
+    /// ```
+    /// # use row_mask::Bitmap;
+    /// let rows = Bitmap::new(&[0b1101_1110], 1, 5)?;
+    /// let mut words = [0; 2];
+    /// assert_eq!(rows.next_words(0, &mut words), 1);
+    /// assert_eq!(words, [0b0_1111, 0]);
+    /// # Ok::<(), row_mask::Error>(())
+    /// ```
+    pub fn next_words(self, from: usize, out: &mut [u64]) -> usize {
+        // SAFETY: as `call` says.
+        unsafe { call!(row_mask_words(self, from, out.as_mut_ptr(), out.len())) }
+    }
+
+    /// All words of 64 values, as [`next_words`](Bitmap::next_words) has them.
+    #[must_use]
+    pub fn to_words(self) -> Vec<u64> {
+        let mut words = vec![0; self.len.div_ceil(64)];
+        let written = self.next_words(0, &mut words);
+        debug_assert_eq!(written, words.len());
+        words
+    }
+
+    /// The values, in their order.
+    #[must_use]
+    pub fn iter(self) -> Values<'a> {
+        Values::new(self)
+    }
+
+    /// The indices of the true values, ascending.
+    ///
+    /// ```
+    /// # use row_mask::Bitmap;
+    /// let rows = Bitmap::new(&[0b0_1101], 0, 5)?;
+    /// assert_eq!(rows.indices().collect::<Vec<_>>(), [0, 2, 3]);
+    /// # Ok::<(), row_mask::Error>(())
+    /// ```
+    #[must_use]
+    pub fn indices(self) -> Indices<'a> {
+        Indices::new(self)
+    }
+
+    /// The maximal ranges of true values, ascending.
+    ///
+    /// ```
+    /// # use row_mask::Bitmap;
+    /// let rows = Bitmap::new(&[0b0_1101], 0, 5)?;
+    /// assert_eq!(rows.runs().collect::<Vec<_>>(), [0..1, 2..4]);
+    /// # Ok::<(), row_mask::Error>(())
+    /// ```
+    #[must_use]
+    pub fn runs(self) -> Runs<'a> {
+        Runs::new(self)
+    }
+
+    // An index, where a call answers the length for none.
+    fn inside(self, index: usize) -> Option<usize> {
+        (index < self.len).then_some(index)
+    }
+}

@@ -1,0 +1,91 @@
+//! What a bitmap can be written into.
+
+use crate::{BitmapBuf, Error, declared};
+use std::mem::MaybeUninit;
+use std::slice;
+
+/// What the calls named `.._into` write a bitmap into, from bit 0 on: bytes of the caller, or a
+/// [`BitmapBuf`], which then has just these values and keeps the memory that it has.
+///
+/// Of bytes just the first `(len + 7) / 8` are written, where `len` is the length of what is written,
+/// and the bits behind the last value are cleared in the last of them.
+///
+/// ```
+/// use row_mask::{Bitmap, BitmapBuf};
+///
+/// let rows = Bitmap::new(&[0b0_1101], 0, 5)?;
+/// let mut turned = BitmapBuf::default();
+/// rows.not_into(&mut turned)?;
+/// assert_eq!(turned.to_string(), "01001");
+/// let mut bytes = [0xFF; 2];
+/// rows.not_into(&mut bytes[..])?;
+/// assert_eq!(bytes, [0b1_0010, 0xFF]);
+/// # Ok::<(), row_mask::Error>(())
+/// ```
+pub trait Room: sealed::Room {}
+
+impl Room for BitmapBuf {}
+
+impl Room for [u8] {}
+
+pub(crate) mod sealed {
+    use crate::Error;
+    use std::mem::MaybeUninit;
+
+    pub trait Room {
+        /// Writes `len` values by what gets the bytes that they take.
+        ///
+        /// # Safety
+        ///
+        /// `fill` writes each byte that it gets.
+        unsafe fn write(
+            &mut self,
+            len: usize,
+            fill: impl FnOnce(&mut [MaybeUninit<u8>]),
+        ) -> Result<(), Error>;
+    }
+}
+
+impl sealed::Room for BitmapBuf {
+    unsafe fn write(
+        &mut self,
+        len: usize,
+        fill: impl FnOnce(&mut [MaybeUninit<u8>]),
+    ) -> Result<(), Error> {
+        // SAFETY: this is what is asked here too.
+        unsafe { self.refill(len, fill) };
+        Ok(())
+    }
+}
+
+impl sealed::Room for [u8] {
+    unsafe fn write(
+        &mut self,
+        len: usize,
+        fill: impl FnOnce(&mut [MaybeUninit<u8>]),
+    ) -> Result<(), Error> {
+        fill(front(self, room_for(len))?);
+        Ok(())
+    }
+}
+
+/// The first `needed` places, for what writes each of them.
+pub(crate) fn front<T: Copy>(out: &mut [T], needed: usize) -> Result<&mut [MaybeUninit<T>], Error> {
+    let room = out.len();
+    let out = out.get_mut(..needed).ok_or(Error::RoomTooSmall { room, needed })?;
+    // SAFETY: it is the same borrowed slice, and what is written into it are values.
+    Ok(unsafe { slice::from_raw_parts_mut(out.as_mut_ptr().cast(), out.len()) })
+}
+
+/// The same bytes, all of them written.
+pub(crate) fn init(out: &mut [MaybeUninit<u8>]) -> &mut [u8] {
+    out.fill(MaybeUninit::new(0));
+    // SAFETY: it is the same borrowed slice, and each byte was written.
+    unsafe { slice::from_raw_parts_mut(out.as_mut_ptr().cast(), out.len()) }
+}
+
+/// How many bytes so many values take.
+pub(crate) fn room_for(len: usize) -> usize {
+    // SAFETY: this function asks nothing.
+    unsafe { declared::row_mask_room(len) }
+}

@@ -1,0 +1,103 @@
+//! What bitmaps of their own bytes are made of, and how they are changed in place.
+
+use crate::lists::{Comparisons, Generator, indices_of, packed, runs_of};
+use row_mask::{Bitmap, BitmapBuf, Error};
+
+pub fn made_of(seen: &mut Comparisons, random: &mut Generator, list: &[bool], bitmap: Bitmap<'_>) {
+    let len = list.len();
+    seen.same_list(&BitmapBuf::from_fn(len, |i| list[i]), list);
+    seen.same_list(&BitmapBuf::from(list), list);
+    seen.same_list(&BitmapBuf::from(bitmap), list);
+    seen.same_list(&list.iter().copied().filter(|_| true).collect(), list);
+    let bytes = bitmap.bytes().to_vec();
+    seen.same_list(&BitmapBuf::from_vec(bytes, bitmap.offset(), len).unwrap(), list);
+    let mut aligned = bitmap.to_buf().into_bytes();
+    aligned.iter_mut().skip(len / 8).for_each(|byte| *byte |= !0 << (len % 8));
+    aligned.extend([0xFF; 2]);
+    seen.same_list(&BitmapBuf::from_vec(aligned, 0, len).unwrap(), list);
+    let words = bitmap.to_words();
+    seen.same(Bitmap::from_words(&words, len).unwrap(), bitmap);
+    seen.same_list(&BitmapBuf::all_true(len), &vec![true; len]);
+    seen.same_list(&BitmapBuf::all_false(len), &vec![false; len]);
+    let negated: Vec<bool> = list.iter().map(|value| !value).collect();
+    seen.same_list(&!bitmap.to_buf(), &negated);
+    joined(seen, random, list, bitmap);
+    of_indices(seen, random, list);
+    extended(seen, random, list);
+    filled(seen, random, list);
+    into_bytes(seen, list);
+}
+
+/// Indices backwards and some of them twice, and ranges backwards of which some meet.
+fn of_indices(seen: &mut Comparisons, random: &mut Generator, list: &[bool]) {
+    let len = list.len();
+    let mut indices = indices_of(list);
+    indices.reverse();
+    indices.extend_from_within(..random.below(indices.len() + 1));
+    seen.same_list(&BitmapBuf::from_indices(len, &indices).unwrap(), list);
+    let mut ranges = runs_of(list);
+    ranges.reverse();
+    seen.same_list(&BitmapBuf::from_ranges(len, ranges.clone()).unwrap(), list);
+    let meeting = ranges.iter().flat_map(|run| [run.start..run.end, run.start..run.start + 1]);
+    seen.same_list(&BitmapBuf::from_ranges(len, meeting).unwrap(), list);
+    let outside = Err(Error::IndexOutOfBounds { index: len, len });
+    indices.push(len);
+    seen.same(BitmapBuf::from_indices(len, &indices), outside);
+    let range = Error::BadRange { start: len, end: len + 1, len };
+    seen.same(BitmapBuf::from_ranges(len, [0..0, len..len + 1]), Err(range));
+}
+
+fn extended(seen: &mut Comparisons, random: &mut Generator, list: &[bool]) {
+    let (len, more) = (random.below(20), list.iter().copied());
+    let first = random.list(len, 128);
+    let mut made = BitmapBuf::with_capacity(first.len());
+    made.extend(first.iter().copied().filter(|_| true));
+    made.extend(more.filter(|_| true));
+    seen.same_list(&made, &[&first[..], list].concat());
+    made.clear();
+    seen.same_list(&made, &[]);
+    made.extend(list.iter().copied());
+    seen.same_list(&made, list);
+}
+
+fn filled(seen: &mut Comparisons, random: &mut Generator, list: &[bool]) {
+    let (mut made, mut want) = (BitmapBuf::from(list), list.to_vec());
+    for value in [true, false, true] {
+        let start = random.below(list.len() + 1);
+        let end = start + random.below(list.len() + 1 - start);
+        want[start..end].fill(value);
+        seen.same(made.fill_range(start..end, value), Ok(()));
+        seen.same_list(&made, &want);
+    }
+    let (start, end, len) = (list.len(), list.len() + 1, list.len());
+    seen.same(made.fill_range(start..end, true), Err(Error::BadRange { start, end, len }));
+}
+
+/// Makers that write into bytes of the caller.
+fn into_bytes(seen: &mut Comparisons, list: &[bool]) {
+    let (len, size) = (list.len(), list.len().div_ceil(8));
+    let room = || vec![0xA5; size + 1];
+    let want = |list: &[bool]| (Ok(()), [&packed(list)[..], &[0xA5]].concat());
+    let mut out = room();
+    seen.same((BitmapBuf::from_fn_into(len, |i| list[i], &mut out[..]), out), want(list));
+    let mut out = room();
+    seen.same((BitmapBuf::from_bools_into(list, &mut out[..]), out), want(list));
+    let (mut out, indices) = (room(), indices_of(list));
+    seen.same((BitmapBuf::from_indices_into(len, &indices, &mut out[..]), out), want(list));
+    for value in [true, false] {
+        let mut out = room();
+        seen.same((BitmapBuf::all_into(len, value, &mut out[..]), out), want(&vec![value; len]));
+    }
+}
+
+fn joined(seen: &mut Comparisons, random: &mut Generator, list: &[bool], bitmap: Bitmap<'_>) {
+    let (more, offset) = (random.below(90), random.below(16));
+    let other = random.list(more, 128);
+    let bytes = random.packed(&other, offset);
+    let second = Bitmap::new(&bytes, offset, other.len()).unwrap();
+    let want = [list, &other[..], list].concat();
+    seen.same_list(&BitmapBuf::concat([bitmap, second, bitmap]), &want);
+    let mut made = second.to_buf();
+    made.append(bitmap);
+    seen.same_list(&made, &[&other[..], list].concat());
+}

@@ -1,0 +1,72 @@
+//! What a call asks is tested, and how bitmaps and refusals are printed.
+
+use row_mask::{Bitmap, BitmapBuf, Error};
+
+#[test]
+fn what_a_call_asks_is_tested() {
+    let bytes = [0b1011_1001, 0xFF];
+    let refused = |offset, len| Bitmap::new(&bytes, offset, len).err();
+    assert_eq!(refused(0, 16), None);
+    assert_eq!(refused(16, 0), None);
+    for (offset, len) in [(0, 17), (17, 0), (9, 8), (usize::MAX, 1), (1, usize::MAX)] {
+        assert_eq!(refused(offset, len), Some(Error::OutOfBytes { bytes: 2, offset, len }));
+    }
+    assert_eq!(Bitmap::new(&[], 0, 0).unwrap().count(), 0);
+
+    let start = 3;
+    let eight = Bitmap::new(&bytes, 0, 8).unwrap();
+    let seven = Bitmap::new(&bytes, 0, 7).unwrap();
+    assert_eq!(eight.and(seven), Err(Error::LengthsDiffer { left: 8, right: 7 }));
+    assert_ne!(eight, seven);
+    assert_eq!(eight.get(8), None);
+    assert_eq!(eight.slice(3..9).err(), Some(Error::BadRange { start: 3, end: 9, len: 8 }));
+    assert_eq!(eight.count_range(start..2), Err(Error::BadRange { start: 3, end: 2, len: 8 }));
+    assert_eq!(eight.slice(..=8).err(), Some(Error::BadRange { start: 0, end: 9, len: 8 }));
+    assert!(eight.slice(..=usize::MAX).is_err());
+    assert_eq!(eight.slice(..=2).unwrap().len(), 3);
+    assert_eq!(eight.slice(..).unwrap(), eight);
+    assert_eq!(eight.to_buf().and_with(seven), Err(Error::LengthsDiffer { left: 8, right: 7 }));
+    assert_eq!(eight.intersect_by_rank(seven), Err(Error::RanksDiffer { ranks: 7, count: 5 }));
+    assert_eq!(eight.intersect_at_ranks(&[0, 2, 2]), Err(Error::UnsortedRanks { at: 2 }));
+    assert_eq!(
+        eight.intersect_at_ranks(&[0, 5]),
+        Err(Error::RankOutOfBounds { rank: 5, count: 5 })
+    );
+    assert_eq!(eight.counts_below(&[3, 3, 1]), Err(Error::UnsortedIndices { at: 2 }));
+    assert_eq!(eight.counts_below(&[8, 9]), Err(Error::IndexOutOfBounds { index: 9, len: 8 }));
+    assert_eq!(eight.choose(&[1, 2]), Err(Error::RowsDiffer { rows: 2, len: 8 }));
+}
+
+#[test]
+fn what_changes_and_makers_ask_is_tested() {
+    let eight = Bitmap::new(&[0b1011_1001], 0, 8).unwrap();
+    let seven = Bitmap::new(&[0b1011_1001], 0, 7).unwrap();
+    let differ = Error::LengthsDiffer { left: 8, right: 7 };
+    assert_eq!(eight.and_into(seven, &mut [][..]), Err(differ));
+    let small = |room, needed| Error::RoomTooSmall { room, needed };
+    assert_eq!(eight.choose_into(&[0; 8], &mut [0; 4]), Err(small(4, 5)));
+    assert_eq!(eight.counts_below_into(&[1, 2], &mut [0]), Err(small(1, 2)));
+
+    let outside = |bytes, len| Some(Error::OutOfBytes { bytes, offset: 0, len });
+    assert_eq!(BitmapBuf::from_vec(vec![0], 0, 9).err(), outside(1, 9));
+    assert_eq!(Bitmap::from_words(&[0], 65).err(), outside(8, 65));
+}
+
+#[test]
+fn texts() {
+    let bitmap = Bitmap::new(&[0b0011_0010], 1, 6).unwrap();
+    assert_eq!(format!("{bitmap}|{bitmap:>8}"), "100110|  100110");
+    let said = "{ len: 6, count: 3, values: 100110 }";
+    assert_eq!(format!("{bitmap:?}"), format!("Bitmap {said}"));
+    assert_eq!(format!("{:?}", bitmap.to_buf()), format!("BitmapBuf {said}"));
+    let long: BitmapBuf = (0..1000).map(|i| i == 1 || i == 999).collect();
+    let values = format!("01{}..", "0".repeat(62));
+    assert_eq!(
+        format!("{long:?}"),
+        format!("BitmapBuf {{ len: 1000, count: 2, values: {values} }}")
+    );
+    let refused = bitmap.choose(&[0]).unwrap_err();
+    assert_eq!(refused.to_string(), "there are 1 rows, and 6 values");
+    let refused = Bitmap::new(&[0], 4, 5).unwrap_err();
+    assert_eq!(refused.to_string(), "5 bits from bit 4 on are not within 1 bytes");
+}
