@@ -2,7 +2,7 @@ use Rattle.std.proofs.Common.{arith, ◌≡◌, ◌+◌, ◌*◌, ◌/◌, ◌�
 use Rattle.std.proofs.lemmas.Result.{IfOk-weaker}
 use Rattle.mask_bits.specs.Buffer.{values}
 use Rattle.mask_bits.specs.Positions.{chosen, count}
-use Rattle.mask_bits.specs.Words.{word_part, padded_remainder}
+use Rattle.mask_bits.specs.Words.{word_bits, word_part, padded_remainder}
 use Rattle.mask_bits.proofs.Lists.Words.ChosenWordLemmas.{chosen-none, chosen-part_more, chosen-remainder, chosen_front-le, count-remainder}
 use Rattle.mask_bits.proofs.Lists.Words.ExtractLemmas.{count-of_word}
 use Rattle.mask_bits.proofs.Lists.LawLemmas.{length-chosen}
@@ -40,17 +40,26 @@ push_chosen-requires-2 c =
     let whole : c.loop-i.i ≡ length m / 64 = omega (arith, ap length c.chunks-masks.ensures.list, c.len-i-end.ensures, c.loop-i-test.false, c.loop-i.auto.i-end) in
     omega (arith, ap length (front s m c.loop-i.bits c.loop-i.i c.loop-i.invariant whole), count-remainder s m c.requires, ap count (c.remainder_bits-2.ensures ∙ ap padded_remainder c.chunks-masks.ensures.list), c.true_count.ensures.counted, c.true_count.type_inv)
 
-list : (c : goal.After-freeze) → c.push_chosen-2.new.bits ≡ chosen (values c.args.of.now) (values c.args.self.now)
-list c =
-    let m = values c.args.self.now in
-    let s = values c.args.of.now in
-    let whole : c.loop-i.i ≡ length m / 64 = omega (arith, ap length c.chunks-masks.ensures.list, c.len-i-end.ensures, c.loop-i-test.false, c.loop-i.auto.i-end) in
-    c.in_ok-push_chosen-2.ensures
-    ∙ ap₂ (λ (xs ys : List Bool). xs ++ ys) (front s m c.loop-i.bits c.loop-i.i c.loop-i.invariant whole) (ap₂ chosen (c.remainder_bits.ensures ∙ ap padded_remainder c.chunks-sources.ensures.list) (c.remainder_bits-2.ensures ∙ ap padded_remainder c.chunks-masks.ensures.list))
-    ∙ chosen-remainder s m c.requires
+-- the values in all words, where those behind the whole ones were appended to these
+all_words : (s m bits all : List Bool) (i last_s last_m : ℕ) → length s ≡ length m → bits ≡ chosen (take (64 * i) s) (take (64 * i) m) → i ≡ length m / 64 → word_bits last_s ≡ padded_remainder s → word_bits last_m ≡ padded_remainder m → all ≡ bits ++ chosen (word_bits last_s) (word_bits last_m) → all ≡ chosen s m
+all_words s m bits all i last_s last_m same so_far whole source mask appended =
+    appended
+    ∙ ap₂ (λ (xs ys : List Bool). xs ++ ys) (front s m bits i so_far whole) (ap₂ chosen source mask)
+    ∙ chosen-remainder s m same
+
+whole_words : (c : goal.After-freeze) → c.loop-i.i ≡ length (values c.args.self.now) / 64
+whole_words c = omega (arith, ap length c.chunks-masks.ensures.list, c.len-i-end.ensures, c.loop-i-test.false, c.loop-i.auto.i-end)
 
 pub returns-clause-list : goal.returns-clause-list
-returns-clause-list c = IfOk-weaker c.freeze.result _ _ (λ b same. same ∙ list c) c.freeze.ensures
+returns-clause-list c =
+    let m = values c.args.self.now in
+    let s = values c.args.of.now in
+    let all = all_words s m c.loop-i.bits c.push_chosen-2.new.bits c.loop-i.i c.remainder_bits.result c.remainder_bits-2.result c.requires c.loop-i.invariant (whole_words c) (c.remainder_bits.ensures ∙ ap padded_remainder c.chunks-sources.ensures.list) (c.remainder_bits-2.ensures ∙ ap padded_remainder c.chunks-masks.ensures.list) c.in_ok-push_chosen-2.ensures in
+    IfOk-weaker c.freeze.result _ _ (λ b same. same ∙ all) c.freeze.ensures
 
 pub returns-clause-len : goal.returns-clause-len
-returns-clause-len c = IfOk-weaker c.freeze.result _ _ (λ b same. ap length (same ∙ list c) ∙ length-chosen (values c.args.of.now) (values c.args.self.now) c.requires) c.freeze.ensures
+returns-clause-len c =
+    let m = values c.args.self.now in
+    let s = values c.args.of.now in
+    let all = all_words s m c.loop-i.bits c.push_chosen-2.new.bits c.loop-i.i c.remainder_bits.result c.remainder_bits-2.result c.requires c.loop-i.invariant (whole_words c) (c.remainder_bits.ensures ∙ ap padded_remainder c.chunks-sources.ensures.list) (c.remainder_bits-2.ensures ∙ ap padded_remainder c.chunks-masks.ensures.list) c.in_ok-push_chosen-2.ensures in
+    IfOk-weaker c.freeze.result _ _ (λ b same. ap length (same ∙ all) ∙ length-chosen s m c.requires) c.freeze.ensures
