@@ -1,19 +1,79 @@
 //! The bits of one word at the set places of another.
+//!
+//! In each byte they first move down to its low end, in all eight bytes at once, with a lane of a
+//! vector for each byte. For each clear place of the mask, the highest first, the bits above it move
+//! down by one:
+//!
+//! ```text
+//!        place   7 6 5 4 3 2 1 0
+//!         mask   1 . 1 1 . 1 . .
+//!       source   a . b c . d . .
+//! past place 6   . a b c . d . .
+//! past place 3   . . a b c d . .
+//! past place 1   . . . a b c d .
+//! past place 0   . . . . a b c d
+//! ```
+//!
+//! Then each byte's bits are put behind those of all lower bytes, whose number is the count of set
+//! places there.
 
-ghost use Rattle.mask_bits.specs.Extract.{Extracts};
+ghost use Rattle.std.specs.Prelude.{ℕ, ◌≡◌, ◌<◌, ◌*◌, ◌/◌, ◌%◌, ◌^◌, slice_index};
+ghost use Rattle.std.specs.Int.{bit_at};
+ghost use Rattle.mask_bits.specs.Extract.{Extracts, HasLanes, gathered, closed_up};
+
+use std::simd::prelude::*;
 
 /// The bits of `source` at the set places of `mask`, moved down to the low end in their order, and
-/// zeros above them: what the instruction PEXT does.
+/// zeros above them: what the instruction PEXT does. It takes about as long at each mask.
+#[inline]
 pub fn extract(source: u64, mask: u64) -> u64
     ensures { Extracts source mask result }
 {
-    let mut left = mask;
+    let bytes = gather_in_bytes(source, mask);
     let mut result = 0;
     let mut at = 0u32;
-    while left != 0 {
-        result |= ((source >> left.trailing_zeros()) & 1) << at;
-        left &= left - 1;
-        at += 1;
+    for j in 0..8u32 {
+        result |= (bytes[j as usize] as u64) << at;
+        at += ((mask >> (8 * j)) & 0xFF).count_ones();
     }
     result
+}
+
+// For each byte of the words, the bits at the set places of the mask's byte, moved down to its low
+// end.
+#[inline]
+fn gather_in_bytes(source: u64, mask: u64) -> [u8; 8]
+    ensures { HasLanes result
+        (λ j. gathered 8 (source / 2 ^ (8 * j)) (mask / 2 ^ (8 * j))) }
+{
+    let masks = bytes_of(mask);
+    let mut bits = bytes_of(source & mask);
+    for passed in 0..7u8 {
+        bits = close_up(bits, masks, 6 - passed);
+    }
+    bits.to_array()
+}
+
+// The bytes of a word as lanes.
+#[inline]
+fn bytes_of(word: u64) -> u8x8
+    ensures { HasLanes result (λ j. word / 2 ^ (8 * j) % 2 ^ 8) }
+{
+    u64x1::splat(word).to_le_bytes()
+}
+
+// In each lane whose mask is clear at the place, the bits above it move down by one: half of them is
+// taken away, as a bit is twice the one below.
+#[inline]
+fn close_up(bits: u8x8, masks: u8x8, place: u8) -> u8x8
+    requires place { place < 7 }
+    requires free { (j : ℕ) → j < 8 → bit_at (slice_index masks j) place ≡ 0
+        → bit_at (slice_index bits j) place ≡ 0 }
+    ensures { HasLanes result
+        (λ j. closed_up place (slice_index masks j) (slice_index bits j)) }
+{
+    let here = u8x8::splat(1 << place);
+    // no bit where the place is set, and all from it on where it is clear
+    let from_here = (masks & here) - here;
+    bits - ((bits & from_here) >> u8x8::splat(1))
 }

@@ -3,6 +3,8 @@ pub mod BackingBitLemmas
 pub mod ChosenWordLemmas
 pub mod ExtractLemmas
 pub mod FrontLemmas
+pub mod GatherLemmas
+pub mod LaneLemmas
 pub mod LowestLemmas
 pub mod PaddedLemmas
 pub mod ShiftLemmas

@@ -1,9 +1,8 @@
-use Rattle.mask_bits.proofs.Lists.Words.ExtractLemmas.{IsExtractedTo}
+use Rattle.std.proofs.Common.{◌≡◌, ◌*◌}
+use Rattle.mask_bits.specs.Extract.{gathered}
+use Rattle.mask_bits.proofs.Lists.Words.GatherLemmas.{ones_in}
 use Rattle.mask_bits.proofs.extract.extract.Given as goal
 
--- the bits at the lowest set places so far are there, and the other places are left
-abbrev pub invariant-loop-left : goal.invariant-loop-left
-invariant-loop-left l = IsExtractedTo l.source l.mask l.left l.at l.result
-
-abbrev pub decreases-loop-left : goal.decreases-loop-left
-decreases-loop-left l = l.left
+-- the bits of the first j bytes are there
+abbrev pub invariant-loop-j : goal.invariant-loop-j
+invariant-loop-j l = (l.result ≡ gathered (8 * l.j) l.source l.mask) × (l.at ≡ ones_in (8 * l.j) l.mask)

@@ -1,0 +1,320 @@
+-- The bits of a word's lowest places at the set ones of a mask: by parts, and one by one.
+use Rattle.std.proofs.Common.{◌≡◌, ◌⊎◌, inl, inr, bit_and, bit_or, ℕ, zero, suc, min, ◌+◌, ◌*◌, ◌-◌, ◌/◌, ◌%◌, ◌^◌, ◌<◌, ◌≤◌, Bool, false, nat_eq, List, [], ◌∷◌, map, length, get_or, count_ones, refl, sym, ap, ap₂, ◌∙◌, arith, pow-add, mod-lt, subst}
+use Rattle.std.specs.Int.{bit_at}
+use lib.Count.{ones_step}
+use lib.Pow.{field, mod-mod-pow}
+use Rattle.std.proofs.lemmas.Bool.{cases_lt}
+use Rattle.std.proofs.lemmas.List.{get_or-map, length-map}
+use Rattle.std.proofs.lemmas.Nat.{pow_pos, shr-shr, shr_split, shr_high, ones-le, and_mask, and_shr, or_comm, or_shifted, shl_whole, mod-pow-add, mod-mul-add}
+use Rattle.std.proofs.lemmas.Nat.Bits.{bit_at_lowest, bit_at-suc, bit_at_above, bit_at_and, bit_at_cat_low}
+use Rattle.std.proofs.Math.Nat.{mul_assoc, mul_comm, add-mul}
+use Rattle.mask_bits.specs.Extract.{Extracts, gathered, closed_up}
+use Rattle.mask_bits.specs.Positions.{positions, count}
+use Rattle.mask_bits.specs.Words.{word_bits}
+use Rattle.mask_bits.proofs.Lists.Places.PlaceLemmas.{positions-true, positions-false}
+use Rattle.mask_bits.proofs.Lists.Words.ShiftLemmas.{bit_at-shr, bit_at-mod}
+use Rattle.mask_bits.proofs.Lists.Words.WordLemmas.{word_bits_from_bits}
+
+-- how many of a mask's lowest n places are set
+abbrev pub ones_in : ℕ → ℕ → ℕ
+ones_in zero mask = 0
+ones_in (suc n) mask = mask % 2 + ones_in n (mask / 2)
+
+-- ---- one place more
+
+cases_bit : (m : ℕ) → (m % 2 ≡ 0) ⊎ (m % 2 ≡ 1)
+cases_bit m = elim (cases_lt 0 (m % 2)) [
+  | inl on ↦ inr (omega arith)
+  | inr off ↦ inl (omega arith)
+]
+
+-- of a clear place nothing comes
+pub gathered-clear : (n s m : ℕ) → m % 2 ≡ 0 → gathered (suc n) s m ≡ gathered n (s / 2) (m / 2)
+unfolding gathered
+gathered-clear n s m off = ap (λ b. min (s % 2) b + 2 ^ b * gathered n (s / 2) (m / 2)) off ∙ omega arith
+
+-- of a set place its bit comes, below the others
+pub gathered-set : (n s m : ℕ) → m % 2 ≡ 1 → gathered (suc n) s m ≡ s % 2 + 2 * gathered n (s / 2) (m / 2)
+unfolding gathered
+gathered-set n s m on = ap (λ b. min (s % 2) b + 2 ^ b * gathered n (s / 2) (m / 2)) on ∙ omega arith
+
+pub gathered-none : (s m : ℕ) → gathered 0 s m ≡ 0
+unfolding gathered
+gathered-none s m = refl
+
+ones_in-bit : (n m b : ℕ) → m % 2 ≡ b → ones_in (suc n) m ≡ b + ones_in n (m / 2)
+ones_in-bit n m b e = ap (λ k. k + ones_in n (m / 2)) e
+
+ones_in-clear : (n m : ℕ) → m % 2 ≡ 0 → ones_in (suc n) m ≡ ones_in n (m / 2)
+ones_in-clear n m off = ones_in-bit n m 0 off ∙ omega arith
+
+-- ---- how many they are
+
+pub ones_in-le : (n m : ℕ) → ones_in n m ≤ n
+ones_in-le zero m = omega arith
+ones_in-le (suc n) m = omega (arith, ones_in-le n (m / 2))
+
+pub gathered-lt : (n s m : ℕ) → gathered n s m < 2 ^ ones_in n m
+gathered-lt zero s m = omega (arith, gathered-none s m)
+gathered-lt (suc n) s m = elim (cases_bit m) [
+  | inl off ↦ omega (arith, gathered-clear n s m off, gathered-lt n (s / 2) (m / 2), ap (λ k. 2 ^ k) (ones_in-clear n m off))
+  | inr on ↦ omega (arith, gathered-set n s m on, gathered-lt n (s / 2) (m / 2), ap (λ k. 2 ^ k) (ones_in-bit n m 1 on), pow-add 2 1 (ones_in n (m / 2)))
+]
+
+-- ---- by parts
+
+half_more : (x a : ℕ) → x / 2 / 2 ^ a ≡ x / 2 ^ suc a
+half_more x a =
+    let e : 1 + a ≡ suc a = omega arith in
+    shr-shr x 1 a ∙ ap (λ k. x / 2 ^ k) e
+
+pub ones_in-join : (a b m : ℕ) → ones_in (a + b) m ≡ ones_in a m + ones_in b (m / 2 ^ a)
+ones_in-join zero b m =
+    let e : zero + b ≡ b = omega arith in
+    let own : m / 2 ^ 0 ≡ m = omega arith in
+    ap (λ k. ones_in k m) e ∙ omega (arith, ap (ones_in b) own)
+ones_in-join (suc a) b m =
+    let e : suc a + b ≡ suc (a + b) = omega arith in
+    ap (λ k. ones_in k m) e ∙ omega (arith, ones_in-join a b (m / 2), ap (ones_in b) (half_more m a))
+
+pub gathered-join : (a b s m : ℕ) → gathered (a + b) s m ≡ gathered a s m + 2 ^ ones_in a m * gathered b (s / 2 ^ a) (m / 2 ^ a)
+gathered-join zero b s m =
+    let e : zero + b ≡ b = omega arith in
+    let own : (x : ℕ) → x / 2 ^ 0 ≡ x = λ x. omega arith in
+    ap (λ k. gathered k s m) e ∙ omega (arith, gathered-none s m, ap₂ (gathered b) (own s) (own m))
+gathered-join (suc a) b s m =
+    let e : suc a + b ≡ suc (a + b) = omega arith in
+    let rest : ℕ = gathered b (s / 2 ^ suc a) (m / 2 ^ suc a) in
+    let t : ℕ = 2 ^ ones_in a (m / 2) in
+    let more : gathered (a + b) (s / 2) (m / 2) ≡ gathered a (s / 2) (m / 2) + t * rest = gathered-join a b (s / 2) (m / 2) ∙ ap (λ x. gathered a (s / 2) (m / 2) + t * x) (ap₂ (gathered b) (half_more s a) (half_more m a)) in
+    ap (λ k. gathered k s m) e ∙ elim (cases_bit m) [
+      | inl off ↦
+          let same : 2 ^ ones_in (suc a) m ≡ t = ap (λ k. 2 ^ k) (ones_in-clear a m off) in
+          omega (arith, gathered-clear (a + b) s m off, gathered-clear a s m off, more, ap (λ x. x * rest) same)
+      | inr on ↦
+          let twice : 2 ^ ones_in (suc a) m ≡ 2 * t = ap (λ k. 2 ^ k) (ones_in-bit a m 1 on) ∙ pow-add 2 1 (ones_in a (m / 2)) in
+          omega (arith, gathered-set (a + b) s m on, gathered-set a s m on, more, ap (λ x. x * rest) twice, mul_assoc 2 t rest)
+    ]
+
+-- ---- of a byte alone, and of the source's bits at the mask alone
+
+half_low : (x n : ℕ) → x % 2 ^ suc n / 2 ≡ x / 2 % 2 ^ n
+half_low x n =
+    let e : n + 1 ≡ suc n = omega arith in
+    ap (λ k. x % 2 ^ k / 2) (sym e) ∙ field x n 1
+
+same_lowest : (x n : ℕ) → x % 2 ^ suc n % 2 ≡ x % 2
+same_lowest x n =
+    let e : n + 1 ≡ suc n = omega arith in
+    ap (λ k. x % 2 ^ k % 2) (sym e) ∙ mod-mod-pow x n 1
+
+-- only the lowest n places are looked at
+pub gathered-low : (n s m : ℕ) → gathered n (s % 2 ^ n) (m % 2 ^ n) ≡ gathered n s m
+gathered-low zero s m = gathered-none (s % 1) (m % 1) ∙ sym (gathered-none s m)
+gathered-low (suc n) s m =
+    let rest : gathered n (s % 2 ^ suc n / 2) (m % 2 ^ suc n / 2) ≡ gathered n (s / 2) (m / 2) = ap₂ (gathered n) (half_low s n) (half_low m n) ∙ gathered-low n (s / 2) (m / 2) in
+    elim (cases_bit m) [
+      | inl off ↦ gathered-clear n (s % 2 ^ suc n) (m % 2 ^ suc n) (same_lowest m n ∙ off) ∙ rest ∙ sym (gathered-clear n s m off)
+      | inr on ↦ gathered-set n (s % 2 ^ suc n) (m % 2 ^ suc n) (same_lowest m n ∙ on) ∙ ap₂ (λ b r. b + 2 * r) (same_lowest s n) rest ∙ sym (gathered-set n s m on)
+    ]
+
+pub gathered-and : (n s m : ℕ) → gathered n (bit_and s m) m ≡ gathered n s m
+gathered-and zero s m = gathered-none (bit_and s m) m ∙ sym (gathered-none s m)
+gathered-and (suc n) s m =
+    let rest : gathered n (bit_and s m / 2) (m / 2) ≡ gathered n (s / 2) (m / 2) = ap (λ x. gathered n x (m / 2)) (and_shr s m 1) ∙ gathered-and n (s / 2) (m / 2) in
+    let lowest : bit_and s m % 2 ≡ min (s % 2) (m % 2) = omega (arith, bit_at_and s m 0, bit_at_lowest (bit_and s m), bit_at_lowest s, bit_at_lowest m) in
+    elim (cases_bit m) [
+      | inl off ↦ gathered-clear n (bit_and s m) m off ∙ rest ∙ sym (gathered-clear n s m off)
+      | inr on ↦ gathered-set n (bit_and s m) m on ∙ omega (arith, lowest, on, rest) ∙ sym (gathered-set n s m on)
+    ]
+
+-- ---- a byte that closes up, place by place
+
+-- the places of a byte from p on have closed up
+abbrev pub closed_from : ℕ → ℕ → ℕ → ℕ
+closed_from p mask bits = gathered (8 - p) (bits / 2 ^ p) (mask / 2 ^ p) * 2 ^ p + bits % 2 ^ p
+
+pub closed_from-top : (m b : ℕ) → b < 256 → (bit_at m 7 ≡ 0 → bit_at b 7 ≡ 0) → closed_from 7 m b ≡ b
+closed_from-top m b small free =
+    let rest = gathered-none (b / 2 ^ 7 / 2) (m / 2 ^ 7 / 2) in
+    elim (cases_bit (m / 2 ^ 7)) [
+      | inl off ↦ omega (arith, gathered-clear 0 (b / 2 ^ 7) (m / 2 ^ 7) off, rest, free off)
+      | inr on ↦ omega (arith, gathered-set 0 (b / 2 ^ 7) (m / 2 ^ 7) on, rest)
+    ]
+
+pub closed_from-all : (m b : ℕ) → closed_from 0 m b ≡ gathered 8 b m
+closed_from-all m b =
+    let own : (x : ℕ) → x / 2 ^ 0 ≡ x = λ x. omega arith in
+    omega (arith, ap₂ (gathered 8) (own b) (own m))
+
+pub closed_from-free : (p m b : ℕ) → (bit_at m p ≡ 0 → bit_at b p ≡ 0) → bit_at m p ≡ 0 → bit_at (closed_from (p + 1) m b) p ≡ 0
+closed_from-free p m b free off =
+    bit_at_cat_low (gathered (8 - (p + 1)) (b / 2 ^ (p + 1)) (m / 2 ^ (p + 1))) (p + 1) (b % 2 ^ (p + 1)) p (omega arith) ∙ bit_at-mod b (p + 1) p (omega arith) ∙ free off
+
+module _ (p m b : ℕ) (h : p < 7) where
+  abbrev upper : ℕ
+  upper = gathered (8 - (p + 1)) (b / 2 ^ (p + 1)) (m / 2 ^ (p + 1))
+
+  below_upper : gathered (8 - (p + 1)) (b / 2 ^ p / 2) (m / 2 ^ p / 2) ≡ upper
+  below_upper = ap₂ (gathered (8 - (p + 1))) (shr-shr b p 1) (shr-shr m p 1)
+
+  twice : 2 ^ (p + 1) ≡ 2 * 2 ^ p
+  twice = omega (arith, pow-add 2 p 1)
+
+  next : 8 - p ≡ suc (8 - (p + 1))
+  next = omega arith
+
+  last : b % 2 ^ (p + 1) ≡ bit_at b p * 2 ^ p + b % 2 ^ p
+  last =
+      let e : 1 + p ≡ p + 1 = omega arith in
+      ap (λ k. b % 2 ^ k) (sym e) ∙ mod-pow-add b 1 p
+
+  -- as the place's bit and those above it
+  parts : closed_from (p + 1) m b ≡ (2 * upper + bit_at b p) * 2 ^ p + b % 2 ^ p
+  parts = ap (λ t. upper * t + b % 2 ^ (p + 1)) twice ∙ omega (arith, last, add-mul (2 * upper) (bit_at b p) (2 ^ p), mul_assoc upper 2 (2 ^ p), mul_comm upper 2)
+
+  closed_from-set : bit_at m p ≡ 1 → closed_up p m (closed_from (p + 1) m b) ≡ closed_from p m b
+  unfolding closed_up
+  closed_from-set on =
+      let x : ℕ = closed_from (p + 1) m b in
+      let same : p + (1 - bit_at m p) ≡ p = omega (arith, on) in
+      let here : gathered (8 - p) (b / 2 ^ p) (m / 2 ^ p) ≡ 2 * upper + bit_at b p = ap (λ k. gathered k (b / 2 ^ p) (m / 2 ^ p)) next ∙ gathered-set (8 - (p + 1)) (b / 2 ^ p) (m / 2 ^ p) on ∙ omega (arith, below_upper) in
+      omega (arith, shr_split x p, ap (λ k. x / 2 ^ k * 2 ^ p) same) ∙ parts ∙ ap (λ k. k * 2 ^ p + b % 2 ^ p) (sym here)
+
+  closed_from-clear : bit_at m p ≡ 0 → bit_at b p ≡ 0 → closed_up p m (closed_from (p + 1) m b) ≡ closed_from p m b
+  unfolding closed_up
+  closed_from-clear off free =
+      let x : ℕ = closed_from (p + 1) m b in
+      let skip : p + (1 - bit_at m p) ≡ p + 1 = omega (arith, off) in
+      let here : gathered (8 - p) (b / 2 ^ p) (m / 2 ^ p) ≡ upper = ap (λ k. gathered k (b / 2 ^ p) (m / 2 ^ p)) next ∙ gathered-clear (8 - (p + 1)) (b / 2 ^ p) (m / 2 ^ p) off ∙ below_upper in
+      let low : x % 2 ^ p ≡ b % 2 ^ p = ap (λ k. k % 2 ^ p) parts ∙ mod-mul-add (2 * upper + bit_at b p) (2 ^ p) (b % 2 ^ p) (mod-lt b (pow_pos p)) in
+      let high : x / 2 ^ (p + 1) ≡ upper = shr_high upper (p + 1) (b % 2 ^ (p + 1)) (mod-lt b (pow_pos (p + 1))) in
+      omega (arith, low, ap (λ k. x / 2 ^ k * 2 ^ p) skip, ap (λ k. k * 2 ^ p) high, ap (λ k. k * 2 ^ p) here)
+
+  pub closed_from-more : (bit_at m p ≡ 0 → bit_at b p ≡ 0) → closed_up p m (closed_from (p + 1) m b) ≡ closed_from p m b
+  closed_from-more free = elim (cases_bit (m / 2 ^ p)) [
+    | inl off ↦ closed_from-clear off (free off)
+    | inr on ↦ closed_from-set on
+  ]
+
+-- ---- the bytes of a word
+
+-- a byte of the source's bits at the mask alone
+abbrev pub byte_within : ℕ → ℕ → ℕ → ℕ
+byte_within s m j = bit_and s m / 2 ^ (8 * j) % 2 ^ 8
+
+abbrev pub byte_of : ℕ → ℕ → ℕ
+byte_of m j = m / 2 ^ (8 * j) % 2 ^ 8
+
+pub byte_within-free : (s m j p : ℕ) → p < 8 → bit_at (byte_of m j) p ≡ 0 → bit_at (byte_within s m j) p ≡ 0
+byte_within-free s m j p h off =
+    let own : bit_at m (8 * j + p) ≡ 0 = sym (bit_at-shr m (8 * j) p) ∙ sym (bit_at-mod (m / 2 ^ (8 * j)) 8 p h) ∙ off in
+    bit_at-mod (bit_and s m / 2 ^ (8 * j)) 8 p h ∙ bit_at-shr (bit_and s m) (8 * j) p ∙ omega (arith, bit_at_and s m (8 * j + p), own)
+
+pub gathered-byte : (s m j : ℕ) → closed_from 0 (byte_of m j) (byte_within s m j) ≡ gathered 8 (s / 2 ^ (8 * j)) (m / 2 ^ (8 * j))
+gathered-byte s m j =
+    closed_from-all (byte_of m j) (byte_within s m j) ∙ gathered-low 8 (bit_and s m / 2 ^ (8 * j)) (m / 2 ^ (8 * j))
+    ∙ ap (λ x. gathered 8 x (m / 2 ^ (8 * j))) (and_shr s m (8 * j)) ∙ gathered-and 8 (s / 2 ^ (8 * j)) (m / 2 ^ (8 * j))
+
+-- ---- one byte after another
+
+pub ones_in-is : (n m : ℕ) → ones_in n m ≡ count_ones (m % 2 ^ n)
+ones_in-is zero m = omega (arith, ones-le 0 (m % 1) (omega arith))
+ones_in-is (suc n) m = omega (arith, ones_step (m % 2 ^ suc n), same_lowest m n, ap count_ones (half_low m n), ones_in-is n (m / 2))
+
+pub ones_in-byte : (m : ℕ) → count_ones (bit_and m 255) ≡ ones_in 8 m
+ones_in-byte m = ap count_ones (and_mask m 8) ∙ sym (ones_in-is 8 m)
+
+next_byte : (j : ℕ) → 8 * (j + 1) ≡ 8 * j + 8
+next_byte j = omega arith
+
+pub ones_in-more : (m j : ℕ) → ones_in (8 * (j + 1)) m ≡ ones_in (8 * j) m + ones_in 8 (m / 2 ^ (8 * j))
+ones_in-more m j = ap (λ k. ones_in k m) (next_byte j) ∙ ones_in-join (8 * j) 8 m
+
+pub gathered-more : (s m j x : ℕ) → j < 8 → x ≡ gathered 8 (s / 2 ^ (8 * j)) (m / 2 ^ (8 * j))
+    → bit_or (gathered (8 * j) s m) (x * 2 ^ ones_in (8 * j) m % 2 ^ 64) ≡ gathered (8 * (j + 1)) s m
+gathered-more s m j x h is =
+    let n : ℕ = ones_in (8 * j) m in
+    let k : ℕ = ones_in 8 (m / 2 ^ (8 * j)) in
+    let low : ℕ = gathered (8 * j) s m in
+    let fits : x < 2 ^ k = subst (λ y. y < 2 ^ k) (sym is) (gathered-lt 8 (s / 2 ^ (8 * j)) (m / 2 ^ (8 * j))) in
+    let whole : x * 2 ^ n % 2 ^ 64 ≡ x * 2 ^ n = shl_whole x k n 64 fits (omega (arith, ones_in-more m j, ones_in-le (8 * (j + 1)) m)) in
+    ap (bit_or low) whole ∙ or_comm low (x * 2 ^ n) ∙ or_shifted x n low (gathered-lt (8 * j) s m)
+    ∙ omega (arith, mul_comm x (2 ^ n))
+    ∙ ap (λ y. low + 2 ^ n * y) is
+    ∙ sym (ap (λ i. gathered i s m) (next_byte j) ∙ gathered-join (8 * j) 8 s m)
+
+-- ---- an extract
+
+-- the truth values of the lowest n places
+abbrev values_in : ℕ → ℕ → List Bool
+values_in zero w = []
+values_in (suc n) w = nat_eq (w % 2) 1 ∷ values_in n (w / 2)
+
+length-values_in : (n w : ℕ) → length (values_in n w) ≡ n
+length-values_in zero w = refl
+length-values_in (suc n) w = omega (arith, length-values_in n (w / 2))
+
+get_or-values_in : (n w j : ℕ) → j < n → get_or (values_in n w) j false ≡ nat_eq (bit_at w j) 1
+get_or-values_in zero w j h = absurd (omega arith)
+get_or-values_in (suc n) w zero h = ap (λ b. nat_eq b 1) (sym (bit_at_lowest w))
+get_or-values_in (suc n) w (suc j) h = get_or-values_in n (w / 2) j (omega arith) ∙ ap (λ b. nat_eq b 1) (sym (bit_at-suc w j))
+
+word_bits-values_in : (w : ℕ) → word_bits w ≡ values_in 64 w
+word_bits-values_in w = word_bits_from_bits w (values_in 64 w) (length-values_in 64 w) (λ j h. sym (get_or-values_in 64 w j h))
+
+positions-clear : (n m : ℕ) → m % 2 ≡ 0 → positions (values_in (suc n) m) ≡ map suc (positions (values_in n (m / 2)))
+positions-clear n m off = ap (λ b. positions (nat_eq b 1 ∷ values_in n (m / 2))) off ∙ positions-false (values_in n (m / 2))
+
+positions-set : (n m : ℕ) → m % 2 ≡ 1 → positions (values_in (suc n) m) ≡ 0 ∷ map suc (positions (values_in n (m / 2)))
+positions-set n m on = ap (λ b. positions (nat_eq b 1 ∷ values_in n (m / 2))) on ∙ positions-true (values_in n (m / 2))
+
+count-values_in : (n m : ℕ) → count (values_in n m) ≡ ones_in n m
+count-values_in zero m = refl
+count-values_in (suc n) m = elim (cases_bit m) [
+  | inl off ↦ ap length (positions-clear n m off) ∙ length-map (positions (values_in n (m / 2))) suc ∙ count-values_in n (m / 2) ∙ sym (ones_in-clear n m off)
+  | inr on ↦ ap length (positions-set n m on) ∙ omega (arith, length-map (positions (values_in n (m / 2))) suc, count-values_in n (m / 2), ones_in-bit n m 1 on)
+]
+
+bit_at-cons : (b x k : ℕ) → b < 2 → bit_at (b + 2 * x) (suc k) ≡ bit_at x k
+bit_at-cons b x k h =
+    let half : (b + 2 * x) / 2 ≡ x = omega arith in
+    bit_at-suc (b + 2 * x) k ∙ ap (λ y. bit_at y k) half
+
+-- where the first place is set, its bit is the lowest, and the others follow
+at_set : (n s m k : ℕ) → m % 2 ≡ 1 → ((i : ℕ) → i < count (values_in n (m / 2)) → bit_at (gathered n (s / 2) (m / 2)) i ≡ bit_at (s / 2) (get_or (positions (values_in n (m / 2))) i 0))
+    → k < count (values_in (suc n) m) → bit_at (gathered (suc n) s m) k ≡ bit_at s (get_or (positions (values_in (suc n) m)) k 0)
+at_set n s m zero on rest h =
+    omega (arith, gathered-set n s m on, bit_at_lowest (gathered (suc n) s m), bit_at_lowest s, ap (λ qs. bit_at s (get_or qs 0 0)) (positions-set n m on))
+at_set n s m (suc k) on rest h =
+    let ps : List ℕ = positions (values_in n (m / 2)) in
+    let few : k < length ps = omega (arith, ap length (positions-set n m on), length-map ps suc) in
+    ap (λ x. bit_at x (suc k)) (gathered-set n s m on) ∙ bit_at-cons (s % 2) (gathered n (s / 2) (m / 2)) k (omega arith) ∙ rest k few
+    ∙ sym (bit_at-suc s (get_or ps k 0)) ∙ ap (bit_at s) (sym (ap (λ qs. get_or qs (suc k) 0) (positions-set n m on) ∙ get_or-map suc ps k 0 0 few))
+
+-- bit k is the source's bit at set place number k
+gathered-at : (n s m k : ℕ) → k < count (values_in n m) → bit_at (gathered n s m) k ≡ bit_at s (get_or (positions (values_in n m)) k 0)
+gathered-at zero s m k h = absurd (omega arith)
+gathered-at (suc n) s m k h = elim (cases_bit m) [
+  | inl off ↦
+      let ps : List ℕ = positions (values_in n (m / 2)) in
+      let few : k < length ps = omega (arith, ap length (positions-clear n m off), length-map ps suc) in
+      ap (λ x. bit_at x k) (gathered-clear n s m off) ∙ gathered-at n (s / 2) (m / 2) k few
+      ∙ sym (bit_at-suc s (get_or ps k 0)) ∙ ap (bit_at s) (sym (ap (λ qs. get_or qs k 0) (positions-clear n m off) ∙ get_or-map suc ps k 0 0 few))
+  | inr on ↦ at_set n s m k on (gathered-at n (s / 2) (m / 2)) h
+]
+
+pub Extracts-gathered : (s m : ℕ) → Extracts s m (gathered 64 s m)
+Extracts-gathered s m =
+    let same = word_bits-values_in m in
+    record {
+      bits = λ k h. elim (cases_lt k (count (word_bits m))) [
+        | inl more ↦
+            let at : bit_at (gathered 64 s m) k ≡ bit_at s (get_or (positions (word_bits m)) k 0) = gathered-at 64 s m k (subst (λ v. k < count v) same more) ∙ ap (λ v. bit_at s (get_or (positions v) k 0)) (sym same) in
+            (λ set. (more, sym at ∙ set), λ set. at ∙ set.1)
+        | inr none ↦
+            let enough : ones_in 64 m ≤ k = omega (arith, ap count same, count-values_in 64 m) in
+            let clear : bit_at (gathered 64 s m) k ≡ 0 = bit_at_above (gathered 64 s m) (ones_in 64 m) k (gathered-lt 64 s m) enough in
+            (λ set. absurd (omega (arith, clear)), λ set. absurd (omega (arith, set.0)))
+      ];
+    }

@@ -1,0 +1,103 @@
+-- Vectors of the eight bytes of a word, lane by lane, and how the bits of a byte close up.
+use Rattle.std.proofs.Common.{◌≡◌, ℕ, zero, suc, ◌+◌, ◌-◌, ◌*◌, ◌/◌, ◌%◌, ◌^◌, ◌<◌, inl, inr, List, [], ◌∷◌, length, get_or, replicate, refl, sym, ap, ap₂, ◌∙◌, arith, w8, bit_and, Fits, pow-add, pow-suc}
+use Rattle.std.specs.Int.{bit_at}
+use Rattle.std.specs.Simd.Lanes.{zip2, Each1, number_l, digits_l}
+use Rattle.std.proofs.lemmas.Simd.{length-zip2, get_or-zip2, get_or-replicate, Each1-get_or, get_or_narrower}
+use Rattle.std.proofs.lemmas.Nat.{pow_pos, shr-shr, shr_split, one_shl}
+use Rattle.std.proofs.lemmas.Nat.Bits.{bit_at-lt, and_pow, and_high_mask}
+use Rattle.std.specs.Int.Bits.{and_zero_r}
+use Rattle.std.proofs.Math.Nat.{mul_assoc}
+use Rattle.std.proofs.Math.Pow.{pow-lt}
+use Rattle.std.proofs.lemmas.Bool.{cases_lt}
+use Rattle.mask_bits.specs.Extract.{HasLanes, closed_up}
+
+-- ---- what an operator leaves in each lane
+
+pub HasLanes-itself : (v : List ℕ) → length v ≡ 8 → HasLanes v (λ j. get_or v j 0)
+HasLanes-itself v long = record { lanes = long; each = λ j l. refl }
+
+pub HasLanes-zip2 : (f : ℕ → ℕ → ℕ) {a b : List ℕ} {g h : ℕ → ℕ} → HasLanes a g → HasLanes b h → HasLanes (zip2 f a b) (λ j. f (g j) (h j))
+HasLanes-zip2 f {a} {b} {g} {h} p q =
+    let pl = p.lanes in
+    let ql = q.lanes in
+    record {
+      lanes = length-zip2 f a b (pl ∙ sym ql) ∙ pl;
+      each = λ j l. get_or-zip2 f a b j 0 0 0 (omega arith) (omega arith) ∙ ap₂ f (p.each j l) (q.each j l);
+    }
+
+pub HasLanes-splat : (x : ℕ) → HasLanes (replicate 8 x) (λ j. x)
+HasLanes-splat x = record { lanes = refl; each = λ j l. get_or-replicate 8 j x 0 l }
+
+-- the same lanes said otherwise
+pub HasLanes-same : {v : List ℕ} {f g : ℕ → ℕ} → HasLanes v f → ((j : ℕ) → j < 8 → f j ≡ g j) → HasLanes v g
+HasLanes-same h e = record { lanes = h.lanes; each = λ j l. h.each j l ∙ e j l }
+
+pub lane-fits : (v : List ℕ) (j : ℕ) → length v ≡ 8 → Each1 (Fits w8) v → j < 8 → get_or v j 0 < 256
+lane-fits v j long fits l = (Each1-get_or (Fits w8) v j 0 (omega arith) fits).fits
+
+-- ---- the bytes of a word
+
+pow_256 : (i : ℕ) → 2 ^ (8 * i) ≡ 256 ^ i
+pow_256 zero = refl
+pow_256 (suc i) =
+    let e : 8 * suc i ≡ 8 * i + 8 = omega arith in
+    ap (λ k. 2 ^ k) e ∙ omega (arith, pow-add 2 (8 * i) 8, pow-suc 256 i, pow_256 i)
+
+pub HasLanes-word : (w : ℕ) → w < 2 ^ 64 → HasLanes (digits_l 256 8 (number_l (2 ^ 64) (w ∷ []))) (λ j. w / 2 ^ (8 * j) % 2 ^ 8)
+HasLanes-word w fits = record {
+  lanes = refl;
+  each = λ j l.
+      let own : 8 * 0 + j ≡ j = omega arith in
+      ap (λ k. get_or (digits_l 256 8 (number_l (2 ^ 64) (w ∷ []))) k 0) (sym own)
+      ∙ get_or_narrower (2 ^ 64) 8 256 8 (w ∷ []) 0 j refl (fits, tt) l (omega arith) ∙ ap (λ x. w / x % 2 ^ 8) (sym (pow_256 j));
+}
+
+-- ---- a byte closes up at a place
+
+-- half of the bits from the place on where that is clear, and nothing where it is set
+abbrev pub less_half : ℕ → ℕ → ℕ → ℕ
+less_half here mask bits = (bits + (2 ^ 8 - bit_and bits ((bit_and mask here + (2 ^ 8 - here)) % 2 ^ 8) / 2 ^ 1)) % 2 ^ 8
+
+less_none : (t b : ℕ) → 0 < t → t < 256 → b < 256 → (b + (2 ^ 8 - bit_and b ((1 * t + (2 ^ 8 - t)) % 2 ^ 8) / 2 ^ 1)) % 2 ^ 8 ≡ b
+less_none t b pos few small =
+    let none : (1 * t + (2 ^ 8 - t)) % 2 ^ 8 ≡ 0 = omega arith in
+    ap (λ k. (b + (2 ^ 8 - bit_and b k / 2 ^ 1)) % 2 ^ 8) none ∙ ap (λ k. (b + (2 ^ 8 - k / 2 ^ 1)) % 2 ^ 8) (and_zero_r b) ∙ omega (arith, small)
+
+-- the rest where q bits stand above the place, and r below it
+less_some : (b q r t : ℕ) → b ≡ 2 * (q * t) + r → b < 256 → (b + (2 ^ 8 - 2 * (q * t) / 2 ^ 1)) % 2 ^ 8 ≡ r + q * t
+less_some b q r t e small = omega (arith, e)
+
+pub less_half-set : (p m b : ℕ) → p < 8 → b < 256 → bit_at m p ≡ 1 → less_half (2 ^ p) m b ≡ closed_up p m b
+unfolding closed_up
+less_half-set p m b h small on =
+    let t : ℕ = 2 ^ p in
+    let here : bit_and m t ≡ 1 * t = and_pow m p ∙ ap (λ x. x * t) on in
+    let same : p + (1 - bit_at m p) ≡ p = omega (arith, on) in
+    ap (λ x. (b + (2 ^ 8 - bit_and b ((x + (2 ^ 8 - t)) % 2 ^ 8) / 2 ^ 1)) % 2 ^ 8) here
+    ∙ less_none t b (pow_pos p) (pow-lt h) small
+    ∙ omega (arith, shr_split b p, ap (λ k. b / 2 ^ k * t) same)
+
+pub less_half-clear : (p m b : ℕ) → p < 8 → b < 256 → bit_at m p ≡ 0 → bit_at b p ≡ 0 → less_half (2 ^ p) m b ≡ closed_up p m b
+unfolding closed_up
+less_half-clear p m b h small off free =
+    let t : ℕ = 2 ^ p in
+    let q : ℕ = b / 2 ^ p / 2 in
+    let here : bit_and m t ≡ 0 * t = and_pow m p ∙ ap (λ x. x * t) off in
+    let next : p + (1 - bit_at m p) ≡ p + 1 = omega (arith, off) in
+    let twice : b / 2 ^ p ≡ 2 * q = omega (arith, free) in
+    let from_here : (0 * t + (2 ^ 8 - t)) % 2 ^ 8 ≡ 2 ^ 8 - 2 ^ p = omega (arith, pow_pos p, pow-lt h) in
+    let above : bit_and b (2 ^ 8 - 2 ^ p) ≡ 2 * (q * t) = and_high_mask 8 p (omega arith) b small ∙ ap (λ x. x * t) twice ∙ mul_assoc 2 q t in
+    let split : b ≡ 2 * (q * t) + b % t = omega (arith, shr_split b p, ap (λ x. x * t) twice ∙ mul_assoc 2 q t) in
+    ap (λ x. (b + (2 ^ 8 - bit_and b ((x + (2 ^ 8 - t)) % 2 ^ 8) / 2 ^ 1)) % 2 ^ 8) here
+    ∙ ap (λ x. (b + (2 ^ 8 - bit_and b x / 2 ^ 1)) % 2 ^ 8) from_here
+    ∙ ap (λ x. (b + (2 ^ 8 - x / 2 ^ 1)) % 2 ^ 8) above
+    ∙ less_some b q (b % t) t split small
+    ∙ sym (ap (λ k. b % t + b / 2 ^ k * t) next ∙ ap (λ x. b % t + x * t) (sym (shr-shr b p 1)))
+
+pub less_half-is : (p m b : ℕ) → p < 8 → b < 256 → (bit_at m p ≡ 0 → bit_at b p ≡ 0) → less_half (1 * 2 ^ p % 2 ^ 8) m b ≡ closed_up p m b
+less_half-is p m b h small free =
+    ap (λ t. less_half t m b) (one_shl p 8 h)
+    ∙ elim (cases_lt 0 (bit_at m p)) [
+      | inl on ↦ less_half-set p m b h small (omega (arith, bit_at-lt m p))
+      | inr off ↦ let clear : bit_at m p ≡ 0 = omega arith in less_half-clear p m b h small clear (free clear)
+    ]
