@@ -1,5 +1,6 @@
 mod AppendLemmas
 mod BitmapLemmas
+mod ChooseBitsLemmas
 mod ChooseLemmas
 mod ChosenStringLemmas
 mod Examples

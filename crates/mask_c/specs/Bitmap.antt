@@ -1,7 +1,8 @@
 -- A bitmap as C has it: bytes, the position of the first bit, and how many bits there are.
-use Rattle.std.specs.Prelude.{ℕ, ◌*◌, ◌<◌, ◌≤◌, ◌≡◌, ◌⊎◌, Bool, true, false, List, length, slice_index_or}
+use Rattle.std.specs.Prelude.{ℕ, ◌*◌, ◌/◌, ◌%◌, ◌<◌, ◌≤◌, ◌≡◌, ◌⊎◌, ◌++◌, Bool, true, false, List, length, slice_index_or, take}
 use Rattle.std.specs.Int.{div_ceil}
 use Rattle.mask_bits.specs.Buffer.{backing_bit, values}
+use Rattle.mask_bits.specs.Words.{word_bits}
 
 -- the list of truth values of a bitmap
 abbrev pub bitmap : List ℕ → ℕ → ℕ → List Bool
@@ -19,3 +20,7 @@ IsSubset a b = (i : ℕ) → i < length a → slice_index_or a i false ≡ true 
 pub record IsFilled (old new : List ℕ) (m n : ℕ) (value : Bool) : Type 0 where
   pub inside : (p : ℕ) → m ≤ p → p < n → backing_bit new p ≡ value
   pub outside : (p : ℕ) → ((p < m) ⊎ (n ≤ p)) → backing_bit new p ≡ backing_bit old p
+
+-- the first n values of a list that is being written: those of the whole words are there, and the others are the lowest bits of a word
+abbrev pub values_so_far : List ℕ → ℕ → ℕ → List Bool
+values_so_far bytes begun n = bitmap bytes 0 (64 * (n / 64)) ++ take (n % 64) (word_bits begun)

@@ -6,6 +6,7 @@ mod append;
 mod bitmap;
 mod bools;
 mod choose;
+mod choose_bits;
 mod compare;
 mod counts;
 mod fill;
