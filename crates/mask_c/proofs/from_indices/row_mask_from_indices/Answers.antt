@@ -5,8 +5,8 @@ use Rattle.mask_c.proofs.from_indices.row_mask_from_indices.Goals as goal
 
 pub returns-clause-values : goal.returns-clause-values
 returns-clause-values c =
-    list_from_set c.set_alone.new.bytes _ c.args.indices.now c.args.len (omega (arith, c.div_ceil.ensures, c.set_alone.auto.bytes, length-take c.div_ceil.result c.args.out.now, c.requires.room)) (λ p h. c.set_alone.ensures p (omega (arith, c.set_alone.auto.bytes)))
+    list_from_set c.set_alone.new.bytes _ c.args.indices.now c.args.len (grind (arith, length-take)) (λ p h. c.set_alone.ensures p (omega (arith, c.set_alone.auto.bytes)))
 
 pub returns-clause-clear : goal.returns-clause-clear
 returns-clause-clear c =
-    clear_from_set c.set_alone.new.bytes _ c.args.indices.now c.args.len (omega (arith, c.div_ceil.ensures, c.set_alone.auto.bytes, length-take c.div_ceil.result c.args.out.now, c.requires.room)) c.requires.within (λ p h. c.set_alone.ensures p (omega (arith, c.set_alone.auto.bytes)))
+    clear_from_set c.set_alone.new.bytes _ c.args.indices.now c.args.len (grind (arith, length-take)) c.requires.within (λ p h. c.set_alone.ensures p (omega (arith, c.set_alone.auto.bytes)))
