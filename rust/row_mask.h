@@ -373,6 +373,16 @@ size_t row_mask_choose_16(
     const uint8_t *bytes, size_t bytes_size, size_t offset, size_t len,
     const row_mask_16 *rows, size_t rows_count, row_mask_16 *out, size_t out_count);
 
+/* Writes the values of `values` at the true values of the bitmap, in their order, and answers how
+ * many they are. So the validity of a column is filtered with its rows.
+ *
+ * Asks that `out_size >= row_mask_room(count)`, where `count` is the count of the bitmap's true
+ * values. */
+ROW_MASK_READ(1, 2) ROW_MASK_READ(5, 6) ROW_MASK_WRITE(8, 9)
+size_t row_mask_choose_bits(
+    const uint8_t *bytes, size_t bytes_size, size_t offset, size_t len,
+    const uint8_t *values, size_t values_size, size_t values_offset, uint8_t *out, size_t out_size);
+
 /* Writes the rows at `indices`, in their order, to the front of `out`. A row has 1 byte. Indices
  * may come in any order and more than once. So a bitmap that chooses rows of many columns is read
  * once, by `row_mask_next_indices`.
@@ -525,12 +535,13 @@ size_t row_mask_take_bytes_8(
     const size_t *indices, size_t indices_count, const uint64_t *offsets, size_t offsets_count,
     const uint8_t *string_bytes, size_t string_bytes_size, uint8_t *out, size_t out_size);
 
-/* Rank intersection by the instruction `pdep` of the processor, compiled into the program. The words and
- * sources are those of the proved `row_mask_rank_words`. Beside the compiler, the instruction is trusted
- * here, and the loop over blocks that deposits and writes. */
+/* Rank intersection by the instruction `pdep` of the processor, and the values at chosen rows by `pext`,
+ * compiled into the program. The words and sources are those of the proved `row_mask_rank_words`, and of
+ * `row_mask_words`. Beside the compiler, the instruction is trusted here, and the loop over blocks that
+ * deposits or extracts, and writes. */
 #if defined(__x86_64__) && defined(__GNUC__)
 
-/* Whether the processor has the instruction, in a few cycles. Those of AMD before Zen 3 take up to
+/* Whether the processor has both instructions, in a few cycles. Those of AMD before Zen 3 take up to
  * hundreds. */
 static inline bool row_mask_has_quick_pdep(void) {
     return __builtin_cpu_supports("bmi2") && !__builtin_cpu_is("amdfam15h") && !__builtin_cpu_is("amdfam17h");
@@ -569,8 +580,59 @@ static inline void row_mask_intersect_by_pdep(
     }
 }
 
+/* Puts the bits of each source at the set places of its mask behind the lowest `*low` bits of the first
+ * of `made`, one after another. Answers how many words they fill, and leaves in `*low` how many bits the
+ * next one has. The processor has the instruction. */
+__attribute__((target("bmi2,popcnt")))
+static inline size_t row_mask_extract(
+    const uint64_t *masks, const uint64_t *sources, size_t count, uint64_t *made, unsigned *low) {
+    uint64_t begun = made[0];
+    unsigned at = *low;
+    size_t filled = 0;
+    for (size_t i = 0; i < count; i++) {
+        uint64_t bits = _pext_u64(sources[i], masks[i]), over = bits >> 1 >> (63 - at);
+        unsigned next = at + (unsigned)__builtin_popcountll(masks[i]);
+        made[filled] = begun | bits << at;
+        begun = next < 64 ? made[filled] : over;
+        filled += next >= 64;
+        at = next % 64;
+    }
+    made[filled] = begun;
+    *low = at;
+    return filled;
+}
+
+/* As `row_mask_choose_bits`, which it calls where there is no quick `pext`. */
+static inline size_t row_mask_choose_bits_by_pext(
+    const uint8_t *bytes, size_t bytes_size, size_t offset, size_t len,
+    const uint8_t *values, size_t values_size, size_t values_offset,
+    uint8_t *out, size_t out_size) {
+    uint64_t masks[64], sources[64], made[65] = {0};
+    size_t from = 0, at = 0, count;
+    unsigned low = 0;
+
+    if (!row_mask_has_quick_pdep())
+        return row_mask_choose_bits(
+            bytes, bytes_size, offset, len, values, values_size, values_offset, out, out_size);
+    do {
+        size_t filled;
+        count = row_mask_words(bytes, bytes_size, offset, len, from, masks, 64);
+        row_mask_words(values, values_size, values_offset, len, from, sources, 64);
+        filled = row_mask_extract(masks, sources, count, made, &low);
+        if (filled > 0)
+            memcpy(out + at / 8, made, 8 * filled);
+        at += 64 * filled;
+        made[0] = made[filled];
+        from += count;
+    } while (count == 64);
+    if (low > 0)
+        memcpy(out + at / 8, made, (low + 7) / 8);
+    return at + low;
+}
+
 #else
 #define row_mask_intersect_by_pdep row_mask_intersect_by_rank
+#define row_mask_choose_bits_by_pext row_mask_choose_bits
 #endif
 
 #undef ROW_MASK_READ

@@ -3,10 +3,13 @@ use crate::{BitmapBuf, Error, Values};
 use std::ops::{Bound, Range, RangeBounds};
 
 mod choose;
+mod choose_bits;
 mod combine;
 mod compare;
 #[cfg(target_arch = "x86_64")]
 mod deposit;
+#[cfg(target_arch = "x86_64")]
+mod extract;
 mod narrow;
 mod read;
 mod room;

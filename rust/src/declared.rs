@@ -349,6 +349,17 @@ unsafe extern "C" {
         out: *mut RowMask16,
         out_count: usize,
     ) -> usize;
+    pub(crate) fn row_mask_choose_bits(
+        bytes: *const u8,
+        bytes_size: usize,
+        offset: usize,
+        len: usize,
+        values: *const u8,
+        values_size: usize,
+        values_offset: usize,
+        out: *mut u8,
+        out_size: usize,
+    ) -> usize;
     pub(crate) fn row_mask_take_1(
         indices: *const usize,
         indices_count: usize,

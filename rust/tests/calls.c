@@ -363,6 +363,53 @@ static void narrows(const bitmap *a, room ranks_room, room list_room, room where
     rank_words(a, &ranks, list_room, where);
 }
 
+/* The values of one bitmap at the true values of another. */
+static void chooses_bits(const bitmap *a, const bitmap *b, room where) {
+    size_t i, count = count_to(a, a->len), k = 0;
+    bool want[LONGEST];
+    int place;
+
+    for (i = 0; i < a->len; i++)
+        if (a->list[i])
+            want[k++] = b->list[i];
+    for (place = 0; place < PLACES; place++) {
+        size_t size = size_at(place, count);
+        uint8_t *out = marked(where, place, size);
+        same(row_mask_choose_bits(WHOLE(a), BYTES(b), out, size), count, "choose_bits");
+        same_written(where, out, count, want, "choose_bits");
+        out = marked(where, place, size);
+        same(row_mask_choose_bits_by_pext(WHOLE(a), BYTES(b), out, size), count, "choose_bits_by_pext");
+        same_written(where, out, count, want, "choose_bits_by_pext");
+    }
+}
+
+/* Bitmaps of some blocks of words, where the calls by instructions answer as those of the library. */
+static void blocks(room first, room second, room where) {
+    const size_t lengths[] = {4095, 4096, 4097, 8191, 8192, 8193, 20000};
+    const unsigned shares[] = {0, 12, 128, 244, 256};
+    size_t i, p, share;
+
+    for (i = 0; i < sizeof lengths / sizeof *lengths; i++)
+        for (share = 0; share < sizeof shares / sizeof *shares; share++) {
+            size_t len = lengths[i], offset = random_below(16), size = (offset + len + 7) / 8, count;
+            uint8_t *bytes = first.end - size, *values = second.end - size, *out, made[2600];
+            for (p = 0; p < 8 * size; p++) {
+                bytes[p / 8] = (uint8_t)(bytes[p / 8] >> 1 | (random_word() % 256 < shares[share] ? 128 : 0));
+                values[p / 8] = (uint8_t)random_word();
+            }
+            count = row_mask_choose_bits(bytes, size, offset, len, values, size, offset, made, sizeof made);
+            out = marked(where, LAST, (count + 7) / 8);
+            same(row_mask_choose_bits_by_pext(bytes, size, offset, len, values, size, offset, out, (count + 7) / 8),
+                 count, "choose_bits_by_pext");
+            same(count > 0 && memcmp(out, made, (count + 7) / 8) != 0, 0, "choose_bits_by_pext");
+            row_mask_intersect_by_rank(bytes, size, offset, len, values, size, offset, count, made, sizeof made);
+            out = marked(where, LAST, (len + 7) / 8);
+            row_mask_intersect_by_pdep(
+                bytes, size, offset, len, values, size, offset, count, out, (len + 7) / 8);
+            same((size_t)memcmp(out, made, (len + 7) / 8), 0, "intersect_by_pdep");
+        }
+}
+
 /* Rows whose bytes tell their index, and the same for each size of a row. */
 #define CHOOSES(name, type, call)                                                   \
     static void name(const bitmap *b, room rows_room, room out_room) {              \
@@ -506,6 +553,8 @@ static void nothing(void) {
     row_mask_intersect_by_rank(NULL, 0, 0, 0, NULL, 0, 0, 0, NULL, 0);
     row_mask_intersect_by_pdep(NULL, 0, 0, 0, NULL, 0, 0, 0, NULL, 0);
     row_mask_intersect_at_ranks(NULL, 0, 0, 0, NULL, 0, NULL, 0);
+    same(row_mask_choose_bits(NULL, 0, 0, 0, NULL, 0, 0, NULL, 0), 0, "choose_bits");
+    same(row_mask_choose_bits_by_pext(NULL, 0, 0, 0, NULL, 0, 0, NULL, 0), 0, "choose_bits_by_pext");
     same(row_mask_choose_1(NULL, 0, 0, 0, NULL, 0, NULL, 0), 0, "choose_1");
     same(row_mask_choose_2(NULL, 0, 0, 0, NULL, 0, NULL, 0), 0, "choose_2");
     same(row_mask_choose_4(NULL, 0, 0, 0, NULL, 0, NULL, 0), 0, "choose_4");
@@ -545,6 +594,8 @@ int main(void) {
                 combines(&a, &b, third);
                 fill(&b, second, random_below(16), random_below(LONGEST + 1), 128);
                 appends(&a, &b, third);
+                fill(&b, second, random_below(16), len, 128);
+                chooses_bits(&a, &b, third);
                 narrows(&a, second, third, fourth);
                 choose_1(&a, third, fourth);
                 choose_2(&a, third, fourth);
@@ -556,6 +607,7 @@ int main(void) {
                 else
                     strings_8(&a, second, third, fourth);
             }
+    blocks(first, second, third);
     for (len = 0; len <= LONGEST; len += 1 + len / 8) {
         fills(first, len / 8);
         take_1(len, first, second, third);

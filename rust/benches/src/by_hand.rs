@@ -4,7 +4,7 @@
 use crate::Call;
 use crate::lists::{Lists, bytes_from, words};
 use crate::ours::OFFSETS;
-use std::arch::x86_64::_pdep_u64;
+use std::arch::x86_64::{_pdep_u64, _pext_u64};
 use std::hint::black_box;
 
 pub struct ByHand<'a> {
@@ -54,6 +54,15 @@ impl<'a> ByHand<'a> {
                 Box::new(move || choose_by_pushes(a, rows).last().copied().unwrap_or(0)),
                 Box::new(move || choose_all(a, rows).last().copied().unwrap_or(0)),
             ],
+            "choose bits" => vec![
+                Box::new(move || last_of(&by_pext(a, b))),
+                Box::new(move || last_of(&bits_one_by_one(a, b))),
+            ],
+            "choose bits, no pext" => vec![Box::new(move || last_of(&bits_one_by_one(a, b)))],
+            "choose bits, of Vec<bool>" => vec![
+                Box::new(move || last_of_bools(&filtered(lists))),
+                Box::new(move || last_of_bools(&filtered_in_room(lists))),
+            ],
             "for over indices" => vec![Box::new(move || sum_of_rows(a, rows))],
             "sum of indices" => vec![Box::new(move || sum_of_indices(a))],
             "for over values" => {
@@ -77,6 +86,16 @@ impl<'a> ByHand<'a> {
 fn last(words: &[u64], len: usize) -> u64 {
     let at = (len - 1) / 8;
     black_box(words)[at / 8] >> (8 * (at % 8)) & 0xFF
+}
+
+fn last_of((words, count): &(Vec<u64>, usize)) -> u64 {
+    if *count == 0 { 0 } else { last(words, *count) }
+}
+
+/// The same of a list of truth values.
+fn last_of_bools(list: &[bool]) -> u64 {
+    let part = list.chunks(8).last().unwrap_or(&[]);
+    black_box(part).iter().rev().fold(0, |byte, value| byte << 1 | u64::from(*value))
 }
 
 fn count(words: &[u64]) -> usize {
@@ -140,6 +159,83 @@ fn bit_by_bit(mask: &[u64], ranks: &[u64]) -> Vec<u64> {
         out.push(made);
         at += word.count_ones() as usize;
     }
+    out
+}
+
+/// The bits of `b` at the set bits of `a`, and how many they are.
+fn by_pext(a: &[u64], b: &[u64]) -> (Vec<u64>, usize) {
+    if !is_x86_feature_detected!("bmi2") {
+        return bits_one_by_one(a, b);
+    }
+    #[target_feature(enable = "bmi2,popcnt")]
+    fn extracted(a: &[u64], b: &[u64]) -> (Vec<u64>, usize) {
+        let mut made = Joined::new(a.len());
+        for (mask, source) in a.iter().zip(b) {
+            made.push(_pext_u64(*source, *mask), mask.count_ones());
+        }
+        made.done()
+    }
+    // SAFETY: the processor has both.
+    unsafe { extracted(a, b) }
+}
+
+fn bits_one_by_one(a: &[u64], b: &[u64]) -> (Vec<u64>, usize) {
+    let mut made = Joined::new(a.len());
+    for (mask, source) in a.iter().zip(b) {
+        let (mut left, mut word, mut count) = (*mask, 0, 0);
+        while left != 0 {
+            word |= (source >> left.trailing_zeros() & 1) << count;
+            count += 1;
+            left &= left - 1;
+        }
+        made.push(word, count);
+    }
+    made.done()
+}
+
+/// Bits of words, one behind another.
+struct Joined {
+    words: Vec<u64>,
+    begun: u64,
+    low: u32,
+}
+
+impl Joined {
+    fn new(words: usize) -> Joined {
+        Joined { words: Vec::with_capacity(words + 1), begun: 0, low: 0 }
+    }
+
+    #[inline]
+    fn push(&mut self, word: u64, count: u32) {
+        let next = self.low + count;
+        self.begun |= word << self.low;
+        if next >= 64 {
+            self.words.push(self.begun);
+            self.begun = word >> 1 >> (63 - self.low);
+        }
+        self.low = next % 64;
+    }
+
+    fn done(mut self) -> (Vec<u64>, usize) {
+        let count = 64 * self.words.len() + self.low as usize;
+        self.words.push(self.begun);
+        (self.words, count)
+    }
+}
+
+fn filtered(lists: &Lists) -> Vec<bool> {
+    let pairs = lists.list.iter().zip(&lists.other);
+    pairs.filter(|(is_chosen, _)| **is_chosen).map(|(_, value)| *value).collect()
+}
+
+/// Each value is written, and the next one over it where it isn't chosen.
+fn filtered_in_room(lists: &Lists) -> Vec<bool> {
+    let (mut out, mut filled) = (vec![false; lists.len + 1], 0);
+    for (is_chosen, value) in lists.list.iter().zip(&lists.other) {
+        out[filled] = *value;
+        filled += usize::from(*is_chosen);
+    }
+    out.truncate(filled);
     out
 }
 

@@ -48,6 +48,10 @@ impl<'a> Ours<'a> {
             "choose" => {
                 Box::new(move || a.choose(&lists.rows).unwrap().last().copied().unwrap_or(0))
             }
+            "choose bits" | "choose bits, of Vec<bool>" => {
+                Box::new(move || last(a.choose_bits(b).unwrap()))
+            }
+            "choose bits, no pext" => Box::new(move || last(without_pext(a, b))),
             "for over indices" => Box::new(move || {
                 let mut sum = 0;
                 for i in a.indices() {
@@ -92,6 +96,17 @@ unsafe extern "C" {
         out: *mut u8,
         out_size: usize,
     );
+    fn row_mask_choose_bits(
+        bytes: *const u8,
+        bytes_size: usize,
+        offset: usize,
+        len: usize,
+        values: *const u8,
+        values_size: usize,
+        values_offset: usize,
+        out: *mut u8,
+        out_size: usize,
+    ) -> usize;
 }
 
 /// What the crate does where the processor has no such instruction.
@@ -113,4 +128,24 @@ fn without_pdep(rows: Bitmap<'_>, ranks: Bitmap<'_>) -> BitmapBuf {
         );
     }
     BitmapBuf::from_vec(out, 0, rows.len()).unwrap()
+}
+
+fn without_pext(rows: Bitmap<'_>, values: Bitmap<'_>) -> BitmapBuf {
+    let count = rows.count();
+    let mut out = vec![0; count.div_ceil(8)];
+    // SAFETY: both are bitmaps of this length, and `out` is room for as many values as there are true rows.
+    unsafe {
+        row_mask_choose_bits(
+            rows.bytes().as_ptr(),
+            rows.bytes().len(),
+            rows.offset(),
+            rows.len(),
+            values.bytes().as_ptr(),
+            values.bytes().len(),
+            values.offset(),
+            out.as_mut_ptr(),
+            out.len(),
+        );
+    }
+    BitmapBuf::from_vec(out, 0, count).unwrap()
 }

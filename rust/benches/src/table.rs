@@ -11,7 +11,7 @@ use std::marker::PhantomData;
 
 const LENGTHS: [usize; 2] = [1 << 16, 1 << 20];
 const SHARES: [(u64, &str); 3] = [(10, "1 of 100"), (500, "1 of 2"), (990, "99 of 100")];
-const CALLS: [&str; 13] = [
+const CALLS: [&str; 16] = [
     "count",
     "and",
     "and, at odd bits",
@@ -20,6 +20,9 @@ const CALLS: [&str; 13] = [
     "rank intersection",
     "rank intersection, no pdep",
     "choose",
+    "choose bits",
+    "choose bits, no pext",
+    "choose bits, of Vec<bool>",
     "for over indices",
     "sum of indices",
     "for over values",

@@ -52,7 +52,8 @@ fn deposit(words: &mut [u64], sources: &[u64]) {
     }
 }
 
-/// Whether the processor has `pdep`, in a few cycles. Those of AMD before Zen 3 take up to hundreds.
+/// Whether the processor has `pdep` and `pext`, in a few cycles. Those of AMD before Zen 3 take up to
+/// hundreds.
 pub(super) fn is_quick() -> bool {
     static IS_QUICK: OnceLock<bool> = OnceLock::new();
     *IS_QUICK.get_or_init(|| is_x86_feature_detected!("bmi2") && !is_before_zen_3())

@@ -1,6 +1,6 @@
 //! Bitmaps that are made of others, and rows that are chosen.
 
-use crate::lists::{Comparisons, Generator, chosen, count_of, indices_of, narrowed};
+use crate::lists::{Comparisons, Generator, chosen, count_of, indices_of, narrowed, packed};
 use row_mask::{Bitmap, BitmapBuf, Error};
 
 pub fn makes(seen: &mut Comparisons, random: &mut Generator, list: &[bool], bitmap: Bitmap<'_>) {
@@ -75,4 +75,20 @@ pub fn chooses(seen: &mut Comparisons, random: &mut Generator, list: &[bool], bi
     let mut want = chosen(&twos, list);
     want.push(7);
     seen.same(out, want);
+    chooses_bits(seen, random, list, bitmap);
+}
+
+fn chooses_bits(seen: &mut Comparisons, random: &mut Generator, list: &[bool], bitmap: Bitmap<'_>) {
+    let share = [3, 128, 253][random.below(3)];
+    let (bits, offset) = (random.list(list.len(), share), random.below(16));
+    let bytes = random.packed(&bits, offset);
+    let bits_of = Bitmap::new(&bytes, offset, bits.len()).unwrap();
+    let want = chosen(&bits, list);
+    let made = bitmap.choose_bits(bits_of).unwrap();
+    seen.same_list(&made, &want);
+    let mut out = vec![0xA5; want.len().div_ceil(8) + 2];
+    seen.same(bitmap.choose_bits_into(bits_of, &mut out[..]), Ok(want.len()));
+    seen.same(out, [&packed(&want)[..], &[0xA5; 2]].concat());
+    // a rank intersection by them is `and`
+    seen.same(bitmap.intersect_by_rank(made.as_bitmap()), bitmap.and(bits_of));
 }

@@ -35,6 +35,7 @@ fn what_a_call_asks_is_tested() {
     assert_eq!(eight.counts_below(&[3, 3, 1]), Err(Error::UnsortedIndices { at: 2 }));
     assert_eq!(eight.counts_below(&[8, 9]), Err(Error::IndexOutOfBounds { index: 9, len: 8 }));
     assert_eq!(eight.choose(&[1, 2]), Err(Error::RowsDiffer { rows: 2, len: 8 }));
+    assert_eq!(eight.choose_bits(seven), Err(Error::RowsDiffer { rows: 7, len: 8 }));
 }
 
 #[test]
@@ -45,6 +46,7 @@ fn what_changes_and_makers_ask_is_tested() {
     assert_eq!(eight.and_into(seven, &mut [][..]), Err(differ));
     let small = |room, needed| Error::RoomTooSmall { room, needed };
     assert_eq!(eight.choose_into(&[0; 8], &mut [0; 4]), Err(small(4, 5)));
+    assert_eq!(eight.choose_bits_into(eight, &mut [][..]), Err(small(0, 1)));
     assert_eq!(eight.counts_below_into(&[1, 2], &mut [0]), Err(small(1, 2)));
 
     let outside = |bytes, len| Some(Error::OutOfBytes { bytes, offset: 0, len });
