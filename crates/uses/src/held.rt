@@ -1,7 +1,6 @@
 //! Masks that a program holds: in a field, in a map from columns, behind an error type of its own.
-ghost use Rattle.std.specs.BTreeMap.{get};
+ghost use Rattle.std.specs.BTreeMap.{get_by_text};
 ghost use Rattle.std.specs.Option.{option_map};
-ghost use Rattle.std.specs.Ordering.{nat_cmp};
 ghost use Rattle.std.specs.Prelude.{◌≡◌, IfOk, length};
 ghost use Rattle.mask_bits.specs.Lists.{and_of};
 ghost use Rattle.mask_bits.specs.Positions.{count};
@@ -65,9 +64,10 @@ pub fn checked_and(alloc: Global, filter: &Mask, more: &Mask) -> Result<Mask, Sc
     Ok(filter.bitand(alloc, more)?)
 }
 
-/// How many rows of a column its filter chooses, of a table whose columns have numbers.
-pub fn chosen_of(filters: &BTreeMap<u32, Mask>, column: u32) -> Option<usize>
-    ensures { result ≡ option_map (λ filter. count (truth filter)) (get nat_cmp filters.now column) }
+/// How many rows of a column its filter chooses, of a table whose columns have names.
+pub fn chosen_of(filters: &BTreeMap<String, Mask>, column: &str) -> Option<usize>
+    ensures { result
+        ≡ option_map (λ filter. count (truth filter)) (get_by_text filters.now column.now) }
 {
-    filters.get(&column).map(|filter| filter.true_count())
+    filters.get(column).map(|filter| filter.true_count())
 }

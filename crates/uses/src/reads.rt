@@ -1,14 +1,17 @@
 //! Reads of a column by ranges of rows: masks of the same rows are read by equal ranges, however they
 //! were made.
 ghost use Rattle.std.specs.Prelude.{ℕ, ◌≡◌, ◌-◌, IfOk, IfSome, List, sum_by};
+ghost use Rattle.mask_bits.specs.Buffer.{values};
 ghost use Rattle.mask_bits.specs.RunScan.{runs};
 ghost use Rattle.mask_bits.specs.Runs.{AreRuns};
 ghost use Rattle.std.specs.Option.{ForSome};
 ghost use Rattle.vortex_mask.specs.Caches.{caches};
 ghost use Rattle.vortex_mask.specs.Mask.{truth};
 
-use mask_bits::laws;
-use std::alloc::Global;
+use crate::all_ranges::ranges;
+use crate::pages::valid_ranges;
+use mask_bits::{BitBuffer, laws};
+use std::alloc::{AllocError, Global};
 use vortex_mask::{AllOr, Mask, MaskError};
 
 /// The ranges of the rows of an index, given as ranges that may touch, and of a filter, given one by
@@ -47,6 +50,30 @@ pub fn ranges_of(alloc: Global, mask: &mut Mask) -> Result<Vec<(usize, usize)>, 
         AllOr::None => Ok(Vec::new(alloc)),
         AllOr::Some(ranges) => Ok(Vec::from_slice(alloc, ranges)?),
     }
+}
+
+/// The same of a mask that is only lent, by a walk.
+pub fn walked_ranges_of(alloc: Global, mask: &Mask) -> Result<Vec<(usize, usize)>, AllocError>
+    ensures { IfOk result (λ walked. walked.items ≡ runs (truth mask.now)) }
+{
+    laws::runs_are_the_list();
+    let walked = ranges(alloc, mask)?;
+    Ok(walked)
+}
+
+/// The ranges of a filter, and those of the bitmap that it was made of: a reader may go by either.
+pub fn ranges_of_both(
+    alloc: Global,
+    filter: &Mask,
+    bitmap: &BitBuffer,
+) -> Result<(Vec<(usize, usize)>, Vec<(usize, usize)>), AllocError>
+    requires { truth filter.now ≡ values bitmap.now }
+    ensures { IfOk result (λ both. both.0.items ≡ both.1.items) }
+{
+    laws::runs_are_unique();
+    let of_filter = ranges(alloc, filter)?;
+    let of_bitmap = valid_ranges(alloc, bitmap)?;
+    Ok((of_filter, of_bitmap))
 }
 
 /// A filter can be read by maximal ranges, and as many rows are read as it chooses.

@@ -4,7 +4,7 @@ use mask_bits::BitBuffer;
 use std::alloc::Global;
 use std::process::Abort;
 use uses::all_ranges::{ranges, span, whole};
-use uses::reads::ranges_both_ways;
+use uses::reads::{ranges_both_ways, ranges_of_both, walked_ranges_of};
 use uses::words::{counted, has_any, listed};
 use vortex_mask::Mask;
 
@@ -12,6 +12,7 @@ type Runs = &'static [(usize, usize)];
 
 fn has(rt: &impl Abort, alloc: Global, mask: &Mask, runs: Runs, rows: Option<usize>) {
     assert!(rt; found(rt, ranges(alloc, mask)).as_slice() == runs);
+    assert!(rt; found(rt, walked_ranges_of(alloc, mask)).as_slice() == runs);
     assert!(rt; span(mask) == rows);
 }
 
@@ -32,6 +33,21 @@ fn reads(rt: &impl Abort, alloc: Global, filter: &[usize], want: Option<Runs>) {
             assert!(rt; want == Some(left.as_slice()) && want == Some(right.as_slice()));
         }
         None => assert!(rt; want.is_none()),
+    }
+}
+
+fn both(rt: &impl Abort, alloc: Global, text: &str, want: Runs) {
+    let (filter, bitmap) = (mask(rt, alloc, text), buffer(rt, alloc, text));
+    assert!(rt; filter.equals_buffer(&bitmap));
+    let (left, right) = found(rt, ranges_of_both(alloc, &filter, &bitmap));
+    assert!(rt; left.as_slice() == want && right.as_slice() == want);
+}
+
+#[test]
+fn ranges_of_a_filter_and_its_bitmap(rt: HostRuntime) {
+    const ROWS: [(&str, Runs); 2] = [("01101", &[(1, 3), (4, 5)]), ("000", &[])];
+    for (text, want) in ROWS {
+        both(&rt, rt.alloc(), text, want);
     }
 }
 
