@@ -10,6 +10,7 @@
 mod alike;
 mod buffers;
 mod builders;
+mod cloned;
 mod constructors;
 mod items;
 mod kernels;
