@@ -22,9 +22,9 @@
  * compiled from. None takes memory, none fails, none keeps a pointer, and none has state: each may be
  * called from any thread, also from several at once over the same bitmaps.
  *
- * A call that writes a bitmap writes just `row_mask_room(len)` bytes, from the first on, and leaves
- * every byte behind them as it was. In the last of them the bits behind the last value are cleared, so
- * two equal bitmaps that were written are equal bytes. */
+ * A call that writes a bitmap of `len` values writes just `row_mask_room(len)` bytes, from the first on,
+ * and leaves every byte behind them as it was. In the last of them the bits behind the last value are
+ * cleared, so two equal bitmaps that were written are equal bytes. */
 
 #include <stdbool.h>
 #include <stddef.h>

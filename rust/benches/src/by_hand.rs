@@ -54,7 +54,7 @@ impl<'a> ByHand<'a> {
                 Box::new(move || choose_by_pushes(a, rows).last().copied().unwrap_or(0)),
                 Box::new(move || choose_all(a, rows).last().copied().unwrap_or(0)),
             ],
-            "choose bits" => vec![
+            "choose bits, by pext" => vec![
                 Box::new(move || last_of(&by_pext(a, b))),
                 Box::new(move || last_of(&bits_one_by_one(a, b))),
             ],

@@ -48,7 +48,7 @@ impl<'a> Ours<'a> {
             "choose" => {
                 Box::new(move || a.choose(&lists.rows).unwrap().last().copied().unwrap_or(0))
             }
-            "choose bits" | "choose bits, of Vec<bool>" => {
+            "choose bits, by pext" | "choose bits, of Vec<bool>" => {
                 Box::new(move || last(a.choose_bits(b).unwrap()))
             }
             "choose bits, no pext" => Box::new(move || last(without_pext(a, b))),

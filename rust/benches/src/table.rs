@@ -20,7 +20,7 @@ const CALLS: [&str; 16] = [
     "rank intersection",
     "rank intersection, no pdep",
     "choose",
-    "choose bits",
+    "choose bits, by pext",
     "choose bits, no pext",
     "choose bits, of Vec<bool>",
     "for over indices",
