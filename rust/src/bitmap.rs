@@ -145,6 +145,16 @@ impl<'a> Bitmap<'a> {
         Ok(self.part(range_within(&range, self.len)?))
     }
 
+    // The words of 64 values that lie whole in the bytes, where the first begins at a byte, and else none.
+    #[inline]
+    pub(crate) fn whole_words(self) -> &'a [[u8; 8]] {
+        if !self.offset.is_multiple_of(8) {
+            return &[];
+        }
+        let (words, _) = self.bytes[self.offset / 8..].as_chunks();
+        &words[..self.len / 64]
+    }
+
     // The values of a range that lies within them.
     pub(crate) fn part(self, Range { start, end }: Range<usize>) -> Bitmap<'a> {
         debug_assert!(start <= end && end <= self.len);

@@ -35,6 +35,7 @@ impl<'a> Ours<'a> {
     pub fn call(&self, name: &str) -> Option<Call<'_>> {
         let (a, b, ranks) = (self.list.as_bitmap(), self.other.as_bitmap(), self.ranks.as_bitmap());
         let (lists, (a_moved, b_moved)) = (self.lists, self.moved());
+        let rows = &lists.rows[..];
         let copy = BitmapBuf::from(a);
         let last = |made: BitmapBuf| made.as_bytes().last().copied().map_or(0, u64::from);
         Some(match name {
@@ -46,31 +47,17 @@ impl<'a> Ours<'a> {
             "rank intersection" => Box::new(move || last(a.intersect_by_rank(ranks).unwrap())),
             "rank intersection, no pdep" => Box::new(move || last(without_pdep(a, ranks))),
             "choose" => {
-                Box::new(move || a.choose(&lists.rows).unwrap().last().copied().unwrap_or(0))
+                Box::new(move || a.choose(rows).unwrap().last().copied().unwrap_or(0))
             }
             "choose bits, by pext" | "choose bits, of Vec<bool>" => {
                 Box::new(move || last(a.choose_bits(b).unwrap()))
             }
             "choose bits, no pext" => Box::new(move || last(without_pext(a, b))),
-            "for over indices" => Box::new(move || {
-                let mut sum = 0;
-                for i in a.indices() {
-                    sum += lists.rows[i];
-                }
-                sum
-            }),
+            "for over indices" => Box::new(move || sum_of_rows(a, rows)),
             "sum of indices" => Box::new(move || a.indices().sum::<usize>() as u64),
             "for over values" => {
-                let mut found = Vec::with_capacity(lists.len);
-                Box::new(move || {
-                    found.clear();
-                    for (value, row) in a.iter().zip(&lists.rows) {
-                        if value {
-                            found.push(*row);
-                        }
-                    }
-                    found.len() as u64
-                })
+                let mut places = Vec::with_capacity(lists.len);
+                Box::new(move || found(a, rows, &mut places))
             }
             "collect a predicate" => Box::new(move || {
                 last(lists.column.iter().map(|it| *it < lists.share).collect::<BitmapBuf>())
@@ -81,6 +68,24 @@ impl<'a> Ours<'a> {
             _ => return None,
         })
     }
+}
+
+fn sum_of_rows(a: Bitmap<'_>, rows: &[u64]) -> u64 {
+    let mut sum = 0;
+    for i in a.indices() {
+        sum += rows[i];
+    }
+    sum
+}
+
+fn found(a: Bitmap<'_>, rows: &[u64], found: &mut Vec<u64>) -> u64 {
+    found.clear();
+    for (value, row) in a.iter().zip(rows) {
+        if value {
+            found.push(*row);
+        }
+    }
+    found.len() as u64
 }
 
 unsafe extern "C" {

@@ -3,17 +3,19 @@
 use super::{Bitmap, call};
 use std::arch::x86_64::{__cpuid, _pdep_u64};
 use std::mem::MaybeUninit;
-use std::ptr;
+use std::slice;
 use std::sync::OnceLock;
 
-// Words that are taken, deposited and written at a time, so that they stay in the nearest memory.
-const BLOCK: usize = 128;
+// Words that are taken, deposited and written at a time: so many that a call costs little beside them, and so few
+// that they stay in the nearest memory.
+const BLOCK: usize = 256;
 
 impl Bitmap<'_> {
     // SAFETY of a call: the processor has `pdep`, there is one rank for each true value, and `out` has
     // just the bytes that the values take. Each of them is written.
     pub(super) unsafe fn narrow_by_pdep(self, ranks: Bitmap<'_>, out: &mut [MaybeUninit<u8>]) {
-        let (mut words, mut sources) = ([0; BLOCK], [0; BLOCK]);
+        let mut words = [const { MaybeUninit::<u64>::uninit() }; BLOCK];
+        let mut sources = [const { MaybeUninit::<u64>::uninit() }; BLOCK];
         let (mut from, mut at) = (0, 0);
         for out in out.chunks_mut(8 * BLOCK) {
             let count = out.len().div_ceil(8);
@@ -28,28 +30,37 @@ impl Bitmap<'_> {
                     ranks.len,
                     from,
                     at,
-                    words.as_mut_ptr(),
+                    words.as_mut_ptr().cast(),
                     count,
-                    sources.as_mut_ptr(),
+                    sources.as_mut_ptr().cast(),
                     count,
                 ))
             };
-            // SAFETY: the processor has the instruction, and the words have so many bytes or more.
-            unsafe {
-                deposit(&mut words[..count], &sources[..count]);
-                ptr::copy_nonoverlapping(words.as_ptr().cast(), out.as_mut_ptr(), out.len());
-            }
+            // SAFETY: the processor has the instruction, and so many words and sources were written.
+            unsafe { deposit(written(&words[..count]), written(&sources[..count]), out) };
             from += count;
         }
     }
 }
 
-/// Deposits each source at its word.
+/// Writes the deposit of each source at its word. The last one may have fewer bytes than a word.
 #[target_feature(enable = "bmi2")]
-fn deposit(words: &mut [u64], sources: &[u64]) {
-    for (word, source) in words.iter_mut().zip(sources) {
-        *word = _pdep_u64(*source, *word);
+fn deposit(words: &[u64], sources: &[u64], out: &mut [MaybeUninit<u8>]) {
+    let mut deposits =
+        words.iter().zip(sources).map(|(word, source)| _pdep_u64(*source, *word).to_le_bytes());
+    let (whole, last) = out.as_chunks_mut();
+    for (out, deposit) in whole.iter_mut().zip(deposits.by_ref()) {
+        *out = deposit.map(MaybeUninit::new);
     }
+    for (out, byte) in last.iter_mut().zip(deposits.next().unwrap_or_default()) {
+        out.write(byte);
+    }
+}
+
+// SAFETY of a call: they are written.
+unsafe fn written(words: &[MaybeUninit<u64>]) -> &[u64] {
+    // SAFETY: it is the same borrowed slice, and its words are values.
+    unsafe { slice::from_raw_parts(words.as_ptr().cast(), words.len()) }
 }
 
 /// Whether the processor has `pdep` and `pext`, in a few cycles. Those of AMD before Zen 3 take up to

@@ -148,6 +148,7 @@ impl<'a> Bitmap<'a> {
 
     /// The values, in their order.
     #[must_use]
+    #[inline]
     pub fn iter(self) -> Values<'a> {
         Values::new(self)
     }

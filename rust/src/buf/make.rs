@@ -1,8 +1,8 @@
 //! What a bitmap of its own bytes is made of.
 
-use super::change::fill;
+use super::change::{append, fill};
 use super::pack::{pack, pack_fn};
-use crate::bitmap::{Room, init, room_for};
+use crate::bitmap::{Room, init, range_within, room_for};
 use crate::{Bitmap, BitmapBuf, Error, declared};
 use std::mem::MaybeUninit;
 use std::ops::Range;
@@ -86,6 +86,29 @@ impl BitmapBuf {
         unsafe { out.write(len, |out| pack_fn(len, value, out)) }
     }
 
+    /// As [`collect`](Iterator::collect) makes a bitmap, written into `out`. `values` have to know how many
+    /// they are; of others [`extend`](Extend::extend) fills a bitmap that was cleared, in the memory that it has.
+    ///
+    /// ```
+    /// # use row_mask::BitmapBuf;
+    /// let (column, mut bytes) = ([7, 2, 9], [0; 1]);
+    /// BitmapBuf::collect_into(column.iter().map(|it| *it > 5), &mut bytes[..])?;
+    /// assert_eq!(bytes, [0b101]);
+    /// # Ok::<(), row_mask::Error>(())
+    /// ```
+    ///
+    /// # Errors
+    ///
+    /// [`Error::RoomTooSmall`].
+    pub fn collect_into(
+        values: impl IntoIterator<Item = bool, IntoIter: ExactSizeIterator>,
+        out: &mut (impl Room + ?Sized),
+    ) -> Result<(), Error> {
+        let mut values = values.into_iter();
+        // (an iterator that has fewer than it says is taken to go on with false ones)
+        BitmapBuf::from_fn_into(values.len(), |_| values.next().unwrap_or_default(), out)
+    }
+
     /// A list of truth values, written into `out`. `BitmapBuf::from` makes a bitmap of one.
     ///
     /// # Errors
@@ -157,6 +180,26 @@ impl BitmapBuf {
         Ok(made)
     }
 
+    /// As [`from_ranges`](BitmapBuf::from_ranges) of a list, written into `out`.
+    ///
+    /// # Errors
+    ///
+    /// As there, and [`Error::RoomTooSmall`].
+    pub fn from_ranges_into(
+        len: usize,
+        ranges: &[Range<usize>],
+        out: &mut (impl Room + ?Sized),
+    ) -> Result<(), Error> {
+        ranges.iter().try_for_each(|range| range_within(range, len).map(|_| ()))?;
+        // SAFETY: `init` writes each byte, which are room for the length, and each range is within it.
+        unsafe {
+            out.write(len, |out| {
+                let out = init(out);
+                ranges.iter().for_each(|range| fill(out, range.start, range.end, true));
+            })
+        }
+    }
+
     /// The `len` values from bit `offset` on of bytes that are given away. From bit 0 on they are
     /// kept in place, and else they are copied.
     ///
@@ -195,6 +238,28 @@ impl BitmapBuf {
         let mut made = BitmapBuf::default();
         bitmaps.into_iter().for_each(|bitmap| made.append(bitmap));
         made
+    }
+
+    /// As [`concat`](BitmapBuf::concat) of a list, written into `out`.
+    ///
+    /// # Errors
+    ///
+    /// [`Error::RoomTooSmall`].
+    pub fn concat_into(
+        bitmaps: &[Bitmap<'_>],
+        out: &mut (impl Room + ?Sized),
+    ) -> Result<(), Error> {
+        let len = bitmaps.iter().fold(0_usize, |len, bitmap| len.saturating_add(bitmap.len()));
+        // SAFETY: `init` writes each byte, which are room for all values.
+        unsafe {
+            out.write(len, |out| {
+                let (out, mut len) = (init(out), 0);
+                for bitmap in bitmaps {
+                    append(out, len, *bitmap);
+                    len += bitmap.len();
+                }
+            })
+        }
     }
 }
 

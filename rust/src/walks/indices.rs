@@ -3,6 +3,7 @@ use crate::Bitmap;
 use std::fmt;
 use std::iter::FusedIterator;
 use std::ops::Range;
+use std::slice;
 
 /// The indices of the true values of a [`Bitmap`], ascending.
 #[derive(Clone)]
@@ -12,8 +13,9 @@ pub struct Indices<'a> {
     // cleared when the next one is asked for, just before that is tested
     base: usize,
     word: u64,
-    // words in a row, those from place `at` on not yet taken, and where they end, counted in words;
-    // those past the last one are 0
+    // the words that were not yet taken of those before word `end`: first those that lie whole in the bytes,
+    // and then, where there are none, those of the block from place `at` on; those past the last are 0
+    whole: slice::Iter<'a, [u8; 8]>,
     block: [u64; BLOCK],
     at: usize,
     end: usize,
@@ -23,12 +25,15 @@ pub struct Indices<'a> {
 }
 
 // A call gives so many words, so that its cost is shared by them.
-const BLOCK: usize = 128;
+const BLOCK: usize = 32;
 
 impl<'a> Indices<'a> {
     pub(crate) fn new(bitmap: Bitmap<'a>) -> Indices<'a> {
-        let (block, until) = ([0; BLOCK], bitmap.len().div_ceil(64));
-        Indices { bitmap, base: 0, word: 0, block, at: BLOCK, end: 0, until, back: 0 }
+        let (whole, block, until) = ([].iter(), [0; BLOCK], bitmap.len().div_ceil(64));
+        let mut new =
+            Indices { bitmap, base: 0, word: 0, whole, block, at: BLOCK, end: 0, until, back: 0 };
+        new.go_to(0);
+        new
     }
 
     // The true values that are left in the word.
@@ -44,6 +49,14 @@ impl<'a> Indices<'a> {
     )]
     #[inline(always)]
     fn advance(&mut self) -> bool {
+        while let Some(word) = self.whole.next() {
+            self.word = u64::from_le_bytes(*word);
+            if self.word != 0 {
+                // (one by one, since `end` stays)
+                self.base = 64 * self.end - 64 - 64 * self.whole.len();
+                return true;
+            }
+        }
         loop {
             let mut at = self.at;
             while let Some(word) = self.block.get(at) {
@@ -59,20 +72,22 @@ impl<'a> Indices<'a> {
             if self.end >= self.until {
                 return self.take_back();
             }
-            self.fill(self.end);
+            self.block = words(self.bitmap, self.end, self.until);
+            (self.at, self.end) = (0, self.end + BLOCK);
         }
     }
 
-    // Fills the block from word `k` on.
-    #[inline]
-    fn fill(&mut self, k: usize) {
-        self.block = words(self.bitmap, k, self.until);
-        (self.at, self.end) = (0, k + BLOCK);
+    // Takes the words from word `k` on next, where that is at most `until`.
+    fn go_to(&mut self, k: usize) {
+        let whole = self.bitmap.whole_words();
+        let end = whole.len().min(self.until).max(k);
+        self.whole = whole.get(k..end).unwrap_or_default().iter();
+        (self.at, self.end) = (BLOCK, end);
     }
 
     // The number of the first word that was not taken.
     fn next_word(&self) -> usize {
-        self.end + self.at - BLOCK
+        self.end + self.at - BLOCK - self.whole.len()
     }
 
     // Takes the last word, if it still has a true value, where all before it are passed.
@@ -99,8 +114,12 @@ impl<'a> Indices<'a> {
 
     // Has no word from `k` on any more.
     fn end_at(&mut self, k: usize) {
-        let start = self.end.wrapping_sub(BLOCK);
         self.until = k;
+        if self.whole.len() > 0 {
+            self.go_to(self.next_word());
+            return;
+        }
+        let start = self.end.wrapping_sub(BLOCK);
         if let Some(past) = self.block.get_mut(k.wrapping_sub(start)..) {
             past.fill(0);
         }
@@ -140,17 +159,17 @@ impl Iterator for Indices<'_> {
             let part = self.bitmap.part(start..end);
             let Some(i) = part.select(n - here) else {
                 let passed = here + part.count();
-                (self.word, self.at, self.end) = (0, BLOCK, self.until);
+                self.word = 0;
+                self.go_to(self.until);
                 // (the last word has 64 at most)
                 for _ in passed..n {
                     self.next()?;
                 }
                 return self.next();
             };
-            let (k, bit) = ((start + i) / 64, (start + i) % 64);
-            self.fill(k);
-            (self.base, self.at) = (64 * k, 1);
-            self.word = self.block[0] & !0 << bit;
+            self.go_to((start + i) / 64);
+            self.advance();
+            self.word &= !0 << ((start + i) % 64);
             return Some(start + i);
         }
         (0..n).for_each(|_| self.word = self.left());

@@ -1,63 +1,55 @@
-use super::{seldom, word, words};
+use super::{seldom, word};
 use crate::Bitmap;
 use std::fmt;
 use std::iter::FusedIterator;
+use std::slice;
 
 /// The values of a [`Bitmap`], in their order.
 #[derive(Clone)]
 pub struct Values<'a> {
     bitmap: Bitmap<'a>,
-    // the values of the word that are left are those from this bit up to its highest, and none where the
-    // bit was shifted out
+    // the values of the word that are left, the next one lowest, and a set bit above them
     word: u64,
-    bit: u64,
     // then those from `next` to `end`
     next: usize,
     end: usize,
-    // words in a row, those from place `at` on not yet taken
-    block: [u64; BLOCK],
-    at: usize,
+    // the words of these that lie whole in the bytes
+    whole: slice::Iter<'a, [u8; 8]>,
     // the word that the last value from the end was in
     back: Option<(usize, u64)>,
 }
 
-// A call gives so many words, so that its cost is shared by them.
-const BLOCK: usize = 16;
-
 impl<'a> Values<'a> {
+    #[inline]
     pub(crate) fn new(bitmap: Bitmap<'a>) -> Values<'a> {
-        let (end, block) = (bitmap.len(), [0; BLOCK]);
-        Values { bitmap, word: 0, bit: 0, next: 0, end, block, at: BLOCK, back: None }
+        let (whole, end) = (bitmap.whole_words().iter(), bitmap.len());
+        Values { bitmap, word: 1, next: 0, end, whole, back: None }
     }
 
-    // Whether a value is left, in a word that is taken then, where the one before it is used up.
+    // The first value of another word, if a value is left. The others of that word are taken.
     #[expect(
         clippy::inline_always,
         reason = "a call would keep the fields in memory, at each step"
     )]
     #[inline(always)]
-    fn advance(&mut self) -> bool {
+    fn advance(&mut self) -> Option<bool> {
         if self.next == self.end {
-            return false;
+            return None;
         }
-        if self.at == BLOCK {
-            self.block = words(self.bitmap, self.next / 64, self.end.div_ceil(64));
-            self.at = 0;
-        }
+        let word = match self.whole.next() {
+            Some(word) => u64::from_le_bytes(*word),
+            None => word(self.bitmap, self.next / 64),
+        };
         let first = self.next % 64;
         let count = (64 - first).min(self.end - self.next);
-        // (so that the last of them is the highest bit)
-        let up = 64 - first - count;
-        self.word = self.block[self.at % BLOCK] << up;
-        self.bit = 1 << (first + up);
-        self.at += 1;
         self.next += count;
-        true
+        self.word = lowest(word >> first >> 1, count - 1);
+        Some(word >> first & 1 == 1)
     }
 
     // How many values are left in the word.
     fn ready(&self) -> usize {
-        (u64::BITS - self.bit.trailing_zeros()) as usize
+        self.word.ilog2() as usize
     }
 
     fn left(&self) -> usize {
@@ -65,19 +57,23 @@ impl<'a> Values<'a> {
     }
 }
 
+// The lowest bits of a word, fewer than 64, and a set bit above them.
+#[inline]
+fn lowest(word: u64, count: usize) -> u64 {
+    word & ((1 << count) - 1) | 1 << count
+}
+
 impl Iterator for Values<'_> {
     type Item = bool;
 
     #[inline]
     fn next(&mut self) -> Option<bool> {
-        if self.bit == 0 {
+        if self.word == 1 {
             seldom();
-            if !self.advance() {
-                return None;
-            }
+            return self.advance();
         }
-        let value = self.word & self.bit != 0;
-        self.bit <<= 1;
+        let value = self.word & 1 == 1;
+        self.word >>= 1;
         Some(value)
     }
 
@@ -88,10 +84,11 @@ impl Iterator for Values<'_> {
     fn nth(&mut self, n: usize) -> Option<bool> {
         let ready = self.ready();
         if n < ready {
-            self.bit <<= n;
+            self.word >>= n;
         } else {
             self.next += (n - ready).min(self.end - self.next);
-            (self.bit, self.at) = (0, BLOCK);
+            self.word = 1;
+            self.whole = self.bitmap.whole_words().get(self.next / 64..).unwrap_or_default().iter();
         }
         self.next()
     }
@@ -107,28 +104,26 @@ impl Iterator for Values<'_> {
     // word by word, for `for_each` and the like
     #[inline]
     fn fold<B, F: FnMut(B, bool) -> B>(mut self, init: B, mut f: F) -> B {
-        let mut folded = init;
-        while self.bit != 0 || self.advance() {
-            let mut bit = self.bit;
-            while bit != 0 {
-                folded = f(folded, self.word & bit != 0);
-                bit <<= 1;
+        let (mut folded, mut word) = (init, self.word);
+        loop {
+            while word != 1 {
+                folded = f(folded, word & 1 == 1);
+                word >>= 1;
             }
-            self.bit = 0;
+            let Some(value) = self.advance() else { return folded };
+            folded = f(folded, value);
+            word = self.word;
         }
-        folded
     }
 }
 
 impl DoubleEndedIterator for Values<'_> {
     fn next_back(&mut self) -> Option<bool> {
         if self.next == self.end {
-            // what is left is in the word of the front, whose highest bit is given
-            if self.bit == 0 {
-                return None;
-            }
-            let value = self.word >> 63 == 1;
-            (self.word, self.bit) = (self.word << 1, self.bit << 1);
+            // what is left is in the word of the front
+            let left = self.ready().checked_sub(1)?;
+            let value = self.word >> left & 1 == 1;
+            self.word = lowest(self.word, left);
             return Some(value);
         }
         self.end -= 1;
@@ -144,12 +139,8 @@ impl DoubleEndedIterator for Values<'_> {
         let there = n.min(self.end - self.next);
         self.end -= there;
         // (as many of the front's word as it has)
-        let more = (n - there).min(self.ready());
-        if let Some(bit) = self.bit.checked_shl(u32::try_from(more).unwrap_or(u32::MAX)) {
-            (self.word, self.bit) = (self.word << more, bit);
-        } else {
-            self.bit = 0;
-        }
+        let left = self.ready().saturating_sub(n - there);
+        self.word = lowest(self.word, left);
         self.next_back()
     }
 }

@@ -25,7 +25,7 @@ pub fn made_of(seen: &mut Comparisons, random: &mut Generator, list: &[bool], bi
     of_indices(seen, random, list);
     extended(seen, random, list);
     filled(seen, random, list);
-    into_bytes(seen, list);
+    into_bytes(seen, list, bitmap);
 }
 
 /// Indices backwards and some of them twice, and ranges backwards of which some meet.
@@ -73,8 +73,8 @@ fn filled(seen: &mut Comparisons, random: &mut Generator, list: &[bool]) {
     seen.same(made.fill_range(start..end, true), Err(Error::BadRange { start, end, len }));
 }
 
-/// Makers that write into bytes of the caller.
-fn into_bytes(seen: &mut Comparisons, list: &[bool]) {
+/// Makers that write into bytes of the caller, and into a bitmap that had other values.
+fn into_bytes(seen: &mut Comparisons, list: &[bool], bitmap: Bitmap<'_>) {
     let (len, size) = (list.len(), list.len().div_ceil(8));
     let room = || vec![0xA5; size + 1];
     let want = |list: &[bool]| (Ok(()), [&packed(list)[..], &[0xA5]].concat());
@@ -84,6 +84,22 @@ fn into_bytes(seen: &mut Comparisons, list: &[bool]) {
     seen.same((BitmapBuf::from_bools_into(list, &mut out[..]), out), want(list));
     let (mut out, indices) = (room(), indices_of(list));
     seen.same((BitmapBuf::from_indices_into(len, &indices, &mut out[..]), out), want(list));
+    let (mut out, ranges) = (room(), runs_of(list));
+    seen.same((BitmapBuf::from_ranges_into(len, &ranges, &mut out[..]), out), want(list));
+    let mut out = room();
+    seen.same((BitmapBuf::collect_into(list.iter().copied(), &mut out[..]), out), want(list));
+    let parts = [bitmap.slice(..len / 3).unwrap(), bitmap.slice(len / 3..).unwrap()];
+    let mut out = room();
+    seen.same((BitmapBuf::concat_into(&parts, &mut out[..]), out), want(list));
+    let mut made = BitmapBuf::all_true(7);
+    seen.same(BitmapBuf::concat_into(&parts, &mut made), Ok(()));
+    seen.same_list(&made, list);
+    seen.same(BitmapBuf::from_ranges_into(9, &[3..5, 5..6], &mut made), Ok(()));
+    seen.same(BitmapBuf::from_ranges_into(len, &ranges, &mut made), Ok(()));
+    seen.same_list(&made, list);
+    seen.same(BitmapBuf::collect_into([true; 5], &mut made), Ok(()));
+    seen.same(BitmapBuf::collect_into(list.iter().copied(), &mut made), Ok(()));
+    seen.same_list(&made, list);
     for value in [true, false] {
         let mut out = room();
         seen.same((BitmapBuf::all_into(len, value, &mut out[..]), out), want(&vec![value; len]));

@@ -49,6 +49,29 @@ fn what_changes_and_makers_ask_is_tested() {
     assert_eq!(eight.choose_bits_into(eight, &mut [][..]), Err(small(0, 1)));
     assert_eq!(eight.counts_below_into(&[1, 2], &mut [0]), Err(small(1, 2)));
 
+    let mut room = [0xA5; 1];
+    assert_eq!(BitmapBuf::concat_into(&[eight, seven], &mut room[..]), Err(small(1, 2)));
+    assert_eq!(BitmapBuf::collect_into([true; 9], &mut room[..]), Err(small(1, 2)));
+    assert_eq!(BitmapBuf::from_ranges_into(9, &[0..8, 8..9], &mut room[..]), Err(small(1, 2)));
+    let range = Error::BadRange { start: 8, end: 9, len: 8 };
+    assert_eq!(BitmapBuf::from_ranges_into(8, &[0..8, 8..9], &mut room[..]), Err(range));
+    assert_eq!(room, [0xA5]);
+    // an iterator may be wrong about its length
+    struct Says(usize);
+    impl Iterator for Says {
+        type Item = bool;
+        fn next(&mut self) -> Option<bool> {
+            None
+        }
+    }
+    impl ExactSizeIterator for Says {
+        fn len(&self) -> usize {
+            self.0
+        }
+    }
+    assert_eq!(BitmapBuf::collect_into(Says(8), &mut room[..]), Ok(()));
+    assert_eq!(room, [0]);
+
     let outside = |bytes, len| Some(Error::OutOfBytes { bytes, offset: 0, len });
     assert_eq!(BitmapBuf::from_vec(vec![0], 0, 9).err(), outside(1, 9));
     assert_eq!(Bitmap::from_words(&[0], 65).err(), outside(8, 65));
