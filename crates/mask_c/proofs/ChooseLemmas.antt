@@ -83,6 +83,16 @@ rows-word_more {X} rows m i within =
     ∙ filter_map-append (λ p. slice_get rows p) front (map (λ p. 64 * i + p) here)
     ∙ ap (λ (xs : List X). rows_at rows front ++ xs) (rows_at-moved rows (64 * i) here)
 
+-- the rows so far, and those of one more started word behind them
+pub rows-next : {X : Type 0} (rows part out new : List X) (m : List Bool) (i w at n : ℕ) → 64 * i ≤ length m → part ≡ drop (64 * i) rows → word_bits w ≡ padded_part m i
+    → take at out ≡ rows_at rows (positions (take (64 * i) m))
+    → take n new ≡ take at out ++ rows_at part (positions (word_bits w))
+    → take n new ≡ rows_at rows (positions (take (64 * (i + 1)) m))
+rows-next {X} rows part out new m i w at n within is shows before next =
+    next
+    ∙ ap₂ (λ (xs ys : List X). xs ++ ys) before (ap₂ (λ (xs : List X) (b : List Bool). rows_at xs (positions b)) is shows)
+    ∙ sym (rows-word_more rows m i within)
+
 -- the places of a started part are those of rows
 pub part-within : {X : Type 0} (rows : List X) (m : List Bool) (i : ℕ) → length rows ≡ length m
     → All (λ p. p < length (drop (64 * i) rows)) (positions (padded_part m i))

@@ -1,23 +1,26 @@
 -- The last values of a bitmap that is written, and the values before them.
-use Rattle.std.proofs.Common.{◌≡◌, ℕ, nat_eq, set, ◌^◌, ◌+◌, ◌-◌, ◌*◌, ◌/◌, ◌%◌, ◌<◌, ◌≤◌, Bool, true, false, List, [], ◌∷◌, ◌++◌, length, get_or, take, drop, refl, sym, ap, ap₂, ◌∙◌, inl, inr, arith, mod-eq_of_lt}
+use Rattle.std.proofs.Common.{◌≡◌, ℕ, nat_eq, set, ◌^◌, ◌+◌, ◌-◌, ◌*◌, ◌/◌, ◌%◌, ◌<◌, ◌≤◌, ◌&&◌, Bool, true, false, List, [], ◌∷◌, ◌++◌, length, get_or, take, drop, refl, sym, ap, ap₂, ◌∙◌, inl, inr, arith, mod-eq_of_lt}
 use Rattle.std.proofs.Math.Pow.{pow-lt}
 use Rattle.std.specs.Int.{bit_at, div_ceil}
 use Rattle.std.specs.Int.RustNames.{bit_and}
 use Rattle.std.proofs.lemmas.Bool.{cases_eq}
 use Rattle.std.proofs.lemmas.Grind.{get_or-set_at}
 use Rattle.std.proofs.lemmas.List.{ext_get_or, get_or-set_other, get_or-take, get_or_append_left, get_or-append_right, length-append, length-drop, length-take, take-append-drop}
-use Rattle.std.proofs.lemmas.Nat.Bits.{bit_at-lt, bit_at_and, bit_at_ones, bit_at_ones_above}
+use Rattle.std.proofs.lemmas.Nat.Bits.{bit_at-lt, bit_at-zero, bit_at_and, bit_at_ones, bit_at_ones_above}
 use Rattle.std.proofs.lemmas.Slice.{drop-put_mid}
 use Rattle.mask_bits.specs.Buffer.{backing_bit}
 use Rattle.mask_bits.specs.Lists.{combined}
-use Rattle.mask_bits.specs.Positions.{count, rank_intersection, repeated}
-use Rattle.mask_bits.specs.Words.{window}
+use Rattle.mask_bits.specs.Positions.{count, count_below, rank_intersection, repeated}
+use Rattle.mask_bits.specs.Words.{padded_part, window, word_bits}
 use Rattle.mask_bits.proofs.Lists.BooleanLemmas.{combined-append, combined-take}
 use Rattle.mask_bits.proofs.Lists.CountLemmas.{all_true_from_count, count-append, get_or-repeated}
 use Rattle.mask_bits.proofs.Lists.Places.PlaceLemmas.{trues, count-trues}
+use Rattle.mask_bits.proofs.Lists.LawLemmas.{rank_intersection_value}
+use Rattle.mask_bits.proofs.Lists.Words.PaddedLemmas.{get_or-padded_part, length-padded_part}
+use Rattle.mask_bits.proofs.Lists.Words.WordLemmas.{get_or-word_bits, length-word_bits}
 use Rattle.mask_bits.proofs.Lists.RankLemmas.{narrow, rank_intersection-all_true, rank_intersection-narrow}
 use Rattle.mask_bits.proofs.Lists.Words.BackingBitLemmas.{bits_at-append, length-bits_at, get_or-bits_at}
-use Rattle.mask_bits.proofs.Lists.Words.FrontLemmas.{front-same, get_or-put_mid_below, get_or-put_mid_inside, get_or-window, window-take}
+use Rattle.mask_bits.proofs.Lists.Words.FrontLemmas.{length-window, front-same, get_or-put_mid_below, get_or-put_mid_inside, get_or-window, window-take}
 use Rattle.mask_c.specs.Bitmap.{AreClearBehind, bitmap}
 use borrow.Rule.Slice.PartMut.{put_mid}
 
@@ -32,6 +35,23 @@ front-appended xs ys n few =
 pub front-taken : (xs : List ℕ) (k n : ℕ) → n ≤ 8 * k → bitmap (take k xs) 0 n ≡ bitmap xs 0 n
 front-taken xs k n few =
     front-same xs (take k xs) n (λ p h. ap (λ x. nat_eq (bit_at x (p % 8)) 1) (get_or-take k xs (p / 8) 0 (omega arith)))
+
+-- a word that no change touched stays
+pub window-kept : (old new : List ℕ) (p : ℕ) → ((j : ℕ) → j < 64 → backing_bit new (p + j) ≡ backing_bit old (p + j)) → window new p ≡ window old p
+window-kept old new p same =
+    ext_get_or false (window new p) (window old p) (length-window new p ∙ sym (length-window old p)) (λ j h.
+    let few : j < 64 = omega (arith, length-window new p) in
+    get_or-window new p j false few ∙ same j few ∙ sym (get_or-window old p j false few))
+
+-- a word with no true value stays so where it is narrowed
+pub narrowed-none : (m b : List Bool) (i : ℕ) → length b ≡ count m → word_bits 0 ≡ padded_part m i → word_bits 0 ≡ padded_part (rank_intersection m b) i
+narrowed-none m b i fits shows =
+    ext_get_or false (word_bits 0) (padded_part (rank_intersection m b) i) (length-word_bits 0 ∙ sym (length-padded_part (rank_intersection m b) i)) (λ j h.
+    let few : j < 64 = omega (arith, length-word_bits 0) in
+    let none : get_or (word_bits 0) j false ≡ false = get_or-word_bits 0 j false few ∙ ap (λ x. nat_eq x 1) (bit_at-zero j) in
+    let here : get_or m (64 * i + j) false ≡ false = sym (get_or-padded_part m i j few) ∙ sym (ap (λ (xs : List Bool). get_or xs j false) shows) ∙ none in
+    let rest : Bool = get_or b (count_below m (64 * i + j)) false in
+    none ∙ sym (get_or-padded_part (rank_intersection m b) i j few ∙ rank_intersection_value m b (64 * i + j) fits ∙ ap (λ x. x && rest) here))
 
 -- ---- the bytes of the last values, written
 

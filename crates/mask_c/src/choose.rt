@@ -132,9 +132,13 @@ fn choose<T: Copy>(bytes: &[u8], offset: usize, len: usize, rows: &[T], out: &mu
     ensures count { result ≡ count (bitmap bytes.now offset len) }
 {
     let chunks = BitChunks::new(bytes, offset, len);
+    let (whole, started) = (chunks.len(), chunks.padded_len());
     let mut at = 0;
-    for i in 0..chunks.padded_len() {
-        at = choose_by_word(chunks.padded_word(i), &rows[64 * i..], out, at);
+    for i in 0..whole {
+        at = choose_by_word(chunks.word(i), &rows[64 * i..], out, at);
+    }
+    if whole < started {
+        at = choose_by_word(chunks.padded_word(whole), &rows[64 * whole..], out, at);
     }
     at
 }

@@ -1,12 +1,12 @@
 //! A bitmap narrowed by another over its true values.
 
-ghost use Rattle.std.specs.Prelude.{◌≡◌, ◌+◌, ◌*◌, ◌<◌, ◌≤◌, ℕ, All, drop, false, length, nat_eq, slice_index_or};
+ghost use Rattle.std.specs.Prelude.{◌≡◌, ◌+◌, ◌*◌, ◌%◌, ◌^◌, ◌<◌, ◌≤◌, ℕ, All, Bool, List, drop, false, length, nat_eq, slice_index_or};
 ghost use Rattle.std.specs.Int.{div_ceil};
 ghost use Rattle.std.specs.List.{list_any};
 ghost use Rattle.std.specs.List.Sorted.{IsStrictlyIncreasing};
-ghost use Rattle.mask_bits.specs.Buffer.{IsWithinBytes};
-ghost use Rattle.mask_bits.specs.Positions.{at_indices, count, positions, rank_intersection, true_at};
-ghost use Rattle.mask_bits.specs.Words.{word_bits};
+ghost use Rattle.mask_bits.specs.Buffer.{IsWithinBytes, values};
+ghost use Rattle.mask_bits.specs.Positions.{at_indices, count, count_below, positions, rank_intersection, true_at};
+ghost use Rattle.mask_bits.specs.Words.{padded_part, word_bits};
 ghost use Rattle.mask_c.specs.Bitmap.{AreClearBehind, bitmap};
 ghost use Rattle.vortex_mask.specs.Ranks.{AreSplit};
 
@@ -47,15 +47,13 @@ pub extern "C" fn row_mask_intersect_by_rank(
     if ranks_len == len {
         // all values are true, so that the ranks are the whole
         row_mask_copy(ranks, ranks_offset, len, out);
-    } else if deposits_by_loop(len, ranks_len) {
-        narrow::<PortableLoop>(bytes, offset, len, ranks, ranks_offset, ranks_len, out);
     } else {
-        narrow::<Portable>(bytes, offset, len, ranks, ranks_offset, ranks_len, out);
+        narrow(bytes, offset, len, ranks, ranks_offset, ranks_len, out);
     }
 }
 
 // Narrows the whole words, and then the last values.
-fn narrow<D: DepositBits>(
+fn narrow(
     bytes: &[u8],
     offset: usize,
     len: usize,
@@ -77,7 +75,7 @@ fn narrow<D: DepositBits>(
     let ones = count_bits(bytes, offset + 64 * whole, rest);
     let before = ranks_len - ones;
     let front = &mut out[..8 * whole];
-    narrow_words::<D>(
+    narrow_whole(
         bytes,
         offset,
         64 * whole,
@@ -89,9 +87,80 @@ fn narrow<D: DepositBits>(
     if rest != 0 {
         let (offset, ranks_offset) = (offset + 64 * whole, ranks_offset + before);
         let mut last = [0u8; 8];
-        narrow_words::<D>(bytes, offset, rest, ranks, ranks_offset, ones, &mut last);
+        narrow_words::<Portable>(bytes, offset, rest, ranks, ranks_offset, ones, &mut last);
         put_last(out, whole, word_of(&last, 0), rest);
     }
+}
+
+// Narrows whole words.
+fn narrow_whole(
+    bytes: &[u8],
+    offset: usize,
+    len: usize,
+    ranks: &[u8],
+    ranks_offset: usize,
+    ranks_len: usize,
+    out: &mut [u8],
+)
+    requires bitmap { IsWithinBytes bytes.now offset len }
+    requires ranks { IsWithinBytes ranks.now ranks_offset ranks_len }
+    requires fitting { ranks_len ≡ count (bitmap bytes.now offset len) }
+    requires whole { len % 64 ≡ 0 }
+    requires room { length out.old ≡ 8 * div_ceil len 64 }
+    ensures { bitmap out.new 0 len
+        ≡ rank_intersection (bitmap bytes.now offset len) (bitmap ranks.now ranks_offset ranks_len) }
+{
+    if deposits_by_loop(len, ranks_len) {
+        narrow_few(bytes, offset, len, ranks, ranks_offset, ranks_len, out);
+    } else {
+        narrow_words::<Portable>(bytes, offset, len, ranks, ranks_offset, ranks_len, out);
+    }
+}
+
+// The same where few values are true. Most words have none, and need no ranks.
+fn narrow_few(
+    bytes: &[u8],
+    offset: usize,
+    len: usize,
+    ranks: &[u8],
+    ranks_offset: usize,
+    ranks_len: usize,
+    out: &mut [u8],
+)
+    requires bitmap { IsWithinBytes bytes.now offset len }
+    requires ranks { IsWithinBytes ranks.now ranks_offset ranks_len }
+    requires fitting { ranks_len ≡ count (bitmap bytes.now offset len) }
+    requires whole { len % 64 ≡ 0 }
+    requires room { length out.old ≡ 8 * div_ceil len 64 }
+    ensures { bitmap out.new 0 len
+        ≡ rank_intersection (bitmap bytes.now offset len) (bitmap ranks.now ranks_offset ranks_len) }
+{
+    vortex_mask::laws::deposits_by_words();
+    let chunks = BitChunks::new(bytes, offset, len);
+    let bits = RankBits::over(ranks, ranks_offset, ranks_len);
+    let mut at = 0;
+    for i in 0..chunks.len() {
+        let word = chunks.word(i);
+        let ones = word.count_ones() as usize;
+        set_word(out, i, narrow_word(word, ones, &bits, at));
+        at += ones;
+    }
+}
+
+// A word of a bitmap narrowed, if `at` values before it are true. Where none of its own is, no rank is read.
+#[inline(always)]
+fn narrow_word(word: u64, ones: usize, ranks: &RankBits<'_>, at: usize) -> u64
+    requires counted { ones ≡ count (word_bits word) }
+    requires fits { ranks.now.offset + at < 2 ^ 64 }
+    ensures { (m : List Bool) (i : ℕ) → length (values ranks.now) ≡ count m → at ≡ count_below m (64 * i)
+        → word_bits word ≡ padded_part m i
+        → word_bits result ≡ padded_part (rank_intersection m (values ranks.now)) i }
+{
+    if word == 0 {
+        return 0;
+    }
+    vortex_mask::laws::deposits_by_words();
+    PortableLoop::deposit_bits(ranks.read(at), word, ones)
 }
 
 // Narrows a bitmap into room of whole words, by the kernel of `vortex_mask`.

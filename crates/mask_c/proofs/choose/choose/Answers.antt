@@ -1,10 +1,11 @@
-use Rattle.std.proofs.Common.{◌≡◌, ◌<◌, ◌+◌, ◌*◌, length, drop, subst, sym, ap, ◌∙◌, arith}
+use Rattle.std.proofs.Common.{◌≡◌, ◌<◌, ◌≤◌, ◌+◌, ◌*◌, length, take, drop, subst, sym, ap, ◌∙◌, arith}
 use Rattle.std.specs.List.{All}
 use Rattle.std.proofs.lemmas.List.{take_all, take_rest}
-use Rattle.mask_bits.specs.Positions.{count, positions}
+use Rattle.mask_bits.specs.Positions.{chosen, count, positions}
 use Rattle.mask_bits.specs.Words.{word_bits}
 use Rattle.mask_bits.proofs.Lists.Places.SelectLemmas.{count-word_more}
-use Rattle.mask_c.proofs.ChooseLemmas.{rows_at, rows-word_more, part-within, count_below-le-count, rows-all}
+use Rattle.mask_bits.proofs.Lists.Words.PaddedLemmas.{padded_part-whole}
+use Rattle.mask_c.proofs.ChooseLemmas.{rows_at, rows-next, part-within, count_below-le-count, rows-all}
 use Rattle.mask_c.proofs.choose.choose.Goals as goal
 
 pub choose_by_word-at-requires-clause-within : goal.choose_by_word-at-requires-clause-within
@@ -13,21 +14,67 @@ choose_by_word-at-requires-clause-within g c =
     let m = c.new-chunks.result in
     let i = c.loop-i.i in
     let len : length rows ≡ length m = c.requires.rows ∙ sym c.new-chunks.ensures.len in
-    let places = ap positions c.padded_word.ensures in
-    subst (λ xs. All (λ p. p < length xs) (positions (word_bits c.padded_word.result))) (sym (take_rest rows (64 * i)))
-    (subst (All (λ p. p < length (drop (64 * i) rows))) (sym places) (part-within rows m i len))
+    let shows = c.word.ensures ∙ padded_part-whole m i (omega (arith, c.loop-i-test, c.len-whole.ensures)) in
+    subst (λ xs. All (λ p. p < length xs) (positions (word_bits c.word.result))) (sym (take_rest rows (64 * i)))
+    (subst (All (λ p. p < length (drop (64 * i) rows))) (sym (ap positions shows)) (part-within rows m i len))
 
 pub choose_by_word-at-requires-clause-room : goal.choose_by_word-at-requires-clause-room
 choose_by_word-at-requires-clause-room g c =
     let m = c.new-chunks.result in
     let i = c.loop-i.i in
-    omega (arith, c.loop-i.invariant.counted, ap count c.padded_word.ensures, count-word_more m i, count_below-le-count m (64 * (i + 1)), ap count c.new-chunks.ensures.list, c.requires.room, c.loop-i.auto.out)
+    let shows = c.word.ensures ∙ padded_part-whole m i (omega (arith, c.loop-i-test, c.len-whole.ensures)) in
+    omega (arith, c.loop-i.invariant.counted, ap count shows, count-word_more m i, count_below-le-count m (64 * (i + 1)), ap count c.new-chunks.ensures.list, c.requires.room, c.loop-i.auto.out)
 
 pub loop-i-preserved : goal.loop-i-preserved
-loop-i-preserved g c = grind (arith, rows_at, take_rest, rows-word_more, count-word_more)
+loop-i-preserved g c =
+    let rows = c.args.rows.now in
+    let m = c.new-chunks.result in
+    let i = c.loop-i.i in
+    let inside : 64 * i + 64 ≤ length m = omega (arith, c.loop-i-test, c.len-whole.ensures) in
+    let shows = c.word.ensures ∙ padded_part-whole m i inside in
+    record {
+      rows = rows-next rows _ c.loop-i.out c.choose_by_word-at.new.out m i c.word.result c.loop-i.at _ (omega (arith, inside)) (take_rest rows (64 * i)) shows c.loop-i.invariant.rows c.choose_by_word-at.ensures.rows;
+      counted = omega (arith, c.choose_by_word-at.ensures.count, c.loop-i.invariant.counted, ap count shows, count-word_more m i);
+    }
 
-pub returns-clause-rows : goal.returns-clause-rows
-returns-clause-rows g c = grind (arith, rows-all)
+pub choose_by_word-at-requires-then-whole-started-clause-within : goal.choose_by_word-at-requires-then-whole-started-clause-within
+choose_by_word-at-requires-then-whole-started-clause-within g c =
+    let rows = c.args.rows.now in
+    let m = c.new-chunks.result in
+    let i = c.len-whole.result in
+    let len : length rows ≡ length m = c.requires.rows ∙ sym c.new-chunks.ensures.len in
+    subst (λ xs. All (λ p. p < length xs) (positions (word_bits c.padded_word.result))) (sym (take_rest rows (64 * i)))
+    (subst (All (λ p. p < length (drop (64 * i) rows))) (sym (ap positions c.padded_word.ensures)) (part-within rows m i len))
 
-pub returns-clause-count : goal.returns-clause-count
-returns-clause-count g c = grind (arith, take_all)
+pub choose_by_word-at-requires-then-whole-started-clause-room : goal.choose_by_word-at-requires-then-whole-started-clause-room
+choose_by_word-at-requires-then-whole-started-clause-room g c =
+    let m = c.new-chunks.result in
+    let i = c.len-whole.result in
+    let all : c.loop-i.i ≡ i = omega (arith, c.loop-i-test) in
+    omega (arith, c.loop-i.invariant.counted, ap (λ n. count (take (64 * n) m)) all, ap count c.padded_word.ensures, count-word_more m i, count_below-le-count m (64 * (i + 1)), ap count c.new-chunks.ensures.list, c.requires.room, c.loop-i.auto.out)
+
+pub returns-then-whole-started-clause-rows : goal.returns-then-whole-started-clause-rows
+returns-then-whole-started-clause-rows g c =
+    let rows = c.args.rows.now in
+    let m = c.new-chunks.result in
+    let i = c.len-whole.result in
+    let all : c.loop-i.i ≡ i = omega (arith, c.loop-i-test) in
+    let last = c.choose_by_word-at-then-whole-started in
+    rows-next rows _ c.loop-i.out last.new.out m i c.padded_word.result c.loop-i.at _ (omega (arith, c.len-whole.ensures)) (take_rest rows (64 * i)) c.padded_word.ensures
+    (c.loop-i.invariant.rows ∙ ap (λ n. rows_at rows (positions (take (64 * n) m))) all) last.ensures.rows
+    ∙ rows-all rows m (64 * (i + 1)) (omega (arith, c.len-whole.ensures))
+    ∙ ap (chosen rows) c.new-chunks.ensures.list
+
+pub returns-then-whole-started-clause-count : goal.returns-then-whole-started-clause-count
+returns-then-whole-started-clause-count g c =
+    let m = c.new-chunks.result in
+    let i = c.len-whole.result in
+    let all : c.loop-i.i ≡ i = omega (arith, c.loop-i-test) in
+    omega (arith, c.choose_by_word-at-then-whole-started.ensures.count, c.loop-i.invariant.counted, ap (λ n. count (take (64 * n) m)) all, ap count c.padded_word.ensures, count-word_more m i, ap count (take_all (64 * (i + 1)) m (omega (arith, c.len-whole.ensures))), ap count c.new-chunks.ensures.list)
+
+pub returns-else-whole-started-clause-rows : goal.returns-else-whole-started-clause-rows
+returns-else-whole-started-clause-rows g c =
+    let m = c.new-chunks.result in
+    c.loop-i.invariant.rows
+    ∙ rows-all c.args.rows.now m (64 * c.loop-i.i) (omega (arith, c.loop-i-test, c.len-whole.ensures, c.padded_len-started.ensures, c.if-whole-started))
+    ∙ ap (chosen c.args.rows.now) c.new-chunks.ensures.list

@@ -1,0 +1,12 @@
+use Rattle.std.proofs.Common.{ℕ, ◌≡◌, ◌*◌, ◌<◌}
+use Rattle.mask_bits.specs.Buffer.{values}
+use Rattle.mask_bits.specs.Positions.{count_below, rank_intersection}
+use Rattle.mask_bits.specs.Words.{padded_part, window}
+use Rattle.mask_c.proofs.rank.narrow_few.Given as goal
+
+-- the words so far, and how many values are true before the next one
+abbrev pub invariant-loop-i : goal.invariant-loop-i
+invariant-loop-i l = record {
+  place : l.at ≡ count_below l.chunks (64 * l.i);
+  words : (k : ℕ) → k < l.i → window l.out (64 * k) ≡ padded_part (rank_intersection l.chunks (values l.bits)) k;
+}
