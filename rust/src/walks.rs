@@ -1,4 +1,5 @@
-//! Walks over a bitmap. The library fills blocks of words, so that a step crosses no line.
+//! Walks over a bitmap, word by word, so that a step crosses no line. Words that lie whole in the bytes are
+//! read there, and the library gives the others.
 
 mod indices;
 mod runs;

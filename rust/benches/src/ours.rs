@@ -46,9 +46,7 @@ impl<'a> Ours<'a> {
             "==, at odd bits" => Box::new(move || u64::from(a_moved == copy)),
             "rank intersection" => Box::new(move || last(a.intersect_by_rank(ranks).unwrap())),
             "rank intersection, no pdep" => Box::new(move || last(without_pdep(a, ranks))),
-            "choose" => {
-                Box::new(move || a.choose(rows).unwrap().last().copied().unwrap_or(0))
-            }
+            "choose" => Box::new(move || a.choose(rows).unwrap().last().copied().unwrap_or(0)),
             "choose bits, by pext" | "choose bits, of Vec<bool>" => {
                 Box::new(move || last(a.choose_bits(b).unwrap()))
             }

@@ -195,7 +195,9 @@ impl BitmapBuf {
         unsafe {
             out.write(len, |out| {
                 let out = init(out);
-                ranges.iter().for_each(|range| fill(out, range.start, range.end, true));
+                for range in ranges {
+                    fill(out, range.start, range.end, true);
+                }
             })
         }
     }

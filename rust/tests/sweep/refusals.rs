@@ -38,6 +38,23 @@ fn what_a_call_asks_is_tested() {
     assert_eq!(eight.choose_bits(seven), Err(Error::RowsDiffer { rows: 7, len: 8 }));
 }
 
+/// An iterator that is wrong about its length.
+struct Says(usize);
+
+impl Iterator for Says {
+    type Item = bool;
+
+    fn next(&mut self) -> Option<bool> {
+        None
+    }
+}
+
+impl ExactSizeIterator for Says {
+    fn len(&self) -> usize {
+        self.0
+    }
+}
+
 #[test]
 fn what_changes_and_makers_ask_is_tested() {
     let eight = Bitmap::new(&[0b1011_1001], 0, 8).unwrap();
@@ -56,19 +73,6 @@ fn what_changes_and_makers_ask_is_tested() {
     let range = Error::BadRange { start: 8, end: 9, len: 8 };
     assert_eq!(BitmapBuf::from_ranges_into(8, &[0..8, 8..9], &mut room[..]), Err(range));
     assert_eq!(room, [0xA5]);
-    // an iterator may be wrong about its length
-    struct Says(usize);
-    impl Iterator for Says {
-        type Item = bool;
-        fn next(&mut self) -> Option<bool> {
-            None
-        }
-    }
-    impl ExactSizeIterator for Says {
-        fn len(&self) -> usize {
-            self.0
-        }
-    }
     assert_eq!(BitmapBuf::collect_into(Says(8), &mut room[..]), Ok(()));
     assert_eq!(room, [0]);
 
