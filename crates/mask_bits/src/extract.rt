@@ -1,8 +1,8 @@
 //! The bits of one word at the set places of another.
 //!
-//! In each byte they first move down to its low end, in all eight bytes at once, with a lane of a
-//! vector for each byte. For each clear place of the mask, the highest first, the bits above it move
-//! down by one:
+//! Few bits come one after another. More of them first move down to the low end of their byte, in
+//! all eight bytes at once, with a lane of a vector for each byte. For each clear place of the mask,
+//! the highest first, the bits above it move down by one:
 //!
 //! ```text
 //!        place   7 6 5 4 3 2 1 0
@@ -23,10 +23,44 @@ ghost use Rattle.mask_bits.specs.Extract.{Extracts, HasLanes, gathered, closed_u
 
 use std::simd::prelude::*;
 
+// One bit after another takes less time than all bytes where at most so many places are set.
+const FEW: u32 = 4;
+
 /// The bits of `source` at the set places of `mask`, moved down to the low end in their order, and
-/// zeros above them: what the instruction PEXT does. It takes about as long at each mask.
+/// zeros above them: what the instruction PEXT does. It takes about as long at each mask, and less
+/// where all places are set or at most four.
 #[inline]
 pub fn extract(source: u64, mask: u64) -> u64
+    ensures { Extracts source mask result }
+{
+    if mask == u64::MAX {
+        source
+    } else if mask.count_ones() <= FEW {
+        extract_in_turn(source, mask)
+    } else {
+        extract_in_bytes(source, mask)
+    }
+}
+
+// One set place after another.
+#[inline]
+fn extract_in_turn(source: u64, mask: u64) -> u64
+    ensures { Extracts source mask result }
+{
+    let mut left = mask;
+    let mut result = 0;
+    let mut at = 0u32;
+    while left != 0 {
+        result |= ((source >> left.trailing_zeros()) & 1) << at;
+        left &= left - 1;
+        at += 1;
+    }
+    result
+}
+
+// All bytes at once, which are then joined.
+#[inline]
+fn extract_in_bytes(source: u64, mask: u64) -> u64
     ensures { Extracts source mask result }
 {
     let bytes = gather_in_bytes(source, mask);

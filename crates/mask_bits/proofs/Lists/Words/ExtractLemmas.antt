@@ -1,16 +1,22 @@
 -- The bits of a word at the set places of another, one by one and as a list.
-use Rattle.std.proofs.Common.{◌≡◌, ◌≢◌, ℕ, zero, suc, ◌-◌, ◌<◌, ◌≤◌, ◌↔◌, Bool, true, false, nat_eq, List, [], ◌∷◌, ◌++◌, length, get_or, take, sym, ◌∙◌, arith}
+use Rattle.std.proofs.Common.{◌≡◌, ◌≢◌, ◌⊎◌, inl, inr, bit_and, bit_or, ℕ, zero, suc, ◌+◌, ◌*◌, ◌-◌, ◌/◌, ◌%◌, ◌^◌, ◌<◌, ◌≤◌, ◌↔◌, Bool, true, false, nat_eq, List, [], ◌∷◌, ◌++◌, length, get_or, take, drop, refl, sym, ap, ◌∙◌, arith}
 use Rattle.std.specs.Int.{bit_at}
 use Rattle.std.specs.List.{items_where_true}
 use Rattle.std.proofs.lemmas.Bool.Decides.{nat_tests}
-use Rattle.std.proofs.lemmas.List.{ext_get_or, get_or-map, length-append, get_or_append_left, get_or-append_right, take-append-le, take_all}
-use Rattle.std.proofs.lemmas.Nat.Bits.{bit_at-lt}
+use Rattle.std.proofs.lemmas.List.{ext_get_or, get_or-map, length-append, get_or_append_left, get_or-append_right, take-append-le, take_all, length-drop}
+use Rattle.std.proofs.lemmas.Bool.{cases_lt}
+use Rattle.std.proofs.lemmas.Nat.{and_mask}
+use Rattle.std.proofs.lemmas.Nat.Bits.{bit_at-lt, bit_at-zero, bit_at_or, bit_at_lowest, bit_at_above}
+use Rattle.std.proofs.lemmas.Option.{get_or_from_slice_get}
+use Rattle.mask_bits.proofs.Lists.Words.LowestLemmas.{low}
+use Rattle.mask_bits.proofs.Lists.Words.ShiftLemmas.{bit_at-mod, bit_at-shl_high, bit_at-shl_low}
 use Rattle.mask_bits.specs.Extract.{Extracts, ExtractIsChosenValues}
 use Rattle.mask_bits.specs.Positions.{positions, count, repeated, chosen}
 use Rattle.mask_bits.specs.Words.{word_bits}
 use Rattle.mask_bits.proofs.Lists.CountLemmas.{length-repeated, get_or-repeated}
 use Rattle.mask_bits.proofs.Lists.LawLemmas.{chosen-items_where_true, length-chosen}
 use Rattle.mask_bits.proofs.Lists.Places.PlaceLemmas.{positions-true, positions-false, trues, count-trues, count-le-length, positions-within}
+use Rattle.mask_bits.proofs.Lists.Places.SelectLemmas.{indices-of_none, left-more, left-first, positions-lowest}
 use Rattle.mask_bits.proofs.Lists.Words.WordLemmas.{length-word_bits, get_or-word_bits}
 
 -- ---- a chosen row is the row at a true index
@@ -78,3 +84,73 @@ take-extracted s m r is =
     let front : List Bool = chosen (word_bits s) (word_bits m) in
     let n : ℕ = count (word_bits m) in
     grind (arith, extract_is_chosen_values s m r is, take-append-le n front (repeated (64 - n) false), take_all n front, length-chosen_bits s m)
+
+-- ---- one set place after another
+
+-- the bits at the first n set places are there, and the other places are left
+pub record IsExtractedTo (source mask left n result : ℕ) : Type 0 where
+  pub places : positions (word_bits left) ≡ drop n (positions (word_bits mask))
+  pub within : n ≤ count (word_bits mask)
+  pub bits : (k : ℕ) → k < 64 → (bit_at result k ≡ 1) ↔ ((k < n) × (bit_at source (get_or (positions (word_bits mask)) k 0) ≡ 1))
+
+pub IsExtractedTo-none : (s m : ℕ) → IsExtractedTo s m m 0 0
+IsExtractedTo-none s m = record {
+  places = refl;
+  within = omega arith;
+  bits = λ k h. (λ set. absurd (omega (arith, bit_at-zero k)), λ set. absurd (omega (arith, set.0)));
+}
+
+-- where none is left, that is an extract
+pub Extracts-all : (s m n r : ℕ) → IsExtractedTo s m 0 n r → Extracts s m r
+Extracts-all s m n r is =
+    let n_is : n ≡ count (word_bits m) = grind (arith, ap length is.places, length-drop n (positions (word_bits m)), ap length (indices-of_none 0), is.within) in
+    record { bits = λ k h. (λ set. (omega (arith, n_is, ((is.bits k h).0 set).0), ((is.bits k h).0 set).1), λ set. (is.bits k h).1 (omega (arith, n_is, set.0), set.1)) }
+
+-- some are left where the rest is not 0
+pub IsExtractedTo-some : (s m left n r : ℕ) → 0 < left → left < 2 ^ 64 → IsExtractedTo s m left n r → n < count (word_bits m)
+IsExtractedTo-some s m left n r some fits is = omega (arith, ap length is.places, length-drop n (positions (word_bits m)), ap length (positions-lowest left some fits))
+
+-- a bit put at place n
+placed_there : (b n k : ℕ) → b < 2 → k < 64 → k ≡ n → bit_at (b * 2 ^ n % 2 ^ 64) k ≡ b
+placed_there b n k h few e =
+    let none : k - n ≡ 0 = omega arith in
+    bit_at-mod (b * 2 ^ n) 64 k few ∙ bit_at-shl_high b n k (omega arith) ∙ ap (bit_at b) none ∙ omega (arith, bit_at_lowest b)
+
+placed_elsewhere : (b n k : ℕ) → b < 2 → k < 64 → (k < n) ⊎ (n < k) → bit_at (b * 2 ^ n % 2 ^ 64) k ≡ 0
+placed_elsewhere b n k h few (inl below) = bit_at-mod (b * 2 ^ n) 64 k few ∙ bit_at-shl_low b n k below
+placed_elsewhere b n k h few (inr above) =
+    bit_at-mod (b * 2 ^ n) 64 k few ∙ bit_at-shl_high b n k (omega arith) ∙ bit_at_above b 1 (k - n) h (omega arith)
+
+-- one more bit of those at some places
+more_bit : (ps : List ℕ) (s r x n k : ℕ) → (bit_at r k ≡ 1) ↔ ((k < n) × (bit_at s (get_or ps k 0) ≡ 1)) → (k ≡ n → bit_at x k ≡ bit_at s (get_or ps n 0)) → ((k < n) ⊎ (n < k) → bit_at x k ≡ 0)
+    → (bit_at (bit_or r x) k ≡ 1) ↔ ((k < n + 1) × (bit_at s (get_or ps k 0) ≡ 1))
+more_bit ps s r x n k old new others = elim (cases_lt k n) [
+  | inl below ↦
+      let same : bit_at (bit_or r x) k ≡ bit_at r k = omega (arith, bit_at_or r x k, others (inl below)) in
+      (λ set. (omega arith, (old.0 (sym same ∙ set)).1), λ set. same ∙ old.1 (below, set.1))
+  | inr from ↦ elim (cases_lt n k) [
+    | inl above ↦
+        (λ set. absurd (omega (arith, (old.0 (omega (arith, bit_at_or r x k, others (inr above), set, bit_at-lt r k))).0)), λ set. absurd (omega (arith, set.0)))
+    | inr at ↦
+        let e : k ≡ n = omega arith in
+        let none : bit_at r k ≢ 1 = λ set. omega (arith, (old.0 set).0) in
+        let same : bit_at (bit_or r x) k ≡ bit_at s (get_or ps k 0) = omega (arith, bit_at_or r x k, bit_at-lt r k, none, new e, ap (λ i. bit_at s (get_or ps i 0)) e) in
+        (λ set. (omega arith, sym same ∙ set), λ set. same ∙ set.1)
+  ]
+]
+
+pub IsExtractedTo-more : (s m left n r : ℕ) → 0 < left → left < 2 ^ 64 → IsExtractedTo s m left n r
+    → IsExtractedTo s m (bit_and left (left - 1)) (n + 1) (bit_or r (bit_and (s / 2 ^ low left) 1 * 2 ^ n % 2 ^ 64))
+IsExtractedTo-more s m left n r some fits is =
+    let ps : List ℕ = positions (word_bits m) in
+    let p : ℕ = low left in
+    let b : ℕ = bit_and (s / 2 ^ p) 1 in
+    let b_is : b ≡ bit_at s p = and_mask (s / 2 ^ p) 1 in
+    let b_low : b < 2 = omega (arith, b_is, bit_at-lt s p) in
+    let more = IsExtractedTo-some s m left n r some fits is in
+    let here : get_or ps n 0 ≡ p = get_or_from_slice_get ps n p 0 (left-first left n ps fits is.places more) in
+    record {
+      places = left-more left n ps fits is.places more;
+      within = omega (arith, more);
+      bits = λ k h. more_bit ps s r (b * 2 ^ n % 2 ^ 64) n k (is.bits k h) (λ e. placed_there b n k b_low h e ∙ b_is ∙ ap (bit_at s) (sym here)) (placed_elsewhere b n k b_low h);
+    }

@@ -1,5 +1,5 @@
 -- The bits of a word's lowest places at the set ones of a mask: by parts, and one by one.
-use Rattle.std.proofs.Common.{◌≡◌, ◌⊎◌, inl, inr, bit_and, bit_or, ℕ, zero, suc, min, ◌+◌, ◌*◌, ◌-◌, ◌/◌, ◌%◌, ◌^◌, ◌<◌, ◌≤◌, Bool, false, nat_eq, List, [], ◌∷◌, map, length, get_or, count_ones, refl, sym, ap, ap₂, ◌∙◌, arith, pow-add, mod-lt, subst}
+use Rattle.std.proofs.Common.{◌≡◌, ◌⊎◌, inl, inr, bit_and, bit_or, ℕ, zero, suc, min, ◌+◌, ◌*◌, ◌-◌, ◌/◌, ◌%◌, ◌^◌, ◌<◌, ◌≤◌, Bool, false, nat_eq, List, [], ◌∷◌, map, length, get_or, count_ones, refl, sym, ap, ap₂, ◌∙◌, arith, pow-add, mod-lt, mod-eq_of_lt, subst}
 use Rattle.std.specs.Int.{bit_at}
 use lib.Count.{ones_step}
 use lib.Pow.{field, mod-mod-pow}
@@ -318,3 +318,19 @@ Extracts-gathered s m =
             (λ set. absurd (omega (arith, clear)), λ set. absurd (omega (arith, set.0)))
       ];
     }
+
+-- ---- at a full mask
+
+gathered-full : (n s : ℕ) → gathered n s (2 ^ n - 1) ≡ s % 2 ^ n
+gathered-full zero s = gathered-none s 0 ∙ omega arith
+gathered-full (suc n) s =
+    let e : n + 1 ≡ suc n = omega arith in
+    let double : 2 ^ suc n ≡ 2 * 2 ^ n = ap (λ k. 2 ^ k) (sym e) ∙ omega (arith, pow-add 2 n 1) in
+    let on : (2 ^ suc n - 1) % 2 ≡ 1 = omega (arith, double, pow_pos n) in
+    let half : (2 ^ suc n - 1) / 2 ≡ 2 ^ n - 1 = omega (arith, double, pow_pos n) in
+    gathered-set n s (2 ^ suc n - 1) on
+    ∙ ap (λ x. s % 2 + 2 * x) (ap (gathered n (s / 2)) half ∙ gathered-full n (s / 2))
+    ∙ omega (arith, mod-pow-add s n 1, ap (λ k. s % 2 ^ k) e)
+
+pub Extracts-full : (s : ℕ) → s < 2 ^ 64 → Extracts s (2 ^ 64 - 1) s
+Extracts-full s fits = subst (Extracts s (2 ^ 64 - 1)) (gathered-full 64 s ∙ mod-eq_of_lt fits) (Extracts-gathered s (2 ^ 64 - 1))

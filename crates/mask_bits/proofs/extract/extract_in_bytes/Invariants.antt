@@ -1,7 +1,7 @@
 use Rattle.std.proofs.Common.{◌≡◌, ◌*◌}
 use Rattle.mask_bits.specs.Extract.{gathered}
 use Rattle.mask_bits.proofs.Lists.Words.GatherLemmas.{ones_in}
-use Rattle.mask_bits.proofs.extract.extract.Given as goal
+use Rattle.mask_bits.proofs.extract.extract_in_bytes.Given as goal
 
 -- the bits of the first j bytes are there
 abbrev pub invariant-loop-j : goal.invariant-loop-j
