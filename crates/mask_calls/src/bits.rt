@@ -83,6 +83,7 @@ pub enum BitsCall {
     Uniform(usize, bool),
     FromIndices(usize, Vec<usize>),
     FromBools(Vec<bool>),
+    FromRows(Vec<bool>),
 }
 
 impl BitsCall {
@@ -95,6 +96,7 @@ impl BitsCall {
             BitsCall::Uniform(len, value) => run_uniform(alloc, len, *value),
             BitsCall::FromIndices(len, list) => run_indices(alloc, *len, list),
             BitsCall::FromBools(list) => run_bools(alloc, list),
+            BitsCall::FromRows(list) => run_rows(alloc, list),
         }
     }
 
@@ -133,6 +135,7 @@ impl BitsCall {
             "new_set" => Ok(Some(BitsCall::Uniform(number(words)?, true))),
             "new_unset" => Ok(Some(BitsCall::Uniform(number(words)?, false))),
             "from_bools" => Ok(Some(BitsCall::FromBools(values(alloc, words)?))),
+            "from_rows" => Ok(Some(BitsCall::FromRows(values(alloc, words)?))),
             _ => read_words(alloc, name, words),
         }
     }
@@ -159,6 +162,10 @@ fn run_indices<'a>(
 
 fn run_bools<'a>(alloc: Global, list: &'a mut Vec<bool>) -> Result<Answer<'a>, Fault> {
     Answer::of_buffer(packed::from_bools(alloc, list))
+}
+
+fn run_rows<'a>(alloc: Global, list: &'a mut Vec<bool>) -> Result<Answer<'a>, Fault> {
+    Answer::of_buffer(packed::from_rows(alloc, list))
 }
 
 fn hold_both(a: &mut Bits, b: &mut Bits) -> Result<(), Fault> {

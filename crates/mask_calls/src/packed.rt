@@ -99,6 +99,11 @@ pub fn from_bools(alloc: Global, values: &[bool]) -> Result<BitBuffer, Fault> {
     made(BitBuffer::from_bools(alloc, values.iter().copied()))
 }
 
+/// `BitBuffer::from_rows`, by a test that answers the row itself.
+pub fn from_rows(alloc: Global, rows: &[bool]) -> Result<BitBuffer, Fault> {
+    made(BitBuffer::from_rows(alloc, rows, |row| *row))
+}
+
 /// These values from bit `offset` on of bytes that nobody else holds.
 pub fn buffer_at(
     alloc: Global,

@@ -51,6 +51,13 @@ pub fn into_bitand_not(alloc: Global, a: BitBuffer, b: &BitBuffer) -> Result<Bit
     made(a.into_bitand_not(alloc, b))
 }
 
+pub fn choose_values(alloc: Global, a: &BitBuffer, of: &BitBuffer) -> Result<BitBuffer, Fault> {
+    if of.len() != a.len() {
+        return Err(EQUAL);
+    }
+    made(a.choose_values(alloc, of))
+}
+
 /// A call of two buffers.
 #[derive(Drop, Clone, Copy)]
 pub enum OfTwoBits {
@@ -60,6 +67,7 @@ pub enum OfTwoBits {
     IntoBitand,
     IntoBitor,
     IntoBitandNot,
+    ChooseValues,
     Equal,
 }
 
@@ -68,7 +76,7 @@ impl OfTwoBits {
     pub fn named(name: &str) -> Option<OfTwoBits> {
         match place_of(
             name,
-            "bitand bitor bitand_not into_bitand into_bitor into_bitand_not equal",
+            "bitand bitor bitand_not into_bitand into_bitor into_bitand_not choose_values equal",
         ) {
             0 => Some(OfTwoBits::Bitand),
             1 => Some(OfTwoBits::Bitor),
@@ -76,7 +84,8 @@ impl OfTwoBits {
             3 => Some(OfTwoBits::IntoBitand),
             4 => Some(OfTwoBits::IntoBitor),
             5 => Some(OfTwoBits::IntoBitandNot),
-            6 => Some(OfTwoBits::Equal),
+            6 => Some(OfTwoBits::ChooseValues),
+            7 => Some(OfTwoBits::Equal),
             _ => None,
         }
     }
@@ -119,6 +128,7 @@ impl OfTwoBits {
             OfTwoBits::Bitand => Answer::of_buffer(bitand(alloc, a, b)),
             OfTwoBits::Bitor => Answer::of_buffer(bitor(alloc, a, b)),
             OfTwoBits::BitandNot => Answer::of_buffer(bitand_not(alloc, a, b)),
+            OfTwoBits::ChooseValues => Answer::of_buffer(choose_values(alloc, a, b)),
             _ => Ok(Answer::Flag(a == b)),
         }
     }

@@ -13,6 +13,11 @@ pub fn from_bools(alloc: Global, values: &[bool]) -> Result<Mask, Fault> {
     answer(Mask::from_bools(alloc, values.iter().copied()))
 }
 
+/// `Mask::from_rows`, by a test that answers the row itself.
+pub fn from_rows(alloc: Global, rows: &[bool]) -> Result<Mask, Fault> {
+    answer(Mask::from_rows(alloc, rows, |row| *row))
+}
+
 pub fn from_buffer(alloc: Global, buffer: BitBuffer) -> Result<Mask, Fault> {
     answer(Mask::from_buffer(alloc, buffer))
 }
@@ -64,6 +69,11 @@ pub fn run_from_buffer<'a>(
         Some(buffer) => Answer::of_mask(from_buffer(alloc, buffer)),
         None => Err(Fault::Unmet("a buffer that is there")),
     }
+}
+
+/// Makes the call of `from_rows`.
+pub fn run_from_rows<'a>(alloc: Global, rows: &'a mut Vec<bool>) -> Result<Answer<'a>, Fault> {
+    Answer::of_mask(from_rows(alloc, rows))
 }
 
 /// Makes the call of `from_buffer_with_slices`, by value.

@@ -4,12 +4,12 @@ use crate::answer::Answer;
 use crate::bits::from_indices;
 use crate::fault::Fault;
 use crate::masks::made::{
-    ByIndices, ByLength, run_common, run_common_of_one, run_from_buffer, run_from_slices,
-    run_with_slices,
+    ByIndices, ByLength, run_common, run_common_of_one, run_from_buffer, run_from_rows,
+    run_from_slices, run_with_slices,
 };
 use crate::packed;
 use crate::ranged::Ranged;
-use crate::words::{number, numbers, ranges};
+use crate::words::{number, numbers, ranges, values};
 use mask_bits::BitBuffer;
 use std::alloc::Global;
 
@@ -20,6 +20,7 @@ pub enum Making {
     ByIndices(ByIndices, usize, Vec<usize>),
     FromSlices(usize, Vec<(usize, usize)>),
     FromBuffer(Option<BitBuffer>),
+    FromRows(Vec<bool>),
     WithSlices(Option<Ranged>),
     Common(usize, BitBuffer, BitBuffer),
     CommonOfOne(usize, usize, usize),
@@ -33,6 +34,7 @@ impl Making {
             Making::ByIndices(call, len, list) => call.run(alloc, *len, list),
             Making::FromSlices(len, list) => run_from_slices(alloc, *len, list),
             Making::FromBuffer(buffer) => run_from_buffer(alloc, buffer),
+            Making::FromRows(rows) => run_from_rows(alloc, rows),
             Making::WithSlices(ranged) => run_with_slices(alloc, ranged),
             Making::Common(len, lhs, rhs) => run_common(alloc, *len, lhs, rhs),
             Making::CommonOfOne(len, lhs, rhs) => run_common_of_one(alloc, *len, lhs, *rhs),
@@ -46,6 +48,9 @@ impl Making {
         }
         if name == "from_buffer" {
             return Ok(Some(Making::FromBuffer(Some(packed::read(alloc, words)?))));
+        }
+        if name == "from_rows" {
+            return Ok(Some(Making::FromRows(values(alloc, words)?)));
         }
         match words.split_once(' ') {
             Some((first, rest)) => read_two(alloc, name, first, rest),

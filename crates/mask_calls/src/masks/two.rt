@@ -72,6 +72,13 @@ pub fn intersect_by_rank_counted(
     answer(rows.intersect_by_rank_counted(alloc, ranks))
 }
 
+pub fn choose_values(alloc: Global, rows: &Mask, of: &Mask) -> Result<Mask, Fault> {
+    if of.len() != rows.len() {
+        return Err(EQUAL);
+    }
+    answer(rows.choose_values(alloc, of))
+}
+
 /// `rank_path`, where both masks are mixed.
 pub fn path(rows: &Mask, ranks: &Mask) -> Result<RankPath, Fault> {
     match (rows.values(), ranks.values()) {
@@ -92,6 +99,7 @@ pub enum OfTwo {
     IntersectByRank,
     IntersectByRankCounted,
     CountedList,
+    ChooseValues,
     RankPath,
     Equal,
     EqualSwapped,
@@ -102,7 +110,7 @@ impl OfTwo {
     pub fn named(name: &str) -> Option<OfTwo> {
         match place_of(
             name,
-            "bitand bitor to_bitand_not into_bitand into_bitor bitand_not intersect_by_rank intersect_by_rank_counted rank_path counted_list equal equal_swapped",
+            "bitand bitor to_bitand_not into_bitand into_bitor bitand_not intersect_by_rank intersect_by_rank_counted rank_path counted_list choose_values equal equal_swapped",
         ) {
             0 => Some(OfTwo::Bitand),
             1 => Some(OfTwo::Bitor),
@@ -114,8 +122,9 @@ impl OfTwo {
             7 => Some(OfTwo::IntersectByRankCounted),
             8 => Some(OfTwo::RankPath),
             9 => Some(OfTwo::CountedList),
-            10 => Some(OfTwo::Equal),
-            11 => Some(OfTwo::EqualSwapped),
+            10 => Some(OfTwo::ChooseValues),
+            11 => Some(OfTwo::Equal),
+            12 => Some(OfTwo::EqualSwapped),
             _ => None,
         }
     }
@@ -153,6 +162,7 @@ impl OfTwo {
                 Answer::of_counted(intersect_by_rank_counted(alloc, a, b))
             }
             OfTwo::CountedList => Answer::of_list_counted(intersect_by_rank_counted(alloc, a, b)),
+            OfTwo::ChooseValues => Answer::of_mask(choose_values(alloc, a, b)),
             OfTwo::RankPath => Answer::of_path(path(a, b)),
             OfTwo::EqualSwapped => Ok(Answer::Flag(b == a)),
             _ => Ok(Answer::Flag(a == b)),

@@ -1,11 +1,11 @@
-//! Deposits and selections of a word.
+//! Deposits, extracts and selections of a word.
 
 use crate::answer::Answer;
 use crate::fault::Fault;
 use crate::words::{number, place_of};
 use vortex_mask::intersect_by_rank::{
-    DepositBits, Portable, PortableLoop, SelectBit, deposit_bytewise, deposit_two_holes,
-    deposit_two_lowest,
+    DepositBits, ExtractBits, Portable, PortableLoop, SelectBit, deposit_bytewise,
+    deposit_two_holes, deposit_two_lowest,
 };
 
 pub fn deposit_bits<D: DepositBits>(source: u64, mask: u64) -> u64 {
@@ -26,6 +26,10 @@ pub fn two_holes(source: u64, mask: u64) -> Result<u64, Fault> {
     Ok(deposit_two_holes(source, mask))
 }
 
+pub fn extract_bits(source: u64, mask: u64) -> u64 {
+    Portable::extract_bits(source, mask, mask.count_ones() as usize)
+}
+
 pub fn select(word: u64, rank: usize) -> Result<usize, Fault> {
     if rank >= word.count_ones() as usize {
         return Err(Fault::Unmet("a set bit of this number"));
@@ -41,6 +45,7 @@ pub enum OfWords {
     Bytewise,
     TwoLowest,
     TwoHoles,
+    Extract,
     Select,
 }
 
@@ -49,14 +54,15 @@ impl OfWords {
     pub fn named(name: &str) -> Option<OfWords> {
         match place_of(
             name,
-            "deposit deposit_by_loop deposit_bytewise deposit_two_lowest deposit_two_holes select",
+            "deposit deposit_by_loop deposit_bytewise deposit_two_lowest deposit_two_holes extract select",
         ) {
             0 => Some(OfWords::Deposit),
             1 => Some(OfWords::DepositByLoop),
             2 => Some(OfWords::Bytewise),
             3 => Some(OfWords::TwoLowest),
             4 => Some(OfWords::TwoHoles),
-            5 => Some(OfWords::Select),
+            5 => Some(OfWords::Extract),
+            6 => Some(OfWords::Select),
             _ => None,
         }
     }
@@ -70,6 +76,7 @@ impl OfWords {
             OfWords::Bytewise => Ok(Answer::Word(deposit_bytewise(source, mask))),
             OfWords::TwoLowest => Answer::of_word(two_lowest(source, mask)),
             OfWords::TwoHoles => Answer::of_word(two_holes(source, mask)),
+            OfWords::Extract => Ok(Answer::Word(extract_bits(source, mask))),
             OfWords::Select => Answer::of_number(select(source, second)),
         }
     }
