@@ -1,8 +1,8 @@
 //! Values of one bitmap at the rows that another chooses: validity beside a filtered column, and predicates
 //! of all rows as rank masks.
-ghost use Rattle.std.specs.Prelude.{◌≡◌, ◌-◌, ◌++◌, false, IfOk, length};
+ghost use Rattle.std.specs.Prelude.{◌≡◌, ◌-◌, ◌++◌, false, IfOk, length, take};
 ghost use Rattle.mask_bits.specs.Lists.{and_of};
-ghost use Rattle.mask_bits.specs.Positions.{chosen, count, repeated};
+ghost use Rattle.mask_bits.specs.Positions.{chosen, count, rank_intersection, repeated};
 ghost use Rattle.mask_bits.specs.Words.{word_bits};
 ghost use Rattle.vortex_mask.specs.Mask.{truth};
 
@@ -30,6 +30,28 @@ pub fn filtered_with_validity<T: Copy>(
     Ok((kept, valid))
 }
 
+/// The first `k` rows that a filter of the same column chooses, and their validity: the limit is taken on the
+/// column's own row numbers, and both lists come from the column at once.
+pub fn first_with_validity<T: Copy>(
+    alloc: Global,
+    rows: &[T],
+    validity: &Mask,
+    filter: &Mask,
+    k: usize,
+) -> Result<(Vec<T>, Mask), MaskError>
+    requires rows { length rows.now ≡ length (truth filter.now) }
+    requires validity { length (truth validity.now) ≡ length (truth filter.now) }
+    ensures rows { IfOk result
+        (λ both. both.0.items ≡ take k (chosen rows.now (truth filter.now))) }
+    ensures validity { IfOk result
+        (λ both. truth both.1 ≡ take k (chosen (truth validity.now) (truth filter.now))) }
+{
+    laws::choosing_by_a_limit::<T>();
+    laws::choosing_by_a_limit::<bool>();
+    let first = filter.to_limited(alloc, k)?;
+    filtered_with_validity(alloc, rows, validity, &first)
+}
+
 /// The rows that pass two filters, where the second was evaluated on all rows: as a rank mask of the
 /// first one's rows it narrows that to their `and`.
 pub fn narrowed_by_all_rows(alloc: Global, first: &Mask, second: &Mask) -> Result<Mask, MaskError>
@@ -39,6 +61,27 @@ pub fn narrowed_by_all_rows(alloc: Global, first: &Mask, second: &Mask) -> Resul
     laws::choosing_values();
     let ranks = first.choose_values(alloc, second)?;
     first.intersect_by_rank(alloc, &ranks)
+}
+
+/// The rows that pass three filters, where the second was evaluated on all rows, and the third on those that
+/// the first two leave: the last two become one rank mask of the first one's rows.
+pub fn narrowed_by_all_and_by_those_left(
+    alloc: Global,
+    first: &Mask,
+    second: &Mask,
+    third: &Mask,
+) -> Result<Mask, MaskError>
+    requires second { length (truth second.now) ≡ length (truth first.now) }
+    requires third { length (truth third.now) ≡ count (and_of (truth first.now) (truth second.now)) }
+    ensures { IfOk result (λ m. truth m
+        ≡ rank_intersection (and_of (truth first.now) (truth second.now)) (truth third.now)) }
+{
+    laws::choosing_values();
+    laws::rank_intersection_associative();
+    laws::rank_intersection_count();
+    let ranks = first.choose_values(alloc, second)?;
+    let left = ranks.intersect_by_rank(alloc, third)?;
+    first.intersect_by_rank(alloc, &left)
 }
 
 /// What a filter of the rows that another one chose says of these, read back from both as one.
