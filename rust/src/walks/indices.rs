@@ -188,17 +188,22 @@ impl Iterator for Indices<'_> {
     // word by word, for `sum`, `for_each` and the like
     #[inline]
     fn fold<B, F: FnMut(B, usize) -> B>(mut self, init: B, mut f: F) -> B {
-        let (mut folded, mut word) = (init, self.left());
-        loop {
+        let mut each = |mut folded: B, base: usize, mut word: u64| {
             while word != 0 {
-                folded = f(folded, self.base + word.trailing_zeros() as usize);
+                folded = f(folded, base + word.trailing_zeros() as usize);
                 word &= word - 1;
             }
-            if !self.advance() {
-                return folded;
-            }
-            word = self.word;
+            folded
+        };
+        let mut folded = each(init, self.base, self.left());
+        let first = self.next_word();
+        for (k, word) in std::mem::take(&mut self.whole).enumerate() {
+            folded = each(folded, 64 * (first + k), u64::from_le_bytes(*word));
         }
+        while self.advance() {
+            folded = each(folded, self.base, self.word);
+        }
+        folded
     }
 }
 
