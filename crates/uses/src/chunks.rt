@@ -23,7 +23,8 @@ pub fn filtered<T: Copy>(
 {
     laws::choosing_by_chunks::<T>();
     let mut rows = of_first.choose(alloc, first)?;
-    rows.extend_from_slice(&of_second.choose(alloc, second)?)?;
+    let more = of_second.choose(alloc, second)?;
+    rows.extend_from_slice(&more)?;
     Ok(rows)
 }
 
@@ -39,7 +40,8 @@ pub fn filtered_all<T: Copy>(alloc: Global, chunks: &[(&[T], &Mask)]) -> Result<
         [] => Ok(Vec::new(alloc)),
         [(first, mask), others @ ..] => {
             let mut rows = mask.choose(alloc, first)?;
-            rows.extend_from_slice(&filtered_all(alloc, others)?)?;
+            let more = filtered_all(alloc, others)?;
+            rows.extend_from_slice(&more)?;
             Ok(rows)
         }
     }
