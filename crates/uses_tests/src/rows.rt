@@ -1,6 +1,7 @@
 // Each file is named after what its callers do. They stand apart from the callers, since a crate with tests is
 // proved twice.
 mod filters;
+mod held;
 mod helpers;
 mod iterators;
 mod pages;
