@@ -83,9 +83,9 @@ impl PartialEq<Bitmap<'_>> for Bitmap<'_> {
             _ => (&[][..], &[][..], 0),
         };
         let rest = whole..self.len;
+        let (first, second) = (self.part(rest.clone()), other.part(rest));
         left == right
-            && self.part(rest.clone()).compared(other.part(rest), declared::row_mask_equal)
-                == Ok(true)
+            && (first.is_empty() || first.compared(second, declared::row_mask_equal) == Ok(true))
     }
 }
 
