@@ -1,5 +1,6 @@
-// `intersect_by_rank` and its other forms. The kernels and the deposits have their rows in `mask_sweeps`.
+// `intersect_by_rank` and its other forms. The kernels, and most deposits, have their rows in `mask_sweeps`.
 mod deposit;
+mod extract;
 mod path;
 mod steps;
 
