@@ -1,5 +1,5 @@
 -- What it means to extract the bits of a word at the set places of a mask word, and what holds of it.
-use Rattle.std.specs.Prelude.{ℕ, zero, suc, min, ◌+◌, ◌-◌, ◌*◌, ◌/◌, ◌%◌, ◌^◌, ◌≡◌, ◌<◌, ◌↔◌, false, List, ◌++◌, length, slice_index}
+use Rattle.std.specs.Prelude.{ℕ, zero, suc, min, ◌+◌, ◌-◌, ◌*◌, ◌/◌, ◌%◌, ◌^◌, ◌≡◌, ◌<◌, ◌↔◌, false, ◌++◌, slice_index}
 use Rattle.std.specs.Int.{bit_at}
 use Rattle.mask_bits.specs.Positions.{positions, count, repeated, chosen}
 use Rattle.mask_bits.specs.Words.{word_bits}
@@ -19,11 +19,6 @@ ExtractIsChosenValues = (source mask result : ℕ) → Extracts source mask resu
 unfoldable pub gathered : ℕ → ℕ → ℕ → ℕ
 gathered zero source mask = 0
 gathered (suc n) source mask = min (source % 2) (mask % 2) + 2 ^ (mask % 2) * gathered n (source / 2) (mask / 2)
-
--- v has eight lanes, and lane j holds f j
-pub record HasLanes (v : List ℕ) (f : ℕ → ℕ) : Type 0 where
-  pub lanes : length v ≡ 8
-  pub each : (j : ℕ) → j < 8 → slice_index v j ≡ f j
 
 -- where the mask is clear at place p, the bits above it moved down by one
 unfoldable pub closed_up : ℕ → ℕ → ℕ → ℕ

@@ -5,6 +5,7 @@ pub mod ChoosingLaws
 pub mod Combine
 pub mod Extract
 pub mod IndexLaws
+pub mod Lanes
 pub mod Laws
 pub mod Lists
 pub mod Number

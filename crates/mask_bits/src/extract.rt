@@ -19,7 +19,8 @@
 
 ghost use Rattle.std.specs.Prelude.{ℕ, ◌≡◌, ◌<◌, ◌*◌, ◌/◌, ◌%◌, ◌^◌, slice_index};
 ghost use Rattle.std.specs.Int.{bit_at};
-ghost use Rattle.mask_bits.specs.Extract.{Extracts, HasLanes, gathered, closed_up};
+ghost use Rattle.mask_bits.specs.Extract.{Extracts, gathered, closed_up};
+ghost use Rattle.mask_bits.specs.Lanes.{AreLanes};
 
 use std::simd::prelude::*;
 
@@ -77,7 +78,7 @@ fn extract_in_bytes(source: u64, mask: u64) -> u64
 // end.
 #[inline]
 fn gather_in_bytes(source: u64, mask: u64) -> [u8; 8]
-    ensures { HasLanes result
+    ensures { AreLanes 8 result
         (λ j. gathered 8 (source / 2 ^ (8 * j)) (mask / 2 ^ (8 * j))) }
 {
     let masks = bytes_of(mask);
@@ -91,7 +92,7 @@ fn gather_in_bytes(source: u64, mask: u64) -> [u8; 8]
 // The bytes of a word as lanes.
 #[inline]
 fn bytes_of(word: u64) -> u8x8
-    ensures { HasLanes result (λ j. word / 2 ^ (8 * j) % 2 ^ 8) }
+    ensures { AreLanes 8 result (λ j. word / 2 ^ (8 * j) % 2 ^ 8) }
 {
     u64x1::splat(word).to_le_bytes()
 }
@@ -103,7 +104,7 @@ fn close_up(bits: u8x8, masks: u8x8, place: u8) -> u8x8
     requires place { place < 7 }
     requires free { (j : ℕ) → j < 8 → bit_at (slice_index masks j) place ≡ 0
         → bit_at (slice_index bits j) place ≡ 0 }
-    ensures { HasLanes result
+    ensures { AreLanes 8 result
         (λ j. closed_up place (slice_index masks j) (slice_index bits j)) }
 {
     let here = u8x8::splat(1 << place);

@@ -1,5 +1,5 @@
 -- The byte-wise deposit network, one byte at a time: what each step computes, and what stands where after it.
-use Rattle.std.specs.Prelude.{ℕ, List, zero, suc, length, slice_index, ◌≡◌, ◌<◌, ◌+◌, ◌-◌, ◌*◌, ◌/◌, ◌%◌, ◌^◌, nat_eq, if◌then◌else◌, bit_and, bit_or, bit_xor, sum_by}
+use Rattle.std.specs.Prelude.{ℕ, List, zero, suc, slice_index, ◌<◌, ◌+◌, ◌-◌, ◌*◌, ◌/◌, ◌%◌, ◌^◌, nat_eq, if◌then◌else◌, bit_and, bit_or, bit_xor, sum_by}
 use Rattle.std.specs.Int.{bit_at}
 use Rattle.std.specs.List.{range_with_len}
 
@@ -14,11 +14,6 @@ byte_of_two words j = byte_at (slice_index words (j / 8)) (j % 8)
 -- what holds of each byte of two words
 abbrev pub EachLane : (ℕ → Type 0) → Type 0
 EachLane P = (j : ℕ) → j < 16 → P j
-
--- v has a lane for each byte of two words, and lane j holds f j
-pub record HasLanes (v : List ℕ) (f : ℕ → ℕ) : Type 0 where
-  pub lanes : length v ≡ 16
-  pub each : EachLane (λ j. slice_index v j ≡ f j)
 
 -- ---- where the bits of a mask byte stand
 

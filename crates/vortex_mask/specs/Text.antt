@@ -4,7 +4,6 @@ use Rattle.std.specs.Fmt.{decimal}
 use Rattle.mask_bits.specs.Buffer.{values}
 use Rattle.mask_bits.specs.Positions.{count}
 use Rattle.mask_bits.specs.Text.{digit}
-use Rattle.vortex_mask.specs.MaskValues.{Contents}
 use Rattle.vortex_mask.specs.declared.mask.Mask.{Mask}
 use Rattle.vortex_mask.specs.declared.mask.Mask.TheVariants.{AllTrue, AllFalse, Values}
 

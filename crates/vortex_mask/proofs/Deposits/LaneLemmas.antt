@@ -1,13 +1,13 @@
 -- Vectors of the bytes of two words, lane by lane.
-use Rattle.std.proofs.Common.{◌≡◌, ℕ, zero, suc, ◌+◌, ◌-◌, ◌*◌, ◌/◌, ◌%◌, ◌^◌, ◌<◌, ◌≤◌, ◌⊎◌, inl, inr, List, [], ◌∷◌, length, get_or, map, replicate, refl, sym, ap, ap₂, subst, ◌∙◌, arith, w8, bit_and, Fits, count_ones, pow-add, pow-suc}
+use Rattle.std.proofs.Common.{◌≡◌, ℕ, zero, suc, ◌+◌, ◌-◌, ◌*◌, ◌/◌, ◌%◌, ◌^◌, ◌<◌, ◌≤◌, ◌⊎◌, inl, inr, List, [], ◌∷◌, length, get_or, refl, sym, ap, ap₂, subst, ◌∙◌, arith, w8, bit_and, Fits, count_ones, pow-add, pow-suc}
 use Rattle.std.specs.Simd.Lanes.{zip2, Each1, number_l, digits_l, chunk}
-use Rattle.std.proofs.lemmas.Simd.{length-zip2, get_or-zip2, get_or-replicate, length-swz_l, get_or-swz_l_below, swz_l, SwzOk, SwzOk-from_below, Each1-from_get_or, Each1-get_or, Each1-chunk, get_or-chunk, get_or_wider, get_or_narrower}
-use Rattle.std.proofs.lemmas.List.{length-map, get_or-map}
+use Rattle.std.proofs.lemmas.Simd.{length-swz_l, get_or-swz_l_below, swz_l, SwzOk, SwzOk-from_below, Each1-from_get_or, Each1-get_or, Each1-chunk, get_or-chunk, get_or_wider, get_or_narrower}
 use Rattle.std.proofs.lemmas.Nat.{shr-shr, shl-shr, and_mask, ones-le}
 use Rattle.std.proofs.lemmas.Bool.{cases_lt}
 use Rattle.std.proofs.Math.Nat.{zero-div}
 use lib.Pow.{field, mod-mod-pow}
-use Rattle.vortex_mask.specs.Bytes.{byte_at, HasLanes, EachLane, byte_of_two, landed_in}
+use Rattle.mask_bits.specs.Lanes.{AreLanes}
+use Rattle.vortex_mask.specs.Bytes.{byte_at, EachLane, byte_of_two, landed_in}
 use Rattle.vortex_mask.proofs.Deposits.ByteCountLemmas.{summed, ones_below-byte, Deposits-from_bytes}
 use Rattle.vortex_mask.proofs.Deposits.ByteLemmas.{byte_at-lt, byte_at-zero, byte_at-suc}
 use Rattle.vortex_mask.proofs.Deposits.NetworkLemmas.{deposit_alike, landed_in-lt}
@@ -15,48 +15,19 @@ use Rattle.vortex_mask.proofs.Deposits.DepositLemmas.{deposit}
 use Rattle.vortex_mask.proofs.Deposits.SetPlaceLemmas.{ones_below, ones_below-le}
 use Rattle.vortex_mask.specs.Deposit.{Deposits}
 
--- ---- what an operator leaves in each lane
-
-pub HasLanes-itself : (v : List ℕ) → length v ≡ 16 → HasLanes v (λ j. get_or v j 0)
-HasLanes-itself v long = record { lanes = long; each = λ j l. refl }
-
-pub HasLanes-map : (f : ℕ → ℕ) {a : List ℕ} {g : ℕ → ℕ} → HasLanes a g → HasLanes (map f a) (λ j. f (g j))
-HasLanes-map f {a} {g} h =
-    let long = h.lanes in
-    record {
-      lanes = length-map a f ∙ long;
-      each = λ j l. get_or-map f a j 0 0 (omega arith) ∙ ap f (h.each j l);
-    }
-
-pub HasLanes-zip2 : (f : ℕ → ℕ → ℕ) {a b : List ℕ} {g h : ℕ → ℕ} → HasLanes a g → HasLanes b h → HasLanes (zip2 f a b) (λ j. f (g j) (h j))
-HasLanes-zip2 f {a} {b} {g} {h} p q =
-    let pl = p.lanes in
-    let ql = q.lanes in
-    record {
-      lanes = length-zip2 f a b (pl ∙ sym ql) ∙ pl;
-      each = λ j l. get_or-zip2 f a b j 0 0 0 (omega arith) (omega arith) ∙ ap₂ f (p.each j l) (q.each j l);
-    }
-
-pub HasLanes-splat : (x : ℕ) → HasLanes (replicate 16 x) (λ j. x)
-HasLanes-splat x = record { lanes = refl; each = λ j l. get_or-replicate 16 j x 0 l }
-
--- the same lanes said otherwise
-pub HasLanes-same : {v : List ℕ} {f g : ℕ → ℕ} → HasLanes v f → EachLane (λ j. f j ≡ g j) → HasLanes v g
-HasLanes-same h e = record { lanes = h.lanes; each = λ j l. h.each j l ∙ e j l }
-
 pub EachLane-fits : (v : List ℕ) → length v ≡ 16 → Each1 (Fits w8) v → EachLane (λ j. get_or v j 0 < 256)
 EachLane-fits v long fits = λ j l. (Each1-get_or (Fits w8) v j 0 (omega arith) fits).fits
 
 -- ---- lanes by their numbers
 
-module _ (js : List ℕ) (f : ℕ → ℕ) (h : HasLanes js f) (small : EachLane (λ j. f j < 16)) where
+module _ (js : List ℕ) (f : ℕ → ℕ) (h : AreLanes 16 js f) (small : EachLane (λ j. f j < 16)) where
   pub SwzOk-lanes : SwzOk w8 16 16 0 js
   SwzOk-lanes =
       let long = h.lanes in
       SwzOk-from_below w8 16 1 16 0 js refl (omega arith) (Each1-from_get_or (λ j. j < 16) js 0 (λ i l. omega (arith, h.each i (omega arith), small i (omega arith))))
 
-  pub HasLanes-swz_l : (v : List ℕ) → HasLanes (swz_l w8 16 v 0 js) (λ j. get_or v (f j) 0)
-  HasLanes-swz_l v =
+  pub AreLanes-swz_l : (v : List ℕ) → AreLanes 16 (swz_l w8 16 v 0 js) (λ j. get_or v (f j) 0)
+  AreLanes-swz_l v =
       let long = h.lanes in
       record {
         lanes = length-swz_l w8 16 v 0 js ∙ long;
@@ -81,8 +52,8 @@ byte_at-is w i = ap (λ x. w / x % 256) (pow_256 i)
 pub lane_is : (j : ℕ) → 8 * (j / 8) + j % 8 ≡ j
 lane_is j = omega arith
 
-pub HasLanes-words : (words : List ℕ) → Each1 (λ w. w < 2 ^ 64) words → HasLanes (digits_l 256 16 (number_l (2 ^ 64) words)) (byte_of_two words)
-HasLanes-words words fit = record {
+pub AreLanes-words : (words : List ℕ) → Each1 (λ w. w < 2 ^ 64) words → AreLanes 16 (digits_l 256 16 (number_l (2 ^ 64) words)) (byte_of_two words)
+AreLanes-words words fit = record {
   lanes = refl;
   each = λ j l.
       ap (λ k. get_or (digits_l 256 16 (number_l (2 ^ 64) words)) k 0) (sym (lane_is j))
@@ -93,11 +64,11 @@ byte_at_none : (i : ℕ) → byte_at 0 i ≡ 0
 unfolding byte_at
 byte_at_none i = ap (λ x. x % 256) (zero-div (2 ^ (8 * i)))
 
-pub bytes_fit : {v : List ℕ} (words : List ℕ) → HasLanes v (byte_of_two words) → EachLane (λ j. get_or v j 0 < 256)
+pub bytes_fit : {v : List ℕ} (words : List ℕ) → AreLanes 16 v (byte_of_two words) → EachLane (λ j. get_or v j 0 < 256)
 bytes_fit {v} words h = λ j l. subst (λ x. x < 256) (sym (h.each j l)) (byte_at-lt (get_or words (j / 8) 0) (j % 8))
 
 -- what a stage has moved leaves room for its way back
-pub landed_fit : (s : ℕ) (v : List ℕ) {l : List ℕ} → s < 3 → EachLane (λ j. get_or v j 0 < 256) → HasLanes l (λ j. landed_in s (get_or v j 0)) → EachLane (λ j. get_or l j 0 < 2 ^ (8 - 2 ^ s))
+pub landed_fit : (s : ℕ) (v : List ℕ) {l : List ℕ} → s < 3 → EachLane (λ j. get_or v j 0 < 256) → AreLanes 16 l (λ j. landed_in s (get_or v j 0)) → EachLane (λ j. get_or l j 0 < 2 ^ (8 - 2 ^ s))
 landed_fit s v {l} few fit h = λ j i. subst (λ x. x < 2 ^ (8 - 2 ^ s)) (sym (h.each j i)) (landed_in-lt s (get_or v j 0) few (fit j i))
 
 -- byte i of a number by its bytes
@@ -187,8 +158,8 @@ sums_at (x ∷ y ∷ z ∷ zs) long w h = absurd (omega arith)
 
 -- ---- bytes that fit
 
-pub HasLanes-fit : {v : List ℕ} {f : ℕ → ℕ} → HasLanes v f → EachLane (λ j. f j < 256) → Each1 (Fits w8) v
-HasLanes-fit {v} {f} h small =
+pub AreLanes-fit : {v : List ℕ} {f : ℕ → ℕ} → AreLanes 16 v f → EachLane (λ j. f j < 256) → Each1 (Fits w8) v
+AreLanes-fit {v} {f} h small =
     let long = h.lanes in
     Each1-from_get_or (Fits w8) v 0 (λ i l. record { fits = subst (λ x. x < 256) (sym (h.each i (omega arith))) (small i (omega arith)) })
 

@@ -1,23 +1,33 @@
--- Vectors of the eight bytes of a word, lane by lane, and how the bits of a byte close up.
-use Rattle.std.proofs.Common.{◌≡◌, ℕ, zero, suc, ◌+◌, ◌-◌, ◌*◌, ◌/◌, ◌%◌, ◌^◌, ◌<◌, inl, inr, List, [], ◌∷◌, length, get_or, replicate, refl, sym, ap, ap₂, ◌∙◌, arith, w8, bit_and, Fits, pow-add, pow-suc}
+-- Vectors lane by lane, those of the eight bytes of a word, and how the bits of a byte close up.
+use Rattle.std.proofs.Common.{◌≡◌, ℕ, zero, suc, ◌+◌, ◌-◌, ◌*◌, ◌/◌, ◌%◌, ◌^◌, ◌<◌, inl, inr, List, [], ◌∷◌, length, get_or, map, replicate, refl, sym, ap, ap₂, ◌∙◌, arith, w8, bit_and, Fits, pow-add, pow-suc}
 use Rattle.std.specs.Int.{bit_at}
 use Rattle.std.specs.Simd.Lanes.{zip2, Each1, number_l, digits_l}
-use Rattle.std.proofs.lemmas.Simd.{length-zip2, get_or-zip2, get_or-replicate, Each1-get_or, get_or_narrower}
+use Rattle.std.proofs.lemmas.Simd.{length-zip2, get_or-zip2, length-replicate, get_or-replicate, Each1-get_or, get_or_narrower}
 use Rattle.std.proofs.lemmas.Nat.{pow_pos, shr-shr, shr_split, one_shl}
 use Rattle.std.proofs.lemmas.Nat.Bits.{bit_at-lt, and_pow, and_high_mask}
 use Rattle.std.specs.Int.Bits.{and_zero_r}
 use Rattle.std.proofs.Math.Nat.{mul_assoc}
 use Rattle.std.proofs.Math.Pow.{pow-lt}
 use Rattle.std.proofs.lemmas.Bool.{cases_lt}
-use Rattle.mask_bits.specs.Extract.{HasLanes, closed_up}
+use Rattle.std.proofs.lemmas.List.{length-map, get_or-map}
+use Rattle.mask_bits.specs.Extract.{closed_up}
+use Rattle.mask_bits.specs.Lanes.{AreLanes}
 
 -- ---- what an operator leaves in each lane
 
-pub HasLanes-itself : (v : List ℕ) → length v ≡ 8 → HasLanes v (λ j. get_or v j 0)
-HasLanes-itself v long = record { lanes = long; each = λ j l. refl }
+pub AreLanes-itself : (n : ℕ) (v : List ℕ) → length v ≡ n → AreLanes n v (λ j. get_or v j 0)
+AreLanes-itself n v long = record { lanes = long; each = λ j l. refl }
 
-pub HasLanes-zip2 : (f : ℕ → ℕ → ℕ) {a b : List ℕ} {g h : ℕ → ℕ} → HasLanes a g → HasLanes b h → HasLanes (zip2 f a b) (λ j. f (g j) (h j))
-HasLanes-zip2 f {a} {b} {g} {h} p q =
+pub AreLanes-map : {n : ℕ} (f : ℕ → ℕ) {a : List ℕ} {g : ℕ → ℕ} → AreLanes n a g → AreLanes n (map f a) (λ j. f (g j))
+AreLanes-map f {a} {g} h =
+    let long = h.lanes in
+    record {
+      lanes = length-map a f ∙ long;
+      each = λ j l. get_or-map f a j 0 0 (omega arith) ∙ ap f (h.each j l);
+    }
+
+pub AreLanes-zip2 : {n : ℕ} (f : ℕ → ℕ → ℕ) {a b : List ℕ} {g h : ℕ → ℕ} → AreLanes n a g → AreLanes n b h → AreLanes n (zip2 f a b) (λ j. f (g j) (h j))
+AreLanes-zip2 f {a} {b} {g} {h} p q =
     let pl = p.lanes in
     let ql = q.lanes in
     record {
@@ -25,12 +35,12 @@ HasLanes-zip2 f {a} {b} {g} {h} p q =
       each = λ j l. get_or-zip2 f a b j 0 0 0 (omega arith) (omega arith) ∙ ap₂ f (p.each j l) (q.each j l);
     }
 
-pub HasLanes-splat : (x : ℕ) → HasLanes (replicate 8 x) (λ j. x)
-HasLanes-splat x = record { lanes = refl; each = λ j l. get_or-replicate 8 j x 0 l }
+pub AreLanes-splat : (n x : ℕ) → AreLanes n (replicate n x) (λ j. x)
+AreLanes-splat n x = record { lanes = length-replicate n x; each = λ j l. get_or-replicate n j x 0 l }
 
 -- the same lanes said otherwise
-pub HasLanes-same : {v : List ℕ} {f g : ℕ → ℕ} → HasLanes v f → ((j : ℕ) → j < 8 → f j ≡ g j) → HasLanes v g
-HasLanes-same h e = record { lanes = h.lanes; each = λ j l. h.each j l ∙ e j l }
+pub AreLanes-same : {n : ℕ} {v : List ℕ} {f g : ℕ → ℕ} → AreLanes n v f → ((j : ℕ) → j < n → f j ≡ g j) → AreLanes n v g
+AreLanes-same h e = record { lanes = h.lanes; each = λ j l. h.each j l ∙ e j l }
 
 pub lane-fits : (v : List ℕ) (j : ℕ) → length v ≡ 8 → Each1 (Fits w8) v → j < 8 → get_or v j 0 < 256
 lane-fits v j long fits l = (Each1-get_or (Fits w8) v j 0 (omega arith) fits).fits
@@ -43,8 +53,8 @@ pow_256 (suc i) =
     let e : 8 * suc i ≡ 8 * i + 8 = omega arith in
     ap (λ k. 2 ^ k) e ∙ omega (arith, pow-add 2 (8 * i) 8, pow-suc 256 i, pow_256 i)
 
-pub HasLanes-word : (w : ℕ) → w < 2 ^ 64 → HasLanes (digits_l 256 8 (number_l (2 ^ 64) (w ∷ []))) (λ j. w / 2 ^ (8 * j) % 2 ^ 8)
-HasLanes-word w fits = record {
+pub AreLanes-word : (w : ℕ) → w < 2 ^ 64 → AreLanes 8 (digits_l 256 8 (number_l (2 ^ 64) (w ∷ []))) (λ j. w / 2 ^ (8 * j) % 2 ^ 8)
+AreLanes-word w fits = record {
   lanes = refl;
   each = λ j l.
       let own : 8 * 0 + j ≡ j = omega arith in

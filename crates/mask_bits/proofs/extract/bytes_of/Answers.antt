@@ -1,5 +1,5 @@
-use Rattle.mask_bits.proofs.Lists.Words.LaneLemmas.{HasLanes-word}
+use Rattle.mask_bits.proofs.Lists.Words.LaneLemmas.{AreLanes-word}
 use Rattle.mask_bits.proofs.extract.bytes_of.Goals as goal
 
 pub returns : goal.returns
-returns c = HasLanes-word c.args.word c.ranges.word.fits
+returns c = AreLanes-word c.args.word c.ranges.word.fits

@@ -40,7 +40,8 @@
 ghost use Rattle.std.specs.Prelude.{◌≡◌, ℕ, ◌+◌, ◌-◌, ◌*◌, ◌/◌, ◌%◌, ◌^◌, ◌<◌, ◌≤◌, slice_index, length, count_ones};
 ghost use Rattle.mask_bits.specs.Positions.{count_below};
 ghost use Rattle.mask_bits.specs.Words.{word_bits};
-ghost use Rattle.vortex_mask.specs.Bytes.{EachLane, HasLanes, byte_of_two, packed_after, landed_in, odd_places, moved_down, with_moved, halved, moved_up};
+ghost use Rattle.mask_bits.specs.Lanes.{AreLanes};
+ghost use Rattle.vortex_mask.specs.Bytes.{EachLane, byte_of_two, packed_after, landed_in, odd_places, moved_down, with_moved, halved, moved_up};
 ghost use Rattle.vortex_mask.specs.Deposit.{Deposits};
 
 use std::simd::prelude::*;
@@ -72,7 +73,7 @@ pub(super) fn deposit_two_bytewise(sources: [u64; 2], masks: [u64; 2]) -> [u64; 
 // The bytes of two words as lanes.
 #[inline(always)]
 fn bytes_of(words: u64x2) -> u8x16
-    ensures { HasLanes result (byte_of_two words) }
+    ensures { AreLanes 16 result (byte_of_two words) }
 {
     words.to_le_bytes()
 }
@@ -89,7 +90,7 @@ fn words_of(lanes: u8x16) -> u64x2
 // In each lane, the number of set bits in all lower bytes of its word.
 #[inline(always)]
 fn counts_below(masks: u64x2) -> u8x16
-    ensures { HasLanes result
+    ensures { AreLanes 16 result
         (λ j. count_below (word_bits (slice_index masks (j / 8))) (8 * (j % 8))) }
 {
     bytes_of(sums_below(words_of(bytes_of(masks).count_ones())))
@@ -113,7 +114,7 @@ fn sums_below(words: u64x2) -> u64x2
 #[inline(always)]
 fn odd_zeros(zeros: u8x16, stage: u8) -> u8x16
     requires { stage < 3 }
-    ensures { HasLanes result (λ j. odd_places (2 ^ stage) (slice_index zeros j)) }
+    ensures { AreLanes 16 result (λ j. odd_places (2 ^ stage) (slice_index zeros j)) }
 {
     let mut parity = zeros;
     for doubling in stage..3 {
@@ -134,11 +135,11 @@ struct Stage {
 #[inline(always)]
 fn run_stage(packed: u8x16, zeros: u8x16, stage: u8) -> Stage
     requires { stage < 3 }
-    ensures landed { HasLanes result.landed (λ j.
+    ensures landed { AreLanes 16 result.landed (λ j.
         moved_down (2 ^ stage) (slice_index packed j) (odd_places (2 ^ stage) (slice_index zeros j))) }
-    ensures packed { HasLanes result.packed (λ j.
+    ensures packed { AreLanes 16 result.packed (λ j.
         with_moved (2 ^ stage) (slice_index packed j) (odd_places (2 ^ stage) (slice_index zeros j))) }
-    ensures zeros { HasLanes result.zeros (λ j.
+    ensures zeros { AreLanes 16 result.zeros (λ j.
         halved (2 ^ stage) (slice_index zeros j) (odd_places (2 ^ stage) (slice_index zeros j))) }
 {
     let step = u8x16::splat(1 << stage);
@@ -165,11 +166,11 @@ struct Packing {
 // stage has moved.
 #[inline(always)]
 fn compress(mask: u8x16) -> Packing
-    ensures places { HasLanes result.packed (λ j. packed_after 3 (slice_index mask j)) }
-    ensures full { HasLanes result.packed (λ j. 2 ^ count_ones (slice_index mask j) - 1) }
-    ensures landed_0 { HasLanes result.landed_0 (λ j. landed_in 0 (slice_index mask j)) }
-    ensures landed_1 { HasLanes result.landed_1 (λ j. landed_in 1 (slice_index mask j)) }
-    ensures landed_2 { HasLanes result.landed_2 (λ j. landed_in 2 (slice_index mask j)) }
+    ensures places { AreLanes 16 result.packed (λ j. packed_after 3 (slice_index mask j)) }
+    ensures full { AreLanes 16 result.packed (λ j. 2 ^ count_ones (slice_index mask j) - 1) }
+    ensures landed_0 { AreLanes 16 result.landed_0 (λ j. landed_in 0 (slice_index mask j)) }
+    ensures landed_1 { AreLanes 16 result.landed_1 (λ j. landed_in 1 (slice_index mask j)) }
+    ensures landed_2 { AreLanes 16 result.landed_2 (λ j. landed_in 2 (slice_index mask j)) }
 {
     let by_one = run_stage(mask, !mask, 0);
     let by_two = run_stage(by_one.packed, by_one.zeros, 1);
@@ -205,7 +206,7 @@ fn gather(words: u64x2, below: u8x16) -> u8x16
 // with a power of two and not by a number of its own.
 #[inline(always)]
 fn eight_bits(low: u8x16, high: u8x16, from: u8x16) -> u8x16
-    ensures { HasLanes result (λ j. (slice_index low j + slice_index high j * 2 ^ 8)
+    ensures { AreLanes 16 result (λ j. (slice_index low j + slice_index high j * 2 ^ 8)
         / 2 ^ (slice_index from j % 8) % 2 ^ 8) }
 {
     let powers = u8x16::from_array([128, 64, 32, 16, 8, 4, 2, 1, 128, 64, 32, 16, 8, 4, 2, 1]);
@@ -219,7 +220,7 @@ fn eight_bits(low: u8x16, high: u8x16, from: u8x16) -> u8x16
 fn move_up(lanes: u8x16, landed: u8x16, stage: u8) -> u8x16
     requires stage { stage < 3 }
     requires room { EachLane (λ j. slice_index landed j < 2 ^ (8 - 2 ^ stage)) }
-    ensures { HasLanes result (λ j.
+    ensures { AreLanes 16 result (λ j.
         moved_up (2 ^ stage) (slice_index landed j) (slice_index lanes j)) }
 {
     (lanes & !landed) | ((lanes & landed) << u8x16::splat(1 << stage))

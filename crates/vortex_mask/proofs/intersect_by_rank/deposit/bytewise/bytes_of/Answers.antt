@@ -1,7 +1,7 @@
 use Rattle.std.proofs.Common.{w64}
 use Rattle.std.proofs.lemmas.Simd.{below_from_Fits}
-use Rattle.vortex_mask.proofs.Deposits.LaneLemmas.{HasLanes-words}
+use Rattle.vortex_mask.proofs.Deposits.LaneLemmas.{AreLanes-words}
 use Rattle.vortex_mask.proofs.intersect_by_rank.deposit.bytewise.bytes_of.Goals as goal
 
 pub returns : goal.returns
-returns c = HasLanes-words c.args.words (below_from_Fits w64 c.args.words c.fits-words.1)
+returns c = AreLanes-words c.args.words (below_from_Fits w64 c.args.words c.fits-words.1)

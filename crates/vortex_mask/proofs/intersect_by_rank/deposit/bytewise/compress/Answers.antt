@@ -1,5 +1,6 @@
 use Rattle.std.proofs.Common.{ℕ, ◌<◌, ◌-◌, sym, arith, ◌∙◌, get_or}
-use Rattle.vortex_mask.proofs.Deposits.LaneLemmas.{EachLane-fits, HasLanes-itself, HasLanes-map}
+use Rattle.mask_bits.proofs.Lists.Words.LaneLemmas.{AreLanes-itself, AreLanes-map}
+use Rattle.vortex_mask.proofs.Deposits.LaneLemmas.{EachLane-fits}
 use Rattle.vortex_mask.proofs.Deposits.NetworkLemmas.{packed_after-zero, packed_after-full, zeros_before-zero, stage}
 use Rattle.vortex_mask.proofs.intersect_by_rank.deposit.bytewise.compress.Goals as goal
 
@@ -7,7 +8,7 @@ pub returns : goal.returns
 returns c =
     let m = λ (j : ℕ). get_or c.args.mask j 0 in
     let byte = EachLane-fits c.args.mask c.fits-mask.0 c.fits-mask.1 in
-    let not = HasLanes-map (λ a. 255 - a) (HasLanes-itself c.args.mask c.fits-mask.0) in
+    let not = AreLanes-map (λ a. 255 - a) (AreLanes-itself 16 c.args.mask c.fits-mask.0) in
     let one = c.run_stage-by_one.ensures in
     let two = c.run_stage-by_two.ensures in
     let four = c.run_stage-by_four.ensures in

@@ -4,16 +4,17 @@ use Rattle.mask_bits.proofs.Lists.Words.WordLemmas.{count_below-word_bits}
 use Rattle.vortex_mask.specs.Bytes.{byte_at, byte_of_two}
 use Rattle.vortex_mask.proofs.Deposits.ByteCountLemmas.{summed_is}
 use Rattle.vortex_mask.proofs.Deposits.ByteLemmas.{byte_at-lt}
-use Rattle.vortex_mask.proofs.Deposits.LaneLemmas.{HasLanes-map, HasLanes-fit}
+use Rattle.mask_bits.proofs.Lists.Words.LaneLemmas.{AreLanes-map}
+use Rattle.vortex_mask.proofs.Deposits.LaneLemmas.{AreLanes-fit}
 use Rattle.vortex_mask.proofs.intersect_by_rank.deposit.bytewise.counts_below.Goals as goal
 
 pub overflow_cast-bytes_of : goal.overflow_cast-bytes_of
-overflow_cast-bytes_of c = HasLanes-fit (HasLanes-map count_ones c.bytes_of.ensures) (λ j h. omega (arith, ones-le 8 (byte_of_two c.args.masks j) (byte_at-lt _ _)))
+overflow_cast-bytes_of c = AreLanes-fit (AreLanes-map count_ones c.bytes_of.ensures) (λ j h. omega (arith, ones-le 8 (byte_of_two c.args.masks j) (byte_at-lt _ _)))
 
 pub returns : goal.returns
 returns c =
     let masks = c.args.masks in
-    let counts = HasLanes-map (λ n. n) (HasLanes-map count_ones c.bytes_of.ensures) in
+    let counts = AreLanes-map (λ n. n) (AreLanes-map count_ones c.bytes_of.ensures) in
     let at : (k i : ℕ) → k < 2 → i < 8 → byte_at (get_or c.words_of.result k 0) i ≡ count_ones (byte_at (get_or masks k 0) i) =
     λ k i h l.
     let d : (8 * k + i) / 8 ≡ k = omega arith in

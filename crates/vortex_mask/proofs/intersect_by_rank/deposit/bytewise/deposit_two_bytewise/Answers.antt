@@ -2,7 +2,8 @@ use Rattle.std.proofs.Common.{◌≡◌, ◌/◌, ◌%◌, ◌*◌, ◌+◌, ◌
 use Rattle.mask_bits.proofs.Lists.Words.WordLemmas.{count_below-word_bits}
 use Rattle.vortex_mask.specs.Bytes.{byte_of_two, moved_up}
 use Rattle.vortex_mask.proofs.Deposits.DepositLemmas.{deposit}
-use Rattle.vortex_mask.proofs.Deposits.LaneLemmas.{HasLanes-itself, HasLanes-zip2, bytes_fit, landed_fit, Deposits-from_lanes, gathered_alike}
+use Rattle.mask_bits.proofs.Lists.Words.LaneLemmas.{AreLanes-itself, AreLanes-zip2}
+use Rattle.vortex_mask.proofs.Deposits.LaneLemmas.{bytes_fit, landed_fit, Deposits-from_lanes, gathered_alike}
 use Rattle.vortex_mask.proofs.Deposits.NetworkLemmas.{moved_back}
 use Rattle.vortex_mask.proofs.Deposits.SetPlaceLemmas.{ones_below, ones_below-le}
 use Rattle.vortex_mask.proofs.intersect_by_rank.deposit.bytewise.deposit_two_bytewise.Goals as goal
@@ -26,7 +27,7 @@ returns c =
     let masks = c.args.masks in
     let sources = c.args.sources in
     let packing = c.compress-packing.ensures in
-    let taken = HasLanes-zip2 bit_and (HasLanes-itself c.gather-bits.result c.gather-bits.ensures.lanes) packing.places in
+    let taken = AreLanes-zip2 bit_and (AreLanes-itself 16 c.gather-bits.result c.gather-bits.ensures.lanes) packing.places in
     let each = λ (j : ℕ) (h : j < 16).
     let m = get_or c.bytes_of.result j 0 in
     let g = get_or c.gather-bits.result j 0 in

@@ -1,8 +1,10 @@
 use Rattle.std.proofs.Common.{◌≡◌, ◌+◌, ◌*◌, ◌/◌, ◌%◌, ◌^◌, ◌<◌, ℕ, T, eqb, eqb→eq, ap, ap₂, ◌∙◌, bit_and, arith, get_or, List, [], ◌∷◌, length, replicate, refl}
 use Rattle.std.specs.Simd.Lanes.{zip2}
 use Rattle.std.proofs.lemmas.Nat.{and_mask}
-use Rattle.vortex_mask.specs.Bytes.{HasLanes, EachLane, byte_at}
-use Rattle.vortex_mask.proofs.Deposits.LaneLemmas.{HasLanes-itself, HasLanes-zip2, HasLanes-splat, HasLanes-same, SwzOk-lanes, HasLanes-swz_l, eight_from}
+use Rattle.mask_bits.specs.Lanes.{AreLanes}
+use Rattle.vortex_mask.specs.Bytes.{EachLane, byte_at}
+use Rattle.mask_bits.proofs.Lists.Words.LaneLemmas.{AreLanes-itself, AreLanes-zip2, AreLanes-splat, AreLanes-same}
+use Rattle.vortex_mask.proofs.Deposits.LaneLemmas.{SwzOk-lanes, AreLanes-swz_l, eight_from}
 use Rattle.vortex_mask.proofs.Deposits.NetworkLemmas.{all_below, every_below}
 use Rattle.vortex_mask.proofs.intersect_by_rank.deposit.bytewise.gather.Goals as goal
 
@@ -20,15 +22,15 @@ module _ (below : List ℕ) (long : length below ≡ 16) (inside : EachLane (λ 
   abbrev at : List ℕ
   at = zip2 (λ a b. (a + b) % 2 ^ 8) base (zip2 (λ a b. a / 2 ^ b) below (replicate 16 3))
 
-  firsts : HasLanes at (λ j. 8 * (j / 8) + get_or below j 0 / 8)
+  firsts : AreLanes 16 at (λ j. 8 * (j / 8) + get_or below j 0 / 8)
   firsts =
-      HasLanes-same (HasLanes-zip2 (λ a b. (a + b) % 2 ^ 8) (HasLanes-itself base refl) (HasLanes-zip2 (λ a b. a / 2 ^ b) (HasLanes-itself below long) (HasLanes-splat 3)))
+      AreLanes-same (AreLanes-zip2 (λ a b. (a + b) % 2 ^ 8) (AreLanes-itself 16 base refl) (AreLanes-zip2 (λ a b. a / 2 ^ b) (AreLanes-itself 16 below long) (AreLanes-splat 16 3)))
       (λ j h. omega (arith, base_at j h, inside j h))
 
   -- and of the second
-  seconds : HasLanes (zip2 bit_and (zip2 (λ a b. (a + b) % 2 ^ 8) at (replicate 16 1)) (replicate 16 15)) (λ j. (8 * (j / 8) + get_or below j 0 / 8 + 1) % 16)
+  seconds : AreLanes 16 (zip2 bit_and (zip2 (λ a b. (a + b) % 2 ^ 8) at (replicate 16 1)) (replicate 16 15)) (λ j. (8 * (j / 8) + get_or below j 0 / 8 + 1) % 16)
   seconds =
-      HasLanes-same (HasLanes-zip2 bit_and (HasLanes-zip2 (λ a b. (a + b) % 2 ^ 8) firsts (HasLanes-splat 1)) (HasLanes-splat 15))
+      AreLanes-same (AreLanes-zip2 bit_and (AreLanes-zip2 (λ a b. (a + b) % 2 ^ 8) firsts (AreLanes-splat 16 1)) (AreLanes-splat 16 15))
       (λ j h. and_mask ((8 * (j / 8) + get_or below j 0 / 8 + 1) % 2 ^ 8) 4 ∙ omega (arith, inside j h))
 
 pub swizzle : goal.swizzle
@@ -47,8 +49,8 @@ returns-clause-bits c = λ j h n few room.
     let at = 8 * (j / 8) + b / 8 in
     let bytes = c.bytes_of-bytes.result in
     let inside : b < 64 = c.requires j h in
-    let low = (HasLanes-swz_l _ _ (firsts c.args.below c.fits-below.0 c.requires) (λ i l. omega (arith, c.requires i l)) bytes).each j h ∙ c.bytes_of-bytes.ensures.each at (omega arith) in
-    let high = (HasLanes-swz_l _ _ (seconds c.args.below c.fits-below.0 c.requires) (λ i l. omega arith) bytes).each j h ∙ c.bytes_of-bytes.ensures.each ((at + 1) % 16) (omega arith) in
+    let low = (AreLanes-swz_l _ _ (firsts c.args.below c.fits-below.0 c.requires) (λ i l. omega (arith, c.requires i l)) bytes).each j h ∙ c.bytes_of-bytes.ensures.each at (omega arith) in
+    let high = (AreLanes-swz_l _ _ (seconds c.args.below c.fits-below.0 c.requires) (λ i l. omega arith) bytes).each j h ∙ c.bytes_of-bytes.ensures.each ((at + 1) % 16) (omega arith) in
     let d : at / 8 ≡ j / 8 = omega arith in
     let m : at % 8 ≡ b / 8 = omega arith in
     ap (λ x. x % 2 ^ n) (c.eight_bits.ensures.each j h)

@@ -2,7 +2,7 @@ use Rattle.std.proofs.Common.{◌≡◌, ◌+◌, ◌-◌, ◌*◌, ◌%◌, ◌
 use Rattle.std.proofs.lemmas.Nat.{and_le_r, shl_below}
 use Rattle.std.proofs.lemmas.Simd.{shifts_fit_splat}
 use Rattle.vortex_mask.specs.Bytes.{moved_up}
-use Rattle.vortex_mask.proofs.Deposits.LaneLemmas.{HasLanes-itself, HasLanes-map, HasLanes-zip2, HasLanes-splat, HasLanes-same}
+use Rattle.mask_bits.proofs.Lists.Words.LaneLemmas.{AreLanes-itself, AreLanes-map, AreLanes-zip2, AreLanes-splat, AreLanes-same}
 use Rattle.vortex_mask.proofs.Deposits.NetworkLemmas.{shift_is, shift_small}
 use Rattle.vortex_mask.proofs.intersect_by_rank.deposit.bytewise.move_up.Goals as goal
 
@@ -17,10 +17,10 @@ returns c =
     let s = 2 ^ c.args.stage in
     let e : 8 - s + s ≡ 8 = omega (arith, shift_small c.args.stage c.requires.stage) in
     let moving = λ (j : ℕ). bit_and (get_or w j 0) (get_or l j 0) in
-    let wl = HasLanes-itself w c.fits-lanes.0 in
-    let ll = HasLanes-itself l c.fits-landed.0 in
-    HasLanes-same
-    (HasLanes-zip2 bit_or (HasLanes-zip2 bit_and wl (HasLanes-map (λ a. 255 - a) ll)) (HasLanes-zip2 (λ a b. a * 2 ^ b % 2 ^ 8) (HasLanes-zip2 bit_and wl ll) (HasLanes-splat _)))
+    let wl = AreLanes-itself 16 w c.fits-lanes.0 in
+    let ll = AreLanes-itself 16 l c.fits-landed.0 in
+    AreLanes-same
+    (AreLanes-zip2 bit_or (AreLanes-zip2 bit_and wl (AreLanes-map (λ a. 255 - a) ll)) (AreLanes-zip2 (λ a b. a * 2 ^ b % 2 ^ 8) (AreLanes-zip2 bit_and wl ll) (AreLanes-splat 16 _)))
     (λ j h.
     let room : moving j < 2 ^ (8 - s) = lt_of_le_of_lt (and_le_r (get_or w j 0) (get_or l j 0)) (c.requires.room j h) in
     let fits : moving j * 2 ^ s < 2 ^ 8 = subst (λ n. moving j * 2 ^ s < 2 ^ n) e (shl_below (moving j) (8 - s) s room) in

@@ -1,6 +1,7 @@
 use Rattle.std.proofs.Common.{◌+◌, ◌-◌, ◌*◌, ◌%◌, ◌^◌, ap, ◌∙◌, sym, arith, bit_xor, get_or}
 use Rattle.std.proofs.lemmas.Simd.{shifts_fit_splat}
-use Rattle.vortex_mask.proofs.Deposits.LaneLemmas.{HasLanes-itself, HasLanes-zip2, HasLanes-splat, EachLane-fits}
+use Rattle.mask_bits.proofs.Lists.Words.LaneLemmas.{AreLanes-itself, AreLanes-zip2, AreLanes-splat}
+use Rattle.vortex_mask.proofs.Deposits.LaneLemmas.{EachLane-fits}
 use Rattle.vortex_mask.proofs.Deposits.NetworkLemmas.{doubled, doubled-more, doubled-all, doubled-is, shift_is, shift_small}
 use Rattle.vortex_mask.proofs.intersect_by_rank.deposit.bytewise.odd_zeros.Goals as goal
 
@@ -11,8 +12,8 @@ pub loop-doubling-preserved : goal.loop-doubling-preserved
 loop-doubling-preserved c =
     let p = c.loop-doubling.parity in
     let d = c.loop-doubling.doubling in
-    let own = HasLanes-itself p c.loop-doubling.invariant.0 in
-    let next = HasLanes-zip2 bit_xor own (HasLanes-zip2 (λ a b. a * 2 ^ b % 2 ^ 8) own (HasLanes-splat (1 * 2 ^ d % 2 ^ 8))) in (
+    let own = AreLanes-itself 16 p c.loop-doubling.invariant.0 in
+    let next = AreLanes-zip2 bit_xor own (AreLanes-zip2 (λ a b. a * 2 ^ b % 2 ^ 8) own (AreLanes-splat 16 (1 * 2 ^ d % 2 ^ 8))) in (
       next.lanes,
       λ j h.
           ap (doubled (3 - (d + 1)) (d + 1)) (next.each j h ∙ ap (λ t. bit_xor (get_or p j 0) (get_or p j 0 * 2 ^ t % 2 ^ 8)) (shift_is d (omega arith)))

@@ -1,7 +1,7 @@
 use Rattle.std.proofs.Common.{◌-◌, ◌/◌, ◌^◌, ℕ, ap, bit_and, bit_xor, arith, get_or}
 use Rattle.std.proofs.lemmas.Simd.{shifts_fit_splat}
 use Rattle.vortex_mask.specs.Bytes.{moved_down, with_moved, halved, odd_places}
-use Rattle.vortex_mask.proofs.Deposits.LaneLemmas.{HasLanes-itself, HasLanes-map, HasLanes-zip2, HasLanes-splat, HasLanes-same}
+use Rattle.mask_bits.proofs.Lists.Words.LaneLemmas.{AreLanes-itself, AreLanes-map, AreLanes-zip2, AreLanes-splat, AreLanes-same}
 use Rattle.vortex_mask.proofs.Deposits.NetworkLemmas.{shift_is, shift_small}
 use Rattle.vortex_mask.proofs.intersect_by_rank.deposit.bytewise.run_stage.Goals as goal
 
@@ -14,21 +14,21 @@ overflow_shr-result c = shifts_fit_splat 8 _ 16 _ (omega (arith, shift_is c.args
 pub returns-clause-landed : goal.returns-clause-landed
 unfolding moved_down
 returns-clause-landed c =
-    HasLanes-same (HasLanes-zip2 (λ a b. a / 2 ^ b) (HasLanes-zip2 bit_and (HasLanes-itself c.args.packed c.fits-packed.0) c.odd_zeros-odd.ensures) (HasLanes-splat _))
+    AreLanes-same (AreLanes-zip2 (λ a b. a / 2 ^ b) (AreLanes-zip2 bit_and (AreLanes-itself 16 c.args.packed c.fits-packed.0) c.odd_zeros-odd.ensures) (AreLanes-splat 16 _))
     (λ j h. ap (λ t. bit_and (get_or c.args.packed j 0) (odd_places (2 ^ c.args.stage) (get_or c.args.zeros j 0)) / 2 ^ t) (shift_is c.args.stage c.requires))
 
 pub returns-clause-packed : goal.returns-clause-packed
 unfolding with_moved
 returns-clause-packed c =
-    let own = HasLanes-itself c.args.packed c.fits-packed.0 in
-    HasLanes-zip2 bit_xor own (HasLanes-zip2 bit_xor (HasLanes-zip2 bit_and own c.odd_zeros-odd.ensures) (returns-clause-landed c))
+    let own = AreLanes-itself 16 c.args.packed c.fits-packed.0 in
+    AreLanes-zip2 bit_xor own (AreLanes-zip2 bit_xor (AreLanes-zip2 bit_and own c.odd_zeros-odd.ensures) (returns-clause-landed c))
 
 pub returns-clause-zeros : goal.returns-clause-zeros
 unfolding halved
 returns-clause-zeros c =
     let odd = λ (j : ℕ). odd_places (2 ^ c.args.stage) (get_or c.args.zeros j 0) in
-    let even = HasLanes-zip2 bit_and (HasLanes-itself c.args.zeros c.fits-zeros.0) (HasLanes-map (λ a. 255 - a) c.odd_zeros-odd.ensures) in
-    HasLanes-same (HasLanes-zip2 bit_xor even (HasLanes-zip2 (λ a b. a / 2 ^ b) even (HasLanes-splat _)))
+    let even = AreLanes-zip2 bit_and (AreLanes-itself 16 c.args.zeros c.fits-zeros.0) (AreLanes-map (λ a. 255 - a) c.odd_zeros-odd.ensures) in
+    AreLanes-same (AreLanes-zip2 bit_xor even (AreLanes-zip2 (λ a b. a / 2 ^ b) even (AreLanes-splat 16 _)))
     (λ j h.
     let e = bit_and (get_or c.args.zeros j 0) (255 - odd j) in
     ap (λ t. bit_xor e (e / 2 ^ t)) (shift_is c.args.stage c.requires))
