@@ -10,7 +10,7 @@ use mask_bits::{BitBuffer, laws};
 use mask_calls::Fault;
 use mask_calls::masks::lent::cached_by;
 use mask_calls::masks::made::{
-    from_bools, from_buffer, from_excluded_indices, from_indices, from_slices,
+    from_bools, from_buffer, from_excluded_indices, from_indices, from_rows, from_slices,
 };
 use mask_calls::masks::many::{concat, from_masks};
 use mask_calls::masks::parts::slice;
@@ -72,6 +72,7 @@ pub(crate) fn intersect_all_by_rank(
 #[derive(Clone, Copy)]
 pub(crate) enum Source {
     Bools,
+    Rows,
     Indices,
     ExcludedIndices,
     IntersectionIndices,
@@ -86,8 +87,9 @@ pub(crate) enum Source {
     At(usize, Outside),
 }
 
-pub(crate) const CONSTRUCTORS: [Source; 9] = [
+pub(crate) const CONSTRUCTORS: [Source; 10] = [
     Source::Bools,
+    Source::Rows,
     Source::Indices,
     Source::ExcludedIndices,
     Source::IntersectionIndices,
@@ -102,6 +104,7 @@ impl Source {
     pub(crate) fn name(self) -> &'static str {
         match self {
             Source::Bools => "from_bools",
+            Source::Rows => "from_rows",
             Source::Indices => "from_indices",
             Source::ExcludedIndices => "from_excluded_indices",
             Source::IntersectionIndices => "from_intersection_indices",
@@ -127,6 +130,7 @@ impl Source {
         judge.makes(plain.len(), 0);
         let mask = match self {
             Source::Bools => from_bools(judge.alloc, &plain.values),
+            Source::Rows => from_rows(judge.alloc, &plain.values),
             Source::Indices => from_indices(judge.alloc, plain.len(), &plain.indices),
             Source::Slices => of_slices(judge, plain),
             Source::ExcludedIndices => of_excluded(judge, plain),

@@ -98,6 +98,16 @@ impl Plain {
         Plain::of(judge, values).if_empty(self.is_all_true && ranks.is_all_true)
     }
 
+    // The values at the true indices of a list of this length.
+    pub(crate) fn at_rows<A: Abort>(&self, judge: &Judge<'_, A>, rows: &Plain) -> Plain {
+        let mut values: Vec<bool> = Vec::new(judge.alloc);
+        for index in &rows.indices {
+            let value = self.values.get(*index) == Some(&true);
+            judge.found("a value", values.push(value));
+        }
+        Plain::of(judge, values).if_empty(self.is_all_true)
+    }
+
     // The values, of which the first k true ones stay.
     pub(crate) fn limited<A: Abort>(&self, judge: &Judge<'_, A>, k: usize) -> Plain {
         let ranks = Plain::repeating(judge, self.count(), (usize::MAX, k)).if_empty(true);

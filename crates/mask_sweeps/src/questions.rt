@@ -33,7 +33,7 @@ pub(crate) const RANKS: usize = 2;
 // with the first value negated, one in the middle, and the last
 const NEGATED: [usize; 3] = [3, 4, 5];
 
-const CALLS: [(&'static str, Asked); 30] = [
+const CALLS: [(&'static str, Asked); 31] = [
     ("clone", Asked::One(OfOne::Clone)),
     ("not", Asked::One(OfOne::Not)),
     ("into_not", Asked::One(OfOne::IntoNot)),
@@ -73,6 +73,7 @@ const CALLS: [(&'static str, Asked); 30] = [
         Asked::List(WithList::ValidCounts),
     ),
     ("choose", Asked::List(WithList::Choose)),
+    ("choose_values", Asked::Two(OfTwo::ChooseValues, REVERSED)),
 ];
 
 // What a call has to answer. Where it is made of the list alone, the list itself says it.
@@ -258,6 +259,7 @@ fn want_of_two<A: Abort>(judge: &Judge<'_, A>, plain: &Plain, call: OfTwo, other
         OfTwo::Bitand | OfTwo::IntoBitand => Op::And,
         OfTwo::Bitor | OfTwo::IntoBitor => Op::Or,
         OfTwo::ToBitandNot | OfTwo::BitandNot => Op::AndNot,
+        OfTwo::ChooseValues => return Want::Mask(other.at_rows(judge, plain)),
         _ => return Want::Mask(plain.rank_intersection(judge, other)),
     };
     Want::Mask(plain.combined(judge, op, other))

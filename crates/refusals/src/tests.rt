@@ -15,7 +15,6 @@ mod constructors;
 mod items;
 mod kernels;
 mod masks;
-mod of_rows;
 mod plain;
 mod rows;
 mod sharing;

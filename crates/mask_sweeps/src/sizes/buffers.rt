@@ -7,7 +7,7 @@ use crate::plain::Plain;
 use crate::sweeps::bitops::Pair;
 use crate::sweeps::buffers::gives_places;
 use mask_bits::BitBuffer;
-use mask_calls::packed::Outside;
+use mask_calls::packed::{Outside, from_rows};
 use std::process::Abort;
 
 fn of_bytes<A: Abort>(judge: &Judge<'_, A>, plain: &Plain) -> BitBuffer {
@@ -24,6 +24,8 @@ fn makes<A: Abort>(judge: &Judge<'_, A>, plain: &Plain) {
         plain,
     );
     has_words(judge, "from_vec", &of_bytes(judge, plain), plain);
+    let buffer = from_rows(judge.alloc, &plain.values);
+    gives_bits(judge, "BitBuffer::from_rows", buffer, plain);
     let buffer = bits::from_indices(judge.alloc, plain.len(), &plain.indices);
     gives_bits(judge, "BitBuffer::from_indices", buffer, plain);
 }

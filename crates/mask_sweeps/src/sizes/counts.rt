@@ -64,14 +64,16 @@ fn masks_one_after_another(rt: HostRuntime) {
     of_masks(&Judge::new(&rt, rt.alloc()));
 }
 
-// Each mask of the stack leaves out one value of those that are left.
-fn narrows<A: Abort>(judge: &Judge<'_, A>, count: usize) {
-    let first = Plain::repeating(judge, count.saturating_mul(2).saturating_add(70), (5, 4));
+// One mask in so many of the stack leaves out a value of those that are left of a list of so many.
+fn narrows<A: Abort>(judge: &Judge<'_, A>, count: usize, (step, len): (usize, usize)) {
+    let first = Plain::repeating(judge, len, (5, 4));
     let mut left = first.copy(judge);
     let mut rest: Vec<Mask> = Vec::new(judge.alloc);
     for number in 0..count {
-        let ranks = Plain::repeating(judge, left.count(), (1, 1));
-        let ranks = ranks.negated_at(judge, number % 70);
+        let mut ranks = Plain::repeating(judge, left.count(), (1, 1));
+        if number.checked_rem(step) == Some(0) {
+            ranks = ranks.negated_at(judge, number % 70);
+        }
         judge.found("a list", rest.push(Source::Bools.mask(judge, &ranks)));
         left = left.rank_intersection(judge, &ranks);
     }
@@ -81,8 +83,14 @@ fn narrows<A: Abort>(judge: &Judge<'_, A>, count: usize) {
 }
 
 fn of_stacks<A: Abort>(judge: &Judge<'_, A>) {
-    for count in [0, 1, 63, 64, 65, 1_000, 1_001] {
-        narrows(judge, count);
+    for count in [0usize, 1, 63, 64, 65, 1_000, 1_001] {
+        let len = count.saturating_mul(2).saturating_add(70);
+        narrows(judge, count, (1, len));
+    }
+    for count in SIZES {
+        if count < LONGEST {
+            narrows(judge, count, (1_000, 200));
+        }
     }
 }
 

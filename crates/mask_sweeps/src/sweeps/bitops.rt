@@ -1,10 +1,11 @@
-// Boolean calls and equality at every pair of bit offsets of a byte, beside plain lists, with all
+// Boolean calls, equality and chosen values at every pair of bit offsets of a byte, beside plain lists, with all
 // bits outside the lists set, and with all of them clear.
 use crate::bits::{combined, copy_of, into_combined, own_copy};
 use crate::judge::{Generator, Judge};
 use crate::masks::{bits_at, gives_bits, has_words};
 use crate::plain::{OPS, Op, Plain, THREE_IN_FIVE};
 use mask_bits::BitBuffer;
+use mask_calls::bits::two::choose_values;
 use mask_calls::packed::Outside;
 use std::process::Abort;
 
@@ -15,12 +16,13 @@ const OUTSIDE: [(Outside, Outside); 4] = [
     (Outside::Set, Outside::Set),
 ];
 
-// Two lists of one length, and what each operation makes of them.
+// Two lists of one length, what each operation makes of them, and the second one's values at the first one's rows.
 #[derive(Drop)]
 pub(crate) struct Pair {
     pub(crate) a: Plain,
     pub(crate) b: Plain,
     wanted: Vec<(Op, Plain)>,
+    chosen: Plain,
 }
 
 impl Pair {
@@ -29,7 +31,12 @@ impl Pair {
         for op in OPS {
             judge.found("a list", wanted.push((op, a.combined(judge, op, &b))));
         }
-        Pair { a, b, wanted }
+        Pair {
+            chosen: b.at_rows(judge, &a),
+            a,
+            b,
+            wanted,
+        }
     }
 
     // Each operation on two buffers that hold these lists, which are lent.
@@ -37,6 +44,8 @@ impl Pair {
         for (op, want) in &self.wanted {
             gives_bits(judge, op.name(), combined(judge.alloc, *op, a, b), want);
         }
+        let chosen = choose_values(judge.alloc, a, b);
+        gives_bits(judge, "BitBuffer::choose_values", chosen, &self.chosen);
         let are_equal = self.a.values.as_slice() == self.b.values.as_slice();
         judge.holds("==", (*a == *b) == are_equal);
     }

@@ -1,9 +1,10 @@
-// Deposits and selections of a word: rows, and words at random beside plain loops.
+// Deposits, extracts and selections of a word: rows, and words at random beside plain loops.
 use crate::judge::{Generator, Judge};
+use mask_bits::extract::extract;
 use std::process::Abort;
 use vortex_mask::intersect_by_rank::{
-    DepositBits, Portable, PortableLoop, SelectBit, deposit_bytewise, deposit_two_holes,
-    deposit_two_lowest,
+    DepositBits, ExtractBits, Portable, PortableLoop, SelectBit, deposit_bytewise,
+    deposit_two_holes, deposit_two_lowest,
 };
 
 // By both implementations, and by the network at every mask.
@@ -126,6 +127,43 @@ fn deposits_at_random<A: Abort>(judge: &Judge<'_, A>) {
 #[test]
 fn deposits_beside_a_plain_loop(rt: HostRuntime) {
     deposits_at_random(&Judge::new(&rt, rt.alloc()));
+}
+
+// The bits at the set places, one after another.
+fn plain_extract(source: u64, mask: u64) -> u64 {
+    let mut result = 0u64;
+    let mut count = 0u32;
+    for place in 0..64u32 {
+        if (mask >> place) & 1 == 1 {
+            result |= ((source >> place) & 1) << (count % 64);
+            count = count.saturating_add(1);
+        }
+    }
+    result
+}
+
+fn extracts<A: Abort>(judge: &Judge<'_, A>, source: u64, mask: u64) {
+    let want = plain_extract(source, mask);
+    let count = mask.count_ones() as usize;
+    judge.holds(
+        "Portable::extract_bits",
+        Portable::extract_bits(source, mask, count) == want,
+    );
+    judge.holds("extract", extract(source, mask) == want);
+}
+
+fn extracts_at_random<A: Abort>(judge: &Judge<'_, A>) {
+    let mut words = Generator(0x9E37_79B9_7F4A_7C15);
+    for round in 0..20_000u32 {
+        let mask = mask_of_round(&mut words, round);
+        extracts(judge, words.next(), mask);
+        extracts(judge, u64::MAX, mask);
+    }
+}
+
+#[test]
+fn extracts_beside_a_plain_loop(rt: HostRuntime) {
+    extracts_at_random(&Judge::new(&rt, rt.alloc()));
 }
 
 fn selects<A: Abort>(judge: &Judge<'_, A>, word: u64, rank: usize, want: usize) {

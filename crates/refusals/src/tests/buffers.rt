@@ -11,10 +11,12 @@ bits.new_set 130 -> list 130 all:130
 bits.new_unset 130 -> list 130 none:130
 bits.from_indices 130 129,0,64,0 -> list 130 at:130:0,64,129
 bits.from_bools at:130:1,65,129 -> list 130 at:130:1,65,129
+bits.from_rows at:130:1,65,129 -> list 130 at:130:1,65,129
 bits.bitand part:3:at:133:2,3,66,67,130,132 part:3:at:133:0,3,67,103,132 -> list 130 at:130:0,64,129
 bits.bitor part:3:at:133:2,3,66,67,130,132 part:3:at:133:0,3,67,103,132 -> list 130 at:130:0,63,64,100,127,129
 bits.bitand_not part:3:at:133:2,3,66,67,130,132 part:3:at:133:0,3,67,103,132 -> list 130 at:130:63,127
 bits.not part:3:at:133:2,3,66,67,130,132 -> list 130 but:130:0,63,64,127,129
+bits.choose_values part:3:at:133:2,3,66,67,130,132 part:3:at:133:0,3,67,103,132 -> list 5 at:5:0,2,4
 bits.indices part:3:at:133:2,3,66,67,130,132 -> 0,63,64,127,129";
 
 #[test]

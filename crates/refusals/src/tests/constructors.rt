@@ -5,7 +5,7 @@ use super::masks::try_all;
 fn of_bits(rt: HostRuntime) {
     try_all(
         &rt,
-        "from_buffer V\nfrom_bools A\nfrom_buffer_with_slices L R",
+        "from_buffer V\nfrom_rows V\nfrom_bools A\nfrom_buffer_with_slices L R",
     );
 }
 

@@ -192,6 +192,11 @@ fn by_value_with_a_clone_held(rt: HostRuntime) {
 }
 
 #[test]
+fn chosen_values(rt: HostRuntime) {
+    try_all(&rt, "choose_values A B\nchoose_values A& B&");
+}
+
+#[test]
 fn parts(rt: HostRuntime) {
     try_all(&rt, "slice A S E");
     try_some(&rt, "limit A 2\nlimit A& 2\nto_limited A 2\ngroups A 4");

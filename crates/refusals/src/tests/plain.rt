@@ -127,6 +127,7 @@ impl<'a> Plain<'a> {
                 self.pointwise(alloc, a)
             }
             "concat" | "from_masks" => self.concat(alloc, &a),
+            "choose_values" => self.at_rows(alloc, &a),
             _ => Ok(a),
         }
     }
@@ -169,6 +170,17 @@ impl<'a> Plain<'a> {
             *value = *it;
         }
         Ok(whole)
+    }
+
+    // The other list's values where this mask's are true.
+    fn at_rows(self, alloc: Global, a: &[bool]) -> Result<Vec<bool>, Fault> {
+        let b = self.other.values(alloc)?;
+        let mut chosen = same(alloc, count_below(a, a.len()), false)?;
+        let kept = a.iter().zip(b.iter()).filter(|it| *it.0);
+        for (value, it) in chosen.iter_mut().zip(kept) {
+            *value = *it.1;
+        }
+        Ok(chosen)
     }
 
     // Whether an answer says this call's list: of `choose` the rows at its true values, of

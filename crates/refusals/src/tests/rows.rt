@@ -21,6 +21,7 @@ fn try_row<R: Abort + Print + AllocGlobal>(rt: &R, row: Row<'_>) {
 
 const CONSTRUCTORS: &str = "\
 from_bools at:130:1,65,129 -> list 130 at:130:1,65,129
+from_rows at:130:1,65,129 -> list 130 at:130:1,65,129
 from_indices 130 0,63,64,129 -> list 130 at:130:0,63,64,129
 from_indices 5 0,2,2 -> RepeatedIndex { at: 2 }
 from_indices 5 3,3,1 -> UnsortedIndices { at: 2 }

@@ -21,6 +21,7 @@ bitor none:10 10:1,5,7 -> 0100010100 Values indices 1,5,7
 into_bitor none:10 10:1,5,7 -> 0100010100 Values indices 1,5,7
 to_bitand_not 10:1,5,7 none:10 -> 0100010100 Values indices 1,5,7
 to_limited 10:1,5,7 3 -> 0100010100 Values indices 1,5,7
+choose_values all:10 10:1,5,7 -> 0100010100 Values indices 1,5,7
 intersect_by_rank all:10 10:1,5,7 -> 0100010100 Values indices 1,5,7
 intersect_by_rank 10:1,5,7 all:3 -> 0100010100 Values indices 1,5,7
 intersect_by_rank_counted all:10 10:1,5,7 -> 0100010100 Values indices 1,5,7 steps 0,0,0 0,0,0

@@ -82,6 +82,21 @@ fn by_rank(rt: HostRuntime) {
     try_rows(&rt, BY_RANK);
 }
 
+const CHOSEN_VALUES: &str = "\
+choose_values all:10 all:10 -> 1111111111 AllTrue
+choose_values all:10 none:10 -> 0000000000 AllFalse
+choose_values none:10 all:10 -> - AllTrue
+choose_values none:10 none:10 -> - AllFalse
+choose_values all:max none:max -> 0 of 18446744073709551615 AllFalse
+choose_values 10:1,5,7 all:10 -> 111 AllTrue
+choose_values 10:1,5,7 none:10 -> 000 AllFalse
+choose_values none:10 10:1,5,7 -> - AllFalse";
+
+#[test]
+fn chosen_values(rt: HostRuntime) {
+    try_rows(&rt, CHOSEN_VALUES);
+}
+
 // A fault of ranges is told before any memory is asked for.
 const CONSTRUCTORS: &str = "\
 from_buffer - -> - AllFalse
