@@ -3,8 +3,8 @@ use super::helpers::{found, lists, mask};
 use std::alloc::Global;
 use std::process::Abort;
 use uses::chosen_values::{
-    cut_to, filtered_with_validity, first_with_validity, narrowed_by_all_and_by_those_left,
-    narrowed_by_all_rows, picked, ranks_of_narrowing, validity_of_stacked,
+    cut_to, filtered_with_validity, first_with_validity, narrowed_by_all_rows, picked,
+    ranks_of_narrowing, validity_of_stacked,
 };
 use vortex_mask::{Mask, MaskError};
 
@@ -92,28 +92,9 @@ fn of_two_filters(rt: &impl Abort, alloc: Global) {
     reads_back(rt, alloc, &first, &mask(rt, alloc, "011"));
 }
 
-// Of 11101 and 01111 three rows are left, and of these the first and the last.
-fn of_three(rt: &impl Abort, alloc: Global, filters: (&Mask, &Mask, &Mask), both: &Mask) {
-    let (first, second, third) = filters;
-    assert!(rt; second.len() == first.len() && third.len() == both.true_count());
-    assert!(rt; found(rt, first.bitand(alloc, second)) == *both);
-    let left = found(
-        rt,
-        narrowed_by_all_and_by_those_left(alloc, first, second, third),
-    );
-    lists(rt, &left, "01001");
-}
-
-fn of_three_filters(rt: &impl Abort, alloc: Global) {
-    let (first, second) = (mask(rt, alloc, "11101"), mask(rt, alloc, "01111"));
-    let (third, both) = (mask(rt, alloc, "101"), mask(rt, alloc, "01101"));
-    of_three(rt, alloc, (&first, &second, &third), &both);
-}
-
 #[test]
 fn predicates_of_all_rows(rt: HostRuntime) {
     of_two_filters(&rt, rt.alloc());
-    of_three_filters(&rt, rt.alloc());
 }
 
 // ---- words
