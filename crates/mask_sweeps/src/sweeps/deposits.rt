@@ -1,10 +1,11 @@
 // Deposits, extracts and selections of a word: rows, and words at random beside plain loops.
 use crate::judge::{Generator, Judge};
 use mask_bits::extract::extract;
+use mask_calls::masks::word::extract_bits;
 use std::process::Abort;
 use vortex_mask::intersect_by_rank::{
-    DepositBits, ExtractBits, Portable, PortableLoop, SelectBit, deposit_bytewise,
-    deposit_two_holes, deposit_two_lowest,
+    DepositBits, Portable, PortableLoop, SelectBit, deposit_bytewise, deposit_two_holes,
+    deposit_two_lowest,
 };
 
 // By both implementations, and by the network at every mask.
@@ -144,11 +145,7 @@ fn plain_extract(source: u64, mask: u64) -> u64 {
 
 fn extracts<A: Abort>(judge: &Judge<'_, A>, source: u64, mask: u64) {
     let want = plain_extract(source, mask);
-    let count = mask.count_ones() as usize;
-    judge.holds(
-        "Portable::extract_bits",
-        Portable::extract_bits(source, mask, count) == want,
-    );
+    judge.holds("Portable::extract_bits", extract_bits(source, mask) == want);
     judge.holds("extract", extract(source, mask) == want);
 }
 
