@@ -19,14 +19,15 @@ use crate::laws;
 use crate::mask::{Mask, MaskError};
 pub use deposit::{
     DepositBits, Portable, PortableLoop, deposit_bytewise, deposit_two_holes, deposit_two_lowest,
+    deposits_by_loop,
 };
 pub use extract::ExtractBits;
+use kernels::narrow_by_path;
 pub use kernels::{
     indices_at_ranks, intersect_bit_buffer_by_rank_indices, intersect_bit_buffers,
     intersect_by_rank_indices, intersect_mask_driven, narrow_at_ranks, narrow_by_bits,
 };
-use path::narrow_by_path;
-pub use path::{RankPath, deposits_by_loop, rank_path};
+pub use path::{RankPath, rank_path};
 pub use rank_bits::RankBits;
 pub use select::SelectBit;
 use std::alloc::Global;

@@ -6,6 +6,7 @@ ghost use Rattle.std.specs.Prelude.{ℕ, ◌≡◌, ◌<◌, ◌≤◌, ◌+◌,
 ghost use Rattle.mask_bits.specs.Positions.{count};
 ghost use Rattle.mask_bits.specs.Words.{word_bits};
 ghost use Rattle.vortex_mask.specs.Deposit.{Deposits};
+ghost use Rattle.vortex_mask.specs.Path.{is_deposited_by_loop};
 
 pub use bytewise::deposit_bytewise;
 use bytewise::deposit_two_bytewise;
@@ -112,6 +113,18 @@ impl DepositBits for PortableLoop {
             deposit_two_lowest(source, mask)
         }
     }
+}
+
+// A word has fewer than four true values on the average then. The loop over these is quicker than the
+// network, which takes the same time at every word.
+const VALUES_PER_TRUE_BY_LOOP: u64 = 16;
+
+/// Whether a word kernel over `len` values, of which `true_count` are true, deposits by `PortableLoop`:
+/// where fewer than one in 16 is. Else it deposits by `Portable`.
+pub fn deposits_by_loop(len: usize, true_count: usize) -> bool
+    ensures { result ≡ is_deposited_by_loop len true_count }
+{
+    u128::from(VALUES_PER_TRUE_BY_LOOP) * (true_count as u128) < len as u128
 }
 
 // The lowest set place of the mask takes the lowest bit of the source, until either is used up.

@@ -1,6 +1,7 @@
 //! The kernels, one for each `RankPath`, and what two of them share.
 
 mod bit_buffers;
+mod by_path;
 mod indices;
 mod mask_driven;
 mod rank_indices;
@@ -14,6 +15,7 @@ ghost use Rattle.vortex_mask.specs.MaskValues.{no_caches};
 
 use crate::mask::{Mask, MaskError, MaskValues};
 pub use bit_buffers::{intersect_bit_buffers, narrow_by_bits};
+pub(crate) use by_path::narrow_by_path;
 pub use indices::intersect_by_rank_indices;
 use mask_bits::BitBuffer;
 pub use mask_driven::{indices_at_ranks, intersect_mask_driven};

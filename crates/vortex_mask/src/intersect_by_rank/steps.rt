@@ -1,7 +1,7 @@
 //! The steps that a kernel takes, counted. The fields are private to this file, so that the calls
 //! here alone change them.
 
-ghost use Rattle.std.specs.Prelude.{◌≡◌, ◌+◌, ◌*◌, ◌/◌, ◌<◌, ◌^◌, length, slice_index};
+ghost use Rattle.std.specs.Prelude.{◌≡◌, ◌+◌, ◌*◌, ◌/◌, ◌<◌, length, slice_index};
 ghost use Rattle.mask_bits.specs.Positions.{count};
 ghost use Rattle.mask_bits.specs.Words.{word_bits, word_part, padded_remainder};
 ghost use Rattle.vortex_mask.specs.Deposit.{Deposits, selected};

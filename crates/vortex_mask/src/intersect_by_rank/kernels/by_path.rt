@@ -1,0 +1,124 @@
+//! The call of the kernel that a path names.
+
+ghost use Rattle.std.specs.Prelude.{◌≡◌, IfOk, IsOkUnless, IsSome, alloc_error, length};
+ghost use Rattle.std.specs.Cow.{cow_slice_items};
+ghost use Rattle.mask_bits.specs.Buffer.{values};
+ghost use Rattle.mask_bits.specs.Positions.{count, positions};
+ghost use Rattle.vortex_mask.specs.Path.{path_of};
+ghost use Rattle.vortex_mask.specs.Narrowed.{IsNarrowedOn};
+
+use crate::intersect_by_rank::kernels::{
+    intersect_bit_buffer_by_rank_indices, intersect_bit_buffers, intersect_by_rank_indices,
+    intersect_mask_driven,
+};
+use crate::intersect_by_rank::{
+    DepositBits, Portable, PortableLoop, RankPath, Steps, deposits_by_loop, rank_path,
+};
+use crate::mask::{Mask, MaskError, MaskValues};
+use std::alloc::{AllocError, Global};
+use std::borrow::CowSlice;
+
+// The rank intersection of two mixed masks, by the kernel that `rank_path` names.
+pub(crate) fn narrow_by_path(
+    alloc: Global,
+    rows: &MaskValues,
+    ranks: &MaskValues,
+) -> Result<(Mask, Steps), MaskError>
+    requires { length (values ranks.now.buffer) ≡ count (values rows.now.buffer) }
+    ensures narrowed { IfOk result
+        (λ r. IsNarrowedOn (path_of rows.now ranks.now) rows.now ranks.now r.0 r.1) }
+    ensures refused { IsOkUnless result (MaskError.Memory alloc_error) }
+{
+    match rank_path(rows, ranks) {
+        RankPath::Indices => by_indices(alloc, rows, ranks),
+        RankPath::MaskDriven => by_selections(alloc, rows, ranks),
+        RankPath::BitBuffers if deposits_by_loop(rows.len(), rows.true_count()) => {
+            by_buffers::<PortableLoop>(alloc, rows, ranks)
+        }
+        RankPath::BitBuffers => by_buffers::<Portable>(alloc, rows, ranks),
+        RankPath::RankIndices if deposits_by_loop(rows.len(), rows.true_count()) => {
+            by_rank_indices::<PortableLoop>(alloc, rows, ranks)
+        }
+        RankPath::RankIndices => by_rank_indices::<Portable>(alloc, rows, ranks),
+    }
+}
+
+// Of true indices of both, which are listed where they are not cached.
+fn by_indices(
+    alloc: Global,
+    rows: &MaskValues,
+    ranks: &MaskValues,
+) -> Result<(Mask, Steps), MaskError>
+    requires { length (values ranks.now.buffer) ≡ count (values rows.now.buffer) }
+    ensures narrowed { IfOk result
+        (λ r. IsNarrowedOn RankPath.Indices rows.now ranks.now r.0 r.1) }
+    ensures refused { IsOkUnless result (MaskError.Memory alloc_error) }
+{
+    let (indices, ranks) = (true_indices(alloc, rows)?, true_indices(alloc, ranks)?);
+    intersect_by_rank_indices(alloc, rows.len(), indices.as_slice(), ranks.as_slice())
+}
+
+// The true indices: the cached ones, or a list made for the call.
+fn true_indices(alloc: Global, mask: &MaskValues) -> Result<CowSlice<'_, usize>, AllocError>
+    ensures { IfOk result
+        (λ indices. cow_slice_items indices ≡ positions (values mask.now.buffer)) }
+{
+    Ok(match mask.cached_indices() {
+        Some(cached) => CowSlice::Borrowed(cached),
+        None => CowSlice::Owned(mask.index_list(alloc)?),
+    })
+}
+
+// By a selection for each true index of the second, which are walked over where they aren't cached.
+fn by_selections(
+    alloc: Global,
+    rows: &MaskValues,
+    ranks: &MaskValues,
+) -> Result<(Mask, Steps), MaskError>
+    requires { length (values ranks.now.buffer) ≡ count (values rows.now.buffer) }
+    ensures narrowed { IfOk result
+        (λ r. IsNarrowedOn RankPath.MaskDriven rows.now ranks.now r.0 r.1) }
+    ensures refused { IsOkUnless result (MaskError.Memory alloc_error) }
+{
+    let (buffer, true_count) = (rows.bit_buffer(), ranks.true_count());
+    match ranks.cached_indices() {
+        Some(cached) => {
+            let ranks = cached.iter().copied();
+            intersect_mask_driven::<Portable, _>(alloc, buffer, ranks, true_count)
+        }
+        None => {
+            let ranks = ranks.bit_buffer().set_indices();
+            intersect_mask_driven::<Portable, _>(alloc, buffer, ranks, true_count)
+        }
+    }
+}
+
+// Of the bits of both: one deposit a word.
+fn by_buffers<D: DepositBits>(
+    alloc: Global,
+    rows: &MaskValues,
+    ranks: &MaskValues,
+) -> Result<(Mask, Steps), MaskError>
+    requires { length (values ranks.now.buffer) ≡ count (values rows.now.buffer) }
+    ensures narrowed { IfOk result
+        (λ r. IsNarrowedOn RankPath.BitBuffers rows.now ranks.now r.0 r.1) }
+    ensures refused { IsOkUnless result (MaskError.Memory alloc_error) }
+{
+    let (buffer, bits, true_count) = (rows.bit_buffer(), ranks.bit_buffer(), ranks.true_count());
+    intersect_bit_buffers::<D>(alloc, buffer, bits, true_count)
+}
+
+// Of the bits of the first and the cached true indices of the second: one deposit a word.
+fn by_rank_indices<D: DepositBits>(
+    alloc: Global,
+    rows: &MaskValues,
+    ranks: &MaskValues,
+) -> Result<(Mask, Steps), MaskError>
+    requires fitting { length (values ranks.now.buffer) ≡ count (values rows.now.buffer) }
+    requires cached { IsSome ranks.now.caches.indices }
+    ensures narrowed { IfOk result
+        (λ r. IsNarrowedOn RankPath.RankIndices rows.now ranks.now r.0 r.1) }
+    ensures refused { IsOkUnless result (MaskError.Memory alloc_error) }
+{
+    intersect_bit_buffer_by_rank_indices::<D>(alloc, rows.bit_buffer(), ranks.lend_indices())
+}
