@@ -106,7 +106,8 @@ def functions_in(file, text=None):
     for it in re.finditer(r"\b(pub(?:\([^)]*\))? )?(?:const |unsafe |extern +)*fn (\w+)", code):
         clauses, sign, end = clauses_after(code, text, it.end())
         block = next((block for block in reversed(blocks) if block.start < it.start() < block.end), None)
-        owner = block.owner if block else file.stem
+        # (a law is called by the module that hands all of them on)
+        owner = block.owner if block else "laws" if "laws" in module_of(file) else file.stem
         path = "::".join([block.owner + block.trait if block else "::".join(module_of(file)), it[2]]).removeprefix("::")
         clauses = {**clauses, **{ghost: ("ghost", "") for ghost in (block.ghosts if block else ())}}
         is_promised = block and (block.is_public_trait or block.trait and any(kind == "ensures" for kind, _ in clauses.values()))
@@ -154,7 +155,8 @@ def specs():
     those that it imports."""
     files = [it for crate in library_crates() for it in sorted((CRATES / crate / "specs").rglob("*.antt"))]
     modules = {it: ".".join(["Rattle", *it.relative_to(CRATES).with_suffix("").parts]) for it in files}
-    texts = {modules[it]: it.read_text() for it in files if it.stem != "Lib"}
+    # (a file beside a folder has the list of its modules alone)
+    texts = {modules[it]: it.read_text() for it in files if it.stem != "Lib" and not it.with_suffix("").is_dir()}
     imported = {module: [path[:-1] for _, path, _ in imports(text)] for module, text in texts.items()}
 
     def rank(module):

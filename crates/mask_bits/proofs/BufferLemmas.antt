@@ -9,7 +9,7 @@ use Rattle.std.proofs.lemmas.Slice.Eq.{slice_eq-Decides}
 use Rattle.mask_bits.specs.Buffer.{Packed, backing_bit, values, same_values}
 use Rattle.mask_bits.specs.Positions.{repeated, true_at}
 use Rattle.mask_bits.proofs.SetBitLemmas.{backing_bit-ones}
-use Rattle.mask_bits.specs.Laws.{SameValuesAreOneList}
+use Rattle.mask_bits.specs.Laws.Words.{SameValuesAreOneList}
 
 -- a buffer's list is as long as the buffer says
 pub length-values : (b : Packed) → length (values b) ≡ b.len

@@ -3,10 +3,20 @@ use Rattle.std.specs.Prelude.{ℕ, ◌≡◌, ◌+◌, ◌-◌, ◌<◌, ◌≤�
 use Rattle.std.specs.List.{AllAdjacentBelow}
 use Rattle.std.specs.List.Sorted.{IsNonDecreasing, IsStrictlyIncreasing}
 use Rattle.std.proofs.Common.{arith, ap}
-use Rattle.mask_bits.specs.BooleanLaws.{ValueOfAnd, ValueOfOr, ValueOfAndNot, ValueOfNot, CountOfComplement, CountOfAndWithOr, ComplementOfAnd, ComplementOfOr, ListOfOneValue, CountOfFoldIsAtMostTheFirst}
-use Rattle.mask_bits.specs.Extract.{Extracts, ExtractIsChosenValues}
-use Rattle.mask_bits.specs.IndexLaws.{PositionsAscend, CountBelowTheFirst, CountBelowTheNext, AllTrueIsOneRange, AllTrueIsOneRun, AllFalseHasNoRange, AllFalseHasNoRun, NeighborsDoNotFall}
-use Rattle.mask_bits.specs.Laws.{IndicesAreWithin, CountIsSomeOfAnyTrue, CountOfFold, ValueOfWord, PositionsDetermineList, IsRankIntersection, RankIntersectionIsTheList, RankIntersectionValue, AllTrueLeftUnit, AllTrueRightUnit, RankIntersectionPosition, RunsExist, RunsAreUnique, RunsAreRanges, RangesAddUpToTheCount, RankIntersectionOfAnd, RankIntersectionOfNot, IsFreeOfOrder, DistributesOver, Absorbs, HasComplements, AndNotIsAndOfNot, KeepsLength, PartOfPart, PartOfConcat, LimitOfLimit, HasLimitCount, CountBelowPosition, NeighborsMakeOne}
+use Rattle.mask_bits.specs.Laws.Boolean.{ValueOfAnd, ValueOfOr, ValueOfAndNot, ValueOfNot, CountOfComplement, CountOfAndWithOr, ComplementOfAnd, ComplementOfOr}
+use Rattle.mask_bits.specs.Laws.Indices.{ListOfOneValue}
+use Rattle.mask_bits.specs.Laws.Stacks.{CountOfFoldIsAtMostTheFirst}
+use Rattle.mask_bits.specs.Extract.{Extracts}
+use Rattle.mask_bits.specs.Laws.Words.{ExtractIsChosenValues}
+use Rattle.mask_bits.specs.Laws.Indices.{PositionsAscend, CountBelowTheFirst, CountBelowTheNext, NeighborsDoNotFall}
+use Rattle.mask_bits.specs.Laws.Runs.{AllTrueIsOneRange, AllTrueIsOneRun, AllFalseHasNoRange, AllFalseHasNoRun}
+use Rattle.mask_bits.specs.Laws.Boolean.{IsFreeOfOrder, DistributesOver, Absorbs, HasComplements, AndNotIsAndOfNot, KeepsLength}
+use Rattle.mask_bits.specs.Laws.Indices.{IndicesAreWithin, CountIsSomeOfAnyTrue, PositionsDetermineList, CountBelowPosition}
+use Rattle.mask_bits.specs.Laws.Parts.{PartOfPart, PartOfConcat, LimitOfLimit, HasLimitCount}
+use Rattle.mask_bits.specs.Laws.RankIntersection.{IsRankIntersection, RankIntersectionIsTheList, RankIntersectionValue, AllTrueLeftUnit, AllTrueRightUnit, RankIntersectionPosition, RankIntersectionOfAnd, RankIntersectionOfNot}
+use Rattle.mask_bits.specs.Laws.Runs.{RunsExist, RunsAreUnique, RunsAreRanges, RangesAddUpToTheCount}
+use Rattle.mask_bits.specs.Laws.Stacks.{CountOfFold, NeighborsMakeOne}
+use Rattle.mask_bits.specs.Laws.Words.{ValueOfWord}
 use Rattle.mask_bits.specs.Lists.{and_of, or_of, not_of, and_not_of, concat, limited}
 use Rattle.mask_bits.specs.Positions.{positions, count, count_below, rank_intersection, repeated, chosen}
 use Rattle.mask_bits.specs.Rows.{AreAnswers, AreAsComputed}

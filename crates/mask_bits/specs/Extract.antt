@@ -1,17 +1,12 @@
--- What it means to extract the bits of a word at the set places of a mask word, and what holds of it.
-use Rattle.std.specs.Prelude.{ℕ, zero, suc, min, ◌+◌, ◌-◌, ◌*◌, ◌/◌, ◌%◌, ◌^◌, ◌≡◌, ◌<◌, ◌↔◌, false, ◌++◌, slice_index}
+-- What it means to extract the bits of a word at the set places of a mask word, and how it is computed.
+use Rattle.std.specs.Prelude.{ℕ, zero, suc, min, ◌+◌, ◌-◌, ◌*◌, ◌/◌, ◌%◌, ◌^◌, ◌≡◌, ◌<◌, ◌↔◌, slice_index}
 use Rattle.std.specs.Int.{bit_at}
-use Rattle.mask_bits.specs.Positions.{positions, count, repeated, chosen}
+use Rattle.mask_bits.specs.Positions.{positions, count}
 use Rattle.mask_bits.specs.Words.{word_bits}
 
 -- bit k of the result is set exactly if the mask has more than k set places and the source bit at set place number k is set
 pub record Extracts (source mask result : ℕ) : Type 0 where
   pub bits : (k : ℕ) → k < 64 → (bit_at result k ≡ 1) ↔ ((k < count (word_bits mask)) × (bit_at source (slice_index (positions (word_bits mask)) k) ≡ 1))
-
--- an extract is the source's values at the mask's true indices, and false values behind them
-abbrev pub ExtractIsChosenValues : Type 0
-ExtractIsChosenValues = (source mask result : ℕ) → Extracts source mask result
-    → word_bits result ≡ chosen (word_bits source) (word_bits mask) ++ repeated (64 - count (word_bits mask)) false
 
 -- ---- how it is computed
 

@@ -1,10 +1,7 @@
-pub mod BooleanLaws
 pub mod Buffer
 pub mod BufferMut
-pub mod ChoosingLaws
 pub mod Combine
 pub mod Extract
-pub mod IndexLaws
 pub mod Lanes
 pub mod Laws
 pub mod Lists

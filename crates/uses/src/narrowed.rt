@@ -1,6 +1,6 @@
 //! Single rows of a stacked filter, found with no mask made; and a filter that someone else made, tested.
 ghost use Rattle.std.specs.Prelude.{◌≡◌, ◌<◌, ◌↔◌, IfOk, IsTrue, false, length, slice_index, slice_index_or};
-ghost use Rattle.mask_bits.specs.Laws.{IsRankIntersection};
+ghost use Rattle.mask_bits.specs.Laws.RankIntersection.{IsRankIntersection};
 ghost use Rattle.mask_bits.specs.Positions.{count, count_below, positions, rank_intersection};
 ghost use Rattle.vortex_mask.specs.Mask.{truth};
 

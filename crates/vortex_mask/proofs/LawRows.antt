@@ -9,9 +9,9 @@ use Rattle.mask_bits.specs.Positions.{rank_intersection, repeated}
 use Rattle.mask_bits.specs.Words.{padded_part, window, word_bits}
 use Rattle.vortex_mask.specs.AllOr.{IsListOf}
 use Rattle.vortex_mask.specs.Deposit.{Deposits}
-use Rattle.vortex_mask.specs.DepositLaws.{DepositIsWordOfRankIntersection, DepositOfExtract, ExtractOfDeposit, StartedWordsAreTheList}
+use Rattle.vortex_mask.specs.Laws.Deposit.{DepositIsWordOfRankIntersection, DepositOfExtract, ExtractOfDeposit, StartedWordsAreTheList}
 use Rattle.vortex_mask.specs.Faults.{index_fault}
-use Rattle.vortex_mask.specs.Laws.{UniformIsOfOneValue, NoIndexFault}
+use Rattle.vortex_mask.specs.Laws.Masks.{UniformIsOfOneValue, NoIndexFault}
 use Rattle.vortex_mask.specs.Lend.{IfLent}
 use Rattle.vortex_mask.specs.Mask.{IsUniform}
 use Rattle.vortex_mask.specs.Path.{AreNarrowingSteps}

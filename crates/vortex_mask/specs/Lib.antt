@@ -5,7 +5,6 @@ pub mod Bytes
 pub mod Caches
 pub mod Concat
 pub mod Deposit
-pub mod DepositLaws
 pub mod Faults
 pub mod Fraction
 pub mod Iter

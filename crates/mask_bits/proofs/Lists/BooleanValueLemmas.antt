@@ -4,7 +4,10 @@ use Rattle.std.specs.Prelude.{IsPermutation}
 use Rattle.std.specs.List.{items_where_true, list_any}
 use Rattle.std.proofs.lemmas.List.FromFn.{get_or-map-range_with_len}
 use Rattle.std.proofs.lemmas.List.Sorted.{IsPermutation-cons, IsPermutation-middle, IsPermutation-refl, IsPermutation-trans}
-use Rattle.mask_bits.specs.BooleanLaws.{ValueOfAnd, ValueOfOr, ValueOfAndNot, ValueOfNot, ValueOfTrueAt, ComplementOfAnd, ComplementOfOr, ListOfOneValue, CountOfComplement, CountOfAnd, CountOfAndWithOr, CountOfAndWithAndNot, CountOfFoldIsAtMostTheFirst, ChosenAndTheRest}
+use Rattle.mask_bits.specs.Laws.Boolean.{ValueOfAnd, ValueOfOr, ValueOfAndNot, ValueOfNot, ComplementOfAnd, ComplementOfOr, CountOfComplement, CountOfAnd, CountOfAndWithOr, CountOfAndWithAndNot}
+use Rattle.mask_bits.specs.Laws.Indices.{ValueOfTrueAt, ListOfOneValue}
+use Rattle.mask_bits.specs.Laws.Rows.{ChosenAndTheRest}
+use Rattle.mask_bits.specs.Laws.Stacks.{CountOfFoldIsAtMostTheFirst}
 use Rattle.mask_bits.specs.Lists.{and_of, or_of, not_of, and_not_of}
 use Rattle.mask_bits.specs.Positions.{true_at, rank_intersection}
 use Rattle.mask_bits.proofs.Lists.CountLemmas.{repeated_from_All}

@@ -3,7 +3,7 @@ use Rattle.std.proofs.Common.{◌≡◌, ℕ, zero, suc, ◌+◌, ◌-◌, ◌*�
 use Rattle.std.specs.List.{All, count_by}
 use Rattle.std.proofs.lemmas.List.Elements.{All-head, All-tail}
 use Rattle.std.proofs.lemmas.List.Sums.{sum_by-cons}
-use Rattle.mask_bits.specs.Laws.{GroupsBeginWithin, GroupOfRepeated, IndicesLieInGroups, CountOfGroup}
+use Rattle.mask_bits.specs.Laws.Parts.{GroupsBeginWithin, GroupOfRepeated, IndicesLieInGroups, CountOfGroup}
 use Rattle.mask_bits.specs.Positions.{indices_from, positions, count}
 use Rattle.mask_bits.specs.Runs.{is_inside}
 use Rattle.mask_bits.proofs.Lists.CountLemmas.{length-repeated}

@@ -3,7 +3,8 @@ use Rattle.std.proofs.Common.{◌≡◌, ℕ, zero, suc, ◌-◌, ◌<◌, ◌�
 use Rattle.std.proofs.lemmas.List.{ext_get_or, get_or-map, length-take}
 use Rattle.std.proofs.lemmas.Option.{slice_get_within, get_or_from_slice_get}
 use Rattle.std.proofs.lemmas.List.FromFn.{length-map-range_with_len, get_or-map-range_with_len}
-use Rattle.mask_bits.specs.Laws.{LimitOfLimit, HasLimitCount, CountBelowPosition}
+use Rattle.mask_bits.specs.Laws.Indices.{CountBelowPosition}
+use Rattle.mask_bits.specs.Laws.Parts.{LimitOfLimit, HasLimitCount}
 use Rattle.mask_bits.specs.Lists.{limited}
 use Rattle.mask_bits.specs.Positions.{positions, count, count_below, repeated}
 use Rattle.mask_bits.proofs.Lists.Places.PlaceLemmas.{positions-true, positions-false, trues, count-trues}

@@ -3,7 +3,7 @@ use Rattle.std.proofs.Common.{◌≡◌, ℕ, ◌+◌, ◌-◌, ◌≤◌, Bool,
 use Rattle.std.proofs.lemmas.Bool.{cases_lt}
 use Rattle.std.proofs.lemmas.List.{take-take, drop-drop, drop-take, take-append-le, drop-append-le, drop_all, take_all, drop-replicate, take-replicate}
 use Rattle.std.proofs.lemmas.List.Concat.{flat_map-append}
-use Rattle.mask_bits.specs.Laws.{PartOfPart, PartOfConcat}
+use Rattle.mask_bits.specs.Laws.Parts.{PartOfPart, PartOfConcat}
 use Rattle.mask_bits.specs.Positions.{repeated}
 
 pub part_of_part : PartOfPart

@@ -3,7 +3,9 @@ use Rattle.std.proofs.Common.{◌≡◌, ℕ, zero, suc, Bool, true, false, List
 use Rattle.std.specs.List.{filter, items_where_true}
 use Rattle.std.proofs.lemmas.List.{take-map}
 use Rattle.std.proofs.lemmas.List.Elements.{All-head, All-tail}
-use Rattle.mask_bits.specs.ChoosingLaws.{ChosenByTest, ChosenOfTwoChunks, ChosenOfChunks, ChosenByLimit, PositionsOfLimit, LimitPastTheCount, LimitOfRankIntersection, NarrowedByChosen, ChosenOfNarrowing}
+use Rattle.mask_bits.specs.Laws.Parts.{PositionsOfLimit, LimitPastTheCount, LimitOfRankIntersection}
+use Rattle.mask_bits.specs.Laws.RankIntersection.{NarrowedByChosen, ChosenOfNarrowing}
+use Rattle.mask_bits.specs.Laws.Rows.{ChosenByTest, ChosenOfTwoChunks, ChosenOfChunks, ChosenByLimit}
 use Rattle.mask_bits.specs.Lists.{and_of}
 use Rattle.mask_bits.specs.Positions.{positions}
 use Rattle.mask_bits.proofs.Lists.LawLemmas.{chosen-items_where_true, length-chosen}

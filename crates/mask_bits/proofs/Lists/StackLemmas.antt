@@ -1,6 +1,6 @@
 -- The laws of stacks, by recursion on the masks.
 use Rattle.std.proofs.Common.{◌≡◌, Bool, List, [], ◌∷◌, ◌++◌, length, fold, refl, sym, ap, subst, ◌∙◌, arith}
-use Rattle.mask_bits.specs.Laws.{StackFoldsAlike, FoldedByTheFirst, FoldOfOne, FoldedLeftByTheLast, LengthOfFold, CountOfFold, FoldOfNoRow, NeighborsMakeOne, ChoosingInTurn}
+use Rattle.mask_bits.specs.Laws.Stacks.{StackFoldsAlike, FoldedByTheFirst, FoldOfOne, FoldedLeftByTheLast, LengthOfFold, CountOfFold, FoldOfNoRow, NeighborsMakeOne, ChoosingInTurn}
 use Rattle.mask_bits.specs.Positions.{count, rank_intersection}
 use Rattle.mask_bits.specs.Stacks.{IsStack, folded_left}
 use Rattle.mask_bits.proofs.Lists.LawLemmas.{length-rank_intersection, rank_intersection_associative, rank_intersection_count, choosing_twice, folding_keeps_a_stack, rank_intersection-none}

@@ -7,7 +7,7 @@ use Rattle.std.proofs.lemmas.Nat.Bits.{bit_at-lt, bit_at_or}
 use Rattle.mask_bits.proofs.Lists.Words.ShiftLemmas.{bit_at-mod}
 use Rattle.mask_bits.proofs.Lists.Words.WordLemmas.{count_below-word_bits}
 use Rattle.vortex_mask.specs.Deposit.{Deposits}
-use Rattle.vortex_mask.specs.DepositLaws.{DepositAtAllOnes, DepositIsRankIntersection, DepositAtNoOnes, WithoutLowestIsBelow, DepositOfOddSource, DepositOfEvenSource, DepositOfExtract, ExtractOfDeposit, without_lowest}
+use Rattle.vortex_mask.specs.Laws.Deposit.{DepositAtAllOnes, DepositIsRankIntersection, DepositAtNoOnes, WithoutLowestIsBelow, DepositOfOddSource, DepositOfEvenSource, DepositOfExtract, ExtractOfDeposit, without_lowest}
 use Rattle.vortex_mask.proofs.Deposits.DepositLemmas.{Deposits-from_bits, Deposits-from_deposit, bit_at-deposit, deposit, deposit-zero, deposit_step, first, left_of}
 use Rattle.vortex_mask.proofs.Deposits.HoleLemmas.{deposit-all}
 use Rattle.vortex_mask.proofs.Deposits.SetPlaceLemmas.{lowest, ones_below}

@@ -5,7 +5,7 @@ use Rattle.mask_bits.specs.Buffer.{backing_bit, values}
 use Rattle.mask_bits.proofs.Lists.Words.BackingBitLemmas.{length-bits_at, get_or-bits_at}
 use Rattle.mask_bits.proofs.Lists.Words.FrontLemmas.{get_or-window}
 use Rattle.mask_bits.proofs.Lists.Words.PaddedLemmas.{get_or-padded_part}
-use Rattle.vortex_mask.specs.DepositLaws.{DepositIsWordOfRankIntersection, StartedWordsAreTheList}
+use Rattle.vortex_mask.specs.Laws.Deposit.{DepositIsWordOfRankIntersection, StartedWordsAreTheList}
 use Rattle.vortex_mask.proofs.Kernels.WordKernelLemmas.{deposited-word, rank_bits-window}
 
 pub deposit_is_word_of_rank_intersection : DepositIsWordOfRankIntersection

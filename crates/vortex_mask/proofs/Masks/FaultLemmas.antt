@@ -8,7 +8,7 @@ use Rattle.std.proofs.lemmas.Bool.Decides.{nat_tests}
 use Rattle.std.proofs.lemmas.List.{length-drop}
 use Rattle.std.proofs.lemmas.List.Elements.{All-nil, All-cons, All-head, All-tail, All-from_get_or}
 use Rattle.std.proofs.lemmas.List.Kept.{IsStrictlyIncreasing-filter, AllPairs-from_increasing}
-use Rattle.vortex_mask.specs.Laws.{NoIndexFault}
+use Rattle.vortex_mask.specs.Laws.Masks.{NoIndexFault}
 use Rattle.vortex_mask.specs.Faults.{common, or_else, first_pair_from, first_past, index_fault, out_of_bounds}
 use Rattle.vortex_mask.specs.declared.mask.error.MaskError.TheVariants.{IndexOutOfBounds}
 

@@ -3,7 +3,8 @@ use Rattle.std.proofs.Common.{◌≡◌, ℕ, zero, suc, ◌+◌, ◌-◌, ◌<�
 use Rattle.std.proofs.lemmas.List.Sorted.{IsNonDecreasingBy-from_all_adjacent}
 use Rattle.std.proofs.lemmas.Map.Keys.{le_from_is_le}
 use Rattle.std.proofs.lemmas.Option.{slice_get_within, get_or_from_slice_get}
-use Rattle.mask_bits.specs.IndexLaws.{PositionsAscend, FirstIsAtMostLast, CountBelowTheFirst, CountBelowTheNext, AllTrueIsOneRange, AllTrueIsOneRun, AllFalseHasNoRange, AllFalseHasNoRun, NeighborsDoNotFall, SortedDoNotFall}
+use Rattle.mask_bits.specs.Laws.Indices.{PositionsAscend, FirstIsAtMostLast, CountBelowTheFirst, CountBelowTheNext, NeighborsDoNotFall, SortedDoNotFall}
+use Rattle.mask_bits.specs.Laws.Runs.{AllTrueIsOneRange, AllTrueIsOneRun, AllFalseHasNoRange, AllFalseHasNoRun}
 use Rattle.mask_bits.specs.Positions.{positions, count, repeated}
 use Rattle.mask_bits.specs.Runs.{AreRuns}
 use Rattle.mask_bits.proofs.Lists.Places.AscendingLemmas.{Rising, positions-rising, positions-ascending}

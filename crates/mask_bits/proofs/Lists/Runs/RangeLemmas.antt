@@ -5,7 +5,7 @@ use Rattle.std.proofs.lemmas.List.{drop_all, ext_get_or}
 use Rattle.std.proofs.lemmas.List.Edits.{length-between, get_or-between}
 use Rattle.std.proofs.lemmas.List.Folds.{drop_split}
 use Rattle.std.proofs.lemmas.List.Sums.{sum_by-cons}
-use Rattle.mask_bits.specs.Laws.{RangesAddUpToTheCount}
+use Rattle.mask_bits.specs.Laws.Runs.{RangesAddUpToTheCount}
 use Rattle.mask_bits.specs.Positions.{count, repeated}
 use Rattle.mask_bits.specs.Runs.{is_inside, AreRanges}
 use Rattle.mask_bits.proofs.Lists.CountLemmas.{count-append, count-repeated_true, count-repeated_false, length-repeated, get_or-repeated}

@@ -4,7 +4,7 @@ use Rattle.std.specs.List.{list_any, flat_map}
 use Rattle.std.proofs.lemmas.List.{drop_all}
 use Rattle.std.proofs.lemmas.List.Edits.{length-between}
 use Rattle.std.proofs.lemmas.List.Folds.{drop_split}
-use Rattle.mask_bits.specs.Laws.{ChosenByRanges}
+use Rattle.mask_bits.specs.Laws.Rows.{ChosenByRanges}
 use Rattle.mask_bits.specs.Positions.{chosen}
 use Rattle.mask_bits.specs.Runs.{is_inside}
 use Rattle.mask_bits.proofs.Lists.ChooseLemmas.{chosen-all_true, chosen-all_false}

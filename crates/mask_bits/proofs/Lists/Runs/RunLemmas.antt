@@ -3,7 +3,7 @@ use Rattle.std.proofs.Common.{◌≡◌, ◌≢◌, ℕ, zero, suc, ◌+◌, ◌
 use Rattle.std.proofs.lemmas.Bool.{cases_eq, eq-eqb, ne_eqb, le-leb, lt-ltb, le-ltb, and_from, and_right, or_left, cond-true, cond-false, true≢false}
 use Rattle.std.specs.Prelude.{nat_le, nat_lt}
 use Rattle.std.specs.List.{All, AllAdjacentBelow, list_any}
-use Rattle.mask_bits.specs.Laws.{RunsExist, RunsAreUnique, RunsAreRanges}
+use Rattle.mask_bits.specs.Laws.Runs.{RunsExist, RunsAreUnique, RunsAreRanges}
 use Rattle.mask_bits.specs.Runs.{is_inside, AreRuns}
 use Rattle.mask_bits.specs.RunScan.{with_index, runs_from}
 

@@ -1,6 +1,6 @@
 -- The list of a list's runs, and that of lists of one value.
 use Rattle.std.proofs.Common.{◌≡◌, ℕ, zero, suc, ◌+◌, true, List, [], ◌∷◌, sym, subst, arith}
-use Rattle.mask_bits.specs.Laws.{RunsAreTheList, RunOfAllTrue, RunsOfAllFalse}
+use Rattle.mask_bits.specs.Laws.Runs.{RunsAreTheList, RunOfAllTrue, RunsOfAllFalse}
 use Rattle.mask_bits.specs.Positions.{repeated}
 use Rattle.mask_bits.specs.Runs.{AreRuns}
 use Rattle.mask_bits.specs.RunScan.{runs_from}

@@ -10,7 +10,8 @@ use Rattle.std.proofs.lemmas.Nat.Bits.{bit_at-lt, bit_at-zero, bit_at_or, bit_at
 use Rattle.std.proofs.lemmas.Option.{get_or_from_slice_get}
 use Rattle.mask_bits.proofs.Lists.Words.LowestLemmas.{low}
 use Rattle.mask_bits.proofs.Lists.Words.ShiftLemmas.{bit_at-mod, bit_at-shl_high, bit_at-shl_low}
-use Rattle.mask_bits.specs.Extract.{Extracts, ExtractIsChosenValues}
+use Rattle.mask_bits.specs.Extract.{Extracts}
+use Rattle.mask_bits.specs.Laws.Words.{ExtractIsChosenValues}
 use Rattle.mask_bits.specs.Positions.{positions, count, repeated, chosen}
 use Rattle.mask_bits.specs.Words.{word_bits}
 use Rattle.mask_bits.proofs.Lists.CountLemmas.{length-repeated, get_or-repeated}

@@ -4,7 +4,7 @@ use Rattle.std.specs.Int.{bit_at}
 use Rattle.std.proofs.lemmas.List.{drop_more, drop_all, take_more, take_all}
 use Rattle.std.proofs.lemmas.List.FromFn.{length-map-range_with_len, get_or-map-range_with_len, fill_by_all, sum_by-map-range_with_len_more}
 use Rattle.mask_bits.specs.Words.{word_bits, word_part, word_parts}
-use Rattle.mask_bits.specs.Laws.{ValueOfWord, CountsOfWordsAddUp}
+use Rattle.mask_bits.specs.Laws.Words.{ValueOfWord, CountsOfWordsAddUp}
 use Rattle.mask_bits.specs.Positions.{count, count_below}
 use Rattle.mask_bits.proofs.Lists.CountLemmas.{count-append, count-repeated_false, count-push}
 use Rattle.std.specs.List.{sum_by, range_with_len}

@@ -1,5 +1,5 @@
 use Rattle.mask_bits.proofs.Lists.Places.IndexLemmas.{all_true_is_one_range, all_true_is_one_run, all_false_has_no_range, all_false_has_no_run}
-use Rattle.mask_bits.proofs.laws.ranges_of_one_value.Goals as goal
+use Rattle.mask_bits.proofs.laws.runs.ranges_of_one_value.Goals as goal
 
 pub returns-clause-one_range : goal.returns-clause-one_range
 returns-clause-one_range c = all_true_is_one_range

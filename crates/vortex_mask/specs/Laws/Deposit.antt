@@ -1,4 +1,4 @@
--- What holds of all deposits, and of extracts beside them.
+-- What holds of deposits, and of extracts beside them.
 use Rattle.std.specs.Prelude.{ℕ, ◌+◌, ◌-◌, ◌*◌, ◌/◌, ◌%◌, ◌^◌, ◌≡◌, ◌<◌, ◌++◌, Bool, false, List, bit_and, bit_or, length, take}
 use Rattle.mask_bits.specs.Buffer.{Packed, values}
 use Rattle.mask_bits.specs.Extract.{Extracts}

@@ -1,0 +1,47 @@
+//! Laws of the rows that a list chooses.
+
+#![tactic(auto, using(crate::proofs::LawRules::laws))]
+
+ghost use Rattle.mask_bits.specs.Laws.Rows.{ChosenAndTheRest, ChosenByTest, ChosenOfTwoChunks, ChosenOfChunks, ChosenByLimit, ChosenByAllTrue, ChosenByAllFalse, ChosenIsRowsAtPositions, CountOfChosen, ChosenByRanges};
+
+/// Choosing by an all-true list gives all rows, by an all-false one none, and by any list as many
+/// as its count: the rows at its true indices.
+pub fn choosing<T>()
+    ensures every_row { ChosenByAllTrue T }
+    ensures no_row { ChosenByAllFalse T }
+    ensures count { CountOfChosen T }
+    ensures at_positions { ChosenIsRowsAtPositions T }
+{}
+
+/// Choosing rows by a mask that was made by a test of each row is filtering the rows by it.
+#[tactic(auto, using(crate::proofs::Lists::RowLemmas::chosen_by_test))]
+pub fn choosing_by_a_test<T>()
+    ensures filter { ChosenByTest T }
+{}
+
+/// Chunks of rows, each filtered by its own mask, are all rows filtered by the masks one after
+/// another.
+#[tactic(auto, using(crate::proofs::Lists::RowLemmas::chosen_of_two_chunks, crate::proofs::Lists::RowLemmas::chosen_of_chunks))]
+pub fn choosing_by_chunks<T>()
+    ensures two { ChosenOfTwoChunks T }
+    ensures chunks { ChosenOfChunks T }
+{}
+
+/// A limited mask chooses the first of the rows that the mask chooses.
+#[tactic(auto, using(crate::proofs::Lists::RowLemmas::chosen_by_limit))]
+pub fn choosing_by_a_limit<T>()
+    ensures first { ChosenByLimit T }
+{}
+
+/// Rows copied range by range, by ranges that hold exactly the true indices, are the rows chosen.
+#[tactic(auto, using(crate::proofs::Lists::Runs::RangeRowLemmas::chosen_by_ranges))]
+pub fn choosing_by_ranges<T>()
+    ensures rows { ChosenByRanges T }
+{}
+
+/// The rows that a list chooses, and then those that its complement chooses, are all rows in another
+/// order.
+#[tactic(auto, using(crate::proofs::Lists::BooleanValueLemmas::chosen_and_the_rest))]
+pub fn chosen_and_the_rest<T>()
+    ensures permuted { ChosenAndTheRest T }
+{}

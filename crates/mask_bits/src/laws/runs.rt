@@ -1,0 +1,46 @@
+//! Laws of runs, and of ranges that hold exactly the true indices.
+
+#![tactic(auto, using(crate::proofs::LawRules::laws))]
+
+ghost use Rattle.mask_bits.specs.Laws.Runs.{AllTrueIsOneRange, AllTrueIsOneRun, AllFalseHasNoRange, AllFalseHasNoRun, RunsExist, RunsAreUnique, RunsAreRanges, RangesAddUpToTheCount, RunsAreTheList, RunOfAllTrue, RunsOfAllFalse};
+
+/// Each list has a list of runs.
+pub fn runs_exist()
+    ensures exist { RunsExist }
+{}
+
+/// No list has two lists of runs.
+pub fn runs_are_unique()
+    ensures unique { RunsAreUnique }
+{}
+
+/// Runs are ranges that hold exactly the true indices.
+pub fn runs_are_ranges()
+    ensures ranges { RunsAreRanges }
+{}
+
+/// Ranges are a list's runs exactly if they are what `runs` gives.
+pub fn runs_are_the_list()
+    ensures only { RunsAreTheList }
+{}
+
+/// An all-true list that isn't empty is one run, and an all-false one has none.
+#[tactic(auto, using(crate::proofs::Lists::Runs::RunListLemmas::run_of_all_true, crate::proofs::Lists::Runs::RunListLemmas::runs_of_all_false))]
+pub fn runs_of_one_value()
+    ensures whole { RunOfAllTrue }
+    ensures none { RunsOfAllFalse }
+{}
+
+/// The ranges of a list of one value, which are its runs: one of an all-true list that isn't empty,
+/// and none of an all-false one.
+pub fn ranges_of_one_value()
+    ensures one_range { AllTrueIsOneRange }
+    ensures one_run { AllTrueIsOneRun }
+    ensures no_range { AllFalseHasNoRange }
+    ensures no_run { AllFalseHasNoRun }
+{}
+
+/// The lengths of ranges that hold exactly the true indices add up to the count.
+pub fn ranges_add_up_to_the_count()
+    ensures count { RangesAddUpToTheCount }
+{}
