@@ -247,6 +247,7 @@ fn ranges(alloc: Global, a: &MaskArgument) -> Result<String, RunError>
 fn runs(alloc: Global, mask: &Mask) -> Result<Vec<(usize, usize)>, AllocError>
     ensures { IfOk result (λ v. v.items ≡ runs (truth mask.now)) }
 {
-    mask_bits::laws::runs_are_the_list();
-    mask.set_slices().collect(alloc)
+    let runs: Vec<_> = mask.set_slices().collect(alloc)?;
+    mask_bits::laws::runs_are_the_list(&runs);
+    Ok(runs)
 }

@@ -38,8 +38,9 @@ fn by_ranges<T: Copy>(
     ensures { IfOk result (λ v. (m : List Bool) → length rows.now ≡ length m
         → AreRanges m ranges.now → v.items ≡ chosen rows.now m) }
 {
-    laws::choosing_by_ranges::<T>();
-    copied(alloc, rows, ranges)
+    laws::choosing_by_ranges(rows, ranges);
+    let copied = copied(alloc, rows, ranges)?;
+    Ok(copied)
 }
 
 // The rows of ranges, one range after another.

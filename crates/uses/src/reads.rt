@@ -56,8 +56,8 @@ pub fn ranges_of(alloc: Global, mask: &mut Mask) -> Result<Vec<(usize, usize)>, 
 pub fn walked_ranges_of(alloc: Global, mask: &Mask) -> Result<Vec<(usize, usize)>, AllocError>
     ensures { IfOk result (λ walked. walked.items ≡ runs (truth mask.now)) }
 {
-    laws::runs_are_the_list();
     let walked = ranges(alloc, mask)?;
+    laws::runs_are_the_list(&walked);
     Ok(walked)
 }
 
@@ -70,9 +70,9 @@ pub fn ranges_of_both(
     requires { truth filter.now ≡ values bitmap.now }
     ensures { IfOk result (λ both. both.0.items ≡ both.1.items) }
 {
-    laws::runs_are_unique();
     let of_filter = ranges(alloc, filter)?;
     let of_bitmap = valid_ranges(alloc, bitmap)?;
+    laws::runs_are_unique(&of_filter, &of_bitmap);
     Ok((of_filter, of_bitmap))
 }
 

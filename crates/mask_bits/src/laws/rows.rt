@@ -2,7 +2,10 @@
 
 #![tactic(auto, using(crate::proofs::LawRules::laws))]
 
+ghost use Rattle.std.specs.Prelude.{◌≡◌, Bool, List, flat_map, length, slice_range};
 ghost use Rattle.mask_bits.specs.Laws.Rows.{ChosenAndTheRest, ChosenByTest, ChosenOfTwoChunks, ChosenOfChunks, ChosenByLimit, ChosenByAllTrue, ChosenByAllFalse, ChosenIsRowsAtPositions, CountOfChosen, ChosenByRanges};
+ghost use Rattle.mask_bits.specs.Positions.{chosen};
+ghost use Rattle.mask_bits.specs.Runs.{AreRanges};
 
 /// Choosing by an all-true list gives all rows, by an all-false one none, and by any list as many
 /// as its count: the rows at its true indices.
@@ -34,9 +37,10 @@ pub fn choosing_by_a_limit<T>()
 {}
 
 /// Rows copied range by range, by ranges that hold exactly the true indices, are the rows chosen.
-#[tactic(auto, using(crate::proofs::Lists::Runs::RangeRowLemmas::chosen_by_ranges))]
-pub fn choosing_by_ranges<T>()
+pub fn choosing_by_ranges<T>(rows: &[T], ranges: &[(usize, usize)])
     ensures rows { ChosenByRanges T }
+    ensures given { (m : List Bool) → length rows.now ≡ length m → AreRanges m ranges.now
+        → flat_map (λ r. slice_range rows.now r.0 r.1) ranges.now ≡ chosen rows.now m }
 {}
 
 /// The rows that a list chooses, and then those that its complement chooses, are all rows in another

@@ -2,16 +2,21 @@
 
 #![tactic(auto, using(crate::proofs::LawRules::laws))]
 
+ghost use Rattle.std.specs.Prelude.{◌≡◌, ◌↔◌, Bool, List};
 ghost use Rattle.mask_bits.specs.Laws.Runs.{AllTrueIsOneRange, AllTrueIsOneRun, AllFalseHasNoRange, AllFalseHasNoRun, RunsExist, RunsAreUnique, RunsAreRanges, RangesAddUpToTheCount, RunsAreTheList, RunOfAllTrue, RunsOfAllFalse};
+ghost use Rattle.mask_bits.specs.RunScan.{runs};
+ghost use Rattle.mask_bits.specs.Runs.{AreRuns};
 
 /// Each list has a list of runs.
 pub fn runs_exist()
     ensures exist { RunsExist }
 {}
 
-/// No list has two lists of runs.
-pub fn runs_are_unique()
+/// No list has two lists of runs: lists of ranges that are runs of one list are the same.
+pub fn runs_are_unique(left: &[(usize, usize)], right: &[(usize, usize)])
     ensures unique { RunsAreUnique }
+    ensures given { ((m : List Bool) × (AreRuns m left.now × AreRuns m right.now))
+        → left.now ≡ right.now }
 {}
 
 /// Runs are ranges that hold exactly the true indices.
@@ -20,8 +25,9 @@ pub fn runs_are_ranges()
 {}
 
 /// Ranges are a list's runs exactly if they are what `runs` gives.
-pub fn runs_are_the_list()
+pub fn runs_are_the_list(ranges: &[(usize, usize)])
     ensures only { RunsAreTheList }
+    ensures given { (m : List Bool) → (ranges.now ≡ runs m) ↔ AreRuns m ranges.now }
 {}
 
 /// An all-true list that isn't empty is one run, and an all-false one has none.

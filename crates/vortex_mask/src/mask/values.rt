@@ -329,7 +329,8 @@ impl MaskValues {
     fn runs(&self, alloc: Global) -> Result<Vec<(usize, usize)>, AllocError>
         ensures { IfOk result (λ ranges. ranges.items ≡ runs (values self.now.buffer)) }
     {
-        laws::runs_are_the_list();
-        self.buffer.set_slices().collect(alloc)
+        let ranges: Vec<_> = self.buffer.set_slices().collect(alloc)?;
+        laws::runs_are_the_list(&ranges);
+        Ok(ranges)
     }
 }
