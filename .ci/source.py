@@ -1,6 +1,6 @@
 """Reads Rust with contracts: the functions of a crate, their clauses, and where they stand; and spec files.
 
-What the scripts beside this file share. It reads text and runs nothing.
+What the scripts beside this file share. It reads text and runs nothing. `.ci/docs` runs the examples in it.
 """
 import re
 import textwrap
@@ -38,7 +38,13 @@ def spaces(text):
 
 
 def blanked(text):
-    """The text with comments, strings, characters and modules of tests as spaces, so that braces can be counted."""
+    """The text with comments, strings, characters and modules of tests as spaces, so that braces can be counted.
+
+    >>> blanked("f('{', '}{', \\"}\\"); // {").split()
+    ['f(', ',', "'}{',", ');']
+    >>> blanked("fn f() {}  #[cfg(test)] mod tests { fn t() { } }").split()
+    ['fn', 'f()', '{}']
+    """
     parts = r"//[^\n]*|\"(?:\\.|[^\"\\])*\"|'(?:\\[^'\n]+|[^'\\\n])'"
     code = re.sub(parts, lambda it: spaces(it[0]), text)
     for it in re.finditer(r"#\[cfg\(test\)\]\s*mod \w+ \{", code):
@@ -67,6 +73,11 @@ Block = namedtuple("Block", "start end owner trait is_public_trait ghosts")
 
 
 def blocks_of(code):
+    """
+    >>> code = "impl<'a, T: Into<Vec<u8>>> Model for Walk<'a> { ghost view = { 1 } } pub trait Cut: Sized { }"
+    >>> [it[2:] for it in blocks_of(code.replace("} pub", "}\\npub"))]
+    [('Walk', 'Model', False, ['view']), ('Cut', '', True, [])]
+    """
     for it in re.finditer(r"^(?:pub(?:\([^)]*\))? )?(impl|trait)\b([^{;]*)\{", code, re.M):
         end = closing(code, it.end() - 1)
         head = " ".join(without_generics(it[2].replace("->", "")).split()).split(" where ")[0]
@@ -92,14 +103,35 @@ def clauses_after(code, text, at):
 
 
 def module_of(file):
-    """The path of a file's module within its crate: nothing for the root."""
+    """The path of a file's module within its crate: nothing for the root.
+
+    >>> module_of(Path("crates/c/src/mask/limit.rt")), module_of(Path("crates/c/src/lib.rt"))
+    (('mask', 'limit'), ())
+    """
     parts = file.with_suffix("").parts
     parts = parts[len(parts) - parts[::-1].index("src") :]
     return () if parts in [("lib",), ("main",)] else parts
 
 
 def functions_in(file, text=None):
-    """The functions of a file, or of another text in its place."""
+    """The functions of a file, or of another text in its place.
+
+    >>> code = '''impl Mask {
+    ...     /// How many values.
+    ...     pub fn len(&self) -> usize
+    ...         requires { small }
+    ...         ensures len { result ≡ length self.now }
+    ...     { self.len }
+    ... }
+    ... fn low<T>(at: [u8; 2]) { { } }'''
+    >>> mask, low = functions_in(Path("crates/c/src/mask/len.rt"), code)
+    >>> mask.name, mask.path, mask.lines, mask.is_public, mask.clauses["len"]
+    ('Mask::len', 'Mask::len', (3, 6), True, ('ensures', ' result ≡ length self.now '))
+    >>> mask.clauses["requires"], mask.whole.split("\\n")[0]
+    (('requires', ' small '), '/// How many values.')
+    >>> low.name, low.path, low.lines, low.is_public, low.contract, low.clauses
+    ('len::low', 'mask::len::low', (8, 8), False, 'fn low<T>(at: [u8; 2])', {})
+    """
     text = file.read_text() if text is None else text
     code = blanked(text)
     blocks = list(blocks_of(code))
@@ -143,7 +175,11 @@ def clauses_of(crate):
 
 @cache
 def imports(text):
-    """The imports of code or of a spec file: `use` or `ghost use`, the path up to the names, and the names."""
+    """The imports of code or of a spec file: `use` or `ghost use`, the path up to the names, and the names.
+
+    >>> imports("ghost use Rattle.std.specs.Prelude.{◌≡◌, map};\\nuse std::alloc::Global;")
+    [('ghost use', 'Rattle.std.specs.Prelude.', ['◌≡◌', 'map']), ('use', 'std::alloc::', ['Global'])]
+    """
     line = r"^(?:pub )?((?:ghost )?use) ([\w.:]+(?:\.|::))(?:\{([^}]*)\}|(\w+))"
     found = re.findall(line, text, re.M)
     return [(kind, path, re.findall(r"[^\s,]+", group or name)) for kind, path, group, name in found]
