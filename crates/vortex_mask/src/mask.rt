@@ -8,6 +8,7 @@ mod concat;
 mod convert;
 mod error;
 mod fraction;
+mod from_count;
 mod from_indices;
 mod from_slices;
 mod iter;

@@ -1,4 +1,4 @@
--- Lists of one value, the variants that lists may have, and what masks keep.
+-- Lists of one value, and the variants that lists may have.
 use Rattle.std.specs.Prelude.{◌↔◌}
 use Rattle.std.proofs.Common.{◌-◌, ◌≤◌, slice_range, All, ◌≡◌, ℕ, zero, suc, ◌<◌, Bool, true, false, List, [], ◌∷◌, length, refl, sym, ap, ◌∙◌, arith, Some}
 use Rattle.std.specs.Cmp.{booleans_Decides}
@@ -14,7 +14,6 @@ use Rattle.mask_bits.proofs.Lists.Places.PlaceLemmas.{count-le-length}
 use Rattle.mask_bits.proofs.Lists.RankLemmas.{rank_intersection-all_true, rank_intersection-by_all_true}
 use Rattle.mask_bits.proofs.Lists.CountLemmas.{nil-repeated, slice_get-repeated, all_true-count, positions-repeated_true_at, All-repeated, repeated_from_All, count-repeated_true, count-repeated_false, all_true_from_count, all_false_from_count, list_all-count, list_all-count_less, list_any-count, list_any-count_zero, length-repeated}
 use Rattle.vortex_mask.specs.Laws.Masks.{UniformIsOfOneValue, AllTrueHasTrueValues, AllFalseHasFalseValues, SameTruthIsOneList}
-use Rattle.vortex_mask.specs.MaskValues.{AreOf, no_caches, only_indices}
 
 pub fitting_variant-all : (empty : Variant) (m : List Bool) → 0 < length m → count m ≡ length m → fitting_variant empty m ≡ all_true
 fitting_variant-all empty [] some e = absurd (omega arith)
@@ -107,15 +106,3 @@ uniform_is_of_one_value m = grind (arith, repeated-all m, repeated-none m, count
 
 pub same_truth_is_one_list : SameTruthIsOneList
 same_truth_is_one_list a b = slice_eq-Decides booleans_Decides (truth a) (truth b) (same_truth a b) refl
-
--- ---- lists that are kept
-
--- what a `Some` holds is one value
-some_one : {X : Type 0} (x y : X) → Some x ≡ Some y → x ≡ y
-some_one x y same = cc
-
-pub AreOf-no_caches : (m : List Bool) → AreOf m no_caches
-AreOf-no_caches m = record { indices = λ indices is. absurd (cc); ranges = λ ranges is. absurd (cc) }
-
-pub AreOf-only_indices : (m : List Bool) (indices : List ℕ) → indices ≡ positions m → AreOf m (only_indices indices)
-AreOf-only_indices m indices same = record { indices = λ kept is. sym (some_one indices kept is) ∙ same; ranges = λ ranges is. absurd (cc) }

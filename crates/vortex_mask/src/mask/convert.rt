@@ -1,17 +1,15 @@
 //! Masks from buffers and truth values, and buffers from masks.
 
-ghost use Rattle.std.specs.Prelude.{◌≡◌, ◌<◌, true, IsOk, IfOk, Some, All, IsOkUnless, alloc_error, None, Ok};
+ghost use Rattle.std.specs.Prelude.{◌≡◌, ◌<◌, true, IsOk, IfOk, All, IsOkUnless, alloc_error, Ok};
 ghost use Rattle.std.specs.Fn.{FnReturnsAt};
 ghost use Rattle.std.specs.Iterator.{UpTo, Drains};
 ghost use Rattle.std.specs.Iterator.Runs.{WholeRun};
-ghost use Rattle.std.specs.Option.{option_map};
 ghost use Rattle.vortex_mask.specs.AllOr.{all_or_copied, IsListOf};
 ghost use Rattle.mask_bits.specs.Buffer.{values};
-ghost use Rattle.mask_bits.specs.Positions.{count};
 ghost use Rattle.mask_bits.specs.Rows.{AreAnswers, AreAsComputed};
 ghost use Rattle.vortex_mask.specs.Caches.{caches, where_mixed};
-ghost use Rattle.vortex_mask.specs.Mask.{truth, variant, fitting_variant, all_false, mixed, IsUniform, held_buffer};
-ghost use Rattle.vortex_mask.specs.MaskValues.{no_caches, AreOf, only_ranges};
+ghost use Rattle.vortex_mask.specs.Mask.{truth, variant, fitting_variant, all_false, IsUniform, held_buffer};
+ghost use Rattle.vortex_mask.specs.MaskValues.{no_caches, only_ranges};
 ghost use Rattle.vortex_mask.specs.declared.mask.Mask.TheVariants.{AllTrue};
 ghost use Rattle.mask_bits.specs.RunScan.{runs};
 ghost use Rattle.mask_bits.specs.Runs.{AreRanges};
@@ -20,7 +18,6 @@ use crate::mask::from_slices::merge_touching;
 use crate::mask::{AllOr, Mask, MaskError, MaskValues};
 use mask_bits::BitBuffer;
 use std::alloc::Global;
-use std::rc::Rc;
 
 /// From packed or single values.
 #[tactic(auto, using(crate::proofs::Masks::MaskLemmas::variant_facts))]
@@ -56,34 +53,6 @@ impl Mask {
         merge_touching(&mut ranges);
         let true_count = buffer.true_count();
         Mask::from_counted_buffer(alloc, buffer, true_count, Some(ranges))
-    }
-
-    // The values of a buffer, of which `true_count` are true. Where they are mixed they keep these
-    // ranges, the buffer's runs.
-    pub(crate) fn from_counted_buffer(
-        alloc: Global,
-        buffer: BitBuffer,
-        true_count: usize,
-        ranges: Option<Vec<(usize, usize)>>,
-    ) -> Result<Mask, MaskError>
-        requires counted { true_count ≡ count (values buffer) }
-        requires ranges { AreOf (values buffer) (record { indices = None; ranges = option_map (λ l. l.items) ranges }) }
-        ensures list { IfOk result (λ m. truth m ≡ values buffer) }
-        ensures variant { IfOk result (λ m. variant m ≡ fitting_variant all_false (values buffer)) }
-        ensures caches { IfOk result (λ m. caches m
-            ≡ where_mixed m (record { indices = None; ranges = option_map (λ l. l.items) ranges })) }
-        ensures uniform { IsUniform (values buffer) → IsOk result }
-        ensures refused { IsOkUnless result (MaskError.Memory alloc_error) }
-    {
-        let len = buffer.len();
-        if true_count == 0 {
-            return Ok(Mask::AllFalse(len));
-        }
-        if true_count == len {
-            return Ok(Mask::AllTrue(len));
-        }
-        let values = MaskValues::new(buffer, true_count, None, ranges);
-        Ok(Mask::Values(Rc::new(alloc, values)?))
     }
 
     /// The values that an iterator yields, in their order. No values give `AllFalse(0)`.

@@ -1,6 +1,6 @@
 //! Masks from indices, and what is wrong with a list of them.
 
-ghost use Rattle.std.specs.Prelude.{◌≡◌, ◌+◌, ◌<◌, ◌≤◌, ◌≢◌, ◌⊎◌, ◌↔◌, IsTrue, IsOk, IfOk, IfErr, All, Some, None, Ok, Err, length, vec_len, IsOkUnless, alloc_error, ℕ, List, true, false, slice_set};
+ghost use Rattle.std.specs.Prelude.{◌≡◌, ◌+◌, ◌<◌, ◌≤◌, ◌⊎◌, ◌↔◌, IsTrue, IfOk, IfErr, Some, None, Ok, Err, length, alloc_error, ℕ, List, true, false, slice_set};
 ghost use Rattle.std.specs.Iterator.{IsFinite, Drains};
 ghost use Rattle.std.specs.Iterator.Runs.{WholeRun, EachRunFrom};
 ghost use Rattle.std.specs.List.Sorted.{IsStrictlyIncreasing};
@@ -14,11 +14,10 @@ ghost use Rattle.vortex_mask.specs.MaskValues.{only_indices, no_caches};
 ghost use Rattle.mask_bits.specs.Lists.{not_of};
 ghost use Rattle.vortex_mask.specs.Ascending.{IsAscending};
 
-use crate::mask::{Mask, MaskError, MaskValues, MaskValuesRef};
-use mask_bits::{BitBuffer, BitBufferMut};
+use crate::mask::{Mask, MaskError};
+use mask_bits::BitBufferMut;
 use std::alloc::{AllocError, Global};
 use std::cmp::Ordering;
-use std::rc::Rc;
 
 /// Masks of true indices.
 impl Mask {
@@ -71,54 +70,6 @@ impl Mask {
         }
         Mask::of_indices(alloc, len, indices)
     }
-
-    // The mask of `len` values that is true exactly at these indices, which it caches.
-    #[tactic(auto, using(crate::proofs::Masks::MaskLemmas::variant_facts, crate::proofs::Masks::PlaceListLemmas::index_facts))]
-    pub(crate) fn of_indices(
-        alloc: Global,
-        len: usize,
-        indices: Vec<usize>,
-    ) -> Result<Mask, MaskError>
-        requires ascending { IsStrictlyIncreasing indices.items }
-        requires within { All (λ i. i < len) indices.items }
-        ensures len { IfOk result (λ m. length (truth m) ≡ len) }
-        ensures indices { IfOk result (λ m. positions (truth m) ≡ indices.items) }
-        ensures variant { IfOk result (λ m. variant m ≡ fitting_variant all_false (truth m)) }
-        ensures caches { IfOk result
-            (λ m. caches m ≡ where_mixed m (only_indices indices.items)) }
-        ensures uniform { (vec_len indices ≡ 0) ⊎ (vec_len indices ≡ len) → IsOk result }
-        ensures refused { IsOkUnless result (MaskError.Memory alloc_error) }
-    {
-        mask_bits::laws::lists_of_one_value();
-        let true_count = indices.len();
-        if true_count == 0 {
-            return Ok(Mask::AllFalse(len));
-        }
-        if true_count == len {
-            return Ok(Mask::AllTrue(len));
-        }
-        Ok(Mask::Values(of_some_indices(alloc, len, indices)?))
-    }
-}
-
-// The values of `len` rows that are true exactly at these indices, which are some and not all.
-fn of_some_indices(
-    alloc: Global,
-    len: usize,
-    indices: Vec<usize>,
-) -> Result<MaskValuesRef, MaskError>
-    requires ascending { IsStrictlyIncreasing indices.items }
-    requires within { All (λ i. i < len) indices.items }
-    requires some { 0 < vec_len indices }
-    requires not_all { vec_len indices ≢ len }
-    ensures list { IfOk result (λ v. values v.value.buffer ≡ true_at len indices.items) }
-    ensures caches { IfOk result (λ v. v.value.caches ≡ only_indices indices.items) }
-    ensures refused { IsOkUnless result (MaskError.Memory alloc_error) }
-{
-    let true_count = indices.len();
-    let buffer = BitBuffer::from_indices(alloc, len, &indices)?;
-    let values = MaskValues::new(buffer, true_count, Some(indices), None);
-    Ok(Rc::new(alloc, values)?)
 }
 
 // Order over the whole list first, then repeats, then bounds.

@@ -68,15 +68,12 @@ impl Mask {
         ensures refused { IsOkUnless result (MaskError.Memory alloc_error) }
     {
         let true_count = rows_held(&ranges);
-        if true_count == 0 {
-            return Ok(Mask::AllFalse(len));
-        }
-        if true_count == len {
-            return Ok(Mask::AllTrue(len));
+        if let Some(mask) = Mask::of_one_value(len, true_count) {
+            return Ok(mask);
         }
         let buffer = buffer_of(alloc, len, &ranges)?;
         merge_touching(&mut ranges);
-        Mask::from_counted_buffer(alloc, buffer, true_count, Some(ranges))
+        Mask::of_mixed(alloc, buffer, true_count, None, Some(ranges))
     }
 }
 

@@ -9,7 +9,6 @@ ghost use Rattle.vortex_mask.specs.MaskValues.{no_caches};
 ghost use Rattle.vortex_mask.specs.Steps.{word_steps};
 ghost use Rattle.mask_bits.specs.Words.{started_words};
 
-use super::of_words;
 use crate::intersect_by_rank::{DepositBits, RankBits, Steps};
 use crate::mask::{Mask, MaskError};
 use mask_bits::words::set_word;
@@ -37,7 +36,7 @@ pub fn intersect_bit_buffers<D: DepositBits>(
     let mut words = vec![in alloc; 0u8; 8 * len.div_ceil(64)]?;
     let ranks = RankBits::new(mask_buffer);
     let steps = narrow_by_bits::<D>(&self_buffer.chunks(), &ranks, &mut words);
-    Ok((of_words(alloc, words, len, true_count)?, steps))
+    Ok((Mask::of_words(alloc, words, len, true_count)?, steps))
 }
 
 /// Writes the values of `chunks` narrowed by those of `ranks` to `out`, which has just the bytes of

@@ -12,7 +12,6 @@ ghost use Rattle.vortex_mask.specs.Steps.{word_steps};
 ghost use Rattle.mask_bits.specs.Words.{word_bits, started_words};
 ghost use Rattle.vortex_mask.specs.Ranks.{AreSplit};
 
-use super::of_words;
 use crate::intersect_by_rank::{DepositBits, Steps};
 use crate::mask::{Mask, MaskError};
 use mask_bits::words::set_word;
@@ -39,7 +38,10 @@ pub fn intersect_bit_buffer_by_rank_indices<D: DepositBits>(
     let len = self_buffer.len();
     let mut words = vec![in alloc; 0u8; 8 * len.div_ceil(64)]?;
     let steps = narrow_at_ranks::<D>(&self_buffer.chunks(), mask_indices, &mut words);
-    Ok((of_words(alloc, words, len, mask_indices.len())?, steps))
+    Ok((
+        Mask::of_words(alloc, words, len, mask_indices.len())?,
+        steps,
+    ))
 }
 
 /// Writes the values of `chunks` narrowed to the true ones whose numbers are `ranks` to `out`, which
