@@ -1,11 +1,11 @@
 //! The first true values of a mask.
 
-ghost use Rattle.std.specs.Prelude.{◌≡◌, ◌≢◌, ◌-◌, ◌<◌, ◌≤◌, ◌++◌, false, IsOk, IfOk, IsOkUnless, Ok, alloc_error, length, min, slice_range};
+ghost use Rattle.std.specs.Prelude.{◌≡◌, ◌≢◌, ◌+◌, ◌<◌, ◌≤◌, ◌^◌, ◌++◌, IsOk, IfOk, OnOk, IsOkUnless, Ok, alloc_error, length, min, slice_range};
 ghost use Rattle.mask_bits.specs.Buffer.{values};
 ghost use Rattle.mask_bits.specs.Lists.{limited};
-ghost use Rattle.mask_bits.specs.Positions.{count, repeated};
+ghost use Rattle.mask_bits.specs.Positions.{count};
 ghost use Rattle.vortex_mask.specs.Caches.{caches};
-ghost use Rattle.vortex_mask.specs.Mask.{truth, variant, fitting_variant, mixed};
+ghost use Rattle.vortex_mask.specs.Mask.{truth, variant, fitting_variant, all_false, mixed};
 ghost use Rattle.vortex_mask.specs.MaskValues.{no_caches};
 
 use crate::laws;
@@ -35,11 +35,11 @@ impl Mask {
             laws::one_variant(&self);
             return Ok(self);
         }
-        self.to_limited(alloc, k)
+        self.limit_below_count(alloc, k)
     }
 
-    /// The same of a mask that is only lent. Where it has no more true values, the result is its
-    /// clone.
+    /// The first `k` true values of a mask that is only lent, and false ones from there on. The
+    /// result is a clone of a mask that has no more true ones.
     pub fn to_limited(&self, alloc: Global, k: usize) -> Result<Mask, MaskError>
         ensures list { IfOk result (λ m. truth m ≡ limited (truth self.now) k) }
         ensures len { IfOk result (λ m. length (truth m) ≡ length (truth self.now)) }
@@ -55,14 +55,26 @@ impl Mask {
         ensures none { k ≡ 0 → 0 < count (truth self.now) → IsOk result }
         ensures refused { IsOkUnless result (MaskError.Memory alloc_error) }
     {
-        if k >= self.true_count() {
+        if self.true_count() <= k {
             laws::one_variant(self);
-            return Ok(self.clone()?);
+            return self.clone();
         }
+        self.limit_below_count(alloc, k)
+    }
+
+    // The first `k` true values of more, and false ones from there on.
+    fn limit_below_count(&self, alloc: Global, k: usize) -> Result<Mask, MaskError>
+        requires { k < count (truth self.now) }
+        ensures list { IfOk result (λ m. truth m ≡ limited (truth self.now) k) }
+        ensures variant { IfOk result (λ m. variant m ≡ fitting_variant all_false (truth m)) }
+        ensures caches { IfOk result (λ m. caches m ≡ no_caches) }
+        ensures none { k ≡ 0 → IsOk result }
+        ensures refused { IsOkUnless result (MaskError.Memory alloc_error) }
+    {
         if k == 0 {
             return Ok(Mask::AllFalse(self.len()));
         }
-        Ok(Mask::from_buffer(alloc, self.first_true(alloc, k)?)?)
+        Mask::from_counted_buffer(alloc, self.first_true(alloc, k)?, k, None)
     }
 
     // The first `k` true values of more, packed.
@@ -70,31 +82,24 @@ impl Mask {
         requires { k < count (truth self.now) }
         ensures { IfOk result (λ b. values b ≡ limited (truth self.now) k) }
     {
-        let front = self.first_values(alloc, self.rank(k))?;
-        Ok(with_false_behind(alloc, &front, self.len())?)
+        let len = self.len();
+        let end = self.rank(k);
+        let mut bits = BitBufferMut::with_capacity(alloc, len)?;
+        self.append_front(&mut bits, end)?;
+        bits.append_n(false, len - bits.len())?;
+        bits.freeze()
     }
 
-    // The values before index `end`, packed.
-    fn first_values(&self, alloc: Global, end: usize) -> Result<BitBuffer, AllocError>
-        requires { end ≤ length (truth self.now) }
-        ensures { IfOk result (λ b. values b ≡ slice_range (truth self.now) 0 end) }
+    // Appends the values before index `end`.
+    fn append_front(&self, bits: &mut BitBufferMut, end: usize) -> Result<(), AllocError>
+        requires within { end ≤ length (truth self.now) }
+        requires fits { length bits.old + end < 2 ^ 64 }
+        ensures { OnOk result (bits.new ≡ bits.old ++ slice_range (truth self.now) 0 end) }
     {
         match self {
-            Mask::AllTrue(_) => Ok(BitBuffer::new_set(alloc, end)?),
-            Mask::AllFalse(_) => Ok(BitBuffer::new_unset(alloc, end)?),
-            Mask::Values(values) => values.bit_buffer().slice(0, end),
+            Mask::AllTrue(_) => bits.append_n(true, end),
+            Mask::AllFalse(_) => bits.append_n(false, end),
+            Mask::Values(values) => bits.append_buffer(&values.bit_buffer().slice(0, end)?),
         }
     }
-}
-
-// The values of a buffer, and false ones behind them up to `len`.
-fn with_false_behind(alloc: Global, front: &BitBuffer, len: usize) -> Result<BitBuffer, AllocError>
-    requires { length (values front.now) ≤ len }
-    ensures { IfOk result
-        (λ b. values b ≡ values front.now ++ repeated (len - length (values front.now)) false) }
-{
-    let mut bits = BitBufferMut::with_capacity(alloc, len)?;
-    bits.append_buffer(front)?;
-    bits.append_n(false, len - front.len())?;
-    bits.freeze()
 }
