@@ -121,7 +121,7 @@ between-last f a b last ys q i e v w r begins is_e len is_ys is_v is_w is_r wrot
       ]);
     }
 
--- the bits of a byte turned
+-- the bits of a byte negated
 pub between-byte : (a b : List ℕ) (q i : ℕ) → i < length a → IsCombinedBetween (λ x y. not x) a b (set a i (bit_xor (get_or a i 0) 255)) q (8 * i) (8 * (i + 1))
 between-byte a b q i h =
     let x = get_or a i 0 in

@@ -8,6 +8,7 @@ use Rattle.std.proofs.lemmas.Bool.Decides.{nat_tests}
 use Rattle.std.proofs.lemmas.List.{ext_get_or}
 use Rattle.std.proofs.lemmas.Nat.{and_le_l}
 use Rattle.std.proofs.lemmas.Nat.Bits.{same_from_bits, same_from_bits_below, bit_at-lt, bit_at-zero, bit_at_or, bit_at_xor}
+use Rattle.mask_bits.specs.Bitmap.{bitmap}
 use Rattle.mask_bits.specs.Buffer.{Packed, backing_bit, values}
 use Rattle.mask_bits.specs.Combine.{IsNoneTrue}
 use Rattle.mask_bits.specs.Lists.{combined, xor_of}
@@ -18,7 +19,7 @@ use Rattle.mask_bits.proofs.CombineLemmas.{backing_bit-drop, combined_bit}
 use Rattle.mask_bits.proofs.Lists.BooleanLemmas.{combined-append, combined-take, length-combined, get_or-combined}
 use Rattle.mask_bits.proofs.Lists.CountLemmas.{count-append, count-repeated_false, length-repeated, get_or-repeated}
 use Rattle.mask_bits.proofs.Lists.Places.PlaceLemmas.{count-le-length}
-use Rattle.mask_bits.proofs.Lists.Words.BackingBitLemmas.{bits_at, bits_at-append, length-bits_at, get_or-bits_at}
+use Rattle.mask_bits.proofs.Lists.Words.BackingBitLemmas.{bitmap-append, length-bitmap, get_or-bitmap}
 use Rattle.mask_bits.proofs.Lists.Words.FrontLemmas.{window-take, window-whole}
 use Rattle.mask_bits.proofs.Lists.Words.ShiftLemmas.{bit_at-low_mask, bit_at-past_mask, word_bits-low_mask}
 use Rattle.mask_bits.proofs.Lists.Words.WordLemmas.{count-word_bits, get_or-word_bits}
@@ -142,40 +143,40 @@ same_from_none_unlike a b n len len_b = (
 -- ---- counts
 
 -- some values, and those past them
-bits_at-combined : (f : Bool → Bool → Bool) (a b : List ℕ) (p q m n : ℕ)
-    → combined f (bits_at a p m) (bits_at b q m) ++ combined f (bits_at a (p + m) n) (bits_at b (q + m) n) ≡ combined f (bits_at a p (m + n)) (bits_at b q (m + n))
-bits_at-combined f a b p q m n =
-    sym (ap₂ (combined f) (bits_at-append a p m n) (bits_at-append b q m n)
-    ∙ combined-append f (bits_at a p m) (bits_at b q m) (bits_at a (p + m) n) (bits_at b (q + m) n) (length-bits_at a p m ∙ sym (length-bits_at b q m)))
+bitmap-combined : (f : Bool → Bool → Bool) (a b : List ℕ) (p q m n : ℕ)
+    → combined f (bitmap a p m) (bitmap b q m) ++ combined f (bitmap a (p + m) n) (bitmap b (q + m) n) ≡ combined f (bitmap a p (m + n)) (bitmap b q (m + n))
+bitmap-combined f a b p q m n =
+    sym (ap₂ (combined f) (bitmap-append a p m n) (bitmap-append b q m n)
+    ∙ combined-append f (bitmap a p m) (bitmap b q m) (bitmap a (p + m) n) (bitmap b (q + m) n) (length-bitmap a p m ∙ sym (length-bitmap b q m)))
 
 -- the true values of one more word
 pub count-step : (f : Bool → Bool → Bool) (a b : List ℕ) (p q i n v w r : ℕ)
-    → n ≡ count (combined f (bits_at a p (64 * i)) (bits_at b q (64 * i))) → r < 2 ^ 64
+    → n ≡ count (combined f (bitmap a p (64 * i)) (bitmap b q (64 * i))) → r < 2 ^ 64
     → word_bits v ≡ window a (p + 64 * i) → word_bits w ≡ window b (q + 64 * i) → word_bits r ≡ combined f (word_bits v) (word_bits w)
-    → n + count_ones r ≡ count (combined f (bits_at a p (64 * (i + 1))) (bits_at b q (64 * (i + 1))))
+    → n + count_ones r ≡ count (combined f (bitmap a p (64 * (i + 1))) (bitmap b q (64 * (i + 1))))
 count-step f a b p q i n v w r before fits is_v is_w is_r =
     let next : 64 * i + 64 ≡ 64 * (i + 1) = omega arith in
-    let here : word_bits r ≡ combined f (bits_at a (p + 64 * i) 64) (bits_at b (q + 64 * i) 64)
+    let here : word_bits r ≡ combined f (bitmap a (p + 64 * i) 64) (bitmap b (q + 64 * i) 64)
     = is_r ∙ ap₂ (combined f) (is_v ∙ window-whole a (p + 64 * i)) (is_w ∙ window-whole b (q + 64 * i)) in
     ap₂ (λ (x y : ℕ). x + y) before (sym (count-word_bits r fits) ∙ ap count here)
-    ∙ sym (count-append (combined f (bits_at a p (64 * i)) (bits_at b q (64 * i))) (combined f (bits_at a (p + 64 * i) 64) (bits_at b (q + 64 * i) 64)))
-    ∙ ap count (bits_at-combined f a b p q (64 * i) 64)
-    ∙ ap (λ k. count (combined f (bits_at a p k) (bits_at b q k))) next
+    ∙ sym (count-append (combined f (bitmap a p (64 * i)) (bitmap b q (64 * i))) (combined f (bitmap a (p + 64 * i) 64) (bitmap b (q + 64 * i) 64)))
+    ∙ ap count (bitmap-combined f a b p q (64 * i) 64)
+    ∙ ap (λ k. count (combined f (bitmap a p k) (bitmap b q k))) next
 
 -- of none
-pub count-none : (f : Bool → Bool → Bool) (a b : List ℕ) (p q : ℕ) → 0 ≡ count (combined f (bits_at a p 0) (bits_at b q 0))
-count-none f a b p q = omega (arith, count-le-length (combined f (bits_at a p 0) (bits_at b q 0)), length-combined f (bits_at a p 0) (bits_at b q 0), length-bits_at a p 0, length-bits_at b q 0)
+pub count-none : (f : Bool → Bool → Bool) (a b : List ℕ) (p q : ℕ) → 0 ≡ count (combined f (bitmap a p 0) (bitmap b q 0))
+count-none f a b p q = omega (arith, count-le-length (combined f (bitmap a p 0) (bitmap b q 0)), length-combined f (bitmap a p 0) (bitmap b q 0), length-bitmap a p 0, length-bitmap b q 0)
 
 -- no more are true than there are
-pub count-at_most : (f : Bool → Bool → Bool) (a b : List ℕ) (p q n : ℕ) → count (combined f (bits_at a p n) (bits_at b q n)) ≤ n
-count-at_most f a b p q n = omega (arith, count-le-length (combined f (bits_at a p n) (bits_at b q n)), length-combined f (bits_at a p n) (bits_at b q n), length-bits_at a p n, length-bits_at b q n)
+pub count-at_most : (f : Bool → Bool → Bool) (a b : List ℕ) (p q n : ℕ) → count (combined f (bitmap a p n) (bitmap b q n)) ≤ n
+count-at_most f a b p q n = omega (arith, count-le-length (combined f (bitmap a p n) (bitmap b q n)), length-combined f (bitmap a p n) (bitmap b q n), length-bitmap a p n, length-bitmap b q n)
 
 -- the first bits of a word
 pub count-low : (f : Bool → Bool → Bool) (a b : List ℕ) (p q v w r mask n : ℕ) → n < 64 → bit_and r mask < 2 ^ 64
     → word_bits v ≡ window a p → word_bits w ≡ window b q → word_bits r ≡ combined f (word_bits v) (word_bits w) → mask ≡ 2 ^ n - 1
-    → count_ones (bit_and r mask) ≡ count (combined f (bits_at a p n) (bits_at b q n))
+    → count_ones (bit_and r mask) ≡ count (combined f (bitmap a p n) (bitmap b q n))
 count-low f a b p q v w r mask n few fits is_v is_w is_r is =
-    let front : take n (word_bits r) ≡ combined f (bits_at a p n) (bits_at b q n)
+    let front : take n (word_bits r) ≡ combined f (bitmap a p n) (bitmap b q n)
     = ap (take n) (is_r ∙ ap₂ (combined f) is_v is_w) ∙ combined-take f n (window a p) (window b q)
     ∙ ap₂ (combined f) (window-take a p n (omega arith)) (window-take b q n (omega arith)) in
     sym (count-word_bits (bit_and r mask) fits) ∙ ap (λ m. count (word_bits (bit_and r m))) is
@@ -184,19 +185,19 @@ count-low f a b p q v w r mask n few fits is_v is_w is_r is =
     ∙ omega (arith, ap count front, count-repeated_false (64 - n))
 
 -- the same bits, seen from the byte that they begin in
-pub bits_at-byte : (bytes from : List ℕ) (p n : ℕ) → from ≡ drop (p / 8) bytes → bits_at from (p % 8) n ≡ bits_at bytes p n
-bits_at-byte bytes from p n is =
-    ext_get_or false (bits_at from (p % 8) n) (bits_at bytes p n) (length-bits_at from (p % 8) n ∙ sym (length-bits_at bytes p n)) (λ j h.
-    let few : j < n = omega (arith, length-bits_at from (p % 8) n) in
-    get_or-bits_at from (p % 8) n j false few ∙ ap (λ (xs : List ℕ). backing_bit xs (p % 8 + j)) is ∙ backing_bit-drop bytes p j ∙ sym (get_or-bits_at bytes p n j false few))
+pub bitmap-byte : (bytes from : List ℕ) (p n : ℕ) → from ≡ drop (p / 8) bytes → bitmap from (p % 8) n ≡ bitmap bytes p n
+bitmap-byte bytes from p n is =
+    ext_get_or false (bitmap from (p % 8) n) (bitmap bytes p n) (length-bitmap from (p % 8) n ∙ sym (length-bitmap bytes p n)) (λ j h.
+    let few : j < n = omega (arith, length-bitmap from (p % 8) n) in
+    get_or-bitmap from (p % 8) n j false few ∙ ap (λ (xs : List ℕ). backing_bit xs (p % 8 + j)) is ∙ backing_bit-drop bytes p j ∙ sym (get_or-bitmap bytes p n j false few))
 
 -- whole words, and the bits past them
 pub count-parts : (f : Bool → Bool → Bool) (a b : List ℕ) (p q n : ℕ)
-    → count (combined f (bits_at a p (64 * (n / 64))) (bits_at b q (64 * (n / 64)))) + count (combined f (bits_at a (p + 64 * (n / 64)) (n % 64)) (bits_at b (q + 64 * (n / 64)) (n % 64)))
-    ≡ count (combined f (bits_at a p n) (bits_at b q n))
+    → count (combined f (bitmap a p (64 * (n / 64))) (bitmap b q (64 * (n / 64)))) + count (combined f (bitmap a (p + 64 * (n / 64)) (n % 64)) (bitmap b (q + 64 * (n / 64)) (n % 64)))
+    ≡ count (combined f (bitmap a p n) (bitmap b q n))
 count-parts f a b p q n =
     let w : ℕ = 64 * (n / 64) in
     let e : w + n % 64 ≡ n = omega arith in
-    sym (count-append (combined f (bits_at a p w) (bits_at b q w)) (combined f (bits_at a (p + w) (n % 64)) (bits_at b (q + w) (n % 64))))
-    ∙ ap count (bits_at-combined f a b p q w (n % 64))
-    ∙ ap (λ k. count (combined f (bits_at a p k) (bits_at b q k))) e
+    sym (count-append (combined f (bitmap a p w) (bitmap b q w)) (combined f (bitmap a (p + w) (n % 64)) (bitmap b (q + w) (n % 64))))
+    ∙ ap count (bitmap-combined f a b p q w (n % 64))
+    ∙ ap (λ k. count (combined f (bitmap a p k) (bitmap b q k))) e

@@ -1,3 +1,4 @@
+pub mod Bitmap
 pub mod Buffer
 pub mod BufferMut
 pub mod Combine

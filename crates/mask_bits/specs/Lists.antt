@@ -23,7 +23,7 @@ and_not_of a b = combined (λ x y. x && not y) a b
 abbrev pub xor_of : List Bool → List Bool → List Bool
 xor_of a b = combined (λ x y. x && not y || not x && y) a b
 
--- each value turned
+-- each value negated
 abbrev pub not_of : List Bool → List Bool
 not_of a = map not a
 

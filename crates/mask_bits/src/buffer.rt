@@ -4,6 +4,7 @@ ghost use Rattle.std.specs.Prelude.{◌≡◌, ◌+◌, ◌-◌, ◌*◌, ◌<�
 ghost use Rattle.std.specs.Iterator.{UpTo, Drains, YieldsFirst};
 ghost use Rattle.std.specs.Iterator.Runs.{WholeRun, YieldsInOrder};
 ghost use Rattle.std.specs.List.Sorted.{IsStrictlyIncreasing};
+ghost use Rattle.mask_bits.specs.Bitmap.{bitmap};
 ghost use Rattle.mask_bits.specs.Buffer.{Packed, IsWithinBytes, values, backing_bit};
 ghost use Rattle.mask_bits.specs.Positions.{positions, count, repeated, true_at, IsFirstFrom};
 ghost use Rattle.mask_bits.specs.Runs.{AreRuns};
@@ -222,7 +223,7 @@ impl BitBuffer {
     // The bytes from the first value's on, where nobody else holds them and that value begins one.
     pub(crate) fn into_room(self) -> Result<BytesMut, BitBuffer>
         ensures list { MatchResult result
-            (λ room. values (record { bytes = room.items; offset = 0; len = self.len }) ≡ values self)
+            (λ room. bitmap room.items 0 self.len ≡ values self)
             (λ b. b ≡ self) }
         ensures covered { IfOk result (λ room. self.len ≤ 8 * length room.items) }
     {
@@ -242,8 +243,7 @@ impl BitBuffer {
     // The first `len` bits of bytes that were written in place.
     pub(crate) fn from_room(room: BytesMut, len: usize) -> Result<BitBuffer, AllocError>
         requires { len ≤ 8 * length room.items }
-        ensures { IfOk result
-            (λ b. values b ≡ values (record { bytes = room.items; offset = 0; len = len })) }
+        ensures { IfOk result (λ b. values b ≡ bitmap room.items 0 len) }
     {
         Ok(BitBuffer::new(room.freeze()?, len))
     }

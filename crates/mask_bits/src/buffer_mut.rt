@@ -1,6 +1,7 @@
 //! A builder of packed bits.
 
 ghost use Rattle.std.specs.Prelude.{◌≡◌, ◌+◌, ◌*◌, ◌%◌, ◌^◌, ◌<◌, ◌≤◌, ◌++◌, ℕ, true, false, [], length, take, slice_set, IfOk, OnOk, OnErr, vec_len};
+ghost use Rattle.mask_bits.specs.Bitmap.{bitmap};
 ghost use Rattle.mask_bits.specs.Buffer.{backing_bit, values};
 ghost use Rattle.mask_bits.specs.Positions.{repeated};
 ghost use Rattle.mask_bits.specs.Words.{word_bits};
@@ -23,12 +24,12 @@ pub struct BitBufferMut {
 
 impl Model for BitBufferMut {
     ghost use Rattle.std.specs.Prelude.{Bool, List};
-    ghost use Rattle.mask_bits.specs.Buffer.{values};
+    ghost use Rattle.mask_bits.specs.Bitmap.{bitmap};
     ghost use Rattle.mask_bits.specs.BufferMut.{IsRoom};
 
     ghost Value = { List Bool };
 
-    ghost view = { λ b. values (record { bytes = b.bytes.items; offset = 0; len = b.len }) };
+    ghost view = { λ b. bitmap b.bytes.items 0 b.len };
 
     ghost invariant = { λ b. IsRoom b.bytes.items b.len };
 }

@@ -4,6 +4,7 @@ ghost use Rattle.std.specs.Prelude.{◌≡◌, ◌+◌, ◌-◌, ◌*◌, ◌/�
 ghost use Rattle.std.specs.Iterator.{YieldsFirstBy, UpTo, item_count};
 ghost use Rattle.std.specs.Iterator.Runs.{EveryRun, ItemsMapTo};
 ghost use Rattle.std.specs.Iterator.SizeHint.{IsWithinCount};
+ghost use Rattle.mask_bits.specs.Bitmap.{bitmap};
 ghost use Rattle.mask_bits.specs.Buffer.{IsWithinBytes, backing_bit, values};
 ghost use Rattle.mask_bits.specs.Positions.{IsFirstFrom, count, positions};
 ghost use Rattle.mask_bits.specs.Words.{word_bits, word_part, word_parts, padded_remainder};
@@ -24,11 +25,12 @@ pub struct BitChunks<'a> {
 
 impl<'a> Model for BitChunks<'a> {
     ghost use Rattle.std.specs.Prelude.{Bool, List};
-    ghost use Rattle.mask_bits.specs.Buffer.{IsWithinBytes, values};
+    ghost use Rattle.mask_bits.specs.Bitmap.{bitmap};
+    ghost use Rattle.mask_bits.specs.Buffer.{IsWithinBytes};
 
     ghost Value = { List Bool };
 
-    ghost view = { λ c. values (record { bytes = c.bytes.now; offset = c.offset; len = c.len }) };
+    ghost view = { λ c. bitmap c.bytes.now c.offset c.len };
 
     ghost invariant = { λ c. IsWithinBytes c.bytes.now c.offset c.len };
 }
@@ -37,7 +39,7 @@ impl<'a> BitChunks<'a> {
     /// The words of `len` bits of `bytes` from bit `offset` on, without a `BitBuffer`.
     pub fn new(bytes: &'a [u8], offset: usize, len: usize) -> BitChunks<'a>
         requires { IsWithinBytes bytes.now offset len }
-        ensures list { result ≡ values (record { bytes = bytes.now; offset = offset; len = len }) }
+        ensures list { result ≡ bitmap bytes.now offset len }
         ensures len { length result ≡ len }
     {
         BitChunks { bytes, offset, len }
@@ -203,8 +205,7 @@ impl<'a> BitChunks<'a> {
 #[inline(never)]
 fn remainder(bytes: &[u8], offset: usize, len: usize) -> u64
     requires { IsWithinBytes bytes.now offset len }
-    ensures { word_bits result
-        ≡ padded_remainder (values (record { bytes = bytes.now; offset = offset; len = len })) }
+    ensures { word_bits result ≡ padded_remainder (bitmap bytes.now offset len) }
 {
     let rest = len % 64;
     word_at(bytes, offset + (len - rest)) & ((1 << rest) - 1)

@@ -2,7 +2,8 @@
 
 ghost use Rattle.std.specs.Prelude.{◌≡◌, ◌+◌, ◌*◌, ◌/◌, ◌^◌, ◌<◌, ◌≤◌, ◌&&◌, ◌||◌, ℕ, not, min, length};
 ghost use Rattle.std.specs.Int.{div_ceil};
-ghost use Rattle.mask_bits.specs.Buffer.{IsWithinBytes, values};
+ghost use Rattle.mask_bits.specs.Bitmap.{bitmap};
+ghost use Rattle.mask_bits.specs.Buffer.{IsWithinBytes};
 ghost use Rattle.mask_bits.specs.Combine.{AreCombined, IsCombinedBetween};
 ghost use Rattle.mask_bits.specs.Lists.{combined, not_of};
 ghost use Rattle.mask_bits.specs.Words.{word_bits};
@@ -99,10 +100,8 @@ pub fn combine<C: BitOp>(
     requires a_within { IsWithinBytes a.now a_offset len }
     requires b_within { IsWithinBytes b.now b_offset len }
     requires room { 8 * div_ceil len 64 ≤ length out.old }
-    ensures { values (record { bytes = out.new; offset = 0; len = len })
-        ≡ combined C.of_bits
-        (values (record { bytes = a.now; offset = a_offset; len = len }))
-        (values (record { bytes = b.now; offset = b_offset; len = len })) }
+    ensures { bitmap out.new 0 len
+        ≡ combined C.of_bits (bitmap a.now a_offset len) (bitmap b.now b_offset len) }
 {
     let (a, a_low) = (&a[a_offset / 8..], (a_offset % 8) as u32);
     let (b, b_low) = (&b[b_offset / 8..], (b_offset % 8) as u32);
@@ -145,10 +144,8 @@ fn extend<C: BitOp, R: ReadWord>(
 pub fn combine_in_place<C: BitOp>(bytes: &mut [u8], b: &[u8], b_offset: usize, len: usize)
     requires within { len ≤ 8 * length bytes.old }
     requires b_within { IsWithinBytes b.now b_offset len }
-    ensures { values (record { bytes = bytes.new; offset = 0; len = len })
-        ≡ combined C.of_bits
-        (values (record { bytes = bytes.old; offset = 0; len = len }))
-        (values (record { bytes = b.now; offset = b_offset; len = len })) }
+    ensures { bitmap bytes.new 0 len
+        ≡ combined C.of_bits (bitmap bytes.old 0 len) (bitmap b.now b_offset len) }
 {
     let (b, b_low) = (&b[b_offset / 8..], (b_offset % 8) as u32);
     change_whole::<C>(bytes, b, b_low, len / 64);
@@ -205,8 +202,7 @@ fn change_last<C: BitOp>(bytes: &mut [u8], b: &[u8], b_low: u32, i: usize)
 /// Negates the first `len` bits of `bytes`. Those past them have no meaning.
 pub fn negate_in_place(bytes: &mut [u8], len: usize)
     requires { len ≤ 8 * length bytes.old }
-    ensures { values (record { bytes = bytes.new; offset = 0; len = len })
-        ≡ not_of (values (record { bytes = bytes.old; offset = 0; len = len })) }
+    ensures { bitmap bytes.new 0 len ≡ not_of (bitmap bytes.old 0 len) }
 {
     for i in 0..len.div_ceil(8) {
         bytes[i] ^= 0xFF;

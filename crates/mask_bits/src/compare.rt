@@ -2,7 +2,8 @@
 //! two lists are the same. Over plain bytes.
 
 ghost use Rattle.std.specs.Prelude.{◌≡◌, ◌↔◌, ◌+◌, ◌*◌, ◌<◌, ◌≤◌, ◌^◌, ℕ, false, IsTrue};
-ghost use Rattle.mask_bits.specs.Buffer.{IsWithinBytes, values};
+ghost use Rattle.mask_bits.specs.Bitmap.{bitmap};
+ghost use Rattle.mask_bits.specs.Buffer.{IsWithinBytes};
 ghost use Rattle.mask_bits.specs.Combine.{IsNoneTrue};
 ghost use Rattle.mask_bits.specs.Lists.{combined};
 ghost use Rattle.mask_bits.specs.Positions.{count, repeated};
@@ -16,8 +17,7 @@ use crate::words::word_at;
 pub fn same_bits(a: &[u8], a_offset: usize, b: &[u8], b_offset: usize, len: usize) -> bool
     requires a_within { IsWithinBytes a.now a_offset len }
     requires b_within { IsWithinBytes b.now b_offset len }
-    ensures { IsTrue result ↔ (values (record { bytes = a.now; offset = a_offset; len = len })
-        ≡ values (record { bytes = b.now; offset = b_offset; len = len })) }
+    ensures { IsTrue result ↔ (bitmap a.now a_offset len ≡ bitmap b.now b_offset len) }
 {
     none_true::<Xor>(a, a_offset, b, b_offset, len)
 }
@@ -28,8 +28,8 @@ pub fn none_true<C: BitOp>(a: &[u8], a_offset: usize, b: &[u8], b_offset: usize,
     requires a_within { IsWithinBytes a.now a_offset len }
     requires b_within { IsWithinBytes b.now b_offset len }
     ensures { IsTrue result ↔ (combined C.of_bits
-        (values (record { bytes = a.now; offset = a_offset; len = len }))
-        (values (record { bytes = b.now; offset = b_offset; len = len }))
+        (bitmap a.now a_offset len)
+        (bitmap b.now b_offset len)
         ≡ repeated len false) }
 {
     let whole = 64 * (len / 64);
@@ -143,9 +143,8 @@ pub fn count_true<C: BitOp>(
 ) -> usize
     requires a_within { IsWithinBytes a.now a_offset len }
     requires b_within { IsWithinBytes b.now b_offset len }
-    ensures { result ≡ count (combined C.of_bits
-        (values (record { bytes = a.now; offset = a_offset; len = len }))
-        (values (record { bytes = b.now; offset = b_offset; len = len }))) }
+    ensures { result
+        ≡ count (combined C.of_bits (bitmap a.now a_offset len) (bitmap b.now b_offset len)) }
 {
     let whole = 64 * (len / 64);
     count_in_words::<C>(a, a_offset, b, b_offset, len / 64)
@@ -156,9 +155,7 @@ pub fn count_true<C: BitOp>(
 #[inline]
 fn count_in_last<C: BitOp>(a: &[u8], p: usize, b: &[u8], q: usize, rest: usize) -> usize
     requires { rest < 64 }
-    ensures { result ≡ count (combined C.of_bits
-        (values (record { bytes = a.now; offset = p; len = rest }))
-        (values (record { bytes = b.now; offset = q; len = rest }))) }
+    ensures { result ≡ count (combined C.of_bits (bitmap a.now p rest) (bitmap b.now q rest)) }
 {
     let made = C::of(word_at(a, p), word_at(b, q));
     (made & ((1 << rest) - 1)).count_ones() as usize
@@ -175,8 +172,8 @@ fn count_in_words<C: BitOp>(
     requires a_within { IsWithinBytes a.now a_offset (64 * words) }
     requires b_within { IsWithinBytes b.now b_offset (64 * words) }
     ensures { result ≡ count (combined C.of_bits
-        (values (record { bytes = a.now; offset = a_offset; len = 64 * words }))
-        (values (record { bytes = b.now; offset = b_offset; len = 64 * words }))) }
+        (bitmap a.now a_offset (64 * words))
+        (bitmap b.now b_offset (64 * words))) }
 {
     let (a, a_low) = (&a[a_offset / 8..], (a_offset % 8) as u32);
     let (b, b_low) = (&b[b_offset / 8..], (b_offset % 8) as u32);
@@ -204,12 +201,10 @@ fn count_on<C: BitOp, R: ReadWord>(
     requires reads_b { (i : ℕ) → i < to → R.can_read b.now b_low i }
     requires ordered { from ≤ to }
     requires fits { 64 * to < 2 ^ 64 }
-    requires counted { before ≡ count (combined C.of_bits
-        (values (record { bytes = a.now; offset = a_low; len = 64 * from }))
-        (values (record { bytes = b.now; offset = b_low; len = 64 * from }))) }
-    ensures { result ≡ count (combined C.of_bits
-        (values (record { bytes = a.now; offset = a_low; len = 64 * to }))
-        (values (record { bytes = b.now; offset = b_low; len = 64 * to }))) }
+    requires counted { before
+        ≡ count (combined C.of_bits (bitmap a.now a_low (64 * from)) (bitmap b.now b_low (64 * from))) }
+    ensures { result
+        ≡ count (combined C.of_bits (bitmap a.now a_low (64 * to)) (bitmap b.now b_low (64 * to))) }
 {
     let mut count = before;
     for i in from..to {

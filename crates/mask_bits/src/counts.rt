@@ -1,7 +1,8 @@
 //! How many bits of some bytes are set, counted by words.
 
 ghost use Rattle.std.specs.Prelude.{◌≡◌, ◌*◌, ◌<◌, ◌≤◌, ◌^◌, length};
-ghost use Rattle.mask_bits.specs.Buffer.{IsWithinBytes, values};
+ghost use Rattle.mask_bits.specs.Bitmap.{bitmap};
+ghost use Rattle.mask_bits.specs.Buffer.{IsWithinBytes};
 ghost use Rattle.mask_bits.specs.Positions.{count};
 
 use crate::words::{word_at, word_of};
@@ -9,7 +10,7 @@ use crate::words::{word_at, word_of};
 /// How many of the `len` bits from bit `position` on are set.
 pub fn count_bits(bytes: &[u8], position: usize, len: usize) -> usize
     requires { IsWithinBytes bytes.now position len }
-    ensures { result ≡ count (values (record { bytes = bytes.now; offset = position; len = len })) }
+    ensures { result ≡ count (bitmap bytes.now position len) }
 {
     if len < 64 {
         return count_few(bytes, position, len);
@@ -27,7 +28,7 @@ pub fn count_bits(bytes: &[u8], position: usize, len: usize) -> usize
 #[inline]
 fn count_few(bytes: &[u8], position: usize, len: usize) -> usize
     requires { len < 64 }
-    ensures { result ≡ count (values (record { bytes = bytes.now; offset = position; len = len })) }
+    ensures { result ≡ count (bitmap bytes.now position len) }
 {
     (word_at(bytes, position) & ((1 << len) - 1)).count_ones() as usize
 }
@@ -37,7 +38,7 @@ fn count_few(bytes: &[u8], position: usize, len: usize) -> usize
 fn count_words(bytes: &[u8], words: usize) -> usize
     requires covered { 8 * words ≤ length bytes.now }
     requires fits { 64 * words < 2 ^ 64 }
-    ensures { result ≡ count (values (record { bytes = bytes.now; offset = 0; len = 64 * words })) }
+    ensures { result ≡ count (bitmap bytes.now 0 (64 * words)) }
 {
     let mut count = 0;
     for i in 0..words {

@@ -2,7 +2,8 @@
 
 ghost use Rattle.std.specs.Prelude.{◌≡◌, ◌+◌, ◌*◌, ◌%◌, ◌^◌, ◌<◌, ◌≤◌, ◌&&◌, ℕ, not, true, nat_eq, length, take, ◌-◌, ◌||◌, false, slice_index_or};
 ghost use Rattle.std.specs.Int.{div_ceil};
-ghost use Rattle.mask_bits.specs.Buffer.{IsWithinBytes, backing_bit, values};
+ghost use Rattle.mask_bits.specs.Bitmap.{bitmap};
+ghost use Rattle.mask_bits.specs.Buffer.{IsWithinBytes, backing_bit};
 ghost use Rattle.mask_bits.specs.BufferMut.{IsWrittenBehind, AreClearFrom};
 ghost use Rattle.mask_bits.specs.Positions.{repeated, count};
 ghost use Rattle.mask_bits.specs.Words.{word_bits};
@@ -95,8 +96,7 @@ pub(crate) fn put_bits(bytes: &mut [u8], at: usize, from: &[u8], offset: usize, 
     requires source { IsWithinBytes from.now offset n }
     requires whole { length bytes.old % 8 ≡ 0 }
     requires clear { AreClearFrom at bytes.old }
-    ensures { IsWrittenBehind bytes.old bytes.new at
-        (values (record { bytes = from.now; offset = offset; len = n })) }
+    ensures { IsWrittenBehind bytes.old bytes.new at (bitmap from.now offset n) }
 {
     let room = 64 - at % 64;
     if n < room + 128 {
@@ -118,8 +118,7 @@ fn put_windows(bytes: &mut [u8], at: usize, from: &[u8], offset: usize, n: usize
     requires source { IsWithinBytes from.now offset n }
     requires whole { length bytes.old % 8 ≡ 0 }
     requires clear { AreClearFrom at bytes.old }
-    ensures { IsWrittenBehind bytes.old bytes.new at
-        (values (record { bytes = from.now; offset = offset; len = n })) }
+    ensures { IsWrittenBehind bytes.old bytes.new at (bitmap from.now offset n) }
 {
     let mut done = 0;
     while done < n {
@@ -135,7 +134,7 @@ fn put_shifted(bytes: &mut [u8], first: usize, from: &[u8], offset: usize, words
     requires source { IsWithinBytes from.now offset (64 * words + 64) }
     requires clear { AreClearFrom (64 * first) bytes.old }
     ensures { IsWrittenBehind bytes.old bytes.new (64 * first)
-        (values (record { bytes = from.now; offset = offset; len = 64 * words })) }
+        (bitmap from.now offset (64 * words)) }
 {
     let part = &from[offset / 8..];
     let low = (offset % 8) as u32;

@@ -8,12 +8,13 @@ use Rattle.std.proofs.lemmas.Bool.{cases_eq, cases_lt}
 use Rattle.std.proofs.lemmas.Grind.{get_or-set_at}
 use Rattle.std.proofs.lemmas.List.{drop-append-le, drop-drop, nil_from_length, ext_get_or, get_or-set_other, length-drop, length-take}
 use Rattle.std.proofs.lemmas.Nat.Bits.{bit_at_or}
+use Rattle.mask_bits.specs.Bitmap.{bitmap}
 use Rattle.mask_bits.specs.Buffer.{backing_bit}
 use Rattle.mask_bits.specs.Words.{window, word_bits}
-use Rattle.mask_bits.proofs.Lists.Words.BackingBitLemmas.{bit-window, bits_at-append, length-bits_at, get_or-bits_at}
+use Rattle.mask_bits.proofs.Lists.Words.BackingBitLemmas.{bit-window, bitmap-append, length-bitmap, get_or-bitmap}
 use Rattle.mask_bits.proofs.Lists.Words.FrontLemmas.{front-same, get_or-put_mid_below, get_or-put_mid_inside}
 use Rattle.mask_bits.proofs.Lists.Words.ShiftLemmas.{bit_at-low_mask, bit_at-past_mask, bit_at-mod, bit_at-shl_low, bit_at-shl_high}
-use Rattle.mask_c.specs.Bitmap.{AreClearBehind, bitmap}
+use Rattle.mask_c.specs.Bitmap.{AreClearBehind}
 use borrow.Rule.Slice.PartMut.{put_mid}
 
 -- ---- a byte that is filled up
@@ -52,7 +53,7 @@ begun-clear byte low word count j few h =
 
 -- no values
 pub no_values : (bytes : List ℕ) (p : ℕ) → bitmap bytes p 0 ≡ []
-no_values bytes p = nil_from_length (bitmap bytes p 0) (length-bits_at bytes p 0)
+no_values bytes p = nil_from_length (bitmap bytes p 0) (length-bitmap bytes p 0)
 
 -- the values once it stands in the place of the last byte
 pub filled-values : (bytes more : List ℕ) (len offset n word x : ℕ) → (len % 8 ≡ 0 → ⊥) → len % 8 + n ≤ 8 → len / 8 < length bytes → word_bits word ≡ window more offset
@@ -68,16 +69,16 @@ filled-values bytes more len offset n word x part few inside read kept put =
       | inr other ↦ ap (λ z. nat_eq (bit_at z (p % 8)) 1) (get_or-set_other bytes (len / 8) (p / 8) x 0 other)
     ] in
     let more_bits : bitmap new (0 + len) n ≡ bitmap more offset n
-    = ext_get_or false (bitmap new (0 + len) n) (bitmap more offset n) (length-bits_at new (0 + len) n ∙ sym (length-bits_at more offset n)) (λ j h.
-    let small : j < n = omega (arith, length-bits_at new (0 + len) n) in
+    = ext_get_or false (bitmap new (0 + len) n) (bitmap more offset n) (length-bitmap new (0 + len) n ∙ sym (length-bitmap more offset n)) (λ j h.
+    let small : j < n = omega (arith, length-bitmap new (0 + len) n) in
     let byte : (0 + len + j) / 8 ≡ len / 8 = omega arith in
     let bit : (0 + len + j) % 8 ≡ len % 8 + j = omega arith in
-    get_or-bits_at new (0 + len) n j false small
+    get_or-bitmap new (0 + len) n j false small
     ∙ ap₂ (λ z k. nat_eq (bit_at z k) 1) (get_or-set_at bytes (len / 8) ((0 + len + j) / 8) x 0 byte inside) bit
     ∙ ap (λ z. nat_eq z 1) (put j small)
     ∙ bit-window more offset word j read (omega arith)
-    ∙ sym (get_or-bits_at more offset n j false small)) in
-    bits_at-append new 0 len n
+    ∙ sym (get_or-bitmap more offset n j false small)) in
+    bitmap-append new 0 len n
     ∙ ap₂ (λ (xs ys : List Bool). xs ++ ys) (front-same bytes new len before) more_bits
 
 -- ---- bytes from byte k on that are written
@@ -108,16 +109,16 @@ pub appended-values : (xs ys : List ℕ) (k n r : ℕ) (m more : List Bool) → 
 appended-values xs ys k n r m more room len within covers either first second =
     let new : List ℕ = put_mid k (length xs - k) xs ys in
     let behind : bitmap new (0 + n) r ≡ bitmap ys 0 r
-    = ext_get_or false (bitmap new (0 + n) r) (bitmap ys 0 r) (length-bits_at new (0 + n) r ∙ sym (length-bits_at ys 0 r)) (λ j h.
-    let small : j < r = omega (arith, length-bits_at new (0 + n) r) in
+    = ext_get_or false (bitmap new (0 + n) r) (bitmap ys 0 r) (length-bitmap new (0 + n) r ∙ sym (length-bitmap ys 0 r)) (λ j h.
+    let small : j < r = omega (arith, length-bitmap new (0 + n) r) in
     let place : 0 + n + j ≡ 8 * k + (0 + j) = elim either [
       | inl full ↦ omega arith
       | inr none ↦ absurd (omega arith)
     ] in
-    get_or-bits_at new (0 + n) r j false small
+    get_or-bitmap new (0 + n) r j false small
     ∙ from_there xs ys k (0 + j) (0 + n + j) room len (omega arith) place
-    ∙ sym (get_or-bits_at ys 0 r j false small)) in
-    bits_at-append new 0 n r
+    ∙ sym (get_or-bitmap ys 0 r j false small)) in
+    bitmap-append new 0 n r
     ∙ ap₂ (λ (us vs : List Bool). us ++ vs) (front-same xs new n (λ p h. below xs ys k p room (omega arith)) ∙ first) (behind ∙ second)
 
 pub appended-clear : (xs ys : List ℕ) (k n r : ℕ) → k ≤ length xs → length ys ≡ length xs - k → k ≡ div_ceil n 8 → div_ceil r 8 ≤ length ys → ((n ≡ 8 * k) ⊎ (r ≡ 0))

@@ -7,6 +7,7 @@ use Rattle.std.proofs.lemmas.Bool.{cases_lt}
 use Rattle.std.proofs.lemmas.List.{ext_get_or, get_or-drop, get_or-take, get_or_append_left, get_or-append_right, length-append, length-drop, length-take}
 use Rattle.std.proofs.lemmas.Nat.{or_lt}
 use Rattle.std.proofs.lemmas.Nat.Bits.{bit_at-lt, bit_at_above, bit_at_or}
+use Rattle.mask_bits.specs.Bitmap.{bitmap}
 use Rattle.mask_bits.specs.Extract.{Extracts}
 use Rattle.mask_bits.specs.Positions.{chosen, count, repeated}
 use Rattle.mask_bits.specs.Words.{padded_part, window, word_bits}
@@ -19,7 +20,7 @@ use Rattle.mask_bits.proofs.Lists.Words.FrontLemmas.{front-more_word, get_or-put
 use Rattle.mask_bits.proofs.Lists.Words.PaddedLemmas.{padded_part_from_values}
 use Rattle.mask_bits.proofs.Lists.Words.ShiftLemmas.{bit_at-mod, bit_at-shl_high, bit_at-shl_low, bit_at-shr}
 use Rattle.mask_bits.proofs.Lists.Words.WordLemmas.{count-word_bits, get_or-word_bits, length-word_bits}
-use Rattle.mask_c.specs.Bitmap.{bitmap, values_so_far}
+use Rattle.mask_c.specs.Bitmap.{values_so_far}
 use Rattle.mask_c.proofs.AppendLemmas.{no_values}
 use Rattle.mask_c.proofs.LastLemmas.{put-before}
 use borrow.Rule.Slice.PartMut.{put_mid}

@@ -8,11 +8,12 @@ use Rattle.std.proofs.lemmas.List.{ext_get_or, get_or-replicate, get_or_append_l
 use Rattle.std.proofs.lemmas.List.Elements.{All-weaker}
 use Rattle.std.proofs.lemmas.List.Folds.{list_any_more, list_any_none}
 use Rattle.std.proofs.lemmas.Nat.Bits.{bit_at-zero}
+use Rattle.mask_bits.specs.Bitmap.{bitmap}
 use Rattle.mask_bits.specs.Buffer.{backing_bit}
 use Rattle.mask_bits.specs.Positions.{true_at}
 use Rattle.mask_bits.proofs.Lists.RankLemmas.{length-true_at}
-use Rattle.mask_bits.proofs.Lists.Words.BackingBitLemmas.{length-bits_at, get_or-bits_at}
-use Rattle.mask_c.specs.Bitmap.{AreClearBehind, bitmap}
+use Rattle.mask_bits.proofs.Lists.Words.BackingBitLemmas.{length-bitmap, get_or-bitmap}
+use Rattle.mask_c.specs.Bitmap.{AreClearBehind}
 use Rattle.mask_c.proofs.LastLemmas.{front-appended}
 use Rattle.mask_c.proofs.LastRankLemmas.{get_or-true_at}
 
@@ -34,10 +35,10 @@ set_at-more old new ps i few len so_far set = λ p h.
 pub list_from_set : (bytes more ps : List ℕ) (len : ℕ) → len ≤ 8 * length bytes → AreSetAt bytes ps → bitmap (bytes ++ more) 0 len ≡ true_at len ps
 list_from_set bytes more ps len few set =
     front-appended bytes more len few
-    ∙ ext_get_or false (bitmap bytes 0 len) (true_at len ps) (length-bits_at bytes 0 len ∙ sym (length-true_at len ps)) (λ p h.
-    let inside : p < len = omega (arith, length-bits_at bytes 0 len) in
+    ∙ ext_get_or false (bitmap bytes 0 len) (true_at len ps) (length-bitmap bytes 0 len ∙ sym (length-true_at len ps)) (λ p h.
+    let inside : p < len = omega (arith, length-bitmap bytes 0 len) in
     let place : 0 + p ≡ p = omega arith in
-    get_or-bits_at bytes 0 len p false inside ∙ ap (backing_bit bytes) place ∙ set p (omega arith) ∙ sym (get_or-true_at len ps p inside))
+    get_or-bitmap bytes 0 len p false inside ∙ ap (backing_bit bytes) place ∙ set p (omega arith) ∙ sym (get_or-true_at len ps p inside))
 
 pub clear_from_set : (bytes more ps : List ℕ) (len : ℕ) → 8 * div_ceil len 8 ≤ 8 * length bytes → All (λ i. i < len) ps → AreSetAt bytes ps → AreClearBehind (bytes ++ more) len
 clear_from_set bytes more ps len few within set = λ p from to.

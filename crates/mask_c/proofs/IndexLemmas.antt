@@ -4,12 +4,12 @@ use Rattle.std.specs.List.{All}
 use Rattle.std.proofs.lemmas.Bool.{cases_lt}
 use Rattle.std.proofs.lemmas.List.{ext_get_or, get_or-drop, length-drop, length-map, length-take, map-append, take-append-drop, take-append-le, take_all, take_at}
 use Rattle.std.proofs.lemmas.List.Elements.{All-weaker}
+use Rattle.mask_bits.specs.Bitmap.{bitmap}
 use Rattle.mask_bits.specs.Buffer.{backing_bit}
 use Rattle.mask_bits.specs.Positions.{count, indices_from, positions}
 use Rattle.mask_bits.specs.Words.{padded_part, word_bits}
-use Rattle.mask_bits.proofs.Lists.Words.BackingBitLemmas.{length-bits_at, get_or-bits_at}
+use Rattle.mask_bits.proofs.Lists.Words.BackingBitLemmas.{length-bitmap, get_or-bitmap}
 use Rattle.mask_bits.proofs.Lists.Places.SelectLemmas.{count-word_more, indices_from-append, indices_from-moved}
-use Rattle.mask_c.specs.Bitmap.{bitmap}
 use Rattle.mask_c.proofs.ChooseLemmas.{part-within, positions-word_more}
 
 -- the values from an index on
@@ -17,14 +17,14 @@ pub bitmap-rest : (bytes : List ℕ) (offset len from : ℕ) → from ≤ len �
 bitmap-rest bytes offset len from within =
     let m : List Bool = bitmap bytes offset len in
     let rest : List Bool = bitmap bytes (offset + from) (len - from) in
-    let len_rest : length rest ≡ len - from = length-bits_at bytes (offset + from) (len - from) in
-    let len_m : length m ≡ len = length-bits_at bytes offset len in
+    let len_rest : length rest ≡ len - from = length-bitmap bytes (offset + from) (len - from) in
+    let len_m : length m ≡ len = length-bitmap bytes offset len in
     ext_get_or false rest (drop from m) (omega (arith, len_rest, len_m, length-drop from m)) (λ i h.
     let inside : i < len - from = omega arith in
     let there : from + i < len = omega arith in
     let at : offset + from + i ≡ offset + (from + i) = add_assoc offset from i in
-    get_or-bits_at bytes (offset + from) (len - from) i false inside ∙ ap (backing_bit bytes) at
-    ∙ sym (get_or-drop from m i false ∙ get_or-bits_at bytes offset len (from + i) false there))
+    get_or-bitmap bytes (offset + from) (len - from) i false inside ∙ ap (backing_bit bytes) at
+    ∙ sym (get_or-drop from m i false ∙ get_or-bitmap bytes offset len (from + i) false there))
 
 -- ---- room
 

@@ -8,6 +8,7 @@ use Rattle.std.proofs.lemmas.Grind.{get_or-set_at}
 use Rattle.std.proofs.lemmas.List.{ext_get_or, get_or-set_other, get_or-take, get_or_append_left, get_or-append_right, length-append, length-drop, length-take, take-append-drop}
 use Rattle.std.proofs.lemmas.Nat.Bits.{bit_at-lt, bit_at-zero, bit_at_and, bit_at_ones, bit_at_ones_above}
 use Rattle.std.proofs.lemmas.Slice.{drop-put_mid}
+use Rattle.mask_bits.specs.Bitmap.{bitmap}
 use Rattle.mask_bits.specs.Buffer.{backing_bit}
 use Rattle.mask_bits.specs.Lists.{combined}
 use Rattle.mask_bits.specs.Positions.{count, count_below, rank_intersection, repeated}
@@ -19,9 +20,9 @@ use Rattle.mask_bits.proofs.Lists.LawLemmas.{rank_intersection_value}
 use Rattle.mask_bits.proofs.Lists.Words.PaddedLemmas.{get_or-padded_part, length-padded_part}
 use Rattle.mask_bits.proofs.Lists.Words.WordLemmas.{get_or-word_bits, length-word_bits}
 use Rattle.mask_bits.proofs.Lists.RankLemmas.{narrow, rank_intersection-all_true, rank_intersection-narrow}
-use Rattle.mask_bits.proofs.Lists.Words.BackingBitLemmas.{bits_at-append, length-bits_at, get_or-bits_at}
+use Rattle.mask_bits.proofs.Lists.Words.BackingBitLemmas.{bitmap-append, length-bitmap, get_or-bitmap}
 use Rattle.mask_bits.proofs.Lists.Words.FrontLemmas.{length-window, front-same, get_or-put_mid_below, get_or-put_mid_inside, get_or-window, window-take}
-use Rattle.mask_c.specs.Bitmap.{AreClearBehind, bitmap}
+use Rattle.mask_c.specs.Bitmap.{AreClearBehind}
 use borrow.Rule.Slice.PartMut.{put_mid}
 
 -- ---- a front
@@ -92,9 +93,9 @@ pub put-list : (old last ys : List ℕ) (m cut : List Bool) (w e rest : ℕ) →
     → bitmap (put_mid (8 * w) (e - 8 * w) old ys) (64 * w) rest ≡ take rest m
 put-list old last ys m cut w e rest begins len from to is word few shows low =
     let new : List ℕ = put_mid (8 * w) (e - 8 * w) old ys in
-    ext_get_or false (bitmap new (64 * w) rest) (take rest m) (length-bits_at new (64 * w) rest ∙ sym (length-take rest m ∙ omega arith)) (λ j h.
-    let small : j < rest = omega (arith, length-bits_at new (64 * w) rest) in
-    get_or-bits_at new (64 * w) rest j false small
+    ext_get_or false (bitmap new (64 * w) rest) (take rest m) (length-bitmap new (64 * w) rest ∙ sym (length-take rest m ∙ omega arith)) (λ j h.
+    let small : j < rest = omega (arith, length-bitmap new (64 * w) rest) in
+    get_or-bitmap new (64 * w) rest j false small
     ∙ put-bit old last ys w e j begins len from to is (omega arith)
     ∙ ap (λ (xs : List Bool). get_or xs j false) shows
     ∙ low-bit m cut rest j word (omega arith) low small)
@@ -160,7 +161,7 @@ pub bitmap-split : (bytes : List ℕ) (offset len : ℕ)
     → bitmap bytes offset len ≡ bitmap bytes offset (64 * (len / 64)) ++ bitmap bytes (offset + 64 * (len / 64)) (len % 64)
 bitmap-split bytes offset len =
     let parts : len ≡ 64 * (len / 64) + len % 64 = omega arith in
-    ap (bitmap bytes offset) parts ∙ bits_at-append bytes offset (64 * (len / 64)) (len % 64)
+    ap (bitmap bytes offset) parts ∙ bitmap-append bytes offset (64 * (len / 64)) (len % 64)
 
 pub front-split : (bytes : List ℕ) (len : ℕ) → bitmap bytes 0 len ≡ bitmap bytes 0 (64 * (len / 64)) ++ bitmap bytes (64 * (len / 64)) (len % 64)
 front-split bytes len =
@@ -200,7 +201,7 @@ written-combined f a b front out p q len more v x y covers list is_x is_y is_v b
     ∙ ap₂ (combined f) (window-take a (p + w) rest (omega arith)) (window-take b (q + w) rest (omega arith)) in
     front-split out len
     ∙ ap₂ (λ (xs ys : List Bool). xs ++ ys) first second
-    ∙ sym (combined-append f (bitmap a p w) (bitmap b q w) (bitmap a (p + w) rest) (bitmap b (q + w) rest) (length-bits_at a p w ∙ sym (length-bits_at b q w)))
+    ∙ sym (combined-append f (bitmap a p w) (bitmap b q w) (bitmap a (p + w) rest) (bitmap b (q + w) rest) (length-bitmap a p w ∙ sym (length-bitmap b q w)))
     ∙ ap₂ (combined f) (sym (bitmap-split a p len)) (sym (bitmap-split b q len))
 
 -- how many values are true past whole words, and in them
@@ -221,8 +222,8 @@ written-narrowed a b front last out more p q len n k covers is_n is_k whole part
     front-split out len
     ∙ ap₂ (λ (xs ys : List Bool). xs ++ ys) (before ∙ front-appended front more w covers ∙ whole) (after ∙ part)
     ∙ sym (rank_intersection-append (bitmap a p w) (bitmap a (p + w) rest) (bitmap b q n) (bitmap b (q + n) k)
-    (length-bits_at b q n ∙ is_n) (length-bits_at b (q + n) k ∙ is_k))
-    ∙ ap₂ rank_intersection (sym (bitmap-split a p len)) (sym (bits_at-append b q n k))
+    (length-bitmap b q n ∙ is_n) (length-bitmap b (q + n) k ∙ is_k))
+    ∙ ap₂ rank_intersection (sym (bitmap-split a p len)) (sym (bitmap-append b q n k))
 
 -- whole words of a list, and its last values
 pub written-list : (m : List Bool) (front out more : List ℕ) (len : ℕ) (v : List Bool) → length m ≡ len → 64 * (len / 64) ≤ 8 * length front
@@ -236,10 +237,10 @@ written-list m front out more len v is_len covers list word shows before last =
     let length_front : length (take w m) ≡ w = omega (arith, length-take w m) in
     let length_rest : length (drop w m) ≡ rest = omega (arith, length-drop w m) in
     let first : bitmap front 0 w ≡ take w m
-    = ext_get_or false (bitmap front 0 w) (take w m) (length-bits_at front 0 w ∙ sym length_front) (λ p h.
-    let few : p < w = omega (arith, length-bits_at front 0 w) in
+    = ext_get_or false (bitmap front 0 w) (take w m) (length-bitmap front 0 w ∙ sym length_front) (λ p h.
+    let few : p < w = omega (arith, length-bitmap front 0 w) in
     let place : 0 + p ≡ p = omega arith in
-    get_or-bits_at front 0 w p false few ∙ ap (backing_bit front) place ∙ list p (omega arith)) in
+    get_or-bitmap front 0 w p false few ∙ ap (backing_bit front) place ∙ list p (omega arith)) in
     let second : take rest v ≡ drop w m
     = ext_get_or false (take rest v) (drop w m) (omega (arith, length-take rest v)) (λ j h.
     let few : j < rest = omega (arith, length-take rest v) in
@@ -253,12 +254,12 @@ pub written-whole : (m : List Bool) (front more : List ℕ) (len : ℕ) → leng
     → ((p : ℕ) → p < length (take (64 * (len / 64)) m) → backing_bit front p ≡ get_or (take (64 * (len / 64)) m) p false)
     → bitmap (front ++ more) 0 len ≡ m
 written-whole m front more len is_len none covers list =
-    ext_get_or false (bitmap (front ++ more) 0 len) m (length-bits_at (front ++ more) 0 len ∙ sym is_len) (λ p h.
-    let few : p < len = omega (arith, length-bits_at (front ++ more) 0 len) in
+    ext_get_or false (bitmap (front ++ more) 0 len) m (length-bitmap (front ++ more) 0 len ∙ sym is_len) (λ p h.
+    let few : p < len = omega (arith, length-bitmap (front ++ more) 0 len) in
     let place : 0 + p ≡ p = omega arith in
     let inside : p < length (take (64 * (len / 64)) m) = omega (arith, length-take (64 * (len / 64)) m) in
     ap (λ (xs : List Bool). get_or xs p false) (front-appended front more len (omega arith))
-    ∙ get_or-bits_at front 0 len p false few ∙ ap (backing_bit front) place ∙ list p inside ∙ get_or-take (64 * (len / 64)) m p false (omega arith))
+    ∙ get_or-bitmap front 0 len p false few ∙ ap (backing_bit front) place ∙ list p inside ∙ get_or-take (64 * (len / 64)) m p false (omega arith))
 
 -- where all values are true, the ranks are the whole
 pub narrowed_by_all : (m r : List Bool) → count m ≡ length m → length r ≡ length m → rank_intersection m r ≡ r

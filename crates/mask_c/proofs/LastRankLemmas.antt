@@ -10,15 +10,15 @@ use Rattle.std.proofs.lemmas.List.Elements.{All-from_get_or}
 use Rattle.std.proofs.lemmas.List.Folds.{list_any-append, list_any_none}
 use Rattle.std.proofs.lemmas.List.FromFn.{get_or-map-range_with_len}
 use Rattle.std.proofs.lemmas.Nat.Bits.{bit_at-zero, bit_at-pow_same, bit_at-pow_other}
+use Rattle.mask_bits.specs.Bitmap.{bitmap}
 use Rattle.mask_bits.specs.Positions.{at_indices, count, positions, rank_intersection, true_at}
 use Rattle.mask_bits.specs.Words.{word_bits}
 use Rattle.mask_bits.proofs.Lists.Places.AscendingLemmas.{positions-true_at}
 use Rattle.mask_bits.proofs.Lists.RankLemmas.{length-true_at}
-use Rattle.mask_bits.proofs.Lists.Words.BackingBitLemmas.{length-bits_at}
+use Rattle.mask_bits.proofs.Lists.Words.BackingBitLemmas.{length-bitmap}
 use Rattle.mask_bits.proofs.Lists.Words.ShiftLemmas.{get_or-word_bits_or}
 use Rattle.mask_bits.proofs.Lists.Words.WordLemmas.{get_or-word_bits}
 use Rattle.vortex_mask.specs.Ranks.{AreSplit}
-use Rattle.mask_c.specs.Bitmap.{bitmap}
 use Rattle.mask_c.proofs.LastLemmas.{bitmap-split, count-split, front-appended, front-split, rank_intersection-append}
 
 -- the ranks from number `cut` on are at least `from`, and are the set bits of a word
@@ -177,11 +177,11 @@ written-at_ranks a front last source out more ranks p len n k cut covers ascendi
     let narrowed : rank_intersection first (true_at n below) ≡ true_at w (at_indices (positions first) below)
     = ap (λ c. rank_intersection first (true_at c below)) is_n
     ∙ narrowed_at first below (front-ascending ranks cut ascending) (subst (λ c. All (λ r. r < c) below) is_n (below-all ranks n cut split))
-    ∙ ap (λ l. true_at l (at_indices (positions first) below)) (length-bits_at a p w) in
+    ∙ ap (λ l. true_at l (at_indices (positions first) below)) (length-bitmap a p w) in
     let all : count m ≡ n + k = omega (arith, count-split a p len) in
     front-split out len
     ∙ ap₂ (λ (xs ys : List Bool). xs ++ ys) (before ∙ front-appended front more w covers ∙ whole ∙ sym narrowed) (after ∙ part)
-    ∙ sym (rank_intersection-append first second (true_at n below) (bitmap source 0 k) (length-true_at n below ∙ is_n) (length-bits_at source 0 k ∙ is_k))
-    ∙ ap₂ rank_intersection (sym (bitmap-split a p len)) (sym (ranks-parts ranks n k cut (bitmap source 0 k) split (length-bits_at source 0 k) bits) ∙ ap (λ c. true_at c ranks) (sym all))
+    ∙ sym (rank_intersection-append first second (true_at n below) (bitmap source 0 k) (length-true_at n below ∙ is_n) (length-bitmap source 0 k ∙ is_k))
+    ∙ ap₂ rank_intersection (sym (bitmap-split a p len)) (sym (ranks-parts ranks n k cut (bitmap source 0 k) split (length-bitmap source 0 k) bits) ∙ ap (λ c. true_at c ranks) (sym all))
     ∙ narrowed_at m ranks ascending within
-    ∙ ap (λ l. true_at l (at_indices (positions m) ranks)) (length-bits_at a p len)
+    ∙ ap (λ l. true_at l (at_indices (positions m) ranks)) (length-bitmap a p len)

@@ -1,12 +1,9 @@
--- A bitmap as C has it: bytes, the position of the first bit, and how many bits there are.
+-- Bitmaps that C passes: what is written into their bytes, and whether one has all true values of another.
 use Rattle.std.specs.Prelude.{ℕ, ◌*◌, ◌/◌, ◌%◌, ◌<◌, ◌≤◌, ◌≡◌, ◌⊎◌, ◌++◌, Bool, true, false, List, length, slice_index_or, take}
 use Rattle.std.specs.Int.{div_ceil}
-use Rattle.mask_bits.specs.Buffer.{backing_bit, values}
+use Rattle.mask_bits.specs.Bitmap.{bitmap}
+use Rattle.mask_bits.specs.Buffer.{backing_bit}
 use Rattle.mask_bits.specs.Words.{word_bits}
-
--- the list of truth values of a bitmap
-abbrev pub bitmap : List ℕ → ℕ → ℕ → List Bool
-bitmap bytes offset len = values (record { bytes = bytes; offset = offset; len = len })
 
 -- in the bytes that n values take from bit 0 on, the bits behind the last value are clear
 abbrev pub AreClearBehind : List ℕ → ℕ → Type 0

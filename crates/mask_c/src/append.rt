@@ -2,8 +2,9 @@
 
 ghost use Rattle.std.specs.Prelude.{◌≡◌, ◌+◌, ◌-◌, ◌*◌, ◌^◌, ◌<◌, ◌≤◌, ◌++◌, ℕ, drop, length, min};
 ghost use Rattle.std.specs.Int.{bit_at, div_ceil};
+ghost use Rattle.mask_bits.specs.Bitmap.{bitmap};
 ghost use Rattle.mask_bits.specs.Buffer.{IsWithinBytes};
-ghost use Rattle.mask_c.specs.Bitmap.{AreClearBehind, bitmap};
+ghost use Rattle.mask_c.specs.Bitmap.{AreClearBehind};
 
 use crate::pointwise::row_mask_copy;
 use mask_bits::words::word_at;

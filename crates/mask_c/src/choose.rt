@@ -2,10 +2,10 @@
 
 ghost use Rattle.std.specs.Prelude.{◌≡◌, ◌≢◌, ◌+◌, ◌*◌, ◌<◌, ◌≤◌, ◌++◌, All, length, slice_get, take};
 ghost use Rattle.std.specs.List.{filter_map};
+ghost use Rattle.mask_bits.specs.Bitmap.{bitmap};
 ghost use Rattle.mask_bits.specs.Buffer.{IsWithinBytes};
 ghost use Rattle.mask_bits.specs.Positions.{chosen, count, positions};
 ghost use Rattle.mask_bits.specs.Words.{word_bits};
-ghost use Rattle.mask_c.specs.Bitmap.{bitmap};
 
 use mask_bits::BitChunks;
 

@@ -2,10 +2,11 @@
 
 ghost use Rattle.std.specs.Prelude.{◌≡◌, ◌+◌, ◌*◌, ◌/◌, ◌%◌, ◌<◌, ◌≤◌, ◌++◌, ℕ, drop, length, take};
 ghost use Rattle.std.specs.Int.{bit_at, div_ceil};
+ghost use Rattle.mask_bits.specs.Bitmap.{bitmap};
 ghost use Rattle.mask_bits.specs.Buffer.{IsWithinBytes};
 ghost use Rattle.mask_bits.specs.Positions.{chosen, count};
 ghost use Rattle.mask_bits.specs.Words.{word_bits};
-ghost use Rattle.mask_c.specs.Bitmap.{AreClearBehind, bitmap, values_so_far};
+ghost use Rattle.mask_c.specs.Bitmap.{AreClearBehind, values_so_far};
 
 use crate::last::put_last;
 use mask_bits::BitChunks;

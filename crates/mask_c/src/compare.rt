@@ -1,10 +1,11 @@
 //! Two bitmaps of one length beside each other.
 
 ghost use Rattle.std.specs.Prelude.{◌≡◌, ◌↔◌, ◌<◌, IsTrue};
+ghost use Rattle.mask_bits.specs.Bitmap.{bitmap};
 ghost use Rattle.mask_bits.specs.Buffer.{IsWithinBytes};
 ghost use Rattle.mask_bits.specs.Lists.{and_of};
 ghost use Rattle.mask_bits.specs.Positions.{count};
-ghost use Rattle.mask_c.specs.Bitmap.{IsSubset, bitmap};
+ghost use Rattle.mask_c.specs.Bitmap.{IsSubset};
 
 use mask_bits::combine::{And, AndNot};
 use mask_bits::compare::{none_true, same_bits};

@@ -2,10 +2,10 @@
 
 ghost use Rattle.std.specs.Prelude.{◌≡◌, ◌≤◌, All, length, map, slice_range};
 ghost use Rattle.std.specs.List.Sorted.{IsNonDecreasing};
+ghost use Rattle.mask_bits.specs.Bitmap.{bitmap};
 ghost use Rattle.mask_bits.specs.Buffer.{IsWithinBytes};
 ghost use Rattle.mask_bits.specs.Lists.{and_of};
 ghost use Rattle.mask_bits.specs.Positions.{count, count_below};
-ghost use Rattle.mask_c.specs.Bitmap.{bitmap};
 
 use mask_bits::combine::And;
 use mask_bits::compare::count_true;

@@ -3,9 +3,10 @@
 ghost use Rattle.std.specs.Prelude.{◌≡◌, ◌*◌, ◌<◌, ◌≤◌, ℕ, All, drop, length, nat_eq};
 ghost use Rattle.std.specs.Int.{div_ceil};
 ghost use Rattle.std.specs.List.{list_any};
+ghost use Rattle.mask_bits.specs.Bitmap.{bitmap};
 ghost use Rattle.mask_bits.specs.Buffer.{backing_bit};
 ghost use Rattle.mask_bits.specs.Positions.{true_at};
-ghost use Rattle.mask_c.specs.Bitmap.{AreClearBehind, bitmap};
+ghost use Rattle.mask_c.specs.Bitmap.{AreClearBehind};
 
 use mask_bits::write_bits::set_bit;
 

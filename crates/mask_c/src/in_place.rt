@@ -2,9 +2,10 @@
 
 ghost use Rattle.std.specs.Prelude.{◌≡◌, ◌≤◌, drop, length};
 ghost use Rattle.std.specs.Int.{div_ceil};
+ghost use Rattle.mask_bits.specs.Bitmap.{bitmap};
 ghost use Rattle.mask_bits.specs.Buffer.{IsWithinBytes};
 ghost use Rattle.mask_bits.specs.Lists.{and_of, or_of, and_not_of, combined, not_of, xor_of};
-ghost use Rattle.mask_c.specs.Bitmap.{AreClearBehind, bitmap};
+ghost use Rattle.mask_c.specs.Bitmap.{AreClearBehind};
 
 use crate::last::clear_behind;
 use mask_bits::combine::{And, AndNot, BitOp, Or, Xor, combine_in_place, negate_in_place};
@@ -16,8 +17,7 @@ use mask_bits::combine::{And, AndNot, BitOp, Or, Xor, combine_in_place, negate_i
 pub extern "C" fn row_mask_and_in_place(a: &mut [u8], b: &[u8], b_offset: usize, len: usize)
     requires room { div_ceil len 8 ≤ length a.old }
     requires b { IsWithinBytes b.now b_offset len }
-    ensures values { bitmap a.new 0 len
-        ≡ and_of (bitmap a.old 0 len) (bitmap b.now b_offset len) }
+    ensures values { bitmap a.new 0 len ≡ and_of (bitmap a.old 0 len) (bitmap b.now b_offset len) }
     ensures clear { AreClearBehind a.new len }
     ensures behind { drop (div_ceil len 8) a.new ≡ drop (div_ceil len 8) a.old }
 {
@@ -31,8 +31,7 @@ pub extern "C" fn row_mask_and_in_place(a: &mut [u8], b: &[u8], b_offset: usize,
 pub extern "C" fn row_mask_or_in_place(a: &mut [u8], b: &[u8], b_offset: usize, len: usize)
     requires room { div_ceil len 8 ≤ length a.old }
     requires b { IsWithinBytes b.now b_offset len }
-    ensures values { bitmap a.new 0 len
-        ≡ or_of (bitmap a.old 0 len) (bitmap b.now b_offset len) }
+    ensures values { bitmap a.new 0 len ≡ or_of (bitmap a.old 0 len) (bitmap b.now b_offset len) }
     ensures clear { AreClearBehind a.new len }
     ensures behind { drop (div_ceil len 8) a.new ≡ drop (div_ceil len 8) a.old }
 {
@@ -62,8 +61,7 @@ pub extern "C" fn row_mask_and_not_in_place(a: &mut [u8], b: &[u8], b_offset: us
 pub extern "C" fn row_mask_xor_in_place(a: &mut [u8], b: &[u8], b_offset: usize, len: usize)
     requires room { div_ceil len 8 ≤ length a.old }
     requires b { IsWithinBytes b.now b_offset len }
-    ensures values { bitmap a.new 0 len
-        ≡ xor_of (bitmap a.old 0 len) (bitmap b.now b_offset len) }
+    ensures values { bitmap a.new 0 len ≡ xor_of (bitmap a.old 0 len) (bitmap b.now b_offset len) }
     ensures clear { AreClearBehind a.new len }
     ensures behind { drop (div_ceil len 8) a.new ≡ drop (div_ceil len 8) a.old }
 {

@@ -2,8 +2,9 @@
 
 ghost use Rattle.std.specs.Prelude.{◌≡◌, ◌+◌, ◌*◌, ◌<◌, ◌≤◌, drop, length, take};
 ghost use Rattle.std.specs.Int.{div_ceil};
+ghost use Rattle.mask_bits.specs.Bitmap.{bitmap};
 ghost use Rattle.mask_bits.specs.Words.{word_bits};
-ghost use Rattle.mask_c.specs.Bitmap.{AreClearBehind, bitmap};
+ghost use Rattle.mask_c.specs.Bitmap.{AreClearBehind};
 
 use mask_bits::words::{low_bits, set_word};
 

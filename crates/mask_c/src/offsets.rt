@@ -3,9 +3,9 @@
 ghost use Rattle.std.specs.Prelude.{◌≡◌, ◌+◌, ◌*◌, ◌<◌, ◌≤◌, ◌^◌, ◌++◌, Some, All, drop, length, map, slice_get, slice_index, slice_set, take};
 ghost use Rattle.std.specs.List.{sum};
 ghost use Rattle.std.specs.List.Sorted.{IsNonDecreasing};
+ghost use Rattle.mask_bits.specs.Bitmap.{bitmap};
 ghost use Rattle.mask_bits.specs.Buffer.{IsWithinBytes};
 ghost use Rattle.mask_bits.specs.Positions.{chosen, count};
-ghost use Rattle.mask_c.specs.Bitmap.{bitmap};
 ghost use Rattle.mask_c.specs.Strings.{ends_from, items_at, offsets_of, sizes};
 
 use crate::indices::indices_in_word;

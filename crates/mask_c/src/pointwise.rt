@@ -2,9 +2,10 @@
 
 ghost use Rattle.std.specs.Prelude.{◌≡◌, ◌≤◌, drop, length};
 ghost use Rattle.std.specs.Int.{div_ceil};
+ghost use Rattle.mask_bits.specs.Bitmap.{bitmap};
 ghost use Rattle.mask_bits.specs.Buffer.{IsWithinBytes};
 ghost use Rattle.mask_bits.specs.Lists.{and_of, or_of, and_not_of, combined, not_of, xor_of};
-ghost use Rattle.mask_c.specs.Bitmap.{AreClearBehind, bitmap};
+ghost use Rattle.mask_c.specs.Bitmap.{AreClearBehind};
 
 use crate::last::put_last;
 use mask_bits::combine::{And, AndNot, BitOp, Not, Or, Xor, combine};

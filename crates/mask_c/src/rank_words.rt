@@ -1,10 +1,10 @@
 //! The words of a bitmap, each beside the rank bits that a deposit at it takes.
 
 ghost use Rattle.std.specs.Prelude.{◌≡◌, ◌+◌, ◌*◌, ◌<◌, ◌≤◌, ℕ, length, slice_index};
+ghost use Rattle.mask_bits.specs.Bitmap.{bitmap};
 ghost use Rattle.mask_bits.specs.Buffer.{IsWithinBytes};
 ghost use Rattle.mask_bits.specs.Positions.{count, count_below};
 ghost use Rattle.mask_bits.specs.Words.{padded_part, started_words, window, word_bits};
-ghost use Rattle.mask_c.specs.Bitmap.{bitmap};
 
 use crate::words::row_mask_words;
 use vortex_mask::intersect_by_rank::RankBits;

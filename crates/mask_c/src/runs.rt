@@ -1,9 +1,9 @@
 //! The runs of true values of a bitmap.
 
 ghost use Rattle.std.specs.Prelude.{min, true, false};
+ghost use Rattle.mask_bits.specs.Bitmap.{bitmap};
 ghost use Rattle.mask_bits.specs.Buffer.{IsWithinBytes};
 ghost use Rattle.mask_bits.specs.Positions.{IsFirstFrom};
-ghost use Rattle.mask_c.specs.Bitmap.{bitmap};
 
 use mask_bits::BitChunks;
 

@@ -3,9 +3,9 @@
 ghost use Rattle.std.specs.Prelude.{◌≡◌, ◌+◌, ◌-◌, ◌<◌, ◌≤◌, ◌++◌, All, drop, length, map, slice_index, slice_range, take};
 ghost use Rattle.std.specs.List.{concat, sum};
 ghost use Rattle.std.specs.List.Sorted.{IsNonDecreasing};
+ghost use Rattle.mask_bits.specs.Bitmap.{bitmap};
 ghost use Rattle.mask_bits.specs.Buffer.{IsWithinBytes};
 ghost use Rattle.mask_bits.specs.Positions.{chosen};
-ghost use Rattle.mask_c.specs.Bitmap.{bitmap};
 ghost use Rattle.mask_c.specs.Strings.{items_at, sizes, strings};
 
 use crate::indices::indices_in_word;

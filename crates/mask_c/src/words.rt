@@ -1,9 +1,9 @@
 //! The words of a bitmap.
 
 ghost use Rattle.std.specs.Prelude.{◌≡◌, ◌+◌, ◌-◌, ◌<◌, ℕ, drop, length, min, slice_index};
+ghost use Rattle.mask_bits.specs.Bitmap.{bitmap};
 ghost use Rattle.mask_bits.specs.Buffer.{IsWithinBytes};
 ghost use Rattle.mask_bits.specs.Words.{padded_part, started_words, word_bits};
-ghost use Rattle.mask_c.specs.Bitmap.{bitmap};
 
 use mask_bits::BitChunks;
 

@@ -21,7 +21,7 @@ pub fn answer(alloc: Global, words: &[String]) -> Result<String, RunError>
     ensures fault { IfErr result (λ e. (line (map string_bytes words.now) ≡ Err e)
         ⊎ (e ≡ out_of_memory)) }
 
-    // A fault of the arguments themselves is never told as out of memory.
+    // A fault of the arguments themselves is never reported as out of memory.
     ensures arguments { ForErr (command_of (map string_bytes words.now)) (λ e. result ≡ Err e) }
 {
     Command::parse(words)?.line(alloc)

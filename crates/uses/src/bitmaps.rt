@@ -1,5 +1,6 @@
 //! The bitmap that is written beside a column, where its rows are not all alike, and bitmaps as they are read.
 ghost use Rattle.std.specs.Prelude.{ℕ, ◌≡◌, ◌≢◌, ◌↔◌, ◌+◌, ◌*◌, ◌<◌, ◌≤◌, ◌^◌, All, IfOk, IfSome, IsOk, IsTrue, false, length, slice_index_or, true, vec_len};
+ghost use Rattle.mask_bits.specs.Bitmap.{bitmap};
 ghost use Rattle.mask_bits.specs.Buffer.{values};
 ghost use Rattle.mask_bits.specs.Lists.{and_of};
 ghost use Rattle.mask_bits.specs.Positions.{count, positions, repeated, true_at};
@@ -37,9 +38,7 @@ pub fn valid_in_both(
 ) -> Result<BitBuffer, AllocError>
     requires first { rows ≤ 8 * length first }
     requires second { rows ≤ 8 * length second }
-    ensures { IfOk result (λ b. values b ≡ and_of
-        (values (record { bytes = first; offset = 0; len = rows }))
-        (values (record { bytes = second; offset = 0; len = rows }))) }
+    ensures { IfOk result (λ b. values b ≡ and_of (bitmap first 0 rows) (bitmap second 0 rows)) }
 {
     BitBuffer::new(first, rows).bitand(alloc, &BitBuffer::new(second, rows))
 }
@@ -56,8 +55,8 @@ pub fn valid_in_part(
     requires column { start + rows ≤ 8 * length column }
     requires fits { start + rows < 2 ^ 64 }
     ensures { IfOk result (λ b. values b ≡ and_of
-        (values (record { bytes = written.items; offset = 0; len = rows }))
-        (values (record { bytes = column; offset = start; len = rows }))) }
+        (bitmap written.items 0 rows)
+        (bitmap column start rows)) }
 {
     let written = BitBuffer::from_vec(written, rows)?;
     written.bitand(alloc, &BitBuffer::new_with_offset(column, start, rows))
@@ -80,8 +79,7 @@ pub fn without_row(alloc: Global, valid: &BitBuffer, row: usize) -> Result<BitBu
 pub fn valid_in(column: Bytes, start: usize, rows: usize) -> usize
     requires column { start + rows ≤ 8 * length column }
     requires fits { start + rows < 2 ^ 64 }
-    ensures counted { result
-        ≡ count (values (record { bytes = column; offset = start; len = rows })) }
+    ensures counted { result ≡ count (bitmap column start rows) }
     ensures at_most { result ≤ rows }
 {
     laws::length_of_values();

@@ -14,7 +14,7 @@ pub fn valid_rows(alloc: Global, validity: &BitBuffer) -> Result<Vec<usize>, All
     validity.set_indices().collect(alloc)
 }
 
-/// The maximal ranges of rows that are valid.
+/// The runs of valid rows.
 pub fn valid_ranges(alloc: Global, validity: &BitBuffer) -> Result<Vec<(usize, usize)>, AllocError>
     ensures { IfOk result (λ v. AreRuns (values validity.now) v.items) }
 {

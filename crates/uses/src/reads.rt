@@ -76,7 +76,7 @@ pub fn ranges_of_both(
     Ok((of_filter, of_bitmap))
 }
 
-/// A filter can be read by maximal ranges, and as many rows are read as it chooses.
+/// A filter can be read by runs, and as many rows are read as it chooses.
 pub fn rows_by_ranges(filter: &Mask) -> usize
     ensures exist { (ranges : List (ℕ × ℕ)) × AreRuns (truth filter.now) ranges }
     ensures rows { (ranges : List (ℕ × ℕ)) → AreRuns (truth filter.now) ranges

@@ -1,7 +1,7 @@
 -- Worked rows of the terms that masks are described in, computed by the checker.
-use Rattle.std.proofs.Common.{ℕ, ◌≡◌, ◌+◌, ◌^◌, Bool, true, false, List, [], ◌∷◌, ◌++◌, map, Some, None, refl, ap, inl, inr, arith}
+use Rattle.std.proofs.Common.{ℕ, ◌≡◌, ◌+◌, ◌^◌, Bool, true, false, List, [], ◌∷◌, map, Some, None, refl, ap, inl, inr, arith}
 use Rattle.std.specs.Int.{bit_at}
-use Rattle.mask_bits.specs.Positions.{repeated, count_below}
+use Rattle.mask_bits.specs.Positions.{positions, repeated, count_below}
 use Rattle.mask_bits.specs.Words.{word_bits}
 use Rattle.vortex_mask.specs.Bitops.{and_caches, or_caches, and_not_caches}
 use Rattle.vortex_mask.specs.Deposit.{Deposits, selected}
@@ -258,20 +258,19 @@ unfolding repeated
 deposits_of_65 = refl
 
 -- indices 1 and 65 are both at bit 1 of their words
-selections_in_two_words : driven_steps 2 2 (false ∷ true ∷ repeated 63 false ++ true ∷ []) ≡ record { deposits = 0; words = 2; selections = 2; offered = 0; placed = 0; spots = 2 }
-unfolding repeated
+selections_in_two_words : driven_steps 2 2 (1 ∷ 65 ∷ []) ≡ record { deposits = 0; words = 2; selections = 2; offered = 0; placed = 0; spots = 2 }
 selections_in_two_words = refl
 
 no_step_of_indices : AreStepsOf Indices rows (false ∷ true ∷ false ∷ []) left no_steps
 no_step_of_indices = refl
 
-one_selection_of_five : AreStepsOf MaskDriven rows (false ∷ true ∷ false ∷ []) left (driven_steps 1 1 left)
+one_selection_of_five : AreStepsOf MaskDriven rows (false ∷ true ∷ false ∷ []) left (driven_steps 1 1 (positions left))
 one_selection_of_five = (refl, omega arith)
 
-no_more_words_than_are_started : AreStepsOf MaskDriven rows (false ∷ true ∷ false ∷ []) left (driven_steps 2 1 left) → ⊥
+no_more_words_than_are_started : AreStepsOf MaskDriven rows (false ∷ true ∷ false ∷ []) left (driven_steps 2 1 (positions left)) → ⊥
 no_more_words_than_are_started steps = omega (arith, steps.1)
 
-no_other_number_of_selections : AreStepsOf MaskDriven rows (false ∷ true ∷ false ∷ []) left (driven_steps 1 2 left) → ⊥
+no_other_number_of_selections : AreStepsOf MaskDriven rows (false ∷ true ∷ false ∷ []) left (driven_steps 1 2 (positions left)) → ⊥
 no_other_number_of_selections steps =
     let number : ◌≡◌ {A = ℕ} 2 1 = ap (λ (s : StepCounts). s.selections) steps.0 in
     omega arith

@@ -51,7 +51,7 @@ variant_or mixed all_true = all_true
 variant_or mixed all_false = mixed
 variant_or mixed mixed = mixed
 
--- a variant read as a truth value, and turned
+-- a variant read as a truth value, and negated
 abbrev pub variant_not : Variant → Variant
 variant_not all_true = all_false
 variant_not all_false = all_true

@@ -51,7 +51,7 @@ narrowed_caches (AllFalse n) b m = no_caches
 -- the steps s of a path from list a by ranks b to the result r: a deposit for each started word of a, or a selection for each rank in no more words than are started, or none
 abbrev pub AreStepsOf : RankPath → List Bool → List Bool → List Bool → StepCounts → Type 0
 AreStepsOf Indices a b r s = s ≡ no_steps
-AreStepsOf MaskDriven a b r s = (s ≡ driven_steps s.words (count b) r) × (s.words ≤ started_words (length a))
+AreStepsOf MaskDriven a b r s = (s ≡ driven_steps s.words (count b) (positions r)) × (s.words ≤ started_words (length a))
 AreStepsOf BitBuffers a b r s = s ≡ word_steps a r
 AreStepsOf RankIndices a b r s = s ≡ word_steps a r
 

@@ -1,7 +1,7 @@
 -- What a contract sees of `Steps`.
 use Rattle.std.specs.Prelude.{ℕ, ◌≤◌, ◌*◌, ◌%◌, Bool, List, length}
 use Rattle.std.specs.List.{sum_by}
-use Rattle.mask_bits.specs.Positions.{positions, count}
+use Rattle.mask_bits.specs.Positions.{count}
 use Rattle.mask_bits.specs.Words.{started_words}
 
 -- how many words were deposited, read and selected in, and sums over these steps: of the masks' counts, of the results' counts, and of the places selected
@@ -21,9 +21,9 @@ no_steps = record { deposits = 0; words = 0; selections = 0; offered = 0; placed
 abbrev pub word_steps : List Bool → List Bool → StepCounts
 word_steps m r = record { deposits = started_words (length m); words = started_words (length m); selections = 0; offered = count m; placed = count r; spots = 0 }
 
--- n selections in so many words, which find the true indices of r: the sum is of these within their words
-abbrev pub driven_steps : ℕ → ℕ → List Bool → StepCounts
-driven_steps words n r = record { deposits = 0; words = words; selections = n; offered = 0; placed = 0; spots = sum_by (λ p. p % 64) (positions r) }
+-- n selections in so many words, which find these indices: the sum is of these within their words
+abbrev pub driven_steps : ℕ → ℕ → List ℕ → StepCounts
+driven_steps words n indices = record { deposits = 0; words = words; selections = n; offered = 0; placed = 0; spots = sum_by (λ p. p % 64) indices }
 
 -- each step adds at most 64 to a sum
 pub record SumsFit (deposits selections offered placed spots : ℕ) : Type 0 where

@@ -16,13 +16,13 @@ DistributesOver join other = (a b c : List Bool) → join a (other b c) ≡ othe
 abbrev pub Absorbs : (List Bool → List Bool → List Bool) → (List Bool → List Bool → List Bool) → Type 0
 Absorbs join other = (a b : List Bool) → length a ≡ length b → join a (other a b) ≡ a
 
--- what a list and its turned values are together
+-- what a list and its complement are together
 pub record HasComplements : Type 0 where
   pub none_is_both : (a : List Bool) → and_of a (not_of a) ≡ repeated (length a) false
   pub each_is_one : (a : List Bool) → or_of a (not_of a) ≡ repeated (length a) true
   pub twice : (a : List Bool) → not_of (not_of a) ≡ a
 
--- and-not is `and` with the turned values
+-- and-not is `and` with the complement
 abbrev pub AndNotIsAndOfNot : Type 0
 AndNotIsAndOfNot = (a b : List Bool) → and_not_of a b ≡ and_of a (not_of b)
 

@@ -21,7 +21,7 @@ FirstIsAtMostLast = (m : List Bool) (p q : ℕ) → slice_get (positions m) 0 �
 abbrev pub PositionsDetermineList : Type 0
 PositionsDetermineList = (a b : List Bool) → length a ≡ length b → positions a ≡ positions b → a ≡ b
 
--- a list that is true at some indices is as long as it is told
+-- a list that is true at some indices is as long as it is asked to be
 abbrev pub LengthOfTrueAt : Type 0
 LengthOfTrueAt = (n : ℕ) (indices : List ℕ) → length (true_at n indices) ≡ n
 

@@ -21,7 +21,7 @@ RankIntersectionValue = (a b : List Bool) (i : ℕ) → length b ≡ count a
 abbrev pub RankIntersectionCount : Type 0
 RankIntersectionCount = (a b : List Bool) → length b ≡ count a → count (rank_intersection a b) ≡ count b
 
--- true value number n stands where a's true value stands whose number is the place of b's true value number n
+-- true value number n stands where a's true value stands whose number is the index of b's true value number n
 abbrev pub RankIntersectionPosition : Type 0
 RankIntersectionPosition = (a b : List Bool) (n : ℕ) → length b ≡ count a → n < count b
     → slice_index (positions (rank_intersection a b)) n ≡ slice_index (positions a) (slice_index (positions b) n)

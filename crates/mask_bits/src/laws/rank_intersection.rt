@@ -57,7 +57,7 @@ pub fn rank_intersection_of_and()
 /// A list narrowed by a complement is the list without what the second list leaves of it.
 #[tactic(auto, using(crate::proofs::Lists::BooleanLemmas::rank_intersection_of_not))]
 pub fn rank_intersection_of_not()
-    ensures turned { RankIntersectionOfNot }
+    ensures negated { RankIntersectionOfNot }
 {}
 
 /// Choosing truth values undoes a rank intersection: a list narrowed by another one's values at its

@@ -97,7 +97,7 @@ fn chosen_values(rt: HostRuntime) {
     try_rows(&rt, CHOSEN_VALUES);
 }
 
-// A fault of ranges is told before any memory is asked for.
+// A fault of ranges is reported before any memory is asked for.
 const CONSTRUCTORS: &str = "\
 from_buffer - -> - AllFalse
 from_buffer first:10:10 -> 1111111111 AllTrue

@@ -6,7 +6,7 @@ use Rattle.std.proofs.lemmas.List.{ext_get_or, get_or-take, get_or-drop, get_or_
 use Rattle.mask_bits.specs.Buffer.{Packed, backing_bit, values}
 use Rattle.mask_bits.specs.Positions.{count, count_below, rank_intersection}
 use Rattle.mask_bits.specs.Words.{word_bits, word_part, window, padded_part, padded_remainder, started_words}
-use Rattle.mask_bits.proofs.Lists.Words.BackingBitLemmas.{length-bits_at, get_or-bits_at}
+use Rattle.mask_bits.proofs.Lists.Words.BackingBitLemmas.{length-bitmap, get_or-bitmap}
 use Rattle.mask_bits.proofs.Lists.CountLemmas.{count-append}
 use Rattle.mask_bits.proofs.Lists.Words.FrontLemmas.{get_or-window}
 use Rattle.mask_bits.proofs.Lists.LawLemmas.{rank_intersection_value}
@@ -142,9 +142,9 @@ deposited-two a b i at s s₂ m m₂ ones ones₂ w w₂ out half new before rea
 pub rank_bits-window : (a : List Bool) (b : Packed) (i at s m : ℕ) → length (values b) ≡ count a → at ≡ count_below a (64 * i) → word_bits m ≡ padded_part a i
     → word_bits s ≡ window b.bytes (b.offset + at) → AreRankBits (values b) at s (count (word_bits m))
 rank_bits-window a b i at s m fits place shows read = λ k h.
-    let inside : at + k < b.len = omega (arith, ap count shows, count-word_more a i, count_below-le a (64 * (i + 1)), length-bits_at b.bytes b.offset b.len) in
+    let inside : at + k < b.len = omega (arith, ap count shows, count-word_more a i, count_below-le a (64 * (i + 1)), length-bitmap b.bytes b.offset b.len) in
     let few : k < 64 = omega (arith, count-le-length (word_bits m), length-word_bits m) in
-    grind (arith, read, get_or-window b.bytes (b.offset + at) k false few, get_or-bits_at b.bytes b.offset b.len (at + k) false inside)
+    grind (arith, read, get_or-window b.bytes (b.offset + at) k false few, get_or-bitmap b.bytes b.offset b.len (at + k) false inside)
 
 -- the running place is a rank, before a word and after it
 pub place-within : (a : List Bool) (i at : ℕ) → at ≡ count_below a (64 * i) → at ≤ count a
@@ -159,7 +159,7 @@ place-next a i at m ones place shows counted = omega (arith, ap count shows, cou
 
 -- so it is a place of the rank bits, which fits
 pub rank_place-fits : (a : List Bool) (b : Packed) (n : ℕ) → length (values b) ≡ count a → n ≤ count a → b.offset + b.len < 2 ^ 64 → b.offset + n < 2 ^ 64
-rank_place-fits a b n fits within small = omega (arith, length-bits_at b.bytes b.offset b.len)
+rank_place-fits a b n fits within small = omega (arith, length-bitmap b.bytes b.offset b.len)
 
 -- ---- all words
 
@@ -170,10 +170,10 @@ pub deposited-list : (a r : List Bool) (i at : ℕ) (out : List ℕ) (steps : St
     → IsDeposited a r i at out steps → values (record { bytes = out; offset = 0; len = length a }) ≡ r
 deposited-list a r i at out steps len all is =
     let front : List Bool = values (record { bytes = out; offset = 0; len = length a }) in
-    let front_len : length front ≡ length a = length-bits_at out 0 (length a) in
+    let front_len : length front ≡ length a = length-bitmap out 0 (length a) in
     ext_get_or false front r (front_len ∙ sym len) (λ p h.
     let place : 0 + p ≡ p = omega arith in
-    get_or-bits_at out 0 (length a) p false (omega arith) ∙ ap (backing_bit out) place ∙ is.written p (omega arith))
+    get_or-bitmap out 0 (length a) p false (omega arith) ∙ ap (backing_bit out) place ∙ is.written p (omega arith))
 
 pub deposited-steps : (a r : List Bool) (i at : ℕ) (out : List ℕ) (steps : StepCounts) → length r ≡ length a → i ≡ started_words (length a)
     → IsDeposited a r i at out steps → steps ≡ word_steps a r

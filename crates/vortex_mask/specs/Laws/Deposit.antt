@@ -1,5 +1,6 @@
 -- What holds of deposits, and of extracts beside them.
 use Rattle.std.specs.Prelude.{ℕ, ◌+◌, ◌-◌, ◌*◌, ◌/◌, ◌%◌, ◌^◌, ◌≡◌, ◌<◌, ◌++◌, Bool, false, List, bit_and, bit_or, length, take}
+use Rattle.mask_bits.specs.Bitmap.{bitmap}
 use Rattle.mask_bits.specs.Buffer.{Packed, values}
 use Rattle.mask_bits.specs.Extract.{Extracts}
 use Rattle.mask_bits.specs.Lists.{and_of}
@@ -47,7 +48,7 @@ DepositIsWordOfRankIntersection = (m : List Bool) (ranks : Packed) (i source mas
 -- bytes whose words are the started words of a list have that list from bit 0 on
 abbrev pub StartedWordsAreTheList : Type 0
 StartedWordsAreTheList = (m : List Bool) (bytes : List ℕ) → ((i : ℕ) → i < started_words (length m) → window bytes (64 * i) ≡ padded_part m i)
-    → values (record { bytes = bytes; offset = 0; len = length m }) ≡ m
+    → bitmap bytes 0 (length m) ≡ m
 
 -- a deposit of an extract cuts the source to the mask: it has the bits that both have
 abbrev pub DepositOfExtract : Type 0

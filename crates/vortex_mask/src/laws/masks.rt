@@ -49,7 +49,7 @@ pub fn cached_lists(mask: &Mask)
     }
 }
 
-/// Masks of one list keep equal ranges where both keep them, however they were made. What they lend
+/// Masks of one list cache equal ranges where both cache some, however they were made. What they lend
 /// is equal by `Mask::slices`.
 pub fn one_list_of_ranges(left: &Mask, right: &Mask)
     requires { truth left.now ≡ truth right.now }
@@ -72,7 +72,7 @@ pub fn no_index_fault()
     ensures { NoIndexFault }
 {}
 
-/// `same_truth`, as which `==` of masks and of references to them is told, says whether their lists
+/// `same_truth`, by which `==` of masks and of references to them is stated, says whether their lists
 /// are the same.
 #[tactic(auto, using(crate::proofs::Masks::MaskLemmas::same_truth_is_one_list))]
 pub fn same_truth_is_one_list()

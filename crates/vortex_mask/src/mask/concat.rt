@@ -21,7 +21,7 @@ impl Mask {
     /// The values of the masks that an iterator yields, one mask after another. No values give
     /// `AllTrue(0)`.
     ///
-    /// The masks are listed first, so `Memory` may come before `LengthOverflow`, which is told
+    /// The masks are listed first, so `Memory` may come before `LengthOverflow`, which is reported
     /// where the sum of all lengths is above `usize::MAX`.
     pub fn concat<'a, I: Iterator<Item = &'a Mask>>(
         alloc: Global,

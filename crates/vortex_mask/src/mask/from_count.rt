@@ -3,6 +3,7 @@
 ghost use Rattle.std.specs.Prelude.{◌≡◌, ◌≢◌, ◌*◌, ◌<◌, ◌≤◌, ◌⊎◌, IsOk, IfOk, IsOkUnless, MatchOption, All, None, alloc_error, length, vec_len};
 ghost use Rattle.std.specs.List.Sorted.{IsStrictlyIncreasing};
 ghost use Rattle.std.specs.Option.{option_map};
+ghost use Rattle.mask_bits.specs.Bitmap.{bitmap};
 ghost use Rattle.mask_bits.specs.Buffer.{values};
 ghost use Rattle.mask_bits.specs.Positions.{count, positions};
 ghost use Rattle.vortex_mask.specs.Caches.{caches, where_mixed};
@@ -90,10 +91,8 @@ impl Mask {
         true_count: usize,
     ) -> Result<Mask, MaskError>
         requires covered { len ≤ 8 * vec_len words }
-        requires counted { true_count
-            ≡ count (values (record { bytes = words.items; offset = 0; len = len })) }
-        ensures list { IfOk result
-            (λ m. truth m ≡ values (record { bytes = words.items; offset = 0; len = len })) }
+        requires counted { true_count ≡ count (bitmap words.items 0 len) }
+        ensures list { IfOk result (λ m. truth m ≡ bitmap words.items 0 len) }
         ensures variant { IfOk result (λ m. variant m ≡ fitting_variant all_false (truth m)) }
         ensures caches { IfOk result (λ m. caches m ≡ no_caches) }
         ensures refused { IsOkUnless result (MaskError.Memory alloc_error) }

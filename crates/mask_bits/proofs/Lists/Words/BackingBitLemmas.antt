@@ -3,7 +3,8 @@ use Rattle.std.proofs.Common.{◌≡◌, ℕ, ◌+◌, ◌*◌, ◌-◌, ◌^◌
 use Rattle.std.specs.Int.{bit_at}
 use Rattle.std.specs.Int.RustNames.{bit_and}
 use Rattle.std.proofs.lemmas.List.{get_or-drop}
-use Rattle.mask_bits.specs.Buffer.{backing_bit, values}
+use Rattle.mask_bits.specs.Bitmap.{bitmap}
+use Rattle.mask_bits.specs.Buffer.{backing_bit}
 use Rattle.mask_bits.specs.Positions.{count, repeated}
 use Rattle.mask_bits.specs.Words.{word_bits, window}
 use Rattle.mask_bits.proofs.BufferLemmas.{length-values, get_or-values, values_from_front}
@@ -13,45 +14,41 @@ use Rattle.mask_bits.proofs.Lists.Words.WordLemmas.{get_or-word_bits, count-word
 use Rattle.mask_bits.proofs.Lists.Places.PlaceLemmas.{count-le-length}
 use Rattle.mask_bits.proofs.Lists.Words.ShiftLemmas.{word_bits-low_mask}
 
--- the n bits from position p on
-abbrev pub bits_at : List ℕ → ℕ → ℕ → List Bool
-bits_at bytes p n = values (record { bytes = bytes; offset = p; len = n })
+pub length-bitmap : (bytes : List ℕ) (p n : ℕ) → length (bitmap bytes p n) ≡ n
+length-bitmap bytes p n = length-values (record { bytes = bytes; offset = p; len = n })
 
-pub length-bits_at : (bytes : List ℕ) (p n : ℕ) → length (bits_at bytes p n) ≡ n
-length-bits_at bytes p n = length-values (record { bytes = bytes; offset = p; len = n })
-
-pub get_or-bits_at : (bytes : List ℕ) (p n j : ℕ) (d : Bool) → j < n → get_or (bits_at bytes p n) j d ≡ backing_bit bytes (p + j)
-get_or-bits_at bytes p n j d h = get_or-values (record { bytes = bytes; offset = p; len = n }) j d h
+pub get_or-bitmap : (bytes : List ℕ) (p n j : ℕ) (d : Bool) → j < n → get_or (bitmap bytes p n) j d ≡ backing_bit bytes (p + j)
+get_or-bitmap bytes p n j d h = get_or-values (record { bytes = bytes; offset = p; len = n }) j d h
 
 -- some bits, and those past them
-pub bits_at-append : (bytes : List ℕ) (p a b : ℕ) → bits_at bytes p (a + b) ≡ bits_at bytes p a ++ bits_at bytes (p + a) b
-bits_at-append bytes p a b = sym (values-join bytes p a b)
+pub bitmap-append : (bytes : List ℕ) (p a b : ℕ) → bitmap bytes p (a + b) ≡ bitmap bytes p a ++ bitmap bytes (p + a) b
+bitmap-append bytes p a b = sym (values-join bytes p a b)
 
 -- the bits of bytes whose first k are left out
 pub backing_bit-drop : (bytes : List ℕ) (k p : ℕ) → backing_bit (drop k bytes) p ≡ backing_bit bytes (8 * k + p)
 backing_bit-drop bytes k p = grind (arith, get_or-drop)
 
-pub bits_at-drop : (bytes : List ℕ) (k n : ℕ) → bits_at (drop k bytes) 0 n ≡ bits_at bytes (8 * k) n
-bits_at-drop bytes k n =
-    values_from_front (drop k bytes) (bits_at bytes (8 * k) n) n (length-bits_at bytes (8 * k) n) (λ j h. backing_bit-drop bytes k j ∙ sym (get_or-bits_at bytes (8 * k) n j false h))
+pub bitmap-drop : (bytes : List ℕ) (k n : ℕ) → bitmap (drop k bytes) 0 n ≡ bitmap bytes (8 * k) n
+bitmap-drop bytes k n =
+    values_from_front (drop k bytes) (bitmap bytes (8 * k) n) n (length-bitmap bytes (8 * k) n) (λ j h. backing_bit-drop bytes k j ∙ sym (get_or-bitmap bytes (8 * k) n j false h))
 
 -- a word cut to its low bits shows those bits alone
-pub word_bits-low : (bytes : List ℕ) (p n w : ℕ) → n ≤ 64 → word_bits w ≡ window bytes p → word_bits (bit_and w (2 ^ n - 1)) ≡ bits_at bytes p n ++ repeated (64 - n) false
+pub word_bits-low : (bytes : List ℕ) (p n w : ℕ) → n ≤ 64 → word_bits w ≡ window bytes p → word_bits (bit_and w (2 ^ n - 1)) ≡ bitmap bytes p n ++ repeated (64 - n) false
 word_bits-low bytes p n w few shows = grind (arith, word_bits-low_mask, window-take)
 
 -- and has as many ones as they have true values
-pub count-low : (bytes : List ℕ) (p n w : ℕ) → n ≤ 64 → bit_and w (2 ^ n - 1) < 2 ^ 64 → word_bits w ≡ window bytes p → count_ones (bit_and w (2 ^ n - 1)) ≡ count (bits_at bytes p n)
+pub count-low : (bytes : List ℕ) (p n w : ℕ) → n ≤ 64 → bit_and w (2 ^ n - 1) < 2 ^ 64 → word_bits w ≡ window bytes p → count_ones (bit_and w (2 ^ n - 1)) ≡ count (bitmap bytes p n)
 count-low bytes p n w few fits shows =
-    grind (arith, count-word_bits (bit_and w (2 ^ n - 1)) fits, word_bits-low bytes p n w few shows, count-append (bits_at bytes p n) (repeated (64 - n) false), count-repeated_false (64 - n))
+    grind (arith, count-word_bits (bit_and w (2 ^ n - 1)) fits, word_bits-low bytes p n w few shows, count-append (bitmap bytes p n) (repeated (64 - n) false), count-repeated_false (64 - n))
 
 -- h bits up to a whole byte, w bits from there, and t past them are all of them
 pub count-split : (bytes part : List ℕ) (p q h w t n : ℕ) → 8 * q ≡ p + h → part ≡ drop q bytes → n ≡ h + w + t
-    → count (bits_at bytes p h) + count (bits_at part 0 w) + count (bits_at bytes (p + (h + w)) t) ≡ count (bits_at bytes p n)
-count-split bytes part p q h w t n byte is len = grind (arith, bits_at-drop, bits_at-append, count-append)
+    → count (bitmap bytes p h) + count (bitmap part 0 w) + count (bitmap bytes (p + (h + w)) t) ≡ count (bitmap bytes p n)
+count-split bytes part p q h w t n byte is len = grind (arith, bitmap-drop, bitmap-append, count-append)
 
 -- no more of some bits are true than there are
-pub count-bits_at-le : (bytes : List ℕ) (p n : ℕ) → count (bits_at bytes p n) ≤ n
-count-bits_at-le bytes p n = omega (arith, count-le-length (bits_at bytes p n), length-bits_at bytes p n)
+pub count-bitmap-le : (bytes : List ℕ) (p n : ℕ) → count (bitmap bytes p n) ≤ n
+count-bitmap-le bytes p n = omega (arith, count-le-length (bitmap bytes p n), length-bitmap bytes p n)
 
 -- bit j of a word that shows the bits from p on
 pub bit-window : (bytes : List ℕ) (p w j : ℕ) → word_bits w ≡ window bytes p → j < 64 → nat_eq (bit_at w j) 1 ≡ backing_bit bytes (p + j)

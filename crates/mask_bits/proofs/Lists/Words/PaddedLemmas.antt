@@ -5,11 +5,12 @@ use Rattle.std.proofs.lemmas.List.{drop_more, drop_all, ext_get_or, length-appen
 use Rattle.std.proofs.lemmas.List.Edits.{length-between, get_or-between}
 use Rattle.std.proofs.lemmas.List.FromFn.{length-map-range_with_len, get_or-map-range_with_len}
 use Rattle.std.proofs.lemmas.Nat.Bits.{bit_at-zero}
+use Rattle.mask_bits.specs.Bitmap.{bitmap}
 use Rattle.mask_bits.specs.Buffer.{Packed, values}
 use Rattle.mask_bits.specs.Positions.{repeated}
 use Rattle.mask_bits.specs.Words.{word_bits, window, word_part, padded_remainder, started_words, padded_part, padded_parts}
 use Rattle.mask_bits.proofs.BufferLemmas.{length-values, get_or-values}
-use Rattle.mask_bits.proofs.Lists.Words.BackingBitLemmas.{bits_at, length-bits_at, get_or-bits_at, word_bits-low}
+use Rattle.mask_bits.proofs.Lists.Words.BackingBitLemmas.{length-bitmap, get_or-bitmap, word_bits-low}
 use Rattle.mask_bits.proofs.Lists.Words.WordLemmas.{length-word_bits, get_or-word_bits}
 use Rattle.mask_bits.proofs.Lists.CountLemmas.{length-repeated, get_or-padded}
 
@@ -54,10 +55,10 @@ pub padded_part-low : (b : Packed) (i w : ℕ) → b.len - 64 * i ≤ 64 → wor
 padded_part-low b i w few shows =
     let n : ℕ = b.len - 64 * i in
     let p : ℕ = b.offset + 64 * i in
-    let front : List Bool = bits_at b.bytes p n in
+    let front : List Bool = bitmap b.bytes p n in
     word_bits-low b.bytes p n w few shows
-    ∙ padded_part_from_values (values b) (front ++ repeated (64 - n) false) i (omega (arith, length-bits_at b.bytes p n, length-append front (repeated (64 - n) false), length-repeated (64 - n) false)) (λ j h.
-    grind (arith, get_or-padded front (64 - n) j, get_or-bits_at b.bytes p n j false, get_or_past front j false, length-bits_at b.bytes p n, get_or-values b (64 * i + j) false, get_or_past (values b) (64 * i + j) false, length-values b))
+    ∙ padded_part_from_values (values b) (front ++ repeated (64 - n) false) i (omega (arith, length-bitmap b.bytes p n, length-append front (repeated (64 - n) false), length-repeated (64 - n) false)) (λ j h.
+    grind (arith, get_or-padded front (64 - n) j, get_or-bitmap b.bytes p n j false, get_or_past front j false, length-bitmap b.bytes p n, get_or-values b (64 * i + j) false, get_or_past (values b) (64 * i + j) false, length-values b))
 
 -- ---- the parts of a list
 

@@ -1,9 +1,9 @@
 use Rattle.std.proofs.Common.{◌≡◌, ◌*◌}
+use Rattle.mask_bits.specs.Bitmap.{bitmap}
 use Rattle.mask_bits.specs.Lists.{combined}
 use Rattle.mask_bits.specs.Positions.{count}
-use Rattle.mask_bits.proofs.Lists.Words.BackingBitLemmas.{bits_at}
 use Rattle.mask_bits.proofs.compare.count_on.Given as goal
 
 -- those of the words before are counted
 abbrev pub invariant-loop-i : goal.invariant-loop-i
-invariant-loop-i g l = l.count ≡ count (combined g.C.BitOp.of_bits (bits_at l.a l.a_low (64 * l.i)) (bits_at l.b l.b_low (64 * l.i)))
+invariant-loop-i g l = l.count ≡ count (combined g.C.BitOp.of_bits (bitmap l.a l.a_low (64 * l.i)) (bitmap l.b l.b_low (64 * l.i)))

@@ -1,20 +1,21 @@
 use Rattle.std.proofs.Common.{◌*◌, ◌+◌, ◌≡◌, sym, arith, count_ones}
+use Rattle.mask_bits.specs.Bitmap.{bitmap}
 use Rattle.mask_bits.specs.Positions.{count}
-use Rattle.mask_bits.proofs.Lists.Words.BackingBitLemmas.{bits_at, count-bits_at-le}
+use Rattle.mask_bits.proofs.Lists.Words.BackingBitLemmas.{count-bitmap-le}
 use Rattle.mask_bits.proofs.Lists.CountLemmas.{count-append}
 use Rattle.mask_bits.proofs.Lists.Words.FrontLemmas.{front-more_word}
 use Rattle.mask_bits.proofs.Lists.Words.WordLemmas.{count-word_bits}
 use Rattle.mask_bits.proofs.counts.count_words.Goals as goal
 
 pub loop-i-init : goal.loop-i-init
-loop-i-init c = omega (arith, count-bits_at-le c.args.bytes.now 0 0)
+loop-i-init c = omega (arith, count-bitmap-le c.args.bytes.now 0 0)
 
-more : (c : goal.After-word_of) → count (bits_at c.args.bytes.now 0 (64 * (c.loop-i.i + 1))) ≡ c.loop-i.count + count_ones c.word_of.result
+more : (c : goal.After-word_of) → count (bitmap c.args.bytes.now 0 (64 * (c.loop-i.i + 1))) ≡ c.loop-i.count + count_ones c.word_of.result
 more c = grind (arith, front-more_word, count-append, count-word_bits)
 
 pub overflow_add-count : goal.overflow_add-count
 overflow_add-count c =
-    omega (arith, more c, c.requires.fits, count-bits_at-le c.args.bytes.now 0 (64 * (c.loop-i.i + 1)))
+    omega (arith, more c, c.requires.fits, count-bitmap-le c.args.bytes.now 0 (64 * (c.loop-i.i + 1)))
 
 pub loop-i-preserved : goal.loop-i-preserved
 loop-i-preserved c = sym (more c)

@@ -1,8 +1,8 @@
 use Rattle.std.proofs.Common.{◌≡◌, ◌*◌}
+use Rattle.mask_bits.specs.Bitmap.{bitmap}
 use Rattle.mask_bits.specs.Positions.{count}
-use Rattle.mask_bits.proofs.Lists.Words.BackingBitLemmas.{bits_at}
 use Rattle.mask_bits.proofs.counts.count_words.Given as goal
 
 -- the ones of the words so far
 abbrev pub invariant-loop-i : goal.invariant-loop-i
-invariant-loop-i l = l.count ≡ count (bits_at l.bytes 0 (64 * l.i))
+invariant-loop-i l = l.count ≡ count (bitmap l.bytes 0 (64 * l.i))

@@ -1,8 +1,9 @@
 use Rattle.std.proofs.Common.{ℕ, Bool, List, ◌≡◌, ◌+◌, ◌-◌, ◌++◌, length, drop, append_assoc, subst, sym, ap, ◌∙◌, arith}
 use Rattle.std.specs.Int.{div_ceil}
 use Rattle.std.proofs.lemmas.List.{length-drop, length-take, take_rest}
-use Rattle.mask_bits.proofs.Lists.Words.BackingBitLemmas.{bits_at-append}
-use Rattle.mask_c.specs.Bitmap.{AreClearBehind, bitmap}
+use Rattle.mask_bits.proofs.Lists.Words.BackingBitLemmas.{bitmap-append}
+use Rattle.mask_bits.specs.Bitmap.{bitmap}
+use Rattle.mask_c.specs.Bitmap.{AreClearBehind}
 use Rattle.mask_c.proofs.AppendLemmas.{full_or_none, same_end, appended-values, appended-clear, appended-behind}
 use borrow.Rule.Slice.PartMut.{put_mid}
 use Rattle.mask_c.proofs.append.row_mask_append.Goals as goal
@@ -29,7 +30,7 @@ returns-clause-values c =
     (full_or_none len c.args.more_len k filled c.div_ceil.ensures (omega (arith, c.div_ceil.ensures, c.fill_last-filled.ensures.count)))
     c.fill_last-filled.ensures.values c.row_mask_copy.ensures.values
     ∙ append_assoc (bitmap old 0 len) (bitmap more offset filled) (bitmap more (offset + filled) rest)
-    ∙ ap (λ (us : List Bool). bitmap old 0 len ++ us) (sym (bits_at-append more offset filled rest) ∙ ap (bitmap more offset) each)
+    ∙ ap (λ (us : List Bool). bitmap old 0 len ++ us) (sym (bitmap-append more offset filled rest) ∙ ap (bitmap more offset) each)
 
 pub returns-clause-clear : goal.returns-clause-clear
 returns-clause-clear c =

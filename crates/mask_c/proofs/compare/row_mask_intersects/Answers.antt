@@ -1,8 +1,8 @@
 use Rattle.std.proofs.Common.{◌&&◌, sym, ◌∙◌}
+use Rattle.mask_bits.specs.Bitmap.{bitmap}
 use Rattle.mask_bits.specs.Lists.{and_of}
 use Rattle.mask_bits.proofs.Lists.BooleanLemmas.{length-combined}
-use Rattle.mask_bits.proofs.Lists.Words.BackingBitLemmas.{length-bits_at}
-use Rattle.mask_c.specs.Bitmap.{bitmap}
+use Rattle.mask_bits.proofs.Lists.Words.BackingBitLemmas.{length-bitmap}
 use Rattle.mask_c.proofs.BitmapLemmas.{some_from_none}
 use Rattle.mask_c.proofs.compare.row_mask_intersects.Goals as goal
 
@@ -10,6 +10,6 @@ pub returns : goal.returns
 returns c =
     let a = bitmap c.args.a.now c.args.a_offset c.args.len in
     let b = bitmap c.args.b.now c.args.b_offset c.args.len in
-    let len_a = length-bits_at c.args.a.now c.args.a_offset c.args.len in
-    let len_b = length-bits_at c.args.b.now c.args.b_offset c.args.len in
+    let len_a = length-bitmap c.args.a.now c.args.a_offset c.args.len in
+    let len_b = length-bitmap c.args.b.now c.args.b_offset c.args.len in
     some_from_none c.none_true.result (and_of a b) c.args.len (length-combined (λ x y. x && y) a b (len_a ∙ sym len_b) ∙ len_a) c.none_true.ensures

@@ -1,7 +1,7 @@
 use Rattle.std.proofs.Common.{◌<◌, subst, sym, arith}
 use Rattle.std.specs.List.{sum}
+use Rattle.mask_bits.specs.Bitmap.{bitmap}
 use Rattle.mask_bits.specs.Positions.{chosen}
-use Rattle.mask_c.specs.Bitmap.{bitmap}
 use Rattle.mask_c.specs.Strings.{sizes}
 use Rattle.mask_c.proofs.StringLemmas.{number_itself, sum-chosen}
 use Rattle.mask_c.proofs.offsets.row_mask_choose_offsets_8.Goals as goal

@@ -1,7 +1,7 @@
 use Rattle.std.proofs.Common.{◌*◌, ◌/◌, drop, ap, ◌∙◌, arith}
 use Rattle.std.proofs.lemmas.List.{length-take}
 use Rattle.std.proofs.lemmas.Slice.{drop-append-drop}
-use Rattle.mask_c.specs.Bitmap.{bitmap}
+use Rattle.mask_bits.specs.Bitmap.{bitmap}
 use Rattle.mask_c.proofs.LastLemmas.{written-combined, front-appended}
 use Rattle.mask_c.proofs.pointwise.write.Goals as goal
 

@@ -1,10 +1,10 @@
 use Rattle.std.proofs.Common.{◌≡◌, ◌+◌, ◌*◌, ◌/◌, ◌%◌, ◌-◌, drop, take, ap, ap₂, ◌∙◌, arith}
 use Rattle.std.proofs.lemmas.List.{length-take}
 use Rattle.std.proofs.lemmas.Slice.{drop-append-drop}
+use Rattle.mask_bits.specs.Bitmap.{bitmap}
 use Rattle.mask_bits.specs.Positions.{rank_intersection}
 use Rattle.mask_bits.proofs.Lists.Words.FrontLemmas.{window-take}
-use Rattle.mask_bits.proofs.Lists.Words.BackingBitLemmas.{count-bits_at-le}
-use Rattle.mask_c.specs.Bitmap.{bitmap}
+use Rattle.mask_bits.proofs.Lists.Words.BackingBitLemmas.{count-bitmap-le}
 use Rattle.mask_c.proofs.LastLemmas.{count-split, front-appended, written-narrowed}
 use Rattle.mask_c.proofs.rank.narrow.Goals as goal
 
@@ -44,7 +44,7 @@ returns-then-rest-ne0-clause-behind c =
 pub returns-else-rest-ne0-clause-values : goal.returns-else-rest-ne0-clause-values
 returns-else-rest-ne0-clause-values c =
     let none : c.count_bits-ones.result ≡ 0
-    = omega (arith, c.count_bits-ones.ensures, c.if-rest-ne0.false, count-bits_at-le c.args.bytes.now (c.args.offset + 64 * (c.args.len / 64)) (c.args.len % 64)) in
+    = omega (arith, c.count_bits-ones.ensures, c.if-rest-ne0.false, count-bitmap-le c.args.bytes.now (c.args.offset + 64 * (c.args.len / 64)) (c.args.len % 64)) in
     front-appended c.narrow_whole.new.out _ c.args.len (omega (arith, c.narrow_whole.auto.out, length-take (8 * (c.args.len / 64)) c.args.out.now, c.requires.room, c.if-rest-ne0.false))
     ∙ ap (bitmap c.narrow_whole.new.out 0) (omega (arith, c.if-rest-ne0.false))
     ∙ c.narrow_whole.ensures

@@ -1,12 +1,12 @@
 use Rattle.std.proofs.Common.{◌≡◌, ◌+◌, ◌*◌, length, below_more, count_ones, inl, sym, ap, ap₂, ◌∙◌, arith}
+use Rattle.mask_bits.specs.Bitmap.{bitmap}
 use Rattle.mask_bits.specs.Buffer.{Packed, values}
 use Rattle.mask_bits.specs.Positions.{count, rank_intersection}
 use Rattle.mask_bits.specs.Words.{padded_part, word_bits}
 use Rattle.mask_bits.proofs.Lists.LawLemmas.{length-rank_intersection}
-use Rattle.mask_bits.proofs.Lists.Words.BackingBitLemmas.{length-bits_at}
+use Rattle.mask_bits.proofs.Lists.Words.BackingBitLemmas.{length-bitmap}
 use Rattle.mask_bits.proofs.Lists.Words.PaddedLemmas.{padded_part-whole}
 use Rattle.mask_bits.proofs.Lists.Words.WordLemmas.{count-word_bits}
-use Rattle.mask_c.specs.Bitmap.{bitmap}
 use Rattle.mask_bits.proofs.Lists.Places.SelectLemmas.{count-word_more}
 use Rattle.mask_c.proofs.ChooseLemmas.{count_below-le-count}
 use Rattle.mask_c.proofs.LastLemmas.{window-kept}
@@ -19,8 +19,8 @@ pub narrow_word-requires-clause-fits : goal.narrow_word-requires-clause-fits
 narrow_word-requires-clause-fits c =
     let a = c.new-chunks.result in
     let b = c.over-bits.result in
-    let fitting : length (values b) ≡ count a = ap (λ (p : Packed). length (values p)) c.over-bits.ensures.bits ∙ length-bits_at c.args.ranks.now c.args.ranks_offset c.args.ranks_len ∙ c.requires.fitting ∙ sym (ap count c.new-chunks.ensures.list) in
-    omega (arith, length-bits_at b.bytes b.offset b.len, fitting, count_below-le-count a (64 * c.loop-i.i), c.loop-i.invariant.place, c.over-bits.ensures.within.fits)
+    let fitting : length (values b) ≡ count a = ap (λ (p : Packed). length (values p)) c.over-bits.ensures.bits ∙ length-bitmap c.args.ranks.now c.args.ranks_offset c.args.ranks_len ∙ c.requires.fitting ∙ sym (ap count c.new-chunks.ensures.list) in
+    omega (arith, length-bitmap b.bytes b.offset b.len, fitting, count_below-le-count a (64 * c.loop-i.i), c.loop-i.invariant.place, c.over-bits.ensures.within.fits)
 
 pub overflow_add-at : goal.overflow_add-at
 overflow_add-at c =
@@ -29,10 +29,10 @@ overflow_add-at c =
     let i = c.loop-i.i in
     let at = c.loop-i.at in
     let w = c.word-word.result in
-    let fitting : length (values b) ≡ count a = ap (λ (p : Packed). length (values p)) c.over-bits.ensures.bits ∙ length-bits_at c.args.ranks.now c.args.ranks_offset c.args.ranks_len ∙ c.requires.fitting ∙ sym (ap count c.new-chunks.ensures.list) in
+    let fitting : length (values b) ≡ count a = ap (λ (p : Packed). length (values p)) c.over-bits.ensures.bits ∙ length-bitmap c.args.ranks.now c.args.ranks_offset c.args.ranks_len ∙ c.requires.fitting ∙ sym (ap count c.new-chunks.ensures.list) in
     let shows : word_bits w ≡ padded_part a i = c.word-word.ensures ∙ padded_part-whole a i (omega (arith, c.loop-i-test, c.len-i-end.ensures)) in
     let counted : count_ones w ≡ count (word_bits w) = sym (count-word_bits w c.word-word.type_inv) in
-    omega (arith, length-bits_at b.bytes b.offset b.len, fitting, c.loop-i.invariant.place, counted, ap count shows, count-word_more a i, count_below-le-count a (64 * (i + 1)), c.over-bits.ensures.within.fits)
+    omega (arith, length-bitmap b.bytes b.offset b.len, fitting, c.loop-i.invariant.place, counted, ap count shows, count-word_more a i, count_below-le-count a (64 * (i + 1)), c.over-bits.ensures.within.fits)
 
 pub loop-i-preserved : goal.loop-i-preserved
 loop-i-preserved c =
@@ -41,7 +41,7 @@ loop-i-preserved c =
     let i = c.loop-i.i in
     let at = c.loop-i.at in
     let w = c.word-word.result in
-    let fitting : length (values b) ≡ count a = ap (λ (p : Packed). length (values p)) c.over-bits.ensures.bits ∙ length-bits_at c.args.ranks.now c.args.ranks_offset c.args.ranks_len ∙ c.requires.fitting ∙ sym (ap count c.new-chunks.ensures.list) in
+    let fitting : length (values b) ≡ count a = ap (λ (p : Packed). length (values p)) c.over-bits.ensures.bits ∙ length-bitmap c.args.ranks.now c.args.ranks_offset c.args.ranks_len ∙ c.requires.fitting ∙ sym (ap count c.new-chunks.ensures.list) in
     let shows : word_bits w ≡ padded_part a i = c.word-word.ensures ∙ padded_part-whole a i (omega (arith, c.loop-i-test, c.len-i-end.ensures)) in
     let counted : count_ones w ≡ count (word_bits w) = sym (count-word_bits w c.word-word.type_inv) in
     record {

@@ -1,6 +1,6 @@
 use Rattle.std.proofs.Common.{get_or, ◌≡◌, ◌<◌, ◌≢◌, ◌+◌, ◌*◌, length, get_or-set_same, get_or-set_other, below_more, ap, ◌∙◌, arith, count_ones}
+use Rattle.mask_bits.specs.Bitmap.{bitmap}
 use Rattle.mask_bits.specs.Buffer.{Packed}
-use Rattle.mask_c.specs.Bitmap.{bitmap}
 use Rattle.mask_bits.specs.Positions.{count, count_below}
 use Rattle.mask_bits.specs.Words.{window}
 use Rattle.mask_bits.proofs.Lists.Places.SelectLemmas.{count-word_more}

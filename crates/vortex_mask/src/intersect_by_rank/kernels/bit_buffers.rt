@@ -1,6 +1,7 @@
 //! The kernel over two bit buffers: one deposit for each started word.
 
 ghost use Rattle.std.specs.Prelude.{◌≡◌, ◌*◌, ◌<◌, IfOk, IsOkUnless, alloc_error, length};
+ghost use Rattle.mask_bits.specs.Bitmap.{bitmap};
 ghost use Rattle.mask_bits.specs.Buffer.{values, IsWithinBytes};
 ghost use Rattle.mask_bits.specs.Positions.{count, rank_intersection};
 ghost use Rattle.vortex_mask.specs.Caches.{caches};
@@ -49,7 +50,7 @@ pub fn narrow_by_bits<D: DepositBits>(
     requires fitting { length (values ranks.now) ≡ count chunks.now }
     requires within { IsWithinBytes ranks.now.bytes ranks.now.offset ranks.now.len }
     requires room { length out.old ≡ 8 * started_words (length chunks.now) }
-    ensures list { values (record { bytes = out.new; offset = 0; len = length chunks.now })
+    ensures list { bitmap out.new 0 (length chunks.now)
         ≡ rank_intersection chunks.now (values ranks.now) }
     ensures steps { result
         ≡ word_steps chunks.now (rank_intersection chunks.now (values ranks.now)) }
@@ -73,11 +74,11 @@ pub fn narrow_by_bits<D: DepositBits>(
         at = next + ones[1];
     }
     if words % 2 == 1 {
-        let chunk = steps.word(chunks, words - 1);
-        let ones = chunk.count_ones() as usize;
+        let word = steps.word(chunks, words - 1);
+        let ones = word.count_ones() as usize;
         let source = ranks.read(at);
-        let word = steps.deposit::<D>(source, chunk, ones);
-        set_word(out, words - 1, word);
+        let kept = steps.deposit::<D>(source, word, ones);
+        set_word(out, words - 1, kept);
     }
     steps
 }

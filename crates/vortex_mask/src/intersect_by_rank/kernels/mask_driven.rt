@@ -3,7 +3,6 @@
 ghost use Rattle.std.specs.Prelude.{◌≡◌, ◌≤◌, ℕ, List, IfOk, IsOkUnless, alloc_error, length, ◌+◌, ◌*◌, ◌<◌, ◌^◌, ◌%◌, Some, count_ones, slice_get};
 ghost use Rattle.std.specs.Iterator.{IsFinite, Drains};
 ghost use Rattle.std.specs.Iterator.Runs.{EachRunFrom, WholeRun};
-ghost use Rattle.std.specs.List.{sum_by};
 ghost use Rattle.mask_bits.specs.Buffer.{values};
 ghost use Rattle.mask_bits.specs.Positions.{positions, count, at_indices};
 ghost use Rattle.mask_bits.specs.Words.{started_words};
@@ -45,7 +44,8 @@ pub fn intersect_mask_driven<S: SelectBit, I: Iterator<Item = usize>>(
         (λ r. caches r.0 ≡ where_mixed r.0 (only_indices (positions (truth r.0)))) }
     ensures words { IfOk result
         (λ r. r.1.words ≤ started_words (length (values self_buffer.now))) }
-    ensures steps { IfOk result (λ r. r.1 ≡ driven_steps r.1.words true_count (truth r.0)) }
+    ensures steps { IfOk result
+        (λ r. r.1 ≡ driven_steps r.1.words true_count (positions (truth r.0))) }
     ensures refused { IsOkUnless result (MaskError.Memory alloc_error) }
 {
     let len = self_buffer.len();
@@ -72,14 +72,7 @@ pub fn indices_at_ranks<S: SelectBit, I: Iterator<Item = usize>>(
     ensures indices { IfOk result (λ r. WholeRun I.next_gives ranks
         (λ p. r.0.items ≡ at_indices (positions chunks.now) p.items)) }
     ensures words { IfOk result (λ r. r.1.words ≤ started_words (length chunks.now)) }
-    ensures steps { IfOk result (λ r. r.1 ≡ record {
-      deposits = 0;
-      words = r.1.words;
-      selections = true_count;
-      offered = 0;
-      placed = 0;
-      spots = sum_by (λ p. p % 64) r.0.items;
-    }) }
+    ensures steps { IfOk result (λ r. r.1 ≡ driven_steps r.1.words true_count r.0.items) }
 {
     let mut indices = Vec::with_capacity(alloc, true_count)?;
     let mut steps = Steps::new();

@@ -3,6 +3,7 @@
 ghost use Rattle.std.specs.Prelude.{◌≡◌, ◌*◌, ◌<◌, ◌≤◌, All, IfOk, IsOkUnless, alloc_error, length, ◌+◌, ◌^◌, ℕ, false, nat_eq, slice_index_or};
 ghost use Rattle.std.specs.List.Sorted.{IsStrictlyIncreasing};
 ghost use Rattle.std.specs.List.{list_any};
+ghost use Rattle.mask_bits.specs.Bitmap.{bitmap};
 ghost use Rattle.mask_bits.specs.Buffer.{values};
 ghost use Rattle.mask_bits.specs.Positions.{positions, count, at_indices, true_at};
 ghost use Rattle.vortex_mask.specs.Caches.{caches};
@@ -55,7 +56,7 @@ pub fn narrow_at_ranks<D: DepositBits>(
     requires ascending { IsStrictlyIncreasing ranks.now }
     requires within { All (λ k. k < count chunks.now) ranks.now }
     requires room { length out.old ≡ 8 * started_words (length chunks.now) }
-    ensures list { values (record { bytes = out.new; offset = 0; len = length chunks.now })
+    ensures list { bitmap out.new 0 (length chunks.now)
         ≡ true_at (length chunks.now) (at_indices (positions chunks.now) ranks.now) }
     ensures steps { result ≡ word_steps chunks.now
         (true_at (length chunks.now) (at_indices (positions chunks.now) ranks.now)) }
@@ -82,10 +83,10 @@ pub fn narrow_at_ranks<D: DepositBits>(
         at = end;
     }
     if words % 2 == 1 {
-        let mask = steps.word(chunks, words - 1);
-        let ones = mask.count_ones() as usize;
+        let word = steps.word(chunks, words - 1);
+        let ones = word.count_ones() as usize;
         let source = bits_of_ranks(ranks, &mut next, at, at + ones);
-        let kept = steps.deposit::<D>(source, mask, ones);
+        let kept = steps.deposit::<D>(source, word, ones);
         set_word(out, words - 1, kept);
     }
     steps

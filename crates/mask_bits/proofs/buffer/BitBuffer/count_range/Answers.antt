@@ -1,8 +1,8 @@
 use Rattle.std.proofs.Common.{ℕ, List, ◌+◌, ◌-◌, slice_range, ap, refl, ◌∙◌, arith}
+use Rattle.mask_bits.specs.Bitmap.{bitmap}
 use Rattle.mask_bits.specs.Buffer.{Packed, values}
 use Rattle.mask_bits.specs.Positions.{count}
 use Rattle.mask_bits.proofs.BufferLemmas.{len-of_list, length-values, values-part}
-use Rattle.mask_bits.proofs.Lists.Words.BackingBitLemmas.{bits_at}
 use Rattle.mask_bits.proofs.Lists.Places.PlaceLemmas.{count-le-length}
 use Rattle.mask_bits.proofs.buffer.BitBuffer.count_range.Goals as goal
 
@@ -12,7 +12,7 @@ returns-clause-counted c =
     let start = c.args.start in
     let «end» = c.args.end in
     c.count_bits.ensures
-    ∙ ap (λ (bytes : List ℕ). count (bits_at bytes (b.offset + start) («end» - start))) c.as_slice.ensures
+    ∙ ap (λ (bytes : List ℕ). count (bitmap bytes (b.offset + start) («end» - start))) c.as_slice.ensures
     ∙ ap count (values-part b start «end» c.requires.ordered (omega (arith, c.requires.within, ap (λ p. p.len) c.self.view_is, len-of_list c.args.self.now refl)))
     ∙ ap (λ p. count (slice_range (values p) start «end»)) c.self.view_is
 

@@ -80,8 +80,8 @@ pub read-source-requires : goal.read-source-requires
 read-source-requires g c =
     rank_place-fits c.args.chunks.now c.args.ranks.now c.loop-pair.at c.requires.fitting (place-within c.args.chunks.now (2 * c.loop-pair.pair) c.loop-pair.at c.loop-pair.invariant.place) c.requires.within.fits
 
-pub deposit-word-requires-clause-counted : goal.deposit-word-requires-clause-counted
-deposit-word-requires-clause-counted g c = sym (count-word_bits c.word-chunk.result c.word-chunk.type_inv)
+pub deposit-kept-requires-clause-counted : goal.deposit-kept-requires-clause-counted
+deposit-kept-requires-clause-counted g c = sym (count-word_bits c.word-word.result c.word-word.type_inv)
 
 pub returns-then-words-eq1-clause-list : goal.returns-then-words-eq1-clause-list
 returns-then-words-eq1-clause-list g c =
@@ -90,16 +90,16 @@ returns-then-words-eq1-clause-list g c =
     let r = rank_intersection a (values ranks) in
     let i = length c.args.out.now / 8 - 1 in
     let at = c.loop-pair.at in
-    let m = c.word-chunk.result in
+    let m = c.word-word.result in
     let e : 2 * c.loop-pair.pair ≡ i = omega arith in
     let before = subst (λ k. IsDeposited a r k at c.loop-pair.out c.loop-pair.steps) e c.loop-pair.invariant in
-    let counted = sym (count-word_bits m c.word-chunk.type_inv) in
-    let shows = word-started a i m (omega arith) c.word-chunk.ensures.whole c.word-chunk.ensures.last in
-    let all = deposited-more a (values ranks) i at c.read-source.result m _ c.deposit-word.result c.loop-pair.out c.set_word-then-words-eq1.new.bytes
-    c.loop-pair.steps c.word-chunk.new.self c.deposit-word.new.self c.requires.fitting before shows counted
+    let counted = sym (count-word_bits m c.word-word.type_inv) in
+    let shows = word-started a i m (omega arith) c.word-word.ensures.whole c.word-word.ensures.last in
+    let all = deposited-more a (values ranks) i at c.read-source.result m _ c.deposit-kept.result c.loop-pair.out c.set_word-then-words-eq1.new.bytes
+    c.loop-pair.steps c.word-word.new.self c.deposit-kept.new.self c.requires.fitting before shows counted
     (rank_bits-window a ranks i at c.read-source.result m c.requires.fitting before.place shows c.read-source.ensures)
-    c.deposit-word.ensures.deposited c.set_word-then-words-eq1.ensures.here c.set_word-then-words-eq1.ensures.others c.word-chunk.ensures.ticked c.deposit-word.ensures.ticked in
-    deposited-list a r (i + 1) _ c.set_word-then-words-eq1.new.bytes c.deposit-word.new.self (length-rank_intersection a (values ranks)) (omega arith) all
+    c.deposit-kept.ensures.deposited c.set_word-then-words-eq1.ensures.here c.set_word-then-words-eq1.ensures.others c.word-word.ensures.ticked c.deposit-kept.ensures.ticked in
+    deposited-list a r (i + 1) _ c.set_word-then-words-eq1.new.bytes c.deposit-kept.new.self (length-rank_intersection a (values ranks)) (omega arith) all
 
 pub returns-then-words-eq1-clause-steps : goal.returns-then-words-eq1-clause-steps
 returns-then-words-eq1-clause-steps g c =
@@ -108,16 +108,16 @@ returns-then-words-eq1-clause-steps g c =
     let r = rank_intersection a (values ranks) in
     let i = length c.args.out.now / 8 - 1 in
     let at = c.loop-pair.at in
-    let m = c.word-chunk.result in
+    let m = c.word-word.result in
     let e : 2 * c.loop-pair.pair ≡ i = omega arith in
     let before = subst (λ k. IsDeposited a r k at c.loop-pair.out c.loop-pair.steps) e c.loop-pair.invariant in
-    let counted = sym (count-word_bits m c.word-chunk.type_inv) in
-    let shows = word-started a i m (omega arith) c.word-chunk.ensures.whole c.word-chunk.ensures.last in
-    let all = deposited-more a (values ranks) i at c.read-source.result m _ c.deposit-word.result c.loop-pair.out c.set_word-then-words-eq1.new.bytes
-    c.loop-pair.steps c.word-chunk.new.self c.deposit-word.new.self c.requires.fitting before shows counted
+    let counted = sym (count-word_bits m c.word-word.type_inv) in
+    let shows = word-started a i m (omega arith) c.word-word.ensures.whole c.word-word.ensures.last in
+    let all = deposited-more a (values ranks) i at c.read-source.result m _ c.deposit-kept.result c.loop-pair.out c.set_word-then-words-eq1.new.bytes
+    c.loop-pair.steps c.word-word.new.self c.deposit-kept.new.self c.requires.fitting before shows counted
     (rank_bits-window a ranks i at c.read-source.result m c.requires.fitting before.place shows c.read-source.ensures)
-    c.deposit-word.ensures.deposited c.set_word-then-words-eq1.ensures.here c.set_word-then-words-eq1.ensures.others c.word-chunk.ensures.ticked c.deposit-word.ensures.ticked in
-    deposited-steps a r (i + 1) _ c.set_word-then-words-eq1.new.bytes c.deposit-word.new.self (length-rank_intersection a (values ranks)) (omega arith) all
+    c.deposit-kept.ensures.deposited c.set_word-then-words-eq1.ensures.here c.set_word-then-words-eq1.ensures.others c.word-word.ensures.ticked c.deposit-kept.ensures.ticked in
+    deposited-steps a r (i + 1) _ c.set_word-then-words-eq1.new.bytes c.deposit-kept.new.self (length-rank_intersection a (values ranks)) (omega arith) all
 
 pub returns-else-words-eq1-clause-list : goal.returns-else-words-eq1-clause-list
 returns-else-words-eq1-clause-list g c =

@@ -2,7 +2,7 @@ use Rattle.std.proofs.Common.{◌≡◌, ℕ, List, Bool, length, take, ◌++◌
 use Rattle.std.proofs.lemmas.List.{take_at}
 use Rattle.mask_bits.specs.Buffer.{values}
 use Rattle.mask_bits.specs.Positions.{positions, true_at, at_indices}
-use Rattle.mask_bits.proofs.Lists.Words.BackingBitLemmas.{length-bits_at}
+use Rattle.mask_bits.proofs.Lists.Words.BackingBitLemmas.{length-bitmap}
 use Rattle.vortex_mask.proofs.Masks.PlaceListLemmas.{positions-at_indices, count-at_indices}
 use Rattle.vortex_mask.proofs.intersect_by_rank.kernels.rank_indices.intersect_bit_buffer_by_rank_indices.Goals as goal
 
@@ -19,7 +19,7 @@ pub of_words-requires-clause-counted : goal.of_words-requires-clause-counted
 of_words-requires-clause-counted g c = grind (arith, written, count-at_indices)
 
 pub returns-clause-len : goal.returns-clause-len
-returns-clause-len g c = ap length c.in_ok-of_words.ensures.list ∙ length-bits_at _ 0 c.len-len.result ∙ c.len-len.ensures
+returns-clause-len g c = ap length c.in_ok-of_words.ensures.list ∙ length-bitmap _ 0 c.len-len.result ∙ c.len-len.ensures
 
 pub returns-clause-true_indices : goal.returns-clause-true_indices
 returns-clause-true_indices g c = grind (arith, written, positions-at_indices)

@@ -72,14 +72,14 @@ loop-pair-preserved g c =
 pub overflow_add-at : goal.overflow_add-at
 overflow_add-at g c =
     let a = c.args.chunks.now in
-    let m = c.word-mask.result in
+    let m = c.word-word.result in
     let i = length c.args.out.now / 8 - 1 in
     let e : i ≡ 2 * c.loop-pair.pair = omega arith in
-    let shows = word-started a i m (omega arith) c.word-mask.ensures.whole c.word-mask.ensures.last in
-    omega (arith, count-le-length a, c.requires.fits, place-after_within a i c.loop-pair.at m _ (c.loop-pair.invariant.deposited.place ∙ ap (λ k. count_below a (64 * k)) (sym e)) shows (sym (count-word_bits m c.word-mask.type_inv)))
+    let shows = word-started a i m (omega arith) c.word-word.ensures.whole c.word-word.ensures.last in
+    omega (arith, count-le-length a, c.requires.fits, place-after_within a i c.loop-pair.at m _ (c.loop-pair.invariant.deposited.place ∙ ap (λ k. count_below a (64 * k)) (sym e)) shows (sym (count-word_bits m c.word-word.type_inv)))
 
 pub deposit-kept-requires-clause-counted : goal.deposit-kept-requires-clause-counted
-deposit-kept-requires-clause-counted g c = sym (count-word_bits c.word-mask.result c.word-mask.type_inv)
+deposit-kept-requires-clause-counted g c = sym (count-word_bits c.word-word.result c.word-word.type_inv)
 
 pub returns-then-words-eq1-clause-list : goal.returns-then-words-eq1-clause-list
 returns-then-words-eq1-clause-list g c =
@@ -89,15 +89,15 @@ returns-then-words-eq1-clause-list g c =
     let r = rank_intersection a b in
     let i = length c.args.out.now / 8 - 1 in
     let at = c.loop-pair.at in
-    let m = c.word-mask.result in
+    let m = c.word-word.result in
     let e : 2 * c.loop-pair.pair ≡ i = omega arith in
     let before = subst (λ k. IsDeposited a r k at c.loop-pair.out c.loop-pair.steps) e c.loop-pair.invariant.deposited in
-    let counted = sym (count-word_bits m c.word-mask.type_inv) in
-    let shows = word-started a i m (omega arith) c.word-mask.ensures.whole c.word-mask.ensures.last in
+    let counted = sym (count-word_bits m c.word-word.type_inv) in
+    let shows = word-started a i m (omega arith) c.word-word.ensures.whole c.word-word.ensures.last in
     let all = deposited-more a b i at c.bits_of_ranks-source.result m _ c.deposit-kept.result c.loop-pair.out c.set_word-then-words-eq1.new.bytes
-    c.loop-pair.steps c.word-mask.new.self c.deposit-kept.new.self (length-true_at (count a) ranks) before shows counted
+    c.loop-pair.steps c.word-word.new.self c.deposit-kept.new.self (length-true_at (count a) ranks) before shows counted
     (rank_bits-listed a ranks i at _ c.bits_of_ranks-source.result m _ before.place shows counted refl c.bits_of_ranks-source.ensures.bits)
-    c.deposit-kept.ensures.deposited c.set_word-then-words-eq1.ensures.here c.set_word-then-words-eq1.ensures.others c.word-mask.ensures.ticked c.deposit-kept.ensures.ticked in
+    c.deposit-kept.ensures.deposited c.set_word-then-words-eq1.ensures.here c.set_word-then-words-eq1.ensures.others c.word-word.ensures.ticked c.deposit-kept.ensures.ticked in
     deposited-list a r (i + 1) _ c.set_word-then-words-eq1.new.bytes c.deposit-kept.new.self (length-rank_intersection a b) (omega arith) all ∙ narrowed_at a ranks c.requires.ascending c.requires.within
 
 pub returns-then-words-eq1-clause-steps : goal.returns-then-words-eq1-clause-steps
@@ -108,15 +108,15 @@ returns-then-words-eq1-clause-steps g c =
     let r = rank_intersection a b in
     let i = length c.args.out.now / 8 - 1 in
     let at = c.loop-pair.at in
-    let m = c.word-mask.result in
+    let m = c.word-word.result in
     let e : 2 * c.loop-pair.pair ≡ i = omega arith in
     let before = subst (λ k. IsDeposited a r k at c.loop-pair.out c.loop-pair.steps) e c.loop-pair.invariant.deposited in
-    let counted = sym (count-word_bits m c.word-mask.type_inv) in
-    let shows = word-started a i m (omega arith) c.word-mask.ensures.whole c.word-mask.ensures.last in
+    let counted = sym (count-word_bits m c.word-word.type_inv) in
+    let shows = word-started a i m (omega arith) c.word-word.ensures.whole c.word-word.ensures.last in
     let all = deposited-more a b i at c.bits_of_ranks-source.result m _ c.deposit-kept.result c.loop-pair.out c.set_word-then-words-eq1.new.bytes
-    c.loop-pair.steps c.word-mask.new.self c.deposit-kept.new.self (length-true_at (count a) ranks) before shows counted
+    c.loop-pair.steps c.word-word.new.self c.deposit-kept.new.self (length-true_at (count a) ranks) before shows counted
     (rank_bits-listed a ranks i at _ c.bits_of_ranks-source.result m _ before.place shows counted refl c.bits_of_ranks-source.ensures.bits)
-    c.deposit-kept.ensures.deposited c.set_word-then-words-eq1.ensures.here c.set_word-then-words-eq1.ensures.others c.word-mask.ensures.ticked c.deposit-kept.ensures.ticked in
+    c.deposit-kept.ensures.deposited c.set_word-then-words-eq1.ensures.here c.set_word-then-words-eq1.ensures.others c.word-word.ensures.ticked c.deposit-kept.ensures.ticked in
     deposited-steps a r (i + 1) _ c.set_word-then-words-eq1.new.bytes c.deposit-kept.new.self (length-rank_intersection a b) (omega arith) all ∙ ap (word_steps a) (narrowed_at a ranks c.requires.ascending c.requires.within)
 
 pub returns-else-words-eq1-clause-list : goal.returns-else-words-eq1-clause-list
