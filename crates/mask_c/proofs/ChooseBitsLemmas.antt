@@ -6,13 +6,13 @@ use Rattle.std.proofs.Math.Seq.{take-add}
 use Rattle.std.proofs.lemmas.Bool.{cases_lt}
 use Rattle.std.proofs.lemmas.List.{ext_get_or, get_or-drop, get_or-take, get_or_append_left, get_or-append_right, length-append, length-drop, length-take}
 use Rattle.std.proofs.lemmas.Nat.{or_lt}
-use Rattle.std.proofs.lemmas.Nat.Bits.{bit_at-lt, bit_at_above, bit_at_or}
+use Rattle.std.proofs.lemmas.Nat.Bits.{bit_at-lt, bit_at-zero, bit_at_above, bit_at_or}
 use Rattle.mask_bits.specs.Bitmap.{bitmap}
 use Rattle.mask_bits.specs.Extract.{Extracts}
 use Rattle.mask_bits.specs.Positions.{chosen, count, repeated}
 use Rattle.mask_bits.specs.Words.{padded_part, window, word_bits}
 use Rattle.mask_bits.proofs.Lists.ChooseLemmas.{chosen-all_false}
-use Rattle.mask_bits.proofs.Lists.CountLemmas.{get_or-padded, length-repeated}
+use Rattle.mask_bits.proofs.Lists.CountLemmas.{count-repeated_false, get_or-padded, get_or-repeated, length-repeated}
 use Rattle.mask_bits.proofs.Lists.Places.SelectLemmas.{count-word_more}
 use Rattle.mask_bits.proofs.Lists.RowLemmas.{chosen_of_two_chunks}
 use Rattle.mask_bits.proofs.Lists.Words.ChosenWordLemmas.{chosen-none}
@@ -204,6 +204,23 @@ chosen-word_more rows m i len =
     ∙ sym (chosen_of_two_chunks (take n rows) here (take n m) choice same)
     ∙ ap₂ chosen (sym (take-add n 64 rows)) (sym (take-add n 64 m)) ∙ ap (λ j. chosen (take j rows) (take j m)) next
 
+-- which are none where no value of the word is true
+word_of_none : word_bits 0 ≡ repeated 64 false
+word_of_none =
+    ext_get_or false (word_bits 0) (repeated 64 false) (length-word_bits 0 ∙ sym (length-repeated 64 false)) (λ j h.
+    let few : j < 64 = omega (arith, length-word_bits 0) in
+    get_or-word_bits 0 j false few ∙ ap (λ b. nat_eq b 1) (bit_at-zero j) ∙ sym (get_or-repeated 64 j false false few))
+
+pub chosen-word_of_none : (rows m : List Bool) (i : ℕ) → length rows ≡ length m → word_bits 0 ≡ padded_part m i
+    → chosen (take (64 * i) rows) (take (64 * i) m) ≡ chosen (take (64 * (i + 1)) rows) (take (64 * (i + 1)) m)
+chosen-word_of_none rows m i len reads =
+    let before : List Bool = chosen (take (64 * i) rows) (take (64 * i) m) in
+    let none : chosen (padded_part rows i) (padded_part m i) ≡ [] = ap (chosen (padded_part rows i)) (sym reads ∙ word_of_none) ∙ chosen-all_false (padded_part rows i) 64 in
+    sym (append-nil before) ∙ ap (λ (xs : List Bool). before ++ xs) (sym none) ∙ chosen-word_more rows m i len
+
 -- and how many these are
 pub counted-word_more : (m : List Bool) (i at mask : ℕ) → mask < 2 ^ 64 → at ≡ count (take (64 * i) m) → word_bits mask ≡ padded_part m i → at + count_ones mask ≡ count (take (64 * (i + 1)) m)
 counted-word_more m i at mask fits so_far reads = omega (arith, so_far, ap count reads, count-word_bits mask fits, count-word_more m i)
+
+pub counted-word_of_none : (m : List Bool) (i : ℕ) → word_bits 0 ≡ padded_part m i → count (take (64 * i) m) ≡ count (take (64 * (i + 1)) m)
+counted-word_of_none m i reads = omega (arith, ap count (sym reads ∙ word_of_none), count-repeated_false 64, count-word_more m i)
