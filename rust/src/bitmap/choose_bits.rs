@@ -11,8 +11,9 @@ impl Bitmap<'_> {
     /// filtered, or a predicate of all rows as one of those that are left, which
     /// [`intersect_by_rank`](Bitmap::intersect_by_rank) takes as ranks.
     ///
-    /// Where the processor has the instruction `pext`, and in a few cycles, that takes the bits of the
-    /// words which the library gives. Elsewhere the library does all.
+    /// Where the processor has the instruction `pext`, and in a few cycles, that takes the bits of words,
+    /// which are read where they lie if both bitmaps begin at a whole byte, and else given by the
+    /// library. Where it has none, the library does all.
     ///
     /// ```
     /// # use row_mask::Bitmap;

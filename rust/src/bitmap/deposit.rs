@@ -46,14 +46,15 @@ impl Bitmap<'_> {
 /// Writes the deposit of each source at its word. The last one may have fewer bytes than a word.
 #[target_feature(enable = "bmi2")]
 fn deposit(words: &[u64], sources: &[u64], out: &mut [MaybeUninit<u8>]) {
-    let mut deposits =
-        words.iter().zip(sources).map(|(word, source)| _pdep_u64(*source, *word).to_le_bytes());
     let (whole, last) = out.as_chunks_mut();
-    for (out, deposit) in whole.iter_mut().zip(deposits.by_ref()) {
-        *out = deposit.map(MaybeUninit::new);
+    for ((out, word), source) in whole.iter_mut().zip(words).zip(sources) {
+        *out = _pdep_u64(*source, *word).to_le_bytes().map(MaybeUninit::new);
     }
-    for (out, byte) in last.iter_mut().zip(deposits.next().unwrap_or_default()) {
-        out.write(byte);
+    if !last.is_empty() {
+        let deposit = _pdep_u64(sources[whole.len()], words[whole.len()]);
+        for (out, byte) in last.iter_mut().zip(deposit.to_le_bytes()) {
+            out.write(byte);
+        }
     }
 }
 
