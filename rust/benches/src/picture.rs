@@ -6,8 +6,10 @@ use crate::ours::Ours;
 use crate::timed::least;
 use std::fmt::Write;
 use std::fs;
+use std::time::Duration;
 
 const LEN: usize = 1 << 20;
+const EACH: Duration = Duration::from_millis(100);
 const SHARES: [u64; 15] = [1, 5, 10, 20, 50, 100, 200, 300, 400, 500, 600, 700, 800, 900, 990];
 // Each line: the call, whose it is, its color, and its dashes.
 const LINES: [(&str, &str, &str, &str); 5] = [
@@ -69,7 +71,7 @@ fn times(lists: &Lists) -> Vec<f64> {
         }
         ends.push(calls.len());
     }
-    let times = least(&mut calls);
+    let times = least(&mut calls, EACH);
     let starts = [0].into_iter().chain(ends.iter().copied());
     let best = |(start, end): (usize, &usize)| {
         times[start..*end].iter().copied().fold(f64::INFINITY, f64::min)

@@ -2,13 +2,18 @@
 
 use crate::Call;
 use crate::by_hand::ByHand;
-use crate::lists::Lists;
+use crate::lists::{Lists, Share};
 use crate::ours::Ours;
 use crate::timed::least;
 use std::fmt::Write;
 use std::fs;
+use std::hint::black_box;
 use std::marker::PhantomData;
+use std::time::Duration;
 
+// The table is timed so often from its first line to the last, since the machine may be slow for some seconds.
+const ROUNDS: usize = 4;
+const EACH: Duration = Duration::from_millis(50);
 const LENGTHS: [usize; 2] = [1 << 16, 1 << 20];
 const SHARES: [(u64, &str); 3] = [(10, "1 of 100"), (500, "1 of 2"), (990, "99 of 100")];
 const CALLS: [&str; 16] = [
@@ -33,17 +38,26 @@ const CALLS: [&str; 16] = [
 const PEERS: [&str; 2] = ["fixedbitset", "CRoaring"];
 
 pub fn table(is_asked: impl Fn(&str) -> bool) -> String {
+    let mut lines: Vec<Line> = CALLS
+        .into_iter()
+        .filter(|name| is_asked(name))
+        .flat_map(|name| {
+            LENGTHS.map(|len| SHARES.map(|(share, said)| Line::new(name, len, share, said)))
+        })
+        .flatten()
+        .collect();
+    for round in 0..ROUNDS {
+        for line in &mut lines {
+            line.time(round);
+        }
+    }
     let mut table = format!(
         "| Call | Rows | True | by hand, ns | row-mask | {} |\n|---|---|---|---|---|---|---|\n",
         PEERS.join(" | ")
     );
-    for name in CALLS.into_iter().filter(|name| is_asked(name)) {
-        for len in LENGTHS {
-            for (share, said) in SHARES {
-                let line = line(name, &Lists::new(len, share));
-                writeln!(table, "| {name} | {} | {said} | {line} |", grouped(len)).unwrap();
-            }
-        }
+    for line in lines {
+        let Line { name, len, said, .. } = line;
+        writeln!(table, "| {name} | {} | {said} | {} |", grouped(len), line.cells()).unwrap();
     }
     table
 }
@@ -60,23 +74,60 @@ fn grouped(number: usize) -> String {
     groups.join(",")
 }
 
-/// The time of the best loop by hand, and the ratios of the others to it.
-fn line(name: &str, lists: &Lists) -> String {
-    let (by_hand, ours, peers) = (ByHand::new(lists), Ours::new(lists), Peers::new(lists));
-    let mut calls = by_hand.calls(name);
-    let hands = calls.len();
-    calls.push(ours.call(name).unwrap());
-    let answers: Vec<u64> = calls.iter_mut().map(|call| call()).collect();
-    assert!(answers.iter().all(|it| *it == answers[0]), "{name}: {answers:?}");
-    let peers = peers.calls(name);
-    let has: Vec<bool> = peers.iter().map(Option::is_some).collect();
-    calls.extend(peers.into_iter().flatten());
-    let times = least(&mut calls);
-    let best = times[..hands].iter().copied().fold(f64::INFINITY, f64::min);
-    let mut ratios = times[hands..].iter().map(|time| format!("{:.2}", time / best));
-    let mut cells = vec![nanoseconds(best), ratios.next().unwrap()];
-    cells.extend(has.iter().map(|has| has.then(|| ratios.next()).flatten().unwrap_or("-".into())));
-    cells.join(" | ")
+/// A line of the table, and the least times so far: those of the loops by hand, of `row-mask`, and of the peers that
+/// have such a call.
+struct Line {
+    name: &'static str,
+    len: usize,
+    share: Share,
+    said: &'static str,
+    by_hand: Vec<f64>,
+    ours: f64,
+    peers: Vec<Option<f64>>,
+}
+
+impl Line {
+    fn new(name: &'static str, len: usize, share: Share, said: &'static str) -> Line {
+        let (by_hand, peers) = (vec![], vec![None; PEERS.len()]);
+        Line { name, len, share, said, by_hand, ours: f64::INFINITY, peers }
+    }
+
+    /// Times all once more, of lists that lie elsewhere in each round.
+    fn time(&mut self, round: usize) {
+        let before = black_box(vec![0_u8; 24 + 16 * round]);
+        let lists = &Lists::new(self.len, self.share);
+        let (by_hand, ours, peers) = (ByHand::new(lists), Ours::new(lists), Peers::new(lists));
+        let mut calls = by_hand.calls(self.name);
+        let hands = calls.len();
+        calls.push(ours.call(self.name).unwrap());
+        let answers: Vec<u64> = calls.iter_mut().map(|call| call()).collect();
+        assert!(answers.iter().all(|it| *it == answers[0]), "{}: {answers:?}", self.name);
+        let peers = peers.calls(self.name);
+        let has: Vec<bool> = peers.iter().map(Option::is_some).collect();
+        calls.extend(peers.into_iter().flatten());
+        let mut times = least(&mut calls, EACH).into_iter();
+        self.by_hand.resize(hands, f64::INFINITY);
+        for least in &mut self.by_hand {
+            *least = least.min(times.next().unwrap());
+        }
+        self.ours = self.ours.min(times.next().unwrap());
+        for (least, has) in self.peers.iter_mut().zip(has) {
+            *least = has.then(|| times.next().unwrap().min(least.unwrap_or(f64::INFINITY)));
+        }
+        drop(before);
+    }
+
+    /// The time of the best loop by hand, and the ratios of the others to it.
+    fn cells(&self) -> String {
+        let best = self.by_hand.iter().copied().fold(f64::INFINITY, f64::min);
+        let mut cells = vec![nanoseconds(best), format!("{:.2}", self.ours / best)];
+        cells.extend(
+            self.peers
+                .iter()
+                .map(|least| least.map_or("-".into(), |it| format!("{:.2}", it / best))),
+        );
+        cells.join(" | ")
+    }
 }
 
 fn nanoseconds(time: f64) -> String {

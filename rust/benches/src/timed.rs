@@ -6,12 +6,11 @@ use std::hint::black_box;
 use std::process::Command;
 use std::time::{Duration, Instant};
 
-const BUDGET: Duration = Duration::from_millis(200);
-
-/// The least time of each call, in nanoseconds. They take turns, so that what else the machine does meets all.
-pub fn least(calls: &mut [Call<'_>]) -> Vec<f64> {
+/// The least time of each call, in nanoseconds, of those that `each` is time for. They take turns, so that what else
+/// the machine does meets all.
+pub fn least(calls: &mut [Call<'_>], each: Duration) -> Vec<f64> {
     let mut least = vec![f64::INFINITY; calls.len()];
-    let (all, budget) = (Instant::now(), BUDGET * u32::try_from(calls.len()).unwrap());
+    let (all, budget) = (Instant::now(), each * u32::try_from(calls.len()).unwrap());
     while all.elapsed() < budget {
         for (call, least) in calls.iter_mut().zip(&mut least) {
             let began = Instant::now();
