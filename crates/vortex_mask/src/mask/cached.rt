@@ -105,37 +105,33 @@ impl Mask {
         ensures uniform { variant self.old ≢ mixed → IsOk result }
         ensures refused { IsOkUnless result (MaskError.Memory alloc_error) }
     {
-        let by_ranges = match &*self {
-            Mask::AllTrue(_) => return Ok(AllOr::All),
-            Mask::AllFalse(_) => return Ok(AllOr::None),
-            Mask::Values(values) => values.reaches_share(num, den),
-        };
+        let by_ranges = self.reaches_share(num, den);
         let filled = if by_ranges {
             self.fill_slices(alloc)
         } else {
             self.fill_indices(alloc)
         };
         filled?;
-        Ok(AllOr::Some(self.lend_list(by_ranges)))
+        Ok(match self {
+            Mask::AllTrue(_) => AllOr::All,
+            Mask::AllFalse(_) => AllOr::None,
+            Mask::Values(values) => AllOr::Some(values.lend_list(by_ranges)),
+        })
     }
 
-    // The cached ranges of a mixed mask, or its cached true indices.
-    fn lend_list(&self, by_ranges: bool) -> MaskIter<'_>
-        requires mixed { variant self.now ≡ mixed }
-        requires ranges { by_ranges ≡ true → IsSome (caches self.now).ranges }
-        requires indices { by_ranges ≡ false → IsSome (caches self.now).indices }
-        ensures choice { lends_ranges result ≡ by_ranges }
-        ensures list { with_list result (caches self.now) ≡ caches self.now }
+    // Whether at least `num` of each `den` values of a mixed mask are true.
+    fn reaches_share(&self, num: usize, den: usize) -> bool
+        ensures { variant self.now ≡ mixed
+            → (IsTrue result ↔ ReachesShare (truth self.now) num den) }
     {
         match self {
-            Mask::Values(values) if by_ranges => MaskIter::Slices(values.lend_slices()),
-            Mask::Values(values) => MaskIter::Indices(values.lend_indices()),
-            _ => unreachable!(),
+            Mask::AllTrue(_) | Mask::AllFalse(_) => false,
+            Mask::Values(values) => values.reaches_share(num, den),
         }
     }
 
-    // Caches the true indices where the mask is mixed: it makes the list and a clone of the values
-    // with it, and becomes a mask of that clone.
+    // Caches the true indices where the mask is mixed. Values that nobody else holds cache them in
+    // place, and else the mask becomes one of a clone with them.
     fn fill_indices(&mut self, alloc: Global) -> Result<(), MaskError>
         ensures filled { IfOk result (λ _. variant self.old ≡ mixed → IsCaching self.old
             (with_indices (positions (truth self.old)) (caches self.old)) self.new) }
@@ -146,6 +142,9 @@ impl Mask {
         ensures refused { IsOkUnless result (MaskError.Memory alloc_error) }
     {
         if let Mask::Values(values) = self {
+            if let Some(own) = Rc::get_mut(values) {
+                return own.cache_indices(alloc);
+            }
             if values.cached_indices().is_none() {
                 let filled = values.with_indices(alloc)?;
                 *self = Mask::Values(Rc::new(alloc, filled)?);
@@ -165,6 +164,9 @@ impl Mask {
         ensures refused { IsOkUnless result (MaskError.Memory alloc_error) }
     {
         if let Mask::Values(values) = self {
+            if let Some(own) = Rc::get_mut(values) {
+                return own.cache_slices(alloc);
+            }
             if values.cached_slices().is_none() {
                 let filled = values.with_slices(alloc)?;
                 *self = Mask::Values(Rc::new(alloc, filled)?);

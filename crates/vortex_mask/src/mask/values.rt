@@ -1,6 +1,6 @@
 //! The values of a mask that has both true and false ones.
 
-ghost use Rattle.std.specs.Prelude.{◌≡◌, ◌<◌, ◌↔◌, [], IsTrue, IfOk, Some, length, slice_get, IsOkUnless, alloc_error, ◌*◌, IsOk, IsSome, OnErr};
+ghost use Rattle.std.specs.Prelude.{◌≡◌, ◌<◌, ◌↔◌, [], true, false, IsTrue, IfOk, Some, length, slice_get, IsOkUnless, alloc_error, ◌*◌, IsOk, IsSome, OnErr};
 ghost use Rattle.std.specs.Option.{option_map};
 ghost use Rattle.std.specs.Borrow.{sem};
 ghost use Rattle.std.specs.Io.BufRead.{Rests};
@@ -19,7 +19,7 @@ use std::fmt;
 use std::marker::Model;
 use std::rc::Rc;
 
-/// The values of a mask that has both true and false ones.
+/// The values of a mask that has both true and false ones, shared: an `Rc` of [`MaskValues`].
 pub type MaskValuesRef = Rc<MaskValues>;
 
 /// A bit buffer in which some values are true and some are not, with the count of the true ones.
@@ -266,8 +266,23 @@ impl MaskValues {
         self.slices.as_deref().unwrap()
     }
 
+    // The runs, or the true indices, which are cached.
+    pub(super) fn lend_list(&self, by_ranges: bool) -> MaskIter<'_>
+        requires ranges { by_ranges ≡ true → IsSome self.now.caches.ranges }
+        requires indices { by_ranges ≡ false → IsSome self.now.caches.indices }
+        ensures choice { lends_ranges result ≡ by_ranges }
+        ensures list { IsLentOf (values self.now.buffer) result }
+        ensures cached { with_list result self.now.caches ≡ self.now.caches }
+    {
+        if by_ranges {
+            MaskIter::Slices(self.lend_slices())
+        } else {
+            MaskIter::Indices(self.lend_indices())
+        }
+    }
+
     // Makes the list of the true indices, then caches it, where there is none.
-    fn cache_indices(&mut self, alloc: Global) -> Result<(), MaskError>
+    pub(super) fn cache_indices(&mut self, alloc: Global) -> Result<(), MaskError>
         ensures filled { IfOk result (λ _. self.new
             ≡ with_caches (with_indices (positions (values self.old.buffer)) self.old.caches) self.old) }
         ensures unfilled { OnErr result (self.new ≡ self.old) }
@@ -281,7 +296,7 @@ impl MaskValues {
     }
 
     // Makes the list of the runs and caches it, where there is none.
-    fn cache_slices(&mut self, alloc: Global) -> Result<(), MaskError>
+    pub(super) fn cache_slices(&mut self, alloc: Global) -> Result<(), MaskError>
         ensures filled { IfOk result (λ _. self.new
             ≡ with_caches (with_ranges (runs (values self.old.buffer)) self.old.caches) self.old) }
         ensures unfilled { OnErr result (self.new ≡ self.old) }
@@ -294,27 +309,25 @@ impl MaskValues {
         Ok(())
     }
 
-    // The same values with their true indices cached.
-    pub(crate) fn with_indices(&self, alloc: Global) -> Result<MaskValues, MaskError>
+    // A clone with the true indices cached.
+    pub(super) fn with_indices(&self, alloc: Global) -> Result<MaskValues, MaskError>
         ensures filled { IfOk result (λ v. v
             ≡ with_caches (with_indices (positions (values self.now.buffer)) self.now.caches) self.now) }
         ensures refused { IsOkUnless result (MaskError.Memory alloc_error) }
     {
-        let indices = self.index_list(alloc)?;
         let mut filled = self.clone()?;
-        filled.indices = Some(indices);
+        filled.cache_indices(alloc)?;
         Ok(filled)
     }
 
-    // The same values with their runs cached.
-    pub(crate) fn with_slices(&self, alloc: Global) -> Result<MaskValues, MaskError>
+    // A clone with the runs cached.
+    pub(super) fn with_slices(&self, alloc: Global) -> Result<MaskValues, MaskError>
         ensures filled { IfOk result (λ v. v
             ≡ with_caches (with_ranges (runs (values self.now.buffer)) self.now.caches) self.now) }
         ensures refused { IsOkUnless result (MaskError.Memory alloc_error) }
     {
-        let runs = self.runs(alloc)?;
         let mut filled = self.clone()?;
-        filled.slices = Some(runs);
+        filled.cache_slices(alloc)?;
         Ok(filled)
     }
 
