@@ -34,16 +34,16 @@ impl Mask {
         match (self, other) {
             (_, Mask::AllTrue(_)) => {
                 laws::one_variant(self);
-                Ok(self.clone()?)
+                self.clone()
             }
             (_, Mask::AllFalse(_)) => Ok(Mask::new_false(self.len())),
             (Mask::AllTrue(_), Mask::Values(_)) => {
                 laws::one_variant(other);
-                Ok(other.clone()?)
+                other.clone()
             }
             (Mask::AllFalse(_), Mask::Values(_)) => Ok(Mask::new_false(self.len())),
             (Mask::Values(a), Mask::Values(b)) => {
-                Ok(Mask::from_buffer(alloc, a.bit_buffer().bitand(alloc, b.bit_buffer())?)?)
+                Mask::from_buffer(alloc, a.bit_buffer().bitand(alloc, b.bit_buffer())?)
             }
         }
     }
@@ -66,16 +66,16 @@ impl Mask {
         match (self, other) {
             (_, Mask::AllFalse(_)) => {
                 laws::one_variant(self);
-                Ok(self.clone()?)
+                self.clone()
             }
             (_, Mask::AllTrue(_)) => Ok(Mask::new_true(self.len())),
             (Mask::AllFalse(_), Mask::Values(_)) => {
                 laws::one_variant(other);
-                Ok(other.clone()?)
+                other.clone()
             }
             (Mask::AllTrue(_), Mask::Values(_)) => Ok(Mask::new_true(self.len())),
             (Mask::Values(a), Mask::Values(b)) => {
-                Ok(Mask::from_buffer(alloc, a.bit_buffer().bitor(alloc, b.bit_buffer())?)?)
+                Mask::from_buffer(alloc, a.bit_buffer().bitor(alloc, b.bit_buffer())?)
             }
         }
     }
@@ -119,19 +119,19 @@ impl Mask {
         match (self, other) {
             (_, Mask::AllFalse(_)) => {
                 laws::one_variant(self);
-                Ok(self.clone()?)
+                self.clone()
             }
             (_, Mask::AllTrue(_)) => Ok(Mask::new_false(self.len())),
             (Mask::AllFalse(_), Mask::Values(_)) => Ok(Mask::new_false(self.len())),
-            (Mask::AllTrue(_), Mask::Values(_)) => Ok(other.not(alloc)?),
+            (Mask::AllTrue(_), Mask::Values(_)) => other.not(alloc),
             (Mask::Values(a), Mask::Values(b)) => {
-                Ok(Mask::from_buffer(alloc, a.bit_buffer().bitand_not(alloc, b.bit_buffer())?)?)
+                Mask::from_buffer(alloc, a.bit_buffer().bitand_not(alloc, b.bit_buffer())?)
             }
         }
     }
 }
 
-/// The same, of an operand that is taken by value. It is the result where the other side changes nothing.
+/// Boolean calls of a mask that is taken by value. It is the result where the other side changes nothing.
 /// Else a result of mixed masks is written into its bytes, where nobody else holds them and it begins
 /// at a whole one.
 #[tactic(auto, using(crate::proofs::Masks::MaskLemmas::variant_facts, crate::proofs::Masks::BitopLemmas::bitop_facts))]
@@ -159,7 +159,7 @@ impl Mask {
         match (self, other) {
             (Mask::Values(a), Mask::Values(b)) => {
                 let bits = MaskValues::buffer_of(a)?.into_bitand(alloc, b.bit_buffer())?;
-                Ok(Mask::from_buffer(alloc, bits)?)
+                Mask::from_buffer(alloc, bits)
             }
             (mask, other) => mask.bitand(alloc, other),
         }
@@ -188,7 +188,7 @@ impl Mask {
         match (self, other) {
             (Mask::Values(a), Mask::Values(b)) => {
                 let bits = MaskValues::buffer_of(a)?.into_bitor(alloc, b.bit_buffer())?;
-                Ok(Mask::from_buffer(alloc, bits)?)
+                Mask::from_buffer(alloc, bits)
             }
             (mask, other) => mask.bitor(alloc, other),
         }
@@ -239,7 +239,7 @@ impl Mask {
             }
             (Mask::Values(a), Mask::Values(b)) => {
                 let bits = MaskValues::buffer_of(a)?.into_bitand_not(alloc, b.bit_buffer())?;
-                Ok(Mask::from_buffer(alloc, bits)?)
+                Mask::from_buffer(alloc, bits)
             }
             (mask, other) => mask.to_bitand_not(alloc, other),
         }

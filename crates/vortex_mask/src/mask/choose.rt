@@ -10,7 +10,7 @@ use mask_bits::BitBuffer;
 use std::alloc::{AllocError, Global};
 
 /// Choosing rows.
-#[tactic(auto, using(crate::proofs::Masks::MaskLemmas::row_facts))]
+#[tactic(auto, using(crate::proofs::Masks::MaskLemmas::row_facts, crate::proofs::Masks::MaskLemmas::count_facts))]
 impl Mask {
     /// The rows at the true indices, in their order.
     pub fn choose<T: Copy>(&self, alloc: Global, rows: &[T]) -> Result<Vec<T>, MaskError>
@@ -19,16 +19,6 @@ impl Mask {
         ensures len { IfOk result (λ v. vec_len v ≡ count (truth self.now)) }
 
         // An all-false mask chooses no row, and needs no memory for it.
-        ensures none { variant self.now ≡ all_false → IsOk result }
-        ensures refused { IsOkUnless result (MaskError.Memory alloc_error) }
-    {
-        Ok(self.rows_chosen(alloc, rows)?)
-    }
-
-    // The rows at the true indices. How many they are follows.
-    fn rows_chosen<T: Copy>(&self, alloc: Global, rows: &[T]) -> Result<Vec<T>, MaskError>
-        requires { length rows.now ≡ length (truth self.now) }
-        ensures rows { IfOk result (λ v. v.items ≡ chosen rows.now (truth self.now)) }
         ensures none { variant self.now ≡ all_false → IsOk result }
         ensures refused { IsOkUnless result (MaskError.Memory alloc_error) }
     {

@@ -39,14 +39,14 @@ impl Mask {
             (Mask::AllTrue(_), Mask::Values(values)) => {
                 // some values are true and some are not, as its count tells
                 let _ = values.true_count();
-                Ok(of.clone()?)
+                of.clone()
             }
             (Mask::AllFalse(_), Mask::Values(_)) => Ok(Mask::AllFalse(0)),
             (Mask::Values(chosen), Mask::Values(values)) => {
                 let bits = chosen
                     .bit_buffer()
                     .choose_values(alloc, values.bit_buffer())?;
-                Ok(Mask::from_buffer(alloc, bits)?)
+                Mask::from_buffer(alloc, bits)
             }
         }
     }

@@ -89,7 +89,7 @@ impl Mask {
             return Ok(Mask::AllFalse(len));
         }
         let (buffer, true_count) = buffer_of(alloc, len, masks)?;
-        Ok(Mask::from_counted_buffer(alloc, buffer, true_count, None)?)
+        Mask::from_counted_buffer(alloc, buffer, true_count, None)
     }
 }
 

@@ -53,7 +53,7 @@ impl Mask {
         Mask::of_list(alloc, len, indices)
     }
 
-    // The same of a list.
+    // The mask of `len` values that is true exactly at the indices of a list, or what is wrong with it.
     #[tactic(auto, using(crate::proofs::Masks::FaultLemmas::no_index_fault))]
     fn of_list(alloc: Global, len: usize, indices: Vec<usize>) -> Result<Mask, MaskError>
         ensures len { IfOk result (λ m. length (truth m) ≡ len) }
@@ -186,7 +186,7 @@ impl Mask {
             return Ok(Mask::AllTrue(0));
         }
         let builder = builder.freeze()?;
-        Ok(Mask::from_buffer(alloc, builder)?)
+        Mask::from_buffer(alloc, builder)
     }
 }
 
@@ -265,7 +265,7 @@ impl Mask {
         Mask::of_common(alloc, len, &lhs, &rhs)
     }
 
-    // The same of two lists.
+    // The mask of `len` values that is true exactly at the indices that two lists have in common.
     #[tactic(auto, using(crate::proofs::Masks::FaultLemmas::listed_facts))]
     fn of_common(alloc: Global, len: usize, lhs: &[usize], rhs: &[usize]) -> Result<Mask, MaskError>
         requires lhs { IsStrictlyIncreasing lhs.now }
