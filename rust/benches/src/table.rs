@@ -42,7 +42,7 @@ pub fn table(is_asked: impl Fn(&str) -> bool) -> String {
         .into_iter()
         .filter(|name| is_asked(name))
         .flat_map(|name| {
-            LENGTHS.map(|len| SHARES.map(|(share, said)| Line::new(name, len, share, said)))
+            SHARES.map(|(share, said)| LENGTHS.map(|len| Line::new(name, len, share, said)))
         })
         .flatten()
         .collect();
@@ -52,12 +52,19 @@ pub fn table(is_asked: impl Fn(&str) -> bool) -> String {
         }
     }
     let mut table = format!(
-        "| Call | Rows | True | by hand, ns | row-mask | {} |\n|---|---|---|---|---|---|---|\n",
+        "| Call | True | by hand, ns | row-mask | {} |\n|---|---|---|---|---|---|\n",
         PEERS.join(" | ")
     );
-    for line in lines {
-        let Line { name, len, said, .. } = line;
-        writeln!(table, "| {name} | {} | {said} | {} |", grouped(len), line.cells()).unwrap();
+    for row in lines.chunks(LENGTHS.len()) {
+        let Line { name, said, .. } = row[0];
+        let cells: Vec<Vec<String>> = row.iter().map(Line::cells).collect();
+        let column = |at: usize| {
+            let mut said: Vec<&str> = cells.iter().map(|it| it[at].as_str()).collect();
+            said.dedup();
+            said.join(" / ")
+        };
+        let columns: Vec<String> = (0..cells[0].len()).map(column).collect();
+        writeln!(table, "| {name} | {said} | {} |", columns.join(" | ")).unwrap();
     }
     table
 }
@@ -118,7 +125,7 @@ impl Line {
     }
 
     /// The time of the best loop by hand, and the ratios of the others to it.
-    fn cells(&self) -> String {
+    fn cells(&self) -> Vec<String> {
         let best = self.by_hand.iter().copied().fold(f64::INFINITY, f64::min);
         let mut cells = vec![nanoseconds(best), format!("{:.2}", self.ours / best)];
         cells.extend(
@@ -126,7 +133,7 @@ impl Line {
                 .iter()
                 .map(|least| least.map_or("-".into(), |it| format!("{:.2}", it / best))),
         );
-        cells.join(" | ")
+        cells
     }
 }
 
