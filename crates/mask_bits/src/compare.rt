@@ -37,7 +37,7 @@ pub fn none_true<C: BitOp>(a: &[u8], a_offset: usize, b: &[u8], b_offset: usize,
         && none_in_last::<C>(a, a_offset + whole, b, b_offset + whole, len % 64)
 }
 
-// The same of fewer than 64 bits.
+// Whether none is true that `C` makes of fewer than 64 bits.
 #[inline]
 fn none_in_last<C: BitOp>(a: &[u8], p: usize, b: &[u8], q: usize, rest: usize) -> bool
     requires { rest < 64 }
@@ -46,7 +46,7 @@ fn none_in_last<C: BitOp>(a: &[u8], p: usize, b: &[u8], q: usize, rest: usize) -
     C::of(word_at(a, p), word_at(b, q)) & ((1 << rest) - 1) == 0
 }
 
-// The same of whole words.
+// Whether none is true that `C` makes of whole words.
 fn none_in_words<C: BitOp>(
     a: &[u8],
     a_offset: usize,
@@ -66,7 +66,8 @@ fn none_in_words<C: BitOp>(
     none_in_shifted_words::<C>(a, a_low, b, b_low, words)
 }
 
-// The same where not both begin at a whole byte. Never inlined, so that the quicker case stays small.
+// Whether none is true that `C` makes of whole words that do not both begin at a whole byte. Never
+// inlined, so that the quicker case stays small.
 #[inline(never)]
 fn none_in_shifted_words<C: BitOp>(a: &[u8], a_low: u32, b: &[u8], b_low: u32, words: usize) -> bool
     requires a_within { IsWithinBytes a.now a_low (64 * words) }
@@ -84,7 +85,7 @@ fn none_in_shifted_words<C: BitOp>(a: &[u8], a_low: u32, b: &[u8], b_low: u32, w
 // How many words are looked at before an early return.
 const BLOCK: usize = 32;
 
-// The same of the first words.
+// Whether none is true that `C` makes of the first words.
 #[inline]
 fn none_in_blocks<C: BitOp, R: ReadWord>(
     a: &[u8],
@@ -151,7 +152,7 @@ pub fn count_true<C: BitOp>(
         + count_in_last::<C>(a, a_offset + whole, b, b_offset + whole, len % 64)
 }
 
-// The same of fewer than 64 bits.
+// How many are true that `C` makes of fewer than 64 bits.
 #[inline]
 fn count_in_last<C: BitOp>(a: &[u8], p: usize, b: &[u8], q: usize, rest: usize) -> usize
     requires { rest < 64 }
@@ -161,7 +162,7 @@ fn count_in_last<C: BitOp>(a: &[u8], p: usize, b: &[u8], q: usize, rest: usize) 
     (made & ((1 << rest) - 1)).count_ones() as usize
 }
 
-// The same of whole words.
+// How many are true that `C` makes of whole words.
 fn count_in_words<C: BitOp>(
     a: &[u8],
     a_offset: usize,

@@ -71,7 +71,7 @@ fn sixteen_bytes(bytes: &[u8], first: usize) -> u128
     }
 }
 
-// The same where all sixteen bytes are there.
+// Sixteen bytes from byte `first` on, where all are there.
 #[inline]
 fn sixteen_whole_bytes(bytes: &[u8], first: usize) -> u128
     requires { first + 16 ≤ length bytes.now }
@@ -102,7 +102,7 @@ fn last_bytes(bytes: &[u8], first: usize) -> u128
     u128::from_le_bytes(chunk)
 }
 
-// The same by the last sixteen bytes, with those before byte `first` shifted out.
+// Sixteen bytes from byte `first` on, by the last sixteen, with those before `first` shifted out.
 #[inline]
 fn end_of_sixteen(bytes: &[u8], first: usize) -> u128
     requires some { first < length bytes.now }

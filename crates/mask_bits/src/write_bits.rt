@@ -111,7 +111,7 @@ pub(crate) fn put_bits(bytes: &mut [u8], at: usize, from: &[u8], offset: usize, 
     put_windows(bytes, at + done, from, offset + done, n - done);
 }
 
-// The same by a window for each word.
+// Writes bits behind those that are there, by a window for each word.
 fn put_windows(bytes: &mut [u8], at: usize, from: &[u8], offset: usize, n: usize)
     requires room { at + n ≤ 8 * length bytes.old }
     requires fits { at + n < 2 ^ 64 }

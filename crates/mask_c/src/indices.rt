@@ -63,7 +63,7 @@ pub extern "C" fn row_mask_next_indices(
     indices_of_words(bytes, offset, len, from, out)
 }
 
-// The same from an index on, word by word.
+// Writes the indices of the true values from an index on, word by word.
 #[inline]
 fn indices_of_words(
     bytes: &[u8],

@@ -118,7 +118,7 @@ fn narrow_whole(
     }
 }
 
-// The same where few values are true. Most words have none, and need no ranks.
+// Narrows values of which few are true. Most words have none, and need no ranks.
 fn narrow_few(
     bytes: &[u8],
     offset: usize,

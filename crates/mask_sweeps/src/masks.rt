@@ -211,7 +211,7 @@ pub(crate) const EACH_CACHES: [Caches; 4] = [
     (true, true),
 ];
 
-// The same of the indices of two masks.
+// Whether each of two masks caches its indices.
 pub(crate) const EACH_INDICES: [(bool, bool); 4] = EACH_CACHES;
 
 pub(crate) fn with_lists<A: Abort>(judge: &Judge<'_, A>, mask: Mask, caches: Caches) -> Mask {
@@ -267,7 +267,7 @@ pub(crate) fn has_words<A: Abort>(
     judge.holds(call, words.next().is_none());
 }
 
-// The same of what a call answers.
+// The started words of the buffer that a call answers are those of a plain list.
 pub(crate) fn gives_bits<A: Abort>(
     judge: &Judge<'_, A>,
     call: &'static str,

@@ -28,7 +28,7 @@ pub fn filtered<T: Copy>(
     Ok(rows)
 }
 
-/// The same of any number of chunks, each with its mask.
+/// The rows that masks of any number of chunks choose, one chunk after the other.
 pub fn filtered_all<T: Copy>(alloc: Global, chunks: &[(&[T], &Mask)]) -> Result<Vec<T>, MaskError>
     requires { All (λ c. length c.0.now ≡ length (truth c.1.now)) chunks.now }
     ensures { IfOk result (λ v. v.items ≡ chosen

@@ -52,7 +52,7 @@ pub fn ranges_of(alloc: Global, mask: &mut Mask) -> Result<Vec<(usize, usize)>, 
     }
 }
 
-/// The same of a mask that is only lent, by a walk.
+/// The ranges of the rows that a mask chooses, of one that is only lent: by a walk.
 pub fn walked_ranges_of(alloc: Global, mask: &Mask) -> Result<Vec<(usize, usize)>, AllocError>
     ensures { IfOk result (λ walked. walked.items ≡ runs (truth mask.now)) }
 {

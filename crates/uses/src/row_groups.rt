@@ -35,7 +35,8 @@ pub fn has_chosen(rows: &BitBuffer, size: usize, number: usize) -> bool
     rows.count_range(start, end) > 0
 }
 
-/// The same of the rows that a mask chooses, by the list of indices that it lends.
+/// For each group of `size` rows whether a mask chooses one of its rows, by the list of indices that the
+/// mask lends.
 pub fn kept_by_indices(alloc: Global, mask: &mut Mask, size: usize) -> Result<Vec<bool>, MaskError>
     requires { 0 < size }
     ensures len { IfOk result (λ kept. vec_len kept ≡ div_ceil (length (truth mask.old)) size) }

@@ -92,7 +92,7 @@ fn last_of((words, count): &(Vec<u64>, usize)) -> u64 {
     if *count == 0 { 0 } else { last(words, *count) }
 }
 
-/// The same of a list of truth values.
+/// The last byte of a list of truth values.
 fn last_of_bools(list: &[bool]) -> u64 {
     let part = list.chunks(8).last().unwrap_or(&[]);
     black_box(part).iter().rev().fold(0, |byte, value| byte << 1 | u64::from(*value))

@@ -22,7 +22,7 @@ pub(super) fn pack(values: &[bool], out: &mut [MaybeUninit<u8>]) {
     }
 }
 
-/// The same of `value(0)`, `value(1)` and so on, to just the bytes that `len` values take.
+/// Writes each byte of `value(0)`, `value(1)` and so on, to just the bytes that `len` values take.
 pub(crate) fn pack_fn(
     len: usize,
     mut value: impl FnMut(usize) -> bool,

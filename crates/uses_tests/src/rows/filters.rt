@@ -73,7 +73,7 @@ fn of_two_chunks(rt: &impl Abort, alloc: Global, first: &Mask, second: &Mask) {
     assert!(rt; rows.as_slice() == [3, 4, 5].as_slice());
 }
 
-// The same by one call.
+// The rows that masks of chunks choose, by one call.
 fn of_chunks(rt: &impl Abort, alloc: Global, chunks: &[(&[u8], &Mask)]) {
     assert!(rt; chunks.iter().all(|chunk| chunk.0.len() == chunk.1.len()));
     let rows = found(rt, chunks::filtered_all(alloc, chunks));
