@@ -47,8 +47,8 @@ impl BitBuffer {
     }
 }
 
-/// The same, of a buffer that is taken by value. It is written into its own bytes where nobody else
-/// holds them and it begins at a whole one.
+/// Boolean calls of a buffer that is taken by value. The result is written into its own bytes where
+/// nobody else holds them and it begins at a whole one.
 #[tactic(auto, using(crate::proofs::Lists::BooleanLemmas::length_facts))]
 impl BitBuffer {
     /// The values that are true in both.

@@ -43,7 +43,8 @@ pub fn valid_in_both(
     BitBuffer::new(first, rows).bitand(alloc, &BitBuffer::new(second, rows))
 }
 
-/// The same, where the first bitmap was written by the caller and the second begins at any bit.
+/// The rows that are valid in both of two columns, where the first bitmap was written by the caller and
+/// the second begins at any bit.
 pub fn valid_in_part(
     alloc: Global,
     written: Vec<u8>,

@@ -33,7 +33,8 @@ pub fn stacked(alloc: Global, first: &Mask, second: &Mask) -> Result<(Mask, usiz
     Ok((mask, steps.deposits()))
 }
 
-/// The same, with how many words of the first filter were read: whatever ran, none was read twice.
+/// One filter in the place of two that are stacked, with how many words of the first were read: whatever
+/// ran, none was read twice.
 pub fn stacked_by_words(
     alloc: Global,
     first: &Mask,

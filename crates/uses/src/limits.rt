@@ -31,7 +31,7 @@ pub fn first_indices(alloc: Global, filter: &Mask, k: usize) -> Result<Vec<usize
     Ok(filter.set_indices().take(k).collect(alloc)?)
 }
 
-/// The same, by the filter of these rows.
+/// The indices of a filter's first `k` rows, by the filter of these rows.
 pub fn indices_of_first(alloc: Global, filter: &Mask, k: usize) -> Result<Vec<usize>, MaskError>
     ensures { IfOk result (λ v. v.items ≡ take k (positions (truth filter.now))) }
 {

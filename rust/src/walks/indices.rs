@@ -100,7 +100,7 @@ impl<'a> Indices<'a> {
         true
     }
 
-    // The same from the end: whether there is one in the words between.
+    // Goes back to the last word between that has a true value, and says whether there is one.
     fn retreat(&mut self) -> bool {
         let Range { start, end } = self.between();
         let Some(i) = self.bitmap.part(start..end).last_index() else {
