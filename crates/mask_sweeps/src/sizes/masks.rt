@@ -2,11 +2,12 @@
 use super::{LONGEST, OFFSETS, SIZES};
 use crate::judge::Judge;
 use crate::masks::{
-    CONSTRUCTORS, Caches, EACH_CACHES, Source, bits_at, has_caches, is_mask, mask_of,
+    CONSTRUCTORS, Caches, EACH_CACHES, Source, bits_at, gives_mask, has_caches, is_mask, mask_of,
 };
 use crate::plain::Plain;
 use crate::questions::{Case, answers_as, others_by};
 use mask_calls::masks::one::clone;
+use mask_calls::masks::parts::to_limited;
 use mask_calls::packed::Outside;
 use std::process::Abort;
 use vortex_mask::Mask;
@@ -102,6 +103,40 @@ fn of_lengths_of_one_value<A: Abort>(judge: &Judge<'_, A>) {
         of_one_value(judge, len, true);
         of_one_value(judge, len, false);
     }
+}
+
+// Limits, and what each leaves.
+fn limits_at<A: Abort>(
+    judge: &Judge<'_, A>,
+    plain: &Plain,
+    limits: &[(usize, Plain)],
+    offset: usize,
+) {
+    let buffer = bits_at(judge, plain, offset, Outside::Set);
+    for caches in EACH_CACHES {
+        let mask = mask_of(judge, &buffer, caches);
+        for (k, want) in limits {
+            let left = to_limited(judge.alloc, &mask, *k);
+            gives_mask(judge, "to_limited", left, want);
+        }
+    }
+}
+
+// Of a list that has more true values than each limit.
+fn of_many_true_values<A: Abort>(judge: &Judge<'_, A>) {
+    let plain = Plain::repeating(judge, 70_300, (15, 14));
+    let mut limits: Vec<(usize, Plain)> = Vec::new(judge.alloc);
+    for k in [65_535, 65_536, 65_537] {
+        judge.found("a list", limits.push((k, plain.limited(judge, k))));
+    }
+    for offset in OFFSETS {
+        limits_at(judge, &plain, &limits, offset);
+    }
+}
+
+#[test]
+fn many_true_values(rt: HostRuntime) {
+    of_many_true_values(&Judge::new(&rt, rt.alloc()));
 }
 
 #[test]

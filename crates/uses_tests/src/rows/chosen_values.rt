@@ -3,8 +3,8 @@ use super::helpers::{found, lists, mask};
 use std::alloc::Global;
 use std::process::Abort;
 use uses::chosen_values::{
-    cut_to, filtered_with_validity, first_with_validity, narrowed_by_all_rows, picked,
-    ranks_of_narrowing, validity_of_stacked,
+    cut_to, filtered_with_validity, first_with_validity, narrowed_by_all_and_by_those_left,
+    narrowed_by_all_rows, picked, ranks_of_narrowing, validity_of_stacked,
 };
 use vortex_mask::{Mask, MaskError};
 
@@ -95,6 +95,40 @@ fn of_two_filters(rt: &impl Abort, alloc: Global) {
 #[test]
 fn predicates_of_all_rows(rt: HostRuntime) {
     of_two_filters(&rt, rt.alloc());
+}
+
+// A filter of the rows that both leave, and what is left of all rows.
+fn joins_third(
+    rt: &impl Abort,
+    alloc: Global,
+    (first, second): (&Mask, &Mask),
+    (third, left): (&str, &str),
+) {
+    let third = mask(rt, alloc, third);
+    assert!(rt; second.len() == first.len());
+    let Ok(both) = first.bitand(alloc, second) else {
+        panic!(rt; "refused")
+    };
+    assert!(rt; third.len() == both.true_count());
+    let all = narrowed_by_all_and_by_those_left(alloc, first, second, &third);
+    lists(rt, &found(rt, all), left);
+}
+
+fn of_three_filters(rt: &impl Abort, alloc: Global) {
+    let (first, second) = (mask(rt, alloc, "10110"), mask(rt, alloc, "11010"));
+    for row in [
+        ("01", "00010"),
+        ("10", "10000"),
+        ("11", "10010"),
+        ("00", "00000"),
+    ] {
+        joins_third(rt, alloc, (&first, &second), row);
+    }
+}
+
+#[test]
+fn predicates_of_all_rows_and_of_those_left(rt: HostRuntime) {
+    of_three_filters(&rt, rt.alloc());
 }
 
 // ---- words
