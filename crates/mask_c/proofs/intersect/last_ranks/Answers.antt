@@ -1,6 +1,6 @@
 use Rattle.std.proofs.Common.{◌-◌, ◌<◌, get_or, length, arith}
 use Rattle.mask_c.proofs.LastRankLemmas.{pow_in_word, gathered-none, gathered-more, gathered-split, gathered-bits}
-use Rattle.mask_c.proofs.rank.last_ranks.Goals as goal
+use Rattle.mask_c.proofs.intersect.last_ranks.Goals as goal
 
 pub loop-cut-init : goal.loop-cut-init
 loop-cut-init c = gathered-none c.args.ranks.now c.args.from

@@ -6,7 +6,7 @@ use Rattle.mask_bits.specs.Positions.{rank_intersection}
 use Rattle.mask_bits.proofs.Lists.Words.FrontLemmas.{window-take}
 use Rattle.mask_bits.proofs.Lists.Words.BackingBitLemmas.{count-bitmap-le}
 use Rattle.mask_c.proofs.LastLemmas.{count-split, front-appended, written-narrowed}
-use Rattle.mask_c.proofs.rank.narrow.Goals as goal
+use Rattle.mask_c.proofs.intersect.narrow.Goals as goal
 
 pub overflow_sub-before : goal.overflow_sub-before
 overflow_sub-before c = omega (arith, c.requires.fitting, c.count_bits-ones.ensures, count-split c.args.bytes.now c.args.offset c.args.len)

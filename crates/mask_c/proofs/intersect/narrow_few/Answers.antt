@@ -10,7 +10,7 @@ use Rattle.mask_bits.proofs.Lists.Words.WordLemmas.{count-word_bits}
 use Rattle.mask_bits.proofs.Lists.Places.SelectLemmas.{count-word_more}
 use Rattle.mask_c.proofs.ChooseLemmas.{count_below-le-count}
 use Rattle.mask_c.proofs.LastLemmas.{window-kept}
-use Rattle.mask_c.proofs.rank.narrow_few.Goals as goal
+use Rattle.mask_c.proofs.intersect.narrow_few.Goals as goal
 
 pub narrow_word-requires-clause-counted : goal.narrow_word-requires-clause-counted
 narrow_word-requires-clause-counted c = sym (count-word_bits c.word-word.result c.word-word.type_inv)

@@ -8,7 +8,7 @@ use Rattle.mask_bits.proofs.Lists.Words.BackingBitLemmas.{count-bitmap-le, get_o
 use Rattle.mask_bits.proofs.Lists.Words.FrontLemmas.{get_or-window, window-take}
 use Rattle.mask_c.proofs.LastLemmas.{count-split, front-appended}
 use Rattle.mask_c.proofs.LastRankLemmas.{below-all, ranks-all, written-at_ranks}
-use Rattle.mask_c.proofs.rank.narrow_at.Goals as goal
+use Rattle.mask_c.proofs.intersect.narrow_at.Goals as goal
 
 pub overflow_sub-true_count : goal.overflow_sub-true_count
 overflow_sub-true_count g c = omega (arith, c.requires.counted, c.count_bits-ones.ensures, count-split c.args.bytes.now c.args.offset c.args.len)

@@ -1,5 +1,5 @@
 use Rattle.mask_c.proofs.LastRankLemmas.{AreGathered}
-use Rattle.mask_c.proofs.rank.last_ranks.Given as goal
+use Rattle.mask_c.proofs.intersect.last_ranks.Given as goal
 
 -- the ranks from number `cut` on are set bits
 abbrev pub invariant-loop-cut : goal.invariant-loop-cut

@@ -2,7 +2,7 @@ use Rattle.std.proofs.Common.{ℕ, ◌≡◌, ◌*◌, ◌<◌}
 use Rattle.mask_bits.specs.Buffer.{values}
 use Rattle.mask_bits.specs.Positions.{count_below, rank_intersection}
 use Rattle.mask_bits.specs.Words.{padded_part, window}
-use Rattle.mask_c.proofs.rank.narrow_few.Given as goal
+use Rattle.mask_c.proofs.intersect.narrow_few.Given as goal
 
 -- the words so far, and how many values are true before the next one
 abbrev pub invariant-loop-i : goal.invariant-loop-i

@@ -2,7 +2,7 @@ use Rattle.std.proofs.Common.{◌+◌, sym, ap, ◌∙◌}
 use Rattle.mask_bits.specs.Buffer.{values}
 use Rattle.mask_bits.specs.Words.{window, word_bits}
 use Rattle.mask_c.proofs.LastLemmas.{narrowed-none}
-use Rattle.mask_c.proofs.rank.narrow_word.Goals as goal
+use Rattle.mask_c.proofs.intersect.narrow_word.Goals as goal
 
 pub returns-then-word-eq0 : goal.returns-then-word-eq0
 returns-then-word-eq0 c = λ m i fits place shows.

@@ -3,7 +3,7 @@ use Rattle.mask_bits.specs.Bitmap.{bitmap}
 use Rattle.mask_bits.specs.Positions.{count}
 use Rattle.mask_bits.proofs.Lists.Words.BackingBitLemmas.{length-bitmap}
 use Rattle.mask_c.proofs.LastLemmas.{narrowed_by_all}
-use Rattle.mask_c.proofs.rank.row_mask_intersect_by_rank.Goals as goal
+use Rattle.mask_c.proofs.intersect.row_mask_intersect_by_rank.Goals as goal
 
 pub returns-then-ranks_len-len-clause-values : goal.returns-then-ranks_len-len-clause-values
 returns-then-ranks_len-len-clause-values c =
