@@ -145,6 +145,12 @@ impl<'a> Bitmap<'a> {
         Ok(self.part(range_within(&range, self.len)?))
     }
 
+    // The bytes from the one that value 0 is in on.
+    #[inline]
+    pub(crate) fn touched(self) -> &'a [u8] {
+        self.bytes.get(self.offset / 8..).unwrap_or_default()
+    }
+
     // The words of 64 values that lie whole in the bytes, where the first begins at a byte, and else none.
     #[inline]
     pub(crate) fn whole_words(self) -> &'a [[u8; 8]] {

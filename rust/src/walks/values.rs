@@ -10,11 +10,12 @@ pub struct Values<'a> {
     bitmap: Bitmap<'a>,
     // the values of the word that are left, the next one lowest, and a set bit above them
     word: u64,
-    // then those from `next` to `end`
-    next: usize,
+    // how many are behind these, up to `end`
+    behind: usize,
     end: usize,
-    // the words of these that lie whole in the bytes
-    whole: slice::Iter<'a, [u8; 8]>,
+    // the eight bytes that the first of those begins in, and the eights after them
+    here: u64,
+    ahead: slice::Iter<'a, [u8; 8]>,
     // the word that the last value from the end was in
     back: Option<(usize, u64)>,
 }
@@ -22,29 +23,48 @@ pub struct Values<'a> {
 impl<'a> Values<'a> {
     #[inline]
     pub(crate) fn new(bitmap: Bitmap<'a>) -> Values<'a> {
-        let (whole, end) = (bitmap.whole_words().iter(), bitmap.len());
-        Values { bitmap, word: 1, next: 0, end, whole, back: None }
+        let (ahead, end) = ([].iter(), bitmap.len());
+        let mut new = Values { bitmap, word: 1, behind: 0, end, here: 0, ahead, back: None };
+        new.go_to(0);
+        new
     }
 
-    // The first value of another word, if a value is left. The others of that word are taken.
+    // Goes on with word `k`, where that is not past the end.
+    #[inline]
+    fn go_to(&mut self, k: usize) {
+        let (ahead, _) = self.bitmap.touched().as_chunks();
+        (self.word, self.behind) = (1, self.end - 64 * k);
+        self.ahead = ahead.get(k..).unwrap_or_default().iter();
+        self.here = self.read();
+    }
+
+    #[inline]
+    fn read(&mut self) -> u64 {
+        match self.ahead.next() {
+            Some(bytes) => u64::from_le_bytes(*bytes),
+            None => last_bytes(self.bitmap),
+        }
+    }
+
+    // The first value of another word, if a value is left, where the word has none. The others of that word
+    // are taken.
     #[expect(
         clippy::inline_always,
         reason = "a call would keep the fields in memory, at each step"
     )]
     #[inline(always)]
     fn advance(&mut self) -> Option<bool> {
-        if self.next == self.end {
+        let count = self.behind.min(64);
+        if count == 0 {
+            self.word = 1;
             return None;
         }
-        let word = match self.whole.next() {
-            Some(word) => u64::from_le_bytes(*word),
-            None => word(self.bitmap, self.next / 64),
-        };
-        let first = self.next % 64;
-        let count = (64 - first).min(self.end - self.next);
-        self.next += count;
-        self.word = lowest(word >> first >> 1, count - 1);
-        Some(word >> first & 1 == 1)
+        let (here, bit) = (self.here, self.bitmap.offset() % 8);
+        self.here = self.read();
+        let word = here >> bit | self.here << 1 << (63 - bit);
+        self.behind -= count;
+        self.word = lowest(word >> 1, count - 1);
+        Some(word & 1 == 1)
     }
 
     // How many values are left in the word.
@@ -53,8 +73,16 @@ impl<'a> Values<'a> {
     }
 
     fn left(&self) -> usize {
-        self.ready() + (self.end - self.next)
+        self.ready() + self.behind
     }
+}
+
+// The bytes behind the eights, as the lowest of a word. (They are read here, and nothing panics, so that the
+// compiler sees that a step changes no value of the loop that it is in.)
+#[inline]
+fn last_bytes(bitmap: Bitmap<'_>) -> u64 {
+    let (_, last) = bitmap.touched().as_chunks::<8>();
+    last.iter().rev().fold(0, |word, byte| word << 8 | u64::from(*byte))
 }
 
 // The lowest bits of a word, fewer than 64, and a set bit above them.
@@ -68,13 +96,17 @@ impl Iterator for Values<'_> {
 
     #[inline]
     fn next(&mut self) -> Option<bool> {
-        if self.word == 1 {
-            seldom();
-            return self.advance();
+        // (a false value needs no second test: the bit above the values is set)
+        let word = self.word;
+        self.word = word >> 1;
+        if word & 1 != 0 {
+            if word == 1 {
+                seldom();
+                return self.advance();
+            }
+            return Some(true);
         }
-        let value = self.word & 1 == 1;
-        self.word >>= 1;
-        Some(value)
+        Some(false)
     }
 
     fn size_hint(&self) -> (usize, Option<usize>) {
@@ -85,11 +117,15 @@ impl Iterator for Values<'_> {
         let ready = self.ready();
         if n < ready {
             self.word >>= n;
-        } else {
-            self.next += (n - ready).min(self.end - self.next);
-            self.word = 1;
-            self.whole = self.bitmap.whole_words().get(self.next / 64..).unwrap_or_default().iter();
+            return self.next();
         }
+        let at = self.end - self.behind.saturating_sub(n - ready);
+        self.go_to(at / 64);
+        let first = self.advance();
+        if at.is_multiple_of(64) {
+            return first;
+        }
+        self.word >>= at % 64 - 1;
         self.next()
     }
 
@@ -119,13 +155,14 @@ impl Iterator for Values<'_> {
 
 impl DoubleEndedIterator for Values<'_> {
     fn next_back(&mut self) -> Option<bool> {
-        if self.next == self.end {
+        if self.behind == 0 {
             // what is left is in the word of the front
             let left = self.ready().checked_sub(1)?;
             let value = self.word >> left & 1 == 1;
             self.word = lowest(self.word, left);
             return Some(value);
         }
+        self.behind -= 1;
         self.end -= 1;
         let (k, bit) = (self.end / 64, self.end % 64);
         let (_, word) = match self.back.filter(|(at, _)| *at == k) {
@@ -136,7 +173,8 @@ impl DoubleEndedIterator for Values<'_> {
     }
 
     fn nth_back(&mut self, n: usize) -> Option<bool> {
-        let there = n.min(self.end - self.next);
+        let there = n.min(self.behind);
+        self.behind -= there;
         self.end -= there;
         // (as many of the front's word as it has)
         let left = self.ready().saturating_sub(n - there);
