@@ -2,37 +2,16 @@
 //! quickest is the one that counts.
 
 use crate::Call;
-use crate::lists::{Lists, bytes_from, words};
-use crate::ours::OFFSETS;
+use crate::lists::{Lists, OFFSETS, Packed};
 use std::arch::x86_64::{_pdep_u64, _pext_u64};
 use std::hint::black_box;
 
-pub struct ByHand<'a> {
-    lists: &'a Lists,
-    list: Vec<u64>,
-    other: Vec<u64>,
-    copy: Vec<u64>,
-    ranks: Vec<u64>,
-    moved: (Vec<u8>, Vec<u8>),
-}
+pub struct ByHand<'a>(pub &'a Lists);
 
-impl<'a> ByHand<'a> {
-    pub fn new(lists: &'a Lists) -> ByHand<'a> {
-        let mut ranks = words(&lists.ranks);
-        ranks.extend([0; 2]);
-        ByHand {
-            lists,
-            list: words(&lists.list),
-            other: words(&lists.other),
-            copy: words(&lists.list),
-            ranks,
-            moved: (bytes_from(&lists.list, OFFSETS.0), bytes_from(&lists.other, OFFSETS.1)),
-        }
-    }
-
+impl ByHand<'_> {
     pub fn calls(&self, name: &str) -> Vec<Call<'_>> {
-        let (a, b, ranks, lists) = (&self.list[..], &self.other[..], &self.ranks[..], self.lists);
-        let (copy, (a_moved, b_moved)) = (&self.copy[..], &self.moved);
+        let (lists, Packed { list: a, other: b, copy, ranks, moved }) = (self.0, &self.0.packed);
+        let (a_moved, b_moved) = moved;
         let (rows, column, len) = (&lists.rows[..], &lists.column[..], lists.len);
         match name {
             "count" => vec![Box::new(move || count(a) as u64)],

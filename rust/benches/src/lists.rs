@@ -11,10 +11,37 @@ pub struct Lists {
     pub list: Vec<bool>,
     pub other: Vec<bool>,
     pub ranks: Vec<bool>,
+    pub packed: Packed,
     pub rows: Vec<u64>,
     /// Below 1,000, and below the share where the value is true.
     pub column: Vec<u32>,
     pub share: u32,
+}
+
+/// The lists as words from bit 0 on, with two more behind `ranks`, and the first two as bytes from `OFFSETS` on. Loops by
+/// hand and `row-mask` read them where they lie here, since the time of a short loop depends on the place.
+pub struct Packed {
+    pub list: Vec<u64>,
+    pub copy: Vec<u64>,
+    pub other: Vec<u64>,
+    pub ranks: Vec<u64>,
+    pub moved: (Vec<u8>, Vec<u8>),
+}
+
+pub const OFFSETS: (usize, usize) = (3, 6);
+
+impl Packed {
+    fn new(list: &[bool], other: &[bool], ranks: &[bool]) -> Packed {
+        let mut packed = Packed {
+            list: words(list),
+            copy: words(list),
+            other: words(other),
+            ranks: words(ranks),
+            moved: (bytes_from(list, OFFSETS.0), bytes_from(other, OFFSETS.1)),
+        };
+        packed.ranks.extend([0; 2]);
+        packed
+    }
 }
 
 impl Lists {
@@ -29,20 +56,20 @@ impl Lists {
         let share = u32::try_from(share).unwrap();
         let column: Vec<u32> = (0..len).map(|_| number()).collect();
         let list: Vec<bool> = column.iter().map(|it| *it < share).collect();
-        let other = (0..len).map(|_| number() < share).collect();
+        let other: Vec<bool> = (0..len).map(|_| number() < share).collect();
         let count = list.iter().filter(|value| **value).count();
-        let ranks = (0..count).map(|_| number() < 500).collect();
-        Lists { len, list, other, ranks, rows: (0..len as u64).collect(), column, share }
+        let ranks: Vec<bool> = (0..count).map(|_| number() < 500).collect();
+        let packed = Packed::new(&list, &other, &ranks);
+        Lists { len, list, other, ranks, packed, rows: (0..len as u64).collect(), column, share }
     }
 }
 
-/// A bitmap as a peer by hand has it: words from bit 0 on.
-pub fn words(list: &[bool]) -> Vec<u64> {
+fn words(list: &[bool]) -> Vec<u64> {
     BitmapBuf::from(list).as_bitmap().to_words()
 }
 
 /// The bytes of a list from a bit on, with 16 more behind them, so that a loop by hand reads past its end.
-pub fn bytes_from(list: &[bool], offset: usize) -> Vec<u8> {
+fn bytes_from(list: &[bool], offset: usize) -> Vec<u8> {
     let mut moved = vec![false; offset];
     moved.extend_from_slice(list);
     let mut bytes = BitmapBuf::from(&moved[..]).into_bytes();

@@ -1,42 +1,21 @@
 //! The calls of `row-mask`.
 
 use crate::Call;
-use crate::lists::{Lists, bytes_from};
+use crate::lists::{Lists, OFFSETS, Packed};
 use row_mask::{Bitmap, BitmapBuf};
 
 /// The bitmaps of the lists, from bit 0 on, and the first two from other bits on.
-pub struct Ours<'a> {
-    lists: &'a Lists,
-    list: BitmapBuf,
-    other: BitmapBuf,
-    ranks: BitmapBuf,
-    moved: (Vec<u8>, Vec<u8>),
-}
+pub struct Ours<'a>(pub &'a Lists);
 
-pub const OFFSETS: (usize, usize) = (3, 6);
-
-impl<'a> Ours<'a> {
-    pub fn new(lists: &'a Lists) -> Ours<'a> {
-        let of = |list: &[bool]| BitmapBuf::from(list);
-        Ours {
-            lists,
-            list: of(&lists.list),
-            other: of(&lists.other),
-            ranks: of(&lists.ranks),
-            moved: (bytes_from(&lists.list, OFFSETS.0), bytes_from(&lists.other, OFFSETS.1)),
-        }
-    }
-
-    fn moved(&self) -> (Bitmap<'_>, Bitmap<'_>) {
-        let ((a, b), len) = (&self.moved, self.lists.len);
-        (Bitmap::new(a, OFFSETS.0, len).unwrap(), Bitmap::new(b, OFFSETS.1, len).unwrap())
-    }
-
+impl Ours<'_> {
     pub fn call(&self, name: &str) -> Option<Call<'_>> {
-        let (a, b, ranks) = (self.list.as_bitmap(), self.other.as_bitmap(), self.ranks.as_bitmap());
-        let (lists, (a_moved, b_moved)) = (self.lists, self.moved());
-        let rows = &lists.rows[..];
-        let copy = BitmapBuf::from(a);
+        let (lists, Packed { list, other, copy, ranks, moved }) = (self.0, &self.0.packed);
+        let (len, rows) = (lists.len, &lists.rows[..]);
+        let of = |words, len| Bitmap::from_words(words, len).unwrap();
+        let (a, b, copy, ranks) =
+            (of(list, len), of(other, len), of(copy, len), of(ranks, lists.ranks.len()));
+        let a_moved = Bitmap::new(&moved.0, OFFSETS.0, len).unwrap();
+        let b_moved = Bitmap::new(&moved.1, OFFSETS.1, len).unwrap();
         let last = |made: BitmapBuf| made.as_bytes().last().copied().map_or(0, u64::from);
         Some(match name {
             "count" => Box::new(move || a.count() as u64),

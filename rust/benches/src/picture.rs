@@ -61,7 +61,7 @@ fn lines() -> Vec<Line> {
 
 /// The time of each line's call, or of the best of its calls.
 fn times(lists: &Lists) -> Vec<f64> {
-    let (ours, by_hand) = (Ours::new(lists), ByHand::new(lists));
+    let (ours, by_hand) = (Ours(lists), ByHand(lists));
     let mut calls = Vec::new();
     let mut ends = Vec::new();
     for (call, who, ..) in LINES {

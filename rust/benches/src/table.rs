@@ -103,7 +103,7 @@ impl Line {
     fn time(&mut self, round: usize) {
         let before = black_box(vec![0_u8; 24 + 16 * round]);
         let lists = &Lists::new(self.len, self.share);
-        let (by_hand, ours, peers) = (ByHand::new(lists), Ours::new(lists), Peers::new(lists));
+        let (by_hand, ours, peers) = (ByHand(lists), Ours(lists), Peers::new(lists));
         let mut calls = by_hand.calls(self.name);
         let hands = calls.len();
         calls.push(ours.call(self.name).unwrap());
