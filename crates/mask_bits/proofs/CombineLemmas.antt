@@ -98,7 +98,7 @@ between-word f a b new q i v w r is_v is_w is_r wrote others = record {
 -- as much of one as the bytes have
 pub between-last : (f : Bool → Bool → Bool) (a b last ys : List ℕ) (q i e : ℕ) (v w r : List Bool)
     → 8 * i ≤ length a → e ≡ min (length a) (8 * i + 8) → length last ≡ 8 → ys ≡ take (e - 8 * i) last
-    → v ≡ window a (0 + 64 * i) → w ≡ window b (q + 64 * i) → r ≡ combined f v w → window last 0 ≡ r
+    → v ≡ window a (64 * i) → w ≡ window b (q + 64 * i) → r ≡ combined f v w → window last 0 ≡ r
     → IsCombinedBetween f a b (put_mid (8 * i) (e - 8 * i) a ys) q (64 * i) (min (64 * i + 64) (8 * length a))
 between-last f a b last ys q i e v w r begins is_e len is_ys is_v is_w is_r wrote =
     let new : List ℕ = put_mid (8 * i) (e - 8 * i) a ys in
@@ -114,7 +114,7 @@ between-last f a b last ys q i e v w r begins is_e len is_ys is_v is_w is_r wrot
           ∙ get_or-put_mid_inside (8 * i) e a ys (j / 8) begins count few
           ∙ ap (λ (xs : List ℕ). get_or xs (j / 8) 0) is_ys ∙ get_or-take (e - 8 * i) last (j / 8) 0 few in
           let shown : backing_bit new p ≡ get_or (window last 0) j false = grind (arith, byte, bit, get_or-window last 0 j false) in
-          grind (arith, shown, wrote, combined_bit f a b (0 + 64 * i) (q + 64 * i) j v w r is_v is_w is_r);
+          grind (arith, shown, wrote, combined_bit f a b (64 * i) (q + 64 * i) j v w r is_v is_w is_r);
       outside = λ p apart. ap (λ x. nat_eq (bit_at x (p % 8)) 1) (elim apart [
         | inl before ↦ get_or-put_mid_below (8 * i) (e - 8 * i) a ys (p / 8) begins (omega arith)
         | inr past ↦ get_or-put_mid_above (8 * i) (e - 8 * i) a ys (p / 8) begins count (omega arith)
@@ -141,30 +141,30 @@ pub backing_bit-drop : (bytes : List ℕ) (p i : ℕ) → backing_bit (drop (p /
 backing_bit-drop bytes p i = grind (arith, get_or-drop)
 
 -- bytes of which as many first bits are f of the bits of two buffers as these have values are the combined list
-pub values-combined : (f : Bool → Bool → Bool) (a b out from_a from_b : List ℕ) (p q len n : ℕ) → from_a ≡ drop (p / 8) a → from_b ≡ drop (q / 8) b
-    → AreCombined f from_a (p % 8) from_b (q % 8) out n → len ≤ n
+pub values-combined : (f : Bool → Bool → Bool) (a b out from_a from_b : List ℕ) (low_a low_b p q len n : ℕ) → from_a ≡ drop (p / 8) a → low_a ≡ p % 8 → from_b ≡ drop (q / 8) b → low_b ≡ q % 8
+    → AreCombined f from_a low_a from_b low_b out n → len ≤ n
     → values (record { bytes = out; offset = 0; len = len }) ≡ combined f (values (record { bytes = a; offset = p; len = len })) (values (record { bytes = b; offset = q; len = len }))
-values-combined f a b out from_a from_b p q len n is_a is_b wrote enough =
+values-combined f a b out from_a from_b low_a low_b p q len n is_a is_low_a is_b is_low_b wrote enough =
     let va : Packed = record { bytes = a; offset = p; len = len } in
     let vb : Packed = record { bytes = b; offset = q; len = len } in
     let one_len : length (values va) ≡ length (values vb) = length-values va ∙ sym (length-values vb) in
     values_from_front out (combined f (values va) (values vb)) len (length-combined f (values va) (values vb) one_len ∙ length-values va) (λ i h.
-    let bit_a = ap (λ (xs : List ℕ). backing_bit xs (p % 8 + i)) is_a ∙ backing_bit-drop a p i ∙ sym (get_or-values va i false h) in
-    let bit_b = ap (λ (xs : List ℕ). backing_bit xs (q % 8 + i)) is_b ∙ backing_bit-drop b q i ∙ sym (get_or-values vb i false h) in
+    let bit_a = ap₂ (λ (xs : List ℕ) low. backing_bit xs (low + i)) is_a is_low_a ∙ backing_bit-drop a p i ∙ sym (get_or-values va i false h) in
+    let bit_b = ap₂ (λ (xs : List ℕ) low. backing_bit xs (low + i)) is_b is_low_b ∙ backing_bit-drop b q i ∙ sym (get_or-values vb i false h) in
     wrote i (omega arith) ∙ ap₂ f bit_a bit_b ∙ sym (get_or-combined f (values va) (values vb) i false (omega (arith, length-values va)) one_len))
 
 -- the same where the bits of the first were in the same bytes
-pub values-in_place : (f : Bool → Bool → Bool) (a b out from_b : List ℕ) (q len n : ℕ) → from_b ≡ drop (q / 8) b
-    → IsCombinedBetween f a from_b out (q % 8) 0 n → len ≤ n
+pub values-in_place : (f : Bool → Bool → Bool) (a b out from_b : List ℕ) (low q len n : ℕ) → from_b ≡ drop (q / 8) b → low ≡ q % 8
+    → IsCombinedBetween f a from_b out low 0 n → len ≤ n
     → values (record { bytes = out; offset = 0; len = len }) ≡ combined f (values (record { bytes = a; offset = 0; len = len })) (values (record { bytes = b; offset = q; len = len }))
-values-in_place f a b out from_b q len n is_b wrote enough =
-    values-combined f a b out a from_b 0 q len n refl is_b (λ i h. grind (arith, wrote.inside i)) enough
+values-in_place f a b out from_b low q len n is_b is_low wrote enough =
+    values-combined f a b out a from_b 0 low 0 q len n refl refl is_b is_low (λ i h. grind (arith, wrote.inside i)) enough
 
 -- the same of a negated one
 pub values-negated : (a out : List ℕ) (len n : ℕ) → IsCombinedBetween (λ x y. not x) a a out 0 0 n → len ≤ n
     → values (record { bytes = out; offset = 0; len = len }) ≡ not_of (values (record { bytes = a; offset = 0; len = len }))
 values-negated a out len n turned enough =
-    values-in_place (λ x y. not x) a a out a 0 len n refl turned enough ∙ combined_itself (values (record { bytes = a; offset = 0; len = len }))
+    values-in_place (λ x y. not x) a a out a 0 0 len n refl refl turned enough ∙ combined_itself (values (record { bytes = a; offset = 0; len = len }))
 
 -- ---- a buffer by its parts
 

@@ -110,9 +110,9 @@ none-parts f a b p q n =
     (λ all. join.0 (subst (IsNoneTrue f a p b q) (sym e) all), λ both. subst (IsNoneTrue f a p b q) e (join.1 both))
 
 -- the same bits, seen from the byte that they begin in
-pub none-drop : (f : Bool → Bool → Bool) (a b from_a from_b : List ℕ) (p q n : ℕ) → from_a ≡ drop (p / 8) a → from_b ≡ drop (q / 8) b
-    → IsNoneTrue f from_a (p % 8) from_b (q % 8) n ↔ IsNoneTrue f a p b q n
-none-drop f a b from_a from_b p q n is_a is_b = grind (arith, backing_bit-drop)
+pub none-drop : (f : Bool → Bool → Bool) (a b from_a from_b : List ℕ) (low_a low_b p q n : ℕ) → from_a ≡ drop (p / 8) a → low_a ≡ p % 8 → from_b ≡ drop (q / 8) b → low_b ≡ q % 8
+    → IsNoneTrue f from_a low_a from_b low_b n ↔ IsNoneTrue f a p b q n
+none-drop f a b from_a from_b low_a low_b p q n is_a is_low_a is_b is_low_b = grind (arith, backing_bit-drop)
 
 -- ---- lists
 
@@ -185,11 +185,11 @@ count-low f a b p q v w r mask n few fits is_v is_w is_r is =
     ∙ omega (arith, ap count front, count-repeated_false (64 - n))
 
 -- the same bits, seen from the byte that they begin in
-pub bitmap-byte : (bytes from : List ℕ) (p n : ℕ) → from ≡ drop (p / 8) bytes → bitmap from (p % 8) n ≡ bitmap bytes p n
-bitmap-byte bytes from p n is =
-    ext_get_or false (bitmap from (p % 8) n) (bitmap bytes p n) (length-bitmap from (p % 8) n ∙ sym (length-bitmap bytes p n)) (λ j h.
-    let few : j < n = omega (arith, length-bitmap from (p % 8) n) in
-    get_or-bitmap from (p % 8) n j false few ∙ ap (λ (xs : List ℕ). backing_bit xs (p % 8 + j)) is ∙ backing_bit-drop bytes p j ∙ sym (get_or-bitmap bytes p n j false few))
+pub bitmap-byte : (bytes from : List ℕ) (low p n : ℕ) → from ≡ drop (p / 8) bytes → low ≡ p % 8 → bitmap from low n ≡ bitmap bytes p n
+bitmap-byte bytes from low p n is is_low =
+    ext_get_or false (bitmap from low n) (bitmap bytes p n) (length-bitmap from low n ∙ sym (length-bitmap bytes p n)) (λ j h.
+    let few : j < n = omega (arith, length-bitmap from low n) in
+    get_or-bitmap from low n j false few ∙ ap₂ (λ (xs : List ℕ) m. backing_bit xs (m + j)) is is_low ∙ backing_bit-drop bytes p j ∙ sym (get_or-bitmap bytes p n j false few))
 
 -- whole words, and the bits past them
 pub count-parts : (f : Bool → Bool → Bool) (a b : List ℕ) (p q n : ℕ)

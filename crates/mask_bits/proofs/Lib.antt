@@ -5,7 +5,6 @@ mod BufferLemmas
 mod BuilderLemmas
 mod CombineLemmas
 mod CompareLemmas
-mod EqLemmas
 mod Examples
 mod FirstLemmas
 mod LawExamples

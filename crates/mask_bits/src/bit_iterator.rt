@@ -3,16 +3,15 @@
 ghost use Rattle.std.specs.Prelude.{◌≡◌, length, IfSome, Some, ◌+◌, ◌-◌, ◌≤◌, ◌<◌, ◌/◌, ◌%◌};
 ghost use Rattle.std.specs.Iterator.{YieldsFirst, UpTo, item_count};
 ghost use Rattle.std.specs.Iterator.SizeHint.{IsWithinCount};
-ghost use Rattle.mask_bits.specs.Buffer.{values};
 ghost use Rattle.mask_bits.specs.Walk.{IsAtHand};
 
-use crate::buffer::BitBuffer;
+use crate::chunks::BitChunks;
 use std::marker::Model;
 
 /// The values of a buffer, in their order.
 #[derive(Drop)]
 pub struct BitIterator<'a> {
-    buffer: &'a BitBuffer,
+    chunks: BitChunks<'a>,
     next: usize,
     // the word at hand, and the index at which it ends or the list does
     word: u64,
@@ -20,23 +19,22 @@ pub struct BitIterator<'a> {
 }
 
 impl<'a> Model for BitIterator<'a> {
-    ghost use Rattle.std.specs.Prelude.{Bool, List, ◌≡◌, ◌≤◌, ◌<◌, ◌/◌, ◌%◌, drop, length};
-    ghost use Rattle.mask_bits.specs.Buffer.{values};
+    ghost use Rattle.std.specs.Prelude.{Bool, List, drop};
     ghost use Rattle.mask_bits.specs.Walk.{IsAtHand};
 
     ghost Value = { List Bool };
 
-    ghost view = { λ s. drop s.next (values s.buffer.now) };
+    ghost view = { λ s. drop s.next s.chunks };
 
-    ghost invariant = { λ s. IsAtHand (values s.buffer.now) s.next s.end s.word };
+    ghost invariant = { λ s. IsAtHand s.chunks s.next s.end s.word };
 }
 
 impl<'a> BitIterator<'a> {
-    pub(crate) fn new(buffer: &'a BitBuffer) -> BitIterator<'a>
-        ensures { result ≡ values buffer.now }
+    pub(crate) fn new(chunks: BitChunks<'a>) -> BitIterator<'a>
+        ensures { result ≡ chunks.entry }
     {
         BitIterator {
-            buffer,
+            chunks,
             next: 0,
             word: 0,
             end: 0,
@@ -53,10 +51,10 @@ impl Iterator for BitIterator<'_> {
 
     fn next(&mut self) -> Option<bool> {
         // within a word one test serves for its end and the list's
-        if self.next == self.end && self.next == self.buffer.len() {
+        if self.next == self.end && self.next == self.chunks.values_len() {
             return None;
         }
-        let (word, end) = word_at_hand(self.buffer, self.next, self.end, self.word);
+        let (word, end) = word_at_hand(&self.chunks, self.next, self.end, self.word);
         self.word = word;
         self.end = end;
         let bit = word >> (self.next % 64);
@@ -77,22 +75,22 @@ impl Iterator for BitIterator<'_> {
 
 impl ExactSizeIterator for BitIterator<'_> {
     fn len(&self) -> usize {
-        self.buffer.len() - self.next
+        self.chunks.values_len() - self.next
     }
 }
 
 // The word of index `next`, and the index at which it ends or the list does, where `word` and `end`
 // are these unless `next` is `end`.
 #[inline]
-fn word_at_hand(buffer: &BitBuffer, next: usize, end: usize, word: u64) -> (u64, usize)
-    requires within { next < length (values buffer.now) }
-    requires before { IsAtHand (values buffer.now) next end word }
+fn word_at_hand(chunks: &BitChunks<'_>, next: usize, end: usize, word: u64) -> (u64, usize)
+    requires within { next < length chunks.now }
+    requires before { IsAtHand chunks.now next end word }
     ensures more { next < result.1 }
-    ensures at_hand { IsAtHand (values buffer.now) next result.1 result.0 }
+    ensures at_hand { IsAtHand chunks.now next result.1 result.0 }
 {
     if next == end {
-        let rest = buffer.len() - next;
-        (buffer.chunks().padded_word(next / 64), next + rest.min(64))
+        let rest = chunks.values_len() - next;
+        (chunks.started_word(next / 64), next + rest.min(64))
     } else {
         (word, end)
     }

@@ -6,7 +6,7 @@ ghost use Rattle.mask_bits.specs.Lists.{and_of, or_of, and_not_of, not_of, combi
 
 use crate::buffer::BitBuffer;
 use crate::combine::{And, AndNot, BitOp, Not, Or, combine, combine_in_place, negate_in_place};
-use bytes::Bytes;
+use crate::words::started_words;
 use std::alloc::{AllocError, Global};
 
 #[tactic(auto, using(crate::proofs::Lists::BooleanLemmas::length_facts))]
@@ -103,16 +103,10 @@ fn combined_buffer<C: BitOp>(
     requires { length (values a.now) ≡ length (values b.now) }
     ensures { IfOk result (λ r. values r ≡ combined C.of_bits (values a.now) (values b.now)) }
 {
-    let mut out = vec![in alloc; 0u8; 8 * a.len().div_ceil(64)]?;
-    combine::<C>(
-        a.bits(),
-        a.offset(),
-        b.bits(),
-        b.offset(),
-        a.len(),
-        &mut out,
-    );
-    Ok(BitBuffer::new(Bytes::from_vec(out)?, a.len()))
+    let len = a.len();
+    let mut out = vec![in alloc; 0u8; 8 * started_words(len)]?;
+    combine::<C>(a.bits(), a.offset(), b.bits(), b.offset(), len, &mut out);
+    BitBuffer::from_vec(out, len)
 }
 
 // The same in the first one's bytes, where they are its own.

@@ -1,16 +1,15 @@
 //! Truth values packed into words.
 
 ghost use Rattle.std.specs.Prelude.{◌≡◌, ◌*◌, ◌<◌, ◌≤◌, ℕ, false, length, slice_index_or};
-ghost use Rattle.std.specs.Int.{div_ceil};
 ghost use Rattle.mask_bits.specs.Buffer.{backing_bit};
-ghost use Rattle.mask_bits.specs.Words.{word_bits};
+ghost use Rattle.mask_bits.specs.Words.{word_bits, started_words};
 
 use crate::words::set_word;
 
 /// Writes truth values to the front of `bytes`, which is room of whole words, a word at a time. The bits
 /// past them have no meaning.
 pub fn put_bools(bytes: &mut [u8], bools: &[bool])
-    requires { 8 * div_ceil (length bools.now) 64 ≤ length bytes.old }
+    requires { 8 * started_words (length bools.now) ≤ length bytes.old }
     ensures { (i : ℕ) → i < length bools.now
         → backing_bit bytes.new i ≡ slice_index_or bools.now i false }
 {

@@ -16,6 +16,7 @@ use crate::chunks::BitChunks;
 use crate::counts::count_bits;
 use crate::set_indices::SetIndices;
 use crate::set_slices::SetSlices;
+use crate::words::started_words;
 use crate::write_bits::set_bit;
 use bytes::{Bytes, BytesMut};
 use std::alloc::{AllocError, Global};
@@ -72,8 +73,7 @@ impl BitBuffer {
             (λ b. b ≡ record { bytes = bytes.items; offset = 0; len = len }) }
         ensures len { IfOk result (λ b. length (values b) ≡ len) }
     {
-        let shared = Bytes::from_vec(bytes)?;
-        Ok(BitBuffer::new(shared, len))
+        Ok(BitBuffer::new(Bytes::from_vec(bytes)?, len))
     }
 
     /// `len` true values.
@@ -81,14 +81,14 @@ impl BitBuffer {
         ensures { IfOk result (λ b. values b ≡ repeated len true) }
     {
         let ones = vec![in alloc; 0xFFu8; len.div_ceil(8)]?;
-        Ok(BitBuffer::new(Bytes::from_vec(ones)?, len))
+        BitBuffer::from_vec(ones, len)
     }
 
     /// `len` false values.
     pub fn new_unset(alloc: Global, len: usize) -> Result<BitBuffer, AllocError>
         ensures { IfOk result (λ b. values b ≡ repeated len false) }
     {
-        Ok(BitBuffer::new(Bytes::from_vec(zeroed(alloc, len)?)?, len))
+        BitBuffer::from_vec(zeroed(alloc, len)?, len)
     }
 
     /// The list of `len` values that is true exactly at `indices`, in any order and with repeats.
@@ -104,7 +104,7 @@ impl BitBuffer {
         for index in indices {
             set_bit(&mut bytes, *index);
         }
-        Ok(BitBuffer::new(Bytes::from_vec(bytes)?, len))
+        BitBuffer::from_vec(bytes, len)
     }
 
     /// The values that an iterator yields, in their order.
@@ -126,20 +126,17 @@ impl BitBuffer {
     fn from_slice(alloc: Global, bools: &[bool]) -> Result<BitBuffer, AllocError>
         ensures { IfOk result (λ b. values b ≡ bools.now) }
     {
-        let mut bytes = vec![in alloc; 0u8; 8 * bools.len().div_ceil(64)]?;
+        let mut bytes = vec![in alloc; 0u8; 8 * started_words(bools.len())]?;
         put_bools(&mut bytes, bools);
-        Ok(BitBuffer::new(Bytes::from_vec(bytes)?, bools.len()))
+        BitBuffer::from_vec(bytes, bools.len())
     }
 
     /// A buffer of the same backing bytes, at the same offset and length.
     pub fn clone(&self) -> Result<BitBuffer, AllocError>
         ensures { IfOk result (λ b. b ≡ self.now) }
     {
-        Ok(BitBuffer {
-            bytes: self.bytes.clone()?,
-            offset: self.offset,
-            len: self.len,
-        })
+        let bytes = self.bytes.clone()?;
+        Ok(BitBuffer::new_with_offset(bytes, self.offset, self.len))
     }
 
     /// The values from `start` to `end`, over the same bytes at the offset of value `start`.
@@ -150,11 +147,8 @@ impl BitBuffer {
             ≡ record self.now { offset = self.now.offset + start; len = end - start }) }
         ensures list { IfOk result (λ b. values b ≡ slice_range (values self.now) start end) }
     {
-        Ok(BitBuffer {
-            bytes: self.bytes.clone()?,
-            offset: self.offset + start,
-            len: end - start,
-        })
+        let bytes = self.bytes.clone()?;
+        Ok(BitBuffer::new_with_offset(bytes, self.offset + start, end - start))
     }
 
     /// How many values there are.
@@ -216,8 +210,7 @@ impl BitBuffer {
         ensures bytes { result.now ≡ self.now.bytes }
         ensures within { IsWithinBytes result.now self.now.offset self.now.len }
     {
-        let _ = &self.len;
-        self.bytes.as_slice()
+        self.inner().as_slice()
     }
 
     // The bytes from the first value's on, where nobody else holds them and that value begins one.
@@ -288,9 +281,7 @@ impl BitBuffer {
         ensures in_order { YieldsInOrder (YieldsFirst {A = Bool} (λ s. s)) (λ s. s) }
         ensures fits { length result < 2 ^ 64 }
     {
-        // named, so that the proof may use that the length fits
-        let _ = &self.len;
-        BitIterator::new(self)
+        BitIterator::new(self.chunks())
     }
 
     /// The indices of the true values, ascending.
@@ -301,8 +292,7 @@ impl BitBuffer {
         ensures within { All (λ p. p < length (values self.now)) result }
         ensures fits { length result < 2 ^ 64 }
     {
-        let _ = &self.len;
-        SetIndices::new(self)
+        SetIndices::new(self.chunks())
     }
 
     /// The runs (maximal ranges) of true values, ascending, each by its first index and the index past its
@@ -312,8 +302,7 @@ impl BitBuffer {
         ensures in_order { YieldsInOrder (YieldsFirst {A = ℕ × ℕ} (λ s. s)) (λ s. s) }
         ensures fits { length result < 2 ^ 64 }
     {
-        let _ = &self.len;
-        SetSlices::new(self)
+        SetSlices::new(self.chunks())
     }
 
     /// The values in words of 64, the first value lowest.

@@ -7,6 +7,7 @@ ghost use Rattle.mask_bits.specs.Positions.{repeated};
 ghost use Rattle.mask_bits.specs.Words.{word_bits};
 
 use crate::buffer::BitBuffer;
+use crate::words::started_words;
 use crate::write_bits::{clear_bit, put_bits, put_same, put_word, set_bit};
 use bytes::Bytes;
 use std::alloc::{AllocError, Global};
@@ -40,7 +41,7 @@ impl BitBufferMut {
         ensures { IfOk result (λ b. b ≡ []) }
     {
         Ok(BitBufferMut {
-            bytes: vec![in alloc; 0u8; 8 * n.div_ceil(64)]?,
+            bytes: vec![in alloc; 0u8; 8 * started_words(n)]?,
             len: 0,
         })
     }
@@ -164,6 +165,6 @@ fn grow(bytes: &mut Vec<u8>, bits: usize) -> Result<(), AllocError>
     ensures longer { vec_len bytes.old ≤ vec_len bytes.new }
     ensures room { OnOk result (bits ≤ 8 * vec_len bytes.new) }
 {
-    let words = bits.div_ceil(64).max(bytes.len().saturating_mul(2) / 8);
+    let words = started_words(bits).max(bytes.len().saturating_mul(2) / 8);
     bytes.resize(8 * words, 0)
 }

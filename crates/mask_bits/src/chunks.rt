@@ -11,8 +11,8 @@ ghost use Rattle.mask_bits.specs.Words.{word_bits, word_part, word_parts, padded
 ghost use Rattle.mask_bits.specs.Words.{started_words, padded_part, padded_parts};
 
 use crate::counts::count_bits;
-use crate::read_word::{Covered, ReadWord};
-use crate::words::word_at;
+use crate::read_word::{Bits, Covered, ReadWord};
+use crate::words::{started_words, word_at};
 use std::marker::Model;
 
 /// The values of a buffer in words of 64, the first value lowest.
@@ -45,11 +45,19 @@ impl<'a> BitChunks<'a> {
         BitChunks { bytes, offset, len }
     }
 
+    // How many values there are.
+    #[inline]
+    pub(crate) fn values_len(&self) -> usize
+        ensures { result ≡ length self.now }
+    {
+        self.len
+    }
+
     /// How many whole words there are.
     pub fn len(&self) -> usize
         ensures { result ≡ length self.now / 64 }
     {
-        self.len / 64
+        self.values_len() / 64
     }
 
     /// Whole word `i`, whose bit `j` is value `64 * i + j`.
@@ -57,8 +65,7 @@ impl<'a> BitChunks<'a> {
         requires { i < length self.now / 64 }
         ensures { word_bits result ≡ word_part self.now i }
     {
-        let low = (self.offset % 8) as u32;
-        Covered::word(&self.bytes[self.offset / 8..], low, i)
+        Covered::word(Bits::new(self.bytes, self.offset), i)
     }
 
     /// The whole words, in their order.
@@ -79,7 +86,7 @@ impl<'a> BitChunks<'a> {
     pub fn remainder_len(&self) -> usize
         ensures { result ≡ length self.now % 64 }
     {
-        self.len % 64
+        self.values_len() % 64
     }
 
     /// The values after the whole words in the low bits, and zeros above.
@@ -114,8 +121,8 @@ impl<'a> BitChunks<'a> {
     {
         let (first, rest) = self.passed_blocks(n);
         let mut left = rest;
-        for i in first..self.padded_len() {
-            let word = self.padded_word(i);
+        for i in first..self.started_words() {
+            let word = self.started_word(i);
             let ones = word.count_ones() as usize;
             if left < ones {
                 return Some(64 * i + index_in_word(word, left));
@@ -131,10 +138,10 @@ impl<'a> BitChunks<'a> {
             ≡ slice_get (positions self.now) (count self.now - 1) }
         ensures within { IfSome result (λ p. p < length self.now) }
     {
-        let mut i = self.padded_len();
+        let mut i = self.started_words();
         while i > 0 {
             i -= 1;
-            let last = self.padded_word(i);
+            let last = self.started_word(i);
             if last != 0 {
                 return Some(64 * i + (63 - last.leading_zeros() as usize));
             }
@@ -178,16 +185,16 @@ impl<'a> BitChunks<'a> {
 
     /// How many words are started: the whole ones, and one more where there is a remainder.
     #[inline]
-    pub fn padded_len(&self) -> usize
+    pub fn started_words(&self) -> usize
         ensures words { result ≡ started_words (length self.now) }
         ensures fits { length self.now < 2 ^ 64 }
     {
-        self.len.div_ceil(64)
+        started_words(self.values_len())
     }
 
     /// Started word `i`, with zeros past the last value.
     #[inline]
-    pub fn padded_word(&self, i: usize) -> u64
+    pub fn started_word(&self, i: usize) -> u64
         requires { i < started_words (length self.now) }
         ensures { word_bits result ≡ padded_part self.now i }
     {
@@ -318,10 +325,10 @@ impl Iterator for PaddedWords<'_> {
     ghost remaining = { item_count (λ s. s) };
 
     fn next(&mut self) -> Option<u64> {
-        if self.next == self.chunks.padded_len() {
+        if self.next == self.chunks.started_words() {
             return None;
         }
-        let word = self.chunks.padded_word(self.next);
+        let word = self.chunks.started_word(self.next);
         self.next += 1;
         Some(word)
     }
@@ -339,6 +346,6 @@ impl Iterator for PaddedWords<'_> {
 
 impl ExactSizeIterator for PaddedWords<'_> {
     fn len(&self) -> usize {
-        self.chunks.padded_len() - self.next
+        self.chunks.started_words() - self.next
     }
 }

@@ -9,7 +9,7 @@ ghost use Rattle.mask_bits.specs.Lists.{combined};
 ghost use Rattle.mask_bits.specs.Positions.{count, repeated};
 
 use crate::combine::{BitOp, Xor};
-use crate::read_word::{Covered, Neighbors, ReadWord, Whole};
+use crate::read_word::{Bits, Covered, Neighbors, ReadWord, Whole};
 use crate::words::word_at;
 
 /// Whether the `len` bits of `a` from bit `a_offset` on are those of `b` from bit `b_offset` on.
@@ -58,28 +58,26 @@ fn none_in_words<C: BitOp>(
     requires b_within { IsWithinBytes b.now b_offset (64 * words) }
     ensures { IsTrue result ↔ IsNoneTrue C.of_bits a.now a_offset b.now b_offset (64 * words) }
 {
-    let (a, a_low) = (&a[a_offset / 8..], (a_offset % 8) as u32);
-    let (b, b_low) = (&b[b_offset / 8..], (b_offset % 8) as u32);
-    if a_low == 0 && b_low == 0 {
-        return none_in_blocks::<C, Whole>(a, a_low, b, b_low, words);
+    let (a, b) = (Bits::new(a, a_offset), Bits::new(b, b_offset));
+    if a.low == 0 && b.low == 0 {
+        return none_in_blocks::<C, Whole>(a, b, words);
     }
-    none_in_shifted_words::<C>(a, a_low, b, b_low, words)
+    none_in_shifted_words::<C>(a, b, words)
 }
 
 // Whether none is true that `C` makes of whole words that do not both begin at a whole byte. Never
 // inlined, so that the quicker case stays small.
 #[inline(never)]
-fn none_in_shifted_words<C: BitOp>(a: &[u8], a_low: u32, b: &[u8], b_low: u32, words: usize) -> bool
-    requires a_within { IsWithinBytes a.now a_low (64 * words) }
-    requires b_within { IsWithinBytes b.now b_low (64 * words) }
-    requires few_a { a_low < 8 }
-    requires few_b { b_low < 8 }
-    ensures { IsTrue result ↔ IsNoneTrue C.of_bits a.now a_low b.now b_low (64 * words) }
+fn none_in_shifted_words<C: BitOp>(a: Bits<'_>, b: Bits<'_>, words: usize) -> bool
+    requires a_within { IsWithinBytes a.bytes.now a.low (64 * words) }
+    requires b_within { IsWithinBytes b.bytes.now b.low (64 * words) }
+    requires few_a { a.low < 8 }
+    requires few_b { b.low < 8 }
+    ensures { IsTrue result
+        ↔ IsNoneTrue C.of_bits a.entry.bytes.now a.entry.low b.entry.bytes.now b.entry.low (64 * words) }
 {
-    // words beside which another one lies in both, up to the last
-    let inner = (a.len().min(b.len()) / 8).saturating_sub(1).min(words);
-    none_in_blocks::<C, Neighbors>(a, a_low, b, b_low, inner)
-        && none_in_block::<C, Covered>(a, a_low, b, b_low, inner, words)
+    let inner = a.neighbors().min(b.neighbors()).min(words);
+    none_in_blocks::<C, Neighbors>(a, b, inner) && none_in_block::<C, Covered>(a, b, inner, words)
 }
 
 // How many words are looked at before an early return.
@@ -87,48 +85,37 @@ const BLOCK: usize = 32;
 
 // Whether none is true that `C` makes of the first words.
 #[inline]
-fn none_in_blocks<C: BitOp, R: ReadWord>(
-    a: &[u8],
-    a_low: u32,
-    b: &[u8],
-    b_low: u32,
-    words: usize,
-) -> bool
-    requires reads_a { (i : ℕ) → i < words → R.can_read a.now a_low i }
-    requires reads_b { (i : ℕ) → i < words → R.can_read b.now b_low i }
+fn none_in_blocks<C: BitOp, R: ReadWord>(a: Bits<'_>, b: Bits<'_>, words: usize) -> bool
+    requires reads_a { (i : ℕ) → i < words → R.can_read a.bytes.now a.low i }
+    requires reads_b { (i : ℕ) → i < words → R.can_read b.bytes.now b.low i }
     requires fits { 64 * words < 2 ^ 64 }
-    ensures { IsTrue result ↔ IsNoneTrue C.of_bits a.now a_low b.now b_low (64 * words) }
+    ensures { IsTrue result
+        ↔ IsNoneTrue C.of_bits a.entry.bytes.now a.entry.low b.entry.bytes.now b.entry.low (64 * words) }
 {
     let blocks = words / BLOCK;
     // whole blocks, so that each is a few vectors and no loop
     for k in 0..blocks {
-        if !none_in_block::<C, R>(a, a_low, b, b_low, BLOCK * k, BLOCK * k + BLOCK) {
+        if !none_in_block::<C, R>(a, b, BLOCK * k, BLOCK * k + BLOCK) {
             return false;
         }
     }
-    none_in_block::<C, R>(a, a_low, b, b_low, BLOCK * blocks, words)
+    none_in_block::<C, R>(a, b, BLOCK * blocks, words)
 }
 
 // Whether there is none up to word `to`, where there is none before word `from`. With no early return, so
 // that several words are looked at at once: the true values of all are gathered, and tested at the end.
 #[inline]
-fn none_in_block<C: BitOp, R: ReadWord>(
-    a: &[u8],
-    a_low: u32,
-    b: &[u8],
-    b_low: u32,
-    from: usize,
-    to: usize,
-) -> bool
-    requires reads_a { (i : ℕ) → i < to → R.can_read a.now a_low i }
-    requires reads_b { (i : ℕ) → i < to → R.can_read b.now b_low i }
+fn none_in_block<C: BitOp, R: ReadWord>(a: Bits<'_>, b: Bits<'_>, from: usize, to: usize) -> bool
+    requires reads_a { (i : ℕ) → i < to → R.can_read a.bytes.now a.low i }
+    requires reads_b { (i : ℕ) → i < to → R.can_read b.bytes.now b.low i }
     requires ordered { from ≤ to }
-    requires before { IsNoneTrue C.of_bits a.now a_low b.now b_low (64 * from) }
-    ensures { IsTrue result ↔ IsNoneTrue C.of_bits a.now a_low b.now b_low (64 * to) }
+    requires before { IsNoneTrue C.of_bits a.bytes.now a.low b.bytes.now b.low (64 * from) }
+    ensures { IsTrue result
+        ↔ IsNoneTrue C.of_bits a.entry.bytes.now a.entry.low b.entry.bytes.now b.entry.low (64 * to) }
 {
     let mut found = 0;
     for i in from..to {
-        found |= C::of(R::word(a, a_low, i), R::word(b, b_low, i));
+        found |= C::of(R::word(a, i), R::word(b, i));
     }
     found == 0
 }
@@ -176,40 +163,38 @@ fn count_in_words<C: BitOp>(
         (bitmap a.now a_offset (64 * words))
         (bitmap b.now b_offset (64 * words))) }
 {
-    let (a, a_low) = (&a[a_offset / 8..], (a_offset % 8) as u32);
-    let (b, b_low) = (&b[b_offset / 8..], (b_offset % 8) as u32);
-    if a_low == 0 && b_low == 0 {
-        return count_on::<C, Whole>(a, a_low, b, b_low, 0, words, 0);
+    let (a, b) = (Bits::new(a, a_offset), Bits::new(b, b_offset));
+    if a.low == 0 && b.low == 0 {
+        return count_on::<C, Whole>(a, b, 0, words, 0);
     }
-    // words beside which another one lies in both, up to the last
-    let inner = (a.len().min(b.len()) / 8).saturating_sub(1).min(words);
-    let first = count_on::<C, Neighbors>(a, a_low, b, b_low, 0, inner, 0);
-    count_on::<C, Covered>(a, a_low, b, b_low, inner, words, first)
+    let inner = a.neighbors().min(b.neighbors()).min(words);
+    let first = count_on::<C, Neighbors>(a, b, 0, inner, 0);
+    count_on::<C, Covered>(a, b, inner, words, first)
 }
 
 // How many are true up to word `to`, where `before` are before word `from`.
 #[inline]
 fn count_on<C: BitOp, R: ReadWord>(
-    a: &[u8],
-    a_low: u32,
-    b: &[u8],
-    b_low: u32,
+    a: Bits<'_>,
+    b: Bits<'_>,
     from: usize,
     to: usize,
     before: usize,
 ) -> usize
-    requires reads_a { (i : ℕ) → i < to → R.can_read a.now a_low i }
-    requires reads_b { (i : ℕ) → i < to → R.can_read b.now b_low i }
+    requires reads_a { (i : ℕ) → i < to → R.can_read a.bytes.now a.low i }
+    requires reads_b { (i : ℕ) → i < to → R.can_read b.bytes.now b.low i }
     requires ordered { from ≤ to }
     requires fits { 64 * to < 2 ^ 64 }
-    requires counted { before
-        ≡ count (combined C.of_bits (bitmap a.now a_low (64 * from)) (bitmap b.now b_low (64 * from))) }
-    ensures { result
-        ≡ count (combined C.of_bits (bitmap a.now a_low (64 * to)) (bitmap b.now b_low (64 * to))) }
+    requires counted { before ≡ count (combined C.of_bits
+        (bitmap a.bytes.now a.low (64 * from))
+        (bitmap b.bytes.now b.low (64 * from))) }
+    ensures { result ≡ count (combined C.of_bits
+        (bitmap a.entry.bytes.now a.entry.low (64 * to))
+        (bitmap b.entry.bytes.now b.entry.low (64 * to))) }
 {
     let mut count = before;
     for i in from..to {
-        count += C::of(R::word(a, a_low, i), R::word(b, b_low, i)).count_ones() as usize;
+        count += C::of(R::word(a, i), R::word(b, i)).count_ones() as usize;
     }
     count
 }

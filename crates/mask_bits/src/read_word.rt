@@ -2,21 +2,51 @@
 //!
 //! A loop that is generic over the way compiles to one that tests nothing per word.
 
-ghost use Rattle.std.specs.Prelude.{◌≡◌, ◌+◌, ◌*◌};
+ghost use Rattle.std.specs.Prelude.{◌≡◌, ◌≤◌, ◌+◌, ◌-◌, ◌*◌, ◌/◌, ◌%◌, length, drop};
 ghost use Rattle.mask_bits.specs.Combine.{IsWholeWord, IsInTwoWords, IsCovered, HasPlace};
 ghost use Rattle.mask_bits.specs.Words.{window, word_bits};
 
 use crate::words::{funnel_shift, word_at, word_of};
 
-/// Reads 64 bits from bit `low` of the first byte on, `i` words further.
+/// A list that begins at bit `low` of the first of these bytes.
+#[derive(Clone, Copy)]
+pub(crate) struct Bits<'a> {
+    pub(crate) bytes: &'a [u8],
+    pub(crate) low: u32,
+}
+
+impl<'a> Bits<'a> {
+    // The list that begins at bit `offset` of these bytes.
+    #[inline]
+    pub(crate) fn new(bytes: &'a [u8], offset: usize) -> Bits<'a>
+        requires { offset / 8 ≤ length bytes.now }
+        ensures bytes { result.bytes.now ≡ drop (offset / 8) bytes.now }
+        ensures low { result.low ≡ offset % 8 }
+    {
+        Bits {
+            bytes: &bytes[offset / 8..],
+            low: (offset % 8) as u32,
+        }
+    }
+
+    // How many of the whole words have another one beside them.
+    #[inline]
+    pub(crate) fn neighbors(self) -> usize
+        ensures { result ≡ length self.entry.bytes.now / 8 - 1 }
+    {
+        (self.bytes.len() / 8).saturating_sub(1)
+    }
+}
+
+/// Reads the 64 bits of word `i` of a list.
 pub(crate) trait ReadWord {
     ghost use Rattle.std.specs.Prelude.{ℕ, List};
 
     ghost can_read: { List ℕ → ℕ → ℕ → Type 0 };
 
-    fn word(bytes: &[u8], low: u32, i: usize) -> u64
-        requires { can_read bytes.now low i }
-        ensures { word_bits result ≡ window bytes.now (low + 64 * i) };
+    fn word(bits: Bits<'_>, i: usize) -> u64
+        requires { can_read bits.bytes.now bits.low i }
+        ensures { word_bits result ≡ window bits.entry.bytes.now (bits.entry.low + 64 * i) };
 }
 
 /// Words that are whole in the bytes.
@@ -39,8 +69,8 @@ impl ReadWord for Whole {
     ghost can_read = { IsWholeWord };
 
     #[inline]
-    fn word(bytes: &[u8], _low: u32, i: usize) -> u64 {
-        word_of(bytes, i)
+    fn word(bits: Bits<'_>, i: usize) -> u64 {
+        word_of(bits.bytes, i)
     }
 }
 
@@ -48,8 +78,8 @@ impl ReadWord for Neighbors {
     ghost can_read = { IsInTwoWords };
 
     #[inline]
-    fn word(bytes: &[u8], low: u32, i: usize) -> u64 {
-        funnel_shift(word_of(bytes, i), word_of(bytes, i + 1), low)
+    fn word(bits: Bits<'_>, i: usize) -> u64 {
+        funnel_shift(word_of(bits.bytes, i), word_of(bits.bytes, i + 1), bits.low)
     }
 }
 
@@ -59,12 +89,12 @@ impl ReadWord for Covered {
     // tests nothing that a loop over words has to test again, and reads past no end, so that such a
     // loop needs no slower way for its last words
     #[inline]
-    fn word(bytes: &[u8], low: u32, i: usize) -> u64 {
-        let word = word_of(bytes, i);
-        if low == 0 {
+    fn word(bits: Bits<'_>, i: usize) -> u64 {
+        let word = word_of(bits.bytes, i);
+        if bits.low == 0 {
             word
         } else {
-            funnel_shift(word, bytes[8 * i + 8] as u64, low)
+            funnel_shift(word, bits.bytes[8 * i + 8] as u64, bits.low)
         }
     }
 }
@@ -73,7 +103,7 @@ impl ReadWord for Anywhere {
     ghost can_read = { HasPlace };
 
     #[inline]
-    fn word(bytes: &[u8], low: u32, i: usize) -> u64 {
-        word_at(bytes, low as usize + 64 * i)
+    fn word(bits: Bits<'_>, i: usize) -> u64 {
+        word_at(bits.bytes, bits.low as usize + 64 * i)
     }
 }

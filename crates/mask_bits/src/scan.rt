@@ -13,10 +13,10 @@ pub(crate) fn first_word(chunks: &BitChunks<'_>) -> u64
     ensures is_left { IsLeft chunks.now 0 result }
     ensures fits { length chunks.now < 2 ^ 64 }
 {
-    if chunks.padded_len() == 0 {
+    if chunks.started_words() == 0 {
         0
     } else {
-        chunks.padded_word(0)
+        chunks.started_word(0)
     }
 }
 
@@ -32,11 +32,11 @@ pub(crate) fn next_word(chunks: &BitChunks<'_>, at: usize, word: u64) -> Option<
     let mut at = at;
     let mut word = word;
     while word == 0 {
-        if chunks.padded_len() <= at + 1 {
+        if chunks.started_words() <= at + 1 {
             return None;
         }
         at += 1;
-        word = chunks.padded_word(at);
+        word = chunks.started_word(at);
     }
     Some((at, word))
 }

@@ -71,10 +71,9 @@ impl<'a> Model for SetIndices<'a> {
 }
 
 impl<'a> SetIndices<'a> {
-    pub(crate) fn new(buffer: &'a BitBuffer) -> SetIndices<'a>
-        ensures { result ≡ positions (values buffer.now) }
+    pub(crate) fn new(chunks: BitChunks<'a>) -> SetIndices<'a>
+        ensures { result ≡ positions chunks.entry }
     {
-        let chunks = buffer.chunks();
         let word = first_word(&chunks);
         SetIndices {
             chunks,

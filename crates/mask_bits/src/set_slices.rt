@@ -2,11 +2,9 @@
 
 ghost use Rattle.std.specs.Iterator.{YieldsFirst, item_count};
 ghost use Rattle.std.specs.Prelude.{◌≡◌, ◌*◌, ◌+◌, ◌-◌, ◌≤◌, ◌<◌, ◌^◌, ℕ, length, Some};
-ghost use Rattle.mask_bits.specs.Buffer.{values};
 ghost use Rattle.mask_bits.specs.Runs.{AreRuns};
 ghost use Rattle.mask_bits.specs.Walk.{left_of, IsLeft, PassesTrue};
 
-use crate::buffer::BitBuffer;
 use crate::chunks::BitChunks;
 use crate::scan::{first_word, next_word};
 use std::marker::Model;
@@ -33,10 +31,9 @@ impl<'a> Model for SetSlices<'a> {
 }
 
 impl<'a> SetSlices<'a> {
-    pub(crate) fn new(buffer: &'a BitBuffer) -> SetSlices<'a>
-        ensures { AreRuns (values buffer.now) result }
+    pub(crate) fn new(chunks: BitChunks<'a>) -> SetSlices<'a>
+        ensures { AreRuns chunks.entry result }
     {
-        let chunks = buffer.chunks();
         let word = first_word(&chunks);
         SetSlices {
             chunks,
@@ -74,9 +71,9 @@ fn past_full_words(chunks: &BitChunks<'_>, at: usize, word: u64) -> (usize, u64)
 {
     let mut at = at;
     let mut word = word;
-    while word == u64::MAX && chunks.padded_len() > at + 1 {
+    while word == u64::MAX && chunks.started_words() > at + 1 {
         at += 1;
-        word = chunks.padded_word(at);
+        word = chunks.started_word(at);
     }
     (at, word)
 }

@@ -4,8 +4,16 @@ ghost use Rattle.std.specs.Prelude.{◌≡◌, ◌+◌, ◌*◌, ◌<◌, ◌≤
 ghost use Rattle.std.specs.Prelude.{◌⊎◌, ◌++◌, ◌-◌, false, slice_range};
 ghost use Rattle.mask_bits.specs.Buffer.{backing_bit};
 ghost use Rattle.mask_bits.specs.Number.{number};
-ghost use Rattle.mask_bits.specs.Words.{window, word_bits};
+ghost use Rattle.mask_bits.specs.Words.{window, word_bits, started_words};
 ghost use Rattle.mask_bits.specs.Positions.{repeated};
+
+/// How many words of 64 bits `len` bits start.
+#[inline]
+pub fn started_words(len: usize) -> usize
+    ensures { result ≡ started_words len }
+{
+    len.div_ceil(64)
+}
 
 /// Word `i` of the whole words of `bytes`: bits `64 * i` to `64 * i + 63`, the first lowest.
 #[inline]

@@ -1,11 +1,11 @@
 //! The rows at the true values of a bitmap, by the size of a row.
 
-ghost use Rattle.std.specs.Prelude.{◌≡◌, ◌≢◌, ◌+◌, ◌*◌, ◌<◌, ◌≤◌, ◌++◌, All, length, slice_get, take};
+ghost use Rattle.std.specs.Prelude.{◌≡◌, ◌+◌, ◌<◌, ◌≤◌, ◌++◌, All, length, slice_get, take};
 ghost use Rattle.std.specs.List.{filter_map};
 ghost use Rattle.mask_bits.specs.Bitmap.{bitmap};
-ghost use Rattle.mask_bits.specs.Buffer.{IsWithinBytes};
-ghost use Rattle.mask_bits.specs.Positions.{chosen, count, positions};
+ghost use Rattle.mask_bits.specs.Positions.{count, positions};
 ghost use Rattle.mask_bits.specs.Words.{word_bits};
+ghost use Rattle.mask_c.specs.Bitmap.{AreChosen, CanChoose};
 
 use mask_bits::BitChunks;
 
@@ -29,11 +29,8 @@ pub extern "C" fn row_mask_choose_1(
     rows: &[u8],
     out: &mut [u8],
 ) -> usize
-    requires bitmap { IsWithinBytes bytes.now offset len }
-    requires rows { length rows.now ≡ len }
-    requires room { count (bitmap bytes.now offset len) ≤ length out.old }
-    ensures rows { take result out.new ≡ chosen rows.now (bitmap bytes.now offset len) }
-    ensures count { result ≡ count (bitmap bytes.now offset len) }
+    requires { CanChoose bytes.now offset len rows.now out.old }
+    ensures { AreChosen rows.now (bitmap bytes.now offset len) out.new result }
 {
     choose(bytes, offset, len, rows, out)
 }
@@ -50,11 +47,8 @@ pub extern "C" fn row_mask_choose_2(
     rows: &[u16],
     out: &mut [u16],
 ) -> usize
-    requires bitmap { IsWithinBytes bytes.now offset len }
-    requires rows { length rows.now ≡ len }
-    requires room { count (bitmap bytes.now offset len) ≤ length out.old }
-    ensures rows { take result out.new ≡ chosen rows.now (bitmap bytes.now offset len) }
-    ensures count { result ≡ count (bitmap bytes.now offset len) }
+    requires { CanChoose bytes.now offset len rows.now out.old }
+    ensures { AreChosen rows.now (bitmap bytes.now offset len) out.new result }
 {
     choose(bytes, offset, len, rows, out)
 }
@@ -71,11 +65,8 @@ pub extern "C" fn row_mask_choose_4(
     rows: &[u32],
     out: &mut [u32],
 ) -> usize
-    requires bitmap { IsWithinBytes bytes.now offset len }
-    requires rows { length rows.now ≡ len }
-    requires room { count (bitmap bytes.now offset len) ≤ length out.old }
-    ensures rows { take result out.new ≡ chosen rows.now (bitmap bytes.now offset len) }
-    ensures count { result ≡ count (bitmap bytes.now offset len) }
+    requires { CanChoose bytes.now offset len rows.now out.old }
+    ensures { AreChosen rows.now (bitmap bytes.now offset len) out.new result }
 {
     choose(bytes, offset, len, rows, out)
 }
@@ -92,11 +83,8 @@ pub extern "C" fn row_mask_choose_8(
     rows: &[u64],
     out: &mut [u64],
 ) -> usize
-    requires bitmap { IsWithinBytes bytes.now offset len }
-    requires rows { length rows.now ≡ len }
-    requires room { count (bitmap bytes.now offset len) ≤ length out.old }
-    ensures rows { take result out.new ≡ chosen rows.now (bitmap bytes.now offset len) }
-    ensures count { result ≡ count (bitmap bytes.now offset len) }
+    requires { CanChoose bytes.now offset len rows.now out.old }
+    ensures { AreChosen rows.now (bitmap bytes.now offset len) out.new result }
 {
     choose(bytes, offset, len, rows, out)
 }
@@ -113,11 +101,8 @@ pub extern "C" fn row_mask_choose_16(
     rows: &[RowMask16],
     out: &mut [RowMask16],
 ) -> usize
-    requires bitmap { IsWithinBytes bytes.now offset len }
-    requires rows { length rows.now ≡ len }
-    requires room { count (bitmap bytes.now offset len) ≤ length out.old }
-    ensures rows { take result out.new ≡ chosen rows.now (bitmap bytes.now offset len) }
-    ensures count { result ≡ count (bitmap bytes.now offset len) }
+    requires { CanChoose bytes.now offset len rows.now out.old }
+    ensures { AreChosen rows.now (bitmap bytes.now offset len) out.new result }
 {
     choose(bytes, offset, len, rows, out)
 }
@@ -125,20 +110,17 @@ pub extern "C" fn row_mask_choose_16(
 // The rows at the true values, word by word.
 #[inline]
 fn choose<T: Copy>(bytes: &[u8], offset: usize, len: usize, rows: &[T], out: &mut [T]) -> usize
-    requires bitmap { IsWithinBytes bytes.now offset len }
-    requires rows { length rows.now ≡ len }
-    requires room { count (bitmap bytes.now offset len) ≤ length out.old }
-    ensures rows { take result out.new ≡ chosen rows.now (bitmap bytes.now offset len) }
-    ensures count { result ≡ count (bitmap bytes.now offset len) }
+    requires { CanChoose bytes.now offset len rows.now out.old }
+    ensures { AreChosen rows.now (bitmap bytes.now offset len) out.new result }
 {
     let chunks = BitChunks::new(bytes, offset, len);
-    let (whole, started) = (chunks.len(), chunks.padded_len());
+    let (whole, started) = (chunks.len(), chunks.started_words());
     let mut at = 0;
     for i in 0..whole {
         at = choose_by_word(chunks.word(i), &rows[64 * i..], out, at);
     }
     if whole < started {
-        at = choose_by_word(chunks.padded_word(whole), &rows[64 * whole..], out, at);
+        at = choose_by_word(chunks.started_word(whole), &rows[64 * whole..], out, at);
     }
     at
 }

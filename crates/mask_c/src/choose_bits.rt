@@ -39,10 +39,10 @@ pub extern "C" fn row_mask_choose_bits(
     let sources = BitChunks::new(values, values_offset, len);
     let mut at = 0;
     let mut begun = 0;
-    for i in 0..masks.padded_len() {
-        let mask = masks.padded_word(i);
+    for i in 0..masks.started_words() {
+        let mask = masks.started_word(i);
         if mask != 0 {
-            let word = extract(sources.padded_word(i), mask);
+            let word = extract(sources.started_word(i), mask);
             let ones = mask.count_ones() as usize;
             begun = put_behind(out, at, begun, word, ones);
             at += ones;

@@ -81,8 +81,8 @@ fn indices_of_words(
 {
     let chunks = BitChunks::new(bytes, offset + from, len - from);
     let mut at = 0;
-    for i in 0..chunks.padded_len() {
-        at = indices_of_word(chunks.padded_word(i), from + 64 * i, out, at);
+    for i in 0..chunks.started_words() {
+        at = indices_of_word(chunks.started_word(i), from + 64 * i, out, at);
         if at == out.len() {
             return at;
         }
@@ -123,5 +123,5 @@ pub(crate) fn indices_in_word(chunks: &BitChunks, i: usize, block: &mut [usize; 
     ensures indices { positions (take (64 * (i + 1)) chunks.now)
         ≡ positions (take (64 * i) chunks.now) ++ take result block.new }
 {
-    indices_of_word(chunks.padded_word(i), 64 * i, block, 0)
+    indices_of_word(chunks.started_word(i), 64 * i, block, 0)
 }

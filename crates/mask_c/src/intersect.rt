@@ -7,7 +7,7 @@ ghost use Rattle.std.specs.List.Sorted.{IsStrictlyIncreasing};
 ghost use Rattle.mask_bits.specs.Bitmap.{bitmap};
 ghost use Rattle.mask_bits.specs.Buffer.{IsWithinBytes, values};
 ghost use Rattle.mask_bits.specs.Positions.{at_indices, count, count_below, positions, rank_intersection, true_at};
-ghost use Rattle.mask_bits.specs.Words.{padded_part, word_bits};
+ghost use Rattle.mask_bits.specs.Words.{padded_part, started_words, word_bits};
 ghost use Rattle.mask_c.specs.Bitmap.{AreClearBehind};
 ghost use Rattle.vortex_mask.specs.Ranks.{AreSplit};
 
@@ -107,7 +107,7 @@ fn narrow_whole(
     requires ranks { IsWithinBytes ranks.now ranks_offset ranks_len }
     requires fitting { ranks_len ≡ count (bitmap bytes.now offset len) }
     requires whole { len % 64 ≡ 0 }
-    requires room { length out.old ≡ 8 * div_ceil len 64 }
+    requires room { length out.old ≡ 8 * started_words len }
     ensures { bitmap out.new 0 len
         ≡ rank_intersection (bitmap bytes.now offset len) (bitmap ranks.now ranks_offset ranks_len) }
 {
@@ -132,7 +132,7 @@ fn narrow_few(
     requires ranks { IsWithinBytes ranks.now ranks_offset ranks_len }
     requires fitting { ranks_len ≡ count (bitmap bytes.now offset len) }
     requires whole { len % 64 ≡ 0 }
-    requires room { length out.old ≡ 8 * div_ceil len 64 }
+    requires room { length out.old ≡ 8 * started_words len }
     ensures { bitmap out.new 0 len
         ≡ rank_intersection (bitmap bytes.now offset len) (bitmap ranks.now ranks_offset ranks_len) }
 {
@@ -177,17 +177,14 @@ fn narrow_words<D: DepositBits>(
     requires bitmap { IsWithinBytes bytes.now offset len }
     requires ranks { IsWithinBytes ranks.now ranks_offset ranks_len }
     requires fitting { ranks_len ≡ count (bitmap bytes.now offset len) }
-    requires room { length out.old ≡ 8 * div_ceil len 64 }
+    requires room { length out.old ≡ 8 * started_words len }
     ensures { bitmap out.new 0 len
         ≡ rank_intersection (bitmap bytes.now offset len) (bitmap ranks.now ranks_offset ranks_len) }
 {
     laws::length_of_values();
     let chunks = BitChunks::new(bytes, offset, len);
-    let _ = narrow_by_bits::<D>(
-        &chunks,
-        &RankBits::over(ranks, ranks_offset, ranks_len),
-        out,
-    );
+    let bits = RankBits::over(ranks, ranks_offset, ranks_len);
+    narrow_by_bits::<D>(&chunks, &bits, out);
 }
 
 /// Writes the bitmap in which just those true values stay true whose numbers are `ranks`.
@@ -270,12 +267,12 @@ fn narrow_words_at<D: DepositBits>(
     requires bitmap { IsWithinBytes bytes.now offset len }
     requires ascending { IsStrictlyIncreasing ranks.now }
     requires within { All (λ k. k < count (bitmap bytes.now offset len)) ranks.now }
-    requires room { length out.old ≡ 8 * div_ceil len 64 }
+    requires room { length out.old ≡ 8 * started_words len }
     ensures { bitmap out.new 0 len
         ≡ true_at len (at_indices (positions (bitmap bytes.now offset len)) ranks.now) }
 {
     laws::length_of_values();
-    let _ = narrow_at_ranks::<D>(&BitChunks::new(bytes, offset, len), ranks, out);
+    narrow_at_ranks::<D>(&BitChunks::new(bytes, offset, len), ranks, out);
 }
 
 // How many ranks are below `from`, and the others as set bits, that of `from` lowest.

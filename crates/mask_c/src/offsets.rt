@@ -273,7 +273,7 @@ fn choose_offsets<O: Offset>(
     let chunks = BitChunks::new(bytes, offset, len);
     let mut block = [0; 64];
     let (mut end, mut at) = (0, 1);
-    for i in 0..chunks.padded_len() {
+    for i in 0..chunks.started_words() {
         let some = indices_in_word(&chunks, i, &mut block);
         end = put_ends(&block[..some], offsets, end, out, at);
         at += some;

@@ -147,7 +147,7 @@ fn choose_strings<O: Offset>(
     let chunks = BitChunks::new(bytes, offset, len);
     let mut block = [0; 64];
     let mut at = 0;
-    for i in 0..chunks.padded_len() {
+    for i in 0..chunks.started_words() {
         let some = indices_in_word(&chunks, i, &mut block);
         at = put_strings(&block[..some], offsets, string_bytes, out, at);
     }

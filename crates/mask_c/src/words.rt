@@ -30,9 +30,9 @@ pub extern "C" fn row_mask_words(
     for i in 0..whole {
         out[i] = chunks.word(from + i);
     }
-    if whole == out.len() || from + whole >= chunks.padded_len() {
+    if whole == out.len() || from + whole >= chunks.started_words() {
         return whole;
     }
-    out[whole] = chunks.padded_word(from + whole);
+    out[whole] = chunks.started_word(from + whole);
     whole + 1
 }

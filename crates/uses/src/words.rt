@@ -71,7 +71,7 @@ pub fn word_left(first: &BitBuffer, second: &BitBuffer, i: usize, before: usize)
 {
     vortex_mask::laws::deposits_by_words();
     laws::length_of_values();
-    let mask = first.chunks().padded_word(i);
+    let mask = first.chunks().started_word(i);
     let (bytes, _) = (second.inner(), second.len());
     let source = word_at(bytes, second.offset() + before);
     Portable::deposit_bits(source, mask, ones(mask))

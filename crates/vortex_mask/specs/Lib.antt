@@ -1,5 +1,4 @@
 pub mod AllOr
-pub mod Ascending
 pub mod Bitops
 pub mod Bytes
 pub mod Caches
@@ -12,7 +11,6 @@ pub mod Laws
 pub mod Lend
 pub mod Mask
 pub mod MaskValues
-pub mod Narrowed
 pub mod Path
 pub mod Ranges
 pub mod RankBits

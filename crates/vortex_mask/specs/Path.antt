@@ -1,10 +1,10 @@
--- By which kernel two masks of mixed values are narrowed, what the result caches, and the steps that are taken.
+-- By which kernel two masks of mixed values are narrowed, how the result is held, what it caches, and the steps that are taken.
 use Rattle.std.specs.Prelude.{ℕ, ◌≡◌, ◌≤◌, ◌*◌, Bool, true, false, ◌&&◌, List, length, nat_lt, is_some, if◌then◌else◌}
 use Rattle.mask_bits.specs.Buffer.{values}
-use Rattle.mask_bits.specs.Positions.{positions, count}
+use Rattle.mask_bits.specs.Positions.{positions, count, rank_intersection}
 use Rattle.mask_bits.specs.Words.{started_words}
 use Rattle.vortex_mask.specs.Caches.{caches, where_mixed}
-use Rattle.vortex_mask.specs.Mask.{truth}
+use Rattle.vortex_mask.specs.Mask.{truth, variant, fitting_variant, all_false}
 use Rattle.vortex_mask.specs.MaskValues.{Contents, Caches, no_caches, only_indices}
 use Rattle.vortex_mask.specs.Steps.{StepCounts, no_steps, word_steps, driven_steps}
 use Rattle.vortex_mask.specs.declared.intersect_by_rank.path.RankPath.{RankPath}
@@ -62,3 +62,10 @@ AreNarrowingSteps (Values v) (AllTrue n) m s = s ≡ no_steps
 AreNarrowingSteps (Values v) (AllFalse n) m s = s ≡ no_steps
 AreNarrowingSteps (AllTrue n) b m s = s ≡ no_steps
 AreNarrowingSteps (AllFalse n) b m s = s ≡ no_steps
+
+-- m is v narrowed by w on a path: their rank intersection as it is held where some list is not empty, with what the path caches, by its steps s
+pub record IsNarrowedOn (path : RankPath) (v w : Contents) (m : Mask) (s : StepCounts) : Type 0 where
+  pub list : truth m ≡ rank_intersection (values v.buffer) (values w.buffer)
+  pub variant : variant m ≡ fitting_variant all_false (truth m)
+  pub caches : caches m ≡ where_mixed m (path_caches path (truth m))
+  pub steps : AreStepsOf path (values v.buffer) (values w.buffer) (truth m) s

@@ -9,6 +9,10 @@ use Rattle.mask_bits.specs.Words.{word_bits, padded_part, started_words}
 abbrev pub AreRanks : {S : Type 0} {steps : S → Option ℕ → S → Type 0} → ℕ → ℕ → Run steps → Type 0
 AreRanks top n p = IsStrictlyIncreasing p.items × All (λ k. k < top) p.items × (p.whole ≡ true → p.len ≡ n)
 
+-- where a run of calls went on to the end, each number that it gave is above the one before it
+abbrev pub IsAscending : {S : Type 0} {steps : S → Option ℕ → S → Type 0} → Run steps → Type 0
+IsAscending p = p.whole ≡ true → IsStrictlyIncreasing p.items
+
 -- the first n of these indices are those below `limit`
 pub record AreSplit (indices : List ℕ) (n limit : ℕ) : Type 0 where
   pub within : n ≤ length indices

@@ -24,8 +24,8 @@ pub use deposit::{
 pub use extract::ExtractBits;
 use kernels::narrow_by_path;
 pub use kernels::{
-    indices_at_ranks, intersect_bit_buffer_by_rank_indices, intersect_bit_buffers,
-    intersect_by_rank_indices, intersect_mask_driven, narrow_at_ranks, narrow_by_bits,
+    intersect_bit_buffer_by_rank_indices, intersect_bit_buffers, intersect_by_rank_indices,
+    intersect_mask_driven, narrow_at_ranks, narrow_by_bits,
 };
 pub use path::{RankPath, rank_path};
 pub use rank_bits::RankBits;
@@ -102,7 +102,7 @@ impl Mask {
             (Mask::Values(values), Mask::Values(ranks)) => {
                 // some values are true and some are not, as their count tells
                 let _ = values.true_count();
-                Ok(narrow_by_path(alloc, values, ranks)?)
+                narrow_by_path(alloc, values, ranks)
             }
         }
     }

@@ -6,16 +6,15 @@ ghost use Rattle.std.specs.List.Sorted.{IsStrictlyIncreasing};
 ghost use Rattle.mask_bits.specs.Buffer.{values};
 
 use super::alike::are_alike;
-use super::{Want, ended, say, say_name, try_call};
+use super::{Want, ended, say, try_call};
 use mask_bits::BitBuffer;
 use mask_calls::masks::two::path;
 use mask_calls::{Answer, Fault, Operand, Row};
 use std::alloc::{AllocError, Global};
 use std::process::Abort;
 use vortex_mask::intersect_by_rank::{
-    Portable, PortableLoop, RankPath, Steps, indices_at_ranks,
-    intersect_bit_buffer_by_rank_indices, intersect_bit_buffers, intersect_by_rank_indices,
-    intersect_mask_driven,
+    Portable, PortableLoop, RankPath, Steps, intersect_bit_buffer_by_rank_indices,
+    intersect_bit_buffers, intersect_by_rank_indices, intersect_mask_driven,
 };
 use vortex_mask::{Mask, MaskError};
 
@@ -227,45 +226,4 @@ fn by_rank_indices<R: Abort + Print + AllocGlobal>(
         }
         Err(_) => say(rt, "not prepared"),
     }
-}
-
-// ---- the list of a kernel's result
-
-#[test]
-fn indices_of_ranks(rt: HostRuntime) {
-    say_name(&rt, "indices_at_ranks");
-    match (
-        mask_of(rt.alloc(), "every:2:128"),
-        mask_of(rt.alloc(), "64:3,10,63"),
-    ) {
-        (Ok(a), Ok(b)) => match (a.values(), b.values()) {
-            (Some(a), Some(b)) => listed(&rt, a.bit_buffer(), b.bit_buffer()),
-            _ => panic!(&rt; "these values are mixed"),
-        },
-        _ => say(&rt, "not prepared"),
-    }
-}
-
-fn mask_of(alloc: Global, word: &str) -> Result<Mask, Fault> {
-    Ok(Operand::read(alloc, word)?.mask)
-}
-
-fn list_of<'a>(outcome: Result<(Vec<usize>, Steps), AllocError>) -> Result<Answer<'a>, Fault> {
-    match outcome {
-        Ok((indices, _)) => Ok(Answer::Numbers(indices)),
-        Err(_) => Err(Fault::Memory),
-    }
-}
-
-fn listed<R: Abort + Print + AllocGlobal>(rt: &R, rows: &BitBuffer, ranks: &BitBuffer) {
-    same(rt, ranks.len(), rows.true_count());
-    for _ in 0..2 {
-        say(rt, "calls");
-        let (numbers, count) = (ranks.set_indices(), ranks.true_count());
-        let made = indices_at_ranks::<Portable, _>(rt.alloc(), &rows.chunks(), numbers, count);
-        if ended(rt, list_of(made), Want::Text("6,20,126")) {
-            return;
-        }
-    }
-    panic!(rt; "refused once more");
 }

@@ -58,6 +58,13 @@ pub not-above-next : (xs : List ℕ) (x n : ℕ) → IsStrictlyIncreasing (xs ++
 not-above-next [] x n ascending h = omega (arith, h)
 not-above-next (y ∷ ys) x n ascending h = grind (arith, ascending (length ys), length-append, get_or_append_left (y ∷ ys) (x ∷ []) 0 (length ys), get_or-append_seam (y ∷ ys) x [] 0)
 
+-- the words read, the indices found for the ranks so far, and the steps
+pub record AreFound (m : List Bool) (ranks : List ℕ) (words word before : ℕ) (indices : List ℕ) (steps : StepCounts) : Type 0 where
+  pub read : HasRead m words word before
+  pub reached : before ≤ get_or ranks (length ranks - 1) 0
+  pub found : indices ≡ at_indices (positions m) ranks
+  pub counted : steps ≡ record { deposits = 0; words = words; selections = length ranks; offered = 0; placed = 0; spots = sum_by (λ p. p % 64) indices }
+
 module _ {S : Type 0} (steps : S → Option ℕ → S → Type 0) (s : S) (top n : ℕ) (ranks : EachRunFrom steps s (AreRanks top n)) (it : S) (same : it ≡ s) (xs : List ℕ) (t : S) (ran : Yields steps it xs t) where
   -- the ranks so far, and the next one
   pub ranks-at_turn : (x : ℕ) (u : S) → steps t (Some x) u → IsStrictlyIncreasing (xs ++ x ∷ []) × All (λ k. k < top) (xs ++ x ∷ [])
@@ -72,14 +79,14 @@ module _ {S : Type 0} (steps : S → Option ℕ → S → Type 0) (s : S) (top n
       let k = run_of_exit steps s xs t (subst (λ i. Yields steps i xs t) same ran) u step in
       ((k.0, k.1, k.2, k.3.0), sym k.3.1 ∙ (ranks k.0 k.0.seen k.1).2 k.2)
 
--- ---- the indices found
+  -- and their indices
+  pub found-all : (u : S) → steps t None u → (a m : List Bool) (words word before : ℕ) (indices : List ℕ) (counts : StepCounts) → AreFound a xs words word before indices counts → a ≡ m
+      → WholeRun steps s (λ p. indices ≡ at_indices (positions m) p.items)
+  found-all u step a m words word before indices counts found same_list =
+      let run = (ranks-at_exit u step).0 in
+      (run.0, run.1, run.2, found.found ∙ ap₂ (λ (b : List Bool) ks. at_indices (positions b) ks) same_list (sym run.3))
 
--- the words read, the indices found for the ranks so far, and the steps
-pub record AreFound (m : List Bool) (ranks : List ℕ) (words word before : ℕ) (indices : List ℕ) (steps : StepCounts) : Type 0 where
-  pub read : HasRead m words word before
-  pub reached : before ≤ get_or ranks (length ranks - 1) 0
-  pub found : indices ≡ at_indices (positions m) ranks
-  pub counted : steps ≡ record { deposits = 0; words = words; selections = length ranks; offered = 0; placed = 0; spots = sum_by (λ p. p % 64) indices }
+-- ---- the indices found
 
 pub found-more : (m : List Bool) (ranks : List ℕ) (x words word before more next passed : ℕ) (indices new : List ℕ) (p : ℕ) (steps ticked : StepCounts)
     → AreFound m ranks words word before indices steps → slice_get (positions m) x ≡ Some p → HasRead m more next passed → passed ≤ x

@@ -1,10 +1,10 @@
 -- Lists of one value, and the variants that lists may have.
 use Rattle.std.specs.Prelude.{◌↔◌}
-use Rattle.std.proofs.Common.{◌-◌, ◌≤◌, slice_range, All, ◌≡◌, ℕ, zero, suc, ◌<◌, Bool, true, false, List, [], ◌∷◌, length, refl, sym, ap, ◌∙◌, arith, Some}
+use Rattle.std.proofs.Common.{◌-◌, ◌≤◌, slice_range, All, ◌≡◌, ℕ, zero, suc, ◌<◌, Bool, true, false, List, [], ◌∷◌, length, refl, sym, ap, ◌∙◌, arith}
 use Rattle.std.specs.Cmp.{booleans_Decides}
 use Rattle.std.proofs.lemmas.Slice.Eq.{slice_eq-Decides}
 use Rattle.vortex_mask.specs.Mask.{variant_and, variant_or, Variant, all_true, all_false, mixed, fitting_variant, truth, same_truth}
-use Rattle.mask_bits.specs.Positions.{count, repeated, positions}
+use Rattle.mask_bits.specs.Positions.{count, repeated}
 use Rattle.vortex_mask.specs.declared.mask.Mask.TheVariants.{AllTrue, AllFalse}
 use Rattle.mask_bits.proofs.Lists.ChooseLemmas.{chosen-all_true, chosen-all_false, chosen_of_repeated}
 use Rattle.mask_bits.proofs.Lists.LawLemmas.{length-chosen, positions-rank_intersection, rank_intersection-none, length-rank_intersection}

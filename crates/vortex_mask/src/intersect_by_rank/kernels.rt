@@ -9,5 +9,5 @@ mod rank_indices;
 pub use bit_buffers::{intersect_bit_buffers, narrow_by_bits};
 pub(crate) use by_path::narrow_by_path;
 pub use indices::intersect_by_rank_indices;
-pub use mask_driven::{indices_at_ranks, intersect_mask_driven};
+pub use mask_driven::intersect_mask_driven;
 pub use rank_indices::{intersect_bit_buffer_by_rank_indices, narrow_at_ranks};

@@ -14,6 +14,7 @@ ghost use Rattle.mask_bits.specs.Positions.{count};
 ghost use Rattle.vortex_mask.specs.Path.{path_of};
 
 use crate::mask::MaskValues;
+use mask_bits::words::started_words;
 
 /// The four kernels of rank intersection.
 #[derive(Debug, Clone, Copy, PartialEq, Eq)]
@@ -47,7 +48,7 @@ pub fn rank_path(values: &MaskValues, ranks: &MaskValues) -> RankPath
 {
     let is_listed = ranks.cached_indices().is_some();
     // with both lists at hand, the entries to take are fewer than the words to read
-    let are_few = ranks.true_count() < values.len().div_ceil(64);
+    let are_few = ranks.true_count() < started_words(values.len());
     if is_listed && values.cached_indices().is_some() && are_few {
         return RankPath::Indices;
     }

@@ -12,7 +12,7 @@ ghost use Rattle.vortex_mask.specs.Caches.{caches, where_mixed};
 ghost use Rattle.vortex_mask.specs.Mask.{truth, variant, fitting_variant, all_false, all_true};
 ghost use Rattle.vortex_mask.specs.MaskValues.{only_indices, no_caches};
 ghost use Rattle.mask_bits.specs.Lists.{not_of};
-ghost use Rattle.vortex_mask.specs.Ascending.{IsAscending};
+ghost use Rattle.vortex_mask.specs.Ranks.{IsAscending};
 
 use crate::mask::{Mask, MaskError};
 use mask_bits::BitBufferMut;

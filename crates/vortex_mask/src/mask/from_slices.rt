@@ -20,7 +20,7 @@ impl Mask {
     /// some are not it caches its runs: ranges that touch are merged, in the memory that
     /// came with them. No values give `AllFalse(0)`.
     ///
-    /// All ranges are tested before any memory is taken: `BadRange` is told of the first that is
+    /// All ranges are tested before any memory is taken: `BadRange` is reported of the first that is
     /// empty or passes the length, else `UnsortedRanges` or `OverlappingRanges` of the first that
     /// does not start after the start of the one before it, or starts below its end.
     pub fn from_slices(
@@ -34,7 +34,7 @@ impl Mask {
         ensures caches { IfOk result
             (λ m. caches m ≡ where_mixed m (only_ranges (runs (truth m)))) }
 
-        // A fault is told before any memory is taken, and after that being out of memory alone.
+        // A fault is reported before any memory is taken, and after that being out of memory alone.
         ensures faultless { OnOk result (range_fault len ranges.items ≡ None) }
         ensures fault { IfSome (range_fault len ranges.items) (λ e. result ≡ Err e) }
         ensures refused { IfErr result (λ e. (e ≡ MaskError.Memory alloc_error)

@@ -338,7 +338,7 @@ impl MaskValues {
         self.buffer.indices(alloc, self.true_count)
     }
 
-    // The maximal ranges of true indices.
+    // The runs of true indices.
     fn runs(&self, alloc: Global) -> Result<Vec<(usize, usize)>, AllocError>
         ensures { IfOk result (λ ranges. ranges.items ≡ runs (values self.now.buffer)) }
     {

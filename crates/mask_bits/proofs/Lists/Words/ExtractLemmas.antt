@@ -1,12 +1,12 @@
 -- The bits of a word at the set places of another, one by one and as a list.
-use Rattle.std.proofs.Common.{◌≡◌, ◌≢◌, ◌⊎◌, inl, inr, bit_and, bit_or, ℕ, zero, suc, ◌+◌, ◌*◌, ◌-◌, ◌/◌, ◌%◌, ◌^◌, ◌<◌, ◌≤◌, ◌↔◌, Bool, true, false, nat_eq, List, [], ◌∷◌, ◌++◌, length, get_or, take, drop, refl, sym, ap, ◌∙◌, arith}
+use Rattle.std.proofs.Common.{◌≡◌, ◌≢◌, ◌⊎◌, inl, inr, bit_and, bit_or, ℕ, zero, suc, ◌+◌, ◌*◌, ◌-◌, ◌/◌, ◌%◌, ◌^◌, ◌<◌, ◌≤◌, ◌↔◌, Bool, true, false, nat_eq, List, [], ◌∷◌, ◌++◌, length, get_or, take, drop, sym, ap, ◌∙◌, arith}
 use Rattle.std.specs.Int.{bit_at}
 use Rattle.std.specs.List.{items_where_true}
 use Rattle.std.proofs.lemmas.Bool.Decides.{nat_tests}
 use Rattle.std.proofs.lemmas.List.{ext_get_or, get_or-map, length-append, get_or_append_left, get_or-append_right, take-append-le, take_all, length-drop}
 use Rattle.std.proofs.lemmas.Bool.{cases_lt}
 use Rattle.std.proofs.lemmas.Nat.{and_mask}
-use Rattle.std.proofs.lemmas.Nat.Bits.{bit_at-lt, bit_at-zero, bit_at_or, bit_at_lowest, bit_at_above}
+use Rattle.std.proofs.lemmas.Nat.Bits.{bit_at-lt, bit_at_or, bit_at_lowest, bit_at_above}
 use Rattle.std.proofs.lemmas.Option.{get_or_from_slice_get}
 use Rattle.mask_bits.proofs.Lists.Words.LowestLemmas.{low}
 use Rattle.mask_bits.proofs.Lists.Words.ShiftLemmas.{bit_at-mod, bit_at-shl_high, bit_at-shl_low}
@@ -93,13 +93,6 @@ pub record IsExtractedTo (source mask left n result : ℕ) : Type 0 where
   pub places : positions (word_bits left) ≡ drop n (positions (word_bits mask))
   pub within : n ≤ count (word_bits mask)
   pub bits : (k : ℕ) → k < 64 → (bit_at result k ≡ 1) ↔ ((k < n) × (bit_at source (get_or (positions (word_bits mask)) k 0) ≡ 1))
-
-pub IsExtractedTo-none : (s m : ℕ) → IsExtractedTo s m m 0 0
-IsExtractedTo-none s m = record {
-  places = refl;
-  within = omega arith;
-  bits = λ k h. (λ set. absurd (omega (arith, bit_at-zero k)), λ set. absurd (omega (arith, set.0)));
-}
 
 -- where none is left, that is an extract
 pub Extracts-all : (s m n r : ℕ) → IsExtractedTo s m 0 n r → Extracts s m r

@@ -1,12 +1,11 @@
 use Rattle.std.proofs.Common.{◌*◌, ◌/◌, arith}
-use Rattle.std.proofs.lemmas.List.{take_rest}
 use Rattle.mask_bits.proofs.CombineLemmas.{between-join, values-in_place}
 use Rattle.mask_bits.proofs.combine.combine_in_place.Goals as goal
 
 pub returns-then-len-ne0 : goal.returns-then-len-ne0
 returns-then-len-ne0 g c =
-    values-in_place g.C.BitOp.of_bits c.args.bytes.now c.args.b.now c.change_last.new.bytes _ c.args.b_offset c.args.len _ (take_rest c.args.b.now (c.args.b_offset / 8))
+    values-in_place g.C.BitOp.of_bits c.args.bytes.now c.args.b.now c.change_last.new.bytes _ _ c.args.b_offset c.args.len _ c.new-b.ensures.bytes c.new-b.ensures.low
     (between-join _ _ _ _ _ _ _ (64 * (c.args.len / 64)) _ (omega arith) (omega arith) c.change_whole.ensures c.change_last.ensures) (omega arith)
 
 pub returns-else-len-ne0 : goal.returns-else-len-ne0
-returns-else-len-ne0 g c = grind (arith, values-in_place, take_rest)
+returns-else-len-ne0 g c = grind (arith, values-in_place)

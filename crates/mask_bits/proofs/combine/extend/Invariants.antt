@@ -4,4 +4,4 @@ use Rattle.mask_bits.proofs.combine.extend.Given as goal
 
 -- the words before are written
 abbrev pub invariant-loop-i : goal.invariant-loop-i
-invariant-loop-i g l = AreCombined g.C.BitOp.of_bits l.a l.a_low l.b l.b_low l.out (64 * l.i)
+invariant-loop-i g l = AreCombined g.C.BitOp.of_bits l.a.bytes.now l.a.low l.b.bytes.now l.b.low l.out (64 * l.i)

@@ -6,10 +6,10 @@ use Rattle.mask_bits.proofs.compare.none_in_block.Goals as goal
 pub loop-i-preserved : goal.loop-i-preserved
 loop-i-preserved g c =
     let f = g.C.BitOp.of_bits in
-    let a = c.args.a.now in
-    let b = c.args.b.now in
-    let p = c.args.a_low in
-    let q = c.args.b_low in
+    let a = c.args.a.bytes.now in
+    let b = c.args.b.bytes.now in
+    let p = c.args.a.low in
+    let q = c.args.b.low in
     let i = c.loop-i.i in
     let both = none-or c.loop-i.found c.of-found.result in
     let word = none-word f a b (p + 64 * i) (q + 64 * i) _ _ c.of-found.result c.of-found.type_inv c.word.ensures c.word-in-loop-i.ensures c.of-found.ensures in

@@ -1,6 +1,6 @@
 use Rattle.std.proofs.Common.{arith}
+use Rattle.mask_bits.proofs.BufferLemmas.{same_values-from_answer}
 use Rattle.mask_bits.proofs.CombineLemmas.{values-parts, within-parts}
-use Rattle.mask_bits.proofs.EqLemmas.{same_values_from_test}
 use Rattle.mask_bits.proofs.eq.same_lists.Goals as goal
 
 pub same_bits-requires-clause-a_within : goal.same_bits-requires-clause-a_within
@@ -13,4 +13,4 @@ pub returns-clause-same : goal.returns-clause-same
 returns-clause-same c = grind (arith, values-parts)
 
 pub returns-clause-answer : goal.returns-clause-answer
-returns-clause-answer c = same_values_from_test c.args.a.now c.args.b.now _ (returns-clause-same c)
+returns-clause-answer c = let same = returns-clause-same c in same_values-from_answer c.args.a.now c.args.b.now _ same.0 same.1

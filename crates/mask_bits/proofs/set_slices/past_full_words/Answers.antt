@@ -4,5 +4,5 @@ use Rattle.mask_bits.proofs.set_slices.past_full_words.Goals as goal
 
 pub loop-word-preserved : goal.loop-word-preserved
 loop-word-preserved c =
-    PassesTrue-more c.args.chunks.now c.args.at c.args.word c.loop-word.at c.loop-word.word c.padded_word-word.result c.padded_word-word.type_inv
-    c.loop-word-test.true (omega (arith, c.padded_len.ensures.words)) c.padded_word-word.ensures c.loop-word.invariant
+    PassesTrue-more c.args.chunks.now c.args.at c.args.word c.loop-word.at c.loop-word.word c.started_word-word.result c.started_word-word.type_inv
+    c.loop-word-test.true (omega (arith, c.started_words.ensures.words)) c.started_word-word.ensures c.loop-word.invariant

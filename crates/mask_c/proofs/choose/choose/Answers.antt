@@ -13,7 +13,7 @@ choose_by_word-at-requires-clause-within g c =
     let rows = c.args.rows.now in
     let m = c.new-chunks.result in
     let i = c.loop-i.i in
-    let len : length rows ≡ length m = c.requires.rows ∙ sym c.new-chunks.ensures.len in
+    let len : length rows ≡ length m = c.requires.fitting ∙ sym c.new-chunks.ensures.len in
     let shows = c.word.ensures ∙ padded_part-whole m i (omega (arith, c.loop-i-test, c.len-whole.ensures)) in
     subst (λ xs. All (λ p. p < length xs) (positions (word_bits c.word.result))) (sym (take_rest rows (64 * i)))
     (subst (All (λ p. p < length (drop (64 * i) rows))) (sym (ap positions shows)) (part-within rows m i len))
@@ -42,39 +42,37 @@ choose_by_word-at-requires-then-whole-started-clause-within g c =
     let rows = c.args.rows.now in
     let m = c.new-chunks.result in
     let i = c.len-whole.result in
-    let len : length rows ≡ length m = c.requires.rows ∙ sym c.new-chunks.ensures.len in
-    subst (λ xs. All (λ p. p < length xs) (positions (word_bits c.padded_word.result))) (sym (take_rest rows (64 * i)))
-    (subst (All (λ p. p < length (drop (64 * i) rows))) (sym (ap positions c.padded_word.ensures)) (part-within rows m i len))
+    let len : length rows ≡ length m = c.requires.fitting ∙ sym c.new-chunks.ensures.len in
+    subst (λ xs. All (λ p. p < length xs) (positions (word_bits c.started_word.result))) (sym (take_rest rows (64 * i)))
+    (subst (All (λ p. p < length (drop (64 * i) rows))) (sym (ap positions c.started_word.ensures)) (part-within rows m i len))
 
 pub choose_by_word-at-requires-then-whole-started-clause-room : goal.choose_by_word-at-requires-then-whole-started-clause-room
 choose_by_word-at-requires-then-whole-started-clause-room g c =
     let m = c.new-chunks.result in
     let i = c.len-whole.result in
     let all : c.loop-i.i ≡ i = omega (arith, c.loop-i-test) in
-    omega (arith, c.loop-i.invariant.counted, ap (λ n. count (take (64 * n) m)) all, ap count c.padded_word.ensures, count-word_more m i, count_below-le-count m (64 * (i + 1)), ap count c.new-chunks.ensures.list, c.requires.room, c.loop-i.auto.out)
+    omega (arith, c.loop-i.invariant.counted, ap (λ n. count (take (64 * n) m)) all, ap count c.started_word.ensures, count-word_more m i, count_below-le-count m (64 * (i + 1)), ap count c.new-chunks.ensures.list, c.requires.room, c.loop-i.auto.out)
 
-pub returns-then-whole-started-clause-rows : goal.returns-then-whole-started-clause-rows
-returns-then-whole-started-clause-rows g c =
+pub returns-then-whole-started : goal.returns-then-whole-started
+returns-then-whole-started g c =
     let rows = c.args.rows.now in
     let m = c.new-chunks.result in
     let i = c.len-whole.result in
     let all : c.loop-i.i ≡ i = omega (arith, c.loop-i-test) in
     let last = c.choose_by_word-at-then-whole-started in
-    rows-next rows _ c.loop-i.out last.new.out m i c.padded_word.result c.loop-i.at _ (omega (arith, c.len-whole.ensures)) (take_rest rows (64 * i)) c.padded_word.ensures
-    (c.loop-i.invariant.rows ∙ ap (λ n. rows_at rows (positions (take (64 * n) m))) all) last.ensures.rows
-    ∙ rows-all rows m (64 * (i + 1)) (omega (arith, c.len-whole.ensures))
-    ∙ ap (chosen rows) c.new-chunks.ensures.list
+    record {
+      front = rows-next rows _ c.loop-i.out last.new.out m i c.started_word.result c.loop-i.at _ (omega (arith, c.len-whole.ensures)) (take_rest rows (64 * i)) c.started_word.ensures
+          (c.loop-i.invariant.rows ∙ ap (λ n. rows_at rows (positions (take (64 * n) m))) all) last.ensures.rows
+          ∙ rows-all rows m (64 * (i + 1)) (omega (arith, c.len-whole.ensures))
+          ∙ ap (chosen rows) c.new-chunks.ensures.list;
+      counted = omega (arith, last.ensures.count, c.loop-i.invariant.counted, ap (λ n. count (take (64 * n) m)) all, ap count c.started_word.ensures, count-word_more m i, ap count (take_all (64 * (i + 1)) m (omega (arith, c.len-whole.ensures))), ap count c.new-chunks.ensures.list);
+    }
 
-pub returns-then-whole-started-clause-count : goal.returns-then-whole-started-clause-count
-returns-then-whole-started-clause-count g c =
+pub returns-else-whole-started : goal.returns-else-whole-started
+returns-else-whole-started g c =
     let m = c.new-chunks.result in
-    let i = c.len-whole.result in
-    let all : c.loop-i.i ≡ i = omega (arith, c.loop-i-test) in
-    omega (arith, c.choose_by_word-at-then-whole-started.ensures.count, c.loop-i.invariant.counted, ap (λ n. count (take (64 * n) m)) all, ap count c.padded_word.ensures, count-word_more m i, ap count (take_all (64 * (i + 1)) m (omega (arith, c.len-whole.ensures))), ap count c.new-chunks.ensures.list)
-
-pub returns-else-whole-started-clause-rows : goal.returns-else-whole-started-clause-rows
-returns-else-whole-started-clause-rows g c =
-    let m = c.new-chunks.result in
-    c.loop-i.invariant.rows
-    ∙ rows-all c.args.rows.now m (64 * c.loop-i.i) (omega (arith, c.loop-i-test, c.len-whole.ensures, c.padded_len-started.ensures, c.if-whole-started))
-    ∙ ap (chosen c.args.rows.now) c.new-chunks.ensures.list
+    let ends : length m ≤ 64 * c.loop-i.i = omega (arith, c.loop-i-test, c.len-whole.ensures, c.started_words-started.ensures, c.if-whole-started) in
+    record {
+      front = c.loop-i.invariant.rows ∙ rows-all c.args.rows.now m (64 * c.loop-i.i) ends ∙ ap (chosen c.args.rows.now) c.new-chunks.ensures.list;
+      counted = c.loop-i.invariant.counted ∙ ap count (take_all (64 * c.loop-i.i) m ends ∙ c.new-chunks.ensures.list);
+    }

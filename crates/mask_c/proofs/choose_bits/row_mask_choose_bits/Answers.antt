@@ -25,18 +25,18 @@ loop-i-init c = record {
 
 pub put_behind-begun-requires-clause-word : goal.put_behind-begun-requires-clause-word
 put_behind-begun-requires-clause-word c = λ j from.
-    extracted-clear c.padded_word.result c.padded_word-mask.result c.extract-word.result j c.extract-word.type_inv c.extract-word.ensures
-    (omega (arith, from, count-word_bits c.padded_word-mask.result c.padded_word-mask.type_inv))
+    extracted-clear c.started_word.result c.started_word-mask.result c.extract-word.result j c.extract-word.type_inv c.extract-word.ensures
+    (omega (arith, from, count-word_bits c.started_word-mask.result c.started_word-mask.type_inv))
 
 pub put_behind-begun-requires-clause-room : goal.put_behind-begun-requires-clause-room
 put_behind-begun-requires-clause-room c =
     let m = c.new-masks.result in
-    omega (arith, counted-word_more m c.loop-i.i c.loop-i.at c.padded_word-mask.result c.padded_word-mask.type_inv c.loop-i.invariant.counted c.padded_word-mask.ensures, count_below-le-count m (64 * (c.loop-i.i + 1)), ap count c.new-masks.ensures.list, c.requires.room, c.loop-i.auto.out)
+    omega (arith, counted-word_more m c.loop-i.i c.loop-i.at c.started_word-mask.result c.started_word-mask.type_inv c.loop-i.invariant.counted c.started_word-mask.ensures, count_below-le-count m (64 * (c.loop-i.i + 1)), ap count c.new-masks.ensures.list, c.requires.room, c.loop-i.auto.out)
 
 pub overflow_add-at : goal.overflow_add-at
 overflow_add-at c =
     let m = c.new-masks.result in
-    omega (arith, counted-word_more m c.loop-i.i c.loop-i.at c.padded_word-mask.result c.padded_word-mask.type_inv c.loop-i.invariant.counted c.padded_word-mask.ensures, count_below-le-count m (64 * (c.loop-i.i + 1)), count-le-length m, c.padded_len-i-end.ensures.fits)
+    omega (arith, counted-word_more m c.loop-i.i c.loop-i.at c.started_word-mask.result c.started_word-mask.type_inv c.loop-i.invariant.counted c.started_word-mask.ensures, count_below-le-count m (64 * (c.loop-i.i + 1)), count-le-length m, c.started_words-i-end.ensures.fits)
 
 pub loop-i-preserved : goal.loop-i-preserved
 loop-i-preserved c =
@@ -44,7 +44,7 @@ loop-i-preserved c =
     let s = c.new-sources.result in
     let i = c.loop-i.i in
     let at = c.loop-i.at in
-    let mask = c.padded_word-mask.result in
+    let mask = c.started_word-mask.result in
     let same : length s ≡ length m = c.new-sources.ensures.len ∙ sym c.new-masks.ensures.len in
     elim c.if-mask-ne0.branch [
       | then-mask-ne0 w ↦
@@ -55,11 +55,11 @@ loop-i-preserved c =
                 ∙ ap₂ (values_so_far w.put_behind-begun.new.out) w.begun-is w.at-is
                 ∙ w.put_behind-begun.ensures.list
                 ∙ ap₂ (λ (xs ys : List Bool). xs ++ ys) c.loop-i.invariant.list
-                (ap (λ n. take n (word_bits word)) (sym (count-word_bits mask c.padded_word-mask.type_inv))
-                ∙ take-extracted w.padded_word.result mask word w.extract-word.ensures
-                ∙ ap₂ chosen w.padded_word.ensures c.padded_word-mask.ensures)
+                (ap (λ n. take n (word_bits word)) (sym (count-word_bits mask c.started_word-mask.type_inv))
+                ∙ take-extracted w.started_word.result mask word w.extract-word.ensures
+                ∙ ap₂ chosen w.started_word.ensures c.started_word-mask.ensures)
                 ∙ chosen-word_more s m i same;
-            counted = w.at-is ∙ counted-word_more m i at mask c.padded_word-mask.type_inv c.loop-i.invariant.counted c.padded_word-mask.ensures;
+            counted = w.at-is ∙ counted-word_more m i at mask c.started_word-mask.type_inv c.loop-i.invariant.counted c.started_word-mask.ensures;
             clear = λ j from. ap (λ b. bit_at b j) w.begun-is ∙ w.put_behind-begun.ensures.begun j (omega (arith, from, w.at-is));
             behind =
                 ap₂ (λ n (o : List ℕ). drop (8 * (n / 64)) o) w.at-is w.out-is
@@ -68,7 +68,7 @@ loop-i-preserved c =
                 ∙ ap (λ n. drop (8 * (n / 64)) c.args.out.now) (sym w.at-is);
           }
       | else-mask-ne0 w ↦
-          let reads = ap word_bits (sym w.if-mask-ne0.false) ∙ c.padded_word-mask.ensures in
+          let reads = ap word_bits (sym w.if-mask-ne0.false) ∙ c.started_word-mask.ensures in
           record {
             list =
                 ap (λ o. values_so_far o c.if-mask-ne0.begun c.if-mask-ne0.at) w.out-is
@@ -89,7 +89,7 @@ returns-then-at-ne0-clause-values c =
     let m = c.new-masks.result in
     let s = c.new-sources.result in
     let n = 64 * c.loop-i.i in
-    let all : length m ≤ n = omega (arith, c.loop-i-test.false, c.padded_len-i-end.ensures.words, c.loop-i.auto.i-end) in
+    let all : length m ≤ n = omega (arith, c.loop-i-test.false, c.started_words-i-end.ensures.words, c.loop-i.auto.i-end) in
     let same : length s ≡ length m = c.new-sources.ensures.len ∙ sym c.new-masks.ensures.len in
     front-split c.put_last.new.out c.loop-i.at
     ∙ ap₂ (λ (xs ys : List Bool). xs ++ ys) c.put_last.ensures.before c.put_last.ensures.list
@@ -107,5 +107,5 @@ returns-then-at-ne0-clause-behind c =
 pub returns-then-at-ne0-clause-count : goal.returns-then-at-ne0-clause-count
 returns-then-at-ne0-clause-count c =
     let m = c.new-masks.result in
-    let all : length m ≤ 64 * c.loop-i.i = omega (arith, c.loop-i-test.false, c.padded_len-i-end.ensures.words, c.loop-i.auto.i-end) in
+    let all : length m ≤ 64 * c.loop-i.i = omega (arith, c.loop-i-test.false, c.started_words-i-end.ensures.words, c.loop-i.auto.i-end) in
     c.loop-i.invariant.counted ∙ ap count (take_all (64 * c.loop-i.i) m all ∙ c.new-masks.ensures.list)

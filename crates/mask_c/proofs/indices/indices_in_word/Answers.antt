@@ -11,7 +11,7 @@ use Rattle.mask_c.proofs.indices.indices_in_word.Goals as goal
 
 pub indices_of_word-requires-clause-fits : goal.indices_of_word-requires-clause-fits
 indices_of_word-requires-clause-fits c =
-    subst (All (λ p. 64 * c.args.i + p < 2 ^ 64)) (sym (ap positions c.padded_word.ensures))
+    subst (All (λ p. 64 * c.args.i + p < 2 ^ 64)) (sym (ap positions c.started_word.ensures))
     (All-weaker (λ p. p < length (drop (64 * c.args.i) c.args.chunks.now)) (λ p. 64 * c.args.i + p < 2 ^ 64) (λ p h. omega (arith, c.requires.fits, c.requires.within, length-drop (64 * c.args.i) c.args.chunks.now))
     (positions (padded_part c.args.chunks.now c.args.i)) (part-within c.args.chunks.now c.args.chunks.now c.args.i refl))
 
@@ -19,9 +19,9 @@ pub returns-clause-indices : goal.returns-clause-indices
 returns-clause-indices c =
     let i = c.args.i in
     let m = c.args.chunks.now in
-    let word = c.padded_word.result in
+    let word = c.started_word.result in
     let here = map (λ p. 64 * i + p) (positions (word_bits word)) in
     positions-word_more m i (omega (arith, c.requires.within))
     ∙ ap (λ (ps : List ℕ). positions (take (64 * i) m) ++ ps)
-    (ap (λ x. map (λ p. 64 * i + p) (positions x)) (sym c.padded_word.ensures)
+    (ap (λ x. map (λ p. 64 * i + p) (positions x)) (sym c.started_word.ensures)
     ∙ sym (c.indices_of_word.ensures.indices ∙ take_all _ here (omega (arith, c.told-block, length-map (positions (word_bits word)) (λ p. 64 * i + p), count-le-length (word_bits word), length-word_bits word))))

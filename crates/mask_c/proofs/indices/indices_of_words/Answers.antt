@@ -12,7 +12,7 @@ indices_of_word-at-requires-clause-fits c =
     let from = c.args.from in
     let i = c.loop-i.i in
     let len = c.new-chunks.ensures.len in
-    subst (All (λ p. from + 64 * i + p < 2 ^ 64)) (sym (ap positions c.padded_word.ensures))
+    subst (All (λ p. from + 64 * i + p < 2 ^ 64)) (sym (ap positions c.started_word.ensures))
     (indices-within m from i (omega (arith, c.requires.within)) (omega arith))
 
 pub loop-i-preserved : goal.loop-i-preserved
@@ -24,9 +24,9 @@ loop-i-preserved c =
     let n = length c.loop-i.out in
     let len = c.new-chunks.ensures.len in
     record {
-      indices = word_done m c.args.from i c.loop-i.at put.result _ n c.loop-i.out put.new.out (omega arith) c.padded_word.ensures was.indices put.ensures.indices
+      indices = word_done m c.args.from i c.loop-i.at put.result _ n c.loop-i.out put.new.out (omega arith) c.started_word.ensures was.indices put.ensures.indices
           ∙ ap (λ k. take k (map (λ p. c.args.from + p) (positions (take (64 * (i + 1)) m)))) (sym put.auto.out);
-      counted = word_counted m i c.loop-i.at put.result _ n c.padded_word.ensures was.counted put.ensures.count
+      counted = word_counted m i c.loop-i.at put.result _ n c.started_word.ensures was.counted put.ensures.count
           ∙ ap (λ k. min k (count (take (64 * (i + 1)) m))) (sym put.auto.out);
     }
 
@@ -38,9 +38,9 @@ returns-then-at-out-clause-indices c =
     let put = c.indices_of_word-at in
     let n = length c.loop-i.out in
     let len = c.new-chunks.ensures.len in
-    let many = word_counted m i c.loop-i.at put.result _ n c.padded_word.ensures was.counted put.ensures.count in
+    let many = word_counted m i c.loop-i.at put.result _ n c.started_word.ensures was.counted put.ensures.count in
     let rest = c.new-chunks.ensures.list ∙ bitmap-rest c.args.bytes.now c.args.offset c.args.len c.args.from c.requires.within in
-    word_done m c.args.from i c.loop-i.at put.result _ n c.loop-i.out put.new.out (omega arith) c.padded_word.ensures was.indices put.ensures.indices
+    word_done m c.args.from i c.loop-i.at put.result _ n c.loop-i.out put.new.out (omega arith) c.started_word.ensures was.indices put.ensures.indices
     ∙ first_indices m c.args.from n (64 * (i + 1)) (omega (arith, many, c.if-at-out.true, put.auto.out))
     ∙ ap (λ k. take k (indices_from c.args.from m)) c.loop-i.auto.out
     ∙ ap (λ (x : List Bool). take (length c.args.out.now) (indices_from c.args.from x)) rest
@@ -50,7 +50,7 @@ returns-then-at-out-clause-count c =
     let m = c.new-chunks.result in
     let i = c.loop-i.i in
     let put = c.indices_of_word-at in
-    let many = word_counted m i c.loop-i.at put.result _ (length c.loop-i.out) c.padded_word.ensures c.loop-i.invariant.counted put.ensures.count in
+    let many = word_counted m i c.loop-i.at put.result _ (length c.loop-i.out) c.started_word.ensures c.loop-i.invariant.counted put.ensures.count in
     let rest = c.new-chunks.ensures.list ∙ bitmap-rest c.args.bytes.now c.args.offset c.args.len c.args.from c.requires.within in
     omega (arith, many, c.if-at-out.true, put.auto.out, c.loop-i.auto.out, count_below-le-count m (64 * (i + 1)), ap count rest)
 

@@ -12,7 +12,7 @@ ghost use Rattle.mask_bits.specs.Words.{started_words};
 
 use crate::intersect_by_rank::{DepositBits, RankBits, Steps};
 use crate::mask::{Mask, MaskError};
-use mask_bits::words::set_word;
+use mask_bits::words::{set_word, started_words};
 use mask_bits::{BitBuffer, BitChunks};
 use std::alloc::Global;
 
@@ -34,7 +34,7 @@ pub fn intersect_bit_buffers<D: DepositBits>(
     ensures refused { IsOkUnless result (MaskError.Memory alloc_error) }
 {
     let len = self_buffer.len();
-    let mut words = vec![in alloc; 0u8; 8 * len.div_ceil(64)]?;
+    let mut words = vec![in alloc; 0u8; 8 * started_words(len)]?;
     let ranks = RankBits::new(mask_buffer);
     let steps = narrow_by_bits::<D>(&self_buffer.chunks(), &ranks, &mut words);
     Ok((Mask::of_words(alloc, words, len, true_count)?, steps))
@@ -61,14 +61,14 @@ pub fn narrow_by_bits<D: DepositBits>(
     let words = out.len() / 8;
     for pair in 0..words / 2 {
         let i = 2 * pair;
-        let masks = [steps.word(chunks, i), steps.word(chunks, i + 1)];
+        let self_words = [steps.word(chunks, i), steps.word(chunks, i + 1)];
         let ones = [
-            masks[0].count_ones() as usize,
-            masks[1].count_ones() as usize,
+            self_words[0].count_ones() as usize,
+            self_words[1].count_ones() as usize,
         ];
         let next = at + ones[0];
         let sources = [ranks.read(at), ranks.read(next)];
-        let kept = steps.deposit_two::<D>(sources, masks, ones);
+        let kept = steps.deposit_two::<D>(sources, self_words, ones);
         set_word(out, i, kept[0]);
         set_word(out, i + 1, kept[1]);
         at = next + ones[1];

@@ -4,8 +4,7 @@ ghost use Rattle.std.specs.Prelude.{◌≡◌, IfOk, IsOkUnless, IsSome, alloc_e
 ghost use Rattle.std.specs.Cow.{cow_slice_items};
 ghost use Rattle.mask_bits.specs.Buffer.{values};
 ghost use Rattle.mask_bits.specs.Positions.{count, positions};
-ghost use Rattle.vortex_mask.specs.Path.{path_of};
-ghost use Rattle.vortex_mask.specs.Narrowed.{IsNarrowedOn};
+ghost use Rattle.vortex_mask.specs.Path.{path_of, IsNarrowedOn};
 
 use crate::intersect_by_rank::kernels::{
     intersect_bit_buffer_by_rank_indices, intersect_bit_buffers, intersect_by_rank_indices,

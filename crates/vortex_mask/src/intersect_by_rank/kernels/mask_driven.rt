@@ -15,7 +15,7 @@ ghost use Rattle.vortex_mask.specs.Steps.{driven_steps};
 use crate::intersect_by_rank::{SelectBit, Steps};
 use crate::mask::{Mask, MaskError};
 use mask_bits::{BitBuffer, BitChunks};
-use std::alloc::{AllocError, Global};
+use std::alloc::Global;
 
 /// Keeps the true values of `self_buffer` at the ranks that `mask_indices` yields, ascending,
 /// `true_count` of them. The result caches its true indices.
@@ -48,32 +48,7 @@ pub fn intersect_mask_driven<S: SelectBit, I: Iterator<Item = usize>>(
         (λ r. r.1 ≡ driven_steps r.1.words true_count (positions (truth r.0))) }
     ensures refused { IsOkUnless result (MaskError.Memory alloc_error) }
 {
-    let len = self_buffer.len();
-    let (indices, steps) = indices_at_ranks::<S, I>(
-        alloc,
-        &self_buffer.chunks(),
-        mask_indices,
-        true_count,
-    )?;
-    Ok((Mask::of_indices(alloc, len, indices)?, steps))
-}
-
-/// The indices of the true values of `chunks` at `ranks`, `true_count` of them, and the steps.
-pub fn indices_at_ranks<S: SelectBit, I: Iterator<Item = usize>>(
-    alloc: Global,
-    chunks: &BitChunks<'_>,
-    ranks: I,
-    true_count: usize,
-) -> Result<(Vec<usize>, Steps), AllocError>
-    requires fits { length chunks.now < 2 ^ 64 }
-    requires can { I.can_next ranks }
-    requires ends { IsFinite (I.remaining ranks) }
-    requires ranks { EachRunFrom I.next_gives ranks (AreRanks (count chunks.now) true_count) }
-    ensures indices { IfOk result (λ r. WholeRun I.next_gives ranks
-        (λ p. r.0.items ≡ at_indices (positions chunks.now) p.items)) }
-    ensures words { IfOk result (λ r. r.1.words ≤ started_words (length chunks.now)) }
-    ensures steps { IfOk result (λ r. r.1 ≡ driven_steps r.1.words true_count r.0.items) }
-{
+    let (len, chunks) = (self_buffer.len(), self_buffer.chunks());
     let mut indices = Vec::with_capacity(alloc, true_count)?;
     let mut steps = Steps::new();
     let mut reached = Reached {
@@ -81,10 +56,10 @@ pub fn indices_at_ranks<S: SelectBit, I: Iterator<Item = usize>>(
         word: 0,
         before: 0,
     };
-    for rank in ranks {
-        indices.push(reached.index_of::<S>(chunks, &mut steps, rank))?;
+    for rank in mask_indices {
+        indices.push(reached.index_of::<S>(&chunks, &mut steps, rank))?;
     }
-    Ok((indices, steps))
+    Ok((Mask::of_indices(alloc, len, indices)?, steps))
 }
 
 // How far the words have been read.

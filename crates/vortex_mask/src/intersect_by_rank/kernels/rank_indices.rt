@@ -15,7 +15,7 @@ ghost use Rattle.vortex_mask.specs.Ranks.{AreSplit};
 
 use crate::intersect_by_rank::{DepositBits, Steps};
 use crate::mask::{Mask, MaskError};
-use mask_bits::words::set_word;
+use mask_bits::words::{set_word, started_words};
 use mask_bits::{BitBuffer, BitChunks};
 use std::alloc::Global;
 
@@ -37,7 +37,7 @@ pub fn intersect_bit_buffer_by_rank_indices<D: DepositBits>(
     ensures refused { IsOkUnless result (MaskError.Memory alloc_error) }
 {
     let len = self_buffer.len();
-    let mut words = vec![in alloc; 0u8; 8 * len.div_ceil(64)]?;
+    let mut words = vec![in alloc; 0u8; 8 * started_words(len)]?;
     let steps = narrow_at_ranks::<D>(&self_buffer.chunks(), mask_indices, &mut words);
     Ok((
         Mask::of_words(alloc, words, len, mask_indices.len())?,
@@ -68,16 +68,16 @@ pub fn narrow_at_ranks<D: DepositBits>(
     let words = out.len() / 8;
     for pair in 0..words / 2 {
         let i = 2 * pair;
-        let masks = [steps.word(chunks, i), steps.word(chunks, i + 1)];
+        let self_words = [steps.word(chunks, i), steps.word(chunks, i + 1)];
         let ones = [
-            masks[0].count_ones() as usize,
-            masks[1].count_ones() as usize,
+            self_words[0].count_ones() as usize,
+            self_words[1].count_ones() as usize,
         ];
         let middle = at + ones[0];
         let end = middle + ones[1];
         let first = bits_of_ranks(ranks, &mut next, at, middle);
         let second = bits_of_ranks(ranks, &mut next, middle, end);
-        let kept = steps.deposit_two::<D>([first, second], masks, ones);
+        let kept = steps.deposit_two::<D>([first, second], self_words, ones);
         set_word(out, i, kept[0]);
         set_word(out, i + 1, kept[1]);
         at = end;

@@ -1,13 +1,12 @@
 use Rattle.std.proofs.Common.{◌≡◌, Bool, ◌∷◌, ◌+◌, ◌*◌, ◌/◌, ◌%◌, false, nat_eq, get_or, drop, sym, ap, ◌∙◌, arith}
 use Rattle.std.proofs.lemmas.List.{drop_more}
 use Rattle.std.proofs.lemmas.Nat.Bits.{shr_and_one}
-use Rattle.mask_bits.specs.Buffer.{values}
 use Rattle.mask_bits.proofs.Lists.Words.WalkLemmas.{bit-padded}
 use Rattle.mask_bits.proofs.bit_iterator.BitIteratorIterator.next.Goals as goal
 
 pub returns-clause-steps : goal.returns-clause-steps
 returns-clause-steps c =
-    let m = values c.self.inside.buffer.now in
+    let m = c.self.inside.chunks in
     let n = c.self.inside.next in
     let w = c.word_at_hand-word.result.0 in
     let more = c.word_at_hand-word.ensures.more in

@@ -1,7 +1,6 @@
 use Rattle.std.proofs.Common.{arith}
-use Rattle.mask_bits.proofs.BufferLemmas.{length-values}
 use Rattle.mask_bits.proofs.Lists.Runs.RunLemmas.{length-AreRuns}
 use Rattle.mask_bits.proofs.buffer.BitBuffer.set_slices.Goals as goal
 
 pub returns-clause-fits : goal.returns-clause-fits
-returns-clause-fits c = grind (arith, length-AreRuns, length-values)
+returns-clause-fits c = grind (arith, length-AreRuns)

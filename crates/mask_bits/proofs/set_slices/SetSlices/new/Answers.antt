@@ -1,5 +1,4 @@
-use Rattle.std.proofs.Common.{Bool, List, sym, subst, ◌∙◌}
-use Rattle.mask_bits.specs.Buffer.{values}
+use Rattle.std.proofs.Common.{Bool, List, sym, subst}
 use Rattle.mask_bits.specs.RunScan.{runs_from}
 use Rattle.mask_bits.specs.Runs.{AreRuns}
 use Rattle.mask_bits.proofs.Lists.Runs.RunLemmas.{AreRuns-runs_from}
@@ -7,5 +6,5 @@ use Rattle.mask_bits.proofs.set_slices.SetSlices.new.Goals as goal
 
 pub returns : goal.returns
 returns c =
-    let m = values c.args.buffer.now in
-    subst (λ (xs : List Bool). AreRuns m (runs_from 0 xs)) (sym (c.first_word-word.ensures.all ∙ c.chunks-chunks.ensures.list)) (AreRuns-runs_from m)
+    let m = c.args.chunks in
+    subst (λ (xs : List Bool). AreRuns m (runs_from 0 xs)) (sym c.first_word-word.ensures.all) (AreRuns-runs_from m)

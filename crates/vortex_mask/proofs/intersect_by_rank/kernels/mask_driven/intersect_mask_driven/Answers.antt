@@ -1,32 +1,56 @@
-use Rattle.std.proofs.Common.{◌≡◌, ◌<◌, Bool, List, ℕ, subst, sym, ap, ◌∙◌}
+use Rattle.std.proofs.Common.{◌≡◌, ◌<◌, List, ℕ, subst, sym, ◌∙◌, arith}
+use Rattle.std.proofs.lemmas.Grind.{common_steps}
+use Rattle.std.proofs.lemmas.List.{length-append}
 use Rattle.std.specs.List.{All}
 use Rattle.mask_bits.specs.Buffer.{values}
-use Rattle.mask_bits.specs.Positions.{positions, at_indices}
+use Rattle.mask_bits.specs.Positions.{positions, count, at_indices}
+use Rattle.mask_bits.proofs.Lists.Places.PlaceLemmas.{count-le-length}
 use Rattle.vortex_mask.specs.Mask.{truth}
-use Rattle.vortex_mask.proofs.Kernels.DrivenLemmas.{indices-ascending, indices-within, drained}
+use Rattle.vortex_mask.proofs.Kernels.DrivenLemmas.{ascending-few, not-above-next, ranks-at_turn, ranks-at_exit, found-more, found-all, found-steps, indices-ascending, indices-within, drained}
 use Rattle.vortex_mask.proofs.intersect_by_rank.kernels.mask_driven.intersect_mask_driven.Goals as goal
+
+pub index_of-requires-clause-room : goal.index_of-requires-clause-room
+index_of-requires-clause-room g c = grind (arith, common_steps, ranks-at_turn, length-append, ascending-few, count-le-length)
+
+pub index_of-requires-clause-ahead : goal.index_of-requires-clause-ahead
+index_of-requires-clause-ahead g c =
+    let m = values c.args.self_buffer.now in
+    let xs = c.loop-rank.yielded in
+    let x = c.in-Some.rank in
+    let ranks = ranks-at_turn g.I.Iterator.next_gives c.args.mask_indices (count m) c.args.true_count c.requires.ranks _ c.into_iter-rank-iterator.ensures.into_iter_gives xs _ c.loop-rank.yielded_by x c.next.new.self c.in-Some.ensures.steps in
+    not-above-next xs x c.loop-rank.reached.before ranks.0 c.loop-rank.invariant.reached
+
+pub loop-rank-preserved : goal.loop-rank-preserved
+loop-rank-preserved g c =
+    found-more c.chunks-chunks.result c.loop-rank.yielded c.in-Some.rank _ _ _ c.index_of.new.self.words c.index_of.new.self.word c.index_of.new.self.before
+    c.loop-rank.indices.items c.push.new.self.items c.index_of.result c.loop-rank.steps c.index_of.new.steps
+    c.loop-rank.invariant c.index_of.ensures.index c.index_of.ensures.read c.index_of.ensures.reached c.in_ok-push.ensures.items c.index_of.ensures.ticked
 
 pub of_indices-requires-clause-ascending : goal.of_indices-requires-clause-ascending
 of_indices-requires-clause-ascending g c =
     let m = values c.args.self_buffer.now in
-    let run = c.in_ok-indices.ensures.indices in
-    indices-ascending g.I.Iterator.next_gives c.args.mask_indices m c.args.true_count c.in_ok-indices.indices.items c.requires.ranks
-    (run.0, run.1, run.2, run.3 ∙ ap (λ (xs : List Bool). at_indices (positions xs) run.0.items) c.chunks.ensures.list)
+    indices-ascending g.I.Iterator.next_gives c.args.mask_indices m c.args.true_count c.loop-rank.indices.items c.requires.ranks
+    (found-all g.I.Iterator.next_gives c.args.mask_indices (count m) c.args.true_count c.requires.ranks _ c.into_iter-rank-iterator.ensures.into_iter_gives c.loop-rank.yielded _ c.loop-rank.yielded_by c.next.new.self c.in-None.ensures.steps _ m _ _ _ _ _ c.loop-rank.invariant c.chunks-chunks.ensures.list)
 
 pub of_indices-requires-clause-within : goal.of_indices-requires-clause-within
 of_indices-requires-clause-within g c =
     let m = values c.args.self_buffer.now in
-    let run = c.in_ok-indices.ensures.indices in
-    subst (λ n. All (λ i. i < n) c.in_ok-indices.indices.items) (sym c.len-len.ensures)
-    (indices-within g.I.Iterator.next_gives c.args.mask_indices m c.args.true_count c.in_ok-indices.indices.items c.requires.ranks
-    (run.0, run.1, run.2, run.3 ∙ ap (λ (xs : List Bool). at_indices (positions xs) run.0.items) c.chunks.ensures.list))
+    subst (λ n. All (λ i. i < n) c.loop-rank.indices.items) (sym c.len-len.ensures)
+    (indices-within g.I.Iterator.next_gives c.args.mask_indices m c.args.true_count c.loop-rank.indices.items c.requires.ranks
+    (found-all g.I.Iterator.next_gives c.args.mask_indices (count m) c.args.true_count c.requires.ranks _ c.into_iter-rank-iterator.ensures.into_iter_gives c.loop-rank.yielded _ c.loop-rank.yielded_by c.next.new.self c.in-None.ensures.steps _ m _ _ _ _ _ c.loop-rank.invariant c.chunks-chunks.ensures.list))
 
 pub returns-clause-whole : goal.returns-clause-whole
 returns-clause-whole g c =
-    let run = c.in_ok-indices.ensures.indices in
-    (run.0, run.1, run.2, c.in_ok-of_indices.ensures.indices ∙ run.3 ∙ ap (λ (xs : List Bool). at_indices (positions xs) run.0.items) c.chunks.ensures.list)
+    let m = values c.args.self_buffer.now in
+    let run = found-all g.I.Iterator.next_gives c.args.mask_indices (count m) c.args.true_count c.requires.ranks _ c.into_iter-rank-iterator.ensures.into_iter_gives c.loop-rank.yielded _ c.loop-rank.yielded_by c.next.new.self c.in-None.ensures.steps _ m _ _ _ _ _ c.loop-rank.invariant c.chunks-chunks.ensures.list in
+    (run.0, run.1, run.2, c.in_ok-of_indices.ensures.indices ∙ run.3)
 
 pub returns-clause-true_indices : goal.returns-clause-true_indices
 returns-clause-true_indices g c =
-    let a = values c.args.self_buffer.now in
-    drained g.I.Iterator.next_gives c.args.mask_indices (λ (xs : List ℕ). positions (truth c.in_ok-of_indices.field-0) ≡ at_indices (positions a) xs) (returns-clause-whole g c)
+    drained g.I.Iterator.next_gives c.args.mask_indices (λ (xs : List ℕ). positions (truth c.in_ok-of_indices.field-0) ≡ at_indices (positions (values c.args.self_buffer.now)) xs) (returns-clause-whole g c)
+
+pub returns-clause-steps : goal.returns-clause-steps
+returns-clause-steps g c =
+    let m = values c.args.self_buffer.now in
+    let all = (ranks-at_exit g.I.Iterator.next_gives c.args.mask_indices (count m) c.args.true_count c.requires.ranks _ c.into_iter-rank-iterator.ensures.into_iter_gives c.loop-rank.yielded _ c.loop-rank.yielded_by c.next.new.self c.in-None.ensures.steps).1 in
+    rw c.in_ok-of_indices.ensures.indices (found-steps c.chunks-chunks.result c.loop-rank.yielded _ _ _ c.loop-rank.indices.items c.loop-rank.steps c.args.true_count c.loop-rank.invariant all)

@@ -1,5 +1,5 @@
 use Rattle.vortex_mask.proofs.Kernels.DrivenLemmas.{AreFound}
-use Rattle.vortex_mask.proofs.intersect_by_rank.kernels.mask_driven.indices_at_ranks.Given as goal
+use Rattle.vortex_mask.proofs.intersect_by_rank.kernels.mask_driven.intersect_mask_driven.Given as goal
 
 -- the ranks so far have their indices
 abbrev pub invariant-loop-rank : goal.invariant-loop-rank
