@@ -331,5 +331,5 @@ fn zeroed(alloc: Global, len: usize) -> Result<Vec<u8>, AllocError>
     ensures covered { IfOk result (λ bytes. len ≤ 8 * vec_len bytes) }
     ensures clear { IfOk result (λ bytes. (p : ℕ) → backing_bit bytes.items p ≡ false) }
 {
-    Ok(vec![in alloc; 0u8; len.div_ceil(8)]?)
+    vec![in alloc; 0u8; len.div_ceil(8)]
 }

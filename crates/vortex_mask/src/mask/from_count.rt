@@ -5,10 +5,10 @@ ghost use Rattle.std.specs.List.Sorted.{IsStrictlyIncreasing};
 ghost use Rattle.std.specs.Option.{option_map};
 ghost use Rattle.mask_bits.specs.Bitmap.{bitmap};
 ghost use Rattle.mask_bits.specs.Buffer.{values};
-ghost use Rattle.mask_bits.specs.Positions.{count, positions};
-ghost use Rattle.vortex_mask.specs.Caches.{caches, where_mixed};
+ghost use Rattle.mask_bits.specs.Positions.{count};
+ghost use Rattle.vortex_mask.specs.Caches.{caches, where_mixed, IsOfIndices};
 ghost use Rattle.vortex_mask.specs.Mask.{truth, variant, fitting_variant, all_false, IsUniform};
-ghost use Rattle.vortex_mask.specs.MaskValues.{AreOf, no_caches, only_indices};
+ghost use Rattle.vortex_mask.specs.MaskValues.{AreOf, no_caches};
 
 use crate::mask::{Mask, MaskError, MaskValues};
 use mask_bits::BitBuffer;
@@ -113,11 +113,7 @@ impl Mask {
     ) -> Result<Mask, MaskError>
         requires ascending { IsStrictlyIncreasing indices.items }
         requires within { All (λ i. i < len) indices.items }
-        ensures len { IfOk result (λ m. length (truth m) ≡ len) }
-        ensures indices { IfOk result (λ m. positions (truth m) ≡ indices.items) }
-        ensures variant { IfOk result (λ m. variant m ≡ fitting_variant all_false (truth m)) }
-        ensures caches { IfOk result
-            (λ m. caches m ≡ where_mixed m (only_indices indices.items)) }
+        ensures mask { IfOk result (IsOfIndices len indices.items) }
         ensures uniform { (vec_len indices ≡ 0) ⊎ (vec_len indices ≡ len) → IsOk result }
         ensures refused { IsOkUnless result (MaskError.Memory alloc_error) }
     {

@@ -5,10 +5,9 @@ ghost use Rattle.std.specs.Iterator.{IsFinite, Drains};
 ghost use Rattle.std.specs.Iterator.Runs.{WholeRun, EachRunFrom};
 ghost use Rattle.std.specs.List.Sorted.{IsStrictlyIncreasing};
 ghost use Rattle.std.specs.Option.{option_or};
-ghost use Rattle.mask_bits.specs.Buffer.{values};
 ghost use Rattle.mask_bits.specs.Positions.{positions, true_at, repeated};
 ghost use Rattle.vortex_mask.specs.Faults.{index_fault, first_unsorted, first_repeated, out_of_bounds, first_past, common};
-ghost use Rattle.vortex_mask.specs.Caches.{caches, where_mixed};
+ghost use Rattle.vortex_mask.specs.Caches.{caches, where_mixed, IsOfIndices};
 ghost use Rattle.vortex_mask.specs.Mask.{truth, variant, fitting_variant, all_false, all_true};
 ghost use Rattle.vortex_mask.specs.MaskValues.{only_indices, no_caches};
 ghost use Rattle.mask_bits.specs.Lists.{not_of};
@@ -56,12 +55,8 @@ impl Mask {
     // The mask of `len` values that is true exactly at the indices of a list, or what is wrong with it.
     #[tactic(auto, using(crate::proofs::Masks::FaultLemmas::no_index_fault))]
     fn of_list(alloc: Global, len: usize, indices: Vec<usize>) -> Result<Mask, MaskError>
-        ensures len { IfOk result (λ m. length (truth m) ≡ len) }
-        ensures indices { IfOk result (λ m. positions (truth m) ≡ indices.items) }
+        ensures mask { IfOk result (IsOfIndices len indices.items) }
         ensures faultless { IfOk result (λ m. index_fault len indices.items ≡ None) }
-        ensures variant { IfOk result (λ m. variant m ≡ fitting_variant all_false (truth m)) }
-        ensures caches { IfOk result
-            (λ m. caches m ≡ where_mixed m (only_indices indices.items)) }
         ensures refused { IfErr result (λ e. (e ≡ MaskError.Memory alloc_error)
             ⊎ (index_fault len indices.items ≡ Some e)) }
     {
@@ -270,12 +265,8 @@ impl Mask {
     fn of_common(alloc: Global, len: usize, lhs: &[usize], rhs: &[usize]) -> Result<Mask, MaskError>
         requires lhs { IsStrictlyIncreasing lhs.now }
         requires rhs { IsStrictlyIncreasing rhs.now }
-        ensures len { IfOk result (λ m. length (truth m) ≡ len) }
-        ensures indices { IfOk result (λ m. positions (truth m) ≡ common lhs.now rhs.now) }
+        ensures mask { IfOk result (IsOfIndices len (common lhs.now rhs.now)) }
         ensures within { IfOk result (λ m. out_of_bounds len (common lhs.now rhs.now) ≡ None) }
-        ensures variant { IfOk result (λ m. variant m ≡ fitting_variant all_false (truth m)) }
-        ensures caches { IfOk result
-            (λ m. caches m ≡ where_mixed m (only_indices (common lhs.now rhs.now))) }
         ensures refused { IfErr result (λ e. (e ≡ MaskError.Memory alloc_error)
             ⊎ (out_of_bounds len (common lhs.now rhs.now) ≡ Some e)) }
     {

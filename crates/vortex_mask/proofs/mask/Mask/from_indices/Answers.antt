@@ -7,7 +7,7 @@ use Rattle.vortex_mask.proofs.mask.Mask.from_indices.Goals as goal
 pub returns-clause-whole : goal.returns-clause-whole
 returns-clause-whole g c =
     let run = c.in_ok-indices.ensures.runs tt in
-    IfOk-weaker c.of_list.result _ _ (λ m same. (run.0, run.1, run.2, same ∙ run.3.0)) c.of_list.ensures.indices
+    IfOk-weaker c.of_list.result _ _ (λ m is. (run.0, run.1, run.2, is.true_indices ∙ run.3.0)) c.of_list.ensures.mask
 
 pub returns-clause-refused_whole : goal.returns-clause-refused_whole
 returns-clause-refused_whole g c =

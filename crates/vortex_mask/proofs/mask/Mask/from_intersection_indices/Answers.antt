@@ -11,14 +11,14 @@ returns-clause-indices g c =
     let left = c.in_ok-lhs.ensures.ran in
     let right = c.in_ok-rhs.ensures.ran in
     let same = ap₂ common (c.deref.ensures.value ∙ left.2.0) (c.deref-2.ensures.value ∙ right.2.0) in
-    IfOk-weaker c.of_common.result _ _ (λ m is. (left.0, right.0, drained g.L.Iterator.next_gives c.args.lhs left.0 left.1, drained g.R.Iterator.next_gives c.args.rhs right.0 right.1, is ∙ same)) c.of_common.ensures.indices
+    IfOk-weaker c.of_common.result _ _ (λ m is. (left.0, right.0, drained g.L.Iterator.next_gives c.args.lhs left.0 left.1, drained g.R.Iterator.next_gives c.args.rhs right.0 right.1, is.true_indices ∙ same)) c.of_common.ensures.mask
 
 pub returns-clause-whole : goal.returns-clause-whole
 returns-clause-whole g c =
     let left = c.in_ok-lhs.ensures.runs tt in
     let right = c.in_ok-rhs.ensures.runs tt in
     let same = ap₂ common (c.deref.ensures.value ∙ left.3.0) (c.deref-2.ensures.value ∙ right.3.0) in
-    IfOk-weaker c.of_common.result _ _ (λ m is. (left.0, left.1, left.2, (right.0, right.1, right.2, is ∙ same))) c.of_common.ensures.indices
+    IfOk-weaker c.of_common.result _ _ (λ m is. (left.0, left.1, left.2, (right.0, right.1, right.2, is.true_indices ∙ same))) c.of_common.ensures.mask
 
 pub returns-clause-refused : goal.returns-clause-refused
 returns-clause-refused g c =

@@ -43,7 +43,7 @@ pub returns-clause-whole : goal.returns-clause-whole
 returns-clause-whole g c =
     let m = values c.args.self_buffer.now in
     let run = found-all g.I.Iterator.next_gives c.args.mask_indices (count m) c.args.true_count c.requires.ranks _ c.into_iter-rank-iterator.ensures.into_iter_gives c.loop-rank.yielded _ c.loop-rank.yielded_by c.next.new.self c.in-None.ensures.steps _ m _ _ _ _ _ c.loop-rank.invariant c.chunks-chunks.ensures.list in
-    (run.0, run.1, run.2, c.in_ok-of_indices.ensures.indices ∙ run.3)
+    (run.0, run.1, run.2, c.in_ok-of_indices.ensures.mask.true_indices ∙ run.3)
 
 pub returns-clause-true_indices : goal.returns-clause-true_indices
 returns-clause-true_indices g c =
@@ -53,4 +53,4 @@ pub returns-clause-steps : goal.returns-clause-steps
 returns-clause-steps g c =
     let m = values c.args.self_buffer.now in
     let all = (ranks-at_exit g.I.Iterator.next_gives c.args.mask_indices (count m) c.args.true_count c.requires.ranks _ c.into_iter-rank-iterator.ensures.into_iter_gives c.loop-rank.yielded _ c.loop-rank.yielded_by c.next.new.self c.in-None.ensures.steps).1 in
-    rw c.in_ok-of_indices.ensures.indices (found-steps c.chunks-chunks.result c.loop-rank.yielded _ _ _ c.loop-rank.indices.items c.loop-rank.steps c.args.true_count c.loop-rank.invariant all)
+    rw c.in_ok-of_indices.ensures.mask.true_indices (found-steps c.chunks-chunks.result c.loop-rank.yielded _ _ _ c.loop-rank.indices.items c.loop-rank.steps c.args.true_count c.loop-rank.invariant all)
