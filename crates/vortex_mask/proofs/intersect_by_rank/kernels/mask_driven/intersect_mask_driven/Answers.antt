@@ -26,18 +26,15 @@ loop-rank-preserved g c =
     c.loop-rank.indices.items c.push.new.self.items c.index_of.result c.loop-rank.steps c.index_of.new.steps
     c.loop-rank.invariant c.index_of.ensures.index c.index_of.ensures.read c.index_of.ensures.reached c.in_ok-push.ensures.items c.index_of.ensures.ticked
 
-pub of_indices-requires-clause-ascending : goal.of_indices-requires-clause-ascending
-of_indices-requires-clause-ascending g c =
+pub of_indices-requires : goal.of_indices-requires
+of_indices-requires g c =
     let m = values c.args.self_buffer.now in
-    indices-ascending g.I.Iterator.next_gives c.args.mask_indices m c.args.true_count c.loop-rank.indices.items c.requires.ranks
-    (found-all g.I.Iterator.next_gives c.args.mask_indices (count m) c.args.true_count c.requires.ranks _ c.into_iter-rank-iterator.ensures.into_iter_gives c.loop-rank.yielded _ c.loop-rank.yielded_by c.next.new.self c.in-None.ensures.steps _ m _ _ _ _ _ c.loop-rank.invariant c.chunks-chunks.ensures.list)
-
-pub of_indices-requires-clause-within : goal.of_indices-requires-clause-within
-of_indices-requires-clause-within g c =
-    let m = values c.args.self_buffer.now in
-    subst (λ n. All (λ i. i < n) c.loop-rank.indices.items) (sym c.len-len.ensures)
-    (indices-within g.I.Iterator.next_gives c.args.mask_indices m c.args.true_count c.loop-rank.indices.items c.requires.ranks
-    (found-all g.I.Iterator.next_gives c.args.mask_indices (count m) c.args.true_count c.requires.ranks _ c.into_iter-rank-iterator.ensures.into_iter_gives c.loop-rank.yielded _ c.loop-rank.yielded_by c.next.new.self c.in-None.ensures.steps _ m _ _ _ _ _ c.loop-rank.invariant c.chunks-chunks.ensures.list))
+    let indices = c.loop-rank.indices.items in
+    let run = found-all g.I.Iterator.next_gives c.args.mask_indices (count m) c.args.true_count c.requires.ranks _ c.into_iter-rank-iterator.ensures.into_iter_gives c.loop-rank.yielded _ c.loop-rank.yielded_by c.next.new.self c.in-None.ensures.steps _ m _ _ _ _ _ c.loop-rank.invariant c.chunks-chunks.ensures.list in
+    record {
+      ascending = indices-ascending g.I.Iterator.next_gives c.args.mask_indices m c.args.true_count indices c.requires.ranks run;
+      within = subst (λ n. All (λ i. i < n) indices) (sym c.len-len.ensures) (indices-within g.I.Iterator.next_gives c.args.mask_indices m c.args.true_count indices c.requires.ranks run);
+    }
 
 pub returns-clause-whole : goal.returns-clause-whole
 returns-clause-whole g c =
@@ -51,6 +48,5 @@ returns-clause-true_indices g c =
 
 pub returns-clause-steps : goal.returns-clause-steps
 returns-clause-steps g c =
-    let m = values c.args.self_buffer.now in
-    let all = (ranks-at_exit g.I.Iterator.next_gives c.args.mask_indices (count m) c.args.true_count c.requires.ranks _ c.into_iter-rank-iterator.ensures.into_iter_gives c.loop-rank.yielded _ c.loop-rank.yielded_by c.next.new.self c.in-None.ensures.steps).1 in
+    let all = (ranks-at_exit g.I.Iterator.next_gives c.args.mask_indices _ c.args.true_count c.requires.ranks _ c.into_iter-rank-iterator.ensures.into_iter_gives c.loop-rank.yielded _ c.loop-rank.yielded_by c.next.new.self c.in-None.ensures.steps).1 in
     rw c.in_ok-of_indices.ensures.mask.true_indices (found-steps c.chunks-chunks.result c.loop-rank.yielded _ _ _ c.loop-rank.indices.items c.loop-rank.steps c.args.true_count c.loop-rank.invariant all)
