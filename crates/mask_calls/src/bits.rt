@@ -8,9 +8,10 @@ pub mod walks;
 use crate::answer::Answer;
 use crate::fault::{Fault, made};
 use crate::packed;
-use crate::words::{number, numbers, values};
+use crate::text::Text;
+use crate::words::Words;
 use mask_bits::BitBuffer;
-use std::alloc::{AllocError, Global};
+use std::alloc::Global;
 
 /// A buffer, and a clone of it where one is held, so that its bytes are shared.
 #[derive(Drop)]
@@ -22,17 +23,13 @@ pub struct Bits {
 }
 
 impl Bits {
-    /// A buffer of which no clone is held.
-    pub fn new(buffer: BitBuffer) -> Bits {
+    /// The buffer of the next word.
+    pub fn next(words: &mut Words<'_>) -> Bits {
+        let buffer = packed::read(words.alloc, words.next());
         Bits {
-            buffer: Some(buffer),
+            buffer: words.found(buffer),
             held: None,
         }
-    }
-
-    /// A buffer by a word.
-    pub fn read(alloc: Global, word: &str) -> Result<Bits, Fault> {
-        Ok(Bits::new(packed::read(alloc, word)?))
     }
 
     /// The buffer, lent.
@@ -53,24 +50,27 @@ impl Bits {
 
     /// Holds a clone from now on.
     pub fn hold(&mut self) -> Result<(), Fault> {
-        let clone = one::clone(self.get()?)?;
-        self.held = Some(clone);
-        Ok(())
+        match one::clone(self.get()?) {
+            Ok(clone) => {
+                self.held = Some(clone);
+                Ok(())
+            }
+            Err(fault) => Err(fault),
+        }
     }
 
     /// Writes the clone that is held, and the buffer where it was lent.
-    pub fn write_kept(&self, text: &mut String, is_lent: bool) -> Result<(), AllocError> {
+    pub fn write_kept(&self, text: &mut Text, is_lent: bool) {
         if is_lent {
-            write_some(text, &self.buffer)?;
+            write_some(text, &self.buffer);
         }
-        write_some(text, &self.held)
+        write_some(text, &self.held);
     }
 }
 
-fn write_some(text: &mut String, buffer: &Option<BitBuffer>) -> Result<(), AllocError> {
-    match buffer {
-        Some(buffer) => walks::write_backed(text, buffer),
-        None => Ok(()),
+fn write_some(text: &mut Text, buffer: &Option<BitBuffer>) {
+    if let Some(buffer) = buffer {
+        walks::write_backed(text, buffer);
     }
 }
 
@@ -111,40 +111,49 @@ impl BitsCall {
     }
 
     /// Writes what the call leaves as it was.
-    pub fn write_kept(&self, text: &mut String) -> Result<(), AllocError> {
+    pub fn write_kept(&self, text: &mut Text) {
         match self {
             BitsCall::Of(call, a) => a.write_kept(text, call.lends()),
             BitsCall::OfTwo(call, a, b) => {
-                a.write_kept(text, call.lends())?;
-                b.write_kept(text, true)
+                a.write_kept(text, call.lends());
+                b.write_kept(text, true);
             }
             BitsCall::With(_, a, _, _) => a.write_kept(text, true),
-            _ => Ok(()),
+            _ => {}
         }
     }
 
-    /// The call of this name, if it is one of packed bits, and its operands by the words behind it.
-    pub fn read(alloc: Global, name: &str, words: &str) -> Result<Option<BitsCall>, Fault> {
-        let Some(name) = name.strip_prefix("bits.") else {
-            return Ok(None);
-        };
+    /// The call of this name, behind `bits.`, and its operands.
+    pub fn read(words: &mut Words<'_>, name: &str) -> Option<BitsCall> {
         if let Some(call) = one::OfBits::named(name) {
-            return Ok(Some(BitsCall::Of(call, Bits::read(alloc, words)?)));
+            return Some(BitsCall::Of(call, Bits::next(words)));
         }
-        match name {
-            "new_set" => Ok(Some(BitsCall::Uniform(number(words)?, true))),
-            "new_unset" => Ok(Some(BitsCall::Uniform(number(words)?, false))),
-            "from_bools" => Ok(Some(BitsCall::FromBools(values(alloc, words)?))),
-            "from_rows" => Ok(Some(BitsCall::FromRows(values(alloc, words)?))),
-            _ => read_words(alloc, name, words),
+        if let Some(call) = two::OfTwoBits::named(name) {
+            return Some(BitsCall::OfTwo(call, Bits::next(words), Bits::next(words)));
+        }
+        match parts::WithNumbers::named(name) {
+            Some(call) => {
+                let (bits, first) = (Bits::next(words), words.number());
+                Some(BitsCall::With(call, bits, first, second(words)))
+            }
+            None => read_made(words, name),
         }
     }
 }
 
-fn read_words(alloc: Global, name: &str, words: &str) -> Result<Option<BitsCall>, Fault> {
-    match words.split_once(' ') {
-        Some((first, rest)) => read_two(alloc, name, first, rest),
-        None => Err(Fault::Malformed("a call of this name")),
+// A second number is 0 where none is there.
+fn second(words: &mut Words<'_>) -> usize {
+    if words.is_at_end() { 0 } else { words.number() }
+}
+
+fn read_made(words: &mut Words<'_>, name: &str) -> Option<BitsCall> {
+    match name {
+        "new_set" => Some(BitsCall::Uniform(words.number(), true)),
+        "new_unset" => Some(BitsCall::Uniform(words.number(), false)),
+        "from_bools" => Some(BitsCall::FromBools(words.values())),
+        "from_rows" => Some(BitsCall::FromRows(words.values())),
+        "from_indices" => Some(BitsCall::FromIndices(words.number(), words.numbers())),
+        _ => None,
     }
 }
 
@@ -169,37 +178,10 @@ fn run_rows<'a>(alloc: Global, list: &'a mut Vec<bool>) -> Result<Answer<'a>, Fa
 }
 
 fn hold_both(a: &mut Bits, b: &mut Bits) -> Result<(), Fault> {
-    a.hold()?;
-    b.hold()
-}
-
-fn read_two(alloc: Global, name: &str, first: &str, rest: &str) -> Result<Option<BitsCall>, Fault> {
-    if let Some(call) = two::OfTwoBits::named(name) {
-        let a = Bits::read(alloc, first)?;
-        return Ok(Some(BitsCall::OfTwo(call, a, Bits::read(alloc, rest)?)));
+    match a.hold() {
+        Ok(()) => b.hold(),
+        Err(fault) => Err(fault),
     }
-    if name == "from_indices" {
-        let list = numbers(alloc, rest)?;
-        return Ok(Some(BitsCall::FromIndices(number(first)?, list)));
-    }
-    match parts::WithNumbers::named(name) {
-        Some(call) => read_numbers(alloc, call, first, rest),
-        None => Err(Fault::Malformed("a call of this name")),
-    }
-}
-
-// A second number is 0 where none is there.
-fn read_numbers(
-    alloc: Global,
-    call: parts::WithNumbers,
-    word: &str,
-    rest: &str,
-) -> Result<Option<BitsCall>, Fault> {
-    let (first, second) = match rest.split_once(' ') {
-        Some((first, second)) => (number(first)?, number(second)?),
-        None => (number(rest)?, 0),
-    };
-    Ok(Some(BitsCall::With(call, Bits::read(alloc, word)?, first, second)))
 }
 
 /// `BitBuffer::from_indices`.

@@ -1,23 +1,22 @@
 //! A call with its operands.
 
 use crate::answer::{Answer, write_mask};
-use crate::bits::BitsCall;
+use crate::bits::{Bits, BitsCall};
 use crate::fault::Fault;
 use crate::masks::fraction::{self, OfFractions};
 use crate::masks::lent::{Lending, run_threshold};
 use crate::masks::lists::WithList;
 use crate::masks::making::Making;
-use crate::masks::many::{OfMany, read_masks, run_intersect_all};
+use crate::masks::many::{OfMany, next_masks, run_intersect_all};
 use crate::masks::one::{OfOne, run_equals_buffer};
 use crate::masks::parts::{WithNumber, run_slice};
 use crate::masks::two::OfTwo;
 use crate::masks::values::ValuesCall;
-use crate::masks::word::{self, OfWords};
+use crate::masks::word::OfWords;
 use crate::operand::Operand;
-use crate::packed;
-use crate::words::{number, numbers};
-use mask_bits::BitBuffer;
-use std::alloc::{AllocError, Global};
+use crate::text::Text;
+use crate::words::{Words, halves};
+use std::alloc::Global;
 use vortex_mask::Mask;
 
 /// A call with its operands. Where it was refused memory, operands that were lent are there still, and it can be
@@ -33,7 +32,7 @@ pub enum Call {
     Lending(Lending, Operand),
     Threshold(Operand, usize, usize),
     WithList(WithList, Operand, Vec<usize>),
-    EqualsBuffer(Operand, BitBuffer),
+    EqualsBuffer(Operand, Bits),
     Making(Making),
     OfValues(ValuesCall),
     OfBits(BitsCall),
@@ -81,16 +80,16 @@ impl Call {
     }
 
     /// Writes what the call leaves as it was: the operands that are lent, and the clones that are held.
-    pub fn write_kept(&self, text: &mut String) -> Result<(), AllocError> {
+    pub fn write_kept(&self, text: &mut Text) {
         match self {
             Call::OfOne(call, a) => a.write_kept(text, call.lends()),
             Call::OfTwo(call, a, b) => {
-                a.write_kept(text, call.lends())?;
-                b.write_kept(text, true)
+                a.write_kept(text, call.lends());
+                b.write_kept(text, true);
             }
             Call::OfThree(a, b, _) => {
-                a.write_kept(text, true)?;
-                b.write_kept(text, false)
+                a.write_kept(text, true);
+                b.write_kept(text, false);
             }
             Call::WithNumber(call, a, _) => a.write_kept(text, call.lends()),
             Call::Slice(a, _, _) => a.write_kept(text, true),
@@ -99,139 +98,100 @@ impl Call {
             Call::WithList(_, a, _) => a.write_kept(text, true),
             Call::EqualsBuffer(a, _) => a.write_kept(text, true),
             Call::OfBits(call) => call.write_kept(text),
-            _ => Ok(()),
+            _ => {}
         }
     }
 
     /// Writes what the call changed in place: the mask after it, with what it has cached.
-    pub fn write_changed(&self, text: &mut String) -> Result<(), AllocError> {
+    pub fn write_changed(&self, text: &mut Text) {
         match self {
             Call::OfOne(OfOne::Clear, a) => write_after(text, &a.mask),
             Call::Lending(_, a) => write_after(text, &a.mask),
             Call::Threshold(a, _, _) => write_after(text, &a.mask),
             Call::OfValues(call) => call.write_changed(text),
-            _ => Ok(()),
+            _ => {}
         }
     }
 }
 
 fn hold_both(a: &mut Operand, b: &mut Operand) -> Result<(), Fault> {
-    a.hold()?;
-    b.hold()
+    match a.hold() {
+        Ok(()) => b.hold(),
+        Err(fault) => Err(fault),
+    }
 }
 
-fn write_after(text: &mut String, mask: &Mask) -> Result<(), AllocError> {
-    text.push_str(" then ")?;
-    write_mask(text, mask)
+fn write_after(text: &mut Text, mask: &Mask) {
+    text.put(" then ");
+    write_mask(text, mask);
 }
-
-const NO_CALL: Fault = Fault::Malformed("a call of this name");
 
 impl Call {
     /// The call of this name, and its operands by the words behind it.
     pub fn read(alloc: Global, name: &str, words: &str) -> Result<Call, Fault> {
-        match Making::read(alloc, name, words) {
-            Ok(Some(call)) => Ok(Call::Making(call)),
-            Ok(None) => read_of_bits(alloc, name, words),
-            Err(fault) => Err(fault),
-        }
+        let mut words = Words::new(alloc, words);
+        let call = named(&mut words, name);
+        words.end(call)
     }
 }
 
-fn read_of_bits(alloc: Global, name: &str, words: &str) -> Result<Call, Fault> {
-    match BitsCall::read(alloc, name, words) {
-        Ok(Some(call)) => Ok(Call::OfBits(call)),
-        Ok(None) => read_of_masks(alloc, name, words),
-        Err(fault) => Err(fault),
+fn named(words: &mut Words<'_>, name: &str) -> Option<Call> {
+    match halves(name, ".") {
+        Some(("bits", name)) => match BitsCall::read(words, name) {
+            Some(call) => Some(Call::OfBits(call)),
+            None => None,
+        },
+        Some((_, name)) => match ValuesCall::read(words, name) {
+            Some(call) => Some(Call::OfValues(call)),
+            None => None,
+        },
+        None => of_masks(words, name),
     }
 }
 
-fn read_of_masks(alloc: Global, name: &str, words: &str) -> Result<Call, Fault> {
+fn of_masks(words: &mut Words<'_>, name: &str) -> Option<Call> {
     if let Some(call) = OfOne::named(name) {
-        return Ok(Call::OfOne(call, Operand::read(alloc, words)?));
+        return Some(Call::OfOne(call, Operand::next(words)));
     }
-    if let Some(call) = Lending::named(name) {
-        return Ok(Call::Lending(call, Operand::read(alloc, words)?));
-    }
-    if let Some(call) = OfMany::named(name) {
-        return Ok(Call::OfMany(call, read_masks(alloc, words)?));
-    }
-    match ValuesCall::read(alloc, name, words) {
-        Ok(Some(call)) => Ok(Call::OfValues(call)),
-        Ok(None) => read_words(alloc, name, words),
-        Err(fault) => Err(fault),
-    }
-}
-
-fn read_words(alloc: Global, name: &str, words: &str) -> Result<Call, Fault> {
-    match words.split_once(' ') {
-        Some((first, rest)) => read_two(alloc, name, first, rest),
-        None => Err(NO_CALL),
-    }
-}
-
-// A call of two words or more.
-fn read_two(alloc: Global, name: &str, first: &str, rest: &str) -> Result<Call, Fault> {
     if let Some(call) = OfTwo::named(name) {
-        return read_masks_of(alloc, call, first, rest);
+        return Some(Call::OfTwo(call, Operand::next(words), Operand::next(words)));
     }
     if let Some(call) = WithNumber::named(name) {
-        return Ok(Call::WithNumber(call, Operand::read(alloc, first)?, number(rest)?));
+        return Some(Call::WithNumber(call, Operand::next(words), words.number()));
     }
+    if let Some(call) = Lending::named(name) {
+        return Some(Call::Lending(call, Operand::next(words)));
+    }
+    if let Some(call) = OfMany::named(name) {
+        return Some(Call::OfMany(call, next_masks(words)));
+    }
+    match Making::read(words, name) {
+        Some(call) => Some(Call::Making(call)),
+        None => of_lists(words, name),
+    }
+}
+
+fn of_lists(words: &mut Words<'_>, name: &str) -> Option<Call> {
     if let Some(call) = WithList::named(name) {
-        return read_list_of(alloc, call, first, rest);
+        return Some(Call::WithList(call, Operand::next(words), words.numbers()));
     }
     if let Some(call) = OfFractions::named(name) {
-        return Ok(Call::OfFractions(call, fraction::read(first)?, fraction::read(rest)?));
+        return Some(Call::OfFractions(call, fraction::next(words), fraction::next(words)));
     }
     if let Some(call) = OfWords::named(name) {
-        let (first, second) = word::read(first, rest)?;
-        return Ok(Call::OfWords(call, first, second));
+        return Some(Call::OfWords(call, words.number(), words.number()));
     }
     match name {
-        "equals_buffer" => read_with_buffer(alloc, first, rest),
-        _ => read_three(alloc, name, first, rest),
+        "equals_buffer" => Some(Call::EqualsBuffer(Operand::next(words), Bits::next(words))),
+        "slice" => Some(Call::Slice(Operand::next(words), words.number(), words.number())),
+        "threshold_iter" => {
+            Some(Call::Threshold(Operand::next(words), words.number(), words.number()))
+        }
+        "intersect_all_by_rank" => Some(Call::OfThree(
+            Operand::next(words),
+            Operand::next(words),
+            Operand::next(words),
+        )),
+        _ => None,
     }
-}
-
-fn read_masks_of(alloc: Global, call: OfTwo, first: &str, rest: &str) -> Result<Call, Fault> {
-    let a = Operand::read(alloc, first)?;
-    Ok(Call::OfTwo(call, a, Operand::read(alloc, rest)?))
-}
-
-fn read_list_of(alloc: Global, call: WithList, first: &str, rest: &str) -> Result<Call, Fault> {
-    let list = numbers(alloc, rest)?;
-    Ok(Call::WithList(call, Operand::read(alloc, first)?, list))
-}
-
-fn read_with_buffer(alloc: Global, first: &str, rest: &str) -> Result<Call, Fault> {
-    let buffer = packed::read(alloc, rest)?;
-    Ok(Call::EqualsBuffer(Operand::read(alloc, first)?, buffer))
-}
-
-// A call of a mask and two words.
-fn read_three(alloc: Global, name: &str, first: &str, rest: &str) -> Result<Call, Fault> {
-    let Some((second, third)) = rest.split_once(' ') else {
-        return Err(NO_CALL);
-    };
-    match name {
-        "slice" | "threshold_iter" => read_numbers(alloc, name, first, (second, third)),
-        "intersect_all_by_rank" => read_stack(alloc, first, second, third),
-        _ => Err(NO_CALL),
-    }
-}
-
-fn read_numbers(alloc: Global, name: &str, mask: &str, words: (&str, &str)) -> Result<Call, Fault> {
-    let (second, third) = (number(words.0)?, number(words.1)?);
-    let operand = Operand::read(alloc, mask)?;
-    match name {
-        "slice" => Ok(Call::Slice(operand, second, third)),
-        _ => Ok(Call::Threshold(operand, second, third)),
-    }
-}
-
-fn read_stack(alloc: Global, first: &str, second: &str, third: &str) -> Result<Call, Fault> {
-    let first = Operand::read(alloc, first)?;
-    let second = Operand::read(alloc, second)?;
-    Ok(Call::OfThree(first, second, Operand::read(alloc, third)?))
 }

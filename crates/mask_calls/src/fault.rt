@@ -1,5 +1,6 @@
 //! Why there is no answer.
 
+use crate::text::Text;
 use std::alloc::{AllocError, Global};
 use vortex_mask::MaskError;
 
@@ -45,11 +46,22 @@ pub fn made<T>(outcome: Result<T, AllocError>) -> Result<T, Fault> {
 impl Fault {
     /// The text of the fault: of a named refusal its own.
     pub fn text(&self, alloc: Global) -> Result<String, AllocError> {
+        let mut text = Text::new(alloc);
+        self.write(&mut text);
+        text.finish()
+    }
+
+    pub(crate) fn write(&self, text: &mut Text) {
         match self {
-            Fault::Memory => String::from_str(alloc, "out of memory"),
-            Fault::Refused(error) => format!(in alloc; "{error:?}"),
-            Fault::Malformed(what) => format!(in alloc; "not a row: {what}"),
-            Fault::Unmet(what) => format!(in alloc; "this row breaks a condition: {what}"),
+            Fault::Memory => text.put("out of memory"),
+            Fault::Refused(error) => text.put_debug(error),
+            Fault::Malformed(what) => write_why(text, "not a row: ", what),
+            Fault::Unmet(what) => write_why(text, "this row breaks a condition: ", what),
         }
     }
+}
+
+fn write_why(text: &mut Text, why: &str, what: &str) {
+    text.put(why);
+    text.put(what);
 }

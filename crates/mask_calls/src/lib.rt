@@ -11,6 +11,7 @@ mod operand;
 pub mod packed;
 mod ranged;
 mod row;
+mod text;
 pub mod words;
 
 pub use answer::Answer;
@@ -18,4 +19,5 @@ pub use call::Call;
 pub use fault::Fault;
 pub use operand::Operand;
 pub use ranged::Ranged;
-pub use row::{Outcome, Row, answer_text, rows_of};
+pub use row::{Outcome, Row};
+pub use text::Text;

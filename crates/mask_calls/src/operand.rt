@@ -6,8 +6,9 @@ use crate::masks::lent::cached_by;
 use crate::masks::made::{ByLength, from_bools, from_buffer, from_indices, from_slices};
 use crate::masks::one::clone;
 use crate::packed;
-use crate::words::{number, numbers, ranges, values};
-use std::alloc::{AllocError, Global};
+use crate::text::Text;
+use crate::words::{Words, halves, number, numbers, ranges, values};
+use std::alloc::Global;
 use std::mem;
 use vortex_mask::Mask;
 
@@ -26,20 +27,33 @@ impl Operand {
         Operand { mask, held: None }
     }
 
+    /// The mask of the next word, or an empty one where there is a fault.
+    pub fn next(words: &mut Words<'_>) -> Operand {
+        let operand = Operand::read(words.alloc, words.next());
+        match words.found(operand) {
+            Some(operand) => operand,
+            None => Operand::new(Mask::new(0, false)),
+        }
+    }
+
     /// Holds a clone from now on.
     pub fn hold(&mut self) -> Result<(), Fault> {
-        self.held = Some(clone(&self.mask)?);
-        Ok(())
+        match clone(&self.mask) {
+            Ok(clone) => {
+                self.held = Some(clone);
+                Ok(())
+            }
+            Err(fault) => Err(fault),
+        }
     }
 
     /// Writes the clone that is held, and the mask where it was lent.
-    pub fn write_kept(&self, text: &mut String, is_lent: bool) -> Result<(), AllocError> {
+    pub fn write_kept(&self, text: &mut Text, is_lent: bool) {
         if is_lent {
-            write_mask(text, &self.mask)?;
+            write_mask(text, &self.mask);
         }
-        match &self.held {
-            Some(held) => write_mask(text, held),
-            None => Ok(()),
+        if let Some(held) = &self.held {
+            write_mask(text, held);
         }
     }
 
@@ -52,20 +66,30 @@ impl Operand {
     /// in `&`, where a clone is held.
     pub fn read(alloc: Global, word: &str) -> Result<Operand, Fault> {
         match word.strip_suffix("&") {
-            Some(rest) => {
-                let mut operand = Operand::new(with_lists(alloc, rest)?);
-                operand.hold()?;
-                Ok(operand)
-            }
-            None => Ok(Operand::new(with_lists(alloc, word)?)),
+            Some(rest) => held(with_lists(alloc, rest)),
+            None => match with_lists(alloc, word) {
+                Ok(mask) => Ok(Operand::new(mask)),
+                Err(fault) => Err(fault),
+            },
         }
+    }
+}
+
+fn held(mask: Result<Mask, Fault>) -> Result<Operand, Fault> {
+    let mut operand = Operand::new(mask?);
+    match operand.hold() {
+        Ok(()) => Ok(operand),
+        Err(fault) => Err(fault),
     }
 }
 
 // The mask of a word that may end in `!i` and `!r`.
 fn with_lists(alloc: Global, word: &str) -> Result<Mask, Fault> {
-    match word.split_once('!') {
-        Some((rest, lists)) => cached_by(alloc, mask(alloc, rest)?, lists),
+    match halves(word, "!") {
+        Some((rest, lists)) => match mask(alloc, rest) {
+            Ok(mask) => cached_by(alloc, mask, lists),
+            Err(fault) => Err(fault),
+        },
         None => mask(alloc, word),
     }
 }
@@ -73,36 +97,47 @@ fn with_lists(alloc: Global, word: &str) -> Result<Mask, Fault> {
 /// A mask by a word: `all:5` and `none:5` of one value, `5:1,3` by `from_indices`, `10:0..3,5..7` by `from_slices`,
 /// and otherwise of a buffer, as that is written, which caches nothing.
 pub fn mask(alloc: Global, word: &str) -> Result<Mask, Fault> {
-    match word.split_once(':') {
-        Some((form, rest)) => mask_by(alloc, word, form, rest),
-        None => of_bits(alloc, word),
+    match halves(word, ":") {
+        Some(("all", len)) => uniform(ByLength::NewTrue, len),
+        Some(("none", len)) => uniform(ByLength::NewFalse, len),
+        Some(("every" | "first" | "at", _)) | None => of_bits(alloc, word),
+        Some((len, list)) => match number(len) {
+            Ok(len) => listed(alloc, len, list),
+            Err(fault) => Err(fault),
+        },
     }
 }
 
-fn mask_by(alloc: Global, word: &str, form: &str, rest: &str) -> Result<Mask, Fault> {
-    match form {
-        "all" => Ok(ByLength::NewTrue.mask(number(rest)?, true)),
-        "none" => Ok(ByLength::NewFalse.mask(number(rest)?, false)),
-        "every" | "first" | "at" => of_bits(alloc, word),
-        _ => listed(alloc, number(form)?, rest),
+fn uniform(call: ByLength, len: &str) -> Result<Mask, Fault> {
+    match number(len) {
+        Ok(len) => Ok(call.mask(len, false)),
+        Err(fault) => Err(fault),
     }
 }
 
 fn listed(alloc: Global, len: usize, list: &str) -> Result<Mask, Fault> {
     if list.contains("..") {
-        from_slices(alloc, len, ranges(alloc, list)?)
+        match ranges(alloc, list) {
+            Ok(ranges) => from_slices(alloc, len, ranges),
+            Err(fault) => Err(fault),
+        }
     } else {
-        let indices = numbers(alloc, list)?;
-        from_indices(alloc, len, &indices)
+        match numbers(alloc, list) {
+            Ok(indices) => from_indices(alloc, len, &indices),
+            Err(fault) => Err(fault),
+        }
     }
 }
 
 fn of_bits(alloc: Global, word: &str) -> Result<Mask, Fault> {
     match packed::offset_of(word) {
-        Some(_) => from_buffer(alloc, packed::read(alloc, word)?),
-        None => {
-            let list = values(alloc, word)?;
-            from_bools(alloc, &list)
-        }
+        Some(_) => match packed::read(alloc, word) {
+            Ok(buffer) => from_buffer(alloc, buffer),
+            Err(fault) => Err(fault),
+        },
+        None => match values(alloc, word) {
+            Ok(list) => from_bools(alloc, &list),
+            Err(fault) => Err(fault),
+        },
     }
 }

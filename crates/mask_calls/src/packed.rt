@@ -4,7 +4,7 @@ use crate::bits::one::clone;
 use crate::bits::parts::slice;
 use crate::bits::{from_indices, uniform};
 use crate::fault::{Fault, made};
-use crate::words::{digits, number, numbers, values};
+use crate::words::{digits, halves, number, numbers, pair, values};
 use bytes::Bytes;
 use mask_bits::BitBuffer;
 use std::alloc::Global;
@@ -68,9 +68,10 @@ fn packed(
 }
 
 fn push_byte(bytes: &mut Vec<u8>, byte: u8) -> Result<(), Fault> {
-    match bytes.push(byte) {
-        Ok(()) => Ok(()),
-        Err(_) => Err(Fault::Memory),
+    if bytes.push(byte).is_ok() {
+        Ok(())
+    } else {
+        Err(Fault::Memory)
     }
 }
 
@@ -115,28 +116,27 @@ pub fn buffer_at(
     new_with_offset(bytes, offset, values.len())
 }
 
-fn read_own(alloc: Global, word: &str) -> Result<BitBuffer, Fault> {
-    match word.split_once(':') {
-        Some(("bytes", rest)) => of_bytes(alloc, rest),
-        Some(("true", rest)) => of_indices(alloc, rest),
-        _ => of_values(alloc, word),
+// From a bit on to the end.
+fn of_part(alloc: Global, rest: &str) -> Result<BitBuffer, Fault> {
+    match halves(rest, ":") {
+        Some((start, word)) => part_of(read_own(alloc, word), number(start)),
+        None => Err(Fault::Malformed("a part")),
     }
 }
 
-// From a bit on to the end.
-fn of_part(alloc: Global, rest: &str) -> Result<BitBuffer, Fault> {
-    match rest.split_once(':') {
-        Some((start, word)) => {
-            let buffer = read_own(alloc, word)?;
-            slice(&buffer, number(start)?, buffer.len())
-        }
-        None => Err(Fault::Malformed("a part")),
+fn part_of(
+    buffer: Result<BitBuffer, Fault>,
+    start: Result<usize, Fault>,
+) -> Result<BitBuffer, Fault> {
+    match (buffer, start) {
+        (Ok(buffer), Ok(start)) => slice(&buffer, start, buffer.len()),
+        (Err(fault), _) | (_, Err(fault)) => Err(fault),
     }
 }
 
 // A length, and the indices of the true values in any order.
 fn of_indices(alloc: Global, rest: &str) -> Result<BitBuffer, Fault> {
-    match rest.split_once(':') {
+    match halves(rest, ":") {
         Some((len, list)) => {
             let list = numbers(alloc, list)?;
             from_indices(alloc, number(len)?, &list)
@@ -147,14 +147,13 @@ fn of_indices(alloc: Global, rest: &str) -> Result<BitBuffer, Fault> {
 
 // Bytes, offset and length.
 fn of_bytes(alloc: Global, rest: &str) -> Result<BitBuffer, Fault> {
-    let Some((list, part)) = rest.split_once(':') else {
-        return Err(Fault::Malformed("bytes"));
-    };
-    let Some((offset, len)) = part.split_once(':') else {
-        return Err(Fault::Malformed("an offset and a length"));
-    };
-    let bytes = own_bytes(bytes_of(alloc, list)?)?;
-    new_with_offset(bytes, number(offset)?, number(len)?)
+    match halves(rest, ":") {
+        Some((list, part)) => {
+            let (offset, len) = pair(part, ":", "an offset and a length")?;
+            new_with_offset(own_bytes(bytes_of(alloc, list)?)?, offset, len)
+        }
+        None => Err(Fault::Malformed("bytes")),
+    }
 }
 
 fn bytes_of(alloc: Global, list: &str) -> Result<Vec<u8>, Fault> {
@@ -166,9 +165,9 @@ fn bytes_of(alloc: Global, list: &str) -> Result<Vec<u8>, Fault> {
 }
 
 fn byte(word: &str) -> Result<u8, Fault> {
-    match u8::try_from(number(word)?) {
-        Ok(byte) => Ok(byte),
-        Err(_) => Err(Fault::Malformed("a byte")),
+    match number(word) {
+        Ok(number) if number < 256 => Ok(number as u8),
+        _ => Err(Fault::Malformed("a byte")),
     }
 }
 
@@ -177,14 +176,34 @@ fn byte(word: &str) -> Result<u8, Fault> {
 /// `true:12:9,0` of 12 values by the indices of the true ones; `part:3:W` of such a word from bit 3 on, and
 /// `clone:W`.
 pub fn read(alloc: Global, word: &str) -> Result<BitBuffer, Fault> {
-    match word.split_once(':') {
-        Some(("all", len)) => uniform(alloc, number(len)?, true),
-        Some(("none", len)) => uniform(alloc, number(len)?, false),
+    match halves(word, ":") {
+        Some(("all", len)) => of_one(alloc, len, true),
+        Some(("none", len)) => of_one(alloc, len, false),
+        Some(("part", rest)) => of_part(alloc, rest),
+        Some(("clone", rest)) => clone_of(read_own(alloc, rest)),
+        _ => read_own(alloc, word),
+    }
+}
+
+fn read_own(alloc: Global, word: &str) -> Result<BitBuffer, Fault> {
+    match halves(word, ":") {
         Some(("bytes", rest)) => of_bytes(alloc, rest),
         Some(("true", rest)) => of_indices(alloc, rest),
-        Some(("part", rest)) => of_part(alloc, rest),
-        Some(("clone", rest)) => clone(&read_own(alloc, rest)?),
         _ => of_values(alloc, word),
+    }
+}
+
+fn of_one(alloc: Global, len: &str, value: bool) -> Result<BitBuffer, Fault> {
+    match number(len) {
+        Ok(len) => uniform(alloc, len, value),
+        Err(fault) => Err(fault),
+    }
+}
+
+fn clone_of(buffer: Result<BitBuffer, Fault>) -> Result<BitBuffer, Fault> {
+    match buffer {
+        Ok(buffer) => clone(&buffer),
+        Err(fault) => Err(fault),
     }
 }
 
@@ -194,23 +213,25 @@ fn of_values(alloc: Global, word: &str) -> Result<BitBuffer, Fault> {
             let list = digits(alloc, list)?;
             buffer_at(alloc, number(offset)?, &list, outside)
         }
-        None => {
-            let list = values(alloc, word)?;
-            from_bools(alloc, &list)
-        }
+        None => match values(alloc, word) {
+            Ok(list) => from_bools(alloc, &list),
+            Err(fault) => Err(fault),
+        },
     }
 }
 
 /// The parts of a word such as `3+10110`.
 pub fn offset_of<'a>(word: &'a str) -> Option<(&'a str, Outside, &'a str)> {
-    if word == "-" {
-        return None;
-    }
-    match word.split_once('+') {
+    match halves(word, "+") {
         Some((offset, list)) => Some((offset, Outside::Set, list)),
-        None => match word.split_once('-') {
-            Some((offset, list)) => Some((offset, Outside::Clear, list)),
-            None => None,
-        },
+        None if word == "-" => None,
+        None => offset_of_clear(word),
+    }
+}
+
+fn offset_of_clear<'a>(word: &'a str) -> Option<(&'a str, Outside, &'a str)> {
+    match halves(word, "-") {
+        Some((offset, list)) => Some((offset, Outside::Clear, list)),
+        None => None,
     }
 }

@@ -2,7 +2,11 @@
 
 use crate::call::Call;
 use crate::fault::Fault;
+use crate::text::Text;
 use std::alloc::{AllocError, Global};
+
+// A text for which memory is found.
+type Texted = Result<String, AllocError>;
 
 /// A line such as `slice 10110 1 4 -> 011 Values`, or `limit,to_limited 01101 2 -> 01100 Values` of two calls that
 /// answer the same.
@@ -23,11 +27,6 @@ impl<'a> Row<'a> {
         let (names, words) = call.split_once(' ')?;
         Some(Row { names, words, want })
     }
-}
-
-/// The lines of a text.
-pub fn rows_of(text: &str) -> usize {
-    text.split('\n').count()
 }
 
 /// What came of a call, as texts.
@@ -66,15 +65,20 @@ impl Outcome {
 
     fn of_call(alloc: Global, call: Call) -> Result<Outcome, AllocError> {
         let mut call = call;
-        let before = kept(alloc, &call)?;
-        let mut answer = answer_of(alloc, &mut call)?;
-        call.write_changed(&mut answer)?;
-        let after = kept(alloc, &call)?;
-        Ok(Outcome {
+        let before = kept(alloc, &call);
+        let answer = answered(alloc, &mut call);
+        outcome_of(answer, before, kept(alloc, &call))
+    }
+}
+
+fn outcome_of(answer: Texted, before: Texted, after: Texted) -> Result<Outcome, AllocError> {
+    match (answer, before, after) {
+        (Ok(answer), Ok(before), Ok(after)) => Ok(Outcome {
             answer,
             before,
             after,
-        })
+        }),
+        _ => Err(AllocError),
     }
 }
 
@@ -86,23 +90,19 @@ fn read(alloc: Global, name: &str, words: &str, is_shared: bool) -> Result<Call,
     Ok(call)
 }
 
-fn kept(alloc: Global, call: &Call) -> Result<String, AllocError> {
-    let mut text = String::new(alloc);
-    call.write_kept(&mut text)?;
-    Ok(text)
+fn kept(alloc: Global, call: &Call) -> Texted {
+    let mut text = Text::new(alloc);
+    call.write_kept(&mut text);
+    text.finish()
 }
 
-fn answer_of(alloc: Global, call: &mut Call) -> Result<String, AllocError> {
+// The answer, and what the call changed in place.
+fn answered(alloc: Global, call: &mut Call) -> Texted {
+    let mut text = Text::new(alloc);
     match call.run(alloc) {
-        Ok(answer) => answer.walked_text(alloc),
-        Err(fault) => fault.text(alloc),
+        Ok(answer) => answer.write_walk(&mut text),
+        Err(fault) => fault.write(&mut text),
     }
-}
-
-/// The answer of a call, or its fault, as a row says it. Only memory is an error.
-pub fn answer_text(alloc: Global, name: &str, words: &str) -> Result<String, AllocError> {
-    match Outcome::of(alloc, name, words, false) {
-        Ok(outcome) => Ok(outcome.answer),
-        Err(error) => Err(error),
-    }
+    call.write_changed(&mut text);
+    text.finish()
 }

@@ -2,7 +2,7 @@
 
 use crate::answer::Answer;
 use crate::fault::Fault;
-use crate::words::number;
+use crate::words::{Words, pair};
 use vortex_mask::Fraction;
 
 pub fn at_least(a: Fraction, b: Fraction) -> Result<bool, Fault> {
@@ -47,10 +47,8 @@ fn fraction((num, den): (usize, usize)) -> Fraction {
     Fraction { num, den }
 }
 
-/// A fraction, as `3/5`.
-pub fn read(word: &str) -> Result<(usize, usize), Fault> {
-    match word.split_once('/') {
-        Some((num, den)) => Ok((number(num)?, number(den)?)),
-        None => Err(Fault::Malformed("a fraction")),
-    }
+/// The next word, as a fraction such as `3/5`.
+pub fn next(words: &mut Words<'_>) -> (usize, usize) {
+    let fraction = pair(words.next(), "/", "a fraction");
+    words.found(fraction).unwrap_or((0, 0))
 }

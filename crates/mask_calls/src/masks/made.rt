@@ -1,6 +1,7 @@
 //! Calls that make a mask.
 
 use crate::answer::Answer;
+use crate::bits::Bits;
 use crate::fault::{Fault, answer};
 use crate::ranged::Ranged;
 use crate::words::place_of;
@@ -91,10 +92,13 @@ pub fn run_with_slices<'a>(
 pub fn run_common<'a>(
     alloc: Global,
     len: usize,
-    lhs: &'a mut BitBuffer,
-    rhs: &'a mut BitBuffer,
+    lhs: &'a mut Bits,
+    rhs: &'a mut Bits,
 ) -> Result<Answer<'a>, Fault> {
-    Answer::of_mask(from_intersection_indices(alloc, len, lhs, rhs))
+    match (lhs.get(), rhs.get()) {
+        (Ok(lhs), Ok(rhs)) => Answer::of_mask(from_intersection_indices(alloc, len, lhs, rhs)),
+        _ => Err(Fault::Unmet("buffers that are there")),
+    }
 }
 
 /// Makes the call of `from_intersection_indices` of one index each.

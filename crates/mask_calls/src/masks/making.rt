@@ -1,15 +1,14 @@
 //! Constructors of masks, with their operands.
 
 use crate::answer::Answer;
-use crate::bits::from_indices;
+use crate::bits::{Bits, from_indices};
 use crate::fault::Fault;
 use crate::masks::made::{
     ByIndices, ByLength, run_common, run_common_of_one, run_from_buffer, run_from_rows,
     run_from_slices, run_with_slices,
 };
-use crate::packed;
 use crate::ranged::Ranged;
-use crate::words::{number, numbers, ranges, values};
+use crate::words::{Words, numbers};
 use mask_bits::BitBuffer;
 use std::alloc::Global;
 
@@ -22,7 +21,7 @@ pub enum Making {
     FromBuffer(Option<BitBuffer>),
     FromRows(Vec<bool>),
     WithSlices(Option<Ranged>),
-    Common(usize, BitBuffer, BitBuffer),
+    Common(usize, Bits, Bits),
     CommonOfOne(usize, usize, usize),
 }
 
@@ -41,67 +40,48 @@ impl Making {
         }
     }
 
-    /// The constructor of this name, if it is one, and its operands by the words behind it.
-    pub fn read(alloc: Global, name: &str, words: &str) -> Result<Option<Making>, Fault> {
+    /// The constructor of this name, if it is one, and its operands.
+    pub fn read(words: &mut Words<'_>, name: &str) -> Option<Making> {
         if let Some(call) = ByLength::named(name) {
-            return Ok(Some(Making::ByLength(call, number(words)?, true)));
+            return Some(Making::ByLength(call, words.number(), true));
         }
-        if name == "from_buffer" {
-            return Ok(Some(Making::FromBuffer(Some(packed::read(alloc, words)?))));
+        if let Some(call) = ByIndices::named(name) {
+            return Some(Making::ByIndices(call, words.number(), words.numbers()));
         }
-        if name == "from_rows" {
-            return Ok(Some(Making::FromRows(values(alloc, words)?)));
-        }
-        match words.split_once(' ') {
-            Some((first, rest)) => read_two(alloc, name, first, rest),
-            None => Ok(None),
+        match name {
+            "new" => Some(Making::ByLength(ByLength::New, words.number(), words.next() == "1")),
+            "from_buffer" => Some(Making::FromBuffer(Bits::next(words).buffer)),
+            "from_rows" => Some(Making::FromRows(words.values())),
+            "from_slices" => Some(Making::FromSlices(words.number(), words.ranges())),
+            "from_buffer_with_slices" => Some(Making::WithSlices(next_ranged(words))),
+            "from_intersection_indices" => Some(next_common(words)),
+            _ => None,
         }
     }
 }
 
-fn read_two(alloc: Global, name: &str, first: &str, rest: &str) -> Result<Option<Making>, Fault> {
-    if let Some(call) = ByIndices::named(name) {
-        return read_indices(alloc, call, first, rest);
-    }
-    match name {
-        "new" => Ok(Some(Making::ByLength(ByLength::New, number(first)?, rest == "1"))),
-        "from_slices" => Ok(Some(Making::FromSlices(number(first)?, ranges(alloc, rest)?))),
-        "from_buffer_with_slices" => read_ranged(alloc, first, rest),
-        "from_intersection_indices" => read_common(alloc, first, rest),
-        _ => Ok(None),
-    }
+fn next_ranged(words: &mut Words<'_>) -> Option<Ranged> {
+    let (len, ranges) = (words.number(), words.ranges());
+    let ranged = Ranged::of_ranges(words.alloc, len, ranges);
+    words.found(ranged)
 }
 
-fn read_indices(
-    alloc: Global,
-    call: ByIndices,
-    len: &str,
-    list: &str,
-) -> Result<Option<Making>, Fault> {
-    let len = number(len)?;
-    Ok(Some(Making::ByIndices(call, len, numbers(alloc, list)?)))
-}
-
-fn read_ranged(alloc: Global, len: &str, list: &str) -> Result<Option<Making>, Fault> {
-    let list = ranges(alloc, list)?;
-    let ranged = Ranged::of_ranges(alloc, number(len)?, list)?;
-    Ok(Some(Making::WithSlices(Some(ranged))))
-}
-
-fn read_common(alloc: Global, len: &str, lists: &str) -> Result<Option<Making>, Fault> {
-    let len = number(len)?;
-    match lists.split_once(' ') {
-        Some(("max", "max")) => Ok(Some(Making::CommonOfOne(len, usize::MAX, usize::MAX))),
-        Some((lhs, rhs)) => {
-            let lhs = true_at(alloc, lhs)?;
-            Ok(Some(Making::Common(len, lhs, true_at(alloc, rhs)?)))
-        }
-        None => Err(Fault::Malformed("two lists of indices")),
+fn next_common(words: &mut Words<'_>) -> Making {
+    let (len, lhs, rhs) = (words.number(), words.next(), words.next());
+    if lhs == "max" && rhs == "max" {
+        return Making::CommonOfOne(len, usize::MAX, usize::MAX);
     }
+    Making::Common(len, true_at(words, lhs), true_at(words, rhs))
 }
 
 // A buffer of a thousand values that is true at these indices.
-fn true_at(alloc: Global, list: &str) -> Result<BitBuffer, Fault> {
-    let list = numbers(alloc, list)?;
-    from_indices(alloc, 1_000, &list)
+fn true_at(words: &mut Words<'_>, list: &str) -> Bits {
+    let buffer = match numbers(words.alloc, list) {
+        Ok(list) => from_indices(words.alloc, 1_000, &list),
+        Err(fault) => Err(fault),
+    };
+    Bits {
+        buffer: words.found(buffer),
+        held: None,
+    }
 }

@@ -3,6 +3,7 @@
 use crate::answer::Answer;
 use crate::fault::{Fault, answer};
 use crate::operand::{Operand, mask};
+use crate::words::{Words, push};
 use std::alloc::Global;
 use std::mem;
 use vortex_mask::Mask;
@@ -70,21 +71,25 @@ pub fn run_intersect_all<'a>(
     Answer::of_uncached(intersect_all_by_rank(alloc, &first.mask, second, third))
 }
 
-fn push_mask(alloc: Global, masks: &mut Vec<Mask>, word: &str) -> Result<(), Fault> {
-    let mask = mask(alloc, word)?;
-    match masks.push(mask) {
-        Ok(()) => Ok(()),
-        Err(_) => Err(Fault::Memory),
-    }
+/// Masks by all words that are left, or none for `()`.
+pub fn next_masks(words: &mut Words<'_>) -> Vec<Mask> {
+    let masks = read_masks(words.alloc, words.all());
+    words.list(masks)
 }
 
-/// Masks by words with a space between two, or none for `()`.
-pub fn read_masks(alloc: Global, words: &str) -> Result<Vec<Mask>, Fault> {
+fn read_masks(alloc: Global, words: &str) -> Result<Vec<Mask>, Fault> {
     let mut masks: Vec<Mask> = Vec::new(alloc);
     if words != "()" {
         for word in words.split(' ') {
-            push_mask(alloc, &mut masks, word)?;
+            push_mask(&mut masks, mask(alloc, word))?;
         }
     }
     Ok(masks)
+}
+
+fn push_mask(masks: &mut Vec<Mask>, mask: Result<Mask, Fault>) -> Result<(), Fault> {
+    match mask {
+        Ok(mask) => push(masks, mask),
+        Err(fault) => Err(fault),
+    }
 }

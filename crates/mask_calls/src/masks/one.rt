@@ -1,6 +1,7 @@
 //! Calls of one mask.
 
 use crate::answer::Answer;
+use crate::bits::Bits;
 use crate::fault::{Fault, answer};
 use crate::masks::made::from_iter_of;
 use crate::operand::Operand;
@@ -32,9 +33,12 @@ pub fn into_bit_buffer(alloc: Global, mask: Mask) -> Result<BitBuffer, Fault> {
 /// Makes the call of `equals_buffer`.
 pub fn run_equals_buffer<'a>(
     operand: &'a mut Operand,
-    buffer: &'a mut BitBuffer,
+    bits: &'a mut Bits,
 ) -> Result<Answer<'a>, Fault> {
-    Ok(Answer::Flag(operand.mask.equals_buffer(buffer)))
+    match bits.get() {
+        Ok(buffer) => Ok(Answer::Flag(operand.mask.equals_buffer(buffer))),
+        Err(fault) => Err(fault),
+    }
 }
 
 /// A call of one mask.

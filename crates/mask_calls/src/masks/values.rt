@@ -3,9 +3,10 @@
 use crate::answer::{Answer, write_mixed};
 use crate::fault::{Fault, answer};
 use crate::operand::Operand;
-use crate::words::{number, place_of};
+use crate::text::Text;
+use crate::words::{Words, place_of};
 use mask_bits::BitBuffer;
-use std::alloc::{AllocError, Global};
+use std::alloc::Global;
 use vortex_mask::{Mask, MaskIter, MaskValues};
 
 pub fn clone(values: &MaskValues) -> Result<MaskValues, Fault> {
@@ -73,46 +74,43 @@ impl ValuesCall {
         }
     }
 
-    /// The call of this name, if it is one of mixed values, and its operands by the words behind it.
-    pub fn read(alloc: Global, name: &str, words: &str) -> Result<Option<ValuesCall>, Fault> {
-        if let Some(call) = OfValues::named(name) {
-            let operand = Operand::read(alloc, words)?;
-            return Ok(Some(ValuesCall::Of(call, of_mask(&operand.mask)?)));
+    /// The call of this name, behind `values.`, and its operands.
+    pub fn read(words: &mut Words<'_>, name: &str) -> Option<ValuesCall> {
+        let operand = Operand::next(words);
+        match words.found(of_mask(&operand.mask)) {
+            Some(values) => ValuesCall::of(words, name, values),
+            None => None,
         }
-        match (name, words.split_once(' ')) {
-            ("values.value", Some((first, rest))) => {
-                let operand = Operand::read(alloc, first)?;
-                Ok(Some(ValuesCall::Value(of_mask(&operand.mask)?, number(rest)?)))
+    }
+
+    fn of(words: &mut Words<'_>, name: &str, values: MaskValues) -> Option<ValuesCall> {
+        if let Some(call) = OfValues::named(name) {
+            return Some(ValuesCall::Of(call, values));
+        }
+        match name {
+            "value" => Some(ValuesCall::Value(values, words.number())),
+            "threshold_iter" => {
+                Some(ValuesCall::Threshold(values, words.number(), words.number()))
             }
-            ("values.threshold_iter", Some((first, rest))) => read_threshold(alloc, first, rest),
-            _ => Ok(None),
+            _ => None,
         }
     }
 
     /// Writes what the call changed in place: the values after it, with what they have cached.
-    pub fn write_changed(&self, text: &mut String) -> Result<(), AllocError> {
+    pub fn write_changed(&self, text: &mut Text) {
         match self {
             ValuesCall::Of(OfValues::Indices | OfValues::Slices, values) => {
-                write_after(text, values)
+                write_after(text, values);
             }
             ValuesCall::Threshold(values, _, _) => write_after(text, values),
-            _ => Ok(()),
+            _ => {}
         }
     }
 }
 
-fn write_after(text: &mut String, values: &MaskValues) -> Result<(), AllocError> {
-    text.push_str(" then ")?;
-    write_mixed(text, values)
-}
-
-fn read_threshold(alloc: Global, mask: &str, numbers: &str) -> Result<Option<ValuesCall>, Fault> {
-    let Some((num, den)) = numbers.split_once(' ') else {
-        return Err(Fault::Malformed("two numbers"));
-    };
-    let (num, den) = (number(num)?, number(den)?);
-    let operand = Operand::read(alloc, mask)?;
-    Ok(Some(ValuesCall::Threshold(of_mask(&operand.mask)?, num, den)))
+fn write_after(text: &mut Text, values: &MaskValues) {
+    text.put(" then ");
+    write_mixed(text, values);
 }
 
 /// A call of mixed values.
@@ -135,7 +133,7 @@ impl OfValues {
     pub fn named(name: &str) -> Option<OfValues> {
         match place_of(
             name,
-            "values.clone values.into_bit_buffer values.len values.is_empty values.true_count values.density values.bit_buffer values.indices values.slices values.debug",
+            "clone into_bit_buffer len is_empty true_count density bit_buffer indices slices debug",
         ) {
             0 => Some(OfValues::Clone),
             1 => Some(OfValues::IntoBitBuffer),

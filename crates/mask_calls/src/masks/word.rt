@@ -2,7 +2,7 @@
 
 use crate::answer::Answer;
 use crate::fault::Fault;
-use crate::words::{number, place_of};
+use crate::words::place_of;
 use vortex_mask::intersect_by_rank::{
     DepositBits, ExtractBits, Portable, PortableLoop, SelectBit, deposit_bytewise,
     deposit_two_holes, deposit_two_lowest,
@@ -80,9 +80,4 @@ impl OfWords {
             OfWords::Select => Answer::of_number(select(source, second)),
         }
     }
-}
-
-/// The words, of a row such as `0x5 0x1A`.
-pub fn read(first: &str, second: &str) -> Result<(usize, usize), Fault> {
-    Ok((number(first)?, number(second)?))
 }

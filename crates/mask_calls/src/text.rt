@@ -1,0 +1,136 @@
+//! Text that is written piece by piece.
+
+use std::alloc::{AllocError, Global};
+use std::fmt::{Debug, Display};
+
+/// A text, and whether memory was refused for a piece of it. A piece answers nothing and has no clause, so that a
+/// body that writes many is proved soon.
+#[derive(Drop)]
+pub struct Text {
+    text: String,
+    is_refused: bool,
+}
+
+impl Text {
+    /// An empty text.
+    pub fn new(alloc: Global) -> Text {
+        Text {
+            text: String::new(alloc),
+            is_refused: false,
+        }
+    }
+
+    /// The whole text.
+    pub fn finish(self) -> Result<String, AllocError> {
+        if self.is_refused {
+            Err(AllocError)
+        } else {
+            Ok(self.text)
+        }
+    }
+
+    /// Writes a part.
+    pub fn put(&mut self, part: &str) {
+        if self.text.push_str(part).is_err() {
+            self.is_refused = true;
+        }
+    }
+
+    /// Writes a number.
+    pub fn put_number(&mut self, number: usize) {
+        if write!(self.text, "{number}").is_err() {
+            self.is_refused = true;
+        }
+    }
+
+    /// Writes a word in hexadecimal digits.
+    pub fn put_hex(&mut self, word: u64) {
+        if write!(self.text, "{word:#X}").is_err() {
+            self.is_refused = true;
+        }
+    }
+
+    /// Writes what `Display` says.
+    pub fn put_display<T: Display>(&mut self, value: &T) {
+        if write!(self.text, "{value}").is_err() {
+            self.is_refused = true;
+        }
+    }
+
+    /// Writes what `Debug` says.
+    pub fn put_debug<T: Debug>(&mut self, value: &T) {
+        if write!(self.text, "{value:?}").is_err() {
+            self.is_refused = true;
+        }
+    }
+
+    /// Writes a mark, and the number behind it.
+    pub fn put_next(&mut self, mark: &str, number: usize) {
+        self.put(mark);
+        self.put_number(number);
+    }
+
+    /// Writes a number, and what there are so many of.
+    pub fn put_count(&mut self, count: usize, what: &str) {
+        self.put_number(count);
+        self.put(what);
+    }
+
+    /// Writes two numbers with a mark between.
+    pub fn put_pair(&mut self, first: usize, mark: &str, second: usize) {
+        self.put_number(first);
+        self.put_next(mark, second);
+    }
+
+    /// Writes a truth value as a digit.
+    pub fn put_digit(&mut self, value: bool) {
+        self.put(if value { "1" } else { "0" });
+    }
+
+    /// Writes the numbers with a comma between two, or `-`, or how many they are if they are many.
+    pub fn put_numbers(&mut self, numbers: &[usize]) {
+        if numbers.is_empty() {
+            self.put("-");
+        } else if numbers.len() > LONGEST {
+            self.put_count(numbers.len(), " numbers");
+        } else {
+            self.put_each(numbers);
+        }
+    }
+
+    fn put_each(&mut self, numbers: &[usize]) {
+        let mut mark = "";
+        for number in numbers {
+            self.put_next(mark, *number);
+            mark = ",";
+        }
+    }
+
+    /// Writes the ranges with a comma between two, or `-`, or how many they are if they are many.
+    pub fn put_ranges(&mut self, ranges: &[(usize, usize)]) {
+        if ranges.is_empty() {
+            self.put("-");
+        } else if ranges.len() > LONGEST {
+            self.put_count(ranges.len(), " ranges");
+        } else {
+            self.put_each_range(ranges);
+        }
+    }
+
+    fn put_each_range(&mut self, ranges: &[(usize, usize)]) {
+        let mut mark = "";
+        for range in ranges {
+            self.put_range(mark, *range);
+            mark = ",";
+        }
+    }
+
+    /// Writes a mark, and the range behind it.
+    pub fn put_range(&mut self, mark: &str, range: (usize, usize)) {
+        self.put(mark);
+        self.put_pair(range.0, "..", range.1);
+    }
+}
+
+/// Longer lists are written by their length.
+pub const LONGEST: usize = 200;
