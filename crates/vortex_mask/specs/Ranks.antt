@@ -1,6 +1,7 @@
 -- Ranks: numbers of true values, ascending. What an iterator of them yields, and where a walk over them stands.
-use Rattle.std.specs.Prelude.{ℕ, ◌≡◌, ◌+◌, ◌-◌, ◌*◌, ◌<◌, ◌≤◌, Bool, true, Option, List, length, slice_index, count_ones, All}
+use Rattle.std.specs.Prelude.{ℕ, ◌≡◌, ◌+◌, ◌-◌, ◌*◌, ◌<◌, ◌≤◌, Bool, true, false, nat_eq, Option, List, length, slice_index, slice_index_or, count_ones, All, take}
 use Rattle.std.specs.Iterator.Runs.{Run}
+use Rattle.std.specs.List.{list_any}
 use Rattle.std.specs.List.Sorted.{IsStrictlyIncreasing}
 use Rattle.mask_bits.specs.Positions.{count_below}
 use Rattle.mask_bits.specs.Words.{word_bits, padded_part, started_words}
@@ -18,6 +19,13 @@ pub record AreSplit (indices : List ℕ) (n limit : ℕ) : Type 0 where
   pub within : n ≤ length indices
   pub before : (k : ℕ) → k < n → slice_index indices k < limit
   pub after : (k : ℕ) → n ≤ k → k < length indices → limit ≤ slice_index indices k
+
+-- the first `next` of these indices are below `end`, the others from `at` on, and of the first ones those from `at` on are set bits
+pub record IsGathered (indices : List ℕ) (at end next bits : ℕ) : Type 0 where
+  pub within : next ≤ length indices
+  pub before : (k : ℕ) → k < next → slice_index indices k < end
+  pub after : (k : ℕ) → next ≤ k → k < length indices → at ≤ slice_index indices k
+  pub set : (j : ℕ) → j < 64 → slice_index_or (word_bits bits) j false ≡ list_any (nat_eq (at + j)) (take next indices)
 
 -- the first n words of m are read: the last of them is w, and `before` of the values in front of it are true
 pub record HasRead (m : List Bool) (n w before : ℕ) : Type 0 where

@@ -1,7 +1,8 @@
 -- Ascending ranks as the rank bits of a word.
 use Rattle.std.proofs.lemmas.Grind.{common_steps}
-use Rattle.std.proofs.Common.{◌≡◌, ℕ, zero, suc, ◌+◌, ◌-◌, ◌*◌, ◌<◌, ◌≤◌, ◌^◌, ◌||◌, Bool, true, false, nat_eq, List, [], ◌∷◌, length, get_or, take, drop, refl, sym, ap, ◌∙◌, arith, ◌%◌, mod-eq_of_lt}
+use Rattle.std.proofs.Common.{◌≡◌, ℕ, zero, suc, ◌+◌, ◌-◌, ◌*◌, ◌<◌, ◌≤◌, ◌^◌, ◌||◌, ◌⊎◌, inl, inr, Bool, true, false, nat_eq, List, [], ◌∷◌, length, get_or, take, drop, refl, sym, ap, subst, ◌∙◌, arith, ◌%◌, mod-eq_of_lt}
 use Rattle.std.proofs.Math.Pow.{pow-lt}
+use lib.Bits.{or_zero_r}
 use Rattle.std.specs.Int.RustNames.{bit_or}
 use Rattle.std.specs.List.{list_any}
 use Rattle.std.specs.List.Sorted.{IsStrictlyIncreasing}
@@ -15,14 +16,7 @@ use Rattle.mask_bits.specs.Words.{word_bits, padded_part}
 use Rattle.vortex_mask.proofs.Kernels.WordKernelLemmas.{AreRankBits, place-after_within}
 use Rattle.mask_bits.proofs.Lists.Words.ShiftLemmas.{get_or-word_bits_or}
 use Rattle.mask_bits.proofs.Lists.Words.WordLemmas.{get_or-word_bits}
-use Rattle.vortex_mask.specs.Ranks.{AreSplit}
-
--- the first `next` ranks are below `end`, the others from `at` on, and of the first ones those from `at` on are set bits
-pub record IsGathered (ranks : List ℕ) (at end next bits : ℕ) : Type 0 where
-  pub within : next ≤ length ranks
-  pub before : (k : ℕ) → k < next → get_or ranks k 0 < end
-  pub after : (k : ℕ) → next ≤ k → k < length ranks → at ≤ get_or ranks k 0
-  pub set : (j : ℕ) → j < 64 → get_or (word_bits bits) j false ≡ list_any (nat_eq (at + j)) (take next ranks)
+use Rattle.vortex_mask.specs.Ranks.{AreSplit, IsGathered}
 
 -- ---- a place that none is
 
@@ -40,7 +34,7 @@ rises xs i (suc n) ascending h =
     let next : i + suc n ≡ i + n + 1 = omega arith in
     omega (arith, rises xs i n ascending (omega arith), ascending (i + n) (omega arith), ap (λ k. get_or xs k 0) next)
 
-rises-to : (xs : List ℕ) (i k : ℕ) → IsStrictlyIncreasing xs → i ≤ k → k < length xs → get_or xs i 0 ≤ get_or xs k 0
+pub rises-to : (xs : List ℕ) (i k : ℕ) → IsStrictlyIncreasing xs → i ≤ k → k < length xs → get_or xs i 0 ≤ get_or xs k 0
 rises-to xs i k ascending h inside =
     let there : i + (k - i) ≡ k = omega arith in
     omega (arith, rises xs i (k - i) ascending (omega arith), ap (λ j. get_or xs j 0) there)
@@ -61,6 +55,80 @@ pow_in_word d few = let small : 2 ^ d < 2 ^ 64 = pow-lt few in omega (arith, mod
 pub gathered-more : (ranks : List ℕ) (at end next bits bit : ℕ) → next < length ranks → get_or ranks next 0 < end → bit ≡ 2 ^ (get_or ranks next 0 - at)
     → IsGathered ranks at end next bits → IsGathered ranks at end (next + 1) (bit_or bits bit)
 gathered-more ranks at end next bits bit inside below is g = grind (arith, common_steps, cases_lt, get_or-word_bits_or, bit_of_pow, take_more, list_any-append)
+
+-- four of them
+pub gathered-four : (ranks : List ℕ) (at end next bits : ℕ) → IsStrictlyIncreasing ranks → end ≤ at + 64 → next + 4 ≤ length ranks → get_or ranks (next + 3) 0 < end
+    → IsGathered ranks at end next bits
+    → IsGathered ranks at end (next + 4)
+    (bit_or (bit_or (bit_or (bit_or bits (1 * 2 ^ (get_or ranks next 0 - at) % 2 ^ 64)) (1 * 2 ^ (get_or ranks (next + 1) 0 - at) % 2 ^ 64)) (1 * 2 ^ (get_or ranks (next + 2) 0 - at) % 2 ^ 64))
+    (1 * 2 ^ (get_or ranks (next + 3) 0 - at) % 2 ^ 64))
+gathered-four ranks at end next bits ascending few inside below g =
+    let bit : ℕ → ℕ = λ k. 1 * 2 ^ (get_or ranks k 0 - at) % 2 ^ 64 in
+    let one : ℕ = bit_or bits (bit next) in
+    let two : ℕ = bit_or one (bit (next + 1)) in
+    let three : ℕ = bit_or two (bit (next + 2)) in
+    let four : ℕ = bit_or three (bit (next + 3)) in
+    let e2 : next + 1 + 1 ≡ next + 2 = omega arith in
+    let e3 : next + 2 + 1 ≡ next + 3 = omega arith in
+    let e4 : next + 3 + 1 ≡ next + 4 = omega arith in
+    let under : (k : ℕ) → k ≤ next + 3 → get_or ranks k 0 < end = λ k h. omega (arith, rises-to ranks k (next + 3) ascending h (omega arith)) in
+    let is : (k : ℕ) → k ≤ next + 3 → bit k ≡ 2 ^ (get_or ranks k 0 - at) = λ k h. pow_in_word (get_or ranks k 0 - at) (omega (arith, under k h)) in
+    let g1 : IsGathered ranks at end (next + 1) one = gathered-more ranks at end next bits (bit next) (omega arith) (under next (omega arith)) (is next (omega arith)) g in
+    let g2 : IsGathered ranks at end (next + 2) two = subst (λ n. IsGathered ranks at end n two) e2 (gathered-more ranks at end (next + 1) one (bit (next + 1)) (omega arith) (under (next + 1) (omega arith)) (is (next + 1) (omega arith)) g1) in
+    let g3 : IsGathered ranks at end (next + 3) three = subst (λ n. IsGathered ranks at end n three) e3 (gathered-more ranks at end (next + 2) two (bit (next + 2)) (omega arith) (under (next + 2) (omega arith)) (is (next + 2) (omega arith)) g2) in
+    subst (λ n. IsGathered ranks at end n four) e4 (gathered-more ranks at end (next + 3) three (bit (next + 3)) (omega arith) (under (next + 3) (omega arith)) (is (next + 3) (omega arith)) g3)
+
+-- three, of which those from the end on leave all as it is
+module _ (ranks : List ℕ) (at end next bits a b c x y z : ℕ) (ascending : IsStrictlyIncreasing ranks) (inside : next + 3 ≤ length ranks) (g : IsGathered ranks at end next bits)
+  (below0 : get_or ranks next 0 < end → (a ≡ 2 ^ (get_or ranks next 0 - at)) × (x ≡ 1)) (past0 : end ≤ get_or ranks next 0 → (a ≡ 0) × (x ≡ 0))
+  (below1 : get_or ranks (next + 1) 0 < end → (b ≡ 2 ^ (get_or ranks (next + 1) 0 - at)) × (y ≡ 1)) (past1 : end ≤ get_or ranks (next + 1) 0 → (b ≡ 0) × (y ≡ 0))
+  (below2 : get_or ranks (next + 2) 0 < end → (c ≡ 2 ^ (get_or ranks (next + 2) 0 - at)) × (z ≡ 1)) (past2 : end ≤ get_or ranks (next + 2) 0 → (c ≡ 0) × (z ≡ 0)) where
+  rise1 : get_or ranks next 0 < get_or ranks (next + 1) 0
+  rise1 = ascending next (omega arith)
+
+  rise2 : get_or ranks (next + 1) 0 < get_or ranks (next + 2) 0
+  rise2 = let e : next + 1 + 1 ≡ next + 2 = omega arith in omega (arith, ascending (next + 1) (omega arith), ap (λ k. get_or ranks k 0) e)
+
+  abbrev one : ℕ
+  one = bit_or bits a
+
+  abbrev two : ℕ
+  two = bit_or one b
+
+  abbrev three : ℕ
+  three = bit_or two c
+
+  unchanged : (v w : ℕ) → w ≡ 0 → bit_or v w ≡ v
+  unchanged v w e = ap (bit_or v) e ∙ or_zero_r v
+
+  by0 : (get_or ranks next 0 < end) ⊎ (end ≤ get_or ranks next 0) → IsGathered ranks at end (next + x) one
+  by0 (inl h) =
+      let n : next + 1 ≡ next + x = omega (arith, (below0 h).1) in
+      subst (λ k. IsGathered ranks at end k one) n (gathered-more ranks at end next bits a (omega arith) h (below0 h).0 g)
+  by0 (inr h) =
+      let n : next ≡ next + x = omega (arith, (past0 h).1) in
+      subst (λ k. IsGathered ranks at end k one) n (subst (IsGathered ranks at end next) (sym (unchanged bits a (past0 h).0)) g)
+
+  by1 : (get_or ranks (next + 1) 0 < end) ⊎ (end ≤ get_or ranks (next + 1) 0) → IsGathered ranks at end (next + x) one → IsGathered ranks at end (next + x + y) two
+  by1 (inl h) g1 =
+      let m : next + x ≡ next + 1 = omega (arith, (below0 (omega (arith, rise1, h))).1) in
+      let n : next + 1 + 1 ≡ next + x + y = omega (arith, m, (below1 h).1) in
+      subst (λ k. IsGathered ranks at end k two) n (gathered-more ranks at end (next + 1) one b (omega arith) h (below1 h).0 (subst (λ k. IsGathered ranks at end k one) m g1))
+  by1 (inr h) g1 =
+      let n : next + x ≡ next + x + y = omega (arith, (past1 h).1) in
+      subst (λ k. IsGathered ranks at end k two) n (subst (IsGathered ranks at end (next + x)) (sym (unchanged one b (past1 h).0)) g1)
+
+  by2 : (get_or ranks (next + 2) 0 < end) ⊎ (end ≤ get_or ranks (next + 2) 0) → IsGathered ranks at end (next + x + y) two → IsGathered ranks at end (next + (x + y + z)) three
+  by2 (inl h) g2 =
+      let m : next + x + y ≡ next + 2 = omega (arith, (below0 (omega (arith, rise1, rise2, h))).1, (below1 (omega (arith, rise2, h))).1) in
+      let n : next + 2 + 1 ≡ next + (x + y + z) = omega (arith, m, (below2 h).1) in
+      subst (λ k. IsGathered ranks at end k three) n (gathered-more ranks at end (next + 2) two c (omega arith) h (below2 h).0 (subst (λ k. IsGathered ranks at end k two) m g2))
+  by2 (inr h) g2 =
+      let n : next + x + y ≡ next + (x + y + z) = omega (arith, (past2 h).1) in
+      subst (λ k. IsGathered ranks at end k three) n (subst (IsGathered ranks at end (next + x + y)) (sym (unchanged two c (past2 h).0)) g2)
+
+  pub gathered-three : IsGathered ranks at end (next + (x + y + z)) (bit_or (bit_or (bit_or bits a) b) c)
+  gathered-three = by2 (cases_lt (get_or ranks (next + 2) 0) end) (by1 (cases_lt (get_or ranks (next + 1) 0) end) (by0 (cases_lt (get_or ranks next 0) end)))
 
 pub gathered-split : (ranks : List ℕ) (at end next bits : ℕ) → IsStrictlyIncreasing ranks → (next < length ranks → end ≤ get_or ranks next 0) → IsGathered ranks at end next bits → AreSplit ranks next end
 gathered-split ranks at end next bits ascending stop g = grind (arith, rises-to)

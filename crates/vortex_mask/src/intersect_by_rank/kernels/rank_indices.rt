@@ -1,6 +1,6 @@
 //! The kernel over a bit buffer and the indices of a rank mask: one deposit for each started word.
 
-ghost use Rattle.std.specs.Prelude.{◌≡◌, ◌*◌, ◌<◌, ◌≤◌, All, IfOk, IsOkUnless, alloc_error, length, ◌+◌, ◌^◌, ℕ, false, nat_eq, slice_index_or};
+ghost use Rattle.std.specs.Prelude.{◌≡◌, ◌*◌, ◌<◌, ◌≤◌, All, IfOk, IsOkUnless, alloc_error, length, ◌+◌, ◌-◌, ◌^◌, ℕ, false, nat_eq, slice_index_or};
 ghost use Rattle.std.specs.List.Sorted.{IsStrictlyIncreasing};
 ghost use Rattle.std.specs.List.{list_any};
 ghost use Rattle.mask_bits.specs.Bitmap.{bitmap};
@@ -11,7 +11,7 @@ ghost use Rattle.vortex_mask.specs.Mask.{truth, variant, fitting_variant, all_fa
 ghost use Rattle.vortex_mask.specs.MaskValues.{no_caches};
 ghost use Rattle.vortex_mask.specs.Steps.{word_steps};
 ghost use Rattle.mask_bits.specs.Words.{word_bits, started_words};
-ghost use Rattle.vortex_mask.specs.Ranks.{AreSplit};
+ghost use Rattle.vortex_mask.specs.Ranks.{AreSplit, IsGathered};
 
 use crate::intersect_by_rank::{DepositBits, Steps};
 use crate::mask::{Mask, MaskError};
@@ -104,10 +104,77 @@ fn bits_of_ranks(ranks: &[usize], next: &mut usize, at: usize, end: usize) -> u6
         → slice_index_or (word_bits result) k false ≡ list_any (nat_eq (at + k)) ranks.now }
     ensures passed { AreSplit ranks.now next.new end }
 {
-    let mut bits = 0u64;
+    let mut bits = bits_of_most(ranks, next, at, end);
     while *next < ranks.len() && ranks[*next] < end {
         bits |= 1 << (ranks[*next] - at);
         *next += 1;
     }
     bits
+}
+
+// The bits of those ranks, unless they are among the last three of all.
+#[inline(always)]
+fn bits_of_most(ranks: &[usize], next: &mut usize, at: usize, end: usize) -> u64
+    requires ascending { IsStrictlyIncreasing ranks.now }
+    requires ordered { at ≤ end }
+    requires few { end ≤ at + 64 }
+    requires from { AreSplit ranks.now next.old at }
+    ensures { IsGathered ranks.now at end next.new result }
+{
+    if *next == ranks.len() || ranks[*next] >= end {
+        return 0;
+    }
+    let bits = bits_of_fours(ranks, next, at, end);
+    with_three(ranks, next, at, end, bits)
+}
+
+// The bits of ranks as long as four of them are below `end`. A test of each one would be guessed
+// wrong once in most words.
+#[inline(always)]
+fn bits_of_fours(ranks: &[usize], next: &mut usize, at: usize, end: usize) -> u64
+    requires ascending { IsStrictlyIncreasing ranks.now }
+    requires ordered { at ≤ end }
+    requires few { end ≤ at + 64 }
+    requires from { AreSplit ranks.now next.old at }
+    ensures { IsGathered ranks.now at end next.new result }
+{
+    let mut bits = 0u64;
+    while *next + 4 <= ranks.len() && ranks[*next + 3] < end {
+        bits |= 1 << (ranks[*next] - at);
+        bits |= 1 << (ranks[*next + 1] - at);
+        bits |= 1 << (ranks[*next + 2] - at);
+        bits |= 1 << (ranks[*next + 3] - at);
+        *next += 4;
+    }
+    bits
+}
+
+// `bits`, and those of the next three ranks that are below `end`, if there are three more.
+#[inline(always)]
+fn with_three(ranks: &[usize], next: &mut usize, at: usize, end: usize, bits: u64) -> u64
+    requires ascending { IsStrictlyIncreasing ranks.now }
+    requires few { end ≤ at + 64 }
+    requires gathered { IsGathered ranks.now at end next.old bits }
+    ensures { IsGathered ranks.now at end next.new result }
+{
+    if *next + 3 > ranks.len() {
+        return bits;
+    }
+    let first = bit_below(ranks[*next], at, end);
+    let second = bit_below(ranks[*next + 1], at, end);
+    let third = bit_below(ranks[*next + 2], at, end);
+    *next += (first.1 + second.1 + third.1) as usize;
+    bits | first.0 | second.0 | third.0
+}
+
+// The bit of a rank and 1 where it is below `end`, and else none and 0, without a branch.
+#[inline(always)]
+fn bit_below(rank: usize, at: usize, end: usize) -> (u64, u64)
+    requires from { at ≤ rank }
+    requires few { end ≤ at + 64 }
+    ensures below { rank < end → result ≡ (2 ^ (rank - at), 1) }
+    ensures past { end ≤ rank → result ≡ (0, 0) }
+{
+    let is_below = (rank < end) as u64;
+    (is_below << ((rank - at) % 64), is_below)
 }

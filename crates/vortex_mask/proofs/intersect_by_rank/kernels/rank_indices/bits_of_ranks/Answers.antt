@@ -1,10 +1,10 @@
 use Rattle.std.proofs.Common.{◌-◌, ◌<◌, get_or, arith}
 use Rattle.vortex_mask.specs.Ranks.{AreSplit}
-use Rattle.vortex_mask.proofs.Kernels.RankWordLemmas.{gathered-none, gathered-more, gathered-split, gathered-bits, pow_in_word}
+use Rattle.vortex_mask.proofs.Kernels.RankWordLemmas.{gathered-more, gathered-split, gathered-bits, pow_in_word}
 use Rattle.vortex_mask.proofs.intersect_by_rank.kernels.rank_indices.bits_of_ranks.Goals as goal
 
 pub loop-next-init : goal.loop-next-init
-loop-next-init c = gathered-none c.args.ranks.now c.args.at c.args.end c.args.next.now c.requires.ordered c.requires.from
+loop-next-init c = c.bits_of_most-bits.ensures
 
 pub loop-next-preserved : goal.loop-next-preserved
 loop-next-preserved c =

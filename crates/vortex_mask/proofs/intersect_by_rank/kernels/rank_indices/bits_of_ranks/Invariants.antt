@@ -1,5 +1,5 @@
 use Rattle.std.proofs.Common.{◌-◌, length}
-use Rattle.vortex_mask.proofs.Kernels.RankWordLemmas.{IsGathered}
+use Rattle.vortex_mask.specs.Ranks.{IsGathered}
 use Rattle.vortex_mask.proofs.intersect_by_rank.kernels.rank_indices.bits_of_ranks.Given as goal
 
 -- the ranks before the next one are set bits

@@ -1,0 +1,10 @@
+use Rattle.std.proofs.Common.{◌-◌, length}
+use Rattle.vortex_mask.specs.Ranks.{IsGathered}
+use Rattle.vortex_mask.proofs.intersect_by_rank.kernels.rank_indices.bits_of_fours.Given as goal
+
+-- the ranks before the next one are set bits
+abbrev pub invariant-loop-next : goal.invariant-loop-next
+invariant-loop-next l = IsGathered l.ranks l.at l.end l.next l.bits
+
+abbrev pub decreases-loop-next : goal.decreases-loop-next
+decreases-loop-next l = length l.ranks - l.next
