@@ -6,4 +6,5 @@ pub mod DepositLemmas
 pub mod HoleLemmas
 pub mod LaneLemmas
 pub mod NetworkLemmas
+pub mod NibbleLemmas
 pub mod SetPlaceLemmas

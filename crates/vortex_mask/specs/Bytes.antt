@@ -1,5 +1,5 @@
 -- The byte-wise deposit network, one byte at a time: what each step computes, and what stands where after it.
-use Rattle.std.specs.Prelude.{ℕ, List, zero, suc, slice_index, ◌<◌, ◌+◌, ◌-◌, ◌*◌, ◌/◌, ◌%◌, ◌^◌, nat_eq, if◌then◌else◌, bit_and, bit_or, bit_xor, sum_by}
+use Rattle.std.specs.Prelude.{ℕ, List, zero, suc, slice_index, length, ◌≡◌, ◌<◌, ◌+◌, ◌-◌, ◌*◌, ◌/◌, ◌%◌, ◌^◌, nat_eq, if◌then◌else◌, bit_and, bit_or, bit_xor, sum_by}
 use Rattle.std.specs.Int.{bit_at}
 use Rattle.std.specs.List.{range_with_len}
 
@@ -61,3 +61,18 @@ zeros_before (suc s) mask = halved (2 ^ s) (zeros_before s mask) (odd_places (2 
 -- the bits at these places, moved up by a step, and the others as they are
 unfoldable pub moved_up : ℕ → ℕ → ℕ → ℕ
 moved_up step places b = bit_or (bit_and b (255 - places)) (bit_and b places * 2 ^ step)
+
+-- ---- a nibble of four bits, whose set places have at most three clear ones below them, so that two moves do
+
+-- a nibble in each of sixteen lanes
+pub record AreNibbles (v : List ℕ) : Type 0 where
+  pub lanes : length v ≡ 16
+  pub small : EachLane (λ j. slice_index v j < 16)
+
+-- the bits of a nibble that the move by two places leaves where they are
+unfoldable pub stays_in : ℕ → ℕ
+stays_in mask = packed_after 3 mask - landed_in 1 mask
+
+-- a nibble's bits, of which some move up by two places, and then some by one
+unfoldable pub nibble_moved_up : ℕ → ℕ → ℕ
+nibble_moved_up mask b = let moved = bit_or (bit_and b (stays_in mask)) (bit_and b (landed_in 1 mask) * 2 ^ 2) in moved + bit_and moved (landed_in 0 mask)

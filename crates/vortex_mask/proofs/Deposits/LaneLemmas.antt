@@ -1,5 +1,5 @@
 -- Vectors of the bytes of two words, lane by lane.
-use Rattle.std.proofs.Common.{◌≡◌, ℕ, zero, suc, ◌+◌, ◌-◌, ◌*◌, ◌/◌, ◌%◌, ◌^◌, ◌<◌, ◌≤◌, ◌⊎◌, inl, inr, List, [], ◌∷◌, length, get_or, refl, sym, ap, ap₂, subst, ◌∙◌, arith, w8, bit_and, Fits, count_ones, pow-add, pow-suc}
+use Rattle.std.proofs.Common.{◌≡◌, ℕ, zero, suc, ◌+◌, ◌-◌, ◌*◌, ◌/◌, ◌%◌, ◌^◌, ◌<◌, ◌≤◌, ◌⊎◌, inl, inr, List, [], ◌∷◌, length, get_or, refl, sym, ap, ap₂, subst, ◌∙◌, arith, w8, bit_and, Fits, count_ones, pow-add, pow-suc, map, replicate, T, eqb, eqb→eq}
 use Rattle.std.specs.Simd.Lanes.{zip2, Each1, number_l, digits_l, chunk}
 use Rattle.std.proofs.lemmas.Simd.{length-swz_l, get_or-swz_l_below, swz_l, SwzOk, SwzOk-from_below, Each1-from_get_or, Each1-get_or, Each1-chunk, get_or-chunk, get_or_wider, get_or_narrower}
 use Rattle.std.proofs.lemmas.Nat.{shr-shr, shl-shr, and_mask, ones-le}
@@ -10,7 +10,8 @@ use Rattle.mask_bits.specs.Lanes.{AreLanes}
 use Rattle.vortex_mask.specs.Bytes.{byte_at, EachLane, byte_of_two, landed_in}
 use Rattle.vortex_mask.proofs.Deposits.ByteCountLemmas.{summed, ones_below-byte, Deposits-from_bytes}
 use Rattle.vortex_mask.proofs.Deposits.ByteLemmas.{byte_at-lt, byte_at-zero, byte_at-suc}
-use Rattle.vortex_mask.proofs.Deposits.NetworkLemmas.{deposit_alike, landed_in-lt}
+use Rattle.vortex_mask.proofs.Deposits.NetworkLemmas.{deposit_alike, landed_in-lt, all_below, every_below}
+use Rattle.mask_bits.proofs.Lists.Words.LaneLemmas.{AreLanes-itself, AreLanes-map, AreLanes-zip2, AreLanes-splat, AreLanes-same}
 use Rattle.vortex_mask.proofs.Deposits.DepositLemmas.{deposit}
 use Rattle.vortex_mask.proofs.Deposits.SetPlaceLemmas.{ones_below, ones_below-le}
 use Rattle.vortex_mask.specs.Deposit.{Deposits}
@@ -183,5 +184,31 @@ gathered_alike s w i g h bits =
     let few : n ≤ 8 = ones-le 8 b (byte_at-lt w i) in
     let e : 8 - n + n ≡ 8 = omega arith in
     let x = s / 2 ^ ones_below w (8 * i) in
-    deposit_alike g (x % 2 ^ 8) b (byte_at-lt w i)
+    deposit_alike 8 g (x % 2 ^ 8) b (byte_at-lt w i)
     (bits n few (omega (arith, ones_below-byte w i, ones_below-le w (8 * suc i))) ∙ sym (ap (λ k. x % 2 ^ k % 2 ^ n) (sym e) ∙ mod-mod-pow x (8 - n) n))
+
+-- ---- the products by which bits of two bytes move up
+
+abbrev pub powers : List ℕ
+powers = 128 ∷ 64 ∷ 32 ∷ 16 ∷ 8 ∷ 4 ∷ 2 ∷ 1 ∷ 128 ∷ 64 ∷ 32 ∷ 16 ∷ 8 ∷ 4 ∷ 2 ∷ 1 ∷ []
+
+are_powers : T (all_below (λ r. eqb (get_or powers r 0) (2 ^ (7 - r))) 8)
+are_powers = tt
+
+power_at : (r : ℕ) → r < 8 → get_or powers r 0 ≡ 2 ^ (7 - r)
+power_at r h = eqb→eq _ _ (every_below (λ i. eqb (get_or powers i 0) (2 ^ (7 - i))) 8 are_powers r h)
+
+-- the number of each lane's power
+pub numbers : (from : List ℕ) → length from ≡ 16 → AreLanes 16 (zip2 bit_and from (replicate 16 7)) (λ j. get_or from j 0 % 8)
+numbers from long = AreLanes-same (AreLanes-zip2 bit_and (AreLanes-itself 16 from long) (AreLanes-splat 16 7)) (λ j h. and_mask (get_or from j 0) 3)
+
+-- and the power
+pub power : (from : List ℕ) → length from ≡ 16 → AreLanes 16 (swz_l w8 16 powers 0 (zip2 bit_and from (replicate 16 7))) (λ j. 2 ^ (7 - get_or from j 0 % 8))
+power from long = AreLanes-same (AreLanes-swz_l _ _ (numbers from long) (λ j h. omega arith) powers) (λ j h. power_at (get_or from j 0 % 8) (omega arith))
+
+-- the two bytes as a number
+pub both : (low high : List ℕ) → length low ≡ 16 → length high ≡ 16 → Each1 (Fits w8) low → Each1 (Fits w8) high
+    → AreLanes 16 (zip2 (λ a b. (a + b) % 2 ^ 16) (map (λ n. n) low) (zip2 (λ a b. a * 2 ^ b % 2 ^ 16) (map (λ n. n) high) (replicate 16 8))) (λ j. get_or low j 0 + get_or high j 0 * 2 ^ 8)
+both low high ll lh fl fh =
+    AreLanes-same (AreLanes-zip2 (λ a b. (a + b) % 2 ^ 16) (AreLanes-map (λ n. n) (AreLanes-itself 16 low ll)) (AreLanes-zip2 (λ a b. a * 2 ^ b % 2 ^ 16) (AreLanes-map (λ n. n) (AreLanes-itself 16 high lh)) (AreLanes-splat 16 8)))
+    (λ j h. omega (arith, EachLane-fits low ll fl j h, EachLane-fits high lh fh j h))

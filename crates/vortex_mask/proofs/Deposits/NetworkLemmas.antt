@@ -13,11 +13,11 @@ abbrev pub all_below : (ℕ → Bool) → ℕ → Bool
 all_below p zero = true
 all_below p (suc n) = p n && all_below p n
 
-and_l : (a b : Bool) → T (a && b) → T a
+pub and_l : (a b : Bool) → T (a && b) → T a
 and_l true b h = tt
 and_l false b h = absurd h
 
-and_r : (a b : Bool) → T (a && b) → T b
+pub and_r : (a b : Bool) → T (a && b) → T b
 and_r true b h = h
 and_r false b h = absurd h
 
@@ -37,11 +37,11 @@ agree n f g s b h hs hb =
 -- ---- the count of a byte's set bits
 
 -- the set bits among the k lowest
-unfoldable ones_among : ℕ → ℕ → ℕ
+unfoldable pub ones_among : ℕ → ℕ → ℕ
 ones_among zero n = 0
 ones_among (suc k) n = n % 2 + ones_among k (n / 2)
 
-ones_among-is : (k n : ℕ) → n < 2 ^ k → ones_among k n ≡ count_ones n
+pub ones_among-is : (k n : ℕ) → n < 2 ^ k → ones_among k n ≡ count_ones n
 unfolding ones_among
 ones_among-is zero n h = omega (arith, ones-le 0 n h)
 ones_among-is (suc k) n h = omega (arith, ones_step n, ones_among-is k (n / 2) (omega (arith, pow-suc 2 k)))
@@ -180,8 +180,8 @@ moved_back m b hm =
     ∙ deposit-taken 8 b m
 
 -- a mask's deposit is decided by as many low bits as it has set
-pub deposit_alike : (a b m : ℕ) → m < 256 → a % 2 ^ count_ones m ≡ b % 2 ^ count_ones m → deposit 8 a m ≡ deposit 8 b m
-deposit_alike a b m h e =
-    let n = ones_among-is 8 m h in
-    let taken : (x : ℕ) → deposit 8 (x % 2 ^ count_ones m) m ≡ deposit 8 x m = λ x. ap (λ k. deposit 8 (x % 2 ^ k) m) (sym n) ∙ deposit-taken 8 x m in
-    sym (taken a) ∙ ap (λ x. deposit 8 x m) e ∙ taken b
+pub deposit_alike : (k a b m : ℕ) → m < 2 ^ k → a % 2 ^ count_ones m ≡ b % 2 ^ count_ones m → deposit k a m ≡ deposit k b m
+deposit_alike k a b m h e =
+    let n = ones_among-is k m h in
+    let taken : (x : ℕ) → deposit k (x % 2 ^ count_ones m) m ≡ deposit k x m = λ x. ap (λ i. deposit k (x % 2 ^ i) m) (sym n) ∙ deposit-taken k x m in
+    sym (taken a) ∙ ap (λ x. deposit k x m) e ∙ taken b

@@ -1,6 +1,7 @@
 //! Deposits: the bits of one word at the set places of another.
 
 mod bytewise;
+mod nibbles;
 
 ghost use Rattle.std.specs.Prelude.{ℕ, ◌≡◌, ◌<◌, ◌≤◌, ◌+◌, ◌*◌, ◌/◌, ◌%◌, ◌^◌, ◌↔◌, ◌⊎◌, IsTrue, slice_index};
 ghost use Rattle.mask_bits.specs.Positions.{count};
@@ -9,7 +10,7 @@ ghost use Rattle.vortex_mask.specs.Deposit.{Deposits};
 ghost use Rattle.vortex_mask.specs.Path.{is_deposited_by_loop};
 
 pub use bytewise::deposit_bytewise;
-use bytewise::deposit_two_bytewise;
+use nibbles::deposit_two_by_nibbles;
 
 /// Scatters the low bits of a word to the set bits of a mask word, as the instruction PDEP does.
 pub trait DepositBits {
@@ -66,15 +67,15 @@ impl DepositBits for Portable {
 
     #[inline(always)]
     fn deposit_two(sources: [u64; 2], masks: [u64; 2], mask_counts: [usize; 2]) -> [u64; 2] {
-        if is_closed(mask_counts[0]) && is_closed(mask_counts[1]) {
+        if sources[0] | sources[1] == 0 {
+            [0, 0]
+        } else if is_closed(mask_counts[0]) && is_closed(mask_counts[1]) {
             [
                 deposit_closed(sources[0], masks[0], mask_counts[0]),
                 deposit_closed(sources[1], masks[1], mask_counts[1]),
             ]
-        } else if sources[0] | sources[1] == 0 {
-            [0, 0]
         } else {
-            deposit_two_bytewise(sources, masks)
+            deposit_two_by_nibbles(sources, masks)
         }
     }
 }

@@ -41,7 +41,7 @@ ghost use Rattle.std.specs.Prelude.{◌≡◌, ℕ, ◌+◌, ◌-◌, ◌*◌, �
 ghost use Rattle.mask_bits.specs.Positions.{count_below};
 ghost use Rattle.mask_bits.specs.Words.{word_bits};
 ghost use Rattle.mask_bits.specs.Lanes.{AreLanes};
-ghost use Rattle.vortex_mask.specs.Bytes.{EachLane, byte_of_two, packed_after, landed_in, odd_places, moved_down, with_moved, halved, moved_up};
+ghost use Rattle.vortex_mask.specs.Bytes.{EachLane, byte_at, byte_of_two, packed_after, landed_in, odd_places, moved_down, with_moved, halved, moved_up};
 ghost use Rattle.vortex_mask.specs.Deposit.{Deposits};
 
 use std::simd::prelude::*;
@@ -72,7 +72,7 @@ pub(super) fn deposit_two_bytewise(sources: [u64; 2], masks: [u64; 2]) -> [u64; 
 
 // The bytes of two words as lanes.
 #[inline(always)]
-fn bytes_of(words: u64x2) -> u8x16
+pub(super) fn bytes_of(words: u64x2) -> u8x16
     ensures { AreLanes 16 result (byte_of_two words) }
 {
     words.to_le_bytes()
@@ -80,7 +80,7 @@ fn bytes_of(words: u64x2) -> u8x16
 
 // The words whose bytes the lanes are.
 #[inline(always)]
-fn words_of(lanes: u8x16) -> u64x2
+pub(super) fn words_of(lanes: u8x16) -> u64x2
     ensures words { length result ≡ 2 }
     ensures bytes { EachLane (λ j. byte_of_two result j ≡ slice_index lanes j) }
 {
@@ -89,7 +89,7 @@ fn words_of(lanes: u8x16) -> u64x2
 
 // In each lane, the number of set bits in all lower bytes of its word.
 #[inline(always)]
-fn counts_below(masks: u64x2) -> u8x16
+pub(super) fn counts_below(masks: u64x2) -> u8x16
     ensures { AreLanes 16 result
         (λ j. count_below (word_bits (slice_index masks (j / 8))) (8 * (j % 8))) }
 {
@@ -193,12 +193,36 @@ fn gather(words: u64x2, below: u8x16) -> u8x16
         → slice_index result j % 2 ^ n
         ≡ slice_index words (j / 8) / 2 ^ slice_index below j % 2 ^ n) }
 {
+    let bytes = neighbors(words, below);
+    eight_bits(bytes.low, bytes.high, below)
+}
+
+#[derive(Clone, Copy)]
+pub(super) struct TwoBytes {
+    pub(super) low: u8x16,
+    pub(super) high: u8x16,
+}
+
+// In each lane, the byte of its word in which bit `below` is, and the next one of the word.
+#[inline(always)]
+pub(super) fn neighbors(words: u64x2, below: u8x16) -> TwoBytes
+    requires { EachLane (λ j. slice_index below j < 64) }
+    ensures low_lanes { length result.low ≡ 16 }
+    ensures high_lanes { length result.high ≡ 16 }
+    ensures low { EachLane (λ j. slice_index result.low j
+        ≡ byte_at (slice_index words (j / 8)) (slice_index below j / 8)) }
+    ensures high { EachLane (λ j. slice_index below j / 8 < 7 → slice_index result.high j
+        ≡ byte_at (slice_index words (j / 8)) (slice_index below j / 8 + 1)) }
+{
     let bytes = bytes_of(words);
     // the second word's bytes are the lanes from 8 on
     let base = u8x16::from_array([0, 0, 0, 0, 0, 0, 0, 0, 8, 8, 8, 8, 8, 8, 8, 8]);
     let at = base + (below >> u8x16::splat(3));
     let next = (at + u8x16::splat(1)) & u8x16::splat(15);
-    eight_bits(bytes.swizzle_dyn(at), bytes.swizzle_dyn(next), below)
+    TwoBytes {
+        low: bytes.swizzle_dyn(at),
+        high: bytes.swizzle_dyn(next),
+    }
 }
 
 // In each lane, eight bits of the number whose two bytes are `low` and `high`, from that lane of

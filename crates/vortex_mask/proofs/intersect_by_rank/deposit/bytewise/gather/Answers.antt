@@ -1,62 +1,11 @@
-use Rattle.std.proofs.Common.{◌≡◌, ◌+◌, ◌*◌, ◌/◌, ◌%◌, ◌^◌, ◌<◌, ℕ, T, eqb, eqb→eq, ap, ap₂, ◌∙◌, bit_and, arith, get_or, List, [], ◌∷◌, length, replicate, refl}
-use Rattle.std.specs.Simd.Lanes.{zip2}
-use Rattle.std.proofs.lemmas.Nat.{and_mask}
-use Rattle.mask_bits.specs.Lanes.{AreLanes}
-use Rattle.vortex_mask.specs.Bytes.{EachLane, byte_at}
-use Rattle.mask_bits.proofs.Lists.Words.LaneLemmas.{AreLanes-itself, AreLanes-zip2, AreLanes-splat, AreLanes-same}
-use Rattle.vortex_mask.proofs.Deposits.LaneLemmas.{SwzOk-lanes, AreLanes-swz_l, eight_from}
-use Rattle.vortex_mask.proofs.Deposits.NetworkLemmas.{all_below, every_below}
+use Rattle.std.proofs.Common.{◌%◌, ◌^◌, ap, ◌∙◌, get_or, ◌/◌}
+use Rattle.vortex_mask.proofs.Deposits.LaneLemmas.{eight_from}
 use Rattle.vortex_mask.proofs.intersect_by_rank.deposit.bytewise.gather.Goals as goal
-
-abbrev base : List ℕ
-base = 0 ∷ 0 ∷ 0 ∷ 0 ∷ 0 ∷ 0 ∷ 0 ∷ 0 ∷ 8 ∷ 8 ∷ 8 ∷ 8 ∷ 8 ∷ 8 ∷ 8 ∷ 8 ∷ []
-
-are_bases : T (all_below (λ j. eqb (get_or base j 0) (8 * (j / 8))) 16)
-are_bases = tt
-
-base_at : (j : ℕ) → j < 16 → get_or base j 0 ≡ 8 * (j / 8)
-base_at j h = eqb→eq _ _ (every_below (λ i. eqb (get_or base i 0) (8 * (i / 8))) 16 are_bases j h)
-
-module _ (below : List ℕ) (long : length below ≡ 16) (inside : EachLane (λ j. get_or below j 0 < 64)) where
-  -- the lane of the first of two bytes
-  abbrev at : List ℕ
-  at = zip2 (λ a b. (a + b) % 2 ^ 8) base (zip2 (λ a b. a / 2 ^ b) below (replicate 16 3))
-
-  firsts : AreLanes 16 at (λ j. 8 * (j / 8) + get_or below j 0 / 8)
-  firsts =
-      AreLanes-same (AreLanes-zip2 (λ a b. (a + b) % 2 ^ 8) (AreLanes-itself 16 base refl) (AreLanes-zip2 (λ a b. a / 2 ^ b) (AreLanes-itself 16 below long) (AreLanes-splat 16 3)))
-      (λ j h. omega (arith, base_at j h, inside j h))
-
-  -- and of the second
-  seconds : AreLanes 16 (zip2 bit_and (zip2 (λ a b. (a + b) % 2 ^ 8) at (replicate 16 1)) (replicate 16 15)) (λ j. (8 * (j / 8) + get_or below j 0 / 8 + 1) % 16)
-  seconds =
-      AreLanes-same (AreLanes-zip2 bit_and (AreLanes-zip2 (λ a b. (a + b) % 2 ^ 8) firsts (AreLanes-splat 16 1)) (AreLanes-splat 16 15))
-      (λ j h. and_mask ((8 * (j / 8) + get_or below j 0 / 8 + 1) % 2 ^ 8) 4 ∙ omega (arith, inside j h))
-
-pub swizzle : goal.swizzle
-swizzle c = SwzOk-lanes _ _ (firsts c.args.below c.fits-below.0 c.requires) (λ j h. omega (arith, c.requires j h))
-
-pub swizzle-2 : goal.swizzle-2
-swizzle-2 c = SwzOk-lanes _ _ (seconds c.args.below c.fits-below.0 c.requires) (λ j h. omega arith)
 
 pub returns-clause-lanes : goal.returns-clause-lanes
 returns-clause-lanes c = c.eight_bits.ensures.lanes
 
 pub returns-clause-bits : goal.returns-clause-bits
 returns-clause-bits c = λ j h n few room.
-    let words = c.args.words in
-    let b = get_or c.args.below j 0 in
-    let at = 8 * (j / 8) + b / 8 in
-    let bytes = c.bytes_of-bytes.result in
-    let inside : b < 64 = c.requires j h in
-    let low = (AreLanes-swz_l _ _ (firsts c.args.below c.fits-below.0 c.requires) (λ i l. omega (arith, c.requires i l)) bytes).each j h ∙ c.bytes_of-bytes.ensures.each at (omega arith) in
-    let high = (AreLanes-swz_l _ _ (seconds c.args.below c.fits-below.0 c.requires) (λ i l. omega arith) bytes).each j h ∙ c.bytes_of-bytes.ensures.each ((at + 1) % 16) (omega arith) in
-    let d : at / 8 ≡ j / 8 = omega arith in
-    let m : at % 8 ≡ b / 8 = omega arith in
     ap (λ x. x % 2 ^ n) (c.eight_bits.ensures.each j h)
-    ∙ eight_from (get_or words (j / 8) 0) b n _ _ (low ∙ ap₂ (λ k i. byte_at (get_or words k 0) i) d m)
-    (λ l.
-    let dn : (at + 1) % 16 / 8 ≡ j / 8 = omega arith in
-    let mn : (at + 1) % 16 % 8 ≡ b / 8 + 1 = omega arith in
-    high ∙ ap₂ (λ k i. byte_at (get_or words k 0) i) dn mn)
-    few room
+    ∙ eight_from (get_or c.args.words (j / 8) 0) (get_or c.args.below j 0) n _ _ (c.neighbors-bytes.ensures.low j h) (λ l. c.neighbors-bytes.ensures.high j h l) few room
