@@ -1,5 +1,5 @@
 -- A rank intersection word by word: each started word of the mask takes a deposit of rank bits.
-use Rattle.std.proofs.Common.{◌≡◌, ℕ, suc, ◌+◌, ◌*◌, ◌-◌, ◌/◌, ◌<◌, ◌≤◌, ◌⊎◌, Bool, false, List, [], ◌∷◌, length, get_or, take, drop, refl, sym, ap, subst, ◌∙◌, inl, inr, arith, ◌^◌}
+use Rattle.std.proofs.Common.{◌≡◌, ℕ, suc, ◌+◌, ◌*◌, ◌-◌, ◌/◌, ◌<◌, ◌≤◌, ◌⊎◌, Bool, false, List, [], ◌∷◌, length, get_or, take, drop, refl, sym, ap, ap₂, subst, ◌∙◌, inl, inr, arith, ◌^◌}
 use Rattle.std.proofs.Math.Seq.{take-add}
 use Rattle.std.proofs.lemmas.Bool.{cases_lt}
 use Rattle.std.proofs.lemmas.List.{ext_get_or, get_or-take, get_or-drop, get_or_past, length-take, take_all, take-append-drop}
@@ -103,16 +103,16 @@ deposited-more a b i at s m ones w out new before read after fits so_far shows c
     }
 
 -- two words after one another
-pub deposited-two : (a b : List Bool) (i at s s₂ m m₂ ones ones₂ w w₂ : ℕ) (out half new : List ℕ) (before read read₂ after : StepCounts) → length b ≡ count a
+pub deposited-two : (a b : List Bool) (i at s s₂ m m₂ ones ones₂ w w₂ : ℕ) (out half new : List ℕ) (before read after : StepCounts) → length b ≡ count a
     → IsDeposited a (rank_intersection a b) i at out before
     → word_bits m ≡ padded_part a i → word_bits m₂ ≡ padded_part a (i + 1) → ones ≡ count (word_bits m) → ones₂ ≡ count (word_bits m₂)
     → AreRankBits b at s (count (word_bits m)) → AreRankBits b (at + ones) s₂ (count (word_bits m₂)) → Deposits s m w → Deposits s₂ m₂ w₂
     → window half (64 * i) ≡ word_bits w → ((p : ℕ) → ((p < 64 * i) ⊎ (64 * i + 64 ≤ p)) → backing_bit half p ≡ backing_bit out p)
     → window new (64 * (i + 1)) ≡ word_bits w₂ → ((p : ℕ) → ((p < 64 * (i + 1)) ⊎ (64 * (i + 1) + 64 ≤ p)) → backing_bit new p ≡ backing_bit half p)
-    → read ≡ record before { words = before.words + 1 } → read₂ ≡ record read { words = read.words + 1 }
-    → after ≡ record read₂ { deposits = read₂.deposits + 2; offered = read₂.offered + ones + ones₂; placed = read₂.placed + count (word_bits w) + count (word_bits w₂) }
+    → read ≡ record before { words = before.words + 2 }
+    → after ≡ record read { deposits = read.deposits + 2; offered = read.offered + ones + ones₂; placed = read.placed + count (word_bits w) + count (word_bits w₂) }
     → IsDeposited a (rank_intersection a b) (i + 2) (at + ones + ones₂) new after
-deposited-two a b i at s s₂ m m₂ ones ones₂ w w₂ out half new before read read₂ after fits so_far shows shows₂ counted counted₂ source source₂ is is₂ here others here₂ others₂ read_one read_two deposited =
+deposited-two a b i at s s₂ m m₂ ones ones₂ w w₂ out half new before read after fits so_far shows shows₂ counted counted₂ source source₂ is is₂ here others here₂ others₂ read_two deposited =
     let r : List Bool = rank_intersection a b in
     let one : StepCounts = record {
       deposits = before.deposits + 1;
@@ -122,21 +122,22 @@ deposited-two a b i at s s₂ m m₂ ones ones₂ w w₂ out half new before rea
       placed = before.placed + count (word_bits w);
       spots = before.spots;
     } in
-    let two : ℕ → StepCounts = λ n. record {
+    let two : ℕ → ℕ → StepCounts = λ n k. record {
       deposits = n;
-      words = before.words + 1 + 1;
+      words = k;
       selections = before.selections;
       offered = before.offered + ones + ones₂;
       placed = before.placed + count (word_bits w) + count (word_bits w₂);
       spots = before.spots;
     } in
     let first = deposited-more a b i at s m ones w out half before (record before { words = before.words + 1 }) one fits so_far shows counted source is here others refl refl in
-    let second = deposited-more a b (i + 1) (at + ones) s₂ m₂ ones₂ w₂ half new one (record one { words = one.words + 1 }) (two (before.deposits + 1 + 1)) fits first shows₂ counted₂ source₂ is₂ here₂ others₂ refl refl in
+    let second = deposited-more a b (i + 1) (at + ones) s₂ m₂ ones₂ w₂ half new one (record one { words = one.words + 1 }) (two (before.deposits + 1 + 1) (before.words + 1 + 1)) fits first shows₂ counted₂ source₂ is₂ here₂ others₂ refl refl in
     let d : before.deposits + 1 + 1 ≡ before.deposits + 2 = omega arith in
+    let k : before.words + 1 + 1 ≡ before.words + 2 = omega arith in
     let e : i + 1 + 1 ≡ i + 2 = omega arith in
-    let same : two (before.deposits + 2) ≡ after = sym (rw (deposited, read_two, read_one) refl) in
+    let same : two (before.deposits + 2) (before.words + 2) ≡ after = sym (rw (deposited, read_two) refl) in
     subst (λ n. IsDeposited a r n (at + ones + ones₂) new after) e
-    (subst (λ (x : StepCounts). IsDeposited a r (i + 1 + 1) (at + ones + ones₂) new x) (ap two d ∙ same) second)
+    (subst (λ (x : StepCounts). IsDeposited a r (i + 1 + 1) (at + ones + ones₂) new x) (ap₂ two d k ∙ same) second)
 
 -- rank bits of a buffer that are read from `at` on
 pub rank_bits-window : (a : List Bool) (b : Packed) (i at s m : ℕ) → length (values b) ≡ count a → at ≡ count_below a (64 * i) → word_bits m ≡ padded_part a i

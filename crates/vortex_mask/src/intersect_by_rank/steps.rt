@@ -3,7 +3,7 @@
 
 ghost use Rattle.std.specs.Prelude.{◌≡◌, ◌+◌, ◌*◌, ◌/◌, ◌<◌, length, slice_index};
 ghost use Rattle.mask_bits.specs.Positions.{count};
-ghost use Rattle.mask_bits.specs.Words.{word_bits, word_part, padded_remainder};
+ghost use Rattle.mask_bits.specs.Words.{word_bits, word_part, padded_part, padded_remainder};
 ghost use Rattle.vortex_mask.specs.Deposit.{Deposits, selected};
 ghost use Rattle.vortex_mask.specs.Steps.{no_steps};
 
@@ -168,6 +168,26 @@ impl Steps {
         } else {
             chunks.remainder_bits()
         }
+    }
+
+    /// Started words `i` and `i + 1` of the values, with zeros past the last value. Counts what two
+    /// calls of [`Steps::word`] would.
+    #[inline(always)]
+    pub fn two_words(&mut self, chunks: &BitChunks<'_>, i: usize) -> (u64, u64)
+        requires room { self.old.words + 1 < usize.MAX }
+        requires there { 64 * (i + 1) < length chunks.now }
+        ensures first { word_bits result.0 ≡ padded_part chunks.now i }
+        ensures second { word_bits result.1 ≡ padded_part chunks.now (i + 1) }
+        ensures ticked { self.new ≡ record self.old { words = self.old.words + 2 } }
+    {
+        let whole = chunks.len();
+        self.words += 2;
+        if i + 1 >= whole {
+            return (chunks.padded_word(i), chunks.padded_word(i + 1));
+        }
+        let first = chunks.word(i);
+        let second = chunks.word(i + 1);
+        (first, second)
     }
 
     /// The place of set bit number `rank` of `word`.

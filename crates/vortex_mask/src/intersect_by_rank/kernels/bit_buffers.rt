@@ -61,7 +61,8 @@ pub fn narrow_by_bits<D: DepositBits>(
     let words = out.len() / 8;
     for pair in 0..words / 2 {
         let i = 2 * pair;
-        let self_words = [steps.word(chunks, i), steps.word(chunks, i + 1)];
+        let both = steps.two_words(chunks, i);
+        let self_words = [both.0, both.1];
         let ones = [
             self_words[0].count_ones() as usize,
             self_words[1].count_ones() as usize,

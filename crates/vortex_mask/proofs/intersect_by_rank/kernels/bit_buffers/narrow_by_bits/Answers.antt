@@ -1,4 +1,4 @@
-use Rattle.std.proofs.Common.{◌≡◌, ◌+◌, ◌*◌, ◌-◌, ◌/◌, sym, subst, arith, count_ones, length}
+use Rattle.std.proofs.Common.{◌≡◌, ◌+◌, ◌*◌, ◌-◌, ◌/◌, sym, subst, arith, count_ones, length, get_or, ◌<◌, ◌^◌}
 use Rattle.mask_bits.specs.Buffer.{values}
 use Rattle.mask_bits.specs.Positions.{rank_intersection}
 use Rattle.mask_bits.proofs.Lists.LawLemmas.{length-rank_intersection}
@@ -11,10 +11,10 @@ overflow_add-next g c =
     let a = c.args.chunks.now in
     let i = 2 * c.loop-pair.pair in
     let at = c.loop-pair.at in
-    let m = c.word.result in
+    let m = c.two_words-both.result.0 in
     let place = c.loop-pair.invariant.place in
-    let counted = sym (count-word_bits m c.word.type_inv) in
-    let shows = word-started a i m (omega arith) c.word.ensures.whole c.word.ensures.last in
+    let counted = sym (count-word_bits m (omega arith)) in
+    let shows = c.two_words-both.ensures.first in
     omega (arith, rank_place-fits a c.args.ranks.now (at + count_ones m) c.requires.fitting (place-after_within a i at m _ place shows counted) c.requires.within.fits)
 
 pub read-requires : goal.read-requires
@@ -26,30 +26,30 @@ read-requires-in-loop-pair g c =
     let a = c.args.chunks.now in
     let i = 2 * c.loop-pair.pair in
     let at = c.loop-pair.at in
-    let m = c.word.result in
+    let m = c.two_words-both.result.0 in
     let place = c.loop-pair.invariant.place in
-    let counted = sym (count-word_bits m c.word.type_inv) in
-    let shows = word-started a i m (omega arith) c.word.ensures.whole c.word.ensures.last in
+    let counted = sym (count-word_bits m (omega arith)) in
+    let shows = c.two_words-both.ensures.first in
     rank_place-fits a c.args.ranks.now (at + count_ones m) c.requires.fitting (place-after_within a i at m _ place shows counted) c.requires.within.fits
 
 pub deposit_two-kept-requires-clause-counted_first : goal.deposit_two-kept-requires-clause-counted_first
-deposit_two-kept-requires-clause-counted_first g c = sym (count-word_bits c.word.result c.word.type_inv)
+deposit_two-kept-requires-clause-counted_first g c = sym (count-word_bits c.two_words-both.result.0 (omega arith))
 
 pub deposit_two-kept-requires-clause-counted_second : goal.deposit_two-kept-requires-clause-counted_second
-deposit_two-kept-requires-clause-counted_second g c = sym (count-word_bits c.word-in-loop-pair.result c.word-in-loop-pair.type_inv)
+deposit_two-kept-requires-clause-counted_second g c = sym (count-word_bits c.two_words-both.result.1 (omega arith))
 
 pub overflow_add-at : goal.overflow_add-at
 overflow_add-at g c =
     let a = c.args.chunks.now in
     let i = 2 * c.loop-pair.pair in
     let at = c.loop-pair.at in
-    let m = c.word.result in
-    let n = c.word-in-loop-pair.result in
+    let m = c.two_words-both.result.0 in
+    let n = c.two_words-both.result.1 in
     let place = c.loop-pair.invariant.place in
-    let counted = sym (count-word_bits m c.word.type_inv) in
-    let counted₂ = sym (count-word_bits n c.word-in-loop-pair.type_inv) in
-    let shows = word-started a i m (omega arith) c.word.ensures.whole c.word.ensures.last in
-    let shows₂ = word-started a (i + 1) n (omega arith) c.word-in-loop-pair.ensures.whole c.word-in-loop-pair.ensures.last in
+    let counted = sym (count-word_bits m (omega arith)) in
+    let counted₂ = sym (count-word_bits n (omega arith)) in
+    let shows = c.two_words-both.ensures.first in
+    let shows₂ = c.two_words-both.ensures.second in
     let place₂ = place-next a i at m _ place shows counted in
     omega (arith, rank_place-fits a c.args.ranks.now (at + count_ones m + count_ones n) c.requires.fitting (place-after_within a (i + 1) (at + count_ones m) n _ place₂ shows₂ counted₂) c.requires.within.fits)
 
@@ -58,23 +58,23 @@ loop-pair-preserved g c =
     let a = c.args.chunks.now in
     let i = 2 * c.loop-pair.pair in
     let at = c.loop-pair.at in
-    let m = c.word.result in
-    let n = c.word-in-loop-pair.result in
+    let m = c.two_words-both.result.0 in
+    let n = c.two_words-both.result.1 in
     let place = c.loop-pair.invariant.place in
-    let counted = sym (count-word_bits m c.word.type_inv) in
-    let counted₂ = sym (count-word_bits n c.word-in-loop-pair.type_inv) in
-    let shows = word-started a i m (omega arith) c.word.ensures.whole c.word.ensures.last in
-    let shows₂ = word-started a (i + 1) n (omega arith) c.word-in-loop-pair.ensures.whole c.word-in-loop-pair.ensures.last in
+    let counted = sym (count-word_bits m (omega arith)) in
+    let counted₂ = sym (count-word_bits n (omega arith)) in
+    let shows = c.two_words-both.ensures.first in
+    let shows₂ = c.two_words-both.ensures.second in
     let place₂ = place-next a i at m _ place shows counted in
     let ranks = c.args.ranks.now in
     let e : i + 2 ≡ 2 * (c.loop-pair.pair + 1) = omega arith in
     subst (λ k. IsDeposited a (rank_intersection a (values ranks)) k (at + count_ones m + count_ones n) c.set_word-in-loop-pair.new.bytes c.deposit_two-kept.new.self) e
     (deposited-two a (values ranks) i at c.read.result c.read-in-loop-pair.result m n _ _ _ _ c.loop-pair.out c.set_word.new.bytes c.set_word-in-loop-pair.new.bytes
-    c.loop-pair.steps c.word.new.self c.word-in-loop-pair.new.self c.deposit_two-kept.new.self c.requires.fitting c.loop-pair.invariant shows shows₂ counted counted₂
+    c.loop-pair.steps c.two_words-both.new.self c.deposit_two-kept.new.self c.requires.fitting c.loop-pair.invariant shows shows₂ counted counted₂
     (rank_bits-window a ranks i at c.read.result m c.requires.fitting place shows c.read.ensures)
     (rank_bits-window a ranks (i + 1) (at + count_ones m) c.read-in-loop-pair.result n c.requires.fitting place₂ shows₂ c.read-in-loop-pair.ensures)
     c.deposit_two-kept.ensures.first c.deposit_two-kept.ensures.second c.set_word.ensures.here c.set_word.ensures.others c.set_word-in-loop-pair.ensures.here c.set_word-in-loop-pair.ensures.others
-    c.word.ensures.ticked c.word-in-loop-pair.ensures.ticked c.deposit_two-kept.ensures.ticked)
+    c.two_words-both.ensures.ticked c.deposit_two-kept.ensures.ticked)
 
 pub read-source-requires : goal.read-source-requires
 read-source-requires g c =
