@@ -80,9 +80,9 @@ gathered-four ranks at end next bits ascending few inside below g =
 
 -- three, of which those from the end on leave all as it is
 module _ (ranks : List ℕ) (at end next bits a b c x y z : ℕ) (ascending : IsStrictlyIncreasing ranks) (inside : next + 3 ≤ length ranks) (g : IsGathered ranks at end next bits)
-  (below0 : get_or ranks next 0 < end → (a ≡ 2 ^ (get_or ranks next 0 - at)) × (x ≡ 1)) (past0 : end ≤ get_or ranks next 0 → (a ≡ 0) × (x ≡ 0))
-  (below1 : get_or ranks (next + 1) 0 < end → (b ≡ 2 ^ (get_or ranks (next + 1) 0 - at)) × (y ≡ 1)) (past1 : end ≤ get_or ranks (next + 1) 0 → (b ≡ 0) × (y ≡ 0))
-  (below2 : get_or ranks (next + 2) 0 < end → (c ≡ 2 ^ (get_or ranks (next + 2) 0 - at)) × (z ≡ 1)) (past2 : end ≤ get_or ranks (next + 2) 0 → (c ≡ 0) × (z ≡ 0)) where
+    (below0 : get_or ranks next 0 < end → (a ≡ 2 ^ (get_or ranks next 0 - at)) × (x ≡ 1)) (past0 : end ≤ get_or ranks next 0 → (a ≡ 0) × (x ≡ 0))
+    (below1 : get_or ranks (next + 1) 0 < end → (b ≡ 2 ^ (get_or ranks (next + 1) 0 - at)) × (y ≡ 1)) (past1 : end ≤ get_or ranks (next + 1) 0 → (b ≡ 0) × (y ≡ 0))
+    (below2 : get_or ranks (next + 2) 0 < end → (c ≡ 2 ^ (get_or ranks (next + 2) 0 - at)) × (z ≡ 1)) (past2 : end ≤ get_or ranks (next + 2) 0 → (c ≡ 0) × (z ≡ 0)) where
   rise1 : get_or ranks next 0 < get_or ranks (next + 1) 0
   rise1 = ascending next (omega arith)
 

@@ -46,8 +46,8 @@ pub trait DepositBits {
 const FEW: usize = 2;
 
 /// Deposits in few steps at every mask: by a closed form where at most two bits of the mask are
-/// set or clear, and by the network between, unless the source is zero. Two words take closed forms
-/// where both masks allow them. Else both go by the network, unless both sources are zero.
+/// set or clear, and by the network between, unless the source is zero. Two words at once take closed
+/// forms where both masks allow them, and else tables of their nibbles, unless both sources are zero.
 pub struct Portable;
 
 impl DepositBits for Portable {

@@ -173,7 +173,7 @@ impl Steps {
     /// Started words `i` and `i + 1` of the values, with zeros past the last value. Counts what two
     /// calls of [`Steps::word`] would.
     #[inline(always)]
-    pub fn two_words(&mut self, chunks: &BitChunks<'_>, i: usize) -> (u64, u64)
+    pub(crate) fn two_words(&mut self, chunks: &BitChunks<'_>, i: usize) -> (u64, u64)
         requires room { self.old.words + 1 < usize.MAX }
         requires there { 64 * (i + 1) < length chunks.now }
         ensures first { word_bits result.0 ≡ padded_part chunks.now i }

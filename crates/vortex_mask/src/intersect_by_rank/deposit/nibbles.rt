@@ -1,16 +1,17 @@
-//! Deposits into two words at once that take what a stage moves from tables, a nibble of four bits at
-//! a time. The network of `bytewise` finds it out by shifts, which takes longer.
+//! Deposits into two words at once that read from tables how the bits of a nibble move: four bits, or
+//! half of a byte. The network of `bytewise` works that out by shifts, which takes longer.
 //!
 //! ```text
-//!           the upper nibble | the lower nibble
-//!    mask        . 1 . 1     |     1 1 . .       two places below, and two here
-//!    bits        . . f e     |     . . d c       gathered from bit `below` on, two bits apart
-//!  by two        . . f e     |     d c . .       a nibble's bit has at most three clear places below
-//!  by one        . f . e     |     d c . .
+//!           upper nibble   lower nibble
+//!    mask     . 1 . 1   |   1 1 . .
+//!    bits     . . d c   |   . . b a     gathered: the first four, and four from bit 2 on
+//!  by two     . . d c   |   b a . .     whose set place has two or three clear ones below it
+//!  by one     . d . c   |   b a . .     whose set place has one or three
 //! ```
 //!
-//! The bits of the upper nibble begin behind those of the lower one. So a product with a power of two
-//! moves them up by as many places as the lower nibble's mask has clear.
+//! A nibble's set places have at most three clear ones below them, so two moves do, by two places and
+//! by one. The upper nibble's bits lie behind those of the lower one, of which there are as many as the
+//! lower nibble's mask has set. A product with a power of two moves them to the upper nibble.
 
 ghost use Rattle.std.specs.Prelude.{◌≡◌, ℕ, ◌+◌, ◌*◌, ◌/◌, ◌%◌, ◌^◌, ◌<◌, ◌≤◌, slice_index, length, count_ones};
 ghost use Rattle.mask_bits.specs.Lanes.{AreLanes};
@@ -69,7 +70,7 @@ fn gather_apart(words: u64x2, below: u8x16, lower: u8x16) -> u8x16
         → slice_index below j + (count_ones (slice_index lower j) + n) ≤ 64
         → slice_index result j / 2 ^ 4 % 2 ^ n
         ≡ slice_index words (j / 8) / 2 ^ slice_index below j
-            / 2 ^ count_ones (slice_index lower j) % 2 ^ n) }
+        / 2 ^ count_ones (slice_index lower j) % 2 ^ n) }
 {
     let bytes = neighbors(words, below);
     four_and_four(bytes.low, bytes.high, below, lower)
@@ -81,9 +82,9 @@ fn gather_apart(words: u64x2, below: u8x16, lower: u8x16) -> u8x16
 fn four_and_four(low: u8x16, high: u8x16, from: u8x16, lower: u8x16) -> u8x16
     requires { EachLane (λ j. slice_index lower j < 16) }
     ensures { AreLanes 16 result (λ j. (slice_index low j + slice_index high j * 2 ^ 8)
-            / 2 ^ (slice_index from j % 8) % 2 ^ 4
+        / 2 ^ (slice_index from j % 8) % 2 ^ 4
         + (slice_index low j + slice_index high j * 2 ^ 8)
-            / 2 ^ (slice_index from j % 8) / 2 ^ count_ones (slice_index lower j) % 2 ^ 4 * 2 ^ 4) }
+        / 2 ^ (slice_index from j % 8) / 2 ^ count_ones (slice_index lower j) % 2 ^ 4 * 2 ^ 4) }
 {
     let powers = u8x16::from_array([128, 64, 32, 16, 8, 4, 2, 1, 128, 64, 32, 16, 8, 4, 2, 1]);
     let power = powers.swizzle_dyn(from & u8x16::splat(7)).cast::<u16>();

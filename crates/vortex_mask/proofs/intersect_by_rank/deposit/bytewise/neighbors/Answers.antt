@@ -39,26 +39,27 @@ swizzle c = SwzOk-lanes _ _ (firsts c.args.below c.fits-below.0 c.requires) (λ 
 pub swizzle-2 : goal.swizzle-2
 swizzle-2 c = SwzOk-lanes _ _ (seconds c.args.below c.fits-below.0 c.requires) (λ j h. omega arith)
 
-pub returns : goal.returns
-returns c =
-    let words = c.args.words in
-    let bytes = c.bytes_of-bytes.result in
-    let first = AreLanes-swz_l _ _ (firsts c.args.below c.fits-below.0 c.requires) (λ i l. omega (arith, c.requires i l)) bytes in
-    let second = AreLanes-swz_l _ _ (seconds c.args.below c.fits-below.0 c.requires) (λ i l. omega arith) bytes in
-    record {
-      low_lanes = first.lanes;
-      high_lanes = second.lanes;
-      low = λ j h.
-          let b = get_or c.args.below j 0 in
-          let at = 8 * (j / 8) + b / 8 in
-          let inside : b < 64 = c.requires j h in
-          let d : at / 8 ≡ j / 8 = omega arith in
-          let m : at % 8 ≡ b / 8 = omega arith in
-          first.each j h ∙ c.bytes_of-bytes.ensures.each at (omega arith) ∙ ap₂ (λ k i. byte_at (get_or words k 0) i) d m;
-      high = λ j h l.
-          let b = get_or c.args.below j 0 in
-          let at = 8 * (j / 8) + b / 8 in
-          let d : (at + 1) % 16 / 8 ≡ j / 8 = omega arith in
-          let m : (at + 1) % 16 % 8 ≡ b / 8 + 1 = omega arith in
-          second.each j h ∙ c.bytes_of-bytes.ensures.each ((at + 1) % 16) (omega arith) ∙ ap₂ (λ k i. byte_at (get_or words k 0) i) d m;
-    }
+pub returns-clause-low_lanes : goal.returns-clause-low_lanes
+returns-clause-low_lanes c = (AreLanes-swz_l _ _ (firsts c.args.below c.fits-below.0 c.requires) (λ i l. omega (arith, c.requires i l)) c.bytes_of-bytes.result).lanes
+
+pub returns-clause-high_lanes : goal.returns-clause-high_lanes
+returns-clause-high_lanes c = (AreLanes-swz_l _ _ (seconds c.args.below c.fits-below.0 c.requires) (λ i l. omega arith) c.bytes_of-bytes.result).lanes
+
+pub returns-clause-low : goal.returns-clause-low
+returns-clause-low c = λ j h.
+    let b = get_or c.args.below j 0 in
+    let at = 8 * (j / 8) + b / 8 in
+    let inside : b < 64 = c.requires j h in
+    let d : at / 8 ≡ j / 8 = omega arith in
+    let m : at % 8 ≡ b / 8 = omega arith in
+    (AreLanes-swz_l _ _ (firsts c.args.below c.fits-below.0 c.requires) (λ i l. omega (arith, c.requires i l)) c.bytes_of-bytes.result).each j h
+    ∙ c.bytes_of-bytes.ensures.each at (omega arith) ∙ ap₂ (λ k i. byte_at (get_or c.args.words k 0) i) d m
+
+pub returns-clause-high : goal.returns-clause-high
+returns-clause-high c = λ j h l.
+    let b = get_or c.args.below j 0 in
+    let at = 8 * (j / 8) + b / 8 in
+    let d : (at + 1) % 16 / 8 ≡ j / 8 = omega arith in
+    let m : (at + 1) % 16 % 8 ≡ b / 8 + 1 = omega arith in
+    (AreLanes-swz_l _ _ (seconds c.args.below c.fits-below.0 c.requires) (λ i v. omega arith) c.bytes_of-bytes.result).each j h
+    ∙ c.bytes_of-bytes.ensures.each ((at + 1) % 16) (omega arith) ∙ ap₂ (λ k i. byte_at (get_or c.args.words k 0) i) d m
