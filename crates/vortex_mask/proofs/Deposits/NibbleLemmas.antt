@@ -1,7 +1,7 @@
 -- The two nibbles of a byte: operations on each, tables computed at each of the sixteen, and a byte's deposit by theirs.
-use Rattle.std.proofs.Common.{◌≡◌, ℕ, zero, suc, ◌+◌, ◌-◌, ◌*◌, ◌/◌, ◌%◌, ◌^◌, ◌<◌, ◌≤◌, ◌⊎◌, inl, inr, T, ◌&&◌, eqb, eqb→eq, ltb, ltb→lt, ap, ap₂, ◌∙◌, sym, subst, arith, bit_and, bit_or, count_ones, add_comm, add-zero, min, mod-lt, lt_of_le_of_lt, pow-suc, List, [], ◌∷◌, get_or, refl}
+use Rattle.std.proofs.Common.{◌≡◌, ℕ, zero, suc, ◌+◌, ◌-◌, ◌*◌, ◌/◌, ◌%◌, ◌^◌, ◌<◌, ◌≤◌, ◌⊎◌, inl, inr, T, ◌&&◌, eqb, eqb→eq, ltb, ltb→lt, ap, ap₂, ◌∙◌, sym, subst, arith, bit_and, bit_or, count_ones, add_comm, min, mod-lt, lt_of_le_of_lt, pow-suc, List, [], ◌∷◌, get_or, refl}
 use Rattle.std.specs.Int.{bit_at}
-use Rattle.std.proofs.lemmas.Nat.{pow_pos, shr-shr, shl-shr, and_mask, and_le_l, ones_cat, ones-le}
+use Rattle.std.proofs.lemmas.Nat.{pow_pos, shr-shr, shl-shr, and_mask, and_le_l, ones-le}
 use Rattle.std.proofs.lemmas.Nat.Bits.{bit_at_and, bit_at_or, bit_at_cat_low, bit_at_cat_high, same_from_bits}
 use Rattle.std.proofs.lemmas.Bool.{cases_lt}
 use lib.Bits.{and_zero_r}

@@ -1,11 +1,9 @@
-use Rattle.std.proofs.Common.{◌≡◌, ◌+◌, ◌-◌, ◌*◌, ◌/◌, ◌%◌, ◌^◌, ◌<◌, ℕ, T, eqb, eqb→eq, bit_and, arith, get_or, List, [], ◌∷◌, length, map, replicate, Fits, w8, w16, pow_mono}
-use Rattle.std.specs.Simd.Lanes.{zip2, Each1}
-use Rattle.std.proofs.lemmas.Simd.{swz_l, widens}
-use Rattle.std.proofs.lemmas.Nat.{and_mask}
+use Rattle.std.proofs.Common.{◌+◌, ◌-◌, ◌*◌, ◌/◌, ◌%◌, ◌^◌, ℕ, bit_and, arith, get_or, List, replicate, w8, w16, pow_mono}
+use Rattle.std.specs.Simd.Lanes.{zip2}
+use Rattle.std.proofs.lemmas.Simd.{widens}
 use Rattle.mask_bits.specs.Lanes.{AreLanes}
-use Rattle.mask_bits.proofs.Lists.Words.LaneLemmas.{AreLanes-itself, AreLanes-map, AreLanes-zip2, AreLanes-splat, AreLanes-same}
+use Rattle.mask_bits.proofs.Lists.Words.LaneLemmas.{AreLanes-map, AreLanes-zip2, AreLanes-splat, AreLanes-same}
 use Rattle.vortex_mask.proofs.Deposits.LaneLemmas.{AreLanes-fit, SwzOk-lanes, cut_out, numbers, power, both}
-use Rattle.vortex_mask.proofs.Deposits.NetworkLemmas.{all_below, every_below}
 use Rattle.vortex_mask.proofs.intersect_by_rank.deposit.bytewise.eight_bits.Goals as goal
 
 pub swizzle : goal.swizzle

@@ -1,4 +1,4 @@
-use Rattle.std.proofs.Common.{◌≡◌, ◌+◌, ◌*◌, ◌-◌, ◌/◌, sym, subst, arith, count_ones, length, get_or, ◌<◌, ◌^◌}
+use Rattle.std.proofs.Common.{◌≡◌, ◌+◌, ◌*◌, ◌-◌, ◌/◌, sym, subst, arith, count_ones, length}
 use Rattle.mask_bits.specs.Buffer.{values}
 use Rattle.mask_bits.specs.Positions.{rank_intersection}
 use Rattle.mask_bits.proofs.Lists.LawLemmas.{length-rank_intersection}

@@ -1,4 +1,4 @@
-use Rattle.std.proofs.Common.{◌≡◌, ◌+◌, ◌*◌, ◌-◌, ◌/◌, sym, ap, subst, ◌∙◌, refl, arith, count_ones, length, get_or, ◌<◌, ◌^◌}
+use Rattle.std.proofs.Common.{◌≡◌, ◌+◌, ◌*◌, ◌-◌, ◌/◌, sym, ap, subst, ◌∙◌, refl, arith, count_ones, length}
 use Rattle.mask_bits.specs.Positions.{count, count_below, true_at, rank_intersection}
 use Rattle.mask_bits.proofs.Lists.LawLemmas.{length-rank_intersection}
 use Rattle.mask_bits.proofs.Lists.Places.PlaceLemmas.{count-le-length}

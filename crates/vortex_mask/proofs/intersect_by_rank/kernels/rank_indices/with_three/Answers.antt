@@ -1,4 +1,4 @@
-use Rattle.std.proofs.Common.{◌+◌, ◌≤◌, ap, arith, length}
+use Rattle.std.proofs.Common.{ap, arith}
 use Rattle.vortex_mask.proofs.Kernels.RankWordLemmas.{gathered-three}
 use Rattle.vortex_mask.proofs.intersect_by_rank.kernels.rank_indices.with_three.Goals as goal
 
