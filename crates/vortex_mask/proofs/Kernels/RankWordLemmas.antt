@@ -2,7 +2,7 @@
 use Rattle.std.proofs.lemmas.Grind.{common_steps}
 use Rattle.std.proofs.Common.{◌≡◌, ℕ, zero, suc, ◌+◌, ◌-◌, ◌*◌, ◌<◌, ◌≤◌, ◌^◌, ◌||◌, ◌⊎◌, inl, inr, Bool, true, false, nat_eq, List, [], ◌∷◌, length, get_or, take, drop, refl, sym, ap, subst, ◌∙◌, arith, ◌%◌, mod-eq_of_lt}
 use Rattle.std.proofs.Math.Pow.{pow-lt}
-use lib.Bits.{or_zero_l, or_zero_r}
+use lib.Bits.{or_zero_r}
 use Rattle.std.specs.Int.RustNames.{bit_or}
 use Rattle.std.specs.List.{list_any}
 use Rattle.std.specs.List.Sorted.{IsStrictlyIncreasing}
@@ -55,11 +55,6 @@ pow_in_word d few = let small : 2 ^ d < 2 ^ 64 = pow-lt few in omega (arith, mod
 pub gathered-more : (ranks : List ℕ) (at end next bits bit : ℕ) → next < length ranks → get_or ranks next 0 < end → bit ≡ 2 ^ (get_or ranks next 0 - at)
     → IsGathered ranks at end next bits → IsGathered ranks at end (next + 1) (bit_or bits bit)
 gathered-more ranks at end next bits bit inside below is g = grind (arith, common_steps, cases_lt, get_or-word_bits_or, bit_of_pow, take_more, list_any-append)
-
--- the first of them
-pub gathered-one : (ranks : List ℕ) (at end next bit : ℕ) → at ≤ end → next < length ranks → get_or ranks next 0 < end → bit ≡ 2 ^ (get_or ranks next 0 - at) → AreSplit ranks next at → IsGathered ranks at end (next + 1) bit
-gathered-one ranks at end next bit ordered inside below is split =
-    subst (IsGathered ranks at end (next + 1)) (or_zero_l bit) (gathered-more ranks at end next 0 bit inside below is (gathered-none ranks at end next ordered split))
 
 -- four of them
 pub gathered-four : (ranks : List ℕ) (at end next bits : ℕ) → IsStrictlyIncreasing ranks → end ≤ at + 64 → next + 4 ≤ length ranks → get_or ranks (next + 3) 0 < end

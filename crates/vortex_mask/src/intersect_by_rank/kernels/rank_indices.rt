@@ -113,7 +113,7 @@ fn bits_of_ranks(ranks: &[usize], next: &mut usize, at: usize, end: usize) -> u6
     bits
 }
 
-// The bits of those ranks, unless they are among the last three of all.
+// The bits of those ranks where there are four or more, unless they are among the last three of all.
 #[inline(always)]
 fn bits_of_most(ranks: &[usize], next: &mut usize, at: usize, end: usize) -> u64
     requires ascending { IsStrictlyIncreasing ranks.now }
@@ -125,26 +125,24 @@ fn bits_of_most(ranks: &[usize], next: &mut usize, at: usize, end: usize) -> u64
     if *next == ranks.len() || ranks[*next] >= end {
         return 0;
     }
-    let bits = 1 << (ranks[*next] - at);
-    *next += 1;
-    // most words of a sparse mask have one rank or none
-    if *next == ranks.len() || ranks[*next] >= end {
-        return bits;
+    if *next + 4 > ranks.len() || ranks[*next + 3] >= end {
+        return 0;
     }
-    let bits = with_fours(ranks, next, at, end, bits);
+    let bits = bits_of_fours(ranks, next, at, end);
     with_three(ranks, next, at, end, bits)
 }
 
-// `bits`, and those of the next ranks as long as four of them are below `end`. A test of each one would
-// be guessed wrong once in most words.
+// The bits of ranks as long as four of them are below `end`. A test of each one would be guessed
+// wrong once in most words.
 #[inline(always)]
-fn with_fours(ranks: &[usize], next: &mut usize, at: usize, end: usize, bits: u64) -> u64
+fn bits_of_fours(ranks: &[usize], next: &mut usize, at: usize, end: usize) -> u64
     requires ascending { IsStrictlyIncreasing ranks.now }
+    requires ordered { at ≤ end }
     requires few { end ≤ at + 64 }
-    requires gathered { IsGathered ranks.now at end next.old bits }
+    requires from { AreSplit ranks.now next.old at }
     ensures { IsGathered ranks.now at end next.new result }
 {
-    let mut bits = bits;
+    let mut bits = 0u64;
     while *next + 4 <= ranks.len() && ranks[*next + 3] < end {
         bits |= 1 << (ranks[*next] - at);
         bits |= 1 << (ranks[*next + 1] - at);
