@@ -183,7 +183,7 @@ impl Steps {
         let whole = chunks.len();
         self.words += 2;
         if i + 1 >= whole {
-            return (chunks.padded_word(i), chunks.padded_word(i + 1));
+            return (chunks.started_word(i), chunks.started_word(i + 1));
         }
         let first = chunks.word(i);
         let second = chunks.word(i + 1);
