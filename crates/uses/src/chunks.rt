@@ -63,6 +63,7 @@ pub fn of_chunk(
     ensures { IfOk result (λ m. truth m ≡ truth chunk.now) }
 {
     laws::part_of_concat();
+    // the chunk ends within the length, which fits
     let _ = all.len();
     all.slice(alloc, start, start + chunk.len())
 }

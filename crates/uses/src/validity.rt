@@ -68,6 +68,7 @@ pub fn next_offset(validity: &Mask, row: usize, before: usize) -> usize
     ensures { result ≡ count_below (truth validity.now) (row + 1) }
 {
     laws::count_below_by_steps();
+    // no row passes the length, which fits
     let _ = validity.len();
     if validity.value(row) {
         before + 1
