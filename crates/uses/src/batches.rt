@@ -9,6 +9,8 @@ ghost use Rattle.mask_bits.specs.Runs.{AreRuns};
 ghost use Rattle.uses.specs.RowGroups.{nulls_of};
 ghost use Rattle.vortex_mask.specs.Mask.{truth};
 
+use crate::all_ranges::ranges;
+use crate::iterators::concat_of_a_slice;
 use mask_bits::{BitBuffer, laws};
 use std::alloc::{AllocError, Global};
 use vortex_mask::{Mask, MaskError};
@@ -68,12 +70,7 @@ pub fn counts_by_group(alloc: Global, filter: &Mask, size: usize) -> Result<Vec<
         (range_with_len 0 (div_ceil (length (truth filter.now)) size))) }
 {
     let groups = filter.groups(alloc, size)?;
-    Ok(
-        groups
-            .iter()
-            .map(|group| group.true_count())
-            .collect(alloc)?,
-    )
+    Ok(groups.iter().map(Mask::true_count).collect(alloc)?)
 }
 
 /// How many groups have a row that a filter chooses.
@@ -89,6 +86,6 @@ pub fn live_groups(alloc: Global, filter: &Mask, size: usize) -> Result<usize, M
 pub fn merged(alloc: Global, groups: &[Mask]) -> Result<Vec<(usize, usize)>, MaskError>
     ensures { IfOk result (λ v. AreRuns (concat (map truth groups.now)) v.items) }
 {
-    let rows = Mask::concat(alloc, groups.iter())?;
-    Ok(rows.set_slices().collect(alloc)?)
+    let rows = concat_of_a_slice(alloc, groups)?;
+    Ok(ranges(alloc, &rows)?)
 }

@@ -1,11 +1,12 @@
 //! The bitmap that is written beside a column, where its rows are not all alike, and bitmaps as they are read.
-ghost use Rattle.std.specs.Prelude.{ℕ, ◌≡◌, ◌≢◌, ◌↔◌, ◌+◌, ◌*◌, ◌<◌, ◌≤◌, ◌^◌, All, IfOk, IfSome, IsOk, IsTrue, false, length, slice_index_or, true, vec_len};
+ghost use Rattle.std.specs.Prelude.{ℕ, ◌≡◌, ◌≢◌, ◌↔◌, ◌+◌, ◌*◌, ◌<◌, ◌≤◌, ◌^◌, All, IfOk, IfSome, IsOk, IsTrue, false, length, nat_eq, slice_index_or, true, vec_len};
 ghost use Rattle.mask_bits.specs.Bitmap.{bitmap};
 ghost use Rattle.mask_bits.specs.Buffer.{values};
 ghost use Rattle.mask_bits.specs.Lists.{and_of};
 ghost use Rattle.mask_bits.specs.Positions.{count, positions, repeated, true_at};
 ghost use Rattle.vortex_mask.specs.Mask.{truth};
 
+use crate::walks::rows;
 use bytes::Bytes;
 use mask_bits::{BitBuffer, laws};
 use std::alloc::{AllocError, Global};
@@ -70,10 +71,20 @@ pub fn without_row(alloc: Global, valid: &BitBuffer, row: usize) -> Result<BitBu
     ensures others { IfOk result (λ b. (i : ℕ) → i < length (values valid.now) → i ≢ row
         → slice_index_or (values b) i false ≡ slice_index_or (values valid.now) i false) }
 {
-    laws::true_at_indices();
     laws::boolean_values();
-    let taken = BitBuffer::from_indices(alloc, valid.len(), &[row])?;
+    let taken = one_row(alloc, valid.len(), row)?;
     valid.bitand_not(alloc, &taken)
+}
+
+// A bitmap that is true at one row alone.
+fn one_row(alloc: Global, rows: usize, row: usize) -> Result<BitBuffer, AllocError>
+    requires { row < rows }
+    ensures len { IfOk result (λ b. length (values b) ≡ rows) }
+    ensures values { IfOk result (λ b. (i : ℕ) → i < rows
+        → slice_index_or (values b) i false ≡ nat_eq i row) }
+{
+    laws::true_at_indices();
+    BitBuffer::from_indices(alloc, rows, &[row])
 }
 
 /// How many rows of a column are valid, by the bytes of its bitmap: no more than it has rows.
@@ -104,6 +115,6 @@ pub fn bitmap_of_rows(alloc: Global, filter: &Mask) -> Result<BitBuffer, AllocEr
         (λ b. values b ≡ true_at (length (truth filter.now)) (positions (truth filter.now))) }
 {
     laws::indices_are_within();
-    let rows: Vec<usize> = filter.set_indices().collect(alloc)?;
+    let rows = rows(alloc, filter)?;
     BitBuffer::from_indices(alloc, filter.len(), &rows)
 }

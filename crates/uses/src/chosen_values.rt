@@ -6,6 +6,7 @@ ghost use Rattle.mask_bits.specs.Positions.{chosen, count, rank_intersection, re
 ghost use Rattle.mask_bits.specs.Words.{word_bits};
 ghost use Rattle.vortex_mask.specs.Mask.{truth};
 
+use crate::stacks::folded_right;
 use mask_bits::laws;
 use std::alloc::Global;
 use vortex_mask::intersect_by_rank::{DepositBits, ExtractBits, Portable};
@@ -77,11 +78,9 @@ pub fn narrowed_by_all_and_by_those_left(
         ≡ rank_intersection (and_of (truth first.now) (truth second.now)) (truth third.now)) }
 {
     laws::choosing_values();
-    laws::rank_intersection_associative();
     laws::rank_intersection_count();
     let ranks = first.choose_values(alloc, second)?;
-    let left = ranks.intersect_by_rank(alloc, third)?;
-    first.intersect_by_rank(alloc, &left)
+    folded_right(alloc, first, &ranks, third)
 }
 
 /// What a filter of the rows that another one chose says of these, read back from both as one.

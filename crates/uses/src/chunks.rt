@@ -1,5 +1,5 @@
 //! A column in chunks, each filtered by its own mask.
-ghost use Rattle.std.specs.Prelude.{◌≡◌, ◌++◌, ◌+◌, ◌∷◌, ◌≤◌, ◌<◌, ◌^◌, map, All, IfOk, flat_map, length};
+ghost use Rattle.std.specs.Prelude.{◌≡◌, ◌++◌, ◌+◌, ◌∷◌, ◌≤◌, ◌<◌, ◌^◌, map, All, Bool, IfOk, List, flat_map, length};
 ghost use Rattle.vortex_mask.specs.Mask.{truth};
 ghost use Rattle.mask_bits.specs.Lists.{concat};
 ghost use Rattle.mask_bits.specs.Positions.{chosen};
@@ -21,10 +21,25 @@ pub fn filtered<T: Copy>(
     ensures { IfOk result (λ v. v.items
         ≡ chosen (first.now ++ second.now) (truth of_first.now ++ truth of_second.now)) }
 {
-    laws::choosing_by_chunks::<T>();
-    let mut rows = of_first.choose(alloc, first)?;
     let more = of_second.choose(alloc, second)?;
-    rows.extend_from_slice(&more)?;
+    chosen_before(alloc, first, of_first, &more)
+}
+
+// The rows that a mask chooses, and behind them those chosen of other rows.
+fn chosen_before<T: Copy>(
+    alloc: Global,
+    rows: &[T],
+    mask: &Mask,
+    more: &[T],
+) -> Result<Vec<T>, MaskError>
+    requires { length rows.now ≡ length (truth mask.now) }
+    ensures { IfOk result (λ v. (others : List T) (of_others : List Bool)
+        → more.now ≡ chosen others of_others
+        → v.items ≡ chosen (rows.now ++ others) (truth mask.now ++ of_others)) }
+{
+    laws::choosing_by_chunks::<T>();
+    let mut rows = mask.choose(alloc, rows)?;
+    rows.extend_from_slice(more)?;
     Ok(rows)
 }
 
@@ -34,15 +49,14 @@ pub fn filtered_all<T: Copy>(alloc: Global, chunks: &[(&[T], &Mask)]) -> Result<
     ensures { IfOk result (λ v. v.items ≡ chosen
         (flat_map (λ c. c.0.now) chunks.now) (flat_map (λ c. truth c.1.now) chunks.now)) }
 {
-    laws::choosing_by_chunks::<T>();
-    laws::choosing::<T>();
     match chunks {
-        [] => Ok(Vec::new(alloc)),
+        [] => {
+            laws::choosing::<T>();
+            Ok(Vec::new(alloc))
+        }
         [(first, mask), others @ ..] => {
-            let mut rows = mask.choose(alloc, first)?;
             let more = filtered_all(alloc, others)?;
-            rows.extend_from_slice(&more)?;
-            Ok(rows)
+            chosen_before(alloc, first, mask, &more)
         }
     }
 }

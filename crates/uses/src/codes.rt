@@ -4,6 +4,7 @@ ghost use Rattle.std.specs.List.Sorted.{IsStrictlyIncreasing};
 ghost use Rattle.vortex_mask.specs.Mask.{truth};
 ghost use Rattle.mask_bits.specs.Positions.{count_below, positions};
 
+use crate::walks::rows;
 use mask_bits::laws;
 use std::alloc::Global;
 use vortex_mask::{Mask, MaskError};
@@ -42,6 +43,6 @@ pub fn sent_and_received(alloc: Global, filter: &Mask) -> Result<Mask, MaskError
     ensures { IfOk result (λ m. truth m ≡ truth filter.now) }
 {
     laws::positions_determine_list();
-    let rows: Vec<usize> = filter.set_indices().collect(alloc)?;
+    let rows = rows(alloc, filter)?;
     Mask::from_indices(alloc, filter.len(), rows.iter().copied())
 }

@@ -20,11 +20,17 @@ pub fn filtered<T: Copy>(alloc: Global, rows: &[T], mask: &mut Mask) -> Result<V
     vortex_mask::laws::cached_lists(mask);
     vortex_mask::laws::variants_of_one_value();
     match mask.threshold_iter(alloc, 1, 2)? {
-        AllOr::All => Ok(Vec::from_slice(alloc, rows)?),
+        AllOr::All => all(alloc, rows),
         AllOr::None => Ok(Vec::new(alloc)),
-        AllOr::Some(MaskIter::Slices(ranges)) => Ok(by_ranges(alloc, rows, ranges)?),
-        AllOr::Some(MaskIter::Indices(indices)) => Ok(by_indices(alloc, rows, indices)?),
+        AllOr::Some(MaskIter::Slices(ranges)) => by_ranges(alloc, rows, ranges),
+        AllOr::Some(MaskIter::Indices(indices)) => by_indices(alloc, rows, indices),
     }
+}
+
+fn all<T: Copy>(alloc: Global, rows: &[T]) -> Result<Vec<T>, MaskError>
+    ensures { IfOk result (λ v. v.items ≡ rows.now) }
+{
+    Ok(Vec::from_slice(alloc, rows)?)
 }
 
 // The rows of ranges that hold exactly the true indices of a mask, whichever that is.
@@ -32,15 +38,14 @@ fn by_ranges<T: Copy>(
     alloc: Global,
     rows: &[T],
     ranges: &[(usize, usize)],
-) -> Result<Vec<T>, AllocError>
+) -> Result<Vec<T>, MaskError>
     requires nonempty { All (λ r. r.0 < r.1) ranges.now }
     requires within { All (λ r. r.1 ≤ length rows.now) ranges.now }
     ensures { IfOk result (λ v. (m : List Bool) → length rows.now ≡ length m
         → AreRanges m ranges.now → v.items ≡ chosen rows.now m) }
 {
     laws::choosing_by_ranges(rows, ranges);
-    let copied = copied(alloc, rows, ranges)?;
-    Ok(copied)
+    Ok(copied(alloc, rows, ranges)?)
 }
 
 // The rows of ranges, one range after another.
@@ -60,11 +65,9 @@ fn copied<T: Copy>(
     Ok(copied)
 }
 
-fn by_indices<T: Copy>(alloc: Global, rows: &[T], indices: &[usize]) -> Result<Vec<T>, AllocError>
+fn by_indices<T: Copy>(alloc: Global, rows: &[T], indices: &[usize]) -> Result<Vec<T>, MaskError>
     ensures { IfOk result (λ v. v.items ≡ filter_map (λ i. slice_get rows.now i) indices.now) }
 {
-    indices
-        .iter()
-        .filter_map(|index| row_at(rows, *index))
-        .collect(alloc)
+    let rows = indices.iter().filter_map(|index| row_at(rows, *index));
+    Ok(rows.collect(alloc)?)
 }

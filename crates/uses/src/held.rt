@@ -69,5 +69,5 @@ pub fn chosen_of(filters: &BTreeMap<String, Mask>, column: &str) -> Option<usize
     ensures { result
         ≡ option_map (λ filter. count (truth filter)) (get_by_text filters.now column.now) }
 {
-    filters.get(column).map(|filter| filter.true_count())
+    filters.get(column).map(Mask::true_count)
 }

@@ -4,6 +4,7 @@ ghost use Rattle.vortex_mask.specs.Mask.{truth};
 ghost use Rattle.mask_bits.specs.Lists.{and_not_of, limited};
 ghost use Rattle.mask_bits.specs.Positions.{count, positions, rank_intersection};
 
+use crate::walks::rows;
 use mask_bits::laws;
 use std::alloc::Global;
 use vortex_mask::{Mask, MaskError};
@@ -37,7 +38,7 @@ pub fn indices_of_first(alloc: Global, filter: &Mask, k: usize) -> Result<Vec<us
 {
     laws::limits();
     let first = filter.to_limited(alloc, k)?;
-    Ok(first.set_indices().collect(alloc)?)
+    Ok(rows(alloc, &first)?)
 }
 
 /// A filter's first `k` rows. A limit that the filter doesn't reach is dropped, so that the lists which

@@ -16,11 +16,14 @@ pub fn is_left(first: &Mask, second: &Mask, row: usize) -> bool
         ≡ slice_index_or (rank_intersection (truth first.now) (truth second.now)) row false }
 {
     laws::rank_intersection_value();
-    if !first.value(row) {
-        return false;
-    }
-    let number = first.count_range(0, row);
-    number < second.len() && second.value(number)
+    first.value(row) && value_or_false(second, first.count_range(0, row))
+}
+
+// The value at an index, and `false` past the end.
+fn value_or_false(mask: &Mask, index: usize) -> bool
+    ensures { result ≡ slice_index_or (truth mask.now) index false }
+{
+    index < mask.len() && mask.value(index)
 }
 
 /// Row number `n` of those that two stacked filters leave.

@@ -1,11 +1,13 @@
 //! Filters as planners state them: joined by boolean calls, tested on what another one left, pushed below
 //! others and counted without being run.
-ghost use Rattle.std.specs.Prelude.{◌≡◌, ◌+◌, ◌-◌, ◌≤◌, Bool, IfOk, IsPermutation, ◌++◌, filter, length, min, nat_lt, slice_range};
+ghost use Rattle.std.specs.Prelude.{◌≡◌, ◌+◌, ◌-◌, ◌≤◌, Bool, IfOk, IsPermutation, ◌++◌, filter, length, map, min, nat_lt, slice_range};
 ghost use Rattle.mask_bits.specs.Lists.{and_not_of, and_of, limited, not_of, or_of};
 ghost use Rattle.mask_bits.specs.Positions.{chosen, count, rank_intersection};
 ghost use Rattle.std.specs.Borrow.{Bor};
 ghost use Rattle.vortex_mask.specs.Mask.{truth};
 
+use crate::column_filter::above;
+use crate::stacks::filtered;
 use mask_bits::laws;
 use std::alloc::Global;
 use vortex_mask::{Mask, MaskError};
@@ -84,11 +86,20 @@ pub fn between(alloc: Global, rows: &[u64], low: u64, high: u64) -> Result<Vec<u
         (λ v. v.items ≡ filter (λ row. nat_lt row high) (filter (nat_lt low) rows.now)) }
 {
     laws::choosing_by_a_test::<u64>();
-    laws::choosing_twice::<u64>();
-    let first = Mask::from_rows(alloc, rows, |row| *row > low)?;
-    let left = first.choose(alloc, rows)?;
-    let second = Mask::from_rows(alloc, &left, |row| *row < high)?;
-    first.intersect_by_rank(alloc, &second)?.choose(alloc, rows)
+    let first = above(alloc, rows, low)?;
+    let second = below_of_left(alloc, rows, &first, high)?;
+    filtered(alloc, rows, &first, &second)
+}
+
+// The mask of the rows below `high`, over those that a filter leaves.
+fn below_of_left(alloc: Global, rows: &[u64], filter: &Mask, high: u64) -> Result<Mask, MaskError>
+    requires { length rows.now ≡ length (truth filter.now) }
+    ensures list { IfOk result (λ m. truth m
+        ≡ map (λ row. nat_lt row high) (chosen rows.now (truth filter.now))) }
+    ensures len { IfOk result (λ m. length (truth m) ≡ count (truth filter.now)) }
+{
+    let left = filter.choose(alloc, rows)?;
+    Mask::from_rows(alloc, &left, |row| *row < high)
 }
 
 /// The rows that pass a test, whatever the rows and the test are.

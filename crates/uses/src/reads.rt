@@ -46,10 +46,16 @@ pub fn ranges_of(alloc: Global, mask: &mut Mask) -> Result<Vec<(usize, usize)>, 
         return Ok(Vec::new(alloc));
     }
     match mask.slices(alloc)? {
-        AllOr::All => Ok(Vec::from_slice(alloc, &[(0, len)])?),
+        AllOr::All => list_of(alloc, &[(0, len)]),
         AllOr::None => Ok(Vec::new(alloc)),
-        AllOr::Some(ranges) => Ok(Vec::from_slice(alloc, ranges)?),
+        AllOr::Some(ranges) => list_of(alloc, ranges),
     }
+}
+
+fn list_of(alloc: Global, ranges: &[(usize, usize)]) -> Result<Vec<(usize, usize)>, MaskError>
+    ensures { IfOk result (λ list. list.items ≡ ranges.now) }
+{
+    Ok(Vec::from_slice(alloc, ranges)?)
 }
 
 /// The ranges of the rows that a mask chooses, of one that is only lent: by a walk.

@@ -80,14 +80,10 @@ pub fn folded_right(
 pub fn are_a_stack(first: &Mask, rest: &[Mask]) -> bool
     ensures { IsTrue result ↔ IsStack (truth first.now ∷ map truth rest.now) }
 {
-    let mut before = first;
-    for mask in rest {
-        if mask.len() != before.true_count() {
-            return false;
-        }
-        before = mask;
+    match rest {
+        [] => true,
+        [second, above @ ..] => second.len() == first.true_count() && are_a_stack(second, above),
     }
-    true
 }
 
 /// The rows that a stack of filters chooses one after the other, by one mask in the place of all.

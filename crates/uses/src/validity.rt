@@ -70,9 +70,5 @@ pub fn next_offset(validity: &Mask, row: usize, before: usize) -> usize
     laws::count_below_by_steps();
     // no row passes the length, which fits
     let _ = validity.len();
-    if validity.value(row) {
-        before + 1
-    } else {
-        before
-    }
+    before + usize::from(validity.value(row))
 }

@@ -4,9 +4,17 @@ ghost use Rattle.mask_bits.specs.Buffer.{values};
 ghost use Rattle.mask_bits.specs.Positions.{positions};
 ghost use Rattle.vortex_mask.specs.Mask.{truth};
 
+use crate::validity::by_rows;
 use mask_bits::BitBuffer;
 use std::alloc::{AllocError, Global};
 use vortex_mask::Mask;
+
+/// The rows that a mask chooses.
+pub fn rows(alloc: Global, mask: &Mask) -> Result<Vec<usize>, AllocError>
+    ensures { IfOk result (λ v. v.items ≡ positions (truth mask.now)) }
+{
+    mask.set_indices().collect(alloc)
+}
 
 /// The first `k` valid rows.
 pub fn first_valid(alloc: Global, validity: &BitBuffer, k: usize) -> Result<Vec<usize>, AllocError>
@@ -37,8 +45,14 @@ pub fn side_by_side(
 ) -> Result<Vec<(bool, bool)>, AllocError>
     ensures { IfOk result (λ v. v.items ≡ zip (truth first.now) (truth second.now)) }
 {
-    let first: Vec<bool> = first.iter().collect(alloc)?;
-    let second: Vec<bool> = second.iter().collect(alloc)?;
+    let first = by_rows(alloc, first)?;
+    let second = by_rows(alloc, second)?;
+    pairs(alloc, &first, &second)
+}
+
+fn pairs(alloc: Global, first: &[bool], second: &[bool]) -> Result<Vec<(bool, bool)>, AllocError>
+    ensures { IfOk result (λ v. v.items ≡ zip first.now second.now) }
+{
     first
         .iter()
         .copied()
