@@ -122,6 +122,7 @@ fn bits_of_most(ranks: &[usize], next: &mut usize, at: usize, end: usize) -> u64
     requires from { AreSplit ranks.now next.old at }
     ensures { IsGathered ranks.now at end next.new result }
 {
+    // most words of a sparse mask have no rank, which one test tells
     if *next == ranks.len() || ranks[*next] >= end {
         return 0;
     }
