@@ -1,5 +1,5 @@
 //! Which groups of rows a reader may skip.
-ghost use Rattle.std.specs.Prelude.{ℕ, ◌≡◌, ◌*◌, ◌/◌, ◌<◌, All, count_by, false, IfOk, length, nat_eq, nat_lt, replicate, slice_index_or, vec_len};
+ghost use Rattle.std.specs.Prelude.{ℕ, ◌≡◌, ◌*◌, ◌/◌, ◌<◌, All, count_by, false, IfOk, length, nat_eq, nat_lt, slice_index_or, vec_len};
 ghost use Rattle.std.specs.Int.{div_ceil};
 ghost use Rattle.mask_bits.specs.Buffer.{values};
 ghost use Rattle.uses.specs.RowGroups.{is_chosen_of};
@@ -48,17 +48,10 @@ pub fn kept_by_indices(alloc: Global, mask: &mut Mask, size: usize) -> Result<Ve
     vortex_mask::laws::variants_of_one_value();
     let groups = mask.len().div_ceil(size);
     match mask.indices(alloc)? {
-        AllOr::All => alike(alloc, true, groups),
-        AllOr::None => alike(alloc, false, groups),
-        AllOr::Some(indices) => marked(alloc, indices, size, groups),
+        AllOr::All => Ok(vec![in alloc; true; groups]?),
+        AllOr::None => Ok(vec![in alloc; false; groups]?),
+        AllOr::Some(indices) => Ok(marked(alloc, indices, size, groups)?),
     }
-}
-
-// One answer for each group.
-fn alike(alloc: Global, kept: bool, groups: usize) -> Result<Vec<bool>, MaskError>
-    ensures { IfOk result (λ answers. answers.items ≡ replicate groups kept) }
-{
-    Ok(vec![in alloc; kept; groups]?)
 }
 
 // Which groups have one of these indices.
@@ -67,7 +60,7 @@ fn marked(
     indices: &[usize],
     size: usize,
     groups: usize,
-) -> Result<Vec<bool>, MaskError>
+) -> Result<Vec<bool>, AllocError>
     requires some { 0 < size }
     requires within { All (λ p. p / size < groups) indices.now }
     ensures len { IfOk result (λ kept. vec_len kept ≡ groups) }
@@ -75,7 +68,7 @@ fn marked(
         → slice_index_or kept.items g false
         ≡ nat_lt 0 (count_by (λ p. nat_eq (p / size) g) indices.now)) }
 {
-    let mut kept = alike(alloc, false, groups)?;
+    let mut kept = vec![in alloc; false; groups]?;
     for index in indices {
         kept[*index / size] = true;
     }
