@@ -1,7 +1,7 @@
 //! The steps that a kernel takes, counted. The fields are private to this file, so that the calls
 //! here alone change them.
 
-ghost use Rattle.std.specs.Prelude.{◌≡◌, ◌+◌, ◌*◌, ◌/◌, ◌<◌, length, slice_index};
+ghost use Rattle.std.specs.Prelude.{◌≡◌, ◌+◌, ◌*◌, ◌/◌, ◌<◌, ◌^◌, length, slice_index};
 ghost use Rattle.mask_bits.specs.Positions.{count};
 ghost use Rattle.mask_bits.specs.Words.{word_bits, word_part, padded_part, padded_remainder};
 ghost use Rattle.vortex_mask.specs.Deposit.{Deposits, selected};
@@ -183,7 +183,7 @@ impl Steps {
         let whole = chunks.len();
         self.words += 2;
         if i + 1 >= whole {
-            return (chunks.started_word(i), chunks.started_word(i + 1));
+            return last_two_words(chunks, i);
         }
         let first = chunks.word(i);
         let second = chunks.word(i + 1);
@@ -206,4 +206,17 @@ impl Steps {
         self.spots += place as u128;
         place
     }
+}
+
+// Started words `i` and `i + 1`. Never inlined: it runs once, and a kernel's loop keeps more in
+// registers without it.
+#[cold]
+#[inline(never)]
+fn last_two_words(chunks: &BitChunks<'_>, i: usize) -> (u64, u64)
+    requires there { 64 * (i + 1) < length chunks.now }
+    requires fits { i + 1 < 2 ^ 64 }
+    ensures first { word_bits result.0 ≡ padded_part chunks.now i }
+    ensures second { word_bits result.1 ≡ padded_part chunks.now (i + 1) }
+{
+    (chunks.started_word(i), chunks.started_word(i + 1))
 }
