@@ -105,30 +105,99 @@ fn by_path<R: Abort + Print + AllocGlobal>(
     (a, b): (&Mask, &Mask),
     want: Want<'_>,
 ) {
-    let path = path(a, b);
     match (a.values(), b.values()) {
-        (Some(a), Some(b)) => {
-            let (rows, ranks) = (a.bit_buffer(), b.bit_buffer());
-            match (path, name) {
-                (Ok(RankPath::Indices), "Indices") => by_indices(rt, rows, ranks, want),
-                (Ok(RankPath::MaskDriven), "MaskDriven") => driven(rt, rows, ranks, want),
-                (Ok(RankPath::RankIndices), "RankIndices") => by_rank_indices(
-                    rt, rows, ranks, want,
-                ),
-                (Ok(RankPath::BitBuffers), _) => by_buffers(rt, rows, ranks, want),
-                _ => panic!(rt; "another path than {name}"),
-            }
+        (Some(rows), Some(ranks)) => {
+            let buffers = (rows.bit_buffer(), ranks.bit_buffer());
+            by_kernel(rt, (path(a, b), name), buffers, want);
         }
         _ => panic!(rt; "these values are mixed"),
     }
 }
 
-fn answer_of<'a>(outcome: Result<(Mask, Steps), MaskError>) -> Result<Answer<'a>, Fault> {
+fn by_kernel<R: Abort + Print + AllocGlobal>(
+    rt: &R,
+    path: (Result<RankPath, Fault>, &str),
+    buffers: (&BitBuffer, &BitBuffer),
+    want: Want<'_>,
+) {
+    match path {
+        (Ok(RankPath::Indices), "Indices") => by_indices(rt, buffers, want),
+        (Ok(RankPath::MaskDriven), "MaskDriven") => in_turn(rt, Kernel::MaskDriven, buffers, want),
+        (Ok(RankPath::RankIndices), "RankIndices") => by_rank_indices(rt, buffers, want),
+        (Ok(RankPath::BitBuffers), _) => in_turn(rt, Kernel::BitBuffers, buffers, want),
+        (_, name) => panic!(rt; "another path than {name}"),
+    }
+}
+
+// ---- kernels of buffers, each in a function with no clause
+
+#[derive(Drop, Clone, Copy)]
+enum Kernel {
+    MaskDriven,
+    BitBuffers,
+}
+
+impl Kernel {
+    fn answer<'a>(
+        self,
+        alloc: Global,
+        rows: &BitBuffer,
+        ranks: &BitBuffer,
+    ) -> Result<Answer<'a>, Fault> {
+        match self {
+            Kernel::MaskDriven => answer_of(mask_driven(alloc, rows, ranks)),
+            Kernel::BitBuffers => answer_of(bit_buffers(alloc, rows, ranks)),
+        }
+    }
+}
+
+const RANKS: Fault = Fault::Unmet("a rank for each true value");
+
+fn mask_driven(alloc: Global, rows: &BitBuffer, ranks: &BitBuffer) -> Result<(Mask, Steps), Fault> {
+    if ranks.len() != rows.true_count() {
+        return Err(RANKS);
+    }
+    let (numbers, count) = (ranks.set_indices(), ranks.true_count());
+    answer(intersect_mask_driven::<Portable, _>(alloc, rows, numbers, count))
+}
+
+fn bit_buffers(alloc: Global, rows: &BitBuffer, ranks: &BitBuffer) -> Result<(Mask, Steps), Fault> {
+    if ranks.len() != rows.true_count() {
+        return Err(RANKS);
+    }
+    answer(intersect_bit_buffers::<PortableLoop>(alloc, rows, ranks, ranks.true_count()))
+}
+
+fn answer(outcome: Result<(Mask, Steps), MaskError>) -> Result<(Mask, Steps), Fault> {
     match outcome {
-        Ok((mask, steps)) => Ok(Answer::Counted(mask, steps)),
+        Ok(it) => Ok(it),
         Err(error) => Err(Fault::of(error)),
     }
 }
+
+fn answer_of<'a>(outcome: Result<(Mask, Steps), Fault>) -> Result<Answer<'a>, Fault> {
+    match outcome {
+        Ok((mask, steps)) => Ok(Answer::Counted(mask, steps)),
+        Err(fault) => Err(fault),
+    }
+}
+
+fn in_turn<R: Abort + Print + AllocGlobal>(
+    rt: &R,
+    kernel: Kernel,
+    (rows, ranks): (&BitBuffer, &BitBuffer),
+    want: Want<'_>,
+) {
+    for _ in 0..2 {
+        say(rt, "calls");
+        if ended(rt, kernel.answer(rt.alloc(), rows, ranks), want) {
+            return;
+        }
+    }
+    panic!(rt; "refused once more");
+}
+
+// ---- kernels of lists, which are made before the call
 
 fn same(rt: &impl Abort, got: usize, want: usize)
     ensures { got ≡ want }
@@ -144,10 +213,38 @@ fn indices_of(alloc: Global, buffer: &BitBuffer) -> Result<Vec<usize>, AllocErro
     buffer.set_indices().collect(alloc)
 }
 
-fn by_indices<R: Abort + Print + AllocGlobal>(
-    rt: &R,
+fn of_indices(
+    alloc: Global,
+    len: usize,
+    indices: &[usize],
+    numbers: &[usize],
+) -> Result<(Mask, Steps), Fault>
+    requires ascending { IsStrictlyIncreasing indices.now }
+    requires within { All (λ i. i < len) indices.now }
+    requires numbers_ascending { IsStrictlyIncreasing numbers.now }
+    requires numbers_within { All (λ k. k < length indices.now) numbers.now }
+{
+    answer(intersect_by_rank_indices(alloc, len, indices, numbers))
+}
+
+fn of_rank_indices(
+    alloc: Global,
     rows: &BitBuffer,
     ranks: &BitBuffer,
+    numbers: &[usize],
+) -> Result<(Mask, Steps), Fault>
+    requires ascending { IsStrictlyIncreasing numbers.now }
+    requires within { All (λ k. k < length (values ranks.now)) numbers.now }
+{
+    if ranks.len() != rows.true_count() {
+        return Err(RANKS);
+    }
+    answer(intersect_bit_buffer_by_rank_indices::<Portable>(alloc, rows, numbers))
+}
+
+fn by_indices<R: Abort + Print + AllocGlobal>(
+    rt: &R,
+    (rows, ranks): (&BitBuffer, &BitBuffer),
     want: Want<'_>,
 ) {
     match (indices_of(rt.alloc(), rows), indices_of(rt.alloc(), ranks)) {
@@ -155,7 +252,7 @@ fn by_indices<R: Abort + Print + AllocGlobal>(
             same(rt, ranks.len(), indices.len());
             for _ in 0..2 {
                 say(rt, "calls");
-                let made = intersect_by_rank_indices(rt.alloc(), rows.len(), &indices, &numbers);
+                let made = of_indices(rt.alloc(), rows.len(), &indices, &numbers);
                 if ended(rt, answer_of(made), want) {
                     return;
                 }
@@ -166,58 +263,16 @@ fn by_indices<R: Abort + Print + AllocGlobal>(
     }
 }
 
-fn driven<R: Abort + Print + AllocGlobal>(
-    rt: &R,
-    rows: &BitBuffer,
-    ranks: &BitBuffer,
-    want: Want<'_>,
-) {
-    same(rt, ranks.len(), rows.true_count());
-    for _ in 0..2 {
-        say(rt, "calls");
-        let (numbers, count) = (ranks.set_indices(), ranks.true_count());
-        let made = intersect_mask_driven::<Portable, _>(rt.alloc(), rows, numbers, count);
-        if ended(rt, answer_of(made), want) {
-            return;
-        }
-    }
-    panic!(rt; "refused once more");
-}
-
-fn by_buffers<R: Abort + Print + AllocGlobal>(
-    rt: &R,
-    rows: &BitBuffer,
-    ranks: &BitBuffer,
-    want: Want<'_>,
-) {
-    same(rt, ranks.len(), rows.true_count());
-    for _ in 0..2 {
-        say(rt, "calls");
-        let count = ranks.true_count();
-        let made = intersect_bit_buffers::<PortableLoop>(rt.alloc(), rows, ranks, count);
-        if ended(rt, answer_of(made), want) {
-            return;
-        }
-    }
-    panic!(rt; "refused once more");
-}
-
 fn by_rank_indices<R: Abort + Print + AllocGlobal>(
     rt: &R,
-    rows: &BitBuffer,
-    ranks: &BitBuffer,
+    (rows, ranks): (&BitBuffer, &BitBuffer),
     want: Want<'_>,
 ) {
     match indices_of(rt.alloc(), ranks) {
         Ok(numbers) => {
-            same(rt, ranks.len(), rows.true_count());
             for _ in 0..2 {
                 say(rt, "calls");
-                let made = intersect_bit_buffer_by_rank_indices::<Portable>(
-                    rt.alloc(),
-                    rows,
-                    &numbers,
-                );
+                let made = of_rank_indices(rt.alloc(), rows, ranks, &numbers);
                 if ended(rt, answer_of(made), want) {
                     return;
                 }

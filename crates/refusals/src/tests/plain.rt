@@ -2,7 +2,7 @@
 use mask_bits::BitBuffer;
 use mask_calls::words::{number, range};
 use mask_calls::{Answer, Fault};
-use std::alloc::Global;
+use std::alloc::{AllocError, Global};
 use vortex_mask::{AllOr, Mask, MaskIter};
 
 // A list by the word that its mask is made by, and its length; of `but:5:1,3` it is true but at 1 and 3.
@@ -187,25 +187,38 @@ impl<'a> Plain<'a> {
     // `valid_counts_for_indices` the counts below the indices. Memory may be refused.
     pub(super) fn is_said_by(self, alloc: Global, answer: &Answer<'_>) -> Result<bool, Fault> {
         let list = self.list(alloc)?;
-        Ok(match answer {
+        match answer {
             Answer::Numbers(counts) if self.name == "valid_counts_for_indices" => {
-                self.are_counts(&list, counts)
+                Ok(self.are_counts(&list, counts))
             }
-            Answer::Numbers(rows) => are_indices(&list, rows, FIRST_ROW),
-            _ => is_list(&list, answer),
-        })
+            Answer::Numbers(rows) => are_indices(alloc, &list, rows, FIRST_ROW),
+            _ => is_list(alloc, &list, answer),
+        }
     }
 
     fn are_counts(self, list: &[bool], counts: &[usize]) -> bool {
         match self.words.rsplit_once(' ') {
             Some((_, indices)) => {
-                counts.len() == indices.split(',').count()
-                    && indices.split(',').zip(counts).all(|(index, got)| {
-                        number(index).is_ok_and(|index| *got == count_below(list, index))
-                    })
+                counts.len() == indices.split(',').count() && is_each_count(list, indices, counts)
             }
             None => false,
         }
+    }
+}
+
+fn is_each_count(list: &[bool], indices: &str, counts: &[usize]) -> bool {
+    for (index, got) in indices.split(',').zip(counts) {
+        if !is_count(list, index, *got) {
+            return false;
+        }
+    }
+    true
+}
+
+fn is_count(list: &[bool], index: &str, got: usize) -> bool {
+    match number(index) {
+        Ok(index) => got == count_below(list, index),
+        Err(_) => false,
     }
 }
 
@@ -222,77 +235,101 @@ pub(super) const FIRST_ROW: usize = 100;
 
 // ---- answers
 
-fn is_list(list: &[bool], answer: &Answer<'_>) -> bool {
+// Whether an answer is this list. To compare lists is proved sooner than to compare item by item.
+fn is_list(alloc: Global, list: &[bool], answer: &Answer<'_>) -> Result<bool, Fault> {
     match answer {
-        Answer::Mask(mask) | Answer::Counted(mask, _) => is_mask(list, mask),
-        Answer::Buffer(buffer) | Answer::BufferPart(buffer) => is_packed(list, buffer),
-        Answer::Masks(parts) => are_parts(list, parts),
-        Answer::Mixed(values) => is_packed(list, values.bit_buffer()),
-        Answer::Indices(AllOr::Some(indices)) => are_indices(list, *indices, 0),
-        Answer::Slices(AllOr::Some(ranges)) => are_runs(list, *ranges),
-        Answer::Iter(AllOr::Some(lent)) => is_lent(list, lent),
-        Answer::List(indices) => are_indices(list, *indices, 0),
-        Answer::Ranges(ranges) => are_runs(list, *ranges),
-        Answer::Part(lent) => is_lent(list, lent),
-        _ => false,
+        Answer::Mask(mask) | Answer::Counted(mask, _) => is_mask(alloc, list, mask),
+        Answer::Buffer(buffer) | Answer::BufferPart(buffer) => is_packed(alloc, list, buffer),
+        Answer::Masks(parts) => are_parts(alloc, list, parts),
+        Answer::Mixed(values) => is_packed(alloc, list, values.bit_buffer()),
+        Answer::Indices(AllOr::Some(indices)) => are_indices(alloc, list, *indices, 0),
+        Answer::Slices(AllOr::Some(ranges)) => are_runs(alloc, list, *ranges),
+        Answer::Iter(AllOr::Some(lent)) => is_lent(alloc, list, lent),
+        Answer::List(indices) => are_indices(alloc, list, *indices, 0),
+        Answer::Ranges(ranges) => are_runs(alloc, list, *ranges),
+        Answer::Part(lent) => is_lent(alloc, list, lent),
+        _ => Ok(false),
     }
 }
 
-fn is_mask(list: &[bool], mask: &Mask) -> bool {
-    let count = count_below(list, list.len());
-    let is_variant = match mask {
-        Mask::AllTrue(_) => count == list.len(),
+fn are_values(values: Result<Vec<bool>, AllocError>, list: &[bool]) -> Result<bool, Fault> {
+    match values {
+        Ok(values) => Ok(values.as_slice() == list),
+        Err(_) => Err(Fault::Memory),
+    }
+}
+
+fn is_mask(alloc: Global, list: &[bool], mask: &Mask) -> Result<bool, Fault> {
+    if is_variant(list.len(), count_below(list, list.len()), mask) {
+        are_values(mask.iter().collect(alloc), list)
+    } else {
+        Ok(false)
+    }
+}
+
+fn is_variant(len: usize, count: usize, mask: &Mask) -> bool {
+    match mask {
+        Mask::AllTrue(_) => count == len,
         Mask::AllFalse(_) => count == 0,
-        Mask::Values(_) => 0 < count && count < list.len(),
-    };
-    is_variant && mask.len() == list.len() && mask.iter().zip(list).all(|(got, want)| got == *want)
+        Mask::Values(_) => 0 < count && count < len,
+    }
 }
 
 // One behind another.
-fn are_parts(list: &[bool], parts: &[Mask]) -> bool {
+fn are_parts(alloc: Global, list: &[bool], parts: &[Mask]) -> Result<bool, Fault> {
     let mut left = list;
     for part in parts {
         let (first, rest) = left.split_at(part.len().min(left.len()));
-        if !is_mask(first, part) {
-            return false;
+        match is_mask(alloc, first, part) {
+            Ok(true) => left = rest,
+            other => return other,
         }
-        left = rest;
     }
-    left.is_empty()
+    Ok(left.is_empty())
 }
 
-fn is_packed(list: &[bool], buffer: &BitBuffer) -> bool {
-    buffer.len() == list.len() && buffer.iter().zip(list).all(|(got, want)| got == *want)
+fn is_packed(alloc: Global, list: &[bool], buffer: &BitBuffer) -> Result<bool, Fault> {
+    are_values(buffer.iter().collect(alloc), list)
 }
 
-fn is_lent(list: &[bool], lent: &MaskIter<'_>) -> bool {
+fn is_lent(alloc: Global, list: &[bool], lent: &MaskIter<'_>) -> Result<bool, Fault> {
     match lent {
-        MaskIter::Indices(indices) => are_indices(list, *indices, 0),
-        MaskIter::Slices(ranges) => are_runs(list, *ranges),
+        MaskIter::Indices(indices) => are_indices(alloc, list, *indices, 0),
+        MaskIter::Slices(ranges) => are_runs(alloc, list, *ranges),
     }
 }
 
-// The true indices, or rows of which the first is this.
-fn are_indices(list: &[bool], indices: &[usize], first: usize) -> bool {
-    indices.len() == count_below(list, list.len())
-        && (0..list.len())
-            .filter(|i| is_true(list, *i))
-            .zip(indices)
-            .all(|(i, got)| *got == i.saturating_add(first))
+// The true indices in order, or rows of which the first is this.
+fn are_indices(
+    alloc: Global,
+    list: &[bool],
+    indices: &[usize],
+    first: usize,
+) -> Result<bool, Fault> {
+    let mut values = same(alloc, list.len(), false)?;
+    let mut least = first;
+    for index in indices {
+        if *index < least {
+            return Ok(false);
+        }
+        set(&mut values, index.saturating_sub(first), true);
+        least = index.saturating_add(1);
+    }
+    Ok(values.as_slice() == list && indices.len() == count_below(list, list.len()))
 }
 
-// As many runs as begin, in order, of true values each with none beside it.
-fn are_runs(list: &[bool], ranges: &[(usize, usize)]) -> bool {
-    ranges.len() == (0..list.len()).filter(|i| begins(list, *i)).count()
-        && ranges.iter().all(|range| is_run(list, range.0, range.1))
-        && ranges
-            .iter()
-            .zip(ranges.iter().skip(1))
-            .all(|(a, b)| a.1 < b.0)
-}
-
-fn is_run(list: &[bool], start: usize, end: usize) -> bool {
-    begins(list, start) && (start..end).all(|i| is_true(list, i)) && !is_true(list, end)
+// The runs in order, with false values between two.
+fn are_runs(alloc: Global, list: &[bool], ranges: &[(usize, usize)]) -> Result<bool, Fault> {
+    let mut values = same(alloc, list.len(), false)?;
+    let mut least = 0usize;
+    for range in ranges {
+        if range.0 < least || range.0 >= range.1 || range.1 > list.len() {
+            return Ok(false);
+        }
+        set_range(&mut values, range.0, range.1, true);
+        least = range.1.saturating_add(1);
+    }
+    Ok(values.as_slice() == list)
 }
 
 pub(super) fn begins(list: &[bool], index: usize) -> bool {
