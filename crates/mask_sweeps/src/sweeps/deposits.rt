@@ -1,23 +1,19 @@
 // Deposits, extracts and selections of a word: rows, and words at random beside plain loops.
 use crate::judge::{Generator, Judge};
 use mask_bits::extract::extract;
-use mask_calls::masks::word::extract_bits;
+use mask_calls::masks::word::{deposit_bits, extract_bits, select, two_holes, two_lowest};
 use std::process::Abort;
-use vortex_mask::intersect_by_rank::{
-    DepositBits, Portable, PortableLoop, SelectBit, deposit_bytewise, deposit_two_holes,
-    deposit_two_lowest,
-};
+use vortex_mask::intersect_by_rank::{Portable, PortableLoop, deposit_bytewise};
 
 // By both implementations, and by the network at every mask.
 fn deposits_to<A: Abort>(judge: &Judge<'_, A>, source: u64, mask: u64, want: u64) {
-    let count = mask.count_ones() as usize;
     judge.holds(
         "Portable::deposit_bits",
-        Portable::deposit_bits(source, mask, count) == want,
+        deposit_bits::<Portable>(source, mask) == want,
     );
     judge.holds(
         "PortableLoop::deposit_bits",
-        PortableLoop::deposit_bits(source, mask, count) == want,
+        deposit_bits::<PortableLoop>(source, mask) == want,
     );
     judge.holds("deposit_bytewise", deposit_bytewise(source, mask) == want);
 }
@@ -60,22 +56,6 @@ fn deposits(rt: HostRuntime) {
     deposits_of_rows(&Judge::new(&rt, rt.alloc()), &DEPOSITS);
 }
 
-fn two_holes<A: Abort>(judge: &Judge<'_, A>, source: u64, mask: u64, want: u64) {
-    let few = mask.count_ones() >= 62;
-    judge.holds(
-        "deposit_two_holes",
-        few && deposit_two_holes(source, mask) == want,
-    );
-}
-
-fn two_lowest<A: Abort>(judge: &Judge<'_, A>, source: u64, mask: u64, want: u64) {
-    let few = mask.count_ones() <= 2;
-    judge.holds(
-        "deposit_two_lowest",
-        few && deposit_two_lowest(source, mask) == want,
-    );
-}
-
 // Source, mask, result.
 const TWO_HOLES: [(u64, u64, u64); 2] = [
     (1, 0xFFFF_FFFF_FFFF_FFFE, 2),
@@ -84,9 +64,11 @@ const TWO_HOLES: [(u64, u64, u64); 2] = [
 
 fn by_closed_forms<A: Abort>(judge: &Judge<'_, A>) {
     for (source, mask, want) in TWO_HOLES {
-        two_holes(judge, source, mask, want);
+        let got = judge.found("deposit_two_holes", two_holes(source, mask));
+        judge.holds("deposit_two_holes", got == want);
     }
-    two_lowest(judge, u64::MAX, 0, 0);
+    let got = judge.found("deposit_two_lowest", two_lowest(u64::MAX, 0));
+    judge.holds("deposit_two_lowest", got == 0);
 }
 
 #[test]
@@ -164,11 +146,8 @@ fn extracts_beside_a_plain_loop(rt: HostRuntime) {
 }
 
 fn selects<A: Abort>(judge: &Judge<'_, A>, word: u64, rank: usize, want: usize) {
-    let is_there = rank < word.count_ones() as usize;
-    judge.holds(
-        "select_bit_position",
-        is_there && Portable::select_bit_position(word, rank) == want,
-    );
+    let got = judge.found("select_bit_position", select(word, rank));
+    judge.holds("select_bit_position", got == want);
 }
 
 // Word, rank, place.
