@@ -22,29 +22,19 @@ pub fn deposits_words(first: &MaskValues, second: &MaskValues) -> bool
     )
 }
 
-/// One filter in the place of two that are stacked, with how many words were deposited for it.
-pub fn stacked(alloc: Global, first: &Mask, second: &Mask) -> Result<(Mask, usize), MaskError>
+/// One filter in the place of two that are stacked, with how many words were deposited for it, and how
+/// many of the first were read: whatever ran, none twice.
+pub fn stacked(
+    alloc: Global,
+    first: &Mask,
+    second: &Mask,
+) -> Result<(Mask, usize, usize), MaskError>
     requires { length (truth second.now) ≡ count (truth first.now) }
     ensures list { IfOk result
         (λ r. truth r.0 ≡ rank_intersection (truth first.now) (truth second.now)) }
     ensures deposits { IfOk result (λ r. r.1 ≤ started_words (length (truth first.now))) }
+    ensures words { IfOk result (λ r. r.2 ≤ started_words (length (truth first.now))) }
 {
     let (mask, steps) = first.intersect_by_rank_counted(alloc, second)?;
-    Ok((mask, steps.deposits()))
-}
-
-/// One filter in the place of two that are stacked, with how many words of the first were read: whatever
-/// ran, none was read twice.
-pub fn stacked_by_words(
-    alloc: Global,
-    first: &Mask,
-    second: &Mask,
-) -> Result<(Mask, usize), MaskError>
-    requires { length (truth second.now) ≡ count (truth first.now) }
-    ensures list { IfOk result
-        (λ r. truth r.0 ≡ rank_intersection (truth first.now) (truth second.now)) }
-    ensures words { IfOk result (λ r. r.1 ≤ started_words (length (truth first.now))) }
-{
-    let (mask, steps) = first.intersect_by_rank_counted(alloc, second)?;
-    Ok((mask, steps.words()))
+    Ok((mask, steps.deposits(), steps.words()))
 }

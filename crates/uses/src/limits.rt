@@ -9,8 +9,8 @@ use mask_bits::laws;
 use std::alloc::Global;
 use vortex_mask::{Mask, MaskError};
 
-/// The first `k` rows of two stacked filters: the limit is taken of the second before the first is
-/// narrowed.
+/// The first `k` rows of two stacked filters, and the rows of a third that is tested on these: the limit
+/// is pushed below the narrowing.
 pub fn first_of_both(
     alloc: Global,
     first: &Mask,
@@ -18,8 +18,10 @@ pub fn first_of_both(
     k: usize,
 ) -> Result<Mask, MaskError>
     requires { length (truth second.now) ≡ count (truth first.now) }
-    ensures { IfOk result (λ m. truth m
+    ensures limited { IfOk result (λ m. truth m
         ≡ limited (rank_intersection (truth first.now) (truth second.now)) k) }
+    ensures pushed_below { IfOk result (λ m. truth m
+        ≡ rank_intersection (truth first.now) (limited (truth second.now) k)) }
 {
     laws::limit_of_rank_intersection();
     first.intersect_by_rank(alloc, &second.to_limited(alloc, k)?)

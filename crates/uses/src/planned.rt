@@ -1,8 +1,8 @@
 //! Filters as planners state them: joined by boolean calls, tested on what another one left, pushed below
 //! others and counted without being run.
 ghost use Rattle.std.specs.Prelude.{◌≡◌, ◌+◌, ◌-◌, ◌≤◌, Bool, IfOk, IsPermutation, ◌++◌, filter, length, map, min, nat_lt, slice_range};
-ghost use Rattle.mask_bits.specs.Lists.{and_not_of, and_of, limited, not_of, or_of};
-ghost use Rattle.mask_bits.specs.Positions.{chosen, count, rank_intersection};
+ghost use Rattle.mask_bits.specs.Lists.{and_not_of, and_of, not_of, or_of};
+ghost use Rattle.mask_bits.specs.Positions.{chosen, count};
 ghost use Rattle.std.specs.Borrow.{Bor};
 ghost use Rattle.vortex_mask.specs.Mask.{truth};
 
@@ -115,21 +115,6 @@ pub fn passing<T: Copy, F: Fn(&T) -> bool>(
 {
     laws::choosing_by_a_test::<T>();
     Mask::from_rows(alloc, rows, test)?.choose(alloc, rows)
-}
-
-/// The first `k` rows of two stacked filters, and the rows of a third that is tested on these.
-pub fn limited_below(
-    alloc: Global,
-    first: &Mask,
-    second: &Mask,
-    k: usize,
-) -> Result<Mask, MaskError>
-    requires { length (truth second.now) ≡ count (truth first.now) }
-    ensures { IfOk result (λ m. truth m
-        ≡ rank_intersection (truth first.now) (limited (truth second.now) k)) }
-{
-    let second = second.to_limited(alloc, k)?;
-    first.intersect_by_rank(alloc, &second)
 }
 
 /// How many of a filter's rows are still to come once `k` of them were read.

@@ -6,7 +6,7 @@ use uses::equality::{
     chooses_valid, same_kernel, same_number, same_rows, same_share, same_validity,
 };
 use uses::estimates::{left_by_both, left_of};
-use uses::explain::{deposits_words, stacked, stacked_by_words};
+use uses::explain::{deposits_words, stacked};
 use uses::printing::difference;
 use vortex_mask::intersect_by_rank::{RankPath, Steps};
 use vortex_mask::{AllOr, Fraction, Mask, MaskError};
@@ -17,7 +17,7 @@ fn deposits(first: &Mask, second: &Mask) -> Option<bool> {
 
 fn explains(rt: &impl Abort, alloc: Global, first: &Mask, second: &Mask, want: (&str, usize)) {
     assert!(rt; second.len() == first.true_count());
-    let (stacked, words) = found(rt, stacked(alloc, first, second));
+    let (stacked, words, _) = found(rt, stacked(alloc, first, second));
     lists(rt, &stacked, want.0);
     same(rt, words, want.1);
     assert!(rt; deposits(first, second).unwrap_or(false) == (words > 0));
@@ -25,11 +25,7 @@ fn explains(rt: &impl Abort, alloc: Global, first: &Mask, second: &Mask, want: (
 
 fn reads(rt: &impl Abort, alloc: Global, first: &Mask, second: &Mask, want: usize) {
     assert!(rt; second.len() == first.true_count());
-    same(
-        rt,
-        found(rt, stacked_by_words(alloc, first, second)).1,
-        want,
-    );
+    same(rt, found(rt, stacked(alloc, first, second)).2, want);
 }
 
 fn words_of_five_rows(rt: &impl Abort, alloc: Global) {
