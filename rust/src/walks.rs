@@ -1,6 +1,5 @@
-//! Walks over a bitmap, word by word, so that a step crosses no line. From the front, `Values` reads its words in
-//! the bytes.
-//! `Indices` does so of those that lie whole there, and the library gives the others.
+//! Walks over a bitmap, word by word, so that a step crosses no line. From the front, `Values` reads its words
+//! in the bytes, and `Indices` those that lie whole there. The library gives the others.
 
 mod indices;
 mod runs;
