@@ -1,8 +1,8 @@
 //! The bits of one word at the set places of another.
 //!
-//! Few bits come one after another. More of them first move down to the low end of their byte, in
-//! all eight bytes at once, with a lane of a vector for each byte. For each clear place of the mask,
-//! the highest first, the bits above it move down by one:
+//! One or two bits are taken by tests, and a few more one after another. More of them first move down to
+//! the low end of their byte, in all eight bytes at once, with a lane of a vector for each byte. For each
+//! clear place of the mask, the highest first, the bits above it move down by one:
 //!
 //! ```text
 //!        place   7 6 5 4 3 2 1 0
@@ -17,10 +17,12 @@
 //! Then each byte's bits are put behind those of all lower bytes, whose number is the count of set
 //! places there.
 
-ghost use Rattle.std.specs.Prelude.{ℕ, ◌≡◌, ◌<◌, ◌*◌, ◌/◌, ◌%◌, ◌^◌, slice_index};
+ghost use Rattle.std.specs.Prelude.{ℕ, ◌≡◌, ◌<◌, ◌≤◌, ◌*◌, ◌/◌, ◌%◌, ◌^◌, slice_index};
 ghost use Rattle.std.specs.Int.{bit_at};
 ghost use Rattle.mask_bits.specs.Extract.{Extracts, gathered, closed_up};
 ghost use Rattle.mask_bits.specs.Lanes.{AreLanes};
+ghost use Rattle.mask_bits.specs.Positions.{count};
+ghost use Rattle.mask_bits.specs.Words.{word_bits};
 
 use std::simd::prelude::*;
 
@@ -34,6 +36,18 @@ const FEW: u32 = 4;
 pub fn extract(source: u64, mask: u64) -> u64
     ensures { Extracts source mask result }
 {
+    if mask.count_ones() <= 2 {
+        extract_two_lowest(source, mask)
+    } else {
+        extract_more(source, mask)
+    }
+}
+
+// Never inlined, so that a loop over the words of a sparse mask stays small.
+#[inline(never)]
+fn extract_more(source: u64, mask: u64) -> u64
+    ensures { Extracts source mask result }
+{
     if mask == u64::MAX {
         source
     } else if mask.count_ones() <= FEW {
@@ -41,6 +55,27 @@ pub fn extract(source: u64, mask: u64) -> u64
     } else {
         extract_in_bytes(source, mask)
     }
+}
+
+// At most two set places, without a branch: how many of them a word of a sparse mask has would often be
+// guessed wrong.
+#[inline(always)]
+fn extract_two_lowest(source: u64, mask: u64) -> u64
+    requires { count (word_bits mask) ≤ 2 }
+    ensures { Extracts source mask result }
+{
+    let second = mask & mask.wrapping_sub(1);
+    let lowest = mask ^ second;
+    masked_bit(source, lowest) | (masked_bit(source, second) << 1)
+}
+
+// The bit of `source` at a place, which is the word that has this bit alone, or 0 for none.
+#[inline(always)]
+fn masked_bit(source: u64, place: u64) -> u64
+    ensures bit { (p : ℕ) → place ≡ 2 ^ p → result ≡ source / 2 ^ p % 2 }
+    ensures none { place ≡ 0 → result ≡ 0 }
+{
+    (source & place != 0) as u64
 }
 
 // One set place after another.

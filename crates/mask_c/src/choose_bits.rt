@@ -41,12 +41,10 @@ pub extern "C" fn row_mask_choose_bits(
     let mut begun = 0;
     for i in 0..masks.started_words() {
         let mask = masks.started_word(i);
-        if mask != 0 {
-            let word = extract(sources.started_word(i), mask);
-            let ones = mask.count_ones() as usize;
-            begun = put_behind(out, at, begun, word, ones);
-            at += ones;
-        }
+        let word = extract(sources.started_word(i), mask);
+        let ones = mask.count_ones() as usize;
+        begun = put_behind(out, at, begun, word, ones);
+        at += ones;
     }
     if at % 64 != 0 {
         put_last(out, at / 64, begun, at % 64);

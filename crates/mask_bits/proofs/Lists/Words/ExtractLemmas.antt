@@ -1,14 +1,15 @@
 -- The bits of a word at the set places of another, one by one and as a list.
-use Rattle.std.proofs.Common.{◌≡◌, ◌≢◌, ◌⊎◌, inl, inr, bit_and, bit_or, ℕ, zero, suc, ◌+◌, ◌*◌, ◌-◌, ◌/◌, ◌%◌, ◌^◌, ◌<◌, ◌≤◌, ◌↔◌, Bool, true, false, nat_eq, List, [], ◌∷◌, ◌++◌, length, get_or, take, drop, sym, ap, ◌∙◌, arith}
+use Rattle.std.proofs.Common.{◌≡◌, ◌≢◌, ◌⊎◌, inl, inr, refl, subst, bit_and, bit_or, bit_xor, ℕ, zero, suc, ◌+◌, ◌*◌, ◌-◌, ◌/◌, ◌%◌, ◌^◌, ◌<◌, ◌≤◌, ◌↔◌, Bool, true, false, nat_eq, List, [], ◌∷◌, ◌++◌, length, get_or, take, drop, sym, ap, ◌∙◌, arith}
 use Rattle.std.specs.Int.{bit_at}
 use Rattle.std.specs.List.{items_where_true}
 use Rattle.std.proofs.lemmas.Bool.Decides.{nat_tests}
 use Rattle.std.proofs.lemmas.List.{ext_get_or, get_or-map, length-append, get_or_append_left, get_or-append_right, take-append-le, take_all, length-drop}
 use Rattle.std.proofs.lemmas.Bool.{cases_lt}
-use Rattle.std.proofs.lemmas.Nat.{and_mask}
-use Rattle.std.proofs.lemmas.Nat.Bits.{bit_at-lt, bit_at_or, bit_at_lowest, bit_at_above}
+use Rattle.std.proofs.lemmas.Nat.{and_mask, and_le_l}
+use Rattle.std.specs.Int.Bits.{or_zero_l, or_zero_r, xor_zero_r}
+use Rattle.std.proofs.lemmas.Nat.Bits.{bit_at-zero, bit_at-lt, bit_at_or, bit_at_xor, bit_at_lowest, bit_at_above, bit_at-pow_same, bit_at-pow_other, same_from_bits}
 use Rattle.std.proofs.lemmas.Option.{get_or_from_slice_get}
-use Rattle.mask_bits.proofs.Lists.Words.LowestLemmas.{low}
+use Rattle.mask_bits.proofs.Lists.Words.LowestLemmas.{low, low-first, low-set, bit_at-lowest_cleared, bit_at-lowest_others}
 use Rattle.mask_bits.proofs.Lists.Words.ShiftLemmas.{bit_at-mod, bit_at-shl_high, bit_at-shl_low}
 use Rattle.mask_bits.specs.Extract.{Extracts}
 use Rattle.mask_bits.specs.Laws.Words.{ExtractIsChosenValues}
@@ -148,3 +149,70 @@ IsExtractedTo-more s m left n r some fits is =
       within = omega (arith, more);
       bits = λ k h. more_bit ps s r (b * 2 ^ n % 2 ^ 64) n k (is.bits k h) (λ e. placed_there b n k b_low h e ∙ b_is ∙ ap (bit_at s) (sym here)) (placed_elsewhere b n k b_low h);
     }
+
+-- ---- at most two set places
+
+nothing_yet : (s m : ℕ) → IsExtractedTo s m m 0 0
+nothing_yet s m = record {
+  places = refl;
+  within = omega arith;
+  bits = λ k h. (λ set. absurd (omega (arith, set, bit_at-zero k)), λ set. absurd (omega (arith, set.0)));
+}
+
+next_bit : (s m left n r x : ℕ) → 0 < left → left < 2 ^ 64 → (0 < left → x ≡ s / 2 ^ low left % 2) → IsExtractedTo s m left n r
+    → IsExtractedTo s m (bit_and left (left - 1)) (n + 1) (bit_or r (x * 2 ^ n % 2 ^ 64))
+next_bit s m left n r x some fits x_is is =
+    subst (λ b. IsExtractedTo s m (bit_and left (left - 1)) (n + 1) (bit_or r (b * 2 ^ n % 2 ^ 64))) (and_mask (s / 2 ^ low left) 1 ∙ sym (x_is some)) (IsExtractedTo-more s m left n r some fits is)
+
+ended : (s m left n r x : ℕ) → left ≡ 0 → r ≡ x → IsExtractedTo s m left n r → Extracts s m x
+ended s m left n r x e same is = subst (Extracts s m) same (Extracts-all s m n r (subst (λ l. IsExtractedTo s m l n r) e is))
+
+-- what clearing the lowest set place takes away
+pub lowest_alone : (m : ℕ) → 0 < m → m < 2 ^ 64 → bit_xor m (bit_and m (m - 1)) ≡ 2 ^ low m
+lowest_alone m some fits = same_from_bits _ _ (λ i. bit_at_xor m (bit_and m (m - 1)) i ∙ elim (cases_lt i (low m)) [
+  | inl below ↦ omega (arith, low-first m i some fits below, bit_at-lowest_cleared m i some fits (omega arith), bit_at-pow_other (low m) i (omega arith))
+  | inr from ↦ elim (cases_lt (low m) i) [
+    | inl above ↦ omega (arith, bit_at-lowest_others m i some fits above, bit_at-lt m i, bit_at-pow_other (low m) i (omega arith))
+    | inr at ↦
+        let e : low m ≡ i = omega arith in
+        subst (λ k. (bit_at m k + bit_at (bit_and m (m - 1)) k) % 2 ≡ bit_at (2 ^ low m) k) e (omega (arith, low-set m some fits, bit_at-lowest_cleared m (low m) some fits (omega arith), bit_at-pow_same (low m)))
+  ]
+])
+
+-- of two set places the second is alone then
+pub second_alone : (m t : ℕ) → m < 2 ^ 64 → count (word_bits m) ≤ 2 → t ≡ bit_and m (m - 1) → 0 < t → t ≡ 2 ^ low t
+second_alone m t fits few t_is some =
+    let within : t < 2 ^ 64 = omega (arith, t_is, and_le_l m (m - 1)) in
+    let there : 0 < m = omega (arith, t_is, and_le_l m (m - 1)) in
+    let rest : ℕ = bit_and t (t - 1) in
+    let none : rest ≡ 0 = elim (cases_lt 0 rest) [
+      | inl more ↦ absurd (omega (arith, few, ap length (positions-lowest m there fits), ap (λ n. length (positions (word_bits n))) t_is, ap length (positions-lowest t some within), ap length (positions-lowest rest more (omega (arith, and_le_l t (t - 1))))))
+      | inr done ↦ omega arith
+    ] in
+    sym (xor_zero_r t) ∙ ap (bit_xor t) (sym none) ∙ lowest_alone t some within
+
+-- the bits at the lowest set place and at the one above it, each 0 where there is none
+pub Extracts-two : (s m a b : ℕ) → m < 2 ^ 64 → count (word_bits m) ≤ 2
+    → (0 < m → a ≡ s / 2 ^ low m % 2) → (m ≡ 0 → a ≡ 0)
+    → (0 < bit_and m (m - 1) → b ≡ s / 2 ^ low (bit_and m (m - 1)) % 2) → (bit_and m (m - 1) ≡ 0 → b ≡ 0)
+    → Extracts s m (bit_or a (b * 2 % 2 ^ 64))
+Extracts-two s m a b fits few a_is no_a b_is no_b =
+    let t : ℕ = bit_and m (m - 1) in
+    let within : t ≤ m = and_le_l m (m - 1) in
+    let alone : b ≡ 0 → bit_or a (b * 2 % 2 ^ 64) ≡ a = λ e. ap (λ (n : ℕ). bit_or a (n * 2 % 2 ^ 64)) e ∙ or_zero_r a in
+    elim (cases_lt 0 m) [
+      | inr none ↦ ended s m m 0 0 _ (omega arith) (sym (alone (no_b (omega arith)) ∙ no_a (omega arith))) (nothing_yet s m)
+      | inl some ↦
+          let first : bit_or 0 (a * 2 ^ 0 % 2 ^ 64) ≡ a = or_zero_l (a * 2 ^ 0 % 2 ^ 64) ∙ omega (arith, a_is some) in
+          let one = subst (IsExtractedTo s m t 1) first (next_bit s m m 0 0 a some fits a_is (nothing_yet s m)) in
+          elim (cases_lt 0 t) [
+            | inr none ↦ ended s m t 1 a _ (omega arith) (sym (alone (no_b (omega arith)))) one
+            | inl more ↦
+                let two = next_bit s m t 1 a b more (omega arith) b_is one in
+                let last : bit_and t (t - 1) < 2 ^ 64 = omega (arith, and_le_l t (t - 1)) in
+                elim (cases_lt 0 (bit_and t (t - 1))) [
+                  | inl third ↦ absurd (omega (arith, few, IsExtractedTo-some s m (bit_and t (t - 1)) 2 _ third last two))
+                  | inr none ↦ ended s m (bit_and t (t - 1)) 2 _ _ (omega arith) refl two
+                ]
+          ]
+    ]

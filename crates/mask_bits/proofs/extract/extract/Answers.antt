@@ -1,8 +1,6 @@
-use Rattle.std.proofs.Common.{subst, sym}
-use Rattle.mask_bits.specs.Extract.{Extracts}
-use Rattle.mask_bits.proofs.Lists.Words.GatherLemmas.{Extracts-full}
+use Rattle.std.proofs.Common.{arith}
+use Rattle.mask_bits.proofs.Lists.Words.WordLemmas.{count-word_bits}
 use Rattle.mask_bits.proofs.extract.extract.Goals as goal
 
-pub returns-then-mask-eq18446744073709551615 : goal.returns-then-mask-eq18446744073709551615
-returns-then-mask-eq18446744073709551615 c =
-    subst (λ m. Extracts c.args.source m c.args.source) (sym c.if-mask-eq18446744073709551615.true) (Extracts-full c.args.source c.ranges.source.fits)
+pub extract_two_lowest-requires : goal.extract_two_lowest-requires
+extract_two_lowest-requires c = omega (arith, count-word_bits c.args.mask c.ranges.mask.fits)

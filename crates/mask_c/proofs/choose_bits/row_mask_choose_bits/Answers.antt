@@ -1,5 +1,5 @@
-use Rattle.std.proofs.Common.{ℕ, ◌≡◌, ◌≤◌, ◌+◌, ◌*◌, ◌/◌, ◌%◌, ◌++◌, List, Bool, count_ones, length, take, drop, refl, sym, ap, ap₂, ◌∙◌, arith}
-use Rattle.std.specs.Int.{bit_at, div_ceil}
+use Rattle.std.proofs.Common.{◌≡◌, ◌≤◌, ◌+◌, ◌*◌, ◌/◌, ◌%◌, ◌++◌, List, Bool, count_ones, length, take, drop, refl, sym, ap, ap₂, ◌∙◌, arith}
+use Rattle.std.specs.Int.{div_ceil}
 use Rattle.std.proofs.lemmas.List.{take_all}
 use Rattle.std.proofs.lemmas.Nat.Bits.{bit_at-zero}
 use Rattle.mask_bits.specs.Positions.{chosen, count}
@@ -7,13 +7,11 @@ use Rattle.mask_bits.specs.Words.{word_bits}
 use Rattle.mask_bits.proofs.Lists.Places.PlaceLemmas.{count-le-length}
 use Rattle.mask_bits.proofs.Lists.Words.ExtractLemmas.{take-extracted}
 use Rattle.mask_bits.proofs.Lists.Words.WordLemmas.{count-word_bits}
-use Rattle.mask_c.specs.Bitmap.{values_so_far}
-use Rattle.mask_c.proofs.ChooseBitsLemmas.{chosen-word_more, chosen-word_of_none, counted-word_more, counted-word_of_none, extracted-clear, nothing_yet}
+use Rattle.mask_c.proofs.ChooseBitsLemmas.{chosen-word_more, counted-word_more, extracted-clear, nothing_yet}
 use Rattle.mask_c.proofs.ChooseLemmas.{count_below-le-count}
 use Rattle.mask_c.proofs.LastLemmas.{front-split}
 use Rattle.mask_c.proofs.StringLemmas.{behind-later}
 use Rattle.mask_c.proofs.choose_bits.row_mask_choose_bits.Goals as goal
-use Rattle.mask_c.proofs.choose_bits.row_mask_choose_bits.Goals.{then-mask-ne0, else-mask-ne0}
 
 pub loop-i-init : goal.loop-i-init
 loop-i-init c = record {
@@ -46,43 +44,21 @@ loop-i-preserved c =
     let at = c.loop-i.at in
     let mask = c.started_word-mask.result in
     let same : length s ≡ length m = c.new-sources.ensures.len ∙ sym c.new-masks.ensures.len in
-    elim c.if-mask-ne0.branch [
-      | then-mask-ne0 w ↦
-          let word = w.extract-word.result in
-          record {
-            list =
-                ap (λ o. values_so_far o c.if-mask-ne0.begun c.if-mask-ne0.at) w.out-is
-                ∙ ap₂ (values_so_far w.put_behind-begun.new.out) w.begun-is w.at-is
-                ∙ w.put_behind-begun.ensures.list
-                ∙ ap₂ (λ (xs ys : List Bool). xs ++ ys) c.loop-i.invariant.list
-                (ap (λ n. take n (word_bits word)) (sym (count-word_bits mask c.started_word-mask.type_inv))
-                ∙ take-extracted w.started_word.result mask word w.extract-word.ensures
-                ∙ ap₂ chosen w.started_word.ensures c.started_word-mask.ensures)
-                ∙ chosen-word_more s m i same;
-            counted = w.at-is ∙ counted-word_more m i at mask c.started_word-mask.type_inv c.loop-i.invariant.counted c.started_word-mask.ensures;
-            clear = λ j from. ap (λ b. bit_at b j) w.begun-is ∙ w.put_behind-begun.ensures.begun j (omega (arith, from, w.at-is));
-            behind =
-                ap₂ (λ n (o : List ℕ). drop (8 * (n / 64)) o) w.at-is w.out-is
-                ∙ w.put_behind-begun.ensures.behind
-                ∙ behind-later c.loop-i.out c.args.out.now (8 * (at / 64)) (8 * ((at + count_ones mask) / 64)) (omega arith) c.loop-i.invariant.behind
-                ∙ ap (λ n. drop (8 * (n / 64)) c.args.out.now) (sym w.at-is);
-          }
-      | else-mask-ne0 w ↦
-          let reads = ap word_bits (sym w.if-mask-ne0.false) ∙ c.started_word-mask.ensures in
-          record {
-            list =
-                ap (λ o. values_so_far o c.if-mask-ne0.begun c.if-mask-ne0.at) w.out-is
-                ∙ ap₂ (values_so_far c.loop-i.out) w.begun-is w.at-is
-                ∙ c.loop-i.invariant.list
-                ∙ chosen-word_of_none s m i same reads;
-            counted = w.at-is ∙ c.loop-i.invariant.counted ∙ counted-word_of_none m i reads;
-            clear = λ j from. ap (λ b. bit_at b j) w.begun-is ∙ c.loop-i.invariant.clear j (omega (arith, from, w.at-is));
-            behind =
-                ap₂ (λ n (o : List ℕ). drop (8 * (n / 64)) o) w.at-is w.out-is
-                ∙ c.loop-i.invariant.behind
-                ∙ ap (λ n. drop (8 * (n / 64)) c.args.out.now) (sym w.at-is);
-          }
-    ]
+    let word = c.extract-word.result in
+    record {
+      list =
+          c.put_behind-begun.ensures.list
+          ∙ ap₂ (λ (xs ys : List Bool). xs ++ ys) c.loop-i.invariant.list
+          (ap (λ n. take n (word_bits word)) (sym (count-word_bits mask c.started_word-mask.type_inv))
+          ∙ take-extracted c.started_word.result mask word c.extract-word.ensures
+          ∙ ap₂ chosen c.started_word.ensures c.started_word-mask.ensures)
+          ∙ chosen-word_more s m i same;
+      counted = counted-word_more m i at mask c.started_word-mask.type_inv c.loop-i.invariant.counted c.started_word-mask.ensures;
+      clear = c.put_behind-begun.ensures.begun;
+      behind =
+          c.put_behind-begun.ensures.behind
+          ∙ behind-later c.loop-i.out c.args.out.now (8 * (at / 64)) (8 * ((at + count_ones mask) / 64)) (omega arith) c.loop-i.invariant.behind;
+    }
 
 pub returns-then-at-ne0-clause-values : goal.returns-then-at-ne0-clause-values
 returns-then-at-ne0-clause-values c =
