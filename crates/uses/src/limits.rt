@@ -6,7 +6,7 @@ ghost use Rattle.mask_bits.specs.Positions.{count, positions, rank_intersection}
 
 use crate::walks::rows;
 use mask_bits::laws;
-use std::alloc::Global;
+use std::alloc::{AllocError, Global};
 use vortex_mask::{Mask, MaskError};
 
 /// The first `k` rows of two stacked filters, and the rows of a third that is tested on these: the limit
@@ -28,10 +28,10 @@ pub fn first_of_both(
 }
 
 /// The indices of a filter's first `k` rows.
-pub fn first_indices(alloc: Global, filter: &Mask, k: usize) -> Result<Vec<usize>, MaskError>
+pub fn first_indices(alloc: Global, filter: &Mask, k: usize) -> Result<Vec<usize>, AllocError>
     ensures { IfOk result (λ v. v.items ≡ take k (positions (truth filter.now))) }
 {
-    Ok(filter.set_indices().take(k).collect(alloc)?)
+    filter.set_indices().take(k).collect(alloc)
 }
 
 /// The indices of a filter's first `k` rows, by the filter of these rows.

@@ -4,6 +4,7 @@ ghost use Rattle.mask_bits.specs.Buffer.{values};
 ghost use Rattle.mask_bits.specs.Positions.{positions};
 ghost use Rattle.vortex_mask.specs.Mask.{truth};
 
+use crate::validity::by_rows;
 use mask_bits::BitBuffer;
 use std::alloc::{AllocError, Global};
 use vortex_mask::Mask;
@@ -44,8 +45,8 @@ pub fn side_by_side(
 ) -> Result<Vec<(bool, bool)>, AllocError>
     ensures { IfOk result (λ v. v.items ≡ zip (truth first.now) (truth second.now)) }
 {
-    let first: Vec<bool> = first.iter().collect(alloc)?;
-    let second: Vec<bool> = second.iter().collect(alloc)?;
+    let first = by_rows(alloc, first)?;
+    let second = by_rows(alloc, second)?;
     first
         .iter()
         .copied()
