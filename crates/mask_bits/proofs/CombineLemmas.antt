@@ -200,3 +200,8 @@ pub values-written : {E : Type 0} (r : Result Packed E) (ys xs : List ℕ) (len 
     → IfOk r (λ b. values b ≡ values (record { bytes = take (length xs) (ys ++ drop (length ys) xs); offset = 0; len = len }))
     → values (record { bytes = ys; offset = 0; len = len }) ≡ m → IfOk r (λ b. values b ≡ m)
 values-written r ys xs len m same made is = grind (arith, IfOk-weaker, take_back)
+
+-- bytes that are combined in place, and what they then show
+pub ruleset in_place = (between-none, between-join, between-word, between-last, between-byte, values-negated)
+
+pub ruleset window_of_two = (window-neighbors, window-next_byte)

@@ -15,13 +15,13 @@ use Rattle.mask_bits.specs.Lists.{combined, xor_of}
 use Rattle.mask_bits.specs.Positions.{count, repeated}
 use Rattle.mask_bits.specs.Words.{word_bits, window}
 use Rattle.mask_bits.proofs.BufferLemmas.{length-values, get_or-values}
-use Rattle.mask_bits.proofs.CombineLemmas.{backing_bit-drop, combined_bit}
+use Rattle.mask_bits.proofs.CombineLemmas.{backing_bit-drop, combined_bit, word_bits-combined}
 use Rattle.mask_bits.proofs.Lists.BooleanLemmas.{combined-append, combined-take, length-combined, get_or-combined}
 use Rattle.mask_bits.proofs.Lists.CountLemmas.{count-append, count-repeated_false, length-repeated, get_or-repeated}
 use Rattle.mask_bits.proofs.Lists.Places.PlaceLemmas.{count-le-length}
 use Rattle.mask_bits.proofs.Lists.Words.BackingBitLemmas.{bitmap-append, length-bitmap, get_or-bitmap}
 use Rattle.mask_bits.proofs.Lists.Words.FrontLemmas.{window-take, window-whole}
-use Rattle.mask_bits.proofs.Lists.Words.ShiftLemmas.{bit_at-low_mask, bit_at-past_mask, word_bits-low_mask}
+use Rattle.mask_bits.proofs.Lists.Words.ShiftLemmas.{bit_at-low_mask, bit_at-past_mask, word_bits-low_mask, get_or-word_bits_and, get_or-word_bits_or, get_or-word_bits_not}
 use Rattle.mask_bits.proofs.Lists.Words.WordLemmas.{count-word_bits, get_or-word_bits}
 
 -- ---- words
@@ -201,3 +201,6 @@ count-parts f a b p q n =
     sym (count-append (combined f (bitmap a p w) (bitmap b q w)) (combined f (bitmap a (p + w) (n % 64)) (bitmap b (q + w) (n % 64))))
     ∙ ap count (bitmap-combined f a b p q w (n % 64))
     ∙ ap (λ k. count (combined f (bitmap a p k) (bitmap b q k))) e
+
+-- what an operation on words has to show
+pub ruleset word_operations = (word_bits-combined, get_or-word_bits_and, get_or-word_bits_or, get_or-word_bits_xor, get_or-word_bits_not)

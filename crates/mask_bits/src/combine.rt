@@ -43,6 +43,7 @@ pub struct Not;
 impl BitOp for And {
     ghost of_bits = { λ x y. x && y };
 
+    #[tactic(auto, using(crate::proofs::CompareLemmas::word_operations))]
     #[inline]
     fn of(x: u64, y: u64) -> u64 {
         x & y
@@ -52,6 +53,7 @@ impl BitOp for And {
 impl BitOp for Or {
     ghost of_bits = { λ x y. x || y };
 
+    #[tactic(auto, using(crate::proofs::CompareLemmas::word_operations))]
     #[inline]
     fn of(x: u64, y: u64) -> u64 {
         x | y
@@ -61,6 +63,7 @@ impl BitOp for Or {
 impl BitOp for AndNot {
     ghost of_bits = { λ x y. x && not y };
 
+    #[tactic(auto, using(crate::proofs::CompareLemmas::word_operations))]
     #[inline]
     fn of(x: u64, y: u64) -> u64 {
         x & !y
@@ -70,6 +73,7 @@ impl BitOp for AndNot {
 impl BitOp for Xor {
     ghost of_bits = { λ x y. x && not y || not x && y };
 
+    #[tactic(auto, using(crate::proofs::CompareLemmas::word_operations))]
     #[inline]
     fn of(x: u64, y: u64) -> u64 {
         x ^ y
@@ -79,6 +83,7 @@ impl BitOp for Xor {
 impl BitOp for Not {
     ghost of_bits = { λ x y. not x };
 
+    #[tactic(auto, using(crate::proofs::CompareLemmas::word_operations))]
     #[inline]
     fn of(x: u64, _y: u64) -> u64 {
         !x
@@ -145,6 +150,7 @@ pub fn combine_in_place<C: BitOp>(bytes: &mut [u8], b: &[u8], b_offset: usize, l
 }
 
 // Combines the first words in place.
+#[tactic(auto, using(crate::proofs::CombineLemmas::in_place))]
 fn change_whole<C: BitOp>(bytes: &mut [u8], b: Bits<'_>, words: usize)
     requires b_within { IsWithinBytes b.bytes.now b.low (64 * words) }
     requires few { b.low < 8 }
@@ -162,6 +168,7 @@ fn change_whole<C: BitOp>(bytes: &mut [u8], b: Bits<'_>, words: usize)
 }
 
 // Combines words `from` to `to` in place.
+#[tactic(auto, using(crate::proofs::CombineLemmas::in_place))]
 fn change<C: BitOp, R: ReadWord>(bytes: &mut [u8], b: Bits<'_>, from: usize, to: usize)
     requires reads { (i : ℕ) → i < to → R.can_read b.bytes.now b.low i }
     requires ordered { from ≤ to }
@@ -175,6 +182,7 @@ fn change<C: BitOp, R: ReadWord>(bytes: &mut [u8], b: Bits<'_>, from: usize, to:
 }
 
 // Combines as much of word `i` in place as the bytes have.
+#[tactic(auto, using(crate::proofs::CombineLemmas::in_place))]
 fn change_last<C: BitOp>(bytes: &mut [u8], b: Bits<'_>, i: usize)
     requires begins { 8 * i ≤ length bytes.old }
     requires fits { b.low + 64 * i < 2 ^ 64 }
@@ -189,6 +197,7 @@ fn change_last<C: BitOp>(bytes: &mut [u8], b: Bits<'_>, i: usize)
 }
 
 /// Negates the first `len` bits of `bytes`. Those past them have no meaning.
+#[tactic(auto, using(crate::proofs::CombineLemmas::in_place))]
 pub fn negate_in_place(bytes: &mut [u8], len: usize)
     requires { len ≤ 8 * length bytes.old }
     ensures { bitmap bytes.new 0 len ≡ not_of (bitmap bytes.old 0 len) }

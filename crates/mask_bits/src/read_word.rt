@@ -77,6 +77,7 @@ impl ReadWord for Whole {
 impl ReadWord for Neighbors {
     ghost can_read = { IsInTwoWords };
 
+    #[tactic(auto, using(crate::proofs::CombineLemmas::window_of_two))]
     #[inline]
     fn word(bits: Bits<'_>, i: usize) -> u64 {
         funnel_shift(word_of(bits.bytes, i), word_of(bits.bytes, i + 1), bits.low)
@@ -88,6 +89,7 @@ impl ReadWord for Covered {
 
     // tests nothing that a loop over words has to test again, and reads past no end, so that such a
     // loop needs no slower way for its last words
+    #[tactic(auto, using(crate::proofs::CombineLemmas::window_of_two))]
     #[inline]
     fn word(bits: Bits<'_>, i: usize) -> u64 {
         let word = word_of(bits.bytes, i);

@@ -38,6 +38,7 @@ pub fn set_word(bytes: &mut [u8], i: usize, word: u64)
 }
 
 /// The lowest `count` bits of `word`, and zeros above them.
+#[tactic(auto, using(crate::proofs::Lists::Words::ShiftLemmas::words_cut))]
 #[inline]
 pub fn low_bits(word: u64, count: usize) -> u64
     requires some { 0 < count }
@@ -48,6 +49,7 @@ pub fn low_bits(word: u64, count: usize) -> u64
 }
 
 /// The 64 bits from bit `low` of `word` on; those past its end are the first of `next`.
+#[tactic(auto, using(crate::proofs::Lists::Words::ShiftLemmas::words_cut))]
 #[inline]
 pub fn funnel_shift(word: u64, next: u64, low: u32) -> u64
     requires { low < 64 }

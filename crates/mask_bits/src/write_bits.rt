@@ -11,6 +11,7 @@ ghost use Rattle.mask_bits.specs.Words.{word_bits};
 use crate::words::{funnel_shift, low_bits, set_word, word_at, word_of};
 
 /// Sets the bit at one position and no other.
+#[tactic(auto, using(crate::proofs::SetBitLemmas::one_bit))]
 pub fn set_bit(bytes: &mut [u8], position: usize)
     requires { position < 8 * length bytes.old }
     ensures { (p : ℕ) → backing_bit bytes.new p ≡ (nat_eq p position || backing_bit bytes.old p) }
@@ -19,6 +20,7 @@ pub fn set_bit(bytes: &mut [u8], position: usize)
 }
 
 /// Clears the bit at one position and no other.
+#[tactic(auto, using(crate::proofs::SetBitLemmas::one_bit))]
 pub fn clear_bit(bytes: &mut [u8], position: usize)
     requires { position < 8 * length bytes.old }
     ensures { (p : ℕ) → backing_bit bytes.new p

@@ -113,3 +113,5 @@ word_bits-funnel lo hi low fits few =
     let within : low + 64 ≤ length both = omega (arith, length-append (word_bits lo) (word_bits hi), length-word_bits lo, length-word_bits hi) in
     word_bits_from_bits w (slice_range both low (low + 64)) (length-between both low (low + 64) within ∙ omega arith) (λ j h.
     grind (arith, get_or-word_bits w j false h, funnel_bit lo hi low j fits few h, get_or-between both low (low + 64) j false))
+
+pub ruleset words_cut = (word_bits-low_ones, word_bits-funnel)
