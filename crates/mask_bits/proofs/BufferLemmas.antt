@@ -48,6 +48,7 @@ values_from_places bytes places n same =
 
 -- what `len` and the tests of bounds need
 pub ruleset buffer_facts = (length-values)
+pub ruleset len_facts = (len-of_list)
 
 -- ---- parts
 
@@ -76,3 +77,5 @@ same_values-from_answer a b r told tells = grind (arith, slice_eq-Decides)
 
 pub same_values_are_one_list : SameValuesAreOneList
 same_values_are_one_list a b = grind (arith, slice_eq-Decides)
+
+pub ruleset one_value = (values-ones, values-none)

@@ -62,3 +62,5 @@ room-appended b c at n m place len whole covered w = record {
   covered = omega arith;
   clear = written-clear b c at n m place w;
 }
+
+pub ruleset no_bits = (front-none)

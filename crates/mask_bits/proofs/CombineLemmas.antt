@@ -205,3 +205,7 @@ values-written r ys xs len m same made is = grind (arith, IfOk-weaker, take_back
 pub ruleset in_place = (between-none, between-join, between-word, between-last, between-byte, values-negated)
 
 pub ruleset window_of_two = (window-neighbors, window-next_byte)
+
+pub ruleset room_facts = (room-shows, room-covers, values-written)
+
+pub ruleset part_facts = (within-parts, values-parts)

@@ -77,6 +77,7 @@ impl BitBuffer {
     }
 
     /// `len` true values.
+    #[tactic(auto, using(crate::proofs::BufferLemmas::one_value))]
     pub fn new_set(alloc: Global, len: usize) -> Result<BitBuffer, AllocError>
         ensures { IfOk result (λ b. values b ≡ repeated len true) }
     {
@@ -85,6 +86,7 @@ impl BitBuffer {
     }
 
     /// `len` false values.
+    #[tactic(auto, using(crate::proofs::BufferLemmas::one_value))]
     pub fn new_unset(alloc: Global, len: usize) -> Result<BitBuffer, AllocError>
         ensures { IfOk result (λ b. values b ≡ repeated len false) }
     {
@@ -92,6 +94,7 @@ impl BitBuffer {
     }
 
     /// The list of `len` values that is true exactly at `indices`, in any order and with repeats.
+    #[tactic(auto, using(crate::proofs::BufferLemmas::values_from_places, std::proofs::lemmas::List::take_all))]
     pub fn from_indices(
         alloc: Global,
         len: usize,
@@ -123,6 +126,7 @@ impl BitBuffer {
         BitBuffer::from_slice(alloc, &bools)
     }
 
+    #[tactic(auto, using(crate::proofs::BufferLemmas::values_from_front, crate::proofs::CombineLemmas::take_back))]
     fn from_slice(alloc: Global, bools: &[bool]) -> Result<BitBuffer, AllocError>
         ensures { IfOk result (λ b. values b ≡ bools.now) }
     {
@@ -166,6 +170,7 @@ impl BitBuffer {
     }
 
     /// How many values are true.
+    #[tactic(auto, using(crate::proofs::Lists::Places::PlaceLemmas::place_facts, crate::proofs::BufferLemmas::buffer_facts, crate::proofs::BufferLemmas::len_facts))]
     pub fn true_count(&self) -> usize
         ensures counted { result ≡ count (values self.now) }
         ensures at_most { result ≤ length (values self.now) }
@@ -285,6 +290,7 @@ impl BitBuffer {
     }
 
     /// The indices of the true values, ascending.
+    #[tactic(auto, using(crate::proofs::Lists::Places::PlaceLemmas::place_facts, crate::proofs::YieldLemmas::whole_walks, crate::proofs::Lists::Places::AscendingLemmas::ascending_facts))]
     pub fn set_indices(&self) -> SetIndices<'_>
         ensures indices { result ≡ positions (values self.now) }
         ensures in_order { YieldsInOrder (YieldsFirst {A = ℕ} (λ s. s)) (λ s. s) }

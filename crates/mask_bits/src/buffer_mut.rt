@@ -37,6 +37,7 @@ impl Model for BitBufferMut {
 
 impl BitBufferMut {
     /// An empty list, with room for `n` bits.
+    #[tactic(auto, using(crate::proofs::BuilderLemmas::no_bits))]
     pub fn with_capacity(alloc: Global, n: usize) -> Result<BitBufferMut, AllocError>
         ensures { IfOk result (λ b. b ≡ []) }
     {
@@ -65,6 +66,7 @@ impl BitBufferMut {
     }
 
     /// How many values there are.
+    #[tactic(auto, using(crate::proofs::BufferLemmas::len_facts))]
     pub fn len(&self) -> usize
         ensures { result ≡ length self.now }
     {

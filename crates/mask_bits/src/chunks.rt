@@ -37,6 +37,7 @@ impl<'a> Model for BitChunks<'a> {
 
 impl<'a> BitChunks<'a> {
     /// The words of `len` bits of `bytes` from bit `offset` on, without a `BitBuffer`.
+    #[tactic(auto, using(crate::proofs::BufferLemmas::buffer_facts))]
     pub fn new(bytes: &'a [u8], offset: usize, len: usize) -> BitChunks<'a>
         requires { IsWithinBytes bytes.now offset len }
         ensures list { result ≡ bitmap bytes.now offset len }
@@ -46,6 +47,7 @@ impl<'a> BitChunks<'a> {
     }
 
     // How many values there are.
+    #[tactic(auto, using(crate::proofs::BufferLemmas::len_facts))]
     #[inline]
     pub(crate) fn values_len(&self) -> usize
         ensures { result ≡ length self.now }
@@ -69,7 +71,7 @@ impl<'a> BitChunks<'a> {
     }
 
     /// The whole words, in their order.
-    #[tactic(auto, using(crate::proofs::YieldLemmas::words_in_order))]
+    #[tactic(auto, using(crate::proofs::YieldLemmas::words_in_order, crate::proofs::Lists::Words::WordLemmas::words_of_list))]
     pub fn iter(&self) -> Words<'a>
         ensures parts { result ≡ word_parts self.now }
         ensures in_order { EveryRun (YieldsFirstBy word_bits (λ s. s))
@@ -90,6 +92,7 @@ impl<'a> BitChunks<'a> {
     }
 
     /// The values after the whole words in the low bits, and zeros above.
+    #[tactic(auto, using(crate::proofs::BufferLemmas::len_facts, crate::proofs::Lists::Words::PaddedLemmas::no_remainder))]
     pub fn remainder_bits(&self) -> u64
         ensures { word_bits result ≡ padded_remainder self.now }
     {
@@ -101,7 +104,7 @@ impl<'a> BitChunks<'a> {
 
     /// The started words, in their order: the whole words, and the remainder word where there is a
     /// remainder.
-    #[tactic(auto, using(crate::proofs::YieldLemmas::words_in_order))]
+    #[tactic(auto, using(crate::proofs::YieldLemmas::words_in_order, crate::proofs::Lists::Words::PaddedLemmas::padded_words))]
     pub fn iter_padded(&self) -> PaddedWords<'a>
         ensures parts { result ≡ padded_parts self.now }
         ensures in_order { EveryRun (YieldsFirstBy word_bits (λ s. s))
@@ -193,6 +196,7 @@ impl<'a> BitChunks<'a> {
     }
 
     /// Started word `i`, with zeros past the last value.
+    #[tactic(auto, using(crate::proofs::Lists::Words::PaddedLemmas::parts_of_list))]
     #[inline]
     pub fn started_word(&self, i: usize) -> u64
         requires { i < started_words (length self.now) }
@@ -293,6 +297,7 @@ impl Iterator for Words<'_> {
 }
 
 impl ExactSizeIterator for Words<'_> {
+    #[tactic(auto, using(crate::proofs::Lists::Words::WordLemmas::words_of_list))]
     fn len(&self) -> usize {
         self.chunks.len() - self.next
     }
@@ -345,6 +350,7 @@ impl Iterator for PaddedWords<'_> {
 }
 
 impl ExactSizeIterator for PaddedWords<'_> {
+    #[tactic(auto, using(crate::proofs::Lists::Words::PaddedLemmas::padded_words))]
     fn len(&self) -> usize {
         self.chunks.started_words() - self.next
     }

@@ -27,6 +27,7 @@ impl Eq for BitBuffer {
 }
 
 // Whether two buffers of one length have the same list.
+#[tactic(auto, using(crate::proofs::CombineLemmas::part_facts))]
 fn same_lists(a: &BitBuffer, b: &BitBuffer) -> bool
     requires { length (values a.now) ≡ length (values b.now) }
     ensures answer { result ≡ same_values a.now b.now }

@@ -87,3 +87,5 @@ positions-full n ps ascending within full =
     let places : positions (true_at n ps) ≡ ps = positions-true_at n ps ascending within in
     let all : true_at n ps ≡ repeated n true = grind (arith, all_true_from_count 0 (true_at n ps), ap length places, length-true_at n ps) in
     sym (ap positions all) ∙ places
+
+pub ruleset ascending_facts = (positions-ascending)

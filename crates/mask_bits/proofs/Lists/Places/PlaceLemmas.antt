@@ -65,3 +65,5 @@ IfSome-slice_get P (x ∷ xs) (suc n) all = IfSome-slice_get P xs n (All-tail P 
 -- true value number n, if there is one, stands within the list
 pub place-within : (m : List Bool) (n : ℕ) → IfSome (slice_get (positions m) n) (λ p. p < length m)
 place-within m n = IfSome-slice_get (λ p. p < length m) (positions m) n (positions-within m)
+
+pub ruleset place_facts = (count-le-length, length-indices_from, positions-within)

@@ -40,6 +40,9 @@ padded_part-remainder m =
     padded_part_from_values m (front ++ repeated n false) (length m / 64) (omega (arith, length-drop (64 * (length m / 64)) m, length-append front (repeated n false), length-repeated n false)) (λ j h.
     get_or-padded front n j ∙ get_or-drop (64 * (length m / 64)) m j false)
 
+-- that is each part
+pub ruleset parts_of_list = (padded_part-whole, padded_part-remainder)
+
 -- where no value is past the whole parts, the remainder is false values alone
 pub word_bits-no_remainder : (m : List Bool) → length m % 64 ≡ 0 → word_bits 0 ≡ padded_remainder m
 word_bits-no_remainder m none =
@@ -75,3 +78,7 @@ drop-padded_parts m i h = grind (arith, drop_more (padded_parts m) i [], length-
 
 pub drop-padded_parts_all : (m : List Bool) (i : ℕ) → started_words (length m) ≤ i → drop i (padded_parts m) ≡ []
 drop-padded_parts_all m i h = drop_all i (padded_parts m) (omega (arith, length-padded_parts m))
+
+pub ruleset padded_words = (length-padded_parts, drop-padded_parts, drop-padded_parts_all, length-drop)
+
+pub ruleset no_remainder = (word_bits-no_remainder)

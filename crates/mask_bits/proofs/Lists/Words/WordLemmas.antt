@@ -1,7 +1,7 @@
 -- Words of 64 bits as lists of truth values.
 use Rattle.std.proofs.Common.{zero-add, ◌≡◌, ℕ, ◌+◌, ◌/◌, ◌<◌, ◌≤◌, Bool, false, nat_eq, List, [], ◌∷◌, length, get_or, drop, sym, ap, ◌∙◌, arith, ◌*◌, ◌%◌, zero, suc, map, ◌^◌, take, count_ones, mod-lt, mod-eq_of_lt}
 use Rattle.std.specs.Int.{bit_at}
-use Rattle.std.proofs.lemmas.List.{drop_more, drop_all, take_more, take_all}
+use Rattle.std.proofs.lemmas.List.{drop_more, drop_all, take_more, take_all, length-drop}
 use Rattle.std.proofs.lemmas.List.FromFn.{length-map-range_with_len, get_or-map-range_with_len, fill_by_all, sum_by-map-range_with_len_more}
 use Rattle.mask_bits.specs.Words.{word_bits, word_part, word_parts}
 use Rattle.mask_bits.specs.Laws.Words.{ValueOfWord, CountsOfWordsAddUp}
@@ -91,3 +91,5 @@ value_of_word w i h = get_or-word_bits w i false h
 pub counts_of_words_add_up : CountsOfWordsAddUp
 unfolding word_parts
 counts_of_words_add_up m = grind (arith, counts_of_front, count-append, count-repeated_false)
+
+pub ruleset words_of_list = (length-word_parts, drop-word_parts, drop-word_parts_all, length-drop)

@@ -1,13 +1,7 @@
 use Rattle.std.proofs.Common.{arith}
 use Rattle.mask_bits.proofs.BufferLemmas.{same_values-from_answer}
-use Rattle.mask_bits.proofs.CombineLemmas.{values-parts, within-parts}
+use Rattle.mask_bits.proofs.CombineLemmas.{values-parts}
 use Rattle.mask_bits.proofs.eq.same_lists.Goals as goal
-
-pub same_bits-requires-clause-a_within : goal.same_bits-requires-clause-a_within
-same_bits-requires-clause-a_within c = grind (arith, within-parts)
-
-pub same_bits-requires-clause-b_within : goal.same_bits-requires-clause-b_within
-same_bits-requires-clause-b_within c = grind (arith, within-parts)
 
 pub returns-clause-same : goal.returns-clause-same
 returns-clause-same c = grind (arith, values-parts)
