@@ -55,3 +55,5 @@ bools-more old new m part i w before wrote others is_word is_part p h =
           ap (backing_bit new) (sym at) ∙ sym (get_or-window new (64 * i) j false few)
           ∙ ap (λ (bits : List Bool). get_or bits j false) wrote ∙ is_word j few ∙ is_part j few ∙ ap (λ k. get_or m k false) at
     ]
+
+pub ruleset packed_bools = (packed-more, get_or-word_bits, bit_at-zero)

@@ -30,3 +30,5 @@ word_bits-remainder b w shows =
     ap (λ n. word_bits (bit_and w (2 ^ n - 1))) (sym few)
     ∙ padded_part-low b i w (omega arith) (shows ∙ ap (λ n. window b.bytes (b.offset + n)) from)
     ∙ ap (λ n. padded_part (values b) (n / 64)) (sym (length-values b)) ∙ sym (padded_part-remainder (values b))
+
+pub ruleset window_words = (word_bits-window)

@@ -26,6 +26,7 @@ pub fn put_bools(bytes: &mut [u8], bools: &[bool])
 //
 // With no branch for a value, and always inlined: where there are 64 the loop becomes one of a few
 // steps, each of which takes several values.
+#[tactic(auto, using(crate::proofs::BoolsLemmas::packed_bools))]
 #[inline(always)]
 pub fn word_of_bools(bools: &[bool]) -> u64
     requires { length bools.now ≤ 64 }

@@ -25,6 +25,7 @@ pub fn count_bits(bytes: &[u8], position: usize, len: usize) -> usize
 }
 
 // How many of fewer than 64 bits are set.
+#[tactic(auto, using(crate::proofs::Lists::Words::BackingBitLemmas::low_counts, std::proofs::lemmas::Grind::one_shifted, std::proofs::lemmas::Nat::and_le_l))]
 #[inline]
 fn count_few(bytes: &[u8], position: usize, len: usize) -> usize
     requires { len < 64 }

@@ -7,6 +7,7 @@ ghost use Rattle.mask_bits.specs.Walk.{left_of, IsLeft};
 use crate::chunks::BitChunks;
 
 // The first started word, of which all is left.
+#[tactic(auto, using(crate::proofs::Lists::Words::WalkLemmas::left_in_words))]
 #[inline]
 pub(crate) fn first_word(chunks: &BitChunks<'_>) -> u64
     ensures all { left_of chunks.now 0 result ≡ chunks.now }
@@ -21,6 +22,7 @@ pub(crate) fn first_word(chunks: &BitChunks<'_>) -> u64
 }
 
 // From word `at` on, of which `word` is left: the first word of which something is left.
+#[tactic(auto, using(crate::proofs::Lists::Words::WalkLemmas::left_in_words))]
 #[inline]
 pub(crate) fn next_word(chunks: &BitChunks<'_>, at: usize, word: u64) -> Option<(usize, u64)>
     requires { IsLeft chunks.now at word }

@@ -35,6 +35,7 @@ impl BitBuffer {
 }
 
 // Appends the indices of the set bits of word `i`. Within a word nothing is looked up but the word.
+#[tactic(auto, using(crate::proofs::Lists::Places::SelectLemmas::indices_of_word))]
 #[inline]
 fn push_indices(indices: &mut Vec<usize>, i: usize, word: u64) -> Result<(), AllocError>
     requires { 64 * i < 2 ^ 64 }

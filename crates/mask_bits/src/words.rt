@@ -16,6 +16,7 @@ pub fn started_words(len: usize) -> usize
 }
 
 /// Word `i` of the whole words of `bytes`: bits `64 * i` to `64 * i + 63`, the first lowest.
+#[tactic(auto, using(crate::proofs::Lists::Words::FrontLemmas::whole_words))]
 #[inline]
 pub fn word_of(bytes: &[u8], i: usize) -> u64
     requires { 8 * i + 8 ≤ length bytes.now }
@@ -60,6 +61,7 @@ pub fn funnel_shift(word: u64, next: u64, low: u32) -> u64
 }
 
 /// The 64 bits from bit `position` on, wherever that is; those past the last byte are 0.
+#[tactic(auto, using(crate::proofs::WindowLemmas::window_words))]
 #[inline]
 pub fn word_at(bytes: &[u8], position: usize) -> u64
     ensures { word_bits result ≡ window bytes.now position }
@@ -93,6 +95,7 @@ fn sixteen_whole_bytes(bytes: &[u8], first: usize) -> u128
     }
 }
 
+#[tactic(auto, using(crate::proofs::NumberLemmas::padded_bytes))]
 #[cold]
 #[inline(never)]
 fn last_bytes(bytes: &[u8], first: usize) -> u128

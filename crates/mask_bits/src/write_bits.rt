@@ -51,6 +51,7 @@ pub(crate) fn put_word(bytes: &mut [u8], at: usize, word: u64, count: usize)
 }
 
 // Writes `value`, `n` times, behind the first `at` bits.
+#[tactic(auto, using(crate::proofs::WriteLemmas::false_values))]
 pub(crate) fn put_same(bytes: &mut [u8], at: usize, value: bool, n: usize)
     requires room { at + n ≤ 8 * length bytes.old }
     requires fits { at + n < 2 ^ 64 }
@@ -114,6 +115,7 @@ pub(crate) fn put_bits(bytes: &mut [u8], at: usize, from: &[u8], offset: usize, 
 }
 
 // Writes bits behind those that are there, by a window for each word.
+#[tactic(auto, using(crate::proofs::WriteLemmas::written_bits))]
 fn put_windows(bytes: &mut [u8], at: usize, from: &[u8], offset: usize, n: usize)
     requires room { at + n ≤ 8 * length bytes.old }
     requires fits { at + n < 2 ^ 64 }

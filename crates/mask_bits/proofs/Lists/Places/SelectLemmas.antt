@@ -1,5 +1,5 @@
 -- Where true value number n of a list stands, found by the counts of its started words; and its last true value.
-use Rattle.std.proofs.Common.{◌≡◌, ℕ, suc, ◌+◌, ◌*◌, ◌-◌, ◌^◌, ◌<◌, ◌≤◌, Bool, true, false, List, [], ◌∷◌, ◌++◌, length, get_or, take, drop, map, Some, None, slice_get, slice_range, refl, sym, ap, ◌∙◌, arith, append-nil, add-zero, pow-suc, drop-drop, option_map}
+use Rattle.std.proofs.Common.{◌≡◌, ℕ, suc, ◌+◌, ◌*◌, ◌-◌, ◌^◌, ◌<◌, ◌≤◌, Bool, true, false, List, [], ◌∷◌, ◌++◌, length, get_or, take, drop, map, Some, None, slice_get, slice_range, refl, sym, ap, ◌∙◌, arith, append-nil, append_assoc, add-zero, pow-suc, drop-drop, option_map}
 use Rattle.std.specs.Int.{bit_at, w64, leading_zeros}
 use Rattle.std.specs.Int.RustNames.{bit_and}
 use Rattle.std.proofs.lemmas.List.{take-append-drop, drop-drop, drop_more, take_all, length-append, length-drop, length-take, get_or-drop, get_or-take, get_or_past}
@@ -177,3 +177,5 @@ none_more m i read none p from = grind (arith, none p, bit-padded m i 0 (p - 64 
 -- the true values up to a place, and those of the part from there
 pub count-part_further : (m : List Bool) (s n : ℕ) → count (take (s + n) m) ≡ count (take s m) + count (slice_range m s (s + n))
 count-part_further m s n = grind (arith, take-add, count-append)
+
+pub ruleset indices_of_word = (places-lowest, indices-of_none, append-nil, append_assoc)

@@ -57,3 +57,5 @@ bit-window bytes p w j shows h = grind (arith, get_or-word_bits w j false h, get
 -- ---- words of a part of a buffer's list, from any value on
 
 -- ---- a list that is written word by word
+
+pub ruleset low_counts = (count-low)

@@ -115,3 +115,5 @@ window-drop bytes k p q place =
     let byte : (q + j) / 8 ≡ k + (p + j) / 8 = omega arith in
     let bit : (q + j) % 8 ≡ (p + j) % 8 = omega arith in
     grind (arith, get_or-window bytes q j false h, get_or-drop k bytes ((p + j) / 8) 0))
+
+pub ruleset whole_words = (word_bits-first_chunk)

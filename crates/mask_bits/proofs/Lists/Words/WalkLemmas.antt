@@ -236,3 +236,5 @@ pub runs_from-repeated_false : (n k : ℕ) → runs_from n (repeated k false) �
 unfolding repeated
 runs_from-repeated_false n zero = refl
 runs_from-repeated_false n (suc k) = runs_from-repeated_false (n + 1) k
+
+pub ruleset left_in_words = (left_of-first, left_of-none, left_of-next, left_of-last, IsLeft-none, IsLeft-read)
