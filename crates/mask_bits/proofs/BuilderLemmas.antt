@@ -1,11 +1,14 @@
 -- The list of a builder, from its bytes.
-use Rattle.std.proofs.Common.{◌≡◌, ◌≢◌, ℕ, ◌+◌, ◌*◌, ◌%◌, ◌<◌, ◌≤◌, Bool, true, false, not, ◌&&◌, ◌||◌, nat_eq, List, [], ◌++◌, length, set, Result, Ok, Err, OnErr, refl, sym, ap, ◌∙◌, inl, inr, arith}
+use Rattle.std.proofs.Common.{◌≡◌, ◌≢◌, ℕ, ◌+◌, ◌*◌, ◌%◌, ◌<◌, ◌≤◌, Bool, true, false, not, ◌&&◌, ◌||◌, nat_eq, List, [], ◌++◌, length, set, take, drop, Result, Ok, Err, OnErr, refl, sym, ap, ◌∙◌, inl, inr, arith}
 use Rattle.std.proofs.lemmas.Bool.{cases_eq, eq-eqb, ne_eqb}
-use Rattle.std.proofs.lemmas.List.{length-set, get_or-set_same, get_or-set_other, nil_from_length}
+use Rattle.std.proofs.lemmas.List.{length-set, length-take, with_items_is, get_or-set_same, get_or-set_other, nil_from_length}
 use Rattle.mask_bits.specs.Buffer.{Packed, backing_bit, values}
 use Rattle.mask_bits.specs.BufferMut.{IsWrittenBehind, IsRoom}
-use Rattle.mask_bits.proofs.BufferLemmas.{length-values, values_from_front}
-use Rattle.mask_bits.proofs.Lists.Words.FrontLemmas.{get_or-front}
+use Rattle.mask_bits.proofs.BufferLemmas.{length-values, len-of_list, values_from_front}
+use Rattle.mask_bits.proofs.CombineLemmas.{take_back, values-parts}
+use Rattle.mask_bits.proofs.Lists.CountLemmas.{length-repeated}
+use Rattle.mask_bits.proofs.Lists.Words.WordLemmas.{length-word_bits}
+use Rattle.mask_bits.proofs.Lists.Words.FrontLemmas.{get_or-front, front-same}
 use Rattle.mask_bits.proofs.WriteLemmas.{written-front, written-clear}
 
 -- a fact that holds at any answer
@@ -56,11 +59,13 @@ pub front-appended : (a b c : List ℕ) (at n : ℕ) (m l : List Bool) → value
     → values (record { bytes = c; offset = 0; len = n }) ≡ l ++ m
 front-appended a b c at n m l was place stays w = grind (arith, written-front)
 
-pub room-appended : (b c : List ℕ) (at n : ℕ) (m : List Bool) → n ≡ at + length m → length c ≡ length b → length b % 8 ≡ 0 → n ≤ 8 * length b → IsWrittenBehind b c at m → IsRoom c n
-room-appended b c at n m place len whole covered w = record {
-  whole = ap (λ x. x % 8) len ∙ whole;
-  covered = omega arith;
-  clear = written-clear b c at n m place w;
-}
+pub room-appended : (b c xs : List ℕ) (at k n : ℕ) (m : List Bool) → n ≡ at + length m → length b ≡ k → length c ≡ k → k % 8 ≡ 0 → n ≤ 8 * k → IsWrittenBehind b c at m → IsRoom (take k (c ++ drop (length c) xs)) n
+room-appended b c xs at k n m place len same whole covered w =
+    rw (take_back k c xs same) (record { whole = ap (λ x. x % 8) same ∙ whole; covered = omega arith; clear = written-clear b c at n m place w })
 
 pub ruleset no_bits = (front-none)
+
+-- what a value that is set, and values that are appended, have to show
+pub ruleset one_value = (with_items_is, len-of_list, front-set, set-here, set-others, unset-here, unset-others, room-set)
+
+pub ruleset appended_values = (with_items_is, len-of_list, on_err, front-same, front-appended, length-repeated, length-take, length-word_bits, length-values, values-parts)

@@ -24,3 +24,5 @@ pub ruleset whole_walks = (values_in_order, indices_in_order, ranges_in_order)
 
 pub words_in_order : EveryRun (YieldsFirstBy word_bits (λ s. s)) (λ p. ItemsMapTo p word_bits p.from)
 words_in_order p seen = from_front (YieldsFirstBy word_bits (λ s. s)) word_bits (λ s. s) (λ s t h. ap length h.0) (λ s x t h. h) p seen
+
+pub ruleset items = (MakesProgress-item)

@@ -223,6 +223,7 @@ fn remainder(bytes: &[u8], offset: usize, len: usize) -> u64
 }
 
 // The index of set bit number `n`, counted from 0.
+#[tactic(auto, using(crate::proofs::Lists::Places::SelectLemmas::left_in_word))]
 #[inline]
 fn index_in_word(word: u64, n: usize) -> usize
     requires { n < count (word_bits word) }
@@ -276,6 +277,7 @@ impl Iterator for Words<'_> {
 
     ghost remaining = { item_count (λ s. s) };
 
+    #[tactic(auto, using(crate::proofs::Lists::Words::WordLemmas::words_of_list, crate::proofs::YieldLemmas::items))]
     fn next(&mut self) -> Option<u64> {
         if self.next == self.chunks.len() {
             return None;
@@ -329,6 +331,7 @@ impl Iterator for PaddedWords<'_> {
 
     ghost remaining = { item_count (λ s. s) };
 
+    #[tactic(auto, using(crate::proofs::Lists::Words::PaddedLemmas::padded_words, crate::proofs::YieldLemmas::items))]
     fn next(&mut self) -> Option<u64> {
         if self.next == self.chunks.started_words() {
             return None;

@@ -179,3 +179,5 @@ pub count-part_further : (m : List Bool) (s n : ℕ) → count (take (s + n) m) 
 count-part_further m s n = grind (arith, take-add, count-append)
 
 pub ruleset indices_of_word = (places-lowest, indices-of_none, append-nil, append_assoc)
+
+pub ruleset left_in_word = (some_left, left-more, left-first, low-within)
