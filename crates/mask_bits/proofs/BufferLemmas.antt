@@ -48,6 +48,7 @@ values_from_places bytes places n same =
 
 -- what `len` and the tests of bounds need
 pub ruleset buffer_facts = (length-values)
+
 pub ruleset len_facts = (len-of_list)
 
 -- ---- parts

@@ -5,9 +5,7 @@ use Rattle.std.proofs.lemmas.List.{length-set, length-take, with_items_is, get_o
 use Rattle.mask_bits.specs.Buffer.{Packed, backing_bit, values}
 use Rattle.mask_bits.specs.BufferMut.{IsWrittenBehind, IsRoom}
 use Rattle.mask_bits.proofs.BufferLemmas.{length-values, len-of_list, values_from_front}
-use Rattle.mask_bits.proofs.CombineLemmas.{take_back, values-parts}
-use Rattle.mask_bits.proofs.Lists.CountLemmas.{length-repeated}
-use Rattle.mask_bits.proofs.Lists.Words.WordLemmas.{length-word_bits}
+use Rattle.mask_bits.proofs.CombineLemmas.{take_back}
 use Rattle.mask_bits.proofs.Lists.Words.FrontLemmas.{get_or-front, front-same}
 use Rattle.mask_bits.proofs.WriteLemmas.{written-front, written-clear}
 
@@ -65,7 +63,7 @@ room-appended b c xs at k n m place len same whole covered w =
 
 pub ruleset no_bits = (front-none)
 
--- what a value that is set, and values that are appended, have to show
+-- what a value that is set has to show, and a place behind the list, or a list that stays
 pub ruleset one_value = (with_items_is, len-of_list, front-set, set-here, set-others, unset-here, unset-others, room-set)
 
-pub ruleset appended_values = (with_items_is, len-of_list, on_err, front-same, front-appended, length-repeated, length-take, length-word_bits, length-values, values-parts)
+pub ruleset room_behind = (len-of_list, on_err, front-same)

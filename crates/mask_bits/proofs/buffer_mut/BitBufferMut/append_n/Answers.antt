@@ -1,7 +1,8 @@
 use Rattle.std.proofs.Common.{List, Bool, ◌∙◌, arith}
+use Rattle.std.proofs.lemmas.List.{with_items_is}
 use Rattle.mask_bits.specs.Positions.{repeated}
 use Rattle.mask_bits.proofs.Lists.CountLemmas.{length-repeated}
-use Rattle.mask_bits.proofs.BuilderLemmas.{room-appended}
+use Rattle.mask_bits.proofs.BuilderLemmas.{front-appended, room-appended}
 use Rattle.mask_bits.proofs.buffer_mut.BitBufferMut.append_n.Goals as goal
 
 pub invariant_of-self-2 : goal.invariant_of-self-2
@@ -9,3 +10,6 @@ invariant_of-self-2 c =
     let m : List Bool = repeated c.args.n c.args.value in
     room-appended c.deref_mut.result.now c.put_same.new.bytes _ c.self.inside.len _ _ m (omega (arith, length-repeated c.args.n c.args.value)) c.deref_mut.ensures.len
     (c.put_same.auto.bytes ∙ c.deref_mut.ensures.len) c.make_room.ensures.whole c.in_ok-make_room.ensures.room c.put_same.ensures
+
+pub returns-clause-added : goal.returns-clause-added
+returns-clause-added c = grind (arith, with_items_is, front-appended, length-repeated)
