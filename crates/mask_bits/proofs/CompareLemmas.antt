@@ -75,27 +75,20 @@ none-join f a b p q m n = (
 )
 
 -- the first bits of a word, where the others are cleared
-none-low_bits : (f : Bool → Bool → Bool) (a b : List ℕ) (p q v w r n : ℕ) → n < 64 → r < 2 ^ 64
-    → word_bits v ≡ window a p → word_bits w ≡ window b q → word_bits r ≡ combined f (word_bits v) (word_bits w)
-    → (bit_and r (2 ^ n - 1) ≡ 0) ↔ IsNoneTrue f a p b q n
-none-low_bits f a b p q v w r n few fits is_v is_w is_r =
-    let cut : ℕ = bit_and r (2 ^ n - 1) in
-    let bit : (j : ℕ) → j < n → nat_eq (bit_at cut j) 1 ≡ f (backing_bit a (p + j)) (backing_bit b (q + j))
-    = λ j h. ap (λ x. nat_eq x 1) (bit_at-low_mask r n j h) ∙ sym (get_or-word_bits r j false (omega arith)) ∙ combined_bit f a b p q j (word_bits v) (word_bits w) (word_bits r) is_v is_w is_r (omega arith) in (
-      λ none j h. sym (bit j h) ∙ ap (λ x. nat_eq (bit_at x j) 1) none ∙ ap (λ x. nat_eq x 1) (bit_at-zero j),
-      λ all. same_from_bits_below 64 cut 0 (omega (arith, and_le_l r (2 ^ n - 1))) (omega arith) (λ j h. elim (cases_lt j n) [
-        | inl low ↦ bit_of_false (bit_at cut j) (bit_at-lt cut j) (bit j low ∙ all j low) ∙ sym (bit_at-zero j)
-        | inr past ↦ bit_at-past_mask r n j past ∙ sym (bit_at-zero j)
-      ]),
-    )
-
 pub none-low : (f : Bool → Bool → Bool) (a b : List ℕ) (p q v w r mask n : ℕ) → n < 64 → r < 2 ^ 64
     → word_bits v ≡ window a p → word_bits w ≡ window b q → word_bits r ≡ combined f (word_bits v) (word_bits w) → mask ≡ 2 ^ n - 1
     → (bit_and r mask ≡ 0) ↔ IsNoneTrue f a p b q n
 none-low f a b p q v w r mask n few fits is_v is_w is_r is =
-    let same : bit_and r mask ≡ bit_and r (2 ^ n - 1) = ap (bit_and r) is in
-    let low = none-low_bits f a b p q v w r n few fits is_v is_w is_r in
-    (λ none. low.0 (sym same ∙ none), λ all. same ∙ low.1 all)
+    let cut : ℕ = bit_and r (2 ^ n - 1) in
+    let same : bit_and r mask ≡ cut = ap (bit_and r) is in
+    let bit : (j : ℕ) → j < n → nat_eq (bit_at cut j) 1 ≡ f (backing_bit a (p + j)) (backing_bit b (q + j))
+    = λ j h. ap (λ x. nat_eq x 1) (bit_at-low_mask r n j h) ∙ sym (get_or-word_bits r j false (omega arith)) ∙ combined_bit f a b p q j (word_bits v) (word_bits w) (word_bits r) is_v is_w is_r (omega arith) in (
+      λ none j h. sym (bit j h) ∙ ap (λ x. nat_eq (bit_at x j) 1) (sym same ∙ none) ∙ ap (λ x. nat_eq x 1) (bit_at-zero j),
+      λ all. same ∙ same_from_bits_below 64 cut 0 (omega (arith, and_le_l r (2 ^ n - 1))) (omega arith) (λ j h. elim (cases_lt j n) [
+        | inl low ↦ bit_of_false (bit_at cut j) (bit_at-lt cut j) (bit j low ∙ all j low) ∙ sym (bit_at-zero j)
+        | inr past ↦ bit_at-past_mask r n j past ∙ sym (bit_at-zero j)
+      ]),
+    )
 
 -- the mask of the first bits
 pub low_mask : (n : ℕ) → n < 64 → 1 * 2 ^ n % 2 ^ 64 - 1 ≡ 2 ^ n - 1

@@ -105,7 +105,6 @@ impl BitBufferMut {
     }
 
     /// Appends the values of a buffer, whatever its bit offset.
-    #[tactic(auto, using(crate::proofs::BuilderLemmas::room_behind))]
     pub fn append_buffer(&mut self, other: &BitBuffer) -> Result<(), AllocError>
         requires { length self.old + length (values other.now) < 2 ^ 64 }
         ensures added { OnOk result (self.new ≡ self.old ++ values other.now) }

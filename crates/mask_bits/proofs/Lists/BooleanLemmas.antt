@@ -1,5 +1,6 @@
 -- What holds of lists combined value by value: the laws of truth values, at each place.
 use Rattle.std.proofs.Common.{◌≡◌, ℕ, zero, suc, ◌<◌, Bool, true, false, not, ◌&&◌, ◌||◌, List, [], ◌∷◌, ◌++◌, length, get_or, take, map, refl, ap, arith}
+use Rattle.std.proofs.lemmas.List.{map-id, get_or_past}
 use Rattle.mask_bits.specs.Laws.Boolean.{IsFreeOfOrder, DistributesOver, Absorbs, HasComplements, AndNotIsAndOfNot, KeepsLength}
 use Rattle.mask_bits.specs.Laws.RankIntersection.{RankIntersectionOfAnd, RankIntersectionOfNot}
 use Rattle.mask_bits.specs.Lists.{combined, and_of, or_of, not_of, and_not_of}
@@ -7,8 +8,6 @@ use Rattle.mask_bits.specs.Positions.{repeated}
 use Rattle.mask_bits.proofs.Lists.Places.PlaceLemmas.{trues, count-trues}
 use Rattle.mask_bits.proofs.Lists.RankLemmas.{narrow, rank_intersection-narrow}
 use Rattle.std.proofs.Math.Bool.{and_comm, or_comm, and_assoc, or_assoc, and-or_distrib_left, or-and_distrib_left, and-not_self, or-not_self}
-
--- ---- truth values
 
 -- ---- at each place
 
@@ -57,6 +56,10 @@ pub get_or-combined : (f : Bool → Bool → Bool) (a b : List Bool) (i : ℕ) (
 get_or-combined f [] b i d h len = absurd (omega arith)
 get_or-combined f (v ∷ a) b i d h len = grind (arith, get_or-combined f a)
 
+-- and past the end, where two false values make a false one
+pub value-combined : (f : Bool → Bool → Bool) (a b : List Bool) (i : ℕ) → f false false ≡ false → length a ≡ length b → get_or (combined f a b) i false ≡ f (get_or a i false) (get_or b i false)
+value-combined f a b i none len = grind (arith, get_or-combined f a b i false, get_or_past (combined f a b) i false, get_or_past a i false, get_or_past b i false, length-combined f a b len)
+
 -- ---- where one side is a list of one value
 
 -- g of the other side, where that is what the value makes of it
@@ -86,8 +89,7 @@ combined-take f (suc n) (x ∷ a) (y ∷ b) = ap (λ (xs : List Bool). f x y ∷
 
 -- the other side itself, or one value alone
 pub map-itself : (m : List Bool) → map (λ (x : Bool). x) m ≡ m
-map-itself [] = refl
-map-itself (x ∷ m) = ap (λ (xs : List Bool). x ∷ xs) (map-itself m)
+map-itself m = map-id m
 
 pub map-one : (v : Bool) (m : List Bool) → map (λ (x : Bool). v) m ≡ repeated (length m) v
 unfolding repeated

@@ -1,5 +1,5 @@
 -- The values of boolean calls, how many of them are true, and the rows that they choose: by recursion on the first list.
-use Rattle.std.proofs.Common.{◌≡◌, zero, suc, ◌+◌, ◌≤◌, Bool, true, false, nat_eq, List, [], ◌∷◌, ◌++◌, length, refl, sym, ap₂, subst, arith}
+use Rattle.std.proofs.Common.{◌≡◌, zero, suc, ◌+◌, ◌≤◌, Bool, true, false, not, ◌&&◌, ◌||◌, nat_eq, List, [], ◌∷◌, ◌++◌, length, refl, sym, ap₂, subst, arith}
 use Rattle.std.specs.Prelude.{IsPermutation}
 use Rattle.std.specs.List.{items_where_true, list_any}
 use Rattle.std.proofs.lemmas.List.FromFn.{get_or-map-range_with_len}
@@ -10,6 +10,7 @@ use Rattle.mask_bits.specs.Laws.Rows.{ChosenAndTheRest}
 use Rattle.mask_bits.specs.Laws.Stacks.{CountOfFoldIsAtMostTheFirst}
 use Rattle.mask_bits.specs.Lists.{and_of, or_of, not_of, and_not_of}
 use Rattle.mask_bits.specs.Positions.{true_at, rank_intersection}
+use Rattle.mask_bits.proofs.Lists.BooleanLemmas.{value-combined}
 use Rattle.mask_bits.proofs.Lists.CountLemmas.{repeated_from_All}
 use Rattle.mask_bits.proofs.Lists.LawLemmas.{chosen-items_where_true, rank_intersection_count, folding_keeps_a_stack}
 use Rattle.mask_bits.proofs.Lists.Places.PlaceLemmas.{trues, count-trues, count-le-length}
@@ -23,18 +24,10 @@ value_of_and (x ∷ a) (y ∷ b) zero = refl
 value_of_and (x ∷ a) (y ∷ b) (suc i) = value_of_and a b i
 
 pub value_of_or : ValueOfOr
-value_of_or [] [] i len = refl
-value_of_or [] (y ∷ b) i len = absurd (omega arith)
-value_of_or (x ∷ a) [] i len = absurd (omega arith)
-value_of_or (x ∷ a) (y ∷ b) zero len = refl
-value_of_or (x ∷ a) (y ∷ b) (suc i) len = value_of_or a b i (omega arith)
+value_of_or a b i len = value-combined (λ x y. x || y) a b i refl len
 
 pub value_of_and_not : ValueOfAndNot
-value_of_and_not [] [] i len = refl
-value_of_and_not [] (y ∷ b) i len = absurd (omega arith)
-value_of_and_not (x ∷ a) [] i len = absurd (omega arith)
-value_of_and_not (x ∷ a) (y ∷ b) zero len = refl
-value_of_and_not (x ∷ a) (y ∷ b) (suc i) len = value_of_and_not a b i (omega arith)
+value_of_and_not a b i len = value-combined (λ x y. x && not y) a b i refl len
 
 pub value_of_not : ValueOfNot
 value_of_not [] i h = absurd (omega arith)
@@ -62,8 +55,7 @@ list_of_one_value m v all = repeated_from_All v m all
 
 trues-complement : (m : List Bool) → trues m + trues (not_of m) ≡ length m
 trues-complement [] = refl
-trues-complement (true ∷ m) = omega (arith, trues-complement m)
-trues-complement (false ∷ m) = omega (arith, trues-complement m)
+trues-complement (v ∷ m) = grind (arith, trues-complement m)
 
 pub count_of_complement : CountOfComplement
 count_of_complement m = omega (arith, trues-complement m, count-trues m, count-trues (not_of m))
@@ -71,17 +63,12 @@ count_of_complement m = omega (arith, trues-complement m, count-trues m, count-t
 trues-and_first : (a b : List Bool) → trues (and_of a b) ≤ trues a
 trues-and_first [] b = omega arith
 trues-and_first (x ∷ a) [] = omega arith
-trues-and_first (true ∷ a) (true ∷ b) = omega (arith, trues-and_first a b)
-trues-and_first (true ∷ a) (false ∷ b) = omega (arith, trues-and_first a b)
-trues-and_first (false ∷ a) (y ∷ b) = trues-and_first a b
+trues-and_first (x ∷ a) (y ∷ b) = grind (arith, trues-and_first a b)
 
 trues-and_second : (a b : List Bool) → trues (and_of a b) ≤ trues b
 trues-and_second [] b = omega arith
 trues-and_second (x ∷ a) [] = omega arith
-trues-and_second (true ∷ a) (true ∷ b) = omega (arith, trues-and_second a b)
-trues-and_second (true ∷ a) (false ∷ b) = trues-and_second a b
-trues-and_second (false ∷ a) (true ∷ b) = omega (arith, trues-and_second a b)
-trues-and_second (false ∷ a) (false ∷ b) = trues-and_second a b
+trues-and_second (x ∷ a) (y ∷ b) = grind (arith, trues-and_second a b)
 
 pub count_of_and : CountOfAnd
 count_of_and a b =
@@ -91,10 +78,7 @@ trues-and_or : (a b : List Bool) → length a ≡ length b → trues (and_of a b
 trues-and_or [] [] len = refl
 trues-and_or [] (y ∷ b) len = absurd (omega arith)
 trues-and_or (x ∷ a) [] len = absurd (omega arith)
-trues-and_or (true ∷ a) (true ∷ b) len = omega (arith, trues-and_or a b (omega arith))
-trues-and_or (true ∷ a) (false ∷ b) len = omega (arith, trues-and_or a b (omega arith))
-trues-and_or (false ∷ a) (true ∷ b) len = omega (arith, trues-and_or a b (omega arith))
-trues-and_or (false ∷ a) (false ∷ b) len = trues-and_or a b (omega arith)
+trues-and_or (x ∷ a) (y ∷ b) len = grind (arith, trues-and_or a b)
 
 pub count_of_and_with_or : CountOfAndWithOr
 count_of_and_with_or a b len = omega (arith, trues-and_or a b len, count-trues a, count-trues b, count-trues (and_of a b), count-trues (or_of a b))
@@ -103,9 +87,7 @@ trues-and_and_not : (a b : List Bool) → length a ≡ length b → trues (and_o
 trues-and_and_not [] [] len = refl
 trues-and_and_not [] (y ∷ b) len = absurd (omega arith)
 trues-and_and_not (x ∷ a) [] len = absurd (omega arith)
-trues-and_and_not (true ∷ a) (true ∷ b) len = omega (arith, trues-and_and_not a b (omega arith))
-trues-and_and_not (true ∷ a) (false ∷ b) len = omega (arith, trues-and_and_not a b (omega arith))
-trues-and_and_not (false ∷ a) (y ∷ b) len = trues-and_and_not a b (omega arith)
+trues-and_and_not (x ∷ a) (y ∷ b) len = grind (arith, trues-and_and_not a b)
 
 pub count_of_and_with_and_not : CountOfAndWithAndNot
 count_of_and_with_and_not a b len = omega (arith, trues-and_and_not a b len, count-trues a, count-trues (and_of a b), count-trues (and_not_of a b))

@@ -1,10 +1,11 @@
 -- The rank intersection of two lists, by recursion on the first.
-use Rattle.std.proofs.Common.{◌≡◌, ℕ, zero, suc, ◌+◌, ◌<◌, Bool, true, false, List, [], ◌∷◌, length, get_or, map, nat_eq, refl, ap, ◌∙◌, arith}
+use Rattle.std.proofs.Common.{◌≡◌, ℕ, zero, suc, ◌+◌, ◌<◌, ◌≤◌, Bool, true, false, List, [], ◌∷◌, length, get_or, map, nat_eq, refl, ap, ◌∙◌, arith}
 use Rattle.std.specs.List.{All, list_any, range_with_len}
 use Rattle.std.proofs.lemmas.List.{get_or-map, length-replicate}
 use Rattle.std.proofs.lemmas.List.Elements.{All-head, All-tail, All-map, All-weaker, All-get_or}
 use Rattle.std.proofs.lemmas.List.FromFn.{length-map-range_with_len}
 use Rattle.mask_bits.specs.Positions.{positions, count, true_at, at_indices, rank_intersection, repeated}
+use Rattle.mask_bits.proofs.Lists.CountLemmas.{count-repeated_true}
 use Rattle.mask_bits.proofs.Lists.Places.PlaceLemmas.{positions-true, positions-false, trues, count-trues, positions-within}
 
 -- ---- lists that are true at some places, by their first value
@@ -13,9 +14,9 @@ map_range_suc : {X : Type 0} (f : ℕ → X) (a n : ℕ) → map f (range_with_l
 map_range_suc f a zero = refl
 map_range_suc {X} f a (suc n) = grind (arith, map_range_suc f (a + 1) n)
 
-map_range_same : {X : Type 0} (f g : ℕ → X) → ((i : ℕ) → f i ≡ g i) → (a n : ℕ) → map f (range_with_len a n) ≡ map g (range_with_len a n)
-map_range_same f g same a zero = refl
-map_range_same {X} f g same a (suc n) = grind (arith, map_range_same f g same (a + 1) n)
+pub map_range_same : {X : Type 0} (f g : ℕ → X) (a n : ℕ) → ((i : ℕ) → a ≤ i → f i ≡ g i) → map f (range_with_len a n) ≡ map g (range_with_len a n)
+map_range_same f g a zero same = refl
+map_range_same {X} f g a (suc n) same = grind (arith, map_range_same f g (a + 1) n (λ i h. same i (omega arith)))
 
 -- a place past the first is among places that are one further on just where the one before it is among them
 list_any-map_suc : (i : ℕ) (ps : List ℕ) → list_any (nat_eq (suc i)) (map suc ps) ≡ list_any (nat_eq i) ps
@@ -32,7 +33,7 @@ true_at-suc n ps = grind (arith, list_any-map_suc_zero, map_range_suc, list_any-
 
 pub true_at-zero_suc : (n : ℕ) (ps : List ℕ) → true_at (suc n) (0 ∷ map suc ps) ≡ true ∷ true_at n ps
 unfolding true_at
-true_at-zero_suc n ps = grind (arith, map_range_suc (λ i. list_any (nat_eq i) (0 ∷ map suc ps)) 0 n, map_range_same (λ i. list_any (nat_eq (suc i)) (0 ∷ map suc ps)) (λ i. list_any (nat_eq i) ps) (λ i. grind (arith, list_any-map_suc i ps)) 0 n)
+true_at-zero_suc n ps = grind (arith, map_range_suc (λ i. list_any (nat_eq i) (0 ∷ map suc ps)) 0 n, map_range_same (λ i. list_any (nat_eq (suc i)) (0 ∷ map suc ps)) (λ i. list_any (nat_eq i) ps) 0 n (λ i h. grind (arith, list_any-map_suc i ps)))
 
 -- ---- entries at places
 
@@ -86,14 +87,8 @@ unfolding repeated
 narrow-all_true [] = refl
 narrow-all_true (v ∷ b) = ap (λ (xs : List Bool). v ∷ xs) (narrow-all_true b)
 
-trues-repeated_true : (n : ℕ) → trues (repeated n true) ≡ n
-unfolding repeated
-trues-repeated_true zero = refl
-trues-repeated_true (suc n) = ap suc (trues-repeated_true n)
-
 pub rank_intersection-all_true : (n : ℕ) (b : List Bool) → length b ≡ n → rank_intersection (repeated n true) b ≡ b
-unfolding repeated
-rank_intersection-all_true n b len = grind (arith, narrows, trues-repeated_true, narrow-all_true)
+rank_intersection-all_true n b len = grind (arith, rank_intersection-narrow, count-repeated_true, narrow-all_true)
 
 -- and a right unit
 narrow-by_all_true : (a : List Bool) → narrow a (repeated (trues a) true) ≡ a

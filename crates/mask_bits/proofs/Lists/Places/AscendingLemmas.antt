@@ -5,7 +5,7 @@ use Rattle.std.specs.List.Sorted.{IsStrictlyIncreasing}
 use Rattle.std.proofs.lemmas.Bool.{cases_eq, eq-eqb, ne_eqb}
 use Rattle.mask_bits.specs.Positions.{indices_from, positions, true_at, repeated}
 use Rattle.mask_bits.proofs.Lists.CountLemmas.{all_true_from_count}
-use Rattle.mask_bits.proofs.Lists.RankLemmas.{length-true_at}
+use Rattle.mask_bits.proofs.Lists.RankLemmas.{length-true_at, map_range_same}
 use Rattle.std.proofs.lemmas.List.{get_or_default}
 
 -- places from low on, below high, each above the one before it
@@ -54,10 +54,6 @@ none_below : (i low high : ℕ) (ps : List ℕ) → Rising low high ps → i < l
 none_below i low high [] r h = refl
 none_below i low high (p ∷ ps) r h = grind (arith, none_below i (p + 1) high ps r.2 (omega (arith, r.0)))
 
-map_range_same_from : {X : Type 0} (f g : ℕ → X) (a n : ℕ) → ((i : ℕ) → a ≤ i → f i ≡ g i) → map f (range_with_len a n) ≡ map g (range_with_len a n)
-map_range_same_from f g a zero same = refl
-map_range_same_from {X} f g a (suc n) same = grind (arith, map_range_same_from f g (a + 1) n (λ i h. same i (omega arith)))
-
 true_from : (a n high : ℕ) (ps : List ℕ) → high ≡ a + n → Rising a high ps → indices_from a (map (λ i. list_any (nat_eq i) ps) (range_with_len a n)) ≡ ps
 true_from a zero high [] e r = refl
 true_from a zero high (p ∷ ps) e r = absurd (omega (arith, r.0, r.1))
@@ -68,7 +64,7 @@ true_from a (suc n) high (p ∷ ps) e r =
       | inl here ↦
           let found : f a ≡ true = ap (λ b. b || list_any (nat_eq a) ps) (eq-eqb a p here) in
           let same : map f (range_with_len (a + 1) n) ≡ map (λ i. list_any (nat_eq i) ps) (range_with_len (a + 1) n)
-          = map_range_same_from f (λ i. list_any (nat_eq i) ps) (a + 1) n (λ i h. ap (λ b. b || list_any (nat_eq i) ps) (ne_eqb i p (λ is. absurd (omega arith)))) in
+          = map_range_same f (λ i. list_any (nat_eq i) ps) (a + 1) n (λ i h. ap (λ b. b || list_any (nat_eq i) ps) (ne_eqb i p (λ is. absurd (omega arith)))) in
           let rest = true_from (a + 1) n high ps (omega arith) (subst (λ (k : ℕ). Rising (k + 1) high ps) (sym here) r.2) in
           grind (arith, here, found, same, rest)
       | inr apart ↦

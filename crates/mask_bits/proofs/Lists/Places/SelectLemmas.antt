@@ -2,7 +2,7 @@
 use Rattle.std.proofs.Common.{◌≡◌, ℕ, suc, ◌+◌, ◌*◌, ◌-◌, ◌^◌, ◌<◌, ◌≤◌, Bool, true, false, List, [], ◌∷◌, ◌++◌, length, get_or, take, drop, map, Some, None, slice_get, slice_range, refl, sym, ap, ◌∙◌, arith, append-nil, append_assoc, add-zero, pow-suc, drop-drop, option_map}
 use Rattle.std.specs.Int.{bit_at, w64, leading_zeros}
 use Rattle.std.specs.Int.RustNames.{bit_and}
-use Rattle.std.proofs.lemmas.List.{take-append-drop, drop-drop, drop_more, take_all, length-append, length-drop, length-take, get_or-drop, get_or-take, get_or_past}
+use Rattle.std.proofs.lemmas.List.{take-append-drop, drop-drop, drop_more, take_all, length-append, length-map, length-drop, length-take, get_or-drop, get_or-take, get_or_past}
 use Rattle.std.proofs.lemmas.Bool.{cases_lt}
 use Rattle.std.proofs.lemmas.Nat.{leading_top, ones-le}
 use lib.Seq.{take-add}
@@ -26,10 +26,6 @@ indices_from-append n (v ∷ a) b = grind (arith, indices_from-append (n + 1) a)
 pub indices_from-moved : (k n : ℕ) (m : List Bool) → indices_from (k + n) m ≡ map (λ p. k + p) (indices_from n m)
 indices_from-moved k n [] = refl
 indices_from-moved k n (v ∷ m) = grind (arith, indices_from-moved k (n + 1) m)
-
-length-moved : (k : ℕ) (ps : List ℕ) → length (map (λ p. k + p) ps) ≡ length ps
-length-moved k [] = refl
-length-moved k (p ∷ ps) = ap suc (length-moved k ps)
 
 -- an entry of the first list, and of the second
 slice_get-left : (xs ys : List ℕ) (i : ℕ) → i < length xs → slice_get (xs ++ ys) i ≡ slice_get xs i
@@ -87,7 +83,7 @@ place_in_word m i n r p within number inside at =
     let padded : here ≡ map (λ k. 64 * i + k) (positions (padded_part m i))
     = sym (indices-part m (64 * i) i)
     ∙ ap (λ k. indices_from k (padded_part m i)) (sym (add-zero (64 * i))) ∙ indices_from-moved (64 * i) 0 (padded_part m i) in
-    let many : r < length here = omega (arith, ap length padded, length-moved (64 * i) (positions (padded_part m i))) in
+    let many : r < length here = omega (arith, ap length padded, length-map (positions (padded_part m i)) (λ k. 64 * i + k)) in
     ap (λ (ps : List ℕ). slice_get ps n) split ∙ slice_get-right (positions front) (here ++ after) n r number ∙ slice_get-left here after r many
     ∙ ap (λ (ps : List ℕ). slice_get ps r) padded ∙ slice_get-map (λ k. 64 * i + k) (positions (padded_part m i)) r ∙ ap (option_map (λ k. 64 * i + k)) at
 
