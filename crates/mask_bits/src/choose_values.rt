@@ -29,6 +29,7 @@ impl BitBuffer {
 }
 
 // Appends the values of a word at the true values of a mask word.
+#[tactic(auto, using(crate::proofs::Lists::Words::ExtractLemmas::chosen_bits))]
 #[inline(always)]
 fn push_chosen(bits: &mut BitBufferMut, source: u64, mask: u64) -> Result<(), AllocError>
     requires { length bits.old + count (word_bits mask) < 2 ^ 64 }

@@ -44,6 +44,7 @@ pub fn extract(source: u64, mask: u64) -> u64
 }
 
 // Never inlined, so that a loop over the words of a sparse mask stays small.
+#[tactic(auto, using(crate::proofs::Lists::Words::GatherLemmas::full_mask))]
 #[inline(never)]
 fn extract_more(source: u64, mask: u64) -> u64
     ensures { Extracts source mask result }

@@ -19,7 +19,7 @@ use Rattle.mask_bits.proofs.Lists.CountLemmas.{length-repeated, get_or-repeated}
 use Rattle.mask_bits.proofs.Lists.LawLemmas.{chosen-items_where_true, length-chosen}
 use Rattle.mask_bits.proofs.Lists.Places.PlaceLemmas.{positions-true, positions-false, trues, count-trues, count-le-length, positions-within}
 use Rattle.mask_bits.proofs.Lists.Places.SelectLemmas.{indices-of_none, left-more, left-first, positions-lowest}
-use Rattle.mask_bits.proofs.Lists.Words.WordLemmas.{length-word_bits, get_or-word_bits}
+use Rattle.mask_bits.proofs.Lists.Words.WordLemmas.{length-word_bits, get_or-word_bits, count-word_bits}
 
 -- ---- a chosen row is the row at a true index
 
@@ -216,3 +216,5 @@ Extracts-two s m a b fits few a_is no_a b_is no_b =
                 ]
           ]
     ]
+
+pub ruleset chosen_bits = (count-of_word, take-extracted, count-word_bits)

@@ -334,3 +334,5 @@ gathered-full (suc n) s =
 
 pub Extracts-full : (s : ℕ) → s < 2 ^ 64 → Extracts s (2 ^ 64 - 1) s
 Extracts-full s fits = subst (Extracts s (2 ^ 64 - 1)) (gathered-full 64 s ∙ mod-eq_of_lt fits) (Extracts-gathered s (2 ^ 64 - 1))
+
+pub ruleset full_mask = (Extracts-full)
