@@ -198,8 +198,4 @@ count-parts f a b p q n =
 -- what an operation on words has to show
 pub ruleset word_operations = (word_bits-combined, get_or-word_bits_and, get_or-word_bits_or, get_or-word_bits_xor, get_or-word_bits_not)
 
-pub ruleset counted_bits = (count-none, bitmap-byte)
-
-pub ruleset none_in_rest = (none-low, low_mask)
-
 pub ruleset counted_in_rest = (count-low, low_mask)

@@ -38,7 +38,6 @@ pub fn none_true<C: BitOp>(a: &[u8], a_offset: usize, b: &[u8], b_offset: usize,
 }
 
 // Whether none is true that `C` makes of fewer than 64 bits.
-#[tactic(auto, using(crate::proofs::CompareLemmas::none_in_rest))]
 #[inline]
 fn none_in_last<C: BitOp>(a: &[u8], p: usize, b: &[u8], q: usize, rest: usize) -> bool
     requires { rest < 64 }
@@ -152,7 +151,6 @@ fn count_in_last<C: BitOp>(a: &[u8], p: usize, b: &[u8], q: usize, rest: usize) 
 }
 
 // How many are true that `C` makes of whole words.
-#[tactic(auto, using(crate::proofs::CompareLemmas::counted_bits))]
 fn count_in_words<C: BitOp>(
     a: &[u8],
     a_offset: usize,
