@@ -1,7 +1,7 @@
 -- Ascending ranks as the rank bits of a word.
 use Rattle.std.proofs.lemmas.Grind.{common_steps}
-use Rattle.std.proofs.Common.{◌≡◌, ℕ, zero, suc, ◌+◌, ◌-◌, ◌*◌, ◌<◌, ◌≤◌, ◌^◌, ◌||◌, ◌⊎◌, inl, inr, Bool, true, false, nat_eq, List, [], ◌∷◌, length, get_or, take, drop, refl, sym, ap, subst, ◌∙◌, arith, ◌%◌, mod-eq_of_lt}
-use Rattle.std.proofs.Math.Pow.{pow-lt}
+use Rattle.std.proofs.Common.{◌≡◌, ℕ, suc, ◌+◌, ◌-◌, ◌*◌, ◌<◌, ◌≤◌, ◌^◌, ◌||◌, ◌⊎◌, inl, inr, Bool, false, nat_eq, List, [], ◌∷◌, length, get_or, take, drop, refl, sym, ap, subst, ◌∙◌, arith, ◌%◌}
+use Rattle.std.proofs.Math.Bool.{or-false}
 use lib.Bits.{or_zero_r}
 use Rattle.std.specs.Int.RustNames.{bit_or}
 use Rattle.std.specs.List.{list_any}
@@ -10,17 +10,19 @@ use Rattle.std.proofs.lemmas.Bool.{cases_lt, cases_eq, eq-eqb, ne_eqb}
 use Rattle.std.proofs.lemmas.List.{take_more, take-append-drop, get_or-take, get_or-drop, length-take, length-drop}
 use Rattle.std.proofs.lemmas.List.Folds.{list_any-append}
 use Rattle.std.proofs.lemmas.Nat.Bits.{bit_at-zero, bit_at-pow_same, bit_at-pow_other}
-use Rattle.std.proofs.lemmas.List.FromFn.{get_or-map-range_with_len}
-use Rattle.mask_bits.specs.Positions.{count, count_below, true_at}
-use Rattle.mask_bits.specs.Words.{word_bits, padded_part}
-use Rattle.vortex_mask.proofs.Kernels.WordKernelLemmas.{AreRankBits, place-after_within}
+use Rattle.std.proofs.lemmas.List.Kept.{AllPairs-from_increasing}
+use Rattle.std.proofs.lemmas.Nat.{one_shl}
+use Rattle.mask_bits.specs.Positions.{count, true_at}
+use Rattle.mask_bits.specs.Words.{word_bits}
+use Rattle.vortex_mask.proofs.Kernels.WordKernelLemmas.{AreRankBits, IsAt, place-after_within}
+use Rattle.mask_bits.proofs.Lists.BooleanValueLemmas.{value_of_true_at}
 use Rattle.mask_bits.proofs.Lists.Words.ShiftLemmas.{get_or-word_bits_or}
 use Rattle.mask_bits.proofs.Lists.Words.WordLemmas.{get_or-word_bits}
 use Rattle.vortex_mask.specs.Ranks.{AreSplit, IsGathered}
 
 -- ---- a place that none is
 
-none-is : (p : ℕ) (xs : List ℕ) → ((k : ℕ) → k < length xs → get_or xs k 0 ≡ p → ⊥) → list_any (nat_eq p) xs ≡ false
+pub none-is : (p : ℕ) (xs : List ℕ) → ((k : ℕ) → k < length xs → get_or xs k 0 ≡ p → ⊥) → list_any (nat_eq p) xs ≡ false
 none-is p [] apart = refl
 none-is p (x ∷ xs) apart =
     ap (λ b. b || list_any (nat_eq p) xs) (ne_eqb p x (λ same. apart 0 (omega arith) (sym same)))
@@ -28,16 +30,11 @@ none-is p (x ∷ xs) apart =
 
 -- ---- ascending numbers
 
-rises : (xs : List ℕ) (i n : ℕ) → IsStrictlyIncreasing xs → i + n < length xs → get_or xs i 0 ≤ get_or xs (i + n) 0
-rises xs i zero ascending h = let same : i + 0 ≡ i = omega arith in omega (arith, ap (λ k. get_or xs k 0) same)
-rises xs i (suc n) ascending h =
-    let next : i + suc n ≡ i + n + 1 = omega arith in
-    omega (arith, rises xs i n ascending (omega arith), ascending (i + n) (omega arith), ap (λ k. get_or xs k 0) next)
-
 pub rises-to : (xs : List ℕ) (i k : ℕ) → IsStrictlyIncreasing xs → i ≤ k → k < length xs → get_or xs i 0 ≤ get_or xs k 0
-rises-to xs i k ascending h inside =
-    let there : i + (k - i) ≡ k = omega arith in
-    omega (arith, rises xs i (k - i) ascending (omega arith), ap (λ j. get_or xs j 0) there)
+rises-to xs i k ascending h inside = elim (cases_lt i k) [
+  | inl less ↦ omega (arith, AllPairs-from_increasing xs ascending i k 0 less inside)
+  | inr past ↦ let same : i ≡ k = omega arith in omega (arith, ap (λ j. get_or xs j 0) same)
+]
 
 -- ---- the walk
 
@@ -45,12 +42,8 @@ pub gathered-none : (ranks : List ℕ) (at end next : ℕ) → at ≤ end → Ar
 gathered-none ranks at end next ordered split = grind (arith, get_or-word_bits, bit_at-zero, none-is, length-take, get_or-take)
 
 -- the one bit of a power of two
-bit_of_pow : (at x j : ℕ) → at ≤ x → j < 64 → get_or (word_bits (2 ^ (x - at))) j false ≡ (nat_eq (at + j) x || false)
+pub bit_of_pow : (at x j : ℕ) → at ≤ x → j < 64 → get_or (word_bits (2 ^ (x - at))) j false ≡ (nat_eq (at + j) x || false)
 bit_of_pow at x j h few = grind (arith, get_or-word_bits, cases_eq, bit_at-pow_same, eq-eqb, bit_at-pow_other, ne_eqb)
-
--- and it is in a word
-pub pow_in_word : (d : ℕ) → d < 64 → 1 * 2 ^ d % 2 ^ 64 ≡ 2 ^ d
-pow_in_word d few = let small : 2 ^ d < 2 ^ 64 = pow-lt few in omega (arith, mod-eq_of_lt small)
 
 pub gathered-more : (ranks : List ℕ) (at end next bits bit : ℕ) → next < length ranks → get_or ranks next 0 < end → bit ≡ 2 ^ (get_or ranks next 0 - at)
     → IsGathered ranks at end next bits → IsGathered ranks at end (next + 1) (bit_or bits bit)
@@ -72,7 +65,7 @@ gathered-four ranks at end next bits ascending few inside below g =
     let e3 : next + 2 + 1 ≡ next + 3 = omega arith in
     let e4 : next + 3 + 1 ≡ next + 4 = omega arith in
     let under : (k : ℕ) → k ≤ next + 3 → get_or ranks k 0 < end = λ k h. omega (arith, rises-to ranks k (next + 3) ascending h (omega arith)) in
-    let is : (k : ℕ) → k ≤ next + 3 → bit k ≡ 2 ^ (get_or ranks k 0 - at) = λ k h. pow_in_word (get_or ranks k 0 - at) (omega (arith, under k h)) in
+    let is : (k : ℕ) → k ≤ next + 3 → bit k ≡ 2 ^ (get_or ranks k 0 - at) = λ k h. one_shl (get_or ranks k 0 - at) 64 (omega (arith, under k h)) in
     let g1 : IsGathered ranks at end (next + 1) one = gathered-more ranks at end next bits (bit next) (omega arith) (under next (omega arith)) (is next (omega arith)) g in
     let g2 : IsGathered ranks at end (next + 2) two = subst (λ n. IsGathered ranks at end n two) e2 (gathered-more ranks at end (next + 1) one (bit (next + 1)) (omega arith) (under (next + 1) (omega arith)) (is (next + 1) (omega arith)) g1) in
     let g3 : IsGathered ranks at end (next + 3) three = subst (λ n. IsGathered ranks at end n three) e3 (gathered-more ranks at end (next + 2) two (bit (next + 2)) (omega arith) (under (next + 2) (omega arith)) (is (next + 2) (omega arith)) g2) in
@@ -144,18 +137,10 @@ gathered-bits ranks at end next bits few split g k h =
     g.set k (omega arith)
     ∙ sym (ap (list_any p) (sym (take-append-drop next ranks)) ∙ list_any-append p (take next ranks) rest
     ∙ ap (λ b. list_any p (take next ranks) || b) none ∙ or-false (list_any p (take next ranks)))
-  where
-    or-false : (b : Bool) → (b || false) ≡ b
-    or-false true = refl
-    or-false false = refl
 
 -- ---- ranks as rank bits
 
-get_or-true_at : (n : ℕ) (ps : List ℕ) (p : ℕ) → p < n → get_or (true_at n ps) p false ≡ list_any (nat_eq p) ps
-unfolding true_at
-get_or-true_at n ps p h = get_or-map-range_with_len (λ i. list_any (nat_eq i) ps) 0 n p p false h (omega arith)
-
 -- the set bits of a word's ranks are the values from `at` on of the list that is true at the ranks
-pub rank_bits-listed : (a : List Bool) (ranks : List ℕ) (i at end s m ones : ℕ) → at ≡ count_below a (64 * i) → word_bits m ≡ padded_part a i → ones ≡ count (word_bits m) → end ≡ at + ones
+pub rank_bits-listed : (a : List Bool) (ranks : List ℕ) (s : ℕ) {i at end m ones : ℕ} → IsAt a i at m ones → end ≡ at + ones
     → ((k : ℕ) → at + k < end → get_or (word_bits s) k false ≡ list_any (nat_eq (at + k)) ranks) → AreRankBits (true_at (count a) ranks) at s (count (word_bits m))
-rank_bits-listed a ranks i at end s m ones place shows counted ends bits = grind (arith, get_or-true_at, place-after_within)
+rank_bits-listed a ranks s mask ends bits = grind (arith, value_of_true_at, place-after_within mask, mask.counted)

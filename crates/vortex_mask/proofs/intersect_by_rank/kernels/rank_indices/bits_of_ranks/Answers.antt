@@ -1,6 +1,7 @@
 use Rattle.std.proofs.Common.{◌-◌, ◌<◌, get_or, arith}
+use Rattle.std.proofs.lemmas.Nat.{one_shl}
 use Rattle.vortex_mask.specs.Ranks.{AreSplit}
-use Rattle.vortex_mask.proofs.Kernels.RankWordLemmas.{gathered-more, gathered-split, gathered-bits, pow_in_word}
+use Rattle.vortex_mask.proofs.Kernels.RankWordLemmas.{gathered-more, gathered-split, gathered-bits}
 use Rattle.vortex_mask.proofs.intersect_by_rank.kernels.rank_indices.bits_of_ranks.Goals as goal
 
 pub loop-next-init : goal.loop-next-init
@@ -10,7 +11,7 @@ pub loop-next-preserved : goal.loop-next-preserved
 loop-next-preserved c =
     let few : get_or c.args.ranks.now c.loop-next.next 0 - c.args.at < 64 = omega (arith, c.if-ranks-next.true, c.requires.few) in
     gathered-more c.args.ranks.now c.args.at c.args.end c.loop-next.next c.loop-next.bits _ c.loop-next-test.true c.if-ranks-next.true
-    (pow_in_word (get_or c.args.ranks.now c.loop-next.next 0 - c.args.at) few) c.loop-next.invariant
+    (one_shl (get_or c.args.ranks.now c.loop-next.next 0 - c.args.at) 64 few) c.loop-next.invariant
 
 pub returns-else-ranks-next-clause-bits : goal.returns-else-ranks-next-clause-bits
 returns-else-ranks-next-clause-bits c =
