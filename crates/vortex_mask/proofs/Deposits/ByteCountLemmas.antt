@@ -1,5 +1,5 @@
 -- The counts of set bits in each byte and below it, and what they say of places in the bytes.
-use Rattle.std.proofs.Common.{eqb, eqb→eq, ◌≡◌, ℕ, zero, suc, ◌+◌, ◌-◌, ◌*◌, ◌/◌, ◌%◌, ◌^◌, ◌<◌, ◌≤◌, ◌⊎◌, inl, inr, sym, ap, ap₂, ◌∙◌, arith, bit_and, count_ones, add_comm, mod-lt, add-zero, zero-add, min}
+use Rattle.std.proofs.Common.{◌≡◌, ℕ, zero, suc, ◌+◌, ◌-◌, ◌*◌, ◌/◌, ◌%◌, ◌^◌, ◌<◌, ◌≤◌, ◌⊎◌, inl, inr, sym, ap, ap₂, ◌∙◌, arith, bit_and, count_ones, add_comm, mod-lt, add-zero, zero-add, min}
 use Rattle.std.specs.Int.{bit_at}
 use Rattle.std.proofs.lemmas.Nat.{pow_pos, shr-shr, and_mask, one_shl, ones_cat, mod-pow-add}
 use Rattle.std.proofs.lemmas.Bool.{cases_lt}
@@ -8,7 +8,7 @@ use Rattle.mask_bits.proofs.Lists.Words.WordLemmas.{ones_below-more}
 use Rattle.vortex_mask.specs.Deposit.{Deposits}
 use Rattle.vortex_mask.proofs.Deposits.ByteLemmas.{byte_at-zero, byte_at-suc, byte_at_add, byte_at-low, bit_at_byte}
 use Rattle.vortex_mask.proofs.Deposits.DepositLemmas.{deposit, bit_at-deposit, Deposits-from_bits}
-use Rattle.vortex_mask.proofs.Deposits.NetworkLemmas.{every_below}
+use Rattle.vortex_mask.proofs.Deposits.NetworkLemmas.{same_below}
 use Rattle.vortex_mask.proofs.Deposits.SetPlaceLemmas.{ones_below, ones_below-zero, ones_below-le}
 
 -- ---- the set bits below byte j
@@ -85,7 +85,7 @@ Deposits-from_bytes s m r h = Deposits-from_bits s m r (λ i inside.
 pub halved : (h : ℕ) → h < 6 → (64 / 2 ^ h ≡ 2 * (32 / 2 ^ h)) × (64 / 2 ^ (h + 1) ≡ 32 / 2 ^ h)
 halved h l =
     let e : h + 1 ≡ 1 + h = omega arith in
-    (eqb→eq _ _ (every_below (λ i. eqb (64 / 2 ^ i) (2 * (32 / 2 ^ i))) 6 tt h l), ap (λ n. 64 / 2 ^ n) e ∙ sym (shr-shr 64 1 h))
+    (same_below 6 (λ i. 64 / 2 ^ i) (λ i. 2 * (32 / 2 ^ i)) tt h l, ap (λ n. 64 / 2 ^ n) e ∙ sym (shr-shr 64 1 h))
 
 -- the k lowest bits, as the code takes them
 pub lower_bits : (x k : ℕ) → k < 64 → bit_and x (1 * 2 ^ k % 2 ^ 64 - 1) ≡ x % 2 ^ k

@@ -1,5 +1,5 @@
 -- Vectors of the bytes of two words, lane by lane.
-use Rattle.std.proofs.Common.{◌≡◌, ℕ, zero, suc, ◌+◌, ◌-◌, ◌*◌, ◌/◌, ◌%◌, ◌^◌, ◌<◌, ◌≤◌, ◌⊎◌, inl, inr, List, [], ◌∷◌, length, get_or, refl, sym, ap, ap₂, subst, ◌∙◌, arith, w8, bit_and, Fits, count_ones, pow-add, pow-suc, map, replicate, T, eqb, eqb→eq}
+use Rattle.std.proofs.Common.{◌≡◌, ℕ, zero, suc, ◌+◌, ◌-◌, ◌*◌, ◌/◌, ◌%◌, ◌^◌, ◌<◌, ◌≤◌, ◌⊎◌, inl, inr, List, [], ◌∷◌, length, get_or, refl, sym, ap, ap₂, subst, ◌∙◌, arith, w8, bit_and, Fits, count_ones, pow-add, pow-suc, map, replicate}
 use Rattle.std.specs.Simd.Lanes.{zip2, Each1, number_l, digits_l, chunk}
 use Rattle.std.proofs.lemmas.Simd.{length-swz_l, get_or-swz_l_below, swz_l, SwzOk, SwzOk-from_below, Each1-from_get_or, Each1-get_or, Each1-chunk, get_or-chunk, get_or_wider, get_or_narrower}
 use Rattle.std.proofs.lemmas.Nat.{shr-shr, shl-shr, and_mask, ones-le}
@@ -10,7 +10,7 @@ use Rattle.mask_bits.specs.Lanes.{AreLanes}
 use Rattle.vortex_mask.specs.Bytes.{byte_at, EachLane, byte_of_two, landed_in}
 use Rattle.vortex_mask.proofs.Deposits.ByteCountLemmas.{summed, ones_below-byte, Deposits-from_bytes}
 use Rattle.vortex_mask.proofs.Deposits.ByteLemmas.{byte_at-lt, byte_at-zero, byte_at-suc}
-use Rattle.vortex_mask.proofs.Deposits.NetworkLemmas.{deposit_alike, landed_in-lt, all_below, every_below}
+use Rattle.vortex_mask.proofs.Deposits.NetworkLemmas.{deposit_alike, landed_in-lt, same_below}
 use Rattle.mask_bits.proofs.Lists.Words.LaneLemmas.{AreLanes-itself, AreLanes-map, AreLanes-zip2, AreLanes-splat, AreLanes-same}
 use Rattle.vortex_mask.proofs.Deposits.DepositLemmas.{deposit}
 use Rattle.vortex_mask.proofs.Deposits.SetPlaceLemmas.{ones_below, ones_below-le}
@@ -192,11 +192,8 @@ gathered_alike s w i g h bits =
 abbrev pub powers : List ℕ
 powers = 128 ∷ 64 ∷ 32 ∷ 16 ∷ 8 ∷ 4 ∷ 2 ∷ 1 ∷ 128 ∷ 64 ∷ 32 ∷ 16 ∷ 8 ∷ 4 ∷ 2 ∷ 1 ∷ []
 
-are_powers : T (all_below (λ r. eqb (get_or powers r 0) (2 ^ (7 - r))) 8)
-are_powers = tt
-
 power_at : (r : ℕ) → r < 8 → get_or powers r 0 ≡ 2 ^ (7 - r)
-power_at r h = eqb→eq _ _ (every_below (λ i. eqb (get_or powers i 0) (2 ^ (7 - i))) 8 are_powers r h)
+power_at = same_below 8 (λ r. get_or powers r 0) (λ r. 2 ^ (7 - r)) tt
 
 -- the number of each lane's power
 pub numbers : (from : List ℕ) → length from ≡ 16 → AreLanes 16 (zip2 bit_and from (replicate 16 7)) (λ j. get_or from j 0 % 8)

@@ -29,10 +29,16 @@ every_below p (suc n) h i l =
       | inr g ↦ every_below p n (and_r (p n) _ h) i (omega arith)
     ]
 
--- two functions that agree at each number below n and each byte
-agree : (n : ℕ) (f g : ℕ → ℕ → ℕ) (s b : ℕ) → T (all_below (λ t. all_below (λ x. eqb (f t x) (g t x)) 256) n) → s < n → b < 256 → f s b ≡ g s b
-agree n f g s b h hs hb =
-    eqb→eq _ _ (every_below (λ x. eqb (f s x) (g s x)) 256 (every_below (λ t. all_below (λ x. eqb (f t x) (g t x)) 256) n h s hs) b hb)
+-- two functions that agree there, of one number or of two
+pub same_below : (n : ℕ) (f g : ℕ → ℕ) → T (all_below (λ x. eqb (f x) (g x)) n) → (i : ℕ) → i < n → f i ≡ g i
+same_below n f g h i l = eqb→eq _ _ (every_below (λ x. eqb (f x) (g x)) n h i l)
+
+pub agree : (n k : ℕ) (f g : ℕ → ℕ → ℕ) → T (all_below (λ t. all_below (λ x. eqb (f t x) (g t x)) k) n) → (s b : ℕ) → s < n → b < k → f s b ≡ g s b
+agree n k f g h s b hs hb = same_below k (f s) (g s) (every_below (λ t. all_below (λ x. eqb (f t x) (g t x)) k) n h s hs) b hb
+
+-- a function that stays below another
+pub less_below : (n k : ℕ) (f g : ℕ → ℕ → ℕ) → T (all_below (λ t. all_below (λ x. ltb (f t x) (g t x)) k) n) → (s b : ℕ) → s < n → b < k → f s b < g s b
+less_below n k f g h s b hs hb = ltb→lt _ _ (every_below (λ x. ltb (f s x) (g s x)) k (every_below (λ t. all_below (λ x. ltb (f t x) (g t x)) k) n h s hs) b hb)
 
 -- ---- the count of a byte's set bits
 
@@ -65,12 +71,9 @@ pub doubled-all : (s b : ℕ) → 3 ≤ s → doubled (3 - s) s b ≡ b
 unfolding doubled
 doubled-all s b h = let e : 3 - s ≡ 0 = omega arith in ap (λ n. doubled n s b) e
 
-parities : T (all_below (λ t. all_below (λ x. eqb (doubled (3 - t) t x) (odd_places (2 ^ t) x)) 256) 3)
-unfolding doubled odd_places
-parities = tt
-
 pub doubled-is : (s b : ℕ) → s < 3 → b < 256 → doubled (3 - s) s b ≡ odd_places (2 ^ s) b
-doubled-is s b hs hb = agree 3 (λ t x. doubled (3 - t) t x) (λ t x. odd_places (2 ^ t) x) s b parities hs hb
+unfolding doubled odd_places
+doubled-is = agree 3 256 (λ t x. doubled (3 - t) t x) (λ t x. odd_places (2 ^ t) x) tt
 
 -- the code's `1 << s`
 pub shift_is : (s : ℕ) → s < 3 → 1 * 2 ^ s % 2 ^ 8 ≡ 2 ^ s
@@ -89,26 +92,17 @@ pub zeros_before-more : (s m : ℕ) → zeros_before (s + 1) m ≡ halved (2 ^ s
 unfolding zeros_before
 zeros_before-more s m = let e : s + 1 ≡ suc s = omega arith in ap (λ n. zeros_before n m) e
 
-none_moved : T (all_below (λ m. eqb (packed_after 0 m) m) 256)
-unfolding packed_after place_after clear_below
-none_moved = tt
-
 pub packed_after-zero : (m : ℕ) → m < 256 → packed_after 0 m ≡ m
-packed_after-zero m h = eqb→eq _ _ (every_below (λ x. eqb (packed_after 0 x) x) 256 none_moved m h)
-
-packings : T (all_below (λ t. all_below (λ x. eqb (with_moved (2 ^ t) (packed_after t x) (odd_places (2 ^ t) (zeros_before t x))) (packed_after (t + 1) x)) 256) 3)
-unfolding with_moved moved_down packed_after place_after clear_below odd_places zeros_before halved
-packings = tt
+unfolding packed_after place_after clear_below
+packed_after-zero = same_below 256 (packed_after 0) (λ x. x) tt
 
 pub packed_after-more : (s m : ℕ) → s < 3 → m < 256 → with_moved (2 ^ s) (packed_after s m) (odd_places (2 ^ s) (zeros_before s m)) ≡ packed_after (s + 1) m
-packed_after-more s m hs hm = agree 3 (λ t x. with_moved (2 ^ t) (packed_after t x) (odd_places (2 ^ t) (zeros_before t x))) (λ t x. packed_after (t + 1) x) s m packings hs hm
-
-landings : T (all_below (λ t. all_below (λ x. eqb (moved_down (2 ^ t) (packed_after t x) (odd_places (2 ^ t) (zeros_before t x))) (landed_in t x)) 256) 3)
-unfolding moved_down landed_in packed_after place_after clear_below odd_places zeros_before halved
-landings = tt
+unfolding with_moved moved_down packed_after place_after clear_below odd_places zeros_before halved
+packed_after-more = agree 3 256 (λ t x. with_moved (2 ^ t) (packed_after t x) (odd_places (2 ^ t) (zeros_before t x))) (λ t x. packed_after (t + 1) x) tt
 
 pub landed_in-is : (s m : ℕ) → s < 3 → m < 256 → moved_down (2 ^ s) (packed_after s m) (odd_places (2 ^ s) (zeros_before s m)) ≡ landed_in s m
-landed_in-is s m hs hm = agree 3 (λ t x. moved_down (2 ^ t) (packed_after t x) (odd_places (2 ^ t) (zeros_before t x))) landed_in s m landings hs hm
+unfolding moved_down landed_in packed_after place_after clear_below odd_places zeros_before halved
+landed_in-is = agree 3 256 (λ t x. moved_down (2 ^ t) (packed_after t x) (odd_places (2 ^ t) (zeros_before t x))) landed_in tt
 
 -- a stage takes what the ones before it left
 pub stage : (s m packed zeros : ℕ) → s < 3 → m < 256 → packed ≡ packed_after s m → zeros ≡ zeros_before s m
@@ -116,21 +110,17 @@ pub stage : (s m packed zeros : ℕ) → s < 3 → m < 256 → packed ≡ packed
 stage s m packed zeros h fits p z = rw (p, z) (packed_after-more s m h fits, sym (zeros_before-more s m), landed_in-is s m h fits)
 
 -- a byte's bits end as its lowest ones
-full : T (all_below (λ m. eqb (packed_after 3 m) (2 ^ ones_among 8 m - 1)) 256)
+packed_after-among : (m : ℕ) → m < 256 → packed_after 3 m ≡ 2 ^ ones_among 8 m - 1
 unfolding ones_among packed_after place_after clear_below
-full = tt
+packed_after-among = same_below 256 (packed_after 3) (λ x. 2 ^ ones_among 8 x - 1) tt
 
 pub packed_after-full : (m : ℕ) → m < 256 → packed_after 3 m ≡ 2 ^ count_ones m - 1
-packed_after-full m h = eqb→eq _ _ (every_below (λ x. eqb (packed_after 3 x) (2 ^ ones_among 8 x - 1)) 256 full m h) ∙ ap (λ n. 2 ^ n - 1) (ones_among-is 8 m h)
+packed_after-full m h = packed_after-among m h ∙ ap (λ n. 2 ^ n - 1) (ones_among-is 8 m h)
 
 -- where the moved bits land, they leave room for their way back
-small : T (all_below (λ s. all_below (λ m. ltb (landed_in s m) (2 ^ (8 - 2 ^ s))) 256) 3)
-unfolding landed_in place_after clear_below
-small = tt
-
 pub landed_in-lt : (s m : ℕ) → s < 3 → m < 256 → landed_in s m < 2 ^ (8 - 2 ^ s)
-landed_in-lt s m hs hm =
-    ltb→lt _ _ (every_below (λ x. ltb (landed_in s x) (2 ^ (8 - 2 ^ s))) 256 (every_below (λ r. all_below (λ x. ltb (landed_in r x) (2 ^ (8 - 2 ^ r))) 256) 3 small s hs) m hm)
+unfolding landed_in place_after clear_below
+landed_in-lt = less_below 3 256 landed_in (λ s m. 2 ^ (8 - 2 ^ s)) tt
 
 -- ---- the way back
 
@@ -172,11 +162,11 @@ pub moved_back : (m b : ℕ) → m < 256 → moved_up 1 (landed_in 0 m) (moved_u
 unfolding table row back_by
 moved_back m b hm =
     let n = ones_among 8 m in
-    let p : packed_after 3 m ≡ 2 ^ n - 1 = eqb→eq _ _ (every_below (λ x. eqb (packed_after 3 x) (2 ^ ones_among 8 x - 1)) 256 full m hm) in
+    let p : packed_after 3 m ≡ 2 ^ n - 1 = packed_after-among m hm in
     let taken : bit_and b (packed_after 3 m) ≡ b % 2 ^ n = ap (bit_and b) p ∙ and_mask b n in
     let fits : b % 2 ^ n < packed_after 3 m + 1 = omega (arith, p, mod-lt b (pow_pos n)) in
     ap (λ x. moved_up 1 (landed_in 0 m) (moved_up 2 (landed_in 1 m) (moved_up 4 (landed_in 2 m) x))) taken
-    ∙ eqb→eq _ _ (every_below (λ x. eqb (back_by (landed_in 0 m) (landed_in 1 m) (landed_in 2 m) x) (deposit 8 x m)) (packed_after 3 m + 1) (every_below table 256 computed m hm) (b % 2 ^ n) fits)
+    ∙ same_below (packed_after 3 m + 1) (back_by (landed_in 0 m) (landed_in 1 m) (landed_in 2 m)) (λ x. deposit 8 x m) (every_below table 256 computed m hm) (b % 2 ^ n) fits
     ∙ deposit-taken 8 b m
 
 -- a mask's deposit is decided by as many low bits as it has set

@@ -1,5 +1,5 @@
 -- The two nibbles of a byte: operations on each, tables computed at each of the sixteen, and a byte's deposit by theirs.
-use Rattle.std.proofs.Common.{◌≡◌, ℕ, zero, suc, ◌+◌, ◌-◌, ◌*◌, ◌/◌, ◌%◌, ◌^◌, ◌<◌, ◌≤◌, ◌⊎◌, inl, inr, T, ◌&&◌, eqb, eqb→eq, ltb, ltb→lt, ap, ap₂, ◌∙◌, sym, subst, arith, bit_and, bit_or, count_ones, add_comm, min, mod-lt, lt_of_le_of_lt, pow-suc, List, [], ◌∷◌, get_or, refl}
+use Rattle.std.proofs.Common.{◌≡◌, ℕ, zero, suc, ◌+◌, ◌-◌, ◌*◌, ◌/◌, ◌%◌, ◌^◌, ◌<◌, ◌≤◌, ◌⊎◌, inl, inr, T, ◌&&◌, eqb, eqb→eq, ltb, ltb→lt, ap, ap₂, ◌∙◌, sym, subst, arith, bit_and, bit_or, count_ones, add_comm, min, mod-lt, lt_of_le_of_lt, pow-suc, List, [], ◌∷◌, length, get_or}
 use Rattle.std.specs.Int.{bit_at}
 use Rattle.std.proofs.lemmas.Nat.{pow_pos, shr-shr, shl-shr, and_mask, and_le_l, ones-le}
 use Rattle.std.proofs.lemmas.Nat.Bits.{bit_at_and, bit_at_or, bit_at_cat_low, bit_at_cat_high, same_from_bits}
@@ -8,7 +8,7 @@ use lib.Bits.{and_zero_r}
 use Rattle.std.proofs.Math.Pow.{field, mod-mod-pow, split}
 use Rattle.vortex_mask.specs.Bytes.{clear_below, place_after, packed_after, landed_in, stays_in, nibble_moved_up, AreNibbles}
 use Rattle.vortex_mask.proofs.Deposits.DepositLemmas.{deposit, deposit-odd, deposit-even}
-use Rattle.vortex_mask.proofs.Deposits.NetworkLemmas.{all_below, every_below, and_l, and_r, ones_among, ones_among-is, deposit_alike}
+use Rattle.vortex_mask.proofs.Deposits.NetworkLemmas.{all_below, every_below, same_below, agree, less_below, ones_among, ones_among-is, deposit_alike}
 use Rattle.vortex_mask.proofs.Deposits.SetPlaceLemmas.{parity}
 
 -- ---- bits of two numbers put one above the other
@@ -99,35 +99,24 @@ upper_from x c y n hc few same =
 
 -- ---- what is computed at each of the sixteen masks, and at each four bits
 
-nibble_deposits : T (all_below (λ m. all_below (λ b. eqb (nibble_moved_up m b) (deposit 4 b m)) 16) 16)
-unfolding nibble_moved_up stays_in landed_in packed_after place_after clear_below deposit
-nibble_deposits = tt
-
 pub nibble_deposit : (m b : ℕ) → m < 16 → b < 16 → nibble_moved_up m b ≡ deposit 4 b m
-nibble_deposit m b hm hb = eqb→eq _ _ (every_below (λ x. eqb (nibble_moved_up m x) (deposit 4 x m)) 16 (every_below (λ y. all_below (λ x. eqb (nibble_moved_up y x) (deposit 4 x y)) 16) 16 nibble_deposits m hm) b hb)
+unfolding nibble_moved_up stays_in landed_in packed_after place_after clear_below deposit
+nibble_deposit = agree 16 16 nibble_moved_up (λ m b. deposit 4 b m) tt
 
 -- the bits that stay, those that move by two places, and both
 abbrev moved_by_two : ℕ → ℕ → ℕ
 moved_by_two m b = bit_or (bit_and b (stays_in m)) (bit_and b (landed_in 1 m) * 2 ^ 2)
 
-nibbles_fit : T (all_below (λ m. all_below (λ b. ltb (bit_and b (landed_in 1 m) * 2 ^ 2) 16 && (ltb (moved_by_two m b) 16 && ltb (nibble_moved_up m b) 16)) 16) 16)
-unfolding nibble_moved_up stays_in landed_in packed_after place_after clear_below
-nibbles_fit = tt
+below_16 : (f : ℕ → ℕ → ℕ) → T (all_below (λ t. all_below (λ x. ltb (f t x) 16) 16) 16) → (m b : ℕ) → m < 16 → b < 16 → f m b < 16
+below_16 f = less_below 16 16 f (λ m b. 16)
 
 nibble_fits : (m b : ℕ) → m < 16 → b < 16 → (bit_and b (landed_in 1 m) * 2 ^ 2 < 16) × (moved_by_two m b < 16) × (nibble_moved_up m b < 16)
-nibble_fits m b hm hb =
-    let h = every_below (λ x. ltb (bit_and x (landed_in 1 m) * 2 ^ 2) 16 && (ltb (moved_by_two m x) 16 && ltb (nibble_moved_up m x) 16)) 16
-    (every_below (λ y. all_below (λ x. ltb (bit_and x (landed_in 1 y) * 2 ^ 2) 16 && (ltb (moved_by_two y x) 16 && ltb (nibble_moved_up y x) 16)) 16) 16 nibbles_fit m hm) b hb in
-    (ltb→lt _ _ (and_l _ _ h), ltb→lt _ _ (and_l _ _ (and_r (ltb (bit_and b (landed_in 1 m) * 2 ^ 2) 16) _ h)), ltb→lt _ _ (and_r (ltb (moved_by_two m b) 16) _ (and_r (ltb (bit_and b (landed_in 1 m) * 2 ^ 2) 16) _ h)))
-
-masks_fit : T (all_below (λ m. ltb (stays_in m) 16 && (ltb (landed_in 1 m) 16 && ltb (landed_in 0 m) 16)) 16)
-unfolding stays_in landed_in packed_after place_after clear_below
-masks_fit = tt
+unfolding nibble_moved_up stays_in landed_in packed_after place_after clear_below
+nibble_fits m b hm hb = (below_16 (λ x y. bit_and y (landed_in 1 x) * 2 ^ 2) tt m b hm hb, below_16 moved_by_two tt m b hm hb, below_16 nibble_moved_up tt m b hm hb)
 
 mask_fits : (m : ℕ) → m < 16 → (stays_in m < 16) × (landed_in 1 m < 16) × (landed_in 0 m < 16)
-mask_fits m hm =
-    let h = every_below (λ y. ltb (stays_in y) 16 && (ltb (landed_in 1 y) 16 && ltb (landed_in 0 y) 16)) 16 masks_fit m hm in
-    (ltb→lt _ _ (and_l _ _ h), ltb→lt _ _ (and_l _ _ (and_r (ltb (stays_in m) 16) _ h)), ltb→lt _ _ (and_r (ltb (landed_in 1 m) 16) _ (and_r (ltb (stays_in m) 16) _ h)))
+unfolding stays_in landed_in packed_after place_after clear_below
+mask_fits m hm = (below_16 (λ x _. stays_in x) tt m 0 hm (omega arith), below_16 (λ x _. landed_in 1 x) tt m 0 hm (omega arith), below_16 (λ x _. landed_in 0 x) tt m 0 hm (omega arith))
 
 -- ---- the code's tables
 
@@ -143,41 +132,24 @@ by_one = 0 ∷ 0 ∷ 1 ∷ 0 ∷ 0 ∷ 2 ∷ 3 ∷ 0 ∷ 4 ∷ 0 ∷ 1 ∷ 4 ∷
 abbrev pub gaps : List ℕ
 gaps = 16 ∷ 8 ∷ 8 ∷ 4 ∷ 8 ∷ 4 ∷ 4 ∷ 2 ∷ 8 ∷ 4 ∷ 4 ∷ 2 ∷ 4 ∷ 2 ∷ 2 ∷ 1 ∷ []
 
-tables : T (all_below (λ m. eqb (get_or stay m 0) (stays_in m) && (eqb (get_or by_two m 0) (landed_in 1 m) && (eqb (get_or by_one m 0) (landed_in 0 m) && eqb (get_or gaps m 0) (2 ^ (4 - ones_among 4 m))))) 16)
-unfolding stays_in landed_in packed_after place_after clear_below ones_among
-tables = tt
-
-row : (m : ℕ) → m < 16 → T (eqb (get_or stay m 0) (stays_in m) && (eqb (get_or by_two m 0) (landed_in 1 m) && (eqb (get_or by_one m 0) (landed_in 0 m) && eqb (get_or gaps m 0) (2 ^ (4 - ones_among 4 m)))))
-row m h = every_below (λ m. eqb (get_or stay m 0) (stays_in m) && (eqb (get_or by_two m 0) (landed_in 1 m) && (eqb (get_or by_one m 0) (landed_in 0 m) && eqb (get_or gaps m 0) (2 ^ (4 - ones_among 4 m))))) 16 tables m h
-
 pub stay_at : (m : ℕ) → m < 16 → get_or stay m 0 ≡ stays_in m
-stay_at m h = eqb→eq _ _ (and_l _ _ (row m h))
+unfolding stays_in landed_in packed_after place_after clear_below
+stay_at = same_below 16 (λ m. get_or stay m 0) stays_in tt
 
 pub by_two_at : (m : ℕ) → m < 16 → get_or by_two m 0 ≡ landed_in 1 m
-by_two_at m h = eqb→eq _ _ (and_l _ _ (and_r (eqb (get_or stay m 0) (stays_in m)) _ (row m h)))
+unfolding landed_in place_after clear_below
+by_two_at = same_below 16 (λ m. get_or by_two m 0) (landed_in 1) tt
 
 pub by_one_at : (m : ℕ) → m < 16 → get_or by_one m 0 ≡ landed_in 0 m
-by_one_at m h = eqb→eq _ _ (and_l _ _ (and_r (eqb (get_or by_two m 0) (landed_in 1 m)) _ (and_r (eqb (get_or stay m 0) (stays_in m)) _ (row m h))))
+unfolding landed_in place_after clear_below
+by_one_at = same_below 16 (λ m. get_or by_one m 0) (landed_in 0) tt
 
 pub gaps_at : (m : ℕ) → m < 16 → get_or gaps m 0 ≡ 2 ^ (4 - count_ones m)
-gaps_at m h =
-    eqb→eq _ _ (and_r (eqb (get_or by_one m 0) (landed_in 0 m)) _ (and_r (eqb (get_or by_two m 0) (landed_in 1 m)) _ (and_r (eqb (get_or stay m 0) (stays_in m)) _ (row m h))))
-    ∙ ap (λ n. 2 ^ (4 - n)) (ones_among-is 4 m h)
+unfolding ones_among
+gaps_at m h = same_below 16 (λ x. get_or gaps x 0) (λ x. 2 ^ (4 - ones_among 4 x)) tt m h ∙ ap (λ n. 2 ^ (4 - n)) (ones_among-is 4 m h)
 
-small_tables : T (all_below (λ m. ltb (get_or stay m 0) 16 && (ltb (get_or by_two m 0) 16 && ltb (get_or by_one m 0) 16)) 16)
-small_tables = tt
-
-small_row : (m : ℕ) → m < 16 → T (ltb (get_or stay m 0) 16 && (ltb (get_or by_two m 0) 16 && ltb (get_or by_one m 0) 16))
-small_row m h = every_below (λ m. ltb (get_or stay m 0) 16 && (ltb (get_or by_two m 0) 16 && ltb (get_or by_one m 0) 16)) 16 small_tables m h
-
-pub stay_fits : AreNibbles stay
-stay_fits = record { lanes = refl; small = λ m h. ltb→lt _ _ (and_l _ _ (small_row m h)) }
-
-pub by_two_fits : AreNibbles by_two
-by_two_fits = record { lanes = refl; small = λ m h. ltb→lt _ _ (and_l _ _ (and_r (ltb (get_or stay m 0) 16) _ (small_row m h))) }
-
-pub by_one_fits : AreNibbles by_one
-by_one_fits = record { lanes = refl; small = λ m h. ltb→lt _ _ (and_r (ltb (get_or by_two m 0) 16) _ (and_r (ltb (get_or stay m 0) 16) _ (small_row m h))) }
+pub table_fits : (table : List ℕ) → length table ≡ 16 → T (all_below (λ m. ltb (get_or table m 0) 16) 16) → AreNibbles table
+table_fits table long fits = record { lanes = long; small = λ m h. ltb→lt _ _ (every_below (λ x. ltb (get_or table x 0) 16) 16 fits m h) }
 
 -- ---- both nibbles of a byte at once
 

@@ -1,21 +1,18 @@
-use Rattle.std.proofs.Common.{◌≡◌, ◌+◌, ◌*◌, ◌/◌, ◌%◌, ◌^◌, ◌<◌, ℕ, T, eqb, eqb→eq, ap₂, ◌∙◌, bit_and, arith, get_or, List, [], ◌∷◌, length, replicate, refl}
+use Rattle.std.proofs.Common.{◌≡◌, ◌+◌, ◌*◌, ◌/◌, ◌%◌, ◌^◌, ◌<◌, ℕ, ap₂, ◌∙◌, bit_and, arith, get_or, List, [], ◌∷◌, length, replicate, refl}
 use Rattle.std.specs.Simd.Lanes.{zip2}
 use Rattle.std.proofs.lemmas.Nat.{and_mask}
 use Rattle.mask_bits.specs.Lanes.{AreLanes}
 use Rattle.vortex_mask.specs.Bytes.{EachLane, byte_at}
 use Rattle.mask_bits.proofs.Lists.Words.LaneLemmas.{AreLanes-itself, AreLanes-zip2, AreLanes-splat, AreLanes-same}
 use Rattle.vortex_mask.proofs.Deposits.LaneLemmas.{SwzOk-lanes, AreLanes-swz_l}
-use Rattle.vortex_mask.proofs.Deposits.NetworkLemmas.{all_below, every_below}
+use Rattle.vortex_mask.proofs.Deposits.NetworkLemmas.{same_below}
 use Rattle.vortex_mask.proofs.intersect_by_rank.deposit.bytewise.neighbors.Goals as goal
 
 abbrev base : List ℕ
 base = 0 ∷ 0 ∷ 0 ∷ 0 ∷ 0 ∷ 0 ∷ 0 ∷ 0 ∷ 8 ∷ 8 ∷ 8 ∷ 8 ∷ 8 ∷ 8 ∷ 8 ∷ 8 ∷ []
 
-are_bases : T (all_below (λ j. eqb (get_or base j 0) (8 * (j / 8))) 16)
-are_bases = tt
-
 base_at : (j : ℕ) → j < 16 → get_or base j 0 ≡ 8 * (j / 8)
-base_at j h = eqb→eq _ _ (every_below (λ i. eqb (get_or base i 0) (8 * (i / 8))) 16 are_bases j h)
+base_at = same_below 16 (λ i. get_or base i 0) (λ i. 8 * (i / 8)) tt
 
 module _ (below : List ℕ) (long : length below ≡ 16) (inside : EachLane (λ j. get_or below j 0 < 64)) where
   -- the lane of the first of two bytes
