@@ -8,20 +8,15 @@ use Rattle.vortex_mask.specs.declared.mask.Mask.TheVariants.{AllTrue, AllFalse, 
 abbrev pub and_caches : Mask → Mask → Caches
 and_caches (AllTrue n) b = caches b
 and_caches (Values v) (AllTrue n) = caches (Values v)
-and_caches (Values v) (AllFalse n) = no_caches
-and_caches (Values v) (Values w) = no_caches
-and_caches (AllFalse n) b = no_caches
+and_caches a b = no_caches
 
 -- with an all-false mask, `or` is the other one
 abbrev pub or_caches : Mask → Mask → Caches
 or_caches (AllFalse n) b = caches b
 or_caches (Values v) (AllFalse n) = caches (Values v)
-or_caches (Values v) (AllTrue n) = no_caches
-or_caches (Values v) (Values w) = no_caches
-or_caches (AllTrue n) b = no_caches
+or_caches a b = no_caches
 
 -- without the values of an all-false mask, a mask is itself
 abbrev pub and_not_caches : Mask → Mask → Caches
 and_not_caches a (AllFalse n) = caches a
-and_not_caches a (AllTrue n) = no_caches
-and_not_caches a (Values v) = no_caches
+and_not_caches a b = no_caches

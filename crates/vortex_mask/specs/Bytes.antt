@@ -1,5 +1,5 @@
 -- The byte-wise deposit network, one byte at a time: what each step computes, and what stands where after it.
-use Rattle.std.specs.Prelude.{ℕ, List, zero, suc, slice_index, length, ◌≡◌, ◌<◌, ◌+◌, ◌-◌, ◌*◌, ◌/◌, ◌%◌, ◌^◌, nat_eq, if◌then◌else◌, bit_and, bit_or, bit_xor, sum_by}
+use Rattle.std.specs.Prelude.{ℕ, List, slice_index, length, ◌≡◌, ◌<◌, ◌+◌, ◌-◌, ◌*◌, ◌/◌, ◌%◌, ◌^◌, nat_eq, if◌then◌else◌, bit_and, bit_or, bit_xor, sum_by}
 use Rattle.std.specs.Int.{bit_at}
 use Rattle.std.specs.List.{range_with_len}
 
@@ -50,11 +50,6 @@ with_moved step packed odd = bit_xor packed (bit_xor (bit_and packed odd) (moved
 -- every second zero, which is all that the later stages count: each is now marked at its place and a step below
 unfoldable pub halved : ℕ → ℕ → ℕ → ℕ
 halved step zeros odd = let even = bit_and zeros (255 - odd) in bit_xor even (even / 2 ^ step)
-
--- the zeros that stage s begins with
-unfoldable pub zeros_before : ℕ → ℕ → ℕ
-zeros_before zero mask = 255 - mask
-zeros_before (suc s) mask = halved (2 ^ s) (zeros_before s mask) (odd_places (2 ^ s) (zeros_before s mask))
 
 -- ---- the way back
 

@@ -1,14 +1,9 @@
 -- What is wrong with a list of indices, or of ranges, that is to make a mask of a length. Places count from 0.
 use Rattle.std.specs.Prelude.{ℕ, ◌+◌, Bool, not, ◌&&◌, List, [], ◌∷◌, Option, Some, None, nat_eq, nat_lt, nat_le, position, find, if◌then◌else◌}
-use Rattle.std.specs.Option.{option_map}
+use Rattle.std.specs.Option.{option_map, option_or}
 use Rattle.std.specs.List.{filter, list_any}
 use Rattle.vortex_mask.specs.declared.mask.error.MaskError.{MaskError}
 use Rattle.vortex_mask.specs.declared.mask.error.MaskError.TheVariants.{UnsortedIndices, RepeatedIndex, IndexOutOfBounds, BadRange, UnsortedRanges, OverlappingRanges}
-
--- the first, if it is there, or else the second
-abbrev pub or_else : {X : Type 0} → Option X → Option X → Option X
-or_else (Some x) other = Some x
-or_else None other = other
 
 -- the first place whose index, held to the one before it, passes the test, where the first of the list stands at place n
 abbrev pub first_pair_from : (ℕ → ℕ → Bool) → ℕ → List ℕ → Option ℕ
@@ -34,7 +29,7 @@ out_of_bounds len xs = option_map (λ x. IndexOutOfBounds x len) (first_past len
 
 -- order over the whole list first, then repeats, then bounds
 abbrev pub index_fault : ℕ → List ℕ → Option MaskError
-index_fault len xs = or_else (option_map (λ at. UnsortedIndices at) (first_unsorted xs)) (or_else (option_map (λ at. RepeatedIndex at) (first_repeated xs)) (out_of_bounds len xs))
+index_fault len xs = option_or (option_map (λ at. UnsortedIndices at) (first_unsorted xs)) (option_or (option_map (λ at. RepeatedIndex at) (first_repeated xs)) (out_of_bounds len xs))
 
 -- those of the one list that the other has too
 abbrev pub common : List ℕ → List ℕ → List ℕ
@@ -52,8 +47,8 @@ neighbor_fault r s at = if nat_le s.0 r.0 then Some (UnsortedRanges at) else (if
 abbrev pub neighbors_fault_from : ℕ → List (ℕ × ℕ) → Option MaskError
 neighbors_fault_from n [] = None
 neighbors_fault_from n (r ∷ []) = None
-neighbors_fault_from n (r ∷ s ∷ rs) = or_else (neighbor_fault r s (n + 1)) (neighbors_fault_from (n + 1) (s ∷ rs))
+neighbors_fault_from n (r ∷ s ∷ rs) = option_or (neighbor_fault r s (n + 1)) (neighbors_fault_from (n + 1) (s ∷ rs))
 
 -- bad ranges over all of them first, then neighbors in turn
 abbrev pub range_fault : ℕ → List (ℕ × ℕ) → Option MaskError
-range_fault len rs = or_else (bad_range len rs) (neighbors_fault_from 0 rs)
+range_fault len rs = option_or (bad_range len rs) (neighbors_fault_from 0 rs)

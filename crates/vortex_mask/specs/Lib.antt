@@ -13,7 +13,6 @@ pub mod Mask
 pub mod MaskValues
 pub mod Path
 pub mod Ranges
-pub mod RankBits
 pub mod Ranks
 pub mod Steps
 pub mod Text

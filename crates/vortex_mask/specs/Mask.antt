@@ -69,9 +69,8 @@ IsUniform m = (count m ≡ 0) ⊎ (count m ≡ length m)
 
 -- what is inside `Values`
 abbrev pub contents : Mask → Option Contents
-contents (AllTrue n) = None
-contents (AllFalse n) = None
 contents (Values v) = Some v.value
+contents m = None
 
 -- `All`, `None` or the buffer, by variant
 abbrev pub held_buffer : Mask → AllOr Packed

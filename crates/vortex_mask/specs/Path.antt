@@ -10,7 +10,7 @@ use Rattle.vortex_mask.specs.Steps.{StepCounts, no_steps, word_steps, driven_ste
 use Rattle.vortex_mask.specs.declared.intersect_by_rank.path.RankPath.{RankPath}
 use Rattle.vortex_mask.specs.declared.intersect_by_rank.path.RankPath.TheVariants.{Indices, MaskDriven, BitBuffers, RankIndices}
 use Rattle.vortex_mask.specs.declared.mask.Mask.{Mask}
-use Rattle.vortex_mask.specs.declared.mask.Mask.TheVariants.{AllTrue, AllFalse, Values}
+use Rattle.vortex_mask.specs.declared.mask.Mask.TheVariants.{AllTrue, Values}
 
 -- the path of a mask with so many values and true ones, narrowed by a rank mask with so many, where the true indices of each are cached or not: the first test that holds decides
 abbrev pub path : ℕ → ℕ → ℕ → ℕ → Bool → Bool → RankPath
@@ -45,8 +45,7 @@ abbrev pub narrowed_caches : Mask → Mask → Mask → Caches
 narrowed_caches (AllTrue n) b m = caches b
 narrowed_caches (Values v) (AllTrue n) m = caches (Values v)
 narrowed_caches (Values v) (Values w) m = where_mixed m (path_caches (path_of v.value w.value) (truth m))
-narrowed_caches (Values v) (AllFalse n) m = no_caches
-narrowed_caches (AllFalse n) b m = no_caches
+narrowed_caches a b m = no_caches
 
 -- the steps s of a path from list a by ranks b to the result r: a deposit for each started word of a, or a selection for each rank in no more words than are started, or none
 abbrev pub AreStepsOf : RankPath → List Bool → List Bool → List Bool → StepCounts → Type 0
@@ -58,10 +57,7 @@ AreStepsOf RankIndices a b r s = s ≡ word_steps a r
 -- the steps s that narrow mask a by mask b to m: those of their path where both are mixed, and none elsewhere
 abbrev pub AreNarrowingSteps : Mask → Mask → Mask → StepCounts → Type 0
 AreNarrowingSteps (Values v) (Values w) m s = AreStepsOf (path_of v.value w.value) (values v.value.buffer) (values w.value.buffer) (truth m) s
-AreNarrowingSteps (Values v) (AllTrue n) m s = s ≡ no_steps
-AreNarrowingSteps (Values v) (AllFalse n) m s = s ≡ no_steps
-AreNarrowingSteps (AllTrue n) b m s = s ≡ no_steps
-AreNarrowingSteps (AllFalse n) b m s = s ≡ no_steps
+AreNarrowingSteps a b m s = s ≡ no_steps
 
 -- m is v narrowed by w on a path: their rank intersection as it is held where some list is not empty, with what the path caches, by its steps s
 pub record IsNarrowedOn (path : RankPath) (v w : Contents) (m : Mask) (s : StepCounts) : Type 0 where

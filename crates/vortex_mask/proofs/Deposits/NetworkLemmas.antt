@@ -3,7 +3,7 @@ use Rattle.std.proofs.Common.{◌≡◌, ℕ, zero, suc, ◌+◌, ◌-◌, ◌*�
 use Rattle.std.proofs.lemmas.Nat.{ones-le, one_shl, pow_below, pow_pos, and_mask}
 use lib.Count.{ones_step}
 use lib.Pow.{field, mod-mod-pow}
-use Rattle.vortex_mask.specs.Bytes.{clear_below, place_after, packed_after, landed_in, odd_places, moved_down, with_moved, halved, zeros_before, moved_up}
+use Rattle.vortex_mask.specs.Bytes.{clear_below, place_after, packed_after, landed_in, odd_places, moved_down, with_moved, halved, moved_up}
 use Rattle.vortex_mask.proofs.Deposits.DepositLemmas.{deposit, deposit-odd, deposit-even}
 use Rattle.vortex_mask.proofs.Deposits.SetPlaceLemmas.{parity}
 
@@ -83,6 +83,11 @@ pub shift_small : (s : ℕ) → s < 3 → 2 ^ s < 8
 shift_small s h = pow_below s 3 h
 
 -- ---- what each stage leaves
+
+-- the zeros that stage s begins with
+unfoldable pub zeros_before : ℕ → ℕ → ℕ
+zeros_before zero mask = 255 - mask
+zeros_before (suc s) mask = halved (2 ^ s) (zeros_before s mask) (odd_places (2 ^ s) (zeros_before s mask))
 
 pub zeros_before-zero : (m : ℕ) → zeros_before 0 m ≡ 255 - m
 unfolding zeros_before

@@ -9,7 +9,7 @@ use Rattle.std.proofs.lemmas.List.{length-drop}
 use Rattle.std.proofs.lemmas.List.Elements.{All-nil, All-cons, All-head, All-tail, All-from_get_or}
 use Rattle.std.proofs.lemmas.List.Kept.{IsStrictlyIncreasing-filter, AllPairs-from_increasing}
 use Rattle.vortex_mask.specs.Laws.Masks.{NoIndexFault}
-use Rattle.vortex_mask.specs.Faults.{common, or_else, first_pair_from, first_past, index_fault, out_of_bounds}
+use Rattle.vortex_mask.specs.Faults.{common, first_pair_from, first_past, index_fault, out_of_bounds}
 use Rattle.vortex_mask.specs.declared.mask.error.MaskError.TheVariants.{IndexOutOfBounds}
 
 -- ---- pairs of neighbors
@@ -60,13 +60,13 @@ none_mapped f (Some x) e = absurd (cc)
 pub within_faultless : (len : ℕ) (xs : List ℕ) → out_of_bounds len xs ≡ None → All (λ i. i < len) xs
 within_faultless len xs none = within-first_past len xs (none_mapped (λ x. IndexOutOfBounds x len) (first_past len xs) none)
 
-pub or_else-none : {X : Type 0} (a b : Option X) → or_else a b ≡ None → (a ≡ None) × (b ≡ None)
-or_else-none (Some x) b e = absurd (cc)
-or_else-none None b e = (refl, e)
+pub option_or-none : {X : Type 0} (a b : Option X) → option_or a b ≡ None → (a ≡ None) × (b ≡ None)
+option_or-none (Some x) b e = absurd (cc)
+option_or-none None b e = (refl, e)
 
 -- what the order of the faults leaves where there is none
 pub index_fault-none : (len : ℕ) (xs : List ℕ) → index_fault len xs ≡ None → IsStrictlyIncreasing xs × All (λ i. i < len) xs
-index_fault-none len xs none = grind (arith, or_else-none, ascending-faultless, none_mapped, within_faultless)
+index_fault-none len xs none = grind (arith, option_or-none, ascending-faultless, none_mapped, within_faultless)
 
 -- each above the one before it makes no pair that stands otherwise
 first_pair-ascending : (test : ℕ → ℕ → Bool) (n : ℕ) (xs : List ℕ) → ((x y : ℕ) → x < y → test x y ≡ false) → IsStrictlyIncreasing xs → first_pair_from test n xs ≡ None

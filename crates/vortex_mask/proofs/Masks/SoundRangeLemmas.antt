@@ -14,7 +14,7 @@ use Rattle.mask_bits.proofs.Lists.Runs.RangeLemmas.{Ordered, Ordered-top, none_b
 use Rattle.mask_bits.proofs.Lists.Runs.RunLemmas.{inside, inside-past}
 use Rattle.vortex_mask.specs.Faults.{bad_range, neighbor_fault, neighbors_fault_from, range_fault}
 use Rattle.vortex_mask.specs.Ranges.{rows_held}
-use Rattle.vortex_mask.proofs.Masks.FaultLemmas.{or_else-none, none_mapped}
+use Rattle.vortex_mask.proofs.Masks.FaultLemmas.{option_or-none, none_mapped}
 
 -- ---- neighbors, one pair at a time
 
@@ -49,14 +49,14 @@ apart r s at none = grind (arith, nat_tests)
 ordered_from : (n len low : ℕ) (r : ℕ × ℕ) (rs : List (ℕ × ℕ)) → low ≤ r.0 → All (IsGood len) (r ∷ rs) → neighbors_fault_from n (r ∷ rs) ≡ None → Ordered low len (r ∷ rs)
 ordered_from n len low r [] from all none = (from, (all 0 r (omega arith)).0, (all 0 r (omega arith)).1)
 ordered_from n len low r (s ∷ rs) from all none =
-    let parts = or_else-none (neighbor_fault r s (n + 1)) (neighbors_fault_from (n + 1) (s ∷ rs)) none in
+    let parts = option_or-none (neighbor_fault r s (n + 1)) (neighbors_fault_from (n + 1) (s ∷ rs)) none in
     (from, (all 0 r (omega arith)).0, ordered_from (n + 1) len r.1 s rs (apart r s (n + 1) parts.0) (λ k d h. all (suc k) d (omega arith)) parts.1)
 
 -- ranges with no fault are nonempty, within the length, and each after the one before it
 pub Ordered-no_fault : (len : ℕ) (rs : List (ℕ × ℕ)) → range_fault len rs ≡ None → Ordered 0 len rs
 Ordered-no_fault len [] none = omega arith
 Ordered-no_fault len (r ∷ rs) none =
-    let parts = or_else-none (bad_range len (r ∷ rs)) (neighbors_fault_from 0 (r ∷ rs)) none in
+    let parts = option_or-none (bad_range len (r ∷ rs)) (neighbors_fault_from 0 (r ∷ rs)) none in
     ordered_from 0 len 0 r rs (omega arith) (all_good len (r ∷ rs) parts.0) parts.1
 
 -- ---- the values from low to high that are true exactly in ordered ranges

@@ -20,15 +20,17 @@ pub struct RankBits<'a> {
 }
 
 impl<'a> Model for RankBits<'a> {
+    ghost use Rattle.std.specs.Prelude.{◌≡◌, ◌-◌, ◌++◌, length, drop, replicate};
     ghost use Rattle.mask_bits.specs.Buffer.{Packed, IsWithinBytes};
-    ghost use Rattle.vortex_mask.specs.RankBits.{IsTail};
 
     ghost Value = { Packed };
 
     ghost view = { λ r. record { bytes = r.bytes.now; offset = r.offset; len = r.len } };
 
     ghost invariant = { λ r. IsWithinBytes r.bytes.now r.offset r.len
-        × IsTail r.bytes.now r.tail r.tail_from };
+        × (r.tail_from ≡ length r.bytes.now - 16)
+        × (r.tail ≡ drop r.tail_from r.bytes.now
+            ++ replicate (32 - (length r.bytes.now - r.tail_from)) 0) };
 }
 
 impl<'a> RankBits<'a> {

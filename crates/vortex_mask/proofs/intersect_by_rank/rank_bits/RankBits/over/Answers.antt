@@ -11,4 +11,4 @@ invariant_of-result c =
     let all : take (length bytes - n) (drop n bytes) ≡ drop n bytes = take_all (length bytes - n) (drop n bytes) (omega (arith, rest)) in
     let behind : drop (length (take (length bytes - n) (drop n bytes))) (replicate 32 0) ≡ replicate (32 - (length bytes - n)) 0
     = drop-replicate (length (take (length bytes - n) (drop n bytes))) 32 0 ∙ ap (λ k. replicate (32 - k) 0) (ap length all ∙ rest) in
-    (c.requires, record { from = from; copied = ap₂ (λ (xs ys : List ℕ). xs ++ ys) (c.copy_from_slice.ensures.after ∙ all) behind })
+    (c.requires, from, ap₂ (λ (xs ys : List ℕ). xs ++ ys) (c.copy_from_slice.ensures.after ∙ all) behind)
