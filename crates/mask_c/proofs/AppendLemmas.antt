@@ -1,12 +1,12 @@
 -- Values written behind those of a bitmap: up to the end of their byte, and from the next byte on.
 use Rattle.std.proofs.Common.{◌≡◌, ℕ, nat_eq, set, ◌^◌, ◌+◌, ◌-◌, ◌*◌, ◌/◌, ◌%◌, ◌<◌, ◌≤◌, ◌⊎◌, Bool, false, List, [], ◌++◌, append-nil, length, get_or, take, drop, min, sym, ap, ap₂, ◌∙◌, inl, inr, arith, mod-eq_of_lt}
-use Rattle.std.proofs.Math.Pow.{pow-lt}
 use Rattle.std.proofs.Math.Seq.{drop-append-add}
 use Rattle.std.specs.Int.{bit_at, div_ceil}
 use Rattle.std.specs.Int.RustNames.{bit_and, bit_or}
 use Rattle.std.proofs.lemmas.Bool.{cases_eq, cases_lt}
 use Rattle.std.proofs.lemmas.Grind.{get_or-set_at}
 use Rattle.std.proofs.lemmas.List.{drop-append-le, drop-drop, nil_from_length, ext_get_or, get_or-set_other, length-drop, length-take}
+use Rattle.std.proofs.lemmas.Nat.{one_shl}
 use Rattle.std.proofs.lemmas.Nat.Bits.{bit_at_or}
 use Rattle.mask_bits.specs.Bitmap.{bitmap}
 use Rattle.mask_bits.specs.Buffer.{backing_bit}
@@ -23,17 +23,14 @@ use borrow.Rule.Slice.PartMut.{put_mid}
 abbrev pub begun : ℕ → ℕ → ℕ → ℕ → ℕ
 begun byte low word count = bit_and (bit_or (bit_and byte (1 * 2 ^ low % 2 ^ 64 - 1)) (word * 2 ^ low % 2 ^ 64)) (1 * 2 ^ (low + count) % 2 ^ 64 - 1)
 
-low_ones : (k : ℕ) → k ≤ 8 → 1 * 2 ^ k % 2 ^ 64 - 1 ≡ 2 ^ k - 1
-low_ones k few = let in_word : k < 64 = omega arith in let small : 2 ^ k < 2 ^ 64 = pow-lt in_word in omega (arith, mod-eq_of_lt small)
-
 -- a bit below its end
 begun-bit : (byte low word count j : ℕ) → low + count ≤ 8 → j < low + count
     → bit_at (begun byte low word count) j ≡ bit_at (bit_or (bit_and byte (2 ^ low - 1)) (word * 2 ^ low % 2 ^ 64)) j
 begun-bit byte low word count j few h =
     let both : ℕ = bit_or (bit_and byte (1 * 2 ^ low % 2 ^ 64 - 1)) (word * 2 ^ low % 2 ^ 64) in
-    ap (λ n. bit_at (bit_and both n) j) (low_ones (low + count) few)
+    ap (λ n. bit_at (bit_and both (n - 1)) j) (one_shl (low + count) 64 (omega arith))
     ∙ bit_at-low_mask both (low + count) j h
-    ∙ ap (λ n. bit_at (bit_or (bit_and byte n) (word * 2 ^ low % 2 ^ 64)) j) (low_ones low (omega arith))
+    ∙ ap (λ n. bit_at (bit_or (bit_and byte (n - 1)) (word * 2 ^ low % 2 ^ 64)) j) (one_shl low 64 (omega arith))
 
 pub begun-kept : (byte low word count j : ℕ) → low + count ≤ 8 → j < low → bit_at (begun byte low word count) j ≡ bit_at byte j
 begun-kept byte low word count j few h =
@@ -49,7 +46,7 @@ begun-put byte low word count j few h =
 pub begun-clear : (byte low word count j : ℕ) → low + count ≤ 8 → low + count ≤ j → bit_at (begun byte low word count) j ≡ 0
 begun-clear byte low word count j few h =
     let both : ℕ = bit_or (bit_and byte (1 * 2 ^ low % 2 ^ 64 - 1)) (word * 2 ^ low % 2 ^ 64) in
-    ap (λ n. bit_at (bit_and both n) j) (low_ones (low + count) few) ∙ bit_at-past_mask both (low + count) j h
+    ap (λ n. bit_at (bit_and both (n - 1)) j) (one_shl (low + count) 64 (omega arith)) ∙ bit_at-past_mask both (low + count) j h
 
 -- no values
 pub no_values : (bytes : List ℕ) (p : ℕ) → bitmap bytes p 0 ≡ []
@@ -103,48 +100,54 @@ full_or_none len n k filled end is = elim (cases_lt n (8 * k - len)) [
 pub same_end : (len n filled : ℕ) → filled ≡ min n (8 * div_ceil len 8 - len) → div_ceil len 8 ≡ div_ceil (len + filled) 8
 same_end len n filled is = omega arith
 
+-- bytes ys from byte k of xs on are put behind n values, which end there, or there are none of r more
+pub record ArePut (xs ys : List ℕ) (k n r : ℕ) : Type 0 where
+  pub room : k ≤ length xs
+  pub len : length ys ≡ length xs - k
+  pub end : k ≡ div_ceil n 8
+  pub covers : div_ceil r 8 ≤ length ys
+  pub either : (n ≡ 8 * k) ⊎ (r ≡ 0)
+
 -- the values before them, and theirs: these go on where the byte before is full
-pub appended-values : (xs ys : List ℕ) (k n r : ℕ) (m more : List Bool) → k ≤ length xs → length ys ≡ length xs - k → n ≤ 8 * k → r ≤ 8 * length ys → ((n ≡ 8 * k) ⊎ (r ≡ 0))
-    → bitmap xs 0 n ≡ m → bitmap ys 0 r ≡ more → bitmap (put_mid k (length xs - k) xs ys) 0 (n + r) ≡ m ++ more
-appended-values xs ys k n r m more room len within covers either first second =
+pub appended-values : (xs ys : List ℕ) (k n r : ℕ) (m more : List Bool) → ArePut xs ys k n r → bitmap xs 0 n ≡ m → bitmap ys 0 r ≡ more → bitmap (put_mid k (length xs - k) xs ys) 0 (n + r) ≡ m ++ more
+appended-values xs ys k n r m more put first second =
     let new : List ℕ = put_mid k (length xs - k) xs ys in
     let behind : bitmap new (0 + n) r ≡ bitmap ys 0 r
     = ext_get_or false (bitmap new (0 + n) r) (bitmap ys 0 r) (length-bitmap new (0 + n) r ∙ sym (length-bitmap ys 0 r)) (λ j h.
     let small : j < r = omega (arith, length-bitmap new (0 + n) r) in
-    let place : 0 + n + j ≡ 8 * k + (0 + j) = elim either [
+    let place : 0 + n + j ≡ 8 * k + (0 + j) = elim put.either [
       | inl full ↦ omega arith
       | inr none ↦ absurd (omega arith)
     ] in
     get_or-bitmap new (0 + n) r j false small
-    ∙ from_there xs ys k (0 + j) (0 + n + j) room len (omega arith) place
+    ∙ from_there xs ys k (0 + j) (0 + n + j) put.room put.len (omega (arith, put.covers)) place
     ∙ sym (get_or-bitmap ys 0 r j false small)) in
     bitmap-append new 0 n r
-    ∙ ap₂ (λ (us vs : List Bool). us ++ vs) (front-same xs new n (λ p h. below xs ys k p room (omega arith)) ∙ first) (behind ∙ second)
+    ∙ ap₂ (λ (us vs : List Bool). us ++ vs) (front-same xs new n (λ p h. below xs ys k p put.room (omega (arith, put.end))) ∙ first) (behind ∙ second)
 
-pub appended-clear : (xs ys : List ℕ) (k n r : ℕ) → k ≤ length xs → length ys ≡ length xs - k → k ≡ div_ceil n 8 → div_ceil r 8 ≤ length ys → ((n ≡ 8 * k) ⊎ (r ≡ 0))
-    → AreClearBehind xs n → AreClearBehind ys r → AreClearBehind (put_mid k (length xs - k) xs ys) (n + r)
-appended-clear xs ys k n r room len end covers either first second = λ p from to. elim (cases_lt p (8 * k)) [
-  | inl before ↦ below xs ys k p room before ∙ first p (omega arith) (omega arith)
-  | inr past ↦ elim either [
-    | inl full ↦ from_there xs ys k (p - 8 * k) p room len (omega arith) (omega arith) ∙ second (p - 8 * k) (omega arith) (omega arith)
-    | inr none ↦ absurd (omega arith)
+pub appended-clear : (xs ys : List ℕ) (k n r : ℕ) → ArePut xs ys k n r → AreClearBehind xs n → AreClearBehind ys r → AreClearBehind (put_mid k (length xs - k) xs ys) (n + r)
+appended-clear xs ys k n r put first second = λ p from to. elim (cases_lt p (8 * k)) [
+  | inl before ↦ below xs ys k p put.room before ∙ first p (omega arith) (omega (arith, put.end))
+  | inr past ↦ elim put.either [
+    | inl full ↦ from_there xs ys k (p - 8 * k) p put.room put.len (omega (arith, put.covers)) (omega arith) ∙ second (p - 8 * k) (omega arith) (omega arith)
+    | inr none ↦ absurd (omega (arith, put.end))
   ]
 ]
 
-pub appended-behind : (old xs ys rest : List ℕ) (k n r : ℕ) → k ≤ length xs → length ys ≡ length xs - k → k ≡ div_ceil n 8 → div_ceil r 8 ≤ length ys → ((n ≡ 8 * k) ⊎ (r ≡ 0))
-    → rest ≡ drop k xs → drop k xs ≡ drop k old → drop (div_ceil r 8) ys ≡ drop (div_ceil r 8) rest
+pub appended-behind : (old xs ys rest : List ℕ) (k n r : ℕ) → ArePut xs ys k n r → rest ≡ drop k xs → drop k xs ≡ drop k old → drop (div_ceil r 8) ys ≡ drop (div_ceil r 8) rest
     → drop (div_ceil (n + r) 8) (put_mid k (length xs - k) xs ys) ≡ drop (div_ceil (n + r) 8) old
-appended-behind old xs ys rest k n r room len end covers either is same behind =
+appended-behind old xs ys rest k n r put is same behind =
+    let room = put.room in
     let d : ℕ = div_ceil r 8 in
     let post : List ℕ = drop (length xs - k) (drop k xs) in
-    let at : div_ceil (n + r) 8 ≡ length (take k xs) + d = elim either [
+    let at : div_ceil (n + r) 8 ≡ length (take k xs) + d = elim put.either [
       | inl full ↦ omega (arith, length-take k xs)
-      | inr none ↦ omega (arith, length-take k xs)
+      | inr none ↦ omega (arith, put.end, length-take k xs)
     ] in
     let at' : k + d ≡ div_ceil (n + r) 8 = omega (arith, at, length-take k xs) in
     let none_left : post ≡ [] = nil_from_length post (omega (arith, length-drop (length xs - k) (drop k xs), length-drop k xs)) in
     ap (λ (i : ℕ). drop i (put_mid k (length xs - k) xs ys)) at
     ∙ drop-append-add (take k xs) (ys ++ post) d
-    ∙ drop-append-le d ys post covers
+    ∙ drop-append-le d ys post put.covers
     ∙ ap (λ (us : List ℕ). drop d ys ++ us) none_left ∙ append-nil (drop d ys)
     ∙ behind ∙ ap (λ (us : List ℕ). drop d us) (is ∙ same) ∙ drop-drop d k old ∙ ap (λ (i : ℕ). drop i old) at'

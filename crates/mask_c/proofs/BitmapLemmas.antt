@@ -2,7 +2,7 @@
 use Rattle.std.proofs.Common.{◌≡◌, ◌↔◌, ℕ, ◌+◌, ◌-◌, ◌<◌, ◌≤◌, ◌&&◌, not, Bool, true, false, List, [], ◌∷◌, length, get_or, slice_range, slice_get, Some, refl, sym, ap, take, ◌∙◌, add_assoc, inl, inr, arith}
 use Rattle.std.specs.Bool.{IsTrue}
 use Rattle.std.proofs.lemmas.Bool.{cases_lt, false≢true}
-use Rattle.std.proofs.lemmas.List.{ext_get_or, length-take}
+use Rattle.std.proofs.lemmas.List.{ext_get_or}
 use Rattle.std.proofs.lemmas.List.Edits.{length-between, get_or-between}
 use Rattle.std.proofs.lemmas.Option.{slice_get-get_or}
 use Rattle.mask_bits.specs.Bitmap.{bitmap}
@@ -12,7 +12,6 @@ use Rattle.mask_bits.specs.Positions.{count, count_below, repeated}
 use Rattle.mask_bits.proofs.Lists.Words.BackingBitLemmas.{length-bitmap, get_or-bitmap}
 use Rattle.mask_bits.proofs.Lists.BooleanLemmas.{get_or-combined, length-combined}
 use Rattle.mask_bits.proofs.Lists.CountLemmas.{all_false_from_count, count-repeated_false, get_or-repeated, length-repeated}
-use Rattle.mask_bits.proofs.Lists.Places.PlaceLemmas.{count-le-length}
 use Rattle.mask_bits.proofs.Lists.Places.SelectLemmas.{count-part_further}
 use Rattle.mask_c.specs.Bitmap.{IsSubset}
 
@@ -42,10 +41,6 @@ bitmap-part bytes offset len s e ordered within =
 pub count-runs_on : (bytes : List ℕ) (offset len i j n k : ℕ) → i ≤ j → j ≤ len → n ≡ count_below (bitmap bytes offset len) i
     → k ≡ count (bitmap bytes (offset + i) (j - i)) → n + k ≡ count_below (bitmap bytes offset len) j
 count-runs_on bytes offset len i j n k ordered within before between = grind (arith, bitmap-part, count-part_further)
-
--- no more than there are
-pub count_below-le : (m : List Bool) (i : ℕ) → count_below m i ≤ i
-count_below-le m i = omega (arith, count-le-length (take i m), length-take i m)
 
 -- the first of two lists of one length
 pub first_of : (a b : List Bool) → length a ≡ length b → a ≡ combined (λ x y. x) a b

@@ -6,14 +6,14 @@ use Rattle.std.proofs.Math.Seq.{take-add}
 use Rattle.std.proofs.lemmas.Bool.{cases_lt}
 use Rattle.std.proofs.lemmas.List.{ext_get_or, get_or-drop, get_or-take, get_or_append_left, get_or-append_right, length-append, length-drop, length-take}
 use Rattle.std.proofs.lemmas.Nat.{or_lt}
-use Rattle.std.proofs.lemmas.Nat.Bits.{bit_at-lt, bit_at-zero, bit_at_above, bit_at_or}
+use Rattle.std.proofs.lemmas.Nat.Bits.{bit_at-lt, bit_at_above, bit_at_or}
 use Rattle.mask_bits.specs.Bitmap.{bitmap}
 use Rattle.mask_bits.specs.Extract.{Extracts}
 use Rattle.mask_bits.specs.Positions.{chosen, count, repeated}
 use Rattle.mask_bits.specs.Words.{padded_part, window, word_bits}
 use Rattle.mask_bits.proofs.Lists.ChooseLemmas.{chosen-all_false}
-use Rattle.mask_bits.proofs.Lists.CountLemmas.{count-repeated_false, get_or-padded, get_or-repeated, length-repeated}
-use Rattle.mask_bits.proofs.Lists.Places.SelectLemmas.{count-word_more}
+use Rattle.mask_bits.proofs.Lists.CountLemmas.{all_false_from_count, count-repeated_false, get_or-padded, length-repeated}
+use Rattle.mask_bits.proofs.Lists.Places.SelectLemmas.{count-word_more, indices-of_none}
 use Rattle.mask_bits.proofs.Lists.RowLemmas.{chosen_of_two_chunks}
 use Rattle.mask_bits.proofs.Lists.Words.ChosenWordLemmas.{chosen-none}
 use Rattle.mask_bits.proofs.Lists.Words.FrontLemmas.{front-more_word, get_or-put_mid_inside, get_or-window, length-window, window_from_bits}
@@ -206,10 +206,7 @@ chosen-word_more rows m i len =
 
 -- which are none where no value of the word is true
 word_of_none : word_bits 0 ≡ repeated 64 false
-word_of_none =
-    ext_get_or false (word_bits 0) (repeated 64 false) (length-word_bits 0 ∙ sym (length-repeated 64 false)) (λ j h.
-    let few : j < 64 = omega (arith, length-word_bits 0) in
-    get_or-word_bits 0 j false few ∙ ap (λ b. nat_eq b 1) (bit_at-zero j) ∙ sym (get_or-repeated 64 j false false few))
+word_of_none = all_false_from_count 0 (word_bits 0) (ap length (indices-of_none 0)) ∙ ap (λ n. repeated n false) (length-word_bits 0)
 
 pub chosen-word_of_none : (rows m : List Bool) (i : ℕ) → length rows ≡ length m → word_bits 0 ≡ padded_part m i
     → chosen (take (64 * i) rows) (take (64 * i) m) ≡ chosen (take (64 * (i + 1)) rows) (take (64 * (i + 1)) m)

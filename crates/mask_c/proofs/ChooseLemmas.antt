@@ -13,48 +13,28 @@ use Rattle.mask_bits.specs.Words.{padded_part, word_bits}
 use Rattle.mask_bits.proofs.Lists.ChooseLemmas.{chosen-all_true, chosen_at_positions}
 use Rattle.mask_bits.proofs.Lists.CountLemmas.{count-append, count-repeated_true, length-repeated, positions-all_true, slice_get-repeated}
 use Rattle.mask_bits.proofs.Lists.Words.LowestLemmas.{low, ones-of_full, ones-set}
-use Rattle.mask_bits.proofs.Lists.Words.PaddedLemmas.{get_or-padded_part, length-padded_part}
+use Rattle.mask_bits.proofs.Lists.Words.PaddedLemmas.{length-padded_part}
 use Rattle.mask_bits.proofs.Lists.Places.PlaceLemmas.{positions-within}
-use Rattle.mask_bits.proofs.Lists.Places.SelectLemmas.{no_index, indices_from-append, indices_from-moved, positions-lowest}
+use Rattle.mask_bits.proofs.Lists.Places.SelectLemmas.{no_index, indices_from-moved, places-word_more, positions-lowest}
 use Rattle.mask_bits.proofs.Lists.Words.WordLemmas.{get_or-word_bits, length-word_bits, word_bits_from_bits}
-
--- the rows at some indices
-abbrev pub rows_at : {X : Type 0} → List X → List ℕ → List X
-rows_at rows ps = filter_map (λ p. slice_get rows p) ps
+use Rattle.vortex_mask.proofs.Kernels.WordKernelLemmas.{part-same, places-same}
+use Rattle.mask_c.specs.Strings.{items_at}
+use Rattle.mask_c.proofs.StringLemmas.{items_at-more}
 
 -- ---- places
-
--- false values past the end have no place
-places-same : (n : ℕ) (xs ys : List Bool) → ((i : ℕ) → get_or xs i false ≡ get_or ys i false) → indices_from n xs ≡ indices_from n ys
-places-same n [] ys same = sym (no_index ys n (λ i. sym (same i)))
-places-same n (true ∷ xs) [] same = let h : true ≡ false = same 0 in absurd (cc)
-places-same n (false ∷ xs) [] same = places-same (n + 1) xs [] (λ i. same (suc i))
-places-same n (true ∷ xs) (true ∷ ys) same = ap (λ (ps : List ℕ). n ∷ ps) (places-same (n + 1) xs ys (λ i. same (suc i)))
-places-same n (true ∷ xs) (false ∷ ys) same = let h : true ≡ false = same 0 in absurd (cc)
-places-same n (false ∷ xs) (true ∷ ys) same = let h : false ≡ true = same 0 in absurd (cc)
-places-same n (false ∷ xs) (false ∷ ys) same = places-same (n + 1) xs ys (λ i. same (suc i))
 
 -- a started part has the places of its values
 indices-part : (m : List Bool) (i n : ℕ) → indices_from n (take 64 (drop (64 * i) m)) ≡ indices_from n (padded_part m i)
 indices-part m i n =
-    let rest : List Bool = drop (64 * i) m in
-    places-same n (take 64 rest) (padded_part m i) (λ j. elim (cases_lt j 64) [
-      | inl h ↦ get_or-take 64 rest j false h ∙ get_or-drop (64 * i) m j false ∙ sym (get_or-padded_part m i j h)
-      | inr past ↦ get_or_past (take 64 rest) j false (omega (arith, length-take 64 rest)) ∙ sym (get_or_past (padded_part m i) j false (omega (arith, length-padded_part m i)))
-    ])
+    places-same n (take 64 (drop (64 * i) m)) (take 64 (padded_part m i)) (λ k. part-same m i 64 k (omega arith))
+    ∙ ap (indices_from n) (take_all 64 (padded_part m i) (omega (arith, length-padded_part m i)))
 
 -- the places of one more started word
 pub positions-word_more : (m : List Bool) (i : ℕ) → 64 * i ≤ length m
     → positions (take (64 * (i + 1)) m) ≡ positions (take (64 * i) m) ++ map (λ p. 64 * i + p) (positions (padded_part m i))
 positions-word_more m i within =
-    let front : List Bool = take (64 * i) m in
-    let here : List Bool = take 64 (drop (64 * i) m) in
-    let next : 64 * (i + 1) ≡ 64 * i + 64 = omega arith in
-    let len : 0 + length front ≡ 64 * i = omega (arith, length-take (64 * i) m) in
-    ap (λ n. positions (take n m)) next ∙ ap positions (take-add (64 * i) 64 m) ∙ indices_from-append 0 front here
-    ∙ ap (λ (ps : List ℕ). positions front ++ ps)
-    (ap (λ n. indices_from n here) len ∙ indices-part m i (64 * i)
-    ∙ ap (λ n. indices_from n (padded_part m i)) (sym (add-zero (64 * i))) ∙ indices_from-moved (64 * i) 0 (padded_part m i))
+    places-word_more m i within
+    ∙ ap (λ (ps : List ℕ). positions (take (64 * i) m) ++ ps) (ap (λ n. indices_from n (padded_part m i)) (sym (add-zero (64 * i))) ∙ indices_from-moved (64 * i) 0 (padded_part m i))
 
 -- the lowest place of a word is a place of it
 pub lowest-within : (w n : ℕ) → 0 < w → w < 2 ^ 64 → All (λ p. p < n) (positions (word_bits w)) → low w < n
@@ -69,28 +49,28 @@ no_bits w none = grind (arith, no_index, cases_lt, get_or-word_bits, bit_at-zero
 slice_get-drop : {X : Type 0} (rows : List X) (n p : ℕ) → slice_get rows (n + p) ≡ slice_get (drop n rows) p
 slice_get-drop rows n p = grind (arith, slice_get_cases, slice_get-get_or, length-drop, get_or-drop, slice_get_past)
 
-rows_at-moved : {X : Type 0} (rows : List X) (n : ℕ) (ps : List ℕ) → rows_at rows (map (λ p. n + p) ps) ≡ rows_at (drop n rows) ps
+rows_at-moved : {X : Type 0} (rows : List X) (n : ℕ) (ps : List ℕ) → items_at rows (map (λ p. n + p) ps) ≡ items_at (drop n rows) ps
 rows_at-moved rows n [] = refl
 rows_at-moved {X} rows n (p ∷ ps) = ap₂ (λ o (xs : List X). cons_option o xs) (slice_get-drop rows n p) (rows_at-moved rows n ps)
 
 -- the rows of one more started word
 pub rows-word_more : {X : Type 0} (rows : List X) (m : List Bool) (i : ℕ) → 64 * i ≤ length m
-    → rows_at rows (positions (take (64 * (i + 1)) m)) ≡ rows_at rows (positions (take (64 * i) m)) ++ rows_at (drop (64 * i) rows) (positions (padded_part m i))
+    → items_at rows (positions (take (64 * (i + 1)) m)) ≡ items_at rows (positions (take (64 * i) m)) ++ items_at (drop (64 * i) rows) (positions (padded_part m i))
 rows-word_more {X} rows m i within =
     let front : List ℕ = positions (take (64 * i) m) in
     let here : List ℕ = positions (padded_part m i) in
-    ap (rows_at rows) (positions-word_more m i within)
+    ap (items_at rows) (positions-word_more m i within)
     ∙ filter_map-append (λ p. slice_get rows p) front (map (λ p. 64 * i + p) here)
-    ∙ ap (λ (xs : List X). rows_at rows front ++ xs) (rows_at-moved rows (64 * i) here)
+    ∙ ap (λ (xs : List X). items_at rows front ++ xs) (rows_at-moved rows (64 * i) here)
 
 -- the rows so far, and those of one more started word behind them
 pub rows-next : {X : Type 0} (rows part out new : List X) (m : List Bool) (i w at n : ℕ) → 64 * i ≤ length m → part ≡ drop (64 * i) rows → word_bits w ≡ padded_part m i
-    → take at out ≡ rows_at rows (positions (take (64 * i) m))
-    → take n new ≡ take at out ++ rows_at part (positions (word_bits w))
-    → take n new ≡ rows_at rows (positions (take (64 * (i + 1)) m))
+    → take at out ≡ items_at rows (positions (take (64 * i) m))
+    → take n new ≡ take at out ++ items_at part (positions (word_bits w))
+    → take n new ≡ items_at rows (positions (take (64 * (i + 1)) m))
 rows-next {X} rows part out new m i w at n within is shows before next =
     next
-    ∙ ap₂ (λ (xs ys : List X). xs ++ ys) before (ap₂ (λ (xs : List X) (b : List Bool). rows_at xs (positions b)) is shows)
+    ∙ ap₂ (λ (xs ys : List X). xs ++ ys) before (ap₂ (λ (xs : List X) (b : List Bool). items_at xs (positions b)) is shows)
     ∙ sym (rows-word_more rows m i within)
 
 -- the places of a started part are those of rows
@@ -102,12 +82,8 @@ part-within rows m i len =
     subst (All (λ p. p < length (drop (64 * i) rows))) (indices-part m i 0)
     (All-weaker (λ p. p < length here) (λ p. p < length (drop (64 * i) rows)) (λ p h. omega arith) (positions here) (positions-within here))
 
--- no part has more true values than the whole
-pub count_below-le-count : (m : List Bool) (n : ℕ) → count (take n m) ≤ count m
-count_below-le-count m n = omega (arith, count-append (take n m) (drop n m), ap count (take-append-drop n m))
-
 -- all words have all rows
-pub rows-all : {X : Type 0} (rows : List X) (m : List Bool) (n : ℕ) → length m ≤ n → rows_at rows (positions (take n m)) ≡ chosen rows m
+pub rows-all : {X : Type 0} (rows : List X) (m : List Bool) (n : ℕ) → length m ≤ n → items_at rows (positions (take n m)) ≡ chosen rows m
 rows-all rows m n past = grind (arith, take_all, chosen_at_positions)
 
 -- ---- a full word
@@ -133,31 +109,26 @@ slice_get-take : {X : Type 0} (rows : List X) (n p : ℕ) → p < n → slice_ge
 slice_get-take rows n p few = grind (arith, slice_get_cases, slice_get-get_or, length-take, get_or-take, slice_get_past)
 
 -- and they are the first ones
-rows_at-front : {X : Type 0} (rows : List X) (n : ℕ) (ps : List ℕ) → All (λ p. p < n) ps → rows_at rows ps ≡ rows_at (take n rows) ps
+rows_at-front : {X : Type 0} (rows : List X) (n : ℕ) (ps : List ℕ) → All (λ p. p < n) ps → items_at rows ps ≡ items_at (take n rows) ps
 rows_at-front rows n [] h = refl
 rows_at-front {X} rows n (p ∷ ps) h =
     let few : p < n = All-head (λ q. q < n) p ps h in
     ap₂ (λ o (xs : List X). cons_option o xs) (sym (slice_get-take rows n p few)) (rows_at-front rows n ps (All-tail (λ q. q < n) p ps h))
 
-pub rows-full : {X : Type 0} (rows : List X) (w : ℕ) → w < 2 ^ 64 → w ≡ 2 ^ 64 - 1 → 64 ≤ length rows → rows_at rows (positions (word_bits w)) ≡ take 64 rows
+pub rows-full : {X : Type 0} (rows : List X) (w : ℕ) → w < 2 ^ 64 → w ≡ 2 ^ 64 - 1 → 64 ≤ length rows → items_at rows (positions (word_bits w)) ≡ take 64 rows
 rows-full {X} rows w fits full many =
     let m : List Bool = repeated 64 true in
     let front : List X = take 64 rows in
     let len : length front ≡ 64 = omega (arith, length-take 64 rows) in
     let few : All (λ p. p < 64) (positions m) = subst (λ n. All (λ p. p < n) (positions m)) (length-repeated 64 true) (positions-within m) in
-    ap (λ (x : List Bool). rows_at rows (positions x)) (full_word w fits full)
+    ap (λ (x : List Bool). items_at rows (positions x)) (full_word w fits full)
     ∙ rows_at-front rows 64 (positions m) few
     ∙ sym (chosen_at_positions front m)
     ∙ chosen-all_true front 64 len
 
 -- the rows at one more index
 pub rows_at-more : {X : Type 0} (rows : List X) (ps : List ℕ) (out : List X) (k : ℕ) (row : X) → k < length ps → k < length out
-    → take k out ≡ rows_at rows (take k ps) → slice_get rows (get_or ps k 0) ≡ Some row
-    → take (k + 1) (set out k row) ≡ rows_at rows (take (k + 1) ps)
+    → take k out ≡ items_at rows (take k ps) → slice_get rows (get_or ps k 0) ≡ Some row
+    → take (k + 1) (set out k row) ≡ items_at rows (take (k + 1) ps)
 rows_at-more {X} rows ps out k row few room so_far read =
-    let p : ℕ = get_or ps k 0 in
-    let one : rows_at rows (p ∷ []) ≡ row ∷ [] = ap (λ o. cons_option o []) read in
-    take_more_set out k row room
-    ∙ ap₂ (λ (xs ys : List X). xs ++ ys) so_far (sym one)
-    ∙ sym (filter_map-append (λ i. slice_get rows i) (take k ps) (p ∷ []))
-    ∙ ap (rows_at rows) (sym (take_more ps k 0 few))
+    take_more_set out k row room ∙ ap (λ (xs : List X). xs ++ row ∷ []) so_far ∙ sym (items_at-more rows ps k row few read)

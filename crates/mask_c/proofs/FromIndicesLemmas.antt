@@ -11,11 +11,11 @@ use Rattle.std.proofs.lemmas.Nat.Bits.{bit_at-zero}
 use Rattle.mask_bits.specs.Bitmap.{bitmap}
 use Rattle.mask_bits.specs.Buffer.{backing_bit}
 use Rattle.mask_bits.specs.Positions.{true_at}
+use Rattle.mask_bits.proofs.Lists.BooleanValueLemmas.{value_of_true_at}
 use Rattle.mask_bits.proofs.Lists.RankLemmas.{length-true_at}
-use Rattle.mask_bits.proofs.Lists.Words.BackingBitLemmas.{length-bitmap, get_or-bitmap}
+use Rattle.vortex_mask.proofs.Kernels.WordKernelLemmas.{list-from_bits}
 use Rattle.mask_c.specs.Bitmap.{AreClearBehind}
 use Rattle.mask_c.proofs.LastLemmas.{front-appended}
-use Rattle.mask_c.proofs.LastRankLemmas.{get_or-true_at}
 
 -- the set bits of the bytes are those at some positions
 abbrev pub AreSetAt : List ℕ → List ℕ → Type 0
@@ -35,10 +35,10 @@ set_at-more old new ps i few len so_far set = λ p h.
 pub list_from_set : (bytes more ps : List ℕ) (len : ℕ) → len ≤ 8 * length bytes → AreSetAt bytes ps → bitmap (bytes ++ more) 0 len ≡ true_at len ps
 list_from_set bytes more ps len few set =
     front-appended bytes more len few
-    ∙ ext_get_or false (bitmap bytes 0 len) (true_at len ps) (length-bitmap bytes 0 len ∙ sym (length-true_at len ps)) (λ p h.
-    let inside : p < len = omega (arith, length-bitmap bytes 0 len) in
-    let place : 0 + p ≡ p = omega arith in
-    get_or-bitmap bytes 0 len p false inside ∙ ap (backing_bit bytes) place ∙ set p (omega arith) ∙ sym (get_or-true_at len ps p inside))
+    ∙ ap (bitmap bytes 0) (sym (length-true_at len ps))
+    ∙ list-from_bits (true_at len ps) bytes (λ p h.
+    let inside : p < len = omega (arith, length-true_at len ps) in
+    set p (omega arith) ∙ sym (value_of_true_at len ps p inside))
 
 pub clear_from_set : (bytes more ps : List ℕ) (len : ℕ) → 8 * div_ceil len 8 ≤ 8 * length bytes → All (λ i. i < len) ps → AreSetAt bytes ps → AreClearBehind (bytes ++ more) len
 clear_from_set bytes more ps len few within set = λ p from to.

@@ -10,21 +10,14 @@ use Rattle.mask_bits.specs.Positions.{count, indices_from, positions}
 use Rattle.mask_bits.specs.Words.{padded_part, word_bits}
 use Rattle.mask_bits.proofs.Lists.Words.BackingBitLemmas.{length-bitmap, get_or-bitmap}
 use Rattle.mask_bits.proofs.Lists.Places.SelectLemmas.{count-word_more, indices_from-append, indices_from-moved}
+use Rattle.mask_c.proofs.BitmapLemmas.{bitmap-part}
 use Rattle.mask_c.proofs.ChooseLemmas.{part-within, positions-word_more}
 
 -- the values from an index on
 pub bitmap-rest : (bytes : List ℕ) (offset len from : ℕ) → from ≤ len → bitmap bytes (offset + from) (len - from) ≡ drop from (bitmap bytes offset len)
 bitmap-rest bytes offset len from within =
-    let m : List Bool = bitmap bytes offset len in
-    let rest : List Bool = bitmap bytes (offset + from) (len - from) in
-    let len_rest : length rest ≡ len - from = length-bitmap bytes (offset + from) (len - from) in
-    let len_m : length m ≡ len = length-bitmap bytes offset len in
-    ext_get_or false rest (drop from m) (omega (arith, len_rest, len_m, length-drop from m)) (λ i h.
-    let inside : i < len - from = omega arith in
-    let there : from + i < len = omega arith in
-    let at : offset + from + i ≡ offset + (from + i) = add_assoc offset from i in
-    get_or-bitmap bytes (offset + from) (len - from) i false inside ∙ ap (backing_bit bytes) at
-    ∙ sym (get_or-drop from m i false ∙ get_or-bitmap bytes offset len (from + i) false there))
+    let rest : List Bool = drop from (bitmap bytes offset len) in
+    bitmap-part bytes offset len from len within (omega arith) ∙ take_all (len - from) rest (omega (arith, length-drop from (bitmap bytes offset len), length-bitmap bytes offset len))
 
 -- ---- room
 

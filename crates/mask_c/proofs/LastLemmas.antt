@@ -1,27 +1,29 @@
 -- The last values of a bitmap that is written, and the values before them.
-use Rattle.std.proofs.Common.{◌≡◌, ℕ, nat_eq, set, ◌^◌, ◌+◌, ◌-◌, ◌*◌, ◌/◌, ◌%◌, ◌<◌, ◌≤◌, ◌&&◌, Bool, true, false, List, [], ◌∷◌, ◌++◌, length, get_or, take, drop, refl, sym, ap, ap₂, ◌∙◌, inl, inr, arith, mod-eq_of_lt}
-use Rattle.std.proofs.Math.Pow.{pow-lt}
+use Rattle.std.proofs.Common.{◌≡◌, ℕ, nat_eq, set, ◌^◌, ◌+◌, ◌-◌, ◌*◌, ◌/◌, ◌%◌, ◌<◌, ◌≤◌, ◌&&◌, Bool, true, false, List, [], ◌∷◌, ◌++◌, length, get_or, take, drop, refl, sym, subst, ap, ap₂, ◌∙◌, inl, inr, arith, mod-eq_of_lt}
 use Rattle.std.specs.Int.{bit_at, div_ceil}
 use Rattle.std.specs.Int.RustNames.{bit_and}
 use Rattle.std.proofs.lemmas.Bool.{cases_eq}
 use Rattle.std.proofs.lemmas.Grind.{get_or-set_at}
-use Rattle.std.proofs.lemmas.List.{ext_get_or, get_or-set_other, get_or-take, get_or_append_left, get_or-append_right, length-append, length-drop, length-take, take-append-drop}
-use Rattle.std.proofs.lemmas.Nat.Bits.{bit_at-lt, bit_at-zero, bit_at_and, bit_at_ones, bit_at_ones_above}
-use Rattle.std.proofs.lemmas.Slice.{drop-put_mid}
+use Rattle.std.proofs.lemmas.List.{ext_get_or, get_or-set_other, get_or-take, get_or_append_left, get_or_past, length-append, length-drop, length-take, length-take-le, take-append-drop, take_all}
+use Rattle.std.proofs.lemmas.Nat.{one_shl}
+use Rattle.std.proofs.lemmas.Nat.Bits.{bit_at-zero}
+use Rattle.std.proofs.lemmas.Slice.{drop-append-drop, drop-put_mid}
 use Rattle.mask_bits.specs.Bitmap.{bitmap}
 use Rattle.mask_bits.specs.Buffer.{backing_bit}
 use Rattle.mask_bits.specs.Lists.{combined}
 use Rattle.mask_bits.specs.Positions.{count, count_below, rank_intersection, repeated}
 use Rattle.mask_bits.specs.Words.{padded_part, window, word_bits}
 use Rattle.mask_bits.proofs.Lists.BooleanLemmas.{combined-append, combined-take}
-use Rattle.mask_bits.proofs.Lists.CountLemmas.{all_true_from_count, count-append, get_or-repeated}
+use Rattle.mask_bits.proofs.Lists.CountLemmas.{all_true_from_count, count-append, get_or-padded}
 use Rattle.mask_bits.proofs.Lists.Places.PlaceLemmas.{trues, count-trues}
 use Rattle.mask_bits.proofs.Lists.LawLemmas.{rank_intersection_value}
-use Rattle.mask_bits.proofs.Lists.Words.PaddedLemmas.{get_or-padded_part, length-padded_part}
+use Rattle.mask_bits.proofs.Lists.Words.PaddedLemmas.{get_or-padded_part, padded_part_from_values}
+use Rattle.mask_bits.proofs.Lists.Words.ShiftLemmas.{bit_at-low_mask, bit_at-past_mask}
 use Rattle.mask_bits.proofs.Lists.Words.WordLemmas.{get_or-word_bits, length-word_bits}
 use Rattle.mask_bits.proofs.Lists.RankLemmas.{narrow, rank_intersection-all_true, rank_intersection-narrow}
 use Rattle.mask_bits.proofs.Lists.Words.BackingBitLemmas.{bitmap-append, length-bitmap, get_or-bitmap}
-use Rattle.mask_bits.proofs.Lists.Words.FrontLemmas.{length-window, front-same, get_or-put_mid_below, get_or-put_mid_inside, get_or-window, window-take}
+use Rattle.mask_bits.proofs.Lists.Words.FrontLemmas.{length-window, front-same, get_or-put_mid_below, get_or-put_mid_inside, get_or-window, window_from_bits, window-take}
+use Rattle.vortex_mask.proofs.Kernels.WordKernelLemmas.{list-from_bits}
 use Rattle.mask_c.specs.Bitmap.{AreClearBehind}
 use borrow.Rule.Slice.PartMut.{put_mid}
 
@@ -39,20 +41,15 @@ front-taken xs k n few =
 
 -- a word that no change touched stays
 pub window-kept : (old new : List ℕ) (p : ℕ) → ((j : ℕ) → j < 64 → backing_bit new (p + j) ≡ backing_bit old (p + j)) → window new p ≡ window old p
-window-kept old new p same =
-    ext_get_or false (window new p) (window old p) (length-window new p ∙ sym (length-window old p)) (λ j h.
-    let few : j < 64 = omega (arith, length-window new p) in
-    get_or-window new p j false few ∙ same j few ∙ sym (get_or-window old p j false few))
+window-kept old new p same = window_from_bits new p (window old p) (length-window old p) (λ j h. get_or-window old p j false h ∙ sym (same j h))
 
 -- a word with no true value stays so where it is narrowed
 pub narrowed-none : (m b : List Bool) (i : ℕ) → length b ≡ count m → word_bits 0 ≡ padded_part m i → word_bits 0 ≡ padded_part (rank_intersection m b) i
 narrowed-none m b i fits shows =
-    ext_get_or false (word_bits 0) (padded_part (rank_intersection m b) i) (length-word_bits 0 ∙ sym (length-padded_part (rank_intersection m b) i)) (λ j h.
-    let few : j < 64 = omega (arith, length-word_bits 0) in
-    let none : get_or (word_bits 0) j false ≡ false = get_or-word_bits 0 j false few ∙ ap (λ x. nat_eq x 1) (bit_at-zero j) in
-    let here : get_or m (64 * i + j) false ≡ false = sym (get_or-padded_part m i j few) ∙ sym (ap (λ (xs : List Bool). get_or xs j false) shows) ∙ none in
-    let rest : Bool = get_or b (count_below m (64 * i + j)) false in
-    none ∙ sym (get_or-padded_part (rank_intersection m b) i j few ∙ rank_intersection_value m b (64 * i + j) fits ∙ ap (λ x. x && rest) here))
+    padded_part_from_values (rank_intersection m b) (word_bits 0) i (length-word_bits 0) (λ j h.
+    let none : get_or (word_bits 0) j false ≡ false = get_or-word_bits 0 j false h ∙ ap (λ x. nat_eq x 1) (bit_at-zero j) in
+    let here : get_or m (64 * i + j) false ≡ false = sym (get_or-padded_part m i j h) ∙ sym (ap (λ (xs : List Bool). get_or xs j false) shows) ∙ none in
+    none ∙ sym (rank_intersection_value m b (64 * i + j) fits ∙ ap (λ x. x && get_or b (count_below m (64 * i + j)) false) here))
 
 -- ---- the bytes of the last values, written
 
@@ -70,17 +67,6 @@ put-bit old last ys w e j begins len from to is few =
     let place : j ≡ 0 + j = omega arith in
     ap₂ (λ x k. nat_eq (bit_at x k) 1) byte bit ∙ ap (backing_bit last) place ∙ sym (get_or-window last 0 j false (omega arith))
 
--- a bit of a word that was cut to its low bits
-low-bit : (m cut : List Bool) (rest j : ℕ) → length m ≡ 64 → rest ≤ 64 → cut ≡ take rest m ++ repeated (64 - rest) false → j < rest → get_or cut j false ≡ get_or (take rest m) j false
-low-bit m cut rest j len few is h =
-    ap (λ (xs : List Bool). get_or xs j false) is ∙ get_or_append_left (take rest m) (repeated (64 - rest) false) false j (omega (arith, length-take rest m))
-
-high-bit : (m cut : List Bool) (rest j : ℕ) → length m ≡ 64 → rest ≤ 64 → cut ≡ take rest m ++ repeated (64 - rest) false → rest ≤ j → j < 64 → get_or cut j false ≡ false
-high-bit m cut rest j len few is h in_word =
-    ap (λ (xs : List Bool). get_or xs j false) is
-    ∙ get_or-append_right (take rest m) (repeated (64 - rest) false) rest j false (length-take rest m ∙ omega arith) h
-    ∙ get_or-repeated (64 - rest) (j - rest) false false (omega arith)
-
 -- the values before them
 pub put-before : (old ys : List ℕ) (w k : ℕ) → 8 * w ≤ length old → bitmap (put_mid (8 * w) k old ys) 0 (64 * w) ≡ bitmap old 0 (64 * w)
 put-before old ys w k begins =
@@ -97,8 +83,7 @@ put-list old last ys m cut w e rest begins len from to is word few shows low =
     let small : j < rest = omega (arith, length-bitmap new (64 * w) rest) in
     get_or-bitmap new (64 * w) rest j false small
     ∙ put-bit old last ys w e j begins len from to is (omega arith)
-    ∙ ap (λ (xs : List Bool). get_or xs j false) shows
-    ∙ low-bit m cut rest j word (omega arith) low small)
+    ∙ ap (λ (xs : List Bool). get_or xs j false) (shows ∙ low) ∙ get_or-padded (take rest m) (64 - rest) j)
 
 -- the bits behind them
 pub put-clear : (old last ys : List ℕ) (m cut : List Bool) (w e rest : ℕ) → 8 * w ≤ length old → length last ≡ 8 → e ≡ 8 * w + div_ceil rest 8 → rest < 64 → ys ≡ take (e - 8 * w) last
@@ -109,24 +94,25 @@ put-clear old last ys m cut w e rest begins len end few is word shows low = λ p
     let at : 64 * w + (p - 64 * w) ≡ p = omega arith in
     ap (backing_bit new) (sym at)
     ∙ put-bit old last ys w e (p - 64 * w) begins len (omega arith) (omega arith) is (omega arith)
-    ∙ ap (λ (xs : List Bool). get_or xs (p - 64 * w) false) shows
-    ∙ high-bit m cut rest (p - 64 * w) word (omega arith) low (omega arith) (omega arith)
+    ∙ ap (λ (xs : List Bool). get_or xs (p - 64 * w) false) (shows ∙ low) ∙ get_or-padded (take rest m) (64 - rest) (p - 64 * w)
+    ∙ get_or_past (take rest m) (p - 64 * w) false (omega (arith, length-take rest m))
 
 -- the bytes behind them
 pub put-behind : (old ys : List ℕ) (w e rest : ℕ) → 8 * w ≤ length old → e ≡ 8 * w + div_ceil rest 8 → length ys ≡ e - 8 * w
     → drop (div_ceil (64 * w + rest) 8) (put_mid (8 * w) (e - 8 * w) old ys) ≡ drop (div_ceil (64 * w + rest) 8) old
 put-behind old ys w e rest begins end len = drop-put_mid (8 * w) (e - 8 * w) old ys (div_ceil (64 * w + rest) 8) (omega arith) begins len
 
+-- they are as they were where whole words were written before these
+pub behind-last : (old front new : List ℕ) (len : ℕ) → div_ceil len 8 ≤ length old → length front ≡ length (take (8 * (len / 64)) old)
+    → drop (div_ceil (64 * (len / 64) + len % 64) 8) new ≡ drop (div_ceil (64 * (len / 64) + len % 64) 8) (front ++ drop (8 * (len / 64)) old)
+    → drop (div_ceil len 8) new ≡ drop (div_ceil len 8) old
+behind-last old front new len room is behind =
+    let end : 64 * (len / 64) + len % 64 ≡ len = omega arith in
+    let same : drop (div_ceil len 8) new ≡ drop (div_ceil len 8) (front ++ drop (8 * (len / 64)) old)
+    = subst (λ n. drop (div_ceil n 8) new ≡ drop (div_ceil n 8) (front ++ drop (8 * (len / 64)) old)) end behind in
+    same ∙ drop-append-drop (8 * (len / 64)) old front (div_ceil len 8) (omega arith) (omega (arith, is, length-take (8 * (len / 64)) old))
+
 -- ---- the bits behind the last value cleared
-
-low_ones : (k : ℕ) → k < 8 → 1 * 2 ^ k % 256 - 1 ≡ 2 ^ k - 1
-low_ones k few = let small : 2 ^ k < 2 ^ 8 = pow-lt few in omega (arith, mod-eq_of_lt small)
-
-kept_bit : (x k j : ℕ) → j < k → bit_at (bit_and x (2 ^ k - 1)) j ≡ bit_at x j
-kept_bit x k j h = omega (arith, bit_at_and x (2 ^ k - 1) j, bit_at_ones k j h, bit_at-lt x j)
-
-cleared_bit : (x k j : ℕ) → k ≤ j → bit_at (bit_and x (2 ^ k - 1)) j ≡ 0
-cleared_bit x k j h = omega (arith, bit_at_and x (2 ^ k - 1) j, bit_at_ones_above k j h)
 
 pub cleared-list : (bytes : List ℕ) (n : ℕ) → (n % 8 ≡ 0 → ⊥) → div_ceil n 8 ≤ length bytes
     → bitmap (set bytes (n / 8) (bit_and (get_or bytes (n / 8) 0) (1 * 2 ^ (n % 8) % 256 - 1))) 0 n ≡ bitmap bytes 0 n
@@ -138,8 +124,8 @@ cleared-list bytes n part room =
       | inl same ↦
           let few : p % 8 < n % 8 = omega arith in
           ap (λ z. nat_eq (bit_at z (p % 8)) 1) (get_or-set_at bytes (n / 8) (p / 8) y 0 same inside)
-          ∙ ap (λ z. nat_eq (bit_at (bit_and x z) (p % 8)) 1) (low_ones (n % 8) (omega arith))
-          ∙ ap (λ z. nat_eq z 1) (kept_bit x (n % 8) (p % 8) few)
+          ∙ ap (λ z. nat_eq (bit_at (bit_and x (z - 1)) (p % 8)) 1) (one_shl (n % 8) 8 (omega arith))
+          ∙ ap (λ z. nat_eq z 1) (bit_at-low_mask x (n % 8) (p % 8) few)
           ∙ ap (λ k. nat_eq (bit_at (get_or bytes k 0) (p % 8)) 1) (sym same)
       | inr other ↦ ap (λ z. nat_eq (bit_at z (p % 8)) 1) (get_or-set_other bytes (n / 8) (p / 8) y 0 other)
     ])
@@ -151,8 +137,8 @@ cleared-clear bytes n part room = λ p from to.
     let y : ℕ = bit_and x (1 * 2 ^ (n % 8) % 256 - 1) in
     let same : p / 8 ≡ n / 8 = omega (arith, part) in
     ap (λ z. nat_eq (bit_at z (p % 8)) 1) (get_or-set_at bytes (n / 8) (p / 8) y 0 same (omega (arith, part)))
-    ∙ ap (λ z. nat_eq (bit_at (bit_and x z) (p % 8)) 1) (low_ones (n % 8) (omega arith))
-    ∙ ap (λ z. nat_eq z 1) (cleared_bit x (n % 8) (p % 8) (omega arith))
+    ∙ ap (λ z. nat_eq (bit_at (bit_and x (z - 1)) (p % 8)) 1) (one_shl (n % 8) 8 (omega arith))
+    ∙ ap (λ z. nat_eq z 1) (bit_at-past_mask x (n % 8) (p % 8) (omega arith))
 
 -- ---- lists of two parts
 
@@ -225,6 +211,9 @@ written-narrowed a b front last out more p q len n k covers is_n is_k whole part
     (length-bitmap b q n ∙ is_n) (length-bitmap b (q + n) k ∙ is_k))
     ∙ ap₂ rank_intersection (sym (bitmap-split a p len)) (sym (bitmap-append b q n k))
 
+front-list : (m : List Bool) (front : List ℕ) (w : ℕ) → w ≤ length m → ((p : ℕ) → p < length (take w m) → backing_bit front p ≡ get_or (take w m) p false) → bitmap front 0 w ≡ take w m
+front-list m front w within list = ap (bitmap front 0) (sym (length-take-le w m within)) ∙ list-from_bits (take w m) front list
+
 -- whole words of a list, and its last values
 pub written-list : (m : List Bool) (front out more : List ℕ) (len : ℕ) (v : List Bool) → length m ≡ len → 64 * (len / 64) ≤ 8 * length front
     → ((p : ℕ) → p < length (take (64 * (len / 64)) m) → backing_bit front p ≡ get_or (take (64 * (len / 64)) m) p false)
@@ -234,13 +223,8 @@ pub written-list : (m : List Bool) (front out more : List ℕ) (len : ℕ) (v : 
 written-list m front out more len v is_len covers list word shows before last =
     let w : ℕ = 64 * (len / 64) in
     let rest : ℕ = len % 64 in
-    let length_front : length (take w m) ≡ w = omega (arith, length-take w m) in
     let length_rest : length (drop w m) ≡ rest = omega (arith, length-drop w m) in
-    let first : bitmap front 0 w ≡ take w m
-    = ext_get_or false (bitmap front 0 w) (take w m) (length-bitmap front 0 w ∙ sym length_front) (λ p h.
-    let few : p < w = omega (arith, length-bitmap front 0 w) in
-    let place : 0 + p ≡ p = omega arith in
-    get_or-bitmap front 0 w p false few ∙ ap (backing_bit front) place ∙ list p (omega arith)) in
+    let first : bitmap front 0 w ≡ take w m = front-list m front w (omega arith) list in
     let second : take rest v ≡ drop w m
     = ext_get_or false (take rest v) (drop w m) (omega (arith, length-take rest v)) (λ j h.
     let few : j < rest = omega (arith, length-take rest v) in
@@ -254,12 +238,9 @@ pub written-whole : (m : List Bool) (front more : List ℕ) (len : ℕ) → leng
     → ((p : ℕ) → p < length (take (64 * (len / 64)) m) → backing_bit front p ≡ get_or (take (64 * (len / 64)) m) p false)
     → bitmap (front ++ more) 0 len ≡ m
 written-whole m front more len is_len none covers list =
-    ext_get_or false (bitmap (front ++ more) 0 len) m (length-bitmap (front ++ more) 0 len ∙ sym is_len) (λ p h.
-    let few : p < len = omega (arith, length-bitmap (front ++ more) 0 len) in
-    let place : 0 + p ≡ p = omega arith in
-    let inside : p < length (take (64 * (len / 64)) m) = omega (arith, length-take (64 * (len / 64)) m) in
-    ap (λ (xs : List Bool). get_or xs p false) (front-appended front more len (omega arith))
-    ∙ get_or-bitmap front 0 len p false few ∙ ap (backing_bit front) place ∙ list p inside ∙ get_or-take (64 * (len / 64)) m p false (omega arith))
+    let whole : 64 * (len / 64) ≡ len = omega arith in
+    front-appended front more len (omega arith) ∙ ap (bitmap front 0) (sym whole)
+    ∙ front-list m front (64 * (len / 64)) (omega arith) list ∙ take_all (64 * (len / 64)) m (omega arith)
 
 -- where all values are true, the ranks are the whole
 pub narrowed_by_all : (m r : List Bool) → count m ≡ length m → length r ≡ length m → rank_intersection m r ≡ r

@@ -3,22 +3,24 @@ use Rattle.std.proofs.Common.{◌≡◌, ℕ, zero, suc, ◌+◌, ◌-◌, ◌*�
 use Rattle.std.specs.Int.RustNames.{bit_or}
 use Rattle.std.specs.List.{All, list_any}
 use Rattle.std.specs.List.Sorted.{IsStrictlyIncreasing}
-use Rattle.std.proofs.Math.Pow.{pow-lt}
-use Rattle.std.proofs.lemmas.Bool.{cases_lt, cases_eq, eq-eqb, ne_eqb}
+use Rattle.std.proofs.Math.Bool.{or_comm, or-false}
+use Rattle.std.proofs.lemmas.Bool.{cases_lt, cases_eq}
 use Rattle.std.proofs.lemmas.List.{drop_more, ext_get_or, get_or-drop, get_or-take, get_or_append_left, get_or-append_right, length-append, length-drop, length-take, take-append-drop, take_all}
 use Rattle.std.proofs.lemmas.List.Elements.{All-from_get_or}
-use Rattle.std.proofs.lemmas.List.Folds.{list_any-append, list_any_none}
-use Rattle.std.proofs.lemmas.List.FromFn.{get_or-map-range_with_len}
-use Rattle.std.proofs.lemmas.Nat.Bits.{bit_at-zero, bit_at-pow_same, bit_at-pow_other}
+use Rattle.std.proofs.lemmas.List.Folds.{list_any-append}
+use Rattle.std.proofs.lemmas.Nat.Bits.{bit_at-zero}
 use Rattle.mask_bits.specs.Bitmap.{bitmap}
 use Rattle.mask_bits.specs.Positions.{at_indices, count, positions, rank_intersection, true_at}
 use Rattle.mask_bits.specs.Words.{word_bits}
-use Rattle.mask_bits.proofs.Lists.Places.AscendingLemmas.{positions-true_at}
+use Rattle.mask_bits.proofs.Lists.BooleanValueLemmas.{value_of_true_at}
 use Rattle.mask_bits.proofs.Lists.RankLemmas.{length-true_at}
 use Rattle.mask_bits.proofs.Lists.Words.BackingBitLemmas.{length-bitmap}
 use Rattle.mask_bits.proofs.Lists.Words.ShiftLemmas.{get_or-word_bits_or}
 use Rattle.mask_bits.proofs.Lists.Words.WordLemmas.{get_or-word_bits}
 use Rattle.vortex_mask.specs.Ranks.{AreSplit}
+use Rattle.vortex_mask.proofs.Kernels.RankRunLemmas.{ascending-take}
+use Rattle.vortex_mask.proofs.Kernels.RankWordLemmas.{bit_of_pow, none-is, rises-to}
+use Rattle.vortex_mask.proofs.Masks.PlaceListLemmas.{narrowed_at}
 use Rattle.mask_c.proofs.LastLemmas.{bitmap-split, count-split, front-appended, front-split, rank_intersection-append}
 
 -- the ranks from number `cut` on are at least `from`, and are the set bits of a word
@@ -32,27 +34,8 @@ gathered-none ranks from = record {
   within = omega arith;
   after = λ k past inside. absurd (omega arith);
   set = λ j h. get_or-word_bits 0 j false h ∙ ap (λ x. nat_eq x 1) (bit_at-zero j)
-      ∙ sym (list_any_none (nat_eq (from + j)) (drop (length ranks) ranks) (All-from_get_or (λ x. nat_eq (from + j) x ≡ false) (drop (length ranks) ranks) 0 (λ i inside. absurd (omega (arith, length-drop (length ranks) ranks)))));
+      ∙ sym (none-is (from + j) (drop (length ranks) ranks) (λ i inside same. omega (arith, length-drop (length ranks) ranks)));
 }
-
--- a list narrowed at ascending ranks is the one that is true at its indices of these ranks
-narrowed_at : (a : List Bool) (ranks : List ℕ) → IsStrictlyIncreasing ranks → All (λ k. k < count a) ranks → rank_intersection a (true_at (count a) ranks) ≡ true_at (length a) (at_indices (positions a) ranks)
-narrowed_at a ranks ascending within =
-    ap (λ (ps : List ℕ). true_at (length a) (at_indices (positions a) ps)) (positions-true_at (count a) ranks ascending within)
-
--- a bit that is shifted within a word stays in it
-pub pow_in_word : (d : ℕ) → d < 64 → 1 * 2 ^ d % 2 ^ 64 ≡ 2 ^ d
-pow_in_word d few = let small : 2 ^ d < 2 ^ 64 = pow-lt few in omega (arith, mod-eq_of_lt small)
-
--- the one bit of a power of two
-bit_of_pow : (from x j : ℕ) → from ≤ x → j < 64 → get_or (word_bits (2 ^ (x - from))) j false ≡ nat_eq (from + j) x
-bit_of_pow from x j h few = grind (arith, get_or-word_bits, cases_eq, bit_at-pow_same, eq-eqb, bit_at-pow_other, ne_eqb)
-
-or-swapped : (a b : Bool) → (a || b) ≡ (b || a)
-or-swapped true true = refl
-or-swapped true false = refl
-or-swapped false true = refl
-or-swapped false false = refl
 
 pub gathered-more : (ranks : List ℕ) (from cut bits bit : ℕ) → 0 < cut → from ≤ get_or ranks (cut - 1) 0 → bit ≡ 2 ^ (get_or ranks (cut - 1) 0 - from)
     → AreGathered ranks from cut bits → AreGathered ranks from (cut - 1) (bit_or bits bit)
@@ -69,56 +52,43 @@ gathered-more ranks from cut bits bit some high is g =
       ];
       set = λ j h.
           get_or-word_bits_or bits bit j h
-          ∙ ap₂ (λ p q. p || q) (g.set j h) (ap (λ w. get_or (word_bits w) j false) is ∙ bit_of_pow from x j high h)
-          ∙ or-swapped (list_any (nat_eq (from + j)) (drop cut ranks)) (nat_eq (from + j) x)
+          ∙ ap₂ (λ p q. p || q) (g.set j h) (ap (λ w. get_or (word_bits w) j false) is ∙ bit_of_pow from x j high h ∙ or-false (nat_eq (from + j) x))
+          ∙ or_comm (list_any (nat_eq (from + j)) (drop cut ranks)) (nat_eq (from + j) x)
           ∙ ap (list_any (nat_eq (from + j))) (sym more);
     }
 
 -- ---- ascending ranks
 
-rises : (xs : List ℕ) (i n : ℕ) → IsStrictlyIncreasing xs → i + n < length xs → get_or xs i 0 ≤ get_or xs (i + n) 0
-rises xs i zero ascending h = let same : i + 0 ≡ i = omega arith in omega (arith, ap (λ k. get_or xs k 0) same)
-rises xs i (suc n) ascending h =
-    let next : i + suc n ≡ i + n + 1 = omega arith in
-    omega (arith, rises xs i n ascending (omega arith), ascending (i + n) (omega arith), ap (λ k. get_or xs k 0) next)
-
 pub gathered-split : (ranks : List ℕ) (from cut bits : ℕ) → IsStrictlyIncreasing ranks → (0 < cut → get_or ranks (cut - 1) 0 < from) → AreGathered ranks from cut bits → AreSplit ranks cut from
 gathered-split ranks from cut bits ascending stop g = record {
   within = g.within;
-  before = λ k h.
-      let there : k + (cut - 1 - k) ≡ cut - 1 = omega arith in
-      omega (arith, rises ranks k (cut - 1 - k) ascending (omega (arith, g.within)), stop (omega arith), ap (λ n. get_or ranks n 0) there);
+  before = λ k h. omega (arith, rises-to ranks k (cut - 1) ascending (omega arith) (omega (arith, g.within)), stop (omega arith));
   after = g.after;
 }
 
 -- ranks below `from` are none of the bits
-pub gathered-bits : (ranks : List ℕ) (from cut bits : ℕ) → AreSplit ranks cut from → AreGathered ranks from cut bits
+pub gathered-bits : (ranks : List ℕ) (from cut bits : ℕ) → IsStrictlyIncreasing ranks → (0 < cut → get_or ranks (cut - 1) 0 < from) → AreGathered ranks from cut bits
     → (j : ℕ) → j < 64 → get_or (word_bits bits) j false ≡ list_any (nat_eq (from + j)) ranks
-gathered-bits ranks from cut bits split g j h =
+gathered-bits ranks from cut bits ascending stop g j h =
+    let split = gathered-split ranks from cut bits ascending stop g in
     let p : ℕ → Bool = nat_eq (from + j) in
     let none : list_any p (take cut ranks) ≡ false
-    = list_any_none p (take cut ranks) (All-from_get_or (λ x. p x ≡ false) (take cut ranks) 0 (λ k few.
+    = none-is (from + j) (take cut ranks) (λ k few same.
     let small : k < cut = omega (arith, length-take cut ranks) in
-    ne_eqb (from + j) (get_or (take cut ranks) k 0) (λ same. omega (arith, same, get_or-take cut ranks k 0 small, split.before k small)))) in
+    omega (arith, get_or-take cut ranks k 0 small, split.before k small)) in
     g.set j h
     ∙ sym (ap (list_any p) (sym (take-append-drop cut ranks)) ∙ list_any-append p (take cut ranks) (drop cut ranks)
     ∙ ap (λ b. b || list_any p (drop cut ranks)) none)
 
 -- ---- ranks as a list of two parts
 
-pub get_or-true_at : (n : ℕ) (ps : List ℕ) (p : ℕ) → p < n → get_or (true_at n ps) p false ≡ list_any (nat_eq p) ps
-unfolding true_at
-get_or-true_at n ps p h = get_or-map-range_with_len (λ i. list_any (nat_eq i) ps) 0 n p p false h (omega arith)
-
 front-any : (ranks : List ℕ) (n cut p : ℕ) → AreSplit ranks cut n → p < n → list_any (nat_eq p) ranks ≡ list_any (nat_eq p) (take cut ranks)
 front-any ranks n cut p split h =
     let test : ℕ → Bool = nat_eq p in
     let none : list_any test (drop cut ranks) ≡ false
-    = list_any_none test (drop cut ranks) (All-from_get_or (λ x. test x ≡ false) (drop cut ranks) 0 (λ k few.
-    ne_eqb p (get_or (drop cut ranks) k 0) (λ same.
-    omega (arith, same, get_or-drop cut ranks k 0, split.after (cut + k) (omega arith) (omega (arith, length-drop cut ranks)))))) in
+    = none-is p (drop cut ranks) (λ k few same. omega (arith, get_or-drop cut ranks k 0, split.after (cut + k) (omega arith) (omega (arith, length-drop cut ranks)))) in
     ap (list_any test) (sym (take-append-drop cut ranks)) ∙ list_any-append test (take cut ranks) (drop cut ranks)
-    ∙ ap (λ b. list_any test (take cut ranks) || b) none ∙ or-swapped (list_any test (take cut ranks)) false
+    ∙ ap (λ b. list_any test (take cut ranks) || b) none ∙ or-false (list_any test (take cut ranks))
 
 -- those below n, and the others as the first k values of a list of bits
 pub ranks-parts : (ranks : List ℕ) (n k cut : ℕ) (bits : List Bool) → AreSplit ranks cut n → length bits ≡ k
@@ -128,9 +98,9 @@ ranks-parts ranks n k cut bits split len shows =
     let front : List Bool = true_at n (take cut ranks) in
     ext_get_or false (true_at (n + k) ranks) (front ++ bits) (length-true_at (n + k) ranks ∙ sym (length-append front bits ∙ omega (arith, length-true_at n (take cut ranks)))) (λ p h.
     let small : p < n + k = omega (arith, length-true_at (n + k) ranks) in
-    get_or-true_at (n + k) ranks p small
+    value_of_true_at (n + k) ranks p small
     ∙ elim (cases_lt p n) [
-      | inl first ↦ front-any ranks n cut p split first ∙ sym (get_or-true_at n (take cut ranks) p first)
+      | inl first ↦ front-any ranks n cut p split first ∙ sym (value_of_true_at n (take cut ranks) p first)
           ∙ sym (get_or_append_left front bits false p (omega (arith, length-true_at n (take cut ranks))))
       | inr past ↦
           let at : n + (p - n) ≡ p = omega arith in
@@ -150,11 +120,6 @@ ranks-all ranks n cut split within = take_all cut ranks (elim (cases_lt cut (len
   | inl more ↦ absurd (omega (arith, within cut 0 more, split.after cut (omega arith) more))
   | inr done ↦ done
 ])
-
-front-ascending : (ranks : List ℕ) (cut : ℕ) → IsStrictlyIncreasing ranks → IsStrictlyIncreasing (take cut ranks)
-front-ascending ranks cut ascending = λ i h.
-    let few : i + 1 < cut = omega (arith, length-take cut ranks) in
-    omega (arith, get_or-take cut ranks i 0 (omega arith), get_or-take cut ranks (i + 1) 0 few, ascending i (omega (arith, length-take cut ranks)))
 
 -- ---- what a call has written
 
@@ -176,7 +141,7 @@ written-at_ranks a front last source out more ranks p len n k cut covers ascendi
     let below : List ℕ = take cut ranks in
     let narrowed : rank_intersection first (true_at n below) ≡ true_at w (at_indices (positions first) below)
     = ap (λ c. rank_intersection first (true_at c below)) is_n
-    ∙ narrowed_at first below (front-ascending ranks cut ascending) (subst (λ c. All (λ r. r < c) below) is_n (below-all ranks n cut split))
+    ∙ narrowed_at first below (ascending-take cut ranks ascending) (subst (λ c. All (λ r. r < c) below) is_n (below-all ranks n cut split))
     ∙ ap (λ l. true_at l (at_indices (positions first) below)) (length-bitmap a p w) in
     let all : count m ≡ n + k = omega (arith, count-split a p len) in
     front-split out len

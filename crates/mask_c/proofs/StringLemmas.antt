@@ -22,21 +22,16 @@ pub length-sizes : (offsets : List ℕ) → length (sizes offsets) ≡ length of
 unfolding sizes
 length-sizes offsets = length-map-range_with_len (λ i. get_or offsets (i + 1) 0 - get_or offsets i 0) 0 (length offsets - 1)
 
+slice_get-range : {X : Type 0} (f : ℕ → X) (n i : ℕ) → i < n → slice_get (map f (range_with_len 0 n)) i ≡ Some (f i)
+slice_get-range f n i h = slice_get-get_or (map f (range_with_len 0 n)) i (f i) (omega (arith, length-map-range_with_len f 0 n)) ∙ ap Some (get_or-map-range_with_len f 0 n i i (f i) h (omega arith))
+
 pub slice_get-sizes : (offsets : List ℕ) (i : ℕ) → i + 1 < length offsets → slice_get (sizes offsets) i ≡ Some (get_or offsets (i + 1) 0 - get_or offsets i 0)
 unfolding sizes
-slice_get-sizes offsets i h =
-    let size : ℕ → ℕ = λ j. get_or offsets (j + 1) 0 - get_or offsets j 0 in
-    let n : ℕ = length offsets - 1 in
-    slice_get-get_or (map size (range_with_len 0 n)) i 0 (omega (arith, length-map-range_with_len size 0 n))
-    ∙ ap Some (get_or-map-range_with_len size 0 n i i 0 (omega arith) (omega arith))
+slice_get-sizes offsets i h = slice_get-range (λ j. get_or offsets (j + 1) 0 - get_or offsets j 0) (length offsets - 1) i (omega arith)
 
 pub slice_get-strings : (offsets bytes : List ℕ) (i : ℕ) → i + 1 < length offsets → slice_get (strings offsets bytes) i ≡ Some (slice_range bytes (get_or offsets i 0) (get_or offsets (i + 1) 0))
 unfolding strings
-slice_get-strings offsets bytes i h =
-    let string : ℕ → List ℕ = λ j. slice_range bytes (get_or offsets j 0) (get_or offsets (j + 1) 0) in
-    let n : ℕ = length offsets - 1 in
-    slice_get-get_or (map string (range_with_len 0 n)) i [] (omega (arith, length-map-range_with_len string 0 n))
-    ∙ ap Some (get_or-map-range_with_len string 0 n i i [] (omega arith) (omega arith))
+slice_get-strings offsets bytes i h = slice_get-range (λ j. slice_range bytes (get_or offsets j 0) (get_or offsets (j + 1) 0)) (length offsets - 1) i (omega arith)
 
 -- bytes up to a place, and those from there on
 pub range-join : (bytes : List ℕ) (a b c : ℕ) → a ≤ b → b ≤ c → slice_range bytes a b ++ slice_range bytes b c ≡ slice_range bytes a c
@@ -130,6 +125,12 @@ sum-below ls m n =
     = sym (ap positions (take-append-drop n m)) ∙ indices_from-append 0 front (drop n m) in
     omega (arith, sum-parts ls (positions m) (positions front) (indices_from (0 + length front) (drop n m)) split, ap sum (chosen_at_positions ls m))
 
+-- nor are those of one more word behind the ones before it
+pub sum-word : (ls : List ℕ) (m list : List Bool) (i : ℕ) (here : List ℕ) → positions (take (64 * (i + 1)) m) ≡ positions (take (64 * i) m) ++ here → m ≡ list
+    → sum (items_at ls (positions (take (64 * i) m))) + sum (items_at ls here) ≤ sum (chosen ls list)
+sum-word ls m list i here is same =
+    omega (arith, sum-parts ls (positions (take (64 * (i + 1)) m)) (positions (take (64 * i) m)) here is, sum-below ls m (64 * (i + 1)), ap (λ x. sum (chosen ls x)) same)
+
 -- what comes behind holds too
 pub All-behind : (P : ℕ → Type 0) (xs ys zs : List ℕ) → zs ≡ xs ++ ys → All P zs → All P ys
 All-behind P xs ys zs is all = λ k d h.
@@ -203,6 +204,10 @@ sum-sizes offsets ascending (suc k) h =
 pub sum-chosen : (offsets : List ℕ) (m : List Bool) (n : ℕ) → IsNonDecreasing offsets → length offsets ≡ n + 1 → sum (chosen (sizes offsets) m) ≤ get_or offsets n 0
 sum-chosen offsets m n ascending len =
     omega (arith, ap sum (chosen-items_where_true (sizes offsets) m), sum-where_true m (sizes offsets), sum-sizes offsets ascending n (omega arith), ap sum (take_all n (sizes offsets) (omega (arith, length-sizes offsets))))
+
+-- so no more than fit their type, read as numbers
+pub sum-chosen_fits : (offsets : List ℕ) (m : List Bool) (n top : ℕ) → IsNonDecreasing offsets → length offsets ≡ n + 1 → get_or offsets n 0 < top → sum (chosen (sizes (map (λ k. k) offsets)) m) < top
+sum-chosen_fits offsets m n top ascending len small = rw (map-id offsets) (omega (arith, sum-chosen offsets m n ascending len))
 
 pub number_itself : (xs : List ℕ) → map (λ n. n) xs ≡ xs
 number_itself xs = map-id xs

@@ -12,7 +12,7 @@ use Rattle.mask_bits.specs.Positions.{at_indices}
 use Rattle.vortex_mask.specs.Ranks.{AreRanks}
 
 -- the first numbers of ascending ones ascend
-ascending-take : (n : ℕ) (xs : List ℕ) → IsStrictlyIncreasing xs → IsStrictlyIncreasing (take n xs)
+pub ascending-take : (n : ℕ) (xs : List ℕ) → IsStrictlyIncreasing xs → IsStrictlyIncreasing (take n xs)
 ascending-take n xs ascending = grind (arith, length-take, get_or-take)
 
 module _ {S : Type 0} (steps : S → Option ℕ → S → Type 0) (s : S) (all : List ℕ) (yields : YieldsList steps (λ x. x) s all) where

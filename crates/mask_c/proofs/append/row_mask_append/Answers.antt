@@ -4,65 +4,49 @@ use Rattle.std.proofs.lemmas.List.{length-drop, length-take, take_rest}
 use Rattle.mask_bits.proofs.Lists.Words.BackingBitLemmas.{bitmap-append}
 use Rattle.mask_bits.specs.Bitmap.{bitmap}
 use Rattle.mask_c.specs.Bitmap.{AreClearBehind}
-use Rattle.mask_c.proofs.AppendLemmas.{full_or_none, same_end, appended-values, appended-clear, appended-behind}
+use Rattle.mask_c.proofs.AppendLemmas.{ArePut, full_or_none, same_end, appended-values, appended-clear, appended-behind}
 use borrow.Rule.Slice.PartMut.{put_mid}
 use Rattle.mask_c.proofs.append.row_mask_append.Goals as goal
+use Rattle.mask_c.proofs.append.row_mask_append.Goals.{After-row_mask_copy}
+
+put : (c : After-row_mask_copy) → ArePut c.fill_last-filled.new.bytes c.row_mask_copy.new.out c.div_ceil.result (c.args.len + c.fill_last-filled.result) (c.args.more_len - c.fill_last-filled.result)
+put c =
+    let xs = c.fill_last-filled.new.bytes in
+    let k = c.div_ceil.result in
+    let count = c.fill_last-filled.ensures.count in
+    record {
+      room = omega (arith, c.div_ceil.ensures, c.fill_last-filled.auto.bytes, c.requires.room);
+      len = c.row_mask_copy.auto.out ∙ ap (λ (us : List ℕ). length us) (take_rest xs k) ∙ length-drop k xs;
+      end = c.div_ceil.ensures ∙ same_end c.args.len c.args.more_len c.fill_last-filled.result (omega (arith, c.div_ceil.ensures, count));
+      covers = omega (arith, c.row_mask_copy.auto.out, length-drop k xs, length-take (length xs - k) (drop k xs), c.div_ceil.ensures, c.fill_last-filled.auto.bytes, count, c.requires.room);
+      either = full_or_none c.args.len c.args.more_len k c.fill_last-filled.result c.div_ceil.ensures (omega (arith, c.div_ceil.ensures, count));
+    }
 
 pub returns-clause-values : goal.returns-clause-values
 returns-clause-values c =
     let old = c.args.bytes.now in
     let more = c.args.more.now in
     let offset = c.args.more_offset in
-    let xs = c.fill_last-filled.new.bytes in
-    let ys = c.row_mask_copy.new.out in
-    let k = c.div_ceil.result in
     let len = c.args.len in
     let filled = c.fill_last-filled.result in
     let rest = c.args.more_len - filled in
     let all : len + c.args.more_len ≡ len + filled + rest = omega (arith, c.fill_last-filled.ensures.count) in
     let each : filled + rest ≡ c.args.more_len = omega (arith, c.fill_last-filled.ensures.count) in
     ap (bitmap _ 0) all
-    ∙ appended-values xs ys k (len + filled) rest _ _
-    (omega (arith, c.div_ceil.ensures, c.fill_last-filled.auto.bytes, c.requires.room))
-    (c.row_mask_copy.auto.out ∙ ap (λ (us : List ℕ). length us) (take_rest xs k) ∙ length-drop k xs)
-    (omega (arith, c.div_ceil.ensures, c.fill_last-filled.ensures.count))
-    (omega (arith, c.row_mask_copy.auto.out, length-drop k xs, length-take (length xs - k) (drop k xs), c.div_ceil.ensures, c.fill_last-filled.auto.bytes, c.fill_last-filled.ensures.count, c.requires.room))
-    (full_or_none len c.args.more_len k filled c.div_ceil.ensures (omega (arith, c.div_ceil.ensures, c.fill_last-filled.ensures.count)))
-    c.fill_last-filled.ensures.values c.row_mask_copy.ensures.values
+    ∙ appended-values _ _ _ (len + filled) rest _ _ (put (goal.at.returns-clause-values c).After-row_mask_copy) c.fill_last-filled.ensures.values c.row_mask_copy.ensures.values
     ∙ append_assoc (bitmap old 0 len) (bitmap more offset filled) (bitmap more (offset + filled) rest)
     ∙ ap (λ (us : List Bool). bitmap old 0 len ++ us) (sym (bitmap-append more offset filled rest) ∙ ap (bitmap more offset) each)
 
 pub returns-clause-clear : goal.returns-clause-clear
 returns-clause-clear c =
-    let xs = c.fill_last-filled.new.bytes in
-    let ys = c.row_mask_copy.new.out in
-    let k = c.div_ceil.result in
-    let len = c.args.len in
-    let filled = c.fill_last-filled.result in
-    let rest = c.args.more_len - filled in
-    let all : len + filled + rest ≡ len + c.args.more_len = omega (arith, c.fill_last-filled.ensures.count) in
-    subst (AreClearBehind _) all (appended-clear xs ys k (len + filled) rest
-    (omega (arith, c.div_ceil.ensures, c.fill_last-filled.auto.bytes, c.requires.room))
-    (c.row_mask_copy.auto.out ∙ ap (λ (us : List ℕ). length us) (take_rest xs k) ∙ length-drop k xs)
-    (c.div_ceil.ensures ∙ same_end len c.args.more_len filled (omega (arith, c.div_ceil.ensures, c.fill_last-filled.ensures.count)))
-    (omega (arith, c.row_mask_copy.auto.out, length-drop k xs, length-take (length xs - k) (drop k xs), c.div_ceil.ensures, c.fill_last-filled.auto.bytes, c.fill_last-filled.ensures.count, c.requires.room))
-    (full_or_none len c.args.more_len k filled c.div_ceil.ensures (omega (arith, c.div_ceil.ensures, c.fill_last-filled.ensures.count)))
-    c.fill_last-filled.ensures.clear c.row_mask_copy.ensures.clear)
+    let all : c.args.len + c.fill_last-filled.result + (c.args.more_len - c.fill_last-filled.result) ≡ c.args.len + c.args.more_len = omega (arith, c.fill_last-filled.ensures.count) in
+    subst (AreClearBehind _) all (appended-clear _ _ _ _ _ (put (goal.at.returns-clause-clear c).After-row_mask_copy) c.fill_last-filled.ensures.clear c.row_mask_copy.ensures.clear)
 
 pub returns-clause-behind : goal.returns-clause-behind
 returns-clause-behind c =
     let old = c.args.bytes.now in
     let xs = c.fill_last-filled.new.bytes in
-    let ys = c.row_mask_copy.new.out in
     let k = c.div_ceil.result in
-    let len = c.args.len in
-    let filled = c.fill_last-filled.result in
-    let rest = c.args.more_len - filled in
-    let all : len + filled + rest ≡ len + c.args.more_len = omega (arith, c.fill_last-filled.ensures.count) in
-    subst (λ n. drop (div_ceil n 8) (put_mid k (length xs - k) xs ys) ≡ drop (div_ceil n 8) old) all (appended-behind old xs ys _ k (len + filled) rest
-    (omega (arith, c.div_ceil.ensures, c.fill_last-filled.auto.bytes, c.requires.room))
-    (c.row_mask_copy.auto.out ∙ ap (λ (us : List ℕ). length us) (take_rest xs k) ∙ length-drop k xs)
-    (c.div_ceil.ensures ∙ same_end len c.args.more_len filled (omega (arith, c.div_ceil.ensures, c.fill_last-filled.ensures.count)))
-    (omega (arith, c.row_mask_copy.auto.out, length-drop k xs, length-take (length xs - k) (drop k xs), c.div_ceil.ensures, c.fill_last-filled.auto.bytes, c.fill_last-filled.ensures.count, c.requires.room))
-    (full_or_none len c.args.more_len k filled c.div_ceil.ensures (omega (arith, c.div_ceil.ensures, c.fill_last-filled.ensures.count)))
-    (take_rest xs k) (subst (λ n. drop n xs ≡ drop n old) (sym c.div_ceil.ensures) c.fill_last-filled.ensures.behind) c.row_mask_copy.ensures.behind)
+    let all : c.args.len + c.fill_last-filled.result + (c.args.more_len - c.fill_last-filled.result) ≡ c.args.len + c.args.more_len = omega (arith, c.fill_last-filled.ensures.count) in
+    subst (λ n. drop (div_ceil n 8) (put_mid k (length xs - k) xs c.row_mask_copy.new.out) ≡ drop (div_ceil n 8) old) all
+    (appended-behind old xs _ _ k _ _ (put (goal.at.returns-clause-behind c).After-row_mask_copy) (take_rest xs k) (subst (λ n. drop n xs ≡ drop n old) (sym c.div_ceil.ensures) c.fill_last-filled.ensures.behind) c.row_mask_copy.ensures.behind)

@@ -1,8 +1,7 @@
 use Rattle.std.proofs.Common.{Bool, List, ◌*◌, ◌/◌, false, length, get_or, drop, refl, ap, ◌∙◌, arith}
 use Rattle.std.proofs.lemmas.List.{length-take, take_rest}
-use Rattle.std.proofs.lemmas.Slice.{drop-append-drop}
 use Rattle.mask_bits.proofs.Lists.Words.WordLemmas.{length-word_bits}
-use Rattle.mask_c.proofs.LastLemmas.{written-list, written-whole}
+use Rattle.mask_c.proofs.LastLemmas.{behind-last, written-list, written-whole}
 use Rattle.mask_c.proofs.bools.row_mask_from_bools.Goals as goal
 
 pub returns-then-rest-ne0-clause-values : goal.returns-then-rest-ne0-clause-values
@@ -15,12 +14,7 @@ returns-then-rest-ne0-clause-values c =
     c.put_last.ensures.before c.put_last.ensures.list
 
 pub returns-then-rest-ne0-clause-behind : goal.returns-then-rest-ne0-clause-behind
-returns-then-rest-ne0-clause-behind c =
-    let len = length c.args.values.now in
-    ap (λ n. drop n c.put_last.new.out) (omega arith)
-    ∙ c.put_last.ensures.behind
-    ∙ drop-append-drop (8 * (len / 64)) c.args.out.now c.put_bools.new.bytes _ (omega arith) (omega (arith, c.put_bools.auto.bytes, length-take (8 * (len / 64)) c.args.out.now, c.requires))
-    ∙ ap (λ n. drop n c.args.out.now) (omega arith)
+returns-then-rest-ne0-clause-behind c = behind-last c.args.out.now c.put_bools.new.bytes c.put_last.new.out (length c.args.values.now) c.requires c.put_bools.auto.bytes c.put_last.ensures.behind
 
 pub returns-else-rest-ne0-clause-values : goal.returns-else-rest-ne0-clause-values
 returns-else-rest-ne0-clause-values c =

@@ -5,7 +5,9 @@ use Rattle.mask_bits.specs.Positions.{chosen, count, positions}
 use Rattle.mask_bits.specs.Words.{word_bits}
 use Rattle.mask_bits.proofs.Lists.Places.SelectLemmas.{count-word_more}
 use Rattle.mask_bits.proofs.Lists.Words.PaddedLemmas.{padded_part-whole}
-use Rattle.mask_c.proofs.ChooseLemmas.{rows_at, rows-next, part-within, count_below-le-count, rows-all}
+use Rattle.vortex_mask.proofs.Kernels.WordKernelLemmas.{count_below-le}
+use Rattle.mask_c.specs.Strings.{items_at}
+use Rattle.mask_c.proofs.ChooseLemmas.{rows-next, part-within, rows-all}
 use Rattle.mask_c.proofs.choose.choose.Goals as goal
 
 pub choose_by_word-at-requires-clause-within : goal.choose_by_word-at-requires-clause-within
@@ -23,7 +25,7 @@ choose_by_word-at-requires-clause-room g c =
     let m = c.new-chunks.result in
     let i = c.loop-i.i in
     let shows = c.word.ensures ∙ padded_part-whole m i (omega (arith, c.loop-i-test, c.len-whole.ensures)) in
-    omega (arith, c.loop-i.invariant.counted, ap count shows, count-word_more m i, count_below-le-count m (64 * (i + 1)), ap count c.new-chunks.ensures.list, c.requires.room, c.loop-i.auto.out)
+    omega (arith, c.loop-i.invariant.counted, ap count shows, count-word_more m i, count_below-le m (64 * (i + 1)), ap count c.new-chunks.ensures.list, c.requires.room, c.loop-i.auto.out)
 
 pub loop-i-preserved : goal.loop-i-preserved
 loop-i-preserved g c =
@@ -51,7 +53,7 @@ choose_by_word-at-requires-then-whole-started-clause-room g c =
     let m = c.new-chunks.result in
     let i = c.len-whole.result in
     let all : c.loop-i.i ≡ i = omega (arith, c.loop-i-test) in
-    omega (arith, c.loop-i.invariant.counted, ap (λ n. count (take (64 * n) m)) all, ap count c.started_word.ensures, count-word_more m i, count_below-le-count m (64 * (i + 1)), ap count c.new-chunks.ensures.list, c.requires.room, c.loop-i.auto.out)
+    omega (arith, c.loop-i.invariant.counted, ap (λ n. count (take (64 * n) m)) all, ap count c.started_word.ensures, count-word_more m i, count_below-le m (64 * (i + 1)), ap count c.new-chunks.ensures.list, c.requires.room, c.loop-i.auto.out)
 
 pub returns-then-whole-started : goal.returns-then-whole-started
 returns-then-whole-started g c =
@@ -62,7 +64,7 @@ returns-then-whole-started g c =
     let last = c.choose_by_word-at-then-whole-started in
     record {
       front = rows-next rows _ c.loop-i.out last.new.out m i c.started_word.result c.loop-i.at _ (omega (arith, c.len-whole.ensures)) (take_rest rows (64 * i)) c.started_word.ensures
-          (c.loop-i.invariant.rows ∙ ap (λ n. rows_at rows (positions (take (64 * n) m))) all) last.ensures.rows
+          (c.loop-i.invariant.rows ∙ ap (λ n. items_at rows (positions (take (64 * n) m))) all) last.ensures.rows
           ∙ rows-all rows m (64 * (i + 1)) (omega (arith, c.len-whole.ensures))
           ∙ ap (chosen rows) c.new-chunks.ensures.list;
       counted = omega (arith, last.ensures.count, c.loop-i.invariant.counted, ap (λ n. count (take (64 * n) m)) all, ap count c.started_word.ensures, count-word_more m i, ap count (take_all (64 * (i + 1)) m (omega (arith, c.len-whole.ensures))), ap count c.new-chunks.ensures.list);

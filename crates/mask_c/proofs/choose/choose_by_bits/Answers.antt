@@ -9,7 +9,8 @@ use Rattle.mask_bits.specs.Words.{word_bits}
 use Rattle.mask_bits.proofs.Lists.ChooseLemmas.{chosen-step}
 use Rattle.mask_bits.proofs.Lists.Words.LowestLemmas.{low}
 use Rattle.mask_bits.proofs.Lists.Places.SelectLemmas.{positions-lowest}
-use Rattle.mask_c.proofs.ChooseLemmas.{rows_at, lowest-within, no_bits}
+use Rattle.mask_c.specs.Strings.{items_at}
+use Rattle.mask_c.proofs.ChooseLemmas.{lowest-within, no_bits}
 use Rattle.mask_c.proofs.choose.choose_by_bits.Goals as goal
 
 pub bounds-rows-word : goal.bounds-rows-word
@@ -38,17 +39,17 @@ loop-word-preserved g c =
     let read = slice_get-get_or rows (low w) row (All-head inside (low w) rest still) ∙ ap Some (sym c.index-rows-word.is) in
     let next : at + 1 ≡ suc at = omega arith in
     record {
-      rows = ap (λ n. take n (set out at row) ++ rows_at rows rest) next
-          ∙ ap (λ xs. xs ++ rows_at rows rest) (take-suc-set out at row (omega (arith, ap length first, c.loop-word.invariant.counted, c.requires.room, c.loop-word.auto.out)))
+      rows = ap (λ n. take n (set out at row) ++ items_at rows rest) next
+          ∙ ap (λ xs. xs ++ items_at rows rest) (take-suc-set out at row (omega (arith, ap length first, c.loop-word.invariant.counted, c.requires.room, c.loop-word.auto.out)))
           ∙ sym (chosen-step rows (take at out) (low w) rest row read)
-          ∙ ap (λ (ps : List ℕ). take at out ++ rows_at rows ps) (sym first)
+          ∙ ap (λ (ps : List ℕ). take at out ++ items_at rows ps) (sym first)
           ∙ c.loop-word.invariant.rows;
       counted = omega (arith, ap length first, c.loop-word.invariant.counted);
       within = All-tail inside (low w) rest still;
     }
 
 pub returns-clause-rows : goal.returns-clause-rows
-returns-clause-rows g c = grind (arith, no_bits, append-nil, rows_at)
+returns-clause-rows g c = grind (arith, no_bits, append-nil, items_at)
 
 pub returns-clause-count : goal.returns-clause-count
 returns-clause-count g c = omega (arith, ap length (no_bits c.loop-word.word c.loop-word-test.false), c.loop-word.invariant.counted)

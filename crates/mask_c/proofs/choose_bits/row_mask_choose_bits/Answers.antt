@@ -8,7 +8,7 @@ use Rattle.mask_bits.proofs.Lists.Places.PlaceLemmas.{count-le-length}
 use Rattle.mask_bits.proofs.Lists.Words.ExtractLemmas.{take-extracted}
 use Rattle.mask_bits.proofs.Lists.Words.WordLemmas.{count-word_bits}
 use Rattle.mask_c.proofs.ChooseBitsLemmas.{chosen-word_more, counted-word_more, extracted-clear, nothing_yet}
-use Rattle.mask_c.proofs.ChooseLemmas.{count_below-le-count}
+use Rattle.vortex_mask.proofs.Kernels.WordKernelLemmas.{count_below-le}
 use Rattle.mask_c.proofs.LastLemmas.{front-split}
 use Rattle.mask_c.proofs.StringLemmas.{behind-later}
 use Rattle.mask_c.proofs.choose_bits.row_mask_choose_bits.Goals as goal
@@ -29,12 +29,12 @@ put_behind-begun-requires-clause-word c = λ j from.
 pub put_behind-begun-requires-clause-room : goal.put_behind-begun-requires-clause-room
 put_behind-begun-requires-clause-room c =
     let m = c.new-masks.result in
-    omega (arith, counted-word_more m c.loop-i.i c.loop-i.at c.started_word-mask.result c.started_word-mask.type_inv c.loop-i.invariant.counted c.started_word-mask.ensures, count_below-le-count m (64 * (c.loop-i.i + 1)), ap count c.new-masks.ensures.list, c.requires.room, c.loop-i.auto.out)
+    omega (arith, counted-word_more m c.loop-i.i c.loop-i.at c.started_word-mask.result c.started_word-mask.type_inv c.loop-i.invariant.counted c.started_word-mask.ensures, count_below-le m (64 * (c.loop-i.i + 1)), ap count c.new-masks.ensures.list, c.requires.room, c.loop-i.auto.out)
 
 pub overflow_add-at : goal.overflow_add-at
 overflow_add-at c =
     let m = c.new-masks.result in
-    omega (arith, counted-word_more m c.loop-i.i c.loop-i.at c.started_word-mask.result c.started_word-mask.type_inv c.loop-i.invariant.counted c.started_word-mask.ensures, count_below-le-count m (64 * (c.loop-i.i + 1)), count-le-length m, c.started_words-i-end.ensures.fits)
+    omega (arith, counted-word_more m c.loop-i.i c.loop-i.at c.started_word-mask.result c.started_word-mask.type_inv c.loop-i.invariant.counted c.started_word-mask.ensures, count_below-le m (64 * (c.loop-i.i + 1)), count-le-length m, c.started_words-i-end.ensures.fits)
 
 pub loop-i-preserved : goal.loop-i-preserved
 loop-i-preserved c =

@@ -3,7 +3,8 @@ use Rattle.std.proofs.lemmas.List.{ext_get_or, get_or-map, length-map}
 use Rattle.std.proofs.lemmas.List.Elements.{All-get_or}
 use Rattle.mask_bits.specs.Bitmap.{bitmap}
 use Rattle.mask_bits.specs.Positions.{count_below}
-use Rattle.mask_c.proofs.BitmapLemmas.{count-runs_on, count_below-le}
+use Rattle.vortex_mask.proofs.Masks.ReadingLemmas.{count_below-le}
+use Rattle.mask_c.proofs.BitmapLemmas.{count-runs_on}
 use Rattle.mask_c.proofs.counts.row_mask_counts_below.Goals as goal
 
 pub overflow_add-below : goal.overflow_add-below

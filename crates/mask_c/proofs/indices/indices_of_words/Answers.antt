@@ -2,7 +2,7 @@ use Rattle.std.proofs.Common.{Bool, List, ◌<◌, ◌+◌, ◌*◌, ◌^◌, le
 use Rattle.std.specs.List.{All}
 use Rattle.std.proofs.lemmas.List.{take_all}
 use Rattle.mask_bits.specs.Positions.{count, indices_from, positions}
-use Rattle.mask_c.proofs.ChooseLemmas.{count_below-le-count}
+use Rattle.vortex_mask.proofs.Kernels.WordKernelLemmas.{count_below-le}
 use Rattle.mask_c.proofs.IndexLemmas.{bitmap-rest, indices-within, all_indices, first_indices, word_done, word_counted}
 use Rattle.mask_c.proofs.indices.indices_of_words.Goals as goal
 
@@ -52,7 +52,7 @@ returns-then-at-out-clause-count c =
     let put = c.indices_of_word-at in
     let many = word_counted m i c.loop-i.at put.result _ (length c.loop-i.out) c.started_word.ensures c.loop-i.invariant.counted put.ensures.count in
     let rest = c.new-chunks.ensures.list ∙ bitmap-rest c.args.bytes.now c.args.offset c.args.len c.args.from c.requires.within in
-    omega (arith, many, c.if-at-out.true, put.auto.out, c.loop-i.auto.out, count_below-le-count m (64 * (i + 1)), ap count rest)
+    omega (arith, many, c.if-at-out.true, put.auto.out, c.loop-i.auto.out, count_below-le m (64 * (i + 1)), ap count rest)
 
 pub returns-clause-indices : goal.returns-clause-indices
 returns-clause-indices c =

@@ -1,5 +1,6 @@
 use Rattle.std.proofs.Common.{◌-◌, ◌<◌, get_or, length, arith}
-use Rattle.mask_c.proofs.LastRankLemmas.{pow_in_word, gathered-none, gathered-more, gathered-split, gathered-bits}
+use Rattle.std.proofs.lemmas.Nat.{one_shl}
+use Rattle.mask_c.proofs.LastRankLemmas.{gathered-none, gathered-more, gathered-split, gathered-bits}
 use Rattle.mask_c.proofs.intersect.last_ranks.Goals as goal
 
 pub loop-cut-init : goal.loop-cut-init
@@ -24,7 +25,7 @@ loop-cut-preserved c =
     let inside : cut - 1 < length ranks = omega (arith, c.loop-cut.invariant.within, c.loop-cut-test.true) in
     let few : get_or ranks (cut - 1) 0 - c.args.from < 64 = omega (arith, c.requires.few (cut - 1) 0 inside) in
     gathered-more ranks c.args.from cut c.loop-cut.bits _ c.loop-cut-test.true c.if-ranks-cut.true
-    (pow_in_word (get_or ranks (cut - 1) 0 - c.args.from) few) c.loop-cut.invariant
+    (one_shl (get_or ranks (cut - 1) 0 - c.args.from) 64 few) c.loop-cut.invariant
 
 pub returns-else-ranks-cut-clause-split : goal.returns-else-ranks-cut-clause-split
 returns-else-ranks-cut-clause-split c =
@@ -32,9 +33,7 @@ returns-else-ranks-cut-clause-split c =
 
 pub returns-else-ranks-cut-clause-bits : goal.returns-else-ranks-cut-clause-bits
 returns-else-ranks-cut-clause-bits c =
-    gathered-bits c.args.ranks.now c.args.from c.loop-cut.cut c.loop-cut.bits
-    (gathered-split c.args.ranks.now c.args.from c.loop-cut.cut c.loop-cut.bits c.requires.ascending (λ h. c.if-ranks-cut.false) c.loop-cut.invariant)
-    c.loop-cut.invariant
+    gathered-bits c.args.ranks.now c.args.from c.loop-cut.cut c.loop-cut.bits c.requires.ascending (λ h. c.if-ranks-cut.false) c.loop-cut.invariant
 
 pub returns-after-loop-cut-clause-split : goal.returns-after-loop-cut-clause-split
 returns-after-loop-cut-clause-split c =
@@ -42,6 +41,4 @@ returns-after-loop-cut-clause-split c =
 
 pub returns-after-loop-cut-clause-bits : goal.returns-after-loop-cut-clause-bits
 returns-after-loop-cut-clause-bits c =
-    gathered-bits c.args.ranks.now c.args.from c.loop-cut.cut c.loop-cut.bits
-    (gathered-split c.args.ranks.now c.args.from c.loop-cut.cut c.loop-cut.bits c.requires.ascending (λ h. absurd (omega (arith, h, c.loop-cut-test.false))) c.loop-cut.invariant)
-    c.loop-cut.invariant
+    gathered-bits c.args.ranks.now c.args.from c.loop-cut.cut c.loop-cut.bits c.requires.ascending (λ h. absurd (omega (arith, h, c.loop-cut-test.false))) c.loop-cut.invariant

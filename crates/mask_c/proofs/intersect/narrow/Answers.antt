@@ -1,11 +1,10 @@
 use Rattle.std.proofs.Common.{◌≡◌, ◌+◌, ◌*◌, ◌/◌, ◌%◌, ◌-◌, drop, take, ap, ap₂, ◌∙◌, arith}
 use Rattle.std.proofs.lemmas.List.{length-take}
-use Rattle.std.proofs.lemmas.Slice.{drop-append-drop}
 use Rattle.mask_bits.specs.Bitmap.{bitmap}
 use Rattle.mask_bits.specs.Positions.{rank_intersection}
 use Rattle.mask_bits.proofs.Lists.Words.FrontLemmas.{window-take}
 use Rattle.mask_bits.proofs.Lists.Words.BackingBitLemmas.{count-bitmap-le}
-use Rattle.mask_c.proofs.LastLemmas.{count-split, front-appended, written-narrowed}
+use Rattle.mask_c.proofs.LastLemmas.{behind-last, count-split, front-appended, written-narrowed}
 use Rattle.mask_c.proofs.intersect.narrow.Goals as goal
 
 pub overflow_sub-before : goal.overflow_sub-before
@@ -35,11 +34,7 @@ returns-then-rest-ne0-clause-values c =
     ∙ ap (λ n. rank_intersection (bitmap c.args.bytes.now c.args.offset c.args.len) (bitmap c.args.ranks.now c.args.ranks_offset n)) all
 
 pub returns-then-rest-ne0-clause-behind : goal.returns-then-rest-ne0-clause-behind
-returns-then-rest-ne0-clause-behind c =
-    ap (λ n. drop n c.put_last.new.out) (omega arith)
-    ∙ c.put_last.ensures.behind
-    ∙ drop-append-drop (8 * (c.args.len / 64)) c.args.out.now c.narrow_whole.new.out _ (omega arith) (omega (arith, c.narrow_whole.auto.out, length-take (8 * (c.args.len / 64)) c.args.out.now, c.requires.room))
-    ∙ ap (λ n. drop n c.args.out.now) (omega arith)
+returns-then-rest-ne0-clause-behind c = behind-last c.args.out.now c.narrow_whole.new.out c.put_last.new.out c.args.len c.requires.room c.narrow_whole.auto.out c.put_last.ensures.behind
 
 pub returns-else-rest-ne0-clause-values : goal.returns-else-rest-ne0-clause-values
 returns-else-rest-ne0-clause-values c =

@@ -1,12 +1,11 @@
 use Rattle.std.proofs.Common.{ℕ, Bool, List, false, get_or, subst, ◌≡◌, ◌<◌, ◌+◌, ◌*◌, ◌/◌, ◌%◌, ◌-◌, drop, take, ap, ap₂, ◌∙◌, sym, arith}
 use Rattle.std.proofs.lemmas.List.{length-take}
-use Rattle.std.proofs.lemmas.Slice.{drop-append-drop}
 use Rattle.std.specs.List.{All}
 use Rattle.mask_bits.specs.Bitmap.{bitmap}
 use Rattle.mask_bits.specs.Positions.{at_indices, count, positions, true_at}
 use Rattle.mask_bits.proofs.Lists.Words.BackingBitLemmas.{count-bitmap-le, get_or-bitmap}
 use Rattle.mask_bits.proofs.Lists.Words.FrontLemmas.{get_or-window, window-take}
-use Rattle.mask_c.proofs.LastLemmas.{count-split, front-appended}
+use Rattle.mask_c.proofs.LastLemmas.{behind-last, count-split, front-appended}
 use Rattle.mask_c.proofs.LastRankLemmas.{below-all, ranks-all, written-at_ranks}
 use Rattle.mask_c.proofs.intersect.narrow_at.Goals as goal
 
@@ -55,11 +54,7 @@ returns-then-rest-ne0-clause-values g c =
     (c.put_last.ensures.list ∙ ap (take (c.args.len % 64)) c.word_of.ensures ∙ window-take last 0 (c.args.len % 64) (omega arith))
 
 pub returns-then-rest-ne0-clause-behind : goal.returns-then-rest-ne0-clause-behind
-returns-then-rest-ne0-clause-behind g c =
-    ap (λ n. drop n c.put_last.new.out) (omega arith)
-    ∙ c.put_last.ensures.behind
-    ∙ drop-append-drop (8 * (c.args.len / 64)) c.args.out.now c.narrow_words_at.new.out _ (omega arith) (omega (arith, c.narrow_words_at.auto.out, length-take (8 * (c.args.len / 64)) c.args.out.now, c.requires.room))
-    ∙ ap (λ n. drop n c.args.out.now) (omega arith)
+returns-then-rest-ne0-clause-behind g c = behind-last c.args.out.now c.narrow_words_at.new.out c.put_last.new.out c.args.len c.requires.room c.narrow_words_at.auto.out c.put_last.ensures.behind
 
 pub returns-else-rest-ne0-clause-values : goal.returns-else-rest-ne0-clause-values
 returns-else-rest-ne0-clause-values g c =

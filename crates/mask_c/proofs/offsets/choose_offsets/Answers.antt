@@ -1,44 +1,43 @@
-use Rattle.std.proofs.Common.{◌≡◌, ◌+◌, ◌*◌, ◌++◌, length, take, drop, map, refl, sym, ap, ◌∙◌, arith}
+use Rattle.std.proofs.Common.{◌≡◌, ◌+◌, ◌*◌, ◌≤◌, ◌++◌, length, take, drop, map, refl, sym, ap, ◌∙◌, arith}
 use Rattle.std.specs.List.{sum}
 use Rattle.std.proofs.lemmas.List.{drop-set-lt, length-map, length-take, take_all, take_more_set}
+use Rattle.mask_bits.specs.Bitmap.{bitmap}
 use Rattle.mask_bits.specs.Positions.{chosen, count, positions}
 use Rattle.mask_c.specs.Strings.{ends_from, items_at, offsets_of, sizes}
-use Rattle.mask_c.proofs.ChooseLemmas.{count_below-le-count}
-use Rattle.mask_c.proofs.StringLemmas.{behind-further, items-all, offsets-word, sum-below, sum-parts, word-counted, word-within}
+use Rattle.vortex_mask.proofs.Kernels.WordKernelLemmas.{count_below-le}
+use Rattle.mask_c.proofs.StringLemmas.{behind-further, items-all, offsets-word, sum-parts, sum-word, word-counted, word-within}
+use Rattle.mask_c.proofs.offsets.choose_offsets.Given.{Over}
 use Rattle.mask_c.proofs.offsets.choose_offsets.Goals as goal
+use Rattle.mask_c.proofs.offsets.choose_offsets.Goals.{After-indices_in_word-some}
 
 pub put_ends-end-requires-clause-within : goal.put_ends-end-requires-clause-within
 put_ends-end-requires-clause-within g c = word-within c.new-chunks.result _ _ c.loop-i.i (length c.args.offsets.now) c.indices_in_word-some.ensures.indices (omega (arith, c.requires.offsets, c.new-chunks.ensures.len))
 
+-- the sizes so far and those of the word are no more than those of the chosen strings
+more : (g : Over) (c : After-indices_in_word-some g)
+    → c.loop-i.end + sum (items_at (sizes (map g.O.Offset.number c.args.offsets.now)) (take c.indices_in_word-some.result c.indices_in_word-some.new.block))
+    ≤ sum (chosen (sizes (map g.O.Offset.number c.args.offsets.now)) (bitmap c.args.bytes.now c.args.offset c.args.len))
+more g c = omega (arith, c.loop-i.invariant.total, sum-word (sizes (map g.O.Offset.number c.args.offsets.now)) c.new-chunks.result _ c.loop-i.i _ c.indices_in_word-some.ensures.indices c.new-chunks.ensures.list)
+
 pub put_ends-end-requires-clause-fits : goal.put_ends-end-requires-clause-fits
-put_ends-end-requires-clause-fits g c =
-    let ls = sizes (map g.O.Offset.number c.args.offsets.now) in
-    let m = c.new-chunks.result in
-    let i = c.loop-i.i in
-    let here = take c.indices_in_word-some.result c.indices_in_word-some.new.block in
-    omega (arith, c.loop-i.invariant.total, sum-parts ls (positions (take (64 * (i + 1)) m)) (positions (take (64 * i) m)) here c.indices_in_word-some.ensures.indices, sum-below ls m (64 * (i + 1)), ap (λ x. sum (chosen ls x)) c.new-chunks.ensures.list, c.requires.fits)
+put_ends-end-requires-clause-fits g c = omega (arith, more g (goal.at.put_ends-end-requires-clause-fits g c).After-indices_in_word-some, c.requires.fits)
 
 pub put_ends-end-requires-clause-in_usize : goal.put_ends-end-requires-clause-in_usize
-put_ends-end-requires-clause-in_usize g c =
-    let ls = sizes (map g.O.Offset.number c.args.offsets.now) in
-    let m = c.new-chunks.result in
-    let i = c.loop-i.i in
-    let here = take c.indices_in_word-some.result c.indices_in_word-some.new.block in
-    omega (arith, c.loop-i.invariant.total, sum-parts ls (positions (take (64 * (i + 1)) m)) (positions (take (64 * i) m)) here c.indices_in_word-some.ensures.indices, sum-below ls m (64 * (i + 1)), ap (λ x. sum (chosen ls x)) c.new-chunks.ensures.list, c.requires.in_usize)
+put_ends-end-requires-clause-in_usize g c = omega (arith, more g (goal.at.put_ends-end-requires-clause-in_usize g c).After-indices_in_word-some, c.requires.in_usize)
 
 pub put_ends-end-requires-clause-room : goal.put_ends-end-requires-clause-room
 put_ends-end-requires-clause-room g c =
     let m = c.new-chunks.result in
     let i = c.loop-i.i in
     let here = take c.indices_in_word-some.result c.indices_in_word-some.new.block in
-    omega (arith, c.loop-i.invariant.counted, word-counted m i here c.indices_in_word-some.ensures.indices, count_below-le-count m (64 * (i + 1)), ap count c.new-chunks.ensures.list, c.requires.room, c.loop-i.auto.out, c.set_offset.auto.offsets)
+    omega (arith, c.loop-i.invariant.counted, word-counted m i here c.indices_in_word-some.ensures.indices, count_below-le m (64 * (i + 1)), ap count c.new-chunks.ensures.list, c.requires.room, c.loop-i.auto.out, c.set_offset.auto.offsets)
 
 pub overflow_add-at : goal.overflow_add-at
 overflow_add-at g c =
     let m = c.new-chunks.result in
     let i = c.loop-i.i in
     let here = take c.indices_in_word-some.result c.indices_in_word-some.new.block in
-    omega (arith, c.loop-i.invariant.counted, word-counted m i here c.indices_in_word-some.ensures.indices, count_below-le-count m (64 * (i + 1)), ap count c.new-chunks.ensures.list, c.requires.room, length-take c.indices_in_word-some.result c.indices_in_word-some.new.block, c.indices_in_word-some.array_long, c.indices_in_word-some.ensures.few)
+    omega (arith, c.loop-i.invariant.counted, word-counted m i here c.indices_in_word-some.ensures.indices, count_below-le m (64 * (i + 1)), ap count c.new-chunks.ensures.list, c.requires.room, length-take c.indices_in_word-some.result c.indices_in_word-some.new.block, c.indices_in_word-some.array_long, c.indices_in_word-some.ensures.few)
 
 pub loop-i-init : goal.loop-i-init
 loop-i-init g c =

@@ -1,8 +1,7 @@
 use Rattle.std.proofs.Common.{◌*◌, ◌/◌, drop, ap, ◌∙◌, arith}
 use Rattle.std.proofs.lemmas.List.{length-take}
-use Rattle.std.proofs.lemmas.Slice.{drop-append-drop}
 use Rattle.mask_bits.specs.Bitmap.{bitmap}
-use Rattle.mask_c.proofs.LastLemmas.{written-combined, front-appended}
+use Rattle.mask_c.proofs.LastLemmas.{behind-last, written-combined, front-appended}
 use Rattle.mask_c.proofs.pointwise.write.Goals as goal
 
 pub returns-then-len-ne0-clause-values : goal.returns-then-len-ne0-clause-values
@@ -12,11 +11,7 @@ returns-then-len-ne0-clause-values g c =
     c.put_last.ensures.before c.put_last.ensures.list
 
 pub returns-then-len-ne0-clause-behind : goal.returns-then-len-ne0-clause-behind
-returns-then-len-ne0-clause-behind g c =
-    ap (λ n. drop n c.put_last.new.out) (omega arith)
-    ∙ c.put_last.ensures.behind
-    ∙ drop-append-drop (8 * (c.args.len / 64)) c.args.out.now c.combine.new.out _ (omega arith) (omega (arith, c.combine.auto.out, length-take (8 * (c.args.len / 64)) c.args.out.now, c.requires.room))
-    ∙ ap (λ n. drop n c.args.out.now) (omega arith)
+returns-then-len-ne0-clause-behind g c = behind-last c.args.out.now c.combine.new.out c.put_last.new.out c.args.len c.requires.room c.combine.auto.out c.put_last.ensures.behind
 
 pub returns-else-len-ne0-clause-values : goal.returns-else-len-ne0-clause-values
 returns-else-len-ne0-clause-values g c =

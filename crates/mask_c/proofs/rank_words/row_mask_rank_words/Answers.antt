@@ -5,13 +5,13 @@ use Rattle.mask_bits.specs.Positions.{count, count_below}
 use Rattle.mask_bits.specs.Words.{window}
 use Rattle.mask_bits.proofs.Lists.Places.SelectLemmas.{count-word_more}
 use Rattle.mask_bits.proofs.Lists.Words.WordLemmas.{count-word_bits}
-use Rattle.mask_c.proofs.ChooseLemmas.{count_below-le-count}
+use Rattle.vortex_mask.proofs.Kernels.WordKernelLemmas.{count_below-le}
 use Rattle.mask_c.proofs.rank_words.row_mask_rank_words.Goals as goal
 
 pub read-requires : goal.read-requires
 read-requires c =
     let m = bitmap c.args.bytes.now c.args.offset c.args.len in
-    omega (arith, c.loop-i.invariant.place, count_below-le-count m (64 * (c.args.from + c.loop-i.i)), c.requires.fitting, c.requires.ranks.fits, ap (λ (b : Packed). b.offset) c.over-ranks.ensures.bits)
+    omega (arith, c.loop-i.invariant.place, count_below-le m (64 * (c.args.from + c.loop-i.i)), c.requires.fitting, c.requires.ranks.fits, ap (λ (b : Packed). b.offset) c.over-ranks.ensures.bits)
 
 pub overflow_add-at : goal.overflow_add-at
 overflow_add-at c =
@@ -19,7 +19,7 @@ overflow_add-at c =
     let m = bitmap c.args.bytes.now c.args.offset c.args.len in
     let word = get_or c.row_mask_words.new.out i 0 in
     let k = c.args.from + i in
-    omega (arith, c.loop-i.invariant.place, count-word_more m k, ap count (c.row_mask_words.ensures.words i (omega (arith, c.loop-i-test))), count-word_bits word (omega (arith, c.type_inv.words i)), count_below-le-count m (64 * (k + 1)), c.requires.fitting, c.requires.ranks.fits)
+    omega (arith, c.loop-i.invariant.place, count-word_more m k, ap count (c.row_mask_words.ensures.words i (omega (arith, c.loop-i-test))), count-word_bits word (omega (arith, c.type_inv.words i)), count_below-le m (64 * (k + 1)), c.requires.fitting, c.requires.ranks.fits)
 
 pub loop-i-preserved : goal.loop-i-preserved
 loop-i-preserved c =

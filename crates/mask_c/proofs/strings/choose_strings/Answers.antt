@@ -2,7 +2,7 @@ use Rattle.std.proofs.Common.{◌+◌, ◌*◌, ◌++◌, length, take, map, ap,
 use Rattle.std.specs.List.{concat, sum}
 use Rattle.mask_bits.specs.Positions.{chosen, positions}
 use Rattle.mask_c.specs.Strings.{items_at, sizes, strings}
-use Rattle.mask_c.proofs.StringLemmas.{behind-later, bytes-word, items-all, sum-below, sum-parts, word-within}
+use Rattle.mask_c.proofs.StringLemmas.{behind-later, bytes-word, items-all, sum-parts, sum-word, word-within}
 use Rattle.mask_c.proofs.strings.choose_strings.Goals as goal
 
 pub put_strings-at-requires-clause-within : goal.put_strings-at-requires-clause-within
@@ -11,10 +11,8 @@ put_strings-at-requires-clause-within g c = word-within c.new-chunks.result _ _ 
 pub put_strings-at-requires-clause-room : goal.put_strings-at-requires-clause-room
 put_strings-at-requires-clause-room g c =
     let ls = sizes (map g.O.Offset.number c.args.offsets.now) in
-    let m = c.new-chunks.result in
-    let i = c.loop-i.i in
     let here = take c.indices_in_word-some.result c.indices_in_word-some.new.block in
-    omega (arith, c.loop-i.invariant.size, sum-parts ls (positions (take (64 * (i + 1)) m)) (positions (take (64 * i) m)) here c.indices_in_word-some.ensures.indices, sum-below ls m (64 * (i + 1)), ap (λ x. sum (chosen ls x)) c.new-chunks.ensures.list, c.requires.room, c.loop-i.auto.out)
+    omega (arith, c.loop-i.invariant.size, sum-word ls c.new-chunks.result _ c.loop-i.i here c.indices_in_word-some.ensures.indices c.new-chunks.ensures.list, c.requires.room, c.loop-i.auto.out)
 
 pub loop-i-preserved : goal.loop-i-preserved
 loop-i-preserved g c =

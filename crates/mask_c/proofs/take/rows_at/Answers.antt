@@ -2,7 +2,8 @@ use Rattle.std.proofs.Common.{◌<◌, ◌+◌, Some, drop, length, get_or, sym,
 use Rattle.std.proofs.lemmas.List.{drop-drop, drop-set-lt, take_all}
 use Rattle.std.proofs.lemmas.List.Elements.{All-get_or}
 use Rattle.std.proofs.lemmas.Option.{slice_get-get_or}
-use Rattle.mask_c.proofs.ChooseLemmas.{rows_at, rows_at-more}
+use Rattle.mask_c.specs.Strings.{items_at}
+use Rattle.mask_c.proofs.ChooseLemmas.{rows_at-more}
 use Rattle.mask_c.proofs.take.rows_at.Goals as goal
 
 pub bounds-rows-indices : goal.bounds-rows-indices
@@ -27,4 +28,4 @@ loop-k-preserved g c =
     }
 
 pub returns-clause-rows : goal.returns-clause-rows
-returns-clause-rows g c = grind (arith, rows_at, take_all)
+returns-clause-rows g c = grind (arith, items_at, take_all)

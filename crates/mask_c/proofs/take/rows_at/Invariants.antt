@@ -1,10 +1,10 @@
 use Rattle.std.proofs.Common.{◌≡◌, drop, take}
-use Rattle.mask_c.proofs.ChooseLemmas.{rows_at}
+use Rattle.mask_c.specs.Strings.{items_at}
 use Rattle.mask_c.proofs.take.rows_at.Given as goal
 
 -- the rows at the indices so far, and what is behind them as it was
 abbrev pub invariant-loop-k : goal.invariant-loop-k
 invariant-loop-k g l = record {
-  rows : take l.k l.out ≡ rows_at l.rows (take l.k l.indices);
+  rows : take l.k l.out ≡ items_at l.rows (take l.k l.indices);
   behind : drop l.k l.out ≡ drop l.k l.fn.out;
 }
