@@ -4,6 +4,7 @@ use Rattle.std.specs.Int.{bit_at}
 use Rattle.std.proofs.lemmas.Nat.{pow_pos, shr-shr, and_mask, one_shl, ones_cat, mod-pow-add}
 use Rattle.std.proofs.lemmas.Bool.{cases_lt}
 use Rattle.vortex_mask.specs.Bytes.{byte_at}
+use Rattle.mask_bits.proofs.Lists.Words.ShiftLemmas.{bit_at-mod}
 use Rattle.mask_bits.proofs.Lists.Words.WordLemmas.{ones_below-more}
 use Rattle.vortex_mask.specs.Deposit.{Deposits}
 use Rattle.vortex_mask.proofs.Deposits.ByteLemmas.{byte_at-zero, byte_at-suc, byte_at_add, byte_at-low, bit_at_byte}
@@ -62,9 +63,6 @@ ones_below-in_byte w j (suc t) h =
     let f : suc t ≡ t + 1 = omega arith in
     omega (arith, ap (ones_below w) e, ones_below-more w (8 * j + t), ones_below-in_byte w j t (omega arith), ap (ones_below (byte_at w j)) f, ones_below-more (byte_at w j) t, bit_at_byte w j t (omega arith))
 
-bit_at-low : (y n : ℕ) → n < 8 → bit_at (y % 2 ^ 8) n ≡ bit_at y n
-bit_at-low y n h = ap (λ v. bit_at v n) (sym (byte_at-zero y)) ∙ sym (bit_at_byte y 0 n h) ∙ ap (bit_at y) (zero-add n)
-
 pub Deposits-from_bytes : (s m r : ℕ) → ((j : ℕ) → j < 8 → byte_at r j ≡ deposit 8 (s / 2 ^ ones_below m (8 * j) % 2 ^ 8) (byte_at m j)) → Deposits s m r
 Deposits-from_bytes s m r h = Deposits-from_bits s m r (λ i inside.
     let j = i / 8 in
@@ -75,7 +73,7 @@ Deposits-from_bytes s m r h = Deposits-from_bits s m r (λ i inside.
     let n = ones_below b t in
     let small : n < 8 = omega (arith, ones_below-le b t) in
     let there : bit_at (s / 2 ^ from % 2 ^ 8) n ≡ bit_at s (ones_below m i) =
-    bit_at-low (s / 2 ^ from) n small ∙ ap (λ x. x % 2) (shr-shr s from n) ∙ ap (bit_at s) (sym (ones_below-in_byte m j t (omega arith)) ∙ ap (ones_below m) e) in
+    bit_at-mod (s / 2 ^ from) 8 n small ∙ ap (λ x. x % 2) (shr-shr s from n) ∙ ap (bit_at s) (sym (ones_below-in_byte m j t (omega arith)) ∙ ap (ones_below m) e) in
     ap (bit_at r) (sym e) ∙ bit_at_byte r j t (omega arith) ∙ ap (λ v. bit_at v t) (h j (omega arith)) ∙ bit_at-deposit 8 _ b t (omega arith)
     ∙ ap₂ min (sym (bit_at_byte m j t (omega arith)) ∙ ap (bit_at m) e) there)
 

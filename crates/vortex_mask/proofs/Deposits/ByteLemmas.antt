@@ -31,15 +31,15 @@ byte_at_add a b (suc j) h =
     ∙ byte_at_add (a / 256) (b / 256) j (λ i l. omega (arith, h (suc i) (omega arith), byte_at-suc a i, byte_at-suc b i))
     ∙ sym (ap₂ (λ x y. x + y) (byte_at-suc a j) (byte_at-suc b j))
 
--- a word keeps the low bytes
-low_split : (k x : ℕ) → x % 256 ^ suc k ≡ x / 256 % 256 ^ k * 256 + x % 256
-low_split k x = ap (λ y. x % y) (pow-suc 256 k) ∙ mod-mul x (one-le-pow k 256 (omega arith)) (omega arith)
+-- the lowest digit of those that are kept
+pub low_split : (b k x : ℕ) → 0 < b → x % b ^ suc k ≡ x / b % b ^ k * b + x % b
+low_split b k x some = ap (λ y. x % y) (pow-suc b k) ∙ mod-mul x (one-le-pow k b some) some
 
 pub byte_at-low : (k x j : ℕ) → j < k → byte_at (x % 256 ^ k) j ≡ byte_at x j
 byte_at-low zero x j h = absurd (omega arith)
-byte_at-low (suc k) x zero h = omega (arith, low_split k x, byte_at-zero (x % 256 ^ suc k), byte_at-zero x)
+byte_at-low (suc k) x zero h = omega (arith, low_split 256 k x (omega arith), byte_at-zero (x % 256 ^ suc k), byte_at-zero x)
 byte_at-low (suc k) x (suc j) h =
-    let e : x % 256 ^ suc k / 256 ≡ x / 256 % 256 ^ k = omega (arith, low_split k x) in
+    let e : x % 256 ^ suc k / 256 ≡ x / 256 % 256 ^ k = omega (arith, low_split 256 k x (omega arith)) in
     byte_at-suc _ j ∙ ap (λ y. byte_at y j) e ∙ byte_at-low k (x / 256) j (omega arith) ∙ sym (byte_at-suc x j)
 
 -- ---- bits

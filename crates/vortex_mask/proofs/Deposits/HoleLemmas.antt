@@ -2,8 +2,10 @@
 use Rattle.std.proofs.Common.{◌≡◌, ℕ, zero, suc, ◌+◌, ◌-◌, ◌*◌, ◌/◌, ◌%◌, ◌^◌, ◌<◌, ◌≤◌, ◌⊎◌, inl, inr, refl, sym, ap, ap₂, ◌∙◌, arith, pow-suc, bit_and, count_ones, lt_of_le_of_lt, mul_assoc, mul_comm}
 use Rattle.std.proofs.Math.Nat.{div-div-eq-div-mul}
 use Rattle.std.proofs.lemmas.Nat.{pow_pos, shr_split, pow_below, and_comm, and_mask, and-not, and_le_l, ones-le}
-use lib.Arith.{mod-mul}
 use lib.Count.{ones_step}
+use lib.Pow.{mod-mod-pow}
+use Rattle.vortex_mask.proofs.Deposits.ByteLemmas.{low_split}
+use Rattle.vortex_mask.proofs.Deposits.NetworkLemmas.{deposit_alike}
 use Rattle.vortex_mask.proofs.Deposits.SetPlaceLemmas.{parity, cleared, lowest, lowest-odd, lowest-even, lowest_sum}
 use Rattle.vortex_mask.proofs.Deposits.DepositLemmas.{deposit, deposit-odd, deposit-even, left_of, none_left}
 
@@ -52,22 +54,10 @@ fill (suc k) s m fits = by (fill k (s / 2) (m / 2) (omega (arith, pow-suc 2 k)))
 
 -- ---- k bits of a source
 
+-- all of them are deposited where no place is clear
 low_bits : (k s : ℕ) → s % 2 ^ suc k ≡ s / 2 % 2 ^ k * 2 + s % 2
-low_bits k s = ap (λ x. s % x) (pow-suc 2 k) ∙ mod-mul s (pow_pos k) (pow_pos 1)
+low_bits k s = low_split 2 k s (omega arith)
 
--- no more of them are deposited at k places
-deposit-low : (k n s m : ℕ) → k ≤ n → deposit k (s % 2 ^ n) m ≡ deposit k s m
-unfolding deposit
-deposit-low zero n s m h = refl
-deposit-low (suc k) zero s m h = absurd (omega arith)
-deposit-low (suc k) (suc n) s m h =
-    let half : s % 2 ^ suc n / 2 ≡ s / 2 % 2 ^ n = omega (arith, low_bits n s) in
-    elim (parity m) [
-      | inl even ↦ omega (arith, deposit-even k (s % 2 ^ suc n) m even, deposit-even k s m even, deposit-low k (suc n) s (m / 2) (omega arith))
-      | inr odd ↦ omega (arith, low_bits n s, deposit-odd k (s % 2 ^ suc n) m odd, deposit-odd k s m odd, ap (λ x. deposit k x (m / 2)) half, deposit-low k n (s / 2) (m / 2) (omega arith))
-    ]
-
--- and all of them where no place is clear
 pub deposit-all : (k s : ℕ) → deposit k s (2 ^ k - 1) ≡ s % 2 ^ k
 unfolding deposit
 deposit-all zero s = omega arith
@@ -118,6 +108,10 @@ two_holes s m one other t r small fits many is_one is_other inside first second 
     let full : m + one + other ≡ 2 ^ 64 - 1 = omega (arith, lowest_sum 64 holes all) in
     let again : deposit 64 (opened t other) (2 ^ 64 - 1) ≡ deposit 64 t (m + one)
     = ap (deposit 64 (opened t other)) (sym full) ∙ sym (ap (λ x. deposit 64 (opened t x) (m + one + x)) last) ∙ fill 64 t (m + one) (omega (arith, lowest_sum 64 holes all)) in
+    let c = count_ones (m + one) in
+    let few : c ≤ 64 = ones-le 64 (m + one) (omega (arith, lowest_sum 64 holes all)) in
+    let e : 64 - c + c ≡ 64 = omega arith in
+    let cut : opened s one % 2 ^ 64 % 2 ^ c ≡ opened s one % 2 ^ c = ap (λ k. opened s one % 2 ^ k % 2 ^ c) (sym e) ∙ mod-mod-pow (opened s one) (64 - c) c in
     opened-is t (cleared holes) other r inside less alone second ∙ sym (deposit-all 64 (opened t other)) ∙ again
-    ∙ ap (λ x. deposit 64 x (m + one)) (opened-is s holes one t small all lone first) ∙ deposit-low 64 64 (opened s one) (m + one) (omega arith)
+    ∙ ap (λ x. deposit 64 x (m + one)) (opened-is s holes one t small all lone first) ∙ deposit_alike 64 (opened s one % 2 ^ 64) (opened s one) (m + one) (omega (arith, lowest_sum 64 holes all)) cut
     ∙ ap (λ x. deposit 64 (opened s x) (m + x)) lone ∙ fill 64 s m fits

@@ -1,5 +1,5 @@
 -- The two nibbles of a byte: operations on each, tables computed at each of the sixteen, and a byte's deposit by theirs.
-use Rattle.std.proofs.Common.{◌≡◌, ℕ, zero, suc, ◌+◌, ◌-◌, ◌*◌, ◌/◌, ◌%◌, ◌^◌, ◌<◌, ◌≤◌, ◌⊎◌, inl, inr, T, ◌&&◌, eqb, eqb→eq, ltb, ltb→lt, ap, ap₂, ◌∙◌, sym, subst, arith, bit_and, bit_or, count_ones, add_comm, min, mod-lt, lt_of_le_of_lt, pow-suc, List, [], ◌∷◌, length, get_or}
+use Rattle.std.proofs.Common.{◌≡◌, ℕ, zero, suc, ◌+◌, ◌-◌, ◌*◌, ◌/◌, ◌%◌, ◌^◌, ◌<◌, ◌≤◌, ◌⊎◌, inl, inr, T, ◌&&◌, eqb, eqb→eq, ltb, ltb→lt, ap, ap₂, ◌∙◌, sym, subst, arith, bit_and, bit_or, count_ones, add_comm, min, max, mod-lt, lt_of_le_of_lt, pow-suc, List, [], ◌∷◌, length, get_or}
 use Rattle.std.specs.Int.{bit_at}
 use Rattle.std.proofs.lemmas.Nat.{pow_pos, shr-shr, shl-shr, and_mask, and_le_l, ones-le}
 use Rattle.std.proofs.lemmas.Nat.Bits.{bit_at_and, bit_at_or, bit_at_cat_low, bit_at_cat_high, same_from_bits}
@@ -19,22 +19,16 @@ low_bit k x y i l = ap (λ n. bit_at n i) (add_comm x (y * 2 ^ k)) ∙ bit_at_ca
 high_bit : (k x y i : ℕ) → x < 2 ^ k → k ≤ i → bit_at (x + y * 2 ^ k) i ≡ bit_at y (i - k)
 high_bit k x y i h l = ap (λ n. bit_at n i) (add_comm x (y * 2 ^ k)) ∙ bit_at_cat_high y k x i h l
 
-pub and_apart : (k a b c d : ℕ) → a < 2 ^ k → c < 2 ^ k → bit_and (a + b * 2 ^ k) (c + d * 2 ^ k) ≡ bit_and a c + bit_and b d * 2 ^ k
-and_apart k a b c d fa fc = same_from_bits _ _ (λ i. by i (cases_lt i k))
-  where
-    by : (i : ℕ) → (i < k) ⊎ (k ≤ i) → bit_at (bit_and (a + b * 2 ^ k) (c + d * 2 ^ k)) i ≡ bit_at (bit_and a c + bit_and b d * 2 ^ k) i
-    by i (inl l) = bit_at_and (a + b * 2 ^ k) (c + d * 2 ^ k) i ∙ ap₂ min (low_bit k a b i l) (low_bit k c d i l) ∙ sym (low_bit k (bit_and a c) (bit_and b d) i l ∙ bit_at_and a c i)
-    by i (inr l) =
-        bit_at_and (a + b * 2 ^ k) (c + d * 2 ^ k) i ∙ ap₂ min (high_bit k a b i fa l) (high_bit k c d i fc l)
-        ∙ sym (high_bit k (bit_and a c) (bit_and b d) i (lt_of_le_of_lt (and_le_l a c) fa) l ∙ bit_at_and b d (i - k))
+module _ (op law : ℕ → ℕ → ℕ) (bits : (x y i : ℕ) → bit_at (op x y) i ≡ law (bit_at x i) (bit_at y i)) where
+  op_apart : (k a b c d : ℕ) → a < 2 ^ k → c < 2 ^ k → op a c < 2 ^ k → op (a + b * 2 ^ k) (c + d * 2 ^ k) ≡ op a c + op b d * 2 ^ k
+  op_apart k a b c d fa fc f = same_from_bits _ _ (λ i. bits (a + b * 2 ^ k) (c + d * 2 ^ k) i ∙ by i (cases_lt i k))
+    where
+      by : (i : ℕ) → (i < k) ⊎ (k ≤ i) → law (bit_at (a + b * 2 ^ k) i) (bit_at (c + d * 2 ^ k) i) ≡ bit_at (op a c + op b d * 2 ^ k) i
+      by i (inl l) = ap₂ law (low_bit k a b i l) (low_bit k c d i l) ∙ sym (low_bit k (op a c) (op b d) i l ∙ bits a c i)
+      by i (inr l) = ap₂ law (high_bit k a b i fa l) (high_bit k c d i fc l) ∙ sym (high_bit k (op a c) (op b d) i f l ∙ bits b d (i - k))
 
-pub or_apart : (k a b c d : ℕ) → a < 2 ^ k → c < 2 ^ k → bit_or a c < 2 ^ k → bit_or (a + b * 2 ^ k) (c + d * 2 ^ k) ≡ bit_or a c + bit_or b d * 2 ^ k
-or_apart k a b c d fa fc f = same_from_bits _ _ (λ i. by i (cases_lt i k))
-  where
-    by : (i : ℕ) → (i < k) ⊎ (k ≤ i) → bit_at (bit_or (a + b * 2 ^ k) (c + d * 2 ^ k)) i ≡ bit_at (bit_or a c + bit_or b d * 2 ^ k) i
-    by i (inl l) = omega (arith, bit_at_or (a + b * 2 ^ k) (c + d * 2 ^ k) i, low_bit k a b i l, low_bit k c d i l, low_bit k (bit_or a c) (bit_or b d) i l, bit_at_or a c i)
-    by i (inr l) =
-        omega (arith, bit_at_or (a + b * 2 ^ k) (c + d * 2 ^ k) i, high_bit k a b i fa l, high_bit k c d i fc l, high_bit k (bit_or a c) (bit_or b d) i f l, bit_at_or b d (i - k))
+pub and_apart : (k a b c d : ℕ) → a < 2 ^ k → c < 2 ^ k → bit_and (a + b * 2 ^ k) (c + d * 2 ^ k) ≡ bit_and a c + bit_and b d * 2 ^ k
+and_apart k a b c d fa fc = op_apart bit_and min bit_at_and k a b c d fa fc (lt_of_le_of_lt (and_le_l a c) fa)
 
 -- four bits from bit k on, left where they are
 four_at : (n k : ℕ) → bit_and n (15 * 2 ^ k) ≡ n / 2 ^ k % 2 ^ 4 * 2 ^ k
@@ -183,7 +177,7 @@ module _ (lo hi t : ℕ) (hl : lo < 16) (hh : hi < 16) (ht : t < 256) where
       let b : bit_and t twos ≡ bit_and tl (landed_in 1 lo) + bit_and th (landed_in 1 hi) * 2 ^ 4 = ap (λ x. bit_and x twos) byte ∙ and_apart 4 tl th (landed_in 1 lo) (landed_in 1 hi) (omega arith) (mask_fits lo hl).1 in
       let up : bit_and t twos * 2 ^ 2 % 2 ^ 8 ≡ bit_and tl (landed_in 1 lo) * 2 ^ 2 + bit_and th (landed_in 1 hi) * 2 ^ 2 * 2 ^ 4 = omega (arith, b, fl.0, fh.0) in
       ap₂ bit_or a up
-      ∙ or_apart 4 (bit_and tl (stays_in lo)) (bit_and th (stays_in hi)) (bit_and tl (landed_in 1 lo) * 2 ^ 2) (bit_and th (landed_in 1 hi) * 2 ^ 2) (lt_of_le_of_lt (and_le_l tl (stays_in lo)) (omega arith)) fl.0 fl.1
+      ∙ op_apart bit_or max bit_at_or 4 (bit_and tl (stays_in lo)) (bit_and th (stays_in hi)) (bit_and tl (landed_in 1 lo) * 2 ^ 2) (bit_and th (landed_in 1 hi) * 2 ^ 2) (lt_of_le_of_lt (and_le_l tl (stays_in lo)) (omega arith)) fl.0 fl.1
 
   pub moved_in_nibbles : (moved + bit_and moved ones) % 2 ^ 8 ≡ nibble_moved_up lo tl + nibble_moved_up hi th * 2 ^ 4
   unfolding nibble_moved_up

@@ -126,9 +126,10 @@ module _ (ranks : List ℕ) (at end next bits a b c x y z : ℕ) (ascending : Is
 pub gathered-split : (ranks : List ℕ) (at end next bits : ℕ) → IsStrictlyIncreasing ranks → (next < length ranks → end ≤ get_or ranks next 0) → IsGathered ranks at end next bits → AreSplit ranks next end
 gathered-split ranks at end next bits ascending stop g = grind (arith, rises-to)
 
-pub gathered-bits : (ranks : List ℕ) (at end next bits : ℕ) → end ≤ at + 64 → AreSplit ranks next end → IsGathered ranks at end next bits
+pub gathered-bits : (ranks : List ℕ) (at end next bits : ℕ) → end ≤ at + 64 → IsStrictlyIncreasing ranks → (next < length ranks → end ≤ get_or ranks next 0) → IsGathered ranks at end next bits
     → (k : ℕ) → at + k < end → get_or (word_bits bits) k false ≡ list_any (nat_eq (at + k)) ranks
-gathered-bits ranks at end next bits few split g k h =
+gathered-bits ranks at end next bits few ascending stop g k h =
+    let split = gathered-split ranks at end next bits ascending stop g in
     let p : ℕ → Bool = nat_eq (at + k) in
     let rest : List ℕ = drop next ranks in
     let none : list_any p rest ≡ false

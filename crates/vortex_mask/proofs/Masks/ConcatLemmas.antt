@@ -8,6 +8,7 @@ use Rattle.std.proofs.lemmas.List.Concat.{length-flat_map}
 use Rattle.std.proofs.lemmas.List.{append_assoc, at_drop_more, length-append}
 use Rattle.std.proofs.lemmas.List.Elements.{All-nil, All-cons, All-append}
 use Rattle.std.proofs.lemmas.List.Sums.{sum_by-cons}
+use Rattle.std.proofs.lemmas.Simd.{map-map}
 use Rattle.mask_bits.specs.Lists.{concat}
 use Rattle.mask_bits.specs.Positions.{repeated}
 use Rattle.mask_bits.proofs.Lists.CountLemmas.{repeated_from_All}
@@ -60,5 +61,4 @@ concat-next made masks i mask is h list = grind (arith, common_steps, append_ass
 
 -- the lists of masks that are lent are those of the masks
 pub lists_of-lent : (masks : List (Bor Mask)) → lists_of masks ≡ map truth (map (λ mask. mask.now) masks)
-lists_of-lent [] = refl
-lists_of-lent (mask ∷ masks) = ap (λ ms. truth mask.now ∷ ms) (lists_of-lent masks)
+lists_of-lent masks = sym (map-map truth (λ mask. mask.now) masks)

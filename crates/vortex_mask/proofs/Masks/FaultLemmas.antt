@@ -14,10 +14,6 @@ use Rattle.vortex_mask.specs.declared.mask.error.MaskError.TheVariants.{IndexOut
 
 -- ---- pairs of neighbors
 
--- a pair that does not stand so is passed
-first_pair-step : (test : ℕ → ℕ → Bool) (n x y : ℕ) (xs : List ℕ) → test x y ≡ false → first_pair_from test n (x ∷ y ∷ xs) ≡ first_pair_from test (n + 1) (y ∷ xs)
-first_pair-step test n x y xs e = rw e refl
-
 -- fewer than two indices are no pair
 first_pair-few : (test : ℕ → ℕ → Bool) (n : ℕ) (xs : List ℕ) → length xs ≤ 1 → first_pair_from test n xs ≡ None
 first_pair-few test n [] h = refl
@@ -73,10 +69,9 @@ first_pair-ascending : (test : ℕ → ℕ → Bool) (n : ℕ) (xs : List ℕ) �
 first_pair-ascending test n [] not_so ascending = refl
 first_pair-ascending test n (x ∷ []) not_so ascending = refl
 first_pair-ascending test n (x ∷ y ∷ xs) not_so ascending =
-    first_pair-step test n x y xs (not_so x y (ascending 0 (omega arith)))
-    ∙ first_pair-ascending test (n + 1) (y ∷ xs) not_so (λ k h.
+    rw (not_so x y (ascending 0 (omega arith))) (first_pair-ascending test (n + 1) (y ∷ xs) not_so (λ k h.
     let next : suc k + 1 ≡ suc (k + 1) = omega arith in
-    subst (λ (j : ℕ). get_or (y ∷ xs) k 0 < get_or (x ∷ y ∷ xs) j 0) next (ascending (suc k) (omega arith)))
+    subst (λ (j : ℕ). get_or (y ∷ xs) k 0 < get_or (x ∷ y ∷ xs) j 0) next (ascending (suc k) (omega arith))))
 
 first_past-none : (len : ℕ) (xs : List ℕ) → All (λ i. i < len) xs → first_past len xs ≡ None
 first_past-none len [] all = refl

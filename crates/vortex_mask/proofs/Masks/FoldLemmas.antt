@@ -34,20 +34,14 @@ stays_all_false (AllFalse n) b r is held =
 stays_all_false a b r is held = absurd (cc)
 
 -- two masks of one value each narrow to one
-of_false : (r : Mask) → variant r ≡ all_false → variant r ≢ mixed
-of_false r held same = cc
-
-of_true : (r : Mask) → variant r ≡ all_true → variant r ≢ mixed
-of_true r held same = cc
-
 pub stays_of_one_value : (a b r : Mask) → IsNarrowed a b r → variant a ≢ mixed → variant b ≢ mixed → variant r ≢ mixed
 stays_of_one_value (Values v) b r is one other = absurd (one refl)
 stays_of_one_value a (Values w) r is one other = absurd (other refl)
-stays_of_one_value (AllFalse n) b r is one other = of_false r (stays_all_false (AllFalse n) b r is refl)
+stays_of_one_value (AllFalse n) b r is one other = λ same. let held = stays_all_false (AllFalse n) b r is refl in cc
 stays_of_one_value (AllTrue n) (AllFalse k) r is one other =
-    of_false r (grind (arith, fitting_variant-all_false, rank_intersection_count, count-repeated_false))
+    λ same. let held : variant r ≡ all_false = grind (arith, fitting_variant-all_false, rank_intersection_count, count-repeated_false) in cc
 stays_of_one_value (AllTrue n) (AllTrue k) r is one other =
-    of_true r (grind (arith, rank_intersection-all_true, fitting_variant-repeated_true, length-repeated, count-repeated_true))
+    λ same. let held : variant r ≡ all_true = grind (arith, rank_intersection-all_true, fitting_variant-repeated_true, length-repeated, count-repeated_true) in cc
 
 -- ---- the fold, mask by mask
 

@@ -1,7 +1,8 @@
 -- The masks of groups: how many there are, and how many values of each are true.
-use Rattle.std.proofs.Common.{◌≡◌, ℕ, Bool, List, [], ◌∷◌, length, map, refl, ap, ◌∙◌, arith}
+use Rattle.std.proofs.Common.{◌≡◌, ℕ, Bool, List, length, map, sym, ap, ◌∙◌, arith}
 use Rattle.std.specs.List.{range_with_len}
 use Rattle.std.proofs.lemmas.List.{length-map}
+use Rattle.std.proofs.lemmas.Simd.{map-map}
 use Rattle.std.proofs.lemmas.List.FromFn.{length-map-range_with_len}
 use Rattle.mask_bits.specs.Positions.{count}
 use Rattle.vortex_mask.specs.Mask.{truth}
@@ -11,17 +12,9 @@ use Rattle.vortex_mask.specs.declared.mask.Mask.{Mask}
 pub length-groups : (masks : List Mask) (group : ℕ → List Bool) (n : ℕ) → map truth masks ≡ map group (range_with_len 0 n) → length masks ≡ n
 length-groups masks group n same = omega (arith, length-map masks truth, ap length same, length-map-range_with_len group 0 n)
 
-counts-lists : (masks : List Mask) → map (λ m. count (truth m)) masks ≡ map count (map truth masks)
-counts-lists [] = refl
-counts-lists (m ∷ masks) = ap (λ ns. count (truth m) ∷ ns) (counts-lists masks)
-
-counts-of : (group : ℕ → List Bool) (numbers : List ℕ) → map count (map group numbers) ≡ map (λ number. count (group number)) numbers
-counts-of group [] = refl
-counts-of group (n ∷ numbers) = ap (λ ns. count (group n) ∷ ns) (counts-of group numbers)
-
 -- each with the count of its group
 pub counts-groups : (masks : List Mask) (group : ℕ → List Bool) (n : ℕ) → map truth masks ≡ map group (range_with_len 0 n)
     → map (λ m. count (truth m)) masks ≡ map (λ number. count (group number)) (range_with_len 0 n)
-counts-groups masks group n same = counts-lists masks ∙ ap (map count) same ∙ counts-of group (range_with_len 0 n)
+counts-groups masks group n same = sym (map-map count truth masks) ∙ ap (map count) same ∙ map-map count group (range_with_len 0 n)
 
 pub ruleset group_facts = (length-groups, counts-groups)

@@ -3,12 +3,12 @@ use Rattle.std.proofs.Common.{◌≡◌, ℕ, ◌+◌, ◌-◌, ◌<◌, ◌≤�
 use Rattle.std.specs.List.{All, AllAdjacentBelow, list_any, prefix_len, position}
 use Rattle.std.proofs.lemmas.Bool.{cases_lt, or_left}
 use Rattle.std.proofs.lemmas.Bool.Decides.{nat_tests}
-use Rattle.std.proofs.lemmas.List.{at_drop_more, at_drop_all, length-append, get_or_append_left, get_or-append_right, get_or-replicate}
+use Rattle.std.proofs.lemmas.List.{at_drop_more, at_drop_all, length-append, get_or_append_left, get_or-append_right}
 use Rattle.std.proofs.lemmas.List.Elements.{All-nil, All-cons}
 use Rattle.std.proofs.lemmas.List.Sums.{prefix_len_passes}
 use Rattle.mask_bits.specs.Positions.{count, repeated}
 use Rattle.mask_bits.specs.Runs.{is_inside, AreRanges}
-use Rattle.mask_bits.proofs.Lists.CountLemmas.{length-repeated, all_true_from_count, all_false_from_count}
+use Rattle.mask_bits.proofs.Lists.CountLemmas.{get_or-repeated, length-repeated, all_true_from_count, all_false_from_count}
 use Rattle.mask_bits.proofs.Lists.Places.PlaceLemmas.{count-le-length}
 use Rattle.mask_bits.proofs.Lists.Runs.RangeLemmas.{Ordered, Ordered-top, none_below, ranges_add_up_to_the_count}
 use Rattle.mask_bits.proofs.Lists.Runs.RunLemmas.{inside, inside-past}
@@ -73,12 +73,8 @@ length-painted low high [] o = length-repeated (high - low) false
 length-painted low high (r ∷ rs) o =
     omega (arith, length-append (repeated (r.0 - low) false ++ repeated (r.1 - r.0) true) (painted r.1 high rs), length-first low r o.0 o.1, length-painted r.1 high rs o.2, Ordered-top r.1 high rs o.2)
 
-repeated_at : (n i : ℕ) (v d : Bool) → i < n → get_or (repeated n v) i d ≡ v
-unfolding repeated
-repeated_at n i v d h = get_or-replicate n i v d h
-
 painted-at : (low high : ℕ) (rs : List (ℕ × ℕ)) → Ordered low high rs → (j : ℕ) → low + j < high → get_or (painted low high rs) j false ≡ list_any (is_inside (low + j)) rs
-painted-at low high [] o j h = repeated_at (high - low) j false false (omega arith)
+painted-at low high [] o j h = get_or-repeated (high - low) j false false (omega arith)
 painted-at low high (r ∷ rs) o j h =
     let gap : List Bool = repeated (r.0 - low) false in
     let held : List Bool = repeated (r.1 - r.0) true in
@@ -91,11 +87,11 @@ painted-at low high (r ∷ rs) o j h =
           ∙ elim (cases_lt (low + j) r.0) [
             | inl before ↦
                 get_or_append_left gap held false j (omega (arith, gap_len))
-                ∙ repeated_at (r.0 - low) j false false (omega arith)
+                ∙ get_or-repeated (r.0 - low) j false false (omega arith)
                 ∙ sym (none_below r.0 high (low + j) (r ∷ rs) (omega arith, o.1, o.2) before)
             | inr from ↦
                 get_or-append_right gap held (r.0 - low) j false gap_len (omega arith)
-                ∙ repeated_at (r.1 - r.0) (j - (r.0 - low)) true false (omega arith)
+                ∙ get_or-repeated (r.1 - r.0) (j - (r.0 - low)) true false (omega arith)
                 ∙ sym (or_left (is_inside (low + j) r) (list_any (is_inside (low + j)) rs) (inside (low + j) r from near))
           ]
       | inr past ↦

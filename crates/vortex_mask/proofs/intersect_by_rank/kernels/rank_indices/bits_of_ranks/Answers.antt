@@ -1,6 +1,5 @@
 use Rattle.std.proofs.Common.{◌-◌, ◌<◌, get_or, arith}
 use Rattle.std.proofs.lemmas.Nat.{one_shl}
-use Rattle.vortex_mask.specs.Ranks.{AreSplit}
 use Rattle.vortex_mask.proofs.Kernels.RankWordLemmas.{gathered-more, gathered-split, gathered-bits}
 use Rattle.vortex_mask.proofs.intersect_by_rank.kernels.rank_indices.bits_of_ranks.Goals as goal
 
@@ -15,10 +14,7 @@ loop-next-preserved c =
 
 pub returns-else-ranks-next-clause-bits : goal.returns-else-ranks-next-clause-bits
 returns-else-ranks-next-clause-bits c =
-    let ranks = c.args.ranks.now in
-    let split : AreSplit ranks c.loop-next.next c.args.end
-    = gathered-split ranks c.args.at c.args.end c.loop-next.next c.loop-next.bits c.requires.ascending (λ h. c.if-ranks-next.false) c.loop-next.invariant in
-    gathered-bits ranks c.args.at c.args.end c.loop-next.next c.loop-next.bits c.requires.few split c.loop-next.invariant
+    gathered-bits c.args.ranks.now c.args.at c.args.end c.loop-next.next c.loop-next.bits c.requires.few c.requires.ascending (λ h. c.if-ranks-next.false) c.loop-next.invariant
 
 pub returns-else-ranks-next-clause-passed : goal.returns-else-ranks-next-clause-passed
 returns-else-ranks-next-clause-passed c =
