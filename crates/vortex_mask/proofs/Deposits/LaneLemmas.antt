@@ -203,9 +203,15 @@ numbers from long = AreLanes-same (AreLanes-zip2 bit_and (AreLanes-itself 16 fro
 pub power : (from : List ℕ) → length from ≡ 16 → AreLanes 16 (swz_l w8 16 powers 0 (zip2 bit_and from (replicate 16 7))) (λ j. 2 ^ (7 - get_or from j 0 % 8))
 power from long = AreLanes-same (AreLanes-swz_l _ _ (numbers from long) (λ j h. omega arith) powers) (λ j h. power_at (get_or from j 0 % 8) (omega arith))
 
--- the two bytes as a number
-pub both : (low high : List ℕ) → length low ≡ 16 → length high ≡ 16 → Each1 (Fits w8) low → Each1 (Fits w8) high
-    → AreLanes 16 (zip2 (λ a b. (a + b) % 2 ^ 16) (map (λ n. n) low) (zip2 (λ a b. a * 2 ^ b % 2 ^ 16) (map (λ n. n) high) (replicate 16 8))) (λ j. get_or low j 0 + get_or high j 0 * 2 ^ 8)
-both low high ll lh fl fh =
-    AreLanes-same (AreLanes-zip2 (λ a b. (a + b) % 2 ^ 16) (AreLanes-map (λ n. n) (AreLanes-itself 16 low ll)) (AreLanes-zip2 (λ a b. a * 2 ^ b % 2 ^ 16) (AreLanes-map (λ n. n) (AreLanes-itself 16 high lh)) (AreLanes-splat 16 8)))
-    (λ j h. omega (arith, EachLane-fits low ll fl j h, EachLane-fits high lh fh j h))
+-- the two bytes as a number, moved up until its bit `from`, modulo eight, is bit 7
+abbrev pub product : List ℕ → List ℕ → List ℕ → List ℕ
+product low high from =
+    zip2 (λ a b. a * b % 2 ^ 16) (zip2 (λ a b. (a + b) % 2 ^ 16) (map (λ n. n) low) (zip2 (λ a b. a * 2 ^ b % 2 ^ 16) (map (λ n. n) high) (replicate 16 8)))
+    (map (λ n. n) (swz_l w8 16 powers 0 (zip2 bit_and from (replicate 16 7))))
+
+pub product-is : (low high from : List ℕ) → (length low ≡ 16) × Each1 (Fits w8) low → (length high ≡ 16) × Each1 (Fits w8) high → length from ≡ 16
+    → AreLanes 16 (product low high from) (λ j. (get_or low j 0 + get_or high j 0 * 2 ^ 8) * 2 ^ (7 - get_or from j 0 % 8) % 2 ^ 16)
+product-is low high from fl fh long =
+    let bytes = AreLanes-zip2 (λ a b. (a + b) % 2 ^ 16) (AreLanes-map (λ n. n) (AreLanes-itself 16 low fl.0)) (AreLanes-zip2 (λ a b. a * 2 ^ b % 2 ^ 16) (AreLanes-map (λ n. n) (AreLanes-itself 16 high fh.0)) (AreLanes-splat 16 8)) in
+    let both = AreLanes-same bytes (λ j h. omega (arith, EachLane-fits low fl.0 fl.1 j h, EachLane-fits high fh.0 fh.1 j h)) in
+    AreLanes-zip2 (λ a b. a * b % 2 ^ 16) both (AreLanes-map (λ n. n) (power from long))

@@ -71,57 +71,37 @@ gathered-four ranks at end next bits ascending few inside below g =
     let g3 : IsGathered ranks at end (next + 3) three = subst (λ n. IsGathered ranks at end n three) e3 (gathered-more ranks at end (next + 2) two (bit (next + 2)) (omega arith) (under (next + 2) (omega arith)) (is (next + 2) (omega arith)) g2) in
     subst (λ n. IsGathered ranks at end n four) e4 (gathered-more ranks at end (next + 3) three (bit (next + 3)) (omega arith) (under (next + 3) (omega arith)) (is (next + 3) (omega arith)) g3)
 
--- three, of which those from the end on leave all as it is
-module _ (ranks : List ℕ) (at end next bits a b c x y z : ℕ) (ascending : IsStrictlyIncreasing ranks) (inside : next + 3 ≤ length ranks) (g : IsGathered ranks at end next bits)
-    (below0 : get_or ranks next 0 < end → (a ≡ 2 ^ (get_or ranks next 0 - at)) × (x ≡ 1)) (past0 : end ≤ get_or ranks next 0 → (a ≡ 0) × (x ≡ 0))
-    (below1 : get_or ranks (next + 1) 0 < end → (b ≡ 2 ^ (get_or ranks (next + 1) 0 - at)) × (y ≡ 1)) (past1 : end ≤ get_or ranks (next + 1) 0 → (b ≡ 0) × (y ≡ 0))
-    (below2 : get_or ranks (next + 2) 0 < end → (c ≡ 2 ^ (get_or ranks (next + 2) 0 - at)) × (z ≡ 1)) (past2 : end ≤ get_or ranks (next + 2) 0 → (c ≡ 0) × (z ≡ 0)) where
-  rise1 : get_or ranks next 0 < get_or ranks (next + 1) 0
-  rise1 = ascending next (omega arith)
+-- the bit of rank k, or none from the end on, where those before it are below the end if it is
+gathered-step : (ranks : List ℕ) (at end next k bits : ℕ) (p : ℕ × ℕ) → k < length ranks → (get_or ranks k 0 < end → next ≡ k)
+    → (get_or ranks k 0 < end → p ≡ (2 ^ (get_or ranks k 0 - at), 1)) → (end ≤ get_or ranks k 0 → p ≡ (0, 0))
+    → IsGathered ranks at end next bits → IsGathered ranks at end (next + p.1) (bit_or bits p.0)
+gathered-step ranks at end next k bits p inside reached below past g = elim (cases_lt (get_or ranks k 0) end) [
+  | inl h ↦
+      let here : get_or ranks next 0 ≡ get_or ranks k 0 = ap (λ j. get_or ranks j 0) (reached h) in
+      let bit : p.0 ≡ 2 ^ (get_or ranks next 0 - at) = ap (λ t. t.0) (below h) ∙ ap (λ r. 2 ^ (r - at)) (sym here) in
+      let n : next + 1 ≡ next + p.1 = omega (arith, ap (λ t. t.1) (below h)) in
+      subst (λ j. IsGathered ranks at end j (bit_or bits p.0)) n (gathered-more ranks at end next bits p.0 (omega (arith, reached h)) (omega (arith, here)) bit g)
+  | inr h ↦
+      let n : next ≡ next + p.1 = omega (arith, ap (λ t. t.1) (past h)) in
+      let same : bit_or bits p.0 ≡ bits = ap (λ t. bit_or bits t.0) (past h) ∙ or_zero_r bits in
+      subst (λ j. IsGathered ranks at end j (bit_or bits p.0)) n (subst (IsGathered ranks at end next) (sym same) g)
+]
 
-  rise2 : get_or ranks (next + 1) 0 < get_or ranks (next + 2) 0
-  rise2 = let e : next + 1 + 1 ≡ next + 2 = omega arith in omega (arith, ascending (next + 1) (omega arith), ap (λ k. get_or ranks k 0) e)
-
-  abbrev one : ℕ
-  one = bit_or bits a
-
-  abbrev two : ℕ
-  two = bit_or one b
-
-  abbrev three : ℕ
-  three = bit_or two c
-
-  unchanged : (v w : ℕ) → w ≡ 0 → bit_or v w ≡ v
-  unchanged v w e = ap (bit_or v) e ∙ or_zero_r v
-
-  by0 : (get_or ranks next 0 < end) ⊎ (end ≤ get_or ranks next 0) → IsGathered ranks at end (next + x) one
-  by0 (inl h) =
-      let n : next + 1 ≡ next + x = omega (arith, (below0 h).1) in
-      subst (λ k. IsGathered ranks at end k one) n (gathered-more ranks at end next bits a (omega arith) h (below0 h).0 g)
-  by0 (inr h) =
-      let n : next ≡ next + x = omega (arith, (past0 h).1) in
-      subst (λ k. IsGathered ranks at end k one) n (subst (IsGathered ranks at end next) (sym (unchanged bits a (past0 h).0)) g)
-
-  by1 : (get_or ranks (next + 1) 0 < end) ⊎ (end ≤ get_or ranks (next + 1) 0) → IsGathered ranks at end (next + x) one → IsGathered ranks at end (next + x + y) two
-  by1 (inl h) g1 =
-      let m : next + x ≡ next + 1 = omega (arith, (below0 (omega (arith, rise1, h))).1) in
-      let n : next + 1 + 1 ≡ next + x + y = omega (arith, m, (below1 h).1) in
-      subst (λ k. IsGathered ranks at end k two) n (gathered-more ranks at end (next + 1) one b (omega arith) h (below1 h).0 (subst (λ k. IsGathered ranks at end k one) m g1))
-  by1 (inr h) g1 =
-      let n : next + x ≡ next + x + y = omega (arith, (past1 h).1) in
-      subst (λ k. IsGathered ranks at end k two) n (subst (IsGathered ranks at end (next + x)) (sym (unchanged one b (past1 h).0)) g1)
-
-  by2 : (get_or ranks (next + 2) 0 < end) ⊎ (end ≤ get_or ranks (next + 2) 0) → IsGathered ranks at end (next + x + y) two → IsGathered ranks at end (next + (x + y + z)) three
-  by2 (inl h) g2 =
-      let m : next + x + y ≡ next + 2 = omega (arith, (below0 (omega (arith, rise1, rise2, h))).1, (below1 (omega (arith, rise2, h))).1) in
-      let n : next + 2 + 1 ≡ next + (x + y + z) = omega (arith, m, (below2 h).1) in
-      subst (λ k. IsGathered ranks at end k three) n (gathered-more ranks at end (next + 2) two c (omega arith) h (below2 h).0 (subst (λ k. IsGathered ranks at end k two) m g2))
-  by2 (inr h) g2 =
-      let n : next + x + y ≡ next + (x + y + z) = omega (arith, (past2 h).1) in
-      subst (λ k. IsGathered ranks at end k three) n (subst (IsGathered ranks at end (next + x + y)) (sym (unchanged two c (past2 h).0)) g2)
-
-  pub gathered-three : IsGathered ranks at end (next + (x + y + z)) (bit_or (bit_or (bit_or bits a) b) c)
-  gathered-three = by2 (cases_lt (get_or ranks (next + 2) 0) end) (by1 (cases_lt (get_or ranks (next + 1) 0) end) (by0 (cases_lt (get_or ranks next 0) end)))
+-- three of them
+pub gathered-three : (ranks : List ℕ) (at end next bits : ℕ) (p q r : ℕ × ℕ) → IsStrictlyIncreasing ranks → next + 3 ≤ length ranks → IsGathered ranks at end next bits
+    → (get_or ranks next 0 < end → p ≡ (2 ^ (get_or ranks next 0 - at), 1)) → (end ≤ get_or ranks next 0 → p ≡ (0, 0))
+    → (get_or ranks (next + 1) 0 < end → q ≡ (2 ^ (get_or ranks (next + 1) 0 - at), 1)) → (end ≤ get_or ranks (next + 1) 0 → q ≡ (0, 0))
+    → (get_or ranks (next + 2) 0 < end → r ≡ (2 ^ (get_or ranks (next + 2) 0 - at), 1)) → (end ≤ get_or ranks (next + 2) 0 → r ≡ (0, 0))
+    → IsGathered ranks at end (next + (p.1 + q.1 + r.1)) (bit_or (bit_or (bit_or bits p.0) q.0) r.0)
+gathered-three ranks at end next bits p q r ascending inside g below0 past0 below1 past1 below2 past2 =
+    let rise : (i j : ℕ) → i ≤ j → j ≤ next + 2 → get_or ranks i 0 ≤ get_or ranks j 0 = λ i j h last. rises-to ranks i j ascending h (omega arith) in
+    let one : get_or ranks (next + 1) 0 < end → next + p.1 ≡ next + 1 = λ h. omega (arith, ap (λ t. t.1) (below0 (omega (arith, rise next (next + 1) (omega arith) (omega arith))))) in
+    let two : get_or ranks (next + 2) 0 < end → next + p.1 + q.1 ≡ next + 2
+    = λ h. let under : get_or ranks (next + 1) 0 < end = omega (arith, rise (next + 1) (next + 2) (omega arith) (omega arith)) in omega (arith, one under, ap (λ t. t.1) (below1 under)) in
+    let all : next + p.1 + q.1 + r.1 ≡ next + (p.1 + q.1 + r.1) = omega arith in
+    subst (λ n. IsGathered ranks at end n (bit_or (bit_or (bit_or bits p.0) q.0) r.0)) all
+    (gathered-step ranks at end (next + p.1 + q.1) (next + 2) _ r (omega arith) two below2 past2
+    (gathered-step ranks at end (next + p.1) (next + 1) _ q (omega arith) one below1 past1 (gathered-step ranks at end next next bits p (omega arith) (λ h. refl) below0 past0 g)))
 
 pub gathered-split : (ranks : List ℕ) (at end next bits : ℕ) → IsStrictlyIncreasing ranks → (next < length ranks → end ≤ get_or ranks next 0) → IsGathered ranks at end next bits → AreSplit ranks next end
 gathered-split ranks at end next bits ascending stop g = grind (arith, rises-to)

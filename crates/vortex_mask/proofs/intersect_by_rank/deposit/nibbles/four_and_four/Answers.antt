@@ -1,30 +1,31 @@
-use Rattle.std.proofs.Common.{◌≡◌, ◌+◌, ◌-◌, ◌*◌, ◌/◌, ◌%◌, ◌^◌, ◌<◌, ◌≤◌, ℕ, bit_and, arith, count_ones, get_or, List, w8, w16, pow_mono, length, replicate}
-use Rattle.std.specs.Simd.Lanes.{zip2}
+use Rattle.std.proofs.Common.{◌≡◌, ◌+◌, ◌-◌, ◌*◌, ◌/◌, ◌%◌, ◌^◌, ◌<◌, ◌≤◌, ℕ, bit_and, arith, count_ones, get_or, List, w8, w16, pow_mono, length, map, replicate, Fits}
+use Rattle.std.specs.Simd.Lanes.{zip2, Each1}
 use Rattle.std.proofs.lemmas.Nat.{ones-le}
 use Rattle.std.proofs.lemmas.Simd.{widens, swz_l}
 use Rattle.mask_bits.specs.Lanes.{AreLanes}
 use Rattle.vortex_mask.specs.Bytes.{EachLane}
 use Rattle.mask_bits.proofs.Lists.Words.LaneLemmas.{AreLanes-itself, AreLanes-map, AreLanes-zip2, AreLanes-splat, AreLanes-same}
-use Rattle.vortex_mask.proofs.Deposits.LaneLemmas.{AreLanes-fit, SwzOk-lanes, AreLanes-swz_l, numbers, power, both}
+use Rattle.vortex_mask.proofs.Deposits.LaneLemmas.{AreLanes-fit, SwzOk-lanes, AreLanes-swz_l, numbers, power, product, product-is}
 use Rattle.vortex_mask.proofs.Deposits.NibbleLemmas.{gaps, gaps_at, cut_apart}
 use Rattle.vortex_mask.proofs.intersect_by_rank.deposit.nibbles.four_and_four.Goals as goal
 
 gap : (lower : List ℕ) → length lower ≡ 16 → EachLane (λ j. get_or lower j 0 < 16) → AreLanes 16 (swz_l w8 16 gaps 0 lower) (λ j. 2 ^ (4 - count_ones (get_or lower j 0)))
 gap lower long small = AreLanes-same (AreLanes-swz_l lower (λ j. get_or lower j 0) (AreLanes-itself 16 lower long) small gaps) (λ j h. gaps_at (get_or lower j 0) (small j h))
 
--- the bits of two bytes from `from` on, and those `ones` further on
-joined : {x p g : List ℕ} (low high from ones : ℕ → ℕ) → EachLane (λ j. ones j ≤ 4) → AreLanes 16 x (λ j. low j + high j * 2 ^ 8) → AreLanes 16 p (λ j. 2 ^ (7 - from j % 8)) → AreLanes 16 g (λ j. 2 ^ (4 - ones j))
+-- the bits of two bytes from `from` on, and those further on
+joined : (low high from lower : List ℕ) → (length low ≡ 16) × Each1 (Fits w8) low → (length high ≡ 16) × Each1 (Fits w8) high → length from ≡ 16 → length lower ≡ 16 → EachLane (λ j. get_or lower j 0 < 16)
     → AreLanes 16
     (zip2 (λ a b. a / 2 ^ b)
-    (zip2 (λ a b. (a + b) % 2 ^ 16) (zip2 bit_and (zip2 (λ a b. a * b % 2 ^ 16) x p) (replicate 16 0x0780)) (zip2 bit_and (zip2 (λ a b. a * b % 2 ^ 16) (zip2 (λ a b. a * b % 2 ^ 16) x p) g) (replicate 16 0x7800)))
-    (replicate 16 7))
-    (λ j. (low j + high j * 2 ^ 8) / 2 ^ (from j % 8) % 2 ^ 4 + (low j + high j * 2 ^ 8) / 2 ^ (from j % 8) / 2 ^ ones j % 2 ^ 4 * 2 ^ 4)
-joined low high from ones few whole by gap =
-    let near = AreLanes-zip2 (λ a b. a * b % 2 ^ 16) whole by in
-    let far = AreLanes-zip2 (λ a b. a * b % 2 ^ 16) near gap in
+    (zip2 (λ a b. (a + b) % 2 ^ 16) (zip2 bit_and (product low high from) (replicate 16 0x0780))
+    (zip2 bit_and (zip2 (λ a b. a * b % 2 ^ 16) (product low high from) (map (λ n. n) (swz_l w8 16 gaps 0 lower))) (replicate 16 0x7800))) (replicate 16 7))
+    (λ j. (get_or low j 0 + get_or high j 0 * 2 ^ 8) / 2 ^ (get_or from j 0 % 8) % 2 ^ 4
+    + (get_or low j 0 + get_or high j 0 * 2 ^ 8) / 2 ^ (get_or from j 0 % 8) / 2 ^ count_ones (get_or lower j 0) % 2 ^ 4 * 2 ^ 4)
+joined low high from lower fl fh long lanes small =
+    let near = product-is low high from fl fh long in
+    let far = AreLanes-zip2 (λ a b. a * b % 2 ^ 16) near (AreLanes-map (λ n. n) (gap lower lanes small)) in
     AreLanes-same
     (AreLanes-zip2 (λ a b. a / 2 ^ b) (AreLanes-zip2 (λ a b. (a + b) % 2 ^ 16) (AreLanes-zip2 bit_and near (AreLanes-splat 16 0x0780)) (AreLanes-zip2 bit_and far (AreLanes-splat 16 0x7800))) (AreLanes-splat 16 7))
-    (λ j h. cut_apart (low j + high j * 2 ^ 8) (from j % 8) (ones j) (omega arith) (few j h))
+    (λ j h. cut_apart (get_or low j 0 + get_or high j 0 * 2 ^ 8) (get_or from j 0 % 8) (count_ones (get_or lower j 0)) (omega arith) (ones-le 4 (get_or lower j 0) (small j h)))
 
 pub swizzle : goal.swizzle
 swizzle c = SwzOk-lanes _ _ (numbers c.args.from c.fits-from.0) (λ j h. omega arith)
@@ -45,14 +46,7 @@ pub overflow_cast-near-2 : goal.overflow_cast-near-2
 overflow_cast-near-2 c = widens w8 w16 (omega arith) c.args.high c.fits-high.1
 
 pub overflow_cast-result : goal.overflow_cast-result
-overflow_cast-result c =
-    AreLanes-fit
-    (joined (λ j. get_or c.args.low j 0) (λ j. get_or c.args.high j 0) (λ j. get_or c.args.from j 0) (λ j. count_ones (get_or c.args.lower j 0)) (λ j h. ones-le 4 (get_or c.args.lower j 0) (c.requires j h))
-    (both c.args.low c.args.high c.fits-low.0 c.fits-high.0 c.fits-low.1 c.fits-high.1) (AreLanes-map (λ n. n) (power c.args.from c.fits-from.0)) (AreLanes-map (λ n. n) (gap c.args.lower c.fits-lower.0 c.requires)))
-    (λ j h. omega arith)
+overflow_cast-result c = AreLanes-fit (joined c.args.low c.args.high c.args.from c.args.lower c.fits-low c.fits-high c.fits-from.0 c.fits-lower.0 c.requires) (λ j h. omega arith)
 
 pub returns : goal.returns
-returns c =
-    AreLanes-map (λ n. n)
-    (joined (λ j. get_or c.args.low j 0) (λ j. get_or c.args.high j 0) (λ j. get_or c.args.from j 0) (λ j. count_ones (get_or c.args.lower j 0)) (λ j h. ones-le 4 (get_or c.args.lower j 0) (c.requires j h))
-    (both c.args.low c.args.high c.fits-low.0 c.fits-high.0 c.fits-low.1 c.fits-high.1) (AreLanes-map (λ n. n) (power c.args.from c.fits-from.0)) (AreLanes-map (λ n. n) (gap c.args.lower c.fits-lower.0 c.requires)))
+returns c = AreLanes-map (λ n. n) (joined c.args.low c.args.high c.args.from c.args.lower c.fits-low c.fits-high c.fits-from.0 c.fits-lower.0 c.requires)
