@@ -73,14 +73,14 @@ rows-next {X} rows part out new m i w at n within is shows before next =
     ∙ ap₂ (λ (xs ys : List X). xs ++ ys) before (ap₂ (λ (xs : List X) (b : List Bool). items_at xs (positions b)) is shows)
     ∙ sym (rows-word_more rows m i within)
 
--- the places of a started part are those of rows
-pub part-within : {X : Type 0} (rows : List X) (m : List Bool) (i : ℕ) → length rows ≡ length m
-    → All (λ p. p < length (drop (64 * i) rows)) (positions (padded_part m i))
-part-within rows m i len =
+-- the places of a word that shows a started part are those of rows
+pub part-within : {X : Type 0} (rows part : List X) (m : List Bool) (i w : ℕ) → length rows ≡ length m → part ≡ drop (64 * i) rows → word_bits w ≡ padded_part m i
+    → All (λ p. p < length part) (positions (word_bits w))
+part-within rows part m i w len is shows =
     let here : List Bool = take 64 (drop (64 * i) m) in
-    let few : length here ≤ length (drop (64 * i) rows) = omega (arith, length-take 64 (drop (64 * i) m), length-drop (64 * i) m, length-drop (64 * i) rows) in
-    subst (All (λ p. p < length (drop (64 * i) rows))) (indices-part m i 0)
-    (All-weaker (λ p. p < length here) (λ p. p < length (drop (64 * i) rows)) (λ p h. omega arith) (positions here) (positions-within here))
+    let few : length here ≤ length part = omega (arith, ap length is, length-take 64 (drop (64 * i) m), length-drop (64 * i) m, length-drop (64 * i) rows) in
+    subst (All (λ p. p < length part)) (indices-part m i 0 ∙ sym (ap positions shows))
+    (All-weaker (λ p. p < length here) (λ p. p < length part) (λ p h. omega arith) (positions here) (positions-within here))
 
 -- all words have all rows
 pub rows-all : {X : Type 0} (rows : List X) (m : List Bool) (n : ℕ) → length m ≤ n → items_at rows (positions (take n m)) ≡ chosen rows m

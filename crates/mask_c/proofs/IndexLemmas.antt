@@ -4,6 +4,7 @@ use Rattle.std.specs.List.{All}
 use Rattle.std.proofs.lemmas.Bool.{cases_lt}
 use Rattle.std.proofs.lemmas.List.{ext_get_or, get_or-drop, length-drop, length-map, length-take, map-append, take-append-drop, take-append-le, take_all, take_at}
 use Rattle.std.proofs.lemmas.List.Elements.{All-weaker}
+use Rattle.std.proofs.lemmas.Simd.{map-map}
 use Rattle.mask_bits.specs.Bitmap.{bitmap}
 use Rattle.mask_bits.specs.Buffer.{backing_bit}
 use Rattle.mask_bits.specs.Positions.{count, indices_from, positions}
@@ -32,8 +33,7 @@ more_room n xs ys = grind (arith, cases_lt, take_at, length-take, take-append-le
 -- ---- words
 
 map-moved : (from k : ℕ) (ps : List ℕ) → map (λ p. from + p) (map (λ p. k + p) ps) ≡ map (λ p. from + k + p) ps
-map-moved from k [] = refl
-map-moved from k (p ∷ ps) = ap₂ (λ (x : ℕ) (xs : List ℕ). x ∷ xs) (sym (add_assoc from k p)) (map-moved from k ps)
+map-moved from k ps = map-map (λ p. from + p) (λ p. k + p) ps ∙ sym (simp add_assoc)
 
 -- the indices of one more started word
 pub indices-word_more : (m : List Bool) (from i : ℕ) → 64 * i ≤ length m
@@ -47,10 +47,9 @@ indices-word_more m from i within =
     ∙ ap (λ (xs : List ℕ). map (λ p. from + p) front ++ xs) (map-moved from (64 * i) here)
 
 -- they are indices of the list
-pub indices-within : (m : List Bool) (from i : ℕ) → from + length m < 2 ^ 64 → 64 * i ≤ length m → All (λ p. from + 64 * i + p < 2 ^ 64) (positions (padded_part m i))
-indices-within m from i fits within =
-    All-weaker (λ p. p < length (drop (64 * i) m)) (λ p. from + 64 * i + p < 2 ^ 64) (λ p h. omega (arith, length-drop (64 * i) m))
-    (positions (padded_part m i)) (part-within m m i refl)
+pub indices-within : (m : List Bool) (first i w : ℕ) → word_bits w ≡ padded_part m i → 64 * i ≤ length m → first + (length m - 64 * i) < 2 ^ 64 → All (λ p. first + p < 2 ^ 64) (positions (word_bits w))
+indices-within m first i w shows within fits =
+    All-weaker (λ p. p < length (drop (64 * i) m)) (λ p. first + p < 2 ^ 64) (λ p h. omega (arith, length-drop (64 * i) m)) (positions (word_bits w)) (part-within m (drop (64 * i) m) m i w refl refl shows)
 
 -- all words have all indices
 all_places : (m : List Bool) (from : ℕ) → map (λ p. from + p) (positions m) ≡ indices_from from m

@@ -12,13 +12,9 @@ use Rattle.mask_c.proofs.choose.choose.Goals as goal
 
 pub choose_by_word-at-requires-clause-within : goal.choose_by_word-at-requires-clause-within
 choose_by_word-at-requires-clause-within g c =
-    let rows = c.args.rows.now in
     let m = c.new-chunks.result in
     let i = c.loop-i.i in
-    let len : length rows ≡ length m = c.requires.fitting ∙ sym c.new-chunks.ensures.len in
-    let shows = c.word.ensures ∙ padded_part-whole m i (omega (arith, c.loop-i-test, c.len-whole.ensures)) in
-    subst (λ xs. All (λ p. p < length xs) (positions (word_bits c.word.result))) (sym (take_rest rows (64 * i)))
-    (subst (All (λ p. p < length (drop (64 * i) rows))) (sym (ap positions shows)) (part-within rows m i len))
+    part-within c.args.rows.now _ m i c.word.result (c.requires.fitting ∙ sym c.new-chunks.ensures.len) (take_rest c.args.rows.now (64 * i)) (c.word.ensures ∙ padded_part-whole m i (omega (arith, c.loop-i-test, c.len-whole.ensures)))
 
 pub choose_by_word-at-requires-clause-room : goal.choose_by_word-at-requires-clause-room
 choose_by_word-at-requires-clause-room g c =
@@ -41,12 +37,8 @@ loop-i-preserved g c =
 
 pub choose_by_word-at-requires-then-whole-started-clause-within : goal.choose_by_word-at-requires-then-whole-started-clause-within
 choose_by_word-at-requires-then-whole-started-clause-within g c =
-    let rows = c.args.rows.now in
-    let m = c.new-chunks.result in
     let i = c.len-whole.result in
-    let len : length rows ≡ length m = c.requires.fitting ∙ sym c.new-chunks.ensures.len in
-    subst (λ xs. All (λ p. p < length xs) (positions (word_bits c.started_word.result))) (sym (take_rest rows (64 * i)))
-    (subst (All (λ p. p < length (drop (64 * i) rows))) (sym (ap positions c.started_word.ensures)) (part-within rows m i len))
+    part-within c.args.rows.now _ c.new-chunks.result i c.started_word.result (c.requires.fitting ∙ sym c.new-chunks.ensures.len) (take_rest c.args.rows.now (64 * i)) c.started_word.ensures
 
 pub choose_by_word-at-requires-then-whole-started-clause-room : goal.choose_by_word-at-requires-then-whole-started-clause-room
 choose_by_word-at-requires-then-whole-started-clause-room g c =

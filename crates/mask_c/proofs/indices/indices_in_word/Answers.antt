@@ -6,14 +6,13 @@ use Rattle.mask_bits.specs.Positions.{positions}
 use Rattle.mask_bits.specs.Words.{padded_part, word_bits}
 use Rattle.mask_bits.proofs.Lists.Places.PlaceLemmas.{count-le-length}
 use Rattle.mask_bits.proofs.Lists.Words.WordLemmas.{length-word_bits}
-use Rattle.mask_c.proofs.ChooseLemmas.{part-within, positions-word_more}
+use Rattle.mask_c.proofs.ChooseLemmas.{positions-word_more}
+use Rattle.mask_c.proofs.IndexLemmas.{indices-within}
 use Rattle.mask_c.proofs.indices.indices_in_word.Goals as goal
 
 pub indices_of_word-requires-clause-fits : goal.indices_of_word-requires-clause-fits
 indices_of_word-requires-clause-fits c =
-    subst (All (λ p. 64 * c.args.i + p < 2 ^ 64)) (sym (ap positions c.started_word.ensures))
-    (All-weaker (λ p. p < length (drop (64 * c.args.i) c.args.chunks.now)) (λ p. 64 * c.args.i + p < 2 ^ 64) (λ p h. omega (arith, c.requires.fits, c.requires.within, length-drop (64 * c.args.i) c.args.chunks.now))
-    (positions (padded_part c.args.chunks.now c.args.i)) (part-within c.args.chunks.now c.args.chunks.now c.args.i refl))
+    indices-within c.args.chunks.now (64 * c.args.i) c.args.i c.started_word.result c.started_word.ensures (omega (arith, c.requires.within)) (omega (arith, c.requires.fits, c.requires.within))
 
 pub returns-clause-indices : goal.returns-clause-indices
 returns-clause-indices c =

@@ -8,12 +8,8 @@ use Rattle.mask_c.proofs.indices.indices_of_words.Goals as goal
 
 pub indices_of_word-at-requires-clause-fits : goal.indices_of_word-at-requires-clause-fits
 indices_of_word-at-requires-clause-fits c =
-    let m = c.new-chunks.result in
-    let from = c.args.from in
-    let i = c.loop-i.i in
     let len = c.new-chunks.ensures.len in
-    subst (All (λ p. from + 64 * i + p < 2 ^ 64)) (sym (ap positions c.started_word.ensures))
-    (indices-within m from i (omega (arith, c.requires.within)) (omega arith))
+    indices-within c.new-chunks.result (c.args.from + 64 * c.loop-i.i) c.loop-i.i c.started_word.result c.started_word.ensures (omega arith) (omega (arith, c.requires.within))
 
 pub loop-i-preserved : goal.loop-i-preserved
 loop-i-preserved c =
