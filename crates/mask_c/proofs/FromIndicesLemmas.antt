@@ -21,10 +21,6 @@ use Rattle.mask_c.proofs.LastLemmas.{front-appended}
 abbrev pub AreSetAt : List ℕ → List ℕ → Type 0
 AreSetAt bytes ps = (p : ℕ) → p < 8 * length bytes → backing_bit bytes p ≡ list_any (nat_eq p) ps
 
--- none at first
-pub set_at-none : (n p : ℕ) → p < 8 * n → backing_bit (replicate n 0) p ≡ false
-set_at-none n p h = ap (λ x. nat_eq (bit_at x (p % 8)) 1) (get_or-replicate n (p / 8) 0 0 (omega arith)) ∙ ap (λ b. nat_eq b 1) (bit_at-zero (p % 8))
-
 -- one more
 pub set_at-more : (old new ps : List ℕ) (i : ℕ) → i < length ps → length new ≡ length old → AreSetAt old (take i ps)
     → ((p : ℕ) → backing_bit new p ≡ (nat_eq p (get_or ps i 0) || backing_bit old p)) → AreSetAt new (take (i + 1) ps)

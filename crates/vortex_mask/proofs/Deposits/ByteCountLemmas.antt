@@ -42,16 +42,17 @@ pub summed_is : (x w j : ℕ) → ((i : ℕ) → i < 8 → byte_at x i ≡ count
 summed_is x w zero counts h i l =
     let z : i ≡ 0 = omega arith in
     ap (byte_at (summed x)) z ∙ byte_at-zero (summed x) ∙ omega arith ∙ sym (ap (λ v. ones_below w (8 * v)) z ∙ ones_below-zero w)
-summed_is x w (suc j) counts h i l = by (λ v. summed_is x w j counts (omega arith) v) (cases_lt j i)
-  where
-    by : ((i : ℕ) → i ≤ j → byte_at (summed x) i ≡ ones_below w (8 * i)) → (j < i) ⊎ (i ≤ j) → byte_at (summed x) i ≡ ones_below w (8 * i)
-    by ih (inr le) = ih i le
-    by ih (inl lt) =
-        let e : i ≡ suc j = omega arith in
-        let next : (v : ℕ) → v ≤ j → byte_at (summed x) v + byte_at x v ≡ ones_below w (8 * suc v) = λ v m. ap₂ (λ a b. a + b) (ih v m) (counts v (omega arith)) ∙ sym (ones_below-byte w v) in
-        let room : (v : ℕ) → v ≤ j → byte_at (summed x) v + byte_at x v < 256 = λ v m. omega (arith, next v m, ones_below-le w (8 * suc v)) in
-        ap (byte_at (summed x)) e ∙ byte_at_up (x * 0x0101010101010101 % 2 ^ 64) j (omega arith) ∙ ap (λ v. byte_at v j) (summed_again x)
-        ∙ byte_at-low 8 (summed x + x) j (omega arith) ∙ byte_at_add (summed x) x j room ∙ next j (omega arith) ∙ ap (λ v. ones_below w (8 * v)) (sym e)
+summed_is x w (suc j) counts h i l =
+    let ih : (v : ℕ) → v ≤ j → byte_at (summed x) v ≡ ones_below w (8 * v) = λ v m. summed_is x w j counts (omega arith) v m in
+    elim (cases_lt j i) [
+      | inr le ↦ ih i le
+      | inl lt ↦
+          let e : i ≡ suc j = omega arith in
+          let next : (v : ℕ) → v ≤ j → byte_at (summed x) v + byte_at x v ≡ ones_below w (8 * suc v) = λ v m. ap₂ (λ a b. a + b) (ih v m) (counts v (omega arith)) ∙ sym (ones_below-byte w v) in
+          let room : (v : ℕ) → v ≤ j → byte_at (summed x) v + byte_at x v < 256 = λ v m. omega (arith, next v m, ones_below-le w (8 * suc v)) in
+          ap (byte_at (summed x)) e ∙ byte_at_up (x * 0x0101010101010101 % 2 ^ 64) j (omega arith) ∙ ap (λ v. byte_at v j) (summed_again x)
+          ∙ byte_at-low 8 (summed x + x) j (omega arith) ∙ byte_at_add (summed x) x j room ∙ next j (omega arith) ∙ ap (λ v. ones_below w (8 * v)) (sym e)
+    ]
 
 -- ---- a deposit by its bytes
 

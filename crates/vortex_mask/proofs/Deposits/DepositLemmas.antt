@@ -54,6 +54,10 @@ deposit_no_source (suc k) m =
     let e : 0 / 2 ^ (m % 2) ≡ 0 = omega (arith, pow_pos (m % 2)) in
     omega (arith, ap (λ x. deposit k x (m / 2)) e, deposit_no_source k (m / 2))
 
+-- nothing is deposited of a source without bits
+pub Deposits-none : (s m : ℕ) → s ≡ 0 → Deposits s m 0
+Deposits-none s m e = Deposits-from_deposit s m 0 (sym (ap (λ x. deposit 64 x m) e ∙ deposit_no_source 64 m))
+
 -- the lowest set place of m, where s is odd
 abbrev pub first : ℕ → ℕ → ℕ → ℕ
 first k s m = lowest k m * (s % 2)
@@ -67,22 +71,20 @@ or_lowest d b h = grind (arith, or_step)
 pub deposit_step : (k s m : ℕ) → m < 2 ^ k → deposit k s m ≡ bit_or (first k s m) (deposit k (s / 2) (cleared m))
 unfolding deposit
 deposit_step zero s m fits = grind (arith, or_zero_r, zero-mul)
-deposit_step (suc k) s m fits = by (deposit_step k s (m / 2) (omega (arith, pow-suc 2 k))) (parity m)
-  where
-    by : (deposit k s (m / 2) ≡ bit_or (first k s (m / 2)) (deposit k (s / 2) (cleared (m / 2)))) → (m % 2 ≡ 0) ⊎ (m % 2 ≡ 1) → deposit (suc k) s m ≡ bit_or (first (suc k) s m) (deposit (suc k) (s / 2) (cleared m))
-    by half (inl even) =
-        let c : cleared m / 2 ≡ cleared (m / 2) = omega (arith, cleared-even m even) in
-        let rest : deposit (suc k) (s / 2) (cleared m) ≡ deposit k (s / 2) (cleared (m / 2)) * 2 =
-        deposit-even k (s / 2) (cleared m) (omega (arith, cleared-even m even)) ∙ ap (λ x. deposit k (s / 2) x * 2) c in
-        let lead : first (suc k) s m ≡ first k s (m / 2) * 2 = ap (λ x. x * (s % 2)) (lowest-even k m fits even) ∙ mul_right_comm _ 2 (s % 2) in
-        deposit-even k s m even ∙ ap (λ x. x * 2) half
-        ∙ sym (ap₂ bit_or lead rest ∙ or_twice _ _)
-    by half (inr odd) =
-        let c : cleared m / 2 ≡ m / 2 = omega (arith, cleared-odd m odd) in
-        let rest : deposit (suc k) (s / 2) (cleared m) ≡ deposit k (s / 2) (m / 2) * 2 =
-        deposit-even k (s / 2) (cleared m) (omega (arith, cleared-odd m odd)) ∙ ap (λ x. deposit k (s / 2) x * 2) c in
-        let lead : first (suc k) s m ≡ 1 * (s % 2) = ap (λ x. x * (s % 2)) (lowest-odd k m fits odd) in
-        deposit-odd k s m odd ∙ sym (ap₂ bit_or lead rest ∙ or_lowest (s % 2) (deposit k (s / 2) (m / 2)) (omega arith))
+deposit_step (suc k) s m fits = elim (parity m) [
+  | inl even ↦
+      let c : cleared m / 2 ≡ cleared (m / 2) = omega (arith, cleared-even m even) in
+      let rest : deposit (suc k) (s / 2) (cleared m) ≡ deposit k (s / 2) (cleared (m / 2)) * 2 =
+      deposit-even k (s / 2) (cleared m) (omega (arith, cleared-even m even)) ∙ ap (λ x. deposit k (s / 2) x * 2) c in
+      let lead : first (suc k) s m ≡ first k s (m / 2) * 2 = ap (λ x. x * (s % 2)) (lowest-even k m fits even) ∙ mul_right_comm _ 2 (s % 2) in
+      deposit-even k s m even ∙ ap (λ x. x * 2) (deposit_step k s (m / 2) (omega (arith, pow-suc 2 k))) ∙ sym (ap₂ bit_or lead rest ∙ or_twice _ _)
+  | inr odd ↦
+      let c : cleared m / 2 ≡ m / 2 = omega (arith, cleared-odd m odd) in
+      let rest : deposit (suc k) (s / 2) (cleared m) ≡ deposit k (s / 2) (m / 2) * 2 =
+      deposit-even k (s / 2) (cleared m) (omega (arith, cleared-odd m odd)) ∙ ap (λ x. deposit k (s / 2) x * 2) c in
+      let lead : first (suc k) s m ≡ 1 * (s % 2) = ap (λ x. x * (s % 2)) (lowest-odd k m fits odd) in
+      deposit-odd k s m odd ∙ sym (ap₂ bit_or lead rest ∙ or_lowest (s % 2) (deposit k (s / 2) (m / 2)) (omega arith))
+]
 
 or_assoc : (a b c : ℕ) → bit_or (bit_or a b) c ≡ bit_or a (bit_or b c)
 or_assoc a b c =
@@ -90,19 +92,17 @@ or_assoc a b c =
 
 -- what the code computes for `x & -(s & 1)`, where `neg` is the negative of s's lowest bit
 pub masked : (x s neg : ℕ) → x < 2 ^ 64 → neg < 2 ^ 64 → (neg + bit_and s 1) % 2 ^ 64 ≡ 0 → bit_and x neg ≡ x * (s % 2)
-masked x s neg fits small e = by (parity s)
-  where
-    low : bit_and s 1 ≡ s % 2
-    low = and_mask s 1
-
-    by : (s % 2 ≡ 0) ⊎ (s % 2 ≡ 1) → bit_and x neg ≡ x * (s % 2)
-    by (inl even) =
-        let n : neg ≡ 0 = omega (arith, low) in
-        ap (bit_and x) n ∙ and_zero_r x ∙ sym (mul-zero x) ∙ ap (λ d. x * d) (sym even)
-    by (inr odd) =
-        let n : neg ≡ 2 ^ 64 - 1 = omega (arith, low) in
-        let all : x % 2 ^ 64 ≡ x = omega arith in
-        ap (bit_and x) n ∙ and_mask x 64 ∙ all ∙ sym (mul-one x) ∙ ap (λ d. x * d) (sym odd)
+masked x s neg fits small e =
+    let low : bit_and s 1 ≡ s % 2 = and_mask s 1 in
+    elim (parity s) [
+      | inl even ↦
+          let n : neg ≡ 0 = omega (arith, low) in
+          ap (bit_and x) n ∙ and_zero_r x ∙ sym (mul-zero x) ∙ ap (λ d. x * d) (sym even)
+      | inr odd ↦
+          let n : neg ≡ 2 ^ 64 - 1 = omega (arith, low) in
+          let all : x % 2 ^ 64 ≡ x = omega arith in
+          ap (bit_and x) n ∙ and_mask x 64 ∙ all ∙ sym (mul-one x) ∙ ap (λ d. x * d) (sym odd)
+    ]
 
 -- `m & (m - 1)`, where the difference wraps
 pub cleared_word : (m : ℕ) → m < 2 ^ 64 → bit_and m ((m + (2 ^ 64 - 1)) % 2 ^ 64) ≡ cleared m

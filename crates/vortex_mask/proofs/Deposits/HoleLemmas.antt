@@ -27,30 +27,26 @@ opened s hole = s + s / hole * hole
 fill : (k s m : ℕ) → m < 2 ^ k → deposit k (opened s (lowest k (clear k m))) (m + lowest k (clear k m)) ≡ deposit k s m
 unfolding deposit
 fill zero s m fits = refl
-fill (suc k) s m fits = by (fill k (s / 2) (m / 2) (omega (arith, pow-suc 2 k))) (parity m)
-  where
-    half : clear (suc k) m / 2 ≡ clear k (m / 2)
-    half = omega (arith, pow-suc 2 k)
-
-    inside : clear (suc k) m < 2 ^ suc k
-    inside = omega (arith, pow_pos (suc k))
-
-    by : deposit k (opened (s / 2) (lowest k (clear k (m / 2)))) (m / 2 + lowest k (clear k (m / 2))) ≡ deposit k (s / 2) (m / 2) → (m % 2 ≡ 0) ⊎ (m % 2 ≡ 1)
-        → deposit (suc k) (opened s (lowest (suc k) (clear (suc k) m))) (m + lowest (suc k) (clear (suc k) m)) ≡ deposit (suc k) s m
-    by rest (inl even) =
-        let one : lowest (suc k) (clear (suc k) m) ≡ 1 = lowest-odd k (clear (suc k) m) inside (omega (arith, pow-suc 2 k)) in
-        let source : opened s 1 / 2 ≡ s = omega arith in
-        let mask : (m + 1) / 2 ≡ m / 2 = omega arith in
-        ap (λ x. deposit (suc k) (opened s x) (m + x)) one ∙ omega (arith, deposit-odd k (opened s 1) (m + 1) (omega arith), ap₂ (deposit k) source mask, deposit-even k s m even)
-    by rest (inr odd) =
-        let hole = lowest k (clear k (m / 2)) in
-        let twice : lowest (suc k) (clear (suc k) m) ≡ hole * 2 = lowest-even k (clear (suc k) m) inside (omega (arith, pow-suc 2 k)) ∙ ap (λ x. lowest k x * 2) half in
-        let moved : s / (hole * 2) * (hole * 2) ≡ s / 2 / hole * hole * 2
-        = ap (λ x. x * (hole * 2)) (ap (λ x. s / x) (mul_comm hole 2) ∙ sym (div-div-eq-div-mul s 2 hole)) ∙ sym (mul_assoc (s / 2 / hole) hole 2) in
-        let source : opened s (hole * 2) / 2 ≡ opened (s / 2) hole = omega (arith, moved) in
-        let mask : (m + hole * 2) / 2 ≡ m / 2 + hole = omega arith in
-        ap (λ x. deposit (suc k) (opened s x) (m + x)) twice
-        ∙ omega (arith, moved, deposit-odd k (opened s (hole * 2)) (m + hole * 2) (omega arith), ap₂ (deposit k) source mask, rest, deposit-odd k s m odd)
+fill (suc k) s m fits =
+    let half : clear (suc k) m / 2 ≡ clear k (m / 2) = omega (arith, pow-suc 2 k) in
+    let inside : clear (suc k) m < 2 ^ suc k = omega (arith, pow_pos (suc k)) in
+    elim (parity m) [
+      | inl even ↦
+          let one : lowest (suc k) (clear (suc k) m) ≡ 1 = lowest-odd k (clear (suc k) m) inside (omega (arith, pow-suc 2 k)) in
+          let source : opened s 1 / 2 ≡ s = omega arith in
+          let mask : (m + 1) / 2 ≡ m / 2 = omega arith in
+          ap (λ x. deposit (suc k) (opened s x) (m + x)) one ∙ omega (arith, deposit-odd k (opened s 1) (m + 1) (omega arith), ap₂ (deposit k) source mask, deposit-even k s m even)
+      | inr odd ↦
+          let hole = lowest k (clear k (m / 2)) in
+          let rest = fill k (s / 2) (m / 2) (omega (arith, pow-suc 2 k)) in
+          let twice : lowest (suc k) (clear (suc k) m) ≡ hole * 2 = lowest-even k (clear (suc k) m) inside (omega (arith, pow-suc 2 k)) ∙ ap (λ x. lowest k x * 2) half in
+          let moved : s / (hole * 2) * (hole * 2) ≡ s / 2 / hole * hole * 2
+          = ap (λ x. x * (hole * 2)) (ap (λ x. s / x) (mul_comm hole 2) ∙ sym (div-div-eq-div-mul s 2 hole)) ∙ sym (mul_assoc (s / 2 / hole) hole 2) in
+          let source : opened s (hole * 2) / 2 ≡ opened (s / 2) hole = omega (arith, moved) in
+          let mask : (m + hole * 2) / 2 ≡ m / 2 + hole = omega arith in
+          ap (λ x. deposit (suc k) (opened s x) (m + x)) twice
+          ∙ omega (arith, moved, deposit-odd k (opened s (hole * 2)) (m + hole * 2) (omega arith), ap₂ (deposit k) source mask, rest, deposit-odd k s m odd)
+    ]
 
 -- ---- k bits of a source
 

@@ -133,19 +133,17 @@ landed_in-lt = less_below 3 256 landed_in (λ s m. 2 ^ (8 - 2 ^ s)) tt
 deposit-taken : (k s m : ℕ) → deposit k (s % 2 ^ ones_among k m) m ≡ deposit k s m
 unfolding deposit ones_among
 deposit-taken zero s m = refl
-deposit-taken (suc k) s m = by (λ x. deposit-taken k x (m / 2)) (parity m)
-  where
-    c : ℕ
-    c = ones_among k (m / 2)
-
-    by : ((x : ℕ) → deposit k (x % 2 ^ c) (m / 2) ≡ deposit k x (m / 2)) → (m % 2 ≡ 0) ⊎ (m % 2 ≡ 1) → deposit (suc k) (s % 2 ^ ones_among (suc k) m) m ≡ deposit (suc k) s m
-    by half (inl even) =
-        let e : ones_among (suc k) m ≡ c = omega arith in
-        ap (λ n. deposit (suc k) (s % 2 ^ n) m) e ∙ deposit-even k _ m even ∙ ap (λ d. d * 2) (half s) ∙ sym (deposit-even k s m even)
-    by half (inr odd) =
-        let e : ones_among (suc k) m ≡ c + 1 = omega arith in
-        let rest : deposit k (s % 2 ^ (c + 1) / 2) (m / 2) ≡ deposit k (s / 2) (m / 2) = ap (λ x. deposit k x (m / 2)) (field s c 1) ∙ half (s / 2) in
-        ap (λ n. deposit (suc k) (s % 2 ^ n) m) e ∙ deposit-odd k _ m odd ∙ ap₂ (λ d b. d * 2 + b) rest (mod-mod-pow s c 1) ∙ sym (deposit-odd k s m odd)
+deposit-taken (suc k) s m =
+    let c : ℕ = ones_among k (m / 2) in
+    elim (parity m) [
+      | inl even ↦
+          let e : ones_among (suc k) m ≡ c = omega arith in
+          ap (λ n. deposit (suc k) (s % 2 ^ n) m) e ∙ deposit-even k _ m even ∙ ap (λ d. d * 2) (deposit-taken k s (m / 2)) ∙ sym (deposit-even k s m even)
+      | inr odd ↦
+          let e : ones_among (suc k) m ≡ c + 1 = omega arith in
+          let rest : deposit k (s % 2 ^ (c + 1) / 2) (m / 2) ≡ deposit k (s / 2) (m / 2) = ap (λ x. deposit k x (m / 2)) (field s c 1) ∙ deposit-taken k (s / 2) (m / 2) in
+          ap (λ n. deposit (suc k) (s % 2 ^ n) m) e ∙ deposit-odd k _ m odd ∙ ap₂ (λ d b. d * 2 + b) rest (mod-mod-pow s c 1) ∙ sym (deposit-odd k s m odd)
+    ]
 
 back_by : ℕ → ℕ → ℕ → ℕ → ℕ
 unfolding moved_up

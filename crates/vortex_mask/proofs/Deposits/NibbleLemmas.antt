@@ -201,31 +201,24 @@ deposit-apart zero k s a b h =
     let n : zero + k ≡ k = omega arith in
     let o : s / 2 ^ 0 ≡ s = omega arith in
     ap₂ (λ i m. deposit i s m) n z ∙ omega (arith, ap (λ x. deposit k x b) o)
-deposit-apart (suc j) k s a b h = by (λ v. deposit-apart j k v (a / 2) b (omega (arith, pow-suc 2 j))) (parity a)
-  where
-    m : ℕ
-    m = a + b * 2 ^ suc j
-
-    halves : m / 2 ≡ a / 2 + b * 2 ^ j
-    halves = omega (arith, twice b j)
-
-    low : m % 2 ≡ a % 2
-    low = omega (arith, twice b j)
-
-    size : suc j + k ≡ suc (j + k)
-    size = omega arith
-
-    by : ((v : ℕ) → deposit (j + k) v (a / 2 + b * 2 ^ j) ≡ deposit j v (a / 2) + deposit k (v / 2 ^ ones_among j (a / 2)) b * 2 ^ j) → (a % 2 ≡ 0) ⊎ (a % 2 ≡ 1) → deposit (suc j + k) s m ≡ deposit (suc j) s a + deposit k (s / 2 ^ ones_among (suc j) a) b * 2 ^ suc j
-    by half (inl even) =
-        let n : ones_among (suc j) a ≡ ones_among j (a / 2) = omega arith in
-        ap (λ i. deposit i s m) size ∙ deposit-even (j + k) s m (low ∙ even) ∙ ap (λ x. deposit (j + k) s x * 2) halves ∙ ap (λ x. x * 2) (half s)
-        ∙ omega (arith, deposit-even j s a even, ap (λ i. deposit k (s / 2 ^ i) b * 2 ^ j) n, twice (deposit k (s / 2 ^ ones_among (suc j) a) b) j)
-    by half (inr odd) =
-        let n : ones_among (suc j) a ≡ 1 + ones_among j (a / 2) = omega arith in
-        let rest : s / 2 / 2 ^ ones_among j (a / 2) ≡ s / 2 ^ ones_among (suc j) a = shr-shr s 1 (ones_among j (a / 2)) ∙ ap (λ i. s / 2 ^ i) (sym n) in
-        ap (λ i. deposit i s m) size ∙ deposit-odd (j + k) s m (low ∙ odd) ∙ ap (λ x. deposit (j + k) (s / 2) x * 2 + s % 2) halves
-        ∙ ap (λ x. x * 2 + s % 2) (half (s / 2))
-        ∙ omega (arith, deposit-odd j s a odd, ap (λ x. deposit k x b * 2 ^ j) rest, twice (deposit k (s / 2 ^ ones_among (suc j) a) b) j)
+deposit-apart (suc j) k s a b h =
+    let m : ℕ = a + b * 2 ^ suc j in
+    let halves : m / 2 ≡ a / 2 + b * 2 ^ j = omega (arith, twice b j) in
+    let low : m % 2 ≡ a % 2 = omega (arith, twice b j) in
+    let size : suc j + k ≡ suc (j + k) = omega arith in
+    let small : a / 2 < 2 ^ j = omega (arith, pow-suc 2 j) in
+    elim (parity a) [
+      | inl even ↦
+          let n : ones_among (suc j) a ≡ ones_among j (a / 2) = omega arith in
+          ap (λ i. deposit i s m) size ∙ deposit-even (j + k) s m (low ∙ even) ∙ ap (λ x. deposit (j + k) s x * 2) halves ∙ ap (λ x. x * 2) (deposit-apart j k s (a / 2) b small)
+          ∙ omega (arith, deposit-even j s a even, ap (λ i. deposit k (s / 2 ^ i) b * 2 ^ j) n, twice (deposit k (s / 2 ^ ones_among (suc j) a) b) j)
+      | inr odd ↦
+          let n : ones_among (suc j) a ≡ 1 + ones_among j (a / 2) = omega arith in
+          let rest : s / 2 / 2 ^ ones_among j (a / 2) ≡ s / 2 ^ ones_among (suc j) a = shr-shr s 1 (ones_among j (a / 2)) ∙ ap (λ i. s / 2 ^ i) (sym n) in
+          ap (λ i. deposit i s m) size ∙ deposit-odd (j + k) s m (low ∙ odd) ∙ ap (λ x. deposit (j + k) (s / 2) x * 2 + s % 2) halves
+          ∙ ap (λ x. x * 2 + s % 2) (deposit-apart j k (s / 2) (a / 2) b small)
+          ∙ omega (arith, deposit-odd j s a odd, ap (λ x. deposit k x b * 2 ^ j) rest, twice (deposit k (s / 2 ^ ones_among (suc j) a) b) j)
+    ]
 
 -- what was gathered for the nibbles of a byte's mask deposits as the byte's source does
 pub nibbles_alike : (m x t : ℕ) → m < 256 → t % 2 ^ 4 % 2 ^ count_ones (m % 2 ^ 4) ≡ x % 2 ^ count_ones (m % 2 ^ 4)

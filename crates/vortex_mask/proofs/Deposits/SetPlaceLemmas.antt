@@ -55,23 +55,21 @@ lowest-even k m fits e = grind (arith, pow-suc, and_step)
 -- the lowest set place and the others make the number
 pub lowest_sum : (k m : ℕ) → m < 2 ^ k → cleared m + lowest k m ≡ m
 lowest_sum zero m fits = let z : m ≡ 0 = omega arith in ap (λ x. cleared x + lowest 0 x) z ∙ sym z
-lowest_sum (suc k) m fits = by (lowest_sum k (m / 2) (omega (arith, pow-suc 2 k))) (parity m)
-  where
-    by : (cleared (m / 2) + lowest k (m / 2) ≡ m / 2) → (m % 2 ≡ 0) ⊎ (m % 2 ≡ 1) → cleared m + lowest (suc k) m ≡ m
-    by half (inl even) = omega (arith, half, cleared-even m even, lowest-even k m fits even)
-    by half (inr odd) = omega (arith, cleared-odd m odd, lowest-odd k m fits odd)
+lowest_sum (suc k) m fits = elim (parity m) [
+  | inl even ↦ omega (arith, lowest_sum k (m / 2) (omega (arith, pow-suc 2 k)), cleared-even m even, lowest-even k m fits even)
+  | inr odd ↦ omega (arith, cleared-odd m odd, lowest-odd k m fits odd)
+]
 
 pub ones-cleared : (k m : ℕ) → 0 < m → m < 2 ^ k → count_ones m ≡ count_ones (cleared m) + 1
 ones-cleared zero m some fits = absurd (omega arith)
-ones-cleared (suc k) m some fits = by (λ h. ones-cleared k (m / 2) h (omega (arith, pow-suc 2 k))) (parity m)
-  where
-    by : (0 < m / 2 → count_ones (m / 2) ≡ count_ones (cleared (m / 2)) + 1) → (m % 2 ≡ 0) ⊎ (m % 2 ≡ 1) → count_ones m ≡ count_ones (cleared m) + 1
-    by half (inl even) =
-        let c : cleared m / 2 ≡ cleared (m / 2) = omega (arith, cleared-even m even) in
-        omega (arith, half (omega arith), ones_step m, ones_step (cleared m), ap count_ones c, cleared-even m even)
-    by half (inr odd) =
-        let c : cleared m / 2 ≡ m / 2 = omega (arith, cleared-odd m odd) in
-        omega (arith, ones_step m, ones_step (cleared m), ap count_ones c, cleared-odd m odd)
+ones-cleared (suc k) m some fits = elim (parity m) [
+  | inl even ↦
+      let c : cleared m / 2 ≡ cleared (m / 2) = omega (arith, cleared-even m even) in
+      omega (arith, ones-cleared k (m / 2) (omega arith) (omega (arith, pow-suc 2 k)), ones_step m, ones_step (cleared m), ap count_ones c, cleared-even m even)
+  | inr odd ↦
+      let c : cleared m / 2 ≡ m / 2 = omega (arith, cleared-odd m odd) in
+      omega (arith, ones_step m, ones_step (cleared m), ap count_ones c, cleared-odd m odd)
+]
 
 pub ones-cleared_le : (k m : ℕ) → m < 2 ^ k → count_ones (cleared m) ≤ count_ones m - 1
 ones-cleared_le k m fits = grind (arith, common_steps, cases_lt, ones-cleared, ones-le)

@@ -55,8 +55,8 @@ pub fn deposit_bytewise(source: u64, mask: u64) -> u64
     deposit_two_bytewise([source, 0], [mask, 0])[0]
 }
 
-/// The deposits of two words at any masks, by a network over their sixteen bytes at once.
-// Inlined, so that a kernel's loop loads the constants of the network once.
+/// The deposits of two words at any masks, by a network over their sixteen bytes at once. It serves
+/// [`deposit_bytewise`], which deposits a single word; kernels take two words by the tables of `nibbles`.
 #[inline(always)]
 pub(super) fn deposit_two_bytewise(sources: [u64; 2], masks: [u64; 2]) -> [u64; 2]
     ensures first { Deposits (slice_index sources 0) (slice_index masks 0) (slice_index result 0) }
