@@ -1,5 +1,5 @@
 -- The counts of set bits in each byte and below it, and what they say of places in the bytes.
-use Rattle.std.proofs.Common.{◌≡◌, ℕ, zero, suc, ◌+◌, ◌-◌, ◌*◌, ◌/◌, ◌%◌, ◌^◌, ◌<◌, ◌≤◌, ◌⊎◌, inl, inr, sym, ap, ap₂, ◌∙◌, arith, bit_and, count_ones, add_comm, mod-lt, add-zero, zero-add, min}
+use Rattle.std.proofs.Common.{◌≡◌, ℕ, zero, suc, ◌+◌, ◌-◌, ◌*◌, ◌/◌, ◌%◌, ◌^◌, ◌<◌, ◌≤◌, inl, inr, sym, ap, ap₂, ◌∙◌, arith, bit_and, count_ones, add_comm, mod-lt, add-zero, min}
 use Rattle.std.specs.Int.{bit_at}
 use Rattle.std.proofs.lemmas.Nat.{pow_pos, shr-shr, and_mask, one_shl, ones_cat, mod-pow-add}
 use Rattle.std.proofs.lemmas.Bool.{cases_lt}

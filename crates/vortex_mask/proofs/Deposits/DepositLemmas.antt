@@ -1,5 +1,5 @@
 -- The deposit as a function of the two words, by their lowest bits, and that it is the one number that a deposit may give.
-use Rattle.std.proofs.Common.{◌≡◌, ℕ, zero, suc, ◌+◌, ◌-◌, ◌*◌, ◌/◌, ◌%◌, ◌^◌, ◌<◌, ◌≤◌, ◌⊎◌, inl, inr, min, refl, sym, ap, ap₂, ◌∙◌, arith, pow-suc, bit_and, bit_or, count_ones, mul_right_comm, mul-one, mul-zero, zero-mul, lt_of_le_of_lt}
+use Rattle.std.proofs.Common.{◌≡◌, ℕ, zero, suc, ◌+◌, ◌-◌, ◌*◌, ◌/◌, ◌%◌, ◌^◌, ◌<◌, ◌≤◌, inl, inr, min, refl, sym, ap, ap₂, ◌∙◌, arith, pow-suc, bit_and, bit_or, count_ones, mul_right_comm, mul-one, mul-zero, zero-mul, lt_of_le_of_lt}
 use Rattle.std.specs.Int.{bit_at}
 use Rattle.std.proofs.lemmas.Nat.{pow_pos, shr-shr, and_mask, and_le_l, zero_from_ones}
 use Rattle.std.proofs.lemmas.Nat.Bits.{bit_at_lowest, bit_at-suc, bit_at-lt, bit_at_or, same_from_bits}

@@ -1,5 +1,5 @@
 -- The network on one byte, computed at each of the 256 mask bytes and, for the way back, at each source byte too.
-use Rattle.std.proofs.Common.{◌≡◌, ℕ, zero, suc, ◌+◌, ◌-◌, ◌*◌, ◌/◌, ◌%◌, ◌^◌, ◌<◌, ◌≤◌, Bool, true, false, ◌&&◌, T, eqb, refl, ap, ◌∙◌, subst, arith, bit_and, bit_xor, eq-zero-or-pos, inl, inr, eqb→eq, ltb→lt, ltb, count_ones, pow-suc, sym, ap₂, ◌⊎◌, mod-lt}
+use Rattle.std.proofs.Common.{◌≡◌, ℕ, zero, suc, ◌+◌, ◌-◌, ◌*◌, ◌/◌, ◌%◌, ◌^◌, ◌<◌, ◌≤◌, Bool, true, false, ◌&&◌, T, eqb, refl, ap, ◌∙◌, subst, arith, bit_and, bit_xor, eq-zero-or-pos, inl, inr, eqb→eq, ltb→lt, ltb, count_ones, pow-suc, sym, ap₂, mod-lt}
 use Rattle.std.proofs.lemmas.Nat.{ones-le, one_shl, pow_below, pow_pos, and_mask}
 use lib.Count.{ones_step}
 use lib.Pow.{field, mod-mod-pow}

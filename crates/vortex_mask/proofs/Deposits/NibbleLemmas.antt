@@ -1,5 +1,5 @@
 -- The two nibbles of a byte: operations on each, tables computed at each of the sixteen, and a byte's deposit by theirs.
-use Rattle.std.proofs.Common.{◌≡◌, ℕ, zero, suc, ◌+◌, ◌-◌, ◌*◌, ◌/◌, ◌%◌, ◌^◌, ◌<◌, ◌≤◌, ◌⊎◌, inl, inr, T, ◌&&◌, eqb, eqb→eq, ltb, ltb→lt, ap, ap₂, ◌∙◌, sym, subst, arith, bit_and, bit_or, count_ones, add_comm, min, max, mod-lt, lt_of_le_of_lt, pow-suc, List, [], ◌∷◌, length, get_or}
+use Rattle.std.proofs.Common.{◌≡◌, ℕ, zero, suc, ◌+◌, ◌-◌, ◌*◌, ◌/◌, ◌%◌, ◌^◌, ◌<◌, ◌≤◌, ◌⊎◌, inl, inr, T, ltb, ltb→lt, ap, ap₂, ◌∙◌, sym, subst, arith, bit_and, bit_or, count_ones, add_comm, min, max, mod-lt, lt_of_le_of_lt, pow-suc, List, [], ◌∷◌, length, get_or}
 use Rattle.std.specs.Int.{bit_at}
 use Rattle.std.proofs.lemmas.Nat.{pow_pos, shr-shr, shl-shr, and_mask, and_le_l, ones-le}
 use Rattle.std.proofs.lemmas.Nat.Bits.{bit_at_and, bit_at_or, bit_at_cat_low, bit_at_cat_high, same_from_bits}

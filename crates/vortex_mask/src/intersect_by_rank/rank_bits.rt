@@ -30,7 +30,7 @@ impl<'a> Model for RankBits<'a> {
     ghost invariant = { λ r. IsWithinBytes r.bytes.now r.offset r.len
         × (r.tail_from ≡ length r.bytes.now - 16)
         × (r.tail ≡ drop r.tail_from r.bytes.now
-            ++ replicate (32 - (length r.bytes.now - r.tail_from)) 0) };
+        ++ replicate (32 - (length r.bytes.now - r.tail_from)) 0) };
 }
 
 impl<'a> RankBits<'a> {
