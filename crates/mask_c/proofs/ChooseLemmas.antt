@@ -1,9 +1,8 @@
 -- The rows at the true values of a list, one started word after another.
-use Rattle.std.proofs.Common.{◌≡◌, ℕ, suc, nat_eq, ◌+◌, ◌-◌, ◌*◌, ◌^◌, ◌<◌, ◌≤◌, Bool, true, false, List, [], ◌∷◌, ◌++◌, length, get_or, set, take, drop, map, slice_get, Some, refl, sym, subst, ap, ap₂, ◌∙◌, add-zero, inl, inr, arith}
-use Rattle.std.proofs.Math.Seq.{take-add}
-use Rattle.std.specs.List.{All, cons_option, filter_map, range_with_len}
+use Rattle.std.proofs.Common.{◌≡◌, ℕ, nat_eq, ◌+◌, ◌-◌, ◌*◌, ◌^◌, ◌<◌, ◌≤◌, Bool, true, false, List, [], ◌∷◌, ◌++◌, length, get_or, set, take, drop, map, slice_get, Some, refl, sym, subst, ap, ap₂, ◌∙◌, add-zero, arith}
+use Rattle.std.specs.List.{All, cons_option, range_with_len}
 use Rattle.std.proofs.lemmas.Bool.{cases_lt}
-use Rattle.std.proofs.lemmas.List.{get_or-drop, get_or-take, get_or_past, length-drop, length-take, take-append-drop, take_all, take_more, take_more_set}
+use Rattle.std.proofs.lemmas.List.{get_or-drop, get_or-take, get_or_past, length-drop, length-take, take_all, take_more_set}
 use Rattle.std.proofs.lemmas.List.Elements.{All-get_or, All-head, All-tail, All-weaker, filter_map-append}
 use Rattle.std.proofs.lemmas.List.FromFn.{get_or-range_with_len}
 use Rattle.std.proofs.lemmas.Nat.Bits.{bit_at-zero}
@@ -11,7 +10,7 @@ use Rattle.std.proofs.lemmas.Option.{get_or_from_slice_get, slice_get-get_or, sl
 use Rattle.mask_bits.specs.Positions.{chosen, count, indices_from, positions, repeated}
 use Rattle.mask_bits.specs.Words.{padded_part, word_bits}
 use Rattle.mask_bits.proofs.Lists.ChooseLemmas.{chosen-all_true, chosen_at_positions}
-use Rattle.mask_bits.proofs.Lists.CountLemmas.{count-append, count-repeated_true, length-repeated, positions-all_true, slice_get-repeated}
+use Rattle.mask_bits.proofs.Lists.CountLemmas.{count-repeated_true, length-repeated, positions-all_true, slice_get-repeated}
 use Rattle.mask_bits.proofs.Lists.Words.LowestLemmas.{low, ones-of_full, ones-set}
 use Rattle.mask_bits.proofs.Lists.Words.PaddedLemmas.{length-padded_part}
 use Rattle.mask_bits.proofs.Lists.Places.PlaceLemmas.{positions-within}

@@ -1,15 +1,14 @@
 -- The indices of true values from an index on, one started word after another, as many as there is room for.
-use Rattle.std.proofs.Common.{◌≡◌, ℕ, ◌+◌, ◌-◌, ◌*◌, ◌^◌, ◌<◌, ◌≤◌, ◌⊎◌, Bool, false, List, [], ◌∷◌, ◌++◌, length, take, drop, map, min, refl, sym, ap, ap₂, ◌∙◌, add-zero, add_assoc, append-nil, arith}
+use Rattle.std.proofs.Common.{◌≡◌, ℕ, ◌+◌, ◌-◌, ◌*◌, ◌^◌, ◌<◌, ◌≤◌, ◌⊎◌, Bool, List, [], ◌++◌, length, take, drop, map, min, refl, sym, ap, ◌∙◌, add-zero, add_assoc, append-nil, arith}
 use Rattle.std.specs.List.{All}
 use Rattle.std.proofs.lemmas.Bool.{cases_lt}
-use Rattle.std.proofs.lemmas.List.{ext_get_or, get_or-drop, length-drop, length-map, length-take, map-append, take-append-drop, take-append-le, take_all, take_at}
+use Rattle.std.proofs.lemmas.List.{length-drop, length-map, length-take, map-append, take-append-drop, take-append-le, take_all, take_at}
 use Rattle.std.proofs.lemmas.List.Elements.{All-weaker}
 use Rattle.std.proofs.lemmas.Simd.{map-map}
 use Rattle.mask_bits.specs.Bitmap.{bitmap}
-use Rattle.mask_bits.specs.Buffer.{backing_bit}
 use Rattle.mask_bits.specs.Positions.{count, indices_from, positions}
 use Rattle.mask_bits.specs.Words.{padded_part, word_bits}
-use Rattle.mask_bits.proofs.Lists.Words.BackingBitLemmas.{length-bitmap, get_or-bitmap}
+use Rattle.mask_bits.proofs.Lists.Words.BackingBitLemmas.{length-bitmap}
 use Rattle.mask_bits.proofs.Lists.Places.SelectLemmas.{count-word_more, indices_from-append, indices_from-moved}
 use Rattle.mask_c.proofs.BitmapLemmas.{bitmap-part}
 use Rattle.mask_c.proofs.ChooseLemmas.{part-within, positions-word_more}

@@ -1,4 +1,4 @@
-use Rattle.std.proofs.Common.{Bool, List, ◌*◌, ◌/◌, false, length, get_or, drop, refl, ap, ◌∙◌, arith}
+use Rattle.std.proofs.Common.{Bool, List, ◌*◌, ◌/◌, false, length, get_or, refl, ap, ◌∙◌, arith}
 use Rattle.std.proofs.lemmas.List.{length-take, take_rest}
 use Rattle.mask_bits.proofs.Lists.Words.WordLemmas.{length-word_bits}
 use Rattle.mask_c.proofs.LastLemmas.{behind-last, written-list, written-whole}

@@ -1,5 +1,4 @@
-use Rattle.std.proofs.Common.{Bool, List, ◌<◌, ◌+◌, ◌*◌, ◌^◌, length, map, min, take, subst, sym, ap, ◌∙◌, arith}
-use Rattle.std.specs.List.{All}
+use Rattle.std.proofs.Common.{Bool, List, ◌+◌, ◌*◌, length, map, min, take, sym, ap, ◌∙◌, arith}
 use Rattle.std.proofs.lemmas.List.{take_all}
 use Rattle.mask_bits.specs.Positions.{count, indices_from, positions}
 use Rattle.vortex_mask.proofs.Kernels.WordKernelLemmas.{count_below-le}

@@ -1,4 +1,4 @@
-use Rattle.std.proofs.Common.{ℕ, Bool, List, false, get_or, subst, ◌≡◌, ◌<◌, ◌+◌, ◌*◌, ◌/◌, ◌%◌, ◌-◌, drop, take, ap, ap₂, ◌∙◌, sym, arith}
+use Rattle.std.proofs.Common.{ℕ, Bool, List, false, get_or, subst, ◌≡◌, ◌<◌, ◌+◌, ◌*◌, ◌/◌, ◌%◌, ◌-◌, take, ap, ap₂, ◌∙◌, sym, arith}
 use Rattle.std.proofs.lemmas.List.{length-take}
 use Rattle.std.specs.List.{All}
 use Rattle.mask_bits.specs.Bitmap.{bitmap}

@@ -1,4 +1,4 @@
-use Rattle.std.proofs.Common.{◌*◌, ◌/◌, drop, ap, ◌∙◌, arith}
+use Rattle.std.proofs.Common.{◌*◌, ◌/◌, ap, ◌∙◌, arith}
 use Rattle.std.proofs.lemmas.List.{length-take}
 use Rattle.mask_bits.specs.Bitmap.{bitmap}
 use Rattle.mask_c.proofs.LastLemmas.{behind-last, written-combined, front-appended}
