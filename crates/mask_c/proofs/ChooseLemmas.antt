@@ -16,7 +16,7 @@ use Rattle.mask_bits.proofs.Lists.Words.PaddedLemmas.{length-padded_part}
 use Rattle.mask_bits.proofs.Lists.Places.PlaceLemmas.{positions-within}
 use Rattle.mask_bits.proofs.Lists.Places.SelectLemmas.{no_index, indices_from-moved, places-word_more, positions-lowest}
 use Rattle.mask_bits.proofs.Lists.Words.WordLemmas.{get_or-word_bits, length-word_bits, word_bits_from_bits}
-use Rattle.vortex_mask.proofs.Kernels.WordKernelLemmas.{part-same, places-same}
+use Rattle.vortex_mask.proofs.Lists.StartedWordLemmas.{part-same, places-same}
 use Rattle.mask_c.specs.Strings.{items_at}
 use Rattle.mask_c.proofs.StringLemmas.{items_at-more}
 

@@ -12,7 +12,7 @@ use Rattle.mask_bits.specs.Buffer.{backing_bit}
 use Rattle.mask_bits.specs.Positions.{true_at}
 use Rattle.mask_bits.proofs.Lists.BooleanValueLemmas.{value_of_true_at}
 use Rattle.mask_bits.proofs.Lists.RankLemmas.{length-true_at}
-use Rattle.vortex_mask.proofs.Kernels.WordKernelLemmas.{list-from_bits}
+use Rattle.vortex_mask.proofs.Lists.StartedWordLemmas.{list-from_bits}
 use Rattle.mask_c.specs.Bitmap.{AreClearBehind}
 use Rattle.mask_c.proofs.LastLemmas.{front-appended}
 

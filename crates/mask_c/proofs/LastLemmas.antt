@@ -23,7 +23,7 @@ use Rattle.mask_bits.proofs.Lists.Words.WordLemmas.{get_or-word_bits, length-wor
 use Rattle.mask_bits.proofs.Lists.RankLemmas.{narrow, rank_intersection-all_true, rank_intersection-narrow}
 use Rattle.mask_bits.proofs.Lists.Words.BackingBitLemmas.{bitmap-append, length-bitmap, get_or-bitmap}
 use Rattle.mask_bits.proofs.Lists.Words.FrontLemmas.{length-window, front-same, get_or-put_mid_below, get_or-put_mid_inside, get_or-window, window_from_bits, window-take}
-use Rattle.vortex_mask.proofs.Kernels.WordKernelLemmas.{list-from_bits}
+use Rattle.vortex_mask.proofs.Lists.StartedWordLemmas.{list-from_bits}
 use Rattle.mask_c.specs.Bitmap.{AreClearBehind}
 use borrow.Rule.Slice.PartMut.{put_mid}
 

@@ -18,9 +18,7 @@ use Rattle.mask_bits.proofs.Lists.Words.BackingBitLemmas.{length-bitmap}
 use Rattle.mask_bits.proofs.Lists.Words.ShiftLemmas.{get_or-word_bits_or}
 use Rattle.mask_bits.proofs.Lists.Words.WordLemmas.{get_or-word_bits}
 use Rattle.vortex_mask.specs.Ranks.{AreSplit}
-use Rattle.vortex_mask.proofs.Kernels.RankRunLemmas.{ascending-take}
-use Rattle.vortex_mask.proofs.Kernels.RankWordLemmas.{bit_of_pow, none-is, rises-to}
-use Rattle.vortex_mask.proofs.Masks.PlaceListLemmas.{narrowed_at}
+use Rattle.vortex_mask.proofs.Lists.PlaceListLemmas.{ascending-take, bit_of_pow, narrowed_at, none-is, rises-to}
 use Rattle.mask_c.proofs.LastLemmas.{bitmap-split, count-split, front-appended, front-split, rank_intersection-append}
 
 -- the ranks from number `cut` on are at least `from`, and are the set bits of a word

@@ -9,6 +9,5 @@ pub mod GroupLemmas
 pub mod MaskLemmas
 pub mod MaskWalkLemmas
 pub mod MergeLemmas
-pub mod PlaceListLemmas
 pub mod ReadingLemmas
 pub mod SoundRangeLemmas

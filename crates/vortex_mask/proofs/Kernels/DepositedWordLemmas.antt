@@ -6,7 +6,8 @@ use Rattle.mask_bits.specs.Words.{word_bits}
 use Rattle.mask_bits.proofs.Lists.Words.FrontLemmas.{get_or-window}
 use Rattle.mask_bits.proofs.Lists.Words.PaddedLemmas.{get_or-padded_part}
 use Rattle.vortex_mask.specs.Laws.Deposit.{DepositIsWordOfRankIntersection, StartedWordsAreTheList}
-use Rattle.vortex_mask.proofs.Kernels.WordKernelLemmas.{IsAt, deposited-word, list-from_bits, rank_bits-window}
+use Rattle.vortex_mask.proofs.Kernels.WordKernelLemmas.{deposited-word, rank_bits-window}
+use Rattle.vortex_mask.proofs.Lists.StartedWordLemmas.{IsAt, list-from_bits}
 
 pub deposit_is_word_of_rank_intersection : DepositIsWordOfRankIntersection
 deposit_is_word_of_rank_intersection m ranks i source mask result fits shows reads is =

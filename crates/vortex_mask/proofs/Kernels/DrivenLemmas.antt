@@ -21,7 +21,7 @@ use Rattle.mask_bits.proofs.Lists.Words.WordLemmas.{count-word_bits}
 use Rattle.vortex_mask.specs.Deposit.{selected}
 use Rattle.vortex_mask.specs.Ranks.{AreRanks, HasRead}
 use Rattle.vortex_mask.specs.Steps.{StepCounts}
-use Rattle.vortex_mask.proofs.Masks.PlaceListLemmas.{at_indices-ascending}
+use Rattle.vortex_mask.proofs.Lists.PlaceListLemmas.{at_indices-ascending}
 use Rattle.vortex_mask.proofs.Kernels.WordKernelLemmas.{word-started}
 
 -- where a true value stands past the words read, there is a further word

@@ -1,49 +1,30 @@
 -- Ascending ranks as the rank bits of a word.
 use Rattle.std.proofs.lemmas.Grind.{common_steps}
-use Rattle.std.proofs.Common.{◌≡◌, ℕ, suc, ◌+◌, ◌-◌, ◌*◌, ◌<◌, ◌≤◌, ◌^◌, ◌||◌, inl, inr, Bool, false, nat_eq, List, [], ◌∷◌, length, get_or, take, drop, refl, sym, ap, subst, ◌∙◌, arith, ◌%◌}
+use Rattle.std.proofs.Common.{◌≡◌, ℕ, ◌+◌, ◌-◌, ◌*◌, ◌<◌, ◌≤◌, ◌^◌, ◌||◌, inl, inr, Bool, false, nat_eq, List, length, get_or, take, drop, refl, sym, ap, subst, ◌∙◌, arith, ◌%◌}
 use Rattle.std.proofs.Math.Bool.{or-false}
 use lib.Bits.{or_zero_r}
 use Rattle.std.specs.Int.RustNames.{bit_or}
 use Rattle.std.specs.List.{list_any}
 use Rattle.std.specs.List.Sorted.{IsStrictlyIncreasing}
-use Rattle.std.proofs.lemmas.Bool.{cases_lt, cases_eq, eq-eqb, ne_eqb}
+use Rattle.std.proofs.lemmas.Bool.{cases_lt}
 use Rattle.std.proofs.lemmas.List.{take_more, take-append-drop, get_or-take, get_or-drop, length-take, length-drop}
 use Rattle.std.proofs.lemmas.List.Folds.{list_any-append}
-use Rattle.std.proofs.lemmas.Nat.Bits.{bit_at-zero, bit_at-pow_same, bit_at-pow_other}
-use Rattle.std.proofs.lemmas.List.Kept.{AllPairs-from_increasing}
+use Rattle.std.proofs.lemmas.Nat.Bits.{bit_at-zero}
 use Rattle.std.proofs.lemmas.Nat.{one_shl}
 use Rattle.mask_bits.specs.Positions.{count, true_at}
 use Rattle.mask_bits.specs.Words.{word_bits}
-use Rattle.vortex_mask.proofs.Kernels.WordKernelLemmas.{AreRankBits, IsAt, place-after_within}
+use Rattle.vortex_mask.proofs.Kernels.WordKernelLemmas.{AreRankBits}
+use Rattle.vortex_mask.proofs.Lists.PlaceListLemmas.{bit_of_pow, none-is, rises-to}
+use Rattle.vortex_mask.proofs.Lists.StartedWordLemmas.{IsAt, place-after_within}
 use Rattle.mask_bits.proofs.Lists.BooleanValueLemmas.{value_of_true_at}
 use Rattle.mask_bits.proofs.Lists.Words.ShiftLemmas.{get_or-word_bits_or}
 use Rattle.mask_bits.proofs.Lists.Words.WordLemmas.{get_or-word_bits}
 use Rattle.vortex_mask.specs.Ranks.{AreSplit, IsGathered}
 
--- ---- a place that none is
-
-pub none-is : (p : ℕ) (xs : List ℕ) → ((k : ℕ) → k < length xs → get_or xs k 0 ≡ p → ⊥) → list_any (nat_eq p) xs ≡ false
-none-is p [] apart = refl
-none-is p (x ∷ xs) apart =
-    ap (λ b. b || list_any (nat_eq p) xs) (ne_eqb p x (λ same. apart 0 (omega arith) (sym same)))
-    ∙ none-is p xs (λ k h. apart (suc k) (omega arith))
-
--- ---- ascending numbers
-
-pub rises-to : (xs : List ℕ) (i k : ℕ) → IsStrictlyIncreasing xs → i ≤ k → k < length xs → get_or xs i 0 ≤ get_or xs k 0
-rises-to xs i k ascending h inside = elim (cases_lt i k) [
-  | inl less ↦ omega (arith, AllPairs-from_increasing xs ascending i k 0 less inside)
-  | inr past ↦ let same : i ≡ k = omega arith in omega (arith, ap (λ j. get_or xs j 0) same)
-]
-
 -- ---- the walk
 
 pub gathered-none : (ranks : List ℕ) (at end next : ℕ) → at ≤ end → AreSplit ranks next at → IsGathered ranks at end next 0
 gathered-none ranks at end next ordered split = grind (arith, get_or-word_bits, bit_at-zero, none-is, length-take, get_or-take)
-
--- the one bit of a power of two
-pub bit_of_pow : (at x j : ℕ) → at ≤ x → j < 64 → get_or (word_bits (2 ^ (x - at))) j false ≡ (nat_eq (at + j) x || false)
-bit_of_pow at x j h few = grind (arith, get_or-word_bits, cases_eq, bit_at-pow_same, eq-eqb, bit_at-pow_other, ne_eqb)
 
 pub gathered-more : (ranks : List ℕ) (at end next bits bit : ℕ) → next < length ranks → get_or ranks next 0 < end → bit ≡ 2 ^ (get_or ranks next 0 - at)
     → IsGathered ranks at end next bits → IsGathered ranks at end (next + 1) (bit_or bits bit)

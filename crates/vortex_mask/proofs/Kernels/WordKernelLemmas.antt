@@ -1,49 +1,31 @@
 -- A rank intersection word by word: each started word of the mask takes a deposit of rank bits.
-use Rattle.std.proofs.Common.{◌≡◌, ℕ, suc, ◌+◌, ◌*◌, ◌-◌, ◌/◌, ◌<◌, ◌≤◌, ◌⊎◌, Bool, false, List, [], ◌∷◌, length, get_or, take, drop, sym, ap, subst, ◌∙◌, inl, inr, arith, ◌^◌}
+use Rattle.std.proofs.Common.{◌≡◌, ℕ, ◌+◌, ◌*◌, ◌-◌, ◌/◌, ◌<◌, ◌≤◌, ◌⊎◌, Bool, false, List, length, get_or, take, drop, sym, ap, subst, ◌∙◌, inl, inr, arith}
 use Rattle.std.proofs.Math.Seq.{take-add}
 use Rattle.std.proofs.lemmas.Bool.{cases_lt}
-use Rattle.std.proofs.lemmas.List.{ext_get_or, get_or-take, get_or-drop, get_or_past, length-take, take_all, take-append-drop}
+use Rattle.std.proofs.lemmas.List.{take_all}
 use Rattle.mask_bits.specs.Buffer.{Packed, backing_bit, values}
-use Rattle.mask_bits.specs.Positions.{count, count_below, indices_from, rank_intersection}
+use Rattle.mask_bits.specs.Positions.{count, count_below, rank_intersection}
 use Rattle.mask_bits.specs.Words.{word_bits, word_part, window, padded_part, padded_remainder, started_words}
 use Rattle.mask_bits.proofs.Lists.Words.BackingBitLemmas.{length-bitmap, get_or-bitmap}
 use Rattle.mask_bits.proofs.Lists.CountLemmas.{count-append}
-use Rattle.mask_bits.proofs.Lists.Words.FrontLemmas.{get_or-front, get_or-window}
+use Rattle.mask_bits.proofs.Lists.Words.FrontLemmas.{get_or-window}
 use Rattle.mask_bits.proofs.Lists.LawLemmas.{rank_intersection_value}
 use Rattle.mask_bits.proofs.Lists.Words.PaddedLemmas.{get_or-padded_part, padded_part_from_values, padded_part-whole, padded_part-remainder}
 use Rattle.mask_bits.proofs.Lists.Places.PlaceLemmas.{count-le-length, count-trues}
-use Rattle.mask_bits.proofs.Lists.Places.SelectLemmas.{count-word_more, no_index}
+use Rattle.mask_bits.proofs.Lists.Places.SelectLemmas.{count-word_more}
 use Rattle.mask_bits.proofs.Lists.Words.WordLemmas.{length-word_bits}
 use Rattle.vortex_mask.specs.Deposit.{Deposits}
 use Rattle.vortex_mask.specs.Steps.{StepCounts, word_steps}
+use Rattle.vortex_mask.proofs.Lists.StartedWordLemmas.{IsAt, list-from_bits, part-same, place-after_within, place-next, places-same}
 use Rattle.vortex_mask.proofs.Kernels.DepositListLemmas.{deposited-value, and_where, trues-take}
 
 -- ---- started parts
-
--- false values past the end have no place
-pub places-same : (n : ℕ) (xs ys : List Bool) → ((i : ℕ) → get_or xs i false ≡ get_or ys i false) → indices_from n xs ≡ indices_from n ys
-places-same n [] ys same = sym (no_index ys n (λ i. sym (same i)))
-places-same n (v ∷ xs) [] same = no_index (v ∷ xs) n same
-places-same n (v ∷ xs) (w ∷ ys) same = grind (arith, same 0, places-same (n + 1) xs ys (λ i. same (suc i)))
-
--- a started part has the first values from there on
-pub part-same : (m : List Bool) (i j k : ℕ) → j ≤ 64 → get_or (take j (drop (64 * i) m)) k false ≡ get_or (take j (padded_part m i)) k false
-part-same m i j k few =
-    let rest : List Bool = drop (64 * i) m in
-    elim (cases_lt k j) [
-      | inl h ↦ get_or-take j rest k false h ∙ get_or-drop (64 * i) m k false ∙ sym (get_or-take j (padded_part m i) k false h ∙ get_or-padded_part m i k (omega arith))
-      | inr past ↦ get_or_past (take j rest) k false (omega (arith, length-take j rest)) ∙ sym (get_or_past (take j (padded_part m i)) k false (omega (arith, length-take j (padded_part m i))))
-    ]
 
 -- the true values among the first ones of a started part
 count_below-part : (m : List Bool) (i j : ℕ) → j ≤ 64 → count_below m (64 * i + j) ≡ count_below m (64 * i) + count_below (padded_part m i) j
 count_below-part m i j few =
     ap count (take-add (64 * i) j m) ∙ count-append (take (64 * i) m) (take j (drop (64 * i) m))
     ∙ ap (λ n. count_below m (64 * i) + n) (ap length (places-same 0 (take j (drop (64 * i) m)) (take j (padded_part m i)) (λ k. part-same m i j k few)))
-
--- no part has more than the whole
-pub count_below-le : (m : List Bool) (n : ℕ) → count_below m n ≤ count m
-count_below-le m n = omega (arith, count-append (take n m) (drop n m), ap count (take-append-drop n m))
 
 -- ---- one word
 
@@ -52,22 +34,6 @@ pub word-started : (a : List Bool) (i m : ℕ) → i < started_words (length a)
     → (i < length a / 64 → word_bits m ≡ word_part a i) → (i ≡ length a / 64 → word_bits m ≡ padded_remainder a)
     → word_bits m ≡ padded_part a i
 word-started a i m started whole last = grind (arith, cases_lt, padded_part-whole, padded_part-remainder)
-
--- word i of a is m, which has so many true values, and `at` of the values before it are true
-pub record IsAt (a : List Bool) (i at m ones : ℕ) : Type 0 where
-  pub place : at ≡ count_below a (64 * i)
-  pub shows : word_bits m ≡ padded_part a i
-  pub counted : ones ≡ count (word_bits m)
-
--- the place of a word is a rank, and so is the one behind it
-pub place-within : (a : List Bool) (i at : ℕ) → at ≡ count_below a (64 * i) → at ≤ count a
-place-within a i at place = omega (arith, count_below-le a (64 * i))
-
-pub place-next : {a : List Bool} {i at m ones : ℕ} → IsAt a i at m ones → at + ones ≡ count_below a (64 * (i + 1))
-place-next {a} {i} mask = omega (arith, mask.place, mask.counted, ap count mask.shows, count-word_more a i)
-
-pub place-after_within : {a : List Bool} {i at m ones : ℕ} → IsAt a i at m ones → at + ones ≤ count a
-place-after_within {a} {i} {at} {m} {ones} mask = place-within a (i + 1) (at + ones) (place-next mask)
 
 -- the bits of a source are values of b from `at` on, as many as a word of the mask has true ones
 abbrev pub AreRankBits : List Bool → ℕ → ℕ → ℕ → Type 0
@@ -160,20 +126,10 @@ rank_bits-window a b s {i} {at} {m} fits mask read = λ k h.
     let few : k < 64 = omega (arith, count-le-length (word_bits m), length-word_bits m) in
     grind (arith, read, get_or-window b.bytes (b.offset + at) k false few, get_or-bitmap b.bytes b.offset b.len (at + k) false inside)
 
--- a place among the rank bits fits
-pub rank_place-fits : (a : List Bool) (b : Packed) (n : ℕ) → length (values b) ≡ count a → n ≤ count a → b.offset + b.len < 2 ^ 64 → b.offset + n < 2 ^ 64
-rank_place-fits a b n fits within small = omega (arith, length-bitmap b.bytes b.offset b.len)
-
 -- ---- all words
 
 all_below : (m : List Bool) → count_below m (64 * started_words (length m)) ≡ count m
 all_below m = ap count (take_all (64 * started_words (length m)) m (omega arith))
-
--- bytes whose first bits are a list's values have that list from bit 0 on
-pub list-from_bits : (m : List Bool) (bytes : List ℕ) → ((p : ℕ) → p < length m → backing_bit bytes p ≡ get_or m p false) → values (record { bytes = bytes; offset = 0; len = length m }) ≡ m
-list-from_bits m bytes same =
-    let len = length-bitmap bytes 0 (length m) in
-    ext_get_or false (values (record { bytes = bytes; offset = 0; len = length m })) m len (λ p h. get_or-front bytes (length m) p false (omega (arith, len)) ∙ same p (omega (arith, len)))
 
 pub deposited-list : {a r : List Bool} {i at : ℕ} {out : List ℕ} {steps : StepCounts} → length r ≡ length a → i ≡ started_words (length a)
     → IsDeposited a r i at out steps → values (record { bytes = out; offset = 0; len = length a }) ≡ r

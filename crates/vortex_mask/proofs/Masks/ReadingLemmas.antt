@@ -9,8 +9,9 @@ use Rattle.std.proofs.lemmas.List.Elements.{All-head, All-tail}
 use Rattle.std.proofs.lemmas.Option.{slice_get_past}
 use Rattle.mask_bits.specs.Positions.{positions, count, count_below, repeated}
 use Rattle.mask_bits.proofs.Lists.CountLemmas.{count-repeated_true, count-repeated_false, count-append, length-repeated, positions-repeated_true_at, positions-all_false, nil-repeated}
-use Rattle.mask_bits.proofs.Lists.Places.PlaceLemmas.{place-within, count-le-length}
+use Rattle.mask_bits.proofs.Lists.Places.PlaceLemmas.{place-within}
 use Rattle.mask_bits.proofs.Lists.Places.SelectLemmas.{count-part_further}
+use Rattle.vortex_mask.proofs.Lists.StartedWordLemmas.{count_below-within}
 
 -- ---- lists of one value
 
@@ -62,8 +63,4 @@ pub ruleset one_value_facts = (length-repeated, count-repeated_true, count-repea
 pub count-runs_on : (m : List Bool) (i j : ℕ) → i ≤ j → count_below m i + count (slice_range m i j) ≡ count_below m j
 count-runs_on m i j ordered = grind (arith, count-part_further)
 
--- no count is above its place
-pub count_below-le : (m : List Bool) (i : ℕ) → count_below m i ≤ i
-count_below-le m i = omega (arith, count-le-length (take i m), length-take i m)
-
-pub ruleset running_counts = (map_more, count-runs_on, count_below-le)
+pub ruleset running_counts = (map_more, count-runs_on, count_below-within)

@@ -105,7 +105,7 @@ impl Mask {
     }
 
     // The mask of `len` values that is true exactly at these indices, which it caches.
-    #[tactic(auto, using(crate::proofs::Masks::MaskLemmas::variant_facts, crate::proofs::Masks::PlaceListLemmas::index_facts))]
+    #[tactic(auto, using(crate::proofs::Masks::MaskLemmas::variant_facts, crate::proofs::Lists::PlaceListLemmas::index_facts))]
     pub(crate) fn of_indices(
         alloc: Global,
         len: usize,

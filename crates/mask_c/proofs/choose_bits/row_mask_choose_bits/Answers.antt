@@ -8,7 +8,7 @@ use Rattle.mask_bits.proofs.Lists.Places.PlaceLemmas.{count-le-length}
 use Rattle.mask_bits.proofs.Lists.Words.ExtractLemmas.{take-extracted}
 use Rattle.mask_bits.proofs.Lists.Words.WordLemmas.{count-word_bits}
 use Rattle.mask_c.proofs.ChooseBitsLemmas.{chosen-word_more, counted-word_more, extracted-clear, nothing_yet}
-use Rattle.vortex_mask.proofs.Kernels.WordKernelLemmas.{count_below-le}
+use Rattle.vortex_mask.proofs.Lists.StartedWordLemmas.{count_below-le}
 use Rattle.mask_c.proofs.LastLemmas.{front-split}
 use Rattle.mask_c.proofs.StringLemmas.{behind-later}
 use Rattle.mask_c.proofs.choose_bits.row_mask_choose_bits.Goals as goal

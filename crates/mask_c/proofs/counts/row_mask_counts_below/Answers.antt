@@ -3,7 +3,7 @@ use Rattle.std.proofs.lemmas.List.{ext_get_or, get_or-map, length-map}
 use Rattle.std.proofs.lemmas.List.Elements.{All-get_or}
 use Rattle.mask_bits.specs.Bitmap.{bitmap}
 use Rattle.mask_bits.specs.Positions.{count_below}
-use Rattle.vortex_mask.proofs.Masks.ReadingLemmas.{count_below-le}
+use Rattle.vortex_mask.proofs.Lists.StartedWordLemmas.{count_below-within}
 use Rattle.mask_c.proofs.BitmapLemmas.{count-runs_on}
 use Rattle.mask_c.proofs.counts.row_mask_counts_below.Goals as goal
 
@@ -13,7 +13,7 @@ overflow_add-below c =
     let index = get_or c.args.indices.now c.loop-i.i 0 in
     let so_far = c.loop-i.invariant in
     let further = count-runs_on c.args.bytes.now c.args.offset c.args.len c.loop-i.from index _ _ (so_far.behind c.loop-i.i (omega arith) (omega arith)) (All-get_or (λ j. j ≤ c.args.len) c.args.indices.now c.loop-i.i 0 (omega arith) c.requires.within) so_far.below c.count_bits-below.ensures in
-    omega (arith, further, count_below-le m index)
+    omega (arith, further, count_below-within m index)
 
 pub loop-i-preserved : goal.loop-i-preserved
 loop-i-preserved c =

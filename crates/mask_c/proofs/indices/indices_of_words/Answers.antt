@@ -1,7 +1,7 @@
 use Rattle.std.proofs.Common.{Bool, List, ◌+◌, ◌*◌, length, map, min, take, sym, ap, ◌∙◌, arith}
 use Rattle.std.proofs.lemmas.List.{take_all}
 use Rattle.mask_bits.specs.Positions.{count, indices_from, positions}
-use Rattle.vortex_mask.proofs.Kernels.WordKernelLemmas.{count_below-le}
+use Rattle.vortex_mask.proofs.Lists.StartedWordLemmas.{count_below-le}
 use Rattle.mask_c.proofs.IndexLemmas.{bitmap-rest, indices-within, all_indices, first_indices, word_done, word_counted}
 use Rattle.mask_c.proofs.indices.indices_of_words.Goals as goal
 

@@ -6,7 +6,7 @@ use Rattle.mask_bits.proofs.Lists.LawLemmas.{length-rank_intersection}
 use Rattle.mask_bits.proofs.Lists.Words.BackingBitLemmas.{length-bitmap}
 use Rattle.mask_bits.proofs.Lists.Words.PaddedLemmas.{padded_part-whole}
 use Rattle.mask_bits.proofs.Lists.Words.WordLemmas.{count-word_bits}
-use Rattle.vortex_mask.proofs.Kernels.WordKernelLemmas.{IsAt, place-after_within, place-next, place-within, rank_place-fits}
+use Rattle.vortex_mask.proofs.Lists.StartedWordLemmas.{IsAt, place-after_within, place-next, place-within, rank_place-fits}
 use Rattle.mask_c.proofs.LastLemmas.{window-kept}
 use Rattle.mask_c.proofs.intersect.narrow_few.Goals as goal
 use Rattle.mask_c.proofs.intersect.narrow_few.Goals.{After-word-word}

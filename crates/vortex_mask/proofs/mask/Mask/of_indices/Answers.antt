@@ -4,7 +4,7 @@ use Rattle.std.proofs.lemmas.List.{nil_from_length}
 use Rattle.mask_bits.proofs.Lists.CountLemmas.{positions-all_false}
 use Rattle.mask_bits.proofs.Lists.Places.AscendingLemmas.{positions-full}
 use Rattle.vortex_mask.proofs.Masks.MaskLemmas.{variant_facts}
-use Rattle.vortex_mask.proofs.Masks.PlaceListLemmas.{index_facts}
+use Rattle.vortex_mask.proofs.Lists.PlaceListLemmas.{index_facts}
 use Rattle.vortex_mask.proofs.mask.Mask.of_indices.Goals as goal
 
 pub returns-in-Some-clause-mask : goal.returns-in-Some-clause-mask

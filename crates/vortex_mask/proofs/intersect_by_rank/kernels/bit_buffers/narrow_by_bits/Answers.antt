@@ -3,7 +3,8 @@ use Rattle.mask_bits.specs.Buffer.{values}
 use Rattle.mask_bits.specs.Positions.{count_below}
 use Rattle.mask_bits.proofs.Lists.LawLemmas.{length-rank_intersection}
 use Rattle.mask_bits.proofs.Lists.Words.WordLemmas.{count-word_bits}
-use Rattle.vortex_mask.proofs.Kernels.WordKernelLemmas.{IsAt, deposited-more, deposited-two, word-started, rank_bits-window, place-next, place-within, place-after_within, rank_place-fits, deposited-list, deposited-steps}
+use Rattle.vortex_mask.proofs.Kernels.WordKernelLemmas.{deposited-more, deposited-two, word-started, rank_bits-window, deposited-list, deposited-steps}
+use Rattle.vortex_mask.proofs.Lists.StartedWordLemmas.{IsAt, place-next, place-within, place-after_within, rank_place-fits}
 use Rattle.vortex_mask.proofs.intersect_by_rank.kernels.bit_buffers.narrow_by_bits.Goals as goal
 use Rattle.vortex_mask.proofs.intersect_by_rank.kernels.bit_buffers.narrow_by_bits.Goals.{After-two_words-both, After-word-word}
 use Rattle.vortex_mask.proofs.intersect_by_rank.kernels.bit_buffers.narrow_by_bits.Given.{Over}

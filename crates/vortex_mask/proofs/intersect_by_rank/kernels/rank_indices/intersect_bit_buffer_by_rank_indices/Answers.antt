@@ -3,7 +3,7 @@ use Rattle.std.proofs.lemmas.List.{take_at}
 use Rattle.mask_bits.specs.Buffer.{values}
 use Rattle.mask_bits.specs.Positions.{positions, true_at, at_indices}
 use Rattle.mask_bits.proofs.Lists.Words.BackingBitLemmas.{length-bitmap}
-use Rattle.vortex_mask.proofs.Masks.PlaceListLemmas.{positions-at_indices, count-at_indices}
+use Rattle.vortex_mask.proofs.Lists.PlaceListLemmas.{positions-at_indices, count-at_indices}
 use Rattle.vortex_mask.proofs.intersect_by_rank.kernels.rank_indices.intersect_bit_buffer_by_rank_indices.Goals as goal
 
 -- what is written, as the words are lent out and given back

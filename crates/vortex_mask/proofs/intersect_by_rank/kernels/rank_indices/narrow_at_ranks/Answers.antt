@@ -3,9 +3,10 @@ use Rattle.mask_bits.specs.Positions.{count, count_below, true_at}
 use Rattle.mask_bits.proofs.Lists.Places.PlaceLemmas.{count-le-length}
 use Rattle.mask_bits.proofs.Lists.RankLemmas.{length-true_at}
 use Rattle.mask_bits.proofs.Lists.Words.WordLemmas.{count-word_bits}
-use Rattle.vortex_mask.proofs.Masks.PlaceListLemmas.{narrowed_at}
+use Rattle.vortex_mask.proofs.Lists.PlaceListLemmas.{narrowed_at}
 use Rattle.vortex_mask.proofs.Kernels.RankWordLemmas.{rank_bits-listed}
-use Rattle.vortex_mask.proofs.Kernels.WordKernelLemmas.{IsAt, deposited-more, deposited-two, word-started, place-next, place-after_within, deposited-list, deposited-steps}
+use Rattle.vortex_mask.proofs.Kernels.WordKernelLemmas.{deposited-more, deposited-two, word-started, deposited-list, deposited-steps}
+use Rattle.vortex_mask.proofs.Lists.StartedWordLemmas.{IsAt, place-next, place-after_within}
 use Rattle.vortex_mask.proofs.intersect_by_rank.kernels.rank_indices.narrow_at_ranks.Given.{Over}
 use Rattle.vortex_mask.proofs.intersect_by_rank.kernels.rank_indices.narrow_at_ranks.Goals as goal
 use Rattle.vortex_mask.proofs.intersect_by_rank.kernels.rank_indices.narrow_at_ranks.Goals.{After-two_words-both, After-word-word}

@@ -1,7 +1,7 @@
 use Rattle.std.proofs.Common.{◌+◌, refl, arith}
 use Rattle.mask_bits.proofs.Lists.Places.PlaceLemmas.{count-le-length}
 use Rattle.vortex_mask.proofs.Kernels.DrivenLemmas.{more-words, read-more}
-use Rattle.vortex_mask.proofs.Kernels.WordKernelLemmas.{place-within}
+use Rattle.vortex_mask.proofs.Lists.StartedWordLemmas.{place-within}
 use Rattle.vortex_mask.proofs.intersect_by_rank.kernels.mask_driven.Reached.read_to.Goals as goal
 
 pub overflow_add-end : goal.overflow_add-end

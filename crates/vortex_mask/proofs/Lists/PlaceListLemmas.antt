@@ -1,13 +1,44 @@
--- Ascending lists of indices as the true indices of masks.
-use Rattle.std.proofs.Common.{◌≡◌, ℕ, ◌<◌, Bool, List, length, get_or, sym, subst, ap, ◌∙◌}
-use Rattle.std.specs.List.{All}
-use Rattle.std.proofs.lemmas.List.{length-map}
+-- Ascending lists of indices, also as the true indices of masks.
+use Rattle.std.proofs.Common.{◌≡◌, ℕ, suc, ◌+◌, ◌-◌, ◌^◌, ◌<◌, ◌≤◌, ◌||◌, Bool, false, nat_eq, List, [], ◌∷◌, length, get_or, take, refl, sym, subst, ap, ◌∙◌, inl, inr, arith}
+use Rattle.std.specs.List.{All, list_any}
+use Rattle.std.proofs.lemmas.Bool.{cases_eq, cases_lt, eq-eqb, ne_eqb}
+use Rattle.std.proofs.lemmas.List.{get_or-take, length-map, length-take}
+use Rattle.std.proofs.lemmas.List.Kept.{AllPairs-from_increasing}
+use Rattle.std.proofs.lemmas.Nat.Bits.{bit_at-pow_same, bit_at-pow_other}
 use Rattle.std.specs.List.Sorted.{IsStrictlyIncreasing}
 use Rattle.mask_bits.specs.Positions.{positions, count, true_at, at_indices, rank_intersection}
 use Rattle.mask_bits.proofs.Lists.Places.AscendingLemmas.{positions-true_at, positions-ascending, positions-full}
 use Rattle.mask_bits.proofs.Lists.CountLemmas.{positions-all_false}
 use Rattle.mask_bits.proofs.Lists.LawLemmas.{positions-rank_intersection}
 use Rattle.mask_bits.proofs.Lists.RankLemmas.{length-true_at}
+use Rattle.mask_bits.proofs.Lists.Words.WordLemmas.{get_or-word_bits}
+use Rattle.mask_bits.specs.Words.{word_bits}
+
+-- ---- ascending numbers
+
+-- a number that none is
+pub none-is : (p : ℕ) (xs : List ℕ) → ((k : ℕ) → k < length xs → get_or xs k 0 ≡ p → ⊥) → list_any (nat_eq p) xs ≡ false
+none-is p [] apart = refl
+none-is p (x ∷ xs) apart =
+    ap (λ b. b || list_any (nat_eq p) xs) (ne_eqb p x (λ same. apart 0 (omega arith) (sym same)))
+    ∙ none-is p xs (λ k h. apart (suc k) (omega arith))
+
+-- a later one is no less
+pub rises-to : (xs : List ℕ) (i k : ℕ) → IsStrictlyIncreasing xs → i ≤ k → k < length xs → get_or xs i 0 ≤ get_or xs k 0
+rises-to xs i k ascending h inside = elim (cases_lt i k) [
+  | inl less ↦ omega (arith, AllPairs-from_increasing xs ascending i k 0 less inside)
+  | inr past ↦ let same : i ≡ k = omega arith in omega (arith, ap (λ j. get_or xs j 0) same)
+]
+
+-- the first numbers of ascending ones ascend
+pub ascending-take : (n : ℕ) (xs : List ℕ) → IsStrictlyIncreasing xs → IsStrictlyIncreasing (take n xs)
+ascending-take n xs ascending = grind (arith, length-take, get_or-take)
+
+-- the one bit of a power of two
+pub bit_of_pow : (at x j : ℕ) → at ≤ x → j < 64 → get_or (word_bits (2 ^ (x - at))) j false ≡ (nat_eq (at + j) x || false)
+bit_of_pow at x j h few = grind (arith, get_or-word_bits, cases_eq, bit_at-pow_same, eq-eqb, bit_at-pow_other, ne_eqb)
+
+-- ---- indices
 
 pub ruleset index_facts = (positions-true_at, length-true_at, positions-all_false, positions-full)
 

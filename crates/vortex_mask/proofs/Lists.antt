@@ -1,0 +1,3 @@
+-- Lemmas on lists of truth values and of indices, for this crate and for those above it.
+pub mod PlaceListLemmas
+pub mod StartedWordLemmas
