@@ -50,10 +50,10 @@ fill (suc k) s m fits =
 
 -- ---- k bits of a source
 
--- all of them are deposited where no place is clear
 low_bits : (k s : ℕ) → s % 2 ^ suc k ≡ s / 2 % 2 ^ k * 2 + s % 2
 low_bits k s = low_split 2 k s (omega arith)
 
+-- all of them are deposited where no place is clear
 pub deposit-all : (k s : ℕ) → deposit k s (2 ^ k - 1) ≡ s % 2 ^ k
 unfolding deposit
 deposit-all zero s = omega arith

@@ -19,6 +19,7 @@ low_bit k x y i l = ap (λ n. bit_at n i) (add_comm x (y * 2 ^ k)) ∙ bit_at_ca
 high_bit : (k x y i : ℕ) → x < 2 ^ k → k ≤ i → bit_at (x + y * 2 ^ k) i ≡ bit_at y (i - k)
 high_bit k x y i h l = ap (λ n. bit_at n i) (add_comm x (y * 2 ^ k)) ∙ bit_at_cat_high y k x i h l
 
+-- an operation that goes by each bit alone
 module _ (op law : ℕ → ℕ → ℕ) (bits : (x y i : ℕ) → bit_at (op x y) i ≡ law (bit_at x i) (bit_at y i)) where
   op_apart : (k a b c d : ℕ) → a < 2 ^ k → c < 2 ^ k → op a c < 2 ^ k → op (a + b * 2 ^ k) (c + d * 2 ^ k) ≡ op a c + op b d * 2 ^ k
   op_apart k a b c d fa fc f = same_from_bits _ _ (λ i. bits (a + b * 2 ^ k) (c + d * 2 ^ k) i ∙ by i (cases_lt i k))

@@ -19,15 +19,13 @@ use Rattle.vortex_mask.specs.Steps.{StepCounts, word_steps}
 use Rattle.vortex_mask.proofs.Lists.StartedWordLemmas.{IsAt, list-from_bits, part-same, place-after_within, place-next, places-same}
 use Rattle.vortex_mask.proofs.Kernels.DepositListLemmas.{deposited-value, and_where, trues-take}
 
--- ---- started parts
+-- ---- one word
 
 -- the true values among the first ones of a started part
 count_below-part : (m : List Bool) (i j : ℕ) → j ≤ 64 → count_below m (64 * i + j) ≡ count_below m (64 * i) + count_below (padded_part m i) j
 count_below-part m i j few =
     ap count (take-add (64 * i) j m) ∙ count-append (take (64 * i) m) (take j (drop (64 * i) m))
     ∙ ap (λ n. count_below m (64 * i) + n) (ap length (places-same 0 (take j (drop (64 * i) m)) (take j (padded_part m i)) (λ k. part-same m i j k few)))
-
--- ---- one word
 
 -- word i of a mask, whether it is a whole one or the remainder
 pub word-started : (a : List Bool) (i m : ℕ) → i < started_words (length a)
