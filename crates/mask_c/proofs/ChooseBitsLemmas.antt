@@ -12,8 +12,8 @@ use Rattle.mask_bits.specs.Extract.{Extracts}
 use Rattle.mask_bits.specs.Positions.{chosen, count, repeated}
 use Rattle.mask_bits.specs.Words.{padded_part, window, word_bits}
 use Rattle.mask_bits.proofs.Lists.ChooseLemmas.{chosen-all_false}
-use Rattle.mask_bits.proofs.Lists.CountLemmas.{all_false_from_count, count-repeated_false, get_or-padded, length-repeated}
-use Rattle.mask_bits.proofs.Lists.Places.SelectLemmas.{count-word_more, indices-of_none}
+use Rattle.mask_bits.proofs.Lists.CountLemmas.{get_or-padded, length-repeated}
+use Rattle.mask_bits.proofs.Lists.Places.SelectLemmas.{count-word_more}
 use Rattle.mask_bits.proofs.Lists.RowLemmas.{chosen_of_two_chunks}
 use Rattle.mask_bits.proofs.Lists.Words.ChosenWordLemmas.{chosen-none}
 use Rattle.mask_bits.proofs.Lists.Words.FrontLemmas.{front-more_word, get_or-put_mid_inside, get_or-window, length-window, window_from_bits}
@@ -204,20 +204,6 @@ chosen-word_more rows m i len =
     ∙ sym (chosen_of_two_chunks (take n rows) here (take n m) choice same)
     ∙ ap₂ chosen (sym (take-add n 64 rows)) (sym (take-add n 64 m)) ∙ ap (λ j. chosen (take j rows) (take j m)) next
 
--- which are none where no value of the word is true
-word_of_none : word_bits 0 ≡ repeated 64 false
-word_of_none = all_false_from_count 0 (word_bits 0) (ap length (indices-of_none 0)) ∙ ap (λ n. repeated n false) (length-word_bits 0)
-
-pub chosen-word_of_none : (rows m : List Bool) (i : ℕ) → length rows ≡ length m → word_bits 0 ≡ padded_part m i
-    → chosen (take (64 * i) rows) (take (64 * i) m) ≡ chosen (take (64 * (i + 1)) rows) (take (64 * (i + 1)) m)
-chosen-word_of_none rows m i len reads =
-    let before : List Bool = chosen (take (64 * i) rows) (take (64 * i) m) in
-    let none : chosen (padded_part rows i) (padded_part m i) ≡ [] = ap (chosen (padded_part rows i)) (sym reads ∙ word_of_none) ∙ chosen-all_false (padded_part rows i) 64 in
-    sym (append-nil before) ∙ ap (λ (xs : List Bool). before ++ xs) (sym none) ∙ chosen-word_more rows m i len
-
 -- and how many these are
 pub counted-word_more : (m : List Bool) (i at mask : ℕ) → mask < 2 ^ 64 → at ≡ count (take (64 * i) m) → word_bits mask ≡ padded_part m i → at + count_ones mask ≡ count (take (64 * (i + 1)) m)
 counted-word_more m i at mask fits so_far reads = omega (arith, so_far, ap count reads, count-word_bits mask fits, count-word_more m i)
-
-pub counted-word_of_none : (m : List Bool) (i : ℕ) → word_bits 0 ≡ padded_part m i → count (take (64 * i) m) ≡ count (take (64 * (i + 1)) m)
-counted-word_of_none m i reads = omega (arith, ap count (sym reads ∙ word_of_none), count-repeated_false 64, count-word_more m i)
