@@ -1,10 +1,7 @@
-//! What calls answer, and how a row says it.
+//! What calls answer.
 
-use crate::bits::walks;
 use crate::fault::Fault;
-use crate::text::{LONGEST, Text};
 use mask_bits::{BitBuffer, BitChunks, BitIterator, SetIndices, SetSlices};
-use std::alloc::{AllocError, Global};
 use vortex_mask::intersect_by_rank::{RankPath, Steps};
 use vortex_mask::{
     AllOr, Fraction, Mask, MaskBoolIter, MaskIter, MaskSetIndices, MaskSetSlices, MaskValues,
@@ -62,7 +59,8 @@ impl<'a> Answer<'a> {
         }
     }
 
-    pub(crate) fn of_counted(outcome: Result<(Mask, Steps), Fault>) -> Result<Answer<'a>, Fault> {
+    /// Of a mask, and the steps to it.
+    pub fn of_counted(outcome: Result<(Mask, Steps), Fault>) -> Result<Answer<'a>, Fault> {
         match outcome {
             Ok((mask, steps)) => Ok(Answer::Counted(mask, steps)),
             Err(fault) => Err(fault),
@@ -100,7 +98,8 @@ impl<'a> Answer<'a> {
         }
     }
 
-    pub(crate) fn of_buffer(outcome: Result<BitBuffer, Fault>) -> Result<Answer<'a>, Fault> {
+    /// Of a buffer, by its list.
+    pub fn of_buffer(outcome: Result<BitBuffer, Fault>) -> Result<Answer<'a>, Fault> {
         match outcome {
             Ok(buffer) => Ok(Answer::Buffer(buffer)),
             Err(fault) => Err(fault),
@@ -198,258 +197,4 @@ impl<'a> Answer<'a> {
             Err(fault) => Err(fault),
         }
     }
-
-    /// The answer as a row says it.
-    pub fn text(&self, alloc: Global) -> Result<String, AllocError> {
-        let mut text = Text::new(alloc);
-        self.write(&mut text);
-        text.finish()
-    }
-
-    // A walk is at its end after that.
-    pub(crate) fn write_walk(self, text: &mut Text) {
-        match self {
-            Answer::Values(values) => write_values(text, values),
-            Answer::SetIndices(indices) => write_set_indices(text, indices),
-            Answer::SetSlices(ranges) => write_set_slices(text, ranges),
-            Answer::BitValues(values) => walks::write_values(text, values),
-            Answer::BitIndices(indices) => walks::write_indices(text, indices),
-            Answer::BitSlices(ranges) => walks::write_slices(text, ranges),
-            other => other.write(text),
-        }
-    }
-
-    fn write(&self, text: &mut Text) {
-        match self {
-            Answer::Mask(mask) => write_mask(text, mask),
-            Answer::Lent(mask) => write_mask(text, *mask),
-            Answer::Uncached(mask) => write_uncached(text, mask),
-            Answer::Counted(mask, steps) => write_counted(text, mask, steps),
-            Answer::Masks(masks) => write_masks(text, masks),
-            Answer::Buffer(buffer) => write_buffer(text, buffer),
-            Answer::LentBuffer(lent) => write_lent_buffer(text, lent),
-            Answer::Numbers(numbers) => text.put_numbers(numbers),
-            Answer::Indices(lent) => write_indices(text, lent),
-            Answer::Slices(lent) => write_slices(text, lent),
-            Answer::Iter(lent) => write_iter(text, lent),
-            Answer::List(list) => text.put_numbers(*list),
-            Answer::Ranges(list) => text.put_ranges(*list),
-            Answer::Part(list) => write_part(text, list),
-            Answer::PartBuffer(buffer) => write_buffer(text, *buffer),
-            Answer::Mixed(values) => write_mixed(text, values),
-            Answer::Words(chunks) => walks::write_words(text, chunks),
-            Answer::PaddedWords(chunks) => walks::write_padded(text, chunks),
-            Answer::Selected(buffer, numbers) => walks::write_selected(text, *buffer, *numbers),
-            Answer::BufferPart(buffer) => walks::write_backed(text, buffer),
-            Answer::LentPart(buffer) => walks::write_backed(text, *buffer),
-            _ => self.write_value(text),
-        }
-    }
-
-    fn write_value(&self, text: &mut Text) {
-        match self {
-            Answer::Flag(flag) => text.put(if *flag { "true" } else { "false" }),
-            Answer::Number(number) => text.put_number(*number),
-            Answer::Index(Some(index)) => text.put_number(*index),
-            Answer::Index(None) => text.put("none"),
-            Answer::Fraction(it) => text.put_pair(it.num, "/", it.den),
-            Answer::Path(path) => text.put_debug(path),
-            Answer::Display(mask) => text.put_display(*mask),
-            Answer::Word(word) => text.put_hex(*word),
-            Answer::Debug(mask) => text.put_debug(*mask),
-            Answer::DebugValue(values) => text.put_debug(*values),
-            Answer::DebugValues(values) => text.put_debug(values),
-            _ => text.put("done"),
-        }
-    }
-}
-
-const MOST_VALUES: usize = 80;
-
-const MOST_INDICES: usize = 100;
-
-// The values of a mask one by one, or `-`.
-fn write_list(text: &mut Text, mask: &Mask) {
-    if mask.is_empty() {
-        text.put("-");
-    }
-    for i in 0..mask.len() {
-        if i < mask.len() {
-            text.put_digit(mask.value(i));
-        }
-    }
-}
-
-fn variant_of(mask: &Mask) -> &'static str {
-    match mask {
-        Mask::AllTrue(_) => " AllTrue",
-        Mask::AllFalse(_) => " AllFalse",
-        Mask::Values(_) => " Values",
-    }
-}
-
-/// Writes the list of a mask, its variant, and what is cached.
-///
-/// A list of more than 80 values is its length with the indices of those that are true, as `130:63,64`, where they
-/// are mixed and at most a hundred are true, and otherwise how many are true: `3334 of 20000`.
-pub fn write_mask(text: &mut Text, mask: &Mask) {
-    write_uncached(text, mask);
-    if let Some(values) = mask.values() {
-        write_lists(text, values);
-    }
-}
-
-fn write_uncached(text: &mut Text, mask: &Mask) {
-    if mask.len() <= MOST_VALUES {
-        write_list(text, mask);
-    } else if mask.values().is_some() && mask.true_count() <= MOST_INDICES {
-        text.put_count(mask.len(), ":");
-        write_true(text, mask);
-    } else {
-        text.put_pair(mask.true_count(), " of ", mask.len());
-    }
-    text.put(variant_of(mask));
-}
-
-fn write_true(text: &mut Text, mask: &Mask) {
-    let mut is_next = false;
-    for index in mask.set_indices() {
-        text.put_next(if is_next { "," } else { "" }, index);
-        is_next = true;
-    }
-}
-
-fn write_lists(text: &mut Text, values: &MaskValues) {
-    if let Some(indices) = values.cached_indices() {
-        text.put(" indices ");
-        text.put_numbers(indices);
-    }
-    if let Some(ranges) = values.cached_slices() {
-        text.put(" ranges ");
-        text.put_ranges(ranges);
-    }
-}
-
-/// Writes the list, and what is cached.
-pub fn write_mixed(text: &mut Text, values: &MaskValues) {
-    write_buffer(text, values.bit_buffer());
-    write_lists(text, values);
-}
-
-// Deposits, words and selections; offered, placed and spots.
-fn write_counted(text: &mut Text, mask: &Mask, steps: &Steps) {
-    write_mask(text, mask);
-    text.put_next(" steps ", steps.deposits());
-    text.put_next(",", steps.words());
-    text.put_next(",", steps.selections());
-    text.put(" ");
-    text.put_display(&steps.offered());
-    text.put(",");
-    text.put_display(&steps.placed());
-    text.put(",");
-    text.put_display(&steps.spots());
-}
-
-fn write_masks(text: &mut Text, masks: &[Mask]) {
-    text.put_count(masks.len(), ":");
-    for mask in masks {
-        text.put(" ");
-        write_mask(text, mask);
-    }
-}
-
-/// Writes the list of a buffer, or of a long one its length and how many values are true.
-pub fn write_buffer(text: &mut Text, buffer: &BitBuffer) {
-    if buffer.len() > LONGEST {
-        text.put_pair(buffer.true_count(), " of ", buffer.len());
-    } else if buffer.is_empty() {
-        text.put("-");
-    } else {
-        write_bits(text, buffer);
-    }
-}
-
-fn write_bits(text: &mut Text, buffer: &BitBuffer) {
-    for i in 0..buffer.len() {
-        if i < buffer.len() {
-            text.put_digit(buffer.value(i));
-        }
-    }
-}
-
-fn write_lent_buffer(text: &mut Text, lent: &AllOr<&BitBuffer>) {
-    match lent {
-        AllOr::All => text.put("All"),
-        AllOr::None => text.put("None"),
-        AllOr::Some(buffer) => {
-            text.put("Some ");
-            write_buffer(text, *buffer);
-        }
-    }
-}
-
-// Each value, with how many are said to be left before it; and how many past the last.
-fn write_values(text: &mut Text, values: MaskBoolIter<'_>) {
-    let mut values = values;
-    for _ in 0..values.len() {
-        walks::write_hint(text, values.len(), values.size_hint());
-        walks::write_next(text, values.next());
-    }
-    walks::write_hint(text, values.len(), values.size_hint());
-    walks::write_end(text, values.next().is_none());
-}
-
-fn write_set_indices(text: &mut Text, indices: MaskSetIndices<'_>) {
-    text.put("indices");
-    for index in indices {
-        text.put_next(" ", index);
-    }
-}
-
-fn write_set_slices(text: &mut Text, ranges: MaskSetSlices<'_>) {
-    text.put("ranges");
-    for range in ranges {
-        text.put_range(" ", range);
-    }
-}
-
-fn write_indices(text: &mut Text, lent: &AllOr<&[usize]>) {
-    match lent {
-        AllOr::All => text.put("All"),
-        AllOr::None => text.put("None"),
-        AllOr::Some(indices) => put_indices(text, *indices),
-    }
-}
-
-fn write_slices(text: &mut Text, lent: &AllOr<&[(usize, usize)]>) {
-    match lent {
-        AllOr::All => text.put("All"),
-        AllOr::None => text.put("None"),
-        AllOr::Some(ranges) => put_slices(text, *ranges),
-    }
-}
-
-fn write_iter(text: &mut Text, lent: &AllOr<MaskIter<'_>>) {
-    match lent {
-        AllOr::All => text.put("All"),
-        AllOr::None => text.put("None"),
-        AllOr::Some(list) => write_part(text, list),
-    }
-}
-
-fn write_part(text: &mut Text, list: &MaskIter<'_>) {
-    match list {
-        MaskIter::Indices(indices) => put_indices(text, *indices),
-        MaskIter::Slices(ranges) => put_slices(text, *ranges),
-    }
-}
-
-fn put_indices(text: &mut Text, indices: &[usize]) {
-    text.put("Indices ");
-    text.put_numbers(indices);
-}
-
-fn put_slices(text: &mut Text, ranges: &[(usize, usize)]) {
-    text.put("Slices ");
-    text.put_ranges(ranges);
 }

@@ -1,5 +1,6 @@
 //! The calls of packed bits. Each tests what its call requires, and hands out the answer with no clause.
 
+pub mod builder;
 pub mod one;
 pub mod parts;
 pub mod two;
@@ -9,7 +10,7 @@ use crate::answer::Answer;
 use crate::fault::{Fault, made};
 use crate::packed;
 use crate::text::Text;
-use crate::words::Words;
+use crate::words::{Words, named};
 use mask_bits::BitBuffer;
 use std::alloc::Global;
 
@@ -80,10 +81,7 @@ pub enum BitsCall {
     Of(one::OfBits, Bits),
     OfTwo(two::OfTwoBits, Bits, Bits),
     With(parts::WithNumbers, Bits, usize, usize),
-    Uniform(usize, bool),
-    FromIndices(usize, Vec<usize>),
-    FromBools(Vec<bool>),
-    FromRows(Vec<bool>),
+    Making(MakingBits),
 }
 
 impl BitsCall {
@@ -93,10 +91,7 @@ impl BitsCall {
             BitsCall::Of(call, a) => call.run(alloc, a),
             BitsCall::OfTwo(call, a, b) => call.run(alloc, a, b),
             BitsCall::With(call, a, first, second) => call.run(a, *first, *second),
-            BitsCall::Uniform(len, value) => run_uniform(alloc, len, *value),
-            BitsCall::FromIndices(len, list) => run_indices(alloc, *len, list),
-            BitsCall::FromBools(list) => run_bools(alloc, list),
-            BitsCall::FromRows(list) => run_rows(alloc, list),
+            BitsCall::Making(call) => call.run(alloc),
         }
     }
 
@@ -125,56 +120,59 @@ impl BitsCall {
 
     /// The call of this name, behind `bits.`, and its operands.
     pub fn read(words: &mut Words<'_>, name: &str) -> Option<BitsCall> {
-        if let Some(call) = one::OfBits::named(name) {
+        if let Some(call) = named(name, &one::OF_BITS) {
             return Some(BitsCall::Of(call, Bits::next(words)));
         }
-        if let Some(call) = two::OfTwoBits::named(name) {
+        if let Some(call) = named(name, &two::OF_TWO_BITS) {
             return Some(BitsCall::OfTwo(call, Bits::next(words), Bits::next(words)));
         }
-        match parts::WithNumbers::named(name) {
-            Some(call) => {
-                let (bits, first) = (Bits::next(words), words.number());
-                Some(BitsCall::With(call, bits, first, second(words)))
-            }
-            None => read_made(words, name),
+        if let Some(call) = named(name, &parts::WITH_TWO) {
+            let (bits, first) = (Bits::next(words), words.number());
+            return Some(BitsCall::With(call, bits, first, words.number()));
+        }
+        match named(name, &parts::WITH_ONE) {
+            Some(call) => Some(BitsCall::With(call, Bits::next(words), words.number(), 0)),
+            None => match MakingBits::read(words, name) {
+                Some(call) => Some(BitsCall::Making(call)),
+                None => None,
+            },
         }
     }
 }
 
-// A second number is 0 where none is there.
-fn second(words: &mut Words<'_>) -> usize {
-    if words.is_at_end() { 0 } else { words.number() }
+/// A constructor of packed bits with its operands.
+#[derive(Drop)]
+pub enum MakingBits {
+    Uniform(usize, bool),
+    FromIndices(usize, Vec<usize>),
+    FromBools(Vec<bool>),
+    FromRows(Vec<bool>),
 }
 
-fn read_made(words: &mut Words<'_>, name: &str) -> Option<BitsCall> {
-    match name {
-        "new_set" => Some(BitsCall::Uniform(words.number(), true)),
-        "new_unset" => Some(BitsCall::Uniform(words.number(), false)),
-        "from_bools" => Some(BitsCall::FromBools(words.values())),
-        "from_rows" => Some(BitsCall::FromRows(words.values())),
-        "from_indices" => Some(BitsCall::FromIndices(words.number(), words.numbers())),
-        _ => None,
+impl MakingBits {
+    fn run<'a>(&'a mut self, alloc: Global) -> Result<Answer<'a>, Fault> {
+        Answer::of_buffer(self.buffer(alloc))
     }
-}
 
-fn run_uniform<'a>(alloc: Global, len: &'a mut usize, value: bool) -> Result<Answer<'a>, Fault> {
-    Answer::of_buffer(uniform(alloc, *len, value))
-}
+    fn buffer(&self, alloc: Global) -> Result<BitBuffer, Fault> {
+        match self {
+            MakingBits::Uniform(len, value) => uniform(alloc, *len, *value),
+            MakingBits::FromIndices(len, list) => from_indices(alloc, *len, list),
+            MakingBits::FromBools(list) => packed::from_bools(alloc, list),
+            MakingBits::FromRows(list) => packed::from_rows(alloc, list),
+        }
+    }
 
-fn run_indices<'a>(
-    alloc: Global,
-    len: usize,
-    list: &'a mut Vec<usize>,
-) -> Result<Answer<'a>, Fault> {
-    Answer::of_buffer(from_indices(alloc, len, list))
-}
-
-fn run_bools<'a>(alloc: Global, list: &'a mut Vec<bool>) -> Result<Answer<'a>, Fault> {
-    Answer::of_buffer(packed::from_bools(alloc, list))
-}
-
-fn run_rows<'a>(alloc: Global, list: &'a mut Vec<bool>) -> Result<Answer<'a>, Fault> {
-    Answer::of_buffer(packed::from_rows(alloc, list))
+    fn read(words: &mut Words<'_>, name: &str) -> Option<MakingBits> {
+        match name {
+            "new_set" => Some(MakingBits::Uniform(words.number(), true)),
+            "new_unset" => Some(MakingBits::Uniform(words.number(), false)),
+            "from_bools" => Some(MakingBits::FromBools(words.values())),
+            "from_rows" => Some(MakingBits::FromRows(words.values())),
+            "from_indices" => Some(MakingBits::FromIndices(words.number(), words.numbers())),
+            _ => None,
+        }
+    }
 }
 
 fn hold_both(a: &mut Bits, b: &mut Bits) -> Result<(), Fault> {

@@ -1,21 +1,22 @@
 //! A call with its operands.
 
-use crate::answer::{Answer, write_mask};
+use crate::answer::Answer;
 use crate::bits::{Bits, BitsCall};
 use crate::fault::Fault;
-use crate::masks::fraction::{self, OfFractions};
-use crate::masks::lent::{Lending, run_threshold};
-use crate::masks::lists::WithList;
+use crate::masks::fraction::{self, OF_FRACTIONS, OfFractions};
+use crate::masks::lent::{LENDING, Lending};
+use crate::masks::lists::{WITH_LIST, WithList};
 use crate::masks::making::Making;
-use crate::masks::many::{OfMany, next_masks, run_intersect_all};
-use crate::masks::one::{OfOne, run_equals_buffer};
-use crate::masks::parts::{WithNumber, run_slice};
-use crate::masks::two::OfTwo;
+use crate::masks::many::{Masks, OF_MANY, OfMany};
+use crate::masks::one::{OF_ONE, OfOne, READS, run_equals_buffer};
+use crate::masks::parts::{WITH_NUMBER, WithNumbers};
+use crate::masks::two::{OF_TWO, OfTwo};
 use crate::masks::values::ValuesCall;
-use crate::masks::word::OfWords;
+use crate::masks::word::{OF_WORDS, OfWords};
 use crate::operand::Operand;
 use crate::text::Text;
-use crate::words::{Words, halves};
+use crate::words::{Words, halves, named};
+use crate::written::write_mask;
 use std::alloc::Global;
 use vortex_mask::Mask;
 
@@ -25,12 +26,10 @@ use vortex_mask::Mask;
 pub enum Call {
     OfOne(OfOne, Operand),
     OfTwo(OfTwo, Operand, Operand),
-    OfThree(Operand, Operand, Operand),
-    OfMany(OfMany, Vec<Mask>),
-    WithNumber(WithNumber, Operand, usize),
-    Slice(Operand, usize, usize),
-    Lending(Lending, Operand),
-    Threshold(Operand, usize, usize),
+    OfMany(OfMany, Masks),
+    // a second number is 0 where the call takes one, and both are where it takes none
+    With(WithNumbers, Operand, usize, usize),
+    Lending(Lending, Operand, usize, usize),
     WithList(WithList, Operand, Vec<usize>),
     EqualsBuffer(Operand, Bits),
     Making(Making),
@@ -46,12 +45,9 @@ impl Call {
         match self {
             Call::OfOne(call, a) => call.run(alloc, a),
             Call::OfTwo(call, a, b) => call.run(alloc, a, b),
-            Call::OfThree(a, b, c) => run_intersect_all(alloc, a, b, c),
             Call::OfMany(call, masks) => call.run(alloc, masks),
-            Call::WithNumber(call, a, number) => call.run(alloc, a, *number),
-            Call::Slice(a, start, end) => run_slice(alloc, a, *start, *end),
-            Call::Lending(call, a) => call.run(alloc, a),
-            Call::Threshold(a, num, den) => run_threshold(alloc, a, *num, *den),
+            Call::With(call, a, first, second) => call.run(alloc, a, *first, *second),
+            Call::Lending(call, a, num, den) => call.run(alloc, a, *num, *den),
             Call::WithList(call, a, list) => call.run(alloc, a, list),
             Call::EqualsBuffer(a, buffer) => run_equals_buffer(a, buffer),
             Call::Making(call) => call.run(alloc),
@@ -65,15 +61,10 @@ impl Call {
     /// Holds a clone of each mask that the call is of.
     pub fn hold(&mut self) -> Result<(), Fault> {
         match self {
-            Call::OfOne(_, a) => a.hold(),
             Call::OfTwo(_, a, b) => hold_both(a, b),
-            Call::OfThree(a, b, _) => hold_both(a, b),
-            Call::WithNumber(_, a, _) => a.hold(),
-            Call::Slice(a, _, _) => a.hold(),
-            Call::Lending(_, a) => a.hold(),
-            Call::Threshold(a, _, _) => a.hold(),
-            Call::WithList(_, a, _) => a.hold(),
-            Call::EqualsBuffer(a, _) => a.hold(),
+            Call::OfMany(_, masks) => masks.hold(),
+            Call::OfOne(_, a) | Call::With(_, a, _, _) | Call::Lending(_, a, _, _) => a.hold(),
+            Call::WithList(_, a, _) | Call::EqualsBuffer(a, _) => a.hold(),
             Call::OfBits(call) => call.hold(),
             _ => Ok(()),
         }
@@ -87,16 +78,10 @@ impl Call {
                 a.write_kept(text, call.lends());
                 b.write_kept(text, true);
             }
-            Call::OfThree(a, b, _) => {
-                a.write_kept(text, true);
-                b.write_kept(text, false);
-            }
-            Call::WithNumber(call, a, _) => a.write_kept(text, call.lends()),
-            Call::Slice(a, _, _) => a.write_kept(text, true),
-            Call::Lending(_, a) => a.write_kept(text, false),
-            Call::Threshold(a, _, _) => a.write_kept(text, false),
-            Call::WithList(_, a, _) => a.write_kept(text, true),
-            Call::EqualsBuffer(a, _) => a.write_kept(text, true),
+            Call::OfMany(call, masks) => masks.write_kept(text, call.lends()),
+            Call::With(call, a, _, _) => a.write_kept(text, call.lends()),
+            Call::Lending(_, a, _, _) => a.write_kept(text, false),
+            Call::WithList(_, a, _) | Call::EqualsBuffer(a, _) => a.write_kept(text, true),
             Call::OfBits(call) => call.write_kept(text),
             _ => {}
         }
@@ -105,9 +90,7 @@ impl Call {
     /// Writes what the call changed in place: the mask after it, with what it has cached.
     pub fn write_changed(&self, text: &mut Text) {
         match self {
-            Call::OfOne(OfOne::Clear, a) => write_after(text, &a.mask),
-            Call::Lending(_, a) => write_after(text, &a.mask),
-            Call::Threshold(a, _, _) => write_after(text, &a.mask),
+            Call::OfOne(OfOne::Clear, a) | Call::Lending(_, a, _, _) => write_after(text, &a.mask),
             Call::OfValues(call) => call.write_changed(text),
             _ => {}
         }
@@ -130,12 +113,12 @@ impl Call {
     /// The call of this name, and its operands by the words behind it.
     pub fn read(alloc: Global, name: &str, words: &str) -> Result<Call, Fault> {
         let mut words = Words::new(alloc, words);
-        let call = named(&mut words, name);
+        let call = of_name(&mut words, name);
         words.end(call)
     }
 }
 
-fn named(words: &mut Words<'_>, name: &str) -> Option<Call> {
+fn of_name(words: &mut Words<'_>, name: &str) -> Option<Call> {
     match halves(name, ".") {
         Some(("bits", name)) => match BitsCall::read(words, name) {
             Some(call) => Some(Call::OfBits(call)),
@@ -150,48 +133,56 @@ fn named(words: &mut Words<'_>, name: &str) -> Option<Call> {
 }
 
 fn of_masks(words: &mut Words<'_>, name: &str) -> Option<Call> {
-    if let Some(call) = OfOne::named(name) {
+    if let Some(call) = named(name, &OF_ONE) {
         return Some(Call::OfOne(call, Operand::next(words)));
     }
-    if let Some(call) = OfTwo::named(name) {
+    if let Some(read) = named(name, &READS) {
+        return Some(Call::OfOne(OfOne::Read(read), Operand::next(words)));
+    }
+    if let Some(call) = named(name, &OF_TWO) {
         return Some(Call::OfTwo(call, Operand::next(words), Operand::next(words)));
     }
-    if let Some(call) = WithNumber::named(name) {
-        return Some(Call::WithNumber(call, Operand::next(words), words.number()));
-    }
-    if let Some(call) = Lending::named(name) {
-        return Some(Call::Lending(call, Operand::next(words)));
-    }
-    if let Some(call) = OfMany::named(name) {
-        return Some(Call::OfMany(call, next_masks(words)));
+    if let Some(call) = named(name, &OF_MANY) {
+        return Some(Call::OfMany(call, Masks::next(words)));
     }
     match Making::read(words, name) {
         Some(call) => Some(Call::Making(call)),
-        None => of_lists(words, name),
+        None => with_numbers(words, name),
+    }
+}
+
+fn with_numbers(words: &mut Words<'_>, name: &str) -> Option<Call> {
+    if let Some(call) = named(name, &WITH_NUMBER) {
+        return Some(Call::With(call, Operand::next(words), words.number(), 0));
+    }
+    if let Some(call) = named(name, &LENDING) {
+        return Some(Call::Lending(call, Operand::next(words), 0, 0));
+    }
+    match name {
+        "slice" => {
+            let (a, start) = (Operand::next(words), words.number());
+            Some(Call::With(WithNumbers::Slice, a, start, words.number()))
+        }
+        "threshold_iter" => {
+            let (a, num) = (Operand::next(words), words.number());
+            Some(Call::Lending(Lending::Threshold, a, num, words.number()))
+        }
+        _ => of_lists(words, name),
     }
 }
 
 fn of_lists(words: &mut Words<'_>, name: &str) -> Option<Call> {
-    if let Some(call) = WithList::named(name) {
+    if let Some(call) = named(name, &WITH_LIST) {
         return Some(Call::WithList(call, Operand::next(words), words.numbers()));
     }
-    if let Some(call) = OfFractions::named(name) {
+    if let Some(call) = named(name, &OF_FRACTIONS) {
         return Some(Call::OfFractions(call, fraction::next(words), fraction::next(words)));
     }
-    if let Some(call) = OfWords::named(name) {
+    if let Some(call) = named(name, &OF_WORDS) {
         return Some(Call::OfWords(call, words.number(), words.number()));
     }
     match name {
         "equals_buffer" => Some(Call::EqualsBuffer(Operand::next(words), Bits::next(words))),
-        "slice" => Some(Call::Slice(Operand::next(words), words.number(), words.number())),
-        "threshold_iter" => {
-            Some(Call::Threshold(Operand::next(words), words.number(), words.number()))
-        }
-        "intersect_all_by_rank" => Some(Call::OfThree(
-            Operand::next(words),
-            Operand::next(words),
-            Operand::next(words),
-        )),
         _ => None,
     }
 }

@@ -1,6 +1,5 @@
 //! Masks as operands, by the words of a row.
 
-use crate::answer::write_mask;
 use crate::fault::Fault;
 use crate::masks::lent::cached_by;
 use crate::masks::made::{ByLength, from_bools, from_buffer, from_indices, from_slices};
@@ -8,6 +7,8 @@ use crate::masks::one::clone;
 use crate::packed;
 use crate::text::Text;
 use crate::words::{Words, halves, number, numbers, ranges, values};
+use crate::written::write_mask;
+use mask_bits::BitBuffer;
 use std::alloc::Global;
 use std::mem;
 use vortex_mask::Mask;
@@ -84,7 +85,7 @@ fn held(mask: Result<Mask, Fault>) -> Result<Operand, Fault> {
 }
 
 // The mask of a word that may end in `!i` and `!r`.
-fn with_lists(alloc: Global, word: &str) -> Result<Mask, Fault> {
+pub(crate) fn with_lists(alloc: Global, word: &str) -> Result<Mask, Fault> {
     match halves(word, "!") {
         Some((rest, lists)) => match mask(alloc, rest) {
             Ok(mask) => cached_by(alloc, mask, lists),
@@ -94,9 +95,9 @@ fn with_lists(alloc: Global, word: &str) -> Result<Mask, Fault> {
     }
 }
 
-/// A mask by a word: `all:5` and `none:5` of one value, `5:1,3` by `from_indices`, `10:0..3,5..7` by `from_slices`,
-/// and otherwise of a buffer, as that is written, which caches nothing.
-pub fn mask(alloc: Global, word: &str) -> Result<Mask, Fault> {
+// A mask by a word: `all:5` and `none:5` of one value, `5:1,3` by `from_indices`, `10:0..3,5..7` by `from_slices`,
+// and otherwise of a buffer, as that is written, which caches nothing.
+fn mask(alloc: Global, word: &str) -> Result<Mask, Fault> {
     match halves(word, ":") {
         Some(("all", len)) => uniform(ByLength::NewTrue, len),
         Some(("none", len)) => uniform(ByLength::NewFalse, len),
@@ -130,14 +131,23 @@ fn listed(alloc: Global, len: usize, list: &str) -> Result<Mask, Fault> {
 }
 
 fn of_bits(alloc: Global, word: &str) -> Result<Mask, Fault> {
-    match packed::offset_of(word) {
-        Some(_) => match packed::read(alloc, word) {
-            Ok(buffer) => from_buffer(alloc, buffer),
-            Err(fault) => Err(fault),
-        },
-        None => match values(alloc, word) {
-            Ok(list) => from_bools(alloc, &list),
-            Err(fault) => Err(fault),
-        },
+    if packed::offset_of(word).is_some() {
+        of_buffer(alloc, packed::read(alloc, word))
+    } else {
+        of_values(alloc, values(alloc, word))
+    }
+}
+
+fn of_buffer(alloc: Global, buffer: Result<BitBuffer, Fault>) -> Result<Mask, Fault> {
+    match buffer {
+        Ok(buffer) => from_buffer(alloc, buffer),
+        Err(fault) => Err(fault),
+    }
+}
+
+fn of_values(alloc: Global, values: Result<Vec<bool>, Fault>) -> Result<Mask, Fault> {
+    match values {
+        Ok(values) => from_bools(alloc, &values),
+        Err(fault) => Err(fault),
     }
 }

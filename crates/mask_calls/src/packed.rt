@@ -4,7 +4,7 @@ use crate::bits::one::clone;
 use crate::bits::parts::slice;
 use crate::bits::{from_indices, uniform};
 use crate::fault::{Fault, made};
-use crate::words::{digits, halves, number, numbers, pair, values};
+use crate::words::{digits, halves, number, numbers, pair, push, values};
 use bytes::Bytes;
 use mask_bits::BitBuffer;
 use std::alloc::Global;
@@ -62,29 +62,21 @@ fn packed(
     let mut bytes: Vec<u8> = Vec::new(alloc);
     let end = offset.saturating_add(values.len()).saturating_add(72);
     for first in (0..end).step_by(8) {
-        push_byte(&mut bytes, outside.byte(offset, values, first))?;
+        push(&mut bytes, outside.byte(offset, values, first))?;
     }
     Ok(bytes)
 }
 
-fn push_byte(bytes: &mut Vec<u8>, byte: u8) -> Result<(), Fault> {
-    if bytes.push(byte).is_ok() {
-        Ok(())
-    } else {
-        Err(Fault::Memory)
+/// `BitBuffer::from_vec`.
+pub fn from_vec(bytes: Vec<u8>, len: usize) -> Result<BitBuffer, Fault> {
+    if len > 8 * bytes.len().min(1_000_000) {
+        return Err(Fault::Unmet("a bit for each value"));
     }
+    made(BitBuffer::from_vec(bytes, len))
 }
 
-/// Bytes that nobody else holds.
-pub fn own_bytes(bytes: Vec<u8>) -> Result<Bytes, Fault> {
-    match Bytes::from_vec(bytes) {
-        Ok(bytes) => Ok(bytes),
-        Err(_) => Err(Fault::Memory),
-    }
-}
-
-/// `BitBuffer::new_with_offset`.
-pub fn new_with_offset(bytes: Bytes, offset: usize, len: usize) -> Result<BitBuffer, Fault> {
+/// `BitBuffer::new_with_offset`, of bytes that nobody else holds.
+pub fn of_own(bytes: Vec<u8>, offset: usize, len: usize) -> Result<BitBuffer, Fault> {
     if bytes.len() > 1_000_000 {
         return Err(Fault::Unmet("a million bytes at most"));
     }
@@ -92,7 +84,10 @@ pub fn new_with_offset(bytes: Bytes, offset: usize, len: usize) -> Result<BitBuf
     if offset > bits || len > bits - offset {
         return Err(Fault::Unmet("within the bytes"));
     }
-    Ok(BitBuffer::new_with_offset(bytes, offset, len))
+    match Bytes::from_vec(bytes) {
+        Ok(bytes) => Ok(BitBuffer::new_with_offset(bytes, offset, len)),
+        Err(_) => Err(Fault::Memory),
+    }
 }
 
 /// `BitBuffer::from_bools`.
@@ -112,8 +107,11 @@ pub fn buffer_at(
     values: &[bool],
     outside: Outside,
 ) -> Result<BitBuffer, Fault> {
-    let bytes = own_bytes(packed(alloc, offset, values, outside)?)?;
-    new_with_offset(bytes, offset, values.len())
+    of_own(
+        packed(alloc, offset, values, outside)?,
+        offset,
+        values.len(),
+    )
 }
 
 // From a bit on to the end.
@@ -150,7 +148,7 @@ fn of_bytes(alloc: Global, rest: &str) -> Result<BitBuffer, Fault> {
     match halves(rest, ":") {
         Some((list, part)) => {
             let (offset, len) = pair(part, ":", "an offset and a length")?;
-            new_with_offset(own_bytes(bytes_of(alloc, list)?)?, offset, len)
+            of_own(bytes_of(alloc, list)?, offset, len)
         }
         None => Err(Fault::Malformed("bytes")),
     }
@@ -159,7 +157,7 @@ fn of_bytes(alloc: Global, rest: &str) -> Result<BitBuffer, Fault> {
 fn bytes_of(alloc: Global, list: &str) -> Result<Vec<u8>, Fault> {
     let mut bytes: Vec<u8> = Vec::new(alloc);
     for word in list.split(',') {
-        push_byte(&mut bytes, byte(word)?)?;
+        push(&mut bytes, byte(word)?)?;
     }
     Ok(bytes)
 }

@@ -1,5 +1,6 @@
 //! Rows: a line each, of calls, their operands and what they answer.
 
+use crate::answer::Answer;
 use crate::call::Call;
 use crate::fault::Fault;
 use crate::text::Text;
@@ -57,16 +58,17 @@ impl Outcome {
         words: &str,
         is_shared: bool,
     ) -> Result<Outcome, AllocError> {
-        match read(alloc, name, words, is_shared) {
-            Ok(call) => Outcome::of_call(alloc, call),
+        match Call::read(alloc, name, words) {
+            Ok(call) => Outcome::of_call(alloc, call, is_shared),
             Err(fault) => Outcome::of_fault(alloc, &fault),
         }
     }
 
-    fn of_call(alloc: Global, call: Call) -> Result<Outcome, AllocError> {
+    fn of_call(alloc: Global, call: Call, is_shared: bool) -> Result<Outcome, AllocError> {
         let mut call = call;
+        let held = if is_shared { call.hold() } else { Ok(()) };
         let before = kept(alloc, &call);
-        let answer = answered(alloc, &mut call);
+        let answer = answered(alloc, &mut call, held);
         outcome_of(answer, before, kept(alloc, &call))
     }
 }
@@ -82,27 +84,30 @@ fn outcome_of(answer: Texted, before: Texted, after: Texted) -> Result<Outcome, 
     }
 }
 
-fn read(alloc: Global, name: &str, words: &str, is_shared: bool) -> Result<Call, Fault> {
-    let mut call = Call::read(alloc, name, words)?;
-    if is_shared {
-        call.hold()?;
-    }
-    Ok(call)
-}
-
 fn kept(alloc: Global, call: &Call) -> Texted {
     let mut text = Text::new(alloc);
     call.write_kept(&mut text);
     text.finish()
 }
 
-// The answer, and what the call changed in place.
-fn answered(alloc: Global, call: &mut Call) -> Texted {
+// The answer, and what the call changed in place; or why no clones are held.
+fn answered(alloc: Global, call: &mut Call, held: Result<(), Fault>) -> Texted {
     let mut text = Text::new(alloc);
-    match call.run(alloc) {
-        Ok(answer) => answer.write_walk(&mut text),
+    match held {
+        Ok(()) => write_answer(&mut text, alloc, call),
         Err(fault) => fault.write(&mut text),
     }
-    call.write_changed(&mut text);
     text.finish()
+}
+
+fn write_answer(text: &mut Text, alloc: Global, call: &mut Call) {
+    write_outcome(text, call.run(alloc));
+    call.write_changed(text);
+}
+
+fn write_outcome(text: &mut Text, outcome: Result<Answer<'_>, Fault>) {
+    match outcome {
+        Ok(answer) => answer.write_walk(text),
+        Err(fault) => fault.write(text),
+    }
 }

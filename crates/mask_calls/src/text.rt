@@ -87,6 +87,19 @@ impl Text {
         self.put(if value { "1" } else { "0" });
     }
 
+    /// Writes a truth value as a word.
+    pub fn put_flag(&mut self, value: bool) {
+        self.put(if value { "true" } else { "false" });
+    }
+
+    /// Writes an index, or that there is none.
+    pub fn put_index(&mut self, index: Option<usize>) {
+        match index {
+            Some(index) => self.put_number(index),
+            None => self.put("none"),
+        }
+    }
+
     /// Writes the numbers with a comma between two, or `-`, or how many they are if they are many.
     pub fn put_numbers(&mut self, numbers: &[usize]) {
         if numbers.is_empty() {

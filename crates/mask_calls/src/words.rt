@@ -31,17 +31,14 @@ pub fn halves<'a>(text: &'a str, mark: &str) -> Option<(&'a str, &'a str)> {
     text.split_once(mark)
 }
 
-/// The place of a name among names with a space between two, or their number. To compare numbers is proved sooner
-/// than to compare texts.
-pub fn place_of(name: &str, names: &str) -> usize {
-    let mut place = 0usize;
-    for each in names.split(' ') {
-        if each == name {
-            return place;
+/// What stands beside a name in rows of names.
+pub fn named<T: Copy>(name: &str, rows: &[(&'static str, T)]) -> Option<T> {
+    for (each, it) in rows {
+        if *each == name {
+            return Some(*it);
         }
-        place = place.saturating_add(1);
     }
-    place
+    None
 }
 
 /// Puts an item behind the others.
@@ -241,11 +238,6 @@ impl<'a> Words<'a> {
                 None
             }
         }
-    }
-
-    /// Whether no word is left.
-    pub fn is_at_end(&self) -> bool {
-        self.rest.is_empty()
     }
 
     /// All words that are left.

@@ -1,8 +1,8 @@
 // What holds answers to plain values, says which call answered otherwise, and draws words at random.
 //
 // A sweep is proved safe before it runs. What makes that slow is `?` beside living values, and what the clauses
-// of a call say: so calls stand in `mask_calls`, in `bits` and in `kernels`, in functions with no clause, and a
-// sweep takes their answers by `found`.
+// of a call say: so calls stand in `mask_calls` and in `bits`, in functions with no clause, and a sweep takes their
+// answers by `found`.
 use std::alloc::Global;
 use std::cell::Cell;
 use std::process::Abort;

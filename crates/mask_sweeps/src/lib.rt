@@ -6,8 +6,6 @@ mod bits;
 #[cfg(test)]
 mod judge;
 #[cfg(test)]
-mod kernels;
-#[cfg(test)]
 mod masks;
 #[cfg(test)]
 mod plain;

@@ -1,71 +1,21 @@
 // Masks of a plain list, by each constructor and of buffers at each bit offset, and what is seen of a mask.
-ghost use Rattle.mask_bits.specs.Stacks.{IsStack};
-ghost use Rattle.std.specs.Prelude.{◌∷◌, ◌↔◌, IsTrue, map};
-ghost use Rattle.vortex_mask.specs.Mask.{truth};
-
-use crate::bits::{copy_of, own_copy};
+use crate::bits::own_copy;
 use crate::judge::Judge;
 use crate::plain::{Plain, indices_of};
-use mask_bits::{BitBuffer, laws};
-use mask_calls::Fault;
+use mask_bits::BitBuffer;
+use mask_calls::bits::one::clone;
 use mask_calls::masks::lent::cached_by;
 use mask_calls::masks::made::{
-    from_bools, from_buffer, from_excluded_indices, from_indices, from_rows, from_slices,
+    from_bools, from_buffer, from_excluded_indices, from_indices, from_intersection_indices,
+    from_rows, from_slices,
 };
 use mask_calls::masks::many::{concat, from_masks};
 use mask_calls::masks::parts::slice;
 use mask_calls::packed::{Outside, buffer_at};
+use mask_calls::{Fault, Ranged, packed};
 use std::alloc::Global;
 use std::process::Abort;
-use vortex_mask::{AllOr, Mask, MaskError};
-
-fn answer<T>(outcome: Result<T, MaskError>) -> Result<T, Fault> {
-    match outcome {
-        Ok(it) => Ok(it),
-        Err(error) => Err(Fault::of(error)),
-    }
-}
-
-// ---- calls that need a proof of what they require
-
-// By the runs that the buffer itself has.
-fn from_buffer_with_slices(alloc: Global, buffer: BitBuffer) -> Result<Mask, Fault> {
-    laws::runs_are_ranges();
-    match buffer.set_slices().collect(alloc) {
-        Ok(runs) => answer(Mask::from_buffer_with_slices(alloc, buffer, runs)),
-        Err(_) => Err(Fault::Memory),
-    }
-}
-
-fn from_intersection_indices(alloc: Global, buffer: &BitBuffer) -> Result<Mask, Fault> {
-    let (left, right) = (buffer.set_indices(), buffer.set_indices());
-    answer(Mask::from_intersection_indices(alloc, buffer.len(), left, right))
-}
-
-// Whether each mask is as long as the one before it has true values.
-fn are_a_stack(first: &Mask, rest: &[Mask]) -> bool
-    ensures { IsTrue result ↔ IsStack (truth first.now ∷ map truth rest.now) }
-{
-    let mut before = first;
-    for mask in rest {
-        if mask.len() != before.true_count() {
-            return false;
-        }
-        before = mask;
-    }
-    true
-}
-
-pub(crate) fn intersect_all_by_rank(
-    alloc: Global,
-    first: &Mask,
-    rest: &[Mask],
-) -> Result<Mask, Fault> {
-    if !are_a_stack(first, rest) {
-        return Err(Fault::Unmet("a stack"));
-    }
-    answer(first.intersect_all_by_rank(alloc, rest))
-}
+use vortex_mask::{AllOr, Mask};
 
 // ---- masks of a plain list
 
@@ -118,12 +68,12 @@ impl Source {
         }
     }
 
-    // Whether it holds no values as `AllTrue`.
-    pub(crate) fn is_all_true_if_empty(self) -> bool {
-        matches!(
+    // A plain list, held as it holds a list of no values.
+    pub(crate) fn want<A: Abort>(self, judge: &Judge<'_, A>, plain: &Plain) -> Plain {
+        plain.copy(judge).if_empty(matches!(
             self,
             Source::ExcludedIndices | Source::Concat | Source::Masks
-        )
+        ))
     }
 
     pub(crate) fn mask<A: Abort>(self, judge: &Judge<'_, A>, plain: &Plain) -> Mask {
@@ -147,15 +97,24 @@ impl Source {
 
     fn of_buffer(self, alloc: Global, buffer: BitBuffer) -> Result<Mask, Fault> {
         match self {
-            Source::IntersectionIndices => from_intersection_indices(alloc, &buffer),
-            Source::BufferWithSlices => from_buffer_with_slices(alloc, buffer),
+            Source::IntersectionIndices => {
+                from_intersection_indices(alloc, buffer.len(), &buffer, &buffer)
+            }
+            Source::BufferWithSlices => of_runs(alloc, buffer),
             _ => from_buffer(alloc, buffer),
         }
     }
 }
 
+fn of_runs(alloc: Global, buffer: BitBuffer) -> Result<Mask, Fault> {
+    match Ranged::of_runs(alloc, buffer) {
+        Ok(ranged) => ranged.mask(alloc),
+        Err(fault) => Err(fault),
+    }
+}
+
 pub(crate) fn plain_buffer<A: Abort>(judge: &Judge<'_, A>, plain: &Plain) -> BitBuffer {
-    let buffer = mask_calls::packed::from_bools(judge.alloc, &plain.values);
+    let buffer = packed::from_bools(judge.alloc, &plain.values);
     judge.found("BitBuffer::from_bools", buffer)
 }
 
@@ -224,14 +183,15 @@ pub(crate) fn with_lists<A: Abort>(judge: &Judge<'_, A>, mask: Mask, caches: Cac
     judge.found("indices or slices", cached_by(judge.alloc, mask, lists))
 }
 
+fn cached<A: Abort>(judge: &Judge<'_, A>, buffer: BitBuffer, caches: Caches) -> Mask {
+    let mask = judge.found("from_buffer", from_buffer(judge.alloc, buffer));
+    with_lists(judge, mask, caches)
+}
+
 // Of a clone of a buffer.
 pub(crate) fn mask_of<A: Abort>(judge: &Judge<'_, A>, buffer: &BitBuffer, caches: Caches) -> Mask {
-    let buffer = judge.found("BitBuffer::clone", copy_of(buffer));
-    with_lists(
-        judge,
-        judge.found("from_buffer", from_buffer(judge.alloc, buffer)),
-        caches,
-    )
+    let buffer = judge.found("BitBuffer::clone", clone(buffer));
+    cached(judge, buffer, caches)
 }
 
 // The same mask, of bytes that nobody else holds.
@@ -240,12 +200,8 @@ pub(crate) fn own_mask<A: Abort>(judge: &Judge<'_, A>, mask: &Mask, caches: Cach
         AllOr::All => Mask::new_true(mask.len()),
         AllOr::None => Mask::new_false(mask.len()),
         AllOr::Some(buffer) => {
-            let own = judge.found("a copy", own_copy(judge.alloc, buffer));
-            with_lists(
-                judge,
-                judge.found("from_buffer", from_buffer(judge.alloc, own)),
-                caches,
-            )
+            let buffer = judge.found("a copy", own_copy(judge.alloc, buffer));
+            cached(judge, buffer, caches)
         }
     }
 }
@@ -301,6 +257,14 @@ pub(crate) fn is_mask<A: Abort>(
             judge.holds(call, want.is_mixed());
             has_words(judge, call, buffer, want);
         }
+    }
+}
+
+// Each constructor makes a mask of a plain list, of no values as that constructor holds them.
+pub(crate) fn by_constructors<A: Abort>(judge: &Judge<'_, A>, plain: &Plain) {
+    for source in CONSTRUCTORS {
+        let want = source.want(judge, plain);
+        is_mask(judge, source.name(), &source.mask(judge, &want), &want);
     }
 }
 

@@ -52,10 +52,8 @@ impl Plain {
         len: usize,
         repeat: (usize, usize),
     ) -> Plain {
-        Plain::of(
-            judge,
-            judge.found("a list", repeating(judge.alloc, len, repeat)),
-        )
+        let values = repeating(judge.alloc, len, repeat);
+        Plain::of(judge, judge.found("a list", values))
     }
 
     pub(crate) fn copy<A: Abort>(&self, judge: &Judge<'_, A>) -> Plain {

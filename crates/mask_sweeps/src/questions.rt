@@ -6,7 +6,7 @@ use crate::plain::{Op, Plain};
 use mask_calls::masks::lent::Lending;
 use mask_calls::masks::lists::WithList;
 use mask_calls::masks::one::{OfOne, Read, clone};
-use mask_calls::masks::parts::WithNumber;
+use mask_calls::masks::parts::WithNumbers;
 use mask_calls::masks::two::OfTwo;
 use mask_calls::{Answer, Call, Operand};
 use std::process::Abort;
@@ -17,10 +17,8 @@ use vortex_mask::{AllOr, Fraction, Mask, MaskIter};
 pub(crate) enum Asked {
     One(OfOne),
     Two(OfTwo, usize),
-    Number(WithNumber, usize),
-    Part(usize, usize),
-    Lending(Lending),
-    Share(usize, usize),
+    With(WithNumbers, usize, usize),
+    Lending(Lending, usize, usize),
     // of as many numbers as the call takes
     List(WithList),
 }
@@ -66,8 +64,8 @@ const CALLS: [(&'static str, Asked); 31] = [
         "intersect_by_rank_counted",
         Asked::Two(OfTwo::IntersectByRankCounted, RANKS),
     ),
-    ("indices", Asked::Lending(Lending::Indices)),
-    ("slices", Asked::Lending(Lending::Slices)),
+    ("indices", Asked::Lending(Lending::Indices, 0, 0)),
+    ("slices", Asked::Lending(Lending::Slices, 0, 0)),
     (
         "valid_counts_for_indices",
         Asked::List(WithList::ValidCounts),
@@ -111,13 +109,10 @@ pub(crate) struct Case {
 fn others_of<A: Abort>(judge: &Judge<'_, A>, plain: &Plain, if_empty: bool) -> Vec<Plain> {
     let last = plain.len().saturating_sub(1);
     let mut others: Vec<Plain> = Vec::new(judge.alloc);
-    judge.found(
-        "a list",
-        others.push(plain.reversed(judge).if_empty(if_empty)),
-    );
-    judge.found("a list", others.push(plain.copy(judge).if_empty(if_empty)));
-    let ranks = Plain::repeating(judge, plain.count(), (3, 1)).if_empty(if_empty);
-    judge.found("a list", others.push(ranks));
+    let ranks = Plain::repeating(judge, plain.count(), (3, 1));
+    for other in [plain.reversed(judge), plain.copy(judge), ranks] {
+        judge.found("a list", others.push(other.if_empty(if_empty)));
+    }
     for at in [0, last / 2, last] {
         let negated = plain.negated_at(judge, at).if_empty(if_empty);
         judge.found("a list", others.push(negated));
@@ -152,15 +147,14 @@ impl Case {
 
     fn ask<A: Abort>(&mut self, judge: &Judge<'_, A>, call: &'static str, asked: Asked) {
         let want = asked.want(judge, &self.plain, &self.others);
-        judge.found(
-            "a list",
-            self.questions.push(Question { call, asked, want }),
-        );
+        let question = Question { call, asked, want };
+        judge.found("a list", self.questions.push(question));
     }
 
     fn ask_of_limit<A: Abort>(&mut self, judge: &Judge<'_, A>, k: usize) {
-        self.ask(judge, "to_limited", Asked::Number(WithNumber::ToLimited, k));
-        self.ask(judge, "limit", Asked::Number(WithNumber::Limit, k));
+        let lent = Asked::With(WithNumbers::ToLimited, k, 0);
+        self.ask(judge, "to_limited", lent);
+        self.ask(judge, "limit", Asked::With(WithNumbers::Limit, k, 0));
     }
 
     fn ask_of_parts<A: Abort>(&mut self, judge: &Judge<'_, A>) {
@@ -172,10 +166,10 @@ impl Case {
             (len / 5, len / 2),
             (len, len),
         ] {
-            self.ask(judge, "slice", Asked::Part(start, end));
+            self.ask(judge, "slice", Asked::With(WithNumbers::Slice, start, end));
         }
         for size in [65, (len / 3).max(1), usize::MAX] {
-            self.ask(judge, "groups", Asked::Number(WithNumber::Groups, size));
+            self.ask(judge, "groups", Asked::With(WithNumbers::Groups, size, 0));
         }
     }
 
@@ -187,7 +181,8 @@ impl Case {
             (count.saturating_add(1), len),
             (1, usize::MAX),
         ] {
-            self.ask(judge, "threshold_iter", Asked::Share(num, den));
+            let share = Asked::Lending(Lending::Threshold, num, den);
+            self.ask(judge, "threshold_iter", share);
         }
     }
 }
@@ -202,12 +197,10 @@ impl Asked {
                 Some(other) => want_of_two(judge, plain, call, other),
                 None => Want::Same,
             },
-            Asked::Number(WithNumber::Groups, size) => Want::Groups(size),
-            Asked::Number(_, k) => Want::Mask(plain.limited(judge, k)),
-            Asked::Part(start, end) => Want::Mask(plain.part(judge, start, end)),
-            Asked::Lending(Lending::Indices) => Want::Indices,
-            Asked::Lending(Lending::Slices) => Want::Runs,
-            Asked::Share(num, den) => Want::Share(num, den),
+            Asked::With(call, first, second) => want_with(judge, plain, call, (first, second)),
+            Asked::Lending(Lending::Indices, _, _) => Want::Indices,
+            Asked::Lending(Lending::Slices, _, _) => Want::Runs,
+            Asked::Lending(Lending::Threshold, num, den) => Want::Share(num, den),
             Asked::List(WithList::ValidCounts) => Want::Counts(plain.counts(judge)),
             Asked::List(WithList::Choose) => Want::Indices,
         }
@@ -219,7 +212,7 @@ impl Asked {
             self,
             Asked::One(OfOne::IntoNot | OfOne::IntoBitBuffer)
                 | Asked::Two(OfTwo::IntoBitand | OfTwo::IntoBitor | OfTwo::BitandNot, _)
-                | Asked::Number(WithNumber::Limit, _)
+                | Asked::With(WithNumbers::Limit, _, _)
         )
     }
 
@@ -265,6 +258,19 @@ fn want_of_two<A: Abort>(judge: &Judge<'_, A>, plain: &Plain, call: OfTwo, other
     Want::Mask(plain.combined(judge, op, other))
 }
 
+fn want_with<A: Abort>(
+    judge: &Judge<'_, A>,
+    plain: &Plain,
+    call: WithNumbers,
+    (first, second): (usize, usize),
+) -> Want {
+    match call {
+        WithNumbers::Groups => Want::Groups(first),
+        WithNumbers::Slice => Want::Mask(plain.part(judge, first, second)),
+        _ => Want::Mask(plain.limited(judge, first)),
+    }
+}
+
 // ---- asking
 
 // The call on the first mask of an operand.
@@ -277,10 +283,8 @@ fn call_of<A: Abort>(
     match asked {
         Asked::One(call) => Call::OfOne(call, operand),
         Asked::Two(call, number) => Call::OfTwo(call, operand, other_of(judge, others, number)),
-        Asked::Number(call, number) => Call::WithNumber(call, operand, number),
-        Asked::Part(start, end) => Call::Slice(operand, start, end),
-        Asked::Lending(call) => Call::Lending(call, operand),
-        Asked::Share(num, den) => Call::Threshold(operand, num, den),
+        Asked::With(call, first, second) => Call::With(call, operand, first, second),
+        Asked::Lending(call, num, den) => Call::Lending(call, operand, num, den),
         Asked::List(call) => {
             let numbers = numbers_of(judge, call, operand.mask.len());
             Call::WithList(call, operand, numbers)
@@ -333,21 +337,11 @@ pub(crate) fn answers_as<A: Abort>(
     others: &[Mask],
     plain: &Plain,
 ) {
-    answers(
-        judge,
-        question,
-        judge.found("clone", clone(mask)),
-        others,
-        plain,
-    );
+    let copy = judge.found("clone", clone(mask));
+    answers(judge, question, copy, others, plain);
     if question.asked.is_by_value() {
-        answers(
-            judge,
-            question,
-            own_mask(judge, mask, caches),
-            others,
-            plain,
-        );
+        let own = own_mask(judge, mask, caches);
+        answers(judge, question, own, others, plain);
     }
 }
 

@@ -18,20 +18,24 @@ mod masks;
 mod plain;
 mod rows;
 mod sharing;
-mod stacks;
 mod without_memory;
 
-use alike::{is_by_value, is_kept};
+use alike::{is_by_value, is_kept, is_kept_by_answer};
 use mask_calls::{Answer, Call, Fault};
 use plain::{List, Plain};
 use std::alloc::{AllocError, Global};
 use std::process::Abort;
 
-fn say<R: Abort + Print>(rt: &R, line: &str) {
+// What a scenario takes of the host: it stops, prints and asks for memory.
+trait Host: Abort + Print + AllocGlobal {}
+
+impl<R: Abort + Print + AllocGlobal> Host for R {}
+
+fn say(rt: &impl Host, line: &str) {
     assert!(rt; println!(rt; "{line}").is_ok());
 }
 
-fn say_name<R: Abort + Print>(rt: &R, name: &str) {
+fn say_name(rt: &impl Host, name: &str) {
     assert!(rt; println!(rt; "scenario {name}").is_ok());
 }
 
@@ -60,11 +64,7 @@ impl<'a> Want<'a> {
 }
 
 // Says how a call ended, and compares its answer. Whether there is one.
-fn ended<R: Abort + Print + AllocGlobal>(
-    rt: &R,
-    outcome: Result<Answer<'_>, Fault>,
-    want: Want<'_>,
-) -> bool {
+fn ended(rt: &impl Host, outcome: Result<Answer<'_>, Fault>, want: Want<'_>) -> bool {
     match outcome {
         Ok(answer) => {
             say(rt, "answered");
@@ -110,7 +110,7 @@ fn is_text(rt: &impl Abort, text: Result<String, AllocError>, want: Want<'_>) {
 // ---- calls of masks
 
 // The call of this name and of these words, refused and made again.
-fn try_call<R: Abort + Print + AllocGlobal>(rt: &R, name: &str, words: &str, want: Want<'_>) {
+fn try_call(rt: &impl Host, name: &str, words: &str, want: Want<'_>) {
     let call = Call::read(rt.alloc(), name, words);
     match (call, Call::read(rt.alloc(), name, words)) {
         (Ok(call), Ok(copy)) => in_turn(rt, (call, copy), is_by_value(name), want),
@@ -120,14 +120,13 @@ fn try_call<R: Abort + Print + AllocGlobal>(rt: &R, name: &str, words: &str, wan
 }
 
 // An operand by value is gone after a refusal: then the second call is made of its own.
-fn in_turn<R: Abort + Print + AllocGlobal>(
-    rt: &R,
-    (call, copy): (Call, Call),
-    is_by_value: bool,
-    want: Want<'_>,
-) {
+fn in_turn(rt: &impl Host, (call, copy): (Call, Call), is_by_value: bool, want: Want<'_>) {
     let (mut call, mut copy) = (call, copy);
     if is_answered(rt, &mut call, want) {
+        assert!(rt;
+            is_kept_by_answer(&call, &copy, is_by_value),
+            "what was lent has changed"
+        );
         return;
     }
     assert!(rt;
@@ -142,7 +141,7 @@ fn in_turn<R: Abort + Print + AllocGlobal>(
     assert!(rt; is_answered, "refused once more");
 }
 
-fn is_answered<R: Abort + Print + AllocGlobal>(rt: &R, call: &mut Call, want: Want<'_>) -> bool {
+fn is_answered(rt: &impl Host, call: &mut Call, want: Want<'_>) -> bool {
     say(rt, "calls");
     ended(rt, call.run(rt.alloc()), want)
 }

@@ -3,7 +3,6 @@
 use crate::answer::Answer;
 use crate::bits::Bits;
 use crate::fault::{Fault, made};
-use crate::words::place_of;
 use mask_bits::BitBuffer;
 use std::alloc::Global;
 
@@ -43,38 +42,26 @@ pub enum OfBits {
     Padded,
 }
 
+/// The names of these calls.
+pub const OF_BITS: [(&'static str, OfBits); 15] = [
+    ("clone", OfBits::Clone),
+    ("not", OfBits::Not),
+    ("into_not", OfBits::IntoNot),
+    ("indices", OfBits::Indices),
+    ("buffer", OfBits::Backed),
+    ("len", OfBits::Len),
+    ("is_empty", OfBits::IsEmpty),
+    ("true_count", OfBits::TrueCount),
+    ("false_count", OfBits::FalseCount),
+    ("last_set_index", OfBits::Last),
+    ("iter", OfBits::Iter),
+    ("set_indices", OfBits::SetIndices),
+    ("set_slices", OfBits::SetSlices),
+    ("words", OfBits::Words),
+    ("padded", OfBits::Padded),
+];
+
 impl OfBits {
-    /// The call of this name.
-    pub fn named(name: &str) -> Option<OfBits> {
-        match place_of(
-            name,
-            "clone not into_not indices buffer iter set_indices set_slices words padded",
-        ) {
-            0 => Some(OfBits::Clone),
-            1 => Some(OfBits::Not),
-            2 => Some(OfBits::IntoNot),
-            3 => Some(OfBits::Indices),
-            4 => Some(OfBits::Backed),
-            5 => Some(OfBits::Iter),
-            6 => Some(OfBits::SetIndices),
-            7 => Some(OfBits::SetSlices),
-            8 => Some(OfBits::Words),
-            9 => Some(OfBits::Padded),
-            _ => OfBits::number_named(name),
-        }
-    }
-
-    fn number_named(name: &str) -> Option<OfBits> {
-        match place_of(name, "len is_empty true_count false_count last_set_index") {
-            0 => Some(OfBits::Len),
-            1 => Some(OfBits::IsEmpty),
-            2 => Some(OfBits::TrueCount),
-            3 => Some(OfBits::FalseCount),
-            4 => Some(OfBits::Last),
-            _ => None,
-        }
-    }
-
     /// Whether the buffer is lent, and stays as it is.
     pub fn lends(self) -> bool {
         !matches!(self, OfBits::IntoNot)

@@ -3,7 +3,6 @@
 use crate::answer::Answer;
 use crate::bits::Bits;
 use crate::fault::{Fault, made};
-use crate::words::place_of;
 use mask_bits::BitBuffer;
 
 pub fn slice(buffer: &BitBuffer, start: usize, end: usize) -> Result<BitBuffer, Fault> {
@@ -43,30 +42,28 @@ pub fn select(buffer: &BitBuffer, n: usize) -> Option<usize> {
 pub enum WithNumbers {
     Slice,
     CountRange,
-    Value,
     FirstFrom,
+    Value,
     Select,
     // each number below this one
     SelectEach,
 }
 
-impl WithNumbers {
-    /// The call of this name.
-    pub fn named(name: &str) -> Option<WithNumbers> {
-        match place_of(
-            name,
-            "slice count_range value first_from select select_each",
-        ) {
-            0 => Some(WithNumbers::Slice),
-            1 => Some(WithNumbers::CountRange),
-            2 => Some(WithNumbers::Value),
-            3 => Some(WithNumbers::FirstFrom),
-            4 => Some(WithNumbers::Select),
-            5 => Some(WithNumbers::SelectEach),
-            _ => None,
-        }
-    }
+/// The names of those with two.
+pub const WITH_TWO: [(&'static str, WithNumbers); 3] = [
+    ("slice", WithNumbers::Slice),
+    ("count_range", WithNumbers::CountRange),
+    ("first_from", WithNumbers::FirstFrom),
+];
 
+/// The names of those with one.
+pub const WITH_ONE: [(&'static str, WithNumbers); 3] = [
+    ("value", WithNumbers::Value),
+    ("select", WithNumbers::Select),
+    ("select_each", WithNumbers::SelectEach),
+];
+
+impl WithNumbers {
     /// Makes the call.
     pub fn run<'a>(
         self,

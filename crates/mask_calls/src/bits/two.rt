@@ -3,7 +3,6 @@
 use crate::answer::Answer;
 use crate::bits::Bits;
 use crate::fault::{Fault, made};
-use crate::words::place_of;
 use mask_bits::BitBuffer;
 use std::alloc::Global;
 
@@ -71,25 +70,19 @@ pub enum OfTwoBits {
     Equal,
 }
 
-impl OfTwoBits {
-    /// The call of this name.
-    pub fn named(name: &str) -> Option<OfTwoBits> {
-        match place_of(
-            name,
-            "bitand bitor bitand_not into_bitand into_bitor into_bitand_not choose_values equal",
-        ) {
-            0 => Some(OfTwoBits::Bitand),
-            1 => Some(OfTwoBits::Bitor),
-            2 => Some(OfTwoBits::BitandNot),
-            3 => Some(OfTwoBits::IntoBitand),
-            4 => Some(OfTwoBits::IntoBitor),
-            5 => Some(OfTwoBits::IntoBitandNot),
-            6 => Some(OfTwoBits::ChooseValues),
-            7 => Some(OfTwoBits::Equal),
-            _ => None,
-        }
-    }
+/// The names of these calls.
+pub const OF_TWO_BITS: [(&'static str, OfTwoBits); 8] = [
+    ("bitand", OfTwoBits::Bitand),
+    ("bitor", OfTwoBits::Bitor),
+    ("bitand_not", OfTwoBits::BitandNot),
+    ("into_bitand", OfTwoBits::IntoBitand),
+    ("into_bitor", OfTwoBits::IntoBitor),
+    ("into_bitand_not", OfTwoBits::IntoBitandNot),
+    ("choose_values", OfTwoBits::ChooseValues),
+    ("equal", OfTwoBits::Equal),
+];
 
+impl OfTwoBits {
     /// Whether the first buffer is lent, and stays as it is.
     pub fn lends(self) -> bool {
         !matches!(

@@ -1,8 +1,8 @@
 //! What buffers yield, as text.
 
-use crate::answer::write_buffer;
 use crate::bits::parts::select;
 use crate::text::Text;
+use crate::written::write_buffer;
 use mask_bits::{BitBuffer, BitChunks, BitIterator, SetIndices, SetSlices, Words};
 
 /// Writes the list of a buffer, the bit offset that it stands at, and the bytes, the first sixteen of them.

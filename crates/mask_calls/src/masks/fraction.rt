@@ -19,16 +19,13 @@ pub enum OfFractions {
     Equal,
 }
 
-impl OfFractions {
-    /// The call of this name.
-    pub fn named(name: &str) -> Option<OfFractions> {
-        match name {
-            "at_least" => Some(OfFractions::AtLeast),
-            "equal_fractions" => Some(OfFractions::Equal),
-            _ => None,
-        }
-    }
+/// The names of these calls.
+pub const OF_FRACTIONS: [(&'static str, OfFractions); 2] = [
+    ("at_least", OfFractions::AtLeast),
+    ("equal_fractions", OfFractions::Equal),
+];
 
+impl OfFractions {
     /// Makes the call.
     pub fn run<'a>(
         self,

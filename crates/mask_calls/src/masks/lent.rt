@@ -31,35 +31,31 @@ pub fn threshold_iter(
 pub enum Lending {
     Indices,
     Slices,
+    Threshold,
 }
+
+/// The names of these calls.
+pub const LENDING: [(&'static str, Lending); 2] = [
+    ("indices", Lending::Indices),
+    ("slices", Lending::Slices),
+];
 
 impl Lending {
-    /// The call of this name.
-    pub fn named(name: &str) -> Option<Lending> {
-        match name {
-            "indices" => Some(Lending::Indices),
-            "slices" => Some(Lending::Slices),
-            _ => None,
-        }
-    }
-
-    /// Makes the call.
-    pub fn run<'a>(self, alloc: Global, operand: &'a mut Operand) -> Result<Answer<'a>, Fault> {
+    /// Makes the call, of a threshold with these numbers.
+    pub fn run<'a>(
+        self,
+        alloc: Global,
+        operand: &'a mut Operand,
+        num: usize,
+        den: usize,
+    ) -> Result<Answer<'a>, Fault> {
+        let mask = &mut operand.mask;
         match self {
-            Lending::Indices => Answer::of_indices(indices(alloc, &mut operand.mask)),
-            Lending::Slices => Answer::of_slices(slices(alloc, &mut operand.mask)),
+            Lending::Indices => Answer::of_indices(indices(alloc, mask)),
+            Lending::Slices => Answer::of_slices(slices(alloc, mask)),
+            Lending::Threshold => Answer::of_iter(threshold_iter(alloc, mask, num, den)),
         }
     }
-}
-
-/// Makes the call of a threshold.
-pub fn run_threshold<'a>(
-    alloc: Global,
-    operand: &'a mut Operand,
-    num: usize,
-    den: usize,
-) -> Result<Answer<'a>, Fault> {
-    Answer::of_iter(threshold_iter(alloc, &mut operand.mask, num, den))
 }
 
 fn cache_indices(alloc: Global, mask: &mut Mask) -> Result<(), Fault> {

@@ -47,16 +47,13 @@ pub enum WithList {
     Choose,
 }
 
-impl WithList {
-    /// The call of this name.
-    pub fn named(name: &str) -> Option<WithList> {
-        match name {
-            "valid_counts_for_indices" => Some(WithList::ValidCounts),
-            "choose" => Some(WithList::Choose),
-            _ => None,
-        }
-    }
+/// The names of these calls.
+pub const WITH_LIST: [(&'static str, WithList); 2] = [
+    ("valid_counts_for_indices", WithList::ValidCounts),
+    ("choose", WithList::Choose),
+];
 
+impl WithList {
     /// Makes the call.
     pub fn run<'a>(
         self,

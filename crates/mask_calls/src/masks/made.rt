@@ -1,10 +1,8 @@
 //! Calls that make a mask.
 
-use crate::answer::Answer;
 use crate::bits::Bits;
 use crate::fault::{Fault, answer};
 use crate::ranged::Ranged;
-use crate::words::place_of;
 use mask_bits::BitBuffer;
 use std::alloc::Global;
 use std::mem;
@@ -61,64 +59,37 @@ pub fn from_intersection_of_one(
     answer(Mask::from_intersection_indices(alloc, len, lhs, rhs))
 }
 
-/// Makes the call of `from_buffer`, by value.
-pub fn run_from_buffer<'a>(
-    alloc: Global,
-    buffer: &'a mut Option<BitBuffer>,
-) -> Result<Answer<'a>, Fault> {
-    match buffer.take() {
-        Some(buffer) => Answer::of_mask(from_buffer(alloc, buffer)),
-        None => Err(Fault::Unmet("a buffer that is there")),
+/// `from_buffer`, by value.
+pub fn from_taken(alloc: Global, bits: &mut Bits) -> Result<Mask, Fault> {
+    match bits.take() {
+        Ok(buffer) => from_buffer(alloc, buffer),
+        Err(fault) => Err(fault),
     }
 }
 
-/// Makes the call of `from_rows`.
-pub fn run_from_rows<'a>(alloc: Global, rows: &'a mut Vec<bool>) -> Result<Answer<'a>, Fault> {
-    Answer::of_mask(from_rows(alloc, rows))
-}
-
-/// Makes the call of `from_buffer_with_slices`, by value.
-pub fn run_with_slices<'a>(
-    alloc: Global,
-    ranged: &'a mut Option<Ranged>,
-) -> Result<Answer<'a>, Fault> {
+/// `from_buffer_with_slices`, by value.
+pub fn from_ranged(alloc: Global, ranged: &mut Option<Ranged>) -> Result<Mask, Fault> {
     match ranged.take() {
-        Some(ranged) => Answer::of_mask(ranged.mask(alloc)),
+        Some(ranged) => ranged.mask(alloc),
         None => Err(Fault::Unmet("a buffer that is there")),
     }
 }
 
-/// Makes the call of `from_intersection_indices`.
-pub fn run_common<'a>(
-    alloc: Global,
-    len: usize,
-    lhs: &'a mut Bits,
-    rhs: &'a mut Bits,
-) -> Result<Answer<'a>, Fault> {
+/// `from_intersection_indices` of two buffers.
+pub fn from_common(alloc: Global, len: usize, lhs: &Bits, rhs: &Bits) -> Result<Mask, Fault> {
     match (lhs.get(), rhs.get()) {
-        (Ok(lhs), Ok(rhs)) => Answer::of_mask(from_intersection_indices(alloc, len, lhs, rhs)),
+        (Ok(lhs), Ok(rhs)) => from_intersection_indices(alloc, len, lhs, rhs),
         _ => Err(Fault::Unmet("buffers that are there")),
     }
 }
 
-/// Makes the call of `from_intersection_indices` of one index each.
-pub fn run_common_of_one<'a>(
+/// `from_slices`, by value.
+pub fn from_taken_slices(
     alloc: Global,
     len: usize,
-    lhs: &'a mut usize,
-    rhs: usize,
-) -> Result<Answer<'a>, Fault> {
-    Answer::of_mask(from_intersection_of_one(alloc, len, *lhs, rhs))
-}
-
-/// Makes the call of `from_slices`, by value.
-pub fn run_from_slices<'a>(
-    alloc: Global,
-    len: usize,
-    ranges: &'a mut Vec<(usize, usize)>,
-) -> Result<Answer<'a>, Fault> {
-    let ranges = mem::replace(ranges, Vec::new(alloc));
-    Answer::of_mask(from_slices(alloc, len, ranges))
+    ranges: &mut Vec<(usize, usize)>,
+) -> Result<Mask, Fault> {
+    from_slices(alloc, len, mem::replace(ranges, Vec::new(alloc)))
 }
 
 /// Constructors by indices.
@@ -126,6 +97,22 @@ pub fn run_from_slices<'a>(
 pub enum ByIndices {
     FromIndices,
     FromExcludedIndices,
+}
+
+/// The names of these calls.
+pub const BY_INDICES: [(&'static str, ByIndices); 2] = [
+    ("from_indices", ByIndices::FromIndices),
+    ("from_excluded_indices", ByIndices::FromExcludedIndices),
+];
+
+impl ByIndices {
+    /// The mask of a length and indices.
+    pub fn mask(self, alloc: Global, len: usize, indices: &[usize]) -> Result<Mask, Fault> {
+        match self {
+            ByIndices::FromIndices => from_indices(alloc, len, indices),
+            ByIndices::FromExcludedIndices => from_excluded_indices(alloc, len, indices),
+        }
+    }
 }
 
 /// Constructors of a length.
@@ -137,22 +124,14 @@ pub enum ByLength {
     Default,
 }
 
+/// The names of those with no value.
+pub const BY_LENGTH: [(&'static str, ByLength); 3] = [
+    ("new_true", ByLength::NewTrue),
+    ("new_false", ByLength::NewFalse),
+    ("default", ByLength::Default),
+];
+
 impl ByLength {
-    /// The call of this name.
-    pub fn named(name: &str) -> Option<ByLength> {
-        match place_of(name, "new_true new_false default") {
-            0 => Some(ByLength::NewTrue),
-            1 => Some(ByLength::NewFalse),
-            2 => Some(ByLength::Default),
-            _ => None,
-        }
-    }
-
-    /// Makes the call.
-    pub fn run<'a>(self, len: &'a mut usize, value: bool) -> Result<Answer<'a>, Fault> {
-        Ok(Answer::Mask(self.mask(*len, value)))
-    }
-
     /// The mask: of `New` of these values.
     pub fn mask(self, len: usize, value: bool) -> Mask {
         match self {
@@ -160,32 +139,6 @@ impl ByLength {
             ByLength::NewTrue => Mask::new_true(len),
             ByLength::NewFalse => Mask::new_false(len),
             ByLength::Default => Mask::default(),
-        }
-    }
-}
-
-impl ByIndices {
-    /// The call of this name.
-    pub fn named(name: &str) -> Option<ByIndices> {
-        match name {
-            "from_indices" => Some(ByIndices::FromIndices),
-            "from_excluded_indices" => Some(ByIndices::FromExcludedIndices),
-            _ => None,
-        }
-    }
-
-    /// Makes the call.
-    pub fn run<'a>(
-        self,
-        alloc: Global,
-        len: usize,
-        indices: &'a mut Vec<usize>,
-    ) -> Result<Answer<'a>, Fault> {
-        match self {
-            ByIndices::FromIndices => Answer::of_mask(from_indices(alloc, len, indices)),
-            ByIndices::FromExcludedIndices => {
-                Answer::of_mask(from_excluded_indices(alloc, len, indices))
-            }
         }
     }
 }

@@ -4,13 +4,13 @@ use crate::answer::Answer;
 use crate::bits::{Bits, from_indices};
 use crate::fault::Fault;
 use crate::masks::made::{
-    ByIndices, ByLength, run_common, run_common_of_one, run_from_buffer, run_from_rows,
-    run_from_slices, run_with_slices,
+    BY_INDICES, BY_LENGTH, ByIndices, ByLength, from_common, from_intersection_of_one, from_ranged,
+    from_rows, from_taken, from_taken_slices,
 };
 use crate::ranged::Ranged;
-use crate::words::{Words, numbers};
-use mask_bits::BitBuffer;
+use crate::words::{Words, named, numbers};
 use std::alloc::Global;
+use vortex_mask::Mask;
 
 /// A constructor with its operands. Those by value are gone after the call.
 #[derive(Drop)]
@@ -18,7 +18,7 @@ pub enum Making {
     ByLength(ByLength, usize, bool),
     ByIndices(ByIndices, usize, Vec<usize>),
     FromSlices(usize, Vec<(usize, usize)>),
-    FromBuffer(Option<BitBuffer>),
+    FromBuffer(Bits),
     FromRows(Vec<bool>),
     WithSlices(Option<Ranged>),
     Common(usize, Bits, Bits),
@@ -28,29 +28,35 @@ pub enum Making {
 impl Making {
     /// Makes the call.
     pub fn run<'a>(&'a mut self, alloc: Global) -> Result<Answer<'a>, Fault> {
+        Answer::of_mask(self.mask(alloc))
+    }
+
+    fn mask(&mut self, alloc: Global) -> Result<Mask, Fault> {
         match self {
-            Making::ByLength(call, len, value) => call.run(len, *value),
-            Making::ByIndices(call, len, list) => call.run(alloc, *len, list),
-            Making::FromSlices(len, list) => run_from_slices(alloc, *len, list),
-            Making::FromBuffer(buffer) => run_from_buffer(alloc, buffer),
-            Making::FromRows(rows) => run_from_rows(alloc, rows),
-            Making::WithSlices(ranged) => run_with_slices(alloc, ranged),
-            Making::Common(len, lhs, rhs) => run_common(alloc, *len, lhs, rhs),
-            Making::CommonOfOne(len, lhs, rhs) => run_common_of_one(alloc, *len, lhs, *rhs),
+            Making::ByLength(call, len, value) => Ok(call.mask(*len, *value)),
+            Making::ByIndices(call, len, list) => call.mask(alloc, *len, list),
+            Making::FromSlices(len, list) => from_taken_slices(alloc, *len, list),
+            Making::FromBuffer(bits) => from_taken(alloc, bits),
+            Making::FromRows(rows) => from_rows(alloc, rows),
+            Making::WithSlices(ranged) => from_ranged(alloc, ranged),
+            Making::Common(len, lhs, rhs) => from_common(alloc, *len, lhs, rhs),
+            Making::CommonOfOne(len, lhs, rhs) => {
+                from_intersection_of_one(alloc, *len, *lhs, *rhs)
+            }
         }
     }
 
     /// The constructor of this name, if it is one, and its operands.
     pub fn read(words: &mut Words<'_>, name: &str) -> Option<Making> {
-        if let Some(call) = ByLength::named(name) {
+        if let Some(call) = named(name, &BY_LENGTH) {
             return Some(Making::ByLength(call, words.number(), true));
         }
-        if let Some(call) = ByIndices::named(name) {
+        if let Some(call) = named(name, &BY_INDICES) {
             return Some(Making::ByIndices(call, words.number(), words.numbers()));
         }
         match name {
             "new" => Some(Making::ByLength(ByLength::New, words.number(), words.next() == "1")),
-            "from_buffer" => Some(Making::FromBuffer(Bits::next(words).buffer)),
+            "from_buffer" => Some(Making::FromBuffer(Bits::next(words))),
             "from_rows" => Some(Making::FromRows(words.values())),
             "from_slices" => Some(Making::FromSlices(words.number(), words.ranges())),
             "from_buffer_with_slices" => Some(Making::WithSlices(next_ranged(words))),

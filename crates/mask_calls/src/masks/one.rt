@@ -5,7 +5,6 @@ use crate::bits::Bits;
 use crate::fault::{Fault, answer};
 use crate::masks::made::from_iter_of;
 use crate::operand::Operand;
-use crate::words::place_of;
 use mask_bits::BitBuffer;
 use std::alloc::Global;
 use vortex_mask::Mask;
@@ -54,6 +53,17 @@ pub enum OfOne {
     Read(Read),
 }
 
+/// The names of these calls.
+pub const OF_ONE: [(&'static str, OfOne); 7] = [
+    ("clone", OfOne::Clone),
+    ("not", OfOne::Not),
+    ("into_not", OfOne::IntoNot),
+    ("to_bit_buffer", OfOne::ToBitBuffer),
+    ("into_bit_buffer", OfOne::IntoBitBuffer),
+    ("clear", OfOne::Clear),
+    ("from_bools", OfOne::FromBools),
+];
+
 /// A call that reads a mask.
 #[derive(Drop, Clone, Copy)]
 pub enum Read {
@@ -76,27 +86,28 @@ pub enum Read {
     DebugValues,
 }
 
-impl OfOne {
-    /// The call of this name.
-    pub fn named(name: &str) -> Option<OfOne> {
-        match place_of(
-            name,
-            "clone not into_not to_bit_buffer into_bit_buffer clear from_bools",
-        ) {
-            0 => Some(OfOne::Clone),
-            1 => Some(OfOne::Not),
-            2 => Some(OfOne::IntoNot),
-            3 => Some(OfOne::ToBitBuffer),
-            4 => Some(OfOne::IntoBitBuffer),
-            5 => Some(OfOne::Clear),
-            6 => Some(OfOne::FromBools),
-            _ => match Read::named(name) {
-                Some(read) => Some(OfOne::Read(read)),
-                None => None,
-            },
-        }
-    }
+/// The names of these calls.
+pub const READS: [(&'static str, Read); 17] = [
+    ("mask", Read::Mask),
+    ("len", Read::Len),
+    ("is_empty", Read::IsEmpty),
+    ("true_count", Read::TrueCount),
+    ("false_count", Read::FalseCount),
+    ("all_true", Read::AllTrue),
+    ("all_false", Read::AllFalse),
+    ("first", Read::First),
+    ("last", Read::Last),
+    ("density", Read::Density),
+    ("bit_buffer", Read::BitBuffer),
+    ("iter", Read::Iter),
+    ("set_indices", Read::SetIndices),
+    ("set_slices", Read::SetSlices),
+    ("display", Read::Display),
+    ("debug", Read::Debug),
+    ("debug_values", Read::DebugValues),
+];
 
+impl OfOne {
     /// Whether the mask is lent, and stays as it is.
     pub fn lends(self) -> bool {
         !matches!(self, OfOne::IntoNot | OfOne::IntoBitBuffer | OfOne::Clear)
@@ -121,41 +132,6 @@ impl OfOne {
 }
 
 impl Read {
-    fn named(name: &str) -> Option<Read> {
-        match place_of(
-            name,
-            "mask len is_empty true_count false_count all_true all_false first last density bit_buffer",
-        ) {
-            0 => Some(Read::Mask),
-            1 => Some(Read::Len),
-            2 => Some(Read::IsEmpty),
-            3 => Some(Read::TrueCount),
-            4 => Some(Read::FalseCount),
-            5 => Some(Read::AllTrue),
-            6 => Some(Read::AllFalse),
-            7 => Some(Read::First),
-            8 => Some(Read::Last),
-            9 => Some(Read::Density),
-            10 => Some(Read::BitBuffer),
-            _ => Read::walk_or_text(name),
-        }
-    }
-
-    fn walk_or_text(name: &str) -> Option<Read> {
-        match place_of(
-            name,
-            "iter set_indices set_slices display debug debug_values",
-        ) {
-            0 => Some(Read::Iter),
-            1 => Some(Read::SetIndices),
-            2 => Some(Read::SetSlices),
-            3 => Some(Read::Display),
-            4 => Some(Read::Debug),
-            5 => Some(Read::DebugValues),
-            _ => None,
-        }
-    }
-
     fn of(self, mask: &Mask) -> Answer<'_> {
         match self {
             Read::Mask => Answer::Lent(mask),

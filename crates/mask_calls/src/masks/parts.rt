@@ -3,7 +3,6 @@
 use crate::answer::Answer;
 use crate::fault::{Fault, answer};
 use crate::operand::Operand;
-use crate::words::place_of;
 use std::alloc::Global;
 use vortex_mask::Mask;
 
@@ -43,19 +42,10 @@ pub fn rank(mask: &Mask, n: usize) -> Result<usize, Fault> {
     Ok(mask.rank(n))
 }
 
-/// Makes the call of `slice`.
-pub fn run_slice<'a>(
-    alloc: Global,
-    operand: &'a mut Operand,
-    start: usize,
-    end: usize,
-) -> Result<Answer<'a>, Fault> {
-    Answer::of_mask(slice(alloc, &operand.mask, start, end))
-}
-
-/// A call of a mask and a number.
+/// A call of a mask and one or two numbers.
 #[derive(Drop, Clone, Copy)]
-pub enum WithNumber {
+pub enum WithNumbers {
+    Slice,
     Limit,
     ToLimited,
     Groups,
@@ -63,22 +53,19 @@ pub enum WithNumber {
     Rank,
 }
 
-impl WithNumber {
-    /// The call of this name.
-    pub fn named(name: &str) -> Option<WithNumber> {
-        match place_of(name, "limit to_limited groups value rank") {
-            0 => Some(WithNumber::Limit),
-            1 => Some(WithNumber::ToLimited),
-            2 => Some(WithNumber::Groups),
-            3 => Some(WithNumber::Value),
-            4 => Some(WithNumber::Rank),
-            _ => None,
-        }
-    }
+/// The names of those with one.
+pub const WITH_NUMBER: [(&'static str, WithNumbers); 5] = [
+    ("limit", WithNumbers::Limit),
+    ("to_limited", WithNumbers::ToLimited),
+    ("groups", WithNumbers::Groups),
+    ("value", WithNumbers::Value),
+    ("rank", WithNumbers::Rank),
+];
 
+impl WithNumbers {
     /// Whether the mask is lent, and stays as it is.
     pub fn lends(self) -> bool {
-        !matches!(self, WithNumber::Limit)
+        !matches!(self, WithNumbers::Limit)
     }
 
     /// Makes the call. An operand by value is gone after it.
@@ -86,14 +73,16 @@ impl WithNumber {
         self,
         alloc: Global,
         operand: &'a mut Operand,
-        number: usize,
+        first: usize,
+        second: usize,
     ) -> Result<Answer<'a>, Fault> {
         match self {
-            WithNumber::Limit => Answer::of_mask(limit(alloc, operand.take(), number)),
-            WithNumber::ToLimited => Answer::of_mask(to_limited(alloc, &operand.mask, number)),
-            WithNumber::Groups => Answer::of_masks(groups(alloc, &operand.mask, number)),
-            WithNumber::Value => Answer::of_flag(value(&operand.mask, number)),
-            WithNumber::Rank => Answer::of_number(rank(&operand.mask, number)),
+            WithNumbers::Slice => Answer::of_mask(slice(alloc, &operand.mask, first, second)),
+            WithNumbers::Limit => Answer::of_mask(limit(alloc, operand.take(), first)),
+            WithNumbers::ToLimited => Answer::of_mask(to_limited(alloc, &operand.mask, first)),
+            WithNumbers::Groups => Answer::of_masks(groups(alloc, &operand.mask, first)),
+            WithNumbers::Value => Answer::of_flag(value(&operand.mask, first)),
+            WithNumbers::Rank => Answer::of_number(rank(&operand.mask, first)),
         }
     }
 }

@@ -3,7 +3,6 @@
 use crate::answer::Answer;
 use crate::fault::{Fault, answer};
 use crate::operand::Operand;
-use crate::words::place_of;
 use std::alloc::Global;
 use vortex_mask::Mask;
 use vortex_mask::intersect_by_rank::{RankPath, Steps, rank_path};
@@ -105,30 +104,24 @@ pub enum OfTwo {
     EqualSwapped,
 }
 
-impl OfTwo {
-    /// The call of this name.
-    pub fn named(name: &str) -> Option<OfTwo> {
-        match place_of(
-            name,
-            "bitand bitor to_bitand_not into_bitand into_bitor bitand_not intersect_by_rank intersect_by_rank_counted rank_path counted_list choose_values equal equal_swapped",
-        ) {
-            0 => Some(OfTwo::Bitand),
-            1 => Some(OfTwo::Bitor),
-            2 => Some(OfTwo::ToBitandNot),
-            3 => Some(OfTwo::IntoBitand),
-            4 => Some(OfTwo::IntoBitor),
-            5 => Some(OfTwo::BitandNot),
-            6 => Some(OfTwo::IntersectByRank),
-            7 => Some(OfTwo::IntersectByRankCounted),
-            8 => Some(OfTwo::RankPath),
-            9 => Some(OfTwo::CountedList),
-            10 => Some(OfTwo::ChooseValues),
-            11 => Some(OfTwo::Equal),
-            12 => Some(OfTwo::EqualSwapped),
-            _ => None,
-        }
-    }
+/// The names of these calls.
+pub const OF_TWO: [(&'static str, OfTwo); 13] = [
+    ("bitand", OfTwo::Bitand),
+    ("bitor", OfTwo::Bitor),
+    ("to_bitand_not", OfTwo::ToBitandNot),
+    ("into_bitand", OfTwo::IntoBitand),
+    ("into_bitor", OfTwo::IntoBitor),
+    ("bitand_not", OfTwo::BitandNot),
+    ("intersect_by_rank", OfTwo::IntersectByRank),
+    ("intersect_by_rank_counted", OfTwo::IntersectByRankCounted),
+    ("counted_list", OfTwo::CountedList),
+    ("choose_values", OfTwo::ChooseValues),
+    ("rank_path", OfTwo::RankPath),
+    ("equal", OfTwo::Equal),
+    ("equal_swapped", OfTwo::EqualSwapped),
+];
 
+impl OfTwo {
     /// Whether the first mask is lent, and stays as it is.
     pub fn lends(self) -> bool {
         !matches!(

@@ -1,10 +1,11 @@
 //! Calls of the values inside a mixed mask.
 
-use crate::answer::{Answer, write_mixed};
+use crate::answer::Answer;
 use crate::fault::{Fault, answer};
 use crate::operand::Operand;
 use crate::text::Text;
-use crate::words::{Words, place_of};
+use crate::words::{Words, named};
+use crate::written::write_mixed;
 use mask_bits::BitBuffer;
 use std::alloc::Global;
 use vortex_mask::{Mask, MaskIter, MaskValues};
@@ -56,53 +57,38 @@ pub fn of_mask(mask: &Mask) -> Result<MaskValues, Fault> {
     }
 }
 
-/// A call of mixed values with its operands.
+/// A call of mixed values with its operands, and two numbers, which are 0 where it takes none.
 #[derive(Drop)]
-pub enum ValuesCall {
-    Of(OfValues, MaskValues),
-    Threshold(MaskValues, usize, usize),
-    Value(MaskValues, usize),
+pub struct ValuesCall {
+    call: OfValues,
+    /// The values.
+    pub values: MaskValues,
+    first: usize,
+    second: usize,
 }
 
 impl ValuesCall {
     /// Makes the call.
     pub fn run<'a>(&'a mut self, alloc: Global) -> Result<Answer<'a>, Fault> {
-        match self {
-            ValuesCall::Of(call, values) => call.run(alloc, values),
-            ValuesCall::Threshold(values, num, den) => run_threshold(alloc, values, *num, *den),
-            ValuesCall::Value(values, index) => run_value(values, *index),
-        }
+        self.call
+            .run(alloc, &mut self.values, self.first, self.second)
     }
 
     /// The call of this name, behind `values.`, and its operands.
     pub fn read(words: &mut Words<'_>, name: &str) -> Option<ValuesCall> {
         let operand = Operand::next(words);
-        match words.found(of_mask(&operand.mask)) {
-            Some(values) => ValuesCall::of(words, name, values),
-            None => None,
-        }
-    }
-
-    fn of(words: &mut Words<'_>, name: &str, values: MaskValues) -> Option<ValuesCall> {
-        if let Some(call) = OfValues::named(name) {
-            return Some(ValuesCall::Of(call, values));
-        }
-        match name {
-            "value" => Some(ValuesCall::Value(values, words.number())),
-            "threshold_iter" => {
-                Some(ValuesCall::Threshold(values, words.number(), words.number()))
-            }
+        match (named(name, &OF_VALUES), words.found(of_mask(&operand.mask))) {
+            (Some(call), Some(values)) => Some(call.with(words, values)),
             _ => None,
         }
     }
 
     /// Writes what the call changed in place: the values after it, with what they have cached.
     pub fn write_changed(&self, text: &mut Text) {
-        match self {
-            ValuesCall::Of(OfValues::Indices | OfValues::Slices, values) => {
-                write_after(text, values);
+        match self.call {
+            OfValues::Indices | OfValues::Slices | OfValues::Threshold => {
+                write_after(text, &self.values);
             }
-            ValuesCall::Threshold(values, _, _) => write_after(text, values),
             _ => {}
         }
     }
@@ -125,37 +111,58 @@ pub enum OfValues {
     BitBuffer,
     Indices,
     Slices,
+    Threshold,
+    Value,
     Debug,
 }
 
+/// The names of these calls.
+pub const OF_VALUES: [(&'static str, OfValues); 12] = [
+    ("clone", OfValues::Clone),
+    ("into_bit_buffer", OfValues::IntoBitBuffer),
+    ("len", OfValues::Len),
+    ("is_empty", OfValues::IsEmpty),
+    ("true_count", OfValues::TrueCount),
+    ("density", OfValues::Density),
+    ("bit_buffer", OfValues::BitBuffer),
+    ("indices", OfValues::Indices),
+    ("slices", OfValues::Slices),
+    ("threshold_iter", OfValues::Threshold),
+    ("value", OfValues::Value),
+    ("debug", OfValues::Debug),
+];
+
 impl OfValues {
-    /// The call of this name.
-    pub fn named(name: &str) -> Option<OfValues> {
-        match place_of(
-            name,
-            "clone into_bit_buffer len is_empty true_count density bit_buffer indices slices debug",
-        ) {
-            0 => Some(OfValues::Clone),
-            1 => Some(OfValues::IntoBitBuffer),
-            2 => Some(OfValues::Len),
-            3 => Some(OfValues::IsEmpty),
-            4 => Some(OfValues::TrueCount),
-            5 => Some(OfValues::Density),
-            6 => Some(OfValues::BitBuffer),
-            7 => Some(OfValues::Indices),
-            8 => Some(OfValues::Slices),
-            9 => Some(OfValues::Debug),
-            _ => None,
+    // With the numbers behind it.
+    fn with(self, words: &mut Words<'_>, values: MaskValues) -> ValuesCall {
+        let (first, second) = match self {
+            OfValues::Threshold => (words.number(), words.number()),
+            OfValues::Value => (words.number(), 0),
+            _ => (0, 0),
+        };
+        ValuesCall {
+            call: self,
+            values,
+            first,
+            second,
         }
     }
 
     /// Makes the call.
-    pub fn run<'a>(self, alloc: Global, values: &'a mut MaskValues) -> Result<Answer<'a>, Fault> {
+    pub fn run<'a>(
+        self,
+        alloc: Global,
+        values: &'a mut MaskValues,
+        first: usize,
+        second: usize,
+    ) -> Result<Answer<'a>, Fault> {
         match self {
             OfValues::Clone => Answer::of_mixed(clone(values)),
             OfValues::IntoBitBuffer => Answer::of_buffer(clone_buffer(values)),
             OfValues::Indices => Answer::of_list(indices(alloc, values)),
             OfValues::Slices => Answer::of_ranges(slices(alloc, values)),
+            OfValues::Threshold => Answer::of_part(threshold_iter(alloc, values, first, second)),
+            OfValues::Value => Answer::of_flag(value(values, first)),
             _ => Ok(self.read(values)),
         }
     }
@@ -170,19 +177,4 @@ impl OfValues {
             _ => Answer::DebugValue(values),
         }
     }
-}
-
-/// Makes the call of a threshold.
-pub fn run_threshold<'a>(
-    alloc: Global,
-    values: &'a mut MaskValues,
-    num: usize,
-    den: usize,
-) -> Result<Answer<'a>, Fault> {
-    Answer::of_part(threshold_iter(alloc, values, num, den))
-}
-
-/// Makes the call of `value`.
-pub fn run_value<'a>(values: &'a mut MaskValues, index: usize) -> Result<Answer<'a>, Fault> {
-    Answer::of_flag(value(values, index))
 }

@@ -2,7 +2,6 @@
 
 use crate::answer::Answer;
 use crate::fault::Fault;
-use crate::words::place_of;
 use vortex_mask::intersect_by_rank::{
     DepositBits, ExtractBits, Portable, PortableLoop, SelectBit, deposit_bytewise,
     deposit_two_holes, deposit_two_lowest,
@@ -49,24 +48,18 @@ pub enum OfWords {
     Select,
 }
 
-impl OfWords {
-    /// The call of this name.
-    pub fn named(name: &str) -> Option<OfWords> {
-        match place_of(
-            name,
-            "deposit deposit_by_loop deposit_bytewise deposit_two_lowest deposit_two_holes extract select",
-        ) {
-            0 => Some(OfWords::Deposit),
-            1 => Some(OfWords::DepositByLoop),
-            2 => Some(OfWords::Bytewise),
-            3 => Some(OfWords::TwoLowest),
-            4 => Some(OfWords::TwoHoles),
-            5 => Some(OfWords::Extract),
-            6 => Some(OfWords::Select),
-            _ => None,
-        }
-    }
+/// The names of these calls.
+pub const OF_WORDS: [(&'static str, OfWords); 7] = [
+    ("deposit", OfWords::Deposit),
+    ("deposit_by_loop", OfWords::DepositByLoop),
+    ("deposit_bytewise", OfWords::Bytewise),
+    ("deposit_two_lowest", OfWords::TwoLowest),
+    ("deposit_two_holes", OfWords::TwoHoles),
+    ("extract", OfWords::Extract),
+    ("select", OfWords::Select),
+];
 
+impl OfWords {
     /// Makes the call.
     pub fn run<'a>(self, first: &'a mut usize, second: usize) -> Result<Answer<'a>, Fault> {
         let (source, mask) = (*first as u64, second as u64);

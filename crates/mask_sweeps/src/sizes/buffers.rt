@@ -7,31 +7,30 @@ use crate::plain::Plain;
 use crate::sweeps::bitops::Pair;
 use crate::sweeps::buffers::gives_places;
 use mask_bits::BitBuffer;
-use mask_calls::packed::{Outside, from_rows};
+use mask_calls::bits::one::clone;
+use mask_calls::bits::parts::slice;
+use mask_calls::bits::{from_indices, uniform};
+use mask_calls::packed::{Outside, from_rows, from_vec};
 use std::process::Abort;
 
 fn of_bytes<A: Abort>(judge: &Judge<'_, A>, plain: &Plain) -> BitBuffer {
     let buffer = bits_at(judge, plain, 0, Outside::Set);
     let bytes = judge.found("bytes", bits::bytes_of(judge.alloc, &buffer));
-    judge.found("from_vec", bits::from_vec(bytes, plain.len()))
+    judge.found("from_vec", from_vec(bytes, plain.len()))
 }
 
 fn makes<A: Abort>(judge: &Judge<'_, A>, plain: &Plain) {
-    has_words(
-        judge,
-        "BitBuffer::from_bools",
-        &plain_buffer(judge, plain),
-        plain,
-    );
+    let buffer = plain_buffer(judge, plain);
+    has_words(judge, "BitBuffer::from_bools", &buffer, plain);
     has_words(judge, "from_vec", &of_bytes(judge, plain), plain);
     let buffer = from_rows(judge.alloc, &plain.values);
     gives_bits(judge, "BitBuffer::from_rows", buffer, plain);
-    let buffer = bits::from_indices(judge.alloc, plain.len(), &plain.indices);
+    let buffer = from_indices(judge.alloc, plain.len(), &plain.indices);
     gives_bits(judge, "BitBuffer::from_indices", buffer, plain);
 }
 
 fn makes_of_one_value<A: Abort>(judge: &Judge<'_, A>, len: usize, value: bool) {
-    let buffer = bits::buffer_of_one(judge.alloc, len, value);
+    let buffer = uniform(judge.alloc, len, value);
     let plain = Plain::repeating(judge, len, (1, value as usize));
     gives_bits(judge, "new_set or new_unset", buffer, &plain);
 }
@@ -49,23 +48,17 @@ fn parts_of<A: Abort>(judge: &Judge<'_, A>, plain: &Plain) -> Vec<Part> {
         (len / 3, len),
         (len, len),
     ] {
-        judge.found(
-            "a list",
-            parts.push((start, end, plain.part(judge, start, end))),
-        );
+        let part = (start, end, plain.part(judge, start, end));
+        judge.found("a list", parts.push(part));
     }
     parts
 }
 
 fn copies<A: Abort>(judge: &Judge<'_, A>, buffer: &BitBuffer, plain: &Plain, parts: &[Part]) {
-    gives_bits(judge, "BitBuffer::clone", bits::copy_of(buffer), plain);
+    gives_bits(judge, "BitBuffer::clone", clone(buffer), plain);
     for (start, end, want) in parts {
-        gives_bits(
-            judge,
-            "BitBuffer::slice",
-            bits::slice(buffer, *start, *end),
-            want,
-        );
+        let part = slice(buffer, *start, *end);
+        gives_bits(judge, "BitBuffer::slice", part, want);
     }
     judge.holds("true_count", buffer.true_count() == plain.count());
     gives_places(judge, buffer, plain);
@@ -76,9 +69,7 @@ fn at_offset<A: Abort>(judge: &Judge<'_, A>, pair: &Pair, parts: &[Part], offset
     copies(judge, &a, &pair.a, parts);
     for b_offset in OFFSETS {
         let b = bits_at(judge, &pair.b, b_offset, Outside::Set);
-        pair.combines(judge, &a, &b);
-        pair.combines_shared(judge, &a, &b);
-        pair.combines_alone(judge, &a, &b);
+        pair.combines_each(judge, &a, &b);
     }
 }
 

@@ -1,12 +1,12 @@
 // Builders, and each way to append to one.
 use super::{OFFSETS, SIZES};
-use crate::bits;
 use crate::judge::Judge;
 use crate::masks::{bits_at, gives_bits};
 use crate::plain::Plain;
 use crate::sweeps::builders::Built;
 use mask_bits::{BitBuffer, BitBufferMut};
 use mask_calls::Fault;
+use mask_calls::bits::builder;
 use mask_calls::packed::Outside;
 use std::process::Abort;
 
@@ -17,33 +17,18 @@ fn is_list<A: Abort>(
     want: &Plain,
 ) {
     let builder = judge.found(call, builder);
-    gives_bits(judge, call, bits::freeze(builder), want);
+    gives_bits(judge, call, builder::freeze(builder), want);
 }
 
 fn makes<A: Abort>(judge: &Judge<'_, A>, len: usize) {
-    let (set, unset) = (
-        Plain::repeating(judge, len, (1, 1)),
-        Plain::repeating(judge, len, (1, 0)),
-    );
-    is_list(
-        judge,
-        "new_set",
-        bits::builder_of_one(judge.alloc, len, true),
-        &set,
-    );
-    is_list(
-        judge,
-        "new_unset",
-        bits::builder_of_one(judge.alloc, len, false),
-        &unset,
-    );
+    for (call, value) in [("new_unset", false), ("new_set", true)] {
+        let built = builder::of_one(judge.alloc, len, value);
+        let want = Plain::repeating(judge, len, (1, value as usize));
+        is_list(judge, call, built, &want);
+    }
     let none = Plain::repeating(judge, 0, (1, 0));
-    is_list(
-        judge,
-        "with_capacity",
-        bits::with_capacity(judge.alloc, len),
-        &none,
-    );
+    let built = builder::with_capacity(judge.alloc, len);
+    is_list(judge, "with_capacity", built, &none);
 }
 
 // One word behind so many values.

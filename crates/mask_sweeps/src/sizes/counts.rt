@@ -1,10 +1,10 @@
 // As many indices, ranges, masks and groups as lists have values.
 use super::{LONGEST, SIZES};
 use crate::judge::Judge;
-use crate::masks::{CONSTRUCTORS, Source, gives_mask, intersect_all_by_rank, is_mask};
+use crate::masks::{Source, by_constructors, gives_mask};
 use crate::plain::Plain;
 use crate::questions::are_groups;
-use mask_calls::masks::many::{concat, from_masks};
+use mask_calls::masks::many::{concat, from_masks, intersect_all_by_rank};
 use mask_calls::masks::parts::groups;
 use std::process::Abort;
 use vortex_mask::Mask;
@@ -12,10 +12,7 @@ use vortex_mask::Mask;
 // Of `count` true values, each in a range of its own, and of `count` false ones.
 fn of_indices<A: Abort>(judge: &Judge<'_, A>, count: usize, trues: usize) {
     let plain = Plain::repeating(judge, count.saturating_mul(3), (3, trues));
-    for source in CONSTRUCTORS {
-        let want = plain.copy(judge).if_empty(source.is_all_true_if_empty());
-        is_mask(judge, source.name(), &source.mask(judge, &want), &want);
-    }
+    by_constructors(judge, &plain);
 }
 
 fn of_counts<A: Abort>(judge: &Judge<'_, A>) {

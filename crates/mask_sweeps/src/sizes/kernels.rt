@@ -11,12 +11,8 @@ use std::process::Abort;
 use vortex_mask::Mask;
 
 fn narrows<A: Abort>(judge: &Judge<'_, A>, rows: &Mask, ranks: &Mask, want: &Plain) {
-    gives_mask(
-        judge,
-        "intersect_by_rank",
-        intersect_by_rank(judge.alloc, rows, ranks),
-        want,
-    );
+    let left = intersect_by_rank(judge.alloc, rows, ranks);
+    gives_mask(judge, "intersect_by_rank", left, want);
     let call = "intersect_by_rank_counted";
     let (left, _) = judge.found(call, intersect_by_rank_counted(judge.alloc, rows, ranks));
     is_mask(judge, call, &left, want);

@@ -2,7 +2,7 @@
 use super::{LONGEST, OFFSETS, SIZES};
 use crate::judge::Judge;
 use crate::masks::{
-    CONSTRUCTORS, Caches, EACH_CACHES, Source, bits_at, gives_mask, has_caches, is_mask, mask_of,
+    Caches, EACH_CACHES, Source, bits_at, by_constructors, gives_mask, has_caches, mask_of,
 };
 use crate::plain::Plain;
 use crate::questions::{Case, answers_as, others_by};
@@ -11,13 +11,6 @@ use mask_calls::masks::parts::to_limited;
 use mask_calls::packed::Outside;
 use std::process::Abort;
 use vortex_mask::Mask;
-
-fn by_constructors<A: Abort>(judge: &Judge<'_, A>, plain: &Plain) {
-    for source in CONSTRUCTORS {
-        let want = plain.copy(judge).if_empty(source.is_all_true_if_empty());
-        is_mask(judge, source.name(), &source.mask(judge, &want), &want);
-    }
-}
 
 // The other masks, of buffers at each bit offset.
 fn others_at_offsets<A: Abort>(judge: &Judge<'_, A>, case: &Case) -> Vec<Vec<Mask>> {

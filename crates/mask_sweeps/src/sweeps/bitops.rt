@@ -1,10 +1,11 @@
 // Boolean calls, equality and chosen values at every pair of bit offsets of a byte, beside plain lists, with all
 // bits outside the lists set, and with all of them clear.
-use crate::bits::{combined, copy_of, into_combined, own_copy};
+use crate::bits::{combined, into_combined, own_copy};
 use crate::judge::{Generator, Judge};
 use crate::masks::{bits_at, gives_bits, has_words};
 use crate::plain::{OPS, Op, Plain, THREE_IN_FIVE};
 use mask_bits::BitBuffer;
+use mask_calls::bits::one::clone;
 use mask_calls::bits::two::choose_values;
 use mask_calls::packed::Outside;
 use std::process::Abort;
@@ -39,8 +40,20 @@ impl Pair {
         }
     }
 
-    // Each operation on two buffers that hold these lists, which are lent.
-    pub(crate) fn combines<A: Abort>(&self, judge: &Judge<'_, A>, a: &BitBuffer, b: &BitBuffer) {
+    // Each operation on two buffers that hold these lists.
+    pub(crate) fn combines_each<A: Abort>(
+        &self,
+        judge: &Judge<'_, A>,
+        a: &BitBuffer,
+        b: &BitBuffer,
+    ) {
+        self.combines(judge, a, b);
+        self.combines_shared(judge, a, b);
+        self.combines_alone(judge, a, b);
+    }
+
+    // On buffers that are lent.
+    fn combines<A: Abort>(&self, judge: &Judge<'_, A>, a: &BitBuffer, b: &BitBuffer) {
         for (op, want) in &self.wanted {
             gives_bits(judge, op.name(), combined(judge.alloc, *op, a, b), want);
         }
@@ -51,47 +64,24 @@ impl Pair {
     }
 
     // By value on bytes that stay shared.
-    pub(crate) fn combines_shared<A: Abort>(
-        &self,
-        judge: &Judge<'_, A>,
-        a: &BitBuffer,
-        b: &BitBuffer,
-    ) {
+    fn combines_shared<A: Abort>(&self, judge: &Judge<'_, A>, a: &BitBuffer, b: &BitBuffer) {
         for (op, want) in &self.wanted {
-            let own = judge.found("BitBuffer::clone", copy_of(a));
-            combines_own(judge, *op, own, b, want);
+            let own = judge.found("BitBuffer::clone", clone(a));
+            let answer = into_combined(judge.alloc, *op, own, b);
+            gives_bits(judge, op.name_by_value(), answer, want);
         }
         has_words(judge, "the first operand", a, &self.a);
     }
 
     // By value on bytes that nobody else holds.
-    pub(crate) fn combines_alone<A: Abort>(
-        &self,
-        judge: &Judge<'_, A>,
-        a: &BitBuffer,
-        b: &BitBuffer,
-    ) {
+    fn combines_alone<A: Abort>(&self, judge: &Judge<'_, A>, a: &BitBuffer, b: &BitBuffer) {
         for (op, want) in &self.wanted {
             let own = judge.found("a copy", own_copy(judge.alloc, a));
-            combines_own(judge, *op, own, b, want);
+            let answer = into_combined(judge.alloc, *op, own, b);
+            gives_bits(judge, op.name_by_value(), answer, want);
         }
         has_words(judge, "the second operand", b, &self.b);
     }
-}
-
-fn combines_own<A: Abort>(
-    judge: &Judge<'_, A>,
-    op: Op,
-    own: BitBuffer,
-    b: &BitBuffer,
-    want: &Plain,
-) {
-    gives_bits(
-        judge,
-        op.name_by_value(),
-        into_combined(judge.alloc, op, own, b),
-        want,
-    );
 }
 
 // Each operation on two lists at every pair of offsets.
@@ -104,9 +94,7 @@ fn at_offset<A: Abort>(
     let a = bits_at(judge, &pair.a, offset, outside.0);
     for b_offset in 0..=8usize {
         let b = bits_at(judge, &pair.b, b_offset, outside.1);
-        pair.combines(judge, &a, &b);
-        pair.combines_shared(judge, &a, &b);
-        pair.combines_alone(judge, &a, &b);
+        pair.combines_each(judge, &a, &b);
     }
 }
 

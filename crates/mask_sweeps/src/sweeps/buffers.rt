@@ -6,6 +6,8 @@ use crate::masks::{bits_at, has_words, plain_buffer};
 use crate::plain::{Op, Plain, THREE_IN_FIVE};
 use mask_bits::BitBuffer;
 use mask_calls::Fault;
+use mask_calls::bits::one::indices;
+use mask_calls::bits::parts::{count_range, value};
 use mask_calls::packed::Outside;
 use std::process::Abort;
 
@@ -13,8 +15,8 @@ const LONGEST: usize = 130;
 
 fn has_values<A: Abort>(judge: &Judge<'_, A>, buffer: &BitBuffer, plain: &Plain) {
     judge.holds("is_empty", buffer.is_empty() == (plain.len() == 0));
-    for (i, value) in plain.values.iter().enumerate() {
-        judge.holds("value", bits::value(buffer, i) == Some(*value));
+    for (i, want) in plain.values.iter().enumerate() {
+        judge.holds("value", judge.found("value", value(buffer, i)) == *want);
     }
 }
 
@@ -22,10 +24,8 @@ fn iterates<A: Abort>(judge: &Judge<'_, A>, buffer: &BitBuffer, plain: &Plain) {
     let mut iter = buffer.iter();
     let mut left = plain.len();
     for value in &plain.values {
-        judge.holds(
-            "iter",
-            iter.len() == left && iter.size_hint() == (left, Some(left)),
-        );
+        judge.holds("iter", iter.len() == left);
+        judge.holds("iter", iter.size_hint() == (left, Some(left)));
         judge.holds("iter", iter.next() == Some(*value));
         left = left.saturating_sub(1);
     }
@@ -39,20 +39,11 @@ fn equals<A: Abort>(judge: &Judge<'_, A>, buffer: &BitBuffer, plain: &Plain) {
 }
 
 fn selects<A: Abort>(judge: &Judge<'_, A>, buffer: &BitBuffer, indices: &[usize]) {
-    let count = indices.len();
+    let (count, last) = (indices.len(), indices.last().copied());
     judge.holds("true_count", buffer.true_count() == count);
-    judge.holds(
-        "last_set_index",
-        buffer.last_set_index() == indices.last().copied(),
-    );
-    for n in [
-        0,
-        1,
-        7,
-        count.saturating_sub(1),
-        count,
-        count.saturating_add(1),
-    ] {
+    judge.holds("last_set_index", buffer.last_set_index() == last);
+    let (before, past) = (count.saturating_sub(1), count.saturating_add(1));
+    for n in [0, 1, 7, before, count, past] {
         judge.holds("select", buffer.select(n) == indices.get(n).copied());
     }
 }
@@ -71,11 +62,9 @@ fn counts_from<A: Abort>(judge: &Judge<'_, A>, buffer: &BitBuffer, plain: &Plain
     let len = plain.len();
     for end in [0, 8, len / 2, 64, 65, len] {
         if start <= end && end <= len {
-            let count = judge.found("count_range", bits::count_range(buffer, start, end));
-            judge.holds(
-                "count_range",
-                count == count_within(&plain.indices, start, end),
-            );
+            let count = judge.found("count_range", count_range(buffer, start, end));
+            let want = count_within(&plain.indices, start, end);
+            judge.holds("count_range", count == want);
         }
     }
 }
@@ -88,20 +77,12 @@ fn counts_ranges<A: Abort>(judge: &Judge<'_, A>, buffer: &BitBuffer, plain: &Pla
 
 // The indices and the runs of the true values.
 pub(crate) fn gives_places<A: Abort>(judge: &Judge<'_, A>, buffer: &BitBuffer, plain: &Plain) {
-    let indices = bits::set_indices(judge.alloc, buffer);
-    is_list(judge, "set_indices", indices, &plain.indices);
-    is_list(
-        judge,
-        "indices",
-        bits::indices(judge.alloc, buffer),
-        &plain.indices,
-    );
-    is_list(
-        judge,
-        "set_slices",
-        bits::set_slices(judge.alloc, buffer),
-        &plain.runs,
-    );
+    let walked = bits::set_indices(judge.alloc, buffer);
+    is_list(judge, "set_indices", walked, &plain.indices);
+    let listed = indices(judge.alloc, buffer);
+    is_list(judge, "indices", listed, &plain.indices);
+    let runs = bits::set_slices(judge.alloc, buffer);
+    is_list(judge, "set_slices", runs, &plain.runs);
 }
 
 fn is_list<A: Abort, T: PartialEq + Drop>(

@@ -1,9 +1,9 @@
 // The builder beside plain lists of bool, at pairs of bit offsets within a byte and around a word.
-use crate::bits;
 use crate::judge::Judge;
 use crate::masks::{bits_at, gives_bits};
 use crate::plain::Plain;
 use mask_bits::{BitBuffer, BitBufferMut};
+use mask_calls::bits::builder::{append_buffer, append_n, freeze, push_word, put, with_capacity};
 use mask_calls::packed::Outside;
 use std::process::Abort;
 
@@ -30,7 +30,7 @@ pub(crate) struct Built {
 impl Built {
     fn empty<A: Abort>(judge: &Judge<'_, A>, capacity: usize) -> Built {
         Built {
-            builder: judge.found("with_capacity", bits::with_capacity(judge.alloc, capacity)),
+            builder: judge.found("with_capacity", with_capacity(judge.alloc, capacity)),
             values: Vec::new(judge.alloc),
         }
     }
@@ -45,14 +45,14 @@ impl Built {
     }
 
     pub(crate) fn append_n<A: Abort>(&mut self, judge: &Judge<'_, A>, value: bool, n: usize) {
-        judge.found("append_n", bits::append_n(&mut self.builder, value, n));
+        judge.found("append_n", append_n(&mut self.builder, value, n));
         for _ in 0..n {
             judge.found("a value", self.values.push(value));
         }
     }
 
     pub(crate) fn push_word<A: Abort>(&mut self, judge: &Judge<'_, A>, word: u64, count: usize) {
-        judge.found("push_word", bits::push_word(&mut self.builder, word, count));
+        judge.found("push_word", push_word(&mut self.builder, word, count));
         for i in 0..count {
             judge.found("a value", self.values.push((word >> (i % 64)) & 1 == 1));
         }
@@ -64,18 +64,12 @@ impl Built {
         other: &BitBuffer,
         added: &[bool],
     ) {
-        judge.found(
-            "append_buffer",
-            bits::append_buffer(&mut self.builder, other),
-        );
+        judge.found("append_buffer", append_buffer(&mut self.builder, other));
         judge.found("a value", self.values.extend_from_slice(added));
     }
 
     fn change<A: Abort>(&mut self, judge: &Judge<'_, A>, i: usize) {
-        judge.found(
-            "set or unset",
-            bits::put(&mut self.builder, i, !value_at(i)),
-        );
+        judge.found("set or unset", put(&mut self.builder, i, !value_at(i)));
         if let Some(value) = self.values.get_mut(i) {
             *value = !value_at(i);
         }
@@ -85,12 +79,7 @@ impl Built {
     pub(crate) fn holds<A: Abort>(self, judge: &Judge<'_, A>, call: &'static str) {
         let Built { builder, values } = self;
         judge.holds(call, builder.len() == values.len());
-        gives_bits(
-            judge,
-            call,
-            bits::freeze(builder),
-            &Plain::of(judge, values),
-        );
+        gives_bits(judge, call, freeze(builder), &Plain::of(judge, values));
     }
 
     // What is written next finds clear bits behind the list.
@@ -105,11 +94,8 @@ impl Built {
 fn append_part<A: Abort>(judge: &Judge<'_, A>, at: usize, offset: usize, plain: &Plain) {
     for outside in [Outside::Set, Outside::Clear] {
         let mut built = Built::with_values(judge, at);
-        built.append_buffer(
-            judge,
-            &bits_at(judge, plain, offset, outside),
-            &plain.values,
-        );
+        let buffer = bits_at(judge, plain, offset, outside);
+        built.append_buffer(judge, &buffer, &plain.values);
         built.goes_on(judge, "append_buffer");
     }
 }
@@ -128,12 +114,8 @@ fn append_parts<A: Abort>(judge: &Judge<'_, A>) {
     for len in [0, 1, 9, 63, 64, 65, 191, 192, 193, 330] {
         append_at_offsets(judge, &Plain::of(judge, values_of(judge, len)));
     }
-    append_part(
-        judge,
-        10_003,
-        3,
-        &Plain::of(judge, values_of(judge, 20_021)),
-    );
+    let many = Plain::of(judge, values_of(judge, 20_021));
+    append_part(judge, 10_003, 3, &many);
 }
 
 #[test]

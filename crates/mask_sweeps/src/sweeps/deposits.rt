@@ -7,14 +7,10 @@ use vortex_mask::intersect_by_rank::{Portable, PortableLoop, deposit_bytewise};
 
 // By both implementations, and by the network at every mask.
 fn deposits_to<A: Abort>(judge: &Judge<'_, A>, source: u64, mask: u64, want: u64) {
-    judge.holds(
-        "Portable::deposit_bits",
-        deposit_bits::<Portable>(source, mask) == want,
-    );
-    judge.holds(
-        "PortableLoop::deposit_bits",
-        deposit_bits::<PortableLoop>(source, mask) == want,
-    );
+    let by_network = deposit_bits::<Portable>(source, mask);
+    judge.holds("Portable::deposit_bits", by_network == want);
+    let by_loop = deposit_bits::<PortableLoop>(source, mask);
+    judge.holds("PortableLoop::deposit_bits", by_loop == want);
     judge.holds("deposit_bytewise", deposit_bytewise(source, mask) == want);
 }
 

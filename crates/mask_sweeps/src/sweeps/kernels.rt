@@ -5,10 +5,10 @@ mod rank_bits;
 mod rows;
 
 use crate::judge::{Generator, Judge};
-use crate::kernels::{KERNELS, Kernel};
 use crate::masks::{bits_at, has_caches, is_mask};
 use crate::plain::{Plain, TWO_IN_THREE};
 use mask_bits::BitBuffer;
+use mask_calls::kernels::{KERNELS, Kernel, Listed};
 use mask_calls::packed::Outside;
 use std::process::Abort;
 use vortex_mask::intersect_by_rank::Steps;
@@ -65,21 +65,20 @@ fn takes_steps(steps: &Steps, (calls, sums): Counts) -> bool {
 
 fn by_kernel<A: Abort>(
     judge: &Judge<'_, A>,
-    kernel: Kernel,
-    (rows, ranks): (&BitBuffer, &BitBuffer),
+    (call, kernel): (&'static str, Kernel),
+    (rows, ranks): (&Listed<'_>, &Listed<'_>),
     want: &Plain,
     counts: Counts,
 ) {
-    let (mask, steps) = judge.found(kernel.name(), kernel.answer(judge.alloc, rows, ranks));
-    is_mask(judge, kernel.name(), &mask, want);
-    has_caches(
-        judge,
-        kernel.name(),
-        &mask,
-        want,
-        (kernel.caches_indices(), false),
-    );
-    judge.holds(kernel.name(), takes_steps(&steps, counts));
+    let (mask, steps) = judge.found(call, kernel.answer(judge.alloc, rows, ranks));
+    is_mask(judge, call, &mask, want);
+    let caches_indices = matches!(kernel, Kernel::Indices | Kernel::MaskDriven);
+    has_caches(judge, call, &mask, want, (caches_indices, false));
+    judge.holds(call, takes_steps(&steps, counts));
+}
+
+fn listed<'a, A: Abort>(judge: &Judge<'_, A>, buffer: &'a BitBuffer) -> Listed<'a> {
+    judge.found("set_indices", Listed::of(judge.alloc, buffer))
 }
 
 // Of `offered` true values in the rows.
@@ -90,14 +89,10 @@ pub(crate) fn by_each_kernel<A: Abort>(
     work: Work,
     offered: usize,
 ) {
-    for kernel in KERNELS {
-        by_kernel(
-            judge,
-            kernel,
-            buffers,
-            want,
-            work.counts(kernel, offered, want),
-        );
+    let (rows, ranks) = (listed(judge, buffers.0), listed(judge, buffers.1));
+    for (call, kernel) in KERNELS {
+        let counts = work.counts(kernel, offered, want);
+        by_kernel(judge, (call, kernel), (&rows, &ranks), want, counts);
     }
 }
 
@@ -146,13 +141,8 @@ fn at_offset<A: Abort>(judge: &Judge<'_, A>, offset: usize, outside: (Outside, O
     let buffer = bits_at(judge, &rows, offset, outside.0);
     selects(judge, &buffer, &rows.indices);
     let ranks = bits_at(judge, &ranks, offset, outside.1);
-    by_each_kernel(
-        judge,
-        (&buffer, &ranks),
-        &want,
-        Work::of(&want),
-        rows.count(),
-    );
+    let work = Work::of(&want);
+    by_each_kernel(judge, (&buffer, &ranks), &want, work, rows.count());
 }
 
 // Each true value by its number, and none past the last.

@@ -2,12 +2,11 @@
 // constructor, and of masks of buffers at each bit offset from 0 to 63 with bits of each kind outside.
 use crate::judge::{Generator, Judge};
 use crate::masks::{
-    CONSTRUCTORS, EACH_CACHES, Source, gives_mask, has_caches, has_words, intersect_all_by_rank,
-    is_mask, with_lists,
+    CONSTRUCTORS, EACH_CACHES, Source, gives_mask, has_caches, has_words, is_mask, with_lists,
 };
 use crate::plain::{ODD, Plain};
 use crate::questions::{Case, RANKS, answers_as, others_by};
-use mask_calls::masks::many::{concat, from_masks};
+use mask_calls::masks::many::{concat, from_masks, intersect_all_by_rank};
 use mask_calls::masks::one::{clone, to_bit_buffer};
 use mask_calls::masks::parts::{groups, rank, value};
 use mask_calls::packed::Outside;
@@ -93,13 +92,8 @@ fn acts_as<A: Abort>(judge: &Judge<'_, A>, source: Source, case: &Case, others: 
     let mask = source.mask(judge, &case.plain);
     is_mask(judge, source.name(), &mask, &case.plain);
     for question in &case.questions {
-        answers_as(
-            judge,
-            question,
-            (&mask, (false, false)),
-            others,
-            &case.plain,
-        );
+        let made = (&mask, (false, false));
+        answers_as(judge, question, made, others, &case.plain);
     }
     reads_as(judge, &mask, &case.plain);
     iterates_as(judge, &mask, &case.plain);
@@ -121,16 +115,9 @@ fn case_of<A: Abort>(judge: &Judge<'_, A>, plain: Plain) -> Case {
 
 fn by_constructors<A: Abort>(judge: &Judge<'_, A>, plain: &Plain) {
     for source in CONSTRUCTORS {
-        let case = case_of(
-            judge,
-            plain.copy(judge).if_empty(source.is_all_true_if_empty()),
-        );
-        acts_as(
-            judge,
-            source,
-            &case,
-            &others_by(judge, &case, Source::Bools),
-        );
+        let case = case_of(judge, source.want(judge, plain));
+        let others = others_by(judge, &case, Source::Bools);
+        acts_as(judge, source, &case, &others);
     }
 }
 
@@ -179,12 +166,8 @@ fn of_one_value<A: Abort>(judge: &Judge<'_, A>, len: usize, value: bool) {
     let plain = Plain::repeating(judge, len, (1, value as usize)).if_empty(value);
     by_constructors(judge, &plain);
     let case = case_of(judge, plain);
-    acts_as(
-        judge,
-        Source::One,
-        &case,
-        &others_by(judge, &case, Source::Bools),
-    );
+    let others = others_by(judge, &case, Source::Bools);
+    acts_as(judge, Source::One, &case, &others);
 }
 
 fn each_of_one_value<A: Abort>(judge: &Judge<'_, A>) {
@@ -203,12 +186,8 @@ fn every_call_on_one_value(rt: HostRuntime) {
 fn of_no_values<A: Abort>(judge: &Judge<'_, A>, is_all_true: bool, if_empty: bool) {
     let plain = Plain::repeating(judge, 0, (1, 0)).if_empty(is_all_true);
     let case = Case::of(judge, plain, &[0, 1, usize::MAX], if_empty);
-    acts_as(
-        judge,
-        Source::One,
-        &case,
-        &others_by(judge, &case, Source::One),
-    );
+    let others = others_by(judge, &case, Source::One);
+    acts_as(judge, Source::One, &case, &others);
 }
 
 fn each_of_no_values<A: Abort>(judge: &Judge<'_, A>) {

@@ -1,7 +1,6 @@
 // Whether operands are as they were, beside copies that were made before.
 use mask_bits::BitBuffer;
 use mask_calls::bits::{Bits, BitsCall};
-use mask_calls::masks::values::ValuesCall;
 use mask_calls::{Call, Operand};
 use vortex_mask::{Mask, MaskValues};
 
@@ -24,15 +23,24 @@ pub(super) fn is_kept(call: &Call, copy: &Call, is_by_value: bool) -> bool {
         }
 }
 
+// Whether the masks of a list are so once the call has answered.
+pub(super) fn is_kept_by_answer(call: &Call, copy: &Call, is_by_value: bool) -> bool {
+    match call {
+        Call::OfMany(_, _) => first_is_kept(call, copy, is_by_value),
+        _ => true,
+    }
+}
+
 fn first_is_kept(call: &Call, copy: &Call, is_by_value: bool) -> bool {
     match (call, copy) {
         (Call::Making(_), Call::Making(_)) => true,
         (Call::OfBits(call), Call::OfBits(copy)) => are_bits_kept(call, copy, is_by_value),
-        (Call::OfMany(_, masks), Call::OfMany(_, before)) => is_by_value || are_kept(masks, before),
-        (Call::OfValues(call), Call::OfValues(copy)) => are_values_alike(
-            values_of(call),
-            values_of(copy),
-        ),
+        (Call::OfMany(_, masks), Call::OfMany(_, before)) => {
+            is_by_value || are_kept(&masks.masks, &before.masks)
+        }
+        (Call::OfValues(call), Call::OfValues(copy)) => {
+            are_values_alike(&call.values, &copy.values)
+        }
         _ => match (first(call), first(copy)) {
             (Some(operand), Some(before)) => is_operand_kept(operand, before, is_by_value),
             _ => false,
@@ -40,19 +48,10 @@ fn first_is_kept(call: &Call, copy: &Call, is_by_value: bool) -> bool {
     }
 }
 
-fn values_of(call: &ValuesCall) -> &MaskValues {
-    match call {
-        ValuesCall::Of(_, values) => values,
-        ValuesCall::Threshold(values, _, _) => values,
-        ValuesCall::Value(values, _) => values,
-    }
-}
-
 fn first(call: &Call) -> Option<&Operand> {
     match call {
-        Call::OfOne(_, a) | Call::OfTwo(_, a, _) | Call::WithNumber(_, a, _) => Some(a),
-        Call::Slice(a, _, _) | Call::Threshold(a, _, _) | Call::Lending(_, a) => Some(a),
-        Call::WithList(_, a, _) => Some(a),
+        Call::OfOne(_, a) | Call::OfTwo(_, a, _) | Call::WithList(_, a, _) => Some(a),
+        Call::With(_, a, _, _) | Call::Lending(_, a, _, _) => Some(a),
         _ => None,
     }
 }
@@ -96,7 +95,7 @@ fn are_kept(masks: &[Mask], before: &[Mask]) -> bool {
     masks.len() == before.len() && masks.iter().zip(before).all(|(a, b)| are_alike(a, b))
 }
 
-pub(super) fn are_alike(mask: &Mask, copy: &Mask) -> bool {
+fn are_alike(mask: &Mask, copy: &Mask) -> bool {
     mask == copy
         && match (mask, copy) {
             (Mask::AllTrue(_), Mask::AllTrue(_)) | (Mask::AllFalse(_), Mask::AllFalse(_)) => true,
@@ -111,6 +110,6 @@ fn are_values_alike(values: &MaskValues, before: &MaskValues) -> bool {
         && are_alike_packed(values.bit_buffer(), before.bit_buffer())
 }
 
-pub(super) fn are_alike_packed(buffer: &BitBuffer, before: &BitBuffer) -> bool {
+fn are_alike_packed(buffer: &BitBuffer, before: &BitBuffer) -> bool {
     buffer == before && buffer.offset() == before.offset()
 }

@@ -1,10 +1,9 @@
 // Calls of packed bits: of 130 values at offset 3 that are lent, and of 130 whose bytes nobody else holds.
 use super::rows::try_rows;
-use super::{Want, ended, say, say_name};
-use mask_bits::BitBuffer;
-use mask_calls::{Answer, Fault};
+use super::{Host, Want, ended, say, say_name};
+use mask_calls::Answer;
+use mask_calls::packed::from_vec;
 use std::alloc::{AllocError, Global};
-use std::process::Abort;
 
 const LENT: &str = "\
 bits.new_set 130 -> list 130 all:130
@@ -57,21 +56,17 @@ fn bytes(alloc: Global) -> Result<Vec<u8>, AllocError> {
     [0x01, 0x80].to_vec(alloc)
 }
 
-fn from_vec<'a>(bytes: Vec<u8>) -> Result<Answer<'a>, Fault> {
-    if bytes.len() != 2 {
-        return Err(Fault::Unmet("two bytes"));
-    }
-    match BitBuffer::from_vec(bytes, 16) {
-        Ok(buffer) => Ok(Answer::Buffer(buffer)),
-        Err(_) => Err(Fault::Memory),
+fn of_bytes_in_turn(rt: &impl Host, first: Vec<u8>, second: Vec<u8>) {
+    if !is_made(rt, first) {
+        assert!(rt; is_made(rt, second), "refused once more");
     }
 }
 
-fn of_bytes_in_turn<R: Abort + Print + AllocGlobal>(rt: &R, first: Vec<u8>, second: Vec<u8>) {
-    let want = Want::list(16, "at:16:0,15");
+fn is_made(rt: &impl Host, bytes: Vec<u8>) -> bool {
     say(rt, "calls");
-    if !ended(rt, from_vec(first), want) {
-        say(rt, "calls");
-        assert!(rt; ended(rt, from_vec(second), want), "refused once more");
-    }
+    ended(
+        rt,
+        Answer::of_buffer(from_vec(bytes, 16)),
+        Want::list(16, "at:16:0,15"),
+    )
 }

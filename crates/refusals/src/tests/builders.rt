@@ -1,18 +1,11 @@
 // Calls of a builder of packed bits.
-use super::{Want, ended, is_wanted, say, say_name};
+use super::{Host, Want, ended, is_wanted, say, say_name};
 use mask_bits::{BitBuffer, BitBufferMut};
-use mask_calls::packed::from_bools;
-use mask_calls::words::values;
+use mask_calls::bits::builder;
+use mask_calls::packed::read;
 use mask_calls::{Answer, Fault};
-use std::alloc::{AllocError, Global};
+use std::alloc::Global;
 use std::process::Abort;
-
-fn made<T>(outcome: Result<T, AllocError>) -> Result<T, Fault> {
-    match outcome {
-        Ok(it) => Ok(it),
-        Err(_) => Err(Fault::Memory),
-    }
-}
 
 // The builder's values, as its buffer has them, if memory is found for that.
 fn holds(rt: &impl Abort, alloc: Global, builder: BitBufferMut, want: &str) {
@@ -22,7 +15,7 @@ fn holds(rt: &impl Abort, alloc: Global, builder: BitBufferMut, want: &str) {
 }
 
 // Says how a call ended that answers nothing.
-fn is_done<R: Abort + Print + AllocGlobal>(rt: &R, outcome: Result<(), Fault>) -> bool {
+fn is_done(rt: &impl Host, outcome: Result<(), Fault>) -> bool {
     match outcome {
         Ok(()) => ended(rt, Ok(Answer::Done), Want::Text("done")),
         Err(fault) => ended(rt, Err(fault), Want::Text("done")),
@@ -33,9 +26,8 @@ fn is_done<R: Abort + Print + AllocGlobal>(rt: &R, outcome: Result<(), Fault>) -
 
 fn run(alloc: Global, name: &str) -> Result<BitBufferMut, Fault> {
     match name {
-        "with_capacity" => made(BitBufferMut::with_capacity(alloc, 130)),
-        "new_set" => made(BitBufferMut::new_set(alloc, 130)),
-        _ => made(BitBufferMut::new_unset(alloc, 130)),
+        "with_capacity" => builder::with_capacity(alloc, 130),
+        _ => builder::of_one(alloc, 130, name == "new_set"),
     }
 }
 
@@ -46,14 +38,14 @@ fn new_builders(rt: HostRuntime) {
     try_new(&rt, "new_unset", "list 130 none:130");
 }
 
-fn try_new<R: Abort + Print + AllocGlobal>(rt: &R, name: &str, want: &str) {
+fn try_new(rt: &impl Host, name: &str, want: &str) {
     assert!(rt; println!(rt; "scenario BitBufferMut::{name}").is_ok());
     if !is_made(rt, name, want) {
         assert!(rt; is_made(rt, name, want), "refused once more");
     }
 }
 
-fn is_made<R: Abort + Print + AllocGlobal>(rt: &R, name: &str, want: &str) -> bool {
+fn is_made(rt: &impl Host, name: &str, want: &str) -> bool {
     say(rt, "calls");
     match run(rt.alloc(), name) {
         Ok(builder) => {
@@ -71,27 +63,16 @@ fn is_made<R: Abort + Print + AllocGlobal>(rt: &R, name: &str, want: &str) -> bo
 // ---- appends to 70 values, of which the last is true
 
 fn of_70(alloc: Global) -> Result<BitBufferMut, Fault> {
-    let mut builder = made(BitBufferMut::new_unset(alloc, 70))?;
-    if builder.len() > 69 {
-        builder.set(69);
-    }
+    let mut builder = builder::of_one(alloc, 70, false)?;
+    builder::put(&mut builder, 69, true)?;
     Ok(builder)
 }
 
-// The values of a word.
-fn buffer(alloc: Global, word: &str) -> Result<BitBuffer, Fault> {
-    let list = values(alloc, word)?;
-    from_bools(alloc, &list)
-}
-
 fn append(name: &str, builder: &mut BitBufferMut, other: &BitBuffer) -> Result<(), Fault> {
-    if builder.len() > 1_000_000 || other.len() > 1_000_000 {
-        return Err(Fault::Unmet("a million values at most"));
-    }
     match name {
-        "append_n" => made(builder.append_n(true, 60)),
-        "append_buffer" => made(builder.append_buffer(other)),
-        _ => made(builder.push_word(0x8000_0000_0000_0001, 64)),
+        "append_n" => builder::append_n(builder, true, 60),
+        "append_buffer" => builder::append_buffer(builder, other),
+        _ => builder::push_word(builder, 0x8000_0000_0000_0001, 64),
     }
 }
 
@@ -100,27 +81,23 @@ fn append(name: &str, builder: &mut BitBufferMut, other: &BitBuffer) -> Result<(
 fn appends(rt: HostRuntime) {
     for calls_again in [true, false] {
         try_append(&rt, "push_word", "list 134 at:134:69,70,133", calls_again);
-        try_append(
-            &rt,
-            "append_buffer",
-            "list 200 at:200:69,70,199",
-            calls_again,
-        );
+        let want = "list 200 at:200:69,70,199";
+        try_append(&rt, "append_buffer", want, calls_again);
         try_append(&rt, "append_n", "list 130 at:130:69..130", calls_again);
     }
 }
 
-fn try_append<R: Abort + Print + AllocGlobal>(rt: &R, name: &str, want: &str, calls_again: bool) {
+fn try_append(rt: &impl Host, name: &str, want: &str, calls_again: bool) {
     let then = if calls_again { "" } else { ", looked at" };
     assert!(rt; println!(rt; "scenario {name}{then}").is_ok());
-    match (of_70(rt.alloc()), buffer(rt.alloc(), "at:130:0,129")) {
+    match (of_70(rt.alloc()), read(rt.alloc(), "at:130:0,129")) {
         (Ok(builder), Ok(other)) => append_in_turn(rt, name, (builder, &other), want, calls_again),
         _ => say(rt, "not prepared"),
     }
 }
 
-fn append_in_turn<R: Abort + Print + AllocGlobal>(
-    rt: &R,
+fn append_in_turn(
+    rt: &impl Host,
     name: &str,
     (builder, other): (BitBufferMut, &BitBuffer),
     want: &str,
@@ -158,13 +135,13 @@ fn freeze(rt: HostRuntime) {
     }
 }
 
-fn is_frozen<R: Abort + Print + AllocGlobal>(rt: &R, builder: BitBufferMut) -> bool {
+fn is_frozen(rt: &impl Host, builder: BitBufferMut) -> bool {
     say(rt, "calls");
-    let outcome = match builder.freeze() {
-        Ok(buffer) => Ok(Answer::Buffer(buffer)),
-        Err(_) => Err(Fault::Memory),
-    };
-    ended(rt, outcome, Want::list(70, "at:70:69"))
+    ended(
+        rt,
+        Answer::of_buffer(builder::freeze(builder)),
+        Want::list(70, "at:70:69"),
+    )
 }
 
 // ---- a builder that grows to 100,000 values
@@ -176,7 +153,7 @@ fn words_pushed_one_by_one(rt: HostRuntime) {
     say_name(&rt, "growth by push_word");
     match (
         BitBufferMut::with_capacity(rt.alloc(), 0),
-        buffer(rt.alloc(), "-"),
+        read(rt.alloc(), "-"),
     ) {
         (Ok(builder), Ok(none)) => push_words(&rt, builder, &none),
         _ => say(&rt, "not prepared"),
@@ -184,7 +161,7 @@ fn words_pushed_one_by_one(rt: HostRuntime) {
 }
 
 // A word that is refused leaves the length, and is pushed again.
-fn push_words<R: Abort + Print>(rt: &R, builder: BitBufferMut, none: &BitBuffer) {
+fn push_words(rt: &impl Host, builder: BitBufferMut, none: &BitBuffer) {
     let mut builder = builder;
     say(rt, "calls");
     for i in 0..WORDS {
@@ -209,24 +186,19 @@ fn push_words<R: Abort + Print>(rt: &R, builder: BitBufferMut, none: &BitBuffer)
 
 // So many appends of some 60 values each to a builder that was made with room for them, as a scenario that
 // makes no request.
-pub(super) fn try_room<R: Abort + Print + AllocGlobal>(
-    rt: &R,
-    name: &str,
-    room: usize,
-    times: usize,
-) {
+pub(super) fn try_room(rt: &impl Host, name: &str, room: usize, times: usize) {
     assert!(rt; println!(rt; "scenario {name}, {times} times after with_capacity({room})").is_ok());
     match (
         BitBufferMut::with_capacity(rt.alloc(), room),
-        buffer(rt.alloc(), "first:7:60"),
+        read(rt.alloc(), "first:7:60"),
     ) {
         (Ok(builder), Ok(other)) => fill(rt, name, (builder, &other), (room, times)),
         _ => say(rt, "not prepared"),
     }
 }
 
-fn fill<R: Abort + Print>(
-    rt: &R,
+fn fill(
+    rt: &impl Host,
     name: &str,
     (builder, other): (BitBufferMut, &BitBuffer),
     (room, times): (usize, usize),

@@ -1,9 +1,8 @@
 // The clone of what an `AllOr` lends.
 ghost use Rattle.std.specs.Prelude.{◌≡◌};
 
-use super::{say, say_name};
+use super::{Host, say, say_name};
 use std::alloc::{AllocError, Global};
-use std::process::Abort;
 use vortex_mask::{AllOr, MaskError};
 
 // A number whose clone takes memory.
@@ -26,7 +25,7 @@ impl Clone for Number {
 }
 
 // Whether there is a clone, which then is of that number.
-fn is_cloned<R: Abort + Print>(rt: &R, lent: AllOr<&Number>, value: usize) -> bool {
+fn is_cloned(rt: &impl Host, lent: AllOr<&Number>, value: usize) -> bool {
     match lent.cloned() {
         Ok(clone) => {
             say(rt, "answered");

@@ -1,11 +1,10 @@
 // Each call of masks on each mask.
 use super::items::{Items, write_items};
 use super::plain::{FIRST_ROW, List, Plain};
-use super::{Want, say, try_call};
+use super::{Host, Want, say, try_call};
 use mask_calls::Fault;
 use mask_calls::words::number;
 use std::alloc::{AllocError, Global};
-use std::process::Abort;
 
 // ---- masks
 
@@ -120,7 +119,7 @@ fn write_rows(line: &mut String, len: usize) -> Result<(), AllocError> {
 // ---- calls of masks
 
 // Each of the calls, a line each, of each of the masks.
-pub(super) fn try_calls<R: Abort + Print + AllocGlobal>(rt: &R, calls: &str, masks: &str) {
+pub(super) fn try_calls(rt: &impl Host, calls: &str, masks: &str) {
     for line in masks.split('\n') {
         match Line::read(line) {
             Some(line) => try_calls_of(rt, calls, line),
@@ -129,7 +128,7 @@ pub(super) fn try_calls<R: Abort + Print + AllocGlobal>(rt: &R, calls: &str, mas
     }
 }
 
-fn try_calls_of<R: Abort + Print + AllocGlobal>(rt: &R, calls: &str, line: Line<'_>) {
+fn try_calls_of(rt: &impl Host, calls: &str, line: Line<'_>) {
     for call in calls.split('\n') {
         assert!(rt; println!(rt; "scenario {}: {call}", line.name).is_ok());
         match line.words(rt.alloc(), call) {
@@ -139,7 +138,7 @@ fn try_calls_of<R: Abort + Print + AllocGlobal>(rt: &R, calls: &str, line: Line<
     }
 }
 
-fn try_words<R: Abort + Print + AllocGlobal>(rt: &R, call: &str, words: &str, line: Line<'_>) {
+fn try_words(rt: &impl Host, call: &str, words: &str, line: Line<'_>) {
     let name = part(call, 0);
     let (mask, other) = (
         line.mask,
@@ -157,13 +156,13 @@ fn try_words<R: Abort + Print + AllocGlobal>(rt: &R, call: &str, words: &str, li
     try_call(rt, name, words, Want::Plain(plain));
 }
 
-pub(super) fn try_all<R: Abort + Print + AllocGlobal>(rt: &R, calls: &str) {
+pub(super) fn try_all(rt: &impl Host, calls: &str) {
     try_some(rt, calls);
     try_calls(rt, calls, OF_ONE_RANK);
 }
 
 // Of all but those of one true value.
-fn try_some<R: Abort + Print + AllocGlobal>(rt: &R, calls: &str) {
+fn try_some(rt: &impl Host, calls: &str) {
     try_calls(rt, calls, OF_INDICES);
     try_calls(rt, calls, OF_RANGES);
     try_calls(rt, calls, OF_BOTH);

@@ -238,7 +238,9 @@ pub(super) const FIRST_ROW: usize = 100;
 // Whether an answer is this list. To compare lists is proved sooner than to compare item by item.
 fn is_list(alloc: Global, list: &[bool], answer: &Answer<'_>) -> Result<bool, Fault> {
     match answer {
-        Answer::Mask(mask) | Answer::Counted(mask, _) => is_mask(alloc, list, mask),
+        Answer::Mask(mask) | Answer::Uncached(mask) | Answer::Counted(mask, _) => {
+            is_mask(alloc, list, mask)
+        }
         Answer::Buffer(buffer) | Answer::BufferPart(buffer) => is_packed(alloc, list, buffer),
         Answer::Masks(parts) => are_parts(alloc, list, parts),
         Answer::Mixed(values) => is_packed(alloc, list, values.bit_buffer()),

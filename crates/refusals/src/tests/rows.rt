@@ -1,11 +1,10 @@
 // Calls of which each stands in a line of its own, with what it answers.
-use super::{Want, say, say_name, try_call};
+use super::{Host, Want, say, say_name, try_call};
 use mask_calls::Row;
 use std::alloc::{AllocError, Global};
-use std::process::Abort;
 
 // Each line of a text, under a name that says its call and operands.
-pub(super) fn try_rows<R: Abort + Print + AllocGlobal>(rt: &R, rows: &str) {
+pub(super) fn try_rows(rt: &impl Host, rows: &str) {
     for line in rows.split('\n') {
         match Row::read(line) {
             Some(row) => try_row(rt, row),
@@ -14,7 +13,7 @@ pub(super) fn try_rows<R: Abort + Print + AllocGlobal>(rt: &R, rows: &str) {
     }
 }
 
-fn try_row<R: Abort + Print + AllocGlobal>(rt: &R, row: Row<'_>) {
+fn try_row(rt: &impl Host, row: Row<'_>) {
     assert!(rt; println!(rt; "scenario {} {}", row.names, row.words).is_ok());
     try_call(rt, row.names, row.words, Want::read(row.want));
 }
@@ -64,6 +63,19 @@ slices every:3:30000& -> list 30000 every:3:30000";
 #[test]
 fn calls(rt: HostRuntime) {
     try_rows(&rt, CALLS);
+}
+
+// Masks that are narrowed by two in turn: by indices, by bools, by ranges, and of a command line.
+const STACKS: &str = "\
+intersect_all_by_rank 130:0,63,64,127,128,129 6:1,2,5 101 -> list 130 at:130:63,129
+intersect_all_by_rank every:2:128 64:3,10,63 011 -> list 128 at:128:20,126
+intersect_all_by_rank 10:0..3,5..7,9..10!i 110011 0110 -> list 10 at:10:1,6
+intersect_all_by_rank 8:1..3,3..4,6..8 10101 110 -> list 8 at:8:1,3
+intersect_all_by_rank 10011101 00101 10 -> list 8 at:8:4";
+
+#[test]
+fn stacks(rt: HostRuntime) {
+    try_rows(&rt, STACKS);
 }
 
 // ---- a long list of ranges

@@ -1,7 +1,6 @@
 // Calls that may take memory, and ask for none here: their answer shares what the operand holds.
 use super::masks::{OF_BITS, try_all, try_calls};
 use super::rows::try_rows;
-use super::stacks::try_alone;
 
 #[test]
 fn of_masks(rt: HostRuntime) {
@@ -41,8 +40,12 @@ fn of_buffers(rt: HostRuntime) {
     try_rows(&rt, OF_BUFFERS);
 }
 
+// It is a clone, which shares the mask's values.
+const OF_A_STACK_OF_ONE: &str = "\
+intersect_all_by_rank 10:1,5,7 -> 0100010100 Values indices 1,5,7
+intersect_all_by_rank every:2:128 -> list 128 every:2:128";
+
 #[test]
 fn of_a_stack_of_one(rt: HostRuntime) {
-    try_alone(&rt, "10:1,5,7", "0100010100 Values indices 1,5,7");
-    try_alone(&rt, "every:2:128", "list 128 every:2:128");
+    try_rows(&rt, OF_A_STACK_OF_ONE);
 }

@@ -2,7 +2,7 @@
 use crate::judge::Judge;
 use mask_bits::BitBuffer;
 use mask_calls::Fault;
-use mask_calls::packed::{new_with_offset, own_bytes};
+use mask_calls::packed::of_own;
 use std::process::Abort;
 use vortex_mask::intersect_by_rank::RankBits;
 
@@ -13,11 +13,8 @@ pub(super) fn bits<A: Abort>(
     (start, end): (usize, usize),
 ) -> BitBuffer {
     let bytes = judge.found("bytes", bytes.to_vec(judge.alloc));
-    let bytes = judge.found("bytes", own_bytes(bytes));
-    judge.found(
-        "new_with_offset",
-        new_with_offset(bytes, start, end.saturating_sub(start)),
-    )
+    let buffer = of_own(bytes, start, end.saturating_sub(start));
+    judge.found("new_with_offset", buffer)
 }
 
 fn read(buffer: &BitBuffer, position: usize) -> Result<u64, Fault> {

@@ -37,10 +37,8 @@ fn parts<'a, A: Abort>(
 
 fn plain_at<A: Abort>(judge: &Judge<'_, A>, len: usize, word: &str) -> Plain {
     let indices = judge.found("indices", numbers(judge.alloc, word));
-    Plain::of(
-        judge,
-        judge.found("a list", true_at(judge.alloc, len, &indices)),
-    )
+    let values = true_at(judge.alloc, len, &indices);
+    Plain::of(judge, judge.found("a list", values))
 }
 
 fn work_of<A: Abort>(judge: &Judge<'_, A>, words: &str) -> Work {
@@ -57,12 +55,8 @@ fn narrows<A: Abort>(judge: &Judge<'_, A>, line: &str) {
     let (want, work) = parts(judge, answer, " by ");
     let rows = Plain::of(judge, judge.found("values", values(judge.alloc, rows)));
     let ranks = plain_at(judge, rows.count(), ranks);
-    narrows_to(
-        judge,
-        (&rows, &ranks),
-        &plain_at(judge, rows.len(), want),
-        work_of(judge, work),
-    );
+    let want = plain_at(judge, rows.len(), want);
+    narrows_to(judge, (&rows, &ranks), &want, work_of(judge, work));
 }
 
 fn narrows_to<A: Abort>(

@@ -1,0 +1,136 @@
+//! The kernels of rank intersection. Each tests what its kernel requires, and hands out the answer with no clause.
+
+use crate::fault::{Fault, answer};
+use mask_bits::BitBuffer;
+use std::alloc::Global;
+use std::marker::Model;
+use vortex_mask::Mask;
+use vortex_mask::intersect_by_rank::{
+    DepositBits, Portable, PortableLoop, Steps, intersect_bit_buffer_by_rank_indices,
+    intersect_bit_buffers, intersect_by_rank_indices, intersect_mask_driven,
+};
+
+/// A buffer, and the indices of its true values.
+#[derive(Drop)]
+pub struct Listed<'a> {
+    buffer: &'a BitBuffer,
+    indices: Vec<usize>,
+}
+
+impl<'a> Model for Listed<'a> {
+    ghost use Rattle.std.specs.List.Sorted.{IsStrictlyIncreasing};
+    ghost use Rattle.std.specs.Prelude.{◌<◌, All, Bool, List, length};
+    ghost use Rattle.mask_bits.specs.Buffer.{values};
+
+    ghost Value = { List Bool };
+
+    ghost view = { λ l. values l.buffer.now };
+
+    ghost invariant = { λ l. IsStrictlyIncreasing l.indices.items
+        × All (λ i. i < length (values l.buffer.now)) l.indices.items };
+}
+
+impl<'a> Listed<'a> {
+    /// A buffer with its indices.
+    pub fn of(alloc: Global, buffer: &'a BitBuffer) -> Result<Listed<'a>, Fault> {
+        match buffer.set_indices().collect(alloc) {
+            Ok(indices) => Ok(Listed { buffer, indices }),
+            Err(_) => Err(Fault::Memory),
+        }
+    }
+}
+
+const RANKS: Fault = Fault::Unmet("a rank for each true value");
+
+fn by_bits<D: DepositBits>(
+    alloc: Global,
+    rows: &Listed<'_>,
+    ranks: &Listed<'_>,
+) -> Result<(Mask, Steps), Fault> {
+    let (rows, ranks) = (rows.buffer, ranks.buffer);
+    if ranks.len() != rows.true_count() {
+        return Err(RANKS);
+    }
+    answer(intersect_bit_buffers::<D>(alloc, rows, ranks, ranks.true_count()))
+}
+
+fn by_rank_indices<D: DepositBits>(
+    alloc: Global,
+    rows: &Listed<'_>,
+    ranks: &Listed<'_>,
+) -> Result<(Mask, Steps), Fault> {
+    if ranks.buffer.len() != rows.buffer.true_count() {
+        return Err(RANKS);
+    }
+    answer(intersect_bit_buffer_by_rank_indices::<D>(alloc, rows.buffer, &ranks.indices))
+}
+
+fn by_indices(
+    alloc: Global,
+    rows: &Listed<'_>,
+    ranks: &Listed<'_>,
+) -> Result<(Mask, Steps), Fault> {
+    if ranks.buffer.len() != rows.indices.len() {
+        return Err(RANKS);
+    }
+    answer(intersect_by_rank_indices(alloc, rows.buffer.len(), &rows.indices, &ranks.indices))
+}
+
+fn mask_driven(
+    alloc: Global,
+    rows: &Listed<'_>,
+    ranks: &Listed<'_>,
+) -> Result<(Mask, Steps), Fault> {
+    let (rows, ranks) = (rows.buffer, ranks.buffer);
+    if ranks.len() != rows.true_count() {
+        return Err(RANKS);
+    }
+    let numbers = ranks.set_indices();
+    answer(intersect_mask_driven::<Portable, _>(alloc, rows, numbers, ranks.true_count()))
+}
+
+/// A kernel. Those of words stand with each of both deposits.
+#[derive(Drop, Clone, Copy)]
+pub enum Kernel {
+    BitBuffers,
+    BitBuffersByLoop,
+    RankIndices,
+    RankIndicesByLoop,
+    Indices,
+    MaskDriven,
+}
+
+/// Each kernel, with the name of its call.
+pub const KERNELS: [(&'static str, Kernel); 6] = [
+    ("intersect_bit_buffers", Kernel::BitBuffers),
+    (
+        "intersect_bit_buffers by PortableLoop",
+        Kernel::BitBuffersByLoop,
+    ),
+    ("intersect_bit_buffer_by_rank_indices", Kernel::RankIndices),
+    (
+        "intersect_bit_buffer_by_rank_indices by PortableLoop",
+        Kernel::RankIndicesByLoop,
+    ),
+    ("intersect_by_rank_indices", Kernel::Indices),
+    ("intersect_mask_driven", Kernel::MaskDriven),
+];
+
+impl Kernel {
+    /// Calls the kernel.
+    pub fn answer(
+        self,
+        alloc: Global,
+        rows: &Listed<'_>,
+        ranks: &Listed<'_>,
+    ) -> Result<(Mask, Steps), Fault> {
+        match self {
+            Kernel::BitBuffers => by_bits::<Portable>(alloc, rows, ranks),
+            Kernel::BitBuffersByLoop => by_bits::<PortableLoop>(alloc, rows, ranks),
+            Kernel::RankIndices => by_rank_indices::<Portable>(alloc, rows, ranks),
+            Kernel::RankIndicesByLoop => by_rank_indices::<PortableLoop>(alloc, rows, ranks),
+            Kernel::Indices => by_indices(alloc, rows, ranks),
+            Kernel::MaskDriven => mask_driven(alloc, rows, ranks),
+        }
+    }
+}
