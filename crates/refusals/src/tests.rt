@@ -100,10 +100,15 @@ fn is_list(rt: &impl Abort, is_said: Result<bool, Fault>) {
 }
 
 fn is_text(rt: &impl Abort, text: Result<String, AllocError>, want: Want<'_>) {
-    match (text, want) {
-        (Ok(text), Want::Text(want)) => assert!(rt; text.as_str() == want, "{text} for {want}"),
-        (Ok(text), _) => panic!(rt; "{text} for a list"),
-        _ => {}
+    if let Ok(text) = text {
+        is_wanted_text(rt, text.as_str(), want);
+    }
+}
+
+fn is_wanted_text(rt: &impl Abort, text: &str, want: Want<'_>) {
+    match want {
+        Want::Text(want) => assert!(rt; text == want, "{text} for {want}"),
+        Want::Plain(_) => panic!(rt; "{text} for a list"),
     }
 }
 
@@ -111,37 +116,49 @@ fn is_text(rt: &impl Abort, text: Result<String, AllocError>, want: Want<'_>) {
 
 // The call of this name and of these words, refused and made again.
 fn try_call(rt: &impl Host, name: &str, words: &str, want: Want<'_>) {
-    let call = Call::read(rt.alloc(), name, words);
-    match (call, Call::read(rt.alloc(), name, words)) {
-        (Ok(call), Ok(copy)) => in_turn(rt, (call, copy), is_by_value(name), want),
-        (Err(Fault::Memory), _) | (_, Err(Fault::Memory)) => say(rt, "not prepared"),
-        _ => panic!(rt; "this call can't be read: {name} {words}"),
+    match Call::read(rt.alloc(), name, words) {
+        Ok(call) => try_with_copy(rt, name, words, call, want),
+        Err(fault) => is_not_prepared(rt, &fault, words),
     }
 }
 
-// An operand by value is gone after a refusal: then the second call is made of its own.
-fn in_turn(rt: &impl Host, (call, copy): (Call, Call), is_by_value: bool, want: Want<'_>) {
-    let (mut call, mut copy) = (call, copy);
-    if is_answered(rt, &mut call, want) {
-        assert!(rt;
-            is_kept_by_answer(&call, &copy, is_by_value),
-            "what was lent has changed"
-        );
-        return;
+fn try_with_copy(rt: &impl Host, name: &str, words: &str, call: Call, want: Want<'_>) {
+    let mut call = call;
+    match Call::read(rt.alloc(), name, words) {
+        Ok(copy) => in_turn(rt, &mut call, copy, is_by_value(name), want),
+        Err(fault) => is_not_prepared(rt, &fault, words),
     }
+}
+
+fn is_not_prepared(rt: &impl Host, fault: &Fault, words: &str) {
     assert!(rt;
-        is_kept(&call, &copy, is_by_value),
-        "what was lent has changed"
+        matches!(fault, Fault::Memory),
+        "this call can't be read: {words}"
     );
-    let is_answered = if is_by_value {
-        is_answered(rt, &mut copy, want)
+    say(rt, "not prepared");
+}
+
+// An operand by value is gone after a refusal: then the second call is made of its own.
+fn in_turn(rt: &impl Host, call: &mut Call, copy: Call, is_by_value: bool, want: Want<'_>) {
+    let mut copy = copy;
+    if is_answered(rt, call, want) {
+        is_unchanged(rt, is_kept_by_answer(call, &copy, is_by_value));
     } else {
-        is_answered(rt, &mut call, want)
-    };
-    assert!(rt; is_answered, "refused once more");
+        is_unchanged(rt, is_kept(call, &copy, is_by_value));
+        let again = if is_by_value { &mut copy } else { call };
+        is_not_refused(rt, is_answered(rt, again, want));
+    }
 }
 
 fn is_answered(rt: &impl Host, call: &mut Call, want: Want<'_>) -> bool {
     say(rt, "calls");
     ended(rt, call.run(rt.alloc()), want)
+}
+
+fn is_unchanged(rt: &impl Abort, is_kept: bool) {
+    assert!(rt; is_kept, "what was lent has changed");
+}
+
+fn is_not_refused(rt: &impl Abort, is_answered: bool) {
+    assert!(rt; is_answered, "refused once more");
 }

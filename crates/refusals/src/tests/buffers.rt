@@ -1,6 +1,6 @@
 // Calls of packed bits: of 130 values at offset 3 that are lent, and of 130 whose bytes nobody else holds.
 use super::rows::try_rows;
-use super::{Host, Want, ended, say, say_name};
+use super::{Host, Want, ended, is_not_refused, say, say_name};
 use mask_calls::Answer;
 use mask_calls::packed::from_vec;
 use std::alloc::{AllocError, Global};
@@ -57,9 +57,7 @@ fn bytes(alloc: Global) -> Result<Vec<u8>, AllocError> {
 }
 
 fn of_bytes_in_turn(rt: &impl Host, first: Vec<u8>, second: Vec<u8>) {
-    if !is_made(rt, first) {
-        assert!(rt; is_made(rt, second), "refused once more");
-    }
+    is_not_refused(rt, is_made(rt, first) || is_made(rt, second));
 }
 
 fn is_made(rt: &impl Host, bytes: Vec<u8>) -> bool {

@@ -2,7 +2,7 @@
 // Scenarios named `PATH/CALL` of one path are refused equally often, which the script compares: a body
 // that answers by lists and makes the cached ones up would ask more often.
 use super::alike::is_kept;
-use super::{Host, Want, ended, say, try_call};
+use super::{Host, Want, ended, is_not_refused, is_unchanged, say, try_call};
 use mask_calls::kernels::{Kernel, Listed};
 use mask_calls::masks::two::path;
 use mask_calls::{Answer, Call, Fault, Row};
@@ -33,6 +33,7 @@ fn try_paths(rt: &impl Host, call: &str) {
             None => panic!(rt; "not a row: {line}"),
         }
     }
+    try_few(rt, call);
 }
 
 fn try_few(rt: &impl Host, call: &str) {
@@ -53,31 +54,34 @@ fn try_path(rt: &impl Host, call: &str, row: Row<'_>) {
 #[test]
 fn intersect_by_rank(rt: HostRuntime) {
     try_paths(&rt, "intersect_by_rank");
-    try_few(&rt, "intersect_by_rank");
 }
 
 #[test]
 fn counted(rt: HostRuntime) {
     try_paths(&rt, "intersect_by_rank_counted");
-    try_few(&rt, "intersect_by_rank_counted");
 }
 
 #[test]
 fn kernels(rt: HostRuntime) {
     try_paths(&rt, "kernel");
-    try_few(&rt, "kernel");
 }
 
 // ---- by the kernel alone
 
 fn try_kernel(rt: &impl Host, row: Row<'_>) {
-    let call = Call::read(rt.alloc(), "rank_path", row.words);
-    match (call, Call::read(rt.alloc(), "rank_path", row.words)) {
-        (Ok(call), Ok(copy)) => {
-            by_path(rt, row, &call);
-            assert!(rt; is_kept(&call, &copy, false));
+    match Call::read(rt.alloc(), "rank_path", row.words) {
+        Ok(call) => try_with_copy(rt, row, &call),
+        Err(_) => say(rt, "not prepared"),
+    }
+}
+
+fn try_with_copy(rt: &impl Host, row: Row<'_>, call: &Call) {
+    match Call::read(rt.alloc(), "rank_path", row.words) {
+        Ok(copy) => {
+            by_path(rt, row, call);
+            is_unchanged(rt, is_kept(call, &copy, false));
         }
-        _ => say(rt, "not prepared"),
+        Err(_) => say(rt, "not prepared"),
     }
 }
 
@@ -116,18 +120,18 @@ fn by_kernel(rt: &impl Host, kernel: Kernel, (rows, ranks): (&Mask, &Mask), want
     }
 }
 
-fn in_turn(
+fn in_turn(rt: &impl Host, kernel: Kernel, lists: (&Listed<'_>, &Listed<'_>), want: Want<'_>) {
+    let is_first = is_answered(rt, kernel, lists, want);
+    is_not_refused(rt, is_first || is_answered(rt, kernel, lists, want));
+}
+
+fn is_answered(
     rt: &impl Host,
     kernel: Kernel,
     (rows, ranks): (&Listed<'_>, &Listed<'_>),
     want: Want<'_>,
-) {
-    for _ in 0..2 {
-        say(rt, "calls");
-        let answer = Answer::of_counted(kernel.answer(rt.alloc(), rows, ranks));
-        if ended(rt, answer, want) {
-            return;
-        }
-    }
-    panic!(rt; "refused once more");
+) -> bool {
+    say(rt, "calls");
+    let answer = Answer::of_counted(kernel.answer(rt.alloc(), rows, ranks));
+    ended(rt, answer, want)
 }

@@ -1,7 +1,7 @@
 // What calls answer, by plain lists.
 use mask_bits::BitBuffer;
 use mask_calls::words::{number, range};
-use mask_calls::{Answer, Fault};
+use mask_calls::{Answer, Fault, made};
 use std::alloc::{AllocError, Global};
 use vortex_mask::{AllOr, Mask, MaskIter};
 
@@ -39,10 +39,7 @@ impl List<'_> {
 }
 
 fn same(alloc: Global, len: usize, value: bool) -> Result<Vec<bool>, Fault> {
-    match vec![in alloc; value; len] {
-        Ok(values) => Ok(values),
-        Err(_) => Err(Fault::Memory),
-    }
+    made(vec![in alloc; value; len])
 }
 
 fn repeating(alloc: Global, len: usize, period: usize) -> Result<Vec<bool>, Fault> {
@@ -164,21 +161,22 @@ impl<'a> Plain<'a> {
     }
 
     fn concat(self, alloc: Global, a: &[bool]) -> Result<Vec<bool>, Fault> {
-        let b = self.other.values(alloc)?;
-        let mut whole = same(alloc, a.len().saturating_add(b.len()), false)?;
-        for (value, it) in whole.iter_mut().zip(a.iter().chain(b.iter())) {
-            *value = *it;
+        match self.other.values(alloc) {
+            Ok(b) => made(joined(alloc, a, &b)),
+            Err(fault) => Err(fault),
         }
-        Ok(whole)
     }
 
     // The other list's values where this mask's are true.
     fn at_rows(self, alloc: Global, a: &[bool]) -> Result<Vec<bool>, Fault> {
         let b = self.other.values(alloc)?;
         let mut chosen = same(alloc, count_below(a, a.len()), false)?;
-        let kept = a.iter().zip(b.iter()).filter(|it| *it.0);
-        for (value, it) in chosen.iter_mut().zip(kept) {
-            *value = *it.1;
+        let mut place = 0usize;
+        for (is_chosen, value) in a.iter().zip(b.iter()) {
+            if *is_chosen {
+                set(&mut chosen, place, *value);
+                place = place.saturating_add(1);
+            }
         }
         Ok(chosen)
     }
@@ -220,6 +218,12 @@ fn is_count(list: &[bool], index: &str, got: usize) -> bool {
         Ok(index) => got == count_below(list, index),
         Err(_) => false,
     }
+}
+
+fn joined(alloc: Global, a: &[bool], b: &[bool]) -> Result<Vec<bool>, AllocError> {
+    let mut whole = a.to_vec(alloc)?;
+    whole.extend_from_slice(b)?;
+    Ok(whole)
 }
 
 fn negated(a: Vec<bool>) -> Result<Vec<bool>, Fault> {
