@@ -1,12 +1,12 @@
 -- The list of a builder, from its bytes.
 use Rattle.std.proofs.Common.{◌≡◌, ◌≢◌, ℕ, ◌+◌, ◌*◌, ◌%◌, ◌<◌, ◌≤◌, Bool, true, false, not, ◌&&◌, ◌||◌, nat_eq, List, [], ◌++◌, length, set, take, drop, Result, Ok, Err, OnErr, refl, sym, ap, ◌∙◌, inl, inr, arith}
 use Rattle.std.proofs.lemmas.Bool.{cases_eq, eq-eqb, ne_eqb}
-use Rattle.std.proofs.lemmas.List.{length-set, length-take, with_items_is, get_or-set_same, get_or-set_other, nil_from_length}
+use Rattle.std.proofs.lemmas.List.{length-set, get_or-set_same, get_or-set_other, nil_from_length}
 use Rattle.mask_bits.specs.Buffer.{Packed, backing_bit, values}
 use Rattle.mask_bits.specs.BufferMut.{IsWrittenBehind, IsRoom}
-use Rattle.mask_bits.proofs.BufferLemmas.{length-values, len-of_list, values_from_front}
+use Rattle.mask_bits.proofs.BufferLemmas.{length-values, values_from_front}
 use Rattle.mask_bits.proofs.CombineLemmas.{take_back}
-use Rattle.mask_bits.proofs.Lists.Words.FrontLemmas.{get_or-front, front-same}
+use Rattle.mask_bits.proofs.Lists.Words.FrontLemmas.{get_or-front}
 use Rattle.mask_bits.proofs.WriteLemmas.{written-front, written-clear}
 
 -- a fact that holds at any answer
@@ -62,8 +62,3 @@ room-appended b c xs at k n m place len same whole covered w =
     rw (take_back k c xs same) (record { whole = ap (λ x. x % 8) same ∙ whole; covered = omega arith; clear = written-clear b c at n m place w })
 
 pub ruleset no_bits = (front-none)
-
--- what a value that is set has to show, and a place behind the list, or a list that stays
-pub ruleset one_value = (with_items_is, len-of_list, front-set, set-here, set-others, unset-here, unset-others, room-set)
-
-pub ruleset room_behind = (len-of_list, on_err, front-same)

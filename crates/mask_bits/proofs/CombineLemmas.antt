@@ -202,7 +202,7 @@ pub values-written : {E : Type 0} (r : Result Packed E) (ys xs : List ℕ) (len 
 values-written r ys xs len m same made is = grind (arith, IfOk-weaker, take_back)
 
 -- bytes that are combined in place, and what they then show
-pub ruleset in_place = (between-none, between-join, between-word, between-last, between-byte, values-negated)
+pub ruleset in_place = (between-none, between-join, between-word, between-last)
 
 pub ruleset window_of_two = (window-neighbors, window-next_byte)
 

@@ -30,5 +30,3 @@ pub backing_bit-without_bit : (bytes : List ℕ) (q p : ℕ) → q < 8 * length 
 backing_bit-without_bit bytes q p h =
     let x = get_or bytes (q / 8) 0 in
     grind (arith, get_or-set_at bytes (q / 8) (p / 8), get_or-set_other, bit_at_clear_same w8 x (q % 8), bit_at_clear_other w8 x (q % 8))
-
-pub ruleset one_bit = (backing_bit-with_bit, backing_bit-without_bit)

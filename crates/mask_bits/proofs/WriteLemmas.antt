@@ -12,7 +12,7 @@ use Rattle.mask_bits.specs.BufferMut.{IsWrittenBehind, AreClearFrom}
 use Rattle.mask_bits.specs.Positions.{repeated}
 use Rattle.mask_bits.specs.Words.{word_bits, window}
 use Rattle.mask_bits.proofs.BufferLemmas.{length-values, values_from_front}
-use Rattle.mask_bits.proofs.Lists.Words.FrontLemmas.{get_or-window, get_or-front, get_or-put_mid_below, get_or-put_mid_above, get_or-put_mid_inside, values-join, window-between, window-drop, window-take}
+use Rattle.mask_bits.proofs.Lists.Words.FrontLemmas.{get_or-window, get_or-front, get_or-put_mid_below, get_or-put_mid_above, get_or-put_mid_inside, values-join, window-between, window-drop}
 use Rattle.mask_bits.proofs.Lists.Words.ShiftLemmas.{get_or-word_bits_or, get_or-word_bits_shl_low, get_or-word_bits_shl_high, get_or-word_bits_shr}
 use Rattle.mask_bits.proofs.Lists.Words.WordLemmas.{length-word_bits, get_or-word_bits}
 use Rattle.mask_bits.proofs.Lists.CountLemmas.{get_or-padded, length-repeated}
@@ -190,5 +190,3 @@ funnel-window from part offset i x y w is first second funnel =
     grind (arith, funnel, window-between part (64 * i) (offset % 8), window-drop from (offset / 8) (64 * i + offset % 8) (offset + 64 * i))
 
 pub ruleset false_values = (written-false)
-
-pub ruleset written_bits = (written-no_bits, written-more, window-take)

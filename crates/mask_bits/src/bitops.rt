@@ -111,7 +111,6 @@ fn combined_buffer<C: BitOp>(
 }
 
 // The same in the first one's bytes, where they are its own.
-#[tactic(auto, using(crate::proofs::CombineLemmas::room_facts, crate::proofs::CombineLemmas::part_facts, crate::proofs::BufferLemmas::buffer_facts, std::proofs::lemmas::Grind::common_steps))]
 fn combined_into<C: BitOp>(
     alloc: Global,
     a: BitBuffer,

@@ -94,7 +94,6 @@ impl BitBuffer {
     }
 
     /// The list of `len` values that is true exactly at `indices`, in any order and with repeats.
-    #[tactic(auto, using(crate::proofs::BufferLemmas::values_from_places, std::proofs::lemmas::List::take_all))]
     pub fn from_indices(
         alloc: Global,
         len: usize,

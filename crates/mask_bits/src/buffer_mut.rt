@@ -74,7 +74,6 @@ impl BitBufferMut {
     }
 
     /// Makes value `i` true.
-    #[tactic(auto, using(crate::proofs::BuilderLemmas::one_value))]
     pub fn set(&mut self, i: usize)
         requires { i < length self.old }
         ensures { self.new ≡ slice_set self.old i true }
@@ -83,7 +82,6 @@ impl BitBufferMut {
     }
 
     /// Makes value `i` false.
-    #[tactic(auto, using(crate::proofs::BuilderLemmas::one_value))]
     pub fn unset(&mut self, i: usize)
         requires { i < length self.old }
         ensures { self.new ≡ slice_set self.old i false }
@@ -92,7 +90,6 @@ impl BitBufferMut {
     }
 
     /// Appends `value`, `n` times.
-    #[tactic(auto, using(crate::proofs::BuilderLemmas::room_behind))]
     pub fn append_n(&mut self, value: bool, n: usize) -> Result<(), AllocError>
         requires { length self.old + n < 2 ^ 64 }
         ensures added { OnOk result (self.new ≡ self.old ++ repeated n value) }
@@ -124,7 +121,6 @@ impl BitBufferMut {
     }
 
     /// Appends the lowest `count` bits of a word, the lowest first.
-    #[tactic(auto, using(crate::proofs::BuilderLemmas::room_behind))]
     pub fn push_word(&mut self, word: u64, count: usize) -> Result<(), AllocError>
         requires few { count ≤ 64 }
         requires fits { length self.old + count < 2 ^ 64 }

@@ -196,7 +196,6 @@ impl<'a> BitChunks<'a> {
     }
 
     /// Started word `i`, with zeros past the last value.
-    #[tactic(auto, using(crate::proofs::Lists::Words::PaddedLemmas::parts_of_list))]
     #[inline]
     pub fn started_word(&self, i: usize) -> u64
         requires { i < started_words (length self.now) }

@@ -11,7 +11,6 @@ ghost use Rattle.mask_bits.specs.Words.{word_bits};
 use crate::words::{funnel_shift, low_bits, set_word, word_at, word_of};
 
 /// Sets the bit at one position and no other.
-#[tactic(auto, using(crate::proofs::SetBitLemmas::one_bit))]
 pub fn set_bit(bytes: &mut [u8], position: usize)
     requires { position < 8 * length bytes.old }
     ensures { (p : ℕ) → backing_bit bytes.new p ≡ (nat_eq p position || backing_bit bytes.old p) }
@@ -20,7 +19,6 @@ pub fn set_bit(bytes: &mut [u8], position: usize)
 }
 
 /// Clears the bit at one position and no other.
-#[tactic(auto, using(crate::proofs::SetBitLemmas::one_bit))]
 pub fn clear_bit(bytes: &mut [u8], position: usize)
     requires { position < 8 * length bytes.old }
     ensures { (p : ℕ) → backing_bit bytes.new p
@@ -115,7 +113,6 @@ pub(crate) fn put_bits(bytes: &mut [u8], at: usize, from: &[u8], offset: usize, 
 }
 
 // Writes bits behind those that are there, by a window for each word.
-#[tactic(auto, using(crate::proofs::WriteLemmas::written_bits))]
 fn put_windows(bytes: &mut [u8], at: usize, from: &[u8], offset: usize, n: usize)
     requires room { at + n ≤ 8 * length bytes.old }
     requires fits { at + n < 2 ^ 64 }

@@ -40,9 +40,6 @@ padded_part-remainder m =
     padded_part_from_values m (front ++ repeated n false) (length m / 64) (omega (arith, length-drop (64 * (length m / 64)) m, length-append front (repeated n false), length-repeated n false)) (λ j h.
     get_or-padded front n j ∙ get_or-drop (64 * (length m / 64)) m j false)
 
--- that is each part
-pub ruleset parts_of_list = (padded_part-whole, padded_part-remainder)
-
 -- where no value is past the whole parts, the remainder is false values alone
 pub word_bits-no_remainder : (m : List Bool) → length m % 64 ≡ 0 → word_bits 0 ≡ padded_remainder m
 word_bits-no_remainder m none =
