@@ -206,6 +206,4 @@ pub ruleset in_place = (between-none, between-join, between-word, between-last)
 
 pub ruleset window_of_two = (window-neighbors, window-next_byte)
 
-pub ruleset room_facts = (room-shows, room-covers, values-written)
-
 pub ruleset part_facts = (within-parts, values-parts)
