@@ -120,14 +120,17 @@ fn every_pair_of_offsets(rt: HostRuntime) {
     each_length(&Judge::new(&rt, rt.alloc()));
 }
 
+fn beside_itself<A: Abort>(judge: &Judge<'_, A>, a: &Plain) {
+    let other = a.negated_at(judge, a.len().saturating_sub(1));
+    everywhere(judge, &Pair::of(judge, a.copy(judge), other));
+    everywhere(judge, &Pair::of(judge, a.copy(judge), a.copy(judge)));
+}
+
 // Lists that differ in the last value alone, and one list twice.
 fn differing_at_the_end<A: Abort>(judge: &Judge<'_, A>) {
     let mut words = Generator(0x2545_F491_4F6C_DD1D);
     for len in [1, 64, 65, 130] {
-        let a = THREE_IN_FIVE.plain(judge, &mut words, len);
-        let (b, same) = (a.negated_at(judge, len.saturating_sub(1)), a.copy(judge));
-        everywhere(judge, &Pair::of(judge, a.copy(judge), b));
-        everywhere(judge, &Pair::of(judge, a, same));
+        beside_itself(judge, &THREE_IN_FIVE.plain(judge, &mut words, len));
     }
 }
 
