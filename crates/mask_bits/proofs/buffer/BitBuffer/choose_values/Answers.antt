@@ -59,4 +59,7 @@ returns-clause-list c =
 
 pub returns-clause-len : goal.returns-clause-len
 returns-clause-len c =
-    IfOk-weaker c.freeze.result _ _ (λ b same. ap length same ∙ length-chosen (values c.args.of.now) (values c.args.self.now) c.requires) (returns-clause-list c)
+    let m = values c.args.self.now in
+    let s = values c.args.of.now in
+    let all = all_words s m c.loop-i.bits c.push_chosen-2.new.bits c.loop-i.i c.remainder_bits.result c.remainder_bits-2.result c.requires c.loop-i.invariant (whole_words c) (c.remainder_bits.ensures ∙ ap padded_remainder c.chunks-sources.ensures.list) (c.remainder_bits-2.ensures ∙ ap padded_remainder c.chunks-masks.ensures.list) c.in_ok-push_chosen-2.ensures in
+    IfOk-weaker c.freeze.result _ _ (λ b same. ap length (same ∙ all) ∙ length-chosen s m c.requires) c.freeze.ensures
