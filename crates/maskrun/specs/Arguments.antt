@@ -2,12 +2,11 @@
 use Rattle.std.specs.Prelude.{ℕ, ◌+◌, ◌^◌, Bool, not, ◌==◌, ◌&&◌, ◌||◌, nat_lt, List, [], ◌∷◌, length, map, Option, Some, None, Result, Ok, Err, position, codes, if◌then◌else◌}
 use Rattle.std.specs.Char.{is_ascii_digit}
 use Rattle.std.specs.List.{list_all}
-use Rattle.std.specs.Option.{option_map}
+use Rattle.std.specs.Option.{option_map, option_or}
 use Rattle.std.specs.Str.{bytes_eq}
 use Rattle.std.specs.Str.Parse.{digits_value}
 use Rattle.maskrun.specs.declared.error.RunError.{RunError}
 use Rattle.maskrun.specs.declared.error.RunError.TheVariants.{Usage, BadBit, BadNumber}
-use Rattle.vortex_mask.specs.Faults.{or_else}
 
 -- the value, where there is no fault
 infixl 10 ◌unless◌
@@ -87,7 +86,7 @@ mask_and_range _ = Err Usage
 -- the first fault of masks, of which the first is argument n
 abbrev pub first_mask_fault : ℕ → List (List ℕ) → Option RunError
 first_mask_fault n [] = None
-first_mask_fault n (a ∷ rest) = or_else (mask_fault n a) (first_mask_fault (n + 1) rest)
+first_mask_fault n (a ∷ rest) = option_or (mask_fault n a) (first_mask_fault (n + 1) rest)
 
 -- so many masks, or more
 abbrev pub masks : ℕ → List (List ℕ) → Result (List (List Bool)) RunError

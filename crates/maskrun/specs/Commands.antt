@@ -14,7 +14,7 @@ use Rattle.maskrun.specs.declared.command.Command.TheVariants.{Rank, And, Or, An
 use Rattle.maskrun.specs.declared.error.RunError.{RunError}
 use Rattle.maskrun.specs.declared.error.RunError.TheVariants.{Usage, LengthsDiffer, OutOfRange, Mask}
 use Rattle.vortex_mask.specs.declared.mask.error.MaskError.TheVariants.{Memory, LengthOverflow}
-use Rattle.vortex_mask.specs.Faults.{or_else}
+use Rattle.std.specs.Option.{option_or}
 use Rattle.vortex_mask.specs.Text.{mask_text}
 
 -- how a command reads its arguments
@@ -67,7 +67,7 @@ sum_fault ms = if nat_lt (sum_by length ms) (2 ^ 64) then None else Some (Mask L
 abbrev pub misfit : List (List Bool) → Option RunError
 misfit [] = None
 misfit (a ∷ []) = None
-misfit (a ∷ b ∷ ms) = or_else (len_fault (count a) b) (misfit (b ∷ ms))
+misfit (a ∷ b ∷ ms) = option_or (len_fault (count a) b) (misfit (b ∷ ms))
 
 -- what a command prints
 abbrev pub printed : Command → Result (List ℕ) RunError
