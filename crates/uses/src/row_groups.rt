@@ -48,10 +48,19 @@ pub fn kept_by_indices(alloc: Global, mask: &mut Mask, size: usize) -> Result<Ve
     vortex_mask::laws::variants_of_one_value();
     let groups = mask.len().div_ceil(size);
     match mask.indices(alloc)? {
-        AllOr::All => Ok(vec![in alloc; true; groups]?),
-        AllOr::None => Ok(vec![in alloc; false; groups]?),
-        AllOr::Some(indices) => Ok(marked(alloc, indices, size, groups)?),
+        AllOr::All => all_alike(alloc, groups, true),
+        AllOr::None => all_alike(alloc, groups, false),
+        AllOr::Some(indices) => marked(alloc, indices, size, groups),
     }
+}
+
+// The same answer for each group.
+fn all_alike(alloc: Global, groups: usize, kept: bool) -> Result<Vec<bool>, MaskError>
+    ensures len { IfOk result (λ all. vec_len all ≡ groups) }
+    ensures exact { IfOk result (λ all. (g : ℕ) → g < groups
+        → slice_index_or all.items g false ≡ kept) }
+{
+    Ok(vec![in alloc; kept; groups]?)
 }
 
 // Which groups have one of these indices.
@@ -60,7 +69,7 @@ fn marked(
     indices: &[usize],
     size: usize,
     groups: usize,
-) -> Result<Vec<bool>, AllocError>
+) -> Result<Vec<bool>, MaskError>
     requires some { 0 < size }
     requires within { All (λ p. p / size < groups) indices.now }
     ensures len { IfOk result (λ kept. vec_len kept ≡ groups) }
@@ -69,8 +78,20 @@ fn marked(
         ≡ nat_lt 0 (count_by (λ p. nat_eq (p / size) g) indices.now)) }
 {
     let mut kept = vec![in alloc; false; groups]?;
+    mark(&mut kept, indices, size);
+    Ok(kept)
+}
+
+// Marks the groups of these indices, where none is marked yet.
+fn mark(kept: &mut [bool], indices: &[usize], size: usize)
+    requires some { 0 < size }
+    requires unmarked { (g : ℕ) → g < length kept.old → slice_index_or kept.old g false ≡ false }
+    requires within { All (λ p. p / size < length kept.old) indices.now }
+    ensures len { length kept.new ≡ length kept.old }
+    ensures exact { (g : ℕ) → g < length kept.old → slice_index_or kept.new g false
+        ≡ nat_lt 0 (count_by (λ p. nat_eq (p / size) g) indices.now) }
+{
     for index in indices {
         kept[*index / size] = true;
     }
-    Ok(kept)
 }
