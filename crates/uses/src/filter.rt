@@ -5,7 +5,7 @@ ghost use Rattle.mask_bits.specs.Positions.{chosen};
 ghost use Rattle.mask_bits.specs.Runs.{AreRanges};
 ghost use Rattle.vortex_mask.specs.Mask.{truth};
 
-use crate::gather::row_at;
+use crate::gather::rows_at;
 use mask_bits::laws;
 use std::alloc::{AllocError, Global};
 use vortex_mask::{AllOr, Mask, MaskError, MaskIter};
@@ -68,6 +68,5 @@ fn copied<T: Copy>(
 fn by_indices<T: Copy>(alloc: Global, rows: &[T], indices: &[usize]) -> Result<Vec<T>, MaskError>
     ensures { IfOk result (λ v. v.items ≡ filter_map (λ i. slice_get rows.now i) indices.now) }
 {
-    let rows = indices.iter().filter_map(|index| row_at(rows, *index));
-    Ok(rows.collect(alloc)?)
+    Ok(rows_at(alloc, rows, indices)?)
 }

@@ -1,9 +1,11 @@
 //! The rows that a mask chooses, by its variant and the indices of its true values.
 ghost use Rattle.std.specs.Prelude.{◌≡◌, IfOk, length, slice_get};
+ghost use Rattle.std.specs.List.{filter_map};
 ghost use Rattle.mask_bits.specs.Buffer.{values};
 ghost use Rattle.mask_bits.specs.Positions.{chosen};
 ghost use Rattle.vortex_mask.specs.Mask.{truth};
 
+use crate::pages::valid_rows;
 use mask_bits::{BitBuffer, laws};
 use std::alloc::{AllocError, Global};
 use vortex_mask::{AllOr, Mask};
@@ -26,14 +28,26 @@ fn at_indices<T: Copy>(alloc: Global, rows: &[T], buffer: &BitBuffer) -> Result<
     ensures { IfOk result (λ v. v.items ≡ chosen rows.now (values buffer.now)) }
 {
     laws::choosing::<T>();
-    buffer
-        .set_indices()
-        .filter_map(|index| row_at(rows, index))
+    let indices = valid_rows(alloc, buffer)?;
+    rows_at(alloc, rows, &indices)
+}
+
+// The rows at indices, one after another.
+pub(crate) fn rows_at<T: Copy>(
+    alloc: Global,
+    rows: &[T],
+    indices: &[usize],
+) -> Result<Vec<T>, AllocError>
+    ensures { IfOk result (λ v. v.items ≡ filter_map (λ i. slice_get rows.now i) indices.now) }
+{
+    indices
+        .iter()
+        .filter_map(|index| row_at(rows, *index))
         .collect(alloc)
 }
 
 // The row at an index, if there is one.
-pub(crate) fn row_at<T: Copy>(rows: &[T], index: usize) -> Option<T>
+fn row_at<T: Copy>(rows: &[T], index: usize) -> Option<T>
     ensures { result ≡ slice_get rows.now index }
 {
     rows.get(index).copied()
