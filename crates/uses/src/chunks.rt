@@ -1,5 +1,5 @@
 //! A column in chunks, each filtered by its own mask.
-ghost use Rattle.std.specs.Prelude.{◌≡◌, ◌++◌, ◌+◌, ◌∷◌, ◌≤◌, ◌<◌, ◌^◌, map, All, Bool, IfOk, List, flat_map, length};
+ghost use Rattle.std.specs.Prelude.{◌≡◌, ◌++◌, ◌+◌, ◌∷◌, ◌≤◌, ◌<◌, ◌^◌, map, All, IfOk, flat_map, length};
 ghost use Rattle.vortex_mask.specs.Mask.{truth};
 ghost use Rattle.mask_bits.specs.Lists.{concat};
 ghost use Rattle.mask_bits.specs.Positions.{chosen};
@@ -21,11 +21,10 @@ pub fn filtered<T: Copy>(
     ensures { IfOk result (λ v. v.items
         ≡ chosen (first.now ++ second.now) (truth of_first.now ++ truth of_second.now)) }
 {
-    let more = of_second.choose(alloc, second)?;
-    chosen_before(alloc, first, of_first, &more)
+    filtered_all(alloc, &[(first, of_first), (second, of_second)])
 }
 
-// The rows that a mask chooses, and behind them those chosen of other rows.
+// The rows that a mask chooses, and more rows behind them.
 fn chosen_before<T: Copy>(
     alloc: Global,
     rows: &[T],
@@ -33,11 +32,8 @@ fn chosen_before<T: Copy>(
     more: &[T],
 ) -> Result<Vec<T>, MaskError>
     requires { length rows.now ≡ length (truth mask.now) }
-    ensures { IfOk result (λ v. (others : List T) (of_others : List Bool)
-        → more.now ≡ chosen others of_others
-        → v.items ≡ chosen (rows.now ++ others) (truth mask.now ++ of_others)) }
+    ensures { IfOk result (λ v. v.items ≡ chosen rows.now (truth mask.now) ++ more.now) }
 {
-    laws::choosing_by_chunks::<T>();
     let mut rows = mask.choose(alloc, rows)?;
     rows.extend_from_slice(more)?;
     Ok(rows)
@@ -55,6 +51,7 @@ pub fn filtered_all<T: Copy>(alloc: Global, chunks: &[(&[T], &Mask)]) -> Result<
             Ok(Vec::new(alloc))
         }
         [(first, mask), others @ ..] => {
+            laws::choosing_by_chunks::<T>();
             let more = filtered_all(alloc, others)?;
             chosen_before(alloc, first, mask, &more)
         }
