@@ -28,7 +28,7 @@ pub fn indices_of_two_slices(
     ensures list { IfOk result (λ m. positions (truth m) ≡ a.now ++ b.now) }
     ensures faultless { IfOk result (λ m. index_fault len (a.now ++ b.now) ≡ None) }
 {
-    Mask::from_indices(alloc, len, a.iter().copied().chain(b.iter().copied()))
+    Mask::from_indices(alloc, len, a.iter().chain(b.iter()).copied())
 }
 
 /// By a `Vec`.
@@ -54,7 +54,7 @@ pub fn all_but_two_slices(
 ) -> Result<Mask, MaskError>
     ensures { IfOk result (λ m. truth m ≡ not_of (true_at len (a.now ++ b.now))) }
 {
-    Mask::from_excluded_indices(alloc, len, a.iter().copied().chain(b.iter().copied()))
+    Mask::from_excluded_indices(alloc, len, a.iter().chain(b.iter()).copied())
 }
 
 /// All but those of a `Vec`.
@@ -132,9 +132,15 @@ pub fn count_by_indices(alloc: Global, mask: &mut Mask) -> Result<usize, MaskErr
     ensures ranges { IfOk result (λ n. (caches mask.new).ranges ≡ (caches mask.old).ranges) }
     ensures refused { OnErr result (mask.new ≡ mask.old) }
 {
-    Ok(match mask.indices(alloc)? {
-        AllOr::All => mask.len(),
+    let len = mask.len();
+    Ok(number_of(mask.indices(alloc)?, len))
+}
+
+// How many indices of `len` a mask lends.
+fn number_of(indices: AllOr<&[usize]>, len: usize) -> usize {
+    match indices {
+        AllOr::All => len,
         AllOr::None => 0,
         AllOr::Some(indices) => indices.len(),
-    })
+    }
 }

@@ -45,9 +45,7 @@ pub fn first_listed(
     requires enough { most ≤ length numbers.now }
     ensures { IfOk result (λ m. count (truth m) ≡ most) }
 {
-    let picked = numbers.iter().copied().take(most);
-    let (mask, _) = intersect_mask_driven::<Portable, _>(alloc, rows, picked, most)?;
-    Ok(mask)
+    listed(alloc, rows, &numbers[..most])
 }
 
 /// The chosen rows of the numbers in two lists, of which the second goes on from number `start`,
@@ -69,7 +67,7 @@ pub fn of_two_lists(
     ensures { IfOk result (λ m. positions (truth m)
         ≡ at_indices (positions (values rows.now)) (first.now ++ second.now)) }
 {
-    let picked = first.iter().copied().chain(second.iter().copied());
+    let picked = first.iter().chain(second.iter()).copied();
     let many = first.len() + second.len();
     let (mask, _) = intersect_mask_driven::<Portable, _>(alloc, rows, picked, many)?;
     Ok(mask)
