@@ -110,16 +110,13 @@ pub fn stopped_early(alloc: Global, first: &Mask, rest: &[Mask]) -> Result<Mask,
     ensures { IfOk result (λ m. truth m ≡ folded_left (truth first.now ∷ map truth rest.now)) }
 {
     laws::folds();
-    laws::folding_keeps_a_stack();
-    if first.true_count() == 0 {
-        return first.clone();
-    }
     match rest {
-        [] => first.clone(),
-        [second, above @ ..] => {
+        [second, above @ ..] if first.true_count() > 0 => {
+            laws::folding_keeps_a_stack();
             let left = first.intersect_by_rank(alloc, second)?;
             stopped_early(alloc, &left, above)
         }
+        _ => first.clone(),
     }
 }
 
@@ -129,11 +126,11 @@ pub fn regrouped(alloc: Global, first: &Mask, rest: &[Mask]) -> Result<Mask, Mas
     requires { IsStack (truth first.now ∷ map truth rest.now) }
     ensures { IfOk result (λ m. truth m ≡ folded_left (truth first.now ∷ map truth rest.now)) }
 {
-    laws::stack_folds_alike();
-    laws::folds();
     match rest {
         [] => first.clone(),
         [second, above @ ..] => {
+            laws::stack_folds_alike();
+            laws::folds();
             let above = regrouped(alloc, second, above)?;
             first.intersect_by_rank(alloc, &above)
         }
