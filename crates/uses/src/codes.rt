@@ -44,5 +44,5 @@ pub fn sent_and_received(alloc: Global, filter: &Mask) -> Result<Mask, MaskError
 {
     laws::positions_determine_list();
     let rows = rows(alloc, filter)?;
-    Mask::from_indices(alloc, filter.len(), rows.iter().copied())
+    Mask::from_indices(alloc, filter.len(), rows.into_iter())
 }

@@ -16,7 +16,10 @@ pub fn is_left(first: &Mask, second: &Mask, row: usize) -> bool
         ≡ slice_index_or (rank_intersection (truth first.now) (truth second.now)) row false }
 {
     laws::rank_intersection_value();
-    first.value(row) && value_or_false(second, first.count_range(0, row))
+    if !first.value(row) {
+        return false;
+    }
+    value_or_false(second, first.count_range(0, row))
 }
 
 // The value at an index, and `false` past the end.

@@ -168,12 +168,13 @@ pub fn nulls_of_page(
         (slice_range (and_of (truth first.now) (truth second.now)) page.0 page.1)) ≡ page.1 - page.0) }
 {
     let valid = first.bitand(alloc, second)?.slice(alloc, page.0, page.1)?;
-    nulls_up_to(alloc, valid, k)
+    nulls_up_to(alloc, &valid, k)
 }
 
 // How many rows are null once all valid ones after the first `k` are taken for null.
-fn nulls_up_to(alloc: Global, valid: Mask, k: usize) -> Result<usize, MaskError>
-    ensures { IfOk result (λ nulls. nulls + min k (count (truth valid)) ≡ length (truth valid)) }
+fn nulls_up_to(alloc: Global, valid: &Mask, k: usize) -> Result<usize, MaskError>
+    ensures { IfOk result
+        (λ nulls. nulls + min k (count (truth valid.now)) ≡ length (truth valid.now)) }
 {
-    Ok(valid.limit(alloc, k)?.false_count())
+    Ok(valid.to_limited(alloc, k)?.false_count())
 }

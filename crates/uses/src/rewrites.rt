@@ -185,7 +185,7 @@ pub fn joined_through_chosen(
     laws::choosing_values();
     laws::choosing::<bool>();
     let kept = filter.choose(alloc, passes)?;
-    let second = Mask::from_bools(alloc, kept.iter().copied())?;
+    let second = Mask::from_bools(alloc, kept.into_iter())?;
     filter.intersect_by_rank(alloc, &second)
 }
 

@@ -67,8 +67,9 @@ pub fn next_offset(validity: &Mask, row: usize, before: usize) -> usize
     requires at_most { before ≤ row }
     ensures { result ≡ count_below (truth validity.now) (row + 1) }
 {
-    laws::count_below_by_steps();
     // no row passes the length, which fits
     let _ = validity.len();
-    before + usize::from(validity.value(row))
+    let after = before + usize::from(validity.value(row));
+    laws::count_below_by_steps();
+    after
 }
