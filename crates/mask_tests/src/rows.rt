@@ -1,22 +1,80 @@
-// Worked examples, as lines of text: a line has calls, their operands, and what each of them answers. Each file is
-// named after what its rows are of. `mask_calls` reads a line and makes its calls.
-mod all_or;
-mod bitops;
-mod buffer;
-mod cached;
-mod choose;
-mod choose_values;
-mod concat;
-mod error;
-mod fraction;
-mod from_buffer;
-mod from_indices;
-mod from_rows;
-mod from_slices;
-mod helpers;
-mod intersect_by_rank;
-mod iter;
-mod limit;
-mod mask;
-mod slice;
-mod valid_counts;
+//! Each row as it stands: its calls are made once on operands that nobody else holds, and once while a clone of each is
+//! held. Operands that a call only borrows must read the same afterwards.
+
+use mask_calls::{Outcome, Row};
+use std::alloc::Global;
+use std::io::{self, BufRead, BufReader};
+
+/// Makes the calls of each row, says which answer otherwise, and how many rows there are. How many calls were wrong.
+pub(crate) fn check<R: Input + Print + AllocGlobal>(rt: &R) -> io::Result<usize> {
+    let (mut rows, mut wrong) = (0usize, 0usize);
+    for line in BufReader::new(rt.alloc(), rt.reader())?.lines(rt.alloc()) {
+        let line = line?;
+        if is_row(line.as_str()) {
+            rows = rows.saturating_add(1);
+            wrong = wrong.saturating_add(check_line(rt, line.as_str())?);
+        }
+    }
+    println!(rt; "{rows} rows, {wrong} wrong")?;
+    Ok(wrong)
+}
+
+// All lines but empty ones and comments.
+fn is_row(line: &str) -> bool {
+    !line.is_empty() && !line.starts_with('#')
+}
+
+fn check_line<R: Print + AllocGlobal>(rt: &R, line: &str) -> io::Result<usize> {
+    match Row::read(line) {
+        Some(row) => check_row(rt, row),
+        None => {
+            println!(rt; "no row: {line}")?;
+            Ok(1)
+        }
+    }
+}
+
+fn check_row<R: Print + AllocGlobal>(rt: &R, row: Row<'_>) -> io::Result<usize> {
+    let mut wrong = 0usize;
+    for name in row.names.split(',') {
+        for is_shared in [false, true] {
+            wrong = wrong.saturating_add(check_call(rt, name, row, is_shared)?);
+        }
+    }
+    Ok(wrong)
+}
+
+fn check_call<R: Print + AllocGlobal>(
+    rt: &R,
+    name: &str,
+    row: Row<'_>,
+    is_shared: bool,
+) -> io::Result<usize> {
+    match fault(rt.alloc(), name, row, is_shared) {
+        None => Ok(0),
+        Some(fault) => {
+            println!(rt; "{name} {}: {fault} for {}", row.words, row.want)?;
+            Ok(1)
+        }
+    }
+}
+
+// What the call answers, if that is not what is wanted.
+fn fault(alloc: Global, name: &str, row: Row<'_>, is_shared: bool) -> Option<String> {
+    match Outcome::of(alloc, name, row.words, is_shared) {
+        Ok(outcome) => fault_of(outcome, row.want),
+        Err(_) => Some(String::new(alloc)),
+    }
+}
+
+// The answer, where another one is wanted, and otherwise what an operand is after the call, where that is not what it was
+// before.
+fn fault_of(outcome: Outcome, want: &str) -> Option<String> {
+    if outcome.answer.as_str() != want {
+        Some(outcome.answer)
+    } else if outcome.before.as_str() != outcome.after.as_str() {
+        Some(outcome.after)
+    } else {
+        None
+    }
+}

@@ -1,4 +1,4 @@
-//! Worked rows of the callers of `uses`.
+//! Worked examples of the callers of `uses`, and of the few parts of the libraries that no row of text makes.
 #![tactic(auto)]
 
 #[cfg(test)]

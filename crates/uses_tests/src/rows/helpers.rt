@@ -1,6 +1,7 @@
 // What the rows share.
 use mask_bits::BitBuffer;
 use std::alloc::Global;
+use std::fmt::Debug;
 use std::process::Abort;
 use vortex_mask::Mask;
 
@@ -14,6 +15,11 @@ pub(super) fn found<T, E: Drop>(rt: &impl Abort, answer: Result<T, E>) -> T {
         Ok(it) => it,
         Err(_) => panic!(rt; "refused"),
     }
+}
+
+pub(super) fn has_debug_text<T: Debug>(rt: &impl Abort, alloc: Global, value: &T, want: &str) {
+    let text = found(rt, format!(in alloc; "{value:?}"));
+    assert!(rt; text.as_str() == want, "{text} for {want}");
 }
 
 // A mask from a text of `0` and `1`.

@@ -1,5 +1,5 @@
 // `Steps` counts each call.
-use crate::rows::helpers::found;
+use super::helpers::found;
 use mask_bits::BitBuffer;
 use std::alloc::Global;
 use std::process::Abort;

@@ -1,6 +1,6 @@
 use Rattle.std.proofs.Common.{sym, arith}
 use Rattle.mask_bits.proofs.Lists.Words.WordLemmas.{count-word_bits}
-use Rattle.mask_tests.proofs.rows.intersect_by_rank.steps.counts.Goals as goal
+use Rattle.uses_tests.proofs.rows.steps.counts.Goals as goal
 
 pub deposit-requires-clause-counted : goal.deposit-requires-clause-counted
 deposit-requires-clause-counted g c = sym (count-word_bits 26 (omega arith))

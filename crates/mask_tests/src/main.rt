@@ -1,0 +1,25 @@
+//! Tests of `mask_bits` and `vortex_mask` as rows of text on standard input: a row has calls, their operands, and
+//! what each of them answers. `mask_calls` reads a row and makes its calls.
+#![tactic(auto)]
+
+mod rows;
+
+use std::io;
+use std::process::ExitCode;
+
+// The statuses of the program, beside 0.
+const WRONG: u8 = 1;
+
+const NOT_READ_OR_WRITTEN: u8 = 3;
+
+fn main(rt: HostRuntime) -> ExitCode {
+    ExitCode::from(status(rows::check(&rt)))
+}
+
+fn status(wrong: io::Result<usize>) -> u8 {
+    match wrong {
+        Ok(0) => 0,
+        Ok(_) => WRONG,
+        Err(_) => NOT_READ_OR_WRITTEN,
+    }
+}
