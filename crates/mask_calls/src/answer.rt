@@ -1,5 +1,6 @@
 //! What calls answer.
 
+use crate::bits::builder::Built;
 use crate::fault::Fault;
 use mask_bits::{BitBuffer, BitChunks, BitIterator, SetIndices, SetSlices};
 use vortex_mask::intersect_by_rank::{RankPath, Steps};
@@ -48,6 +49,7 @@ pub enum Answer<'a> {
     PaddedWords(BitChunks<'a>),
     Selected(&'a BitBuffer, usize),
     PartBuffer(&'a BitBuffer),
+    Built(&'a mut Built),
     Done,
 }
 

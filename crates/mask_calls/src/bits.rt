@@ -11,8 +11,10 @@ use crate::fault::{Fault, made};
 use crate::packed;
 use crate::text::Text;
 use crate::words::{Words, named};
+use crate::written::write_whole_buffer;
 use mask_bits::BitBuffer;
 use std::alloc::Global;
+use std::mem;
 
 /// A buffer, and a clone of it where one is held, so that its bytes are shared.
 #[derive(Drop)]
@@ -71,7 +73,7 @@ impl Bits {
 
 fn write_some(text: &mut Text, buffer: &Option<BitBuffer>) {
     if let Some(buffer) = buffer {
-        walks::write_backed(text, buffer);
+        write_whole_buffer(text, buffer);
     }
 }
 
@@ -102,6 +104,16 @@ impl BitsCall {
             BitsCall::OfTwo(_, a, b) => hold_both(a, b),
             BitsCall::With(_, a, _, _) => a.hold(),
             _ => Ok(()),
+        }
+    }
+
+    /// Whether all buffers are lent.
+    pub fn lends(&self) -> bool {
+        match self {
+            BitsCall::Of(call, _) => call.lends(),
+            BitsCall::OfTwo(call, _, _) => call.lends(),
+            BitsCall::Making(call) => !matches!(call, MakingBits::FromVec(_, _)),
+            _ => true,
         }
     }
 
@@ -147,6 +159,8 @@ pub enum MakingBits {
     FromIndices(usize, Vec<usize>),
     FromBools(Vec<bool>),
     FromRows(Vec<bool>),
+    // bytes by value, and a length
+    FromVec(Vec<u8>, usize),
 }
 
 impl MakingBits {
@@ -154,12 +168,15 @@ impl MakingBits {
         Answer::of_buffer(self.buffer(alloc))
     }
 
-    fn buffer(&self, alloc: Global) -> Result<BitBuffer, Fault> {
+    fn buffer(&mut self, alloc: Global) -> Result<BitBuffer, Fault> {
         match self {
             MakingBits::Uniform(len, value) => uniform(alloc, *len, *value),
             MakingBits::FromIndices(len, list) => from_indices(alloc, *len, list),
             MakingBits::FromBools(list) => packed::from_bools(alloc, list),
             MakingBits::FromRows(list) => packed::from_rows(alloc, list),
+            MakingBits::FromVec(bytes, len) => {
+                packed::from_vec(mem::replace(bytes, Vec::new(alloc)), *len)
+            }
         }
     }
 
@@ -169,6 +186,7 @@ impl MakingBits {
             "new_unset" => Some(MakingBits::Uniform(words.number(), false)),
             "from_bools" => Some(MakingBits::FromBools(words.values())),
             "from_rows" => Some(MakingBits::FromRows(words.values())),
+            "from_vec" => Some(MakingBits::FromVec(packed::next_bytes(words), words.number())),
             "from_indices" => Some(MakingBits::FromIndices(words.number(), words.numbers())),
             _ => None,
         }

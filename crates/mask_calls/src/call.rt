@@ -1,8 +1,11 @@
 //! A call with its operands.
 
 use crate::answer::Answer;
+use crate::bits::builder::BuilderCall;
 use crate::bits::{Bits, BitsCall};
 use crate::fault::Fault;
+use crate::kernels::KernelCall;
+use crate::masks::cloned::Cloned;
 use crate::masks::fraction::{self, OF_FRACTIONS, OfFractions};
 use crate::masks::lent::{LENDING, Lending};
 use crate::masks::lists::{WITH_LIST, WithList};
@@ -35,6 +38,9 @@ pub enum Call {
     Making(Making),
     OfValues(ValuesCall),
     OfBits(BitsCall),
+    OfBuilder(BuilderCall),
+    OfKernel(KernelCall),
+    OfCloned(Cloned),
     OfFractions(OfFractions, (usize, usize), (usize, usize)),
     OfWords(OfWords, usize, usize),
 }
@@ -53,6 +59,9 @@ impl Call {
             Call::Making(call) => call.run(alloc),
             Call::OfValues(call) => call.run(alloc),
             Call::OfBits(call) => call.run(alloc),
+            Call::OfBuilder(call) => call.run(alloc),
+            Call::OfKernel(call) => call.run(alloc),
+            Call::OfCloned(call) => call.run(),
             Call::OfFractions(call, a, b) => call.run(a, b),
             Call::OfWords(call, first, second) => call.run(first, *second),
         }
@@ -70,8 +79,23 @@ impl Call {
         }
     }
 
-    /// Writes what the call leaves as it was: the operands that are lent, and the clones that are held.
-    pub fn write_kept(&self, text: &mut Text) {
+    /// Whether all operands are lent, so that they are there still where the call was refused memory.
+    pub fn lends(&self) -> bool {
+        match self {
+            Call::OfOne(call, _) => call.lends(),
+            Call::OfTwo(call, _, _) => call.lends(),
+            Call::OfMany(call, _) => call.lends(),
+            Call::With(call, _, _, _) => call.lends(),
+            Call::Making(call) => call.lends(),
+            Call::OfBits(call) => call.lends(),
+            Call::OfBuilder(call) => call.lends(),
+            _ => true,
+        }
+    }
+
+    /// Writes what the call leaves as it was, and, `is_refused` memory, what it would change in place: the operands
+    /// that are lent, and the clones that are held.
+    pub fn write_kept(&self, text: &mut Text, is_refused: bool) {
         match self {
             Call::OfOne(call, a) => a.write_kept(text, call.lends()),
             Call::OfTwo(call, a, b) => {
@@ -80,9 +104,11 @@ impl Call {
             }
             Call::OfMany(call, masks) => masks.write_kept(text, call.lends()),
             Call::With(call, a, _, _) => a.write_kept(text, call.lends()),
-            Call::Lending(_, a, _, _) => a.write_kept(text, false),
+            Call::Lending(_, a, _, _) => a.write_kept(text, is_refused),
             Call::WithList(_, a, _) | Call::EqualsBuffer(a, _) => a.write_kept(text, true),
             Call::OfBits(call) => call.write_kept(text),
+            Call::OfKernel(call) => call.write_kept(text),
+            Call::OfValues(call) => call.write_kept(text, is_refused),
             _ => {}
         }
     }
@@ -122,6 +148,10 @@ fn of_name(words: &mut Words<'_>, name: &str) -> Option<Call> {
     match halves(name, ".") {
         Some(("bits", name)) => match BitsCall::read(words, name) {
             Some(call) => Some(Call::OfBits(call)),
+            None => None,
+        },
+        Some(("kernel", name)) => match KernelCall::read(words, name) {
+            Some(call) => Some(Call::OfKernel(call)),
             None => None,
         },
         Some((_, name)) => match ValuesCall::read(words, name) {
@@ -183,6 +213,11 @@ fn of_lists(words: &mut Words<'_>, name: &str) -> Option<Call> {
     }
     match name {
         "equals_buffer" => Some(Call::EqualsBuffer(Operand::next(words), Bits::next(words))),
+        "cloned" => Some(Call::OfCloned(Cloned(words.numbers()))),
+        "builder" => match BuilderCall::read(words) {
+            Some(call) => Some(Call::OfBuilder(call)),
+            None => None,
+        },
         _ => None,
     }
 }

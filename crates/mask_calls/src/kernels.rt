@@ -1,6 +1,11 @@
 //! The kernels of rank intersection. Each tests what its kernel requires, and hands out the answer with no clause.
 
+use crate::answer::Answer;
+use crate::bits::Bits;
 use crate::fault::{Fault, answer};
+use crate::text::Text;
+use crate::words::{Words, named};
+use crate::written::write_whole_buffer;
 use mask_bits::BitBuffer;
 use std::alloc::Global;
 use std::marker::Model;
@@ -12,31 +17,40 @@ use vortex_mask::intersect_by_rank::{
 
 /// A buffer, and the indices of its true values.
 #[derive(Drop)]
-pub struct Listed<'a> {
-    buffer: &'a BitBuffer,
+pub struct Listed {
+    buffer: BitBuffer,
     indices: Vec<usize>,
 }
 
-impl<'a> Model for Listed<'a> {
+impl Model for Listed {
     ghost use Rattle.std.specs.List.Sorted.{IsStrictlyIncreasing};
     ghost use Rattle.std.specs.Prelude.{◌<◌, All, Bool, List, length};
     ghost use Rattle.mask_bits.specs.Buffer.{values};
 
     ghost Value = { List Bool };
 
-    ghost view = { λ l. values l.buffer.now };
+    ghost view = { λ l. values l.buffer };
 
     ghost invariant = { λ l. IsStrictlyIncreasing l.indices.items
-        × All (λ i. i < length (values l.buffer.now)) l.indices.items };
+        × All (λ i. i < length (values l.buffer)) l.indices.items };
 }
 
-impl<'a> Listed<'a> {
+impl Listed {
     /// A buffer with its indices.
-    pub fn of(alloc: Global, buffer: &'a BitBuffer) -> Result<Listed<'a>, Fault> {
+    pub fn of(alloc: Global, buffer: BitBuffer) -> Result<Listed, Fault> {
         match buffer.set_indices().collect(alloc) {
             Ok(indices) => Ok(Listed { buffer, indices }),
             Err(_) => Err(Fault::Memory),
         }
+    }
+
+    // The buffer of the next word.
+    fn next(words: &mut Words<'_>) -> Option<Listed> {
+        let listed = match Bits::next(words).take() {
+            Ok(buffer) => Listed::of(words.alloc, buffer),
+            Err(fault) => Err(fault),
+        };
+        words.found(listed)
     }
 }
 
@@ -44,10 +58,10 @@ const RANKS: Fault = Fault::Unmet("a rank for each true value");
 
 fn by_bits<D: DepositBits>(
     alloc: Global,
-    rows: &Listed<'_>,
-    ranks: &Listed<'_>,
+    rows: &Listed,
+    ranks: &Listed,
 ) -> Result<(Mask, Steps), Fault> {
-    let (rows, ranks) = (rows.buffer, ranks.buffer);
+    let (rows, ranks) = (&rows.buffer, &ranks.buffer);
     if ranks.len() != rows.true_count() {
         return Err(RANKS);
     }
@@ -56,32 +70,24 @@ fn by_bits<D: DepositBits>(
 
 fn by_rank_indices<D: DepositBits>(
     alloc: Global,
-    rows: &Listed<'_>,
-    ranks: &Listed<'_>,
+    rows: &Listed,
+    ranks: &Listed,
 ) -> Result<(Mask, Steps), Fault> {
     if ranks.buffer.len() != rows.buffer.true_count() {
         return Err(RANKS);
     }
-    answer(intersect_bit_buffer_by_rank_indices::<D>(alloc, rows.buffer, &ranks.indices))
+    answer(intersect_bit_buffer_by_rank_indices::<D>(alloc, &rows.buffer, &ranks.indices))
 }
 
-fn by_indices(
-    alloc: Global,
-    rows: &Listed<'_>,
-    ranks: &Listed<'_>,
-) -> Result<(Mask, Steps), Fault> {
+fn by_indices(alloc: Global, rows: &Listed, ranks: &Listed) -> Result<(Mask, Steps), Fault> {
     if ranks.buffer.len() != rows.indices.len() {
         return Err(RANKS);
     }
     answer(intersect_by_rank_indices(alloc, rows.buffer.len(), &rows.indices, &ranks.indices))
 }
 
-fn mask_driven(
-    alloc: Global,
-    rows: &Listed<'_>,
-    ranks: &Listed<'_>,
-) -> Result<(Mask, Steps), Fault> {
-    let (rows, ranks) = (rows.buffer, ranks.buffer);
+fn mask_driven(alloc: Global, rows: &Listed, ranks: &Listed) -> Result<(Mask, Steps), Fault> {
+    let (rows, ranks) = (&rows.buffer, &ranks.buffer);
     if ranks.len() != rows.true_count() {
         return Err(RANKS);
     }
@@ -103,13 +109,10 @@ pub enum Kernel {
 /// Each kernel, with the name of its call.
 pub const KERNELS: [(&'static str, Kernel); 6] = [
     ("intersect_bit_buffers", Kernel::BitBuffers),
-    (
-        "intersect_bit_buffers by PortableLoop",
-        Kernel::BitBuffersByLoop,
-    ),
+    ("intersect_bit_buffers_by_loop", Kernel::BitBuffersByLoop),
     ("intersect_bit_buffer_by_rank_indices", Kernel::RankIndices),
     (
-        "intersect_bit_buffer_by_rank_indices by PortableLoop",
+        "intersect_bit_buffer_by_rank_indices_by_loop",
         Kernel::RankIndicesByLoop,
     ),
     ("intersect_by_rank_indices", Kernel::Indices),
@@ -121,8 +124,8 @@ impl Kernel {
     pub fn answer(
         self,
         alloc: Global,
-        rows: &Listed<'_>,
-        ranks: &Listed<'_>,
+        rows: &Listed,
+        ranks: &Listed,
     ) -> Result<(Mask, Steps), Fault> {
         match self {
             Kernel::BitBuffers => by_bits::<Portable>(alloc, rows, ranks),
@@ -132,5 +135,39 @@ impl Kernel {
             Kernel::Indices => by_indices(alloc, rows, ranks),
             Kernel::MaskDriven => mask_driven(alloc, rows, ranks),
         }
+    }
+}
+
+/// A kernel, and buffers whose indices are listed when it is read.
+#[derive(Drop)]
+pub struct KernelCall {
+    kernel: Kernel,
+    rows: Listed,
+    ranks: Listed,
+}
+
+impl KernelCall {
+    /// Makes the call.
+    pub fn run<'a>(&'a mut self, alloc: Global) -> Result<Answer<'a>, Fault> {
+        Answer::of_counted(self.kernel.answer(alloc, &self.rows, &self.ranks))
+    }
+
+    /// The kernel of this name, behind `kernel.`, and its rows and ranks.
+    pub fn read(words: &mut Words<'_>, name: &str) -> Option<KernelCall> {
+        let (rows, ranks) = (Listed::next(words), Listed::next(words));
+        match (named(name, &KERNELS), rows, ranks) {
+            (Some(kernel), Some(rows), Some(ranks)) => Some(KernelCall {
+                kernel,
+                rows,
+                ranks,
+            }),
+            _ => None,
+        }
+    }
+
+    /// Writes both buffers, which stay as they are.
+    pub fn write_kept(&self, text: &mut Text) {
+        write_whole_buffer(text, &self.rows.buffer);
+        write_whole_buffer(text, &self.ranks.buffer);
     }
 }

@@ -1,5 +1,6 @@
 //! The calls of masks. Each tests what its call requires, and hands out the answer with no clause.
 
+pub mod cloned;
 pub mod fraction;
 pub mod lent;
 pub mod lists;

@@ -4,7 +4,7 @@ use crate::bits::one::clone;
 use crate::bits::parts::slice;
 use crate::bits::{from_indices, uniform};
 use crate::fault::{Fault, made};
-use crate::words::{digits, halves, number, numbers, pair, push, values};
+use crate::words::{Words, digits, halves, number, numbers, pair, push, values};
 use bytes::Bytes;
 use mask_bits::BitBuffer;
 use std::alloc::Global;
@@ -160,6 +160,12 @@ fn bytes_of(alloc: Global, list: &str) -> Result<Vec<u8>, Fault> {
         push(&mut bytes, byte(word)?)?;
     }
     Ok(bytes)
+}
+
+/// The next word, as bytes.
+pub fn next_bytes(words: &mut Words<'_>) -> Vec<u8> {
+    let bytes = bytes_of(words.alloc, words.next());
+    words.list(bytes)
 }
 
 fn byte(word: &str) -> Result<u8, Fault> {

@@ -67,9 +67,9 @@ impl Outcome {
     fn of_call(alloc: Global, call: Call, is_shared: bool) -> Result<Outcome, AllocError> {
         let mut call = call;
         let held = if is_shared { call.hold() } else { Ok(()) };
-        let before = kept(alloc, &call);
+        let before = kept(alloc, &call, false);
         let answer = answered(alloc, &mut call, held);
-        outcome_of(answer, before, kept(alloc, &call))
+        outcome_of(answer, before, kept(alloc, &call, false))
     }
 }
 
@@ -84,9 +84,10 @@ fn outcome_of(answer: Texted, before: Texted, after: Texted) -> Result<Outcome, 
     }
 }
 
-fn kept(alloc: Global, call: &Call) -> Texted {
+/// What a call leaves as it was, and what it would change, `is_refused` memory.
+pub fn kept(alloc: Global, call: &Call, is_refused: bool) -> Texted {
     let mut text = Text::new(alloc);
-    call.write_kept(&mut text);
+    call.write_kept(&mut text, is_refused);
     text.finish()
 }
 

@@ -111,7 +111,7 @@ impl Text {
         }
     }
 
-    fn put_each(&mut self, numbers: &[usize]) {
+    pub(crate) fn put_each(&mut self, numbers: &[usize]) {
         let mut mark = "";
         for number in numbers {
             self.put_next(mark, *number);
@@ -130,7 +130,7 @@ impl Text {
         }
     }
 
-    fn put_each_range(&mut self, ranges: &[(usize, usize)]) {
+    pub(crate) fn put_each_range(&mut self, ranges: &[(usize, usize)]) {
         let mut mark = "";
         for range in ranges {
             self.put_range(mark, *range);

@@ -1,6 +1,7 @@
 //! How a row says what a call answers.
 
 use crate::answer::Answer;
+use crate::bits::builder::write_built;
 use crate::bits::walks;
 use crate::text::{LONGEST, Text};
 use mask_bits::BitBuffer;
@@ -25,6 +26,7 @@ impl<'a> Answer<'a> {
             Answer::BitValues(values) => walks::write_values(text, values),
             Answer::BitIndices(indices) => walks::write_indices(text, indices),
             Answer::BitSlices(ranges) => walks::write_slices(text, ranges),
+            Answer::Built(built) => write_built(text, built),
             other => other.write(text),
         }
     }
@@ -144,6 +146,37 @@ fn write_lists(text: &mut Text, values: &MaskValues) {
         text.put(" ranges ");
         text.put_ranges(ranges);
     }
+}
+
+/// Writes all that there is of a mask, however long: of mixed values each bit, the bit offset that they stand at, and
+/// what is cached.
+pub fn write_whole(text: &mut Text, mask: &Mask) {
+    match mask.values() {
+        Some(values) => write_whole_mixed(text, values),
+        None => {
+            text.put(variant_of(mask));
+            text.put_next(" ", mask.len());
+        }
+    }
+}
+
+/// The same of mixed values.
+pub fn write_whole_mixed(text: &mut Text, values: &MaskValues) {
+    write_whole_buffer(text, values.bit_buffer());
+    if let Some(indices) = values.cached_indices() {
+        text.put(" indices ");
+        text.put_each(indices);
+    }
+    if let Some(ranges) = values.cached_slices() {
+        text.put(" ranges ");
+        text.put_each_range(ranges);
+    }
+}
+
+/// Writes each bit of a buffer, however long, and the bit offset that they stand at.
+pub fn write_whole_buffer(text: &mut Text, buffer: &BitBuffer) {
+    write_bits(text, buffer);
+    text.put_next(" at ", buffer.offset());
 }
 
 /// Writes the list, and what is cached.

@@ -31,6 +31,14 @@ impl Making {
         Answer::of_mask(self.mask(alloc))
     }
 
+    /// Whether the operands are there after the call.
+    pub fn lends(&self) -> bool {
+        !matches!(
+            self,
+            Making::FromSlices(_, _) | Making::FromBuffer(_) | Making::WithSlices(_)
+        )
+    }
+
     fn mask(&mut self, alloc: Global) -> Result<Mask, Fault> {
         match self {
             Making::ByLength(call, len, value) => Ok(call.mask(*len, *value)),

@@ -5,7 +5,7 @@ use crate::fault::{Fault, answer};
 use crate::operand::Operand;
 use crate::text::Text;
 use crate::words::{Words, named};
-use crate::written::write_mixed;
+use crate::written::{write_mixed, write_whole_mixed};
 use mask_bits::BitBuffer;
 use std::alloc::Global;
 use vortex_mask::{Mask, MaskIter, MaskValues};
@@ -83,13 +83,25 @@ impl ValuesCall {
         }
     }
 
+    /// Writes the values where the call changes nothing in them, or where it `is_refused`.
+    pub fn write_kept(&self, text: &mut Text, is_refused: bool) {
+        if is_refused || !self.caches() {
+            write_whole_mixed(text, &self.values);
+        }
+    }
+
+    // Whether the call caches a list.
+    fn caches(&self) -> bool {
+        matches!(
+            self.call,
+            OfValues::Indices | OfValues::Slices | OfValues::Threshold
+        )
+    }
+
     /// Writes what the call changed in place: the values after it, with what they have cached.
     pub fn write_changed(&self, text: &mut Text) {
-        match self.call {
-            OfValues::Indices | OfValues::Slices | OfValues::Threshold => {
-                write_after(text, &self.values);
-            }
-            _ => {}
+        if self.caches() {
+            write_after(text, &self.values);
         }
     }
 }

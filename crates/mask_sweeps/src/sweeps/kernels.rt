@@ -8,6 +8,7 @@ use crate::judge::{Generator, Judge};
 use crate::masks::{bits_at, has_caches, is_mask};
 use crate::plain::{Plain, TWO_IN_THREE};
 use mask_bits::BitBuffer;
+use mask_calls::bits::one::clone;
 use mask_calls::kernels::{KERNELS, Kernel, Listed};
 use mask_calls::packed::Outside;
 use std::process::Abort;
@@ -66,7 +67,7 @@ fn takes_steps(steps: &Steps, (calls, sums): Counts) -> bool {
 fn by_kernel<A: Abort>(
     judge: &Judge<'_, A>,
     (call, kernel): (&'static str, Kernel),
-    (rows, ranks): (&Listed<'_>, &Listed<'_>),
+    (rows, ranks): (&Listed, &Listed),
     want: &Plain,
     counts: Counts,
 ) {
@@ -77,7 +78,8 @@ fn by_kernel<A: Abort>(
     judge.holds(call, takes_steps(&steps, counts));
 }
 
-fn listed<'a, A: Abort>(judge: &Judge<'_, A>, buffer: &'a BitBuffer) -> Listed<'a> {
+fn listed<A: Abort>(judge: &Judge<'_, A>, buffer: &BitBuffer) -> Listed {
+    let buffer = judge.found("clone", clone(buffer));
     judge.found("set_indices", Listed::of(judge.alloc, buffer))
 }
 

@@ -3,6 +3,7 @@
 // that answers by lists and makes the cached ones up would ask more often.
 use super::alike::is_kept;
 use super::{Host, Want, ended, is_not_refused, is_unchanged, say, try_call};
+use mask_calls::bits::one::clone;
 use mask_calls::kernels::{Kernel, Listed};
 use mask_calls::masks::two::path;
 use mask_calls::{Answer, Call, Fault, Row};
@@ -106,9 +107,9 @@ fn kernel_of(rt: &impl Abort, path: Result<RankPath, Fault>, name: &str) -> Kern
     }
 }
 
-fn listed<'a>(rt: &impl Host, mask: &'a Mask) -> Result<Listed<'a>, Fault> {
+fn listed(rt: &impl Host, mask: &Mask) -> Result<Listed, Fault> {
     match mask.values() {
-        Some(values) => Listed::of(rt.alloc(), values.bit_buffer()),
+        Some(values) => Listed::of(rt.alloc(), clone(values.bit_buffer())?),
         None => panic!(rt; "these values are mixed"),
     }
 }
@@ -120,7 +121,7 @@ fn by_kernel(rt: &impl Host, kernel: Kernel, (rows, ranks): (&Mask, &Mask), want
     }
 }
 
-fn in_turn(rt: &impl Host, kernel: Kernel, lists: (&Listed<'_>, &Listed<'_>), want: Want<'_>) {
+fn in_turn(rt: &impl Host, kernel: Kernel, lists: (&Listed, &Listed), want: Want<'_>) {
     let is_first = is_answered(rt, kernel, lists, want);
     is_not_refused(rt, is_first || is_answered(rt, kernel, lists, want));
 }
@@ -128,7 +129,7 @@ fn in_turn(rt: &impl Host, kernel: Kernel, lists: (&Listed<'_>, &Listed<'_>), wa
 fn is_answered(
     rt: &impl Host,
     kernel: Kernel,
-    (rows, ranks): (&Listed<'_>, &Listed<'_>),
+    (rows, ranks): (&Listed, &Listed),
     want: Want<'_>,
 ) -> bool {
     say(rt, "calls");
