@@ -11,7 +11,6 @@ use crate::fault::{Fault, made};
 use crate::packed;
 use crate::text::Text;
 use crate::words::{Words, named};
-use crate::written::write_whole_buffer;
 use mask_bits::BitBuffer;
 use std::alloc::Global;
 use std::mem;
@@ -73,7 +72,7 @@ impl Bits {
 
 fn write_some(text: &mut Text, buffer: &Option<BitBuffer>) {
     if let Some(buffer) = buffer {
-        write_whole_buffer(text, buffer);
+        walks::write_backed(text, buffer);
     }
 }
 

@@ -93,6 +93,13 @@ impl Call {
         }
     }
 
+    /// Has a builder do no more than make its buffer.
+    pub fn give_up(&mut self) {
+        if let Call::OfBuilder(call) = self {
+            call.give_up();
+        }
+    }
+
     /// Writes what the call leaves as it was, and, `is_refused` memory, what it would change in place: the operands
     /// that are lent, and the clones that are held.
     pub fn write_kept(&self, text: &mut Text, is_refused: bool) {

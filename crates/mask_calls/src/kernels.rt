@@ -2,10 +2,10 @@
 
 use crate::answer::Answer;
 use crate::bits::Bits;
+use crate::bits::walks::write_backed;
 use crate::fault::{Fault, answer};
 use crate::text::Text;
 use crate::words::{Words, named};
-use crate::written::write_whole_buffer;
 use mask_bits::BitBuffer;
 use std::alloc::Global;
 use std::marker::Model;
@@ -167,7 +167,7 @@ impl KernelCall {
 
     /// Writes both buffers, which stay as they are.
     pub fn write_kept(&self, text: &mut Text) {
-        write_whole_buffer(text, &self.rows.buffer);
-        write_whole_buffer(text, &self.ranks.buffer);
+        write_backed(text, &self.rows.buffer);
+        write_backed(text, &self.ranks.buffer);
     }
 }

@@ -7,7 +7,7 @@ use crate::masks::one::clone;
 use crate::packed;
 use crate::text::Text;
 use crate::words::{Words, halves, number, numbers, ranges, values};
-use crate::written::write_whole;
+use crate::written::write_placed;
 use mask_bits::BitBuffer;
 use std::alloc::Global;
 use std::mem;
@@ -51,10 +51,10 @@ impl Operand {
     /// Writes the clone that is held, and the mask where it was lent.
     pub fn write_kept(&self, text: &mut Text, is_lent: bool) {
         if is_lent {
-            write_whole(text, &self.mask);
+            write_placed(text, &self.mask);
         }
         if let Some(held) = &self.held {
-            write_whole(text, held);
+            write_placed(text, held);
         }
     }
 

@@ -86,7 +86,7 @@ fn outcome_of(answer: Texted, before: Texted, after: Texted) -> Result<Outcome, 
 
 /// What a call leaves as it was, and what it would change, `is_refused` memory.
 pub fn kept(alloc: Global, call: &Call, is_refused: bool) -> Texted {
-    let mut text = Text::new(alloc);
+    let mut text = Text::whole(alloc);
     call.write_kept(&mut text, is_refused);
     text.finish()
 }
@@ -106,7 +106,8 @@ fn write_answer(text: &mut Text, alloc: Global, call: &mut Call) {
     call.write_changed(text);
 }
 
-fn write_outcome(text: &mut Text, outcome: Result<Answer<'_>, Fault>) {
+/// Writes what a call answers, or its fault.
+pub fn write_outcome(text: &mut Text, outcome: Result<Answer<'_>, Fault>) {
     match outcome {
         Ok(answer) => answer.write_walk(text),
         Err(fault) => fault.write(text),

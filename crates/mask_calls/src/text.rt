@@ -9,6 +9,8 @@ use std::fmt::{Debug, Display};
 pub struct Text {
     text: String,
     is_refused: bool,
+    // whether long lists are written item by item, too
+    pub(crate) is_whole: bool,
 }
 
 impl Text {
@@ -17,7 +19,21 @@ impl Text {
         Text {
             text: String::new(alloc),
             is_refused: false,
+            is_whole: false,
         }
+    }
+
+    /// An empty text, into which long lists are written item by item, too.
+    pub fn whole(alloc: Global) -> Text {
+        Text {
+            is_whole: true,
+            ..Text::new(alloc)
+        }
+    }
+
+    // Whether a list of this length is not written item by item.
+    pub(crate) fn cuts(&self, len: usize) -> bool {
+        len > LONGEST && !self.is_whole
     }
 
     /// The whole text.
@@ -104,14 +120,14 @@ impl Text {
     pub fn put_numbers(&mut self, numbers: &[usize]) {
         if numbers.is_empty() {
             self.put("-");
-        } else if numbers.len() > LONGEST {
+        } else if self.cuts(numbers.len()) {
             self.put_count(numbers.len(), " numbers");
         } else {
             self.put_each(numbers);
         }
     }
 
-    pub(crate) fn put_each(&mut self, numbers: &[usize]) {
+    fn put_each(&mut self, numbers: &[usize]) {
         let mut mark = "";
         for number in numbers {
             self.put_next(mark, *number);
@@ -123,14 +139,14 @@ impl Text {
     pub fn put_ranges(&mut self, ranges: &[(usize, usize)]) {
         if ranges.is_empty() {
             self.put("-");
-        } else if ranges.len() > LONGEST {
+        } else if self.cuts(ranges.len()) {
             self.put_count(ranges.len(), " ranges");
         } else {
             self.put_each_range(ranges);
         }
     }
 
-    pub(crate) fn put_each_range(&mut self, ranges: &[(usize, usize)]) {
+    fn put_each_range(&mut self, ranges: &[(usize, usize)]) {
         let mut mark = "";
         for range in ranges {
             self.put_range(mark, *range);
@@ -145,5 +161,5 @@ impl Text {
     }
 }
 
-/// Longer lists are written by their length.
-pub const LONGEST: usize = 200;
+// Longer lists are written by their length.
+const LONGEST: usize = 200;

@@ -3,7 +3,7 @@
 use crate::answer::Answer;
 use crate::bits::builder::write_built;
 use crate::bits::walks;
-use crate::text::{LONGEST, Text};
+use crate::text::Text;
 use mask_bits::BitBuffer;
 use std::alloc::{AllocError, Global};
 use vortex_mask::intersect_by_rank::Steps;
@@ -118,7 +118,7 @@ pub fn write_mask(text: &mut Text, mask: &Mask) {
 }
 
 fn write_uncached(text: &mut Text, mask: &Mask) {
-    if mask.len() <= MOST_VALUES {
+    if mask.len() <= MOST_VALUES || (text.is_whole && mask.values().is_some()) {
         write_list(text, mask);
     } else if mask.values().is_some() && mask.true_count() <= MOST_INDICES {
         text.put_count(mask.len(), ":");
@@ -148,35 +148,12 @@ fn write_lists(text: &mut Text, values: &MaskValues) {
     }
 }
 
-/// Writes all that there is of a mask, however long: of mixed values each bit, the bit offset that they stand at, and
-/// what is cached.
-pub fn write_whole(text: &mut Text, mask: &Mask) {
-    match mask.values() {
-        Some(values) => write_whole_mixed(text, values),
-        None => {
-            text.put(variant_of(mask));
-            text.put_next(" ", mask.len());
-        }
+/// Writes a mask, and the bit offset that its values stand at.
+pub fn write_placed(text: &mut Text, mask: &Mask) {
+    write_mask(text, mask);
+    if let Some(values) = mask.values() {
+        text.put_next(" at ", values.bit_buffer().offset());
     }
-}
-
-/// The same of mixed values.
-pub fn write_whole_mixed(text: &mut Text, values: &MaskValues) {
-    write_whole_buffer(text, values.bit_buffer());
-    if let Some(indices) = values.cached_indices() {
-        text.put(" indices ");
-        text.put_each(indices);
-    }
-    if let Some(ranges) = values.cached_slices() {
-        text.put(" ranges ");
-        text.put_each_range(ranges);
-    }
-}
-
-/// Writes each bit of a buffer, however long, and the bit offset that they stand at.
-pub fn write_whole_buffer(text: &mut Text, buffer: &BitBuffer) {
-    write_bits(text, buffer);
-    text.put_next(" at ", buffer.offset());
 }
 
 /// Writes the list, and what is cached.
@@ -209,7 +186,7 @@ fn write_masks(text: &mut Text, masks: &[Mask]) {
 
 /// Writes the list of a buffer, or of a long one its length and how many values are true.
 pub fn write_buffer(text: &mut Text, buffer: &BitBuffer) {
-    if buffer.len() > LONGEST {
+    if text.cuts(buffer.len()) {
         text.put_pair(buffer.true_count(), " of ", buffer.len());
     } else if buffer.is_empty() {
         text.put("-");

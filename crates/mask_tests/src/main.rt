@@ -2,10 +2,12 @@
 //! what each of them answers. `mask_calls` reads a row and makes its calls.
 #![tactic(auto)]
 
+mod refused;
 mod rows;
 
-use std::io;
 use std::process::ExitCode;
+use std::rt::Env;
+use std::{env, io};
 
 // The statuses of the program, beside 0.
 const WRONG: u8 = 1;
@@ -13,7 +15,15 @@ const WRONG: u8 = 1;
 const NOT_READ_OR_WRITTEN: u8 = 3;
 
 fn main(rt: HostRuntime) -> ExitCode {
-    ExitCode::from(status(rows::check(&rt)))
+    ExitCode::from(status(check(&rt)))
+}
+
+// Has the rows refused memory where the first argument says so.
+fn check<R: Env + Input + Print + AllocGlobal>(rt: &R) -> io::Result<usize> {
+    match env::args(rt)?.nth(1) {
+        Some(mode) if mode.as_str() == "refused" => refused::check(rt),
+        _ => rows::check(rt),
+    }
 }
 
 fn status(wrong: io::Result<usize>) -> u8 {

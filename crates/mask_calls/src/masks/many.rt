@@ -9,7 +9,7 @@ use crate::masks::one::clone;
 use crate::operand::with_lists;
 use crate::text::Text;
 use crate::words::{Words, push};
-use crate::written::write_whole;
+use crate::written::write_placed;
 use std::alloc::Global;
 use std::mem;
 use vortex_mask::Mask;
@@ -94,7 +94,7 @@ impl Masks {
 
 fn write_each(text: &mut Text, masks: &[Mask]) {
     for mask in masks {
-        write_whole(text, mask);
+        write_placed(text, mask);
     }
 }
 

@@ -5,7 +5,7 @@ use crate::fault::{Fault, answer};
 use crate::operand::Operand;
 use crate::text::Text;
 use crate::words::{Words, named};
-use crate::written::{write_mixed, write_whole_mixed};
+use crate::written::write_mixed;
 use mask_bits::BitBuffer;
 use std::alloc::Global;
 use vortex_mask::{Mask, MaskIter, MaskValues};
@@ -86,7 +86,8 @@ impl ValuesCall {
     /// Writes the values where the call changes nothing in them, or where it `is_refused`.
     pub fn write_kept(&self, text: &mut Text, is_refused: bool) {
         if is_refused || !self.caches() {
-            write_whole_mixed(text, &self.values);
+            write_mixed(text, &self.values);
+            text.put_next(" at ", self.values.bit_buffer().offset());
         }
     }
 
