@@ -5,7 +5,7 @@ use crate::bits::builder::BuilderCall;
 use crate::bits::{Bits, BitsCall};
 use crate::fault::Fault;
 use crate::kernels::KernelCall;
-use crate::masks::cloned::Cloned;
+use crate::masks::cloned::Number;
 use crate::masks::fraction::{self, OF_FRACTIONS, OfFractions};
 use crate::masks::lent::{LENDING, Lending};
 use crate::masks::lists::{WITH_LIST, WithList};
@@ -40,7 +40,7 @@ pub enum Call {
     OfBits(BitsCall),
     OfBuilder(BuilderCall),
     OfKernel(KernelCall),
-    OfCloned(Cloned),
+    Cloned(Number),
     OfFractions(OfFractions, (usize, usize), (usize, usize)),
     OfWords(OfWords, usize, usize),
 }
@@ -61,7 +61,7 @@ impl Call {
             Call::OfBits(call) => call.run(alloc),
             Call::OfBuilder(call) => call.run(alloc),
             Call::OfKernel(call) => call.run(alloc),
-            Call::OfCloned(call) => call.run(),
+            Call::Cloned(number) => number.run(),
             Call::OfFractions(call, a, b) => call.run(a, b),
             Call::OfWords(call, first, second) => call.run(first, *second),
         }
@@ -220,7 +220,7 @@ fn of_lists(words: &mut Words<'_>, name: &str) -> Option<Call> {
     }
     match name {
         "equals_buffer" => Some(Call::EqualsBuffer(Operand::next(words), Bits::next(words))),
-        "cloned" => Some(Call::OfCloned(Cloned(words.numbers()))),
+        "cloned" => Some(Call::Cloned(Number::next(words))),
         "builder" => match BuilderCall::read(words) {
             Some(call) => Some(Call::OfBuilder(call)),
             None => None,

@@ -1,9 +1,10 @@
-//! Each row with requests for memory of its call refused, by `.ci/refusals`. It is told by lines: `scenario` with the
-//! name of the call, `calls` before the call and `answered` or `refused` behind it, and `wrong: ` with what is. A call
-//! that was refused is made again, behind `calls again`. Between `calls` and the next line nothing but the call asks
-//! for memory. What the script doesn't read, it finds missing: so a line that can't be written is no fault here.
+//! Each row with requests for memory refused to its call, by `.ci/refusals`. It is told by lines: `scenario` and the
+//! name of the call, `calls` before it, `answered` or `refused` behind it, and `wrong: ` where something is. A call that
+//! was refused is made once more behind `calls again`. Between `calls` and the next line nothing but the call asks for
+//! memory. The script misses a line that can't be written.
 
 use mask_calls::{Answer, Call, Fault, Row, Text, kept, write_outcome};
+use std::alloc::AllocError;
 use std::io::{self, BufRead, BufReader};
 
 /// Makes the call of each row.
@@ -29,48 +30,76 @@ fn check_line<R: Print + AllocGlobal>(rt: &R, line: &str) {
     }
 }
 
+const UNREAD: &str = "wrong: it can't be read";
+
 fn check_row<R: Print + AllocGlobal>(rt: &R, row: Row<'_>) {
     say_of(rt, "scenario", row.names);
-    let call = Call::read(rt.alloc(), row.names, row.words);
-    let copy = Call::read(rt.alloc(), row.names, row.words);
-    match (call, copy) {
-        (Ok(call), Ok(copy)) => in_turn(rt, call, copy, row.want),
-        _ => say(rt, "wrong: no call, or no memory for its operands"),
+    match Call::read(rt.alloc(), row.names, row.words) {
+        Ok(call) => check_call(rt, row, call),
+        Err(_) => say(rt, UNREAD),
     }
 }
 
-// A row may end in ` or ` and what a builder has that was refused: then it is not called again.
-fn in_turn<R: Print + AllocGlobal>(rt: &R, call: Call, copy: Call, want: &str) {
-    let (mut call, mut copy) = (call, copy);
-    let (want, left) = match want.split_once(" or ") {
+// Makes the call, compares what it leaves as it was, and makes it again where it was refused.
+fn check_call<R: Print + AllocGlobal>(rt: &R, row: Row<'_>, call: Call) {
+    let mut call = call;
+    let answered = kept(rt.alloc(), &call, false);
+    let refused = kept(rt.alloc(), &call, true);
+    if is_answered(rt, "calls", &mut call, wants(row.want).0) {
+        is_kept(rt, answered, kept(rt.alloc(), &call, false));
+    } else {
+        is_kept(rt, refused, kept(rt.alloc(), &call, true));
+        again(rt, row, &mut call);
+    }
+}
+
+// What a row wants, which may end in ` or ` and what a builder has that was refused: then it is not called again.
+fn wants(want: &str) -> (&str, Option<&str>) {
+    match want.split_once(" or ") {
         Some((want, left)) => (want, Some(left)),
         None => (want, None),
-    };
-    let is_answered = is_answered(rt, "calls", &mut call, want);
-    is_kept(rt, &call, &copy, !is_answered);
-    if !is_answered {
-        again(rt, &mut call, &mut copy, want, left);
     }
 }
 
-// Operands by value are gone after a refusal: then the second call is one of its own.
-fn again<R: Print + AllocGlobal>(
+fn is_kept<R: Print>(
     rt: &R,
-    call: &mut Call,
-    copy: &mut Call,
-    want: &str,
-    left: Option<&str>,
+    before: Result<String, AllocError>,
+    after: Result<String, AllocError>,
 ) {
-    let call = if call.lends() { call } else { copy };
+    match (before, after) {
+        (Ok(before), Ok(after)) if before.as_str() == after.as_str() => {}
+        _ => say(rt, "wrong: what was lent has changed"),
+    }
+}
+
+// Operands by value are gone after a refusal: then the second call is read anew.
+fn again<R: Print + AllocGlobal>(rt: &R, row: Row<'_>, call: &mut Call) {
+    if call.lends() {
+        is_answered_now(rt, row, call);
+    } else {
+        match Call::read(rt.alloc(), row.names, row.words) {
+            Ok(call) => is_answered_anew(rt, row, call),
+            Err(_) => say(rt, UNREAD),
+        }
+    }
+}
+
+fn is_answered_anew<R: Print + AllocGlobal>(rt: &R, row: Row<'_>, call: Call) {
+    let mut call = call;
+    is_answered_now(rt, row, &mut call);
+}
+
+fn is_answered_now<R: Print + AllocGlobal>(rt: &R, row: Row<'_>, call: &mut Call) {
+    let (want, left) = wants(row.want);
     if left.is_some() {
         call.give_up();
     }
     if !is_answered(rt, "calls again", call, left.unwrap_or(want)) {
-        say(rt, "wrong: refused once more");
+        say(rt, "wrong: it is refused once more");
     }
 }
 
-// Makes the call, and compares its answer.
+// Makes the call behind a line, and compares its answer.
 fn is_answered<R: Print + AllocGlobal>(rt: &R, line: &str, call: &mut Call, want: &str) -> bool {
     let mut text = Text::whole(rt.alloc());
     say(rt, line);
@@ -93,16 +122,6 @@ fn is_wanted<R: Print>(rt: &R, text: Text, want: &str) {
     match text.finish() {
         Ok(text) if text.as_str() == want => {}
         Ok(text) => say_of(rt, "wrong: it answers", text.as_str()),
-        Err(_) => say(rt, "wrong: no memory for a text"),
-    }
-}
-
-fn is_kept<R: Print + AllocGlobal>(rt: &R, call: &Call, copy: &Call, is_refused: bool) {
-    match (
-        kept(rt.alloc(), call, is_refused),
-        kept(rt.alloc(), copy, is_refused),
-    ) {
-        (Ok(after), Ok(before)) if after.as_str() == before.as_str() => {}
-        _ => say(rt, "wrong: what was lent has changed"),
+        Err(_) => say(rt, "wrong: there is no memory for the answer's text"),
     }
 }

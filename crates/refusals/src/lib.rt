@@ -1,5 +1,0 @@
-//! Scenarios in which each request for memory is refused in turn.
-#![tactic(auto)]
-
-#[cfg(test)]
-mod tests;
