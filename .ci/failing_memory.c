@@ -1,13 +1,16 @@
 /* Loaded before the C library: refuses a program's request for memory whose number, counted from 1, the
    variable REFUSED_REQUEST has. Where REFUSES_REST is 1 it refuses each later one too, until the program
-   writes something. It tells of the first by a line on the descriptor that REFUSAL_TO names. */
+   writes something. It counts from the start on, or, where IN_CALLS is 1, anew from each line `calls` that
+   the program writes until it writes something else. It tells of the first refusal by a line on the
+   descriptor that REFUSAL_TO names. */
 #define _GNU_SOURCE
 #include <dlfcn.h>
 #include <stdlib.h>
+#include <string.h>
 #include <sys/syscall.h>
 #include <unistd.h>
 
-static long requests_left, refuses_rest, refusal_to;
+static long refused_request, requests_left, refuses_rest, refusal_to;
 static int is_out_of_memory;
 
 static long number_in(const char *name)
@@ -18,7 +21,8 @@ static long number_in(const char *name)
 
 __attribute__((constructor)) static void start(void)
 {
-    requests_left = number_in("REFUSED_REQUEST");
+    refused_request = number_in("REFUSED_REQUEST");
+    requests_left = number_in("IN_CALLS") == 1 ? 0 : refused_request;
     refuses_rest = number_in("REFUSES_REST");
     refusal_to = number_in("REFUSAL_TO");
 }
@@ -52,7 +56,10 @@ void *realloc(void *old, size_t size)
 
 ssize_t write(int to, const void *bytes, size_t length)
 {
+    static const char line[] = "calls\n";
+    int is_call = length == sizeof line - 1 && memcmp(bytes, line, length) == 0;
     is_out_of_memory = 0;
+    requests_left = is_call ? refused_request : 0;
     return syscall(SYS_write, to, bytes, length);
 }
 

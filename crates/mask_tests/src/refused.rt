@@ -66,9 +66,12 @@ fn is_kept<R: Print>(
     before: Result<String, AllocError>,
     after: Result<String, AllocError>,
 ) {
-    match (before, after) {
-        (Ok(before), Ok(after)) if before.as_str() == after.as_str() => {}
-        _ => say(rt, "wrong: what was lent has changed"),
+    let is_same = match (&before, &after) {
+        (Ok(before), Ok(after)) => before.as_str() == after.as_str(),
+        _ => false,
+    };
+    if !is_same {
+        say(rt, "wrong: what was lent has changed");
     }
 }
 
@@ -120,8 +123,13 @@ fn ended<R: Print>(rt: &R, text: &mut Text, outcome: Result<Answer<'_>, Fault>) 
 
 fn is_wanted<R: Print>(rt: &R, text: Text, want: &str) {
     match text.finish() {
-        Ok(text) if text.as_str() == want => {}
-        Ok(text) => say_of(rt, "wrong: it answers", text.as_str()),
+        Ok(text) => is_wanted_text(rt, text.as_str(), want),
         Err(_) => say(rt, "wrong: there is no memory for the answer's text"),
+    }
+}
+
+fn is_wanted_text<R: Print>(rt: &R, text: &str, want: &str) {
+    if text != want {
+        say_of(rt, "wrong: it answers", text);
     }
 }

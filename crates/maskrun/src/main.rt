@@ -6,8 +6,6 @@ mod argument;
 mod command;
 mod error;
 mod print;
-#[cfg(test)]
-mod tests;
 
 use std::alloc::Global;
 use std::process::ExitCode;
