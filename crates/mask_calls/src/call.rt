@@ -93,6 +93,9 @@ impl Call {
         }
     }
 
+    /// Lets the operands go, so that other crates need no proof of how that is done.
+    pub fn end(self) {}
+
     /// Has a builder do no more than make its buffer.
     pub fn give_up(&mut self) {
         if let Call::OfBuilder(call) = self {

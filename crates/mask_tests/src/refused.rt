@@ -40,16 +40,21 @@ fn check_row<R: Print + AllocGlobal>(rt: &R, row: Row<'_>) {
     }
 }
 
-// Makes the call, compares what it leaves as it was, and makes it again where it was refused.
 fn check_call<R: Print + AllocGlobal>(rt: &R, row: Row<'_>, call: Call) {
     let mut call = call;
-    let answered = kept(rt.alloc(), &call, false);
-    let refused = kept(rt.alloc(), &call, true);
-    if is_answered(rt, "calls", &mut call, wants(row.want).0) {
-        is_kept(rt, answered, kept(rt.alloc(), &call, false));
+    check_made(rt, row, &mut call);
+    call.end();
+}
+
+// Makes the call, compares what it leaves as it was, and makes it again where it was refused.
+fn check_made<R: Print + AllocGlobal>(rt: &R, row: Row<'_>, call: &mut Call) {
+    let answered = kept(rt.alloc(), call, false);
+    let refused = kept(rt.alloc(), call, true);
+    if is_answered(rt, "calls", call, wants(row.want).0) {
+        is_kept(rt, answered, kept(rt.alloc(), call, false));
     } else {
-        is_kept(rt, refused, kept(rt.alloc(), &call, true));
-        again(rt, row, &mut call);
+        is_kept(rt, refused, kept(rt.alloc(), call, true));
+        again(rt, row, call);
     }
 }
 
@@ -90,6 +95,7 @@ fn again<R: Print + AllocGlobal>(rt: &R, row: Row<'_>, call: &mut Call) {
 fn is_answered_anew<R: Print + AllocGlobal>(rt: &R, row: Row<'_>, call: Call) {
     let mut call = call;
     is_answered_now(rt, row, &mut call);
+    call.end();
 }
 
 fn is_answered_now<R: Print + AllocGlobal>(rt: &R, row: Row<'_>, call: &mut Call) {
