@@ -21,5 +21,5 @@ pub use call::Call;
 pub use fault::{Fault, made};
 pub use operand::Operand;
 pub use ranged::Ranged;
-pub use row::{Outcome, Row, kept, write_outcome};
-pub use text::Text;
+pub use row::{Manner, Outcome, Row, kept, write_outcome};
+pub use text::{Detail, Text};

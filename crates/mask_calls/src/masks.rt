@@ -9,6 +9,7 @@ pub mod making;
 pub mod many;
 pub mod one;
 pub mod parts;
+pub mod sources;
 pub mod two;
 pub mod values;
 pub mod word;

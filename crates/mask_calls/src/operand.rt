@@ -4,9 +4,10 @@ use crate::fault::Fault;
 use crate::masks::lent::cached_by;
 use crate::masks::made::{ByLength, from_bools, from_buffer, from_indices, from_slices};
 use crate::masks::one::clone;
+use crate::masks::sources::{SOURCES, Source};
 use crate::packed;
 use crate::text::Text;
-use crate::words::{Words, halves, number, numbers, ranges, values};
+use crate::words::{Words, halves, named, number, numbers, ranges, values};
 use crate::written::write_placed;
 use mask_bits::BitBuffer;
 use std::alloc::Global;
@@ -84,28 +85,53 @@ fn held(mask: Result<Mask, Fault>) -> Result<Operand, Fault> {
     }
 }
 
-// The mask of a word that may end in `!i` and `!r`.
+// The mask of a word that may end in `!i` and `!r`, or begin with `i:`, `r:` or `ir:`.
 pub(crate) fn with_lists(alloc: Global, word: &str) -> Result<Mask, Fault> {
-    match halves(word, "!") {
-        Some((rest, lists)) => match mask(alloc, rest) {
-            Ok(mask) => cached_by(alloc, mask, lists),
-            Err(fault) => Err(fault),
-        },
-        None => mask(alloc, word),
+    for (mark, lists) in [("i:", "i"), ("r:", "r"), ("ir:", "ir")] {
+        if let Some(rest) = word.strip_prefix(mark) {
+            return cached(alloc, rest, lists);
+        }
+    }
+    for (mark, lists) in [("!i!r", "ir"), ("!i", "i"), ("!r", "r")] {
+        if let Some(rest) = word.strip_suffix(mark) {
+            return cached(alloc, rest, lists);
+        }
+    }
+    mask(alloc, word)
+}
+
+fn cached(alloc: Global, word: &str, lists: &str) -> Result<Mask, Fault> {
+    match mask(alloc, word) {
+        Ok(mask) => cached_by(alloc, mask, lists),
+        Err(fault) => Err(fault),
     }
 }
 
 // A mask by a word: `all:5` and `none:5` of one value, `5:1,3` by `from_indices`, `10:0..3,5..7` by `from_slices`,
-// and otherwise of a buffer, as that is written, which caches nothing.
+// `rows:10110` by that constructor, and otherwise of a buffer, as that is written, which caches nothing.
 fn mask(alloc: Global, word: &str) -> Result<Mask, Fault> {
     match halves(word, ":") {
         Some(("all", len)) => uniform(ByLength::NewTrue, len),
         Some(("none", len)) => uniform(ByLength::NewFalse, len),
         Some(("every" | "first" | "at", _)) | None => of_bits(alloc, word),
-        Some((len, list)) => match number(len) {
-            Ok(len) => listed(alloc, len, list),
-            Err(fault) => Err(fault),
+        Some((form, list)) => match named(form, &SOURCES) {
+            Some(source) => by_source(alloc, source, list),
+            None => listed_by(alloc, form, list),
         },
+    }
+}
+
+fn by_source(alloc: Global, source: Source, list: &str) -> Result<Mask, Fault> {
+    match values(alloc, list) {
+        Ok(values) => source.mask(alloc, &values),
+        Err(fault) => Err(fault),
+    }
+}
+
+fn listed_by(alloc: Global, len: &str, list: &str) -> Result<Mask, Fault> {
+    match number(len) {
+        Ok(len) => listed(alloc, len, list),
+        Err(fault) => Err(fault),
     }
 }
 

@@ -4,7 +4,7 @@ use crate::bits::one::clone;
 use crate::bits::parts::slice;
 use crate::bits::{from_indices, uniform};
 use crate::fault::{Fault, made};
-use crate::words::{Words, digits, halves, number, numbers, pair, push, values};
+use crate::words::{Words, halves, number, numbers, pair, push, values, with_room};
 use bytes::Bytes;
 use mask_bits::BitBuffer;
 use std::alloc::Global;
@@ -22,12 +22,12 @@ pub enum Outside {
 
 impl Outside {
     // The bit at a position, where value 0 stands at bit `offset`.
-    fn bit(self, offset: usize, values: &[bool], position: usize) -> bool {
+    fn bit(self, offset: usize, digits: &[u8], position: usize) -> bool {
         match position.checked_sub(offset) {
             None => !matches!(self, Outside::Clear),
-            Some(i) => match values.get(i) {
-                Some(value) => *value,
-                None => self.after(i.saturating_sub(values.len())),
+            Some(i) => match digits.get(i) {
+                Some(digit) => *digit == b'1',
+                None => self.after(i.saturating_sub(digits.len())),
             },
         }
     }
@@ -41,10 +41,21 @@ impl Outside {
         }
     }
 
-    fn byte(self, offset: usize, values: &[bool], first: usize) -> u8 {
+    // The byte that begins at a bit.
+    fn byte(self, offset: usize, digits: &[u8], first: usize) -> u8 {
+        match first.checked_sub(offset) {
+            Some(start) => match digits.get(start..start.saturating_add(8)) {
+                Some(eight) => byte_of_digits(eight),
+                None => self.byte_around(offset, digits, first),
+            },
+            None => self.byte_around(offset, digits, first),
+        }
+    }
+
+    fn byte_around(self, offset: usize, digits: &[u8], first: usize) -> u8 {
         let mut byte = 0u8;
         for i in 0..8usize {
-            if self.bit(offset, values, first.saturating_add(i)) {
+            if self.bit(offset, digits, first.saturating_add(i)) {
                 byte |= 1 << i;
             }
         }
@@ -52,17 +63,29 @@ impl Outside {
     }
 }
 
+// Eight digits, the first lowest.
+fn byte_of_digits(digits: &[u8]) -> u8 {
+    let mut byte = 0u8;
+    for digit in digits.iter().rev() {
+        byte = byte << 1 | *digit & 1;
+    }
+    byte
+}
+
+fn are_digits(digits: &[u8]) -> bool {
+    let mut others = 0u8;
+    for digit in digits {
+        others |= *digit ^ b'0';
+    }
+    others < 2
+}
+
 // The values from bit `offset` on. What lies outside fills the last byte, and nine bytes more.
-fn packed(
-    alloc: Global,
-    offset: usize,
-    values: &[bool],
-    outside: Outside,
-) -> Result<Vec<u8>, Fault> {
-    let mut bytes: Vec<u8> = Vec::new(alloc);
-    let end = offset.saturating_add(values.len()).saturating_add(72);
+fn packed(alloc: Global, offset: usize, digits: &[u8], outside: Outside) -> Result<Vec<u8>, Fault> {
+    let end = offset.saturating_add(digits.len()).saturating_add(72);
+    let mut bytes: Vec<u8> = with_room(alloc, end / 8)?;
     for first in (0..end).step_by(8) {
-        push(&mut bytes, outside.byte(offset, values, first))?;
+        push(&mut bytes, outside.byte(offset, digits, first))?;
     }
     Ok(bytes)
 }
@@ -100,18 +123,22 @@ pub fn from_rows(alloc: Global, rows: &[bool]) -> Result<BitBuffer, Fault> {
     made(BitBuffer::from_rows(alloc, rows, |row| *row))
 }
 
-/// These values from bit `offset` on of bytes that nobody else holds.
-pub fn buffer_at(
+// These digits from bit `offset` on of bytes that nobody else holds.
+fn buffer_at(
     alloc: Global,
-    offset: usize,
-    values: &[bool],
+    offset: Result<usize, Fault>,
+    list: &str,
     outside: Outside,
 ) -> Result<BitBuffer, Fault> {
-    of_own(
-        packed(alloc, offset, values, outside)?,
-        offset,
-        values.len(),
-    )
+    let digits: &[u8] = if list == "-" { &[] } else { list.as_bytes() };
+    if !are_digits(digits) {
+        return Err(Fault::Malformed("digits 0 and 1"));
+    }
+    let offset = offset?;
+    match packed(alloc, offset, digits, outside) {
+        Ok(bytes) => of_own(bytes, offset, digits.len()),
+        Err(fault) => Err(fault),
+    }
 }
 
 // From a bit on to the end.
@@ -175,8 +202,8 @@ fn byte(word: &str) -> Result<u8, Fault> {
     }
 }
 
-/// A buffer by a word: truth values; `all:130` and `none:130`; `3+10110` and `3-10110` of values from bit 3 on with
-/// set and with clear bits around them; `bytes:180,255:2:5` of five values from bit 2 of these bytes on;
+/// A buffer by a word: truth values; `all:130` and `none:130`; `3+10110`, `3-10110` and `3~10110` of values from bit
+/// 3 on with set bits, clear ones, and bits as `Outside::Ends` says around them; `bytes:180,255:2:5` of five values from bit 2 of these bytes on;
 /// `true:12:9,0` of 12 values by the indices of the true ones; `part:3:W` of such a word from bit 3 on, and
 /// `clone:W`.
 pub fn read(alloc: Global, word: &str) -> Result<BitBuffer, Fault> {
@@ -213,10 +240,7 @@ fn clone_of(buffer: Result<BitBuffer, Fault>) -> Result<BitBuffer, Fault> {
 
 fn of_values(alloc: Global, word: &str) -> Result<BitBuffer, Fault> {
     match offset_of(word) {
-        Some((offset, outside, list)) => {
-            let list = digits(alloc, list)?;
-            buffer_at(alloc, number(offset)?, &list, outside)
-        }
+        Some((offset, outside, list)) => buffer_at(alloc, number(offset), list, outside),
         None => match values(alloc, word) {
             Ok(list) => from_bools(alloc, &list),
             Err(fault) => Err(fault),
@@ -229,6 +253,13 @@ pub fn offset_of<'a>(word: &'a str) -> Option<(&'a str, Outside, &'a str)> {
     match halves(word, "+") {
         Some((offset, list)) => Some((offset, Outside::Set, list)),
         None if word == "-" => None,
+        None => offset_of_ends(word),
+    }
+}
+
+fn offset_of_ends<'a>(word: &'a str) -> Option<(&'a str, Outside, &'a str)> {
+    match halves(word, "~") {
+        Some((offset, list)) => Some((offset, Outside::Ends, list)),
         None => offset_of_clear(word),
     }
 }

@@ -3,7 +3,8 @@
 use crate::answer::Answer;
 use crate::call::Call;
 use crate::fault::Fault;
-use crate::text::Text;
+use crate::text::{Detail, Text};
+use crate::words::halves;
 use std::alloc::{AllocError, Global};
 
 // A text for which memory is found.
@@ -24,10 +25,26 @@ pub struct Row<'a> {
 impl<'a> Row<'a> {
     /// The parts of a line.
     pub fn read(line: &'a str) -> Option<Row<'a>> {
-        let (call, want) = line.split_once(" -> ")?;
-        let (names, words) = call.split_once(' ')?;
+        Row::around(line, " -> ")
+    }
+
+    /// The parts of a line around this mark.
+    pub fn around(line: &'a str, mark: &str) -> Option<Row<'a>> {
+        let (call, want) = halves(line, mark)?;
+        let (names, words) = halves(call, " ")?;
         Some(Row { names, words, want })
     }
+}
+
+/// How a call is made, and what is told of it.
+#[derive(Drop, Clone, Copy)]
+pub struct Manner {
+    /// How much is told of lists.
+    pub detail: Detail,
+    /// Whether a clone of each mask and buffer is held.
+    pub is_shared: bool,
+    /// Whether operands are told before the call and after it.
+    pub tells_operands: bool,
 }
 
 /// What came of a call, as texts.
@@ -51,25 +68,29 @@ impl Outcome {
         })
     }
 
-    /// Reads and makes the call, with a clone of each mask held if it `is_shared`. A fault is an answer.
+    /// Reads and makes the call. A fault is an answer.
     pub fn of(
         alloc: Global,
         name: &str,
         words: &str,
-        is_shared: bool,
+        manner: Manner,
     ) -> Result<Outcome, AllocError> {
         match Call::read(alloc, name, words) {
-            Ok(call) => Outcome::of_call(alloc, call, is_shared),
+            Ok(call) => Outcome::of_call(alloc, call, manner),
             Err(fault) => Outcome::of_fault(alloc, &fault),
         }
     }
 
-    fn of_call(alloc: Global, call: Call, is_shared: bool) -> Result<Outcome, AllocError> {
+    fn of_call(alloc: Global, call: Call, manner: Manner) -> Result<Outcome, AllocError> {
         let mut call = call;
-        let held = if is_shared { call.hold() } else { Ok(()) };
-        let before = kept(alloc, &call, false);
-        let answer = answered(alloc, &mut call, held);
-        outcome_of(answer, before, kept(alloc, &call, false))
+        let held = if manner.is_shared {
+            call.hold()
+        } else {
+            Ok(())
+        };
+        let before = told(alloc, &call, manner);
+        let answer = answered(alloc, &mut call, held, manner);
+        outcome_of(answer, before, told(alloc, &call, manner))
     }
 }
 
@@ -84,6 +105,18 @@ fn outcome_of(answer: Texted, before: Texted, after: Texted) -> Result<Outcome, 
     }
 }
 
+// What the call leaves as it was, however long, where that is told.
+fn told(alloc: Global, call: &Call, manner: Manner) -> Texted {
+    let mut text = match manner.detail {
+        Detail::Lists => Text::of(alloc, Detail::Lists),
+        _ => Text::whole(alloc),
+    };
+    if manner.tells_operands {
+        call.write_kept(&mut text, false);
+    }
+    text.finish()
+}
+
 /// What a call leaves as it was, and what it would change, `is_refused` memory.
 pub fn kept(alloc: Global, call: &Call, is_refused: bool) -> Texted {
     let mut text = Text::whole(alloc);
@@ -92,8 +125,8 @@ pub fn kept(alloc: Global, call: &Call, is_refused: bool) -> Texted {
 }
 
 // The answer, and what the call changed in place; or why no clones are held.
-fn answered(alloc: Global, call: &mut Call, held: Result<(), Fault>) -> Texted {
-    let mut text = Text::new(alloc);
+fn answered(alloc: Global, call: &mut Call, held: Result<(), Fault>, manner: Manner) -> Texted {
+    let mut text = Text::of(alloc, manner.detail);
     match held {
         Ok(()) => write_answer(&mut text, alloc, call),
         Err(fault) => fault.write(&mut text),

@@ -3,37 +3,50 @@
 use std::alloc::{AllocError, Global};
 use std::fmt::{Debug, Display};
 
+/// How much is written of long lists, and of what masks have cached.
+#[derive(Drop, Clone, Copy)]
+pub enum Detail {
+    /// Long lists by their lengths and counts, and cached lists.
+    Short,
+    /// Each list whole, and cached lists.
+    Whole,
+    /// Each list whole, and no cached lists.
+    Lists,
+}
+
 /// A text, and whether memory was refused for a piece of it. A piece answers nothing and has no clause, so that a
 /// body that writes many is proved soon.
 #[derive(Drop)]
 pub struct Text {
     text: String,
     is_refused: bool,
-    // whether long lists are written item by item, too
-    pub(crate) is_whole: bool,
+    /// How much is written of what.
+    pub detail: Detail,
 }
 
 impl Text {
     /// An empty text.
     pub fn new(alloc: Global) -> Text {
+        Text::of(alloc, Detail::Short)
+    }
+
+    /// An empty text that takes so much of what is written.
+    pub fn of(alloc: Global, detail: Detail) -> Text {
         Text {
             text: String::new(alloc),
             is_refused: false,
-            is_whole: false,
+            detail,
         }
     }
 
     /// An empty text, into which long lists are written item by item, too.
     pub fn whole(alloc: Global) -> Text {
-        Text {
-            is_whole: true,
-            ..Text::new(alloc)
-        }
+        Text::of(alloc, Detail::Whole)
     }
 
     // Whether a list of this length is not written item by item.
     pub(crate) fn cuts(&self, len: usize) -> bool {
-        len > LONGEST && !self.is_whole
+        len > LONGEST && matches!(self.detail, Detail::Short)
     }
 
     /// The whole text.
@@ -54,9 +67,17 @@ impl Text {
 
     /// Writes a number.
     pub fn put_number(&mut self, number: usize) {
-        if write!(self.text, "{number}").is_err() {
-            self.is_refused = true;
+        let mut digits = [b'0'; 20];
+        let (mut rest, mut zeros) = (number, 20usize);
+        for digit in digits.iter_mut().rev() {
+            *digit = b'0' | (rest % 10) as u8;
+            zeros = zeros.saturating_sub(1);
+            rest /= 10;
+            if rest == 0 {
+                break;
+            }
         }
+        self.put_ascii(digits.get(zeros..));
     }
 
     /// Writes a word in hexadecimal digits.
@@ -101,6 +122,24 @@ impl Text {
     /// Writes a truth value as a digit.
     pub fn put_digit(&mut self, value: bool) {
         self.put(if value { "1" } else { "0" });
+    }
+
+    /// Writes so many bits of a word as digits, the lowest first.
+    pub fn put_bits(&mut self, word: u64, count: usize) {
+        let mut digits = [b'0'; 64];
+        let mut rest = word;
+        for digit in digits.iter_mut() {
+            *digit = b'0' | (rest & 1) as u8;
+            rest >>= 1;
+        }
+        self.put_ascii(digits.get(..count));
+    }
+
+    fn put_ascii(&mut self, bytes: Option<&[u8]>) {
+        match str::from_utf8(bytes.unwrap_or(&[])) {
+            Ok(text) => self.put(text),
+            Err(_) => self.is_refused = true,
+        }
     }
 
     /// Writes a truth value as a word.

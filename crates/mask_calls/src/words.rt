@@ -1,6 +1,6 @@
 //! What the words of a row say: numbers, lists of them, ranges, and truth values.
 
-use crate::fault::Fault;
+use crate::fault::{Fault, made};
 use std::alloc::Global;
 
 /// A number: its digits, `0x` and hexadecimal ones, `max`, or `max-1`.
@@ -39,6 +39,11 @@ pub fn named<T: Copy>(name: &str, rows: &[(&'static str, T)]) -> Option<T> {
         }
     }
     None
+}
+
+/// An empty list with room for so many items.
+pub fn with_room<T>(alloc: Global, count: usize) -> Result<Vec<T>, Fault> {
+    made(Vec::with_capacity(alloc, count))
 }
 
 /// Puts an item behind the others.
@@ -123,7 +128,7 @@ fn push_digit(list: &mut Vec<bool>, byte: u8) -> Result<(), Fault> {
 
 /// Truth values, as `10110`, or `-`.
 pub fn digits(alloc: Global, word: &str) -> Result<Vec<bool>, Fault> {
-    let mut values: Vec<bool> = Vec::new(alloc);
+    let mut values: Vec<bool> = with_room(alloc, word.len())?;
     if word != "-" {
         for byte in word.as_bytes() {
             push_digit(&mut values, *byte)?;

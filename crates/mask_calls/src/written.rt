@@ -3,7 +3,7 @@
 use crate::answer::Answer;
 use crate::bits::builder::write_built;
 use crate::bits::walks;
-use crate::text::Text;
+use crate::text::{Detail, Text};
 use mask_bits::BitBuffer;
 use std::alloc::{AllocError, Global};
 use vortex_mask::intersect_by_rank::Steps;
@@ -54,6 +54,10 @@ impl<'a> Answer<'a> {
             Answer::Selected(buffer, numbers) => walks::write_selected(text, *buffer, *numbers),
             Answer::BufferPart(buffer) => walks::write_backed(text, buffer),
             Answer::LentPart(buffer) => walks::write_backed(text, *buffer),
+            Answer::OwnSelected(buffer, numbers) => write_selected(text, buffer, *numbers),
+            Answer::EachBit(buffer) => walks::write_each(text, *buffer),
+            Answer::EachValue(mask) => write_list(text, *mask),
+            Answer::EachRank(mask) => write_ranks(text, *mask),
             _ => self.write_value(text),
         }
     }
@@ -75,6 +79,7 @@ impl<'a> Answer<'a> {
             Answer::Path(path) => text.put_debug(path),
             Answer::Display(mask) => text.put_display(*mask),
             Answer::Debug(mask) => text.put_debug(*mask),
+            Answer::DebugBits(buffer) => text.put_debug(*buffer),
             Answer::DebugValue(values) => text.put_debug(*values),
             Answer::DebugValues(values) => text.put_debug(values),
             _ => {}
@@ -94,6 +99,23 @@ fn write_list(text: &mut Text, mask: &Mask) {
     for i in 0..mask.len() {
         if i < mask.len() {
             text.put_digit(mask.value(i));
+        }
+    }
+}
+
+// The index of each true value of these numbers, and the last one.
+fn write_selected(text: &mut Text, buffer: &BitBuffer, numbers: usize) {
+    walks::write_selected(text, buffer, numbers);
+    text.put(" last ");
+    text.put_index(buffer.last_set_index());
+}
+
+// The index of each true value, by its number.
+fn write_ranks(text: &mut Text, mask: &Mask) {
+    text.put("ranks");
+    for n in 0..mask.true_count() {
+        if n < mask.true_count() {
+            text.put_next(" ", mask.rank(n));
         }
     }
 }
@@ -118,7 +140,9 @@ pub fn write_mask(text: &mut Text, mask: &Mask) {
 }
 
 fn write_uncached(text: &mut Text, mask: &Mask) {
-    if mask.len() <= MOST_VALUES || (text.is_whole && mask.values().is_some()) {
+    if !matches!(text.detail, Detail::Short) {
+        write_whole(text, mask);
+    } else if mask.len() <= MOST_VALUES {
         write_list(text, mask);
     } else if mask.values().is_some() && mask.true_count() <= MOST_INDICES {
         text.put_count(mask.len(), ":");
@@ -127,6 +151,14 @@ fn write_uncached(text: &mut Text, mask: &Mask) {
         text.put_pair(mask.true_count(), " of ", mask.len());
     }
     text.put(variant_of(mask));
+}
+
+// A mixed list whole.
+fn write_whole(text: &mut Text, mask: &Mask) {
+    match mask.values() {
+        Some(values) => write_bits(text, values.bit_buffer()),
+        None => text.put_pair(mask.true_count(), " of ", mask.len()),
+    }
 }
 
 fn write_true(text: &mut Text, mask: &Mask) {
@@ -138,6 +170,9 @@ fn write_true(text: &mut Text, mask: &Mask) {
 }
 
 fn write_lists(text: &mut Text, values: &MaskValues) {
+    if matches!(text.detail, Detail::Lists) {
+        return;
+    }
     if let Some(indices) = values.cached_indices() {
         text.put(" indices ");
         text.put_numbers(indices);
@@ -195,11 +230,12 @@ pub fn write_buffer(text: &mut Text, buffer: &BitBuffer) {
     }
 }
 
+// Word by word.
 fn write_bits(text: &mut Text, buffer: &BitBuffer) {
-    for i in 0..buffer.len() {
-        if i < buffer.len() {
-            text.put_digit(buffer.value(i));
-        }
+    let mut left = buffer.len();
+    for word in buffer.chunks().iter_padded() {
+        text.put_bits(word, left.min(64));
+        left = left.saturating_sub(64);
     }
 }
 

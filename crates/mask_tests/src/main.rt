@@ -1,9 +1,11 @@
 //! Tests of `mask_bits` and `vortex_mask` as rows of text on standard input: a row has calls, their operands, and
-//! what each of them answers. `mask_calls` reads a row and makes its calls.
+//! what each of them answers. `mask_calls` reads a row and makes its calls. With the argument `sweep` a row stands for
+//! many, as `sweep` says.
 #![tactic(auto)]
 
 mod refused;
 mod rows;
+mod sweep;
 
 use std::process::ExitCode;
 use std::rt::Env;
@@ -18,11 +20,12 @@ fn main(rt: HostRuntime) -> ExitCode {
     ExitCode::from(status(check(&rt)))
 }
 
-// Has the rows refused memory where the first argument says so.
+// The first argument says what the rows are for.
 fn check<R: Env + Input + Print + AllocGlobal>(rt: &R) -> io::Result<usize> {
     match env::args(rt)?.nth(1) {
         Some(mode) if mode.as_str() == "refused" => refused::check(rt),
-        _ => rows::check(rt),
+        Some(_) => sweep::check(rt),
+        None => rows::check(rt),
     }
 }
 

@@ -1,7 +1,7 @@
 //! Each row as it stands: its calls are made once on operands that nobody else holds, and once while a clone of each is
 //! held. Operands that a call only borrows must read the same afterwards.
 
-use mask_calls::{Outcome, Row};
+use mask_calls::{Detail, Manner, Outcome, Row};
 use std::alloc::Global;
 use std::io::{self, BufRead, BufReader};
 
@@ -61,7 +61,12 @@ fn check_call<R: Print + AllocGlobal>(
 
 // What the call answers, if that is not what is wanted.
 fn fault(alloc: Global, name: &str, row: Row<'_>, is_shared: bool) -> Option<String> {
-    match Outcome::of(alloc, name, row.words, is_shared) {
+    let manner = Manner {
+        detail: Detail::Short,
+        is_shared,
+        tells_operands: true,
+    };
+    match Outcome::of(alloc, name, row.words, manner) {
         Ok(outcome) => fault_of(outcome, row.want),
         Err(_) => Some(String::new(alloc)),
     }
@@ -69,7 +74,7 @@ fn fault(alloc: Global, name: &str, row: Row<'_>, is_shared: bool) -> Option<Str
 
 // The answer, where another one is wanted, and otherwise what an operand is after the call, where that is not what it was
 // before.
-fn fault_of(outcome: Outcome, want: &str) -> Option<String> {
+pub(crate) fn fault_of(outcome: Outcome, want: &str) -> Option<String> {
     if outcome.answer.as_str() != want {
         Some(outcome.answer)
     } else if outcome.before.as_str() != outcome.after.as_str() {

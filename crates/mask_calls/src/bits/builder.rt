@@ -64,6 +64,21 @@ pub fn freeze(builder: BitBufferMut) -> Result<BitBuffer, Fault> {
     made(builder.freeze())
 }
 
+// The buffer, which has the length that the builder said.
+fn frozen(builder: BitBufferMut) -> Result<BitBuffer, Fault> {
+    let len = builder.len();
+    match freeze(builder) {
+        Ok(buffer) => {
+            if buffer.len() == len {
+                Ok(buffer)
+            } else {
+                Err(Fault::Unmet("a buffer as long as its builder"))
+            }
+        }
+        Err(fault) => Err(fault),
+    }
+}
+
 /// A builder, or its buffer.
 #[derive(Drop)]
 pub enum Built {
@@ -92,7 +107,7 @@ impl Built {
     fn freeze(&mut self) -> Result<(), Fault> {
         match mem::replace(self, Built::Nothing) {
             Built::Builder(builder) => {
-                *self = Built::Frozen(freeze(builder)?);
+                *self = Built::Frozen(frozen(builder)?);
                 Ok(())
             }
             _ => Err(Fault::Unmet("a builder that is there")),

@@ -40,10 +40,12 @@ pub enum OfBits {
     SetSlices,
     Words,
     Padded,
+    EachValue,
+    Debug,
 }
 
 /// The names of these calls.
-pub const OF_BITS: [(&'static str, OfBits); 15] = [
+pub const OF_BITS: [(&'static str, OfBits); 17] = [
     ("clone", OfBits::Clone),
     ("not", OfBits::Not),
     ("into_not", OfBits::IntoNot),
@@ -59,6 +61,8 @@ pub const OF_BITS: [(&'static str, OfBits); 15] = [
     ("set_slices", OfBits::SetSlices),
     ("words", OfBits::Words),
     ("padded", OfBits::Padded),
+    ("each_value", OfBits::EachValue),
+    ("debug", OfBits::Debug),
 ];
 
 impl OfBits {
@@ -92,6 +96,8 @@ impl OfBits {
             OfBits::SetSlices => Ok(Answer::BitSlices(buffer.set_slices())),
             OfBits::Words => Ok(Answer::Words(buffer.chunks())),
             OfBits::Padded => Ok(Answer::PaddedWords(buffer.chunks())),
+            OfBits::EachValue => Ok(Answer::EachBit(buffer)),
+            OfBits::Debug => Ok(Answer::DebugBits(buffer)),
             _ => Ok(self.number_of(buffer)),
         }
     }

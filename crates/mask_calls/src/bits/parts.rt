@@ -4,6 +4,7 @@ use crate::answer::Answer;
 use crate::bits::Bits;
 use crate::fault::{Fault, made};
 use mask_bits::BitBuffer;
+use vortex_mask::intersect_by_rank::RankBits;
 
 pub fn slice(buffer: &BitBuffer, start: usize, end: usize) -> Result<BitBuffer, Fault> {
     if start > end || end > buffer.len() {
@@ -33,6 +34,14 @@ pub fn first_from(buffer: &BitBuffer, from: usize, value: bool) -> Result<usize,
     Ok(buffer.first_from(from, value))
 }
 
+/// `RankBits::read`.
+pub fn rank_bits(buffer: &BitBuffer, position: usize) -> Result<u64, Fault> {
+    if buffer.offset() >= 8 || position > 10_000_000 {
+        return Err(Fault::Unmet("an offset within a byte, and a position that fits"));
+    }
+    Ok(RankBits::new(buffer).read(position))
+}
+
 pub fn select(buffer: &BitBuffer, n: usize) -> Option<usize> {
     buffer.select(n)
 }
@@ -44,6 +53,7 @@ pub enum WithNumbers {
     CountRange,
     FirstFrom,
     Value,
+    RankBits,
     Select,
     // each number below this one
     SelectEach,
@@ -57,8 +67,9 @@ pub const WITH_TWO: [(&'static str, WithNumbers); 3] = [
 ];
 
 /// The names of those with one.
-pub const WITH_ONE: [(&'static str, WithNumbers); 3] = [
+pub const WITH_ONE: [(&'static str, WithNumbers); 4] = [
     ("value", WithNumbers::Value),
+    ("rank_bits", WithNumbers::RankBits),
     ("select", WithNumbers::Select),
     ("select_each", WithNumbers::SelectEach),
 ];
@@ -82,6 +93,7 @@ impl WithNumbers {
             WithNumbers::Slice => Answer::of_part_buffer(slice(buffer, first, second)),
             WithNumbers::CountRange => Answer::of_number(count_range(buffer, first, second)),
             WithNumbers::Value => Answer::of_flag(value(buffer, first)),
+            WithNumbers::RankBits => Answer::of_word(rank_bits(buffer, first)),
             WithNumbers::FirstFrom => Answer::of_number(first_from(buffer, first, second == 1)),
             WithNumbers::Select => Ok(Answer::Index(select(buffer, first))),
             WithNumbers::SelectEach => Ok(Answer::Selected(buffer, first)),

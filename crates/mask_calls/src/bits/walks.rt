@@ -1,16 +1,29 @@
 //! What buffers yield, as text.
 
 use crate::bits::parts::select;
-use crate::text::Text;
+use crate::text::{Detail, Text};
 use crate::written::write_buffer;
 use mask_bits::{BitBuffer, BitChunks, BitIterator, SetIndices, SetSlices, Words};
 
-/// Writes the list of a buffer, the bit offset that it stands at, and the bytes, the first sixteen of them.
+/// Writes the list of a buffer, and where more than lists is told the bit offset that it stands at, and the bytes, the
+/// first sixteen of them.
 pub fn write_backed(text: &mut Text, buffer: &BitBuffer) {
     write_buffer(text, buffer);
-    text.put_next(" at ", buffer.offset());
-    text.put(" of");
-    write_bytes(text, buffer.inner().as_slice());
+    if !matches!(text.detail, Detail::Lists) {
+        text.put_next(" at ", buffer.offset());
+        text.put(" of");
+        write_bytes(text, buffer.inner().as_slice());
+    }
+}
+
+// Each value by its index.
+pub(crate) fn write_each(text: &mut Text, buffer: &BitBuffer) {
+    for i in 0..buffer.len() {
+        if i < buffer.len() {
+            text.put_digit(buffer.value(i));
+        }
+    }
+    text.put(" by index");
 }
 
 fn write_bytes(text: &mut Text, bytes: &[u8]) {
@@ -92,6 +105,7 @@ fn write_walk_of_words(text: &mut Text, words: Words<'_>) {
         write_word(text, words.next());
     }
     write_hint(text, words.len(), words.size_hint());
+    write_end(text, words.next().is_none());
 }
 
 fn write_words_by_number(text: &mut Text, chunks: &BitChunks<'_>) {
@@ -111,6 +125,7 @@ pub(crate) fn write_padded(text: &mut Text, chunks: &BitChunks<'_>) {
         write_word(text, words.next());
     }
     write_hint(text, words.len(), words.size_hint());
+    write_end(text, words.next().is_none());
 }
 
 // The index of each true value of these numbers, from 0 on.

@@ -72,13 +72,13 @@ fn cache_slices(alloc: Global, mask: &mut Mask) -> Result<(), Fault> {
     }
 }
 
-/// The mask with its indices cached (`i`), its ranges (`r`), or both (`i!r`).
+/// The mask with its indices cached (`i`), its ranges (`r`), or both (`ir`).
 pub fn cached_by(alloc: Global, mask: Mask, lists: &str) -> Result<Mask, Fault> {
     let mut mask = mask;
     match lists {
         "i" => cache_indices(alloc, &mut mask)?,
         "r" => cache_slices(alloc, &mut mask)?,
-        "i!r" => {
+        "ir" => {
             cache_indices(alloc, &mut mask)?;
             cache_slices(alloc, &mut mask)?;
         }

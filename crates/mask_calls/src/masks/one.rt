@@ -84,10 +84,12 @@ pub enum Read {
     Display,
     Debug,
     DebugValues,
+    EachValue,
+    EachRank,
 }
 
 /// The names of these calls.
-pub const READS: [(&'static str, Read); 17] = [
+pub const READS: [(&'static str, Read); 19] = [
     ("mask", Read::Mask),
     ("len", Read::Len),
     ("is_empty", Read::IsEmpty),
@@ -105,6 +107,8 @@ pub const READS: [(&'static str, Read); 17] = [
     ("display", Read::Display),
     ("debug", Read::Debug),
     ("debug_values", Read::DebugValues),
+    ("each_value", Read::EachValue),
+    ("each_rank", Read::EachRank),
 ];
 
 impl OfOne {
@@ -156,6 +160,8 @@ impl Read {
             Read::SetSlices => Answer::SetSlices(mask.set_slices()),
             Read::Display => Answer::Display(mask),
             Read::Debug => Answer::Debug(mask),
+            Read::EachValue => Answer::EachValue(mask),
+            Read::EachRank => Answer::EachRank(mask),
             _ => Answer::DebugValues(mask.values()),
         }
     }

@@ -2,6 +2,8 @@
 
 use crate::answer::Answer;
 use crate::fault::{Fault, answer};
+use crate::masks::many::{concat, from_masks};
+use crate::masks::one::to_bit_buffer;
 use crate::operand::Operand;
 use std::alloc::Global;
 use vortex_mask::Mask;
@@ -28,6 +30,30 @@ pub fn groups(alloc: Global, mask: &Mask, size: usize) -> Result<Vec<Mask>, Faul
     answer(mask.groups(alloc, size))
 }
 
+/// `Mask::concat` of the groups of a mask.
+pub fn concat_groups(alloc: Global, mask: &Mask, size: usize) -> Result<Mask, Fault> {
+    match groups(alloc, mask, size) {
+        Ok(masks) => concat(alloc, &masks),
+        Err(fault) => Err(fault),
+    }
+}
+
+/// `Mask::from_masks` of the groups of a mask.
+pub fn from_groups(alloc: Global, mask: &Mask, size: usize) -> Result<Mask, Fault> {
+    match groups(alloc, mask, size) {
+        Ok(masks) => from_masks(alloc, masks),
+        Err(fault) => Err(fault),
+    }
+}
+
+/// The buffer of a mask, by a call that copies.
+fn selected<'a>(alloc: Global, mask: &Mask, numbers: usize) -> Result<Answer<'a>, Fault> {
+    match to_bit_buffer(alloc, mask) {
+        Ok(buffer) => Ok(Answer::OwnSelected(buffer, numbers)),
+        Err(fault) => Err(fault),
+    }
+}
+
 pub fn value(mask: &Mask, index: usize) -> Result<bool, Fault> {
     if index >= mask.len() {
         return Err(Fault::Unmet("an index within the mask"));
@@ -49,15 +75,22 @@ pub enum WithNumbers {
     Limit,
     ToLimited,
     Groups,
+    ConcatGroups,
+    FromGroups,
+    // each number below this one, in the mask's buffer
+    EachSelected,
     Value,
     Rank,
 }
 
 /// The names of those with one.
-pub const WITH_NUMBER: [(&'static str, WithNumbers); 5] = [
+pub const WITH_NUMBER: [(&'static str, WithNumbers); 8] = [
     ("limit", WithNumbers::Limit),
     ("to_limited", WithNumbers::ToLimited),
     ("groups", WithNumbers::Groups),
+    ("concat_groups", WithNumbers::ConcatGroups),
+    ("from_groups", WithNumbers::FromGroups),
+    ("each_selected", WithNumbers::EachSelected),
     ("value", WithNumbers::Value),
     ("rank", WithNumbers::Rank),
 ];
@@ -77,12 +110,29 @@ impl WithNumbers {
         second: usize,
     ) -> Result<Answer<'a>, Fault> {
         match self {
-            WithNumbers::Slice => Answer::of_mask(slice(alloc, &operand.mask, first, second)),
             WithNumbers::Limit => Answer::of_mask(limit(alloc, operand.take(), first)),
-            WithNumbers::ToLimited => Answer::of_mask(to_limited(alloc, &operand.mask, first)),
-            WithNumbers::Groups => Answer::of_masks(groups(alloc, &operand.mask, first)),
-            WithNumbers::Value => Answer::of_flag(value(&operand.mask, first)),
-            WithNumbers::Rank => Answer::of_number(rank(&operand.mask, first)),
+            _ => self.of_lent(alloc, &operand.mask, first, second),
+        }
+    }
+
+    fn of_lent<'a>(
+        self,
+        alloc: Global,
+        mask: &'a Mask,
+        first: usize,
+        second: usize,
+    ) -> Result<Answer<'a>, Fault> {
+        match self {
+            WithNumbers::Slice => Answer::of_mask(slice(alloc, mask, first, second)),
+            WithNumbers::Limit | WithNumbers::ToLimited => Answer::of_mask(to_limited(
+                alloc, mask, first,
+            )),
+            WithNumbers::Groups => Answer::of_masks(groups(alloc, mask, first)),
+            WithNumbers::ConcatGroups => Answer::of_mask(concat_groups(alloc, mask, first)),
+            WithNumbers::FromGroups => Answer::of_mask(from_groups(alloc, mask, first)),
+            WithNumbers::EachSelected => selected(alloc, mask, first),
+            WithNumbers::Value => Answer::of_flag(value(mask, first)),
+            WithNumbers::Rank => Answer::of_number(rank(mask, first)),
         }
     }
 }

@@ -2,6 +2,7 @@
 
 use crate::answer::Answer;
 use crate::fault::Fault;
+use mask_bits::extract::extract;
 use vortex_mask::intersect_by_rank::{
     DepositBits, ExtractBits, Portable, PortableLoop, SelectBit, deposit_bytewise,
     deposit_two_holes, deposit_two_lowest,
@@ -45,17 +46,19 @@ pub enum OfWords {
     TwoLowest,
     TwoHoles,
     Extract,
+    ExtractPlain,
     Select,
 }
 
 /// The names of these calls.
-pub const OF_WORDS: [(&'static str, OfWords); 7] = [
+pub const OF_WORDS: [(&'static str, OfWords); 8] = [
     ("deposit", OfWords::Deposit),
     ("deposit_by_loop", OfWords::DepositByLoop),
     ("deposit_bytewise", OfWords::Bytewise),
     ("deposit_two_lowest", OfWords::TwoLowest),
     ("deposit_two_holes", OfWords::TwoHoles),
     ("extract", OfWords::Extract),
+    ("extract_by_bits", OfWords::ExtractPlain),
     ("select", OfWords::Select),
 ];
 
@@ -70,6 +73,7 @@ impl OfWords {
             OfWords::TwoLowest => Answer::of_word(two_lowest(source, mask)),
             OfWords::TwoHoles => Answer::of_word(two_holes(source, mask)),
             OfWords::Extract => Ok(Answer::Word(extract_bits(source, mask))),
+            OfWords::ExtractPlain => Ok(Answer::Word(extract(source, mask))),
             OfWords::Select => Answer::of_number(select(source, second)),
         }
     }

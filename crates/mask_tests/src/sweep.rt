@@ -1,0 +1,206 @@
+//! Rows that stand for many. In a row `@` and `%` are put before operands, and stand for each of their forms in turn:
+//! the lines `@ FORM ..` and `% FORM ..` say which, for all rows below. So `@ 0+ 1- rows:` and `not @10110 => 01001 Values`
+//! are three calls. The name of a call may end in `&`: a clone of each operand is then held, and the operands must read the
+//! same after the call. Each list of an answer is written whole, and with `=>` in place of `->` without what masks
+//! have cached.
+
+use crate::rows::fault_of;
+use mask_calls::words::halves;
+use mask_calls::{Detail, Manner, Outcome, Row, Text};
+use std::alloc::{AllocError, Global};
+use std::io::{self, BufRead, BufReader};
+
+// How many wrong answers are told.
+const MOST: usize = 20;
+
+// The forms of both marks.
+#[derive(Drop)]
+struct Marks {
+    first: Vec<String>,
+    second: Vec<String>,
+}
+
+// What was counted.
+#[derive(Drop)]
+struct Count {
+    rows: usize,
+    calls: usize,
+    wrong: usize,
+}
+
+// A call of a row.
+#[derive(Drop, Clone, Copy)]
+struct Case<'a> {
+    name: &'a str,
+    words: &'a str,
+    want: &'a str,
+    manner: Manner,
+}
+
+/// Makes each call, says which answer otherwise, and how many rows and calls there are. How many calls were wrong.
+pub(crate) fn check<R: Input + Print + AllocGlobal>(rt: &R) -> io::Result<usize> {
+    let mut marks = Marks {
+        first: forms(rt.alloc(), "")?,
+        second: forms(rt.alloc(), "")?,
+    };
+    let mut count = Count {
+        rows: 0,
+        calls: 0,
+        wrong: 0,
+    };
+    for line in BufReader::new(rt.alloc(), rt.reader())?.lines(rt.alloc()) {
+        check_line(rt, &mut marks, &mut count, line?.as_str())?;
+    }
+    println!(rt;
+        "{} rows, {} calls, {} wrong",
+        count.rows, count.calls, count.wrong
+    )?;
+    Ok(count.wrong)
+}
+
+// Words with a space between two.
+fn forms(alloc: Global, line: &str) -> Result<Vec<String>, AllocError> {
+    let mut forms: Vec<String> = Vec::new(alloc);
+    for word in line.split(' ') {
+        forms.push(String::from_str(alloc, word)?)?;
+    }
+    Ok(forms)
+}
+
+fn check_line<R: Print + AllocGlobal>(
+    rt: &R,
+    marks: &mut Marks,
+    count: &mut Count,
+    line: &str,
+) -> io::Result<()> {
+    match halves(line, " ") {
+        Some(("@", list)) => marks.first = forms(rt.alloc(), list)?,
+        Some(("%", list)) => marks.second = forms(rt.alloc(), list)?,
+        _ => check_row(rt, marks, count, line)?,
+    }
+    Ok(())
+}
+
+fn check_row<R: Print + AllocGlobal>(
+    rt: &R,
+    marks: &Marks,
+    count: &mut Count,
+    line: &str,
+) -> io::Result<()> {
+    count.rows = count.rows.saturating_add(1);
+    match read(line) {
+        Some((row, detail)) => check_names(rt, marks, count, row, detail),
+        None => {
+            count.wrong = count.wrong.saturating_add(1);
+            println!(rt; "no row: {line}")
+        }
+    }
+}
+
+// The parts of a line, and how much is told of lists.
+fn read<'a>(line: &'a str) -> Option<(Row<'a>, Detail)> {
+    match Row::around(line, " => ") {
+        Some(row) => Some((row, Detail::Lists)),
+        None => match Row::read(line) {
+            Some(row) => Some((row, Detail::Whole)),
+            None => None,
+        },
+    }
+}
+
+fn check_names<R: Print + AllocGlobal>(
+    rt: &R,
+    marks: &Marks,
+    count: &mut Count,
+    row: Row<'_>,
+    detail: Detail,
+) -> io::Result<()> {
+    for name in row.names.split(',') {
+        check_first(rt, marks, count, case_of(name, row, detail))?;
+    }
+    Ok(())
+}
+
+fn case_of<'a>(name: &'a str, row: Row<'a>, detail: Detail) -> Case<'a> {
+    let shared = name.strip_suffix("&");
+    let is_shared = shared.is_some();
+    Case {
+        name: shared.unwrap_or(name),
+        words: row.words,
+        want: row.want,
+        manner: Manner {
+            detail,
+            is_shared,
+            tells_operands: is_shared,
+        },
+    }
+}
+
+// With each form of the first mark.
+fn check_first<R: Print + AllocGlobal>(
+    rt: &R,
+    marks: &Marks,
+    count: &mut Count,
+    case: Case<'_>,
+) -> io::Result<()> {
+    for form in forms_of(&marks.first, case.words, "@") {
+        let words = filled(rt.alloc(), case.words, "@", form)?;
+        check_second(rt, marks, count, case, words.as_str())?;
+    }
+    Ok(())
+}
+
+// With each form of the second one.
+fn check_second<R: Print + AllocGlobal>(
+    rt: &R,
+    marks: &Marks,
+    count: &mut Count,
+    case: Case<'_>,
+    words: &str,
+) -> io::Result<()> {
+    for form in forms_of(&marks.second, words, "%") {
+        let words = filled(rt.alloc(), words, "%", form)?;
+        check_call(rt, count, case, words.as_str())?;
+    }
+    Ok(())
+}
+
+// Where the mark isn't there, one of them.
+fn forms_of<'a>(forms: &'a [String], words: &str, mark: &str) -> &'a [String] {
+    if words.contains(mark) {
+        forms
+    } else {
+        forms.get(..1).unwrap_or(forms)
+    }
+}
+
+// The words with a form in place of the mark.
+fn filled(alloc: Global, words: &str, mark: &str, form: &str) -> Result<String, AllocError> {
+    let mut text = Text::new(alloc);
+    match halves(words, mark) {
+        Some((before, behind)) => {
+            text.put(before);
+            text.put(form);
+            text.put(behind);
+        }
+        None => text.put(words),
+    }
+    text.finish()
+}
+
+fn check_call<R: Print + AllocGlobal>(
+    rt: &R,
+    count: &mut Count,
+    case: Case<'_>,
+    words: &str,
+) -> io::Result<()> {
+    count.calls = count.calls.saturating_add(1);
+    let outcome = Outcome::of(rt.alloc(), case.name, words, case.manner)?;
+    if let Some(fault) = fault_of(outcome, case.want) {
+        count.wrong = count.wrong.saturating_add(1);
+        if count.wrong <= MOST {
+            println!(rt; "{} {words}: {fault} for {}", case.name, case.want)?;
+        }
+    }
+    Ok(())
+}
