@@ -1,0 +1,224 @@
+"""Lists of truth values as texts of digits, as `10110`, and what each call makes of them, by plain loops.
+
+A mask of no values is held as `AllTrue` or as `AllFalse`, by how it was made: so a plain mask is a list, and whether
+it is held as `AllTrue`.
+"""
+from typing import NamedTuple
+
+MAX = 2**64 - 1
+
+
+class Mask(NamedTuple):
+    values: str
+    is_all_true: bool
+
+
+def mask(values, if_empty=False):
+    """A mask of these values, which is held as `AllTrue` if they are all true, and of no values if that is said."""
+    return Mask(values, "0" not in values if values else if_empty)
+
+
+# ---- lists
+
+def repeating(length, period, trues):
+    """Of each `period` values the first `trues` are true."""
+    one = "1" * trues + "0" * (period - trues)
+    return (one * (length // period + 1))[:length]
+
+
+def words(state):
+    """64-bit words at random, from a state that is not 0."""
+    while True:
+        state ^= state << 13 & MAX
+        state ^= state >> 7
+        state ^= state << 17 & MAX
+        yield state
+
+
+def drawn(source, length, by, first, end):
+    """A value is true where what is left of its word by `by` is from `first` on and below `end`."""
+    return "".join("1" if first <= next(source) % by < end else "0" for _ in range(length))
+
+
+def odd(source, length):
+    return drawn(source, length, 2, 1, 2)
+
+
+def three_in_five(source, length):
+    return drawn(source, length, 5, 0, 3)
+
+
+def two_in_three(source, length):
+    return drawn(source, length, 3, 1, 3)
+
+
+def bits_of(word):
+    """The bits of a word, the lowest first."""
+    return "".join("1" if word >> i & 1 else "0" for i in range(64))
+
+
+def word_of(values):
+    return int(values[::-1], 2) if values else 0
+
+
+def words_of(values):
+    return [word_of(values[i : i + 64]) for i in range(0, len(values), 64)]
+
+
+def negated(values):
+    return values.translate({ord("0"): "1", ord("1"): "0"})
+
+
+def negated_at(values, i):
+    return values[:i] + negated(values[i : i + 1]) + values[i + 1 :]
+
+
+# ---- what is found in a list
+
+def indices(values):
+    return [i for i, it in enumerate(values) if it == "1"]
+
+
+def ranges(values):
+    found = []
+    for i in indices(values):
+        if found and found[-1][1] == i:
+            found[-1] = found[-1][0], i + 1
+        else:
+            found.append((i, i + 1))
+    return found
+
+
+def counts(values):
+    """How many true values stand before each value, and in all."""
+    found, count = [], 0
+    for it in values:
+        found.append(count)
+        count += it == "1"
+    return found + [count]
+
+
+# ---- what is made of lists
+
+AND = {"00": "0", "01": "0", "10": "0", "11": "1"}
+OR = {"00": "0", "01": "1", "10": "1", "11": "1"}
+AND_NOT = {"00": "0", "01": "0", "10": "1", "11": "0"}
+
+
+def combined(op, a, b):
+    return "".join(op[x + y] for x, y in zip(a, b))
+
+
+def narrowed(rows, ranks):
+    """The values of `rows`, of which true value number n stays where value n of `ranks` is true."""
+    rank = iter(ranks)
+    return "".join(next(rank) if it == "1" else "0" for it in rows)
+
+
+def limited(values, k):
+    """The values, of which the first k true ones stay."""
+    count = 0
+    for i, it in enumerate(values):
+        if count == k:
+            return values[:i] + "0" * (len(values) - i)
+        count += it == "1"
+    return values
+
+
+def at_rows(rows, values):
+    """The values at the true ones of `rows`."""
+    return "".join(it for row, it in zip(rows, values) if row == "1")
+
+
+# ---- words
+
+def deposit(source, places):
+    """The low bits of `source`, one after another, at the set places."""
+    found, count = 0, 0
+    for place in range(64):
+        if places >> place & 1:
+            found |= (source >> count & 1) << place
+            count += 1
+    return found
+
+
+def extract(source, places):
+    """The bits of `source` at the set places, one after another."""
+    found, count = 0, 0
+    for place in range(64):
+        if places >> place & 1:
+            found |= (source >> place & 1) << count
+            count += 1
+    return found
+
+
+# ---- the same of masks, with how they are held if there are no values
+
+def combined_masks(op, a, b):
+    return mask(combined(op, a.values, b.values), op["01"[a.is_all_true] + "01"[b.is_all_true]] == "1")
+
+
+def not_mask(a):
+    return mask(negated(a.values), not a.is_all_true)
+
+
+def narrowed_mask(rows, ranks):
+    return mask(narrowed(rows.values, ranks.values), rows.is_all_true and ranks.is_all_true)
+
+
+def part(a, start, end):
+    return mask(a.values[start:end], a.is_all_true)
+
+
+def groups(a, size):
+    return [part(a, start, start + size) for start in range(0, len(a.values), size)]
+
+
+# ---- texts, as the rows say them
+
+def text(values):
+    return values or "-"
+
+
+def mask_text(a):
+    count, length = a.values.count("1"), len(a.values)
+    if 0 < count < length:
+        return f"{a.values} Values"
+    return f"{count} of {length} " + ("AllTrue" if a.is_all_true else "AllFalse")
+
+
+def numbers_text(numbers):
+    return ",".join(map(str, numbers)) or "-"
+
+
+def ranges_text(found):
+    return ",".join(f"{start}..{end}" for start, end in found) or "-"
+
+
+def cached_text(a, caches):
+    """The mask with what it has cached, if it is mixed: `i` its indices, `r` its ranges."""
+    text = mask_text(a)
+    if text.endswith(" Values"):
+        text += f" indices {numbers_text(indices(a.values))}" * ("i" in caches)
+        text += f" ranges {ranges_text(ranges(a.values))}" * ("r" in caches)
+    return text
+
+
+def masks_text(masks):
+    return " ".join([f"{len(masks)}:", *map(mask_text, masks)])
+
+
+def lent_text(a, kind, found):
+    """A list that a mask lends, and the mask after it."""
+    count, length = a.values.count("1"), len(a.values)
+    lent = f"{kind} {found}" if 0 < count < length else "All" if a.is_all_true else "None"
+    return f"{lent} then {mask_text(a)}"
+
+
+def walk_text(values):
+    """Each value with how many are left, and how many past the last."""
+    return "".join(f"{len(values) - i}:{it} " for i, it in enumerate(values)) + "0"
+
+
+def index_text(found, n):
+    return str(found[n]) if 0 <= n < len(found) else "none"
