@@ -103,8 +103,8 @@ impl Call {
         }
     }
 
-    /// Writes what the call leaves as it was, and, `is_refused` memory, what it would change in place: the operands
-    /// that are lent, and the clones that are held.
+    /// Writes what the call leaves as it was: operands that are lent, and clones that are held. Where it `is_refused`
+    /// memory, these are also the operands that it changes in place.
     pub fn write_kept(&self, text: &mut Text, is_refused: bool) {
         match self {
             Call::OfOne(call, a) => a.write_kept(text, call.lends()),

@@ -117,7 +117,7 @@ fn told(alloc: Global, call: &Call, manner: Manner) -> Texted {
     text.finish()
 }
 
-/// What a call leaves as it was, and what it would change, `is_refused` memory.
+/// What a call leaves as it was, by `Call::write_kept`, with no list cut.
 pub fn kept(alloc: Global, call: &Call, is_refused: bool) -> Texted {
     let mut text = Text::whole(alloc);
     call.write_kept(&mut text, is_refused);

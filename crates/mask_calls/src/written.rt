@@ -5,18 +5,10 @@ use crate::bits::builder::write_built;
 use crate::bits::walks;
 use crate::text::{Detail, Text};
 use mask_bits::BitBuffer;
-use std::alloc::{AllocError, Global};
 use vortex_mask::intersect_by_rank::Steps;
 use vortex_mask::{AllOr, Mask, MaskBoolIter, MaskIter, MaskSetIndices, MaskSetSlices, MaskValues};
 
 impl<'a> Answer<'a> {
-    /// The answer as a row says it.
-    pub fn text(&self, alloc: Global) -> Result<String, AllocError> {
-        let mut text = Text::new(alloc);
-        self.write(&mut text);
-        text.finish()
-    }
-
     // A walk is at its end after that.
     pub(crate) fn write_walk(self, text: &mut Text) {
         match self {
