@@ -16,11 +16,11 @@ pub(crate) fn check<R: Input + Print + AllocGlobal>(rt: &R) -> io::Result<usize>
 }
 
 fn say<R: Print>(rt: &R, line: &str) {
-    if println!(rt; "{line}").is_err() {}
+    let _ = println!(rt; "{line}");
 }
 
 fn say_of<R: Print>(rt: &R, what: &str, of: &str) {
-    if println!(rt; "{what} {of}").is_err() {}
+    let _ = println!(rt; "{what} {of}");
 }
 
 fn check_line<R: Print + AllocGlobal>(rt: &R, line: &str) {
