@@ -60,8 +60,7 @@ def mask(values, caches=""):
     """A mask as a row writes it."""
     if 0 < sum(values) < len(values):
         return mixed(values, caches, " Values")
-    shown = digits(values) if len(values) <= 80 else f"{sum(values)} of {len(values)}"
-    return f"{shown} {'AllTrue' if values and all(values) else 'AllFalse'}"
+    return f"{sum(values)} of {len(values)} {'AllTrue' if values and all(values) else 'AllFalse'}"
 
 
 def limited(values, most):
