@@ -11,7 +11,7 @@ from pathlib import Path
 ROOT = Path(__file__).resolve().parent.parent
 CRATES = ROOT / "crates"
 # Crates that have nothing but tests.
-TEST_CRATES = "mask_calls", "mask_tests", "refusals", "uses_tests"
+TEST_CRATES = "mask_calls", "mask_tests", "uses_tests"
 
 
 class Function:
