@@ -3,6 +3,9 @@
 A mask of no values is held as `AllTrue` or as `AllFalse`, by how it was made: so a plain mask is a list, and whether
 it is held as `AllTrue`.
 """
+import re
+from functools import lru_cache
+from itertools import compress
 from typing import NamedTuple
 
 MAX = 2**64 - 1
@@ -75,18 +78,18 @@ def negated_at(values, i):
 
 # ---- what is found in a list
 
+# Of a digit, as a byte, its bit.
+BITS = bytes(digit & 1 for digit in range(256))
+
+
+@lru_cache(8)
 def indices(values):
-    return [i for i, it in enumerate(values) if it == "1"]
+    return [*compress(range(len(values)), values.encode().translate(BITS))]
 
 
+@lru_cache(8)
 def ranges(values):
-    found = []
-    for i in indices(values):
-        if found and found[-1][1] == i:
-            found[-1] = found[-1][0], i + 1
-        else:
-            found.append((i, i + 1))
-    return found
+    return [it.span() for it in re.finditer("1+", values)]
 
 
 def counts(values):
@@ -100,34 +103,35 @@ def counts(values):
 
 # ---- what is made of lists
 
-AND = {"00": "0", "01": "0", "10": "0", "11": "1"}
-OR = {"00": "0", "01": "1", "10": "1", "11": "1"}
-AND_NOT = {"00": "0", "01": "0", "10": "1", "11": "0"}
+# Of whole lists at once, each as the number with its bits.
+AND, OR = int.__and__, int.__or__
+
+
+def AND_NOT(a, b):
+    return a & ~b
 
 
 def combined(op, a, b):
-    return "".join(op[x + y] for x, y in zip(a, b))
+    return f"{op(word_of(a), word_of(b)):0{len(a)}b}"[::-1][: len(a)]
 
 
 def narrowed(rows, ranks):
     """The values of `rows`, of which true value number n stays where value n of `ranks` is true."""
-    rank = iter(ranks)
-    return "".join(next(rank) if it == "1" else "0" for it in rows)
+    between = rows.split("1")
+    found = [""] * (2 * len(between) - 1)
+    found[::2], found[1::2] = between, ranks
+    return "".join(found)
 
 
 def limited(values, k):
     """The values, of which the first k true ones stay."""
-    count = 0
-    for i, it in enumerate(values):
-        if count == k:
-            return values[:i] + "0" * (len(values) - i)
-        count += it == "1"
-    return values
+    end = max(indices(values)[:k], default=-1) + 1
+    return values[:end] + "0" * (len(values) - end)
 
 
 def at_rows(rows, values):
     """The values at the true ones of `rows`."""
-    return "".join(it for row, it in zip(rows, values) if row == "1")
+    return "".join(values[i] for i in indices(rows))
 
 
 # ---- words
@@ -155,7 +159,7 @@ def extract(source, places):
 # ---- the same of masks, with how they are held if there are no values
 
 def combined_masks(op, a, b):
-    return mask(combined(op, a.values, b.values), op["01"[a.is_all_true] + "01"[b.is_all_true]] == "1")
+    return mask(combined(op, a.values, b.values), bool(op(a.is_all_true, b.is_all_true)))
 
 
 def not_mask(a):
