@@ -1,5 +1,5 @@
 //! The bitmap that is written beside a column, where its rows are not all alike, and bitmaps as they are read.
-ghost use Rattle.std.specs.Prelude.{ℕ, ◌≡◌, ◌≢◌, ◌↔◌, ◌+◌, ◌*◌, ◌<◌, ◌≤◌, ◌^◌, All, IfOk, IfSome, IsOk, IsTrue, false, length, nat_eq, slice_index_or, true, vec_len};
+ghost use Rattle.std.specs.Prelude.{ℕ, ◌≡◌, ◌≢◌, ◌↔◌, ◌+◌, ◌*◌, ◌<◌, ◌≤◌, ◌^◌, All, IfOk, IfSome, IsOk, IsTrue, false, length, slice_index_or, true, vec_len};
 ghost use Rattle.mask_bits.specs.Bitmap.{bitmap};
 ghost use Rattle.mask_bits.specs.Buffer.{values};
 ghost use Rattle.mask_bits.specs.Lists.{and_of};
@@ -41,7 +41,11 @@ pub fn valid_in_both(
     requires second { rows ≤ 8 * length second }
     ensures { IfOk result (λ b. values b ≡ and_of (bitmap first 0 rows) (bitmap second 0 rows)) }
 {
-    BitBuffer::new(first, rows).bitand(alloc, &BitBuffer::new(second, rows))
+    true_in_both(
+        alloc,
+        BitBuffer::new(first, rows),
+        BitBuffer::new(second, rows),
+    )
 }
 
 /// The rows that are valid in both of two columns, where the first bitmap was written by the caller and
@@ -61,7 +65,19 @@ pub fn valid_in_part(
         (bitmap column start rows)) }
 {
     let written = BitBuffer::from_vec(written, rows)?;
-    written.bitand(alloc, &BitBuffer::new_with_offset(column, start, rows))
+    true_in_both(
+        alloc,
+        written,
+        BitBuffer::new_with_offset(column, start, rows),
+    )
+}
+
+// The `and` of two bitmaps that are not read again.
+fn true_in_both(alloc: Global, first: BitBuffer, second: BitBuffer) -> Result<BitBuffer, AllocError>
+    requires { length (values first) ≡ length (values second) }
+    ensures { IfOk result (λ b. values b ≡ and_of (values first) (values second)) }
+{
+    first.bitand(alloc, &second)
 }
 
 /// A bitmap of valid rows with one row taken out of it.
@@ -80,8 +96,9 @@ pub fn without_row(alloc: Global, valid: &BitBuffer, row: usize) -> Result<BitBu
 fn one_row(alloc: Global, rows: usize, row: usize) -> Result<BitBuffer, AllocError>
     requires { row < rows }
     ensures len { IfOk result (λ b. length (values b) ≡ rows) }
-    ensures values { IfOk result (λ b. (i : ℕ) → i < rows
-        → slice_index_or (values b) i false ≡ nat_eq i row) }
+    ensures row { IfOk result (λ b. slice_index_or (values b) row false ≡ true) }
+    ensures others { IfOk result (λ b. (i : ℕ) → i < rows → i ≢ row
+        → slice_index_or (values b) i false ≡ false) }
 {
     laws::true_at_indices();
     BitBuffer::from_indices(alloc, rows, &[row])
