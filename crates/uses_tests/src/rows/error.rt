@@ -1,17 +1,12 @@
 // The texts of faults.
-use super::helpers::found;
+use super::helpers::{found, reads};
 use std::alloc::{AllocError, Global};
 use std::process::Abort;
 use vortex_mask::MaskError;
 
-fn reads(rt: &impl Abort, alloc: Global, error: &MaskError, want: &str) {
-    let text = found(rt, format!(in alloc; "{error}"));
-    assert!(rt; text.as_str() == want, "{text} for {want}");
-}
-
 fn reads_each(rt: &impl Abort, alloc: Global, rows: &[(MaskError, &str)]) {
     for (error, want) in rows {
-        reads(rt, alloc, error, want);
+        reads(rt, &found(rt, format!(in alloc; "{error}")), want);
     }
 }
 

@@ -1,83 +1,71 @@
 // Rows that masks choose.
-use super::helpers::{buffer, found, lists, mask};
+use super::helpers::{are, buffer, found, has_list, has_rows, mask};
+use mask_bits::BitBuffer;
 use std::alloc::Global;
 use std::process::Abort;
 use uses::own_deposit::{InTurn, WholeWords};
 use uses::{chunks, column_filter, columns, filter, gather, limits, own_deposit, selected};
-use vortex_mask::Mask;
-
-type Row = (&'static str, &'static [u8]);
+use vortex_mask::{Mask, MaskError};
 
 const FIVE: &str = "10011101";
 
-fn filters(rt: &impl Abort, alloc: Global, (text, want): Row) {
-    let mut mask = mask(rt, alloc, text);
+fn filters(rt: &impl Abort, alloc: Global, mask: &mut Mask, want: &[u8]) {
     assert!(rt; mask.len() == 5);
-    let rows = found(rt, filter::filtered(alloc, &[3, 1, 4, 1, 5], &mut mask));
-    assert!(rt; rows.as_slice() == want);
+    let rows = filter::filtered(alloc, &[3, 1, 4, 1, 5], mask);
+    has_rows(rt, rows, want);
 }
 
 #[test]
 fn five_rows(rt: HostRuntime) {
-    const ROWS: [Row; 4] = [
-        ("11111", &[3, 1, 4, 1, 5]),
-        ("00000", &[]),
-        ("10110", &[3, 4, 1]),
-        ("01001", &[1, 5]),
-    ];
-    for row in ROWS {
-        filters(&rt, rt.alloc(), row);
-    }
+    let (rt, alloc) = (&rt, rt.alloc());
+    filters(rt, alloc, &mut mask(rt, alloc, "11111"), &[3, 1, 4, 1, 5]);
+    filters(rt, alloc, &mut mask(rt, alloc, "00000"), &[]);
+    filters(rt, alloc, &mut mask(rt, alloc, "10110"), &[3, 4, 1]);
+    filters(rt, alloc, &mut mask(rt, alloc, "01001"), &[1, 5]);
 }
 
-fn gathers(rt: &impl Abort, alloc: Global, (text, want): Row) {
-    let mask = mask(rt, alloc, text);
+fn gathers(rt: &impl Abort, alloc: Global, mask: &Mask, want: &[u8]) {
     assert!(rt; mask.len() == 4);
-    let rows = found(rt, gather::gathered(alloc, &[3, 1, 4, 1], &mask));
-    assert!(rt; rows.as_slice() == want);
+    has_rows(rt, gather::gathered(alloc, &[3, 1, 4, 1], mask), want);
 }
 
 #[test]
 fn four_rows(rt: HostRuntime) {
-    const ROWS: [Row; 3] = [("1111", &[3, 1, 4, 1]), ("0000", &[]), ("1010", &[3, 4])];
-    for row in ROWS {
-        gathers(&rt, rt.alloc(), row);
-    }
+    let (rt, alloc) = (&rt, rt.alloc());
+    gathers(rt, alloc, &mask(rt, alloc, "1111"), &[3, 1, 4, 1]);
+    gathers(rt, alloc, &mask(rt, alloc, "0000"), &[]);
+    gathers(rt, alloc, &mask(rt, alloc, "1010"), &[3, 4]);
 }
 
 fn above_two(rt: &impl Abort, alloc: Global) {
     let rows = [3, 1, 4, 1, 5];
-    let all = found(rt, column_filter::filtered(alloc, &rows, 2));
-    assert!(rt; all.as_slice() == [3, 4, 5].as_slice());
-    let first = found(rt, column_filter::first_filtered(alloc, &rows, 2, 2));
-    assert!(rt; first.as_slice() == [3, 4].as_slice());
+    has_rows(rt, column_filter::filtered(alloc, &rows, 2), &[3, 4, 5]);
+    let first = column_filter::first_filtered(alloc, &rows, 2, 2);
+    has_rows(rt, first, &[3, 4]);
 }
 
-fn of_two_columns(rt: &impl Abort, alloc: Global) {
-    let mask = mask(rt, alloc, "1011");
+fn has_columns(rt: &impl Abort, answer: Result<(Vec<&str>, Vec<u8>), MaskError>) {
+    let (names, ages) = found(rt, answer);
+    are(rt, &names, &["a", "c", "d"]);
+    are(rt, &ages, &[3, 4, 1]);
+}
+
+fn of_two_columns(rt: &impl Abort, alloc: Global, mask: &Mask) {
     assert!(rt; mask.len() == 4);
-    let (names, ages) = found(
-        rt,
-        columns::filtered(alloc, &mask, &["a", "b", "c", "d"], &[3, 1, 4, 1]),
-    );
-    assert!(rt; names.as_slice() == ["a", "c", "d"].as_slice());
-    assert!(rt; ages.as_slice() == [3, 4, 1].as_slice());
+    let names = ["a", "b", "c", "d"];
+    has_columns(rt, columns::filtered(alloc, mask, &names, &[3, 1, 4, 1]));
 }
 
 fn of_two_chunks(rt: &impl Abort, alloc: Global, first: &Mask, second: &Mask) {
     assert!(rt; first.len() == 2 && second.len() == 3);
-    let rows = found(
-        rt,
-        chunks::filtered(alloc, &[3, 1], first, &[4, 1, 5], second),
-    );
-    assert!(rt; rows.as_slice() == [3, 4, 5].as_slice());
+    let rows = chunks::filtered(alloc, &[3, 1], first, &[4, 1, 5], second);
+    has_rows(rt, rows, &[3, 4, 5]);
 }
 
 // The rows that masks of chunks choose, by one call.
 fn of_chunks(rt: &impl Abort, alloc: Global, chunks: &[(&[u8], &Mask)]) {
     assert!(rt; chunks.iter().all(|chunk| chunk.0.len() == chunk.1.len()));
-    let rows = found(rt, chunks::filtered_all(alloc, chunks));
-    assert!(rt; rows.as_slice() == [3, 4, 5].as_slice());
+    has_rows(rt, chunks::filtered_all(alloc, chunks), &[3, 4, 5]);
 }
 
 fn of_chunk_list(rt: &impl Abort, alloc: Global, rows: (&[u8], &[u8]), masks: (&Mask, &Mask)) {
@@ -88,7 +76,7 @@ fn of_chunk_list(rt: &impl Abort, alloc: Global, rows: (&[u8], &[u8]), masks: (&
 fn columns_and_chunks(rt: HostRuntime) {
     let alloc = rt.alloc();
     above_two(&rt, alloc);
-    of_two_columns(&rt, alloc);
+    of_two_columns(&rt, alloc, &mask(&rt, alloc, "1011"));
     let (first, second) = (mask(&rt, alloc, "10"), mask(&rt, alloc, "101"));
     of_two_chunks(&rt, alloc, &first, &second);
     of_chunk_list(&rt, alloc, (&[3, 1], &[4, 1, 5]), (&first, &second));
@@ -98,29 +86,22 @@ fn columns_and_chunks(rt: HostRuntime) {
 
 fn first_of_both(rt: &impl Abort, alloc: Global, first: &Mask, second: &Mask) {
     assert!(rt; second.len() == first.true_count());
-    let both = found(rt, limits::first_of_both(alloc, first, second, 1));
-    lists(rt, &both, "00001000");
+    let both = limits::first_of_both(alloc, first, second, 1);
+    has_list(rt, both, "00001000");
 }
 
 fn first_indices(rt: &impl Abort, alloc: Global, first: &Mask) {
-    let indices = found(rt, limits::first_indices(alloc, first, 2));
-    assert!(rt; indices.as_slice() == [0, 3].as_slice());
+    has_rows(rt, limits::first_indices(alloc, first, 2), &[0, 3]);
 }
 
-fn limited(rt: &impl Abort, alloc: Global, (k, want, indices): (usize, &str, &[usize])) {
-    let filter = mask(rt, alloc, FIVE);
-    lists(
-        rt,
-        &found(rt, limits::limited_filter(alloc, &filter, k)),
-        want,
-    );
-    let first = found(rt, limits::indices_of_first(alloc, &filter, k));
-    assert!(rt; first.as_slice() == indices);
+fn limited(rt: &impl Abort, alloc: Global, filter: &Mask, k: usize, want: (&str, &[usize])) {
+    has_list(rt, limits::limited_filter(alloc, filter, k), want.0);
+    has_rows(rt, limits::indices_of_first(alloc, filter, k), want.1);
 }
 
 fn stay(rt: &impl Abort, alloc: Global, rows: &Mask, deleted: &Mask) {
     assert!(rt; rows.len() == deleted.len());
-    lists(rt, &found(rt, limits::alive(alloc, rows, deleted)), "1001");
+    has_list(rt, limits::alive(alloc, rows, deleted), "1001");
 }
 
 fn of_two_filters(rt: &impl Abort, alloc: Global) {
@@ -132,64 +113,52 @@ fn of_two_filters(rt: &impl Abort, alloc: Global) {
 
 #[test]
 fn limited_rows(rt: HostRuntime) {
-    const LIMITS: [(usize, &str, &[usize]); 4] = [
-        (0, "00000000", &[]),
-        (2, "10010000", &[0, 3]),
-        (5, FIVE, &[0, 3, 4, 5, 7]),
-        (9, FIVE, &[0, 3, 4, 5, 7]),
-    ];
-    of_two_filters(&rt, rt.alloc());
-    for row in LIMITS {
-        limited(&rt, rt.alloc(), row);
-    }
+    let alloc = rt.alloc();
+    of_two_filters(&rt, alloc);
+    let filter = mask(&rt, alloc, FIVE);
+    limited(&rt, alloc, &filter, 0, ("00000000", &[]));
+    limited(&rt, alloc, &filter, 2, ("10010000", &[0, 3]));
+    limited(&rt, alloc, &filter, 5, (FIVE, &[0, 3, 4, 5, 7]));
+    limited(&rt, alloc, &filter, 9, (FIVE, &[0, 3, 4, 5, 7]));
 }
 
 // ---- rows by their number among the chosen ones
 
-fn picks(rt: &impl Abort, alloc: Global) {
-    let rows = buffer(rt, alloc, FIVE);
+fn picks(rt: &impl Abort, alloc: Global, rows: &BitBuffer) {
     assert!(rt; rows.true_count() == 5);
-    lists(
-        rt,
-        &found(rt, selected::listed(alloc, &rows, &[2, 4])),
-        "00001001",
-    );
-    let first = found(rt, selected::first_listed(alloc, &rows, &[2, 4], 1));
-    lists(rt, &first, "00001000");
+    has_list(rt, selected::listed(alloc, rows, &[2, 4]), "00001001");
+    let first = selected::first_listed(alloc, rows, &[2, 4], 1);
+    has_list(rt, first, "00001000");
 }
 
-fn picks_of_two(rt: &impl Abort, alloc: Global) {
-    let rows = buffer(rt, alloc, FIVE);
+fn picks_of_two(rt: &impl Abort, alloc: Global, rows: &BitBuffer) {
     assert!(rt; rows.true_count() == 5);
-    let both = found(rt, selected::of_two_lists(alloc, &rows, &[0, 2], &[4], 3));
-    lists(rt, &both, "10001001");
+    let both = selected::of_two_lists(alloc, rows, &[0, 2], &[4], 3);
+    has_list(rt, both, "10001001");
 }
 
-fn picks_by_bits(rt: &impl Abort, alloc: Global) {
-    let (rows, kept) = (buffer(rt, alloc, FIVE), buffer(rt, alloc, "00101"));
+fn picks_by_bits(rt: &impl Abort, alloc: Global, rows: &BitBuffer, kept: &BitBuffer) {
     assert!(rt; kept.len() == rows.true_count());
-    let picked = found(rt, selected::filtered(alloc, &rows, &kept));
-    lists(rt, &picked, "00001001");
+    has_list(rt, selected::filtered(alloc, rows, kept), "00001001");
+}
+
+fn by_own_deposits(rt: &impl Abort, alloc: Global, rows: &BitBuffer, kept: &BitBuffer) {
+    assert!(rt; kept.len() == rows.true_count());
+    let narrowed = own_deposit::rank_intersection_by::<WholeWords>(alloc, rows, kept);
+    has_list(rt, narrowed, "00001001");
+    let narrowed = own_deposit::rank_intersection_by::<InTurn>(alloc, rows, kept);
+    has_list(rt, narrowed, "00001001");
+}
+
+fn picks_rows(rt: &impl Abort, alloc: Global) {
+    let (rows, kept) = (buffer(rt, alloc, FIVE), buffer(rt, alloc, "00101"));
+    picks(rt, alloc, &rows);
+    picks_of_two(rt, alloc, &rows);
+    picks_by_bits(rt, alloc, &rows, &kept);
+    by_own_deposits(rt, alloc, &rows, &kept);
 }
 
 #[test]
 fn rows_by_number(rt: HostRuntime) {
-    picks(&rt, rt.alloc());
-    picks_of_two(&rt, rt.alloc());
-    picks_by_bits(&rt, rt.alloc());
-}
-
-fn by_own_deposits(rt: &impl Abort, alloc: Global) {
-    let rows = buffer(rt, alloc, "10011101");
-    let kept = buffer(rt, alloc, "00101");
-    assert!(rt; kept.len() == rows.true_count());
-    let narrowed = own_deposit::rank_intersection_by::<WholeWords>(alloc, &rows, &kept);
-    lists(rt, &found(rt, narrowed), "00001001");
-    let narrowed = own_deposit::rank_intersection_by::<InTurn>(alloc, &rows, &kept);
-    lists(rt, &found(rt, narrowed), "00001001");
-}
-
-#[test]
-fn two_bitmaps_by_own_deposits(rt: HostRuntime) {
-    by_own_deposits(&rt, rt.alloc());
+    picks_rows(&rt, rt.alloc());
 }

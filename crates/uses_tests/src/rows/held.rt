@@ -22,7 +22,7 @@ fn filters_by_name(rt: HostRuntime) {
     let mut filters = BTreeMap::new(rt.alloc());
     add(&rt, rt.alloc(), &mut filters, "price", "01101");
     add(&rt, rt.alloc(), &mut filters, "name", "00");
-    for (column, want) in [("price", Some(3)), ("name", Some(0)), ("rice", None)] {
-        assert!(&rt; chosen_of(&filters, column) == want);
-    }
+    assert!(&rt; chosen_of(&filters, "price") == Some(3));
+    assert!(&rt; chosen_of(&filters, "name") == Some(0));
+    assert!(&rt; chosen_of(&filters, "rice").is_none());
 }

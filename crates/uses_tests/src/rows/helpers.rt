@@ -3,7 +3,7 @@ use mask_bits::BitBuffer;
 use std::alloc::Global;
 use std::fmt::Debug;
 use std::process::Abort;
-use vortex_mask::Mask;
+use vortex_mask::{Mask, MaskError};
 
 pub(super) fn same(rt: &impl Abort, got: usize, want: usize) {
     assert!(rt; got == want, "{got} for {want}");
@@ -17,9 +17,34 @@ pub(super) fn found<T, E: Drop>(rt: &impl Abort, answer: Result<T, E>) -> T {
     }
 }
 
+pub(super) fn reads(rt: &impl Abort, text: &str, want: &str) {
+    assert!(rt; text == want, "{text} for {want}");
+}
+
+pub(super) fn are<T: PartialEq>(rt: &impl Abort, got: &[T], want: &[T]) {
+    assert!(rt; got == want);
+}
+
+pub(super) fn are_or_none(rt: &impl Abort, got: Option<&[usize]>, want: Option<&[usize]>) {
+    assert!(rt; got == want);
+}
+
+// The rows that a call answers.
+pub(super) fn has_rows<T: PartialEq + Drop, E: Drop>(
+    rt: &impl Abort,
+    answer: Result<Vec<T>, E>,
+    want: &[T],
+) {
+    are(rt, &found(rt, answer), want);
+}
+
+// The values of a mask that a call answers.
+pub(super) fn has_list(rt: &impl Abort, answer: Result<Mask, MaskError>, want: &str) {
+    lists(rt, &found(rt, answer), want);
+}
+
 pub(super) fn has_debug_text<T: Debug>(rt: &impl Abort, alloc: Global, value: &T, want: &str) {
-    let text = found(rt, format!(in alloc; "{value:?}"));
-    assert!(rt; text.as_str() == want, "{text} for {want}");
+    reads(rt, &found(rt, format!(in alloc; "{value:?}")), want);
 }
 
 // A mask from a text of `0` and `1`.
@@ -40,6 +65,6 @@ pub(super) fn lists(rt: &impl Abort, mask: &Mask, want: &str) {
     same(rt, mask.len(), want.len());
     for (i, digit) in want.iter().enumerate() {
         assert!(rt; i < mask.len());
-        assert!(rt; mask.value(i) == (*digit == b'1'), "value {i}");
+        assert!(rt; mask.value(i) == (*digit == b'1'));
     }
 }

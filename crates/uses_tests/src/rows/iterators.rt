@@ -1,5 +1,8 @@
 // Masks from iterators of each kind: what they list, and what they cache.
-use super::helpers::{found, lists, mask, same};
+ghost use Rattle.std.specs.List.Sorted.{IsStrictlyIncreasing};
+ghost use Rattle.std.specs.Prelude.{IsTrue};
+
+use super::helpers::{are_or_none, found, has_debug_text, has_list, lists, mask, same};
 use std::alloc::Global;
 use std::process::Abort;
 use uses::iterators::{
@@ -15,7 +18,7 @@ fn is(rt: &impl Abort, made: Result<Mask, MaskError>, list: &str, indices: Optio
     lists(rt, &made, list);
     match made.values() {
         Some(values) => {
-            assert!(rt; values.cached_indices() == indices);
+            are_or_none(rt, values.cached_indices(), indices);
             assert!(rt; values.cached_slices().is_none());
         }
         None => panic!(rt; "these values are mixed"),
@@ -49,22 +52,18 @@ fn indices_by_iterators(rt: HostRuntime) {
 
 fn is_refused(rt: &impl Abort, alloc: Global, made: Result<Mask, MaskError>, want: &str) {
     match made {
-        Ok(_) => panic!(rt; "a mask for {want}"),
-        Err(error) => {
-            let text = found(rt, format!(in alloc; "{error:?}"));
-            assert!(rt; text.as_str() == want, "{text} for {want}");
-        }
+        Ok(_) => panic!(rt; "a mask"),
+        Err(error) => has_debug_text(rt, alloc, &error, want),
     }
 }
 
 #[test]
 fn common_indices_past_the_end(rt: HostRuntime) {
-    for (len, want) in [
-        (4, "IndexOutOfBounds { index: 6, len: 4 }"),
-        (6, "IndexOutOfBounds { index: 6, len: 6 }"),
-    ] {
-        is_refused(&rt, rt.alloc(), common_to_arrays(rt.alloc(), len), want);
-    }
+    let alloc = rt.alloc();
+    let want = "IndexOutOfBounds { index: 6, len: 4 }";
+    is_refused(&rt, alloc, common_to_arrays(alloc, 4), want);
+    let want = "IndexOutOfBounds { index: 6, len: 6 }";
+    is_refused(&rt, alloc, common_to_arrays(alloc, 6), want);
 }
 
 // ---- masks one after another
@@ -78,17 +77,17 @@ fn masks(rt: &impl Abort, alloc: Global) -> Vec<Mask> {
 }
 
 fn concats(rt: &impl Abort, alloc: Global, masks: &[Mask]) {
-    lists(rt, &found(rt, concat_of_a_slice(alloc, masks)), "10110");
-    lists(rt, &found(rt, concat_of_some(alloc, masks)), "110");
+    has_list(rt, concat_of_a_slice(alloc, masks), "10110");
+    has_list(rt, concat_of_some(alloc, masks), "110");
     let lent: Vec<&Mask> = found(rt, masks.iter().collect(alloc));
-    lists(rt, &found(rt, concat_of_refs(alloc, lent)), "10110");
+    has_list(rt, concat_of_refs(alloc, lent), "10110");
 }
 
 #[test]
 fn masks_by_iterators(rt: HostRuntime) {
     let masks = masks(&rt, rt.alloc());
     concats(&rt, rt.alloc(), &masks);
-    lists(&rt, &found(&rt, masks_of_a_vec(rt.alloc(), masks)), "10110");
+    has_list(&rt, masks_of_a_vec(rt.alloc(), masks), "10110");
 }
 
 // ---- above 10,000 values
@@ -99,12 +98,17 @@ fn thirds(rt: &impl Abort, alloc: Global) -> Vec<usize> {
     found(rt, (0..LEN).step_by(3).collect(alloc))
 }
 
-// The indices of thirds are ascending, since they make a mask.
-fn thirds_twice(alloc: Global, thirds: Vec<usize>) -> Result<Mask, MaskError> {
-    let again = thirds.clone()?;
-    let mask = Mask::from_indices(alloc, LEN, thirds.iter().copied())?;
+// Whether indices make a mask, as only ascending ones do.
+fn ascend(alloc: Global, indices: &[usize]) -> bool
+    ensures { IsTrue result → IsStrictlyIncreasing indices.now }
+{
     laws::no_index_fault();
-    let _ = mask.len();
+    Mask::from_indices(alloc, LEN, indices.iter().copied()).is_ok()
+}
+
+fn thirds_twice(rt: &impl Abort, alloc: Global) -> Result<Mask, MaskError> {
+    let (thirds, again) = (thirds(rt, alloc), thirds(rt, alloc));
+    assert!(rt; ascend(alloc, &thirds) && ascend(alloc, &again));
     common_to_vecs(alloc, LEN, thirds, again)
 }
 
@@ -116,19 +120,11 @@ fn has_last(rt: &impl Abort, made: Result<Mask, MaskError>, true_count: usize, l
 }
 
 fn of_many(rt: &impl Abort, alloc: Global) {
-    has_last(
-        rt,
-        indices_of_a_vec(alloc, LEN, thirds(rt, alloc)),
-        10_004,
-        false,
-    );
-    has_last(
-        rt,
-        all_but_a_vec(alloc, LEN, thirds(rt, alloc)),
-        20_007,
-        true,
-    );
-    has_last(rt, thirds_twice(alloc, thirds(rt, alloc)), 10_004, false);
+    let made = indices_of_a_vec(alloc, LEN, thirds(rt, alloc));
+    has_last(rt, made, 10_004, false);
+    let made = all_but_a_vec(alloc, LEN, thirds(rt, alloc));
+    has_last(rt, made, 20_007, true);
+    has_last(rt, thirds_twice(rt, alloc), 10_004, false);
 }
 
 #[test]

@@ -1,5 +1,6 @@
 // How plans run, what they leave, and how they are compared and printed.
-use super::helpers::{buffer, found, lists, mask, same};
+use super::helpers::{buffer, found, lists, mask, reads, same};
+use mask_bits::BitBuffer;
 use std::alloc::Global;
 use std::process::Abort;
 use uses::equality::{
@@ -15,70 +16,66 @@ fn deposits(first: &Mask, second: &Mask) -> Option<bool> {
     Some(deposits_words(first.values()?, second.values()?))
 }
 
-fn explains(rt: &impl Abort, alloc: Global, first: &Mask, second: &Mask, want: (&str, usize)) {
+fn explains(rt: &impl Abort, alloc: Global, masks: (&Mask, &Mask), list: &str, deposited: usize) {
+    let (first, second) = masks;
     assert!(rt; second.len() == first.true_count());
     let (stacked, words, _) = found(rt, stacked(alloc, first, second));
-    lists(rt, &stacked, want.0);
-    same(rt, words, want.1);
+    lists(rt, &stacked, list);
+    same(rt, words, deposited);
     assert!(rt; deposits(first, second).unwrap_or(false) == (words > 0));
 }
 
-fn reads(rt: &impl Abort, alloc: Global, first: &Mask, second: &Mask, want: usize) {
+fn reads_words(rt: &impl Abort, alloc: Global, first: &Mask, second: &Mask, want: usize) {
     assert!(rt; second.len() == first.true_count());
     same(rt, found(rt, stacked(alloc, first, second)).2, want);
 }
 
 fn words_of_five_rows(rt: &impl Abort, alloc: Global) {
     let first = mask(rt, alloc, "10110");
-    reads(rt, alloc, &first, &mask(rt, alloc, "010"), 1);
+    reads_words(rt, alloc, &first, &mask(rt, alloc, "010"), 1);
 }
 
-type Plan = (&'static str, &'static str, (&'static str, usize));
-
-fn explains_plan(rt: &impl Abort, alloc: Global, (first, second, want): Plan) {
-    let first = mask(rt, alloc, first);
-    explains(rt, alloc, &first, &mask(rt, alloc, second), want);
+fn plans(rt: &impl Abort, alloc: Global) {
+    let first = mask(rt, alloc, "10011101");
+    explains(
+        rt,
+        alloc,
+        (&first, &mask(rt, alloc, "00101")),
+        "00001001",
+        1,
+    );
+    let first = mask(rt, alloc, "1111");
+    explains(rt, alloc, (&first, &mask(rt, alloc, "0101")), "0101", 0);
+    let first = mask(rt, alloc, "0110");
+    explains(rt, alloc, (&first, &mask(rt, alloc, "11")), "0110", 0);
 }
 
 #[test]
 fn three_plans(rt: HostRuntime) {
-    const PLANS: [Plan; 3] = [
-        ("10011101", "00101", ("00001001", 1)),
-        ("1111", "0101", ("0101", 0)),
-        ("0110", "11", ("0110", 0)),
-    ];
     words_of_five_rows(&rt, rt.alloc());
-    for plan in PLANS {
-        explains_plan(&rt, rt.alloc(), plan);
-    }
+    plans(&rt, rt.alloc());
 }
 
 // ---- rows that are left
 
-fn leaves(rt: &impl Abort, alloc: Global, decided: &str, want: (usize, usize)) {
-    let decided = mask(rt, alloc, decided);
+fn leaves(rt: &impl Abort, decided: &Mask, want: (usize, usize)) {
     assert!(rt; decided.len() <= 6);
-    assert!(rt; left_of(&decided, 6) == want);
+    assert!(rt; left_of(decided, 6) == want);
 }
 
-fn leaves_by_both(rt: &impl Abort, alloc: Global) {
-    let (first, second) = (mask(rt, alloc, "0110"), mask(rt, alloc, "01"));
+fn leaves_by_both(rt: &impl Abort, first: &Mask, second: &Mask) {
     assert!(rt; second.len() == first.true_count());
-    same(rt, left_by_both(&first, &second), 1);
+    same(rt, left_by_both(first, second), 1);
 }
 
 #[test]
 fn rows_that_are_left(rt: HostRuntime) {
-    const DECIDED: [(&str, (usize, usize)); 4] = [
-        ("", (0, 6)),
-        ("0000", (0, 2)),
-        ("1011", (3, 5)),
-        ("111111", (6, 6)),
-    ];
-    leaves_by_both(&rt, rt.alloc());
-    for (decided, want) in DECIDED {
-        leaves(&rt, rt.alloc(), decided, want);
-    }
+    let (rt, alloc) = (&rt, rt.alloc());
+    leaves_by_both(rt, &mask(rt, alloc, "0110"), &mask(rt, alloc, "01"));
+    leaves(rt, &mask(rt, alloc, ""), (0, 6));
+    leaves(rt, &mask(rt, alloc, "0000"), (0, 2));
+    leaves(rt, &mask(rt, alloc, "1011"), (3, 5));
+    leaves(rt, &mask(rt, alloc, "111111"), (6, 6));
 }
 
 // ---- `==`
@@ -113,20 +110,19 @@ fn compares(rt: &impl Abort, alloc: Global, values: &str, is_same: bool) {
     is(rt, same_validity(&validity, &bits), is_same);
 }
 
-fn compares_ones(rt: &impl Abort, alloc: Global) {
-    let ones = buffer(rt, alloc, "11");
-    is(rt, Mask::new_true(2).equals_buffer(&ones), true);
-    is(rt, Mask::new_false(2).equals_buffer(&ones), false);
+fn compares_ones(rt: &impl Abort, ones: &BitBuffer) {
+    is(rt, Mask::new_true(2).equals_buffer(ones), true);
+    is(rt, Mask::new_false(2).equals_buffer(ones), false);
     same(rt, ones.false_count(), 0);
 }
 
 #[test]
 fn equality(rt: HostRuntime) {
     pairs(&rt);
-    for (values, is_same) in [("0110", true), ("0111", false), ("011", false)] {
-        compares(&rt, rt.alloc(), values, is_same);
-    }
-    compares_ones(&rt, rt.alloc());
+    compares(&rt, rt.alloc(), "0110", true);
+    compares(&rt, rt.alloc(), "0111", false);
+    compares(&rt, rt.alloc(), "011", false);
+    compares_ones(&rt, &buffer(&rt, rt.alloc(), "11"));
 }
 
 // ---- texts
@@ -134,7 +130,7 @@ fn equality(rt: HostRuntime) {
 fn differ(rt: &impl Abort, alloc: Global) {
     let mask = mask(rt, alloc, "1010");
     let text = found(rt, difference(alloc, &mask, &Mask::new_true(0)));
-    assert!(rt; text.as_str() == "1010 for -");
+    reads(rt, &text, "1010 for -");
 }
 
 fn debugs(rt: &impl Abort, alloc: Global) {
@@ -142,7 +138,7 @@ fn debugs(rt: &impl Abort, alloc: Global) {
     let text = found(rt, format!(in alloc; "{bits:?} {steps:?}"));
     let want =
         "BitBuffer(0110) Steps { deposits: 0, words: 0, selections: 0, offered: 0, placed: 0, spots: 0 }";
-    assert!(rt; text.as_str() == want);
+    reads(rt, &text, want);
 }
 
 #[test]

@@ -1,5 +1,5 @@
 // Ranges of masks, and words of buffers.
-use super::helpers::{buffer, found, mask, same};
+use super::helpers::{are, buffer, found, has_rows, mask, same};
 use mask_bits::BitBuffer;
 use std::alloc::Global;
 use std::process::Abort;
@@ -11,8 +11,8 @@ use vortex_mask::Mask;
 type Runs = &'static [(usize, usize)];
 
 fn has(rt: &impl Abort, alloc: Global, mask: &Mask, runs: Runs, rows: Option<usize>) {
-    assert!(rt; found(rt, ranges(alloc, mask)).as_slice() == runs);
-    assert!(rt; found(rt, walked_ranges_of(alloc, mask)).as_slice() == runs);
+    has_rows(rt, ranges(alloc, mask), runs);
+    has_rows(rt, walked_ranges_of(alloc, mask), runs);
     assert!(rt; span(mask) == rows);
 }
 
@@ -36,31 +36,35 @@ fn reads(rt: &impl Abort, alloc: Global, filter: &[usize], want: Option<Runs>) {
     }
 }
 
-fn both(rt: &impl Abort, alloc: Global, text: &str, want: Runs) {
+type Lists = (Vec<(usize, usize)>, Vec<(usize, usize)>);
+
+fn are_both<E: Drop>(rt: &impl Abort, answer: Result<Lists, E>, want: Runs) {
+    let (left, right) = found(rt, answer);
+    are(rt, &left, want);
+    are(rt, &right, want);
+}
+
+fn both(rt: &impl Abort, alloc: Global, filter: &Mask, bitmap: &BitBuffer, want: Runs) {
+    assert!(rt; filter.equals_buffer(bitmap));
+    are_both(rt, ranges_of_both(alloc, filter, bitmap), want);
+}
+
+fn of_text(rt: &impl Abort, alloc: Global, text: &str, want: Runs) {
     let (filter, bitmap) = (mask(rt, alloc, text), buffer(rt, alloc, text));
-    assert!(rt; filter.equals_buffer(&bitmap));
-    let (left, right) = found(rt, ranges_of_both(alloc, &filter, &bitmap));
-    assert!(rt; left.as_slice() == want && right.as_slice() == want);
+    both(rt, alloc, &filter, &bitmap, want);
 }
 
 #[test]
 fn ranges_of_a_filter_and_its_bitmap(rt: HostRuntime) {
-    const ROWS: [(&str, Runs); 2] = [("01101", &[(1, 3), (4, 5)]), ("000", &[])];
-    for (text, want) in ROWS {
-        both(&rt, rt.alloc(), text, want);
-    }
+    of_text(&rt, rt.alloc(), "01101", &[(1, 3), (4, 5)]);
+    of_text(&rt, rt.alloc(), "000", &[]);
 }
 
 #[test]
 fn ranges_of_masks(rt: HostRuntime) {
-    const FILTERS: [(&[usize], Option<Runs>); 2] = [
-        (&[1, 2, 3, 4, 7], Some(&[(1, 5), (7, 8)])),
-        (&[1, 2, 3, 4], None),
-    ];
     of_each_variant(&rt, rt.alloc());
-    for (filter, want) in FILTERS {
-        reads(&rt, rt.alloc(), filter, want);
-    }
+    reads(&rt, rt.alloc(), &[1, 2, 3, 4, 7], Some(&[(1, 5), (7, 8)]));
+    reads(&rt, rt.alloc(), &[1, 2, 3, 4], None);
 }
 
 fn counts(rt: &impl Abort, alloc: Global, len: usize, want: usize) {
@@ -71,37 +75,25 @@ fn counts(rt: &impl Abort, alloc: Global, len: usize, want: usize) {
 
 #[test]
 fn every_third_value(rt: HostRuntime) {
-    for (len, want) in [
-        (0, 0),
-        (1, 1),
-        (63, 21),
-        (64, 22),
-        (130, 44),
-        (12_800, 4_267),
-    ] {
-        counts(&rt, rt.alloc(), len, want);
-    }
+    counts(&rt, rt.alloc(), 0, 0);
+    counts(&rt, rt.alloc(), 1, 1);
+    counts(&rt, rt.alloc(), 63, 21);
+    counts(&rt, rt.alloc(), 64, 22);
+    counts(&rt, rt.alloc(), 130, 44);
+    counts(&rt, rt.alloc(), 12_800, 4_267);
 }
 
-fn words(rt: &impl Abort, alloc: Global, (text, words, any): (&str, &[u64], bool)) {
-    let buffer = buffer(rt, alloc, text);
-    assert!(rt; found(rt, listed(alloc, &buffer)).as_slice() == words);
-    assert!(rt; has_any(&buffer) == any);
+fn words(rt: &impl Abort, alloc: Global, buffer: &BitBuffer, words: &[u64], any: bool) {
+    has_rows(rt, listed(alloc, buffer), words);
+    assert!(rt; has_any(buffer) == any);
 }
 
 #[test]
 fn words_of_few_values(rt: HostRuntime) {
-    const ROWS: [(&str, &[u64], bool); 4] = [
-        ("", &[], false),
-        ("000", &[0], false),
-        ("1011", &[13], true),
-        (
-            "00000000000000000000000000000000000000000000000000000000000000001",
-            &[0, 1],
-            true,
-        ),
-    ];
-    for row in ROWS {
-        words(&rt, rt.alloc(), row);
-    }
+    let (rt, alloc) = (&rt, rt.alloc());
+    words(rt, alloc, &buffer(rt, alloc, ""), &[], false);
+    words(rt, alloc, &buffer(rt, alloc, "000"), &[0], false);
+    words(rt, alloc, &buffer(rt, alloc, "1011"), &[13], true);
+    let last_of_65 = "00000000000000000000000000000000000000000000000000000000000000001";
+    words(rt, alloc, &buffer(rt, alloc, last_of_65), &[0, 1], true);
 }

@@ -1,5 +1,5 @@
 // Filters on the rows that another one chose.
-use super::helpers::{found, lists, mask};
+use super::helpers::{found, has_list, has_rows, mask};
 use std::alloc::Global;
 use std::process::Abort;
 use uses::stacks::{
@@ -19,10 +19,10 @@ fn choose(rt: &impl Abort, alloc: Global, first: &Mask, second: &Mask) {
 
 fn fold(rt: &impl Abort, alloc: Global, first: &Mask, second: &Mask, third: &Mask) {
     assert!(rt; second.len() == first.true_count() && third.len() == second.true_count());
-    let left = found(rt, folded_left(alloc, first, second, third));
-    lists(rt, &left, "00001000");
-    let right = found(rt, folded_right(alloc, first, second, third));
-    lists(rt, &right, "00001000");
+    let left = folded_left(alloc, first, second, third);
+    has_list(rt, left, "00001000");
+    let right = folded_right(alloc, first, second, third);
+    has_list(rt, right, "00001000");
 }
 
 fn of_three(rt: &impl Abort, alloc: Global) {
@@ -49,38 +49,30 @@ fn masks(rt: &impl Abort, alloc: Global, texts: &[&str]) -> Vec<Mask> {
 // A stack's fold by one call, and the fold of the regrouped stack.
 fn folds(rt: &impl Abort, alloc: Global, first: &Mask, rest: &[Mask], want: &str) {
     assert!(rt; are_a_stack(first, rest));
-    let folded = found(rt, first.intersect_all_by_rank(alloc, rest));
-    lists(rt, &folded, want);
-    lists(rt, &found(rt, regrouped(alloc, first, rest)), want);
-    lists(rt, &found(rt, stopped_early(alloc, first, rest)), want);
+    has_list(rt, first.intersect_all_by_rank(alloc, rest), want);
+    has_list(rt, regrouped(alloc, first, rest), want);
+    has_list(rt, stopped_early(alloc, first, rest), want);
 }
 
-type Row = (&'static str, &'static [&'static str], &'static str);
-
-fn folds_row(rt: &impl Abort, alloc: Global, (first, rest, want): Row) {
+fn folds_row(rt: &impl Abort, alloc: Global, first: &str, rest: &[&str], want: &str) {
     let first = mask(rt, alloc, first);
     folds(rt, alloc, &first, &masks(rt, alloc, rest), want);
 }
 
 #[test]
 fn a_stack_folds_alike(rt: HostRuntime) {
-    const STACKS: [Row; 4] = [
-        ("10011101", &["00101", "10"], "00001000"),
-        ("101", &["10", "1", "1", "0"], "000"),
-        ("101", &["10", "0", ""], "000"),
-        ("101", &[], "101"),
-    ];
-    for row in STACKS {
-        folds_row(&rt, rt.alloc(), row);
-    }
+    let alloc = rt.alloc();
+    folds_row(&rt, alloc, "10011101", &["00101", "10"], "00001000");
+    folds_row(&rt, alloc, "101", &["10", "1", "1", "0"], "000");
+    folds_row(&rt, alloc, "101", &["10", "0", ""], "000");
+    folds_row(&rt, alloc, "101", &[], "101");
 }
 
 fn filter(rt: &impl Abort, alloc: Global, first: &Mask, rest: &[Mask]) {
     assert!(rt; first.len() == 8 && are_a_stack(first, rest));
-    let by_all = found(rt, filtered_by_all(alloc, &ROWS, first, rest));
-    assert!(rt; by_all.as_slice() == [14].as_slice());
-    let by_regrouped = found(rt, filtered_by_regrouped(alloc, &ROWS, first, rest));
-    assert!(rt; by_regrouped.as_slice() == [14].as_slice());
+    has_rows(rt, filtered_by_all(alloc, &ROWS, first, rest), &[14]);
+    let by_regrouped = filtered_by_regrouped(alloc, &ROWS, first, rest);
+    has_rows(rt, by_regrouped, &[14]);
 }
 
 fn of_a_stack(rt: &impl Abort, alloc: Global) {

@@ -1,41 +1,37 @@
 // Walks that stop early or go side by side.
-use super::helpers::{buffer, found, mask, same};
+use super::helpers::{buffer, found, has_rows, mask, same};
+use mask_bits::BitBuffer;
 use std::alloc::Global;
 use std::process::Abort;
 use uses::walks::{first_valid, nth_row, nth_value, side_by_side};
+use vortex_mask::Mask;
 
 const SIX: &str = "011001";
 
-fn first(rt: &impl Abort, alloc: Global, k: usize, want: &[usize]) {
-    let rows = found(rt, first_valid(alloc, &buffer(rt, alloc, SIX), k));
-    assert!(rt; rows.as_slice() == want);
+fn first(rt: &impl Abort, alloc: Global, six: &BitBuffer) {
+    has_rows(rt, first_valid(alloc, six, 0), &[]);
+    has_rows(rt, first_valid(alloc, six, 2), &[1, 2]);
+    has_rows(rt, first_valid(alloc, six, 9), &[1, 2, 5]);
 }
 
-fn nth(rt: &impl Abort, alloc: Global, (n, row, value): (usize, Option<usize>, Option<bool>)) {
-    assert!(rt; nth_row(&mask(rt, alloc, SIX), n) == row);
-    assert!(rt; nth_value(&buffer(rt, alloc, SIX), n) == value);
+fn nth(rt: &impl Abort, six: (&Mask, &BitBuffer), n: usize, want: (Option<usize>, Option<bool>)) {
+    assert!(rt; nth_row(six.0, n) == want.0);
+    assert!(rt; nth_value(six.1, n) == want.1);
 }
 
-fn pairs(rt: &impl Abort, alloc: Global) {
-    let (long, short) = (mask(rt, alloc, SIX), mask(rt, alloc, "110"));
-    let pairs = found(rt, side_by_side(alloc, &long, &short));
-    assert!(rt; pairs.as_slice() == [(false, true), (true, true), (true, false)].as_slice());
-    same(rt, found(rt, side_by_side(alloc, &short, &long)).len(), 3);
+fn pairs(rt: &impl Abort, alloc: Global, long: &Mask, short: &Mask) {
+    let pairs = [(false, true), (true, true), (true, false)];
+    has_rows(rt, side_by_side(alloc, long, short), &pairs);
+    same(rt, found(rt, side_by_side(alloc, short, long)).len(), 3);
 }
 
 #[test]
 fn walks_of_six(rt: HostRuntime) {
-    const FIRST: [(usize, &[usize]); 3] = [(0, &[]), (2, &[1, 2]), (9, &[1, 2, 5])];
-    const NTH: [(usize, Option<usize>, Option<bool>); 3] = [
-        (0, Some(1), Some(false)),
-        (2, Some(5), Some(true)),
-        (6, None, None),
-    ];
-    for (k, want) in FIRST {
-        first(&rt, rt.alloc(), k, want);
-    }
-    for row in NTH {
-        nth(&rt, rt.alloc(), row);
-    }
-    pairs(&rt, rt.alloc());
+    let (rt, alloc) = (&rt, rt.alloc());
+    let (six, bits) = (mask(rt, alloc, SIX), buffer(rt, alloc, SIX));
+    first(rt, alloc, &bits);
+    nth(rt, (&six, &bits), 0, (Some(1), Some(false)));
+    nth(rt, (&six, &bits), 2, (Some(5), Some(true)));
+    nth(rt, (&six, &bits), 6, (None, None));
+    pairs(rt, alloc, &six, &mask(rt, alloc, "110"));
 }
