@@ -31,32 +31,18 @@ fn filters(
     leaves(rt, left, rows, valid);
 }
 
+fn filters_row(rt: &impl Abort, alloc: Global, filter: &str, rows: &[u8], valid: &str) {
+    let (filter, validity) = (mask(rt, alloc, filter), mask(rt, alloc, VALIDITY));
+    filters(rt, alloc, (&filter, &validity), rows, valid);
+}
+
 #[test]
 fn nullable_column(rt: HostRuntime) {
-    let (rt, alloc) = (&rt, rt.alloc());
-    let valid = mask(rt, alloc, VALIDITY);
-    filters(
-        rt,
-        alloc,
-        (&mask(rt, alloc, "10110"), &valid),
-        &[3, 4, 1],
-        "101",
-    );
-    filters(
-        rt,
-        alloc,
-        (&mask(rt, alloc, "11111"), &valid),
-        &[3, 1, 4, 1, 5],
-        "11010",
-    );
-    filters(rt, alloc, (&mask(rt, alloc, "00000"), &valid), &[], "");
-    filters(
-        rt,
-        alloc,
-        (&mask(rt, alloc, "00101"), &valid),
-        &[4, 5],
-        "00",
-    );
+    let alloc = rt.alloc();
+    filters_row(&rt, alloc, "10110", &[3, 4, 1], "101");
+    filters_row(&rt, alloc, "11111", &[3, 1, 4, 1, 5], "11010");
+    filters_row(&rt, alloc, "00000", &[], "");
+    filters_row(&rt, alloc, "00101", &[4, 5], "00");
 }
 
 fn limits(
@@ -128,13 +114,17 @@ fn joins_third(
     has_list(rt, all, left);
 }
 
+fn joins_row(rt: &impl Abort, alloc: Global, both: (&Mask, &Mask), third: &str, left: &str) {
+    joins_third(rt, alloc, both, &mask(rt, alloc, third), left);
+}
+
 fn of_three_filters(rt: &impl Abort, alloc: Global) {
     let (first, second) = (mask(rt, alloc, "10110"), mask(rt, alloc, "11010"));
     let both = (&first, &second);
-    joins_third(rt, alloc, both, &mask(rt, alloc, "01"), "00010");
-    joins_third(rt, alloc, both, &mask(rt, alloc, "10"), "10000");
-    joins_third(rt, alloc, both, &mask(rt, alloc, "11"), "10010");
-    joins_third(rt, alloc, both, &mask(rt, alloc, "00"), "00000");
+    joins_row(rt, alloc, both, "01", "00010");
+    joins_row(rt, alloc, both, "10", "10000");
+    joins_row(rt, alloc, both, "11", "10010");
+    joins_row(rt, alloc, both, "00", "00000");
 }
 
 #[test]

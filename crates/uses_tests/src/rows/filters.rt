@@ -15,13 +15,16 @@ fn filters(rt: &impl Abort, alloc: Global, mask: &mut Mask, want: &[u8]) {
     has_rows(rt, rows, want);
 }
 
+fn filters_row(rt: &impl Abort, alloc: Global, text: &str, want: &[u8]) {
+    filters(rt, alloc, &mut mask(rt, alloc, text), want);
+}
+
 #[test]
 fn five_rows(rt: HostRuntime) {
-    let (rt, alloc) = (&rt, rt.alloc());
-    filters(rt, alloc, &mut mask(rt, alloc, "11111"), &[3, 1, 4, 1, 5]);
-    filters(rt, alloc, &mut mask(rt, alloc, "00000"), &[]);
-    filters(rt, alloc, &mut mask(rt, alloc, "10110"), &[3, 4, 1]);
-    filters(rt, alloc, &mut mask(rt, alloc, "01001"), &[1, 5]);
+    filters_row(&rt, rt.alloc(), "11111", &[3, 1, 4, 1, 5]);
+    filters_row(&rt, rt.alloc(), "00000", &[]);
+    filters_row(&rt, rt.alloc(), "10110", &[3, 4, 1]);
+    filters_row(&rt, rt.alloc(), "01001", &[1, 5]);
 }
 
 fn gathers(rt: &impl Abort, alloc: Global, mask: &Mask, want: &[u8]) {
@@ -29,12 +32,15 @@ fn gathers(rt: &impl Abort, alloc: Global, mask: &Mask, want: &[u8]) {
     has_rows(rt, gather::gathered(alloc, &[3, 1, 4, 1], mask), want);
 }
 
+fn gathers_row(rt: &impl Abort, alloc: Global, text: &str, want: &[u8]) {
+    gathers(rt, alloc, &mask(rt, alloc, text), want);
+}
+
 #[test]
 fn four_rows(rt: HostRuntime) {
-    let (rt, alloc) = (&rt, rt.alloc());
-    gathers(rt, alloc, &mask(rt, alloc, "1111"), &[3, 1, 4, 1]);
-    gathers(rt, alloc, &mask(rt, alloc, "0000"), &[]);
-    gathers(rt, alloc, &mask(rt, alloc, "1010"), &[3, 4]);
+    gathers_row(&rt, rt.alloc(), "1111", &[3, 1, 4, 1]);
+    gathers_row(&rt, rt.alloc(), "0000", &[]);
+    gathers_row(&rt, rt.alloc(), "1010", &[3, 4]);
 }
 
 fn above_two(rt: &impl Abort, alloc: Global) {

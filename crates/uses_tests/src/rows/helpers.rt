@@ -38,6 +38,16 @@ pub(super) fn has_rows<T: PartialEq + Drop, E: Drop>(
     are(rt, &found(rt, answer), want);
 }
 
+pub(super) fn both_have_rows<T: PartialEq + Drop, E: Drop>(
+    rt: &impl Abort,
+    answer: Result<(Vec<T>, Vec<T>), E>,
+    want: &[T],
+) {
+    let (first, second) = found(rt, answer);
+    are(rt, &first, want);
+    are(rt, &second, want);
+}
+
 // The values of a mask that a call answers.
 pub(super) fn has_list(rt: &impl Abort, answer: Result<Mask, MaskError>, want: &str) {
     lists(rt, &found(rt, answer), want);
@@ -49,8 +59,15 @@ pub(super) fn has_debug_text<T: Debug>(rt: &impl Abort, alloc: Global, value: &T
 
 // A mask from a text of `0` and `1`.
 pub(super) fn mask(rt: &impl Abort, alloc: Global, text: &str) -> Mask {
-    let values = text.as_bytes().iter().map(|c| *c == b'1');
-    found(rt, Mask::from_bools(alloc, values))
+    found(rt, Mask::from_buffer(alloc, buffer(rt, alloc, text)))
+}
+
+pub(super) fn masks(rt: &impl Abort, alloc: Global, texts: &[&str]) -> Vec<Mask> {
+    let mut masks = Vec::new(alloc);
+    for text in texts {
+        found(rt, masks.push(mask(rt, alloc, text)));
+    }
+    masks
 }
 
 // A buffer from a text of `0` and `1`.

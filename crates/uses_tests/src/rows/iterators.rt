@@ -2,7 +2,7 @@
 ghost use Rattle.std.specs.List.Sorted.{IsStrictlyIncreasing};
 ghost use Rattle.std.specs.Prelude.{IsTrue};
 
-use super::helpers::{are_or_none, found, has_debug_text, has_list, lists, mask, same};
+use super::helpers::{are_or_none, found, has_debug_text, has_list, lists, masks, same};
 use std::alloc::Global;
 use std::process::Abort;
 use uses::iterators::{
@@ -68,14 +68,6 @@ fn common_indices_past_the_end(rt: HostRuntime) {
 
 // ---- masks one after another
 
-fn masks(rt: &impl Abort, alloc: Global) -> Vec<Mask> {
-    let mut masks = Vec::new(alloc);
-    for text in ["10", "", "110"] {
-        found(rt, masks.push(mask(rt, alloc, text)));
-    }
-    masks
-}
-
 fn concats(rt: &impl Abort, alloc: Global, masks: &[Mask]) {
     has_list(rt, concat_of_a_slice(alloc, masks), "10110");
     has_list(rt, concat_of_some(alloc, masks), "110");
@@ -85,7 +77,7 @@ fn concats(rt: &impl Abort, alloc: Global, masks: &[Mask]) {
 
 #[test]
 fn masks_by_iterators(rt: HostRuntime) {
-    let masks = masks(&rt, rt.alloc());
+    let masks = masks(&rt, rt.alloc(), &["10", "", "110"]);
     concats(&rt, rt.alloc(), &masks);
     has_list(&rt, masks_of_a_vec(rt.alloc(), masks), "10110");
 }

@@ -35,25 +35,19 @@ fn words_of_five_rows(rt: &impl Abort, alloc: Global) {
     reads_words(rt, alloc, &first, &mask(rt, alloc, "010"), 1);
 }
 
-fn plans(rt: &impl Abort, alloc: Global) {
-    let first = mask(rt, alloc, "10011101");
-    explains(
-        rt,
-        alloc,
-        (&first, &mask(rt, alloc, "00101")),
-        "00001001",
-        1,
-    );
-    let first = mask(rt, alloc, "1111");
-    explains(rt, alloc, (&first, &mask(rt, alloc, "0101")), "0101", 0);
-    let first = mask(rt, alloc, "0110");
-    explains(rt, alloc, (&first, &mask(rt, alloc, "11")), "0110", 0);
+type Plan = (&'static str, &'static str);
+
+fn explains_row(rt: &impl Abort, alloc: Global, plan: Plan, list: &str, deposited: usize) {
+    let (first, second) = (mask(rt, alloc, plan.0), mask(rt, alloc, plan.1));
+    explains(rt, alloc, (&first, &second), list, deposited);
 }
 
 #[test]
 fn three_plans(rt: HostRuntime) {
     words_of_five_rows(&rt, rt.alloc());
-    plans(&rt, rt.alloc());
+    explains_row(&rt, rt.alloc(), ("10011101", "00101"), "00001001", 1);
+    explains_row(&rt, rt.alloc(), ("1111", "0101"), "0101", 0);
+    explains_row(&rt, rt.alloc(), ("0110", "11"), "0110", 0);
 }
 
 // ---- rows that are left
@@ -61,6 +55,10 @@ fn three_plans(rt: HostRuntime) {
 fn leaves(rt: &impl Abort, decided: &Mask, want: (usize, usize)) {
     assert!(rt; decided.len() <= 6);
     assert!(rt; left_of(decided, 6) == want);
+}
+
+fn leaves_row(rt: &impl Abort, alloc: Global, decided: &str, want: (usize, usize)) {
+    leaves(rt, &mask(rt, alloc, decided), want);
 }
 
 fn leaves_by_both(rt: &impl Abort, first: &Mask, second: &Mask) {
@@ -72,10 +70,10 @@ fn leaves_by_both(rt: &impl Abort, first: &Mask, second: &Mask) {
 fn rows_that_are_left(rt: HostRuntime) {
     let (rt, alloc) = (&rt, rt.alloc());
     leaves_by_both(rt, &mask(rt, alloc, "0110"), &mask(rt, alloc, "01"));
-    leaves(rt, &mask(rt, alloc, ""), (0, 6));
-    leaves(rt, &mask(rt, alloc, "0000"), (0, 2));
-    leaves(rt, &mask(rt, alloc, "1011"), (3, 5));
-    leaves(rt, &mask(rt, alloc, "111111"), (6, 6));
+    leaves_row(rt, alloc, "", (0, 6));
+    leaves_row(rt, alloc, "0000", (0, 2));
+    leaves_row(rt, alloc, "1011", (3, 5));
+    leaves_row(rt, alloc, "111111", (6, 6));
 }
 
 // ---- `==`

@@ -1,5 +1,5 @@
 // Ranges of masks, and words of buffers.
-use super::helpers::{are, buffer, found, has_rows, mask, same};
+use super::helpers::{both_have_rows, buffer, found, has_rows, mask, same};
 use mask_bits::BitBuffer;
 use std::alloc::Global;
 use std::process::Abort;
@@ -36,17 +36,9 @@ fn reads(rt: &impl Abort, alloc: Global, filter: &[usize], want: Option<Runs>) {
     }
 }
 
-type Lists = (Vec<(usize, usize)>, Vec<(usize, usize)>);
-
-fn are_both<E: Drop>(rt: &impl Abort, answer: Result<Lists, E>, want: Runs) {
-    let (left, right) = found(rt, answer);
-    are(rt, &left, want);
-    are(rt, &right, want);
-}
-
 fn both(rt: &impl Abort, alloc: Global, filter: &Mask, bitmap: &BitBuffer, want: Runs) {
     assert!(rt; filter.equals_buffer(bitmap));
-    are_both(rt, ranges_of_both(alloc, filter, bitmap), want);
+    both_have_rows(rt, ranges_of_both(alloc, filter, bitmap), want);
 }
 
 fn of_text(rt: &impl Abort, alloc: Global, text: &str, want: Runs) {
@@ -88,12 +80,15 @@ fn words(rt: &impl Abort, alloc: Global, buffer: &BitBuffer, words: &[u64], any:
     assert!(rt; has_any(buffer) == any);
 }
 
+fn words_row(rt: &impl Abort, alloc: Global, text: &str, want: &[u64], any: bool) {
+    words(rt, alloc, &buffer(rt, alloc, text), want, any);
+}
+
 #[test]
 fn words_of_few_values(rt: HostRuntime) {
-    let (rt, alloc) = (&rt, rt.alloc());
-    words(rt, alloc, &buffer(rt, alloc, ""), &[], false);
-    words(rt, alloc, &buffer(rt, alloc, "000"), &[0], false);
-    words(rt, alloc, &buffer(rt, alloc, "1011"), &[13], true);
+    words_row(&rt, rt.alloc(), "", &[], false);
+    words_row(&rt, rt.alloc(), "000", &[0], false);
+    words_row(&rt, rt.alloc(), "1011", &[13], true);
     let last_of_65 = "00000000000000000000000000000000000000000000000000000000000000001";
-    words(rt, alloc, &buffer(rt, alloc, last_of_65), &[0, 1], true);
+    words_row(&rt, rt.alloc(), last_of_65, &[0, 1], true);
 }

@@ -1,5 +1,5 @@
 // Filters on the rows that another one chose.
-use super::helpers::{found, has_list, has_rows, mask};
+use super::helpers::{both_have_rows, has_list, has_rows, mask, masks};
 use std::alloc::Global;
 use std::process::Abort;
 use uses::stacks::{
@@ -12,9 +12,8 @@ const ROWS: [u8; 8] = [10, 11, 12, 13, 14, 15, 16, 17];
 
 fn choose(rt: &impl Abort, alloc: Global, first: &Mask, second: &Mask) {
     assert!(rt; first.len() == 8 && second.len() == first.true_count());
-    let (at_once, in_turn) = found(rt, filtered_both_ways(alloc, &ROWS, first, second));
-    assert!(rt; at_once.as_slice() == [14, 17].as_slice());
-    assert!(rt; in_turn.as_slice() == [14, 17].as_slice());
+    let both = filtered_both_ways(alloc, &ROWS, first, second);
+    both_have_rows(rt, both, &[14, 17]);
 }
 
 fn fold(rt: &impl Abort, alloc: Global, first: &Mask, second: &Mask, third: &Mask) {
@@ -37,14 +36,6 @@ fn three_filters_in_either_grouping(rt: HostRuntime) {
 }
 
 // ---- stacks
-
-fn masks(rt: &impl Abort, alloc: Global, texts: &[&str]) -> Vec<Mask> {
-    let mut masks = Vec::new(alloc);
-    for text in texts {
-        found(rt, masks.push(mask(rt, alloc, text)));
-    }
-    masks
-}
 
 // A stack's fold by one call, and the fold of the regrouped stack.
 fn folds(rt: &impl Abort, alloc: Global, first: &Mask, rest: &[Mask], want: &str) {

@@ -19,6 +19,12 @@ fn nth(rt: &impl Abort, six: (&Mask, &BitBuffer), n: usize, want: (Option<usize>
     assert!(rt; nth_value(six.1, n) == want.1);
 }
 
+fn nth_of_each(rt: &impl Abort, six: (&Mask, &BitBuffer)) {
+    nth(rt, six, 0, (Some(1), Some(false)));
+    nth(rt, six, 2, (Some(5), Some(true)));
+    nth(rt, six, 6, (None, None));
+}
+
 fn pairs(rt: &impl Abort, alloc: Global, long: &Mask, short: &Mask) {
     let pairs = [(false, true), (true, true), (true, false)];
     has_rows(rt, side_by_side(alloc, long, short), &pairs);
@@ -30,8 +36,6 @@ fn walks_of_six(rt: HostRuntime) {
     let (rt, alloc) = (&rt, rt.alloc());
     let (six, bits) = (mask(rt, alloc, SIX), buffer(rt, alloc, SIX));
     first(rt, alloc, &bits);
-    nth(rt, (&six, &bits), 0, (Some(1), Some(false)));
-    nth(rt, (&six, &bits), 2, (Some(5), Some(true)));
-    nth(rt, (&six, &bits), 6, (None, None));
+    nth_of_each(rt, (&six, &bits));
     pairs(rt, alloc, &six, &mask(rt, alloc, "110"));
 }
