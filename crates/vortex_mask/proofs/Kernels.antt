@@ -3,6 +3,7 @@ pub mod DepositListLemmas
 pub mod DepositedWordLemmas
 pub mod DrivenLemmas
 pub mod PathLemmas
+pub mod RankBlockLemmas
 pub mod RankRunLemmas
 pub mod RankWordLemmas
 pub mod WordKernelLemmas

@@ -15,7 +15,7 @@ use Rattle.mask_bits.proofs.Lists.Places.PlaceLemmas.{count-le-length, count-tru
 use Rattle.mask_bits.proofs.Lists.Places.SelectLemmas.{count-word_more}
 use Rattle.mask_bits.proofs.Lists.Words.WordLemmas.{length-word_bits}
 use Rattle.vortex_mask.specs.Deposit.{Deposits}
-use Rattle.vortex_mask.specs.Steps.{StepCounts, word_steps}
+use Rattle.vortex_mask.specs.Steps.{HoldValues, IsDeposited, StepCounts, no_steps, word_steps}
 use Rattle.vortex_mask.proofs.Lists.StartedWordLemmas.{IsAt, list-from_bits, part-same, place-after_within, place-next, places-same}
 use Rattle.vortex_mask.proofs.Kernels.DepositListLemmas.{deposited-value, and_where, trues-take}
 
@@ -63,12 +63,6 @@ written-more r i w out new so_far word here others = λ p h. elim (cases_lt p (6
       ∙ ap (λ (x : List Bool). get_or x (p - 64 * i) false) (here ∙ word)
       ∙ get_or-padded_part r i (p - 64 * i) (omega arith) ∙ ap (λ n. get_or r n false) at_word
 ]
-
--- the first i words of a mask a took their deposits: the next rank bit, the bits of r that are written, and the steps
-pub record IsDeposited (a r : List Bool) (i at : ℕ) (out : List ℕ) (steps : StepCounts) : Type 0 where
-  pub place : at ≡ count_below a (64 * i)
-  pub written : (p : ℕ) → p < 64 * i → backing_bit out p ≡ get_or r p false
-  pub counted : steps ≡ record { deposits = i; words = i; selections = 0; offered = count_below a (64 * i); placed = count_below r (64 * i); spots = 0 }
 
 -- r is a's rank intersection with b
 module _ (a b r : List Bool) (fits : length b ≡ count a) (is_r : r ≡ rank_intersection a b) where
@@ -123,6 +117,25 @@ rank_bits-window a b s {i} {at} {m} fits mask read = λ k h.
     let inside : at + k < b.len = omega (arith, mask.counted, place-after_within mask, length-bitmap b.bytes b.offset b.len) in
     let few : k < 64 = omega (arith, count-le-length (word_bits m), length-word_bits m) in
     grind (arith, read, get_or-window b.bytes (b.offset + at) k false few, get_or-bitmap b.bytes b.offset b.len (at + k) false inside)
+
+-- rank bits that are held by bytes from `from` on
+pub rank_bits-held : (a b : List Bool) (bytes : List ℕ) (s p from at₀ d : ℕ) {i at m ones : ℕ} → length b ≡ count a → IsAt a i at m ones → HoldValues bytes from b at₀
+    → at ≡ at₀ + d → p ≡ from + d → p + 64 ≤ 8 * length bytes → word_bits s ≡ window bytes p → AreRankBits b at s (count (word_bits m))
+rank_bits-held a b bytes s p from at₀ d {i} {at} {m} fits mask held is_at is_p room read = λ k h.
+    let inside : at + k < length b = omega (arith, mask.counted, place-after_within mask) in
+    let few : k < 64 = omega (arith, count-le-length (word_bits m), length-word_bits m) in
+    let e : p + k ≡ from + (d + k) = omega arith in
+    let e₂ : at₀ + (d + k) ≡ at + k = omega arith in
+    ap (λ (x : List Bool). get_or x k false) read ∙ get_or-window bytes p k false few ∙ ap (backing_bit bytes) e
+    ∙ held (d + k) (omega arith) (omega arith) ∙ ap (λ n. get_or b n false) e₂
+
+-- the bytes of a buffer hold its values
+pub values-held : (b : Packed) {bytes : List ℕ} {from : ℕ} → bytes ≡ b.bytes → from ≡ b.offset → HoldValues bytes from (values b) 0
+values-held b is_bytes is_from = λ k h inside. grind (arith, get_or-bitmap b.bytes b.offset b.len k false (omega (arith, length-bitmap b.bytes b.offset b.len)))
+
+-- before the first word
+pub deposited-none : (a r : List Bool) (out : List ℕ) {steps : StepCounts} → steps ≡ no_steps → IsDeposited a r 0 0 out steps
+deposited-none a r out is = record { place = grind arith; written = λ p h. grind arith; counted = is }
 
 -- ---- all words
 

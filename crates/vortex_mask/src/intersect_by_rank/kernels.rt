@@ -4,7 +4,9 @@ mod bit_buffers;
 mod by_path;
 mod indices;
 mod mask_driven;
+mod rank_blocks;
 mod rank_indices;
+mod whole_pairs;
 
 pub use bit_buffers::{intersect_bit_buffers, narrow_by_bits};
 pub(crate) use by_path::narrow_by_path;

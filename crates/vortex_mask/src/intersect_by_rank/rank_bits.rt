@@ -1,6 +1,6 @@
 //! The bits of a rank mask, read many at once from any bit on.
 
-ghost use Rattle.std.specs.Prelude.{◌≡◌, ◌+◌, ◌<◌, ◌^◌};
+ghost use Rattle.std.specs.Prelude.{◌≡◌, ◌+◌, ◌/◌, ◌<◌, ◌≤◌, ◌^◌, length};
 ghost use Rattle.mask_bits.specs.Buffer.{IsWithinBytes};
 ghost use Rattle.mask_bits.specs.Words.{word_bits, window};
 
@@ -62,6 +62,20 @@ impl<'a> RankBits<'a> {
         }
     }
 
+    /// All the bytes, in which value 0 is bit [`RankBits::offset`].
+    pub(super) fn bytes(&self) -> &[u8]
+        ensures { result.now ≡ self.now.bytes }
+    {
+        self.bytes
+    }
+
+    /// Where value 0 is in the bytes.
+    pub(super) fn offset(&self) -> usize
+        ensures { result ≡ self.now.offset }
+    {
+        self.offset
+    }
+
     /// The 64 backing bits from value `offset` on, the first lowest.
     ///
     /// Those past the bytes are 0. Those past the last value but inside the bytes are as they
@@ -78,4 +92,15 @@ impl<'a> RankBits<'a> {
             words::word_at(&self.tail, position - 8 * self.tail_from)
         }
     }
+}
+
+/// The 64 bits from bit `position` on, where there are sixteen bytes from its own on.
+#[inline(always)]
+pub(super) fn word_inside(bytes: &[u8], position: usize) -> u64
+    requires { position / 8 + 16 ≤ length bytes.now }
+    ensures { word_bits result ≡ window bytes.now position }
+{
+    // sixteen bytes just, which `word_at` need not test then
+    let first = position / 8;
+    words::word_at(&bytes[first..first + 16], position % 8)
 }

@@ -152,6 +152,40 @@ impl Steps {
         results
     }
 
+    /// Deposits two words of a list as [`Steps::deposit_two`] does. A list has so few words that its
+    /// sums are of 64 bits, which a loop adds in fewer steps.
+    #[inline(always)]
+    pub(crate) fn deposit_two_listed<D: DepositBits>(
+        &mut self,
+        sources: [u64; 2],
+        masks: [u64; 2],
+        mask_counts: [usize; 2],
+    ) -> [u64; 2]
+        requires few { self.old.deposits + 2 < 2 ^ 58 }
+        requires counted_first { slice_index mask_counts 0
+            ≡ count (word_bits (slice_index masks 0)) }
+        requires counted_second { slice_index mask_counts 1
+            ≡ count (word_bits (slice_index masks 1)) }
+        ensures first { Deposits (slice_index sources 0) (slice_index masks 0)
+            (slice_index result 0) }
+        ensures second { Deposits (slice_index sources 1) (slice_index masks 1)
+            (slice_index result 1) }
+        ensures ticked { self.new ≡ record self.old {
+          deposits = self.old.deposits + 2;
+          offered = self.old.offered + slice_index mask_counts 0 + slice_index mask_counts 1;
+          placed = self.old.placed + count (word_bits (slice_index result 0))
+              + count (word_bits (slice_index result 1));
+        } }
+    {
+        let words = D::deposit_two(sources, masks, mask_counts);
+        let offered = self.offered as u64 + mask_counts[0] as u64 + mask_counts[1] as u64;
+        let placed = self.placed as u64 + u64::from(words[0].count_ones() + words[1].count_ones());
+        self.deposits = self.deposits + 2;
+        self.offered = u128::from(offered);
+        self.placed = u128::from(placed);
+        words
+    }
+
     /// Word `i` of the values: a whole word, or as the last one the values after the whole words
     /// in its low bits and zeros above.
     #[inline(always)]
@@ -188,6 +222,20 @@ impl Steps {
         let first = chunks.word(i);
         let second = chunks.word(i + 1);
         (first, second)
+    }
+
+    /// Whole words `i` and `i + 1` of the values. Counts what two calls of [`Steps::word`] would.
+    #[inline(always)]
+    pub(crate) fn two_whole_words(&mut self, chunks: &BitChunks<'_>, i: usize) -> (u64, u64)
+        requires there { i + 1 < length chunks.now / 64 }
+        requires fits { i + 1 < 2 ^ 64 }
+        requires room { self.old.words + 1 < usize.MAX }
+        ensures first { word_bits result.0 ≡ padded_part chunks.now i }
+        ensures second { word_bits result.1 ≡ padded_part chunks.now (i + 1) }
+        ensures ticked { self.new ≡ record self.old { words = self.old.words + 2 } }
+    {
+        self.words = self.words + 2;
+        (chunks.word(i), chunks.word(i + 1))
     }
 
     /// The place of set bit number `rank` of `word`.

@@ -10,6 +10,7 @@ ghost use Rattle.vortex_mask.specs.MaskValues.{no_caches};
 ghost use Rattle.vortex_mask.specs.Steps.{word_steps};
 ghost use Rattle.mask_bits.specs.Words.{started_words};
 
+use crate::intersect_by_rank::kernels::whole_pairs::narrow_whole_pairs;
 use crate::intersect_by_rank::{DepositBits, RankBits, Steps};
 use crate::mask::{Mask, MaskError};
 use mask_bits::words::{set_word, started_words};
@@ -56,10 +57,13 @@ pub fn narrow_by_bits<D: DepositBits>(
         ≡ word_steps chunks.now (rank_intersection chunks.now (values ranks.now)) }
 {
     let mut steps = Steps::new();
-    // the next rank bit is the one after those of all true values so far
-    let mut at = 0usize;
     let words = out.len() / 8;
-    for pair in 0..words / 2 {
+    let pairs = chunks.started_words() / 2;
+    let (bytes, offset) = (ranks.bytes(), ranks.offset());
+    let inside = narrow_whole_pairs::<D>(&mut steps, chunks, bytes, 0, offset, out);
+    // the next rank bit is the one after those of all true values so far
+    let mut at = inside.1 - offset;
+    for pair in inside.0..pairs {
         let i = 2 * pair;
         let both = steps.two_words(chunks, i);
         let self_words = [both.0, both.1];

@@ -13,6 +13,7 @@ ghost use Rattle.vortex_mask.specs.Steps.{word_steps};
 ghost use Rattle.mask_bits.specs.Words.{word_bits, started_words};
 ghost use Rattle.vortex_mask.specs.Ranks.{AreSplit, IsGathered};
 
+use crate::intersect_by_rank::kernels::rank_blocks::narrow_by_blocks;
 use crate::intersect_by_rank::{DepositBits, Steps};
 use crate::mask::{Mask, MaskError};
 use mask_bits::words::{set_word, started_words};
@@ -62,11 +63,13 @@ pub fn narrow_at_ranks<D: DepositBits>(
         (true_at (length chunks.now) (at_indices (positions chunks.now) ranks.now)) }
 {
     let mut steps = Steps::new();
-    // as many ranks are passed as the words so far have true values
-    let mut at = 0usize;
-    let mut next = 0usize;
     let words = out.len() / 8;
-    for pair in 0..words / 2 {
+    let pairs = chunks.started_words() / 2;
+    let done = narrow_by_blocks::<D>(&mut steps, chunks, ranks, out);
+    // as many ranks are passed as the words so far have true values
+    let mut at = done.1;
+    let mut next = done.2;
+    for pair in done.0..pairs {
         let i = 2 * pair;
         let both = steps.two_words(chunks, i);
         let self_words = [both.0, both.1];
@@ -95,8 +98,8 @@ pub fn narrow_at_ranks<D: DepositBits>(
 
 // The ranks from `at` up to `end` as set bits, that of `at` lowest. Their first one is number
 // `next`, which moves past them.
-#[inline]
-fn bits_of_ranks(ranks: &[usize], next: &mut usize, at: usize, end: usize) -> u64
+#[inline(always)]
+pub(super) fn bits_of_ranks(ranks: &[usize], next: &mut usize, at: usize, end: usize) -> u64
     requires ascending { IsStrictlyIncreasing ranks.now }
     requires ordered { at ≤ end }
     requires few { end ≤ at + 64 }

@@ -1,9 +1,10 @@
-use Rattle.std.proofs.Common.{◌≡◌, ◌+◌, ◌*◌, ◌-◌, ◌/◌, refl, sym, ap, ◌∙◌, arith, count_ones, length}
+use Rattle.std.proofs.Common.{◌≡◌, ◌+◌, ◌*◌, ◌-◌, ◌/◌, refl, sym, ap, subst, ◌∙◌, arith, count_ones, length}
 use Rattle.mask_bits.specs.Buffer.{values}
-use Rattle.mask_bits.specs.Positions.{count_below}
+use Rattle.mask_bits.specs.Positions.{count, count_below, rank_intersection}
 use Rattle.mask_bits.proofs.Lists.LawLemmas.{length-rank_intersection}
 use Rattle.mask_bits.proofs.Lists.Words.WordLemmas.{count-word_bits}
-use Rattle.vortex_mask.proofs.Kernels.WordKernelLemmas.{deposited-more, deposited-two, word-started, rank_bits-window, deposited-list, deposited-steps}
+use Rattle.vortex_mask.specs.Steps.{IsDeposited}
+use Rattle.vortex_mask.proofs.Kernels.WordKernelLemmas.{deposited-more, deposited-none, deposited-two, word-started, rank_bits-window, deposited-list, deposited-steps, values-held}
 use Rattle.vortex_mask.proofs.Lists.StartedWordLemmas.{IsAt, place-next, place-within, place-after_within, rank_place-fits}
 use Rattle.vortex_mask.proofs.intersect_by_rank.kernels.bit_buffers.narrow_by_bits.Goals as goal
 use Rattle.vortex_mask.proofs.intersect_by_rank.kernels.bit_buffers.narrow_by_bits.Goals.{After-two_words-both, After-word-word}
@@ -26,6 +27,18 @@ last g c =
       shows = word-started c.args.chunks.now (length c.args.out.now / 8 - 1) c.word-word.result (omega arith) c.word-word.ensures.whole c.word-word.ensures.last;
       counted = sym (count-word_bits c.word-word.result c.word-word.type_inv);
     }
+
+pub narrow_whole_pairs-inside-requires-clause-places : goal.narrow_whole_pairs-inside-requires-clause-places
+narrow_whole_pairs-inside-requires-clause-places g c = omega (arith, c.offset-offset.ensures, rank_place-fits c.args.chunks.now c.args.ranks.now (count c.args.chunks.now) c.requires.fitting (omega arith) c.requires.within.fits)
+
+pub loop-pair-init : goal.loop-pair-init
+loop-pair-init g c =
+    let a = c.args.chunks.now in
+    let r = rank_intersection a (values c.args.ranks.now) in
+    let e : 0 + (c.narrow_whole_pairs-inside.result.1 - c.offset-offset.result) ≡ c.narrow_whole_pairs-inside.result.1 - c.offset-offset.result = omega arith in
+    subst (λ n. IsDeposited a r (2 * c.narrow_whole_pairs-inside.result.0) n c.narrow_whole_pairs-inside.new.out c.narrow_whole_pairs-inside.new.steps) e
+    (c.narrow_whole_pairs-inside.ensures.narrowed (values c.args.ranks.now) 0 c.requires.fitting (values-held c.args.ranks.now c.bytes-bytes.ensures c.offset-offset.ensures)
+    (deposited-none a r c.args.out.now c.new-steps.ensures))
 
 pub overflow_add-next : goal.overflow_add-next
 overflow_add-next g c = omega (arith, rank_place-fits c.args.chunks.now c.args.ranks.now _ c.requires.fitting (place-after_within (first g c)) c.requires.within.fits)

@@ -1,7 +1,7 @@
 use Rattle.std.proofs.Common.{◌*◌}
 use Rattle.mask_bits.specs.Buffer.{values}
 use Rattle.mask_bits.specs.Positions.{rank_intersection}
-use Rattle.vortex_mask.proofs.Kernels.WordKernelLemmas.{IsDeposited}
+use Rattle.vortex_mask.specs.Steps.{IsDeposited}
 use Rattle.vortex_mask.proofs.intersect_by_rank.kernels.bit_buffers.narrow_by_bits.Given as goal
 
 -- the pairs of words before took their deposits

@@ -1,8 +1,9 @@
-use Rattle.std.proofs.Common.{◌≡◌, ◌+◌, ◌*◌, ◌-◌, ◌/◌, sym, ap, ◌∙◌, refl, arith, count_ones, length}
+use Rattle.std.proofs.Common.{◌≡◌, ◌+◌, ◌*◌, ◌-◌, ◌/◌, sym, ap, subst, ◌∙◌, refl, arith, count_ones, length}
 use Rattle.mask_bits.specs.Positions.{count, count_below, true_at}
 use Rattle.mask_bits.proofs.Lists.Places.PlaceLemmas.{count-le-length}
 use Rattle.mask_bits.proofs.Lists.RankLemmas.{length-true_at}
 use Rattle.mask_bits.proofs.Lists.Words.WordLemmas.{count-word_bits}
+use Rattle.vortex_mask.specs.Steps.{IsDeposited}
 use Rattle.vortex_mask.proofs.Lists.PlaceListLemmas.{narrowed_at}
 use Rattle.vortex_mask.proofs.Kernels.RankWordLemmas.{rank_bits-listed}
 use Rattle.vortex_mask.proofs.Kernels.WordKernelLemmas.{deposited-more, deposited-two, word-started, deposited-list, deposited-steps}
@@ -27,6 +28,15 @@ last g c =
       place = c.loop-pair.invariant.deposited.place ∙ ap (λ n. count_below c.args.chunks.now (64 * n)) e;
       shows = word-started c.args.chunks.now (length c.args.out.now / 8 - 1) c.word-word.result (omega arith) c.word-word.ensures.whole c.word-word.ensures.last;
       counted = sym (count-word_bits c.word-word.result c.word-word.type_inv);
+    }
+
+pub loop-pair-init : goal.loop-pair-init
+loop-pair-init g c =
+    let a = c.args.chunks.now in
+    record {
+      deposited = subst (λ r. IsDeposited a r (2 * c.narrow_by_blocks-done.result.0) c.narrow_by_blocks-done.result.1 c.narrow_by_blocks-done.new.out c.narrow_by_blocks-done.new.steps)
+          (narrowed_at a c.args.ranks.now c.requires.ascending c.requires.within) c.narrow_by_blocks-done.ensures.narrowed;
+      split = c.narrow_by_blocks-done.ensures.passed;
     }
 
 pub overflow_add-middle : goal.overflow_add-middle
@@ -67,7 +77,7 @@ returns-then-words-eq1-clause-list g c =
     let a = c.args.chunks.now in
     let ranks = c.args.ranks.now in
     let here = last g (goal.at.returns-then-words-eq1-clause-list g c).After-word-word in
-    deposited-list (length-true_at _ _) (omega arith) (deposited-more a (true_at (count a) ranks) _ (length-true_at (count a) ranks) (sym (narrowed_at a ranks c.requires.ascending c.requires.within)) (omega arith) c.loop-pair.invariant.deposited here
+    deposited-list (length-true_at _ _) (omega (arith, c.loop-pair.auto.pair-end (omega (arith, c.narrow_by_blocks-done.ensures.within, c.started_words-pairs.ensures.words)))) (deposited-more a (true_at (count a) ranks) _ (length-true_at (count a) ranks) (sym (narrowed_at a ranks c.requires.ascending c.requires.within)) (omega (arith, c.loop-pair.auto.pair-end (omega (arith, c.narrow_by_blocks-done.ensures.within, c.started_words-pairs.ensures.words)))) c.loop-pair.invariant.deposited here
     (rank_bits-listed a ranks c.bits_of_ranks-source.result here refl c.bits_of_ranks-source.ensures.bits)
     c.deposit-kept.ensures.deposited c.set_word-then-words-eq1.ensures.here c.set_word-then-words-eq1.ensures.others c.word-word.ensures.ticked c.deposit-kept.ensures.ticked)
 
@@ -76,12 +86,12 @@ returns-then-words-eq1-clause-steps g c =
     let a = c.args.chunks.now in
     let ranks = c.args.ranks.now in
     let here = last g (goal.at.returns-then-words-eq1-clause-steps g c).After-word-word in
-    deposited-steps (length-true_at _ _) (omega arith) (deposited-more a (true_at (count a) ranks) _ (length-true_at (count a) ranks) (sym (narrowed_at a ranks c.requires.ascending c.requires.within)) (omega arith) c.loop-pair.invariant.deposited here
+    deposited-steps (length-true_at _ _) (omega (arith, c.loop-pair.auto.pair-end (omega (arith, c.narrow_by_blocks-done.ensures.within, c.started_words-pairs.ensures.words)))) (deposited-more a (true_at (count a) ranks) _ (length-true_at (count a) ranks) (sym (narrowed_at a ranks c.requires.ascending c.requires.within)) (omega (arith, c.loop-pair.auto.pair-end (omega (arith, c.narrow_by_blocks-done.ensures.within, c.started_words-pairs.ensures.words)))) c.loop-pair.invariant.deposited here
     (rank_bits-listed a ranks c.bits_of_ranks-source.result here refl c.bits_of_ranks-source.ensures.bits)
     c.deposit-kept.ensures.deposited c.set_word-then-words-eq1.ensures.here c.set_word-then-words-eq1.ensures.others c.word-word.ensures.ticked c.deposit-kept.ensures.ticked)
 
 pub returns-else-words-eq1-clause-list : goal.returns-else-words-eq1-clause-list
-returns-else-words-eq1-clause-list g c = deposited-list (length-true_at _ _) (omega arith) c.loop-pair.invariant.deposited
+returns-else-words-eq1-clause-list g c = deposited-list (length-true_at _ _) (omega (arith, c.loop-pair.auto.pair-end (omega (arith, c.narrow_by_blocks-done.ensures.within, c.started_words-pairs.ensures.words)))) c.loop-pair.invariant.deposited
 
 pub returns-else-words-eq1-clause-steps : goal.returns-else-words-eq1-clause-steps
-returns-else-words-eq1-clause-steps g c = deposited-steps (length-true_at _ _) (omega arith) c.loop-pair.invariant.deposited
+returns-else-words-eq1-clause-steps g c = deposited-steps (length-true_at _ _) (omega (arith, c.loop-pair.auto.pair-end (omega (arith, c.narrow_by_blocks-done.ensures.within, c.started_words-pairs.ensures.words)))) c.loop-pair.invariant.deposited

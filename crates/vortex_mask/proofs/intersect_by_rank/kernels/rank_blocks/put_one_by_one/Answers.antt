@@ -1,0 +1,38 @@
+use Rattle.std.proofs.Common.{◌≡◌, ◌+◌, ◌-◌, ◌*◌, ◌<◌, ◌≤◌, ◌||◌, ℕ, false, nat_eq, get_or, length, take, sym, ap, ◌∙◌, arith}
+use Rattle.std.specs.List.{list_any}
+use Rattle.std.proofs.lemmas.List.{get_or-take, length-take}
+use Rattle.std.proofs.lemmas.List.Folds.{list_any_more}
+use Rattle.mask_bits.specs.Buffer.{backing_bit}
+use Rattle.vortex_mask.proofs.Kernels.RankBlockLemmas.{backing_bit-set, nat_eq-from, among-first}
+use Rattle.vortex_mask.proofs.Lists.PlaceListLemmas.{none-is, rises-to}
+use Rattle.vortex_mask.proofs.intersect_by_rank.kernels.rank_blocks.put_one_by_one.Goals as goal
+
+pub loop-next-init : goal.loop-next-init
+loop-next-init c = record {
+  within = c.requires.from.within;
+  from = c.requires.from.after;
+  bits = λ k h. c.requires.clear k ∙ sym (none-is (c.args.base + k) (take c.args.next c.args.ranks.now)
+      (λ i inside same. omega (arith, length-take c.args.next c.args.ranks.now, get_or-take c.args.next c.args.ranks.now i 0 (omega (arith, length-take c.args.next c.args.ranks.now)), c.requires.from.before i (omega (arith, length-take c.args.next c.args.ranks.now)))));
+}
+
+pub loop-next-preserved : goal.loop-next-preserved
+loop-next-preserved c =
+    let ranks = c.args.ranks.now in
+    let n = c.loop-next.next in
+    let rank : ℕ = get_or ranks n 0 in
+    let from : c.args.base ≤ rank = c.loop-next.invariant.from n (omega arith) (omega (arith, c.loop-next-test.true)) in
+    record {
+      within = omega (arith, c.loop-next-test.true);
+      from = λ j h inside. c.loop-next.invariant.from j (omega arith) inside;
+      bits = λ k h.
+          backing_bit-set c.loop-next.block (rank - c.args.base) k (omega (arith, c.if-ranks-next-lt4096.true, c.requires.room))
+          ∙ grind (arith, nat_eq-from c.args.base k rank from, c.loop-next.invariant.bits k h, list_any_more (nat_eq (c.args.base + k)) ranks n 0 (omega (arith, c.loop-next-test.true)));
+    }
+
+pub returns-else-ranks-next-lt4096-clause-bits : goal.returns-else-ranks-next-lt4096-clause-bits
+returns-else-ranks-next-lt4096-clause-bits c = λ k h small.
+    c.loop-next.invariant.bits k h
+    ∙ among-first c.args.ranks.now c.loop-next.next (c.args.base + k) (λ j later inside. omega (arith, c.if-ranks-next-lt4096.false, rises-to c.args.ranks.now c.loop-next.next j c.requires.ascending later inside))
+
+pub returns-else-ranks-next-lt4096-clause-passed : goal.returns-else-ranks-next-lt4096-clause-passed
+returns-else-ranks-next-lt4096-clause-passed c = λ k later inside. omega (arith, c.if-ranks-next-lt4096.false, rises-to c.args.ranks.now c.loop-next.next k c.requires.ascending later inside)
