@@ -92,6 +92,18 @@ impl Outcome {
         let answer = answered(alloc, &mut call, held, manner);
         outcome_of(answer, before, told(alloc, &call, manner))
     }
+
+    /// The answer, where another one is wanted, and otherwise what an operand is after the call, where that is not what
+    /// it was before.
+    pub fn fault(self, want: &str) -> Option<String> {
+        if self.answer.as_str() != want {
+            Some(self.answer)
+        } else if self.before.as_str() != self.after.as_str() {
+            Some(self.after)
+        } else {
+            None
+        }
+    }
 }
 
 fn outcome_of(answer: Texted, before: Texted, after: Texted) -> Result<Outcome, AllocError> {

@@ -3,6 +3,7 @@
 //! was refused is made once more behind `calls again`. Between `calls` and the next line nothing but the call asks for
 //! memory. The script misses a line that can't be written.
 
+use mask_calls::words::halves;
 use mask_calls::{Answer, Call, Fault, Row, Text, kept, write_outcome};
 use std::alloc::AllocError;
 use std::io::{self, BufRead, BufReader};
@@ -60,7 +61,7 @@ fn check_made<R: Print + AllocGlobal>(rt: &R, row: Row<'_>, call: &mut Call) {
 
 // What a row wants, which may end in ` or ` and what a builder has that was refused: then it is not called again.
 fn wants(want: &str) -> (&str, Option<&str>) {
-    match want.split_once(" or ") {
+    match halves(want, " or ") {
         Some((want, left)) => (want, Some(left)),
         None => (want, None),
     }

@@ -21,7 +21,7 @@ pub(crate) fn check<R: Input + Print + AllocGlobal>(rt: &R) -> io::Result<usize>
 
 // All lines but empty ones and comments.
 fn is_row(line: &str) -> bool {
-    !line.is_empty() && !line.starts_with('#')
+    !matches!(line.as_bytes(), [] | [b'#', ..])
 }
 
 fn check_line<R: Print + AllocGlobal>(rt: &R, line: &str) -> io::Result<usize> {
@@ -67,19 +67,7 @@ fn fault(alloc: Global, name: &str, row: Row<'_>, is_shared: bool) -> Option<Str
         tells_operands: true,
     };
     match Outcome::of(alloc, name, row.words, manner) {
-        Ok(outcome) => fault_of(outcome, row.want),
+        Ok(outcome) => outcome.fault(row.want),
         Err(_) => Some(String::new(alloc)),
-    }
-}
-
-// The answer, where another one is wanted, and otherwise what an operand is after the call, where that is not what it was
-// before.
-pub(crate) fn fault_of(outcome: Outcome, want: &str) -> Option<String> {
-    if outcome.answer.as_str() != want {
-        Some(outcome.answer)
-    } else if outcome.before.as_str() != outcome.after.as_str() {
-        Some(outcome.after)
-    } else {
-        None
     }
 }

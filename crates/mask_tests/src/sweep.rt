@@ -4,7 +4,6 @@
 //! same after the call. Each list of an answer is written whole, and with `=>` in place of `->` without what masks
 //! have cached.
 
-use crate::rows::fault_of;
 use mask_calls::words::halves;
 use mask_calls::{Detail, Manner, Outcome, Row, Text};
 use std::alloc::{AllocError, Global};
@@ -13,11 +12,11 @@ use std::io::{self, BufRead, BufReader};
 // How many wrong answers are told.
 const MOST: usize = 20;
 
-// The forms of both marks.
+// The forms of both marks, with a space between two.
 #[derive(Drop)]
 struct Marks {
-    first: Vec<String>,
-    second: Vec<String>,
+    first: String,
+    second: String,
 }
 
 // What was counted.
@@ -40,8 +39,8 @@ struct Case<'a> {
 /// Makes each call, says which answer otherwise, and how many rows and calls there are. How many calls were wrong.
 pub(crate) fn check<R: Input + Print + AllocGlobal>(rt: &R) -> io::Result<usize> {
     let mut marks = Marks {
-        first: forms(rt.alloc(), "")?,
-        second: forms(rt.alloc(), "")?,
+        first: String::new(rt.alloc()),
+        second: String::new(rt.alloc()),
     };
     let mut count = Count {
         rows: 0,
@@ -58,15 +57,6 @@ pub(crate) fn check<R: Input + Print + AllocGlobal>(rt: &R) -> io::Result<usize>
     Ok(count.wrong)
 }
 
-// Words with a space between two.
-fn forms(alloc: Global, line: &str) -> Result<Vec<String>, AllocError> {
-    let mut forms: Vec<String> = Vec::new(alloc);
-    for word in line.split(' ') {
-        forms.push(String::from_str(alloc, word)?)?;
-    }
-    Ok(forms)
-}
-
 fn check_line<R: Print + AllocGlobal>(
     rt: &R,
     marks: &mut Marks,
@@ -74,8 +64,8 @@ fn check_line<R: Print + AllocGlobal>(
     line: &str,
 ) -> io::Result<()> {
     match halves(line, " ") {
-        Some(("@", list)) => marks.first = forms(rt.alloc(), list)?,
-        Some(("%", list)) => marks.second = forms(rt.alloc(), list)?,
+        Some(("@", list)) => marks.first = String::from_str(rt.alloc(), list)?,
+        Some(("%", list)) => marks.second = String::from_str(rt.alloc(), list)?,
         _ => check_row(rt, marks, count, line)?,
     }
     Ok(())
@@ -122,10 +112,12 @@ fn check_names<R: Print + AllocGlobal>(
 }
 
 fn case_of<'a>(name: &'a str, row: Row<'a>, detail: Detail) -> Case<'a> {
-    let shared = name.strip_suffix("&");
-    let is_shared = shared.is_some();
+    let (name, is_shared) = match halves(name, "&") {
+        Some((name, _)) => (name, true),
+        None => (name, false),
+    };
     Case {
-        name: shared.unwrap_or(name),
+        name,
         words: row.words,
         want: row.want,
         manner: Manner {
@@ -143,7 +135,7 @@ fn check_first<R: Print + AllocGlobal>(
     count: &mut Count,
     case: Case<'_>,
 ) -> io::Result<()> {
-    for form in forms_of(&marks.first, case.words, "@") {
+    for form in forms_of(marks.first.as_str(), case.words, "@").split(' ') {
         let words = filled(rt.alloc(), case.words, "@", form)?;
         check_second(rt, marks, count, case, words.as_str())?;
     }
@@ -158,7 +150,7 @@ fn check_second<R: Print + AllocGlobal>(
     case: Case<'_>,
     words: &str,
 ) -> io::Result<()> {
-    for form in forms_of(&marks.second, words, "%") {
+    for form in forms_of(marks.second.as_str(), words, "%").split(' ') {
         let words = filled(rt.alloc(), words, "%", form)?;
         check_call(rt, count, case, words.as_str())?;
     }
@@ -166,11 +158,10 @@ fn check_second<R: Print + AllocGlobal>(
 }
 
 // Where the mark isn't there, one of them.
-fn forms_of<'a>(forms: &'a [String], words: &str, mark: &str) -> &'a [String] {
-    if words.contains(mark) {
-        forms
-    } else {
-        forms.get(..1).unwrap_or(forms)
+fn forms_of<'a>(forms: &'a str, words: &str, mark: &str) -> &'a str {
+    match (halves(words, mark), halves(forms, " ")) {
+        (None, Some((first, _))) => first,
+        _ => forms,
     }
 }
 
@@ -196,7 +187,7 @@ fn check_call<R: Print + AllocGlobal>(
 ) -> io::Result<()> {
     count.calls = count.calls.saturating_add(1);
     let outcome = Outcome::of(rt.alloc(), case.name, words, case.manner)?;
-    if let Some(fault) = fault_of(outcome, case.want) {
+    if let Some(fault) = outcome.fault(case.want) {
         count.wrong = count.wrong.saturating_add(1);
         if count.wrong <= MOST {
             println!(rt; "{} {words}: {fault} for {}", case.name, case.want)?;
