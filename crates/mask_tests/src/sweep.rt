@@ -113,8 +113,8 @@ fn check_names<R: Print + AllocGlobal>(
 
 fn case_of<'a>(name: &'a str, row: Row<'a>, detail: Detail) -> Case<'a> {
     let (name, is_shared) = match halves(name, "&") {
-        Some((name, _)) => (name, true),
-        None => (name, false),
+        Some((name, "")) => (name, true),
+        _ => (name, false),
     };
     Case {
         name,
