@@ -10,8 +10,8 @@ from pathlib import Path
 
 ROOT = Path(__file__).resolve().parent.parent
 CRATES = ROOT / "crates"
-# Crates that have nothing but tests.
-TEST_CRATES = "mask_calls", "mask_tests", "uses_tests"
+# Crates that have nothing but tests, and the benchmark.
+TEST_CRATES = "mask_calls", "mask_tests", "uses_tests", "mask_bench"
 
 
 class Function:

@@ -1,0 +1,75 @@
+//! A table of columns, and parts of lists.
+
+use crate::numbers::Numbers;
+use std::alloc::{AllocError, Global};
+
+/// Columns of 1, 4, 8 and 16 bytes a row, and one in order, with long runs of one value.
+#[derive(Drop)]
+pub struct Table {
+    pub codes: Vec<u8>,
+    pub counts: Vec<u32>,
+    pub keys: Vec<u64>,
+    pub pairs: Vec<(u64, u64)>,
+    pub days: Vec<u32>,
+}
+
+impl Table {
+    pub fn new(alloc: Global, numbers: &mut Numbers, rows: u32) -> Result<Table, AllocError> {
+        Ok(Table {
+            codes: codes(alloc, numbers, rows)?,
+            counts: counts(alloc, numbers, rows)?,
+            keys: keys(alloc, numbers, rows)?,
+            pairs: pairs(alloc, numbers, rows)?,
+            days: days(alloc, rows)?,
+        })
+    }
+}
+
+/// A column of a byte a row.
+pub fn codes(alloc: Global, numbers: &mut Numbers, rows: u32) -> Result<Vec<u8>, AllocError> {
+    let mut column = Vec::new(alloc);
+    for _ in 0..rows {
+        column.push((numbers.next() >> 56) as u8)?;
+    }
+    Ok(column)
+}
+
+fn counts(alloc: Global, numbers: &mut Numbers, rows: u32) -> Result<Vec<u32>, AllocError> {
+    let mut column = Vec::new(alloc);
+    for _ in 0..rows {
+        column.push((numbers.next() >> 32) as u32)?;
+    }
+    Ok(column)
+}
+
+fn keys(alloc: Global, numbers: &mut Numbers, rows: u32) -> Result<Vec<u64>, AllocError> {
+    let mut column = Vec::new(alloc);
+    for _ in 0..rows {
+        column.push(numbers.next())?;
+    }
+    Ok(column)
+}
+
+fn pairs(alloc: Global, numbers: &mut Numbers, rows: u32) -> Result<Vec<(u64, u64)>, AllocError> {
+    let mut column = Vec::new(alloc);
+    for _ in 0..rows {
+        let first = numbers.next();
+        column.push((first, first.rotate_left(17)))?;
+    }
+    Ok(column)
+}
+
+fn days(alloc: Global, rows: u32) -> Result<Vec<u32>, AllocError> {
+    let mut column = Vec::new(alloc);
+    for row in 0..rows {
+        column.push(row / 700)?;
+    }
+    Ok(column)
+}
+
+/// The entries from `start` on, `len` of them or fewer where the list ends.
+pub fn part<T>(list: &[T], start: usize, len: usize) -> &[T] {
+    let start = start.min(list.len());
+    let len = len.min(list.len() - start);
+    &list[start..start + len]
+}

@@ -1,0 +1,15 @@
+use Rattle.std.proofs.Common.{Bool, List, false, get_or, ap, ◌∙◌, arith}
+use Rattle.std.proofs.lemmas.List.{take_all}
+use Rattle.mask_bits.proofs.BoolsLemmas.{lanes-none, lanes-more}
+use Rattle.mask_bits.proofs.bools.word_of_bools.Goals as goal
+
+pub loop-j-init : goal.loop-j-init
+loop-j-init c = lanes-none c.args.bools.now
+
+pub loop-j-preserved : goal.loop-j-preserved
+loop-j-preserved c = lanes-more c.args.bools.now c.loop-j.lanes c.loop-j.j (omega arith) c.loop-j.invariant
+
+pub returns : goal.returns
+returns c k h =
+    let m = c.args.bools.now in
+    c.word_of_lanes.ensures k h ∙ c.loop-j.invariant.each k h ∙ ap (λ (xs : List Bool). get_or xs k false) (take_all c.loop-j.j m (omega arith))
