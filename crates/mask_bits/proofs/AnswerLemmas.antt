@@ -1,15 +1,14 @@
--- What a test answers of rows, row by row and word by word.
-use Rattle.std.proofs.Common.{◌≡◌, ℕ, drop, ◌+◌, ◌-◌, ◌*◌, ◌%◌, ◌^◌, ◌<◌, ◌≤◌, Bool, false, List, [], ◌∷◌, ◌++◌, length, get_or, map, take, zip, refl, sym, ap, ap₂, subst, ◌∙◌, arith}
+-- What a test answers of rows, row by row and lane by lane.
+use Rattle.std.proofs.Common.{◌≡◌, ℕ, drop, ◌+◌, ◌-◌, ◌<◌, ◌≤◌, Bool, false, List, [], ◌∷◌, ◌++◌, length, get_or, map, nat_eq, replicate, set, take, zip, refl, sym, ap, ap₂, subst, ◌∙◌, arith}
 use Rattle.std.specs.Borrow.{Bor}
 use Rattle.std.specs.Fn.{FnReturnsAt, Shared}
-use Rattle.std.specs.Int.RustNames.{bit_or}
 use Rattle.std.specs.List.{All}
 use Rattle.std.proofs.lemmas.List.{ext_get_or, get_or-take, length-take, length-append, length-drop, length-take-le, take-append-le, take-take, take-append-drop, drop-take}
 use Rattle.std.proofs.Math.Seq.{get_or-append_seam}
 use Rattle.std.proofs.lemmas.List.Elements.{All-nil, All-cons, All-head, All-tail}
 use Rattle.mask_bits.specs.Rows.{AreAnswers, AreAsComputed}
 use Rattle.mask_bits.specs.Words.{word_bits}
-use Rattle.mask_bits.proofs.BoolsLemmas.{IsPacked, packed-none, packed-more}
+use Rattle.mask_bits.proofs.BoolsLemmas.{AreLanesOf, lanes-none, lanes-more}
 use Rattle.mask_bits.proofs.Lists.Words.WordLemmas.{length-word_bits}
 use mir.Val.{bool_byte}
 
@@ -69,39 +68,43 @@ answers-more gives rows n e w a new ordered front back same =
     subst (λ (xs : List Bool). AreAnswers gives (take e rows) xs) (sym same)
     (subst (λ rs. AreAnswers gives rs (a ++ take (length part) (word_bits w))) (take_part n (e - n) rows ∙ ap (λ k. take k rows) sum) (answers-append gives (take n rows) part a (take (length part) (word_bits w)) front back))
 
--- ---- in a word
+-- ---- in lanes
 
--- the word's lowest bits are the answers at the rows so far
-pub record ArePacked {T : Type 0} (gives : T → Bool → Type 0) (rows : List T) (w : ℕ) : Type 0 where
+-- the lanes of the answers at the rows so far
+pub record ArePacked {T : Type 0} (gives : T → Bool → Type 0) (rows : List T) (lanes : List ℕ) : Type 0 where
   pub list : List Bool
   pub answers : AreAnswers gives rows list
-  pub packed : IsPacked list (length rows) w
+  pub packed : AreLanesOf list (length rows) lanes
 
-pub packed_no_answers : {T : Type 0} (gives : T → Bool → Type 0) → ArePacked gives [] 0
-packed_no_answers gives = record { list = []; answers = no_answers gives; packed = packed-none [] }
+pub packed_no_answers : {T : Type 0} (gives : T → Bool → Type 0) → ArePacked gives [] (replicate 64 0)
+packed_no_answers gives = record { list = []; answers = no_answers gives; packed = lanes-none [] }
 
-pub packed_one_more : {T : Type 0} (gives : T → Bool → Type 0) (rows : List T) (j w : ℕ) (row : T) (b : Bool) → length rows ≡ j → j < 64 → gives row b → ArePacked gives rows w
-    → ArePacked gives (rows ++ row ∷ []) (bit_or w (bool_byte b * 2 ^ j % 2 ^ 64))
-packed_one_more gives rows j w row b at few is so_far =
+pub packed_one_more : {T : Type 0} (gives : T → Bool → Type 0) (rows : List T) (j : ℕ) (lanes : List ℕ) (row : T) (b : Bool) → length rows ≡ j → j < 64 → gives row b → ArePacked gives rows lanes
+    → ArePacked gives (rows ++ row ∷ []) (set lanes j (bool_byte b))
+packed_one_more gives rows j lanes row b at few is so_far =
     let list : List Bool = so_far.list in
     let len : length list ≡ j = so_far.answers.len ∙ at in
-    let before : IsPacked (list ++ b ∷ []) j w = λ k h. so_far.packed k h ∙ ap (λ (n : ℕ). get_or (take n list) k false) at ∙ ap (λ (xs : List Bool). get_or xs k false) (sym (take-append-le j list (b ∷ []) (omega (arith, len)))) in
+    let before : AreLanesOf (list ++ b ∷ []) j lanes = record {
+      len = so_far.packed.len;
+      each = λ k h. so_far.packed.each k h ∙ ap (λ (n : ℕ). get_or (take n list) k false) at ∙ ap (λ (xs : List Bool). get_or xs k false) (sym (take-append-le j list (b ∷ []) (omega (arith, len))));
+    } in
     let value : get_or (list ++ b ∷ []) j false ≡ b = subst (λ (n : ℕ). get_or (list ++ b ∷ []) n false ≡ b) len (get_or-append_seam list b [] false) in
     let longer : length (rows ++ row ∷ []) ≡ j + 1 = omega (arith, length-append rows (row ∷ []), at) in
     record {
       list = list ++ b ∷ [];
       answers = answers-append gives rows (row ∷ []) list (b ∷ []) so_far.answers (one_answer gives row b is);
-      packed = subst (λ (n : ℕ). IsPacked (list ++ b ∷ []) n (bit_or w (bool_byte b * 2 ^ j % 2 ^ 64))) (sym longer)
-          (subst (λ (v : Bool). IsPacked (list ++ b ∷ []) (j + 1) (bit_or w (bool_byte v * 2 ^ j % 2 ^ 64))) value (packed-more (list ++ b ∷ []) j w few before));
+      packed = subst (λ (n : ℕ). AreLanesOf (list ++ b ∷ []) n (set lanes j (bool_byte b))) (sym longer)
+          (subst (λ (v : Bool). AreLanesOf (list ++ b ∷ []) (j + 1) (set lanes j (bool_byte v))) value (lanes-more (list ++ b ∷ []) lanes j few before));
     }
 
--- the word's lowest bits are the answers
-pub answers_of_word : {T : Type 0} (gives : T → Bool → Type 0) (rows : List T) (w : ℕ) → length rows ≤ 64 → ArePacked gives rows w → AreAnswers gives rows (take (length rows) (word_bits w))
-answers_of_word gives rows w few packed =
+-- the lowest bits of the word that the lanes become are the answers
+pub answers_of_word : {T : Type 0} (gives : T → Bool → Type 0) (rows : List T) (lanes : List ℕ) (w : ℕ) → length rows ≤ 64
+    → ((j : ℕ) → j < 64 → get_or (word_bits w) j false ≡ nat_eq (get_or lanes j 0) 1) → ArePacked gives rows lanes → AreAnswers gives rows (take (length rows) (word_bits w))
+answers_of_word gives rows lanes w few is_word packed =
     let n : ℕ = length rows in
     let list : List Bool = packed.list in
     let len : length (take n (word_bits w)) ≡ n = length-take n (word_bits w) ∙ omega (arith, length-word_bits w) in
     let same : list ≡ take n (word_bits w) =
     ext_get_or false list (take n (word_bits w)) (packed.answers.len ∙ sym len)
-    (λ k h. sym (get_or-take n (word_bits w) k false (omega (arith, packed.answers.len)) ∙ packed.packed k (omega (arith, packed.answers.len)) ∙ get_or-take n list k false (omega (arith, packed.answers.len)))) in
+    (λ k h. sym (get_or-take n (word_bits w) k false (omega (arith, packed.answers.len)) ∙ is_word k (omega (arith, packed.answers.len)) ∙ packed.packed.each k (omega (arith, packed.answers.len)) ∙ get_or-take n list k false (omega (arith, packed.answers.len)))) in
     subst (λ (xs : List Bool). AreAnswers gives rows xs) same packed.answers

@@ -1,44 +1,46 @@
 -- Truth values that are packed into words.
-use Rattle.std.proofs.Common.{◌≡◌, ℕ, ◌+◌, ◌*◌, ◌-◌, ◌%◌, ◌^◌, ◌<◌, ◌≤◌, ◌⊎◌, Bool, true, false, ◌||◌, nat_eq, List, get_or, take, refl, sym, ap, ◌∙◌, inl, inr, arith}
-use Rattle.std.specs.Int.{bit_at, w64}
-use Rattle.std.specs.Int.Bits.{or_zero_r}
-use Rattle.std.specs.Int.RustNames.{bit_or}
-use Rattle.std.proofs.lemmas.Bool.{cases_eq, cases_lt, eq-eqb, ne_eqb}
-use Rattle.std.proofs.lemmas.Nat.Bits.{bit_at-zero, bit_at_set_same, bit_at_set_other}
+use Rattle.std.proofs.Common.{◌≡◌, ℕ, ◌+◌, ◌*◌, ◌-◌, ◌<◌, ◌≤◌, ◌⊎◌, Bool, true, false, nat_eq, List, get_or, length, replicate, set, take, refl, sym, ap, ◌∙◌, inl, inr, arith}
+use Rattle.std.proofs.lemmas.Bool.{cases_eq, cases_lt}
+use Rattle.std.proofs.lemmas.List.{get_or-replicate, get_or-set_same, get_or-set_other, get_or-take, get_or_past, length-replicate, length-set, length-take}
 use Rattle.mask_bits.specs.Buffer.{backing_bit}
 use Rattle.mask_bits.specs.Words.{word_bits, window}
 use Rattle.mask_bits.proofs.Lists.Words.FrontLemmas.{get_or-window}
-use Rattle.mask_bits.proofs.Lists.Places.PlaceLemmas.{get_or-take_true, get_or-take_false}
-use Rattle.mask_bits.proofs.Lists.Words.WordLemmas.{get_or-word_bits}
 use mir.Val.{bool_byte}
 
--- the bits of w are the first j values of m, and zeros
-abbrev pub IsPacked : List Bool → ℕ → ℕ → Type 0
-IsPacked m j w = (k : ℕ) → k < 64 → get_or (word_bits w) k false ≡ get_or (take j m) k false
+-- ---- a lane for each value
 
-pub packed-none : (m : List Bool) → IsPacked m 0 0
-packed-none m k h = get_or-word_bits 0 k false h ∙ ap (λ b. nat_eq b 1) (bit_at-zero k)
+-- 64 lanes, each of them 1 where one of the first j values is true
+pub record AreLanesOf (m : List Bool) (j : ℕ) (lanes : List ℕ) : Type 0 where
+  pub len : length lanes ≡ 64
+  pub each : (k : ℕ) → k < 64 → nat_eq (get_or lanes k 0) 1 ≡ get_or (take j m) k false
 
--- one more value, which is known
-packed_value : (b : Bool) (m : List Bool) (j w : ℕ) → get_or m j false ≡ b → j < 64 → IsPacked m j w → IsPacked m (j + 1) (bit_or w (bool_byte b * 2 ^ j % 2 ^ 64))
-packed_value true m j w is few before k h =
-    let v : ℕ = bit_or w (1 * 2 ^ j % 2 ^ 64) in
-    get_or-word_bits v k false h
-    ∙ elim (cases_eq k j) [
-      | inl same ↦
-          ap (λ i. nat_eq (bit_at v i) 1) same ∙ ap (λ b. nat_eq b 1) (bit_at_set_same w64 w j few)
-          ∙ sym (get_or-take_true m j k is ∙ ap (λ b. b || get_or (take j m) k false) (eq-eqb k j same))
-      | inr apart ↦
-          ap (λ b. nat_eq b 1) (bit_at_set_other w64 w j few k apart) ∙ sym (get_or-word_bits w k false h) ∙ before k h
-          ∙ sym (get_or-take_true m j k is ∙ ap (λ b. b || get_or (take j m) k false) (ne_eqb k j apart))
-    ]
-packed_value false m j w is few before k h =
-    let none : 0 * 2 ^ j % 2 ^ 64 ≡ 0 = omega arith in
-    ap (λ n. get_or (word_bits (bit_or w n)) k false) none ∙ ap (λ n. get_or (word_bits n) k false) (or_zero_r w)
-    ∙ before k h ∙ sym (get_or-take_false m j k is)
+pub lanes-none : (m : List Bool) → AreLanesOf m 0 (replicate 64 0)
+lanes-none m = record { len = length-replicate {A = ℕ} 64 0; each = λ k h. ap (λ n. nat_eq n 1) (get_or-replicate 64 k 0 0 h) }
 
-pub packed-more : (m : List Bool) (j w : ℕ) → j < 64 → IsPacked m j w → IsPacked m (j + 1) (bit_or w (bool_byte (get_or m j false) * 2 ^ j % 2 ^ 64))
-packed-more m j w few before = packed_value (get_or m j false) m j w refl few before
+is_set_lane : (b : Bool) → nat_eq (bool_byte b) 1 ≡ b
+is_set_lane true = refl
+is_set_lane false = refl
+
+past_front : (m : List Bool) (j k : ℕ) → j ≤ k → get_or (take j m) k false ≡ false
+past_front m j k h = get_or_past (take j m) k false (omega (arith, length-take j m))
+
+pub lanes-more : (m : List Bool) (lanes : List ℕ) (j : ℕ) → j < 64 → AreLanesOf m j lanes → AreLanesOf m (j + 1) (set lanes j (bool_byte (get_or m j false)))
+lanes-more m lanes j few before = record {
+  len = length-set lanes j _ ∙ before.len;
+  each = λ k h.
+      let b : Bool = get_or m j false in
+      elim (cases_eq k j) [
+        | inl same ↦
+            ap (λ i. nat_eq (get_or (set lanes j (bool_byte b)) i 0) 1) same ∙ ap (λ n. nat_eq n 1) (get_or-set_same lanes j (bool_byte b) 0 (omega (arith, before.len)))
+            ∙ is_set_lane b ∙ sym (get_or-take (j + 1) m j false (omega arith)) ∙ ap (λ i. get_or (take (j + 1) m) i false) (sym same)
+        | inr apart ↦
+            ap (λ n. nat_eq n 1) (get_or-set_other lanes j k (bool_byte b) 0 apart) ∙ before.each k h
+            ∙ elim (cases_lt k j) [
+              | inl below ↦ get_or-take j m k false below ∙ sym (get_or-take (j + 1) m k false (omega arith))
+              | inr above ↦ past_front m j k above ∙ sym (past_front m (j + 1) k (omega arith))
+            ]
+      ];
+}
 
 -- one more word of a list is written
 pub bools-more : (old new : List ℕ) (m part : List Bool) (i w : ℕ) → ((p : ℕ) → p < 64 * i → backing_bit old p ≡ get_or m p false)
@@ -55,5 +57,3 @@ bools-more old new m part i w before wrote others is_word is_part p h =
           ap (backing_bit new) (sym at) ∙ sym (get_or-window new (64 * i) j false few)
           ∙ ap (λ (bits : List Bool). get_or bits j false) wrote ∙ is_word j few ∙ is_part j few ∙ ap (λ k. get_or m k false) at
     ]
-
-pub ruleset packed_bools = (packed-more, get_or-word_bits, bit_at-zero)

@@ -1,10 +1,11 @@
 //! Truth values packed into words.
 
-ghost use Rattle.std.specs.Prelude.{◌≡◌, ◌*◌, ◌<◌, ◌≤◌, ℕ, false, length, slice_index_or};
+ghost use Rattle.std.specs.Prelude.{◌≡◌, ◌*◌, ◌<◌, ◌≤◌, ℕ, false, length, nat_eq, slice_index_or};
 ghost use Rattle.mask_bits.specs.Buffer.{backing_bit};
 ghost use Rattle.mask_bits.specs.Words.{word_bits, started_words};
 
 use crate::words::set_word;
+use std::simd::prelude::*;
 
 /// Writes truth values to the front of `bytes`, which is room of whole words, a word at a time. The bits
 /// past them have no meaning.
@@ -24,18 +25,27 @@ pub fn put_bools(bytes: &mut [u8], bools: &[bool])
 
 /// The word of at most 64 values, the first lowest, with zeros past them.
 //
-// With no branch for a value, and always inlined: where there are 64 the loop becomes one of a few
-// steps, each of which takes several values.
-#[tactic(auto, using(crate::proofs::BoolsLemmas::packed_bools))]
+// Always inlined: where there are 64, a value is a lane that is copied, and no loop is left.
 #[inline(always)]
 pub fn word_of_bools(bools: &[bool]) -> u64
     requires { length bools.now ≤ 64 }
     ensures { (j : ℕ) → j < 64
         → slice_index_or (word_bits result) j false ≡ slice_index_or bools.now j false }
 {
-    let mut word = 0;
+    let mut lanes = [0u8; 64];
     for j in 0..bools.len() {
-        word |= (bools[j] as u64) << j;
+        lanes[j] = bools[j] as u8;
     }
-    word
+    word_of_lanes(&lanes)
+}
+
+// The word whose bit `j` is set exactly where lane `j` is 1.
+#[inline(always)]
+pub(crate) fn word_of_lanes(lanes: &[u8; 64]) -> u64
+    ensures { (j : ℕ) → j < 64
+        → slice_index_or (word_bits result) j false ≡ nat_eq (slice_index_or lanes.now j 0) 1 }
+{
+    u8x64::from_slice(lanes)
+        .simd_eq(u8x64::splat(1))
+        .to_bitmask()
 }

@@ -6,6 +6,7 @@ ghost use Rattle.mask_bits.specs.Buffer.{values};
 ghost use Rattle.mask_bits.specs.Rows.{AreAnswers, AreAsComputed};
 ghost use Rattle.mask_bits.specs.Words.{word_bits};
 
+use crate::bools::word_of_lanes;
 use crate::buffer::BitBuffer;
 use crate::buffer_mut::BitBufferMut;
 use std::alloc::{AllocError, Global};
@@ -36,7 +37,8 @@ impl BitBuffer {
 
 // The word of what a test answers of at most 64 rows, the first lowest, with zeros past them.
 //
-// With no branch for a row, and always inlined, as the packing of a list's values.
+// An answer is a lane of its own, so that several rows are tested at once where the test allows it, and all lanes
+// become bits together. Always inlined, as the packing of a list's values.
 #[inline(always)]
 fn word_of_rows<T, F: Fn(&T) -> bool>(rows: &[T], test: &F) -> u64
     requires few { length rows.now ≤ 64 }
@@ -44,9 +46,9 @@ fn word_of_rows<T, F: Fn(&T) -> bool>(rows: &[T], test: &F) -> u64
     ensures { AreAnswers (FnReturnsAt F.Fn test.now) rows.now
         (take (length rows.now) (word_bits result)) }
 {
-    let mut word = 0;
+    let mut lanes = [0u8; 64];
     for j in 0..rows.len() {
-        word |= (test(&rows[j]) as u64) << j;
+        lanes[j] = test(&rows[j]) as u8;
     }
-    word
+    word_of_lanes(&lanes)
 }
