@@ -12,6 +12,7 @@ pub mod Lend
 pub mod Mask
 pub mod MaskValues
 pub mod Path
+pub mod PutRows
 pub mod Ranges
 pub mod Ranks
 pub mod Steps

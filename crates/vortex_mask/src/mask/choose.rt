@@ -5,6 +5,7 @@ ghost use Rattle.mask_bits.specs.Buffer.{values};
 ghost use Rattle.mask_bits.specs.Positions.{count, chosen};
 ghost use Rattle.vortex_mask.specs.Mask.{truth, variant, all_false};
 
+use crate::mask::put_rows::put_rows;
 use crate::mask::{Mask, MaskError};
 use mask_bits::BitBuffer;
 use std::alloc::{AllocError, Global};
@@ -25,19 +26,30 @@ impl Mask {
         match self {
             Mask::AllTrue(_) => Ok(Vec::from_slice(alloc, rows)?),
             Mask::AllFalse(_) => Ok(Vec::new(alloc)),
-            Mask::Values(values) => Ok(rows_at(alloc, rows, values.bit_buffer())?),
+            Mask::Values(values) => {
+                let true_count = values.true_count();
+                Ok(rows_at(alloc, rows, values.bit_buffer(), true_count)?)
+            },
         }
     }
 }
 
-// The rows at the true indices of a buffer, in their order.
-fn rows_at<T: Copy>(alloc: Global, rows: &[T], buffer: &BitBuffer) -> Result<Vec<T>, AllocError>
-    requires { length rows.now ≡ length (values buffer.now) }
+// The rows at the true indices of a buffer, of which there are `true_count`, in their order.
+fn rows_at<T: Copy>(
+    alloc: Global,
+    rows: &[T],
+    buffer: &BitBuffer,
+    true_count: usize,
+) -> Result<Vec<T>, AllocError>
+    requires fitting { length rows.now ≡ length (values buffer.now) }
+    requires counted { true_count ≡ count (values buffer.now) }
     ensures { IfOk result (λ v. v.items ≡ chosen rows.now (values buffer.now)) }
 {
-    let mut chosen_rows = Vec::new(alloc);
-    for index in buffer.set_indices() {
-        chosen_rows.push(rows[index])?;
-    }
+    // filled with any row, so that whole groups of rows can be written into it
+    let Some(any) = rows.first() else {
+        return Ok(Vec::new(alloc));
+    };
+    let mut chosen_rows = vec![in alloc; *any; true_count]?;
+    put_rows(&mut chosen_rows, rows, &buffer.chunks());
     Ok(chosen_rows)
 }

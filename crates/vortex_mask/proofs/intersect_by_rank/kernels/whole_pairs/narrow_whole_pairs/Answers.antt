@@ -1,7 +1,7 @@
-use Rattle.std.proofs.Common.{◌≡◌, ◌+◌, ◌*◌, ◌-◌, ◌/◌, ◌≤◌, refl, sym, ap, subst, ◌∙◌, inl, inr, arith, count_ones, get_or, length}
+use Rattle.std.proofs.Common.{◌≡◌, ◌+◌, ◌*◌, ◌-◌, ◌/◌, ◌≤◌, refl, sym, ap, subst, inl, inr, arith, count_ones, length}
 use Rattle.std.proofs.lemmas.Bool.{cases_lt}
 use Rattle.std.proofs.lemmas.Nat.{ones-le}
-use Rattle.mask_bits.specs.Positions.{count, count_below, rank_intersection}
+use Rattle.mask_bits.specs.Positions.{count_below, rank_intersection}
 use Rattle.mask_bits.proofs.Lists.Words.WordLemmas.{count-word_bits}
 use Rattle.vortex_mask.specs.Steps.{IsDeposited}
 use Rattle.vortex_mask.proofs.Kernels.WordKernelLemmas.{deposited-two, rank_bits-held}

@@ -1,4 +1,4 @@
-use Rattle.std.proofs.Common.{◌≡◌, ◌≤◌, ℕ, ◌+◌, ap, count_ones, arith, get_or}
+use Rattle.std.proofs.Common.{◌≤◌, ℕ, count_ones, arith, get_or}
 use Rattle.std.proofs.lemmas.Nat.{ones-le}
 use Rattle.mask_bits.specs.Positions.{count}
 use Rattle.mask_bits.specs.Words.{word_bits}
