@@ -19,6 +19,7 @@ use std::rc::Rc;
 impl Mask {
     // The mask of `len` values of which `true_count` are true, if these are none or all. No values are
     // all false.
+    #[inline]
     pub(super) fn of_one_value(len: usize, true_count: usize) -> Option<Mask>
         ensures { MatchOption result ((0 < true_count) × (true_count ≢ len))
             (λ m. ((true_count ≡ 0) × (m ≡ Mask.AllFalse len))
@@ -34,6 +35,7 @@ impl Mask {
     }
 
     // The mask of mixed values, of which `true_count` are true, with these lists of them cached.
+    #[inline(always)]
     pub(super) fn of_mixed(
         alloc: Global,
         buffer: BitBuffer,
@@ -62,6 +64,7 @@ impl Mask {
 
     // The values of a buffer, of which `true_count` are true. Where they are mixed they cache these
     // ranges, the buffer's runs.
+    #[inline]
     pub(crate) fn from_counted_buffer(
         alloc: Global,
         buffer: BitBuffer,

@@ -57,6 +57,7 @@ impl fmt::Debug for MaskValues {
 }
 
 impl MaskValues {
+    #[inline(always)]
     pub(crate) fn new(
         buffer: BitBuffer,
         true_count: usize,
