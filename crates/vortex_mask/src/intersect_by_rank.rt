@@ -6,6 +6,7 @@ mod kernels;
 mod path;
 mod rank_bits;
 mod select;
+mod stack;
 mod steps;
 
 ghost use Rattle.std.specs.Prelude.{◌≡◌, ◌≢◌, ◌<◌, ◌⊎◌, ◌∷◌, [], IsOk, IfOk, All, fold, map, length, IsOkUnless, alloc_error};
@@ -30,6 +31,7 @@ pub use kernels::{
 pub use path::{RankPath, rank_path};
 pub use rank_bits::RankBits;
 pub use select::SelectBit;
+use stack::{all_choose, fold_down, lists_at_last, with_lists};
 use std::alloc::Global;
 pub use steps::Steps;
 
@@ -129,6 +131,12 @@ impl Mask {
         ensures refused { IsOkUnless result (MaskError.Memory alloc_error) }
     {
         mask_bits::laws::folds();
+        if let Mask::Values(values) = self {
+            if masks.len() > 1 && all_choose(masks) {
+                let folded = fold_down(alloc, self, masks)?;
+                return with_lists(alloc, folded, lists_at_last(values, masks));
+            }
+        }
         let mut narrowed = self.clone()?;
         for mask in masks {
             narrowed = narrowed.intersect_by_rank(alloc, mask)?;

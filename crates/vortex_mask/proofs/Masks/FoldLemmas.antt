@@ -1,13 +1,14 @@
 -- The variant of a fold, and folds that need no memory.
-use Rattle.std.proofs.Common.{◌≡◌, ◌≢◌, ℕ, ◌+◌, ◌<◌, Bool, List, [], ◌∷◌, length, get_or, drop, fold, map, refl, ap, arith}
-use Rattle.std.proofs.lemmas.List.{drop_more}
+use Rattle.std.proofs.Common.{◌≡◌, ◌≢◌, ℕ, zero, suc, ◌+◌, ◌<◌, Bool, List, [], ◌∷◌, length, get_or, drop, fold, map, refl, sym, subst, ap, ap₂, ◌∙◌, arith}
+use Rattle.std.proofs.lemmas.List.{drop_all, drop_more, length-drop, length-map}
+use Rattle.std.proofs.lemmas.List.Elements.{All-head}
 use Rattle.std.specs.List.{All}
 use Rattle.mask_bits.specs.Positions.{count, rank_intersection}
 use Rattle.mask_bits.proofs.Lists.CountLemmas.{count-repeated_true, count-repeated_false, length-repeated}
 use Rattle.mask_bits.proofs.Lists.LawLemmas.{rank_intersection_count, folding_keeps_a_stack}
 use Rattle.mask_bits.proofs.Lists.Places.PlaceLemmas.{count-le-length}
 use Rattle.mask_bits.proofs.Lists.RankLemmas.{rank_intersection-all_true}
-use Rattle.mask_bits.proofs.Lists.StackLemmas.{length_of_fold}
+use Rattle.mask_bits.proofs.Lists.StackLemmas.{folded_by_the_first, length_of_fold}
 use Rattle.mask_bits.specs.Stacks.{IsStack, folded_left}
 use Rattle.vortex_mask.specs.Mask.{truth, Variant, variant, variant_and, fitting_variant, all_true, all_false, mixed}
 use Rattle.vortex_mask.specs.declared.mask.Mask.{Mask}
@@ -57,3 +58,54 @@ pub record IsFoldSoFar (first : Mask) (masks : List Mask) (i : ℕ) (r : Mask) :
 pub fold_more : (first : Mask) (masks : List Mask) (i : ℕ) (a b r : Mask) → i < length masks → b ≡ get_or masks i b → IsFoldSoFar first masks i a
     → truth r ≡ rank_intersection (truth a) (truth b) → variant r ≡ fitting_variant (variant_and (variant a) (variant b)) (truth r) → IsFoldSoFar first masks (i + 1) r
 fold_more first masks i a b r within at so_far list held = grind (arith, drop_more, folding_keeps_a_stack, fold_variant, length_of_fold, stays_of_one_value, stays_all_false)
+
+-- ---- the fold from the last mask down
+
+-- the masks from one of them on are a stack
+stack_from : (a : List Bool) (masks : List Mask) (i : ℕ) → i < length masks → IsStack (a ∷ map truth masks) → IsStack (map truth (drop i masks))
+stack_from a [] i within stack = absurd (omega arith)
+stack_from a (m ∷ masks) zero within stack = stack.1
+stack_from a (m ∷ masks) (suc i) within stack = stack_from (truth m) masks i (omega arith) stack.1
+
+-- a first list narrowed by the fold of those above it
+pub fold_above : (a : List Bool) (ms : List (List Bool)) → IsStack (a ∷ ms) → 0 < length ms → (length (folded_left ms) ≡ count a) × (folded_left (a ∷ ms) ≡ rank_intersection a (folded_left ms))
+fold_above a [] stack some = absurd (omega arith)
+fold_above a (b ∷ ms) stack some = (length_of_fold b ms ∙ stack.0, folded_by_the_first a b ms stack)
+
+-- the fold of the last mask is the mask
+pub fold_of_last : (masks : List Mask) (i : ℕ) (m last : Mask) → i + 1 ≡ length masks → last ≡ get_or masks i last → truth m ≡ truth last → truth m ≡ folded_left (map truth (drop i masks))
+fold_of_last masks i m last ends is same =
+    let all : drop i masks ≡ last ∷ [] = drop_more masks i last (omega arith) ∙ ap₂ (λ (x : Mask) xs. x ∷ xs) (sym is) (drop_all (i + 1) masks (omega arith)) in
+    same ∙ sym (ap (λ (xs : List Mask). folded_left (map truth xs)) all)
+
+-- the masks from number i on, of which there is one above it
+below : (a : List Bool) (masks : List Mask) (i : ℕ) (m : Mask) → IsStack (a ∷ map truth masks) → i + 1 < length masks → m ≡ get_or masks i m
+    → (drop i masks ≡ m ∷ drop (i + 1) masks) × IsStack (truth m ∷ map truth (drop (i + 1) masks)) × (0 < length (map truth (drop (i + 1) masks)))
+below a masks i m stack within is =
+    let more : drop i masks ≡ m ∷ drop (i + 1) masks = drop_more masks i m (omega arith) ∙ ap (λ (x : Mask). x ∷ drop (i + 1) masks) (sym is) in
+    (more, subst (λ (xs : List Mask). IsStack (map truth xs)) more (stack_from a masks i (omega arith) stack), omega (arith, length-map (drop (i + 1) masks) truth, length-drop (i + 1) masks))
+
+-- the fold from a mask on has a value for each row that the mask below it chooses
+pub fold_fits : (a : List Bool) (masks : List Mask) (i : ℕ) (m above : Mask) → IsStack (a ∷ map truth masks) → i + 1 < length masks → m ≡ get_or masks i m
+    → truth above ≡ folded_left (map truth (drop (i + 1) masks)) → length (truth above) ≡ count (truth m)
+fold_fits a masks i m above stack within is folded =
+    let b = below a masks i m stack within is in
+    ap length folded ∙ (fold_above (truth m) (map truth (drop (i + 1) masks)) b.1 b.2).0
+
+-- and that mask narrowed by it is the fold from there on
+pub fold_below : (a : List Bool) (masks : List Mask) (i : ℕ) (m above r : Mask) → IsStack (a ∷ map truth masks) → i + 1 < length masks → m ≡ get_or masks i m
+    → truth above ≡ folded_left (map truth (drop (i + 1) masks)) → truth r ≡ rank_intersection (truth m) (truth above) → truth r ≡ folded_left (map truth (drop i masks))
+fold_below a masks i m above r stack within is folded narrowed =
+    let b = below a masks i m stack within is in
+    narrowed ∙ ap (rank_intersection (truth m)) folded ∙ sym (fold_above (truth m) (map truth (drop (i + 1) masks)) b.1 b.2).1
+    ∙ ap (λ (xs : List Mask). folded_left (map truth xs)) (sym b.0)
+
+-- a mask below masks that choose rows has rows
+pub some_rows : (a : List Bool) (masks : List Mask) → IsStack (a ∷ map truth masks) → 0 < length masks → All (λ m. 0 < count (truth m)) masks → 0 < length a
+some_rows a [] stack some choose = absurd (omega arith)
+some_rows a (m ∷ masks) stack some choose = omega (arith, stack.0, count-le-length a, count-le-length (truth m), All-head (λ (x : Mask). 0 < count (truth x)) m masks choose)
+
+-- a list that has a value is held in one way
+pub one_way : (v w : Variant) (m : List Bool) → 0 < length m → fitting_variant v m ≡ fitting_variant w m
+one_way v w [] some = absurd (omega arith)
+one_way v w (x ∷ m) some = refl

@@ -31,11 +31,11 @@ pub enum RankPath {
 
 // A word kernel looks at each word of 64 rows. Where fewer than one row in 64 is true, there are
 // fewer true rows than words, and it is quicker to go over a list of these.
-const ROWS_PER_TRUE_BY_INDICES: u64 = 64;
+pub(super) const ROWS_PER_TRUE_BY_INDICES: u64 = 64;
 
 // At one rank in 32 values there are on average at most two selections for a word of rows, and about
 // there they cost as much as to count and deposit each word. Fewer ranks are found one by one.
-const VALUES_PER_RANK_BY_SELECTION: u64 = 32;
+pub(super) const VALUES_PER_RANK_BY_SELECTION: u64 = 32;
 
 // A list of ranks has to be turned into bits, one by one. Above one rank in four values that
 // takes longer than to read the rank mask's bits as they are.

@@ -132,7 +132,7 @@ impl Mask {
 
     // Caches the true indices where the mask is mixed. Values that nobody else holds cache them in
     // place, and else the mask becomes one of a clone with them.
-    fn fill_indices(&mut self, alloc: Global) -> Result<(), MaskError>
+    pub(crate) fn fill_indices(&mut self, alloc: Global) -> Result<(), MaskError>
         ensures filled { IfOk result (λ _. variant self.old ≡ mixed → IsCaching self.old
             (with_indices (positions (truth self.old)) (caches self.old)) self.new) }
         ensures stays { variant self.old ≢ mixed → self.new ≡ self.old }
@@ -151,6 +151,18 @@ impl Mask {
             }
         }
         Ok(())
+    }
+
+    // Lets go of the true indices that the mask caches, where nobody else holds its values.
+    pub(crate) fn drop_indices(&mut self)
+        ensures list { truth self.new ≡ truth self.old }
+        ensures variant { variant self.new ≡ variant self.old }
+    {
+        if let Mask::Values(values) = self {
+            if let Some(own) = Rc::get_mut(values) {
+                own.drop_indices();
+            }
+        }
     }
 
     // Caches the runs where the mask is mixed, in the same way.

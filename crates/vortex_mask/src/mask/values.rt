@@ -1,6 +1,6 @@
 //! The values of a mask that has both true and false ones.
 
-ghost use Rattle.std.specs.Prelude.{◌≡◌, ◌<◌, ◌↔◌, [], true, false, IsTrue, IfOk, Some, length, slice_get, IsOkUnless, alloc_error, ◌*◌, IsOk, IsSome, OnErr};
+ghost use Rattle.std.specs.Prelude.{◌≡◌, ◌<◌, ◌↔◌, [], true, false, IsTrue, IfOk, Some, None, length, slice_get, IsOkUnless, alloc_error, ◌*◌, IsOk, IsSome, OnErr};
 ghost use Rattle.std.specs.Option.{option_map};
 ghost use Rattle.std.specs.Borrow.{sem};
 ghost use Rattle.std.specs.Io.BufRead.{Rests};
@@ -294,6 +294,13 @@ impl MaskValues {
             self.indices = Some(self.index_list(alloc)?);
         }
         Ok(())
+    }
+
+    // Lets go of the cached true indices.
+    pub(super) fn drop_indices(&mut self)
+        ensures { self.new ≡ with_caches (record self.old.caches { indices = None }) self.old }
+    {
+        self.indices = None;
     }
 
     // Makes the list of the runs and caches it, where there is none.
