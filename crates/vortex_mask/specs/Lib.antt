@@ -11,6 +11,7 @@ pub mod Laws
 pub mod Lend
 pub mod Mask
 pub mod MaskValues
+pub mod Merges
 pub mod Path
 pub mod PutRows
 pub mod Ranges

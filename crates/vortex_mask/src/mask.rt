@@ -4,6 +4,7 @@ mod all_or;
 mod cached;
 mod choose;
 mod choose_values;
+mod common_indices;
 mod concat;
 mod convert;
 mod error;

@@ -1,13 +1,21 @@
 -- The indices that two ascending lists have in common, found at their fronts.
-use Rattle.std.proofs.Common.{append_assoc, append-nil, ◌≡◌, ℕ, ◌+◌, ◌<◌, ◌≤◌, false, nat_eq, List, [], ◌∷◌, length, get_or, drop, refl, ◌∙◌, ◌⊎◌, inl, inr, arith}
-use Rattle.std.specs.List.{All}
+use Rattle.std.proofs.Common.{Bool, suc, true, append_assoc, append-nil, ◌≡◌, ℕ, ◌+◌, ◌<◌, ◌≤◌, false, nat_eq, nat_le, set, List, [], ◌∷◌, ◌++◌, length, get_or, take, drop, ◌||◌, ◌-◌, cond, min, refl, sym, ap, subst, ◌∙◌, ◌⊎◌, inl, inr, arith}
+use Rattle.std.specs.List.{All, copy_within, list_any}
+use Rattle.std.proofs.lemmas.Grind.{take-set_at}
+use Rattle.std.proofs.lemmas.List.Edits.{take-paste}
+use Rattle.std.proofs.Math.Seq.{paste}
 use Rattle.std.specs.List.Sorted.{IsStrictlyIncreasing}
-use Rattle.std.proofs.lemmas.Bool.{eq-eqb, ne_eqb}
-use Rattle.std.proofs.lemmas.List.{drop_more, length-drop, get_or-drop, drop_all, get_or_default}
-use Rattle.std.proofs.lemmas.List.Elements.{All-head, All-tail, All-cons, All-weaker}
-use Rattle.std.proofs.lemmas.List.Folds.{list_any_none}
+use Rattle.std.proofs.lemmas.Bool.{le-leb, lt-leb, eq-eqb, ne_eqb, cases_lt, cases_eq, cases_order}
+use Rattle.std.proofs.Math.Bool.{or-false}
+use Rattle.std.proofs.lemmas.List.{drop_more, length-drop, length-take, get_or-take, take-append-drop, take-set, take-take, get_or-drop, drop_all, get_or_default}
+use Rattle.std.proofs.lemmas.List.Elements.{All-head, All-tail, All-cons, All-weaker, filter-append, filter_more}
+use Rattle.std.proofs.lemmas.List.Folds.{list_any_none, list_any-append, list_any-from_Any}
 use Rattle.std.proofs.lemmas.List.Kept.{AllPairs-from_increasing}
+use Rattle.vortex_mask.proofs.Lists.PlaceListLemmas.{none-is, rises-to}
 use Rattle.vortex_mask.specs.Faults.{common}
+use Rattle.vortex_mask.specs.Ranks.{AreSplit}
+use Rattle.vortex_mask.specs.Merges.{IsFound, IsMerged}
+use mir.Val.{bool_byte}
 
 -- the ones after place i are above the one at i
 above-after : (xs : List ℕ) (i : ℕ) → IsStrictlyIncreasing xs → All (λ z. get_or xs i 0 < z) (drop (i + 1) xs)
@@ -55,9 +63,187 @@ pub common-equal : (xs ys : List ℕ) (i j : ℕ) → IsStrictlyIncreasing xs �
     → common (drop i xs) (drop j ys) ≡ get_or xs i 0 ∷ common (drop (i + 1) xs) (drop (j + 1) ys)
 common-equal xs ys i j ascending h k same = grind (arith, drop_more, common-first, above-after)
 
+-- ---- either list may come first
+
+above-first : (x : ℕ) (xs : List ℕ) → IsStrictlyIncreasing (x ∷ xs) → All (λ z. x < z) xs
+above-first x xs ascending = above-after (x ∷ xs) 0 ascending
+
+ascending-rest : (x : ℕ) (xs : List ℕ) → IsStrictlyIncreasing (x ∷ xs) → IsStrictlyIncreasing xs
+ascending-rest x xs ascending k h =
+    let next : suc k + 1 ≡ suc (k + 1) = omega arith in
+    subst (λ (j : ℕ). get_or xs k 0 < get_or (x ∷ xs) j 0) next (ascending (suc k) (omega arith))
+
+pub common-swapped : (xs ys : List ℕ) → IsStrictlyIncreasing xs → IsStrictlyIncreasing ys → common xs ys ≡ common ys xs
+common-swapped [] ys a b = sym (common-none ys)
+common-swapped (x ∷ xs) [] a b = common-none (x ∷ xs)
+common-swapped (x ∷ xs) (y ∷ ys) a b = elim (cases_order x y) [
+  | inl same ↦
+      let e : common (y ∷ ys) (y ∷ xs) ≡ y ∷ common ys xs = common-first y ys xs (above-first y ys b) in
+      ap (λ z. common (x ∷ xs) (z ∷ ys)) (sym same)
+      ∙ common-first x xs ys (above-first x xs a)
+      ∙ ap (λ zs. x ∷ zs) (common-swapped xs ys (ascending-rest x xs a) (ascending-rest y ys b))
+      ∙ ap (λ z. z ∷ common ys xs) same
+      ∙ sym e
+      ∙ ap (λ z. common (y ∷ ys) (z ∷ xs)) (sym same)
+  | inr (inl less) ↦
+      let above : All (λ z. x < z) (y ∷ ys) = above-from (y ∷ ys) x 0 b (omega arith) less in
+      common-left x xs (y ∷ ys) above
+      ∙ common-swapped xs (y ∷ ys) (ascending-rest x xs a) b
+      ∙ sym (common-right x (y ∷ ys) xs above)
+  | inr (inr more) ↦
+      let above : All (λ z. y < z) (x ∷ xs) = above-from (x ∷ xs) y 0 a (omega arith) more in
+      common-right y (x ∷ xs) ys above
+      ∙ common-swapped (x ∷ xs) ys a (ascending-rest y ys b)
+      ∙ sym (common-left y ys (x ∷ xs) above)
+]
+
 -- one of them is at its end
 pub common-over : (xs ys : List ℕ) (i j : ℕ) → (length xs ≤ i) ⊎ (length ys ≤ j) → common (drop i xs) (drop j ys) ≡ []
 common-over xs ys i j (inl h) = rw (drop_all i xs h) refl
 common-over xs ys i j (inr h) = rw (drop_all j ys h) (common-none (drop i xs))
 
-pub ruleset common_facts = (common-less, common-greater, common-equal, common-over, append_assoc, append-nil)
+-- ---- one more index of the one list, where so many of the other are below it
+
+pub common-found : (xs ys : List ℕ) (i n : ℕ) → i < length xs → n < length ys → get_or ys n 0 ≡ get_or xs i 0
+    → common (take (i + 1) xs) ys ≡ common (take i xs) ys ++ get_or xs i 0 ∷ []
+common-found xs ys i n h k same =
+    let has : list_any (nat_eq (get_or xs i 0)) ys ≡ true =
+    list_any-from_Any (nat_eq (get_or xs i 0)) ys (n, get_or ys n 0, k, get_or_default ys n _ 0 k, eq-eqb (get_or xs i 0) (get_or ys n 0) (sym same)) in
+    filter_more (λ x. list_any (nat_eq x) ys) xs i 0 h ∙ ap (λ b. common (take i xs) ys ++ cond b (get_or xs i 0 ∷ []) []) has
+
+pub common-missed : (xs ys : List ℕ) (i n : ℕ) → IsStrictlyIncreasing ys → i < length xs → AreSplit ys n (get_or xs i 0)
+    → (n < length ys → get_or ys n 0 ≡ get_or xs i 0 → ⊥) → common (take (i + 1) xs) ys ≡ common (take i xs) ys
+common-missed xs ys i n ascending h split missed =
+    let x : ℕ = get_or xs i 0 in
+    let lacks : list_any (nat_eq (get_or xs i 0)) ys ≡ false = none-is (get_or xs i 0) ys (λ k inside same. elim (cases_lt k n) [
+      | inl before ↦ absurd (omega (arith, split.before k before))
+      | inr after ↦ elim (cases_eq (get_or ys n 0) (get_or xs i 0)) [
+        | inl here ↦ missed (omega arith) here
+        | inr apart ↦ absurd (omega (arith, split.after n (omega arith) (omega arith), rises-to ys n k ascending after inside, apart))
+      ]
+    ]) in
+    filter_more (λ x. list_any (nat_eq x) ys) xs i 0 h ∙ ap (λ b. common (take i xs) ys ++ cond b (get_or xs i 0 ∷ []) []) lacks ∙ append-nil (common (take i xs) ys)
+
+-- ---- both lists in two parts each
+
+-- those below x are not among those that aren't
+common-below : (x : ℕ) (zs ys ws : List ℕ) → All (λ z. z < x) zs → All (λ w. x ≤ w) ws → common zs (ys ++ ws) ≡ common zs ys
+common-below x [] ys ws low above = refl
+common-below x (z ∷ zs) ys ws low above =
+    let none : list_any (nat_eq z) ws ≡ false = list_any_none (nat_eq z) ws (λ k d h. ne_eqb z (get_or ws k d) (λ same. absurd (omega (arith, above k d h, All-head (λ z. z < x) z zs low)))) in
+    let e : list_any (nat_eq z) (ys ++ ws) ≡ list_any (nat_eq z) ys = list_any-append (nat_eq z) ys ws ∙ ap (λ b. list_any (nat_eq z) ys || b) none ∙ or-false (list_any (nat_eq z) ys) in
+    rw (e, common-below x zs ys ws (All-tail (λ z. z < x) z zs low) above) refl
+
+common-above : (x : ℕ) (zs ys ws : List ℕ) → All (λ z. x ≤ z) zs → All (λ y. y < x) ys → common zs (ys ++ ws) ≡ common zs ws
+common-above x [] ys ws high below = refl
+common-above x (z ∷ zs) ys ws high below =
+    let none : list_any (nat_eq z) ys ≡ false = list_any_none (nat_eq z) ys (λ k d h. ne_eqb z (get_or ys k d) (λ same. absurd (omega (arith, below k d h, All-head (λ z. x ≤ z) z zs high)))) in
+    let e : list_any (nat_eq z) (ys ++ ws) ≡ list_any (nat_eq z) ws = list_any-append (nat_eq z) ys ws ∙ ap (λ b. b || list_any (nat_eq z) ws) none in
+    rw (e, common-above x zs ys ws (All-tail (λ z. x ≤ z) z zs high) below) refl
+
+pub common-parts : (xs ys : List ℕ) (m n : ℕ) → IsStrictlyIncreasing xs → m < length xs → AreSplit ys n (get_or xs m 0)
+    → common xs ys ≡ common (take m xs) (take n ys) ++ common (drop m xs) (drop n ys)
+common-parts xs ys m n ascending h split =
+    let x = get_or xs m 0 in
+    let low : All (λ z. z < x) (take m xs) = λ k d inside.
+    let place : k < m = omega (arith, length-take m xs) in
+    omega (arith, get_or_default (take m xs) k d 0 inside, get_or-take m xs k 0 place, AllPairs-from_increasing xs ascending k m 0 place h) in
+    let high : All (λ z. x ≤ z) (drop m xs) = λ k d inside.
+    let place : m + k < length xs = omega (arith, length-drop m xs) in
+    omega (arith, get_or_default (drop m xs) k d 0 inside, get_or-drop m xs k 0, rises-to xs m (m + k) ascending (omega arith) place) in
+    let below : All (λ z. z < x) (take n ys) = λ k d inside.
+    let place : k < n = omega (arith, length-take n ys) in
+    omega (arith, get_or_default (take n ys) k d 0 inside, get_or-take n ys k 0 place, split.before k place) in
+    let above : All (λ z. x ≤ z) (drop n ys) = λ k d inside.
+    let place : n + k < length ys = omega (arith, length-drop n ys) in
+    omega (arith, get_or_default (drop n ys) k d 0 inside, get_or-drop n ys k 0, split.after (n + k) (omega arith) place) in
+    ap (λ zs. common zs ys) (sym (take-append-drop m xs))
+    ∙ filter-append (λ z. list_any (nat_eq z) ys) (take m xs) (drop m xs)
+    ∙ ap (λ zs. common (take m xs) zs ++ common (drop m xs) zs) (sym (take-append-drop n ys))
+    ∙ ap (λ zs. zs ++ common (drop m xs) (take n ys ++ drop n ys)) (common-below x (take m xs) (take n ys) (drop n ys) low above)
+    ∙ ap (λ zs. common (take m xs) (take n ys) ++ zs) (common-above x (drop m xs) (take n ys) (drop n ys) high below)
+
+-- ---- a step of a merge
+
+merged-less : (xs ys both : List ℕ) (i j n : ℕ) → IsStrictlyIncreasing ys → i < length xs → j < length ys → IsMerged xs ys both i j n
+    → get_or xs i 0 < get_or ys j 0 → IsMerged xs ys (set both n (get_or xs i 0)) (i + 1) j n
+merged-less xs ys both i j n ascending h k m less = record {
+  within_lhs = omega arith;
+  within_rhs = m.within_rhs;
+  fewer_lhs = omega (arith, m.fewer_lhs);
+  fewer_rhs = m.fewer_rhs;
+  found = ap (λ zs. zs ++ common (drop (i + 1) xs) (drop j ys)) (take-set both n (get_or xs i 0)) ∙ ap (λ zs. take n both ++ zs) (sym (common-less xs ys i j ascending h k less)) ∙ m.found;
+}
+
+merged-greater : (xs ys both : List ℕ) (i j n : ℕ) → IsStrictlyIncreasing xs → i < length xs → j < length ys → IsMerged xs ys both i j n
+    → get_or ys j 0 < get_or xs i 0 → IsMerged xs ys (set both n (get_or xs i 0)) i (j + 1) n
+merged-greater xs ys both i j n ascending h k m more = record {
+  within_lhs = m.within_lhs;
+  within_rhs = omega arith;
+  fewer_lhs = m.fewer_lhs;
+  fewer_rhs = omega (arith, m.fewer_rhs);
+  found = ap (λ zs. zs ++ common (drop i xs) (drop (j + 1) ys)) (take-set both n (get_or xs i 0)) ∙ ap (λ zs. take n both ++ zs) (sym (common-greater xs ys i j ascending h k more)) ∙ m.found;
+}
+
+merged-equal : (xs ys both : List ℕ) (i j n : ℕ) → IsStrictlyIncreasing xs → i < length xs → j < length ys → n < length both → IsMerged xs ys both i j n
+    → get_or xs i 0 ≡ get_or ys j 0 → IsMerged xs ys (set both n (get_or xs i 0)) (i + 1) (j + 1) (n + 1)
+merged-equal xs ys both i j n ascending h k room m same = record {
+  within_lhs = omega arith;
+  within_rhs = omega arith;
+  fewer_lhs = omega (arith, m.fewer_lhs);
+  fewer_rhs = omega (arith, m.fewer_rhs);
+  found =
+      let kept : take (n + 1) (set both n (get_or xs i 0)) ≡ take n both ++ get_or xs i 0 ∷ [] = take-set_at both n (n + 1) (get_or xs i 0) refl room in
+      let rest = common-equal xs ys i j ascending h k same in
+      ap (λ zs. zs ++ common (drop (i + 1) xs) (drop (j + 1) ys)) kept ∙ append_assoc (take n both) (get_or xs i 0 ∷ []) (common (drop (i + 1) xs) (drop (j + 1) ys)) ∙ ap (λ zs. take n both ++ zs) (sym rest) ∙ m.found;
+}
+
+merged-moved : (xs ys both : List ℕ) (i j n i' j' n' : ℕ) → IsMerged xs ys both i j n → i ≡ i' → j ≡ j' → n ≡ n' → IsMerged xs ys both i' j' n'
+merged-moved xs ys both i j n i' j' n' m a b c =
+    subst (λ k. IsMerged xs ys both k j' n') a (subst (λ k. IsMerged xs ys both i k n') b (subst (λ k. IsMerged xs ys both i j k) c m))
+
+plus-bit : (i : ℕ) (b : Bool) → b ≡ true → i + 1 ≡ i + bool_byte b
+plus-bit i b e = ap (λ t. i + bool_byte t) (sym e)
+
+plus-none : (i : ℕ) (b : Bool) → b ≡ false → i ≡ i + bool_byte b
+plus-none i b e = let none : i ≡ i + 0 = omega arith in none ∙ ap (λ t. i + bool_byte t) (sym e)
+
+pub merged-step : (xs ys both : List ℕ) (i j n : ℕ) → IsStrictlyIncreasing xs → IsStrictlyIncreasing ys → i < length xs → j < length ys → min (length xs) (length ys) ≤ length both → IsMerged xs ys both i j n
+    → IsMerged xs ys (set both n (get_or xs i 0)) (i + bool_byte (nat_le (get_or xs i 0) (get_or ys j 0))) (j + bool_byte (nat_le (get_or ys j 0) (get_or xs i 0))) (n + bool_byte (nat_eq (get_or xs i 0) (get_or ys j 0)))
+merged-step xs ys both i j n a b h k room m =
+    let x : ℕ = get_or xs i 0 in
+    let y : ℕ = get_or ys j 0 in
+    let free : n < length both = omega (arith, m.fewer_lhs, m.fewer_rhs) in
+    elim (cases_order (get_or xs i 0) (get_or ys j 0)) [
+      | inl same ↦ merged-moved xs ys (set both n x) _ _ _ _ _ _ (merged-equal xs ys both i j n a h k free m same)
+          (plus-bit i (nat_le x y) (le-leb x y (omega arith))) (plus-bit j (nat_le y x) (le-leb y x (omega arith))) (plus-bit n (nat_eq x y) (eq-eqb x y same))
+      | inr (inl less) ↦ merged-moved xs ys (set both n x) _ _ _ _ _ _ (merged-less xs ys both i j n b h k m less)
+          (plus-bit i (nat_le x y) (le-leb x y (omega arith))) (plus-none j (nat_le y x) (lt-leb y x less)) (plus-none n (nat_eq x y) (ne_eqb x y (λ e. absurd (omega arith))))
+      | inr (inr more) ↦ merged-moved xs ys (set both n x) _ _ _ _ _ _ (merged-greater xs ys both i j n a h k m more)
+          (plus-none i (nat_le x y) (lt-leb x y more)) (plus-bit j (nat_le y x) (le-leb y x (omega arith))) (plus-none n (nat_eq x y) (ne_eqb x y (λ e. absurd (omega arith))))
+    ]
+
+-- and its end
+pub merged-over : (xs ys both : List ℕ) (i j n : ℕ) → min (length xs) (length ys) ≤ length both → IsMerged xs ys both i j n → (length xs ≤ i) ⊎ (length ys ≤ j) → IsFound xs ys both n
+merged-over xs ys both i j n room m over = record {
+  within = omega (arith, m.within_lhs, m.within_rhs, m.fewer_lhs, m.fewer_rhs);
+  found = sym (append-nil (take n both)) ∙ ap (λ zs. take n both ++ zs) (sym (common-over xs ys i j over)) ∙ m.found;
+}
+
+-- what was found in the first parts and in the last ones, moved together
+pub found-joined : (xs ys both : List ℕ) (m n at f l : ℕ) → IsStrictlyIncreasing xs → m < length xs → AreSplit ys n (get_or xs m 0)
+    → IsFound (take m xs) (take n ys) (take at both) f → IsFound (drop m xs) (drop n ys) (drop at both) l
+    → take (f + l) (copy_within both at (at + l) f) ≡ common xs ys
+found-joined xs ys both m n at f l ascending h split first last =
+    let few : f ≤ length (take at both) = first.within in
+    let many : l ≤ length (drop at both) = last.within in
+    let n_moved : (at + l) - at ≡ l = omega arith in
+    ap (λ k. take (f + l) (paste both f (drop at both) k)) n_moved
+    ∙ take-paste both f (drop at both) l (omega (arith, length-take at both)) many
+    ∙ ap (λ zs. zs ++ take l (drop at both)) (sym (take-take f at both (omega (arith, length-take at both))) ∙ first.found)
+    ∙ ap (λ zs. common (take m xs) (take n ys) ++ zs) last.found
+    ∙ sym (common-parts xs ys m n ascending h split)
+
+pub ruleset merged_facts = (merged-over)
+
+pub ruleset swapped_facts = (common-swapped)

@@ -13,10 +13,10 @@ ghost use Rattle.vortex_mask.specs.MaskValues.{only_indices, no_caches};
 ghost use Rattle.mask_bits.specs.Lists.{not_of};
 ghost use Rattle.vortex_mask.specs.Ranks.{IsAscending};
 
+use crate::mask::common_indices::common;
 use crate::mask::{Mask, MaskError};
 use mask_bits::BitBufferMut;
-use std::alloc::{AllocError, Global};
-use std::cmp::Ordering;
+use std::alloc::Global;
 
 /// Masks of true indices.
 impl Mask {
@@ -270,33 +270,12 @@ impl Mask {
         ensures refused { IfErr result (λ e. (e ≡ MaskError.Memory alloc_error)
             ⊎ (out_of_bounds len (common lhs.now rhs.now) ≡ Some e)) }
     {
-        let indices = common(alloc, lhs, rhs)?;
+        let mut indices = common(alloc, lhs, rhs)?;
         if let Some(fault) = out_of_bounds(len, &indices) {
             return Err(fault);
         }
+        // the mask keeps the list, which may have room for all of the shorter one
+        indices.shrink_to_fit();
         Mask::of_indices(alloc, len, indices)
     }
-}
-
-// The indices that both lists have.
-#[tactic(auto, using(crate::proofs::Masks::CommonLemmas::common_facts))]
-fn common(alloc: Global, lhs: &[usize], rhs: &[usize]) -> Result<Vec<usize>, AllocError>
-    requires lhs { IsStrictlyIncreasing lhs.now }
-    requires rhs { IsStrictlyIncreasing rhs.now }
-    ensures { IfOk result (λ both. both.items ≡ common lhs.now rhs.now) }
-{
-    let mut both = Vec::new(alloc);
-    let (mut i, mut j) = (0, 0);
-    while i < lhs.len() && j < rhs.len() {
-        match lhs[i].cmp(&rhs[j]) {
-            Ordering::Less => i += 1,
-            Ordering::Greater => j += 1,
-            Ordering::Equal => {
-                both.push(lhs[i])?;
-                i += 1;
-                j += 1;
-            }
-        }
-    }
-    Ok(both)
 }

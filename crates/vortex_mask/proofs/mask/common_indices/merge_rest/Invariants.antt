@@ -1,0 +1,9 @@
+use Rattle.std.proofs.Common.{◌+◌, ◌-◌, length}
+use Rattle.vortex_mask.specs.Merges.{IsMerged}
+use Rattle.vortex_mask.proofs.mask.common_indices.merge_rest.Given as goal
+
+abbrev pub invariant-loop-at : goal.invariant-loop-at
+invariant-loop-at l = IsMerged l.lhs l.rhs l.both l.at.lhs l.at.rhs l.at.found
+
+abbrev pub decreases-loop-at : goal.decreases-loop-at
+decreases-loop-at l = (length l.lhs + length l.rhs) - (l.at.lhs + l.at.rhs)
