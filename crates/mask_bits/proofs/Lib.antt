@@ -12,6 +12,7 @@ mod LawRows
 mod LawRules
 pub mod Lists
 mod NumberLemmas
+mod PushLemmas
 mod SetBitLemmas
 mod WindowLemmas
 mod WriteLemmas

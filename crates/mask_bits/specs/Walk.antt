@@ -1,7 +1,7 @@
 -- Walks over a list by its started words. No public clause cites these terms.
-use Rattle.std.specs.Prelude.{ℕ, ◌+◌, ◌*◌, ◌/◌, ◌≡◌, ◌<◌, ◌≤◌, ◌^◌, ◌%◌, Bool, true, false, List, ◌++◌, length, take, drop, slice_index_or}
+use Rattle.std.specs.Prelude.{ℕ, ◌+◌, ◌*◌, ◌/◌, ◌≡◌, ◌<◌, ◌≤◌, ◌^◌, ◌%◌, Bool, true, false, List, [], ◌++◌, length, take, drop, slice_index_or}
 use Rattle.std.specs.Int.{bit_at}
-use Rattle.mask_bits.specs.Positions.{repeated}
+use Rattle.mask_bits.specs.Positions.{repeated, indices_from}
 use Rattle.mask_bits.specs.Words.{word_bits, padded_part}
 
 -- a list whose values before started word i are passed, and where those of word i are the bits of w: passed values are false
@@ -28,3 +28,9 @@ pub record IsAtHand (m : List Bool) (n e w : ℕ) : Type 0 where
   pub word : n < e → word_bits w ≡ padded_part m (n / 64)
   pub inside : n < e → e ≤ 64 * (n / 64) + 64
   pub ends : e < length m → e % 64 ≡ 0
+
+-- the items, and then the indices of w's bits from base on, are `all`, and others follow only once no bit is left
+pub record ArePushed (all : List ℕ) (base : ℕ) (items : List ℕ) (w : ℕ) : Type 0 where
+  pub others : List ℕ
+  pub list : items ++ indices_from base (word_bits w) ≡ all ++ others
+  pub exact : 0 < w → others ≡ []

@@ -1,9 +1,11 @@
 //! The indices of a buffer's true values: their list, and the walk over them.
 
-ghost use Rattle.std.specs.Prelude.{◌≡◌, ◌*◌, ◌^◌, ◌<◌, ◌++◌, IfOk};
+ghost use Rattle.std.specs.Prelude.{◌≡◌, ◌+◌, ◌*◌, ◌^◌, ◌<◌, ◌≤◌, ◌++◌, ℕ, List, IfOk};
+ghost use Rattle.std.specs.Vec.{vec_len, vec_capacity};
 ghost use Rattle.std.specs.Iterator.{YieldsFirst, item_count};
 ghost use Rattle.mask_bits.specs.Buffer.{values};
 ghost use Rattle.mask_bits.specs.Positions.{positions, indices_from, count};
+ghost use Rattle.mask_bits.specs.Walk.{ArePushed};
 ghost use Rattle.mask_bits.specs.Words.{word_bits};
 
 use crate::buffer::BitBuffer;
@@ -29,15 +31,33 @@ impl BitBuffer {
         if chunks.remainder_len() == 0 {
             return Ok(indices);
         }
-        push_indices(&mut indices, chunks.len(), chunks.remainder_bits())?;
+        push_one_by_one(&mut indices, chunks.len(), chunks.remainder_bits())?;
         Ok(indices)
     }
+}
+
+// Appends the indices of the set bits of word `i`.
+#[tactic(auto, using(crate::proofs::Lists::Places::SelectLemmas::indices_of_word))]
+#[inline]
+fn push_indices(indices: &mut Vec<usize>, i: usize, word: u64) -> Result<(), AllocError>
+    requires { 64 * i + 64 < 2 ^ 64 }
+    ensures { IfOk result (λ _. indices.new.items
+        ≡ indices.old.items ++ indices_from (64 * i) (word_bits word)) }
+{
+    // less room than for any word and three more
+    if indices.capacity() - indices.len() < 68 {
+        return push_one_by_one(indices, i, word);
+    }
+    if word != 0 {
+        push_by_four(indices, 64 * i, word);
+    }
+    Ok(())
 }
 
 // Appends the indices of the set bits of word `i`. Within a word nothing is looked up but the word.
 #[tactic(auto, using(crate::proofs::Lists::Places::SelectLemmas::indices_of_word))]
 #[inline]
-fn push_indices(indices: &mut Vec<usize>, i: usize, word: u64) -> Result<(), AllocError>
+fn push_one_by_one(indices: &mut Vec<usize>, i: usize, word: u64) -> Result<(), AllocError>
     requires { 64 * i < 2 ^ 64 }
     ensures { IfOk result (λ _. indices.new.items
         ≡ indices.old.items ++ indices_from (64 * i) (word_bits word)) }
@@ -48,6 +68,53 @@ fn push_indices(indices: &mut Vec<usize>, i: usize, word: u64) -> Result<(), All
         left &= left - 1;
     }
     Ok(())
+}
+
+// The same where there is room. One test for four indices is guessed right more often than one for
+// each, and the first four need none.
+#[inline]
+fn push_by_four(indices: &mut Vec<usize>, base: usize, word: u64)
+    requires room { vec_len indices.old + 68 ≤ vec_capacity indices.old }
+    requires fits { base + 64 < 2 ^ 64 }
+    ensures { indices.new.items ≡ indices.old.items ++ indices_from base (word_bits word) }
+{
+    let end = indices.len() + word.count_ones() as usize;
+    let mut left = push_four(indices, base, word);
+    while indices.len() < end {
+        left = push_four(indices, base, left);
+    }
+    indices.truncate(end);
+}
+
+// Appends the indices of the four lowest bits, and other numbers where there are fewer. Returns the bits
+// that are left.
+#[inline]
+fn push_four(indices: &mut Vec<usize>, base: usize, word: u64) -> u64
+    requires room { vec_len indices.old + 4 ≤ vec_capacity indices.old }
+    requires fits { base + 64 < 2 ^ 64 }
+    ensures pushed { (all : List ℕ) → ArePushed all base indices.old.items word
+        → ArePushed all base indices.new.items result }
+    ensures len { vec_len indices.new ≡ vec_len indices.old + 4 }
+    ensures room { vec_capacity indices.new ≡ vec_capacity indices.old }
+{
+    let left = push_lowest(indices, base, word);
+    let left = push_lowest(indices, base, left);
+    let left = push_lowest(indices, base, left);
+    push_lowest(indices, base, left)
+}
+
+// The same of the lowest bit.
+#[inline]
+fn push_lowest(indices: &mut Vec<usize>, base: usize, word: u64) -> u64
+    requires room { vec_len indices.old < vec_capacity indices.old }
+    requires fits { base + 64 < 2 ^ 64 }
+    ensures pushed { (all : List ℕ) → ArePushed all base indices.old.items word
+        → ArePushed all base indices.new.items result }
+    ensures len { vec_len indices.new ≡ vec_len indices.old + 1 }
+    ensures room { vec_capacity indices.new ≡ vec_capacity indices.old }
+{
+    indices.push_reserved(base + word.trailing_zeros() as usize);
+    word & word.wrapping_sub(1)
 }
 
 /// The indices of a buffer's true values, ascending.

@@ -23,7 +23,7 @@ returns c =
     let whole : i ≡ length m / 64 = omega (arith, same, c.len-i-end.ensures, c.loop-i-test.false, c.loop-i.auto.i-end) in
     let last : c.len.result ≡ i = omega (arith, same, c.len.ensures, whole) in
     let some : 0 < length m - 64 * i = omega (arith, same, whole, c.remainder_len.ensures, c.if-remainder_len-eq0.false) in
-    c.in_ok-push_indices-2.ensures
+    c.in_ok-push_one_by_one.ensures
     ∙ ap (λ (xs : List ℕ). xs ++ indices_from (64 * c.len.result) rest) c.loop-i.invariant
     ∙ ap (λ k. front ++ indices_from (64 * k) rest) last
     ∙ ap (λ (bits : List Bool). front ++ indices_from (64 * i) bits)

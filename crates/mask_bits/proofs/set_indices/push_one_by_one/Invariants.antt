@@ -1,7 +1,7 @@
 use Rattle.std.proofs.Common.{◌≡◌, ◌*◌, ◌++◌}
 use Rattle.mask_bits.specs.Positions.{indices_from}
 use Rattle.mask_bits.specs.Words.{word_bits}
-use Rattle.mask_bits.proofs.set_indices.push_indices.Given as goal
+use Rattle.mask_bits.proofs.set_indices.push_one_by_one.Given as goal
 
 -- the indices so far, and those that are left, are all
 abbrev pub invariant-loop-left : goal.invariant-loop-left
