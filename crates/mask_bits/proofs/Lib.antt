@@ -13,6 +13,7 @@ mod LawRules
 pub mod Lists
 mod NumberLemmas
 mod PushLemmas
+mod RunWordLemmas
 mod SetBitLemmas
 mod WindowLemmas
 mod WriteLemmas

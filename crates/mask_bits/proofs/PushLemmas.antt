@@ -16,7 +16,7 @@ use Rattle.mask_bits.proofs.Lists.Words.WordLemmas.{count-word_bits}
 abbrev pub cleared : ℕ → ℕ
 cleared w = bit_and w ((w + (2 ^ 64 - 1)) % 2 ^ 64)
 
-cleared-some : (w : ℕ) → 0 < w → w < 2 ^ 64 → cleared w ≡ bit_and w (w - 1)
+pub cleared-some : (w : ℕ) → 0 < w → w < 2 ^ 64 → cleared w ≡ bit_and w (w - 1)
 cleared-some w some fits =
     let less : (w + (2 ^ 64 - 1)) % 2 ^ 64 ≡ w - 1 = omega arith in
     ap (bit_and w) less

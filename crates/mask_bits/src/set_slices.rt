@@ -1,13 +1,254 @@
-//! The walk over the runs of a buffer's true values.
+//! The runs of a buffer's true values: their list, and the walk over them.
 
 ghost use Rattle.std.specs.Iterator.{YieldsFirst, item_count};
-ghost use Rattle.std.specs.Prelude.{◌≡◌, ◌*◌, ◌+◌, ◌-◌, ◌≤◌, ◌<◌, ◌^◌, ℕ, length, Some};
+ghost use Rattle.std.specs.Prelude.{◌≡◌, ◌≢◌, ◌*◌, ◌+◌, ◌-◌, ◌≤◌, ◌<◌, ◌^◌, ◌++◌, ◌∷◌, ℕ, Bool, List, true, false, length, take, slice_index_or, Some, IfOk};
+ghost use Rattle.std.specs.Vec.{vec_len, vec_capacity};
+ghost use Rattle.mask_bits.specs.Buffer.{values};
+ghost use Rattle.std.specs.List.{zip};
+ghost use Rattle.mask_bits.specs.Positions.{indices_from};
 ghost use Rattle.mask_bits.specs.Runs.{AreRuns};
+ghost use Rattle.mask_bits.specs.RunScan.{runs};
 ghost use Rattle.mask_bits.specs.Walk.{left_of, IsLeft, PassesTrue};
+ghost use Rattle.mask_bits.specs.Walk.{runs_behind, runs_between, AreEdges, RunsArePushed, begins};
+ghost use Rattle.mask_bits.specs.Words.{word_bits};
 
+use crate::buffer::BitBuffer;
 use crate::chunks::BitChunks;
 use crate::scan::{first_word, next_word};
+use std::alloc::{AllocError, Global};
 use std::marker::Model;
+
+impl BitBuffer {
+    /// The runs (maximal ranges) of true values, ascending, each by its first index and the index past its
+    /// last.
+    ///
+    /// It takes less time than to collect `set_slices`.
+    pub fn runs(&self, alloc: Global) -> Result<Vec<(usize, usize)>, AllocError>
+        ensures { IfOk result (λ ranges. ranges.items ≡ runs (values self.now)) }
+    {
+        let chunks = self.chunks();
+        let mut ranges = Vec::new(alloc);
+        let mut open = Open {
+            inside: false,
+            start: 0,
+        };
+        // the whole words apart, so that none is tested for being the last
+        for i in 0..chunks.len() {
+            open = push_runs(&mut ranges, open, 64 * i, chunks.word(i))?;
+        }
+        // zeros past the last value end the last run
+        push_runs(
+            &mut ranges,
+            open,
+            64 * chunks.len(),
+            chunks.remainder_bits(),
+        )?;
+        Ok(ranges)
+    }
+}
+
+// Whether the words so far end inside a run, and where that begins.
+#[derive(Clone, Copy, Drop)]
+struct Open {
+    inside: bool,
+    start: usize,
+}
+
+// Where runs end in a word and where others begin, and the start of the first that ends.
+#[derive(Clone, Copy, Drop)]
+struct Edges {
+    first: usize,
+    starts: u64,
+    ends: u64,
+}
+
+// Appends the runs that end within a word whose first index is `base`.
+#[inline(always)]
+fn push_runs(
+    ranges: &mut Vec<(usize, usize)>,
+    open: Open,
+    base: usize,
+    word: u64,
+) -> Result<Open, AllocError>
+    requires { base + 64 ≤ 2 ^ 64 }
+    ensures runs { IfOk result (λ after. (rest : List Bool) → ranges.new.items ++ runs_behind after.inside after.start (base + 64) rest
+        ≡ ranges.old.items ++ runs_behind open.inside open.start base (word_bits word ++ rest)) }
+    ensures last { IfOk result (λ after. after.inside ≡ slice_index_or (word_bits word) 63 false) }
+{
+    let before = bits_before(open.inside, word);
+    if word == before {
+        return Ok(open);
+    }
+    push_edges(ranges, open, base, word, before)
+}
+
+// The same for a word that has edges.
+#[inline(always)]
+fn push_edges(
+    ranges: &mut Vec<(usize, usize)>,
+    open: Open,
+    base: usize,
+    word: u64,
+    before: u64,
+) -> Result<Open, AllocError>
+    requires fits { base + 64 ≤ 2 ^ 64 }
+    requires bits { word_bits before ≡ take 64 (open.inside ∷ word_bits word) }
+    requires full { word ≡ 2 ^ 64 - 1 → open.inside ≡ true → before ≡ word }
+    requires some { word ≢ before }
+    ensures runs { IfOk result (λ after. (rest : List Bool) → ranges.new.items ++ runs_behind after.inside after.start (base + 64) rest
+        ≡ ranges.old.items ++ runs_behind open.inside open.start base (word_bits word ++ rest)) }
+    ensures last { IfOk result (λ after. after.inside ≡ slice_index_or (word_bits word) 63 false) }
+{
+    let edges = edges_of(open, base, word & !before, before & !word);
+    push_between(ranges, base, edges)?;
+    Ok(Open {
+        inside: word >> 63 == 1,
+        start: base.wrapping_add(64 - word.leading_ones() as usize),
+    })
+}
+
+// The bit before each bit, where `inside` is the one before the first.
+#[inline]
+fn bits_before(inside: bool, word: u64) -> u64
+    ensures bits { word_bits result ≡ take 64 (inside ∷ word_bits word) }
+    ensures full { word ≡ 2 ^ 64 - 1 → inside ≡ true → result ≡ word }
+{
+    word << 1 | inside as u64
+}
+
+// The edges of a word in which bits of `starts` begin runs and those of `ends` end them.
+#[inline]
+fn edges_of(open: Open, base: usize, starts: u64, ends: u64) -> Edges
+    requires fits { base + 64 ≤ 2 ^ 64 }
+    requires begin { length (indices_from base (word_bits ends))
+        ≤ length (begins open.inside open.start (indices_from base (word_bits starts))) }
+    ensures runs { runs_between base result.first result.starts result.ends
+        ≡ zip (begins open.inside open.start (indices_from base (word_bits starts))) (indices_from base (word_bits ends)) }
+    ensures edges { AreEdges base result.starts result.ends }
+{
+    if open.inside {
+        return Edges {
+            first: open.start,
+            starts,
+            ends,
+        };
+    }
+    Edges {
+        first: base.wrapping_add(starts.trailing_zeros() as usize),
+        starts: starts & starts.wrapping_sub(1),
+        ends,
+    }
+}
+
+// The first run, and the edges past it; where no end is left, another pair.
+#[inline]
+fn pop(base: usize, edges: Edges) -> ((usize, usize), Edges)
+    requires { base + 64 ≤ 2 ^ 64 }
+    ensures first { 0 < edges.ends → AreEdges base edges.starts edges.ends → runs_between base edges.first edges.starts edges.ends
+        ≡ result.0 ∷ runs_between base result.1.first result.1.starts result.1.ends }
+    ensures edges { AreEdges base edges.starts edges.ends → AreEdges base result.1.starts result.1.ends }
+    ensures none { edges.ends ≡ 0 → result.1.ends ≡ 0 }
+    ensures less { 0 < edges.ends → result.1.ends < edges.ends }
+{
+    let run = (
+        edges.first,
+        base.wrapping_add(edges.ends.trailing_zeros() as usize),
+    );
+    let left = Edges {
+        first: base.wrapping_add(edges.starts.trailing_zeros() as usize),
+        starts: edges.starts & edges.starts.wrapping_sub(1),
+        ends: edges.ends & edges.ends.wrapping_sub(1),
+    };
+    (run, left)
+}
+
+// Appends the runs between edges.
+#[inline]
+fn push_between(
+    ranges: &mut Vec<(usize, usize)>,
+    base: usize,
+    edges: Edges,
+) -> Result<(), AllocError>
+    requires fits { base + 64 ≤ 2 ^ 64 }
+    requires edges { AreEdges base edges.starts edges.ends }
+    ensures { IfOk result (λ _. ranges.new.items
+        ≡ ranges.old.items ++ runs_between base edges.first edges.starts edges.ends) }
+{
+    // less room than for any word and two more
+    if ranges.capacity() - ranges.len() < 66 {
+        return push_each_run(ranges, base, edges);
+    }
+    push_by_two(ranges, base, edges);
+    Ok(())
+}
+
+// The same, one by one. Within a word nothing is looked up but the word.
+#[inline]
+fn push_each_run(
+    ranges: &mut Vec<(usize, usize)>,
+    base: usize,
+    edges: Edges,
+) -> Result<(), AllocError>
+    requires fits { base + 64 ≤ 2 ^ 64 }
+    requires edges { AreEdges base edges.starts edges.ends }
+    ensures { IfOk result (λ _. ranges.new.items
+        ≡ ranges.old.items ++ runs_between base edges.first edges.starts edges.ends) }
+{
+    let mut left = edges;
+    while left.ends != 0 {
+        let (run, rest) = pop(base, left);
+        ranges.push(run)?;
+        left = rest;
+    }
+    Ok(())
+}
+
+// The same where there is room. One test for two runs is guessed right more often than one for each, and
+// the first two need none.
+#[inline]
+fn push_by_two(ranges: &mut Vec<(usize, usize)>, base: usize, edges: Edges)
+    requires room { vec_len ranges.old + 66 ≤ vec_capacity ranges.old }
+    requires fits { base + 64 ≤ 2 ^ 64 }
+    requires edges { AreEdges base edges.starts edges.ends }
+    ensures { ranges.new.items
+        ≡ ranges.old.items ++ runs_between base edges.first edges.starts edges.ends }
+{
+    let end = ranges.len() + edges.ends.count_ones() as usize;
+    let mut left = push_two(ranges, base, edges);
+    while ranges.len() < end {
+        left = push_two(ranges, base, left);
+    }
+    ranges.truncate(end);
+}
+
+// Appends the first two runs, and other pairs where there are fewer. Returns the edges that are left.
+#[inline]
+fn push_two(ranges: &mut Vec<(usize, usize)>, base: usize, edges: Edges) -> Edges
+    requires room { vec_len ranges.old + 2 ≤ vec_capacity ranges.old }
+    requires fits { base + 64 ≤ 2 ^ 64 }
+    ensures pushed { (all : List (ℕ × ℕ)) → RunsArePushed all base ranges.old.items edges.first edges.starts edges.ends
+        → RunsArePushed all base ranges.new.items result.first result.starts result.ends }
+    ensures len { vec_len ranges.new ≡ vec_len ranges.old + 2 }
+    ensures room { vec_capacity ranges.new ≡ vec_capacity ranges.old }
+{
+    let left = push_first(ranges, base, edges);
+    push_first(ranges, base, left)
+}
+
+// The same of the first run.
+#[inline]
+fn push_first(ranges: &mut Vec<(usize, usize)>, base: usize, edges: Edges) -> Edges
+    requires room { vec_len ranges.old < vec_capacity ranges.old }
+    requires fits { base + 64 ≤ 2 ^ 64 }
+    ensures pushed { (all : List (ℕ × ℕ)) → RunsArePushed all base ranges.old.items edges.first edges.starts edges.ends
+        → RunsArePushed all base ranges.new.items result.first result.starts result.ends }
+    ensures len { vec_len ranges.new ≡ vec_len ranges.old + 1 }
+    ensures room { vec_capacity ranges.new ≡ vec_capacity ranges.old }
+{
+    let (run, left) = pop(base, edges);
+    ranges.push_reserved(run);
+    left
+}
 
 /// The runs (maximal ranges) of a buffer's true values, ascending.
 #[derive(Drop)]

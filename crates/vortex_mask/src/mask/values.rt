@@ -13,7 +13,7 @@ ghost use Rattle.vortex_mask.specs.Text.{counts_text};
 ghost use Rattle.vortex_mask.specs.contracts.mask.values.MaskValues.{the_row};
 
 use crate::mask::{MaskError, MaskIter};
-use mask_bits::{BitBuffer, laws};
+use mask_bits::BitBuffer;
 use std::alloc::{AllocError, Global};
 use std::fmt;
 use std::marker::Model;
@@ -350,8 +350,6 @@ impl MaskValues {
     fn runs(&self, alloc: Global) -> Result<Vec<(usize, usize)>, AllocError>
         ensures { IfOk result (λ ranges. ranges.items ≡ runs (values self.now.buffer)) }
     {
-        let ranges: Vec<_> = self.buffer.set_slices().collect(alloc)?;
-        laws::runs_are_the_list(&ranges);
-        Ok(ranges)
+        self.buffer.runs(alloc)
     }
 }

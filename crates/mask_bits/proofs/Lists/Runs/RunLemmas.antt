@@ -102,7 +102,7 @@ with_index-alone n high [] s = refl
 with_index-alone n high (r ∷ rs) s = cond-false (nat_eq r.0 (n + 1)) ((n, r.1) ∷ rs) ((n, n + 1) ∷ r ∷ rs) (ne_eqb r.0 (n + 1) (λ same. omega arith))
 
 -- and it lengthens a run that begins right after it
-with_index-longer : (n e : ℕ) (rs : List (ℕ × ℕ)) → with_index n ((n + 1, e) ∷ rs) ≡ (n, e) ∷ rs
+pub with_index-longer : (n e : ℕ) (rs : List (ℕ × ℕ)) → with_index n ((n + 1, e) ∷ rs) ≡ (n, e) ∷ rs
 with_index-longer n e rs = cond-true (nat_eq (n + 1) (n + 1)) ((n, e) ∷ rs) ((n, n + 1) ∷ (n + 1, e) ∷ rs) (eq-eqb (n + 1) (n + 1) refl)
 
 -- runs behind which the scan has found those past the first place, a true one

@@ -1,0 +1,433 @@
+-- Runs of a list, word by word, by where they begin and end.
+use Rattle.std.proofs.Common.{◌≡◌, ◌≢◌, ℕ, zero, suc, ◌+◌, ◌*◌, ◌-◌, ◌/◌, ◌%◌, ◌^◌, ◌<◌, ◌≤◌, ◌&&◌, ◌||◌, not, Bool, true, false, nat_eq, List, [], ◌∷◌, ◌++◌, length, get_or, take, drop, count_ones, refl, sym, ap, ap₂, ◌∙◌, inl, inr, arith, mod-eq_of_lt, add-zero, append-nil, append_assoc}
+use Rattle.std.specs.Int.{bit_at, bit_not, w64, leading_ones}
+use Rattle.std.specs.Int.RustNames.{bit_and, bit_or}
+use Rattle.std.specs.List.{zip}
+use Rattle.std.specs.Int.Count.{leading_of_zero}
+use Rattle.std.proofs.lemmas.Bool.{cases_lt, cases_eq, true≢false}
+use Rattle.std.proofs.lemmas.Nat.Bits.{bit_at_not, bit_at-lt, bit_at_ones, bit_at_above, bit_at-zero}
+use Rattle.std.proofs.Math.Bool.{or-false}
+use mir.Val.{bool_byte}
+use Rattle.std.proofs.lemmas.List.{take-append-le, take-append-drop, drop-drop, ext_get_or, nil_from_length, get_or-take, length-take, get_or_past, length-drop}
+use Rattle.std.proofs.lemmas.Nat.{and_le_l}
+use Rattle.std.proofs.lemmas.Slice.Zip.{length-zip}
+use lib.Seq.{take-append_seam}
+use Rattle.mask_bits.specs.Positions.{indices_from, repeated}
+use Rattle.mask_bits.specs.RunScan.{runs_from, with_index}
+use Rattle.mask_bits.specs.Walk.{runs_behind, runs_between, AreEdges, RunsArePushed, begins}
+use Rattle.mask_bits.specs.Words.{word_bits, word_part, padded_remainder}
+use Rattle.mask_bits.proofs.Lists.CountLemmas.{get_or-padded}
+use Rattle.mask_bits.proofs.Lists.Words.WalkLemmas.{runs_from-repeated_false}
+use Rattle.mask_bits.proofs.PushLemmas.{cleared, cleared-some, length-indices_of_word}
+use Rattle.mask_bits.proofs.Lists.Places.SelectLemmas.{places-lowest, indices-of_none, high}
+use Rattle.mask_bits.proofs.Lists.Runs.RunLemmas.{with_index-longer, runs_from-front}
+use Rattle.mask_bits.proofs.Lists.Words.LowestLemmas.{low, low-within}
+use Rattle.mask_bits.proofs.Lists.Words.ShiftLemmas.{get_or-word_bits_and, get_or-word_bits_or, get_or-word_bits_not, get_or-word_bits_shl_low, get_or-word_bits_shl_high}
+use Rattle.mask_bits.proofs.Lists.Words.WordLemmas.{length-word_bits, get_or-word_bits}
+
+-- ---- edges of a word, popped in turn
+
+-- a word, and its lowest bit and the others
+places-of_cleared : (base w : ℕ) → 0 < w → w < 2 ^ 64 → indices_from base (word_bits w) ≡ (base + low w) ∷ indices_from base (word_bits (cleared w))
+places-of_cleared base w some fits = places-lowest base w some fits ∙ ap (λ v. (base + low w) ∷ indices_from base (word_bits v)) (sym (cleared-some w some fits))
+
+none-of_cleared : (base w : ℕ) → w ≡ 0 → indices_from base (word_bits (cleared w)) ≡ []
+none-of_cleared base w none = ap (λ v. indices_from base (word_bits (cleared v))) none ∙ indices-of_none base
+
+none-of : (base w : ℕ) → w ≡ 0 → indices_from base (word_bits w) ≡ []
+none-of base w none = ap (λ v. indices_from base (word_bits v)) none ∙ indices-of_none base
+
+cleared-fits : (w : ℕ) → w < 2 ^ 64 → cleared w < 2 ^ 64
+cleared-fits w fits = omega (arith, and_le_l w ((w + (2 ^ 64 - 1)) % 2 ^ 64))
+
+-- the index of a word's lowest bit, which wraps only where there is none
+abbrev pub place : ℕ → ℕ → ℕ
+place base w = (base + low w) % 2 ^ 64
+
+place-some : (base w : ℕ) → base + 64 ≤ 2 ^ 64 → 0 < w → w < 2 ^ 64 → place base w ≡ base + low w
+place-some base w room some fits = mod-eq_of_lt (omega (arith, low-within w some fits))
+
+length-cleared : (base w : ℕ) → w < 2 ^ 64 → length (indices_from base (word_bits (cleared w))) ≡ length (indices_from base (word_bits w)) - 1
+length-cleared base w fits = elim (cases_lt 0 w) [
+  | inl some ↦ omega (arith, ap length (places-of_cleared base w some fits))
+  | inr none ↦
+      let zero : w ≡ 0 = omega arith in
+      omega (arith, ap length (none-of_cleared base w zero), ap length (none-of base w zero))
+]
+
+pub AreEdges-pop : (base starts ends : ℕ) → AreEdges base starts ends → AreEdges base (cleared starts) (cleared ends)
+AreEdges-pop base starts ends are = record {
+  starts_fit = cleared-fits starts are.starts_fit;
+  ends_fit = cleared-fits ends are.ends_fit;
+  each = omega (arith, are.each, length-cleared base starts are.starts_fit, length-cleared base ends are.ends_fit);
+}
+
+zip-none : (xs ys : List ℕ) → ys ≡ [] → zip xs ys ≡ []
+zip-none [] ys none = refl
+zip-none (x ∷ xs) ys none = ap (zip (x ∷ xs)) none
+
+pub no_runs_between : (base first starts ends : ℕ) → ends ≡ 0 → runs_between base first starts ends ≡ []
+unfolding runs_between
+no_runs_between base first starts ends none = zip-none (first ∷ indices_from base (word_bits starts)) _ (none-of base ends none)
+
+-- what is left of the starts, where an end is popped
+rest_of_starts : (base starts ends : ℕ) → base + 64 ≤ 2 ^ 64 → 0 < ends → AreEdges base starts ends
+    → zip (indices_from base (word_bits starts)) (indices_from base (word_bits (cleared ends))) ≡ zip (place base starts ∷ indices_from base (word_bits (cleared starts))) (indices_from base (word_bits (cleared ends)))
+rest_of_starts base starts ends room some are = elim (cases_lt 0 starts) [
+  | inl more ↦
+      ap (λ ps. zip ps (indices_from base (word_bits (cleared ends))))
+      (places-of_cleared base starts more are.starts_fit ∙ ap (λ p. p ∷ indices_from base (word_bits (cleared starts))) (sym (place-some base starts room more are.starts_fit)))
+  | inr none ↦
+      let zero : starts ≡ 0 = omega arith in
+      let last : indices_from base (word_bits (cleared ends)) ≡ [] = nil_from_length _ (omega (arith, are.each, ap length (none-of base starts zero), length-cleared base ends are.ends_fit)) in
+      zip-none (indices_from base (word_bits starts)) _ last ∙ sym (zip-none (place base starts ∷ indices_from base (word_bits (cleared starts))) _ last)
+]
+
+pub runs_between-pop : (base first starts ends : ℕ) → base + 64 ≤ 2 ^ 64 → 0 < ends → AreEdges base starts ends
+    → runs_between base first starts ends ≡ (first, place base ends) ∷ runs_between base (place base starts) (cleared starts) (cleared ends)
+unfolding runs_between
+runs_between-pop base first starts ends room some are =
+    ap (zip (first ∷ indices_from base (word_bits starts)))
+    (places-of_cleared base ends some are.ends_fit ∙ ap (λ p. p ∷ indices_from base (word_bits (cleared ends))) (sym (place-some base ends room some are.ends_fit)))
+    ∙ ap (λ rs. (first, place base ends) ∷ rs) (rest_of_starts base starts ends room some are)
+
+-- one more run, or another pair where no end is left
+pub RunsArePushed-more : (all : List (ℕ × ℕ)) (base : ℕ) (items : List (ℕ × ℕ)) (first starts ends : ℕ) (run : ℕ × ℕ) (f s e : ℕ)
+    → (0 < ends → AreEdges base starts ends → runs_between base first starts ends ≡ run ∷ runs_between base f s e)
+    → (AreEdges base starts ends → AreEdges base s e) → (ends ≡ 0 → e ≡ 0)
+    → RunsArePushed all base items first starts ends → RunsArePushed all base (items ++ run ∷ []) f s e
+RunsArePushed-more all base items first starts ends run f s e pops edges stays so_far = elim (cases_lt 0 ends) [
+  | inl some ↦ record {
+    others = so_far.others;
+    list = append_assoc items (run ∷ []) (runs_between base f s e)
+        ∙ ap (λ (rs : List (ℕ × ℕ)). items ++ rs) (sym (pops some so_far.edges)) ∙ so_far.list;
+    exact = λ h. so_far.exact some;
+    edges = edges so_far.edges;
+  }
+  | inr none ↦
+      let zero : ends ≡ 0 = omega arith in
+      let left : e ≡ 0 = stays zero in
+      let over : items ≡ all ++ so_far.others = sym (append-nil items) ∙ ap (λ (rs : List (ℕ × ℕ)). items ++ rs) (sym (no_runs_between base first starts ends zero)) ∙ so_far.list in record {
+        others = so_far.others ++ run ∷ [];
+        list = ap (λ (rs : List (ℕ × ℕ)). (items ++ run ∷ []) ++ rs) (no_runs_between base f s e left)
+            ∙ append-nil (items ++ run ∷ []) ∙ ap (λ (rs : List (ℕ × ℕ)). rs ++ run ∷ []) over ∙ append_assoc all so_far.others (run ∷ []);
+        exact = λ h. absurd (omega (arith, left));
+        edges = edges so_far.edges;
+      }
+]
+
+-- as many of the items as all are
+pub RunsArePushed-all : (all : List (ℕ × ℕ)) (base : ℕ) (items : List (ℕ × ℕ)) (first starts ends : ℕ) → length all ≤ length items → RunsArePushed all base items first starts ends → take (length all) items ≡ all
+RunsArePushed-all all base items first starts ends enough so_far =
+    sym (take-append-le (length all) items (runs_between base first starts ends) enough) ∙ ap (take (length all)) so_far.list ∙ take-append_seam all so_far.others
+
+-- how many runs end in a word
+pub length-runs_between : (base first starts ends : ℕ) → AreEdges base starts ends → length (runs_between base first starts ends) ≡ count_ones ends
+unfolding runs_between
+length-runs_between base first starts ends are =
+    let begun : List ℕ = indices_from base (word_bits starts) in
+    let ended : List ℕ = indices_from base (word_bits ends) in
+    omega (arith, length-zip (first ∷ begun) ended, are.each, length-indices_of_word base ends are.ends_fit)
+
+-- ---- the edges of a word
+
+-- where not inside a run, the first one begins at the lowest of the starts
+pub first_begins : (base starts ends : ℕ) → base + 64 ≤ 2 ^ 64 → starts < 2 ^ 64 → length (indices_from base (word_bits ends)) ≤ length (indices_from base (word_bits starts))
+    → runs_between base (place base starts) (cleared starts) ends ≡ zip (indices_from base (word_bits starts)) (indices_from base (word_bits ends))
+unfolding runs_between
+first_begins base starts ends room fits each = elim (cases_lt 0 starts) [
+  | inl some ↦
+      ap (λ ps. zip ps (indices_from base (word_bits ends)))
+      (ap (λ p. p ∷ indices_from base (word_bits (cleared starts))) (place-some base starts room some fits) ∙ sym (places-of_cleared base starts some fits))
+  | inr none ↦
+      let zero : starts ≡ 0 = omega arith in
+      let no_end : indices_from base (word_bits ends) ≡ [] = nil_from_length _ (omega (arith, each, ap length (none-of base starts zero))) in
+      zip-none (place base starts ∷ indices_from base (word_bits (cleared starts))) _ no_end ∙ sym (zip-none (indices_from base (word_bits starts)) _ no_end)
+]
+
+pub AreEdges-first : (base starts ends : ℕ) → starts < 2 ^ 64 → ends < 2 ^ 64 → length (indices_from base (word_bits ends)) ≤ length (indices_from base (word_bits starts)) → AreEdges base (cleared starts) ends
+AreEdges-first base starts ends fits ends_fit each = record {
+  starts_fit = cleared-fits starts fits;
+  ends_fit = ends_fit;
+  each = omega (arith, each, length-cleared base starts fits);
+}
+
+-- ---- runs of a list behind those of its first values
+
+-- a run that is open when a list begins with a true value
+with_index-behind : (n k : ℕ) (m : List Bool) → with_index n (runs_behind true (n + 1) k m) ≡ runs_behind true n k m
+with_index-behind n k [] = with_index-longer n k []
+with_index-behind n k (true ∷ m) = with_index-behind n (k + 1) m
+with_index-behind n k (false ∷ m) = with_index-longer n k (runs_from (k + 1) m)
+
+runs_from-true : (n : ℕ) (m : List Bool) → runs_from n (true ∷ m) ≡ runs_behind true n (n + 1) m
+runs_from-true n [] = refl
+runs_from-true n (true ∷ m) = ap (with_index n) (runs_from-true (n + 1) m) ∙ with_index-behind n ((n + 1) + 1) m
+runs_from-true n (false ∷ m) = grind (arith, runs_from-front n 0 (true ∷ false ∷ m))
+
+-- where values are true and the ones before them are not: `before` is the one before the first
+abbrev pub starts_of : Bool → List Bool → List Bool
+starts_of before [] = []
+starts_of before (v ∷ m) = (v && not before) ∷ starts_of v m
+
+-- where values are not true and the ones before them are
+abbrev pub ends_of : Bool → List Bool → List Bool
+ends_of before [] = []
+ends_of before (v ∷ m) = (before && not v) ∷ ends_of v m
+
+-- the last value
+abbrev pub last_of : Bool → List Bool → Bool
+last_of before [] = before
+last_of before (v ∷ m) = last_of v m
+
+-- where the run begins that is open at the end, if one is
+abbrev pub open_of : Bool → ℕ → ℕ → List Bool → ℕ
+open_of inside start n [] = start
+open_of true start n (v ∷ m) = open_of v start (n + 1) m
+open_of false start n (v ∷ m) = open_of v n (n + 1) m
+
+pub behind-more : (inside : Bool) (start n : ℕ) (m rest : List Bool) → runs_behind inside start n (m ++ rest)
+    ≡ zip (begins inside start (indices_from n (starts_of inside m))) (indices_from n (ends_of inside m)) ++ runs_behind (last_of inside m) (open_of inside start n m) (n + length m) rest
+behind-more true start n [] rest = ap (λ k. runs_behind true start k rest) (sym (add-zero n))
+behind-more false start n [] rest = ap (λ k. runs_behind false start k rest) (sym (add-zero n))
+behind-more true start n (true ∷ m) rest = grind (arith, behind-more true start (n + 1) m rest)
+behind-more true start n (false ∷ m) rest = grind (arith, behind-more false start (n + 1) m rest)
+behind-more false start n (true ∷ m) rest = grind (arith, runs_from-true n (m ++ rest), behind-more true n (n + 1) m rest)
+behind-more false start n (false ∷ m) rest = grind (arith, behind-more false n (n + 1) m rest)
+
+pub each_begins : (inside : Bool) (start n : ℕ) (m : List Bool) → length (indices_from n (ends_of inside m)) ≤ length (begins inside start (indices_from n (starts_of inside m)))
+each_begins true start n [] = omega arith
+each_begins false start n [] = omega arith
+each_begins true start n (true ∷ m) = grind (arith, each_begins true start (n + 1) m)
+each_begins true start n (false ∷ m) = grind (arith, each_begins false start (n + 1) m)
+each_begins false start n (true ∷ m) = grind (arith, each_begins true n (n + 1) m)
+each_begins false start n (false ∷ m) = grind (arith, each_begins false n (n + 1) m)
+
+-- ---- the words of starts and ends
+
+get_or-starts_of : (before : Bool) (m : List Bool) (j : ℕ) → j < length m → get_or (starts_of before m) j false ≡ (get_or m j false && not (get_or (before ∷ m) j false))
+get_or-starts_of before [] j h = absurd (omega arith)
+get_or-starts_of before (v ∷ m) zero h = refl
+get_or-starts_of before (v ∷ m) (suc j) h = get_or-starts_of v m j (omega arith)
+
+get_or-ends_of : (before : Bool) (m : List Bool) (j : ℕ) → j < length m → get_or (ends_of before m) j false ≡ (get_or (before ∷ m) j false && not (get_or m j false))
+get_or-ends_of before [] j h = absurd (omega arith)
+get_or-ends_of before (v ∷ m) zero h = refl
+get_or-ends_of before (v ∷ m) (suc j) h = get_or-ends_of v m j (omega arith)
+
+length-starts_of : (before : Bool) (m : List Bool) → length (starts_of before m) ≡ length m
+length-starts_of before [] = refl
+length-starts_of before (v ∷ m) = ap suc (length-starts_of v m)
+
+length-ends_of : (before : Bool) (m : List Bool) → length (ends_of before m) ≡ length m
+length-ends_of before [] = refl
+length-ends_of before (v ∷ m) = ap suc (length-ends_of v m)
+
+-- the bit before each bit
+get_or-before : (inside : Bool) (w b j : ℕ) → word_bits b ≡ take 64 (inside ∷ word_bits w) → j < 64 → get_or (word_bits b) j false ≡ get_or (inside ∷ word_bits w) j false
+get_or-before inside w b j shows h = ap (λ (bits : List Bool). get_or bits j false) shows ∙ get_or-take 64 (inside ∷ word_bits w) j false h
+
+word_of_starts : (inside : Bool) (w b : ℕ) → b < 2 ^ 64 → word_bits b ≡ take 64 (inside ∷ word_bits w) → word_bits (bit_and w (2 ^ 64 - 1 - b)) ≡ starts_of inside (word_bits w)
+word_of_starts inside w b fits shows =
+    let m : List Bool = word_bits w in
+    ext_get_or false (word_bits (bit_and w (2 ^ 64 - 1 - b))) (starts_of inside m) (omega (arith, length-word_bits (bit_and w (2 ^ 64 - 1 - b)), length-starts_of inside m, length-word_bits w)) (λ j h.
+    let few : j < 64 = omega (arith, length-word_bits (bit_and w (2 ^ 64 - 1 - b))) in
+    get_or-word_bits_and w (2 ^ 64 - 1 - b) j few
+    ∙ ap (λ v. get_or m j false && v) (get_or-word_bits_not b j fits few ∙ ap not (get_or-before inside w b j shows few))
+    ∙ sym (get_or-starts_of inside m j (omega (arith, length-word_bits w))))
+
+word_of_ends : (inside : Bool) (w b : ℕ) → w < 2 ^ 64 → word_bits b ≡ take 64 (inside ∷ word_bits w) → word_bits (bit_and b (2 ^ 64 - 1 - w)) ≡ ends_of inside (word_bits w)
+word_of_ends inside w b fits shows =
+    let m : List Bool = word_bits w in
+    ext_get_or false (word_bits (bit_and b (2 ^ 64 - 1 - w))) (ends_of inside m) (omega (arith, length-word_bits (bit_and b (2 ^ 64 - 1 - w)), length-ends_of inside m, length-word_bits w)) (λ j h.
+    let few : j < 64 = omega (arith, length-word_bits (bit_and b (2 ^ 64 - 1 - w))) in
+    get_or-word_bits_and b (2 ^ 64 - 1 - w) j few
+    ∙ ap₂ (λ u v. u && v) (get_or-before inside w b j shows few) (get_or-word_bits_not w j fits few)
+    ∙ sym (get_or-ends_of inside m j (omega (arith, length-word_bits w))))
+
+-- ---- the run that is open behind a word
+
+open-same : (start n : ℕ) (m : List Bool) → ((i : ℕ) → i < length m → get_or m i false ≡ true) → open_of true start n m ≡ start
+open-same start n [] every = refl
+open-same start n (v ∷ m) every = ap (λ b. open_of b start (n + 1) m) (every 0 (omega arith)) ∙ open-same start (n + 1) m (λ i h. every (suc i) (omega arith))
+
+-- where it begins, if all are true
+open-first : (start n : ℕ) (m : List Bool) → 0 < length m → ((i : ℕ) → i < length m → get_or m i false ≡ true) → open_of false start n m ≡ n
+open-first start n [] some every = absurd (omega arith)
+open-first start n (v ∷ m) some every = ap (λ b. open_of b n (n + 1) m) (every 0 (omega arith)) ∙ open-same n (n + 1) m (λ i h. every (suc i) (omega arith))
+
+-- where it begins, if value j is the last that is not true
+open-past : (inside : Bool) (start n : ℕ) (m : List Bool) (j : ℕ) → suc j < length m → get_or m j false ≡ false → ((i : ℕ) → j < i → i < length m → get_or m i false ≡ true) → open_of inside start n m ≡ n + j + 1
+open-past inside start n [] j more ends past = absurd (omega arith)
+open-past true start n (v ∷ m) zero more ends past = ap (λ b. open_of b start (n + 1) m) ends ∙ open-first start (n + 1) m (omega arith) (λ i h. past (suc i) (omega arith) (omega arith)) ∙ omega arith
+open-past false start n (v ∷ m) zero more ends past = ap (λ b. open_of b n (n + 1) m) ends ∙ open-first n (n + 1) m (omega arith) (λ i h. past (suc i) (omega arith) (omega arith)) ∙ omega arith
+open-past true start n (v ∷ m) (suc j) more ends past = open-past v start (n + 1) m j (omega arith) ends (λ i h l. past (suc i) (omega arith) (omega arith)) ∙ omega arith
+open-past false start n (v ∷ m) (suc j) more ends past = open-past v n (n + 1) m j (omega arith) ends (λ i h l. past (suc i) (omega arith) (omega arith)) ∙ omega arith
+
+last-is : (before : Bool) (m : List Bool) (k : ℕ) → length m ≡ suc k → last_of before m ≡ get_or m k false
+last-is before [] k len = absurd (omega arith)
+last-is before (v ∷ []) zero len = refl
+last-is before (v ∷ []) (suc k) len = absurd (omega arith)
+last-is before (v ∷ u ∷ m) zero len = absurd (omega arith)
+last-is before (v ∷ u ∷ m) (suc k) len = last-is v (u ∷ m) k (omega arith)
+
+last-of_word : (before : Bool) (w : ℕ) → w < 2 ^ 64 → last_of before (word_bits w) ≡ nat_eq (w / 2 ^ 63) 1
+last-of_word before w fits =
+    let low_enough : w / 2 ^ 63 < 2 = omega arith in
+    last-is before (word_bits w) 63 (length-word_bits w) ∙ get_or-word_bits w 63 false (omega arith) ∙ ap (λ n. nat_eq n 1) (mod-eq_of_lt low_enough)
+
+open-full : (inside : Bool) (start n : ℕ) (m : List Bool) → inside ≢ true → 0 < length m → ((i : ℕ) → i < length m → get_or m i false ≡ true) → open_of inside start n m ≡ n
+open-full true start n m differs some every = absurd (differs refl)
+open-full false start n m differs some every = open-first start n m some every
+
+-- a word behind which a run is open: it begins past the last bit that is not set
+open-word : (inside : Bool) (start base w b : ℕ) → base + 64 ≤ 2 ^ 64 → w < 2 ^ 64 → (w ≡ 2 ^ 64 - 1 → inside ≡ true → b ≡ w) → w ≢ b → nat_eq (w / 2 ^ 63) 1 ≡ true
+    → open_of inside start base (word_bits w) ≡ (base + (64 - leading_ones w64 w)) % 2 ^ 64
+open-word inside start base w b room fits full differs last = elim (cases_eq w (2 ^ 64 - 1)) [
+  | inl every ↦
+      let all_ones : leading_ones w64 w ≡ 64 = ap (leading_ones w64) every ∙ leading_of_zero 64 in
+      open-full inside start base (word_bits w) (λ e. differs (sym (full every e))) (omega (arith, length-word_bits w)) (λ i h.
+      let few : i < 64 = omega (arith, length-word_bits w) in
+      get_or-word_bits w i false few ∙ ap (λ n. nat_eq n 1) (ap (λ n. bit_at n i) every ∙ bit_at_ones 64 i few))
+      ∙ sym (ap (λ k. (base + (64 - k)) % 2 ^ 64) all_ones ∙ ap (λ n. n % 2 ^ 64) (add-zero base) ∙ mod-eq_of_lt (omega arith))
+  | inr some ↦
+      let u : ℕ = bit_not w64 w in
+      let top = high u (omega arith) (omega arith) in
+      let k : ℕ = leading_ones w64 w in
+      let j : ℕ = 63 - k in
+      let clear : bit_at w j ≡ 0 = omega (arith, top.1, bit_at_not w64 w j fits (omega (arith, top.0)), bit_at-lt w j) in
+      let ends : get_or (word_bits w) j false ≡ false = get_or-word_bits w j false (omega arith) ∙ ap (λ n. nat_eq n 1) clear in
+      let set : (i : ℕ) → j < i → i < length (word_bits w) → get_or (word_bits w) i false ≡ true
+      = λ i h l. (let few : i < 64 = omega (arith, length-word_bits w) in
+      let one : bit_at w i ≡ 1 = omega (arith, top.2 i h, bit_at_not w64 w i fits few, bit_at-lt w i) in
+      get_or-word_bits w i false few ∙ ap (λ n. nat_eq n 1) one) in
+      let some_ones : 0 < k = elim (cases_lt 0 k) [
+        | inl some_set ↦ some_set
+        | inr none ↦
+            let at_end : j ≡ 63 = omega arith in
+            absurd (true≢false (sym last ∙ sym (last-of_word inside w fits) ∙ last-is inside (word_bits w) 63 (length-word_bits w) ∙ ap (λ i. get_or (word_bits w) i false) (sym at_end) ∙ ends))
+      ] in
+      open-past inside start base (word_bits w) j (omega (arith, length-word_bits w, some_ones)) ends set
+      ∙ sym (mod-eq_of_lt (omega (arith, some_ones))) ∙ ap (λ n. n % 2 ^ 64) (omega (arith, some_ones, top.0))
+]
+
+-- where none is open, its beginning does not matter
+same_open : (inside : Bool) (a b n : ℕ) (m : List Bool) → (inside ≡ true → a ≡ b) → runs_behind inside a n m ≡ runs_behind inside b n m
+same_open true a b n m same = ap (λ start. runs_behind true start n m) (same refl)
+same_open false a b n m same = refl
+
+-- the runs that end in a word, and those behind it
+pub behind-word : (inside : Bool) (start base w b : ℕ) (rest : List Bool) → base + 64 ≤ 2 ^ 64 → w < 2 ^ 64 → b < 2 ^ 64 → word_bits b ≡ take 64 (inside ∷ word_bits w)
+    → (w ≡ 2 ^ 64 - 1 → inside ≡ true → b ≡ w) → w ≢ b
+    → zip (begins inside start (indices_from base (word_bits (bit_and w (2 ^ 64 - 1 - b))))) (indices_from base (word_bits (bit_and b (2 ^ 64 - 1 - w))))
+    ++ runs_behind (nat_eq (w / 2 ^ 63) 1) ((base + (64 - leading_ones w64 w)) % 2 ^ 64) (base + 64) rest
+    ≡ runs_behind inside start base (word_bits w ++ rest)
+behind-word inside start base w b rest room fits b_fits shows full differs =
+    let m : List Bool = word_bits w in
+    let last = last-of_word inside w fits in
+    let here : ℕ = (base + (64 - leading_ones w64 w)) % 2 ^ 64 in
+    ap₂ (λ (s e : List Bool). zip (begins inside start (indices_from base s)) (indices_from base e) ++ runs_behind (nat_eq (w / 2 ^ 63) 1) here (base + 64) rest)
+    (word_of_starts inside w b b_fits shows) (word_of_ends inside w b fits shows)
+    ∙ ap (λ (rs : List (ℕ × ℕ)). zip (begins inside start (indices_from base (starts_of inside m))) (indices_from base (ends_of inside m)) ++ rs)
+    (same_open (nat_eq (w / 2 ^ 63) 1) here (open_of inside start base m) (base + 64) rest (λ e. sym (open-word inside start base w b room fits full differs e))
+    ∙ ap₂ (λ l n. runs_behind l (open_of inside start base m) (base + n) rest) (sym last) (sym (length-word_bits w)))
+    ∙ sym (behind-more inside start base m rest)
+
+pub each_of_word_begins : (inside : Bool) (start base w b : ℕ) → w < 2 ^ 64 → b < 2 ^ 64 → word_bits b ≡ take 64 (inside ∷ word_bits w)
+    → length (indices_from base (word_bits (bit_and b (2 ^ 64 - 1 - w)))) ≤ length (begins inside start (indices_from base (word_bits (bit_and w (2 ^ 64 - 1 - b)))))
+each_of_word_begins inside start base w b fits b_fits shows =
+    omega (arith, ap (λ (m : List Bool). length (indices_from base m)) (word_of_ends inside w b fits shows), ap (λ (m : List Bool). length (begins inside start (indices_from base m))) (word_of_starts inside w b b_fits shows), each_begins inside start base (word_bits w))
+
+-- a word that has no edge
+behind-same : (inside : Bool) (start n : ℕ) (m rest : List Bool) → m ≡ take (length m) (inside ∷ m) → runs_behind inside start (n + length m) rest ≡ runs_behind inside start n (m ++ rest)
+behind-same true start n [] rest e = ap (λ k. runs_behind true start k rest) (add-zero n)
+behind-same false start n [] rest e = ap (λ k. runs_behind false start k rest) (add-zero n)
+behind-same true start n (true ∷ m) rest e = ap (λ k. runs_behind true start k rest) (omega arith) ∙ behind-same true start (n + 1) m rest (ap (drop 1) e)
+behind-same false start n (false ∷ m) rest e = ap (λ k. runs_behind false start k rest) (omega arith) ∙ behind-same false start (n + 1) m rest (ap (drop 1) e)
+behind-same true start n (false ∷ m) rest e = cc
+behind-same false start n (true ∷ m) rest e = cc
+
+pub behind-same_word : (inside : Bool) (start base w b : ℕ) (rest : List Bool) → word_bits b ≡ take 64 (inside ∷ word_bits w) → w ≡ b → runs_behind inside start (base + 64) rest ≡ runs_behind inside start base (word_bits w ++ rest)
+behind-same_word inside start base w b rest shows same =
+    let m : List Bool = word_bits w in
+    let len = length-word_bits w in
+    ap (λ k. runs_behind inside start (base + k) rest) (sym len)
+    ∙ behind-same inside start base m rest (ap word_bits same ∙ shows ∙ ap (λ k. take k (inside ∷ m)) (sym len))
+
+-- the bits of a word, each a place further on
+get_or-first : (inside : Bool) → get_or (word_bits (bool_byte inside)) 0 false ≡ inside
+get_or-first true = get_or-word_bits 1 0 false (omega arith)
+get_or-first false = get_or-word_bits 0 0 false (omega arith)
+
+get_or-others : (inside : Bool) (j : ℕ) → suc j < 64 → get_or (word_bits (bool_byte inside)) (suc j) false ≡ false
+get_or-others true j h = get_or-word_bits 1 (suc j) false h ∙ ap (λ n. nat_eq n 1) (bit_at_above 1 1 (suc j) (omega arith) (omega arith))
+get_or-others false j h = get_or-word_bits 0 (suc j) false h ∙ ap (λ n. nat_eq n 1) (bit_at-zero (suc j))
+
+before-bit : (inside : Bool) (w j : ℕ) → j < 64 → get_or (word_bits (bit_or (w * 2 ^ 1 % 2 ^ 64) (bool_byte inside))) j false ≡ get_or (inside ∷ word_bits w) j false
+before-bit inside w zero h =
+    get_or-word_bits_or (w * 2 ^ 1 % 2 ^ 64) (bool_byte inside) 0 h
+    ∙ ap₂ (λ u v. u || v) (get_or-word_bits_shl_low w 1 0 h (omega arith)) (get_or-first inside)
+before-bit inside w (suc j) h =
+    let back : suc j - 1 ≡ j = omega arith in
+    get_or-word_bits_or (w * 2 ^ 1 % 2 ^ 64) (bool_byte inside) (suc j) h
+    ∙ ap₂ (λ u v. u || v) (get_or-word_bits_shl_high w 1 (suc j) h (omega arith) ∙ ap (λ i. get_or (word_bits w) i false) back) (get_or-others inside j h)
+    ∙ or-false (get_or (word_bits w) j false)
+
+pub word_bits-before : (inside : Bool) (w : ℕ) → word_bits (bit_or (w * 2 ^ 1 % 2 ^ 64) (bool_byte inside)) ≡ take 64 (inside ∷ word_bits w)
+word_bits-before inside w =
+    let b : ℕ = bit_or (w * 2 ^ 1 % 2 ^ 64) (bool_byte inside) in
+    ext_get_or false (word_bits b) (take 64 (inside ∷ word_bits w)) (omega (arith, length-word_bits b, length-take 64 (inside ∷ word_bits w), length-word_bits w)) (λ j h.
+    let few : j < 64 = omega (arith, length-word_bits b) in
+    before-bit inside w j few ∙ sym (get_or-take 64 (inside ∷ word_bits w) j false few))
+
+pub before-full : (inside : Bool) (w : ℕ) → w ≡ 2 ^ 64 - 1 → inside ≡ true → bit_or (w * 2 ^ 1 % 2 ^ 64) (bool_byte inside) ≡ w
+before-full inside w full is = ap₂ (λ v b. bit_or (v * 2 ^ 1 % 2 ^ 64) (bool_byte b)) full is ∙ sym full
+
+-- ---- the last bit of a word
+
+value-same : (inside : Bool) (m : List Bool) (k : ℕ) → m ≡ take (length m) (inside ∷ m) → k < length m → get_or m k false ≡ inside
+value-same inside m zero e h = ap (λ (xs : List Bool). get_or xs 0 false) e ∙ get_or-take (length m) (inside ∷ m) 0 false h
+value-same inside m (suc k) e h = ap (λ (xs : List Bool). get_or xs (suc k) false) e ∙ get_or-take (length m) (inside ∷ m) (suc k) false h ∙ value-same inside m k e (omega arith)
+
+pub last-same_word : (inside : Bool) (w b : ℕ) → word_bits b ≡ take 64 (inside ∷ word_bits w) → w ≡ b → inside ≡ get_or (word_bits w) 63 false
+last-same_word inside w b shows same =
+    let m : List Bool = word_bits w in
+    let len = length-word_bits w in
+    sym (value-same inside m 63 (ap word_bits same ∙ shows ∙ ap (λ k. take k (inside ∷ m)) (sym len)) (omega (arith, len)))
+
+pub last_bit : (w : ℕ) → w < 2 ^ 64 → nat_eq (w / 2 ^ 63) 1 ≡ get_or (word_bits w) 63 false
+last_bit w fits = sym (last-of_word false w fits) ∙ last-is false (word_bits w) 63 (length-word_bits w)
+
+-- ---- the words of a list
+
+-- a whole word
+pub behind-whole : (m : List Bool) (i : ℕ) → word_part m i ++ drop (64 * (i + 1)) m ≡ drop (64 * i) m
+behind-whole m i =
+    let next : 64 * (i + 1) ≡ 64 * i + 64 = omega arith in
+    let few : 64 * i + 64 - 64 * i ≡ 64 = omega arith in
+    let rest : List Bool = drop (64 * i) m in
+    ap (λ n. word_part m i ++ drop n m) next
+    ∙ ap (λ k. take k rest ++ drop (64 * i + 64) m) few
+    ∙ ap (λ (xs : List Bool). take 64 rest ++ xs) (sym (drop-drop 64 (64 * i) m)) ∙ take-append-drop 64 rest
+
+-- false values at the end begin and lengthen no run
+behind-padded : (inside : Bool) (start n : ℕ) (m : List Bool) (k : ℕ) → runs_behind inside start n (m ++ repeated (suc k) false) ≡ runs_behind inside start n m
+unfolding repeated
+behind-padded true start n [] k = ap (λ (rs : List (ℕ × ℕ)). (start, n) ∷ rs) (runs_from-repeated_false (n + 1) k)
+behind-padded false start n [] k = runs_from-repeated_false n (suc k)
+behind-padded true start n (true ∷ m) k = behind-padded true start (n + 1) m k
+behind-padded true start n (false ∷ m) k = ap (λ (rs : List (ℕ × ℕ)). (start, n) ∷ rs) (behind-padded false start (n + 1) m k)
+behind-padded false start n (true ∷ m) k = runs_from-true n (m ++ repeated (suc k) false) ∙ behind-padded true n (n + 1) m k ∙ sym (runs_from-true n m)
+behind-padded false start n (false ∷ m) k = behind-padded false start (n + 1) m k
+
+pub behind-remainder : (inside : Bool) (start n : ℕ) (m : List Bool) → runs_behind inside start n (padded_remainder m) ≡ runs_behind inside start n (drop (64 * (length m / 64)) m)
+behind-remainder inside start n m =
+    let k : ℕ = 63 - length m % 64 in
+    let more : 64 - length m % 64 ≡ suc k = omega arith in
+    ap (λ j. runs_behind inside start n (drop (64 * (length m / 64)) m ++ repeated j false)) more ∙ behind-padded inside start n (drop (64 * (length m / 64)) m) k
+
+-- and its last bit is not set
+pub remainder_ends : (m : List Bool) → get_or (padded_remainder m) 63 false ≡ false
+remainder_ends m =
+    let rest : List Bool = drop (64 * (length m / 64)) m in
+    get_or-padded rest (64 - length m % 64) 63 ∙ get_or_past rest 63 false (omega (arith, length-drop (64 * (length m / 64)) m))

@@ -1,0 +1,37 @@
+use Rattle.std.proofs.Common.{List, [], Bool, false, ℕ, ◌≡◌, ◌+◌, ◌*◌, ◌/◌, ◌++◌, length, drop, get_or, ap, ap₂, ◌∙◌, sym, arith, append-nil}
+use Rattle.mask_bits.specs.Buffer.{values}
+use Rattle.mask_bits.specs.Walk.{runs_behind}
+use Rattle.mask_bits.specs.Words.{word_bits, word_part, padded_remainder}
+use Rattle.mask_bits.proofs.RunWordLemmas.{behind-whole, behind-remainder, remainder_ends}
+use Rattle.mask_bits.proofs.buffer.BitBuffer.runs.Goals as goal
+
+pub loop-i-preserved : goal.loop-i-preserved
+loop-i-preserved c =
+    let m = values c.args.self.now in
+    let l = c.loop-i in
+    let after = c.in_ok-open.open in
+    let next : 64 * (l.i + 1) ≡ 64 * l.i + 64 = omega arith in
+    ap (λ n. c.push_runs.new.ranges.items ++ runs_behind after.inside after.start n (drop (64 * (l.i + 1)) m)) next
+    ∙ c.in_ok-open.ensures.runs (drop (64 * (l.i + 1)) m)
+    ∙ ap (λ (bits : List Bool). l.ranges.items ++ runs_behind l.open.inside l.open.start (64 * l.i) bits)
+    (ap (λ (bits : List Bool). bits ++ drop (64 * (l.i + 1)) m) (c.word.ensures ∙ ap (λ (xs : List Bool). word_part xs l.i) c.chunks-chunks.ensures.list) ∙ behind-whole m l.i)
+    ∙ l.invariant
+
+pub returns : goal.returns
+returns c =
+    let m = values c.args.self.now in
+    let l = c.loop-i in
+    let after = c.in_ok-push_runs.field-0 in
+    let rest : List Bool = word_bits c.remainder_bits.result in
+    let shows : rest ≡ padded_remainder m = c.remainder_bits.ensures ∙ ap padded_remainder c.chunks-chunks.ensures.list in
+    let same : length c.chunks-chunks.result ≡ length m = ap length c.chunks-chunks.ensures.list in
+    let whole : l.i ≡ length m / 64 = omega (arith, same, c.len-i-end.ensures, c.loop-i-test.false, c.loop-i.auto.i-end) in
+    let last : c.len.result ≡ l.i = omega (arith, same, c.len.ensures, whole) in
+    let closed = c.in_ok-push_runs.ensures.last ∙ ap (λ (bits : List Bool). get_or bits 63 false) shows ∙ remainder_ends m in
+    sym (append-nil c.push_runs-2.new.ranges.items)
+    ∙ ap (λ inside. c.push_runs-2.new.ranges.items ++ runs_behind inside after.start (64 * c.len.result + 64) []) (sym closed)
+    ∙ c.in_ok-push_runs.ensures.runs []
+    ∙ ap₂ (λ n (bits : List Bool). l.ranges.items ++ runs_behind l.open.inside l.open.start (64 * n) bits) last (append-nil rest ∙ shows)
+    ∙ ap (λ (rs : List (ℕ × ℕ)). l.ranges.items ++ rs) (behind-remainder l.open.inside l.open.start (64 * l.i) m)
+    ∙ ap (λ n. l.ranges.items ++ runs_behind l.open.inside l.open.start (64 * l.i) (drop (64 * n) m)) (sym whole)
+    ∙ l.invariant

@@ -1,0 +1,29 @@
+use Rattle.std.proofs.Common.{◌≤◌, length, ap, ◌∙◌, sym, subst}
+use Rattle.std.specs.List.{zip}
+use Rattle.mask_bits.specs.Positions.{indices_from}
+use Rattle.mask_bits.specs.Walk.{runs_between, begins}
+use Rattle.mask_bits.specs.Words.{word_bits}
+use Rattle.mask_bits.proofs.RunWordLemmas.{first_begins, AreEdges-first}
+use Rattle.mask_bits.proofs.set_slices.edges_of.Goals as goal
+
+pub returns-then-open-clause-runs : goal.returns-then-open-clause-runs
+unfolding runs_between
+returns-then-open-clause-runs c =
+    let a = c.args in
+    ap (λ b. zip (begins b a.open.start (indices_from a.base (word_bits a.starts))) (indices_from a.base (word_bits a.ends))) (sym c.if-open.true)
+
+each : (c : goal.Else-open) → length (indices_from c.args.base (word_bits c.args.ends)) ≤ length (indices_from c.args.base (word_bits c.args.starts))
+each c =
+    let a = c.args in
+    subst (λ b. length (indices_from a.base (word_bits a.ends)) ≤ length (begins b a.open.start (indices_from a.base (word_bits a.starts)))) c.if-open.false c.requires.begin
+
+pub returns-clause-runs : goal.returns-clause-runs
+returns-clause-runs c =
+    let a = c.args in
+    first_begins a.base a.starts a.ends c.requires.fits c.ranges.starts.fits (each c)
+    ∙ ap (λ b. zip (begins b a.open.start (indices_from a.base (word_bits a.starts))) (indices_from a.base (word_bits a.ends))) (sym c.if-open.false)
+
+pub returns-clause-edges : goal.returns-clause-edges
+returns-clause-edges c =
+    let a = c.args in
+    AreEdges-first a.base a.starts a.ends c.ranges.starts.fits c.ranges.ends.fits (each c)
