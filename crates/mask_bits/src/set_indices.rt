@@ -1,6 +1,6 @@
 //! The indices of a buffer's true values: their list, and the walk over them.
 
-ghost use Rattle.std.specs.Prelude.{◌≡◌, ◌+◌, ◌*◌, ◌^◌, ◌<◌, ◌≤◌, ◌++◌, ℕ, List, IfOk};
+ghost use Rattle.std.specs.Prelude.{◌≡◌, ◌+◌, ◌*◌, ◌/◌, ◌^◌, ◌<◌, ◌≤◌, ◌++◌, [], ℕ, List, IfOk, length, take};
 ghost use Rattle.std.specs.Vec.{vec_len, vec_capacity};
 ghost use Rattle.std.specs.Iterator.{YieldsFirst, item_count};
 ghost use Rattle.mask_bits.specs.Buffer.{values};
@@ -25,15 +25,58 @@ impl BitBuffer {
         let chunks = self.chunks();
         let mut indices = Vec::with_capacity(alloc, true_count)?;
         // the whole words apart, so that none is tested for being the last
-        for i in 0..chunks.len() {
-            push_indices(&mut indices, i, chunks.word(i))?;
-        }
+        push_whole(&mut indices, self, true_count)?;
         if chunks.remainder_len() == 0 {
             return Ok(indices);
         }
         push_one_by_one(&mut indices, chunks.len(), chunks.remainder_bits())?;
         Ok(indices)
     }
+}
+
+// Appends the indices of the true values in the whole words of a buffer with so many of them.
+fn push_whole(
+    indices: &mut Vec<usize>,
+    buffer: &BitBuffer,
+    true_count: usize,
+) -> Result<(), AllocError>
+    requires empty { indices.old.items ≡ [] }
+    ensures { IfOk result (λ _. indices.new.items
+        ≡ positions (take (64 * (length (values buffer.now) / 64)) (values buffer.now))) }
+{
+    if true_count < buffer.len() / 64 {
+        push_few(indices, buffer.chunks())
+    } else {
+        push_many(indices, buffer.chunks())
+    }
+}
+
+// The same where most words have none.
+#[inline]
+fn push_few(indices: &mut Vec<usize>, chunks: BitChunks<'_>) -> Result<(), AllocError>
+    requires empty { indices.old.items ≡ [] }
+    requires fits { length chunks < 2 ^ 64 }
+    ensures { IfOk result (λ _. indices.new.items
+        ≡ positions (take (64 * (length chunks.entry / 64)) chunks.entry)) }
+{
+    for i in 0..chunks.len() {
+        push_one_by_one(indices, i, chunks.word(i))?;
+    }
+    Ok(())
+}
+
+// The same where most words have some. Never inlined, so that the loop for few stays small.
+#[inline(never)]
+fn push_many(indices: &mut Vec<usize>, chunks: BitChunks<'_>) -> Result<(), AllocError>
+    requires empty { indices.old.items ≡ [] }
+    requires fits { length chunks < 2 ^ 64 }
+    ensures { IfOk result (λ _. indices.new.items
+        ≡ positions (take (64 * (length chunks.entry / 64)) chunks.entry)) }
+{
+    for i in 0..chunks.len() {
+        push_indices(indices, i, chunks.word(i))?;
+    }
+    Ok(())
 }
 
 // Appends the indices of the set bits of word `i`.
@@ -44,13 +87,15 @@ fn push_indices(indices: &mut Vec<usize>, i: usize, word: u64) -> Result<(), All
     ensures { IfOk result (λ _. indices.new.items
         ≡ indices.old.items ++ indices_from (64 * i) (word_bits word)) }
 {
+    // most words of a sparse list, for which nothing is looked up
+    if word == 0 {
+        return Ok(());
+    }
     // less room than for any word and three more
     if indices.capacity() - indices.len() < 68 {
         return push_one_by_one(indices, i, word);
     }
-    if word != 0 {
-        push_by_four(indices, 64 * i, word);
-    }
+    push_by_four(indices, 64 * i, word);
     Ok(())
 }
 

@@ -13,7 +13,7 @@ ghost use Rattle.vortex_mask.specs.Text.{counts_text};
 ghost use Rattle.vortex_mask.specs.contracts.mask.values.MaskValues.{the_row};
 
 use crate::mask::{MaskError, MaskIter};
-use mask_bits::BitBuffer;
+use mask_bits::{BitBuffer, laws};
 use std::alloc::{AllocError, Global};
 use std::fmt;
 use std::marker::Model;
@@ -346,10 +346,15 @@ impl MaskValues {
         self.buffer.indices(alloc, self.true_count)
     }
 
-    // The runs of true indices.
+    // The runs of true indices: by a walk where few values are true, of which most words have none.
     fn runs(&self, alloc: Global) -> Result<Vec<(usize, usize)>, AllocError>
         ensures { IfOk result (λ ranges. ranges.items ≡ runs (values self.now.buffer)) }
     {
+        if self.true_count < self.buffer.len() / 32 {
+            let ranges: Vec<_> = self.buffer.set_slices().collect(alloc)?;
+            laws::runs_are_the_list(&ranges);
+            return Ok(ranges);
+        }
         self.buffer.runs(alloc)
     }
 }
