@@ -6,9 +6,10 @@ use Rattle.std.specs.List.{All}
 use Rattle.std.proofs.lemmas.List.{ext_get_or, get_or-take, length-take, length-append, length-drop, length-take-le, take-append-le, take-take, take-append-drop, drop-take}
 use Rattle.std.proofs.Math.Seq.{get_or-append_seam}
 use Rattle.std.proofs.lemmas.List.Elements.{All-nil, All-cons, All-head, All-tail}
+use Rattle.mask_bits.specs.Lanes.{AreLanesOf, ArePacked}
 use Rattle.mask_bits.specs.Rows.{AreAnswers, AreAsComputed}
 use Rattle.mask_bits.specs.Words.{word_bits}
-use Rattle.mask_bits.proofs.BoolsLemmas.{AreLanesOf, lanes-none, lanes-more}
+use Rattle.mask_bits.proofs.BoolsLemmas.{lanes-none, lanes-more}
 use Rattle.mask_bits.proofs.Lists.Words.WordLemmas.{length-word_bits}
 use mir.Val.{bool_byte}
 
@@ -69,12 +70,6 @@ answers-more gives rows n e w a new ordered front back same =
     (subst (λ rs. AreAnswers gives rs (a ++ take (length part) (word_bits w))) (take_part n (e - n) rows ∙ ap (λ k. take k rows) sum) (answers-append gives (take n rows) part a (take (length part) (word_bits w)) front back))
 
 -- ---- in lanes
-
--- the lanes of the answers at the rows so far
-pub record ArePacked {T : Type 0} (gives : T → Bool → Type 0) (rows : List T) (lanes : List ℕ) : Type 0 where
-  pub list : List Bool
-  pub answers : AreAnswers gives rows list
-  pub packed : AreLanesOf list (length rows) lanes
 
 pub packed_no_answers : {T : Type 0} (gives : T → Bool → Type 0) → ArePacked gives [] (replicate 64 0)
 packed_no_answers gives = record { list = []; answers = no_answers gives; packed = lanes-none [] }

@@ -1,18 +1,14 @@
 -- Truth values that are packed into words.
-use Rattle.std.proofs.Common.{◌≡◌, ℕ, ◌+◌, ◌*◌, ◌-◌, ◌<◌, ◌≤◌, ◌⊎◌, Bool, true, false, nat_eq, List, get_or, length, replicate, set, take, refl, sym, ap, ◌∙◌, inl, inr, arith}
+use Rattle.std.proofs.Common.{◌≡◌, ℕ, ◌+◌, ◌*◌, ◌-◌, ◌<◌, ◌≤◌, ◌⊎◌, Bool, true, false, nat_eq, List, get_or, replicate, set, take, refl, sym, ap, ◌∙◌, inl, inr, arith}
 use Rattle.std.proofs.lemmas.Bool.{cases_eq, cases_lt}
 use Rattle.std.proofs.lemmas.List.{get_or-replicate, get_or-set_same, get_or-set_other, get_or-take, get_or_past, length-replicate, length-set, length-take}
 use Rattle.mask_bits.specs.Buffer.{backing_bit}
+use Rattle.mask_bits.specs.Lanes.{AreLanesOf}
 use Rattle.mask_bits.specs.Words.{word_bits, window}
 use Rattle.mask_bits.proofs.Lists.Words.FrontLemmas.{get_or-window}
 use mir.Val.{bool_byte}
 
 -- ---- a lane for each value
-
--- 64 lanes, each of them 1 where one of the first j values is true
-pub record AreLanesOf (m : List Bool) (j : ℕ) (lanes : List ℕ) : Type 0 where
-  pub len : length lanes ≡ 64
-  pub each : (k : ℕ) → k < 64 → nat_eq (get_or lanes k 0) 1 ≡ get_or (take j m) k false
 
 pub lanes-none : (m : List Bool) → AreLanesOf m 0 (replicate 64 0)
 lanes-none m = record { len = length-replicate {A = ℕ} 64 0; each = λ k h. ap (λ n. nat_eq n 1) (get_or-replicate 64 k 0 0 h) }

@@ -1,8 +1,9 @@
 //! Buffers of what a test answers of each row.
 
-ghost use Rattle.std.specs.Prelude.{◌≤◌, IfOk, length, take};
+ghost use Rattle.std.specs.Prelude.{◌≡◌, ◌+◌, ◌≤◌, ◌++◌, List, IfOk, length, take};
 ghost use Rattle.std.specs.Fn.{FnReturnsAt};
 ghost use Rattle.mask_bits.specs.Buffer.{values};
+ghost use Rattle.mask_bits.specs.Lanes.{ArePacked};
 ghost use Rattle.mask_bits.specs.Rows.{AreAnswers, AreAsComputed};
 ghost use Rattle.mask_bits.specs.Words.{word_bits};
 
@@ -47,8 +48,25 @@ fn word_of_rows<T, F: Fn(&T) -> bool>(rows: &[T], test: &F) -> u64
         (take (length rows.now) (word_bits result)) }
 {
     let mut lanes = [0u8; 64];
-    for j in 0..rows.len() {
-        lanes[j] = test(&rows[j]) as u8;
+    let whole = rows.len() / 16;
+    for k in 0..whole {
+        put_answers(&mut lanes, 16 * k, &rows[16 * k..16 * k + 16], test);
     }
+    put_answers(&mut lanes, 16 * whole, &rows[16 * whole..], test);
     word_of_lanes(&lanes)
+}
+
+// Writes what a test answers of some rows to the lanes behind the first `at`. Of sixteen rows, the lanes of a vector,
+// no loop is left.
+#[inline(always)]
+fn put_answers<T, F: Fn(&T) -> bool>(lanes: &mut [u8; 64], at: usize, rows: &[T], test: &F)
+    requires room { at + length rows.now ≤ 64 }
+    requires callable { F.IsAlwaysCallable test.now }
+    ensures { (front : List T) → length front ≡ at
+        → ArePacked (FnReturnsAt F.Fn test.now) front lanes.old
+        → ArePacked (FnReturnsAt F.Fn test.now) (front ++ rows.now) lanes.new }
+{
+    for j in 0..rows.len() {
+        lanes[at + j] = test(&rows[j]) as u8;
+    }
 }

@@ -1,25 +1,28 @@
-use Rattle.std.proofs.Common.{set, take, sym, subst, arith}
+use Rattle.std.proofs.Common.{◌≡◌, ℕ, ◌+◌, ◌-◌, ◌*◌, ◌/◌, length, take, subst, ap, ◌∙◌, arith}
 use Rattle.std.specs.Fn.{FnReturnsAt}
-use Rattle.std.proofs.lemmas.List.{length-take-le, take_all, take_more}
-use Rattle.mask_bits.proofs.AnswerLemmas.{ArePacked, packed_no_answers, packed_one_more, answers_of_word}
+use Rattle.std.proofs.lemmas.List.{length-take-le, take_all}
+use Rattle.mask_bits.specs.Lanes.{ArePacked}
+use Rattle.mask_bits.proofs.AnswerLemmas.{packed_no_answers, answers_of_word, take_part}
 use Rattle.mask_bits.proofs.from_rows.word_of_rows.Goals as goal
-use mir.Val.{bool_byte}
 
-pub loop-j-init : goal.loop-j-init
-loop-j-init g c = packed_no_answers (FnReturnsAt g.F.Fn c.args.test.now)
+pub loop-k-init : goal.loop-k-init
+loop-k-init g c = packed_no_answers (FnReturnsAt g.F.Fn c.args.test.now)
 
-pub loop-j-preserved : goal.loop-j-preserved
-loop-j-preserved g c =
+pub loop-k-preserved : goal.loop-k-preserved
+loop-k-preserved g c =
     let rows = c.args.rows.now in
-    let j = c.loop-j.j in
+    let n : ℕ = 16 * c.loop-k.k in
     let gives = FnReturnsAt g.F.Fn c.args.test.now in
-    subst (λ rs. ArePacked gives rs (set c.loop-j.lanes j (bool_byte c.test.result))) (sym (take_more rows j c.index-rows-j.result c.loop-j-test.true))
-    (packed_one_more gives (take j rows) j c.loop-j.lanes _ c.test.result (length-take-le j rows (omega (arith, c.loop-j-test.true))) (omega (arith, c.loop-j-test.true, c.requires.few))
-    (record { shown = _; shows = c.index-rows-j.is; says = record { met = c.test.ensures } }) c.loop-j.invariant)
+    let sum : n + (n + 16 - n) ≡ 16 * (c.loop-k.k + 1) = omega arith in
+    subst (λ rs. ArePacked gives rs c.put_answers.new.lanes) (take_part n (n + 16 - n) rows ∙ ap (λ i. take i rows) sum)
+    (c.put_answers.ensures (take n rows) (length-take-le n rows (omega (arith, c.loop-k-test.true))) c.loop-k.invariant)
 
 pub returns : goal.returns
 returns g c =
     let rows = c.args.rows.now in
+    let n : ℕ = 16 * (length rows / 16) in
     let gives = FnReturnsAt g.F.Fn c.args.test.now in
-    answers_of_word gives rows c.loop-j.lanes c.word_of_lanes.result c.requires.few c.word_of_lanes.ensures
-    (subst (λ rs. ArePacked gives rs c.loop-j.lanes) (take_all c.loop-j.j rows (omega (arith, c.loop-j-test.false))) c.loop-j.invariant)
+    let last : c.loop-k.k ≡ length rows / 16 = omega (arith, c.loop-k-test.false) in
+    answers_of_word gives rows c.put_answers-2.new.lanes c.word_of_lanes.result c.requires.few c.word_of_lanes.ensures
+    (subst (λ rs. ArePacked gives rs c.put_answers-2.new.lanes) (take_part n (length rows - n) rows ∙ take_all (n + (length rows - n)) rows (omega arith))
+    (c.put_answers-2.ensures (take n rows) (length-take-le n rows (omega arith)) (subst (λ k. ArePacked gives (take (16 * k) rows) c.loop-k.lanes) last c.loop-k.invariant)))
