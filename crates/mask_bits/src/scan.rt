@@ -1,6 +1,6 @@
 //! Words of a walk by the started words of a list: the first one, and the next of which something is left.
 
-ghost use Rattle.std.specs.Prelude.{◌≡◌, ◌≢◌, ◌+◌, ◌-◌, ◌<◌, ◌^◌, false, length, Some, IfSome, IfNone};
+ghost use Rattle.std.specs.Prelude.{◌≡◌, ◌≢◌, ◌+◌, ◌-◌, ◌/◌, ◌<◌, ◌≤◌, ◌^◌, false, length, Some, IfSome, IfNone};
 ghost use Rattle.mask_bits.specs.Positions.{repeated};
 ghost use Rattle.mask_bits.specs.Walk.{left_of, IsLeft};
 
@@ -22,6 +22,8 @@ pub(crate) fn first_word(chunks: &BitChunks<'_>) -> u64
 }
 
 // From word `at` on, of which `word` is left: the first word of which something is left.
+//
+// The whole words apart, so that none is tested for being the last.
 #[tactic(auto, using(crate::proofs::Lists::Words::WalkLemmas::left_in_words))]
 #[inline]
 pub(crate) fn next_word(chunks: &BitChunks<'_>, at: usize, word: u64) -> Option<(usize, u64)>
@@ -31,14 +33,36 @@ pub(crate) fn next_word(chunks: &BitChunks<'_>, at: usize, word: u64) -> Option<
     ensures same { IfSome result (λ r. left_of chunks.now r.0 r.1 ≡ left_of chunks.now at word) }
     ensures found { IfSome result (λ r. r.1 ≢ 0) }
 {
+    let whole = chunks.values_len() / 64;
     let mut at = at;
     let mut word = word;
     while word == 0 {
-        if chunks.started_words() <= at + 1 {
-            return None;
+        if at + 1 >= whole {
+            return last_word(chunks, at);
         }
         at += 1;
-        word = chunks.started_word(at);
+        word = chunks.word(at);
     }
     Some((at, word))
+}
+
+// The same where nothing is left of word `at`, and no whole word comes after it.
+#[tactic(auto, using(crate::proofs::Lists::Words::WalkLemmas::left_in_words))]
+#[inline]
+fn last_word(chunks: &BitChunks<'_>, at: usize) -> Option<(usize, u64)>
+    requires passed { IsLeft chunks.now at 0 }
+    requires last { length chunks.now / 64 ≤ at + 1 }
+    ensures none { IfNone result (left_of chunks.now at 0 ≡ repeated (length chunks.now) false) }
+    ensures is_left { IfSome result (λ r. IsLeft chunks.now r.0 r.1) }
+    ensures same { IfSome result (λ r. left_of chunks.now r.0 r.1 ≡ left_of chunks.now at 0) }
+    ensures found { IfSome result (λ r. r.1 ≢ 0) }
+{
+    if chunks.started_words() <= at + 1 {
+        return None;
+    }
+    let word = chunks.started_word(at + 1);
+    if word == 0 {
+        return None;
+    }
+    Some((at + 1, word))
 }
