@@ -5,7 +5,7 @@ use Rattle.std.proofs.lemmas.Bool.{cases_lt}
 use Rattle.std.proofs.lemmas.List.{take-append-le}
 use lib.Seq.{take-append_seam}
 use Rattle.mask_bits.specs.Positions.{indices_from}
-use Rattle.mask_bits.specs.Walk.{ArePushed}
+use Rattle.mask_bits.specs.Pushed.{ArePushed}
 use Rattle.mask_bits.specs.Words.{word_bits}
 use Rattle.mask_bits.proofs.Lists.Places.SelectLemmas.{places-lowest, indices-of_none}
 use Rattle.mask_bits.proofs.Lists.Places.PlaceLemmas.{length-indices_from-trues}

@@ -14,7 +14,7 @@ use Rattle.std.proofs.lemmas.Slice.Zip.{length-zip}
 use lib.Seq.{take-append_seam}
 use Rattle.mask_bits.specs.Positions.{indices_from, repeated}
 use Rattle.mask_bits.specs.RunScan.{runs_from, with_index}
-use Rattle.mask_bits.specs.Walk.{runs_behind, runs_between, AreEdges, RunsArePushed, begins}
+use Rattle.mask_bits.specs.Pushed.{runs_behind, runs_between, AreEdges, RunsArePushed, begins}
 use Rattle.mask_bits.specs.Words.{word_bits, word_part, padded_remainder}
 use Rattle.mask_bits.proofs.Lists.CountLemmas.{get_or-padded}
 use Rattle.mask_bits.proofs.Lists.Words.WalkLemmas.{runs_from-repeated_false}

@@ -8,6 +8,7 @@ pub mod Laws
 pub mod Lists
 pub mod Number
 pub mod Positions
+pub mod Pushed
 pub mod Rows
 pub mod RunScan
 pub mod Runs

@@ -1,15 +1,14 @@
 //! The runs of a buffer's true values: their list, and the walk over them.
 
 ghost use Rattle.std.specs.Iterator.{YieldsFirst, item_count};
-ghost use Rattle.std.specs.Prelude.{◌≡◌, ◌≢◌, ◌*◌, ◌+◌, ◌-◌, ◌≤◌, ◌<◌, ◌^◌, ◌++◌, ◌∷◌, ℕ, Bool, List, true, false, length, take, slice_index_or, Some, IfOk};
+ghost use Rattle.std.specs.Prelude.{◌≡◌, ◌≢◌, ◌*◌, ◌+◌, ◌-◌, ◌≤◌, ◌<◌, ◌^◌, ◌++◌, ◌∷◌, ℕ, Bool, List, true, false, length, take, slice_index_or, zip, Some, IfOk};
 ghost use Rattle.std.specs.Vec.{vec_len, vec_capacity};
 ghost use Rattle.mask_bits.specs.Buffer.{values};
-ghost use Rattle.std.specs.List.{zip};
 ghost use Rattle.mask_bits.specs.Positions.{indices_from};
 ghost use Rattle.mask_bits.specs.Runs.{AreRuns};
 ghost use Rattle.mask_bits.specs.RunScan.{runs};
 ghost use Rattle.mask_bits.specs.Walk.{left_of, IsLeft, PassesTrue};
-ghost use Rattle.mask_bits.specs.Walk.{runs_behind, runs_between, AreEdges, RunsArePushed, begins};
+ghost use Rattle.mask_bits.specs.Pushed.{runs_behind, runs_between, AreEdges, RunsArePushed, begins};
 ghost use Rattle.mask_bits.specs.Words.{word_bits};
 
 use crate::buffer::BitBuffer;
@@ -28,18 +27,18 @@ impl BitBuffer {
     {
         let chunks = self.chunks();
         let mut ranges = Vec::new(alloc);
-        let mut open = Open {
+        let mut begun = Open {
             inside: false,
             start: 0,
         };
         // the whole words apart, so that none is tested for being the last
         for i in 0..chunks.len() {
-            open = push_runs(&mut ranges, open, 64 * i, chunks.word(i))?;
+            begun = push_runs(&mut ranges, begun, 64 * i, chunks.word(i))?;
         }
         // zeros past the last value end the last run
         push_runs(
             &mut ranges,
-            open,
+            begun,
             64 * chunks.len(),
             chunks.remainder_bits(),
         )?;
@@ -66,40 +65,40 @@ struct Edges {
 #[inline(always)]
 fn push_runs(
     ranges: &mut Vec<(usize, usize)>,
-    open: Open,
+    begun: Open,
     base: usize,
     word: u64,
 ) -> Result<Open, AllocError>
     requires { base + 64 ≤ 2 ^ 64 }
     ensures runs { IfOk result (λ after. (rest : List Bool) → ranges.new.items ++ runs_behind after.inside after.start (base + 64) rest
-        ≡ ranges.old.items ++ runs_behind open.inside open.start base (word_bits word ++ rest)) }
+        ≡ ranges.old.items ++ runs_behind begun.inside begun.start base (word_bits word ++ rest)) }
     ensures last { IfOk result (λ after. after.inside ≡ slice_index_or (word_bits word) 63 false) }
 {
-    let before = bits_before(open.inside, word);
+    let before = bits_before(begun.inside, word);
     if word == before {
-        return Ok(open);
+        return Ok(begun);
     }
-    push_edges(ranges, open, base, word, before)
+    push_edges(ranges, begun, base, word, before)
 }
 
 // The same for a word that has edges.
 #[inline(always)]
 fn push_edges(
     ranges: &mut Vec<(usize, usize)>,
-    open: Open,
+    begun: Open,
     base: usize,
     word: u64,
     before: u64,
 ) -> Result<Open, AllocError>
     requires fits { base + 64 ≤ 2 ^ 64 }
-    requires bits { word_bits before ≡ take 64 (open.inside ∷ word_bits word) }
-    requires full { word ≡ 2 ^ 64 - 1 → open.inside ≡ true → before ≡ word }
+    requires bits { word_bits before ≡ take 64 (begun.inside ∷ word_bits word) }
+    requires full { word ≡ 2 ^ 64 - 1 → begun.inside ≡ true → before ≡ word }
     requires some { word ≢ before }
     ensures runs { IfOk result (λ after. (rest : List Bool) → ranges.new.items ++ runs_behind after.inside after.start (base + 64) rest
-        ≡ ranges.old.items ++ runs_behind open.inside open.start base (word_bits word ++ rest)) }
+        ≡ ranges.old.items ++ runs_behind begun.inside begun.start base (word_bits word ++ rest)) }
     ensures last { IfOk result (λ after. after.inside ≡ slice_index_or (word_bits word) 63 false) }
 {
-    let edges = edges_of(open, base, word & !before, before & !word);
+    let edges = edges_of(begun, base, word & !before, before & !word);
     push_between(ranges, base, edges)?;
     Ok(Open {
         inside: word >> 63 == 1,
@@ -118,17 +117,17 @@ fn bits_before(inside: bool, word: u64) -> u64
 
 // The edges of a word in which bits of `starts` begin runs and those of `ends` end them.
 #[inline]
-fn edges_of(open: Open, base: usize, starts: u64, ends: u64) -> Edges
+fn edges_of(begun: Open, base: usize, starts: u64, ends: u64) -> Edges
     requires fits { base + 64 ≤ 2 ^ 64 }
     requires begin { length (indices_from base (word_bits ends))
-        ≤ length (begins open.inside open.start (indices_from base (word_bits starts))) }
+        ≤ length (begins begun.inside begun.start (indices_from base (word_bits starts))) }
     ensures runs { runs_between base result.first result.starts result.ends
-        ≡ zip (begins open.inside open.start (indices_from base (word_bits starts))) (indices_from base (word_bits ends)) }
+        ≡ zip (begins begun.inside begun.start (indices_from base (word_bits starts))) (indices_from base (word_bits ends)) }
     ensures edges { AreEdges base result.starts result.ends }
 {
-    if open.inside {
+    if begun.inside {
         return Edges {
-            first: open.start,
+            first: begun.start,
             starts,
             ends,
         };

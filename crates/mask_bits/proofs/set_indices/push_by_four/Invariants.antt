@@ -1,6 +1,6 @@
 use Rattle.std.proofs.Common.{◌≡◌, ◌-◌, ◌++◌, vec_len, vec_capacity}
 use Rattle.mask_bits.specs.Positions.{indices_from}
-use Rattle.mask_bits.specs.Walk.{ArePushed}
+use Rattle.mask_bits.specs.Pushed.{ArePushed}
 use Rattle.mask_bits.specs.Words.{word_bits}
 use Rattle.mask_bits.proofs.set_indices.push_by_four.Given as goal
 

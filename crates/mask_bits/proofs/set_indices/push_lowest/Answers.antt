@@ -1,5 +1,5 @@
 use Rattle.std.proofs.Common.{List, ℕ, sym, subst}
-use Rattle.mask_bits.specs.Walk.{ArePushed}
+use Rattle.mask_bits.specs.Pushed.{ArePushed}
 use Rattle.mask_bits.proofs.PushLemmas.{ArePushed-more, cleared}
 use Rattle.mask_bits.proofs.set_indices.push_lowest.Goals as goal
 

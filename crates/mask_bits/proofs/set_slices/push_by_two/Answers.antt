@@ -1,6 +1,6 @@
 use Rattle.std.proofs.Common.{List, ℕ, ◌≡◌, ◌≤◌, ap, ◌∙◌, ◌+◌, ◌++◌, length, take, count_ones, arith, sym}
 use Rattle.std.proofs.lemmas.List.{length-append}
-use Rattle.mask_bits.specs.Walk.{runs_between}
+use Rattle.mask_bits.specs.Pushed.{runs_between}
 use Rattle.mask_bits.proofs.RunWordLemmas.{RunsArePushed-all, length-runs_between}
 use Rattle.mask_bits.proofs.set_slices.push_by_two.Goals as goal
 

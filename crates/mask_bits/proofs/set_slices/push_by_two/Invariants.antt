@@ -1,5 +1,5 @@
 use Rattle.std.proofs.Common.{◌≡◌, ◌-◌, ◌++◌, vec_len, vec_capacity}
-use Rattle.mask_bits.specs.Walk.{RunsArePushed, runs_between}
+use Rattle.mask_bits.specs.Pushed.{RunsArePushed, runs_between}
 use Rattle.mask_bits.proofs.set_slices.push_by_two.Given as goal
 
 abbrev pub invariant-loop-left : goal.invariant-loop-left

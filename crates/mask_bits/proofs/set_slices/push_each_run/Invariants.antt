@@ -1,5 +1,5 @@
 use Rattle.std.proofs.Common.{◌≡◌, ◌++◌}
-use Rattle.mask_bits.specs.Walk.{AreEdges, runs_between}
+use Rattle.mask_bits.specs.Pushed.{AreEdges, runs_between}
 use Rattle.mask_bits.proofs.set_slices.push_each_run.Given as goal
 
 -- the runs so far, and those that are left, are all

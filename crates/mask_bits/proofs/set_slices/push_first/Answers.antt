@@ -1,5 +1,5 @@
 use Rattle.std.proofs.Common.{List, ℕ, sym, subst}
-use Rattle.mask_bits.specs.Walk.{RunsArePushed}
+use Rattle.mask_bits.specs.Pushed.{RunsArePushed}
 use Rattle.mask_bits.proofs.RunWordLemmas.{RunsArePushed-more}
 use Rattle.mask_bits.proofs.set_slices.push_first.Goals as goal
 

@@ -1,6 +1,6 @@
 use Rattle.std.proofs.Common.{List, [], Bool, false, ℕ, ◌≡◌, ◌+◌, ◌*◌, ◌/◌, ◌++◌, length, drop, get_or, ap, ap₂, ◌∙◌, sym, arith, append-nil}
 use Rattle.mask_bits.specs.Buffer.{values}
-use Rattle.mask_bits.specs.Walk.{runs_behind}
+use Rattle.mask_bits.specs.Pushed.{runs_behind}
 use Rattle.mask_bits.specs.Words.{word_bits, word_part, padded_remainder}
 use Rattle.mask_bits.proofs.RunWordLemmas.{behind-whole, behind-remainder, remainder_ends}
 use Rattle.mask_bits.proofs.buffer.BitBuffer.runs.Goals as goal
@@ -9,11 +9,11 @@ pub loop-i-preserved : goal.loop-i-preserved
 loop-i-preserved c =
     let m = values c.args.self.now in
     let l = c.loop-i in
-    let after = c.in_ok-open.open in
+    let after = c.in_ok-begun.begun in
     let next : 64 * (l.i + 1) ≡ 64 * l.i + 64 = omega arith in
     ap (λ n. c.push_runs.new.ranges.items ++ runs_behind after.inside after.start n (drop (64 * (l.i + 1)) m)) next
-    ∙ c.in_ok-open.ensures.runs (drop (64 * (l.i + 1)) m)
-    ∙ ap (λ (bits : List Bool). l.ranges.items ++ runs_behind l.open.inside l.open.start (64 * l.i) bits)
+    ∙ c.in_ok-begun.ensures.runs (drop (64 * (l.i + 1)) m)
+    ∙ ap (λ (bits : List Bool). l.ranges.items ++ runs_behind l.begun.inside l.begun.start (64 * l.i) bits)
     (ap (λ (bits : List Bool). bits ++ drop (64 * (l.i + 1)) m) (c.word.ensures ∙ ap (λ (xs : List Bool). word_part xs l.i) c.chunks-chunks.ensures.list) ∙ behind-whole m l.i)
     ∙ l.invariant
 
@@ -31,7 +31,7 @@ returns c =
     sym (append-nil c.push_runs-2.new.ranges.items)
     ∙ ap (λ inside. c.push_runs-2.new.ranges.items ++ runs_behind inside after.start (64 * c.len.result + 64) []) (sym closed)
     ∙ c.in_ok-push_runs.ensures.runs []
-    ∙ ap₂ (λ n (bits : List Bool). l.ranges.items ++ runs_behind l.open.inside l.open.start (64 * n) bits) last (append-nil rest ∙ shows)
-    ∙ ap (λ (rs : List (ℕ × ℕ)). l.ranges.items ++ rs) (behind-remainder l.open.inside l.open.start (64 * l.i) m)
-    ∙ ap (λ n. l.ranges.items ++ runs_behind l.open.inside l.open.start (64 * l.i) (drop (64 * n) m)) (sym whole)
+    ∙ ap₂ (λ n (bits : List Bool). l.ranges.items ++ runs_behind l.begun.inside l.begun.start (64 * n) bits) last (append-nil rest ∙ shows)
+    ∙ ap (λ (rs : List (ℕ × ℕ)). l.ranges.items ++ rs) (behind-remainder l.begun.inside l.begun.start (64 * l.i) m)
+    ∙ ap (λ n. l.ranges.items ++ runs_behind l.begun.inside l.begun.start (64 * l.i) (drop (64 * n) m)) (sym whole)
     ∙ l.invariant
