@@ -102,44 +102,76 @@ fn is_listed(mask: &Mask) -> bool {
         .is_some_and(|values| values.cached_indices().is_some())
 }
 
-// The fold by one call has the list that the fold from the first mask up ends with.
-fn has_the_list(rt: &impl Abort, alloc: Global, first: &Mask, rest: &[Mask], left: &Mask) {
-    assert!(rt; are_a_stack(first, rest));
-    let folded = found(rt, first.intersect_all_by_rank(alloc, rest));
-    assert!(rt; folded == *left);
-    assert!(rt; is_listed(&folded) == is_listed(left));
+// Filters over so many rows, each of so many true values as the next one has rows; those are listed whose bit is set
+// in `lists`.
+fn stack_of(rt: &impl Abort, alloc: Global, counts: &[usize], lists: u32) -> Vec<Mask> {
+    let mut masks = Vec::new(alloc);
+    for i in 1..counts.len() {
+        let is_listed = lists >> (i - 1) & 1 == 1;
+        found(rt, masks.push(first_rows(rt, alloc, counts[i - 1], counts[i], is_listed)));
+    }
+    masks
 }
 
-// Three filters over 640 rows, of so many true values, of which those are listed whose bit is set in `lists`.
-fn three_of(rt: &impl Abort, alloc: Global, counts: (usize, usize, usize), lists: u32) {
-    let first = first_rows(rt, alloc, 640, counts.0, lists & 1 == 1);
-    let second = first_rows(rt, alloc, counts.0, counts.1, lists & 2 == 2);
-    let third = first_rows(rt, alloc, counts.1, counts.2, lists & 4 == 4);
-    let two = narrowed(rt, alloc, &first, &second);
-    let left = narrowed(rt, alloc, &two, &third);
-    let mut rest = Vec::new(alloc);
-    found(rt, rest.push(second));
-    found(rt, rest.push(third));
-    has_the_list(rt, alloc, &first, &rest, &left);
+// The fold from the first mask up.
+fn folded_up(rt: &impl Abort, alloc: Global, first: &Mask, rest: &[Mask]) -> Mask {
+    let mut left = found(rt, first.clone());
+    for mask in rest {
+        left = narrowed(rt, alloc, &left, mask);
+    }
+    left
+}
+
+// The fold by one call has the list that the fold from the first mask up ends with.
+fn has_the_list(rt: &impl Abort, alloc: Global, first: &Mask, rest: &[Mask]) {
+    assert!(rt; are_a_stack(first, rest));
+    let left = folded_up(rt, alloc, first, rest);
+    let folded = found(rt, first.intersect_all_by_rank(alloc, rest));
+    assert!(rt; folded == left);
+    assert!(rt; is_listed(&folded) == is_listed(&left));
+}
+
+// The same for each choice of which masks are listed.
+fn have_the_lists(rt: &impl Abort, alloc: Global, counts: &[usize]) {
+    for lists in 0..1 << (counts.len() - 1) {
+        if let [first, rest @ ..] = stack_of(rt, alloc, counts, lists).as_slice() {
+            has_the_list(rt, alloc, first, rest);
+        }
+    }
 }
 
 // Around one row in 64, one rank in 32 values, and as many ranks as there are words, where a list takes the place of words.
 #[test]
 fn a_fold_caches_what_the_fold_from_the_first_mask_would(rt: HostRuntime) {
     let alloc = rt.alloc();
-    for lists in 0..8 {
-        three_of(&rt, alloc, (500, 200, 100), lists);
-        three_of(&rt, alloc, (500, 320, 10), lists);
-        three_of(&rt, alloc, (500, 321, 10), lists);
-        three_of(&rt, alloc, (480, 15, 14), lists);
-        three_of(&rt, alloc, (481, 15, 14), lists);
-        three_of(&rt, alloc, (500, 11, 10), lists);
-        three_of(&rt, alloc, (500, 10, 9), lists);
-        three_of(&rt, alloc, (500, 9, 5), lists);
-        three_of(&rt, alloc, (11, 10, 9), lists);
-        three_of(&rt, alloc, (10, 9, 3), lists);
-        three_of(&rt, alloc, (9, 4, 1), lists);
-        three_of(&rt, alloc, (500, 100, 100), lists);
-        three_of(&rt, alloc, (500, 500, 9), lists);
+    for counts in [
+        [640, 500, 200, 100],
+        [640, 500, 320, 10],
+        [640, 500, 321, 10],
+        [640, 480, 15, 14],
+        [640, 481, 15, 14],
+        [640, 500, 11, 10],
+        [640, 500, 10, 9],
+        [640, 500, 9, 5],
+        [640, 11, 10, 9],
+        [640, 10, 9, 3],
+        [640, 9, 4, 1],
+        [640, 500, 100, 100],
+        [640, 500, 500, 9],
+        [641, 500, 11, 10],
+        [641, 500, 10, 9],
+        [641, 11, 10, 9],
+    ] {
+        have_the_lists(&rt, alloc, &counts);
     }
+}
+
+// An all-true mask between mixed ones, and stacks of four and five.
+#[test]
+fn a_higher_fold_caches_what_the_fold_from_the_first_mask_would(rt: HostRuntime) {
+    let alloc = rt.alloc();
+    have_the_lists(&rt, alloc, &[640, 500, 500, 300, 9]);
+    have_the_lists(&rt, alloc, &[640, 500, 400, 12, 9]);
+    have_the_lists(&rt, alloc, &[640, 500, 9, 8, 7]);
+    have_the_lists(&rt, alloc, &[700, 690, 400, 390, 12, 5]);
 }

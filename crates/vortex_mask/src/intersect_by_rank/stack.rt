@@ -18,6 +18,17 @@ pub(super) fn all_choose(masks: &[Mask]) -> bool
     masks.iter().all(|mask| mask.true_count() > 0)
 }
 
+// Whether the fold from the first mask up begins by taking one cached list at another, which reads no word and leaves
+// a list for the next step.
+pub(super) fn begins_by_lists(first: &MaskValues, masks: &[Mask]) -> bool {
+    match masks {
+        [Mask::Values(ranks), ..] => {
+            takes_lists(first.len(), first.cached_indices().is_some(), ranks)
+        }
+        _ => false,
+    }
+}
+
 // The first mask narrowed by the fold of the others, each of which chooses a row.
 pub(super) fn fold_down(alloc: Global, first: &Mask, masks: &[Mask]) -> Result<Mask, MaskError>
     requires stack { IsStack (truth first.now ∷ map truth masks.now) }
@@ -51,10 +62,15 @@ pub(super) fn lists_at_last(first: &MaskValues, masks: &[Mask]) -> bool {
 
 // Whether so many values, of which as many are true as `ranks` has, are narrowed on a path that lists what is left.
 fn lists(len: usize, is_listed: bool, ranks: &MaskValues) -> bool {
-    let (rows, count) = (ranks.len() as u128, ranks.true_count());
-    let both = is_listed && ranks.cached_indices().is_some() && count < started_words(len);
-    both || rows * u128::from(ROWS_PER_TRUE_BY_INDICES) < len as u128
-        || count as u128 * u128::from(VALUES_PER_RANK_BY_SELECTION) < rows
+    let (rows, count) = (ranks.len() as u128, ranks.true_count() as u128);
+    takes_lists(len, is_listed, ranks)
+        || rows * u128::from(ROWS_PER_TRUE_BY_INDICES) < len as u128
+        || count * u128::from(VALUES_PER_RANK_BY_SELECTION) < rows
+}
+
+// Whether both lists are at hand, and quicker than words.
+fn takes_lists(len: usize, is_listed: bool, ranks: &MaskValues) -> bool {
+    is_listed && ranks.cached_indices().is_some() && ranks.true_count() < started_words(len)
 }
 
 // The mask, with its true indices cached where they are asked for, and else not.
