@@ -14,7 +14,7 @@ mod from_indices;
 mod from_slices;
 mod iter;
 mod limit;
-mod put_rows;
+mod push_rows;
 mod slice;
 mod values;
 

@@ -5,7 +5,7 @@ ghost use Rattle.mask_bits.specs.Buffer.{values};
 ghost use Rattle.mask_bits.specs.Positions.{count, chosen};
 ghost use Rattle.vortex_mask.specs.Mask.{truth, variant, all_false};
 
-use crate::mask::put_rows::put_rows;
+use crate::mask::push_rows::push_rows;
 use crate::mask::{Mask, MaskError};
 use mask_bits::BitBuffer;
 use std::alloc::{AllocError, Global};
@@ -29,7 +29,7 @@ impl Mask {
             Mask::Values(values) => {
                 let true_count = values.true_count();
                 Ok(rows_at(alloc, rows, values.bit_buffer(), true_count)?)
-            },
+            }
         }
     }
 }
@@ -45,11 +45,7 @@ fn rows_at<T: Copy>(
     requires counted { true_count ≡ count (values buffer.now) }
     ensures { IfOk result (λ v. v.items ≡ chosen rows.now (values buffer.now)) }
 {
-    // filled with any row, so that whole groups of rows can be written into it
-    let Some(any) = rows.first() else {
-        return Ok(Vec::new(alloc));
-    };
-    let mut chosen_rows = vec![in alloc; *any; true_count]?;
-    put_rows(&mut chosen_rows, rows, &buffer.chunks());
+    let mut chosen_rows = Vec::with_capacity(alloc, true_count)?;
+    push_rows(&mut chosen_rows, rows, &buffer.chunks());
     Ok(chosen_rows)
 }
