@@ -1,5 +1,5 @@
 -- The indices that two ascending lists have in common, found at their fronts.
-use Rattle.std.proofs.Common.{Bool, suc, true, append_assoc, append-nil, ◌≡◌, ℕ, ◌+◌, ◌<◌, ◌≤◌, false, nat_eq, nat_le, set, List, [], ◌∷◌, ◌++◌, length, get_or, take, drop, ◌||◌, ◌-◌, cond, min, refl, sym, ap, subst, ◌∙◌, ◌⊎◌, inl, inr, arith}
+use Rattle.std.proofs.Common.{Bool, zero, suc, true, append_assoc, append-nil, ◌≡◌, ℕ, ◌+◌, ◌<◌, ◌≤◌, false, nat_eq, nat_le, set, List, [], ◌∷◌, ◌++◌, length, get_or, take, drop, ◌||◌, ◌-◌, cond, min, refl, sym, ap, subst, ◌∙◌, ◌⊎◌, inl, inr, arith}
 use Rattle.std.specs.List.{All, copy_within, list_any}
 use Rattle.std.proofs.lemmas.Grind.{take-set_at}
 use Rattle.std.proofs.lemmas.List.Edits.{take-paste}
@@ -198,7 +198,7 @@ merged-equal xs ys both i j n ascending h k room m same = record {
       ap (λ zs. zs ++ common (drop (i + 1) xs) (drop (j + 1) ys)) kept ∙ append_assoc (take n both) (get_or xs i 0 ∷ []) (common (drop (i + 1) xs) (drop (j + 1) ys)) ∙ ap (λ zs. take n both ++ zs) (sym rest) ∙ m.found;
 }
 
-merged-moved : (xs ys both : List ℕ) (i j n i' j' n' : ℕ) → IsMerged xs ys both i j n → i ≡ i' → j ≡ j' → n ≡ n' → IsMerged xs ys both i' j' n'
+pub merged-moved : (xs ys both : List ℕ) (i j n i' j' n' : ℕ) → IsMerged xs ys both i j n → i ≡ i' → j ≡ j' → n ≡ n' → IsMerged xs ys both i' j' n'
 merged-moved xs ys both i j n i' j' n' m a b c =
     subst (λ k. IsMerged xs ys both k j' n') a (subst (λ k. IsMerged xs ys both i k n') b (subst (λ k. IsMerged xs ys both i j k) c m))
 
@@ -222,6 +222,50 @@ merged-step xs ys both i j n a b h k room m =
       | inr (inr more) ↦ merged-moved xs ys (set both n x) _ _ _ _ _ _ (merged-greater xs ys both i j n a h k m more)
           (plus-none i (nat_le x y) (lt-leb x y more)) (plus-bit j (nat_le y x) (le-leb y x (omega arith))) (plus-none n (nat_eq x y) (ne_eqb x y (λ e. absurd (omega arith))))
     ]
+
+-- indices below all that the other list has left are in it no more
+common-passed : (xs ys : List ℕ) (i j k : ℕ) → IsStrictlyIncreasing ys → i + k ≤ length xs → j < length ys → ((m : ℕ) → m < k → get_or xs (i + m) 0 < get_or ys j 0)
+    → common (drop i xs) (drop j ys) ≡ common (drop (i + k) xs) (drop j ys)
+common-passed xs ys i j zero ascending h inside below =
+    let same : i ≡ i + 0 = omega arith in
+    ap (λ n. common (drop n xs) (drop j ys)) same
+common-passed xs ys i j (suc k) ascending h inside below =
+    let next : i + k + 1 ≡ i + suc k = omega arith in
+    common-passed xs ys i j k ascending (omega arith) inside (λ m few. below m (omega arith))
+    ∙ common-less xs ys (i + k) j ascending (omega arith) inside (below k (omega arith))
+    ∙ ap (λ n. common (drop n xs) (drop j ys)) next
+
+common-passed_right : (xs ys : List ℕ) (i j k : ℕ) → IsStrictlyIncreasing xs → j + k ≤ length ys → i < length xs → ((m : ℕ) → m < k → get_or ys (j + m) 0 < get_or xs i 0)
+    → common (drop i xs) (drop j ys) ≡ common (drop i xs) (drop (j + k) ys)
+common-passed_right xs ys i j zero ascending h inside below =
+    let same : j ≡ j + 0 = omega arith in
+    ap (λ n. common (drop i xs) (drop n ys)) same
+common-passed_right xs ys i j (suc k) ascending h inside below =
+    let next : j + k + 1 ≡ j + suc k = omega arith in
+    common-passed_right xs ys i j k ascending (omega arith) inside (λ m few. below m (omega arith))
+    ∙ common-greater xs ys i (j + k) ascending inside (omega arith) (below k (omega arith))
+    ∙ ap (λ n. common (drop i xs) (drop n ys)) next
+
+-- eight indices of the one list are passed
+pub merged-passed : (xs ys both : List ℕ) (i j n : ℕ) → IsStrictlyIncreasing xs → IsStrictlyIncreasing ys → i + 8 ≤ length xs → j + 8 ≤ length ys → IsMerged xs ys both i j n
+    → get_or xs (i + 7) 0 < get_or ys j 0 → IsMerged xs ys both (i + 8) j n
+merged-passed xs ys both i j n a b h k m less = record {
+  within_lhs = h;
+  within_rhs = m.within_rhs;
+  fewer_lhs = omega (arith, m.fewer_lhs);
+  fewer_rhs = m.fewer_rhs;
+  found = ap (λ zs. take n both ++ zs) (sym (common-passed xs ys i j 8 b h (omega arith) (λ d few. omega (arith, less, rises-to xs (i + d) (i + 7) a (omega arith) (omega arith))))) ∙ m.found;
+}
+
+pub merged-passed_right : (xs ys both : List ℕ) (i j n : ℕ) → IsStrictlyIncreasing xs → IsStrictlyIncreasing ys → i + 8 ≤ length xs → j + 8 ≤ length ys → IsMerged xs ys both i j n
+    → get_or ys (j + 7) 0 < get_or xs i 0 → IsMerged xs ys both i (j + 8) n
+merged-passed_right xs ys both i j n a b h k m less = record {
+  within_lhs = m.within_lhs;
+  within_rhs = k;
+  fewer_lhs = m.fewer_lhs;
+  fewer_rhs = omega (arith, m.fewer_rhs);
+  found = ap (λ zs. take n both ++ zs) (sym (common-passed_right xs ys i j 8 a k (omega arith) (λ d few. omega (arith, less, rises-to ys (j + d) (j + 7) b (omega arith) (omega arith))))) ∙ m.found;
+}
 
 -- and its end
 pub merged-over : (xs ys both : List ℕ) (i j n : ℕ) → min (length xs) (length ys) ≤ length both → IsMerged xs ys both i j n → (length xs ≤ i) ⊎ (length ys ≤ j) → IsFound xs ys both n

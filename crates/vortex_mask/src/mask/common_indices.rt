@@ -1,6 +1,6 @@
 //! The indices that two ascending lists have in common.
 
-ghost use Rattle.std.specs.Prelude.{◌≡◌, ◌+◌, ◌<◌, ◌≤◌, ℕ, IfOk, length, take, drop, min, slice_index};
+ghost use Rattle.std.specs.Prelude.{◌≡◌, ◌+◌, ◌<◌, ◌≤◌, ◌^◌, ◌↔◌, IsTrue, ℕ, IfOk, length, take, drop, min, slice_index};
 ghost use Rattle.std.specs.List.Sorted.{IsStrictlyIncreasing};
 ghost use Rattle.vortex_mask.specs.Faults.{common};
 ghost use Rattle.vortex_mask.specs.Merges.{IsFound, IsMerged};
@@ -146,13 +146,9 @@ fn merge_both(
     ensures last { IsFound last_lhs.now last_rhs.now last_both.new result.1 }
 {
     let (mut at, mut last) = (Places::start(), Places::start());
-    while at.lhs < lhs.len()
-        && at.rhs < rhs.len()
-        && last.lhs < last_lhs.len()
-        && last.rhs < last_rhs.len()
-    {
-        at = step(lhs, rhs, both, at);
-        last = step(last_lhs, last_rhs, last_both, last);
+    while at.have_eight(lhs, rhs) && last.have_eight(last_lhs, last_rhs) {
+        at = eight_steps(lhs, rhs, both, at);
+        last = eight_steps(last_lhs, last_rhs, last_both, last);
     }
     let found = merge_rest(lhs, rhs, both, at);
     (found, merge_rest(last_lhs, last_rhs, last_both, last))
@@ -167,11 +163,52 @@ fn merge_rest(lhs: &[usize], rhs: &[usize], both: &mut [usize], at: Places) -> u
     requires merged { IsMerged lhs.now rhs.now both.old at.lhs at.rhs at.found }
     ensures { IsFound lhs.now rhs.now both.new result }
 {
-    let mut at = at;
+    let mut at = merge_eights(lhs, rhs, both, at);
     while at.lhs < lhs.len() && at.rhs < rhs.len() {
         at = step(lhs, rhs, both, at);
     }
     at.found
+}
+
+// Merges two lists as long as both have eight indices more.
+fn merge_eights(lhs: &[usize], rhs: &[usize], both: &mut [usize], at: Places) -> Places
+    requires lhs { IsStrictlyIncreasing lhs.now }
+    requires rhs { IsStrictlyIncreasing rhs.now }
+    requires room { min (length lhs.now) (length rhs.now) ≤ length both.old }
+    requires merged { IsMerged lhs.now rhs.now both.old at.lhs at.rhs at.found }
+    ensures { IsMerged lhs.now rhs.now both.new result.lhs result.rhs result.found }
+{
+    let mut at = at;
+    while at.have_eight(lhs, rhs) {
+        at = eight_steps(lhs, rhs, both, at);
+    }
+    at
+}
+
+// Eight steps, of which none is tested for the end of a list. Where the next eight indices of a list are below all that
+// the other one has left, as in long runs of one list, they are passed at once.
+#[inline]
+fn eight_steps(lhs: &[usize], rhs: &[usize], both: &mut [usize], at: Places) -> Places
+    requires lhs { IsStrictlyIncreasing lhs.now }
+    requires rhs { IsStrictlyIncreasing rhs.now }
+    requires left_lhs { at.lhs + 8 ≤ length lhs.now }
+    requires left_rhs { at.rhs + 8 ≤ length rhs.now }
+    requires room { min (length lhs.now) (length rhs.now) ≤ length both.old }
+    requires merged { IsMerged lhs.now rhs.now both.old at.lhs at.rhs at.found }
+    ensures merged { IsMerged lhs.now rhs.now both.new result.lhs result.rhs result.found }
+    ensures goes_on { at.lhs + at.rhs < result.lhs + result.rhs }
+{
+    if lhs[at.lhs + 7] < rhs[at.rhs] {
+        return at.moved(8, 0);
+    }
+    if rhs[at.rhs + 7] < lhs[at.lhs] {
+        return at.moved(0, 8);
+    }
+    let mut next = at;
+    for k in 0..8usize {
+        next = step(lhs, rhs, both, next);
+    }
+    next
 }
 
 // Passes the lower of the next indices of two lists, or both where they are equal, and keeps it then. With no branch,
@@ -186,6 +223,8 @@ fn step(lhs: &[usize], rhs: &[usize], both: &mut [usize], at: Places) -> Places
     requires merged { IsMerged lhs.now rhs.now both.old at.lhs at.rhs at.found }
     ensures merged { IsMerged lhs.now rhs.now both.new result.lhs result.rhs result.found }
     ensures goes_on { at.lhs + at.rhs < result.lhs + result.rhs }
+    ensures lhs_by_one { result.lhs ≤ at.lhs + 1 }
+    ensures rhs_by_one { result.rhs ≤ at.rhs + 1 }
 {
     let (left, right) = (lhs[at.lhs], rhs[at.rhs]);
     both[at.found] = left;
@@ -212,6 +251,32 @@ impl Places {
             lhs: 0,
             rhs: 0,
             found: 0,
+        }
+    }
+
+    // Whether both lists have eight indices more.
+    #[inline]
+    fn have_eight(self, lhs: &[usize], rhs: &[usize]) -> bool
+        requires within_lhs { self.lhs ≤ length lhs.now }
+        requires within_rhs { self.rhs ≤ length rhs.now }
+        ensures { IsTrue result ↔ ((self.lhs + 8 ≤ length lhs.now) × (self.rhs + 8 ≤ length rhs.now)) }
+    {
+        lhs.len() - self.lhs >= 8 && rhs.len() - self.rhs >= 8
+    }
+
+    // So many indices of each list further.
+    #[inline]
+    fn moved(self, lhs: usize, rhs: usize) -> Places
+        requires lhs { self.lhs + lhs < 2 ^ 64 }
+        requires rhs { self.rhs + rhs < 2 ^ 64 }
+        ensures lhs { result.lhs ≡ self.lhs + lhs }
+        ensures rhs { result.rhs ≡ self.rhs + rhs }
+        ensures found { result.found ≡ self.found }
+    {
+        Places {
+            lhs: self.lhs + lhs,
+            rhs: self.rhs + rhs,
+            found: self.found,
         }
     }
 }
