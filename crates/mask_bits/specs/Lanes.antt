@@ -1,4 +1,4 @@
--- Vectors lane by lane, and truth values with a lane each. No public clause cites these terms.
+-- Vectors lane by lane, and truth values with a lane each.
 use Rattle.std.specs.Prelude.{ℕ, ◌≡◌, ◌<◌, Bool, false, List, length, nat_eq, slice_index, slice_index_or, take}
 use Rattle.mask_bits.specs.Rows.{AreAnswers}
 

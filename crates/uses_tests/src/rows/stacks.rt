@@ -106,9 +106,14 @@ fn is_listed(mask: &Mask) -> bool {
 // in `lists`.
 fn stack_of(rt: &impl Abort, alloc: Global, counts: &[usize], lists: u32) -> Vec<Mask> {
     let mut masks = Vec::new(alloc);
+    let mut choices = lists;
     for i in 1..counts.len() {
-        let is_listed = lists >> (i - 1) & 1 == 1;
-        found(rt, masks.push(first_rows(rt, alloc, counts[i - 1], counts[i], is_listed)));
+        let is_listed = choices & 1 == 1;
+        choices >>= 1;
+        found(
+            rt,
+            masks.push(first_rows(rt, alloc, counts[i - 1], counts[i], is_listed)),
+        );
     }
     masks
 }
@@ -131,9 +136,9 @@ fn has_the_list(rt: &impl Abort, alloc: Global, first: &Mask, rest: &[Mask]) {
     assert!(rt; is_listed(&folded) == is_listed(&left));
 }
 
-// The same for each choice of which masks are listed.
+// The same for each choice of which masks of at most five are listed.
 fn have_the_lists(rt: &impl Abort, alloc: Global, counts: &[usize]) {
-    for lists in 0..1 << (counts.len() - 1) {
+    for lists in 0..32 {
         if let [first, rest @ ..] = stack_of(rt, alloc, counts, lists).as_slice() {
             has_the_list(rt, alloc, first, rest);
         }
