@@ -102,6 +102,11 @@ fn is_listed(mask: &Mask) -> bool {
         .is_some_and(|values| values.cached_indices().is_some())
 }
 
+fn has_runs(mask: &Mask) -> bool {
+    mask.values()
+        .is_some_and(|values| values.cached_slices().is_some())
+}
+
 // Filters over so many rows, each of so many true values as the next one has rows; those are listed whose bit is set
 // in `lists`.
 fn stack_of(rt: &impl Abort, alloc: Global, counts: &[usize], lists: u32) -> Vec<Mask> {
@@ -127,13 +132,14 @@ fn folded_up(rt: &impl Abort, alloc: Global, first: &Mask, rest: &[Mask]) -> Mas
     left
 }
 
-// The fold by one call has the list that the fold from the first mask up ends with.
+// The fold by one call has the lists that the fold from the first mask up ends with.
 fn has_the_list(rt: &impl Abort, alloc: Global, first: &Mask, rest: &[Mask]) {
     assert!(rt; are_a_stack(first, rest));
     let left = folded_up(rt, alloc, first, rest);
     let folded = found(rt, first.intersect_all_by_rank(alloc, rest));
     assert!(rt; folded == left);
     assert!(rt; is_listed(&folded) == is_listed(&left));
+    assert!(rt; has_runs(&folded) == has_runs(&left));
 }
 
 // The same for each choice of which masks of at most five are listed.
@@ -176,7 +182,19 @@ fn a_fold_caches_what_the_fold_from_the_first_mask_would(rt: HostRuntime) {
 fn a_higher_fold_caches_what_the_fold_from_the_first_mask_would(rt: HostRuntime) {
     let alloc = rt.alloc();
     have_the_lists(&rt, alloc, &[640, 500, 500, 300, 9]);
+    have_the_lists(&rt, alloc, &[640, 500, 500, 9, 5]);
     have_the_lists(&rt, alloc, &[640, 500, 400, 12, 9]);
     have_the_lists(&rt, alloc, &[640, 500, 9, 8, 7]);
     have_the_lists(&rt, alloc, &[700, 690, 400, 390, 12, 5]);
+}
+
+// A first mask whose runs are cached, and masks that are all true, or not.
+#[test]
+fn a_fold_keeps_the_runs_that_the_fold_from_the_first_mask_would(rt: HostRuntime) {
+    let alloc = rt.alloc();
+    for counts in [[500, 500, 500], [500, 500, 9], [500, 300, 300]] {
+        let mut first = first_rows(&rt, alloc, 640, 500, false);
+        found(&rt, first.slices(alloc));
+        has_the_list(&rt, alloc, &first, &stack_of(&rt, alloc, &counts, 0));
+    }
 }

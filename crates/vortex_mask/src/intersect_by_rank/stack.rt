@@ -19,14 +19,14 @@ pub(super) fn all_choose(masks: &[Mask]) -> bool
 }
 
 // Whether the fold from the first mask up begins by taking one cached list at another, which reads no word and leaves
-// a list for the next step.
+// a list for the next step. An all-true mask changes nothing.
 pub(super) fn begins_by_lists(first: &MaskValues, masks: &[Mask]) -> bool {
-    match masks {
-        [Mask::Values(ranks), ..] => {
-            takes_lists(first.len(), first.cached_indices().is_some(), ranks)
+    for mask in masks {
+        if let Mask::Values(ranks) = mask {
+            return takes_lists(first.len(), first.cached_indices().is_some(), ranks);
         }
-        _ => false,
     }
+    false
 }
 
 // The first mask narrowed by the fold of the others, each of which chooses a row.
