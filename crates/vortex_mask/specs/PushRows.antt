@@ -4,7 +4,7 @@ use Rattle.mask_bits.specs.Positions.{chosen}
 use Rattle.mask_bits.specs.Words.{word_bits}
 
 -- the items, and then the rows at w's bits, are `all`, and others follow only once no bit is left
-pub record ArePushed {X : Type 0} (all rows items : List X) (w : ℕ) : Type 0 where
+pub record RowsArePushed {X : Type 0} (all rows items : List X) (w : ℕ) : Type 0 where
   pub others : List X
   pub list : items ++ chosen rows (word_bits w) ≡ all ++ others
   pub exact : 0 < w → others ≡ []

@@ -18,7 +18,7 @@ use Rattle.mask_bits.proofs.Lists.RowLemmas.{chosen_of_two_chunks}
 use Rattle.mask_bits.proofs.Lists.Words.LowestLemmas.{low, low-within, ones-of_full, ones-set}
 use Rattle.mask_bits.proofs.Lists.Words.WordLemmas.{length-word_bits, word_bits_from_bits}
 use Rattle.mask_bits.proofs.Lists.Words.ChosenWordLemmas.{chosen-part_more}
-use Rattle.vortex_mask.specs.PushRows.{ArePushed}
+use Rattle.vortex_mask.specs.PushRows.{RowsArePushed}
 
 abbrev items_at : {X : Type 0} → List X → List ℕ → List X
 items_at rows ps = filter_map (λ p. slice_get rows p) ps
@@ -49,7 +49,7 @@ chosen-lowest {X} rows w row len some fits is =
 
 -- it is pushed, or another row where no bit is left
 pub pushed_more : {X : Type 0} (all rows items : List X) (w : ℕ) (row : X) → length rows ≡ 64 → w < 2 ^ 64 → row ≡ get_or rows (low w % 64) row
-    → ArePushed all rows items w → ArePushed all rows (items ++ row ∷ []) (bit_and w ((w + (2 ^ 64 - 1)) % 2 ^ 64))
+    → RowsArePushed all rows items w → RowsArePushed all rows (items ++ row ∷ []) (bit_and w ((w + (2 ^ 64 - 1)) % 2 ^ 64))
 pushed_more {X} all rows items w row len fits is so_far =
     let left : ℕ = bit_and w ((w + (2 ^ 64 - 1)) % 2 ^ 64) in
     elim (cases_lt 0 w) [
@@ -75,11 +75,11 @@ pushed_more {X} all rows items w row len fits is so_far =
     ]
 
 -- none is pushed yet
-pub pushed_none : {X : Type 0} (rows items : List X) (w : ℕ) → ArePushed (items ++ chosen rows (word_bits w)) rows items w
+pub pushed_none : {X : Type 0} (rows items : List X) (w : ℕ) → RowsArePushed (items ++ chosen rows (word_bits w)) rows items w
 pushed_none rows items w = record { others = []; list = sym (append-nil (items ++ chosen rows (word_bits w))); exact = λ h. refl }
 
 -- as many of the items as all are
-pub pushed_all : {X : Type 0} (all rows items : List X) (w : ℕ) → length all ≤ length items → ArePushed all rows items w → take (length all) items ≡ all
+pub pushed_all : {X : Type 0} (all rows items : List X) (w : ℕ) → length all ≤ length items → RowsArePushed all rows items w → take (length all) items ≡ all
 pushed_all {X} all rows items w enough so_far =
     sym (take-append-le (length all) items (chosen rows (word_bits w)) enough) ∙ ap (take (length all)) so_far.list ∙ take-append_seam all so_far.others
 

@@ -4,7 +4,7 @@ ghost use Rattle.std.specs.Prelude.{◌≡◌, ◌+◌, ◌<◌, ◌≤◌, ◌+
 ghost use Rattle.std.specs.Vec.{vec_len, vec_capacity};
 ghost use Rattle.mask_bits.specs.Positions.{count, positions, chosen};
 ghost use Rattle.mask_bits.specs.Words.{word_bits};
-ghost use Rattle.vortex_mask.specs.PushRows.{ArePushed};
+ghost use Rattle.vortex_mask.specs.PushRows.{RowsArePushed};
 
 use mask_bits::BitChunks;
 use std::mem::size_of_val;
@@ -26,9 +26,12 @@ pub(super) fn push_rows<T: Copy>(out: &mut Vec<T>, rows: &[T], chunks: &BitChunk
 // A word whose bits are all set.
 const FULL: u64 = u64::MAX;
 
-// Bytes of a word's rows. To read and write one of more bytes for nothing takes longer than a branch that is guessed
+// The bytes of 64 rows of 32 bytes. To read and write a wider row for nothing takes longer than a branch that is guessed
 // wrong.
-const WIDE: usize = 64 * 32;
+const MOST_BYTES: usize = 64 * 32;
+
+// Room for the rows of a word, and for four more.
+const ROOM: usize = 68;
 
 // Pushes the rows at the set bits of a word.
 #[inline(always)]
@@ -41,8 +44,7 @@ fn push_word<T: Copy>(out: &mut Vec<T>, rows: &[T], word: u64)
 {
     if word == FULL {
         push_all(out, rows);
-    } else if size_of_val(rows) > WIDE || out.capacity() - out.len() < 68 {
-        // or less room than for any word and three more
+    } else if size_of_val(rows) > MOST_BYTES || out.capacity() - out.len() < ROOM {
         push_one_by_one(out, rows, word);
     } else {
         push_by_four(out, rows, word);
@@ -85,8 +87,8 @@ fn push_by_four<T: Copy>(out: &mut Vec<T>, rows: &[T], word: u64)
 fn push_four<T: Copy>(out: &mut Vec<T>, rows: &[T], word: u64) -> u64
     requires whole { length rows.now ≡ 64 }
     requires room { vec_len out.old + 4 ≤ vec_capacity out.old }
-    ensures pushed { (all : List T) → ArePushed all rows.now out.old.items word
-        → ArePushed all rows.now out.new.items result }
+    ensures pushed { (all : List T) → RowsArePushed all rows.now out.old.items word
+        → RowsArePushed all rows.now out.new.items result }
     ensures len { vec_len out.new ≡ vec_len out.old + 4 }
     ensures capacity { vec_capacity out.new ≡ vec_capacity out.old }
 {
@@ -101,8 +103,8 @@ fn push_four<T: Copy>(out: &mut Vec<T>, rows: &[T], word: u64) -> u64
 fn push_lowest<T: Copy>(out: &mut Vec<T>, rows: &[T], word: u64) -> u64
     requires whole { length rows.now ≡ 64 }
     requires room { vec_len out.old < vec_capacity out.old }
-    ensures pushed { (all : List T) → ArePushed all rows.now out.old.items word
-        → ArePushed all rows.now out.new.items result }
+    ensures pushed { (all : List T) → RowsArePushed all rows.now out.old.items word
+        → RowsArePushed all rows.now out.new.items result }
     ensures len { vec_len out.new ≡ vec_len out.old + 1 }
     ensures capacity { vec_capacity out.new ≡ vec_capacity out.old }
 {
