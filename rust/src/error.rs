@@ -87,6 +87,12 @@ pub enum Error {
         /// How many bytes there are.
         size: usize,
     },
+    /// There is no memory for what is to be made. Each call that makes something and returns a `Result` may
+    /// be refused so, and asks for memory when all that it is given was tested.
+    OutOfMemory {
+        /// How many bytes it takes.
+        bytes: usize,
+    },
     /// What is to be written has no room.
     RoomTooSmall {
         /// How many bytes or items there is room for.
@@ -134,6 +140,9 @@ impl fmt::Display for Error {
             }
             Error::OffsetOutOfBounds { offset, size } => {
                 write!(f, "offset {offset} is past the end of {size} bytes")
+            }
+            Error::OutOfMemory { bytes } => {
+                write!(f, "there is no memory for {bytes} bytes")
             }
             Error::RoomTooSmall { room, needed } => {
                 write!(f, "there is room for {room}, and {needed} are to be written")

@@ -1,4 +1,4 @@
-use crate::bitmap::{Room, front, init};
+use crate::bitmap::{Room, front, init, list_of};
 use crate::buf::{append, pack_fn};
 use crate::{Bitmap, BitmapBuf, Error, Row};
 use std::mem::MaybeUninit;
@@ -73,13 +73,8 @@ impl Selection {
     /// [`Error::RowsDiffer`] where the column has not [`len`](Selection::len) rows.
     pub fn choose<T: Row>(&self, rows: &[T]) -> Result<Vec<T>, Error> {
         self.of_len(rows.len())?;
-        let mut out = Vec::with_capacity(self.count);
-        // SAFETY: there is a row for each value, and `count` places are written.
-        unsafe {
-            self.choose_to(rows, &mut out.spare_capacity_mut()[..self.count]);
-            out.set_len(self.count);
-        }
-        Ok(out)
+        // SAFETY: there is a row for each value, and a place for each true one, which is written.
+        unsafe { list_of(self.count, |out| self.choose_to(rows, out)) }
     }
 
     /// As [`choose`](Selection::choose), to the front of `out`.

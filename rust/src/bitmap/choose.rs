@@ -1,6 +1,6 @@
 //! Rows chosen at the true values.
 
-use super::front;
+use super::{front, list_of};
 use crate::{Bitmap, Error, Row};
 use std::mem::MaybeUninit;
 
@@ -19,15 +19,8 @@ impl Bitmap<'_> {
     /// [`Error::RowsDiffer`] where there is not one row for each value.
     pub fn choose<T: Row>(self, rows: &[T]) -> Result<Vec<T>, Error> {
         self.has_one_for_each(rows)?;
-        let count = self.count();
-        let mut out = Vec::with_capacity(count);
-        // SAFETY: there is a row for each value, and `count` places are written, as many as there are
-        // true values.
-        unsafe {
-            self.choose_to(rows, &mut out.spare_capacity_mut()[..count]);
-            out.set_len(count);
-        }
-        Ok(out)
+        // SAFETY: there is a row for each value, and a place for each true value, which is written.
+        unsafe { list_of(self.count(), |out| _ = self.choose_to(rows, out)) }
     }
 
     /// As [`choose`](Bitmap::choose), to the front of `out`, and answers how many rows these are.

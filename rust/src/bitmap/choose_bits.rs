@@ -83,11 +83,10 @@ mod tests {
                 let rows = BitmapBuf::from_fn(len, |i| i * i % 7 < share);
                 let bits = BitmapBuf::from_fn(len, |i| i * i % 5 < 2);
                 let (rows, bits) = (rows.as_bitmap(), bits.as_bitmap());
-                let mut chosen = BitmapBuf::default();
                 // SAFETY: it writes each byte.
-                unsafe {
-                    chosen.refill(rows.count(), |out| rows.choose_bits_by_library(bits, out));
-                }
+                let chosen = unsafe {
+                    BitmapBuf::made(rows.count(), |out| rows.choose_bits_by_library(bits, out))
+                };
                 assert_eq!(rows.choose_bits(bits), Ok(chosen));
             }
         }

@@ -92,10 +92,14 @@ impl Bitmap<'_> {
     ///
     /// [`Error::RoomTooSmall`].
     pub fn not_into(self, out: &mut (impl Room + ?Sized)) -> Result<(), Error> {
-        // SAFETY: as `call` says; `out` is room for the length, and each byte of it is written.
-        unsafe {
-            out.write(self.len, |out| call!(row_mask_not(self, out.as_mut_ptr().cast(), out.len())))
-        }
+        // SAFETY: it writes each byte.
+        unsafe { out.write(self.len, |out| self.not_to(out)) }
+    }
+
+    // Writes the bytes of the values negated, to room for just them.
+    fn not_to(self, out: &mut [MaybeUninit<u8>]) {
+        // SAFETY: as `call` says; `out` is room for the length.
+        unsafe { call!(row_mask_not(self, out.as_mut_ptr().cast(), out.len())) }
     }
 
     /// The same values, written into `out`.
@@ -111,10 +115,8 @@ impl Bitmap<'_> {
     /// The same values in bytes of their own, from bit 0 on.
     #[must_use]
     pub fn to_buf(self) -> BitmapBuf {
-        let mut made = BitmapBuf::default();
         // SAFETY: it writes each byte.
-        unsafe { made.refill(self.len, |out| self.copy_to(out)) };
-        made
+        unsafe { BitmapBuf::made(self.len, |out| self.copy_to(out)) }
     }
 
     // Writes the bytes of the values to the front of room for them.
@@ -162,8 +164,7 @@ impl Not for Bitmap<'_> {
     type Output = BitmapBuf;
 
     fn not(self) -> BitmapBuf {
-        let mut made = BitmapBuf::default();
-        self.not_into(&mut made).expect("there is room");
-        made
+        // SAFETY: it writes each byte.
+        unsafe { BitmapBuf::made(self.len, |out| self.not_to(out)) }
     }
 }

@@ -130,9 +130,9 @@ mod tests {
                 let count = rows.as_bitmap().count();
                 let ranks = BitmapBuf::from_fn(count, |k| k * k % 5 < 2);
                 let (rows, ranks) = (rows.as_bitmap(), ranks.as_bitmap());
-                let mut narrowed = BitmapBuf::default();
                 // SAFETY: it writes each byte.
-                unsafe { narrowed.refill(len, |out| rows.narrow_by_library(ranks, out)) };
+                let narrowed =
+                    unsafe { BitmapBuf::made(len, |out| rows.narrow_by_library(ranks, out)) };
                 assert_eq!(rows.intersect_by_rank(ranks), Ok(narrowed));
             }
         }

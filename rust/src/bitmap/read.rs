@@ -1,7 +1,8 @@
 //! Counts, indices and runs of a bitmap, and its words.
 
-use super::{call, front, range_within};
+use super::{call, front, list_of, range_within};
 use crate::{Bitmap, Error, Indices, Runs, Values};
+use std::mem::MaybeUninit;
 use std::ops::{Range, RangeBounds};
 
 impl<'a> Bitmap<'a> {
@@ -49,9 +50,9 @@ impl<'a> Bitmap<'a> {
     /// [`Error::UnsortedIndices`] where an index is below the one before it, and
     /// [`Error::IndexOutOfBounds`] where one is above the length.
     pub fn counts_below(self, indices: &[usize]) -> Result<Vec<usize>, Error> {
-        let mut out = vec![0; indices.len()];
-        self.counts_below_into(indices, &mut out)?;
-        Ok(out)
+        self.are_ends(indices)?;
+        // SAFETY: the indices were tested, and there is a place for each.
+        unsafe { list_of(indices.len(), |out| self.counts_below_to(indices, out)) }
     }
 
     /// As [`counts_below`](Bitmap::counts_below), to the front of `out`.
@@ -60,19 +61,31 @@ impl<'a> Bitmap<'a> {
     ///
     /// As there, and [`Error::RoomTooSmall`] where `out` has fewer items than there are indices.
     pub fn counts_below_into(self, indices: &[usize], out: &mut [usize]) -> Result<(), Error> {
+        self.are_ends(indices)?;
+        let out = front(out, indices.len())?;
+        // SAFETY: as above.
+        unsafe { self.counts_below_to(indices, out) };
+        Ok(())
+    }
+
+    // Tests that indices ascend and are at most the length.
+    fn are_ends(self, indices: &[usize]) -> Result<(), Error> {
         if let Some(at) = indices.windows(2).position(|pair| pair[1] < pair[0]) {
             return Err(Error::UnsortedIndices { at: at + 1 });
         }
         if let Some(&index) = indices.last().filter(|index| **index > self.len) {
             return Err(Error::IndexOutOfBounds { index, len: self.len });
         }
-        let out = front(out, indices.len())?;
+        Ok(())
+    }
+
+    // SAFETY of a call: the indices ascend and are at most the length, and there is a place for each, which
+    // is written.
+    unsafe fn counts_below_to(self, indices: &[usize], out: &mut [MaybeUninit<usize>]) {
         let (indices, count) = (indices.as_ptr(), indices.len());
         let (out, out_count) = (out.as_mut_ptr().cast(), out.len());
-        // SAFETY: as `call` says; the indices ascend and so does the last bound them, and there is
-        // room for as many counts.
+        // SAFETY: as `call` says, and as is asked here.
         unsafe { call!(row_mask_counts_below(self, indices, count, out, out_count)) }
-        Ok(())
     }
 
     /// The index of true value number `n`, counted from 0.

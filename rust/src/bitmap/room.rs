@@ -1,5 +1,6 @@
 //! What a bitmap can be written into.
 
+use crate::buf::pack_fn;
 use crate::{BitmapBuf, Error, declared};
 use std::mem::MaybeUninit;
 use std::slice;
@@ -8,7 +9,9 @@ use std::slice;
 /// [`BitmapBuf`], which then has just these values and keeps the memory that it has.
 ///
 /// Of bytes just the first `(len + 7) / 8` are written, where `len` is the length of what is written,
-/// and the bits behind the last value are cleared in the last of them.
+/// and the bits behind the last value are cleared in the last of them. They are too few where a call
+/// says [`Error::RoomTooSmall`], and a [`BitmapBuf`] finds no memory where it says
+/// [`Error::OutOfMemory`]. Neither is changed then.
 ///
 /// ```
 /// use row_mask::{Bitmap, BitmapBuf};
@@ -43,6 +46,9 @@ pub(crate) mod sealed {
             len: usize,
             fill: impl FnOnce(&mut [MaybeUninit<u8>]),
         ) -> Result<(), Error>;
+
+        /// Writes the values of an iterator, as many as it says.
+        fn collect(&mut self, values: impl ExactSizeIterator<Item = bool>) -> Result<(), Error>;
     }
 }
 
@@ -53,7 +59,15 @@ impl sealed::Room for BitmapBuf {
         fill: impl FnOnce(&mut [MaybeUninit<u8>]),
     ) -> Result<(), Error> {
         // SAFETY: this is what is asked here too.
-        unsafe { self.refill(len, fill) };
+        unsafe { self.refill(len, fill) }
+    }
+
+    fn collect(&mut self, values: impl ExactSizeIterator<Item = bool>) -> Result<(), Error> {
+        let len = values.len();
+        self.make_room(len)?;
+        self.clear();
+        // (so that no memory is asked for where there are more than was said)
+        self.extend(values.take(len));
         Ok(())
     }
 }
@@ -67,6 +81,31 @@ impl sealed::Room for [u8] {
         fill(front(self, room_for(len))?);
         Ok(())
     }
+
+    fn collect(&mut self, mut values: impl ExactSizeIterator<Item = bool>) -> Result<(), Error> {
+        let len = values.len();
+        // (where there are fewer than was said, false ones stand in their place)
+        // SAFETY: it writes each byte.
+        unsafe { self.write(len, |out| pack_fn(len, |_| values.next().unwrap_or_default(), out)) }
+    }
+}
+
+/// A list of `count` items, which are written by what gets their places.
+///
+/// # Safety
+///
+/// `fill` writes each place that it gets.
+pub(crate) unsafe fn list_of<T>(
+    count: usize,
+    fill: impl FnOnce(&mut [MaybeUninit<T>]),
+) -> Result<Vec<T>, Error> {
+    let mut list = Vec::new();
+    let refused = Error::OutOfMemory { bytes: count.saturating_mul(size_of::<T>()) };
+    list.try_reserve_exact(count).map_err(|_| refused)?;
+    fill(&mut list.spare_capacity_mut()[..count]);
+    // SAFETY: so many places were reserved, and are written.
+    unsafe { list.set_len(count) };
+    Ok(list)
 }
 
 /// The first `needed` places, for what writes each of them.

@@ -1,22 +1,53 @@
 //! What a bitmap of its own bytes is made of.
 
 use super::change::{append, fill};
-use super::pack::{pack, pack_fn};
+use super::pack::{AHEAD, pack, pack_fn};
 use crate::bitmap::{Room, init, range_within, room_for};
 use crate::{Bitmap, BitmapBuf, Error, declared};
 use std::mem::MaybeUninit;
 use std::ops::Range;
 
 impl BitmapBuf {
-    // Takes the `len` values that `fill` writes into room for them in place of those that are there.
+    // The `len` values that `fill` writes into room for them.
     // SAFETY of a call: it writes each byte that it gets.
-    pub(crate) unsafe fn refill(&mut self, len: usize, fill: impl FnOnce(&mut [MaybeUninit<u8>])) {
-        self.clear();
+    pub(crate) unsafe fn made(len: usize, fill: impl FnOnce(&mut [MaybeUninit<u8>])) -> BitmapBuf {
+        let mut made = BitmapBuf::default();
         // SAFETY: as is asked here too; there is no last byte.
-        unsafe { self.add(len, fill) }
+        unsafe { made.add(len, fill) };
+        made
     }
 
-    // The same behind the values that are there.
+    // Takes such values in place of those that are there, if there is memory.
+    // SAFETY of a call: as above.
+    pub(crate) unsafe fn refill(
+        &mut self,
+        len: usize,
+        fill: impl FnOnce(&mut [MaybeUninit<u8>]),
+    ) -> Result<(), Error> {
+        self.make_room(len)?;
+        self.clear();
+        // SAFETY: as above.
+        unsafe { self.add(len, fill) };
+        Ok(())
+    }
+
+    // Has memory for `len` values in all, if there is some.
+    pub(crate) fn make_room(&mut self, len: usize) -> Result<(), Error> {
+        let bytes = room_for(len);
+        let more = bytes.saturating_sub(self.bytes.len());
+        self.bytes.try_reserve(more).map_err(|_| Error::OutOfMemory { bytes })
+    }
+
+    // Adds false values up to `len`, where there are not more, if there is memory.
+    fn lengthen(&mut self, len: usize) -> Result<(), Error> {
+        debug_assert!(self.len <= len);
+        self.make_room(len)?;
+        self.bytes.resize(room_for(len), 0);
+        self.len = len;
+        Ok(())
+    }
+
+    // Such values behind those that are there.
     // SAFETY of a call: it writes each byte that it gets, and the last byte has eight values.
     pub(crate) unsafe fn add(&mut self, len: usize, fill: impl FnOnce(&mut [MaybeUninit<u8>])) {
         let size = room_for(len);
@@ -33,10 +64,38 @@ impl BitmapBuf {
         BitmapBuf { bytes: Vec::with_capacity(room_for(len)), len: 0 }
     }
 
+    /// As [`with_capacity`](BitmapBuf::with_capacity), of a length that may be any.
+    ///
+    /// ```
+    /// # use row_mask::{BitmapBuf, Error};
+    /// let refused = BitmapBuf::try_with_capacity(usize::MAX).unwrap_err();
+    /// assert_eq!(refused, Error::OutOfMemory { bytes: usize::MAX / 8 + 1 });
+    /// ```
+    ///
+    /// # Errors
+    ///
+    /// [`Error::OutOfMemory`].
+    pub fn try_with_capacity(len: usize) -> Result<BitmapBuf, Error> {
+        let mut made = BitmapBuf::default();
+        made.make_room(len)?;
+        Ok(made)
+    }
+
     /// So many values, all false.
     #[must_use]
     pub fn all_false(len: usize) -> BitmapBuf {
         BitmapBuf { bytes: vec![0; room_for(len)], len }
+    }
+
+    /// As [`all_false`](BitmapBuf::all_false), of a length that may be any.
+    ///
+    /// # Errors
+    ///
+    /// [`Error::OutOfMemory`].
+    pub fn try_all_false(len: usize) -> Result<BitmapBuf, Error> {
+        let mut made = BitmapBuf::default();
+        made.lengthen(len)?;
+        Ok(made)
     }
 
     /// So many values, all true.
@@ -46,6 +105,17 @@ impl BitmapBuf {
         // SAFETY: the bytes are room for the length.
         unsafe { fill(&mut made.bytes, 0, len, true) };
         made
+    }
+
+    /// As [`all_true`](BitmapBuf::all_true), of a length that may be any.
+    ///
+    /// # Errors
+    ///
+    /// [`Error::OutOfMemory`].
+    pub fn try_all_true(len: usize) -> Result<BitmapBuf, Error> {
+        let mut made = BitmapBuf::default();
+        BitmapBuf::all_into(len, true, &mut made)?;
+        Ok(made)
     }
 
     /// So many values, all of them `value`, written into `out`.
@@ -66,10 +136,19 @@ impl BitmapBuf {
     /// ```
     #[must_use]
     pub fn from_fn(len: usize, value: impl FnMut(usize) -> bool) -> BitmapBuf {
-        let mut made = BitmapBuf::default();
         // SAFETY: it writes each byte.
-        unsafe { made.refill(len, |out| pack_fn(len, value, out)) };
-        made
+        unsafe { BitmapBuf::made(len, |out| pack_fn(len, value, out)) }
+    }
+
+    /// As [`from_fn`](BitmapBuf::from_fn), of a length that may be any.
+    ///
+    /// # Errors
+    ///
+    /// [`Error::OutOfMemory`]. Then no value was asked for.
+    pub fn try_from_fn(len: usize, value: impl FnMut(usize) -> bool) -> Result<BitmapBuf, Error> {
+        let mut made = BitmapBuf::default();
+        BitmapBuf::from_fn_into(len, value, &mut made)?;
+        Ok(made)
     }
 
     /// As [`from_fn`](BitmapBuf::from_fn), written into `out`.
@@ -104,9 +183,7 @@ impl BitmapBuf {
         values: impl IntoIterator<Item = bool, IntoIter: ExactSizeIterator>,
         out: &mut (impl Room + ?Sized),
     ) -> Result<(), Error> {
-        let mut values = values.into_iter();
-        // (an iterator that has fewer than it says is taken to go on with false ones)
-        BitmapBuf::from_fn_into(values.len(), |_| values.next().unwrap_or_default(), out)
+        out.collect(values.into_iter())
     }
 
     /// A list of truth values, written into `out`. `BitmapBuf::from` makes a bitmap of one.
@@ -160,7 +237,7 @@ impl BitmapBuf {
     }
 
     /// `len` values, of which just those within the ranges are true. These may come in any order, and
-    /// meet.
+    /// meet. Each is tested when it comes, and memory is asked for as far as they reach.
     ///
     /// ```
     /// # use row_mask::BitmapBuf;
@@ -175,8 +252,16 @@ impl BitmapBuf {
         len: usize,
         ranges: impl IntoIterator<Item = Range<usize>>,
     ) -> Result<BitmapBuf, Error> {
-        let mut made = BitmapBuf::all_false(len);
-        ranges.into_iter().try_for_each(|range| made.fill_range(range, true))?;
+        let mut made = BitmapBuf::try_all_false(len.min(8 * AHEAD))?;
+        for range in ranges {
+            let Range { start, end } = range_within(&range, len)?;
+            if end > made.len {
+                made.lengthen(end)?;
+            }
+            // SAFETY: the bytes are room for what was tested.
+            unsafe { fill(&mut made.bytes, start, end, true) };
+        }
+        made.lengthen(len)?;
         Ok(made)
     }
 

@@ -5,6 +5,9 @@ use crate::bitmap::room_for;
 use crate::declared;
 use std::mem::MaybeUninit;
 
+// Bytes that are asked for ahead by a number that the values may not bear out, such as an iterator's hint.
+pub(super) const AHEAD: usize = 1 << 20;
+
 // Values that are asked for before they are packed: a multiple of 64, in the nearest memory.
 const BLOCK: usize = 512;
 
@@ -48,10 +51,8 @@ impl FromIterator<bool> for BitmapBuf {
 
 impl From<&[bool]> for BitmapBuf {
     fn from(values: &[bool]) -> BitmapBuf {
-        let mut made = BitmapBuf::default();
         // SAFETY: it writes each byte.
-        unsafe { made.refill(values.len(), |out| pack(values, out)) };
-        made
+        unsafe { BitmapBuf::made(values.len(), |out| pack(values, out)) }
     }
 }
 
@@ -64,7 +65,7 @@ impl Extend<bool> for BitmapBuf {
             self.bytes[self.len / 8] |= u8::from(value) << (self.len % 8);
             self.len += 1;
         }
-        self.bytes.reserve(room_for(values.size_hint().0));
+        self.bytes.reserve(room_for(values.size_hint().0).min(AHEAD));
         let mut block = [false; BLOCK];
         loop {
             let mut count = 0;

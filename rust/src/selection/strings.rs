@@ -2,9 +2,12 @@
 
 use super::{Kept, Selection};
 use crate::Error;
+use crate::bitmap::{front, list_of};
 use crate::declared::{
     row_mask_take_bytes_4, row_mask_take_bytes_8, row_mask_take_offsets_4, row_mask_take_offsets_8,
 };
+use std::iter;
+use std::mem::MaybeUninit;
 
 /// Where a value begins in the bytes of a column: 4 or 8 bytes, as Arrow has them.
 pub trait Offset:
@@ -13,17 +16,30 @@ pub trait Offset:
 }
 
 mod sealed {
+    use std::mem::MaybeUninit;
+
     pub trait Offset: Sized {
         /// # Safety
         ///
         /// Each index is below the number of offsets by two or more, no index comes twice, no offset is
-        /// negative or below the one before it, and `out` has one item more than there are indices.
-        unsafe fn take_offsets(indices: &[usize], offsets: &[Self], out: &mut [Self]) -> usize;
+        /// negative or below the one before it, and `out` has one item more than there are indices. These
+        /// are written.
+        unsafe fn take_offsets(
+            indices: &[usize],
+            offsets: &[Self],
+            out: &mut [MaybeUninit<Self>],
+        ) -> usize;
 
         /// # Safety
         ///
-        /// As above, the last offset is within the bytes, and `out` has as many as the strings have.
-        unsafe fn take_bytes(indices: &[usize], offsets: &[Self], bytes: &[u8], out: &mut [u8]);
+        /// As above, the last offset is within the bytes, and `out` has as many as the strings have. These
+        /// are written.
+        unsafe fn take_bytes(
+            indices: &[usize],
+            offsets: &[Self],
+            bytes: &[u8],
+            out: &mut [MaybeUninit<u8>],
+        );
     }
 }
 
@@ -32,7 +48,11 @@ macro_rules! offsets {
         impl Offset for $offset {}
 
         impl sealed::Offset for $offset {
-            unsafe fn take_offsets(indices: &[usize], offsets: &[Self], out: &mut [Self]) -> usize {
+            unsafe fn take_offsets(
+                indices: &[usize],
+                offsets: &[Self],
+                out: &mut [MaybeUninit<Self>],
+            ) -> usize {
                 // SAFETY: the pointers and sizes are those of slices, which are borrowed for the call,
                 // an offset that isn't negative has the same bytes as one of its size without a sign,
                 // and the rest is what this function asks.
@@ -52,7 +72,7 @@ macro_rules! offsets {
                 indices: &[usize],
                 offsets: &[Self],
                 bytes: &[u8],
-                out: &mut [u8],
+                out: &mut [MaybeUninit<u8>],
             ) {
                 // SAFETY: as above.
                 unsafe {
@@ -63,7 +83,7 @@ macro_rules! offsets {
                         offsets.len(),
                         bytes.as_ptr(),
                         bytes.len(),
-                        out.as_mut_ptr(),
+                        out.as_mut_ptr().cast(),
                         out.len(),
                     );
                 }
@@ -79,8 +99,8 @@ offsets! {
 
 impl Selection {
     /// Writes where the chosen values begin and end to the front of `out`, from 0 on, and answers how
-    /// many bytes they have. Value `i` of the column has the bytes from `offsets[i]` to
-    /// `offsets[i + 1]`.
+    /// many bytes they have by these offsets, which are held to no bytes here: so ask for no memory by this
+    /// number alone. Value `i` of the column has the bytes from `offsets[i]` to `offsets[i + 1]`.
     ///
     /// # Errors
     ///
@@ -90,32 +110,31 @@ impl Selection {
     /// [`count`](Selection::count).
     pub fn choose_offsets<O: Offset>(&self, offsets: &[O], out: &mut [O]) -> Result<usize, Error> {
         self.of_offsets(offsets)?;
-        self.write_offsets(offsets, out)
+        let out = front(out, self.count() + 1)?;
+        // SAFETY: the offsets were tested, and there is a place for each.
+        Ok(unsafe { self.offsets_to(offsets, out) })
     }
 
-    fn write_offsets<O: Offset>(&self, offsets: &[O], out: &mut [O]) -> Result<usize, Error> {
-        let (room, needed) = (out.len(), self.count() + 1);
-        let out = out.get_mut(..needed).ok_or(Error::RoomTooSmall { room, needed })?;
+    // Answers how many bytes the chosen values have.
+    // SAFETY of a call: the offsets are those of a column, and `out` has one place more than rows are chosen.
+    // These are written.
+    unsafe fn offsets_to<O: Offset>(&self, offsets: &[O], out: &mut [MaybeUninit<O>]) -> usize {
         let runs = match &self.kept {
-            Kept::Indices(indices) => {
-                // SAFETY: the indices are those of true values, with an offset before and behind each,
-                // the offsets were tested, and there is room.
-                return Ok(unsafe { O::take_offsets(indices, offsets, out) });
-            }
+            // SAFETY: the indices are those of true values, with an offset before and behind each, and the
+            // rest is asked here.
+            Kept::Indices(indices) => return unsafe { O::take_offsets(indices, offsets, out) },
             Kept::Runs(runs) => runs,
         };
-        let (mut places, mut end) = (out.iter_mut(), 0);
-        let mut put = |end: usize| {
-            if let (Some(place), Ok(end)) = (places.next(), O::try_from(end)) {
-                *place = end;
-            }
-        };
-        put(0);
-        for i in runs.iter().flat_map(Clone::clone) {
+        let mut end = 0;
+        let ends = runs.iter().flat_map(Clone::clone).map(|i| {
             end += at(offsets, i + 1) - at(offsets, i);
-            put(end);
+            // (no more than the last offset is)
+            O::try_from(end).unwrap_or_default()
+        });
+        for (place, end) in out.iter_mut().zip(iter::once(O::default()).chain(ends)) {
+            place.write(end);
         }
-        Ok(end)
+        end
     }
 
     /// Writes the bytes of the chosen values to the front of `out`, and answers how many these are.
@@ -132,35 +151,39 @@ impl Selection {
         out: &mut [u8],
     ) -> Result<usize, Error> {
         self.of_offsets(offsets)?;
-        self.write_bytes(offsets, bytes, out)
+        self.of_bytes(offsets, bytes)?;
+        let size = self.size_of(offsets);
+        let out = front(out, size)?;
+        // SAFETY: the offsets were tested, and there is a place for each byte.
+        unsafe { self.bytes_to(offsets, bytes, out) };
+        Ok(size)
     }
 
-    fn write_bytes<O: Offset>(
+    // SAFETY of a call: the offsets are those of a column, whose last is within the bytes, and `out` has
+    // as many places as the chosen values have bytes. These are written.
+    unsafe fn bytes_to<O: Offset>(
         &self,
         offsets: &[O],
         bytes: &[u8],
-        out: &mut [u8],
-    ) -> Result<usize, Error> {
-        let (offset, size) = (at(offsets, self.len()), bytes.len());
-        if offset > size {
-            return Err(Error::OffsetOutOfBounds { offset, size });
-        }
-        let (room, mut needed) = (out.len(), 0);
-        self.each_run(|start, stop| needed += at(offsets, stop) - at(offsets, start));
-        let mut out = out.get_mut(..needed).ok_or(Error::RoomTooSmall { room, needed })?;
+        mut out: &mut [MaybeUninit<u8>],
+    ) {
         match &self.kept {
-            // SAFETY: as above; the last offset is within the bytes, and there is room.
+            // SAFETY: the indices are those of true values, with an offset before and behind each, and the
+            // rest is asked here.
             Kept::Indices(indices) => unsafe { O::take_bytes(indices, offsets, bytes, out) },
             Kept::Runs(runs) => {
                 for run in runs {
                     let part = &bytes[at(offsets, run.start)..at(offsets, run.end)];
-                    let (front, rest) = std::mem::take(&mut out).split_at_mut(part.len());
-                    front.copy_from_slice(part);
+                    let (front, rest) = out.split_at_mut(part.len());
+                    // SAFETY: there is a place for each byte, and nothing else borrows these.
+                    unsafe {
+                        let places = front.as_mut_ptr().cast::<u8>();
+                        places.copy_from_nonoverlapping(part.as_ptr(), part.len());
+                    }
                     out = rest;
                 }
             }
         }
-        Ok(needed)
     }
 
     /// The chosen values, as offsets and bytes of their own.
@@ -181,10 +204,14 @@ impl Selection {
         offsets: &[O],
         bytes: &[u8],
     ) -> Result<(Vec<O>, Vec<u8>), Error> {
-        let mut chosen = vec![O::default(); self.count() + 1];
-        let mut out = vec![0; self.choose_offsets(offsets, &mut chosen)?];
-        self.write_bytes(offsets, bytes, &mut out)?;
-        Ok((chosen, out))
+        self.of_offsets(offsets)?;
+        self.of_bytes(offsets, bytes)?;
+        // SAFETY: the offsets were tested, and each place is written.
+        unsafe {
+            let mut size = 0;
+            let chosen = list_of(self.count() + 1, |out| size = self.offsets_to(offsets, out))?;
+            Ok((chosen, list_of(size, |out| self.bytes_to(offsets, bytes, out))?))
+        }
     }
 
     #[expect(clippy::needless_bitwise_bool, reason = "a way out of the loop would stop each step")]
@@ -204,11 +231,21 @@ impl Selection {
         Err(Error::UnsortedOffsets { at })
     }
 
-    // Each chosen value, or run of them, by its first index and the one past its last.
-    fn each_run(&self, mut each: impl FnMut(usize, usize)) {
+    // (of offsets that were tested)
+    fn of_bytes<O: Offset>(&self, offsets: &[O], bytes: &[u8]) -> Result<(), Error> {
+        let (offset, size) = (at(offsets, self.len()), bytes.len());
+        if offset > size {
+            return Err(Error::OffsetOutOfBounds { offset, size });
+        }
+        Ok(())
+    }
+
+    // How many bytes the chosen values have, by offsets that were tested.
+    fn size_of<O: Offset>(&self, offsets: &[O]) -> usize {
+        let of = |start, end| at(offsets, end) - at(offsets, start);
         match &self.kept {
-            Kept::Indices(indices) => indices.iter().for_each(|i| each(*i, *i + 1)),
-            Kept::Runs(runs) => runs.iter().for_each(|run| each(run.start, run.end)),
+            Kept::Indices(indices) => indices.iter().map(|i| of(*i, *i + 1)).sum(),
+            Kept::Runs(runs) => runs.iter().map(|run| of(run.start, run.end)).sum(),
         }
     }
 }
