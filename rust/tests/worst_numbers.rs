@@ -380,6 +380,14 @@ fn memory_that_runs_out() {
 }
 
 #[test]
+fn bytes_that_have_to_be_copied() {
+    let _alone = limit();
+    let bytes = vec![0; 600 << 20];
+    let len = 8 * bytes.len() - 1;
+    lacks(len, || BitmapBuf::from_vec(bytes, 1, len));
+}
+
+#[test]
 fn lists_that_find_no_memory() {
     let _alone = limit();
     // (rows and indices of 640 MiB)

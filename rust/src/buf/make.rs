@@ -303,7 +303,9 @@ impl BitmapBuf {
     pub fn from_vec(mut bytes: Vec<u8>, offset: usize, len: usize) -> Result<BitmapBuf, Error> {
         let bitmap = Bitmap::new(&bytes, offset, len)?;
         if offset > 0 {
-            return Ok(bitmap.to_buf());
+            let mut made = BitmapBuf::default();
+            bitmap.copy_into(&mut made)?;
+            return Ok(made);
         }
         bytes.truncate(room_for(len));
         let end = 8 * bytes.len();
