@@ -3,100 +3,18 @@
 
 #![cfg(target_os = "linux")]
 
+mod aborts;
+mod memory;
+
+use memory::{AHEAD, LITTLE, lacks, limit, refused, within};
 use row_mask::{Bitmap, BitmapBuf, Error, Offset, Selection};
-use std::alloc::{GlobalAlloc, Layout, System};
-use std::cell::Cell;
 use std::fmt::Debug;
 use std::ops::{Bound, Range};
-use std::os::unix::process::ExitStatusExt;
 use std::path::Path;
-use std::process::Command;
-use std::sync::{Mutex, MutexGuard, PoisonError};
-use std::{env, fs, iter};
+use std::{fs, iter};
 
 // Lengths of bitmaps for which such a process has no memory.
 const LENGTHS: [usize; 5] = [1 << 33, 1 << 45, 1 << 62, usize::MAX - 7, usize::MAX];
-
-// What a call may ask for at once by a number that nothing has borne out, in bytes.
-const LITTLE: usize = 4096;
-const AHEAD: usize = 1 << 20;
-
-/// The system's memory. It notes the largest request of each thread, refused ones too.
-struct Noted;
-
-thread_local! {
-    static LARGEST: Cell<usize> = const { Cell::new(0) };
-}
-
-fn note(size: usize) {
-    LARGEST.set(LARGEST.get().max(size));
-}
-
-// SAFETY: the system's memory is given as it is.
-unsafe impl GlobalAlloc for Noted {
-    unsafe fn alloc(&self, layout: Layout) -> *mut u8 {
-        note(layout.size());
-        // SAFETY: as is asked here.
-        unsafe { System.alloc(layout) }
-    }
-
-    unsafe fn alloc_zeroed(&self, layout: Layout) -> *mut u8 {
-        note(layout.size());
-        // SAFETY: as is asked here.
-        unsafe { System.alloc_zeroed(layout) }
-    }
-
-    unsafe fn realloc(&self, place: *mut u8, layout: Layout, size: usize) -> *mut u8 {
-        note(size);
-        // SAFETY: as is asked here.
-        unsafe { System.realloc(place, layout, size) }
-    }
-
-    unsafe fn dealloc(&self, place: *mut u8, layout: Layout) {
-        // SAFETY: as is asked here.
-        unsafe { System.dealloc(place, layout) }
-    }
-}
-
-#[global_allocator]
-static NOTED: Noted = Noted;
-
-/// From here on the process may take 1 GiB, its program and its threads with it. One test at a time has that.
-fn limit() -> MutexGuard<'static, ()> {
-    static ALONE: Mutex<()> = Mutex::new(());
-    // (as Linux numbers it)
-    const ADDRESS_SPACE: i32 = 9;
-    unsafe extern "C" {
-        fn setrlimit(resource: i32, limits: *const [u64; 2]) -> i32;
-    }
-    // SAFETY: what is read are two numbers: the limit, and how far it may be raised.
-    assert_eq!(unsafe { setrlimit(ADDRESS_SPACE, &[1 << 30; 2]) }, 0);
-    let alone = ALONE.lock().unwrap_or_else(PoisonError::into_inner);
-    assert!(Vec::<u8>::new().try_reserve_exact(1 << 30).is_err());
-    alone
-}
-
-/// What a call answers that asks for no more than `most` bytes at once.
-#[track_caller]
-fn within<T>(most: usize, call: impl FnOnce() -> T) -> T {
-    LARGEST.set(0);
-    let answer = call();
-    let asked = LARGEST.get();
-    assert!(asked <= most, "{asked} bytes were asked for");
-    answer
-}
-
-/// What a call is refused with, which asks for little memory.
-#[track_caller]
-fn refused<T: Debug>(call: impl FnOnce() -> Result<T, Error>) -> Error {
-    within(LITTLE, call).unwrap_err()
-}
-
-/// The call finds no memory for a bitmap of so many values.
-#[track_caller]
-fn lacks<T: Debug>(len: usize, call: impl FnOnce() -> Result<T, Error>) {
-    assert_eq!(call().unwrap_err(), Error::OutOfMemory { bytes: len.div_ceil(8) });
-}
 
 #[test]
 fn each_public_call_is_here() {
@@ -115,7 +33,7 @@ fn each_public_call_is_here() {
     let mut all = vec![];
     names(&Path::new(env!("CARGO_MANIFEST_DIR")).join("src"), &mut all);
     assert!(all.len() > 80, "{all:?}");
-    let here = include_str!("worst_numbers.rs");
+    let here = include_str!("main.rs");
     all.retain(|name| ![".", "::"].iter().any(|it| here.contains(&format!("{it}{name}("))));
     assert_eq!(all, [""; 0], "are called nowhere here");
 }
@@ -400,60 +318,4 @@ fn lists_that_find_no_memory() {
     assert_eq!(all.as_bitmap().choose(&column).unwrap_err(), lacking);
     assert_eq!(Selection::new(all.as_bitmap()).choose(&column).unwrap_err(), lacking);
     assert_eq!(all.as_bitmap().counts_below(&column).unwrap_err(), lacking);
-}
-
-/// By its name, a call that returns no `Result`, where there is no memory.
-fn call_that_aborts(name: &str) {
-    let _alone = limit();
-    let many = BitmapBuf::all_false(8 * (600 << 20));
-    let rows = many.as_bitmap();
-    let len = match name {
-        "with_capacity" => BitmapBuf::with_capacity(usize::MAX).len(),
-        "all_false" => BitmapBuf::all_false(usize::MAX).len(),
-        "all_true" => BitmapBuf::all_true(usize::MAX).len(),
-        "from_fn" => BitmapBuf::from_fn(usize::MAX, |_| true).len(),
-        "from" => BitmapBuf::from(rows).len(),
-        "to_buf" => rows.to_buf().len(),
-        "concat" => BitmapBuf::concat([rows, rows]).len(),
-        "to_words" => rows.to_words().len(),
-        "not" => (!rows).len(),
-        "to_string" => rows.to_string().len(),
-        "clone" => many.clone().len(),
-        "append" => {
-            let (mut longer, three) = (many, BitmapBuf::all_true(9));
-            longer.append(three.as_bitmap());
-            longer.len()
-        }
-        "extend" => {
-            let mut longer = many;
-            longer.extend([true; 9]);
-            longer.len()
-        }
-        "to_indices" => BitmapBuf::all_true(MANY).as_bitmap().to_indices().len(),
-        "selection" => {
-            let each_other = BitmapBuf::from_vec(vec![0b0101_0101; MANY / 8], 0, MANY).unwrap();
-            Selection::new(each_other.as_bitmap()).len()
-        }
-        _ => unreachable!("{name}"),
-    };
-    println!("{name} made {len}");
-}
-
-#[test]
-fn what_aborts_is_what_the_page_says() {
-    if let Ok(name) = env::var("CALL_THAT_ABORTS") {
-        return call_that_aborts(&name);
-    }
-    let makers = ["with_capacity", "all_false", "all_true", "from_fn", "from", "to_buf", "concat"];
-    let others =
-        ["to_words", "not", "to_string", "clone", "append", "extend", "to_indices", "selection"];
-    for name in makers.into_iter().chain(others) {
-        let mut child = Command::new(env::current_exe().unwrap());
-        child.args(["--exact", "what_aborts_is_what_the_page_says", "--nocapture"]);
-        let done = child.env("CALL_THAT_ABORTS", name).output().unwrap();
-        let said = String::from_utf8_lossy(&done.stderr);
-        assert!(said.contains("memory allocation of"), "{name}: {said}");
-        // (SIGABRT)
-        assert_eq!(done.status.signal(), Some(6), "{name}: {said}");
-    }
 }

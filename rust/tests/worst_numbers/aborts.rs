@@ -1,0 +1,64 @@
+//! Calls that return no `Result`: where there is no memory they abort the process, and do nothing else.
+
+use crate::MANY;
+use crate::memory::limit;
+use row_mask::{BitmapBuf, Selection};
+use std::env;
+use std::os::unix::process::ExitStatusExt;
+use std::process::Command;
+
+/// By its name, a call that returns no `Result`, where there is no memory.
+fn call_that_aborts(name: &str) {
+    let _alone = limit();
+    let many = BitmapBuf::all_false(8 * (600 << 20));
+    let rows = many.as_bitmap();
+    let len = match name {
+        "with_capacity" => BitmapBuf::with_capacity(usize::MAX).len(),
+        "all_false" => BitmapBuf::all_false(usize::MAX).len(),
+        "all_true" => BitmapBuf::all_true(usize::MAX).len(),
+        "from_fn" => BitmapBuf::from_fn(usize::MAX, |_| true).len(),
+        "from" => BitmapBuf::from(rows).len(),
+        "to_buf" => rows.to_buf().len(),
+        "concat" => BitmapBuf::concat([rows, rows]).len(),
+        "to_words" => rows.to_words().len(),
+        "not" => (!rows).len(),
+        "to_string" => rows.to_string().len(),
+        "clone" => many.clone().len(),
+        "append" => {
+            let (mut longer, three) = (many, BitmapBuf::all_true(9));
+            longer.append(three.as_bitmap());
+            longer.len()
+        }
+        "extend" => {
+            let mut longer = many;
+            longer.extend([true; 9]);
+            longer.len()
+        }
+        "to_indices" => BitmapBuf::all_true(MANY).as_bitmap().to_indices().len(),
+        "selection" => {
+            let each_other = BitmapBuf::from_vec(vec![0b0101_0101; MANY / 8], 0, MANY).unwrap();
+            Selection::new(each_other.as_bitmap()).len()
+        }
+        _ => unreachable!("{name}"),
+    };
+    println!("{name} made {len}");
+}
+
+#[test]
+fn what_aborts_is_what_the_page_says() {
+    if let Ok(name) = env::var("CALL_THAT_ABORTS") {
+        return call_that_aborts(&name);
+    }
+    let makers = ["with_capacity", "all_false", "all_true", "from_fn", "from", "to_buf", "concat"];
+    let others =
+        ["to_words", "not", "to_string", "clone", "append", "extend", "to_indices", "selection"];
+    for name in makers.into_iter().chain(others) {
+        let mut child = Command::new(env::current_exe().unwrap());
+        child.args(["--exact", "aborts::what_aborts_is_what_the_page_says", "--nocapture"]);
+        let done = child.env("CALL_THAT_ABORTS", name).output().unwrap();
+        let said = String::from_utf8_lossy(&done.stderr);
+        assert!(said.contains("memory allocation of"), "{name}: {said}");
+        // (SIGABRT)
+        assert_eq!(done.status.signal(), Some(6), "{name}: {said}");
+    }
+}
