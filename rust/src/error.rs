@@ -88,7 +88,7 @@ pub enum Error {
         size: usize,
     },
     /// There is no memory for what is to be made. Each call that makes something and returns a `Result` may
-    /// be refused so, and asks for memory when all that it is given was tested.
+    /// be refused so. It tests what it is given before it asks for memory for it.
     OutOfMemory {
         /// How many bytes it takes.
         bytes: usize,
