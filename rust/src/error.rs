@@ -87,8 +87,7 @@ pub enum Error {
         /// How many bytes there are.
         size: usize,
     },
-    /// There is no memory for what is to be made. Each call that makes something and returns a `Result` may
-    /// be refused so. It tests what it is given before it asks for memory for it.
+    /// There is no memory for what is to be made.
     OutOfMemory {
         /// How many bytes it takes.
         bytes: usize,

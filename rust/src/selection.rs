@@ -70,7 +70,8 @@ impl Selection {
     ///
     /// # Errors
     ///
-    /// [`Error::RowsDiffer`] where the column has not [`len`](Selection::len) rows.
+    /// [`Error::RowsDiffer`] where the column has not [`len`](Selection::len) rows, and
+    /// [`Error::OutOfMemory`].
     pub fn choose<T: Row>(&self, rows: &[T]) -> Result<Vec<T>, Error> {
         self.of_len(rows.len())?;
         // SAFETY: there is a row for each value, and a place for each true one, which is written.
@@ -81,8 +82,8 @@ impl Selection {
     ///
     /// # Errors
     ///
-    /// As there, and [`Error::RoomTooSmall`] where `out` has fewer than [`count`](Selection::count)
-    /// items.
+    /// [`Error::RowsDiffer`] as there, and [`Error::RoomTooSmall`] where `out` has fewer than
+    /// [`count`](Selection::count) items.
     pub fn choose_into<T: Row>(&self, rows: &[T], out: &mut [T]) -> Result<(), Error> {
         self.of_len(rows.len())?;
         let out = front(out, self.count)?;
@@ -120,7 +121,8 @@ impl Selection {
     ///
     /// # Errors
     ///
-    /// [`Error::RowsDiffer`] where the bitmap has not [`len`](Selection::len) values.
+    /// [`Error::RowsDiffer`] where the bitmap has not [`len`](Selection::len) values, and
+    /// [`Error::OutOfMemory`].
     pub fn choose_bits(&self, bits: Bitmap<'_>) -> Result<BitmapBuf, Error> {
         let mut out = BitmapBuf::default();
         self.choose_bits_into(bits, &mut out)?;
@@ -131,7 +133,7 @@ impl Selection {
     ///
     /// # Errors
     ///
-    /// As there, and [`Error::RoomTooSmall`].
+    /// [`Error::RowsDiffer`] as there, and the refusals of [`Room`].
     pub fn choose_bits_into(
         &self,
         bits: Bitmap<'_>,

@@ -16,7 +16,7 @@ impl Bitmap<'_> {
     ///
     /// # Errors
     ///
-    /// [`Error::RowsDiffer`] where there is not one row for each value.
+    /// [`Error::RowsDiffer`] where there is not one row for each value, and [`Error::OutOfMemory`].
     pub fn choose<T: Row>(self, rows: &[T]) -> Result<Vec<T>, Error> {
         self.has_one_for_each(rows)?;
         // SAFETY: there is a row for each value, and a place for each true value, which is written.
@@ -27,7 +27,8 @@ impl Bitmap<'_> {
     ///
     /// # Errors
     ///
-    /// As there, and [`Error::RoomTooSmall`] where `out` has fewer items than values are true.
+    /// [`Error::RowsDiffer`] as there, and [`Error::RoomTooSmall`] where `out` has fewer items than values
+    /// are true.
     pub fn choose_into<T: Row>(self, rows: &[T], out: &mut [T]) -> Result<usize, Error> {
         self.has_one_for_each(rows)?;
         let out = front(out, self.count())?;

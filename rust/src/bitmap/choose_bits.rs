@@ -25,7 +25,8 @@ impl Bitmap<'_> {
     ///
     /// # Errors
     ///
-    /// [`Error::RowsDiffer`] where the other bitmap has not one value for each value.
+    /// [`Error::RowsDiffer`] where the other bitmap has not one value for each value, and
+    /// [`Error::OutOfMemory`].
     pub fn choose_bits(self, bits: Bitmap<'_>) -> Result<BitmapBuf, Error> {
         let mut out = BitmapBuf::default();
         self.choose_bits_into(bits, &mut out)?;
@@ -37,7 +38,7 @@ impl Bitmap<'_> {
     ///
     /// # Errors
     ///
-    /// As there, and [`Error::RoomTooSmall`].
+    /// [`Error::RowsDiffer`] as there, and the refusals of [`Room`].
     pub fn choose_bits_into(
         self,
         bits: Bitmap<'_>,

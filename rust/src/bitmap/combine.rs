@@ -14,7 +14,7 @@ impl Bitmap<'_> {
     ///
     /// # Errors
     ///
-    /// [`Error::LengthsDiffer`].
+    /// [`Error::LengthsDiffer`], and [`Error::OutOfMemory`].
     pub fn and(self, other: Bitmap<'_>) -> Result<BitmapBuf, Error> {
         self.combined(other, declared::row_mask_and)
     }
@@ -23,7 +23,7 @@ impl Bitmap<'_> {
     ///
     /// # Errors
     ///
-    /// [`Error::LengthsDiffer`], and [`Error::RoomTooSmall`].
+    /// [`Error::LengthsDiffer`], and the refusals of [`Room`].
     pub fn and_into(self, other: Bitmap<'_>, out: &mut (impl Room + ?Sized)) -> Result<(), Error> {
         self.combined_into(other, declared::row_mask_and, out)
     }
@@ -32,7 +32,7 @@ impl Bitmap<'_> {
     ///
     /// # Errors
     ///
-    /// [`Error::LengthsDiffer`].
+    /// [`Error::LengthsDiffer`], and [`Error::OutOfMemory`].
     pub fn or(self, other: Bitmap<'_>) -> Result<BitmapBuf, Error> {
         self.combined(other, declared::row_mask_or)
     }
@@ -41,7 +41,7 @@ impl Bitmap<'_> {
     ///
     /// # Errors
     ///
-    /// [`Error::LengthsDiffer`], and [`Error::RoomTooSmall`].
+    /// [`Error::LengthsDiffer`], and the refusals of [`Room`].
     pub fn or_into(self, other: Bitmap<'_>, out: &mut (impl Room + ?Sized)) -> Result<(), Error> {
         self.combined_into(other, declared::row_mask_or, out)
     }
@@ -50,7 +50,7 @@ impl Bitmap<'_> {
     ///
     /// # Errors
     ///
-    /// [`Error::LengthsDiffer`].
+    /// [`Error::LengthsDiffer`], and [`Error::OutOfMemory`].
     pub fn and_not(self, other: Bitmap<'_>) -> Result<BitmapBuf, Error> {
         self.combined(other, declared::row_mask_and_not)
     }
@@ -59,7 +59,7 @@ impl Bitmap<'_> {
     ///
     /// # Errors
     ///
-    /// [`Error::LengthsDiffer`], and [`Error::RoomTooSmall`].
+    /// [`Error::LengthsDiffer`], and the refusals of [`Room`].
     pub fn and_not_into(
         self,
         other: Bitmap<'_>,
@@ -72,7 +72,7 @@ impl Bitmap<'_> {
     ///
     /// # Errors
     ///
-    /// [`Error::LengthsDiffer`].
+    /// [`Error::LengthsDiffer`], and [`Error::OutOfMemory`].
     pub fn xor(self, other: Bitmap<'_>) -> Result<BitmapBuf, Error> {
         self.combined(other, declared::row_mask_xor)
     }
@@ -81,7 +81,7 @@ impl Bitmap<'_> {
     ///
     /// # Errors
     ///
-    /// [`Error::LengthsDiffer`], and [`Error::RoomTooSmall`].
+    /// [`Error::LengthsDiffer`], and the refusals of [`Room`].
     pub fn xor_into(self, other: Bitmap<'_>, out: &mut (impl Room + ?Sized)) -> Result<(), Error> {
         self.combined_into(other, declared::row_mask_xor, out)
     }
@@ -90,7 +90,7 @@ impl Bitmap<'_> {
     ///
     /// # Errors
     ///
-    /// [`Error::RoomTooSmall`].
+    /// The refusals of [`Room`].
     pub fn not_into(self, out: &mut (impl Room + ?Sized)) -> Result<(), Error> {
         // SAFETY: it writes each byte.
         unsafe { out.write(self.len, |out| self.not_to(out)) }
@@ -106,7 +106,7 @@ impl Bitmap<'_> {
     ///
     /// # Errors
     ///
-    /// [`Error::RoomTooSmall`].
+    /// The refusals of [`Room`].
     pub fn copy_into(self, out: &mut (impl Room + ?Sized)) -> Result<(), Error> {
         // SAFETY: it writes each byte.
         unsafe { out.write(self.len, |out| self.copy_to(out)) }

@@ -16,7 +16,8 @@ impl Bitmap<'_> {
     ///
     /// # Errors
     ///
-    /// [`Error::RanksDiffer`] where `ranks` has not one value for each true value.
+    /// [`Error::RanksDiffer`] where `ranks` has not one value for each true value, and
+    /// [`Error::OutOfMemory`].
     pub fn intersect_by_rank(self, ranks: Bitmap<'_>) -> Result<BitmapBuf, Error> {
         let mut out = BitmapBuf::default();
         self.intersect_by_rank_into(ranks, &mut out)?;
@@ -27,7 +28,7 @@ impl Bitmap<'_> {
     ///
     /// # Errors
     ///
-    /// As there, and [`Error::RoomTooSmall`].
+    /// [`Error::RanksDiffer`] as there, and the refusals of [`Room`].
     pub fn intersect_by_rank_into(
         self,
         ranks: Bitmap<'_>,
@@ -80,8 +81,9 @@ impl Bitmap<'_> {
     ///
     /// # Errors
     ///
-    /// [`Error::UnsortedRanks`] where a rank is not above the one before it, and
-    /// [`Error::RankOutOfBounds`] where one is not below the number of true values.
+    /// [`Error::UnsortedRanks`] where a rank is not above the one before it,
+    /// [`Error::RankOutOfBounds`] where one is not below the number of true values, and
+    /// [`Error::OutOfMemory`].
     pub fn intersect_at_ranks(self, ranks: &[usize]) -> Result<BitmapBuf, Error> {
         let mut out = BitmapBuf::default();
         self.intersect_at_ranks_into(ranks, &mut out)?;
@@ -92,7 +94,7 @@ impl Bitmap<'_> {
     ///
     /// # Errors
     ///
-    /// As there, and [`Error::RoomTooSmall`].
+    /// [`Error::UnsortedRanks`] and [`Error::RankOutOfBounds`] as there, and the refusals of [`Room`].
     pub fn intersect_at_ranks_into(
         self,
         ranks: &[usize],

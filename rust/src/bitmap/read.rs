@@ -47,8 +47,8 @@ impl<'a> Bitmap<'a> {
     ///
     /// # Errors
     ///
-    /// [`Error::UnsortedIndices`] where an index is below the one before it, and
-    /// [`Error::IndexOutOfBounds`] where one is above the length.
+    /// [`Error::UnsortedIndices`] where an index is below the one before it,
+    /// [`Error::IndexOutOfBounds`] where one is above the length, and [`Error::OutOfMemory`].
     pub fn counts_below(self, indices: &[usize]) -> Result<Vec<usize>, Error> {
         self.are_ends(indices)?;
         // SAFETY: the indices were tested, and there is a place for each.
@@ -59,7 +59,8 @@ impl<'a> Bitmap<'a> {
     ///
     /// # Errors
     ///
-    /// As there, and [`Error::RoomTooSmall`] where `out` has fewer items than there are indices.
+    /// [`Error::UnsortedIndices`] and [`Error::IndexOutOfBounds`] as there, and [`Error::RoomTooSmall`]
+    /// where `out` has fewer items than there are indices.
     pub fn counts_below_into(self, indices: &[usize], out: &mut [usize]) -> Result<(), Error> {
         self.are_ends(indices)?;
         let out = front(out, indices.len())?;

@@ -9,9 +9,10 @@ use std::slice;
 /// [`BitmapBuf`], which then has just these values and keeps the memory that it has.
 ///
 /// Of bytes just the first `(len + 7) / 8` are written, where `len` is the length of what is written,
-/// and the bits behind the last value are cleared in the last of them. They are too few where a call
-/// says [`Error::RoomTooSmall`], and a [`BitmapBuf`] finds no memory where it says
-/// [`Error::OutOfMemory`]. Neither is changed then.
+/// and the bits behind the last value are cleared in the last of them.
+///
+/// Bytes that are too few are refused by [`Error::RoomTooSmall`], and a [`BitmapBuf`] that finds no memory
+/// by [`Error::OutOfMemory`]. Neither is changed then.
 ///
 /// ```
 /// use row_mask::{Bitmap, BitmapBuf};
@@ -47,7 +48,7 @@ pub(crate) mod sealed {
             fill: impl FnOnce(&mut [MaybeUninit<u8>]),
         ) -> Result<(), Error>;
 
-        /// Writes the values of an iterator, as many as it says.
+        /// Writes the values of an iterator, of which it says how many they are.
         fn collect(&mut self, values: impl ExactSizeIterator<Item = bool>) -> Result<(), Error>;
     }
 }

@@ -4,8 +4,10 @@ use super::change::{append, fill};
 use super::pack::{AHEAD, pack, pack_fn};
 use crate::bitmap::{Room, init, range_within, room_for};
 use crate::{Bitmap, BitmapBuf, Error, declared};
+use std::alloc::{Layout, alloc_zeroed};
 use std::mem::MaybeUninit;
 use std::ops::Range;
+use std::ptr;
 
 impl BitmapBuf {
     // The `len` values that `fill` writes into room for them.
@@ -31,23 +33,7 @@ impl BitmapBuf {
         Ok(())
     }
 
-    // Has memory for `len` values in all, if there is some.
-    pub(crate) fn make_room(&mut self, len: usize) -> Result<(), Error> {
-        let bytes = room_for(len);
-        let more = bytes.saturating_sub(self.bytes.len());
-        self.bytes.try_reserve(more).map_err(|_| Error::OutOfMemory { bytes })
-    }
-
-    // Adds false values up to `len`, where there are not more, if there is memory.
-    fn lengthen(&mut self, len: usize) -> Result<(), Error> {
-        debug_assert!(self.len <= len);
-        self.make_room(len)?;
-        self.bytes.resize(room_for(len), 0);
-        self.len = len;
-        Ok(())
-    }
-
-    // Such values behind those that are there.
+    // Adds such values behind those that are there.
     // SAFETY of a call: it writes each byte that it gets, and the last byte has eight values.
     pub(crate) unsafe fn add(&mut self, len: usize, fill: impl FnOnce(&mut [MaybeUninit<u8>])) {
         let size = room_for(len);
@@ -56,6 +42,23 @@ impl BitmapBuf {
         // SAFETY: so many bytes were reserved, and are written.
         unsafe { self.bytes.set_len(self.bytes.len() + size) };
         self.len += len;
+    }
+
+    // Has memory for `len` values in all, if there is some.
+    pub(crate) fn make_room(&mut self, len: usize) -> Result<(), Error> {
+        let bytes = room_for(len);
+        let more = bytes.saturating_sub(self.bytes.len());
+        self.bytes.try_reserve(more).map_err(|_| Error::OutOfMemory { bytes })
+    }
+
+    // Adds false values up to `len`, where there are not as many, if there is memory.
+    fn lengthen(&mut self, len: usize) -> Result<(), Error> {
+        if len > self.len {
+            let mut bytes = zeros(room_for(len))?;
+            bytes[..self.bytes.len()].copy_from_slice(&self.bytes);
+            *self = BitmapBuf { bytes, len };
+        }
+        Ok(())
     }
 
     /// No value, with memory for so many.
@@ -93,9 +96,7 @@ impl BitmapBuf {
     ///
     /// [`Error::OutOfMemory`].
     pub fn try_all_false(len: usize) -> Result<BitmapBuf, Error> {
-        let mut made = BitmapBuf::default();
-        made.lengthen(len)?;
-        Ok(made)
+        Ok(BitmapBuf { bytes: zeros(room_for(len))?, len })
     }
 
     /// So many values, all true.
@@ -113,8 +114,9 @@ impl BitmapBuf {
     ///
     /// [`Error::OutOfMemory`].
     pub fn try_all_true(len: usize) -> Result<BitmapBuf, Error> {
-        let mut made = BitmapBuf::default();
-        BitmapBuf::all_into(len, true, &mut made)?;
+        let mut made = BitmapBuf::try_all_false(len)?;
+        // SAFETY: the bytes are room for the length.
+        unsafe { fill(&mut made.bytes, 0, len, true) };
         Ok(made)
     }
 
@@ -122,7 +124,7 @@ impl BitmapBuf {
     ///
     /// # Errors
     ///
-    /// [`Error::RoomTooSmall`].
+    /// The refusals of [`Room`].
     pub fn all_into(len: usize, value: bool, out: &mut (impl Room + ?Sized)) -> Result<(), Error> {
         // SAFETY: `init` writes each byte, which are room for the length.
         unsafe { out.write(len, |out| fill(init(out), 0, len, value)) }
@@ -155,7 +157,7 @@ impl BitmapBuf {
     ///
     /// # Errors
     ///
-    /// [`Error::RoomTooSmall`].
+    /// The refusals of [`Room`].
     pub fn from_fn_into(
         len: usize,
         value: impl FnMut(usize) -> bool,
@@ -167,6 +169,8 @@ impl BitmapBuf {
 
     /// As [`collect`](Iterator::collect) makes a bitmap, written into `out`. `values` have to know how many
     /// they are; of others [`extend`](Extend::extend) fills a bitmap that was cleared, in the memory that it has.
+    /// Of values that turn out more, the first are taken; where they turn out fewer, a [`BitmapBuf`] has just
+    /// these, and bytes of the caller have false ones for the others.
     ///
     /// ```
     /// # use row_mask::BitmapBuf;
@@ -178,7 +182,7 @@ impl BitmapBuf {
     ///
     /// # Errors
     ///
-    /// [`Error::RoomTooSmall`].
+    /// The refusals of [`Room`].
     pub fn collect_into(
         values: impl IntoIterator<Item = bool, IntoIter: ExactSizeIterator>,
         out: &mut (impl Room + ?Sized),
@@ -190,7 +194,7 @@ impl BitmapBuf {
     ///
     /// # Errors
     ///
-    /// [`Error::RoomTooSmall`].
+    /// The refusals of [`Room`].
     pub fn from_bools_into(values: &[bool], out: &mut (impl Room + ?Sized)) -> Result<(), Error> {
         // SAFETY: it writes each byte.
         unsafe { out.write(values.len(), |out| pack(values, out)) }
@@ -207,7 +211,8 @@ impl BitmapBuf {
     ///
     /// # Errors
     ///
-    /// [`Error::IndexOutOfBounds`] with the first that is not below the length.
+    /// [`Error::IndexOutOfBounds`] with the first that is not below the length, and
+    /// [`Error::OutOfMemory`].
     pub fn from_indices(len: usize, indices: &[usize]) -> Result<BitmapBuf, Error> {
         let mut made = BitmapBuf::default();
         BitmapBuf::from_indices_into(len, indices, &mut made)?;
@@ -218,7 +223,7 @@ impl BitmapBuf {
     ///
     /// # Errors
     ///
-    /// As there, and [`Error::RoomTooSmall`].
+    /// [`Error::IndexOutOfBounds`] as there, and the refusals of [`Room`].
     pub fn from_indices_into(
         len: usize,
         indices: &[usize],
@@ -237,7 +242,8 @@ impl BitmapBuf {
     }
 
     /// `len` values, of which just those within the ranges are true. These may come in any order, and
-    /// meet. Each is tested when it comes, and memory is asked for as far as they reach.
+    /// meet. Each is tested when it comes, and memory for more than 2²³ values is asked for when one
+    /// reaches past these, or all were tested.
     ///
     /// ```
     /// # use row_mask::BitmapBuf;
@@ -247,16 +253,16 @@ impl BitmapBuf {
     ///
     /// # Errors
     ///
-    /// [`Error::BadRange`] with the first that is no range of the values.
+    /// [`Error::BadRange`] with the first that is no range of the values, and [`Error::OutOfMemory`].
     pub fn from_ranges(
         len: usize,
         ranges: impl IntoIterator<Item = Range<usize>>,
     ) -> Result<BitmapBuf, Error> {
-        let mut made = BitmapBuf::try_all_false(len.min(8 * AHEAD))?;
+        let (mut made, near) = (BitmapBuf::default(), len.min(8 * AHEAD));
         for range in ranges {
             let Range { start, end } = range_within(&range, len)?;
             if end > made.len {
-                made.lengthen(end)?;
+                made.lengthen(if end > near { len } else { near })?;
             }
             // SAFETY: the bytes are room for what was tested.
             unsafe { fill(&mut made.bytes, start, end, true) };
@@ -269,7 +275,7 @@ impl BitmapBuf {
     ///
     /// # Errors
     ///
-    /// As there, and [`Error::RoomTooSmall`].
+    /// [`Error::BadRange`] as there, and the refusals of [`Room`].
     pub fn from_ranges_into(
         len: usize,
         ranges: &[Range<usize>],
@@ -299,7 +305,8 @@ impl BitmapBuf {
     ///
     /// # Errors
     ///
-    /// [`Error::OutOfBytes`] where they are not within the bytes.
+    /// [`Error::OutOfBytes`] where they are not within the bytes, and [`Error::OutOfMemory`] where they are
+    /// copied.
     pub fn from_vec(mut bytes: Vec<u8>, offset: usize, len: usize) -> Result<BitmapBuf, Error> {
         let bitmap = Bitmap::new(&bytes, offset, len)?;
         if offset > 0 {
@@ -333,7 +340,7 @@ impl BitmapBuf {
     ///
     /// # Errors
     ///
-    /// [`Error::RoomTooSmall`].
+    /// The refusals of [`Room`].
     pub fn concat_into(
         bitmaps: &[Bitmap<'_>],
         out: &mut (impl Room + ?Sized),
@@ -350,6 +357,24 @@ impl BitmapBuf {
             })
         }
     }
+}
+
+// So many bytes, all of them 0, if there is memory. As of `vec![0; size]`, those of a large size are made by the
+// platform, when they are first touched.
+fn zeros(size: usize) -> Result<Vec<u8>, Error> {
+    let refused = Error::OutOfMemory { bytes: size };
+    let layout = Layout::array::<u8>(size).map_err(|_| refused)?;
+    if size == 0 {
+        return Ok(Vec::new());
+    }
+    // SAFETY: the size isn't 0.
+    let bytes = unsafe { alloc_zeroed(layout) };
+    if bytes.is_null() {
+        return Err(refused);
+    }
+    // SAFETY: so many bytes, which are written, are there by the layout of a slice of them.
+    let bytes = unsafe { Box::from_raw(ptr::slice_from_raw_parts_mut(bytes, size)) };
+    Ok(bytes.into_vec())
 }
 
 impl From<Bitmap<'_>> for BitmapBuf {

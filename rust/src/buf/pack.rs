@@ -5,7 +5,7 @@ use crate::bitmap::room_for;
 use crate::declared;
 use std::mem::MaybeUninit;
 
-// Bytes that are asked for ahead by a number that the values may not bear out, such as an iterator's hint.
+// Bytes that are asked for ahead by a number that nothing has borne out yet, such as an iterator's hint.
 pub(super) const AHEAD: usize = 1 << 20;
 
 // Values that are asked for before they are packed: a multiple of 64, in the nearest memory.
@@ -68,6 +68,10 @@ impl Extend<bool> for BitmapBuf {
         self.bytes.reserve(room_for(values.size_hint().0).min(AHEAD));
         let mut block = [false; BLOCK];
         loop {
+            if self.bytes.capacity() - self.bytes.len() < BLOCK / 8 {
+                // (a hint that was right for so long: if it is refused, room is made for what comes)
+                let _ = self.bytes.try_reserve(room_for(values.size_hint().0));
+            }
             let mut count = 0;
             for (place, value) in block.iter_mut().zip(values.by_ref()) {
                 *place = value;

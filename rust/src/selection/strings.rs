@@ -99,8 +99,9 @@ offsets! {
 
 impl Selection {
     /// Writes where the chosen values begin and end to the front of `out`, from 0 on, and answers how
-    /// many bytes they have by these offsets, which are held to no bytes here: so ask for no memory by this
-    /// number alone. Value `i` of the column has the bytes from `offsets[i]` to `offsets[i + 1]`.
+    /// many bytes they have. Value `i` of the column has the bytes from `offsets[i]` to
+    /// `offsets[i + 1]`. No bytes are given here to hold the offsets to, so a corrupt one makes the answer
+    /// as large as it is: ask for no memory by it before that.
     ///
     /// # Errors
     ///
@@ -198,7 +199,8 @@ impl Selection {
     ///
     /// # Errors
     ///
-    /// As [`choose_bytes`](Selection::choose_bytes).
+    /// [`Error::OffsetsDiffer`], [`Error::UnsortedOffsets`] and [`Error::OffsetOutOfBounds`] as of
+    /// [`choose_bytes`](Selection::choose_bytes), and [`Error::OutOfMemory`].
     pub fn choose_strings<O: Offset>(
         &self,
         offsets: &[O],

@@ -3,9 +3,9 @@
 use crate::MANY;
 use crate::memory::limit;
 use row_mask::{BitmapBuf, Selection};
-use std::env;
 use std::os::unix::process::ExitStatusExt;
 use std::process::Command;
+use std::{env, iter};
 
 /// By its name, a call that returns no `Result`, where there is no memory.
 fn call_that_aborts(name: &str) {
@@ -24,6 +24,7 @@ fn call_that_aborts(name: &str) {
         "not" => (!rows).len(),
         "to_string" => rows.to_string().len(),
         "clone" => many.clone().len(),
+        "collect" => iter::repeat_n(true, usize::MAX).collect::<BitmapBuf>().len(),
         "append" => {
             let (mut longer, three) = (many, BitmapBuf::all_true(9));
             longer.append(three.as_bitmap());
@@ -50,8 +51,17 @@ fn what_aborts_is_what_the_page_says() {
         return call_that_aborts(&name);
     }
     let makers = ["with_capacity", "all_false", "all_true", "from_fn", "from", "to_buf", "concat"];
-    let others =
-        ["to_words", "not", "to_string", "clone", "append", "extend", "to_indices", "selection"];
+    let others = [
+        "to_words",
+        "not",
+        "to_string",
+        "clone",
+        "collect",
+        "append",
+        "extend",
+        "to_indices",
+        "selection",
+    ];
     for name in makers.into_iter().chain(others) {
         let mut child = Command::new(env::current_exe().unwrap());
         child.args(["--exact", "aborts::what_aborts_is_what_the_page_says", "--nocapture"]);

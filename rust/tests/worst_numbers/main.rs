@@ -157,8 +157,9 @@ fn hints_that_are_wrong() {
     let mut made = BitmapBuf::from_fn(13, |i| i == 12);
     assert_eq!(within(LITTLE, || BitmapBuf::collect_into(Says(100), &mut made)), Ok(()));
     assert!(made.is_empty());
-    let made: BitmapBuf = iter::repeat_n(true, 9 * AHEAD).collect();
-    assert_eq!(made.as_bitmap().count(), 9 * AHEAD);
+    // (more than was asked for ahead)
+    let made: BitmapBuf = (0..9 * AHEAD).map(|i| i % 3 == 0).collect();
+    assert_eq!(made, BitmapBuf::from_fn(9 * AHEAD, |i| i % 3 == 0));
 }
 
 #[test]
@@ -269,6 +270,14 @@ fn many_values() {
     assert_eq!(refused(|| BitmapBuf::concat_into(&[rows, rows], &mut room[..])), twice);
     assert_eq!(refused(|| BitmapBuf::from_bools_into(&[true; 17], &mut room[..])), small(2, 3));
     assert_eq!(BitmapBuf::from_ranges(MANY, iter::once(0..MANY)).as_ref(), Ok(&many));
+    // (the first range lies in what is asked for ahead, and the others, if there are some, don't)
+    for ranges in [[3..5, 4..6], [3..5, MANY - 2..MANY], [3..5, 1 << 23..(1 << 23) + 1]] {
+        let mut want = BitmapBuf::all_false(MANY);
+        for range in ranges.clone() {
+            want.fill_range(range, true).unwrap();
+        }
+        assert_eq!(BitmapBuf::from_ranges(MANY, ranges).as_ref(), Ok(&want));
+    }
     let three = last.to_buf();
     many.negate();
     many.append(three.as_bitmap());
