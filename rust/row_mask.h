@@ -148,7 +148,8 @@ size_t row_mask_last_index(const uint8_t *bytes, size_t bytes_size, size_t offse
 
 /* Writes the indices of the true values from `from` on, ascending, to the front of `out`, as many
  * as there are or as it takes, and answers how many these are: none from past the end. So a walk
- * over all goes on from one past the last, until fewer come than `out` takes. */
+ * over all goes on from one past the last, until fewer come than `out` takes. Behind them `out` may
+ * have other numbers than before. */
 ROW_MASK_READ(1, 2) ROW_MASK_WRITE(6, 7)
 size_t row_mask_next_indices(
     const uint8_t *bytes, size_t bytes_size, size_t offset, size_t len, size_t from,

@@ -3,6 +3,8 @@ mod AnswerLemmas
 mod BoolsLemmas
 mod BufferLemmas
 mod BuilderLemmas
+mod ByteLemmas
+mod ChosenBitLemmas
 mod CombineLemmas
 mod CompareLemmas
 mod Examples
@@ -12,7 +14,6 @@ mod LawRows
 mod LawRules
 pub mod Lists
 mod NumberLemmas
-mod PushLemmas
 mod RunWordLemmas
 mod SetBitLemmas
 mod WindowLemmas

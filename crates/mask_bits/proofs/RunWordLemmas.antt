@@ -18,7 +18,7 @@ use Rattle.mask_bits.specs.Pushed.{runs_behind, runs_between, AreEdges, RunsAreP
 use Rattle.mask_bits.specs.Words.{word_bits, word_part, padded_remainder}
 use Rattle.mask_bits.proofs.Lists.CountLemmas.{get_or-padded}
 use Rattle.mask_bits.proofs.Lists.Words.WalkLemmas.{runs_from-repeated_false}
-use Rattle.mask_bits.proofs.PushLemmas.{cleared, cleared-some, length-indices_of_word}
+use Rattle.mask_bits.proofs.Lists.Places.PushLemmas.{cleared, cleared-some, length-indices_of_word}
 use Rattle.mask_bits.proofs.Lists.Places.SelectLemmas.{places-lowest, indices-of_none, high}
 use Rattle.mask_bits.proofs.Lists.Runs.RunLemmas.{with_index-longer, runs_from-front}
 use Rattle.mask_bits.proofs.Lists.Words.LowestLemmas.{low, low-within}

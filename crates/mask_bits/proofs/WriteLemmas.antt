@@ -1,5 +1,5 @@
 -- Bits written behind the first bits of some bytes.
-use Rattle.std.proofs.Common.{◌≡◌, ℕ, ◌+◌, ◌*◌, ◌-◌, ◌/◌, ◌%◌, ◌^◌, ◌<◌, ◌≤◌, Bool, true, false, ◌||◌, nat_eq, List, ◌++◌, length, get_or, take, drop, slice_range, replicate, ap, ◌∙◌, inl, inr, ◌⊎◌, arith}
+use Rattle.std.proofs.Common.{◌≡◌, ℕ, ◌+◌, ◌*◌, ◌-◌, ◌/◌, ◌%◌, ◌^◌, ◌<◌, ◌≤◌, Bool, true, false, ◌||◌, nat_eq, List, ◌++◌, length, get_or, take, drop, replicate, ap, ◌∙◌, inl, inr, ◌⊎◌, arith}
 use Rattle.std.specs.Int.{bit_at}
 use Rattle.std.specs.Int.RustNames.{bit_or}
 use Rattle.std.proofs.Math.Bool.{or-false}
@@ -7,12 +7,14 @@ use Rattle.std.proofs.lemmas.Bool.{cases_lt}
 use Rattle.std.proofs.lemmas.List.{length-append, length-take, length-replicate, get_or-replicate, get_or_append_left, get_or-append_right, get_or_past, get_or-take, ext_get_or, replicate-append-replicate}
 use Rattle.std.proofs.lemmas.Nat.Bits.{bit_at_ones}
 use borrow.Rule.Slice.PartMut.{put_mid}
+use Rattle.mask_bits.specs.Bitmap.{bitmap}
 use Rattle.mask_bits.specs.Buffer.{backing_bit, values}
 use Rattle.mask_bits.specs.BufferMut.{IsWrittenBehind, AreClearFrom}
 use Rattle.mask_bits.specs.Positions.{repeated}
 use Rattle.mask_bits.specs.Words.{word_bits, window}
 use Rattle.mask_bits.proofs.BufferLemmas.{length-values, values_from_front}
-use Rattle.mask_bits.proofs.Lists.Words.FrontLemmas.{get_or-window, get_or-front, get_or-put_mid_below, get_or-put_mid_above, get_or-put_mid_inside, values-join, window-between, window-drop}
+use Rattle.mask_bits.proofs.CompareLemmas.{bitmap-byte}
+use Rattle.mask_bits.proofs.Lists.Words.FrontLemmas.{get_or-window, get_or-front, get_or-put_mid_below, get_or-put_mid_above, get_or-put_mid_inside, values-join}
 use Rattle.mask_bits.proofs.Lists.Words.ShiftLemmas.{get_or-word_bits_or, get_or-word_bits_shl_low, get_or-word_bits_shl_high, get_or-word_bits_shr}
 use Rattle.mask_bits.proofs.Lists.Words.WordLemmas.{length-word_bits, get_or-word_bits}
 use Rattle.mask_bits.proofs.Lists.CountLemmas.{get_or-padded, length-repeated}
@@ -181,12 +183,11 @@ pub written-bits_clear : (a b from : List ℕ) (at offset n next : ℕ) → next
 written-bits_clear a b from at offset n next place w =
     written-clear a b at next (values (record { bytes = from; offset = offset; len = n })) (omega (arith, length-values (record { bytes = from; offset = offset; len = n }))) w
 
--- a word made of two words of the bytes from byte offset / 8 on
-pub funnel-window : (from part : List ℕ) (offset i x y w : ℕ) → part ≡ drop (offset / 8) from
-    → word_bits x ≡ window part (64 * i) → word_bits y ≡ window part (64 * (i + 1))
-    → word_bits w ≡ slice_range (word_bits x ++ word_bits y) (offset % 8) (offset % 8 + 64)
-    → word_bits w ≡ window from (offset + 64 * i)
-funnel-window from part offset i x y w is first second funnel =
-    grind (arith, funnel, window-between part (64 * i) (offset % 8), window-drop from (offset / 8) (64 * i + offset % 8) (offset + 64 * i))
+-- the bits of a part of the bytes that begins in the byte of their first
+pub written-from_byte : (a b bytes from : List ℕ) (at low offset n : ℕ) → from ≡ drop (offset / 8) bytes → low ≡ offset % 8
+    → IsWrittenBehind a b at (bitmap from low n) → IsWrittenBehind a b at (bitmap bytes offset n)
+written-from_byte a b bytes from at low offset n is is_low = written-is a b at _ _ (bitmap-byte bytes from low offset n is is_low)
 
 pub ruleset false_values = (written-false)
+
+pub ruleset from_byte = (written-from_byte)

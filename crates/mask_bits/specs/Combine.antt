@@ -25,6 +25,12 @@ pub record IsInTwoWords (bytes : List ℕ) (low i : ℕ) : Type 0 where
   pub few : low < 8
   pub covered : 8 * i + 16 ≤ length bytes
 
+-- the same where `low` isn't the first bit
+pub record IsShifted (bytes : List ℕ) (low i : ℕ) : Type 0 where
+  pub some : 0 < low
+  pub few : low < 8
+  pub covered : 8 * i + 16 ≤ length bytes
+
 -- the bytes have all 64 bits of word i from bit `low` of the first byte on
 pub record IsCovered (bytes : List ℕ) (low i : ℕ) : Type 0 where
   pub few : low < 8

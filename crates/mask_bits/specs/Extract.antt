@@ -1,5 +1,5 @@
 -- What it means to extract the bits of a word at the set places of a mask word, and how it is computed.
-use Rattle.std.specs.Prelude.{ℕ, zero, suc, min, ◌+◌, ◌-◌, ◌*◌, ◌/◌, ◌%◌, ◌^◌, ◌≡◌, ◌<◌, ◌↔◌, slice_index}
+use Rattle.std.specs.Prelude.{ℕ, zero, suc, min, ◌+◌, ◌-◌, ◌*◌, ◌/◌, ◌%◌, ◌^◌, ◌≡◌, ◌<◌, ◌↔◌, List, slice_index}
 use Rattle.std.specs.Int.{bit_at}
 use Rattle.mask_bits.specs.Positions.{positions, count}
 use Rattle.mask_bits.specs.Words.{word_bits}
@@ -18,3 +18,7 @@ gathered (suc n) source mask = min (source % 2) (mask % 2) + 2 ^ (mask % 2) * ga
 -- where the mask is clear at place p, the bits above it moved down by one
 unfoldable pub closed_up : ℕ → ℕ → ℕ → ℕ
 closed_up p mask bits = bits % 2 ^ p + bits / 2 ^ (p + (1 - bit_at mask p)) * 2 ^ p
+
+-- two words as one number, the first lowest
+abbrev pub two_words : List ℕ → ℕ
+two_words words = slice_index words 0 + slice_index words 1 * 2 ^ 64

@@ -1,6 +1,7 @@
 pub mod Bitmap
 pub mod Buffer
 pub mod BufferMut
+pub mod ChosenBits
 pub mod Combine
 pub mod Extract
 pub mod Lanes

@@ -10,6 +10,11 @@ pub record ArePushed (all : List ℕ) (base : ℕ) (items : List ℕ) (w : ℕ) 
   pub list : items ++ indices_from base (word_bits w) ≡ all ++ others
   pub exact : 0 < w → others ≡ []
 
+-- the values of words, one word after another
+abbrev pub bits_of_words : List ℕ → List Bool
+bits_of_words [] = []
+bits_of_words (w ∷ ws) = word_bits w ++ bits_of_words ws
+
 -- the runs of a list whose first index is n, behind a run from `start` on that has not ended before n where `inside`
 abbrev pub runs_behind : Bool → ℕ → ℕ → List Bool → List (ℕ × ℕ)
 runs_behind false start n m = runs_from n m

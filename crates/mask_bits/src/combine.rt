@@ -7,7 +7,7 @@ ghost use Rattle.mask_bits.specs.Combine.{AreCombined, IsCombinedBetween};
 ghost use Rattle.mask_bits.specs.Lists.{combined, not_of};
 ghost use Rattle.mask_bits.specs.Words.{word_bits, started_words};
 
-use crate::read_word::{Anywhere, Bits, Covered, Neighbors, ReadWord, Whole};
+use crate::read_word::{Anywhere, Bits, Covered, ReadWord, Shifted, Whole};
 use crate::words::{set_word, started_words, word_at, word_of};
 
 /// An operation on truth values, done on 64 at once.
@@ -109,20 +109,60 @@ pub fn combine<C: BitOp>(
 {
     let (a, b) = (Bits::new(a, a_offset), Bits::new(b, b_offset));
     let (whole, words) = (len / 64, started_words(len));
+    extend_whole::<C>(a, b, whole, out);
+    extend::<C, Anywhere, Anywhere>(a, b, whole, words, out);
+}
+
+// Writes the first words.
+fn extend_whole<C: BitOp>(a: Bits<'_>, b: Bits<'_>, words: usize, out: &mut [u8])
+    requires a_within { IsWithinBytes a.bytes.now a.low (64 * words) }
+    requires b_within { IsWithinBytes b.bytes.now b.low (64 * words) }
+    requires few_a { a.low < 8 }
+    requires few_b { b.low < 8 }
+    requires room { 8 * words ≤ length out.old }
+    ensures { AreCombined C.of_bits a.entry.bytes.now a.entry.low b.entry.bytes.now b.entry.low
+        out.new (64 * words) }
+{
     if a.low == 0 && b.low == 0 {
-        extend::<C, Whole>(a, b, 0, whole, out);
+        extend::<C, Whole, Whole>(a, b, 0, words, out);
     } else {
-        let inner = a.neighbors().min(b.neighbors()).min(whole);
-        extend::<C, Neighbors>(a, b, 0, inner, out);
-        extend::<C, Covered>(a, b, inner, whole, out);
+        let inner = a.neighbors().min(b.neighbors()).min(words);
+        extend_inner::<C>(a, b, inner, out);
+        extend::<C, Covered, Covered>(a, b, inner, words, out);
     }
-    extend::<C, Anywhere>(a, b, whole, words, out);
+}
+
+// Writes words beside which there is another one. Each list is read in its own way, since a shift of one
+// that begins at a whole byte takes nearly as long as the rest.
+fn extend_inner<C: BitOp>(a: Bits<'_>, b: Bits<'_>, words: usize, out: &mut [u8])
+    requires shifted { 0 < a.low + b.low }
+    requires a_goes_on { (i : ℕ) → i < words → 8 * i + 16 ≤ length a.bytes.now }
+    requires b_goes_on { (i : ℕ) → i < words → 8 * i + 16 ≤ length b.bytes.now }
+    requires few_a { a.low < 8 }
+    requires few_b { b.low < 8 }
+    requires room { 8 * words ≤ length out.old }
+    ensures { AreCombined C.of_bits a.entry.bytes.now a.entry.low b.entry.bytes.now b.entry.low
+        out.new (64 * words) }
+{
+    if a.low == 0 {
+        extend::<C, Whole, Shifted>(a, b, 0, words, out);
+    } else if b.low == 0 {
+        extend::<C, Shifted, Whole>(a, b, 0, words, out);
+    } else {
+        extend::<C, Shifted, Shifted>(a, b, 0, words, out);
+    }
 }
 
 // Writes words `from` to `to`, where those before are written.
-fn extend<C: BitOp, R: ReadWord>(a: Bits<'_>, b: Bits<'_>, from: usize, to: usize, out: &mut [u8])
-    requires reads_a { (i : ℕ) → i < to → R.can_read a.bytes.now a.low i }
-    requires reads_b { (i : ℕ) → i < to → R.can_read b.bytes.now b.low i }
+fn extend<C: BitOp, A: ReadWord, B: ReadWord>(
+    a: Bits<'_>,
+    b: Bits<'_>,
+    from: usize,
+    to: usize,
+    out: &mut [u8],
+)
+    requires reads_a { (i : ℕ) → i < to → A.can_read a.bytes.now a.low i }
+    requires reads_b { (i : ℕ) → i < to → B.can_read b.bytes.now b.low i }
     requires ordered { from ≤ to }
     requires room { 8 * to ≤ length out.old }
     requires before { AreCombined C.of_bits a.bytes.now a.low b.bytes.now b.low out.old (64 * from) }
@@ -130,7 +170,7 @@ fn extend<C: BitOp, R: ReadWord>(a: Bits<'_>, b: Bits<'_>, from: usize, to: usiz
         out.new (64 * to) }
 {
     for i in from..to {
-        set_word(out, i, C::of(R::word(a, i), R::word(b, i)));
+        set_word(out, i, C::of(A::word(a, i), B::word(b, i)));
     }
 }
 
@@ -161,7 +201,7 @@ fn change_whole<C: BitOp>(bytes: &mut [u8], b: Bits<'_>, words: usize)
         change::<C, Whole>(bytes, b, 0, words);
     } else {
         let inner = b.neighbors().min(words);
-        change::<C, Neighbors>(bytes, b, 0, inner);
+        change::<C, Shifted>(bytes, b, 0, inner);
         change::<C, Covered>(bytes, b, inner, words);
     }
 }

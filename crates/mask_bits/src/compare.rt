@@ -1,7 +1,7 @@
 //! The true values that an operation makes of two lists: whether there is one, and how many; and whether
 //! two lists are the same. Over plain bytes.
 
-ghost use Rattle.std.specs.Prelude.{◌≡◌, ◌↔◌, ◌+◌, ◌*◌, ◌<◌, ◌≤◌, ◌^◌, ℕ, false, IsTrue};
+ghost use Rattle.std.specs.Prelude.{◌≡◌, ◌↔◌, ◌+◌, ◌*◌, ◌<◌, ◌≤◌, ◌^◌, ℕ, false, IsTrue, length};
 ghost use Rattle.mask_bits.specs.Bitmap.{bitmap};
 ghost use Rattle.mask_bits.specs.Buffer.{IsWithinBytes};
 ghost use Rattle.mask_bits.specs.Combine.{IsNoneTrue};
@@ -9,7 +9,7 @@ ghost use Rattle.mask_bits.specs.Lists.{combined};
 ghost use Rattle.mask_bits.specs.Positions.{count, repeated};
 
 use crate::combine::{BitOp, Xor};
-use crate::read_word::{Bits, Covered, Neighbors, ReadWord, Whole};
+use crate::read_word::{Bits, Covered, Neighbors, ReadWord, Shifted, Whole};
 use crate::words::word_at;
 
 /// Whether the `len` bits of `a` from bit `a_offset` on are those of `b` from bit `b_offset` on.
@@ -60,7 +60,7 @@ fn none_in_words<C: BitOp>(
 {
     let (a, b) = (Bits::new(a, a_offset), Bits::new(b, b_offset));
     if a.low == 0 && b.low == 0 {
-        return none_in_blocks::<C, Whole>(a, b, words);
+        return none_in_blocks::<C, Whole, Whole>(a, b, words);
     }
     none_in_shifted_words::<C>(a, b, words)
 }
@@ -69,6 +69,7 @@ fn none_in_words<C: BitOp>(
 // inlined, so that the quicker case stays small.
 #[inline(never)]
 fn none_in_shifted_words<C: BitOp>(a: Bits<'_>, b: Bits<'_>, words: usize) -> bool
+    requires shifted { 0 < a.low + b.low }
     requires a_within { IsWithinBytes a.bytes.now a.low (64 * words) }
     requires b_within { IsWithinBytes b.bytes.now b.low (64 * words) }
     requires few_a { a.low < 8 }
@@ -77,7 +78,30 @@ fn none_in_shifted_words<C: BitOp>(a: Bits<'_>, b: Bits<'_>, words: usize) -> bo
         ↔ IsNoneTrue C.of_bits a.entry.bytes.now a.entry.low b.entry.bytes.now b.entry.low (64 * words) }
 {
     let inner = a.neighbors().min(b.neighbors()).min(words);
-    none_in_blocks::<C, Neighbors>(a, b, inner) && none_in_block::<C, Covered>(a, b, inner, words)
+    none_in_inner_words::<C>(a, b, inner)
+        && none_in_block::<C, Covered, Covered>(a, b, inner, words)
+}
+
+// Whether none is true that `C` makes of words beside which there is another one. Each list is read in
+// its own way.
+#[inline]
+fn none_in_inner_words<C: BitOp>(a: Bits<'_>, b: Bits<'_>, words: usize) -> bool
+    requires shifted { 0 < a.low + b.low }
+    requires a_goes_on { (i : ℕ) → i < words → 8 * i + 16 ≤ length a.bytes.now }
+    requires b_goes_on { (i : ℕ) → i < words → 8 * i + 16 ≤ length b.bytes.now }
+    requires few_a { a.low < 8 }
+    requires few_b { b.low < 8 }
+    requires fits { 64 * words < 2 ^ 64 }
+    ensures { IsTrue result
+        ↔ IsNoneTrue C.of_bits a.entry.bytes.now a.entry.low b.entry.bytes.now b.entry.low (64 * words) }
+{
+    if a.low == 0 {
+        none_in_blocks::<C, Whole, Shifted>(a, b, words)
+    } else if b.low == 0 {
+        none_in_blocks::<C, Shifted, Whole>(a, b, words)
+    } else {
+        none_in_blocks::<C, Shifted, Shifted>(a, b, words)
+    }
 }
 
 // How many words are looked at before an early return.
@@ -85,9 +109,13 @@ const BLOCK: usize = 32;
 
 // Whether none is true that `C` makes of the first words.
 #[inline]
-fn none_in_blocks<C: BitOp, R: ReadWord>(a: Bits<'_>, b: Bits<'_>, words: usize) -> bool
-    requires reads_a { (i : ℕ) → i < words → R.can_read a.bytes.now a.low i }
-    requires reads_b { (i : ℕ) → i < words → R.can_read b.bytes.now b.low i }
+fn none_in_blocks<C: BitOp, A: ReadWord, B: ReadWord>(
+    a: Bits<'_>,
+    b: Bits<'_>,
+    words: usize,
+) -> bool
+    requires reads_a { (i : ℕ) → i < words → A.can_read a.bytes.now a.low i }
+    requires reads_b { (i : ℕ) → i < words → B.can_read b.bytes.now b.low i }
     requires fits { 64 * words < 2 ^ 64 }
     ensures { IsTrue result
         ↔ IsNoneTrue C.of_bits a.entry.bytes.now a.entry.low b.entry.bytes.now b.entry.low (64 * words) }
@@ -95,19 +123,24 @@ fn none_in_blocks<C: BitOp, R: ReadWord>(a: Bits<'_>, b: Bits<'_>, words: usize)
     let blocks = words / BLOCK;
     // whole blocks, so that each is a few vectors and no loop
     for k in 0..blocks {
-        if !none_in_block::<C, R>(a, b, BLOCK * k, BLOCK * k + BLOCK) {
+        if !none_in_block::<C, A, B>(a, b, BLOCK * k, BLOCK * k + BLOCK) {
             return false;
         }
     }
-    none_in_block::<C, R>(a, b, BLOCK * blocks, words)
+    none_in_block::<C, A, B>(a, b, BLOCK * blocks, words)
 }
 
 // Whether there is none up to word `to`, where there is none before word `from`. With no early return, so
 // that several words are looked at at once: the true values of all are gathered, and tested at the end.
 #[inline]
-fn none_in_block<C: BitOp, R: ReadWord>(a: Bits<'_>, b: Bits<'_>, from: usize, to: usize) -> bool
-    requires reads_a { (i : ℕ) → i < to → R.can_read a.bytes.now a.low i }
-    requires reads_b { (i : ℕ) → i < to → R.can_read b.bytes.now b.low i }
+fn none_in_block<C: BitOp, A: ReadWord, B: ReadWord>(
+    a: Bits<'_>,
+    b: Bits<'_>,
+    from: usize,
+    to: usize,
+) -> bool
+    requires reads_a { (i : ℕ) → i < to → A.can_read a.bytes.now a.low i }
+    requires reads_b { (i : ℕ) → i < to → B.can_read b.bytes.now b.low i }
     requires ordered { from ≤ to }
     requires before { IsNoneTrue C.of_bits a.bytes.now a.low b.bytes.now b.low (64 * from) }
     ensures { IsTrue result
@@ -115,7 +148,7 @@ fn none_in_block<C: BitOp, R: ReadWord>(a: Bits<'_>, b: Bits<'_>, from: usize, t
 {
     let mut found = 0;
     for i in from..to {
-        found |= C::of(R::word(a, i), R::word(b, i));
+        found |= C::of(A::word(a, i), B::word(b, i));
     }
     found == 0
 }
@@ -166,24 +199,46 @@ fn count_in_words<C: BitOp>(
 {
     let (a, b) = (Bits::new(a, a_offset), Bits::new(b, b_offset));
     if a.low == 0 && b.low == 0 {
-        return count_on::<C, Whole>(a, b, 0, words, 0);
+        return count_on::<C, Whole, Whole>(a, b, 0, words, 0);
     }
     let inner = a.neighbors().min(b.neighbors()).min(words);
-    let first = count_on::<C, Neighbors>(a, b, 0, inner, 0);
-    count_on::<C, Covered>(a, b, inner, words, first)
+    let first = count_in_inner_words::<C>(a, b, inner);
+    count_on::<C, Covered, Covered>(a, b, inner, words, first)
+}
+
+// How many are true that `C` makes of words beside which there is another one. Each list is read in its
+// own way.
+fn count_in_inner_words<C: BitOp>(a: Bits<'_>, b: Bits<'_>, words: usize) -> usize
+    requires shifted { 0 < a.low + b.low }
+    requires a_goes_on { (i : ℕ) → i < words → 8 * i + 16 ≤ length a.bytes.now }
+    requires b_goes_on { (i : ℕ) → i < words → 8 * i + 16 ≤ length b.bytes.now }
+    requires few_a { a.low < 8 }
+    requires few_b { b.low < 8 }
+    requires fits { 64 * words < 2 ^ 64 }
+    ensures { result ≡ count (combined C.of_bits
+        (bitmap a.entry.bytes.now a.entry.low (64 * words))
+        (bitmap b.entry.bytes.now b.entry.low (64 * words))) }
+{
+    if a.low == 0 {
+        count_on::<C, Whole, Neighbors>(a, b, 0, words, 0)
+    } else if b.low == 0 {
+        count_on::<C, Neighbors, Whole>(a, b, 0, words, 0)
+    } else {
+        count_on::<C, Neighbors, Neighbors>(a, b, 0, words, 0)
+    }
 }
 
 // How many are true up to word `to`, where `before` are before word `from`.
 #[inline]
-fn count_on<C: BitOp, R: ReadWord>(
+fn count_on<C: BitOp, A: ReadWord, B: ReadWord>(
     a: Bits<'_>,
     b: Bits<'_>,
     from: usize,
     to: usize,
     before: usize,
 ) -> usize
-    requires reads_a { (i : ℕ) → i < to → R.can_read a.bytes.now a.low i }
-    requires reads_b { (i : ℕ) → i < to → R.can_read b.bytes.now b.low i }
+    requires reads_a { (i : ℕ) → i < to → A.can_read a.bytes.now a.low i }
+    requires reads_b { (i : ℕ) → i < to → B.can_read b.bytes.now b.low i }
     requires ordered { from ≤ to }
     requires fits { 64 * to < 2 ^ 64 }
     requires counted { before ≡ count (combined C.of_bits
@@ -195,7 +250,7 @@ fn count_on<C: BitOp, R: ReadWord>(
 {
     let mut count = before;
     for i in from..to {
-        count += C::of(R::word(a, i), R::word(b, i)).count_ones() as usize;
+        count += C::of(A::word(a, i), B::word(b, i)).count_ones() as usize;
     }
     count
 }

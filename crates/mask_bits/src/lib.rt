@@ -6,7 +6,8 @@ mod bitops;
 pub mod bools;
 mod buffer;
 mod buffer_mut;
-mod choose_values;
+pub mod byte_places;
+pub mod choose_values;
 mod chunks;
 pub mod combine;
 pub mod compare;
@@ -19,6 +20,7 @@ mod read_word;
 mod scan;
 mod set_indices;
 mod set_slices;
+mod word_indices;
 pub mod words;
 pub mod write_bits;
 

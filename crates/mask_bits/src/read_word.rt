@@ -3,10 +3,10 @@
 //! A loop that is generic over the way compiles to one that tests nothing per word.
 
 ghost use Rattle.std.specs.Prelude.{◌≡◌, ◌≤◌, ◌+◌, ◌-◌, ◌*◌, ◌/◌, ◌%◌, length, drop};
-ghost use Rattle.mask_bits.specs.Combine.{IsWholeWord, IsInTwoWords, IsCovered, HasPlace};
+ghost use Rattle.mask_bits.specs.Combine.{IsWholeWord, IsInTwoWords, IsShifted, IsCovered, HasPlace};
 ghost use Rattle.mask_bits.specs.Words.{window, word_bits};
 
-use crate::words::{funnel_shift, word_at, word_of};
+use crate::words::{funnel_shift, funnel_shift_inside, word_at, word_of};
 
 /// A list that begins at bit `low` of the first of these bytes.
 #[derive(Clone, Copy)]
@@ -53,9 +53,14 @@ pub(crate) trait ReadWord {
 #[derive(Drop)]
 pub(crate) struct Whole;
 
-/// Words that lie in two neighbors of the bytes.
+/// Words that lie in two neighbors of the bytes. A loop that counts is put into vectors with the two
+/// shifts that this takes of the next word, and isn't with the one of `Shifted`.
 #[derive(Drop)]
 pub(crate) struct Neighbors;
+
+/// The same of a list that doesn't begin at a whole byte.
+#[derive(Drop)]
+pub(crate) struct Shifted;
 
 /// Words of which the bytes have all bits.
 #[derive(Drop)]
@@ -84,6 +89,16 @@ impl ReadWord for Neighbors {
     }
 }
 
+impl ReadWord for Shifted {
+    ghost can_read = { IsShifted };
+
+    #[tactic(auto, using(crate::proofs::CombineLemmas::window_of_two))]
+    #[inline]
+    fn word(bits: Bits<'_>, i: usize) -> u64 {
+        funnel_shift_inside(word_of(bits.bytes, i), word_of(bits.bytes, i + 1), bits.low)
+    }
+}
+
 impl ReadWord for Covered {
     ghost can_read = { IsCovered };
 
@@ -96,7 +111,7 @@ impl ReadWord for Covered {
         if bits.low == 0 {
             word
         } else {
-            funnel_shift(word, bits.bytes[8 * i + 8] as u64, bits.low)
+            funnel_shift_inside(word, bits.bytes[8 * i + 8] as u64, bits.low)
         }
     }
 }

@@ -60,6 +60,17 @@ pub fn funnel_shift(word: u64, next: u64, low: u32) -> u64
     (word >> low) | ((next << 1) << (63 - low))
 }
 
+// The same from a bit on that isn't the first, by a shift less.
+#[tactic(auto, using(crate::proofs::Lists::Words::ShiftLemmas::words_cut))]
+#[inline]
+pub(crate) fn funnel_shift_inside(word: u64, next: u64, low: u32) -> u64
+    requires some { 0 < low }
+    requires few { low < 64 }
+    ensures { word_bits result ≡ slice_range (word_bits word ++ word_bits next) low (low + 64) }
+{
+    (word >> low) | (next << (64 - low))
+}
+
 /// The 64 bits from bit `position` on, wherever that is; those past the last byte are 0.
 #[tactic(auto, using(crate::proofs::WindowLemmas::window_words))]
 #[inline]

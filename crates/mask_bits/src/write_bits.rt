@@ -8,7 +8,8 @@ ghost use Rattle.mask_bits.specs.BufferMut.{IsWrittenBehind, AreClearFrom};
 ghost use Rattle.mask_bits.specs.Positions.{repeated, count};
 ghost use Rattle.mask_bits.specs.Words.{word_bits};
 
-use crate::words::{funnel_shift, low_bits, set_word, word_at, word_of};
+use crate::read_word::{Bits, ReadWord, Shifted, Whole};
+use crate::words::{low_bits, set_word, word_at, word_of};
 
 /// Sets the bit at one position and no other.
 pub fn set_bit(bytes: &mut [u8], position: usize)
@@ -107,7 +108,7 @@ pub(crate) fn put_bits(bytes: &mut [u8], at: usize, from: &[u8], offset: usize, 
     put_windows(bytes, at, from, offset, room);
     // beside each of these words the source goes on for another
     let words = (n - room) / 64 - 1;
-    put_shifted(bytes, at / 64 + 1, from, offset + room, words);
+    put_whole(bytes, at / 64 + 1, from, offset + room, words);
     let done = room + 64 * words;
     put_windows(bytes, at + done, from, offset + done, n - done);
 }
@@ -130,17 +131,31 @@ fn put_windows(bytes: &mut [u8], at: usize, from: &[u8], offset: usize, n: usize
 }
 
 // Writes whole words of `from`, from bit `offset` on, as the words from `first` on.
-fn put_shifted(bytes: &mut [u8], first: usize, from: &[u8], offset: usize, words: usize)
+#[tactic(auto, using(crate::proofs::WriteLemmas::from_byte))]
+fn put_whole(bytes: &mut [u8], first: usize, from: &[u8], offset: usize, words: usize)
     requires room { 8 * (first + words) ≤ length bytes.old }
     requires source { IsWithinBytes from.now offset (64 * words + 64) }
     requires clear { AreClearFrom (64 * first) bytes.old }
     ensures { IsWrittenBehind bytes.old bytes.new (64 * first)
         (bitmap from.now offset (64 * words)) }
 {
-    let part = &from[offset / 8..];
-    let low = (offset % 8) as u32;
+    let from = Bits::new(from, offset);
+    if from.low == 0 {
+        put_words::<Whole>(bytes, first, from, words);
+    } else {
+        put_words::<Shifted>(bytes, first, from, words);
+    }
+}
+
+// Writes the first words of a list as the words from `first` on.
+fn put_words<R: ReadWord>(bytes: &mut [u8], first: usize, from: Bits<'_>, words: usize)
+    requires reads { (i : ℕ) → i < words → R.can_read from.bytes.now from.low i }
+    requires room { 8 * (first + words) ≤ length bytes.old }
+    requires clear { AreClearFrom (64 * first) bytes.old }
+    ensures { IsWrittenBehind bytes.old bytes.new (64 * first)
+        (bitmap from.entry.bytes.now from.entry.low (64 * words)) }
+{
     for i in 0..words {
-        let word = funnel_shift(word_of(part, i), word_of(part, i + 1), low);
-        set_word(bytes, first + i, word);
+        set_word(bytes, first + i, R::word(from, i));
     }
 }

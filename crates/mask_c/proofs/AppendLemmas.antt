@@ -49,9 +49,6 @@ begun-clear byte low word count j few h =
     ap (λ n. bit_at (bit_and both (n - 1)) j) (one_shl (low + count) 64 (omega arith)) ∙ bit_at-past_mask both (low + count) j h
 
 -- no values
-pub no_values : (bytes : List ℕ) (p : ℕ) → bitmap bytes p 0 ≡ []
-no_values bytes p = nil_from_length (bitmap bytes p 0) (length-bitmap bytes p 0)
-
 -- the values once it stands in the place of the last byte
 pub filled-values : (bytes more : List ℕ) (len offset n word x : ℕ) → (len % 8 ≡ 0 → ⊥) → len % 8 + n ≤ 8 → len / 8 < length bytes → word_bits word ≡ window more offset
     → ((j : ℕ) → j < len % 8 → bit_at x j ≡ bit_at (get_or bytes (len / 8) 0) j) → ((j : ℕ) → j < n → bit_at x (len % 8 + j) ≡ bit_at word j)

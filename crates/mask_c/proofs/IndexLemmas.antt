@@ -1,5 +1,5 @@
 -- The indices of true values from an index on, one started word after another, as many as there is room for.
-use Rattle.std.proofs.Common.{◌≡◌, ℕ, ◌+◌, ◌-◌, ◌*◌, ◌^◌, ◌<◌, ◌≤◌, ◌⊎◌, Bool, List, [], ◌++◌, length, take, drop, map, min, refl, sym, ap, ◌∙◌, add-zero, add_assoc, append-nil, arith}
+use Rattle.std.proofs.Common.{◌≡◌, ℕ, ◌+◌, ◌-◌, ◌*◌, ◌^◌, ◌<◌, ◌≤◌, ◌⊎◌, Bool, List, [], ◌++◌, length, take, drop, map, min, slice_range, refl, sym, ap, ◌∙◌, add-zero, add_assoc, append-nil, arith}
 use Rattle.std.specs.List.{All}
 use Rattle.std.proofs.lemmas.Bool.{cases_lt}
 use Rattle.std.proofs.lemmas.List.{length-drop, length-map, length-take, map-append, take-append-drop, take-append-le, take_all, take_at}
@@ -10,6 +10,7 @@ use Rattle.mask_bits.specs.Positions.{count, indices_from, positions}
 use Rattle.mask_bits.specs.Words.{padded_part, word_bits}
 use Rattle.mask_bits.proofs.Lists.Words.BackingBitLemmas.{length-bitmap}
 use Rattle.mask_bits.proofs.Lists.Places.SelectLemmas.{count-word_more, indices_from-append, indices_from-moved}
+use Rattle.mask_bits.proofs.Lists.Words.BlockLemmas.{block-more}
 use Rattle.mask_c.proofs.BitmapLemmas.{bitmap-part}
 use Rattle.mask_c.proofs.ChooseLemmas.{part-within, positions-word_more}
 
@@ -79,3 +80,18 @@ word_done m from i at next w n out new within read before after = grind (arith, 
 pub word_counted : (m : List Bool) (i at next w n : ℕ) → word_bits w ≡ padded_part m i → at ≡ min n (count (take (64 * i) m))
     → next ≡ min n (at + count (word_bits w)) → next ≡ min n (count (take (64 * (i + 1)) m))
 word_counted m i at next w n read before after = omega (arith, ap count read, count-word_more m i)
+
+-- ---- one more block
+
+pub block_done : (m bits : List Bool) (from i : ℕ) (old new : List ℕ) → 256 * i + 256 ≤ length m → bits ≡ slice_range m (256 * i) (256 * i + 256)
+    → old ≡ map (λ p. from + p) (positions (take (256 * i) m)) → new ≡ old ++ indices_from (from + 256 * i) bits
+    → new ≡ map (λ p. from + p) (positions (take (256 * (i + 1)) m))
+block_done m bits from i old new within is before after =
+    let front : List ℕ = positions (take (256 * i) m) in
+    let start : 256 * i ≡ 64 * (4 * i) = omega arith in
+    after
+    ∙ ap (λ (xs : List ℕ). xs ++ indices_from (from + 256 * i) bits) before
+    ∙ ap (λ n. map (λ p. from + p) front ++ indices_from (from + n) bits) start
+    ∙ ap (λ (xs : List ℕ). map (λ p. from + p) front ++ xs) (indices_from-moved from (64 * (4 * i)) bits)
+    ∙ sym (map-append (λ p. from + p) front (indices_from (64 * (4 * i)) bits))
+    ∙ ap (map (λ p. from + p)) (sym (block-more m bits i within is))

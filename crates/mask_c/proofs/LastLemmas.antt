@@ -21,8 +21,8 @@ use Rattle.mask_bits.proofs.Lists.Words.PaddedLemmas.{get_or-padded_part, padded
 use Rattle.mask_bits.proofs.Lists.Words.ShiftLemmas.{bit_at-low_mask, bit_at-past_mask}
 use Rattle.mask_bits.proofs.Lists.Words.WordLemmas.{get_or-word_bits, length-word_bits}
 use Rattle.mask_bits.proofs.Lists.RankLemmas.{narrow, rank_intersection-all_true, rank_intersection-narrow}
-use Rattle.mask_bits.proofs.Lists.Words.BackingBitLemmas.{bitmap-append, length-bitmap, get_or-bitmap}
-use Rattle.mask_bits.proofs.Lists.Words.FrontLemmas.{length-window, front-same, get_or-put_mid_below, get_or-put_mid_inside, get_or-window, window_from_bits, window-take}
+use Rattle.mask_bits.proofs.Lists.Words.BackingBitLemmas.{bitmap-append, bitmap-split, front-split, get_or-bitmap, length-bitmap}
+use Rattle.mask_bits.proofs.Lists.Words.FrontLemmas.{length-window, front-same, get_or-put_mid_inside, get_or-window, window_from_bits, window-take}
 use Rattle.vortex_mask.proofs.Lists.StartedWordLemmas.{list-from_bits}
 use Rattle.mask_c.specs.Bitmap.{AreClearBehind}
 use borrow.Rule.Slice.PartMut.{put_mid}
@@ -66,12 +66,6 @@ put-bit old last ys w e j begins len from to is few =
     ∙ ap (λ (xs : List ℕ). get_or xs (j / 8) 0) is ∙ get_or-take (e - 8 * w) last (j / 8) 0 (omega arith) in
     let place : j ≡ 0 + j = omega arith in
     ap₂ (λ x k. nat_eq (bit_at x k) 1) byte bit ∙ ap (backing_bit last) place ∙ sym (get_or-window last 0 j false (omega arith))
-
--- the values before them
-pub put-before : (old ys : List ℕ) (w k : ℕ) → 8 * w ≤ length old → bitmap (put_mid (8 * w) k old ys) 0 (64 * w) ≡ bitmap old 0 (64 * w)
-put-before old ys w k begins =
-    front-same old (put_mid (8 * w) k old ys) (64 * w) (λ p h.
-    ap (λ x. nat_eq (bit_at x (p % 8)) 1) (get_or-put_mid_below (8 * w) k old ys (p / 8) begins (omega arith)))
 
 -- these values
 pub put-list : (old last ys : List ℕ) (m cut : List Bool) (w e rest : ℕ) → 8 * w ≤ length old → length last ≡ 8 → 8 * w ≤ e → e ≤ 8 * w + 8 → ys ≡ take (e - 8 * w) last
@@ -141,18 +135,6 @@ cleared-clear bytes n part room = λ p from to.
     ∙ ap (λ z. nat_eq z 1) (bit_at-past_mask x (n % 8) (p % 8) (omega arith))
 
 -- ---- lists of two parts
-
--- the values of whole words, and those past them
-pub bitmap-split : (bytes : List ℕ) (offset len : ℕ)
-    → bitmap bytes offset len ≡ bitmap bytes offset (64 * (len / 64)) ++ bitmap bytes (offset + 64 * (len / 64)) (len % 64)
-bitmap-split bytes offset len =
-    let parts : len ≡ 64 * (len / 64) + len % 64 = omega arith in
-    ap (bitmap bytes offset) parts ∙ bitmap-append bytes offset (64 * (len / 64)) (len % 64)
-
-pub front-split : (bytes : List ℕ) (len : ℕ) → bitmap bytes 0 len ≡ bitmap bytes 0 (64 * (len / 64)) ++ bitmap bytes (64 * (len / 64)) (len % 64)
-front-split bytes len =
-    let place : 0 + 64 * (len / 64) ≡ 64 * (len / 64) = omega arith in
-    bitmap-split bytes 0 len ∙ ap (λ p. bitmap bytes 0 (64 * (len / 64)) ++ bitmap bytes p (len % 64)) place
 
 narrow-append : (a c b d : List Bool) → length b ≡ trues a → narrow (a ++ c) (b ++ d) ≡ narrow a b ++ narrow c d
 narrow-append [] c [] d len = refl

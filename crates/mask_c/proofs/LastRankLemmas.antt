@@ -14,12 +14,12 @@ use Rattle.mask_bits.specs.Positions.{at_indices, count, positions, rank_interse
 use Rattle.mask_bits.specs.Words.{word_bits}
 use Rattle.mask_bits.proofs.Lists.BooleanValueLemmas.{value_of_true_at}
 use Rattle.mask_bits.proofs.Lists.RankLemmas.{length-true_at}
-use Rattle.mask_bits.proofs.Lists.Words.BackingBitLemmas.{length-bitmap}
+use Rattle.mask_bits.proofs.Lists.Words.BackingBitLemmas.{bitmap-split, front-split, length-bitmap}
 use Rattle.mask_bits.proofs.Lists.Words.ShiftLemmas.{get_or-word_bits_or}
 use Rattle.mask_bits.proofs.Lists.Words.WordLemmas.{get_or-word_bits}
 use Rattle.vortex_mask.specs.Ranks.{AreSplit}
 use Rattle.vortex_mask.proofs.Lists.PlaceListLemmas.{ascending-take, bit_of_pow, narrowed_at, none-is, rises-to}
-use Rattle.mask_c.proofs.LastLemmas.{bitmap-split, count-split, front-appended, front-split, rank_intersection-append}
+use Rattle.mask_c.proofs.LastLemmas.{count-split, front-appended, rank_intersection-append}
 
 -- the ranks from number `cut` on are at least `from`, and are the set bits of a word
 pub record AreGathered (ranks : List ℕ) (from cut bits : ℕ) : Type 0 where

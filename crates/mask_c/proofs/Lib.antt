@@ -1,6 +1,5 @@
 mod AppendLemmas
 mod BitmapLemmas
-mod ChooseBitsLemmas
 mod ChooseLemmas
 mod ChosenStringLemmas
 mod Examples

@@ -102,10 +102,6 @@ behind-step xs old at k x same =
     drop-set-lt (at + (k + 1)) xs (at + k) x (omega arith)
     ∙ ap (λ n. drop n xs) (sym next) ∙ sym (drop-drop 1 (at + k) xs) ∙ ap (drop 1) same ∙ drop-drop 1 (at + k) old ∙ ap (λ n. drop n old) next
 
--- what is behind more of them is as it was too
-pub behind-further : (xs old : List ℕ) (at k : ℕ) → drop at xs ≡ drop at old → drop (at + k) xs ≡ drop (at + k) old
-behind-further xs old at k same = sym (drop-drop k at xs) ∙ ap (drop k) same ∙ drop-drop k at old
-
 -- ---- words
 
 -- the offsets of one more word
@@ -171,12 +167,6 @@ bytes-step bytes front new its begin from to first second so_far =
 -- the bytes of one more word
 pub bytes-word : (xss : List (List ℕ)) (ps front here : List ℕ) → ps ≡ front ++ here → concat (items_at xss front) ++ concat (items_at xss here) ≡ concat (items_at xss ps)
 bytes-word xss ps front here is = sym (ap concat (items_at-append xss ps front here is) ∙ concat-append (items_at xss front) (items_at xss here))
-
--- a later place, behind which all is as it was
-pub behind-later : (xs old : List ℕ) (at later : ℕ) → at ≤ later → drop at xs ≡ drop at old → drop later xs ≡ drop later old
-behind-later xs old at later after same =
-    let place : at + (later - at) ≡ later = omega arith in
-    subst (λ n. drop n xs ≡ drop n old) place (behind-further xs old at (later - at) same)
 
 -- ---- no more than all
 

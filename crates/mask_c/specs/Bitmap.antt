@@ -1,10 +1,9 @@
 -- Bitmaps that C passes: what is written into their bytes, whether one has all true values of another, and the rows that one chooses.
-use Rattle.std.specs.Prelude.{ℕ, ◌*◌, ◌/◌, ◌%◌, ◌<◌, ◌≤◌, ◌≡◌, ◌⊎◌, ◌++◌, Bool, true, false, List, length, slice_index_or, take}
+use Rattle.std.specs.Prelude.{ℕ, ◌*◌, ◌<◌, ◌≤◌, ◌≡◌, ◌⊎◌, Bool, true, false, List, length, slice_index_or, take}
 use Rattle.std.specs.Int.{div_ceil}
 use Rattle.mask_bits.specs.Bitmap.{bitmap}
 use Rattle.mask_bits.specs.Buffer.{backing_bit, IsWithinBytes}
 use Rattle.mask_bits.specs.Positions.{chosen, count}
-use Rattle.mask_bits.specs.Words.{word_bits}
 
 -- in the bytes that n values take from bit 0 on, the bits behind the last value are clear
 abbrev pub AreClearBehind : List ℕ → ℕ → Type 0
@@ -18,10 +17,6 @@ IsSubset a b = (i : ℕ) → i < length a → slice_index_or a i false ≡ true 
 pub record IsFilled (old new : List ℕ) (m n : ℕ) (value : Bool) : Type 0 where
   pub inside : (p : ℕ) → m ≤ p → p < n → backing_bit new p ≡ value
   pub outside : (p : ℕ) → ((p < m) ⊎ (n ≤ p)) → backing_bit new p ≡ backing_bit old p
-
--- the first n values of a list that is being written: those of the whole words are there, and the others are the lowest bits of a word
-abbrev pub values_so_far : List ℕ → ℕ → ℕ → List Bool
-values_so_far bytes begun n = bitmap bytes 0 (64 * (n / 64)) ++ take (n % 64) (word_bits begun)
 
 -- there is a row for each value, and room for those that are chosen
 pub record CanChoose {T : Type 0} (bytes : List ℕ) (offset len : ℕ) (rows out : List T) : Type 0 where

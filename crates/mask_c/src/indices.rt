@@ -6,6 +6,7 @@ ghost use Rattle.mask_bits.specs.Buffer.{IsWithinBytes, backing_bit};
 ghost use Rattle.mask_bits.specs.Positions.{IsFirstFrom, count, indices_from, positions};
 ghost use Rattle.mask_bits.specs.Words.{started_words, word_bits};
 
+use crate::put_indices::{SPARE, block, ones_in, put_block};
 use mask_bits::BitChunks;
 
 /// The index of true value number `n`, counted from 0, and `len` where there is none.
@@ -42,7 +43,8 @@ pub extern "C" fn row_mask_last_index(bytes: &[u8], offset: usize, len: usize) -
 
 /// Writes the indices of the true values from `from` on, ascending, to the front of `out`, as many as
 /// there are or as it takes, and answers how many these are: none from past the end. So a walk over all
-/// goes on from one past the last, until fewer come than `out` takes.
+/// goes on from one past the last, until fewer come than `out` takes. Behind them `out` may have other
+/// numbers than before.
 #[unsafe(no_mangle)]
 pub extern "C" fn row_mask_next_indices(
     bytes: &[u8],
@@ -63,7 +65,8 @@ pub extern "C" fn row_mask_next_indices(
     indices_of_words(bytes, offset, len, from, out)
 }
 
-// Writes the indices of the true values from an index on, word by word.
+// Writes the indices of the true values from an index on: by blocks as long as there is room to spare, and
+// then word by word.
 #[inline]
 fn indices_of_words(
     bytes: &[u8],
@@ -80,14 +83,46 @@ fn indices_of_words(
         (count (drop from (bitmap bytes.now offset len))) }
 {
     let chunks = BitChunks::new(bytes, offset + from, len - from);
-    let mut at = 0;
-    for i in 0..chunks.started_words() {
+    let (first, written) = indices_of_blocks(&chunks, from, out);
+    let mut at = written;
+    for i in first..chunks.started_words() {
         at = indices_of_word(chunks.started_word(i), from + 64 * i, out, at);
         if at == out.len() {
             return at;
         }
     }
     at
+}
+
+// Room for the indices of any word and for some to spare.
+const LEAST_ROOM: usize = 64 + SPARE;
+
+// Writes those of the first blocks of four words, as many as there is room for, where the first value has
+// the index `from`. Answers the number of the first word behind them, and how many indices there are.
+#[inline]
+fn indices_of_blocks(chunks: &BitChunks, from: usize, out: &mut [usize]) -> (usize, usize)
+    requires fits { from + length chunks.now < 2 ^ 64 }
+    ensures words { 64 * result.0 ≤ length chunks.now }
+    ensures indices { take result.1 out.new
+        ≡ map (λ p. from + p) (positions (take (64 * result.0) chunks.now)) }
+    ensures count { result.1 ≡ count (take (64 * result.0) chunks.now) }
+    ensures room { result.1 ≤ length out.old }
+{
+    let blocks = chunks.len() / 4;
+    let mut at = 0;
+    for i in 0..blocks {
+        // little room is not worth the look at a block
+        if out.len() - at < LEAST_ROOM {
+            return (4 * i, at);
+        }
+        let words = block(chunks, i);
+        let ones = ones_in(&words);
+        if out.len() - at < ones + SPARE {
+            return (4 * i, at);
+        }
+        at = put_block(&words, ones, from + 256 * i, out, at);
+    }
+    (4 * blocks, at)
 }
 
 // Writes `first` and the indices of the set bits of a word from there on behind the first `at` indices,

@@ -17,6 +17,7 @@ mod intersect;
 mod last;
 mod offsets;
 mod pointwise;
+mod put_indices;
 mod rank_words;
 mod runs;
 mod strings;

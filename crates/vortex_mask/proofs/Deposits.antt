@@ -5,6 +5,8 @@ pub mod DepositLawLemmas
 pub mod DepositLemmas
 pub mod HoleLemmas
 pub mod LaneLemmas
+pub mod LastByteLemmas
 pub mod NetworkLemmas
 pub mod NibbleLemmas
+pub mod SelectionLemmas
 pub mod SetPlaceLemmas

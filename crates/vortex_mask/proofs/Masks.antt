@@ -10,4 +10,5 @@ pub mod MaskLemmas
 pub mod MaskWalkLemmas
 pub mod MergeLemmas
 pub mod ReadingLemmas
+pub mod SetRangeLemmas
 pub mod SoundRangeLemmas

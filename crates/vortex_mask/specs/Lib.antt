@@ -16,6 +16,7 @@ pub mod Path
 pub mod PushRows
 pub mod Ranges
 pub mod Ranks
+pub mod SetRanges
 pub mod Steps
 pub mod Text
 pub use Rattle.mask_bits.specs.Buffer

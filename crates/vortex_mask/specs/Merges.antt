@@ -1,5 +1,6 @@
--- Merges of two ascending lists. No public clause cites these terms.
+-- Merges of two ascending lists, each into the first of them. No public clause cites these terms.
 use Rattle.std.specs.Prelude.{ℕ, ◌≡◌, ◌≤◌, List, ◌++◌, length, take, drop}
+use Rattle.std.specs.List.Sorted.{IsStrictlyIncreasing}
 use Rattle.vortex_mask.specs.Faults.{common}
 
 -- the first n of `both` are the indices that the lists have in common, and none is left over
@@ -7,10 +8,13 @@ pub record IsFound (lhs rhs both : List ℕ) (n : ℕ) : Type 0 where
   pub within : n ≤ length both
   pub found : take n both ≡ common lhs rhs
 
--- the first n of `both` are in common before place i of the one list and place j of the other, and the others are from there on
-pub record IsMerged (lhs rhs both : List ℕ) (i j n : ℕ) : Type 0 where
-  pub within_lhs : i ≤ length lhs
-  pub within_rhs : j ≤ length rhs
-  pub fewer_lhs : n ≤ i
-  pub fewer_rhs : n ≤ j
-  pub found : take n both ++ common (drop i lhs) (drop j rhs) ≡ common lhs rhs
+-- what a merge comes to that stands at place i of the list and place j of the other one, with n indices found
+abbrev pub comes_to : List ℕ → List ℕ → ℕ → ℕ → ℕ → List ℕ
+comes_to list other i j n = take n list ++ common (drop i list) (drop j other)
+
+-- a merge stands at place i of the list and place j of the other one, and those found lie before place i
+pub record IsUnderWay (list other : List ℕ) (i j n : ℕ) : Type 0 where
+  pub fewer : n ≤ i
+  pub within_list : i ≤ length list
+  pub within_other : j ≤ length other
+  pub ascending : IsStrictlyIncreasing (drop i list)

@@ -15,6 +15,7 @@ mod from_slices;
 mod iter;
 mod limit;
 mod push_rows;
+mod set_ranges;
 mod slice;
 mod values;
 

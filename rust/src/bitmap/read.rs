@@ -104,7 +104,8 @@ impl<'a> Bitmap<'a> {
     }
 
     /// Writes the indices of the true values from `from` on to the front of `out`, as many as there
-    /// are or as it takes, and answers how many these are.
+    /// are or as it takes, and answers how many these are. Behind them `out` may have other numbers
+    /// than before.
     pub fn next_indices(self, from: usize, out: &mut [usize]) -> usize {
         // SAFETY: as `call` says.
         unsafe { call!(row_mask_next_indices(self, from, out.as_mut_ptr(), out.len())) }

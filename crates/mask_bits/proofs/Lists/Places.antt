@@ -2,5 +2,6 @@
 pub mod AscendingLemmas
 pub mod IndexLemmas
 pub mod PlaceLemmas
+pub mod PushLemmas
 pub mod ScanLemmas
 pub mod SelectLemmas

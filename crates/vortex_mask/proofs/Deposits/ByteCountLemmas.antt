@@ -1,7 +1,7 @@
 -- The counts of set bits in each byte and below it, and what they say of places in the bytes.
-use Rattle.std.proofs.Common.{◌≡◌, ℕ, zero, suc, ◌+◌, ◌-◌, ◌*◌, ◌/◌, ◌%◌, ◌^◌, ◌<◌, ◌≤◌, inl, inr, sym, ap, ap₂, ◌∙◌, arith, bit_and, count_ones, add_comm, mod-lt, add-zero, min}
+use Rattle.std.proofs.Common.{◌≡◌, ℕ, zero, suc, ◌+◌, ◌*◌, ◌/◌, ◌%◌, ◌^◌, ◌<◌, ◌≤◌, inl, inr, sym, ap, ap₂, ◌∙◌, arith, count_ones, add_comm, mod-lt, add-zero, min}
 use Rattle.std.specs.Int.{bit_at}
-use Rattle.std.proofs.lemmas.Nat.{pow_pos, shr-shr, and_mask, one_shl, ones_cat, mod-pow-add}
+use Rattle.std.proofs.lemmas.Nat.{pow_pos, shr-shr, ones_cat, mod-pow-add}
 use Rattle.std.proofs.lemmas.Bool.{cases_lt}
 use Rattle.vortex_mask.specs.Bytes.{byte_at}
 use Rattle.mask_bits.proofs.Lists.Words.ShiftLemmas.{bit_at-mod}
@@ -9,7 +9,6 @@ use Rattle.mask_bits.proofs.Lists.Words.WordLemmas.{ones_below-more}
 use Rattle.vortex_mask.specs.Deposit.{Deposits}
 use Rattle.vortex_mask.proofs.Deposits.ByteLemmas.{byte_at-zero, byte_at-suc, byte_at_add, byte_at-low, bit_at_byte}
 use Rattle.vortex_mask.proofs.Deposits.DepositLemmas.{deposit, bit_at-deposit, Deposits-from_bits}
-use Rattle.vortex_mask.proofs.Deposits.NetworkLemmas.{same_below}
 use Rattle.vortex_mask.proofs.Deposits.SetPlaceLemmas.{ones_below, ones_below-zero, ones_below-le}
 
 -- ---- the set bits below byte j
@@ -57,7 +56,7 @@ summed_is x w (suc j) counts h i l =
 -- ---- a deposit by its bytes
 
 -- the set bits below place t of byte j
-ones_below-in_byte : (w j t : ℕ) → t ≤ 8 → ones_below w (8 * j + t) ≡ ones_below w (8 * j) + ones_below (byte_at w j) t
+pub ones_below-in_byte : (w j t : ℕ) → t ≤ 8 → ones_below w (8 * j + t) ≡ ones_below w (8 * j) + ones_below (byte_at w j) t
 ones_below-in_byte w j zero h = omega (arith, ap (ones_below w) (add-zero (8 * j)), ones_below-zero (byte_at w j))
 ones_below-in_byte w j (suc t) h =
     let e : 8 * j + suc t ≡ 8 * j + t + 1 = omega arith in
@@ -77,15 +76,3 @@ Deposits-from_bytes s m r h = Deposits-from_bits s m r (λ i inside.
     bit_at-mod (s / 2 ^ from) 8 n small ∙ ap (λ x. x % 2) (shr-shr s from n) ∙ ap (bit_at s) (sym (ones_below-in_byte m j t (omega arith)) ∙ ap (ones_below m) e) in
     ap (bit_at r) (sym e) ∙ bit_at_byte r j t (omega arith) ∙ ap (λ v. bit_at v t) (h j (omega arith)) ∙ bit_at-deposit 8 _ b t (omega arith)
     ∙ ap₂ min (sym (bit_at_byte m j t (omega arith)) ∙ ap (bit_at m) e) there)
-
--- ---- a selection by halves
-
--- what h halvings leave of 64 places, and the half of it
-pub halved : (h : ℕ) → h < 6 → (64 / 2 ^ h ≡ 2 * (32 / 2 ^ h)) × (64 / 2 ^ (h + 1) ≡ 32 / 2 ^ h)
-halved h l =
-    let e : h + 1 ≡ 1 + h = omega arith in
-    (same_below 6 (λ i. 64 / 2 ^ i) (λ i. 2 * (32 / 2 ^ i)) tt h l, ap (λ n. 64 / 2 ^ n) e ∙ sym (shr-shr 64 1 h))
-
--- the k lowest bits, as the code takes them
-pub lower_bits : (x k : ℕ) → k < 64 → bit_and x (1 * 2 ^ k % 2 ^ 64 - 1) ≡ x % 2 ^ k
-lower_bits x k h = ap (λ m. bit_and x (m - 1)) (one_shl k 64 h) ∙ and_mask x k

@@ -1,10 +1,9 @@
 -- The bytes of a word through each operation on it.
-use Rattle.std.proofs.Common.{◌≡◌, ℕ, zero, suc, ◌+◌, ◌-◌, ◌*◌, ◌/◌, ◌%◌, ◌^◌, ◌<◌, ◌≤◌, sym, ap, ap₂, ◌∙◌, arith, pow-suc}
-use Rattle.std.proofs.Math.Nat.{one-le-pow}
-use lib.Arith.{mod-mul}
+use Rattle.std.proofs.Common.{◌≡◌, ℕ, zero, suc, ◌+◌, ◌-◌, ◌*◌, ◌/◌, ◌%◌, ◌^◌, ◌<◌, ◌≤◌, sym, ap, ap₂, ◌∙◌, arith}
 use Rattle.std.specs.Int.{bit_at}
 use Rattle.std.proofs.lemmas.Nat.{shr-shr}
 use lib.Pow.{field, mod-mod-pow}
+use Rattle.mask_bits.proofs.Lists.Words.WideLaneLemmas.{low_split}
 use Rattle.vortex_mask.specs.Bytes.{byte_at}
 
 pub byte_at-lt : (w j : ℕ) → byte_at w j < 256
@@ -30,10 +29,6 @@ byte_at_add a b (suc j) h =
     byte_at-suc (a + b) j ∙ ap (λ x. byte_at x j) e
     ∙ byte_at_add (a / 256) (b / 256) j (λ i l. omega (arith, h (suc i) (omega arith), byte_at-suc a i, byte_at-suc b i))
     ∙ sym (ap₂ (λ x y. x + y) (byte_at-suc a j) (byte_at-suc b j))
-
--- the lowest digit of those that are kept
-pub low_split : (b k x : ℕ) → 0 < b → x % b ^ suc k ≡ x / b % b ^ k * b + x % b
-low_split b k x some = ap (λ y. x % y) (pow-suc b k) ∙ mod-mul x (one-le-pow k b some) some
 
 pub byte_at-low : (k x j : ℕ) → j < k → byte_at (x % 256 ^ k) j ≡ byte_at x j
 byte_at-low zero x j h = absurd (omega arith)

@@ -4,7 +4,7 @@ use Rattle.std.proofs.Math.Nat.{div-div-eq-div-mul}
 use Rattle.std.proofs.lemmas.Nat.{pow_pos, shr_split, pow_below, and_comm, and_mask, and-not, and_le_l, ones-le}
 use lib.Count.{ones_step}
 use lib.Pow.{mod-mod-pow}
-use Rattle.vortex_mask.proofs.Deposits.ByteLemmas.{low_split}
+use Rattle.mask_bits.proofs.Lists.Words.WideLaneLemmas.{low_split}
 use Rattle.vortex_mask.proofs.Deposits.NetworkLemmas.{deposit_alike}
 use Rattle.vortex_mask.proofs.Deposits.SetPlaceLemmas.{parity, cleared, lowest, lowest-odd, lowest-even, lowest_sum}
 use Rattle.vortex_mask.proofs.Deposits.DepositLemmas.{deposit, deposit-odd, deposit-even, left_of, none_left}

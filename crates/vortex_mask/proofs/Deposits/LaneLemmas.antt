@@ -1,7 +1,7 @@
 -- Vectors of the bytes of two words, lane by lane.
 use Rattle.std.proofs.Common.{◌≡◌, ℕ, zero, suc, ◌+◌, ◌-◌, ◌*◌, ◌/◌, ◌%◌, ◌^◌, ◌<◌, ◌≤◌, ◌⊎◌, inl, inr, List, [], ◌∷◌, length, get_or, refl, sym, ap, ap₂, subst, ◌∙◌, arith, w8, bit_and, Fits, count_ones, pow-add, pow-suc, map, replicate}
 use Rattle.std.specs.Simd.Lanes.{zip2, Each1, number_l, digits_l, chunk}
-use Rattle.std.proofs.lemmas.Simd.{length-swz_l, get_or-swz_l_below, swz_l, SwzOk, SwzOk-from_below, Each1-from_get_or, Each1-get_or, Each1-chunk, get_or-chunk, get_or_wider, get_or_narrower}
+use Rattle.std.proofs.lemmas.Simd.{swz_l, Each1-from_get_or, Each1-get_or, Each1-chunk, get_or-chunk, get_or_wider, get_or_narrower}
 use Rattle.std.proofs.lemmas.Nat.{shr-shr, shl-shr, and_mask, ones-le}
 use Rattle.std.proofs.lemmas.Bool.{cases_lt}
 use Rattle.std.proofs.Math.Nat.{zero-div}
@@ -10,32 +10,15 @@ use Rattle.mask_bits.specs.Lanes.{AreLanes}
 use Rattle.vortex_mask.specs.Bytes.{byte_at, EachLane, byte_of_two, landed_in}
 use Rattle.vortex_mask.proofs.Deposits.ByteCountLemmas.{summed, ones_below-byte, Deposits-from_bytes}
 use Rattle.vortex_mask.proofs.Deposits.ByteLemmas.{byte_at-lt, byte_at-zero, byte_at-suc}
-use Rattle.vortex_mask.proofs.Deposits.NetworkLemmas.{deposit_alike, landed_in-lt, same_below}
-use Rattle.mask_bits.proofs.Lists.Words.LaneLemmas.{AreLanes-itself, AreLanes-map, AreLanes-zip2, AreLanes-splat, AreLanes-same}
+use Rattle.mask_bits.proofs.Lists.Words.TableLemmas.{same_below}
+use Rattle.vortex_mask.proofs.Deposits.NetworkLemmas.{deposit_alike, landed_in-lt}
+use Rattle.mask_bits.proofs.Lists.Words.LaneLemmas.{AreLanes-itself, AreLanes-map, AreLanes-swz_l, AreLanes-zip2, AreLanes-splat, AreLanes-same}
 use Rattle.vortex_mask.proofs.Deposits.DepositLemmas.{deposit}
 use Rattle.vortex_mask.proofs.Deposits.SetPlaceLemmas.{ones_below, ones_below-le}
 use Rattle.vortex_mask.specs.Deposit.{Deposits}
 
 pub EachLane-fits : (v : List ℕ) → length v ≡ 16 → Each1 (Fits w8) v → EachLane (λ j. get_or v j 0 < 256)
 EachLane-fits v long fits = λ j l. (Each1-get_or (Fits w8) v j 0 (omega arith) fits).fits
-
--- ---- lanes by their numbers
-
-module _ (js : List ℕ) (f : ℕ → ℕ) (h : AreLanes 16 js f) (small : EachLane (λ j. f j < 16)) where
-  pub SwzOk-lanes : SwzOk w8 16 16 0 js
-  SwzOk-lanes =
-      let long = h.lanes in
-      SwzOk-from_below w8 16 1 16 0 js refl (omega arith) (Each1-from_get_or (λ j. j < 16) js 0 (λ i l. omega (arith, h.each i (omega arith), small i (omega arith))))
-
-  pub AreLanes-swz_l : (v : List ℕ) → AreLanes 16 (swz_l w8 16 v 0 js) (λ j. get_or v (f j) 0)
-  AreLanes-swz_l v =
-      let long = h.lanes in
-      record {
-        lanes = length-swz_l w8 16 v 0 js ∙ long;
-        each = λ j l.
-            let e = h.each j l in
-            get_or-swz_l_below w8 16 v 0 js j (omega arith) (omega (arith, small j l)) ∙ ap (λ k. get_or v k 0) (omega arith);
-      }
 
 -- ---- the bytes of two words
 

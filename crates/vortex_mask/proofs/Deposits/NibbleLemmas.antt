@@ -8,7 +8,8 @@ use lib.Bits.{and_zero_r}
 use Rattle.std.proofs.Math.Pow.{field, mod-mod-pow, split}
 use Rattle.vortex_mask.specs.Bytes.{clear_below, place_after, packed_after, landed_in, stays_in, nibble_moved_up, AreNibbles}
 use Rattle.vortex_mask.proofs.Deposits.DepositLemmas.{deposit, deposit-odd, deposit-even}
-use Rattle.vortex_mask.proofs.Deposits.NetworkLemmas.{all_below, every_below, same_below, agree, less_below, ones_among, ones_among-is, deposit_alike}
+use Rattle.mask_bits.proofs.Lists.Words.TableLemmas.{all_below, every_below, same_below, agree, less_below}
+use Rattle.vortex_mask.proofs.Deposits.NetworkLemmas.{ones_among, ones_among-is, deposit_alike}
 use Rattle.vortex_mask.proofs.Deposits.SetPlaceLemmas.{parity}
 
 -- ---- bits of two numbers put one above the other

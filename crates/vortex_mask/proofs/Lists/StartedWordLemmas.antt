@@ -1,11 +1,11 @@
 -- Started words of a list, and how many values are true before them and in them.
 use Rattle.std.proofs.Common.{◌≡◌, ℕ, suc, ◌+◌, ◌*◌, ◌<◌, ◌≤◌, Bool, false, List, [], ◌∷◌, length, get_or, take, drop, sym, ap, ◌∙◌, inl, inr, arith, ◌^◌}
 use Rattle.std.proofs.lemmas.Bool.{cases_lt}
-use Rattle.std.proofs.lemmas.List.{ext_get_or, get_or-take, get_or-drop, get_or_past, length-take, take-append-drop}
+use Rattle.std.proofs.lemmas.List.{ext_get_or, get_or-take, get_or-drop, get_or_past, length-take}
 use Rattle.mask_bits.specs.Buffer.{Packed, backing_bit, values}
 use Rattle.mask_bits.specs.Positions.{count, count_below, indices_from}
 use Rattle.mask_bits.specs.Words.{word_bits, padded_part}
-use Rattle.mask_bits.proofs.Lists.CountLemmas.{count-append}
+use Rattle.mask_bits.proofs.Lists.CountLemmas.{count_below-le}
 use Rattle.mask_bits.proofs.Lists.Places.PlaceLemmas.{count-le-length}
 use Rattle.mask_bits.proofs.Lists.Places.SelectLemmas.{count-word_more, no_index}
 use Rattle.mask_bits.proofs.Lists.Words.BackingBitLemmas.{length-bitmap}
@@ -27,11 +27,7 @@ part-same m i j k few =
       | inr past ↦ get_or_past (take j rest) k false (omega (arith, length-take j rest)) ∙ sym (get_or_past (take j (padded_part m i)) k false (omega (arith, length-take j (padded_part m i))))
     ]
 
--- no part has more than the whole
-pub count_below-le : (m : List Bool) (n : ℕ) → count_below m n ≤ count m
-count_below-le m n = omega (arith, count-append (take n m) (drop n m), ap count (take-append-drop n m))
-
--- nor is any count above its place
+-- no count is above its place
 pub count_below-within : (m : List Bool) (i : ℕ) → count_below m i ≤ i
 count_below-within m i = omega (arith, count-le-length (take i m), length-take i m)
 

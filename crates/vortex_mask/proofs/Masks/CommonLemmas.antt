@@ -1,5 +1,5 @@
 -- The indices that two ascending lists have in common, found at their fronts.
-use Rattle.std.proofs.Common.{Bool, zero, suc, true, append_assoc, append-nil, ◌≡◌, ℕ, ◌+◌, ◌<◌, ◌≤◌, false, nat_eq, nat_le, set, List, [], ◌∷◌, ◌++◌, length, get_or, take, drop, ◌||◌, ◌-◌, cond, min, refl, sym, ap, subst, ◌∙◌, ◌⊎◌, inl, inr, arith}
+use Rattle.std.proofs.Common.{Bool, zero, suc, true, append_assoc, append-nil, ◌≡◌, ℕ, ◌+◌, ◌<◌, ◌≤◌, false, nat_eq, nat_le, set, List, [], ◌∷◌, ◌++◌, length, get_or, take, drop, ◌||◌, ◌-◌, cond, refl, sym, ap, ap₂, subst, ◌∙◌, ◌⊎◌, inl, inr, arith}
 use Rattle.std.specs.List.{All, copy_within, list_any}
 use Rattle.std.proofs.lemmas.Grind.{take-set_at}
 use Rattle.std.proofs.lemmas.List.Edits.{take-paste}
@@ -7,25 +7,47 @@ use Rattle.std.proofs.Math.Seq.{paste}
 use Rattle.std.specs.List.Sorted.{IsStrictlyIncreasing}
 use Rattle.std.proofs.lemmas.Bool.{le-leb, lt-leb, eq-eqb, ne_eqb, cases_lt, cases_eq, cases_order}
 use Rattle.std.proofs.Math.Bool.{or-false}
-use Rattle.std.proofs.lemmas.List.{drop_more, length-drop, length-take, get_or-take, take-append-drop, take-set, take-take, get_or-drop, drop_all, get_or_default}
+use Rattle.std.proofs.lemmas.List.{drop-set-lt, set-get_or, length-set, drop_more, length-drop, length-take, get_or-take, take-append-drop, take-set, take-take, get_or-drop, drop_all, get_or_default}
 use Rattle.std.proofs.lemmas.List.Elements.{All-head, All-tail, All-cons, All-weaker, filter-append, filter_more}
 use Rattle.std.proofs.lemmas.List.Folds.{list_any_none, list_any-append, list_any-from_Any}
 use Rattle.std.proofs.lemmas.List.Kept.{AllPairs-from_increasing}
 use Rattle.vortex_mask.proofs.Lists.PlaceListLemmas.{none-is, rises-to}
 use Rattle.vortex_mask.specs.Faults.{common}
 use Rattle.vortex_mask.specs.Ranks.{AreSplit}
-use Rattle.vortex_mask.specs.Merges.{IsFound, IsMerged}
+use Rattle.vortex_mask.specs.Merges.{IsFound, IsUnderWay, comes_to}
 use mir.Val.{bool_byte}
 
+-- what ascends from place i on does so from a later one on
+pub ascending-later : (xs : List ℕ) (i k : ℕ) → i ≤ k → IsStrictlyIncreasing (drop i xs) → IsStrictlyIncreasing (drop k xs)
+ascending-later xs i k h ascending m inside =
+    let place : i + (k - i + m) ≡ k + m = omega arith in
+    let next : i + (k - i + m + 1) ≡ k + (m + 1) = omega arith in
+    omega (
+      arith,
+      ascending (k - i + m) (omega (arith, length-drop i xs, length-drop k xs)),
+      get_or-drop i xs (k - i + m) 0 ∙ ap (λ n. get_or xs n 0) place,
+      get_or-drop i xs (k - i + m + 1) 0 ∙ ap (λ n. get_or xs n 0) next,
+      get_or-drop k xs m 0,
+      get_or-drop k xs (m + 1) 0,
+    )
+
 -- the ones after place i are above the one at i
-above-after : (xs : List ℕ) (i : ℕ) → IsStrictlyIncreasing xs → All (λ z. get_or xs i 0 < z) (drop (i + 1) xs)
+above-after : (xs : List ℕ) (i : ℕ) → IsStrictlyIncreasing (drop i xs) → All (λ z. get_or xs i 0 < z) (drop (i + 1) xs)
 above-after xs i ascending k d h =
     let place : i + 1 + k < length xs = omega (arith, length-drop (i + 1) xs) in
     let read : get_or (drop (i + 1) xs) k d ≡ get_or xs (i + 1 + k) 0 = get_or-drop (i + 1) xs k d ∙ get_or_default xs (i + 1 + k) d 0 place in
-    omega (arith, AllPairs-from_increasing xs ascending i (i + 1 + k) 0 (omega arith) place, read)
+    let first : i + 0 ≡ i = omega arith in
+    let next : i + (1 + k) ≡ i + 1 + k = omega arith in
+    omega (
+      arith,
+      AllPairs-from_increasing (drop i xs) ascending 0 (1 + k) 0 (omega arith) (omega (arith, length-drop i xs)),
+      get_or-drop i xs 0 0 ∙ ap (λ n. get_or xs n 0) first,
+      get_or-drop i xs (1 + k) 0 ∙ ap (λ n. get_or xs n 0) next,
+      read,
+    )
 
 -- from index i on all are above what the one at i is above
-above-from : (xs : List ℕ) (x i : ℕ) → IsStrictlyIncreasing xs → i < length xs → x < get_or xs i 0 → All (λ z. x < z) (drop i xs)
+above-from : (xs : List ℕ) (x i : ℕ) → IsStrictlyIncreasing (drop i xs) → i < length xs → x < get_or xs i 0 → All (λ z. x < z) (drop i xs)
 above-from xs x i ascending h first = grind (arith, drop_more, All-cons, All-weaker, above-after)
 
 common-none : (xs : List ℕ) → common xs [] ≡ []
@@ -49,17 +71,17 @@ common-first x xs ys below = rw (eq-eqb x x refl, common-right x xs ys below) re
 
 -- ---- what is left of two lists, from place i of the one and from place j of the other
 
-pub common-less : (xs ys : List ℕ) (i j : ℕ) → IsStrictlyIncreasing ys → i < length xs → j < length ys → get_or xs i 0 < get_or ys j 0
+common-less : (xs ys : List ℕ) (i j : ℕ) → IsStrictlyIncreasing ys → i < length xs → j < length ys → get_or xs i 0 < get_or ys j 0
     → common (drop i xs) (drop j ys) ≡ common (drop (i + 1) xs) (drop j ys)
 common-less xs ys i j ascending h k less =
-    rw (drop_more xs i 0 h) (common-left (get_or xs i 0) (drop (i + 1) xs) (drop j ys) (above-from ys (get_or xs i 0) j ascending k less))
+    rw (drop_more xs i 0 h) (common-left (get_or xs i 0) (drop (i + 1) xs) (drop j ys) (above-from ys (get_or xs i 0) j (ascending-later ys 0 j (omega arith) ascending) k less))
 
-pub common-greater : (xs ys : List ℕ) (i j : ℕ) → IsStrictlyIncreasing xs → i < length xs → j < length ys → get_or ys j 0 < get_or xs i 0
+common-greater : (xs ys : List ℕ) (i j : ℕ) → IsStrictlyIncreasing (drop i xs) → i < length xs → j < length ys → get_or ys j 0 < get_or xs i 0
     → common (drop i xs) (drop j ys) ≡ common (drop i xs) (drop (j + 1) ys)
 common-greater xs ys i j ascending h k less =
     rw (drop_more ys j 0 k) (common-right (get_or ys j 0) (drop i xs) (drop (j + 1) ys) (above-from xs (get_or ys j 0) i ascending h less))
 
-pub common-equal : (xs ys : List ℕ) (i j : ℕ) → IsStrictlyIncreasing xs → i < length xs → j < length ys → get_or xs i 0 ≡ get_or ys j 0
+common-equal : (xs ys : List ℕ) (i j : ℕ) → IsStrictlyIncreasing (drop i xs) → i < length xs → j < length ys → get_or xs i 0 ≡ get_or ys j 0
     → common (drop i xs) (drop j ys) ≡ get_or xs i 0 ∷ common (drop (i + 1) xs) (drop (j + 1) ys)
 common-equal xs ys i j ascending h k same = grind (arith, drop_more, common-first, above-after)
 
@@ -163,44 +185,73 @@ common-parts xs ys m n ascending h split =
     ∙ ap (λ zs. zs ++ common (drop m xs) (take n ys ++ drop n ys)) (common-below x (take m xs) (take n ys) (drop n ys) low above)
     ∙ ap (λ zs. common (take m xs) (take n ys) ++ zs) (common-above x (drop m xs) (take n ys) (drop n ys) high below)
 
--- ---- a step of a merge
+-- ---- a step of a merge into the first list
 
-merged-less : (xs ys both : List ℕ) (i j n : ℕ) → IsStrictlyIncreasing ys → i < length xs → j < length ys → IsMerged xs ys both i j n
-    → get_or xs i 0 < get_or ys j 0 → IsMerged xs ys (set both n (get_or xs i 0)) (i + 1) j n
-merged-less xs ys both i j n ascending h k m less = record {
-  within_lhs = omega arith;
-  within_rhs = m.within_rhs;
-  fewer_lhs = omega (arith, m.fewer_lhs);
-  fewer_rhs = m.fewer_rhs;
-  found = ap (λ zs. zs ++ common (drop (i + 1) xs) (drop j ys)) (take-set both n (get_or xs i 0)) ∙ ap (λ zs. take n both ++ zs) (sym (common-less xs ys i j ascending h k less)) ∙ m.found;
-}
+-- an index moved down to place n leaves what comes from a later place on, and from its own too
+kept_from : (xs : List ℕ) (i n : ℕ) → n ≤ i → drop i (set xs n (get_or xs i 0)) ≡ drop i xs
+kept_from xs i n h = elim (cases_lt n i) [
+  | inl below ↦ drop-set-lt i xs n (get_or xs i 0) below
+  | inr here ↦
+      let same : n ≡ i = omega arith in
+      ap (λ k. drop i (set xs k (get_or xs i 0))) same ∙ ap (drop i) (set-get_or xs i 0)
+]
 
-merged-greater : (xs ys both : List ℕ) (i j n : ℕ) → IsStrictlyIncreasing xs → i < length xs → j < length ys → IsMerged xs ys both i j n
-    → get_or ys j 0 < get_or xs i 0 → IsMerged xs ys (set both n (get_or xs i 0)) i (j + 1) n
-merged-greater xs ys both i j n ascending h k m more = record {
-  within_lhs = m.within_lhs;
-  within_rhs = omega arith;
-  fewer_lhs = m.fewer_lhs;
-  fewer_rhs = omega (arith, m.fewer_rhs);
-  found = ap (λ zs. zs ++ common (drop i xs) (drop (j + 1) ys)) (take-set both n (get_or xs i 0)) ∙ ap (λ zs. take n both ++ zs) (sym (common-greater xs ys i j ascending h k more)) ∙ m.found;
-}
+-- from one place and number to another, with what the merge comes to
+pub record GoesOn (xs new ys : List ℕ) (i j n i' j' n' : ℕ) : Type 0 where
+  pub under_way : IsUnderWay new ys i' j' n'
+  pub same : comes_to new ys i' j' n' ≡ comes_to xs ys i j n
 
-merged-equal : (xs ys both : List ℕ) (i j n : ℕ) → IsStrictlyIncreasing xs → i < length xs → j < length ys → n < length both → IsMerged xs ys both i j n
-    → get_or xs i 0 ≡ get_or ys j 0 → IsMerged xs ys (set both n (get_or xs i 0)) (i + 1) (j + 1) (n + 1)
-merged-equal xs ys both i j n ascending h k room m same = record {
-  within_lhs = omega arith;
-  within_rhs = omega arith;
-  fewer_lhs = omega (arith, m.fewer_lhs);
-  fewer_rhs = omega (arith, m.fewer_rhs);
-  found =
-      let kept : take (n + 1) (set both n (get_or xs i 0)) ≡ take n both ++ get_or xs i 0 ∷ [] = take-set_at both n (n + 1) (get_or xs i 0) refl room in
-      let rest = common-equal xs ys i j ascending h k same in
-      ap (λ zs. zs ++ common (drop (i + 1) xs) (drop (j + 1) ys)) kept ∙ append_assoc (take n both) (get_or xs i 0 ∷ []) (common (drop (i + 1) xs) (drop (j + 1) ys)) ∙ ap (λ zs. take n both ++ zs) (sym rest) ∙ m.found;
-}
+goes-less : (xs ys : List ℕ) (i j n : ℕ) → IsStrictlyIncreasing ys → i < length xs → j < length ys → IsUnderWay xs ys i j n
+    → get_or xs i 0 < get_or ys j 0 → GoesOn xs (set xs n (get_or xs i 0)) ys i j n (i + 1) j n
+goes-less xs ys i j n ascending h k w less =
+    let x : ℕ = get_or xs i 0 in
+    let kept : drop (i + 1) (set xs n x) ≡ drop (i + 1) xs = drop-set-lt (i + 1) xs n x (omega (arith, w.fewer)) in
+    record {
+      under_way = record {
+        fewer = omega (arith, w.fewer);
+        within_list = omega (arith, length-set xs n x);
+        within_other = w.within_other;
+        ascending = subst IsStrictlyIncreasing (sym kept) (ascending-later xs i (i + 1) (omega arith) w.ascending);
+      };
+      same = ap₂ (λ zs ws. zs ++ common ws (drop j ys)) (take-set xs n x) kept ∙ ap (λ zs. take n xs ++ zs) (sym (common-less xs ys i j ascending h k less));
+    }
 
-pub merged-moved : (xs ys both : List ℕ) (i j n i' j' n' : ℕ) → IsMerged xs ys both i j n → i ≡ i' → j ≡ j' → n ≡ n' → IsMerged xs ys both i' j' n'
-merged-moved xs ys both i j n i' j' n' m a b c =
-    subst (λ k. IsMerged xs ys both k j' n') a (subst (λ k. IsMerged xs ys both i k n') b (subst (λ k. IsMerged xs ys both i j k) c m))
+goes-greater : (xs ys : List ℕ) (i j n : ℕ) → i < length xs → j < length ys → IsUnderWay xs ys i j n
+    → get_or ys j 0 < get_or xs i 0 → GoesOn xs (set xs n (get_or xs i 0)) ys i j n i (j + 1) n
+goes-greater xs ys i j n h k w more =
+    let x : ℕ = get_or xs i 0 in
+    let kept : drop i (set xs n x) ≡ drop i xs = kept_from xs i n w.fewer in
+    record {
+      under_way = record {
+        fewer = w.fewer;
+        within_list = omega (arith, length-set xs n x);
+        within_other = omega arith;
+        ascending = subst IsStrictlyIncreasing (sym kept) w.ascending;
+      };
+      same = ap₂ (λ zs ws. zs ++ common ws (drop (j + 1) ys)) (take-set xs n x) kept ∙ ap (λ zs. take n xs ++ zs) (sym (common-greater xs ys i j w.ascending h k more));
+    }
+
+goes-equal : (xs ys : List ℕ) (i j n : ℕ) → i < length xs → j < length ys → IsUnderWay xs ys i j n
+    → get_or xs i 0 ≡ get_or ys j 0 → GoesOn xs (set xs n (get_or xs i 0)) ys i j n (i + 1) (j + 1) (n + 1)
+goes-equal xs ys i j n h k w both =
+    let x : ℕ = get_or xs i 0 in
+    let kept : drop (i + 1) (set xs n x) ≡ drop (i + 1) xs = drop-set-lt (i + 1) xs n x (omega (arith, w.fewer)) in
+    let found : take (n + 1) (set xs n x) ≡ take n xs ++ x ∷ [] = take-set_at xs n (n + 1) x refl (omega (arith, w.fewer)) in
+    record {
+      under_way = record {
+        fewer = omega (arith, w.fewer);
+        within_list = omega (arith, length-set xs n x);
+        within_other = omega arith;
+        ascending = subst IsStrictlyIncreasing (sym kept) (ascending-later xs i (i + 1) (omega arith) w.ascending);
+      };
+      same = ap₂ (λ zs ws. zs ++ common ws (drop (j + 1) ys)) found kept
+          ∙ append_assoc (take n xs) (x ∷ []) (common (drop (i + 1) xs) (drop (j + 1) ys))
+          ∙ ap (λ zs. take n xs ++ zs) (sym (common-equal xs ys i j w.ascending h k both));
+    }
+
+goes-moved : (xs new ys : List ℕ) (i j n i' j' n' i'' j'' n'' : ℕ) → GoesOn xs new ys i j n i' j' n' → i' ≡ i'' → j' ≡ j'' → n' ≡ n'' → GoesOn xs new ys i j n i'' j'' n''
+goes-moved xs new ys i j n i' j' n' i'' j'' n'' g a b c =
+    subst (λ k. GoesOn xs new ys i j n k j'' n'') a (subst (λ k. GoesOn xs new ys i j n i' k n'') b (subst (λ k. GoesOn xs new ys i j n i' j' k) c g))
 
 plus-bit : (i : ℕ) (b : Bool) → b ≡ true → i + 1 ≡ i + bool_byte b
 plus-bit i b e = ap (λ t. i + bool_byte t) (sym e)
@@ -208,18 +259,18 @@ plus-bit i b e = ap (λ t. i + bool_byte t) (sym e)
 plus-none : (i : ℕ) (b : Bool) → b ≡ false → i ≡ i + bool_byte b
 plus-none i b e = let none : i ≡ i + 0 = omega arith in none ∙ ap (λ t. i + bool_byte t) (sym e)
 
-pub merged-step : (xs ys both : List ℕ) (i j n : ℕ) → IsStrictlyIncreasing xs → IsStrictlyIncreasing ys → i < length xs → j < length ys → min (length xs) (length ys) ≤ length both → IsMerged xs ys both i j n
-    → IsMerged xs ys (set both n (get_or xs i 0)) (i + bool_byte (nat_le (get_or xs i 0) (get_or ys j 0))) (j + bool_byte (nat_le (get_or ys j 0) (get_or xs i 0))) (n + bool_byte (nat_eq (get_or xs i 0) (get_or ys j 0)))
-merged-step xs ys both i j n a b h k room m =
+pub goes-step : (xs ys : List ℕ) (i j n : ℕ) → IsStrictlyIncreasing ys → i < length xs → j < length ys → IsUnderWay xs ys i j n
+    → GoesOn xs (set xs n (get_or xs i 0)) ys i j n (i + bool_byte (nat_le (get_or xs i 0) (get_or ys j 0))) (j + bool_byte (nat_le (get_or ys j 0) (get_or xs i 0))) (n + bool_byte (nat_eq (get_or xs i 0) (get_or ys j 0)))
+goes-step xs ys i j n b h k w =
     let x : ℕ = get_or xs i 0 in
     let y : ℕ = get_or ys j 0 in
-    let free : n < length both = omega (arith, m.fewer_lhs, m.fewer_rhs) in
+    let new : List ℕ = set xs n x in
     elim (cases_order (get_or xs i 0) (get_or ys j 0)) [
-      | inl same ↦ merged-moved xs ys (set both n x) _ _ _ _ _ _ (merged-equal xs ys both i j n a h k free m same)
+      | inl same ↦ goes-moved xs new ys _ _ _ _ _ _ _ _ _ (goes-equal xs ys i j n h k w same)
           (plus-bit i (nat_le x y) (le-leb x y (omega arith))) (plus-bit j (nat_le y x) (le-leb y x (omega arith))) (plus-bit n (nat_eq x y) (eq-eqb x y same))
-      | inr (inl less) ↦ merged-moved xs ys (set both n x) _ _ _ _ _ _ (merged-less xs ys both i j n b h k m less)
+      | inr (inl less) ↦ goes-moved xs new ys _ _ _ _ _ _ _ _ _ (goes-less xs ys i j n b h k w less)
           (plus-bit i (nat_le x y) (le-leb x y (omega arith))) (plus-none j (nat_le y x) (lt-leb y x less)) (plus-none n (nat_eq x y) (ne_eqb x y (λ e. absurd (omega arith))))
-      | inr (inr more) ↦ merged-moved xs ys (set both n x) _ _ _ _ _ _ (merged-greater xs ys both i j n a h k m more)
+      | inr (inr more) ↦ goes-moved xs new ys _ _ _ _ _ _ _ _ _ (goes-greater xs ys i j n h k w more)
           (plus-none i (nat_le x y) (lt-leb x y more)) (plus-bit j (nat_le y x) (le-leb y x (omega arith))) (plus-none n (nat_eq x y) (ne_eqb x y (λ e. absurd (omega arith))))
     ]
 
@@ -235,7 +286,7 @@ common-passed xs ys i j (suc k) ascending h inside below =
     ∙ common-less xs ys (i + k) j ascending (omega arith) inside (below k (omega arith))
     ∙ ap (λ n. common (drop n xs) (drop j ys)) next
 
-common-passed_right : (xs ys : List ℕ) (i j k : ℕ) → IsStrictlyIncreasing xs → j + k ≤ length ys → i < length xs → ((m : ℕ) → m < k → get_or ys (j + m) 0 < get_or xs i 0)
+common-passed_right : (xs ys : List ℕ) (i j k : ℕ) → IsStrictlyIncreasing (drop i xs) → j + k ≤ length ys → i < length xs → ((m : ℕ) → m < k → get_or ys (j + m) 0 < get_or xs i 0)
     → common (drop i xs) (drop j ys) ≡ common (drop i xs) (drop (j + k) ys)
 common-passed_right xs ys i j zero ascending h inside below =
     let same : j ≡ j + 0 = omega arith in
@@ -247,32 +298,43 @@ common-passed_right xs ys i j (suc k) ascending h inside below =
     ∙ ap (λ n. common (drop i xs) (drop n ys)) next
 
 -- eight indices of the one list are passed
-pub merged-passed : (xs ys both : List ℕ) (i j n : ℕ) → IsStrictlyIncreasing xs → IsStrictlyIncreasing ys → i + 8 ≤ length xs → j + 8 ≤ length ys → IsMerged xs ys both i j n
-    → get_or xs (i + 7) 0 < get_or ys j 0 → IsMerged xs ys both (i + 8) j n
-merged-passed xs ys both i j n a b h k m less = record {
-  within_lhs = h;
-  within_rhs = m.within_rhs;
-  fewer_lhs = omega (arith, m.fewer_lhs);
-  fewer_rhs = m.fewer_rhs;
-  found = ap (λ zs. take n both ++ zs) (sym (common-passed xs ys i j 8 b h (omega arith) (λ d few. omega (arith, less, rises-to xs (i + d) (i + 7) a (omega arith) (omega arith))))) ∙ m.found;
+passed_list : (xs ys : List ℕ) (i j n : ℕ) → IsStrictlyIncreasing ys → i + 8 ≤ length xs → j + 8 ≤ length ys → IsUnderWay xs ys i j n
+    → get_or xs (i + 7) 0 < get_or ys j 0 → GoesOn xs xs ys i j n (i + 8) j n
+passed_list xs ys i j n b h k w less = record {
+  under_way = record {
+    fewer = omega (arith, w.fewer);
+    within_list = h;
+    within_other = w.within_other;
+    ascending = ascending-later xs i (i + 8) (omega arith) w.ascending;
+  };
+  same = ap (λ zs. take n xs ++ zs) (sym (common-passed xs ys i j 8 b h (omega arith) (λ d few.
+      omega (arith, less, rises-to (drop i xs) d 7 w.ascending (omega arith) (omega (arith, length-drop i xs)), get_or-drop i xs d 0, get_or-drop i xs 7 0))));
 }
 
-pub merged-passed_right : (xs ys both : List ℕ) (i j n : ℕ) → IsStrictlyIncreasing xs → IsStrictlyIncreasing ys → i + 8 ≤ length xs → j + 8 ≤ length ys → IsMerged xs ys both i j n
-    → get_or ys (j + 7) 0 < get_or xs i 0 → IsMerged xs ys both i (j + 8) n
-merged-passed_right xs ys both i j n a b h k m less = record {
-  within_lhs = m.within_lhs;
-  within_rhs = k;
-  fewer_lhs = m.fewer_lhs;
-  fewer_rhs = omega (arith, m.fewer_rhs);
-  found = ap (λ zs. take n both ++ zs) (sym (common-passed_right xs ys i j 8 a k (omega arith) (λ d few. omega (arith, less, rises-to ys (j + d) (j + 7) b (omega arith) (omega arith))))) ∙ m.found;
+passed_other : (xs ys : List ℕ) (i j n : ℕ) → IsStrictlyIncreasing ys → i + 8 ≤ length xs → j + 8 ≤ length ys → IsUnderWay xs ys i j n
+    → get_or ys (j + 7) 0 < get_or xs i 0 → GoesOn xs xs ys i j n i (j + 8) n
+passed_other xs ys i j n b h k w less = record {
+  under_way = record {
+    fewer = w.fewer;
+    within_list = w.within_list;
+    within_other = k;
+    ascending = w.ascending;
+  };
+  same = ap (λ zs. take n xs ++ zs) (sym (common-passed_right xs ys i j 8 w.ascending k (omega arith) (λ d few.
+      omega (arith, less, rises-to ys (j + d) (j + 7) b (omega arith) (omega arith)))));
 }
+
+pub goes-passed_list : (xs ys : List ℕ) (i j n i' j' n' : ℕ) → IsStrictlyIncreasing ys → i + 8 ≤ length xs → j + 8 ≤ length ys → IsUnderWay xs ys i j n
+    → get_or xs (i + 7) 0 < get_or ys j 0 → i' ≡ i + 8 → j' ≡ j + 0 → n' ≡ n → GoesOn xs xs ys i j n i' j' n'
+goes-passed_list xs ys i j n i' j' n' b h k w less a d e = goes-moved xs xs ys i j n _ _ _ i' j' n' (passed_list xs ys i j n b h k w less) (sym a) (omega arith) (sym e)
+
+pub goes-passed_other : (xs ys : List ℕ) (i j n i' j' n' : ℕ) → IsStrictlyIncreasing ys → i + 8 ≤ length xs → j + 8 ≤ length ys → IsUnderWay xs ys i j n
+    → get_or ys (j + 7) 0 < get_or xs i 0 → i' ≡ i + 0 → j' ≡ j + 8 → n' ≡ n → GoesOn xs xs ys i j n i' j' n'
+goes-passed_other xs ys i j n i' j' n' b h k w less a d e = goes-moved xs xs ys i j n _ _ _ i' j' n' (passed_other xs ys i j n b h k w less) (omega arith) (sym d) (sym e)
 
 -- and its end
-pub merged-over : (xs ys both : List ℕ) (i j n : ℕ) → min (length xs) (length ys) ≤ length both → IsMerged xs ys both i j n → (length xs ≤ i) ⊎ (length ys ≤ j) → IsFound xs ys both n
-merged-over xs ys both i j n room m over = record {
-  within = omega (arith, m.within_lhs, m.within_rhs, m.fewer_lhs, m.fewer_rhs);
-  found = sym (append-nil (take n both)) ∙ ap (λ zs. take n both ++ zs) (sym (common-over xs ys i j over)) ∙ m.found;
-}
+pub merged-over : (xs ys : List ℕ) (i j n : ℕ) → IsUnderWay xs ys i j n → (length xs ≤ i) ⊎ (length ys ≤ j) → take n xs ≡ comes_to xs ys i j n
+merged-over xs ys i j n w over = sym (append-nil (take n xs)) ∙ ap (λ zs. take n xs ++ zs) (sym (common-over xs ys i j over))
 
 -- what was found in the first parts and in the last ones, moved together
 pub found-joined : (xs ys both : List ℕ) (m n at f l : ℕ) → IsStrictlyIncreasing xs → m < length xs → AreSplit ys n (get_or xs m 0)

@@ -1,17 +1,20 @@
 -- Ranges in which there is no fault, and the values that are true exactly in them.
-use Rattle.std.proofs.Common.{◌≡◌, ℕ, ◌+◌, ◌-◌, ◌<◌, ◌≤◌, ◌||◌, ◌&&◌, not, Bool, true, false, nat_lt, nat_le, List, [], ◌∷◌, ◌++◌, length, get_or, drop, zero, suc, None, append_assoc, sym, ap, ◌∙◌, arith, subst, inl, inr}
+use Rattle.std.proofs.Common.{◌≡◌, ℕ, ◌+◌, ◌-◌, ◌<◌, ◌≤◌, ◌||◌, ◌&&◌, not, Bool, true, false, nat_lt, nat_le, List, [], ◌∷◌, ◌++◌, length, get_or, drop, zero, suc, None, sym, ap, ◌∙◌, arith, subst, inl, inr}
 use Rattle.std.specs.List.{All, AllAdjacentBelow, list_any, prefix_len, position}
 use Rattle.std.proofs.lemmas.Bool.{cases_lt, or_left}
 use Rattle.std.proofs.lemmas.Bool.Decides.{nat_tests}
-use Rattle.std.proofs.lemmas.List.{at_drop_more, at_drop_all, length-append, get_or_append_left, get_or-append_right}
+use Rattle.std.proofs.lemmas.List.{ext_get_or, at_drop_more, at_drop_all, length-append, get_or_append_left, get_or-append_right}
 use Rattle.std.proofs.lemmas.List.Elements.{All-nil, All-cons}
 use Rattle.std.proofs.lemmas.List.Sums.{prefix_len_passes}
+use Rattle.mask_bits.specs.Bitmap.{bitmap}
+use Rattle.mask_bits.specs.Buffer.{backing_bit}
 use Rattle.mask_bits.specs.Positions.{count, repeated}
 use Rattle.mask_bits.specs.Runs.{is_inside, AreRanges}
 use Rattle.mask_bits.proofs.Lists.CountLemmas.{get_or-repeated, length-repeated, all_true_from_count, all_false_from_count}
 use Rattle.mask_bits.proofs.Lists.Places.PlaceLemmas.{count-le-length}
 use Rattle.mask_bits.proofs.Lists.Runs.RangeLemmas.{Ordered, Ordered-top, none_below, ranges_add_up_to_the_count}
 use Rattle.mask_bits.proofs.Lists.Runs.RunLemmas.{inside, inside-past}
+use Rattle.mask_bits.proofs.Lists.Words.BackingBitLemmas.{length-bitmap, get_or-bitmap}
 use Rattle.vortex_mask.specs.Faults.{bad_range, neighbor_fault, neighbors_fault_from, range_fault}
 use Rattle.vortex_mask.specs.Ranges.{rows_held}
 use Rattle.vortex_mask.proofs.Masks.FaultLemmas.{option_or-none, none_mapped}
@@ -147,22 +150,17 @@ AreRanges-all len rs none held =
     let long = long_painted len rs none in
     subst (λ (n : List Bool). AreRanges n rs) (all_true_from_count 0 m (sym (rows_held-painted len rs none) ∙ held ∙ sym long) ∙ ap (λ n. repeated n true) long) (held_are_ranges len rs none)
 
--- ---- the values made, a gap and a range at a time
+-- ---- the values of bytes in which just the bits of the ranges are set
 
-pub record IsPainting (len : ℕ) (all : List Bool) (made : List Bool) (rest : List (ℕ × ℕ)) : Type 0 where
-  pub list : made ++ painted (length made) len rest ≡ all
-  pub ordered : Ordered (length made) len rest
+pub AreRanges-set : (len : ℕ) (rs : List (ℕ × ℕ)) (bytes : List ℕ) → range_fault len rs ≡ None → ((p : ℕ) → backing_bit bytes p ≡ list_any (is_inside p) rs) → AreRanges (bitmap bytes 0 len) rs
+AreRanges-set len rs bytes none set =
+    let made : List Bool = bitmap bytes 0 len in
+    let same : made ≡ painted 0 len rs = ext_get_or false made (painted 0 len rs) (length-bitmap bytes 0 len ∙ sym (long_painted len rs none)) (λ j h.
+    let few : j < len = omega (arith, length-bitmap bytes 0 len) in
+    get_or-bitmap bytes 0 len j false few ∙ set (0 + j) ∙ sym (painted-at 0 len rs (Ordered-no_fault len rs none) j (omega arith))) in
+    subst (λ (m : List Bool). AreRanges m rs) (sym same) (held_are_ranges len rs none)
 
-pub painting-more : (len : ℕ) (all made : List Bool) (r : ℕ × ℕ) (rs : List (ℕ × ℕ)) → IsPainting len all made (r ∷ rs)
-    → IsPainting len all ((made ++ repeated (r.0 - length made) false) ++ repeated (r.1 - r.0) true) rs
-painting-more len all made r rs is = grind (arith, length-append, length-repeated, append_assoc, Ordered)
-
-pub painting-none : (len : ℕ) (rs : List (ℕ × ℕ)) (made : List Bool) → made ≡ [] → range_fault len rs ≡ None → IsPainting len (painted 0 len rs) made rs
-painting-none len rs made empty none = grind (arith, Ordered-no_fault)
-
--- the values past the last range end the list
-pub painting-all : (len : ℕ) (rs : List (ℕ × ℕ)) (made : List Bool) → range_fault len rs ≡ None → IsPainting len (painted 0 len rs) made []
-    → (length (made ++ repeated (len - length made) false) ≡ len) × AreRanges (made ++ repeated (len - length made) false) rs
-painting-all len rs made none is = grind (arith, long_painted, held_are_ranges)
+pub within-no_fault : (len room : ℕ) (rs : List (ℕ × ℕ)) → range_fault len rs ≡ None → len ≤ room → All (λ r. r.1 ≤ room) rs
+within-no_fault len room rs none h = λ k d inside. omega (arith, (good_from 0 len rs (Ordered-no_fault len rs none) k d inside).1)
 
 pub ruleset range_facts = (nonempty-no_fault, rows_held-le, AreRanges-none, AreRanges-all, ranges_add_up_to_the_count)

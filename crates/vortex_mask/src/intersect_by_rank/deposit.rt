@@ -10,6 +10,7 @@ ghost use Rattle.vortex_mask.specs.Deposit.{Deposits};
 ghost use Rattle.vortex_mask.specs.Path.{is_deposited_by_loop};
 
 pub use bytewise::deposit_bytewise;
+pub(super) use bytewise::{counts_below, words_of};
 use nibbles::deposit_two_by_nibbles;
 
 /// Scatters the low bits of a word to the set bits of a mask word, as the instruction PDEP does.

@@ -1,46 +1,60 @@
 //! The indices that two ascending lists have in common.
 
-ghost use Rattle.std.specs.Prelude.{◌≡◌, ◌+◌, ◌<◌, ◌≤◌, ◌^◌, ◌↔◌, IsTrue, ℕ, IfOk, length, take, drop, min, slice_index};
+ghost use Rattle.std.specs.Prelude.{◌≡◌, ◌+◌, ◌<◌, ◌≤◌, ◌^◌, ◌↔◌, IsTrue, ℕ, length, take, drop, slice_index};
 ghost use Rattle.std.specs.List.Sorted.{IsStrictlyIncreasing};
 ghost use Rattle.vortex_mask.specs.Faults.{common};
-ghost use Rattle.vortex_mask.specs.Merges.{IsFound, IsMerged};
+ghost use Rattle.vortex_mask.specs.Merges.{IsFound, IsUnderWay, comes_to};
 ghost use Rattle.vortex_mask.specs.Ranks.{AreSplit};
 
-use std::alloc::{AllocError, Global};
-
-/// The indices that both lists have.
-///
-/// Few indices are looked up in a list that is much longer, and other lists are merged.
+/// The indices that both lists have, in the shorter one's room.
 #[tactic(auto, using(crate::proofs::Masks::CommonLemmas::swapped_facts))]
-pub(crate) fn common(alloc: Global, lhs: &[usize], rhs: &[usize]) -> Result<Vec<usize>, AllocError>
-    requires lhs { IsStrictlyIncreasing lhs.now }
-    requires rhs { IsStrictlyIncreasing rhs.now }
-    ensures { IfOk result (λ both. both.items ≡ common lhs.now rhs.now) }
+pub(crate) fn common(lhs: Vec<usize>, rhs: Vec<usize>) -> Vec<usize>
+    requires lhs { IsStrictlyIncreasing lhs.items }
+    requires rhs { IsStrictlyIncreasing rhs.items }
+    ensures { result.items ≡ common lhs.items rhs.items }
 {
-    if lhs.len() <= rhs.len() / 16 {
-        return look_up(alloc, lhs, rhs);
+    if lhs.len() <= rhs.len() {
+        keep_common(lhs, &rhs)
+    } else {
+        keep_common(rhs, &lhs)
     }
-    if rhs.len() <= lhs.len() / 16 {
-        return look_up(alloc, rhs, lhs);
-    }
-    merge(alloc, lhs, rhs)
 }
 
-// The indices of a short list that a long one has too, each looked up from the place of the one before it on.
-fn look_up(alloc: Global, short: &[usize], long: &[usize]) -> Result<Vec<usize>, AllocError>
-    requires short { IsStrictlyIncreasing short.now }
-    requires long { IsStrictlyIncreasing long.now }
-    ensures { IfOk result (λ both. both.items ≡ common short.now long.now) }
+// The indices of a list that another one has too, in its own room.
+//
+// Few indices are looked up in a list that is much longer, and other lists are merged.
+fn keep_common(list: Vec<usize>, other: &[usize]) -> Vec<usize>
+    requires list { IsStrictlyIncreasing list.items }
+    requires other { IsStrictlyIncreasing other.now }
+    ensures { result.items ≡ common list.items other.now }
 {
-    let mut both = Vec::new(alloc);
-    let mut from = 0;
-    for index in short {
-        from = place_of(long, from, *index);
-        if from < long.len() && long[from] == *index {
-            both.push(*index)?;
+    let mut list = list;
+    let found = if list.len() <= other.len() / 16 {
+        look_up(&mut list, other)
+    } else {
+        merge(&mut list, other)
+    };
+    list.truncate(found);
+    list
+}
+
+// Moves the indices that a long list has too to the front of a short one, and tells how many these are. Each is looked
+// up from the place of the one before it on.
+fn look_up(short: &mut [usize], long: &[usize]) -> usize
+    requires short { IsStrictlyIncreasing short.old }
+    requires long { IsStrictlyIncreasing long.now }
+    ensures { IsFound short.old long.now short.new result }
+{
+    let (mut from, mut found) = (0, 0);
+    for i in 0..short.len() {
+        let index = short[i];
+        from = place_of(long, from, index);
+        if from < long.len() && long[from] == index {
+            short[found] = index;
+            found += 1;
         }
     }
-    Ok(both)
+    found
 }
 
 // How many indices are below `least`, which those before place `from` are: sought in strides that double, and then by
@@ -80,107 +94,84 @@ fn place_between(list: &[usize], low: usize, high: usize, least: usize) -> usize
     low
 }
 
-// The indices that both lists have, by a merge of their first parts beside one of their last parts.
-fn merge(alloc: Global, lhs: &[usize], rhs: &[usize]) -> Result<Vec<usize>, AllocError>
-    requires some { 0 < length lhs.now }
-    requires lhs { IsStrictlyIncreasing lhs.now }
-    requires rhs { IsStrictlyIncreasing rhs.now }
-    ensures { IfOk result (λ both. both.items ≡ common lhs.now rhs.now) }
+// Moves the indices that another list has too to the front of a list, and tells how many these are: by a merge of their
+// first parts beside one of their last parts.
+fn merge(list: &mut [usize], other: &[usize]) -> usize
+    requires some { 0 < length list.old }
+    requires list { IsStrictlyIncreasing list.old }
+    requires other { IsStrictlyIncreasing other.now }
+    ensures { IsFound list.old other.now list.new result }
 {
-    let at = lhs.len() / 2;
-    let place = place_between(rhs, 0, rhs.len(), lhs[at]);
-    let mut both = vec![in alloc; 0usize; lhs.len().min(rhs.len())]?;
-    let (first, last) = merge_parts(lhs, rhs, at, place, &mut both);
-    let start = at.min(place);
-    both.copy_within(start..start + last, first);
-    both.truncate(first + last);
-    Ok(both)
+    let at = list.len() / 2;
+    let place = place_between(other, 0, other.len(), list[at]);
+    let (first, last) = merge_parts(list, other, at, place);
+    list.copy_within(at..at + last, first);
+    first + last
 }
 
-// Merges the parts of two lists before a place of each, and those from there on, and tells how many indices each two
-// have in common. Those of the last parts stand behind the room for the first ones.
-fn merge_parts(
-    lhs: &[usize],
-    rhs: &[usize],
-    at: usize,
-    place: usize,
-    both: &mut [usize],
-) -> (usize, usize)
-    requires lhs { IsStrictlyIncreasing lhs.now }
-    requires rhs { IsStrictlyIncreasing rhs.now }
-    requires within_lhs { at ≤ length lhs.now }
-    requires within_rhs { place ≤ length rhs.now }
-    requires room { length both.old ≡ min (length lhs.now) (length rhs.now) }
-    ensures first { IsFound (take at lhs.now) (take place rhs.now)
-        (take (min at place) both.new) result.0 }
-    ensures last { IsFound (drop at lhs.now) (drop place rhs.now)
-        (drop (min at place) both.new) result.1 }
+// Merges the parts of two lists before a place of each, and those from there on, each in its part of the first list, and
+// tells how many indices each two have in common.
+fn merge_parts(list: &mut [usize], other: &[usize], at: usize, place: usize) -> (usize, usize)
+    requires list { IsStrictlyIncreasing list.old }
+    requires other { IsStrictlyIncreasing other.now }
+    requires within_list { at ≤ length list.old }
+    requires within_other { place ≤ length other.now }
+    ensures first { IsFound (take at list.old) (take place other.now) (take at list.new) result.0 }
+    ensures last { IsFound (drop at list.old) (drop place other.now) (drop at list.new) result.1 }
 {
-    let (first, last) = both.split_at_mut(at.min(place));
-    merge_both(
-        &lhs[..at],
-        &rhs[..place],
-        first,
-        &lhs[at..],
-        &rhs[place..],
-        last,
-    )
+    let (first, last) = list.split_at_mut(at);
+    merge_both(first, &other[..place], last, &other[place..])
 }
 
 // Merges two pairs of lists. A step of the one needs nothing of the other's, so both are under way at once.
 fn merge_both(
-    lhs: &[usize],
-    rhs: &[usize],
-    both: &mut [usize],
-    last_lhs: &[usize],
-    last_rhs: &[usize],
-    last_both: &mut [usize],
+    first: &mut [usize],
+    other: &[usize],
+    last: &mut [usize],
+    last_other: &[usize],
 ) -> (usize, usize)
-    requires lhs { IsStrictlyIncreasing lhs.now }
-    requires rhs { IsStrictlyIncreasing rhs.now }
-    requires room { min (length lhs.now) (length rhs.now) ≤ length both.old }
-    requires last_lhs { IsStrictlyIncreasing last_lhs.now }
-    requires last_rhs { IsStrictlyIncreasing last_rhs.now }
-    requires last_room { min (length last_lhs.now) (length last_rhs.now) ≤ length last_both.old }
-    ensures first { IsFound lhs.now rhs.now both.new result.0 }
-    ensures last { IsFound last_lhs.now last_rhs.now last_both.new result.1 }
+    requires first { IsStrictlyIncreasing first.old }
+    requires other { IsStrictlyIncreasing other.now }
+    requires last { IsStrictlyIncreasing last.old }
+    requires last_other { IsStrictlyIncreasing last_other.now }
+    ensures first { IsFound first.old other.now first.new result.0 }
+    ensures last { IsFound last.old last_other.now last.new result.1 }
 {
-    let (mut at, mut last) = (Places::start(), Places::start());
-    while at.have_eight(lhs, rhs) && last.have_eight(last_lhs, last_rhs) {
-        at = eight_steps(lhs, rhs, both, at);
-        last = eight_steps(last_lhs, last_rhs, last_both, last);
+    let (mut at, mut last_at) = (Places::start(), Places::start());
+    while at.have_eight(first, other) && last_at.have_eight(last, last_other) {
+        at = eight_steps(first, other, at);
+        last_at = eight_steps(last, last_other, last_at);
     }
-    let found = merge_rest(lhs, rhs, both, at);
-    (found, merge_rest(last_lhs, last_rhs, last_both, last))
+    let found = merge_rest(first, other, at);
+    (found, merge_rest(last, last_other, last_at))
 }
 
 // Merges what is left of two lists, and tells how many indices both have.
 #[tactic(auto, using(crate::proofs::Masks::CommonLemmas::merged_facts))]
-fn merge_rest(lhs: &[usize], rhs: &[usize], both: &mut [usize], at: Places) -> usize
-    requires lhs { IsStrictlyIncreasing lhs.now }
-    requires rhs { IsStrictlyIncreasing rhs.now }
-    requires room { min (length lhs.now) (length rhs.now) ≤ length both.old }
-    requires merged { IsMerged lhs.now rhs.now both.old at.lhs at.rhs at.found }
-    ensures { IsFound lhs.now rhs.now both.new result }
+fn merge_rest(list: &mut [usize], other: &[usize], at: Places) -> usize
+    requires other { IsStrictlyIncreasing other.now }
+    requires under_way { IsUnderWay list.old other.now at.list at.other at.found }
+    ensures within { result ≤ length list.new }
+    ensures found { take result list.new ≡ comes_to list.old other.now at.list at.other at.found }
 {
-    let mut at = merge_eights(lhs, rhs, both, at);
-    while at.lhs < lhs.len() && at.rhs < rhs.len() {
-        at = step(lhs, rhs, both, at);
+    let mut at = merge_eights(list, other, at);
+    while at.list < list.len() && at.other < other.len() {
+        at = step(list, other, at);
     }
     at.found
 }
 
 // Merges two lists as long as both have eight indices more.
-fn merge_eights(lhs: &[usize], rhs: &[usize], both: &mut [usize], at: Places) -> Places
-    requires lhs { IsStrictlyIncreasing lhs.now }
-    requires rhs { IsStrictlyIncreasing rhs.now }
-    requires room { min (length lhs.now) (length rhs.now) ≤ length both.old }
-    requires merged { IsMerged lhs.now rhs.now both.old at.lhs at.rhs at.found }
-    ensures { IsMerged lhs.now rhs.now both.new result.lhs result.rhs result.found }
+fn merge_eights(list: &mut [usize], other: &[usize], at: Places) -> Places
+    requires other { IsStrictlyIncreasing other.now }
+    requires under_way { IsUnderWay list.old other.now at.list at.other at.found }
+    ensures under_way { IsUnderWay list.new other.now result.list result.other result.found }
+    ensures same { comes_to list.new other.now result.list result.other result.found
+        ≡ comes_to list.old other.now at.list at.other at.found }
 {
     let mut at = at;
-    while at.have_eight(lhs, rhs) {
-        at = eight_steps(lhs, rhs, both, at);
+    while at.have_eight(list, other) {
+        at = eight_steps(list, other, at);
     }
     at
 }
@@ -188,49 +179,49 @@ fn merge_eights(lhs: &[usize], rhs: &[usize], both: &mut [usize], at: Places) ->
 // Eight steps, of which none is tested for the end of a list. Where the next eight indices of a list are below all that
 // the other one has left, as in long runs of one list, they are passed at once.
 #[inline]
-fn eight_steps(lhs: &[usize], rhs: &[usize], both: &mut [usize], at: Places) -> Places
-    requires lhs { IsStrictlyIncreasing lhs.now }
-    requires rhs { IsStrictlyIncreasing rhs.now }
-    requires left_lhs { at.lhs + 8 ≤ length lhs.now }
-    requires left_rhs { at.rhs + 8 ≤ length rhs.now }
-    requires room { min (length lhs.now) (length rhs.now) ≤ length both.old }
-    requires merged { IsMerged lhs.now rhs.now both.old at.lhs at.rhs at.found }
-    ensures merged { IsMerged lhs.now rhs.now both.new result.lhs result.rhs result.found }
-    ensures goes_on { at.lhs + at.rhs < result.lhs + result.rhs }
+fn eight_steps(list: &mut [usize], other: &[usize], at: Places) -> Places
+    requires other { IsStrictlyIncreasing other.now }
+    requires left_list { at.list + 8 ≤ length list.old }
+    requires left_other { at.other + 8 ≤ length other.now }
+    requires under_way { IsUnderWay list.old other.now at.list at.other at.found }
+    ensures under_way { IsUnderWay list.new other.now result.list result.other result.found }
+    ensures same { comes_to list.new other.now result.list result.other result.found
+        ≡ comes_to list.old other.now at.list at.other at.found }
+    ensures goes_on { at.list + at.other < result.list + result.other }
 {
-    if lhs[at.lhs + 7] < rhs[at.rhs] {
+    if list[at.list + 7] < other[at.other] {
         return at.moved(8, 0);
     }
-    if rhs[at.rhs + 7] < lhs[at.lhs] {
+    if other[at.other + 7] < list[at.list] {
         return at.moved(0, 8);
     }
     let mut next = at;
     for k in 0..8usize {
-        next = step(lhs, rhs, both, next);
+        next = step(list, other, next);
     }
     next
 }
 
-// Passes the lower of the next indices of two lists, or both where they are equal, and keeps it then. With no branch,
-// since it can't be foreseen which one is lower.
+// Passes the lower of the next indices of two lists, or both where they are equal, and keeps it then, behind those that
+// were kept before. With no branch, since it can't be foreseen which one is lower.
 #[inline]
-fn step(lhs: &[usize], rhs: &[usize], both: &mut [usize], at: Places) -> Places
-    requires lhs { IsStrictlyIncreasing lhs.now }
-    requires rhs { IsStrictlyIncreasing rhs.now }
-    requires left_lhs { at.lhs < length lhs.now }
-    requires left_rhs { at.rhs < length rhs.now }
-    requires room { min (length lhs.now) (length rhs.now) ≤ length both.old }
-    requires merged { IsMerged lhs.now rhs.now both.old at.lhs at.rhs at.found }
-    ensures merged { IsMerged lhs.now rhs.now both.new result.lhs result.rhs result.found }
-    ensures goes_on { at.lhs + at.rhs < result.lhs + result.rhs }
-    ensures lhs_by_one { result.lhs ≤ at.lhs + 1 }
-    ensures rhs_by_one { result.rhs ≤ at.rhs + 1 }
+fn step(list: &mut [usize], other: &[usize], at: Places) -> Places
+    requires other { IsStrictlyIncreasing other.now }
+    requires left_list { at.list < length list.old }
+    requires left_other { at.other < length other.now }
+    requires under_way { IsUnderWay list.old other.now at.list at.other at.found }
+    ensures under_way { IsUnderWay list.new other.now result.list result.other result.found }
+    ensures same { comes_to list.new other.now result.list result.other result.found
+        ≡ comes_to list.old other.now at.list at.other at.found }
+    ensures goes_on { at.list + at.other < result.list + result.other }
+    ensures list_by_one { result.list ≤ at.list + 1 }
+    ensures other_by_one { result.other ≤ at.other + 1 }
 {
-    let (left, right) = (lhs[at.lhs], rhs[at.rhs]);
-    both[at.found] = left;
+    let (left, right) = (list[at.list], other[at.other]);
+    list[at.found] = left;
     Places {
-        lhs: at.lhs + (left <= right) as usize,
-        rhs: at.rhs + (right <= left) as usize,
+        list: at.list + (left <= right) as usize,
+        other: at.other + (right <= left) as usize,
         found: at.found + (left == right) as usize,
     }
 }
@@ -238,44 +229,44 @@ fn step(lhs: &[usize], rhs: &[usize], both: &mut [usize], at: Places) -> Places
 // Where a merge stands: a place in each list, and how many indices before these places both have.
 #[derive(Clone, Copy)]
 struct Places {
-    lhs: usize,
-    rhs: usize,
+    list: usize,
+    other: usize,
     found: usize,
 }
 
 impl Places {
     fn start() -> Places
-        ensures { (result.lhs ≡ 0) × (result.rhs ≡ 0) × (result.found ≡ 0) }
+        ensures { (result.list ≡ 0) × (result.other ≡ 0) × (result.found ≡ 0) }
     {
         Places {
-            lhs: 0,
-            rhs: 0,
+            list: 0,
+            other: 0,
             found: 0,
         }
     }
 
     // Whether both lists have eight indices more.
     #[inline]
-    fn have_eight(self, lhs: &[usize], rhs: &[usize]) -> bool
-        requires within_lhs { self.lhs ≤ length lhs.now }
-        requires within_rhs { self.rhs ≤ length rhs.now }
-        ensures { IsTrue result ↔ ((self.lhs + 8 ≤ length lhs.now) × (self.rhs + 8 ≤ length rhs.now)) }
+    fn have_eight(self, list: &[usize], other: &[usize]) -> bool
+        requires within_list { self.list ≤ length list.now }
+        requires within_other { self.other ≤ length other.now }
+        ensures { IsTrue result ↔ ((self.list + 8 ≤ length list.now) × (self.other + 8 ≤ length other.now)) }
     {
-        lhs.len() - self.lhs >= 8 && rhs.len() - self.rhs >= 8
+        list.len() - self.list >= 8 && other.len() - self.other >= 8
     }
 
     // So many indices of each list further.
     #[inline]
-    fn moved(self, lhs: usize, rhs: usize) -> Places
-        requires lhs { self.lhs + lhs < 2 ^ 64 }
-        requires rhs { self.rhs + rhs < 2 ^ 64 }
-        ensures lhs { result.lhs ≡ self.lhs + lhs }
-        ensures rhs { result.rhs ≡ self.rhs + rhs }
+    fn moved(self, list: usize, other: usize) -> Places
+        requires list { self.list + list < 2 ^ 64 }
+        requires other { self.other + other < 2 ^ 64 }
+        ensures list { result.list ≡ self.list + list }
+        ensures other { result.other ≡ self.other + other }
         ensures found { result.found ≡ self.found }
     {
         Places {
-            lhs: self.lhs + lhs,
-            rhs: self.rhs + rhs,
+            list: self.list + list,
+            other: self.other + other,
             found: self.found,
         }
     }

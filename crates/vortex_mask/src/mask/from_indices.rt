@@ -257,20 +257,25 @@ impl Mask {
     {
         let lhs: Vec<usize> = lhs.collect(alloc)?;
         let rhs: Vec<usize> = rhs.collect(alloc)?;
-        Mask::of_common(alloc, len, &lhs, &rhs)
+        Mask::of_common(alloc, len, lhs, rhs)
     }
 
     // The mask of `len` values that is true exactly at the indices that two lists have in common.
     #[tactic(auto, using(crate::proofs::Masks::FaultLemmas::listed_facts))]
-    fn of_common(alloc: Global, len: usize, lhs: &[usize], rhs: &[usize]) -> Result<Mask, MaskError>
-        requires lhs { IsStrictlyIncreasing lhs.now }
-        requires rhs { IsStrictlyIncreasing rhs.now }
-        ensures mask { IfOk result (IsOfIndices len (common lhs.now rhs.now)) }
-        ensures within { IfOk result (λ m. out_of_bounds len (common lhs.now rhs.now) ≡ None) }
+    fn of_common(
+        alloc: Global,
+        len: usize,
+        lhs: Vec<usize>,
+        rhs: Vec<usize>,
+    ) -> Result<Mask, MaskError>
+        requires lhs { IsStrictlyIncreasing lhs.items }
+        requires rhs { IsStrictlyIncreasing rhs.items }
+        ensures mask { IfOk result (IsOfIndices len (common lhs.items rhs.items)) }
+        ensures within { IfOk result (λ m. out_of_bounds len (common lhs.items rhs.items) ≡ None) }
         ensures refused { IfErr result (λ e. (e ≡ MaskError.Memory alloc_error)
-            ⊎ (out_of_bounds len (common lhs.now rhs.now) ≡ Some e)) }
+            ⊎ (out_of_bounds len (common lhs.items rhs.items) ≡ Some e)) }
     {
-        let mut indices = common(alloc, lhs, rhs)?;
+        let mut indices = common(lhs, rhs);
         if let Some(fault) = out_of_bounds(len, &indices) {
             return Err(fault);
         }

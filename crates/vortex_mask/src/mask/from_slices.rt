@@ -11,8 +11,10 @@ ghost use Rattle.vortex_mask.specs.Mask.{truth, variant, fitting_variant, all_fa
 ghost use Rattle.vortex_mask.specs.MaskValues.{only_ranges};
 ghost use Rattle.vortex_mask.specs.Ranges.{rows_held};
 
+use crate::mask::set_ranges::set_ranges;
 use crate::mask::{Mask, MaskError};
-use mask_bits::{BitBuffer, BitBufferMut};
+use mask_bits::BitBuffer;
+use mask_bits::words::started_words;
 use std::alloc::{AllocError, Global};
 
 impl Mask {
@@ -143,11 +145,7 @@ fn buffer_of(alloc: Global, len: usize, ranges: &[(usize, usize)]) -> Result<Bit
     ensures len { IfOk result (λ b. length (values b) ≡ len) }
     ensures list { IfOk result (λ b. AreRanges (values b) ranges.now) }
 {
-    let mut buffer = BitBufferMut::with_capacity(alloc, len)?;
-    for (start, end) in ranges {
-        buffer.append_n(false, *start - buffer.len())?;
-        buffer.append_n(true, *end - *start)?;
-    }
-    buffer.append_n(false, len - buffer.len())?;
-    buffer.freeze()
+    let mut bytes = vec![in alloc; 0u8; 8 * started_words(len)]?;
+    set_ranges(&mut bytes, ranges);
+    BitBuffer::from_vec(bytes, len)
 }

@@ -53,6 +53,16 @@ pub positions-within : (m : List Bool) → All (λ p. p < length m) (positions m
 positions-within [] = All-nil (λ p. p < 0)
 positions-within (v ∷ m) = λ k d h. grind (arith, positions-true m, positions-false m, positions-within m, get_or-map suc (positions m) k d d, get_or-map suc (positions m) (k - 1) d d, length-map)
 
+-- and its value is true
+place-true_among : (m : List Bool) (n : ℕ) → n < trues m → get_or m (get_or (positions m) n 0) false ≡ true
+place-true_among [] n h = absurd (omega arith)
+place-true_among (true ∷ m) zero h = refl
+place-true_among (true ∷ m) (suc n) h = grind (arith, place-true_among m n (omega arith), positions-true, get_or-map, count-trues)
+place-true_among (false ∷ m) n h = grind (arith, place-true_among m n h, positions-false, get_or-map, count-trues)
+
+pub place-true : (m : List Bool) (n : ℕ) → n < count m → get_or m (get_or (positions m) n 0) false ≡ true
+place-true m n h = place-true_among m n (omega (arith, count-trues m))
+
 pub count-le-length : (m : List Bool) → count m ≤ length m
 count-le-length m = length-indices_from 0 m
 

@@ -1,8 +1,8 @@
 -- The bits of some bytes from any position on: parts of them, the words that show them, and their counts.
-use Rattle.std.proofs.Common.{◌≡◌, ℕ, ◌+◌, ◌*◌, ◌-◌, ◌^◌, ◌<◌, ◌≤◌, Bool, false, nat_eq, List, ◌++◌, length, get_or, drop, sym, ◌∙◌, arith, count_ones}
+use Rattle.std.proofs.Common.{◌≡◌, ℕ, ◌+◌, ◌*◌, ◌-◌, ◌%◌, ◌/◌, ◌^◌, ◌<◌, ◌≤◌, Bool, false, nat_eq, List, [], ◌++◌, length, get_or, drop, ap, sym, ◌∙◌, arith, count_ones}
 use Rattle.std.specs.Int.{bit_at}
 use Rattle.std.specs.Int.RustNames.{bit_and}
-use Rattle.std.proofs.lemmas.List.{get_or-drop}
+use Rattle.std.proofs.lemmas.List.{get_or-drop, nil_from_length}
 use Rattle.mask_bits.specs.Bitmap.{bitmap}
 use Rattle.mask_bits.specs.Buffer.{backing_bit}
 use Rattle.mask_bits.specs.Positions.{count, repeated}
@@ -59,3 +59,19 @@ bit-window bytes p w j shows h = grind (arith, get_or-word_bits w j false h, get
 -- ---- a list that is written word by word
 
 pub ruleset low_counts = (count-low)
+
+-- none of them
+pub no_values : (bytes : List ℕ) (p : ℕ) → bitmap bytes p 0 ≡ []
+no_values bytes p = nil_from_length (bitmap bytes p 0) (length-bitmap bytes p 0)
+
+-- the values of whole words, and those past them
+pub bitmap-split : (bytes : List ℕ) (offset len : ℕ)
+    → bitmap bytes offset len ≡ bitmap bytes offset (64 * (len / 64)) ++ bitmap bytes (offset + 64 * (len / 64)) (len % 64)
+bitmap-split bytes offset len =
+    let parts : len ≡ 64 * (len / 64) + len % 64 = omega arith in
+    ap (bitmap bytes offset) parts ∙ bitmap-append bytes offset (64 * (len / 64)) (len % 64)
+
+pub front-split : (bytes : List ℕ) (len : ℕ) → bitmap bytes 0 len ≡ bitmap bytes 0 (64 * (len / 64)) ++ bitmap bytes (64 * (len / 64)) (len % 64)
+front-split bytes len =
+    let place : 0 + 64 * (len / 64) ≡ 64 * (len / 64) = omega arith in
+    bitmap-split bytes 0 len ∙ ap (λ p. bitmap bytes 0 (64 * (len / 64)) ++ bitmap bytes p (len % 64)) place

@@ -1,10 +1,12 @@
 -- Words and first bits of some bytes: what a window shows, and a front that grows by a word.
-use Rattle.std.proofs.Common.{◌≡◌, ℕ, ◌+◌, ◌*◌, ◌-◌, ◌/◌, ◌%◌, ◌<◌, ◌≤◌, Bool, false, List, ◌++◌, length, get_or, take, drop, slice_range, refl, sym, ap, ◌∙◌, arith}
+use Rattle.std.proofs.Common.{◌≡◌, ℕ, ◌+◌, ◌*◌, ◌-◌, ◌/◌, ◌%◌, ◌<◌, ◌≤◌, Bool, false, List, ◌++◌, length, get_or, take, drop, nat_eq, slice_range, refl, sym, subst, ap, ◌∙◌, arith}
+use Rattle.std.specs.Int.{bit_at}
 use Rattle.std.specs.Int.{w64, from_le_bytes}
-use Rattle.std.proofs.lemmas.List.{length-append, length-take, get_or_append_left, get_or-append_right, get_or_past, get_or-drop, get_or-take}
+use Rattle.std.proofs.lemmas.List.{drop-drop, length-append, length-take, get_or_append_left, get_or-append_right, get_or_past, get_or-drop, get_or-take}
 use Rattle.std.proofs.lemmas.List.Edits.{length-between, get_or-between}
 use Rattle.std.proofs.lemmas.List.FromFn.{length-map-range_with_len, get_or-map-range_with_len, fill_by_all}
 use Rattle.std.proofs.lemmas.Slice.{take-put_mid_below, drop-put_mid, between-put_mid}
+use Rattle.mask_bits.specs.Bitmap.{bitmap}
 use Rattle.mask_bits.specs.Buffer.{Packed, backing_bit, values}
 use Rattle.mask_bits.specs.Words.{word_bits, window}
 use Rattle.mask_bits.proofs.BufferLemmas.{length-values, get_or-values, values_from_bits, values_from_front}
@@ -117,3 +119,20 @@ window-drop bytes k p q place =
     grind (arith, get_or-window bytes q j false h, get_or-drop k bytes ((p + j) / 8) 0))
 
 pub ruleset whole_words = (word_bits-first_chunk)
+
+-- ---- bytes that are written in the middle
+
+-- the values before them stay
+pub put-before : (old ys : List ℕ) (w k : ℕ) → 8 * w ≤ length old → bitmap (put_mid (8 * w) k old ys) 0 (64 * w) ≡ bitmap old 0 (64 * w)
+put-before old ys w k begins =
+    front-same old (put_mid (8 * w) k old ys) (64 * w) (λ p h.
+    ap (λ x. nat_eq (bit_at x (p % 8)) 1) (get_or-put_mid_below (8 * w) k old ys (p / 8) begins (omega arith)))
+
+-- what is behind a later place is as it was, where it is behind this one
+pub behind-further : (xs old : List ℕ) (at k : ℕ) → drop at xs ≡ drop at old → drop (at + k) xs ≡ drop (at + k) old
+behind-further xs old at k same = sym (drop-drop k at xs) ∙ ap (drop k) same ∙ drop-drop k at old
+
+pub behind-later : (xs old : List ℕ) (at later : ℕ) → at ≤ later → drop at xs ≡ drop at old → drop later xs ≡ drop later old
+behind-later xs old at later after same =
+    let place : at + (later - at) ≡ later = omega arith in
+    subst (λ n. drop n xs ≡ drop n old) place (behind-further xs old at (later - at) same)

@@ -1,18 +1,18 @@
 -- The bits of a word's lowest places at the set ones of a mask: by parts, and one by one.
-use Rattle.std.proofs.Common.{◌≡◌, ◌⊎◌, inl, inr, bit_and, bit_or, ℕ, zero, suc, min, ◌+◌, ◌*◌, ◌-◌, ◌/◌, ◌%◌, ◌^◌, ◌<◌, ◌≤◌, Bool, false, nat_eq, List, [], ◌∷◌, map, length, get_or, count_ones, refl, sym, ap, ap₂, ◌∙◌, arith, pow-add, mod-lt, mod-eq_of_lt, subst}
+use Rattle.std.proofs.Common.{◌≡◌, ◌⊎◌, inl, inr, bit_and, ℕ, zero, suc, min, ◌+◌, ◌*◌, ◌-◌, ◌/◌, ◌%◌, ◌^◌, ◌<◌, ◌≤◌, Bool, false, nat_eq, List, [], ◌∷◌, map, length, get_or, count_ones, refl, sym, ap, ap₂, ◌∙◌, arith, pow-add, pow_mono, lt_of_lt_of_le, mod-lt, mod-eq_of_lt, subst}
 use Rattle.std.specs.Int.{bit_at}
 use lib.Count.{ones_step}
 use lib.Pow.{field, mod-mod-pow}
 use Rattle.std.proofs.lemmas.Bool.{cases_lt}
 use Rattle.std.proofs.lemmas.List.{get_or-map, length-map}
-use Rattle.std.proofs.lemmas.Nat.{pow_pos, shr-shr, shr_split, shr_high, ones-le, and_mask, and_shr, or_comm, or_shifted, shl_whole, mod-pow-add, mod-mul-add}
+use Rattle.std.proofs.lemmas.Nat.{pow_pos, shr-shr, shr_split, shr_high, ones-le, and_shr, mod-pow-add, mod-mul-add}
 use Rattle.std.proofs.lemmas.Nat.Bits.{bit_at_lowest, bit_at-suc, bit_at_above, bit_at_and, bit_at_cat_low}
 use Rattle.std.proofs.Math.Nat.{mul_assoc, mul_comm, add-mul}
 use Rattle.mask_bits.specs.Extract.{Extracts, gathered, closed_up}
 use Rattle.mask_bits.specs.Positions.{positions, count}
 use Rattle.mask_bits.specs.Words.{word_bits}
 use Rattle.mask_bits.proofs.Lists.Places.PlaceLemmas.{positions-true, positions-false}
-use Rattle.mask_bits.proofs.Lists.Words.ShiftLemmas.{bit_at-shr, bit_at-mod}
+use Rattle.mask_bits.proofs.Lists.Words.ShiftLemmas.{bit_at-mod}
 use Rattle.mask_bits.proofs.Lists.Words.WordLemmas.{word_bits_from_bits}
 
 -- how many of a mask's lowest n places are set
@@ -197,52 +197,34 @@ module _ (p m b : ℕ) (h : p < 7) where
     | inr on ↦ closed_from-set on
   ]
 
--- ---- the bytes of a word
+-- ---- the source's bits at the mask alone
 
--- a byte of the source's bits at the mask alone
-abbrev pub byte_within : ℕ → ℕ → ℕ → ℕ
-byte_within s m j = bit_and s m / 2 ^ (8 * j) % 2 ^ 8
+pub within-free : (s m p : ℕ) → bit_at m p ≡ 0 → bit_at (bit_and s m) p ≡ 0
+within-free s m p off = omega (arith, bit_at_and s m p, off)
 
-abbrev pub byte_of : ℕ → ℕ → ℕ
-byte_of m j = m / 2 ^ (8 * j) % 2 ^ 8
+pub gathered-byte : (s m : ℕ) → closed_from 0 m (bit_and s m) ≡ gathered 8 s m
+gathered-byte s m = closed_from-all m (bit_and s m) ∙ gathered-and 8 s m
 
-pub byte_within-free : (s m j p : ℕ) → p < 8 → bit_at (byte_of m j) p ≡ 0 → bit_at (byte_within s m j) p ≡ 0
-byte_within-free s m j p h off =
-    let own : bit_at m (8 * j + p) ≡ 0 = sym (bit_at-shr m (8 * j) p) ∙ sym (bit_at-mod (m / 2 ^ (8 * j)) 8 p h) ∙ off in
-    bit_at-mod (bit_and s m / 2 ^ (8 * j)) 8 p h ∙ bit_at-shr (bit_and s m) (8 * j) p ∙ omega (arith, bit_at_and s m (8 * j + p), own)
-
-pub gathered-byte : (s m j : ℕ) → closed_from 0 (byte_of m j) (byte_within s m j) ≡ gathered 8 (s / 2 ^ (8 * j)) (m / 2 ^ (8 * j))
-gathered-byte s m j =
-    closed_from-all (byte_of m j) (byte_within s m j) ∙ gathered-low 8 (bit_and s m / 2 ^ (8 * j)) (m / 2 ^ (8 * j))
-    ∙ ap (λ x. gathered 8 x (m / 2 ^ (8 * j))) (and_shr s m (8 * j)) ∙ gathered-and 8 (s / 2 ^ (8 * j)) (m / 2 ^ (8 * j))
-
--- ---- one byte after another
+-- ---- two neighbors joined
 
 pub ones_in-is : (n m : ℕ) → ones_in n m ≡ count_ones (m % 2 ^ n)
 ones_in-is zero m = omega (arith, ones-le 0 (m % 1) (omega arith))
 ones_in-is (suc n) m = omega (arith, ones_step (m % 2 ^ suc n), same_lowest m n, ap count_ones (half_low m n), ones_in-is n (m / 2))
 
-pub ones_in-byte : (m : ℕ) → count_ones (bit_and m 255) ≡ ones_in 8 m
-ones_in-byte m = ap count_ones (and_mask m 8) ∙ sym (ones_in-is 8 m)
-
-next_byte : (j : ℕ) → 8 * (j + 1) ≡ 8 * j + 8
-next_byte j = omega arith
-
-pub ones_in-more : (m j : ℕ) → ones_in (8 * (j + 1)) m ≡ ones_in (8 * j) m + ones_in 8 (m / 2 ^ (8 * j))
-ones_in-more m j = ap (λ k. ones_in k m) (next_byte j) ∙ ones_in-join (8 * j) 8 m
-
-pub gathered-more : (s m j x : ℕ) → j < 8 → x ≡ gathered 8 (s / 2 ^ (8 * j)) (m / 2 ^ (8 * j))
-    → bit_or (gathered (8 * j) s m) (x * 2 ^ ones_in (8 * j) m % 2 ^ 64) ≡ gathered (8 * (j + 1)) s m
-gathered-more s m j x h is =
-    let n : ℕ = ones_in (8 * j) m in
-    let k : ℕ = ones_in 8 (m / 2 ^ (8 * j)) in
-    let low : ℕ = gathered (8 * j) s m in
-    let fits : x < 2 ^ k = subst (λ y. y < 2 ^ k) (sym is) (gathered-lt 8 (s / 2 ^ (8 * j)) (m / 2 ^ (8 * j))) in
-    let whole : x * 2 ^ n % 2 ^ 64 ≡ x * 2 ^ n = shl_whole x k n 64 fits (omega (arith, ones_in-more m j, ones_in-le (8 * (j + 1)) m)) in
-    ap (bit_or low) whole ∙ or_comm low (x * 2 ^ n) ∙ or_shifted x n low (gathered-lt (8 * j) s m)
-    ∙ omega (arith, mul_comm x (2 ^ n))
-    ∙ ap (λ y. low + 2 ^ n * y) is
-    ∙ sym (ap (λ i. gathered i s m) (next_byte j) ∙ gathered-join (8 * j) 8 s m)
+-- of w places each, where those of the first one begin at place `at`
+pub gathered-two : (w s m at lower upper n : ℕ) → lower ≡ at → upper ≡ at + w → n ≡ count_ones (m / 2 ^ at % 2 ^ w)
+    → (gathered w (s / 2 ^ lower) (m / 2 ^ lower) + gathered w (s / 2 ^ upper) (m / 2 ^ upper) * 2 ^ n) % 2 ^ (w + w) ≡ gathered (w + w) (s / 2 ^ at) (m / 2 ^ at)
+gathered-two w s m at lower upper n first second counted =
+    let a : ℕ = s / 2 ^ at in
+    let b : ℕ = m / 2 ^ at in
+    let rest : ℕ = gathered w (a / 2 ^ w) (b / 2 ^ w) in
+    let from : (x : ℕ) → x / 2 ^ upper ≡ x / 2 ^ at / 2 ^ w = λ x. ap (λ k. x / 2 ^ k) second ∙ sym (shr-shr x at w) in
+    let few : gathered (w + w) a b < 2 ^ (w + w) = lt_of_lt_of_le (gathered-lt (w + w) a b) (pow_mono (ones_in-le (w + w) b)) in
+    ap (λ y. y % 2 ^ (w + w))
+    (ap₂ (λ x y. x + y) (ap (λ k. gathered w (s / 2 ^ k) (m / 2 ^ k)) first)
+    (ap₂ (λ x k. x * 2 ^ k) (ap₂ (gathered w) (from s) (from m)) (counted ∙ sym (ones_in-is w b)) ∙ mul_comm rest (2 ^ ones_in w b))
+    ∙ sym (gathered-join w w a b))
+    ∙ mod-eq_of_lt few
 
 -- ---- an extract
 
@@ -332,7 +314,13 @@ gathered-full (suc n) s =
     ∙ ap (λ x. s % 2 + 2 * x) (ap (gathered n (s / 2)) half ∙ gathered-full n (s / 2))
     ∙ omega (arith, mod-pow-add s n 1, ap (λ k. s % 2 ^ k) e)
 
-pub Extracts-full : (s : ℕ) → s < 2 ^ 64 → Extracts s (2 ^ 64 - 1) s
-Extracts-full s fits = subst (Extracts s (2 ^ 64 - 1)) (gathered-full 64 s ∙ mod-eq_of_lt fits) (Extracts-gathered s (2 ^ 64 - 1))
+pub Extracts-full : (s : ℕ) → Extracts s (2 ^ 64 - 1) s
+Extracts-full s =
+    let cut = Extracts-gathered s (2 ^ 64 - 1) in
+    record {
+      bits = λ k h.
+          let same : bit_at (gathered 64 s (2 ^ 64 - 1)) k ≡ bit_at s k = ap (λ x. bit_at x k) (gathered-full 64 s) ∙ bit_at-mod s 64 k h in
+          (λ set. (cut.bits k h).0 (same ∙ set), λ there. sym same ∙ (cut.bits k h).1 there);
+    }
 
 pub ruleset full_mask = (Extracts-full)

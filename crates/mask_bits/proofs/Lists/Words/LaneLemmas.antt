@@ -1,8 +1,8 @@
 -- Vectors lane by lane, those of the eight bytes of a word, and how the bits of a byte close up.
-use Rattle.std.proofs.Common.{◌≡◌, ℕ, zero, suc, ◌+◌, ◌-◌, ◌*◌, ◌/◌, ◌%◌, ◌^◌, ◌<◌, inl, inr, List, [], ◌∷◌, length, get_or, map, replicate, refl, sym, ap, ap₂, ◌∙◌, arith, w8, bit_and, Fits, pow-add, pow-suc}
+use Rattle.std.proofs.Common.{◌≡◌, ℕ, ◌+◌, ◌-◌, ◌*◌, ◌/◌, ◌%◌, ◌^◌, ◌<◌, inl, inr, List, length, get_or, map, replicate, refl, sym, ap, ap₂, ◌∙◌, arith, w8, bit_and, Fits}
 use Rattle.std.specs.Int.{bit_at}
-use Rattle.std.specs.Simd.Lanes.{zip2, Each1, number_l, digits_l}
-use Rattle.std.proofs.lemmas.Simd.{length-zip2, get_or-zip2, length-replicate, get_or-replicate, Each1-get_or, get_or_narrower}
+use Rattle.std.specs.Simd.Lanes.{zip2, Each1}
+use Rattle.std.proofs.lemmas.Simd.{length-zip2, get_or-zip2, length-replicate, get_or-replicate, Each1-get_or, Each1-from_get_or, swz_l, SwzOk, SwzOk-from_below, length-swz_l, get_or-swz_l_below}
 use Rattle.std.proofs.lemmas.Nat.{pow_pos, shr-shr, shr_split, one_shl}
 use Rattle.std.proofs.lemmas.Nat.Bits.{bit_at-lt, and_pow, and_high_mask}
 use Rattle.std.specs.Int.Bits.{and_zero_r}
@@ -42,25 +42,26 @@ AreLanes-splat n x = record { lanes = length-replicate n x; each = λ j l. get_o
 pub AreLanes-same : {n : ℕ} {v : List ℕ} {f g : ℕ → ℕ} → AreLanes n v f → ((j : ℕ) → j < n → f j ≡ g j) → AreLanes n v g
 AreLanes-same h e = record { lanes = h.lanes; each = λ j l. h.each j l ∙ e j l }
 
-pub lane-fits : (v : List ℕ) (j : ℕ) → length v ≡ 8 → Each1 (Fits w8) v → j < 8 → get_or v j 0 < 256
-lane-fits v j long fits l = (Each1-get_or (Fits w8) v j 0 (omega arith) fits).fits
+pub lane-fits : (v : List ℕ) (n j : ℕ) → length v ≡ n → Each1 (Fits w8) v → j < n → get_or v j 0 < 256
+lane-fits v n j long fits l = (Each1-get_or (Fits w8) v j 0 (omega arith) fits).fits
 
--- ---- the bytes of a word
+-- ---- lanes by their numbers
 
-pow_256 : (i : ℕ) → 2 ^ (8 * i) ≡ 256 ^ i
-pow_256 zero = refl
-pow_256 (suc i) =
-    let e : 8 * suc i ≡ 8 * i + 8 = omega arith in
-    ap (λ k. 2 ^ k) e ∙ omega (arith, pow-add 2 (8 * i) 8, pow-suc 256 i, pow_256 i)
+module _ (js : List ℕ) (f : ℕ → ℕ) (h : AreLanes 16 js f) (small : (j : ℕ) → j < 16 → f j < 16) where
+  pub SwzOk-lanes : SwzOk w8 16 16 0 js
+  SwzOk-lanes =
+      let long = h.lanes in
+      SwzOk-from_below w8 16 1 16 0 js refl (omega arith) (Each1-from_get_or (λ j. j < 16) js 0 (λ i l. omega (arith, h.each i (omega arith), small i (omega arith))))
 
-pub AreLanes-word : (w : ℕ) → w < 2 ^ 64 → AreLanes 8 (digits_l 256 8 (number_l (2 ^ 64) (w ∷ []))) (λ j. w / 2 ^ (8 * j) % 2 ^ 8)
-AreLanes-word w fits = record {
-  lanes = refl;
-  each = λ j l.
-      let own : 8 * 0 + j ≡ j = omega arith in
-      ap (λ k. get_or (digits_l 256 8 (number_l (2 ^ 64) (w ∷ []))) k 0) (sym own)
-      ∙ get_or_narrower (2 ^ 64) 8 256 8 (w ∷ []) 0 j refl (fits, tt) l (omega arith) ∙ ap (λ x. w / x % 2 ^ 8) (sym (pow_256 j));
-}
+  pub AreLanes-swz_l : (v : List ℕ) → AreLanes 16 (swz_l w8 16 v 0 js) (λ j. get_or v (f j) 0)
+  AreLanes-swz_l v =
+      let long = h.lanes in
+      record {
+        lanes = length-swz_l w8 16 v 0 js ∙ long;
+        each = λ j l.
+            let e = h.each j l in
+            get_or-swz_l_below w8 16 v 0 js j (omega arith) (omega (arith, small j l)) ∙ ap (λ k. get_or v k 0) (omega arith);
+      }
 
 -- ---- a byte closes up at a place
 

@@ -4,9 +4,10 @@ use Rattle.std.specs.Int.{bit_at, bit_not, w64}
 use Rattle.std.specs.Int.RustNames.{bit_and, bit_or}
 use Rattle.std.proofs.lemmas.Bool.{cases_lt}
 use Rattle.std.proofs.Math.Bool.{or-false}
+use Rattle.std.proofs.Math.Nat.{mul_assoc}
 use Rattle.std.proofs.lemmas.List.{length-append, length-take, length-replicate, get_or-take, get_or-replicate, get_or_append_left, get_or-append_right, get_or_past}
 use Rattle.std.proofs.lemmas.List.Edits.{length-between, get_or-between}
-use Rattle.std.proofs.lemmas.Nat.{shr-shr, and_mask, pow_pos}
+use Rattle.std.proofs.lemmas.Nat.{shr-shr, and_mask, pow_pos, pow-add, mul-mod_first}
 use Rattle.std.proofs.lemmas.Nat.Bits.{bit_at-zero, bit_at-lt, bit_at_and, bit_at_or, bit_at_not, bit_at_above, bit_at_ones, bit_at_ones_above, ones_shr, bit_at_cat_low, bit_at_cat_high}
 use Rattle.mask_bits.specs.Positions.{repeated}
 use Rattle.mask_bits.specs.Words.{word_bits}
@@ -114,4 +115,15 @@ word_bits-funnel lo hi low fits few =
     word_bits_from_bits w (slice_range both low (low + 64)) (length-between both low (low + 64) within ∙ omega arith) (λ j h.
     grind (arith, get_or-word_bits w j false h, funnel_bit lo hi low j fits few h, get_or-between both low (low + 64) j false))
 
-pub ruleset words_cut = (word_bits-low_ones, word_bits-funnel)
+-- the same by one shift of the next word, from a bit on that isn't the first
+pub word_bits-funnel_inside : (lo hi low : ℕ) → lo < 2 ^ 64 → 0 < low → low < 64
+    → word_bits (bit_or (lo / 2 ^ low) (hi * 2 ^ (64 - low) % 2 ^ 64)) ≡ slice_range (word_bits lo ++ word_bits hi) low (low + 64)
+word_bits-funnel_inside lo hi low fits some few =
+    let k : ℕ = 63 - low in
+    let one_more : 64 - low ≡ 1 + k = omega arith in
+    let in_two : hi * 2 ^ (64 - low) ≡ hi * 2 ^ 1 * 2 ^ k
+    = ap (λ n. hi * 2 ^ n) one_more ∙ ap (λ x. hi * x) (pow-add 2 1 k) ∙ sym (mul_assoc hi (2 ^ 1) (2 ^ k)) in
+    ap (λ x. word_bits (bit_or (lo / 2 ^ low) x)) (ap (λ x. x % 2 ^ 64) in_two ∙ sym (mul-mod_first (hi * 2 ^ 1) (2 ^ k) (2 ^ 64)))
+    ∙ word_bits-funnel lo hi low fits few
+
+pub ruleset words_cut = (word_bits-low_ones, word_bits-funnel, word_bits-funnel_inside)

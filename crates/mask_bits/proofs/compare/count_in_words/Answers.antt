@@ -5,9 +5,6 @@ use Rattle.mask_bits.proofs.compare.count_in_words.Goals as goal
 pub count_on-requires-clause-counted : goal.count_on-requires-clause-counted
 count_on-requires-clause-counted g c = count-none g.C.BitOp.of_bits _ _ _ _
 
-pub count_on-first-requires-clause-counted : goal.count_on-first-requires-clause-counted
-count_on-first-requires-clause-counted g c = count-none g.C.BitOp.of_bits _ _ _ _
-
 pub returns-then-b-eq0 : goal.returns-then-b-eq0
 returns-then-b-eq0 g c = grind (arith, bitmap-byte)
 

@@ -1,7 +1,8 @@
 use Rattle.std.proofs.Common.{◌/◌, append-nil, arith}
 use Rattle.std.specs.Int.{div_ceil}
 use Rattle.std.proofs.lemmas.List.{drop-set-lt}
-use Rattle.mask_c.proofs.AppendLemmas.{filled-values, no_values}
+use Rattle.mask_c.proofs.AppendLemmas.{filled-values}
+use Rattle.mask_bits.proofs.Lists.Words.BackingBitLemmas.{no_values}
 use Rattle.mask_c.proofs.append.fill_last.Goals as goal
 
 pub returns-then-low-eq0-clause-values : goal.returns-then-low-eq0-clause-values

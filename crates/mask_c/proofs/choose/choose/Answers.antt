@@ -3,9 +3,9 @@ use Rattle.std.proofs.lemmas.List.{take_all, take_rest}
 use Rattle.mask_bits.specs.Positions.{chosen, count, positions}
 use Rattle.mask_bits.proofs.Lists.Places.SelectLemmas.{count-word_more}
 use Rattle.mask_bits.proofs.Lists.Words.PaddedLemmas.{padded_part-whole}
-use Rattle.vortex_mask.proofs.Lists.StartedWordLemmas.{count_below-le}
 use Rattle.mask_c.specs.Strings.{items_at}
 use Rattle.mask_c.proofs.ChooseLemmas.{rows-next, part-within, rows-all}
+use Rattle.mask_bits.proofs.Lists.CountLemmas.{count_below-le}
 use Rattle.mask_c.proofs.choose.choose.Goals as goal
 
 pub choose_by_word-at-requires-clause-within : goal.choose_by_word-at-requires-clause-within

@@ -1,7 +1,8 @@
 use Rattle.std.proofs.Common.{arith}
 use Rattle.mask_bits.proofs.Lists.Words.WordLemmas.{length-word_bits}
 use Rattle.mask_bits.specs.Words.{word_bits}
-use Rattle.mask_c.proofs.LastLemmas.{put-before, put-list, put-clear, put-behind}
+use Rattle.mask_c.proofs.LastLemmas.{put-list, put-clear, put-behind}
+use Rattle.mask_bits.proofs.Lists.Words.FrontLemmas.{put-before}
 use Rattle.mask_c.proofs.last.put_last.Goals as goal
 
 pub returns-clause-before : goal.returns-clause-before

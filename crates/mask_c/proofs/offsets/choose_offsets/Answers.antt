@@ -4,9 +4,10 @@ use Rattle.std.proofs.lemmas.List.{drop-set-lt, length-map, length-take, take_al
 use Rattle.mask_bits.specs.Bitmap.{bitmap}
 use Rattle.mask_bits.specs.Positions.{chosen, count, positions}
 use Rattle.mask_c.specs.Strings.{ends_from, items_at, offsets_of, sizes}
-use Rattle.vortex_mask.proofs.Lists.StartedWordLemmas.{count_below-le}
-use Rattle.mask_c.proofs.StringLemmas.{behind-further, items-all, offsets-word, sum-parts, sum-word, word-counted, word-within}
+use Rattle.mask_c.proofs.StringLemmas.{items-all, offsets-word, sum-parts, sum-word, word-counted, word-within}
 use Rattle.mask_c.proofs.offsets.choose_offsets.Given.{Over}
+use Rattle.mask_bits.proofs.Lists.Words.FrontLemmas.{behind-further}
+use Rattle.mask_bits.proofs.Lists.CountLemmas.{count_below-le}
 use Rattle.mask_c.proofs.offsets.choose_offsets.Goals as goal
 use Rattle.mask_c.proofs.offsets.choose_offsets.Goals.{After-indices_in_word-some}
 

@@ -5,7 +5,7 @@ use Rattle.mask_bits.specs.Positions.{count, count_below}
 use Rattle.mask_bits.specs.Words.{window}
 use Rattle.mask_bits.proofs.Lists.Places.SelectLemmas.{count-word_more}
 use Rattle.mask_bits.proofs.Lists.Words.WordLemmas.{count-word_bits}
-use Rattle.vortex_mask.proofs.Lists.StartedWordLemmas.{count_below-le}
+use Rattle.mask_bits.proofs.Lists.CountLemmas.{count_below-le}
 use Rattle.mask_c.proofs.rank_words.row_mask_rank_words.Goals as goal
 
 pub read-requires : goal.read-requires

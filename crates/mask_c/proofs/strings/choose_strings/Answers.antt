@@ -2,7 +2,8 @@ use Rattle.std.proofs.Common.{◌+◌, ◌*◌, ◌++◌, length, take, map, ap,
 use Rattle.std.specs.List.{concat, sum}
 use Rattle.mask_bits.specs.Positions.{positions}
 use Rattle.mask_c.specs.Strings.{items_at, sizes, strings}
-use Rattle.mask_c.proofs.StringLemmas.{behind-later, bytes-word, items-all, sum-parts, sum-word, word-within}
+use Rattle.mask_c.proofs.StringLemmas.{bytes-word, items-all, sum-parts, sum-word, word-within}
+use Rattle.mask_bits.proofs.Lists.Words.FrontLemmas.{behind-later}
 use Rattle.mask_c.proofs.strings.choose_strings.Goals as goal
 
 pub put_strings-at-requires-clause-within : goal.put_strings-at-requires-clause-within

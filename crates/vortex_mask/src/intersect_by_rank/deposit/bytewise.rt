@@ -80,7 +80,7 @@ pub(super) fn bytes_of(words: u64x2) -> u8x16
 
 // The words whose bytes the lanes are.
 #[inline(always)]
-pub(super) fn words_of(lanes: u8x16) -> u64x2
+pub(crate) fn words_of(lanes: u8x16) -> u64x2
     ensures words { length result ≡ 2 }
     ensures bytes { EachLane (λ j. byte_of_two result j ≡ slice_index lanes j) }
 {
@@ -89,7 +89,7 @@ pub(super) fn words_of(lanes: u8x16) -> u64x2
 
 // In each lane, the number of set bits in all lower bytes of its word.
 #[inline(always)]
-pub(super) fn counts_below(masks: u64x2) -> u8x16
+pub(crate) fn counts_below(masks: u64x2) -> u8x16
     ensures { AreLanes 16 result
         (λ j. count_below (word_bits (slice_index masks (j / 8))) (8 * (j % 8))) }
 {

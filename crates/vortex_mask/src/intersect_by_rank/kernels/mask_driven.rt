@@ -51,22 +51,16 @@ pub fn intersect_mask_driven<S: SelectBit, I: Iterator<Item = usize>>(
     let (len, chunks) = (self_buffer.len(), self_buffer.chunks());
     let mut indices = Vec::with_capacity(alloc, true_count)?;
     let mut steps = Steps::new();
-    let mut reached = Reached {
-        words: 0,
-        word: 0,
-        before: 0,
-    };
+    let mut reached = Reached { word: 0, before: 0 };
     for rank in mask_indices {
         indices.push(reached.index_of::<S>(&chunks, &mut steps, rank))?;
     }
     Ok((Mask::of_indices(alloc, len, indices)?, steps))
 }
 
-// How far the words have been read.
+// How far the words have been read. The steps count them: a second count would take time for each word.
 #[derive(Drop)]
 struct Reached {
-    // how many words
-    words: usize,
     // the last of them
     word: u64,
     // how many true values stand before it
@@ -84,42 +78,40 @@ impl Reached {
         rank: usize,
     ) -> usize
         requires fits { length chunks.now < 2 ^ 64 }
-        requires read { HasRead chunks.now self.old.words self.old.word self.old.before }
-        requires ticked { steps.old.words ≡ self.old.words }
+        requires read { HasRead chunks.now steps.old.words self.old.word self.old.before }
         requires room { steps.old.selections < usize.MAX }
         requires ahead { self.old.before ≤ rank }
         requires there { rank < count chunks.now }
         ensures index { slice_get (positions chunks.now) rank ≡ Some result }
-        ensures read { HasRead chunks.now self.new.words self.new.word self.new.before }
+        ensures read { HasRead chunks.now steps.new.words self.new.word self.new.before }
         ensures reached { self.new.before ≤ rank }
         ensures ticked { steps.new ≡ record steps.old {
-          words = self.new.words;
+          words = steps.new.words;
           selections = steps.old.selections + 1;
           spots = steps.old.spots + result % 64;
         } }
     {
         self.read_to(chunks, steps, rank);
-        64 * (self.words - 1) + steps.select::<S>(self.word, rank - self.before)
+        64 * (steps.words() - 1) + steps.select::<S>(self.word, rank - self.before)
     }
 
     // Reads on until the true value at `rank` is in the last word.
     #[inline(always)]
     fn read_to(&mut self, chunks: &BitChunks<'_>, steps: &mut Steps, rank: usize)
         requires fits { length chunks.now < 2 ^ 64 }
-        requires read { HasRead chunks.now self.old.words self.old.word self.old.before }
-        requires ticked { steps.old.words ≡ self.old.words }
+        requires read { HasRead chunks.now steps.old.words self.old.word self.old.before }
         requires ahead { self.old.before ≤ rank }
         requires there { rank < count chunks.now }
-        ensures read { HasRead chunks.now self.new.words self.new.word self.new.before }
+        ensures read { HasRead chunks.now steps.new.words self.new.word self.new.before }
         ensures reached { self.new.before ≤ rank }
         ensures inside { rank < self.new.before + count_ones self.new.word }
-        ensures ticked { steps.new ≡ record steps.old { words = self.new.words } }
+        ensures ticked { steps.new ≡ record steps.old { words = steps.new.words } }
     {
         let mut end = self.before + self.word.count_ones() as usize;
         while end <= rank {
             self.before = end;
-            self.word = steps.word(chunks, self.words);
-            self.words += 1;
+            let next = steps.words();
+            self.word = steps.word(chunks, next);
             end += self.word.count_ones() as usize;
         }
     }

@@ -10,36 +10,36 @@ pub returns-clause-indices : goal.returns-clause-indices
 returns-clause-indices g c =
     let left = c.in_ok-lhs.ensures.ran in
     let right = c.in_ok-rhs.ensures.ran in
-    let same = ap₂ common (c.deref.ensures.value ∙ left.2.0) (c.deref-2.ensures.value ∙ right.2.0) in
+    let same = ap₂ common left.2.0 right.2.0 in
     IfOk-weaker c.of_common.result _ _ (λ m is. (left.0, right.0, drained g.L.Iterator.next_gives c.args.lhs left.0 left.1, drained g.R.Iterator.next_gives c.args.rhs right.0 right.1, is.true_indices ∙ same)) c.of_common.ensures.mask
 
 pub returns-clause-whole : goal.returns-clause-whole
 returns-clause-whole g c =
     let left = c.in_ok-lhs.ensures.runs tt in
     let right = c.in_ok-rhs.ensures.runs tt in
-    let same = ap₂ common (c.deref.ensures.value ∙ left.3.0) (c.deref-2.ensures.value ∙ right.3.0) in
+    let same = ap₂ common left.3.0 right.3.0 in
     IfOk-weaker c.of_common.result _ _ (λ m is. (left.0, left.1, left.2, (right.0, right.1, right.2, is.true_indices ∙ same))) c.of_common.ensures.mask
 
 pub returns-clause-refused : goal.returns-clause-refused
 returns-clause-refused g c =
     let left = c.in_ok-lhs.ensures.ran in
     let right = c.in_ok-rhs.ensures.ran in
-    let same = ap₂ common (c.deref.ensures.value ∙ left.2.0) (c.deref-2.ensures.value ∙ right.2.0) in
+    let same = ap₂ common left.2.0 right.2.0 in
     IfErr-or c.of_common.result _ _ _ (λ e fault. (left.0, right.0, drained g.L.Iterator.next_gives c.args.lhs left.0 left.1, drained g.R.Iterator.next_gives c.args.rhs right.0 right.1, ap (out_of_bounds c.args.len) (sym same) ∙ fault)) c.of_common.ensures.refused
 
 pub returns-clause-refused_whole : goal.returns-clause-refused_whole
 returns-clause-refused_whole g c =
     let left = c.in_ok-lhs.ensures.runs tt in
     let right = c.in_ok-rhs.ensures.runs tt in
-    let same = ap₂ common (c.deref.ensures.value ∙ left.3.0) (c.deref-2.ensures.value ∙ right.3.0) in
+    let same = ap₂ common left.3.0 right.3.0 in
     IfErr-or c.of_common.result _ _ _ (λ e fault. (left.0, left.1, left.2, (right.0, right.1, right.2, ap (out_of_bounds c.args.len) (sym same) ∙ fault))) c.of_common.ensures.refused
 
 pub of_common-requires-clause-lhs : goal.of_common-requires-clause-lhs
 of_common-requires-clause-lhs g c =
     let run = c.in_ok-lhs.ensures.runs tt in
-    subst IsStrictlyIncreasing (sym (c.deref.ensures.value ∙ run.3.0)) (c.requires.lhs_ascends run.0 run.0.seen run.1 run.2)
+    subst IsStrictlyIncreasing (sym run.3.0) (c.requires.lhs_ascends run.0 run.0.seen run.1 run.2)
 
 pub of_common-requires-clause-rhs : goal.of_common-requires-clause-rhs
 of_common-requires-clause-rhs g c =
     let run = c.in_ok-rhs.ensures.runs tt in
-    subst IsStrictlyIncreasing (sym (c.deref-2.ensures.value ∙ run.3.0)) (c.requires.rhs_ascends run.0 run.0.seen run.1 run.2)
+    subst IsStrictlyIncreasing (sym run.3.0) (c.requires.rhs_ascends run.0 run.0.seen run.1 run.2)

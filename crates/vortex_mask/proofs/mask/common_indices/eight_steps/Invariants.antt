@@ -1,12 +1,13 @@
-use Rattle.std.proofs.Common.{◌+◌, ◌≤◌}
-use Rattle.vortex_mask.specs.Merges.{IsMerged}
+use Rattle.std.proofs.Common.{◌≡◌, ◌+◌, ◌≤◌}
+use Rattle.vortex_mask.specs.Merges.{IsUnderWay, comes_to}
 use Rattle.vortex_mask.proofs.mask.common_indices.eight_steps.Given as goal
 
 -- a step goes on by one in a list at most, and by one in all at least
 abbrev pub invariant-loop-k : goal.invariant-loop-k
 invariant-loop-k l = record {
-  merged : IsMerged l.lhs l.rhs l.both l.next.lhs l.next.rhs l.next.found;
-  few_lhs : l.next.lhs ≤ l.fn.at.lhs + l.k;
-  few_rhs : l.next.rhs ≤ l.fn.at.rhs + l.k;
-  some : l.fn.at.lhs + l.fn.at.rhs + l.k ≤ l.next.lhs + l.next.rhs;
+  under_way : IsUnderWay l.list l.other l.next.list l.next.other l.next.found;
+  same : comes_to l.list l.other l.next.list l.next.other l.next.found ≡ comes_to l.initial.list l.other l.fn.at.list l.fn.at.other l.fn.at.found;
+  few_list : l.next.list ≤ l.fn.at.list + l.k;
+  few_other : l.next.other ≤ l.fn.at.other + l.k;
+  some : l.fn.at.list + l.fn.at.other + l.k ≤ l.next.list + l.next.other;
 }

@@ -1,19 +1,19 @@
-use Rattle.std.proofs.Common.{ℕ, List, ◌+◌, ◌/◌, ◌∙◌, ap, arith, min, take, length}
-use Rattle.std.specs.List.{copy_within}
-use Rattle.std.proofs.lemmas.List.{take_at}
+use Rattle.std.proofs.Common.{ℕ, ◌+◌, ◌/◌, ◌∙◌, ap, arith, take, length}
+use Rattle.std.proofs.lemmas.List.{length-take, length-drop}
 use Rattle.vortex_mask.proofs.Masks.CommonLemmas.{found-joined}
 use Rattle.vortex_mask.proofs.mask.common_indices.merge.Goals as goal
 
 pub returns : goal.returns
 returns c =
-    let xs = c.args.lhs.now in
-    let both = c.merge_parts-first.new.both in
+    let xs = c.args.list.now in
+    let merged = c.merge_parts-first.new.list in
+    let at : ℕ = length xs / 2 in
     let first : ℕ = c.merge_parts-first.result.0 in
     let last : ℕ = c.merge_parts-first.result.1 in
-    let place : ℕ = c.place_between-place.result in
-    c.truncate.ensures.items
-    ∙ ap (take (first + last)) c.copy_within.ensures.items
-    ∙ ap (λ (v : List ℕ). take (first + last) (copy_within v c.min-start.result (c.min-start.result + last) first)) (take_at both _ c.in_ok-both.both.len (omega (arith, c.merge_parts-first.auto.both, c.deref_mut.ensures.len)))
-    ∙ ap (λ k. take (first + last) (copy_within both k (k + last) first)) c.min-start.ensures
-    ∙ found-joined xs c.args.rhs.now both (length xs / 2) place (min (length xs / 2) place) first last c.requires.lhs (omega (arith, c.requires.some)) c.place_between-place.ensures
-    c.merge_parts-first.ensures.first c.merge_parts-first.ensures.last
+    let parts = c.merge_parts-first.ensures in
+    record {
+      within = omega (arith, c.copy_within.ensures.len, parts.first.within, parts.last.within, length-take at merged, length-drop at merged);
+      found = ap (take (first + last)) c.copy_within.ensures.after
+          ∙ found-joined xs c.args.other.now merged at c.place_between-place.result at first last c.requires.list (omega (arith, c.requires.some)) c.place_between-place.ensures
+          parts.first parts.last;
+    }

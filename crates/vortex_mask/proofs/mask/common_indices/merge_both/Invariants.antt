@@ -1,12 +1,15 @@
-use Rattle.std.proofs.Common.{◌+◌, ◌-◌, length}
-use Rattle.vortex_mask.specs.Merges.{IsMerged}
+use Rattle.std.proofs.Common.{◌≡◌, ◌+◌, ◌-◌, length}
+use Rattle.vortex_mask.specs.Faults.{common}
+use Rattle.vortex_mask.specs.Merges.{IsUnderWay, comes_to}
 use Rattle.vortex_mask.proofs.mask.common_indices.merge_both.Given as goal
 
-abbrev pub invariant-loop-both : goal.invariant-loop-both
-invariant-loop-both l = record {
-  first : IsMerged l.lhs l.rhs l.both l.at.lhs l.at.rhs l.at.found;
-  last : IsMerged l.last_lhs l.last_rhs l.last_both l.last.lhs l.last.rhs l.last.found;
+abbrev pub invariant-loop-last : goal.invariant-loop-last
+invariant-loop-last l = record {
+  under_way : IsUnderWay l.first l.other l.at.list l.at.other l.at.found;
+  same : comes_to l.first l.other l.at.list l.at.other l.at.found ≡ common l.initial.first l.other;
+  last_under_way : IsUnderWay l.last l.last_other l.last_at.list l.last_at.other l.last_at.found;
+  last_same : comes_to l.last l.last_other l.last_at.list l.last_at.other l.last_at.found ≡ common l.initial.last l.last_other;
 }
 
-abbrev pub decreases-loop-both : goal.decreases-loop-both
-decreases-loop-both l = (length l.lhs + length l.rhs) - (l.at.lhs + l.at.rhs)
+abbrev pub decreases-loop-last : goal.decreases-loop-last
+decreases-loop-last l = (length l.first + length l.other) - (l.at.list + l.at.other)

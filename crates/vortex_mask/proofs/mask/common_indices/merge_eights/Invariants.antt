@@ -1,9 +1,12 @@
-use Rattle.std.proofs.Common.{◌+◌, ◌-◌, length}
-use Rattle.vortex_mask.specs.Merges.{IsMerged}
+use Rattle.std.proofs.Common.{◌≡◌, ◌+◌, ◌-◌, length}
+use Rattle.vortex_mask.specs.Merges.{IsUnderWay, comes_to}
 use Rattle.vortex_mask.proofs.mask.common_indices.merge_eights.Given as goal
 
-abbrev pub invariant-loop-both : goal.invariant-loop-both
-invariant-loop-both l = IsMerged l.lhs l.rhs l.both l.at.lhs l.at.rhs l.at.found
+abbrev pub invariant-loop-list : goal.invariant-loop-list
+invariant-loop-list l = record {
+  under_way : IsUnderWay l.list l.other l.at.list l.at.other l.at.found;
+  same : comes_to l.list l.other l.at.list l.at.other l.at.found ≡ comes_to l.initial.list l.other l.initial.at.list l.initial.at.other l.initial.at.found;
+}
 
-abbrev pub decreases-loop-both : goal.decreases-loop-both
-decreases-loop-both l = (length l.lhs + length l.rhs) - (l.at.lhs + l.at.rhs)
+abbrev pub decreases-loop-list : goal.decreases-loop-list
+decreases-loop-list l = (length l.list + length l.other) - (l.at.list + l.at.other)

@@ -1,9 +1,12 @@
-use Rattle.std.proofs.Common.{◌+◌, ◌-◌, length}
-use Rattle.vortex_mask.specs.Merges.{IsMerged}
+use Rattle.std.proofs.Common.{◌≡◌, ◌+◌, ◌-◌, length}
+use Rattle.vortex_mask.specs.Merges.{IsUnderWay, comes_to}
 use Rattle.vortex_mask.proofs.mask.common_indices.merge_rest.Given as goal
 
 abbrev pub invariant-loop-at : goal.invariant-loop-at
-invariant-loop-at l = IsMerged l.lhs l.rhs l.both l.at.lhs l.at.rhs l.at.found
+invariant-loop-at l = record {
+  under_way : IsUnderWay l.list l.other l.at.list l.at.other l.at.found;
+  same : comes_to l.list l.other l.at.list l.at.other l.at.found ≡ comes_to l.initial.list l.other l.initial.at.list l.initial.at.other l.initial.at.found;
+}
 
 abbrev pub decreases-loop-at : goal.decreases-loop-at
-decreases-loop-at l = (length l.lhs + length l.rhs) - (l.at.lhs + l.at.rhs)
+decreases-loop-at l = (length l.list + length l.other) - (l.at.list + l.at.other)

@@ -3,7 +3,7 @@ use Rattle.std.proofs.lemmas.List.{take_rest}
 use Rattle.mask_bits.specs.Positions.{chosen, count}
 use Rattle.mask_bits.proofs.Lists.Places.SelectLemmas.{count-part_further}
 use Rattle.vortex_mask.proofs.Lists.PushRowsLemmas.{chosen_of_none, rest_counted, rest_within, rest_pushed, word_pushed}
-use Rattle.vortex_mask.proofs.Lists.StartedWordLemmas.{count_below-le}
+use Rattle.mask_bits.proofs.Lists.CountLemmas.{count_below-le}
 use Rattle.vortex_mask.proofs.mask.push_rows.push_rows.Goals as goal
 
 pub loop-i-init : goal.loop-i-init

@@ -2,8 +2,8 @@ use Rattle.std.proofs.Common.{◌≡◌, ◌+◌, ◌-◌, ◌*◌, ◌/◌, ◌
 use Rattle.std.specs.Simd.Lanes.{zip2, Each1}
 use Rattle.std.proofs.lemmas.Simd.{widens}
 use Rattle.mask_bits.specs.Lanes.{AreLanes}
-use Rattle.mask_bits.proofs.Lists.Words.LaneLemmas.{AreLanes-map, AreLanes-zip2, AreLanes-splat, AreLanes-same}
-use Rattle.vortex_mask.proofs.Deposits.LaneLemmas.{AreLanes-fit, SwzOk-lanes, cut_out, numbers, power, product, product-is}
+use Rattle.mask_bits.proofs.Lists.Words.LaneLemmas.{AreLanes-map, SwzOk-lanes, AreLanes-zip2, AreLanes-splat, AreLanes-same}
+use Rattle.vortex_mask.proofs.Deposits.LaneLemmas.{AreLanes-fit, cut_out, numbers, power, product, product-is}
 use Rattle.vortex_mask.proofs.intersect_by_rank.deposit.bytewise.eight_bits.Goals as goal
 
 pub swizzle : goal.swizzle

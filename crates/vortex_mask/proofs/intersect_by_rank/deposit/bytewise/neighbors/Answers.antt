@@ -3,9 +3,8 @@ use Rattle.std.specs.Simd.Lanes.{zip2}
 use Rattle.std.proofs.lemmas.Nat.{and_mask}
 use Rattle.mask_bits.specs.Lanes.{AreLanes}
 use Rattle.vortex_mask.specs.Bytes.{EachLane, byte_at}
-use Rattle.mask_bits.proofs.Lists.Words.LaneLemmas.{AreLanes-itself, AreLanes-zip2, AreLanes-splat, AreLanes-same}
-use Rattle.vortex_mask.proofs.Deposits.LaneLemmas.{SwzOk-lanes, AreLanes-swz_l}
-use Rattle.vortex_mask.proofs.Deposits.NetworkLemmas.{same_below}
+use Rattle.mask_bits.proofs.Lists.Words.LaneLemmas.{AreLanes-itself, AreLanes-swz_l, SwzOk-lanes, AreLanes-zip2, AreLanes-splat, AreLanes-same}
+use Rattle.mask_bits.proofs.Lists.Words.TableLemmas.{same_below}
 use Rattle.vortex_mask.proofs.intersect_by_rank.deposit.bytewise.neighbors.Goals as goal
 
 abbrev base : List ℕ

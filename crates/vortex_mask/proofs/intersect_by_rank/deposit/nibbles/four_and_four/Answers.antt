@@ -4,8 +4,8 @@ use Rattle.std.proofs.lemmas.Nat.{ones-le}
 use Rattle.std.proofs.lemmas.Simd.{widens, swz_l}
 use Rattle.mask_bits.specs.Lanes.{AreLanes}
 use Rattle.vortex_mask.specs.Bytes.{EachLane}
-use Rattle.mask_bits.proofs.Lists.Words.LaneLemmas.{AreLanes-itself, AreLanes-map, AreLanes-zip2, AreLanes-splat, AreLanes-same}
-use Rattle.vortex_mask.proofs.Deposits.LaneLemmas.{AreLanes-fit, SwzOk-lanes, AreLanes-swz_l, numbers, power, product, product-is}
+use Rattle.mask_bits.proofs.Lists.Words.LaneLemmas.{AreLanes-itself, AreLanes-swz_l, SwzOk-lanes, AreLanes-map, AreLanes-zip2, AreLanes-splat, AreLanes-same}
+use Rattle.vortex_mask.proofs.Deposits.LaneLemmas.{AreLanes-fit, numbers, power, product, product-is}
 use Rattle.vortex_mask.proofs.Deposits.NibbleLemmas.{gaps, gaps_at, cut_apart}
 use Rattle.vortex_mask.proofs.intersect_by_rank.deposit.nibbles.four_and_four.Goals as goal
 

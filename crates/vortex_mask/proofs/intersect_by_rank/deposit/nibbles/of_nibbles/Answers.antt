@@ -1,6 +1,5 @@
 use Rattle.std.proofs.Common.{◌+◌, ◌*◌, ◌%◌, ◌^◌, arith, get_or}
-use Rattle.vortex_mask.proofs.Deposits.LaneLemmas.{SwzOk-lanes, AreLanes-swz_l}
-use Rattle.mask_bits.proofs.Lists.Words.LaneLemmas.{AreLanes-itself, AreLanes-zip2, AreLanes-splat, AreLanes-same}
+use Rattle.mask_bits.proofs.Lists.Words.LaneLemmas.{AreLanes-itself, AreLanes-swz_l, SwzOk-lanes, AreLanes-zip2, AreLanes-splat, AreLanes-same}
 use Rattle.vortex_mask.proofs.intersect_by_rank.deposit.nibbles.of_nibbles.Goals as goal
 
 pub swizzle : goal.swizzle

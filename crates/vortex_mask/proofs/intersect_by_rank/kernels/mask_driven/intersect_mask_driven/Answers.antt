@@ -22,7 +22,7 @@ index_of-requires-clause-ahead g c =
 
 pub loop-rank-preserved : goal.loop-rank-preserved
 loop-rank-preserved g c =
-    found-more c.chunks-chunks.result c.loop-rank.yielded c.in-Some.rank _ _ _ c.index_of.new.self.words c.index_of.new.self.word c.index_of.new.self.before
+    found-more c.chunks-chunks.result c.loop-rank.yielded c.in-Some.rank _ _ _ c.index_of.new.steps.words c.index_of.new.self.word c.index_of.new.self.before
     c.loop-rank.indices.items c.push.new.self.items c.index_of.result c.loop-rank.steps c.index_of.new.steps
     c.loop-rank.invariant c.index_of.ensures.index c.index_of.ensures.read c.index_of.ensures.reached c.in_ok-push.ensures.items c.index_of.ensures.ticked
 

@@ -3,4 +3,4 @@ use Rattle.vortex_mask.proofs.intersect_by_rank.kernels.mask_driven.intersect_ma
 
 -- the ranks so far have their indices
 abbrev pub invariant-loop-rank : goal.invariant-loop-rank
-invariant-loop-rank g l = AreFound l.chunks l.yielded l.reached.words l.reached.word l.reached.before l.indices.items l.steps
+invariant-loop-rank g l = AreFound l.chunks l.yielded l.steps.words l.reached.word l.reached.before l.indices.items l.steps

@@ -1,21 +1,25 @@
-use Rattle.std.proofs.Common.{◌≡◌, ℕ, ◌/◌, ◌≤◌, ◌^◌, ap, arith, mod-eq_of_lt}
-use Rattle.std.proofs.lemmas.Nat.Bits.{bit_at-lt}
-use Rattle.mask_bits.proofs.Lists.Words.WordLemmas.{count-word_bits, ones_below-more}
-use Rattle.vortex_mask.proofs.Deposits.ByteCountLemmas.{halved, lower_bits, ones_below-next}
-use Rattle.vortex_mask.proofs.Kernels.DepositListLemmas.{selected-is}
-use Rattle.vortex_mask.proofs.Deposits.SetPlaceLemmas.{ones_below, ones_below-zero}
+use Rattle.std.proofs.Common.{arith}
+use Rattle.mask_bits.proofs.Lists.Places.PlaceLemmas.{count-le-length}
+use Rattle.mask_bits.proofs.Lists.Words.WordLemmas.{length-word_bits}
+use Rattle.mask_bits.specs.Words.{word_bits}
+use Rattle.vortex_mask.proofs.Deposits.ByteLemmas.{byte_at-lt}
+use Rattle.vortex_mask.proofs.Deposits.SelectionLemmas.{below-small, bit-there, selected-there}
 use Rattle.vortex_mask.proofs.intersect_by_rank.select.PortableSelectBit.select_bit_position.Goals as goal
-use Rattle.vortex_mask.proofs.intersect_by_rank.select.PortableSelectBit.select_bit_position.Goals.{then-count-rank, else-count-rank}
 
-pub loop-halving-init : goal.loop-halving-init
-loop-halving-init c = grind (arith, count-word_bits, mod-eq_of_lt, ones_below-zero)
+pub last_byte_within-number-requires-clause-rank : goal.last_byte_within-number-requires-clause-rank
+last_byte_within-number-requires-clause-rank c = omega (arith, c.requires, count-le-length (word_bits c.args.word), length-word_bits c.args.word)
 
-pub loop-halving-preserved : goal.loop-halving-preserved
-loop-halving-preserved c = grind (arith, halved, lower_bits, ones_below-next, then-count-rank, ones_below, else-count-rank)
+pub last_byte_within-number-requires-clause-small : goal.last_byte_within-number-requires-clause-small
+last_byte_within-number-requires-clause-small c = below-small c.args.word _ c.counts_below_bytes-below.ensures
 
--- the six halvings leave one place
-one_left : (h : ℕ) → 6 ≤ h → h ≤ 6 → 64 / 2 ^ h ≡ 1
-one_left h l u = let e : h ≡ 6 = omega arith in ap (λ n. 64 / 2 ^ n) e
+pub place_in_byte-requires-clause-byte : goal.place_in_byte-requires-clause-byte
+place_in_byte-requires-clause-byte c = omega (arith, c.byte_of-2.ensures, byte_at-lt c.args.word c.last_byte_within-number.result)
+
+pub place_in_byte-requires-clause-rank : goal.place_in_byte-requires-clause-rank
+place_in_byte-requires-clause-rank c = rw (c.byte_of.ensures, c.byte_of-2.ensures) (bit-there c.args.word _ c.counts_below_bytes-below.ensures c.args.rank _ c.last_byte_within-number.ensures.inside c.last_byte_within-number.ensures.within c.ranges.word.fits c.requires c.last_byte_within-number.ensures.last)
 
 pub returns : goal.returns
-returns c = grind (arith, bit_at-lt, one_left, ones_below, ones_below-more, selected-is)
+returns c =
+    let place = c.place_in_byte.ensures in
+    selected-there c.args.word _ c.counts_below_bytes-below.ensures c.args.rank _ c.last_byte_within-number.ensures.inside c.last_byte_within-number.ensures.within
+    c.place_in_byte.result place.inside (rw (← c.byte_of-2.ensures) place.set) (rw (← c.byte_of.ensures, ← c.byte_of-2.ensures) place.number)

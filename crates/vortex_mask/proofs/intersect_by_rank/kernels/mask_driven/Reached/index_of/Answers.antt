@@ -12,8 +12,9 @@ overflow_add-result g c = grind (arith, count-word_bits, selected-lt)
 
 pub returns-clause-index : goal.returns-clause-index
 returns-clause-index g c =
-    place-found c.args.chunks.now c.read_to.new.self.words c.read_to.new.self.word c.read_to.new.self.before c.args.rank c.select.result
-    c.read_to.ensures.read (omega arith) c.read_to.ensures.reached c.read_to.ensures.inside c.select.ensures.selected
+    rw c.words.ensures
+    (place-found c.args.chunks.now c.read_to.new.steps.words c.read_to.new.self.word c.read_to.new.self.before c.args.rank c.select.result
+    c.read_to.ensures.read (omega arith) c.read_to.ensures.reached c.read_to.ensures.inside c.select.ensures.selected)
 
 pub returns-clause-ticked : goal.returns-clause-ticked
 returns-clause-ticked g c = grind (arith, count-word_bits, selected-lt)

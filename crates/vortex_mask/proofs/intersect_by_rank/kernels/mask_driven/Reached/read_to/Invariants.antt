@@ -5,11 +5,11 @@ use Rattle.vortex_mask.proofs.intersect_by_rank.kernels.mask_driven.Reached.read
 -- the words so far, and the true values up to the end of the last
 abbrev pub invariant-loop-end : goal.invariant-loop-end
 invariant-loop-end l = record {
-  read : HasRead l.chunks l.self.words l.self.word l.self.before;
+  read : HasRead l.chunks l.steps.words l.self.word l.self.before;
   ends : l.end ≡ l.self.before + count_ones l.self.word;
   reached : l.self.before ≤ l.rank;
-  ticked : l.steps ≡ record l.fn.steps { words = l.self.words };
+  ticked : l.steps ≡ record l.fn.steps { words = l.steps.words };
 }
 
 abbrev pub decreases-loop-end : goal.decreases-loop-end
-decreases-loop-end l = length l.chunks - 64 * l.self.words
+decreases-loop-end l = length l.chunks - 64 * l.steps.words

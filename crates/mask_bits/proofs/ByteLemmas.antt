@@ -1,0 +1,134 @@
+-- The places of a byte's set bits, by the table, and the bytes of a word.
+use Rattle.std.proofs.Common.{◌≡◌, ℕ, ◌+◌, ◌*◌, ◌/◌, ◌%◌, ◌^◌, ◌<◌, ◌≤◌, Bool, true, false, nat_eq, List, subst, ◌++◌, length, get_or, take, drop, map, refl, sym, ap, ◌∙◌, arith, count_ones, add-zero, mod-eq_of_lt}
+use Rattle.std.proofs.lemmas.Bool.{agree_below, agree_below_at, eqb-true}
+use Rattle.std.proofs.Math.Dec.{eqb}
+use Rattle.mask_bits.specs.declared.byte_places.TheConstants.{PLACES}
+use Rattle.mask_bits.specs.Positions.{indices_from, positions, count, count_below}
+use Rattle.mask_bits.specs.Lanes.{AreLanes}
+use Rattle.mask_bits.specs.Words.{word_bits}
+use Rattle.std.proofs.lemmas.List.{drop-drop, ext_get_or, get_or-drop, get_or-map, get_or-take, length-drop, length-take, take-append-drop, take-take}
+use Rattle.std.proofs.lemmas.Nat.{and_mask, ones-le}
+use Rattle.std.specs.Int.{bit_at}
+use Rattle.std.specs.Int.Bits.{bit_and}
+use Rattle.mask_bits.proofs.Lists.CountLemmas.{count-append}
+use Rattle.std.specs.List.{between}
+use Rattle.std.proofs.lemmas.List.Edits.{get_or-between, length-between}
+use Rattle.mask_bits.proofs.Lists.LimitLemmas.{count_below_position}
+use Rattle.mask_bits.proofs.Lists.Words.ShiftLemmas.{bit_at-mod, bit_at-shr}
+use Rattle.mask_bits.proofs.Lists.Places.PlaceLemmas.{count-le-length, place-true, positions-within}
+use Rattle.mask_bits.proofs.Lists.Places.SelectLemmas.{indices_from-append, indices_from-moved}
+use Rattle.mask_bits.proofs.Lists.Words.WordLemmas.{count_below-word_bits, get_or-word_bits, length-word_bits}
+use Rattle.mask_bits.proofs.Lists.Places.PushLemmas.{length-indices}
+
+-- whether place k of byte b stands in the table
+abbrev is_listed : ℕ → ℕ → Bool
+is_listed b k = eqb (get_or PLACES (8 * b + k) 0) (get_or (positions (take 8 (word_bits b))) k 0)
+
+abbrev all_listed : ℕ → Bool
+all_listed b = agree_below (is_listed b) (λ _. true) (count_ones b)
+
+-- computed
+each_listed : (b : ℕ) → b < 256 → all_listed b ≡ true
+unfolding word_bits lib.Count.ones
+each_listed b few = agree_below_at all_listed (λ _. true) 256 b refl few
+
+place-listed : (b k : ℕ) → b < 256 → k < count_ones b → get_or PLACES (8 * b + k) 0 ≡ get_or (positions (take 8 (word_bits b))) k 0
+place-listed b k few inside = eqb-true _ _ (agree_below_at (is_listed b) (λ _. true) (count_ones b) k (each_listed b few) inside)
+
+-- eight entries of a table
+length-eight : (table : List ℕ) (n : ℕ) → n + 8 ≤ length table → length (take 8 (between n (n + 8) table)) ≡ 8
+length-eight table n h = omega (arith, length-take 8 (between n (n + 8) table), length-between table n (n + 8) h)
+
+get_or-eight : (table : List ℕ) (n k : ℕ) → k < 8 → get_or (take 8 (between n (n + 8) table)) k 0 ≡ get_or table (n + k) 0
+get_or-eight table n k h = get_or-take 8 (between n (n + 8) table) k 0 h ∙ get_or-between table n (n + 8) k 0 (omega arith)
+
+length-PLACES : length PLACES ≡ 2048
+length-PLACES = refl
+
+pub length-places : (b : ℕ) → b < 256 → length (take 8 (between (8 * b) (8 * b + 8) PLACES)) ≡ 8
+length-places b few = length-eight PLACES (8 * b) (omega (arith, length-PLACES))
+
+pub places-listed : (b k : ℕ) → b < 256 → k < count_ones b → get_or (take 8 (between (8 * b) (8 * b + 8) PLACES)) k 0 ≡ get_or (positions (take 8 (word_bits b))) k 0
+places-listed b k few inside = get_or-eight PLACES (8 * b) k (omega (arith, ones-le 8 b few)) ∙ place-listed b k few inside
+
+count-byte : (b : ℕ) → b < 256 → count (take 8 (word_bits b)) ≡ count_ones b
+count-byte b few = count_below-word_bits b 8 (omega arith) ∙ ap count_ones (mod-eq_of_lt few)
+
+-- p is the place of set bit number k of byte b
+abbrev pub IsPlace : ℕ → ℕ → ℕ → Type 0
+IsPlace b k p = (p < 8) × (bit_at b p ≡ 1) × (count_below (word_bits b) p ≡ k)
+
+place-is : (b k : ℕ) → b < 256 → k < count_ones b → IsPlace b k (get_or (positions (take 8 (word_bits b))) k 0)
+place-is b k few inside =
+    let m : List Bool = take 8 (word_bits b) in
+    let p : ℕ = get_or (positions m) k 0 in
+    let counted : k < count m = omega (arith, inside, count-byte b few) in
+    let within : p < 8 = omega (arith, length-take 8 (word_bits b), positions-within m k 0 counted) in
+    let holds : nat_eq (bit_at b p) 1 ≡ true = sym (get_or-take 8 (word_bits b) p false within ∙ get_or-word_bits b p false (omega (arith, within))) ∙ place-true m k counted in
+    (within, eqb-true _ _ holds, ap count (sym (take-take p 8 (word_bits b) (omega (arith, within)))) ∙ count_below_position m k counted)
+
+pub place-read : (b k : ℕ) → b < 256 → k < count_ones b → IsPlace b k (get_or PLACES (8 * b + k) 0)
+place-read b k few inside = subst (IsPlace b k) (sym (place-listed b k few inside)) (place-is b k few inside)
+
+-- the indices of a byte's set bits, where its lanes are these places behind the base
+pub lanes-indices : (base b : ℕ) (places lanes : List ℕ) → b < 256 → base + 8 ≤ 2 ^ 64 → AreLanes 8 lanes (λ j. (base + get_or places j 0) % 2 ^ 64)
+    → ((k : ℕ) → k < count_ones b → get_or places k 0 ≡ get_or (positions (take 8 (word_bits b))) k 0)
+    → take (count_ones b) lanes ≡ indices_from base (take 8 (word_bits b))
+lanes-indices base b places lanes few fits are listed =
+    let m : List Bool = take 8 (word_bits b) in
+    let n : ℕ = count_ones b in
+    let counted : count m ≡ n = count-byte b few in
+    let eight : length m ≡ 8 = omega (arith, length-take 8 (word_bits b), length-word_bits b) in
+    let most : n ≤ 8 = omega (arith, counted, count-le-length m, eight) in
+    let moved : indices_from base m ≡ map (λ p. base + p) (positions m) = ap (λ k. indices_from k m) (sym (add-zero base)) ∙ indices_from-moved base 0 m in
+    let long : length lanes ≡ 8 = are.lanes in
+    ext_get_or 0 (take n lanes) (indices_from base m) (omega (arith, length-take n lanes, long, most, length-indices base m, counted)) (λ k h.
+    let inside : k < n = omega (arith, length-take n lanes) in
+    let within : get_or (positions m) k 0 < 8 = omega (arith, eight, positions-within m k 0 (omega (arith, counted))) in
+    get_or-take n lanes k 0 inside
+    ∙ are.each k (omega arith)
+    ∙ ap (λ x. (base + x) % 2 ^ 64) (listed k inside)
+    ∙ mod-eq_of_lt (omega (arith, within, fits))
+    ∙ sym (ap (λ (ps : List ℕ). get_or ps k 0) moved ∙ get_or-map (λ p. base + p) (positions m) k 0 0 (omega (arith, counted))))
+
+-- ---- the bytes of a word
+
+-- byte j
+abbrev pub byte_of : ℕ → ℕ → ℕ
+byte_of w j = bit_and (w / 2 ^ (8 * j)) 255
+
+byte-bits : (w j : ℕ) → j < 8 → take 8 (word_bits (byte_of w j)) ≡ take 8 (drop (8 * j) (word_bits w))
+byte-bits w j few =
+    let b : ℕ = byte_of w j in
+    let is : b ≡ w / 2 ^ (8 * j) % 2 ^ 8 = and_mask (w / 2 ^ (8 * j)) 8 in
+    let here : length (take 8 (word_bits b)) ≡ 8 = omega (arith, length-take 8 (word_bits b), length-word_bits b) in
+    let there : length (take 8 (drop (8 * j) (word_bits w))) ≡ 8 = omega (arith, length-take 8 (drop (8 * j) (word_bits w)), length-drop (8 * j) (word_bits w), length-word_bits w) in
+    ext_get_or false (take 8 (word_bits b)) (take 8 (drop (8 * j) (word_bits w))) (here ∙ sym there) (λ k h.
+    let inside : k < 8 = omega (arith, here) in
+    get_or-take 8 (word_bits b) k false inside
+    ∙ get_or-word_bits b k false (omega arith)
+    ∙ ap (λ n. nat_eq (bit_at n k) 1) is
+    ∙ ap (λ n. nat_eq n 1) (bit_at-mod (w / 2 ^ (8 * j)) 8 k inside ∙ bit_at-shr w (8 * j) k)
+    ∙ sym (get_or-word_bits w (8 * j + k) false (omega arith))
+    ∙ sym (get_or-take 8 (drop (8 * j) (word_bits w)) k false inside ∙ get_or-drop (8 * j) (word_bits w) k false))
+
+-- one byte, and what is left
+bits-byte_more : (w j : ℕ) → j < 8 → drop (8 * j) (word_bits w) ≡ take 8 (word_bits (byte_of w j)) ++ drop (8 * (j + 1)) (word_bits w)
+bits-byte_more w j few =
+    let next : 8 * j + 8 ≡ 8 * (j + 1) = omega arith in
+    sym (take-append-drop 8 (drop (8 * j) (word_bits w)))
+    ∙ ap (λ (xs : List Bool). xs ++ drop 8 (drop (8 * j) (word_bits w))) (sym (byte-bits w j few))
+    ∙ ap (λ (xs : List Bool). take 8 (word_bits (byte_of w j)) ++ xs) (drop-drop 8 (8 * j) (word_bits w) ∙ ap (λ k. drop k (word_bits w)) next)
+
+pub count-byte_more : (w j : ℕ) → j < 8 → count (drop (8 * j) (word_bits w)) ≡ count (take 8 (word_bits (byte_of w j))) + count (drop (8 * (j + 1)) (word_bits w))
+count-byte_more w j few = ap count (bits-byte_more w j few) ∙ count-append (take 8 (word_bits (byte_of w j))) (drop (8 * (j + 1)) (word_bits w))
+
+pub indices-byte_more : (base w j : ℕ) → j < 8
+    → indices_from (base + 8 * j) (drop (8 * j) (word_bits w)) ≡ indices_from (base + 8 * j) (take 8 (word_bits (byte_of w j))) ++ indices_from (base + 8 * (j + 1)) (drop (8 * (j + 1)) (word_bits w))
+indices-byte_more base w j few =
+    let here : List Bool = take 8 (word_bits (byte_of w j)) in
+    let rest : List Bool = drop (8 * (j + 1)) (word_bits w) in
+    let next : base + 8 * j + length here ≡ base + 8 * (j + 1) = omega (arith, length-take 8 (word_bits (byte_of w j)), length-word_bits (byte_of w j)) in
+    ap (indices_from (base + 8 * j)) (bits-byte_more w j few)
+    ∙ indices_from-append (base + 8 * j) here rest
+    ∙ ap (λ k. indices_from (base + 8 * j) here ++ indices_from k rest) next

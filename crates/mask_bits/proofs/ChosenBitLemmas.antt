@@ -1,0 +1,264 @@
+-- Values put behind others by words: in the word that is begun, and in the next one once it is full.
+use Rattle.std.proofs.Common.{◌≡◌, ℕ, nat_eq, ◌^◌, ◌+◌, ◌-◌, ◌*◌, ◌/◌, ◌%◌, ◌<◌, ◌≤◌, Bool, false, List, [], ◌++◌, append-nil, append_assoc, count_ones, length, get_or, take, drop, refl, subst, sym, ap, ap₂, ◌∙◌, inl, inr, arith}
+use Rattle.std.specs.Int.{bit_at}
+use Rattle.std.specs.Int.RustNames.{bit_or}
+use Rattle.std.proofs.Math.Seq.{take-add}
+use Rattle.std.proofs.lemmas.Bool.{cases_lt}
+use Rattle.std.proofs.lemmas.List.{ext_get_or, get_or-drop, get_or-take, get_or_append_left, get_or-append_right, length-append, length-drop, length-take, take_all}
+use Rattle.std.proofs.lemmas.Nat.Bits.{bit_at-lt, bit_at-zero, bit_at_above, bit_at_or}
+use Rattle.mask_bits.specs.Bitmap.{bitmap}
+use Rattle.mask_bits.specs.Extract.{Extracts}
+use Rattle.mask_bits.specs.Positions.{chosen, count, repeated}
+use Rattle.mask_bits.specs.Words.{padded_part, window, word_bits, word_part}
+use Rattle.mask_bits.proofs.Lists.ChooseLemmas.{chosen-all_false}
+use Rattle.mask_bits.proofs.Lists.CountLemmas.{count_below-le, get_or-padded, length-repeated}
+use Rattle.mask_bits.proofs.Lists.Places.SelectLemmas.{count-word_more}
+use Rattle.mask_bits.proofs.Lists.RowLemmas.{chosen_of_two_chunks}
+use Rattle.mask_bits.proofs.Lists.Words.ChosenWordLemmas.{chosen-none}
+use Rattle.mask_bits.proofs.Lists.Words.ExtractLemmas.{take-extracted}
+use Rattle.mask_bits.proofs.Lists.Words.FrontLemmas.{behind-later, put-before, front-more_word, get_or-put_mid_inside, get_or-window, length-window, window_from_bits}
+use Rattle.mask_bits.proofs.Lists.Words.PaddedLemmas.{padded_part-whole, padded_part_from_values}
+use Rattle.mask_bits.proofs.Lists.Words.ShiftLemmas.{bit_at-mod, bit_at-shl_high, bit_at-shl_low, bit_at-shr}
+use Rattle.mask_bits.proofs.Lists.Words.WordLemmas.{count-word_bits, get_or-word_bits, length-word_bits}
+use Rattle.mask_bits.specs.ChosenBits.{AreChosenSoFar, values_so_far}
+use Rattle.mask_bits.proofs.Lists.Words.BackingBitLemmas.{no_values}
+use borrow.Rule.Slice.PartMut.{put_mid}
+
+-- ---- two words
+
+-- the lowest bits of one, and behind them those of another
+abbrev pub both : ℕ → ℕ → ℕ → ℕ → List Bool
+both begun low word n = take low (word_bits begun) ++ take n (word_bits word)
+
+both-first : (begun low word n j : ℕ) → low < 64 → j < low → get_or (both begun low word n) j false ≡ nat_eq (bit_at begun j) 1
+both-first begun low word n j few h =
+    get_or_append_left (take low (word_bits begun)) (take n (word_bits word)) false j (omega (arith, length-take low (word_bits begun), length-word_bits begun))
+    ∙ get_or-take low (word_bits begun) j false h ∙ get_or-word_bits begun j false (omega arith)
+
+both-second : (begun low word n j : ℕ) → low < 64 → n ≤ 64 → low ≤ j → j < low + n → get_or (both begun low word n) j false ≡ nat_eq (bit_at word (j - low)) 1
+both-second begun low word n j few many from h =
+    get_or-append_right (take low (word_bits begun)) (take n (word_bits word)) low j false (omega (arith, length-take low (word_bits begun), length-word_bits begun)) from
+    ∙ get_or-take n (word_bits word) (j - low) false (omega arith) ∙ get_or-word_bits word (j - low) false (omega arith)
+
+length-both : (begun low word n : ℕ) → low < 64 → n ≤ 64 → length (both begun low word n) ≡ low + n
+length-both begun low word n few many =
+    omega (arith, length-append (take low (word_bits begun)) (take n (word_bits word)), length-take low (word_bits begun), length-take n (word_bits word), length-word_bits begun, length-word_bits word)
+
+-- the word that both begin, as the code computes it
+abbrev pub joined : ℕ → ℕ → ℕ → ℕ
+joined begun low word = bit_or begun (word * 2 ^ low % 2 ^ 64)
+
+-- and what is left for the next one
+abbrev pub left_over : ℕ → ℕ → ℕ
+left_over low word = word / 2 ^ 1 / 2 ^ (63 - low)
+
+joined-first : (begun low word j : ℕ) → low < 64 → j < low → bit_at (joined begun low word) j ≡ bit_at begun j
+joined-first begun low word j few h =
+    omega (arith, bit_at_or begun (word * 2 ^ low % 2 ^ 64) j, bit_at-mod (word * 2 ^ low) 64 j (omega arith), bit_at-shl_low word low j h, bit_at-lt begun j)
+
+joined-second : (begun low word j : ℕ) → ((i : ℕ) → low ≤ i → bit_at begun i ≡ 0) → low ≤ j → j < 64 → bit_at (joined begun low word) j ≡ bit_at word (j - low)
+joined-second begun low word j above from h =
+    omega (arith, bit_at_or begun (word * 2 ^ low % 2 ^ 64) j, bit_at-mod (word * 2 ^ low) 64 j h, bit_at-shl_high word low j from, above j from, bit_at-lt word (j - low))
+
+left_over-bit : (low word j : ℕ) → low < 64 → bit_at (left_over low word) j ≡ bit_at word (64 - low + j)
+left_over-bit low word j few =
+    let place : 1 + (63 - low + j) ≡ 64 - low + j = omega arith in
+    bit_at-shr (word / 2 ^ 1) (63 - low) j ∙ bit_at-shr word 1 (63 - low + j) ∙ ap (bit_at word) place
+
+-- a bit of the first word of both
+joined-value : (begun low word n j : ℕ) → low < 64 → n ≤ 64 → ((i : ℕ) → low ≤ i → bit_at begun i ≡ 0) → j < 64 → j < low + n
+    → nat_eq (bit_at (joined begun low word) j) 1 ≡ get_or (both begun low word n) j false
+joined-value begun low word n j few many above in_word h = elim (cases_lt j low) [
+  | inl first ↦ ap (λ x. nat_eq x 1) (joined-first begun low word j few first) ∙ sym (both-first begun low word n j few first)
+  | inr second ↦ ap (λ x. nat_eq x 1) (joined-second begun low word j above second in_word) ∙ sym (both-second begun low word n j few many second h)
+]
+
+-- both within one word
+joined-list : (begun low word n : ℕ) → low + n < 64 → ((i : ℕ) → low ≤ i → bit_at begun i ≡ 0) → take (low + n) (word_bits (joined begun low word)) ≡ both begun low word n
+joined-list begun low word n few above =
+    let w : ℕ = joined begun low word in
+    let len : length (take (low + n) (word_bits w)) ≡ low + n = omega (arith, length-take (low + n) (word_bits w), length-word_bits w) in
+    ext_get_or false (take (low + n) (word_bits w)) (both begun low word n) (len ∙ sym (length-both begun low word n (omega arith) (omega arith))) (λ j h.
+    let small : j < low + n = omega (arith, len) in
+    get_or-take (low + n) (word_bits w) j false small ∙ get_or-word_bits w j false (omega arith)
+    ∙ joined-value begun low word n j (omega arith) (omega arith) above (omega arith) small)
+
+-- and in two
+joined-lists : (begun low word n : ℕ) → low < 64 → n ≤ 64 → 64 ≤ low + n → ((i : ℕ) → low ≤ i → bit_at begun i ≡ 0)
+    → word_bits (joined begun low word) ++ take (low + n - 64) (word_bits (left_over low word)) ≡ both begun low word n
+joined-lists begun low word n few many full above =
+    let w : ℕ = joined begun low word in
+    let r : ℕ = left_over low word in
+    let rest : List Bool = take (low + n - 64) (word_bits r) in
+    let len_rest : length rest ≡ low + n - 64 = omega (arith, length-take (low + n - 64) (word_bits r), length-word_bits r) in
+    let len : length (word_bits w ++ rest) ≡ low + n = omega (arith, length-append (word_bits w) rest, length-word_bits w, len_rest) in
+    ext_get_or false (word_bits w ++ rest) (both begun low word n) (len ∙ sym (length-both begun low word n few many)) (λ j h.
+    let small : j < low + n = omega (arith, len) in
+    elim (cases_lt j 64) [
+      | inl first ↦
+          get_or_append_left (word_bits w) rest false j (omega (arith, length-word_bits w)) ∙ get_or-word_bits w j false first
+          ∙ joined-value begun low word n j few many above first small
+      | inr second ↦
+          let place : 64 - low + (j - 64) ≡ j - low = omega arith in
+          get_or-append_right (word_bits w) rest 64 j false (length-word_bits w) second
+          ∙ get_or-take (low + n - 64) (word_bits r) (j - 64) false (omega arith) ∙ get_or-word_bits r (j - 64) false (omega arith)
+          ∙ ap (λ x. nat_eq x 1) (left_over-bit low word (j - 64) few ∙ ap (bit_at word) place)
+          ∙ sym (both-second begun low word n j few many (omega arith) small)
+    ])
+
+-- ---- values put behind others
+
+pub nothing_yet : (out : List ℕ) → values_so_far out 0 0 ≡ chosen {X = Bool} [] []
+nothing_yet out = append-nil (bitmap out 0 0) ∙ no_values out 0 ∙ sym chosen-none
+
+-- where the word isn't full
+pub put-begun : (out : List ℕ) (at begun word n : ℕ) → at % 64 + n < 64 → ((i : ℕ) → at % 64 ≤ i → bit_at begun i ≡ 0)
+    → values_so_far out (joined begun (at % 64) word) (at + n) ≡ values_so_far out begun at ++ take n (word_bits word)
+put-begun out at begun word n few above =
+    let front : List Bool = bitmap out 0 (64 * (at / 64)) in
+    let whole : (at + n) / 64 ≡ at / 64 = omega arith in
+    let rest : (at + n) % 64 ≡ at % 64 + n = omega arith in
+    ap₂ (λ i k. bitmap out 0 (64 * i) ++ take k (word_bits (joined begun (at % 64) word))) whole rest
+    ∙ ap (λ (xs : List Bool). front ++ xs) (joined-list begun (at % 64) word n few above)
+    ∙ sym (append_assoc front (take (at % 64) (word_bits begun)) (take n (word_bits word)))
+
+pub put-begun_clear : (at begun word n j : ℕ) → at % 64 + n < 64 → ((i : ℕ) → at % 64 ≤ i → bit_at begun i ≡ 0) → ((i : ℕ) → n ≤ i → bit_at word i ≡ 0)
+    → (at + n) % 64 ≤ j → bit_at (joined begun (at % 64) word) j ≡ 0
+put-begun_clear at begun word n j few above clear from = elim (cases_lt j 64) [
+  | inl in_word ↦ joined-second begun (at % 64) word j above (omega arith) in_word ∙ clear (j - at % 64) (omega arith)
+  | inr past ↦
+      let cut : ℕ = word * 2 ^ (at % 64) % 2 ^ 64 in
+      omega (arith, bit_at_or begun cut j, above j (omega arith), bit_at_above cut 64 j (omega arith) past)
+]
+
+-- a word written into its eight bytes
+window-put : (out ys : List ℕ) (w e : ℕ) → e ≡ 8 * w + 8 → e ≤ length out → length ys ≡ e - 8 * w → window (put_mid (8 * w) (e - 8 * w) out ys) (64 * w) ≡ window ys 0
+window-put out ys w e end room len =
+    let new : List ℕ = put_mid (8 * w) (e - 8 * w) out ys in
+    window_from_bits new (64 * w) (window ys 0) (length-window ys 0) (λ j h.
+    let byte : (64 * w + j) / 8 ≡ 8 * w + (0 + j) / 8 = omega arith in
+    let bit : (64 * w + j) % 8 ≡ (0 + j) % 8 = omega arith in
+    get_or-window ys 0 j false h
+    ∙ sym (ap₂ (λ x k. nat_eq (bit_at x k) 1) (ap (λ k. get_or new k 0) byte ∙ get_or-put_mid_inside (8 * w) e out ys ((0 + j) / 8) (omega arith) len (omega arith)) bit))
+
+-- where the word is full
+pub put-full : (out ys : List ℕ) (at begun word n e : ℕ) → n ≤ 64 → 64 ≤ at % 64 + n → ((i : ℕ) → at % 64 ≤ i → bit_at begun i ≡ 0)
+    → e ≡ 8 * (at / 64) + 8 → e ≤ length out → length ys ≡ e - 8 * (at / 64) → window ys 0 ≡ word_bits (joined begun (at % 64) word)
+    → values_so_far (put_mid (8 * (at / 64)) (e - 8 * (at / 64)) out ys) (left_over (at % 64) word) (at + n) ≡ values_so_far out begun at ++ take n (word_bits word)
+put-full out ys at begun word n e many full above end room len shows =
+    let w : ℕ = at / 64 in
+    let low : ℕ = at % 64 in
+    let new : List ℕ = put_mid (8 * w) (e - 8 * w) out ys in
+    let front : List Bool = bitmap out 0 (64 * w) in
+    let first : List Bool = word_bits (joined begun low word) in
+    let rest : List Bool = take (low + n - 64) (word_bits (left_over low word)) in
+    let whole : (at + n) / 64 ≡ w + 1 = omega arith in
+    let few : (at + n) % 64 ≡ low + n - 64 = omega arith in
+    ap₂ (λ i k. bitmap new 0 (64 * i) ++ take k (word_bits (left_over low word))) whole few
+    ∙ ap (λ (xs : List Bool). xs ++ rest)
+    (front-more_word new w ∙ ap₂ (λ (xs zs : List Bool). xs ++ zs) (put-before out ys w (e - 8 * w) (omega arith)) (window-put out ys w e end room len ∙ shows))
+    ∙ append_assoc front first rest
+    ∙ ap (λ (xs : List Bool). front ++ xs) (joined-lists begun low word n (omega arith) many full above)
+    ∙ sym (append_assoc front (take low (word_bits begun)) (take n (word_bits word)))
+
+pub put-full_clear : (at word n j : ℕ) → 64 ≤ at % 64 + n → n ≤ 64 → ((i : ℕ) → n ≤ i → bit_at word i ≡ 0) → (at + n) % 64 ≤ j → bit_at (left_over (at % 64) word) j ≡ 0
+put-full_clear at word n j full many clear from =
+    left_over-bit (at % 64) word j (omega arith) ∙ clear (64 - at % 64 + j) (omega arith)
+
+-- ---- one more started word
+
+-- an extract has no bits behind those that it took
+pub extracted-clear : (source mask result j : ℕ) → Extracts source mask result → mask < 2 ^ 64 → count_ones mask ≤ j → j < 64 → bit_at result j ≡ 0
+extracted-clear source mask result j is fits from few = elim (cases_lt (bit_at result j) 1) [
+  | inl clear ↦ omega arith
+  | inr set ↦ absurd (omega (arith, ((is.bits j few).0 (omega (arith, bit_at-lt result j))).0, count-word_bits mask fits))
+]
+
+-- a word with no bits behind its first n has none past its end
+pub clear-behind : (word n : ℕ) → word < 2 ^ 64 → ((i : ℕ) → n ≤ i → i < 64 → bit_at word i ≡ 0) → (i : ℕ) → n ≤ i → bit_at word i ≡ 0
+clear-behind word n fits clear i from = elim (cases_lt i 64) [
+  | inl few ↦ clear i from few
+  | inr past ↦ bit_at_above word 64 i fits past
+]
+
+-- a started part is its values, and false ones behind them
+padded : (m : List Bool) (i k : ℕ) → 64 - length (drop (64 * i) m) ≡ k → take 64 (drop (64 * i) m) ++ repeated k false ≡ padded_part m i
+padded m i k is =
+    let front : List Bool = take 64 (drop (64 * i) m) in
+    padded_part_from_values m (front ++ repeated k false) i (omega (arith, is, length-take 64 (drop (64 * i) m), length-append front (repeated k false), length-repeated k false)) (λ j h.
+    get_or-padded front k j ∙ get_or-take 64 (drop (64 * i) m) j false h ∙ get_or-drop (64 * i) m j false)
+
+-- what the next word chooses
+pub chosen-word_more : (rows m : List Bool) (i : ℕ) → length rows ≡ length m
+    → chosen (take (64 * i) rows) (take (64 * i) m) ++ chosen (padded_part rows i) (padded_part m i) ≡ chosen (take (64 * (i + 1)) rows) (take (64 * (i + 1)) m)
+chosen-word_more rows m i len =
+    let n : ℕ = 64 * i in
+    let here : List Bool = take 64 (drop n rows) in
+    let choice : List Bool = take 64 (drop n m) in
+    let k : ℕ = 64 - length (drop n m) in
+    let same : length (take n rows) ≡ length (take n m) = omega (arith, length-take n rows, length-take n m, len) in
+    let alike : length here ≡ length choice = omega (arith, length-take 64 (drop n rows), length-take 64 (drop n m), length-drop n rows, length-drop n m, len) in
+    let pad : 64 - length (drop n rows) ≡ k = omega (arith, length-drop n rows, length-drop n m, len) in
+    let next : n + 64 ≡ 64 * (i + 1) = omega arith in
+    let part : chosen (padded_part rows i) (padded_part m i) ≡ chosen here choice
+    = ap₂ chosen (sym (padded rows i k pad)) (sym (padded m i k (omega arith)))
+    ∙ chosen_of_two_chunks here (repeated k false) choice (repeated k false) alike
+    ∙ ap (λ (xs : List Bool). chosen here choice ++ xs) (chosen-all_false (repeated k false) k)
+    ∙ append-nil (chosen here choice) in
+    ap (λ (xs : List Bool). chosen (take n rows) (take n m) ++ xs) part
+    ∙ sym (chosen_of_two_chunks (take n rows) here (take n m) choice same)
+    ∙ ap₂ chosen (sym (take-add n 64 rows)) (sym (take-add n 64 m)) ∙ ap (λ j. chosen (take j rows) (take j m)) next
+
+-- and how many these are
+pub counted-word_more : (m : List Bool) (i at mask : ℕ) → mask < 2 ^ 64 → at ≡ count (take (64 * i) m) → word_bits mask ≡ padded_part m i → at + count_ones mask ≡ count (take (64 * (i + 1)) m)
+counted-word_more m i at mask fits so_far reads = omega (arith, so_far, ap count reads, count-word_bits mask fits, count-word_more m i)
+
+-- ---- what the next word chooses is put behind what is there
+
+-- a mask word and a source word show word i of their lists, and `word` has what the one chooses of the other
+pub record AreChosenAt (s m : List Bool) (i source mask word : ℕ) : Type 0 where
+  pub fits : mask < 2 ^ 64
+  pub reads : word_bits source ≡ padded_part s i
+  pub chooses : word_bits mask ≡ padded_part m i
+  pub extracts : Extracts source mask word
+
+-- of whole words
+pub AreChosenAt-whole : (s m : List Bool) (i source mask word : ℕ) → length s ≡ length m → i < length m / 64 → mask < 2 ^ 64 → word_bits source ≡ word_part s i → word_bits mask ≡ word_part m i
+    → Extracts source mask word → AreChosenAt s m i source mask word
+AreChosenAt-whole s m i source mask word fitting inside fits reads chooses is = record {
+  fits = fits;
+  reads = reads ∙ padded_part-whole s i (omega (arith, fitting, inside));
+  chooses = chooses ∙ padded_part-whole m i (omega (arith, inside));
+  extracts = is;
+}
+
+pub AreChosenSoFar-none : (s m : List Bool) (out : List ℕ) → AreChosenSoFar s m 0 out out 0 0
+AreChosenSoFar-none s m out = record { list = nothing_yet out; counted = refl; clear = λ j from. bit_at-zero j; behind = refl }
+
+-- there is room for it
+pub chosen-within : {s m : List Bool} {i last n source mask word : ℕ} {old out : List ℕ} → AreChosenAt s m i source mask word → AreChosenSoFar s m i old out last n → n + count_ones mask ≤ count m
+chosen-within {s} {m} {i} {last} {n} {source} {mask} here so_far = omega (arith, counted-word_more m i n mask here.fits so_far.counted here.chooses, count_below-le m (64 * (i + 1)))
+
+pub AreChosenSoFar-more : {s m : List Bool} {i last n source mask word : ℕ} {old out : List ℕ} (new : List ℕ) (next end : ℕ) → length s ≡ length m
+    → AreChosenAt s m i source mask word → AreChosenSoFar s m i old out last n → end ≡ n + count_ones mask
+    → values_so_far new next (n + count_ones mask) ≡ values_so_far out last n ++ take (count_ones mask) (word_bits word)
+    → ((j : ℕ) → (n + count_ones mask) % 64 ≤ j → bit_at next j ≡ 0)
+    → drop (8 * ((n + count_ones mask) / 64)) new ≡ drop (8 * ((n + count_ones mask) / 64)) out
+    → AreChosenSoFar s m (i + 1) old new next end
+AreChosenSoFar-more {s} {m} {i} {last} {n} {source} {mask} {word} {old} {out} new next end fitting here so_far is list clear behind =
+    subst (AreChosenSoFar s m (i + 1) old new next) (sym is) (record {
+      list =
+          list
+          ∙ ap₂ (λ (xs ys : List Bool). xs ++ ys) so_far.list
+          (ap (λ k. take k (word_bits word)) (sym (count-word_bits mask here.fits)) ∙ take-extracted source mask word here.extracts ∙ ap₂ chosen here.reads here.chooses)
+          ∙ chosen-word_more s m i fitting;
+      counted = counted-word_more m i n mask here.fits so_far.counted here.chooses;
+      clear = clear;
+      behind = behind ∙ behind-later out old (8 * (n / 64)) (8 * ((n + count_ones mask) / 64)) (omega arith) so_far.behind;
+    })
+
+-- all of it, once all words are
+pub AreChosenSoFar-all : (s m : List Bool) (i : ℕ) (old out : List ℕ) (last n : ℕ) → length s ≡ length m → length m ≤ 64 * i → AreChosenSoFar s m i old out last n
+    → (values_so_far out last n ≡ chosen s m) × (n ≡ count m)
+AreChosenSoFar-all s m i old out last n fitting all is =
+    (is.list ∙ ap₂ chosen (take_all (64 * i) s (omega (arith, fitting, all))) (take_all (64 * i) m all), is.counted ∙ ap count (take_all (64 * i) m all))

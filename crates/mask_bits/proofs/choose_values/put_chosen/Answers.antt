@@ -1,0 +1,37 @@
+use Rattle.std.proofs.Common.{arith}
+use Rattle.mask_bits.proofs.ChosenBitLemmas.{AreChosenAt, AreChosenSoFar-more, AreChosenSoFar-all, chosen-within, extracted-clear}
+use Rattle.mask_bits.proofs.Lists.Places.PlaceLemmas.{count-le-length}
+use Rattle.mask_bits.proofs.choose_values.put_chosen.Goals as goal
+
+pub put_behind-last-requires-clause-word : goal.put_behind-last-requires-clause-word
+put_behind-last-requires-clause-word c = λ j from few.
+    extracted-clear c.started_word.result c.started_word-mask.result c.extract-word.result j c.extract-word.ensures c.started_word-mask.type_inv from few
+
+pub put_behind-last-requires-clause-room : goal.put_behind-last-requires-clause-room
+put_behind-last-requires-clause-room c =
+    let here : AreChosenAt c.args.values.now c.args.masks.now c.loop-i.i c.started_word.result c.started_word-mask.result c.extract-word.result
+    = record { fits = c.started_word-mask.type_inv; reads = c.started_word.ensures; chooses = c.started_word-mask.ensures; extracts = c.extract-word.ensures } in
+    omega (arith, chosen-within here c.loop-i.invariant, c.requires.room, c.loop-i.auto.out)
+
+pub put_behind-last-requires-clause-fits : goal.put_behind-last-requires-clause-fits
+put_behind-last-requires-clause-fits c =
+    let here : AreChosenAt c.args.values.now c.args.masks.now c.loop-i.i c.started_word.result c.started_word-mask.result c.extract-word.result
+    = record { fits = c.started_word-mask.type_inv; reads = c.started_word.ensures; chooses = c.started_word-mask.ensures; extracts = c.extract-word.ensures } in
+    omega (arith, chosen-within here c.loop-i.invariant, c.started_words-words.ensures.fits, count-le-length c.args.masks.now)
+
+pub loop-i-preserved : goal.loop-i-preserved
+loop-i-preserved c =
+    let here : AreChosenAt c.args.values.now c.args.masks.now c.loop-i.i c.started_word.result c.started_word-mask.result c.extract-word.result
+    = record { fits = c.started_word-mask.type_inv; reads = c.started_word.ensures; chooses = c.started_word-mask.ensures; extracts = c.extract-word.ensures } in
+    let put = c.put_behind-last.ensures in
+    AreChosenSoFar-more c.put_behind-last.new.out c.put_behind-last.result.word c.put_behind-last.result.count c.requires.fitting here c.loop-i.invariant put.count put.list put.begun put.behind
+
+pub returns-clause-count : goal.returns-clause-count
+returns-clause-count c =
+    (AreChosenSoFar-all c.args.values.now c.args.masks.now c.loop-i.i c.args.out.now c.loop-i.out c.loop-i.last.word c.loop-i.last.count c.requires.fitting
+    (omega (arith, c.loop-i-test.false, c.started_words-words.ensures.words)) c.loop-i.invariant).1
+
+pub returns-clause-list : goal.returns-clause-list
+returns-clause-list c =
+    (AreChosenSoFar-all c.args.values.now c.args.masks.now c.loop-i.i c.args.out.now c.loop-i.out c.loop-i.last.word c.loop-i.last.count c.requires.fitting
+    (omega (arith, c.loop-i-test.false, c.started_words-words.ensures.words)) c.loop-i.invariant).0

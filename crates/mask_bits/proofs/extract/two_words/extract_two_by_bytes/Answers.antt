@@ -1,0 +1,93 @@
+use Rattle.std.proofs.Common.{ℕ, ◌≡◌, ◌+◌, ◌*◌, ◌/◌, ◌%◌, ◌^◌, ◌<◌, inl, inr, List, length, Fits, ap, ap₂, ◌∙◌, sym, subst, get_or, count_ones, w64, arith, pow-add, add_comm}
+use Rattle.std.specs.Simd.Lanes.{Each1}
+use Rattle.std.proofs.lemmas.Bool.{cases_lt}
+use Rattle.std.proofs.lemmas.Nat.{shr-shr, ones_cat}
+use lib.Pow.{mod-mod-pow}
+use Rattle.mask_bits.specs.Extract.{Extracts, gathered, two_words}
+use Rattle.mask_bits.proofs.Lists.Words.GatherLemmas.{gathered-low, gathered-two, Extracts-gathered}
+use Rattle.mask_bits.proofs.Lists.Words.WideLaneLemmas.{wide_lane-fits}
+use Rattle.mask_bits.proofs.extract.two_words.extract_two_by_bytes.Goals as goal
+
+module _ (s m : ℕ) where
+  -- the bits gathered of part i of w places each
+  abbrev part : ℕ → ℕ → ℕ
+  part w i = gathered w (s / 2 ^ (w * i)) (m / 2 ^ (w * i))
+
+  -- part i of the mask
+  abbrev places : ℕ → ℕ → ℕ
+  places w i = m / 2 ^ (w * i) % 2 ^ w
+
+  pair_joined : (j x y n : ℕ) → x ≡ part 8 (2 * j) → y ≡ part 8 (2 * j + 1) → n ≡ 2 ^ count_ones (places 8 (2 * j)) → (x + y * n) % 2 ^ 16 ≡ part 16 j
+  pair_joined j x y n lower upper is =
+      let at : 8 * (2 * j) ≡ 16 * j = omega arith in
+      ap₂ (λ (p q : ℕ). (p + q) % 2 ^ 16) lower (ap₂ (λ (p q : ℕ). p * q) upper is)
+      ∙ gathered-two 8 s m (16 * j) (8 * (2 * j)) (8 * (2 * j + 1)) (count_ones (places 8 (2 * j))) at (omega arith) (ap (λ k. count_ones (m / 2 ^ k % 2 ^ 8)) at)
+
+  -- the places of two bytes
+  count_of_two : (j : ℕ) → 2 ^ count_ones (places 8 (2 * (2 * j))) * 2 ^ count_ones (places 8 (2 * (2 * j) + 1)) ≡ 2 ^ count_ones (places 16 (2 * j))
+  count_of_two j =
+      let x : ℕ = m / 2 ^ (16 * (2 * j)) in
+      let low : 8 * (2 * (2 * j)) ≡ 16 * (2 * j) = omega arith in
+      let high : 8 * (2 * (2 * j) + 1) ≡ 16 * (2 * j) + 8 = omega arith in
+      let first : places 8 (2 * (2 * j)) ≡ x % 2 ^ 8 = ap (λ k. m / 2 ^ k % 2 ^ 8) low in
+      let second : places 8 (2 * (2 * j) + 1) ≡ x / 2 ^ 8 % 2 ^ 8 = ap (λ k. m / 2 ^ k % 2 ^ 8) high ∙ ap (λ y. y % 2 ^ 8) (sym (shr-shr m (16 * (2 * j)) 8)) in
+      let whole : x / 2 ^ 8 % 2 ^ 8 * 2 ^ 8 + x % 2 ^ 8 ≡ x % 2 ^ 16 = omega arith in
+      let both : count_ones (x % 2 ^ 8) + count_ones (x / 2 ^ 8 % 2 ^ 8) ≡ count_ones (x % 2 ^ 16) = add_comm _ _ ∙ sym (ones_cat 8 (x / 2 ^ 8 % 2 ^ 8) (x % 2 ^ 8) (omega arith)) ∙ ap count_ones whole in
+      ap₂ (λ p q. 2 ^ count_ones p * 2 ^ count_ones q) first second ∙ sym (pow-add 2 (count_ones (x % 2 ^ 8)) (count_ones (x / 2 ^ 8 % 2 ^ 8))) ∙ ap (λ k. 2 ^ k) both
+
+  half_joined : (j x y e o : ℕ) → x ≡ part 16 (2 * j) → y ≡ part 16 (2 * j + 1) → e ≡ 2 ^ count_ones (places 8 (2 * (2 * j))) → o ≡ 2 ^ count_ones (places 8 (2 * (2 * j) + 1))
+      → (x + y * (e * o)) % 2 ^ 32 ≡ part 32 j
+  half_joined j x y e o lower upper even odd =
+      let at : 16 * (2 * j) ≡ 32 * j = omega arith in
+      ap₂ (λ (p q : ℕ). (p + q) % 2 ^ 32) lower (ap₂ (λ (p q : ℕ). p * q) upper (ap₂ (λ (p q : ℕ). p * q) even odd ∙ count_of_two j))
+      ∙ gathered-two 16 s m (32 * j) (16 * (2 * j)) (16 * (2 * j + 1)) (count_ones (places 16 (2 * j))) at (omega arith) (ap (λ k. count_ones (m / 2 ^ k % 2 ^ 16)) at)
+
+  word_joined : (k x y p : ℕ) → x ≡ part 32 (2 * k) → y ≡ part 32 (2 * k + 1) → p ≡ places 32 (2 * k) → (x + y * 2 ^ count_ones p) % 2 ^ 64 ≡ part 64 k
+  word_joined k x y p lower upper is =
+      let at : 32 * (2 * k) ≡ 64 * k = omega arith in
+      ap₂ (λ (a b : ℕ). (a + b) % 2 ^ 64) lower (ap₂ (λ a b. a * 2 ^ count_ones b) upper is)
+      ∙ gathered-two 32 s m (64 * k) (32 * (2 * k)) (32 * (2 * k + 1)) (count_ones (places 32 (2 * k))) at (omega arith) (ap (λ i. count_ones (m / 2 ^ i % 2 ^ 32)) at)
+
+  byte_gathered : (i x a b : ℕ) → x ≡ gathered 8 a b → a ≡ s / 2 ^ (8 * i) % 2 ^ 8 → b ≡ places 8 i → x ≡ part 8 i
+  byte_gathered i x a b is first second = is ∙ ap₂ (gathered 8) first second ∙ gathered-low 8 (s / 2 ^ (8 * i)) (m / 2 ^ (8 * i))
+
+  -- the lower half of a word
+  low_half : (k b : ℕ) → m / 2 ^ (64 * k) % 2 ^ 64 ≡ b → b % 2 ^ 32 ≡ places 32 (2 * k)
+  low_half k b is =
+      let at : 64 * k ≡ 32 * (2 * k) = omega arith in
+      ap (λ x. x % 2 ^ 32) (sym is) ∙ mod-mod-pow (m / 2 ^ (64 * k)) 32 32 ∙ ap (λ i. m / 2 ^ i % 2 ^ 32) at
+
+  extracted : (k r a b : ℕ) → r ≡ part 64 k → s / 2 ^ (64 * k) % 2 ^ 64 ≡ a → m / 2 ^ (64 * k) % 2 ^ 64 ≡ b → Extracts a b r
+  extracted k r a b is first second =
+      subst (Extracts a b) (sym (is ∙ sym (gathered-low 64 (s / 2 ^ (64 * k)) (m / 2 ^ (64 * k))) ∙ ap₂ (gathered 64) first second)) (Extracts-gathered a b)
+
+-- word k of two
+word_of : (ws : List ℕ) (k : ℕ) → (length ws ≡ 2) × Each1 (Fits w64) ws → k < 2 → two_words ws / 2 ^ (64 * k) % 2 ^ 64 ≡ get_or ws k 0
+word_of ws k fits h =
+    let first = wide_lane-fits w64 2 ws 0 fits (omega arith) in
+    let second = wide_lane-fits w64 2 ws 1 fits (omega arith) in
+    elim (cases_lt k 1) [
+      | inl none ↦
+          let e : k ≡ 0 = omega arith in
+          subst (λ i. two_words ws / 2 ^ (64 * i) % 2 ^ 64 ≡ get_or ws i 0) (sym e) (omega (arith, first))
+      | inr some ↦
+          let e : k ≡ 1 = omega arith in
+          subst (λ i. two_words ws / 2 ^ (64 * i) % 2 ^ 64 ≡ get_or ws i 0) (sym e) (omega (arith, first, second))
+    ]
+
+pub returns : goal.returns
+returns c =
+    let s : ℕ = two_words c.args.sources in
+    let m : ℕ = two_words c.args.masks in
+    let places_are = c.bytes_of-places.ensures.each in
+    let bytes_are = λ (i : ℕ) (h : i < 16). byte_gathered s m i _ _ _ (c.gather_in_bytes-bytes.ensures.each i h) (c.bytes_of.ensures.each i h) (places_are i h) in
+    let evens_are = λ (j : ℕ) (h : j < 8). c.powers_of-powers.ensures.even.each j h ∙ ap (λ n. 2 ^ count_ones n) (places_are (2 * j) (omega arith)) in
+    let odds_are = λ (j : ℕ) (h : j < 8). c.powers_of-powers.ensures.odd.each j h ∙ ap (λ n. 2 ^ count_ones n) (places_are (2 * j + 1) (omega arith)) in
+    let pairs_are = λ (j : ℕ) (h : j < 8). c.join_bytes-pairs.ensures.each j h ∙ pair_joined s m j _ _ _ (bytes_are (2 * j) (omega arith)) (bytes_are (2 * j + 1) (omega arith)) (evens_are j h) in
+    let halves_are = λ (j : ℕ) (h : j < 4). c.join_pairs-halves.ensures.each j h
+    ∙ half_joined s m j _ _ _ _ (pairs_are (2 * j) (omega arith)) (pairs_are (2 * j + 1) (omega arith)) (evens_are (2 * j) (omega arith)) (odds_are (2 * j) (omega arith)) in
+    let source_is = λ (k : ℕ) (h : k < 2). word_of c.args.sources k c.fits-sources h in
+    let mask_is = λ (k : ℕ) (h : k < 2). word_of c.args.masks k c.fits-masks h in
+    let each = λ (k : ℕ) (h : k < 2). extracted s m k _ _ _ (c.join_halves.ensures k h
+    ∙ word_joined s m k _ _ _ (halves_are (2 * k) (omega arith)) (halves_are (2 * k + 1) (omega arith)) (low_half s m k _ (mask_is k h))) (source_is k h) (mask_is k h) in
+    record { first = each 0 (omega arith); second = each 1 (omega arith) }

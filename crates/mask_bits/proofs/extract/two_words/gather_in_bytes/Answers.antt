@@ -1,0 +1,46 @@
+use Rattle.std.proofs.Common.{◌≡◌, ◌-◌, ◌+◌, ℕ, sym, ap, ◌∙◌, arith, bit_and, get_or, lt_of_le_of_lt}
+use Rattle.std.proofs.lemmas.Nat.{and_le_r}
+use Rattle.std.specs.Int.{bit_at}
+use Rattle.mask_bits.specs.Extract.{closed_up}
+use Rattle.mask_bits.proofs.Lists.Words.LaneLemmas.{AreLanes-itself, AreLanes-zip2, AreLanes-same, lane-fits}
+use Rattle.mask_bits.proofs.Lists.Words.GatherLemmas.{closed_from, within-free, closed_from-top, closed_from-free, closed_from-more, gathered-byte}
+use Rattle.mask_bits.proofs.extract.two_words.gather_in_bytes.Goals as goal
+
+pub loop-passed-init : goal.loop-passed-init
+loop-passed-init c = AreLanes-same (AreLanes-zip2 bit_and (AreLanes-itself 16 c.args.sources c.fits-sources.0) (AreLanes-itself 16 c.args.masks c.fits-masks.0))
+    (λ j h.
+    let s : ℕ = get_or c.args.sources j 0 in
+    let m : ℕ = get_or c.args.masks j 0 in
+    sym (closed_from-top m (bit_and s m) (lt_of_le_of_lt (and_le_r s m) (lane-fits c.args.masks 16 j c.fits-masks.0 c.fits-masks.1 h)) (within-free s m 7)))
+
+pub close_up-bits-requires-clause-free : goal.close_up-bits-requires-clause-free
+close_up-bits-requires-clause-free c = λ j h off.
+    let l = c.loop-passed in
+    let p : ℕ = 6 - l.passed in
+    let next : 7 - l.passed ≡ p + 1 = omega arith in
+    let s : ℕ = get_or c.args.sources j 0 in
+    let m : ℕ = get_or c.args.masks j 0 in
+    ap (λ x. bit_at x p) (l.invariant.each j h ∙ ap (λ k. closed_from k m (bit_and s m)) next)
+    ∙ closed_from-free p m (bit_and s m) (within-free s m p) off
+
+pub loop-passed-preserved : goal.loop-passed-preserved
+loop-passed-preserved c =
+    let l = c.loop-passed in
+    let p : ℕ = 6 - l.passed in
+    let next : 7 - l.passed ≡ p + 1 = omega arith in
+    let then : 7 - (l.passed + 1) ≡ p = omega arith in
+    AreLanes-same c.close_up-bits.ensures (λ j h.
+    let s : ℕ = get_or c.args.sources j 0 in
+    let m : ℕ = get_or c.args.masks j 0 in
+    ap (closed_up p m) (l.invariant.each j h ∙ ap (λ k. closed_from k m (bit_and s m)) next)
+    ∙ closed_from-more p m (bit_and s m) (omega arith) (within-free s m p)
+    ∙ ap (λ k. closed_from k m (bit_and s m)) (sym then))
+
+pub returns : goal.returns
+returns c =
+    let l = c.loop-passed in
+    let none : 7 - l.passed ≡ 0 = omega arith in
+    AreLanes-same l.invariant (λ j h.
+    let s : ℕ = get_or c.args.sources j 0 in
+    let m : ℕ = get_or c.args.masks j 0 in
+    ap (λ k. closed_from k m (bit_and s m)) none ∙ gathered-byte s m)
