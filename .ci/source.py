@@ -6,6 +6,7 @@ import re
 import textwrap
 from collections import namedtuple
 from functools import cache
+from itertools import takewhile
 from pathlib import Path
 
 ROOT = Path(__file__).resolve().parent.parent
@@ -18,19 +19,19 @@ class Function:
     """A function: `name` as `Type::f` or `module::f`, `clauses` by name, and where its text stands.
 
     `path` is its name for the check, without the crate and, of a method, without the module: `combine::extend`,
-    `Mask::clone`, `MaskPartialEq::eq`. `lines` are its first and last, counted from 1.
+    `Mask::clone`, `MaskPartialEq::eq`. `lines` are its first, with its attributes, and its last, counted from 1.
     """
 
     def __init__(self, file, text, name, path, start, sign, end, clauses, is_public, is_of_trait):
         self.file, self.name, self.path, self.clauses = file, name, path, clauses
         self.is_public, self.is_of_trait = is_public, is_of_trait
-        self.lines = text.count("\n", 0, start) + 1, text.count("\n", 0, end) + 1
         line = text.rfind("\n", 0, start) + 1
         self.contract = textwrap.dedent(text[line:sign]).strip()
-        before = text[:line].splitlines(keepends=True)
-        while before and re.match(r"\s*(///|#\[)", before[-1]):
-            line -= len(before.pop())
-        self.whole = textwrap.dedent(text[line:end]).strip()
+        before = text[:line].splitlines()
+        attributes = sum(1 for _ in takewhile(re.compile(r"\s*#\[").match, reversed(before)))
+        self.lines = len(before) - attributes + 1, text.count("\n", 0, end) + 1
+        docs = sum(len(it) + 1 for it in takewhile(re.compile(r"\s*(///|#\[)").match, reversed(before)))
+        self.whole = textwrap.dedent(text[line - docs : end]).strip()
 
 
 def spaces(text):
@@ -118,6 +119,7 @@ def functions_in(file, text=None):
 
     >>> code = '''impl Mask {
     ...     /// How many values.
+    ...     #[inline]
     ...     pub fn len(&self) -> usize
     ...         requires { small }
     ...         ensures len { result ≡ length self.now }
@@ -126,11 +128,11 @@ def functions_in(file, text=None):
     ... fn low<T>(at: [u8; 2]) { { } }'''
     >>> mask, low = functions_in(Path("crates/c/src/mask/len.rt"), code)
     >>> mask.name, mask.path, mask.lines, mask.is_public, mask.clauses["len"]
-    ('Mask::len', 'Mask::len', (3, 6), True, ('ensures', ' result ≡ length self.now '))
+    ('Mask::len', 'Mask::len', (3, 7), True, ('ensures', ' result ≡ length self.now '))
     >>> mask.clauses["requires"], mask.whole.split("\\n")[0]
     (('requires', ' small '), '/// How many values.')
     >>> low.name, low.path, low.lines, low.is_public, low.contract, low.clauses
-    ('len::low', 'mask::len::low', (8, 8), False, 'fn low<T>(at: [u8; 2])', {})
+    ('len::low', 'mask::len::low', (9, 9), False, 'fn low<T>(at: [u8; 2])', {})
     """
     text = file.read_text() if text is None else text
     code = blanked(text)
