@@ -32,12 +32,16 @@
 #include <string.h>
 
 #if defined(__x86_64__) && defined(__GNUC__)
-#include <immintrin.h>
+#include <cpuid.h>
 #endif
 
 /* The version that a program is compiled for: 10000 * major + 100 * minor + patch. The library that it
  * is linked with says its own by row_mask_version(). */
 #define ROW_MASK_VERSION 300
+
+#if !defined(__cplusplus) && (!defined(__STDC_VERSION__) || __STDC_VERSION__ < 199901L)
+#error "row_mask: C99 or later is needed"
+#endif
 
 #if SIZE_MAX != UINT64_MAX
 #error "row_mask: the library is for x86-64, where size_t has 64 bits"
@@ -542,17 +546,37 @@ size_t row_mask_take_bytes_8(
  * deposits or extracts, and writes. */
 #if defined(__x86_64__) && defined(__GNUC__)
 
-/* Whether the processor has both instructions, in a few cycles. Those of AMD before Zen 3 take up to
- * hundreds. */
+/* Whether the processor is one of AMD before Zen 3, or of Hygon, which are Zen of the first generation. */
+static inline bool row_mask_is_before_zen_3(void) {
+    unsigned version = 0, vendor = 0, third = 0, last = 0, family;
+
+    __cpuid(0, version, vendor, third, last);
+    if (vendor != signature_AMD_ebx && vendor != 0x6f677948) /* "Hygo" */
+        return false;
+    __cpuid(1, version, vendor, third, last);
+    family = version >> 8 & 0xf;
+    return (family == 0xf ? family + (version >> 20 & 0xff) : family) < 0x19;
+}
+
+/* Whether the processor has both instructions, in a few cycles, and `popcnt`. Those of AMD before Zen 3
+ * take up to hundreds. It is found out once, since that may take a microsecond. */
 static inline bool row_mask_has_quick_pdep(void) {
-    return __builtin_cpu_supports("bmi2") && !__builtin_cpu_is("amdfam15h") && !__builtin_cpu_is("amdfam17h");
+    static int known = 0; /* 1: it hasn't, 2: it has */
+    int found = __atomic_load_n(&known, __ATOMIC_RELAXED);
+
+    if (found == 0) {
+        bool has = __builtin_cpu_supports("bmi2") && __builtin_cpu_supports("popcnt");
+        found = has && !row_mask_is_before_zen_3() ? 2 : 1;
+        __atomic_store_n(&known, found, __ATOMIC_RELAXED);
+    }
+    return found == 2;
 }
 
 /* Deposits each source at its word. The processor has the instruction. */
 __attribute__((target("bmi2")))
 static inline void row_mask_deposit(uint64_t *words, const uint64_t *sources, size_t count) {
     for (size_t i = 0; i < count; i++)
-        words[i] = _pdep_u64(sources[i], words[i]);
+        words[i] = __builtin_ia32_pdep_di(sources[i], words[i]);
 }
 
 /* As `row_mask_intersect_by_rank`, which it calls where there is no quick `pdep`, and where all values
@@ -591,7 +615,7 @@ static inline size_t row_mask_extract(
     unsigned at = *low;
     size_t filled = 0;
     for (size_t i = 0; i < count; i++) {
-        uint64_t bits = _pext_u64(sources[i], masks[i]), over = bits >> 1 >> (63 - at);
+        uint64_t bits = __builtin_ia32_pext_di(sources[i], masks[i]), over = bits >> 1 >> (63 - at);
         unsigned next = at + (unsigned)__builtin_popcountll(masks[i]);
         made[filled] = begun | bits << at;
         begun = next < 64 ? made[filled] : over;

@@ -2,7 +2,7 @@
 //! that the ones before it left; then the columns of the rows that are left, one of them nullable
 //! strings. The same by plain loops gives the same rows, and the times stand beside.
 
-use row_mask::{Bitmap, BitmapBuf, Error, Selection};
+use row_mask::{BitmapBuf, Error, Selection, Strings};
 use std::time::{Duration, Instant};
 
 const ROWS: usize = 1_000_000;
@@ -11,13 +11,13 @@ const ROWS: usize = 1_000_000;
 struct Columns {
     prices: (Vec<u64>, BitmapBuf),
     amounts: (Vec<i32>, BitmapBuf),
-    names: (Strings, BitmapBuf),
-    notes: (Strings, BitmapBuf),
+    names: (Texts, BitmapBuf),
+    notes: (Texts, BitmapBuf),
 }
 
 /// Bytes one after another, and where each string begins.
 #[derive(PartialEq)]
-struct Strings {
+struct Texts {
     offsets: Vec<u32>,
     bytes: Vec<u8>,
 }
@@ -27,8 +27,8 @@ struct Strings {
 struct Left {
     prices: Vec<u64>,
     amounts: Vec<i32>,
-    names: Strings,
-    notes: (Strings, BitmapBuf),
+    names: Texts,
+    notes: (Texts, BitmapBuf),
 }
 
 fn cheap(price: u64) -> bool {
@@ -70,13 +70,12 @@ fn by_bitmaps(columns: &Columns) -> Result<Left, Error> {
     let (prices, has_price) = &columns.prices;
     let (amounts, has_amount) = &columns.amounts;
     let (names, has_name) = &columns.names;
-    let mut mask: BitmapBuf = prices.iter().map(|price| cheap(*price)).collect();
+    let mut mask = BitmapBuf::from_rows(prices, |price| cheap(*price));
     for there in [has_price, has_amount, has_name] {
         mask.and_with(there.as_bitmap())?;
     }
-    // (a predicate's bitmap has a value for each row that is left, and narrows the mask by rank)
-    mask = narrowed(mask.as_bitmap(), |i| large(amounts[i]))?;
-    mask = narrowed(mask.as_bitmap(), |i| named(names.get(i)))?;
+    mask.retain(|i| large(amounts[i]));
+    mask.retain(|i| named(names.get(i)));
     let selection = Selection::new(mask.as_bitmap());
     let (notes, has_note) = &columns.notes;
     Ok(Left {
@@ -85,11 +84,6 @@ fn by_bitmaps(columns: &Columns) -> Result<Left, Error> {
         names: names.chosen(&selection)?,
         notes: (notes.chosen(&selection)?, selection.choose_bits(has_note.as_bitmap())?),
     })
-}
-
-fn narrowed(mask: Bitmap<'_>, is_kept: impl Fn(usize) -> bool) -> Result<BitmapBuf, Error> {
-    let ranks: BitmapBuf = mask.indices().map(is_kept).collect();
-    mask.intersect_by_rank(ranks.as_bitmap())
 }
 
 fn by_plain_loops(columns: &Columns) -> Left {
@@ -101,8 +95,8 @@ fn by_plain_loops(columns: &Columns) -> Left {
     let mut left = Left {
         prices: vec![],
         amounts: vec![],
-        names: Strings::none(),
-        notes: (Strings::none(), BitmapBuf::default()),
+        names: Texts::none(),
+        notes: (Texts::none(), BitmapBuf::default()),
     };
     let mut there = vec![];
     for i in 0..ROWS {
@@ -124,9 +118,9 @@ fn by_plain_loops(columns: &Columns) -> Left {
     left
 }
 
-impl Strings {
-    fn none() -> Strings {
-        Strings { offsets: vec![0], bytes: vec![] }
+impl Texts {
+    fn none() -> Texts {
+        Texts { offsets: vec![0], bytes: vec![] }
     }
 
     fn get(&self, i: usize) -> &[u8] {
@@ -138,13 +132,13 @@ impl Strings {
         self.offsets.push(u32::try_from(self.bytes.len()).expect("few bytes"));
     }
 
-    fn chosen(&self, selection: &Selection) -> Result<Strings, Error> {
-        let (offsets, bytes) = selection.choose_strings(&self.offsets, &self.bytes)?;
-        Ok(Strings { offsets, bytes })
+    fn chosen(&self, selection: &Selection) -> Result<Texts, Error> {
+        let (offsets, bytes) = Strings::new(&self.offsets, &self.bytes)?.choose(selection)?;
+        Ok(Texts { offsets, bytes })
     }
 
-    fn random(random: &mut Random) -> Strings {
-        let mut made = Strings::none();
+    fn random(random: &mut Random) -> Texts {
+        let mut made = Texts::none();
         for _ in 0..ROWS {
             let letters = |_| b'a' + u8::try_from(random.below(26)).expect("a letter");
             let string: [u8; 12] = std::array::from_fn(letters);
@@ -179,8 +173,8 @@ impl Columns {
         Columns {
             prices: (prices, random.bits()),
             amounts: (amounts, random.bits()),
-            names: (Strings::random(&mut random), random.bits()),
-            notes: (Strings::random(&mut random), random.bits()),
+            names: (Texts::random(&mut random), random.bits()),
+            notes: (Texts::random(&mut random), random.bits()),
         }
     }
 }

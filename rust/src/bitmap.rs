@@ -16,7 +16,7 @@ mod room;
 mod text;
 
 pub use room::Room;
-pub(crate) use room::{front, init, list_of, room_for};
+pub(crate) use room::{append_to, front, init, list_of, room_for};
 pub(crate) use text::debug;
 
 /// A list of truth values, packed eight to a byte, that lies in borrowed bytes: value `i` is the bit

@@ -1,14 +1,15 @@
 use crate::bitmap;
 use crate::{Bitmap, Values};
 use std::fmt;
+use std::hash::{Hash, Hasher};
 use std::ops::Not;
 
 mod change;
+mod lanes;
 mod make;
 mod pack;
 
-pub(crate) use change::append;
-pub(crate) use pack::pack_fn;
+pub(crate) use pack::pack_values;
 
 /// A list of truth values in bytes of its own, from bit 0 on: what a call on a [`Bitmap`] makes.
 ///
@@ -80,6 +81,13 @@ impl PartialEq for BitmapBuf {
 }
 
 impl Eq for BitmapBuf {}
+
+impl Hash for BitmapBuf {
+    fn hash<H: Hasher>(&self, state: &mut H) {
+        self.len.hash(state);
+        self.bytes.hash(state);
+    }
+}
 
 impl PartialEq<Bitmap<'_>> for BitmapBuf {
     fn eq(&self, other: &Bitmap<'_>) -> bool {

@@ -15,13 +15,15 @@ mod declared;
 mod error;
 mod row;
 mod selection;
+mod strings;
 mod walks;
 
 pub use bitmap::{Bitmap, Room};
 pub use buf::BitmapBuf;
 pub use error::Error;
 pub use row::Row;
-pub use selection::{Offset, Selection};
+pub use selection::Selection;
+pub use strings::{Offset, Strings};
 pub use walks::{Indices, Runs, Values};
 
 /// The version of the library that is linked, as `10000 * major + 100 * minor + patch`. It is the

@@ -1,92 +1,78 @@
-use crate::declared::{
-    RowMask16, row_mask_choose_1, row_mask_choose_2, row_mask_choose_4, row_mask_choose_8,
-    row_mask_choose_16, row_mask_take_1, row_mask_take_2, row_mask_take_4, row_mask_take_8,
-    row_mask_take_16,
-};
+//! Rows that are chosen.
 
 use std::mem::MaybeUninit;
 
-/// A value that [`Bitmap::choose`](crate::Bitmap::choose) copies: a number, a `bool` or a `char`.
-pub trait Row: Copy + Default + sealed::Choose {}
+/// A value that [`Bitmap::choose`](crate::Bitmap::choose) and [`Selection::choose`](crate::Selection::choose) copy: a
+/// number, a `bool`, a `char`, an array of these, and what a caller says is one.
+///
+/// A [`Bitmap`](crate::Bitmap) copies rows of 1, 2, 4, 8 and 16 bytes by the proved loops, if they lie at places for
+/// numbers of that size (those of 16 bytes at places for numbers of 8), and all others one by one.
+///
+/// ```
+/// use row_mask::{Bitmap, Row};
+///
+/// #[derive(Clone, Copy, Debug, PartialEq)]
+/// struct Cents(i64);
+/// // SAFETY: it is a number, and nothing else.
+/// unsafe impl Row for Cents {}
+///
+/// let rows = Bitmap::new(&[0b101], 0, 3)?;
+/// assert_eq!(rows.choose(&[Cents(5), Cents(7), Cents(9)])?, [Cents(5), Cents(9)]);
+/// assert_eq!(rows.choose(&[*b"ab", *b"cd", *b"ef"])?, [*b"ab", *b"ef"]);
+/// # Ok::<(), row_mask::Error>(())
+/// ```
+///
+/// # Safety
+///
+/// A value is plain bytes, each of them written: there is no padding between its fields or behind the last one.
+pub unsafe trait Row: Copy {}
 
-pub(crate) mod sealed {
-    use std::mem::MaybeUninit;
+macro_rules! rows {
+    ($($row:ty),+) => {$(
+        // SAFETY: each byte is one of the number's.
+        unsafe impl Row for $row {}
+    )+};
+}
 
-    pub trait Choose: Sized {
-        /// # Safety
-        ///
-        /// The `len` bits from bit `offset` on are within `bytes`, `rows` has `len` items, and `out`
-        /// one for each true value. These are written.
-        unsafe fn choose(
-            bytes: &[u8],
-            offset: usize,
-            len: usize,
-            rows: &[Self],
-            out: &mut [MaybeUninit<Self>],
-        ) -> usize;
+rows!(u8, i8, bool, u16, i16, u32, i32, f32, char, u64, i64, f64, usize, isize, u128, i128);
 
-        /// # Safety
-        ///
-        /// Each index is below the number of rows, and `out` has an item for each index. These are
-        /// written.
-        unsafe fn take(indices: &[usize], rows: &[Self], out: &mut [MaybeUninit<Self>]);
+// SAFETY: nothing lies between the items of an array.
+unsafe impl<T: Row, const N: usize> Row for [T; N] {}
+
+/// As what a row crosses to the library: an item of its size, that asks no more of its place.
+pub(crate) enum Item {
+    Of1,
+    Of2,
+    Of4,
+    Of8,
+    Of16,
+    None,
+}
+
+pub(crate) const fn item_of<T>() -> Item {
+    match (size_of::<T>(), align_of::<T>()) {
+        (1, _) => Item::Of1,
+        (2, 2..) => Item::Of2,
+        (4, 4..) => Item::Of4,
+        (8, 8..) => Item::Of8,
+        (16, 8..) => Item::Of16,
+        _ => Item::None,
     }
 }
 
-macro_rules! rows {
-    ($($choose:ident, $take:ident as $item:ty: $($row:ty),+;)+) => {$($(
-        impl Row for $row {}
-
-        // what a row crosses as has its size, and asks no more of its place
-        const _: () = assert!(size_of::<$row>() == size_of::<$item>());
-        const _: () = assert!(align_of::<$row>() >= align_of::<$item>());
-
-        impl sealed::Choose for $row {
-            unsafe fn choose(
-                bytes: &[u8],
-                offset: usize,
-                len: usize,
-                rows: &[Self],
-                out: &mut [MaybeUninit<Self>],
-            ) -> usize {
-                // SAFETY: the pointers and sizes are those of slices, which are borrowed for the
-                // call, rows are read and written as items of their size and place, each written
-                // one is a copy of a row, and the rest is what this function asks.
-                unsafe {
-                    $choose(
-                        bytes.as_ptr(),
-                        bytes.len(),
-                        offset,
-                        len,
-                        rows.as_ptr().cast::<$item>(),
-                        rows.len(),
-                        out.as_mut_ptr().cast::<$item>(),
-                        out.len(),
-                    )
-                }
-            }
-
-            unsafe fn take(indices: &[usize], rows: &[Self], out: &mut [MaybeUninit<Self>]) {
-                // SAFETY: as above.
-                unsafe {
-                    $take(
-                        indices.as_ptr(),
-                        indices.len(),
-                        rows.as_ptr().cast::<$item>(),
-                        rows.len(),
-                        out.as_mut_ptr().cast::<$item>(),
-                        out.len(),
-                    );
-                }
-            }
-        }
-    )+)+};
-}
-
-rows! {
-    row_mask_choose_1, row_mask_take_1 as u8: u8, i8, bool;
-    row_mask_choose_2, row_mask_take_2 as u16: u16, i16;
-    row_mask_choose_4, row_mask_take_4 as u32: u32, i32, f32, char;
-    row_mask_choose_8, row_mask_take_8 as u64: u64, i64, f64, usize, isize;
-    row_mask_choose_16, row_mask_take_16 as RowMask16: u128, i128;
+/// Writes the rows at indices.
+///
+/// # Safety
+///
+/// Each index is below the number of rows, and there are as many as places. These are written.
+#[inline]
+pub(crate) unsafe fn take<T: Row>(
+    indices: impl Iterator<Item = usize>,
+    rows: &[T],
+    out: &mut [MaybeUninit<T>],
+) {
+    for (place, i) in out.iter_mut().zip(indices) {
+        // SAFETY: as is asked here.
+        place.write(*unsafe { rows.get_unchecked(i) });
+    }
 }

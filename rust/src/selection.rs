@@ -1,15 +1,13 @@
-use crate::bitmap::{Room, front, init, list_of};
-use crate::buf::{append, pack_fn};
-use crate::{Bitmap, BitmapBuf, Error, Row};
+use crate::bitmap::{Room, append_to, front};
+use crate::{Bitmap, BitmapBuf, Error, Row, row};
+use kept::{Indices, Kept};
 use std::mem::MaybeUninit;
-use std::ops::Range;
 
+mod kept;
 mod strings;
 
-pub use strings::Offset;
-
-/// The true values of a [`Bitmap`], read once, to choose the rows of many columns: as their indices, or as
-/// their runs where these are far fewer.
+/// The true values of a [`Bitmap`], read once, to choose the rows, bits and strings of many columns. It keeps the
+/// bitmap, and beside it the indices of the true values, or their runs where these are long.
 ///
 /// ```
 /// use row_mask::{Bitmap, Selection};
@@ -21,49 +19,43 @@ pub use strings::Offset;
 /// ```
 #[derive(Clone, Debug)]
 pub struct Selection {
-    len: usize,
+    bitmap: BitmapBuf,
     count: usize,
     kept: Kept,
 }
-
-#[derive(Clone, Debug)]
-enum Kept {
-    Indices(Vec<usize>),
-    Runs(Vec<Range<usize>>),
-}
-
-// A run is copied at once, which pays where runs have so many values, taken together.
-const OF_A_RUN: usize = 4;
 
 impl Selection {
     /// Reads a bitmap.
     #[must_use]
     pub fn new(bitmap: Bitmap<'_>) -> Selection {
-        let (len, count) = (bitmap.len(), bitmap.count());
-        let kept = if runs_of(bitmap) <= count / OF_A_RUN {
-            Kept::Runs(bitmap.runs().collect())
-        } else {
-            Kept::Indices(bitmap.to_indices())
-        };
-        Selection { len, count, kept }
+        let bitmap = bitmap.to_buf();
+        let count = bitmap.as_bitmap().count();
+        let kept = Kept::of(bitmap.as_bitmap(), count);
+        Selection { bitmap, count, kept }
     }
 
     /// How many rows a column has.
     #[must_use]
     pub fn len(&self) -> usize {
-        self.len
+        self.bitmap.len()
     }
 
     /// Whether a column has no rows.
     #[must_use]
     pub fn is_empty(&self) -> bool {
-        self.len == 0
+        self.bitmap.is_empty()
     }
 
     /// How many rows are chosen.
     #[must_use]
     pub fn count(&self) -> usize {
         self.count
+    }
+
+    /// The bitmap that was read.
+    #[must_use]
+    pub fn as_bitmap(&self) -> Bitmap<'_> {
+        self.bitmap.as_bitmap()
     }
 
     /// The chosen rows of a column, in their order.
@@ -73,9 +65,20 @@ impl Selection {
     /// [`Error::RowsDiffer`] where the column has not [`len`](Selection::len) rows, and
     /// [`Error::OutOfMemory`].
     pub fn choose<T: Row>(&self, rows: &[T]) -> Result<Vec<T>, Error> {
+        let mut chosen = Vec::new();
+        self.choose_append(rows, &mut chosen)?;
+        Ok(chosen)
+    }
+
+    /// As [`choose`](Selection::choose), behind the items of a list.
+    ///
+    /// # Errors
+    ///
+    /// [`Error::RowsDiffer`] as there, and [`Error::OutOfMemory`]. Then the list is as it was.
+    pub fn choose_append<T: Row>(&self, rows: &[T], list: &mut Vec<T>) -> Result<(), Error> {
         self.of_len(rows.len())?;
         // SAFETY: there is a row for each value, and a place for each true one, which is written.
-        unsafe { list_of(self.count, |out| self.choose_to(rows, out)) }
+        unsafe { append_to(list, self.count, |out| self.choose_to(rows, out)) }
     }
 
     /// As [`choose`](Selection::choose), to the front of `out`.
@@ -86,24 +89,30 @@ impl Selection {
     /// [`count`](Selection::count) items.
     pub fn choose_into<T: Row>(&self, rows: &[T], out: &mut [T]) -> Result<(), Error> {
         self.of_len(rows.len())?;
-        let out = front(out, self.count)?;
-        // SAFETY: there is a row for each value, and `out` has a place for each true one.
-        unsafe { self.choose_to(rows, out) };
+        // SAFETY: there is a row for each value, and a place for each true one, which is written.
+        unsafe { self.choose_to(rows, front(out, self.count)?) };
         Ok(())
     }
 
     // SAFETY of a call: there is a row for each value, and a place for each true one, which is written.
-    unsafe fn choose_to<T: Row>(&self, rows: &[T], mut out: &mut [MaybeUninit<T>]) {
+    unsafe fn choose_to<T: Row>(&self, rows: &[T], out: &mut [MaybeUninit<T>]) {
         match &self.kept {
-            // SAFETY: the indices are those of true values, and the rest is asked here.
-            Kept::Indices(indices) => unsafe { T::take(indices, rows, out) },
+            Kept::Indices(Indices::Short(list)) => {
+                let indices = list.iter().map(|i| *i as usize);
+                // SAFETY: the indices are those of true values, and the rest is asked here.
+                unsafe { row::take(indices, rows, out) };
+            }
+            Kept::Indices(Indices::Long(list)) => {
+                // SAFETY: as above.
+                unsafe { row::take(list.iter().copied(), rows, out) };
+            }
             Kept::Runs(runs) => {
+                let mut left = out;
                 for run in runs {
-                    let (front, rest) = out.split_at_mut(run.len());
-                    for (place, row) in front.iter_mut().zip(&rows[run.clone()]) {
+                    let places = first(&mut left, run.len());
+                    for (place, row) in places.iter_mut().zip(&rows[run.clone()]) {
                         place.write(*row);
                     }
-                    out = rest;
                 }
             }
         }
@@ -140,55 +149,23 @@ impl Selection {
         out: &mut (impl Room + ?Sized),
     ) -> Result<(), Error> {
         self.of_len(bits.len())?;
-        match &self.kept {
-            // SAFETY: it writes each byte.
-            Kept::Indices(indices) => unsafe {
-                out.write(self.count, |out| bits_at(indices, bits, out))
-            },
-            // SAFETY: each byte is written by `init`, and then those of the runs, which have `count`
-            // values.
-            Kept::Runs(runs) => unsafe {
-                out.write(self.count, |out| {
-                    let (out, mut len) = (init(out), 0);
-                    for run in runs {
-                        append(out, len, bits.part(run.clone()));
-                        len += run.len();
-                    }
-                })
-            },
-        }
+        // SAFETY: it writes each byte.
+        unsafe { out.write(self.count, |out| self.as_bitmap().choose_bits_to(bits, out)) }
     }
 
     fn of_len(&self, rows: usize) -> Result<(), Error> {
-        if rows == self.len {
+        let len = self.len();
+        if rows == len {
             return Ok(());
         }
-        Err(Error::RowsDiffer { rows, len: self.len })
+        Err(Error::RowsDiffer { rows, len })
     }
 }
 
-// Writes the values at indices that ascend. Their words are taken in blocks.
-fn bits_at(indices: &[usize], bits: Bitmap<'_>, out: &mut [MaybeUninit<u8>]) {
-    let (mut words, mut block) = ([0; 64], usize::MAX);
-    let value = |n: usize| {
-        let (word, bit) = (indices[n] / 64, indices[n] % 64);
-        if block != word / words.len() {
-            block = word / words.len();
-            bits.next_words(block * words.len(), &mut words);
-        }
-        words[word % words.len()] >> bit & 1 == 1
-    };
-    pack_fn(indices.len(), value, out);
-}
-
-// How many runs there are: true values before which there is none.
-fn runs_of(bitmap: Bitmap<'_>) -> usize {
-    let (mut runs, mut before) = (0, 0);
-    for word in bitmap.to_words() {
-        runs += (word & !(word << 1 | before)).count_ones() as usize;
-        before = word >> 63;
-    }
-    runs
+/// Takes the first `count` places of those that are left.
+#[expect(clippy::mut_mut, reason = "the list that is left becomes a shorter one")]
+fn first<'a, T>(left: &mut &'a mut [T], count: usize) -> &'a mut [T] {
+    left.split_off_mut(..count).unwrap_or_default()
 }
 
 impl From<Bitmap<'_>> for Selection {

@@ -3,7 +3,11 @@
 
 use crate::Call;
 use crate::lists::{Lists, OFFSETS, Packed};
-use std::arch::x86_64::{_pdep_u64, _pext_u64};
+use crate::ours::{digest, digest_of_scan};
+use std::arch::x86_64::{
+    __m128i, _mm_cmpgt_epi32, _mm_loadu_si128, _mm_movemask_epi8, _mm_packs_epi16, _mm_packs_epi32,
+    _mm_set1_epi32, _pdep_u64, _pext_u64,
+};
 use std::hint::black_box;
 
 pub struct ByHand<'a>(pub &'a Lists);
@@ -42,6 +46,17 @@ impl ByHand<'_> {
                 Box::new(move || last_of_bools(&filtered(lists))),
                 Box::new(move || last_of_bools(&filtered_in_room(lists))),
             ],
+            "choose, by a selection" => vec![
+                Box::new(move || gathered(&lists.indices, rows).last().copied().unwrap_or(0)),
+                Box::new(move || choose(a, rows).last().copied().unwrap_or(0)),
+            ],
+            "choose bits, by a selection" => vec![
+                Box::new(move || last_of(&by_pext(a, b))),
+                Box::new(move || last_of(&bits_one_by_one(a, b))),
+            ],
+            "choose strings, by a selection" => {
+                vec![Box::new(move || digest(&strings(&lists.indices, &lists.texts)))]
+            }
             "for over indices" => vec![Box::new(move || sum_of_rows(a, rows))],
             "sum of indices" => vec![Box::new(move || sum_of_indices(a))],
             "for over values" => {
@@ -51,7 +66,15 @@ impl ByHand<'_> {
                     Box::new(move || found_by_words(a, rows, &mut second)),
                 ]
             }
-            "collect a predicate" | "from_fn of a predicate" => vec![
+            "retain by a predicate" => {
+                vec![Box::new(move || last(&retained(a, |i| rows[i] % 4 != 0), len))]
+            }
+            "scan" => vec![
+                Box::new(move || scan(lists, kept_as_they_come)),
+                Box::new(move || scan(lists, kept_and_listed)),
+            ],
+            "from_rows of a predicate" | "collect a predicate" | "from_fn of a predicate" => vec![
+                Box::new(move || last(&packed_by_lanes(column, lists.share), len)),
                 Box::new(move || last(&packed(column, |it| it < lists.share), len)),
                 Box::new(move || last(&packed_by_shifts(column, |it| it < lists.share), len)),
                 Box::new(move || last(&packed_by_eights(column, |it| it < lists.share), len)),
@@ -237,6 +260,83 @@ fn choose(words: &[u64], rows: &[u64]) -> Vec<u64> {
     out
 }
 
+/// The rows at indices that were listed before.
+fn gathered(indices: &[u32], rows: &[u64]) -> Vec<u64> {
+    indices.iter().map(|i| rows[*i as usize]).collect()
+}
+
+fn strings(indices: &[u32], (offsets, bytes): &(Vec<u32>, Vec<u8>)) -> (Vec<u32>, Vec<u8>) {
+    let part = |i: u32| offsets[i as usize] as usize..offsets[i as usize + 1] as usize;
+    let (mut ends, mut chosen) = (Vec::with_capacity(indices.len() + 1), Vec::new());
+    ends.push(0);
+    chosen.reserve(indices.iter().map(|i| part(*i).len()).sum());
+    for i in indices {
+        chosen.extend_from_slice(&bytes[part(*i)]);
+        ends.push(u32::try_from(chosen.len()).unwrap());
+    }
+    (ends, chosen)
+}
+
+fn retained(words: &[u64], is_kept: impl Fn(usize) -> bool) -> Vec<u64> {
+    let kept = |(k, word): (usize, &u64)| {
+        let (mut left, mut kept) = (*word, 0);
+        while left != 0 {
+            let low = left & left.wrapping_neg();
+            kept |= low & u64::from(is_kept(64 * k + low.trailing_zeros() as usize)).wrapping_neg();
+            left ^= low;
+        }
+        kept
+    };
+    words.iter().enumerate().map(kept).collect()
+}
+
+/// The scan, by comparisons of lanes, a loop over bits, a list of indices, and `pext`.
+fn scan(lists: &Lists, kept: fn(&mut [u64], &[i64]) -> Vec<u32>) -> u64 {
+    let mut left = packed_by_lanes(&lists.column, lists.share);
+    for (word, there) in left.iter_mut().zip(&lists.there) {
+        *word &= there;
+    }
+    let indices = kept(&mut left, &lists.amounts);
+    let rows = gathered(&indices, &lists.rows);
+    let column: Vec<u32> = indices.iter().map(|i| lists.column[*i as usize]).collect();
+    let (_, count) = black_box(by_pext(&left, &lists.packed.other));
+    digest_of_scan(&rows, &column, count)
+}
+
+/// Leaves the bits set whose amounts are small, and lists these, with a branch for each.
+fn kept_as_they_come(left: &mut [u64], amounts: &[i64]) -> Vec<u32> {
+    let mut indices = Vec::with_capacity(count(left));
+    for (base, word) in (0..).step_by(64).zip(left) {
+        let (mut bits, mut kept) = (*word, 0);
+        while bits != 0 {
+            let low = bits & bits.wrapping_neg();
+            let i = base + low.trailing_zeros();
+            if amounts[i as usize] < 500 {
+                indices.push(i);
+                kept |= low;
+            }
+            bits ^= low;
+        }
+        *word = kept;
+    }
+    indices
+}
+
+/// The same with no branch for each, and a list of what is left.
+fn kept_and_listed(left: &mut [u64], amounts: &[i64]) -> Vec<u32> {
+    let kept = retained(left, |i| amounts[i] < 500);
+    left.copy_from_slice(&kept);
+    let mut indices = Vec::with_capacity(count(left));
+    for (base, word) in (0..).step_by(64).zip(left) {
+        let mut bits = *word;
+        while bits != 0 {
+            indices.push(base + bits.trailing_zeros());
+            bits &= bits - 1;
+        }
+    }
+    indices
+}
+
 fn choose_by_pushes(words: &[u64], rows: &[u64]) -> Vec<u64> {
     let mut out = Vec::with_capacity(count(words));
     for (word, rows) in words.iter().zip(rows.chunks(64)) {
@@ -311,6 +411,33 @@ fn found_by_words(words: &[u64], rows: &[u64], found: &mut Vec<u64>) -> u64 {
         }
     }
     found.len() as u64
+}
+
+/// Four rows in a comparison, and sixteen in a mask of bits. Rows are below 2^31.
+fn packed_by_lanes(column: &[u32], share: u32) -> Vec<u64> {
+    let bits = |part: &[u32; 16]| {
+        // SAFETY: each processor of x86-64 has SSE2, and four times four rows are read.
+        unsafe {
+            let shares = _mm_set1_epi32(share.cast_signed());
+            let below = |k: usize| {
+                let rows = _mm_loadu_si128(part.as_ptr().add(4 * k).cast::<__m128i>());
+                _mm_cmpgt_epi32(shares, rows)
+            };
+            let (low, high) =
+                (_mm_packs_epi32(below(0), below(1)), _mm_packs_epi32(below(2), below(3)));
+            u64::from(_mm_movemask_epi8(_mm_packs_epi16(low, high)).cast_unsigned())
+        }
+    };
+    let (whole, last) = column.as_chunks::<64>();
+    let mut out = Vec::with_capacity(column.len().div_ceil(64));
+    for part in whole {
+        let (parts, _) = part.as_chunks::<16>();
+        out.push(parts.iter().rev().fold(0, |word, part| word << 16 | bits(part)));
+    }
+    if !last.is_empty() {
+        out.push(last.iter().rev().fold(0, |word, it| word << 1 | u64::from(*it < share)));
+    }
+    out
 }
 
 #[inline]

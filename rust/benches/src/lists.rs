@@ -16,6 +16,13 @@ pub struct Lists {
     /// Below 1,000, and below the share where the value is true.
     pub column: Vec<u32>,
     pub share: u32,
+    /// Rows below 1,000, and bits of which nine in ten are set.
+    pub amounts: Vec<i64>,
+    pub there: Vec<u64>,
+    /// The indices of the true values.
+    pub indices: Vec<u32>,
+    /// Strings of 0 to 15 bytes: where they begin, and where the last one ends, and their bytes.
+    pub texts: (Vec<u32>, Vec<u8>),
 }
 
 /// The lists as words from bit 0 on, with two more behind `ranks`, and the first two as bytes from `OFFSETS` on. Loops by
@@ -60,7 +67,30 @@ impl Lists {
         let count = list.iter().filter(|value| **value).count();
         let ranks: Vec<bool> = (0..count).map(|_| number() < 500).collect();
         let packed = Packed::new(&list, &other, &ranks);
-        Lists { len, list, other, ranks, packed, rows: (0..len as u64).collect(), column, share }
+        let rows = (0..len as u64).collect();
+        let indices = (0_u32..).zip(&list).filter(|(_, value)| **value).map(|(i, _)| i).collect();
+        let amounts = (0..len).map(|_| i64::from(number())).collect();
+        let there = words(&(0..len).map(|_| number() < 900).collect::<Vec<_>>());
+        let mut texts = (vec![0], vec![]);
+        for _ in 0..len {
+            let size = number() % 16;
+            texts.1.extend((0..size).map(|_| number().to_le_bytes()[0]));
+            texts.0.push(texts.0[texts.0.len() - 1] + size);
+        }
+        Lists {
+            len,
+            list,
+            other,
+            ranks,
+            packed,
+            rows,
+            column,
+            share,
+            amounts,
+            there,
+            indices,
+            texts,
+        }
     }
 }
 

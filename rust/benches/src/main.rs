@@ -18,6 +18,7 @@ mod table;
 mod timed;
 
 use std::env;
+use std::process::exit;
 
 /// A call of a peer: it answers a digest of its result.
 pub type Call<'a> = Box<dyn FnMut() -> u64 + 'a>;
@@ -27,12 +28,21 @@ fn main() {
     let load = timed::load();
     match paths.iter().map(String::as_str).collect::<Vec<_>>()[..] {
         [] => println!("{}\n{}", table::table(|_| true), timed::taken_on(&load)),
-        ["--only", name] => print!("{}", table::table(|it| it == name)),
+        ["--only", name] if table::CALLS.contains(&name) => {
+            print!("{}", table::table(|it| it == name));
+        }
+        ["--only", name] => {
+            eprintln!("there is no call `{name}`: the calls are {}", table::CALLS.join("; "));
+            exit(2);
+        }
         [page, image] => {
             let table = table::table(|_| true);
             table::write(page, &table, &timed::taken_on(&load));
             picture::write(image);
         }
-        _ => eprintln!("a page and a picture to write, one call, or nothing"),
+        _ => {
+            eprintln!("a page and a picture to write, one call, or nothing");
+            exit(2);
+        }
     }
 }

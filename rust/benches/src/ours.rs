@@ -2,7 +2,7 @@
 
 use crate::Call;
 use crate::lists::{Lists, OFFSETS, Packed};
-use row_mask::{Bitmap, BitmapBuf};
+use row_mask::{Bitmap, BitmapBuf, Error, Selection, Strings};
 
 /// The bitmaps of the lists, from bit 0 on, and the first two from other bits on.
 pub struct Ours<'a>(pub &'a Lists);
@@ -30,12 +30,34 @@ impl Ours<'_> {
                 Box::new(move || last(a.choose_bits(b).unwrap()))
             }
             "choose bits, no pext" => Box::new(move || last(without_pext(a, b))),
+            "choose, by a selection" => {
+                let chosen = Selection::new(a);
+                Box::new(move || chosen.choose(rows).unwrap().last().copied().unwrap_or(0))
+            }
+            "choose bits, by a selection" => {
+                let chosen = Selection::new(a);
+                Box::new(move || last(chosen.choose_bits(b).unwrap()))
+            }
+            "choose strings, by a selection" => {
+                let chosen = Selection::new(a);
+                let texts = Strings::new(&lists.texts.0, &lists.texts.1).unwrap();
+                Box::new(move || digest(&texts.choose(&chosen).unwrap()))
+            }
             "for over indices" => Box::new(move || sum_of_rows(a, rows)),
             "sum of indices" => Box::new(move || a.indices().sum::<usize>() as u64),
             "for over values" => {
                 let mut places = Vec::with_capacity(lists.len);
                 Box::new(move || found(a, rows, &mut places))
             }
+            "from_rows of a predicate" => {
+                Box::new(move || last(BitmapBuf::from_rows(&lists.column, |it| *it < lists.share)))
+            }
+            "retain by a predicate" => Box::new(move || {
+                let mut left = a.to_buf();
+                left.retain(|i| rows[i] % 4 != 0);
+                last(left)
+            }),
+            "scan" => Box::new(move || scan(lists).unwrap()),
             "collect a predicate" => Box::new(move || {
                 last(lists.column.iter().map(|it| *it < lists.share).collect::<BitmapBuf>())
             }),
@@ -45,6 +67,31 @@ impl Ours<'_> {
             _ => return None,
         })
     }
+}
+
+/// A predicate over a column, the validity of a nullable one, and a predicate over the rows that are left of it. Of the
+/// rows that are left then, two columns and the validity of a third.
+fn scan(lists: &Lists) -> Result<u64, Error> {
+    let of = |words| Bitmap::from_words(words, lists.len);
+    let mut left = BitmapBuf::from_rows(&lists.column, |it| *it < lists.share);
+    left.and_with(of(&lists.there)?)?;
+    left.retain(|i| lists.amounts[i] < 500);
+    let chosen = Selection::new(left.as_bitmap());
+    let rows = chosen.choose(&lists.rows)?;
+    let column = chosen.choose(&lists.column)?;
+    let valid = chosen.choose_bits(of(&lists.packed.other)?)?;
+    Ok(digest_of_scan(&rows, &column, valid.len()))
+}
+
+/// Of a scan: how many rows there are, and the last of them.
+pub fn digest_of_scan(rows: &[u64], column: &[u32], count: usize) -> u64 {
+    let last = rows.last().copied().unwrap_or(0) ^ u64::from(column.last().copied().unwrap_or(0));
+    (count as u64) << 32 ^ last
+}
+
+/// Of chosen strings: how many there are, and how many bytes.
+pub fn digest((offsets, bytes): &(Vec<u32>, Vec<u8>)) -> u64 {
+    (offsets.len() as u64) << 32 | bytes.len() as u64
 }
 
 fn sum_of_rows(a: Bitmap<'_>, rows: &[u64]) -> u64 {

@@ -16,7 +16,7 @@ const ROUNDS: usize = 4;
 const EACH: Duration = Duration::from_millis(50);
 const LENGTHS: [usize; 2] = [1 << 16, 1 << 20];
 const SHARES: [(u64, &str); 3] = [(10, "1 of 100"), (500, "1 of 2"), (990, "99 of 100")];
-const CALLS: [&str; 16] = [
+pub const CALLS: [&str; 22] = [
     "count",
     "and",
     "and, at odd bits",
@@ -28,11 +28,17 @@ const CALLS: [&str; 16] = [
     "choose bits, by pext",
     "choose bits, no pext",
     "choose bits, of Vec<bool>",
+    "choose, by a selection",
+    "choose bits, by a selection",
+    "choose strings, by a selection",
     "for over indices",
     "sum of indices",
     "for over values",
+    "from_rows of a predicate",
     "collect a predicate",
     "from_fn of a predicate",
+    "retain by a predicate",
+    "scan",
 ];
 // Peers whose answer to these is no digest of the result.
 const PEERS: [&str; 2] = ["fixedbitset", "CRoaring"];

@@ -54,7 +54,7 @@ impl Bitmap<'_> {
     }
 
     // (of as many bits as values, to just the bytes that those at true values take)
-    fn choose_bits_to(self, bits: Bitmap<'_>, out: &mut [MaybeUninit<u8>]) {
+    pub(crate) fn choose_bits_to(self, bits: Bitmap<'_>, out: &mut [MaybeUninit<u8>]) {
         #[cfg(target_arch = "x86_64")]
         if deposit::is_quick() {
             // SAFETY: the processor has `pext`, and the rest is so of each call.

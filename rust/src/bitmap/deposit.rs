@@ -64,11 +64,13 @@ unsafe fn written(words: &[MaybeUninit<u64>]) -> &[u64] {
     unsafe { slice::from_raw_parts(words.as_ptr().cast(), words.len()) }
 }
 
-/// Whether the processor has `pdep` and `pext`, in a few cycles. Those of AMD before Zen 3 take up to
-/// hundreds.
+/// Whether the processor has `pdep` and `pext`, in a few cycles, and `popcnt`. Those of AMD before Zen 3 take up
+/// to hundreds.
 pub(super) fn is_quick() -> bool {
     static IS_QUICK: OnceLock<bool> = OnceLock::new();
-    *IS_QUICK.get_or_init(|| is_x86_feature_detected!("bmi2") && !is_before_zen_3())
+    *IS_QUICK.get_or_init(|| {
+        is_x86_feature_detected!("bmi2") && is_x86_feature_detected!("popcnt") && !is_before_zen_3()
+    })
 }
 
 fn is_before_zen_3() -> bool {

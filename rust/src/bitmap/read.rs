@@ -63,9 +63,8 @@ impl<'a> Bitmap<'a> {
     /// where `out` has fewer items than there are indices.
     pub fn counts_below_into(self, indices: &[usize], out: &mut [usize]) -> Result<(), Error> {
         self.are_ends(indices)?;
-        let out = front(out, indices.len())?;
-        // SAFETY: as above.
-        unsafe { self.counts_below_to(indices, out) };
+        // SAFETY: as above; numbers are written.
+        unsafe { self.counts_below_to(indices, front(out, indices.len())?) };
         Ok(())
     }
 

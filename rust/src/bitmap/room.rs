@@ -1,6 +1,6 @@
 //! What a bitmap can be written into.
 
-use crate::buf::pack_fn;
+use crate::buf::pack_values;
 use crate::{BitmapBuf, Error, declared};
 use std::mem::MaybeUninit;
 use std::slice;
@@ -26,6 +26,10 @@ use std::slice;
 /// assert_eq!(bytes, [0b1_0010, 0xFF]);
 /// # Ok::<(), row_mask::Error>(())
 /// ```
+#[diagnostic::on_unimplemented(
+    message = "no bitmap can be written into `{Self}`",
+    note = "a bitmap is written into a `BitmapBuf` or into bytes: pass `&mut bytes[..]` for a `Vec<u8>` or an array"
+)]
 pub trait Room: sealed::Room {}
 
 impl Room for BitmapBuf {}
@@ -63,12 +67,12 @@ impl sealed::Room for BitmapBuf {
         unsafe { self.refill(len, fill) }
     }
 
-    fn collect(&mut self, values: impl ExactSizeIterator<Item = bool>) -> Result<(), Error> {
+    fn collect(&mut self, mut values: impl ExactSizeIterator<Item = bool>) -> Result<(), Error> {
         let len = values.len();
         self.make_room(len)?;
         self.clear();
         // (so that no memory is asked for where there are more than was said)
-        self.extend(values.take(len));
+        self.add_blocks(&mut values, len);
         Ok(())
     }
 }
@@ -79,15 +83,15 @@ impl sealed::Room for [u8] {
         len: usize,
         fill: impl FnOnce(&mut [MaybeUninit<u8>]),
     ) -> Result<(), Error> {
-        fill(front(self, room_for(len))?);
+        // SAFETY: `fill` writes bytes.
+        fill(unsafe { front(self, room_for(len))? });
         Ok(())
     }
 
     fn collect(&mut self, mut values: impl ExactSizeIterator<Item = bool>) -> Result<(), Error> {
         let len = values.len();
-        // (where there are fewer than was said, false ones stand in their place)
         // SAFETY: it writes each byte.
-        unsafe { self.write(len, |out| pack_fn(len, |_| values.next().unwrap_or_default(), out)) }
+        unsafe { self.write(len, |out| pack_values(&mut values, len, out)) }
     }
 }
 
@@ -103,17 +107,42 @@ pub(crate) unsafe fn list_of<T>(
     let mut list = Vec::new();
     let refused = Error::OutOfMemory { bytes: count.saturating_mul(size_of::<T>()) };
     list.try_reserve_exact(count).map_err(|_| refused)?;
-    fill(&mut list.spare_capacity_mut()[..count]);
-    // SAFETY: so many places were reserved, and are written.
-    unsafe { list.set_len(count) };
+    // SAFETY: this is what is asked here too.
+    unsafe { append_to(&mut list, count, fill)? };
     Ok(list)
 }
 
+/// Adds `count` items behind those of a list, which are written by what gets their places, if there is memory.
+///
+/// # Safety
+///
+/// As above.
+pub(crate) unsafe fn append_to<T>(
+    list: &mut Vec<T>,
+    count: usize,
+    fill: impl FnOnce(&mut [MaybeUninit<T>]),
+) -> Result<(), Error> {
+    let len = list.len().saturating_add(count);
+    let refused = Error::OutOfMemory { bytes: len.saturating_mul(size_of::<T>()) };
+    list.try_reserve(count).map_err(|_| refused)?;
+    fill(&mut list.spare_capacity_mut()[..count]);
+    // SAFETY: so many places were reserved, and are written.
+    unsafe { list.set_len(len) };
+    Ok(())
+}
+
 /// The first `needed` places, for what writes each of them.
-pub(crate) fn front<T: Copy>(out: &mut [T], needed: usize) -> Result<&mut [MaybeUninit<T>], Error> {
+///
+/// # Safety
+///
+/// Nothing but values is written into them.
+pub(crate) unsafe fn front<T: Copy>(
+    out: &mut [T],
+    needed: usize,
+) -> Result<&mut [MaybeUninit<T>], Error> {
     let room = out.len();
     let out = out.get_mut(..needed).ok_or(Error::RoomTooSmall { room, needed })?;
-    // SAFETY: it is the same borrowed slice, and what is written into it are values.
+    // SAFETY: it is the same borrowed slice, and the rest is asked here.
     Ok(unsafe { slice::from_raw_parts_mut(out.as_mut_ptr().cast(), out.len()) })
 }
 

@@ -80,10 +80,93 @@ impl BitmapBuf {
         Ok(())
     }
 
+    /// Makes value `i` true, or false.
+    ///
+    /// # Errors
+    ///
+    /// [`Error::IndexOutOfBounds`] where there is no such value.
+    #[inline]
+    pub fn set(&mut self, i: usize, value: bool) -> Result<(), Error> {
+        if i >= self.len {
+            return Err(Error::IndexOutOfBounds { index: i, len: self.len });
+        }
+        let (byte, bit) = (&mut self.bytes[i / 8], 1 << (i % 8));
+        *byte = if value { *byte | bit } else { *byte & !bit };
+        Ok(())
+    }
+
+    /// Leaves those true values true of whose indices `is_kept` says so, in place. It is asked of true values alone, in
+    /// their order: a predicate over the rows that others left.
+    ///
+    /// ```
+    /// # use row_mask::BitmapBuf;
+    /// let prices = [250, 700, 120, 90];
+    /// let mut rows: BitmapBuf = [true, true, false, true].into_iter().collect();
+    /// rows.retain(|row| prices[row] < 400);
+    /// assert_eq!(rows.to_string(), "1001");
+    /// ```
+    pub fn retain(&mut self, mut is_kept: impl FnMut(usize) -> bool) {
+        let mut kept = |base: usize, mut word: u64| {
+            let mut kept = 0;
+            while word != 0 {
+                let bit = word.trailing_zeros();
+                kept |= u64::from(is_kept(base + bit as usize)) << bit;
+                word &= word - 1;
+            }
+            kept
+        };
+        let (whole, last) = self.bytes.as_chunks_mut();
+        let end = 64 * whole.len();
+        for (base, bytes) in (0..).step_by(64).zip(whole) {
+            *bytes = kept(base, u64::from_le_bytes(*bytes)).to_le_bytes();
+        }
+        for (base, byte) in (end..).step_by(8).zip(last) {
+            *byte = kept(base, u64::from(*byte)).to_le_bytes()[0];
+        }
+    }
+
     /// Forgets all values, and keeps the memory.
     pub fn clear(&mut self) {
         self.bytes.clear();
         self.len = 0;
+    }
+
+    /// Forgets the values from the first `len` on, if there are more, and keeps the memory.
+    pub fn truncate(&mut self, len: usize) {
+        if len >= self.len {
+            return;
+        }
+        self.bytes.truncate(room_for(len));
+        let end = 8 * self.bytes.len();
+        // SAFETY: the bytes are room for the length, and have less than 8 bits more.
+        unsafe { fill(&mut self.bytes, len, end, false) };
+        self.len = len;
+    }
+
+    /// Has memory for so many values more, at least.
+    pub fn reserve(&mut self, more: usize) {
+        let bytes = room_for(self.len.saturating_add(more));
+        self.bytes.reserve(bytes - self.bytes.len());
+    }
+
+    /// As [`reserve`](BitmapBuf::reserve), of a number that may be any.
+    ///
+    /// # Errors
+    ///
+    /// [`Error::OutOfMemory`].
+    pub fn try_reserve(&mut self, more: usize) -> Result<(), Error> {
+        self.make_room(self.len.saturating_add(more))
+    }
+
+    /// Adds a value behind the last one.
+    #[inline]
+    pub fn push(&mut self, value: bool) {
+        let bit = self.len % 8;
+        match self.bytes.last_mut() {
+            Some(last) if bit > 0 => *last |= u8::from(value) << bit,
+            _ => self.bytes.push(u8::from(value)),
+        }
+        self.len += 1;
     }
 
     /// Adds the values of a bitmap behind the last value.
@@ -133,7 +216,7 @@ pub(super) unsafe fn fill(bytes: &mut [u8], start: usize, end: usize, value: boo
 /// # Safety
 ///
 /// The bytes are room for both.
-pub(crate) unsafe fn append(bytes: &mut [u8], len: usize, more: Bitmap<'_>) {
+pub(super) unsafe fn append(bytes: &mut [u8], len: usize, more: Bitmap<'_>) {
     debug_assert!(room_for(len + more.len()) <= bytes.len());
     // SAFETY: the bytes are borrowed by nothing else, the bits of `more` are within its bytes, and the
     // rest is asked here.

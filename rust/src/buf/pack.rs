@@ -1,8 +1,9 @@
-//! Truth values that are packed, a block of them at a time.
+//! Truth values that are packed.
 
 use super::BitmapBuf;
-use crate::bitmap::room_for;
-use crate::declared;
+use super::lanes::{Lanes, word_of_rows};
+use crate::bitmap::{Room, room_for};
+use crate::{Error, declared};
 use std::mem::MaybeUninit;
 
 // Bytes that are asked for ahead by a number that nothing has borne out yet, such as an iterator's hint.
@@ -31,14 +32,85 @@ pub(crate) fn pack_fn(
     mut value: impl FnMut(usize) -> bool,
     out: &mut [MaybeUninit<u8>],
 ) {
-    let mut block = [false; BLOCK];
+    let mut lanes = Lanes::<BLOCK>::default();
     for (out, start) in out.chunks_mut(BLOCK / 8).zip((0..len).step_by(BLOCK)) {
-        let values = &mut block[..BLOCK.min(len - start)];
-        for (place, i) in values.iter_mut().zip(start..) {
-            *place = value(i);
-        }
-        pack(values, out);
+        let values = (start..len.min(start + BLOCK)).map(&mut value);
+        let count = lanes.take(values);
+        lanes.pack(count, out);
     }
+}
+
+/// Writes each byte of `len` values, to just the bytes that these take. Where there are fewer, false ones stand in
+/// their place.
+pub(crate) fn pack_values(
+    values: &mut impl Iterator<Item = bool>,
+    len: usize,
+    out: &mut [MaybeUninit<u8>],
+) {
+    let (mut lanes, mut left) = (Lanes::<BLOCK>::default(), len);
+    for out in out.chunks_mut(BLOCK / 8) {
+        let count = lanes.take_most(values, left);
+        lanes.pack(count, out);
+        left = left.saturating_sub(BLOCK);
+    }
+}
+
+impl BitmapBuf {
+    /// For each row whether it is one that is asked for: a predicate over a column. It takes less time than the same
+    /// by [`collect`](Iterator::collect) or [`from_fn`](BitmapBuf::from_fn).
+    ///
+    /// ```
+    /// # use row_mask::BitmapBuf;
+    /// let prices = [250, 700, 120];
+    /// assert_eq!(BitmapBuf::from_rows(&prices, |price| *price < 400).to_string(), "101");
+    /// ```
+    #[must_use]
+    pub fn from_rows<T>(rows: &[T], is_true: impl FnMut(&T) -> bool) -> BitmapBuf {
+        // SAFETY: it writes each byte.
+        unsafe { BitmapBuf::made(rows.len(), |out| pack_rows(rows, is_true, out)) }
+    }
+
+    /// As [`from_rows`](BitmapBuf::from_rows), written into `out`.
+    ///
+    /// # Errors
+    ///
+    /// The refusals of [`Room`].
+    pub fn from_rows_into<T>(
+        rows: &[T],
+        is_true: impl FnMut(&T) -> bool,
+        out: &mut (impl Room + ?Sized),
+    ) -> Result<(), Error> {
+        // SAFETY: it writes each byte.
+        unsafe { out.write(rows.len(), |out| pack_rows(rows, is_true, out)) }
+    }
+
+    /// Adds at most `most` values behind the last one, where the last byte has eight.
+    pub(crate) fn add_blocks(&mut self, values: &mut impl Iterator<Item = bool>, most: usize) {
+        let (mut lanes, mut left) = (Lanes::<BLOCK>::default(), most);
+        loop {
+            if self.bytes.capacity() - self.bytes.len() < BLOCK / 8 {
+                // (a hint that was right for so long: if it is refused, room is made for what comes)
+                let _ = self.bytes.try_reserve(room_for(values.size_hint().0.min(left)));
+            }
+            let count = lanes.take_most(values, left);
+            // SAFETY: it writes each byte, and the last byte has eight values.
+            unsafe { self.add(count, |out| lanes.pack(count, out)) };
+            left -= count;
+            if count < BLOCK {
+                return;
+            }
+        }
+    }
+}
+
+/// Writes each byte of what is asked of rows, to just the bytes that they take.
+fn pack_rows<T>(rows: &[T], mut is_true: impl FnMut(&T) -> bool, out: &mut [MaybeUninit<u8>]) {
+    let (whole, rest) = rows.as_chunks();
+    let (words, last) = out.split_at_mut(8 * whole.len());
+    for (out, rows) in words.as_chunks_mut().0.iter_mut().zip(whole) {
+        *out = word_of_rows(rows, &mut is_true).to_le_bytes().map(MaybeUninit::new);
+    }
+    pack_fn(rest.len(), |i| is_true(&rest[i]), last);
 }
 
 impl FromIterator<bool> for BitmapBuf {
@@ -62,26 +134,9 @@ impl Extend<bool> for BitmapBuf {
         let mut values = values.into_iter();
         while !self.len.is_multiple_of(8) {
             let Some(value) = values.next() else { return };
-            self.bytes[self.len / 8] |= u8::from(value) << (self.len % 8);
-            self.len += 1;
+            self.push(value);
         }
         self.bytes.reserve(room_for(values.size_hint().0).min(AHEAD));
-        let mut block = [false; BLOCK];
-        loop {
-            if self.bytes.capacity() - self.bytes.len() < BLOCK / 8 {
-                // (a hint that was right for so long: if it is refused, room is made for what comes)
-                let _ = self.bytes.try_reserve(room_for(values.size_hint().0));
-            }
-            let mut count = 0;
-            for (place, value) in block.iter_mut().zip(values.by_ref()) {
-                *place = value;
-                count += 1;
-            }
-            // SAFETY: it writes each byte, and the last byte has eight values.
-            unsafe { self.add(count, |out| pack(&block[..count], out)) };
-            if count < BLOCK {
-                return;
-            }
-        }
+        self.add_blocks(&mut values, usize::MAX);
     }
 }

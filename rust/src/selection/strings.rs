@@ -1,107 +1,19 @@
-//! Values of any length, as strings: their bytes one after another, and where each begins.
+//! Strings at the chosen rows.
 
-use super::{Kept, Selection};
-use crate::Error;
+use super::kept::Kept;
+use super::{Selection, first};
 use crate::bitmap::{front, list_of};
-use crate::declared::{
-    row_mask_take_bytes_4, row_mask_take_bytes_8, row_mask_take_offsets_4, row_mask_take_offsets_8,
-};
-use std::iter;
+use crate::strings::{are_sorted, place};
+use crate::{Error, Offset, Strings};
 use std::mem::MaybeUninit;
-
-/// Where a value begins in the bytes of a column: 4 or 8 bytes, as Arrow has them.
-pub trait Offset:
-    Copy + Default + PartialOrd + TryFrom<usize> + TryInto<usize> + sealed::Offset
-{
-}
-
-mod sealed {
-    use std::mem::MaybeUninit;
-
-    pub trait Offset: Sized {
-        /// # Safety
-        ///
-        /// Each index is below the number of offsets by two or more, no index comes twice, no offset is
-        /// negative or below the one before it, and `out` has one item more than there are indices. These
-        /// are written.
-        unsafe fn take_offsets(
-            indices: &[usize],
-            offsets: &[Self],
-            out: &mut [MaybeUninit<Self>],
-        ) -> usize;
-
-        /// # Safety
-        ///
-        /// As above, the last offset is within the bytes, and `out` has as many as the strings have. These
-        /// are written.
-        unsafe fn take_bytes(
-            indices: &[usize],
-            offsets: &[Self],
-            bytes: &[u8],
-            out: &mut [MaybeUninit<u8>],
-        );
-    }
-}
-
-macro_rules! offsets {
-    ($($take_offsets:ident, $take_bytes:ident as $item:ty: $($offset:ty),+;)+) => {$($(
-        impl Offset for $offset {}
-
-        impl sealed::Offset for $offset {
-            unsafe fn take_offsets(
-                indices: &[usize],
-                offsets: &[Self],
-                out: &mut [MaybeUninit<Self>],
-            ) -> usize {
-                // SAFETY: the pointers and sizes are those of slices, which are borrowed for the call,
-                // an offset that isn't negative has the same bytes as one of its size without a sign,
-                // and the rest is what this function asks.
-                unsafe {
-                    $take_offsets(
-                        indices.as_ptr(),
-                        indices.len(),
-                        offsets.as_ptr().cast::<$item>(),
-                        offsets.len(),
-                        out.as_mut_ptr().cast::<$item>(),
-                        out.len(),
-                    )
-                }
-            }
-
-            unsafe fn take_bytes(
-                indices: &[usize],
-                offsets: &[Self],
-                bytes: &[u8],
-                out: &mut [MaybeUninit<u8>],
-            ) {
-                // SAFETY: as above.
-                unsafe {
-                    $take_bytes(
-                        indices.as_ptr(),
-                        indices.len(),
-                        offsets.as_ptr().cast::<$item>(),
-                        offsets.len(),
-                        bytes.as_ptr(),
-                        bytes.len(),
-                        out.as_mut_ptr().cast(),
-                        out.len(),
-                    );
-                }
-            }
-        }
-    )+)+};
-}
-
-offsets! {
-    row_mask_take_offsets_4, row_mask_take_bytes_4 as u32: u32, i32;
-    row_mask_take_offsets_8, row_mask_take_bytes_8 as u64: u64, i64;
-}
 
 impl Selection {
     /// Writes where the chosen values begin and end to the front of `out`, from 0 on, and answers how
     /// many bytes they have. Value `i` of the column has the bytes from `offsets[i]` to
     /// `offsets[i + 1]`. No bytes are given here to hold the offsets to, so a corrupt one makes the answer
     /// as large as it is: ask for no memory by it before that.
+    ///
+    /// It reads all offsets, to test them. [`Strings`] are tested once for any number of calls.
     ///
     /// # Errors
     ///
@@ -111,34 +23,13 @@ impl Selection {
     /// [`count`](Selection::count).
     pub fn choose_offsets<O: Offset>(&self, offsets: &[O], out: &mut [O]) -> Result<usize, Error> {
         self.of_offsets(offsets)?;
-        let out = front(out, self.count() + 1)?;
-        // SAFETY: the offsets were tested, and there is a place for each.
-        Ok(unsafe { self.offsets_to(offsets, out) })
+        are_sorted(offsets)?;
+        // SAFETY: the offsets were tested, there is a place for each, and offsets are written.
+        Ok(unsafe { self.offsets_to(offsets, front(out, self.count() + 1)?) })
     }
 
-    // Answers how many bytes the chosen values have.
-    // SAFETY of a call: the offsets are those of a column, and `out` has one place more than rows are chosen.
-    // These are written.
-    unsafe fn offsets_to<O: Offset>(&self, offsets: &[O], out: &mut [MaybeUninit<O>]) -> usize {
-        let runs = match &self.kept {
-            // SAFETY: the indices are those of true values, with an offset before and behind each, and the
-            // rest is asked here.
-            Kept::Indices(indices) => return unsafe { O::take_offsets(indices, offsets, out) },
-            Kept::Runs(runs) => runs,
-        };
-        let mut end = 0;
-        let ends = runs.iter().flat_map(Clone::clone).map(|i| {
-            end += at(offsets, i + 1) - at(offsets, i);
-            // (no more than the last offset is)
-            O::try_from(end).unwrap_or_default()
-        });
-        for (place, end) in out.iter_mut().zip(iter::once(O::default()).chain(ends)) {
-            place.write(end);
-        }
-        end
-    }
-
-    /// Writes the bytes of the chosen values to the front of `out`, and answers how many these are.
+    /// Writes the bytes of the chosen values to the front of `out`, and answers how many these are. It reads all
+    /// offsets, as [`choose_offsets`](Selection::choose_offsets) does.
     ///
     /// # Errors
     ///
@@ -152,42 +43,11 @@ impl Selection {
         out: &mut [u8],
     ) -> Result<usize, Error> {
         self.of_offsets(offsets)?;
-        self.of_bytes(offsets, bytes)?;
-        let size = self.size_of(offsets);
-        let out = front(out, size)?;
-        // SAFETY: the offsets were tested, and there is a place for each byte.
-        unsafe { self.bytes_to(offsets, bytes, out) };
-        Ok(size)
+        Strings::new(offsets, bytes)?.choose_bytes(self, out)
     }
 
-    // SAFETY of a call: the offsets are those of a column, whose last is within the bytes, and `out` has
-    // as many places as the chosen values have bytes. These are written.
-    unsafe fn bytes_to<O: Offset>(
-        &self,
-        offsets: &[O],
-        bytes: &[u8],
-        mut out: &mut [MaybeUninit<u8>],
-    ) {
-        match &self.kept {
-            // SAFETY: the indices are those of true values, with an offset before and behind each, and the
-            // rest is asked here.
-            Kept::Indices(indices) => unsafe { O::take_bytes(indices, offsets, bytes, out) },
-            Kept::Runs(runs) => {
-                for run in runs {
-                    let part = &bytes[at(offsets, run.start)..at(offsets, run.end)];
-                    let (front, rest) = out.split_at_mut(part.len());
-                    // SAFETY: there is a place for each byte, and nothing else borrows these.
-                    unsafe {
-                        let places = front.as_mut_ptr().cast::<u8>();
-                        places.copy_from_nonoverlapping(part.as_ptr(), part.len());
-                    }
-                    out = rest;
-                }
-            }
-        }
-    }
-
-    /// The chosen values, as offsets and bytes of their own.
+    /// The chosen values, as offsets and bytes of their own. It reads all offsets, as
+    /// [`choose_offsets`](Selection::choose_offsets) does.
     ///
     /// ```
     /// # use row_mask::{Bitmap, Selection};
@@ -207,52 +67,117 @@ impl Selection {
         bytes: &[u8],
     ) -> Result<(Vec<O>, Vec<u8>), Error> {
         self.of_offsets(offsets)?;
-        self.of_bytes(offsets, bytes)?;
-        // SAFETY: the offsets were tested, and each place is written.
-        unsafe {
-            let mut size = 0;
-            let chosen = list_of(self.count() + 1, |out| size = self.offsets_to(offsets, out))?;
-            Ok((chosen, list_of(size, |out| self.bytes_to(offsets, bytes, out))?))
-        }
+        Strings::new(offsets, bytes)?.choose(self)
     }
 
-    #[expect(clippy::needless_bitwise_bool, reason = "a way out of the loop would stop each step")]
-    fn of_offsets<O: Offset>(&self, offsets: &[O]) -> Result<(), Error> {
-        if offsets.len().checked_sub(1) != Some(self.len()) {
-            return Err(Error::OffsetsDiffer { offsets: offsets.len(), len: self.len() });
-        }
-        let is_fit = |i: usize| match i {
-            0 => offsets[0] >= O::default(),
-            _ => offsets[i - 1] <= offsets[i],
-        };
-        let are_fit = offsets.windows(2).fold(is_fit(0), |fit, pair| fit & (pair[0] <= pair[1]));
-        if are_fit {
+    fn of_offsets<O>(&self, offsets: &[O]) -> Result<(), Error> {
+        if offsets.len().checked_sub(1) == Some(self.len()) {
             return Ok(());
         }
-        let at = (0..offsets.len()).find(|i| !is_fit(*i)).unwrap_or_default();
-        Err(Error::UnsortedOffsets { at })
+        Err(Error::OffsetsDiffer { offsets: offsets.len(), len: self.len() })
     }
 
-    // (of offsets that were tested)
-    fn of_bytes<O: Offset>(&self, offsets: &[O], bytes: &[u8]) -> Result<(), Error> {
-        let (offset, size) = (at(offsets, self.len()), bytes.len());
-        if offset > size {
-            return Err(Error::OffsetOutOfBounds { offset, size });
-        }
-        Ok(())
-    }
-
-    // How many bytes the chosen values have, by offsets that were tested.
-    fn size_of<O: Offset>(&self, offsets: &[O]) -> usize {
-        let of = |start, end| at(offsets, end) - at(offsets, start);
-        match &self.kept {
-            Kept::Indices(indices) => indices.iter().map(|i| of(*i, *i + 1)).sum(),
-            Kept::Runs(runs) => runs.iter().map(|run| of(run.start, run.end)).sum(),
-        }
+    // Answers how many bytes the chosen values have.
+    // SAFETY of a call: the offsets are those of a column, and `out` has one place more than rows are chosen.
+    // These are written.
+    unsafe fn offsets_to<O: Offset>(&self, offsets: &[O], out: &mut [MaybeUninit<O>]) -> usize {
+        let (mut end, mut places) = (0, out.iter_mut());
+        let mut put = |end| {
+            if let Some(place) = places.next() {
+                // (no more than the last offset is)
+                place.write(O::try_from(end).unwrap_or_default());
+            }
+        };
+        put(end);
+        self.kept.each(|i| {
+            end += place(offsets[i + 1]) - place(offsets[i]);
+            put(end);
+        });
+        end
     }
 }
 
-// (of offsets that were tested)
-fn at<O: Offset>(offsets: &[O], i: usize) -> usize {
-    offsets[i].try_into().unwrap_or_default()
+impl<O: Offset> Strings<'_, O> {
+    /// The chosen values, as offsets and bytes of their own. Just the offsets of these are read.
+    ///
+    /// # Errors
+    ///
+    /// [`Error::RowsDiffer`] where there are not as many values as rows that the selection is of, and
+    /// [`Error::OutOfMemory`].
+    pub fn choose(self, selection: &Selection) -> Result<(Vec<O>, Vec<u8>), Error> {
+        selection.of_len(self.len())?;
+        // SAFETY: the offsets are those of a column, and each place is written.
+        unsafe {
+            let (mut size, count) = (0, selection.count());
+            let offsets =
+                list_of(count + 1, |out| size = selection.offsets_to(self.offsets(), out))?;
+            Ok((offsets, list_of(size, |out| self.bytes_to(selection, out))?))
+        }
+    }
+
+    /// Writes where the chosen values begin and end to the front of `out`, from 0 on, and answers how
+    /// many bytes they have.
+    ///
+    /// # Errors
+    ///
+    /// [`Error::RowsDiffer`] as of [`choose`](Strings::choose), and [`Error::RoomTooSmall`] where `out` has not
+    /// one item more than rows are chosen.
+    pub fn choose_offsets(self, selection: &Selection, out: &mut [O]) -> Result<usize, Error> {
+        selection.of_len(self.len())?;
+        // SAFETY: the offsets are those of a column, there is a place for each, and offsets are written.
+        Ok(unsafe { selection.offsets_to(self.offsets(), front(out, selection.count() + 1)?) })
+    }
+
+    /// Writes the bytes of the chosen values to the front of `out`, and answers how many these are.
+    ///
+    /// # Errors
+    ///
+    /// [`Error::RowsDiffer`] as of [`choose`](Strings::choose), and [`Error::RoomTooSmall`] where `out` has not
+    /// so many bytes.
+    pub fn choose_bytes(self, selection: &Selection, out: &mut [u8]) -> Result<usize, Error> {
+        selection.of_len(self.len())?;
+        let size = self.size_of(selection);
+        // SAFETY: there is a place for each byte, and bytes are written.
+        unsafe { self.bytes_to(selection, front(out, size)?) };
+        Ok(size)
+    }
+
+    // How many bytes the values between two have.
+    fn size_between(self, start: usize, end: usize) -> usize {
+        place(self.offsets()[end]) - place(self.offsets()[start])
+    }
+
+    // How many bytes the chosen values have, of as many as the selection is of.
+    fn size_of(self, selection: &Selection) -> usize {
+        match &selection.kept {
+            Kept::Indices(_) => {
+                let mut size = 0;
+                selection.kept.each(|i| size += self.size_between(i, i + 1));
+                size
+            }
+            Kept::Runs(runs) => runs.iter().map(|run| self.size_between(run.start, run.end)).sum(),
+        }
+    }
+
+    // SAFETY of a call: there are as many values as the selection is of, and `out` has as many places as the chosen
+    // ones have bytes. These are written.
+    unsafe fn bytes_to(self, selection: &Selection, out: &mut [MaybeUninit<u8>]) {
+        let (offsets, mut left) = (self.offsets(), out);
+        match &selection.kept {
+            Kept::Indices(indices) => indices.by_blocks(|block| {
+                // SAFETY: the indices are those of true values, with an offset before and behind each, these are
+                // offsets of a column whose last is within the bytes, and there is a place for each byte.
+                let written = unsafe { O::take_bytes(block, offsets, self.bytes(), left) };
+                first(&mut left, written);
+            }),
+            Kept::Runs(runs) => {
+                for run in runs {
+                    let part = &self.bytes()[place(offsets[run.start])..place(offsets[run.end])];
+                    for (place, byte) in first(&mut left, part.len()).iter_mut().zip(part) {
+                        place.write(*byte);
+                    }
+                }
+            }
+        }
+    }
 }

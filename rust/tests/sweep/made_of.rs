@@ -2,10 +2,13 @@
 
 use crate::lists::{Comparisons, Generator, indices_of, packed, runs_of};
 use row_mask::{Bitmap, BitmapBuf, Error};
+use std::hash::{DefaultHasher, Hash, Hasher};
 
 pub fn made_of(seen: &mut Comparisons, random: &mut Generator, list: &[bool], bitmap: Bitmap<'_>) {
     let len = list.len();
     seen.same_list(&BitmapBuf::from_fn(len, |i| list[i]), list);
+    of_rows(seen, random, list);
+    one_by_one(seen, random, list);
     seen.same_list(&BitmapBuf::from(list), list);
     seen.same_list(&BitmapBuf::from(bitmap), list);
     seen.same_list(&list.iter().copied().filter(|_| true).collect(), list);
@@ -26,6 +29,71 @@ pub fn made_of(seen: &mut Comparisons, random: &mut Generator, list: &[bool], bi
     extended(seen, random, list);
     filled(seen, random, list);
     into_bytes(seen, list, bitmap);
+}
+
+/// A predicate over rows of each size, and one over the rows that are true.
+fn of_rows(seen: &mut Comparisons, random: &mut Generator, list: &[bool]) {
+    fn of<T: Copy>(
+        seen: &mut Comparisons,
+        list: &[bool],
+        [no, yes]: [T; 2],
+        is_true: impl Fn(&T) -> bool,
+    ) {
+        let rows: Vec<T> = list.iter().map(|value| if *value { yes } else { no }).collect();
+        seen.same_list(&BitmapBuf::from_rows(&rows, &is_true), list);
+        seen.same_list(&rows.iter().map(&is_true).collect(), list);
+        let (size, mut out) = (packed(list).len(), vec![0xA5; packed(list).len() + 1]);
+        seen.same(BitmapBuf::from_rows_into(&rows, &is_true, &mut out[..]), Ok(()));
+        seen.same((&out[..size], out[size]), (&packed(list)[..], 0xA5));
+    }
+    of(seen, list, [5_u8, 3], |it| *it < 4);
+    of(seen, list, [5_i16, -3], |it| *it < 4);
+    of(seen, list, [[1_u8; 3], [2; 3]], |it| it[1] == 2);
+    of(seen, list, [5.0_f32, f32::NAN], |it| it.is_nan());
+    of(seen, list, [i64::MAX, i64::MIN], |it| *it < 0);
+    of(seen, list, [(1_u64, 2_u64), (2, 1)], |it| it.0 > it.1);
+    let keep = random.list(list.len(), 128);
+    let (mut rows, mut asked) = (BitmapBuf::from(list), vec![]);
+    rows.retain(|row| {
+        asked.push(row);
+        keep[row]
+    });
+    let want: Vec<bool> = list.iter().zip(&keep).map(|(a, b)| *a && *b).collect();
+    seen.same_list(&rows, &want);
+    seen.same(asked, indices_of(list));
+}
+
+/// Values that are added, set and taken off one by one.
+fn one_by_one(seen: &mut Comparisons, random: &mut Generator, list: &[bool]) {
+    let hash_of = |bits: &BitmapBuf| {
+        let mut hasher = DefaultHasher::new();
+        bits.hash(&mut hasher);
+        hasher.finish()
+    };
+    let mut made = BitmapBuf::default();
+    made.reserve(list.len() / 2);
+    for value in list {
+        made.push(*value);
+    }
+    seen.same_list(&made, list);
+    seen.same(hash_of(&made), hash_of(&BitmapBuf::from(list)));
+    let mut want = list.to_vec();
+    for _ in 0..list.len().min(3) {
+        let (i, value) = (random.below(list.len()), random.value(128));
+        want[i] = value;
+        seen.same(made.set(i, value), Ok(()));
+        seen.same_list(&made, &want);
+    }
+    let len = random.below(list.len() + 2);
+    made.truncate(len);
+    want.truncate(len);
+    seen.same_list(&made, &want);
+    let outside = Error::IndexOutOfBounds { index: want.len(), len: want.len() };
+    seen.same(made.set(want.len(), true), Err(outside));
+    seen.same(made.try_reserve(9), Ok(()));
+    made.push(true);
+    want.push(true);
+    seen.same_list(&made, &want);
 }
 
 /// Indices backwards and some of them twice, and ranges backwards of which some meet.

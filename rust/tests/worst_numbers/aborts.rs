@@ -17,6 +17,7 @@ fn call_that_aborts(name: &str) {
         "all_false" => BitmapBuf::all_false(usize::MAX).len(),
         "all_true" => BitmapBuf::all_true(usize::MAX).len(),
         "from_fn" => BitmapBuf::from_fn(usize::MAX, |_| true).len(),
+        "from_rows" => BitmapBuf::from_rows(&[(); usize::MAX], |()| true).len(),
         "from" => BitmapBuf::from(rows).len(),
         "to_buf" => rows.to_buf().len(),
         "concat" => BitmapBuf::concat([rows, rows]).len(),
@@ -35,6 +36,16 @@ fn call_that_aborts(name: &str) {
             longer.extend([true; 9]);
             longer.len()
         }
+        "push" => {
+            let mut longer = many;
+            longer.push(true);
+            longer.len()
+        }
+        "reserve" => {
+            let mut longer = BitmapBuf::all_true(9);
+            longer.reserve(usize::MAX);
+            longer.len()
+        }
         "to_indices" => BitmapBuf::all_true(MANY).as_bitmap().to_indices().len(),
         "selection" => {
             let each_other = BitmapBuf::from_vec(vec![0b0101_0101; MANY / 8], 0, MANY).unwrap();
@@ -50,7 +61,16 @@ fn what_aborts_is_what_the_page_says() {
     if let Ok(name) = env::var("CALL_THAT_ABORTS") {
         return call_that_aborts(&name);
     }
-    let makers = ["with_capacity", "all_false", "all_true", "from_fn", "from", "to_buf", "concat"];
+    let makers = [
+        "with_capacity",
+        "all_false",
+        "all_true",
+        "from_fn",
+        "from_rows",
+        "from",
+        "to_buf",
+        "concat",
+    ];
     let others = [
         "to_words",
         "not",
@@ -59,6 +79,8 @@ fn what_aborts_is_what_the_page_says() {
         "collect",
         "append",
         "extend",
+        "push",
+        "reserve",
         "to_indices",
         "selection",
     ];

@@ -7,7 +7,7 @@ mod aborts;
 mod memory;
 
 use memory::{AHEAD, LITTLE, lacks, limit, refused, within};
-use row_mask::{Bitmap, BitmapBuf, Error, Offset, Selection};
+use row_mask::{Bitmap, BitmapBuf, Error, Offset, Selection, Strings};
 use std::fmt::Debug;
 use std::ops::{Bound, Range};
 use std::path::Path;
@@ -45,6 +45,7 @@ fn strings<O: Offset + Debug>(first: O, last: O) {
     let offset = last.try_into().ok().unwrap();
     assert_eq!(past, Error::OffsetOutOfBounds { offset, size: 2 });
     assert_eq!(refused(|| one.choose_bytes(&offsets, b"ab", &mut [0; 2])), past);
+    assert_eq!(refused(|| Strings::new(&offsets, b"ab")), past);
     // (so many bytes, by the offsets alone)
     let mut out = [O::default(); 2];
     assert_eq!(within(LITTLE, || one.choose_offsets(&offsets, &mut out)), Ok(offset));
@@ -75,6 +76,53 @@ fn offsets_past_the_bytes() {
     let unsorted = Error::UnsortedOffsets { at: 0 };
     assert_eq!(refused(|| runs.choose_strings(&offsets, b"ab")), unsorted);
     assert_eq!(refused(|| runs.choose_offsets(&offsets, &mut [])), unsorted);
+}
+
+#[test]
+fn strings_past_the_end() {
+    let _alone = limit();
+    let offsets = [1_i32, 2, 4];
+    let column = Strings::new(&offsets, b"abcd").unwrap();
+    assert_eq!((column.len(), column.is_empty()), (2, false));
+    assert_eq!((column.offsets(), column.bytes()), (&offsets[..], &b"abcd"[..]));
+    let three = Selection::new(Bitmap::new(&[7], 0, 3).unwrap());
+    let differ = Error::RowsDiffer { rows: 2, len: 3 };
+    assert_eq!(refused(|| column.choose(&three)), differ);
+    for n in [3, 1 << 32, usize::MAX - 1, usize::MAX] {
+        assert_eq!(column.get(n), None);
+        let past = Error::BadRange { start: n, end: n, len: 2 };
+        assert_eq!(refused(|| column.slice(n..n)), past);
+    }
+    assert!(column.slice(..=usize::MAX).is_err());
+}
+
+#[test]
+fn changes_by_the_largest_numbers() {
+    let _alone = limit();
+    let mut rows = BitmapBuf::from_fn(100, |i| i % 3 == 0);
+    let before = rows.clone();
+    for n in [100, 1 << 32, usize::MAX - 7, usize::MAX] {
+        assert_eq!(rows.set(n, true), Err(Error::IndexOutOfBounds { index: n, len: 100 }));
+        rows.truncate(n);
+        assert_eq!(rows, before);
+    }
+    for len in LENGTHS {
+        lacks(len.saturating_add(100), || rows.try_reserve(len));
+        lacks(len, || BitmapBuf::from_rows_into(&vec![(); len], |()| true, &mut rows));
+        let mut room = [0xA5; 2];
+        let refusal = small(2, len.div_ceil(8));
+        let none = vec![(); len];
+        assert_eq!(refused(|| BitmapBuf::from_rows_into(&none, |()| true, &mut room[..])), refusal);
+        assert_eq!((&rows, room), (&before, [0xA5; 2]));
+    }
+    rows.reserve(0);
+    rows.retain(|row| row < 4);
+    rows.truncate(4);
+    rows.push(true);
+    assert_eq!((rows.to_string().as_str(), rows.as_bytes()), ("10011", &[0b1_1001][..]));
+    rows.truncate(0);
+    assert!(rows.is_empty());
+    assert!(BitmapBuf::from_rows(&[(); 0], |()| true).is_empty());
 }
 
 #[test]
@@ -327,4 +375,9 @@ fn lists_that_find_no_memory() {
     assert_eq!(all.as_bitmap().choose(&column).unwrap_err(), lacking);
     assert_eq!(Selection::new(all.as_bitmap()).choose(&column).unwrap_err(), lacking);
     assert_eq!(all.as_bitmap().counts_below(&column).unwrap_err(), lacking);
+    let (mut list, lacking) = (vec![7, 9], Error::OutOfMemory { bytes: bytes + 16 });
+    let selection = Selection::new(all.as_bitmap());
+    assert_eq!(all.as_bitmap().choose_append(&column, &mut list).unwrap_err(), lacking);
+    assert_eq!(selection.choose_append(&column, &mut list).unwrap_err(), lacking);
+    assert_eq!(list, [7, 9]);
 }

@@ -1,0 +1,172 @@
+//! Truth values as lanes, each all ones or all zeros, which the processor makes of comparisons, and packs.
+
+use std::array;
+use std::mem::MaybeUninit;
+
+/// Values before they are packed. With lanes of 16 bits a compiler makes vectors of comparisons of rows of any size;
+/// with those of 8 it does worse by rows of 8 bytes, and with wider ones by rows of 1.
+pub(super) struct Lanes<const N: usize>([i16; N]);
+
+impl<const N: usize> Default for Lanes<N> {
+    fn default() -> Lanes<N> {
+        Lanes([0; N])
+    }
+}
+
+impl<const N: usize> Lanes<N> {
+    /// Takes values, as many as there are or as lanes, and answers how many these are.
+    #[inline]
+    pub(super) fn take(&mut self, values: impl Iterator<Item = bool>) -> usize {
+        let mut count = 0;
+        for (lane, value) in self.0.iter_mut().zip(values) {
+            *lane = -i16::from(value);
+            count += 1;
+        }
+        count
+    }
+
+    /// The same of at most `most` values.
+    #[inline]
+    pub(super) fn take_most(
+        &mut self,
+        values: &mut impl Iterator<Item = bool>,
+        most: usize,
+    ) -> usize {
+        if most >= N {
+            return self.take(values);
+        }
+        self.take(values.take(most))
+    }
+
+    /// Writes each byte of the first `count` values, to just the bytes that they take.
+    pub(super) fn pack(&mut self, count: usize, out: &mut [MaybeUninit<u8>]) {
+        if let Some(past) = self.0.get_mut(count..count.next_multiple_of(64)) {
+            past.fill(0);
+        }
+        let (words, _) = self.0.as_chunks();
+        let (whole, last) = out.as_chunks_mut();
+        for (out, lanes) in whole.iter_mut().zip(words) {
+            *out = word_of(lanes).to_le_bytes().map(MaybeUninit::new);
+        }
+        if let Some(lanes) = words.get(whole.len()) {
+            for (out, byte) in last.iter_mut().zip(word_of(lanes).to_le_bytes()) {
+                out.write(byte);
+            }
+        }
+    }
+}
+
+fn word_of(lanes: &[i16; 64]) -> u64 {
+    word_by(lanes, bits::of_16)
+}
+
+/// What is asked of each of 64 rows, the first in the lowest bit. The lanes are as wide as rows are.
+// (what is asked has to stand in the loop, to become a comparison of vectors)
+#[inline(always)]
+pub(super) fn word_of_rows<T>(rows: &[T; 64], is_true: &mut impl FnMut(&T) -> bool) -> u64 {
+    macro_rules! by {
+        ($lane:ident, $bits_of:ident) => {
+            word_by(rows, |part| {
+                bits::$bits_of(&array::from_fn(|i| -$lane::from(is_true(&part[i]))))
+            })
+        };
+    }
+    match size_of::<T>() {
+        1 => by!(i8, of_8),
+        2 | 3 => by!(i16, of_16),
+        4..8 => by!(i32, of_32),
+        // (for these the compiler has its own way, on processors with AVX2)
+        _ if cfg!(target_feature = "avx2") => {
+            let mut word = 0;
+            for (bit, row) in rows.iter().enumerate() {
+                word |= u64::from(is_true(row)) << bit;
+            }
+            word
+        }
+        _ => by!(i64, of_64),
+    }
+}
+
+#[expect(clippy::inline_always, reason = "what is asked has to stand in the loop")]
+#[inline(always)]
+fn word_by<T>(all: &[T; 64], mut of: impl FnMut(&[T; 16]) -> u16) -> u64 {
+    let mut word = 0;
+    for (k, part) in all.as_chunks().0.iter().enumerate() {
+        word |= u64::from(of(part)) << (16 * k);
+    }
+    word
+}
+
+#[cfg(target_arch = "x86_64")]
+mod bits {
+    //! The bits of sixteen lanes, by what each processor of x86-64 has.
+
+    use std::arch::x86_64::{__m128i, _mm_movemask_epi8, _mm_packs_epi16, _mm_packs_epi32};
+    use std::mem::transmute;
+
+    macro_rules! bits {
+        ($($of:ident: $lane:ty, $count:literal, $by:ident;)+) => {$(
+            #[inline]
+            pub(super) fn $of(lanes: &[$lane; 16]) -> u16 {
+                // SAFETY: both are as many bytes.
+                $by(unsafe { transmute::<[$lane; 16], [__m128i; $count]>(*lanes) })
+            }
+        )+};
+    }
+
+    bits! {
+        of_8: i8, 1, of_one;
+        of_16: i16, 2, of_two;
+        of_32: i32, 4, of_four;
+        of_64: i64, 8, of_eight;
+    }
+
+    #[inline]
+    fn of_one([a]: [__m128i; 1]) -> u16 {
+        // SAFETY: each processor of x86-64 has SSE2, here and below.
+        #[expect(clippy::cast_possible_truncation, clippy::cast_sign_loss, reason = "16 bits")]
+        unsafe {
+            _mm_movemask_epi8(a) as u16
+        }
+    }
+
+    #[inline]
+    fn of_two([a, b]: [__m128i; 2]) -> u16 {
+        // SAFETY: above.
+        of_one([unsafe { _mm_packs_epi16(a, b) }])
+    }
+
+    #[inline]
+    fn of_four([a, b, c, d]: [__m128i; 4]) -> u16 {
+        // SAFETY: above.
+        of_two(unsafe { [_mm_packs_epi32(a, b), _mm_packs_epi32(c, d)] })
+    }
+
+    // (each lane of 64 bits is two of 32, and then two of 16)
+    #[inline]
+    fn of_eight(lanes: [__m128i; 8]) -> u16 {
+        // SAFETY: above.
+        let pair = |k| unsafe { _mm_packs_epi32(lanes[k], lanes[k + 1]) };
+        of_four([pair(0), pair(2), pair(4), pair(6)])
+    }
+}
+
+#[cfg(not(target_arch = "x86_64"))]
+mod bits {
+    //! The bits of sixteen lanes.
+
+    macro_rules! bits {
+        ($($of:ident: $lane:ty;)+) => {$(
+            pub(super) fn $of(lanes: &[$lane; 16]) -> u16 {
+                lanes.iter().rev().fold(0, |bits, lane| bits << 1 | u16::from(*lane != 0))
+            }
+        )+};
+    }
+
+    bits! {
+        of_8: i8;
+        of_16: i16;
+        of_32: i32;
+        of_64: i64;
+    }
+}
