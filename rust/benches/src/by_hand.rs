@@ -5,8 +5,9 @@ use crate::Call;
 use crate::lists::{Lists, OFFSETS, Packed};
 use crate::ours::{digest, digest_of_scan};
 use std::arch::x86_64::{
-    __m128i, _mm_cmpgt_epi32, _mm_loadu_si128, _mm_movemask_epi8, _mm_packs_epi16, _mm_packs_epi32,
-    _mm_set1_epi32, _pdep_u64, _pext_u64,
+    __m128i, __m256i, _mm_cmpgt_epi32, _mm_loadu_si128, _mm_movemask_epi8, _mm_packs_epi16,
+    _mm_packs_epi32, _mm_set1_epi32, _mm256_castsi256_ps, _mm256_cmpgt_epi32, _mm256_loadu_si256,
+    _mm256_movemask_ps, _mm256_set1_epi32, _pdep_u64, _pext_u64,
 };
 use std::hint::black_box;
 
@@ -75,6 +76,7 @@ impl ByHand<'_> {
             ],
             "from_rows of a predicate" | "collect a predicate" | "from_fn of a predicate" => vec![
                 Box::new(move || last(&packed_by_lanes(column, lists.share), len)),
+                Box::new(move || last(&packed_by_avx2(column, lists.share), len)),
                 Box::new(move || last(&packed(column, |it| it < lists.share), len)),
                 Box::new(move || last(&packed_by_shifts(column, |it| it < lists.share), len)),
                 Box::new(move || last(&packed_by_eights(column, |it| it < lists.share), len)),
@@ -290,9 +292,9 @@ fn retained(words: &[u64], is_kept: impl Fn(usize) -> bool) -> Vec<u64> {
     words.iter().enumerate().map(kept).collect()
 }
 
-/// The scan, by comparisons of lanes, a loop over bits, a list of indices, and `pext`.
+/// The scan, by comparisons of eight rows, a loop over bits, a list of indices, and `pext`.
 fn scan(lists: &Lists, kept: fn(&mut [u64], &[i64]) -> Vec<u32>) -> u64 {
-    let mut left = packed_by_lanes(&lists.column, lists.share);
+    let mut left = packed_by_avx2(&lists.column, lists.share);
     for (word, there) in left.iter_mut().zip(&lists.there) {
         *word &= there;
     }
@@ -411,6 +413,35 @@ fn found_by_words(words: &[u64], rows: &[u64], found: &mut Vec<u64>) -> u64 {
         }
     }
     found.len() as u64
+}
+
+/// Eight rows in a comparison, and its bits, where the processor has AVX2. Rows are below 2^31.
+fn packed_by_avx2(column: &[u32], share: u32) -> Vec<u64> {
+    if !is_x86_feature_detected!("avx2") {
+        return packed_by_lanes(column, share);
+    }
+    #[target_feature(enable = "avx2")]
+    fn compared(column: &[u32], share: u32) -> Vec<u64> {
+        let shares = _mm256_set1_epi32(share.cast_signed());
+        let bits = |part: &[u32; 8]| {
+            // SAFETY: eight rows are read.
+            let rows = unsafe { _mm256_loadu_si256(part.as_ptr().cast::<__m256i>()) };
+            let below = _mm256_castsi256_ps(_mm256_cmpgt_epi32(shares, rows));
+            u64::from(_mm256_movemask_ps(below).cast_unsigned())
+        };
+        let (whole, last) = column.as_chunks::<64>();
+        let mut out = Vec::with_capacity(column.len().div_ceil(64));
+        for part in whole {
+            let (parts, _) = part.as_chunks::<8>();
+            out.push(parts.iter().rev().fold(0, |word, part| word << 8 | bits(part)));
+        }
+        if !last.is_empty() {
+            out.push(last.iter().rev().fold(0, |word, it| word << 1 | u64::from(*it < share)));
+        }
+        out
+    }
+    // SAFETY: the processor has it.
+    unsafe { compared(column, share) }
 }
 
 /// Four rows in a comparison, and sixteen in a mask of bits. Rows are below 2^31.

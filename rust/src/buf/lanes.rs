@@ -60,10 +60,50 @@ fn word_of(lanes: &[i16; 64]) -> u64 {
     word_by(lanes, bits::of_16)
 }
 
-/// What is asked of each of 64 rows, the first in the lowest bit. The lanes are as wide as rows are.
-// (what is asked has to stand in the loop, to become a comparison of vectors)
+/// Writes what is asked of rows, 64 to a word, by AVX2 where the processor has it.
+pub(super) fn pack_words<T>(
+    rows: &[[T; 64]],
+    is_true: &mut impl FnMut(&T) -> bool,
+    out: &mut [[MaybeUninit<u8>; 8]],
+) {
+    #[cfg(target_arch = "x86_64")]
+    if is_x86_feature_detected!("avx2") {
+        // SAFETY: the processor has it.
+        unsafe { pack_words_by_avx2(rows, is_true, out) };
+        return;
+    }
+    pack_each_word::<T, false>(rows, is_true, out);
+}
+
+#[cfg(target_arch = "x86_64")]
+#[target_feature(enable = "avx2")]
+fn pack_words_by_avx2<T>(
+    rows: &[[T; 64]],
+    is_true: &mut impl FnMut(&T) -> bool,
+    out: &mut [[MaybeUninit<u8>; 8]],
+) {
+    pack_each_word::<T, true>(rows, is_true, out);
+}
+
+#[expect(clippy::inline_always, reason = "it is compiled for what the function around it has")]
 #[inline(always)]
-pub(super) fn word_of_rows<T>(rows: &[T; 64], is_true: &mut impl FnMut(&T) -> bool) -> u64 {
+fn pack_each_word<T, const HAS_AVX2: bool>(
+    rows: &[[T; 64]],
+    is_true: &mut impl FnMut(&T) -> bool,
+    out: &mut [[MaybeUninit<u8>; 8]],
+) {
+    for (out, rows) in out.iter_mut().zip(rows) {
+        let word = word_of_rows::<T, HAS_AVX2>(rows, is_true);
+        *out = word.to_le_bytes().map(MaybeUninit::new);
+    }
+}
+
+/// What is asked of each of 64 rows, the first in the lowest bit. The lanes are as wide as rows are.
+#[inline(always)]
+fn word_of_rows<T, const HAS_AVX2: bool>(
+    rows: &[T; 64],
+    is_true: &mut impl FnMut(&T) -> bool,
+) -> u64 {
     macro_rules! by {
         ($lane:ident, $bits_of:ident) => {
             word_by(rows, |part| {
@@ -75,8 +115,8 @@ pub(super) fn word_of_rows<T>(rows: &[T; 64], is_true: &mut impl FnMut(&T) -> bo
         1 => by!(i8, of_8),
         2 | 3 => by!(i16, of_16),
         4..8 => by!(i32, of_32),
-        // (for these the compiler has its own way, on processors with AVX2)
-        _ if cfg!(target_feature = "avx2") => {
+        // (for these the compiler has its own way, by AVX2)
+        8 if HAS_AVX2 => {
             let mut word = 0;
             for (bit, row) in rows.iter().enumerate() {
                 word |= u64::from(is_true(row)) << bit;
@@ -87,7 +127,7 @@ pub(super) fn word_of_rows<T>(rows: &[T; 64], is_true: &mut impl FnMut(&T) -> bo
     }
 }
 
-#[expect(clippy::inline_always, reason = "what is asked has to stand in the loop")]
+#[expect(clippy::inline_always, reason = "as above")]
 #[inline(always)]
 fn word_by<T>(all: &[T; 64], mut of: impl FnMut(&[T; 16]) -> u16) -> u64 {
     let mut word = 0;

@@ -1,7 +1,7 @@
 //! Truth values that are packed.
 
 use super::BitmapBuf;
-use super::lanes::{Lanes, word_of_rows};
+use super::lanes::{Lanes, pack_words};
 use crate::bitmap::{Room, room_for};
 use crate::{Error, declared};
 use std::mem::MaybeUninit;
@@ -107,9 +107,7 @@ impl BitmapBuf {
 fn pack_rows<T>(rows: &[T], mut is_true: impl FnMut(&T) -> bool, out: &mut [MaybeUninit<u8>]) {
     let (whole, rest) = rows.as_chunks();
     let (words, last) = out.split_at_mut(8 * whole.len());
-    for (out, rows) in words.as_chunks_mut().0.iter_mut().zip(whole) {
-        *out = word_of_rows(rows, &mut is_true).to_le_bytes().map(MaybeUninit::new);
-    }
+    pack_words(whole, &mut is_true, words.as_chunks_mut().0);
     pack_fn(rest.len(), |i| is_true(&rest[i]), last);
 }
 
