@@ -210,3 +210,40 @@ mod bits {
         of_64: i64;
     }
 }
+
+#[cfg(test)]
+mod tests {
+    use super::{pack_each_word, pack_words};
+    use std::array;
+    use std::mem::MaybeUninit;
+
+    fn agree<T>(row: impl Fn(usize) -> T, mut is_true: impl FnMut(&T) -> bool) {
+        let rows: Vec<[T; 64]> =
+            (0..30).map(|k| array::from_fn(|i| row((64 * k + i) * 7 % 1009))).collect();
+        let mut word_of = |rows: &[T; 64]| {
+            rows.iter().rev().fold(0, |word, row| word << 1 | u64::from(is_true(row)))
+        };
+        let want: Vec<_> = rows.iter().map(|rows| word_of(rows).to_le_bytes()).collect();
+        let mut outs = [const { [[MaybeUninit::new(0); 8]; 30] }; 2];
+        pack_words(&rows, &mut is_true, &mut outs[0]);
+        pack_each_word::<T, false>(&rows, &mut is_true, &mut outs[1]);
+        for out in outs {
+            // SAFETY: each byte was written.
+            let out = out.map(|word| word.map(|byte| unsafe { byte.assume_init() }));
+            assert_eq!(out[..], want);
+        }
+    }
+
+    /// A processor with AVX2 and one without give the same, of rows of each size.
+    #[test]
+    fn both_ways_agree() {
+        agree(|_| (), |()| true);
+        agree(|i| i % 256 < 100, |it| *it);
+        agree(|i| u16::try_from(i).unwrap(), |it| *it > 500);
+        agree(|i| [i % 3 == 0; 3], |it| it[2]);
+        agree(|i| i32::try_from(i).unwrap(), |it| *it % 3 == 1);
+        agree(|i| [i < 9; 5], |it| it[4]);
+        agree(|i| i, |it| *it > 500);
+        agree(|i| (i, i % 2), |it| it.0 > 300 && it.1 == 1);
+    }
+}
