@@ -1,4 +1,4 @@
-use crate::bitmap::{Room, append_to, front};
+use crate::bitmap::{Room, append_to, front, take_first};
 use crate::{Bitmap, BitmapBuf, Error, Row, row};
 use kept::{Indices, Kept};
 use std::mem::MaybeUninit;
@@ -109,7 +109,7 @@ impl Selection {
             Kept::Runs(runs) => {
                 let mut left = out;
                 for run in runs {
-                    let places = first(&mut left, run.len());
+                    let places = take_first(&mut left, run.len());
                     for (place, row) in places.iter_mut().zip(&rows[run.clone()]) {
                         place.write(*row);
                     }
@@ -160,12 +160,6 @@ impl Selection {
         }
         Err(Error::RowsDiffer { rows, len })
     }
-}
-
-/// Takes the first `count` places of those that are left.
-#[expect(clippy::mut_mut, reason = "the list that is left becomes a shorter one")]
-fn first<'a, T>(left: &mut &'a mut [T], count: usize) -> &'a mut [T] {
-    left.split_off_mut(..count).unwrap_or_default()
 }
 
 impl From<Bitmap<'_>> for Selection {

@@ -1,13 +1,10 @@
 //! Rows chosen at the true values.
 
-use super::{append_to, call, front};
+use super::{append_to, call, front, take_first};
 use crate::declared::RowMask16;
 use crate::row::{self, Item};
 use crate::{Bitmap, Error, Row};
 use std::mem::MaybeUninit;
-
-// Indices that are looked up at a time, in the nearest memory.
-const BLOCK: usize = 256;
 
 impl Bitmap<'_> {
     /// The rows at the true values, in their order.
@@ -99,13 +96,11 @@ impl Bitmap<'_> {
 
     // SAFETY of a call: as above.
     unsafe fn choose_by_indices<T: Row>(self, rows: &[T], out: &mut [MaybeUninit<T>]) {
-        let (mut block, mut from, mut left) = ([0; BLOCK], 0, out);
-        while !left.is_empty() {
-            let found = self.next_indices(from, &mut block);
-            let (front, rest) = left.split_at_mut(found);
+        let mut left = out;
+        self.by_blocks(|block| {
+            let places = take_first(&mut left, block.len());
             // SAFETY: the indices are those of true values, and there is a row for each value.
-            unsafe { row::take(block[..found].iter().copied(), rows, front) };
-            (from, left) = (block[found - 1] + 1, rest);
-        }
+            unsafe { row::take(block.iter().copied(), rows, places) };
+        });
     }
 }

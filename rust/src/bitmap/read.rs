@@ -5,6 +5,8 @@ use crate::{Bitmap, Error, Indices, Runs, Values};
 use std::mem::MaybeUninit;
 use std::ops::{Range, RangeBounds};
 
+pub(crate) const INDICES_OF_A_BLOCK: usize = 256;
+
 impl<'a> Bitmap<'a> {
     /// How many values are true.
     #[must_use]
@@ -108,6 +110,19 @@ impl<'a> Bitmap<'a> {
     pub fn next_indices(self, from: usize, out: &mut [usize]) -> usize {
         // SAFETY: as `call` says.
         unsafe { call!(row_mask_next_indices(self, from, out.as_mut_ptr(), out.len())) }
+    }
+
+    // Calls a function with the indices of the true values, block after block of them, in the nearest memory.
+    pub(crate) fn by_blocks(self, mut of: impl FnMut(&[usize])) {
+        let (mut block, mut from) = ([0; INDICES_OF_A_BLOCK], 0);
+        loop {
+            let found = self.next_indices(from, &mut block);
+            of(&block[..found]);
+            if found < block.len() {
+                return;
+            }
+            from = block[found - 1] + 1;
+        }
     }
 
     /// The indices of the true values, ascending, in room for just as many.

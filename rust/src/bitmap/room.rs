@@ -146,6 +146,12 @@ pub(crate) unsafe fn front<T: Copy>(
     Ok(unsafe { slice::from_raw_parts_mut(out.as_mut_ptr().cast(), out.len()) })
 }
 
+/// Takes the first `count` places of those that are left.
+#[expect(clippy::mut_mut, reason = "the list that is left becomes a shorter one")]
+pub(crate) fn take_first<'a, T>(left: &mut &'a mut [T], count: usize) -> &'a mut [T] {
+    left.split_off_mut(..count).unwrap_or_default()
+}
+
 /// The same bytes, all of them written.
 pub(crate) fn init(out: &mut [MaybeUninit<u8>]) -> &mut [u8] {
     out.fill(MaybeUninit::new(0));

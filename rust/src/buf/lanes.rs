@@ -38,9 +38,9 @@ impl<const N: usize> Lanes<N> {
         self.take(values.take(most))
     }
 
-    /// Writes each byte of the first `count` values, to just the bytes that they take.
+    /// Writes each byte of the first `count` values, and false ones behind them up to the last byte.
     pub(super) fn pack(&mut self, count: usize, out: &mut [MaybeUninit<u8>]) {
-        if let Some(past) = self.0.get_mut(count..count.next_multiple_of(64)) {
+        if let Some(past) = self.0.get_mut(count..(8 * out.len()).next_multiple_of(64)) {
             past.fill(0);
         }
         let (words, _) = self.0.as_chunks();

@@ -1,6 +1,7 @@
 //! What a selection keeps beside its bitmap.
 
 use crate::Bitmap;
+use crate::bitmap::INDICES_OF_A_BLOCK;
 use std::ops::Range;
 
 /// The true values of a bitmap: as their indices, or as their runs.
@@ -41,32 +42,25 @@ pub(super) enum Indices {
     Long(Vec<usize>),
 }
 
-// Indices that are looked up at a time, in the nearest memory.
-const BLOCK: usize = 256;
-
 impl Indices {
     fn of(bitmap: Bitmap<'_>, count: usize) -> Indices {
         if u32::try_from(bitmap.len()).is_err() {
             return Indices::Long(bitmap.to_indices());
         }
-        let (mut indices, mut block, mut from) = (Vec::with_capacity(count), [0; BLOCK], 0);
-        while indices.len() < count {
-            let found = bitmap.next_indices(from, &mut block);
-            #[expect(clippy::cast_possible_truncation, reason = "the length is of 32 bits")]
-            indices.extend(block[..found].iter().map(|i| *i as u32));
-            from = block[found - 1] + 1;
-        }
+        let mut indices = Vec::with_capacity(count);
+        #[expect(clippy::cast_possible_truncation, reason = "the length is of 32 bits")]
+        bitmap.by_blocks(|block| indices.extend(block.iter().map(|i| *i as u32)));
         Indices::Short(indices)
     }
 
-    /// Calls a function with a block of them after another, as the library takes them.
+    /// Calls a function with them, block after block, as the library takes them.
     #[inline]
     pub(super) fn by_blocks(&self, mut of: impl FnMut(&[usize])) {
         match self {
-            Indices::Long(indices) => indices.chunks(BLOCK).for_each(of),
+            Indices::Long(indices) => of(indices),
             Indices::Short(indices) => {
-                let mut block = [0; BLOCK];
-                for short in indices.chunks(BLOCK) {
+                let mut block = [0; INDICES_OF_A_BLOCK];
+                for short in indices.chunks(block.len()) {
                     for (long, short) in block.iter_mut().zip(short) {
                         *long = *short as usize;
                     }

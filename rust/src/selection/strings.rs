@@ -1,8 +1,8 @@
 //! Strings at the chosen rows.
 
+use super::Selection;
 use super::kept::Kept;
-use super::{Selection, first};
-use crate::bitmap::{front, list_of};
+use crate::bitmap::{front, list_of, take_first};
 use crate::strings::{are_sorted, place};
 use crate::{Error, Offset, Strings};
 use std::mem::MaybeUninit;
@@ -168,12 +168,12 @@ impl<O: Offset> Strings<'_, O> {
                 // SAFETY: the indices are those of true values, with an offset before and behind each, these are
                 // offsets of a column whose last is within the bytes, and there is a place for each byte.
                 let written = unsafe { O::take_bytes(block, offsets, self.bytes(), left) };
-                first(&mut left, written);
+                take_first(&mut left, written);
             }),
             Kept::Runs(runs) => {
                 for run in runs {
                     let part = &self.bytes()[place(offsets[run.start])..place(offsets[run.end])];
-                    for (place, byte) in first(&mut left, part.len()).iter_mut().zip(part) {
+                    for (place, byte) in take_first(&mut left, part.len()).iter_mut().zip(part) {
                         place.write(*byte);
                     }
                 }

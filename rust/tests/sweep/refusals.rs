@@ -38,20 +38,24 @@ fn what_a_call_asks_is_tested() {
     assert_eq!(eight.choose_bits(seven), Err(Error::RowsDiffer { rows: 7, len: 8 }));
 }
 
-/// An iterator that is wrong about its length.
-struct Says(usize);
+/// An iterator of true values that is wrong about its length.
+struct Says {
+    values: usize,
+    said: usize,
+}
 
 impl Iterator for Says {
     type Item = bool;
 
     fn next(&mut self) -> Option<bool> {
-        None
+        self.values = self.values.checked_sub(1)?;
+        Some(true)
     }
 }
 
 impl ExactSizeIterator for Says {
     fn len(&self) -> usize {
-        self.0
+        self.said
     }
 }
 
@@ -73,8 +77,15 @@ fn what_changes_and_makers_ask_is_tested() {
     let range = Error::BadRange { start: 8, end: 9, len: 8 };
     assert_eq!(BitmapBuf::from_ranges_into(8, &[0..8, 8..9], &mut room[..]), Err(range));
     assert_eq!(room, [0xA5]);
-    assert_eq!(BitmapBuf::collect_into(Says(8), &mut room[..]), Ok(()));
+    assert_eq!(BitmapBuf::collect_into(Says { values: 0, said: 8 }, &mut room[..]), Ok(()));
     assert_eq!(room, [0]);
+    let (few, mut room) = (Says { values: 601, said: 1300 }, [0xA5; 163]);
+    assert_eq!(BitmapBuf::collect_into(few, &mut room[..]), Ok(()));
+    let want = BitmapBuf::from_fn(1300, |i| i < 601);
+    assert_eq!(&room[..], want.as_bytes());
+    let (many, mut made) = (Says { values: 1300, said: 601 }, want);
+    assert_eq!(BitmapBuf::collect_into(many, &mut made), Ok(()));
+    assert_eq!(made, BitmapBuf::all_true(601));
 
     let outside = |bytes, len| Some(Error::OutOfBytes { bytes, offset: 0, len });
     assert_eq!(BitmapBuf::from_vec(vec![0], 0, 9).err(), outside(1, 9));
