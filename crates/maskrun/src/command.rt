@@ -1,6 +1,6 @@
 //! The commands: how each reads its arguments, and what it prints.
 
-ghost use Rattle.std.specs.Prelude.{◌≡◌, ◌⊎◌, ◌∷◌, ◌↔◌, Bool, List, Ok, Err, Some, None, IfOk, IfErr, MatchResult, codes, length, map, slice_range, string_bytes};
+ghost use Rattle.std.specs.Prelude.{◌≡◌, ◌⊎◌, ◌∷◌, ◌↔◌, Bool, List, Ok, Err, Some, None, IfOk, IfErr, MatchResult, length, map, slice_range, string_bytes};
 ghost use Rattle.std.specs.Fmt.{decimal};
 ghost use Rattle.maskrun.specs.Arguments.{◌unless◌};
 ghost use Rattle.maskrun.specs.Commands.{command_of, printed, Prints, len_fault, part_fault, sum_fault, misfit, out_of_memory};
@@ -53,13 +53,13 @@ impl<'a> Command<'a> {
         ensures { result ≡ command_of (name.now ∷ map string_bytes arguments.now) }
     {
         match name {
-            "rank" => read_rank(arguments),
-            "and" => read_and(arguments),
-            "or" => read_or(arguments),
-            "andnot" => read_and_not(arguments),
+            "rank" => two_masks(arguments).map(|(a, b)| Command::Rank(a, b)),
+            "and" => two_masks(arguments).map(|(a, b)| Command::And(a, b)),
+            "or" => two_masks(arguments).map(|(a, b)| Command::Or(a, b)),
+            "andnot" => two_masks(arguments).map(|(a, b)| Command::AndNot(a, b)),
             "not" => one_mask(arguments).map(Command::Not),
-            "slice" => read_slice(arguments),
-            "limit" => read_limit(arguments),
+            "slice" => mask_and_range(arguments).map(|(a, from, to)| Command::Slice(a, from, to)),
+            "limit" => mask_and_number(arguments).map(|(a, k)| Command::Limit(a, k)),
             "cat" => masks(1, arguments).map(Command::Cat),
             "pipe" => masks(2, arguments).map(Command::Pipe),
             "indices" => one_mask(arguments).map(Command::Indices),
@@ -86,48 +86,6 @@ impl<'a> Command<'a> {
             Command::Ranges(a) => ranges(alloc, a),
         }
     }
-}
-
-fn read_rank<'a>(arguments: &'a [String]) -> Result<Command<'a>, RunError>
-    ensures { result ≡ command_of (codes "rank" ∷ map string_bytes arguments.now) }
-{
-    let (a, b) = two_masks(arguments)?;
-    Ok(Command::Rank(a, b))
-}
-
-fn read_and<'a>(arguments: &'a [String]) -> Result<Command<'a>, RunError>
-    ensures { result ≡ command_of (codes "and" ∷ map string_bytes arguments.now) }
-{
-    let (a, b) = two_masks(arguments)?;
-    Ok(Command::And(a, b))
-}
-
-fn read_or<'a>(arguments: &'a [String]) -> Result<Command<'a>, RunError>
-    ensures { result ≡ command_of (codes "or" ∷ map string_bytes arguments.now) }
-{
-    let (a, b) = two_masks(arguments)?;
-    Ok(Command::Or(a, b))
-}
-
-fn read_and_not<'a>(arguments: &'a [String]) -> Result<Command<'a>, RunError>
-    ensures { result ≡ command_of (codes "andnot" ∷ map string_bytes arguments.now) }
-{
-    let (a, b) = two_masks(arguments)?;
-    Ok(Command::AndNot(a, b))
-}
-
-fn read_slice<'a>(arguments: &'a [String]) -> Result<Command<'a>, RunError>
-    ensures { result ≡ command_of (codes "slice" ∷ map string_bytes arguments.now) }
-{
-    let (a, start, end) = mask_and_range(arguments)?;
-    Ok(Command::Slice(a, start, end))
-}
-
-fn read_limit<'a>(arguments: &'a [String]) -> Result<Command<'a>, RunError>
-    ensures { result ≡ command_of (codes "limit" ∷ map string_bytes arguments.now) }
-{
-    let (a, k) = mask_and_number(arguments)?;
-    Ok(Command::Limit(a, k))
 }
 
 fn rank(alloc: Global, a: &MaskArgument, b: &MaskArgument) -> Result<String, RunError>
