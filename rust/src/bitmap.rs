@@ -17,7 +17,7 @@ mod text;
 
 pub(crate) use read::INDICES_OF_A_BLOCK;
 pub use room::Room;
-pub(crate) use room::{append_to, front, init, list_of, room_for, take_first};
+pub(crate) use room::{append_to, copy_to, front, init, list_of, room_for, take_first};
 pub(crate) use text::debug;
 
 /// A list of truth values, packed eight to a byte, that lies in borrowed bytes: value `i` is the bit

@@ -1,4 +1,4 @@
-use crate::bitmap::{Room, append_to, front, take_first};
+use crate::bitmap::{Room, append_to, copy_to, front, take_first};
 use crate::{Bitmap, BitmapBuf, Error, Row, row};
 use kept::{Indices, Kept};
 use std::mem::MaybeUninit;
@@ -109,10 +109,7 @@ impl Selection {
             Kept::Runs(runs) => {
                 let mut left = out;
                 for run in runs {
-                    let places = take_first(&mut left, run.len());
-                    for (place, row) in places.iter_mut().zip(&rows[run.clone()]) {
-                        place.write(*row);
-                    }
+                    copy_to(&rows[run.clone()], take_first(&mut left, run.len()));
                 }
             }
         }

@@ -152,6 +152,14 @@ pub(crate) fn take_first<'a, T>(left: &mut &'a mut [T], count: usize) -> &'a mut
     left.split_off_mut(..count).unwrap_or_default()
 }
 
+/// Copies items to as many places, at once.
+pub(crate) fn copy_to<T: Copy>(items: &[T], out: &mut [MaybeUninit<T>]) {
+    debug_assert_eq!(items.len(), out.len());
+    let count = items.len().min(out.len());
+    // SAFETY: both have so many, and what is borrowed to be written is borrowed by nothing else.
+    unsafe { out.as_mut_ptr().cast::<T>().copy_from_nonoverlapping(items.as_ptr(), count) };
+}
+
 /// The same bytes, all of them written.
 pub(crate) fn init(out: &mut [MaybeUninit<u8>]) -> &mut [u8] {
     out.fill(MaybeUninit::new(0));

@@ -2,7 +2,7 @@
 
 use super::Selection;
 use super::kept::Kept;
-use crate::bitmap::{front, list_of, take_first};
+use crate::bitmap::{copy_to, front, list_of, take_first};
 use crate::strings::{are_sorted, place};
 use crate::{Error, Offset, Strings};
 use std::mem::MaybeUninit;
@@ -173,9 +173,7 @@ impl<O: Offset> Strings<'_, O> {
             Kept::Runs(runs) => {
                 for run in runs {
                     let part = &self.bytes()[place(offsets[run.start])..place(offsets[run.end])];
-                    for (place, byte) in take_first(&mut left, part.len()).iter_mut().zip(part) {
-                        place.write(*byte);
-                    }
+                    copy_to(part, take_first(&mut left, part.len()));
                 }
             }
         }
