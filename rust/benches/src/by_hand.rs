@@ -2,7 +2,7 @@
 //! quickest is the one that counts.
 
 use crate::Call;
-use crate::lists::{Lists, OFFSETS, Packed};
+use crate::lists::{Lists, OFFSETS, Packed, is_named, is_small};
 use crate::ours::{digest, digest_of_scan};
 use std::arch::x86_64::{
     __m128i, __m256i, _mm_cmpgt_epi32, _mm_loadu_si128, _mm_movemask_epi8, _mm_packs_epi16,
@@ -293,27 +293,33 @@ fn retained(words: &[u64], is_kept: impl Fn(usize) -> bool) -> Vec<u64> {
 }
 
 /// The scan, by comparisons of eight rows, a loop over bits, a list of indices, and `pext`.
-fn scan(lists: &Lists, kept: fn(&mut [u64], &[i64]) -> Vec<u32>) -> u64 {
+fn scan(lists: &Lists, kept: fn(&mut [u64], &Lists) -> Vec<u32>) -> u64 {
     let mut left = packed_by_avx2(&lists.column, lists.share);
     for (word, there) in left.iter_mut().zip(&lists.there) {
         *word &= there;
     }
-    let indices = kept(&mut left, &lists.amounts);
+    let indices = kept(&mut left, lists);
     let rows = gathered(&indices, &lists.rows);
     let column: Vec<u32> = indices.iter().map(|i| lists.column[*i as usize]).collect();
+    let names = strings(&indices, &lists.texts);
     let (_, count) = black_box(by_pext(&left, &lists.packed.other));
-    digest_of_scan(&rows, &column, count)
+    digest_of_scan(&rows, &column, &names, count)
 }
 
-/// Leaves the bits set whose amounts are small, and lists these, with a branch for each.
-fn kept_as_they_come(left: &mut [u64], amounts: &[i64]) -> Vec<u32> {
+fn text_of((offsets, bytes): &(Vec<u32>, Vec<u8>), i: usize) -> &[u8] {
+    &bytes[offsets[i] as usize..offsets[i + 1] as usize]
+}
+
+/// Leaves the bits set whose rows meet both predicates, and lists these, with a branch for each.
+fn kept_as_they_come(left: &mut [u64], lists: &Lists) -> Vec<u32> {
     let mut indices = Vec::with_capacity(count(left));
     for (base, word) in (0..).step_by(64).zip(left) {
         let (mut bits, mut kept) = (*word, 0);
         while bits != 0 {
             let low = bits & bits.wrapping_neg();
             let i = base + low.trailing_zeros();
-            if amounts[i as usize] < 500 {
+            let at = i as usize;
+            if is_small(lists.amounts[at]) && is_named(text_of(&lists.texts, at)) {
                 indices.push(i);
                 kept |= low;
             }
@@ -324,10 +330,10 @@ fn kept_as_they_come(left: &mut [u64], amounts: &[i64]) -> Vec<u32> {
     indices
 }
 
-/// The same with no branch for each, and a list of what is left.
-fn kept_and_listed(left: &mut [u64], amounts: &[i64]) -> Vec<u32> {
-    let kept = retained(left, |i| amounts[i] < 500);
-    left.copy_from_slice(&kept);
+/// The same by one predicate after the other, with no branch for what each answers, and a list of what is left.
+fn kept_and_listed(left: &mut [u64], lists: &Lists) -> Vec<u32> {
+    let small = retained(left, |i| is_small(lists.amounts[i]));
+    left.copy_from_slice(&retained(&small, |i| is_named(text_of(&lists.texts, i))));
     let mut indices = Vec::with_capacity(count(left));
     for (base, word) in (0..).step_by(64).zip(left) {
         let mut bits = *word;

@@ -25,6 +25,16 @@ pub struct Lists {
     pub texts: (Vec<u32>, Vec<u8>),
 }
 
+/// The predicates of the scan over the rows that are left: of amounts about half meet it, and of strings about two
+/// in three.
+pub fn is_small(amount: i64) -> bool {
+    amount < 500
+}
+
+pub fn is_named(text: &[u8]) -> bool {
+    text.first().is_some_and(|byte| *byte < 180)
+}
+
 /// The lists as words from bit 0 on, with two more behind `ranks`, and the first two as bytes from `OFFSETS` on. Loops by
 /// hand and `row-mask` read them where they lie here, since the time of a short loop depends on the place.
 pub struct Packed {

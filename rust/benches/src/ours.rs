@@ -1,7 +1,7 @@
 //! The calls of `row-mask`.
 
 use crate::Call;
-use crate::lists::{Lists, OFFSETS, Packed};
+use crate::lists::{Lists, OFFSETS, Packed, is_named, is_small};
 use row_mask::{Bitmap, BitmapBuf, Error, Selection, Strings};
 
 /// The bitmaps of the lists, from bit 0 on, and the first two from other bits on.
@@ -57,7 +57,10 @@ impl Ours<'_> {
                 left.retain(|i| rows[i] % 4 != 0);
                 last(left)
             }),
-            "scan" => Box::new(move || scan(lists).unwrap()),
+            "scan" => {
+                let texts = Strings::new(&lists.texts.0, &lists.texts.1).unwrap();
+                Box::new(move || scan(lists, texts).unwrap())
+            }
             "collect a predicate" => Box::new(move || {
                 last(lists.column.iter().map(|it| *it < lists.share).collect::<BitmapBuf>())
             }),
@@ -69,24 +72,32 @@ impl Ours<'_> {
     }
 }
 
-/// A predicate over a column, the validity of a nullable one, and a predicate over the rows that are left of it. Of the
-/// rows that are left then, two columns and the validity of a third.
-fn scan(lists: &Lists) -> Result<u64, Error> {
+/// A predicate over a column, the validity of a nullable one, a predicate over the rows that are left of it, and one over
+/// the strings that are left then. Of the rows that are left in the end, two columns, the strings, and the validity of
+/// another column.
+fn scan(lists: &Lists, texts: Strings<'_, u32>) -> Result<u64, Error> {
     let of = |words| Bitmap::from_words(words, lists.len);
     let mut left = BitmapBuf::from_rows(&lists.column, |it| *it < lists.share);
     left.and_with(of(&lists.there)?)?;
-    left.retain(|i| lists.amounts[i] < 500);
+    left.retain(|i| is_small(lists.amounts[i]));
+    left.retain(|i| texts.get(i).is_some_and(is_named));
     let chosen = Selection::new(left.as_bitmap());
     let rows = chosen.choose(&lists.rows)?;
     let column = chosen.choose(&lists.column)?;
+    let names = texts.choose(&chosen)?;
     let valid = chosen.choose_bits(of(&lists.packed.other)?)?;
-    Ok(digest_of_scan(&rows, &column, valid.len()))
+    Ok(digest_of_scan(&rows, &column, &names, valid.len()))
 }
 
-/// Of a scan: how many rows there are, and the last of them.
-pub fn digest_of_scan(rows: &[u64], column: &[u32], count: usize) -> u64 {
+/// Of a scan: how many rows there are, the last of them, and the strings.
+pub fn digest_of_scan(
+    rows: &[u64],
+    column: &[u32],
+    names: &(Vec<u32>, Vec<u8>),
+    count: usize,
+) -> u64 {
     let last = rows.last().copied().unwrap_or(0) ^ u64::from(column.last().copied().unwrap_or(0));
-    (count as u64) << 32 ^ last
+    ((count as u64) << 32 ^ last) ^ digest(names)
 }
 
 /// Of chosen strings: how many there are, and how many bytes.
