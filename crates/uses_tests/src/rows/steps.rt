@@ -9,13 +9,21 @@ fn counts(rt: &impl Abort, alloc: Global) {
     let buffer = found(rt, BitBuffer::new_set(alloc, 130));
     let mut steps = Steps::new();
     assert!(rt; buffer.len() == 130);
-    assert!(rt; steps.word(&buffer.chunks(), 1) == u64::MAX);
-    assert!(rt; steps.word(&buffer.chunks(), 2) == 3);
+    is_word(rt, steps.word(&buffer.chunks(), 1), u64::MAX);
+    is_word(rt, steps.word(&buffer.chunks(), 2), 3);
     let mask = 0b11010u64;
     let count = mask.count_ones() as usize;
-    assert!(rt; steps.deposit::<Portable>(0b101, mask, count) == 0b10010);
+    is_word(rt, steps.deposit::<Portable>(0b101, mask, count), 0b10010);
     assert!(rt; 2 < count);
     same(rt, steps.select::<Portable>(mask, 2), 4);
+    are_told(rt, &steps);
+}
+
+fn is_word(rt: &impl Abort, got: u64, want: u64) {
+    assert!(rt; got == want);
+}
+
+fn are_told(rt: &impl Abort, steps: &Steps) {
     assert!(rt; (steps.deposits(), steps.words(), steps.selections()) == (1, 2, 1));
     assert!(rt; (steps.offered(), steps.placed(), steps.spots()) == (3, 2, 4));
 }
