@@ -5,6 +5,7 @@ pub mod ConcatLemmas
 pub mod ExcludedLemmas
 pub mod FaultLemmas
 pub mod FoldLemmas
+pub mod FoldUpLemmas
 pub mod GroupLemmas
 pub mod MaskLemmas
 pub mod MaskWalkLemmas

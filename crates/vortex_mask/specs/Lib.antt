@@ -17,6 +17,7 @@ pub mod PushRows
 pub mod Ranges
 pub mod Ranks
 pub mod SetRanges
+pub mod StackFold
 pub mod Steps
 pub mod Text
 pub use Rattle.mask_bits.specs.Buffer

@@ -31,7 +31,7 @@ pub use kernels::{
 pub use path::{RankPath, rank_path};
 pub use rank_bits::RankBits;
 pub use select::SelectBit;
-use stack::{all_choose, begins_by_lists, fold_down, lists_at_last, with_lists};
+use stack::{all_choose, begins_by_lists, fold_down_as_up};
 use std::alloc::Global;
 pub use steps::Steps;
 
@@ -133,8 +133,7 @@ impl Mask {
         mask_bits::laws::folds();
         if let Mask::Values(values) = self {
             if masks.len() > 1 && all_choose(masks) && !begins_by_lists(values, masks) {
-                let folded = fold_down(alloc, self, masks)?;
-                return with_lists(alloc, folded, lists_at_last(values, masks));
+                return fold_down_as_up(alloc, self, values, masks);
             }
         }
         let mut narrowed = self.clone()?;

@@ -8,10 +8,11 @@
 //! | the list of ranks is not cached, or more than one value in four is true | `BitBuffers` |
 //! | none | `RankIndices` |
 
-ghost use Rattle.std.specs.Prelude.{◌≡◌, ◌*◌};
+ghost use Rattle.std.specs.Prelude.{◌≡◌, ◌*◌, Bool, List, length, is_some};
 ghost use Rattle.mask_bits.specs.Buffer.{values};
 ghost use Rattle.mask_bits.specs.Positions.{count};
-ghost use Rattle.vortex_mask.specs.Path.{path_of};
+ghost use Rattle.vortex_mask.specs.MaskValues.{IsMixed};
+ghost use Rattle.vortex_mask.specs.Path.{path, path_of, path_caches};
 
 use crate::mask::MaskValues;
 use mask_bits::words::started_words;
@@ -31,42 +32,96 @@ pub enum RankPath {
 
 // A word kernel looks at each word of 64 rows. Where fewer than one row in 64 is true, there are
 // fewer true rows than words, and it is quicker to go over a list of these.
-pub(super) const ROWS_PER_TRUE_BY_INDICES: u64 = 64;
+const ROWS_PER_TRUE_BY_INDICES: u64 = 64;
 
 // At one rank in 32 values there are on average at most two selections for a word of rows, and about
 // there they cost as much as to count and deposit each word. Fewer ranks are found one by one.
-pub(super) const VALUES_PER_RANK_BY_SELECTION: u64 = 32;
+const VALUES_PER_RANK_BY_SELECTION: u64 = 32;
 
 // A list of ranks has to be turned into bits, one by one. Above one rank in four values that
 // takes longer than to read the rank mask's bits as they are.
 const VALUES_PER_RANK_BY_BITS: u64 = 4;
+
+// What the choice of a path goes by, of one mask: how many values it has, how many of them are
+// true, and whether its true indices are cached.
+#[derive(Clone, Copy)]
+pub(super) struct Summary {
+    len: usize,
+    true_count: usize,
+    is_listed: bool,
+}
+
+impl Summary {
+    pub(super) fn of(mask: &MaskValues) -> Summary
+        ensures len { result.len ≡ length (values mask.now.buffer) }
+        ensures true_count { result.true_count ≡ count (values mask.now.buffer) }
+        ensures is_listed { result.is_listed ≡ is_some mask.now.caches.indices }
+        ensures mixed { IsMixed mask.now.buffer result.true_count }
+    {
+        Summary {
+            len: mask.len(),
+            true_count: mask.true_count(),
+            is_listed: mask.cached_indices().is_some(),
+        }
+    }
+
+    // Of the mask narrowed by a mixed one over its true values: which true indices stay is found one by one,
+    // and so cached, on two of the paths.
+    pub(super) fn narrowed_by(self, ranks: Summary) -> Summary
+        ensures len { result.len ≡ self.len }
+        ensures true_count { result.true_count ≡ ranks.true_count }
+        ensures is_listed { (m : List Bool) → is_some (path_caches
+            (path self.len self.true_count ranks.len ranks.true_count self.is_listed ranks.is_listed)
+            m).indices ≡ result.is_listed }
+    {
+        let path = path_by(self, ranks);
+        Summary {
+            len: self.len,
+            true_count: ranks.true_count,
+            is_listed: matches!(path, RankPath::Indices | RankPath::MaskDriven),
+        }
+    }
+
+    pub(super) fn is_listed(self) -> bool
+        ensures { result ≡ self.is_listed }
+    {
+        self.is_listed
+    }
+
+    // So many times the number of true values, which may pass 64 bits.
+    fn times_true(self, times: u64) -> u128
+        ensures { result ≡ times * self.true_count }
+    {
+        u128::from(times) * self.true_count as u128
+    }
+}
 
 /// The path of two mixed masks, by their lengths, their counts and which lists of true indices are
 /// cached. It makes no list.
 pub fn rank_path(values: &MaskValues, ranks: &MaskValues) -> RankPath
     ensures { result ≡ path_of values.now ranks.now }
 {
-    let is_listed = ranks.cached_indices().is_some();
+    path_by(Summary::of(values), Summary::of(ranks))
+}
+
+// The path of a mask that is narrowed by another one, by what these numbers say of each.
+pub(super) fn path_by(rows: Summary, ranks: Summary) -> RankPath
+    ensures { result ≡ path rows.len rows.true_count ranks.len ranks.true_count
+        rows.is_listed ranks.is_listed }
+{
     // with both lists at hand, the entries to take are fewer than the words to read
-    let are_few = ranks.true_count() < started_words(values.len());
-    if is_listed && values.cached_indices().is_some() && are_few {
+    let are_few = ranks.true_count < started_words(rows.len);
+    if ranks.is_listed && rows.is_listed && are_few {
         return RankPath::Indices;
     }
-    if times_true(values, ROWS_PER_TRUE_BY_INDICES) < values.len() as u128 {
+    if rows.times_true(ROWS_PER_TRUE_BY_INDICES) < rows.len as u128 {
         return RankPath::Indices;
     }
-    if times_true(ranks, VALUES_PER_RANK_BY_SELECTION) < ranks.len() as u128 {
+    if ranks.times_true(VALUES_PER_RANK_BY_SELECTION) < ranks.len as u128 {
         return RankPath::MaskDriven;
     }
-    if !is_listed || times_true(ranks, VALUES_PER_RANK_BY_BITS) > ranks.len() as u128 {
+    if !ranks.is_listed || ranks.times_true(VALUES_PER_RANK_BY_BITS) > ranks.len as u128 {
         return RankPath::BitBuffers;
     }
     RankPath::RankIndices
-}
-
-// So many times the number of true values, which may pass 64 bits.
-fn times_true(mask: &MaskValues, times: u64) -> u128
-    ensures { result ≡ times * count (values mask.now.buffer) }
-{
-    u128::from(times) * mask.true_count() as u128
 }

@@ -1,6 +1,6 @@
 //! Lists of the true indices and of their runs, which a mask makes once and caches.
 
-ghost use Rattle.std.specs.Prelude.{◌≡◌, ◌≢◌, ◌*◌, ◌<◌, ◌↔◌, true, false, IsTrue, IsOk, IsSome, IfOk, OnErr, Some, length, IsOkUnless, alloc_error};
+ghost use Rattle.std.specs.Prelude.{◌≡◌, ◌≢◌, ◌*◌, ◌<◌, ◌↔◌, true, false, IsTrue, IsOk, IsSome, IfOk, OnErr, Some, None, length, IsOkUnless, alloc_error};
 ghost use Rattle.std.specs.Borrow.{sem};
 ghost use Rattle.std.specs.Io.BufRead.{Rests};
 ghost use Rattle.mask_bits.specs.Positions.{positions, count};
@@ -153,16 +153,21 @@ impl Mask {
         Ok(())
     }
 
-    // Lets go of the true indices that the mask caches, where nobody else holds its values.
-    pub(crate) fn drop_indices(&mut self)
-        ensures list { truth self.new ≡ truth self.old }
-        ensures variant { variant self.new ≡ variant self.old }
+    // Lets go of the true indices that the mask caches, in the same way.
+    pub(crate) fn drop_indices(&mut self, alloc: Global) -> Result<(), MaskError>
+        ensures dropped { IfOk result (λ _. IsCaching self.old
+            (record (caches self.old) { indices = None }) self.new) }
+        ensures refused { IsOkUnless result (MaskError.Memory alloc_error) }
     {
         if let Mask::Values(values) = self {
             if let Some(own) = Rc::get_mut(values) {
                 own.drop_indices();
+            } else if values.cached_indices().is_some() {
+                let bare = values.without_indices()?;
+                *self = Mask::Values(Rc::new(alloc, bare)?);
             }
         }
+        Ok(())
     }
 
     // Caches the runs where the mask is mixed, in the same way.

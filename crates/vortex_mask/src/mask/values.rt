@@ -328,6 +328,17 @@ impl MaskValues {
         Ok(filled)
     }
 
+    // A clone that doesn't cache them.
+    pub(super) fn without_indices(&self) -> Result<MaskValues, MaskError>
+        ensures bare { IfOk result (λ v. v
+            ≡ with_caches (record self.now.caches { indices = None }) self.now) }
+        ensures refused { IsOkUnless result (MaskError.Memory alloc_error) }
+    {
+        let mut bare = self.clone()?;
+        bare.drop_indices();
+        Ok(bare)
+    }
+
     // A clone with the runs cached.
     pub(super) fn with_slices(&self, alloc: Global) -> Result<MaskValues, MaskError>
         ensures filled { IfOk result (λ v. v
