@@ -3,6 +3,7 @@
 mod deposit;
 mod extract;
 mod kernels;
+mod narrow;
 mod path;
 mod rank_bits;
 mod select;
@@ -23,11 +24,11 @@ pub use deposit::{
     deposits_by_loop,
 };
 pub use extract::ExtractBits;
-use kernels::narrow_by_path;
 pub use kernels::{
     intersect_bit_buffer_by_rank_indices, intersect_bit_buffers, intersect_by_rank_indices,
     intersect_mask_driven, narrow_at_ranks, narrow_by_bits,
 };
+use narrow::narrow_by_path;
 pub use path::{RankPath, rank_path};
 pub use rank_bits::RankBits;
 pub use select::SelectBit;

@@ -1,7 +1,6 @@
-//! The kernels, one for each `RankPath`, and the call of the one that a path names.
+//! The kernels, one for each `RankPath`.
 
 mod bit_buffers;
-mod by_path;
 mod indices;
 mod mask_driven;
 mod rank_blocks;
@@ -9,7 +8,6 @@ mod rank_indices;
 mod whole_pairs;
 
 pub use bit_buffers::{intersect_bit_buffers, narrow_by_bits};
-pub(crate) use by_path::narrow_by_path;
 pub use indices::intersect_by_rank_indices;
 pub use mask_driven::intersect_mask_driven;
 pub use rank_indices::{intersect_bit_buffer_by_rank_indices, narrow_at_ranks};

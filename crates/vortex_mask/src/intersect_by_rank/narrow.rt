@@ -6,19 +6,19 @@ ghost use Rattle.mask_bits.specs.Buffer.{values};
 ghost use Rattle.mask_bits.specs.Positions.{count, positions};
 ghost use Rattle.vortex_mask.specs.Path.{path_of, IsNarrowedOn};
 
+use crate::intersect_by_rank::deposit::{DepositBits, Portable, PortableLoop, deposits_by_loop};
 use crate::intersect_by_rank::kernels::{
     intersect_bit_buffer_by_rank_indices, intersect_bit_buffers, intersect_by_rank_indices,
     intersect_mask_driven,
 };
-use crate::intersect_by_rank::{
-    DepositBits, Portable, PortableLoop, RankPath, Steps, deposits_by_loop, rank_path,
-};
+use crate::intersect_by_rank::path::{RankPath, rank_path};
+use crate::intersect_by_rank::steps::Steps;
 use crate::mask::{Mask, MaskError, MaskValues};
 use std::alloc::{AllocError, Global};
 use std::borrow::CowSlice;
 
 // The rank intersection of two mixed masks, by the kernel that `rank_path` names.
-pub(crate) fn narrow_by_path(
+pub(super) fn narrow_by_path(
     alloc: Global,
     rows: &MaskValues,
     ranks: &MaskValues,

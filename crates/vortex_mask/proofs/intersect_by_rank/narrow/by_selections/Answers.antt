@@ -7,7 +7,7 @@ use Rattle.mask_bits.proofs.Lists.Places.AscendingLemmas.{positions-ascending}
 use Rattle.mask_bits.proofs.Lists.Places.PlaceLemmas.{positions-within}
 use Rattle.vortex_mask.proofs.Kernels.PathLemmas.{list_from_ranks}
 use Rattle.vortex_mask.proofs.Kernels.RankRunLemmas.{are_ranks}
-use Rattle.vortex_mask.proofs.intersect_by_rank.kernels.by_path.by_selections.Goals as goal
+use Rattle.vortex_mask.proofs.intersect_by_rank.narrow.by_selections.Goals as goal
 
 pub intersect_mask_driven-requires-clause-ranks : goal.intersect_mask_driven-requires-clause-ranks
 intersect_mask_driven-requires-clause-ranks c =
