@@ -180,7 +180,7 @@ impl Steps {
         let words = D::deposit_two(sources, masks, mask_counts);
         let offered = self.offered as u64 + mask_counts[0] as u64 + mask_counts[1] as u64;
         let placed = self.placed as u64 + u64::from(words[0].count_ones() + words[1].count_ones());
-        self.deposits = self.deposits + 2;
+        self.deposits += 2;
         self.offered = u128::from(offered);
         self.placed = u128::from(placed);
         words
