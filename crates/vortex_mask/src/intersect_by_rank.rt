@@ -102,11 +102,7 @@ impl Mask {
             (Mask::AllFalse(_), Mask::Values(_)) => {
                 Ok((Mask::new_false(self.len()), Steps::new()))
             }
-            (Mask::Values(values), Mask::Values(ranks)) => {
-                // some values are true and some are not, as their count tells
-                let _ = values.true_count();
-                narrow_by_path(alloc, values, ranks)
-            }
+            (Mask::Values(values), Mask::Values(ranks)) => narrow_by_path(alloc, values, ranks),
         }
     }
 

@@ -1,9 +1,10 @@
 //! The call of the kernel that a path names.
 
-ghost use Rattle.std.specs.Prelude.{◌≡◌, IfOk, IsOkUnless, IsSome, alloc_error, length};
+ghost use Rattle.std.specs.Prelude.{◌≡◌, ◌<◌, IfOk, IsOkUnless, IsSome, alloc_error, length};
 ghost use Rattle.std.specs.Cow.{cow_slice_items};
 ghost use Rattle.mask_bits.specs.Buffer.{values};
 ghost use Rattle.mask_bits.specs.Positions.{count, positions};
+ghost use Rattle.vortex_mask.specs.Mask.{truth};
 ghost use Rattle.vortex_mask.specs.Path.{path_of, IsNarrowedOn};
 
 use crate::intersect_by_rank::deposit::{DepositBits, Portable, PortableLoop, deposits_by_loop};
@@ -18,6 +19,7 @@ use std::alloc::{AllocError, Global};
 use std::borrow::CowSlice;
 
 // The rank intersection of two mixed masks, by the kernel that `rank_path` names.
+#[tactic(auto, using(crate::proofs::Masks::MaskLemmas::narrowing_facts))]
 pub(super) fn narrow_by_path(
     alloc: Global,
     rows: &MaskValues,
@@ -26,18 +28,16 @@ pub(super) fn narrow_by_path(
     requires { length (values ranks.now.buffer) ≡ count (values rows.now.buffer) }
     ensures narrowed { IfOk result
         (λ r. IsNarrowedOn (path_of rows.now ranks.now) rows.now ranks.now r.0 r.1) }
+    ensures nonempty { IfOk result (λ r. 0 < length (truth r.0)) }
     ensures refused { IsOkUnless result (MaskError.Memory alloc_error) }
 {
+    let by_loop = deposits_by_loop(rows.len(), rows.true_count());
     match rank_path(rows, ranks) {
         RankPath::Indices => by_indices(alloc, rows, ranks),
         RankPath::MaskDriven => by_selections(alloc, rows, ranks),
-        RankPath::BitBuffers if deposits_by_loop(rows.len(), rows.true_count()) => {
-            by_buffers::<PortableLoop>(alloc, rows, ranks)
-        }
+        RankPath::BitBuffers if by_loop => by_buffers::<PortableLoop>(alloc, rows, ranks),
         RankPath::BitBuffers => by_buffers::<Portable>(alloc, rows, ranks),
-        RankPath::RankIndices if deposits_by_loop(rows.len(), rows.true_count()) => {
-            by_rank_indices::<PortableLoop>(alloc, rows, ranks)
-        }
+        RankPath::RankIndices if by_loop => by_rank_indices::<PortableLoop>(alloc, rows, ranks),
         RankPath::RankIndices => by_rank_indices::<Portable>(alloc, rows, ranks),
     }
 }

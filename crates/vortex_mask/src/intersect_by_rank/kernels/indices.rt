@@ -8,7 +8,7 @@ ghost use Rattle.vortex_mask.specs.Mask.{truth, variant, fitting_variant, all_fa
 ghost use Rattle.vortex_mask.specs.MaskValues.{only_indices};
 ghost use Rattle.vortex_mask.specs.Steps.{no_steps};
 
-use crate::intersect_by_rank::Steps;
+use crate::intersect_by_rank::steps::Steps;
 use crate::mask::{Mask, MaskError};
 use std::alloc::{AllocError, Global};
 

@@ -12,7 +12,8 @@ ghost use Rattle.vortex_mask.specs.MaskValues.{only_indices};
 ghost use Rattle.vortex_mask.specs.Ranks.{AreRanks, HasRead};
 ghost use Rattle.vortex_mask.specs.Steps.{driven_steps};
 
-use crate::intersect_by_rank::{SelectBit, Steps};
+use crate::intersect_by_rank::select::SelectBit;
+use crate::intersect_by_rank::steps::Steps;
 use crate::mask::{Mask, MaskError};
 use mask_bits::{BitBuffer, BitChunks};
 use std::alloc::Global;
