@@ -3,19 +3,15 @@
 ghost use Rattle.std.specs.Prelude.{◌≡◌, ◌+◌, ◌-◌, ◌*◌, ◌<◌, ◌≤◌, ◌^◌, ◌↔◌, ℕ, Bool, false, true, [], length, vec_len, All, IfOk, IfSome, IsTrue, MatchResult, Some, slice_get, slice_range};
 ghost use Rattle.std.specs.Iterator.{UpTo, Drains, YieldsFirst};
 ghost use Rattle.std.specs.Iterator.Runs.{WholeRun, YieldsInOrder};
-ghost use Rattle.std.specs.List.Sorted.{IsStrictlyIncreasing};
 ghost use Rattle.mask_bits.specs.Bitmap.{bitmap};
 ghost use Rattle.mask_bits.specs.Buffer.{Packed, IsWithinBytes, values, backing_bit};
 ghost use Rattle.mask_bits.specs.Positions.{positions, count, repeated, true_at, IsFirstFrom};
-ghost use Rattle.mask_bits.specs.Runs.{AreRuns};
 ghost use Rattle.mask_bits.specs.Text.{buffer_text};
 
 use crate::bit_iterator::BitIterator;
 use crate::bools::put_bools;
 use crate::chunks::BitChunks;
 use crate::counts::count_bits;
-use crate::set_indices::SetIndices;
-use crate::set_slices::SetSlices;
 use crate::words::started_words;
 use crate::write_bits::set_bit;
 use bytes::{Bytes, BytesMut};
@@ -286,28 +282,6 @@ impl BitBuffer {
         ensures fits { length result < 2 ^ 64 }
     {
         BitIterator::new(self.chunks())
-    }
-
-    /// The indices of the true values, ascending.
-    #[tactic(auto, using(crate::proofs::Lists::Places::PlaceLemmas::place_facts, crate::proofs::YieldLemmas::whole_walks, crate::proofs::Lists::Places::AscendingLemmas::ascending_facts))]
-    pub fn set_indices(&self) -> SetIndices<'_>
-        ensures indices { result ≡ positions (values self.now) }
-        ensures in_order { YieldsInOrder (YieldsFirst {A = ℕ} (λ s. s)) (λ s. s) }
-        ensures ascending { IsStrictlyIncreasing result }
-        ensures within { All (λ p. p < length (values self.now)) result }
-        ensures fits { length result < 2 ^ 64 }
-    {
-        SetIndices::new(self.chunks())
-    }
-
-    /// The runs (maximal ranges) of true values, ascending, each by its first index and the index past its
-    /// last.
-    pub fn set_slices(&self) -> SetSlices<'_>
-        ensures runs { AreRuns (values self.now) result }
-        ensures in_order { YieldsInOrder (YieldsFirst {A = ℕ × ℕ} (λ s. s)) (λ s. s) }
-        ensures fits { length result < 2 ^ 64 }
-    {
-        SetSlices::new(self.chunks())
     }
 
     /// The values in words of 64, the first value lowest.

@@ -1,8 +1,10 @@
 //! The indices of a buffer's true values: their list, and the walk over them.
 
-ghost use Rattle.std.specs.Prelude.{◌≡◌, ◌+◌, ◌*◌, ◌/◌, ◌^◌, ◌<◌, ◌≤◌, ◌++◌, [], false, IfOk, length, take, slice_range};
+ghost use Rattle.std.specs.Prelude.{◌≡◌, ◌+◌, ◌*◌, ◌/◌, ◌^◌, ◌<◌, ◌≤◌, ◌++◌, ℕ, [], false, All, IfOk, length, take, slice_range};
 ghost use Rattle.std.specs.Vec.{vec_len, vec_capacity};
 ghost use Rattle.std.specs.Iterator.{YieldsFirst, item_count};
+ghost use Rattle.std.specs.Iterator.Runs.{YieldsInOrder};
+ghost use Rattle.std.specs.List.Sorted.{IsStrictlyIncreasing};
 ghost use Rattle.mask_bits.specs.Buffer.{values};
 ghost use Rattle.mask_bits.specs.Positions.{positions, indices_from, count};
 ghost use Rattle.mask_bits.specs.Pushed.{bits_of_words};
@@ -16,6 +18,18 @@ use std::alloc::{AllocError, Global};
 use std::marker::Model;
 
 impl BitBuffer {
+    /// The indices of the true values, ascending.
+    #[tactic(auto, using(crate::proofs::Lists::Places::PlaceLemmas::place_facts, crate::proofs::YieldLemmas::whole_walks, crate::proofs::Lists::Places::AscendingLemmas::ascending_facts))]
+    pub fn set_indices(&self) -> SetIndices<'_>
+        ensures indices { result ≡ positions (values self.now) }
+        ensures in_order { YieldsInOrder (YieldsFirst {A = ℕ} (λ s. s)) (λ s. s) }
+        ensures ascending { IsStrictlyIncreasing result }
+        ensures within { All (λ p. p < length (values self.now)) result }
+        ensures fits { length result < 2 ^ 64 }
+    {
+        SetIndices::new(self.chunks())
+    }
+
     /// The indices of the true values, ascending, in room for just these.
     ///
     /// It takes less time than to collect `set_indices`.

@@ -1,6 +1,7 @@
 //! The runs of a buffer's true values: their list, and the walk over them.
 
 ghost use Rattle.std.specs.Iterator.{YieldsFirst, item_count};
+ghost use Rattle.std.specs.Iterator.Runs.{YieldsInOrder};
 ghost use Rattle.std.specs.Prelude.{◌≡◌, ◌≢◌, ◌*◌, ◌+◌, ◌-◌, ◌≤◌, ◌<◌, ◌^◌, ◌++◌, ◌∷◌, ℕ, Bool, List, true, false, length, take, slice_index_or, zip, Some, IfOk};
 ghost use Rattle.std.specs.Vec.{vec_len, vec_capacity};
 ghost use Rattle.mask_bits.specs.Buffer.{values};
@@ -18,6 +19,17 @@ use std::alloc::{AllocError, Global};
 use std::marker::Model;
 
 impl BitBuffer {
+    /// The runs (maximal ranges) of true values, ascending, each by its first index and the index past its
+    /// last.
+    #[tactic(auto, using(crate::proofs::YieldLemmas::whole_walks))]
+    pub fn set_slices(&self) -> SetSlices<'_>
+        ensures runs { AreRuns (values self.now) result }
+        ensures in_order { YieldsInOrder (YieldsFirst {A = ℕ × ℕ} (λ s. s)) (λ s. s) }
+        ensures fits { length result < 2 ^ 64 }
+    {
+        SetSlices::new(self.chunks())
+    }
+
     /// The runs (maximal ranges) of true values, ascending, each by its first index and the index past its
     /// last.
     ///
