@@ -21,22 +21,7 @@ past_front : (m : List Bool) (j k : ℕ) → j ≤ k → get_or (take j m) k fal
 past_front m j k h = get_or_past (take j m) k false (omega (arith, length-take j m))
 
 pub lanes-more : (m : List Bool) (lanes : List ℕ) (j : ℕ) → j < 64 → AreLanesOf m j lanes → AreLanesOf m (j + 1) (set lanes j (bool_byte (get_or m j false)))
-lanes-more m lanes j few before = record {
-  len = length-set lanes j _ ∙ before.len;
-  each = λ k h.
-      let b : Bool = get_or m j false in
-      elim (cases_eq k j) [
-        | inl same ↦
-            ap (λ i. nat_eq (get_or (set lanes j (bool_byte b)) i 0) 1) same ∙ ap (λ n. nat_eq n 1) (get_or-set_same lanes j (bool_byte b) 0 (omega (arith, before.len)))
-            ∙ is_set_lane b ∙ sym (get_or-take (j + 1) m j false (omega arith)) ∙ ap (λ i. get_or (take (j + 1) m) i false) (sym same)
-        | inr apart ↦
-            ap (λ n. nat_eq n 1) (get_or-set_other lanes j k (bool_byte b) 0 apart) ∙ before.each k h
-            ∙ elim (cases_lt k j) [
-              | inl below ↦ get_or-take j m k false below ∙ sym (get_or-take (j + 1) m k false (omega arith))
-              | inr above ↦ past_front m j k above ∙ sym (past_front m (j + 1) k (omega arith))
-            ]
-      ];
-}
+lanes-more m lanes j few before = grind (arith, length-set, get_or-set_same, is_set_lane, get_or-take, get_or-set_other, past_front)
 
 -- one more word of a list is written
 pub bools-more : (old new : List ℕ) (m part : List Bool) (i w : ℕ) → ((p : ℕ) → p < 64 * i → backing_bit old p ≡ get_or m p false)

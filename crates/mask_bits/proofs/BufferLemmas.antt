@@ -56,19 +56,16 @@ pub ruleset len_facts = (len-of_list)
 -- a part of a buffer's list is the list of the same bytes from the part's first bit on
 pub values-part : (b : Packed) (s e : ℕ) → s ≤ e → e ≤ b.len → values (record b { offset = b.offset + s; len = e - s }) ≡ slice_range (values b) s e
 values-part b s e ordered within =
-    values_from_bits (record b { offset = b.offset + s; len = e - s }) (slice_range (values b) s e) (length-between (values b) s e (omega (arith, length-values b))) (λ i h.
-    grind (arith, get_or-between (values b) s e i false, get_or-values b (s + i) false))
+    grind (arith, values_from_bits, length-between (values b) s e (omega (arith, length-values b)), length-values b, get_or-between, get_or-values)
 
 -- the first bits of bytes of one value
 pub values-ones : (n k : ℕ) → n ≤ 8 * k → values (record { bytes = replicate k 255; offset = 0; len = n }) ≡ repeated n true
 unfolding repeated
-values-ones n k fits =
-    values_from_front (replicate k 255) (replicate n true) n (length-replicate n true) (λ i h. backing_bit-ones k i (omega arith) ∙ sym (get_or-replicate n i true false h))
+values-ones n k fits = grind (arith, values_from_front, length-replicate n true, backing_bit-ones, get_or-replicate)
 
 pub values-none : (bytes : List ℕ) (n : ℕ) → ((i : ℕ) → backing_bit bytes i ≡ false) → values (record { bytes = bytes; offset = 0; len = n }) ≡ repeated n false
 unfolding repeated
-values-none bytes n clear =
-    values_from_front bytes (replicate n false) n (length-replicate n false) (λ i h. clear i ∙ sym (get_or-replicate n i false false h))
+values-none bytes n clear = grind (arith, values_from_front, length-replicate n false, get_or-replicate)
 
 -- ---- equality
 

@@ -31,18 +31,13 @@ abbrev pub both : ℕ → ℕ → ℕ → ℕ → List Bool
 both begun low word n = take low (word_bits begun) ++ take n (word_bits word)
 
 both-first : (begun low word n j : ℕ) → low < 64 → j < low → get_or (both begun low word n) j false ≡ nat_eq (bit_at begun j) 1
-both-first begun low word n j few h =
-    get_or_append_left (take low (word_bits begun)) (take n (word_bits word)) false j (omega (arith, length-take low (word_bits begun), length-word_bits begun))
-    ∙ get_or-take low (word_bits begun) j false h ∙ get_or-word_bits begun j false (omega arith)
+both-first begun low word n j few h = grind (arith, get_or_append_left, length-take, length-word_bits, get_or-take, get_or-word_bits)
 
 both-second : (begun low word n j : ℕ) → low < 64 → n ≤ 64 → low ≤ j → j < low + n → get_or (both begun low word n) j false ≡ nat_eq (bit_at word (j - low)) 1
-both-second begun low word n j few many from h =
-    get_or-append_right (take low (word_bits begun)) (take n (word_bits word)) low j false (omega (arith, length-take low (word_bits begun), length-word_bits begun)) from
-    ∙ get_or-take n (word_bits word) (j - low) false (omega arith) ∙ get_or-word_bits word (j - low) false (omega arith)
+both-second begun low word n j few many from h = grind (arith, get_or-append_right, length-take, length-word_bits, get_or-take, get_or-word_bits)
 
 length-both : (begun low word n : ℕ) → low < 64 → n ≤ 64 → length (both begun low word n) ≡ low + n
-length-both begun low word n few many =
-    omega (arith, length-append (take low (word_bits begun)) (take n (word_bits word)), length-take low (word_bits begun), length-take n (word_bits word), length-word_bits begun, length-word_bits word)
+length-both begun low word n few many = grind (arith, length-append, length-take, length-word_bits)
 
 -- the word that both begin, as the code computes it
 abbrev pub joined : ℕ → ℕ → ℕ → ℕ
@@ -61,50 +56,23 @@ joined-second begun low word j above from h =
     omega (arith, bit_at_or begun (word * 2 ^ low % 2 ^ 64) j, bit_at-mod (word * 2 ^ low) 64 j h, bit_at-shl_high word low j from, above j from, bit_at-lt word (j - low))
 
 left_over-bit : (low word j : ℕ) → low < 64 → bit_at (left_over low word) j ≡ bit_at word (64 - low + j)
-left_over-bit low word j few =
-    let place : 1 + (63 - low + j) ≡ 64 - low + j = omega arith in
-    bit_at-shr (word / 2 ^ 1) (63 - low) j ∙ bit_at-shr word 1 (63 - low + j) ∙ ap (bit_at word) place
+left_over-bit low word j few = grind (arith, bit_at-shr (word / 2 ^ 1) (63 - low) j, bit_at-shr word 1 (63 - low + j))
 
 -- a bit of the first word of both
 joined-value : (begun low word n j : ℕ) → low < 64 → n ≤ 64 → ((i : ℕ) → low ≤ i → bit_at begun i ≡ 0) → j < 64 → j < low + n
     → nat_eq (bit_at (joined begun low word) j) 1 ≡ get_or (both begun low word n) j false
-joined-value begun low word n j few many above in_word h = elim (cases_lt j low) [
-  | inl first ↦ ap (λ x. nat_eq x 1) (joined-first begun low word j few first) ∙ sym (both-first begun low word n j few first)
-  | inr second ↦ ap (λ x. nat_eq x 1) (joined-second begun low word j above second in_word) ∙ sym (both-second begun low word n j few many second h)
-]
+joined-value begun low word n j few many above in_word h = grind (arith, joined-first, both-first, joined-second, both-second)
 
 -- both within one word
 joined-list : (begun low word n : ℕ) → low + n < 64 → ((i : ℕ) → low ≤ i → bit_at begun i ≡ 0) → take (low + n) (word_bits (joined begun low word)) ≡ both begun low word n
 joined-list begun low word n few above =
-    let w : ℕ = joined begun low word in
-    let len : length (take (low + n) (word_bits w)) ≡ low + n = omega (arith, length-take (low + n) (word_bits w), length-word_bits w) in
-    ext_get_or false (take (low + n) (word_bits w)) (both begun low word n) (len ∙ sym (length-both begun low word n (omega arith) (omega arith))) (λ j h.
-    let small : j < low + n = omega (arith, len) in
-    get_or-take (low + n) (word_bits w) j false small ∙ get_or-word_bits w j false (omega arith)
-    ∙ joined-value begun low word n j (omega arith) (omega arith) above (omega arith) small)
+    ext_get_or false _ _ (grind (arith, length-take, length-word_bits, length-both, get_or-take, get_or-word_bits, joined-value)) (λ j h. grind (arith, length-take, length-word_bits, length-both, get_or-take, get_or-word_bits, joined-value))
 
 -- and in two
 joined-lists : (begun low word n : ℕ) → low < 64 → n ≤ 64 → 64 ≤ low + n → ((i : ℕ) → low ≤ i → bit_at begun i ≡ 0)
     → word_bits (joined begun low word) ++ take (low + n - 64) (word_bits (left_over low word)) ≡ both begun low word n
 joined-lists begun low word n few many full above =
-    let w : ℕ = joined begun low word in
-    let r : ℕ = left_over low word in
-    let rest : List Bool = take (low + n - 64) (word_bits r) in
-    let len_rest : length rest ≡ low + n - 64 = omega (arith, length-take (low + n - 64) (word_bits r), length-word_bits r) in
-    let len : length (word_bits w ++ rest) ≡ low + n = omega (arith, length-append (word_bits w) rest, length-word_bits w, len_rest) in
-    ext_get_or false (word_bits w ++ rest) (both begun low word n) (len ∙ sym (length-both begun low word n few many)) (λ j h.
-    let small : j < low + n = omega (arith, len) in
-    elim (cases_lt j 64) [
-      | inl first ↦
-          get_or_append_left (word_bits w) rest false j (omega (arith, length-word_bits w)) ∙ get_or-word_bits w j false first
-          ∙ joined-value begun low word n j few many above first small
-      | inr second ↦
-          let place : 64 - low + (j - 64) ≡ j - low = omega arith in
-          get_or-append_right (word_bits w) rest 64 j false (length-word_bits w) second
-          ∙ get_or-take (low + n - 64) (word_bits r) (j - 64) false (omega arith) ∙ get_or-word_bits r (j - 64) false (omega arith)
-          ∙ ap (λ x. nat_eq x 1) (left_over-bit low word (j - 64) few ∙ ap (bit_at word) place)
-          ∙ sym (both-second begun low word n j few many (omega arith) small)
-    ])
+    ext_get_or false _ _ (grind (arith, length-take, length-word_bits, length-append, length-both, get_or_append_left, get_or-word_bits, joined-value, get_or-append_right, get_or-take, left_over-bit, both-second)) (λ j h. grind (arith, length-take, length-word_bits, length-append, length-both, get_or_append_left, get_or-word_bits, joined-value, get_or-append_right, get_or-take, left_over-bit, both-second))
 
 -- ---- values put behind others
 
@@ -114,13 +82,7 @@ nothing_yet out = append-nil (bitmap out 0 0) ∙ no_values out 0 ∙ sym chosen
 -- where the word isn't full
 pub put-begun : (out : List ℕ) (at begun word n : ℕ) → at % 64 + n < 64 → ((i : ℕ) → at % 64 ≤ i → bit_at begun i ≡ 0)
     → values_so_far out (joined begun (at % 64) word) (at + n) ≡ values_so_far out begun at ++ take n (word_bits word)
-put-begun out at begun word n few above =
-    let front : List Bool = bitmap out 0 (64 * (at / 64)) in
-    let whole : (at + n) / 64 ≡ at / 64 = omega arith in
-    let rest : (at + n) % 64 ≡ at % 64 + n = omega arith in
-    ap₂ (λ i k. bitmap out 0 (64 * i) ++ take k (word_bits (joined begun (at % 64) word))) whole rest
-    ∙ ap (λ (xs : List Bool). front ++ xs) (joined-list begun (at % 64) word n few above)
-    ∙ sym (append_assoc front (take (at % 64) (word_bits begun)) (take n (word_bits word)))
+put-begun out at begun word n few above = grind (arith, joined-list begun (at % 64) word n few above, append_assoc)
 
 pub put-begun_clear : (at begun word n j : ℕ) → at % 64 + n < 64 → ((i : ℕ) → at % 64 ≤ i → bit_at begun i ≡ 0) → ((i : ℕ) → n ≤ i → bit_at word i ≡ 0)
     → (at + n) % 64 ≤ j → bit_at (joined begun (at % 64) word) j ≡ 0
@@ -133,13 +95,7 @@ put-begun_clear at begun word n j few above clear from = elim (cases_lt j 64) [
 
 -- a word written into its eight bytes
 window-put : (out ys : List ℕ) (w e : ℕ) → e ≡ 8 * w + 8 → e ≤ length out → length ys ≡ e - 8 * w → window (put_mid (8 * w) (e - 8 * w) out ys) (64 * w) ≡ window ys 0
-window-put out ys w e end room len =
-    let new : List ℕ = put_mid (8 * w) (e - 8 * w) out ys in
-    window_from_bits new (64 * w) (window ys 0) (length-window ys 0) (λ j h.
-    let byte : (64 * w + j) / 8 ≡ 8 * w + (0 + j) / 8 = omega arith in
-    let bit : (64 * w + j) % 8 ≡ (0 + j) % 8 = omega arith in
-    get_or-window ys 0 j false h
-    ∙ sym (ap₂ (λ x k. nat_eq (bit_at x k) 1) (ap (λ k. get_or new k 0) byte ∙ get_or-put_mid_inside (8 * w) e out ys ((0 + j) / 8) (omega arith) len (omega arith)) bit))
+window-put out ys w e end room len = grind (arith, window_from_bits, length-window ys 0, get_or-window, get_or-put_mid_inside)
 
 -- where the word is full
 pub put-full : (out ys : List ℕ) (at begun word n e : ℕ) → n ≤ 64 → 64 ≤ at % 64 + n → ((i : ℕ) → at % 64 ≤ i → bit_at begun i ≡ 0)
@@ -162,17 +118,13 @@ put-full out ys at begun word n e many full above end room len shows =
     ∙ sym (append_assoc front (take low (word_bits begun)) (take n (word_bits word)))
 
 pub put-full_clear : (at word n j : ℕ) → 64 ≤ at % 64 + n → n ≤ 64 → ((i : ℕ) → n ≤ i → bit_at word i ≡ 0) → (at + n) % 64 ≤ j → bit_at (left_over (at % 64) word) j ≡ 0
-put-full_clear at word n j full many clear from =
-    left_over-bit (at % 64) word j (omega arith) ∙ clear (64 - at % 64 + j) (omega arith)
+put-full_clear at word n j full many clear from = grind (arith, left_over-bit)
 
 -- ---- one more started word
 
 -- an extract has no bits behind those that it took
 pub extracted-clear : (source mask result j : ℕ) → Extracts source mask result → mask < 2 ^ 64 → count_ones mask ≤ j → j < 64 → bit_at result j ≡ 0
-extracted-clear source mask result j is fits from few = elim (cases_lt (bit_at result j) 1) [
-  | inl clear ↦ omega arith
-  | inr set ↦ absurd (omega (arith, ((is.bits j few).0 (omega (arith, bit_at-lt result j))).0, count-word_bits mask fits))
-]
+extracted-clear source mask result j is fits from few = grind (arith, bit_at-lt, count-word_bits, fits)
 
 -- a word with no bits behind its first n has none past its end
 pub clear-behind : (word n : ℕ) → word < 2 ^ 64 → ((i : ℕ) → n ≤ i → i < 64 → bit_at word i ≡ 0) → (i : ℕ) → n ≤ i → bit_at word i ≡ 0
@@ -260,5 +212,4 @@ AreChosenSoFar-more {s} {m} {i} {last} {n} {source} {mask} {word} {old} {out} ne
 -- all of it, once all words are
 pub AreChosenSoFar-all : (s m : List Bool) (i : ℕ) (old out : List ℕ) (last n : ℕ) → length s ≡ length m → length m ≤ 64 * i → AreChosenSoFar s m i old out last n
     → (values_so_far out last n ≡ chosen s m) × (n ≡ count m)
-AreChosenSoFar-all s m i old out last n fitting all is =
-    (is.list ∙ ap₂ chosen (take_all (64 * i) s (omega (arith, fitting, all))) (take_all (64 * i) m all), is.counted ∙ ap count (take_all (64 * i) m all))
+AreChosenSoFar-all s m i old out last n fitting all is = grind (arith, take_all)

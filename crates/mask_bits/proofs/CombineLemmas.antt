@@ -52,9 +52,7 @@ window-next_byte bytes low i byte v few first next =
 -- a word whose bits are f of those of two words has the combined list
 pub word_bits-combined : (f : Bool → Bool → Bool) (w x y : ℕ) → ((j : ℕ) → j < 64 → get_or (word_bits w) j false ≡ f (get_or (word_bits x) j false) (get_or (word_bits y) j false)) → word_bits w ≡ combined f (word_bits x) (word_bits y)
 word_bits-combined f w x y same =
-    let len = length-combined f (word_bits x) (word_bits y) in
-    ext_get_or false (word_bits w) (combined f (word_bits x) (word_bits y)) (grind (arith, length-word_bits, len)) (λ j h.
-    grind (arith, same j, length-word_bits, get_or-combined f (word_bits x) (word_bits y) j false))
+    ext_get_or false _ _ (grind (arith, length-combined, length-word_bits, get_or-combined)) (λ j h. grind (arith, length-combined, length-word_bits, get_or-combined))
 
 -- bit j of a combined word
 pub combined_bit : (f : Bool → Bool → Bool) (a b : List ℕ) (p q j : ℕ) (v w r : List Bool)
@@ -163,8 +161,7 @@ values-in_place f a b out from_b low q len n is_b is_low wrote enough =
 -- the same of a negated one
 pub values-negated : (a out : List ℕ) (len n : ℕ) → IsCombinedBetween (λ x y. not x) a a out 0 0 n → len ≤ n
     → values (record { bytes = out; offset = 0; len = len }) ≡ not_of (values (record { bytes = a; offset = 0; len = len }))
-values-negated a out len n turned enough =
-    values-in_place (λ x y. not x) a a out a 0 0 len n refl refl turned enough ∙ combined_itself (values (record { bytes = a; offset = 0; len = len }))
+values-negated a out len n turned enough = grind (arith, values-in_place, combined_itself (values (record { bytes = a; offset = 0; len = len })))
 
 -- ---- a buffer by its parts
 

@@ -97,10 +97,7 @@ low_mask n few = let small : 2 ^ n < 2 ^ 64 = pow-lt few in omega (arith, mod-eq
 -- some whole words, and the bits past them
 pub none-parts : (f : Bool → Bool → Bool) (a b : List ℕ) (p q n : ℕ)
     → IsNoneTrue f a p b q n ↔ (IsNoneTrue f a p b q (64 * (n / 64)) × IsNoneTrue f a (p + 64 * (n / 64)) b (q + 64 * (n / 64)) (n % 64))
-none-parts f a b p q n =
-    let e : 64 * (n / 64) + n % 64 ≡ n = omega arith in
-    let join = none-join f a b p q (64 * (n / 64)) (n % 64) in
-    (λ all. join.0 (subst (IsNoneTrue f a p b q) (sym e) all), λ both. subst (IsNoneTrue f a p b q) e (join.1 both))
+none-parts f a b p q n = grind (arith, none-join f a b p q (64 * (n / 64)) (n % 64))
 
 -- the same bits, seen from the byte that they begin in
 pub none-drop : (f : Bool → Bool → Bool) (a b from_a from_b : List ℕ) (low_a low_b p q n : ℕ) → from_a ≡ drop (p / 8) a → low_a ≡ p % 8 → from_b ≡ drop (q / 8) b → low_b ≡ q % 8
@@ -138,9 +135,7 @@ same_from_none_unlike a b n len len_b = (
 -- some values, and those past them
 bitmap-combined : (f : Bool → Bool → Bool) (a b : List ℕ) (p q m n : ℕ)
     → combined f (bitmap a p m) (bitmap b q m) ++ combined f (bitmap a (p + m) n) (bitmap b (q + m) n) ≡ combined f (bitmap a p (m + n)) (bitmap b q (m + n))
-bitmap-combined f a b p q m n =
-    sym (ap₂ (combined f) (bitmap-append a p m n) (bitmap-append b q m n)
-    ∙ combined-append f (bitmap a p m) (bitmap b q m) (bitmap a (p + m) n) (bitmap b (q + m) n) (length-bitmap a p m ∙ sym (length-bitmap b q m)))
+bitmap-combined f a b p q m n = grind (arith, bitmap-append, combined-append, length-bitmap)
 
 -- the true values of one more word
 pub count-step : (f : Bool → Bool → Bool) (a b : List ℕ) (p q i n v w r : ℕ)
@@ -148,13 +143,7 @@ pub count-step : (f : Bool → Bool → Bool) (a b : List ℕ) (p q i n v w r : 
     → word_bits v ≡ window a (p + 64 * i) → word_bits w ≡ window b (q + 64 * i) → word_bits r ≡ combined f (word_bits v) (word_bits w)
     → n + count_ones r ≡ count (combined f (bitmap a p (64 * (i + 1))) (bitmap b q (64 * (i + 1))))
 count-step f a b p q i n v w r before fits is_v is_w is_r =
-    let next : 64 * i + 64 ≡ 64 * (i + 1) = omega arith in
-    let here : word_bits r ≡ combined f (bitmap a (p + 64 * i) 64) (bitmap b (q + 64 * i) 64)
-    = is_r ∙ ap₂ (combined f) (is_v ∙ window-whole a (p + 64 * i)) (is_w ∙ window-whole b (q + 64 * i)) in
-    ap₂ (λ (x y : ℕ). x + y) before (sym (count-word_bits r fits) ∙ ap count here)
-    ∙ sym (count-append (combined f (bitmap a p (64 * i)) (bitmap b q (64 * i))) (combined f (bitmap a (p + 64 * i) 64) (bitmap b (q + 64 * i) 64)))
-    ∙ ap count (bitmap-combined f a b p q (64 * i) 64)
-    ∙ ap (λ k. count (combined f (bitmap a p k) (bitmap b q k))) next
+    grind (arith, window-whole, count-word_bits r fits, count-append, bitmap-combined f a b p q (64 * i) 64)
 
 -- of none
 pub count-none : (f : Bool → Bool → Bool) (a b : List ℕ) (p q : ℕ) → 0 ≡ count (combined f (bitmap a p 0) (bitmap b q 0))
@@ -169,31 +158,18 @@ pub count-low : (f : Bool → Bool → Bool) (a b : List ℕ) (p q v w r mask n 
     → word_bits v ≡ window a p → word_bits w ≡ window b q → word_bits r ≡ combined f (word_bits v) (word_bits w) → mask ≡ 2 ^ n - 1
     → count_ones (bit_and r mask) ≡ count (combined f (bitmap a p n) (bitmap b q n))
 count-low f a b p q v w r mask n few fits is_v is_w is_r is =
-    let front : take n (word_bits r) ≡ combined f (bitmap a p n) (bitmap b q n)
-    = ap (take n) (is_r ∙ ap₂ (combined f) is_v is_w) ∙ combined-take f n (window a p) (window b q)
-    ∙ ap₂ (combined f) (window-take a p n (omega arith)) (window-take b q n (omega arith)) in
-    sym (count-word_bits (bit_and r mask) fits) ∙ ap (λ m. count (word_bits (bit_and r m))) is
-    ∙ ap count (word_bits-low_mask r n (omega arith))
-    ∙ count-append (take n (word_bits r)) (repeated (64 - n) false)
-    ∙ omega (arith, ap count front, count-repeated_false (64 - n))
+    grind (arith, combined-take f n (window a p) (window b q), window-take a p n (omega arith), window-take b q n (omega arith), count-word_bits (bit_and r mask) fits, word_bits-low_mask r n (omega arith), count-append (take n (word_bits r)) (repeated (64 - n) false), count-repeated_false (64 - n))
 
 -- the same bits, seen from the byte that they begin in
 pub bitmap-byte : (bytes from : List ℕ) (low p n : ℕ) → from ≡ drop (p / 8) bytes → low ≡ p % 8 → bitmap from low n ≡ bitmap bytes p n
 bitmap-byte bytes from low p n is is_low =
-    ext_get_or false (bitmap from low n) (bitmap bytes p n) (length-bitmap from low n ∙ sym (length-bitmap bytes p n)) (λ j h.
-    let few : j < n = omega (arith, length-bitmap from low n) in
-    get_or-bitmap from low n j false few ∙ ap₂ (λ (xs : List ℕ) m. backing_bit xs (m + j)) is is_low ∙ backing_bit-drop bytes p j ∙ sym (get_or-bitmap bytes p n j false few))
+    ext_get_or false _ _ (grind (arith, length-bitmap, get_or-bitmap, backing_bit-drop)) (λ j h. grind (arith, length-bitmap, get_or-bitmap, backing_bit-drop))
 
 -- whole words, and the bits past them
 pub count-parts : (f : Bool → Bool → Bool) (a b : List ℕ) (p q n : ℕ)
     → count (combined f (bitmap a p (64 * (n / 64))) (bitmap b q (64 * (n / 64)))) + count (combined f (bitmap a (p + 64 * (n / 64)) (n % 64)) (bitmap b (q + 64 * (n / 64)) (n % 64)))
     ≡ count (combined f (bitmap a p n) (bitmap b q n))
-count-parts f a b p q n =
-    let w : ℕ = 64 * (n / 64) in
-    let e : w + n % 64 ≡ n = omega arith in
-    sym (count-append (combined f (bitmap a p w) (bitmap b q w)) (combined f (bitmap a (p + w) (n % 64)) (bitmap b (q + w) (n % 64))))
-    ∙ ap count (bitmap-combined f a b p q w (n % 64))
-    ∙ ap (λ k. count (combined f (bitmap a p k) (bitmap b q k))) e
+count-parts f a b p q n = grind (arith, count-append, bitmap-combined f a b p q (64 * (n / 64)) (n % 64))
 
 -- what an operation on words has to show
 pub ruleset word_operations = (word_bits-combined, get_or-word_bits_and, get_or-word_bits_or, get_or-word_bits_xor, get_or-word_bits_not)

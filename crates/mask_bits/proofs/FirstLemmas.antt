@@ -13,8 +13,7 @@ pub passed_more : (b : Packed) {m : List Bool} (from index k : ℕ) (other : Boo
     → ((i : ℕ) → from ≤ i → i < index → get_or m i false ≡ other)
     → ((j : ℕ) → j < k → backing_bit b.bytes (b.offset + index + j) ≡ other)
     → (i : ℕ) → from ≤ i → i < index + k → get_or m i false ≡ other
-passed_more b from index k other same within so_far more i low high =
-    grind (arith, so_far i low, at_index b index (i - index) i same, more (i - index))
+passed_more b from index k other same within so_far more i low high = grind (arith, at_index b index (i - index) i same)
 
 -- the first index, where the values up to it are others: the value stands there, or it is the end
 pub first_index : (b : Packed) {m : List Bool} (from index run k : ℕ) (value : Bool) → values b ≡ m → from ≤ index → k ≡ min run (b.len - index) → index ≤ b.len

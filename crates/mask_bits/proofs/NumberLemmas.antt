@@ -42,9 +42,7 @@ number-cons b bs = omega arith
 -- bit r of byte k
 bit_at-number_split : (bytes : List ℕ) (k r : ℕ) → AreBytes bytes → r < 8 → bit_at (number bytes) (8 * k + r) ≡ bit_at (get_or bytes k 0) r
 bit_at-number_split [] k r are low = bit_at-zero (8 * k + r) ∙ sym (bit_at-zero r)
-bit_at-number_split (b ∷ bs) zero r are low =
-    let place : 8 * 0 + r ≡ r = omega arith in
-    ap (bit_at (number (b ∷ bs))) place ∙ ap (λ n. bit_at n r) (number-cons b bs) ∙ bit_at_cat_low (number bs) 8 b r low
+bit_at-number_split (b ∷ bs) zero r are low = grind (arith, number-cons b bs, bit_at_cat_low (number bs) 8 b r low)
 bit_at-number_split (b ∷ bs) (suc k) r are low =
     let above : 8 ≤ 8 * suc k + r = omega arith in
     let rest : 8 * suc k + r - 8 ≡ 8 * k + r = omega arith in
@@ -74,16 +72,11 @@ number-more : (n : ℕ) (bytes : List ℕ) → number (take (suc n) bytes) ≡ n
 number-more zero [] = omega arith
 number-more (suc n) [] = omega arith
 number-more zero (b ∷ bs) = omega arith
-number-more (suc n) (b ∷ bs) =
-    let rest = number-more n bs in
-    let raised : get_or bs n 0 * 256 ^ suc n ≡ get_or bs n 0 * 256 ^ n * 256
-    = ap (λ e. get_or bs n 0 * e) (pow-suc 256 n) ∙ sym (mul_assoc (get_or bs n 0) (256 ^ n) 256) in
-    omega (arith, rest, raised)
+number-more (suc n) (b ∷ bs) = grind (arith, pow-suc 256 n, mul_assoc (get_or bs n 0) (256 ^ n) 256, number-more n bs)
 
 number-sum : (k : ℕ) (bytes : List ℕ) → sum_through (λ i. byte_worth i (get_or bytes i 0)) k ≡ number (take (suc k) bytes)
 number-sum zero bytes = omega (arith, number-more 0 bytes)
-number-sum (suc k) bytes =
-    ap (λ n. n + get_or bytes (suc k) 0 * 256 ^ suc k) (number-sum k bytes) ∙ sym (number-more (suc k) bytes)
+number-sum (suc k) bytes = omega (arith, number-more, number-sum k bytes)
 
 number_of_sixteen : (bytes : List ℕ) → from_le_bytes w128 bytes ≡ number (take 16 bytes)
 number_of_sixteen bytes = number-sum 15 bytes
@@ -99,19 +92,12 @@ number-append_zeros (b ∷ bs) ys none = ap (λ n. b + 256 * n) (number-append_z
 -- sixteen bytes that are there
 pub number-chunk : (bytes chunk : List ℕ) (k : ℕ) → chunk ≡ take 16 (take (k + 16 - k) (drop k bytes)) → from_le_bytes w128 chunk ≡ number (take 16 (drop k bytes))
 number-chunk bytes chunk k same =
-    let part : List ℕ = take (k + 16 - k) (drop k bytes) in
-    let len : length part ≤ 16 = omega (arith, length-take (k + 16 - k) (drop k bytes)) in
-    let count : k + 16 - k ≡ 16 = omega arith in
-    let whole : chunk ≡ part = same ∙ take_all 16 part len in
-    number_of_sixteen chunk ∙ ap (λ xs. number (take 16 xs)) whole ∙ ap number (take_all 16 part len)
-    ∙ ap (λ n. number (take n (drop k bytes))) count
+    grind (arith, length-take (k + 16 - k) (drop k bytes), take_all 16 (take (k + 16 - k) (drop k bytes)) (omega (arith, length-take (k + 16 - k) (drop k bytes))), number_of_sixteen chunk)
 
 -- shifting bytes out leaves those after them
 number-drop : (k : ℕ) (bytes : List ℕ) → AreBytes bytes → number bytes / 2 ^ (8 * k) ≡ number (drop k bytes)
 number-drop zero bytes are = omega arith
-number-drop (suc k) [] are =
-    let none : 0 ≡ 0 * 2 ^ (8 * suc k) = omega arith in
-    ap (λ n. n / 2 ^ (8 * suc k)) none ∙ mul-div_cancel 0 (pow_pos (8 * suc k))
+number-drop (suc k) [] are = grind (arith, mul-div_cancel, pow_pos)
 number-drop (suc k) (b ∷ bs) are =
     let small : b < 256 = are 0 in
     let next : 8 * suc k ≡ 8 + 8 * k = omega arith in
@@ -146,7 +132,6 @@ number-padded_chunk bytes part k is short =
 
 pub bit_at-chunk : (chunk : List ℕ) (j : ℕ) → AreBytes chunk → j < 64 → bit_at (from_le_bytes w64 chunk) j ≡ bit_at (get_or chunk (j / 8) 0) (j % 8)
 bit_at-chunk chunk j are h =
-    ap (λ n. bit_at n j) (number-sum 7 chunk) ∙ bit_at-number (take 8 chunk) j (bytes-take 8 chunk are)
-    ∙ ap (λ b. bit_at b (j % 8)) (get_or-take 8 chunk (j / 8) 0 (omega arith))
+    grind (arith, number-sum 7 chunk, bit_at-number (take 8 chunk) j (bytes-take 8 chunk are), bytes-take 8 chunk are, get_or-take 8 chunk (j / 8) 0 (omega arith))
 
 pub ruleset padded_bytes = (number-padded_chunk)

@@ -48,19 +48,10 @@ place-some : (base w : ℕ) → base + 64 ≤ 2 ^ 64 → 0 < w → w < 2 ^ 64 �
 place-some base w room some fits = mod-eq_of_lt (omega (arith, low-within w some fits))
 
 length-cleared : (base w : ℕ) → w < 2 ^ 64 → length (indices_from base (word_bits (cleared w))) ≡ length (indices_from base (word_bits w)) - 1
-length-cleared base w fits = elim (cases_lt 0 w) [
-  | inl some ↦ omega (arith, ap length (places-of_cleared base w some fits))
-  | inr none ↦
-      let zero : w ≡ 0 = omega arith in
-      omega (arith, ap length (none-of_cleared base w zero), ap length (none-of base w zero))
-]
+length-cleared base w fits = grind (arith, places-of_cleared, none-of_cleared, none-of)
 
 pub AreEdges-pop : (base starts ends : ℕ) → AreEdges base starts ends → AreEdges base (cleared starts) (cleared ends)
-AreEdges-pop base starts ends are = record {
-  starts_fit = cleared-fits starts are.starts_fit;
-  ends_fit = cleared-fits ends are.ends_fit;
-  each = omega (arith, are.each, length-cleared base starts are.starts_fit, length-cleared base ends are.ends_fit);
-}
+AreEdges-pop base starts ends are = grind (arith, cleared-fits, length-cleared)
 
 zip-none : (xs ys : List ℕ) → ys ≡ [] → zip xs ys ≡ []
 zip-none [] ys none = refl
@@ -73,48 +64,20 @@ no_runs_between base first starts ends none = zip-none (first ∷ indices_from b
 -- what is left of the starts, where an end is popped
 rest_of_starts : (base starts ends : ℕ) → base + 64 ≤ 2 ^ 64 → 0 < ends → AreEdges base starts ends
     → zip (indices_from base (word_bits starts)) (indices_from base (word_bits (cleared ends))) ≡ zip (place base starts ∷ indices_from base (word_bits (cleared starts))) (indices_from base (word_bits (cleared ends)))
-rest_of_starts base starts ends room some are = elim (cases_lt 0 starts) [
-  | inl more ↦
-      ap (λ ps. zip ps (indices_from base (word_bits (cleared ends))))
-      (places-of_cleared base starts more are.starts_fit ∙ ap (λ p. p ∷ indices_from base (word_bits (cleared starts))) (sym (place-some base starts room more are.starts_fit)))
-  | inr none ↦
-      let zero : starts ≡ 0 = omega arith in
-      let last : indices_from base (word_bits (cleared ends)) ≡ [] = nil_from_length _ (omega (arith, are.each, ap length (none-of base starts zero), length-cleared base ends are.ends_fit)) in
-      zip-none (indices_from base (word_bits starts)) _ last ∙ sym (zip-none (place base starts ∷ indices_from base (word_bits (cleared starts))) _ last)
-]
+rest_of_starts base starts ends room some are =
+    grind (arith, cleared, places-of_cleared, place-some, nil_from_length, none-of, length-cleared, zip-none)
 
 pub runs_between-pop : (base first starts ends : ℕ) → base + 64 ≤ 2 ^ 64 → 0 < ends → AreEdges base starts ends
     → runs_between base first starts ends ≡ (first, place base ends) ∷ runs_between base (place base starts) (cleared starts) (cleared ends)
 unfolding runs_between
-runs_between-pop base first starts ends room some are =
-    ap (zip (first ∷ indices_from base (word_bits starts)))
-    (places-of_cleared base ends some are.ends_fit ∙ ap (λ p. p ∷ indices_from base (word_bits (cleared ends))) (sym (place-some base ends room some are.ends_fit)))
-    ∙ ap (λ rs. (first, place base ends) ∷ rs) (rest_of_starts base starts ends room some are)
+runs_between-pop base first starts ends room some are = grind (arith, places-of_cleared, cleared, place-some, rest_of_starts)
 
 -- one more run, or another pair where no end is left
 pub RunsArePushed-more : (all : List (ℕ × ℕ)) (base : ℕ) (items : List (ℕ × ℕ)) (first starts ends : ℕ) (run : ℕ × ℕ) (f s e : ℕ)
     → (0 < ends → AreEdges base starts ends → runs_between base first starts ends ≡ run ∷ runs_between base f s e)
     → (AreEdges base starts ends → AreEdges base s e) → (ends ≡ 0 → e ≡ 0)
     → RunsArePushed all base items first starts ends → RunsArePushed all base (items ++ run ∷ []) f s e
-RunsArePushed-more all base items first starts ends run f s e pops edges stays so_far = elim (cases_lt 0 ends) [
-  | inl some ↦ record {
-    others = so_far.others;
-    list = append_assoc items (run ∷ []) (runs_between base f s e)
-        ∙ ap (λ (rs : List (ℕ × ℕ)). items ++ rs) (sym (pops some so_far.edges)) ∙ so_far.list;
-    exact = λ h. so_far.exact some;
-    edges = edges so_far.edges;
-  }
-  | inr none ↦
-      let zero : ends ≡ 0 = omega arith in
-      let left : e ≡ 0 = stays zero in
-      let over : items ≡ all ++ so_far.others = sym (append-nil items) ∙ ap (λ (rs : List (ℕ × ℕ)). items ++ rs) (sym (no_runs_between base first starts ends zero)) ∙ so_far.list in record {
-        others = so_far.others ++ run ∷ [];
-        list = ap (λ (rs : List (ℕ × ℕ)). (items ++ run ∷ []) ++ rs) (no_runs_between base f s e left)
-            ∙ append-nil (items ++ run ∷ []) ∙ ap (λ (rs : List (ℕ × ℕ)). rs ++ run ∷ []) over ∙ append_assoc all so_far.others (run ∷ []);
-        exact = λ h. absurd (omega (arith, left));
-        edges = edges so_far.edges;
-      }
-]
+RunsArePushed-more all base items first starts ends run f s e pops edges stays so_far = grind (arith, append_assoc, append-nil, no_runs_between)
 
 -- as many of the items as all are
 pub RunsArePushed-all : (all : List (ℕ × ℕ)) (base : ℕ) (items : List (ℕ × ℕ)) (first starts ends : ℕ) → length all ≤ length items → RunsArePushed all base items first starts ends → take (length all) items ≡ all
@@ -124,10 +87,7 @@ RunsArePushed-all all base items first starts ends enough so_far =
 -- how many runs end in a word
 pub length-runs_between : (base first starts ends : ℕ) → AreEdges base starts ends → length (runs_between base first starts ends) ≡ count_ones ends
 unfolding runs_between
-length-runs_between base first starts ends are =
-    let begun : List ℕ = indices_from base (word_bits starts) in
-    let ended : List ℕ = indices_from base (word_bits ends) in
-    omega (arith, length-zip (first ∷ begun) ended, are.each, length-indices_of_word base ends are.ends_fit)
+length-runs_between base first starts ends are = grind (arith, length-zip, length-indices_of_word)
 
 -- ---- the edges of a word
 
@@ -135,22 +95,10 @@ length-runs_between base first starts ends are =
 pub first_begins : (base starts ends : ℕ) → base + 64 ≤ 2 ^ 64 → starts < 2 ^ 64 → length (indices_from base (word_bits ends)) ≤ length (indices_from base (word_bits starts))
     → runs_between base (place base starts) (cleared starts) ends ≡ zip (indices_from base (word_bits starts)) (indices_from base (word_bits ends))
 unfolding runs_between
-first_begins base starts ends room fits each = elim (cases_lt 0 starts) [
-  | inl some ↦
-      ap (λ ps. zip ps (indices_from base (word_bits ends)))
-      (ap (λ p. p ∷ indices_from base (word_bits (cleared starts))) (place-some base starts room some fits) ∙ sym (places-of_cleared base starts some fits))
-  | inr none ↦
-      let zero : starts ≡ 0 = omega arith in
-      let no_end : indices_from base (word_bits ends) ≡ [] = nil_from_length _ (omega (arith, each, ap length (none-of base starts zero))) in
-      zip-none (place base starts ∷ indices_from base (word_bits (cleared starts))) _ no_end ∙ sym (zip-none (indices_from base (word_bits starts)) _ no_end)
-]
+first_begins base starts ends room fits each = grind (arith, cleared, place-some, places-of_cleared, nil_from_length, none-of, zip-none)
 
 pub AreEdges-first : (base starts ends : ℕ) → starts < 2 ^ 64 → ends < 2 ^ 64 → length (indices_from base (word_bits ends)) ≤ length (indices_from base (word_bits starts)) → AreEdges base (cleared starts) ends
-AreEdges-first base starts ends fits ends_fit each = record {
-  starts_fit = cleared-fits starts fits;
-  ends_fit = ends_fit;
-  each = omega (arith, each, length-cleared base starts fits);
-}
+AreEdges-first base starts ends fits ends_fit each = grind (arith, cleared-fits, length-cleared)
 
 -- ---- runs of a list behind those of its first values
 
@@ -229,21 +177,11 @@ get_or-before inside w b j shows h = ap (λ (bits : List Bool). get_or bits j fa
 
 word_of_starts : (inside : Bool) (w b : ℕ) → b < 2 ^ 64 → word_bits b ≡ take 64 (inside ∷ word_bits w) → word_bits (bit_and w (2 ^ 64 - 1 - b)) ≡ starts_of inside (word_bits w)
 word_of_starts inside w b fits shows =
-    let m : List Bool = word_bits w in
-    ext_get_or false (word_bits (bit_and w (2 ^ 64 - 1 - b))) (starts_of inside m) (omega (arith, length-word_bits (bit_and w (2 ^ 64 - 1 - b)), length-starts_of inside m, length-word_bits w)) (λ j h.
-    let few : j < 64 = omega (arith, length-word_bits (bit_and w (2 ^ 64 - 1 - b))) in
-    get_or-word_bits_and w (2 ^ 64 - 1 - b) j few
-    ∙ ap (λ v. get_or m j false && v) (get_or-word_bits_not b j fits few ∙ ap not (get_or-before inside w b j shows few))
-    ∙ sym (get_or-starts_of inside m j (omega (arith, length-word_bits w))))
+    ext_get_or false _ _ (grind (arith, length-word_bits, length-starts_of, get_or-word_bits_and, get_or-word_bits_not, get_or-before, get_or-starts_of)) (λ j h. grind (arith, length-word_bits, length-starts_of, get_or-word_bits_and, get_or-word_bits_not, get_or-before, get_or-starts_of))
 
 word_of_ends : (inside : Bool) (w b : ℕ) → w < 2 ^ 64 → word_bits b ≡ take 64 (inside ∷ word_bits w) → word_bits (bit_and b (2 ^ 64 - 1 - w)) ≡ ends_of inside (word_bits w)
 word_of_ends inside w b fits shows =
-    let m : List Bool = word_bits w in
-    ext_get_or false (word_bits (bit_and b (2 ^ 64 - 1 - w))) (ends_of inside m) (omega (arith, length-word_bits (bit_and b (2 ^ 64 - 1 - w)), length-ends_of inside m, length-word_bits w)) (λ j h.
-    let few : j < 64 = omega (arith, length-word_bits (bit_and b (2 ^ 64 - 1 - w))) in
-    get_or-word_bits_and b (2 ^ 64 - 1 - w) j few
-    ∙ ap₂ (λ u v. u && v) (get_or-before inside w b j shows few) (get_or-word_bits_not w j fits few)
-    ∙ sym (get_or-ends_of inside m j (omega (arith, length-word_bits w))))
+    ext_get_or false _ _ (grind (arith, length-word_bits, length-ends_of, get_or-word_bits_and, get_or-before, get_or-word_bits_not, get_or-ends_of)) (λ j h. grind (arith, length-word_bits, length-ends_of, get_or-word_bits_and, get_or-before, get_or-word_bits_not, get_or-ends_of))
 
 -- ---- the run that is open behind a word
 
@@ -348,11 +286,7 @@ behind-same true start n (false ∷ m) rest e = cc
 behind-same false start n (true ∷ m) rest e = cc
 
 pub behind-same_word : (inside : Bool) (start base w b : ℕ) (rest : List Bool) → word_bits b ≡ take 64 (inside ∷ word_bits w) → w ≡ b → runs_behind inside start (base + 64) rest ≡ runs_behind inside start base (word_bits w ++ rest)
-behind-same_word inside start base w b rest shows same =
-    let m : List Bool = word_bits w in
-    let len = length-word_bits w in
-    ap (λ k. runs_behind inside start (base + k) rest) (sym len)
-    ∙ behind-same inside start base m rest (ap word_bits same ∙ shows ∙ ap (λ k. take k (inside ∷ m)) (sym len))
+behind-same_word inside start base w b rest shows same = grind (arith, length-word_bits w, behind-same)
 
 -- the bits of a word, each a place further on
 get_or-first : (inside : Bool) → get_or (word_bits (bool_byte inside)) 0 false ≡ inside
@@ -365,13 +299,9 @@ get_or-others false j h = get_or-word_bits 0 (suc j) false h ∙ ap (λ n. nat_e
 
 before-bit : (inside : Bool) (w j : ℕ) → j < 64 → get_or (word_bits (bit_or (w * 2 ^ 1 % 2 ^ 64) (bool_byte inside))) j false ≡ get_or (inside ∷ word_bits w) j false
 before-bit inside w zero h =
-    get_or-word_bits_or (w * 2 ^ 1 % 2 ^ 64) (bool_byte inside) 0 h
-    ∙ ap₂ (λ u v. u || v) (get_or-word_bits_shl_low w 1 0 h (omega arith)) (get_or-first inside)
+    grind (arith, get_or-word_bits_or (w * 2 ^ 1 % 2 ^ 64) (bool_byte inside) 0 h, get_or-word_bits_shl_low w 1 0 h (omega arith), get_or-first inside)
 before-bit inside w (suc j) h =
-    let back : suc j - 1 ≡ j = omega arith in
-    get_or-word_bits_or (w * 2 ^ 1 % 2 ^ 64) (bool_byte inside) (suc j) h
-    ∙ ap₂ (λ u v. u || v) (get_or-word_bits_shl_high w 1 (suc j) h (omega arith) ∙ ap (λ i. get_or (word_bits w) i false) back) (get_or-others inside j h)
-    ∙ or-false (get_or (word_bits w) j false)
+    grind (arith, get_or-word_bits_or (w * 2 ^ 1 % 2 ^ 64) (bool_byte inside) (suc j) h, get_or-word_bits_shl_high w 1 (suc j) h (omega arith), get_or-others inside j h, or-false (get_or (word_bits w) j false))
 
 pub word_bits-before : (inside : Bool) (w : ℕ) → word_bits (bit_or (w * 2 ^ 1 % 2 ^ 64) (bool_byte inside)) ≡ take 64 (inside ∷ word_bits w)
 word_bits-before inside w =
@@ -390,10 +320,7 @@ value-same inside m zero e h = ap (λ (xs : List Bool). get_or xs 0 false) e ∙
 value-same inside m (suc k) e h = ap (λ (xs : List Bool). get_or xs (suc k) false) e ∙ get_or-take (length m) (inside ∷ m) (suc k) false h ∙ value-same inside m k e (omega arith)
 
 pub last-same_word : (inside : Bool) (w b : ℕ) → word_bits b ≡ take 64 (inside ∷ word_bits w) → w ≡ b → inside ≡ get_or (word_bits w) 63 false
-last-same_word inside w b shows same =
-    let m : List Bool = word_bits w in
-    let len = length-word_bits w in
-    sym (value-same inside m 63 (ap word_bits same ∙ shows ∙ ap (λ k. take k (inside ∷ m)) (sym len)) (omega (arith, len)))
+last-same_word inside w b shows same = grind (arith, length-word_bits, value-same)
 
 pub last_bit : (w : ℕ) → w < 2 ^ 64 → nat_eq (w / 2 ^ 63) 1 ≡ get_or (word_bits w) 63 false
 last_bit w fits = sym (last-of_word false w fits) ∙ last-is false (word_bits w) 63 (length-word_bits w)
@@ -421,13 +348,8 @@ behind-padded false start n (true ∷ m) k = runs_from-true n (m ++ repeated (su
 behind-padded false start n (false ∷ m) k = behind-padded false start (n + 1) m k
 
 pub behind-remainder : (inside : Bool) (start n : ℕ) (m : List Bool) → runs_behind inside start n (padded_remainder m) ≡ runs_behind inside start n (drop (64 * (length m / 64)) m)
-behind-remainder inside start n m =
-    let k : ℕ = 63 - length m % 64 in
-    let more : 64 - length m % 64 ≡ suc k = omega arith in
-    ap (λ j. runs_behind inside start n (drop (64 * (length m / 64)) m ++ repeated j false)) more ∙ behind-padded inside start n (drop (64 * (length m / 64)) m) k
+behind-remainder inside start n m = grind (arith, behind-padded inside start n (drop (64 * (length m / 64)) m) (63 - length m % 64))
 
 -- and its last bit is not set
 pub remainder_ends : (m : List Bool) → get_or (padded_remainder m) 63 false ≡ false
-remainder_ends m =
-    let rest : List Bool = drop (64 * (length m / 64)) m in
-    get_or-padded rest (64 - length m % 64) 63 ∙ get_or_past rest 63 false (omega (arith, length-drop (64 * (length m / 64)) m))
+remainder_ends m = grind (arith, get_or-padded, get_or_past, length-drop)

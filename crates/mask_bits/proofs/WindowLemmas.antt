@@ -12,10 +12,7 @@ use Rattle.mask_bits.proofs.Lists.Words.PaddedLemmas.{padded_part-low, padded_pa
 
 -- sixteen bytes, shifted and cut to a word, show the window
 pub word_bits-window : (bytes : List ℕ) (p : ℕ) → AreBytes bytes → word_bits (bit_and (number (take 16 (drop (p / 8) bytes)) / 2 ^ (p % 8)) 18446744073709551615) ≡ window bytes p
-word_bits-window bytes p are =
-    let w : ℕ = bit_and (number (take 16 (drop (p / 8) bytes)) / 2 ^ (p % 8)) 18446744073709551615 in
-    word_bits_from_bits w (window bytes p) (length-window bytes p) (λ j h.
-    ap (λ v. nat_eq v 1) (bit_at-window bytes p j are h) ∙ sym (get_or-window bytes p j false h))
+word_bits-window bytes p are = grind (arith, word_bits_from_bits, length-window bytes p, bit_at-window, get_or-window)
 
 -- whole word i of a buffer is the window at its first bit
 pub window-word_part : (b : Packed) (i : ℕ) → i < b.len / 64 → window b.bytes (b.offset + 64 * i) ≡ word_part (values b) i

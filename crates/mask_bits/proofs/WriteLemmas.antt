@@ -136,8 +136,7 @@ written-ones a b at n few w = written-is a b at (take n (word_bits 1844674407370
 pub written-more_ones : (a b c : List ℕ) (at n k next : ℕ) → next ≡ at + n → IsWrittenBehind a b at (repeated n true) → IsWrittenBehind b c next (repeated k true) → IsWrittenBehind a c at (repeated (n + k) true)
 unfolding repeated
 written-more_ones a b c at n k next place first second =
-    written-is a c at (replicate n true ++ replicate k true) (replicate (n + k) true) (replicate-append-replicate n k true)
-    (written-join a b c at next (replicate n true) (replicate k true) (omega (arith, length-replicate n true)) first second)
+    grind (arith, written-is a c at (replicate n true ++ replicate k true) (replicate (n + k) true) (replicate-append-replicate n k true), replicate-append-replicate n k true, written-join a b c at next (replicate n true) (replicate k true) (omega (arith, length-replicate n true)) first second, length-replicate n true)
 
 pub written-ones_clear : (a b : List ℕ) (at n next : ℕ) → next ≡ at + n → IsWrittenBehind a b at (repeated n true) → AreClearFrom next b
 written-ones_clear a b at n next place w = written-clear a b at next (repeated n true) (omega (arith, length-repeated n true)) w
@@ -174,10 +173,7 @@ pub written-more : (a b c from : List ℕ) (at offset n k next : ℕ) (m : List 
     → IsWrittenBehind a b at (values (record { bytes = from; offset = offset; len = n })) → IsWrittenBehind b c next m
     → IsWrittenBehind a c at (values (record { bytes = from; offset = offset; len = n + k }))
 written-more a b c from at offset n k next m place is first second =
-    let x : List Bool = values (record { bytes = from; offset = offset; len = n }) in
-    let y : List Bool = values (record { bytes = from; offset = offset + n; len = k }) in
-    written-is a c at (x ++ y) (values (record { bytes = from; offset = offset; len = n + k })) (values-join from offset n k)
-    (written-join a b c at next x y (omega (arith, length-values (record { bytes = from; offset = offset; len = n }))) first (written-is b c next m y is second))
+    grind (arith, written-is b c next m (values (record { bytes = from; offset = offset + n; len = k })) is second, values-join from offset n k, written-join, length-values (record { bytes = from; offset = offset; len = n }))
 
 pub written-bits_clear : (a b from : List ℕ) (at offset n next : ℕ) → next ≡ at + n → IsWrittenBehind a b at (values (record { bytes = from; offset = offset; len = n })) → AreClearFrom next b
 written-bits_clear a b from at offset n next place w =

@@ -71,8 +71,7 @@ trues-and_second (x ∷ a) [] = omega arith
 trues-and_second (x ∷ a) (y ∷ b) = grind (arith, trues-and_second a b)
 
 pub count_of_and : CountOfAnd
-count_of_and a b =
-    (omega (arith, trues-and_first a b, count-trues a, count-trues (and_of a b)), omega (arith, trues-and_second a b, count-trues b, count-trues (and_of a b)))
+count_of_and a b = grind (arith, trues-and_first, count-trues, trues-and_second)
 
 trues-and_or : (a b : List Bool) → length a ≡ length b → trues (and_of a b) + trues (or_of a b) ≡ trues a + trues b
 trues-and_or [] [] len = refl
@@ -111,5 +110,4 @@ permuted (r ∷ rows) (false ∷ m) len =
     (IsPermutation-cons r (front ++ back) rows (permuted rows m (omega arith)))
 
 pub chosen_and_the_rest : {X : Type 0} → ChosenAndTheRest X
-chosen_and_the_rest rows m len =
-    subst (λ xs. IsPermutation xs rows) (sym (ap₂ (λ xs ys. xs ++ ys) (chosen-items_where_true rows m) (chosen-items_where_true rows (not_of m)))) (permuted rows m len)
+chosen_and_the_rest rows m len = grind (arith, chosen-items_where_true, permuted)

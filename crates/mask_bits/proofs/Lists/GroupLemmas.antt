@@ -1,4 +1,5 @@
 -- How many values of a part and of a group are true, by the true places.
+use Rattle.std.proofs.lemmas.Grind.{common_steps}
 use Rattle.std.proofs.Common.{◌≡◌, ℕ, zero, suc, ◌+◌, ◌-◌, ◌*◌, ◌/◌, ◌<◌, ◌≤◌, Bool, true, false, cond, nat_eq, min, List, [], ◌∷◌, length, take, drop, slice_range, refl, sym, ap, ◌∙◌, arith}
 use Rattle.std.specs.List.{All, count_by}
 use Rattle.std.proofs.lemmas.List.Elements.{All-head, All-tail}
@@ -29,8 +30,7 @@ inside_front : (s e n k : ℕ) (m : List Bool) → s ≤ n → e ≡ n + k → i
 unfolding inside_from
 inside_front s e n zero m begins ends = none_past s e n m (omega arith)
 inside_front s e n (suc k) [] begins ends = refl
-inside_front s e n (suc k) (true ∷ m) begins ends =
-    counted (λ p. is_inside p (s, e)) n (indices_from (n + 1) m) (grind arith) ∙ ap suc (inside_front s e (n + 1) k m (omega arith) (omega arith))
+inside_front s e n (suc k) (true ∷ m) begins ends = grind (arith, common_steps, counted, inside_front s e (n + 1) k m (omega arith) (omega arith))
 inside_front s e n (suc k) (false ∷ m) begins ends = inside_front s e (n + 1) k m (omega arith) (omega arith)
 
 -- in a part of k values that begins i values further on

@@ -7,13 +7,7 @@ use Rattle.mask_bits.specs.Laws.Parts.{PartOfPart, PartOfConcat}
 use Rattle.mask_bits.specs.Positions.{repeated}
 
 pub part_of_part : PartOfPart
-part_of_part m s e t u within = elim (cases_lt u t) [
-  | inl none ↦ grind arith
-  | inr some ↦
-      let rest : e - s ≡ t + (e - s - t) = omega arith in
-      ap (λ n. take (u - t) (drop t (take n (drop s m)))) rest
-      ∙ grind (arith, drop-take t (e - s - t) (drop s m), take-take (u - t) (e - s - t) (drop t (drop s m)), drop-drop t s m)
-]
+part_of_part m s e t u within = grind (arith, drop-take t (e - s - t) (drop s m), take-take (u - t) (e - s - t) (drop t (drop s m)), drop-drop t s m)
 
 -- the values between two lists
 between-sides : (xs m ys : List Bool) → slice_range (xs ++ (m ++ ys)) (length xs) (length xs + length m) ≡ m

@@ -80,8 +80,6 @@ positions-true_at n ps ascending within = grind (arith, true_from, Rising-ascend
 -- as many places as there are are all of them
 pub positions-full : (n : ℕ) (ps : List ℕ) → IsStrictlyIncreasing ps → All (λ p. p < n) ps → length ps ≡ n → positions (repeated n true) ≡ ps
 positions-full n ps ascending within full =
-    let places : positions (true_at n ps) ≡ ps = positions-true_at n ps ascending within in
-    let all : true_at n ps ≡ repeated n true = grind (arith, all_true_from_count 0 (true_at n ps), ap length places, length-true_at n ps) in
-    sym (ap positions all) ∙ places
+    grind (arith, positions-true_at n ps ascending within, all_true_from_count 0 (true_at n ps), length-true_at n ps)
 
 pub ruleset ascending_facts = (positions-ascending)

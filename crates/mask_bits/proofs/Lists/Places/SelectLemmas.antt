@@ -59,14 +59,7 @@ indices-part m n i = grind (arith, part-split, indices_from-append, indices_from
 
 -- the places of one more started word
 pub places-word_more : (m : List Bool) (i : ℕ) → 64 * i ≤ length m → positions (take (64 * (i + 1)) m) ≡ positions (take (64 * i) m) ++ indices_from (64 * i) (padded_part m i)
-places-word_more m i within =
-    let next : 64 * (i + 1) ≡ 64 * i + 64 = omega arith in
-    let front : List Bool = take (64 * i) m in
-    let here : List Bool = take 64 (drop (64 * i) m) in
-    let len : 0 + length front ≡ 64 * i = omega (arith, length-take (64 * i) m) in
-    ap (λ n. positions (take n m)) next ∙ ap positions (take-add (64 * i) 64 m) ∙ indices_from-append 0 front here
-    ∙ ap (λ k. positions front ++ indices_from k here) len
-    ∙ ap (λ (ps : List ℕ). positions front ++ ps) (sym (indices-part m (64 * i) i))
+places-word_more m i within = grind (arith, length-take (64 * i) m, take-add (64 * i) 64 m, indices_from-append, indices-part m (64 * i) i)
 
 -- true value number n of a list is number n less those passed of the word where it stands
 pub place_in_word : (m : List Bool) (i n r p : ℕ) → 64 * i ≤ length m → n ≡ count (take (64 * i) m) + r → r < count (padded_part m i) → slice_get (positions (padded_part m i)) r ≡ Some p
@@ -95,21 +88,11 @@ place_none m i n r past number = grind (arith, slice_get_past, take_all)
 
 pub positions-lowest : (w : ℕ) → 0 < w → w < 2 ^ 64 → positions (word_bits w) ≡ low w ∷ positions (word_bits (bit_and w (w - 1)))
 positions-lowest w some fits =
-    let v : ℕ = bit_and w (w - 1) in
-    let few = low-within w some fits in
-    places-step (word_bits w) (word_bits v) (low w) (omega (arith, length-word_bits w)) (length-word_bits v ∙ sym (length-word_bits w))
-    (λ i h. grind (arith, get_or-word_bits w i false, low-first w i some fits h))
-    (grind (arith, get_or-word_bits w (low w) false, low-set w some fits))
-    (λ i h. grind (arith, get_or-word_bits v i false, bit_at-lowest_cleared w i some fits h))
-    (λ i h. grind (arith, get_or-word_bits, bit_at-lowest_others w i some fits h, get_or_past, length-word_bits))
+    grind (arith, low-within w some fits, places-step, low w, length-word_bits w, length-word_bits (bit_and w (w - 1)), get_or-word_bits, get_or-word_bits w (low w) false, low-first, low-set w some fits, bit_at-lowest_cleared, bit_at-lowest_others, get_or_past)
 
 -- the places of a word that stands n further on
 pub places-lowest : (n w : ℕ) → 0 < w → w < 2 ^ 64 → indices_from n (word_bits w) ≡ (n + low w) ∷ indices_from n (word_bits (bit_and w (w - 1)))
-places-lowest n w some fits =
-    let moved : (v : ℕ) → indices_from n (word_bits v) ≡ map (λ p. n + p) (positions (word_bits v))
-    = λ v. ap (λ k. indices_from k (word_bits v)) (sym (add-zero n)) ∙ indices_from-moved n 0 (word_bits v) in
-    moved w ∙ ap (map (λ p. n + p)) (positions-lowest w some fits)
-    ∙ ap (λ (ps : List ℕ). (n + low w) ∷ ps) (sym (moved (bit_and w (w - 1))))
+places-lowest n w some fits = grind (arith, add-zero n, indices_from-moved, positions-lowest w some fits, low w)
 
 -- a word of which some places are left is not 0
 pub some_left : (w k : ℕ) (ps : List ℕ) → w < 2 ^ 64 → positions (word_bits w) ≡ drop k ps → k < length ps → 0 < w
@@ -121,8 +104,7 @@ left-more w k ps fits left h = ap (drop 1) (sym (positions-lowest w (some_left w
 
 pub left-first : (w k : ℕ) (ps : List ℕ) → w < 2 ^ 64 → positions (word_bits w) ≡ drop k ps → k < length ps → slice_get ps k ≡ Some (low w)
 left-first w k ps fits left h =
-    let first : drop k ps ≡ low w ∷ positions (word_bits (bit_and w (w - 1))) = sym left ∙ positions-lowest w (some_left w k ps fits left h) fits in
-    slice_get-get_or ps k 0 h ∙ ap Some (ap (λ i. get_or ps i 0) (sym (add-zero k)) ∙ sym (get_or-drop k ps 0 0) ∙ ap (λ (xs : List ℕ). get_or xs 0 0) first)
+    grind (arith, low, positions-lowest w (some_left w k ps fits left h) fits, some_left w k ps fits left h, slice_get-get_or ps k 0 h, add-zero k, get_or-drop k ps 0 0)
 
 -- ---- the last true value
 
@@ -150,11 +132,7 @@ last_none m n none = ap (λ (ps : List ℕ). slice_get ps n) (no_index m 0 none)
 -- the highest set bit of a word that is not 0
 pub high : (w : ℕ) → 0 < w → w < 2 ^ 64 → (leading_zeros w64 w < 64) × (bit_at w (63 - leading_zeros w64 w) ≡ 1) × ((i : ℕ) → 63 - leading_zeros w64 w < i → bit_at w i ≡ 0)
 high w some fits =
-    let top = leading_top 64 w some fits in
-    let j : ℕ = top.0 in
-    let place : 63 - leading_zeros w64 w ≡ j = omega (arith, top.1) in
-    let set : bit_at (1 * 2 ^ j + (w - 2 ^ j)) j ≡ 1 = grind (arith, bit_at_cat_high 1 j (w - 2 ^ j) j, top.2, top.3, pow-suc 2 j, bit_at_lowest 1) in
-    (omega (arith, top.1), grind (arith, place, set, top.2), λ i h. bit_at_above w (suc j) i top.3 (omega arith))
+    grind (arith, leading_top 64 w some fits, bit_at_cat_high 1 (leading_top 64 w some fits).0 (w - 2 ^ (leading_top 64 w some fits).0) (leading_top 64 w some fits).0, pow-suc 2 (leading_top 64 w some fits).0, bit_at_lowest 1, bit_at_above)
 
 -- the last true value of a list, in the last started word that has one
 pub last_in_word : (m : List Bool) (i w : ℕ) → 0 < w → w < 2 ^ 64 → word_bits w ≡ padded_part m i → ((p : ℕ) → 64 * (i + 1) ≤ p → get_or m p false ≡ false)

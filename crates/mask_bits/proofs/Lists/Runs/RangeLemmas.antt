@@ -14,8 +14,7 @@ use Rattle.mask_bits.proofs.Lists.Runs.RunLemmas.{inside, inside-past}
 -- a part whose values are all v
 pub part_of_one : (m : List Bool) (v : Bool) (s e : ℕ) → e ≤ length m → ((i : ℕ) → s ≤ i → i < e → get_or m i false ≡ v) → slice_range m s e ≡ repeated (e - s) v
 part_of_one m v s e within same =
-    ext_get_or false (slice_range m s e) (repeated (e - s) v) (grind (arith, length-between m s e within, length-repeated)) (λ i h.
-    grind (arith, length-between m s e within, get_or-between m s e i false, same (s + i), get_or-repeated (e - s) i v false))
+    ext_get_or false _ _ (grind (arith, length-between, length-repeated, get_or-between, get_or-repeated)) (λ j h. grind (arith, length-between, length-repeated, get_or-between, get_or-repeated))
 
 -- nonempty ranges from low to high, each after the one before it
 abbrev pub Ordered : ℕ → ℕ → List (ℕ × ℕ) → Type 0
@@ -35,9 +34,7 @@ none_below low high i (r ∷ rs) o h = grind (arith, none_below r.1 high i rs o.
 from_place : (m : List Bool) (low : ℕ) (rs : List (ℕ × ℕ)) → Ordered low (length m) rs
     → ((i : ℕ) → low ≤ i → i < length m → get_or m i false ≡ list_any (is_inside i) rs) → sum_by (λ r. r.1 - r.0) rs ≡ count (drop low m)
 from_place m low [] o exact =
-    let none = ap count (part_of_one m false low (length m) (omega arith) (λ i from h. exact i from h)) ∙ count-repeated_false (length m - low) in
-    let split = ap count (drop_split m low (length m) o) ∙ count-append (slice_range m low (length m)) (drop (length m) m) in
-    omega (arith, none, split, ap count (drop_all (length m) m (omega arith)))
+    grind (arith, part_of_one, count-repeated_false (length m - low), drop_split m low (length m) o, count-append (slice_range m low (length m)) (drop (length m) m), drop_all (length m) m (omega arith))
 from_place m low (r ∷ rs) o exact =
     let top = Ordered-top r.1 (length m) rs o.2 in
     let gap = ap count (part_of_one m false low r.0 (omega (arith, o.1, top)) (λ i from h. grind (arith, exact i from, o.1, top, none_below r.0 (length m) i (r ∷ rs) (omega arith, o.1, o.2) h))) ∙ count-repeated_false (r.0 - low) in

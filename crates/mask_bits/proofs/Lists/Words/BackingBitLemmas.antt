@@ -29,8 +29,7 @@ pub backing_bit-drop : (bytes : List ℕ) (k p : ℕ) → backing_bit (drop k by
 backing_bit-drop bytes k p = grind (arith, get_or-drop)
 
 pub bitmap-drop : (bytes : List ℕ) (k n : ℕ) → bitmap (drop k bytes) 0 n ≡ bitmap bytes (8 * k) n
-bitmap-drop bytes k n =
-    values_from_front (drop k bytes) (bitmap bytes (8 * k) n) n (length-bitmap bytes (8 * k) n) (λ j h. backing_bit-drop bytes k j ∙ sym (get_or-bitmap bytes (8 * k) n j false h))
+bitmap-drop bytes k n = grind (arith, values_from_front, length-bitmap bytes (8 * k) n, backing_bit-drop, get_or-bitmap)
 
 -- a word cut to its low bits shows those bits alone
 pub word_bits-low : (bytes : List ℕ) (p n w : ℕ) → n ≤ 64 → word_bits w ≡ window bytes p → word_bits (bit_and w (2 ^ n - 1)) ≡ bitmap bytes p n ++ repeated (64 - n) false
@@ -67,11 +66,7 @@ no_values bytes p = nil_from_length (bitmap bytes p 0) (length-bitmap bytes p 0)
 -- the values of whole words, and those past them
 pub bitmap-split : (bytes : List ℕ) (offset len : ℕ)
     → bitmap bytes offset len ≡ bitmap bytes offset (64 * (len / 64)) ++ bitmap bytes (offset + 64 * (len / 64)) (len % 64)
-bitmap-split bytes offset len =
-    let parts : len ≡ 64 * (len / 64) + len % 64 = omega arith in
-    ap (bitmap bytes offset) parts ∙ bitmap-append bytes offset (64 * (len / 64)) (len % 64)
+bitmap-split bytes offset len = grind (arith, bitmap-append)
 
 pub front-split : (bytes : List ℕ) (len : ℕ) → bitmap bytes 0 len ≡ bitmap bytes 0 (64 * (len / 64)) ++ bitmap bytes (64 * (len / 64)) (len % 64)
-front-split bytes len =
-    let place : 0 + 64 * (len / 64) ≡ 64 * (len / 64) = omega arith in
-    bitmap-split bytes 0 len ∙ ap (λ p. bitmap bytes 0 (64 * (len / 64)) ++ bitmap bytes p (len % 64)) place
+front-split bytes len = grind (arith, bitmap-split)

@@ -30,12 +30,7 @@ count-bits_more ws j h = ap count (bits_of_words-more ws j h) ∙ count-append (
 
 pub indices-bits_more : (ws : List ℕ) (base next j : ℕ) → j < length ws → next ≡ base + 64
     → indices_from base (bits_of_words (drop j ws)) ≡ indices_from base (word_bits (get_or ws j 0)) ++ indices_from next (bits_of_words (drop (j + 1) ws))
-indices-bits_more ws base next j h is =
-    let here : List Bool = word_bits (get_or ws j 0) in
-    let rest : List Bool = bits_of_words (drop (j + 1) ws) in
-    let behind : base + length here ≡ next = omega (arith, is, length-word_bits (get_or ws j 0)) in
-    ap (indices_from base) (bits_of_words-more ws j h) ∙ indices_from-append base here rest
-    ∙ ap (λ k. indices_from base here ++ indices_from k rest) behind
+indices-bits_more ws base next j h is = grind (arith, length-word_bits, bits_of_words-more, indices_from-append)
 
 -- words that show a list from word k on up to value n
 words-shown : (m : List Bool) (k j n w : ℕ) (ws : List ℕ) → j ≡ k + 1 → word_bits w ≡ word_part m k → bits_of_words ws ++ drop n m ≡ drop (64 * j) m → bits_of_words (w ∷ ws) ++ drop n m ≡ drop (64 * k) m
@@ -88,15 +83,11 @@ indices-none n bits none = nil_from_length (indices_from n bits) (length-indices
 -- a block without true values adds none
 pub block-none : (m bits : List Bool) (i : ℕ) → 256 * i + 256 ≤ length m → bits ≡ slice_range m (256 * i) (256 * i + 256) → count bits ≡ 0
     → positions (take (256 * (i + 1)) m) ≡ positions (take (256 * i) m)
-block-none m bits i within is none =
-    block-more m bits i within is
-    ∙ ap (λ (ps : List ℕ). positions (take (256 * i) m) ++ ps) (indices-none (64 * (4 * i)) bits none)
-    ∙ append-nil (positions (take (256 * i) m))
+block-none m bits i within is none = grind (arith, block-more m bits i within is, indices-none (64 * (4 * i)) bits none, append-nil)
 
 -- the true values of a part are among all
 pub count-part_le : (m : List Bool) (s n : ℕ) → count (take s m) + count (slice_range m s (s + n)) ≤ count m
-count-part_le m s n =
-    omega (arith, count-part_further m s n, count-append (take (s + n) m) (drop (s + n) m), ap count (take-append-drop (s + n) m))
+count-part_le m s n = grind (arith, count-part_further m s n, count-append (take (s + n) m) (drop (s + n) m), take-append-drop (s + n) m)
 
 no_bits : (w : ℕ) → w ≡ 0 → count (word_bits w) ≡ 0
 no_bits w none = ap (λ v. count (word_bits v)) none ∙ ap length (indices-of_none 0)
@@ -107,22 +98,7 @@ zero_by_test n is = grind (arith, nat_tests)
 -- no bit is set in four words that together have none
 pub none-in_block : (ws : List ℕ) → length ws ≡ 4 → not (nat_eq (bit_or (bit_or (bit_or (get_or ws 0 0) (get_or ws 1 0)) (get_or ws 2 0)) (get_or ws 3 0)) 0) ≡ false → count (bits_of_words ws) ≡ 0
 none-in_block ws len is =
-    let w : ℕ → ℕ = λ j. get_or ws j 0 in
-    let three = (none-or (bit_or (bit_or (w 0) (w 1)) (w 2)) (w 3)).0 (zero_by_test _ is) in
-    let two = (none-or (bit_or (w 0) (w 1)) (w 2)).0 three.0 in
-    let one = (none-or (w 0) (w 1)).0 two.0 in
-    omega (
-      arith,
-      count-bits_more ws 0 (omega (arith, len)),
-      count-bits_more ws 1 (omega (arith, len)),
-      count-bits_more ws 2 (omega (arith, len)),
-      count-bits_more ws 3 (omega (arith, len)),
-      ap (λ xs. count (bits_of_words xs)) (drop_all 4 ws (omega (arith, len))),
-      no_bits (w 0) one.0,
-      no_bits (w 1) one.1,
-      no_bits (w 2) two.1,
-      no_bits (w 3) three.1,
-    )
+    grind (arith, none-or, zero_by_test _ is, count-bits_more ws 0 (omega (arith, len)), count-bits_more ws 1 (omega (arith, len)), count-bits_more ws 2 (omega (arith, len)), count-bits_more ws 3 (omega (arith, len)), drop_all 4 ws (omega (arith, len)), no_bits)
 
 -- those past the whole words are the last
 pub rest-more : (m bits : List Bool) (items : List ℕ) (i : ℕ) → i ≡ length m / 64 → items ≡ positions (take (64 * (length m / 64)) m) → bits ≡ padded_remainder m

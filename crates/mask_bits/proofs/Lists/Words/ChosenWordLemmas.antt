@@ -8,10 +8,7 @@ use Rattle.mask_bits.proofs.Lists.RowLemmas.{chosen_of_two_chunks}
 pub chosen-part_more : {X : Type 0} (rows : List X) (m : List Bool) (n e : ℕ) → length rows ≡ length m → n ≤ e
     → chosen (take n rows) (take n m) ++ chosen (slice_range rows n e) (slice_range m n e) ≡ chosen (take e rows) (take e m)
 chosen-part_more {X} rows m n e len h =
-    let same : length (take n rows) ≡ length (take n m) = omega (arith, length-take n rows, length-take n m, len) in
-    let sum : n + (e - n) ≡ e = omega arith in
-    sym (chosen_of_two_chunks (take n rows) (slice_range rows n e) (take n m) (slice_range m n e) same)
-    ∙ ap₂ chosen (sym (take-add n (e - n) rows)) (sym (take-add n (e - n) m)) ∙ ap (λ k. chosen (take k rows) (take k m)) sum
+    grind (arith, length-take n rows, length-take n m, chosen_of_two_chunks, take-add n (e - n) rows, take-add n (e - n) m)
 
 -- no rows choose nothing
 pub chosen-none : chosen {X = Bool} [] [] ≡ []

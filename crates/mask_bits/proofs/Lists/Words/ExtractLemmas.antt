@@ -1,4 +1,5 @@
 -- The bits of a word at the set places of another, one by one and as a list.
+use Rattle.std.proofs.lemmas.Grind.{common_steps}
 use Rattle.std.proofs.Common.{◌≡◌, ◌≢◌, ◌⊎◌, inl, inr, refl, subst, bit_and, bit_or, bit_xor, ℕ, zero, suc, ◌+◌, ◌*◌, ◌-◌, ◌/◌, ◌%◌, ◌^◌, ◌<◌, ◌≤◌, ◌↔◌, Bool, true, false, nat_eq, List, [], ◌∷◌, ◌++◌, length, get_or, take, drop, sym, ap, ◌∙◌, arith}
 use Rattle.std.specs.Int.{bit_at}
 use Rattle.std.specs.List.{items_where_true}
@@ -73,19 +74,11 @@ extracted-above s m r k is few h =
 
 pub extract_is_chosen_values : ExtractIsChosenValues
 extract_is_chosen_values s m r is =
-    let front : List Bool = chosen (word_bits s) (word_bits m) in
-    let n : ℕ = count (word_bits m) in
-    let rest : List Bool = repeated (64 - n) false in
-    let len : length front ≡ n = length-chosen_bits s m in
-    ext_get_or false (word_bits r) (front ++ rest) (omega (arith, length-word_bits r, length-append front rest, length-repeated (64 - n) false, len, count-of_word m)) (λ k h.
-    grind (arith, length-word_bits r, len, extracted-value s m r k is, extracted-above s m r k is, get_or_append_left front rest false k, get_or-append_right front rest n k false len, get_or-repeated (64 - n) (k - n) false false))
+    ext_get_or false _ _ (grind (arith, length-chosen_bits, length-word_bits, length-append, length-repeated, count-of_word, extracted-value, extracted-above, get_or_append_left, get_or-append_right, get_or-repeated)) (λ j h. grind (arith, length-chosen_bits, length-word_bits, length-append, length-repeated, count-of_word, extracted-value, extracted-above, get_or_append_left, get_or-append_right, get_or-repeated))
 
 -- as many values of it as the mask has true ones are those that the mask chooses
 pub take-extracted : (s m r : ℕ) → Extracts s m r → take (count (word_bits m)) (word_bits r) ≡ chosen (word_bits s) (word_bits m)
-take-extracted s m r is =
-    let front : List Bool = chosen (word_bits s) (word_bits m) in
-    let n : ℕ = count (word_bits m) in
-    grind (arith, extract_is_chosen_values s m r is, take-append-le n front (repeated (64 - n) false), take_all n front, length-chosen_bits s m)
+take-extracted s m r is = grind (arith, extract_is_chosen_values, take-append-le, take_all, length-chosen_bits)
 
 -- ---- one set place after another
 
@@ -107,9 +100,7 @@ IsExtractedTo-some s m left n r some fits is = omega (arith, ap length is.places
 
 -- a bit put at place n
 placed_there : (b n k : ℕ) → b < 2 → k < 64 → k ≡ n → bit_at (b * 2 ^ n % 2 ^ 64) k ≡ b
-placed_there b n k h few e =
-    let none : k - n ≡ 0 = omega arith in
-    bit_at-mod (b * 2 ^ n) 64 k few ∙ bit_at-shl_high b n k (omega arith) ∙ ap (bit_at b) none ∙ omega (arith, bit_at_lowest b)
+placed_there b n k h few e = grind (arith, common_steps, bit_at-mod, bit_at-shl_high, bit_at_lowest)
 
 placed_elsewhere : (b n k : ℕ) → b < 2 → k < 64 → (k < n) ⊎ (n < k) → bit_at (b * 2 ^ n % 2 ^ 64) k ≡ 0
 placed_elsewhere b n k h few (inl below) = bit_at-mod (b * 2 ^ n) 64 k few ∙ bit_at-shl_low b n k below
@@ -119,20 +110,7 @@ placed_elsewhere b n k h few (inr above) =
 -- one more bit of those at some places
 more_bit : (ps : List ℕ) (s r x n k : ℕ) → (bit_at r k ≡ 1) ↔ ((k < n) × (bit_at s (get_or ps k 0) ≡ 1)) → (k ≡ n → bit_at x k ≡ bit_at s (get_or ps n 0)) → ((k < n) ⊎ (n < k) → bit_at x k ≡ 0)
     → (bit_at (bit_or r x) k ≡ 1) ↔ ((k < n + 1) × (bit_at s (get_or ps k 0) ≡ 1))
-more_bit ps s r x n k old new others = elim (cases_lt k n) [
-  | inl below ↦
-      let same : bit_at (bit_or r x) k ≡ bit_at r k = omega (arith, bit_at_or r x k, others (inl below)) in
-      (λ set. (omega arith, (old.0 (sym same ∙ set)).1), λ set. same ∙ old.1 (below, set.1))
-  | inr from ↦ elim (cases_lt n k) [
-    | inl above ↦
-        (λ set. absurd (omega (arith, (old.0 (omega (arith, bit_at_or r x k, others (inr above), set, bit_at-lt r k))).0)), λ set. absurd (omega (arith, set.0)))
-    | inr at ↦
-        let e : k ≡ n = omega arith in
-        let none : bit_at r k ≢ 1 = λ set. omega (arith, (old.0 set).0) in
-        let same : bit_at (bit_or r x) k ≡ bit_at s (get_or ps k 0) = omega (arith, bit_at_or r x k, bit_at-lt r k, none, new e, ap (λ i. bit_at s (get_or ps i 0)) e) in
-        (λ set. (omega arith, sym same ∙ set), λ set. same ∙ set.1)
-  ]
-]
+more_bit ps s r x n k old new others = grind (arith, bit_at_or, bit_at-lt)
 
 pub IsExtractedTo-more : (s m left n r : ℕ) → 0 < left → left < 2 ^ 64 → IsExtractedTo s m left n r
     → IsExtractedTo s m (bit_and left (left - 1)) (n + 1) (bit_or r (bit_and (s / 2 ^ low left) 1 * 2 ^ n % 2 ^ 64))
@@ -153,16 +131,11 @@ IsExtractedTo-more s m left n r some fits is =
 -- ---- at most two set places
 
 nothing_yet : (s m : ℕ) → IsExtractedTo s m m 0 0
-nothing_yet s m = record {
-  places = refl;
-  within = omega arith;
-  bits = λ k h. (λ set. absurd (omega (arith, set, bit_at-zero k)), λ set. absurd (omega (arith, set.0)));
-}
+nothing_yet s m = grind arith
 
 next_bit : (s m left n r x : ℕ) → 0 < left → left < 2 ^ 64 → (0 < left → x ≡ s / 2 ^ low left % 2) → IsExtractedTo s m left n r
     → IsExtractedTo s m (bit_and left (left - 1)) (n + 1) (bit_or r (x * 2 ^ n % 2 ^ 64))
-next_bit s m left n r x some fits x_is is =
-    subst (λ b. IsExtractedTo s m (bit_and left (left - 1)) (n + 1) (bit_or r (b * 2 ^ n % 2 ^ 64))) (and_mask (s / 2 ^ low left) 1 ∙ sym (x_is some)) (IsExtractedTo-more s m left n r some fits is)
+next_bit s m left n r x some fits x_is is = grind (arith, and_mask (s / 2 ^ low left) 1, low left, IsExtractedTo-more s m left n r some fits is)
 
 ended : (s m left n r x : ℕ) → left ≡ 0 → r ≡ x → IsExtractedTo s m left n r → Extracts s m x
 ended s m left n r x e same is = subst (Extracts s m) same (Extracts-all s m n r (subst (λ l. IsExtractedTo s m l n r) e is))

@@ -75,9 +75,7 @@ get_or-front bytes n p d h = grind (arith, get_or-values)
 -- bytes that agree on their first bits have one front
 pub front-same : (old new : List ℕ) (n : ℕ) → ((p : ℕ) → p < n → backing_bit new p ≡ backing_bit old p)
     → values (record { bytes = new; offset = 0; len = n }) ≡ values (record { bytes = old; offset = 0; len = n })
-front-same old new n same =
-    let b : Packed = record { bytes = old; offset = 0; len = n } in
-    values_from_front new (values b) n (length-values b) (λ p h. same p h ∙ sym (get_or-front old n p false h))
+front-same old new n same = grind (arith, values_from_front, length-values (record { bytes = old; offset = 0; len = n }), get_or-front)
 
 -- the front of one more whole word
 pub front-more_word : (bytes : List ℕ) (i : ℕ) → values (record { bytes = bytes; offset = 0; len = 64 * (i + 1) }) ≡ values (record { bytes = bytes; offset = 0; len = 64 * i }) ++ window bytes (64 * i)
@@ -101,9 +99,7 @@ values-join bytes o n k =
 
 -- the first values of a window
 pub window-take : (bytes : List ℕ) (p n : ℕ) → n ≤ 64 → take n (window bytes p) ≡ values (record { bytes = bytes; offset = p; len = n })
-window-take bytes p n few =
-    sym (values_from_bits (record { bytes = bytes; offset = p; len = n }) (take n (window bytes p)) (omega (arith, length-take n (window bytes p), length-window bytes p)) (λ i h.
-    grind (arith, get_or-take n (window bytes p) i false h, get_or-window bytes p i false)))
+window-take bytes p n few = grind (arith, values_from_bits, length-take n (window bytes p), length-window bytes p, get_or-take, get_or-window)
 
 -- all of it
 pub window-whole : (bytes : List ℕ) (p : ℕ) → window bytes p ≡ values (record { bytes = bytes; offset = p; len = 64 })
@@ -112,11 +108,7 @@ window-whole bytes p = refl
 
 -- a window past the first bytes
 pub window-drop : (bytes : List ℕ) (k p q : ℕ) → 8 * k + p ≡ q → window (drop k bytes) p ≡ window bytes q
-window-drop bytes k p q place =
-    window_from_bits (drop k bytes) p (window bytes q) (length-window bytes q) (λ j h.
-    let byte : (q + j) / 8 ≡ k + (p + j) / 8 = omega arith in
-    let bit : (q + j) % 8 ≡ (p + j) % 8 = omega arith in
-    grind (arith, get_or-window bytes q j false h, get_or-drop k bytes ((p + j) / 8) 0))
+window-drop bytes k p q place = grind (arith, window_from_bits, length-window bytes q, get_or-window, get_or-drop)
 
 pub ruleset whole_words = (word_bits-first_chunk)
 
@@ -124,15 +116,11 @@ pub ruleset whole_words = (word_bits-first_chunk)
 
 -- the values before them stay
 pub put-before : (old ys : List ℕ) (w k : ℕ) → 8 * w ≤ length old → bitmap (put_mid (8 * w) k old ys) 0 (64 * w) ≡ bitmap old 0 (64 * w)
-put-before old ys w k begins =
-    front-same old (put_mid (8 * w) k old ys) (64 * w) (λ p h.
-    ap (λ x. nat_eq (bit_at x (p % 8)) 1) (get_or-put_mid_below (8 * w) k old ys (p / 8) begins (omega arith)))
+put-before old ys w k begins = grind (arith, front-same, get_or-put_mid_below)
 
 -- what is behind a later place is as it was, where it is behind this one
 pub behind-further : (xs old : List ℕ) (at k : ℕ) → drop at xs ≡ drop at old → drop (at + k) xs ≡ drop (at + k) old
 behind-further xs old at k same = sym (drop-drop k at xs) ∙ ap (drop k) same ∙ drop-drop k at old
 
 pub behind-later : (xs old : List ℕ) (at later : ℕ) → at ≤ later → drop at xs ≡ drop at old → drop later xs ≡ drop later old
-behind-later xs old at later after same =
-    let place : at + (later - at) ≡ later = omega arith in
-    subst (λ n. drop n xs ≡ drop n old) place (behind-further xs old at (later - at) same)
+behind-later xs old at later after same = grind (arith, behind-further xs old at (later - at) same)

@@ -23,10 +23,7 @@ ones_in (suc n) mask = mask % 2 + ones_in n (mask / 2)
 -- ---- one place more
 
 cases_bit : (m : ℕ) → (m % 2 ≡ 0) ⊎ (m % 2 ≡ 1)
-cases_bit m = elim (cases_lt 0 (m % 2)) [
-  | inl on ↦ inr (omega arith)
-  | inr off ↦ inl (omega arith)
-]
+cases_bit m = grind arith
 
 -- of a clear place nothing comes
 pub gathered-clear : (n s m : ℕ) → m % 2 ≡ 0 → gathered (suc n) s m ≡ gathered n (s / 2) (m / 2)
@@ -56,32 +53,21 @@ ones_in-le (suc n) m = omega (arith, ones_in-le n (m / 2))
 
 pub gathered-lt : (n s m : ℕ) → gathered n s m < 2 ^ ones_in n m
 gathered-lt zero s m = omega (arith, gathered-none s m)
-gathered-lt (suc n) s m = elim (cases_bit m) [
-  | inl off ↦ omega (arith, gathered-clear n s m off, gathered-lt n (s / 2) (m / 2), ap (λ k. 2 ^ k) (ones_in-clear n m off))
-  | inr on ↦ omega (arith, gathered-set n s m on, gathered-lt n (s / 2) (m / 2), ap (λ k. 2 ^ k) (ones_in-bit n m 1 on), pow-add 2 1 (ones_in n (m / 2)))
-]
+gathered-lt (suc n) s m = grind (arith, cases_bit, gathered-clear, ones_in-clear, gathered-set, ones_in-bit, pow-add, gathered-lt n (s / 2) (m / 2))
 
 -- ---- by parts
 
 half_more : (x a : ℕ) → x / 2 / 2 ^ a ≡ x / 2 ^ suc a
-half_more x a =
-    let e : 1 + a ≡ suc a = omega arith in
-    shr-shr x 1 a ∙ ap (λ k. x / 2 ^ k) e
+half_more x a = grind (arith, shr-shr x 1 a)
 
 pub ones_in-join : (a b m : ℕ) → ones_in (a + b) m ≡ ones_in a m + ones_in b (m / 2 ^ a)
-ones_in-join zero b m =
-    let e : zero + b ≡ b = omega arith in
-    let own : m / 2 ^ 0 ≡ m = omega arith in
-    ap (λ k. ones_in k m) e ∙ omega (arith, ap (ones_in b) own)
+ones_in-join zero b m = grind arith
 ones_in-join (suc a) b m =
     let e : suc a + b ≡ suc (a + b) = omega arith in
     ap (λ k. ones_in k m) e ∙ omega (arith, ones_in-join a b (m / 2), ap (ones_in b) (half_more m a))
 
 pub gathered-join : (a b s m : ℕ) → gathered (a + b) s m ≡ gathered a s m + 2 ^ ones_in a m * gathered b (s / 2 ^ a) (m / 2 ^ a)
-gathered-join zero b s m =
-    let e : zero + b ≡ b = omega arith in
-    let own : (x : ℕ) → x / 2 ^ 0 ≡ x = λ x. omega arith in
-    ap (λ k. gathered k s m) e ∙ omega (arith, gathered-none s m, ap₂ (gathered b) (own s) (own m))
+gathered-join zero b s m = grind (arith, gathered-none)
 gathered-join (suc a) b s m =
     let e : suc a + b ≡ suc (a + b) = omega arith in
     let rest : ℕ = gathered b (s / 2 ^ suc a) (m / 2 ^ suc a) in
@@ -99,34 +85,20 @@ gathered-join (suc a) b s m =
 -- ---- of a byte alone, and of the source's bits at the mask alone
 
 half_low : (x n : ℕ) → x % 2 ^ suc n / 2 ≡ x / 2 % 2 ^ n
-half_low x n =
-    let e : n + 1 ≡ suc n = omega arith in
-    ap (λ k. x % 2 ^ k / 2) (sym e) ∙ field x n 1
+half_low x n = grind (arith, field x n 1)
 
 same_lowest : (x n : ℕ) → x % 2 ^ suc n % 2 ≡ x % 2
-same_lowest x n =
-    let e : n + 1 ≡ suc n = omega arith in
-    ap (λ k. x % 2 ^ k % 2) (sym e) ∙ mod-mod-pow x n 1
+same_lowest x n = grind (arith, mod-mod-pow x n 1)
 
 -- only the lowest n places are looked at
 pub gathered-low : (n s m : ℕ) → gathered n (s % 2 ^ n) (m % 2 ^ n) ≡ gathered n s m
 gathered-low zero s m = gathered-none (s % 1) (m % 1) ∙ sym (gathered-none s m)
-gathered-low (suc n) s m =
-    let rest : gathered n (s % 2 ^ suc n / 2) (m % 2 ^ suc n / 2) ≡ gathered n (s / 2) (m / 2) = ap₂ (gathered n) (half_low s n) (half_low m n) ∙ gathered-low n (s / 2) (m / 2) in
-    elim (cases_bit m) [
-      | inl off ↦ gathered-clear n (s % 2 ^ suc n) (m % 2 ^ suc n) (same_lowest m n ∙ off) ∙ rest ∙ sym (gathered-clear n s m off)
-      | inr on ↦ gathered-set n (s % 2 ^ suc n) (m % 2 ^ suc n) (same_lowest m n ∙ on) ∙ ap₂ (λ b r. b + 2 * r) (same_lowest s n) rest ∙ sym (gathered-set n s m on)
-    ]
+gathered-low (suc n) s m = grind (arith, half_low, cases_bit, gathered-clear, same_lowest, gathered-set, gathered-low n (s / 2) (m / 2))
 
 pub gathered-and : (n s m : ℕ) → gathered n (bit_and s m) m ≡ gathered n s m
 gathered-and zero s m = gathered-none (bit_and s m) m ∙ sym (gathered-none s m)
 gathered-and (suc n) s m =
-    let rest : gathered n (bit_and s m / 2) (m / 2) ≡ gathered n (s / 2) (m / 2) = ap (λ x. gathered n x (m / 2)) (and_shr s m 1) ∙ gathered-and n (s / 2) (m / 2) in
-    let lowest : bit_and s m % 2 ≡ min (s % 2) (m % 2) = omega (arith, bit_at_and s m 0, bit_at_lowest (bit_and s m), bit_at_lowest s, bit_at_lowest m) in
-    elim (cases_bit m) [
-      | inl off ↦ gathered-clear n (bit_and s m) m off ∙ rest ∙ sym (gathered-clear n s m off)
-      | inr on ↦ gathered-set n (bit_and s m) m on ∙ omega (arith, lowest, on, rest) ∙ sym (gathered-set n s m on)
-    ]
+    grind (arith, and_shr s m 1, bit_at_and s m 0, bit_at_lowest (bit_and s m), bit_at_lowest s, bit_at_lowest m, cases_bit m, gathered-clear, gathered-set, gathered-and n (s / 2) (m / 2))
 
 -- ---- a byte that closes up, place by place
 
@@ -135,21 +107,13 @@ abbrev pub closed_from : ℕ → ℕ → ℕ → ℕ
 closed_from p mask bits = gathered (8 - p) (bits / 2 ^ p) (mask / 2 ^ p) * 2 ^ p + bits % 2 ^ p
 
 pub closed_from-top : (m b : ℕ) → b < 256 → (bit_at m 7 ≡ 0 → bit_at b 7 ≡ 0) → closed_from 7 m b ≡ b
-closed_from-top m b small free =
-    let rest = gathered-none (b / 2 ^ 7 / 2) (m / 2 ^ 7 / 2) in
-    elim (cases_bit (m / 2 ^ 7)) [
-      | inl off ↦ omega (arith, gathered-clear 0 (b / 2 ^ 7) (m / 2 ^ 7) off, rest, free off)
-      | inr on ↦ omega (arith, gathered-set 0 (b / 2 ^ 7) (m / 2 ^ 7) on, rest)
-    ]
+closed_from-top m b small free = grind (arith, gathered-none, cases_bit, gathered-clear, gathered-set)
 
 pub closed_from-all : (m b : ℕ) → closed_from 0 m b ≡ gathered 8 b m
-closed_from-all m b =
-    let own : (x : ℕ) → x / 2 ^ 0 ≡ x = λ x. omega arith in
-    omega (arith, ap₂ (gathered 8) (own b) (own m))
+closed_from-all m b = grind arith
 
 pub closed_from-free : (p m b : ℕ) → (bit_at m p ≡ 0 → bit_at b p ≡ 0) → bit_at m p ≡ 0 → bit_at (closed_from (p + 1) m b) p ≡ 0
-closed_from-free p m b free off =
-    bit_at_cat_low (gathered (8 - (p + 1)) (b / 2 ^ (p + 1)) (m / 2 ^ (p + 1))) (p + 1) (b % 2 ^ (p + 1)) p (omega arith) ∙ bit_at-mod b (p + 1) p (omega arith) ∙ free off
+closed_from-free p m b free off = grind (arith, bit_at_cat_low, bit_at-mod)
 
 module _ (p m b : ℕ) (h : p < 7) where
   abbrev upper : ℕ
@@ -165,9 +129,7 @@ module _ (p m b : ℕ) (h : p < 7) where
   next = omega arith
 
   last : b % 2 ^ (p + 1) ≡ bit_at b p * 2 ^ p + b % 2 ^ p
-  last =
-      let e : 1 + p ≡ p + 1 = omega arith in
-      ap (λ k. b % 2 ^ k) (sym e) ∙ mod-pow-add b 1 p
+  last = grind (arith, mod-pow-add b 1 p)
 
   -- as the place's bit and those above it
   parts : closed_from (p + 1) m b ≡ (2 * upper + bit_at b p) * 2 ^ p + b % 2 ^ p
@@ -175,27 +137,14 @@ module _ (p m b : ℕ) (h : p < 7) where
 
   closed_from-set : bit_at m p ≡ 1 → closed_up p m (closed_from (p + 1) m b) ≡ closed_from p m b
   unfolding closed_up
-  closed_from-set on =
-      let x : ℕ = closed_from (p + 1) m b in
-      let same : p + (1 - bit_at m p) ≡ p = omega (arith, on) in
-      let here : gathered (8 - p) (b / 2 ^ p) (m / 2 ^ p) ≡ 2 * upper + bit_at b p = ap (λ k. gathered k (b / 2 ^ p) (m / 2 ^ p)) next ∙ gathered-set (8 - (p + 1)) (b / 2 ^ p) (m / 2 ^ p) on ∙ omega (arith, below_upper) in
-      omega (arith, shr_split x p, ap (λ k. x / 2 ^ k * 2 ^ p) same) ∙ parts ∙ ap (λ k. k * 2 ^ p + b % 2 ^ p) (sym here)
+  closed_from-set on = grind (arith, next, gathered-set, below_upper, shr_split, parts)
 
   closed_from-clear : bit_at m p ≡ 0 → bit_at b p ≡ 0 → closed_up p m (closed_from (p + 1) m b) ≡ closed_from p m b
   unfolding closed_up
-  closed_from-clear off free =
-      let x : ℕ = closed_from (p + 1) m b in
-      let skip : p + (1 - bit_at m p) ≡ p + 1 = omega (arith, off) in
-      let here : gathered (8 - p) (b / 2 ^ p) (m / 2 ^ p) ≡ upper = ap (λ k. gathered k (b / 2 ^ p) (m / 2 ^ p)) next ∙ gathered-clear (8 - (p + 1)) (b / 2 ^ p) (m / 2 ^ p) off ∙ below_upper in
-      let low : x % 2 ^ p ≡ b % 2 ^ p = ap (λ k. k % 2 ^ p) parts ∙ mod-mul-add (2 * upper + bit_at b p) (2 ^ p) (b % 2 ^ p) (mod-lt b (pow_pos p)) in
-      let high : x / 2 ^ (p + 1) ≡ upper = shr_high upper (p + 1) (b % 2 ^ (p + 1)) (mod-lt b (pow_pos (p + 1))) in
-      omega (arith, low, ap (λ k. x / 2 ^ k * 2 ^ p) skip, ap (λ k. k * 2 ^ p) high, ap (λ k. k * 2 ^ p) here)
+  closed_from-clear off free = grind (arith, next, gathered-clear, below_upper, parts, mod-mul-add, mod-lt, pow_pos, shr_high)
 
   pub closed_from-more : (bit_at m p ≡ 0 → bit_at b p ≡ 0) → closed_up p m (closed_from (p + 1) m b) ≡ closed_from p m b
-  closed_from-more free = elim (cases_bit (m / 2 ^ p)) [
-    | inl off ↦ closed_from-clear off (free off)
-    | inr on ↦ closed_from-set on
-  ]
+  closed_from-more free = grind (arith, cases_bit, closed_from-clear, closed_from-set)
 
 -- ---- the source's bits at the mask alone
 
@@ -253,38 +202,23 @@ positions-set n m on = ap (λ b. positions (nat_eq b 1 ∷ values_in n (m / 2)))
 
 count-values_in : (n m : ℕ) → count (values_in n m) ≡ ones_in n m
 count-values_in zero m = refl
-count-values_in (suc n) m = elim (cases_bit m) [
-  | inl off ↦ ap length (positions-clear n m off) ∙ length-map (positions (values_in n (m / 2))) suc ∙ count-values_in n (m / 2) ∙ sym (ones_in-clear n m off)
-  | inr on ↦ ap length (positions-set n m on) ∙ omega (arith, length-map (positions (values_in n (m / 2))) suc, count-values_in n (m / 2), ones_in-bit n m 1 on)
-]
+count-values_in (suc n) m =
+    grind (arith, cases_bit, positions-clear, length-map, ones_in-clear, positions-set, ones_in-bit, count-values_in n (m / 2))
 
 bit_at-cons : (b x k : ℕ) → b < 2 → bit_at (b + 2 * x) (suc k) ≡ bit_at x k
-bit_at-cons b x k h =
-    let half : (b + 2 * x) / 2 ≡ x = omega arith in
-    bit_at-suc (b + 2 * x) k ∙ ap (λ y. bit_at y k) half
+bit_at-cons b x k h = grind (arith, bit_at-suc)
 
 -- where the first place is set, its bit is the lowest, and the others follow
 at_set : (n s m k : ℕ) → m % 2 ≡ 1 → ((i : ℕ) → i < count (values_in n (m / 2)) → bit_at (gathered n (s / 2) (m / 2)) i ≡ bit_at (s / 2) (get_or (positions (values_in n (m / 2))) i 0))
     → k < count (values_in (suc n) m) → bit_at (gathered (suc n) s m) k ≡ bit_at s (get_or (positions (values_in (suc n) m)) k 0)
-at_set n s m zero on rest h =
-    omega (arith, gathered-set n s m on, bit_at_lowest (gathered (suc n) s m), bit_at_lowest s, ap (λ qs. bit_at s (get_or qs 0 0)) (positions-set n m on))
-at_set n s m (suc k) on rest h =
-    let ps : List ℕ = positions (values_in n (m / 2)) in
-    let few : k < length ps = omega (arith, ap length (positions-set n m on), length-map ps suc) in
-    ap (λ x. bit_at x (suc k)) (gathered-set n s m on) ∙ bit_at-cons (s % 2) (gathered n (s / 2) (m / 2)) k (omega arith) ∙ rest k few
-    ∙ sym (bit_at-suc s (get_or ps k 0)) ∙ ap (bit_at s) (sym (ap (λ qs. get_or qs (suc k) 0) (positions-set n m on) ∙ get_or-map suc ps k 0 0 few))
+at_set n s m zero on rest h = grind (arith, gathered-set, bit_at_lowest, positions-set)
+at_set n s m (suc k) on rest h = grind (arith, positions-set, length-map, gathered-set, bit_at-cons, bit_at-suc, get_or-map)
 
 -- bit k is the source's bit at set place number k
 gathered-at : (n s m k : ℕ) → k < count (values_in n m) → bit_at (gathered n s m) k ≡ bit_at s (get_or (positions (values_in n m)) k 0)
 gathered-at zero s m k h = absurd (omega arith)
-gathered-at (suc n) s m k h = elim (cases_bit m) [
-  | inl off ↦
-      let ps : List ℕ = positions (values_in n (m / 2)) in
-      let few : k < length ps = omega (arith, ap length (positions-clear n m off), length-map ps suc) in
-      ap (λ x. bit_at x k) (gathered-clear n s m off) ∙ gathered-at n (s / 2) (m / 2) k few
-      ∙ sym (bit_at-suc s (get_or ps k 0)) ∙ ap (bit_at s) (sym (ap (λ qs. get_or qs k 0) (positions-clear n m off) ∙ get_or-map suc ps k 0 0 few))
-  | inr on ↦ at_set n s m k on (gathered-at n (s / 2) (m / 2)) h
-]
+gathered-at (suc n) s m k h =
+    grind (arith, cases_bit, positions-clear, length-map, gathered-clear, bit_at-suc, get_or-map, at_set, gathered-at n (s / 2) (m / 2))
 
 pub Extracts-gathered : (s m : ℕ) → Extracts s m (gathered 64 s m)
 Extracts-gathered s m =
@@ -305,14 +239,7 @@ Extracts-gathered s m =
 
 gathered-full : (n s : ℕ) → gathered n s (2 ^ n - 1) ≡ s % 2 ^ n
 gathered-full zero s = gathered-none s 0 ∙ omega arith
-gathered-full (suc n) s =
-    let e : n + 1 ≡ suc n = omega arith in
-    let double : 2 ^ suc n ≡ 2 * 2 ^ n = ap (λ k. 2 ^ k) (sym e) ∙ omega (arith, pow-add 2 n 1) in
-    let on : (2 ^ suc n - 1) % 2 ≡ 1 = omega (arith, double, pow_pos n) in
-    let half : (2 ^ suc n - 1) / 2 ≡ 2 ^ n - 1 = omega (arith, double, pow_pos n) in
-    gathered-set n s (2 ^ suc n - 1) on
-    ∙ ap (λ x. s % 2 + 2 * x) (ap (gathered n (s / 2)) half ∙ gathered-full n (s / 2))
-    ∙ omega (arith, mod-pow-add s n 1, ap (λ k. s % 2 ^ k) e)
+gathered-full (suc n) s = grind (arith, pow-add 2 n 1, pow_pos n, gathered-set, mod-pow-add s n 1, gathered-full n (s / 2))
 
 pub Extracts-full : (s : ℕ) → Extracts s (2 ^ 64 - 1) s
 Extracts-full s =

@@ -19,21 +19,10 @@ pub AreLanes-itself : (n : ℕ) (v : List ℕ) → length v ≡ n → AreLanes n
 AreLanes-itself n v long = record { lanes = long; each = λ j l. refl }
 
 pub AreLanes-map : {n : ℕ} (f : ℕ → ℕ) {a : List ℕ} {g : ℕ → ℕ} → AreLanes n a g → AreLanes n (map f a) (λ j. f (g j))
-AreLanes-map f {a} {g} h =
-    let long = h.lanes in
-    record {
-      lanes = length-map a f ∙ long;
-      each = λ j l. get_or-map f a j 0 0 (omega arith) ∙ ap f (h.each j l);
-    }
+AreLanes-map f {a} {g} h = grind (arith, length-map, get_or-map)
 
 pub AreLanes-zip2 : {n : ℕ} (f : ℕ → ℕ → ℕ) {a b : List ℕ} {g h : ℕ → ℕ} → AreLanes n a g → AreLanes n b h → AreLanes n (zip2 f a b) (λ j. f (g j) (h j))
-AreLanes-zip2 f {a} {b} {g} {h} p q =
-    let pl = p.lanes in
-    let ql = q.lanes in
-    record {
-      lanes = length-zip2 f a b (pl ∙ sym ql) ∙ pl;
-      each = λ j l. get_or-zip2 f a b j 0 0 0 (omega arith) (omega arith) ∙ ap₂ f (p.each j l) (q.each j l);
-    }
+AreLanes-zip2 f {a} {b} {g} {h} p q = grind (arith, length-zip2, get_or-zip2)
 
 pub AreLanes-splat : (n x : ℕ) → AreLanes n (replicate n x) (λ j. x)
 AreLanes-splat n x = record { lanes = length-replicate n x; each = λ j l. get_or-replicate n j x 0 l }
@@ -54,14 +43,7 @@ module _ (js : List ℕ) (f : ℕ → ℕ) (h : AreLanes 16 js f) (small : (j : 
       SwzOk-from_below w8 16 1 16 0 js refl (omega arith) (Each1-from_get_or (λ j. j < 16) js 0 (λ i l. omega (arith, h.each i (omega arith), small i (omega arith))))
 
   pub AreLanes-swz_l : (v : List ℕ) → AreLanes 16 (swz_l w8 16 v 0 js) (λ j. get_or v (f j) 0)
-  AreLanes-swz_l v =
-      let long = h.lanes in
-      record {
-        lanes = length-swz_l w8 16 v 0 js ∙ long;
-        each = λ j l.
-            let e = h.each j l in
-            get_or-swz_l_below w8 16 v 0 js j (omega arith) (omega (arith, small j l)) ∙ ap (λ k. get_or v k 0) (omega arith);
-      }
+  AreLanes-swz_l v = grind (arith, length-swz_l, w8, get_or-swz_l_below)
 
 -- ---- a byte closes up at a place
 
@@ -70,9 +52,7 @@ abbrev pub less_half : ℕ → ℕ → ℕ → ℕ
 less_half here mask bits = (bits + (2 ^ 8 - bit_and bits ((bit_and mask here + (2 ^ 8 - here)) % 2 ^ 8) / 2 ^ 1)) % 2 ^ 8
 
 less_none : (t b : ℕ) → 0 < t → t < 256 → b < 256 → (b + (2 ^ 8 - bit_and b ((1 * t + (2 ^ 8 - t)) % 2 ^ 8) / 2 ^ 1)) % 2 ^ 8 ≡ b
-less_none t b pos few small =
-    let none : (1 * t + (2 ^ 8 - t)) % 2 ^ 8 ≡ 0 = omega arith in
-    ap (λ k. (b + (2 ^ 8 - bit_and b k / 2 ^ 1)) % 2 ^ 8) none ∙ ap (λ k. (b + (2 ^ 8 - k / 2 ^ 1)) % 2 ^ 8) (and_zero_r b) ∙ omega (arith, small)
+less_none t b pos few small = grind (arith, and_zero_r)
 
 -- the rest where q bits stand above the place, and r below it
 less_some : (b q r t : ℕ) → b ≡ 2 * (q * t) + r → b < 256 → (b + (2 ^ 8 - 2 * (q * t) / 2 ^ 1)) % 2 ^ 8 ≡ r + q * t
@@ -80,30 +60,12 @@ less_some b q r t e small = omega (arith, e)
 
 pub less_half-set : (p m b : ℕ) → p < 8 → b < 256 → bit_at m p ≡ 1 → less_half (2 ^ p) m b ≡ closed_up p m b
 unfolding closed_up
-less_half-set p m b h small on =
-    let t : ℕ = 2 ^ p in
-    let here : bit_and m t ≡ 1 * t = and_pow m p ∙ ap (λ x. x * t) on in
-    let same : p + (1 - bit_at m p) ≡ p = omega (arith, on) in
-    ap (λ x. (b + (2 ^ 8 - bit_and b ((x + (2 ^ 8 - t)) % 2 ^ 8) / 2 ^ 1)) % 2 ^ 8) here
-    ∙ less_none t b (pow_pos p) (pow-lt h) small
-    ∙ omega (arith, shr_split b p, ap (λ k. b / 2 ^ k * t) same)
+less_half-set p m b h small on = grind (arith, and_pow, less_none, pow_pos, pow-lt, shr_split)
 
 pub less_half-clear : (p m b : ℕ) → p < 8 → b < 256 → bit_at m p ≡ 0 → bit_at b p ≡ 0 → less_half (2 ^ p) m b ≡ closed_up p m b
 unfolding closed_up
 less_half-clear p m b h small off free =
-    let t : ℕ = 2 ^ p in
-    let q : ℕ = b / 2 ^ p / 2 in
-    let here : bit_and m t ≡ 0 * t = and_pow m p ∙ ap (λ x. x * t) off in
-    let next : p + (1 - bit_at m p) ≡ p + 1 = omega (arith, off) in
-    let twice : b / 2 ^ p ≡ 2 * q = omega (arith, free) in
-    let from_here : (0 * t + (2 ^ 8 - t)) % 2 ^ 8 ≡ 2 ^ 8 - 2 ^ p = omega (arith, pow_pos p, pow-lt h) in
-    let above : bit_and b (2 ^ 8 - 2 ^ p) ≡ 2 * (q * t) = and_high_mask 8 p (omega arith) b small ∙ ap (λ x. x * t) twice ∙ mul_assoc 2 q t in
-    let split : b ≡ 2 * (q * t) + b % t = omega (arith, shr_split b p, ap (λ x. x * t) twice ∙ mul_assoc 2 q t) in
-    ap (λ x. (b + (2 ^ 8 - bit_and b ((x + (2 ^ 8 - t)) % 2 ^ 8) / 2 ^ 1)) % 2 ^ 8) here
-    ∙ ap (λ x. (b + (2 ^ 8 - bit_and b x / 2 ^ 1)) % 2 ^ 8) from_here
-    ∙ ap (λ x. (b + (2 ^ 8 - x / 2 ^ 1)) % 2 ^ 8) above
-    ∙ less_some b q (b % t) t split small
-    ∙ sym (ap (λ k. b % t + b / 2 ^ k * t) next ∙ ap (λ x. b % t + x * t) (sym (shr-shr b p 1)))
+    grind (arith, and_pow m p, pow_pos p, pow-lt h, and_high_mask 8 p (omega arith) b small, mul_assoc 2 (b / 2 ^ p / 2) (2 ^ p), shr_split b p, less_some, shr-shr b p 1)
 
 pub less_half-is : (p m b : ℕ) → p < 8 → b < 256 → (bit_at m p ≡ 0 → bit_at b p ≡ 0) → less_half (1 * 2 ^ p % 2 ^ 8) m b ≡ closed_up p m b
 less_half-is p m b h small free =

@@ -29,24 +29,17 @@ padded_part_from_values m xs i len same =
 -- a whole part has no false value added
 pub padded_part-whole : (m : List Bool) (i : ℕ) → 64 * i + 64 ≤ length m → word_part m i ≡ padded_part m i
 padded_part-whole m i within =
-    padded_part_from_values m (word_part m i) i (length-between m (64 * i) (64 * i + 64) within ∙ omega arith)
-    (λ j h. get_or-between m (64 * i) (64 * i + 64) j false (omega arith))
+    grind (arith, padded_part_from_values m (word_part m i) i (length-between m (64 * i) (64 * i + 64) within ∙ omega arith), length-between m (64 * i) (64 * i + 64) within, get_or-between)
 
 -- what is past the whole parts is the part after them
 pub padded_part-remainder : (m : List Bool) → padded_remainder m ≡ padded_part m (length m / 64)
 padded_part-remainder m =
-    let front : List Bool = drop (64 * (length m / 64)) m in
-    let n : ℕ = 64 - length m % 64 in
-    padded_part_from_values m (front ++ repeated n false) (length m / 64) (omega (arith, length-drop (64 * (length m / 64)) m, length-append front (repeated n false), length-repeated n false)) (λ j h.
-    get_or-padded front n j ∙ get_or-drop (64 * (length m / 64)) m j false)
+    grind (arith, padded_part_from_values, length-drop (64 * (length m / 64)) m, length-append (drop (64 * (length m / 64)) m) (repeated (64 - length m % 64) false), length-repeated (64 - length m % 64) false, get_or-padded, get_or-drop)
 
 -- where no value is past the whole parts, the remainder is false values alone
 pub word_bits-no_remainder : (m : List Bool) → length m % 64 ≡ 0 → word_bits 0 ≡ padded_remainder m
 word_bits-no_remainder m none =
-    padded_part_from_values m (word_bits 0) (length m / 64) (length-word_bits 0) (λ j h.
-    get_or-word_bits 0 j false h ∙ ap (λ b. nat_eq b 1) (bit_at-zero j)
-    ∙ sym (get_or_past m (64 * (length m / 64) + j) false (omega arith)))
-    ∙ sym (padded_part-remainder m)
+    grind (arith, padded_part_from_values, length-word_bits 0, get_or-word_bits, bit_at-zero, get_or_past, padded_part-remainder m)
 
 -- ---- the words that bytes show
 

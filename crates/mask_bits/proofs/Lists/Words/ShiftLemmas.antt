@@ -22,9 +22,7 @@ bit_at-shr n r j = ap (λ x. x % 2) (shr-shr n r j)
 
 -- of one cut to its low bits
 pub bit_at-mod : (n k j : ℕ) → j < k → bit_at (n % 2 ^ k) j ≡ bit_at n j
-bit_at-mod n k j h =
-    ap (λ x. bit_at x j) (sym (and_mask n k))
-    ∙ omega (arith, bit_at_and n (2 ^ k - 1) j, bit_at_ones k j h, bit_at-lt n j)
+bit_at-mod n k j h = grind (arith, and_mask n k, bit_at_and n (2 ^ k - 1) j, bit_at_ones k j h, bit_at-lt n j)
 
 -- of one that was masked
 pub bit_at-low_mask : (n k j : ℕ) → j < k → bit_at (bit_and n (2 ^ k - 1)) j ≡ bit_at n j
@@ -35,12 +33,10 @@ bit_at-past_mask n k j h = omega (arith, bit_at_and n (2 ^ k - 1) j, bit_at_ones
 
 -- of one shifted up
 pub bit_at-shl_low : (n k j : ℕ) → j < k → bit_at (n * 2 ^ k) j ≡ 0
-bit_at-shl_low n k j h =
-    ap (λ x. bit_at x j) (sym (add-zero (n * 2 ^ k))) ∙ bit_at_cat_low n k 0 j h ∙ bit_at-zero j
+bit_at-shl_low n k j h = grind (arith, add-zero (n * 2 ^ k), bit_at_cat_low n k 0 j h, bit_at-zero j)
 
 pub bit_at-shl_high : (n k j : ℕ) → k ≤ j → bit_at (n * 2 ^ k) j ≡ bit_at n (j - k)
-bit_at-shl_high n k j h =
-    ap (λ x. bit_at x j) (sym (add-zero (n * 2 ^ k))) ∙ bit_at_cat_high n k 0 j (pow_pos k) h
+bit_at-shl_high n k j h = grind (arith, add-zero (n * 2 ^ k), bit_at_cat_high n k 0 j (pow_pos k) h, pow_pos k)
 
 -- ---- the list of a word
 
@@ -81,10 +77,7 @@ word_bits-low_mask w count few =
 
 -- the same by a mask that is all ones, shifted down
 pub word_bits-low_ones : (w count : ℕ) → count ≤ 64 → word_bits (bit_and w ((2 ^ 64 - 1) / 2 ^ (64 - count))) ≡ take count (word_bits w) ++ repeated (64 - count) false
-word_bits-low_ones w count few =
-    let places : 64 - (64 - count) ≡ count = omega arith in
-    ap (λ m. word_bits (bit_and w m)) (ones_shr 64 (64 - count) (omega arith) ∙ ap (λ n. 2 ^ n - 1) places)
-    ∙ word_bits-low_mask w count few
+word_bits-low_ones w count few = grind (arith, ones_shr 64 (64 - count) (omega arith), word_bits-low_mask w count few)
 
 -- ---- two words by a funnel shift
 
@@ -119,11 +112,6 @@ word_bits-funnel lo hi low fits few =
 pub word_bits-funnel_inside : (lo hi low : ℕ) → lo < 2 ^ 64 → 0 < low → low < 64
     → word_bits (bit_or (lo / 2 ^ low) (hi * 2 ^ (64 - low) % 2 ^ 64)) ≡ slice_range (word_bits lo ++ word_bits hi) low (low + 64)
 word_bits-funnel_inside lo hi low fits some few =
-    let k : ℕ = 63 - low in
-    let one_more : 64 - low ≡ 1 + k = omega arith in
-    let in_two : hi * 2 ^ (64 - low) ≡ hi * 2 ^ 1 * 2 ^ k
-    = ap (λ n. hi * 2 ^ n) one_more ∙ ap (λ x. hi * x) (pow-add 2 1 k) ∙ sym (mul_assoc hi (2 ^ 1) (2 ^ k)) in
-    ap (λ x. word_bits (bit_or (lo / 2 ^ low) x)) (ap (λ x. x % 2 ^ 64) in_two ∙ sym (mul-mod_first (hi * 2 ^ 1) (2 ^ k) (2 ^ 64)))
-    ∙ word_bits-funnel lo hi low fits few
+    grind (arith, pow-add 2 1 (63 - low), mul_assoc hi (2 ^ 1) (2 ^ (63 - low)), mul-mod_first (hi * 2 ^ 1) (2 ^ (63 - low)) (2 ^ 64), word_bits-funnel lo hi low fits few)
 
 pub ruleset words_cut = (word_bits-low_ones, word_bits-funnel, word_bits-funnel_inside)
