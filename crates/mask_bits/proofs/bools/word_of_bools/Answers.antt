@@ -10,6 +10,4 @@ pub loop-j-preserved : goal.loop-j-preserved
 loop-j-preserved c = lanes-more c.args.bools.now c.loop-j.lanes c.loop-j.j (omega arith) c.loop-j.invariant
 
 pub returns : goal.returns
-returns c k h =
-    let m = c.args.bools.now in
-    c.word_of_lanes.ensures k h ∙ c.loop-j.invariant.each k h ∙ ap (λ (xs : List Bool). get_or xs k false) (take_all c.loop-j.j m (omega arith))
+returns c k h = grind (arith, take_all)

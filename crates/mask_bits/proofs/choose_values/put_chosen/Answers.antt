@@ -4,20 +4,13 @@ use Rattle.mask_bits.proofs.Lists.Places.PlaceLemmas.{count-le-length}
 use Rattle.mask_bits.proofs.choose_values.put_chosen.Goals as goal
 
 pub put_behind-last-requires-clause-word : goal.put_behind-last-requires-clause-word
-put_behind-last-requires-clause-word c = λ j from few.
-    extracted-clear c.started_word.result c.started_word-mask.result c.extract-word.result j c.extract-word.ensures c.started_word-mask.type_inv from few
+put_behind-last-requires-clause-word c = grind (arith, extracted-clear)
 
 pub put_behind-last-requires-clause-room : goal.put_behind-last-requires-clause-room
-put_behind-last-requires-clause-room c =
-    let here : AreChosenAt c.args.values.now c.args.masks.now c.loop-i.i c.started_word.result c.started_word-mask.result c.extract-word.result
-    = record { fits = c.started_word-mask.type_inv; reads = c.started_word.ensures; chooses = c.started_word-mask.ensures; extracts = c.extract-word.ensures } in
-    omega (arith, chosen-within here c.loop-i.invariant, c.requires.room, c.loop-i.auto.out)
+put_behind-last-requires-clause-room c = grind (arith, chosen-within)
 
 pub put_behind-last-requires-clause-fits : goal.put_behind-last-requires-clause-fits
-put_behind-last-requires-clause-fits c =
-    let here : AreChosenAt c.args.values.now c.args.masks.now c.loop-i.i c.started_word.result c.started_word-mask.result c.extract-word.result
-    = record { fits = c.started_word-mask.type_inv; reads = c.started_word.ensures; chooses = c.started_word-mask.ensures; extracts = c.extract-word.ensures } in
-    omega (arith, chosen-within here c.loop-i.invariant, c.started_words-words.ensures.fits, count-le-length c.args.masks.now)
+put_behind-last-requires-clause-fits c = grind (arith, chosen-within, count-le-length)
 
 pub loop-i-preserved : goal.loop-i-preserved
 loop-i-preserved c =

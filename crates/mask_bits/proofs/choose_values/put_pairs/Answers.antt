@@ -8,12 +8,10 @@ pub loop-pair-init : goal.loop-pair-init
 loop-pair-init c = AreChosenSoFar-none c.args.values.now c.args.masks.now c.args.out.now
 
 pub put_behind-last-requires-clause-word : goal.put_behind-last-requires-clause-word
-put_behind-last-requires-clause-word c = λ j from few.
-    extracted-clear c.word-in-loop-pair-2.result c.word.result (get_or c.extract_two-words.result 0 0) j c.extract_two-words.ensures.first c.word.type_inv from few
+put_behind-last-requires-clause-word c = grind (arith, extracted-clear)
 
 pub put_behind-last-requires-in-loop-pair-clause-word : goal.put_behind-last-requires-in-loop-pair-clause-word
-put_behind-last-requires-in-loop-pair-clause-word c = λ j from few.
-    extracted-clear c.word-in-loop-pair-3.result c.word-in-loop-pair.result (get_or c.extract_two-words.result 1 0) j c.extract_two-words.ensures.second c.word-in-loop-pair.type_inv from few
+put_behind-last-requires-in-loop-pair-clause-word c = grind (arith, extracted-clear)
 
 pub put_behind-last-requires-clause-room : goal.put_behind-last-requires-clause-room
 put_behind-last-requires-clause-room c =
@@ -63,6 +61,4 @@ loop-pair-preserved c =
     (AreChosenSoFar-more c.put_behind-last-in-loop-pair.new.out c.put_behind-last-in-loop-pair.result.word c.put_behind-last-in-loop-pair.result.count c.requires.fitting second so_far then.count then.list then.begun then.behind)
 
 pub returns : goal.returns
-returns c =
-    let all : 2 * c.loop-pair.pair ≡ length c.args.masks.now / 64 / 2 * 2 = omega (arith, c.loop-pair-test.false, c.loop-pair.auto.pair-end, c.len-pair-end.ensures) in
-    subst (λ i. AreChosenSoFar c.args.values.now c.args.masks.now i c.args.out.now c.loop-pair.out c.loop-pair.last.word c.loop-pair.last.count) all c.loop-pair.invariant
+returns c = grind arith

@@ -8,8 +8,4 @@ use Rattle.mask_bits.proofs.chunks.remainder.Goals as goal
 
 pub returns : goal.returns
 returns c =
-    let b : Packed = record { bytes = c.args.bytes.now; offset = c.args.offset; len = c.args.len } in
-    let rest : ℕ = b.len % 64 in
-    let few : rest < 64 = omega arith in
-    ap (λ n. word_bits (bit_and c.word_at.result (n - 1))) (one_shifted rest 18446744073709551615 refl few).0
-    ∙ word_bits-remainder b c.word_at.result c.word_at.ensures
+    grind (arith, one_shifted, word_bits-remainder (record { bytes = c.args.bytes.now; offset = c.args.offset; len = c.args.len }) c.word_at.result c.word_at.ensures)

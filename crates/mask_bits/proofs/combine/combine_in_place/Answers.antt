@@ -4,8 +4,7 @@ use Rattle.mask_bits.proofs.combine.combine_in_place.Goals as goal
 
 pub returns-then-len-ne0 : goal.returns-then-len-ne0
 returns-then-len-ne0 g c =
-    values-in_place g.C.BitOp.of_bits c.args.bytes.now c.args.b.now c.change_last.new.bytes _ _ c.args.b_offset c.args.len _ c.new-b.ensures.bytes c.new-b.ensures.low
-    (between-join _ _ _ _ _ _ _ (64 * (c.args.len / 64)) _ (omega arith) (omega arith) c.change_whole.ensures c.change_last.ensures) (omega arith)
+    grind (arith, values-in_place, between-join _ _ _ _ _ _ _ (64 * (c.args.len / 64)) _ (omega arith) (omega arith) c.change_whole.ensures c.change_last.ensures)
 
 pub returns-else-len-ne0 : goal.returns-else-len-ne0
 returns-else-len-ne0 g c = grind (arith, values-in_place)

@@ -14,8 +14,7 @@ more : (c : goal.After-word_of) → count (bitmap c.args.bytes.now 0 (64 * (c.lo
 more c = grind (arith, front-more_word, count-append, count-word_bits)
 
 pub overflow_add-count : goal.overflow_add-count
-overflow_add-count c =
-    omega (arith, more c, c.requires.fits, count-bitmap-le c.args.bytes.now 0 (64 * (c.loop-i.i + 1)))
+overflow_add-count c = grind (arith, more c, count-bitmap-le c.args.bytes.now 0 (64 * (c.loop-i.i + 1)))
 
 pub loop-i-preserved : goal.loop-i-preserved
 loop-i-preserved c = sym (more c)

@@ -9,13 +9,7 @@ pub loop-k-init : goal.loop-k-init
 loop-k-init g c = packed_no_answers (FnReturnsAt g.F.Fn c.args.test.now)
 
 pub loop-k-preserved : goal.loop-k-preserved
-loop-k-preserved g c =
-    let rows = c.args.rows.now in
-    let n : ℕ = 16 * c.loop-k.k in
-    let gives = FnReturnsAt g.F.Fn c.args.test.now in
-    let sum : n + (n + 16 - n) ≡ 16 * (c.loop-k.k + 1) = omega arith in
-    subst (λ rs. ArePacked gives rs c.put_answers.new.lanes) (take_part n (n + 16 - n) rows ∙ ap (λ i. take i rows) sum)
-    (c.put_answers.ensures (take n rows) (length-take-le n rows (omega (arith, c.loop-k-test.true))) c.loop-k.invariant)
+loop-k-preserved g c = grind (arith, take_part, length-take-le)
 
 pub returns : goal.returns
 returns g c =

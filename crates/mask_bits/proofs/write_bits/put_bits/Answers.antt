@@ -6,8 +6,7 @@ use Rattle.mask_bits.proofs.write_bits.put_bits.Goals as goal
 
 pub put_whole-requires-clause-clear : goal.put_whole-requires-clause-clear
 put_whole-requires-clause-clear c =
-    written-bits_clear c.args.bytes.now c.put_windows-2.new.bytes c.args.from.now c.args.at c.args.offset (64 - c.args.at % 64)
-    (64 * (c.args.at / 64 + 1)) (omega arith) c.put_windows-2.ensures
+    grind (arith, written-bits_clear c.args.bytes.now c.put_windows-2.new.bytes c.args.from.now c.args.at c.args.offset (64 - c.args.at % 64))
 
 pub put_windows-requires-3-clause-clear : goal.put_windows-requires-3-clause-clear
 put_windows-requires-3-clause-clear c =

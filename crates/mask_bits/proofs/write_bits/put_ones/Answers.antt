@@ -9,9 +9,7 @@ returns-then-n-room c = written-ones c.args.bytes.now c.put_word.new.bytes c.arg
 
 pub put_full-requires-clause-clear : goal.put_full-requires-clause-clear
 put_full-requires-clause-clear c =
-    let room = 64 - c.args.at % 64 in
-    written-ones_clear c.args.bytes.now c.put_word-2.new.bytes c.args.at room (64 * (c.args.at / 64 + 1)) (omega arith)
-    (written-ones c.args.bytes.now c.put_word-2.new.bytes c.args.at room (omega arith) c.put_word-2.ensures)
+    grind (arith, written-ones_clear c.args.bytes.now c.put_word-2.new.bytes c.args.at (64 - c.args.at % 64) (64 * (c.args.at / 64 + 1)) (omega arith), written-ones c.args.bytes.now c.put_word-2.new.bytes c.args.at (64 - c.args.at % 64) (omega arith) c.put_word-2.ensures)
 
 pub put_word-requires-3-clause-clear : goal.put_word-requires-3-clause-clear
 put_word-requires-3-clause-clear c =

@@ -6,16 +6,7 @@ use Rattle.mask_bits.proofs.RunWordLemmas.{behind-whole, behind-remainder, remai
 use Rattle.mask_bits.proofs.buffer.BitBuffer.runs.Goals as goal
 
 pub loop-i-preserved : goal.loop-i-preserved
-loop-i-preserved c =
-    let m = values c.args.self.now in
-    let l = c.loop-i in
-    let after = c.in_ok-begun.begun in
-    let next : 64 * (l.i + 1) ≡ 64 * l.i + 64 = omega arith in
-    ap (λ n. c.push_runs.new.ranges.items ++ runs_behind after.inside after.start n (drop (64 * (l.i + 1)) m)) next
-    ∙ c.in_ok-begun.ensures.runs (drop (64 * (l.i + 1)) m)
-    ∙ ap (λ (bits : List Bool). l.ranges.items ++ runs_behind l.begun.inside l.begun.start (64 * l.i) bits)
-    (ap (λ (bits : List Bool). bits ++ drop (64 * (l.i + 1)) m) (c.word.ensures ∙ ap (λ (xs : List Bool). word_part xs l.i) c.chunks-chunks.ensures.list) ∙ behind-whole m l.i)
-    ∙ l.invariant
+loop-i-preserved c = grind (arith, behind-whole)
 
 pub returns : goal.returns
 returns c =

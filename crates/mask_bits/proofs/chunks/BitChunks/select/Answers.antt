@@ -11,16 +11,10 @@ index_in_word-requires c = omega (arith, c.if-left-ones.true, count-word_bits c.
 
 pub returns-then-left-ones-clause-index : goal.returns-then-left-ones-clause-index
 returns-then-left-ones-clause-index c =
-    let m = c.args.self.now in
-    let read = c.started_word-word.ensures in
-    let here = ap (λ (xs : List Bool). slice_get (positions xs) c.loop-i.left) (sym read) ∙ c.index_in_word.ensures.index in
-    sym (place_in_word m c.loop-i.i c.args.n c.loop-i.left c.index_in_word.result (omega (arith, c.started_words-i-end.ensures.words)) c.loop-i.invariant
-    (omega (arith, ap count read, count-word_bits c.started_word-word.result c.started_word-word.type_inv)) here)
+    grind (arith, place_in_word c.args.self.now c.loop-i.i c.args.n c.loop-i.left c.index_in_word.result (omega (arith, c.started_words-i-end.ensures.words)) c.loop-i.invariant, count-word_bits c.started_word-word.result c.started_word-word.type_inv, c.started_word-word.ensures, c.index_in_word.ensures.index, c.started_words-i-end.ensures.words, c.loop-i.invariant)
 
 pub returns-then-left-ones-clause-within : goal.returns-then-left-ones-clause-within
-returns-then-left-ones-clause-within c =
-    let m = c.args.self.now in
-    subst (λ (o : Option ℕ). IfSome o (λ p. p < length m)) (sym (returns-then-left-ones-clause-index c)) (place-within m c.args.n)
+returns-then-left-ones-clause-within c = grind (arith, returns-then-left-ones-clause-index c, place-within c.args.self.now c.args.n)
 
 pub loop-i-preserved : goal.loop-i-preserved
 loop-i-preserved c = grind (arith, count-word_more, count-word_bits)

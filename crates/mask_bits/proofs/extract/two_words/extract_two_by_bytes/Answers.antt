@@ -18,44 +18,26 @@ module _ (s m : ℕ) where
   places w i = m / 2 ^ (w * i) % 2 ^ w
 
   pair_joined : (j x y n : ℕ) → x ≡ part 8 (2 * j) → y ≡ part 8 (2 * j + 1) → n ≡ 2 ^ count_ones (places 8 (2 * j)) → (x + y * n) % 2 ^ 16 ≡ part 16 j
-  pair_joined j x y n lower upper is =
-      let at : 8 * (2 * j) ≡ 16 * j = omega arith in
-      ap₂ (λ (p q : ℕ). (p + q) % 2 ^ 16) lower (ap₂ (λ (p q : ℕ). p * q) upper is)
-      ∙ gathered-two 8 s m (16 * j) (8 * (2 * j)) (8 * (2 * j + 1)) (count_ones (places 8 (2 * j))) at (omega arith) (ap (λ k. count_ones (m / 2 ^ k % 2 ^ 8)) at)
+  pair_joined j x y n lower upper is = grind (arith, gathered-two)
 
   -- the places of two bytes
   count_of_two : (j : ℕ) → 2 ^ count_ones (places 8 (2 * (2 * j))) * 2 ^ count_ones (places 8 (2 * (2 * j) + 1)) ≡ 2 ^ count_ones (places 16 (2 * j))
   count_of_two j =
-      let x : ℕ = m / 2 ^ (16 * (2 * j)) in
-      let low : 8 * (2 * (2 * j)) ≡ 16 * (2 * j) = omega arith in
-      let high : 8 * (2 * (2 * j) + 1) ≡ 16 * (2 * j) + 8 = omega arith in
-      let first : places 8 (2 * (2 * j)) ≡ x % 2 ^ 8 = ap (λ k. m / 2 ^ k % 2 ^ 8) low in
-      let second : places 8 (2 * (2 * j) + 1) ≡ x / 2 ^ 8 % 2 ^ 8 = ap (λ k. m / 2 ^ k % 2 ^ 8) high ∙ ap (λ y. y % 2 ^ 8) (sym (shr-shr m (16 * (2 * j)) 8)) in
-      let whole : x / 2 ^ 8 % 2 ^ 8 * 2 ^ 8 + x % 2 ^ 8 ≡ x % 2 ^ 16 = omega arith in
-      let both : count_ones (x % 2 ^ 8) + count_ones (x / 2 ^ 8 % 2 ^ 8) ≡ count_ones (x % 2 ^ 16) = add_comm _ _ ∙ sym (ones_cat 8 (x / 2 ^ 8 % 2 ^ 8) (x % 2 ^ 8) (omega arith)) ∙ ap count_ones whole in
-      ap₂ (λ p q. 2 ^ count_ones p * 2 ^ count_ones q) first second ∙ sym (pow-add 2 (count_ones (x % 2 ^ 8)) (count_ones (x / 2 ^ 8 % 2 ^ 8))) ∙ ap (λ k. 2 ^ k) both
+      grind (arith, shr-shr m (16 * (2 * j)) 8, add_comm, ones_cat 8 ((m / 2 ^ (16 * (2 * j))) / 2 ^ 8 % 2 ^ 8) ((m / 2 ^ (16 * (2 * j))) % 2 ^ 8) (omega arith), pow-add 2 (count_ones ((m / 2 ^ (16 * (2 * j))) % 2 ^ 8)) (count_ones ((m / 2 ^ (16 * (2 * j))) / 2 ^ 8 % 2 ^ 8)))
 
   half_joined : (j x y e o : ℕ) → x ≡ part 16 (2 * j) → y ≡ part 16 (2 * j + 1) → e ≡ 2 ^ count_ones (places 8 (2 * (2 * j))) → o ≡ 2 ^ count_ones (places 8 (2 * (2 * j) + 1))
       → (x + y * (e * o)) % 2 ^ 32 ≡ part 32 j
-  half_joined j x y e o lower upper even odd =
-      let at : 16 * (2 * j) ≡ 32 * j = omega arith in
-      ap₂ (λ (p q : ℕ). (p + q) % 2 ^ 32) lower (ap₂ (λ (p q : ℕ). p * q) upper (ap₂ (λ (p q : ℕ). p * q) even odd ∙ count_of_two j))
-      ∙ gathered-two 16 s m (32 * j) (16 * (2 * j)) (16 * (2 * j + 1)) (count_ones (places 16 (2 * j))) at (omega arith) (ap (λ k. count_ones (m / 2 ^ k % 2 ^ 16)) at)
+  half_joined j x y e o lower upper even odd = grind (arith, count_of_two, gathered-two)
 
   word_joined : (k x y p : ℕ) → x ≡ part 32 (2 * k) → y ≡ part 32 (2 * k + 1) → p ≡ places 32 (2 * k) → (x + y * 2 ^ count_ones p) % 2 ^ 64 ≡ part 64 k
-  word_joined k x y p lower upper is =
-      let at : 32 * (2 * k) ≡ 64 * k = omega arith in
-      ap₂ (λ (a b : ℕ). (a + b) % 2 ^ 64) lower (ap₂ (λ a b. a * 2 ^ count_ones b) upper is)
-      ∙ gathered-two 32 s m (64 * k) (32 * (2 * k)) (32 * (2 * k + 1)) (count_ones (places 32 (2 * k))) at (omega arith) (ap (λ i. count_ones (m / 2 ^ i % 2 ^ 32)) at)
+  word_joined k x y p lower upper is = grind (arith, gathered-two)
 
   byte_gathered : (i x a b : ℕ) → x ≡ gathered 8 a b → a ≡ s / 2 ^ (8 * i) % 2 ^ 8 → b ≡ places 8 i → x ≡ part 8 i
   byte_gathered i x a b is first second = is ∙ ap₂ (gathered 8) first second ∙ gathered-low 8 (s / 2 ^ (8 * i)) (m / 2 ^ (8 * i))
 
   -- the lower half of a word
   low_half : (k b : ℕ) → m / 2 ^ (64 * k) % 2 ^ 64 ≡ b → b % 2 ^ 32 ≡ places 32 (2 * k)
-  low_half k b is =
-      let at : 64 * k ≡ 32 * (2 * k) = omega arith in
-      ap (λ x. x % 2 ^ 32) (sym is) ∙ mod-mod-pow (m / 2 ^ (64 * k)) 32 32 ∙ ap (λ i. m / 2 ^ i % 2 ^ 32) at
+  low_half k b is = grind (arith, mod-mod-pow)
 
   extracted : (k r a b : ℕ) → r ≡ part 64 k → s / 2 ^ (64 * k) % 2 ^ 64 ≡ a → m / 2 ^ (64 * k) % 2 ^ 64 ≡ b → Extracts a b r
   extracted k r a b is first second =

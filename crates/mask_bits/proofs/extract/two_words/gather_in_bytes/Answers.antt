@@ -37,10 +37,4 @@ loop-passed-preserved c =
     ∙ ap (λ k. closed_from k m (bit_and s m)) (sym then))
 
 pub returns : goal.returns
-returns c =
-    let l = c.loop-passed in
-    let none : 7 - l.passed ≡ 0 = omega arith in
-    AreLanes-same l.invariant (λ j h.
-    let s : ℕ = get_or c.args.sources j 0 in
-    let m : ℕ = get_or c.args.masks j 0 in
-    ap (λ k. closed_from k m (bit_and s m)) none ∙ gathered-byte s m)
+returns c = grind (arith, closed_from, gathered-byte)

@@ -9,10 +9,7 @@ use Rattle.mask_bits.proofs.extract.two_words.join_halves.Goals as goal
 
 -- the halves of a word, with the upper one behind the bits of the lower one
 halves_joined : (x y z n : ℕ) → x < 2 ^ 32 → z ≡ x + y * 2 ^ 32 → (z % 2 ^ 32 + z / 2 ^ 32 * 2 ^ n) % 2 ^ 64 ≡ (x + y * 2 ^ n) % 2 ^ 64
-halves_joined x y z n fits is =
-    let lower : z % 2 ^ 32 ≡ x = omega (arith, is) in
-    let upper : z / 2 ^ 32 ≡ y = omega (arith, is) in
-    ap₂ (λ p q. (p + q * 2 ^ n) % 2 ^ 64) lower upper
+halves_joined x y z n fits is = grind arith
 
 pub returns : goal.returns
 returns c =
