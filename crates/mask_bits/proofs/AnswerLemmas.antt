@@ -43,15 +43,14 @@ answers_behind {T} gives (r ∷ rows) more (x ∷ a) b len front back =
     (answers_behind gives rows more a b (omega arith) (All-tail (λ (p : T × Bool). gives p.0 p.1) (r, x) (zip rows a) front) back)
 
 pub answers-append : {T : Type 0} (gives : T → Bool → Type 0) (rows more : List T) (a b : List Bool) → AreAnswers gives rows a → AreAnswers gives more b → AreAnswers gives (rows ++ more) (a ++ b)
-answers-append gives rows more a b front back =
-    grind (arith, length-append rows more, length-append a b, answers_behind gives rows more a b front.len front.each back.each)
+answers-append gives rows more a b front back = grind (arith, length-append, answers_behind gives rows more a b front.len front.each back.each)
 
 pub one_answer : {T : Type 0} (gives : T → Bool → Type 0) (row : T) (b : Bool) → gives row b → AreAnswers gives (row ∷ []) (b ∷ [])
 one_answer {T} gives row b is = record { len = refl; each = All-cons (λ (p : T × Bool). gives p.0 p.1) (row, b) [] is (All-nil (λ (p : T × Bool). gives p.0 p.1)) }
 
 -- the front of a list, and the part behind it
 pub take_part : {T : Type 0} (n m : ℕ) (rows : List T) → take n rows ++ take m (drop n rows) ≡ take (n + m) rows
-take_part n m rows = grind (arith, take-take n (n + m) rows (omega arith), drop-take n m rows, take-append-drop n (take (n + m) rows))
+take_part n m rows = grind (arith, take-take n (n + m) rows (omega arith), drop-take n m rows, take-append-drop)
 
 pub length-part : {T : Type 0} (rows : List T) (n e : ℕ) → e ≤ length rows → length (take (e - n) (drop n rows)) ≡ e - n
 length-part rows n e within = length-take-le (e - n) (drop n rows) (omega (arith, length-drop n rows))
@@ -61,7 +60,7 @@ pub answers-more : {T : Type 0} (gives : T → Bool → Type 0) (rows : List T) 
     → AreAnswers gives (take (e - n) (drop n rows)) (take (length (take (e - n) (drop n rows))) (word_bits w)) → new ≡ a ++ take (length (take (e - n) (drop n rows))) (word_bits w)
     → AreAnswers gives (take e rows) new
 answers-more gives rows n e w a new ordered front back same =
-    grind (arith, take_part n (e - n) rows, answers-append gives (take n rows) (take (e - n) (drop n rows)) a (take (length (take (e - n) (drop n rows))) (word_bits w)) front back)
+    grind (arith, take_part, answers-append gives (take n rows) (take (e - n) (drop n rows)) a (take (length (take (e - n) (drop n rows))) (word_bits w)) front back)
 
 -- ---- in lanes
 

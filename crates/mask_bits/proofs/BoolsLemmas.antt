@@ -17,11 +17,8 @@ is_set_lane : (b : Bool) → nat_eq (bool_byte b) 1 ≡ b
 is_set_lane true = refl
 is_set_lane false = refl
 
-past_front : (m : List Bool) (j k : ℕ) → j ≤ k → get_or (take j m) k false ≡ false
-past_front m j k h = get_or_past (take j m) k false (omega (arith, length-take j m))
-
 pub lanes-more : (m : List Bool) (lanes : List ℕ) (j : ℕ) → j < 64 → AreLanesOf m j lanes → AreLanesOf m (j + 1) (set lanes j (bool_byte (get_or m j false)))
-lanes-more m lanes j few before = grind (arith, length-set, get_or-set_same, is_set_lane, get_or-take, get_or-set_other, past_front)
+lanes-more m lanes j few before = grind (arith, length-set, get_or-set_same, is_set_lane, get_or-take, get_or-set_other, get_or_past, length-take)
 
 -- one more word of a list is written
 pub bools-more : (old new : List ℕ) (m part : List Bool) (i w : ℕ) → ((p : ℕ) → p < 64 * i → backing_bit old p ≡ get_or m p false)

@@ -56,7 +56,7 @@ pub ruleset len_facts = (len-of_list)
 -- a part of a buffer's list is the list of the same bytes from the part's first bit on
 pub values-part : (b : Packed) (s e : ℕ) → s ≤ e → e ≤ b.len → values (record b { offset = b.offset + s; len = e - s }) ≡ slice_range (values b) s e
 values-part b s e ordered within =
-    grind (arith, values_from_bits, length-between (values b) s e (omega (arith, length-values b)), length-values b, get_or-between, get_or-values)
+    grind (arith, values_from_bits, length-between (values b) s e (omega (arith, length-values b)), get_or-between, get_or-values)
 
 -- the first bits of bytes of one value
 pub values-ones : (n k : ℕ) → n ≤ 8 * k → values (record { bytes = replicate k 255; offset = 0; len = n }) ≡ repeated n true

@@ -24,7 +24,7 @@ front-none bytes = omega (arith, nil_from_length, length-values)
 pub front-set : (old new : List ℕ) (len q : ℕ) (v : Bool) → q < len → backing_bit new q ≡ v → ((p : ℕ) → p ≢ q → backing_bit new p ≡ backing_bit old p)
     → values (record { bytes = new; offset = 0; len = len }) ≡ set (values (record { bytes = old; offset = 0; len = len })) q v
 front-set old new len q v h here others =
-    grind (arith, length-values (record { bytes = old; offset = 0; len = len }), values_from_front, length-set (values (record { bytes = old; offset = 0; len = len })) q v, get_or-set_same (values (record { bytes = old; offset = 0; len = len })) q v false, get_or-set_other, get_or-front)
+    grind (arith, length-values (record { bytes = old; offset = 0; len = len }), values_from_front, length-set, get_or-set_same, get_or-set_other, get_or-front)
 
 pub set-here : (old new : List ℕ) (q : ℕ) → ((p : ℕ) → backing_bit new p ≡ (nat_eq p q || backing_bit old p)) → backing_bit new q ≡ true
 set-here old new q is = is q ∙ ap (λ b. b || backing_bit old q) (eq-eqb q q refl)
@@ -51,6 +51,6 @@ pub front-appended : (a b c : List ℕ) (at n : ℕ) (m l : List Bool) → value
 front-appended a b c at n m l was place stays w = grind (arith, written-front)
 
 pub room-appended : (b c xs : List ℕ) (at k n : ℕ) (m : List Bool) → n ≡ at + length m → length b ≡ k → length c ≡ k → k % 8 ≡ 0 → n ≤ 8 * k → IsWrittenBehind b c at m → IsRoom (take k (c ++ drop (length c) xs)) n
-room-appended b c xs at k n m place len same whole covered w = grind (arith, take_back k c xs same, written-clear b c at n m place w)
+room-appended b c xs at k n m place len same whole covered w = grind (arith, take_back, written-clear b c at n m place w)
 
 pub ruleset no_bits = (front-none)

@@ -30,15 +30,6 @@ use borrow.Rule.Slice.PartMut.{put_mid}
 abbrev pub both : ℕ → ℕ → ℕ → ℕ → List Bool
 both begun low word n = take low (word_bits begun) ++ take n (word_bits word)
 
-both-first : (begun low word n j : ℕ) → low < 64 → j < low → get_or (both begun low word n) j false ≡ nat_eq (bit_at begun j) 1
-both-first begun low word n j few h = grind (arith, get_or_append_left, length-take, length-word_bits, get_or-take, get_or-word_bits)
-
-both-second : (begun low word n j : ℕ) → low < 64 → n ≤ 64 → low ≤ j → j < low + n → get_or (both begun low word n) j false ≡ nat_eq (bit_at word (j - low)) 1
-both-second begun low word n j few many from h = grind (arith, get_or-append_right, length-take, length-word_bits, get_or-take, get_or-word_bits)
-
-length-both : (begun low word n : ℕ) → low < 64 → n ≤ 64 → length (both begun low word n) ≡ low + n
-length-both begun low word n few many = grind (arith, length-append, length-take, length-word_bits)
-
 -- the word that both begin, as the code computes it
 abbrev pub joined : ℕ → ℕ → ℕ → ℕ
 joined begun low word = bit_or begun (word * 2 ^ low % 2 ^ 64)
@@ -56,23 +47,23 @@ joined-second begun low word j above from h =
     omega (arith, bit_at_or begun (word * 2 ^ low % 2 ^ 64) j, bit_at-mod (word * 2 ^ low) 64 j h, bit_at-shl_high word low j from, above j from, bit_at-lt word (j - low))
 
 left_over-bit : (low word j : ℕ) → low < 64 → bit_at (left_over low word) j ≡ bit_at word (64 - low + j)
-left_over-bit low word j few = grind (arith, bit_at-shr (word / 2 ^ 1) (63 - low) j, bit_at-shr word 1 (63 - low + j))
+left_over-bit low word j few = grind (arith, bit_at-shr, bit_at-shr word 1 (63 - low + j))
 
 -- a bit of the first word of both
 joined-value : (begun low word n j : ℕ) → low < 64 → n ≤ 64 → ((i : ℕ) → low ≤ i → bit_at begun i ≡ 0) → j < 64 → j < low + n
     → nat_eq (bit_at (joined begun low word) j) 1 ≡ get_or (both begun low word n) j false
-joined-value begun low word n j few many above in_word h = grind (arith, joined-first, both-first, joined-second, both-second)
+joined-value begun low word n j few many above in_word h = grind (arith, joined-first, get_or_append_left, length-take, length-word_bits, get_or-take, get_or-word_bits, joined-second, get_or-append_right)
 
 -- both within one word
 joined-list : (begun low word n : ℕ) → low + n < 64 → ((i : ℕ) → low ≤ i → bit_at begun i ≡ 0) → take (low + n) (word_bits (joined begun low word)) ≡ both begun low word n
 joined-list begun low word n few above =
-    ext_get_or false _ _ (grind (arith, length-take, length-word_bits, length-both, get_or-take, get_or-word_bits, joined-value)) (λ j h. grind (arith, length-take, length-word_bits, length-both, get_or-take, get_or-word_bits, joined-value))
+    ext_get_or false _ _ (grind (arith, length-take, length-word_bits, length-append, get_or-take, get_or-word_bits, joined-value)) (λ j h. grind (arith, length-take, length-word_bits, length-append, get_or-take, get_or-word_bits, joined-value))
 
 -- and in two
 joined-lists : (begun low word n : ℕ) → low < 64 → n ≤ 64 → 64 ≤ low + n → ((i : ℕ) → low ≤ i → bit_at begun i ≡ 0)
     → word_bits (joined begun low word) ++ take (low + n - 64) (word_bits (left_over low word)) ≡ both begun low word n
 joined-lists begun low word n few many full above =
-    ext_get_or false _ _ (grind (arith, length-take, length-word_bits, length-append, length-both, get_or_append_left, get_or-word_bits, joined-value, get_or-append_right, get_or-take, left_over-bit, both-second)) (λ j h. grind (arith, length-take, length-word_bits, length-append, length-both, get_or_append_left, get_or-word_bits, joined-value, get_or-append_right, get_or-take, left_over-bit, both-second))
+    ext_get_or false _ _ (grind (arith, length-take, length-word_bits, length-append, get_or_append_left, get_or-word_bits, joined-value, get_or-append_right, get_or-take, left_over-bit)) (λ j h. grind (arith, length-take, length-word_bits, length-append, get_or_append_left, get_or-word_bits, joined-value, get_or-append_right, get_or-take, left_over-bit))
 
 -- ---- values put behind others
 

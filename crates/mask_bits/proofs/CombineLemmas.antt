@@ -16,9 +16,9 @@ use Rattle.mask_bits.specs.Words.{word_bits, window}
 use Rattle.mask_bits.proofs.BufferLemmas.{length-values, get_or-values, values_from_front}
 use Rattle.mask_bits.proofs.Lists.BooleanLemmas.{combined_itself, length-combined, get_or-combined}
 use Rattle.mask_bits.proofs.Lists.Words.FrontLemmas.{get_or-put_mid_below, get_or-put_mid_above, get_or-put_mid_inside, length-window, get_or-window, window-between, window_from_bits}
-use Rattle.mask_bits.proofs.Lists.Words.ShiftLemmas.{bit_of_not}
 use Rattle.mask_bits.proofs.Lists.Words.WordLemmas.{length-word_bits, get_or-word_bits}
 use borrow.Rule.Slice.PartMut.{put_mid}
+use Rattle.std.proofs.lemmas.Bool.Decides.{nat_tests}
 
 -- ---- windows
 
@@ -128,7 +128,7 @@ between-byte a b q i h =
           let at : p / 8 ≡ i = omega arith in
           let few : p % 8 < 8 = omega arith in
           let turned : bit_at (bit_xor x 255) (p % 8) ≡ 1 - bit_at x (p % 8) = omega (arith, bit_at_xor x 255 (p % 8), bit_at_ones 8 (p % 8) few, bit_at-lt x (p % 8)) in
-          grind (arith, at, get_or-set_at a i (p / 8), turned, bit_of_not (bit_at x (p % 8)) (bit_at-lt x (p % 8)));
+          grind (arith, at, get_or-set_at a i (p / 8), turned, nat_tests);
       outside = λ p apart. grind (arith, get_or-set_other a i (p / 8));
     }
 

@@ -143,7 +143,7 @@ pub count-step : (f : Bool → Bool → Bool) (a b : List ℕ) (p q i n v w r : 
     → word_bits v ≡ window a (p + 64 * i) → word_bits w ≡ window b (q + 64 * i) → word_bits r ≡ combined f (word_bits v) (word_bits w)
     → n + count_ones r ≡ count (combined f (bitmap a p (64 * (i + 1))) (bitmap b q (64 * (i + 1))))
 count-step f a b p q i n v w r before fits is_v is_w is_r =
-    grind (arith, window-whole, count-word_bits r fits, count-append, bitmap-combined f a b p q (64 * i) 64)
+    grind (arith, window-whole, count-word_bits, count-append, bitmap-combined f a b p q (64 * i) 64)
 
 -- of none
 pub count-none : (f : Bool → Bool → Bool) (a b : List ℕ) (p q : ℕ) → 0 ≡ count (combined f (bitmap a p 0) (bitmap b q 0))
@@ -158,7 +158,7 @@ pub count-low : (f : Bool → Bool → Bool) (a b : List ℕ) (p q v w r mask n 
     → word_bits v ≡ window a p → word_bits w ≡ window b q → word_bits r ≡ combined f (word_bits v) (word_bits w) → mask ≡ 2 ^ n - 1
     → count_ones (bit_and r mask) ≡ count (combined f (bitmap a p n) (bitmap b q n))
 count-low f a b p q v w r mask n few fits is_v is_w is_r is =
-    grind (arith, combined-take f n (window a p) (window b q), window-take a p n (omega arith), window-take b q n (omega arith), count-word_bits (bit_and r mask) fits, word_bits-low_mask r n (omega arith), count-append (take n (word_bits r)) (repeated (64 - n) false), count-repeated_false (64 - n))
+    grind (arith, combined-take, window-take, count-word_bits (bit_and r mask) fits, word_bits-low_mask, count-append, count-repeated_false)
 
 -- the same bits, seen from the byte that they begin in
 pub bitmap-byte : (bytes from : List ℕ) (low p n : ℕ) → from ≡ drop (p / 8) bytes → low ≡ p % 8 → bitmap from low n ≡ bitmap bytes p n

@@ -28,8 +28,7 @@ byte_small (suc i) n = omega arith
 
 low_bytes : (i k n : ℕ) → AreBytes (bytes_low_first i k n)
 low_bytes i zero n j = lit< tt
-low_bytes i (suc k) n zero = byte_small i n
-low_bytes i (suc k) n (suc j) = low_bytes (suc i) k n j
+low_bytes i (suc k) n j = grind (arith, lit<, byte_small, low_bytes (suc i) k)
 
 pub bytes-of_word : (w : ℕ) → AreBytes (to_le_bytes w64 w)
 bytes-of_word w = low_bytes 0 8 w
@@ -42,7 +41,7 @@ number-cons b bs = omega arith
 -- bit r of byte k
 bit_at-number_split : (bytes : List ℕ) (k r : ℕ) → AreBytes bytes → r < 8 → bit_at (number bytes) (8 * k + r) ≡ bit_at (get_or bytes k 0) r
 bit_at-number_split [] k r are low = bit_at-zero (8 * k + r) ∙ sym (bit_at-zero r)
-bit_at-number_split (b ∷ bs) zero r are low = grind (arith, number-cons b bs, bit_at_cat_low (number bs) 8 b r low)
+bit_at-number_split (b ∷ bs) zero r are low = grind (arith, bit_at_cat_low (number bs) 8 b r low)
 bit_at-number_split (b ∷ bs) (suc k) r are low =
     let above : 8 ≤ 8 * suc k + r = omega arith in
     let rest : 8 * suc k + r - 8 ≡ 8 * k + r = omega arith in
@@ -72,7 +71,7 @@ number-more : (n : ℕ) (bytes : List ℕ) → number (take (suc n) bytes) ≡ n
 number-more zero [] = omega arith
 number-more (suc n) [] = omega arith
 number-more zero (b ∷ bs) = omega arith
-number-more (suc n) (b ∷ bs) = grind (arith, pow-suc 256 n, mul_assoc (get_or bs n 0) (256 ^ n) 256, number-more n bs)
+number-more (suc n) (b ∷ bs) = grind (arith, mul_assoc (get_or bs n 0) (256 ^ n) 256, number-more n bs)
 
 number-sum : (k : ℕ) (bytes : List ℕ) → sum_through (λ i. byte_worth i (get_or bytes i 0)) k ≡ number (take (suc k) bytes)
 number-sum zero bytes = omega (arith, number-more 0 bytes)
@@ -91,8 +90,7 @@ number-append_zeros (b ∷ bs) ys none = ap (λ n. b + 256 * n) (number-append_z
 
 -- sixteen bytes that are there
 pub number-chunk : (bytes chunk : List ℕ) (k : ℕ) → chunk ≡ take 16 (take (k + 16 - k) (drop k bytes)) → from_le_bytes w128 chunk ≡ number (take 16 (drop k bytes))
-number-chunk bytes chunk k same =
-    grind (arith, length-take (k + 16 - k) (drop k bytes), take_all 16 (take (k + 16 - k) (drop k bytes)) (omega (arith, length-take (k + 16 - k) (drop k bytes))), number_of_sixteen chunk)
+number-chunk bytes chunk k same = grind (arith, length-take (k + 16 - k) (drop k bytes))
 
 -- shifting bytes out leaves those after them
 number-drop : (k : ℕ) (bytes : List ℕ) → AreBytes bytes → number bytes / 2 ^ (8 * k) ≡ number (drop k bytes)
@@ -131,7 +129,6 @@ number-padded_chunk bytes part k is short =
 -- ---- eight bytes read as a number
 
 pub bit_at-chunk : (chunk : List ℕ) (j : ℕ) → AreBytes chunk → j < 64 → bit_at (from_le_bytes w64 chunk) j ≡ bit_at (get_or chunk (j / 8) 0) (j % 8)
-bit_at-chunk chunk j are h =
-    grind (arith, number-sum 7 chunk, bit_at-number (take 8 chunk) j (bytes-take 8 chunk are), bytes-take 8 chunk are, get_or-take 8 chunk (j / 8) 0 (omega arith))
+bit_at-chunk chunk j are h = grind (arith, bit_at-number (take 8 chunk) j (bytes-take 8 chunk are))
 
 pub ruleset padded_bytes = (number-padded_chunk)

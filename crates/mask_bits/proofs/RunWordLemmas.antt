@@ -27,10 +27,6 @@ use Rattle.mask_bits.proofs.Lists.Words.WordLemmas.{length-word_bits, get_or-wor
 
 -- ---- edges of a word, popped in turn
 
--- a word, and its lowest bit and the others
-places-of_cleared : (base w : ℕ) → 0 < w → w < 2 ^ 64 → indices_from base (word_bits w) ≡ (base + low w) ∷ indices_from base (word_bits (cleared w))
-places-of_cleared base w some fits = places-lowest base w some fits ∙ ap (λ v. (base + low w) ∷ indices_from base (word_bits v)) (sym (cleared-some w some fits))
-
 none-of_cleared : (base w : ℕ) → w ≡ 0 → indices_from base (word_bits (cleared w)) ≡ []
 none-of_cleared base w none = ap (λ v. indices_from base (word_bits (cleared v))) none ∙ indices-of_none base
 
@@ -44,14 +40,8 @@ cleared-fits w fits = omega (arith, and_le_l w ((w + (2 ^ 64 - 1)) % 2 ^ 64))
 abbrev pub place : ℕ → ℕ → ℕ
 place base w = (base + low w) % 2 ^ 64
 
-place-some : (base w : ℕ) → base + 64 ≤ 2 ^ 64 → 0 < w → w < 2 ^ 64 → place base w ≡ base + low w
-place-some base w room some fits = mod-eq_of_lt (omega (arith, low-within w some fits))
-
-length-cleared : (base w : ℕ) → w < 2 ^ 64 → length (indices_from base (word_bits (cleared w))) ≡ length (indices_from base (word_bits w)) - 1
-length-cleared base w fits = grind (arith, places-of_cleared, none-of_cleared, none-of)
-
 pub AreEdges-pop : (base starts ends : ℕ) → AreEdges base starts ends → AreEdges base (cleared starts) (cleared ends)
-AreEdges-pop base starts ends are = grind (arith, cleared-fits, length-cleared)
+AreEdges-pop base starts ends are = grind (arith, cleared-fits, places-lowest, low, cleared-some, none-of_cleared, none-of)
 
 zip-none : (xs ys : List ℕ) → ys ≡ [] → zip xs ys ≡ []
 zip-none [] ys none = refl
@@ -65,12 +55,12 @@ no_runs_between base first starts ends none = zip-none (first ∷ indices_from b
 rest_of_starts : (base starts ends : ℕ) → base + 64 ≤ 2 ^ 64 → 0 < ends → AreEdges base starts ends
     → zip (indices_from base (word_bits starts)) (indices_from base (word_bits (cleared ends))) ≡ zip (place base starts ∷ indices_from base (word_bits (cleared starts))) (indices_from base (word_bits (cleared ends)))
 rest_of_starts base starts ends room some are =
-    grind (arith, cleared, places-of_cleared, place-some, nil_from_length, none-of, length-cleared, zip-none)
+    grind (arith, cleared, places-lowest, low, cleared-some, mod-eq_of_lt, low-within, nil_from_length, none-of, none-of_cleared, zip-none)
 
 pub runs_between-pop : (base first starts ends : ℕ) → base + 64 ≤ 2 ^ 64 → 0 < ends → AreEdges base starts ends
     → runs_between base first starts ends ≡ (first, place base ends) ∷ runs_between base (place base starts) (cleared starts) (cleared ends)
 unfolding runs_between
-runs_between-pop base first starts ends room some are = grind (arith, places-of_cleared, cleared, place-some, rest_of_starts)
+runs_between-pop base first starts ends room some are = grind (arith, places-lowest, low, cleared-some, cleared, mod-eq_of_lt, low-within, rest_of_starts)
 
 -- one more run, or another pair where no end is left
 pub RunsArePushed-more : (all : List (ℕ × ℕ)) (base : ℕ) (items : List (ℕ × ℕ)) (first starts ends : ℕ) (run : ℕ × ℕ) (f s e : ℕ)
@@ -95,18 +85,17 @@ length-runs_between base first starts ends are = grind (arith, length-zip, lengt
 pub first_begins : (base starts ends : ℕ) → base + 64 ≤ 2 ^ 64 → starts < 2 ^ 64 → length (indices_from base (word_bits ends)) ≤ length (indices_from base (word_bits starts))
     → runs_between base (place base starts) (cleared starts) ends ≡ zip (indices_from base (word_bits starts)) (indices_from base (word_bits ends))
 unfolding runs_between
-first_begins base starts ends room fits each = grind (arith, cleared, place-some, places-of_cleared, nil_from_length, none-of, zip-none)
+first_begins base starts ends room fits each = grind (arith, cleared, mod-eq_of_lt, low-within, places-lowest, low, cleared-some, nil_from_length, none-of, zip-none)
 
 pub AreEdges-first : (base starts ends : ℕ) → starts < 2 ^ 64 → ends < 2 ^ 64 → length (indices_from base (word_bits ends)) ≤ length (indices_from base (word_bits starts)) → AreEdges base (cleared starts) ends
-AreEdges-first base starts ends fits ends_fit each = grind (arith, cleared-fits, length-cleared)
+AreEdges-first base starts ends fits ends_fit each = grind (arith, cleared-fits, places-lowest, low, cleared-some, none-of_cleared, none-of)
 
 -- ---- runs of a list behind those of its first values
 
 -- a run that is open when a list begins with a true value
 with_index-behind : (n k : ℕ) (m : List Bool) → with_index n (runs_behind true (n + 1) k m) ≡ runs_behind true n k m
 with_index-behind n k [] = with_index-longer n k []
-with_index-behind n k (true ∷ m) = with_index-behind n (k + 1) m
-with_index-behind n k (false ∷ m) = with_index-longer n k (runs_from (k + 1) m)
+with_index-behind n k (v ∷ m) = grind (arith, with_index-longer, with_index-behind n (k + 1) m)
 
 runs_from-true : (n : ℕ) (m : List Bool) → runs_from n (true ∷ m) ≡ runs_behind true n (n + 1) m
 runs_from-true n [] = refl
@@ -136,32 +125,24 @@ open_of false start n (v ∷ m) = open_of v n (n + 1) m
 
 pub behind-more : (inside : Bool) (start n : ℕ) (m rest : List Bool) → runs_behind inside start n (m ++ rest)
     ≡ zip (begins inside start (indices_from n (starts_of inside m))) (indices_from n (ends_of inside m)) ++ runs_behind (last_of inside m) (open_of inside start n m) (n + length m) rest
-behind-more true start n [] rest = ap (λ k. runs_behind true start k rest) (sym (add-zero n))
-behind-more false start n [] rest = ap (λ k. runs_behind false start k rest) (sym (add-zero n))
-behind-more true start n (true ∷ m) rest = grind (arith, behind-more true start (n + 1) m rest)
-behind-more true start n (false ∷ m) rest = grind (arith, behind-more false start (n + 1) m rest)
-behind-more false start n (true ∷ m) rest = grind (arith, runs_from-true n (m ++ rest), behind-more true n (n + 1) m rest)
-behind-more false start n (false ∷ m) rest = grind (arith, behind-more false n (n + 1) m rest)
+behind-more inside start n [] rest = grind arith
+behind-more inside start n (v ∷ m) rest =
+    grind (arith, add-zero, runs_from-true, behind-more true start (n + 1) m, behind-more false start (n + 1) m, behind-more true n (n + 1) m, behind-more false n (n + 1) m)
 
 pub each_begins : (inside : Bool) (start n : ℕ) (m : List Bool) → length (indices_from n (ends_of inside m)) ≤ length (begins inside start (indices_from n (starts_of inside m)))
-each_begins true start n [] = omega arith
-each_begins false start n [] = omega arith
-each_begins true start n (true ∷ m) = grind (arith, each_begins true start (n + 1) m)
-each_begins true start n (false ∷ m) = grind (arith, each_begins false start (n + 1) m)
-each_begins false start n (true ∷ m) = grind (arith, each_begins true n (n + 1) m)
-each_begins false start n (false ∷ m) = grind (arith, each_begins false n (n + 1) m)
+each_begins inside start n [] = grind arith
+each_begins inside start n (v ∷ m) =
+    grind (arith, each_begins true start (n + 1) m, each_begins false start (n + 1) m, each_begins true n (n + 1) m, each_begins false n (n + 1) m)
 
 -- ---- the words of starts and ends
 
 get_or-starts_of : (before : Bool) (m : List Bool) (j : ℕ) → j < length m → get_or (starts_of before m) j false ≡ (get_or m j false && not (get_or (before ∷ m) j false))
 get_or-starts_of before [] j h = absurd (omega arith)
-get_or-starts_of before (v ∷ m) zero h = refl
-get_or-starts_of before (v ∷ m) (suc j) h = get_or-starts_of v m j (omega arith)
+get_or-starts_of before (v ∷ m) j h = grind (arith, get_or-starts_of v m)
 
 get_or-ends_of : (before : Bool) (m : List Bool) (j : ℕ) → j < length m → get_or (ends_of before m) j false ≡ (get_or (before ∷ m) j false && not (get_or m j false))
 get_or-ends_of before [] j h = absurd (omega arith)
-get_or-ends_of before (v ∷ m) zero h = refl
-get_or-ends_of before (v ∷ m) (suc j) h = get_or-ends_of v m j (omega arith)
+get_or-ends_of before (v ∷ m) j h = grind (arith, get_or-ends_of v m)
 
 length-starts_of : (before : Bool) (m : List Bool) → length (starts_of before m) ≡ length m
 length-starts_of before [] = refl
@@ -278,12 +259,8 @@ each_of_word_begins inside start base w b fits b_fits shows =
 
 -- a word that has no edge
 behind-same : (inside : Bool) (start n : ℕ) (m rest : List Bool) → m ≡ take (length m) (inside ∷ m) → runs_behind inside start (n + length m) rest ≡ runs_behind inside start n (m ++ rest)
-behind-same true start n [] rest e = ap (λ k. runs_behind true start k rest) (add-zero n)
-behind-same false start n [] rest e = ap (λ k. runs_behind false start k rest) (add-zero n)
-behind-same true start n (true ∷ m) rest e = ap (λ k. runs_behind true start k rest) (omega arith) ∙ behind-same true start (n + 1) m rest (ap (drop 1) e)
-behind-same false start n (false ∷ m) rest e = ap (λ k. runs_behind false start k rest) (omega arith) ∙ behind-same false start (n + 1) m rest (ap (drop 1) e)
-behind-same true start n (false ∷ m) rest e = cc
-behind-same false start n (true ∷ m) rest e = cc
+behind-same inside start n [] rest e = grind arith
+behind-same inside start n (v ∷ m) rest e = grind (arith, add-zero, behind-same true start (n + 1) m, behind-same false start (n + 1) m)
 
 pub behind-same_word : (inside : Bool) (start base w b : ℕ) (rest : List Bool) → word_bits b ≡ take 64 (inside ∷ word_bits w) → w ≡ b → runs_behind inside start (base + 64) rest ≡ runs_behind inside start base (word_bits w ++ rest)
 behind-same_word inside start base w b rest shows same = grind (arith, length-word_bits w, behind-same)
@@ -298,10 +275,8 @@ get_or-others true j h = get_or-word_bits 1 (suc j) false h ∙ ap (λ n. nat_eq
 get_or-others false j h = get_or-word_bits 0 (suc j) false h ∙ ap (λ n. nat_eq n 1) (bit_at-zero (suc j))
 
 before-bit : (inside : Bool) (w j : ℕ) → j < 64 → get_or (word_bits (bit_or (w * 2 ^ 1 % 2 ^ 64) (bool_byte inside))) j false ≡ get_or (inside ∷ word_bits w) j false
-before-bit inside w zero h =
-    grind (arith, get_or-word_bits_or (w * 2 ^ 1 % 2 ^ 64) (bool_byte inside) 0 h, get_or-word_bits_shl_low w 1 0 h (omega arith), get_or-first inside)
-before-bit inside w (suc j) h =
-    grind (arith, get_or-word_bits_or (w * 2 ^ 1 % 2 ^ 64) (bool_byte inside) (suc j) h, get_or-word_bits_shl_high w 1 (suc j) h (omega arith), get_or-others inside j h, or-false (get_or (word_bits w) j false))
+before-bit inside w zero h = grind (arith, get_or-word_bits_or, get_or-word_bits_shl_low w 1 0 h (omega arith), get_or-first)
+before-bit inside w (suc j) h = grind (arith, get_or-word_bits_or, get_or-word_bits_shl_high w 1 (suc j) h (omega arith), get_or-others)
 
 pub word_bits-before : (inside : Bool) (w : ℕ) → word_bits (bit_or (w * 2 ^ 1 % 2 ^ 64) (bool_byte inside)) ≡ take 64 (inside ∷ word_bits w)
 word_bits-before inside w =
@@ -340,12 +315,9 @@ behind-whole m i =
 -- false values at the end begin and lengthen no run
 behind-padded : (inside : Bool) (start n : ℕ) (m : List Bool) (k : ℕ) → runs_behind inside start n (m ++ repeated (suc k) false) ≡ runs_behind inside start n m
 unfolding repeated
-behind-padded true start n [] k = ap (λ (rs : List (ℕ × ℕ)). (start, n) ∷ rs) (runs_from-repeated_false (n + 1) k)
-behind-padded false start n [] k = runs_from-repeated_false n (suc k)
-behind-padded true start n (true ∷ m) k = behind-padded true start (n + 1) m k
-behind-padded true start n (false ∷ m) k = ap (λ (rs : List (ℕ × ℕ)). (start, n) ∷ rs) (behind-padded false start (n + 1) m k)
-behind-padded false start n (true ∷ m) k = runs_from-true n (m ++ repeated (suc k) false) ∙ behind-padded true n (n + 1) m k ∙ sym (runs_from-true n m)
-behind-padded false start n (false ∷ m) k = behind-padded false start (n + 1) m k
+behind-padded inside start n [] k = grind (arith, runs_from-repeated_false, runs_from-true)
+behind-padded inside start n (v ∷ m) k =
+    grind (arith, runs_from-repeated_false, runs_from-true, behind-padded true start (n + 1) m, behind-padded false start (n + 1) m, behind-padded true n (n + 1) m)
 
 pub behind-remainder : (inside : Bool) (start n : ℕ) (m : List Bool) → runs_behind inside start n (padded_remainder m) ≡ runs_behind inside start n (drop (64 * (length m / 64)) m)
 behind-remainder inside start n m = grind (arith, behind-padded inside start n (drop (64 * (length m / 64)) m) (63 - length m % 64))

@@ -14,7 +14,7 @@ with_bit bytes q = set bytes (q / 8) (bit_or (get_or bytes (q / 8) 0) (1 * 2 ^ (
 -- setting a bit sets that one alone
 pub backing_bit-with_bit : (bytes : List ℕ) (q p : ℕ) → q < 8 * length bytes → backing_bit (with_bit bytes q) p ≡ (nat_eq p q || backing_bit bytes p)
 backing_bit-with_bit bytes q p h =
-    grind (arith, get_or-set_at bytes (q / 8) (p / 8), get_or-set_other, bit_at_set_same w8 (get_or bytes (q / 8) 0) (q % 8), bit_at_set_other w8 (get_or bytes (q / 8) 0) (q % 8))
+    grind (arith, get_or-set_at, get_or-set_other, bit_at_set_same w8 (get_or bytes (q / 8) 0) (q % 8), bit_at_set_other w8 (get_or bytes (q / 8) 0) (q % 8))
 
 -- each bit of bytes of ones is set
 pub backing_bit-ones : (n p : ℕ) → p < 8 * n → backing_bit (replicate n 255) p ≡ true
@@ -27,4 +27,4 @@ without_bit bytes q = set bytes (q / 8) (bit_and (get_or bytes (q / 8) 0) (bit_n
 -- clearing a bit clears that one alone
 pub backing_bit-without_bit : (bytes : List ℕ) (q p : ℕ) → q < 8 * length bytes → backing_bit (without_bit bytes q) p ≡ (not (nat_eq p q) && backing_bit bytes p)
 backing_bit-without_bit bytes q p h =
-    grind (arith, get_or-set_at bytes (q / 8) (p / 8), get_or-set_other, bit_at_clear_same w8 (get_or bytes (q / 8) 0) (q % 8), bit_at_clear_other w8 (get_or bytes (q / 8) 0) (q % 8))
+    grind (arith, get_or-set_at, get_or-set_other, bit_at_clear_same w8 (get_or bytes (q / 8) 0) (q % 8), bit_at_clear_other w8 (get_or bytes (q / 8) 0) (q % 8))

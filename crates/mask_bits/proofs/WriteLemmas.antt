@@ -44,10 +44,6 @@ written-clear a b at n m place w = λ p h. grind (arith, w.comes (p - at), get_o
 
 -- ---- a word
 
--- what a shift leaves, past its end too
-shr_value : (w r j : ℕ) → w < 2 ^ 64 → get_or (word_bits (w / 2 ^ r)) j false ≡ get_or (word_bits w) (r + j) false
-shr_value w r j fits = grind (arith, get_or-word_bits_shr, get_or_past, length-word_bits)
-
 -- the bits of the word in which the list begins
 word_begins : (old new : List ℕ) (i low w word j : ℕ) → low < 64 → j < 64
     → word_bits w ≡ window old (64 * i) → window new (64 * i) ≡ word_bits (bit_or w (word * 2 ^ low % 2 ^ 64))
@@ -85,10 +81,6 @@ written-word old new i m len clear here others = grind (arith, get_or-window, ge
 
 -- ---- the lowest bits of a word
 
--- zeros behind a list change no value
-padded_value : (m x : List Bool) (n i : ℕ) → x ≡ m ++ repeated n false → get_or x i false ≡ get_or m i false
-padded_value m x n i is = ap (λ (y : List Bool). get_or y i false) is ∙ get_or-padded m n i
-
 written-same : (a b : List ℕ) (at : ℕ) (m k : List Bool) → ((i : ℕ) → get_or m i false ≡ get_or k i false) → IsWrittenBehind a b at m → IsWrittenBehind a b at k
 written-same a b at m k same w = record { stays = w.stays; comes = λ i. w.comes i ∙ same i }
 
@@ -96,7 +88,7 @@ written-same a b at m k same w = record { stays = w.stays; comes = λ i. w.comes
 pub written-one : (old new : List ℕ) (at count word : ℕ) (m : List Bool)
     → at % 64 + count ≤ 64 → length m ≡ count → word_bits word ≡ m ++ repeated (64 - count) false
     → IsWrittenBehind old new at (take (64 - at % 64) (word_bits word)) → IsWrittenBehind old new at m
-written-one old new at count word m within len padded w = grind (arith, get_or-take, padded_value, get_or_past, length-take)
+written-one old new at count word m within len padded w = grind (arith, get_or-take, get_or-padded, get_or_past, length-take)
 
 -- over the end of a word
 pub written-two : (old mid new : List ℕ) (at count word : ℕ) (m : List Bool)
@@ -114,7 +106,7 @@ written-two old mid new at count word m over few fits padded first here others =
     let place : 64 * next ≡ at + length begun = omega arith in
     let second = written-word mid new next rest (length-word_bits (word / 2 ^ cut)) (written-clear old mid at (64 * next) begun place first) here others in
     written-same old new at (begun ++ rest) m (λ i.
-    grind (arith, get_or_append_left begun rest false i, get_or-take cut (word_bits word) i false, padded_value m (word_bits word) (64 - count) i padded, get_or-append_right begun rest cut i false begun_len, shr_value word cut (i - cut) fits))
+    grind (arith, get_or_append_left begun rest false i, get_or-take cut (word_bits word) i false, get_or-padded, get_or-append_right begun rest cut i false begun_len, get_or-word_bits_shr, get_or_past, length-word_bits))
     (written-join old mid new at (64 * next) begun rest place first second)
 
 -- ---- one value, many times
@@ -136,7 +128,7 @@ written-ones a b at n few w = written-is a b at (take n (word_bits 1844674407370
 pub written-more_ones : (a b c : List ℕ) (at n k next : ℕ) → next ≡ at + n → IsWrittenBehind a b at (repeated n true) → IsWrittenBehind b c next (repeated k true) → IsWrittenBehind a c at (repeated (n + k) true)
 unfolding repeated
 written-more_ones a b c at n k next place first second =
-    grind (arith, written-is a c at (replicate n true ++ replicate k true) (replicate (n + k) true) (replicate-append-replicate n k true), replicate-append-replicate n k true, written-join a b c at next (replicate n true) (replicate k true) (omega (arith, length-replicate n true)) first second, length-replicate n true)
+    grind (arith, written-is a c at (replicate n true ++ replicate k true) (replicate (n + k) true) (replicate-append-replicate n k true), written-join a b c at next (replicate n true) (replicate k true) (omega (arith, length-replicate n true)) first second)
 
 pub written-ones_clear : (a b : List ℕ) (at n next : ℕ) → next ≡ at + n → IsWrittenBehind a b at (repeated n true) → AreClearFrom next b
 written-ones_clear a b at n next place w = written-clear a b at next (repeated n true) (omega (arith, length-repeated n true)) w
@@ -172,8 +164,7 @@ written-no_bits a from at offset clear = grind (arith, length-values, get_or_pas
 pub written-more : (a b c from : List ℕ) (at offset n k next : ℕ) (m : List Bool) → next ≡ at + n → m ≡ values (record { bytes = from; offset = offset + n; len = k })
     → IsWrittenBehind a b at (values (record { bytes = from; offset = offset; len = n })) → IsWrittenBehind b c next m
     → IsWrittenBehind a c at (values (record { bytes = from; offset = offset; len = n + k }))
-written-more a b c from at offset n k next m place is first second =
-    grind (arith, written-is b c next m (values (record { bytes = from; offset = offset + n; len = k })) is second, values-join from offset n k, written-join, length-values (record { bytes = from; offset = offset; len = n }))
+written-more a b c from at offset n k next m place is first second = grind (arith, values-join from offset n k, written-join, length-values)
 
 pub written-bits_clear : (a b from : List ℕ) (at offset n next : ℕ) → next ≡ at + n → IsWrittenBehind a b at (values (record { bytes = from; offset = offset; len = n })) → AreClearFrom next b
 written-bits_clear a b from at offset n next place w =

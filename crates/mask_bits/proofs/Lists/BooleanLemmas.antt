@@ -83,9 +83,7 @@ combined-append f (x ∷ a) (y ∷ b) c d len = ap (λ (xs : List Bool). f x y �
 -- the first values
 pub combined-take : (f : Bool → Bool → Bool) (n : ℕ) (a b : List Bool) → take n (combined f a b) ≡ combined f (take n a) (take n b)
 combined-take f zero a b = refl
-combined-take f (suc n) [] b = refl
-combined-take f (suc n) (x ∷ a) [] = refl
-combined-take f (suc n) (x ∷ a) (y ∷ b) = ap (λ (xs : List Bool). f x y ∷ xs) (combined-take f n a b)
+combined-take f (suc n) a b = grind (arith, combined-take f n)
 
 -- the other side itself, or one value alone
 pub map-itself : (m : List Bool) → map (λ (x : Bool). x) m ≡ m

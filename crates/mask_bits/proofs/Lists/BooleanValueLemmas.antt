@@ -19,9 +19,7 @@ use Rattle.mask_bits.proofs.Lists.Places.PlaceLemmas.{trues, count-trues, count-
 
 pub value_of_and : ValueOfAnd
 value_of_and [] b i = refl
-value_of_and (x ∷ a) [] i = grind arith
-value_of_and (x ∷ a) (y ∷ b) zero = refl
-value_of_and (x ∷ a) (y ∷ b) (suc i) = value_of_and a b i
+value_of_and (x ∷ a) b i = grind (arith, value_of_and a)
 
 pub value_of_or : ValueOfOr
 value_of_or a b i len = value-combined (λ x y. x || y) a b i refl len
@@ -31,8 +29,7 @@ value_of_and_not a b i len = value-combined (λ x y. x && not y) a b i refl len
 
 pub value_of_not : ValueOfNot
 value_of_not [] i h = absurd (omega arith)
-value_of_not (x ∷ a) zero h = refl
-value_of_not (x ∷ a) (suc i) h = value_of_not a i (omega arith)
+value_of_not (x ∷ a) i h = grind (arith, value_of_not a)
 
 pub value_of_true_at : ValueOfTrueAt
 unfolding true_at
@@ -40,13 +37,11 @@ value_of_true_at n indices i h = get_or-map-range_with_len (λ j. list_any (nat_
 
 pub complement_of_and : ComplementOfAnd
 complement_of_and [] b = refl
-complement_of_and (x ∷ a) [] = refl
-complement_of_and (x ∷ a) (y ∷ b) = grind (arith, complement_of_and a b)
+complement_of_and (x ∷ a) b = grind (arith, complement_of_and a)
 
 pub complement_of_or : ComplementOfOr
 complement_of_or [] b = refl
-complement_of_or (x ∷ a) [] = refl
-complement_of_or (x ∷ a) (y ∷ b) = grind (arith, complement_of_or a b)
+complement_of_or (x ∷ a) b = grind (arith, complement_of_or a)
 
 pub list_of_one_value : ListOfOneValue
 list_of_one_value m v all = repeated_from_All v m all
@@ -62,13 +57,11 @@ count_of_complement m = omega (arith, trues-complement m, count-trues m, count-t
 
 trues-and_first : (a b : List Bool) → trues (and_of a b) ≤ trues a
 trues-and_first [] b = omega arith
-trues-and_first (x ∷ a) [] = omega arith
-trues-and_first (x ∷ a) (y ∷ b) = grind (arith, trues-and_first a b)
+trues-and_first (x ∷ a) b = grind (arith, trues-and_first a)
 
 trues-and_second : (a b : List Bool) → trues (and_of a b) ≤ trues b
 trues-and_second [] b = omega arith
-trues-and_second (x ∷ a) [] = omega arith
-trues-and_second (x ∷ a) (y ∷ b) = grind (arith, trues-and_second a b)
+trues-and_second (x ∷ a) b = grind (arith, trues-and_second a)
 
 pub count_of_and : CountOfAnd
 count_of_and a b = grind (arith, trues-and_first, count-trues, trues-and_second)
@@ -83,10 +76,8 @@ pub count_of_and_with_or : CountOfAndWithOr
 count_of_and_with_or a b len = omega (arith, trues-and_or a b len, count-trues a, count-trues b, count-trues (and_of a b), count-trues (or_of a b))
 
 trues-and_and_not : (a b : List Bool) → length a ≡ length b → trues (and_of a b) + trues (and_not_of a b) ≡ trues a
-trues-and_and_not [] [] len = refl
-trues-and_and_not [] (y ∷ b) len = absurd (omega arith)
-trues-and_and_not (x ∷ a) [] len = absurd (omega arith)
-trues-and_and_not (x ∷ a) (y ∷ b) len = grind (arith, trues-and_and_not a b)
+trues-and_and_not [] b len = grind arith
+trues-and_and_not (x ∷ a) b len = grind (arith, trues-and_and_not a)
 
 pub count_of_and_with_and_not : CountOfAndWithAndNot
 count_of_and_with_and_not a b len = omega (arith, trues-and_and_not a b len, count-trues a, count-trues (and_of a b), count-trues (and_not_of a b))

@@ -40,8 +40,7 @@ chosen_at_positions rows m = refl
 items_where_true-repeated : (v : Bool) (m : List Bool) → items_where_true m (repeated (length m) v) ≡ repeated (trues m) v
 unfolding repeated
 items_where_true-repeated v [] = refl
-items_where_true-repeated v (true ∷ m) = ap (λ (xs : List Bool). v ∷ xs) (items_where_true-repeated v m)
-items_where_true-repeated v (false ∷ m) = items_where_true-repeated v m
+items_where_true-repeated v (x0 ∷ m) = grind (arith, items_where_true-repeated v m)
 
 pub chosen_of_repeated : (n : ℕ) (v : Bool) (m : List Bool) → n ≡ length m → chosen (repeated n v) m ≡ repeated (count m) v
 chosen_of_repeated n v m len = ap (λ k. chosen (repeated k v) m) len ∙ chosen-items_where_true (repeated (length m) v) m ∙ items_where_true-repeated v m ∙ ap (λ k. repeated k v) (sym (count-trues m))

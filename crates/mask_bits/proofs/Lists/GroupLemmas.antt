@@ -29,9 +29,7 @@ none_past s e n (v ∷ m) past = grind (arith, none_past s e (n + 1) m)
 inside_front : (s e n k : ℕ) (m : List Bool) → s ≤ n → e ≡ n + k → inside_from s e n m ≡ trues (take k m)
 unfolding inside_from
 inside_front s e n zero m begins ends = none_past s e n m (omega arith)
-inside_front s e n (suc k) [] begins ends = refl
-inside_front s e n (suc k) (true ∷ m) begins ends = grind (arith, common_steps, counted, inside_front s e (n + 1) k m (omega arith) (omega arith))
-inside_front s e n (suc k) (false ∷ m) begins ends = inside_front s e (n + 1) k m (omega arith) (omega arith)
+inside_front s e n (suc k) m begins ends = grind (arith, none_past, common_steps, inside_front s e (n + 1) k)
 
 -- in a part of k values that begins i values further on
 inside_part : (s e n i k : ℕ) (m : List Bool) → s ≡ n + i → e ≡ s + k → inside_from s e n m ≡ trues (take k (drop i m))

@@ -97,9 +97,6 @@ limited-none m = limited-kept m 0 ∙ kept-none m
 pub limited-all : (m : List Bool) (k : ℕ) → count m ≤ k → limited m k ≡ m
 limited-all m k h = limited-kept m k ∙ kept-all m k (omega (arith, count-trues m))
 
-pub limited-cut : (m : List Bool) (k p : ℕ) → slice_get (positions m) k ≡ Some p → limited m k ≡ take p m ++ repeated (length m - p) false
-limited-cut m k p at = grind (arith, limited-kept, kept-cut, slice_get_within, count-trues, get_or_from_slice_get)
-
 -- a part up to that place, and false values behind it
 pub limited-front : (m front : List Bool) (k p n : ℕ) → slice_get (positions m) k ≡ Some p → p < length m → front ≡ slice_range m 0 p → n ≡ length m → front ++ repeated (n - length front) false ≡ limited m k
-limited-front m front k p n at within is len = grind (arith, length-take, limited-cut)
+limited-front m front k p n at within is len = grind (arith, length-take, limited-kept, kept-cut, slice_get_within, count-trues, get_or_from_slice_get)

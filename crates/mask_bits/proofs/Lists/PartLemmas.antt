@@ -7,14 +7,10 @@ use Rattle.mask_bits.specs.Laws.Parts.{PartOfPart, PartOfConcat}
 use Rattle.mask_bits.specs.Positions.{repeated}
 
 pub part_of_part : PartOfPart
-part_of_part m s e t u within = grind (arith, drop-take t (e - s - t) (drop s m), take-take (u - t) (e - s - t) (drop t (drop s m)), drop-drop t s m)
-
--- the values between two lists
-between-sides : (xs m ys : List Bool) → slice_range (xs ++ (m ++ ys)) (length xs) (length xs + length m) ≡ m
-between-sides xs m ys = grind (arith, drop-append-le, drop_all, take-append-le, take_all)
+part_of_part m s e t u within = grind (arith, drop-take t (e - s - t) (drop s m), take-take, drop-drop)
 
 pub part_of_concat : PartOfConcat
-part_of_concat before after m = grind (arith, flat_map-append, between-sides)
+part_of_concat before after m = grind (arith, flat_map-append, drop-append-le, drop_all, take-append-le, take_all)
 
 -- a part of a list of one value
 pub part_of_repeated : (n : ℕ) (v : Bool) (s e : ℕ) → s ≤ e → e ≤ n → slice_range (repeated n v) s e ≡ repeated (e - s) v

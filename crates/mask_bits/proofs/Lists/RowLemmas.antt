@@ -72,10 +72,8 @@ limit_of_rank_intersection a b k fits = grind (arith, limited-kept, rank_interse
 -- ---- rows that are truth values
 
 narrow-chosen : (a c : List Bool) → length c ≡ length a → narrow a (items_where_true a c) ≡ and_of a c
-narrow-chosen [] [] len = refl
-narrow-chosen [] (v ∷ c) len = absurd (omega arith)
-narrow-chosen (v ∷ a) [] len = absurd (omega arith)
-narrow-chosen (v ∷ a) (w ∷ c) len = grind (arith, narrow-chosen a c)
+narrow-chosen [] c len = grind arith
+narrow-chosen (v ∷ a) c len = grind (arith, narrow-chosen a)
 
 pub narrowed_by_chosen : NarrowedByChosen
 narrowed_by_chosen a c len = grind (arith, chosen-items_where_true, length-chosen, rank_intersection-narrow, narrow-chosen)

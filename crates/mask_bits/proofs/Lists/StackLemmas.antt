@@ -51,8 +51,7 @@ fold_of_no_row first (m ∷ ms) none stack =
 -- neighbors above a first mask
 neighbors_above : (first a b : List Bool) (below above : List (List Bool)) → IsStack (first ∷ below ++ a ∷ b ∷ above)
     → IsStack (first ∷ below ++ rank_intersection a b ∷ above) × (folded_left (first ∷ below ++ rank_intersection a b ∷ above) ≡ folded_left (first ∷ below ++ a ∷ b ∷ above))
-neighbors_above first a b [] above stack =
-    grind (arith, keeps_a_stack_above first a b above stack, fold, rank_intersection_associative first a b stack.0 stack.1.0)
+neighbors_above first a b [] above stack = grind (arith, keeps_a_stack_above first a b above stack, rank_intersection_associative)
 neighbors_above first a b (m ∷ below) above stack =
     let folded = folding_keeps_a_stack first m (below ++ a ∷ b ∷ above) stack in
     ((stack.0, (neighbors_above m a b below above stack.1).0), (neighbors_above (rank_intersection first m) a b below above folded).1)

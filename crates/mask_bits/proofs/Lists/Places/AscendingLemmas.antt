@@ -26,9 +26,6 @@ Rising-from low high (p ∷ ps) first ascending within = (
   Rising-from (p + 1) high ps (λ k d below h. grind (arith, ascending 0, get_or_default ps 0 d 0)) (λ k h. grind (arith, ascending (suc k))) (λ k d h. within (suc k) d (omega arith)),
 )
 
-pub Rising-ascending : (high : ℕ) (ps : List ℕ) → IsStrictlyIncreasing ps → All (λ p. p < high) ps → Rising 0 high ps
-Rising-ascending high ps ascending within = Rising-from 0 high ps (λ k d first h. omega arith) ascending within
-
 -- each is above the one before it
 pub ascending-Rising : (low high : ℕ) (ps : List ℕ) → Rising low high ps → IsStrictlyIncreasing ps
 ascending-Rising low high [] r k h = absurd (omega arith)
@@ -75,11 +72,10 @@ true_from a (suc n) high (p ∷ ps) e r =
 -- the true places of the list that is true at ascending places within it are these
 pub positions-true_at : (n : ℕ) (ps : List ℕ) → IsStrictlyIncreasing ps → All (λ p. p < n) ps → positions (true_at n ps) ≡ ps
 unfolding true_at
-positions-true_at n ps ascending within = grind (arith, true_from, Rising-ascending)
+positions-true_at n ps ascending within = grind (arith, true_from, Rising-from)
 
 -- as many places as there are are all of them
 pub positions-full : (n : ℕ) (ps : List ℕ) → IsStrictlyIncreasing ps → All (λ p. p < n) ps → length ps ≡ n → positions (repeated n true) ≡ ps
-positions-full n ps ascending within full =
-    grind (arith, positions-true_at n ps ascending within, all_true_from_count 0 (true_at n ps), length-true_at n ps)
+positions-full n ps ascending within full = grind (arith, positions-true_at n ps ascending within, all_true_from_count, length-true_at)
 
 pub ruleset ascending_facts = (positions-ascending)

@@ -15,13 +15,6 @@ length-indices_from n (v ∷ m) = grind (arith, length-indices_from (n + 1) m)
 get_or-take_past : (m : List Bool) (n p : ℕ) → n ≤ p → get_or (take n m) p false ≡ false
 get_or-take_past m n p h = get_or_past (take n m) p false (omega (arith, length-take n m))
 
--- one more value, at each place
-pub get_or-take_true : (m : List Bool) (i p : ℕ) → get_or m i false ≡ true → get_or (take (i + 1) m) p false ≡ (nat_eq p i || get_or (take i m) p false)
-get_or-take_true m i p e = grind (arith, get_or-take, get_or-take_past)
-
-pub get_or-take_false : (m : List Bool) (i p : ℕ) → get_or m i false ≡ false → get_or (take (i + 1) m) p false ≡ get_or (take i m) p false
-get_or-take_false m i p e = grind (arith, get_or-take, get_or-take_past)
-
 -- ---- the recursion on a list's first value
 
 -- the places of a list that stands one further on

@@ -46,12 +46,9 @@ part-split m i =
     padded_part_from_values m (front ++ repeated n false) i (omega (arith, length-take 64 (drop (64 * i) m), length-append front (repeated n false), length-repeated n false)) (λ j h.
     get_or-padded front n j ∙ get_or-take 64 (drop (64 * i) m) j false h ∙ get_or-drop (64 * i) m j false)
 
-count-part : (m : List Bool) (i : ℕ) → count (take 64 (drop (64 * i) m)) ≡ count (padded_part m i)
-count-part m i = grind (arith, part-split, count-append, count-repeated_false)
-
 -- the true values of one more started word
 pub count-word_more : (m : List Bool) (i : ℕ) → count (take (64 * (i + 1)) m) ≡ count (take (64 * i) m) + count (padded_part m i)
-count-word_more m i = grind (arith, take-add (64 * i) 64 m, count-append (take (64 * i) m) (take 64 (drop (64 * i) m)), count-part m i)
+count-word_more m i = grind (arith, take-add (64 * i) 64 m, count-append (take (64 * i) m) (take 64 (drop (64 * i) m)), part-split, count-append, count-repeated_false)
 
 -- the false values of the last word hold no index
 indices-part : (m : List Bool) (n i : ℕ) → indices_from n (padded_part m i) ≡ indices_from n (take 64 (drop (64 * i) m))
@@ -59,7 +56,7 @@ indices-part m n i = grind (arith, part-split, indices_from-append, indices_from
 
 -- the places of one more started word
 pub places-word_more : (m : List Bool) (i : ℕ) → 64 * i ≤ length m → positions (take (64 * (i + 1)) m) ≡ positions (take (64 * i) m) ++ indices_from (64 * i) (padded_part m i)
-places-word_more m i within = grind (arith, length-take (64 * i) m, take-add (64 * i) 64 m, indices_from-append, indices-part m (64 * i) i)
+places-word_more m i within = grind (arith, length-take, take-add (64 * i) 64 m, indices_from-append, indices-part m (64 * i) i)
 
 -- true value number n of a list is number n less those passed of the word where it stands
 pub place_in_word : (m : List Bool) (i n r p : ℕ) → 64 * i ≤ length m → n ≡ count (take (64 * i) m) + r → r < count (padded_part m i) → slice_get (positions (padded_part m i)) r ≡ Some p
@@ -88,11 +85,11 @@ place_none m i n r past number = grind (arith, slice_get_past, take_all)
 
 pub positions-lowest : (w : ℕ) → 0 < w → w < 2 ^ 64 → positions (word_bits w) ≡ low w ∷ positions (word_bits (bit_and w (w - 1)))
 positions-lowest w some fits =
-    grind (arith, low-within w some fits, places-step, low w, length-word_bits w, length-word_bits (bit_and w (w - 1)), get_or-word_bits, get_or-word_bits w (low w) false, low-first, low-set w some fits, bit_at-lowest_cleared, bit_at-lowest_others, get_or_past)
+    grind (arith, low-within, places-step, length-word_bits, get_or-word_bits, get_or-word_bits w (low w) false, low-first, low-set, bit_at-lowest_cleared, bit_at-lowest_others, get_or_past)
 
 -- the places of a word that stands n further on
 pub places-lowest : (n w : ℕ) → 0 < w → w < 2 ^ 64 → indices_from n (word_bits w) ≡ (n + low w) ∷ indices_from n (word_bits (bit_and w (w - 1)))
-places-lowest n w some fits = grind (arith, add-zero n, indices_from-moved, positions-lowest w some fits, low w)
+places-lowest n w some fits = grind (arith, add-zero n, indices_from-moved, positions-lowest)
 
 -- a word of which some places are left is not 0
 pub some_left : (w k : ℕ) (ps : List ℕ) → w < 2 ^ 64 → positions (word_bits w) ≡ drop k ps → k < length ps → 0 < w
@@ -104,7 +101,7 @@ left-more w k ps fits left h = ap (drop 1) (sym (positions-lowest w (some_left w
 
 pub left-first : (w k : ℕ) (ps : List ℕ) → w < 2 ^ 64 → positions (word_bits w) ≡ drop k ps → k < length ps → slice_get ps k ≡ Some (low w)
 left-first w k ps fits left h =
-    grind (arith, low, positions-lowest w (some_left w k ps fits left h) fits, some_left w k ps fits left h, slice_get-get_or ps k 0 h, add-zero k, get_or-drop k ps 0 0)
+    grind (arith, positions-lowest w (some_left w k ps fits left h) fits, slice_get-get_or ps k 0 h, add-zero k, get_or-drop)
 
 -- ---- the last true value
 
@@ -131,8 +128,7 @@ last_none m n none = ap (λ (ps : List ℕ). slice_get ps n) (no_index m 0 none)
 
 -- the highest set bit of a word that is not 0
 pub high : (w : ℕ) → 0 < w → w < 2 ^ 64 → (leading_zeros w64 w < 64) × (bit_at w (63 - leading_zeros w64 w) ≡ 1) × ((i : ℕ) → 63 - leading_zeros w64 w < i → bit_at w i ≡ 0)
-high w some fits =
-    grind (arith, leading_top 64 w some fits, bit_at_cat_high 1 (leading_top 64 w some fits).0 (w - 2 ^ (leading_top 64 w some fits).0) (leading_top 64 w some fits).0, pow-suc 2 (leading_top 64 w some fits).0, bit_at_lowest 1, bit_at_above)
+high w some fits = grind (arith, leading_top 64 w some fits, bit_at_above)
 
 -- the last true value of a list, in the last started word that has one
 pub last_in_word : (m : List Bool) (i w : ℕ) → 0 < w → w < 2 ^ 64 → word_bits w ≡ padded_part m i → ((p : ℕ) → 64 * (i + 1) ≤ p → get_or m p false ≡ false)

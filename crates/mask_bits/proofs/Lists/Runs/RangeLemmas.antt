@@ -33,8 +33,7 @@ none_below low high i (r ∷ rs) o h = grind (arith, none_below r.1 high i rs o.
 -- from a place on, the ranges hold as many places as values are true
 from_place : (m : List Bool) (low : ℕ) (rs : List (ℕ × ℕ)) → Ordered low (length m) rs
     → ((i : ℕ) → low ≤ i → i < length m → get_or m i false ≡ list_any (is_inside i) rs) → sum_by (λ r. r.1 - r.0) rs ≡ count (drop low m)
-from_place m low [] o exact =
-    grind (arith, part_of_one, count-repeated_false (length m - low), drop_split m low (length m) o, count-append (slice_range m low (length m)) (drop (length m) m), drop_all (length m) m (omega arith))
+from_place m low [] o exact = grind (arith, part_of_one, count-repeated_false (length m - low), drop_split m low (length m) o, count-append, drop_all)
 from_place m low (r ∷ rs) o exact =
     let top = Ordered-top r.1 (length m) rs o.2 in
     let gap = ap count (part_of_one m false low r.0 (omega (arith, o.1, top)) (λ i from h. grind (arith, exact i from, o.1, top, none_below r.0 (length m) i (r ∷ rs) (omega arith, o.1, o.2) h))) ∙ count-repeated_false (r.0 - low) in

@@ -17,7 +17,7 @@ use Rattle.mask_bits.proofs.Lists.RowLemmas.{chosen_of_two_chunks}
 chosen-part : {X : Type 0} (rows : List X) (m : List Bool) (s e : ℕ) → length rows ≡ length m → s ≤ e → e ≤ length m
     → chosen (drop s rows) (drop s m) ≡ chosen (slice_range rows s e) (slice_range m s e) ++ chosen (drop e rows) (drop e m)
 chosen-part {X} rows m s e len ordered within =
-    grind (arith, drop_split rows s e ordered, drop_split m s e ordered, chosen_of_two_chunks, length-between rows s e (omega arith), length-between m s e within)
+    grind (arith, drop_split rows s e ordered, drop_split m s e ordered, chosen_of_two_chunks, length-between)
 
 -- a part whose values are all false, or all true
 chosen-gap : {X : Type 0} (rows : List X) (m : List Bool) (s e : ℕ) → e ≤ length m → ((i : ℕ) → s ≤ i → i < e → get_or m i false ≡ false) → chosen (slice_range rows s e) (slice_range m s e) ≡ []

@@ -150,8 +150,7 @@ Spread-nonempty low high (r ∷ rs) s k d h = grind (arith, Spread-nonempty (r.1
 -- each ends within
 Spread-within : (low high : ℕ) (rs : List (ℕ × ℕ)) → Spread low high rs → All (λ r. r.1 ≤ high) rs
 Spread-within low high [] s k d h = absurd (omega arith)
-Spread-within low high (r ∷ rs) s zero d h = s.2
-Spread-within low high (r ∷ rs) s (suc k) d h = Spread-within (r.1 + 1) high rs s.3 k d (omega arith)
+Spread-within low high (r ∷ rs) s k d h = grind (arith, Spread-within (r.1 + 1) high rs)
 
 -- the first begins at the lower bound or later
 Spread-first : (low high : ℕ) (rs : List (ℕ × ℕ)) → Spread low high rs → (d : ℕ × ℕ) → 0 < length rs → low ≤ (get_or rs 0 d).0
@@ -161,8 +160,7 @@ Spread-first low high (r ∷ rs) s d h = s.0
 -- each ends before the next begins
 Spread-apart : (low high : ℕ) (rs : List (ℕ × ℕ)) → Spread low high rs → (k : ℕ) (d : ℕ × ℕ) → suc k < length rs → (get_or rs k d).1 < (get_or rs (suc k) d).0
 Spread-apart low high [] s k d h = absurd (omega arith)
-Spread-apart low high (r ∷ rs) s zero d h = omega (arith, Spread-first (r.1 + 1) high rs s.3 d (omega arith))
-Spread-apart low high (r ∷ rs) s (suc k) d h = Spread-apart (r.1 + 1) high rs s.3 k d (omega arith)
+Spread-apart low high (r ∷ rs) s k d h = grind (arith, Spread-first, Spread-apart (r.1 + 1) high rs)
 
 -- the scan finds runs
 pub AreRuns-runs_from : (m : List Bool) → AreRuns m (runs_from 0 m)

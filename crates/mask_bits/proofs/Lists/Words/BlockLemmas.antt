@@ -83,11 +83,11 @@ indices-none n bits none = nil_from_length (indices_from n bits) (length-indices
 -- a block without true values adds none
 pub block-none : (m bits : List Bool) (i : ℕ) → 256 * i + 256 ≤ length m → bits ≡ slice_range m (256 * i) (256 * i + 256) → count bits ≡ 0
     → positions (take (256 * (i + 1)) m) ≡ positions (take (256 * i) m)
-block-none m bits i within is none = grind (arith, block-more m bits i within is, indices-none (64 * (4 * i)) bits none, append-nil)
+block-none m bits i within is none = grind (arith, block-more m bits i within is, indices-none, append-nil)
 
 -- the true values of a part are among all
 pub count-part_le : (m : List Bool) (s n : ℕ) → count (take s m) + count (slice_range m s (s + n)) ≤ count m
-count-part_le m s n = grind (arith, count-part_further m s n, count-append (take (s + n) m) (drop (s + n) m), take-append-drop (s + n) m)
+count-part_le m s n = grind (arith, count-part_further, count-append (take (s + n) m) (drop (s + n) m), take-append-drop)
 
 no_bits : (w : ℕ) → w ≡ 0 → count (word_bits w) ≡ 0
 no_bits w none = ap (λ v. count (word_bits v)) none ∙ ap length (indices-of_none 0)
@@ -98,7 +98,7 @@ zero_by_test n is = grind (arith, nat_tests)
 -- no bit is set in four words that together have none
 pub none-in_block : (ws : List ℕ) → length ws ≡ 4 → not (nat_eq (bit_or (bit_or (bit_or (get_or ws 0 0) (get_or ws 1 0)) (get_or ws 2 0)) (get_or ws 3 0)) 0) ≡ false → count (bits_of_words ws) ≡ 0
 none-in_block ws len is =
-    grind (arith, none-or, zero_by_test _ is, count-bits_more ws 0 (omega (arith, len)), count-bits_more ws 1 (omega (arith, len)), count-bits_more ws 2 (omega (arith, len)), count-bits_more ws 3 (omega (arith, len)), drop_all 4 ws (omega (arith, len)), no_bits)
+    grind (arith, none-or, count-bits_more ws 0 (omega (arith, len)), count-bits_more ws 1 (omega (arith, len)), count-bits_more ws 2 (omega (arith, len)), count-bits_more ws 3 (omega (arith, len)), drop_all 4 ws (omega (arith, len)), no_bits)
 
 -- those past the whole words are the last
 pub rest-more : (m bits : List Bool) (items : List ℕ) (i : ℕ) → i ≡ length m / 64 → items ≡ positions (take (64 * (length m / 64)) m) → bits ≡ padded_remainder m

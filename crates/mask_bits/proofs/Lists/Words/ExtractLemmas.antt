@@ -41,9 +41,6 @@ get_or-chosen rows m k d len h = grind (arith, chosen-items_where_true rows m, g
 
 -- ---- the list of an extract
 
-pub length-chosen_bits : (s m : ℕ) → length (chosen (word_bits s) (word_bits m)) ≡ count (word_bits m)
-length-chosen_bits s m = length-chosen (word_bits s) (word_bits m) (length-word_bits s ∙ sym (length-word_bits m))
-
 pub count-of_word : (m : ℕ) → count (word_bits m) ≤ 64
 count-of_word m = omega (arith, count-le-length (word_bits m), length-word_bits m)
 
@@ -74,11 +71,11 @@ extracted-above s m r k is few h =
 
 pub extract_is_chosen_values : ExtractIsChosenValues
 extract_is_chosen_values s m r is =
-    ext_get_or false _ _ (grind (arith, length-chosen_bits, length-word_bits, length-append, length-repeated, count-of_word, extracted-value, extracted-above, get_or_append_left, get_or-append_right, get_or-repeated)) (λ j h. grind (arith, length-chosen_bits, length-word_bits, length-append, length-repeated, count-of_word, extracted-value, extracted-above, get_or_append_left, get_or-append_right, get_or-repeated))
+    ext_get_or false _ _ (grind (arith, length-chosen, length-word_bits, length-append, length-repeated, count-of_word, extracted-value, extracted-above, get_or_append_left, get_or-append_right, get_or-repeated)) (λ j h. grind (arith, length-chosen, length-word_bits, length-append, length-repeated, count-of_word, extracted-value, extracted-above, get_or_append_left, get_or-append_right, get_or-repeated))
 
 -- as many values of it as the mask has true ones are those that the mask chooses
 pub take-extracted : (s m r : ℕ) → Extracts s m r → take (count (word_bits m)) (word_bits r) ≡ chosen (word_bits s) (word_bits m)
-take-extracted s m r is = grind (arith, extract_is_chosen_values, take-append-le, take_all, length-chosen_bits)
+take-extracted s m r is = grind (arith, extract_is_chosen_values, take-append-le, take_all, length-chosen, length-word_bits)
 
 -- ---- one set place after another
 
@@ -100,7 +97,7 @@ IsExtractedTo-some s m left n r some fits is = omega (arith, ap length is.places
 
 -- a bit put at place n
 placed_there : (b n k : ℕ) → b < 2 → k < 64 → k ≡ n → bit_at (b * 2 ^ n % 2 ^ 64) k ≡ b
-placed_there b n k h few e = grind (arith, common_steps, bit_at-mod, bit_at-shl_high, bit_at_lowest)
+placed_there b n k h few e = grind (arith, common_steps)
 
 placed_elsewhere : (b n k : ℕ) → b < 2 → k < 64 → (k < n) ⊎ (n < k) → bit_at (b * 2 ^ n % 2 ^ 64) k ≡ 0
 placed_elsewhere b n k h few (inl below) = bit_at-mod (b * 2 ^ n) 64 k few ∙ bit_at-shl_low b n k below
@@ -135,7 +132,7 @@ nothing_yet s m = grind arith
 
 next_bit : (s m left n r x : ℕ) → 0 < left → left < 2 ^ 64 → (0 < left → x ≡ s / 2 ^ low left % 2) → IsExtractedTo s m left n r
     → IsExtractedTo s m (bit_and left (left - 1)) (n + 1) (bit_or r (x * 2 ^ n % 2 ^ 64))
-next_bit s m left n r x some fits x_is is = grind (arith, and_mask (s / 2 ^ low left) 1, low left, IsExtractedTo-more s m left n r some fits is)
+next_bit s m left n r x some fits x_is is = grind (arith, and_mask (s / 2 ^ low left) 1, IsExtractedTo-more s m left n r some fits is)
 
 ended : (s m left n r x : ℕ) → left ≡ 0 → r ≡ x → IsExtractedTo s m left n r → Extracts s m x
 ended s m left n r x e same is = subst (Extracts s m) same (Extracts-all s m n r (subst (λ l. IsExtractedTo s m l n r) e is))
@@ -189,5 +186,3 @@ Extracts-two s m a b fits few a_is no_a b_is no_b =
                 ]
           ]
     ]
-
-pub ruleset chosen_bits = (count-of_word, take-extracted, count-word_bits)

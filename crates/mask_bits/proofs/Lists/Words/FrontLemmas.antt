@@ -99,7 +99,7 @@ values-join bytes o n k =
 
 -- the first values of a window
 pub window-take : (bytes : List ℕ) (p n : ℕ) → n ≤ 64 → take n (window bytes p) ≡ values (record { bytes = bytes; offset = p; len = n })
-window-take bytes p n few = grind (arith, values_from_bits, length-take n (window bytes p), length-window bytes p, get_or-take, get_or-window)
+window-take bytes p n few = grind (arith, values_from_bits, length-take n (window bytes p), length-window, get_or-take, get_or-window)
 
 -- all of it
 pub window-whole : (bytes : List ℕ) (p : ℕ) → window bytes p ≡ values (record { bytes = bytes; offset = p; len = 64 })

@@ -60,12 +60,6 @@ gathered-lt (suc n) s m = grind (arith, cases_bit, gathered-clear, ones_in-clear
 half_more : (x a : ℕ) → x / 2 / 2 ^ a ≡ x / 2 ^ suc a
 half_more x a = grind (arith, shr-shr x 1 a)
 
-pub ones_in-join : (a b m : ℕ) → ones_in (a + b) m ≡ ones_in a m + ones_in b (m / 2 ^ a)
-ones_in-join zero b m = grind arith
-ones_in-join (suc a) b m =
-    let e : suc a + b ≡ suc (a + b) = omega arith in
-    ap (λ k. ones_in k m) e ∙ omega (arith, ones_in-join a b (m / 2), ap (ones_in b) (half_more m a))
-
 pub gathered-join : (a b s m : ℕ) → gathered (a + b) s m ≡ gathered a s m + 2 ^ ones_in a m * gathered b (s / 2 ^ a) (m / 2 ^ a)
 gathered-join zero b s m = grind (arith, gathered-none)
 gathered-join (suc a) b s m =
@@ -97,8 +91,7 @@ gathered-low (suc n) s m = grind (arith, half_low, cases_bit, gathered-clear, sa
 
 pub gathered-and : (n s m : ℕ) → gathered n (bit_and s m) m ≡ gathered n s m
 gathered-and zero s m = gathered-none (bit_and s m) m ∙ sym (gathered-none s m)
-gathered-and (suc n) s m =
-    grind (arith, and_shr s m 1, bit_at_and s m 0, bit_at_lowest (bit_and s m), bit_at_lowest s, bit_at_lowest m, cases_bit m, gathered-clear, gathered-set, gathered-and n (s / 2) (m / 2))
+gathered-and (suc n) s m = grind (arith, and_shr s m 1, bit_at_and s m 0, gathered-clear, gathered-set, gathered-and n (s / 2) (m / 2))
 
 -- ---- a byte that closes up, place by place
 
@@ -188,37 +181,27 @@ length-values_in (suc n) w = omega (arith, length-values_in n (w / 2))
 
 get_or-values_in : (n w j : ℕ) → j < n → get_or (values_in n w) j false ≡ nat_eq (bit_at w j) 1
 get_or-values_in zero w j h = absurd (omega arith)
-get_or-values_in (suc n) w zero h = ap (λ b. nat_eq b 1) (sym (bit_at_lowest w))
-get_or-values_in (suc n) w (suc j) h = get_or-values_in n (w / 2) j (omega arith) ∙ ap (λ b. nat_eq b 1) (sym (bit_at-suc w j))
+get_or-values_in (suc n) w j h = grind (arith, bit_at_lowest, bit_at-suc, get_or-values_in n)
 
 word_bits-values_in : (w : ℕ) → word_bits w ≡ values_in 64 w
 word_bits-values_in w = word_bits_from_bits w (values_in 64 w) (length-values_in 64 w) (λ j h. sym (get_or-values_in 64 w j h))
 
-positions-clear : (n m : ℕ) → m % 2 ≡ 0 → positions (values_in (suc n) m) ≡ map suc (positions (values_in n (m / 2)))
-positions-clear n m off = ap (λ b. positions (nat_eq b 1 ∷ values_in n (m / 2))) off ∙ positions-false (values_in n (m / 2))
-
-positions-set : (n m : ℕ) → m % 2 ≡ 1 → positions (values_in (suc n) m) ≡ 0 ∷ map suc (positions (values_in n (m / 2)))
-positions-set n m on = ap (λ b. positions (nat_eq b 1 ∷ values_in n (m / 2))) on ∙ positions-true (values_in n (m / 2))
-
 count-values_in : (n m : ℕ) → count (values_in n m) ≡ ones_in n m
 count-values_in zero m = refl
 count-values_in (suc n) m =
-    grind (arith, cases_bit, positions-clear, length-map, ones_in-clear, positions-set, ones_in-bit, count-values_in n (m / 2))
-
-bit_at-cons : (b x k : ℕ) → b < 2 → bit_at (b + 2 * x) (suc k) ≡ bit_at x k
-bit_at-cons b x k h = grind (arith, bit_at-suc)
+    grind (arith, cases_bit, positions-false, length-map, ones_in-clear, positions-true, ones_in-bit, count-values_in n (m / 2))
 
 -- where the first place is set, its bit is the lowest, and the others follow
 at_set : (n s m k : ℕ) → m % 2 ≡ 1 → ((i : ℕ) → i < count (values_in n (m / 2)) → bit_at (gathered n (s / 2) (m / 2)) i ≡ bit_at (s / 2) (get_or (positions (values_in n (m / 2))) i 0))
     → k < count (values_in (suc n) m) → bit_at (gathered (suc n) s m) k ≡ bit_at s (get_or (positions (values_in (suc n) m)) k 0)
-at_set n s m zero on rest h = grind (arith, gathered-set, bit_at_lowest, positions-set)
-at_set n s m (suc k) on rest h = grind (arith, positions-set, length-map, gathered-set, bit_at-cons, bit_at-suc, get_or-map)
+at_set n s m zero on rest h = grind (arith, gathered-set, bit_at_lowest, positions-true)
+at_set n s m (suc k) on rest h = grind (arith, positions-true, length-map, gathered-set, bit_at-suc, get_or-map)
 
 -- bit k is the source's bit at set place number k
 gathered-at : (n s m k : ℕ) → k < count (values_in n m) → bit_at (gathered n s m) k ≡ bit_at s (get_or (positions (values_in n m)) k 0)
 gathered-at zero s m k h = absurd (omega arith)
 gathered-at (suc n) s m k h =
-    grind (arith, cases_bit, positions-clear, length-map, gathered-clear, bit_at-suc, get_or-map, at_set, gathered-at n (s / 2) (m / 2))
+    grind (arith, cases_bit, positions-false, length-map, gathered-clear, bit_at-suc, get_or-map, at_set, gathered-at n (s / 2) (m / 2))
 
 pub Extracts-gathered : (s m : ℕ) → Extracts s m (gathered 64 s m)
 Extracts-gathered s m =
@@ -239,7 +222,7 @@ Extracts-gathered s m =
 
 gathered-full : (n s : ℕ) → gathered n s (2 ^ n - 1) ≡ s % 2 ^ n
 gathered-full zero s = gathered-none s 0 ∙ omega arith
-gathered-full (suc n) s = grind (arith, pow-add 2 n 1, pow_pos n, gathered-set, mod-pow-add s n 1, gathered-full n (s / 2))
+gathered-full (suc n) s = grind (arith, pow_pos, gathered-set, mod-pow-add s n 1, gathered-full n (s / 2))
 
 pub Extracts-full : (s : ℕ) → Extracts s (2 ^ 64 - 1) s
 Extracts-full s =

@@ -65,7 +65,7 @@ less_half-set p m b h small on = grind (arith, and_pow, less_none, pow_pos, pow-
 pub less_half-clear : (p m b : ℕ) → p < 8 → b < 256 → bit_at m p ≡ 0 → bit_at b p ≡ 0 → less_half (2 ^ p) m b ≡ closed_up p m b
 unfolding closed_up
 less_half-clear p m b h small off free =
-    grind (arith, and_pow m p, pow_pos p, pow-lt h, and_high_mask 8 p (omega arith) b small, mul_assoc 2 (b / 2 ^ p / 2) (2 ^ p), shr_split b p, less_some, shr-shr b p 1)
+    grind (arith, and_pow, pow_pos, and_high_mask 8 p (omega arith) b small, mul_assoc 2 (b / 2 ^ p / 2) (2 ^ p), shr-shr b p 1)
 
 pub less_half-is : (p m b : ℕ) → p < 8 → b < 256 → (bit_at m p ≡ 0 → bit_at b p ≡ 0) → less_half (1 * 2 ^ p % 2 ^ 8) m b ≡ closed_up p m b
 less_half-is p m b h small free =

@@ -29,17 +29,16 @@ padded_part_from_values m xs i len same =
 -- a whole part has no false value added
 pub padded_part-whole : (m : List Bool) (i : ℕ) → 64 * i + 64 ≤ length m → word_part m i ≡ padded_part m i
 padded_part-whole m i within =
-    grind (arith, padded_part_from_values m (word_part m i) i (length-between m (64 * i) (64 * i + 64) within ∙ omega arith), length-between m (64 * i) (64 * i + 64) within, get_or-between)
+    grind (arith, padded_part_from_values m (word_part m i) i (length-between m (64 * i) (64 * i + 64) within ∙ omega arith), get_or-between)
 
 -- what is past the whole parts is the part after them
 pub padded_part-remainder : (m : List Bool) → padded_remainder m ≡ padded_part m (length m / 64)
 padded_part-remainder m =
-    grind (arith, padded_part_from_values, length-drop (64 * (length m / 64)) m, length-append (drop (64 * (length m / 64)) m) (repeated (64 - length m % 64) false), length-repeated (64 - length m % 64) false, get_or-padded, get_or-drop)
+    grind (arith, padded_part_from_values, length-drop, length-append (drop (64 * (length m / 64)) m) (repeated (64 - length m % 64) false), length-repeated, get_or-padded, get_or-drop)
 
 -- where no value is past the whole parts, the remainder is false values alone
 pub word_bits-no_remainder : (m : List Bool) → length m % 64 ≡ 0 → word_bits 0 ≡ padded_remainder m
-word_bits-no_remainder m none =
-    grind (arith, padded_part_from_values, length-word_bits 0, get_or-word_bits, bit_at-zero, get_or_past, padded_part-remainder m)
+word_bits-no_remainder m none = grind (arith, padded_part_from_values, length-word_bits 0, get_or-word_bits, get_or_past, padded_part-remainder)
 
 -- ---- the words that bytes show
 

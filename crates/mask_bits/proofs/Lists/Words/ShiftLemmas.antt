@@ -22,7 +22,7 @@ bit_at-shr n r j = ap (λ x. x % 2) (shr-shr n r j)
 
 -- of one cut to its low bits
 pub bit_at-mod : (n k j : ℕ) → j < k → bit_at (n % 2 ^ k) j ≡ bit_at n j
-bit_at-mod n k j h = grind (arith, and_mask n k, bit_at_and n (2 ^ k - 1) j, bit_at_ones k j h, bit_at-lt n j)
+bit_at-mod n k j h = grind (arith, and_mask n k, bit_at_and, bit_at_ones)
 
 -- of one that was masked
 pub bit_at-low_mask : (n k j : ℕ) → j < k → bit_at (bit_and n (2 ^ k - 1)) j ≡ bit_at n j
@@ -33,15 +33,12 @@ bit_at-past_mask n k j h = omega (arith, bit_at_and n (2 ^ k - 1) j, bit_at_ones
 
 -- of one shifted up
 pub bit_at-shl_low : (n k j : ℕ) → j < k → bit_at (n * 2 ^ k) j ≡ 0
-bit_at-shl_low n k j h = grind (arith, add-zero (n * 2 ^ k), bit_at_cat_low n k 0 j h, bit_at-zero j)
+bit_at-shl_low n k j h = grind (arith, add-zero (n * 2 ^ k), bit_at_cat_low)
 
 pub bit_at-shl_high : (n k j : ℕ) → k ≤ j → bit_at (n * 2 ^ k) j ≡ bit_at n (j - k)
-bit_at-shl_high n k j h = grind (arith, add-zero (n * 2 ^ k), bit_at_cat_high n k 0 j (pow_pos k) h, pow_pos k)
+bit_at-shl_high n k j h = grind (arith, bit_at_cat_high n k 0 j (pow_pos k) h)
 
 -- ---- the list of a word
-
-pub bit_of_not : (a : ℕ) → a < 2 → nat_eq (1 - a) 1 ≡ not (nat_eq a 1)
-bit_of_not a low = grind (arith, nat_tests)
 
 pub get_or-word_bits_and : (v w j : ℕ) → j < 64 → get_or (word_bits (bit_and v w)) j false ≡ (get_or (word_bits v) j false && get_or (word_bits w) j false)
 get_or-word_bits_and v w j h = grind (arith, get_or-word_bits, bit_at_and)
@@ -50,7 +47,7 @@ pub get_or-word_bits_or : (v w j : ℕ) → j < 64 → get_or (word_bits (bit_or
 get_or-word_bits_or v w j h = grind (arith, get_or-word_bits, bit_at_or)
 
 pub get_or-word_bits_not : (w j : ℕ) → w < 2 ^ 64 → j < 64 → get_or (word_bits (bit_not w64 w)) j false ≡ not (get_or (word_bits w) j false)
-get_or-word_bits_not w j fits h = grind (arith, get_or-word_bits (bit_not w64 w) j false, bit_at_not w64 w j fits h, bit_of_not (bit_at w j) (bit_at-lt w j), get_or-word_bits w j false)
+get_or-word_bits_not w j fits h = grind (arith, get_or-word_bits (bit_not w64 w) j false, bit_at_not w64 w j fits h, nat_tests, get_or-word_bits w j false)
 
 -- `word >> r`
 pub get_or-word_bits_shr : (w r j : ℕ) → w < 2 ^ 64 → j < 64 → get_or (word_bits (w / 2 ^ r)) j false ≡ get_or (word_bits w) (r + j) false
@@ -77,7 +74,7 @@ word_bits-low_mask w count few =
 
 -- the same by a mask that is all ones, shifted down
 pub word_bits-low_ones : (w count : ℕ) → count ≤ 64 → word_bits (bit_and w ((2 ^ 64 - 1) / 2 ^ (64 - count))) ≡ take count (word_bits w) ++ repeated (64 - count) false
-word_bits-low_ones w count few = grind (arith, ones_shr 64 (64 - count) (omega arith), word_bits-low_mask w count few)
+word_bits-low_ones w count few = grind (arith, ones_shr 64 (64 - count) (omega arith), word_bits-low_mask)
 
 -- ---- two words by a funnel shift
 
@@ -112,6 +109,6 @@ word_bits-funnel lo hi low fits few =
 pub word_bits-funnel_inside : (lo hi low : ℕ) → lo < 2 ^ 64 → 0 < low → low < 64
     → word_bits (bit_or (lo / 2 ^ low) (hi * 2 ^ (64 - low) % 2 ^ 64)) ≡ slice_range (word_bits lo ++ word_bits hi) low (low + 64)
 word_bits-funnel_inside lo hi low fits some few =
-    grind (arith, pow-add 2 1 (63 - low), mul_assoc hi (2 ^ 1) (2 ^ (63 - low)), mul-mod_first (hi * 2 ^ 1) (2 ^ (63 - low)) (2 ^ 64), word_bits-funnel lo hi low fits few)
+    grind (arith, pow-add 2 1 (63 - low), mul_assoc, mul-mod_first (hi * 2 ^ 1) (2 ^ (63 - low)) (2 ^ 64), word_bits-funnel)
 
 pub ruleset words_cut = (word_bits-low_ones, word_bits-funnel, word_bits-funnel_inside)

@@ -104,4 +104,4 @@ power_of_byte n fits =
 
 -- a sum that wraps, of which one part did before
 pub sum_cut : (x y m : ℕ) → (x + y % m) % m ≡ (x + y) % m
-sum_cut x y m = grind (arith, mod-add-div y m, add-mul-mod_self_left (x + y % m) m (y / m))
+sum_cut x y m = grind (arith, add-mul-mod_self_left (x + y % m) m (y / m))

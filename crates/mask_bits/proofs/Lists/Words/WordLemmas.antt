@@ -32,7 +32,7 @@ word_bits_from_bits w m len same = sym (fill_by_all (λ i. nat_eq (bit_at w i) 1
 -- ---- how many bits of a word are set
 
 ones_of_bit : (n : ℕ) → n < 2 → count_ones n ≡ n
-ones_of_bit n h = grind (arith, common_steps, ones_step, ones-le)
+ones_of_bit n h = grind (arith, common_steps, ones_step)
 
 -- one more place
 pub ones_below-more : (w i : ℕ) → count_ones (w % 2 ^ (i + 1)) ≡ count_ones (w % 2 ^ i) + bit_at w i
@@ -47,7 +47,7 @@ trues_of_bit n h = grind (arith, nat_tests)
 pub count_below-word_bits : (w i : ℕ) → i ≤ 64 → count_below (word_bits w) i ≡ count_ones (w % 2 ^ i)
 count_below-word_bits w zero h = omega (arith, ones-le 0 (w % 1) (omega arith))
 count_below-word_bits w (suc i) h =
-    grind (arith, count-push (take i (word_bits w)) (get_or (word_bits w) i false), take_more (word_bits w) i false, length-word_bits w, get_or-word_bits w i false, ones_below-more w i, trues_of_bit (bit_at w i) (bit_at-lt w i), bit_at-lt w i, count_below-word_bits w i (omega arith))
+    grind (arith, count-push (take i (word_bits w)) (get_or (word_bits w) i false), take_more, length-word_bits, get_or-word_bits, ones_below-more, count_below-word_bits w i (omega arith))
 
 -- as many values of a word are true as bits of it are set
 pub count-word_bits : (w : ℕ) → w < 2 ^ 64 → count (word_bits w) ≡ count_ones w
@@ -76,7 +76,7 @@ drop-word_parts_all m i h = drop_all i (word_parts m) (omega (arith, length-word
 counts_of_front : (m : List Bool) (k : ℕ) → 64 * k ≤ length m → sum_by count (map (word_part m) (range_with_len 0 k)) + count (drop (64 * k) m) ≡ count m
 counts_of_front m zero h = zero-add (count m)
 counts_of_front m (suc k) h =
-    grind (arith, sum_by-map-range_with_len_more count (word_part m) 0 k k (omega arith), drop_split m (64 * k) (64 * k + 64) (omega arith), count-append (word_part m k) (drop (64 * k + 64) m), counts_of_front m k (omega arith))
+    grind (arith, sum_by-map-range_with_len_more count (word_part m) 0 k k (omega arith), drop_split m (64 * k) (64 * k + 64) (omega arith), count-append, counts_of_front m k (omega arith))
 
 pub value_of_word : ValueOfWord
 value_of_word w i h = get_or-word_bits w i false h

@@ -8,6 +8,3 @@ loop-j-init c = lanes-none c.args.bools.now
 
 pub loop-j-preserved : goal.loop-j-preserved
 loop-j-preserved c = lanes-more c.args.bools.now c.loop-j.lanes c.loop-j.j (omega arith) c.loop-j.invariant
-
-pub returns : goal.returns
-returns c k h = grind (arith, take_all)

@@ -18,13 +18,3 @@ loop-i-preserved c =
     = record { fits = c.started_word-mask.type_inv; reads = c.started_word.ensures; chooses = c.started_word-mask.ensures; extracts = c.extract-word.ensures } in
     let put = c.put_behind-last.ensures in
     AreChosenSoFar-more c.put_behind-last.new.out c.put_behind-last.result.word c.put_behind-last.result.count c.requires.fitting here c.loop-i.invariant put.count put.list put.begun put.behind
-
-pub returns-clause-count : goal.returns-clause-count
-returns-clause-count c =
-    (AreChosenSoFar-all c.args.values.now c.args.masks.now c.loop-i.i c.args.out.now c.loop-i.out c.loop-i.last.word c.loop-i.last.count c.requires.fitting
-    (omega (arith, c.loop-i-test.false, c.started_words-words.ensures.words)) c.loop-i.invariant).1
-
-pub returns-clause-list : goal.returns-clause-list
-returns-clause-list c =
-    (AreChosenSoFar-all c.args.values.now c.args.masks.now c.loop-i.i c.args.out.now c.loop-i.out c.loop-i.last.word c.loop-i.last.count c.requires.fitting
-    (omega (arith, c.loop-i-test.false, c.started_words-words.ensures.words)) c.loop-i.invariant).0

@@ -7,7 +7,3 @@ use Rattle.mask_bits.proofs.choose_values.put_last.Goals as goal
 
 pub returns-then-last-ne0 : goal.returns-then-last-ne0
 returns-then-last-ne0 c = grind (arith, front-split, front-same, window-take)
-
--- with no value past the whole words
-pub returns-else-last-ne0 : goal.returns-else-last-ne0
-returns-else-last-ne0 c = grind (arith, append-nil)

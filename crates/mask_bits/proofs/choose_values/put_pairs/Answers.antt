@@ -59,6 +59,3 @@ loop-pair-preserved c =
     let next : 2 * c.loop-pair.pair + 1 + 1 ≡ 2 * (c.loop-pair.pair + 1) = omega arith in
     subst (λ i. AreChosenSoFar s m i c.args.out.now c.put_behind-last-in-loop-pair.new.out c.put_behind-last-in-loop-pair.result.word c.put_behind-last-in-loop-pair.result.count) next
     (AreChosenSoFar-more c.put_behind-last-in-loop-pair.new.out c.put_behind-last-in-loop-pair.result.word c.put_behind-last-in-loop-pair.result.count c.requires.fitting second so_far then.count then.list then.begun then.behind)
-
-pub returns : goal.returns
-returns c = grind arith

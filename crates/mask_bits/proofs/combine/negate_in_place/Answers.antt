@@ -2,9 +2,6 @@ use Rattle.std.proofs.Common.{arith}
 use Rattle.mask_bits.proofs.CombineLemmas.{between-none, between-join, between-byte, values-negated}
 use Rattle.mask_bits.proofs.combine.negate_in_place.Goals as goal
 
-pub loop-i-init : goal.loop-i-init
-loop-i-init c = between-none _ _ _ _ _
-
 pub loop-i-preserved : goal.loop-i-preserved
 loop-i-preserved c = grind (arith, between-join, between-byte)
 

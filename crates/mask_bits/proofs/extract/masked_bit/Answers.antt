@@ -9,6 +9,3 @@ use Rattle.mask_bits.proofs.extract.masked_bit.Goals as goal
 
 pub returns-clause-bit : goal.returns-clause-bit
 returns-clause-bit c p is = grind (arith, and_pow, bit_at-lt, pow_pos)
-
-pub returns-clause-none : goal.returns-clause-none
-returns-clause-none c is = grind (arith, and_zero_r)

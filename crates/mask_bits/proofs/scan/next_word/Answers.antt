@@ -5,8 +5,5 @@ use Rattle.mask_bits.proofs.Lists.Words.PaddedLemmas.{padded_part-whole}
 use Rattle.mask_bits.proofs.Lists.Words.WalkLemmas.{left_of-next, IsLeft-read}
 use Rattle.mask_bits.proofs.scan.next_word.Goals as goal
 
-pub overflow_add-at : goal.overflow_add-at
-overflow_add-at c = omega (arith, c.loop-word.invariant.is_left.within)
-
 pub loop-word-preserved : goal.loop-word-preserved
 loop-word-preserved c = grind (arith, padded_part-whole, left_of-next)

@@ -7,8 +7,5 @@ use Rattle.mask_bits.proofs.buffer_mut.BitBufferMut.unset.Goals as goal
 pub clear_bit-requires : goal.clear_bit-requires
 clear_bit-requires c = omega (arith, c.self.invariant.covered, len-of_list _ c.self.view_is, c.deref_mut.ensures.len, c.requires)
 
-pub invariant_of-self : goal.invariant_of-self
-invariant_of-self c = grind (arith, with_items_is, room-set, len-of_list, unset-others)
-
 pub returns : goal.returns
 returns c = grind (arith, with_items_is, front-set, len-of_list, unset-here, unset-others)
