@@ -3,16 +3,19 @@
 use crate::answer::Answer;
 use crate::fault::Fault;
 use mask_bits::extract::extract;
+use mask_bits::laws;
 use vortex_mask::intersect_by_rank::{
     DepositBits, ExtractBits, Portable, PortableLoop, SelectBit, deposit_bytewise,
     deposit_two_holes, deposit_two_lowest,
 };
 
 pub fn deposit_bits<D: DepositBits>(source: u64, mask: u64) -> u64 {
+    laws::counts_of_words();
     D::deposit_bits(source, mask, mask.count_ones() as usize)
 }
 
 pub fn two_lowest(source: u64, mask: u64) -> Result<u64, Fault> {
+    laws::counts_of_words();
     if mask.count_ones() > 2 {
         return Err(Fault::Unmet("at most two set bits"));
     }
@@ -20,6 +23,7 @@ pub fn two_lowest(source: u64, mask: u64) -> Result<u64, Fault> {
 }
 
 pub fn two_holes(source: u64, mask: u64) -> Result<u64, Fault> {
+    laws::counts_of_words();
     if mask.count_ones() < 62 {
         return Err(Fault::Unmet("at most two clear bits"));
     }
@@ -27,10 +31,12 @@ pub fn two_holes(source: u64, mask: u64) -> Result<u64, Fault> {
 }
 
 pub fn extract_bits(source: u64, mask: u64) -> u64 {
+    laws::counts_of_words();
     Portable::extract_bits(source, mask, mask.count_ones() as usize)
 }
 
 pub fn select(word: u64, rank: usize) -> Result<usize, Fault> {
+    laws::counts_of_words();
     if rank >= word.count_ones() as usize {
         return Err(Fault::Unmet("a set bit of this number"));
     }

@@ -1,6 +1,0 @@
-use Rattle.std.proofs.Common.{arith}
-use Rattle.mask_bits.proofs.Lists.Words.WordLemmas.{count-word_bits}
-use Rattle.mask_calls.proofs.masks.word.two_holes.Goals as goal
-
-pub deposit_two_holes-requires : goal.deposit_two_holes-requires
-deposit_two_holes-requires g = omega (arith, count-word_bits g.args.mask (omega arith))
