@@ -11,7 +11,8 @@ use Rattle.std.proofs.lemmas.List.Sums.{sum_by-cons}
 use Rattle.std.proofs.lemmas.Simd.{map-map}
 use Rattle.mask_bits.specs.Lists.{concat}
 use Rattle.mask_bits.specs.Positions.{repeated}
-use Rattle.mask_bits.proofs.Lists.CountLemmas.{repeated_from_All}
+use Rattle.mask_bits.proofs.Lists.CountLemmas.{count-append, repeated_from_All}
+use Rattle.mask_bits.proofs.Lists.Places.PlaceLemmas.{count-le-length}
 use Rattle.vortex_mask.specs.Concat.{lists_of, total_len, AreAll}
 use Rattle.vortex_mask.specs.Mask.{truth}
 use Rattle.vortex_mask.specs.declared.mask.Mask.{Mask}
@@ -62,3 +63,5 @@ concat-next made masks i mask is h list = grind (arith, common_steps, append_ass
 -- the lists of masks that are lent are those of the masks
 pub lists_of-lent : (masks : List (Bor Mask)) → lists_of masks ≡ map truth (map (λ mask. mask.now) masks)
 lists_of-lent masks = sym (map-map truth (λ mask. mask.now) masks)
+
+pub ruleset joining_facts = (concat_so_far, concat-next, count-append, count-le-length)

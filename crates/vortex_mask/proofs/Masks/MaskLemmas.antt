@@ -4,13 +4,14 @@ use Rattle.std.proofs.Common.{◌-◌, ◌≤◌, slice_range, All, ◌≡◌, �
 use Rattle.std.specs.Cmp.{booleans_Decides}
 use Rattle.std.proofs.lemmas.Slice.Eq.{slice_eq-Decides}
 use Rattle.vortex_mask.specs.Mask.{variant_and, variant_or, Variant, all_true, all_false, mixed, fitting_variant, truth, same_truth}
-use Rattle.mask_bits.specs.Positions.{count, repeated}
+use Rattle.mask_bits.specs.Positions.{at_indices, count, positions, rank_intersection, repeated}
 use Rattle.vortex_mask.specs.declared.mask.Mask.TheVariants.{AllTrue, AllFalse}
 use Rattle.mask_bits.proofs.Lists.ChooseLemmas.{chosen-all_true, chosen-all_false, chosen_of_repeated}
 use Rattle.mask_bits.proofs.Lists.LawLemmas.{length-chosen, positions-rank_intersection, rank_intersection-none, length-rank_intersection}
 use Rattle.mask_bits.proofs.Lists.LimitLemmas.{limited-front, limited-all, limited-none, length-limited, count-limited}
 use Rattle.mask_bits.proofs.Lists.PartLemmas.{part_of_repeated}
 use Rattle.mask_bits.proofs.Lists.Places.PlaceLemmas.{count-le-length}
+use Rattle.mask_bits.proofs.Lists.Words.BackingBitLemmas.{length-bitmap}
 use Rattle.mask_bits.proofs.Lists.RankLemmas.{rank_intersection-all_true, rank_intersection-by_all_true}
 use Rattle.mask_bits.proofs.Lists.CountLemmas.{nil-repeated, slice_get-repeated, all_true-count, positions-repeated_true_at, All-repeated, repeated_from_All, count-repeated_true, count-repeated_false, all_true_from_count, all_false_from_count, list_all-count, list_all-count_less, list_any-count, list_any-count_zero, length-repeated}
 use Rattle.vortex_mask.specs.Laws.Masks.{UniformIsOfOneValue, AllTrueHasTrueValues, AllFalseHasFalseValues, SameTruthIsOneList}
@@ -64,6 +65,8 @@ pub ruleset value_facts = (slice_get-repeated, all_true-count, all_false-count, 
 
 pub ruleset variant_facts = (length-repeated, count-repeated_true, count-repeated_false, count-le-length, repeated-all, repeated-none, fitting_variant-repeated_true, fitting_variant-repeated_false, fitting_variant-some_true, fitting_variant-some, fitting_variant-all, fitting_variant-none, fitting_variant-nonempty)
 
+pub ruleset bitmap_facts = (variant_facts, length-bitmap)
+
 -- an empty list's variant, where one side decides
 pub variant_and-all_false : (v : Variant) → variant_and v all_false ≡ all_false
 variant_and-all_false all_true = refl
@@ -88,7 +91,11 @@ pub ruleset row_facts = (length-repeated, length-chosen, chosen-all_true, chosen
 
 pub ruleset chosen_value_facts = (length-repeated, length-chosen, chosen-all_true, chosen-all_false, chosen_of_repeated)
 
-pub ruleset narrowing_facts = (variant_and-all_false, rank_intersection-all_true, rank_intersection-by_all_true, rank_intersection-none, length-rank_intersection, positions-rank_intersection)
+-- the true indices of a narrowed mask, from those of both
+pub narrowed_indices : (a b : List Bool) → length b ≡ count a → at_indices (positions a) (positions b) ≡ positions (rank_intersection a b)
+narrowed_indices a b fits = sym (positions-rank_intersection a b fits)
+
+pub ruleset narrowing_facts = (narrowed_indices, variant_and-all_false, rank_intersection-all_true, rank_intersection-by_all_true, rank_intersection-none, length-rank_intersection, positions-rank_intersection)
 
 -- ---- laws
 

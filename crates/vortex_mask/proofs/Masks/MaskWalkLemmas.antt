@@ -5,6 +5,7 @@ use Rattle.std.specs.List.{range_with_len}
 use Rattle.std.specs.Iterator.Runs.{YieldsInOrder, WholeRun}
 use Rattle.std.proofs.iter.runs.Consumers.{total_runs}
 use Rattle.std.proofs.iter.runs.Sources.{from_front, as_is}
+use Rattle.std.proofs.lemmas.List.FromFn.{get_or-range_with_len, length-range_with_len}
 use Rattle.mask_bits.specs.Positions.{repeated}
 use Rattle.mask_bits.proofs.Lists.CountLemmas.{length-repeated, nil-repeated, positions-all_true, positions-all_false}
 use Rattle.mask_bits.proofs.Lists.Places.AscendingLemmas.{positions-ascending}
@@ -23,9 +24,7 @@ indices_in_order = in_order indices_left
 pub ranges_in_order : YieldsInOrder (YieldsFirst ranges_left) ranges_left
 ranges_in_order = in_order ranges_left
 
-pub ruleset index_walks = (indices_in_order, positions-all_true, positions-all_false, positions-ascending, positions-within)
-
-pub ruleset range_walks = (ranges_in_order)
+pub ruleset index_walks = (indices_in_order, length-repeated, length-range_with_len, get_or-range_with_len, positions-all_true, positions-all_false, positions-ascending, positions-within)
 
 -- ---- a range of indices
 

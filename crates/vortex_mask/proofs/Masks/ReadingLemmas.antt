@@ -4,6 +4,7 @@ use Rattle.std.specs.Bool.{then_some}
 use Rattle.std.specs.List.{All}
 use Rattle.std.specs.Option.{IfSome, SomeIff}
 use Rattle.std.proofs.lemmas.Bool.{lt-ltb}
+use Rattle.std.proofs.lemmas.Grind.{common_steps}
 use Rattle.std.proofs.lemmas.List.{map_more, take-replicate, take-append-drop, length-take}
 use Rattle.std.proofs.lemmas.List.Elements.{All-head, All-tail}
 use Rattle.std.proofs.lemmas.Option.{slice_get_past}
@@ -33,7 +34,7 @@ last-within n (Some p) some = omega (arith, some.0, some.1, length-repeated n tr
 pub slice_get-all_false : (n k : ℕ) → slice_get (positions (repeated n false)) k ≡ None
 slice_get-all_false n k = ap (λ indices. slice_get indices k) (positions-all_false n)
 
-pub ruleset end_facts = (slice_get-all_false)
+pub ruleset end_facts = (slice_get-all_false, first-all_true, first-within, last-all_true, last-within)
 
 -- each of the values before a place of an all-true list is true
 pub count_below-all_true : (n i : ℕ) → i ≤ n → count_below (repeated n true) i ≡ i
@@ -63,4 +64,4 @@ pub ruleset one_value_facts = (length-repeated, count-repeated_true, count-repea
 pub count-runs_on : (m : List Bool) (i j : ℕ) → i ≤ j → count_below m i + count (slice_range m i j) ≡ count_below m j
 count-runs_on m i j ordered = grind (arith, count-part_further)
 
-pub ruleset running_counts = (map_more, count-runs_on, count_below-within)
+pub ruleset running_counts = (common_steps, map_more, count-runs_on, count_below-within)

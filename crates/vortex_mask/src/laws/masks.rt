@@ -39,13 +39,9 @@ pub fn cached_lists(mask: &Mask)
     ensures cached { AreOf (truth mask.now) (caches mask.now) }
     ensures lent { AreRanges (truth mask.now) (runs (truth mask.now)) }
 {
-    match mask {
-        Mask::AllTrue(_) => {}
-        Mask::AllFalse(_) => {}
-        Mask::Values(values) => {
-            // what it caches is of its own list
-            let _ = values.cached_slices();
-        }
+    if let Mask::Values(values) = mask {
+        // what it caches is of its own list
+        let _ = values.cached_slices();
     }
 }
 

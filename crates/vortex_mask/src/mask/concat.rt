@@ -121,6 +121,7 @@ fn total_len(masks: &[&Mask]) -> Option<usize>
 
 // The masks' values one after another, of which there are `len`, and how many are true: the masks
 // know their counts, so no value is counted again.
+#[tactic(auto, using(crate::proofs::Masks::ConcatLemmas::joining_facts))]
 fn buffer_of(alloc: Global, len: usize, masks: &[&Mask]) -> Result<(BitBuffer, usize), AllocError>
     requires { total_len (lists_of masks.now) ≡ len }
     ensures list { IfOk result (λ r. values r.0 ≡ concat (lists_of masks.now)) }

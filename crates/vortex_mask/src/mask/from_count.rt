@@ -87,6 +87,7 @@ impl Mask {
     }
 
     // The mask of the first `len` bits of `words`, of which `true_count` are true.
+    #[tactic(auto, using(crate::proofs::Masks::MaskLemmas::bitmap_facts))]
     pub(crate) fn of_words(
         alloc: Global,
         words: Vec<u8>,

@@ -12,7 +12,7 @@ ghost use Rattle.mask_bits.specs.Positions.{positions, repeated};
 ghost use Rattle.mask_bits.specs.Runs.{AreRuns};
 
 use crate::mask::Mask;
-use mask_bits::{BitIterator, SetIndices, SetSlices};
+use mask_bits::{BitIterator, SetIndices, SetSlices, laws};
 
 /// The values of a mask, in their order.
 #[derive(Drop)]
@@ -158,7 +158,7 @@ impl Iterator for MaskSetSlices<'_> {
     }
 }
 
-#[tactic(auto, using(crate::proofs::Masks::MaskWalkLemmas::range_walks))]
+#[tactic(auto, using(crate::proofs::Masks::MaskWalkLemmas::ranges_in_order))]
 impl Mask {
     /// The runs of the true values, ascending, of a mask that is only lent. No list is made or
     /// cached.
@@ -176,9 +176,11 @@ impl Mask {
 }
 
 // The run of so many true values, if there are any.
+#[tactic(auto, using(crate::proofs::Masks::MaskWalkLemmas::next_facts))]
 fn whole_run(len: usize) -> Option<(usize, usize)>
     ensures { AreRuns (repeated len true) (option_to_list result) }
 {
+    laws::ranges_of_one_value();
     if len == 0 {
         return None;
     }

@@ -1,8 +1,0 @@
-use Rattle.std.proofs.lemmas.Grind.{common_steps}
-use Rattle.std.proofs.Common.{arith}
-use Rattle.std.proofs.lemmas.List.{map_more}
-use Rattle.vortex_mask.proofs.Masks.ReadingLemmas.{count-runs_on}
-use Rattle.vortex_mask.proofs.mask.counts_below.Goals as goal
-
-pub loop-index-preserved : goal.loop-index-preserved
-loop-index-preserved c = grind (arith, common_steps, map_more, count-runs_on)
