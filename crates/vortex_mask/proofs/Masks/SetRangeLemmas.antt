@@ -6,6 +6,7 @@ use Rattle.std.proofs.Math.Bool.{or_comm}
 use Rattle.std.proofs.lemmas.Bool.{cases_lt}
 use Rattle.std.proofs.lemmas.Bool.Decides.{nat_tests}
 use Rattle.std.proofs.lemmas.List.{length-replicate, get_or-replicate, get_or_past}
+use Rattle.std.proofs.lemmas.List.Edits.{length-between}
 use Rattle.std.proofs.lemmas.Nat.Bits.{bit_at_ones}
 use Rattle.mask_bits.specs.Buffer.{backing_bit}
 use Rattle.mask_bits.specs.Runs.{is_inside}
@@ -83,3 +84,5 @@ set-filled old ys i e order within ones p =
         | inr past ↦ ap bit (get_or-put_mid_above (8 * i) n old ys (p / 8) begins len (omega arith)) ∙ grind (arith, nat_tests)
       ]
     ]
+
+pub ruleset filled_facts = (set-filled, length-between)

@@ -49,6 +49,7 @@ fn counts_below_bytes(word: u64) -> u64
 }
 
 // The number of the last byte that is at most `rank`.
+#[tactic(auto, using(crate::proofs::Deposits::LastByteLemmas::last_byte))]
 #[inline(always)]
 fn last_byte_within(bytes: u64, rank: usize) -> usize
     requires rank { rank < 64 }

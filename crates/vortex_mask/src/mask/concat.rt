@@ -67,6 +67,17 @@ impl Mask {
             (λ p. (e ≡ MaskError.LengthOverflow) × (2 ^ 64 ≤ total_len (map truth p.items)))) }
     {
         let masks: Vec<Mask> = masks.collect(alloc)?;
+        Mask::concat_held(alloc, &masks)
+    }
+
+    // The same of masks that are listed.
+    fn concat_held(alloc: Global, masks: &[Mask]) -> Result<Mask, MaskError>
+        ensures list { IfOk result (λ m. Joins (map truth masks.now) m) }
+        ensures variant { IfOk result (λ m. variant m ≡ fitting_variant all_true (truth m)) }
+        ensures caches { IfOk result (λ m. caches m ≡ no_caches) }
+        ensures refused { IfErr result (λ e. (e ≡ MaskError.Memory alloc_error)
+            ⊎ ((e ≡ MaskError.LengthOverflow) × (2 ^ 64 ≤ total_len (map truth masks.now)))) }
+    {
         Mask::concat(alloc, masks.iter())
     }
 

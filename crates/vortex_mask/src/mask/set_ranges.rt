@@ -52,6 +52,7 @@ fn set_in_word(bytes: &mut [u8], i: usize, low: usize, high: usize)
 }
 
 // Sets all bits of the words from `first` on, up to word `end`.
+#[tactic(auto, using(crate::proofs::Masks::SetRangeLemmas::filled_facts))]
 #[inline]
 fn set_words(bytes: &mut [u8], first: usize, end: usize)
     requires order { first ≤ end }
