@@ -5,8 +5,7 @@ use Rattle.std.proofs.Math.Bool.{and-true, and-false, or-true, or-false}
 use Rattle.mask_bits.specs.Lists.{and_of, or_of, not_of, and_not_of}
 use Rattle.mask_bits.specs.Positions.{count, repeated}
 use Rattle.mask_bits.proofs.Lists.BooleanLemmas.{combined_itself, length-combined, length-not_of, combined-left, combined-right, map-itself, map-one, not_of-repeated}
-use Rattle.mask_bits.proofs.Lists.Places.PlaceLemmas.{trues, count-trues}
-use Rattle.vortex_mask.proofs.Masks.MaskLemmas.{variant_and-all_false, variant_or-all_true}
+use Rattle.mask_bits.proofs.Lists.BooleanValueLemmas.{count_of_complement}
 
 pub and_of-left : (v : Bool) (n : ℕ) (b : List Bool) → n ≡ length b → and_of (repeated n v) b ≡ (if v then b else repeated n false)
 and_of-left true n b e = rw e (combined-left (λ x y. x && y) true (λ y. y) (λ y. refl) b ∙ map-itself b)
@@ -32,13 +31,8 @@ pub and_not_of-right : (v : Bool) (n : ℕ) (a : List Bool) → n ≡ length a �
 and_not_of-right true n a e = rw e (combined-right (λ x y. x && not y) true (λ x. false) and-false a ∙ map-one false a)
 and_not_of-right false n a e = rw e (combined-right (λ x y. x && not y) false (λ x. x) and-true a ∙ map-itself a)
 
-trues-not : (m : List Bool) → trues (map not m) + trues m ≡ length m
-trues-not [] = refl
-trues-not (true ∷ m) = omega (arith, trues-not m)
-trues-not (false ∷ m) = omega (arith, trues-not m)
-
 -- what is false is true in the complement
 pub count-not_of : (m : List Bool) → count (not_of m) ≡ length m - count m
-count-not_of m = omega (arith, trues-not m, count-trues m, count-trues (not_of m))
+count-not_of m = omega (arith, count_of_complement m)
 
-pub ruleset bitop_facts = (count-not_of, length-combined, length-not_of, combined_itself, not_of-repeated, and_of-left, and_of-right, or_of-left, or_of-right, and_not_of-left, and_not_of-right, variant_and-all_false, variant_or-all_true)
+pub ruleset bitop_facts = (count-not_of, length-combined, length-not_of, combined_itself, not_of-repeated, and_of-left, and_of-right, or_of-left, or_of-right, and_not_of-left, and_not_of-right)

@@ -3,7 +3,7 @@ use Rattle.std.specs.Prelude.{◌↔◌}
 use Rattle.std.proofs.Common.{◌-◌, ◌≤◌, slice_range, All, ◌≡◌, ℕ, zero, suc, ◌<◌, Bool, true, false, List, [], ◌∷◌, length, refl, sym, ap, ◌∙◌, arith}
 use Rattle.std.specs.Cmp.{booleans_Decides}
 use Rattle.std.proofs.lemmas.Slice.Eq.{slice_eq-Decides}
-use Rattle.vortex_mask.specs.Mask.{variant_and, variant_or, Variant, all_true, all_false, mixed, fitting_variant, truth, same_truth}
+use Rattle.vortex_mask.specs.Mask.{Variant, all_true, all_false, mixed, fitting_variant, truth, same_truth}
 use Rattle.mask_bits.specs.Positions.{at_indices, count, positions, rank_intersection, repeated}
 use Rattle.vortex_mask.specs.declared.mask.Mask.TheVariants.{AllTrue, AllFalse}
 use Rattle.mask_bits.proofs.Lists.ChooseLemmas.{chosen-all_true, chosen-all_false, chosen_of_repeated}
@@ -43,14 +43,6 @@ pub fitting_variant-repeated_true : (n : ℕ) → fitting_variant all_true (repe
 fitting_variant-repeated_true zero = rw (nil-repeated true) refl
 fitting_variant-repeated_true (suc n) = fitting_variant-some_true all_true (suc n) (omega arith)
 
-pub fitting_variant-repeated_false : (n : ℕ) → fitting_variant all_false (repeated n false) ≡ all_false
-fitting_variant-repeated_false n = fitting_variant-all_false (repeated n false) (count-repeated_false n)
-
--- a list with values has one variant
-pub fitting_variant-nonempty : (e : Variant) (m : List Bool) → 0 < length m → fitting_variant e m ≡ fitting_variant all_false m
-fitting_variant-nonempty e [] some = absurd (omega arith)
-fitting_variant-nonempty e (v ∷ m) some = refl
-
 -- as many true values as values, or none
 pub repeated-all : (m : List Bool) → count m ≡ length m → repeated (length m) true ≡ m
 repeated-all m e = sym (all_true_from_count 0 m e)
@@ -63,20 +55,9 @@ all_false-count m = (λ e. All-repeated false m (all_false_from_count 0 m e), λ
 
 pub ruleset value_facts = (slice_get-repeated, all_true-count, all_false-count, positions-repeated_true_at)
 
-pub ruleset variant_facts = (length-repeated, count-repeated_true, count-repeated_false, count-le-length, repeated-all, repeated-none, fitting_variant-repeated_true, fitting_variant-repeated_false, fitting_variant-some_true, fitting_variant-some, fitting_variant-all, fitting_variant-none, fitting_variant-nonempty)
+pub ruleset variant_facts = (length-repeated, count-repeated_true, count-repeated_false, count-le-length, repeated-all, repeated-none, fitting_variant-repeated_true, fitting_variant-some_true, fitting_variant-some, fitting_variant-all, fitting_variant-none)
 
 pub ruleset bitmap_facts = (variant_facts, length-bitmap)
-
--- an empty list's variant, where one side decides
-pub variant_and-all_false : (v : Variant) → variant_and v all_false ≡ all_false
-variant_and-all_false all_true = refl
-variant_and-all_false all_false = refl
-variant_and-all_false mixed = refl
-
-pub variant_or-all_true : (v : Variant) → variant_or v all_true ≡ all_true
-variant_or-all_true all_true = refl
-variant_or-all_true all_false = refl
-variant_or-all_true mixed = refl
 
 pub front_of_repeated : (n : ℕ) (v : Bool) (e : ℕ) → e ≤ n → slice_range (repeated n v) 0 e ≡ repeated e v
 front_of_repeated n v e h =
@@ -95,7 +76,7 @@ pub ruleset chosen_value_facts = (length-repeated, length-chosen, chosen-all_tru
 pub narrowed_indices : (a b : List Bool) → length b ≡ count a → at_indices (positions a) (positions b) ≡ positions (rank_intersection a b)
 narrowed_indices a b fits = sym (positions-rank_intersection a b fits)
 
-pub ruleset narrowing_facts = (narrowed_indices, variant_and-all_false, rank_intersection-all_true, rank_intersection-by_all_true, rank_intersection-none, length-rank_intersection, positions-rank_intersection)
+pub ruleset narrowing_facts = (narrowed_indices, rank_intersection-all_true, rank_intersection-by_all_true, rank_intersection-none, length-rank_intersection)
 
 -- ---- laws
 

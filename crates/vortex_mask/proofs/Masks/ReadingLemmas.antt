@@ -20,21 +20,14 @@ pub first-all_true : (n : ℕ) → then_some (nat_lt 0 n) 0 ≡ slice_get (posit
 first-all_true zero = rw (nil-repeated true) refl
 first-all_true (suc n) = rw (lt-ltb 0 (suc n) (omega arith)) (sym (positions-repeated_true_at (suc n) 0 (omega arith)))
 
-pub first-within : (n : ℕ) → IfSome (then_some (nat_lt 0 n) 0) (λ p. p < length (repeated n true))
-first-within n = rw (first-all_true n) (place-within (repeated n true) 0)
-
 pub last-all_true : (n : ℕ) (o : Option ℕ) → SomeIff o (1 ≤ n) (n - 1) → o ≡ slice_get (positions (repeated n true)) (count (repeated n true) - 1)
 last-all_true n None none = grind (arith, slice_get_past (positions (repeated n true)) (count (repeated n true) - 1), count-repeated_true n)
 last-all_true n (Some p) some = grind (arith, positions-repeated_true_at n (n - 1), count-repeated_true n)
 
-pub last-within : (n : ℕ) (o : Option ℕ) → SomeIff o (1 ≤ n) (n - 1) → IfSome o (λ p. p < length (repeated n true))
-last-within n None none = tt
-last-within n (Some p) some = omega (arith, some.0, some.1, length-repeated n true)
-
 pub slice_get-all_false : (n k : ℕ) → slice_get (positions (repeated n false)) k ≡ None
 slice_get-all_false n k = ap (λ indices. slice_get indices k) (positions-all_false n)
 
-pub ruleset end_facts = (slice_get-all_false, first-all_true, first-within, last-all_true, last-within)
+pub ruleset end_facts = (slice_get-all_false, first-all_true, last-all_true, length-repeated)
 
 -- each of the values before a place of an all-true list is true
 pub count_below-all_true : (n i : ℕ) → i ≤ n → count_below (repeated n true) i ≡ i

@@ -1,6 +1,7 @@
-use Rattle.std.proofs.Common.{◌≤◌, ◌^◌, ◌∙◌, subst, inl, inr}
-use Rattle.std.proofs.lemmas.Result.{IfOk-weaker, IfErr-weaker}
+use Rattle.std.proofs.Common.{◌≤◌, ◌^◌, ◌∙◌, subst}
+use Rattle.std.proofs.lemmas.Result.{IfOk-weaker}
 use Rattle.vortex_mask.specs.Concat.{lists_of, total_len, Joins}
+use Rattle.vortex_mask.proofs.ResultLemmas.{IfErr-or}
 use Rattle.vortex_mask.proofs.mask.Mask.concat.Goals as goal
 
 pub returns-clause-whole : goal.returns-clause-whole
@@ -11,7 +12,4 @@ returns-clause-whole g c =
 pub returns-clause-refused_whole : goal.returns-clause-refused_whole
 returns-clause-refused_whole g c =
     let run = c.in_ok-masks.ensures.runs tt in
-    IfErr-weaker c.concat_list.result _ _ (λ e h. elim h [
-      | inl memory ↦ inl memory
-      | inr over ↦ inr (run.0, run.1, run.2, (over.0, subst (λ ms. 2 ^ 64 ≤ total_len (lists_of ms)) (c.deref.ensures.value ∙ run.3.0) over.1))
-    ]) c.concat_list.ensures.refused
+    IfErr-or c.concat_list.result _ _ _ (λ e over. (run.0, run.1, run.2, (over.0, subst (λ ms. 2 ^ 64 ≤ total_len (lists_of ms)) (c.deref.ensures.value ∙ run.3.0) over.1))) c.concat_list.ensures.refused

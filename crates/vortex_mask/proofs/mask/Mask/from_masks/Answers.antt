@@ -1,7 +1,8 @@
-use Rattle.std.proofs.Common.{map, ◌≤◌, ◌^◌, ◌∙◌, subst, inl, inr}
-use Rattle.std.proofs.lemmas.Result.{IfOk-weaker, IfErr-weaker}
+use Rattle.std.proofs.Common.{map, ◌≤◌, ◌^◌, ◌∙◌, subst}
+use Rattle.std.proofs.lemmas.Result.{IfOk-weaker}
 use Rattle.vortex_mask.specs.Concat.{total_len, Joins}
 use Rattle.vortex_mask.specs.Mask.{truth}
+use Rattle.vortex_mask.proofs.ResultLemmas.{IfErr-or}
 use Rattle.vortex_mask.proofs.mask.Mask.from_masks.Goals as goal
 
 pub returns-clause-whole : goal.returns-clause-whole
@@ -12,7 +13,4 @@ returns-clause-whole g c =
 pub returns-clause-refused_whole : goal.returns-clause-refused_whole
 returns-clause-refused_whole g c =
     let run = c.in_ok-masks.ensures.runs tt in
-    IfErr-weaker c.concat_held.result _ _ (λ e h. elim h [
-      | inl memory ↦ inl memory
-      | inr over ↦ inr (run.0, run.1, run.2, (over.0, subst (λ ms. 2 ^ 64 ≤ total_len (map truth ms)) (c.deref.ensures.value ∙ run.3.0) over.1))
-    ]) c.concat_held.ensures.refused
+    IfErr-or c.concat_held.result _ _ _ (λ e over. (run.0, run.1, run.2, (over.0, subst (λ ms. 2 ^ 64 ≤ total_len (map truth ms)) (c.deref.ensures.value ∙ run.3.0) over.1))) c.concat_held.ensures.refused
