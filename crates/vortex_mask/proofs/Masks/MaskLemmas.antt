@@ -35,13 +35,9 @@ pub fitting_variant-all_false : (m : List Bool) → count m ≡ 0 → fitting_va
 fitting_variant-all_false [] e = refl
 fitting_variant-all_false (v ∷ m) e = fitting_variant-none all_false (v ∷ m) (omega arith) e
 
--- the variants of lists of one value
-pub fitting_variant-some_true : (empty : Variant) (n : ℕ) → 0 < n → fitting_variant empty (repeated n true) ≡ all_true
-fitting_variant-some_true empty n some = grind (arith, fitting_variant-all, length-repeated, count-repeated_true)
-
 pub fitting_variant-repeated_true : (n : ℕ) → fitting_variant all_true (repeated n true) ≡ all_true
 fitting_variant-repeated_true zero = rw (nil-repeated true) refl
-fitting_variant-repeated_true (suc n) = fitting_variant-some_true all_true (suc n) (omega arith)
+fitting_variant-repeated_true (suc n) = grind (arith, fitting_variant-all, length-repeated, count-repeated_true)
 
 -- as many true values as values, or none
 pub repeated-all : (m : List Bool) → count m ≡ length m → repeated (length m) true ≡ m
@@ -55,20 +51,16 @@ all_false-count m = (λ e. All-repeated false m (all_false_from_count 0 m e), λ
 
 pub ruleset value_facts = (slice_get-repeated, all_true-count, all_false-count, positions-repeated_true_at)
 
-pub ruleset variant_facts = (length-repeated, count-repeated_true, count-repeated_false, count-le-length, repeated-all, repeated-none, fitting_variant-repeated_true, fitting_variant-some_true, fitting_variant-some, fitting_variant-all, fitting_variant-none)
+pub ruleset variant_facts = (length-repeated, count-repeated_true, count-repeated_false, count-le-length, repeated-all, repeated-none, fitting_variant-repeated_true, fitting_variant-some, fitting_variant-all, fitting_variant-none)
 
 pub ruleset bitmap_facts = (variant_facts, length-bitmap)
 
 pub front_of_repeated : (n : ℕ) (v : Bool) (e : ℕ) → e ≤ n → slice_range (repeated n v) 0 e ≡ repeated e v
-front_of_repeated n v e h =
-    let all : e - 0 ≡ e = omega arith in
-    part_of_repeated n v 0 e (omega arith) h ∙ ap (λ k. repeated k v) all
+front_of_repeated n v e h = grind (arith, part_of_repeated n v 0 e)
 
 pub ruleset part_facts = (front_of_repeated, limited-front, part_of_repeated, limited-all, limited-none, length-limited, count-limited)
 
 pub ruleset count_facts = (part_of_repeated, length-repeated, count-repeated_true, count-repeated_false)
-
-pub ruleset row_facts = (length-repeated, length-chosen, chosen-all_true, chosen-all_false)
 
 pub ruleset chosen_value_facts = (length-repeated, length-chosen, chosen-all_true, chosen-all_false, chosen_of_repeated)
 

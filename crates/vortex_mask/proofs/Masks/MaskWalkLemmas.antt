@@ -37,12 +37,7 @@ unfolding repeated
 repeated-next zero v h = absurd (omega (arith, h))
 repeated-next (suc n) v h = let e : suc n - 1 ≡ n = omega arith in ap (λ k. v ∷ replicate k v) (sym e)
 
--- ---- an iterator that gives the first of what is left goes on
-
-pub MakesProgress-left : {S A : Type 0} (left : S → List A) (s t : S) (x : A) → left s ≡ x ∷ left t → MakesProgress {S = S} {A = A} (λ _. Unit {0}) (item_count left) s (Some x) t
-MakesProgress-left left s t x e = grind (arith)
-
-pub ruleset next_facts = (length-repeated, nil-repeated, repeated-next, range-next, MakesProgress-left)
+pub ruleset next_facts = (length-repeated, nil-repeated, repeated-next, range-next)
 
 -- ---- what an iterator gave to its end, told as a list and as a run
 

@@ -49,8 +49,6 @@ pub counts-all_false : (n : ℕ) (xs : List ℕ) → map (count_below (repeated 
 counts-all_false n [] = refl
 counts-all_false n (x ∷ xs) = ap₂ (λ (y : ℕ) (ys : List ℕ). y ∷ ys) (count_below-all_false n x) (counts-all_false n xs)
 
-pub ruleset one_value_facts = (length-repeated, count-repeated_true, count-repeated_false)
-
 -- ---- counts that run on
 
 -- a count up to an index, and the true values from there to the next one, are the count up to that

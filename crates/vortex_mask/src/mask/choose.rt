@@ -11,7 +11,7 @@ use mask_bits::BitBuffer;
 use std::alloc::{AllocError, Global};
 
 /// Choosing rows.
-#[tactic(auto, using(crate::proofs::Masks::MaskLemmas::row_facts, crate::proofs::Masks::MaskLemmas::count_facts))]
+#[tactic(auto, using(crate::proofs::Masks::MaskLemmas::chosen_value_facts, crate::proofs::Masks::MaskLemmas::count_facts))]
 impl Mask {
     /// The rows at the true indices, in their order.
     pub fn choose<T: Copy>(&self, alloc: Global, rows: &[T]) -> Result<Vec<T>, MaskError>

@@ -26,7 +26,7 @@ impl Fraction {
     }
 }
 
-#[tactic(auto, using(crate::proofs::Masks::ReadingLemmas::one_value_facts))]
+#[tactic(auto, using(crate::proofs::Masks::MaskLemmas::count_facts))]
 impl Mask {
     /// The share of true values: 1/1 of `AllTrue`, 0/1 of `AllFalse`, also where they are empty, and
     /// else the true count over the length.
