@@ -276,6 +276,7 @@ impl Mask {
 
     /// For each index the number of true values below it. Values are counted once for all indices,
     /// up to the last of them.
+    #[tactic(auto, using(crate::proofs::Masks::ReadingLemmas::one_value_counts))]
     pub fn valid_counts_for_indices(
         &self,
         alloc: Global,

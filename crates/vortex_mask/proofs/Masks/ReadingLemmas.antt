@@ -1,5 +1,5 @@
 -- Masks that are read by values, indices and counts.
-use Rattle.std.proofs.Common.{Option, Some, None, slice_get, nat_lt, zero, suc, ◌≡◌, ℕ, ◌+◌, ◌-◌, ◌<◌, ◌≤◌, Bool, true, false, List, [], ◌∷◌, length, map, take, drop, replicate, slice_range, refl, sym, ap, ap₂, ◌∙◌, arith}
+use Rattle.std.proofs.Common.{Option, Some, None, slice_get, nat_lt, zero, suc, ◌≡◌, ℕ, ◌+◌, ◌-◌, ◌<◌, ◌≤◌, Bool, true, false, List, [], ◌∷◌, length, map, take, drop, replicate, slice_range, refl, subst, sym, ap, ap₂, ◌∙◌, arith}
 use Rattle.std.specs.Bool.{then_some}
 use Rattle.std.specs.List.{All}
 use Rattle.std.specs.Option.{IfSome, SomeIff}
@@ -48,6 +48,11 @@ count_below-all_false n i =
 pub counts-all_false : (n : ℕ) (xs : List ℕ) → map (count_below (repeated n false)) xs ≡ replicate (length xs) 0
 counts-all_false n [] = refl
 counts-all_false n (x ∷ xs) = ap₂ (λ (y : ℕ) (ys : List ℕ). y ∷ ys) (count_below-all_false n x) (counts-all_false n xs)
+
+pub counts-true_values : (n : ℕ) (xs : List ℕ) → All (λ i. i ≤ length (repeated n true)) xs → map (count_below (repeated n true)) xs ≡ xs
+counts-true_values n xs h = counts-all_true n xs (subst (λ k. All (λ i. i ≤ k) xs) (length-repeated n true) h)
+
+pub ruleset one_value_counts = (counts-true_values, counts-all_false)
 
 -- ---- counts that run on
 

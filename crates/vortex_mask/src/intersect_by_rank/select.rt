@@ -66,6 +66,7 @@ fn last_byte_within(bytes: u64, rank: usize) -> usize
 }
 
 // Byte `j` of a word, the lowest first.
+#[tactic(auto, unfolding(crate::specs::Bytes::byte_at))]
 #[inline(always)]
 fn byte_of(word: u64, j: usize) -> usize
     requires { j < 8 }
