@@ -1,29 +1,29 @@
 -- The last values of a bitmap that is written, and the values before them.
-use Rattle.std.proofs.Common.{◌≡◌, ℕ, nat_eq, set, ◌^◌, ◌+◌, ◌-◌, ◌*◌, ◌/◌, ◌%◌, ◌<◌, ◌≤◌, ◌&&◌, Bool, true, false, List, [], ◌∷◌, ◌++◌, length, get_or, take, drop, refl, sym, subst, ap, ap₂, ◌∙◌, inl, inr, arith}
+use Rattle.std.proofs.Common.{◌≡◌, ℕ, nat_eq, set, ◌^◌, ◌+◌, ◌-◌, ◌*◌, ◌/◌, ◌%◌, ◌<◌, ◌≤◌, ◌&&◌, Bool, true, false, List, [], ◌∷◌, ◌++◌, append-nil, length, get_or, take, drop, min, refl, sym, ap, ap₂, ◌∙◌, inl, inr, arith}
 use Rattle.std.specs.Int.{bit_at, div_ceil}
 use Rattle.std.specs.Int.RustNames.{bit_and}
+use Rattle.std.proofs.Math.Seq.{drop-append_seam}
 use Rattle.std.proofs.lemmas.Bool.{cases_eq}
 use Rattle.std.proofs.lemmas.Grind.{get_or-set_at}
-use Rattle.std.proofs.lemmas.List.{ext_get_or, get_or-set_other, get_or-take, get_or_append_left, get_or_past, length-append, length-drop, length-take, length-take-le, take-append-drop, take_all}
+use Rattle.std.proofs.lemmas.List.{get_or-set_other, get_or-take, get_or_append_left, length-append, length-drop, length-take, length-take-le, take-append-drop, take_at}
 use Rattle.std.proofs.lemmas.Nat.{one_shl}
 use Rattle.std.proofs.lemmas.Nat.Bits.{bit_at-zero}
-use Rattle.std.proofs.lemmas.Slice.{drop-append-drop, drop-put_mid}
 use Rattle.mask_bits.specs.Bitmap.{bitmap}
 use Rattle.mask_bits.specs.Buffer.{backing_bit}
+use Rattle.mask_bits.specs.ChosenBits.{values_so_far}
 use Rattle.mask_bits.specs.Lists.{combined}
 use Rattle.mask_bits.specs.Positions.{count, count_below, rank_intersection, repeated}
-use Rattle.mask_bits.specs.Words.{padded_part, window, word_bits}
+use Rattle.mask_bits.specs.Words.{padded_part, padded_remainder, window, word_bits}
 use Rattle.mask_bits.proofs.Lists.BooleanLemmas.{combined-append, combined-take}
-use Rattle.mask_bits.proofs.Lists.CountLemmas.{all_true_from_count, count-append, get_or-padded}
-use Rattle.mask_bits.proofs.Lists.Places.PlaceLemmas.{trues, count-trues}
-use Rattle.mask_bits.proofs.Lists.LawLemmas.{rank_intersection_value}
+use Rattle.mask_bits.proofs.Lists.CountLemmas.{all_true_from_count, count-append, count-repeated_false}
+use Rattle.mask_bits.proofs.Lists.Places.PlaceLemmas.{trues, count-le-length, count-trues}
+use Rattle.mask_bits.proofs.Lists.LawLemmas.{length-rank_intersection, rank_intersection_value}
 use Rattle.mask_bits.proofs.Lists.Words.PaddedLemmas.{get_or-padded_part, padded_part_from_values}
 use Rattle.mask_bits.proofs.Lists.Words.ShiftLemmas.{bit_at-low_mask, bit_at-past_mask}
 use Rattle.mask_bits.proofs.Lists.Words.WordLemmas.{get_or-word_bits, length-word_bits}
 use Rattle.mask_bits.proofs.Lists.RankLemmas.{narrow, rank_intersection-all_true, rank_intersection-narrow}
-use Rattle.mask_bits.proofs.Lists.Words.BackingBitLemmas.{bitmap-append, bitmap-split, front-split, get_or-bitmap, length-bitmap}
-use Rattle.mask_bits.proofs.Lists.Words.FrontLemmas.{length-window, front-same, get_or-put_mid_inside, get_or-window, window_from_bits, window-take}
-use Rattle.vortex_mask.proofs.Lists.StartedWordLemmas.{list-from_bits}
+use Rattle.mask_bits.proofs.Lists.Words.BackingBitLemmas.{bitmap-append, bitmap-drop, front-split, length-bitmap}
+use Rattle.mask_bits.proofs.Lists.Words.FrontLemmas.{length-window, front-same, get_or-window, put-before, window_from_bits, window-take}
 use Rattle.mask_c.specs.Bitmap.{AreClearBehind}
 use borrow.Rule.Slice.PartMut.{put_mid}
 
@@ -51,60 +51,25 @@ narrowed-none m b i fits shows =
     let here : get_or m (64 * i + j) false ≡ false = sym (get_or-padded_part m i j h) ∙ sym (ap (λ (xs : List Bool). get_or xs j false) shows) ∙ none in
     none ∙ sym (rank_intersection_value m b (64 * i + j) fits ∙ ap (λ x. x && get_or b (count_below m (64 * i + j)) false) here))
 
--- ---- the bytes of the last values, written
+-- ---- the last values, written
 
--- a bit of them
-put-bit : (old last ys : List ℕ) (w e j : ℕ) → 8 * w ≤ length old → length last ≡ 8 → 8 * w ≤ e → e ≤ 8 * w + 8 → ys ≡ take (e - 8 * w) last
-    → j < 8 * (e - 8 * w) → backing_bit (put_mid (8 * w) (e - 8 * w) old ys) (64 * w + j) ≡ get_or (window last 0) j false
-put-bit old last ys w e j begins len from to is few =
-    let new : List ℕ = put_mid (8 * w) (e - 8 * w) old ys in
-    let at : (64 * w + j) / 8 ≡ 8 * w + j / 8 = omega arith in
-    let bit : (64 * w + j) % 8 ≡ j % 8 = omega arith in
-    let written : length ys ≡ e - 8 * w = ap length is ∙ length-take (e - 8 * w) last ∙ omega arith in
-    let byte : get_or new ((64 * w + j) / 8) 0 ≡ get_or last (j / 8) 0 = ap (λ k. get_or new k 0) at
-    ∙ get_or-put_mid_inside (8 * w) e old ys (j / 8) begins written (omega arith)
-    ∙ ap (λ (xs : List ℕ). get_or xs (j / 8) 0) is ∙ get_or-take (e - 8 * w) last (j / 8) 0 (omega arith) in
-    let place : j ≡ 0 + j = omega arith in
-    ap₂ (λ x k. nat_eq (bit_at x k) 1) byte bit ∙ ap (backing_bit last) place ∙ sym (get_or-window last 0 j false (omega arith))
-
--- these values
-pub put-list : (old last ys : List ℕ) (m cut : List Bool) (w e rest : ℕ) → 8 * w ≤ length old → length last ≡ 8 → 8 * w ≤ e → e ≤ 8 * w + 8 → ys ≡ take (e - 8 * w) last
-    → length m ≡ 64 → rest ≤ 8 * (e - 8 * w) → window last 0 ≡ cut → cut ≡ take rest m ++ repeated (64 - rest) false
-    → bitmap (put_mid (8 * w) (e - 8 * w) old ys) (64 * w) rest ≡ take rest m
-put-list old last ys m cut w e rest begins len from to is word few shows low =
-    let new : List ℕ = put_mid (8 * w) (e - 8 * w) old ys in
-    ext_get_or false (bitmap new (64 * w) rest) (take rest m) (length-bitmap new (64 * w) rest ∙ sym (length-take rest m ∙ omega arith)) (λ j h.
-    let small : j < rest = omega (arith, length-bitmap new (64 * w) rest) in
-    get_or-bitmap new (64 * w) rest j false small
-    ∙ put-bit old last ys w e j begins len from to is (omega arith)
-    ∙ ap (λ (xs : List Bool). get_or xs j false) (shows ∙ low) ∙ get_or-padded (take rest m) (64 - rest) j)
-
--- the bits behind them
-pub put-clear : (old last ys : List ℕ) (m cut : List Bool) (w e rest : ℕ) → 8 * w ≤ length old → length last ≡ 8 → e ≡ 8 * w + div_ceil rest 8 → rest < 64 → ys ≡ take (e - 8 * w) last
-    → length m ≡ 64 → window last 0 ≡ cut → cut ≡ take rest m ++ repeated (64 - rest) false
-    → AreClearBehind (put_mid (8 * w) (e - 8 * w) old ys) (64 * w + rest)
-put-clear old last ys m cut w e rest begins len end few is word shows low = λ p from to.
-    let new : List ℕ = put_mid (8 * w) (e - 8 * w) old ys in
-    let at : 64 * w + (p - 64 * w) ≡ p = omega arith in
-    ap (backing_bit new) (sym at)
-    ∙ put-bit old last ys w e (p - 64 * w) begins len (omega arith) (omega arith) is (omega arith)
-    ∙ ap (λ (xs : List Bool). get_or xs (p - 64 * w) false) (shows ∙ low) ∙ get_or-padded (take rest m) (64 - rest) (p - 64 * w)
-    ∙ get_or_past (take rest m) (p - 64 * w) false (omega (arith, length-take rest m))
-
--- the bytes behind them
-pub put-behind : (old ys : List ℕ) (w e rest : ℕ) → 8 * w ≤ length old → e ≡ 8 * w + div_ceil rest 8 → length ys ≡ e - 8 * w
-    → drop (div_ceil (64 * w + rest) 8) (put_mid (8 * w) (e - 8 * w) old ys) ≡ drop (div_ceil (64 * w + rest) 8) old
-put-behind old ys w e rest begins end len = drop-put_mid (8 * w) (e - 8 * w) old ys (div_ceil (64 * w + rest) 8) (omega arith) begins len
-
--- they are as they were where whole words were written before these
-pub behind-last : (old front new : List ℕ) (len : ℕ) → div_ceil len 8 ≤ length old → length front ≡ length (take (8 * (len / 64)) old)
-    → drop (div_ceil (64 * (len / 64) + len % 64) 8) new ≡ drop (div_ceil (64 * (len / 64) + len % 64) 8) (front ++ drop (8 * (len / 64)) old)
-    → drop (div_ceil len 8) new ≡ drop (div_ceil len 8) old
-behind-last old front new len room is behind =
-    let end : 64 * (len / 64) + len % 64 ≡ len = omega arith in
-    let same : drop (div_ceil len 8) new ≡ drop (div_ceil len 8) (front ++ drop (8 * (len / 64)) old)
-    = subst (λ n. drop (div_ceil n 8) new ≡ drop (div_ceil n 8) (front ++ drop (8 * (len / 64)) old)) end behind in
-    same ∙ drop-append-drop (8 * (len / 64)) old front (div_ceil len 8) (omega arith) (omega (arith, is, length-take (8 * (len / 64)) old))
+-- the values once the first bytes of a word are put behind whole words
+pub put-values : (old last ys : List ℕ) (word n e : ℕ) → 8 * (n / 64) ≤ length old → length last ≡ 8 → e ≡ div_ceil n 8 → ys ≡ take (e - 8 * (n / 64)) last
+    → window last 0 ≡ word_bits word → bitmap (put_mid (8 * (n / 64)) (e - 8 * (n / 64)) old ys) 0 n ≡ values_so_far old word n
+put-values old last ys word n e begins len end is shows =
+    let w : ℕ = n / 64 in
+    let rest : ℕ = n % 64 in
+    let k : ℕ = e - 8 * w in
+    let more : List ℕ = ys ++ drop k (drop (8 * w) old) in
+    let new : List ℕ = take (8 * w) old ++ more in
+    let place : 64 * w ≡ 8 * (8 * w) = omega arith in
+    let begun : drop (8 * w) new ≡ more = ap (λ i. drop i new) (sym (length-take-le (8 * w) old begins)) ∙ drop-append_seam (take (8 * w) old) more in
+    front-split new n
+    ∙ ap₂ (λ (us vs : List Bool). us ++ vs) (put-before old ys w k begins)
+    (ap (λ p. bitmap new p rest) place ∙ sym (bitmap-drop new (8 * w) rest) ∙ ap (λ (us : List ℕ). bitmap us 0 rest) begun
+    ∙ front-appended ys (drop k (drop (8 * w) old)) rest (omega (arith, ap length is, length-take k last))
+    ∙ ap (λ (us : List ℕ). bitmap us 0 rest) is ∙ front-taken last k rest (omega arith)
+    ∙ sym (window-take last 0 rest (omega arith)) ∙ ap (take rest) shows)
 
 -- ---- the bits behind the last value cleared
 
@@ -151,78 +116,73 @@ rank_intersection-append a c b d fits fits' =
     ∙ narrow-append a c b d (fits ∙ count-trues a)
     ∙ sym (ap₂ (λ (xs ys : List Bool). xs ++ ys) (rank_intersection-narrow a b fits) (rank_intersection-narrow c d fits'))
 
--- ---- what a call has written
+-- ---- what a call has written: the values of whole words, and the last ones by a word
 
--- whole words combined, and the last values by a word
-pub written-combined : (f : Bool → Bool → Bool) (a b front out : List ℕ) (p q len : ℕ) (more : List ℕ) (v x y : List Bool)
-    → 64 * (len / 64) ≤ 8 * length front
-    → bitmap front 0 (64 * (len / 64)) ≡ combined f (bitmap a p (64 * (len / 64))) (bitmap b q (64 * (len / 64)))
-    → x ≡ window a (p + 64 * (len / 64)) → y ≡ window b (q + 64 * (len / 64)) → v ≡ combined f x y
-    → bitmap out 0 (64 * (len / 64)) ≡ bitmap (front ++ more) 0 (64 * (len / 64)) → bitmap out (64 * (len / 64)) (len % 64) ≡ take (len % 64) v
-    → bitmap out 0 len ≡ combined f (bitmap a p len) (bitmap b q len)
-written-combined f a b front out p q len more v x y covers list is_x is_y is_v before last =
-    let w : ℕ = 64 * (len / 64) in
-    let rest : ℕ = len % 64 in
-    let first : bitmap out 0 w ≡ combined f (bitmap a p w) (bitmap b q w) = before ∙ front-appended front more w covers ∙ list in
-    let second : bitmap out w rest ≡ combined f (bitmap a (p + w) rest) (bitmap b (q + w) rest)
-    = last ∙ ap (take rest) (is_v ∙ ap₂ (combined f) is_x is_y) ∙ combined-take f rest (window a (p + w)) (window b (q + w))
-    ∙ ap₂ (combined f) (window-take a (p + w) rest (omega arith)) (window-take b (q + w) rest (omega arith)) in
-    front-split out len
-    ∙ ap₂ (λ (xs ys : List Bool). xs ++ ys) first second
-    ∙ sym (combined-append f (bitmap a p w) (bitmap b q w) (bitmap a (p + w) rest) (bitmap b (q + w) rest) (length-bitmap a p w ∙ sym (length-bitmap b q w)))
-    ∙ ap₂ (combined f) (sym (bitmap-split a p len)) (sym (bitmap-split b q len))
+-- the first values of a bitmap
+pub bitmap-take : (bytes : List ℕ) (p n k : ℕ) → k ≤ n → take k (bitmap bytes p n) ≡ bitmap bytes p k
+bitmap-take bytes p n k few =
+    let parts : n ≡ k + (n - k) = omega arith in
+    ap (λ l. take k (bitmap bytes p l)) parts ∙ ap (take k) (bitmap-append bytes p k (n - k)) ∙ take_at (bitmap bytes p k) (bitmap bytes (p + k) (n - k)) k (length-bitmap bytes p k)
 
--- how many values are true past whole words, and in them
-pub count-split : (bytes : List ℕ) (offset len : ℕ) → count (bitmap bytes offset len) ≡ count (bitmap bytes offset (64 * (len / 64))) + count (bitmap bytes (offset + 64 * (len / 64)) (len % 64))
-count-split bytes offset len = ap count (bitmap-split bytes offset len) ∙ count-append (bitmap bytes offset (64 * (len / 64))) (bitmap bytes (offset + 64 * (len / 64)) (len % 64))
+-- the values past whole words
+padded_remainder_of : (m : List Bool) (n : ℕ) → length m ≡ n → padded_remainder m ≡ drop (64 * (n / 64)) m ++ repeated (64 - n % 64) false
+padded_remainder_of m n len = ap (λ k. drop (64 * (k / 64)) m ++ repeated (64 - k % 64) false) len
 
--- whole words narrowed, and the last values
-pub written-narrowed : (a b front last out more : List ℕ) (p q len n k : ℕ)
-    → 64 * (len / 64) ≤ 8 * length front
-    → n ≡ count (bitmap a p (64 * (len / 64))) → k ≡ count (bitmap a (p + 64 * (len / 64)) (len % 64))
-    → bitmap front 0 (64 * (len / 64)) ≡ rank_intersection (bitmap a p (64 * (len / 64))) (bitmap b q n)
-    → bitmap last 0 (len % 64) ≡ rank_intersection (bitmap a (p + 64 * (len / 64)) (len % 64)) (bitmap b (q + n) k)
-    → bitmap out 0 (64 * (len / 64)) ≡ bitmap (front ++ more) 0 (64 * (len / 64)) → bitmap out (64 * (len / 64)) (len % 64) ≡ bitmap last 0 (len % 64)
-    → bitmap out 0 len ≡ rank_intersection (bitmap a p len) (bitmap b q (n + k))
-written-narrowed a b front last out more p q len n k covers is_n is_k whole part before after =
-    let w : ℕ = 64 * (len / 64) in
-    let rest : ℕ = len % 64 in
-    front-split out len
-    ∙ ap₂ (λ (xs ys : List Bool). xs ++ ys) (before ∙ front-appended front more w covers ∙ whole) (after ∙ part)
-    ∙ sym (rank_intersection-append (bitmap a p w) (bitmap a (p + w) rest) (bitmap b q n) (bitmap b (q + n) k)
-    (length-bitmap b q n ∙ is_n) (length-bitmap b (q + n) k ∙ is_k))
-    ∙ ap₂ rank_intersection (sym (bitmap-split a p len)) (sym (bitmap-append b q n k))
+remainder-take : (m : List Bool) (n : ℕ) → length m ≡ n → take (n % 64) (padded_remainder m) ≡ drop (64 * (n / 64)) m
+remainder-take m n len =
+    let w : ℕ = 64 * (n / 64) in
+    ap (take (n % 64)) (padded_remainder_of m n len) ∙ take_at (drop w m) (repeated (64 - n % 64) false) (n % 64) (omega (arith, length-drop w m))
 
-front-list : (m : List Bool) (front : List ℕ) (w : ℕ) → w ≤ length m → ((p : ℕ) → p < length (take w m) → backing_bit front p ≡ get_or (take w m) p false) → bitmap front 0 w ≡ take w m
-front-list m front w within list = ap (bitmap front 0) (sym (length-take-le w m within)) ∙ list-from_bits (take w m) front list
+pub written : (xs ys : List Bool) (front more : List ℕ) (word n : ℕ) → 64 * (n / 64) ≤ 8 * length front → bitmap front 0 (64 * (n / 64)) ≡ xs → take (n % 64) (word_bits word) ≡ ys
+    → values_so_far (front ++ more) word n ≡ xs ++ ys
+written xs ys front more word n covers list last = ap₂ (λ (us vs : List Bool). us ++ vs) (front-appended front more (64 * (n / 64)) covers ∙ list) last
 
--- whole words of a list, and its last values
-pub written-list : (m : List Bool) (front out more : List ℕ) (len : ℕ) (v : List Bool) → length m ≡ len → 64 * (len / 64) ≤ 8 * length front
-    → ((p : ℕ) → p < length (take (64 * (len / 64)) m) → backing_bit front p ≡ get_or (take (64 * (len / 64)) m) p false)
-    → length v ≡ 64 → ((j : ℕ) → j < 64 → get_or v j false ≡ get_or (drop (64 * (len / 64)) m) j false)
-    → bitmap out 0 (64 * (len / 64)) ≡ bitmap (front ++ more) 0 (64 * (len / 64)) → bitmap out (64 * (len / 64)) (len % 64) ≡ take (len % 64) v
-    → bitmap out 0 len ≡ m
-written-list m front out more len v is_len covers list word shows before last =
-    let w : ℕ = 64 * (len / 64) in
-    let rest : ℕ = len % 64 in
-    let length_rest : length (drop w m) ≡ rest = omega (arith, length-drop w m) in
-    let first : bitmap front 0 w ≡ take w m = front-list m front w (omega arith) list in
-    let second : take rest v ≡ drop w m
-    = ext_get_or false (take rest v) (drop w m) (omega (arith, length-take rest v)) (λ j h.
-    let few : j < rest = omega (arith, length-take rest v) in
-    get_or-take rest v j false few ∙ shows j (omega arith)) in
-    front-split out len
-    ∙ ap₂ (λ (xs ys : List Bool). xs ++ ys) (before ∙ front-appended front more w covers ∙ first) (last ∙ second)
-    ∙ take-append-drop w m
+-- two lists combined
+pub written-combined : (f : Bool → Bool → Bool) (a b : List Bool) (front more : List ℕ) (word n : ℕ) → length a ≡ n → length b ≡ n → 64 * (n / 64) ≤ 8 * length front
+    → bitmap front 0 (64 * (n / 64)) ≡ combined f (take (64 * (n / 64)) a) (take (64 * (n / 64)) b) → word_bits word ≡ combined f (padded_remainder a) (padded_remainder b)
+    → values_so_far (front ++ more) word n ≡ combined f a b
+written-combined f a b front more word n len_a len_b covers list last =
+    let w : ℕ = 64 * (n / 64) in
+    written _ _ front more word n covers list
+    (ap (take (n % 64)) last ∙ combined-take f (n % 64) (padded_remainder a) (padded_remainder b) ∙ ap₂ (combined f) (remainder-take a n len_a) (remainder-take b n len_b))
+    ∙ sym (combined-append f (take w a) (take w b) (drop w a) (drop w b) (length-take w a ∙ ap (min w) (len_a ∙ sym len_b) ∙ sym (length-take w b)))
+    ∙ ap₂ (combined f) (take-append-drop w a) (take-append-drop w b)
 
--- whole words alone
-pub written-whole : (m : List Bool) (front more : List ℕ) (len : ℕ) → length m ≡ len → len % 64 ≡ 0 → 64 * (len / 64) ≤ 8 * length front
-    → ((p : ℕ) → p < length (take (64 * (len / 64)) m) → backing_bit front p ≡ get_or (take (64 * (len / 64)) m) p false)
-    → bitmap (front ++ more) 0 len ≡ m
-written-whole m front more len is_len none covers list =
-    let whole : 64 * (len / 64) ≡ len = omega arith in
-    front-appended front more len (omega arith) ∙ ap (bitmap front 0) (sym whole)
-    ∙ front-list m front (64 * (len / 64)) (omega arith) list ∙ take_all (64 * (len / 64)) m (omega arith)
+-- the true values past whole words, and those in them
+pub count-remainder : (bytes : List ℕ) (p n : ℕ) → count (bitmap bytes p (64 * (n / 64))) + count (padded_remainder (bitmap bytes p n)) ≡ count (bitmap bytes p n)
+count-remainder bytes p n =
+    let m : List Bool = bitmap bytes p n in
+    let none : List Bool = repeated (64 - length m % 64) false in
+    omega (
+      arith,
+      ap count (padded_remainder_of m n (length-bitmap bytes p n)),
+      count-append (drop (64 * (n / 64)) m) (repeated (64 - n % 64) false),
+      count-repeated_false (64 - n % 64),
+      count-append (take (64 * (n / 64)) m) (drop (64 * (n / 64)) m),
+      ap count (take-append-drop (64 * (n / 64)) m),
+      ap count (bitmap-take bytes p n (64 * (n / 64)) (omega arith)),
+    )
+
+-- a bitmap narrowed by ranks, of which a word has the last
+pub written-narrowed : (bytes : List ℕ) (p n : ℕ) (b : List Bool) (front more : List ℕ) (mask source word : ℕ) → 64 * (n / 64) ≤ 8 * length front
+    → length b ≡ count (bitmap bytes p (64 * (n / 64))) → bitmap front 0 (64 * (n / 64)) ≡ rank_intersection (bitmap bytes p (64 * (n / 64))) b
+    → word_bits mask ≡ padded_remainder (bitmap bytes p n) → word_bits word ≡ rank_intersection (word_bits mask) (take (count (word_bits mask)) (word_bits source))
+    → values_so_far (front ++ more) word n ≡ rank_intersection (bitmap bytes p n) (b ++ take (count (word_bits mask)) (word_bits source))
+written-narrowed bytes p n b front more mask source word covers fits list shows is =
+    let m : List Bool = bitmap bytes p n in
+    let w : ℕ = 64 * (n / 64) in
+    let d : List Bool = take (count (word_bits mask)) (word_bits source) in
+    let last : List Bool = drop w m in
+    let none : List Bool = repeated (64 - n % 64) false in
+    let shown : word_bits mask ≡ last ++ none = shows ∙ padded_remainder_of m n (length-bitmap bytes p n) in
+    let first : take w m ≡ bitmap bytes p w = bitmap-take bytes p n w (omega arith) in
+    let all : length d ≡ count last
+    = omega (arith, length-take (count (word_bits mask)) (word_bits source), length-word_bits source, count-le-length (word_bits mask), length-word_bits mask, ap count shown, count-append last none, count-repeated_false (64 - n % 64)) in
+    written _ _ front more word n covers (list ∙ ap (λ (x : List Bool). rank_intersection x b) (sym first))
+    (ap (take (n % 64)) (is ∙ ap₂ rank_intersection shown (sym (append-nil d)) ∙ rank_intersection-append last none d [] all (sym (count-repeated_false (64 - n % 64))))
+    ∙ take_at (rank_intersection last d) (rank_intersection none []) (n % 64) (omega (arith, length-rank_intersection last d, length-drop w m, length-bitmap bytes p n)))
+    ∙ sym (rank_intersection-append (take w m) last b d (fits ∙ ap count (sym first)) all)
+    ∙ ap (λ (x : List Bool). rank_intersection x (b ++ d)) (take-append-drop w m)
 
 -- where all values are true, the ranks are the whole
 pub narrowed_by_all : (m r : List Bool) → count m ≡ length m → length r ≡ length m → rank_intersection m r ≡ r

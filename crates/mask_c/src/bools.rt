@@ -19,9 +19,7 @@ pub extern "C" fn row_mask_from_bools(values: &[bool], out: &mut [u8])
     ensures behind { drop (div_ceil (length values.now) 8) out.new
         ≡ drop (div_ceil (length values.now) 8) out.old }
 {
-    let (whole, rest) = (values.len() / 64, values.len() % 64);
+    let whole = values.len() / 64;
     put_bools(&mut out[..8 * whole], &values[..64 * whole]);
-    if rest != 0 {
-        put_last(out, whole, word_of_bools(&values[64 * whole..]), rest);
-    }
+    put_last(out, word_of_bools(&values[64 * whole..]), values.len());
 }

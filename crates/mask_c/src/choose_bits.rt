@@ -36,8 +36,6 @@ pub extern "C" fn row_mask_choose_bits(
     let masks = BitChunks::new(bytes, offset, len);
     let sources = BitChunks::new(values, values_offset, len);
     let last = put_chosen(&masks, &sources, out);
-    if last.count % 64 != 0 {
-        put_last(out, last.count / 64, last.word, last.count % 64);
-    }
+    put_last(out, last.word, last.count);
     last.count
 }

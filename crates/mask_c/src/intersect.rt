@@ -1,21 +1,21 @@
 //! A bitmap narrowed by another over its true values.
 
-ghost use Rattle.std.specs.Prelude.{◌≡◌, ◌+◌, ◌*◌, ◌%◌, ◌^◌, ◌<◌, ◌≤◌, ℕ, All, Bool, List, drop, false, length, nat_eq, slice_index_or};
+ghost use Rattle.std.specs.Prelude.{◌≡◌, ◌+◌, ◌*◌, ◌/◌, ◌%◌, ◌^◌, ◌<◌, ◌≤◌, ℕ, All, Bool, List, drop, false, length, nat_eq, slice_index_or};
 ghost use Rattle.std.specs.Int.{div_ceil};
 ghost use Rattle.std.specs.List.{list_any};
 ghost use Rattle.std.specs.List.Sorted.{IsStrictlyIncreasing};
 ghost use Rattle.mask_bits.specs.Bitmap.{bitmap};
 ghost use Rattle.mask_bits.specs.Buffer.{IsWithinBytes, values};
 ghost use Rattle.mask_bits.specs.Positions.{at_indices, count, count_below, positions, rank_intersection, true_at};
-ghost use Rattle.mask_bits.specs.Words.{padded_part, started_words, word_bits};
+ghost use Rattle.mask_bits.specs.Words.{padded_part, padded_remainder, started_words, word_bits};
 ghost use Rattle.mask_c.specs.Bitmap.{AreClearBehind};
 ghost use Rattle.vortex_mask.specs.Ranks.{AreSplit};
 
 use crate::last::put_last;
 use crate::pointwise::row_mask_copy;
+use mask_bits::BitChunks;
 use mask_bits::counts::count_bits;
-use mask_bits::words::{set_word, word_of};
-use mask_bits::{BitChunks, laws};
+use mask_bits::words::{set_word, word_at};
 use vortex_mask::intersect_by_rank::{
     DepositBits, Portable, PortableLoop, RankBits, deposits_by_loop, narrow_at_ranks,
     narrow_by_bits,
@@ -48,102 +48,62 @@ pub extern "C" fn row_mask_intersect_by_rank(
     if ranks_len == len {
         // all values are true, so that the ranks are the whole
         row_mask_copy(ranks, ranks_offset, len, out);
-    } else {
-        narrow(bytes, offset, len, ranks, ranks_offset, ranks_len, out);
+        return;
     }
+    let whole = len / 64;
+    let (word, ones) = last_word(bytes, offset, len);
+    let before = ranks_len - ones;
+    let front = BitChunks::new(bytes, offset, 64 * whole);
+    let bits = RankBits::over(ranks, ranks_offset, before);
+    let are_few = deposits_by_loop(64 * whole, before);
+    narrow_whole(&front, &bits, are_few, &mut out[..8 * whole]);
+    let source = word_at(ranks, ranks_offset + before);
+    vortex_mask::laws::deposits();
+    put_last(out, Portable::deposit_bits(source, word, ones), len);
 }
 
-// Narrows the whole words, and then the last values.
-fn narrow(
-    bytes: &[u8],
-    offset: usize,
-    len: usize,
-    ranks: &[u8],
-    ranks_offset: usize,
-    ranks_len: usize,
-    out: &mut [u8],
-)
-    requires bitmap { IsWithinBytes bytes.now offset len }
-    requires ranks { IsWithinBytes ranks.now ranks_offset ranks_len }
-    requires fitting { ranks_len ≡ count (bitmap bytes.now offset len) }
-    requires room { div_ceil len 8 ≤ length out.old }
-    ensures values { bitmap out.new 0 len
-        ≡ rank_intersection (bitmap bytes.now offset len) (bitmap ranks.now ranks_offset ranks_len) }
-    ensures clear { AreClearBehind out.new len }
-    ensures behind { drop (div_ceil len 8) out.new ≡ drop (div_ceil len 8) out.old }
+// The values past the whole words in the low bits of a word, and how many of them are true.
+fn last_word(bytes: &[u8], offset: usize, len: usize) -> (u64, usize)
+    requires { IsWithinBytes bytes.now offset len }
+    ensures word { word_bits result.0 ≡ padded_remainder (bitmap bytes.now offset len) }
+    ensures ones { result.1 ≡ count (word_bits result.0) }
+    ensures few { result.1 ≤ 64 }
+    ensures all { count (bitmap bytes.now offset (64 * (len / 64))) + result.1
+        ≡ count (bitmap bytes.now offset len) }
 {
-    let (whole, rest) = (len / 64, len % 64);
-    let ones = count_bits(bytes, offset + 64 * whole, rest);
-    let before = ranks_len - ones;
-    let front = &mut out[..8 * whole];
-    narrow_whole(
-        bytes,
-        offset,
-        64 * whole,
-        ranks,
-        ranks_offset,
-        before,
-        front,
-    );
-    if rest != 0 {
-        let (offset, ranks_offset) = (offset + 64 * whole, ranks_offset + before);
-        let mut last = [0u8; 8];
-        narrow_words::<Portable>(bytes, offset, rest, ranks, ranks_offset, ones, &mut last);
-        put_last(out, whole, word_of(&last, 0), rest);
-    }
+    let word = BitChunks::new(bytes, offset, len).remainder_bits();
+    (word, word.count_ones() as usize)
 }
 
 // Narrows whole words.
-fn narrow_whole(
-    bytes: &[u8],
-    offset: usize,
-    len: usize,
-    ranks: &[u8],
-    ranks_offset: usize,
-    ranks_len: usize,
-    out: &mut [u8],
-)
-    requires bitmap { IsWithinBytes bytes.now offset len }
-    requires ranks { IsWithinBytes ranks.now ranks_offset ranks_len }
-    requires fitting { ranks_len ≡ count (bitmap bytes.now offset len) }
-    requires whole { len % 64 ≡ 0 }
-    requires room { length out.old ≡ 8 * started_words len }
-    ensures { bitmap out.new 0 len
-        ≡ rank_intersection (bitmap bytes.now offset len) (bitmap ranks.now ranks_offset ranks_len) }
+fn narrow_whole(chunks: &BitChunks<'_>, ranks: &RankBits<'_>, are_few: bool, out: &mut [u8])
+    requires fitting { length (values ranks.now) ≡ count chunks.now }
+    requires within { IsWithinBytes ranks.now.bytes ranks.now.offset ranks.now.len }
+    requires whole { length chunks.now % 64 ≡ 0 }
+    requires room { length out.old ≡ 8 * started_words (length chunks.now) }
+    ensures { bitmap out.new 0 (length chunks.now) ≡ rank_intersection chunks.now (values ranks.now) }
 {
-    if deposits_by_loop(len, ranks_len) {
-        narrow_few(bytes, offset, len, ranks, ranks_offset, ranks_len, out);
+    if are_few {
+        narrow_few(chunks, ranks, out);
     } else {
-        narrow_words::<Portable>(bytes, offset, len, ranks, ranks_offset, ranks_len, out);
+        narrow_by_bits::<Portable>(chunks, ranks, out);
     }
 }
 
 // Narrows values of which few are true. Most words have none, and need no ranks.
-fn narrow_few(
-    bytes: &[u8],
-    offset: usize,
-    len: usize,
-    ranks: &[u8],
-    ranks_offset: usize,
-    ranks_len: usize,
-    out: &mut [u8],
-)
-    requires bitmap { IsWithinBytes bytes.now offset len }
-    requires ranks { IsWithinBytes ranks.now ranks_offset ranks_len }
-    requires fitting { ranks_len ≡ count (bitmap bytes.now offset len) }
-    requires whole { len % 64 ≡ 0 }
-    requires room { length out.old ≡ 8 * started_words len }
-    ensures { bitmap out.new 0 len
-        ≡ rank_intersection (bitmap bytes.now offset len) (bitmap ranks.now ranks_offset ranks_len) }
+fn narrow_few(chunks: &BitChunks<'_>, ranks: &RankBits<'_>, out: &mut [u8])
+    requires fitting { length (values ranks.now) ≡ count chunks.now }
+    requires within { IsWithinBytes ranks.now.bytes ranks.now.offset ranks.now.len }
+    requires whole { length chunks.now % 64 ≡ 0 }
+    requires room { length out.old ≡ 8 * started_words (length chunks.now) }
+    ensures { bitmap out.new 0 (length chunks.now) ≡ rank_intersection chunks.now (values ranks.now) }
 {
     vortex_mask::laws::deposits_by_words();
-    let chunks = BitChunks::new(bytes, offset, len);
-    let bits = RankBits::over(ranks, ranks_offset, ranks_len);
     let mut at = 0;
     for i in 0..chunks.len() {
         let word = chunks.word(i);
         let ones = word.count_ones() as usize;
-        set_word(out, i, narrow_word(word, ones, &bits, at));
+        set_word(out, i, narrow_word(word, ones, ranks, at));
         at += ones;
     }
 }
@@ -162,29 +122,6 @@ fn narrow_word(word: u64, ones: usize, ranks: &RankBits<'_>, at: usize) -> u64
     }
     vortex_mask::laws::deposits_by_words();
     PortableLoop::deposit_bits(ranks.read(at), word, ones)
-}
-
-// Narrows a bitmap into room of whole words, by the kernel of `vortex_mask`.
-fn narrow_words<D: DepositBits>(
-    bytes: &[u8],
-    offset: usize,
-    len: usize,
-    ranks: &[u8],
-    ranks_offset: usize,
-    ranks_len: usize,
-    out: &mut [u8],
-)
-    requires bitmap { IsWithinBytes bytes.now offset len }
-    requires ranks { IsWithinBytes ranks.now ranks_offset ranks_len }
-    requires fitting { ranks_len ≡ count (bitmap bytes.now offset len) }
-    requires room { length out.old ≡ 8 * started_words len }
-    ensures { bitmap out.new 0 len
-        ≡ rank_intersection (bitmap bytes.now offset len) (bitmap ranks.now ranks_offset ranks_len) }
-{
-    laws::length_of_values();
-    let chunks = BitChunks::new(bytes, offset, len);
-    let bits = RankBits::over(ranks, ranks_offset, ranks_len);
-    narrow_by_bits::<D>(&chunks, &bits, out);
 }
 
 /// Writes the bitmap in which just those true values stay true whose numbers are `ranks`.
@@ -235,44 +172,13 @@ fn narrow_at<D: DepositBits>(
     ensures clear { AreClearBehind out.new len }
     ensures behind { drop (div_ceil len 8) out.new ≡ drop (div_ceil len 8) out.old }
 {
-    let (whole, rest) = (len / 64, len % 64);
-    let ones = count_bits(bytes, offset + 64 * whole, rest);
+    let whole = len / 64;
+    let (word, ones) = last_word(bytes, offset, len);
     let (cut, bits) = last_ranks(ranks, true_count - ones);
-    let front = &mut out[..8 * whole];
-    narrow_words_at::<D>(bytes, offset, 64 * whole, &ranks[..cut], front);
-    if rest != 0 {
-        let (mut source, mut last) = ([0u8; 8], [0u8; 8]);
-        set_word(&mut source, 0, bits);
-        narrow_words::<D>(
-            bytes,
-            offset + 64 * whole,
-            rest,
-            &source,
-            0,
-            ones,
-            &mut last,
-        );
-        put_last(out, whole, word_of(&last, 0), rest);
-    }
-}
-
-// Narrows a bitmap at ranks into room of whole words, by the kernel of `vortex_mask`.
-fn narrow_words_at<D: DepositBits>(
-    bytes: &[u8],
-    offset: usize,
-    len: usize,
-    ranks: &[usize],
-    out: &mut [u8],
-)
-    requires bitmap { IsWithinBytes bytes.now offset len }
-    requires ascending { IsStrictlyIncreasing ranks.now }
-    requires within { All (λ k. k < count (bitmap bytes.now offset len)) ranks.now }
-    requires room { length out.old ≡ 8 * started_words len }
-    ensures { bitmap out.new 0 len
-        ≡ true_at len (at_indices (positions (bitmap bytes.now offset len)) ranks.now) }
-{
-    laws::length_of_values();
-    narrow_at_ranks::<D>(&BitChunks::new(bytes, offset, len), ranks, out);
+    let front = BitChunks::new(bytes, offset, 64 * whole);
+    narrow_at_ranks::<D>(&front, &ranks[..cut], &mut out[..8 * whole]);
+    vortex_mask::laws::deposits();
+    put_last(out, D::deposit_bits(bits, word, ones), len);
 }
 
 // How many ranks are below `from`, and the others as set bits, that of `from` lowest.

@@ -1,29 +1,27 @@
 //! The end of a bitmap that is written: its last values, and the bits behind them in their byte.
 
-ghost use Rattle.std.specs.Prelude.{◌≡◌, ◌+◌, ◌*◌, ◌<◌, ◌≤◌, drop, length, take};
+ghost use Rattle.std.specs.Prelude.{◌≡◌, ◌*◌, ◌/◌, ◌≤◌, ℕ, List, drop, length};
 ghost use Rattle.std.specs.Int.{div_ceil};
 ghost use Rattle.mask_bits.specs.Bitmap.{bitmap};
-ghost use Rattle.mask_bits.specs.Words.{word_bits};
+ghost use Rattle.mask_bits.specs.ChosenBits.{values_so_far};
 ghost use Rattle.mask_c.specs.Bitmap.{AreClearBehind};
 
-use mask_bits::words::{low_bits, set_word};
+use mask_bits::words::set_word;
 
-// Writes the lowest `rest` bits of a word behind the first `whole` words, with zeros up to the end of
-// the last byte that they take, and nothing else.
-pub(crate) fn put_last(out: &mut [u8], whole: usize, word: u64, rest: usize)
-    requires some { 0 < rest }
-    requires few { rest < 64 }
-    requires room { div_ceil (64 * whole + rest) 8 ≤ length out.old }
-    ensures before { bitmap out.new 0 (64 * whole) ≡ bitmap out.old 0 (64 * whole) }
-    ensures list { bitmap out.new (64 * whole) rest ≡ take rest (word_bits word) }
-    ensures clear { AreClearBehind out.new (64 * whole + rest) }
-    ensures behind { drop (div_ceil (64 * whole + rest) 8) out.new
-        ≡ drop (div_ceil (64 * whole + rest) 8) out.old }
+// Writes the values of a bitmap of `len` that are behind its whole words: the lowest bits of `word`, with
+// zeros up to the end of the last byte that they take, and nothing else.
+pub(crate) fn put_last(out: &mut [u8], word: u64, len: usize)
+    requires room { div_ceil len 8 ≤ length out.old }
+    ensures list { bitmap out.new 0 len ≡ values_so_far out.old word len }
+    ensures clear { AreClearBehind out.new len }
+    ensures behind { (old : List ℕ) → drop (8 * (len / 64)) out.old ≡ drop (8 * (len / 64)) old
+        → drop (div_ceil len 8) out.new ≡ drop (div_ceil len 8) old }
 {
     let mut last = [0u8; 8];
-    set_word(&mut last, 0, low_bits(word, rest));
-    let end = 8 * whole + rest.div_ceil(8);
-    out[8 * whole..end].copy_from_slice(&last[..end - 8 * whole]);
+    set_word(&mut last, 0, word);
+    let (begin, end) = (8 * (len / 64), len.div_ceil(8));
+    out[begin..end].copy_from_slice(&last[..end - begin]);
+    clear_behind(out, len);
 }
 
 // Clears the bits behind the first `len` in their last byte.

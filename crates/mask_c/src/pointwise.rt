@@ -8,8 +8,8 @@ ghost use Rattle.mask_bits.specs.Lists.{and_of, or_of, and_not_of, combined, not
 ghost use Rattle.mask_c.specs.Bitmap.{AreClearBehind};
 
 use crate::last::put_last;
+use mask_bits::BitChunks;
 use mask_bits::combine::{And, AndNot, BitOp, Not, Or, Xor, combine};
-use mask_bits::words::word_at;
 
 // The first, whatever the second is.
 #[derive(Drop)]
@@ -159,12 +159,7 @@ fn write<C: BitOp>(a: &[u8], a_offset: usize, b: &[u8], b_offset: usize, len: us
 {
     let whole = len / 64;
     combine::<C>(a, a_offset, b, b_offset, 64 * whole, &mut out[..8 * whole]);
-    if len % 64 != 0 {
-        let position = 64 * whole;
-        let last = C::of(
-            word_at(a, a_offset + position),
-            word_at(b, b_offset + position),
-        );
-        put_last(out, whole, last, len % 64);
-    }
+    let a = BitChunks::new(a, a_offset, len);
+    let b = BitChunks::new(b, b_offset, len);
+    put_last(out, C::of(a.remainder_bits(), b.remainder_bits()), len);
 }

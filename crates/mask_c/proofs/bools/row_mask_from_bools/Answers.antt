@@ -1,24 +1,23 @@
-use Rattle.std.proofs.Common.{Bool, List, ◌*◌, ◌/◌, false, length, get_or, refl, ap, ◌∙◌, arith}
-use Rattle.std.proofs.lemmas.List.{length-take, take_rest}
+use Rattle.std.proofs.Common.{Bool, List, ◌<◌, ◌*◌, ◌/◌, ◌%◌, false, length, get_or, take, drop, sym, ap, ◌∙◌, arith}
+use Rattle.std.proofs.lemmas.List.{ext_get_or, get_or-take, length-drop, length-take, length-take-le, take-append-drop, take_rest}
+use Rattle.mask_bits.specs.Bitmap.{bitmap}
+use Rattle.mask_bits.specs.Words.{word_bits}
 use Rattle.mask_bits.proofs.Lists.Words.WordLemmas.{length-word_bits}
-use Rattle.mask_c.proofs.LastLemmas.{behind-last, written-list, written-whole}
+use Rattle.vortex_mask.proofs.Lists.StartedWordLemmas.{list-from_bits}
+use Rattle.mask_c.proofs.LastLemmas.{written}
 use Rattle.mask_c.proofs.bools.row_mask_from_bools.Goals as goal
 
-pub returns-then-rest-ne0-clause-values : goal.returns-then-rest-ne0-clause-values
-returns-then-rest-ne0-clause-values c =
+pub returns-clause-values : goal.returns-clause-values
+returns-clause-values c =
     let m = c.args.values.now in
-    let len = length m in
-    written-list m c.put_bools.new.bytes c.put_last.new.out _ len _ refl
-    (omega (arith, c.put_bools.auto.bytes, length-take (8 * (len / 64)) c.args.out.now, c.requires)) c.put_bools.ensures (length-word_bits c.word_of_bools.result)
-    (λ j h. c.word_of_bools.ensures j h ∙ ap (λ (xs : List Bool). get_or xs j false) (take_rest m (64 * (len / 64))))
-    c.put_last.ensures.before c.put_last.ensures.list
-
-pub returns-then-rest-ne0-clause-behind : goal.returns-then-rest-ne0-clause-behind
-returns-then-rest-ne0-clause-behind c = behind-last c.args.out.now c.put_bools.new.bytes c.put_last.new.out (length c.args.values.now) c.requires c.put_bools.auto.bytes c.put_last.ensures.behind
-
-pub returns-else-rest-ne0-clause-values : goal.returns-else-rest-ne0-clause-values
-returns-else-rest-ne0-clause-values c =
-    let m = c.args.values.now in
-    let len = length m in
-    written-whole m c.put_bools.new.bytes _ len refl (omega (arith, c.if-rest-ne0.false))
-    (omega (arith, c.put_bools.auto.bytes, length-take (8 * (len / 64)) c.args.out.now, c.requires)) c.put_bools.ensures
+    let front = c.put_bools.new.bytes in
+    let word = c.word_of_bools.result in
+    let w = 64 * (length m / 64) in
+    let rest = length m % 64 in
+    c.put_last.ensures.list
+    ∙ written (take w m) (drop w m) front _ word (length m) (omega (arith, c.put_bools.auto.bytes, length-take (8 * (length m / 64)) c.args.out.now, c.requires))
+    (ap (bitmap front 0) (sym (length-take-le w m (omega arith))) ∙ list-from_bits (take w m) front c.put_bools.ensures)
+    (ext_get_or false (take rest (word_bits word)) (drop w m) (length-take rest (word_bits word) ∙ omega (arith, length-word_bits word, length-drop w m)) (λ j h.
+    let few : j < rest = omega (arith, length-take rest (word_bits word)) in
+    get_or-take rest (word_bits word) j false few ∙ c.word_of_bools.ensures j (omega arith) ∙ ap (λ (xs : List Bool). get_or xs j false) (take_rest m w)))
+    ∙ take-append-drop w m

@@ -1,9 +1,8 @@
-use Rattle.std.proofs.Common.{◌≡◌, ◌+◌, ◌*◌, length, below_more, count_ones, inl, sym, ap, ap₂, ◌∙◌, arith}
+use Rattle.std.proofs.Common.{◌+◌, ◌*◌, below_more, count_ones, inl, sym, ap, ◌∙◌, arith}
 use Rattle.mask_bits.specs.Bitmap.{bitmap}
-use Rattle.mask_bits.specs.Buffer.{Packed, values}
-use Rattle.mask_bits.specs.Positions.{count, rank_intersection}
+use Rattle.mask_bits.specs.Buffer.{values}
+use Rattle.mask_bits.specs.Positions.{rank_intersection}
 use Rattle.mask_bits.proofs.Lists.LawLemmas.{length-rank_intersection}
-use Rattle.mask_bits.proofs.Lists.Words.BackingBitLemmas.{length-bitmap}
 use Rattle.mask_bits.proofs.Lists.Words.PaddedLemmas.{padded_part-whole}
 use Rattle.mask_bits.proofs.Lists.Words.WordLemmas.{count-word_bits}
 use Rattle.vortex_mask.proofs.Lists.StartedWordLemmas.{IsAt, place-after_within, place-next, place-within, rank_place-fits}
@@ -12,15 +11,12 @@ use Rattle.mask_c.proofs.intersect.narrow_few.Goals as goal
 use Rattle.mask_c.proofs.intersect.narrow_few.Goals.{After-word-word}
 
 -- the word of a turn, and the ranks, of which there are as many as true values
-here : (c : After-word-word) → IsAt c.new-chunks.result c.loop-i.i c.loop-i.at c.word-word.result (count_ones c.word-word.result)
+here : (c : After-word-word) → IsAt c.args.chunks.now c.loop-i.i c.loop-i.at c.word-word.result (count_ones c.word-word.result)
 here c = record {
   place = c.loop-i.invariant.place;
-  shows = c.word-word.ensures ∙ padded_part-whole c.new-chunks.result c.loop-i.i (omega (arith, c.loop-i-test, c.len-i-end.ensures));
+  shows = c.word-word.ensures ∙ padded_part-whole c.args.chunks.now c.loop-i.i (omega (arith, c.loop-i-test, c.len-i-end.ensures));
   counted = sym (count-word_bits c.word-word.result c.word-word.type_inv);
 }
-
-fitting : (c : After-word-word) → length (values c.over-bits.result) ≡ count c.new-chunks.result
-fitting c = ap (λ (p : Packed). length (values p)) c.over-bits.ensures.bits ∙ length-bitmap c.args.ranks.now c.args.ranks_offset c.args.ranks_len ∙ c.requires.fitting ∙ sym (ap count c.new-chunks.ensures.list)
 
 pub narrow_word-requires-clause-counted : goal.narrow_word-requires-clause-counted
 narrow_word-requires-clause-counted c = sym (count-word_bits c.word-word.result c.word-word.type_inv)
@@ -28,12 +24,12 @@ narrow_word-requires-clause-counted c = sym (count-word_bits c.word-word.result 
 pub narrow_word-requires-clause-fits : goal.narrow_word-requires-clause-fits
 narrow_word-requires-clause-fits c =
     let start = (goal.at.narrow_word-requires-clause-fits c).After-word-word in
-    rank_place-fits c.new-chunks.result c.over-bits.result c.loop-i.at (fitting start) (place-within c.new-chunks.result c.loop-i.i c.loop-i.at c.loop-i.invariant.place) c.over-bits.ensures.within.fits
+    rank_place-fits c.args.chunks.now c.args.ranks.now c.loop-i.at c.requires.fitting (place-within c.args.chunks.now c.loop-i.i c.loop-i.at c.loop-i.invariant.place) c.requires.within.fits
 
 pub overflow_add-at : goal.overflow_add-at
 overflow_add-at c =
     let start = (goal.at.overflow_add-at c).After-word-word in
-    omega (arith, rank_place-fits c.new-chunks.result c.over-bits.result _ (fitting start) (place-after_within (here start)) c.over-bits.ensures.within.fits)
+    omega (arith, rank_place-fits c.args.chunks.now c.args.ranks.now _ c.requires.fitting (place-after_within (here start)) c.requires.within.fits)
 
 pub loop-i-preserved : goal.loop-i-preserved
 loop-i-preserved c =
@@ -42,15 +38,12 @@ loop-i-preserved c =
       place = place-next (here start);
       words = below_more _ _
           (λ k h. window-kept c.loop-i.out c.set_word.new.bytes (64 * k) (λ j few. c.set_word.ensures.others (64 * k + j) (inl (omega arith))) ∙ c.loop-i.invariant.words k h)
-          (c.set_word.ensures.here ∙ c.narrow_word.ensures c.new-chunks.result c.loop-i.i (fitting start) c.loop-i.invariant.place (here start).shows);
+          (c.set_word.ensures.here ∙ c.narrow_word.ensures c.args.chunks.now c.loop-i.i c.requires.fitting c.loop-i.invariant.place (here start).shows);
     }
 
 pub returns : goal.returns
 returns c =
-    let a = c.new-chunks.result in
-    let b = c.over-bits.result in
-    let r = rank_intersection a (values b) in
-    let len : length r ≡ c.args.len = length-rank_intersection a (values b) ∙ c.new-chunks.ensures.len in
+    let r = rank_intersection c.args.chunks.now (values c.args.ranks.now) in
+    let len = length-rank_intersection c.args.chunks.now (values c.args.ranks.now) in
     ap (bitmap c.loop-i.out 0) (sym len)
-    ∙ c.deposits_by_words.ensures.list r c.loop-i.out (λ i h. c.loop-i.invariant.words i (omega (arith, h, len, c.loop-i-test, c.len-i-end.ensures, c.new-chunks.ensures.len, c.requires.whole)))
-    ∙ ap₂ rank_intersection c.new-chunks.ensures.list (ap values c.over-bits.ensures.bits)
+    ∙ c.deposits_by_words.ensures.list r c.loop-i.out (λ i h. c.loop-i.invariant.words i (omega (arith, h, len, c.loop-i-test, c.len-i-end.ensures, c.requires.whole)))

@@ -8,5 +8,5 @@ use Rattle.mask_c.proofs.intersect.narrow_few.Given as goal
 abbrev pub invariant-loop-i : goal.invariant-loop-i
 invariant-loop-i l = record {
   place : l.at ≡ count_below l.chunks (64 * l.i);
-  words : (k : ℕ) → k < l.i → window l.out (64 * k) ≡ padded_part (rank_intersection l.chunks (values l.bits)) k;
+  words : (k : ℕ) → k < l.i → window l.out (64 * k) ≡ padded_part (rank_intersection l.chunks (values l.ranks)) k;
 }

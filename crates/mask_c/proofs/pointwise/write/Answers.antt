@@ -1,21 +1,18 @@
-use Rattle.std.proofs.Common.{◌*◌, ◌/◌, ap, ◌∙◌, arith}
+use Rattle.std.proofs.Common.{◌*◌, ◌/◌, take, sym, ap, ap₂, ◌∙◌, arith}
 use Rattle.std.proofs.lemmas.List.{length-take}
-use Rattle.mask_bits.specs.Bitmap.{bitmap}
-use Rattle.mask_c.proofs.LastLemmas.{behind-last, written-combined, front-appended}
+use Rattle.mask_bits.specs.Lists.{combined}
+use Rattle.mask_c.proofs.LastLemmas.{bitmap-take, written-combined}
 use Rattle.mask_c.proofs.pointwise.write.Goals as goal
 
-pub returns-then-len-ne0-clause-values : goal.returns-then-len-ne0-clause-values
-returns-then-len-ne0-clause-values g c =
-    written-combined g.C.BitOp.of_bits c.args.a.now c.args.b.now c.combine.new.out c.put_last.new.out c.args.a_offset c.args.b_offset c.args.len _ _ _ _
-    (omega (arith, c.combine.auto.out, length-take (8 * (c.args.len / 64)) c.args.out.now, c.requires.room)) c.combine.ensures c.word_at.ensures c.word_at-then-len-ne0.ensures c.of-last.ensures
-    c.put_last.ensures.before c.put_last.ensures.list
-
-pub returns-then-len-ne0-clause-behind : goal.returns-then-len-ne0-clause-behind
-returns-then-len-ne0-clause-behind g c = behind-last c.args.out.now c.combine.new.out c.put_last.new.out c.args.len c.requires.room c.combine.auto.out c.put_last.ensures.behind
-
-pub returns-else-len-ne0-clause-values : goal.returns-else-len-ne0-clause-values
-returns-else-len-ne0-clause-values g c =
-    front-appended c.combine.new.out _ c.args.len (omega (arith, c.combine.auto.out, length-take (8 * (c.args.len / 64)) c.args.out.now, c.requires.room, c.if-len-ne0.false))
-    ∙ ap (bitmap c.combine.new.out 0) (omega (arith, c.if-len-ne0.false))
-    ∙ c.combine.ensures
-    ∙ grind (arith, c.if-len-ne0.false)
+pub returns-clause-values : goal.returns-clause-values
+returns-clause-values g c =
+    let f = g.C.BitOp.of_bits in
+    let len = c.args.len in
+    let w = 64 * (len / 64) in
+    let a = c.new-a.ensures in
+    let b = c.new-b.ensures in
+    c.put_last.ensures.list
+    ∙ written-combined f c.new-a.result c.new-b.result c.combine.new.out _ c.of.result len a.len b.len (omega (arith, c.combine.auto.out, length-take (8 * (len / 64)) c.args.out.now, c.requires.room))
+    (c.combine.ensures ∙ sym (ap₂ (combined f) (ap (take w) a.list ∙ bitmap-take c.args.a.now c.args.a_offset len w (omega arith)) (ap (take w) b.list ∙ bitmap-take c.args.b.now c.args.b_offset len w (omega arith))))
+    (c.of.ensures ∙ ap₂ (combined f) c.remainder_bits.ensures c.remainder_bits-2.ensures)
+    ∙ ap₂ (combined f) a.list b.list

@@ -1,0 +1,16 @@
+use Rattle.std.proofs.Common.{◌+◌, ◌*◌, ◌/◌, sym, ap, ◌∙◌}
+use Rattle.mask_bits.specs.Bitmap.{bitmap}
+use Rattle.mask_bits.specs.Positions.{count}
+use Rattle.mask_bits.specs.Words.{padded_remainder}
+use Rattle.mask_bits.proofs.Lists.Words.WordLemmas.{count-word_bits}
+use Rattle.mask_c.proofs.LastLemmas.{count-remainder}
+use Rattle.mask_c.proofs.intersect.last_word.Goals as goal
+
+pub returns-clause-ones : goal.returns-clause-ones
+returns-clause-ones c = sym (count-word_bits c.remainder_bits-word.result c.remainder_bits-word.type_inv)
+
+pub returns-clause-all : goal.returns-clause-all
+returns-clause-all c =
+    ap (λ n. count (bitmap c.args.bytes.now c.args.offset (64 * (c.args.len / 64))) + n)
+    (sym (count-word_bits c.remainder_bits-word.result c.remainder_bits-word.type_inv) ∙ ap count c.remainder_bits-word.ensures ∙ ap (λ m. count (padded_remainder m)) c.new.ensures.list)
+    ∙ count-remainder c.args.bytes.now c.args.offset c.args.len
