@@ -122,10 +122,9 @@ sum-below ls m n =
     omega (arith, sum-parts ls (positions m) (positions front) (indices_from (0 + length front) (drop n m)) split, ap sum (chosen_at_positions ls m))
 
 -- nor are those of one more word behind the ones before it
-pub sum-word : (ls : List ℕ) (m list : List Bool) (i : ℕ) (here : List ℕ) → positions (take (64 * (i + 1)) m) ≡ positions (take (64 * i) m) ++ here → m ≡ list
-    → sum (items_at ls (positions (take (64 * i) m))) + sum (items_at ls here) ≤ sum (chosen ls list)
-sum-word ls m list i here is same =
-    omega (arith, sum-parts ls (positions (take (64 * (i + 1)) m)) (positions (take (64 * i) m)) here is, sum-below ls m (64 * (i + 1)), ap (λ x. sum (chosen ls x)) same)
+pub sum-word : (ls : List ℕ) (m : List Bool) (i : ℕ) (here : List ℕ) → positions (take (64 * (i + 1)) m) ≡ positions (take (64 * i) m) ++ here
+    → sum (items_at ls (positions (take (64 * i) m))) + sum (items_at ls here) ≤ sum (chosen ls m)
+sum-word ls m i here is = omega (arith, sum-parts ls (positions (take (64 * (i + 1)) m)) (positions (take (64 * i) m)) here is, sum-below ls m (64 * (i + 1)))
 
 -- what comes behind holds too
 pub All-behind : (P : ℕ → Type 0) (xs ys zs : List ℕ) → zs ≡ xs ++ ys → All P zs → All P ys
@@ -148,8 +147,8 @@ pub word-counted : (m : List Bool) (i : ℕ) (here : List ℕ) → positions (ta
 word-counted m i here is = ap length is ∙ length-append (positions (take (64 * i) m)) here
 
 -- all words have all items
-pub items-all : {X : Type 0} (xs : List X) (m list : List Bool) (n : ℕ) → length m ≤ n → m ≡ list → items_at xs (positions (take n m)) ≡ chosen xs list
-items-all xs m list n past is = ap (λ (x : List Bool). items_at xs (positions x)) (take_all n m past ∙ is) ∙ sym (chosen_at_positions xs list)
+pub items-all : {X : Type 0} (xs : List X) (m : List Bool) (n : ℕ) → length m ≤ n → items_at xs (positions (take n m)) ≡ chosen xs m
+items-all xs m n past = ap (λ (x : List Bool). items_at xs (positions x)) (take_all n m past) ∙ sym (chosen_at_positions xs m)
 
 -- ---- bytes that are written
 

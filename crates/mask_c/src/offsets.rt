@@ -85,7 +85,7 @@ pub extern "C" fn row_mask_choose_offsets_4(
         ≡ drop (count (bitmap bytes.now offset len) + 1) out.old }
     ensures size { result ≡ sum (chosen (sizes offsets.now) (bitmap bytes.now offset len)) }
 {
-    choose_offsets(bytes, offset, len, offsets, out)
+    choose_offsets(&BitChunks::new(bytes, offset, len), offsets, out)
 }
 
 /// Writes the offsets of the strings at the true values to the front of `out`: 0, and then where each of
@@ -114,7 +114,7 @@ pub extern "C" fn row_mask_choose_offsets_8(
         ≡ drop (count (bitmap bytes.now offset len) + 1) out.old }
     ensures size { result ≡ sum (chosen (sizes offsets.now) (bitmap bytes.now offset len)) }
 {
-    choose_offsets(bytes, offset, len, offsets, out)
+    choose_offsets(&BitChunks::new(bytes, offset, len), offsets, out)
 }
 
 /// Writes the offsets of the strings at `indices` to the front of `out`: 0, and then where each of these ends
@@ -249,32 +249,23 @@ fn take_offsets<O: Offset>(indices: &[usize], offsets: &[O], out: &mut [O]) -> u
 
 // The offsets of the strings at the true values, word by word.
 #[inline]
-fn choose_offsets<O: Offset>(
-    bytes: &[u8],
-    offset: usize,
-    len: usize,
-    offsets: &[O],
-    out: &mut [O],
-) -> usize
-    requires bitmap { IsWithinBytes bytes.now offset len }
-    requires offsets { length offsets.now ≡ len + 1 }
+fn choose_offsets<O: Offset>(chunks: &BitChunks<'_>, offsets: &[O], out: &mut [O]) -> usize
+    requires offsets { length offsets.now ≡ length chunks.now + 1 }
     requires ascending { IsNonDecreasing (map O.number offsets.now) }
-    requires fits { sum (chosen (sizes (map O.number offsets.now)) (bitmap bytes.now offset len)) < O.limit }
-    requires in_usize { sum (chosen (sizes (map O.number offsets.now)) (bitmap bytes.now offset len)) < 2 ^ 64 }
-    requires room { count (bitmap bytes.now offset len) < length out.old }
-    ensures offsets { take (count (bitmap bytes.now offset len) + 1) (map O.number out.new)
-        ≡ offsets_of (chosen (sizes (map O.number offsets.now)) (bitmap bytes.now offset len)) }
-    ensures behind { drop (count (bitmap bytes.now offset len) + 1) (map O.number out.new)
-        ≡ drop (count (bitmap bytes.now offset len) + 1) (map O.number out.old) }
-    ensures size { result
-        ≡ sum (chosen (sizes (map O.number offsets.now)) (bitmap bytes.now offset len)) }
+    requires fits { sum (chosen (sizes (map O.number offsets.now)) chunks.now) < O.limit }
+    requires in_usize { sum (chosen (sizes (map O.number offsets.now)) chunks.now) < 2 ^ 64 }
+    requires room { count chunks.now < length out.old }
+    ensures offsets { take (count chunks.now + 1) (map O.number out.new)
+        ≡ offsets_of (chosen (sizes (map O.number offsets.now)) chunks.now) }
+    ensures behind { drop (count chunks.now + 1) (map O.number out.new)
+        ≡ drop (count chunks.now + 1) (map O.number out.old) }
+    ensures size { result ≡ sum (chosen (sizes (map O.number offsets.now)) chunks.now) }
 {
     set_offset(out, 0, 0);
-    let chunks = BitChunks::new(bytes, offset, len);
     let mut block = [0; 64];
     let (mut end, mut at) = (0, 1);
     for i in 0..chunks.started_words() {
-        let some = indices_in_word(&chunks, i, &mut block);
+        let some = indices_in_word(chunks, i, &mut block);
         end = put_ends(&block[..some], offsets, end, out, at);
         at += some;
     }

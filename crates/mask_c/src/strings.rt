@@ -38,7 +38,8 @@ pub extern "C" fn row_mask_choose_bytes_4(
     ensures behind { drop result out.new ≡ drop result out.old }
     ensures size { result ≡ sum (chosen (sizes offsets.now) (bitmap bytes.now offset len)) }
 {
-    choose_strings(bytes, offset, len, offsets, string_bytes, out)
+    let chunks = BitChunks::new(bytes, offset, len);
+    choose_strings(&chunks, offsets, string_bytes, out)
 }
 
 /// Writes the bytes of the strings at the true values, one string behind another, to the front of `out`, and
@@ -67,7 +68,8 @@ pub extern "C" fn row_mask_choose_bytes_8(
     ensures behind { drop result out.new ≡ drop result out.old }
     ensures size { result ≡ sum (chosen (sizes offsets.now) (bitmap bytes.now offset len)) }
 {
-    choose_strings(bytes, offset, len, offsets, string_bytes, out)
+    let chunks = BitChunks::new(bytes, offset, len);
+    choose_strings(&chunks, offsets, string_bytes, out)
 }
 
 /// Writes the bytes of the strings at `indices`, in their order and one behind another, to the front of
@@ -125,30 +127,25 @@ pub extern "C" fn row_mask_take_bytes_8(
 // The strings at the true values, word by word.
 #[inline]
 fn choose_strings<O: Offset>(
-    bytes: &[u8],
-    offset: usize,
-    len: usize,
+    chunks: &BitChunks<'_>,
     offsets: &[O],
     string_bytes: &[u8],
     out: &mut [u8],
 ) -> usize
-    requires bitmap { IsWithinBytes bytes.now offset len }
-    requires offsets { length offsets.now ≡ len + 1 }
+    requires offsets { length offsets.now ≡ length chunks.now + 1 }
     requires ascending { IsNonDecreasing (map O.number offsets.now) }
-    requires covered { slice_index (map O.number offsets.now) len ≤ length string_bytes.now }
-    requires room { sum (chosen (sizes (map O.number offsets.now)) (bitmap bytes.now offset len))
-        ≤ length out.old }
+    requires covered { slice_index (map O.number offsets.now) (length chunks.now)
+        ≤ length string_bytes.now }
+    requires room { sum (chosen (sizes (map O.number offsets.now)) chunks.now) ≤ length out.old }
     ensures strings { take result out.new
-        ≡ concat (chosen (strings (map O.number offsets.now) string_bytes.now) (bitmap bytes.now offset len)) }
+        ≡ concat (chosen (strings (map O.number offsets.now) string_bytes.now) chunks.now) }
     ensures behind { drop result out.new ≡ drop result out.old }
-    ensures size { result
-        ≡ sum (chosen (sizes (map O.number offsets.now)) (bitmap bytes.now offset len)) }
+    ensures size { result ≡ sum (chosen (sizes (map O.number offsets.now)) chunks.now) }
 {
-    let chunks = BitChunks::new(bytes, offset, len);
     let mut block = [0; 64];
     let mut at = 0;
     for i in 0..chunks.started_words() {
-        let some = indices_in_word(&chunks, i, &mut block);
+        let some = indices_in_word(chunks, i, &mut block);
         at = put_strings(&block[..some], offsets, string_bytes, out, at);
     }
     at

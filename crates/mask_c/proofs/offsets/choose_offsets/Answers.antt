@@ -1,7 +1,6 @@
 use Rattle.std.proofs.Common.{◌≡◌, ◌+◌, ◌*◌, ◌≤◌, ◌++◌, length, take, drop, map, refl, sym, ap, ◌∙◌, arith}
 use Rattle.std.specs.List.{sum}
 use Rattle.std.proofs.lemmas.List.{drop-set-lt, length-map, length-take, take_all, take_more_set}
-use Rattle.mask_bits.specs.Bitmap.{bitmap}
 use Rattle.mask_bits.specs.Positions.{chosen, count, positions}
 use Rattle.mask_c.specs.Strings.{ends_from, items_at, offsets_of, sizes}
 use Rattle.mask_c.proofs.StringLemmas.{items-all, offsets-word, sum-parts, sum-word, word-counted, word-within}
@@ -12,13 +11,13 @@ use Rattle.mask_c.proofs.offsets.choose_offsets.Goals as goal
 use Rattle.mask_c.proofs.offsets.choose_offsets.Goals.{After-indices_in_word-some}
 
 pub put_ends-end-requires-clause-within : goal.put_ends-end-requires-clause-within
-put_ends-end-requires-clause-within g c = word-within c.new-chunks.result _ _ c.loop-i.i (length c.args.offsets.now) c.indices_in_word-some.ensures.indices (omega (arith, c.requires.offsets, c.new-chunks.ensures.len))
+put_ends-end-requires-clause-within g c = word-within c.args.chunks.now _ _ c.loop-i.i (length c.args.offsets.now) c.indices_in_word-some.ensures.indices c.requires.offsets
 
 -- the sizes so far and those of the word are no more than those of the chosen strings
 more : (g : Over) (c : After-indices_in_word-some g)
     → c.loop-i.end + sum (items_at (sizes (map g.O.Offset.number c.args.offsets.now)) (take c.indices_in_word-some.result c.indices_in_word-some.new.block))
-    ≤ sum (chosen (sizes (map g.O.Offset.number c.args.offsets.now)) (bitmap c.args.bytes.now c.args.offset c.args.len))
-more g c = omega (arith, c.loop-i.invariant.total, sum-word (sizes (map g.O.Offset.number c.args.offsets.now)) c.new-chunks.result _ c.loop-i.i _ c.indices_in_word-some.ensures.indices c.new-chunks.ensures.list)
+    ≤ sum (chosen (sizes (map g.O.Offset.number c.args.offsets.now)) c.args.chunks.now)
+more g c = omega (arith, c.loop-i.invariant.total, sum-word (sizes (map g.O.Offset.number c.args.offsets.now)) c.args.chunks.now c.loop-i.i _ c.indices_in_word-some.ensures.indices)
 
 pub put_ends-end-requires-clause-fits : goal.put_ends-end-requires-clause-fits
 put_ends-end-requires-clause-fits g c = omega (arith, more g (goal.at.put_ends-end-requires-clause-fits g c).After-indices_in_word-some, c.requires.fits)
@@ -28,17 +27,17 @@ put_ends-end-requires-clause-in_usize g c = omega (arith, more g (goal.at.put_en
 
 pub put_ends-end-requires-clause-room : goal.put_ends-end-requires-clause-room
 put_ends-end-requires-clause-room g c =
-    let m = c.new-chunks.result in
+    let m = c.args.chunks.now in
     let i = c.loop-i.i in
     let here = take c.indices_in_word-some.result c.indices_in_word-some.new.block in
-    omega (arith, c.loop-i.invariant.counted, word-counted m i here c.indices_in_word-some.ensures.indices, count_below-le m (64 * (i + 1)), ap count c.new-chunks.ensures.list, c.requires.room, c.loop-i.auto.out, c.set_offset.auto.offsets)
+    omega (arith, c.loop-i.invariant.counted, word-counted m i here c.indices_in_word-some.ensures.indices, count_below-le m (64 * (i + 1)), c.requires.room, c.loop-i.auto.out, c.set_offset.auto.offsets)
 
 pub overflow_add-at : goal.overflow_add-at
 overflow_add-at g c =
-    let m = c.new-chunks.result in
+    let m = c.args.chunks.now in
     let i = c.loop-i.i in
     let here = take c.indices_in_word-some.result c.indices_in_word-some.new.block in
-    omega (arith, c.loop-i.invariant.counted, word-counted m i here c.indices_in_word-some.ensures.indices, count_below-le m (64 * (i + 1)), ap count c.new-chunks.ensures.list, c.requires.room, length-take c.indices_in_word-some.result c.indices_in_word-some.new.block, c.indices_in_word-some.array_long, c.indices_in_word-some.ensures.few)
+    omega (arith, c.loop-i.invariant.counted, word-counted m i here c.indices_in_word-some.ensures.indices, count_below-le m (64 * (i + 1)), c.requires.room, length-take c.indices_in_word-some.result c.indices_in_word-some.new.block, c.indices_in_word-some.array_long, c.indices_in_word-some.ensures.few)
 
 pub loop-i-init : goal.loop-i-init
 loop-i-init g c =
@@ -55,7 +54,7 @@ pub loop-i-preserved : goal.loop-i-preserved
 loop-i-preserved g c =
     let numbers = map g.O.Offset.number in
     let ls = sizes (numbers c.args.offsets.now) in
-    let m = c.new-chunks.result in
+    let m = c.args.chunks.now in
     let i = c.loop-i.i in
     let some = c.indices_in_word-some.result in
     let here = take some c.indices_in_word-some.new.block in
@@ -75,12 +74,12 @@ loop-i-preserved g c =
 pub returns-clause-offsets : goal.returns-clause-offsets
 returns-clause-offsets g c =
     let ls = sizes (map g.O.Offset.number c.args.offsets.now) in
-    let m = c.new-chunks.result in
-    ap (λ n. take n (map g.O.Offset.number c.loop-i.out)) (omega (arith, c.loop-i.invariant.counted, ap count (take_all (64 * c.loop-i.i) m (omega arith)), ap count c.new-chunks.ensures.list)) ∙ c.loop-i.invariant.offsets
-    ∙ ap offsets_of (items-all ls m _ (64 * c.loop-i.i) (omega arith) c.new-chunks.ensures.list)
+    let m = c.args.chunks.now in
+    ap (λ n. take n (map g.O.Offset.number c.loop-i.out)) (omega (arith, c.loop-i.invariant.counted, ap count (take_all (64 * c.loop-i.i) m (omega arith)))) ∙ c.loop-i.invariant.offsets
+    ∙ ap offsets_of (items-all ls m (64 * c.loop-i.i) (omega arith))
 
 pub returns-clause-size : goal.returns-clause-size
 returns-clause-size g c =
     let ls = sizes (map g.O.Offset.number c.args.offsets.now) in
-    let m = c.new-chunks.result in
-    c.loop-i.invariant.total ∙ ap sum (items-all ls m _ (64 * c.loop-i.i) (omega arith) c.new-chunks.ensures.list)
+    let m = c.args.chunks.now in
+    c.loop-i.invariant.total ∙ ap sum (items-all ls m (64 * c.loop-i.i) (omega arith))

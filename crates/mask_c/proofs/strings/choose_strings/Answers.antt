@@ -7,19 +7,19 @@ use Rattle.mask_bits.proofs.Lists.Words.FrontLemmas.{behind-later}
 use Rattle.mask_c.proofs.strings.choose_strings.Goals as goal
 
 pub put_strings-at-requires-clause-within : goal.put_strings-at-requires-clause-within
-put_strings-at-requires-clause-within g c = word-within c.new-chunks.result _ _ c.loop-i.i (length c.args.offsets.now) c.indices_in_word-some.ensures.indices (omega (arith, c.requires.offsets, c.new-chunks.ensures.len))
+put_strings-at-requires-clause-within g c = word-within c.args.chunks.now _ _ c.loop-i.i (length c.args.offsets.now) c.indices_in_word-some.ensures.indices c.requires.offsets
 
 pub put_strings-at-requires-clause-room : goal.put_strings-at-requires-clause-room
 put_strings-at-requires-clause-room g c =
     let ls = sizes (map g.O.Offset.number c.args.offsets.now) in
     let here = take c.indices_in_word-some.result c.indices_in_word-some.new.block in
-    omega (arith, c.loop-i.invariant.size, sum-word ls c.new-chunks.result _ c.loop-i.i here c.indices_in_word-some.ensures.indices c.new-chunks.ensures.list, c.requires.room, c.loop-i.auto.out)
+    omega (arith, c.loop-i.invariant.size, sum-word ls c.args.chunks.now c.loop-i.i here c.indices_in_word-some.ensures.indices, c.requires.room, c.loop-i.auto.out)
 
 pub loop-i-preserved : goal.loop-i-preserved
 loop-i-preserved g c =
     let ns = map g.O.Offset.number c.args.offsets.now in
     let xss = strings ns c.args.string_bytes.now in
-    let m = c.new-chunks.result in
+    let m = c.args.chunks.now in
     let i = c.loop-i.i in
     let here = take c.indices_in_word-some.result c.indices_in_word-some.new.block in
     let is = c.indices_in_word-some.ensures.indices in
@@ -35,9 +35,9 @@ loop-i-preserved g c =
 pub returns-clause-strings : goal.returns-clause-strings
 returns-clause-strings g c =
     let xss = strings (map g.O.Offset.number c.args.offsets.now) c.args.string_bytes.now in
-    c.loop-i.invariant.strings ∙ ap concat (items-all xss c.new-chunks.result _ (64 * c.loop-i.i) (omega arith) c.new-chunks.ensures.list)
+    c.loop-i.invariant.strings ∙ ap concat (items-all xss c.args.chunks.now (64 * c.loop-i.i) (omega arith))
 
 pub returns-clause-size : goal.returns-clause-size
 returns-clause-size g c =
     let ls = sizes (map g.O.Offset.number c.args.offsets.now) in
-    c.loop-i.invariant.size ∙ ap sum (items-all ls c.new-chunks.result _ (64 * c.loop-i.i) (omega arith) c.new-chunks.ensures.list)
+    c.loop-i.invariant.size ∙ ap sum (items-all ls c.args.chunks.now (64 * c.loop-i.i) (omega arith))
