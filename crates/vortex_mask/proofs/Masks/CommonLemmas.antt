@@ -1,5 +1,5 @@
 -- The indices that two ascending lists have in common, found at their fronts.
-use Rattle.std.proofs.Common.{Bool, zero, suc, true, append_assoc, append-nil, ◌≡◌, ℕ, ◌+◌, ◌<◌, ◌≤◌, false, nat_eq, nat_le, set, List, [], ◌∷◌, ◌++◌, length, get_or, take, drop, ◌||◌, ◌-◌, cond, refl, sym, ap, ap₂, subst, ◌∙◌, ◌⊎◌, inl, inr, arith}
+use Rattle.std.proofs.Common.{suc, true, append_assoc, append-nil, ◌≡◌, ℕ, ◌+◌, ◌<◌, ◌≤◌, false, nat_eq, nat_le, set, List, [], ◌∷◌, ◌++◌, length, get_or, take, drop, ◌||◌, ◌-◌, cond, refl, sym, ap, ap₂, subst, ◌∙◌, ◌⊎◌, inl, inr, arith}
 use Rattle.std.specs.List.{All, copy_within, list_any}
 use Rattle.std.proofs.lemmas.Grind.{take-set_at}
 use Rattle.std.proofs.lemmas.List.Edits.{take-paste}
@@ -7,7 +7,7 @@ use Rattle.std.proofs.Math.Seq.{paste}
 use Rattle.std.specs.List.Sorted.{IsStrictlyIncreasing}
 use Rattle.std.proofs.lemmas.Bool.{le-leb, lt-leb, eq-eqb, ne_eqb, cases_lt, cases_eq, cases_order}
 use Rattle.std.proofs.Math.Bool.{or-false}
-use Rattle.std.proofs.lemmas.List.{drop-set-lt, set-get_or, length-set, drop_more, length-drop, length-take, get_or-take, take-append-drop, take-set, take-take, get_or-drop, drop_all, get_or_default}
+use Rattle.std.proofs.lemmas.List.{drop-set-lt, set-get_or, length-set, drop_more, length-drop, length-take, get_or-take, take-append-drop, take-set, take-take, get_or-drop, drop_all, drop-drop, get_or_default}
 use Rattle.std.proofs.lemmas.List.Elements.{All-head, All-tail, All-cons, All-weaker, filter-append, filter_more}
 use Rattle.std.proofs.lemmas.List.Folds.{list_any_none, list_any-append, list_any-from_Any}
 use Rattle.std.proofs.lemmas.List.Kept.{AllPairs-from_increasing}
@@ -31,25 +31,6 @@ ascending-later xs i k h ascending m inside =
       get_or-drop k xs (m + 1) 0,
     )
 
--- the ones after place i are above the one at i
-above-after : (xs : List ℕ) (i : ℕ) → IsStrictlyIncreasing (drop i xs) → All (λ z. get_or xs i 0 < z) (drop (i + 1) xs)
-above-after xs i ascending k d h =
-    let place : i + 1 + k < length xs = omega (arith, length-drop (i + 1) xs) in
-    let read : get_or (drop (i + 1) xs) k d ≡ get_or xs (i + 1 + k) 0 = get_or-drop (i + 1) xs k d ∙ get_or_default xs (i + 1 + k) d 0 place in
-    let first : i + 0 ≡ i = omega arith in
-    let next : i + (1 + k) ≡ i + 1 + k = omega arith in
-    omega (
-      arith,
-      AllPairs-from_increasing (drop i xs) ascending 0 (1 + k) 0 (omega arith) (omega (arith, length-drop i xs)),
-      get_or-drop i xs 0 0 ∙ ap (λ n. get_or xs n 0) first,
-      get_or-drop i xs (1 + k) 0 ∙ ap (λ n. get_or xs n 0) next,
-      read,
-    )
-
--- from index i on all are above what the one at i is above
-above-from : (xs : List ℕ) (x i : ℕ) → IsStrictlyIncreasing (drop i xs) → i < length xs → x < get_or xs i 0 → All (λ z. x < z) (drop i xs)
-above-from xs x i ascending h first = grind (arith, drop_more, All-cons, All-weaker, above-after)
-
 common-none : (xs : List ℕ) → common xs [] ≡ []
 common-none [] = refl
 common-none (x ∷ xs) = common-none xs
@@ -69,26 +50,13 @@ common-right y (x ∷ xs) ys below =
 common-first : (x : ℕ) (xs ys : List ℕ) → All (λ z. x < z) xs → common (x ∷ xs) (x ∷ ys) ≡ x ∷ common xs ys
 common-first x xs ys below = rw (eq-eqb x x refl, common-right x xs ys below) refl
 
--- ---- what is left of two lists, from place i of the one and from place j of the other
-
-common-less : (xs ys : List ℕ) (i j : ℕ) → IsStrictlyIncreasing ys → i < length xs → j < length ys → get_or xs i 0 < get_or ys j 0
-    → common (drop i xs) (drop j ys) ≡ common (drop (i + 1) xs) (drop j ys)
-common-less xs ys i j ascending h k less =
-    rw (drop_more xs i 0 h) (common-left (get_or xs i 0) (drop (i + 1) xs) (drop j ys) (above-from ys (get_or xs i 0) j (ascending-later ys 0 j (omega arith) ascending) k less))
-
-common-greater : (xs ys : List ℕ) (i j : ℕ) → IsStrictlyIncreasing (drop i xs) → i < length xs → j < length ys → get_or ys j 0 < get_or xs i 0
-    → common (drop i xs) (drop j ys) ≡ common (drop i xs) (drop (j + 1) ys)
-common-greater xs ys i j ascending h k less =
-    rw (drop_more ys j 0 k) (common-right (get_or ys j 0) (drop i xs) (drop (j + 1) ys) (above-from xs (get_or ys j 0) i ascending h less))
-
-common-equal : (xs ys : List ℕ) (i j : ℕ) → IsStrictlyIncreasing (drop i xs) → i < length xs → j < length ys → get_or xs i 0 ≡ get_or ys j 0
-    → common (drop i xs) (drop j ys) ≡ get_or xs i 0 ∷ common (drop (i + 1) xs) (drop (j + 1) ys)
-common-equal xs ys i j ascending h k same = grind (arith, drop_more, common-first, above-after)
-
 -- ---- either list may come first
 
 above-first : (x : ℕ) (xs : List ℕ) → IsStrictlyIncreasing (x ∷ xs) → All (λ z. x < z) xs
-above-first x xs ascending = above-after (x ∷ xs) 0 ascending
+above-first x xs ascending k d h = omega (arith, get_or_default xs k d 0 h, AllPairs-from_increasing (x ∷ xs) ascending 0 (suc k) 0 (omega arith) (omega arith))
+
+above-all : (x y : ℕ) (ys : List ℕ) → IsStrictlyIncreasing (y ∷ ys) → x < y → All (λ z. x < z) (y ∷ ys)
+above-all x y ys ascending less = All-cons (λ z. x < z) y ys less (All-weaker (λ z. y < z) (λ z. x < z) (λ z more. omega arith) ys (above-first y ys ascending))
 
 ascending-rest : (x : ℕ) (xs : List ℕ) → IsStrictlyIncreasing (x ∷ xs) → IsStrictlyIncreasing xs
 ascending-rest x xs ascending k h =
@@ -108,16 +76,25 @@ common-swapped (x ∷ xs) (y ∷ ys) a b = elim (cases_order x y) [
       ∙ sym e
       ∙ ap (λ z. common (y ∷ ys) (z ∷ xs)) (sym same)
   | inr (inl less) ↦
-      let above : All (λ z. x < z) (y ∷ ys) = above-from (y ∷ ys) x 0 b (omega arith) less in
+      let above : All (λ z. x < z) (y ∷ ys) = above-all x y ys b less in
       common-left x xs (y ∷ ys) above
       ∙ common-swapped xs (y ∷ ys) (ascending-rest x xs a) b
       ∙ sym (common-right x (y ∷ ys) xs above)
   | inr (inr more) ↦
-      let above : All (λ z. y < z) (x ∷ xs) = above-from (x ∷ xs) y 0 a (omega arith) more in
+      let above : All (λ z. y < z) (x ∷ xs) = above-all y x xs a more in
       common-right y (x ∷ xs) ys above
       ∙ common-swapped (x ∷ xs) ys a (ascending-rest y ys b)
       ∙ sym (common-left y ys (x ∷ xs) above)
 ]
+
+-- ---- what is left of two lists, from place i of the one and from place j of the other
+
+common-equal : (xs ys : List ℕ) (i j : ℕ) → IsStrictlyIncreasing (drop i xs) → i < length xs → j < length ys → get_or xs i 0 ≡ get_or ys j 0
+    → common (drop i xs) (drop j ys) ≡ get_or xs i 0 ∷ common (drop (i + 1) xs) (drop (j + 1) ys)
+common-equal xs ys i j ascending h k same =
+    let e = drop_more xs i 0 h in
+    ap₂ common e (drop_more ys j 0 k ∙ ap (λ y. y ∷ drop (j + 1) ys) (sym same))
+    ∙ common-first (get_or xs i 0) (drop (i + 1) xs) (drop (j + 1) ys) (above-first (get_or xs i 0) (drop (i + 1) xs) (subst IsStrictlyIncreasing e ascending))
 
 -- one of them is at its end
 pub common-over : (xs ys : List ℕ) (i j : ℕ) → (length xs ≤ i) ⊎ (length ys ≤ j) → common (drop i xs) (drop j ys) ≡ []
@@ -163,31 +140,75 @@ common-above x (z ∷ zs) ys ws high below =
     let e : list_any (nat_eq z) (ys ++ ws) ≡ list_any (nat_eq z) ws = list_any-append (nat_eq z) ys ws ∙ ap (λ b. b || list_any (nat_eq z) ws) none in
     rw (e, common-above x zs ys ws (All-tail (λ z. x ≤ z) z zs high) below) refl
 
+-- the first of a list are below y, or those from a place on aren't
+all-first : (us : List ℕ) (k y : ℕ) → ((m : ℕ) → m < k → get_or us m 0 < y) → All (λ z. z < y) (take k us)
+all-first us k y below m d inside =
+    let few : m < k = omega (arith, length-take k us) in
+    omega (arith, get_or_default (take k us) m d 0 inside, get_or-take k us m 0 few, below m few)
+
+all-last : (us : List ℕ) (k y : ℕ) → ((m : ℕ) → k ≤ m → m < length us → y ≤ get_or us m 0) → All (λ z. y ≤ z) (drop k us)
+all-last us k y above m d inside =
+    let place : k + m < length us = omega (arith, length-drop k us) in
+    omega (arith, get_or_default (drop k us) m d 0 inside, get_or-drop k us m 0, above (k + m) (omega arith) place)
+
 pub common-parts : (xs ys : List ℕ) (m n : ℕ) → IsStrictlyIncreasing xs → m < length xs → AreSplit ys n (get_or xs m 0)
     → common xs ys ≡ common (take m xs) (take n ys) ++ common (drop m xs) (drop n ys)
 common-parts xs ys m n ascending h split =
     let x = get_or xs m 0 in
-    let low : All (λ z. z < x) (take m xs) = λ k d inside.
-    let place : k < m = omega (arith, length-take m xs) in
-    omega (arith, get_or_default (take m xs) k d 0 inside, get_or-take m xs k 0 place, AllPairs-from_increasing xs ascending k m 0 place h) in
-    let high : All (λ z. x ≤ z) (drop m xs) = λ k d inside.
-    let place : m + k < length xs = omega (arith, length-drop m xs) in
-    omega (arith, get_or_default (drop m xs) k d 0 inside, get_or-drop m xs k 0, rises-to xs m (m + k) ascending (omega arith) place) in
-    let below : All (λ z. z < x) (take n ys) = λ k d inside.
-    let place : k < n = omega (arith, length-take n ys) in
-    omega (arith, get_or_default (take n ys) k d 0 inside, get_or-take n ys k 0 place, split.before k place) in
-    let above : All (λ z. x ≤ z) (drop n ys) = λ k d inside.
-    let place : n + k < length ys = omega (arith, length-drop n ys) in
-    omega (arith, get_or_default (drop n ys) k d 0 inside, get_or-drop n ys k 0, split.after (n + k) (omega arith) place) in
+    let low = all-first xs m x (λ k few. AllPairs-from_increasing xs ascending k m 0 few h) in
+    let high = all-last xs m x (λ k later inside. rises-to xs m k ascending later inside) in
+    let below = all-first ys n x split.before in
+    let above = all-last ys n x split.after in
     ap (λ zs. common zs ys) (sym (take-append-drop m xs))
     ∙ filter-append (λ z. list_any (nat_eq z) ys) (take m xs) (drop m xs)
     ∙ ap (λ zs. common (take m xs) zs ++ common (drop m xs) zs) (sym (take-append-drop n ys))
-    ∙ ap (λ zs. zs ++ common (drop m xs) (take n ys ++ drop n ys)) (common-below x (take m xs) (take n ys) (drop n ys) low above)
-    ∙ ap (λ zs. common (take m xs) (take n ys) ++ zs) (common-above x (drop m xs) (take n ys) (drop n ys) high below)
+    ∙ ap₂ (λ zs ws. zs ++ ws) (common-below x (take m xs) (take n ys) (drop n ys) low above) (common-above x (drop m xs) (take n ys) (drop n ys) high below)
 
 -- ---- a step of a merge into the first list
 
--- an index moved down to place n leaves what comes from a later place on, and from its own too
+-- what is below all that the other list has left is in it no more
+common-passed : (us vs : List ℕ) (k y : ℕ) → All (λ z. z < y) (take k us) → All (λ z. y ≤ z) vs → common us vs ≡ common (drop k us) vs
+common-passed us vs k y low high =
+    ap (λ zs. common zs vs) (sym (take-append-drop k us)) ∙ filter-append (λ z. list_any (nat_eq z) vs) (take k us) (drop k us)
+    ∙ ap (λ zs. zs ++ common (drop k us) vs) (common-below y (take k us) [] vs low high ∙ common-none (take k us))
+
+common-passed_right : (us vs : List ℕ) (k x : ℕ) → All (λ z. x ≤ z) us → All (λ z. z < x) (take k vs) → common us vs ≡ common us (drop k vs)
+common-passed_right us vs k x high low = ap (common us) (sym (take-append-drop k vs)) ∙ common-above x us (take k vs) (drop k vs) high low
+
+-- from one place and number to another, with what the merge comes to
+pub record GoesOn (xs new ys : List ℕ) (i j n i' j' n' : ℕ) : Type 0 where
+  pub under_way : IsUnderWay new ys i' j' n'
+  pub same : comes_to new ys i' j' n' ≡ comes_to xs ys i j n
+
+goes-past : (xs ys : List ℕ) (i j n k l : ℕ) → IsUnderWay xs ys i j n → i + k ≤ length xs → j + l ≤ length ys
+    → common (drop i xs) (drop j ys) ≡ common (drop k (drop i xs)) (drop l (drop j ys)) → GoesOn xs xs ys i j n (i + k) (j + l) n
+goes-past xs ys i j n k l w left right same = record {
+  under_way = record {
+    fewer = omega (arith, w.fewer);
+    within_list = left;
+    within_other = right;
+    ascending = ascending-later xs i (i + k) (omega arith) w.ascending;
+  };
+  same = ap (λ zs. take n xs ++ zs) (ap₂ common (sym (drop-drop k i xs)) (sym (drop-drop l j ys)) ∙ sym same);
+}
+
+-- some indices of the one list, or of the other, are passed at once
+pub goes-list : (xs ys : List ℕ) (i j n k : ℕ) → IsStrictlyIncreasing ys → i + k < length xs → j < length ys → IsUnderWay xs ys i j n
+    → get_or xs (i + k) 0 < get_or ys j 0 → GoesOn xs xs ys i j n (i + (k + 1)) (j + 0) n
+goes-list xs ys i j n k b h h' w less =
+    goes-past xs ys i j n (k + 1) 0 w (omega arith) (omega arith) (common-passed (drop i xs) (drop j ys) (k + 1) (get_or ys j 0)
+    (all-first (drop i xs) (k + 1) (get_or ys j 0) (λ m few. omega (arith, get_or-drop i xs k 0, rises-to (drop i xs) m k w.ascending (omega arith) (omega (arith, length-drop i xs)))))
+    (all-last ys j (get_or ys j 0) (λ m later inside. rises-to ys j m b later inside)))
+
+pub goes-other : (xs ys : List ℕ) (i j n k : ℕ) → IsStrictlyIncreasing ys → i < length xs → j + k < length ys → IsUnderWay xs ys i j n
+    → get_or ys (j + k) 0 < get_or xs i 0 → GoesOn xs xs ys i j n (i + 0) (j + (k + 1)) n
+goes-other xs ys i j n k b h h' w less =
+    let first : i + 0 ≡ i = omega arith in
+    goes-past xs ys i j n 0 (k + 1) w (omega arith) (omega arith) (common-passed_right (drop i xs) (drop j ys) (k + 1) (get_or xs i 0)
+    (all-last (drop i xs) 0 (get_or xs i 0) (λ m later inside. omega (arith, get_or-drop i xs 0 0, ap (λ p. get_or xs p 0) first, rises-to (drop i xs) 0 m w.ascending later inside)))
+    (all-first (drop j ys) (k + 1) (get_or xs i 0) (λ m few. omega (arith, get_or-drop j ys m 0, rises-to ys (j + m) (j + k) b (omega arith) h'))))
+
+-- an index moved down to place n leaves what comes from its own place on
 kept_from : (xs : List ℕ) (i n : ℕ) → n ≤ i → drop i (set xs n (get_or xs i 0)) ≡ drop i xs
 kept_from xs i n h = elim (cases_lt n i) [
   | inl below ↦ drop-set-lt i xs n (get_or xs i 0) below
@@ -196,39 +217,18 @@ kept_from xs i n h = elim (cases_lt n i) [
       ap (λ k. drop i (set xs k (get_or xs i 0))) same ∙ ap (drop i) (set-get_or xs i 0)
 ]
 
--- from one place and number to another, with what the merge comes to
-pub record GoesOn (xs new ys : List ℕ) (i j n i' j' n' : ℕ) : Type 0 where
-  pub under_way : IsUnderWay new ys i' j' n'
-  pub same : comes_to new ys i' j' n' ≡ comes_to xs ys i j n
-
-goes-less : (xs ys : List ℕ) (i j n : ℕ) → IsStrictlyIncreasing ys → i < length xs → j < length ys → IsUnderWay xs ys i j n
-    → get_or xs i 0 < get_or ys j 0 → GoesOn xs (set xs n (get_or xs i 0)) ys i j n (i + 1) j n
-goes-less xs ys i j n ascending h k w less =
-    let x : ℕ = get_or xs i 0 in
-    let kept : drop (i + 1) (set xs n x) ≡ drop (i + 1) xs = drop-set-lt (i + 1) xs n x (omega (arith, w.fewer)) in
-    record {
-      under_way = record {
-        fewer = omega (arith, w.fewer);
-        within_list = omega (arith, length-set xs n x);
-        within_other = w.within_other;
-        ascending = subst IsStrictlyIncreasing (sym kept) (ascending-later xs i (i + 1) (omega arith) w.ascending);
-      };
-      same = ap₂ (λ zs ws. zs ++ common ws (drop j ys)) (take-set xs n x) kept ∙ ap (λ zs. take n xs ++ zs) (sym (common-less xs ys i j ascending h k less));
-    }
-
-goes-greater : (xs ys : List ℕ) (i j n : ℕ) → i < length xs → j < length ys → IsUnderWay xs ys i j n
-    → get_or ys j 0 < get_or xs i 0 → GoesOn xs (set xs n (get_or xs i 0)) ys i j n i (j + 1) n
-goes-greater xs ys i j n h k w more =
+goes-nowhere : (xs ys : List ℕ) (i j n : ℕ) → IsUnderWay xs ys i j n → GoesOn xs (set xs n (get_or xs i 0)) ys i j n i j n
+goes-nowhere xs ys i j n w =
     let x : ℕ = get_or xs i 0 in
     let kept : drop i (set xs n x) ≡ drop i xs = kept_from xs i n w.fewer in
     record {
       under_way = record {
         fewer = w.fewer;
-        within_list = omega (arith, length-set xs n x);
-        within_other = omega arith;
+        within_list = omega (arith, w.within_list, length-set xs n x);
+        within_other = w.within_other;
         ascending = subst IsStrictlyIncreasing (sym kept) w.ascending;
       };
-      same = ap₂ (λ zs ws. zs ++ common ws (drop (j + 1) ys)) (take-set xs n x) kept ∙ ap (λ zs. take n xs ++ zs) (sym (common-greater xs ys i j w.ascending h k more));
+      same = ap₂ (λ zs ws. zs ++ common ws (drop j ys)) (take-set xs n x) kept;
     }
 
 goes-equal : (xs ys : List ℕ) (i j n : ℕ) → i < length xs → j < length ys → IsUnderWay xs ys i j n
@@ -249,88 +249,27 @@ goes-equal xs ys i j n h k w both =
           ∙ ap (λ zs. take n xs ++ zs) (sym (common-equal xs ys i j w.ascending h k both));
     }
 
-goes-moved : (xs new ys : List ℕ) (i j n i' j' n' i'' j'' n'' : ℕ) → GoesOn xs new ys i j n i' j' n' → i' ≡ i'' → j' ≡ j'' → n' ≡ n'' → GoesOn xs new ys i j n i'' j'' n''
-goes-moved xs new ys i j n i' j' n' i'' j'' n'' g a b c =
-    subst (λ k. GoesOn xs new ys i j n k j'' n'') a (subst (λ k. GoesOn xs new ys i j n i' k n'') b (subst (λ k. GoesOn xs new ys i j n i' j' k) c g))
-
-plus-bit : (i : ℕ) (b : Bool) → b ≡ true → i + 1 ≡ i + bool_byte b
-plus-bit i b e = ap (λ t. i + bool_byte t) (sym e)
-
-plus-none : (i : ℕ) (b : Bool) → b ≡ false → i ≡ i + bool_byte b
-plus-none i b e = let none : i ≡ i + 0 = omega arith in none ∙ ap (λ t. i + bool_byte t) (sym e)
-
 pub goes-step : (xs ys : List ℕ) (i j n : ℕ) → IsStrictlyIncreasing ys → i < length xs → j < length ys → IsUnderWay xs ys i j n
     → GoesOn xs (set xs n (get_or xs i 0)) ys i j n (i + bool_byte (nat_le (get_or xs i 0) (get_or ys j 0))) (j + bool_byte (nat_le (get_or ys j 0) (get_or xs i 0))) (n + bool_byte (nat_eq (get_or xs i 0) (get_or ys j 0)))
 goes-step xs ys i j n b h k w =
     let x : ℕ = get_or xs i 0 in
     let y : ℕ = get_or ys j 0 in
     let new : List ℕ = set xs n x in
+    let all : length new ≡ length xs = length-set xs n x in
+    let none : n + 0 ≡ n = omega arith in
+    let here : get_or new (i + 0) 0 ≡ get_or xs (i + 0) 0 = sym (get_or-drop i new 0 0) ∙ ap (λ zs. get_or zs 0 0) (kept_from xs i n w.fewer) ∙ get_or-drop i xs 0 0 in
+    let at_i : i + 0 ≡ i = omega arith in
+    let at_j : j + 0 ≡ j = omega arith in
+    let stays = goes-nowhere xs ys i j n w in
     elim (cases_order (get_or xs i 0) (get_or ys j 0)) [
-      | inl same ↦ goes-moved xs new ys _ _ _ _ _ _ _ _ _ (goes-equal xs ys i j n h k w same)
-          (plus-bit i (nat_le x y) (le-leb x y (omega arith))) (plus-bit j (nat_le y x) (le-leb y x (omega arith))) (plus-bit n (nat_eq x y) (eq-eqb x y same))
-      | inr (inl less) ↦ goes-moved xs new ys _ _ _ _ _ _ _ _ _ (goes-less xs ys i j n b h k w less)
-          (plus-bit i (nat_le x y) (le-leb x y (omega arith))) (plus-none j (nat_le y x) (lt-leb y x less)) (plus-none n (nat_eq x y) (ne_eqb x y (λ e. absurd (omega arith))))
-      | inr (inr more) ↦ goes-moved xs new ys _ _ _ _ _ _ _ _ _ (goes-greater xs ys i j n h k w more)
-          (plus-none i (nat_le x y) (lt-leb x y more)) (plus-bit j (nat_le y x) (le-leb y x (omega arith))) (plus-none n (nat_eq x y) (ne_eqb x y (λ e. absurd (omega arith))))
+      | inl same ↦ rw (le-leb x y (omega arith), le-leb y x (omega arith), eq-eqb x y same) (goes-equal xs ys i j n h k w same)
+      | inr (inl less) ↦
+          let on = goes-list new ys i j n 0 b (omega arith) k stays.under_way (omega (arith, here, ap (λ p. get_or xs p 0) at_i)) in
+          rw (le-leb x y (omega arith), lt-leb y x less, ne_eqb x y (λ e. absurd (omega arith)), none) (record { under_way = on.under_way; same = on.same ∙ stays.same })
+      | inr (inr more) ↦
+          let on = goes-other new ys i j n 0 b (omega arith) (omega arith) stays.under_way (omega (arith, here, ap (λ p. get_or new p 0) at_i, ap (λ p. get_or xs p 0) at_i, ap (λ p. get_or ys p 0) at_j)) in
+          rw (lt-leb x y more, le-leb y x (omega arith), ne_eqb x y (λ e. absurd (omega arith)), none) (record { under_way = on.under_way; same = on.same ∙ stays.same })
     ]
-
--- indices below all that the other list has left are in it no more
-common-passed : (xs ys : List ℕ) (i j k : ℕ) → IsStrictlyIncreasing ys → i + k ≤ length xs → j < length ys → ((m : ℕ) → m < k → get_or xs (i + m) 0 < get_or ys j 0)
-    → common (drop i xs) (drop j ys) ≡ common (drop (i + k) xs) (drop j ys)
-common-passed xs ys i j zero ascending h inside below =
-    let same : i ≡ i + 0 = omega arith in
-    ap (λ n. common (drop n xs) (drop j ys)) same
-common-passed xs ys i j (suc k) ascending h inside below =
-    let next : i + k + 1 ≡ i + suc k = omega arith in
-    common-passed xs ys i j k ascending (omega arith) inside (λ m few. below m (omega arith))
-    ∙ common-less xs ys (i + k) j ascending (omega arith) inside (below k (omega arith))
-    ∙ ap (λ n. common (drop n xs) (drop j ys)) next
-
-common-passed_right : (xs ys : List ℕ) (i j k : ℕ) → IsStrictlyIncreasing (drop i xs) → j + k ≤ length ys → i < length xs → ((m : ℕ) → m < k → get_or ys (j + m) 0 < get_or xs i 0)
-    → common (drop i xs) (drop j ys) ≡ common (drop i xs) (drop (j + k) ys)
-common-passed_right xs ys i j zero ascending h inside below =
-    let same : j ≡ j + 0 = omega arith in
-    ap (λ n. common (drop i xs) (drop n ys)) same
-common-passed_right xs ys i j (suc k) ascending h inside below =
-    let next : j + k + 1 ≡ j + suc k = omega arith in
-    common-passed_right xs ys i j k ascending (omega arith) inside (λ m few. below m (omega arith))
-    ∙ common-greater xs ys i (j + k) ascending inside (omega arith) (below k (omega arith))
-    ∙ ap (λ n. common (drop i xs) (drop n ys)) next
-
--- eight indices of the one list are passed
-passed_list : (xs ys : List ℕ) (i j n : ℕ) → IsStrictlyIncreasing ys → i + 8 ≤ length xs → j + 8 ≤ length ys → IsUnderWay xs ys i j n
-    → get_or xs (i + 7) 0 < get_or ys j 0 → GoesOn xs xs ys i j n (i + 8) j n
-passed_list xs ys i j n b h k w less = record {
-  under_way = record {
-    fewer = omega (arith, w.fewer);
-    within_list = h;
-    within_other = w.within_other;
-    ascending = ascending-later xs i (i + 8) (omega arith) w.ascending;
-  };
-  same = ap (λ zs. take n xs ++ zs) (sym (common-passed xs ys i j 8 b h (omega arith) (λ d few.
-      omega (arith, less, rises-to (drop i xs) d 7 w.ascending (omega arith) (omega (arith, length-drop i xs)), get_or-drop i xs d 0, get_or-drop i xs 7 0))));
-}
-
-passed_other : (xs ys : List ℕ) (i j n : ℕ) → IsStrictlyIncreasing ys → i + 8 ≤ length xs → j + 8 ≤ length ys → IsUnderWay xs ys i j n
-    → get_or ys (j + 7) 0 < get_or xs i 0 → GoesOn xs xs ys i j n i (j + 8) n
-passed_other xs ys i j n b h k w less = record {
-  under_way = record {
-    fewer = w.fewer;
-    within_list = w.within_list;
-    within_other = k;
-    ascending = w.ascending;
-  };
-  same = ap (λ zs. take n xs ++ zs) (sym (common-passed_right xs ys i j 8 w.ascending k (omega arith) (λ d few.
-      omega (arith, less, rises-to ys (j + d) (j + 7) b (omega arith) (omega arith)))));
-}
-
-pub goes-passed_list : (xs ys : List ℕ) (i j n i' j' n' : ℕ) → IsStrictlyIncreasing ys → i + 8 ≤ length xs → j + 8 ≤ length ys → IsUnderWay xs ys i j n
-    → get_or xs (i + 7) 0 < get_or ys j 0 → i' ≡ i + 8 → j' ≡ j + 0 → n' ≡ n → GoesOn xs xs ys i j n i' j' n'
-goes-passed_list xs ys i j n i' j' n' b h k w less a d e = goes-moved xs xs ys i j n _ _ _ i' j' n' (passed_list xs ys i j n b h k w less) (sym a) (omega arith) (sym e)
-
-pub goes-passed_other : (xs ys : List ℕ) (i j n i' j' n' : ℕ) → IsStrictlyIncreasing ys → i + 8 ≤ length xs → j + 8 ≤ length ys → IsUnderWay xs ys i j n
-    → get_or ys (j + 7) 0 < get_or xs i 0 → i' ≡ i + 0 → j' ≡ j + 8 → n' ≡ n → GoesOn xs xs ys i j n i' j' n'
-goes-passed_other xs ys i j n i' j' n' b h k w less a d e = goes-moved xs xs ys i j n _ _ _ i' j' n' (passed_other xs ys i j n b h k w less) (omega arith) (sym d) (sym e)
 
 -- and its end
 pub merged-over : (xs ys : List ℕ) (i j n : ℕ) → IsUnderWay xs ys i j n → (length xs ≤ i) ⊎ (length ys ≤ j) → take n xs ≡ comes_to xs ys i j n
