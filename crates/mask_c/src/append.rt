@@ -6,6 +6,7 @@ ghost use Rattle.mask_bits.specs.Bitmap.{bitmap};
 ghost use Rattle.mask_bits.specs.Buffer.{IsWithinBytes};
 ghost use Rattle.mask_c.specs.Bitmap.{AreClearBehind};
 
+use crate::last::clear_behind;
 use crate::pointwise::row_mask_copy;
 use mask_bits::words::word_at;
 
@@ -37,10 +38,11 @@ pub extern "C" fn row_mask_append(
         more_len - filled,
         &mut bytes[len.div_ceil(8)..],
     );
+    clear_behind(bytes, len + more_len);
 }
 
 // Fills up the byte that the last value is in: with the first values of `more`, as many as there are or
-// as it takes, and zeros behind them. Answers how many these are.
+// as it takes. Answers how many these are.
 #[inline]
 fn fill_last(
     bytes: &mut [u8],
@@ -54,26 +56,23 @@ fn fill_last(
     ensures count { result ≡ min more_len (8 * div_ceil len 8 - len) }
     ensures values { bitmap bytes.new 0 (len + result)
         ≡ bitmap bytes.old 0 len ++ bitmap more.now more_offset result }
-    ensures clear { AreClearBehind bytes.new (len + result) }
     ensures behind { drop (div_ceil len 8) bytes.new ≡ drop (div_ceil len 8) bytes.old }
 {
     let low = len % 8;
     if low == 0 {
         return 0;
     }
-    let filled = more_len.min(8 - low);
-    bytes[len / 8] = begun_byte(bytes[len / 8], low, word_at(more, more_offset), filled);
-    filled
+    bytes[len / 8] = begun_byte(bytes[len / 8], low, word_at(more, more_offset));
+    more_len.min(8 - low)
 }
 
-// The lowest `low` bits of a byte, and above them the lowest `count` of a word.
+// The lowest `low` bits of a byte, and above them the lowest of a word.
 #[inline]
-fn begun_byte(byte: u8, low: usize, word: u64, count: usize) -> u8
-    requires { low + count ≤ 8 }
+fn begun_byte(byte: u8, low: usize, word: u64) -> u8
+    requires { low < 8 }
     ensures kept { (j : ℕ) → j < low → bit_at result j ≡ bit_at byte j }
-    ensures put { (j : ℕ) → j < count → bit_at result (low + j) ≡ bit_at word j }
-    ensures clear { (j : ℕ) → low + count ≤ j → bit_at result j ≡ 0 }
+    ensures put { (j : ℕ) → low + j < 8 → bit_at result (low + j) ≡ bit_at word j }
 {
     let kept = u64::from(byte) & ((1 << low) - 1);
-    ((kept | (word << low)) & ((1 << (low + count)) - 1)) as u8
+    ((kept | (word << low)) & 0xFF) as u8
 }
