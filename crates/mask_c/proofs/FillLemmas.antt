@@ -1,7 +1,8 @@
 -- Bits that are written with one value.
-use Rattle.std.proofs.Common.{◌≡◌, nat_eq, ℕ, ◌+◌, ◌-◌, ◌*◌, ◌/◌, ◌%◌, ◌<◌, ◌≤◌, ◌||◌, ◌&&◌, not, Bool, true, false, List, length, get_or, replicate, refl, sym, ap, ◌∙◌, inl, inr, arith}
+use Rattle.std.proofs.Common.{◌≡◌, nat_eq, ℕ, ◌+◌, ◌-◌, ◌*◌, ◌/◌, ◌%◌, ◌<◌, ◌≤◌, ◌||◌, ◌&&◌, not, Bool, true, false, List, length, get_or, replicate, refl, ap, ◌∙◌, inl, inr, arith}
 use Rattle.std.specs.Int.{bit_at}
-use Rattle.std.proofs.lemmas.Bool.{cases_lt, eq-eqb, ne_eqb}
+use Rattle.std.proofs.lemmas.Bool.Decides.{nat_tests}
+use Rattle.std.proofs.lemmas.Bool.{cases_lt}
 use Rattle.std.proofs.lemmas.List.{length-replicate, get_or-replicate}
 use Rattle.std.proofs.lemmas.Nat.Bits.{bit_at-zero, bit_at_ones}
 use Rattle.mask_bits.specs.Buffer.{backing_bit}
@@ -15,30 +16,15 @@ filled-none a m v = record { inside = λ p from to. absurd (omega arith); outsid
 
 -- some, and those past them
 pub filled-join : (a b c : List ℕ) (m n k : ℕ) (v : Bool) → m ≤ n → n ≤ k → IsFilled a b m n v → IsFilled b c n k v → IsFilled a c m k v
-filled-join a b c m n k v to_n to_k first second = record {
-  inside = λ p from to. elim (cases_lt p n) [
-    | inl before ↦ second.outside p (inl before) ∙ first.inside p from before
-    | inr past ↦ second.inside p past to
-  ];
-  outside = λ p apart. elim apart [
-    | inl before ↦ second.outside p (inl (omega arith)) ∙ first.outside p (inl before)
-    | inr past ↦ second.outside p (inr past) ∙ first.outside p (inr (omega arith))
-  ];
-}
+filled-join a b c m n k v to_n to_k first second = grind (arith, cases_lt)
 
 -- one bit set
 pub filled_set : (a b : List ℕ) (i : ℕ) (v : Bool) → v ≡ true → ((p : ℕ) → backing_bit b p ≡ (nat_eq p i || backing_bit a p)) → IsFilled a b i (i + 1) v
-filled_set a b i v holds is = record {
-  inside = λ p from to. let same : p ≡ i = omega arith in is p ∙ ap (λ t. t || backing_bit a p) (eq-eqb p i same) ∙ sym holds;
-  outside = λ p apart. is p ∙ ap (λ t. t || backing_bit a p) (ne_eqb p i (λ same. elim apart [ inl before ↦ omega arith | inr past ↦ omega arith ]));
-}
+filled_set a b i v holds is = grind (arith, nat_tests)
 
 -- one bit cleared
 pub filled_clear : (a b : List ℕ) (i : ℕ) (v : Bool) → v ≡ false → ((p : ℕ) → backing_bit b p ≡ (not (nat_eq p i) && backing_bit a p)) → IsFilled a b i (i + 1) v
-filled_clear a b i v fails is = record {
-  inside = λ p from to. let same : p ≡ i = omega arith in is p ∙ ap (λ t. not t && backing_bit a p) (eq-eqb p i same) ∙ sym fails;
-  outside = λ p apart. is p ∙ ap (λ t. not t && backing_bit a p) (ne_eqb p i (λ same. elim apart [ inl before ↦ omega arith | inr past ↦ omega arith ]));
-}
+filled_clear a b i v fails is = grind (arith, nat_tests)
 
 -- whole bytes of one value
 pub filled-bytes : (a ys : List ℕ) (m n byte : ℕ) (v : Bool) → m ≤ n → n ≤ length a → ys ≡ replicate (n - m) byte

@@ -76,28 +76,21 @@ put-values old last ys word n e begins len end is shows =
 pub cleared-list : (bytes : List ℕ) (n : ℕ) → (n % 8 ≡ 0 → ⊥) → div_ceil n 8 ≤ length bytes
     → bitmap (set bytes (n / 8) (bit_and (get_or bytes (n / 8) 0) (1 * 2 ^ (n % 8) % 256 - 1))) 0 n ≡ bitmap bytes 0 n
 cleared-list bytes n part room =
-    let x : ℕ = get_or bytes (n / 8) 0 in
-    let y : ℕ = bit_and x (1 * 2 ^ (n % 8) % 256 - 1) in
-    let inside : n / 8 < length bytes = omega (arith, part) in
-    front-same bytes (set bytes (n / 8) y) n (λ p h. elim (cases_eq (p / 8) (n / 8)) [
+    let mask = one_shl (n % 8) 8 (omega arith) in
+    front-same bytes _ n (λ p h. elim (cases_eq (p / 8) (n / 8)) [
       | inl same ↦
-          let few : p % 8 < n % 8 = omega arith in
-          ap (λ z. nat_eq (bit_at z (p % 8)) 1) (get_or-set_at bytes (n / 8) (p / 8) y 0 same inside)
-          ∙ ap (λ z. nat_eq (bit_at (bit_and x (z - 1)) (p % 8)) 1) (one_shl (n % 8) 8 (omega arith))
-          ∙ ap (λ z. nat_eq z 1) (bit_at-low_mask x (n % 8) (p % 8) few)
-          ∙ ap (λ k. nat_eq (bit_at (get_or bytes k 0) (p % 8)) 1) (sym same)
-      | inr other ↦ ap (λ z. nat_eq (bit_at z (p % 8)) 1) (get_or-set_other bytes (n / 8) (p / 8) y 0 other)
+          let low = bit_at-low_mask (get_or bytes (n / 8) 0) (n % 8) (p % 8) (omega arith) in
+          rw (get_or-set_at bytes (n / 8) (p / 8) _ 0 same (omega (arith, part)), mask, low, same) refl
+      | inr other ↦ rw (get_or-set_other bytes (n / 8) (p / 8) _ 0 other) refl
     ])
 
 pub cleared-clear : (bytes : List ℕ) (n : ℕ) → (n % 8 ≡ 0 → ⊥) → div_ceil n 8 ≤ length bytes
     → AreClearBehind (set bytes (n / 8) (bit_and (get_or bytes (n / 8) 0) (1 * 2 ^ (n % 8) % 256 - 1))) n
 cleared-clear bytes n part room = λ p from to.
-    let x : ℕ = get_or bytes (n / 8) 0 in
-    let y : ℕ = bit_and x (1 * 2 ^ (n % 8) % 256 - 1) in
     let same : p / 8 ≡ n / 8 = omega (arith, part) in
-    ap (λ z. nat_eq (bit_at z (p % 8)) 1) (get_or-set_at bytes (n / 8) (p / 8) y 0 same (omega (arith, part)))
-    ∙ ap (λ z. nat_eq (bit_at (bit_and x (z - 1)) (p % 8)) 1) (one_shl (n % 8) 8 (omega arith))
-    ∙ ap (λ z. nat_eq z 1) (bit_at-past_mask x (n % 8) (p % 8) (omega arith))
+    let mask = one_shl (n % 8) 8 (omega arith) in
+    let high = bit_at-past_mask (get_or bytes (n / 8) 0) (n % 8) (p % 8) (omega arith) in
+    rw (get_or-set_at bytes (n / 8) (p / 8) _ 0 same (omega (arith, part)), mask, high) refl
 
 -- ---- lists of two parts
 

@@ -52,6 +52,8 @@ gathered-bits ranks from cut bits ascending stop g j h =
     ∙ sym (ap (list_any p) (sym (take-append-drop cut ranks)) ∙ list_any-append p (take cut ranks) (drop cut ranks)
     ∙ ap (λ b. b || list_any p (drop cut ranks)) none)
 
+pub ruleset gathered_facts = (gathered-split, gathered-bits)
+
 -- ---- ranks as a list of two parts
 
 front-any : (ranks : List ℕ) (n cut p : ℕ) → AreSplit ranks cut n → p < n → list_any (nat_eq p) ranks ≡ list_any (nat_eq p) (take cut ranks)

@@ -194,9 +194,5 @@ pub sum-chosen : (offsets : List ℕ) (m : List Bool) (n : ℕ) → IsNonDecreas
 sum-chosen offsets m n ascending len =
     omega (arith, ap sum (chosen-items_where_true (sizes offsets) m), sum-where_true m (sizes offsets), sum-sizes offsets ascending n (omega arith), ap sum (take_all n (sizes offsets) (omega (arith, length-sizes offsets))))
 
--- so no more than fit their type, read as numbers
-pub sum-chosen_fits : (offsets : List ℕ) (m : List Bool) (n top : ℕ) → IsNonDecreasing offsets → length offsets ≡ n + 1 → get_or offsets n 0 < top → sum (chosen (sizes (map (λ k. k) offsets)) m) < top
-sum-chosen_fits offsets m n top ascending len small = rw (map-id offsets) (omega (arith, sum-chosen offsets m n ascending len))
-
 pub number_itself : (xs : List ℕ) → map (λ n. n) xs ≡ xs
 number_itself xs = map-id xs

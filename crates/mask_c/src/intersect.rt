@@ -182,6 +182,7 @@ fn narrow_at<D: DepositBits>(
 }
 
 // How many ranks are below `from`, and the others as set bits, that of `from` lowest.
+#[tactic(auto, using(crate::proofs::LastRankLemmas::gathered_facts))]
 fn last_ranks(ranks: &[usize], from: usize) -> (usize, u64)
     requires ascending { IsStrictlyIncreasing ranks.now }
     requires few { All (λ k. k < from + 64) ranks.now }

@@ -252,8 +252,8 @@ fn take_offsets<O: Offset>(indices: &[usize], offsets: &[O], out: &mut [O]) -> u
 fn choose_offsets<O: Offset>(chunks: &BitChunks<'_>, offsets: &[O], out: &mut [O]) -> usize
     requires offsets { length offsets.now ≡ length chunks.now + 1 }
     requires ascending { IsNonDecreasing (map O.number offsets.now) }
-    requires fits { sum (chosen (sizes (map O.number offsets.now)) chunks.now) < O.limit }
-    requires in_usize { sum (chosen (sizes (map O.number offsets.now)) chunks.now) < 2 ^ 64 }
+    requires fits { slice_index (map O.number offsets.now) (length chunks.now) < O.limit }
+    requires in_usize { slice_index (map O.number offsets.now) (length chunks.now) < 2 ^ 64 }
     requires room { count chunks.now < length out.old }
     ensures offsets { take (count chunks.now + 1) (map O.number out.new)
         ≡ offsets_of (chosen (sizes (map O.number offsets.now)) chunks.now) }

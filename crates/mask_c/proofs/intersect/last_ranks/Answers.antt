@@ -1,22 +1,10 @@
 use Rattle.std.proofs.Common.{◌-◌, ◌<◌, get_or, length, arith}
 use Rattle.std.proofs.lemmas.Nat.{one_shl}
-use Rattle.mask_c.proofs.LastRankLemmas.{gathered-none, gathered-more, gathered-split, gathered-bits}
+use Rattle.mask_c.proofs.LastRankLemmas.{gathered-more, gathered-none, gathered-split}
 use Rattle.mask_c.proofs.intersect.last_ranks.Goals as goal
 
 pub loop-cut-init : goal.loop-cut-init
 loop-cut-init c = gathered-none c.args.ranks.now c.args.from
-
-pub offset_bounds-ranks-cut : goal.offset_bounds-ranks-cut
-offset_bounds-ranks-cut c = grind (arith)
-
-pub bounds-ranks-cut : goal.bounds-ranks-cut
-bounds-ranks-cut c = omega (arith, c.loop-cut.invariant.within, c.loop-cut-test.true)
-
-pub offset_bounds-ranks-cut-in-loop-cut : goal.offset_bounds-ranks-cut-in-loop-cut
-offset_bounds-ranks-cut-in-loop-cut c = grind (arith)
-
-pub bounds-ranks-cut-in-loop-cut : goal.bounds-ranks-cut-in-loop-cut
-bounds-ranks-cut-in-loop-cut c = omega (arith, c.loop-cut.invariant.within, c.loop-cut-test.true)
 
 pub loop-cut-preserved : goal.loop-cut-preserved
 loop-cut-preserved c =
@@ -30,15 +18,3 @@ loop-cut-preserved c =
 pub returns-else-ranks-cut-clause-split : goal.returns-else-ranks-cut-clause-split
 returns-else-ranks-cut-clause-split c =
     gathered-split c.args.ranks.now c.args.from c.loop-cut.cut c.loop-cut.bits c.requires.ascending (λ h. c.if-ranks-cut.false) c.loop-cut.invariant
-
-pub returns-else-ranks-cut-clause-bits : goal.returns-else-ranks-cut-clause-bits
-returns-else-ranks-cut-clause-bits c =
-    gathered-bits c.args.ranks.now c.args.from c.loop-cut.cut c.loop-cut.bits c.requires.ascending (λ h. c.if-ranks-cut.false) c.loop-cut.invariant
-
-pub returns-after-loop-cut-clause-split : goal.returns-after-loop-cut-clause-split
-returns-after-loop-cut-clause-split c =
-    gathered-split c.args.ranks.now c.args.from c.loop-cut.cut c.loop-cut.bits c.requires.ascending (λ h. absurd (omega (arith, h, c.loop-cut-test.false))) c.loop-cut.invariant
-
-pub returns-after-loop-cut-clause-bits : goal.returns-after-loop-cut-clause-bits
-returns-after-loop-cut-clause-bits c =
-    gathered-bits c.args.ranks.now c.args.from c.loop-cut.cut c.loop-cut.bits c.requires.ascending (λ h. absurd (omega (arith, h, c.loop-cut-test.false))) c.loop-cut.invariant

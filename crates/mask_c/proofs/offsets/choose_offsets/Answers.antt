@@ -1,9 +1,9 @@
-use Rattle.std.proofs.Common.{◌≡◌, ◌+◌, ◌*◌, ◌≤◌, ◌++◌, length, take, drop, map, refl, sym, ap, ◌∙◌, arith}
+use Rattle.std.proofs.Common.{get_or, ◌≡◌, ◌+◌, ◌*◌, ◌≤◌, ◌++◌, length, take, drop, map, refl, sym, ap, ◌∙◌, arith}
 use Rattle.std.specs.List.{sum}
 use Rattle.std.proofs.lemmas.List.{drop-set-lt, length-map, length-take, take_all, take_more_set}
-use Rattle.mask_bits.specs.Positions.{chosen, count, positions}
+use Rattle.mask_bits.specs.Positions.{count, positions}
 use Rattle.mask_c.specs.Strings.{ends_from, items_at, offsets_of, sizes}
-use Rattle.mask_c.proofs.StringLemmas.{items-all, offsets-word, sum-parts, sum-word, word-counted, word-within}
+use Rattle.mask_c.proofs.StringLemmas.{items-all, offsets-word, sum-chosen, sum-parts, sum-word, word-counted, word-within}
 use Rattle.mask_c.proofs.offsets.choose_offsets.Given.{Over}
 use Rattle.mask_bits.proofs.Lists.Words.FrontLemmas.{behind-further}
 use Rattle.mask_bits.proofs.Lists.CountLemmas.{count_below-le}
@@ -13,11 +13,18 @@ use Rattle.mask_c.proofs.offsets.choose_offsets.Goals.{After-indices_in_word-som
 pub put_ends-end-requires-clause-within : goal.put_ends-end-requires-clause-within
 put_ends-end-requires-clause-within g c = word-within c.args.chunks.now _ _ c.loop-i.i (length c.args.offsets.now) c.indices_in_word-some.ensures.indices c.requires.offsets
 
--- the sizes so far and those of the word are no more than those of the chosen strings
+-- the sizes so far and those of the word are no more than the last offset
 more : (g : Over) (c : After-indices_in_word-some g)
     → c.loop-i.end + sum (items_at (sizes (map g.O.Offset.number c.args.offsets.now)) (take c.indices_in_word-some.result c.indices_in_word-some.new.block))
-    ≤ sum (chosen (sizes (map g.O.Offset.number c.args.offsets.now)) c.args.chunks.now)
-more g c = omega (arith, c.loop-i.invariant.total, sum-word (sizes (map g.O.Offset.number c.args.offsets.now)) c.args.chunks.now c.loop-i.i _ c.indices_in_word-some.ensures.indices)
+    ≤ get_or (map g.O.Offset.number c.args.offsets.now) (length c.args.chunks.now) 0
+more g c =
+    let ns = map g.O.Offset.number c.args.offsets.now in
+    omega (
+      arith,
+      c.loop-i.invariant.total,
+      sum-word (sizes ns) c.args.chunks.now c.loop-i.i _ c.indices_in_word-some.ensures.indices,
+      sum-chosen ns c.args.chunks.now (length c.args.chunks.now) c.requires.ascending (length-map c.args.offsets.now g.O.Offset.number ∙ c.requires.offsets),
+    )
 
 pub put_ends-end-requires-clause-fits : goal.put_ends-end-requires-clause-fits
 put_ends-end-requires-clause-fits g c = omega (arith, more g (goal.at.put_ends-end-requires-clause-fits g c).After-indices_in_word-some, c.requires.fits)
