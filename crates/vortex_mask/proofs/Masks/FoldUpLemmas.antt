@@ -1,6 +1,6 @@
 -- The fold of a stack from its first mask up, mask by mask.
 use Rattle.std.specs.Prelude.{is_some}
-use Rattle.std.proofs.Common.{◌≡◌, ◌≢◌, ℕ, ◌+◌, ◌<◌, ◌≤◌, Bool, true, List, [], ◌∷◌, Some, length, get_or, drop, map, refl, sym, subst, ap, ◌∙◌, arith}
+use Rattle.std.proofs.Common.{◌≡◌, ◌≢◌, ℕ, ◌+◌, ◌<◌, ◌≤◌, Bool, List, [], ◌∷◌, Some, length, get_or, drop, map, refl, ◌∙◌, arith}
 use Rattle.std.proofs.lemmas.List.{drop_all, drop_more}
 use Rattle.std.proofs.lemmas.List.Elements.{All-get_or, All-head, All-tail}
 use Rattle.std.specs.List.{All}
@@ -17,7 +17,6 @@ use Rattle.vortex_mask.specs.Mask.{truth, Variant, variant, mixed, variant_and, 
 use Rattle.vortex_mask.specs.MaskValues.{Caches, Contents, IsMixed}
 use Rattle.vortex_mask.specs.Path.{path, path_of, path_caches}
 use Rattle.vortex_mask.specs.StackFold.{IsNarrowedBy, IsFoldedUp}
-use Rattle.vortex_mask.specs.declared.intersect_by_rank.path.RankPath.{RankPath}
 use Rattle.vortex_mask.specs.declared.mask.Mask.{Mask}
 use Rattle.vortex_mask.specs.declared.mask.Mask.TheVariants.{AllTrue, AllFalse, Values}
 use Rattle.vortex_mask.proofs.Masks.MaskLemmas.{fitting_variant-all, fitting_variant-some}
@@ -38,33 +37,25 @@ pub record IsOnTheWay (len trues : ℕ) (is_listed : Bool) (n : Mask) (masks : L
 narrowed : (len trues trues' : ℕ) (is_listed is_listed' : Bool) (n b r : Mask) (masks : List Mask) (up : Mask) → IsOnTheWay len trues is_listed n (b ∷ masks) up → trues' ≡ count (truth b) → 0 < trues' → variant_and mixed (variant b) ≡ mixed
     → IsNarrowedBy n b r → IsFoldedUp r masks up → (variant r ≡ mixed → is_some (caches r).indices ≡ is_listed') → IsOnTheWay len trues' is_listed' r masks up
 narrowed len trues trues' is_listed is_listed' n b r masks up way is chooses joins by rest listed =
-    let counted : count (truth r) ≡ count (truth b) = ap count by.list ∙ rank_intersection_count (truth n) (truth b) way.stack.0 in
-    let same : length (truth r) ≡ length (truth n) = ap length by.list ∙ length-rank_intersection (truth n) (truth b) in
-    let less : trues' < len = omega (arith, is, way.long, way.counted, way.stack.0, way.some_false, count-le-length (truth b)) in
-    let some : 0 < count (truth r) = omega (arith, is, counted) in
-    let not_all : count (truth r) < length (truth r) = omega (arith, is, same, way.long, counted) in
-    let held : variant r ≡ mixed = by.variant ∙ fitting_variant-some (variant_and (variant n) (variant b)) (truth r) some not_all in
+    let held : variant r ≡ mixed = by.variant ∙ fitting_variant-some (variant_and (variant n) (variant b)) (truth r) (grind (arith, rank_intersection_count)) (grind (arith, rank_intersection_count, length-rank_intersection, count-le-length)) in
     record {
-      long = same ∙ way.long;
-      counted = counted ∙ sym is;
+      long = grind (arith, length-rank_intersection);
+      counted = grind (arith, rank_intersection_count);
       mixed = held;
       some_true = chooses;
-      some_false = less;
+      some_false = grind (arith, count-le-length);
       listed = listed held;
-      stack = subst (λ (x : List Bool). IsStack (x ∷ map truth masks)) (sym by.list) (folding_keeps_a_stack (truth n) (truth b) (map truth masks) way.stack);
+      stack = grind (arith, folding_keeps_a_stack);
       rest = rest;
     }
 
 -- an all-true mask leaves the fold as it is
 pub past_one_value : (len trues : ℕ) (is_listed : Bool) (n b : Mask) (masks : List Mask) (up : Mask) → IsOnTheWay len trues is_listed n (b ∷ masks) up → 0 < count (truth b) → ((w : _) → b ≢ Values w) → (r : Mask) × IsOnTheWay len trues is_listed r masks up
-past_one_value len trues is_listed (Values v) (AllTrue k) masks up way chooses one = (
-  way.rest.0,
-  narrowed len trues trues is_listed is_listed (Values v) (AllTrue k) way.rest.0 masks up way (omega (arith, way.counted, way.stack.0, length-repeated k true, count-repeated_true k)) way.some_true refl way.rest.1 way.rest.2
-      (λ held. ap (λ (x : Caches). is_some x.indices) way.rest.1.caches ∙ way.listed),
-)
+past_one_value len trues is_listed (Values v) (AllTrue k) masks up way chooses one =
+    (way.rest.0, narrowed len trues trues is_listed is_listed (Values v) (AllTrue k) way.rest.0 masks up way (grind (arith, length-repeated, count-repeated_true)) way.some_true refl way.rest.1 way.rest.2 (λ held. grind arith))
 past_one_value len trues is_listed n (AllFalse k) masks up way chooses one = absurd (omega (arith, count-repeated_false k))
 past_one_value len trues is_listed n (Values w) masks up way chooses one = absurd (one w refl)
-past_one_value len trues is_listed n b masks up way chooses one = absurd (cc)
+past_one_value len trues is_listed n b masks up way chooses one = absurd (cc (way.mixed))
 
 where_mixed-mixed : (m : Mask) (cached : Caches) → variant m ≡ mixed → where_mixed m cached ≡ cached
 where_mixed-mixed (Values v) cached held = refl
@@ -76,13 +67,11 @@ pub past_mixed : (len trues rank_len rank_trues : ℕ) (is_listed is_listed' ran
     → ((m : List Bool) → is_some (path_caches (path len trues rank_len rank_trues is_listed rank_listed) m).indices ≡ is_listed') → (r : Mask) × IsOnTheWay len rank_trues is_listed' r masks up
 past_mixed len trues rank_len rank_trues is_listed is_listed' rank_listed (Values v) (Values b) w masks up way chooses is len_is trues_is listed_is listed =
     let r = way.rest.0 in
-    let at : w ≡ b.value = cc (is) in
-    let counts : rank_trues ≡ count (values b.value.buffer) = trues_is ∙ ap (λ (x : Contents). count (values x.buffer)) at in
-    let same : path_of v.value w ≡ path len trues rank_len rank_trues is_listed rank_listed = rw (way.long, way.counted, way.listed, len_is, trues_is, listed_is) refl in (
+    let at : b.value ≡ w = cc (is) in
+    let same : path_of v.value b.value ≡ path len trues rank_len rank_trues is_listed rank_listed = rw (at, way.long, way.counted, way.listed, len_is, trues_is, listed_is) refl in (
       r,
-      narrowed len trues rank_trues is_listed is_listed' (Values v) (Values b) r masks up way counts (omega (arith, counts, chooses)) refl way.rest.1 way.rest.2
-          (λ held. ap (λ (x : Caches). is_some x.indices) (way.rest.1.caches ∙ where_mixed-mixed r _ held)
-          ∙ ap (λ (x : Contents). is_some (path_caches (path_of v.value x) (truth r)).indices) (sym at) ∙ ap (λ (x : RankPath). is_some (path_caches x (truth r)).indices) same ∙ listed (truth r)),
+      narrowed len trues rank_trues is_listed is_listed' (Values v) (Values b) r masks up way (grind arith) (grind arith) refl way.rest.1 way.rest.2
+          (λ held. rw (way.rest.1.caches, where_mixed-mixed r _ held, same) (listed (truth r))),
     )
 past_mixed len trues rank_len rank_trues is_listed is_listed' rank_listed n b w masks up way chooses is len_is trues_is listed_is listed = absurd (cc)
 
@@ -90,31 +79,18 @@ past_mixed len trues rank_len rank_trues is_listed is_listed' rank_listed n b w 
 pub from_first : (len trues : ℕ) (is_listed : Bool) (a : Mask) (w : Contents) (masks : List Mask) (up : Mask) → len ≡ length (values w.buffer) → trues ≡ count (values w.buffer) → is_listed ≡ is_some w.caches.indices → IsMixed w.buffer trues
     → IsStack (values w.buffer ∷ map truth masks) → contents a ≡ Some w → IsFoldedUp a masks up → IsOnTheWay len trues is_listed a masks up
 from_first len trues is_listed (Values v) w masks up len_is trues_is listed_is some stack is folded =
-    let same : v.value ≡ w = cc (is) in
-    record {
-      long = ap (λ (x : Contents). length (values x.buffer)) same ∙ sym len_is;
-      counted = ap (λ (x : Contents). count (values x.buffer)) same ∙ sym trues_is;
-      mixed = refl;
-      some_true = some.some_true;
-      some_false = omega (arith, len_is, some.some_false);
-      listed = ap (λ (x : Contents). is_some x.caches.indices) same ∙ sym listed_is;
-      stack = subst (λ (x : Contents). IsStack (values x.buffer ∷ map truth masks)) (sym same) stack;
-      rest = folded;
-    }
+    record { long = grind arith; counted = grind arith; mixed = refl; some_true = some.some_true; some_false = grind (arith, some.some_false); listed = grind arith; stack = grind (arith, stack); rest = folded }
 from_first len trues is_listed a w masks up len_is trues_is listed_is some stack is folded = absurd (cc (is))
 
 -- the next of these masks is one that chooses a row
 pub at_next : (len trues : ℕ) (is_listed : Bool) (masks : List Mask) (i : ℕ) (b up : Mask) → All (λ m. 0 < count (truth m)) masks → i < length masks → b ≡ get_or masks i b → (n : Mask) × IsOnTheWay len trues is_listed n (drop i masks) up
     → (n : Mask) × IsOnTheWay len trues is_listed n (b ∷ drop (i + 1) masks) up × (0 < count (truth b))
 at_next len trues is_listed masks i b up choose within is so_far =
-    let next : drop i masks ≡ b ∷ drop (i + 1) masks = drop_more masks i b within ∙ ap (λ (x : Mask). x ∷ drop (i + 1) masks) (sym is) in
-    (so_far.0, subst (λ (xs : List Mask). IsOnTheWay len trues is_listed so_far.0 xs up) next so_far.1, subst (λ (x : Mask). 0 < count (truth x)) (sym is) (All-get_or (λ (x : Mask). 0 < count (truth x)) masks i b within choose))
+    (so_far.0, grind (arith, drop_more, so_far.1), grind (arith, All-get_or (λ (x : Mask). 0 < count (truth x)) masks i b within choose))
 
 -- past the last of these masks it is the one that the fold ends with
 pub at_end : (len trues : ℕ) (is_listed : Bool) (masks : List Mask) (i : ℕ) (up : Mask) → length masks ≤ i → (n : Mask) × IsOnTheWay len trues is_listed n (drop i masks) up → is_some (caches up).indices ≡ is_listed
-at_end len trues is_listed masks i up past so_far =
-    let way = subst (λ (xs : List Mask). IsOnTheWay len trues is_listed so_far.0 xs up) (drop_all i masks past) so_far.1 in
-    ap (λ (x : Mask). is_some (caches x).indices) way.rest ∙ way.listed
+at_end len trues is_listed masks i up past so_far = grind (arith, drop_all, so_far.1)
 
 -- ---- the fold from the last mask down
 
@@ -132,9 +108,5 @@ some_chosen a (m ∷ n ∷ masks) stack some choose =
 -- a mixed mask narrowed by masks that choose rows is mixed
 pub mixed_fold : (a m : Mask) (w : Contents) (masks : List Mask) → contents a ≡ Some w → variant a ≡ fitting_variant (variant a) (truth a) → IsStack (truth a ∷ map truth masks) → 0 < length masks → All (λ m. 0 < count (truth m)) masks
     → truth m ≡ folded_left (truth a ∷ map truth masks) → variant m ≡ fitting_variant mixed (truth m) → variant m ≡ mixed
-mixed_fold (Values v) m w masks is one stack some choose list fits =
-    let a = truth (Values v) in
-    let less : count a < length a = some_false mixed a (some_rows a masks stack some choose) (sym one) in
-    let at_most = count_of_fold_is_at_most_the_first a (map truth masks) stack in
-    fits ∙ fitting_variant-some mixed (truth m) (omega (arith, ap count list, some_chosen a masks stack some choose)) (omega (arith, ap count list, ap length list, length_of_fold a (map truth masks), at_most, less))
+mixed_fold (Values v) m w masks is one stack some choose list fits = grind (arith, fitting_variant-some, some_false, some_rows, some_chosen, length_of_fold, count_of_fold_is_at_most_the_first)
 mixed_fold a m w masks is one stack some choose list fits = absurd (cc (is))

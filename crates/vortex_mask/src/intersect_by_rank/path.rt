@@ -48,7 +48,7 @@ const VALUES_PER_RANK_BY_BITS: u64 = 4;
 pub(super) struct Summary {
     len: usize,
     true_count: usize,
-    is_listed: bool,
+    pub(super) is_listed: bool,
 }
 
 impl Summary {
@@ -80,12 +80,6 @@ impl Summary {
             true_count: ranks.true_count,
             is_listed: matches!(path, RankPath::Indices | RankPath::MaskDriven),
         }
-    }
-
-    pub(super) fn is_listed(self) -> bool
-        ensures { result ≡ self.is_listed }
-    {
-        self.is_listed
     }
 
     // So many times the number of true values, which may pass 64 bits.

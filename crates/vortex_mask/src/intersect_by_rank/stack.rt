@@ -97,5 +97,5 @@ fn fold_up_is_listed(first: &MaskValues, masks: &[Mask]) -> bool
             folded = folded.narrowed_by(Summary::of(ranks));
         }
     }
-    folded.is_listed()
+    folded.is_listed
 }

@@ -17,4 +17,4 @@ loop-mask-preserved c = λ a up is folded.
     ]
 
 pub returns : goal.returns
-returns c = λ a up is folded. at_end _ _ _ c.args.masks.now c.loop-mask.mask-index up c.loop-mask-test.false (c.loop-mask.invariant a up is folded) ∙ sym c.is_listed.ensures
+returns c = λ a up is folded. at_end _ _ _ c.args.masks.now c.loop-mask.mask-index up c.loop-mask-test.false (c.loop-mask.invariant a up is folded)
