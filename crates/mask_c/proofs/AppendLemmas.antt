@@ -1,4 +1,5 @@
 -- Values written behind those of a bitmap: up to the end of their byte, and from the next byte on.
+use Rattle.std.proofs.lemmas.Grind.{common_steps}
 use Rattle.std.proofs.Common.{◌≡◌, ℕ, nat_eq, set, ◌^◌, ◌+◌, ◌-◌, ◌*◌, ◌/◌, ◌%◌, ◌<◌, ◌≤◌, ◌⊎◌, Bool, false, List, ◌++◌, append-nil, length, get_or, take, drop, min, sym, ap, ap₂, ◌∙◌, inl, inr, arith}
 use Rattle.std.specs.Int.{bit_at, div_ceil}
 use Rattle.std.specs.Int.RustNames.{bit_and, bit_or}
@@ -67,9 +68,7 @@ filled-values bytes more len offset n word x part few inside read kept put =
 -- ---- bytes from byte k on that are written
 
 put_from : (xs ys : List ℕ) (k : ℕ) → length ys ≡ length xs - k → put_mid k (length xs - k) xs ys ≡ take k xs ++ ys
-put_from xs ys k len =
-    ap (λ (us : List ℕ). take k xs ++ (ys ++ us)) (nil_from_length (drop (length xs - k) (drop k xs)) (omega (arith, length-drop (length xs - k) (drop k xs), length-drop k xs)))
-    ∙ ap (λ (us : List ℕ). take k xs ++ us) (append-nil ys)
+put_from xs ys k len = grind (arith, common_steps, nil_from_length, length-drop, append-nil)
 
 -- bytes ys from byte k of xs on are put behind n values, which end there, or there are none of r more
 pub record ArePut (xs ys : List ℕ) (k n r : ℕ) : Type 0 where
@@ -110,10 +109,7 @@ appended-behind old xs ys rest k n r put is same behind =
 
 -- where the byte before isn't full, there are no more
 pub full_or_none : (len n k filled : ℕ) → k ≡ div_ceil len 8 → filled ≡ min n (8 * k - len) → ((len + filled ≡ 8 * k) ⊎ (n - filled ≡ 0))
-full_or_none len n k filled end is = elim (cases_lt n (8 * k - len)) [
-  | inl few ↦ inr (omega arith)
-  | inr many ↦ inl (omega arith)
-]
+full_or_none len n k filled end is = grind (arith, common_steps, cases_lt)
 
 pub same_end : (len n filled : ℕ) → filled ≡ min n (8 * div_ceil len 8 - len) → div_ceil len 8 ≡ div_ceil (len + filled) 8
 same_end len n filled is = omega arith

@@ -17,25 +17,14 @@ use Rattle.mask_c.specs.Bitmap.{IsSubset}
 
 -- value i is the backing bit at offset + i
 pub slice_get-bitmap : (bytes : List ℕ) (offset len i : ℕ) → i < len → slice_get (bitmap bytes offset len) i ≡ Some (backing_bit bytes (offset + i))
-slice_get-bitmap bytes offset len i h =
-    slice_get-get_or (bitmap bytes offset len) i false (omega (arith, length-bitmap bytes offset len))
-    ∙ ap Some (get_or-bitmap bytes offset len i false h)
+slice_get-bitmap bytes offset len i h = grind (arith, slice_get-get_or (bitmap bytes offset len) i false, length-bitmap, get_or-bitmap)
 
 -- a part of a bitmap is the bitmap from the part's first bit on
 pub bitmap-part : (bytes : List ℕ) (offset len s e : ℕ) → s ≤ e → e ≤ len → bitmap bytes (offset + s) (e - s) ≡ slice_range (bitmap bytes offset len) s e
 bitmap-part bytes offset len s e ordered within =
-    let m : List Bool = bitmap bytes offset len in
-    let part : List Bool = bitmap bytes (offset + s) (e - s) in
-    let fits : e ≤ length m = omega (arith, length-bitmap bytes offset len) in
-    let len_part : length part ≡ e - s = length-bitmap bytes (offset + s) (e - s) in
-    let len_range : length (slice_range m s e) ≡ e - s = length-between m s e fits in
-    ext_get_or false part (slice_range m s e) (len_part ∙ sym len_range)
-    (λ i h.
-    let inside : i < e - s = omega arith in
-    let past : s + i < e = omega arith in
-    let at : offset + s + i ≡ offset + (s + i) = add_assoc offset s i in
-    get_or-bitmap bytes (offset + s) (e - s) i false inside ∙ ap (backing_bit bytes) at
-    ∙ sym (get_or-bitmap bytes offset len (s + i) false (omega arith)) ∙ sym (get_or-between m s e i false past))
+    let fits : e ≤ length (bitmap bytes offset len) = omega (arith, length-bitmap bytes offset len) in
+    ext_get_or false (bitmap bytes (offset + s) (e - s)) (slice_range (bitmap bytes offset len) s e) (length-bitmap bytes (offset + s) (e - s) ∙ sym (length-between (bitmap bytes offset len) s e fits)) (λ i h.
+    grind (arith, get_or-bitmap, get_or-between, add_assoc offset s i, length-bitmap))
 
 -- the true values below an index, and those from there to the next one
 pub count-runs_on : (bytes : List ℕ) (offset len i j n k : ℕ) → i ≤ j → j ≤ len → n ≡ count_below (bitmap bytes offset len) i

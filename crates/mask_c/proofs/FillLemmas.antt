@@ -1,5 +1,6 @@
 -- Bits that are written with one value.
-use Rattle.std.proofs.Common.{◌≡◌, nat_eq, ℕ, ◌+◌, ◌-◌, ◌*◌, ◌/◌, ◌%◌, ◌<◌, ◌≤◌, ◌||◌, ◌&&◌, not, Bool, true, false, List, length, get_or, replicate, refl, ap, ◌∙◌, inl, inr, arith}
+use Rattle.std.proofs.lemmas.Grind.{common_steps}
+use Rattle.std.proofs.Common.{◌≡◌, nat_eq, ℕ, ◌+◌, ◌-◌, ◌*◌, ◌<◌, ◌≤◌, ◌||◌, ◌&&◌, not, Bool, true, false, List, length, replicate, refl, ap, arith}
 use Rattle.std.specs.Int.{bit_at}
 use Rattle.std.proofs.lemmas.Bool.Decides.{nat_tests}
 use Rattle.std.proofs.lemmas.Bool.{cases_lt}
@@ -29,22 +30,7 @@ filled_clear a b i v fails is = grind (arith, nat_tests)
 -- whole bytes of one value
 pub filled-bytes : (a ys : List ℕ) (m n byte : ℕ) (v : Bool) → m ≤ n → n ≤ length a → ys ≡ replicate (n - m) byte
     → ((j : ℕ) → j < 8 → nat_eq (bit_at byte j) 1 ≡ v) → IsFilled a (put_mid m (n - m) a ys) (8 * m) (8 * n) v
-filled-bytes a ys m n byte v ordered within is bits =
-    let new : List ℕ = put_mid m (n - m) a ys in
-    let len : length ys ≡ n - m = ap length is ∙ length-replicate (n - m) byte in
-    record {
-      inside = λ p from to.
-          let at : p / 8 ≡ m + (p / 8 - m) = omega arith in
-          let few : p / 8 - m < n - m = omega arith in
-          let here : get_or new (p / 8) 0 ≡ byte = ap (λ k. get_or new k 0) at
-          ∙ get_or-put_mid_inside m n a ys (p / 8 - m) (omega arith) len few
-          ∙ ap (λ (xs : List ℕ). get_or xs (p / 8 - m) 0) is ∙ get_or-replicate (n - m) (p / 8 - m) byte 0 few in
-          ap (λ x. nat_eq (bit_at x (p % 8)) 1) here ∙ bits (p % 8) (omega arith);
-      outside = λ p apart. ap (λ x. nat_eq (bit_at x (p % 8)) 1) (elim apart [
-        | inl before ↦ get_or-put_mid_below m (n - m) a ys (p / 8) (omega arith) (omega arith)
-        | inr past ↦ get_or-put_mid_above m (n - m) a ys (p / 8) (omega arith) len (omega arith)
-      ]);
-    }
+filled-bytes a ys m n byte v ordered within is bits = grind (arith, common_steps, length-replicate, get_or-put_mid_inside, get_or-replicate, get_or-put_mid_below, get_or-put_mid_above)
 
 pub bits_of_ones : (j : ℕ) → j < 8 → nat_eq (bit_at 255 j) 1 ≡ true
 bits_of_ones j h = ap (λ b. nat_eq b 1) (bit_at_ones 8 j h)

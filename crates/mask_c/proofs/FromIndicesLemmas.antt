@@ -1,7 +1,8 @@
 -- A bitmap whose set bits stand at a list of positions.
-use Rattle.std.proofs.Common.{◌≡◌, nat_eq, ℕ, ◌+◌, ◌*◌, ◌/◌, ◌%◌, ◌<◌, ◌≤◌, ◌||◌, false, List, ◌++◌, length, get_or, take, sym, ap, ◌∙◌, arith}
+use Rattle.std.proofs.lemmas.Grind.{common_steps}
+use Rattle.std.proofs.Common.{◌≡◌, nat_eq, ℕ, ◌+◌, ◌*◌, ◌<◌, ◌≤◌, ◌||◌, List, ◌++◌, length, get_or, take, sym, ap, ◌∙◌, arith}
 use Rattle.std.proofs.Math.Bool.{or_comm}
-use Rattle.std.specs.Int.{bit_at, div_ceil}
+use Rattle.std.specs.Int.{div_ceil}
 use Rattle.std.specs.List.{All, list_any}
 use Rattle.std.proofs.lemmas.Bool.{ne_eqb}
 use Rattle.std.proofs.lemmas.List.{get_or_append_left}
@@ -23,9 +24,7 @@ AreSetAt bytes ps = (p : ℕ) → p < 8 * length bytes → backing_bit bytes p �
 -- one more
 pub set_at-more : (old new ps : List ℕ) (i : ℕ) → i < length ps → length new ≡ length old → AreSetAt old (take i ps)
     → ((p : ℕ) → backing_bit new p ≡ (nat_eq p (get_or ps i 0) || backing_bit old p)) → AreSetAt new (take (i + 1) ps)
-set_at-more old new ps i few len so_far set = λ p h.
-    let q : ℕ = get_or ps i 0 in
-    set p ∙ ap (λ b. nat_eq p q || b) (so_far p (omega arith)) ∙ or_comm (nat_eq p q) (list_any (nat_eq p) (take i ps)) ∙ sym (list_any_more (nat_eq p) ps i 0 few)
+set_at-more old new ps i few len so_far set = grind (arith, common_steps, or_comm, list_any_more)
 
 pub list_from_set : (bytes more ps : List ℕ) (len : ℕ) → len ≤ 8 * length bytes → AreSetAt bytes ps → bitmap (bytes ++ more) 0 len ≡ true_at len ps
 list_from_set bytes more ps len few set =
@@ -36,7 +35,4 @@ list_from_set bytes more ps len few set =
     set p (omega arith) ∙ sym (value_of_true_at len ps p inside))
 
 pub clear_from_set : (bytes more ps : List ℕ) (len : ℕ) → 8 * div_ceil len 8 ≤ 8 * length bytes → All (λ i. i < len) ps → AreSetAt bytes ps → AreClearBehind (bytes ++ more) len
-clear_from_set bytes more ps len few within set = λ p from to.
-    ap (λ x. nat_eq (bit_at x (p % 8)) 1) (get_or_append_left bytes more 0 (p / 8) (omega arith))
-    ∙ set p (omega arith)
-    ∙ list_any_none (nat_eq p) ps (All-weaker (λ i. i < len) (λ i. nat_eq p i ≡ false) (λ i h. ne_eqb p i (λ same. omega arith)) ps within)
+clear_from_set bytes more ps len few within set = grind (arith, common_steps, get_or_append_left, list_any_none, All-weaker, ne_eqb)

@@ -1,5 +1,6 @@
 -- The last values of a bitmap that is written, and the values before them.
-use Rattle.std.proofs.Common.{◌≡◌, ℕ, nat_eq, set, ◌^◌, ◌+◌, ◌-◌, ◌*◌, ◌/◌, ◌%◌, ◌<◌, ◌≤◌, ◌&&◌, Bool, true, false, List, [], ◌∷◌, ◌++◌, append-nil, length, get_or, take, drop, min, refl, sym, ap, ap₂, ◌∙◌, inl, inr, arith}
+use Rattle.std.proofs.lemmas.Grind.{common_steps}
+use Rattle.std.proofs.Common.{◌≡◌, ℕ, nat_eq, set, ◌^◌, ◌+◌, ◌-◌, ◌*◌, ◌/◌, ◌%◌, ◌<◌, ◌≤◌, ◌&&◌, Bool, true, false, List, [], ◌∷◌, ◌++◌, append-nil, length, get_or, take, drop, min, refl, sym, ap, ap₂, ◌∙◌, arith}
 use Rattle.std.specs.Int.{bit_at, div_ceil}
 use Rattle.std.specs.Int.RustNames.{bit_and}
 use Rattle.std.proofs.Math.Seq.{drop-append_seam}
@@ -75,22 +76,11 @@ put-values old last ys word n e begins len end is shows =
 
 pub cleared-list : (bytes : List ℕ) (n : ℕ) → (n % 8 ≡ 0 → ⊥) → div_ceil n 8 ≤ length bytes
     → bitmap (set bytes (n / 8) (bit_and (get_or bytes (n / 8) 0) (1 * 2 ^ (n % 8) % 256 - 1))) 0 n ≡ bitmap bytes 0 n
-cleared-list bytes n part room =
-    let mask = one_shl (n % 8) 8 (omega arith) in
-    front-same bytes _ n (λ p h. elim (cases_eq (p / 8) (n / 8)) [
-      | inl same ↦
-          let low = bit_at-low_mask (get_or bytes (n / 8) 0) (n % 8) (p % 8) (omega arith) in
-          rw (get_or-set_at bytes (n / 8) (p / 8) _ 0 same (omega (arith, part)), mask, low, same) refl
-      | inr other ↦ rw (get_or-set_other bytes (n / 8) (p / 8) _ 0 other) refl
-    ])
+cleared-list bytes n part room = grind (arith, common_steps, one_shl, front-same, cases_eq, bit_at-low_mask, get_or-set_at, get_or-set_other)
 
 pub cleared-clear : (bytes : List ℕ) (n : ℕ) → (n % 8 ≡ 0 → ⊥) → div_ceil n 8 ≤ length bytes
     → AreClearBehind (set bytes (n / 8) (bit_and (get_or bytes (n / 8) 0) (1 * 2 ^ (n % 8) % 256 - 1))) n
-cleared-clear bytes n part room = λ p from to.
-    let same : p / 8 ≡ n / 8 = omega (arith, part) in
-    let mask = one_shl (n % 8) 8 (omega arith) in
-    let high = bit_at-past_mask (get_or bytes (n / 8) 0) (n % 8) (p % 8) (omega arith) in
-    rw (get_or-set_at bytes (n / 8) (p / 8) _ 0 same (omega (arith, part)), mask, high) refl
+cleared-clear bytes n part room = grind (arith, common_steps, one_shl, bit_at-past_mask, get_or-set_at)
 
 -- ---- lists of two parts
 
@@ -104,10 +94,7 @@ narrow-append (true ∷ a) c (y ∷ b) d len = ap (λ (xs : List Bool). y ∷ xs
 -- the rank intersection of two parts
 pub rank_intersection-append : (a c b d : List Bool) → length b ≡ count a → length d ≡ count c
     → rank_intersection (a ++ c) (b ++ d) ≡ rank_intersection a b ++ rank_intersection c d
-rank_intersection-append a c b d fits fits' =
-    rank_intersection-narrow (a ++ c) (b ++ d) (omega (arith, length-append b d, count-append a c))
-    ∙ narrow-append a c b d (fits ∙ count-trues a)
-    ∙ sym (ap₂ (λ (xs ys : List Bool). xs ++ ys) (rank_intersection-narrow a b fits) (rank_intersection-narrow c d fits'))
+rank_intersection-append a c b d fits fits' = grind (arith, common_steps, rank_intersection-narrow, length-append, count-append, narrow-append, count-trues)
 
 -- ---- what a call has written: the values of whole words, and the last ones by a word
 
@@ -122,9 +109,7 @@ padded_remainder_of : (m : List Bool) (n : ℕ) → length m ≡ n → padded_re
 padded_remainder_of m n len = ap (λ k. drop (64 * (k / 64)) m ++ repeated (64 - k % 64) false) len
 
 remainder-take : (m : List Bool) (n : ℕ) → length m ≡ n → take (n % 64) (padded_remainder m) ≡ drop (64 * (n / 64)) m
-remainder-take m n len =
-    let w : ℕ = 64 * (n / 64) in
-    ap (take (n % 64)) (padded_remainder_of m n len) ∙ take_at (drop w m) (repeated (64 - n % 64) false) (n % 64) (omega (arith, length-drop w m))
+remainder-take m n len = grind (arith, common_steps, padded_remainder_of, take_at, length-drop)
 
 pub written : (xs ys : List Bool) (front more : List ℕ) (word n : ℕ) → 64 * (n / 64) ≤ 8 * length front → bitmap front 0 (64 * (n / 64)) ≡ xs → take (n % 64) (word_bits word) ≡ ys
     → values_so_far (front ++ more) word n ≡ xs ++ ys

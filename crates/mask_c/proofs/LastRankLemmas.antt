@@ -1,5 +1,5 @@
 -- The ranks of the last values of a bitmap, as set bits.
-use Rattle.std.proofs.Common.{◌≡◌, ℕ, ◌+◌, ◌-◌, ◌<◌, ◌≤◌, ◌^◌, ◌||◌, Bool, false, nat_eq, List, ◌∷◌, ◌++◌, length, get_or, take, drop, sym, ap, ◌∙◌, inl, inr, arith}
+use Rattle.std.proofs.Common.{◌≡◌, ℕ, ◌+◌, ◌-◌, ◌<◌, ◌≤◌, ◌^◌, Bool, false, nat_eq, List, ◌++◌, length, get_or, take, drop, sym, ap, ◌∙◌, inl, inr, arith}
 use Rattle.std.specs.Int.RustNames.{bit_or}
 use Rattle.std.specs.List.{All, list_any}
 use Rattle.std.specs.List.Sorted.{IsStrictlyIncreasing}
@@ -30,11 +30,7 @@ gathered-none ranks from = grind (arith, get_or-word_bits, bit_at-zero, none-is,
 
 pub gathered-more : (ranks : List ℕ) (from cut bits bit : ℕ) → 0 < cut → from ≤ get_or ranks (cut - 1) 0 → bit ≡ 2 ^ (get_or ranks (cut - 1) 0 - from)
     → AreGathered ranks from cut bits → AreGathered ranks from (cut - 1) (bit_or bits bit)
-gathered-more ranks from cut bits bit some high is g =
-    let x : ℕ = get_or ranks (cut - 1) 0 in
-    let next : cut - 1 + 1 ≡ cut = omega arith in
-    let more : drop (cut - 1) ranks ≡ x ∷ drop cut ranks = drop_more ranks (cut - 1) 0 (omega (arith, g.within)) ∙ ap (λ n. x ∷ drop n ranks) next in
-    grind (arith, common_steps, cases_eq, get_or-word_bits_or, bit_of_pow, or_comm, more)
+gathered-more ranks from cut bits bit some high is g = grind (arith, common_steps, drop_more, common_steps, cases_eq, get_or-word_bits_or, bit_of_pow, or_comm)
 
 -- ---- ascending ranks
 
@@ -48,9 +44,7 @@ gathered-bits ranks from cut bits ascending stop g j h =
     let split = gathered-split ranks from cut bits ascending stop g in
     let p : ℕ → Bool = nat_eq (from + j) in
     let none : list_any p (take cut ranks) ≡ false = none-is (from + j) (take cut ranks) (λ k few same. grind (arith, length-take, get_or-take, split.before k)) in
-    g.set j h
-    ∙ sym (ap (list_any p) (sym (take-append-drop cut ranks)) ∙ list_any-append p (take cut ranks) (drop cut ranks)
-    ∙ ap (λ b. b || list_any p (drop cut ranks)) none)
+    grind (arith, g.set j h, none, take-append-drop cut ranks, list_any-append p (take cut ranks) (drop cut ranks))
 
 pub ruleset gathered_facts = (gathered-split, gathered-bits)
 
@@ -58,11 +52,8 @@ pub ruleset gathered_facts = (gathered-split, gathered-bits)
 
 front-any : (ranks : List ℕ) (n cut p : ℕ) → AreSplit ranks cut n → p < n → list_any (nat_eq p) ranks ≡ list_any (nat_eq p) (take cut ranks)
 front-any ranks n cut p split h =
-    let test : ℕ → Bool = nat_eq p in
-    let none : list_any test (drop cut ranks) ≡ false
-    = none-is p (drop cut ranks) (λ k few same. omega (arith, get_or-drop cut ranks k 0, split.after (cut + k) (omega arith) (omega (arith, length-drop cut ranks)))) in
-    ap (list_any test) (sym (take-append-drop cut ranks)) ∙ list_any-append test (take cut ranks) (drop cut ranks)
-    ∙ ap (λ b. list_any test (take cut ranks) || b) none ∙ or-false (list_any test (take cut ranks))
+    let none : list_any (nat_eq p) (drop cut ranks) ≡ false = none-is p (drop cut ranks) (λ k few same. grind (arith, length-drop, get_or-drop, split.after)) in
+    grind (arith, none, or-false, take-append-drop cut ranks, list_any-append (nat_eq p) (take cut ranks) (drop cut ranks))
 
 -- those below n, and the others as the first k values of a list of bits
 pub ranks-parts : (ranks : List ℕ) (n k cut : ℕ) (bits : List Bool) → AreSplit ranks cut n → length bits ≡ k

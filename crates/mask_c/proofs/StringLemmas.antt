@@ -1,7 +1,8 @@
 -- Strings at some indices: their sizes, where they end, and their bytes one behind another.
+use Rattle.std.proofs.lemmas.Grind.{common_steps}
 use Rattle.std.proofs.Common.{◌≡◌, ℕ, zero, suc, ◌+◌, ◌-◌, ◌*◌, ◌<◌, ◌≤◌, Bool, true, false, List, [], ◌∷◌, ◌++◌, append_assoc, append-nil, length, get_or, set, take, drop, map, slice_range, slice_get, Some, refl, sym, subst, ap, ◌∙◌, arith}
 use Rattle.std.proofs.Math.Seq.{take-add}
-use Rattle.std.specs.List.{All, concat, cons_option, items_where_true, range_with_len, sum}
+use Rattle.std.specs.List.{All, concat, items_where_true, range_with_len, sum}
 use Rattle.std.specs.List.Sorted.{IsNonDecreasing}
 use Rattle.std.proofs.lemmas.List.{drop-drop, drop-set-lt, get_or-append_right, length-append, length-take, map-id, take-append-drop, take_all, take_more, take_more_set}
 use Rattle.std.proofs.lemmas.List.Elements.{All-weaker, filter_map-append}
@@ -46,11 +47,7 @@ range-join bytes a b c first second =
 
 pub items_at-more : {X : Type 0} (xs : List X) (ps : List ℕ) (k : ℕ) (x : X) → k < length ps → slice_get xs (get_or ps k 0) ≡ Some x
     → items_at xs (take (k + 1) ps) ≡ items_at xs (take k ps) ++ x ∷ []
-items_at-more {X} xs ps k x few read =
-    let p : ℕ = get_or ps k 0 in
-    ap (items_at xs) (take_more ps k 0 few)
-    ∙ filter_map-append (λ i. slice_get xs i) (take k ps) (p ∷ [])
-    ∙ ap (λ o. items_at xs (take k ps) ++ cons_option o []) read
+items_at-more {X} xs ps k x few read = grind (arith, common_steps, take_more, filter_map-append)
 
 pub sum-append : (xs ys : List ℕ) → sum (xs ++ ys) ≡ sum xs + sum ys
 sum-append xs ys = sum_by-append (λ n. n) xs ys
@@ -97,10 +94,7 @@ ends-step ls ps xs old from at k end size few room read total so_far =
     ∙ sym (ap (ends_from from) (items_at-more ls ps k size few read) ∙ ends-append from its (size ∷ [])))
 
 pub behind-step : (xs old : List ℕ) (at k x : ℕ) → drop (at + k) xs ≡ drop (at + k) old → drop (at + (k + 1)) (set xs (at + k) x) ≡ drop (at + (k + 1)) old
-behind-step xs old at k x same =
-    let next : at + k + 1 ≡ at + (k + 1) = omega arith in
-    drop-set-lt (at + (k + 1)) xs (at + k) x (omega arith)
-    ∙ ap (λ n. drop n xs) (sym next) ∙ sym (drop-drop 1 (at + k) xs) ∙ ap (drop 1) same ∙ drop-drop 1 (at + k) old ∙ ap (λ n. drop n old) next
+behind-step xs old at k x same = grind (arith, common_steps, drop-set-lt, drop-drop)
 
 -- ---- words
 
@@ -130,9 +124,7 @@ sum-word ls m i here is = omega (arith, sum-parts ls (positions (take (64 * (i +
 pub All-behind : (P : ℕ → Type 0) (xs ys zs : List ℕ) → zs ≡ xs ++ ys → All P zs → All P ys
 All-behind P xs ys zs is all = λ k d h.
     let place : length xs + k - length xs ≡ k = omega arith in
-    let at : get_or zs (length xs + k) d ≡ get_or ys k d
-    = ap (λ (us : List ℕ). get_or us (length xs + k) d) is ∙ get_or-append_right xs ys (length xs) (length xs + k) d refl (omega arith) ∙ ap (λ n. get_or ys n d) place in
-    subst P at (all (length xs + k) d (omega (arith, ap length is, length-append xs ys)))
+    subst P (ap (λ (us : List ℕ). get_or us (length xs + k) d) is ∙ get_or-append_right xs ys (length xs) (length xs + k) d refl (omega arith) ∙ ap (λ n. get_or ys n d) place) (all (length xs + k) d (omega (arith, ap length is, length-append xs ys)))
 
 -- the indices of a word are those of strings
 pub word-within : (m : List Bool) (front here : List ℕ) (i n : ℕ) → positions (take (64 * (i + 1)) m) ≡ front ++ here → n ≡ length m + 1 → All (λ p. p + 1 < n) here
@@ -155,13 +147,7 @@ items-all xs m n past = ap (λ (x : List Bool). items_at xs (positions x)) (take
 -- one more string
 pub bytes-step : (bytes front new : List ℕ) (its : List (List ℕ)) (begin from to : ℕ) → begin ≤ from → from ≤ to
     → new ++ slice_range bytes begin from ≡ front ++ concat its → new ++ slice_range bytes begin to ≡ front ++ concat (its ++ slice_range bytes from to ∷ [])
-bytes-step bytes front new its begin from to first second so_far =
-    let here : List ℕ = slice_range bytes from to in
-    ap (λ (xs : List ℕ). new ++ xs) (sym (range-join bytes begin from to first second))
-    ∙ sym (append_assoc new (slice_range bytes begin from) here)
-    ∙ ap (λ (xs : List ℕ). xs ++ here) so_far
-    ∙ append_assoc front (concat its) here
-    ∙ ap (λ (xs : List ℕ). front ++ xs) (sym (concat-more its here))
+bytes-step bytes front new its begin from to first second so_far = grind (arith, common_steps, range-join, append_assoc, concat-more)
 
 -- the bytes of one more word
 pub bytes-word : (xss : List (List ℕ)) (ps front here : List ℕ) → ps ≡ front ++ here → concat (items_at xss front) ++ concat (items_at xss here) ≡ concat (items_at xss ps)
