@@ -1,5 +1,6 @@
 -- The indices that two ascending lists have in common, found at their fronts.
-use Rattle.std.proofs.Common.{suc, true, append_assoc, append-nil, ◌≡◌, ℕ, ◌+◌, ◌<◌, ◌≤◌, false, nat_eq, nat_le, set, List, [], ◌∷◌, ◌++◌, length, get_or, take, drop, ◌||◌, ◌-◌, cond, refl, sym, ap, ap₂, subst, ◌∙◌, ◌⊎◌, inl, inr, arith}
+use Rattle.std.proofs.lemmas.Grind.{common_steps}
+use Rattle.std.proofs.Common.{suc, append_assoc, append-nil, ◌≡◌, ℕ, ◌+◌, ◌<◌, ◌≤◌, false, nat_eq, nat_le, set, List, [], ◌∷◌, ◌++◌, length, get_or, take, drop, ◌||◌, ◌-◌, cond, refl, sym, ap, ap₂, subst, ◌∙◌, ◌⊎◌, inl, inr, arith}
 use Rattle.std.specs.List.{All, copy_within, list_any}
 use Rattle.std.proofs.lemmas.Grind.{take-set_at}
 use Rattle.std.proofs.lemmas.List.Edits.{take-paste}
@@ -105,10 +106,7 @@ common-over xs ys i j (inr h) = rw (drop_all j ys h) (common-none (drop i xs))
 
 pub common-found : (xs ys : List ℕ) (i n : ℕ) → i < length xs → n < length ys → get_or ys n 0 ≡ get_or xs i 0
     → common (take (i + 1) xs) ys ≡ common (take i xs) ys ++ get_or xs i 0 ∷ []
-common-found xs ys i n h k same =
-    let has : list_any (nat_eq (get_or xs i 0)) ys ≡ true =
-    list_any-from_Any (nat_eq (get_or xs i 0)) ys (n, get_or ys n 0, k, get_or_default ys n _ 0 k, eq-eqb (get_or xs i 0) (get_or ys n 0) (sym same)) in
-    filter_more (λ x. list_any (nat_eq x) ys) xs i 0 h ∙ ap (λ b. common (take i xs) ys ++ cond b (get_or xs i 0 ∷ []) []) has
+common-found xs ys i n h k same = grind (arith, common_steps, list_any-from_Any, get_or_default, eq-eqb, filter_more)
 
 pub common-missed : (xs ys : List ℕ) (i n : ℕ) → IsStrictlyIncreasing ys → i < length xs → AreSplit ys n (get_or xs i 0)
     → (n < length ys → get_or ys n 0 ≡ get_or xs i 0 → ⊥) → common (take (i + 1) xs) ys ≡ common (take i xs) ys
@@ -210,26 +208,10 @@ goes-other xs ys i j n k b h h' w less =
 
 -- an index moved down to place n leaves what comes from its own place on
 kept_from : (xs : List ℕ) (i n : ℕ) → n ≤ i → drop i (set xs n (get_or xs i 0)) ≡ drop i xs
-kept_from xs i n h = elim (cases_lt n i) [
-  | inl below ↦ drop-set-lt i xs n (get_or xs i 0) below
-  | inr here ↦
-      let same : n ≡ i = omega arith in
-      ap (λ k. drop i (set xs k (get_or xs i 0))) same ∙ ap (drop i) (set-get_or xs i 0)
-]
+kept_from xs i n h = grind (arith, common_steps, cases_lt, drop-set-lt, set-get_or)
 
 goes-nowhere : (xs ys : List ℕ) (i j n : ℕ) → IsUnderWay xs ys i j n → GoesOn xs (set xs n (get_or xs i 0)) ys i j n i j n
-goes-nowhere xs ys i j n w =
-    let x : ℕ = get_or xs i 0 in
-    let kept : drop i (set xs n x) ≡ drop i xs = kept_from xs i n w.fewer in
-    record {
-      under_way = record {
-        fewer = w.fewer;
-        within_list = omega (arith, w.within_list, length-set xs n x);
-        within_other = w.within_other;
-        ascending = subst IsStrictlyIncreasing (sym kept) w.ascending;
-      };
-      same = ap₂ (λ zs ws. zs ++ common ws (drop j ys)) (take-set xs n x) kept;
-    }
+goes-nowhere xs ys i j n w = grind (arith, common_steps, kept_from, length-set, take-set)
 
 goes-equal : (xs ys : List ℕ) (i j n : ℕ) → i < length xs → j < length ys → IsUnderWay xs ys i j n
     → get_or xs i 0 ≡ get_or ys j 0 → GoesOn xs (set xs n (get_or xs i 0)) ys i j n (i + 1) (j + 1) (n + 1)
