@@ -1,8 +1,6 @@
 -- What a test answers of rows, row by row and lane by lane.
-use Rattle.std.proofs.Common.{◌≡◌, ℕ, drop, ◌+◌, ◌-◌, ◌<◌, ◌≤◌, Bool, false, List, [], ◌∷◌, ◌++◌, length, get_or, map, nat_eq, replicate, set, take, zip, refl, sym, ap, ap₂, subst, ◌∙◌, arith}
-use Rattle.std.specs.Borrow.{Bor}
+use Rattle.std.proofs.Common.{◌≡◌, ℕ, drop, ◌+◌, ◌-◌, ◌<◌, ◌≤◌, Bool, false, List, [], ◌∷◌, ◌++◌, length, get_or, map, nat_eq, replicate, set, take, zip, refl, sym, ap, ap₂, subst, ◌∙◌, arith, Bor, All}
 use Rattle.std.specs.Fn.{FnReturnsAt, Shared}
-use Rattle.std.specs.List.{All}
 use Rattle.std.proofs.lemmas.List.{ext_get_or, get_or-take, length-take, length-append, length-drop, length-take-le, take-append-le, take-take, take-append-drop, drop-take}
 use Rattle.std.proofs.Math.Seq.{get_or-append_seam}
 use Rattle.std.proofs.lemmas.List.Elements.{All-nil, All-cons, All-head, All-tail}
@@ -72,18 +70,10 @@ pub packed_one_more : {T : Type 0} (gives : T → Bool → Type 0) (rows : List 
 packed_one_more gives rows j lanes row b at few is so_far =
     let list : List Bool = so_far.list in
     let len : length list ≡ j = so_far.answers.len ∙ at in
-    let before : AreLanesOf (list ++ b ∷ []) j lanes = record {
-      len = so_far.packed.len;
-      each = λ k h. so_far.packed.each k h ∙ ap (λ (n : ℕ). get_or (take n list) k false) at ∙ ap (λ (xs : List Bool). get_or xs k false) (sym (take-append-le j list (b ∷ []) (omega (arith, len))));
-    } in
+    let before : AreLanesOf (list ++ b ∷ []) j lanes = grind (arith, take-append-le) in
     let value : get_or (list ++ b ∷ []) j false ≡ b = subst (λ (n : ℕ). get_or (list ++ b ∷ []) n false ≡ b) len (get_or-append_seam list b [] false) in
     let longer : length (rows ++ row ∷ []) ≡ j + 1 = omega (arith, length-append rows (row ∷ []), at) in
-    record {
-      list = list ++ b ∷ [];
-      answers = answers-append gives rows (row ∷ []) list (b ∷ []) so_far.answers (one_answer gives row b is);
-      packed = subst (λ (n : ℕ). AreLanesOf (list ++ b ∷ []) n (set lanes j (bool_byte b))) (sym longer)
-          (subst (λ (v : Bool). AreLanesOf (list ++ b ∷ []) (j + 1) (set lanes j (bool_byte v))) value (lanes-more (list ++ b ∷ []) lanes j few before));
-    }
+    grind (arith, answers-append gives rows (row ∷ []) list (b ∷ []) so_far.answers (one_answer gives row b is), one_answer gives row b is, lanes-more (list ++ b ∷ []) lanes j few before)
 
 -- the lowest bits of the word that the lanes become are the answers
 pub answers_of_word : {T : Type 0} (gives : T → Bool → Type 0) (rows : List T) (lanes : List ℕ) (w : ℕ) → length rows ≤ 64

@@ -32,6 +32,5 @@ bools-more old new m part i w before wrote others is_word is_part p h =
           let j : ℕ = p - 64 * i in
           let few : j < 64 = omega arith in
           let at : 64 * i + j ≡ p = omega arith in
-          ap (backing_bit new) (sym at) ∙ sym (get_or-window new (64 * i) j false few)
-          ∙ ap (λ (bits : List Bool). get_or bits j false) wrote ∙ is_word j few ∙ is_part j few ∙ ap (λ k. get_or m k false) at
+          grind (arith, get_or-window)
     ]

@@ -43,8 +43,7 @@ pub values_from_places : (bytes places : List ℕ) (n : ℕ) → ((i : ℕ) → 
 unfolding true_at
 values_from_places bytes places n same =
     let f : ℕ → Bool = λ i. list_any (nat_eq i) places in
-    values_from_front bytes (map f (range_with_len 0 n)) n (length-map-range_with_len f 0 n)
-    (λ i h. same i ∙ sym (get_or-map-range_with_len f 0 n i i false h (omega arith)))
+    grind (arith, values_from_front bytes (map f (range_with_len 0 n)) n (length-map-range_with_len f 0 n), length-map-range_with_len f 0 n, get_or-map-range_with_len)
 
 -- what `len` and the tests of bounds need
 pub ruleset buffer_facts = (length-values)

@@ -1,8 +1,6 @@
 -- Values put behind others by words: in the word that is begun, and in the next one once it is full.
-use Rattle.std.proofs.Common.{◌≡◌, ℕ, nat_eq, ◌^◌, ◌+◌, ◌-◌, ◌*◌, ◌/◌, ◌%◌, ◌<◌, ◌≤◌, Bool, false, List, [], ◌++◌, append-nil, append_assoc, count_ones, length, get_or, take, drop, refl, subst, sym, ap, ap₂, ◌∙◌, inl, inr, arith}
+use Rattle.std.proofs.Common.{◌≡◌, ℕ, nat_eq, ◌^◌, ◌+◌, ◌-◌, ◌*◌, ◌/◌, ◌%◌, ◌<◌, ◌≤◌, Bool, false, List, [], ◌++◌, append-nil, append_assoc, count_ones, length, get_or, take, drop, refl, subst, sym, ap, ap₂, ◌∙◌, inl, inr, arith, bit_or, take-add}
 use Rattle.std.specs.Int.{bit_at}
-use Rattle.std.specs.Int.RustNames.{bit_or}
-use Rattle.std.proofs.Math.Seq.{take-add}
 use Rattle.std.proofs.lemmas.Bool.{cases_lt}
 use Rattle.std.proofs.lemmas.List.{ext_get_or, get_or-drop, get_or-take, get_or_append_left, get_or-append_right, length-append, length-drop, length-take, take_all}
 use Rattle.std.proofs.lemmas.Nat.Bits.{bit_at-lt, bit_at-zero, bit_at_above, bit_at_or}
@@ -80,8 +78,7 @@ pub put-begun_clear : (at begun word n j : ℕ) → at % 64 + n < 64 → ((i : �
 put-begun_clear at begun word n j few above clear from = elim (cases_lt j 64) [
   | inl in_word ↦ joined-second begun (at % 64) word j above (omega arith) in_word ∙ clear (j - at % 64) (omega arith)
   | inr past ↦
-      let cut : ℕ = word * 2 ^ (at % 64) % 2 ^ 64 in
-      omega (arith, bit_at_or begun cut j, above j (omega arith), bit_at_above cut 64 j (omega arith) past)
+      grind (arith, bit_at_or begun (word * 2 ^ (at % 64) % 2 ^ 64) j, bit_at_above (word * 2 ^ (at % 64) % 2 ^ 64) 64 j (omega arith) past)
 ]
 
 -- a word written into its eight bytes
@@ -101,12 +98,7 @@ put-full out ys at begun word n e many full above end room len shows =
     let rest : List Bool = take (low + n - 64) (word_bits (left_over low word)) in
     let whole : (at + n) / 64 ≡ w + 1 = omega arith in
     let few : (at + n) % 64 ≡ low + n - 64 = omega arith in
-    ap₂ (λ i k. bitmap new 0 (64 * i) ++ take k (word_bits (left_over low word))) whole few
-    ∙ ap (λ (xs : List Bool). xs ++ rest)
-    (front-more_word new w ∙ ap₂ (λ (xs zs : List Bool). xs ++ zs) (put-before out ys w (e - 8 * w) (omega arith)) (window-put out ys w e end room len ∙ shows))
-    ∙ append_assoc front first rest
-    ∙ ap (λ (xs : List Bool). front ++ xs) (joined-lists begun low word n (omega arith) many full above)
-    ∙ sym (append_assoc front (take low (word_bits begun)) (take n (word_bits word)))
+    grind (arith, front-more_word, put-before, window-put, append_assoc, joined-lists)
 
 pub put-full_clear : (at word n j : ℕ) → 64 ≤ at % 64 + n → n ≤ 64 → ((i : ℕ) → n ≤ i → bit_at word i ≡ 0) → (at + n) % 64 ≤ j → bit_at (left_over (at % 64) word) j ≡ 0
 put-full_clear at word n j full many clear from = grind (arith, left_over-bit)
@@ -144,13 +136,8 @@ chosen-word_more rows m i len =
     let pad : 64 - length (drop n rows) ≡ k = omega (arith, length-drop n rows, length-drop n m, len) in
     let next : n + 64 ≡ 64 * (i + 1) = omega arith in
     let part : chosen (padded_part rows i) (padded_part m i) ≡ chosen here choice
-    = ap₂ chosen (sym (padded rows i k pad)) (sym (padded m i k (omega arith)))
-    ∙ chosen_of_two_chunks here (repeated k false) choice (repeated k false) alike
-    ∙ ap (λ (xs : List Bool). chosen here choice ++ xs) (chosen-all_false (repeated k false) k)
-    ∙ append-nil (chosen here choice) in
-    ap (λ (xs : List Bool). chosen (take n rows) (take n m) ++ xs) part
-    ∙ sym (chosen_of_two_chunks (take n rows) here (take n m) choice same)
-    ∙ ap₂ chosen (sym (take-add n 64 rows)) (sym (take-add n 64 m)) ∙ ap (λ j. chosen (take j rows) (take j m)) next
+    = grind (arith, padded, chosen_of_two_chunks, chosen-all_false, append-nil) in
+    grind (arith, chosen_of_two_chunks, take-add)
 
 -- and how many these are
 pub counted-word_more : (m : List Bool) (i at mask : ℕ) → mask < 2 ^ 64 → at ≡ count (take (64 * i) m) → word_bits mask ≡ padded_part m i → at + count_ones mask ≡ count (take (64 * (i + 1)) m)

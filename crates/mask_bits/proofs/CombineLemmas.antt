@@ -1,13 +1,11 @@
 -- The bits that the loops over words write and compare.
-use Rattle.std.proofs.Common.{◌≡◌, Result, nat_eq, ℕ, ◌+◌, ◌*◌, ◌-◌, ◌/◌, ◌%◌, ◌<◌, ◌≤◌, ◌⊎◌, min, not, set, Bool, false, List, ◌++◌, length, get_or, take, drop, slice_range, refl, sym, ap, ◌∙◌, inl, inr, arith, ap₂}
+use Rattle.std.proofs.Common.{◌≡◌, Result, nat_eq, ℕ, ◌+◌, ◌*◌, ◌-◌, ◌/◌, ◌%◌, ◌<◌, ◌≤◌, ◌⊎◌, min, not, set, Bool, false, List, ◌++◌, length, get_or, take, drop, slice_range, refl, sym, ap, ◌∙◌, inl, inr, arith, ap₂, bit_xor, IfOk}
 use Rattle.std.specs.Int.{bit_at}
-use Rattle.std.specs.Int.RustNames.{bit_xor}
 use Rattle.std.proofs.lemmas.Bool.{cases_lt}
 use Rattle.std.proofs.lemmas.List.{ext_get_or, get_or-drop, get_or-set_other, length-take, get_or-take, take-append-le, take_all, length-append, get_or_append_left, get_or-append_right}
 use Rattle.std.proofs.lemmas.List.Edits.{length-between, get_or-between}
 use Rattle.std.proofs.lemmas.Grind.{get_or-set_at}
 use Rattle.std.proofs.lemmas.Nat.Bits.{bit_at-lt, bit_at_xor, bit_at_ones}
-use Rattle.std.specs.Result.{IfOk}
 use Rattle.std.proofs.lemmas.Result.{IfOk-weaker}
 use Rattle.mask_bits.specs.Buffer.{Packed, IsWithinBytes, backing_bit, values}
 use Rattle.mask_bits.specs.Combine.{AreCombined, IsCombinedBetween}
@@ -32,20 +30,7 @@ window-next_byte bytes low i byte v few first next =
     let w : List Bool = word_bits byte in
     let len : length v ≡ 64 = ap length first ∙ length-window bytes (64 * i) in
     let within : low + 64 ≤ length (v ++ w) = omega (arith, length-append v w, length-word_bits byte) in
-    sym (window_from_bits bytes (low + 64 * i) (slice_range (v ++ w) low (low + 64)) (length-between (v ++ w) low (low + 64) within ∙ omega arith)
-    (λ j h. get_or-between (v ++ w) low (low + 64) j false (omega arith)
-    ∙ elim (cases_lt (low + j) 64) [
-      | inl inside ↦
-          let place : 64 * i + (low + j) ≡ low + 64 * i + j = omega arith in
-          get_or_append_left v w false (low + j) (omega arith) ∙ ap (λ (m : List Bool). get_or m (low + j) false) first
-          ∙ get_or-window bytes (64 * i) (low + j) false inside ∙ ap (backing_bit bytes) place
-      | inr past ↦
-          let at : 8 * i + 8 ≡ (low + 64 * i + j) / 8 = omega arith in
-          let bit : low + j - 64 ≡ (low + 64 * i + j) % 8 = omega arith in
-          get_or-append_right v w 64 (low + j) false len past ∙ get_or-word_bits byte (low + j - 64) false (omega arith)
-          ∙ ap (λ x. nat_eq (bit_at x (low + j - 64)) 1) (next ∙ ap (λ k. get_or bytes k 0) at)
-          ∙ ap (λ k. nat_eq (bit_at (get_or bytes ((low + 64 * i + j) / 8) 0) k) 1) bit
-    ]))
+    grind (arith, window_from_bits bytes (low + 64 * i) (slice_range (v ++ w) low (low + 64)) (length-between (v ++ w) low (low + 64) within ∙ omega arith), length-between (v ++ w) low (low + 64) within, get_or-between, get_or_append_left, get_or-window, get_or-append_right, get_or-word_bits)
 
 -- ---- words combined
 
@@ -65,10 +50,7 @@ pub AreCombined-step : (f : Bool → Bool → Bool) (a b out new : List ℕ) (p 
     → v ≡ window a (p + 64 * i) → w ≡ window b (q + 64 * i) → r ≡ combined f v w → window new (64 * i) ≡ r
     → ((k : ℕ) → ((k < 64 * i) ⊎ (64 * i + 64 ≤ k)) → backing_bit new k ≡ backing_bit out k)
     → AreCombined f a p b q new (64 * (i + 1))
-AreCombined-step f a b out new p q i v w r before is_v is_w is_r wrote others = λ k h. elim (cases_lt k (64 * i)) [
-  | inl earlier ↦ others k (inl earlier) ∙ before k earlier
-  | inr here ↦ grind (arith, wrote, get_or-window new (64 * i) (k - 64 * i) false, combined_bit f a b (p + 64 * i) (q + 64 * i) (k - 64 * i) v w r is_v is_w is_r)
-]
+AreCombined-step f a b out new p q i v w r before is_v is_w is_r wrote others = λ k h. grind (arith, get_or-window new (64 * i) (k - 64 * i) false, combined_bit f a b (p + 64 * i) (q + 64 * i) (k - 64 * i) v w r is_v is_w is_r)
 
 -- ---- words combined in place
 
@@ -87,10 +69,7 @@ pub between-word : (f : Bool → Bool → Bool) (a b new : List ℕ) (q i : ℕ)
     → IsCombinedBetween f a b new q (64 * i) (64 * (i + 1))
 between-word f a b new q i v w r is_v is_w is_r wrote others = record {
   inside = λ p from to. grind (arith, wrote, get_or-window new (64 * i) (p - 64 * i) false, combined_bit f a b (64 * i) (q + 64 * i) (p - 64 * i) v w r is_v is_w is_r);
-  outside = λ p apart. elim apart [
-    | inl before ↦ others p (inl before)
-    | inr past ↦ others p (inr (omega arith))
-  ];
+  outside = grind arith;
 }
 
 -- as much of one as the bytes have
@@ -104,19 +83,8 @@ between-last f a b last ys q i e v w r begins is_e len is_ys is_v is_w is_r wrot
     let count : length ys ≡ e - 8 * i = ap length is_ys ∙ length-take (e - 8 * i) last ∙ omega arith in
     record {
       inside = λ p from to.
-          let j : ℕ = p - 64 * i in
-          let at : p / 8 ≡ 8 * i + j / 8 = omega arith in
-          let bit : p % 8 ≡ j % 8 = omega arith in
-          let few : j / 8 < e - 8 * i = omega arith in
-          let byte : get_or new (p / 8) 0 ≡ get_or last (j / 8) 0 = ap (λ k. get_or new k 0) at
-          ∙ get_or-put_mid_inside (8 * i) e a ys (j / 8) begins count few
-          ∙ ap (λ (xs : List ℕ). get_or xs (j / 8) 0) is_ys ∙ get_or-take (e - 8 * i) last (j / 8) 0 few in
-          let shown : backing_bit new p ≡ get_or (window last 0) j false = grind (arith, byte, bit, get_or-window last 0 j false) in
-          grind (arith, shown, wrote, combined_bit f a b (64 * i) (q + 64 * i) j v w r is_v is_w is_r);
-      outside = λ p apart. ap (λ x. nat_eq (bit_at x (p % 8)) 1) (elim apart [
-        | inl before ↦ get_or-put_mid_below (8 * i) (e - 8 * i) a ys (p / 8) begins (omega arith)
-        | inr past ↦ get_or-put_mid_above (8 * i) (e - 8 * i) a ys (p / 8) begins count (omega arith)
-      ]);
+          grind (arith, get_or-put_mid_inside, get_or-take, get_or-window last 0 (p - 64 * i) false, combined_bit f a b (64 * i) (q + 64 * i) (p - 64 * i) v w r is_v is_w is_r);
+      outside = grind (arith, get_or-put_mid_below, get_or-put_mid_above);
     }
 
 -- the bits of a byte negated
@@ -125,10 +93,7 @@ between-byte a b q i h =
     let x = get_or a i 0 in
     record {
       inside = λ p from to.
-          let at : p / 8 ≡ i = omega arith in
-          let few : p % 8 < 8 = omega arith in
-          let turned : bit_at (bit_xor x 255) (p % 8) ≡ 1 - bit_at x (p % 8) = omega (arith, bit_at_xor x 255 (p % 8), bit_at_ones 8 (p % 8) few, bit_at-lt x (p % 8)) in
-          grind (arith, at, get_or-set_at a i (p / 8), turned, nat_tests);
+          grind (arith, bit_at_xor x 255 (p % 8), bit_at_ones 8 (p % 8) (omega arith), bit_at-lt x (p % 8), get_or-set_at a i (p / 8));
       outside = λ p apart. grind (arith, get_or-set_other a i (p / 8));
     }
 
@@ -146,10 +111,7 @@ values-combined f a b out from_a from_b low_a low_b p q len n is_a is_low_a is_b
     let va : Packed = record { bytes = a; offset = p; len = len } in
     let vb : Packed = record { bytes = b; offset = q; len = len } in
     let one_len : length (values va) ≡ length (values vb) = length-values va ∙ sym (length-values vb) in
-    values_from_front out (combined f (values va) (values vb)) len (length-combined f (values va) (values vb) one_len ∙ length-values va) (λ i h.
-    let bit_a = ap₂ (λ (xs : List ℕ) low. backing_bit xs (low + i)) is_a is_low_a ∙ backing_bit-drop a p i ∙ sym (get_or-values va i false h) in
-    let bit_b = ap₂ (λ (xs : List ℕ) low. backing_bit xs (low + i)) is_b is_low_b ∙ backing_bit-drop b q i ∙ sym (get_or-values vb i false h) in
-    wrote i (omega arith) ∙ ap₂ f bit_a bit_b ∙ sym (get_or-combined f (values va) (values vb) i false (omega (arith, length-values va)) one_len))
+    values_from_front out (combined f (values va) (values vb)) len (length-combined f (values va) (values vb) one_len ∙ length-values va) (grind (arith, backing_bit-drop, get_or-values, get_or-combined, length-values))
 
 -- the same where the bits of the first were in the same bytes
 pub values-in_place : (f : Bool → Bool → Bool) (a b out from_b : List ℕ) (low q len n : ℕ) → from_b ≡ drop (q / 8) b → low ≡ q % 8

@@ -1,11 +1,9 @@
 -- Which values an operation makes true of two lists, by words.
-use Rattle.std.proofs.Common.{◌≡◌, ◌↔◌, nat_eq, ℕ, ◌+◌, ◌*◌, ◌-◌, ◌/◌, ◌%◌, ◌^◌, ◌<◌, ◌≤◌, ◌&&◌, ◌||◌, not, Bool, false, List, ◌++◌, length, get_or, take, drop, refl, sym, ap, ap₂, subst, ◌∙◌, inl, inr, arith, mod-eq_of_lt, count_ones}
+use Rattle.std.proofs.Common.{◌≡◌, ◌↔◌, nat_eq, ℕ, ◌+◌, ◌*◌, ◌-◌, ◌/◌, ◌%◌, ◌^◌, ◌<◌, ◌≤◌, ◌&&◌, ◌||◌, not, Bool, false, List, ◌++◌, length, get_or, take, drop, refl, sym, ap, ap₂, subst, ◌∙◌, inl, inr, arith, mod-eq_of_lt, count_ones, bit_and, bit_or, bit_xor, ext_get_or}
 use Rattle.std.proofs.Math.Pow.{pow-lt}
 use Rattle.std.specs.Int.{bit_at}
-use Rattle.std.specs.Int.Bits.{bit_and, bit_or, bit_xor}
 use Rattle.std.proofs.lemmas.Bool.{cases_lt}
 use Rattle.std.proofs.lemmas.Bool.Decides.{nat_tests}
-use Rattle.std.proofs.lemmas.List.{ext_get_or}
 use Rattle.std.proofs.lemmas.Nat.{and_le_l}
 use Rattle.std.proofs.lemmas.Nat.Bits.{same_from_bits, same_from_bits_below, bit_at-lt, bit_at-zero, bit_at_or, bit_at_xor}
 use Rattle.mask_bits.specs.Bitmap.{bitmap}
@@ -59,10 +57,7 @@ pub none-word : (f : Bool → Bool → Bool) (a b : List ℕ) (p q v w r : ℕ) 
     → (r ≡ 0) ↔ IsNoneTrue f a p b q 64
 none-word f a b p q v w r fits is_v is_w is_r =
     let bit : (j : ℕ) → j < 64 → get_or (word_bits r) j false ≡ f (backing_bit a (p + j)) (backing_bit b (q + j))
-    = λ j h. combined_bit f a b p q j (word_bits v) (word_bits w) (word_bits r) is_v is_w is_r h in (
-      λ none j h. sym (bit j h) ∙ (none_set r fits).0 none j h,
-      λ all. (none_set r fits).1 (λ j h. bit j h ∙ all j h),
-    )
+    = λ j h. combined_bit f a b p q j (word_bits v) (word_bits w) (word_bits r) is_v is_w is_r h in grind (arith, none_set r fits)
 
 -- some bits, and those past them
 pub none-join : (f : Bool → Bool → Bool) (a b : List ℕ) (p q m n : ℕ) → IsNoneTrue f a p b q (m + n) ↔ (IsNoneTrue f a p b q m × IsNoneTrue f a (p + m) b (q + m) n)
@@ -84,10 +79,7 @@ none-low f a b p q v w r mask n few fits is_v is_w is_r is =
     let bit : (j : ℕ) → j < n → nat_eq (bit_at cut j) 1 ≡ f (backing_bit a (p + j)) (backing_bit b (q + j))
     = λ j h. ap (λ x. nat_eq x 1) (bit_at-low_mask r n j h) ∙ sym (get_or-word_bits r j false (omega arith)) ∙ combined_bit f a b p q j (word_bits v) (word_bits w) (word_bits r) is_v is_w is_r (omega arith) in (
       λ none j h. sym (bit j h) ∙ ap (λ x. nat_eq (bit_at x j) 1) (sym same ∙ none) ∙ ap (λ x. nat_eq x 1) (bit_at-zero j),
-      λ all. same ∙ same_from_bits_below 64 cut 0 (omega (arith, and_le_l r (2 ^ n - 1))) (omega arith) (λ j h. elim (cases_lt j n) [
-        | inl low ↦ bit_of_false (bit_at cut j) (bit_at-lt cut j) (bit j low ∙ all j low) ∙ sym (bit_at-zero j)
-        | inr past ↦ bit_at-past_mask r n j past ∙ sym (bit_at-zero j)
-      ]),
+      λ all. same ∙ same_from_bits_below 64 cut 0 (omega (arith, and_le_l r (2 ^ n - 1))) (omega arith) (grind (arith, bit_of_false, bit_at-lt, bit_at-zero, bit_at-past_mask)),
     )
 
 -- the mask of the first bits
@@ -126,8 +118,7 @@ pub same_from_none_unlike : (a b : List Bool) (n : ℕ) → length a ≡ n → l
 same_from_none_unlike a b n len len_b = (
   λ none. ext_get_or false a b (len ∙ sym len_b) (λ i h.
       grind (arith, get_or-combined (λ x y. x && not y || not x && y) a b i false, ap (λ (m : List Bool). get_or m i false) none, get_or-repeated n i false false)),
-  λ same. ext_get_or false (xor_of a b) (repeated n false) (length-combined (λ x y. x && not y || not x && y) a b (len ∙ sym len_b) ∙ len ∙ sym (length-repeated n false)) (λ i h.
-      grind (arith, length-combined (λ x y. x && not y || not x && y) a b, get_or-combined (λ x y. x && not y || not x && y) a b i false, get_or-repeated n i false false)),
+  λ same. ext_get_or false (xor_of a b) (repeated n false) (length-combined (λ x y. x && not y || not x && y) a b (len ∙ sym len_b) ∙ len ∙ sym (length-repeated n false)) (grind (arith, length-combined, get_or-combined, get_or-repeated)),
 )
 
 -- ---- counts

@@ -26,8 +26,5 @@ first_index b from index run k value same low is within so_far more holds either
       not_before = omega arith;
       within = omega (arith, len);
       passed = passed_more b from index k (not value) same (omega arith) so_far (λ j h. more j (omega arith));
-      holds = λ inside.
-          let all : k ≡ run = omega (arith, len) in
-          let few : run < 64 = elim either [ inl h ↦ h | inr h ↦ absurd (omega (arith, len)) ] in
-          at_index b index run (index + k) same (omega arith) (omega (arith, len)) ∙ holds few;
+      holds = grind (arith, at_index);
     }

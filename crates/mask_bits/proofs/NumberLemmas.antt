@@ -1,10 +1,7 @@
 -- Bytes as one number, the first byte lowest, and its bits.
-use Rattle.std.proofs.Common.{◌≡◌, ℕ, zero, suc, ◌+◌, ◌*◌, ◌-◌, ◌/◌, ◌%◌, ◌^◌, ◌<◌, ◌≤◌, List, [], ◌∷◌, ◌++◌, length, get_or, take, drop, replicate, refl, sym, ap, subst, ◌∙◌, arith, lit<}
-use Rattle.std.proofs.Math.Nat.{pow-suc, mul_assoc, mul-div_cancel}
+use Rattle.std.proofs.Common.{◌≡◌, ℕ, zero, suc, ◌+◌, ◌*◌, ◌-◌, ◌/◌, ◌%◌, ◌^◌, ◌<◌, ◌≤◌, List, [], ◌∷◌, ◌++◌, length, get_or, take, drop, replicate, refl, sym, ap, subst, ◌∙◌, arith, lit<, pow-suc, mul_assoc, mul-div_cancel, bit_and, shr-shr, pow_pos}
 use Rattle.std.specs.Int.{bit_at, w64, w128, from_le_bytes, to_le_bytes, bytes_low_first, byte_at, sum_through, byte_worth}
-use Rattle.std.specs.Int.RustNames.{bit_and}
 use Rattle.std.proofs.lemmas.List.{get_or-drop, get_or-take, get_or_past, length-append, length-drop, length-take, take_all, take_rest, drop-replicate, drop-drop}
-use Rattle.std.proofs.lemmas.Nat.{shr-shr, pow_pos}
 use Rattle.std.proofs.lemmas.Nat.Bits.{bit_at-zero, bit_at_cat_low, bit_at_cat_high}
 use Rattle.mask_bits.specs.Number.{number}
 use Rattle.mask_bits.proofs.Lists.Words.ShiftLemmas.{bit_at-shr, bit_at-low_mask}
@@ -62,8 +59,7 @@ bit_at-window bytes p j are below =
     let bit : q % 8 ≡ (p + j) % 8 = omega arith in
     let read : get_or part (q / 8) 0 ≡ get_or bytes ((p + j) / 8) 0
     = get_or-take 16 (drop (p / 8) bytes) (q / 8) 0 (omega arith) ∙ get_or-drop (p / 8) bytes (q / 8) 0 ∙ ap (λ k. get_or bytes k 0) byte in
-    bit_at-low_mask (number part / 2 ^ (p % 8)) 64 j below ∙ bit_at-shr (number part) (p % 8) j ∙ bit_at-number part q are_part
-    ∙ ap (λ b. bit_at b (q % 8)) read ∙ ap (bit_at (get_or bytes ((p + j) / 8) 0)) bit
+    grind (arith, bit_at-low_mask (number part / 2 ^ (p % 8)) 64 j below, bit_at-shr (number part) (p % 8) j, bit_at-number part q are_part)
 
 -- ---- sixteen bytes read as a number
 
@@ -123,8 +119,7 @@ number-padded_chunk bytes part k is short =
     let few : length (drop k bytes) ≤ 16 = omega (arith, length-drop k bytes) in
     let none : number zeros ≡ 0 = ap number (drop-replicate (length rest) 16 0) ∙ number_of_zeros (16 - length rest) in
     let len : length (part ++ zeros) ≤ 16 = omega (arith, length-append part zeros, ap length is, length-drop {A = ℕ} (length rest) (replicate 16 0), ap length whole) in
-    number_of_sixteen (part ++ zeros) ∙ ap number (take_all 16 (part ++ zeros) len)
-    ∙ number-append_zeros part zeros none ∙ ap number (is ∙ whole ∙ sym (take_all 16 (drop k bytes) few))
+    grind (arith, number_of_sixteen (part ++ zeros), take_all 16 (part ++ zeros) len, take_all 16 (drop k bytes) few, number-append_zeros part zeros none)
 
 -- ---- eight bytes read as a number
 

@@ -1,8 +1,6 @@
 -- Runs of a list, word by word, by where they begin and end.
-use Rattle.std.proofs.Common.{◌≡◌, ◌≢◌, ℕ, zero, suc, ◌+◌, ◌*◌, ◌-◌, ◌/◌, ◌%◌, ◌^◌, ◌<◌, ◌≤◌, ◌&&◌, ◌||◌, not, Bool, true, false, nat_eq, List, [], ◌∷◌, ◌++◌, length, get_or, take, drop, count_ones, refl, sym, ap, ap₂, ◌∙◌, inl, inr, arith, mod-eq_of_lt, add-zero, append-nil, append_assoc}
+use Rattle.std.proofs.Common.{◌≡◌, ◌≢◌, ℕ, zero, suc, ◌+◌, ◌*◌, ◌-◌, ◌/◌, ◌%◌, ◌^◌, ◌<◌, ◌≤◌, ◌&&◌, ◌||◌, not, Bool, true, false, nat_eq, List, [], ◌∷◌, ◌++◌, length, get_or, take, drop, count_ones, refl, sym, ap, ap₂, ◌∙◌, inl, inr, arith, mod-eq_of_lt, add-zero, append-nil, append_assoc, bit_and, bit_or, zip}
 use Rattle.std.specs.Int.{bit_at, bit_not, w64, leading_ones}
-use Rattle.std.specs.Int.RustNames.{bit_and, bit_or}
-use Rattle.std.specs.List.{zip}
 use Rattle.std.specs.Int.Count.{leading_of_zero}
 use Rattle.std.proofs.lemmas.Bool.{cases_lt, cases_eq, true≢false}
 use Rattle.std.proofs.lemmas.Nat.Bits.{bit_at_not, bit_at-lt, bit_at_ones, bit_at_above, bit_at-zero}
@@ -220,12 +218,7 @@ open-word inside start base w b room fits full differs last = elim (cases_eq w (
       = λ i h l. (let few : i < 64 = omega (arith, length-word_bits w) in
       let one : bit_at w i ≡ 1 = omega (arith, top.2 i h, bit_at_not w64 w i fits few, bit_at-lt w i) in
       get_or-word_bits w i false few ∙ ap (λ n. nat_eq n 1) one) in
-      let some_ones : 0 < k = elim (cases_lt 0 k) [
-        | inl some_set ↦ some_set
-        | inr none ↦
-            let at_end : j ≡ 63 = omega arith in
-            absurd (true≢false (sym last ∙ sym (last-of_word inside w fits) ∙ last-is inside (word_bits w) 63 (length-word_bits w) ∙ ap (λ i. get_or (word_bits w) i false) (sym at_end) ∙ ends))
-      ] in
+      let some_ones : 0 < k = grind (arith, true≢false, last-of_word, last-is, length-word_bits) in
       open-past inside start base (word_bits w) j (omega (arith, length-word_bits w, some_ones)) ends set
       ∙ sym (mod-eq_of_lt (omega (arith, some_ones))) ∙ ap (λ n. n % 2 ^ 64) (omega (arith, some_ones, top.0))
 ]
@@ -282,8 +275,7 @@ pub word_bits-before : (inside : Bool) (w : ℕ) → word_bits (bit_or (w * 2 ^ 
 word_bits-before inside w =
     let b : ℕ = bit_or (w * 2 ^ 1 % 2 ^ 64) (bool_byte inside) in
     ext_get_or false (word_bits b) (take 64 (inside ∷ word_bits w)) (omega (arith, length-word_bits b, length-take 64 (inside ∷ word_bits w), length-word_bits w)) (λ j h.
-    let few : j < 64 = omega (arith, length-word_bits b) in
-    before-bit inside w j few ∙ sym (get_or-take 64 (inside ∷ word_bits w) j false few))
+    grind (arith, length-word_bits b, before-bit inside w j (omega (arith, length-word_bits b)), get_or-take 64 (inside ∷ word_bits w) j false (omega (arith, length-word_bits b))))
 
 pub before-full : (inside : Bool) (w : ℕ) → w ≡ 2 ^ 64 - 1 → inside ≡ true → bit_or (w * 2 ^ 1 % 2 ^ 64) (bool_byte inside) ≡ w
 before-full inside w full is = ap₂ (λ v b. bit_or (v * 2 ^ 1 % 2 ^ 64) (bool_byte b)) full is ∙ sym full
@@ -305,12 +297,7 @@ last_bit w fits = sym (last-of_word false w fits) ∙ last-is false (word_bits w
 -- a whole word
 pub behind-whole : (m : List Bool) (i : ℕ) → word_part m i ++ drop (64 * (i + 1)) m ≡ drop (64 * i) m
 behind-whole m i =
-    let next : 64 * (i + 1) ≡ 64 * i + 64 = omega arith in
-    let few : 64 * i + 64 - 64 * i ≡ 64 = omega arith in
-    let rest : List Bool = drop (64 * i) m in
-    ap (λ n. word_part m i ++ drop n m) next
-    ∙ ap (λ k. take k rest ++ drop (64 * i + 64) m) few
-    ∙ ap (λ (xs : List Bool). take 64 rest ++ xs) (sym (drop-drop 64 (64 * i) m)) ∙ take-append-drop 64 rest
+    grind (arith, drop-drop 64 (64 * i) m, take-append-drop 64 (drop (64 * i) m))
 
 -- false values at the end begin and lengthen no run
 behind-padded : (inside : Bool) (start n : ℕ) (m : List Bool) (k : ℕ) → runs_behind inside start n (m ++ repeated (suc k) false) ≡ runs_behind inside start n m

@@ -1,6 +1,5 @@
 -- The words that a buffer's bytes show.
-use Rattle.std.proofs.Common.{◌≡◌, ℕ, ◌+◌, ◌*◌, ◌-◌, ◌/◌, ◌%◌, ◌^◌, ◌<◌, false, nat_eq, List, take, drop, sym, ap, ◌∙◌, arith}
-use Rattle.std.specs.Int.RustNames.{bit_and}
+use Rattle.std.proofs.Common.{◌≡◌, ℕ, ◌+◌, ◌*◌, ◌-◌, ◌/◌, ◌%◌, ◌^◌, ◌<◌, false, nat_eq, List, take, drop, sym, ap, ◌∙◌, arith, bit_and}
 use Rattle.mask_bits.specs.Buffer.{Packed, values}
 use Rattle.mask_bits.specs.Words.{word_bits, window, word_part, padded_remainder, padded_part}
 use Rattle.mask_bits.specs.Number.{number}
@@ -24,8 +23,6 @@ word_bits-remainder b w shows =
     let i : ℕ = b.len / 64 in
     let from : b.len - b.len % 64 ≡ 64 * i = omega arith in
     let few : b.len - 64 * i ≡ b.len % 64 = omega arith in
-    ap (λ n. word_bits (bit_and w (2 ^ n - 1))) (sym few)
-    ∙ padded_part-low b i w (omega arith) (shows ∙ ap (λ n. window b.bytes (b.offset + n)) from)
-    ∙ ap (λ n. padded_part (values b) (n / 64)) (sym (length-values b)) ∙ sym (padded_part-remainder (values b))
+    grind (arith, padded_part-low, length-values, padded_part-remainder)
 
 pub ruleset window_words = (word_bits-window)

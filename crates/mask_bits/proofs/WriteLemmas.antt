@@ -1,7 +1,6 @@
 -- Bits written behind the first bits of some bytes.
-use Rattle.std.proofs.Common.{◌≡◌, ℕ, ◌+◌, ◌*◌, ◌-◌, ◌/◌, ◌%◌, ◌^◌, ◌<◌, ◌≤◌, Bool, true, false, ◌||◌, nat_eq, List, ◌++◌, length, get_or, take, drop, replicate, ap, ◌∙◌, inl, inr, ◌⊎◌, arith}
+use Rattle.std.proofs.Common.{◌≡◌, ℕ, ◌+◌, ◌*◌, ◌-◌, ◌/◌, ◌%◌, ◌^◌, ◌<◌, ◌≤◌, Bool, true, false, ◌||◌, nat_eq, List, ◌++◌, length, get_or, take, drop, replicate, ap, ◌∙◌, inl, inr, ◌⊎◌, arith, bit_or}
 use Rattle.std.specs.Int.{bit_at}
-use Rattle.std.specs.Int.RustNames.{bit_or}
 use Rattle.std.proofs.Math.Bool.{or-false}
 use Rattle.std.proofs.lemmas.Bool.{cases_lt}
 use Rattle.std.proofs.lemmas.List.{length-append, length-take, length-replicate, get_or-replicate, get_or_append_left, get_or-append_right, get_or_past, get_or-take, ext_get_or, replicate-append-replicate}
@@ -35,8 +34,7 @@ pub written-front : (a b : List ℕ) (at n : ℕ) (m : List Bool) → n ≡ at +
 written-front a b at n m place w =
     let front : List Bool = values (record { bytes = a; offset = 0; len = at }) in
     let len : length front ≡ at = length-values (record { bytes = a; offset = 0; len = at }) in
-    values_from_front b (front ++ m) n (omega (arith, length-append front m)) (λ p h.
-    grind (arith, w.stays p, w.comes (p - at), get_or_append_left front m false p, get_or-front a at p false, get_or-append_right front m at p false len))
+    grind (arith, values_from_front, length-append front m, get_or_append_left, get_or-front, get_or-append_right)
 
 -- past what was written all is clear
 pub written-clear : (a b : List ℕ) (at n : ℕ) (m : List Bool) → n ≡ at + length m → IsWrittenBehind a b at m → AreClearFrom n b
@@ -66,10 +64,7 @@ written-first_word old new at w word clear was here others =
         | inl before ↦ others p (inl before)
         | inr past ↦ grind (arith, begins (p - 64 * i), get_or-word_bits_shl_low word low (p - 64 * i), or-false)
       ];
-      comes = λ k. elim (cases_lt k (64 - low)) [
-        | inl inside ↦ grind (arith, begins (low + k), clear (64 * i + (low + k)), get_or-word_bits_shl_high word low (low + k), get_or-take (64 - low) (word_bits word) k false inside)
-        | inr past ↦ others (at + k) (inr (omega arith)) ∙ grind (arith, clear (at + k), get_or_past (take (64 - low) (word_bits word)) k false, length-take (64 - low) (word_bits word))
-      ];
+      comes = λ k. grind (arith, get_or-word_bits_shl_high word low (low + k), get_or-take, get_or_past (take (64 - low) (word_bits word)) k false, length-take (64 - low) (word_bits word));
     }
 
 -- a whole word is written where all is clear
@@ -105,8 +100,7 @@ written-two old mid new at count word m over few fits padded first here others =
     let begun_len : length begun ≡ cut = omega (arith, length-take cut (word_bits word), length-word_bits word) in
     let place : 64 * next ≡ at + length begun = omega arith in
     let second = written-word mid new next rest (length-word_bits (word / 2 ^ cut)) (written-clear old mid at (64 * next) begun place first) here others in
-    written-same old new at (begun ++ rest) m (λ i.
-    grind (arith, get_or_append_left begun rest false i, get_or-take cut (word_bits word) i false, get_or-padded, get_or-append_right begun rest cut i false begun_len, get_or-word_bits_shr, get_or_past, length-word_bits))
+    written-same old new at (begun ++ rest) m (grind (arith, get_or_append_left, get_or-take, get_or-padded, get_or-append_right, get_or-word_bits_shr, get_or_past, length-word_bits))
     (written-join old mid new at (64 * next) begun rest place first second)
 
 -- ---- one value, many times
@@ -117,8 +111,7 @@ unfolding repeated
 take-ones n few =
     let ones : List Bool = word_bits 18446744073709551615 in
     ext_get_or false (take n ones) (replicate n true) (omega (arith, length-replicate n true, length-take n ones, length-word_bits 18446744073709551615)) (λ i h.
-    let low : i < n = omega (arith, length-take n ones) in
-    grind (arith, get_or-replicate n i true false low, get_or-take n ones i false low, get_or-word_bits 18446744073709551615 i false, bit_at_ones 64 i))
+    grind (arith, length-take n ones, get_or-replicate n i true false (omega (arith, length-take n ones)), get_or-take n ones i false (omega (arith, length-take n ones)), get_or-word_bits 18446744073709551615 i false, bit_at_ones 64 i))
 
 -- a word of ones writes ones
 pub written-ones : (a b : List ℕ) (at n : ℕ) → n ≤ 64 → IsWrittenBehind a b at (take n (word_bits 18446744073709551615)) → IsWrittenBehind a b at (repeated n true)
@@ -147,11 +140,7 @@ written-full old ys i k e is_end within clear ones =
     record {
       stays = λ p h. ap (λ b. nat_eq (bit_at b (p % 8)) 1) (get_or-put_mid_below (8 * i) (e - 8 * i) old ys (p / 8) (omega arith) (omega arith));
       comes = λ j.
-          let byte : (64 * i + j) / 8 ≡ 8 * i + j / 8 = omega arith in
-          elim (cases_lt j (64 * k)) [
-            | inl inside ↦ grind (arith, get_or-put_mid_inside (8 * i) e old ys (j / 8), get_or-replicate {A = ℕ} (8 * k) (j / 8) 255 0, bit_at_ones 8 ((64 * i + j) % 8), get_or-replicate (64 * k) j true false inside)
-            | inr past ↦ grind (arith, get_or-put_mid_above (8 * i) (e - 8 * i) old ys ((64 * i + j) / 8), clear (64 * i + j), get_or_past (replicate (64 * k) true) j false, length-replicate (64 * k) true)
-          ];
+          grind (arith, get_or-put_mid_inside (8 * i) e old ys (j / 8), get_or-replicate {A = ℕ} (8 * k) (j / 8) 255 0, get_or-replicate, bit_at_ones 8 ((64 * i + j) % 8), get_or-put_mid_above (8 * i) (e - 8 * i) old ys ((64 * i + j) / 8), get_or_past (replicate (64 * k) true) j false, length-replicate (64 * k) true);
     }
 
 -- ---- the bits of other bytes

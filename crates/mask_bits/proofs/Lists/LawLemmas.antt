@@ -113,8 +113,6 @@ all_true_right_unit a = rank_intersection-by_all_true a (count a) refl
 pub rank_intersection_position : RankIntersectionPosition
 rank_intersection_position a b n fits below = grind (arith, positions-rank_intersection, get_or-map)
 
--- ---- what a list that is a rank intersection has
-
 -- ---- stacks
 
 pub folding_keeps_a_stack : FoldingKeepsAStack

@@ -53,8 +53,7 @@ neighbors_above : (first a b : List Bool) (below above : List (List Bool)) → I
     → IsStack (first ∷ below ++ rank_intersection a b ∷ above) × (folded_left (first ∷ below ++ rank_intersection a b ∷ above) ≡ folded_left (first ∷ below ++ a ∷ b ∷ above))
 neighbors_above first a b [] above stack = grind (arith, keeps_a_stack_above first a b above stack, rank_intersection_associative)
 neighbors_above first a b (m ∷ below) above stack =
-    let folded = folding_keeps_a_stack first m (below ++ a ∷ b ∷ above) stack in
-    ((stack.0, (neighbors_above m a b below above stack.1).0), (neighbors_above (rank_intersection first m) a b below above folded).1)
+    grind (arith, folding_keeps_a_stack first m (below ++ a ∷ b ∷ above) stack, neighbors_above m a b below above stack.1, neighbors_above (rank_intersection first m) a b below above (folding_keeps_a_stack first m (below ++ a ∷ b ∷ above) stack))
 
 pub neighbors_make_one : NeighborsMakeOne
 neighbors_make_one [] above a b stack = (folding_keeps_a_stack a b above stack, refl)

@@ -65,8 +65,7 @@ true_from a (suc n) high (p ∷ ps) e r =
           let rest = true_from (a + 1) n high ps (omega arith) (subst (λ (k : ℕ). Rising (k + 1) high ps) (sym here) r.2) in
           grind (arith, here, found, same, rest)
       | inr apart ↦
-          let later : Rising (a + 1) high (p ∷ ps) = (omega (arith, r.0), r.1, r.2) in
-          grind (arith, none_below a (a + 1) high (p ∷ ps) later, true_from (a + 1) n high (p ∷ ps) (omega arith) later)
+          grind (arith, none_below a (a + 1) high (p ∷ ps) ((omega (arith, r.0), r.1, r.2)), true_from (a + 1) n high (p ∷ ps) (omega arith) ((omega (arith, r.0), r.1, r.2)))
     ]
 
 -- the true places of the list that is true at ascending places within it are these

@@ -1,19 +1,13 @@
 -- The places of true values, over lists.
-use Rattle.std.proofs.Common.{◌≡◌, ℕ, zero, suc, ◌+◌, ◌<◌, ◌≤◌, Bool, true, false, List, [], ◌∷◌, length, get_or, take, map, slice_get, refl, ap, arith, nat_eq, ◌||◌, ◌-◌}
-use Rattle.std.specs.List.{All}
+use Rattle.std.proofs.Common.{◌≡◌, ℕ, zero, suc, ◌+◌, ◌<◌, ◌≤◌, Bool, true, false, List, [], ◌∷◌, length, get_or, take, map, slice_get, refl, ap, arith, nat_eq, ◌||◌, ◌-◌, All, IfSome}
 use Rattle.std.proofs.lemmas.List.Elements.{All-nil, All-head, All-tail}
 use Rattle.std.proofs.lemmas.List.{get_or-take, get_or_past, length-take, get_or-map, length-map}
 use Rattle.mask_bits.specs.Positions.{indices_from, positions, count}
-use Rattle.std.specs.Option.{IfSome}
 
 -- no list has more true values than values
 pub length-indices_from : (n : ℕ) (m : List Bool) → length (indices_from n m) ≤ length m
 length-indices_from n [] = omega arith
 length-indices_from n (v ∷ m) = grind (arith, length-indices_from (n + 1) m)
-
--- a list cut at n reads false from n on
-get_or-take_past : (m : List Bool) (n p : ℕ) → n ≤ p → get_or (take n m) p false ≡ false
-get_or-take_past m n p h = get_or_past (take n m) p false (omega (arith, length-take n m))
 
 -- ---- the recursion on a list's first value
 

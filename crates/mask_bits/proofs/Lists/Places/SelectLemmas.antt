@@ -1,11 +1,9 @@
 -- Where true value number n of a list stands, found by the counts of its started words; and its last true value.
-use Rattle.std.proofs.Common.{◌≡◌, ℕ, suc, ◌+◌, ◌*◌, ◌-◌, ◌^◌, ◌<◌, ◌≤◌, Bool, true, false, List, [], ◌∷◌, ◌++◌, length, get_or, take, drop, map, Some, None, slice_get, slice_range, refl, sym, ap, ◌∙◌, arith, append-nil, append_assoc, add-zero, pow-suc, drop-drop, option_map}
+use Rattle.std.proofs.Common.{◌≡◌, ℕ, suc, ◌+◌, ◌*◌, ◌-◌, ◌^◌, ◌<◌, ◌≤◌, Bool, true, false, List, [], ◌∷◌, ◌++◌, length, get_or, take, drop, map, Some, None, slice_get, slice_range, refl, sym, ap, ◌∙◌, arith, append-nil, append_assoc, add-zero, pow-suc, drop-drop, option_map, bit_and, take-add}
 use Rattle.std.specs.Int.{bit_at, w64, leading_zeros}
-use Rattle.std.specs.Int.RustNames.{bit_and}
 use Rattle.std.proofs.lemmas.List.{take-append-drop, drop-drop, drop_more, take_all, length-append, length-map, length-drop, length-take, get_or-drop, get_or-take, get_or_past}
 use Rattle.std.proofs.lemmas.Bool.{cases_lt}
 use Rattle.std.proofs.lemmas.Nat.{leading_top, ones-le}
-use lib.Seq.{take-add}
 use Rattle.std.proofs.lemmas.Nat.Bits.{bit_at_above, bit_at_cat_high, bit_at_lowest, bit_at-zero}
 use Rattle.std.proofs.lemmas.Option.{slice_get-get_or, slice_get_past, slice_get-map}
 use Rattle.mask_bits.specs.Positions.{indices_from, positions, count, repeated}
@@ -68,14 +66,11 @@ place_in_word m i n r p within number inside at =
     let after : List ℕ = indices_from (64 * i + length (take 64 rest)) (drop 64 rest) in
     let len : 0 + length front ≡ 64 * i = omega (arith, length-take (64 * i) m) in
     let split : positions m ≡ positions front ++ (here ++ after)
-    = sym (ap positions (take-append-drop (64 * i) m)) ∙ indices_from-append 0 front rest ∙ ap (λ k. positions front ++ indices_from k rest) len
-    ∙ ap (λ (xs : List Bool). positions front ++ indices_from (64 * i) xs) (sym (take-append-drop 64 rest)) ∙ ap (λ (ps : List ℕ). positions front ++ ps) (indices_from-append (64 * i) (take 64 rest) (drop 64 rest)) in
+    = grind (arith, take-append-drop (64 * i) m, take-append-drop 64 rest, indices_from-append 0 front rest, indices_from-append) in
     let padded : here ≡ map (λ k. 64 * i + k) (positions (padded_part m i))
-    = sym (indices-part m (64 * i) i)
-    ∙ ap (λ k. indices_from k (padded_part m i)) (sym (add-zero (64 * i))) ∙ indices_from-moved (64 * i) 0 (padded_part m i) in
+    = grind (arith, indices-part m (64 * i) i, add-zero (64 * i), indices_from-moved (64 * i) 0 (padded_part m i)) in
     let many : r < length here = omega (arith, ap length padded, length-map (positions (padded_part m i)) (λ k. 64 * i + k)) in
-    ap (λ (ps : List ℕ). slice_get ps n) split ∙ slice_get-right (positions front) (here ++ after) n r number ∙ slice_get-left here after r many
-    ∙ ap (λ (ps : List ℕ). slice_get ps r) padded ∙ slice_get-map (λ k. 64 * i + k) (positions (padded_part m i)) r ∙ ap (option_map (λ k. 64 * i + k)) at
+    grind (arith, slice_get-right (positions front) (here ++ after) n r number, slice_get-left here after r many, slice_get-map, option_map)
 
 -- past the last word there is none
 pub place_none : (m : List Bool) (i n r : ℕ) → length m ≤ 64 * i → n ≡ count (take (64 * i) m) + r → slice_get (positions m) n ≡ None

@@ -1,7 +1,6 @@
 -- The bits of some bytes from any position on: parts of them, the words that show them, and their counts.
-use Rattle.std.proofs.Common.{◌≡◌, ℕ, ◌+◌, ◌*◌, ◌-◌, ◌%◌, ◌/◌, ◌^◌, ◌<◌, ◌≤◌, Bool, false, nat_eq, List, [], ◌++◌, length, get_or, drop, ap, sym, ◌∙◌, arith, count_ones}
+use Rattle.std.proofs.Common.{◌≡◌, ℕ, ◌+◌, ◌*◌, ◌-◌, ◌%◌, ◌/◌, ◌^◌, ◌<◌, ◌≤◌, Bool, false, nat_eq, List, [], ◌++◌, length, get_or, drop, ap, sym, ◌∙◌, arith, count_ones, bit_and}
 use Rattle.std.specs.Int.{bit_at}
-use Rattle.std.specs.Int.RustNames.{bit_and}
 use Rattle.std.proofs.lemmas.List.{get_or-drop, nil_from_length}
 use Rattle.mask_bits.specs.Bitmap.{bitmap}
 use Rattle.mask_bits.specs.Buffer.{backing_bit}
@@ -52,8 +51,6 @@ count-bitmap-le bytes p n = omega (arith, count-le-length (bitmap bytes p n), le
 -- bit j of a word that shows the bits from p on
 pub bit-window : (bytes : List ℕ) (p w j : ℕ) → word_bits w ≡ window bytes p → j < 64 → nat_eq (bit_at w j) 1 ≡ backing_bit bytes (p + j)
 bit-window bytes p w j shows h = grind (arith, get_or-word_bits w j false h, get_or-window bytes p j false h)
-
--- ---- words of a part of a buffer's list, from any value on
 
 -- ---- a list that is written word by word
 

@@ -1,9 +1,7 @@
 -- The indices of a list's true values, block by block of four words.
-use Rattle.std.proofs.Common.{◌≡◌, ℕ, ◌+◌, ◌-◌, ◌*◌, ◌/◌, ◌<◌, ◌≤◌, Bool, false, not, nat_eq, List, [], ◌∷◌, ◌++◌, length, get_or, take, drop, slice_range, refl, sym, ap, ◌∙◌, arith, append_assoc, append-nil}
-use Rattle.std.specs.Int.Bits.{bit_or}
+use Rattle.std.proofs.Common.{◌≡◌, ℕ, ◌+◌, ◌-◌, ◌*◌, ◌/◌, ◌<◌, ◌≤◌, Bool, false, not, nat_eq, List, [], ◌∷◌, ◌++◌, length, get_or, take, drop, slice_range, refl, sym, ap, ◌∙◌, arith, append_assoc, append-nil, bit_or, take-add}
 use Rattle.std.proofs.lemmas.List.{drop_all, drop_more, length-append, nil_from_length, length-take, take-append-drop, take_all, take_at}
 use Rattle.std.proofs.lemmas.List.Folds.{drop_split}
-use lib.Seq.{take-add}
 use Rattle.std.proofs.lemmas.Bool.Decides.{nat_tests}
 use Rattle.mask_bits.specs.Positions.{indices_from, positions, count}
 use Rattle.mask_bits.specs.Pushed.{bits_of_words}
@@ -36,11 +34,7 @@ indices-bits_more ws base next j h is = grind (arith, length-word_bits, bits_of_
 words-shown : (m : List Bool) (k j n w : ℕ) (ws : List ℕ) → j ≡ k + 1 → word_bits w ≡ word_part m k → bits_of_words ws ++ drop n m ≡ drop (64 * j) m → bits_of_words (w ∷ ws) ++ drop n m ≡ drop (64 * k) m
 words-shown m k j n w ws next shows rest =
     let end : 64 * j ≡ 64 * k + 64 = omega (arith, next) in
-    append_assoc (word_bits w) (bits_of_words ws) (drop n m)
-    ∙ ap (λ (xs : List Bool). word_bits w ++ xs) rest
-    ∙ ap (λ (xs : List Bool). xs ++ drop (64 * j) m) shows
-    ∙ ap (λ p. word_part m k ++ drop p m) end
-    ∙ sym (drop_split m (64 * k) (64 * k + 64) (omega arith))
+    grind (arith, append_assoc, drop_split)
 
 -- the four words of block i
 pub block-shown : (m : List Bool) (i a b c d : ℕ) → 256 * i + 256 ≤ length m
@@ -57,9 +51,7 @@ block-shown m i a b c d within is_a is_b is_c is_d =
     (words-shown m (4 * i + 1) (4 * i + 2) n b (c ∷ d ∷ []) (omega arith) is_b
     (words-shown m (4 * i + 2) (4 * i + 3) n c (d ∷ []) (omega arith) is_c
     (words-shown m (4 * i + 3) (4 * i + 4) n d [] (omega arith) is_d (ap (λ k. drop k m) end)))) in
-    sym (take_at (bits_of_words ws) (drop n m) 256 (length-bits_of_words ws))
-    ∙ ap (take 256) (all ∙ ap (λ k. drop k m) start)
-    ∙ ap (λ k. take k (drop (256 * i) m)) (sym size)
+    grind (arith, take_at (bits_of_words ws) (drop n m) 256 (length-bits_of_words ws), length-bits_of_words ws)
 
 -- ---- the indices up to a block
 
@@ -71,11 +63,7 @@ block-more m bits i within is =
     let next : 256 * (i + 1) ≡ n + 256 = omega arith in
     let size : 256 ≡ n + 256 - n = omega arith in
     let start : 0 + length (take n m) ≡ 64 * (4 * i) = omega (arith, length-take n m) in
-    ap (λ k. positions (take k m)) next
-    ∙ ap positions (take-add n 256 m)
-    ∙ indices_from-append 0 (take n m) (take 256 (drop n m))
-    ∙ ap (λ k. positions (take n m) ++ indices_from k (take 256 (drop n m))) start
-    ∙ ap (λ (xs : List Bool). positions (take n m) ++ indices_from (64 * (4 * i)) xs) (ap (λ k. take k (drop n m)) size ∙ sym is)
+    grind (arith, take-add, indices_from-append)
 
 pub indices-none : (n : ℕ) (bits : List Bool) → count bits ≡ 0 → indices_from n bits ≡ []
 indices-none n bits none = nil_from_length (indices_from n bits) (length-indices n bits ∙ none)
@@ -91,9 +79,6 @@ count-part_le m s n = grind (arith, count-part_further, count-append (take (s + 
 
 no_bits : (w : ℕ) → w ≡ 0 → count (word_bits w) ≡ 0
 no_bits w none = ap (λ v. count (word_bits v)) none ∙ ap length (indices-of_none 0)
-
-zero_by_test : (n : ℕ) → not (nat_eq n 0) ≡ false → n ≡ 0
-zero_by_test n is = grind (arith, nat_tests)
 
 -- no bit is set in four words that together have none
 pub none-in_block : (ws : List ℕ) → length ws ≡ 4 → not (nat_eq (bit_or (bit_or (bit_or (get_or ws 0 0) (get_or ws 1 0)) (get_or ws 2 0)) (get_or ws 3 0)) 0) ≡ false → count (bits_of_words ws) ≡ 0

@@ -59,10 +59,7 @@ extracted-value s m r k is h =
     let p : ℕ = get_or (positions (word_bits m)) k 0 in
     let inside : p < 64 = place_in_word m k h in
     let bit = is.bits k few in
-    get_or-word_bits r k false few
-    ∙ same_bit (bit_at r k) (bit_at s p) (bit_at-lt r k) (bit_at-lt s p) (λ set. (bit.0 set).1, λ set. bit.1 (h, set))
-    ∙ sym (get_or-word_bits s p false inside)
-    ∙ sym (get_or-chosen (word_bits s) (word_bits m) k false (length-word_bits s ∙ sym (length-word_bits m)) h)
+    grind (arith, get_or-word_bits, same_bit, bit_at-lt, get_or-chosen, length-word_bits)
 
 extracted-above : (s m r k : ℕ) → Extracts s m r → k < 64 → count (word_bits m) ≤ k → get_or (word_bits r) k false ≡ false
 extracted-above s m r k is few h =
@@ -139,15 +136,7 @@ ended s m left n r x e same is = subst (Extracts s m) same (Extracts-all s m n r
 
 -- what clearing the lowest set place takes away
 pub lowest_alone : (m : ℕ) → 0 < m → m < 2 ^ 64 → bit_xor m (bit_and m (m - 1)) ≡ 2 ^ low m
-lowest_alone m some fits = same_from_bits _ _ (λ i. bit_at_xor m (bit_and m (m - 1)) i ∙ elim (cases_lt i (low m)) [
-  | inl below ↦ omega (arith, low-first m i some fits below, bit_at-lowest_cleared m i some fits (omega arith), bit_at-pow_other (low m) i (omega arith))
-  | inr from ↦ elim (cases_lt (low m) i) [
-    | inl above ↦ omega (arith, bit_at-lowest_others m i some fits above, bit_at-lt m i, bit_at-pow_other (low m) i (omega arith))
-    | inr at ↦
-        let e : low m ≡ i = omega arith in
-        subst (λ k. (bit_at m k + bit_at (bit_and m (m - 1)) k) % 2 ≡ bit_at (2 ^ low m) k) e (omega (arith, low-set m some fits, bit_at-lowest_cleared m (low m) some fits (omega arith), bit_at-pow_same (low m)))
-  ]
-])
+lowest_alone m some fits = same_from_bits _ _ (grind (arith, bit_at_xor, low, low-first, bit_at-lowest_cleared, bit_at-pow_other, bit_at-lowest_others, bit_at-lt, low-set, bit_at-pow_same))
 
 -- of two set places the second is alone then
 pub second_alone : (m t : ℕ) → m < 2 ^ 64 → count (word_bits m) ≤ 2 → t ≡ bit_and m (m - 1) → 0 < t → t ≡ 2 ^ low t
@@ -155,10 +144,7 @@ second_alone m t fits few t_is some =
     let within : t < 2 ^ 64 = omega (arith, t_is, and_le_l m (m - 1)) in
     let there : 0 < m = omega (arith, t_is, and_le_l m (m - 1)) in
     let rest : ℕ = bit_and t (t - 1) in
-    let none : rest ≡ 0 = elim (cases_lt 0 rest) [
-      | inl more ↦ absurd (omega (arith, few, ap length (positions-lowest m there fits), ap (λ n. length (positions (word_bits n))) t_is, ap length (positions-lowest t some within), ap length (positions-lowest rest more (omega (arith, and_le_l t (t - 1))))))
-      | inr done ↦ omega arith
-    ] in
+    let none : rest ≡ 0 = grind (arith, positions-lowest, within, and_le_l) in
     sym (xor_zero_r t) ∙ ap (bit_xor t) (sym none) ∙ lowest_alone t some within
 
 -- the bits at the lowest set place and at the one above it, each 0 where there is none
@@ -178,11 +164,6 @@ Extracts-two s m a b fits few a_is no_a b_is no_b =
           elim (cases_lt 0 t) [
             | inr none ↦ ended s m t 1 a _ (omega arith) (sym (alone (no_b (omega arith)))) one
             | inl more ↦
-                let two = next_bit s m t 1 a b more (omega arith) b_is one in
-                let last : bit_and t (t - 1) < 2 ^ 64 = omega (arith, and_le_l t (t - 1)) in
-                elim (cases_lt 0 (bit_and t (t - 1))) [
-                  | inl third ↦ absurd (omega (arith, few, IsExtractedTo-some s m (bit_and t (t - 1)) 2 _ third last two))
-                  | inr none ↦ ended s m (bit_and t (t - 1)) 2 _ _ (omega arith) refl two
-                ]
+                grind (arith, next_bit s m t 1 a b more (omega arith) b_is one, and_le_l t (t - 1), IsExtractedTo-some, ended)
           ]
     ]

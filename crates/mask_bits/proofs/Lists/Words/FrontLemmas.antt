@@ -35,18 +35,14 @@ window-between bytes p low h =
     let a : List Bool = window bytes p in
     let b : List Bool = window bytes (p + 64) in
     let within : low + 64 ≤ length (a ++ b) = omega (arith, length-append a b, length-window bytes p, length-window bytes (p + 64)) in
-    sym (window_from_bits bytes (p + low) (slice_range (a ++ b) low (low + 64)) (length-between (a ++ b) low (low + 64) within ∙ omega arith) (λ j few.
-    grind (arith, get_or-between (a ++ b) low (low + 64) j false, get_or_append_left a b false (low + j), length-window bytes p, get_or-window bytes p (low + j) false, get_or-append_right a b 64 (low + j) false, get_or-window bytes (p + 64) (low + j - 64) false)))
+    sym (window_from_bits bytes (p + low) (slice_range (a ++ b) low (low + 64)) (length-between (a ++ b) low (low + 64) within ∙ omega arith) (grind (arith, get_or-between, get_or_append_left, length-window, get_or-window, get_or-append_right)))
 
 -- ---- eight bytes as a word
 
 -- eight bytes that stand at byte 8 * i are word i
 pub word_bits-chunk : (bytes chunk : List ℕ) (i : ℕ) → AreBytes chunk → ((k : ℕ) → k < 8 → get_or chunk k 0 ≡ get_or bytes (8 * i + k) 0) → word_bits (from_le_bytes w64 chunk) ≡ window bytes (64 * i)
 word_bits-chunk bytes chunk i are same =
-    word_bits_from_bits (from_le_bytes w64 chunk) (window bytes (64 * i)) (length-window bytes (64 * i)) (λ j h.
-    let byte : 8 * i + j / 8 ≡ (64 * i + j) / 8 = omega arith in
-    let bit : j % 8 ≡ (64 * i + j) % 8 = omega arith in
-    grind (arith, bit_at-chunk chunk j are h, same (j / 8), get_or-window bytes (64 * i) j false h))
+    word_bits_from_bits (from_le_bytes w64 chunk) (window bytes (64 * i)) (length-window bytes (64 * i)) (grind (arith, bit_at-chunk, get_or-window))
 
 -- and so are the first eight of the part of the bytes that begins there
 pub word_bits-first_chunk : (bytes chunk : List ℕ) (i : ℕ) → AreBytes bytes → 8 * i + 8 ≤ length bytes → chunk ≡ take 8 (slice_range bytes (8 * i) (8 * i + 8)) → word_bits (from_le_bytes w64 chunk) ≡ window bytes (64 * i)
@@ -83,8 +79,7 @@ front-more_word bytes i =
     let front : List Bool = values (record { bytes = bytes; offset = 0; len = 64 * i }) in
     let word : List Bool = window bytes (64 * i) in
     let len : length front ≡ 64 * i = length-values (record { bytes = bytes; offset = 0; len = 64 * i }) in
-    values_from_front bytes (front ++ word) (64 * (i + 1)) (omega (arith, length-append front word, length-window bytes (64 * i))) (λ p h.
-    grind (arith, get_or_append_left front word false p, get_or-front bytes (64 * i) p false, get_or-append_right front word (64 * i) p false len, get_or-window bytes (64 * i) (p - 64 * i) false))
+    grind (arith, values_from_front, length-append front word, length-window bytes (64 * i), get_or_append_left, get_or-front, get_or-append_right, get_or-window)
 
 -- ---- parts of a front
 
@@ -94,8 +89,7 @@ values-join bytes o n k =
     let a : Packed = record { bytes = bytes; offset = o; len = n } in
     let b : Packed = record { bytes = bytes; offset = o + n; len = k } in
     let len : length (values a) ≡ n = length-values a in
-    sym (values_from_bits (record { bytes = bytes; offset = o; len = n + k }) (values a ++ values b) (omega (arith, length-append (values a) (values b), length-values b)) (λ i h.
-    grind (arith, get_or_append_left (values a) (values b) false i, get_or-values a i false, get_or-append_right (values a) (values b) n i false len, get_or-values b (i - n) false)))
+    grind (arith, values_from_bits, length-append (values a) (values b), length-values b, get_or_append_left, get_or-values, get_or-append_right)
 
 -- the first values of a window
 pub window-take : (bytes : List ℕ) (p n : ℕ) → n ≤ 64 → take n (window bytes p) ≡ values (record { bytes = bytes; offset = p; len = n })

@@ -1,5 +1,5 @@
 -- The bits of a word's lowest places at the set ones of a mask: by parts, and one by one.
-use Rattle.std.proofs.Common.{◌≡◌, ◌⊎◌, inl, inr, bit_and, ℕ, zero, suc, min, ◌+◌, ◌*◌, ◌-◌, ◌/◌, ◌%◌, ◌^◌, ◌<◌, ◌≤◌, Bool, false, nat_eq, List, [], ◌∷◌, map, length, get_or, count_ones, refl, sym, ap, ap₂, ◌∙◌, arith, pow-add, pow_mono, lt_of_lt_of_le, mod-lt, mod-eq_of_lt, subst}
+use Rattle.std.proofs.Common.{◌≡◌, ◌⊎◌, inl, inr, bit_and, ℕ, zero, suc, min, ◌+◌, ◌*◌, ◌-◌, ◌/◌, ◌%◌, ◌^◌, ◌<◌, ◌≤◌, Bool, false, nat_eq, List, [], ◌∷◌, map, length, get_or, count_ones, refl, sym, ap, ap₂, ◌∙◌, arith, pow-add, pow_mono, lt_of_lt_of_le, mod-lt, mod-eq_of_lt, subst, mul_assoc, mul_comm, add-mul}
 use Rattle.std.specs.Int.{bit_at}
 use lib.Count.{ones_step}
 use lib.Pow.{field, mod-mod-pow}
@@ -7,7 +7,6 @@ use Rattle.std.proofs.lemmas.Bool.{cases_lt}
 use Rattle.std.proofs.lemmas.List.{get_or-map, length-map}
 use Rattle.std.proofs.lemmas.Nat.{pow_pos, shr-shr, shr_split, shr_high, ones-le, and_shr, mod-pow-add, mod-mul-add}
 use Rattle.std.proofs.lemmas.Nat.Bits.{bit_at_lowest, bit_at-suc, bit_at_above, bit_at_and, bit_at_cat_low}
-use Rattle.std.proofs.Math.Nat.{mul_assoc, mul_comm, add-mul}
 use Rattle.mask_bits.specs.Extract.{Extracts, gathered, closed_up}
 use Rattle.mask_bits.specs.Positions.{positions, count}
 use Rattle.mask_bits.specs.Words.{word_bits}
@@ -157,16 +156,7 @@ ones_in-is (suc n) m = omega (arith, ones_step (m % 2 ^ suc n), same_lowest m n,
 pub gathered-two : (w s m at lower upper n : ℕ) → lower ≡ at → upper ≡ at + w → n ≡ count_ones (m / 2 ^ at % 2 ^ w)
     → (gathered w (s / 2 ^ lower) (m / 2 ^ lower) + gathered w (s / 2 ^ upper) (m / 2 ^ upper) * 2 ^ n) % 2 ^ (w + w) ≡ gathered (w + w) (s / 2 ^ at) (m / 2 ^ at)
 gathered-two w s m at lower upper n first second counted =
-    let a : ℕ = s / 2 ^ at in
-    let b : ℕ = m / 2 ^ at in
-    let rest : ℕ = gathered w (a / 2 ^ w) (b / 2 ^ w) in
-    let from : (x : ℕ) → x / 2 ^ upper ≡ x / 2 ^ at / 2 ^ w = λ x. ap (λ k. x / 2 ^ k) second ∙ sym (shr-shr x at w) in
-    let few : gathered (w + w) a b < 2 ^ (w + w) = lt_of_lt_of_le (gathered-lt (w + w) a b) (pow_mono (ones_in-le (w + w) b)) in
-    ap (λ y. y % 2 ^ (w + w))
-    (ap₂ (λ x y. x + y) (ap (λ k. gathered w (s / 2 ^ k) (m / 2 ^ k)) first)
-    (ap₂ (λ x k. x * 2 ^ k) (ap₂ (gathered w) (from s) (from m)) (counted ∙ sym (ones_in-is w b)) ∙ mul_comm rest (2 ^ ones_in w b))
-    ∙ sym (gathered-join w w a b))
-    ∙ mod-eq_of_lt few
+    grind (arith, shr-shr, lt_of_lt_of_le (gathered-lt (w + w) (s / 2 ^ at) (m / 2 ^ at)) (pow_mono (ones_in-le (w + w) (m / 2 ^ at))), gathered-lt (w + w) (s / 2 ^ at) (m / 2 ^ at), pow_mono (ones_in-le (w + w) (m / 2 ^ at)), ones_in-le (w + w) (m / 2 ^ at), ones_in-is, mul_comm, gathered-join, mod-eq_of_lt)
 
 -- ---- an extract
 
@@ -212,9 +202,7 @@ Extracts-gathered s m =
             let at : bit_at (gathered 64 s m) k ≡ bit_at s (get_or (positions (word_bits m)) k 0) = gathered-at 64 s m k (subst (λ v. k < count v) same more) ∙ ap (λ v. bit_at s (get_or (positions v) k 0)) (sym same) in
             (λ set. (more, sym at ∙ set), λ set. at ∙ set.1)
         | inr none ↦
-            let enough : ones_in 64 m ≤ k = omega (arith, ap count same, count-values_in 64 m) in
-            let clear : bit_at (gathered 64 s m) k ≡ 0 = bit_at_above (gathered 64 s m) (ones_in 64 m) k (gathered-lt 64 s m) enough in
-            (λ set. absurd (omega (arith, clear)), λ set. absurd (omega (arith, set.0)))
+            grind (arith, count-values_in 64 m, bit_at_above (gathered 64 s m) (ones_in 64 m) k (gathered-lt 64 s m) (omega (arith, ap count same, count-values_in 64 m)), gathered-lt 64 s m)
       ];
     }
 

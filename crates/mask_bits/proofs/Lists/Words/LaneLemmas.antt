@@ -1,12 +1,11 @@
 -- Vectors lane by lane, those of the eight bytes of a word, and how the bits of a byte close up.
-use Rattle.std.proofs.Common.{◌≡◌, ℕ, ◌+◌, ◌-◌, ◌*◌, ◌/◌, ◌%◌, ◌^◌, ◌<◌, inl, inr, List, length, get_or, map, replicate, refl, sym, ap, ap₂, ◌∙◌, arith, w8, bit_and, Fits}
+use Rattle.std.proofs.Common.{◌≡◌, ℕ, ◌+◌, ◌-◌, ◌*◌, ◌/◌, ◌%◌, ◌^◌, ◌<◌, inl, inr, List, length, get_or, map, replicate, refl, sym, ap, ap₂, ◌∙◌, arith, w8, bit_and, Fits, mul_assoc}
 use Rattle.std.specs.Int.{bit_at}
 use Rattle.std.specs.Simd.Lanes.{zip2, Each1}
 use Rattle.std.proofs.lemmas.Simd.{length-zip2, get_or-zip2, length-replicate, get_or-replicate, Each1-get_or, Each1-from_get_or, swz_l, SwzOk, SwzOk-from_below, length-swz_l, get_or-swz_l_below}
 use Rattle.std.proofs.lemmas.Nat.{pow_pos, shr-shr, shr_split, one_shl}
 use Rattle.std.proofs.lemmas.Nat.Bits.{bit_at-lt, and_pow, and_high_mask}
 use Rattle.std.specs.Int.Bits.{and_zero_r}
-use Rattle.std.proofs.Math.Nat.{mul_assoc}
 use Rattle.std.proofs.Math.Pow.{pow-lt}
 use Rattle.std.proofs.lemmas.Bool.{cases_lt}
 use Rattle.std.proofs.lemmas.List.{length-map, get_or-map}
@@ -53,10 +52,6 @@ less_half here mask bits = (bits + (2 ^ 8 - bit_and bits ((bit_and mask here + (
 
 less_none : (t b : ℕ) → 0 < t → t < 256 → b < 256 → (b + (2 ^ 8 - bit_and b ((1 * t + (2 ^ 8 - t)) % 2 ^ 8) / 2 ^ 1)) % 2 ^ 8 ≡ b
 less_none t b pos few small = grind (arith, and_zero_r)
-
--- the rest where q bits stand above the place, and r below it
-less_some : (b q r t : ℕ) → b ≡ 2 * (q * t) + r → b < 256 → (b + (2 ^ 8 - 2 * (q * t) / 2 ^ 1)) % 2 ^ 8 ≡ r + q * t
-less_some b q r t e small = omega (arith, e)
 
 pub less_half-set : (p m b : ℕ) → p < 8 → b < 256 → bit_at m p ≡ 1 → less_half (2 ^ p) m b ≡ closed_up p m b
 unfolding closed_up

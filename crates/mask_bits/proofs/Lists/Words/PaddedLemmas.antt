@@ -1,6 +1,5 @@
 -- A list in started words: the last one has false values up to a whole word.
-use Rattle.std.proofs.Common.{◌≡◌, ℕ, ◌+◌, ◌*◌, ◌-◌, ◌/◌, ◌%◌, ◌^◌, ◌<◌, ◌≤◌, Bool, false, nat_eq, List, [], ◌∷◌, ◌++◌, length, get_or, drop, sym, ap, ◌∙◌, arith}
-use Rattle.std.specs.Int.RustNames.{bit_and}
+use Rattle.std.proofs.Common.{◌≡◌, ℕ, ◌+◌, ◌*◌, ◌-◌, ◌/◌, ◌%◌, ◌^◌, ◌<◌, ◌≤◌, Bool, false, nat_eq, List, [], ◌∷◌, ◌++◌, length, get_or, drop, sym, ap, ◌∙◌, arith, bit_and}
 use Rattle.std.proofs.lemmas.List.{drop_more, drop_all, ext_get_or, length-append, length-drop, length-take, get_or-drop, get_or-take, get_or_past}
 use Rattle.std.proofs.lemmas.List.Edits.{length-between, get_or-between}
 use Rattle.std.proofs.lemmas.List.FromFn.{length-map-range_with_len, get_or-map-range_with_len}
@@ -49,8 +48,7 @@ padded_part-low b i w few shows =
     let p : ℕ = b.offset + 64 * i in
     let front : List Bool = bitmap b.bytes p n in
     word_bits-low b.bytes p n w few shows
-    ∙ padded_part_from_values (values b) (front ++ repeated (64 - n) false) i (omega (arith, length-bitmap b.bytes p n, length-append front (repeated (64 - n) false), length-repeated (64 - n) false)) (λ j h.
-    grind (arith, get_or-padded front (64 - n) j, get_or-bitmap b.bytes p n j false, get_or_past front j false, length-bitmap b.bytes p n, get_or-values b (64 * i + j) false, get_or_past (values b) (64 * i + j) false, length-values b))
+    ∙ padded_part_from_values (values b) (front ++ repeated (64 - n) false) i (omega (arith, length-bitmap b.bytes p n, length-append front (repeated (64 - n) false), length-repeated (64 - n) false)) (grind (arith, get_or-padded, get_or-bitmap, get_or_past, length-bitmap, get_or-values, length-values))
 
 -- ---- the parts of a list
 

@@ -1,10 +1,8 @@
 -- The bits of words that were shifted and masked, and of two words by a funnel shift.
-use Rattle.std.proofs.Common.{◌≡◌, ℕ, ◌+◌, ◌*◌, ◌-◌, ◌/◌, ◌%◌, ◌^◌, ◌<◌, ◌≤◌, Bool, false, ◌&&◌, ◌||◌, not, nat_eq, List, ◌++◌, length, get_or, take, replicate, slice_range, sym, ap, ◌∙◌, inl, inr, arith, add-zero}
+use Rattle.std.proofs.Common.{◌≡◌, ℕ, ◌+◌, ◌*◌, ◌-◌, ◌/◌, ◌%◌, ◌^◌, ◌<◌, ◌≤◌, Bool, false, ◌&&◌, ◌||◌, not, nat_eq, List, ◌++◌, length, get_or, take, replicate, slice_range, sym, ap, ◌∙◌, inl, inr, arith, add-zero, bit_and, bit_or, mul_assoc}
 use Rattle.std.specs.Int.{bit_at, bit_not, w64}
-use Rattle.std.specs.Int.RustNames.{bit_and, bit_or}
 use Rattle.std.proofs.lemmas.Bool.{cases_lt}
 use Rattle.std.proofs.Math.Bool.{or-false}
-use Rattle.std.proofs.Math.Nat.{mul_assoc}
 use Rattle.std.proofs.lemmas.List.{length-append, length-take, length-replicate, get_or-take, get_or-replicate, get_or_append_left, get_or-append_right, get_or_past}
 use Rattle.std.proofs.lemmas.List.Edits.{length-between, get_or-between}
 use Rattle.std.proofs.lemmas.Nat.{shr-shr, and_mask, pow_pos, pow-add, mul-mod_first}
@@ -69,8 +67,7 @@ word_bits-low_mask w count few =
     let low : List Bool = take count (word_bits w) in
     let zeros : List Bool = replicate (64 - count) false in
     let len : length low ≡ count = omega (arith, length-take count (word_bits w), length-word_bits w) in
-    word_bits_from_bits (bit_and w (2 ^ count - 1)) (low ++ zeros) (omega (arith, length-append low zeros, length-replicate (64 - count) false)) (λ j h.
-    grind (arith, bit_at-low_mask w count j, get_or_append_left low zeros false j, get_or-take count (word_bits w) j false, get_or-word_bits w j false h, bit_at-past_mask w count j, get_or-append_right low zeros count j false len, get_or-replicate (64 - count) (j - count) false false))
+    grind (arith, word_bits_from_bits, length-append low zeros, length-replicate (64 - count) false, bit_at-low_mask, get_or_append_left, get_or-take, get_or-word_bits, bit_at-past_mask, get_or-append_right, get_or-replicate)
 
 -- the same by a mask that is all ones, shifted down
 pub word_bits-low_ones : (w count : ℕ) → count ≤ 64 → word_bits (bit_and w ((2 ^ 64 - 1) / 2 ^ (64 - count))) ≡ take count (word_bits w) ++ repeated (64 - count) false
@@ -87,12 +84,9 @@ funnel_bit lo hi low j fits few h =
     let first = get_or-word_bits_shr lo low j fits h in
     elim (cases_lt (low + j) 64) [
       | inl inside ↦
-          let none : get_or (word_bits (up * 2 ^ k % 2 ^ 64)) j false ≡ false
-          = grind (arith, get_or-word_bits_shl_low up k j h, get_or-word_bits_shl_high up k j h, get_or-word_bits_shl_low hi 1 0) in
-          grind (arith, parts, none, or-false, first, get_or_append_left (word_bits lo) (word_bits hi) false (low + j), length-word_bits lo)
+          grind (arith, get_or-word_bits_shl_low up k j h, get_or-word_bits_shl_low hi 1 0, get_or-word_bits_shl_high up k j h, or-false, get_or_append_left (word_bits lo) (word_bits hi) false (low + j), length-word_bits lo)
       | inr past ↦
-          let up_bit = get_or-word_bits_shl_high up k j h in
-          grind (arith, parts, first, get_or_past (word_bits lo) (low + j) false, up_bit, get_or-word_bits_shl_high hi 1 (j - k), get_or-append_right (word_bits lo) (word_bits hi) 64 (low + j) false (length-word_bits lo), length-word_bits lo)
+          grind (arith, get_or-word_bits_shl_high up k j h, get_or-word_bits_shl_high hi 1 (j - k), get_or_past (word_bits lo) (low + j) false, get_or-append_right (word_bits lo) (word_bits hi) 64 (low + j) false (length-word_bits lo), length-word_bits lo)
     ]
 
 -- the high bits of one word and then the low bits of the next
@@ -102,8 +96,7 @@ word_bits-funnel lo hi low fits few =
     let both : List Bool = word_bits lo ++ word_bits hi in
     let w : ℕ = bit_or (lo / 2 ^ low) (hi * 2 ^ 1 % 2 ^ 64 * 2 ^ (63 - low) % 2 ^ 64) in
     let within : low + 64 ≤ length both = omega (arith, length-append (word_bits lo) (word_bits hi), length-word_bits lo, length-word_bits hi) in
-    word_bits_from_bits w (slice_range both low (low + 64)) (length-between both low (low + 64) within ∙ omega arith) (λ j h.
-    grind (arith, get_or-word_bits w j false h, funnel_bit lo hi low j fits few h, get_or-between both low (low + 64) j false))
+    grind (arith, word_bits_from_bits, length-between both low (low + 64) within, get_or-word_bits, funnel_bit, get_or-between)
 
 -- the same by one shift of the next word, from a bit on that isn't the first
 pub word_bits-funnel_inside : (lo hi low : ℕ) → lo < 2 ^ 64 → 0 < low → low < 64

@@ -48,12 +48,7 @@ AreLanes-wider {n} {xs} {f} p q square h small =
     record {
       lanes = length-digits q n (number_l p xs);
       each = λ j l.
-          let here : List ℕ = chunk (2 * j) 2 xs in
-          let first : get_or here 0 0 ≡ f (2 * j) = get_or-chunk (2 * j) 2 xs 0 0 (omega arith) ∙ ap (λ k. get_or xs k 0) (omega arith) ∙ h.each (2 * j) (omega arith) in
-          let second : get_or here 1 0 ≡ f (2 * j + 1) = get_or-chunk (2 * j) 2 xs 1 0 (omega arith) ∙ h.each (2 * j + 1) (omega arith) in
-          get_or_wider p 2 q n xs j square (Each1-below p h small) l
-          ∙ number-two p here (length-chunk (2 * j) 2 xs (omega arith))
-          ∙ ap₂ (λ x y. x + y * p) first second;
+          grind (arith, get_or-chunk (2 * j) 2 xs 0 0 (omega arith), get_or-chunk (2 * j) 2 xs 1 0 (omega arith), get_or_wider p 2 q n xs j square (Each1-below p h small) l, Each1-below p h small, number-two p (chunk (2 * j) 2 xs) (length-chunk (2 * j) 2 xs (omega arith)), length-chunk (2 * j) 2 xs (omega arith));
     }
 
 -- ---- through the bytes
@@ -96,11 +91,7 @@ power_at = same_below 16 (λ n. get_or powers n 0) (λ n. 2 ^ count_ones n) tt
 -- of a byte it is the product of its nibbles'
 pub power_of_byte : (n : ℕ) → n < 256 → 2 ^ count_ones (n % 16) * 2 ^ count_ones (n / 16) % 2 ^ 16 ≡ 2 ^ count_ones n
 power_of_byte n fits =
-    let parts : n / 16 * 2 ^ 4 + n % 16 ≡ n = omega arith in
-    let both : count_ones n ≡ count_ones (n % 16) + count_ones (n / 16) = ap count_ones (sym parts) ∙ ones_cat 4 (n / 16) (n % 16) (omega arith) ∙ add_comm _ _ in
-    let few : count_ones n ≤ 8 = ones-le 8 n fits in
-    let power : 2 ^ count_ones (n % 16) * 2 ^ count_ones (n / 16) ≡ 2 ^ count_ones n = sym (ap (λ k. 2 ^ k) both ∙ pow-add 2 (count_ones (n % 16)) (count_ones (n / 16))) in
-    omega (arith, power, pow_mono {i = count_ones n} {j = 8} few)
+    grind (arith, ones_cat 4 (n / 16) (n % 16) (omega arith), add_comm, ones-le 8 n fits, pow-add 2 (count_ones (n % 16)) (count_ones (n / 16)), pow_mono {i = count_ones n} {j = 8} (ones-le 8 n fits))
 
 -- a sum that wraps, of which one part did before
 pub sum_cut : (x y m : ℕ) → (x + y % m) % m ≡ (x + y) % m

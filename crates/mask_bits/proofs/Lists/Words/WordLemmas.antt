@@ -37,11 +37,7 @@ ones_of_bit n h = grind (arith, common_steps, ones_step)
 -- one more place
 pub ones_below-more : (w i : ℕ) → count_ones (w % 2 ^ (i + 1)) ≡ count_ones (w % 2 ^ i) + bit_at w i
 ones_below-more w i =
-    let next : i + 1 ≡ 1 + i = omega arith in
-    ap (λ k. count_ones (w % 2 ^ k)) next ∙ ap count_ones (mod-pow-add w 1 i) ∙ ones_cat i _ _ (mod-lt w (pow_pos i)) ∙ omega (arith, ones_of_bit (bit_at w i) (bit_at-lt w i))
-
-trues_of_bit : (n : ℕ) → n < 2 → trues (nat_eq n 1 ∷ []) ≡ n
-trues_of_bit n h = grind (arith, nat_tests)
+    grind (arith, mod-pow-add w 1 i, ones_cat, mod-lt w (pow_pos i), pow_pos i, ones_of_bit (bit_at w i) (bit_at-lt w i), bit_at-lt w i)
 
 -- the true values among a word's first i are its set bits below i
 pub count_below-word_bits : (w i : ℕ) → i ≤ 64 → count_below (word_bits w) i ≡ count_ones (w % 2 ^ i)

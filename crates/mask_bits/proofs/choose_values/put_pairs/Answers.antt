@@ -1,4 +1,4 @@
-use Rattle.std.proofs.Common.{◌≡◌, ◌+◌, ◌*◌, ◌/◌, get_or, length, subst, arith}
+use Rattle.std.proofs.Common.{◌≡◌, ◌+◌, ◌*◌, subst, arith, rules}
 use Rattle.mask_bits.specs.ChosenBits.{AreChosenSoFar}
 use Rattle.mask_bits.proofs.ChosenBitLemmas.{AreChosenAt-whole, AreChosenSoFar-none, AreChosenSoFar-more, chosen-within, extracted-clear}
 use Rattle.mask_bits.proofs.Lists.Places.PlaceLemmas.{count-le-length}
@@ -7,45 +7,36 @@ use Rattle.mask_bits.proofs.choose_values.put_pairs.Goals as goal
 pub loop-pair-init : goal.loop-pair-init
 loop-pair-init c = AreChosenSoFar-none c.args.values.now c.args.masks.now c.args.out.now
 
-pub put_behind-last-requires-clause-word : goal.put_behind-last-requires-clause-word
-put_behind-last-requires-clause-word c = grind (arith, extracted-clear)
-
-pub put_behind-last-requires-in-loop-pair-clause-word : goal.put_behind-last-requires-in-loop-pair-clause-word
-put_behind-last-requires-in-loop-pair-clause-word c = grind (arith, extracted-clear)
-
-pub put_behind-last-requires-clause-room : goal.put_behind-last-requires-clause-room
-put_behind-last-requires-clause-room c =
+pub put_behind-last-requires : goal.put_behind-last-requires
+put_behind-last-requires c =
     let s = c.args.values.now in
     let m = c.args.masks.now in
     let first = AreChosenAt-whole s m (2 * c.loop-pair.pair) c.word-in-loop-pair-2.result c.word.result _ c.requires.fitting (omega (arith, c.loop-pair-test.true, c.len-pair-end.ensures)) c.word.type_inv c.word-in-loop-pair-2.ensures c.word.ensures c.extract_two-words.ensures.first in
-    omega (arith, chosen-within first c.loop-pair.invariant, c.requires.room, c.loop-pair.auto.out)
+    let within = chosen-within first c.loop-pair.invariant in
+    record {
+      few = search rules;
+      begun = search rules;
+      word = grind (arith, extracted-clear);
+      room = omega (arith, within, c.requires.room, c.loop-pair.auto.out);
+      fits = omega (arith, within, c.requires.fits, count-le-length m);
+    }
 
-pub put_behind-last-requires-clause-fits : goal.put_behind-last-requires-clause-fits
-put_behind-last-requires-clause-fits c =
-    let s = c.args.values.now in
-    let m = c.args.masks.now in
-    let first = AreChosenAt-whole s m (2 * c.loop-pair.pair) c.word-in-loop-pair-2.result c.word.result _ c.requires.fitting (omega (arith, c.loop-pair-test.true, c.len-pair-end.ensures)) c.word.type_inv c.word-in-loop-pair-2.ensures c.word.ensures c.extract_two-words.ensures.first in
-    omega (arith, chosen-within first c.loop-pair.invariant, c.requires.fits, count-le-length m)
-
-pub put_behind-last-requires-in-loop-pair-clause-room : goal.put_behind-last-requires-in-loop-pair-clause-room
-put_behind-last-requires-in-loop-pair-clause-room c =
+pub put_behind-last-requires-in-loop-pair : goal.put_behind-last-requires-in-loop-pair
+put_behind-last-requires-in-loop-pair c =
     let s = c.args.values.now in
     let m = c.args.masks.now in
     let first = AreChosenAt-whole s m (2 * c.loop-pair.pair) c.word-in-loop-pair-2.result c.word.result _ c.requires.fitting (omega (arith, c.loop-pair-test.true, c.len-pair-end.ensures)) c.word.type_inv c.word-in-loop-pair-2.ensures c.word.ensures c.extract_two-words.ensures.first in
     let second = AreChosenAt-whole s m (2 * c.loop-pair.pair + 1) c.word-in-loop-pair-3.result c.word-in-loop-pair.result _ c.requires.fitting (omega (arith, c.loop-pair-test.true, c.len-pair-end.ensures)) c.word-in-loop-pair.type_inv c.word-in-loop-pair-3.ensures c.word-in-loop-pair.ensures c.extract_two-words.ensures.second in
     let put = c.put_behind-last.ensures in
     let so_far = AreChosenSoFar-more c.put_behind-last.new.out c.put_behind-last.result.word c.put_behind-last.result.count c.requires.fitting first c.loop-pair.invariant put.count put.list put.begun put.behind in
-    omega (arith, chosen-within second so_far, c.requires.room, c.loop-pair.auto.out, c.put_behind-last.auto.out)
-
-pub put_behind-last-requires-in-loop-pair-clause-fits : goal.put_behind-last-requires-in-loop-pair-clause-fits
-put_behind-last-requires-in-loop-pair-clause-fits c =
-    let s = c.args.values.now in
-    let m = c.args.masks.now in
-    let first = AreChosenAt-whole s m (2 * c.loop-pair.pair) c.word-in-loop-pair-2.result c.word.result _ c.requires.fitting (omega (arith, c.loop-pair-test.true, c.len-pair-end.ensures)) c.word.type_inv c.word-in-loop-pair-2.ensures c.word.ensures c.extract_two-words.ensures.first in
-    let second = AreChosenAt-whole s m (2 * c.loop-pair.pair + 1) c.word-in-loop-pair-3.result c.word-in-loop-pair.result _ c.requires.fitting (omega (arith, c.loop-pair-test.true, c.len-pair-end.ensures)) c.word-in-loop-pair.type_inv c.word-in-loop-pair-3.ensures c.word-in-loop-pair.ensures c.extract_two-words.ensures.second in
-    let put = c.put_behind-last.ensures in
-    let so_far = AreChosenSoFar-more c.put_behind-last.new.out c.put_behind-last.result.word c.put_behind-last.result.count c.requires.fitting first c.loop-pair.invariant put.count put.list put.begun put.behind in
-    omega (arith, chosen-within second so_far, c.requires.fits, count-le-length m)
+    let within = chosen-within second so_far in
+    record {
+      few = search rules;
+      begun = search rules;
+      word = grind (arith, extracted-clear);
+      room = omega (arith, within, c.requires.room, c.loop-pair.auto.out, c.put_behind-last.auto.out);
+      fits = omega (arith, within, c.requires.fits, count-le-length m);
+    }
 
 pub loop-pair-preserved : goal.loop-pair-preserved
 loop-pair-preserved c =
