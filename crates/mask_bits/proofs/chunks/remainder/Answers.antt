@@ -1,5 +1,4 @@
-use Rattle.std.proofs.Common.{ℕ, ◌-◌, ◌%◌, ◌<◌, ap, ◌∙◌, refl, arith}
-use Rattle.std.specs.Int.RustNames.{bit_and}
+use Rattle.std.proofs.Common.{ℕ, ◌-◌, ◌%◌, ◌<◌, ap, ◌∙◌, refl, arith, bit_and}
 use Rattle.std.proofs.lemmas.Grind.{one_shifted}
 use Rattle.mask_bits.specs.Buffer.{Packed}
 use Rattle.mask_bits.specs.Words.{word_bits}

@@ -1,5 +1,4 @@
-use Rattle.std.proofs.Common.{◌-◌, ◌*◌, ◌%◌, ◌^◌}
-use Rattle.std.proofs.lemmas.Bool.{eqb-true, eq-eqb}
+use Rattle.std.proofs.Common.{◌-◌, ◌*◌, ◌%◌, ◌^◌, eqb-true, eq-eqb}
 use Rattle.mask_bits.proofs.CompareLemmas.{low_mask, none-low}
 use Rattle.mask_bits.proofs.compare.none_in_last.Goals as goal
 

@@ -30,5 +30,4 @@ returns c =
     let d = c.put_whole.new.bytes in
     let e = c.put_windows-3.new.bytes in
     let most = written-more a b d from at offset room (64 * words) (64 * (at / 64 + 1)) _ (omega arith) refl c.put_windows-2.ensures c.put_whole.ensures in
-    subst (λ (n : ℕ). IsWrittenBehind a e at (values (record { bytes = from; offset = offset; len = n }))) all
-    (written-more a d e from at offset done rest (at + done) _ refl refl most c.put_windows-3.ensures)
+    grind (arith, written-more)

@@ -1,5 +1,4 @@
-use Rattle.std.proofs.Common.{arith}
-use Rattle.std.proofs.lemmas.List.{take_all}
+use Rattle.std.proofs.Common.{arith, take_all}
 use Rattle.mask_bits.proofs.BufferLemmas.{values_from_places}
 use Rattle.mask_bits.proofs.buffer.BitBuffer.from_indices.Goals as goal
 

@@ -1,6 +1,5 @@
-use Rattle.std.proofs.Common.{List, Bool, ℕ, ◌≡◌, ◌+◌, ◌-◌, ◌*◌, ◌/◌, ◌≤◌, ◌++◌, length, take, drop, sym, subst, ap, ◌∙◌, arith}
+use Rattle.std.proofs.Common.{List, Bool, ℕ, ◌≡◌, ◌+◌, ◌-◌, ◌*◌, ◌/◌, ◌≤◌, ◌++◌, length, take, drop, sym, subst, ap, ◌∙◌, arith, take_all}
 use Rattle.std.specs.Fn.{FnReturnsAt}
-use Rattle.std.proofs.lemmas.List.{take_all}
 use Rattle.std.proofs.lemmas.Result.{IfOk-weaker}
 use Rattle.mask_bits.specs.Buffer.{values}
 use Rattle.mask_bits.specs.Rows.{AreAnswers}

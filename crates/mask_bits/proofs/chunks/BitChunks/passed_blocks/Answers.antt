@@ -14,10 +14,7 @@ loop-word-preserved c =
     let within : 64 * word + 4096 ≤ b.len = omega (arith, c.loop-word-test.true) in
     let ones : c.count_bits-ones.result ≡ count (slice_range m (64 * word) (64 * word + 4096))
     = c.count_bits-ones.ensures ∙ ap (λ n. count (values (record b { offset = b.offset + 64 * word; len = n }))) (omega arith) ∙ ap count (values-part b (64 * word) (64 * word + 4096) (omega arith) within ∙ ap (λ (xs : List Bool). slice_range xs (64 * word) (64 * word + 4096)) c.self.view_is) in
-    record {
-      within = omega (arith, len-of_list _ c.self.view_is, within);
-      passed = omega (arith, c.loop-word.invariant.passed, ones, ap (λ n. count (take n m)) next, count-part_further m (64 * word) 4096);
-    }
+    grind (arith, len-of_list, count-part_further)
 
 pub overflow_mul-word : goal.overflow_mul-word
 overflow_mul-word c = omega (arith, c.loop-word.invariant.within, len-of_list _ c.self.view_is)

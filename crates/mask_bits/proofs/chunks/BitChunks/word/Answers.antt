@@ -1,5 +1,4 @@
-use Rattle.std.proofs.Common.{Bool, ℕ, List, ◌+◌, ◌*◌, ◌/◌, ◌%◌, ap, ap₂, ◌∙◌, arith}
-use Rattle.std.proofs.lemmas.List.{length-drop}
+use Rattle.std.proofs.Common.{Bool, ℕ, List, ◌+◌, ◌*◌, ◌/◌, ◌%◌, ap, ap₂, ◌∙◌, arith, length-drop}
 use Rattle.mask_bits.specs.Buffer.{Packed}
 use Rattle.mask_bits.specs.Words.{word_part, window}
 use Rattle.mask_bits.proofs.BufferLemmas.{len-of_list}

@@ -8,10 +8,7 @@ use Rattle.mask_bits.proofs.extract.two_words.gather_in_bytes.Goals as goal
 
 pub loop-passed-init : goal.loop-passed-init
 loop-passed-init c = AreLanes-same (AreLanes-zip2 bit_and (AreLanes-itself 16 c.args.sources c.fits-sources.0) (AreLanes-itself 16 c.args.masks c.fits-masks.0))
-    (λ j h.
-    let s : ℕ = get_or c.args.sources j 0 in
-    let m : ℕ = get_or c.args.masks j 0 in
-    sym (closed_from-top m (bit_and s m) (lt_of_le_of_lt (and_le_r s m) (lane-fits c.args.masks 16 j c.fits-masks.0 c.fits-masks.1 h)) (within-free s m 7)))
+    (grind (arith, closed_from-top, lt_of_le_of_lt, and_le_r, lane-fits, within-free))
 
 pub close_up-bits-requires-clause-free : goal.close_up-bits-requires-clause-free
 close_up-bits-requires-clause-free c = λ j h off.
@@ -20,8 +17,7 @@ close_up-bits-requires-clause-free c = λ j h off.
     let next : 7 - l.passed ≡ p + 1 = omega arith in
     let s : ℕ = get_or c.args.sources j 0 in
     let m : ℕ = get_or c.args.masks j 0 in
-    ap (λ x. bit_at x p) (l.invariant.each j h ∙ ap (λ k. closed_from k m (bit_and s m)) next)
-    ∙ closed_from-free p m (bit_and s m) (within-free s m p) off
+    grind (arith, closed_from, closed_from-free, within-free)
 
 pub loop-passed-preserved : goal.loop-passed-preserved
 loop-passed-preserved c =
@@ -29,12 +25,7 @@ loop-passed-preserved c =
     let p : ℕ = 6 - l.passed in
     let next : 7 - l.passed ≡ p + 1 = omega arith in
     let then : 7 - (l.passed + 1) ≡ p = omega arith in
-    AreLanes-same c.close_up-bits.ensures (λ j h.
-    let s : ℕ = get_or c.args.sources j 0 in
-    let m : ℕ = get_or c.args.masks j 0 in
-    ap (closed_up p m) (l.invariant.each j h ∙ ap (λ k. closed_from k m (bit_and s m)) next)
-    ∙ closed_from-more p m (bit_and s m) (omega arith) (within-free s m p)
-    ∙ ap (λ k. closed_from k m (bit_and s m)) (sym then))
+    grind (arith, closed_from, closed_from-more, within-free)
 
 pub returns : goal.returns
 returns c = grind (arith, closed_from, gathered-byte)
