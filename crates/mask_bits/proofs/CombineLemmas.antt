@@ -1,6 +1,5 @@
 -- The bits that the loops over words write and compare.
-use Rattle.std.proofs.Common.{◌≡◌, Result, nat_eq, ℕ, ◌+◌, ◌*◌, ◌-◌, ◌/◌, ◌%◌, ◌<◌, ◌≤◌, ◌⊎◌, min, not, set, Bool, false, List, ◌++◌, length, get_or, take, drop, slice_range, refl, sym, ap, ◌∙◌, inl, inr, arith, ap₂, bit_xor, IfOk}
-use Rattle.std.specs.Int.{bit_at}
+use Rattle.std.proofs.Common.{◌≡◌, Result, ℕ, ◌+◌, ◌*◌, ◌-◌, ◌/◌, ◌%◌, ◌<◌, ◌≤◌, ◌⊎◌, min, not, set, Bool, false, List, ◌++◌, length, get_or, take, drop, slice_range, refl, sym, ap, ◌∙◌, arith, bit_xor, IfOk}
 use Rattle.std.proofs.lemmas.Bool.{cases_lt}
 use Rattle.std.proofs.lemmas.List.{ext_get_or, get_or-drop, get_or-set_other, length-take, get_or-take, take-append-le, take_all, length-append, get_or_append_left, get_or-append_right}
 use Rattle.std.proofs.lemmas.List.Edits.{length-between, get_or-between}
@@ -16,7 +15,6 @@ use Rattle.mask_bits.proofs.Lists.BooleanLemmas.{combined_itself, length-combine
 use Rattle.mask_bits.proofs.Lists.Words.FrontLemmas.{get_or-put_mid_below, get_or-put_mid_above, get_or-put_mid_inside, length-window, get_or-window, window-between, window_from_bits}
 use Rattle.mask_bits.proofs.Lists.Words.WordLemmas.{length-word_bits, get_or-word_bits}
 use borrow.Rule.Slice.PartMut.{put_mid}
-use Rattle.std.proofs.lemmas.Bool.Decides.{nat_tests}
 
 -- ---- windows
 

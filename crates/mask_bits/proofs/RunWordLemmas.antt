@@ -1,10 +1,9 @@
 -- Runs of a list, word by word, by where they begin and end.
-use Rattle.std.proofs.Common.{◌≡◌, ◌≢◌, ℕ, zero, suc, ◌+◌, ◌*◌, ◌-◌, ◌/◌, ◌%◌, ◌^◌, ◌<◌, ◌≤◌, ◌&&◌, ◌||◌, not, Bool, true, false, nat_eq, List, [], ◌∷◌, ◌++◌, length, get_or, take, drop, count_ones, refl, sym, ap, ap₂, ◌∙◌, inl, inr, arith, mod-eq_of_lt, add-zero, append-nil, append_assoc, bit_and, bit_or, zip}
+use Rattle.std.proofs.Common.{◌≡◌, ◌≢◌, ℕ, zero, suc, ◌+◌, ◌*◌, ◌-◌, ◌/◌, ◌%◌, ◌^◌, ◌<◌, ◌≤◌, ◌&&◌, not, Bool, true, false, nat_eq, List, [], ◌∷◌, ◌++◌, length, get_or, take, drop, count_ones, refl, sym, ap, ap₂, ◌∙◌, inl, inr, arith, mod-eq_of_lt, add-zero, append-nil, append_assoc, bit_and, bit_or, zip}
 use Rattle.std.specs.Int.{bit_at, bit_not, w64, leading_ones}
 use Rattle.std.specs.Int.Count.{leading_of_zero}
-use Rattle.std.proofs.lemmas.Bool.{cases_lt, cases_eq, true≢false}
+use Rattle.std.proofs.lemmas.Bool.{cases_eq, true≢false}
 use Rattle.std.proofs.lemmas.Nat.Bits.{bit_at_not, bit_at-lt, bit_at_ones, bit_at_above, bit_at-zero}
-use Rattle.std.proofs.Math.Bool.{or-false}
 use mir.Val.{bool_byte}
 use Rattle.std.proofs.lemmas.List.{take-append-le, take-append-drop, drop-drop, ext_get_or, nil_from_length, get_or-take, length-take, get_or_past, length-drop}
 use Rattle.std.proofs.lemmas.Nat.{and_le_l}

@@ -1,6 +1,6 @@
 -- How many values of a part and of a group are true, by the true places.
 use Rattle.std.proofs.lemmas.Grind.{common_steps}
-use Rattle.std.proofs.Common.{◌≡◌, ℕ, zero, suc, ◌+◌, ◌-◌, ◌*◌, ◌/◌, ◌<◌, ◌≤◌, Bool, true, false, cond, nat_eq, min, List, [], ◌∷◌, length, take, drop, slice_range, refl, sym, ap, ◌∙◌, arith, All, count_by}
+use Rattle.std.proofs.Common.{◌≡◌, ℕ, zero, suc, ◌+◌, ◌-◌, ◌*◌, ◌/◌, ◌<◌, ◌≤◌, Bool, true, false, cond, nat_eq, min, List, [], ◌∷◌, length, take, drop, slice_range, refl, sym, ◌∙◌, arith, All, count_by}
 use Rattle.std.proofs.lemmas.List.Elements.{All-head, All-tail}
 use Rattle.std.proofs.lemmas.List.Sums.{sum_by-cons}
 use Rattle.mask_bits.specs.Laws.Parts.{GroupsBeginWithin, GroupOfRepeated, IndicesLieInGroups, CountOfGroup}

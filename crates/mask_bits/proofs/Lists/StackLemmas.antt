@@ -1,5 +1,5 @@
 -- The laws of stacks, by recursion on the masks.
-use Rattle.std.proofs.Common.{◌≡◌, Bool, List, [], ◌∷◌, ◌++◌, length, fold, refl, sym, ap, subst, ◌∙◌, arith}
+use Rattle.std.proofs.Common.{◌≡◌, Bool, List, [], ◌∷◌, ◌++◌, length, refl, sym, subst, ◌∙◌, arith}
 use Rattle.mask_bits.specs.Laws.Stacks.{StackFoldsAlike, FoldedByTheFirst, FoldOfOne, FoldedLeftByTheLast, LengthOfFold, CountOfFold, FoldOfNoRow, NeighborsMakeOne, ChoosingInTurn}
 use Rattle.mask_bits.specs.Positions.{count, rank_intersection}
 use Rattle.mask_bits.specs.Stacks.{IsStack, folded_left}

@@ -1,7 +1,7 @@
 -- The places of true values, over lists.
-use Rattle.std.proofs.Common.{◌≡◌, ℕ, zero, suc, ◌+◌, ◌<◌, ◌≤◌, Bool, true, false, List, [], ◌∷◌, length, get_or, take, map, slice_get, refl, ap, arith, nat_eq, ◌||◌, ◌-◌, All, IfSome}
+use Rattle.std.proofs.Common.{◌≡◌, ℕ, zero, suc, ◌+◌, ◌<◌, ◌≤◌, Bool, true, false, List, [], ◌∷◌, length, get_or, map, slice_get, refl, ap, arith, ◌-◌, All, IfSome}
 use Rattle.std.proofs.lemmas.List.Elements.{All-nil, All-head, All-tail}
-use Rattle.std.proofs.lemmas.List.{get_or-take, get_or_past, length-take, get_or-map, length-map}
+use Rattle.std.proofs.lemmas.List.{get_or-map, length-map}
 use Rattle.mask_bits.specs.Positions.{indices_from, positions, count}
 
 -- no list has more true values than values

@@ -4,7 +4,7 @@ use Rattle.std.specs.Int.{bit_at, w64, leading_zeros}
 use Rattle.std.proofs.lemmas.List.{take-append-drop, drop-drop, drop_more, take_all, length-append, length-map, length-drop, length-take, get_or-drop, get_or-take, get_or_past}
 use Rattle.std.proofs.lemmas.Bool.{cases_lt}
 use Rattle.std.proofs.lemmas.Nat.{leading_top, ones-le}
-use Rattle.std.proofs.lemmas.Nat.Bits.{bit_at_above, bit_at_cat_high, bit_at_lowest, bit_at-zero}
+use Rattle.std.proofs.lemmas.Nat.Bits.{bit_at_above, bit_at-zero}
 use Rattle.std.proofs.lemmas.Option.{slice_get-get_or, slice_get_past, slice_get-map}
 use Rattle.mask_bits.specs.Positions.{indices_from, positions, count, repeated}
 use Rattle.mask_bits.specs.Words.{word_bits, padded_part}

@@ -1,5 +1,5 @@
 -- How many places ranges hold.
-use Rattle.std.proofs.Common.{◌≡◌, ℕ, ◌+◌, ◌-◌, ◌<◌, ◌≤◌, Bool, true, false, List, [], ◌∷◌, length, get_or, drop, slice_range, refl, ap, ◌∙◌, suc, arith}
+use Rattle.std.proofs.Common.{◌≡◌, ℕ, ◌-◌, ◌<◌, ◌≤◌, Bool, true, false, List, [], ◌∷◌, length, get_or, drop, slice_range, refl, ap, ◌∙◌, suc, arith}
 use Rattle.std.specs.List.{All, AllAdjacentBelow, list_any, sum_by}
 use Rattle.std.proofs.lemmas.List.{drop_all, ext_get_or}
 use Rattle.std.proofs.lemmas.List.Edits.{length-between, get_or-between}

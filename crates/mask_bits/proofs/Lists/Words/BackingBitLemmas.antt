@@ -1,5 +1,5 @@
 -- The bits of some bytes from any position on: parts of them, the words that show them, and their counts.
-use Rattle.std.proofs.Common.{◌≡◌, ℕ, ◌+◌, ◌*◌, ◌-◌, ◌%◌, ◌/◌, ◌^◌, ◌<◌, ◌≤◌, Bool, false, nat_eq, List, [], ◌++◌, length, get_or, drop, ap, sym, ◌∙◌, arith, count_ones, bit_and}
+use Rattle.std.proofs.Common.{◌≡◌, ℕ, ◌+◌, ◌*◌, ◌-◌, ◌%◌, ◌/◌, ◌^◌, ◌<◌, ◌≤◌, Bool, false, nat_eq, List, [], ◌++◌, length, get_or, drop, sym, arith, count_ones, bit_and}
 use Rattle.std.specs.Int.{bit_at}
 use Rattle.std.proofs.lemmas.List.{get_or-drop, nil_from_length}
 use Rattle.mask_bits.specs.Bitmap.{bitmap}

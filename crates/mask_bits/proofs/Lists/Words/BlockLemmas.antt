@@ -2,7 +2,6 @@
 use Rattle.std.proofs.Common.{◌≡◌, ℕ, ◌+◌, ◌-◌, ◌*◌, ◌/◌, ◌<◌, ◌≤◌, Bool, false, not, nat_eq, List, [], ◌∷◌, ◌++◌, length, get_or, take, drop, slice_range, refl, sym, ap, ◌∙◌, arith, append_assoc, append-nil, bit_or, take-add}
 use Rattle.std.proofs.lemmas.List.{drop_all, drop_more, length-append, nil_from_length, length-take, take-append-drop, take_all, take_at}
 use Rattle.std.proofs.lemmas.List.Folds.{drop_split}
-use Rattle.std.proofs.lemmas.Bool.Decides.{nat_tests}
 use Rattle.mask_bits.specs.Positions.{indices_from, positions, count}
 use Rattle.mask_bits.specs.Pushed.{bits_of_words}
 use Rattle.mask_bits.specs.Words.{word_bits, word_part, padded_part, padded_remainder}

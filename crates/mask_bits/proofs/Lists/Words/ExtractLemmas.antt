@@ -1,6 +1,6 @@
 -- The bits of a word at the set places of another, one by one and as a list.
 use Rattle.std.proofs.lemmas.Grind.{common_steps}
-use Rattle.std.proofs.Common.{◌≡◌, ◌≢◌, ◌⊎◌, inl, inr, refl, subst, bit_and, bit_or, bit_xor, ℕ, zero, suc, ◌+◌, ◌*◌, ◌-◌, ◌/◌, ◌%◌, ◌^◌, ◌<◌, ◌≤◌, ◌↔◌, Bool, true, false, nat_eq, List, [], ◌∷◌, ◌++◌, length, get_or, take, drop, sym, ap, ◌∙◌, arith}
+use Rattle.std.proofs.Common.{◌≡◌, ◌≢◌, ◌⊎◌, inl, inr, subst, bit_and, bit_or, bit_xor, ℕ, zero, suc, ◌+◌, ◌*◌, ◌-◌, ◌/◌, ◌%◌, ◌^◌, ◌<◌, ◌≤◌, ◌↔◌, Bool, true, false, nat_eq, List, [], ◌∷◌, length, get_or, take, drop, sym, ap, ◌∙◌, arith}
 use Rattle.std.specs.Int.{bit_at}
 use Rattle.std.specs.List.{items_where_true}
 use Rattle.std.proofs.lemmas.Bool.Decides.{nat_tests}
@@ -8,19 +8,19 @@ use Rattle.std.proofs.lemmas.List.{ext_get_or, get_or-map, length-append, get_or
 use Rattle.std.proofs.lemmas.Bool.{cases_lt}
 use Rattle.std.proofs.lemmas.Nat.{and_mask, and_le_l}
 use Rattle.std.specs.Int.Bits.{or_zero_l, or_zero_r, xor_zero_r}
-use Rattle.std.proofs.lemmas.Nat.Bits.{bit_at-zero, bit_at-lt, bit_at_or, bit_at_xor, bit_at_lowest, bit_at_above, bit_at-pow_same, bit_at-pow_other, same_from_bits}
+use Rattle.std.proofs.lemmas.Nat.Bits.{bit_at-lt, bit_at_or, bit_at_xor, bit_at_above, bit_at-pow_same, bit_at-pow_other, same_from_bits}
 use Rattle.std.proofs.lemmas.Option.{get_or_from_slice_get}
 use Rattle.mask_bits.proofs.Lists.Words.LowestLemmas.{low, low-first, low-set, bit_at-lowest_cleared, bit_at-lowest_others}
 use Rattle.mask_bits.proofs.Lists.Words.ShiftLemmas.{bit_at-mod, bit_at-shl_high, bit_at-shl_low}
 use Rattle.mask_bits.specs.Extract.{Extracts}
 use Rattle.mask_bits.specs.Laws.Words.{ExtractIsChosenValues}
-use Rattle.mask_bits.specs.Positions.{positions, count, repeated, chosen}
+use Rattle.mask_bits.specs.Positions.{positions, count, chosen}
 use Rattle.mask_bits.specs.Words.{word_bits}
 use Rattle.mask_bits.proofs.Lists.CountLemmas.{length-repeated, get_or-repeated}
 use Rattle.mask_bits.proofs.Lists.LawLemmas.{chosen-items_where_true, length-chosen}
 use Rattle.mask_bits.proofs.Lists.Places.PlaceLemmas.{positions-true, positions-false, trues, count-trues, count-le-length, positions-within}
 use Rattle.mask_bits.proofs.Lists.Places.SelectLemmas.{indices-of_none, left-more, left-first, positions-lowest}
-use Rattle.mask_bits.proofs.Lists.Words.WordLemmas.{length-word_bits, get_or-word_bits, count-word_bits}
+use Rattle.mask_bits.proofs.Lists.Words.WordLemmas.{length-word_bits, get_or-word_bits}
 
 -- ---- a chosen row is the row at a true index
 

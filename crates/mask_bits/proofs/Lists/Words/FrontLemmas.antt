@@ -1,6 +1,5 @@
 -- Words and first bits of some bytes: what a window shows, and a front that grows by a word.
-use Rattle.std.proofs.Common.{◌≡◌, ℕ, ◌+◌, ◌*◌, ◌-◌, ◌/◌, ◌%◌, ◌<◌, ◌≤◌, Bool, false, List, ◌++◌, length, get_or, take, drop, nat_eq, slice_range, refl, sym, subst, ap, ◌∙◌, arith}
-use Rattle.std.specs.Int.{bit_at}
+use Rattle.std.proofs.Common.{◌≡◌, ℕ, ◌+◌, ◌*◌, ◌-◌, ◌<◌, ◌≤◌, Bool, false, List, ◌++◌, length, get_or, take, drop, slice_range, refl, sym, ap, ◌∙◌, arith}
 use Rattle.std.specs.Int.{w64, from_le_bytes}
 use Rattle.std.proofs.lemmas.List.{drop-drop, length-append, length-take, get_or_append_left, get_or-append_right, get_or_past, get_or-drop, get_or-take}
 use Rattle.std.proofs.lemmas.List.Edits.{length-between, get_or-between}

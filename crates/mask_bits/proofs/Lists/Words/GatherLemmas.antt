@@ -1,5 +1,5 @@
 -- The bits of a word's lowest places at the set ones of a mask: by parts, and one by one.
-use Rattle.std.proofs.Common.{◌≡◌, ◌⊎◌, inl, inr, bit_and, ℕ, zero, suc, min, ◌+◌, ◌*◌, ◌-◌, ◌/◌, ◌%◌, ◌^◌, ◌<◌, ◌≤◌, Bool, false, nat_eq, List, [], ◌∷◌, map, length, get_or, count_ones, refl, sym, ap, ap₂, ◌∙◌, arith, pow-add, pow_mono, lt_of_lt_of_le, mod-lt, mod-eq_of_lt, subst, mul_assoc, mul_comm, add-mul}
+use Rattle.std.proofs.Common.{◌≡◌, ◌⊎◌, inl, inr, bit_and, ℕ, zero, suc, min, ◌+◌, ◌*◌, ◌-◌, ◌/◌, ◌%◌, ◌^◌, ◌<◌, ◌≤◌, Bool, false, nat_eq, List, [], ◌∷◌, length, get_or, count_ones, refl, sym, ap, ap₂, ◌∙◌, arith, pow-add, pow_mono, lt_of_lt_of_le, mod-lt, mod-eq_of_lt, subst, mul_assoc, mul_comm, add-mul}
 use Rattle.std.specs.Int.{bit_at}
 use lib.Count.{ones_step}
 use lib.Pow.{field, mod-mod-pow}

@@ -1,12 +1,12 @@
 -- Lanes read as one number, and as lanes of another width.
 use Rattle.std.proofs.lemmas.Grind.{common_steps}
-use Rattle.std.proofs.Common.{◌≡◌, ℕ, zero, suc, ◌+◌, ◌-◌, ◌*◌, ◌/◌, ◌%◌, ◌^◌, ◌<◌, ◌≤◌, List, [], ◌∷◌, length, get_or, refl, sym, ap, ap₂, subst, ◌∙◌, arith, pow-suc, mod-eq_of_lt, add_comm, bit_and, count_ones, pow-add, pow_mono, Fits}
+use Rattle.std.proofs.Common.{◌≡◌, ℕ, zero, suc, ◌+◌, ◌-◌, ◌*◌, ◌/◌, ◌%◌, ◌^◌, ◌<◌, List, [], ◌∷◌, length, get_or, refl, sym, ap, subst, ◌∙◌, arith, pow-suc, mod-eq_of_lt, add_comm, bit_and, count_ones, pow-add, pow_mono, Fits}
 use mir.Syntax.{Width}
 use mir.Val.{bits}
 use Rattle.std.specs.Simd.Lanes.{Each1, number_l, digits_l, chunk}
-use Rattle.std.proofs.lemmas.Simd.{Each1-from_get_or, Each1-get_or, length-chunk, get_or-chunk, get_or_wider}
+use Rattle.std.proofs.lemmas.Simd.{Each1-from_get_or, length-chunk, get_or-chunk, get_or_wider}
 use Rattle.std.proofs.lemmas.Nat.{shr-shr, and_mask, mod-mul-add, shr_high, ones_cat, ones-le}
-use Rattle.std.proofs.Math.Nat.{one-le-pow, mul_comm, pow-zero, mod-add-div, add-mul-mod_self_left}
+use Rattle.std.proofs.Math.Nat.{one-le-pow, mul_comm, pow-zero, add-mul-mod_self_left}
 use Rattle.std.proofs.Math.Arith.{digits_lt}
 use lib.Arith.{mod-mul}
 use lib.Count.{ones}

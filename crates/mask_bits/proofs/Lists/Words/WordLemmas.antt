@@ -13,8 +13,6 @@ use Rattle.std.proofs.lemmas.List.Folds.{drop_split}
 use lib.Count.{ones_step}
 use Rattle.std.proofs.lemmas.Nat.{pow_pos, ones-le, ones_cat, mod-pow-add}
 use Rattle.std.proofs.lemmas.Nat.Bits.{bit_at-lt}
-use Rattle.mask_bits.proofs.Lists.Places.PlaceLemmas.{trues}
-use Rattle.std.proofs.lemmas.Bool.Decides.{nat_tests}
 
 pub length-word_bits : (w : ℕ) → length (word_bits w) ≡ 64
 unfolding word_bits

@@ -1,4 +1,4 @@
-use Rattle.std.proofs.Common.{◌+◌, ◌-◌, ◌*◌, ◌/◌, drop, arith, length-drop, length-take}
+use Rattle.std.proofs.Common.{arith, length-drop, length-take}
 use Rattle.std.proofs.lemmas.Slice.{drop-put_mid}
 use Rattle.mask_bits.proofs.ChosenBitLemmas.{clear-behind, put-begun, put-begun_clear, put-full, put-full_clear}
 use Rattle.mask_bits.proofs.choose_values.put_behind.Goals as goal

@@ -1,5 +1,5 @@
 use Rattle.std.proofs.Common.{arith}
-use Rattle.mask_bits.proofs.ChosenBitLemmas.{AreChosenAt, AreChosenSoFar-more, AreChosenSoFar-all, chosen-within, extracted-clear}
+use Rattle.mask_bits.proofs.ChosenBitLemmas.{AreChosenAt, AreChosenSoFar-more, chosen-within, extracted-clear}
 use Rattle.mask_bits.proofs.Lists.Places.PlaceLemmas.{count-le-length}
 use Rattle.mask_bits.proofs.choose_values.put_chosen.Goals as goal
 

@@ -1,6 +1,4 @@
-use Rattle.std.proofs.Common.{◌≡◌, ◌*◌, ◌/◌, ◌%◌, ◌++◌, Bool, List, take, sym, ap, ap₂, ◌∙◌, append-nil, inl, arith}
-use Rattle.mask_bits.specs.Bitmap.{bitmap}
-use Rattle.mask_bits.specs.Words.{word_bits}
+use Rattle.std.proofs.Common.{arith}
 use Rattle.mask_bits.proofs.Lists.Words.BackingBitLemmas.{front-split}
 use Rattle.mask_bits.proofs.Lists.Words.FrontLemmas.{front-same, window-take}
 use Rattle.mask_bits.proofs.choose_values.put_last.Goals as goal

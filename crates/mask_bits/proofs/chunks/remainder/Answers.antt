@@ -1,7 +1,5 @@
-use Rattle.std.proofs.Common.{ℕ, ◌-◌, ◌%◌, ◌<◌, ap, ◌∙◌, refl, arith, bit_and}
+use Rattle.std.proofs.Common.{arith}
 use Rattle.std.proofs.lemmas.Grind.{one_shifted}
-use Rattle.mask_bits.specs.Buffer.{Packed}
-use Rattle.mask_bits.specs.Words.{word_bits}
 use Rattle.mask_bits.proofs.WindowLemmas.{word_bits-remainder}
 use Rattle.mask_bits.proofs.chunks.remainder.Goals as goal
 

@@ -1,5 +1,5 @@
 use Rattle.std.proofs.Common.{arith}
-use Rattle.mask_bits.proofs.CombineLemmas.{between-none, between-join, between-byte, values-negated}
+use Rattle.mask_bits.proofs.CombineLemmas.{between-join, between-byte, values-negated}
 use Rattle.mask_bits.proofs.combine.negate_in_place.Goals as goal
 
 pub loop-i-preserved : goal.loop-i-preserved

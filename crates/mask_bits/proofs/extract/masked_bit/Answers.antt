@@ -1,8 +1,4 @@
-use Rattle.std.proofs.Common.{refl, ◌≡◌, ◌*◌, ◌^◌, inl, inr, ap, sym, ◌∙◌, bit_and, nat_eq, true, false, arith, pow_pos}
-use Rattle.std.specs.Int.{bit_at}
-use lib.Bits.{and_zero_r}
-use Rattle.std.proofs.lemmas.Bool.{cases_lt}
-use Rattle.std.proofs.lemmas.Bool.Decides.{nat_tests}
+use Rattle.std.proofs.Common.{arith, pow_pos}
 use Rattle.std.proofs.lemmas.Nat.Bits.{and_pow, bit_at-lt}
 use Rattle.mask_bits.proofs.extract.masked_bit.Goals as goal
 

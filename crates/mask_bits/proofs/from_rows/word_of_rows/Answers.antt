@@ -1,4 +1,4 @@
-use Rattle.std.proofs.Common.{◌≡◌, ℕ, ◌+◌, ◌-◌, ◌*◌, ◌/◌, length, take, subst, ap, ◌∙◌, arith, length-take-le, take_all}
+use Rattle.std.proofs.Common.{◌≡◌, ℕ, ◌+◌, ◌-◌, ◌*◌, ◌/◌, length, take, subst, ◌∙◌, arith, length-take-le, take_all}
 use Rattle.std.specs.Fn.{FnReturnsAt}
 use Rattle.mask_bits.specs.Lanes.{ArePacked}
 use Rattle.mask_bits.proofs.AnswerLemmas.{packed_no_answers, answers_of_word, take_part}

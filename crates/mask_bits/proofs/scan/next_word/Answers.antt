@@ -1,8 +1,6 @@
-use Rattle.std.proofs.Common.{◌+◌, ◌<◌, sym, length, ◌∙◌, ap, arith}
-use Rattle.mask_bits.specs.Walk.{left_of}
-use Rattle.mask_bits.specs.Words.{started_words}
+use Rattle.std.proofs.Common.{arith}
 use Rattle.mask_bits.proofs.Lists.Words.PaddedLemmas.{padded_part-whole}
-use Rattle.mask_bits.proofs.Lists.Words.WalkLemmas.{left_of-next, IsLeft-read}
+use Rattle.mask_bits.proofs.Lists.Words.WalkLemmas.{left_of-next}
 use Rattle.mask_bits.proofs.scan.next_word.Goals as goal
 
 pub loop-word-preserved : goal.loop-word-preserved

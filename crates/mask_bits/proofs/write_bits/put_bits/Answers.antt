@@ -1,6 +1,4 @@
-use Rattle.std.proofs.Common.{ℕ, ◌≡◌, ◌+◌, ◌*◌, ◌-◌, ◌/◌, ◌%◌, subst, refl, arith}
-use Rattle.mask_bits.specs.Buffer.{values}
-use Rattle.mask_bits.specs.BufferMut.{IsWrittenBehind}
+use Rattle.std.proofs.Common.{◌≡◌, ◌+◌, ◌*◌, ◌-◌, ◌/◌, ◌%◌, refl, arith}
 use Rattle.mask_bits.proofs.WriteLemmas.{written-more, written-bits_clear}
 use Rattle.mask_bits.proofs.write_bits.put_bits.Goals as goal
 

@@ -1,6 +1,4 @@
-use Rattle.std.proofs.Common.{ap, ◌∙◌, arith}
-use Rattle.mask_bits.specs.Positions.{positions, count}
-use Rattle.mask_bits.specs.Words.{word_bits}
+use Rattle.std.proofs.Common.{arith}
 use Rattle.mask_bits.proofs.Lists.Words.BlockLemmas.{rest-more, rest-room}
 use Rattle.mask_bits.proofs.buffer.BitBuffer.indices.Goals as goal
 

@@ -1,7 +1,7 @@
 use Rattle.std.proofs.Common.{arith}
 use Rattle.std.proofs.lemmas.List.{with_items_is}
 use Rattle.mask_bits.proofs.BufferLemmas.{len-of_list}
-use Rattle.mask_bits.proofs.BuilderLemmas.{front-set, unset-here, unset-others, room-set}
+use Rattle.mask_bits.proofs.BuilderLemmas.{front-set, unset-here, unset-others}
 use Rattle.mask_bits.proofs.buffer_mut.BitBufferMut.unset.Goals as goal
 
 pub clear_bit-requires : goal.clear_bit-requires

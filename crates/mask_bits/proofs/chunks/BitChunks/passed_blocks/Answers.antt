@@ -1,4 +1,4 @@
-use Rattle.std.proofs.Common.{Bool, List, ◌≡◌, ◌+◌, ◌*◌, ◌≤◌, take, ap, ◌∙◌, slice_range, arith}
+use Rattle.std.proofs.Common.{Bool, List, ◌≡◌, ◌+◌, ◌*◌, ◌≤◌, ap, ◌∙◌, slice_range, arith}
 use Rattle.mask_bits.specs.Buffer.{Packed, values}
 use Rattle.mask_bits.specs.Positions.{count}
 use Rattle.mask_bits.proofs.BufferLemmas.{len-of_list, values-part}

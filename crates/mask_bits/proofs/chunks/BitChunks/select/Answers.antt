@@ -1,5 +1,4 @@
-use Rattle.std.proofs.Common.{Bool, ℕ, List, Option, ◌<◌, length, slice_get, subst, sym, ap, ◌∙◌, arith, IfSome}
-use Rattle.mask_bits.specs.Positions.{positions, count}
+use Rattle.std.proofs.Common.{sym, arith}
 use Rattle.mask_bits.proofs.Lists.Places.PlaceLemmas.{place-within}
 use Rattle.mask_bits.proofs.Lists.Places.SelectLemmas.{place_in_word, place_none, count-word_more}
 use Rattle.mask_bits.proofs.Lists.Words.WordLemmas.{count-word_bits}
