@@ -5,6 +5,7 @@ use Rattle.std.proofs.lemmas.List.{get_or-drop, get_or-take, get_or_past, length
 use Rattle.std.proofs.lemmas.Nat.Bits.{bit_at-zero, bit_at_cat_low, bit_at_cat_high}
 use Rattle.mask_bits.specs.Number.{number}
 use Rattle.mask_bits.proofs.Lists.Words.ShiftLemmas.{bit_at-shr, bit_at-low_mask}
+use Rattle.std.proofs.Math.Nat.{pow-suc}
 
 -- each entry is a byte
 abbrev pub AreBytes : List ℕ → Type 0
@@ -59,7 +60,8 @@ bit_at-window bytes p j are below =
     let bit : q % 8 ≡ (p + j) % 8 = omega arith in
     let read : get_or part (q / 8) 0 ≡ get_or bytes ((p + j) / 8) 0
     = get_or-take 16 (drop (p / 8) bytes) (q / 8) 0 (omega arith) ∙ get_or-drop (p / 8) bytes (q / 8) 0 ∙ ap (λ k. get_or bytes k 0) byte in
-    grind (arith, bit_at-low_mask (number part / 2 ^ (p % 8)) 64 j below, bit_at-shr (number part) (p % 8) j, bit_at-number part q are_part)
+    bit_at-low_mask (number part / 2 ^ (p % 8)) 64 j below ∙ bit_at-shr (number part) (p % 8) j ∙ bit_at-number part q are_part
+    ∙ ap (λ b. bit_at b (q % 8)) read ∙ ap (bit_at (get_or bytes ((p + j) / 8) 0)) bit
 
 -- ---- sixteen bytes read as a number
 
@@ -67,11 +69,16 @@ number-more : (n : ℕ) (bytes : List ℕ) → number (take (suc n) bytes) ≡ n
 number-more zero [] = omega arith
 number-more (suc n) [] = omega arith
 number-more zero (b ∷ bs) = omega arith
-number-more (suc n) (b ∷ bs) = grind (arith, mul_assoc (get_or bs n 0) (256 ^ n) 256, number-more n bs)
+number-more (suc n) (b ∷ bs) =
+    let rest = number-more n bs in
+    let raised : get_or bs n 0 * 256 ^ suc n ≡ get_or bs n 0 * 256 ^ n * 256
+    = ap (λ e. get_or bs n 0 * e) (pow-suc 256 n) ∙ sym (mul_assoc (get_or bs n 0) (256 ^ n) 256) in
+    omega (arith, rest, raised)
 
 number-sum : (k : ℕ) (bytes : List ℕ) → sum_through (λ i. byte_worth i (get_or bytes i 0)) k ≡ number (take (suc k) bytes)
 number-sum zero bytes = omega (arith, number-more 0 bytes)
-number-sum (suc k) bytes = omega (arith, number-more, number-sum k bytes)
+number-sum (suc k) bytes =
+    ap (λ n. n + get_or bytes (suc k) 0 * 256 ^ suc k) (number-sum k bytes) ∙ sym (number-more (suc k) bytes)
 
 number_of_sixteen : (bytes : List ℕ) → from_le_bytes w128 bytes ≡ number (take 16 bytes)
 number_of_sixteen bytes = number-sum 15 bytes
@@ -86,7 +93,13 @@ number-append_zeros (b ∷ bs) ys none = ap (λ n. b + 256 * n) (number-append_z
 
 -- sixteen bytes that are there
 pub number-chunk : (bytes chunk : List ℕ) (k : ℕ) → chunk ≡ take 16 (take (k + 16 - k) (drop k bytes)) → from_le_bytes w128 chunk ≡ number (take 16 (drop k bytes))
-number-chunk bytes chunk k same = grind (arith, length-take (k + 16 - k) (drop k bytes))
+number-chunk bytes chunk k same =
+    let part : List ℕ = take (k + 16 - k) (drop k bytes) in
+    let len : length part ≤ 16 = omega (arith, length-take (k + 16 - k) (drop k bytes)) in
+    let count : k + 16 - k ≡ 16 = omega arith in
+    let whole : chunk ≡ part = same ∙ take_all 16 part len in
+    number_of_sixteen chunk ∙ ap (λ xs. number (take 16 xs)) whole ∙ ap number (take_all 16 part len)
+    ∙ ap (λ n. number (take n (drop k bytes))) count
 
 -- shifting bytes out leaves those after them
 number-drop : (k : ℕ) (bytes : List ℕ) → AreBytes bytes → number bytes / 2 ^ (8 * k) ≡ number (drop k bytes)
@@ -119,11 +132,14 @@ number-padded_chunk bytes part k is short =
     let few : length (drop k bytes) ≤ 16 = omega (arith, length-drop k bytes) in
     let none : number zeros ≡ 0 = ap number (drop-replicate (length rest) 16 0) ∙ number_of_zeros (16 - length rest) in
     let len : length (part ++ zeros) ≤ 16 = omega (arith, length-append part zeros, ap length is, length-drop {A = ℕ} (length rest) (replicate 16 0), ap length whole) in
-    grind (arith, number_of_sixteen (part ++ zeros), take_all 16 (part ++ zeros) len, take_all 16 (drop k bytes) few, number-append_zeros part zeros none)
+    number_of_sixteen (part ++ zeros) ∙ ap number (take_all 16 (part ++ zeros) len)
+    ∙ number-append_zeros part zeros none ∙ ap number (is ∙ whole ∙ sym (take_all 16 (drop k bytes) few))
 
 -- ---- eight bytes read as a number
 
 pub bit_at-chunk : (chunk : List ℕ) (j : ℕ) → AreBytes chunk → j < 64 → bit_at (from_le_bytes w64 chunk) j ≡ bit_at (get_or chunk (j / 8) 0) (j % 8)
-bit_at-chunk chunk j are h = grind (arith, bit_at-number (take 8 chunk) j (bytes-take 8 chunk are))
+bit_at-chunk chunk j are h =
+    ap (λ n. bit_at n j) (number-sum 7 chunk) ∙ bit_at-number (take 8 chunk) j (bytes-take 8 chunk are)
+    ∙ ap (λ b. bit_at b (j % 8)) (get_or-take 8 chunk (j / 8) 0 (omega arith))
 
 pub ruleset padded_bytes = (number-padded_chunk)

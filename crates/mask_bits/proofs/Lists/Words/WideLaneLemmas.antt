@@ -1,10 +1,10 @@
 -- Lanes read as one number, and as lanes of another width.
 use Rattle.std.proofs.lemmas.Grind.{common_steps}
-use Rattle.std.proofs.Common.{◌≡◌, ℕ, zero, suc, ◌+◌, ◌-◌, ◌*◌, ◌/◌, ◌%◌, ◌^◌, ◌<◌, List, [], ◌∷◌, length, get_or, refl, sym, ap, subst, ◌∙◌, arith, pow-suc, mod-eq_of_lt, add_comm, bit_and, count_ones, pow-add, pow_mono, Fits}
+use Rattle.std.proofs.Common.{◌≡◌, ℕ, zero, suc, ◌+◌, ◌-◌, ◌*◌, ◌/◌, ◌%◌, ◌^◌, ◌<◌, List, [], ◌∷◌, length, get_or, refl, sym, ap, subst, ◌∙◌, arith, pow-suc, mod-eq_of_lt, add_comm, bit_and, count_ones, pow-add, pow_mono, Fits, ◌≤◌, ap₂}
 use mir.Syntax.{Width}
 use mir.Val.{bits}
 use Rattle.std.specs.Simd.Lanes.{Each1, number_l, digits_l, chunk}
-use Rattle.std.proofs.lemmas.Simd.{Each1-from_get_or, length-chunk, get_or-chunk, get_or_wider}
+use Rattle.std.proofs.lemmas.Simd.{Each1-from_get_or, length-chunk, get_or-chunk, get_or_wider, Each1-get_or}
 use Rattle.std.proofs.lemmas.Nat.{shr-shr, and_mask, mod-mul-add, shr_high, ones_cat, ones-le}
 use Rattle.std.proofs.Math.Nat.{one-le-pow, mul_comm, pow-zero, add-mul-mod_self_left}
 use Rattle.std.proofs.Math.Arith.{digits_lt}
@@ -21,8 +21,13 @@ length-digits q (suc n) x = omega (arith, length-digits q n (x / q))
 
 digit : (w n x j : ℕ) → j < n → get_or (digits_l (2 ^ w) n x) j 0 ≡ x / 2 ^ (w * j) % 2 ^ w
 digit w zero x j h = absurd (omega arith)
-digit w (suc n) x zero h = grind arith
-digit w (suc n) x (suc j) h = grind (arith, shr-shr, digit w n (x / 2 ^ w) j (omega arith))
+digit w (suc n) x zero h =
+    let none : w * 0 ≡ 0 = omega arith in
+    let own : x / 2 ^ 0 ≡ x = omega arith in
+    ap (λ y. y % 2 ^ w) (sym (ap (λ k. x / 2 ^ k) none ∙ own))
+digit w (suc n) x (suc j) h =
+    let next : w + w * j ≡ w * suc j = omega arith in
+    digit w n (x / 2 ^ w) j (omega arith) ∙ ap (λ y. y % 2 ^ w) (shr-shr x w (w * j) ∙ ap (λ k. x / 2 ^ k) next)
 
 pub AreLanes-digits : (w n x : ℕ) → AreLanes n (digits_l (2 ^ w) n x) (λ j. x / 2 ^ (w * j) % 2 ^ w)
 AreLanes-digits w n x = record { lanes = length-digits (2 ^ w) n x; each = digit w n x }
@@ -48,7 +53,12 @@ AreLanes-wider {n} {xs} {f} p q square h small =
     record {
       lanes = length-digits q n (number_l p xs);
       each = λ j l.
-          grind (arith, get_or-chunk (2 * j) 2 xs 0 0 (omega arith), get_or-chunk (2 * j) 2 xs 1 0 (omega arith), get_or_wider p 2 q n xs j square (Each1-below p h small) l, Each1-below p h small, number-two p (chunk (2 * j) 2 xs) (length-chunk (2 * j) 2 xs (omega arith)), length-chunk (2 * j) 2 xs (omega arith));
+          let here : List ℕ = chunk (2 * j) 2 xs in
+          let first : get_or here 0 0 ≡ f (2 * j) = get_or-chunk (2 * j) 2 xs 0 0 (omega arith) ∙ ap (λ k. get_or xs k 0) (omega arith) ∙ h.each (2 * j) (omega arith) in
+          let second : get_or here 1 0 ≡ f (2 * j + 1) = get_or-chunk (2 * j) 2 xs 1 0 (omega arith) ∙ h.each (2 * j + 1) (omega arith) in
+          get_or_wider p 2 q n xs j square (Each1-below p h small) l
+          ∙ number-two p here (length-chunk (2 * j) 2 xs (omega arith))
+          ∙ ap₂ (λ x y. x + y * p) first second;
     }
 
 -- ---- through the bytes
@@ -66,12 +76,15 @@ number-lt p [] some fit = omega (arith, pow-zero p)
 number-lt p (x ∷ xs) some fit = omega (arith, fit.0, pow-suc p (length xs), digits_lt {q = number_l p xs} {m = p ^ length xs} {r = x} {c = p} (number-lt p xs some fit.1) fit.0, mul_comm p (number_l p xs))
 
 pub through_bytes : (p n : ℕ) (xs : List ℕ) → 0 < p → Each1 (λ x. x < p) xs → p ^ length xs ≡ 256 ^ n → number_l 256 (digits_l 256 n (number_l p xs)) ≡ number_l p xs
-through_bytes p n xs some fit same = grind (arith, number-digits, mod-eq_of_lt, number-lt)
+through_bytes p n xs some fit same =
+    number-digits 256 n (number_l p xs) (omega arith) ∙ mod-eq_of_lt (subst (λ y. number_l p xs < y) same (number-lt p xs some fit))
 
 -- ---- the neighbors in such a lane
 
 pub wide_lane-fits : (w : Width) (n : ℕ) (xs : List ℕ) (j : ℕ) → (length xs ≡ n) × Each1 (Fits w) xs → j < n → get_or xs j 0 < 2 ^ bits w
-wide_lane-fits w n xs j fits h = grind (arith, common_steps)
+wide_lane-fits w n xs j fits h =
+    let long = fits.0 in
+    (Each1-get_or (Fits w) xs j 0 (omega arith) fits.1).fits
 
 pub lower_lane : (w x y : ℕ) → x < 2 ^ w → bit_and (x + y * 2 ^ w) (2 ^ w - 1) ≡ x
 lower_lane w x y small = and_mask (x + y * 2 ^ w) w ∙ ap (λ n. n % 2 ^ w) (add_comm x (y * 2 ^ w)) ∙ mod-mul-add y (2 ^ w) x small
@@ -91,7 +104,11 @@ power_at = same_below 16 (λ n. get_or powers n 0) (λ n. 2 ^ count_ones n) tt
 -- of a byte it is the product of its nibbles'
 pub power_of_byte : (n : ℕ) → n < 256 → 2 ^ count_ones (n % 16) * 2 ^ count_ones (n / 16) % 2 ^ 16 ≡ 2 ^ count_ones n
 power_of_byte n fits =
-    grind (arith, ones_cat 4 (n / 16) (n % 16) (omega arith), add_comm, ones-le 8 n fits, pow-add 2 (count_ones (n % 16)) (count_ones (n / 16)), pow_mono {i = count_ones n} {j = 8} (ones-le 8 n fits))
+    let parts : n / 16 * 2 ^ 4 + n % 16 ≡ n = omega arith in
+    let both : count_ones n ≡ count_ones (n % 16) + count_ones (n / 16) = ap count_ones (sym parts) ∙ ones_cat 4 (n / 16) (n % 16) (omega arith) ∙ add_comm _ _ in
+    let few : count_ones n ≤ 8 = ones-le 8 n fits in
+    let power : 2 ^ count_ones (n % 16) * 2 ^ count_ones (n / 16) ≡ 2 ^ count_ones n = sym (ap (λ k. 2 ^ k) both ∙ pow-add 2 (count_ones (n % 16)) (count_ones (n / 16))) in
+    omega (arith, power, pow_mono {i = count_ones n} {j = 8} few)
 
 -- a sum that wraps, of which one part did before
 pub sum_cut : (x y m : ℕ) → (x + y % m) % m ≡ (x + y) % m
