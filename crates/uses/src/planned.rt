@@ -12,21 +12,6 @@ use mask_bits::laws;
 use std::alloc::Global;
 use vortex_mask::{Mask, MaskError};
 
-/// The rows that pass three filters of one column.
-pub fn all_three(
-    alloc: Global,
-    first: &Mask,
-    second: &Mask,
-    third: &Mask,
-) -> Result<Mask, MaskError>
-    requires second { length (truth first.now) ≡ length (truth second.now) }
-    requires third { length (truth first.now) ≡ length (truth third.now) }
-    ensures { IfOk result (λ m. truth m
-        ≡ and_of (and_of (truth first.now) (truth second.now)) (truth third.now)) }
-{
-    first.bitand(alloc, second)?.into_bitand(alloc, third)
-}
-
 /// The rows that pass neither of two filters, by one complement.
 pub fn neither(alloc: Global, first: &Mask, second: &Mask) -> Result<Mask, MaskError>
     requires { length (truth first.now) ≡ length (truth second.now) }

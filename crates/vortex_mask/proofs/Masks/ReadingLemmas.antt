@@ -1,5 +1,5 @@
 -- Masks that are read by values, indices and counts.
-use Rattle.std.proofs.Common.{Option, Some, None, slice_get, nat_lt, zero, suc, ◌≡◌, ℕ, ◌+◌, ◌-◌, ◌<◌, ◌≤◌, Bool, true, false, List, [], ◌∷◌, length, map, take, drop, replicate, slice_range, refl, subst, sym, ap, ap₂, ◌∙◌, arith}
+use Rattle.std.proofs.Common.{Option, Some, None, slice_get, nat_lt, zero, suc, ◌≡◌, ℕ, ◌+◌, ◌-◌, ◌<◌, ◌≤◌, Bool, true, false, List, [], ◌∷◌, length, map, take, drop, replicate, slice_range, refl, sym, ap, ap₂, ◌∙◌, arith}
 use Rattle.std.specs.Bool.{then_some}
 use Rattle.std.specs.List.{All}
 use Rattle.std.specs.Option.{IfSome, SomeIff}
@@ -34,10 +34,11 @@ pub count_below-all_true : (n i : ℕ) → i ≤ n → count_below (repeated n t
 unfolding repeated
 count_below-all_true n i h = ap count (take-replicate i n true h) ∙ count-repeated_true i
 
-pub counts-all_true : (n : ℕ) (xs : List ℕ) → All (λ i. i ≤ n) xs → map (count_below (repeated n true)) xs ≡ xs
+pub counts-all_true : (n : ℕ) (xs : List ℕ) → All (λ i. i ≤ length (repeated n true)) xs → map (count_below (repeated n true)) xs ≡ xs
 counts-all_true n [] h = refl
 counts-all_true n (x ∷ xs) h =
-    rw (count_below-all_true n x (All-head (λ i. i ≤ n) x xs h), counts-all_true n xs (All-tail (λ i. i ≤ n) x xs h)) refl
+    let within : ℕ → Type 0 = λ i. i ≤ length (repeated n true) in
+    rw (count_below-all_true n x (omega (arith, All-head within x xs h, length-repeated n true)), counts-all_true n xs (All-tail within x xs h)) refl
 
 -- and none of an all-false one
 count_below-all_false : (n i : ℕ) → count_below (repeated n false) i ≡ 0
@@ -49,10 +50,7 @@ pub counts-all_false : (n : ℕ) (xs : List ℕ) → map (count_below (repeated 
 counts-all_false n [] = refl
 counts-all_false n (x ∷ xs) = ap₂ (λ (y : ℕ) (ys : List ℕ). y ∷ ys) (count_below-all_false n x) (counts-all_false n xs)
 
-pub counts-true_values : (n : ℕ) (xs : List ℕ) → All (λ i. i ≤ length (repeated n true)) xs → map (count_below (repeated n true)) xs ≡ xs
-counts-true_values n xs h = counts-all_true n xs (subst (λ k. All (λ i. i ≤ k) xs) (length-repeated n true) h)
-
-pub ruleset one_value_counts = (counts-true_values, counts-all_false)
+pub ruleset one_value_counts = (counts-all_true, counts-all_false)
 
 -- ---- counts that run on
 
