@@ -1,6 +1,6 @@
 -- The walks over a mask: each run of calls gives what is left, and what a walk over a mask of one value has.
-use Rattle.std.proofs.Common.{Option, zero, sym, Bool, replicate, Some, ◌≡◌, ℕ, suc, ◌+◌, ◌-◌, ◌<◌, List, ◌∷◌, length, ap, arith}
-use Rattle.std.specs.Iterator.{Drains, DrainsIf, MakesProgress, item_count, YieldsFirst}
+use Rattle.std.proofs.Common.{Option, zero, sym, Bool, replicate, ◌≡◌, ℕ, suc, ◌+◌, ◌-◌, ◌<◌, List, ◌∷◌, length, ap, arith}
+use Rattle.std.specs.Iterator.{Drains, DrainsIf, YieldsFirst}
 use Rattle.std.specs.List.{range_with_len}
 use Rattle.std.specs.Iterator.Runs.{YieldsInOrder, WholeRun}
 use Rattle.std.proofs.iter.runs.Consumers.{total_runs}
