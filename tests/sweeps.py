@@ -322,6 +322,7 @@ def buffer_places(values, operand):
     yield f"bits.set_indices& {operand} => {' '.join(['indices', *map(str, found)])}"
     yield f"bits.indices& {operand} => {numbers_text(found)}"
     yield f"bits.set_slices& {operand} => {' '.join(['ranges', *(ranges_text([it]) for it in ranges(values))])}"
+    yield f"bits.runs& {operand} => {ranges_text(ranges(values))}"
 
 
 def buffer_pairs(a, b):

@@ -1,11 +1,13 @@
 //! What calls answer.
 
-use crate::bits::builder::Built;
+use crate::builder::Built;
 use crate::fault::Fault;
 use mask_bits::{BitBuffer, BitChunks, BitIterator, SetIndices, SetSlices};
+use std::alloc::AllocError;
 use vortex_mask::intersect_by_rank::{RankPath, Steps};
 use vortex_mask::{
-    AllOr, Fraction, Mask, MaskBoolIter, MaskIter, MaskSetIndices, MaskSetSlices, MaskValues,
+    AllOr, Fraction, Mask, MaskBoolIter, MaskError, MaskIter, MaskSetIndices, MaskSetSlices,
+    MaskValues,
 };
 
 /// The answer of a call.
@@ -15,7 +17,7 @@ pub enum Answer<'a> {
     Lent(&'a Mask),
     // a mask whose cached lists are left open
     Uncached(Mask),
-    Counted(Mask, Steps),
+    Counted((Mask, Steps)),
     Masks(Vec<Mask>),
     Buffer(BitBuffer),
     LentBuffer(AllOr<&'a BitBuffer>),
@@ -23,6 +25,7 @@ pub enum Answer<'a> {
     Number(usize),
     Index(Option<usize>),
     Numbers(Vec<usize>),
+    Runs(Vec<(usize, usize)>),
     Indices(AllOr<&'a [usize]>),
     Slices(AllOr<&'a [(usize, usize)]>),
     Iter(AllOr<MaskIter<'a>>),
@@ -56,152 +59,86 @@ pub enum Answer<'a> {
     PartBuffer(&'a BitBuffer),
     Built(&'a mut Built),
     Done,
+    // the names of the operands, of a call that was only looked up
+    Reads(&'static str),
 }
 
-impl<'a> Answer<'a> {
-    pub(crate) fn of_mask(outcome: Result<Mask, Fault>) -> Result<Answer<'a>, Fault> {
-        match outcome {
-            Ok(mask) => Ok(Answer::Mask(mask)),
-            Err(fault) => Err(fault),
-        }
-    }
+/// What a call answers, or why it doesn't.
+pub type Told<'a> = Result<Answer<'a>, Fault>;
 
-    /// Of a mask, and the steps to it.
-    pub fn of_counted(outcome: Result<(Mask, Steps), Fault>) -> Result<Answer<'a>, Fault> {
-        match outcome {
-            Ok((mask, steps)) => Ok(Answer::Counted(mask, steps)),
-            Err(fault) => Err(fault),
+macro_rules! told {
+    ($outcome:ident, $answer:ident) => {
+        match $outcome {
+            Ok(it) => Ok(Answer::$answer(it)),
+            Err(error) => Err(Fault::from(error)),
         }
-    }
+    };
+}
 
-    // Of the mask alone.
-    pub(crate) fn of_list_counted(
-        outcome: Result<(Mask, Steps), Fault>,
-    ) -> Result<Answer<'a>, Fault> {
-        match outcome {
-            Ok((mask, _)) => Ok(Answer::Mask(mask)),
-            Err(fault) => Err(fault),
-        }
-    }
+pub(crate) fn mask<'a>(outcome: Result<Mask, MaskError>) -> Told<'a> {
+    told!(outcome, Mask)
+}
 
-    pub(crate) fn of_uncached(outcome: Result<Mask, Fault>) -> Result<Answer<'a>, Fault> {
-        match outcome {
-            Ok(mask) => Ok(Answer::Uncached(mask)),
-            Err(fault) => Err(fault),
-        }
-    }
+pub(crate) fn uncached<'a>(outcome: Result<Mask, MaskError>) -> Told<'a> {
+    told!(outcome, Uncached)
+}
 
-    pub(crate) fn of_part_buffer(outcome: Result<BitBuffer, Fault>) -> Result<Answer<'a>, Fault> {
-        match outcome {
-            Ok(buffer) => Ok(Answer::BufferPart(buffer)),
-            Err(fault) => Err(fault),
-        }
-    }
+pub(crate) fn counted<'a>(outcome: Result<(Mask, Steps), MaskError>) -> Told<'a> {
+    told!(outcome, Counted)
+}
 
-    pub(crate) fn of_masks(outcome: Result<Vec<Mask>, Fault>) -> Result<Answer<'a>, Fault> {
-        match outcome {
-            Ok(masks) => Ok(Answer::Masks(masks)),
-            Err(fault) => Err(fault),
-        }
-    }
+pub(crate) fn masks<'a>(outcome: Result<Vec<Mask>, MaskError>) -> Told<'a> {
+    told!(outcome, Masks)
+}
 
-    /// Of a buffer, by its list.
-    pub fn of_buffer(outcome: Result<BitBuffer, Fault>) -> Result<Answer<'a>, Fault> {
-        match outcome {
-            Ok(buffer) => Ok(Answer::Buffer(buffer)),
-            Err(fault) => Err(fault),
-        }
-    }
+pub(crate) fn mask_buffer<'a>(outcome: Result<BitBuffer, MaskError>) -> Told<'a> {
+    told!(outcome, Buffer)
+}
 
-    pub(crate) fn of_flag(outcome: Result<bool, Fault>) -> Result<Answer<'a>, Fault> {
-        match outcome {
-            Ok(flag) => Ok(Answer::Flag(flag)),
-            Err(fault) => Err(fault),
-        }
-    }
+pub(crate) fn buffer<'a>(outcome: Result<BitBuffer, AllocError>) -> Told<'a> {
+    told!(outcome, Buffer)
+}
 
-    pub(crate) fn of_number(outcome: Result<usize, Fault>) -> Result<Answer<'a>, Fault> {
-        match outcome {
-            Ok(number) => Ok(Answer::Number(number)),
-            Err(fault) => Err(fault),
-        }
-    }
+pub(crate) fn part<'a>(outcome: Result<BitBuffer, AllocError>) -> Told<'a> {
+    told!(outcome, BufferPart)
+}
 
-    pub(crate) fn of_numbers(outcome: Result<Vec<usize>, Fault>) -> Result<Answer<'a>, Fault> {
-        match outcome {
-            Ok(numbers) => Ok(Answer::Numbers(numbers)),
-            Err(fault) => Err(fault),
-        }
-    }
+pub(crate) fn rows<'a>(outcome: Result<Vec<usize>, MaskError>) -> Told<'a> {
+    told!(outcome, Numbers)
+}
 
-    pub(crate) fn of_word(outcome: Result<u64, Fault>) -> Result<Answer<'a>, Fault> {
-        match outcome {
-            Ok(word) => Ok(Answer::Word(word)),
-            Err(fault) => Err(fault),
-        }
-    }
+pub(crate) fn indices<'a>(outcome: Result<Vec<usize>, AllocError>) -> Told<'a> {
+    told!(outcome, Numbers)
+}
 
-    pub(crate) fn of_path(outcome: Result<RankPath, Fault>) -> Result<Answer<'a>, Fault> {
-        match outcome {
-            Ok(path) => Ok(Answer::Path(path)),
-            Err(fault) => Err(fault),
-        }
-    }
+pub(crate) fn runs<'a>(outcome: Result<Vec<(usize, usize)>, AllocError>) -> Told<'a> {
+    told!(outcome, Runs)
+}
 
-    pub(crate) fn of_indices(
-        outcome: Result<AllOr<&'a [usize]>, Fault>,
-    ) -> Result<Answer<'a>, Fault> {
-        match outcome {
-            Ok(lent) => Ok(Answer::Indices(lent)),
-            Err(fault) => Err(fault),
-        }
-    }
+pub(crate) fn lent_indices<'a>(outcome: Result<AllOr<&'a [usize]>, MaskError>) -> Told<'a> {
+    told!(outcome, Indices)
+}
 
-    pub(crate) fn of_slices(
-        outcome: Result<AllOr<&'a [(usize, usize)]>, Fault>,
-    ) -> Result<Answer<'a>, Fault> {
-        match outcome {
-            Ok(lent) => Ok(Answer::Slices(lent)),
-            Err(fault) => Err(fault),
-        }
-    }
+pub(crate) fn lent_slices<'a>(outcome: Result<AllOr<&'a [(usize, usize)]>, MaskError>) -> Told<'a> {
+    told!(outcome, Slices)
+}
 
-    pub(crate) fn of_mixed(outcome: Result<MaskValues, Fault>) -> Result<Answer<'a>, Fault> {
-        match outcome {
-            Ok(values) => Ok(Answer::Mixed(values)),
-            Err(fault) => Err(fault),
-        }
-    }
+pub(crate) fn lent_either<'a>(outcome: Result<AllOr<MaskIter<'a>>, MaskError>) -> Told<'a> {
+    told!(outcome, Iter)
+}
 
-    pub(crate) fn of_list(outcome: Result<&'a [usize], Fault>) -> Result<Answer<'a>, Fault> {
-        match outcome {
-            Ok(list) => Ok(Answer::List(list)),
-            Err(fault) => Err(fault),
-        }
-    }
+pub(crate) fn own_indices<'a>(outcome: Result<&'a [usize], MaskError>) -> Told<'a> {
+    told!(outcome, List)
+}
 
-    pub(crate) fn of_ranges(
-        outcome: Result<&'a [(usize, usize)], Fault>,
-    ) -> Result<Answer<'a>, Fault> {
-        match outcome {
-            Ok(list) => Ok(Answer::Ranges(list)),
-            Err(fault) => Err(fault),
-        }
-    }
+pub(crate) fn own_slices<'a>(outcome: Result<&'a [(usize, usize)], MaskError>) -> Told<'a> {
+    told!(outcome, Ranges)
+}
 
-    pub(crate) fn of_part(outcome: Result<MaskIter<'a>, Fault>) -> Result<Answer<'a>, Fault> {
-        match outcome {
-            Ok(list) => Ok(Answer::Part(list)),
-            Err(fault) => Err(fault),
-        }
-    }
+pub(crate) fn own_either<'a>(outcome: Result<MaskIter<'a>, MaskError>) -> Told<'a> {
+    told!(outcome, Part)
+}
 
-    pub(crate) fn of_iter(
-        outcome: Result<AllOr<MaskIter<'a>>, Fault>,
-    ) -> Result<Answer<'a>, Fault> {
-        match outcome {
-            Ok(lent) => Ok(Answer::Iter(lent)),
-            Err(fault) => Err(fault),
-        }
-    }
+pub(crate) fn values<'a>(outcome: Result<MaskValues, MaskError>) -> Told<'a> {
+    told!(outcome, Mixed)
 }

@@ -1,7 +1,7 @@
 //! Why there is no answer.
 
 use crate::text::Text;
-use std::alloc::{AllocError, Global};
+use std::alloc::{AllocError, AllocFailed, Global};
 use vortex_mask::MaskError;
 
 /// Why a call has no answer.
@@ -17,9 +17,8 @@ pub enum Fault {
     Unmet(&'static str),
 }
 
-impl Fault {
-    /// Why a call of masks was refused.
-    pub fn of(error: MaskError) -> Fault {
+impl From<MaskError> for Fault {
+    fn from(error: MaskError) -> Fault {
         match error {
             MaskError::Memory(_) => Fault::Memory,
             named => Fault::Refused(named),
@@ -27,19 +26,15 @@ impl Fault {
     }
 }
 
-/// The answer of a call of masks, which states no more of it.
-pub fn answer<T>(outcome: Result<T, MaskError>) -> Result<T, Fault> {
-    match outcome {
-        Ok(it) => Ok(it),
-        Err(error) => Err(Fault::of(error)),
+impl From<AllocError> for Fault {
+    fn from(_error: AllocError) -> Fault {
+        Fault::Memory
     }
 }
 
-/// The answer of a call that is refused only memory.
-pub fn made<T>(outcome: Result<T, AllocError>) -> Result<T, Fault> {
-    match outcome {
-        Ok(it) => Ok(it),
-        Err(_) => Err(Fault::Memory),
+impl<T: Drop> From<AllocFailed<T>> for Fault {
+    fn from(_failed: AllocFailed<T>) -> Fault {
+        Fault::Memory
     }
 }
 

@@ -3,23 +3,32 @@
 #![tactic(auto)]
 
 mod answer;
-pub mod bits;
+mod bits;
+mod builder;
 mod call;
+mod deposits;
 mod fault;
-pub mod kernels;
-pub mod masks;
-mod operand;
-pub mod packed;
-mod ranged;
+mod group;
+mod held;
+mod kernels;
+mod lines;
+mod listed;
+mod mask_word;
+mod masks;
+mod mixed;
+mod operands;
+mod others;
+mod packed;
 mod row;
+mod tested;
 mod text;
-pub mod words;
+mod walks;
+mod words;
 mod written;
 
 pub use answer::Answer;
 pub use call::Call;
-pub use fault::{Fault, made};
-pub use operand::Operand;
-pub use ranged::Ranged;
+pub use fault::Fault;
 pub use row::{Manner, Outcome, Row, kept, write_outcome};
 pub use text::{Detail, Text};
+pub use words::halves;

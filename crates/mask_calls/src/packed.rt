@@ -1,9 +1,6 @@
 //! Packed bits at an offset, with bits outside the list that are as a test wants them.
 
-use crate::bits::one::clone;
-use crate::bits::parts::slice;
-use crate::bits::{from_indices, uniform};
-use crate::fault::{Fault, made};
+use crate::fault::Fault;
 use crate::words::{Words, halves, number, numbers, pair, push, values, with_room};
 use bytes::Bytes;
 use mask_bits::BitBuffer;
@@ -90,14 +87,6 @@ fn packed(alloc: Global, offset: usize, digits: &[u8], outside: Outside) -> Resu
     Ok(bytes)
 }
 
-/// `BitBuffer::from_vec`.
-pub fn from_vec(bytes: Vec<u8>, len: usize) -> Result<BitBuffer, Fault> {
-    if len > 8 * bytes.len().min(1_000_000) {
-        return Err(Fault::Unmet("a bit for each value"));
-    }
-    made(BitBuffer::from_vec(bytes, len))
-}
-
 /// `BitBuffer::new_with_offset`, of bytes that nobody else holds.
 pub fn of_own(bytes: Vec<u8>, offset: usize, len: usize) -> Result<BitBuffer, Fault> {
     if bytes.len() > 1_000_000 {
@@ -115,12 +104,7 @@ pub fn of_own(bytes: Vec<u8>, offset: usize, len: usize) -> Result<BitBuffer, Fa
 
 /// `BitBuffer::from_bools`.
 pub fn from_bools(alloc: Global, values: &[bool]) -> Result<BitBuffer, Fault> {
-    made(BitBuffer::from_bools(alloc, values.iter().copied()))
-}
-
-/// `BitBuffer::from_rows`, by a test that answers the row itself.
-pub fn from_rows(alloc: Global, rows: &[bool]) -> Result<BitBuffer, Fault> {
-    made(BitBuffer::from_rows(alloc, rows, |row| *row))
+    Ok(BitBuffer::from_bools(alloc, values.iter().copied())?)
 }
 
 // These digits from bit `offset` on of bytes that nobody else holds.
@@ -143,42 +127,35 @@ fn buffer_at(
 
 // From a bit on to the end.
 fn of_part(alloc: Global, rest: &str) -> Result<BitBuffer, Fault> {
+    let (start, word) = parts_of(rest)?;
+    let (start, buffer) = (number(start)?, read_own(alloc, word)?);
+    if start > buffer.len() {
+        return Err(Fault::Unmet("a range within the buffer"));
+    }
+    Ok(buffer.slice(start, buffer.len())?)
+}
+
+fn parts_of<'a>(rest: &'a str) -> Result<(&'a str, &'a str), Fault> {
     match halves(rest, ":") {
-        Some((start, word)) => part_of(read_own(alloc, word), number(start)),
-        None => Err(Fault::Malformed("a part")),
+        Some(parts) => Ok(parts),
+        None => Err(Fault::Malformed("two parts")),
     }
 }
 
-fn part_of(
-    buffer: Result<BitBuffer, Fault>,
-    start: Result<usize, Fault>,
-) -> Result<BitBuffer, Fault> {
-    match (buffer, start) {
-        (Ok(buffer), Ok(start)) => slice(&buffer, start, buffer.len()),
-        (Err(fault), _) | (_, Err(fault)) => Err(fault),
+/// A buffer of a length that is true at these indices, in any order.
+pub fn true_at(alloc: Global, len: &str, list: &str) -> Result<BitBuffer, Fault> {
+    let (len, list) = (number(len)?, numbers(alloc, list)?);
+    if !list.iter().all(|i| *i < len) {
+        return Err(Fault::Unmet("indices below the length"));
     }
-}
-
-// A length, and the indices of the true values in any order.
-fn of_indices(alloc: Global, rest: &str) -> Result<BitBuffer, Fault> {
-    match halves(rest, ":") {
-        Some((len, list)) => {
-            let list = numbers(alloc, list)?;
-            from_indices(alloc, number(len)?, &list)
-        }
-        None => Err(Fault::Malformed("a length and indices")),
-    }
+    Ok(BitBuffer::from_indices(alloc, len, &list)?)
 }
 
 // Bytes, offset and length.
 fn of_bytes(alloc: Global, rest: &str) -> Result<BitBuffer, Fault> {
-    match halves(rest, ":") {
-        Some((list, part)) => {
-            let (offset, len) = pair(part, ":", "an offset and a length")?;
-            of_own(bytes_of(alloc, list)?, offset, len)
-        }
-        None => Err(Fault::Malformed("bytes")),
-    }
+    let (list, part) = parts_of(rest)?;
+    let (offset, len) = pair(part, ":", "an offset and a length")?;
+    of_own(bytes_of(alloc, list)?, offset, len)
 }
 
 fn bytes_of(alloc: Global, list: &str) -> Result<Vec<u8>, Fault> {
@@ -203,15 +180,15 @@ fn byte(word: &str) -> Result<u8, Fault> {
 }
 
 /// A buffer by a word: truth values; `all:130` and `none:130`; `3+10110`, `3-10110` and `3~10110` of values from bit
-/// 3 on with set bits, clear ones, and bits as `Outside::Ends` says around them; `bytes:180,255:2:5` of five values from bit 2 of these bytes on;
-/// `true:12:9,0` of 12 values by the indices of the true ones; `part:3:W` of such a word from bit 3 on, and
-/// `clone:W`.
+/// 3 on with set bits, clear ones, and bits as `Outside::Ends` says around them; `bytes:180,255:2:5` of five values
+/// from bit 2 of these bytes on; `true:12:9,0` of 12 values by the indices of the true ones; `part:3:W` of such a word
+/// from bit 3 on, and `clone:W`.
 pub fn read(alloc: Global, word: &str) -> Result<BitBuffer, Fault> {
     match halves(word, ":") {
-        Some(("all", len)) => of_one(alloc, len, true),
-        Some(("none", len)) => of_one(alloc, len, false),
+        Some(("all", len)) => Ok(BitBuffer::new_set(alloc, number(len)?)?),
+        Some(("none", len)) => Ok(BitBuffer::new_unset(alloc, number(len)?)?),
         Some(("part", rest)) => of_part(alloc, rest),
-        Some(("clone", rest)) => clone_of(read_own(alloc, rest)),
+        Some(("clone", rest)) => Ok(read_own(alloc, rest)?.clone()?),
         _ => read_own(alloc, word),
     }
 }
@@ -219,54 +196,30 @@ pub fn read(alloc: Global, word: &str) -> Result<BitBuffer, Fault> {
 fn read_own(alloc: Global, word: &str) -> Result<BitBuffer, Fault> {
     match halves(word, ":") {
         Some(("bytes", rest)) => of_bytes(alloc, rest),
-        Some(("true", rest)) => of_indices(alloc, rest),
-        _ => of_values(alloc, word),
-    }
-}
-
-fn of_one(alloc: Global, len: &str, value: bool) -> Result<BitBuffer, Fault> {
-    match number(len) {
-        Ok(len) => uniform(alloc, len, value),
-        Err(fault) => Err(fault),
-    }
-}
-
-fn clone_of(buffer: Result<BitBuffer, Fault>) -> Result<BitBuffer, Fault> {
-    match buffer {
-        Ok(buffer) => clone(&buffer),
-        Err(fault) => Err(fault),
-    }
-}
-
-fn of_values(alloc: Global, word: &str) -> Result<BitBuffer, Fault> {
-    match offset_of(word) {
-        Some((offset, outside, list)) => buffer_at(alloc, number(offset), list, outside),
-        None => match values(alloc, word) {
-            Ok(list) => from_bools(alloc, &list),
-            Err(fault) => Err(fault),
+        Some(("true", rest)) => {
+            let (len, list) = parts_of(rest)?;
+            true_at(alloc, len, list)
+        }
+        _ => match offset_of(word) {
+            Some((offset, outside, list)) => buffer_at(alloc, number(offset), list, outside),
+            None => from_bools(alloc, &values(alloc, word)?),
         },
     }
 }
 
 /// The parts of a word such as `3+10110`.
 pub fn offset_of<'a>(word: &'a str) -> Option<(&'a str, Outside, &'a str)> {
-    match halves(word, "+") {
-        Some((offset, list)) => Some((offset, Outside::Set, list)),
-        None if word == "-" => None,
-        None => offset_of_ends(word),
+    if word == "-" {
+        return None;
     }
-}
-
-fn offset_of_ends<'a>(word: &'a str) -> Option<(&'a str, Outside, &'a str)> {
-    match halves(word, "~") {
-        Some((offset, list)) => Some((offset, Outside::Ends, list)),
-        None => offset_of_clear(word),
+    for (mark, outside) in [
+        ("+", Outside::Set),
+        ("~", Outside::Ends),
+        ("-", Outside::Clear),
+    ] {
+        if let Some((offset, list)) = halves(word, mark) {
+            return Some((offset, outside, list));
+        }
     }
-}
-
-fn offset_of_clear<'a>(word: &'a str) -> Option<(&'a str, Outside, &'a str)> {
-    match halves(word, "-") {
-        Some((offset, list)) => Some((offset, Outside::Clear, list)),
-        None => None,
-    }
+    None
 }

@@ -1,6 +1,6 @@
 //! Rows: a line each, of calls, their operands and what they answer.
 
-use crate::answer::Answer;
+use crate::answer::Told;
 use crate::call::Call;
 use crate::fault::Fault;
 use crate::text::{Detail, Text};
@@ -81,7 +81,7 @@ impl Outcome {
         }
     }
 
-    fn of_call(alloc: Global, call: Call, manner: Manner) -> Result<Outcome, AllocError> {
+    fn of_call(alloc: Global, call: Call<'_>, manner: Manner) -> Result<Outcome, AllocError> {
         let mut call = call;
         let held = if manner.is_shared {
             call.hold()
@@ -118,7 +118,7 @@ fn outcome_of(answer: Texted, before: Texted, after: Texted) -> Result<Outcome, 
 }
 
 // What the call leaves as it was, however long, where that is told.
-fn told(alloc: Global, call: &Call, manner: Manner) -> Texted {
+fn told(alloc: Global, call: &Call<'_>, manner: Manner) -> Texted {
     let mut text = match manner.detail {
         Detail::Lists => Text::of(alloc, Detail::Lists),
         _ => Text::whole(alloc),
@@ -130,14 +130,14 @@ fn told(alloc: Global, call: &Call, manner: Manner) -> Texted {
 }
 
 /// What a call leaves as it was, by `Call::write_kept`, with no list cut.
-pub fn kept(alloc: Global, call: &Call, is_refused: bool) -> Texted {
+pub fn kept(alloc: Global, call: &Call<'_>, is_refused: bool) -> Texted {
     let mut text = Text::whole(alloc);
     call.write_kept(&mut text, is_refused);
     text.finish()
 }
 
 // The answer, and what the call changed in place; or why no clones are held.
-fn answered(alloc: Global, call: &mut Call, held: Result<(), Fault>, manner: Manner) -> Texted {
+fn answered(alloc: Global, call: &mut Call<'_>, held: Result<(), Fault>, manner: Manner) -> Texted {
     let mut text = Text::of(alloc, manner.detail);
     match held {
         Ok(()) => write_answer(&mut text, alloc, call),
@@ -146,13 +146,13 @@ fn answered(alloc: Global, call: &mut Call, held: Result<(), Fault>, manner: Man
     text.finish()
 }
 
-fn write_answer(text: &mut Text, alloc: Global, call: &mut Call) {
+fn write_answer(text: &mut Text, alloc: Global, call: &mut Call<'_>) {
     write_outcome(text, call.run(alloc));
     call.write_changed(text);
 }
 
 /// Writes what a call answers, or its fault.
-pub fn write_outcome(text: &mut Text, outcome: Result<Answer<'_>, Fault>) {
+pub fn write_outcome(text: &mut Text, outcome: Told<'_>) {
     match outcome {
         Ok(answer) => answer.write_walk(text),
         Err(fault) => fault.write(text),

@@ -162,15 +162,11 @@ impl Text {
         } else if self.cuts(numbers.len()) {
             self.put_count(numbers.len(), " numbers");
         } else {
-            self.put_each(numbers);
-        }
-    }
-
-    fn put_each(&mut self, numbers: &[usize]) {
-        let mut mark = "";
-        for number in numbers {
-            self.put_next(mark, *number);
-            mark = ",";
+            let mut mark = "";
+            for number in numbers {
+                self.put_next(mark, *number);
+                mark = ",";
+            }
         }
     }
 
@@ -181,15 +177,11 @@ impl Text {
         } else if self.cuts(ranges.len()) {
             self.put_count(ranges.len(), " ranges");
         } else {
-            self.put_each_range(ranges);
-        }
-    }
-
-    fn put_each_range(&mut self, ranges: &[(usize, usize)]) {
-        let mut mark = "";
-        for range in ranges {
-            self.put_range(mark, *range);
-            mark = ",";
+            let mut mark = "";
+            for range in ranges {
+                self.put_range(mark, *range);
+                mark = ",";
+            }
         }
     }
 

@@ -1,25 +1,23 @@
 //! What the words of a row say: numbers, lists of them, ranges, and truth values.
 
-use crate::fault::{Fault, made};
+use crate::fault::Fault;
+use crate::lines::UNKNOWN;
 use std::alloc::Global;
+use vortex_mask::Fraction;
 
 /// A number: its digits, `0x` and hexadecimal ones, `max`, or `max-1`.
 pub fn number(word: &str) -> Result<usize, Fault> {
     match word {
         "max" => Ok(usize::MAX),
         "max-1" => Ok(usize::MAX - 1),
-        _ => parsed(word),
+        _ => match word.strip_prefix("0x") {
+            Some(digits) => parsed(usize::from_str_radix(digits, 16)),
+            None => parsed(word.parse::<usize>()),
+        },
     }
 }
 
-fn parsed(word: &str) -> Result<usize, Fault> {
-    match word.strip_prefix("0x") {
-        Some(digits) => number_of(usize::from_str_radix(digits, 16)),
-        None => number_of(word.parse::<usize>()),
-    }
-}
-
-fn number_of<E: Drop>(parsed: Result<usize, E>) -> Result<usize, Fault> {
+fn parsed<E: Drop>(parsed: Result<usize, E>) -> Result<usize, Fault> {
     match parsed {
         Ok(number) => Ok(number),
         Err(_) => Err(Fault::Malformed("a number")),
@@ -31,35 +29,14 @@ pub fn halves<'a>(text: &'a str, mark: &str) -> Option<(&'a str, &'a str)> {
     text.split_once(mark)
 }
 
-/// What stands beside a name in rows of names.
-pub fn named<T: Copy>(name: &str, rows: &[(&'static str, T)]) -> Option<T> {
-    for (each, it) in rows {
-        if *each == name {
-            return Some(*it);
-        }
-    }
-    None
-}
-
 /// An empty list with room for so many items.
 pub fn with_room<T>(alloc: Global, count: usize) -> Result<Vec<T>, Fault> {
-    made(Vec::with_capacity(alloc, count))
+    Ok(Vec::with_capacity(alloc, count)?)
 }
 
 /// Puts an item behind the others.
 pub fn push<T: Drop>(list: &mut Vec<T>, item: T) -> Result<(), Fault> {
-    if list.push(item).is_ok() {
-        Ok(())
-    } else {
-        Err(Fault::Memory)
-    }
-}
-
-fn push_number(list: &mut Vec<usize>, word: &str) -> Result<(), Fault> {
-    match number(word) {
-        Ok(number) => push(list, number),
-        Err(fault) => Err(fault),
-    }
+    Ok(list.push(item)?)
 }
 
 /// Numbers with a comma between two, as `0,2,3`, or `-`.
@@ -67,39 +44,17 @@ pub fn numbers(alloc: Global, word: &str) -> Result<Vec<usize>, Fault> {
     let mut numbers: Vec<usize> = Vec::new(alloc);
     if word != "-" {
         for part in word.split(',') {
-            push_number(&mut numbers, part)?;
+            push(&mut numbers, number(part)?)?;
         }
     }
     Ok(numbers)
 }
 
-/// A range, as `0..3`.
-pub fn range(word: &str) -> Result<(usize, usize), Fault> {
-    pair(word, "..", "a range")
-}
-
 /// Two numbers with this mark between.
 pub fn pair(word: &str, mark: &str, what: &'static str) -> Result<(usize, usize), Fault> {
     match halves(word, mark) {
-        Some((first, second)) => both(number(first), number(second)),
+        Some((first, second)) => Ok((number(first)?, number(second)?)),
         None => Err(Fault::Malformed(what)),
-    }
-}
-
-fn both<T: Drop, U: Drop>(
-    first: Result<T, Fault>,
-    second: Result<U, Fault>,
-) -> Result<(T, U), Fault> {
-    match (first, second) {
-        (Ok(first), Ok(second)) => Ok((first, second)),
-        (Err(fault), _) | (_, Err(fault)) => Err(fault),
-    }
-}
-
-fn push_range(list: &mut Vec<(usize, usize)>, word: &str) -> Result<(), Fault> {
-    match range(word) {
-        Ok(range) => push(list, range),
-        Err(fault) => Err(fault),
     }
 }
 
@@ -108,7 +63,7 @@ pub fn ranges(alloc: Global, word: &str) -> Result<Vec<(usize, usize)>, Fault> {
     let mut ranges: Vec<(usize, usize)> = Vec::new(alloc);
     if word != "-" {
         for part in word.split(',') {
-            push_range(&mut ranges, part)?;
+            push(&mut ranges, pair(part, "..", "a range")?)?;
         }
     }
     Ok(ranges)
@@ -122,16 +77,12 @@ fn digit(byte: u8) -> Result<bool, Fault> {
     }
 }
 
-fn push_digit(list: &mut Vec<bool>, byte: u8) -> Result<(), Fault> {
-    push(list, digit(byte)?)
-}
-
 /// Truth values, as `10110`, or `-`.
 pub fn digits(alloc: Global, word: &str) -> Result<Vec<bool>, Fault> {
     let mut values: Vec<bool> = with_room(alloc, word.len())?;
     if word != "-" {
         for byte in word.as_bytes() {
-            push_digit(&mut values, *byte)?;
+            push(&mut values, digit(*byte)?)?;
         }
     }
     Ok(values)
@@ -173,29 +124,23 @@ pub fn values(alloc: Global, word: &str) -> Result<Vec<bool>, Fault> {
 }
 
 fn values_by(alloc: Global, form: &str, rest: &str) -> Result<Vec<bool>, Fault> {
-    match (form, halves(rest, ":")) {
-        ("at", Some((len, list))) => listed(alloc, len, list),
-        (_, Some((first, len))) => match both(number(first), number(len)) {
-            Ok((first, len)) => repeating_by(alloc, form, first, len),
-            Err(fault) => Err(fault),
-        },
-        _ => Err(Fault::Malformed("truth values")),
-    }
-}
-
-fn listed(alloc: Global, len: &str, list: &str) -> Result<Vec<bool>, Fault> {
-    match both(number(len), numbers(alloc, list)) {
-        Ok((len, indices)) => true_at(alloc, len, &indices),
-        Err(fault) => Err(fault),
-    }
-}
-
-fn repeating_by(alloc: Global, form: &str, first: usize, len: usize) -> Result<Vec<bool>, Fault> {
     match form {
-        "every" => repeating(alloc, len, (first, 1)),
-        "first" => repeating(alloc, len, (usize::MAX, first)),
+        "at" => listed(alloc, halves(rest, ":").unwrap_or((rest, "-"))),
+        "every" => {
+            let (period, len) = pair(rest, ":", "truth values")?;
+            repeating(alloc, len, (period, 1))
+        }
+        "first" => {
+            let (trues, len) = pair(rest, ":", "truth values")?;
+            repeating(alloc, len, (usize::MAX, trues))
+        }
         _ => Err(Fault::Malformed("truth values")),
     }
+}
+
+fn listed(alloc: Global, (len, list): (&str, &str)) -> Result<Vec<bool>, Fault> {
+    let indices = numbers(alloc, list)?;
+    true_at(alloc, number(len)?, &indices)
 }
 
 /// The words behind the name of a call, read one after another, and the first fault in them. What can't be read is 0
@@ -219,11 +164,11 @@ impl<'a> Words<'a> {
     }
 
     /// What the words make, if each could be read and none is left.
-    pub fn end<T: Drop>(self, made: Option<T>) -> Result<T, Fault> {
-        match (self.fault, made) {
-            (Some(fault), _) => Err(fault),
-            (None, Some(it)) if self.rest.is_empty() => Ok(it),
-            _ => Err(Fault::Malformed("a call of this name, and of so many words")),
+    pub fn end<T: Drop>(self, made: T) -> Result<T, Fault> {
+        match self.fault {
+            Some(fault) => Err(fault),
+            None if self.rest.is_empty() => Ok(made),
+            None => Err(UNKNOWN),
         }
     }
 
@@ -274,6 +219,13 @@ impl<'a> Words<'a> {
     pub fn number(&mut self) -> usize {
         let number = number(self.next());
         self.found(number).unwrap_or(0)
+    }
+
+    /// The next word, as a fraction such as `3/5`.
+    pub fn fraction(&mut self) -> Fraction {
+        let fraction = pair(self.next(), "/", "a fraction");
+        let (num, den) = self.found(fraction).unwrap_or((0, 0));
+        Fraction { num, den }
     }
 
     /// The next word, as numbers.

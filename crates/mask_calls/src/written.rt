@@ -1,23 +1,33 @@
 //! How a row says what a call answers.
 
 use crate::answer::Answer;
-use crate::bits::builder::write_built;
-use crate::bits::walks;
+use crate::builder::write_built;
 use crate::text::{Detail, Text};
+use crate::walks;
 use mask_bits::BitBuffer;
 use vortex_mask::intersect_by_rank::Steps;
-use vortex_mask::{AllOr, Mask, MaskBoolIter, MaskIter, MaskSetIndices, MaskSetSlices, MaskValues};
+use vortex_mask::{AllOr, Mask, MaskIter, MaskValues};
+
+macro_rules! lent {
+    ($text:ident, $lent:expr, $it:ident => $write:expr) => {
+        match $lent {
+            AllOr::All => $text.put("All"),
+            AllOr::None => $text.put("None"),
+            AllOr::Some($it) => $write,
+        }
+    };
+}
 
 impl<'a> Answer<'a> {
     // A walk is at its end after that.
     pub(crate) fn write_walk(self, text: &mut Text) {
         match self {
-            Answer::Values(values) => write_values(text, values),
-            Answer::SetIndices(indices) => write_set_indices(text, indices),
-            Answer::SetSlices(ranges) => write_set_slices(text, ranges),
-            Answer::BitValues(values) => walks::write_values(text, values),
-            Answer::BitIndices(indices) => walks::write_indices(text, indices),
-            Answer::BitSlices(ranges) => walks::write_slices(text, ranges),
+            Answer::Values(values) => walks::write_values(text, values),
+            Answer::SetIndices(indices) => walks::write_indices(text, indices),
+            Answer::SetSlices(ranges) => walks::write_slices(text, ranges),
+            Answer::BitValues(values) => walks::write_bit_values(text, values),
+            Answer::BitIndices(indices) => walks::write_bit_indices(text, indices),
+            Answer::BitSlices(ranges) => walks::write_bit_slices(text, ranges),
             Answer::Built(built) => write_built(text, built),
             other => other.write(text),
         }
@@ -28,14 +38,15 @@ impl<'a> Answer<'a> {
             Answer::Mask(mask) => write_mask(text, mask),
             Answer::Lent(mask) => write_mask(text, *mask),
             Answer::Uncached(mask) => write_uncached(text, mask),
-            Answer::Counted(mask, steps) => write_counted(text, mask, steps),
+            Answer::Counted((mask, steps)) => write_counted(text, mask, steps),
             Answer::Masks(masks) => write_masks(text, masks),
             Answer::Buffer(buffer) => write_buffer(text, buffer),
-            Answer::LentBuffer(lent) => write_lent_buffer(text, lent),
+            Answer::LentBuffer(lent) => lent!(text, lent, it => write_some(text, *it)),
             Answer::Numbers(numbers) => text.put_numbers(numbers),
-            Answer::Indices(lent) => write_indices(text, lent),
-            Answer::Slices(lent) => write_slices(text, lent),
-            Answer::Iter(lent) => write_iter(text, lent),
+            Answer::Runs(runs) => text.put_ranges(runs),
+            Answer::Indices(lent) => lent!(text, lent, it => put_indices(text, *it)),
+            Answer::Slices(lent) => lent!(text, lent, it => put_slices(text, *it)),
+            Answer::Iter(lent) => lent!(text, lent, it => write_part(text, it)),
             Answer::List(list) => text.put_numbers(*list),
             Answer::Ranges(list) => text.put_ranges(*list),
             Answer::Part(list) => write_part(text, list),
@@ -50,31 +61,22 @@ impl<'a> Answer<'a> {
             Answer::EachBit(buffer) => walks::write_each(text, *buffer),
             Answer::EachValue(mask) => write_list(text, *mask),
             Answer::EachRank(mask) => write_ranks(text, *mask),
-            _ => self.write_value(text),
-        }
-    }
-
-    fn write_value(&self, text: &mut Text) {
-        match self {
             Answer::Flag(flag) => text.put_flag(*flag),
             Answer::Number(number) => text.put_number(*number),
             Answer::Index(index) => text.put_index(*index),
             Answer::Fraction(it) => text.put_pair(it.num, "/", it.den),
             Answer::Word(word) => text.put_hex(*word),
             Answer::Done => text.put("done"),
-            _ => self.write_text(text),
-        }
-    }
-
-    fn write_text(&self, text: &mut Text) {
-        match self {
             Answer::Path(path) => text.put_debug(path),
             Answer::Display(mask) => text.put_display(*mask),
             Answer::Debug(mask) => text.put_debug(*mask),
             Answer::DebugBits(buffer) => text.put_debug(*buffer),
             Answer::DebugValue(values) => text.put_debug(*values),
             Answer::DebugValues(values) => text.put_debug(values),
-            _ => {}
+            Answer::Reads(operands) => text.put(operands),
+            Answer::Values(_) | Answer::SetIndices(_) | Answer::SetSlices(_) => {}
+            Answer::BitValues(_) | Answer::BitIndices(_) | Answer::BitSlices(_) => {}
+            Answer::Built(_) => {}
         }
     }
 }
@@ -231,64 +233,9 @@ fn write_bits(text: &mut Text, buffer: &BitBuffer) {
     }
 }
 
-fn write_lent_buffer(text: &mut Text, lent: &AllOr<&BitBuffer>) {
-    match lent {
-        AllOr::All => text.put("All"),
-        AllOr::None => text.put("None"),
-        AllOr::Some(buffer) => {
-            text.put("Some ");
-            write_buffer(text, *buffer);
-        }
-    }
-}
-
-// Each value, with how many are said to be left before it; and how many past the last.
-fn write_values(text: &mut Text, values: MaskBoolIter<'_>) {
-    let mut values = values;
-    for _ in 0..values.len() {
-        walks::write_hint(text, values.len(), values.size_hint());
-        walks::write_next(text, values.next());
-    }
-    walks::write_hint(text, values.len(), values.size_hint());
-    walks::write_end(text, values.next().is_none());
-}
-
-fn write_set_indices(text: &mut Text, indices: MaskSetIndices<'_>) {
-    text.put("indices");
-    for index in indices {
-        text.put_next(" ", index);
-    }
-}
-
-fn write_set_slices(text: &mut Text, ranges: MaskSetSlices<'_>) {
-    text.put("ranges");
-    for range in ranges {
-        text.put_range(" ", range);
-    }
-}
-
-fn write_indices(text: &mut Text, lent: &AllOr<&[usize]>) {
-    match lent {
-        AllOr::All => text.put("All"),
-        AllOr::None => text.put("None"),
-        AllOr::Some(indices) => put_indices(text, *indices),
-    }
-}
-
-fn write_slices(text: &mut Text, lent: &AllOr<&[(usize, usize)]>) {
-    match lent {
-        AllOr::All => text.put("All"),
-        AllOr::None => text.put("None"),
-        AllOr::Some(ranges) => put_slices(text, *ranges),
-    }
-}
-
-fn write_iter(text: &mut Text, lent: &AllOr<MaskIter<'_>>) {
-    match lent {
-        AllOr::All => text.put("All"),
-        AllOr::None => text.put("None"),
-        AllOr::Some(list) => write_part(text, list),
-    }
+fn write_some(text: &mut Text, buffer: &BitBuffer) {
+    text.put("Some ");
+    write_buffer(text, buffer);
 }
 
 fn write_part(text: &mut Text, list: &MaskIter<'_>) {

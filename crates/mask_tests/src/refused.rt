@@ -3,7 +3,7 @@
 //! was refused is made once more behind `calls again`. Between `calls` and the next line nothing but the call asks for
 //! memory. The script misses a line that can't be written.
 
-use mask_calls::words::halves;
+use mask_calls::halves;
 use mask_calls::{Answer, Call, Fault, Row, Text, kept, write_outcome};
 use std::alloc::AllocError;
 use std::io::{self, BufRead, BufReader};
@@ -41,14 +41,14 @@ fn check_row<R: Print + AllocGlobal>(rt: &R, row: Row<'_>) {
     }
 }
 
-fn check_call<R: Print + AllocGlobal>(rt: &R, row: Row<'_>, call: Call) {
+fn check_call<R: Print + AllocGlobal>(rt: &R, row: Row<'_>, call: Call<'_>) {
     let mut call = call;
     check_made(rt, row, &mut call);
     call.end();
 }
 
 // Makes the call, compares what it leaves as it was, and makes it again where it was refused.
-fn check_made<R: Print + AllocGlobal>(rt: &R, row: Row<'_>, call: &mut Call) {
+fn check_made<R: Print + AllocGlobal>(rt: &R, row: Row<'_>, call: &mut Call<'_>) {
     let answered = kept(rt.alloc(), call, false);
     let refused = kept(rt.alloc(), call, true);
     if is_answered(rt, "calls", call, wants(row.want).0) {
@@ -82,7 +82,7 @@ fn is_kept<R: Print>(
 }
 
 // Operands by value are gone after a refusal: then the second call is read anew.
-fn again<R: Print + AllocGlobal>(rt: &R, row: Row<'_>, call: &mut Call) {
+fn again<R: Print + AllocGlobal>(rt: &R, row: Row<'_>, call: &mut Call<'_>) {
     if call.lends() {
         is_answered_now(rt, row, call);
     } else {
@@ -93,13 +93,13 @@ fn again<R: Print + AllocGlobal>(rt: &R, row: Row<'_>, call: &mut Call) {
     }
 }
 
-fn is_answered_anew<R: Print + AllocGlobal>(rt: &R, row: Row<'_>, call: Call) {
+fn is_answered_anew<R: Print + AllocGlobal>(rt: &R, row: Row<'_>, call: Call<'_>) {
     let mut call = call;
     is_answered_now(rt, row, &mut call);
     call.end();
 }
 
-fn is_answered_now<R: Print + AllocGlobal>(rt: &R, row: Row<'_>, call: &mut Call) {
+fn is_answered_now<R: Print + AllocGlobal>(rt: &R, row: Row<'_>, call: &mut Call<'_>) {
     let (want, left) = wants(row.want);
     if left.is_some() {
         call.give_up();
@@ -110,7 +110,7 @@ fn is_answered_now<R: Print + AllocGlobal>(rt: &R, row: Row<'_>, call: &mut Call
 }
 
 // Makes the call behind a line, and compares its answer.
-fn is_answered<R: Print + AllocGlobal>(rt: &R, line: &str, call: &mut Call, want: &str) -> bool {
+fn is_answered<R: Print + AllocGlobal>(rt: &R, line: &str, call: &mut Call<'_>, want: &str) -> bool {
     let mut text = Text::whole(rt.alloc());
     say(rt, line);
     let is_answered = ended(rt, &mut text, call.run(rt.alloc()));

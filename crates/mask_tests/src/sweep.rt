@@ -4,7 +4,7 @@
 //! same after the call. Each list of an answer is written whole, and with `=>` in place of `->` without what masks
 //! have cached.
 
-use mask_calls::words::halves;
+use mask_calls::halves;
 use mask_calls::{Detail, Manner, Outcome, Row, Text};
 use std::alloc::{AllocError, Global};
 use std::io::{self, BufRead, BufReader};

@@ -1,7 +1,7 @@
 use Rattle.std.proofs.Common.{◌∷◌, ◌↔◌, map, drop}
 use Rattle.vortex_mask.specs.Mask.{truth}
 use Rattle.mask_bits.specs.Stacks.{IsStack}
-use Rattle.mask_calls.proofs.masks.many.are_a_stack.Given as goal
+use Rattle.mask_calls.proofs.tested.are_a_stack.Given as goal
 
 -- the masks are a stack exactly if those from the one before on are
 abbrev pub invariant-loop-mask : goal.invariant-loop-mask

@@ -1,83 +1,27 @@
 //! Calls of builders.
 
-use crate::answer::Answer;
-use crate::fault::{Fault, made};
+use crate::answer::{Answer, Told};
+use crate::fault::Fault;
+use crate::lines::calls;
 use crate::packed;
 use crate::text::Text;
 use crate::words::{Words, halves, number, pair};
 use crate::written::write_buffer;
 use mask_bits::{BitBuffer, BitBufferMut};
-use std::alloc::Global;
+use std::alloc::{AllocError, Global};
 use std::mem;
+
+/// The call of a builder.
+pub(crate) fn of<'a>(name: &str, operands: Option<(Global, &'a mut BuilderCall)>) -> Told<'a> {
+    calls! { name, operands as (alloc, call);
+        "builder" (builder) => call.run(alloc),
+    }
+}
 
 // No list of a test is longer.
 const LONGEST: usize = 10_000_000;
 
-/// `BitBufferMut::new_set` and `BitBufferMut::new_unset`.
-pub fn of_one(alloc: Global, len: usize, value: bool) -> Result<BitBufferMut, Fault> {
-    made(if value {
-        BitBufferMut::new_set(alloc, len)
-    } else {
-        BitBufferMut::new_unset(alloc, len)
-    })
-}
-
-pub fn with_capacity(alloc: Global, capacity: usize) -> Result<BitBufferMut, Fault> {
-    made(BitBufferMut::with_capacity(alloc, capacity))
-}
-
-pub fn append_n(builder: &mut BitBufferMut, value: bool, n: usize) -> Result<(), Fault> {
-    if builder.len() > LONGEST || n > LONGEST {
-        return Err(Fault::Unmet("a length that fits"));
-    }
-    made(builder.append_n(value, n))
-}
-
-pub fn push_word(builder: &mut BitBufferMut, word: u64, count: usize) -> Result<(), Fault> {
-    if builder.len() > LONGEST || count > 64 {
-        return Err(Fault::Unmet("a length that fits, and 64 bits at most"));
-    }
-    made(builder.push_word(word, count))
-}
-
-pub fn append_buffer(builder: &mut BitBufferMut, other: &BitBuffer) -> Result<(), Fault> {
-    if builder.len() > LONGEST || other.len() > LONGEST {
-        return Err(Fault::Unmet("a length that fits"));
-    }
-    made(builder.append_buffer(other))
-}
-
-/// `BitBufferMut::set` and `BitBufferMut::unset`.
-pub fn put(builder: &mut BitBufferMut, i: usize, value: bool) -> Result<(), Fault> {
-    if i >= builder.len() {
-        return Err(Fault::Unmet("an index below the length"));
-    }
-    if value {
-        builder.set(i);
-    } else {
-        builder.unset(i);
-    }
-    Ok(())
-}
-
-pub fn freeze(builder: BitBufferMut) -> Result<BitBuffer, Fault> {
-    made(builder.freeze())
-}
-
-// The buffer, which has the length that the builder said.
-fn frozen(builder: BitBufferMut) -> Result<BitBuffer, Fault> {
-    let len = builder.len();
-    match freeze(builder) {
-        Ok(buffer) => {
-            if buffer.len() == len {
-                Ok(buffer)
-            } else {
-                Err(Fault::Unmet("a buffer as long as its builder"))
-            }
-        }
-        Err(fault) => Err(fault),
-    }
-}
+const NO_BUILDER: Fault = Fault::Unmet("a builder that is there");
 
 /// A builder, or its buffer.
 #[derive(Drop)]
@@ -91,14 +35,7 @@ pub enum Built {
 }
 
 impl Built {
-    fn builder(&mut self) -> Result<&mut BitBufferMut, Fault> {
-        match self {
-            Built::Builder(builder) => Ok(builder),
-            _ => Err(Fault::Unmet("a builder that is there")),
-        }
-    }
-
-    fn start(&mut self, made: Result<BitBufferMut, Fault>) -> Result<(), Fault> {
+    fn start(&mut self, made: Result<BitBufferMut, AllocError>) -> Result<(), Fault> {
         *self = Built::Builder(made?);
         Ok(())
     }
@@ -110,8 +47,18 @@ impl Built {
                 *self = Built::Frozen(frozen(builder)?);
                 Ok(())
             }
-            _ => Err(Fault::Unmet("a builder that is there")),
+            _ => Err(NO_BUILDER),
         }
+    }
+}
+
+// The buffer, which has the length that the builder said.
+fn frozen(builder: BitBufferMut) -> Result<BitBuffer, Fault> {
+    let len = builder.len();
+    match builder.freeze() {
+        Ok(buffer) if buffer.len() == len => Ok(buffer),
+        Ok(_) => Err(Fault::Unmet("a buffer as long as its builder")),
+        Err(_) => Err(Fault::Memory),
     }
 }
 
@@ -131,34 +78,49 @@ pub(crate) fn write_built(text: &mut Text, built: &mut Built) {
 #[derive(Drop)]
 enum Operation {
     WithCapacity(usize),
-    OfOne(usize, bool),
+    NewSet(usize),
+    NewUnset(usize),
     AppendN(bool, usize),
     PushWord(u64, usize),
     AppendBuffer(BitBuffer),
-    Put(usize, bool),
+    Set(usize),
+    Unset(usize),
     Freeze,
 }
 
 impl Operation {
     fn make(&self, alloc: Global, built: &mut Built) -> Result<(), Fault> {
         match self {
-            Operation::WithCapacity(n) => built.start(with_capacity(alloc, *n)),
-            Operation::OfOne(len, value) => built.start(of_one(alloc, *len, *value)),
+            Operation::WithCapacity(n) => built.start(BitBufferMut::with_capacity(alloc, *n)),
+            Operation::NewSet(len) => built.start(BitBufferMut::new_set(alloc, *len)),
+            Operation::NewUnset(len) => built.start(BitBufferMut::new_unset(alloc, *len)),
             Operation::Freeze => built.freeze(),
-            _ => match built.builder() {
-                Ok(builder) => self.change(builder),
-                Err(fault) => Err(fault),
+            _ => match built {
+                Built::Builder(builder) => self.change(builder),
+                _ => Err(NO_BUILDER),
             },
         }
     }
 
     fn change(&self, builder: &mut BitBufferMut) -> Result<(), Fault> {
+        let len = builder.len();
+        if len > LONGEST {
+            return Err(Fault::Unmet("a length that fits"));
+        }
         match self {
-            Operation::AppendN(value, n) => append_n(builder, *value, *n),
-            Operation::PushWord(word, count) => push_word(builder, *word, *count),
-            Operation::AppendBuffer(other) => append_buffer(builder, other),
-            Operation::Put(i, value) => put(builder, *i, *value),
-            _ => Ok(()),
+            Operation::AppendN(value, n) if *n <= LONGEST => Ok(builder.append_n(*value, *n)?),
+            Operation::PushWord(word, count) if *count <= 64 => Ok(builder.push_word(
+                *word, *count,
+            )?),
+            Operation::AppendBuffer(other) if other.len() <= LONGEST => Ok(builder.append_buffer(
+                other,
+            )?),
+            Operation::Set(i) if *i < len => Ok(builder.set(*i)),
+            Operation::Unset(i) if *i < len => Ok(builder.unset(*i)),
+            Operation::Set(_) | Operation::Unset(_) => Err(Fault::Unmet(
+                "an index below the length",
+            )),
+            _ => Err(Fault::Unmet("a length that fits, and 64 bits at most")),
         }
     }
 
@@ -171,24 +133,29 @@ impl Operation {
             },
             Some((form @ ("n" | "w"), rest)) => append(form, pair(rest, ":", "two numbers")?),
             Some((form, rest)) => of_number(form, number(rest)?),
-            None => Err(Fault::Malformed("a builder's operation")),
+            None => Err(UNREAD),
         }
     }
 }
 
+const UNREAD: Fault = Fault::Malformed("a builder's operation");
+
 fn append(form: &str, (first, count): (usize, usize)) -> Result<Operation, Fault> {
     match form {
         "n" => Ok(Operation::AppendN(first == 1, count)),
-        _ => Ok(Operation::PushWord(first as u64, count)),
+        "w" => Ok(Operation::PushWord(first as u64, count)),
+        _ => Err(UNREAD),
     }
 }
 
 fn of_number(form: &str, number: usize) -> Result<Operation, Fault> {
     match form {
         "with_capacity" => Ok(Operation::WithCapacity(number)),
-        "new_set" | "new_unset" => Ok(Operation::OfOne(number, form == "new_set")),
-        "set" | "unset" => Ok(Operation::Put(number, form == "set")),
-        _ => Err(Fault::Malformed("a builder's operation")),
+        "new_set" => Ok(Operation::NewSet(number)),
+        "new_unset" => Ok(Operation::NewUnset(number)),
+        "set" => Ok(Operation::Set(number)),
+        "unset" => Ok(Operation::Unset(number)),
+        _ => Err(UNREAD),
     }
 }
 
@@ -202,8 +169,8 @@ pub struct BuilderCall {
 }
 
 impl BuilderCall {
-    /// Does the last operation.
-    pub fn run<'a>(&'a mut self, alloc: Global) -> Result<Answer<'a>, Fault> {
+    // Does the last operation.
+    fn run<'a>(&'a mut self, alloc: Global) -> Told<'a> {
         match self.make(alloc) {
             Ok(()) => Ok(Answer::Built(&mut self.built)),
             Err(fault) => Err(fault),
@@ -221,26 +188,11 @@ impl BuilderCall {
     /// Operations by all words that are left: `with_capacity:130`, `new_set:130` or `new_unset:130` make a builder,
     /// `n:1:5` appends five true values, `w:0x5:64` the 64 bits of a word, `b:3+101` a buffer by its word, `set:4` and
     /// `unset:4` change a value, `freeze` makes the buffer, and `9*n:1:5` appends nine times.
-    pub fn read(words: &mut Words<'_>) -> Option<BuilderCall> {
+    pub fn next(words: &mut Words<'_>) -> Option<BuilderCall> {
         let call = read(words.alloc, words.all());
         words.found(call)
     }
-}
 
-fn read(alloc: Global, words: &str) -> Result<BuilderCall, Fault> {
-    let mut call = BuilderCall {
-        built: Built::Nothing,
-        last: Operation::Freeze,
-        times: 0,
-    };
-    for word in words.split(' ') {
-        call.make(alloc)?;
-        call.set_last(alloc, halves(word, "*").unwrap_or(("1", word)))?;
-    }
-    Ok(call)
-}
-
-impl BuilderCall {
     fn set_last(&mut self, alloc: Global, (times, word): (&str, &str)) -> Result<(), Fault> {
         self.times = number(times)?;
         self.last = Operation::read(alloc, word)?;
@@ -257,4 +209,17 @@ impl BuilderCall {
         self.last = Operation::Freeze;
         self.times = 1;
     }
+}
+
+fn read(alloc: Global, words: &str) -> Result<BuilderCall, Fault> {
+    let mut call = BuilderCall {
+        built: Built::Nothing,
+        last: Operation::Freeze,
+        times: 0,
+    };
+    for word in words.split(' ') {
+        call.make(alloc)?;
+        call.set_last(alloc, halves(word, "*").unwrap_or(("1", word)))?;
+    }
+    Ok(call)
 }

@@ -1,9 +1,9 @@
-//! What buffers yield, as text.
+//! What walks yield, as text.
 
-use crate::bits::parts::select;
 use crate::text::{Detail, Text};
 use crate::written::write_buffer;
-use mask_bits::{BitBuffer, BitChunks, BitIterator, SetIndices, SetSlices, Words};
+use mask_bits::{BitBuffer, BitChunks, BitIterator, SetIndices, SetSlices};
+use vortex_mask::{MaskBoolIter, MaskSetIndices, MaskSetSlices};
 
 /// Writes the list of a buffer, and where more than lists is told the bit offset that it stands at, and the bytes, the
 /// first sixteen of them.
@@ -33,7 +33,7 @@ fn write_bytes(text: &mut Text, bytes: &[u8]) {
 }
 
 // How many are left, by both calls that say it.
-pub(crate) fn write_hint(text: &mut Text, len: usize, (least, most): (usize, Option<usize>)) {
+fn write_hint(text: &mut Text, len: usize, (least, most): (usize, Option<usize>)) {
     match most {
         Some(most) if most == least && len == least => {}
         _ => text.put("not exactly "),
@@ -41,7 +41,7 @@ pub(crate) fn write_hint(text: &mut Text, len: usize, (least, most): (usize, Opt
     text.put_number(least);
 }
 
-pub(crate) fn write_next(text: &mut Text, value: Option<bool>) {
+fn write_next(text: &mut Text, value: Option<bool>) {
     text.put(match value {
         Some(true) => ":1 ",
         Some(false) => ":0 ",
@@ -59,53 +59,74 @@ fn write_word(text: &mut Text, word: Option<u64>) {
     }
 }
 
-pub(crate) fn write_end(text: &mut Text, is_end: bool) {
+fn write_end(text: &mut Text, is_end: bool) {
     text.put(if is_end { "" } else { ":one more" });
 }
 
-// Each value, with how many are said to be left before it; and how many past the last, twice.
-pub(crate) fn write_values(text: &mut Text, values: BitIterator<'_>) {
-    let mut values = values;
-    for _ in 0..values.len() {
-        write_hint(text, values.len(), values.size_hint());
-        write_next(text, values.next());
-    }
-    for _ in 0..2usize {
-        write_hint(text, values.len(), values.size_hint());
-        write_end(text, values.next().is_none());
-    }
+// Each item, with how many are said to be left before it; and so often how many past the last.
+macro_rules! steps {
+    ($text:ident, $walk:expr, $write:ident, $ends:literal) => {
+        let mut walk = $walk;
+        for _ in 0..walk.len() {
+            write_hint($text, walk.len(), walk.size_hint());
+            $write($text, walk.next());
+        }
+        for _ in 0..$ends {
+            write_hint($text, walk.len(), walk.size_hint());
+            write_end($text, walk.next().is_none());
+        }
+    };
 }
 
-pub(crate) fn write_indices(text: &mut Text, indices: SetIndices<'_>) {
-    text.put("indices");
-    for index in indices {
-        text.put_next(" ", index);
-    }
+// Each item behind a name of them all.
+macro_rules! each {
+    ($text:ident, $name:literal, $items:ident, $put:ident) => {
+        $text.put($name);
+        for item in $items {
+            $text.$put(" ", item);
+        }
+    };
 }
 
-pub(crate) fn write_slices(text: &mut Text, ranges: SetSlices<'_>) {
-    text.put("ranges");
-    for range in ranges {
-        text.put_range(" ", range);
-    }
+pub(crate) fn write_values(text: &mut Text, values: MaskBoolIter<'_>) {
+    steps!(text, values, write_next, 1usize);
 }
 
-// Each whole word by the walk, with how many are left before it, and by its number; and what is left after them.
+pub(crate) fn write_indices(text: &mut Text, indices: MaskSetIndices<'_>) {
+    each!(text, "indices", indices, put_next);
+}
+
+pub(crate) fn write_slices(text: &mut Text, ranges: MaskSetSlices<'_>) {
+    each!(text, "ranges", ranges, put_range);
+}
+
+pub(crate) fn write_bit_values(text: &mut Text, values: BitIterator<'_>) {
+    steps!(text, values, write_next, 2usize);
+}
+
+pub(crate) fn write_bit_indices(text: &mut Text, indices: SetIndices<'_>) {
+    each!(text, "indices", indices, put_next);
+}
+
+pub(crate) fn write_bit_slices(text: &mut Text, ranges: SetSlices<'_>) {
+    each!(text, "ranges", ranges, put_range);
+}
+
+/// Each started word.
+pub(crate) fn write_padded(text: &mut Text, chunks: &BitChunks<'_>) {
+    steps!(text, chunks.iter_padded(), write_word, 1usize);
+}
+
+/// Each whole word by the walk, and by its number; and what is left after them.
 pub(crate) fn write_words(text: &mut Text, chunks: &BitChunks<'_>) {
-    write_walk_of_words(text, chunks.iter());
+    write_whole_words(text, chunks);
     write_words_by_number(text, chunks);
     text.put_next(" rest ", chunks.remainder_len());
     text.put_next(" ", chunks.remainder_bits() as usize);
 }
 
-fn write_walk_of_words(text: &mut Text, words: Words<'_>) {
-    let mut words = words;
-    for _ in 0..words.len() {
-        write_hint(text, words.len(), words.size_hint());
-        write_word(text, words.next());
-    }
-    write_hint(text, words.len(), words.size_hint());
-    write_end(text, words.next().is_none());
+fn write_whole_words(text: &mut Text, chunks: &BitChunks<'_>) {
+    steps!(text, chunks.iter(), write_word, 1usize);
 }
 
 fn write_words_by_number(text: &mut Text, chunks: &BitChunks<'_>) {
@@ -117,21 +138,10 @@ fn write_words_by_number(text: &mut Text, chunks: &BitChunks<'_>) {
     }
 }
 
-// Each started word, with how many are left before it.
-pub(crate) fn write_padded(text: &mut Text, chunks: &BitChunks<'_>) {
-    let mut words = chunks.iter_padded();
-    for _ in 0..words.len() {
-        write_hint(text, words.len(), words.size_hint());
-        write_word(text, words.next());
-    }
-    write_hint(text, words.len(), words.size_hint());
-    write_end(text, words.next().is_none());
-}
-
 // The index of each true value of these numbers, from 0 on.
 pub(crate) fn write_selected(text: &mut Text, buffer: &BitBuffer, numbers: usize) {
     for n in 0..numbers {
-        match select(buffer, n) {
+        match buffer.select(n) {
             Some(index) => text.put_count(index, " "),
             None => text.put("none "),
         }

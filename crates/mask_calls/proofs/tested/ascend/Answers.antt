@@ -1,6 +1,6 @@
 use Rattle.std.proofs.Common.{◌≡◌, true, rules}
 use Rattle.std.proofs.lemmas.List.Sorted.{non_decreasing_from_is_sorted}
-use Rattle.mask_calls.proofs.masks.lists.ascend.Goals as goal
+use Rattle.mask_calls.proofs.tested.ascend.Goals as goal
 
 pub returns-then-is_sorted : goal.returns-then-is_sorted
 returns-then-is_sorted c =

@@ -1,0 +1,133 @@
+//! Operands of which a clone may be held.
+
+use crate::fault::Fault;
+use crate::text::Text;
+use crate::walks::write_backed;
+use crate::words::push;
+use crate::written::{write_mixed, write_placed};
+use mask_bits::BitBuffer;
+use vortex_mask::{Mask, MaskValues};
+
+/// What a call does with an operand.
+#[derive(Drop, Clone, Copy)]
+pub(crate) enum Use {
+    /// It has none.
+    Unread,
+    Lent,
+    /// It caches a list in it, or clears it.
+    Changed,
+    /// It takes it by value, and leaves an empty one.
+    Taken,
+}
+
+/// Of what a clone can be held, so that its bytes are shared.
+pub(crate) trait Share: Drop {
+    fn share(&self) -> Result<Self, Fault>;
+
+    fn write_kept(&self, text: &mut Text);
+}
+
+impl Share for Mask {
+    fn share(&self) -> Result<Mask, Fault> {
+        Ok(self.clone()?)
+    }
+
+    fn write_kept(&self, text: &mut Text) {
+        write_placed(text, self);
+    }
+}
+
+impl Share for BitBuffer {
+    fn share(&self) -> Result<BitBuffer, Fault> {
+        Ok(self.clone()?)
+    }
+
+    fn write_kept(&self, text: &mut Text) {
+        write_backed(text, self);
+    }
+}
+
+impl Share for Vec<Mask> {
+    fn share(&self) -> Result<Vec<Mask>, Fault> {
+        let mut clones: Vec<Mask> = Vec::new(*self.allocator());
+        for mask in self {
+            push(&mut clones, mask.clone()?)?;
+        }
+        Ok(clones)
+    }
+
+    fn write_kept(&self, text: &mut Text) {
+        for mask in self {
+            write_placed(text, mask);
+        }
+    }
+}
+
+impl Share for Option<MaskValues> {
+    fn share(&self) -> Result<Option<MaskValues>, Fault> {
+        match self {
+            Some(values) => Ok(Some(values.clone()?)),
+            None => Ok(None),
+        }
+    }
+
+    fn write_kept(&self, text: &mut Text) {
+        if let Some(values) = self {
+            write_mixed(text, values);
+            text.put_next(" at ", values.bit_buffer().offset());
+        }
+    }
+}
+
+/// An operand, and a clone of it where one is held.
+#[derive(Drop)]
+pub(crate) struct Held<T: Share> {
+    pub it: T,
+    held: Option<T>,
+    how: Use,
+}
+
+impl<T: Share> Held<T> {
+    pub fn new(it: T, how: Use) -> Held<T> {
+        Held {
+            it,
+            held: None,
+            how,
+        }
+    }
+
+    /// Holds a clone from now on.
+    pub fn hold(&mut self) -> Result<(), Fault> {
+        if !matches!(self.how, Use::Unread) {
+            self.held = Some(self.it.share()?);
+        }
+        Ok(())
+    }
+
+    /// Writes the clone that is held, and the operand where it was lent, or where the call `is_refused` and has
+    /// changed nothing.
+    pub fn write_kept(&self, text: &mut Text, is_refused: bool) {
+        if self.is_kept(is_refused) {
+            self.it.write_kept(text);
+        }
+        if let Some(held) = &self.held {
+            held.write_kept(text);
+        }
+    }
+
+    fn is_kept(&self, is_refused: bool) -> bool {
+        match self.how {
+            Use::Lent => true,
+            Use::Changed => is_refused,
+            Use::Taken | Use::Unread => false,
+        }
+    }
+
+    pub fn is_taken(&self) -> bool {
+        matches!(self.how, Use::Taken)
+    }
+
+    pub fn is_changed(&self) -> bool {
+        matches!(self.how, Use::Changed)
+    }
+}

@@ -1,0 +1,82 @@
+//! Buffers with a list of where they are true.
+
+use crate::fault::Fault;
+use mask_bits::{BitBuffer, laws};
+use std::alloc::Global;
+use std::marker::Model;
+use vortex_mask::{Mask, MaskError};
+
+/// A buffer, and the indices of its true values.
+#[derive(Drop)]
+pub struct Listed {
+    pub(crate) buffer: BitBuffer,
+    pub(crate) indices: Vec<usize>,
+}
+
+impl Model for Listed {
+    ghost use Rattle.std.specs.List.Sorted.{IsStrictlyIncreasing};
+    ghost use Rattle.std.specs.Prelude.{◌<◌, All, Bool, List, length};
+    ghost use Rattle.mask_bits.specs.Buffer.{values};
+
+    ghost Value = { List Bool };
+
+    ghost view = { λ l. values l.buffer };
+
+    ghost invariant = { λ l. IsStrictlyIncreasing l.indices.items
+        × All (λ i. i < length (values l.buffer)) l.indices.items };
+}
+
+impl Listed {
+    /// A buffer with its indices.
+    pub(crate) fn of(alloc: Global, buffer: BitBuffer) -> Result<Listed, Fault> {
+        match buffer.set_indices().collect(alloc) {
+            Ok(indices) => Ok(Listed { buffer, indices }),
+            Err(_) => Err(Fault::Memory),
+        }
+    }
+}
+
+/// A buffer, and ranges that hold exactly its true values.
+#[derive(Drop)]
+pub struct Ranged {
+    buffer: BitBuffer,
+    ranges: Vec<(usize, usize)>,
+}
+
+impl Model for Ranged {
+    ghost use Rattle.std.specs.Prelude.{ℕ, Bool, List};
+    ghost use Rattle.mask_bits.specs.Buffer.{values};
+    ghost use Rattle.mask_bits.specs.Runs.{AreRanges};
+
+    ghost Value = { List Bool };
+
+    ghost view = { λ r. values r.buffer };
+
+    ghost invariant = { λ r. AreRanges (values r.buffer) r.ranges.items };
+}
+
+impl Ranged {
+    /// A buffer with its own runs.
+    pub(crate) fn of_runs(alloc: Global, buffer: BitBuffer) -> Result<Ranged, MaskError> {
+        laws::runs_are_ranges();
+        let ranges = buffer.set_slices().collect(alloc)?;
+        Ok(Ranged { buffer, ranges })
+    }
+
+    /// A buffer of so many values that is true in these ranges, with them.
+    pub(crate) fn of_ranges(
+        alloc: Global,
+        len: usize,
+        ranges: Vec<(usize, usize)>,
+    ) -> Result<Ranged, MaskError> {
+        let mask = Mask::from_slices(alloc, len, ranges.to_vec(alloc)?)?;
+        let buffer = mask.to_bit_buffer(alloc)?;
+        Ok(Ranged { buffer, ranges })
+    }
+
+    /// `Mask::from_buffer_with_slices`, by value.
+    pub(crate) fn mask(self, alloc: Global) -> Result<Mask, MaskError> {
+        let Ranged { buffer, ranges } = self;
+        Mask::from_buffer_with_slices(alloc, buffer, ranges)
+    }
+}
