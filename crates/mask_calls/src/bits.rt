@@ -42,18 +42,21 @@ pub(crate) fn part<'a>(
         "bits.not" (x) => buffer(x.not(alloc)),
         "bits.indices" (x) => indices(x.indices(alloc, x.true_count())),
         "bits.runs" (x) => runs(x.runs(alloc)),
-        "bits.slice" (x m n) [m <= n && n <= x.len(), "a range within the buffer"] => placed(x.slice(m, n)),
+        "bits.slice" (x m n) [m <= n && n <= x.len(), "a range within the buffer"]
+            => placed(x.slice(m, n)),
     }
 }
 
 /// Of a buffer and numbers.
 pub(crate) fn place<'a>(name: &str, operands: Option<(&'a BitBuffer, usize, usize)>) -> Told<'a> {
     calls! { name, operands as (x, m, n);
-        "bits.value" (x m) [m < x.len(), "an index within the buffer"] => Ok(Answer::Flag(x.value(m))),
+        "bits.value" (x m) [m < x.len(), "an index within the buffer"]
+            => Ok(Answer::Flag(x.value(m))),
         "bits.select" (x m) => Ok(Answer::Index(x.select(m))),
         // each number below this one
         "bits.select_each" (x m) => Ok(Answer::Selected(x, m)),
-        "bits.rank_bits" (x m) [x.offset() < 8 && m <= 10_000_000, "an offset within a byte, and a position that fits"]
+        "bits.rank_bits" (x m)
+            [x.offset() < 8 && m <= 10_000_000, "an offset within a byte, and a position that fits"]
             => Ok(Answer::Word(RankBits::new(x).read(m))),
         "bits.count_range" (x m n) [m <= n && n <= x.len(), "a range within the buffer"]
             => Ok(Answer::Number(x.count_range(m, n))),
@@ -70,8 +73,10 @@ pub(crate) fn pair<'a>(
     calls! { name, operands as (alloc, x, y);
         "bits.bitand" (x y) [x.len() == y.len(), "equal lengths"] => buffer(x.bitand(alloc, y)),
         "bits.bitor" (x y) [x.len() == y.len(), "equal lengths"] => buffer(x.bitor(alloc, y)),
-        "bits.bitand_not" (x y) [x.len() == y.len(), "equal lengths"] => buffer(x.bitand_not(alloc, y)),
-        "bits.choose_values" (x y) [x.len() == y.len(), "equal lengths"] => buffer(x.choose_values(alloc, y)),
+        "bits.bitand_not" (x y) [x.len() == y.len(), "equal lengths"]
+            => buffer(x.bitand_not(alloc, y)),
+        "bits.choose_values" (x y) [x.len() == y.len(), "equal lengths"]
+            => buffer(x.choose_values(alloc, y)),
         "bits.equal" (x y) => Ok(Answer::Flag(x == y)),
     }
 }
@@ -83,8 +88,10 @@ pub(crate) fn taken<'a>(
 ) -> Told<'a> {
     calls! { name, operands as (alloc, x, y);
         "bits.into_not" (taken_x) => buffer(x.into_not(alloc)),
-        "bits.into_bitand" (taken_x y) [x.len() == y.len(), "equal lengths"] => buffer(x.into_bitand(alloc, y)),
-        "bits.into_bitor" (taken_x y) [x.len() == y.len(), "equal lengths"] => buffer(x.into_bitor(alloc, y)),
+        "bits.into_bitand" (taken_x y) [x.len() == y.len(), "equal lengths"]
+            => buffer(x.into_bitand(alloc, y)),
+        "bits.into_bitor" (taken_x y) [x.len() == y.len(), "equal lengths"]
+            => buffer(x.into_bitor(alloc, y)),
         "bits.into_bitand_not" (taken_x y) [x.len() == y.len(), "equal lengths"]
             => buffer(x.into_bitand_not(alloc, y)),
     }

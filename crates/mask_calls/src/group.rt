@@ -14,7 +14,9 @@ pub(crate) const GROUPS: usize = 24;
 const UNREAD: Fault = Fault::Unmet("operands that are there");
 
 macro_rules! groups {
-    ($group:ident, $name:ident, $operands:ident as $parts:tt; $($number:literal => $call:path: $taken:expr,)*) => {
+    ($group:ident, $name:ident, $operands:ident as $parts:tt; $(
+        $number:literal => $call:path: $taken:expr,
+    )*) => {
         match $operands {
             None => match $group {
                 $($number => $call($name, None),)*

@@ -14,7 +14,8 @@ use vortex_mask::intersect_by_rank::{
 pub(crate) fn of<'a>(name: &str, operands: Option<(Global, &'a Listed, &'a Listed)>) -> Told<'a> {
     calls! { name, operands as (alloc, rows, ranks);
         "kernel.intersect_bit_buffers" (rows ranks) => by_bits::<Portable>(alloc, rows, ranks),
-        "kernel.intersect_bit_buffers_by_loop" (rows ranks) => by_bits::<PortableLoop>(alloc, rows, ranks),
+        "kernel.intersect_bit_buffers_by_loop" (rows ranks)
+            => by_bits::<PortableLoop>(alloc, rows, ranks),
         "kernel.intersect_bit_buffer_by_rank_indices" (rows ranks)
             => by_rank_indices::<Portable>(alloc, rows, ranks),
         "kernel.intersect_bit_buffer_by_rank_indices_by_loop" (rows ranks)

@@ -13,7 +13,9 @@ macro_rules! calls {
     )*) => {
         match $operands {
             None => match $name {
-                $($call => Ok($crate::Answer::Reads(concat!(stringify!($first) $(, " ", stringify!($next))*))),)*
+                $($call => Ok($crate::Answer::Reads(
+                    concat!(stringify!($first) $(, " ", stringify!($next))*),
+                )),)*
                 _ => Err($crate::lines::UNKNOWN),
             },
             Some($parts) => match $name {

@@ -50,7 +50,8 @@ pub(crate) fn part<'a>(name: &str, operands: Option<(Global, &'a Mask, usize, us
         "to_bit_buffer" (a) => mask_buffer(a.to_bit_buffer(alloc)),
         "from_bools" (a) => mask(Mask::from_bools(alloc, a.iter())),
         "to_limited" (a m) => mask(a.to_limited(alloc, m)),
-        "slice" (a m n) [m <= n && n <= a.len(), "a range within the mask"] => mask(a.slice(alloc, m, n)),
+        "slice" (a m n) [m <= n && n <= a.len(), "a range within the mask"]
+            => mask(a.slice(alloc, m, n)),
     }
 }
 
@@ -58,7 +59,8 @@ pub(crate) fn part<'a>(name: &str, operands: Option<(Global, &'a Mask, usize, us
 pub(crate) fn place<'a>(name: &str, operands: Option<(Global, &'a Mask, usize)>) -> Told<'a> {
     calls! { name, operands as (alloc, a, n);
         "value" (a n) [n < a.len(), "an index within the mask"] => Ok(Answer::Flag(a.value(n))),
-        "rank" (a n) [n < a.true_count(), "a true value of this number"] => Ok(Answer::Number(a.rank(n))),
+        "rank" (a n) [n < a.true_count(), "a true value of this number"]
+            => Ok(Answer::Number(a.rank(n))),
         "each_selected" (a n) => selected(alloc, a, n),
         "groups" (a n) [n > 0, "groups of some rows"] => masks(a.groups(alloc, n)),
         "concat_groups" (a n) [n > 0, "groups of some rows"] => mask(concat_groups(alloc, a, n)),
@@ -71,8 +73,10 @@ pub(crate) fn pair<'a>(name: &str, operands: Option<(Global, &'a Mask, &'a Mask)
     calls! { name, operands as (alloc, a, b);
         "bitand" (a b) [a.len() == b.len(), "equal lengths"] => mask(a.bitand(alloc, b)),
         "bitor" (a b) [a.len() == b.len(), "equal lengths"] => mask(a.bitor(alloc, b)),
-        "to_bitand_not" (a b) [a.len() == b.len(), "equal lengths"] => mask(a.to_bitand_not(alloc, b)),
-        "choose_values" (a b) [a.len() == b.len(), "equal lengths"] => mask(a.choose_values(alloc, b)),
+        "to_bitand_not" (a b) [a.len() == b.len(), "equal lengths"]
+            => mask(a.to_bitand_not(alloc, b)),
+        "choose_values" (a b) [a.len() == b.len(), "equal lengths"]
+            => mask(a.choose_values(alloc, b)),
         "equal" (a b) => Ok(Answer::Flag(a == b)),
         "equal_swapped" (a b) => Ok(Answer::Flag(b == a)),
     }
@@ -97,9 +101,12 @@ pub(crate) fn taken<'a>(name: &str, operands: Option<(Global, Mask, &'a Mask, us
         "into_not" (taken) => mask(a.into_not(alloc)),
         "into_bit_buffer" (taken) => mask_buffer(a.into_bit_buffer(alloc)),
         "limit" (taken n) => mask(a.limit(alloc, n)),
-        "into_bitand" (taken b) [a.len() == b.len(), "equal lengths"] => mask(a.into_bitand(alloc, b)),
-        "into_bitor" (taken b) [a.len() == b.len(), "equal lengths"] => mask(a.into_bitor(alloc, b)),
-        "bitand_not" (taken b) [a.len() == b.len(), "equal lengths"] => mask(a.bitand_not(alloc, b)),
+        "into_bitand" (taken b) [a.len() == b.len(), "equal lengths"]
+            => mask(a.into_bitand(alloc, b)),
+        "into_bitor" (taken b) [a.len() == b.len(), "equal lengths"]
+            => mask(a.into_bitor(alloc, b)),
+        "bitand_not" (taken b) [a.len() == b.len(), "equal lengths"]
+            => mask(a.bitand_not(alloc, b)),
     }
 }
 
@@ -129,7 +136,8 @@ pub(crate) fn list<'a>(
 ) -> Told<'a> {
     calls! { name, operands as (alloc, a, m, list);
         "valid_counts_for_indices" (a list) => valid_counts(alloc, a, list),
-        "choose" (a list) [list.len() == a.len(), "a row for each value"] => rows(a.choose(alloc, list)),
+        "choose" (a list) [list.len() == a.len(), "a row for each value"]
+            => rows(a.choose(alloc, list)),
         "from_indices" (m list) => mask(Mask::from_indices(alloc, m, list.iter().copied())),
         "from_excluded_indices" (m list)
             => mask(Mask::from_excluded_indices(alloc, m, list.iter().copied())),

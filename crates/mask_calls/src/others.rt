@@ -35,7 +35,8 @@ pub(crate) fn lent<'a>(name: &str, operands: Option<(Global, &'a Operands)>) -> 
             => buffer(BitBuffer::from_indices(alloc, o.m, &o.list)),
         "equals_buffer" (a x) => Ok(Answer::Flag(o.a.it.equals_buffer(&o.x.it))),
         "from_intersection_indices" (m common) => mask(common(alloc, o)),
-        "at_least" (p q) [o.p.den > 0 && o.q.den > 0, "denominators above 0"] => Ok(Answer::Flag(o.p.at_least(o.q))),
+        "at_least" (p q) [o.p.den > 0 && o.q.den > 0, "denominators above 0"]
+            => Ok(Answer::Flag(o.p.at_least(o.q))),
         "equal_fractions" (p q) => Ok(Answer::Flag(o.p == o.q)),
     }
 }
@@ -45,7 +46,8 @@ pub(crate) fn taken<'a>(name: &str, operands: Option<(Global, &'a mut Operands)>
     calls! { name, operands as (alloc, o);
         "from_buffer" (taken_x) => mask(Mask::from_buffer(alloc, o.take_x())),
         "from_slices" (m ranges) => mask(Mask::from_slices(alloc, o.m, o.take_ranges(alloc))),
-        "from_masks" (taken_masks) => mask(Mask::from_masks(alloc, o.take_masks(alloc).into_iter())),
+        "from_masks" (taken_masks)
+            => mask(Mask::from_masks(alloc, o.take_masks(alloc).into_iter())),
         "from_buffer_with_slices" (ranged) => from_ranged(alloc, &mut o.ranged),
         "bits.from_vec" (bytes m) => from_vec(o.take_bytes(alloc), o.m),
     }
@@ -55,7 +57,8 @@ pub(crate) fn taken<'a>(name: &str, operands: Option<(Global, &'a mut Operands)>
 pub(crate) fn words<'a>(name: &str, operands: Option<(usize, usize)>) -> Told<'a> {
     calls! { name, operands as (m, n);
         "deposit" (m n) => Ok(Answer::Word(deposit_bits::<Portable>(m as u64, n as u64))),
-        "deposit_by_loop" (m n) => Ok(Answer::Word(deposit_bits::<PortableLoop>(m as u64, n as u64))),
+        "deposit_by_loop" (m n)
+            => Ok(Answer::Word(deposit_bits::<PortableLoop>(m as u64, n as u64))),
         "deposit_bytewise" (m n) => Ok(Answer::Word(deposit_bytewise(m as u64, n as u64))),
         "deposit_two_lowest" (m n) => two_lowest(m as u64, n as u64),
         "deposit_two_holes" (m n) => two_holes(m as u64, n as u64),

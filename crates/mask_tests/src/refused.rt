@@ -3,8 +3,7 @@
 //! was refused is made once more behind `calls again`. Between `calls` and the next line nothing but the call asks for
 //! memory. The script misses a line that can't be written.
 
-use mask_calls::halves;
-use mask_calls::{Answer, Call, Fault, Row, Text, kept, write_outcome};
+use mask_calls::{Answer, Call, Fault, Row, Text, halves, kept, write_outcome};
 use std::alloc::AllocError;
 use std::io::{self, BufRead, BufReader};
 
@@ -110,7 +109,12 @@ fn is_answered_now<R: Print + AllocGlobal>(rt: &R, row: Row<'_>, call: &mut Call
 }
 
 // Makes the call behind a line, and compares its answer.
-fn is_answered<R: Print + AllocGlobal>(rt: &R, line: &str, call: &mut Call<'_>, want: &str) -> bool {
+fn is_answered<R: Print + AllocGlobal>(
+    rt: &R,
+    line: &str,
+    call: &mut Call<'_>,
+    want: &str,
+) -> bool {
     let mut text = Text::whole(rt.alloc());
     say(rt, line);
     let is_answered = ended(rt, &mut text, call.run(rt.alloc()));

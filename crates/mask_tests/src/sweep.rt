@@ -4,8 +4,7 @@
 //! same after the call. Each list of an answer is written whole, and with `=>` in place of `->` without what masks
 //! have cached.
 
-use mask_calls::halves;
-use mask_calls::{Detail, Manner, Outcome, Row, Text};
+use mask_calls::{Detail, Manner, Outcome, Row, Text, halves};
 use std::alloc::{AllocError, Global};
 use std::io::{self, BufRead, BufReader};
 
