@@ -2,6 +2,7 @@
 
 use crate::answer::{Answer, Told};
 use crate::fault::Fault;
+use mask_bits::laws;
 use vortex_mask::intersect_by_rank::{
     DepositBits, ExtractBits, Portable, SelectBit, deposit_two_holes, deposit_two_lowest,
 };
