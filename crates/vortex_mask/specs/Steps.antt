@@ -1,5 +1,5 @@
 -- What a contract sees of `Steps`.
-use Rattle.std.specs.Prelude.{ℕ, ◌≡◌, ◌<◌, ◌≤◌, ◌+◌, ◌*◌, ◌%◌, Bool, false, List, length, slice_index_or}
+use Rattle.std.specs.Prelude.{ℕ, ◌≡◌, ◌<◌, ◌≤◌, ◌*◌, ◌%◌, Bool, false, List, length, slice_index_or}
 use Rattle.std.specs.List.{sum_by}
 use Rattle.mask_bits.specs.Buffer.{backing_bit}
 use Rattle.mask_bits.specs.Positions.{count, count_below}
@@ -37,7 +37,3 @@ pub record IsDeposited (a r : List Bool) (i at : ℕ) (out : List ℕ) (steps : 
   pub place : at ≡ count_below a (64 * i)
   pub written : (p : ℕ) → p < 64 * i → backing_bit out p ≡ slice_index_or r p false
   pub counted : steps ≡ record { deposits = i; words = i; selections = 0; offered = count_below a (64 * i); placed = count_below r (64 * i); spots = 0 }
-
--- as far as both go, the bits of these bytes from `from` on are the values of b from `at` on
-abbrev pub HoldValues : List ℕ → ℕ → List Bool → ℕ → Type 0
-HoldValues bytes from b at = (k : ℕ) → from + k < 8 * length bytes → at + k < length b → backing_bit bytes (from + k) ≡ slice_index_or b (at + k) false

@@ -1,5 +1,5 @@
 -- Ascending ranks as the bits of a block of bytes.
-use Rattle.std.proofs.Common.{◌≡◌, ℕ, ◌+◌, ◌-◌, ◌*◌, ◌/◌, ◌%◌, ◌^◌, ◌<◌, ◌≤◌, ◌||◌, Bool, false, nat_eq, List, length, get_or, set, replicate, take, drop, sym, ap, ◌∙◌, arith}
+use Rattle.std.proofs.Common.{◌≡◌, ℕ, ◌+◌, ◌-◌, ◌*◌, ◌/◌, ◌%◌, ◌^◌, ◌<◌, ◌≤◌, ◌||◌, Bool, false, nat_eq, List, length, get_or, set, replicate, take, drop, refl, sym, ap, ◌∙◌, arith}
 use Rattle.std.specs.Int.{w8}
 use Rattle.std.specs.Int.RustNames.{bit_or}
 use Rattle.std.specs.List.{list_any}
@@ -10,6 +10,9 @@ use Rattle.std.proofs.lemmas.List.{get_or-drop, get_or-replicate, get_or_past, g
 use Rattle.std.proofs.lemmas.List.Folds.{list_any-append}
 use Rattle.std.proofs.lemmas.Nat.Bits.{bit_at-zero, bit_at_set_same, bit_at_set_other}
 use Rattle.mask_bits.specs.Buffer.{backing_bit}
+use Rattle.mask_bits.specs.Words.{word_bits, window}
+use Rattle.vortex_mask.specs.Ranks.{AreBitsFrom, HoldsRanks, is_listed}
+use Rattle.vortex_mask.proofs.Kernels.WordKernelLemmas.{bit-read}
 use Rattle.vortex_mask.proofs.Lists.PlaceListLemmas.{none-is}
 
 -- zeros have no bit
@@ -35,3 +38,10 @@ among-first ranks n p later =
     let none : list_any f rest ≡ false = none-is p rest (λ i within same. omega (arith, get_or-drop n ranks i 0, later (n + i) (omega arith) (omega (arith, length-drop n ranks)))) in
     sym (ap (list_any f) (sym (take-append-drop n ranks)) ∙ list_any-append f (take n ranks) rest
     ∙ ap (λ b. list_any f (take n ranks) || b) none ∙ or-false (list_any f (take n ranks)))
+
+-- a word read from a block has the ranks from its place on
+pub ranks-read : {ranks block : List ℕ} {base : ℕ} → HoldsRanks ranks base block → (number at n w : ℕ) → number ≡ base + at → at + n ≤ 4096 → number + n < 2 ^ 64 → n ≤ 64
+    → word_bits w ≡ window block at → AreBitsFrom (is_listed ranks) number n w
+ranks-read {ranks} {block} {base} held number at n w is inside small few shows = λ k h.
+    let e : base + (at + k) ≡ number + k = omega arith in
+    bit-read block at w k (at + k) shows (omega arith) refl ∙ held.bits (at + k) (omega arith) (omega (arith, e)) ∙ ap (is_listed ranks) e

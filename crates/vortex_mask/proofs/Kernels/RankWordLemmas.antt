@@ -11,15 +11,10 @@ use Rattle.std.proofs.lemmas.List.{take_more, take-append-drop, get_or-take, get
 use Rattle.std.proofs.lemmas.List.Folds.{list_any-append}
 use Rattle.std.proofs.lemmas.Nat.Bits.{bit_at-zero}
 use Rattle.std.proofs.lemmas.Nat.{one_shl}
-use Rattle.mask_bits.specs.Positions.{count, true_at}
-use Rattle.mask_bits.specs.Words.{word_bits}
-use Rattle.vortex_mask.proofs.Kernels.WordKernelLemmas.{AreRankBits}
 use Rattle.vortex_mask.proofs.Lists.PlaceListLemmas.{bit_of_pow, none-is, rises-to}
-use Rattle.vortex_mask.proofs.Lists.StartedWordLemmas.{IsAt, place-after_within}
-use Rattle.mask_bits.proofs.Lists.BooleanValueLemmas.{value_of_true_at}
 use Rattle.mask_bits.proofs.Lists.Words.ShiftLemmas.{get_or-word_bits_or}
 use Rattle.mask_bits.proofs.Lists.Words.WordLemmas.{get_or-word_bits}
-use Rattle.vortex_mask.specs.Ranks.{AreSplit, IsGathered}
+use Rattle.vortex_mask.specs.Ranks.{AreBitsFrom, AreSplit, IsGathered, is_listed}
 
 -- ---- the walk
 
@@ -88,8 +83,8 @@ pub gathered-split : (ranks : List ℕ) (at end next bits : ℕ) → IsStrictlyI
 gathered-split ranks at end next bits ascending stop g = grind (arith, rises-to)
 
 pub gathered-bits : (ranks : List ℕ) (at end next bits : ℕ) → end ≤ at + 64 → IsStrictlyIncreasing ranks → (next < length ranks → end ≤ get_or ranks next 0) → IsGathered ranks at end next bits
-    → (k : ℕ) → at + k < end → get_or (word_bits bits) k false ≡ list_any (nat_eq (at + k)) ranks
-gathered-bits ranks at end next bits few ascending stop g k h =
+    → AreBitsFrom (is_listed ranks) at (end - at) bits
+gathered-bits ranks at end next bits few ascending stop g = λ k h.
     let split = gathered-split ranks at end next bits ascending stop g in
     let p : ℕ → Bool = nat_eq (at + k) in
     let rest : List ℕ = drop next ranks in
@@ -99,10 +94,3 @@ gathered-bits ranks at end next bits few ascending stop g k h =
     g.set k (omega arith)
     ∙ sym (ap (list_any p) (sym (take-append-drop next ranks)) ∙ list_any-append p (take next ranks) rest
     ∙ ap (λ b. list_any p (take next ranks) || b) none ∙ or-false (list_any p (take next ranks)))
-
--- ---- ranks as rank bits
-
--- the set bits of a word's ranks are the values from `at` on of the list that is true at the ranks
-pub rank_bits-listed : (a : List Bool) (ranks : List ℕ) (s : ℕ) {i at end m ones : ℕ} → IsAt a i at m ones → end ≡ at + ones
-    → ((k : ℕ) → at + k < end → get_or (word_bits s) k false ≡ list_any (nat_eq (at + k)) ranks) → AreRankBits (true_at (count a) ranks) at s (count (word_bits m))
-rank_bits-listed a ranks s mask ends bits = grind (arith, value_of_true_at, place-after_within mask, mask.counted)

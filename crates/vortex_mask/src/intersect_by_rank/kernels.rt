@@ -5,7 +5,8 @@ mod indices;
 mod mask_driven;
 mod rank_blocks;
 mod rank_indices;
-mod whole_pairs;
+mod rank_lists;
+mod word_loop;
 
 pub use bit_buffers::{intersect_bit_buffers, narrow_by_bits};
 pub use indices::intersect_by_rank_indices;

@@ -155,7 +155,7 @@ impl Steps {
     /// Deposits two words of a list as [`Steps::deposit_two`] does. A list has so few words that its
     /// sums are of 64 bits, which a loop adds in fewer steps.
     #[inline(always)]
-    pub(crate) fn deposit_two_listed<D: DepositBits>(
+    pub(crate) fn deposit_words<D: DepositBits>(
         &mut self,
         sources: [u64; 2],
         masks: [u64; 2],
@@ -204,29 +204,9 @@ impl Steps {
         }
     }
 
-    /// Started words `i` and `i + 1` of the values, with zeros past the last value. Counts what two
-    /// calls of [`Steps::word`] would.
-    #[inline(always)]
-    pub(crate) fn two_words(&mut self, chunks: &BitChunks<'_>, i: usize) -> (u64, u64)
-        requires room { self.old.words + 1 < usize.MAX }
-        requires there { 64 * (i + 1) < length chunks.now }
-        ensures first { word_bits result.0 ≡ padded_part chunks.now i }
-        ensures second { word_bits result.1 ≡ padded_part chunks.now (i + 1) }
-        ensures ticked { self.new ≡ record self.old { words = self.old.words + 2 } }
-    {
-        let whole = chunks.len();
-        self.words += 2;
-        if i + 1 >= whole {
-            return last_two_words(chunks, i);
-        }
-        let first = chunks.word(i);
-        let second = chunks.word(i + 1);
-        (first, second)
-    }
-
     /// Whole words `i` and `i + 1` of the values. Counts what two calls of [`Steps::word`] would.
     #[inline(always)]
-    pub(crate) fn two_whole_words(&mut self, chunks: &BitChunks<'_>, i: usize) -> (u64, u64)
+    pub(crate) fn two_words(&mut self, chunks: &BitChunks<'_>, i: usize) -> (u64, u64)
         requires there { i + 1 < length chunks.now / 64 }
         requires fits { i + 1 < 2 ^ 64 }
         requires room { self.old.words + 1 < usize.MAX }
@@ -234,7 +214,7 @@ impl Steps {
         ensures second { word_bits result.1 ≡ padded_part chunks.now (i + 1) }
         ensures ticked { self.new ≡ record self.old { words = self.old.words + 2 } }
     {
-        self.words = self.words + 2;
+        self.words += 2;
         (chunks.word(i), chunks.word(i + 1))
     }
 
@@ -254,17 +234,4 @@ impl Steps {
         self.spots += place as u128;
         place
     }
-}
-
-// Started words `i` and `i + 1`. Never inlined: it runs once, and a kernel's loop keeps more in
-// registers without it.
-#[cold]
-#[inline(never)]
-fn last_two_words(chunks: &BitChunks<'_>, i: usize) -> (u64, u64)
-    requires there { 64 * (i + 1) < length chunks.now }
-    requires fits { i + 1 < 2 ^ 64 }
-    ensures first { word_bits result.0 ≡ padded_part chunks.now i }
-    ensures second { word_bits result.1 ≡ padded_part chunks.now (i + 1) }
-{
-    (chunks.started_word(i), chunks.started_word(i + 1))
 }

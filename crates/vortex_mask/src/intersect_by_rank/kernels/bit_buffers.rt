@@ -1,8 +1,8 @@
 //! The kernel over two bit buffers: one deposit for each started word.
 
-ghost use Rattle.std.specs.Prelude.{◌≡◌, ◌*◌, ◌<◌, IfOk, IsOkUnless, alloc_error, length};
+ghost use Rattle.std.specs.Prelude.{◌≡◌, ◌+◌, ◌-◌, ◌*◌, ◌/◌, ◌<◌, ◌≤◌, ◌^◌, ⊤, min, IfOk, IsOkUnless, alloc_error, length};
 ghost use Rattle.mask_bits.specs.Bitmap.{bitmap};
-ghost use Rattle.mask_bits.specs.Buffer.{values, IsWithinBytes};
+ghost use Rattle.mask_bits.specs.Buffer.{backing_bit, values, IsWithinBytes};
 ghost use Rattle.mask_bits.specs.Positions.{count, rank_intersection};
 ghost use Rattle.vortex_mask.specs.Caches.{caches};
 ghost use Rattle.vortex_mask.specs.Mask.{truth, variant, fitting_variant, all_false};
@@ -10,10 +10,12 @@ ghost use Rattle.vortex_mask.specs.MaskValues.{no_caches};
 ghost use Rattle.vortex_mask.specs.Steps.{word_steps};
 ghost use Rattle.mask_bits.specs.Words.{started_words};
 
-use crate::intersect_by_rank::kernels::whole_pairs::narrow_whole_pairs;
-use crate::intersect_by_rank::{DepositBits, RankBits, Steps};
+use crate::intersect_by_rank::deposit::DepositBits;
+use crate::intersect_by_rank::kernels::word_loop::{Narrowed, RankWords};
+use crate::intersect_by_rank::rank_bits::{RankBits, word_inside};
+use crate::intersect_by_rank::steps::Steps;
 use crate::mask::{Mask, MaskError};
-use mask_bits::words::{set_word, started_words};
+use mask_bits::words::started_words;
 use mask_bits::{BitBuffer, BitChunks};
 use std::alloc::Global;
 
@@ -56,34 +58,70 @@ pub fn narrow_by_bits<D: DepositBits>(
     ensures steps { result
         ≡ word_steps chunks.now (rank_intersection chunks.now (values ranks.now)) }
 {
-    let mut steps = Steps::new();
-    let words = out.len() / 8;
-    let pairs = chunks.started_words() / 2;
-    let (bytes, offset) = (ranks.bytes(), ranks.offset());
-    let inside = narrow_whole_pairs::<D>(&mut steps, chunks, bytes, 0, offset, out);
-    // the next rank bit is the one after those of all true values so far
-    let mut at = inside.1 - offset;
-    for pair in inside.0..pairs {
-        let i = 2 * pair;
-        let both = steps.two_words(chunks, i);
-        let self_words = [both.0, both.1];
-        let ones = [
-            self_words[0].count_ones() as usize,
-            self_words[1].count_ones() as usize,
-        ];
+    let inside = BitsInside {
+        bytes: ranks.bytes(),
+        offset: ranks.offset(),
+    };
+    let mut done = Narrowed::new(ranks.offset());
+    done.narrow_pairs::<D, _>(chunks, &inside, out);
+    done.narrow_rest::<D, _>(chunks, ranks, out)
+}
+
+// The bits of some bytes from bit `offset` on, as far as they can be read with one test for two words. A
+// place is a position in the bytes.
+#[derive(Drop)]
+struct BitsInside<'a> {
+    bytes: &'a [u8],
+    offset: usize,
+}
+
+impl RankWords for BitsInside<'_> {
+    ghost bit = { λ b k. backing_bit b.bytes.now (b.offset + k) };
+
+    ghost end = { λ b. 2 ^ 64 - 1 - b.offset };
+
+    ghost number = { λ b at. at - b.offset };
+
+    ghost IsPassed = { λ b _ at. (b.offset ≤ at) × (at < 2 ^ 64) };
+
+    // there are 24 bytes
+    ghost Reaches = { λ b at. at < min ((length b.bytes.now - 23) * 8) (2 ^ 64 - 1) };
+
+    #[inline(always)]
+    fn reaches(&self, at: usize) -> bool {
+        at < self.bytes.len().saturating_sub(23).saturating_mul(8)
+    }
+
+    // Two words from positions that are known to be inside.
+    #[tactic(auto, using(crate::proofs::Kernels::WordKernelLemmas::window_bits))]
+    #[inline(always)]
+    fn two_words(&self, _next: &mut usize, at: usize, ones: [usize; 2]) -> [u64; 2] {
         let next = at + ones[0];
-        let sources = [ranks.read(at), ranks.read(next)];
-        let kept = steps.deposit_two::<D>(sources, self_words, ones);
-        set_word(out, i, kept[0]);
-        set_word(out, i + 1, kept[1]);
-        at = next + ones[1];
+        [word_inside(self.bytes, at), word_inside(self.bytes, next)]
     }
-    if words % 2 == 1 {
-        let word = steps.word(chunks, words - 1);
-        let ones = word.count_ones() as usize;
-        let source = ranks.read(at);
-        let kept = steps.deposit::<D>(source, word, ones);
-        set_word(out, words - 1, kept);
+}
+
+// Also those at the end, with a test for each word.
+impl RankWords for RankBits<'_> {
+    ghost bit = { λ b k. backing_bit b.bytes (b.offset + k) };
+
+    ghost end = { λ b. 2 ^ 64 - 1 - b.offset };
+
+    ghost number = { λ b at. at - b.offset };
+
+    ghost IsPassed = { λ b _ at. (b.offset ≤ at) × (at < 2 ^ 64) };
+
+    ghost Reaches = { λ _ _. ⊤ };
+
+    #[inline(always)]
+    fn reaches(&self, _at: usize) -> bool {
+        true
     }
-    steps
+
+    #[tactic(auto, using(crate::proofs::Kernels::WordKernelLemmas::window_bits))]
+    #[inline(always)]
+    fn two_words(&self, _next: &mut usize, at: usize, ones: [usize; 2]) -> [u64; 2] {
+        let first = at - self.offset();
+        [self.read(first), self.read(first + ones[0])]
+    }
 }

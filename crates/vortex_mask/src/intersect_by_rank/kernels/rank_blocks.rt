@@ -1,76 +1,95 @@
 //! The loop of the kernel over indices of a rank mask that narrows most words: the ranks become a block
 //! of bits, by which pairs of whole words are narrowed as by the bits of a buffer.
 
-ghost use Rattle.std.specs.Prelude.{◌≡◌, ◌+◌, ◌*◌, ◌/◌, ◌<◌, ◌≤◌, ◌^◌, ℕ, All, false, length, nat_eq, slice_index};
+ghost use Rattle.std.specs.Prelude.{◌≡◌, ◌+◌, ◌-◌, ◌*◌, ◌/◌, ◌<◌, ◌≤◌, ◌^◌, ℕ, All, false, length, slice_index};
 ghost use Rattle.std.specs.List.Sorted.{IsStrictlyIncreasing};
-ghost use Rattle.std.specs.List.{list_any};
 ghost use Rattle.mask_bits.specs.Buffer.{backing_bit};
-ghost use Rattle.mask_bits.specs.Positions.{count, rank_intersection, true_at};
+ghost use Rattle.mask_bits.specs.Positions.{count};
 ghost use Rattle.mask_bits.specs.Words.{started_words};
-ghost use Rattle.vortex_mask.specs.Ranks.{AreSplit};
+ghost use Rattle.vortex_mask.specs.Ranks.{AreSplit, CanHold, HoldsRanks, HoldsUpTo, is_listed, narrowed_by};
 ghost use Rattle.vortex_mask.specs.Steps.{IsDeposited, no_steps};
 
-use crate::intersect_by_rank::kernels::rank_indices::bits_of_ranks;
-use crate::intersect_by_rank::kernels::whole_pairs::narrow_whole_pairs;
-use crate::intersect_by_rank::{DepositBits, Steps};
+use crate::intersect_by_rank::deposit::DepositBits;
+use crate::intersect_by_rank::kernels::rank_lists::bits_of_ranks;
+use crate::intersect_by_rank::kernels::word_loop::{Narrowed, RankWords};
+use crate::intersect_by_rank::rank_bits::word_inside;
 use mask_bits::BitChunks;
 use mask_bits::words::set_word;
 
-// With more of them in a word of self than that, ranks are quicker to take word by word, while the deposit
-// before is under way.
-const RANKS_IN_A_WORD: usize = 12;
-
-// Fewer words than that are not worth the zeros of a block.
-const SOME_WORDS: usize = 64;
-
-// Narrows pairs of whole words, unless there are many ranks. Answers how many pairs these are, how many of
-// their values are true, and how many ranks are below that.
+// Narrows all pairs of whole words.
 #[inline(always)]
 pub(super) fn narrow_by_blocks<D: DepositBits>(
-    steps: &mut Steps,
+    done: &mut Narrowed,
     chunks: &BitChunks<'_>,
     ranks: &[usize],
     out: &mut [u8],
-) -> (usize, usize, usize)
+)
     requires fits { length chunks.now < 2 ^ 64 }
     requires ascending { IsStrictlyIncreasing ranks.now }
     requires within { All (λ k. k < count chunks.now) ranks.now }
-    requires none { steps.old ≡ no_steps }
     requires room { length out.old ≡ 8 * started_words (length chunks.now) }
-    ensures within { result.0 ≤ length chunks.now / 128 }
-    ensures narrowed { IsDeposited chunks.now
-        (rank_intersection chunks.now (true_at (count chunks.now) ranks.now))
-        (2 * result.0) result.1 out.new steps.new }
-    ensures passed { AreSplit ranks.now result.2 result.1 }
+    requires none { done.old ≡ record { steps = no_steps; pairs = 0; at = 0; next = 0 } }
+    ensures there { done.new.pairs ≤ length chunks.now / 128 }
+    ensures passed { AreSplit ranks.now done.new.next done.new.at }
+    ensures narrowed { IsDeposited chunks.now (narrowed_by (is_listed ranks.now) chunks.now)
+        (2 * done.new.pairs) done.new.at out.new done.new.steps }
 {
-    let pairs = chunks.len() / 2;
-    let (mut pair, mut at, mut next) = (0, 0usize, 0);
-    let are_few = chunks.len() >= SOME_WORDS && ranks.len() / RANKS_IN_A_WORD <= chunks.len();
-    while pair < pairs && are_few {
+    while done.pairs < chunks.len() / 2 {
+        let base = done.at;
         let mut block = [0u8; 512];
-        let end = put_ranks(ranks, next, at, &mut block);
-        let done = narrow_whole_pairs::<D>(steps, chunks, &block, pair, 0, out);
-        pair = done.0;
-        at += done.1;
-        next = ranks_below(ranks, end, at);
+        let end = put_ranks(ranks, done.next, base, &mut block);
+        let held = RankBlock {
+            ranks,
+            block: &block,
+            base,
+        };
+        done.at = 0;
+        done.narrow_pairs::<D, _>(chunks, &held, out);
+        done.at += base;
+        done.next = ranks_below(ranks, end, done.at);
     }
-    (pair, at, next)
+}
+
+// Ranks from `base` on as the bits of a block of bytes. A place is one of these bits.
+#[derive(Drop)]
+struct RankBlock<'a> {
+    ranks: &'a [usize],
+    block: &'a [u8],
+    base: usize,
+    ghost holds: { HoldsRanks ranks.now base block.now },
+}
+
+impl RankWords for RankBlock<'_> {
+    ghost bit = { λ b. is_listed b.ranks.now };
+
+    ghost end = { λ _. 2 ^ 64 - 1 };
+
+    ghost number = { λ b at. b.base + at };
+
+    ghost IsPassed = { λ _ _ at. at ≤ 8 * 512 };
+
+    // there are 24 bytes
+    ghost Reaches = { λ _ at. at < 8 * (512 - 23) };
+
+    #[inline(always)]
+    fn reaches(&self, at: usize) -> bool {
+        at < 8 * (512 - 23)
+    }
+
+    #[inline(always)]
+    fn two_words(&self, _next: &mut usize, at: usize, ones: [usize; 2]) -> [u64; 2] {
+        let next = at + ones[0];
+        [word_inside(self.block, at), word_inside(self.block, next)]
+    }
 }
 
 // Puts the ranks from `base` on as set bits, that of `base` first, whose first one is number `next`.
 // Answers the number of the first rank past the block.
 #[inline(always)]
 fn put_ranks(ranks: &[usize], next: usize, base: usize, block: &mut [u8]) -> usize
-    requires ascending { IsStrictlyIncreasing ranks.now }
-    requires small { (k : ℕ) → k < length ranks.now → slice_index ranks.now k + 1 < 2 ^ 64 }
-    requires from { AreSplit ranks.now next base }
-    requires room { length block.old ≡ 512 }
+    requires room { CanHold ranks.now next base block.old }
     requires clear { (p : ℕ) → backing_bit block.old p ≡ false }
-    ensures bits { (k : ℕ) → k < 4096 → base + k + 1 < 2 ^ 64
-        → backing_bit block.new k ≡ list_any (nat_eq (base + k)) ranks.now }
-    ensures within { result ≤ length ranks.now }
-    ensures passed { (k : ℕ) → result ≤ k → k < length ranks.now
-        → base + 4096 ≤ slice_index ranks.now k }
+    ensures { HoldsUpTo ranks.now base block.new result }
 {
     // one by one there is no branch to guess wrong, and by words less to do for each of many
     if next + 32 < ranks.len() && ranks[next + 32] - ranks[next] <= 128 {
@@ -81,15 +100,8 @@ fn put_ranks(ranks: &[usize], next: usize, base: usize, block: &mut [u8]) -> usi
 }
 
 fn put_by_words(ranks: &[usize], next: usize, base: usize, block: &mut [u8]) -> usize
-    requires ascending { IsStrictlyIncreasing ranks.now }
-    requires small { (k : ℕ) → k < length ranks.now → slice_index ranks.now k + 1 < 2 ^ 64 }
-    requires from { AreSplit ranks.now next base }
-    requires room { length block.old ≡ 512 }
-    ensures bits { (k : ℕ) → k < 4096 → base + k + 1 < 2 ^ 64
-        → backing_bit block.new k ≡ list_any (nat_eq (base + k)) ranks.now }
-    ensures within { result ≤ length ranks.now }
-    ensures passed { (k : ℕ) → result ≤ k → k < length ranks.now
-        → base + 4096 ≤ slice_index ranks.now k }
+    requires { CanHold ranks.now next base block.old }
+    ensures { HoldsUpTo ranks.now base block.new result }
 {
     let mut next = next;
     let mut at = base;
@@ -103,16 +115,9 @@ fn put_by_words(ranks: &[usize], next: usize, base: usize, block: &mut [u8]) -> 
 }
 
 fn put_one_by_one(ranks: &[usize], next: usize, base: usize, block: &mut [u8]) -> usize
-    requires ascending { IsStrictlyIncreasing ranks.now }
-    requires small { (k : ℕ) → k < length ranks.now → slice_index ranks.now k + 1 < 2 ^ 64 }
-    requires from { AreSplit ranks.now next base }
-    requires room { length block.old ≡ 512 }
+    requires room { CanHold ranks.now next base block.old }
     requires clear { (p : ℕ) → backing_bit block.old p ≡ false }
-    ensures bits { (k : ℕ) → k < 4096 → base + k + 1 < 2 ^ 64
-        → backing_bit block.new k ≡ list_any (nat_eq (base + k)) ranks.now }
-    ensures within { result ≤ length ranks.now }
-    ensures passed { (k : ℕ) → result ≤ k → k < length ranks.now
-        → base + 4096 ≤ slice_index ranks.now k }
+    ensures { HoldsUpTo ranks.now base block.new result }
 {
     let mut next = next;
     while next < ranks.len() && ranks[next] - base < 4096 {

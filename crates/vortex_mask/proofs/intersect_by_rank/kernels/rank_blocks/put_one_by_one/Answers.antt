@@ -1,4 +1,4 @@
-use Rattle.std.proofs.Common.{◌+◌, ◌-◌, ◌≤◌, ℕ, nat_eq, get_or, take, sym, ◌∙◌, arith}
+use Rattle.std.proofs.Common.{◌+◌, ◌-◌, ◌<◌, ◌≤◌, ℕ, length, nat_eq, get_or, take, sym, ◌∙◌, arith}
 use Rattle.std.proofs.lemmas.List.{get_or-take, length-take}
 use Rattle.std.proofs.lemmas.List.Folds.{list_any_more}
 use Rattle.vortex_mask.proofs.Kernels.RankBlockLemmas.{backing_bit-set, nat_eq-from, among-first}
@@ -7,10 +7,10 @@ use Rattle.vortex_mask.proofs.intersect_by_rank.kernels.rank_blocks.put_one_by_o
 
 pub loop-next-init : goal.loop-next-init
 loop-next-init c = record {
-  within = c.requires.from.within;
-  from = c.requires.from.after;
+  within = c.requires.room.from.within;
+  from = c.requires.room.from.after;
   bits = λ k h. c.requires.clear k ∙ sym (none-is (c.args.base + k) (take c.args.next c.args.ranks.now)
-      (λ i inside same. omega (arith, length-take c.args.next c.args.ranks.now, get_or-take c.args.next c.args.ranks.now i 0 (omega (arith, length-take c.args.next c.args.ranks.now)), c.requires.from.before i (omega (arith, length-take c.args.next c.args.ranks.now)))));
+      (λ i inside same. omega (arith, length-take c.args.next c.args.ranks.now, get_or-take c.args.next c.args.ranks.now i 0 (omega (arith, length-take c.args.next c.args.ranks.now)), c.requires.room.from.before i (omega (arith, length-take c.args.next c.args.ranks.now)))));
 }
 
 pub loop-next-preserved : goal.loop-next-preserved
@@ -23,14 +23,19 @@ loop-next-preserved c =
       within = omega (arith, c.loop-next-test.true);
       from = λ j h inside. c.loop-next.invariant.from j (omega arith) inside;
       bits = λ k h.
-          backing_bit-set c.loop-next.block (rank - c.args.base) k (omega (arith, c.if-ranks-next-lt4096.true, c.requires.room))
+          backing_bit-set c.loop-next.block (rank - c.args.base) k (omega (arith, c.if-ranks-next-lt4096.true, c.requires.room.room))
           ∙ grind (arith, nat_eq-from c.args.base k rank from, c.loop-next.invariant.bits k h, list_any_more (nat_eq (c.args.base + k)) ranks n 0 (omega (arith, c.loop-next-test.true)));
     }
 
-pub returns-else-ranks-next-lt4096-clause-bits : goal.returns-else-ranks-next-lt4096-clause-bits
-returns-else-ranks-next-lt4096-clause-bits c = λ k h small.
-    c.loop-next.invariant.bits k h
-    ∙ among-first c.args.ranks.now c.loop-next.next (c.args.base + k) (λ j later inside. omega (arith, c.if-ranks-next-lt4096.false, rises-to c.args.ranks.now c.loop-next.next j c.requires.ascending later inside))
-
-pub returns-else-ranks-next-lt4096-clause-passed : goal.returns-else-ranks-next-lt4096-clause-passed
-returns-else-ranks-next-lt4096-clause-passed c = λ k later inside. omega (arith, c.if-ranks-next-lt4096.false, rises-to c.args.ranks.now c.loop-next.next k c.requires.ascending later inside)
+pub returns-else-ranks-next-lt4096 : goal.returns-else-ranks-next-lt4096
+returns-else-ranks-next-lt4096 c =
+    let past : (k : ℕ) → c.loop-next.next ≤ k → k < length c.args.ranks.now → c.args.base + 4096 ≤ get_or c.args.ranks.now k 0
+    = λ k later inside. omega (arith, c.if-ranks-next-lt4096.false, rises-to c.args.ranks.now c.loop-next.next k c.requires.room.ascending later inside) in
+    record {
+      holds = record {
+        room = omega (arith, c.requires.room.room);
+        bits = λ k h small. c.loop-next.invariant.bits k h ∙ among-first c.args.ranks.now c.loop-next.next (c.args.base + k) (λ j later inside. omega (arith, past j later inside));
+      };
+      within = c.loop-next.invariant.within;
+      passed = past;
+    }

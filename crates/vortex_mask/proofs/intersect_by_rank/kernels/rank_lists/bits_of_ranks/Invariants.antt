@@ -1,6 +1,6 @@
 use Rattle.std.proofs.Common.{◌-◌, length}
 use Rattle.vortex_mask.specs.Ranks.{IsGathered}
-use Rattle.vortex_mask.proofs.intersect_by_rank.kernels.rank_indices.bits_of_fours.Given as goal
+use Rattle.vortex_mask.proofs.intersect_by_rank.kernels.rank_lists.bits_of_ranks.Given as goal
 
 -- the ranks before the next one are set bits
 abbrev pub invariant-loop-next : goal.invariant-loop-next

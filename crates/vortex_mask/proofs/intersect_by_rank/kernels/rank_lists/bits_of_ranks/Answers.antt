@@ -1,7 +1,7 @@
 use Rattle.std.proofs.Common.{◌-◌, ◌<◌, get_or, arith}
 use Rattle.std.proofs.lemmas.Nat.{one_shl}
 use Rattle.vortex_mask.proofs.Kernels.RankWordLemmas.{gathered-more, gathered-split, gathered-bits}
-use Rattle.vortex_mask.proofs.intersect_by_rank.kernels.rank_indices.bits_of_ranks.Goals as goal
+use Rattle.vortex_mask.proofs.intersect_by_rank.kernels.rank_lists.bits_of_ranks.Goals as goal
 
 pub loop-next-init : goal.loop-next-init
 loop-next-init c = c.bits_of_most-bits.ensures

@@ -4,7 +4,7 @@ use Rattle.mask_bits.specs.Positions.{count}
 use Rattle.mask_bits.specs.Words.{word_bits}
 use Rattle.mask_bits.proofs.Lists.Places.PlaceLemmas.{count-le-length}
 use Rattle.mask_bits.proofs.Lists.Words.WordLemmas.{count-word_bits, length-word_bits}
-use Rattle.vortex_mask.proofs.intersect_by_rank.steps.Steps.deposit_two_listed.Goals as goal
+use Rattle.vortex_mask.proofs.intersect_by_rank.steps.Steps.deposit_words.Goals as goal
 
 few : (m : ℕ) → count (word_bits m) ≤ 64
 few m = omega (arith, count-le-length (word_bits m), length-word_bits m)

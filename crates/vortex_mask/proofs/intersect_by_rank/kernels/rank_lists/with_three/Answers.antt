@@ -1,6 +1,6 @@
 use Rattle.std.proofs.Common.{arith}
 use Rattle.vortex_mask.proofs.Kernels.RankWordLemmas.{gathered-three}
-use Rattle.vortex_mask.proofs.intersect_by_rank.kernels.rank_indices.with_three.Goals as goal
+use Rattle.vortex_mask.proofs.intersect_by_rank.kernels.rank_lists.with_three.Goals as goal
 
 pub returns : goal.returns
 returns c =
