@@ -1,14 +1,15 @@
 -- What deposits and selections are for the lists of the words.
-use Rattle.std.proofs.Common.{◌≡◌, ℕ, zero, suc, ◌+◌, ◌<◌, ◌↔◌, Bool, true, false, ◌&&◌, nat_eq, List, [], ◌∷◌, length, get_or, take, refl, sym, ap, ◌∙◌, arith}
+use Rattle.std.proofs.Common.{◌≡◌, ℕ, zero, suc, ◌+◌, ◌<◌, ◌≤◌, ◌^◌, ◌↔◌, Bool, count_ones, true, false, ◌&&◌, nat_eq, List, [], ◌∷◌, length, get_or, take, refl, sym, ap, ◌∙◌, arith}
 use Rattle.std.specs.Int.{bit_at}
 use Rattle.std.proofs.lemmas.List.{ext_get_or, get_or-take, length-take}
 use Rattle.std.proofs.lemmas.Bool.Decides.{nat_tests}
+use Rattle.std.proofs.lemmas.Nat.{ones-le}
 use Rattle.std.proofs.lemmas.Nat.Bits.{bit_at-lt}
 use Rattle.mask_bits.specs.Positions.{indices_from, positions, count, count_below, rank_intersection}
 use Rattle.mask_bits.specs.Words.{word_bits}
 use Rattle.mask_bits.proofs.Lists.LawLemmas.{rank_intersection_value, length-rank_intersection}
-use Rattle.mask_bits.proofs.Lists.Places.PlaceLemmas.{length-indices_from, positions-within, trues, count-trues}
-use Rattle.mask_bits.proofs.Lists.Words.WordLemmas.{length-word_bits, get_or-word_bits, count_below-word_bits}
+use Rattle.mask_bits.proofs.Lists.Places.PlaceLemmas.{count-le-length, length-indices_from, positions-within, trues, count-trues}
+use Rattle.mask_bits.proofs.Lists.Words.WordLemmas.{count-word_bits, length-word_bits, get_or-word_bits, count_below-word_bits}
 use Rattle.vortex_mask.specs.Deposit.{Deposits, selected}
 use Rattle.vortex_mask.proofs.Deposits.SetPlaceLemmas.{ones_below}
 
@@ -75,3 +76,13 @@ word_bits-deposited s m r is =
     let stays : get_or a j false ≡ true → get_or (word_bits s) k false ≡ get_or b k false
     = λ set. sym (get_or-take (count a) (word_bits s) k false (omega (arith, trues-take a j set, count-trues a, count-trues (take j a)))) in
     deposited-value s m r j is (omega (arith, length-word_bits r)) ∙ and_where (get_or a j false) _ _ stays ∙ sym (rank_intersection_value a b j (length-offered_bits s m)))
+
+-- ---- counts of a word
+
+pub few-true : (w : ℕ) → count (word_bits w) ≤ 64
+few-true w = omega (arith, count-le-length (word_bits w), length-word_bits w)
+
+pub few-ones : (w : ℕ) → w < 2 ^ 64 → count_ones w ≤ 64
+few-ones w fits = ones-le 64 w fits
+
+pub ruleset word_counts = (few-true, few-ones, count-word_bits)

@@ -103,6 +103,7 @@ impl Steps {
     }
 
     /// Deposits the bits of `source` at the set places of `mask`, of which there are `mask_count`.
+    #[tactic(auto, using(crate::proofs::Kernels::DepositListLemmas::word_counts))]
     #[inline(always)]
     pub fn deposit<D: DepositBits>(&mut self, source: u64, mask: u64, mask_count: usize) -> u64
         requires room { self.old.deposits < usize.MAX }
@@ -122,6 +123,7 @@ impl Steps {
     }
 
     /// Deposits two words, and counts what two calls of [`Steps::deposit`] would.
+    #[tactic(auto, using(crate::proofs::Kernels::DepositListLemmas::word_counts))]
     #[inline(always)]
     pub fn deposit_two<D: DepositBits>(
         &mut self,
@@ -154,6 +156,7 @@ impl Steps {
 
     /// Deposits two words of a list as [`Steps::deposit_two`] does. A list has so few words that its
     /// sums are of 64 bits, which a loop adds in fewer steps.
+    #[tactic(auto, using(crate::proofs::Kernels::DepositListLemmas::word_counts))]
     #[inline(always)]
     pub(crate) fn deposit_words<D: DepositBits>(
         &mut self,
