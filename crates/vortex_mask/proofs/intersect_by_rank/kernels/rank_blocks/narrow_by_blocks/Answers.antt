@@ -1,4 +1,4 @@
-use Rattle.std.proofs.Common.{◌-◌, ◌*◌, ◌<◌, ◌^◌, arith}
+use Rattle.std.proofs.Common.{◌<◌, arith}
 use Rattle.std.proofs.lemmas.List.Elements.{All-get_or}
 use Rattle.mask_bits.specs.Positions.{count}
 use Rattle.mask_bits.proofs.Lists.Places.PlaceLemmas.{count-le-length}

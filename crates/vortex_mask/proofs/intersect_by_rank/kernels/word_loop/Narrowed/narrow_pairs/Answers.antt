@@ -1,8 +1,7 @@
 use Rattle.std.proofs.Common.{◌+◌, ◌*◌, refl, sym, arith, count_ones}
 use Rattle.mask_bits.proofs.Lists.Words.WordLemmas.{count-word_bits}
-use Rattle.mask_bits.proofs.Lists.Places.PlaceLemmas.{count-le-length}
 use Rattle.vortex_mask.proofs.Kernels.WordKernelLemmas.{deposited-at, deposited-more, two_more}
-use Rattle.vortex_mask.proofs.Lists.StartedWordLemmas.{IsAt, place-next, place-within, place-after_within}
+use Rattle.vortex_mask.proofs.Lists.StartedWordLemmas.{IsAt, place-next, place-after_within}
 use Rattle.vortex_mask.proofs.intersect_by_rank.kernels.word_loop.Narrowed.narrow_pairs.Goals as goal
 use Rattle.vortex_mask.proofs.intersect_by_rank.kernels.word_loop.Narrowed.narrow_pairs.Goals.{After-two_words-both}
 use Rattle.vortex_mask.proofs.intersect_by_rank.kernels.word_loop.Narrowed.narrow_pairs.Given.{Over}
