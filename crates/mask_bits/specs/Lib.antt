@@ -16,4 +16,5 @@ pub mod Runs
 pub mod Stacks
 pub mod Text
 pub mod Walk
+pub mod WordItems
 pub mod Words

@@ -1,19 +1,15 @@
--- Indices and runs of a word's bits that are being pushed. No public clause cites these terms.
-use Rattle.std.specs.Prelude.{ℕ, ◌+◌, ◌≡◌, ◌<◌, ◌≤◌, ◌^◌, Bool, true, false, List, [], ◌∷◌, ◌++◌, length, zip}
+-- What a word's bits yield, and runs between them, that are being pushed. No public clause cites these terms.
+use Rattle.std.specs.Prelude.{ℕ, Option, ◌+◌, ◌≡◌, ◌<◌, ◌≤◌, ◌^◌, Bool, true, false, List, [], ◌∷◌, ◌++◌, length, zip}
 use Rattle.mask_bits.specs.Positions.{indices_from}
 use Rattle.mask_bits.specs.RunScan.{runs_from}
+use Rattle.mask_bits.specs.WordItems.{items_of}
 use Rattle.mask_bits.specs.Words.{word_bits}
 
--- the items, and then the indices of w's bits from base on, are `all`, and others follow only once no bit is left
-pub record ArePushed (all : List ℕ) (base : ℕ) (items : List ℕ) (w : ℕ) : Type 0 where
-  pub others : List ℕ
-  pub list : items ++ indices_from base (word_bits w) ≡ all ++ others
+-- the items, and then those that w's bits yield, are `all`, and others follow only once no bit is left
+pub record ArePushed {X : Type 0} (at : ℕ → Option X) (all items : List X) (w : ℕ) : Type 0 where
+  pub others : List X
+  pub list : items ++ items_of at (word_bits w) ≡ all ++ others
   pub exact : 0 < w → others ≡ []
-
--- the values of words, one word after another
-abbrev pub bits_of_words : List ℕ → List Bool
-bits_of_words [] = []
-bits_of_words (w ∷ ws) = word_bits w ++ bits_of_words ws
 
 -- the runs of a list whose first index is n, behind a run from `start` on that has not ended before n where `inside`
 abbrev pub runs_behind : Bool → ℕ → ℕ → List Bool → List (ℕ × ℕ)

@@ -1,5 +1,5 @@
 -- Words of 64 bits as lists of truth values.
-use Rattle.std.specs.Prelude.{ℕ, ◌+◌, ◌*◌, ◌-◌, ◌/◌, ◌%◌, Bool, false, nat_eq, List, ◌++◌, length, take, drop, map, slice_range}
+use Rattle.std.specs.Prelude.{ℕ, ◌+◌, ◌*◌, ◌-◌, ◌/◌, ◌%◌, Bool, false, nat_eq, List, [], ◌∷◌, ◌++◌, length, take, drop, map, slice_range}
 use Rattle.std.specs.Int.{bit_at}
 use Rattle.std.specs.List.{range_with_len}
 use Rattle.mask_bits.specs.Buffer.{backing_bit}
@@ -36,3 +36,8 @@ padded_part m i = take 64 (drop (64 * i) m ++ repeated 64 false)
 -- the started parts of a list: the whole ones, and the remainder where there is one
 unfoldable pub padded_parts : List Bool → List (List Bool)
 padded_parts m = map (padded_part m) (range_with_len 0 (started_words (length m)))
+
+-- the values of words, one word after another
+abbrev pub bits_of_words : List ℕ → List Bool
+bits_of_words [] = []
+bits_of_words (w ∷ ws) = word_bits w ++ bits_of_words ws

@@ -3,6 +3,7 @@
 
 mod bit_iterator;
 mod bitops;
+pub mod blocks;
 pub mod bools;
 mod buffer;
 mod buffer_mut;
@@ -17,10 +18,13 @@ pub mod extract;
 mod from_rows;
 pub mod laws;
 mod read_word;
+pub mod room;
 mod scan;
 mod set_indices;
 mod set_slices;
 mod word_indices;
+mod word_items;
+pub mod word_rows;
 pub mod words;
 pub mod write_bits;
 

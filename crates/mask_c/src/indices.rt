@@ -1,13 +1,14 @@
 //! The indices of the true values of a bitmap: by number, from an index on, and the last.
 
-ghost use Rattle.std.specs.Prelude.{◌≡◌, ◌-◌, ◌+◌, ◌*◌, ◌<◌, ◌≤◌, ◌^◌, ◌++◌, ℕ, All, drop, length, map, min, not, slice_index_or, Some, slice_get, take, true};
+ghost use Rattle.std.specs.Prelude.{◌≡◌, ◌-◌, ◌+◌, ◌*◌, ◌<◌, ◌≤◌, ◌^◌, ◌++◌, All, [], drop, length, map, min, not, slice_index_or, Some, slice_get, take, true};
 ghost use Rattle.mask_bits.specs.Bitmap.{bitmap};
 ghost use Rattle.mask_bits.specs.Buffer.{IsWithinBytes, backing_bit};
 ghost use Rattle.mask_bits.specs.Positions.{IsFirstFrom, count, indices_from, positions};
 ghost use Rattle.mask_bits.specs.Words.{started_words, word_bits};
 
-use crate::put_indices::{SPARE, block, ones_in, put_block};
 use mask_bits::BitChunks;
+use mask_bits::blocks::{SPARE, block, ones_in, push_block};
+use mask_bits::room::{Lent, Room};
 
 /// The index of true value number `n`, counted from 0, and `len` where there is none.
 #[unsafe(no_mangle)]
@@ -83,8 +84,9 @@ fn indices_of_words(
         (count (drop from (bitmap bytes.now offset len))) }
 {
     let chunks = BitChunks::new(bytes, offset + from, len - from);
-    let (first, written) = indices_of_blocks(&chunks, from, out);
-    let mut at = written;
+    let mut room = Lent { out, at: 0 };
+    let first = indices_of_blocks(&chunks, from, &mut room);
+    let mut at = room.at;
     for i in first..chunks.started_words() {
         at = indices_of_word(chunks.started_word(i), from + 64 * i, out, at);
         if at == out.len() {
@@ -97,32 +99,34 @@ fn indices_of_words(
 // Room for the indices of any word and for some to spare.
 const LEAST_ROOM: usize = 64 + SPARE;
 
-// Writes those of the first blocks of four words, as many as there is room for, where the first value has
-// the index `from`. Answers the number of the first word behind them, and how many indices there are.
-#[inline]
-fn indices_of_blocks(chunks: &BitChunks, from: usize, out: &mut [usize]) -> (usize, usize)
+// Puts those of the first blocks of four words, as many as there is room for, where the first value has the
+// index `from`. Answers the number of the first word behind them.
+#[inline(always)]
+fn indices_of_blocks<R: Room<usize>>(chunks: &BitChunks, from: usize, out: &mut R) -> usize
     requires fits { from + length chunks.now < 2 ^ 64 }
-    ensures words { 64 * result.0 ≤ length chunks.now }
-    ensures indices { take result.1 out.new
-        ≡ map (λ p. from + p) (positions (take (64 * result.0) chunks.now)) }
-    ensures count { result.1 ≡ count (take (64 * result.0) chunks.now) }
-    ensures room { result.1 ≤ length out.old }
+    requires empty { R.items out.old ≡ [] }
+    ensures words { 64 * result ≤ length chunks.now }
+    ensures indices { R.items out.new
+        ≡ map (λ p. from + p) (positions (take (64 * result) chunks.now)) }
+    ensures kept { R.kept out.new ≡ R.kept out.old }
 {
     let blocks = chunks.len() / 4;
-    let mut at = 0;
     for i in 0..blocks {
         // little room is not worth the look at a block
-        if out.len() - at < LEAST_ROOM {
-            return (4 * i, at);
+        if out.spare() < LEAST_ROOM {
+            return 4 * i;
         }
         let words = block(chunks, i);
         let ones = ones_in(&words);
-        if out.len() - at < ones + SPARE {
-            return (4 * i, at);
+        if out.spare() < ones + SPARE {
+            return 4 * i;
         }
-        at = put_block(&words, ones, from + 256 * i, out, at);
+        if ones == 0 {
+            continue;
+        }
+        push_block(out, from + 256 * i, &words);
     }
-    (4 * blocks, at)
+    4 * blocks
 }
 
 // Writes `first` and the indices of the set bits of a word from there on behind the first `at` indices,

@@ -17,7 +17,6 @@ mod intersect;
 mod last;
 mod offsets;
 mod pointwise;
-mod put_indices;
 mod rank_words;
 mod runs;
 mod strings;

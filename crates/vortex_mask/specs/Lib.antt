@@ -13,7 +13,6 @@ pub mod Mask
 pub mod MaskValues
 pub mod Merges
 pub mod Path
-pub mod PushRows
 pub mod Ranges
 pub mod Ranks
 pub mod SetRanges

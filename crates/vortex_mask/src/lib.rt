@@ -9,5 +9,5 @@ mod mask;
 
 pub use mask::{
     AllOr, Fraction, Mask, MaskBoolIter, MaskError, MaskIter, MaskSetIndices, MaskSetSlices,
-    MaskValues, MaskValuesRef,
+    MaskValues, MaskValuesRef, choose_rows,
 };

@@ -35,6 +35,7 @@ pub use error::MaskError;
 pub use fraction::Fraction;
 pub use iter::{MaskBoolIter, MaskSetIndices, MaskSetSlices};
 use mask_bits::BitBuffer;
+pub use push_rows::choose_rows;
 use std::alloc::{AllocError, Global};
 use std::fmt;
 pub use values::{MaskValues, MaskValuesRef};

@@ -1,111 +1,18 @@
 -- Rows at the set bits of a word that are pushed one after another.
-use Rattle.std.proofs.Common.{◌≡◌, ℕ, Bool, nat_eq, true, false, subst, ◌+◌, ◌-◌, ◌*◌, ◌/◌, ◌%◌, ◌^◌, ◌<◌, ◌≤◌, List, [], ◌∷◌, ◌++◌, length, get_or, take, drop, slice_get, slice_range, Some, inl, inr, refl, sym, ap, ap₂, ◌∙◌, append_assoc, arith, append-nil}
-use Rattle.std.specs.Int.RustNames.{bit_and}
-use Rattle.std.specs.List.{All, cons_option, filter_map}
-use Rattle.std.proofs.lemmas.Bool.{cases_lt}
-use Rattle.std.proofs.lemmas.List.{length-drop, length-take, take-append-drop, take-append-le}
-use lib.Seq.{take-append_seam}
-use Rattle.mask_bits.proofs.Lists.LawLemmas.{length-chosen}
-use Rattle.std.proofs.lemmas.List.Elements.{All-head}
-use Rattle.std.proofs.lemmas.Option.{get_or_from_slice_get, slice_get-get_or}
+use Rattle.std.proofs.Common.{◌≡◌, ℕ, Bool, false, subst, ◌+◌, ◌-◌, ◌*◌, ◌/◌, ◌%◌, ◌<◌, ◌≤◌, List, [], ◌++◌, length, take, drop, slice_get, slice_range, refl, sym, ap, ap₂, ◌∙◌, arith, append-nil}
+use Rattle.std.specs.List.{All, filter_map}
+use Rattle.std.proofs.lemmas.List.{length-drop, length-take, take-append-drop}
 use Rattle.mask_bits.specs.Positions.{chosen, count, positions, repeated}
 use Rattle.mask_bits.specs.Words.{padded_remainder, word_bits, word_part}
-use Rattle.mask_bits.proofs.Lists.ChooseLemmas.{chosen-all_true, chosen_at_positions}
-use Rattle.mask_bits.proofs.Lists.CountLemmas.{count-append, count-repeated_true, indices_from-repeated_false, length-repeated, slice_get-repeated}
+use Rattle.mask_bits.proofs.Lists.ChooseLemmas.{chosen_at_positions}
+use Rattle.mask_bits.proofs.Lists.CountLemmas.{count-append, indices_from-repeated_false}
 use Rattle.mask_bits.proofs.Lists.Places.PlaceLemmas.{positions-within}
-use Rattle.mask_bits.proofs.Lists.Places.SelectLemmas.{positions-lowest, indices-of_none, indices_from-append}
+use Rattle.mask_bits.proofs.Lists.Places.SelectLemmas.{indices_from-append}
 use Rattle.mask_bits.proofs.Lists.RowLemmas.{chosen_of_two_chunks}
-use Rattle.mask_bits.proofs.Lists.Words.LowestLemmas.{low, low-within, ones-of_full, ones-set}
-use Rattle.mask_bits.proofs.Lists.Words.WordLemmas.{length-word_bits, word_bits_from_bits}
 use Rattle.mask_bits.proofs.Lists.Words.ChosenWordLemmas.{chosen-part_more}
-use Rattle.vortex_mask.specs.PushRows.{RowsArePushed}
 
 abbrev items_at : {X : Type 0} → List X → List ℕ → List X
 items_at rows ps = filter_map (λ p. slice_get rows p) ps
-
--- and 0 has none
-pub no_places : (w : ℕ) → w ≡ 0 → positions (word_bits w) ≡ []
-no_places w zero = ap (λ n. positions (word_bits n)) zero ∙ indices-of_none 0
-
--- the lowest place of a word is a place of it
-pub lowest-within : (w n : ℕ) → 0 < w → w < 2 ^ 64 → All (λ p. p < n) (positions (word_bits w)) → low w < n
-lowest-within w n some fits within = grind (arith, All-head, positions-lowest)
-
--- no row is chosen by 0
-pub chosen_by_zero : {X : Type 0} (rows : List X) (w : ℕ) → w ≡ 0 → chosen rows (word_bits w) ≡ []
-chosen_by_zero rows w zero = chosen_at_positions rows (word_bits w) ∙ ap (items_at rows) (no_places w zero)
-
--- the row at the lowest place of a word comes first
-chosen-lowest : {X : Type 0} (rows : List X) (w : ℕ) (row : X) → length rows ≡ 64 → 0 < w → w < 2 ^ 64 → row ≡ get_or rows (low w % 64) row
-    → chosen rows (word_bits w) ≡ row ∷ chosen rows (word_bits (bit_and w (w - 1)))
-chosen-lowest {X} rows w row len some fits is =
-    let few : low w < 64 = low-within w some fits in
-    let same : low w % 64 ≡ low w = omega arith in
-    let read : slice_get rows (low w) ≡ Some row = slice_get-get_or rows (low w) row (omega arith) ∙ ap Some (sym (is ∙ ap (λ i. get_or rows i row) same)) in
-    let rest = bit_and w (w - 1) in
-    chosen_at_positions rows (word_bits w) ∙ ap (items_at rows) (positions-lowest w some fits)
-    ∙ ap (λ o. cons_option o (items_at rows (positions (word_bits rest)))) read
-    ∙ ap (λ (xs : List X). row ∷ xs) (sym (chosen_at_positions rows (word_bits rest)))
-
--- it is pushed, or another row where no bit is left
-pub pushed_more : {X : Type 0} (all rows items : List X) (w : ℕ) (row : X) → length rows ≡ 64 → w < 2 ^ 64 → row ≡ get_or rows (low w % 64) row
-    → RowsArePushed all rows items w → RowsArePushed all rows (items ++ row ∷ []) (bit_and w ((w + (2 ^ 64 - 1)) % 2 ^ 64))
-pushed_more {X} all rows items w row len fits is so_far =
-    let left : ℕ = bit_and w ((w + (2 ^ 64 - 1)) % 2 ^ 64) in
-    elim (cases_lt 0 w) [
-      | inl some ↦
-          let less : (w + (2 ^ 64 - 1)) % 2 ^ 64 ≡ w - 1 = omega arith in
-          record {
-            others = so_far.others;
-            list = append_assoc items (row ∷ []) (chosen rows (word_bits left))
-                ∙ ap (λ n. items ++ row ∷ chosen rows (word_bits (bit_and w n))) less
-                ∙ ap (λ (xs : List X). items ++ xs) (sym (chosen-lowest rows w row len some fits is)) ∙ so_far.list;
-            exact = λ h. so_far.exact some;
-          }
-      | inr none ↦
-          let zero : w ≡ 0 = omega arith in
-          let over : items ≡ all ++ so_far.others = sym (append-nil items) ∙ ap (λ (xs : List X). items ++ xs) (sym (chosen_by_zero rows w zero)) ∙ so_far.list in
-          let still : left ≡ 0 = ap (λ n. bit_and n ((n + (2 ^ 64 - 1)) % 2 ^ 64)) zero in
-          record {
-            others = so_far.others ++ row ∷ [];
-            list = ap (λ (xs : List X). (items ++ row ∷ []) ++ xs) (chosen_by_zero rows left still)
-                ∙ append-nil (items ++ row ∷ []) ∙ ap (λ (xs : List X). xs ++ row ∷ []) over ∙ append_assoc all so_far.others (row ∷ []);
-            exact = λ h. absurd (omega (arith, still));
-          }
-    ]
-
--- none is pushed yet
-pub pushed_none : {X : Type 0} (rows items : List X) (w : ℕ) → RowsArePushed (items ++ chosen rows (word_bits w)) rows items w
-pushed_none rows items w = record { others = []; list = sym (append-nil (items ++ chosen rows (word_bits w))); exact = λ h. refl }
-
--- as many of the items as all are
-pub pushed_all : {X : Type 0} (all rows items : List X) (w : ℕ) → length all ≤ length items → RowsArePushed all rows items w → take (length all) items ≡ all
-pushed_all {X} all rows items w enough so_far =
-    sym (take-append-le (length all) items (chosen rows (word_bits w)) enough) ∙ ap (take (length all)) so_far.list ∙ take-append_seam all so_far.others
-
--- a word chooses as many rows as it has bits
-pub length-chosen_by_word : {X : Type 0} (rows : List X) (w : ℕ) → length rows ≡ 64 → length (chosen rows (word_bits w)) ≡ count (word_bits w)
-length-chosen_by_word rows w len = length-chosen rows (word_bits w) (len ∙ sym (length-word_bits w))
-
--- all bits of a full word are set
-pub full_word : (w : ℕ) → w < 2 ^ 64 → w ≡ 2 ^ 64 - 1 → word_bits w ≡ repeated 64 true
-full_word w fits full =
-    word_bits_from_bits w (repeated 64 true) (length-repeated 64 true) (λ j h.
-    ap (λ b. nat_eq b 1) (ones-set w j fits (omega (arith, ones-of_full w full)))
-    ∙ sym (get_or_from_slice_get (repeated 64 true) j true false (slice_get-repeated 64 true j (omega (arith, length-repeated 64 true)))))
-
--- so that all rows are chosen
-pub chosen_by_full : {X : Type 0} (rows : List X) (w : ℕ) → length rows ≡ 64 → w < 2 ^ 64 → w ≡ 2 ^ 64 - 1 → chosen rows (word_bits w) ≡ rows
-chosen_by_full rows w len fits full = ap (chosen rows) (full_word w fits full) ∙ chosen-all_true rows 64 len
-
-pub count_of_full : (w : ℕ) → w < 2 ^ 64 → w ≡ 2 ^ 64 - 1 → count (word_bits w) ≡ 64
-count_of_full w fits full = ap count (full_word w fits full) ∙ count-repeated_true 64
-
--- the places of a word are among 64
-pub places-within : (w n : ℕ) → n ≡ 64 → All (λ p. p < n) (positions (word_bits w))
-places-within w n is = subst (λ k. All (λ p. p < k) (positions (word_bits w))) (length-word_bits w ∙ sym is) (positions-within (word_bits w))
-
--- ---- word by word, and the rest
 
 pub chosen_of_none : {X : Type 0} → chosen {X = X} [] [] ≡ []
 unfolding chosen

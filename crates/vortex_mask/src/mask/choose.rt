@@ -5,7 +5,7 @@ ghost use Rattle.mask_bits.specs.Buffer.{values};
 ghost use Rattle.mask_bits.specs.Positions.{count, chosen};
 ghost use Rattle.vortex_mask.specs.Mask.{truth, variant, all_false};
 
-use crate::mask::push_rows::push_rows;
+use crate::mask::push_rows::choose_rows;
 use crate::mask::{Mask, MaskError};
 use mask_bits::BitBuffer;
 use std::alloc::{AllocError, Global};
@@ -46,6 +46,6 @@ fn rows_at<T: Copy>(
     ensures { IfOk result (λ v. v.items ≡ chosen rows.now (values buffer.now)) }
 {
     let mut chosen_rows = Vec::with_capacity(alloc, true_count)?;
-    push_rows(&mut chosen_rows, rows, &buffer.chunks());
+    choose_rows(&mut chosen_rows, rows, &buffer.chunks());
     Ok(chosen_rows)
 }

@@ -1,16 +1,59 @@
--- Indices of a word's bits, pushed without a test of whether one is left.
-use Rattle.std.proofs.Common.{◌≡◌, ℕ, Bool, ◌+◌, ◌-◌, ◌%◌, ◌^◌, ◌<◌, ◌≤◌, List, [], ◌∷◌, ◌++◌, length, take, sym, ap, ◌∙◌, inl, inr, arith, count_ones, append-nil, append_assoc}
+-- What a word's bits yield, put into room without a test of whether one is left.
+use Rattle.std.proofs.Common.{◌≡◌, ℕ, Bool, ◌+◌, ◌-◌, ◌%◌, ◌^◌, ◌<◌, ◌≤◌, List, [], ◌∷◌, ◌++◌, Option, Some, None, suc, length, take, slice_get, true, nat_eq, false, subst, refl, sym, ap, count_ones, ◌∙◌, inl, inr, arith, append-nil, append_assoc, add-zero}
 use Rattle.std.specs.Int.RustNames.{bit_and}
+use Rattle.std.specs.List.{All, cons_option, filter_map}
+use Rattle.std.specs.Option.{IsSome}
 use Rattle.std.proofs.lemmas.Bool.{cases_lt}
 use Rattle.std.proofs.lemmas.List.{take-append-le}
+use Rattle.std.proofs.lemmas.List.Elements.{All-head, All-tail, All-weaker}
 use lib.Seq.{take-append_seam}
-use Rattle.mask_bits.specs.Positions.{indices_from, count}
+use Rattle.mask_bits.specs.Positions.{chosen, indices_from, positions, count, repeated}
 use Rattle.mask_bits.specs.Pushed.{ArePushed}
+use Rattle.mask_bits.specs.WordItems.{items_of}
 use Rattle.mask_bits.specs.Words.{word_bits}
-use Rattle.mask_bits.proofs.Lists.Places.SelectLemmas.{places-lowest, indices-of_none}
-use Rattle.mask_bits.proofs.Lists.Places.PlaceLemmas.{length-indices_from-trues}
-use Rattle.mask_bits.proofs.Lists.Words.LowestLemmas.{low}
-use Rattle.mask_bits.proofs.Lists.Words.WordLemmas.{count-word_bits}
+use Rattle.std.proofs.lemmas.Option.{get_or_from_slice_get, slice_get_cases}
+use Rattle.mask_bits.proofs.Lists.ChooseLemmas.{chosen-all_true}
+use Rattle.mask_bits.proofs.Lists.CountLemmas.{count-repeated_true, length-repeated, slice_get-repeated}
+use Rattle.mask_bits.proofs.Lists.Places.SelectLemmas.{positions-lowest, indices-of_none}
+use Rattle.mask_bits.proofs.Lists.Places.PlaceLemmas.{length-indices_from-trues, positions-within}
+use Rattle.mask_bits.proofs.Lists.Words.LowestLemmas.{low, ones-of_full, ones-set}
+use Rattle.mask_bits.proofs.Lists.Words.WordLemmas.{count-word_bits, length-word_bits, word_bits_from_bits}
+
+-- ---- what a word yields
+
+-- the item of its lowest bit comes first
+pub items_of-lowest : {X : Type 0} (at : ℕ → Option X) (w : ℕ) (x : X) → 0 < w → w < 2 ^ 64 → at (low w) ≡ Some x → items_of at (word_bits w) ≡ x ∷ items_of at (word_bits (bit_and w (w - 1)))
+items_of-lowest at w x some fits is =
+    let rest : List ℕ = positions (word_bits (bit_and w (w - 1))) in
+    ap (filter_map at) (positions-lowest w some fits) ∙ ap (λ o. cons_option o (filter_map at rest)) is
+
+-- a word without bits has no places, and yields nothing
+pub no_places : (w : ℕ) → w ≡ 0 → positions (word_bits w) ≡ []
+no_places w none = ap (λ n. positions (word_bits n)) none ∙ indices-of_none 0
+
+pub items_of-zero : {X : Type 0} (at : ℕ → Option X) (w : ℕ) → w ≡ 0 → items_of at (word_bits w) ≡ []
+items_of-zero at w none = ap (filter_map at) (no_places w none)
+
+length-cons_option : {X : Type 0} (o : Option X) (xs : List X) → IsSome o → length (cons_option o xs) ≡ suc (length xs)
+length-cons_option (Some x) xs h = refl
+length-cons_option None xs h = cc
+
+-- one item for each place that has one
+length-filter_map : {X : Type 0} (at : ℕ → Option X) (ps : List ℕ) → All (λ p. IsSome (at p)) ps → length (filter_map at ps) ≡ length ps
+length-filter_map at [] each = refl
+length-filter_map at (p ∷ ps) each =
+    length-cons_option (at p) (filter_map at ps) (All-head (λ q. IsSome (at q)) p ps each) ∙ ap suc (length-filter_map at ps (All-tail (λ q. IsSome (at q)) p ps each))
+
+pub length-items_of : {X : Type 0} (at : ℕ → Option X) (m : List Bool) → All (λ p. IsSome (at p)) (positions m) → length (items_of at m) ≡ count m
+length-items_of at m each = length-filter_map at (positions m) each
+
+-- so many for a word of whose places each has one
+pub length-items_of_word : {X : Type 0} (at : ℕ → Option X) (w : ℕ) → w < 2 ^ 64 → ((p : ℕ) → p < 64 → IsSome (at p)) → length (items_of at (word_bits w)) ≡ count_ones w
+length-items_of_word at w fits each =
+    length-filter_map at (positions (word_bits w)) (All-weaker (λ p. p < length (word_bits w)) (λ p. IsSome (at p)) (λ p h. each p (omega (arith, length-word_bits w))) (positions (word_bits w)) (positions-within (word_bits w)))
+    ∙ count-word_bits w fits
+
+-- ---- the lowest bit
 
 -- a word without its lowest bit
 abbrev pub cleared : ℕ → ℕ
@@ -21,36 +64,69 @@ cleared-some w some fits =
     let less : (w + (2 ^ 64 - 1)) % 2 ^ 64 ≡ w - 1 = omega arith in
     ap (bit_and w) less
 
--- its index, or another number where there is none, is pushed
-pub ArePushed-more : (all : List ℕ) (base : ℕ) (items : List ℕ) (w : ℕ) → w < 2 ^ 64 → ArePushed all base items w → ArePushed all base (items ++ (base + low w) ∷ []) (cleared w)
-ArePushed-more all base items w fits so_far = elim (cases_lt 0 w) [
+-- its item, or another one where there is none, is pushed
+pub ArePushed-more : {X : Type 0} (at : ℕ → Option X) (all items : List X) (w : ℕ) (x : X) → w < 2 ^ 64 → (0 < w → at (low w) ≡ Some x) → ArePushed at all items w → ArePushed at all (items ++ x ∷ []) (cleared w)
+ArePushed-more {X} at all items w x fits is so_far = elim (cases_lt 0 w) [
   | inl some ↦ record {
     others = so_far.others;
-    list = append_assoc items ((base + low w) ∷ []) (indices_from base (word_bits (cleared w)))
-        ∙ ap (λ v. items ++ (base + low w) ∷ indices_from base (word_bits v)) (cleared-some w some fits)
-        ∙ ap (λ (ps : List ℕ). items ++ ps) (sym (places-lowest base w some fits)) ∙ so_far.list;
+    list = append_assoc items (x ∷ []) (items_of at (word_bits (cleared w)))
+        ∙ ap (λ v. items ++ x ∷ items_of at (word_bits v)) (cleared-some w some fits)
+        ∙ ap (λ (xs : List X). items ++ xs) (sym (items_of-lowest at w x some fits (is some))) ∙ so_far.list;
     exact = λ h. so_far.exact some;
   }
   | inr none ↦
       let zero : w ≡ 0 = omega arith in
       let left : cleared w ≡ 0 = ap cleared zero in
-      let over : items ≡ all ++ so_far.others = sym (append-nil items) ∙ ap (λ (ps : List ℕ). items ++ ps) (sym (ap (λ v. indices_from base (word_bits v)) zero ∙ indices-of_none base)) ∙ so_far.list in record {
-        others = so_far.others ++ (base + low w) ∷ [];
-        list = ap (λ (ps : List ℕ). (items ++ (base + low w) ∷ []) ++ ps) (ap (λ v. indices_from base (word_bits v)) left ∙ indices-of_none base)
-            ∙ append-nil (items ++ (base + low w) ∷ []) ∙ ap (λ (xs : List ℕ). xs ++ (base + low w) ∷ []) over ∙ append_assoc all so_far.others ((base + low w) ∷ []);
+      let over : items ≡ all ++ so_far.others = sym (append-nil items) ∙ ap (λ (xs : List X). items ++ xs) (sym (items_of-zero at w zero)) ∙ so_far.list in record {
+        others = so_far.others ++ x ∷ [];
+        list = ap (λ (xs : List X). (items ++ x ∷ []) ++ xs) (items_of-zero at (cleared w) left)
+            ∙ append-nil (items ++ x ∷ []) ∙ ap (λ (xs : List X). xs ++ x ∷ []) over ∙ append_assoc all so_far.others (x ∷ []);
         exact = λ h. absurd (omega (arith, left));
       }
 ]
 
 -- as many of the items as all are
-pub ArePushed-all : (all : List ℕ) (base : ℕ) (items : List ℕ) (w : ℕ) → length all ≤ length items → ArePushed all base items w → take (length all) items ≡ all
-ArePushed-all all base items w enough so_far =
-    sym (take-append-le (length all) items (indices_from base (word_bits w)) enough) ∙ ap (take (length all)) so_far.list ∙ take-append_seam all so_far.others
+pub ArePushed-all : {X : Type 0} (at : ℕ → Option X) (all items : List X) (w : ℕ) → length all ≤ length items → ArePushed at all items w → take (length all) items ≡ all
+ArePushed-all at all items w enough so_far =
+    sym (take-append-le (length all) items (items_of at (word_bits w)) enough) ∙ ap (take (length all)) so_far.list ∙ take-append_seam all so_far.others
+
+-- ---- indices
 
 -- as many indices as true values
 pub length-indices : (n : ℕ) (m : List Bool) → length (indices_from n m) ≡ count m
 length-indices n m = length-indices_from-trues n m ∙ sym (length-indices_from-trues 0 m)
 
--- how many indices a word has
 pub length-indices_of_word : (base w : ℕ) → w < 2 ^ 64 → length (indices_from base (word_bits w)) ≡ count_ones w
 length-indices_of_word base w fits = length-indices base (word_bits w) ∙ count-word_bits w fits
+
+-- where each place yields its index
+indices_of : (base n : ℕ) (m : List Bool) → base + n + length m ≤ 2 ^ 64 → filter_map (λ p. Some ((base + p) % 2 ^ 64)) (indices_from n m) ≡ indices_from (base + n) m
+indices_of base n [] fits = refl
+indices_of base n (v ∷ m) fits = grind (arith, indices_of base (n + 1) m)
+
+pub items_of-indices : (base w : ℕ) → base + 64 ≤ 2 ^ 64 → items_of (λ p. Some ((base + p) % 2 ^ 64)) (word_bits w) ≡ indices_from base (word_bits w)
+items_of-indices base w fits = indices_of base 0 (word_bits w) (omega (arith, length-word_bits w)) ∙ ap (λ n. indices_from n (word_bits w)) (add-zero base)
+
+-- ---- rows
+
+-- all bits of a full word are set
+pub full_word : (w : ℕ) → w < 2 ^ 64 → w ≡ 2 ^ 64 - 1 → word_bits w ≡ repeated 64 true
+full_word w fits full =
+    word_bits_from_bits w (repeated 64 true) (length-repeated 64 true) (λ j h.
+    ap (λ b. nat_eq b 1) (ones-set w j fits (omega (arith, ones-of_full w full)))
+    ∙ sym (get_or_from_slice_get (repeated 64 true) j true false (slice_get-repeated 64 true j (omega (arith, length-repeated 64 true)))))
+
+pub count_of_full : (w : ℕ) → w < 2 ^ 64 → w ≡ 2 ^ 64 - 1 → count (word_bits w) ≡ 64
+count_of_full w fits full = ap count (full_word w fits full) ∙ count-repeated_true 64
+
+-- so that all rows are chosen
+pub chosen_by_full : {X : Type 0} (rows : List X) (w : ℕ) → length rows ≡ 64 → w < 2 ^ 64 → w ≡ 2 ^ 64 - 1 → chosen rows (word_bits w) ≡ rows
+chosen_by_full rows w len fits full = ap (chosen rows) (full_word w fits full) ∙ chosen-all_true rows 64 len
+
+-- the places of a word are among 64
+pub places-within : (w n : ℕ) → n ≡ 64 → All (λ p. p < n) (positions (word_bits w))
+places-within w n is = subst (λ k. All (λ p. p < k) (positions (word_bits w))) (length-word_bits w ∙ sym is) (positions-within (word_bits w))
+
+-- each place has its row
+pub row-each : {X : Type 0} (rows : List X) → length rows ≡ 64 → (p : ℕ) → p < 64 → IsSome (slice_get rows p)
+row-each rows len p few = grind (arith, slice_get_cases)

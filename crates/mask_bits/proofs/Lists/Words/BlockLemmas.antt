@@ -3,8 +3,7 @@ use Rattle.std.proofs.Common.{◌≡◌, ℕ, ◌+◌, ◌-◌, ◌*◌, ◌/◌
 use Rattle.std.proofs.lemmas.List.{drop_all, drop_more, length-append, nil_from_length, length-take, take-append-drop, take_all, take_at}
 use Rattle.std.proofs.lemmas.List.Folds.{drop_split}
 use Rattle.mask_bits.specs.Positions.{indices_from, positions, count}
-use Rattle.mask_bits.specs.Pushed.{bits_of_words}
-use Rattle.mask_bits.specs.Words.{word_bits, word_part, padded_part, padded_remainder}
+use Rattle.mask_bits.specs.Words.{bits_of_words, word_bits, word_part, padded_part, padded_remainder}
 use Rattle.mask_bits.proofs.CompareLemmas.{none-or}
 use Rattle.mask_bits.proofs.Lists.CountLemmas.{count-append}
 use Rattle.mask_bits.proofs.Lists.Places.SelectLemmas.{count-part_further, indices_from-append, indices-of_none, places-word_more}
@@ -56,12 +55,12 @@ block-shown m i a b c d within is_a is_b is_c is_d =
 
 -- those of one block more
 pub block-more : (m bits : List Bool) (i : ℕ) → 256 * i + 256 ≤ length m → bits ≡ slice_range m (256 * i) (256 * i + 256)
-    → positions (take (256 * (i + 1)) m) ≡ positions (take (256 * i) m) ++ indices_from (64 * (4 * i)) bits
+    → positions (take (256 * (i + 1)) m) ≡ positions (take (256 * i) m) ++ indices_from (256 * i) bits
 block-more m bits i within is =
     let n : ℕ = 256 * i in
     let next : 256 * (i + 1) ≡ n + 256 = omega arith in
     let size : 256 ≡ n + 256 - n = omega arith in
-    let start : 0 + length (take n m) ≡ 64 * (4 * i) = omega (arith, length-take n m) in
+    let start : 0 + length (take n m) ≡ n = omega (arith, length-take n m) in
     grind (arith, take-add, indices_from-append)
 
 pub indices-none : (n : ℕ) (bits : List Bool) → count bits ≡ 0 → indices_from n bits ≡ []

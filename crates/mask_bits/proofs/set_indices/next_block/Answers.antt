@@ -1,6 +1,6 @@
 use Rattle.std.proofs.Common.{◌+◌, ◌*◌, ◌≤◌, ◌∙◌, length, arith}
 use Rattle.mask_bits.proofs.Lists.Words.BlockLemmas.{block-none}
-use Rattle.mask_bits.specs.Pushed.{bits_of_words}
+use Rattle.mask_bits.specs.Words.{bits_of_words}
 use Rattle.mask_bits.proofs.set_indices.next_block.Goals as goal
 
 pub loop-i-preserved : goal.loop-i-preserved

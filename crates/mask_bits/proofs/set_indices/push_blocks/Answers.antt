@@ -1,7 +1,7 @@
 use Rattle.std.proofs.Common.{ℕ, ◌+◌, ◌*◌, ◌≤◌, ◌++◌, ◌∙◌, List, length, sym, ap, arith}
 use Rattle.mask_bits.proofs.Lists.Words.BlockLemmas.{block-more, block-none, count-part_le}
 use Rattle.mask_bits.specs.Positions.{indices_from, count}
-use Rattle.mask_bits.specs.Pushed.{bits_of_words}
+use Rattle.mask_bits.specs.Words.{bits_of_words}
 use Rattle.mask_bits.proofs.set_indices.push_blocks.Goals as goal
 
 pub push_block-requires-clause-room : goal.push_block-requires-clause-room
@@ -17,9 +17,9 @@ loop-i-preserved-then-has_some c =
     let so_far = c.loop-i.invariant in
     let within : 256 * i + 256 ≤ length m = omega (arith, c.requires.within, c.loop-i-test.true) in
     record {
-      items = c.push_block.ensures.items ∙ ap (λ (xs : List ℕ). xs ++ indices_from (64 * (4 * i)) bits) so_far.items ∙ sym (block-more m bits i within c.block-words.ensures);
+      items = c.push_block.ensures.items ∙ ap (λ (xs : List ℕ). xs ++ indices_from (256 * i) bits) so_far.items ∙ sym (block-more m bits i within c.block-words.ensures);
       within = omega (arith, c.loop-i-test.true);
-      capacity = c.push_block.ensures.capacity ∙ so_far.capacity;
+      capacity = c.push_block.ensures.kept ∙ so_far.capacity;
     }
 
 pub loop-i-preserved : goal.loop-i-preserved

@@ -5,8 +5,8 @@ use Rattle.mask_bits.proofs.Lists.Places.SelectLemmas.{places-word_more}
 use Rattle.mask_bits.specs.Positions.{count}
 use Rattle.mask_bits.proofs.set_indices.push_in_turn.Goals as goal
 
-pub push_one_by_one-requires-clause-room : goal.push_one_by_one-requires-clause-room
-push_one_by_one-requires-clause-room c =
+pub push_indices-requires-clause-room : goal.push_indices-requires-clause-room
+push_indices-requires-clause-room c =
     let so_far = c.loop-i.invariant in
     omega (arith, ap length so_far.items, so_far.capacity, ap count c.word.ensures, count-part_le c.args.chunks.now (64 * c.loop-i.i) 64, c.requires.room)
 

@@ -1,9 +1,9 @@
-use Rattle.std.proofs.Common.{◌≡◌, ◌++◌, take, vec_capacity}
+use Rattle.std.proofs.Common.{◌≡◌, ◌++◌, take}
 use Rattle.mask_bits.proofs.word_indices.push_eight.Given as goal
 
 -- the numbers so far
 abbrev pub invariant-loop-k : goal.invariant-loop-k
-invariant-loop-k l = record {
-  items : l.indices.items ≡ l.fn.indices.items ++ take l.k l.numbers;
-  capacity : vec_capacity l.indices ≡ vec_capacity l.fn.indices;
+invariant-loop-k g l = record {
+  items : g.R.Room.items l.indices ≡ g.R.Room.items l.fn.indices ++ take l.k l.numbers;
+  kept : g.R.Room.kept l.indices ≡ g.R.Room.kept l.fn.indices;
 }

@@ -8,7 +8,7 @@ use Rattle.mask_bits.specs.Positions.{positions}
 use Rattle.mask_bits.specs.Words.{word_bits}
 use Rattle.mask_bits.proofs.Lists.Words.LowestLemmas.{low}
 use Rattle.mask_bits.proofs.Lists.Places.SelectLemmas.{positions-lowest}
-use Rattle.mask_c.proofs.ChooseLemmas.{no_bits}
+use Rattle.mask_bits.proofs.Lists.Places.PushLemmas.{no_places}
 use Rattle.mask_c.proofs.IndexLemmas.{stopped}
 use Rattle.mask_c.proofs.indices.indices_of_word.Goals as goal
 
@@ -52,7 +52,7 @@ returns-clause-indices c =
     let so_far = c.loop-word.invariant in
     stopped (length c.args.out.now) c.loop-word.at (take c.loop-word.at c.loop-word.out) _ _
     (omega (arith, length-take c.loop-word.at c.loop-word.out, so_far.room)) (omega (arith, so_far.room, c.loop-word.auto.out)) so_far.indices
-    (inl (ap (map (λ p. c.args.first + p)) (no_bits c.loop-word.word c.loop-word-test.false)))
+    (inl (ap (map (λ p. c.args.first + p)) (no_places c.loop-word.word c.loop-word-test.false)))
 
 pub returns-clause-count : goal.returns-clause-count
-returns-clause-count c = grind (arith, no_bits)
+returns-clause-count c = grind (arith, no_places)

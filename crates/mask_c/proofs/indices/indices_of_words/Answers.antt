@@ -1,4 +1,4 @@
-use Rattle.std.proofs.Common.{Bool, List, ◌+◌, ◌*◌, length, map, min, take, sym, ap, ◌∙◌, arith}
+use Rattle.std.proofs.Common.{◌≡◌, Bool, List, ◌+◌, ◌*◌, length, map, min, take, sym, ap, ◌∙◌, arith}
 use Rattle.std.proofs.lemmas.List.{take_all}
 use Rattle.mask_bits.specs.Positions.{count, indices_from, positions}
 use Rattle.mask_c.proofs.IndexLemmas.{bitmap-rest, indices-within, all_indices, first_indices, word_done, word_counted}
@@ -28,6 +28,7 @@ loop-i-preserved c =
 pub returns-then-at-out-clause-indices : goal.returns-then-at-out-clause-indices
 returns-then-at-out-clause-indices c =
     let m = c.new-chunks.result in
+    let size : length c.loop-i.out ≡ length c.args.out.now = omega (arith, c.loop-i.auto.out) in
     let i = c.loop-i.i in
     let was = c.loop-i.invariant in
     let put = c.indices_of_word-at in
@@ -37,26 +38,28 @@ returns-then-at-out-clause-indices c =
     let rest = c.new-chunks.ensures.list ∙ bitmap-rest c.args.bytes.now c.args.offset c.args.len c.args.from c.requires.within in
     word_done m c.args.from i c.loop-i.at put.result _ n c.loop-i.out put.new.out (omega arith) c.started_word.ensures was.indices put.ensures.indices
     ∙ first_indices m c.args.from n (64 * (i + 1)) (omega (arith, many, c.if-at-out.true, put.auto.out))
-    ∙ ap (λ k. take k (indices_from c.args.from m)) (c.loop-i.auto.out ∙ c.indices_of_blocks-first.auto.out)
+    ∙ ap (λ k. take k (indices_from c.args.from m)) size
     ∙ ap (λ (x : List Bool). take (length c.args.out.now) (indices_from c.args.from x)) rest
 
 pub returns-then-at-out-clause-count : goal.returns-then-at-out-clause-count
 returns-then-at-out-clause-count c =
     let m = c.new-chunks.result in
+    let size : length c.loop-i.out ≡ length c.args.out.now = omega (arith, c.loop-i.auto.out) in
     let i = c.loop-i.i in
     let put = c.indices_of_word-at in
     let many = word_counted m i c.loop-i.at put.result _ (length c.loop-i.out) c.started_word.ensures c.loop-i.invariant.counted put.ensures.count in
     let rest = c.new-chunks.ensures.list ∙ bitmap-rest c.args.bytes.now c.args.offset c.args.len c.args.from c.requires.within in
-    omega (arith, many, c.if-at-out.true, put.auto.out, (c.loop-i.auto.out ∙ c.indices_of_blocks-first.auto.out), count_below-le m (64 * (i + 1)), ap count rest)
+    omega (arith, many, c.if-at-out.true, put.auto.out, size, count_below-le m (64 * (i + 1)), ap count rest)
 
 pub returns-clause-indices : goal.returns-clause-indices
 returns-clause-indices c =
     let m = c.new-chunks.result in
+    let size : length c.loop-i.out ≡ length c.args.out.now = omega (arith, c.loop-i.auto.out) in
     let len = c.new-chunks.ensures.len in
     let rest = c.new-chunks.ensures.list ∙ bitmap-rest c.args.bytes.now c.args.offset c.args.len c.args.from c.requires.within in
     c.loop-i.invariant.indices
     ∙ ap (take (length c.loop-i.out)) (all_indices m c.args.from (64 * c.loop-i.i) (omega arith))
-    ∙ ap (λ k. take k (indices_from c.args.from m)) (c.loop-i.auto.out ∙ c.indices_of_blocks-first.auto.out)
+    ∙ ap (λ k. take k (indices_from c.args.from m)) size
     ∙ ap (λ (x : List Bool). take (length c.args.out.now) (indices_from c.args.from x)) rest
 
 pub returns-clause-count : goal.returns-clause-count

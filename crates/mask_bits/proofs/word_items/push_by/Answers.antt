@@ -1,0 +1,30 @@
+use Rattle.std.proofs.Common.{◌≡◌, ◌≤◌, ap, ◌∙◌, ◌+◌, ◌++◌, length, take, count_ones, arith, sym}
+use Rattle.std.proofs.lemmas.List.{length-append, length-take}
+use Rattle.mask_bits.specs.WordItems.{items_of}
+use Rattle.mask_bits.specs.Words.{word_bits}
+use Rattle.mask_bits.proofs.Lists.Words.WordLemmas.{count-word_bits}
+use Rattle.mask_bits.proofs.Lists.Places.PushLemmas.{ArePushed-all, length-items_of_word}
+use Rattle.mask_bits.proofs.word_items.push_by.Goals as goal
+
+pub push_some-left-requires-in-loop-items-clause-room : goal.push_some-left-requires-in-loop-items-clause-room
+push_some-left-requires-in-loop-items-clause-room g c =
+    omega (arith, c.requires.room, ap g.R.Room.capacity c.loop-items.invariant.kept, c.loop-items-test.true, c.count.ensures.count, count-word_bits c.args.word c.ranges.word.fits)
+
+pub overflow_add-end : goal.overflow_add-end
+overflow_add-end g c = omega (arith, c.requires.room, c.count.ensures, count-word_bits c.args.word c.ranges.word.fits)
+
+pub returns-clause-len : goal.returns-clause-len
+returns-clause-len g c =
+    let out = g.R.Room.items c.loop-items.out in
+    omega (arith, ap length c.cut.ensures.items, length-take (c.count.result + count_ones c.args.word) out, c.loop-items-test.false, c.count-in-loop-items.ensures.count, c.count.ensures.count, count-word_bits c.args.word c.ranges.word.fits)
+
+pub returns-clause-items : goal.returns-clause-items
+returns-clause-items g c =
+    let a = c.args in
+    let l = c.loop-items in
+    let at = g.W.WordItems.at a.items in
+    let here = items_of at (word_bits a.word) in
+    let all = g.R.Room.items a.out.now ++ here in
+    let end : length all ≡ c.count.result + count_ones a.word = omega (arith, length-append (g.R.Room.items a.out.now) here, length-items_of_word at a.word c.ranges.word.fits c.requires.each, c.count.ensures.count) in
+    let enough : length all ≤ length (g.R.Room.items l.out) = omega (arith, end) in
+    c.cut.ensures.items ∙ ap (λ n. take n (g.R.Room.items l.out)) (sym end) ∙ ArePushed-all at all (g.R.Room.items l.out) l.left enough l.invariant.pushed

@@ -1,0 +1,14 @@
+use Rattle.std.proofs.Common.{◌≡◌, ◌-◌, ◌++◌, length}
+use Rattle.mask_bits.specs.Pushed.{ArePushed}
+use Rattle.mask_bits.specs.WordItems.{items_of}
+use Rattle.mask_bits.specs.Words.{word_bits}
+use Rattle.mask_bits.proofs.word_items.push_by.Given as goal
+
+abbrev pub invariant-loop-items : goal.invariant-loop-items
+invariant-loop-items g l = record {
+  pushed : ArePushed (g.W.WordItems.at l.items) (g.R.Room.items l.fn.out ++ items_of (g.W.WordItems.at l.items) (word_bits l.word)) (g.R.Room.items l.out) l.left;
+  kept : g.R.Room.kept l.out ≡ g.R.Room.kept l.fn.out;
+}
+
+abbrev pub decreases-loop-items : goal.decreases-loop-items
+decreases-loop-items g l = l.end - length (g.R.Room.items l.out)
