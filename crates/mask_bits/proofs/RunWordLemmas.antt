@@ -5,13 +5,12 @@ use Rattle.std.specs.Int.Count.{leading_of_zero}
 use Rattle.std.proofs.lemmas.Bool.{cases_eq, true≢false}
 use Rattle.std.proofs.lemmas.Nat.Bits.{bit_at_not, bit_at-lt, bit_at_ones, bit_at_above, bit_at-zero}
 use mir.Val.{bool_byte}
-use Rattle.std.proofs.lemmas.List.{take-append-le, take-append-drop, drop-drop, ext_get_or, nil_from_length, get_or-take, length-take, get_or_past, length-drop}
+use Rattle.std.proofs.lemmas.List.{take-append-drop, drop-drop, ext_get_or, nil_from_length, get_or-take, length-take, get_or_past, length-drop}
 use Rattle.std.proofs.lemmas.Nat.{and_le_l}
 use Rattle.std.proofs.lemmas.Slice.Zip.{length-zip}
-use lib.Seq.{take-append_seam}
 use Rattle.mask_bits.specs.Positions.{indices_from, repeated}
 use Rattle.mask_bits.specs.RunScan.{runs_from, with_index}
-use Rattle.mask_bits.specs.Pushed.{runs_behind, runs_between, AreEdges, RunsArePushed, begins}
+use Rattle.mask_bits.specs.Pushed.{runs_behind, runs_between, AreEdges, begins}
 use Rattle.mask_bits.specs.Words.{word_bits, word_part, padded_remainder}
 use Rattle.mask_bits.proofs.Lists.CountLemmas.{get_or-padded}
 use Rattle.mask_bits.proofs.Lists.Words.WalkLemmas.{runs_from-repeated_false}
@@ -58,18 +57,6 @@ pub runs_between-pop : (base first starts ends : ℕ) → base + 64 ≤ 2 ^ 64 �
     → runs_between base first starts ends ≡ (first, place base ends) ∷ runs_between base (place base starts) (cleared starts) (cleared ends)
 unfolding runs_between
 runs_between-pop base first starts ends room some are = grind (arith, places-lowest, low, cleared-some, cleared, mod-eq_of_lt, low-within, rest_of_starts)
-
--- one more run, or another pair where no end is left
-pub RunsArePushed-more : (all : List (ℕ × ℕ)) (base : ℕ) (items : List (ℕ × ℕ)) (first starts ends : ℕ) (run : ℕ × ℕ) (f s e : ℕ)
-    → (0 < ends → AreEdges base starts ends → runs_between base first starts ends ≡ run ∷ runs_between base f s e)
-    → (AreEdges base starts ends → AreEdges base s e) → (ends ≡ 0 → e ≡ 0)
-    → RunsArePushed all base items first starts ends → RunsArePushed all base (items ++ run ∷ []) f s e
-RunsArePushed-more all base items first starts ends run f s e pops edges stays so_far = grind (arith, append_assoc, append-nil, no_runs_between)
-
--- as many of the items as all are
-pub RunsArePushed-all : (all : List (ℕ × ℕ)) (base : ℕ) (items : List (ℕ × ℕ)) (first starts ends : ℕ) → length all ≤ length items → RunsArePushed all base items first starts ends → take (length all) items ≡ all
-RunsArePushed-all all base items first starts ends enough so_far =
-    sym (take-append-le (length all) items (runs_between base first starts ends) enough) ∙ ap (take (length all)) so_far.list ∙ take-append_seam all so_far.others
 
 -- how many runs end in a word
 pub length-runs_between : (base first starts ends : ℕ) → AreEdges base starts ends → length (runs_between base first starts ends) ≡ count_ones ends

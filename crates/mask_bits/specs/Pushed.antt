@@ -1,15 +1,13 @@
--- What a word's bits yield, and runs between them, that are being pushed. No public clause cites these terms.
-use Rattle.std.specs.Prelude.{ℕ, Option, ◌+◌, ◌≡◌, ◌<◌, ◌≤◌, ◌^◌, Bool, true, false, List, [], ◌∷◌, ◌++◌, length, zip}
+-- Items and runs of a word's bits that are being pushed. No public clause cites these terms.
+use Rattle.std.specs.Prelude.{ℕ, ◌+◌, ◌≡◌, ◌<◌, ◌≤◌, ◌^◌, Bool, true, false, List, [], ◌∷◌, ◌++◌, length, zip}
 use Rattle.mask_bits.specs.Positions.{indices_from}
 use Rattle.mask_bits.specs.RunScan.{runs_from}
-use Rattle.mask_bits.specs.WordItems.{items_of}
 use Rattle.mask_bits.specs.Words.{word_bits}
 
--- the items, and then those that w's bits yield, are `all`, and others follow only once no bit is left
-pub record ArePushed {X : Type 0} (at : ℕ → Option X) (all items : List X) (w : ℕ) : Type 0 where
+-- the items, and then the rest, are `all`, and others where nothing is left of the rest
+pub record ArePushed {X : Type 0} (all items rest : List X) : Type 0 where
   pub others : List X
-  pub list : items ++ items_of at (word_bits w) ≡ all ++ others
-  pub exact : 0 < w → others ≡ []
+  pub list : items ++ rest ≡ all ++ others
 
 -- the runs of a list whose first index is n, behind a run from `start` on that has not ended before n where `inside`
 abbrev pub runs_behind : Bool → ℕ → ℕ → List Bool → List (ℕ × ℕ)
@@ -32,10 +30,3 @@ pub record AreEdges (base starts ends : ℕ) : Type 0 where
 abbrev pub begins : Bool → ℕ → List ℕ → List ℕ
 begins false start ps = ps
 begins true start ps = start ∷ ps
-
--- the items, and then runs between the bits of two words, are `all`, and others follow only once no end is left
-pub record RunsArePushed (all : List (ℕ × ℕ)) (base : ℕ) (items : List (ℕ × ℕ)) (first starts ends : ℕ) : Type 0 where
-  pub others : List (ℕ × ℕ)
-  pub list : items ++ runs_between base first starts ends ≡ all ++ others
-  pub exact : 0 < ends → others ≡ []
-  pub edges : AreEdges base starts ends

@@ -40,7 +40,7 @@ pub const SPARE: usize = 8;
 pub fn push_block<R: Room<usize>>(indices: &mut R, base: usize, words: &[u64; 4])
     requires room { length (R.items indices.old) + count (bits_of_words words.now)
         ≤ R.capacity (R.kept indices.old) }
-    requires fits { base + 256 ≤ 2 ^ 64 }
+    requires fits { base + 256 < 2 ^ 64 }
     ensures items { R.items indices.new
         ≡ R.items indices.old ++ indices_from base (bits_of_words words.now) }
     ensures kept { R.kept indices.new ≡ R.kept indices.old }
@@ -78,7 +78,7 @@ fn push_each<const K: usize, R: Room<usize>>(indices: &mut R, base: usize, words
     requires step { (K ≤ 8) ⊎ (K ≡ 64) }
     requires room { length (R.items indices.old) + (count (bits_of_words words.now) + min K 8)
         ≤ R.capacity (R.kept indices.old) }
-    requires fits { base + 256 ≤ 2 ^ 64 }
+    requires fits { base + 256 < 2 ^ 64 }
     ensures items { R.items indices.new
         ≡ R.items indices.old ++ indices_from base (bits_of_words words.now) }
     ensures kept { R.kept indices.new ≡ R.kept indices.old }

@@ -9,7 +9,7 @@ ghost use Rattle.mask_bits.specs.Positions.{indices_from};
 ghost use Rattle.mask_bits.specs.Runs.{AreRuns};
 ghost use Rattle.mask_bits.specs.RunScan.{runs};
 ghost use Rattle.mask_bits.specs.Walk.{left_of, IsLeft, PassesTrue};
-ghost use Rattle.mask_bits.specs.Pushed.{runs_behind, runs_between, AreEdges, RunsArePushed, begins};
+ghost use Rattle.mask_bits.specs.Pushed.{runs_behind, runs_between, AreEdges, ArePushed, begins};
 ghost use Rattle.mask_bits.specs.Words.{word_bits};
 
 use crate::buffer::BitBuffer;
@@ -154,10 +154,11 @@ fn edges_of(begun: Open, base: usize, starts: u64, ends: u64) -> Edges
 // The first run, and the edges past it; where no end is left, another pair.
 #[inline]
 fn pop(base: usize, edges: Edges) -> ((usize, usize), Edges)
-    requires { base + 64 ≤ 2 ^ 64 }
-    ensures first { 0 < edges.ends → AreEdges base edges.starts edges.ends → runs_between base edges.first edges.starts edges.ends
+    requires fits { base + 64 ≤ 2 ^ 64 }
+    requires edges { AreEdges base edges.starts edges.ends }
+    ensures first { 0 < edges.ends → runs_between base edges.first edges.starts edges.ends
         ≡ result.0 ∷ runs_between base result.1.first result.1.starts result.1.ends }
-    ensures edges { AreEdges base edges.starts edges.ends → AreEdges base result.1.starts result.1.ends }
+    ensures edges { AreEdges base result.1.starts result.1.ends }
     ensures none { edges.ends ≡ 0 → result.1.ends ≡ 0 }
     ensures less { 0 < edges.ends → result.1.ends < edges.ends }
 {
@@ -237,8 +238,10 @@ fn push_by_two(ranges: &mut Vec<(usize, usize)>, base: usize, edges: Edges)
 fn push_two(ranges: &mut Vec<(usize, usize)>, base: usize, edges: Edges) -> Edges
     requires room { vec_len ranges.old + 2 ≤ vec_capacity ranges.old }
     requires fits { base + 64 ≤ 2 ^ 64 }
-    ensures pushed { (all : List (ℕ × ℕ)) → RunsArePushed all base ranges.old.items edges.first edges.starts edges.ends
-        → RunsArePushed all base ranges.new.items result.first result.starts result.ends }
+    requires edges { AreEdges base edges.starts edges.ends }
+    ensures pushed { (all : List (ℕ × ℕ)) → ArePushed all ranges.old.items (runs_between base edges.first edges.starts edges.ends)
+        → ArePushed all ranges.new.items (runs_between base result.first result.starts result.ends) }
+    ensures edges { AreEdges base result.starts result.ends }
     ensures len { vec_len ranges.new ≡ vec_len ranges.old + 2 }
     ensures room { vec_capacity ranges.new ≡ vec_capacity ranges.old }
 {
@@ -251,8 +254,10 @@ fn push_two(ranges: &mut Vec<(usize, usize)>, base: usize, edges: Edges) -> Edge
 fn push_first(ranges: &mut Vec<(usize, usize)>, base: usize, edges: Edges) -> Edges
     requires room { vec_len ranges.old < vec_capacity ranges.old }
     requires fits { base + 64 ≤ 2 ^ 64 }
-    ensures pushed { (all : List (ℕ × ℕ)) → RunsArePushed all base ranges.old.items edges.first edges.starts edges.ends
-        → RunsArePushed all base ranges.new.items result.first result.starts result.ends }
+    requires edges { AreEdges base edges.starts edges.ends }
+    ensures pushed { (all : List (ℕ × ℕ)) → ArePushed all ranges.old.items (runs_between base edges.first edges.starts edges.ends)
+        → ArePushed all ranges.new.items (runs_between base result.first result.starts result.ends) }
+    ensures edges { AreEdges base result.starts result.ends }
     ensures len { vec_len ranges.new ≡ vec_len ranges.old + 1 }
     ensures room { vec_capacity ranges.new ≡ vec_capacity ranges.old }
 {

@@ -15,7 +15,7 @@ pub(crate) fn push_indices<const K: usize, R: Room<usize>>(indices: &mut R, base
     requires step { (K ≤ 8) ⊎ (K ≡ 64) }
     requires room { length (R.items indices.old) + (count (word_bits word) + min K 8)
         ≤ R.capacity (R.kept indices.old) }
-    requires fits { base + 64 ≤ 2 ^ 64 }
+    requires fits { base + (63 + min K 1) < 2 ^ 64 }
     ensures items { R.items indices.new ≡ R.items indices.old ++ indices_from base (word_bits word) }
     ensures kept { R.kept indices.new ≡ R.kept indices.old }
 {

@@ -12,9 +12,9 @@ ghost use Rattle.mask_bits.specs.Words.{word_bits};
 
 use crate::room::Room;
 
-/// What the 64 places of a word yield.
+/// What the 64 places of a word yield, and what is read where no bit is left, as of place 64.
 pub(crate) trait WordItems: Copy {
-    ghost use Rattle.std.specs.Prelude.{◌≡◌, ◌<◌, ◌%◌, ℕ, Option, Some, IsSome};
+    ghost use Rattle.std.specs.Prelude.{◌≡◌, ℕ, Option, Some, IsSome};
     ghost use Rattle.std.specs.Int.{w64, trailing_zeros};
 
     type Item: Copy;
@@ -22,33 +22,33 @@ pub(crate) trait WordItems: Copy {
     /// The item of a place, if it has one.
     ghost at: { Self → ℕ → Option Self.Item };
 
-    /// The item of the lowest set bit; of 0 any one.
+    /// The item of the lowest set bit.
     fn lowest(self, word: u64) -> Self::Item
-        requires { IsSome (at self (trailing_zeros w64 word % 64)) }
-        ensures { 0 < word → at self (trailing_zeros w64 word) ≡ Some result };
+        requires { IsSome (at self (trailing_zeros w64 word)) }
+        ensures { at self (trailing_zeros w64 word) ≡ Some result };
 }
 
 /// Each place yields its index, where this is the index of the word's first bit.
 impl WordItems for usize {
-    ghost use Rattle.std.specs.Prelude.{◌+◌, ◌%◌, ◌^◌, Some};
+    ghost use Rattle.std.specs.Prelude.{◌+◌, ◌^◌, Some, None, nat_lt, if◌then◌else◌};
 
     type Item = usize;
 
-    ghost at = { λ base p. Some ((base + p) % 2 ^ 64) };
+    ghost at = { λ base p. if nat_lt (base + p) (2 ^ 64) then Some (base + p) else None };
 
     #[inline(always)]
     fn lowest(self, word: u64) -> usize {
-        self.wrapping_add(word.trailing_zeros() as usize)
+        self + word.trailing_zeros() as usize
     }
 }
 
 /// Each place yields its row.
 impl<'a, T: Copy> WordItems for &'a [T] {
-    ghost use Rattle.std.specs.Prelude.{slice_get};
+    ghost use Rattle.std.specs.Prelude.{slice_get, ◌%◌};
 
     type Item = T;
 
-    ghost at = { λ rows p. slice_get rows.now p };
+    ghost at = { λ rows p. slice_get rows.now (p % 64) };
 
     #[inline(always)]
     fn lowest(self, word: u64) -> T {
@@ -81,7 +81,7 @@ pub(crate) fn push_by<const K: usize, W: WordItems, R: Room<W::Item>>(
     word: u64,
 )
     requires some { 0 < K }
-    requires each { (p : ℕ) → p < 64 → IsSome (W.at items p) }
+    requires each { (p : ℕ) → p ≤ 64 → IsSome (W.at items p) }
     requires room { length (R.items out.old) + (count (word_bits word) + K) ≤ R.capacity (R.kept out.old) }
     ensures items { R.items out.new ≡ R.items out.old ++ items_of (W.at items) (word_bits word) }
     ensures len { length (R.items out.new) ≡ length (R.items out.old) + count (word_bits word) }
@@ -102,10 +102,10 @@ fn push_some<const K: usize, W: WordItems, R: Room<W::Item>>(
     items: W,
     word: u64,
 ) -> u64
-    requires each { (p : ℕ) → p < 64 → IsSome (W.at items p) }
+    requires each { (p : ℕ) → p ≤ 64 → IsSome (W.at items p) }
     requires room { length (R.items out.old) + K ≤ R.capacity (R.kept out.old) }
-    ensures pushed { (all : List W.Item) → ArePushed (W.at items) all (R.items out.old) word
-        → ArePushed (W.at items) all (R.items out.new) result }
+    ensures pushed { (all : List W.Item) → ArePushed all (R.items out.old) (items_of (W.at items) (word_bits word))
+        → ArePushed all (R.items out.new) (items_of (W.at items) (word_bits result)) }
     ensures len { length (R.items out.new) ≡ length (R.items out.old) + K }
     ensures kept { R.kept out.new ≡ R.kept out.old }
 {
@@ -119,10 +119,10 @@ fn push_some<const K: usize, W: WordItems, R: Room<W::Item>>(
 // The same of the lowest bit.
 #[inline(always)]
 fn push_lowest<W: WordItems, R: Room<W::Item>>(out: &mut R, items: W, word: u64) -> u64
-    requires each { (p : ℕ) → p < 64 → IsSome (W.at items p) }
+    requires each { (p : ℕ) → p ≤ 64 → IsSome (W.at items p) }
     requires room { length (R.items out.old) < R.capacity (R.kept out.old) }
-    ensures pushed { (all : List W.Item) → ArePushed (W.at items) all (R.items out.old) word
-        → ArePushed (W.at items) all (R.items out.new) result }
+    ensures pushed { (all : List W.Item) → ArePushed all (R.items out.old) (items_of (W.at items) (word_bits word))
+        → ArePushed all (R.items out.new) (items_of (W.at items) (word_bits result)) }
     ensures len { length (R.items out.new) ≡ length (R.items out.old) + 1 }
     ensures kept { R.kept out.new ≡ R.kept out.old }
 {

@@ -1,4 +1,4 @@
--- The rows at the true values of a list, one started word after another.
+-- The places of started words, and rows at one more index.
 use Rattle.std.proofs.Common.{◌≡◌, ℕ, ◌+◌, ◌*◌, ◌<◌, ◌≤◌, Bool, List, [], ◌∷◌, ◌++◌, length, get_or, set, take, drop, map, slice_get, Some, sym, subst, ap, ◌∙◌, add-zero, arith}
 use Rattle.std.specs.List.{All}
 use Rattle.std.proofs.lemmas.List.{length-drop, length-take, take_all, take_more_set}
@@ -11,8 +11,6 @@ use Rattle.mask_bits.proofs.Lists.Places.SelectLemmas.{indices_from-moved, place
 use Rattle.vortex_mask.proofs.Lists.StartedWordLemmas.{part-same, places-same}
 use Rattle.mask_c.specs.Strings.{items_at}
 use Rattle.mask_c.proofs.StringLemmas.{items_at-more}
-
--- ---- places
 
 -- a started part has the places of its values
 indices-part : (m : List Bool) (i n : ℕ) → indices_from n (take 64 (drop (64 * i) m)) ≡ indices_from n (padded_part m i)

@@ -1,4 +1,4 @@
--- Rows at the set bits of a word that are pushed one after another.
+-- The rows that whole words choose, and those of the values past them.
 use Rattle.std.proofs.Common.{◌≡◌, ℕ, Bool, false, subst, ◌+◌, ◌-◌, ◌*◌, ◌/◌, ◌%◌, ◌<◌, ◌≤◌, List, [], ◌++◌, length, take, drop, slice_get, slice_range, refl, sym, ap, ap₂, ◌∙◌, arith, append-nil}
 use Rattle.std.specs.List.{All, filter_map}
 use Rattle.std.proofs.lemmas.List.{length-drop, length-take, take-append-drop}

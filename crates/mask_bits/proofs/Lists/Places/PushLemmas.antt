@@ -1,9 +1,10 @@
 -- What a word's bits yield, put into room without a test of whether one is left.
-use Rattle.std.proofs.Common.{◌≡◌, ℕ, Bool, ◌+◌, ◌-◌, ◌%◌, ◌^◌, ◌<◌, ◌≤◌, List, [], ◌∷◌, ◌++◌, Option, Some, None, suc, length, take, slice_get, true, nat_eq, false, subst, refl, sym, ap, count_ones, ◌∙◌, inl, inr, arith, append-nil, append_assoc, add-zero}
+use Rattle.std.proofs.Common.{◌≡◌, ℕ, Bool, ◌+◌, ◌-◌, ◌%◌, ◌^◌, ◌<◌, ◌≤◌, List, [], ◌∷◌, ◌++◌, Option, Some, None, suc, length, take, slice_get, true, nat_eq, false, subst, refl, sym, ap, ap₂, nat_lt, if◌then◌else◌, count_ones, ◌∙◌, inl, inr, arith, append-nil, append_assoc, add-zero}
 use Rattle.std.specs.Int.RustNames.{bit_and}
 use Rattle.std.specs.List.{All, cons_option, filter_map}
 use Rattle.std.specs.Option.{IsSome}
 use Rattle.std.proofs.lemmas.Bool.{cases_lt}
+use Rattle.std.proofs.lemmas.Bool.Decides.{nat_tests}
 use Rattle.std.proofs.lemmas.List.{take-append-le}
 use Rattle.std.proofs.lemmas.List.Elements.{All-head, All-tail, All-weaker}
 use lib.Seq.{take-append_seam}
@@ -12,7 +13,7 @@ use Rattle.mask_bits.specs.Pushed.{ArePushed}
 use Rattle.mask_bits.specs.WordItems.{items_of}
 use Rattle.mask_bits.specs.Words.{word_bits}
 use Rattle.std.proofs.lemmas.Option.{get_or_from_slice_get, slice_get_cases}
-use Rattle.mask_bits.proofs.Lists.ChooseLemmas.{chosen-all_true}
+use Rattle.mask_bits.proofs.Lists.ChooseLemmas.{chosen-all_true, chosen_at_positions}
 use Rattle.mask_bits.proofs.Lists.CountLemmas.{count-repeated_true, length-repeated, slice_get-repeated}
 use Rattle.mask_bits.proofs.Lists.Places.SelectLemmas.{positions-lowest, indices-of_none}
 use Rattle.mask_bits.proofs.Lists.Places.PlaceLemmas.{length-indices_from-trues, positions-within}
@@ -20,6 +21,10 @@ use Rattle.mask_bits.proofs.Lists.Words.LowestLemmas.{low, ones-of_full, ones-se
 use Rattle.mask_bits.proofs.Lists.Words.WordLemmas.{count-word_bits, length-word_bits, word_bits_from_bits}
 
 -- ---- what a word yields
+
+-- the places of a word are among 64
+pub places-within : (w n : ℕ) → n ≡ 64 → All (λ p. p < n) (positions (word_bits w))
+places-within w n is = subst (λ k. All (λ p. p < k) (positions (word_bits w))) (length-word_bits w ∙ sym is) (positions-within (word_bits w))
 
 -- the item of its lowest bit comes first
 pub items_of-lowest : {X : Type 0} (at : ℕ → Option X) (w : ℕ) (x : X) → 0 < w → w < 2 ^ 64 → at (low w) ≡ Some x → items_of at (word_bits w) ≡ x ∷ items_of at (word_bits (bit_and w (w - 1)))
@@ -44,11 +49,8 @@ length-filter_map at [] each = refl
 length-filter_map at (p ∷ ps) each =
     length-cons_option (at p) (filter_map at ps) (All-head (λ q. IsSome (at q)) p ps each) ∙ ap suc (length-filter_map at ps (All-tail (λ q. IsSome (at q)) p ps each))
 
-pub length-items_of : {X : Type 0} (at : ℕ → Option X) (m : List Bool) → All (λ p. IsSome (at p)) (positions m) → length (items_of at m) ≡ count m
-length-items_of at m each = length-filter_map at (positions m) each
-
 -- so many for a word of whose places each has one
-pub length-items_of_word : {X : Type 0} (at : ℕ → Option X) (w : ℕ) → w < 2 ^ 64 → ((p : ℕ) → p < 64 → IsSome (at p)) → length (items_of at (word_bits w)) ≡ count_ones w
+pub length-items_of_word : {X : Type 0} (at : ℕ → Option X) (w : ℕ) → w < 2 ^ 64 → ((p : ℕ) → p ≤ 64 → IsSome (at p)) → length (items_of at (word_bits w)) ≡ count_ones w
 length-items_of_word at w fits each =
     length-filter_map at (positions (word_bits w)) (All-weaker (λ p. p < length (word_bits w)) (λ p. IsSome (at p)) (λ p h. each p (omega (arith, length-word_bits w))) (positions (word_bits w)) (positions-within (word_bits w)))
     ∙ count-word_bits w fits
@@ -64,31 +66,29 @@ cleared-some w some fits =
     let less : (w + (2 ^ 64 - 1)) % 2 ^ 64 ≡ w - 1 = omega arith in
     ap (bit_and w) less
 
--- its item, or another one where there is none, is pushed
-pub ArePushed-more : {X : Type 0} (at : ℕ → Option X) (all items : List X) (w : ℕ) (x : X) → w < 2 ^ 64 → (0 < w → at (low w) ≡ Some x) → ArePushed at all items w → ArePushed at all (items ++ x ∷ []) (cleared w)
-ArePushed-more {X} at all items w x fits is so_far = elim (cases_lt 0 w) [
-  | inl some ↦ record {
-    others = so_far.others;
-    list = append_assoc items (x ∷ []) (items_of at (word_bits (cleared w)))
-        ∙ ap (λ v. items ++ x ∷ items_of at (word_bits v)) (cleared-some w some fits)
-        ∙ ap (λ (xs : List X). items ++ xs) (sym (items_of-lowest at w x some fits (is some))) ∙ so_far.list;
-    exact = λ h. so_far.exact some;
-  }
-  | inr none ↦
-      let zero : w ≡ 0 = omega arith in
-      let left : cleared w ≡ 0 = ap cleared zero in
-      let over : items ≡ all ++ so_far.others = sym (append-nil items) ∙ ap (λ (xs : List X). items ++ xs) (sym (items_of-zero at w zero)) ∙ so_far.list in record {
+-- its item, and those of the other bits
+pub items_of-next : {X : Type 0} (at : ℕ → Option X) (w : ℕ) (x : X) → w < 2 ^ 64 → at (low w) ≡ Some x → 0 < w → items_of at (word_bits w) ≡ x ∷ items_of at (word_bits (cleared w))
+items_of-next at w x fits is some = items_of-lowest at w x some fits is ∙ ap (λ v. x ∷ items_of at (word_bits v)) (sym (cleared-some w some fits))
+
+-- ---- the first of what is left, which is nothing where n is 0, or another item then
+
+pub ArePushed-more : {X : Type 0} (n : ℕ) (all items rest left : List X) (x : X) → (0 < n → rest ≡ x ∷ left) → (n ≡ 0 → rest ≡ []) → (n ≡ 0 → left ≡ []) → ArePushed all items rest → ArePushed all (items ++ x ∷ []) left
+ArePushed-more {X} n all items rest left x first none still so_far = elim (cases_lt 0 n) [
+  | inl some ↦ record { others = so_far.others; list = append_assoc items (x ∷ []) left ∙ ap (λ (xs : List X). items ++ xs) (sym (first some)) ∙ so_far.list }
+  | inr zero ↦
+      let over : items ≡ all ++ so_far.others = sym (append-nil items) ∙ ap (λ (xs : List X). items ++ xs) (sym (none (omega arith))) ∙ so_far.list in record {
         others = so_far.others ++ x ∷ [];
-        list = ap (λ (xs : List X). (items ++ x ∷ []) ++ xs) (items_of-zero at (cleared w) left)
-            ∙ append-nil (items ++ x ∷ []) ∙ ap (λ (xs : List X). xs ++ x ∷ []) over ∙ append_assoc all so_far.others (x ∷ []);
-        exact = λ h. absurd (omega (arith, left));
+        list = ap (λ (xs : List X). (items ++ x ∷ []) ++ xs) (still (omega arith)) ∙ append-nil (items ++ x ∷ []) ∙ ap (λ (xs : List X). xs ++ x ∷ []) over ∙ append_assoc all so_far.others (x ∷ []);
       }
 ]
 
+-- none is yet
+pub ArePushed-none : {X : Type 0} (items rest : List X) → ArePushed (items ++ rest) items rest
+ArePushed-none items rest = record { others = []; list = sym (append-nil (items ++ rest)) }
+
 -- as many of the items as all are
-pub ArePushed-all : {X : Type 0} (at : ℕ → Option X) (all items : List X) (w : ℕ) → length all ≤ length items → ArePushed at all items w → take (length all) items ≡ all
-ArePushed-all at all items w enough so_far =
-    sym (take-append-le (length all) items (items_of at (word_bits w)) enough) ∙ ap (take (length all)) so_far.list ∙ take-append_seam all so_far.others
+pub ArePushed-all : {X : Type 0} (all items rest : List X) → length all ≤ length items → ArePushed all items rest → take (length all) items ≡ all
+ArePushed-all all items rest enough so_far = sym (take-append-le (length all) items rest enough) ∙ ap (take (length all)) so_far.list ∙ take-append_seam all so_far.others
 
 -- ---- indices
 
@@ -99,12 +99,21 @@ length-indices n m = length-indices_from-trues n m ∙ sym (length-indices_from-
 pub length-indices_of_word : (base w : ℕ) → w < 2 ^ 64 → length (indices_from base (word_bits w)) ≡ count_ones w
 length-indices_of_word base w fits = length-indices base (word_bits w) ∙ count-word_bits w fits
 
--- where each place yields its index
-indices_of : (base n : ℕ) (m : List Bool) → base + n + length m ≤ 2 ^ 64 → filter_map (λ p. Some ((base + p) % 2 ^ 64)) (indices_from n m) ≡ indices_from (base + n) m
-indices_of base n [] fits = refl
-indices_of base n (v ∷ m) fits = grind (arith, indices_of base (n + 1) m)
+-- the index of a place
+abbrev index_at : ℕ → ℕ → Option ℕ
+index_at base p = if nat_lt (base + p) (2 ^ 64) then Some (base + p) else None
 
-pub items_of-indices : (base w : ℕ) → base + 64 ≤ 2 ^ 64 → items_of (λ p. Some ((base + p) % 2 ^ 64)) (word_bits w) ≡ indices_from base (word_bits w)
+index-some : (base p : ℕ) → base + p < 2 ^ 64 → IsSome (index_at base p)
+index-some base p fits = grind (arith, nat_tests)
+
+pub indices-some : (base w : ℕ) → base + 63 < 2 ^ 64 → All (λ p. IsSome (index_at base p)) (positions (word_bits w))
+indices-some base w fits = All-weaker (λ p. p < 64) (λ p. IsSome (index_at base p)) (λ p h. index-some base p (omega arith)) (positions (word_bits w)) (places-within w 64 refl)
+
+indices_of : (base n : ℕ) (m : List Bool) → base + n + length m ≤ 2 ^ 64 → filter_map (index_at base) (indices_from n m) ≡ indices_from (base + n) m
+indices_of base n [] fits = refl
+indices_of base n (v ∷ m) fits = grind (arith, nat_tests, indices_of base (n + 1) m)
+
+pub items_of-indices : (base w : ℕ) → base + 63 < 2 ^ 64 → items_of (index_at base) (word_bits w) ≡ indices_from base (word_bits w)
 items_of-indices base w fits = indices_of base 0 (word_bits w) (omega (arith, length-word_bits w)) ∙ ap (λ n. indices_from n (word_bits w)) (add-zero base)
 
 -- ---- rows
@@ -123,10 +132,15 @@ count_of_full w fits full = ap count (full_word w fits full) ∙ count-repeated_
 pub chosen_by_full : {X : Type 0} (rows : List X) (w : ℕ) → length rows ≡ 64 → w < 2 ^ 64 → w ≡ 2 ^ 64 - 1 → chosen rows (word_bits w) ≡ rows
 chosen_by_full rows w len fits full = ap (chosen rows) (full_word w fits full) ∙ chosen-all_true rows 64 len
 
--- the places of a word are among 64
-pub places-within : (w n : ℕ) → n ≡ 64 → All (λ p. p < n) (positions (word_bits w))
-places-within w n is = subst (λ k. All (λ p. p < k) (positions (word_bits w))) (length-word_bits w ∙ sym is) (positions-within (word_bits w))
+-- where each place yields its row
+pub row-some : {X : Type 0} (rows : List X) (p : ℕ) → p % 64 < length rows → IsSome (slice_get rows (p % 64))
+row-some rows p inside = grind (arith, slice_get_cases)
 
--- each place has its row
-pub row-each : {X : Type 0} (rows : List X) → length rows ≡ 64 → (p : ℕ) → p < 64 → IsSome (slice_get rows p)
-row-each rows len p few = grind (arith, slice_get_cases)
+rows_of : {X : Type 0} (rows : List X) (ps : List ℕ) → All (λ p. p < 64) ps → filter_map (λ p. slice_get rows (p % 64)) ps ≡ filter_map (λ p. slice_get rows p) ps
+rows_of rows [] few = refl
+rows_of {X} rows (p ∷ ps) few =
+    let same : p % 64 ≡ p = omega (arith, All-head (λ q. q < 64) p ps few) in
+    ap₂ (λ k (xs : List X). cons_option (slice_get rows k) xs) same (rows_of rows ps (All-tail (λ q. q < 64) p ps few))
+
+pub items_of-rows : {X : Type 0} (rows : List X) (w : ℕ) → items_of (λ p. slice_get rows (p % 64)) (word_bits w) ≡ chosen rows (word_bits w)
+items_of-rows rows w = rows_of rows (positions (word_bits w)) (places-within w 64 refl) ∙ sym (chosen_at_positions rows (word_bits w))

@@ -1,8 +1,19 @@
 use Rattle.std.proofs.Common.{List, ℕ, ◌≡◌, ◌≤◌, ap, ◌∙◌, ◌+◌, ◌++◌, length, take, count_ones, arith, sym}
 use Rattle.std.proofs.lemmas.List.{length-append}
 use Rattle.mask_bits.specs.Pushed.{runs_between}
-use Rattle.mask_bits.proofs.RunWordLemmas.{RunsArePushed-all, length-runs_between}
+use Rattle.mask_bits.proofs.Lists.Places.PushLemmas.{ArePushed-all, ArePushed-none}
+use Rattle.mask_bits.proofs.RunWordLemmas.{length-runs_between}
 use Rattle.mask_bits.proofs.set_slices.push_by_two.Goals as goal
+
+pub loop-left-init : goal.loop-left-init
+loop-left-init c =
+    let is = c.push_two-left.ensures in
+    record { pushed = is.pushed _ (ArePushed-none _ _); edges = is.edges; room = is.room }
+
+pub loop-left-preserved : goal.loop-left-preserved
+loop-left-preserved c =
+    let is = c.push_two-left-in-loop-left.ensures in
+    record { pushed = is.pushed _ c.loop-left.invariant.pushed; edges = is.edges; room = is.room ∙ c.loop-left.invariant.room }
 
 pub returns : goal.returns
 returns c =
@@ -14,4 +25,4 @@ returns c =
     let end : length all ≡ c.len.result + count_ones e.ends = omega (arith, length-append a.ranges.now.items here, length-runs_between a.base e.first e.starts e.ends c.requires.edges) in
     let enough : length all ≤ length l.ranges.items = omega (arith, end) in
     c.truncate.ensures.items ∙ ap (λ n. take n l.ranges.items) (sym end)
-    ∙ RunsArePushed-all all a.base l.ranges.items l.left.first l.left.starts l.left.ends enough l.invariant.pushed
+    ∙ ArePushed-all all l.ranges.items _ enough l.invariant.pushed

@@ -1,10 +1,11 @@
 use Rattle.std.proofs.Common.{◌≡◌, ◌-◌, ◌++◌, vec_len, vec_capacity}
-use Rattle.mask_bits.specs.Pushed.{RunsArePushed, runs_between}
+use Rattle.mask_bits.specs.Pushed.{AreEdges, ArePushed, runs_between}
 use Rattle.mask_bits.proofs.set_slices.push_by_two.Given as goal
 
 abbrev pub invariant-loop-left : goal.invariant-loop-left
 invariant-loop-left l = record {
-  pushed : RunsArePushed (l.fn.ranges.items ++ runs_between l.base l.fn.edges.first l.fn.edges.starts l.fn.edges.ends) l.base l.ranges.items l.left.first l.left.starts l.left.ends;
+  pushed : ArePushed (l.fn.ranges.items ++ runs_between l.base l.fn.edges.first l.fn.edges.starts l.fn.edges.ends) l.ranges.items (runs_between l.base l.left.first l.left.starts l.left.ends);
+  edges : AreEdges l.base l.left.starts l.left.ends;
   room : vec_capacity l.ranges ≡ vec_capacity l.fn.ranges;
 }
 

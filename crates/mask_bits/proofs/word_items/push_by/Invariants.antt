@@ -6,7 +6,7 @@ use Rattle.mask_bits.proofs.word_items.push_by.Given as goal
 
 abbrev pub invariant-loop-items : goal.invariant-loop-items
 invariant-loop-items g l = record {
-  pushed : ArePushed (g.W.WordItems.at l.items) (g.R.Room.items l.fn.out ++ items_of (g.W.WordItems.at l.items) (word_bits l.word)) (g.R.Room.items l.out) l.left;
+  pushed : ArePushed (g.R.Room.items l.fn.out ++ items_of (g.W.WordItems.at l.items) (word_bits l.word)) (g.R.Room.items l.out) (items_of (g.W.WordItems.at l.items) (word_bits l.left));
   kept : g.R.Room.kept l.out ≡ g.R.Room.kept l.fn.out;
 }
 

@@ -1,4 +1,4 @@
-use Rattle.std.proofs.Common.{◌≡◌, ◌<◌, ◌-◌, ◌%◌, ◌++◌, ◌∷◌, [], subst, sym, ap, ◌∙◌, length, append_assoc, append-nil, arith}
+use Rattle.std.proofs.Common.{◌<◌, ◌-◌, ◌++◌, ◌∷◌, [], subst, sym, ap, ◌∙◌, length, append_assoc, append-nil, arith}
 use Rattle.std.specs.Int.RustNames.{bit_and}
 use Rattle.std.specs.List.{All}
 use Rattle.std.specs.Option.{IsSome}
@@ -9,17 +9,14 @@ use Rattle.mask_bits.specs.WordItems.{items_of}
 use Rattle.mask_bits.specs.Words.{word_bits}
 use Rattle.mask_bits.proofs.Lists.Places.PushLemmas.{items_of-lowest, items_of-zero, no_places}
 use Rattle.mask_bits.proofs.Lists.Places.SelectLemmas.{positions-lowest}
-use Rattle.mask_bits.proofs.Lists.Words.LowestLemmas.{low, low-within}
+use Rattle.mask_bits.proofs.Lists.Words.LowestLemmas.{low}
 use Rattle.mask_bits.proofs.word_items.push_one_by_one.Goals as goal
 
 pub lowest-requires : goal.lowest-requires
 lowest-requires g c =
     let w = c.loop-left.left in
     let at = g.W.WordItems.at c.args.items in
-    let some : 0 < w = omega (arith, c.loop-left-test.true) in
-    let fits = c.loop-left.auto.left-fits.fits in
-    let same : low w ≡ low w % 64 = omega (arith, low-within w some fits) in
-    subst (λ p. IsSome (at p)) same (All-head (λ p. IsSome (at p)) (low w) _ (subst (All (λ p. IsSome (at p))) (positions-lowest w some fits) c.loop-left.invariant.each))
+    All-head (λ p. IsSome (at p)) (low w) _ (subst (All (λ p. IsSome (at p))) (positions-lowest w (omega (arith, c.loop-left-test.true)) c.loop-left.auto.left-fits.fits) c.loop-left.invariant.each)
 
 pub put-requires : goal.put-requires
 put-requires g c = grind (arith, positions-lowest)
@@ -36,7 +33,7 @@ loop-left-preserved g c =
     let first = positions-lowest w some fits in
     record {
       items = ap (λ xs. xs ++ items_of at (word_bits rest)) c.put.ensures.items ∙ append_assoc before _ (items_of at (word_bits rest))
-          ∙ ap (λ xs. before ++ xs) (sym (items_of-lowest at w _ some fits (c.lowest.ensures some))) ∙ so_far.items;
+          ∙ ap (λ xs. before ++ xs) (sym (items_of-lowest at w _ some fits c.lowest.ensures)) ∙ so_far.items;
       counted = omega (arith, ap length first, ap length c.put.ensures.items, length-append before (c.lowest.result ∷ []), so_far.counted);
       kept = c.put.ensures.kept ∙ so_far.kept;
       each = All-tail (λ p. IsSome (at p)) (low w) (positions (word_bits rest)) (subst (All (λ p. IsSome (at p))) first so_far.each);

@@ -1,11 +1,13 @@
 use Rattle.std.proofs.Common.{◌≡◌, ◌+◌, List, length}
 use Rattle.mask_bits.specs.Pushed.{ArePushed}
+use Rattle.mask_bits.specs.WordItems.{items_of}
+use Rattle.mask_bits.specs.Words.{word_bits}
 use Rattle.mask_bits.proofs.word_items.push_some.Given as goal
 
 -- the items so far
 abbrev pub invariant-loop : goal.invariant-loop
 invariant-loop g l = record {
-  pushed : (all : List g.row.W-Item.Denot) → ArePushed (g.W.WordItems.at l.items) all (g.R.Room.items l.fn.out) l.word → ArePushed (g.W.WordItems.at l.items) all (g.R.Room.items l.out) l.left;
+  pushed : (all : List g.row.W-Item.Denot) → ArePushed all (g.R.Room.items l.fn.out) (items_of (g.W.WordItems.at l.items) (word_bits l.word)) → ArePushed all (g.R.Room.items l.out) (items_of (g.W.WordItems.at l.items) (word_bits l.left));
   len : length (g.R.Room.items l.out) ≡ length (g.R.Room.items l.fn.out) + l.counter;
   kept : g.R.Room.kept l.out ≡ g.R.Room.kept l.fn.out;
 }
