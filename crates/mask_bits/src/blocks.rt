@@ -35,9 +35,9 @@ pub(crate) fn has_some(words: &[u64; 4]) -> bool
 pub const SPARE: usize = 8;
 
 /// Puts the indices of the set bits of a block, whose first bit has the index `base`: the more there are, the
-/// more at a time, so that few branches are guessed wrong.
+/// more at a time, so that few branches are guessed wrong, and where there are many byte by byte if `BYTES`.
 #[inline(always)]
-pub fn push_block<R: Room<usize>>(indices: &mut R, base: usize, words: &[u64; 4])
+pub fn push_block<const BYTES: bool, R: Room<usize>>(indices: &mut R, base: usize, words: &[u64; 4])
     requires room { length (R.items indices.old) + count (bits_of_words words.now)
         ≤ R.capacity (R.kept indices.old) }
     requires fits { base + 256 < 2 ^ 64 }
@@ -52,7 +52,7 @@ pub fn push_block<R: Room<usize>>(indices: &mut R, base: usize, words: &[u64; 4]
         push_each::<2, _>(indices, base, words);
     } else if ones <= 15 {
         push_each::<4, _>(indices, base, words);
-    } else if ones <= 80 {
+    } else if !BYTES || ones <= 80 {
         push_each::<8, _>(indices, base, words);
     } else {
         push_each::<64, _>(indices, base, words);

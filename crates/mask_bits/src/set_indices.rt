@@ -95,7 +95,7 @@ fn push_blocks(indices: &mut Vec<usize>, chunks: &BitChunks<'_>, blocks: usize)
     while i < blocks {
         let words = block(chunks, i);
         if has_some(&words) {
-            push_block(indices, 256 * i, &words);
+            push_block::<true, _>(indices, 256 * i, &words);
             i += 1;
         } else {
             i = next_block(chunks, i + 1, blocks);

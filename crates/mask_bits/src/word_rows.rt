@@ -18,10 +18,12 @@ const MOST_BYTES: usize = 64 * 32;
 // Room for the rows of a word, and for four more.
 const ROOM: usize = 68;
 
-/// Puts the rows at the set bits of a word into room for these. Where there is room to spare, four are put at a
-/// time, and what is put past them is dropped, so that few branches go by how many bits a word has.
+/// Puts the rows at the set bits of a word into room for these: `K` at a time where there is room to spare, and
+/// what is put past them is dropped, so that few branches go by how many bits a word has; one after another where
+/// `K` is 0, which takes less time where few bits are set.
 #[inline(always)]
-pub fn push_rows_of_word<T: Copy, R: Room<T>>(out: &mut R, rows: &[T], word: u64)
+pub fn push_rows_of_word<const K: usize, T: Copy, R: Room<T>>(out: &mut R, rows: &[T], word: u64)
+    requires few { K ≤ 4 }
     requires whole { length rows.now ≡ 64 }
     requires room { length (R.items out.old) + count (word_bits word) ≤ R.capacity (R.kept out.old) }
     ensures rows { R.items out.new ≡ R.items out.old ++ chosen rows.now (word_bits word) }
@@ -30,10 +32,10 @@ pub fn push_rows_of_word<T: Copy, R: Room<T>>(out: &mut R, rows: &[T], word: u64
 {
     if word == FULL {
         push_all(out, rows);
-    } else if size_of_val(rows) > MOST_BYTES || out.spare() < ROOM || word == 0 {
+    } else if K == 0 || size_of_val(rows) > MOST_BYTES || out.spare() < ROOM || word == 0 {
         push_rows_one_by_one(out, rows, word);
     } else {
-        push_by::<4, _, _>(out, rows, word);
+        push_by::<K, _, _>(out, rows, word);
     }
 }
 

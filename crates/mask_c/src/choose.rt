@@ -113,6 +113,6 @@ fn choose<T: Copy>(bytes: &[u8], offset: usize, len: usize, rows: &[T], out: &mu
 {
     let chunks = BitChunks::new(bytes, offset, len);
     let mut room = Lent { out, at: 0 };
-    choose_rows(&mut room, rows, &chunks);
+    choose_rows::<0, _, _>(&mut room, rows, &chunks);
     room.at
 }

@@ -124,7 +124,7 @@ fn indices_of_blocks<R: Room<usize>>(chunks: &BitChunks, from: usize, out: &mut 
         if ones == 0 {
             continue;
         }
-        push_block(out, from + 256 * i, &words);
+        push_block::<false, _>(out, from + 256 * i, &words);
     }
     4 * blocks
 }

@@ -46,6 +46,6 @@ fn rows_at<T: Copy>(
     ensures { IfOk result (λ v. v.items ≡ chosen rows.now (values buffer.now)) }
 {
     let mut chosen_rows = Vec::with_capacity(alloc, true_count)?;
-    choose_rows(&mut chosen_rows, rows, &buffer.chunks());
+    choose_rows::<4, _, _>(&mut chosen_rows, rows, &buffer.chunks());
     Ok(chosen_rows)
 }
