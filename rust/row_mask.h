@@ -43,8 +43,22 @@
 #error "row_mask: C99 or later is needed"
 #endif
 
-#if SIZE_MAX != UINT64_MAX
-#error "row_mask: the library is for x86-64, where size_t has 64 bits"
+#if SIZE_MAX != UINT64_MAX || !defined(__BYTE_ORDER__) || __BYTE_ORDER__ != __ORDER_LITTLE_ENDIAN__
+#error "row_mask: the library is for 64-bit machines whose words begin with the lowest byte"
+#endif
+
+/* The library for x86-64 has each function twice, compiled for x86-64-v2 and, under names that begin with
+ * `row_mask_v3_`, for x86-64-v3, which has AVX2. A program that is itself compiled for x86-64-v3 calls those.
+ * In any other one each name goes to those that the processor is good for, which is found before `main`.
+ * A program may say what all names begin with, such as `-DROW_MASK_PREFIX='"row_mask_"'` for a library that
+ * has each function once. */
+#if !defined(ROW_MASK_PREFIX) && defined(__x86_64__) && defined(__AVX2__) && defined(__BMI__) &&     defined(__BMI2__) && defined(__F16C__) && defined(__FMA__) && defined(__LZCNT__) && defined(__MOVBE__)
+#define ROW_MASK_PREFIX "row_mask_v3_"
+#endif
+#if defined(ROW_MASK_PREFIX) && defined(__GNUC__)
+#define ROW_MASK_LOOP(name) __asm__(ROW_MASK_PREFIX #name)
+#else
+#define ROW_MASK_LOOP(name)
 #endif
 
 /* Which pointers a function reads and writes, and the argument that says how many items: a compiler
@@ -81,22 +95,25 @@ typedef struct row_mask_16 {
 
 /* The version of the library, as `10000 * major + 100 * minor + patch`. A program was compiled for
  * the one that `ROW_MASK_VERSION` says. */
-uint32_t row_mask_version(void);
+uint32_t row_mask_version(void) ROW_MASK_LOOP(version);
 
 /* Whether the `len` bits from bit `offset` on are within the bytes, as each other call on a bitmap
  * takes for granted. */
 ROW_MASK_READ(1, 2)
-bool row_mask_is_within(const uint8_t *bytes, size_t bytes_size, size_t offset, size_t len);
+bool row_mask_is_within(
+    const uint8_t *bytes, size_t bytes_size, size_t offset, size_t len) ROW_MASK_LOOP(is_within);
 
 /* How many bytes a bitmap of `len` values takes from bit 0 on: `(len + 7) / 8`, which this call
  * computes without a sum that could wrap. */
-size_t row_mask_room(size_t len);
+size_t row_mask_room(size_t len) ROW_MASK_LOOP(room);
 
 /* Value `i`.
  *
  * Asks that `i < len`. */
 ROW_MASK_READ(1, 2)
-bool row_mask_value(const uint8_t *bytes, size_t bytes_size, size_t offset, size_t len, size_t i);
+bool row_mask_value(
+    const uint8_t *bytes, size_t bytes_size, size_t offset, size_t len,
+    size_t i) ROW_MASK_LOOP(value);
 
 /* Writes words of 64 values, from word `from` on, to the front of `out`, as many as the bitmap
  * starts or as it takes, and answers how many these are: none from past the end. Bit `j` of word
@@ -105,18 +122,20 @@ bool row_mask_value(const uint8_t *bytes, size_t bytes_size, size_t offset, size
 ROW_MASK_READ(1, 2) ROW_MASK_WRITE(6, 7)
 size_t row_mask_words(
     const uint8_t *bytes, size_t bytes_size, size_t offset, size_t len, size_t from,
-    uint64_t *out, size_t out_count);
+    uint64_t *out, size_t out_count) ROW_MASK_LOOP(words);
 
 /* How many values are true. */
 ROW_MASK_READ(1, 2)
-size_t row_mask_count(const uint8_t *bytes, size_t bytes_size, size_t offset, size_t len);
+size_t row_mask_count(
+    const uint8_t *bytes, size_t bytes_size, size_t offset, size_t len) ROW_MASK_LOOP(count);
 
 /* How many of the values from `start` to `end` are true, the end left out.
  *
  * Asks that `start <= end` and `end <= len`. */
 ROW_MASK_READ(1, 2)
 size_t row_mask_count_range(
-    const uint8_t *bytes, size_t bytes_size, size_t offset, size_t len, size_t start, size_t end);
+    const uint8_t *bytes, size_t bytes_size, size_t offset, size_t len, size_t start,
+    size_t end) ROW_MASK_LOOP(count_range);
 
 /* Writes for each index how many of the values below it are true. Values are counted once for all
  * indices, up to the last of them.
@@ -126,29 +145,33 @@ size_t row_mask_count_range(
 ROW_MASK_READ(1, 2) ROW_MASK_READ(5, 6) ROW_MASK_WRITE(7, 8)
 void row_mask_counts_below(
     const uint8_t *bytes, size_t bytes_size, size_t offset, size_t len,
-    const size_t *indices, size_t indices_count, size_t *out, size_t out_count);
+    const size_t *indices, size_t indices_count,
+    size_t *out, size_t out_count) ROW_MASK_LOOP(counts_below);
 
 /* How many values are true in both. */
 ROW_MASK_READ(1, 2) ROW_MASK_READ(4, 5)
 size_t row_mask_and_count(
     const uint8_t *a, size_t a_size, size_t a_offset, const uint8_t *b, size_t b_size,
-    size_t b_offset, size_t len);
+    size_t b_offset, size_t len) ROW_MASK_LOOP(and_count);
 
 /* The index of true value number `n`, counted from 0, and `len` where there is none. */
 ROW_MASK_READ(1, 2)
 size_t row_mask_select(
-    const uint8_t *bytes, size_t bytes_size, size_t offset, size_t len, size_t n);
+    const uint8_t *bytes, size_t bytes_size, size_t offset, size_t len,
+    size_t n) ROW_MASK_LOOP(select);
 
 /* The first index from `from` on whose value is true, and `len` where there is none, also from past
  * the end. So a walk over the true values goes on from one past the index that it got, and ends
  * where it got `len`. */
 ROW_MASK_READ(1, 2)
 size_t row_mask_next_index(
-    const uint8_t *bytes, size_t bytes_size, size_t offset, size_t len, size_t from);
+    const uint8_t *bytes, size_t bytes_size, size_t offset, size_t len,
+    size_t from) ROW_MASK_LOOP(next_index);
 
 /* The index of the last true value, and `len` where there is none. */
 ROW_MASK_READ(1, 2)
-size_t row_mask_last_index(const uint8_t *bytes, size_t bytes_size, size_t offset, size_t len);
+size_t row_mask_last_index(
+    const uint8_t *bytes, size_t bytes_size, size_t offset, size_t len) ROW_MASK_LOOP(last_index);
 
 /* Writes the indices of the true values from `from` on, ascending, to the front of `out`, as many
  * as there are or as it takes, and answers how many these are: none from past the end. So a walk
@@ -157,20 +180,23 @@ size_t row_mask_last_index(const uint8_t *bytes, size_t bytes_size, size_t offse
 ROW_MASK_READ(1, 2) ROW_MASK_WRITE(6, 7)
 size_t row_mask_next_indices(
     const uint8_t *bytes, size_t bytes_size, size_t offset, size_t len, size_t from,
-    size_t *out, size_t out_count);
+    size_t *out, size_t out_count) ROW_MASK_LOOP(next_indices);
 
 /* The first run of true values from `from` on, and the empty one at `len` where there is none, also
  * from past the end. A run that `from` is inside begins there. So a walk over all runs goes on from
  * the end of the one that it got. */
 ROW_MASK_READ(1, 2)
 row_mask_run row_mask_next_run(
-    const uint8_t *bytes, size_t bytes_size, size_t offset, size_t len, size_t from);
+    const uint8_t *bytes, size_t bytes_size, size_t offset, size_t len,
+    size_t from) ROW_MASK_LOOP(next_run);
 
 /* Writes truth values as a bitmap, from bit 0 on.
  *
  * Asks that `out_size >= row_mask_room(values_count)`. */
 ROW_MASK_READ(1, 2) ROW_MASK_WRITE(3, 4)
-void row_mask_from_bools(const bool *values, size_t values_count, uint8_t *out, size_t out_size);
+void row_mask_from_bools(
+    const bool *values, size_t values_count,
+    uint8_t *out, size_t out_size) ROW_MASK_LOOP(from_bools);
 
 /* Writes the bitmap of `len` values, from bit 0 on, in which just the values at `indices` are true.
  * Indices may come in any order and more than once.
@@ -178,7 +204,8 @@ void row_mask_from_bools(const bool *values, size_t values_count, uint8_t *out, 
  * Asks that each index is below `len`, and that `out_size >= row_mask_room(len)`. */
 ROW_MASK_READ(1, 2) ROW_MASK_WRITE(4, 5)
 void row_mask_from_indices(
-    const size_t *indices, size_t indices_count, size_t len, uint8_t *out, size_t out_size);
+    const size_t *indices, size_t indices_count, size_t len,
+    uint8_t *out, size_t out_size) ROW_MASK_LOOP(from_indices);
 
 /* Writes the values that are true in both.
  *
@@ -186,7 +213,7 @@ void row_mask_from_indices(
 ROW_MASK_READ(1, 2) ROW_MASK_READ(4, 5) ROW_MASK_WRITE(8, 9)
 void row_mask_and(
     const uint8_t *a, size_t a_size, size_t a_offset, const uint8_t *b, size_t b_size,
-    size_t b_offset, size_t len, uint8_t *out, size_t out_size);
+    size_t b_offset, size_t len, uint8_t *out, size_t out_size) ROW_MASK_LOOP(and);
 
 /* Writes the values that are true in one or in both.
  *
@@ -194,7 +221,7 @@ void row_mask_and(
 ROW_MASK_READ(1, 2) ROW_MASK_READ(4, 5) ROW_MASK_WRITE(8, 9)
 void row_mask_or(
     const uint8_t *a, size_t a_size, size_t a_offset, const uint8_t *b, size_t b_size,
-    size_t b_offset, size_t len, uint8_t *out, size_t out_size);
+    size_t b_offset, size_t len, uint8_t *out, size_t out_size) ROW_MASK_LOOP(or);
 
 /* Writes the values that are true in `a` and not in `b`.
  *
@@ -202,7 +229,7 @@ void row_mask_or(
 ROW_MASK_READ(1, 2) ROW_MASK_READ(4, 5) ROW_MASK_WRITE(8, 9)
 void row_mask_and_not(
     const uint8_t *a, size_t a_size, size_t a_offset, const uint8_t *b, size_t b_size,
-    size_t b_offset, size_t len, uint8_t *out, size_t out_size);
+    size_t b_offset, size_t len, uint8_t *out, size_t out_size) ROW_MASK_LOOP(and_not);
 
 /* Writes the values that are true in one and not in the other.
  *
@@ -210,7 +237,7 @@ void row_mask_and_not(
 ROW_MASK_READ(1, 2) ROW_MASK_READ(4, 5) ROW_MASK_WRITE(8, 9)
 void row_mask_xor(
     const uint8_t *a, size_t a_size, size_t a_offset, const uint8_t *b, size_t b_size,
-    size_t b_offset, size_t len, uint8_t *out, size_t out_size);
+    size_t b_offset, size_t len, uint8_t *out, size_t out_size) ROW_MASK_LOOP(xor);
 
 /* Writes each value negated.
  *
@@ -218,7 +245,7 @@ void row_mask_xor(
 ROW_MASK_READ(1, 2) ROW_MASK_WRITE(5, 6)
 void row_mask_not(
     const uint8_t *bytes, size_t bytes_size, size_t offset, size_t len,
-    uint8_t *out, size_t out_size);
+    uint8_t *out, size_t out_size) ROW_MASK_LOOP(not);
 
 /* Writes the same values, from bit 0 on.
  *
@@ -226,28 +253,31 @@ void row_mask_not(
 ROW_MASK_READ(1, 2) ROW_MASK_WRITE(5, 6)
 void row_mask_copy(
     const uint8_t *bytes, size_t bytes_size, size_t offset, size_t len,
-    uint8_t *out, size_t out_size);
+    uint8_t *out, size_t out_size) ROW_MASK_LOOP(copy);
 
 /* Writes the values that are true in both in the place of `a`, which begins at bit 0.
  *
  * Asks that `a_size >= row_mask_room(len)`. */
 ROW_MASK_CHANGE(1, 2) ROW_MASK_READ(3, 4)
 void row_mask_and_in_place(
-    uint8_t *a, size_t a_size, const uint8_t *b, size_t b_size, size_t b_offset, size_t len);
+    uint8_t *a, size_t a_size, const uint8_t *b, size_t b_size, size_t b_offset,
+    size_t len) ROW_MASK_LOOP(and_in_place);
 
 /* Writes the values that are true in one or in both in the place of `a`, which begins at bit 0.
  *
  * Asks that `a_size >= row_mask_room(len)`. */
 ROW_MASK_CHANGE(1, 2) ROW_MASK_READ(3, 4)
 void row_mask_or_in_place(
-    uint8_t *a, size_t a_size, const uint8_t *b, size_t b_size, size_t b_offset, size_t len);
+    uint8_t *a, size_t a_size, const uint8_t *b, size_t b_size, size_t b_offset,
+    size_t len) ROW_MASK_LOOP(or_in_place);
 
 /* Writes the values that are true in `a` and not in `b` in the place of `a`, which begins at bit 0.
  *
  * Asks that `a_size >= row_mask_room(len)`. */
 ROW_MASK_CHANGE(1, 2) ROW_MASK_READ(3, 4)
 void row_mask_and_not_in_place(
-    uint8_t *a, size_t a_size, const uint8_t *b, size_t b_size, size_t b_offset, size_t len);
+    uint8_t *a, size_t a_size, const uint8_t *b, size_t b_size, size_t b_offset,
+    size_t len) ROW_MASK_LOOP(and_not_in_place);
 
 /* Writes the values that are true in one and not in the other in the place of `a`, which begins at
  * bit 0.
@@ -255,13 +285,15 @@ void row_mask_and_not_in_place(
  * Asks that `a_size >= row_mask_room(len)`. */
 ROW_MASK_CHANGE(1, 2) ROW_MASK_READ(3, 4)
 void row_mask_xor_in_place(
-    uint8_t *a, size_t a_size, const uint8_t *b, size_t b_size, size_t b_offset, size_t len);
+    uint8_t *a, size_t a_size, const uint8_t *b, size_t b_size, size_t b_offset,
+    size_t len) ROW_MASK_LOOP(xor_in_place);
 
 /* Writes each value negated in its place. The bitmap begins at bit 0.
  *
  * Asks that `bytes_size >= row_mask_room(len)`. */
 ROW_MASK_CHANGE(1, 2)
-void row_mask_not_in_place(uint8_t *bytes, size_t bytes_size, size_t len);
+void row_mask_not_in_place(
+    uint8_t *bytes, size_t bytes_size, size_t len) ROW_MASK_LOOP(not_in_place);
 
 /* Writes the values of `more` behind the first `len` values of `bytes`, which begin at bit 0. So
  * bitmaps are joined by a call for each.
@@ -271,32 +303,34 @@ void row_mask_not_in_place(uint8_t *bytes, size_t bytes_size, size_t len);
 ROW_MASK_CHANGE(1, 2) ROW_MASK_READ(4, 5)
 void row_mask_append(
     uint8_t *bytes, size_t bytes_size, size_t len, const uint8_t *more, size_t more_size,
-    size_t more_offset, size_t more_len);
+    size_t more_offset, size_t more_len) ROW_MASK_LOOP(append);
 
 /* Writes `value` to the bits from position `start` to `end`, the end left out, and leaves all
  * others as they were. Of a bitmap with an offset, value `i` is the bit at position `offset + i`.
  *
  * Asks that `start <= end` and `end <= 8 * bytes_size`. */
 ROW_MASK_CHANGE(1, 2)
-void row_mask_fill_range(uint8_t *bytes, size_t bytes_size, size_t start, size_t end, bool value);
+void row_mask_fill_range(
+    uint8_t *bytes, size_t bytes_size, size_t start, size_t end,
+    bool value) ROW_MASK_LOOP(fill_range);
 
 /* Whether two bitmaps of one length have the same values. */
 ROW_MASK_READ(1, 2) ROW_MASK_READ(4, 5)
 bool row_mask_equal(
     const uint8_t *a, size_t a_size, size_t a_offset, const uint8_t *b, size_t b_size,
-    size_t b_offset, size_t len);
+    size_t b_offset, size_t len) ROW_MASK_LOOP(equal);
 
 /* Whether each true value of `a` is true in `b`. */
 ROW_MASK_READ(1, 2) ROW_MASK_READ(4, 5)
 bool row_mask_is_subset(
     const uint8_t *a, size_t a_size, size_t a_offset, const uint8_t *b, size_t b_size,
-    size_t b_offset, size_t len);
+    size_t b_offset, size_t len) ROW_MASK_LOOP(is_subset);
 
 /* Whether some value is true in both. */
 ROW_MASK_READ(1, 2) ROW_MASK_READ(4, 5)
 bool row_mask_intersects(
     const uint8_t *a, size_t a_size, size_t a_offset, const uint8_t *b, size_t b_size,
-    size_t b_offset, size_t len);
+    size_t b_offset, size_t len) ROW_MASK_LOOP(intersects);
 
 /* Writes the bitmap narrowed by another over its true values: true value number `k` stays true
  * exactly where value `k` of `ranks` is true.
@@ -307,7 +341,7 @@ ROW_MASK_READ(1, 2) ROW_MASK_READ(5, 6) ROW_MASK_WRITE(9, 10)
 void row_mask_intersect_by_rank(
     const uint8_t *bytes, size_t bytes_size, size_t offset, size_t len,
     const uint8_t *ranks, size_t ranks_size, size_t ranks_offset, size_t ranks_len,
-    uint8_t *out, size_t out_size);
+    uint8_t *out, size_t out_size) ROW_MASK_LOOP(intersect_by_rank);
 
 /* Writes the bitmap in which just those true values stay true whose numbers are `ranks`.
  *
@@ -316,7 +350,8 @@ void row_mask_intersect_by_rank(
 ROW_MASK_READ(1, 2) ROW_MASK_READ(5, 6) ROW_MASK_WRITE(7, 8)
 void row_mask_intersect_at_ranks(
     const uint8_t *bytes, size_t bytes_size, size_t offset, size_t len,
-    const size_t *ranks, size_t ranks_count, uint8_t *out, size_t out_size);
+    const size_t *ranks, size_t ranks_count,
+    uint8_t *out, size_t out_size) ROW_MASK_LOOP(intersect_at_ranks);
 
 /* Writes the next words of a bitmap, from word `from` on, to `words`, and for each to `sources` the
  * 64 bits of `ranks` from the number of true values before that word on. Bit `j` of word `i` is
@@ -331,7 +366,8 @@ ROW_MASK_READ(1, 2) ROW_MASK_READ(5, 6) ROW_MASK_WRITE(11, 12) ROW_MASK_WRITE(13
 size_t row_mask_rank_words(
     const uint8_t *bytes, size_t bytes_size, size_t offset, size_t len,
     const uint8_t *ranks, size_t ranks_size, size_t ranks_offset, size_t ranks_len, size_t from,
-    size_t at, uint64_t *words, size_t words_count, uint64_t *sources, size_t sources_count);
+    size_t at, uint64_t *words, size_t words_count,
+    uint64_t *sources, size_t sources_count) ROW_MASK_LOOP(rank_words);
 
 /* Writes the rows at the true values, in their order, to the front of `out`, and answers how many
  * they are. A row has 1 byte.
@@ -340,7 +376,7 @@ size_t row_mask_rank_words(
 ROW_MASK_READ(1, 2) ROW_MASK_READ(5, 6) ROW_MASK_WRITE(7, 8)
 size_t row_mask_choose_1(
     const uint8_t *bytes, size_t bytes_size, size_t offset, size_t len,
-    const uint8_t *rows, size_t rows_count, uint8_t *out, size_t out_count);
+    const uint8_t *rows, size_t rows_count, uint8_t *out, size_t out_count) ROW_MASK_LOOP(choose_1);
 
 /* Writes the rows at the true values, in their order, to the front of `out`, and answers how many
  * they are. A row has 2 bytes.
@@ -349,7 +385,8 @@ size_t row_mask_choose_1(
 ROW_MASK_READ(1, 2) ROW_MASK_READ(5, 6) ROW_MASK_WRITE(7, 8)
 size_t row_mask_choose_2(
     const uint8_t *bytes, size_t bytes_size, size_t offset, size_t len,
-    const uint16_t *rows, size_t rows_count, uint16_t *out, size_t out_count);
+    const uint16_t *rows, size_t rows_count,
+    uint16_t *out, size_t out_count) ROW_MASK_LOOP(choose_2);
 
 /* Writes the rows at the true values, in their order, to the front of `out`, and answers how many
  * they are. A row has 4 bytes.
@@ -358,7 +395,8 @@ size_t row_mask_choose_2(
 ROW_MASK_READ(1, 2) ROW_MASK_READ(5, 6) ROW_MASK_WRITE(7, 8)
 size_t row_mask_choose_4(
     const uint8_t *bytes, size_t bytes_size, size_t offset, size_t len,
-    const uint32_t *rows, size_t rows_count, uint32_t *out, size_t out_count);
+    const uint32_t *rows, size_t rows_count,
+    uint32_t *out, size_t out_count) ROW_MASK_LOOP(choose_4);
 
 /* Writes the rows at the true values, in their order, to the front of `out`, and answers how many
  * they are. A row has 8 bytes.
@@ -367,7 +405,8 @@ size_t row_mask_choose_4(
 ROW_MASK_READ(1, 2) ROW_MASK_READ(5, 6) ROW_MASK_WRITE(7, 8)
 size_t row_mask_choose_8(
     const uint8_t *bytes, size_t bytes_size, size_t offset, size_t len,
-    const uint64_t *rows, size_t rows_count, uint64_t *out, size_t out_count);
+    const uint64_t *rows, size_t rows_count,
+    uint64_t *out, size_t out_count) ROW_MASK_LOOP(choose_8);
 
 /* Writes the rows at the true values, in their order, to the front of `out`, and answers how many
  * they are. A row has 16 bytes.
@@ -376,7 +415,8 @@ size_t row_mask_choose_8(
 ROW_MASK_READ(1, 2) ROW_MASK_READ(5, 6) ROW_MASK_WRITE(7, 8)
 size_t row_mask_choose_16(
     const uint8_t *bytes, size_t bytes_size, size_t offset, size_t len,
-    const row_mask_16 *rows, size_t rows_count, row_mask_16 *out, size_t out_count);
+    const row_mask_16 *rows, size_t rows_count,
+    row_mask_16 *out, size_t out_count) ROW_MASK_LOOP(choose_16);
 
 /* Writes the values of `values` at the true values of the bitmap, in their order, and answers how
  * many they are. So the validity of a column is filtered with its rows.
@@ -386,7 +426,8 @@ size_t row_mask_choose_16(
 ROW_MASK_READ(1, 2) ROW_MASK_READ(5, 6) ROW_MASK_WRITE(8, 9)
 size_t row_mask_choose_bits(
     const uint8_t *bytes, size_t bytes_size, size_t offset, size_t len,
-    const uint8_t *values, size_t values_size, size_t values_offset, uint8_t *out, size_t out_size);
+    const uint8_t *values, size_t values_size, size_t values_offset,
+    uint8_t *out, size_t out_size) ROW_MASK_LOOP(choose_bits);
 
 /* Writes the rows at `indices`, in their order, to the front of `out`. A row has 1 byte. Indices
  * may come in any order and more than once. So a bitmap that chooses rows of many columns is read
@@ -396,7 +437,7 @@ size_t row_mask_choose_bits(
 ROW_MASK_READ(1, 2) ROW_MASK_READ(3, 4) ROW_MASK_WRITE(5, 6)
 void row_mask_take_1(
     const size_t *indices, size_t indices_count, const uint8_t *rows, size_t rows_count,
-    uint8_t *out, size_t out_count);
+    uint8_t *out, size_t out_count) ROW_MASK_LOOP(take_1);
 
 /* Writes the rows at `indices`, in their order, to the front of `out`. A row has 2 bytes. Indices
  * may come in any order and more than once. So a bitmap that chooses rows of many columns is read
@@ -406,7 +447,7 @@ void row_mask_take_1(
 ROW_MASK_READ(1, 2) ROW_MASK_READ(3, 4) ROW_MASK_WRITE(5, 6)
 void row_mask_take_2(
     const size_t *indices, size_t indices_count, const uint16_t *rows, size_t rows_count,
-    uint16_t *out, size_t out_count);
+    uint16_t *out, size_t out_count) ROW_MASK_LOOP(take_2);
 
 /* Writes the rows at `indices`, in their order, to the front of `out`. A row has 4 bytes. Indices
  * may come in any order and more than once. So a bitmap that chooses rows of many columns is read
@@ -416,7 +457,7 @@ void row_mask_take_2(
 ROW_MASK_READ(1, 2) ROW_MASK_READ(3, 4) ROW_MASK_WRITE(5, 6)
 void row_mask_take_4(
     const size_t *indices, size_t indices_count, const uint32_t *rows, size_t rows_count,
-    uint32_t *out, size_t out_count);
+    uint32_t *out, size_t out_count) ROW_MASK_LOOP(take_4);
 
 /* Writes the rows at `indices`, in their order, to the front of `out`. A row has 8 bytes. Indices
  * may come in any order and more than once. So a bitmap that chooses rows of many columns is read
@@ -426,7 +467,7 @@ void row_mask_take_4(
 ROW_MASK_READ(1, 2) ROW_MASK_READ(3, 4) ROW_MASK_WRITE(5, 6)
 void row_mask_take_8(
     const size_t *indices, size_t indices_count, const uint64_t *rows, size_t rows_count,
-    uint64_t *out, size_t out_count);
+    uint64_t *out, size_t out_count) ROW_MASK_LOOP(take_8);
 
 /* Writes the rows at `indices`, in their order, to the front of `out`. A row has 16 bytes. Indices
  * may come in any order and more than once. So a bitmap that chooses rows of many columns is read
@@ -436,7 +477,7 @@ void row_mask_take_8(
 ROW_MASK_READ(1, 2) ROW_MASK_READ(3, 4) ROW_MASK_WRITE(5, 6)
 void row_mask_take_16(
     const size_t *indices, size_t indices_count, const row_mask_16 *rows, size_t rows_count,
-    row_mask_16 *out, size_t out_count);
+    row_mask_16 *out, size_t out_count) ROW_MASK_LOOP(take_16);
 
 /* Writes the offsets of the strings at the true values to the front of `out`: 0, and then where
  * each of these ends if they stand one behind the other. Answers how many bytes they have, which is
@@ -448,7 +489,8 @@ void row_mask_take_16(
 ROW_MASK_READ(1, 2) ROW_MASK_READ(5, 6) ROW_MASK_WRITE(7, 8)
 size_t row_mask_choose_offsets_4(
     const uint8_t *bytes, size_t bytes_size, size_t offset, size_t len,
-    const uint32_t *offsets, size_t offsets_count, uint32_t *out, size_t out_count);
+    const uint32_t *offsets, size_t offsets_count,
+    uint32_t *out, size_t out_count) ROW_MASK_LOOP(choose_offsets_4);
 
 /* Writes the offsets of the strings at the true values to the front of `out`: 0, and then where
  * each of these ends if they stand one behind the other. Answers how many bytes they have, which is
@@ -460,7 +502,8 @@ size_t row_mask_choose_offsets_4(
 ROW_MASK_READ(1, 2) ROW_MASK_READ(5, 6) ROW_MASK_WRITE(7, 8)
 size_t row_mask_choose_offsets_8(
     const uint8_t *bytes, size_t bytes_size, size_t offset, size_t len,
-    const uint64_t *offsets, size_t offsets_count, uint64_t *out, size_t out_count);
+    const uint64_t *offsets, size_t offsets_count,
+    uint64_t *out, size_t out_count) ROW_MASK_LOOP(choose_offsets_8);
 
 /* Writes the offsets of the strings at `indices` to the front of `out`: 0, and then where each of
  * these ends if they stand one behind the other, in the order of the indices. Answers how many
@@ -474,7 +517,7 @@ size_t row_mask_choose_offsets_8(
 ROW_MASK_READ(1, 2) ROW_MASK_READ(3, 4) ROW_MASK_WRITE(5, 6)
 size_t row_mask_take_offsets_4(
     const size_t *indices, size_t indices_count, const uint32_t *offsets, size_t offsets_count,
-    uint32_t *out, size_t out_count);
+    uint32_t *out, size_t out_count) ROW_MASK_LOOP(take_offsets_4);
 
 /* Writes the offsets of the strings at `indices` to the front of `out`: 0, and then where each of
  * these ends if they stand one behind the other, in the order of the indices. Answers how many
@@ -488,7 +531,7 @@ size_t row_mask_take_offsets_4(
 ROW_MASK_READ(1, 2) ROW_MASK_READ(3, 4) ROW_MASK_WRITE(5, 6)
 size_t row_mask_take_offsets_8(
     const size_t *indices, size_t indices_count, const uint64_t *offsets, size_t offsets_count,
-    uint64_t *out, size_t out_count);
+    uint64_t *out, size_t out_count) ROW_MASK_LOOP(take_offsets_8);
 
 /* Writes the bytes of the strings at the true values, one string behind another, to the front of
  * `out`, and answers how many these are. String `i` has the bytes from `offsets[i]` to `offsets[i +
@@ -501,7 +544,8 @@ ROW_MASK_READ(1, 2) ROW_MASK_READ(5, 6) ROW_MASK_READ(7, 8) ROW_MASK_WRITE(9, 10
 size_t row_mask_choose_bytes_4(
     const uint8_t *bytes, size_t bytes_size, size_t offset, size_t len,
     const uint32_t *offsets, size_t offsets_count,
-    const uint8_t *string_bytes, size_t string_bytes_size, uint8_t *out, size_t out_size);
+    const uint8_t *string_bytes, size_t string_bytes_size,
+    uint8_t *out, size_t out_size) ROW_MASK_LOOP(choose_bytes_4);
 
 /* Writes the bytes of the strings at the true values, one string behind another, to the front of
  * `out`, and answers how many these are. String `i` has the bytes from `offsets[i]` to `offsets[i +
@@ -514,7 +558,8 @@ ROW_MASK_READ(1, 2) ROW_MASK_READ(5, 6) ROW_MASK_READ(7, 8) ROW_MASK_WRITE(9, 10
 size_t row_mask_choose_bytes_8(
     const uint8_t *bytes, size_t bytes_size, size_t offset, size_t len,
     const uint64_t *offsets, size_t offsets_count,
-    const uint8_t *string_bytes, size_t string_bytes_size, uint8_t *out, size_t out_size);
+    const uint8_t *string_bytes, size_t string_bytes_size,
+    uint8_t *out, size_t out_size) ROW_MASK_LOOP(choose_bytes_8);
 
 /* Writes the bytes of the strings at `indices`, in their order and one behind another, to the front
  * of `out`, and answers how many these are. Indices may come in any order and more than once.
@@ -526,7 +571,8 @@ size_t row_mask_choose_bytes_8(
 ROW_MASK_READ(1, 2) ROW_MASK_READ(3, 4) ROW_MASK_READ(5, 6) ROW_MASK_WRITE(7, 8)
 size_t row_mask_take_bytes_4(
     const size_t *indices, size_t indices_count, const uint32_t *offsets, size_t offsets_count,
-    const uint8_t *string_bytes, size_t string_bytes_size, uint8_t *out, size_t out_size);
+    const uint8_t *string_bytes, size_t string_bytes_size,
+    uint8_t *out, size_t out_size) ROW_MASK_LOOP(take_bytes_4);
 
 /* Writes the bytes of the strings at `indices`, in their order and one behind another, to the front
  * of `out`, and answers how many these are. Indices may come in any order and more than once.
@@ -538,7 +584,8 @@ size_t row_mask_take_bytes_4(
 ROW_MASK_READ(1, 2) ROW_MASK_READ(3, 4) ROW_MASK_READ(5, 6) ROW_MASK_WRITE(7, 8)
 size_t row_mask_take_bytes_8(
     const size_t *indices, size_t indices_count, const uint64_t *offsets, size_t offsets_count,
-    const uint8_t *string_bytes, size_t string_bytes_size, uint8_t *out, size_t out_size);
+    const uint8_t *string_bytes, size_t string_bytes_size,
+    uint8_t *out, size_t out_size) ROW_MASK_LOOP(take_bytes_8);
 
 /* Rank intersection by the instruction `pdep` of the processor, and the values at chosen rows by `pext`,
  * compiled into the program. The words and sources are those of the proved `row_mask_rank_words`, and of
@@ -663,6 +710,7 @@ static inline size_t row_mask_choose_bits_by_pext(
 #undef ROW_MASK_READ
 #undef ROW_MASK_WRITE
 #undef ROW_MASK_CHANGE
+#undef ROW_MASK_LOOP
 
 #ifdef __cplusplus
 }

@@ -16,25 +16,23 @@ pub(crate) struct RowMask16 {
     pub(crate) second: u64,
 }
 
-// Some of them C alone calls.
-#[allow(dead_code)]
-unsafe extern "C" {
-    pub(crate) fn row_mask_version() -> u32;
-    pub(crate) fn row_mask_is_within(
+crate::dispatch::declare! {
+    fn row_mask_version() -> u32 = row_mask_v2_version, row_mask_v3_version;
+    fn row_mask_is_within(
         bytes: *const u8,
         bytes_size: usize,
         offset: usize,
         len: usize,
-    ) -> bool;
-    pub(crate) fn row_mask_room(len: usize) -> usize;
-    pub(crate) fn row_mask_value(
+    ) -> bool = row_mask_v2_is_within, row_mask_v3_is_within;
+    fn row_mask_room(len: usize) -> usize = row_mask_v2_room, row_mask_v3_room;
+    fn row_mask_value(
         bytes: *const u8,
         bytes_size: usize,
         offset: usize,
         len: usize,
         i: usize,
-    ) -> bool;
-    pub(crate) fn row_mask_words(
+    ) -> bool = row_mask_v2_value, row_mask_v3_value;
+    fn row_mask_words(
         bytes: *const u8,
         bytes_size: usize,
         offset: usize,
@@ -42,22 +40,22 @@ unsafe extern "C" {
         from: usize,
         out: *mut u64,
         out_count: usize,
-    ) -> usize;
-    pub(crate) fn row_mask_count(
+    ) -> usize = row_mask_v2_words, row_mask_v3_words;
+    fn row_mask_count(
         bytes: *const u8,
         bytes_size: usize,
         offset: usize,
         len: usize,
-    ) -> usize;
-    pub(crate) fn row_mask_count_range(
+    ) -> usize = row_mask_v2_count, row_mask_v3_count;
+    fn row_mask_count_range(
         bytes: *const u8,
         bytes_size: usize,
         offset: usize,
         len: usize,
         start: usize,
         end: usize,
-    ) -> usize;
-    pub(crate) fn row_mask_counts_below(
+    ) -> usize = row_mask_v2_count_range, row_mask_v3_count_range;
+    fn row_mask_counts_below(
         bytes: *const u8,
         bytes_size: usize,
         offset: usize,
@@ -66,8 +64,8 @@ unsafe extern "C" {
         indices_count: usize,
         out: *mut usize,
         out_count: usize,
-    );
-    pub(crate) fn row_mask_and_count(
+    ) = row_mask_v2_counts_below, row_mask_v3_counts_below;
+    fn row_mask_and_count(
         a: *const u8,
         a_size: usize,
         a_offset: usize,
@@ -75,28 +73,28 @@ unsafe extern "C" {
         b_size: usize,
         b_offset: usize,
         len: usize,
-    ) -> usize;
-    pub(crate) fn row_mask_select(
+    ) -> usize = row_mask_v2_and_count, row_mask_v3_and_count;
+    fn row_mask_select(
         bytes: *const u8,
         bytes_size: usize,
         offset: usize,
         len: usize,
         n: usize,
-    ) -> usize;
-    pub(crate) fn row_mask_next_index(
+    ) -> usize = row_mask_v2_select, row_mask_v3_select;
+    fn row_mask_next_index(
         bytes: *const u8,
         bytes_size: usize,
         offset: usize,
         len: usize,
         from: usize,
-    ) -> usize;
-    pub(crate) fn row_mask_last_index(
+    ) -> usize = row_mask_v2_next_index, row_mask_v3_next_index;
+    fn row_mask_last_index(
         bytes: *const u8,
         bytes_size: usize,
         offset: usize,
         len: usize,
-    ) -> usize;
-    pub(crate) fn row_mask_next_indices(
+    ) -> usize = row_mask_v2_last_index, row_mask_v3_last_index;
+    fn row_mask_next_indices(
         bytes: *const u8,
         bytes_size: usize,
         offset: usize,
@@ -104,28 +102,28 @@ unsafe extern "C" {
         from: usize,
         out: *mut usize,
         out_count: usize,
-    ) -> usize;
-    pub(crate) fn row_mask_next_run(
+    ) -> usize = row_mask_v2_next_indices, row_mask_v3_next_indices;
+    fn row_mask_next_run(
         bytes: *const u8,
         bytes_size: usize,
         offset: usize,
         len: usize,
         from: usize,
-    ) -> RowMaskRun;
-    pub(crate) fn row_mask_from_bools(
+    ) -> RowMaskRun = row_mask_v2_next_run, row_mask_v3_next_run;
+    fn row_mask_from_bools(
         values: *const bool,
         values_count: usize,
         out: *mut u8,
         out_size: usize,
-    );
-    pub(crate) fn row_mask_from_indices(
+    ) = row_mask_v2_from_bools, row_mask_v3_from_bools;
+    fn row_mask_from_indices(
         indices: *const usize,
         indices_count: usize,
         len: usize,
         out: *mut u8,
         out_size: usize,
-    );
-    pub(crate) fn row_mask_and(
+    ) = row_mask_v2_from_indices, row_mask_v3_from_indices;
+    fn row_mask_and(
         a: *const u8,
         a_size: usize,
         a_offset: usize,
@@ -135,8 +133,8 @@ unsafe extern "C" {
         len: usize,
         out: *mut u8,
         out_size: usize,
-    );
-    pub(crate) fn row_mask_or(
+    ) = row_mask_v2_and, row_mask_v3_and;
+    fn row_mask_or(
         a: *const u8,
         a_size: usize,
         a_offset: usize,
@@ -146,8 +144,8 @@ unsafe extern "C" {
         len: usize,
         out: *mut u8,
         out_size: usize,
-    );
-    pub(crate) fn row_mask_and_not(
+    ) = row_mask_v2_or, row_mask_v3_or;
+    fn row_mask_and_not(
         a: *const u8,
         a_size: usize,
         a_offset: usize,
@@ -157,8 +155,8 @@ unsafe extern "C" {
         len: usize,
         out: *mut u8,
         out_size: usize,
-    );
-    pub(crate) fn row_mask_xor(
+    ) = row_mask_v2_and_not, row_mask_v3_and_not;
+    fn row_mask_xor(
         a: *const u8,
         a_size: usize,
         a_offset: usize,
@@ -168,57 +166,61 @@ unsafe extern "C" {
         len: usize,
         out: *mut u8,
         out_size: usize,
-    );
-    pub(crate) fn row_mask_not(
+    ) = row_mask_v2_xor, row_mask_v3_xor;
+    fn row_mask_not(
         bytes: *const u8,
         bytes_size: usize,
         offset: usize,
         len: usize,
         out: *mut u8,
         out_size: usize,
-    );
-    pub(crate) fn row_mask_copy(
+    ) = row_mask_v2_not, row_mask_v3_not;
+    fn row_mask_copy(
         bytes: *const u8,
         bytes_size: usize,
         offset: usize,
         len: usize,
         out: *mut u8,
         out_size: usize,
-    );
-    pub(crate) fn row_mask_and_in_place(
+    ) = row_mask_v2_copy, row_mask_v3_copy;
+    fn row_mask_and_in_place(
         a: *mut u8,
         a_size: usize,
         b: *const u8,
         b_size: usize,
         b_offset: usize,
         len: usize,
-    );
-    pub(crate) fn row_mask_or_in_place(
+    ) = row_mask_v2_and_in_place, row_mask_v3_and_in_place;
+    fn row_mask_or_in_place(
         a: *mut u8,
         a_size: usize,
         b: *const u8,
         b_size: usize,
         b_offset: usize,
         len: usize,
-    );
-    pub(crate) fn row_mask_and_not_in_place(
+    ) = row_mask_v2_or_in_place, row_mask_v3_or_in_place;
+    fn row_mask_and_not_in_place(
         a: *mut u8,
         a_size: usize,
         b: *const u8,
         b_size: usize,
         b_offset: usize,
         len: usize,
-    );
-    pub(crate) fn row_mask_xor_in_place(
+    ) = row_mask_v2_and_not_in_place, row_mask_v3_and_not_in_place;
+    fn row_mask_xor_in_place(
         a: *mut u8,
         a_size: usize,
         b: *const u8,
         b_size: usize,
         b_offset: usize,
         len: usize,
-    );
-    pub(crate) fn row_mask_not_in_place(bytes: *mut u8, bytes_size: usize, len: usize);
-    pub(crate) fn row_mask_append(
+    ) = row_mask_v2_xor_in_place, row_mask_v3_xor_in_place;
+    fn row_mask_not_in_place(
+        bytes: *mut u8,
+        bytes_size: usize,
+        len: usize,
+    ) = row_mask_v2_not_in_place, row_mask_v3_not_in_place;
+    fn row_mask_append(
         bytes: *mut u8,
         bytes_size: usize,
         len: usize,
@@ -226,15 +228,15 @@ unsafe extern "C" {
         more_size: usize,
         more_offset: usize,
         more_len: usize,
-    );
-    pub(crate) fn row_mask_fill_range(
+    ) = row_mask_v2_append, row_mask_v3_append;
+    fn row_mask_fill_range(
         bytes: *mut u8,
         bytes_size: usize,
         start: usize,
         end: usize,
         value: bool,
-    );
-    pub(crate) fn row_mask_equal(
+    ) = row_mask_v2_fill_range, row_mask_v3_fill_range;
+    fn row_mask_equal(
         a: *const u8,
         a_size: usize,
         a_offset: usize,
@@ -242,8 +244,8 @@ unsafe extern "C" {
         b_size: usize,
         b_offset: usize,
         len: usize,
-    ) -> bool;
-    pub(crate) fn row_mask_is_subset(
+    ) -> bool = row_mask_v2_equal, row_mask_v3_equal;
+    fn row_mask_is_subset(
         a: *const u8,
         a_size: usize,
         a_offset: usize,
@@ -251,8 +253,8 @@ unsafe extern "C" {
         b_size: usize,
         b_offset: usize,
         len: usize,
-    ) -> bool;
-    pub(crate) fn row_mask_intersects(
+    ) -> bool = row_mask_v2_is_subset, row_mask_v3_is_subset;
+    fn row_mask_intersects(
         a: *const u8,
         a_size: usize,
         a_offset: usize,
@@ -260,8 +262,8 @@ unsafe extern "C" {
         b_size: usize,
         b_offset: usize,
         len: usize,
-    ) -> bool;
-    pub(crate) fn row_mask_intersect_by_rank(
+    ) -> bool = row_mask_v2_intersects, row_mask_v3_intersects;
+    fn row_mask_intersect_by_rank(
         bytes: *const u8,
         bytes_size: usize,
         offset: usize,
@@ -272,8 +274,8 @@ unsafe extern "C" {
         ranks_len: usize,
         out: *mut u8,
         out_size: usize,
-    );
-    pub(crate) fn row_mask_intersect_at_ranks(
+    ) = row_mask_v2_intersect_by_rank, row_mask_v3_intersect_by_rank;
+    fn row_mask_intersect_at_ranks(
         bytes: *const u8,
         bytes_size: usize,
         offset: usize,
@@ -282,8 +284,8 @@ unsafe extern "C" {
         ranks_count: usize,
         out: *mut u8,
         out_size: usize,
-    );
-    pub(crate) fn row_mask_rank_words(
+    ) = row_mask_v2_intersect_at_ranks, row_mask_v3_intersect_at_ranks;
+    fn row_mask_rank_words(
         bytes: *const u8,
         bytes_size: usize,
         offset: usize,
@@ -298,8 +300,8 @@ unsafe extern "C" {
         words_count: usize,
         sources: *mut u64,
         sources_count: usize,
-    ) -> usize;
-    pub(crate) fn row_mask_choose_1(
+    ) -> usize = row_mask_v2_rank_words, row_mask_v3_rank_words;
+    fn row_mask_choose_1(
         bytes: *const u8,
         bytes_size: usize,
         offset: usize,
@@ -308,8 +310,8 @@ unsafe extern "C" {
         rows_count: usize,
         out: *mut u8,
         out_count: usize,
-    ) -> usize;
-    pub(crate) fn row_mask_choose_2(
+    ) -> usize = row_mask_v2_choose_1, row_mask_v3_choose_1;
+    fn row_mask_choose_2(
         bytes: *const u8,
         bytes_size: usize,
         offset: usize,
@@ -318,8 +320,8 @@ unsafe extern "C" {
         rows_count: usize,
         out: *mut u16,
         out_count: usize,
-    ) -> usize;
-    pub(crate) fn row_mask_choose_4(
+    ) -> usize = row_mask_v2_choose_2, row_mask_v3_choose_2;
+    fn row_mask_choose_4(
         bytes: *const u8,
         bytes_size: usize,
         offset: usize,
@@ -328,8 +330,8 @@ unsafe extern "C" {
         rows_count: usize,
         out: *mut u32,
         out_count: usize,
-    ) -> usize;
-    pub(crate) fn row_mask_choose_8(
+    ) -> usize = row_mask_v2_choose_4, row_mask_v3_choose_4;
+    fn row_mask_choose_8(
         bytes: *const u8,
         bytes_size: usize,
         offset: usize,
@@ -338,8 +340,8 @@ unsafe extern "C" {
         rows_count: usize,
         out: *mut u64,
         out_count: usize,
-    ) -> usize;
-    pub(crate) fn row_mask_choose_16(
+    ) -> usize = row_mask_v2_choose_8, row_mask_v3_choose_8;
+    fn row_mask_choose_16(
         bytes: *const u8,
         bytes_size: usize,
         offset: usize,
@@ -348,8 +350,8 @@ unsafe extern "C" {
         rows_count: usize,
         out: *mut RowMask16,
         out_count: usize,
-    ) -> usize;
-    pub(crate) fn row_mask_choose_bits(
+    ) -> usize = row_mask_v2_choose_16, row_mask_v3_choose_16;
+    fn row_mask_choose_bits(
         bytes: *const u8,
         bytes_size: usize,
         offset: usize,
@@ -359,48 +361,48 @@ unsafe extern "C" {
         values_offset: usize,
         out: *mut u8,
         out_size: usize,
-    ) -> usize;
-    pub(crate) fn row_mask_take_1(
+    ) -> usize = row_mask_v2_choose_bits, row_mask_v3_choose_bits;
+    fn row_mask_take_1(
         indices: *const usize,
         indices_count: usize,
         rows: *const u8,
         rows_count: usize,
         out: *mut u8,
         out_count: usize,
-    );
-    pub(crate) fn row_mask_take_2(
+    ) = row_mask_v2_take_1, row_mask_v3_take_1;
+    fn row_mask_take_2(
         indices: *const usize,
         indices_count: usize,
         rows: *const u16,
         rows_count: usize,
         out: *mut u16,
         out_count: usize,
-    );
-    pub(crate) fn row_mask_take_4(
+    ) = row_mask_v2_take_2, row_mask_v3_take_2;
+    fn row_mask_take_4(
         indices: *const usize,
         indices_count: usize,
         rows: *const u32,
         rows_count: usize,
         out: *mut u32,
         out_count: usize,
-    );
-    pub(crate) fn row_mask_take_8(
+    ) = row_mask_v2_take_4, row_mask_v3_take_4;
+    fn row_mask_take_8(
         indices: *const usize,
         indices_count: usize,
         rows: *const u64,
         rows_count: usize,
         out: *mut u64,
         out_count: usize,
-    );
-    pub(crate) fn row_mask_take_16(
+    ) = row_mask_v2_take_8, row_mask_v3_take_8;
+    fn row_mask_take_16(
         indices: *const usize,
         indices_count: usize,
         rows: *const RowMask16,
         rows_count: usize,
         out: *mut RowMask16,
         out_count: usize,
-    );
-    pub(crate) fn row_mask_choose_offsets_4(
+    ) = row_mask_v2_take_16, row_mask_v3_take_16;
+    fn row_mask_choose_offsets_4(
         bytes: *const u8,
         bytes_size: usize,
         offset: usize,
@@ -409,8 +411,8 @@ unsafe extern "C" {
         offsets_count: usize,
         out: *mut u32,
         out_count: usize,
-    ) -> usize;
-    pub(crate) fn row_mask_choose_offsets_8(
+    ) -> usize = row_mask_v2_choose_offsets_4, row_mask_v3_choose_offsets_4;
+    fn row_mask_choose_offsets_8(
         bytes: *const u8,
         bytes_size: usize,
         offset: usize,
@@ -419,24 +421,24 @@ unsafe extern "C" {
         offsets_count: usize,
         out: *mut u64,
         out_count: usize,
-    ) -> usize;
-    pub(crate) fn row_mask_take_offsets_4(
+    ) -> usize = row_mask_v2_choose_offsets_8, row_mask_v3_choose_offsets_8;
+    fn row_mask_take_offsets_4(
         indices: *const usize,
         indices_count: usize,
         offsets: *const u32,
         offsets_count: usize,
         out: *mut u32,
         out_count: usize,
-    ) -> usize;
-    pub(crate) fn row_mask_take_offsets_8(
+    ) -> usize = row_mask_v2_take_offsets_4, row_mask_v3_take_offsets_4;
+    fn row_mask_take_offsets_8(
         indices: *const usize,
         indices_count: usize,
         offsets: *const u64,
         offsets_count: usize,
         out: *mut u64,
         out_count: usize,
-    ) -> usize;
-    pub(crate) fn row_mask_choose_bytes_4(
+    ) -> usize = row_mask_v2_take_offsets_8, row_mask_v3_take_offsets_8;
+    fn row_mask_choose_bytes_4(
         bytes: *const u8,
         bytes_size: usize,
         offset: usize,
@@ -447,8 +449,8 @@ unsafe extern "C" {
         string_bytes_size: usize,
         out: *mut u8,
         out_size: usize,
-    ) -> usize;
-    pub(crate) fn row_mask_choose_bytes_8(
+    ) -> usize = row_mask_v2_choose_bytes_4, row_mask_v3_choose_bytes_4;
+    fn row_mask_choose_bytes_8(
         bytes: *const u8,
         bytes_size: usize,
         offset: usize,
@@ -459,8 +461,8 @@ unsafe extern "C" {
         string_bytes_size: usize,
         out: *mut u8,
         out_size: usize,
-    ) -> usize;
-    pub(crate) fn row_mask_take_bytes_4(
+    ) -> usize = row_mask_v2_choose_bytes_8, row_mask_v3_choose_bytes_8;
+    fn row_mask_take_bytes_4(
         indices: *const usize,
         indices_count: usize,
         offsets: *const u32,
@@ -469,8 +471,8 @@ unsafe extern "C" {
         string_bytes_size: usize,
         out: *mut u8,
         out_size: usize,
-    ) -> usize;
-    pub(crate) fn row_mask_take_bytes_8(
+    ) -> usize = row_mask_v2_take_bytes_4, row_mask_v3_take_bytes_4;
+    fn row_mask_take_bytes_8(
         indices: *const usize,
         indices_count: usize,
         offsets: *const u64,
@@ -479,5 +481,5 @@ unsafe extern "C" {
         string_bytes_size: usize,
         out: *mut u8,
         out_size: usize,
-    ) -> usize;
+    ) -> usize = row_mask_v2_take_bytes_8, row_mask_v3_take_bytes_8;
 }

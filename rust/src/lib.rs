@@ -2,16 +2,23 @@
 
 #[cfg(not(any(doc, row_mask_library)))]
 compile_error!(
-    "row-mask has its loops compiled for x86-64 Linux alone: for another target, set ROW_MASK_LIB to a \
-     folder that has libmask_c.a"
+    "row-mask has its loops compiled for Linux on x86-64 and ARM of 64 bits alone: for another target, \
+     set ROW_MASK_LIB to a folder that has libmask_c.a"
 );
 
-#[cfg(all(row_mask_library, not(doc), not(target_pointer_width = "64")))]
-compile_error!("the loops are compiled for machines of 64 bits");
+#[cfg(all(
+    row_mask_library,
+    not(doc),
+    not(all(target_pointer_width = "64", target_endian = "little"))
+))]
+compile_error!(
+    "the loops are compiled for machines of 64 bits whose words begin with the lowest byte"
+);
 
 mod bitmap;
 mod buf;
 mod declared;
+mod dispatch;
 mod error;
 mod row;
 mod selection;
