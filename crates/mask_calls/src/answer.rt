@@ -1,6 +1,6 @@
 //! What calls answer.
 
-use crate::builder::Built;
+use crate::built::Built;
 use crate::fault::Fault;
 use mask_bits::{BitBuffer, BitChunks, BitIterator, SetIndices, SetSlices};
 use std::alloc::AllocError;

@@ -1,15 +1,13 @@
 //! Calls of builders.
 
 use crate::answer::{Answer, Told};
+use crate::built::{Built, NO_BUILDER};
 use crate::fault::Fault;
 use crate::lines::calls;
 use crate::packed;
-use crate::text::Text;
 use crate::words::{Words, halves, number, pair};
-use crate::written::write_buffer;
 use mask_bits::{BitBuffer, BitBufferMut};
-use std::alloc::{AllocError, Global};
-use std::mem;
+use std::alloc::Global;
 
 /// The call of a builder.
 pub(crate) fn of<'a>(name: &str, operands: Option<(Global, &'a mut BuilderCall)>) -> Told<'a> {
@@ -20,59 +18,6 @@ pub(crate) fn of<'a>(name: &str, operands: Option<(Global, &'a mut BuilderCall)>
 
 // No list of a test is longer.
 const LONGEST: usize = 10_000_000;
-
-const NO_BUILDER: Fault = Fault::Unmet("a builder that is there");
-
-/// A builder, or its buffer.
-#[derive(Drop)]
-pub enum Built {
-    /// Neither is there.
-    Nothing,
-    /// The builder.
-    Builder(BitBufferMut),
-    /// The buffer.
-    Frozen(BitBuffer),
-}
-
-impl Built {
-    fn start(&mut self, made: Result<BitBufferMut, AllocError>) -> Result<(), Fault> {
-        *self = Built::Builder(made?);
-        Ok(())
-    }
-
-    // A builder is gone where its buffer is refused.
-    fn freeze(&mut self) -> Result<(), Fault> {
-        match mem::replace(self, Built::Nothing) {
-            Built::Builder(builder) => {
-                *self = Built::Frozen(frozen(builder)?);
-                Ok(())
-            }
-            _ => Err(NO_BUILDER),
-        }
-    }
-}
-
-// The buffer, which has the length that the builder said.
-fn frozen(builder: BitBufferMut) -> Result<BitBuffer, Fault> {
-    let len = builder.len();
-    match builder.freeze() {
-        Ok(buffer) if buffer.len() == len => Ok(buffer),
-        Ok(_) => Err(Fault::Unmet("a buffer as long as its builder")),
-        Err(_) => Err(Fault::Memory),
-    }
-}
-
-/// Writes the list of a buffer, and freezes a builder for that.
-pub(crate) fn write_built(text: &mut Text, built: &mut Built) {
-    if matches!(built, Built::Builder(_)) {
-        if let Err(fault) = built.freeze() {
-            fault.write(text);
-        }
-    }
-    if let Built::Frozen(buffer) = built {
-        write_buffer(text, buffer);
-    }
-}
 
 // What is done to a builder.
 #[derive(Drop)]

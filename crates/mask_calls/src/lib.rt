@@ -5,6 +5,7 @@
 mod answer;
 mod bits;
 mod builder;
+mod built;
 mod call;
 mod deposits;
 mod fault;

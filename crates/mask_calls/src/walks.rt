@@ -1,9 +1,28 @@
-//! What walks yield, as text.
+//! Buffers, and what walks yield, as text.
 
 use crate::text::{Detail, Text};
-use crate::written::write_buffer;
 use mask_bits::{BitBuffer, BitChunks, BitIterator, SetIndices, SetSlices};
 use vortex_mask::{MaskBoolIter, MaskSetIndices, MaskSetSlices};
+
+/// Writes the list of a buffer, or of a long one its length and how many values are true.
+pub fn write_buffer(text: &mut Text, buffer: &BitBuffer) {
+    if text.cuts(buffer.len()) {
+        text.put_pair(buffer.true_count(), " of ", buffer.len());
+    } else if buffer.is_empty() {
+        text.put("-");
+    } else {
+        write_bits(text, buffer);
+    }
+}
+
+// Word by word.
+pub(crate) fn write_bits(text: &mut Text, buffer: &BitBuffer) {
+    let mut left = buffer.len();
+    for word in buffer.chunks().iter_padded() {
+        text.put_bits(word, left.min(64));
+        left = left.saturating_sub(64);
+    }
+}
 
 /// Writes the list of a buffer, and where more than lists is told the bit offset that it stands at, and the bytes, the
 /// first sixteen of them.

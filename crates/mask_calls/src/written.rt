@@ -1,9 +1,9 @@
 //! How a row says what a call answers.
 
 use crate::answer::Answer;
-use crate::builder::write_built;
+use crate::built::write_built;
 use crate::text::{Detail, Text};
-use crate::walks;
+use crate::walks::{self, write_bits, write_buffer};
 use mask_bits::BitBuffer;
 use vortex_mask::intersect_by_rank::Steps;
 use vortex_mask::{AllOr, Mask, MaskIter, MaskValues};
@@ -210,26 +210,6 @@ fn write_masks(text: &mut Text, masks: &[Mask]) {
     for mask in masks {
         text.put(" ");
         write_mask(text, mask);
-    }
-}
-
-/// Writes the list of a buffer, or of a long one its length and how many values are true.
-pub fn write_buffer(text: &mut Text, buffer: &BitBuffer) {
-    if text.cuts(buffer.len()) {
-        text.put_pair(buffer.true_count(), " of ", buffer.len());
-    } else if buffer.is_empty() {
-        text.put("-");
-    } else {
-        write_bits(text, buffer);
-    }
-}
-
-// Word by word.
-fn write_bits(text: &mut Text, buffer: &BitBuffer) {
-    let mut left = buffer.len();
-    for word in buffer.chunks().iter_padded() {
-        text.put_bits(word, left.min(64));
-        left = left.saturating_sub(64);
     }
 }
 

@@ -1,0 +1,61 @@
+//! A builder, and the buffer that it makes.
+
+use crate::fault::Fault;
+use crate::text::Text;
+use crate::walks::write_buffer;
+use mask_bits::{BitBuffer, BitBufferMut};
+use std::alloc::AllocError;
+use std::mem;
+
+pub(crate) const NO_BUILDER: Fault = Fault::Unmet("a builder that is there");
+
+/// A builder, or its buffer.
+#[derive(Drop)]
+pub enum Built {
+    /// Neither is there.
+    Nothing,
+    /// The builder.
+    Builder(BitBufferMut),
+    /// The buffer.
+    Frozen(BitBuffer),
+}
+
+impl Built {
+    pub(crate) fn start(&mut self, made: Result<BitBufferMut, AllocError>) -> Result<(), Fault> {
+        *self = Built::Builder(made?);
+        Ok(())
+    }
+
+    /// Makes the buffer. The builder is gone where that is refused.
+    pub(crate) fn freeze(&mut self) -> Result<(), Fault> {
+        match mem::replace(self, Built::Nothing) {
+            Built::Builder(builder) => {
+                *self = Built::Frozen(frozen(builder)?);
+                Ok(())
+            }
+            _ => Err(NO_BUILDER),
+        }
+    }
+}
+
+// The buffer, which has the length that the builder said.
+fn frozen(builder: BitBufferMut) -> Result<BitBuffer, Fault> {
+    let len = builder.len();
+    match builder.freeze() {
+        Ok(buffer) if buffer.len() == len => Ok(buffer),
+        Ok(_) => Err(Fault::Unmet("a buffer as long as its builder")),
+        Err(_) => Err(Fault::Memory),
+    }
+}
+
+/// Writes the list of a buffer, and freezes a builder for that.
+pub(crate) fn write_built(text: &mut Text, built: &mut Built) {
+    if matches!(built, Built::Builder(_)) {
+        if let Err(fault) = built.freeze() {
+            fault.write(text);
+        }
+    }
+    if let Built::Frozen(buffer) = built {
+        write_buffer(text, buffer);
+    }
+}
