@@ -1,4 +1,5 @@
 -- Ranges of indices, and the maximal ones. A range is a pair: its first index, and the index past its last.
+-- `RunScan` has `runs`, the list of the maximal ones.
 use Rattle.std.specs.Prelude.{ℕ, ◌≡◌, ◌<◌, ◌≤◌, ◌&&◌, Bool, false, List, length, All, nat_lt, nat_le, slice_index_or}
 use Rattle.std.specs.List.{AllAdjacentBelow, list_any}
 

@@ -1,7 +1,7 @@
 //! The bits of one word at the set places of another.
 //!
-//! One or two bits are taken by tests, and a few more one after another. More of them are gathered by bytes, of two
-//! words at once, as `two_words` draws it.
+//! At most two bits are taken without a branch, and a few more one after another. More of them are gathered by bytes,
+//! of two words at once, as `two_words` draws it.
 
 ghost use Rattle.std.specs.Prelude.{ℕ, ◌≡◌, ◌≤◌, ◌/◌, ◌%◌, ◌^◌, slice_index};
 ghost use Rattle.mask_bits.specs.Extract.{Extracts};

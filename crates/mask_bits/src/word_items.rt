@@ -1,5 +1,5 @@
-//! What the set bits of a word yield, put into room that was made for it: one after another, several at a
-//! time, or byte by byte.
+//! What the set bits of a word yield, put into room that was made for it: one after another, or several at a
+//! time.
 //!
 //! All is inlined into the call that makes the list: so its length and the place of its room stay in
 //! registers.

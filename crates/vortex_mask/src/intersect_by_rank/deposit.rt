@@ -118,7 +118,7 @@ impl DepositBits for PortableLoop {
 }
 
 // A word has fewer than four true values on the average then. The loop over these is quicker than the
-// network, which takes the same time at every word.
+// network and the tables, which take the same time at every word.
 const VALUES_PER_TRUE_BY_LOOP: u64 = 16;
 
 /// Whether a word kernel over `len` values, of which `true_count` are true, deposits by `PortableLoop`:

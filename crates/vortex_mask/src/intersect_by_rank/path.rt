@@ -1,12 +1,5 @@
-//! Which kernel narrows two masks of mixed values.
-//!
-//! | The first test that holds | Path |
-//! |---|---|
-//! | both lists of true indices are cached, and there are fewer ranks than started words | `Indices` |
-//! | fewer than one row in 64 is true | `Indices` |
-//! | fewer than one value of the rank mask in 32 is true | `MaskDriven` |
-//! | the list of ranks is not cached, or more than one value in four is true | `BitBuffers` |
-//! | none | `RankIndices` |
+//! Which kernel narrows two masks of mixed values. The crate's `README.md` has the tests in a table, with the
+//! reason of each.
 
 ghost use Rattle.std.specs.Prelude.{◌≡◌, ◌*◌, Bool, List, length, is_some};
 ghost use Rattle.mask_bits.specs.Buffer.{values};
@@ -38,8 +31,8 @@ const ROWS_PER_TRUE_BY_INDICES: u64 = 64;
 // there they cost as much as to count and deposit each word. Fewer ranks are found one by one.
 const VALUES_PER_RANK_BY_SELECTION: u64 = 32;
 
-// A list of ranks has to be turned into bits, one by one. Above one rank in four values that
-// takes longer than to read the rank mask's bits as they are.
+// A list of ranks has to be turned into bits. Above one rank in four values that takes longer than
+// to read the rank mask's bits as they are.
 const VALUES_PER_RANK_BY_BITS: u64 = 4;
 
 // What the choice of a path goes by, of one mask: how many values it has, how many of them are

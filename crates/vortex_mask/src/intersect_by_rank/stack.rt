@@ -1,5 +1,4 @@
-//! A stack of masks as one, from the last mask down: each mask is passed over once, where the fold from the first
-//! one up goes over the first one's length at each.
+//! A stack of masks as one, from the last mask down. `docs/DECISIONS.md` says why, and where a fold goes up.
 
 ghost use Rattle.std.specs.Prelude.{◌≡◌, ◌∷◌, ◌<◌, ◌↔◌, IsTrue, IsSomeAnd, All, IfOk, IsOkUnless, alloc_error, length, map, Some, is_some};
 ghost use Rattle.vortex_mask.specs.Caches.{caches};
