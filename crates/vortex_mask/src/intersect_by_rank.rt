@@ -128,6 +128,7 @@ impl Mask {
         ensures refused { IsOkUnless result (MaskError.Memory alloc_error) }
     {
         mask_bits::laws::folds();
+        // `docs/DECISIONS.md` says from which end a stack is folded, and why
         if let Mask::Values(values) = self {
             if masks.len() > 1 && all_choose(masks) && !begins_by_lists(values, masks) {
                 return fold_down_as_up(alloc, self, values, masks);
