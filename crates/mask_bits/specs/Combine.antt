@@ -1,4 +1,4 @@
--- What the loops over the words of two lists have made or found, bit by bit.
+-- What the loops over the words of two lists have made or found, bit by bit, and which words they can read.
 use Rattle.std.specs.Prelude.{ℕ, ◌+◌, ◌*◌, ◌<◌, ◌≤◌, ◌≡◌, ◌⊎◌, ◌^◌, Bool, false, List, length}
 use Rattle.mask_bits.specs.Buffer.{backing_bit}
 

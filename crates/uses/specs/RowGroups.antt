@@ -1,4 +1,4 @@
--- Rows in groups of one size, of which the last may have fewer.
+-- Groups of rows of one size, of which the last may have fewer: whether a row is chosen, and how many are null.
 use Rattle.std.specs.Prelude.{ℕ, ◌-◌, ◌*◌, Bool, List, length, min, nat_lt}
 use Rattle.mask_bits.specs.Lists.{group}
 use Rattle.mask_bits.specs.Positions.{count}

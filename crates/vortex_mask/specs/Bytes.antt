@@ -1,4 +1,4 @@
--- The byte-wise deposit network, one byte at a time: what each step computes, and what stands where after it.
+-- Deposits by the network and by tables of nibbles, one byte at a time: what each step computes, and what stands where after it.
 use Rattle.std.specs.Prelude.{ℕ, List, slice_index, length, ◌≡◌, ◌<◌, ◌+◌, ◌-◌, ◌*◌, ◌/◌, ◌%◌, ◌^◌, nat_eq, if◌then◌else◌, bit_and, bit_or, bit_xor, sum_by}
 use Rattle.std.specs.Int.{bit_at}
 use Rattle.std.specs.List.{range_with_len}

@@ -1,4 +1,4 @@
--- Ranges of indices, as a pair each: the first index, and the index past the last.
+-- How many rows ranges hold.
 use Rattle.std.specs.Prelude.{ℕ, ◌-◌, List}
 use Rattle.std.specs.List.{sum_by}
 

@@ -1,4 +1,4 @@
--- Ranks: numbers of true values, ascending. What an iterator of them yields, and where a walk over them stands.
+-- Ranks: numbers of true values, ascending. What an iterator of them yields, where a walk over them stands, and their bits.
 use Rattle.std.specs.Prelude.{ℕ, ◌≡◌, ◌+◌, ◌-◌, ◌*◌, ◌<◌, ◌≤◌, ◌^◌, Bool, true, false, nat_eq, Option, List, length, map, slice_index, slice_index_or, count_ones, All, take}
 use Rattle.std.specs.Iterator.Runs.{Run}
 use Rattle.std.specs.List.{list_any, range_with_len}
