@@ -1,9 +1,9 @@
 -- Values written behind those of a bitmap: up to the end of their byte, and from the next byte on.
 use Rattle.std.proofs.lemmas.Grind.{common_steps}
-use Rattle.std.proofs.Common.{◌≡◌, ℕ, nat_eq, set, ◌^◌, ◌+◌, ◌-◌, ◌*◌, ◌/◌, ◌%◌, ◌<◌, ◌≤◌, ◌⊎◌, Bool, false, List, ◌++◌, append-nil, length, get_or, take, drop, min, sym, ap, ap₂, ◌∙◌, inl, inr, arith}
+use Rattle.std.proofs.Common.{◌≡◌, ℕ, nat_eq, set, ◌^◌, ◌+◌, ◌-◌, ◌*◌, ◌/◌, ◌%◌, ◌<◌, ◌≤◌, Bool, false, List, ◌++◌, append-nil, length, get_or, take, drop, sym, ap, ap₂, ◌∙◌, inl, inr, arith}
 use Rattle.std.specs.Int.{bit_at, div_ceil}
 use Rattle.std.specs.Int.RustNames.{bit_and, bit_or}
-use Rattle.std.proofs.lemmas.Bool.{cases_eq, cases_lt}
+use Rattle.std.proofs.lemmas.Bool.{cases_eq}
 use Rattle.std.proofs.lemmas.Grind.{get_or-set_at}
 use Rattle.std.proofs.lemmas.List.{drop_at, drop-drop, nil_from_length, ext_get_or, get_or-set_other, length-drop, length-take-le}
 use Rattle.std.proofs.lemmas.Nat.{one_shl}
@@ -11,9 +11,10 @@ use Rattle.std.proofs.lemmas.Nat.Bits.{bit_at_or}
 use Rattle.mask_bits.specs.Bitmap.{bitmap}
 use Rattle.mask_bits.specs.Buffer.{backing_bit}
 use Rattle.mask_bits.specs.Words.{window, word_bits}
-use Rattle.mask_bits.proofs.Lists.Words.BackingBitLemmas.{bit-window, bitmap-append, bitmap-drop, length-bitmap, get_or-bitmap, no_values}
-use Rattle.mask_bits.proofs.Lists.Words.FrontLemmas.{front-same}
+use Rattle.mask_bits.proofs.Lists.Words.BackingBitLemmas.{bit-window, bitmap-append, bitmap-drop, length-bitmap, get_or-bitmap}
+use Rattle.mask_bits.proofs.Lists.Words.FrontLemmas.{front-same, get_or-put_mid_inside}
 use Rattle.mask_bits.proofs.Lists.Words.ShiftLemmas.{bit_at-low_mask, bit_at-past_mask, bit_at-mod, bit_at-shl_low, bit_at-shl_high}
+use Rattle.mask_c.specs.Bitmap.{AreClearBehind}
 use Rattle.mask_c.proofs.LastLemmas.{front-appended, front-taken}
 use borrow.Rule.Slice.PartMut.{put_mid}
 
@@ -70,46 +71,40 @@ filled-values bytes more len offset n word x part few inside read kept put =
 put_from : (xs ys : List ℕ) (k : ℕ) → length ys ≡ length xs - k → put_mid k (length xs - k) xs ys ≡ take k xs ++ ys
 put_from xs ys k len = grind (arith, common_steps, nil_from_length, length-drop, append-nil)
 
--- bytes ys from byte k of xs on are put behind n values, which end there, or there are none of r more
-pub record ArePut (xs ys : List ℕ) (k n r : ℕ) : Type 0 where
+-- bytes ys from byte k of xs on are put behind n values, which end there
+pub record ArePut (xs ys : List ℕ) (k n : ℕ) : Type 0 where
   pub room : k ≤ length xs
   pub len : length ys ≡ length xs - k
-  pub end : k ≡ div_ceil n 8
-  pub either : (n ≡ 8 * k) ⊎ (r ≡ 0)
+  pub full : n ≡ 8 * k
 
--- the values before them, and theirs: these go on where the byte before is full
-pub appended-values : (xs ys : List ℕ) (k n r : ℕ) (m more : List Bool) → ArePut xs ys k n r → bitmap xs 0 n ≡ m → bitmap ys 0 r ≡ more → bitmap (put_mid k (length xs - k) xs ys) 0 (n + r) ≡ m ++ more
+-- the values before them, and theirs
+pub appended-values : (xs ys : List ℕ) (k n r : ℕ) (m more : List Bool) → ArePut xs ys k n → bitmap xs 0 n ≡ m → bitmap ys 0 r ≡ more → bitmap (put_mid k (length xs - k) xs ys) 0 (n + r) ≡ m ++ more
 appended-values xs ys k n r m more put first second =
     let front : List ℕ = take k xs in
     let new : List ℕ = front ++ ys in
     let len : length front ≡ k = length-take-le k xs put.room in
-    let behind : bitmap new (0 + n) r ≡ bitmap ys 0 r = elim put.either [
-      | inl full ↦
-          let place : 0 + n ≡ 8 * k = omega arith in
-          ap (λ p. bitmap new p r) place ∙ sym (bitmap-drop new k r) ∙ ap (λ (us : List ℕ). bitmap us 0 r) (drop_at front ys k len)
-      | inr none ↦ ap (bitmap new (0 + n)) none ∙ no_values new (0 + n) ∙ sym (ap (bitmap ys 0) none ∙ no_values ys 0)
-    ] in
+    let place : 0 + n ≡ 8 * k = omega (arith, put.full) in
     ap (λ (us : List ℕ). bitmap us 0 (n + r)) (put_from xs ys k put.len)
     ∙ bitmap-append new 0 n r
-    ∙ ap₂ (λ (us vs : List Bool). us ++ vs) (front-appended front ys n (omega (arith, len, put.end)) ∙ front-taken xs k n (omega (arith, put.end)) ∙ first) (behind ∙ second)
+    ∙ ap₂ (λ (us vs : List Bool). us ++ vs) (front-appended front ys n (omega (arith, len, put.full)) ∙ front-taken xs k n (omega (arith, put.full)) ∙ first)
+    (ap (λ p. bitmap new p r) place ∙ sym (bitmap-drop new k r) ∙ ap (λ (us : List ℕ). bitmap us 0 r) (drop_at front ys k len) ∙ second)
+
+-- the bits behind them
+pub appended-clear : (xs ys : List ℕ) (k n r : ℕ) → ArePut xs ys k n → 0 < r → div_ceil r 8 ≤ length ys → AreClearBehind ys r → AreClearBehind (put_mid k (length xs - k) xs ys) (n + r)
+appended-clear xs ys k n r put some covers second = λ p from to.
+    let byte : p / 8 ≡ k + (p - 8 * k) / 8 = omega (arith, put.full) in
+    let bit : p % 8 ≡ (p - 8 * k) % 8 = omega (arith, put.full) in
+    ap₂ (λ i j. nat_eq (bit_at (get_or (put_mid k (length xs - k) xs ys) i 0) j) 1) byte bit
+    ∙ ap (λ x. nat_eq (bit_at x ((p - 8 * k) % 8)) 1) (get_or-put_mid_inside k (length xs) xs ys ((p - 8 * k) / 8) put.room put.len (omega (arith, put.full, put.len)))
+    ∙ second (p - 8 * k) (omega (arith, put.full)) (omega (arith, put.full))
 
 -- and the bytes behind them
-pub appended-behind : (old xs ys rest : List ℕ) (k n r : ℕ) → ArePut xs ys k n r → rest ≡ drop k xs → drop k xs ≡ drop k old → drop (div_ceil r 8) ys ≡ drop (div_ceil r 8) rest
+pub appended-behind : (old xs ys rest : List ℕ) (k n r : ℕ) → ArePut xs ys k n → rest ≡ drop k xs → drop k xs ≡ drop k old → drop (div_ceil r 8) ys ≡ drop (div_ceil r 8) rest
     → drop (div_ceil (n + r) 8) (put_mid k (length xs - k) xs ys) ≡ drop (div_ceil (n + r) 8) old
 appended-behind old xs ys rest k n r put is same behind =
     let d : ℕ = div_ceil r 8 in
     let new : List ℕ = take k xs ++ ys in
-    let at : div_ceil (n + r) 8 ≡ k + d = elim put.either [
-      | inl full ↦ omega arith
-      | inr none ↦ omega (arith, put.end)
-    ] in
+    let at : div_ceil (n + r) 8 ≡ k + d = omega (arith, put.full) in
     ap₂ (λ (i : ℕ) (us : List ℕ). drop i us) at (put_from xs ys k put.len)
     ∙ sym (drop-drop d k new) ∙ ap (drop d) (drop_at (take k xs) ys k (length-take-le k xs put.room))
     ∙ behind ∙ ap (λ (us : List ℕ). drop d us) (is ∙ same) ∙ drop-drop d k old ∙ ap (λ (i : ℕ). drop i old) (sym at)
-
--- where the byte before isn't full, there are no more
-pub full_or_none : (len n k filled : ℕ) → k ≡ div_ceil len 8 → filled ≡ min n (8 * k - len) → ((len + filled ≡ 8 * k) ⊎ (n - filled ≡ 0))
-full_or_none len n k filled end is = grind (arith, common_steps, cases_lt)
-
-pub same_end : (len n filled : ℕ) → filled ≡ min n (8 * div_ceil len 8 - len) → div_ceil len 8 ≡ div_ceil (len + filled) 8
-same_end len n filled is = omega arith

@@ -6,7 +6,7 @@ use Rattle.std.specs.Int.RustNames.{bit_and}
 use Rattle.std.proofs.Math.Seq.{drop-append_seam}
 use Rattle.std.proofs.lemmas.Bool.{cases_eq}
 use Rattle.std.proofs.lemmas.Grind.{get_or-set_at}
-use Rattle.std.proofs.lemmas.List.{get_or-set_other, get_or-take, get_or_append_left, length-append, length-drop, length-take, length-take-le, take-append-drop, take_at}
+use Rattle.std.proofs.lemmas.List.{get_or-set_other, get_or-take, get_or_append_left, get_or_past, length-append, length-drop, length-take, length-take-le, take-append-drop, take_at}
 use Rattle.std.proofs.lemmas.Nat.{one_shl}
 use Rattle.std.proofs.lemmas.Nat.Bits.{bit_at-zero}
 use Rattle.mask_bits.specs.Bitmap.{bitmap}
@@ -16,7 +16,7 @@ use Rattle.mask_bits.specs.Lists.{combined}
 use Rattle.mask_bits.specs.Positions.{count, count_below, rank_intersection, repeated}
 use Rattle.mask_bits.specs.Words.{padded_part, padded_remainder, window, word_bits}
 use Rattle.mask_bits.proofs.Lists.BooleanLemmas.{combined-append, combined-take}
-use Rattle.mask_bits.proofs.Lists.CountLemmas.{all_true_from_count, count-append, count-repeated_false}
+use Rattle.mask_bits.proofs.Lists.CountLemmas.{all_true_from_count, count-append, count-repeated_false, get_or-padded}
 use Rattle.mask_bits.proofs.Lists.Places.PlaceLemmas.{trues, count-le-length, count-trues}
 use Rattle.mask_bits.proofs.Lists.LawLemmas.{length-rank_intersection, rank_intersection_value}
 use Rattle.mask_bits.proofs.Lists.Words.PaddedLemmas.{get_or-padded_part, padded_part_from_values}
@@ -24,7 +24,7 @@ use Rattle.mask_bits.proofs.Lists.Words.ShiftLemmas.{bit_at-low_mask, bit_at-pas
 use Rattle.mask_bits.proofs.Lists.Words.WordLemmas.{get_or-word_bits, length-word_bits}
 use Rattle.mask_bits.proofs.Lists.RankLemmas.{narrow, rank_intersection-all_true, rank_intersection-narrow}
 use Rattle.mask_bits.proofs.Lists.Words.BackingBitLemmas.{bitmap-append, bitmap-drop, front-split, length-bitmap}
-use Rattle.mask_bits.proofs.Lists.Words.FrontLemmas.{length-window, front-same, get_or-window, put-before, window_from_bits, window-take}
+use Rattle.mask_bits.proofs.Lists.Words.FrontLemmas.{length-window, front-same, get_or-put_mid_inside, get_or-window, put-before, window_from_bits, window-take}
 use Rattle.mask_c.specs.Bitmap.{AreClearBehind}
 use borrow.Rule.Slice.PartMut.{put_mid}
 
@@ -71,6 +71,33 @@ put-values old last ys word n e begins len end is shows =
     ∙ front-appended ys (drop k (drop (8 * w) old)) rest (omega (arith, ap length is, length-take k last))
     ∙ ap (λ (us : List ℕ). bitmap us 0 rest) is ∙ front-taken last k rest (omega arith)
     ∙ sym (window-take last 0 rest (omega arith)) ∙ ap (take rest) shows)
+
+-- the same where the word was cut to these values
+pub put-cut : (old last ys : List ℕ) (word low n e : ℕ) → 8 * (n / 64) ≤ length old → length last ≡ 8 → e ≡ div_ceil n 8 → ys ≡ take (e - 8 * (n / 64)) last
+    → window last 0 ≡ word_bits low → word_bits low ≡ take (n % 64) (word_bits word) ++ repeated (64 - n % 64) false
+    → bitmap (put_mid (8 * (n / 64)) (e - 8 * (n / 64)) old ys) 0 n ≡ values_so_far old word n
+put-cut old last ys word low n e begins len end is shows cut =
+    let m : List Bool = take (n % 64) (word_bits word) in
+    put-values old last ys low n e begins len end is shows
+    ∙ ap (λ (us : List Bool). bitmap old 0 (64 * (n / 64)) ++ us) (ap (take (n % 64)) cut ∙ take_at m (repeated (64 - n % 64) false) (n % 64) (omega (arith, length-take (n % 64) (word_bits word), length-word_bits word)))
+
+-- then the bits behind them are clear
+pub put-clear : (old last ys : List ℕ) (word low n e : ℕ) → 8 * (n / 64) ≤ length old → length last ≡ 8 → e ≡ div_ceil n 8 → ys ≡ take (e - 8 * (n / 64)) last
+    → window last 0 ≡ word_bits low → word_bits low ≡ take (n % 64) (word_bits word) ++ repeated (64 - n % 64) false
+    → AreClearBehind (put_mid (8 * (n / 64)) (e - 8 * (n / 64)) old ys) n
+put-clear old last ys word low n e begins len end is shows cut = λ p from to.
+    let w : ℕ = n / 64 in
+    let j : ℕ = p - 64 * w in
+    let at : p / 8 ≡ 8 * w + j / 8 = omega arith in
+    let bit : p % 8 ≡ j % 8 = omega arith in
+    let place : j ≡ 0 + j = omega arith in
+    let byte : get_or (put_mid (8 * w) (e - 8 * w) old ys) (p / 8) 0 ≡ get_or last (j / 8) 0
+    = ap (λ k. get_or (put_mid (8 * w) (e - 8 * w) old ys) k 0) at
+    ∙ get_or-put_mid_inside (8 * w) e old ys (j / 8) begins (omega (arith, ap length is, length-take (e - 8 * w) last)) (omega arith)
+    ∙ ap (λ (us : List ℕ). get_or us (j / 8) 0) is ∙ get_or-take (e - 8 * w) last (j / 8) 0 (omega arith) in
+    ap₂ (λ x k. nat_eq (bit_at x k) 1) byte bit ∙ ap (backing_bit last) place ∙ sym (get_or-window last 0 j false (omega arith))
+    ∙ ap (λ (us : List Bool). get_or us j false) (shows ∙ cut) ∙ get_or-padded (take (n % 64) (word_bits word)) (64 - n % 64) j
+    ∙ get_or_past (take (n % 64) (word_bits word)) j false (omega (arith, length-take (n % 64) (word_bits word)))
 
 -- ---- the bits behind the last value cleared
 

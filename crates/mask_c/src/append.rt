@@ -32,13 +32,16 @@ pub extern "C" fn row_mask_append(
         ≡ drop (div_ceil (len + more_len) 8) bytes.old }
 {
     let filled = fill_last(bytes, len, more, more_offset, more_len);
+    if filled == more_len {
+        clear_behind(bytes, len + more_len);
+        return;
+    }
     row_mask_copy(
         more,
         more_offset + filled,
         more_len - filled,
         &mut bytes[len.div_ceil(8)..],
     );
-    clear_behind(bytes, len + more_len);
 }
 
 // Fills up the byte that the last value is in: with the first values of `more`, as many as there are or

@@ -6,7 +6,7 @@ ghost use Rattle.mask_bits.specs.Bitmap.{bitmap};
 ghost use Rattle.mask_bits.specs.ChosenBits.{values_so_far};
 ghost use Rattle.mask_c.specs.Bitmap.{AreClearBehind};
 
-use mask_bits::words::set_word;
+use mask_bits::words::{low_bits, set_word};
 
 // Writes the values of a bitmap of `len` that are behind its whole words: the lowest bits of `word`, with
 // zeros up to the end of the last byte that they take, and nothing else.
@@ -17,11 +17,13 @@ pub(crate) fn put_last(out: &mut [u8], word: u64, len: usize)
     ensures behind { (old : List ℕ) → drop (8 * (len / 64)) out.old ≡ drop (8 * (len / 64)) old
         → drop (div_ceil len 8) out.new ≡ drop (div_ceil len 8) old }
 {
+    if len % 64 == 0 {
+        return;
+    }
     let mut last = [0u8; 8];
-    set_word(&mut last, 0, word);
+    set_word(&mut last, 0, low_bits(word, len % 64));
     let (begin, end) = (8 * (len / 64), len.div_ceil(8));
     out[begin..end].copy_from_slice(&last[..end - begin]);
-    clear_behind(out, len);
 }
 
 // Clears the bits behind the first `len` in their last byte.
