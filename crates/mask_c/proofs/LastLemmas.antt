@@ -142,16 +142,17 @@ pub written : (xs ys : List Bool) (front more : List ℕ) (word n : ℕ) → 64 
     → values_so_far (front ++ more) word n ≡ xs ++ ys
 written xs ys front more word n covers list last = ap₂ (λ (us vs : List Bool). us ++ vs) (front-appended front more (64 * (n / 64)) covers ∙ list) last
 
--- two lists combined
-pub written-combined : (f : Bool → Bool → Bool) (a b : List Bool) (front more : List ℕ) (word n : ℕ) → length a ≡ n → length b ≡ n → 64 * (n / 64) ≤ 8 * length front
-    → bitmap front 0 (64 * (n / 64)) ≡ combined f (take (64 * (n / 64)) a) (take (64 * (n / 64)) b) → word_bits word ≡ combined f (padded_remainder a) (padded_remainder b)
-    → values_so_far (front ++ more) word n ≡ combined f a b
-written-combined f a b front more word n len_a len_b covers list last =
+-- two bitmaps combined
+pub written-combined : (f : Bool → Bool → Bool) (a b : List ℕ) (p q : ℕ) (front more : List ℕ) (word n : ℕ) → 64 * (n / 64) ≤ 8 * length front
+    → bitmap front 0 (64 * (n / 64)) ≡ combined f (bitmap a p (64 * (n / 64))) (bitmap b q (64 * (n / 64)))
+    → take (n % 64) (word_bits word) ≡ combined f (bitmap a (p + 64 * (n / 64)) (n % 64)) (bitmap b (q + 64 * (n / 64)) (n % 64))
+    → values_so_far (front ++ more) word n ≡ combined f (bitmap a p n) (bitmap b q n)
+written-combined f a b p q front more word n covers list last =
     let w : ℕ = 64 * (n / 64) in
-    written _ _ front more word n covers list
-    (ap (take (n % 64)) last ∙ combined-take f (n % 64) (padded_remainder a) (padded_remainder b) ∙ ap₂ (combined f) (remainder-take a n len_a) (remainder-take b n len_b))
-    ∙ sym (combined-append f (take w a) (take w b) (drop w a) (drop w b) (length-take w a ∙ ap (min w) (len_a ∙ sym len_b) ∙ sym (length-take w b)))
-    ∙ ap₂ (combined f) (take-append-drop w a) (take-append-drop w b)
+    let parts : w + n % 64 ≡ n = omega arith in
+    written _ _ front more word n covers list last
+    ∙ sym (combined-append f (bitmap a p w) (bitmap b q w) (bitmap a (p + w) (n % 64)) (bitmap b (q + w) (n % 64)) (length-bitmap a p w ∙ sym (length-bitmap b q w)))
+    ∙ ap₂ (combined f) (sym (bitmap-append a p w (n % 64)) ∙ ap (bitmap a p) parts) (sym (bitmap-append b q w (n % 64)) ∙ ap (bitmap b q) parts)
 
 -- the true values past whole words, and those in them
 pub count-remainder : (bytes : List ℕ) (p n : ℕ) → count (bitmap bytes p (64 * (n / 64))) + count (padded_remainder (bitmap bytes p n)) ≡ count (bitmap bytes p n)

@@ -1,15 +1,16 @@
 //! The bitmap that an operation makes of one or two, value by value.
 
-ghost use Rattle.std.specs.Prelude.{◌≡◌, ◌≤◌, drop, length};
+ghost use Rattle.std.specs.Prelude.{◌≡◌, ◌<◌, ◌≤◌, drop, length, take};
 ghost use Rattle.std.specs.Int.{div_ceil};
 ghost use Rattle.mask_bits.specs.Bitmap.{bitmap};
 ghost use Rattle.mask_bits.specs.Buffer.{IsWithinBytes};
 ghost use Rattle.mask_bits.specs.Lists.{and_of, or_of, and_not_of, combined, not_of, xor_of};
+ghost use Rattle.mask_bits.specs.Words.{word_bits};
 ghost use Rattle.mask_c.specs.Bitmap.{AreClearBehind};
 
 use crate::last::put_last;
-use mask_bits::BitChunks;
 use mask_bits::combine::{And, AndNot, BitOp, Not, Or, Xor, combine};
+use mask_bits::words::word_at;
 
 // The first, whatever the second is.
 #[derive(Drop)]
@@ -158,8 +159,23 @@ fn write<C: BitOp>(a: &[u8], a_offset: usize, b: &[u8], b_offset: usize, len: us
     ensures behind { drop (div_ceil len 8) out.new ≡ drop (div_ceil len 8) out.old }
 {
     let whole = len / 64;
-    combine::<C>(a, a_offset, b, b_offset, 64 * whole, &mut out[..8 * whole]);
-    let a = BitChunks::new(a, a_offset, len);
-    let b = BitChunks::new(b, b_offset, len);
-    put_last(out, C::of(a.remainder_bits(), b.remainder_bits()), len);
+    let front = 64 * whole;
+    combine::<C>(a, a_offset, b, b_offset, front, &mut out[..8 * whole]);
+    let last = last_word::<C>(a, a_offset + front, b, b_offset + front, len % 64);
+    put_last(out, last, len);
+}
+
+// A word whose lowest `rest` bits are the values that `C` makes of so many.
+#[inline(always)]
+fn last_word<C: BitOp>(a: &[u8], a_offset: usize, b: &[u8], b_offset: usize, rest: usize) -> u64
+    requires { rest < 64 }
+    ensures { take rest (word_bits result)
+        ≡ combined C.of_bits (bitmap a.now a_offset rest) (bitmap b.now b_offset rest) }
+{
+    // past the last byte nothing is read
+    if rest == 0 {
+        0
+    } else {
+        C::of(word_at(a, a_offset), word_at(b, b_offset))
+    }
 }

@@ -1,0 +1,12 @@
+use Rattle.std.proofs.Common.{arith}
+use Rattle.std.proofs.lemmas.Grind.{common_steps}
+use Rattle.mask_bits.proofs.Lists.BooleanLemmas.{combined-take}
+use Rattle.mask_bits.proofs.Lists.Words.BackingBitLemmas.{no_values}
+use Rattle.mask_bits.proofs.Lists.Words.FrontLemmas.{window-take}
+use Rattle.mask_c.proofs.pointwise.last_word.Goals as goal
+
+pub returns-then-rest-eq0 : goal.returns-then-rest-eq0
+returns-then-rest-eq0 g c = grind (arith, common_steps, no_values)
+
+pub returns-else-rest-eq0 : goal.returns-else-rest-eq0
+returns-else-rest-eq0 g c = grind (arith, common_steps, combined-take, window-take)
