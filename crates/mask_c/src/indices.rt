@@ -4,7 +4,7 @@ ghost use Rattle.std.specs.Prelude.{◌≡◌, ◌-◌, ◌+◌, ◌*◌, ◌<�
 ghost use Rattle.mask_bits.specs.Bitmap.{bitmap};
 ghost use Rattle.mask_bits.specs.Buffer.{IsWithinBytes, backing_bit};
 ghost use Rattle.mask_bits.specs.Positions.{IsFirstFrom, count, indices_from, positions};
-ghost use Rattle.mask_bits.specs.Words.{started_words, word_bits};
+ghost use Rattle.mask_bits.specs.Words.{bits_of_words, started_words, word_bits};
 
 use mask_bits::BitChunks;
 use mask_bits::blocks::{SPARE, block, ones_in, push_block};
@@ -121,12 +121,24 @@ fn indices_of_blocks<R: Room<usize>>(chunks: &BitChunks, from: usize, out: &mut 
         if out.spare() < ones + SPARE {
             return 4 * i;
         }
-        if ones == 0 {
-            continue;
-        }
-        push_block::<false, _>(out, from + 256 * i, &words);
+        put_block(out, from + 256 * i, &words, ones);
     }
     4 * blocks
+}
+
+// Puts those of a block, of whose bits `ones` are set. It is a function of its own, since a loop that goes on
+// to its next turn from two places is compiled as two, and takes longer.
+#[inline(always)]
+fn put_block<R: Room<usize>>(out: &mut R, first: usize, words: &[u64; 4], ones: usize)
+    requires counted { ones ≡ count (bits_of_words words.now) }
+    requires room { length (R.items out.old) + ones ≤ R.capacity (R.kept out.old) }
+    requires fits { first + 256 < 2 ^ 64 }
+    ensures items { R.items out.new ≡ R.items out.old ++ indices_from first (bits_of_words words.now) }
+    ensures kept { R.kept out.new ≡ R.kept out.old }
+{
+    if ones != 0 {
+        push_block::<false, _>(out, first, words);
+    }
 }
 
 // Writes `first` and the indices of the set bits of a word from there on behind the first `at` indices,

@@ -1,17 +1,7 @@
-use Rattle.std.proofs.Common.{◌≤◌, ◌+◌, ◌*◌, length, sym, ◌∙◌, arith}
+use Rattle.std.proofs.Common.{◌≤◌, ◌+◌, ◌*◌, length, ◌∙◌, arith}
 use Rattle.mask_bits.specs.Words.{bits_of_words}
-use Rattle.mask_c.proofs.IndexLemmas.{block_done, block_passed}
+use Rattle.mask_c.proofs.IndexLemmas.{block_done}
 use Rattle.mask_c.proofs.indices.indices_of_blocks.Goals as goal
-
-pub loop-i-preserved-then-ones-eq0 : goal.loop-i-preserved-then-ones-eq0
-loop-i-preserved-then-ones-eq0 g c =
-    let m = c.args.chunks.now in
-    let i = c.loop-i.i in
-    let within : 256 * i + 256 ≤ length m = omega (arith, c.loop-i-test.true, c.len-blocks.ensures) in
-    record {
-      indices = block_passed m (bits_of_words c.block-words.result) c.args.from i _ within c.block-words.ensures (sym c.ones_in-ones.ensures.count ∙ c.if-ones-eq0.true) c.loop-i.invariant.indices;
-      kept = c.loop-i.invariant.kept;
-    }
 
 pub loop-i-preserved : goal.loop-i-preserved
 loop-i-preserved g c =
@@ -19,6 +9,6 @@ loop-i-preserved g c =
     let i = c.loop-i.i in
     let within : 256 * i + 256 ≤ length m = omega (arith, c.loop-i-test.true, c.len-blocks.ensures) in
     record {
-      indices = block_done m (bits_of_words c.block-words.result) c.args.from i _ _ within c.block-words.ensures c.loop-i.invariant.indices c.push_block.ensures.items;
-      kept = c.push_block.ensures.kept ∙ c.loop-i.invariant.kept;
+      indices = block_done m (bits_of_words c.block-words.result) c.args.from i _ _ within c.block-words.ensures c.loop-i.invariant.indices c.put_block.ensures.items;
+      kept = c.put_block.ensures.kept ∙ c.loop-i.invariant.kept;
     }

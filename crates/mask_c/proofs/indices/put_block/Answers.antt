@@ -1,0 +1,6 @@
+use Rattle.std.proofs.Common.{append-nil, arith}
+use Rattle.mask_bits.proofs.Lists.Words.BlockLemmas.{indices-none}
+use Rattle.mask_c.proofs.indices.put_block.Goals as goal
+
+pub returns-else-ones-ne0-clause-items : goal.returns-else-ones-ne0-clause-items
+returns-else-ones-ne0-clause-items g c = grind (arith, append-nil, indices-none)
