@@ -1,6 +1,6 @@
 -- The last values of a bitmap that is written, and the values before them.
 use Rattle.std.proofs.lemmas.Grind.{common_steps}
-use Rattle.std.proofs.Common.{◌≡◌, ℕ, nat_eq, set, ◌^◌, ◌+◌, ◌-◌, ◌*◌, ◌/◌, ◌%◌, ◌<◌, ◌≤◌, ◌&&◌, Bool, true, false, List, [], ◌∷◌, ◌++◌, append-nil, length, get_or, take, drop, min, refl, sym, ap, ap₂, ◌∙◌, arith}
+use Rattle.std.proofs.Common.{◌≡◌, ℕ, nat_eq, set, ◌^◌, ◌+◌, ◌-◌, ◌*◌, ◌/◌, ◌%◌, ◌<◌, ◌≤◌, ◌&&◌, Bool, true, false, List, [], ◌∷◌, ◌++◌, append-nil, length, get_or, take, drop, refl, sym, ap, ap₂, ◌∙◌, arith}
 use Rattle.std.specs.Int.{bit_at, div_ceil}
 use Rattle.std.specs.Int.RustNames.{bit_and}
 use Rattle.std.proofs.Math.Seq.{drop-append_seam}
@@ -15,7 +15,7 @@ use Rattle.mask_bits.specs.ChosenBits.{values_so_far}
 use Rattle.mask_bits.specs.Lists.{combined}
 use Rattle.mask_bits.specs.Positions.{count, count_below, rank_intersection, repeated}
 use Rattle.mask_bits.specs.Words.{padded_part, padded_remainder, window, word_bits}
-use Rattle.mask_bits.proofs.Lists.BooleanLemmas.{combined-append, combined-take}
+use Rattle.mask_bits.proofs.Lists.BooleanLemmas.{combined-append}
 use Rattle.mask_bits.proofs.Lists.CountLemmas.{all_true_from_count, count-append, count-repeated_false, get_or-padded}
 use Rattle.mask_bits.proofs.Lists.Places.PlaceLemmas.{trues, count-le-length, count-trues}
 use Rattle.mask_bits.proofs.Lists.LawLemmas.{length-rank_intersection, rank_intersection_value}
