@@ -10,7 +10,7 @@ use Rattle.mask_bits.specs.Positions.{count, indices_from, positions}
 use Rattle.mask_bits.specs.Words.{padded_part, word_bits}
 use Rattle.mask_bits.proofs.Lists.Words.BackingBitLemmas.{length-bitmap}
 use Rattle.mask_bits.proofs.Lists.Places.SelectLemmas.{count-word_more, indices_from-append, indices_from-moved}
-use Rattle.mask_bits.proofs.Lists.Words.BlockLemmas.{block-more, block-none}
+use Rattle.mask_bits.proofs.Lists.Words.BlockLemmas.{block-more}
 use Rattle.mask_c.proofs.BitmapLemmas.{bitmap-part}
 use Rattle.mask_c.proofs.ChooseLemmas.{part-within, positions-word_more}
 
@@ -93,7 +93,3 @@ block_done m bits from i old new within is before after =
     ∙ ap (λ (xs : List ℕ). map (λ p. from + p) front ++ xs) (indices_from-moved from (256 * i) bits)
     ∙ sym (map-append (λ p. from + p) front (indices_from (256 * i) bits))
     ∙ ap (map (λ p. from + p)) (sym (block-more m bits i within is))
-
-pub block_passed : (m bits : List Bool) (from i : ℕ) (old : List ℕ) → 256 * i + 256 ≤ length m → bits ≡ slice_range m (256 * i) (256 * i + 256) → count bits ≡ 0
-    → old ≡ map (λ p. from + p) (positions (take (256 * i) m)) → old ≡ map (λ p. from + p) (positions (take (256 * (i + 1)) m))
-block_passed m bits from i old within is none before = before ∙ ap (map (λ p. from + p)) (sym (block-none m bits i within is none))

@@ -135,9 +135,6 @@ bitmap-take bytes p n k few =
 padded_remainder_of : (m : List Bool) (n : ℕ) → length m ≡ n → padded_remainder m ≡ drop (64 * (n / 64)) m ++ repeated (64 - n % 64) false
 padded_remainder_of m n len = ap (λ k. drop (64 * (k / 64)) m ++ repeated (64 - k % 64) false) len
 
-remainder-take : (m : List Bool) (n : ℕ) → length m ≡ n → take (n % 64) (padded_remainder m) ≡ drop (64 * (n / 64)) m
-remainder-take m n len = grind (arith, common_steps, padded_remainder_of, take_at, length-drop)
-
 pub written : (xs ys : List Bool) (front more : List ℕ) (word n : ℕ) → 64 * (n / 64) ≤ 8 * length front → bitmap front 0 (64 * (n / 64)) ≡ xs → take (n % 64) (word_bits word) ≡ ys
     → values_so_far (front ++ more) word n ≡ xs ++ ys
 written xs ys front more word n covers list last = ap₂ (λ (us vs : List Bool). us ++ vs) (front-appended front more (64 * (n / 64)) covers ∙ list) last
