@@ -21,8 +21,8 @@ fn version(source: &str) -> String {
     said.unwrap_or("of no version").trim_matches('"').to_string()
 }
 
-/// Compiles the source, with all that the compiler is told of the processor, that Debian's `librust-fixedbitset-dev` installs: a dependency in `Cargo.toml`,
-/// even an optional one, would ask a registry for it at every build.
+/// Compiles the source that Debian's `librust-fixedbitset-dev` installs, with all that the compiler is told of the
+/// processor: a dependency in `Cargo.toml`, even an optional one, would ask a registry for it at every build.
 fn build_fixedbitset() {
     println!("cargo::rerun-if-env-changed=FIXEDBITSET");
     let Ok(source) = env::var("FIXEDBITSET") else {

@@ -123,7 +123,10 @@ fn found(a: Bitmap<'_>, rows: &[u64], found: &mut Vec<u64>) -> u64 {
     found.len() as u64
 }
 
+// (by the names of the loops that all others are compiled for, which the exported names go to by the processor)
 unsafe extern "C" {
+    #[cfg_attr(target_feature = "avx2", link_name = "row_mask_v3_intersect_by_rank")]
+    #[cfg_attr(not(target_feature = "avx2"), link_name = "row_mask_v2_intersect_by_rank")]
     fn row_mask_intersect_by_rank(
         bytes: *const u8,
         bytes_size: usize,
@@ -136,6 +139,8 @@ unsafe extern "C" {
         out: *mut u8,
         out_size: usize,
     );
+    #[cfg_attr(target_feature = "avx2", link_name = "row_mask_v3_choose_bits")]
+    #[cfg_attr(not(target_feature = "avx2"), link_name = "row_mask_v2_choose_bits")]
     fn row_mask_choose_bits(
         bytes: *const u8,
         bytes_size: usize,

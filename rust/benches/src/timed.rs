@@ -39,9 +39,11 @@ pub fn taken_on(load_before: &str) -> String {
     let fixed = option_env!("FIXEDBITSET_VERSION")
         .map(|version| format!(", `fixedbitset` {version}"))
         .unwrap_or_default();
+    let other =
+        if cfg!(feature = "roaring") { " but CRoaring, which is the system's build," } else { "" };
     format!(
-        "Taken of commit {commit} on {day}, on {model}, with a load of {load_before} before and {load} after. All \
-         sides are compiled for {level} by rustc {rustc}{fixed}."
+        "Measured at commit {commit} on {day}, on {model}, with a load of {load_before} before and {load} after. All \
+         sides{other} are compiled for {level} by rustc {rustc}{fixed}."
     )
 }
 
