@@ -1,5 +1,5 @@
 /* A filter chooses the rows 0, 3, 4, 5 and 7 of eight. A second one ran over these five. Prints the
- * rows of a column at the filter that stands for both, and an empty selection of no rows. */
+ * rows of a column at the filter that stands for both. Of no rows none are chosen. */
 #include "row_mask.h"
 
 #include <cstdint>
