@@ -4,7 +4,8 @@
 //!     cargo run --release -- --only CALL            prints the lines of one call
 //!     cargo run --release -- README.md density.svg  writes the table into a page, and the picture
 //!
-//! A cell is the least time of one call, of many. All answers are compared before they are timed.
+//! A cell is the least time of one call, of many. The answers of `row-mask` and of the loops by hand are compared before
+//! they are timed.
 
 mod by_hand;
 #[cfg(feature = "fixedbitset")]

@@ -15,7 +15,7 @@ use std::time::Duration;
 const ROUNDS: usize = 4;
 const EACH: Duration = Duration::from_millis(50);
 const LENGTHS: [usize; 2] = [1 << 16, 1 << 20];
-const SHARES: [(u64, &str); 3] = [(10, "1 of 100"), (500, "1 of 2"), (990, "99 of 100")];
+const SHARES: [(u64, &str); 3] = [(10, "1%"), (500, "50%"), (990, "99%")];
 pub const CALLS: [&str; 22] = [
     "count",
     "and",
@@ -40,7 +40,7 @@ pub const CALLS: [&str; 22] = [
     "retain by a predicate",
     "scan",
 ];
-// Peers whose answer to these is no digest of the result.
+// The libraries. Their answers are no digests of the result, and aren't compared.
 const PEERS: [&str; 2] = ["fixedbitset", "CRoaring"];
 
 pub fn table(is_asked: impl Fn(&str) -> bool) -> String {
