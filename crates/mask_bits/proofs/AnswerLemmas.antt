@@ -1,5 +1,5 @@
 -- What a test answers of rows, row by row and lane by lane.
-use Rattle.std.proofs.Common.{◌≡◌, ℕ, drop, ◌+◌, ◌-◌, ◌<◌, ◌≤◌, Bool, false, List, [], ◌∷◌, ◌++◌, length, get_or, map, nat_eq, replicate, set, take, zip, refl, sym, ap, ap₂, subst, ◌∙◌, arith, Bor, All}
+use Rattle.std.proofs.Common.{◌≡◌, ℕ, drop, ◌+◌, ◌-◌, ◌<◌, ◌≤◌, Bool, false, List, [], ◌∷◌, ◌++◌, length, get_or, map, nat_eq, replicate, set, take, zip, refl, sym, subst, ◌∙◌, arith, Bor, All}
 use Rattle.std.specs.Fn.{FnReturnsAt, Shared}
 use Rattle.std.proofs.lemmas.List.{ext_get_or, get_or-take, length-take, length-append, length-drop, length-take-le, take-append-le, take-take, take-append-drop, drop-take}
 use Rattle.std.proofs.Math.Seq.{get_or-append_seam}
@@ -17,10 +17,7 @@ as_computed : {F T : Type 0} (g : Shared F (Bor T × Unit {0}) Bool) (test : F) 
 as_computed g test [] [] f is len all = refl
 as_computed g test [] (b ∷ answers) f is len all = absurd (omega arith)
 as_computed g test (r ∷ rows) [] f is len all = absurd (omega arith)
-as_computed {F} {T} g test (r ∷ rows) (b ∷ answers) f is len all =
-    let here : FnReturnsAt g test r b = All-head (λ (p : T × Bool). FnReturnsAt g test p.0 p.1) (r, b) (zip rows answers) all in
-    ap₂ (λ (x : Bool) (xs : List Bool). x ∷ xs) (is here.shown b here.says.met ∙ ap f here.shows)
-    (as_computed g test rows answers f is (omega arith) (All-tail (λ (p : T × Bool). FnReturnsAt g test p.0 p.1) (r, b) (zip rows answers) all))
+as_computed {F} {T} g test (r ∷ rows) (b ∷ answers) f is len all = grind (arith, All-head, All-tail, as_computed g test rows answers f is (omega arith) (All-tail (λ (p : T × Bool). FnReturnsAt g test p.0 p.1) (r, b) (zip rows answers) all))
 
 pub computed_of_answers : {F T : Type 0} (g : Shared F (Bor T × Unit {0}) Bool) (test : F) (rows : List T) (answers : List Bool) → AreAnswers (FnReturnsAt g test) rows answers
     → AreAsComputed (λ row b. g.post test (row, tt) b) rows answers
@@ -36,9 +33,7 @@ answers_behind : {T : Type 0} (gives : T → Bool → Type 0) (rows more : List 
 answers_behind gives [] more [] b len front back = back
 answers_behind gives [] more (x ∷ a) b len front back = absurd (omega arith)
 answers_behind gives (r ∷ rows) more [] b len front back = absurd (omega arith)
-answers_behind {T} gives (r ∷ rows) more (x ∷ a) b len front back =
-    All-cons (λ (p : T × Bool). gives p.0 p.1) (r, x) (zip (rows ++ more) (a ++ b)) (All-head (λ (p : T × Bool). gives p.0 p.1) (r, x) (zip rows a) front)
-    (answers_behind gives rows more a b (omega arith) (All-tail (λ (p : T × Bool). gives p.0 p.1) (r, x) (zip rows a) front) back)
+answers_behind {T} gives (r ∷ rows) more (x ∷ a) b len front back = grind (arith, All-cons, All-head, All-tail, answers_behind gives rows more a b (omega arith) (All-tail (λ (p : T × Bool). gives p.0 p.1) (r, x) (zip rows a) front) back)
 
 pub answers-append : {T : Type 0} (gives : T → Bool → Type 0) (rows more : List T) (a b : List Bool) → AreAnswers gives rows a → AreAnswers gives more b → AreAnswers gives (rows ++ more) (a ++ b)
 answers-append gives rows more a b front back = grind (arith, length-append, answers_behind gives rows more a b front.len front.each back.each)

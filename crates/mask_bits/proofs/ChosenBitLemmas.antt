@@ -186,8 +186,3 @@ AreChosenSoFar-more {s} {m} {i} {last} {n} {source} {mask} {word} {old} {out} ne
       clear = clear;
       behind = behind ∙ behind-later out old (8 * (n / 64)) (8 * ((n + count_ones mask) / 64)) (omega arith) so_far.behind;
     })
-
--- all of it, once all words are
-pub AreChosenSoFar-all : (s m : List Bool) (i : ℕ) (old out : List ℕ) (last n : ℕ) → length s ≡ length m → length m ≤ 64 * i → AreChosenSoFar s m i old out last n
-    → (values_so_far out last n ≡ chosen s m) × (n ≡ count m)
-AreChosenSoFar-all s m i old out last n fitting all is = grind (arith, take_all)

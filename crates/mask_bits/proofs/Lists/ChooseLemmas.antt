@@ -24,10 +24,6 @@ chosen-all_true rows n len = grind (arith, chosen-items_where_true, items_where_
 pub chosen-all_false : {X : Type 0} (rows : List X) (n : ℕ) → chosen rows (repeated n false) ≡ []
 chosen-all_false rows n = grind (arith, chosen-items_where_true, items_where_true-all_false)
 
--- one row moves from what is to come to what has come
-pub chosen-step : {X : Type 0} (rows out : List X) (p : ℕ) (ps : List ℕ) (r : X) → slice_get rows p ≡ Some r → out ++ filter_map (λ i. slice_get rows i) (p ∷ ps) ≡ (out ++ r ∷ []) ++ filter_map (λ i. slice_get rows i) ps
-chosen-step {X} rows out p ps r e = grind (arith, append_assoc)
-
 pub chosen_by_all_true : {X : Type 0} (rows : List X) → chosen rows (repeated (length rows) true) ≡ rows
 chosen_by_all_true rows = chosen-all_true rows (length rows) refl
 

@@ -1,5 +1,5 @@
 -- What a word's bits yield, put into room without a test of whether one is left.
-use Rattle.std.proofs.Common.{◌≡◌, ℕ, Bool, ◌+◌, ◌-◌, ◌%◌, ◌^◌, ◌<◌, ◌≤◌, List, [], ◌∷◌, ◌++◌, Option, Some, None, suc, length, take, slice_get, true, nat_eq, false, subst, refl, sym, ap, ap₂, nat_lt, if◌then◌else◌, count_ones, ◌∙◌, inl, inr, arith, append-nil, append_assoc, add-zero}
+use Rattle.std.proofs.Common.{◌≡◌, ℕ, Bool, ◌+◌, ◌-◌, ◌%◌, ◌^◌, ◌<◌, ◌≤◌, List, [], ◌∷◌, ◌++◌, Option, Some, None, suc, length, take, slice_get, true, nat_eq, false, subst, refl, sym, ap, nat_lt, if◌then◌else◌, count_ones, ◌∙◌, inl, inr, arith, append-nil, append_assoc, add-zero}
 use Rattle.std.specs.Int.RustNames.{bit_and}
 use Rattle.std.specs.List.{All, cons_option, filter_map}
 use Rattle.std.specs.Option.{IsSome}
@@ -46,14 +46,11 @@ length-cons_option None xs h = cc
 -- one item for each place that has one
 length-filter_map : {X : Type 0} (at : ℕ → Option X) (ps : List ℕ) → All (λ p. IsSome (at p)) ps → length (filter_map at ps) ≡ length ps
 length-filter_map at [] each = refl
-length-filter_map at (p ∷ ps) each =
-    length-cons_option (at p) (filter_map at ps) (All-head (λ q. IsSome (at q)) p ps each) ∙ ap suc (length-filter_map at ps (All-tail (λ q. IsSome (at q)) p ps each))
+length-filter_map at (p ∷ ps) each = grind (arith, length-cons_option, All-head, All-tail, length-filter_map at ps (All-tail (λ q. IsSome (at q)) p ps each))
 
 -- so many for a word of whose places each has one
 pub length-items_of_word : {X : Type 0} (at : ℕ → Option X) (w : ℕ) → w < 2 ^ 64 → ((p : ℕ) → p ≤ 64 → IsSome (at p)) → length (items_of at (word_bits w)) ≡ count_ones w
-length-items_of_word at w fits each =
-    length-filter_map at (positions (word_bits w)) (All-weaker (λ p. p < length (word_bits w)) (λ p. IsSome (at p)) (λ p h. each p (omega (arith, length-word_bits w))) (positions (word_bits w)) (positions-within (word_bits w)))
-    ∙ count-word_bits w fits
+length-items_of_word at w fits each = grind (arith, length-filter_map, All-weaker, length-word_bits, positions-within, count-word_bits)
 
 -- ---- the lowest bit
 
@@ -62,9 +59,7 @@ abbrev pub cleared : ℕ → ℕ
 cleared w = bit_and w ((w + (2 ^ 64 - 1)) % 2 ^ 64)
 
 pub cleared-some : (w : ℕ) → 0 < w → w < 2 ^ 64 → cleared w ≡ bit_and w (w - 1)
-cleared-some w some fits =
-    let less : (w + (2 ^ 64 - 1)) % 2 ^ 64 ≡ w - 1 = omega arith in
-    ap (bit_and w) less
+cleared-some w some fits = grind arith
 
 -- its item, and those of the other bits
 pub items_of-next : {X : Type 0} (at : ℕ → Option X) (w : ℕ) (x : X) → w < 2 ^ 64 → at (low w) ≡ Some x → 0 < w → items_of at (word_bits w) ≡ x ∷ items_of at (word_bits (cleared w))
@@ -138,9 +133,7 @@ row-some rows p inside = grind (arith, slice_get_cases)
 
 rows_of : {X : Type 0} (rows : List X) (ps : List ℕ) → All (λ p. p < 64) ps → filter_map (λ p. slice_get rows (p % 64)) ps ≡ filter_map (λ p. slice_get rows p) ps
 rows_of rows [] few = refl
-rows_of {X} rows (p ∷ ps) few =
-    let same : p % 64 ≡ p = omega (arith, All-head (λ q. q < 64) p ps few) in
-    ap₂ (λ k (xs : List X). cons_option (slice_get rows k) xs) same (rows_of rows ps (All-tail (λ q. q < 64) p ps few))
+rows_of {X} rows (p ∷ ps) few = grind (arith, All-head, All-tail, rows_of rows ps (All-tail (λ q. q < 64) p ps few))
 
 pub items_of-rows : {X : Type 0} (rows : List X) (w : ℕ) → items_of (λ p. slice_get rows (p % 64)) (word_bits w) ≡ chosen rows (word_bits w)
 items_of-rows rows w = rows_of rows (positions (word_bits w)) (places-within w 64 refl) ∙ sym (chosen_at_positions rows (word_bits w))

@@ -30,10 +30,8 @@ get_or-items_where_true [] [] k d len h = absurd (omega arith)
 get_or-items_where_true [] (v ∷ m) k d len h = absurd (omega arith)
 get_or-items_where_true (r ∷ rows) [] k d len h = absurd (omega arith)
 get_or-items_where_true {X} (r ∷ rows) (true ∷ m) zero d len h = grind (arith, positions-true m)
-get_or-items_where_true {X} (r ∷ rows) (true ∷ m) (suc k) d len h =
-    grind (arith, get_or-items_where_true rows m k d, positions-true m, get_or-map suc (positions m) k 0 0, count-trues m)
-get_or-items_where_true {X} (r ∷ rows) (false ∷ m) k d len h =
-    grind (arith, get_or-items_where_true rows m k d, positions-false m, get_or-map suc (positions m) k 0 0, count-trues m)
+get_or-items_where_true {X} (r ∷ rows) (true ∷ m) (suc k) d len h = grind (arith, positions-true, get_or-map, count-trues, get_or-items_where_true rows m k d)
+get_or-items_where_true {X} (r ∷ rows) (false ∷ m) k d len h = grind (arith, positions-false, get_or-map, count-trues, get_or-items_where_true rows m k d)
 
 pub get_or-chosen : {X : Type 0} (rows : List X) (m : List Bool) (k : ℕ) (d : X) → length rows ≡ length m → k < count m
     → get_or (chosen rows m) k d ≡ get_or rows (get_or (positions m) k 0) d
@@ -54,17 +52,10 @@ clear_bit : (a : ℕ) → a < 2 → a ≢ 1 → nat_eq a 1 ≡ false
 clear_bit a ha h = grind (arith, nat_tests)
 
 extracted-value : (s m r k : ℕ) → Extracts s m r → k < count (word_bits m) → get_or (word_bits r) k false ≡ get_or (chosen (word_bits s) (word_bits m)) k false
-extracted-value s m r k is h =
-    let few : k < 64 = omega (arith, count-of_word m) in
-    let p : ℕ = get_or (positions (word_bits m)) k 0 in
-    let inside : p < 64 = place_in_word m k h in
-    let bit = is.bits k few in
-    grind (arith, get_or-word_bits, same_bit, bit_at-lt, get_or-chosen, length-word_bits)
+extracted-value s m r k is h = grind (arith, count-of_word, place_in_word, get_or-word_bits, same_bit, bit_at-lt, get_or-chosen, length-word_bits)
 
 extracted-above : (s m r k : ℕ) → Extracts s m r → k < 64 → count (word_bits m) ≤ k → get_or (word_bits r) k false ≡ false
-extracted-above s m r k is few h =
-    let bit = is.bits k few in
-    get_or-word_bits r k false few ∙ clear_bit (bit_at r k) (bit_at-lt r k) (λ set. absurd (omega (arith, (bit.0 set).0)))
+extracted-above s m r k is few h = grind (arith, get_or-word_bits, clear_bit, bit_at-lt)
 
 pub extract_is_chosen_values : ExtractIsChosenValues
 extract_is_chosen_values s m r is =

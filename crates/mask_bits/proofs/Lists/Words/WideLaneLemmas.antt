@@ -1,6 +1,5 @@
 -- Lanes read as one number, and as lanes of another width.
-use Rattle.std.proofs.lemmas.Grind.{common_steps}
-use Rattle.std.proofs.Common.{◌≡◌, ℕ, zero, suc, ◌+◌, ◌-◌, ◌*◌, ◌/◌, ◌%◌, ◌^◌, ◌<◌, List, [], ◌∷◌, length, get_or, refl, sym, ap, subst, ◌∙◌, arith, pow-suc, mod-eq_of_lt, add_comm, bit_and, count_ones, pow-add, pow_mono, Fits, ◌≤◌, ap₂}
+use Rattle.std.proofs.Common.{◌≡◌, ℕ, zero, suc, ◌+◌, ◌-◌, ◌*◌, ◌/◌, ◌%◌, ◌^◌, ◌<◌, List, [], ◌∷◌, length, get_or, refl, sym, ap, subst, ◌∙◌, arith, pow-suc, add_comm, bit_and, count_ones, pow-add, pow_mono, Fits, ◌≤◌, ap₂}
 use mir.Syntax.{Width}
 use mir.Val.{bits}
 use Rattle.std.specs.Simd.Lanes.{Each1, number_l, digits_l, chunk}
@@ -21,13 +20,8 @@ length-digits q (suc n) x = omega (arith, length-digits q n (x / q))
 
 digit : (w n x j : ℕ) → j < n → get_or (digits_l (2 ^ w) n x) j 0 ≡ x / 2 ^ (w * j) % 2 ^ w
 digit w zero x j h = absurd (omega arith)
-digit w (suc n) x zero h =
-    let none : w * 0 ≡ 0 = omega arith in
-    let own : x / 2 ^ 0 ≡ x = omega arith in
-    ap (λ y. y % 2 ^ w) (sym (ap (λ k. x / 2 ^ k) none ∙ own))
-digit w (suc n) x (suc j) h =
-    let next : w + w * j ≡ w * suc j = omega arith in
-    digit w n (x / 2 ^ w) j (omega arith) ∙ ap (λ y. y % 2 ^ w) (shr-shr x w (w * j) ∙ ap (λ k. x / 2 ^ k) next)
+digit w (suc n) x zero h = grind arith
+digit w (suc n) x (suc j) h = grind (arith, shr-shr, digit w n (x / 2 ^ w) j (omega arith))
 
 pub AreLanes-digits : (w n x : ℕ) → AreLanes n (digits_l (2 ^ w) n x) (λ j. x / 2 ^ (w * j) % 2 ^ w)
 AreLanes-digits w n x = record { lanes = length-digits (2 ^ w) n x; each = digit w n x }
@@ -76,15 +70,12 @@ number-lt p [] some fit = omega (arith, pow-zero p)
 number-lt p (x ∷ xs) some fit = omega (arith, fit.0, pow-suc p (length xs), digits_lt {q = number_l p xs} {m = p ^ length xs} {r = x} {c = p} (number-lt p xs some fit.1) fit.0, mul_comm p (number_l p xs))
 
 pub through_bytes : (p n : ℕ) (xs : List ℕ) → 0 < p → Each1 (λ x. x < p) xs → p ^ length xs ≡ 256 ^ n → number_l 256 (digits_l 256 n (number_l p xs)) ≡ number_l p xs
-through_bytes p n xs some fit same =
-    number-digits 256 n (number_l p xs) (omega arith) ∙ mod-eq_of_lt (subst (λ y. number_l p xs < y) same (number-lt p xs some fit))
+through_bytes p n xs some fit same = grind (arith, number-digits, number-lt)
 
 -- ---- the neighbors in such a lane
 
 pub wide_lane-fits : (w : Width) (n : ℕ) (xs : List ℕ) (j : ℕ) → (length xs ≡ n) × Each1 (Fits w) xs → j < n → get_or xs j 0 < 2 ^ bits w
-wide_lane-fits w n xs j fits h =
-    let long = fits.0 in
-    (Each1-get_or (Fits w) xs j 0 (omega arith) fits.1).fits
+wide_lane-fits w n xs j fits h = grind (arith, Each1-get_or)
 
 pub lower_lane : (w x y : ℕ) → x < 2 ^ w → bit_and (x + y * 2 ^ w) (2 ^ w - 1) ≡ x
 lower_lane w x y small = and_mask (x + y * 2 ^ w) w ∙ ap (λ n. n % 2 ^ w) (add_comm x (y * 2 ^ w)) ∙ mod-mul-add y (2 ^ w) x small

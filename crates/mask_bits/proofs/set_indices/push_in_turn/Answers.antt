@@ -1,14 +1,11 @@
-use Rattle.std.proofs.Common.{◌*◌, length, ap, arith}
+use Rattle.std.proofs.Common.{arith}
 use Rattle.mask_bits.proofs.Lists.Words.BlockLemmas.{count-part_le}
 use Rattle.mask_bits.proofs.Lists.Words.PaddedLemmas.{padded_part-whole}
 use Rattle.mask_bits.proofs.Lists.Places.SelectLemmas.{places-word_more}
-use Rattle.mask_bits.specs.Positions.{count}
 use Rattle.mask_bits.proofs.set_indices.push_in_turn.Goals as goal
 
 pub push_indices-requires-clause-room : goal.push_indices-requires-clause-room
-push_indices-requires-clause-room c =
-    let so_far = c.loop-i.invariant in
-    omega (arith, ap length so_far.items, so_far.capacity, ap count c.word.ensures, count-part_le c.args.chunks.now (64 * c.loop-i.i) 64, c.requires.room)
+push_indices-requires-clause-room c = grind (arith, count-part_le)
 
 pub loop-i-preserved : goal.loop-i-preserved
 loop-i-preserved c = grind (arith, padded_part-whole, places-word_more)

@@ -7,16 +7,13 @@ use Rattle.mask_bits.proofs.Lists.Places.PushLemmas.{ArePushed-all, length-items
 use Rattle.mask_bits.proofs.word_items.push_by.Goals as goal
 
 pub push_some-left-requires-in-loop-items-clause-room : goal.push_some-left-requires-in-loop-items-clause-room
-push_some-left-requires-in-loop-items-clause-room g c =
-    omega (arith, c.requires.room, ap g.R.Room.capacity c.loop-items.invariant.kept, c.loop-items-test.true, c.count.ensures.count, count-word_bits c.args.word c.ranges.word.fits)
+push_some-left-requires-in-loop-items-clause-room g c = grind (arith, count-word_bits)
 
 pub overflow_add-end : goal.overflow_add-end
 overflow_add-end g c = omega (arith, c.requires.room, c.count.ensures, count-word_bits c.args.word c.ranges.word.fits)
 
 pub returns-clause-len : goal.returns-clause-len
-returns-clause-len g c =
-    let out = g.R.Room.items c.loop-items.out in
-    omega (arith, ap length c.cut.ensures.items, length-take (c.count.result + count_ones c.args.word) out, c.loop-items-test.false, c.count-in-loop-items.ensures.count, c.count.ensures.count, count-word_bits c.args.word c.ranges.word.fits)
+returns-clause-len g c = grind (arith, length-take, count-word_bits)
 
 pub returns-clause-items : goal.returns-clause-items
 returns-clause-items g c =

@@ -1,4 +1,4 @@
-use Rattle.std.proofs.Common.{◌++◌, ap, sym, ◌∙◌, arith}
+use Rattle.std.proofs.Common.{◌++◌, ap, ◌∙◌, arith}
 use Rattle.mask_bits.proofs.Lists.Places.PlaceLemmas.{count-le-length}
 use Rattle.mask_bits.proofs.Lists.Places.PushLemmas.{chosen_by_full, count_of_full, items_of-rows, places-within, row-some}
 use Rattle.mask_bits.proofs.Lists.Words.WordLemmas.{length-word_bits}
@@ -18,9 +18,7 @@ pub push_by-requires-clause-room : goal.push_by-requires-clause-room
 push_by-requires-clause-room g c = grind (arith, count-le-length (word_bits c.args.word), length-word_bits c.args.word)
 
 pub returns-then-word-eq-FULL-clause-rows : goal.returns-then-word-eq-FULL-clause-rows
-returns-then-word-eq-FULL-clause-rows g c =
-    c.push_all.ensures.rows
-    ∙ ap (λ xs. g.R.Room.items c.args.out.now ++ xs) (sym (chosen_by_full c.args.rows.now c.args.word c.requires.whole c.ranges.word.fits c.if-word-eq-FULL.true))
+returns-then-word-eq-FULL-clause-rows g c = grind (arith, chosen_by_full)
 
 pub returns-then-word-eq-FULL-clause-len : goal.returns-then-word-eq-FULL-clause-len
 returns-then-word-eq-FULL-clause-len g c = omega (arith, c.push_all.ensures.len, c.requires.whole, count_of_full c.args.word c.ranges.word.fits c.if-word-eq-FULL.true)

@@ -1,4 +1,5 @@
-use Rattle.std.proofs.Common.{ℕ, ◌≡◌, ◌+◌, ◌*◌, ◌/◌, ◌%◌, ◌^◌, ◌<◌, inl, inr, List, length, Fits, ap, ap₂, ◌∙◌, sym, subst, get_or, count_ones, w64, arith, pow-add, add_comm}
+use Rattle.std.proofs.lemmas.Grind.{common_steps}
+use Rattle.std.proofs.Common.{ℕ, ◌≡◌, ◌+◌, ◌*◌, ◌/◌, ◌%◌, ◌^◌, ◌<◌, List, length, Fits, ap, ap₂, ◌∙◌, sym, subst, get_or, count_ones, w64, arith, pow-add, add_comm}
 use Rattle.std.specs.Simd.Lanes.{Each1}
 use Rattle.std.proofs.lemmas.Bool.{cases_lt}
 use Rattle.std.proofs.lemmas.Nat.{shr-shr, ones_cat}
@@ -45,17 +46,7 @@ module _ (s m : ℕ) where
 
 -- word k of two
 word_of : (ws : List ℕ) (k : ℕ) → (length ws ≡ 2) × Each1 (Fits w64) ws → k < 2 → two_words ws / 2 ^ (64 * k) % 2 ^ 64 ≡ get_or ws k 0
-word_of ws k fits h =
-    let first = wide_lane-fits w64 2 ws 0 fits (omega arith) in
-    let second = wide_lane-fits w64 2 ws 1 fits (omega arith) in
-    elim (cases_lt k 1) [
-      | inl none ↦
-          let e : k ≡ 0 = omega arith in
-          subst (λ i. two_words ws / 2 ^ (64 * i) % 2 ^ 64 ≡ get_or ws i 0) (sym e) (omega (arith, first))
-      | inr some ↦
-          let e : k ≡ 1 = omega arith in
-          subst (λ i. two_words ws / 2 ^ (64 * i) % 2 ^ 64 ≡ get_or ws i 0) (sym e) (omega (arith, first, second))
-    ]
+word_of ws k fits h = grind (arith, common_steps, wide_lane-fits, cases_lt)
 
 pub returns : goal.returns
 returns c =
