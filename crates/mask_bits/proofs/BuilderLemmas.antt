@@ -1,7 +1,7 @@
 -- The list of a builder, from its bytes.
 use Rattle.std.proofs.Common.{◌≡◌, ◌≢◌, ℕ, ◌+◌, ◌*◌, ◌%◌, ◌<◌, ◌≤◌, Bool, true, false, not, ◌&&◌, ◌||◌, nat_eq, List, [], ◌++◌, length, set, take, drop, Result, Ok, Err, OnErr, refl, ap, ◌∙◌, arith}
 use Rattle.std.proofs.lemmas.Bool.{eq-eqb, ne_eqb}
-use Rattle.std.proofs.lemmas.List.{length-set, get_or-set_same, get_or-set_other, nil_from_length}
+use Rattle.std.proofs.lemmas.List.{length-set, get_or-set_same, get_or-set_other, nil_from_length, with_items_is}
 use Rattle.mask_bits.specs.Buffer.{backing_bit, values}
 use Rattle.mask_bits.specs.BufferMut.{IsWrittenBehind, IsRoom}
 use Rattle.mask_bits.proofs.BufferLemmas.{length-values, values_from_front}
@@ -54,3 +54,5 @@ pub room-appended : (b c xs : List ℕ) (at k n : ℕ) (m : List Bool) → n ≡
 room-appended b c xs at k n m place len same whole covered w = grind (arith, take_back, written-clear b c at n m place w)
 
 pub ruleset no_bits = (front-none)
+
+pub ruleset bits_set = (with_items_is, front-set, room-set, set-here, set-others, unset-here, unset-others)

@@ -1,12 +1,12 @@
 -- The places of a byte's set bits, by the table, and the bytes of a word.
-use Rattle.std.proofs.Common.{◌≡◌, ℕ, ◌+◌, ◌*◌, ◌/◌, ◌%◌, ◌^◌, ◌<◌, ◌≤◌, Bool, true, false, nat_eq, List, subst, ◌++◌, length, get_or, take, drop, map, refl, sym, ap, ◌∙◌, arith, count_ones, add-zero, mod-eq_of_lt}
+use Rattle.std.proofs.Common.{◌≡◌, ℕ, ◌+◌, ◌*◌, ◌/◌, ◌%◌, ◌^◌, ◌<◌, ◌≤◌, Bool, true, false, nat_eq, List, subst, ◌++◌, length, get_or, take, drop, map, refl, sym, ap, ◌∙◌, arith, count_ones, add-zero, mod-eq_of_lt, append-nil, append_assoc}
 use Rattle.std.proofs.lemmas.Bool.{agree_below, agree_below_at, eqb-true}
 use Rattle.std.proofs.Math.Dec.{eqb}
 use Rattle.mask_bits.specs.declared.byte_places.TheConstants.{PLACES}
 use Rattle.mask_bits.specs.Positions.{indices_from, positions, count, count_below}
 use Rattle.mask_bits.specs.Lanes.{AreLanes}
 use Rattle.mask_bits.specs.Words.{word_bits}
-use Rattle.std.proofs.lemmas.List.{drop-drop, ext_get_or, get_or-drop, get_or-map, get_or-take, length-drop, length-take, take-append-drop, take-take}
+use Rattle.std.proofs.lemmas.List.{drop-drop, ext_get_or, get_or-drop, get_or-map, get_or-take, length-drop, length-take, take-append-drop, take-take, length-append, drop_all}
 use Rattle.std.proofs.lemmas.Nat.{and_mask, ones-le}
 use Rattle.std.specs.Int.{bit_at}
 use Rattle.std.specs.Int.Bits.{bit_and}
@@ -132,3 +132,5 @@ indices-byte_more base w j few =
     ap (indices_from (base + 8 * j)) (bits-byte_more w j few)
     ∙ indices_from-append (base + 8 * j) here rest
     ∙ ap (λ k. indices_from (base + 8 * j) here ++ indices_from k rest) next
+
+pub ruleset bytes_of_word = (byte_of, indices-byte_more, count-byte_more, length-indices, length-word_bits, append-nil, append_assoc, length-append, drop_all)

@@ -21,6 +21,7 @@ use Rattle.mask_bits.proofs.Lists.Words.WordLemmas.{count-word_bits, get_or-word
 use Rattle.mask_bits.specs.ChosenBits.{AreChosenSoFar, values_so_far}
 use Rattle.mask_bits.proofs.Lists.Words.BackingBitLemmas.{no_values}
 use borrow.Rule.Slice.PartMut.{put_mid}
+use Rattle.mask_bits.proofs.Lists.Places.PlaceLemmas.{count-le-length}
 
 -- ---- two words
 
@@ -186,3 +187,5 @@ AreChosenSoFar-more {s} {m} {i} {last} {n} {source} {mask} {word} {old} {out} ne
       clear = clear;
       behind = behind ∙ behind-later out old (8 * (n / 64)) (8 * ((n + count_ones mask) / 64)) (omega arith) so_far.behind;
     })
+
+pub ruleset chosen_so_far = (extracted-clear, chosen-within, count-le-length)

@@ -164,3 +164,9 @@ pub ruleset in_place = (between-none, between-join, between-word, between-last)
 pub ruleset window_of_two = (window-neighbors, window-next_byte)
 
 pub ruleset part_facts = (within-parts, values-parts)
+
+pub ruleset room_facts = (length-values, room-covers, values-written, room-shows, values-from_byte)
+
+pub ruleset combined_buffers = (take_back, within-parts, values-parts, IfOk-weaker)
+
+pub ruleset negated_bytes = (between-join, between-byte, values-negated)

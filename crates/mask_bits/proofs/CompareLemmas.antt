@@ -166,3 +166,7 @@ count-parts f a b p q n = grind (arith, count-append, bitmap-combined f a b p q 
 pub ruleset word_operations = (word_bits-combined, get_or-word_bits_and, get_or-word_bits_or, get_or-word_bits_xor, get_or-word_bits_not)
 
 pub ruleset counted_in_rest = (count-low, low_mask)
+
+pub ruleset counted = (count-none, count-parts, count-at_most, bitmap-byte)
+
+pub ruleset none_in_rest = (none-low, low_mask)

@@ -142,4 +142,4 @@ bit_at-chunk chunk j are h =
     ap (λ n. bit_at n j) (number-sum 7 chunk) ∙ bit_at-number (take 8 chunk) j (bytes-take 8 chunk are)
     ∙ ap (λ b. bit_at b (j % 8)) (get_or-take 8 chunk (j / 8) 0 (omega arith))
 
-pub ruleset padded_bytes = (number-padded_chunk)
+pub ruleset chunk_numbers = (number-chunk, number-padded_chunk)

@@ -1,5 +1,5 @@
 -- Runs of a list, word by word, by where they begin and end.
-use Rattle.std.proofs.Common.{◌≡◌, ◌≢◌, ℕ, zero, suc, ◌+◌, ◌*◌, ◌-◌, ◌/◌, ◌%◌, ◌^◌, ◌<◌, ◌≤◌, ◌&&◌, not, Bool, true, false, nat_eq, List, [], ◌∷◌, ◌++◌, length, get_or, take, drop, count_ones, refl, sym, ap, ap₂, ◌∙◌, inl, inr, arith, mod-eq_of_lt, add-zero, bit_and, bit_or, zip}
+use Rattle.std.proofs.Common.{◌≡◌, ◌≢◌, ℕ, zero, suc, ◌+◌, ◌*◌, ◌-◌, ◌/◌, ◌%◌, ◌^◌, ◌<◌, ◌≤◌, ◌&&◌, not, Bool, true, false, nat_eq, List, [], ◌∷◌, ◌++◌, length, get_or, take, drop, count_ones, refl, sym, ap, ap₂, ◌∙◌, inl, inr, arith, mod-eq_of_lt, add-zero, bit_and, bit_or, zip, append-nil}
 use Rattle.std.specs.Int.{bit_at, bit_not, w64, leading_ones}
 use Rattle.std.specs.Int.Count.{leading_of_zero}
 use Rattle.std.proofs.lemmas.Bool.{cases_eq, true≢false}
@@ -298,3 +298,7 @@ behind-remainder inside start n m = grind (arith, behind-padded inside start n (
 -- and its last bit is not set
 pub remainder_ends : (m : List Bool) → get_or (padded_remainder m) 63 false ≡ false
 remainder_ends m = grind (arith, get_or-padded, get_or_past, length-drop)
+
+pub ruleset runs_of_word = (word_bits-before, before-full, behind-same_word, last-same_word)
+
+pub ruleset runs_pushed = (no_runs_between, append-nil)

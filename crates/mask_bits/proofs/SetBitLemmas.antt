@@ -27,3 +27,5 @@ without_bit bytes q = set bytes (q / 8) (bit_and (get_or bytes (q / 8) 0) (bit_n
 pub backing_bit-without_bit : (bytes : List ℕ) (q p : ℕ) → q < 8 * length bytes → backing_bit (without_bit bytes q) p ≡ (not (nat_eq p q) && backing_bit bytes p)
 backing_bit-without_bit bytes q p h =
     grind (arith, get_or-set_at, get_or-set_other, bit_at_clear_same w8 (get_or bytes (q / 8) 0) (q % 8), bit_at_clear_other w8 (get_or bytes (q / 8) 0) (q % 8))
+
+pub ruleset bits_written = (backing_bit-with_bit, backing_bit-without_bit)

@@ -79,6 +79,7 @@ impl BitBuffer {
     }
 
     /// The complement: each value negated.
+    #[tactic(auto, using(crate::proofs::CombineLemmas::room_facts, std::proofs::lemmas::Grind::common_steps))]
     pub fn into_not(self, alloc: Global) -> Result<BitBuffer, AllocError>
         ensures list { IfOk result (λ b. values b ≡ not_of (values self)) }
         ensures len { IfOk result (λ b. length (values b) ≡ length (values self)) }
@@ -95,6 +96,7 @@ impl BitBuffer {
 }
 
 // A buffer of what `C` makes of two.
+#[tactic(auto, using(crate::proofs::CombineLemmas::combined_buffers))]
 fn combined_buffer<C: BitOp>(
     alloc: Global,
     a: &BitBuffer,
@@ -110,6 +112,7 @@ fn combined_buffer<C: BitOp>(
 }
 
 // The same in the first one's bytes, where they are its own.
+#[tactic(auto, using(crate::proofs::CombineLemmas::room_facts, crate::proofs::CombineLemmas::part_facts, std::proofs::lemmas::Grind::common_steps))]
 fn combined_into<C: BitOp>(
     alloc: Global,
     a: BitBuffer,

@@ -10,6 +10,7 @@ use crate::word_indices::push_indices;
 
 /// The words of block `i`.
 #[inline(always)]
+#[tactic(auto, using(crate::proofs::Lists::Words::BlockLemmas::block_facts))]
 pub fn block(chunks: &BitChunks<'_>, i: usize) -> [u64; 4]
     requires within { 256 * i + 256 ≤ length chunks.now }
     requires fits { length chunks.now < 2 ^ 64 }
@@ -25,6 +26,7 @@ pub fn block(chunks: &BitChunks<'_>, i: usize) -> [u64; 4]
 
 // Whether a block may have a true value.
 #[inline(always)]
+#[tactic(auto, using(crate::proofs::Lists::Words::BlockLemmas::block_facts))]
 pub(crate) fn has_some(words: &[u64; 4]) -> bool
     ensures { result ≡ false → count (bits_of_words words.now) ≡ 0 }
 {
@@ -61,6 +63,7 @@ pub fn push_block<const BYTES: bool, R: Room<usize>>(indices: &mut R, base: usiz
 
 /// How many bits of a block are set.
 #[inline(always)]
+#[tactic(auto, using(crate::proofs::Lists::Words::BlockLemmas::bits_of_words_more))]
 pub fn ones_in(words: &[u64; 4]) -> usize
     ensures count { result ≡ count (bits_of_words words.now) }
     ensures few { result ≤ 256 }
@@ -74,6 +77,7 @@ pub fn ones_in(words: &[u64; 4]) -> usize
 
 // Puts the indices of the set bits of each word of a block, as [`push_indices`] does.
 #[inline(always)]
+#[tactic(auto, using(crate::proofs::Lists::Words::BlockLemmas::bits_of_words_more))]
 fn push_each<const K: usize, R: Room<usize>>(indices: &mut R, base: usize, words: &[u64; 4])
     requires step { (K ≤ 8) ⊎ (K ≡ 64) }
     requires room { length (R.items indices.old) + (count (bits_of_words words.now) + min K 8)

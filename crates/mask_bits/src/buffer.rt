@@ -90,6 +90,7 @@ impl BitBuffer {
     }
 
     /// The list of `len` values that is true exactly at `indices`, in any order and with repeats.
+    #[tactic(auto, using(std::proofs::Common::take_all, crate::proofs::BufferLemmas::values_from_places))]
     pub fn from_indices(
         alloc: Global,
         len: usize,
@@ -214,6 +215,7 @@ impl BitBuffer {
     }
 
     // The bytes from the first value's on, where nobody else holds them and that value begins one.
+    #[tactic(auto, using(crate::proofs::CombineLemmas::room_facts))]
     pub(crate) fn into_room(self) -> Result<BytesMut, BitBuffer>
         ensures list { MatchResult result
             (λ room. bitmap room.items 0 self.len ≡ values self)

@@ -74,6 +74,7 @@ impl BitBufferMut {
     }
 
     /// Makes value `i` true.
+    #[tactic(auto, using(crate::proofs::BufferLemmas::len_facts, crate::proofs::BuilderLemmas::bits_set))]
     pub fn set(&mut self, i: usize)
         requires { i < length self.old }
         ensures { self.new ≡ slice_set self.old i true }
@@ -82,6 +83,7 @@ impl BitBufferMut {
     }
 
     /// Makes value `i` false.
+    #[tactic(auto, using(crate::proofs::BufferLemmas::len_facts, crate::proofs::BuilderLemmas::bits_set))]
     pub fn unset(&mut self, i: usize)
         requires { i < length self.old }
         ensures { self.new ≡ slice_set self.old i false }

@@ -41,6 +41,7 @@ pub struct LastChosen {
 
 /// Writes the values of `values` at the true values of `masks`, in their order, to the front of `out`, as far as they
 /// fill words of 64. Answers how many there are, and those past the whole words.
+#[tactic(auto, using(crate::proofs::ChosenBitLemmas::chosen_so_far))]
 pub fn put_chosen(masks: &BitChunks<'_>, values: &BitChunks<'_>, out: &mut [u8]) -> LastChosen
     requires fitting { length values.now ≡ length masks.now }
     requires room { div_ceil (count masks.now) 8 ≤ length out.old }
@@ -81,6 +82,7 @@ fn put_pairs(masks: &BitChunks<'_>, values: &BitChunks<'_>, out: &mut [u8]) -> L
 
 // Writes the values past the whole words, where there are any.
 #[inline]
+#[tactic(auto, using(crate::proofs::Lists::Words::BackingBitLemmas::front_and_last))]
 fn put_last(out: &mut [u8], last: LastChosen)
     requires { 8 * started_words last.count ≤ length out.old }
     ensures { bitmap out.new 0 last.count ≡ values_so_far out.old last.word last.count }

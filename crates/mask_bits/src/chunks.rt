@@ -197,6 +197,7 @@ impl<'a> BitChunks<'a> {
 
     /// Started word `i`, with zeros past the last value.
     #[inline]
+    #[tactic(auto, using(crate::proofs::Lists::Words::PaddedLemmas::padded_facts))]
     pub fn started_word(&self, i: usize) -> u64
         requires { i < started_words (length self.now) }
         ensures { word_bits result ≡ padded_part self.now i }

@@ -190,6 +190,7 @@ pub fn combine_in_place<C: BitOp>(bytes: &mut [u8], b: &[u8], b_offset: usize, l
 }
 
 // Combines the first words in place.
+#[tactic(auto, using(crate::proofs::CombineLemmas::in_place))]
 fn change_whole<C: BitOp>(bytes: &mut [u8], b: Bits<'_>, words: usize)
     requires b_within { IsWithinBytes b.bytes.now b.low (64 * words) }
     requires few { b.low < 8 }
@@ -236,6 +237,7 @@ fn change_last<C: BitOp>(bytes: &mut [u8], b: Bits<'_>, i: usize)
 }
 
 /// Negates the first `len` bits of `bytes`. Those past them have no meaning.
+#[tactic(auto, using(crate::proofs::CombineLemmas::negated_bytes))]
 pub fn negate_in_place(bytes: &mut [u8], len: usize)
     requires { len ≤ 8 * length bytes.old }
     ensures { bitmap bytes.new 0 len ≡ not_of (bitmap bytes.old 0 len) }

@@ -13,7 +13,7 @@ use crate::read_word::{Bits, Covered, Neighbors, ReadWord, Shifted, Whole};
 use crate::words::word_at;
 
 /// Whether the `len` bits of `a` from bit `a_offset` on are those of `b` from bit `b_offset` on.
-#[tactic(auto, using(crate::proofs::CompareLemmas::same_from_none_unlike))]
+#[tactic(auto, using(crate::proofs::BufferLemmas::buffer_facts, crate::proofs::CompareLemmas::same_from_none_unlike))]
 pub fn same_bits(a: &[u8], a_offset: usize, b: &[u8], b_offset: usize, len: usize) -> bool
     requires a_within { IsWithinBytes a.now a_offset len }
     requires b_within { IsWithinBytes b.now b_offset len }
@@ -39,6 +39,7 @@ pub fn none_true<C: BitOp>(a: &[u8], a_offset: usize, b: &[u8], b_offset: usize,
 
 // Whether none is true that `C` makes of fewer than 64 bits.
 #[inline]
+#[tactic(auto, using(crate::proofs::CompareLemmas::none_in_rest))]
 fn none_in_last<C: BitOp>(a: &[u8], p: usize, b: &[u8], q: usize, rest: usize) -> bool
     requires { rest < 64 }
     ensures { IsTrue result ↔ IsNoneTrue C.of_bits a.now p b.now q rest }
@@ -155,6 +156,7 @@ fn none_in_block<C: BitOp, A: ReadWord, B: ReadWord>(
 
 /// How many values are true that `C` makes of the `len` bits of `a` from bit `a_offset` on and of those of
 /// `b` from bit `b_offset` on.
+#[tactic(auto, using(crate::proofs::CompareLemmas::counted))]
 pub fn count_true<C: BitOp>(
     a: &[u8],
     a_offset: usize,
@@ -184,6 +186,7 @@ fn count_in_last<C: BitOp>(a: &[u8], p: usize, b: &[u8], q: usize, rest: usize) 
 }
 
 // How many are true that `C` makes of whole words.
+#[tactic(auto, using(crate::proofs::CompareLemmas::counted))]
 fn count_in_words<C: BitOp>(
     a: &[u8],
     a_offset: usize,
@@ -208,6 +211,7 @@ fn count_in_words<C: BitOp>(
 
 // How many are true that `C` makes of words beside which there is another one. Each list is read in its
 // own way.
+#[tactic(auto, using(crate::proofs::CompareLemmas::counted))]
 fn count_in_inner_words<C: BitOp>(a: Bits<'_>, b: Bits<'_>, words: usize) -> usize
     requires shifted { 0 < a.low + b.low }
     requires a_goes_on { (i : ℕ) → i < words → 8 * i + 16 ≤ length a.bytes.now }

@@ -20,6 +20,7 @@ const FEW: u32 = 4;
 /// zeros above them: what the instruction PEXT does. It takes about as long at each mask, and less
 /// where all places are set or at most four.
 #[inline]
+#[tactic(auto, using(crate::proofs::Lists::Words::WordLemmas::ones_of_word))]
 pub fn extract(source: u64, mask: u64) -> u64
     ensures { Extracts source mask result }
 {
@@ -33,6 +34,7 @@ pub fn extract(source: u64, mask: u64) -> u64
 /// The bits of two words, each at the set places of its own mask, as [`extract`] has them. It takes less time than two
 /// calls of that, and about as long at any masks, but less where both have at most two set places, or all.
 #[inline(always)]
+#[tactic(auto, using(crate::proofs::Lists::Words::WordLemmas::ones_of_word, crate::proofs::Lists::Words::GatherLemmas::full_mask))]
 pub fn extract_two(sources: [u64; 2], masks: [u64; 2]) -> [u64; 2]
     ensures first { Extracts (slice_index sources 0) (slice_index masks 0) (slice_index result 0) }
     ensures second { Extracts (slice_index sources 1) (slice_index masks 1) (slice_index result 1) }
@@ -78,6 +80,7 @@ fn extract_two_lowest(source: u64, mask: u64) -> u64
 
 // The bit of `source` at a place, which is the word that has this bit alone, or 0 for none.
 #[inline(always)]
+#[tactic(auto, using(std::proofs::lemmas::Nat::Bits::and_pow))]
 fn masked_bit(source: u64, place: u64) -> u64
     ensures bit { (p : ℕ) → place ≡ 2 ^ p → result ≡ source / 2 ^ p % 2 }
     ensures none { place ≡ 0 → result ≡ 0 }

@@ -32,6 +32,7 @@ impl BitBuffer {
     /// The indices of the true values, ascending, in room for just these.
     ///
     /// It takes less time than to collect `set_indices`.
+    #[tactic(auto, using(crate::proofs::Lists::Words::BlockLemmas::block_facts))]
     pub fn indices(&self, alloc: Global, true_count: usize) -> Result<Vec<usize>, AllocError>
         requires { true_count ≡ count (values self.now) }
         ensures { IfOk result (λ indices. indices.items ≡ positions (values self.now)) }
@@ -67,6 +68,7 @@ fn push_whole(indices: &mut Vec<usize>, chunks: &BitChunks<'_>, true_count: usiz
 
 // Pushes those of the whole words from word `from` on, one after another.
 #[inline(always)]
+#[tactic(auto, using(crate::proofs::Lists::Words::BlockLemmas::block_facts, crate::proofs::Lists::Words::PaddedLemmas::padded_facts, crate::proofs::Lists::Places::SelectLemmas::places_of_words))]
 fn push_in_turn(indices: &mut Vec<usize>, chunks: &BitChunks<'_>, from: usize)
     requires so_far { indices.old.items ≡ positions (take (64 * from) chunks.now) }
     requires within { from ≤ length chunks.now / 64 }
@@ -83,6 +85,7 @@ fn push_in_turn(indices: &mut Vec<usize>, chunks: &BitChunks<'_>, from: usize)
 
 // Pushes those of the first blocks of four words.
 #[inline(always)]
+#[tactic(auto, using(crate::proofs::Lists::Words::BlockLemmas::block_facts))]
 fn push_blocks(indices: &mut Vec<usize>, chunks: &BitChunks<'_>, blocks: usize)
     requires empty { indices.old.items ≡ [] }
     requires within { 256 * blocks ≤ length chunks.now }
@@ -106,6 +109,7 @@ fn push_blocks(indices: &mut Vec<usize>, chunks: &BitChunks<'_>, blocks: usize)
 // The first block from `from` on that may have a true value. Never inlined, so that this loop stays
 // small.
 #[inline(never)]
+#[tactic(auto, using(crate::proofs::Lists::Words::BlockLemmas::block_facts))]
 fn next_block(chunks: &BitChunks<'_>, from: usize, blocks: usize) -> usize
     requires ordered { from ≤ blocks }
     requires within { 256 * blocks ≤ length chunks.now }

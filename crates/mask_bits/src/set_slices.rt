@@ -75,6 +75,7 @@ struct Edges {
 
 // Appends the runs that end within a word whose first index is `base`.
 #[inline(always)]
+#[tactic(auto, using(crate::proofs::RunWordLemmas::runs_of_word))]
 fn push_runs(
     ranges: &mut Vec<(usize, usize)>,
     begun: Open,
@@ -120,6 +121,7 @@ fn push_edges(
 
 // The bit before each bit, where `inside` is the one before the first.
 #[inline]
+#[tactic(auto, using(crate::proofs::RunWordLemmas::runs_of_word))]
 fn bits_before(inside: bool, word: u64) -> u64
     ensures bits { word_bits result ≡ take 64 (inside ∷ word_bits word) }
     ensures full { word ≡ 2 ^ 64 - 1 → inside ≡ true → result ≡ word }
@@ -196,6 +198,7 @@ fn push_between(
 
 // The same, one by one. Within a word nothing is looked up but the word.
 #[inline]
+#[tactic(auto, using(crate::proofs::RunWordLemmas::runs_pushed))]
 fn push_each_run(
     ranges: &mut Vec<(usize, usize)>,
     base: usize,

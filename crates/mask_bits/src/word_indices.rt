@@ -28,6 +28,7 @@ pub(crate) fn push_indices<const K: usize, R: Room<usize>>(indices: &mut R, base
 
 // Puts them byte by byte, eight numbers for each and no test. It takes about as long at each word.
 #[inline(always)]
+#[tactic(auto, using(crate::proofs::ByteLemmas::bytes_of_word))]
 fn push_by_bytes<R: Room<usize>>(indices: &mut R, base: usize, word: u64)
     requires room { length (R.items indices.old) + (count (word_bits word) + 8) ≤ R.capacity (R.kept indices.old) }
     requires fits { base + 64 ≤ 2 ^ 64 }

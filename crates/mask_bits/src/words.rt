@@ -96,6 +96,7 @@ fn sixteen_bytes(bytes: &[u8], first: usize) -> u128
 
 // Sixteen bytes from byte `first` on, where all are there.
 #[inline]
+#[tactic(auto, using(crate::proofs::NumberLemmas::chunk_numbers))]
 fn sixteen_whole_bytes(bytes: &[u8], first: usize) -> u128
     requires { first + 16 ≤ length bytes.now }
     ensures { result ≡ number (take 16 (drop first bytes.now)) }
@@ -106,7 +107,7 @@ fn sixteen_whole_bytes(bytes: &[u8], first: usize) -> u128
     }
 }
 
-#[tactic(auto, using(crate::proofs::NumberLemmas::padded_bytes))]
+#[tactic(auto, using(crate::proofs::NumberLemmas::chunk_numbers))]
 #[cold]
 #[inline(never)]
 fn last_bytes(bytes: &[u8], first: usize) -> u128

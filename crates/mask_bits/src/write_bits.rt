@@ -12,6 +12,7 @@ use crate::read_word::{Bits, ReadWord, Shifted, Whole};
 use crate::words::{low_bits, set_word, word_at, word_of};
 
 /// Sets the bit at one position and no other.
+#[tactic(auto, using(crate::proofs::SetBitLemmas::bits_written))]
 pub fn set_bit(bytes: &mut [u8], position: usize)
     requires { position < 8 * length bytes.old }
     ensures { (p : ℕ) → backing_bit bytes.new p ≡ (nat_eq p position || backing_bit bytes.old p) }
@@ -20,6 +21,7 @@ pub fn set_bit(bytes: &mut [u8], position: usize)
 }
 
 /// Clears the bit at one position and no other.
+#[tactic(auto, using(crate::proofs::SetBitLemmas::bits_written))]
 pub fn clear_bit(bytes: &mut [u8], position: usize)
     requires { position < 8 * length bytes.old }
     ensures { (p : ℕ) → backing_bit bytes.new p

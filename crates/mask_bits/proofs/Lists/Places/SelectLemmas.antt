@@ -146,3 +146,5 @@ count-part_further m s n = grind (arith, take-add, count-append)
 pub ruleset indices_of_word = (places-lowest, indices-of_none, append-nil, append_assoc)
 
 pub ruleset left_in_word = (some_left, left-more, left-first, low-within)
+
+pub ruleset places_of_words = (places-word_more)

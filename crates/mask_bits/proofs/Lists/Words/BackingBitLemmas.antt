@@ -8,7 +8,7 @@ use Rattle.mask_bits.specs.Positions.{count, repeated}
 use Rattle.mask_bits.specs.Words.{word_bits, window}
 use Rattle.mask_bits.proofs.BufferLemmas.{length-values, get_or-values, values_from_front}
 use Rattle.mask_bits.proofs.Lists.CountLemmas.{count-append, count-repeated_false}
-use Rattle.mask_bits.proofs.Lists.Words.FrontLemmas.{get_or-window, values-join, window-take}
+use Rattle.mask_bits.proofs.Lists.Words.FrontLemmas.{get_or-window, values-join, window-take, front-same}
 use Rattle.mask_bits.proofs.Lists.Words.WordLemmas.{get_or-word_bits, count-word_bits}
 use Rattle.mask_bits.proofs.Lists.Places.PlaceLemmas.{count-le-length}
 use Rattle.mask_bits.proofs.Lists.Words.ShiftLemmas.{word_bits-low_mask}
@@ -67,3 +67,5 @@ bitmap-split bytes offset len = grind (arith, bitmap-append)
 
 pub front-split : (bytes : List ℕ) (len : ℕ) → bitmap bytes 0 len ≡ bitmap bytes 0 (64 * (len / 64)) ++ bitmap bytes (64 * (len / 64)) (len % 64)
 front-split bytes len = grind (arith, bitmap-split)
+
+pub ruleset front_and_last = (front-split, front-same, window-take)

@@ -8,8 +8,9 @@ use Rattle.mask_bits.proofs.CompareLemmas.{none-or}
 use Rattle.mask_bits.proofs.Lists.CountLemmas.{count-append}
 use Rattle.mask_bits.proofs.Lists.Places.SelectLemmas.{count-part_further, indices_from-append, indices-of_none, places-word_more}
 use Rattle.mask_bits.proofs.Lists.Words.PaddedLemmas.{padded_part-remainder}
-use Rattle.mask_bits.proofs.Lists.Words.WordLemmas.{length-word_bits}
+use Rattle.mask_bits.proofs.Lists.Words.WordLemmas.{length-word_bits, count-word_bits}
 use Rattle.mask_bits.proofs.Lists.Places.PushLemmas.{length-indices}
+use Rattle.mask_bits.proofs.Lists.Places.PlaceLemmas.{count-le-length}
 
 -- ---- the words of a block
 
@@ -97,3 +98,7 @@ pub rest-room : (m bits : List Bool) (items : List ℕ) (i : ℕ) → i ≡ leng
     → length items + count bits ≡ count m
 rest-room m bits items i is so_far rest =
     omega (arith, ap length (rest-more m bits items i is so_far rest), length-append items (indices_from (64 * i) bits), length-indices (64 * i) bits)
+
+pub ruleset block_facts = (block-shown, none-in_block, block-none, block-more, count-part_le, rest-room, rest-more)
+
+pub ruleset bits_of_words_more = (count-bits_more, indices-bits_more, length-indices, count-word_bits, count-le-length, length-word_bits, append-nil, append_assoc, length-append, drop_all)

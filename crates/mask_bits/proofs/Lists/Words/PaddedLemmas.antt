@@ -68,3 +68,5 @@ drop-padded_parts_all m i h = drop_all i (padded_parts m) (omega (arith, length-
 pub ruleset padded_words = (length-padded_parts, drop-padded_parts, drop-padded_parts_all, length-drop)
 
 pub ruleset no_remainder = (word_bits-no_remainder)
+
+pub ruleset padded_facts = (padded_part-whole, padded_part-remainder)

@@ -80,3 +80,5 @@ unfolding word_parts
 counts_of_words_add_up m = grind (arith, counts_of_front, count-append, count-repeated_false)
 
 pub ruleset words_of_list = (length-word_parts, drop-word_parts, drop-word_parts_all, length-drop)
+
+pub ruleset ones_of_word = (count-word_bits)

@@ -3,15 +3,6 @@ use Rattle.mask_bits.proofs.ChosenBitLemmas.{AreChosenAt, AreChosenSoFar-more, c
 use Rattle.mask_bits.proofs.Lists.Places.PlaceLemmas.{count-le-length}
 use Rattle.mask_bits.proofs.choose_values.put_chosen.Goals as goal
 
-pub put_behind-last-requires-clause-word : goal.put_behind-last-requires-clause-word
-put_behind-last-requires-clause-word c = grind (arith, extracted-clear)
-
-pub put_behind-last-requires-clause-room : goal.put_behind-last-requires-clause-room
-put_behind-last-requires-clause-room c = grind (arith, chosen-within)
-
-pub put_behind-last-requires-clause-fits : goal.put_behind-last-requires-clause-fits
-put_behind-last-requires-clause-fits c = grind (arith, chosen-within, count-le-length)
-
 pub loop-i-preserved : goal.loop-i-preserved
 loop-i-preserved c =
     let here : AreChosenAt c.args.values.now c.args.masks.now c.loop-i.i c.started_word.result c.started_word-mask.result c.extract-word.result
