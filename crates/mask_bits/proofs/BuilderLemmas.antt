@@ -1,13 +1,15 @@
 -- The list of a builder, from its bytes.
 use Rattle.std.proofs.Common.{◌≡◌, ◌≢◌, ℕ, ◌+◌, ◌*◌, ◌%◌, ◌<◌, ◌≤◌, Bool, true, false, not, ◌&&◌, ◌||◌, nat_eq, List, [], ◌++◌, length, set, take, drop, Result, Ok, Err, OnErr, refl, ap, ◌∙◌, arith}
 use Rattle.std.proofs.lemmas.Bool.{eq-eqb, ne_eqb}
-use Rattle.std.proofs.lemmas.List.{length-set, get_or-set_same, get_or-set_other, nil_from_length, with_items_is}
+use Rattle.std.proofs.lemmas.List.{length-set, get_or-set_same, get_or-set_other, nil_from_length, with_items_is, length-take}
 use Rattle.mask_bits.specs.Buffer.{backing_bit, values}
 use Rattle.mask_bits.specs.BufferMut.{IsWrittenBehind, IsRoom}
 use Rattle.mask_bits.proofs.BufferLemmas.{length-values, values_from_front}
 use Rattle.mask_bits.proofs.CombineLemmas.{take_back}
-use Rattle.mask_bits.proofs.Lists.Words.FrontLemmas.{get_or-front}
+use Rattle.mask_bits.proofs.Lists.Words.FrontLemmas.{get_or-front, front-same}
 use Rattle.mask_bits.proofs.WriteLemmas.{written-front, written-clear}
+use Rattle.mask_bits.proofs.Lists.CountLemmas.{length-repeated}
+use Rattle.mask_bits.proofs.Lists.Words.WordLemmas.{length-word_bits}
 
 -- a fact that holds at any answer
 pub on_err : {T E P : Type 0} (r : Result T E) → P → OnErr r P
@@ -56,3 +58,5 @@ room-appended b c xs at k n m place len same whole covered w = grind (arith, tak
 pub ruleset no_bits = (front-none)
 
 pub ruleset bits_set = (with_items_is, front-set, room-set, set-here, set-others, unset-here, unset-others)
+
+pub ruleset appended = (on_err, front-same, with_items_is, front-appended, length-repeated, length-take, length-word_bits)

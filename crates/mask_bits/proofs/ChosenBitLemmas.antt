@@ -22,6 +22,7 @@ use Rattle.mask_bits.specs.ChosenBits.{AreChosenSoFar, values_so_far}
 use Rattle.mask_bits.proofs.Lists.Words.BackingBitLemmas.{no_values}
 use borrow.Rule.Slice.PartMut.{put_mid}
 use Rattle.mask_bits.proofs.Lists.Places.PlaceLemmas.{count-le-length}
+use Rattle.std.proofs.lemmas.Slice.{drop-put_mid}
 
 -- ---- two words
 
@@ -189,3 +190,5 @@ AreChosenSoFar-more {s} {m} {i} {last} {n} {source} {mask} {word} {old} {out} ne
     })
 
 pub ruleset chosen_so_far = (extracted-clear, chosen-within, count-le-length)
+
+pub ruleset put_facts = (put-begun, put-begun_clear, clear-behind, put-full, length-take, length-drop, drop-put_mid)

@@ -169,4 +169,4 @@ pub ruleset counted_in_rest = (count-low, low_mask)
 
 pub ruleset counted = (count-none, count-parts, count-at_most, bitmap-byte)
 
-pub ruleset none_in_rest = (none-low, low_mask)
+pub ruleset none_in_rest = (none-low, low_mask, none-parts)

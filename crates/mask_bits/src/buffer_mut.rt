@@ -92,6 +92,7 @@ impl BitBufferMut {
     }
 
     /// Appends `value`, `n` times.
+    #[tactic(auto, using(crate::proofs::BufferLemmas::len_facts, crate::proofs::BuilderLemmas::appended))]
     pub fn append_n(&mut self, value: bool, n: usize) -> Result<(), AllocError>
         requires { length self.old + n < 2 ^ 64 }
         ensures added { OnOk result (self.new ≡ self.old ++ repeated n value) }
@@ -104,6 +105,7 @@ impl BitBufferMut {
     }
 
     /// Appends the values of a buffer, whatever its bit offset.
+    #[tactic(auto, using(crate::proofs::BufferLemmas::len_facts, crate::proofs::BufferLemmas::buffer_facts, crate::proofs::CombineLemmas::part_facts, crate::proofs::BuilderLemmas::appended))]
     pub fn append_buffer(&mut self, other: &BitBuffer) -> Result<(), AllocError>
         requires { length self.old + length (values other.now) < 2 ^ 64 }
         ensures added { OnOk result (self.new ≡ self.old ++ values other.now) }
@@ -123,6 +125,7 @@ impl BitBufferMut {
     }
 
     /// Appends the lowest `count` bits of a word, the lowest first.
+    #[tactic(auto, using(crate::proofs::BufferLemmas::len_facts, crate::proofs::BuilderLemmas::appended))]
     pub fn push_word(&mut self, word: u64, count: usize) -> Result<(), AllocError>
         requires few { count ≤ 64 }
         requires fits { length self.old + count < 2 ^ 64 }

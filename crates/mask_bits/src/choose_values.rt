@@ -94,6 +94,7 @@ fn put_last(out: &mut [u8], last: LastChosen)
 
 // Puts the lowest `count` bits of a word behind the values so far, and writes the word that they fill.
 #[inline(always)]
+#[tactic(auto, using(crate::proofs::ChosenBitLemmas::put_facts))]
 fn put_behind(out: &mut [u8], last: LastChosen, word: u64, count: usize) -> LastChosen
     requires few { count ≤ 64 }
     requires begun { (j : ℕ) → last.count % 64 ≤ j → bit_at last.word j ≡ 0 }

@@ -118,6 +118,7 @@ impl<'a> BitChunks<'a> {
     }
 
     /// The index of true value number `n`, counted from 0, and `None` from the true count on.
+    #[tactic(auto, using(crate::proofs::Lists::Places::SelectLemmas::places_of_words, crate::proofs::Lists::Words::WordLemmas::ones_of_word))]
     pub fn select(&self, n: usize) -> Option<usize>
         ensures index { result ≡ slice_get (positions self.now) n }
         ensures within { IfSome result (λ p. p < length self.now) }
@@ -136,6 +137,7 @@ impl<'a> BitChunks<'a> {
     }
 
     /// The index of the last true value, if there is one.
+    #[tactic(auto, using(crate::proofs::Lists::Places::SelectLemmas::none_more, crate::proofs::Lists::Places::SelectLemmas::last_none))]
     pub fn last_set_index(&self) -> Option<usize>
         ensures index { result
             ≡ slice_get (positions self.now) (count self.now - 1) }
@@ -153,6 +155,7 @@ impl<'a> BitChunks<'a> {
     }
 
     /// The first index from `from` on whose value is `value`, and the length where none is.
+    #[tactic(auto, using(crate::proofs::BufferLemmas::len_facts))]
     pub fn first_from(&self, from: usize, value: bool) -> usize
         requires { from ≤ length self.now }
         ensures { IsFirstFrom self.now from value result }
@@ -170,6 +173,7 @@ impl<'a> BitChunks<'a> {
 
     // The word at which a block of 64 words begins, not past the word of true value number `n`, and
     // that value's number among the values from there on.
+    #[tactic(auto, using(crate::proofs::BufferLemmas::len_facts))]
     fn passed_blocks(&self, n: usize) -> (usize, usize)
         ensures { n ≡ count (take (64 * result.0) self.now) + result.1 }
     {

@@ -24,6 +24,7 @@ pub fn same_bits(a: &[u8], a_offset: usize, b: &[u8], b_offset: usize, len: usiz
 
 /// Whether no value is true that `C` makes of the `len` bits of `a` from bit `a_offset` on and of those
 /// of `b` from bit `b_offset` on.
+#[tactic(auto, using(crate::proofs::CompareLemmas::none_in_rest, crate::proofs::CompareLemmas::none_from_list))]
 pub fn none_true<C: BitOp>(a: &[u8], a_offset: usize, b: &[u8], b_offset: usize, len: usize) -> bool
     requires a_within { IsWithinBytes a.now a_offset len }
     requires b_within { IsWithinBytes b.now b_offset len }

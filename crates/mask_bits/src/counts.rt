@@ -8,6 +8,7 @@ ghost use Rattle.mask_bits.specs.Positions.{count};
 use crate::words::{word_at, word_of};
 
 /// How many of the `len` bits from bit `position` on are set.
+#[tactic(auto, using(crate::proofs::Lists::Words::BackingBitLemmas::low_counts))]
 pub fn count_bits(bytes: &[u8], position: usize, len: usize) -> usize
     requires { IsWithinBytes bytes.now position len }
     ensures { result ≡ count (bitmap bytes.now position len) }
@@ -36,6 +37,7 @@ fn count_few(bytes: &[u8], position: usize, len: usize) -> usize
 
 // How many bits of the first words are set.
 #[inline]
+#[tactic(auto, using(crate::proofs::Lists::Words::BackingBitLemmas::low_counts))]
 fn count_words(bytes: &[u8], words: usize) -> usize
     requires covered { 8 * words ≤ length bytes.now }
     requires fits { 64 * words < 2 ^ 64 }

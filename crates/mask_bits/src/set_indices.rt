@@ -168,6 +168,7 @@ impl Iterator for SetIndices<'_> {
 
     ghost remaining = { item_count (λ s. s) };
 
+    #[tactic(auto, using(crate::proofs::Lists::Words::WalkLemmas::places_left, crate::proofs::YieldLemmas::items))]
     fn next(&mut self) -> Option<usize> {
         let (at, word) = next_word(&self.chunks, self.at, self.word)?;
         self.at = at;

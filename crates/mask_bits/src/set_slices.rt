@@ -96,6 +96,7 @@ fn push_runs(
 
 // The same for a word that has edges.
 #[inline(always)]
+#[tactic(auto, using(crate::proofs::RunWordLemmas::each_of_word_begins, crate::proofs::RunWordLemmas::last_bit))]
 fn push_edges(
     ranges: &mut Vec<(usize, usize)>,
     begun: Open,
@@ -310,6 +311,7 @@ impl Iterator for SetSlices<'_> {
 
     ghost remaining = { item_count (λ s. s) };
 
+    #[tactic(auto, using(crate::proofs::Lists::Words::WalkLemmas::runs_left, crate::proofs::YieldLemmas::items))]
     fn next(&mut self) -> Option<(usize, usize)> {
         let (at, word) = next_word(&self.chunks, self.at, self.word)?;
         let start = 64 * at + word.trailing_zeros() as usize;

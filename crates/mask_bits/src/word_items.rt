@@ -58,6 +58,7 @@ impl<'a, T: Copy> WordItems for &'a [T] {
 
 /// Puts what the set bits of a word yield, one after another. Within a word nothing is looked up but the word.
 #[inline(always)]
+#[tactic(auto, using(crate::proofs::Lists::Places::SelectLemmas::places_of_words, crate::proofs::Lists::Places::PushLemmas::items_of_words, crate::proofs::Lists::Places::PushLemmas::no_places))]
 pub(crate) fn push_one_by_one<W: WordItems, R: Room<W::Item>>(out: &mut R, items: W, word: u64)
     requires each { All (λ p. IsSome (W.at items p)) (positions (word_bits word)) }
     requires room { length (R.items out.old) + count (word_bits word) ≤ R.capacity (R.kept out.old) }
@@ -75,6 +76,7 @@ pub(crate) fn push_one_by_one<W: WordItems, R: Room<W::Item>>(out: &mut R, items
 /// Puts what the set bits yield `K` at a time. One test for several is guessed right more often than one for
 /// each, and the first need none.
 #[inline(always)]
+#[tactic(auto, using(crate::proofs::Lists::Words::WordLemmas::ones_of_word, crate::proofs::Lists::Places::PushLemmas::items_of_words))]
 pub(crate) fn push_by<const K: usize, W: WordItems, R: Room<W::Item>>(
     out: &mut R,
     items: W,

@@ -22,6 +22,7 @@ const ROOM: usize = 68;
 /// what is put past them is dropped, so that few branches go by how many bits a word has; one after another where
 /// `K` is 0, which takes less time where few bits are set.
 #[inline(always)]
+#[tactic(auto, using(crate::proofs::Lists::Places::PushLemmas::rows_of_words))]
 pub fn push_rows_of_word<const K: usize, T: Copy, R: Room<T>>(out: &mut R, rows: &[T], word: u64)
     requires few { K ≤ 4 }
     requires whole { length rows.now ≡ 64 }

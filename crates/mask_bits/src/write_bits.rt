@@ -116,6 +116,7 @@ pub(crate) fn put_bits(bytes: &mut [u8], at: usize, from: &[u8], offset: usize, 
 }
 
 // Writes bits behind those that are there, by a window for each word.
+#[tactic(auto, using(crate::proofs::WriteLemmas::bits_of_bytes))]
 fn put_windows(bytes: &mut [u8], at: usize, from: &[u8], offset: usize, n: usize)
     requires room { at + n ≤ 8 * length bytes.old }
     requires fits { at + n < 2 ^ 64 }
@@ -150,6 +151,7 @@ fn put_whole(bytes: &mut [u8], first: usize, from: &[u8], offset: usize, words: 
 }
 
 // Writes the first words of a list as the words from `first` on.
+#[tactic(auto, using(crate::proofs::WriteLemmas::bits_of_bytes))]
 fn put_words<R: ReadWord>(bytes: &mut [u8], first: usize, from: Bits<'_>, words: usize)
     requires reads { (i : ℕ) → i < words → R.can_read from.bytes.now from.low i }
     requires room { 8 * (first + words) ≤ length bytes.old }

@@ -5,7 +5,7 @@ use Rattle.std.specs.List.{All, cons_option, filter_map}
 use Rattle.std.specs.Option.{IsSome}
 use Rattle.std.proofs.lemmas.Bool.{cases_lt}
 use Rattle.std.proofs.lemmas.Bool.Decides.{nat_tests}
-use Rattle.std.proofs.lemmas.List.{take-append-le}
+use Rattle.std.proofs.lemmas.List.{take-append-le, length-take}
 use Rattle.std.proofs.lemmas.List.Elements.{All-head, All-tail, All-weaker}
 use lib.Seq.{take-append_seam}
 use Rattle.mask_bits.specs.Positions.{chosen, indices_from, positions, count, repeated}
@@ -16,7 +16,7 @@ use Rattle.std.proofs.lemmas.Option.{get_or_from_slice_get, slice_get_cases}
 use Rattle.mask_bits.proofs.Lists.ChooseLemmas.{chosen-all_true, chosen_at_positions}
 use Rattle.mask_bits.proofs.Lists.CountLemmas.{count-repeated_true, length-repeated, slice_get-repeated}
 use Rattle.mask_bits.proofs.Lists.Places.SelectLemmas.{positions-lowest, indices-of_none}
-use Rattle.mask_bits.proofs.Lists.Places.PlaceLemmas.{length-indices_from-trues, positions-within}
+use Rattle.mask_bits.proofs.Lists.Places.PlaceLemmas.{length-indices_from-trues, positions-within, count-le-length}
 use Rattle.mask_bits.proofs.Lists.Words.LowestLemmas.{low, ones-of_full, ones-set}
 use Rattle.mask_bits.proofs.Lists.Words.WordLemmas.{count-word_bits, length-word_bits, word_bits_from_bits}
 
@@ -137,3 +137,7 @@ rows_of {X} rows (p ∷ ps) few = grind (arith, All-head, All-tail, rows_of rows
 
 pub items_of-rows : {X : Type 0} (rows : List X) (w : ℕ) → items_of (λ p. slice_get rows (p % 64)) (word_bits w) ≡ chosen rows (word_bits w)
 items_of-rows rows w = rows_of rows (positions (word_bits w)) (places-within w 64 refl) ∙ sym (chosen_at_positions rows (word_bits w))
+
+pub ruleset rows_of_words = (count_of_full, places-within, row-some, chosen_by_full, count-le-length, length-word_bits)
+
+pub ruleset items_of_words = (items_of-zero, append-nil, length-take)

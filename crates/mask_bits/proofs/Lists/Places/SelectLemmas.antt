@@ -147,4 +147,4 @@ pub ruleset indices_of_word = (places-lowest, indices-of_none, append-nil, appen
 
 pub ruleset left_in_word = (some_left, left-more, left-first, low-within)
 
-pub ruleset places_of_words = (places-word_more)
+pub ruleset places_of_words = (places-word_more, count-word_more, positions-lowest)

@@ -54,7 +54,7 @@ bit-window bytes p w j shows h = grind (arith, get_or-word_bits w j false h, get
 
 -- ---- a list that is written word by word
 
-pub ruleset low_counts = (count-low)
+pub ruleset low_counts = (count-low, count-bitmap-le)
 
 -- none of them
 pub no_values : (bytes : List ℕ) (p : ℕ) → bitmap bytes p 0 ≡ []

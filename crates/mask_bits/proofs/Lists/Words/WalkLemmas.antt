@@ -14,6 +14,7 @@ use Rattle.mask_bits.proofs.Lists.Words.LowestLemmas.{low, low-within, low-set, 
 use Rattle.mask_bits.proofs.Lists.Words.PaddedLemmas.{get_or-padded_part}
 use Rattle.mask_bits.proofs.Lists.Places.ScanLemmas.{skip, indices_from-first, runs_from-first}
 use Rattle.mask_bits.proofs.Lists.Words.WordLemmas.{length-word_bits, get_or-word_bits}
+use Rattle.mask_bits.proofs.Lists.CountLemmas.{positions-all_false}
 
 -- ---- one step over lists
 
@@ -238,3 +239,7 @@ runs_from-repeated_false n zero = refl
 runs_from-repeated_false n (suc k) = runs_from-repeated_false (n + 1) k
 
 pub ruleset left_in_words = (left_of-first, left_of-none, left_of-next, left_of-last, IsLeft-none, IsLeft-read)
+
+pub ruleset places_left = (places-lowest, low-inside, positions-all_false)
+
+pub ruleset runs_left = (runs-lowest, runs_from-repeated_false)

@@ -1,6 +1,4 @@
-use Rattle.std.proofs.Common.{arith}
-use Rattle.mask_bits.proofs.ChosenBitLemmas.{AreChosenAt, AreChosenSoFar-more, chosen-within, extracted-clear}
-use Rattle.mask_bits.proofs.Lists.Places.PlaceLemmas.{count-le-length}
+use Rattle.mask_bits.proofs.ChosenBitLemmas.{AreChosenAt, AreChosenSoFar-more}
 use Rattle.mask_bits.proofs.choose_values.put_chosen.Goals as goal
 
 pub loop-i-preserved : goal.loop-i-preserved

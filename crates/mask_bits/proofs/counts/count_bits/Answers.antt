@@ -2,11 +2,8 @@ use Rattle.std.proofs.Common.{ℕ, ◌≡◌, ◌+◌, ◌-◌, ◌*◌, ◌/◌
 use Rattle.std.proofs.lemmas.List.{take_rest}
 use Rattle.mask_bits.specs.Bitmap.{bitmap}
 use Rattle.mask_bits.specs.Positions.{count}
-use Rattle.mask_bits.proofs.Lists.Words.BackingBitLemmas.{count-split, count-bitmap-le}
+use Rattle.mask_bits.proofs.Lists.Words.BackingBitLemmas.{count-split}
 use Rattle.mask_bits.proofs.counts.count_bits.Goals as goal
-
-pub overflow_add-result : goal.overflow_add-result
-overflow_add-result c = grind (arith, count-bitmap-le)
 
 pub returns : goal.returns
 returns c =
@@ -26,6 +23,3 @@ returns c =
       ap (λ k. count (bitmap bytes (p + k) tail)) from,
       count-split bytes (take (length bytes - byte) (drop byte bytes)) p byte head (64 * words) tail n (omega arith) (take_rest bytes byte) (omega (arith, c.if-len-lt64.false)),
     )
-
-pub overflow_add-result-2 : goal.overflow_add-result-2
-overflow_add-result-2 c = omega (arith, returns c, count-bitmap-le c.args.bytes.now c.args.position c.args.len)

@@ -7,9 +7,6 @@ use Rattle.mask_bits.proofs.Lists.Words.FrontLemmas.{front-more_word}
 use Rattle.mask_bits.proofs.Lists.Words.WordLemmas.{count-word_bits}
 use Rattle.mask_bits.proofs.counts.count_words.Goals as goal
 
-pub loop-i-init : goal.loop-i-init
-loop-i-init c = omega (arith, count-bitmap-le c.args.bytes.now 0 0)
-
 more : (c : goal.After-word_of) → count (bitmap c.args.bytes.now 0 (64 * (c.loop-i.i + 1))) ≡ c.loop-i.count + count_ones c.word_of.result
 more c = grind (arith, front-more_word, count-append, count-word_bits)
 

@@ -1,13 +1,8 @@
 use Rattle.std.proofs.Common.{List, ℕ, ◌/◌, ◌%◌, ◌^◌, ◌+◌, ◌-◌, nat_eq, ap, ◌∙◌, ◌++◌, append_assoc}
 use Rattle.std.specs.Int.{w64, leading_ones}
 use Rattle.mask_bits.specs.Pushed.{runs_behind, runs_between}
-use Rattle.mask_bits.proofs.RunWordLemmas.{behind-word, each_of_word_begins, last_bit}
+use Rattle.mask_bits.proofs.RunWordLemmas.{behind-word}
 use Rattle.mask_bits.proofs.set_slices.push_edges.Goals as goal
-
-pub edges_of-edges-requires-clause-begin : goal.edges_of-edges-requires-clause-begin
-edges_of-edges-requires-clause-begin c =
-    let a = c.args in
-    each_of_word_begins a.begun.inside a.begun.start a.base a.word c.args.before c.ranges.word.fits c.ranges.before.fits c.requires.bits
 
 pub returns-clause-runs : goal.returns-clause-runs
 returns-clause-runs c rest =
@@ -23,6 +18,3 @@ returns-clause-runs c rest =
     ∙ ap (λ (rs : List (ℕ × ℕ)). a.ranges.now.items ++ (rs ++ behind)) c.edges_of-edges.ensures.runs
     ∙ ap (λ (rs : List (ℕ × ℕ)). a.ranges.now.items ++ rs)
     (behind-word a.begun.inside a.begun.start a.base a.word b rest is.fits c.ranges.word.fits c.ranges.before.fits is.bits is.full is.some)
-
-pub returns-clause-last : goal.returns-clause-last
-returns-clause-last c = last_bit c.args.word c.ranges.word.fits

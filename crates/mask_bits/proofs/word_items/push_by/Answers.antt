@@ -1,19 +1,9 @@
 use Rattle.std.proofs.Common.{◌≡◌, ◌≤◌, ap, ◌∙◌, ◌+◌, ◌++◌, length, take, count_ones, arith, sym}
-use Rattle.std.proofs.lemmas.List.{length-append, length-take}
+use Rattle.std.proofs.lemmas.List.{length-append}
 use Rattle.mask_bits.specs.WordItems.{items_of}
 use Rattle.mask_bits.specs.Words.{word_bits}
-use Rattle.mask_bits.proofs.Lists.Words.WordLemmas.{count-word_bits}
 use Rattle.mask_bits.proofs.Lists.Places.PushLemmas.{ArePushed-all, length-items_of_word}
 use Rattle.mask_bits.proofs.word_items.push_by.Goals as goal
-
-pub push_some-left-requires-in-loop-items-clause-room : goal.push_some-left-requires-in-loop-items-clause-room
-push_some-left-requires-in-loop-items-clause-room g c = grind (arith, count-word_bits)
-
-pub overflow_add-end : goal.overflow_add-end
-overflow_add-end g c = omega (arith, c.requires.room, c.count.ensures, count-word_bits c.args.word c.ranges.word.fits)
-
-pub returns-clause-len : goal.returns-clause-len
-returns-clause-len g c = grind (arith, length-take, count-word_bits)
 
 pub returns-clause-items : goal.returns-clause-items
 returns-clause-items g c =

@@ -1,4 +1,4 @@
-use Rattle.std.proofs.Common.{◌<◌, ◌-◌, ◌++◌, ◌∷◌, [], subst, sym, ap, ◌∙◌, length, append_assoc, append-nil, arith}
+use Rattle.std.proofs.Common.{◌<◌, ◌-◌, ◌++◌, ◌∷◌, [], subst, sym, ap, ◌∙◌, length, append_assoc, arith}
 use Rattle.std.specs.Int.RustNames.{bit_and}
 use Rattle.std.specs.List.{All}
 use Rattle.std.specs.Option.{IsSome}
@@ -7,7 +7,7 @@ use Rattle.std.proofs.lemmas.List.Elements.{All-head, All-tail}
 use Rattle.mask_bits.specs.Positions.{positions}
 use Rattle.mask_bits.specs.WordItems.{items_of}
 use Rattle.mask_bits.specs.Words.{word_bits}
-use Rattle.mask_bits.proofs.Lists.Places.PushLemmas.{items_of-lowest, items_of-zero, no_places}
+use Rattle.mask_bits.proofs.Lists.Places.PushLemmas.{items_of-lowest}
 use Rattle.mask_bits.proofs.Lists.Places.SelectLemmas.{positions-lowest}
 use Rattle.mask_bits.proofs.Lists.Words.LowestLemmas.{low}
 use Rattle.mask_bits.proofs.word_items.push_one_by_one.Goals as goal
@@ -17,9 +17,6 @@ lowest-requires g c =
     let w = c.loop-left.left in
     let at = g.W.WordItems.at c.args.items in
     All-head (λ p. IsSome (at p)) (low w) _ (subst (All (λ p. IsSome (at p))) (positions-lowest w (omega (arith, c.loop-left-test.true)) c.loop-left.auto.left-fits.fits) c.loop-left.invariant.each)
-
-pub put-requires : goal.put-requires
-put-requires g c = grind (arith, positions-lowest)
 
 pub loop-left-preserved : goal.loop-left-preserved
 loop-left-preserved g c =
@@ -38,9 +35,3 @@ loop-left-preserved g c =
       kept = c.put.ensures.kept ∙ so_far.kept;
       each = All-tail (λ p. IsSome (at p)) (low w) (positions (word_bits rest)) (subst (All (λ p. IsSome (at p))) first so_far.each);
     }
-
-pub returns-clause-items : goal.returns-clause-items
-returns-clause-items g c = grind (arith, items_of-zero, append-nil)
-
-pub returns-clause-len : goal.returns-clause-len
-returns-clause-len g c = grind (arith, no_places)

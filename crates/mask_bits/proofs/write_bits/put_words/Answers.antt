@@ -4,11 +4,8 @@ use Rattle.mask_bits.specs.BufferMut.{IsWrittenBehind, AreClearFrom}
 use Rattle.mask_bits.specs.Words.{word_bits}
 use Rattle.mask_bits.proofs.Lists.Words.FrontLemmas.{window-whole}
 use Rattle.mask_bits.proofs.Lists.Words.WordLemmas.{length-word_bits}
-use Rattle.mask_bits.proofs.WriteLemmas.{written-no_bits, written-more, written-bits_clear, written-word}
+use Rattle.mask_bits.proofs.WriteLemmas.{written-more, written-bits_clear, written-word}
 use Rattle.mask_bits.proofs.write_bits.put_words.Goals as goal
-
-pub loop-i-init : goal.loop-i-init
-loop-i-init g c = written-no_bits c.args.bytes.now c.args.from.bytes.now (64 * c.args.first) c.args.from.low c.requires.clear
 
 pub loop-i-preserved : goal.loop-i-preserved
 loop-i-preserved g c =

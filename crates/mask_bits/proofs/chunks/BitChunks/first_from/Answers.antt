@@ -33,15 +33,3 @@ returns c =
     first_index b c.args.from c.loop-index.index run.result c.min.result c.args.value c.self.view_is so_far.from
     c.min.ensures (omega (arith, len-of_list b c.self.view_is, so_far.within)) so_far.passed run.ensures.passed run.ensures.holds
     (elim (cases_lt run.result 64) [ inl h ↦ inl h | inr h ↦ inr (omega (arith, c.loop-index-test.false)) ])
-
-pub overflow_sub-self-inside : goal.overflow_sub-self-inside
-overflow_sub-self-inside c = omega (arith, c.loop-index.invariant.within, len-of_list _ c.self.view_is)
-
-pub overflow_sub-self-inside-2 : goal.overflow_sub-self-inside-2
-overflow_sub-self-inside-2 c = omega (arith, c.loop-index.invariant.within, len-of_list _ c.self.view_is)
-
-pub overflow_add-self-inside-2 : goal.overflow_add-self-inside-2
-overflow_add-self-inside-2 c = omega (arith, c.loop-index.invariant.within, len-of_list _ c.self.view_is)
-
-pub loop-index-smaller : goal.loop-index-smaller
-loop-index-smaller c = omega (arith, c.loop-index-test.true, len-of_list _ c.self.view_is)

@@ -1,7 +1,7 @@
 use Rattle.std.proofs.Common.{ℕ, Option, ◌<◌, ◌-◌, length, subst, sym, arith, IfSome}
 use Rattle.mask_bits.specs.Positions.{count}
 use Rattle.mask_bits.proofs.Lists.Places.PlaceLemmas.{place-within}
-use Rattle.mask_bits.proofs.Lists.Places.SelectLemmas.{last_in_word, last_none, none_more}
+use Rattle.mask_bits.proofs.Lists.Places.SelectLemmas.{last_in_word}
 use Rattle.mask_bits.proofs.chunks.BitChunks.last_set_index.Goals as goal
 
 pub returns-then-last-ne0-clause-index : goal.returns-then-last-ne0-clause-index
@@ -14,9 +14,3 @@ pub returns-then-last-ne0-clause-within : goal.returns-then-last-ne0-clause-with
 returns-then-last-ne0-clause-within c =
     let m = c.args.self.now in
     subst (λ (o : Option ℕ). IfSome o (λ p. p < length m)) (sym (returns-then-last-ne0-clause-index c)) (place-within m (count m - 1))
-
-pub loop-i-preserved : goal.loop-i-preserved
-loop-i-preserved c = grind (arith, none_more)
-
-pub returns-clause-index : goal.returns-clause-index
-returns-clause-index c = grind (arith, last_none)

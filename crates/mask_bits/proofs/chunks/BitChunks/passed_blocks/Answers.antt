@@ -15,12 +15,3 @@ loop-word-preserved c =
     let ones : c.count_bits-ones.result ≡ count (slice_range m (64 * word) (64 * word + 4096))
     = c.count_bits-ones.ensures ∙ ap (λ n. count (values (record b { offset = b.offset + 64 * word; len = n }))) (omega arith) ∙ ap count (values-part b (64 * word) (64 * word + 4096) (omega arith) within ∙ ap (λ (xs : List Bool). slice_range xs (64 * word) (64 * word + 4096)) c.self.view_is) in
     grind (arith, len-of_list, count-part_further)
-
-pub overflow_mul-word : goal.overflow_mul-word
-overflow_mul-word c = omega (arith, c.loop-word.invariant.within, len-of_list _ c.self.view_is)
-
-pub overflow_sub-self-inside : goal.overflow_sub-self-inside
-overflow_sub-self-inside c = omega (arith, c.loop-word.invariant.within, len-of_list _ c.self.view_is)
-
-pub loop-word-smaller : goal.loop-word-smaller
-loop-word-smaller c = omega (arith, c.loop-word-test.true, len-of_list _ c.self.view_is)

@@ -1,11 +1,8 @@
 use Rattle.std.proofs.Common.{sym, arith}
 use Rattle.mask_bits.proofs.Lists.Places.PlaceLemmas.{place-within}
-use Rattle.mask_bits.proofs.Lists.Places.SelectLemmas.{place_in_word, place_none, count-word_more}
+use Rattle.mask_bits.proofs.Lists.Places.SelectLemmas.{place_in_word, place_none}
 use Rattle.mask_bits.proofs.Lists.Words.WordLemmas.{count-word_bits}
 use Rattle.mask_bits.proofs.chunks.BitChunks.select.Goals as goal
-
-pub index_in_word-requires : goal.index_in_word-requires
-index_in_word-requires c = omega (arith, c.if-left-ones.true, count-word_bits c.started_word-word.result c.started_word-word.type_inv)
 
 pub returns-then-left-ones-clause-index : goal.returns-then-left-ones-clause-index
 returns-then-left-ones-clause-index c =
@@ -13,9 +10,6 @@ returns-then-left-ones-clause-index c =
 
 pub returns-then-left-ones-clause-within : goal.returns-then-left-ones-clause-within
 returns-then-left-ones-clause-within c = grind (arith, returns-then-left-ones-clause-index c, place-within c.args.self.now c.args.n)
-
-pub loop-i-preserved : goal.loop-i-preserved
-loop-i-preserved c = grind (arith, count-word_more, count-word_bits)
 
 pub returns-clause-index : goal.returns-clause-index
 returns-clause-index c =

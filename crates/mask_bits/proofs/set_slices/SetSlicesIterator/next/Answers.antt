@@ -1,10 +1,6 @@
 use Rattle.std.proofs.Common.{arith}
-use Rattle.mask_bits.proofs.Lists.Words.WalkLemmas.{runs-lowest, runs_from-repeated_false, ones-inside, IsLeft-filled, IsLeft-ones_cleared}
-use Rattle.mask_bits.proofs.YieldLemmas.{MakesProgress-item}
+use Rattle.mask_bits.proofs.Lists.Words.WalkLemmas.{ones-inside, IsLeft-filled, IsLeft-ones_cleared}
 use Rattle.mask_bits.proofs.set_slices.SetSlicesIterator.next.Goals as goal
-
-pub returns-in_err-at-clause-steps : goal.returns-in_err-at-clause-steps
-returns-in_err-at-clause-steps c = grind (arith, runs_from-repeated_false)
 
 pub past_full_words-at-requires : goal.past_full_words-at-requires
 past_full_words-at-requires c =
@@ -22,9 +18,3 @@ invariant_of-self c =
     let last = c.past_full_words-at.result in
     let left = c.past_full_words-at.ensures.full.is in
     (IsLeft-ones_cleared c.self.inside.chunks last.0 last.1 left.word left, c.self.invariant.1)
-
-pub returns-clause-steps : goal.returns-clause-steps
-returns-clause-steps c = grind (arith, runs-lowest)
-
-pub returns-clause-goes : goal.returns-clause-goes
-returns-clause-goes c = MakesProgress-item _ _ _ _ (returns-clause-steps c)
