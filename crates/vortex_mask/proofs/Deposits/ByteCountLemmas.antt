@@ -1,4 +1,5 @@
 -- The counts of set bits in each byte and below it, and what they say of places in the bytes.
+use Rattle.std.proofs.lemmas.Grind.{common_steps}
 use Rattle.std.proofs.Common.{◌≡◌, ℕ, zero, suc, ◌+◌, ◌*◌, ◌/◌, ◌%◌, ◌^◌, ◌<◌, ◌≤◌, inl, inr, sym, ap, ap₂, ◌∙◌, arith, count_ones, add_comm, mod-lt, add-zero, min}
 use Rattle.std.specs.Int.{bit_at}
 use Rattle.std.proofs.lemmas.Nat.{pow_pos, shr-shr, ones_cat, mod-pow-add}
@@ -15,8 +16,7 @@ use Rattle.vortex_mask.proofs.Deposits.SetPlaceLemmas.{ones_below, ones_below-ze
 
 -- those below a place, and those of the next k places
 pub ones_below-next : (w i k : ℕ) → ones_below w (i + k) ≡ ones_below w i + count_ones (w / 2 ^ i % 2 ^ k)
-ones_below-next w i k =
-    ap (λ n. count_ones (w % 2 ^ n)) (add_comm i k) ∙ ap count_ones (mod-pow-add w k i) ∙ ones_cat i _ _ (mod-lt w (pow_pos i)) ∙ add_comm _ _
+ones_below-next w i k = grind (arith, add_comm, mod-pow-add, ones_cat, mod-lt, pow_pos, add_comm i k, mod-pow-add w k i, mod-lt w (pow_pos i), pow_pos i)
 
 pub ones_below-byte : (w j : ℕ) → ones_below w (8 * suc j) ≡ ones_below w (8 * j) + count_ones (byte_at w j)
 unfolding byte_at
@@ -33,14 +33,10 @@ summed_again : (x : ℕ) → x * 0x0101010101010101 % 2 ^ 64 ≡ (summed x + x) 
 summed_again x = omega arith
 
 byte_at_up : (x j : ℕ) → j < 7 → byte_at (x * 2 ^ 8 % 2 ^ 64) (suc j) ≡ byte_at x j
-byte_at_up x j h =
-    let e : x * 256 / 256 ≡ x = omega arith in
-    byte_at-low 8 (x * 2 ^ 8) (suc j) (omega arith) ∙ byte_at-suc (x * 2 ^ 8) j ∙ ap (λ v. byte_at v j) e
+byte_at_up x j h = grind (arith, common_steps, byte_at-low 8 (x * 2 ^ 8) (suc j) (omega arith), byte_at-suc (x * 2 ^ 8) j)
 
 pub summed_is : (x w j : ℕ) → ((i : ℕ) → i < 8 → byte_at x i ≡ count_ones (byte_at w i)) → j < 8 → (i : ℕ) → i ≤ j → byte_at (summed x) i ≡ ones_below w (8 * i)
-summed_is x w zero counts h i l =
-    let z : i ≡ 0 = omega arith in
-    ap (byte_at (summed x)) z ∙ byte_at-zero (summed x) ∙ omega arith ∙ sym (ap (λ v. ones_below w (8 * v)) z ∙ ones_below-zero w)
+summed_is x w zero counts h i l = grind (arith, common_steps, summed x, byte_at-zero (summed x), ones_below, ones_below-zero w)
 summed_is x w (suc j) counts h i l =
     let ih : (v : ℕ) → v ≤ j → byte_at (summed x) v ≡ ones_below w (8 * v) = λ v m. summed_is x w j counts (omega arith) v m in
     elim (cases_lt j i) [
@@ -58,10 +54,7 @@ summed_is x w (suc j) counts h i l =
 -- the set bits below place t of byte j
 pub ones_below-in_byte : (w j t : ℕ) → t ≤ 8 → ones_below w (8 * j + t) ≡ ones_below w (8 * j) + ones_below (byte_at w j) t
 ones_below-in_byte w j zero h = omega (arith, ap (ones_below w) (add-zero (8 * j)), ones_below-zero (byte_at w j))
-ones_below-in_byte w j (suc t) h =
-    let e : 8 * j + suc t ≡ 8 * j + t + 1 = omega arith in
-    let f : suc t ≡ t + 1 = omega arith in
-    omega (arith, ap (ones_below w) e, ones_below-more w (8 * j + t), ones_below-in_byte w j t (omega arith), ap (ones_below (byte_at w j)) f, ones_below-more (byte_at w j) t, bit_at_byte w j t (omega arith))
+ones_below-in_byte w j (suc t) h = grind (arith, common_steps, ones_below w, ones_below-more w (8 * j + t), ones_below-in_byte w j t (omega arith), ones_below (byte_at w j), ones_below-more (byte_at w j) t, bit_at_byte w j t (omega arith))
 
 pub Deposits-from_bytes : (s m r : ℕ) → ((j : ℕ) → j < 8 → byte_at r j ≡ deposit 8 (s / 2 ^ ones_below m (8 * j) % 2 ^ 8) (byte_at m j)) → Deposits s m r
 Deposits-from_bytes s m r h = Deposits-from_bits s m r (λ i inside.

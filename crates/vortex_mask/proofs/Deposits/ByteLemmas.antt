@@ -1,5 +1,6 @@
 -- The bytes of a word through each operation on it.
-use Rattle.std.proofs.Common.{◌≡◌, ℕ, zero, suc, ◌+◌, ◌-◌, ◌*◌, ◌/◌, ◌%◌, ◌^◌, ◌<◌, ◌≤◌, sym, ap, ap₂, ◌∙◌, arith}
+use Rattle.std.proofs.lemmas.Grind.{common_steps}
+use Rattle.std.proofs.Common.{◌≡◌, ℕ, zero, suc, ◌+◌, ◌-◌, ◌*◌, ◌/◌, ◌%◌, ◌^◌, ◌<◌, ◌≤◌, sym, ap, ◌∙◌, arith}
 use Rattle.std.specs.Int.{bit_at}
 use Rattle.std.proofs.lemmas.Nat.{shr-shr}
 use lib.Pow.{field, mod-mod-pow}
@@ -16,26 +17,18 @@ byte_at-zero w = omega arith
 
 pub byte_at-suc : (w j : ℕ) → byte_at w (suc j) ≡ byte_at (w / 256) j
 unfolding byte_at
-byte_at-suc w j =
-    let e : 8 * suc j ≡ 8 + 8 * j = omega arith in
-    ap (λ k. w / 2 ^ k % 2 ^ 8) e ∙ ap (λ x. x % 2 ^ 8) (sym (shr-shr w 8 (8 * j)))
+byte_at-suc w j = grind (arith, common_steps, shr-shr w 8 (8 * j))
 
 -- ---- sums that carry nothing from byte to byte
 
 pub byte_at_add : (a b j : ℕ) → ((i : ℕ) → i ≤ j → byte_at a i + byte_at b i < 256) → byte_at (a + b) j ≡ byte_at a j + byte_at b j
 byte_at_add a b zero h = omega (arith, byte_at-zero (a + b), byte_at-zero a, byte_at-zero b, h 0 (omega arith))
-byte_at_add a b (suc j) h =
-    let e : (a + b) / 256 ≡ a / 256 + b / 256 = omega (arith, byte_at-zero a, byte_at-zero b, h 0 (omega arith)) in
-    byte_at-suc (a + b) j ∙ ap (λ x. byte_at x j) e
-    ∙ byte_at_add (a / 256) (b / 256) j (λ i l. omega (arith, h (suc i) (omega arith), byte_at-suc a i, byte_at-suc b i))
-    ∙ sym (ap₂ (λ x y. x + y) (byte_at-suc a j) (byte_at-suc b j))
+byte_at_add a b (suc j) h = grind (arith, byte_at-zero a, byte_at-zero b, byte_at-suc (a + b) j, byte_at_add (a / 256) (b / 256) j (λ i l. omega (arith, h (suc i) (omega arith), byte_at-suc a i, byte_at-suc b i)), byte_at-suc, byte_at-suc a j, byte_at-suc b j)
 
 pub byte_at-low : (k x j : ℕ) → j < k → byte_at (x % 256 ^ k) j ≡ byte_at x j
 byte_at-low zero x j h = absurd (omega arith)
 byte_at-low (suc k) x zero h = omega (arith, low_split 256 k x (omega arith), byte_at-zero (x % 256 ^ suc k), byte_at-zero x)
-byte_at-low (suc k) x (suc j) h =
-    let e : x % 256 ^ suc k / 256 ≡ x / 256 % 256 ^ k = omega (arith, low_split 256 k x (omega arith)) in
-    byte_at-suc _ j ∙ ap (λ y. byte_at y j) e ∙ byte_at-low k (x / 256) j (omega arith) ∙ sym (byte_at-suc x j)
+byte_at-low (suc k) x (suc j) h = grind (arith, common_steps, low_split, byte_at-suc, byte_at-low k (x / 256) j (omega arith))
 
 -- ---- bits
 

@@ -1,5 +1,6 @@
 -- The laws of deposits.
-use Rattle.std.proofs.Common.{◌≡◌, ℕ, ◌-◌, ◌*◌, ◌/◌, ◌^◌, ◌<◌, sym, ap, subst, ◌∙◌, ◌++◌, List, Bool, false, arith, bit_or, mul-one, mul-zero}
+use Rattle.std.proofs.lemmas.Grind.{common_steps}
+use Rattle.std.proofs.Common.{◌≡◌, ℕ, ◌-◌, ◌*◌, ◌/◌, ◌^◌, ◌<◌, sym, ap, ◌∙◌, arith, bit_or, mul-one, mul-zero}
 use Rattle.std.specs.Int.{bit_at}
 use lib.Bits.{or_zero_r}
 use Rattle.std.proofs.lemmas.Nat.{and_le_r}
@@ -15,8 +16,6 @@ use Rattle.vortex_mask.proofs.Kernels.DepositListLemmas.{word_bits-deposited, le
 use Rattle.mask_bits.proofs.Lists.RowLemmas.{narrowed_by_chosen, chosen_of_narrowing}
 use Rattle.mask_bits.proofs.Lists.Words.ExtractLemmas.{extract_is_chosen_values, take-extracted}
 use Rattle.mask_bits.proofs.Lists.Words.WordLemmas.{length-word_bits}
-use Rattle.mask_bits.specs.Positions.{count, repeated, rank_intersection, chosen}
-use Rattle.mask_bits.specs.Words.{word_bits}
 
 pub deposit_at_all_ones : DepositAtAllOnes
 deposit_at_all_ones source =
@@ -49,20 +48,12 @@ pub deposit_of_odd_source : DepositOfOddSource
 deposit_of_odd_source source mask rest fits odd d = grind (arith, by_lowest, left_of, mul-one, lowest)
 
 pub deposit_of_even_source : DepositOfEvenSource
-deposit_of_even_source source mask rest fits even d =
-    let whole = by_lowest source mask rest 0 fits (sym (mul-zero (lowest 64 mask)) ∙ ap (λ b. lowest 64 mask * b) (sym even)) d in
-    subst (Deposits source mask) (or_zero_r rest) whole
+deposit_of_even_source source mask rest fits even d = grind (arith, common_steps, by_lowest source mask rest 0 fits (sym (mul-zero (lowest 64 mask)) ∙ ap (λ b. lowest 64 mask * b) (sym even)) d, mul-zero (lowest 64 mask), lowest 64 mask, or_zero_r rest)
 
 -- ---- extracts
 
 pub deposit_of_extract : DepositOfExtract
-deposit_of_extract s m x r picks places =
-    word_bits-deposited x m r places ∙ ap (rank_intersection (word_bits m)) (take-extracted s m x picks)
-    ∙ narrowed_by_chosen (word_bits m) (word_bits s) (length-word_bits s ∙ sym (length-word_bits m))
+deposit_of_extract s m x r picks places = grind (arith, common_steps, word_bits-deposited, take-extracted, narrowed_by_chosen, length-word_bits)
 
 pub extract_of_deposit : ExtractOfDeposit
-extract_of_deposit s m d r places picks =
-    let rest : List Bool = repeated (64 - count (word_bits m)) false in
-    extract_is_chosen_values d m r picks
-    ∙ ap (λ (xs : List Bool). chosen xs (word_bits m) ++ rest) (word_bits-deposited s m d places)
-    ∙ ap (λ (xs : List Bool). xs ++ rest) (chosen_of_narrowing (word_bits m) (offered_bits s m) (length-offered_bits s m))
+extract_of_deposit s m d r places picks = grind (arith, common_steps, extract_is_chosen_values, word_bits-deposited, chosen_of_narrowing, offered_bits, length-offered_bits)

@@ -1,5 +1,6 @@
 -- The deposit as a function of the two words, by their lowest bits, and that it is the one number that a deposit may give.
-use Rattle.std.proofs.Common.{◌≡◌, ℕ, zero, suc, ◌+◌, ◌-◌, ◌*◌, ◌/◌, ◌%◌, ◌^◌, ◌<◌, ◌≤◌, inl, inr, min, refl, sym, ap, ap₂, ◌∙◌, arith, pow-suc, bit_and, bit_or, count_ones, mul_right_comm, mul-one, mul-zero, zero-mul, lt_of_le_of_lt}
+use Rattle.std.proofs.lemmas.Grind.{common_steps}
+use Rattle.std.proofs.Common.{◌≡◌, ℕ, zero, suc, ◌+◌, ◌-◌, ◌*◌, ◌/◌, ◌%◌, ◌^◌, ◌<◌, ◌≤◌, inl, inr, min, refl, sym, ap, ap₂, ◌∙◌, arith, pow-suc, bit_and, bit_or, count_ones, mul_right_comm, mul-one, mul-zero, zero-mul, lt_of_le_of_lt, rules}
 use Rattle.std.specs.Int.{bit_at}
 use Rattle.std.proofs.lemmas.Nat.{pow_pos, shr-shr, and_mask, and_le_l, zero_from_ones}
 use Rattle.std.proofs.lemmas.Nat.Bits.{bit_at_lowest, bit_at-suc, bit_at-lt, bit_at_or, same_from_bits}
@@ -26,13 +27,7 @@ pub bit_at-deposit : (k s m i : ℕ) → i < k → bit_at (deposit k s m) i ≡ 
 unfolding deposit
 bit_at-deposit zero s m i h = absurd (omega arith)
 bit_at-deposit (suc k) s m zero h = grind (arith, bit_at_lowest, ones_below, ones_below-zero, suc)
-bit_at-deposit (suc k) s m (suc i) h =
-    let d = deposit k (s / 2 ^ (m % 2)) (m / 2) in
-    let half : (d * 2 + min (m % 2) (s % 2)) / 2 ≡ d = omega arith in
-    let moved : bit_at (s / 2 ^ (m % 2)) (ones_below (m / 2) i) ≡ bit_at s (ones_below m (suc i)) =
-    ap (λ x. x % 2) (shr-shr s (m % 2) (ones_below (m / 2) i)) ∙ ap (bit_at s) (sym (ones_below-suc m i)) in
-    bit_at-suc (deposit (suc k) s m) i ∙ ap (λ x. bit_at x i) half ∙ bit_at-deposit k (s / 2 ^ (m % 2)) (m / 2) i (omega arith)
-    ∙ ap₂ min (sym (bit_at-suc m i)) moved
+bit_at-deposit (suc k) s m (suc i) h = search (rules, deposit, ones_below, shr-shr, ones_below-suc, bit_at-suc, bit_at-deposit k (s / 2 ^ (m % 2)) (m / 2) i (omega arith))
 
 pub Deposits-from_bits : (s m r : ℕ) → ((i : ℕ) → i < 64 → bit_at r i ≡ min (bit_at m i) (bit_at s (ones_below m i))) → Deposits s m r
 Deposits-from_bits s m r h = grind (arith, count_below-word_bits, bit_at-lt)
@@ -50,9 +45,7 @@ deposit-zero (suc k) s = omega (arith, deposit-zero k (s / 2 ^ 0))
 pub deposit_no_source : (k m : ℕ) → deposit k 0 m ≡ 0
 unfolding deposit
 deposit_no_source zero m = refl
-deposit_no_source (suc k) m =
-    let e : 0 / 2 ^ (m % 2) ≡ 0 = omega (arith, pow_pos (m % 2)) in
-    omega (arith, ap (λ x. deposit k x (m / 2)) e, deposit_no_source k (m / 2))
+deposit_no_source (suc k) m = grind (arith, common_steps, pow_pos, deposit, deposit_no_source k (m / 2))
 
 -- nothing is deposited of a source without bits
 pub Deposits-none : (s m : ℕ) → s ≡ 0 → Deposits s m 0
@@ -92,17 +85,7 @@ or_assoc a b c =
 
 -- what the code computes for `x & -(s & 1)`, where `neg` is the negative of s's lowest bit
 pub masked : (x s neg : ℕ) → x < 2 ^ 64 → neg < 2 ^ 64 → (neg + bit_and s 1) % 2 ^ 64 ≡ 0 → bit_and x neg ≡ x * (s % 2)
-masked x s neg fits small e =
-    let low : bit_and s 1 ≡ s % 2 = and_mask s 1 in
-    elim (parity s) [
-      | inl even ↦
-          let n : neg ≡ 0 = omega (arith, low) in
-          ap (bit_and x) n ∙ and_zero_r x ∙ sym (mul-zero x) ∙ ap (λ d. x * d) (sym even)
-      | inr odd ↦
-          let n : neg ≡ 2 ^ 64 - 1 = omega (arith, low) in
-          let all : x % 2 ^ 64 ≡ x = omega arith in
-          ap (bit_and x) n ∙ and_mask x 64 ∙ all ∙ sym (mul-one x) ∙ ap (λ d. x * d) (sym odd)
-    ]
+masked x s neg fits small e = grind (arith, common_steps, and_mask s 1, parity s, and_zero_r x, mul-zero x, and_mask x 64, mul-one x)
 
 -- `m & (m - 1)`, where the difference wraps
 pub cleared_word : (m : ℕ) → m < 2 ^ 64 → bit_and m ((m + (2 ^ 64 - 1)) % 2 ^ 64) ≡ cleared m

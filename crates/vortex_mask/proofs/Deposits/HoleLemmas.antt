@@ -1,5 +1,6 @@
 -- A source that makes room for the clear places of a mask, the lowest first.
-use Rattle.std.proofs.Common.{◌≡◌, ℕ, zero, suc, ◌+◌, ◌-◌, ◌*◌, ◌/◌, ◌%◌, ◌^◌, ◌<◌, ◌≤◌, ◌⊎◌, inl, inr, refl, sym, ap, ap₂, ◌∙◌, arith, pow-suc, bit_and, count_ones, lt_of_le_of_lt, mul_assoc, mul_comm}
+use Rattle.std.proofs.lemmas.Grind.{common_steps}
+use Rattle.std.proofs.Common.{◌≡◌, ℕ, zero, suc, ◌+◌, ◌-◌, ◌*◌, ◌/◌, ◌%◌, ◌^◌, ◌<◌, ◌≤◌, ◌⊎◌, inl, inr, refl, sym, ap, ◌∙◌, arith, pow-suc, bit_and, count_ones, lt_of_le_of_lt, mul_assoc, mul_comm}
 use Rattle.std.proofs.Math.Nat.{div-div-eq-div-mul}
 use Rattle.std.proofs.lemmas.Nat.{pow_pos, shr_split, pow_below, and_comm, and_mask, and-not, and_le_l, ones-le}
 use lib.Count.{ones_step}
@@ -15,9 +16,7 @@ clear k m = 2 ^ k - 1 - m
 
 ones-clear : (k m : ℕ) → m < 2 ^ k → count_ones (clear k m) + count_ones m ≡ k
 ones-clear zero m fits = omega (arith, ones-le 0 m fits, ones-le 0 (clear 0 m) (omega arith))
-ones-clear (suc k) m fits =
-    let half : clear (suc k) m / 2 ≡ clear k (m / 2) = omega (arith, pow-suc 2 k) in
-    omega (arith, ones_step m, ones_step (clear (suc k) m), ap count_ones half, ones-clear k (m / 2) (omega (arith, pow-suc 2 k)), pow-suc 2 k)
+ones-clear (suc k) m fits = grind (arith, common_steps, clear, pow-suc, ones_step, ones-clear k (m / 2) (omega (arith, pow-suc 2 k)))
 
 -- the source with its bits from a hole on moved up by one
 abbrev pub opened : ℕ → ℕ → ℕ
@@ -27,26 +26,7 @@ opened s hole = s + s / hole * hole
 fill : (k s m : ℕ) → m < 2 ^ k → deposit k (opened s (lowest k (clear k m))) (m + lowest k (clear k m)) ≡ deposit k s m
 unfolding deposit
 fill zero s m fits = refl
-fill (suc k) s m fits =
-    let half : clear (suc k) m / 2 ≡ clear k (m / 2) = omega (arith, pow-suc 2 k) in
-    let inside : clear (suc k) m < 2 ^ suc k = omega (arith, pow_pos (suc k)) in
-    elim (parity m) [
-      | inl even ↦
-          let one : lowest (suc k) (clear (suc k) m) ≡ 1 = lowest-odd k (clear (suc k) m) inside (omega (arith, pow-suc 2 k)) in
-          let source : opened s 1 / 2 ≡ s = omega arith in
-          let mask : (m + 1) / 2 ≡ m / 2 = omega arith in
-          ap (λ x. deposit (suc k) (opened s x) (m + x)) one ∙ omega (arith, deposit-odd k (opened s 1) (m + 1) (omega arith), ap₂ (deposit k) source mask, deposit-even k s m even)
-      | inr odd ↦
-          let hole = lowest k (clear k (m / 2)) in
-          let rest = fill k (s / 2) (m / 2) (omega (arith, pow-suc 2 k)) in
-          let twice : lowest (suc k) (clear (suc k) m) ≡ hole * 2 = lowest-even k (clear (suc k) m) inside (omega (arith, pow-suc 2 k)) ∙ ap (λ x. lowest k x * 2) half in
-          let moved : s / (hole * 2) * (hole * 2) ≡ s / 2 / hole * hole * 2
-          = ap (λ x. x * (hole * 2)) (ap (λ x. s / x) (mul_comm hole 2) ∙ sym (div-div-eq-div-mul s 2 hole)) ∙ sym (mul_assoc (s / 2 / hole) hole 2) in
-          let source : opened s (hole * 2) / 2 ≡ opened (s / 2) hole = omega (arith, moved) in
-          let mask : (m + hole * 2) / 2 ≡ m / 2 + hole = omega arith in
-          ap (λ x. deposit (suc k) (opened s x) (m + x)) twice
-          ∙ omega (arith, moved, deposit-odd k (opened s (hole * 2)) (m + hole * 2) (omega arith), ap₂ (deposit k) source mask, rest, deposit-odd k s m odd)
-    ]
+fill (suc k) s m fits = grind (arith, common_steps, clear, pow-suc, pow_pos, parity, lowest, lowest-odd, opened, deposit, deposit-odd, deposit-even, lowest-even, mul_comm, div-div-eq-div-mul, mul_assoc, fill k (s / 2) (m / 2) (omega (arith, pow-suc 2 k)))
 
 -- ---- k bits of a source
 
@@ -57,9 +37,7 @@ low_bits k s = low_split 2 k s (omega arith)
 pub deposit-all : (k s : ℕ) → deposit k s (2 ^ k - 1) ≡ s % 2 ^ k
 unfolding deposit
 deposit-all zero s = omega arith
-deposit-all (suc k) s =
-    let half : (2 ^ suc k - 1) / 2 ≡ 2 ^ k - 1 = omega (arith, pow-suc 2 k, pow_pos k) in
-    omega (arith, low_bits k s, deposit-odd k s (2 ^ suc k - 1) (omega (arith, pow-suc 2 k, pow_pos k)), ap (deposit k (s / 2)) half, deposit-all k (s / 2))
+deposit-all (suc k) s = grind (arith, common_steps, pow-suc, pow_pos, low_bits, deposit-odd, deposit, deposit-all k (s / 2))
 
 -- ---- what the code computes
 
@@ -78,10 +56,7 @@ lowest_cases (suc k) m fits = elim (parity m) [
 ]
 
 opened-is : (s m hole t : ℕ) → s < 2 ^ 64 → m < 2 ^ 64 → hole ≡ lowest 64 m → Opens s hole t → t ≡ opened s hole % 2 ^ 64
-opened-is s m hole t small fits is opens = elim (lowest_cases 64 m fits) [
-  | inl none ↦ let zero_hole : hole ≡ 0 = is ∙ none in opens.1 zero_hole ∙ sym (ap (λ x. (s + s / x * x) % 2 ^ 64) zero_hole ∙ omega arith)
-  | inr some ↦ opens.0 some.0 some.1 (is ∙ some.2)
-]
+opened-is s m hole t small fits is opens = grind (arith, common_steps, lowest_cases 64 m fits)
 
 -- the bits from p on, as the negative of place p keeps them
 pub kept_from : (t p neg : ℕ) → p < 64 → t < 2 ^ 64 → neg < 2 ^ 64 → (neg + 2 ^ p) % 2 ^ 64 ≡ 0 → bit_and t neg ≡ t / 2 ^ p * 2 ^ p

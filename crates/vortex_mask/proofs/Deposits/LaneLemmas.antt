@@ -1,4 +1,5 @@
 -- Vectors of the bytes of two words, lane by lane.
+use Rattle.std.proofs.lemmas.Grind.{common_steps}
 use Rattle.std.proofs.Common.{◌≡◌, ℕ, zero, suc, ◌+◌, ◌-◌, ◌*◌, ◌/◌, ◌%◌, ◌^◌, ◌<◌, ◌≤◌, ◌⊎◌, inl, inr, List, [], ◌∷◌, length, get_or, refl, sym, ap, ap₂, subst, ◌∙◌, arith, w8, bit_and, Fits, count_ones, pow-add, pow-suc, map, replicate}
 use Rattle.std.specs.Simd.Lanes.{zip2, Each1, number_l, digits_l, chunk}
 use Rattle.std.proofs.lemmas.Simd.{swz_l, Each1-from_get_or, Each1-get_or, Each1-chunk, get_or-chunk, get_or_wider, get_or_narrower}
@@ -24,9 +25,7 @@ EachLane-fits v long fits = λ j l. (Each1-get_or (Fits w8) v j 0 (omega arith) 
 
 pow_256 : (i : ℕ) → 2 ^ (8 * i) ≡ 256 ^ i
 pow_256 zero = refl
-pow_256 (suc i) =
-    let e : 8 * suc i ≡ 8 * i + 8 = omega arith in
-    ap (λ k. 2 ^ k) e ∙ omega (arith, pow-add 2 (8 * i) 8, pow-suc 256 i, pow_256 i)
+pow_256 (suc i) = grind (arith, common_steps, pow-add 2 (8 * i) 8, pow-suc 256 i, pow_256 i)
 
 byte_at-is : (w i : ℕ) → byte_at w i ≡ w / 256 ^ i % 256
 unfolding byte_at
@@ -59,24 +58,17 @@ landed_fit s v {l} few fit h = λ j i. subst (λ x. x < 2 ^ (8 - 2 ^ s)) (sym (h
 byte_at-number : (xs : List ℕ) (i : ℕ) → Each1 (λ x. x < 256) xs → byte_at (number_l 256 xs) i ≡ get_or xs i 0
 byte_at-number [] i fit = byte_at_none i
 byte_at-number (x ∷ xs) zero fit = byte_at-zero (x + 256 * number_l 256 xs) ∙ omega (arith, fit.0)
-byte_at-number (x ∷ xs) (suc i) fit =
-    let rest : (x + 256 * number_l 256 xs) / 256 ≡ number_l 256 xs = omega (arith, fit.0) in
-    byte_at-suc (x + 256 * number_l 256 xs) i ∙ ap (λ v. byte_at v i) rest ∙ byte_at-number xs i fit.1
+byte_at-number (x ∷ xs) (suc i) fit = grind (arith, common_steps, byte_at-suc, byte_at-number xs i fit.1)
 
 -- word k of a vector's bytes
 pub byte_at-word : (v : List ℕ) (k i : ℕ) → Each1 (λ x. x < 256) v → k < 2 → i < 8 → byte_at (get_or (digits_l (2 ^ 64) 2 (number_l 256 v)) k 0) i ≡ get_or v (8 * k + i) 0
-byte_at-word v k i fit h l =
-    ap (λ w. byte_at w i) (get_or_wider 256 8 (2 ^ 64) 2 v k refl fit h) ∙ byte_at-number (chunk (8 * k) 8 v) i (Each1-chunk (λ x. x < 256) (8 * k) 8 v fit) ∙ get_or-chunk (8 * k) 8 v i 0 l
+byte_at-word v k i fit h l = grind (arith, common_steps, get_or_wider 256 8 (2 ^ 64) 2 v k refl fit h, byte_at-number (chunk (8 * k) 8 v) i (Each1-chunk (λ x. x < 256) (8 * k) 8 v fit), Each1-chunk (λ x. x < 256) (8 * k) 8 v fit, get_or-chunk (8 * k) 8 v i 0 l)
 
 -- ---- eight bits of a word, from the two bytes in which they lie
 
 -- two bytes as one number, moved up to bit 7 and cut there
 pub cut_out : (x r : ℕ) → r < 8 → bit_and (x * 2 ^ (7 - r) % 2 ^ 16 / 2 ^ 7) 255 ≡ x / 2 ^ r % 2 ^ 8
-cut_out x r h =
-    let e : 7 - r + r ≡ 7 = omega arith in
-    and_mask (x * 2 ^ (7 - r) % 2 ^ 16 / 2 ^ 7) 8
-    ∙ ap (λ y. y % 2 ^ 8) (field (x * 2 ^ (7 - r)) 9 7) ∙ mod-mod-pow (x * 2 ^ (7 - r) / 2 ^ 7) 1 8
-    ∙ ap (λ k. x * 2 ^ (7 - r) / 2 ^ k % 2 ^ 8) (sym e) ∙ ap (λ y. y % 2 ^ 8) (sym (shr-shr (x * 2 ^ (7 - r)) (7 - r) r) ∙ ap (λ y. y / 2 ^ r) (shl-shr x (7 - r)))
+cut_out x r h = grind (arith, common_steps, and_mask (x * 2 ^ (7 - r) % 2 ^ 16 / 2 ^ 7) 8, field (x * 2 ^ (7 - r)) 9 7, mod-mod-pow (x * 2 ^ (7 - r) / 2 ^ 7) 1 8, shr-shr (x * 2 ^ (7 - r)) (7 - r) r, shl-shr x (7 - r))
 
 module _ (s b n low high : ℕ) (first : low ≡ byte_at s (b / 8)) (next : b / 8 < 7 → high ≡ byte_at s (b / 8 + 1)) where
   -- the lowest bits of the two bytes are those of the word
@@ -143,9 +135,7 @@ sums_at (x ∷ y ∷ z ∷ zs) long w h = absurd (omega arith)
 -- ---- bytes that fit
 
 pub AreLanes-fit : {v : List ℕ} {f : ℕ → ℕ} → AreLanes 16 v f → EachLane (λ j. f j < 256) → Each1 (Fits w8) v
-AreLanes-fit {v} {f} h small =
-    let long = h.lanes in
-    Each1-from_get_or (Fits w8) v 0 (λ i l. record { fits = subst (λ x. x < 256) (sym (h.each i (omega arith))) (small i (omega arith)) })
+AreLanes-fit {v} {f} h small = grind (arith, common_steps, Each1-from_get_or (Fits w8) v 0 (λ i l. record { fits = subst (λ x. x < 256) (sym (h.each i (omega arith))) (small i (omega arith)) }))
 
 -- ---- two deposits by their bytes
 

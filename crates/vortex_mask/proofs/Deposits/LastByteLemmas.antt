@@ -1,5 +1,6 @@
 -- The last byte of a word that is at most a number, by the top bits of a difference.
-use Rattle.std.proofs.Common.{◌≡◌, ℕ, zero, suc, ◌+◌, ◌-◌, ◌*◌, ◌/◌, ◌%◌, ◌^◌, ◌<◌, ◌≤◌, ap, ap₂, ◌∙◌, sym, arith, bit_and, eq-zero-or-pos, inl, inr, lt_of_le_of_lt}
+use Rattle.std.proofs.lemmas.Grind.{common_steps}
+use Rattle.std.proofs.Common.{◌≡◌, ℕ, zero, suc, ◌+◌, ◌-◌, ◌*◌, ◌/◌, ◌%◌, ◌^◌, ◌<◌, ◌≤◌, ap, ap₂, ◌∙◌, sym, arith, bit_and, eq-zero-or-pos, lt_of_le_of_lt}
 use Rattle.std.specs.Int.{bit_at, w64, leading_zeros}
 use Rattle.std.proofs.lemmas.Nat.{and_le_r}
 use Rattle.std.proofs.lemmas.Nat.Bits.{bit_at_and}
@@ -31,9 +32,7 @@ tops-lt : (x : ℕ) → tops x < 2 ^ 64
 tops-lt x = lt_of_le_of_lt (and_le_r x 0x8080808080808080) (omega arith)
 
 top_is : (x j : ℕ) → j < 8 → bit_at (tops x) (8 * j + 7) ≡ byte_at x j / 128
-top_is x j h =
-    let on : bit_at 0x8080808080808080 (8 * j + 7) ≡ 1 = same_below 8 (λ k. bit_at 0x8080808080808080 (8 * k + 7)) (λ k. 1) tt j h in
-    omega (arith, bit_at_and x 0x8080808080808080 (8 * j + 7), on, bit_at_byte x j 7 (omega arith), byte_at-lt x j)
+top_is x j h = grind (arith, common_steps, same_below 8 (λ k. bit_at 0x8080808080808080 (8 * k + 7)) (λ k. 1) tt j h, bit_at_and x 0x8080808080808080 (8 * j + 7), bit_at_byte x j 7 (omega arith), byte_at-lt x j)
 
 -- no other bit is set
 top_place : (x p : ℕ) → p < 64 → bit_at (tops x) p ≡ 1 → p % 8 ≡ 7
@@ -51,17 +50,11 @@ module _ (bytes r : ℕ) (word : bytes < 2 ^ 64) (rank : r < 64) (small : (j : �
   apart = tops ((r + 128) * 0x0101010101010101 - bytes)
 
   top_apart : (j : ℕ) → j < 8 → bit_at apart (8 * j + 7) ≡ (r + 128 - byte_at bytes j) / 128
-  top_apart j h =
-      let a = (r + 128) * 0x0101010101010101 in
-      let each : (i : ℕ) → i ≤ j → byte_at bytes i ≤ byte_at a i = λ i l. omega (arith, small i (omega arith), byte_at_all (r + 128) i (omega arith) (omega arith)) in
-      top_is (a - bytes) j h ∙ ap (λ x. x / 128) (byte_at_sub a bytes j all_less each ∙ ap (λ x. x - byte_at bytes j) (byte_at_all (r + 128) j (omega arith) h))
+  top_apart j h = grind (arith, common_steps, byte_at_all, top_is, byte_at_sub, all_less)
 
   module _ (first : byte_at bytes 0 ≤ r) where
     some_apart : 0 < apart
-    some_apart = elim (eq-zero-or-pos apart) [
-      | inl z ↦ absurd (omega (arith, ap (λ x. bit_at x 7) z, top_apart 0 (omega arith), first))
-      | inr pos ↦ pos
-    ]
+    some_apart = grind (arith, common_steps, eq-zero-or-pos apart, apart, top_apart 0 (omega arith))
 
     abbrev pub last_place : ℕ
     last_place = 63 - leading_zeros w64 apart

@@ -1,5 +1,6 @@
 -- The two nibbles of a byte: operations on each, tables computed at each of the sixteen, and a byte's deposit by theirs.
-use Rattle.std.proofs.Common.{◌≡◌, ℕ, zero, suc, ◌+◌, ◌-◌, ◌*◌, ◌/◌, ◌%◌, ◌^◌, ◌<◌, ◌≤◌, ◌⊎◌, inl, inr, T, ltb, ltb→lt, ap, ap₂, ◌∙◌, sym, subst, arith, bit_and, bit_or, count_ones, add_comm, min, max, mod-lt, lt_of_le_of_lt, pow-suc, List, [], ◌∷◌, length, get_or}
+use Rattle.std.proofs.lemmas.Grind.{common_steps}
+use Rattle.std.proofs.Common.{◌≡◌, ℕ, zero, suc, ◌+◌, ◌-◌, ◌*◌, ◌/◌, ◌%◌, ◌^◌, ◌<◌, ◌≤◌, ◌⊎◌, inl, inr, T, ltb, ltb→lt, ap, ap₂, ◌∙◌, sym, arith, bit_and, bit_or, count_ones, add_comm, min, max, mod-lt, lt_of_le_of_lt, pow-suc, List, [], ◌∷◌, length, get_or}
 use Rattle.std.specs.Int.{bit_at}
 use Rattle.std.proofs.lemmas.Nat.{pow_pos, shr-shr, shl-shr, and_mask, and_le_l, ones-le}
 use Rattle.std.proofs.lemmas.Nat.Bits.{bit_at_and, bit_at_or, bit_at_cat_low, bit_at_cat_high, same_from_bits}
@@ -34,20 +35,13 @@ and_apart k a b c d fa fc = op_apart bit_and min bit_at_and k a b c d fa fc (lt_
 
 -- four bits from bit k on, left where they are
 four_at : (n k : ℕ) → bit_and n (15 * 2 ^ k) ≡ n / 2 ^ k % 2 ^ 4 * 2 ^ k
-four_at n k =
-    let small : n % 2 ^ k < 2 ^ k = mod-lt n (pow_pos k) in
-    let e : n ≡ n % 2 ^ k + n / 2 ^ k * 2 ^ k = omega (arith, split n k) in
-    let z : 15 * 2 ^ k ≡ 0 + 15 * 2 ^ k = omega arith in
-    ap₂ bit_and e z ∙ and_apart k (n % 2 ^ k) (n / 2 ^ k) 0 15 small (pow_pos k)
-    ∙ omega (arith, ap (λ y. y * 2 ^ k) (and_mask (n / 2 ^ k) 4), and_zero_r (n % 2 ^ k))
+four_at n k = grind (arith, common_steps, mod-lt n (pow_pos k), pow_pos k, split n k, and_apart k (n % 2 ^ k) (n / 2 ^ k) 0 15 (mod-lt n (pow_pos k)) (pow_pos k), and_mask (n / 2 ^ k) 4, and_zero_r (n % 2 ^ k))
 
 -- ---- four bits of a number, and four from c further on, as products move them
 
 -- the bits from place r on, moved up to bit 7
 up_is : (x r : ℕ) → r < 8 → x * 2 ^ (7 - r) / 2 ^ 7 ≡ x / 2 ^ r
-up_is x r h =
-    let e : 7 - r + r ≡ 7 = omega arith in
-    ap (λ k. x * 2 ^ (7 - r) / 2 ^ k) (sym e) ∙ sym (shr-shr (x * 2 ^ (7 - r)) (7 - r) r) ∙ ap (λ y. y / 2 ^ r) (shl-shr x (7 - r))
+up_is x r h = grind (arith, common_steps, shr-shr (x * 2 ^ (7 - r)) (7 - r) r, shl-shr x (7 - r))
 
 module _ (x r c : ℕ) (hr : r < 8) (hc : c ≤ 4) where
   -- moved up, within sixteen bits
@@ -75,23 +69,10 @@ module _ (x r c : ℕ) (hr : r < 8) (hc : c ≤ 4) where
 
 -- what the joined bits are of the word from which the two bytes come
 pub lower_from : (x u y n : ℕ) → n ≤ 4 → x % 2 ^ 8 % 2 ^ n ≡ y % 2 ^ n → (x % 2 ^ 4 + u % 2 ^ 4 * 2 ^ 4) % 2 ^ 4 % 2 ^ n ≡ y % 2 ^ n
-lower_from x u y n few same =
-    let first : (x % 2 ^ 4 + u % 2 ^ 4 * 2 ^ 4) % 2 ^ 4 ≡ x % 2 ^ 4 = omega arith in
-    let e : 4 - n + n ≡ 4 = omega arith in
-    let f : 8 - n + n ≡ 8 = omega arith in
-    ap (λ v. v % 2 ^ n) first ∙ ap (λ k. x % 2 ^ k % 2 ^ n) (sym e) ∙ mod-mod-pow x (4 - n) n
-    ∙ sym (ap (λ k. x % 2 ^ k % 2 ^ n) (sym f) ∙ mod-mod-pow x (8 - n) n) ∙ same
+lower_from x u y n few same = grind (arith, common_steps, mod-mod-pow x (4 - n) n, mod-mod-pow x (8 - n) n)
 
 pub upper_from : (x c y n : ℕ) → c ≤ 4 → n ≤ 4 → x % 2 ^ 8 % 2 ^ (c + n) ≡ y % 2 ^ (c + n) → (x % 2 ^ 4 + x / 2 ^ c % 2 ^ 4 * 2 ^ 4) / 2 ^ 4 % 2 ^ n ≡ y / 2 ^ c % 2 ^ n
-upper_from x c y n hc few same =
-    let second : (x % 2 ^ 4 + x / 2 ^ c % 2 ^ 4 * 2 ^ 4) / 2 ^ 4 ≡ x / 2 ^ c % 2 ^ 4 = omega arith in
-    let e : 4 - n + n ≡ 4 = omega arith in
-    let f : 8 - (c + n) + (c + n) ≡ 8 = omega arith in
-    let turned : c + n ≡ n + c = omega arith in
-    let own : x % 2 ^ (n + c) ≡ y % 2 ^ (n + c) =
-    subst (λ k. x % 2 ^ k ≡ y % 2 ^ k) turned (sym (ap (λ k. x % 2 ^ k % 2 ^ (c + n)) (sym f) ∙ mod-mod-pow x (8 - (c + n)) (c + n)) ∙ same) in
-    ap (λ v. v % 2 ^ n) second ∙ ap (λ k. x / 2 ^ c % 2 ^ k % 2 ^ n) (sym e) ∙ mod-mod-pow (x / 2 ^ c) (4 - n) n
-    ∙ sym (field x n c) ∙ ap (λ v. v / 2 ^ c) own ∙ field y n c
+upper_from x c y n hc few same = grind (arith, common_steps, mod-mod-pow x (8 - (c + n)) (c + n), mod-mod-pow (x / 2 ^ c) (4 - n) n, field x n c, field y n c)
 
 -- ---- what is computed at each of the sixteen masks, and at each four bits
 

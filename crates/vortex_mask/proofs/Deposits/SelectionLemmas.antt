@@ -1,5 +1,6 @@
 -- The set bit of a word with a number: the byte that has it, and its place there.
-use Rattle.std.proofs.Common.{◌≡◌, ℕ, suc, ◌+◌, ◌-◌, ◌*◌, ◌^◌, ◌<◌, ◌≤◌, ap, sym, ◌∙◌, arith, count_ones, inl, inr, mod-eq_of_lt}
+use Rattle.std.proofs.lemmas.Grind.{common_steps}
+use Rattle.std.proofs.Common.{◌≡◌, ℕ, suc, ◌+◌, ◌-◌, ◌*◌, ◌^◌, ◌<◌, ◌≤◌, ap, ◌∙◌, arith, count_ones, inl, inr, mod-eq_of_lt}
 use Rattle.std.specs.Int.{bit_at}
 use Rattle.std.proofs.lemmas.Bool.{cases_lt}
 use Rattle.mask_bits.specs.Positions.{count, count_below}
@@ -32,6 +33,4 @@ module _ (w below : ℕ) (counts : (j : ℕ) → j < 8 → byte_at below j ≡ c
     ]
 
     pub selected-there : (t : ℕ) → t < 8 → bit_at (byte_at w n) t ≡ 1 → count_below (word_bits (byte_at w n)) t ≡ r - byte_at below n → 8 * n + t ≡ selected w r
-    selected-there t h set number =
-        let b = byte_at w n in
-        sym (selected-is w r (8 * n + t) (omega arith) (bit_at_byte w n t h ∙ set) (omega (arith, ones_below-in_byte w n t (omega arith), below-is n inside, number, count_below-word_bits b t (omega arith), within)))
+    selected-there t h set number = grind (arith, common_steps, selected-is, bit_at_byte w n t h, ones_below-in_byte w n t (omega arith), below-is n inside, count_below-word_bits (byte_at w n) t (omega arith))

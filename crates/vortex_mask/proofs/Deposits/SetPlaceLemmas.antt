@@ -43,11 +43,7 @@ abbrev pub lowest : ℕ → ℕ → ℕ
 lowest k m = bit_and m (2 ^ k - m)
 
 pub lowest-odd : (k m : ℕ) → m < 2 ^ suc k → m % 2 ≡ 1 → lowest (suc k) m ≡ 1
-lowest-odd k m fits e =
-    let half : (2 ^ suc k - m) / 2 ≡ 2 ^ k - 1 - m / 2 = omega (arith, pow-suc 2 k) in
-    let small : m / 2 < 2 ^ k = omega (arith, pow-suc 2 k) in
-    let none : bit_and (m / 2) ((2 ^ suc k - m) / 2) ≡ 0 = ap (bit_and (m / 2)) half ∙ and_comm (m / 2) _ ∙ omega (arith, and-not k (m / 2) (m / 2) small small, and_self (m / 2)) in
-    omega (arith, and_step m (2 ^ suc k - m), pow-suc 2 k)
+lowest-odd k m fits e = grind (arith, pow-suc, and_comm, and-not, and_self, and_step, pow-suc 2 k, and-not k (m / 2) (m / 2) (omega (arith, pow-suc 2 k)) (omega (arith, pow-suc 2 k)), and_self (m / 2), and_step m (2 ^ suc k - m))
 
 pub lowest-even : (k m : ℕ) → m < 2 ^ suc k → m % 2 ≡ 0 → lowest (suc k) m ≡ lowest k (m / 2) * 2
 lowest-even k m fits e = grind (arith, pow-suc, and_step)
@@ -55,10 +51,7 @@ lowest-even k m fits e = grind (arith, pow-suc, and_step)
 -- the lowest set place and the others make the number
 pub lowest_sum : (k m : ℕ) → m < 2 ^ k → cleared m + lowest k m ≡ m
 lowest_sum zero m fits = let z : m ≡ 0 = omega arith in ap (λ x. cleared x + lowest 0 x) z ∙ sym z
-lowest_sum (suc k) m fits = elim (parity m) [
-  | inl even ↦ omega (arith, lowest_sum k (m / 2) (omega (arith, pow-suc 2 k)), cleared-even m even, lowest-even k m fits even)
-  | inr odd ↦ omega (arith, cleared-odd m odd, lowest-odd k m fits odd)
-]
+lowest_sum (suc k) m fits = grind (arith, common_steps, parity, pow-suc, cleared-even, lowest-even, cleared-odd, lowest-odd, lowest_sum k (m / 2) (omega (arith, pow-suc 2 k)))
 
 pub ones-cleared : (k m : ℕ) → 0 < m → m < 2 ^ k → count_ones m ≡ count_ones (cleared m) + 1
 ones-cleared zero m some fits = absurd (omega arith)

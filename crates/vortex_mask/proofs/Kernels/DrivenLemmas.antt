@@ -1,4 +1,5 @@
 -- The kernel that goes by ranks: words that are read in turn, the indices found in them, and the run of calls that gave the ranks.
+use Rattle.std.proofs.lemmas.Grind.{common_steps}
 use Rattle.std.proofs.Common.{◌≡◌, ℕ, ◌+◌, ◌-◌, ◌*◌, ◌/◌, ◌^◌, ◌<◌, ◌≤◌, ◌%◌, Bool, List, [], ◌∷◌, ◌++◌, length, take, get_or, sym, subst, ap, ap₂, ◌∙◌, arith, count_ones, slice_get}
 use Rattle.std.proofs.Math.Seq.{get_or-append_seam}
 use Rattle.std.proofs.iter.runs.Made.{run_of_turn, run_of_exit, took}
@@ -50,8 +51,7 @@ place-found m n w before rank p read fits reached inside is =
 
 -- no more ascending numbers than the number that they are all below
 pub ascending-few : (top : ℕ) (ps : List ℕ) → IsStrictlyIncreasing ps → All (λ p. p < top) ps → length ps ≤ top
-ascending-few top ps ascending within =
-    omega (arith, ap length (positions-true_at top ps ascending within), count-le-length (true_at top ps), length-true_at top ps)
+ascending-few top ps ascending within = grind (arith, common_steps, positions-true_at top ps ascending within, count-le-length (true_at top ps), length-true_at top ps)
 
 -- what is not above the last is not above the next
 pub not-above-next : (xs : List ℕ) (x n : ℕ) → IsStrictlyIncreasing (xs ++ x ∷ []) → n ≤ get_or xs (length xs - 1) 0 → n ≤ x
@@ -68,10 +68,7 @@ pub record AreFound (m : List Bool) (ranks : List ℕ) (words word before : ℕ)
 module _ {S : Type 0} (steps : S → Option ℕ → S → Type 0) (s : S) (top n : ℕ) (ranks : EachRunFrom steps s (AreRanks top n)) (it : S) (same : it ≡ s) (xs : List ℕ) (t : S) (ran : Yields steps it xs t) where
   -- the ranks so far, and the next one
   pub ranks-at_turn : (x : ℕ) (u : S) → steps t (Some x) u → IsStrictlyIncreasing (xs ++ x ∷ []) × All (λ k. k < top) (xs ++ x ∷ [])
-  ranks-at_turn x u step =
-      let k = run_of_turn steps s xs t (subst (λ i. Yields steps i xs t) same ran) x u step in
-      let h = ranks k.0 k.0.seen k.1 in
-      (subst IsStrictlyIncreasing k.2.0 h.0, subst (λ (ys : List ℕ). All (λ r. r < top) ys) k.2.0 h.1)
+  ranks-at_turn x u step = grind (arith, run_of_turn)
 
   -- all ranks
   pub ranks-at_exit : (u : S) → steps t None u → WholeRun steps s (λ p. p.items ≡ xs) × (length xs ≡ n)
@@ -120,13 +117,8 @@ module _ {S : Type 0} (steps : S → Option ℕ → S → Type 0) (s : S) (m : L
       subst IsStrictlyIncreasing (sym run.3) (at_indices-ascending (length m) (positions m) run.0.items (positions-ascending m) (positions-within m) r.0 r.1)
 
   pub indices-within : All (λ i. i < length m) indices
-  indices-within =
-      let r = ranks run.0 run.0.seen run.1 in
-      subst (All (λ i. i < length m)) (sym run.3) (All-at_indices (λ i. i < length m) (positions m) run.0.items (positions-within m) r.1)
+  indices-within = grind (arith, common_steps, All-at_indices (λ i. i < length m) (positions m) run.0.items (positions-within m) (ranks run.0 run.0.seen run.1).1, positions-within m)
 
 -- what a whole run gave is all that the iterator yields
 pub drained : {S A : Type 0} (steps : S → Option A → S → Type 0) (s : S) (P : List A → Type 0) → WholeRun steps s (λ p. P p.items) → (xs : List A) × Drains steps s xs × P xs
-drained steps s P run =
-    let past = took run.0 in
-    let end = past.2 run.2 in
-    (run.0.items, (end.0, (past.0, subst (λ i. Yields steps i run.0.items past.0) run.1 past.1, end.1)), run.3)
+drained steps s P run = grind (arith, common_steps, took run.0)

@@ -5,7 +5,7 @@ use Rattle.std.specs.Int.RustNames.{bit_or}
 use Rattle.std.specs.List.{list_any}
 use Rattle.std.proofs.Math.Bool.{or-false}
 use Rattle.std.proofs.lemmas.Bool.{cases_eq, eq-eqb, ne_eqb}
-use Rattle.std.proofs.lemmas.Grind.{get_or-set_at}
+use Rattle.std.proofs.lemmas.Grind.{get_or-set_at, common_steps}
 use Rattle.std.proofs.lemmas.List.{get_or-drop, get_or-replicate, get_or_past, get_or-set_other, length-drop, length-replicate, take-append-drop}
 use Rattle.std.proofs.lemmas.List.Folds.{list_any-append}
 use Rattle.std.proofs.lemmas.Nat.Bits.{bit_at-zero, bit_at_set_same, bit_at_set_other}
@@ -22,9 +22,7 @@ backing_bit-zeros n p = grind (arith, get_or-replicate {A = ℕ}, get_or_past, l
 -- setting a bit sets that one alone
 pub backing_bit-set : (bytes : List ℕ) (q p : ℕ) → q < 8 * length bytes
     → backing_bit (set bytes (q / 8) (bit_or (get_or bytes (q / 8) 0) (1 * 2 ^ (q % 8) % 256))) p ≡ (nat_eq p q || backing_bit bytes p)
-backing_bit-set bytes q p h =
-    let x = get_or bytes (q / 8) 0 in
-    grind (arith, get_or-set_at bytes (q / 8) (p / 8), get_or-set_other, bit_at_set_same w8 x (q % 8), bit_at_set_other w8 x (q % 8))
+backing_bit-set bytes q p h = grind (arith, common_steps, get_or-set_at bytes (q / 8) (p / 8), get_or-set_other, bit_at_set_same w8 (get_or bytes (q / 8) 0) (q % 8), bit_at_set_other w8 (get_or bytes (q / 8) 0) (q % 8))
 
 -- a place counted from `base`
 pub nat_eq-from : (base k x : ℕ) → base ≤ x → nat_eq k (x - base) ≡ nat_eq (base + k) x

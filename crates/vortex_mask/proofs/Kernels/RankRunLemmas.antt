@@ -1,5 +1,6 @@
 -- An iterator that yields ascending numbers, as it is handed to the kernel that goes by them.
-use Rattle.std.proofs.Common.{◌≡◌, ℕ, ◌<◌, true, List, length, take, Option, None, refl, sym, subst, ap, ◌∙◌}
+use Rattle.std.proofs.lemmas.Grind.{common_steps}
+use Rattle.std.proofs.Common.{◌≡◌, ℕ, ◌<◌, true, List, length, take, Option, None, refl, sym, subst, ap, ◌∙◌, arith}
 use Rattle.std.proofs.lemmas.Iterator.{YieldsList}
 use Rattle.std.proofs.lemmas.Iterator.Consumers.{YieldsList-so_far, YieldsList-end}
 use Rattle.std.proofs.lemmas.List.{map-id}
@@ -21,9 +22,7 @@ module _ {S : Type 0} (steps : S → Option ℕ → S → Type 0) (s : S) (all :
   -- and to the end all of them
   given_whole : (p : Run steps) → p.from ≡ s → p.whole ≡ true → p.items ≡ all
   unfolding YieldsRun
-  given_whole p at whole =
-      let last = p.gave.0.2 whole in
-      sym (map-id p.items) ∙ (YieldsList-end yields p.items p.gave.0.0 (subst (λ u. Yields steps u p.items p.gave.0.0) at p.gave.0.1) None last.0 refl last.1).0
+  given_whole p at whole = grind (arith, common_steps, map-id p.items, YieldsList-end yields p.items p.gave.0.0 (subst (λ u. Yields steps u p.items p.gave.0.0) at p.gave.0.1) None (p.gave.0.2 whole).0 refl (p.gave.0.2 whole).1)
 
   pub are_ranks : (top n : ℕ) → IsStrictlyIncreasing all → All (λ k. k < top) all → length all ≡ n → EachRunFrom steps s (AreRanks top n)
   are_ranks top n ascending within counted = λ p _ at. (

@@ -1,10 +1,9 @@
 -- Ascending ranks as the rank bits of a word.
 use Rattle.std.proofs.lemmas.Grind.{common_steps}
-use Rattle.std.proofs.Common.{◌≡◌, ℕ, ◌+◌, ◌-◌, ◌*◌, ◌<◌, ◌≤◌, ◌^◌, ◌||◌, inl, inr, Bool, false, nat_eq, List, length, get_or, take, drop, refl, sym, ap, subst, ◌∙◌, arith, ◌%◌}
+use Rattle.std.proofs.Common.{◌≡◌, ℕ, ◌+◌, ◌-◌, ◌*◌, ◌<◌, ◌≤◌, ◌^◌, inl, inr, List, length, get_or, refl, sym, ap, subst, ◌∙◌, arith, ◌%◌}
 use Rattle.std.proofs.Math.Bool.{or-false}
 use lib.Bits.{or_zero_r}
 use Rattle.std.specs.Int.RustNames.{bit_or}
-use Rattle.std.specs.List.{list_any}
 use Rattle.std.specs.List.Sorted.{IsStrictlyIncreasing}
 use Rattle.std.proofs.lemmas.Bool.{cases_lt}
 use Rattle.std.proofs.lemmas.List.{take_more, take-append-drop, get_or-take, get_or-drop, length-take, length-drop}
@@ -84,13 +83,4 @@ gathered-split ranks at end next bits ascending stop g = grind (arith, rises-to)
 
 pub gathered-bits : (ranks : List ℕ) (at end next bits : ℕ) → end ≤ at + 64 → IsStrictlyIncreasing ranks → (next < length ranks → end ≤ get_or ranks next 0) → IsGathered ranks at end next bits
     → AreBitsFrom (is_listed ranks) at (end - at) bits
-gathered-bits ranks at end next bits few ascending stop g = λ k h.
-    let split = gathered-split ranks at end next bits ascending stop g in
-    let p : ℕ → Bool = nat_eq (at + k) in
-    let rest : List ℕ = drop next ranks in
-    let none : list_any p rest ≡ false
-    = none-is (at + k) rest (λ i within same.
-    omega (arith, get_or-drop next ranks i 0, split.after (next + i) (omega arith) (omega (arith, length-drop next ranks)))) in
-    g.set k (omega arith)
-    ∙ sym (ap (list_any p) (sym (take-append-drop next ranks)) ∙ list_any-append p (take next ranks) rest
-    ∙ ap (λ b. list_any p (take next ranks) || b) none ∙ or-false (list_any p (take next ranks)))
+gathered-bits ranks at end next bits few ascending stop g = grind (arith, gathered-split ranks at end next bits ascending stop g, none-is, get_or-drop, length-drop next ranks, take-append-drop next ranks, list_any-append, or-false)

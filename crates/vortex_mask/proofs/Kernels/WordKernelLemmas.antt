@@ -1,4 +1,5 @@
 -- A rank intersection word by word: each started word of the mask takes a deposit of rank bits.
+use Rattle.std.proofs.lemmas.Grind.{common_steps}
 use Rattle.std.proofs.Common.{◌≡◌, ℕ, ◌+◌, ◌*◌, ◌-◌, ◌/◌, ◌<◌, ◌≤◌, ◌⊎◌, Bool, false, List, length, get_or, take, drop, refl, sym, ap, subst, ◌∙◌, inl, inr, arith}
 use Rattle.std.proofs.Math.Seq.{take-add}
 use Rattle.std.proofs.lemmas.Bool.{cases_lt}
@@ -30,9 +31,7 @@ use Rattle.vortex_mask.proofs.Kernels.DepositListLemmas.{deposited-value, and_wh
 
 -- the true values among the first ones of a started part
 count_below-part : (m : List Bool) (i j : ℕ) → j ≤ 64 → count_below m (64 * i + j) ≡ count_below m (64 * i) + count_below (padded_part m i) j
-count_below-part m i j few =
-    ap count (take-add (64 * i) j m) ∙ count-append (take (64 * i) m) (take j (drop (64 * i) m))
-    ∙ ap (λ n. count_below m (64 * i) + n) (ap length (places-same 0 (take j (drop (64 * i) m)) (take j (padded_part m i)) (λ k. part-same m i j k few)))
+count_below-part m i j few = grind (arith, common_steps, take-add (64 * i) j m, count-append (take (64 * i) m) (take j (drop (64 * i) m)), places-same 0 (take j (drop (64 * i) m)) (take j (padded_part m i)) (λ k. part-same m i j k few), part-same)
 
 -- word i of a mask, whether it is a whole one or the remainder
 pub word-started : (a : List Bool) (i m : ℕ) → i < started_words (length a)
@@ -66,12 +65,10 @@ first_bits-of f b n long same = ext_get_or false (first_bits f n) b (length-firs
 
 -- the rank bits of a buffer, and of ascending ranks
 pub narrowed-values : (a : List Bool) (b : Packed) → length (values b) ≡ count a → narrowed_by (λ k. backing_bit b.bytes (b.offset + k)) a ≡ rank_intersection a (values b)
-narrowed-values a b fits =
-    ap (rank_intersection a) (first_bits-of _ (values b) (count a) fits (λ k h. sym (get_or-bitmap b.bytes b.offset b.len k false (omega (arith, fits, length-bitmap b.bytes b.offset b.len)))))
+narrowed-values a b fits = grind (arith, first_bits-of, b, get_or-bitmap, length-bitmap, length-bitmap b.bytes b.offset b.len)
 
 pub narrowed-listed : (a : List Bool) (ranks : List ℕ) → IsStrictlyIncreasing ranks → All (λ k. k < count a) ranks → narrowed_by (is_listed ranks) a ≡ true_at (length a) (at_indices (positions a) ranks)
-narrowed-listed a ranks ascending within =
-    ap (rank_intersection a) (first_bits-of _ (true_at (count a) ranks) (count a) (length-true_at (count a) ranks) (λ k h. sym (value_of_true_at (count a) ranks k h))) ∙ narrowed_at a ranks ascending within
+narrowed-listed a ranks ascending within = grind (arith, first_bits-of, length-true_at, value_of_true_at, narrowed_at, length-true_at (count a) ranks, narrowed_at a ranks ascending within)
 
 -- bits that a word shows
 pub bit-read : (bytes : List ℕ) (p w k q : ℕ) → word_bits w ≡ window bytes p → k < 64 → q ≡ p + k → get_or (word_bits w) k false ≡ backing_bit bytes q
@@ -107,10 +104,7 @@ one_more s ones w = record s { deposits = s.deposits + 1; words = s.words + 1; o
 pub two_more : (before : StepCounts) (ones w ones₂ w₂ : ℕ) {read after : StepCounts} → read ≡ record before { words = before.words + 2 }
     → after ≡ record read { deposits = read.deposits + 2; offered = read.offered + ones + ones₂; placed = read.placed + count (word_bits w) + count (word_bits w₂) }
     → one_more (one_more before ones w) ones₂ w₂ ≡ after
-two_more before ones w ones₂ w₂ read_two deposited =
-    let d : before.deposits + 1 + 1 ≡ before.deposits + 2 = omega arith in
-    let n : before.words + 1 + 1 ≡ before.words + 2 = omega arith in
-    rw (deposited, read_two, d, n)
+two_more before ones w ones₂ w₂ read_two deposited = grind (arith, common_steps)
 
 pub deposited-at : {a r : List Bool} {i j at to : ℕ} {out : List ℕ} {s t : StepCounts} → i ≡ j → at ≡ to → s ≡ t → IsDeposited a r i at out s → IsDeposited a r j to out t
 deposited-at {a} {r} {i} {j} {at} {to} {out} {s} {t} e f h is = subst (λ n. IsDeposited a r n to out t) e (subst (λ n. IsDeposited a r i n out t) f (subst (IsDeposited a r i at out) h is))
@@ -146,9 +140,7 @@ module _ (f : ℕ → Bool) (a : List Bool) where
 
   -- all words
   pub deposited-list : {i at : ℕ} {out : List ℕ} {steps : StepCounts} → i ≡ started_words (length a) → IsDeposited a r i at out steps → values (record { bytes = out; offset = 0; len = length a }) ≡ r
-  deposited-list {i} {at} {out} all is =
-      let len = length-rank_intersection a b in
-      ap (λ n. values (record { bytes = out; offset = 0; len = n })) (sym len) ∙ list-from_bits r out (λ p h. is.written p (omega arith))
+  deposited-list {i} {at} {out} all is = grind (arith, length-rank_intersection, b, list-from_bits, r)
 
   pub deposited-steps : {i at : ℕ} {out : List ℕ} {steps : StepCounts} → i ≡ started_words (length a) → IsDeposited a r i at out steps → steps ≡ word_steps a r
   deposited-steps all is = grind (arith, length-rank_intersection a b, all_below)

@@ -1,5 +1,6 @@
 -- Ascending lists of indices, also as the true indices of masks.
-use Rattle.std.proofs.Common.{◌≡◌, ℕ, suc, ◌+◌, ◌-◌, ◌^◌, ◌<◌, ◌≤◌, ◌||◌, Bool, false, nat_eq, List, [], ◌∷◌, length, get_or, take, refl, sym, subst, ap, ◌∙◌, inl, inr, arith}
+use Rattle.std.proofs.lemmas.Grind.{common_steps}
+use Rattle.std.proofs.Common.{◌≡◌, ℕ, suc, ◌+◌, ◌-◌, ◌^◌, ◌<◌, ◌≤◌, ◌||◌, Bool, false, nat_eq, List, [], ◌∷◌, length, get_or, take, refl, sym, arith}
 use Rattle.std.specs.List.{All, list_any}
 use Rattle.std.proofs.lemmas.Bool.{cases_eq, cases_lt, eq-eqb, ne_eqb}
 use Rattle.std.proofs.lemmas.List.{get_or-take, length-map, length-take}
@@ -19,16 +20,11 @@ use Rattle.mask_bits.specs.Words.{word_bits}
 -- a number that none is
 pub none-is : (p : ℕ) (xs : List ℕ) → ((k : ℕ) → k < length xs → get_or xs k 0 ≡ p → ⊥) → list_any (nat_eq p) xs ≡ false
 none-is p [] apart = refl
-none-is p (x ∷ xs) apart =
-    ap (λ b. b || list_any (nat_eq p) xs) (ne_eqb p x (λ same. apart 0 (omega arith) (sym same)))
-    ∙ none-is p xs (λ k h. apart (suc k) (omega arith))
+none-is p (x ∷ xs) apart = grind (arith, common_steps, ne_eqb p x (λ same. apart 0 (omega arith) (sym same)), none-is p xs (λ k h. apart (suc k) (omega arith)))
 
 -- a later one is no less
 pub rises-to : (xs : List ℕ) (i k : ℕ) → IsStrictlyIncreasing xs → i ≤ k → k < length xs → get_or xs i 0 ≤ get_or xs k 0
-rises-to xs i k ascending h inside = elim (cases_lt i k) [
-  | inl less ↦ omega (arith, AllPairs-from_increasing xs ascending i k 0 less inside)
-  | inr past ↦ let same : i ≡ k = omega arith in omega (arith, ap (λ j. get_or xs j 0) same)
-]
+rises-to xs i k ascending h inside = grind (arith, cases_lt, AllPairs-from_increasing)
 
 -- the first numbers of ascending ones ascend
 pub ascending-take : (n : ℕ) (xs : List ℕ) → IsStrictlyIncreasing xs → IsStrictlyIncreasing (take n xs)
@@ -44,30 +40,19 @@ pub ruleset index_facts = (positions-true_at, length-true_at, positions-all_fals
 
 -- a mask narrowed at ascending indices among its true ones has these of its true indices
 pub positions-narrowed_at : (a : List Bool) (qs : List ℕ) → IsStrictlyIncreasing qs → All (λ k. k < count a) qs → positions (rank_intersection a (true_at (count a) qs)) ≡ at_indices (positions a) qs
-positions-narrowed_at a qs ascending within =
-    positions-rank_intersection a (true_at (count a) qs) (length-true_at (count a) qs)
-    ∙ ap (at_indices (positions a)) (positions-true_at (count a) qs ascending within)
+positions-narrowed_at a qs ascending within = grind (arith, common_steps, positions-rank_intersection, length-true_at, positions-true_at)
 
 -- and is the list that is true there
 pub narrowed_at : (a : List Bool) (qs : List ℕ) → IsStrictlyIncreasing qs → All (λ k. k < count a) qs → rank_intersection a (true_at (count a) qs) ≡ true_at (length a) (at_indices (positions a) qs)
-narrowed_at a qs ascending within =
-    ap (λ (ps : List ℕ). true_at (length a) (at_indices (positions a) ps)) (positions-true_at (count a) qs ascending within)
+narrowed_at a qs ascending within = grind (arith, common_steps, positions-true_at)
 
 pub positions-at_indices : (a : List Bool) (qs : List ℕ) → IsStrictlyIncreasing qs → All (λ k. k < count a) qs → positions (true_at (length a) (at_indices (positions a) qs)) ≡ at_indices (positions a) qs
-positions-at_indices a qs ascending within =
-    ap positions (sym (narrowed_at a qs ascending within)) ∙ positions-narrowed_at a qs ascending within
+positions-at_indices a qs ascending within = grind (arith, common_steps, narrowed_at a qs ascending within, positions-narrowed_at a qs ascending within)
 
 -- as many as those indices
 pub count-at_indices : (a : List Bool) (qs : List ℕ) → IsStrictlyIncreasing qs → All (λ k. k < count a) qs → count (true_at (length a) (at_indices (positions a) qs)) ≡ length qs
-count-at_indices a qs ascending within =
-    ap length (positions-at_indices a qs ascending within) ∙ length-map qs (λ k. get_or (positions a) k 0)
+count-at_indices a qs ascending within = grind (arith, common_steps, positions-at_indices, length-map)
 
 -- ascending indices taken at ascending indices ascend
 pub at_indices-ascending : (n : ℕ) (ps qs : List ℕ) → IsStrictlyIncreasing ps → All (λ p. p < n) ps → IsStrictlyIncreasing qs → All (λ k. k < length ps) qs → IsStrictlyIncreasing (at_indices ps qs)
-at_indices-ascending n ps qs ascending within mask_ascending mask_within =
-    let a : List Bool = true_at n ps in
-    let indices : positions a ≡ ps = positions-true_at n ps ascending within in
-    let fits : All (λ k. k < count a) qs = subst (λ (xs : List ℕ). All (λ k. k < length xs) qs) (sym indices) mask_within in
-    subst IsStrictlyIncreasing
-    (positions-narrowed_at a qs mask_ascending fits ∙ ap (λ (xs : List ℕ). at_indices xs qs) indices)
-    (positions-ascending (rank_intersection a (true_at (count a) qs)))
+at_indices-ascending n ps qs ascending within mask_ascending mask_within = grind (arith, positions-true_at n ps ascending within, positions-narrowed_at, positions-ascending (rank_intersection (true_at n ps) (true_at (count (true_at n ps)) qs)))

@@ -1,5 +1,6 @@
 -- The rows that whole words choose, and those of the values past them.
-use Rattle.std.proofs.Common.{◌≡◌, ℕ, Bool, false, subst, ◌+◌, ◌-◌, ◌*◌, ◌/◌, ◌%◌, ◌<◌, ◌≤◌, List, [], ◌++◌, length, take, drop, slice_get, slice_range, refl, sym, ap, ap₂, ◌∙◌, arith, append-nil}
+use Rattle.std.proofs.lemmas.Grind.{common_steps}
+use Rattle.std.proofs.Common.{◌≡◌, ℕ, Bool, false, ◌+◌, ◌-◌, ◌*◌, ◌/◌, ◌%◌, ◌<◌, ◌≤◌, List, [], ◌++◌, length, take, drop, slice_get, slice_range, refl, sym, ap, ap₂, ◌∙◌, arith, append-nil}
 use Rattle.std.specs.List.{All, filter_map}
 use Rattle.std.proofs.lemmas.List.{length-drop, length-take, take-append-drop}
 use Rattle.mask_bits.specs.Positions.{chosen, count, positions, repeated}
@@ -20,10 +21,7 @@ chosen_of_none = refl
 
 -- false values behind a list have no place
 places-padded : (m : List Bool) (k : ℕ) → positions (m ++ repeated k false) ≡ positions m
-places-padded m k =
-    indices_from-append 0 m (repeated k false)
-    ∙ ap (λ (ps : List ℕ). positions m ++ ps) (indices_from-repeated_false (0 + length m) k)
-    ∙ append-nil (positions m)
+places-padded m k = grind (arith, common_steps, indices_from-append, indices_from-repeated_false, append-nil)
 
 pub places_of_rest : (m : List Bool) → positions (padded_remainder m) ≡ positions (drop (64 * (length m / 64)) m)
 places_of_rest m = places-padded (drop (64 * (length m / 64)) m) (64 - length m % 64)
@@ -31,11 +29,7 @@ places_of_rest m = places-padded (drop (64 * (length m / 64)) m) (64 - length m 
 -- the places of the rest are those of rows
 pub rest_within : {X : Type 0} (rows part : List X) (m : List Bool) (n w : ℕ) → length rows ≡ length m → n ≡ 64 * (length m / 64) → part ≡ drop n rows → word_bits w ≡ padded_remainder m
     → All (λ p. p < length part) (positions (word_bits w))
-rest_within rows part m n w len whole is shows =
-    let rest : List Bool = drop (64 * (length m / 64)) m in
-    let same : length rest ≡ length part = omega (arith, ap length is, length-drop n rows, length-drop (64 * (length m / 64)) m) in
-    subst (λ (k : ℕ). All (λ p. p < k) (positions (word_bits w))) same
-    (subst (λ (ps : List ℕ). All (λ p. p < length rest) ps) (sym (ap positions shows ∙ places_of_rest m)) (positions-within rest))
+rest_within rows part m n w len whole is shows = grind (arith, common_steps, length-drop, places_of_rest, positions-within)
 
 -- with the rows of the whole words they are all
 pub rest_chosen : {X : Type 0} (rows part : List X) (m : List Bool) (n w : ℕ) → length rows ≡ length m → n ≡ 64 * (length m / 64) → part ≡ drop n rows → word_bits w ≡ padded_remainder m
@@ -51,22 +45,15 @@ rest_chosen {X} rows part m n w len whole is shows =
     ∙ ap₂ chosen (take-append-drop n rows) (take-append-drop n m)
 
 pub rest_counted : (m : List Bool) (n w : ℕ) → n ≡ 64 * (length m / 64) → word_bits w ≡ padded_remainder m → count (take n m) + count (word_bits w) ≡ count m
-rest_counted m n w whole shows =
-    omega (arith, ap count shows, ap length (places_of_rest m), ap (λ k. count (drop k m)) whole, count-append (take n m) (drop n m), ap count (take-append-drop n m))
+rest_counted m n w whole shows = grind (arith, common_steps, places_of_rest m, count-append (take n m) (drop n m), take-append-drop n m)
 
 -- one more word's rows are pushed
 pub word_pushed : {X : Type 0} (rows old new : List X) (m : List Bool) (i w : ℕ) → length rows ≡ length m → 64 * i + 64 ≤ length m → word_bits w ≡ word_part m i
     → old ≡ chosen (take (64 * i) rows) (take (64 * i) m) → new ≡ old ++ chosen (slice_range rows (64 * i) (64 * i + 64)) (word_bits w)
     → new ≡ chosen (take (64 * (i + 1)) rows) (take (64 * (i + 1)) m)
-word_pushed {X} rows old new m i w len within shows before pushed =
-    let next : 64 * i + 64 ≡ 64 * (i + 1) = omega arith in
-    pushed
-    ∙ ap₂ (λ (xs ys : List X). xs ++ ys) before (ap (chosen (slice_range rows (64 * i) (64 * i + 64))) shows)
-    ∙ chosen-part_more rows m (64 * i) (64 * i + 64) len (omega arith)
-    ∙ ap (λ n. chosen (take n rows) (take n m)) next
+word_pushed {X} rows old new m i w len within shows before pushed = grind (arith, common_steps, chosen-part_more)
 
 -- the rows of the rest are pushed, and with them all
 pub rest_pushed : {X : Type 0} (rows part old new : List X) (m : List Bool) (n w : ℕ) → length rows ≡ length m → n ≡ 64 * (length m / 64) → part ≡ drop n rows → word_bits w ≡ padded_remainder m
     → old ≡ chosen (take n rows) (take n m) → new ≡ old ++ chosen part (word_bits w) → new ≡ chosen rows m
-rest_pushed {X} rows part old new m n w len whole is shows before pushed =
-    pushed ∙ ap (λ (xs : List X). xs ++ chosen part (word_bits w)) before ∙ rest_chosen rows part m n w len whole is shows
+rest_pushed {X} rows part old new m n w len whole is shows before pushed = grind (arith, common_steps, rest_chosen)

@@ -1,5 +1,5 @@
 -- Started words of a list, and how many values are true before them and in them.
-use Rattle.std.proofs.Common.{◌≡◌, ℕ, suc, ◌+◌, ◌*◌, ◌<◌, ◌≤◌, Bool, false, List, [], ◌∷◌, length, get_or, take, drop, sym, ap, ◌∙◌, inl, inr, arith, ◌^◌}
+use Rattle.std.proofs.Common.{◌≡◌, ℕ, suc, ◌+◌, ◌*◌, ◌<◌, ◌≤◌, Bool, false, List, [], ◌∷◌, length, get_or, take, drop, sym, ap, ◌∙◌, arith, ◌^◌}
 use Rattle.std.proofs.lemmas.Bool.{cases_lt}
 use Rattle.std.proofs.lemmas.List.{ext_get_or, get_or-take, get_or-drop, get_or_past, length-take}
 use Rattle.mask_bits.specs.Buffer.{Packed, backing_bit, values}
@@ -20,12 +20,7 @@ places-same n (v ∷ xs) (w ∷ ys) same = grind (arith, same 0, places-same (n 
 
 -- a started part has the first values from there on
 pub part-same : (m : List Bool) (i j k : ℕ) → j ≤ 64 → get_or (take j (drop (64 * i) m)) k false ≡ get_or (take j (padded_part m i)) k false
-part-same m i j k few =
-    let rest : List Bool = drop (64 * i) m in
-    elim (cases_lt k j) [
-      | inl h ↦ get_or-take j rest k false h ∙ get_or-drop (64 * i) m k false ∙ sym (get_or-take j (padded_part m i) k false h ∙ get_or-padded_part m i k (omega arith))
-      | inr past ↦ get_or_past (take j rest) k false (omega (arith, length-take j rest)) ∙ sym (get_or_past (take j (padded_part m i)) k false (omega (arith, length-take j (padded_part m i))))
-    ]
+part-same m i j k few = grind (arith, cases_lt, get_or-take, get_or-drop, get_or-padded_part, get_or_past, length-take)
 
 -- no count is above its place
 pub count_below-within : (m : List Bool) (i : ℕ) → count_below m i ≤ i

@@ -20,17 +20,7 @@ use mir.Val.{bool_byte}
 
 -- what ascends from place i on does so from a later one on
 pub ascending-later : (xs : List ℕ) (i k : ℕ) → i ≤ k → IsStrictlyIncreasing (drop i xs) → IsStrictlyIncreasing (drop k xs)
-ascending-later xs i k h ascending m inside =
-    let place : i + (k - i + m) ≡ k + m = omega arith in
-    let next : i + (k - i + m + 1) ≡ k + (m + 1) = omega arith in
-    omega (
-      arith,
-      ascending (k - i + m) (omega (arith, length-drop i xs, length-drop k xs)),
-      get_or-drop i xs (k - i + m) 0 ∙ ap (λ n. get_or xs n 0) place,
-      get_or-drop i xs (k - i + m + 1) 0 ∙ ap (λ n. get_or xs n 0) next,
-      get_or-drop k xs m 0,
-      get_or-drop k xs (m + 1) 0,
-    )
+ascending-later xs i k h ascending m inside = grind (arith, common_steps, length-drop i xs, length-drop k xs, get_or-drop i xs (k - i + m) 0, get_or-drop i xs (k - i + m + 1) 0, get_or-drop k xs m 0, get_or-drop k xs (m + 1) 0)
 
 common-none : (xs : List ℕ) → common xs [] ≡ []
 common-none [] = refl
@@ -43,9 +33,7 @@ common-left x xs ys below = rw (list_any_none (nat_eq x) ys (λ k d h. ne_eqb x 
 -- the other's first is below all of the one
 common-right : (y : ℕ) (xs ys : List ℕ) → All (λ x. y < x) xs → common xs (y ∷ ys) ≡ common xs ys
 common-right y [] ys below = refl
-common-right y (x ∷ xs) ys below =
-    let apart : nat_eq x y ≡ false = ne_eqb x y (λ same. absurd (omega (arith, All-head (λ x. y < x) x xs below))) in
-    rw (apart, common-right y xs ys (All-tail (λ x. y < x) x xs below)) refl
+common-right y (x ∷ xs) ys below = grind (arith, common_steps, ne_eqb, All-head, All-tail, common-right y xs ys (All-tail (λ x. y < x) x xs below))
 
 -- both have the same first
 common-first : (x : ℕ) (xs ys : List ℕ) → All (λ z. x < z) xs → common (x ∷ xs) (x ∷ ys) ≡ x ∷ common xs ys
@@ -92,10 +80,7 @@ common-swapped (x ∷ xs) (y ∷ ys) a b = elim (cases_order x y) [
 
 common-equal : (xs ys : List ℕ) (i j : ℕ) → IsStrictlyIncreasing (drop i xs) → i < length xs → j < length ys → get_or xs i 0 ≡ get_or ys j 0
     → common (drop i xs) (drop j ys) ≡ get_or xs i 0 ∷ common (drop (i + 1) xs) (drop (j + 1) ys)
-common-equal xs ys i j ascending h k same =
-    let e = drop_more xs i 0 h in
-    ap₂ common e (drop_more ys j 0 k ∙ ap (λ y. y ∷ drop (j + 1) ys) (sym same))
-    ∙ common-first (get_or xs i 0) (drop (i + 1) xs) (drop (j + 1) ys) (above-first (get_or xs i 0) (drop (i + 1) xs) (subst IsStrictlyIncreasing e ascending))
+common-equal xs ys i j ascending h k same = grind (arith, common_steps, drop_more xs i 0 h, drop_more ys j 0 k, common-first, above-first (get_or xs i 0) (drop (i + 1) xs) (subst IsStrictlyIncreasing (drop_more xs i 0 h) ascending))
 
 -- one of them is at its end
 pub common-over : (xs ys : List ℕ) (i j : ℕ) → (length xs ≤ i) ⊎ (length ys ≤ j) → common (drop i xs) (drop j ys) ≡ []
@@ -140,14 +125,10 @@ common-above x (z ∷ zs) ys ws high below =
 
 -- the first of a list are below y, or those from a place on aren't
 all-first : (us : List ℕ) (k y : ℕ) → ((m : ℕ) → m < k → get_or us m 0 < y) → All (λ z. z < y) (take k us)
-all-first us k y below m d inside =
-    let few : m < k = omega (arith, length-take k us) in
-    omega (arith, get_or_default (take k us) m d 0 inside, get_or-take k us m 0 few, below m few)
+all-first us k y below m d inside = grind (arith, length-take, get_or_default, get_or-take)
 
 all-last : (us : List ℕ) (k y : ℕ) → ((m : ℕ) → k ≤ m → m < length us → y ≤ get_or us m 0) → All (λ z. y ≤ z) (drop k us)
-all-last us k y above m d inside =
-    let place : k + m < length us = omega (arith, length-drop k us) in
-    omega (arith, get_or_default (drop k us) m d 0 inside, get_or-drop k us m 0, above (k + m) (omega arith) place)
+all-last us k y above m d inside = grind (arith, length-drop, get_or_default, get_or-drop)
 
 pub common-parts : (xs ys : List ℕ) (m n : ℕ) → IsStrictlyIncreasing xs → m < length xs → AreSplit ys n (get_or xs m 0)
     → common xs ys ≡ common (take m xs) (take n ys) ++ common (drop m xs) (drop n ys)
@@ -180,15 +161,7 @@ pub record GoesOn (xs new ys : List ℕ) (i j n i' j' n' : ℕ) : Type 0 where
 
 goes-past : (xs ys : List ℕ) (i j n k l : ℕ) → IsUnderWay xs ys i j n → i + k ≤ length xs → j + l ≤ length ys
     → common (drop i xs) (drop j ys) ≡ common (drop k (drop i xs)) (drop l (drop j ys)) → GoesOn xs xs ys i j n (i + k) (j + l) n
-goes-past xs ys i j n k l w left right same = record {
-  under_way = record {
-    fewer = omega (arith, w.fewer);
-    within_list = left;
-    within_other = right;
-    ascending = ascending-later xs i (i + k) (omega arith) w.ascending;
-  };
-  same = ap (λ zs. take n xs ++ zs) (ap₂ common (sym (drop-drop k i xs)) (sym (drop-drop l j ys)) ∙ sym same);
-}
+goes-past xs ys i j n k l w left right same = grind (arith, common_steps, ascending-later xs i (i + k) (omega arith) w.ascending, drop-drop k i xs, drop-drop l j ys)
 
 -- some indices of the one list, or of the other, are passed at once
 pub goes-list : (xs ys : List ℕ) (i j n k : ℕ) → IsStrictlyIncreasing ys → i + k < length xs → j < length ys → IsUnderWay xs ys i j n
@@ -261,15 +234,7 @@ merged-over xs ys i j n w over = sym (append-nil (take n xs)) ∙ ap (λ zs. tak
 pub found-joined : (xs ys both : List ℕ) (m n at f l : ℕ) → IsStrictlyIncreasing xs → m < length xs → AreSplit ys n (get_or xs m 0)
     → IsFound (take m xs) (take n ys) (take at both) f → IsFound (drop m xs) (drop n ys) (drop at both) l
     → take (f + l) (copy_within both at (at + l) f) ≡ common xs ys
-found-joined xs ys both m n at f l ascending h split first last =
-    let few : f ≤ length (take at both) = first.within in
-    let many : l ≤ length (drop at both) = last.within in
-    let n_moved : (at + l) - at ≡ l = omega arith in
-    ap (λ k. take (f + l) (paste both f (drop at both) k)) n_moved
-    ∙ take-paste both f (drop at both) l (omega (arith, length-take at both)) many
-    ∙ ap (λ zs. zs ++ take l (drop at both)) (sym (take-take f at both (omega (arith, length-take at both))) ∙ first.found)
-    ∙ ap (λ zs. common (take m xs) (take n ys) ++ zs) last.found
-    ∙ sym (common-parts xs ys m n ascending h split)
+found-joined xs ys both m n at f l ascending h split first last = grind (arith, paste, take-paste, length-take, take-take, common-parts)
 
 pub ruleset merged_facts = (merged-over)
 

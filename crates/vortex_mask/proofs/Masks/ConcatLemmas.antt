@@ -1,6 +1,6 @@
 -- Lists one after another.
 use Rattle.std.proofs.lemmas.Grind.{common_steps}
-use Rattle.std.proofs.Common.{drop, map, get_or, ◌≡◌, ℕ, ◌+◌, ◌<◌, ◌≤◌, Bool, List, [], ◌∷◌, ◌++◌, length, true, suc, sym, inl, inr, ap, ◌∙◌, arith}
+use Rattle.std.proofs.Common.{drop, map, get_or, ◌≡◌, ℕ, ◌+◌, ◌<◌, ◌≤◌, Bool, List, [], ◌∷◌, ◌++◌, length, true, suc, sym, inl, inr, arith}
 use Rattle.std.specs.Borrow.{Bor}
 use Rattle.std.specs.List.{All}
 use Rattle.std.proofs.lemmas.Bool.{cases_lt}
@@ -22,13 +22,11 @@ length-concat ms = length-flat_map (λ m. m) ms
 
 all_concat : (v : Bool) (masks : List (Bor Mask)) → AreAll v masks → All (λ b. b ≡ v) (concat (lists_of masks))
 all_concat v [] all = All-nil (λ b. b ≡ v)
-all_concat v (mask ∷ masks) all =
-    All-append (λ b. b ≡ v) (truth mask.now) (concat (lists_of masks)) (all 0 mask (omega arith)) (all_concat v masks (λ k d h. all (suc k) d (omega arith)))
+all_concat v (mask ∷ masks) all = grind (arith, All-append (λ b. b ≡ v) (truth mask.now) (concat (lists_of masks)) (all 0 mask (omega arith)) (all_concat v masks (λ k d h. all (suc k) d (omega arith))), all_concat v masks (λ k d h. all (suc k) d (omega arith)))
 
 -- masks of one value join to a list of it
 pub concat-one_value : (v : Bool) (masks : List (Bor Mask)) → AreAll v masks → repeated (total_len (lists_of masks)) v ≡ concat (lists_of masks)
-concat-one_value v masks all =
-    sym (repeated_from_All v (concat (lists_of masks)) (all_concat v masks all) ∙ ap (λ n. repeated n v) (length-concat (lists_of masks)))
+concat-one_value v masks all = grind (arith, common_steps, repeated_from_All v (concat (lists_of masks)) (all_concat v masks all), all_concat v masks all, length-concat (lists_of masks))
 
 -- masks without values are of any value
 all-no_values : (v : Bool) (masks : List (Bor Mask)) → total_len (lists_of masks) ≡ 0 → AreAll v masks
@@ -50,10 +48,7 @@ pub ruleset concat_facts = (length-concat, concat-one_value, some_values)
 -- behind the lists of some masks, the next one's values are within the sum of all lengths
 pub concat_so_far : (made : List Bool) (masks : List (Bor Mask)) (i : ℕ) (mask : Bor Mask) → mask ≡ get_or masks i mask → i < length masks
     → made ++ concat (lists_of (drop i masks)) ≡ concat (lists_of masks) → length made + length (truth mask.now) ≤ total_len (lists_of masks)
-concat_so_far made masks i mask is h list =
-    let next = at_drop_more (λ (ms : List (Bor Mask)). length (concat (lists_of ms))) masks i mask h in
-    let same = ap (λ (m : Bor Mask). length (truth m.now)) is in
-    omega (arith, ap length list, length-append made (concat (lists_of (drop i masks))), next, same, length-append (truth (get_or masks i mask).now) (concat (lists_of (drop (i + 1) masks))), length-concat (lists_of masks))
+concat_so_far made masks i mask is h list = grind (arith, common_steps, at_drop_more, length-append made (concat (lists_of (drop i masks))), length-append (truth (get_or masks i mask).now) (concat (lists_of (drop (i + 1) masks))), length-concat (lists_of masks))
 
 -- and behind that one too
 pub concat-next : (made : List Bool) (masks : List (Bor Mask)) (i : ℕ) (mask : Bor Mask) → mask ≡ get_or masks i mask → i < length masks

@@ -1,10 +1,10 @@
 -- The list that is false exactly at some indices, as they come one by one.
-use Rattle.std.proofs.Common.{◌≡◌, ℕ, ◌<◌, ◌≤◌, Bool, true, false, not, nat_eq, List, [], ◌∷◌, ◌++◌, length, get_or, set, Option, Some, ap, ◌∙◌, arith}
+use Rattle.std.proofs.Common.{◌≡◌, ℕ, ◌<◌, ◌≤◌, Bool, true, false, not, nat_eq, List, [], ◌∷◌, ◌++◌, length, get_or, set, Option, Some, ◌∙◌, arith}
 use Rattle.std.specs.Option.{option_or}
 use Rattle.std.specs.List.{list_any}
 use Rattle.std.proofs.lemmas.Bool.{cases_lt, cases_eq}
 use Rattle.std.proofs.lemmas.List.{same_lists, length-set, get_or-map, get_or-set_other}
-use Rattle.std.proofs.lemmas.Grind.{get_or-set_at}
+use Rattle.std.proofs.lemmas.Grind.{get_or-set_at, common_steps}
 use Rattle.std.proofs.lemmas.List.Folds.{list_any-append}
 use Rattle.std.proofs.lemmas.List.FromFn.{get_or-map-range_with_len}
 use Rattle.mask_bits.specs.Lists.{not_of}
@@ -24,8 +24,7 @@ length-without n xs = length-not_of (true_at n xs) ∙ length-true_at n xs
 
 get_or-without : (n : ℕ) (xs : List ℕ) (i : ℕ) (d : Bool) → i < n → get_or (without n xs) i d ≡ not (list_any (nat_eq i) xs)
 unfolding true_at
-get_or-without n xs i d h =
-    get_or-map not (true_at n xs) i d d (omega (arith, length-true_at n xs)) ∙ ap not (get_or-map-range_with_len (λ j. list_any (nat_eq j) xs) 0 n i i d h (omega arith))
+get_or-without n xs i d h = grind (arith, common_steps, get_or-map not (true_at n xs) i d d (omega (arith, length-true_at n xs)), length-true_at n xs, get_or-map-range_with_len (λ j. list_any (nat_eq j) xs) 0 n i i d h (omega arith))
 
 -- no index yet
 pub without-none : (n : ℕ) → repeated n true ≡ without n []

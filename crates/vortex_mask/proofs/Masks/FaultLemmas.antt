@@ -1,4 +1,5 @@
 -- The faults of a list of indices: how a loop finds them, and what holds where there is none.
+use Rattle.std.proofs.lemmas.Grind.{common_steps}
 use Rattle.std.proofs.Common.{◌≡◌, ℕ, zero, suc, ◌+◌, ◌<◌, ◌≤◌, Bool, true, false, nat_eq, nat_lt, nat_le, List, [], ◌∷◌, ◌++◌, length, get_or, drop, Option, Some, None, cond, refl, sym, ap, subst, ◌∙◌, ◌-◌, inl, inr, arith}
 use Rattle.std.specs.List.{All, list_any}
 use Rattle.std.specs.Option.{option_map, option_or}
@@ -44,9 +45,7 @@ ascending-faultless n (x ∷ y ∷ xs) sorted unlike k h =
 
 within-first_past : (len : ℕ) (xs : List ℕ) → first_past len xs ≡ None → All (λ i. i < len) xs
 within-first_past len [] none = All-nil (λ i. i < len)
-within-first_past len (x ∷ xs) none =
-    let e = if_none (nat_le len x) x (first_past len xs) none in
-    All-cons (λ i. i < len) x xs (grind (arith, nat_tests)) (within-first_past len xs e.1)
+within-first_past len (x ∷ xs) none = grind (arith, common_steps, if_none, All-cons, nat_tests, within-first_past len xs (if_none (nat_le len x) x (first_past len xs) none).1)
 
 pub none_mapped : {X Y : Type 0} (f : X → Y) (o : Option X) → option_map f o ≡ None → o ≡ None
 none_mapped f None e = refl
@@ -75,8 +74,7 @@ first_pair-ascending test n (x ∷ y ∷ xs) not_so ascending =
 
 first_past-none : (len : ℕ) (xs : List ℕ) → All (λ i. i < len) xs → first_past len xs ≡ None
 first_past-none len [] all = refl
-first_past-none len (x ∷ xs) all =
-    grind (arith, nat_tests, All-head (λ i. i < len) x xs all, first_past-none len xs (All-tail (λ i. i < len) x xs all))
+first_past-none len (x ∷ xs) all = grind (arith, common_steps, nat_tests, All-head, All-tail, first_past-none len xs (All-tail (λ i. i < len) x xs all))
 
 faultless : (len : ℕ) (xs : List ℕ) → IsStrictlyIncreasing xs → All (λ i. i < len) xs → index_fault len xs ≡ None
 faultless len xs ascending within = grind (arith, first_pair-ascending, nat_lt, first_past-none)

@@ -1,5 +1,6 @@
 -- The variant of a fold, and folds that need no memory.
-use Rattle.std.proofs.Common.{◌≡◌, ◌≢◌, ℕ, zero, suc, ◌+◌, ◌<◌, Bool, List, [], ◌∷◌, length, get_or, drop, fold, map, refl, sym, subst, ap, ap₂, ◌∙◌, arith}
+use Rattle.std.proofs.lemmas.Grind.{common_steps}
+use Rattle.std.proofs.Common.{◌≡◌, ◌≢◌, ℕ, zero, suc, ◌+◌, ◌<◌, Bool, List, [], ◌∷◌, length, get_or, drop, fold, map, refl, ap, ◌∙◌, arith}
 use Rattle.std.proofs.lemmas.List.{drop_all, drop_more, length-drop, length-map}
 use Rattle.std.proofs.lemmas.List.Elements.{All-head}
 use Rattle.std.specs.List.{All}
@@ -10,7 +11,7 @@ use Rattle.mask_bits.proofs.Lists.Places.PlaceLemmas.{count-le-length}
 use Rattle.mask_bits.proofs.Lists.RankLemmas.{rank_intersection-all_true}
 use Rattle.mask_bits.proofs.Lists.StackLemmas.{folded_by_the_first, length_of_fold}
 use Rattle.mask_bits.specs.Stacks.{IsStack, folded_left}
-use Rattle.vortex_mask.specs.Mask.{truth, Variant, variant, variant_and, fitting_variant, all_true, all_false, mixed}
+use Rattle.vortex_mask.specs.Mask.{truth, Variant, variant, variant_and, fitting_variant, all_false, mixed}
 use Rattle.vortex_mask.specs.declared.mask.Mask.{Mask}
 use Rattle.vortex_mask.specs.declared.mask.Mask.TheVariants.{AllTrue, AllFalse, Values}
 use Rattle.vortex_mask.proofs.Masks.MaskLemmas.{fitting_variant-all_false, fitting_variant-repeated_true}
@@ -30,8 +31,7 @@ pub record IsNarrowed (a b r : Mask) : Type 0 where
 
 -- what is held as all false stays so
 pub stays_all_false : (a b r : Mask) → IsNarrowed a b r → variant a ≡ all_false → variant r ≡ all_false
-stays_all_false (AllFalse n) b r is held =
-    grind (arith, fitting_variant-all_false, rank_intersection_count, count-repeated_false, count-le-length)
+stays_all_false (AllFalse n) b r is held = grind (arith, common_steps, fitting_variant-all_false, rank_intersection_count, count-repeated_false, count-le-length)
 stays_all_false a b r is held = absurd (cc)
 
 -- two masks of one value each narrow to one
@@ -39,10 +39,8 @@ pub stays_of_one_value : (a b r : Mask) → IsNarrowed a b r → variant a ≢ m
 stays_of_one_value (Values v) b r is one other = absurd (one refl)
 stays_of_one_value a (Values w) r is one other = absurd (other refl)
 stays_of_one_value (AllFalse n) b r is one other = λ same. let held = stays_all_false (AllFalse n) b r is refl in cc
-stays_of_one_value (AllTrue n) (AllFalse k) r is one other =
-    λ same. let held : variant r ≡ all_false = grind (arith, fitting_variant-all_false, rank_intersection_count, count-repeated_false) in cc
-stays_of_one_value (AllTrue n) (AllTrue k) r is one other =
-    λ same. let held : variant r ≡ all_true = grind (arith, rank_intersection-all_true, fitting_variant-repeated_true, length-repeated, count-repeated_true) in cc
+stays_of_one_value (AllTrue n) (AllFalse k) r is one other = grind (arith, common_steps, fitting_variant-all_false, rank_intersection_count, count-repeated_false)
+stays_of_one_value (AllTrue n) (AllTrue k) r is one other = grind (arith, common_steps, rank_intersection-all_true, fitting_variant-repeated_true, length-repeated, count-repeated_true)
 
 -- ---- the fold, mask by mask
 
@@ -74,31 +72,22 @@ fold_above a (b ∷ ms) stack some = (length_of_fold b ms ∙ stack.0, folded_by
 
 -- the fold of the last mask is the mask
 pub fold_of_last : (masks : List Mask) (i : ℕ) (m last : Mask) → i + 1 ≡ length masks → last ≡ get_or masks i last → truth m ≡ truth last → truth m ≡ folded_left (map truth (drop i masks))
-fold_of_last masks i m last ends is same =
-    let all : drop i masks ≡ last ∷ [] = drop_more masks i last (omega arith) ∙ ap₂ (λ (x : Mask) xs. x ∷ xs) (sym is) (drop_all (i + 1) masks (omega arith)) in
-    same ∙ sym (ap (λ (xs : List Mask). folded_left (map truth xs)) all)
+fold_of_last masks i m last ends is same = grind (arith, common_steps, drop_more, drop_all)
 
 -- the masks from number i on, of which there is one above it
 below : (a : List Bool) (masks : List Mask) (i : ℕ) (m : Mask) → IsStack (a ∷ map truth masks) → i + 1 < length masks → m ≡ get_or masks i m
     → (drop i masks ≡ m ∷ drop (i + 1) masks) × IsStack (truth m ∷ map truth (drop (i + 1) masks)) × (0 < length (map truth (drop (i + 1) masks)))
-below a masks i m stack within is =
-    let more : drop i masks ≡ m ∷ drop (i + 1) masks = drop_more masks i m (omega arith) ∙ ap (λ (x : Mask). x ∷ drop (i + 1) masks) (sym is) in
-    (more, subst (λ (xs : List Mask). IsStack (map truth xs)) more (stack_from a masks i (omega arith) stack), omega (arith, length-map (drop (i + 1) masks) truth, length-drop (i + 1) masks))
+below a masks i m stack within is = grind (arith, common_steps, drop_more masks i m (omega arith), stack_from a masks i (omega arith) stack, length-map (drop (i + 1) masks) truth, length-drop (i + 1) masks)
 
 -- the fold from a mask on has a value for each row that the mask below it chooses
 pub fold_fits : (a : List Bool) (masks : List Mask) (i : ℕ) (m above : Mask) → IsStack (a ∷ map truth masks) → i + 1 < length masks → m ≡ get_or masks i m
     → truth above ≡ folded_left (map truth (drop (i + 1) masks)) → length (truth above) ≡ count (truth m)
-fold_fits a masks i m above stack within is folded =
-    let b = below a masks i m stack within is in
-    ap length folded ∙ (fold_above (truth m) (map truth (drop (i + 1) masks)) b.1 b.2).0
+fold_fits a masks i m above stack within is folded = grind (arith, common_steps, below a masks i m stack within is, fold_above (truth m) (map truth (drop (i + 1) masks)) (below a masks i m stack within is).1 (below a masks i m stack within is).2)
 
 -- and that mask narrowed by it is the fold from there on
 pub fold_below : (a : List Bool) (masks : List Mask) (i : ℕ) (m above r : Mask) → IsStack (a ∷ map truth masks) → i + 1 < length masks → m ≡ get_or masks i m
     → truth above ≡ folded_left (map truth (drop (i + 1) masks)) → truth r ≡ rank_intersection (truth m) (truth above) → truth r ≡ folded_left (map truth (drop i masks))
-fold_below a masks i m above r stack within is folded narrowed =
-    let b = below a masks i m stack within is in
-    narrowed ∙ ap (rank_intersection (truth m)) folded ∙ sym (fold_above (truth m) (map truth (drop (i + 1) masks)) b.1 b.2).1
-    ∙ ap (λ (xs : List Mask). folded_left (map truth xs)) (sym b.0)
+fold_below a masks i m above r stack within is folded narrowed = grind (arith, common_steps, below, fold_above)
 
 -- a mask below masks that choose rows has rows
 pub some_rows : (a : List Bool) (masks : List Mask) → IsStack (a ∷ map truth masks) → 0 < length masks → All (λ m. 0 < count (truth m)) masks → 0 < length a

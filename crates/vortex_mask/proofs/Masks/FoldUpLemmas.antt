@@ -1,4 +1,5 @@
 -- The fold of a stack from its first mask up, mask by mask.
+use Rattle.std.proofs.lemmas.Grind.{common_steps}
 use Rattle.std.specs.Prelude.{is_some}
 use Rattle.std.proofs.Common.{◌≡◌, ◌≢◌, ℕ, ◌+◌, ◌<◌, ◌≤◌, Bool, List, [], ◌∷◌, Some, length, get_or, drop, map, refl, ◌∙◌, arith}
 use Rattle.std.proofs.lemmas.List.{drop_all, drop_more}
@@ -85,8 +86,7 @@ from_first len trues is_listed a w masks up len_is trues_is listed_is some stack
 -- the next of these masks is one that chooses a row
 pub at_next : (len trues : ℕ) (is_listed : Bool) (masks : List Mask) (i : ℕ) (b up : Mask) → All (λ m. 0 < count (truth m)) masks → i < length masks → b ≡ get_or masks i b → (n : Mask) × IsOnTheWay len trues is_listed n (drop i masks) up
     → (n : Mask) × IsOnTheWay len trues is_listed n (b ∷ drop (i + 1) masks) up × (0 < count (truth b))
-at_next len trues is_listed masks i b up choose within is so_far =
-    (so_far.0, grind (arith, drop_more, so_far.1), grind (arith, All-get_or (λ (x : Mask). 0 < count (truth x)) masks i b within choose))
+at_next len trues is_listed masks i b up choose within is so_far = grind (arith, common_steps, drop_more, All-get_or)
 
 -- past the last of these masks it is the one that the fold ends with
 pub at_end : (len trues : ℕ) (is_listed : Bool) (masks : List Mask) (i : ℕ) (up : Mask) → length masks ≤ i → (n : Mask) × IsOnTheWay len trues is_listed n (drop i masks) up → is_some (caches up).indices ≡ is_listed

@@ -1,6 +1,7 @@
 -- Lists of one value, and the variants that lists may have.
+use Rattle.std.proofs.lemmas.Grind.{common_steps}
 use Rattle.std.specs.Prelude.{◌↔◌}
-use Rattle.std.proofs.Common.{◌-◌, ◌≤◌, slice_range, All, ◌≡◌, ℕ, zero, suc, ◌<◌, Bool, true, false, List, [], ◌∷◌, length, refl, sym, ap, ◌∙◌, arith}
+use Rattle.std.proofs.Common.{◌≤◌, slice_range, All, ◌≡◌, ℕ, zero, suc, ◌<◌, Bool, true, false, List, [], ◌∷◌, length, refl, sym, ap, ◌∙◌, arith}
 use Rattle.std.specs.Cmp.{booleans_Decides}
 use Rattle.std.proofs.lemmas.Slice.Eq.{slice_eq-Decides}
 use Rattle.vortex_mask.specs.Mask.{Variant, all_true, all_false, mixed, fitting_variant, truth, same_truth}
@@ -22,13 +23,11 @@ fitting_variant-all empty (v ∷ m) some e = rw (list_all-count 0 (v ∷ m) e) r
 
 pub fitting_variant-none : (empty : Variant) (m : List Bool) → 0 < length m → count m ≡ 0 → fitting_variant empty m ≡ all_false
 fitting_variant-none empty [] some e = absurd (omega arith)
-fitting_variant-none empty (v ∷ m) some e =
-    rw (list_all-count_less 0 (v ∷ m) (omega arith), list_any-count_zero 0 (v ∷ m) e) refl
+fitting_variant-none empty (v ∷ m) some e = grind (arith, common_steps, list_all-count_less, list_any-count_zero)
 
 pub fitting_variant-some : (empty : Variant) (m : List Bool) → 0 < count m → count m < length m → fitting_variant empty m ≡ mixed
 fitting_variant-some empty [] some less = absurd (omega arith)
-fitting_variant-some empty (v ∷ m) some less =
-    rw (list_all-count_less 0 (v ∷ m) less, list_any-count 0 (v ∷ m) some) refl
+fitting_variant-some empty (v ∷ m) some less = grind (arith, common_steps, list_all-count_less, list_any-count)
 
 -- a list with no true value, held as all false also where it is empty
 pub fitting_variant-all_false : (m : List Bool) → count m ≡ 0 → fitting_variant all_false m ≡ all_false

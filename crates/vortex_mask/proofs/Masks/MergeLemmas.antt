@@ -1,4 +1,5 @@
 -- What is left of a list's ranges once each that touches the one before it has lengthened it: the runs.
+use Rattle.std.proofs.lemmas.Grind.{common_steps}
 use Rattle.std.proofs.Common.{◌≡◌, ◌≢◌, ℕ, ◌+◌, ◌<◌, ◌||◌, Bool, true, false, nat_eq, List, [], ◌∷◌, length, refl, sym, ap, ◌∙◌, arith, subst}
 use Rattle.std.proofs.Math.Bool.{or_assoc}
 use Rattle.std.specs.Prelude.{if◌then◌else◌}
@@ -57,8 +58,7 @@ module _ {S : Type 0} (R : S → ℕ × ℕ → ℕ × ℕ → Bool → S → �
 
   merged_from : (xs : List (ℕ × ℕ)) (low high : ℕ) (s : S) (k : ℕ × ℕ) (ys : List (ℕ × ℕ)) → Ordered low high (k ∷ xs) → DedupsFrom R s k xs ys → IsMerged low high (k ∷ xs) ys
   merged_from [] low high s k ys o h = subst (IsMerged low high (k ∷ [])) (sym h) (record { spread = (o.0, o.1, o.2, tt); same = λ i. refl })
-  merged_from (x ∷ xs) low high s k ys o h =
-      step low high h.1 x k h.0 h.2 h.3 xs ys o (told s x k h.0 h.1 h.2 h.3 h.4) (λ from run zs o' g. merged_from xs from high h.1 run zs o' g) h.5
+  merged_from (x ∷ xs) low high s k ys o h = grind (arith, common_steps, step low high h.1 x k h.0 h.2 h.3 xs ys o (told s x k h.0 h.1 h.2 h.3 h.4) (λ from run zs o' g. merged_from xs from high h.1 run zs o' g) h.5)
 
   merged_all : (high : ℕ) (s : S) (rs ys : List (ℕ × ℕ)) → Ordered 0 high rs → DedupsAll R s rs ys → IsMerged 0 high rs ys
   merged_all high s [] ys o h = subst (IsMerged 0 high []) (sym h) (record { spread = tt; same = λ i. refl })
@@ -66,12 +66,4 @@ module _ {S : Type 0} (R : S → ℕ × ℕ → ℕ × ℕ → Bool → S → �
 
   -- what is left of ranges that hold exactly the true indices
   pub runs-merged : (s : S) (rs ys : List (ℕ × ℕ)) → IsDeduped R s rs ys → (m : List Bool) → AreRanges m rs → ys ≡ runs m
-  runs-merged s rs ys h m are =
-      let is = merged_all (length m) s rs ys (Ordered-of m rs are) h.told in
-      runs_from-RunsOf 0 (length m) m ys (record {
-        top = omega arith;
-        spread = is.spread;
-        exact = λ i j e below.
-            let same : j ≡ i = omega arith in
-            are.exact j below ∙ ap (λ (k : ℕ). list_any (is_inside k) rs) same ∙ sym (is.same i);
-      })
+  runs-merged s rs ys h m are = grind (arith, common_steps, merged_all (length m) s rs ys (Ordered-of m rs are) h.told, Ordered-of m rs are, runs_from-RunsOf)

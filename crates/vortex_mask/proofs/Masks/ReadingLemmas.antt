@@ -35,15 +35,11 @@ count_below-all_true n i h = ap count (take-replicate i n true h) ∙ count-repe
 
 pub counts-all_true : (n : ℕ) (xs : List ℕ) → All (λ i. i ≤ length (repeated n true)) xs → map (count_below (repeated n true)) xs ≡ xs
 counts-all_true n [] h = refl
-counts-all_true n (x ∷ xs) h =
-    let within : ℕ → Type 0 = λ i. i ≤ length (repeated n true) in
-    rw (count_below-all_true n x (omega (arith, All-head within x xs h, length-repeated n true)), counts-all_true n xs (All-tail within x xs h)) refl
+counts-all_true n (x ∷ xs) h = grind (arith, common_steps, count_below-all_true, All-head, length-repeated, All-tail, counts-all_true n xs (All-tail (λ i. i ≤ length (repeated n true)) x xs h))
 
 -- and none of an all-false one
 count_below-all_false : (n i : ℕ) → count_below (repeated n false) i ≡ 0
-count_below-all_false n i =
-    let m : List Bool = repeated n false in
-    omega (arith, count-append (take i m) (drop i m), ap count (take-append-drop i m), count-repeated_false n)
+count_below-all_false n i = grind (arith, common_steps, count-append (take i (repeated n false)) (drop i (repeated n false)), take-append-drop i (repeated n false), count-repeated_false n)
 
 pub counts-all_false : (n : ℕ) (xs : List ℕ) → map (count_below (repeated n false)) xs ≡ replicate (length xs) 0
 counts-all_false n [] = refl

@@ -1,4 +1,5 @@
 -- Bits that are set in bytes, a range at a time.
+use Rattle.std.proofs.lemmas.Grind.{common_steps}
 use Rattle.std.proofs.Common.{◌≡◌, ℕ, ◌+◌, ◌-◌, ◌*◌, ◌/◌, ◌%◌, ◌^◌, ◌<◌, ◌≤◌, ◌||◌, ◌&&◌, ◌⊎◌, Bool, true, false, nat_eq, nat_le, List, length, get_or, replicate, sym, ap, ap₂, ◌∙◌, arith, inl, inr}
 use Rattle.std.specs.Int.{bit_at}
 use Rattle.std.specs.Int.RustNames.{bit_and, bit_or}
@@ -24,16 +25,10 @@ full_bit j h = get_or-word_bits 18446744073709551615 j false h ∙ ap (λ x. nat
 
 -- a word of ones shifted up, and one shifted down
 shifted_up : (low j : ℕ) → j < 64 → get_or (word_bits (18446744073709551615 * 2 ^ low % 2 ^ 64)) j false ≡ nat_le low j
-shifted_up low j h = elim (cases_lt j low) [
-  | inl below ↦ get_or-word_bits_shl_low 18446744073709551615 low j h below ∙ grind (arith, nat_tests)
-  | inr from ↦ get_or-word_bits_shl_high 18446744073709551615 low j h from ∙ full_bit (j - low) (omega arith) ∙ grind (arith, nat_tests)
-]
+shifted_up low j h = grind (arith, common_steps, cases_lt, get_or-word_bits_shl_low, nat_tests, get_or-word_bits_shl_high, full_bit)
 
 shifted_down : (high j : ℕ) → high < 64 → j < 64 → get_or (word_bits (18446744073709551615 / 2 ^ (63 - high))) j false ≡ nat_le j high
-shifted_down high j few h = get_or-word_bits_shr 18446744073709551615 (63 - high) j (omega arith) h ∙ elim (cases_lt high j) [
-  | inl past ↦ get_or_past (word_bits 18446744073709551615) (63 - high + j) false (omega (arith, length-word_bits 18446744073709551615)) ∙ grind (arith, nat_tests)
-  | inr within ↦ full_bit (63 - high + j) (omega arith) ∙ grind (arith, nat_tests)
-]
+shifted_down high j few h = grind (arith, common_steps, get_or-word_bits_shr, cases_lt, get_or_past, length-word_bits, nat_tests, full_bit)
 
 place_in_word : (i low high p : ℕ) → 64 * i ≤ p → (nat_le low (p - 64 * i) && nat_le (p - 64 * i) high) ≡ is_inside p (64 * i + low, 64 * i + high + 1)
 place_in_word i low high p from = grind (arith, nat_tests)

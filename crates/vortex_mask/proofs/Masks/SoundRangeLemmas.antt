@@ -1,5 +1,6 @@
 -- Ranges in which there is no fault, and the values that are true exactly in them.
-use Rattle.std.proofs.Common.{◌≡◌, ℕ, ◌+◌, ◌-◌, ◌<◌, ◌≤◌, ◌&&◌, not, Bool, true, false, nat_lt, nat_le, List, [], ◌∷◌, length, get_or, drop, map, zero, suc, None, sym, ap, ◌∙◌, arith, subst, inl, inr}
+use Rattle.std.proofs.lemmas.Grind.{common_steps}
+use Rattle.std.proofs.Common.{◌≡◌, ℕ, ◌+◌, ◌<◌, ◌≤◌, ◌&&◌, not, Bool, true, false, nat_lt, nat_le, List, [], ◌∷◌, length, get_or, drop, map, zero, suc, None, sym, ◌∙◌, arith, subst}
 use Rattle.std.specs.List.{All, AllAdjacentBelow, list_any, prefix_len, position, range_with_len}
 use Rattle.std.proofs.lemmas.List.FromFn.{get_or-map-range_with_len, length-map-range_with_len}
 use Rattle.std.proofs.lemmas.Bool.{cases_lt}
@@ -22,13 +23,7 @@ use Rattle.vortex_mask.proofs.Masks.FaultLemmas.{option_or-none, none_mapped}
 
 -- the last range has no next one
 pub neighbors-end : (rs : List (ℕ × ℕ)) (n : ℕ) → length rs ≤ n + 1 → neighbors_fault_from n (drop n rs) ≡ None
-neighbors-end rs n h =
-    elim (cases_lt n (length rs)) [
-      | inl last ↦
-          let d : ℕ × ℕ = (0, 0) in
-          at_drop_more (neighbors_fault_from n) rs n d last ∙ at_drop_all (λ ys. neighbors_fault_from n (get_or rs n d ∷ ys)) rs (n + 1) h
-      | inr past ↦ at_drop_all (neighbors_fault_from n) rs n past
-    ]
+neighbors-end rs n h = grind (arith, common_steps, cases_lt n (length rs), at_drop_more, at_drop_all (λ ys. neighbors_fault_from n (get_or rs n (0, 0) ∷ ys)) rs (n + 1) h, at_drop_all)
 
 -- ---- no fault
 
@@ -78,9 +73,7 @@ painted len rs = map (λ i. list_any (is_inside i) rs) (range_with_len 0 len)
 
 held_are_ranges : (len : ℕ) (rs : List (ℕ × ℕ)) → range_fault len rs ≡ None → AreRanges (painted len rs) rs
 unfolding painted
-held_are_ranges len rs none =
-    let value : ℕ → Bool = λ i. list_any (is_inside i) rs in
-    AreRanges-no_fault len rs (painted len rs) none (length-map-range_with_len value 0 len) (λ i h. get_or-map-range_with_len value 0 len i i false h (omega arith))
+held_are_ranges len rs none = grind (arith, AreRanges-no_fault, painted len rs, length-map-range_with_len (λ i. list_any (is_inside i) rs) 0 len, get_or-map-range_with_len)
 
 long_painted : (len : ℕ) (rs : List (ℕ × ℕ)) → length (painted len rs) ≡ len
 unfolding painted
@@ -94,19 +87,13 @@ rows_held-le len rs none = omega (arith, rows_held-painted len rs none, count-le
 
 -- ranges that hold no place, or all
 pub AreRanges-none : (len : ℕ) (rs : List (ℕ × ℕ)) → range_fault len rs ≡ None → rows_held rs ≡ 0 → AreRanges (repeated len false) rs
-AreRanges-none len rs none held =
-    let m : List Bool = painted len rs in
-    subst (λ (n : List Bool). AreRanges n rs) (all_false_from_count 0 m (sym (rows_held-painted len rs none) ∙ held) ∙ ap (λ n. repeated n false) (long_painted len rs)) (held_are_ranges len rs none)
+AreRanges-none len rs none held = grind (arith, common_steps, painted len rs, all_false_from_count 0 (painted len rs) (sym (rows_held-painted len rs none) ∙ held), rows_held-painted len rs none, long_painted len rs, held_are_ranges len rs none)
 
 pub AreRanges-all : (len : ℕ) (rs : List (ℕ × ℕ)) → range_fault len rs ≡ None → rows_held rs ≡ len → AreRanges (repeated len true) rs
-AreRanges-all len rs none held =
-    let m : List Bool = painted len rs in
-    let long = long_painted len rs in
-    subst (λ (n : List Bool). AreRanges n rs) (all_true_from_count 0 m (sym (rows_held-painted len rs none) ∙ held ∙ sym long) ∙ ap (λ n. repeated n true) long) (held_are_ranges len rs none)
+AreRanges-all len rs none held = grind (arith, common_steps, painted len rs, long_painted len rs, all_true_from_count 0 (painted len rs) (sym (rows_held-painted len rs none) ∙ held ∙ sym (long_painted len rs)), rows_held-painted len rs none, held_are_ranges len rs none)
 
 -- the values of bytes in which just the bits of the ranges are set
 pub AreRanges-set : (len : ℕ) (rs : List (ℕ × ℕ)) (bytes : List ℕ) → range_fault len rs ≡ None → ((p : ℕ) → backing_bit bytes p ≡ list_any (is_inside p) rs) → AreRanges (bitmap bytes 0 len) rs
-AreRanges-set len rs bytes none set =
-    AreRanges-no_fault len rs (bitmap bytes 0 len) none (length-bitmap bytes 0 len) (λ i h. grind (arith, get_or-bitmap, set i))
+AreRanges-set len rs bytes none set = grind (arith, common_steps, AreRanges-no_fault len rs (bitmap bytes 0 len) none (length-bitmap bytes 0 len) (λ i h. grind (arith, get_or-bitmap, set i)), length-bitmap bytes 0 len, get_or-bitmap)
 
 pub ruleset range_facts = (nonempty-no_fault, rows_held-le, AreRanges-none, AreRanges-all, ranges_add_up_to_the_count)
