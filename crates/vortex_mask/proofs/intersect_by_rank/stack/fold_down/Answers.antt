@@ -8,12 +8,6 @@ use Rattle.vortex_mask.proofs.ResultLemmas.{IfOk-both}
 use Rattle.vortex_mask.proofs.Masks.FoldLemmas.{fold_above, fold_below, fold_fits, fold_of_last, one_way, some_rows}
 use Rattle.vortex_mask.proofs.intersect_by_rank.stack.fold_down.Goals as goal
 
-pub loop-i-init : goal.loop-i-init
-loop-i-init c = record {
-  within = omega (arith, c.requires.some);
-  folded = fold_of_last c.args.masks.now (length c.args.masks.now - 1) c.in_ok-narrowed.narrowed c.index-masks-i.result (omega (arith, c.requires.some)) c.index-masks-i.is c.in_ok-narrowed.ensures.list;
-}
-
 pub intersect_by_rank-requires : goal.intersect_by_rank-requires
 intersect_by_rank-requires c =
     let i : ℕ = c.loop-i.i - 1 in

@@ -33,13 +33,3 @@ returns-clause-refused_whole g c =
     let right = c.in_ok-rhs.ensures.runs tt in
     let same = ap₂ common left.3.0 right.3.0 in
     IfErr-or c.of_common.result _ _ _ (λ e fault. (left.0, left.1, left.2, (right.0, right.1, right.2, ap (out_of_bounds c.args.len) (sym same) ∙ fault))) c.of_common.ensures.refused
-
-pub of_common-requires-clause-lhs : goal.of_common-requires-clause-lhs
-of_common-requires-clause-lhs g c =
-    let run = c.in_ok-lhs.ensures.runs tt in
-    subst IsStrictlyIncreasing (sym run.3.0) (c.requires.lhs_ascends run.0 run.0.seen run.1 run.2)
-
-pub of_common-requires-clause-rhs : goal.of_common-requires-clause-rhs
-of_common-requires-clause-rhs g c =
-    let run = c.in_ok-rhs.ensures.runs tt in
-    subst IsStrictlyIncreasing (sym run.3.0) (c.requires.rhs_ascends run.0 run.0.seen run.1 run.2)

@@ -2,9 +2,6 @@ use Rattle.std.proofs.Common.{◌%◌, ◌^◌, ap, ◌∙◌, get_or, ◌/◌}
 use Rattle.vortex_mask.proofs.Deposits.LaneLemmas.{eight_from}
 use Rattle.vortex_mask.proofs.intersect_by_rank.deposit.bytewise.gather.Goals as goal
 
-pub returns-clause-lanes : goal.returns-clause-lanes
-returns-clause-lanes c = c.eight_bits.ensures.lanes
-
 pub returns-clause-bits : goal.returns-clause-bits
 returns-clause-bits c = λ j h n few room.
     ap (λ x. x % 2 ^ n) (c.eight_bits.ensures.each j h)

@@ -14,18 +14,6 @@ gather_apart-bits-requires-clause-below c = λ j h.
     let w = get_or c.args.masks (j / 8) 0 in
     omega (arith, c.counts_below.ensures.each j h, count_below-word_bits w (8 * (j % 8)) (omega arith), ones_below-le w (8 * (j % 8)))
 
-pub gather_apart-bits-requires-clause-lower : goal.gather_apart-bits-requires-clause-lower
-gather_apart-bits-requires-clause-lower c = λ j h. omega (arith, c.nibbles_of-nibbles.ensures.lower.each j h)
-
-pub move_up_in_nibbles-requires-clause-lower : goal.move_up_in_nibbles-requires-clause-lower
-move_up_in_nibbles-requires-clause-lower c = record { lanes = c.nibbles_of-nibbles.ensures.lower.lanes; small = λ j h. omega (arith, c.nibbles_of-nibbles.ensures.lower.each j h) }
-
-pub move_up_in_nibbles-requires-clause-upper : goal.move_up_in_nibbles-requires-clause-upper
-move_up_in_nibbles-requires-clause-upper c = record {
-  lanes = c.nibbles_of-nibbles.ensures.upper.lanes;
-  small = λ j h. omega (arith, c.nibbles_of-nibbles.ensures.upper.each j h, bytes_fit c.args.masks c.bytes_of.ensures j h);
-}
-
 pub returns : goal.returns
 returns c =
     let masks = c.args.masks in

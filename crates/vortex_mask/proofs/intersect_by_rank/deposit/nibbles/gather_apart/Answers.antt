@@ -4,12 +4,6 @@ use Rattle.vortex_mask.proofs.Deposits.LaneLemmas.{eight_from}
 use Rattle.vortex_mask.proofs.Deposits.NibbleLemmas.{lower_from, upper_from}
 use Rattle.vortex_mask.proofs.intersect_by_rank.deposit.nibbles.gather_apart.Goals as goal
 
-pub returns-clause-lanes : goal.returns-clause-lanes
-returns-clause-lanes c = c.four_and_four.ensures.lanes
-
-pub returns-clause-bytes : goal.returns-clause-bytes
-returns-clause-bytes c = λ j h. omega (arith, c.four_and_four.ensures.each j h)
-
 pub returns-clause-lower_bits : goal.returns-clause-lower_bits
 returns-clause-lower_bits c = λ j h n few room.
     let s = get_or c.args.words (j / 8) 0 in

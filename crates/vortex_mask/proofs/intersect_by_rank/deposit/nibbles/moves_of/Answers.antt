@@ -3,15 +3,6 @@ use Rattle.vortex_mask.proofs.Deposits.NibbleLemmas.{stay_at, by_two_at, by_one_
 use Rattle.mask_bits.proofs.Lists.Words.LaneLemmas.{AreLanes-same}
 use Rattle.vortex_mask.proofs.intersect_by_rank.deposit.nibbles.moves_of.Goals as goal
 
-pub of_nibbles-requires-clause-table : goal.of_nibbles-requires-clause-table
-of_nibbles-requires-clause-table c = table_fits _ refl tt
-
-pub of_nibbles-requires-2-clause-table : goal.of_nibbles-requires-2-clause-table
-of_nibbles-requires-2-clause-table c = table_fits _ refl tt
-
-pub of_nibbles-requires-3-clause-table : goal.of_nibbles-requires-3-clause-table
-of_nibbles-requires-3-clause-table c = table_fits _ refl tt
-
 pub returns-clause-stay : goal.returns-clause-stay
 returns-clause-stay c = AreLanes-same c.of_nibbles.ensures (λ j h. ap₂ (λ a b. a + b * 2 ^ 4) (stay_at _ (c.requires.lower.small j h)) (stay_at _ (c.requires.upper.small j h)))
 

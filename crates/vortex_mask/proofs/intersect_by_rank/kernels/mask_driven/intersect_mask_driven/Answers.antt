@@ -9,9 +9,6 @@ use Rattle.vortex_mask.specs.Mask.{truth}
 use Rattle.vortex_mask.proofs.Kernels.DrivenLemmas.{ascending-few, not-above-next, ranks-at_turn, ranks-at_exit, found-more, found-all, found-steps, indices-ascending, indices-within, drained}
 use Rattle.vortex_mask.proofs.intersect_by_rank.kernels.mask_driven.intersect_mask_driven.Goals as goal
 
-pub index_of-requires-clause-room : goal.index_of-requires-clause-room
-index_of-requires-clause-room g c = grind (arith, common_steps, ranks-at_turn, length-append, ascending-few, count-le-length)
-
 pub index_of-requires-clause-ahead : goal.index_of-requires-clause-ahead
 index_of-requires-clause-ahead g c =
     let m = values c.args.self_buffer.now in
@@ -41,12 +38,3 @@ returns-clause-whole g c =
     let m = values c.args.self_buffer.now in
     let run = found-all g.I.Iterator.next_gives c.args.mask_indices (count m) c.args.true_count c.requires.ranks _ c.into_iter-rank-iterator.ensures.into_iter_gives c.loop-rank.yielded _ c.loop-rank.yielded_by c.next.new.self c.in-None.ensures.steps _ m _ _ _ _ _ c.loop-rank.invariant c.chunks-chunks.ensures.list in
     (run.0, run.1, run.2, c.in_ok-of_indices.ensures.mask.true_indices ∙ run.3)
-
-pub returns-clause-true_indices : goal.returns-clause-true_indices
-returns-clause-true_indices g c =
-    drained g.I.Iterator.next_gives c.args.mask_indices (λ (xs : List ℕ). positions (truth c.in_ok-of_indices.field-0) ≡ at_indices (positions (values c.args.self_buffer.now)) xs) (returns-clause-whole g c)
-
-pub returns-clause-steps : goal.returns-clause-steps
-returns-clause-steps g c =
-    let all = (ranks-at_exit g.I.Iterator.next_gives c.args.mask_indices _ c.args.true_count c.requires.ranks _ c.into_iter-rank-iterator.ensures.into_iter_gives c.loop-rank.yielded _ c.loop-rank.yielded_by c.next.new.self c.in-None.ensures.steps).1 in
-    rw c.in_ok-of_indices.ensures.mask.true_indices (found-steps c.chunks-chunks.result c.loop-rank.yielded _ _ _ c.loop-rank.indices.items c.loop-rank.steps c.args.true_count c.loop-rank.invariant all)

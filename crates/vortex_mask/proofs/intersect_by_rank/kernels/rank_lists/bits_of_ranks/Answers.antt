@@ -3,9 +3,6 @@ use Rattle.std.proofs.lemmas.Nat.{one_shl}
 use Rattle.vortex_mask.proofs.Kernels.RankWordLemmas.{gathered-more, gathered-split, gathered-bits}
 use Rattle.vortex_mask.proofs.intersect_by_rank.kernels.rank_lists.bits_of_ranks.Goals as goal
 
-pub loop-next-init : goal.loop-next-init
-loop-next-init c = c.bits_of_most-bits.ensures
-
 pub loop-next-preserved : goal.loop-next-preserved
 loop-next-preserved c =
     let few : get_or c.args.ranks.now c.loop-next.next 0 - c.args.at < 64 = omega (arith, c.if-ranks-next.true, c.requires.few) in

@@ -4,6 +4,3 @@ use Rattle.vortex_mask.proofs.intersect_by_rank.steps.Steps.select.Goals as goal
 
 pub invariant_of-self : goal.invariant_of-self
 invariant_of-self g c = grind (arith, selected-lt)
-
-pub returns-clause-ticked : goal.returns-clause-ticked
-returns-clause-ticked g c = grind (arith)
