@@ -6,7 +6,7 @@ use Rattle.std.proofs.lemmas.Nat.{pow_pos, shr-shr, and_mask, and_le_l, zero_fro
 use Rattle.std.proofs.lemmas.Nat.Bits.{bit_at_lowest, bit_at-suc, bit_at-lt, bit_at_or, same_from_bits}
 use Rattle.std.proofs.lemmas.Bool.{cases_lt}
 use lib.Bits.{or_step, and_zero_r, or_zero_r}
-use Rattle.mask_bits.proofs.Lists.Words.WordLemmas.{count_below-word_bits}
+use Rattle.mask_bits.proofs.Lists.Words.WordLemmas.{count_below-word_bits, count-word_bits}
 use Rattle.vortex_mask.specs.Deposit.{Deposits}
 use Rattle.vortex_mask.proofs.Deposits.SetPlaceLemmas.{ones_below, parity, ones_below-zero, ones_below-suc, cleared, cleared-odd, cleared-even, lowest, lowest-odd, lowest-even, lowest_sum, ones-cleared_le}
 
@@ -113,3 +113,7 @@ two_lowest s m fits few =
     let last : deposit 64 (s / 2) (cleared m) ≡ first 64 (s / 2) (cleared m) =
     deposit_step 64 (s / 2) (cleared m) small ∙ ap (bit_or (first 64 (s / 2) (cleared m))) (ap (deposit 64 (s / 2 / 2)) none ∙ deposit-zero 64 (s / 2 / 2)) ∙ or_zero_r _ in
     ap₂ bit_or (ap (λ x. x * (s % 2)) (left_of m fits)) (ap (λ x. x * (s / 2 % 2)) alone ∙ sym last) ∙ sym (deposit_step 64 s m fits)
+
+pub ruleset turn_facts = (turn, Deposits-from_deposit, or_zero_r, deposit-zero, deposit_no_source)
+
+pub ruleset two_lowest_facts = (count-word_bits, cleared_word, Deposits-from_deposit, two_lowest)

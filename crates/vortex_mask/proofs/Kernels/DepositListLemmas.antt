@@ -86,3 +86,5 @@ pub few-ones : (w : ℕ) → w < 2 ^ 64 → count_ones w ≤ 64
 few-ones w fits = ones-le 64 w fits
 
 pub ruleset word_counts = (few-true, few-ones, count-word_bits)
+
+pub ruleset selected_facts = (selected-lt)

@@ -1,4 +1,6 @@
 -- Two masks of mixed values, narrowed on their path.
+use Rattle.mask_bits.proofs.Lists.Places.PlaceLemmas.{positions-within}
+use Rattle.mask_bits.proofs.Lists.Places.AscendingLemmas.{positions-ascending}
 use Rattle.std.proofs.Common.{◌≡◌, ℕ, Bool, List, length, Option, Result, Ok, Err, ap, ◌∙◌}
 use Rattle.std.proofs.lemmas.Iterator.{YieldsList}
 use Rattle.std.specs.Iterator.Runs.{WholeRun}
@@ -22,3 +24,5 @@ pub list_from_ranks : {S E : Type 0} (steps : S → Option ℕ → S → Type 0)
 list_from_ranks steps s ranks yields a b held (Ok x) fits same is_ranks len run =
     list_from_places a b (truth x.0) fits (len ∙ ap length same) (rw (← same, ← is_ranks) (taken_whole steps s ranks yields _ _ run))
 list_from_ranks steps s ranks yields a b held (Err e) fits same is_ranks len run = tt
+
+pub ruleset path_facts = (list_from_places, positions-ascending, positions-within)

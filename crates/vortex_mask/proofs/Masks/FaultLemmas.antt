@@ -111,3 +111,5 @@ pub ascending-common : (xs ys : List ℕ) → IsStrictlyIncreasing xs → IsStri
 ascending-common xs ys = IsStrictlyIncreasing-filter (λ x. list_any (nat_eq x) ys) xs
 
 pub ruleset listed_facts = (within_faultless, ascending-common)
+
+pub ruleset order_facts = (faultless-by_last, first_pair-end)

@@ -97,3 +97,5 @@ pub AreRanges-set : (len : ℕ) (rs : List (ℕ × ℕ)) (bytes : List ℕ) → 
 AreRanges-set len rs bytes none set = grind (arith, common_steps, AreRanges-no_fault len rs (bitmap bytes 0 len) none (length-bitmap bytes 0 len) (λ i h. grind (arith, get_or-bitmap, set i)), length-bitmap bytes 0 len, get_or-bitmap)
 
 pub ruleset range_facts = (nonempty-no_fault, rows_held-le, AreRanges-none, AreRanges-all, ranges_add_up_to_the_count)
+
+pub ruleset neighbor_facts = (neighbors-end)

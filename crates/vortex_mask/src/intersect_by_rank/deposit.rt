@@ -130,6 +130,7 @@ pub fn deposits_by_loop(len: usize, true_count: usize) -> bool
 }
 
 // The lowest set place of the mask takes the lowest bit of the source, until either is used up.
+#[tactic(auto, using(crate::proofs::Deposits::DepositLemmas::turn_facts))]
 fn deposit_in_turn(source: u64, mask: u64) -> u64
     ensures { Deposits source mask result }
 {
@@ -146,6 +147,7 @@ fn deposit_in_turn(source: u64, mask: u64) -> u64
 }
 
 /// The deposit at a mask with at most two set bits.
+#[tactic(auto, using(crate::proofs::Deposits::DepositLemmas::two_lowest_facts))]
 pub fn deposit_two_lowest(source: u64, mask: u64) -> u64
     requires { count (word_bits mask) ≤ 2 }
     ensures { Deposits source mask result }
@@ -177,6 +179,7 @@ pub fn deposit_two_holes(source: u64, mask: u64) -> u64
 
 // Moves the bits from a hole on up by one, by adding them to themselves. The hole is the word that
 // has its place alone, or 0 where there is none.
+#[tactic(auto, using(crate::proofs::Deposits::HoleLemmas::kept_from))]
 fn with_room(source: u64, hole: u64) -> u64
     ensures room { (p : ℕ) → p < 64 → hole ≡ 2 ^ p
         → result ≡ (source + source / hole * hole) % 2 ^ 64 }

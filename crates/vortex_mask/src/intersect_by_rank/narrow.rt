@@ -43,6 +43,7 @@ pub(super) fn narrow_by_path(
 }
 
 // Of true indices of both, which are listed where they are not cached.
+#[tactic(auto, using(crate::proofs::Kernels::PathLemmas::path_facts))]
 fn by_indices(
     alloc: Global,
     rows: &MaskValues,
@@ -108,6 +109,7 @@ fn by_buffers<D: DepositBits>(
 }
 
 // Of the bits of the first and the cached true indices of the second: one deposit a word.
+#[tactic(auto, using(crate::proofs::Kernels::PathLemmas::path_facts))]
 fn by_rank_indices<D: DepositBits>(
     alloc: Global,
     rows: &MaskValues,

@@ -222,6 +222,7 @@ impl Steps {
     }
 
     /// The place of set bit number `rank` of `word`.
+    #[tactic(auto, using(crate::proofs::Kernels::DepositListLemmas::selected_facts))]
     #[inline(always)]
     pub fn select<S: SelectBit>(&mut self, word: u64, rank: usize) -> usize
         requires room { self.old.selections < usize.MAX }

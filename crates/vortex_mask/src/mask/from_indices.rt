@@ -68,6 +68,7 @@ impl Mask {
 }
 
 // Order over the whole list first, then repeats, then bounds.
+#[tactic(auto, using(crate::proofs::Masks::FaultLemmas::order_facts))]
 fn index_fault(len: usize, indices: &[usize]) -> Option<MaskError>
     ensures { result ≡ index_fault len indices.now }
 {
@@ -99,6 +100,7 @@ fn ascends(indices: &[usize]) -> bool
 }
 
 // The first place whose index is below the one before it.
+#[tactic(auto, using(crate::proofs::Masks::FaultLemmas::order_facts))]
 fn first_unsorted(indices: &[usize]) -> Option<usize>
     ensures { result ≡ first_unsorted indices.now }
 {
@@ -111,6 +113,7 @@ fn first_unsorted(indices: &[usize]) -> Option<usize>
 }
 
 // The first place whose index equals the one before it.
+#[tactic(auto, using(crate::proofs::Masks::FaultLemmas::order_facts))]
 fn first_repeated(indices: &[usize]) -> Option<usize>
     ensures { result ≡ first_repeated indices.now }
 {

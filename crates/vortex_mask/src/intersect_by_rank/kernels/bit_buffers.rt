@@ -21,6 +21,7 @@ use std::alloc::Global;
 
 /// The values of one buffer narrowed by those of another, of which `true_count` are true. Each
 /// started word of the first takes one deposit.
+#[tactic(auto, using(mask_bits::proofs::Lists::LawLemmas::rank_intersection_count, std::proofs::lemmas::List::take_at))]
 pub fn intersect_bit_buffers<D: DepositBits>(
     alloc: Global,
     self_buffer: &BitBuffer,
