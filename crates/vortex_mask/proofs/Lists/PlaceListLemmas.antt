@@ -56,3 +56,5 @@ count-at_indices a qs ascending within = grind (arith, common_steps, positions-a
 -- ascending indices taken at ascending indices ascend
 pub at_indices-ascending : (n : ℕ) (ps qs : List ℕ) → IsStrictlyIncreasing ps → All (λ p. p < n) ps → IsStrictlyIncreasing qs → All (λ k. k < length ps) qs → IsStrictlyIncreasing (at_indices ps qs)
 at_indices-ascending n ps qs ascending within mask_ascending mask_within = grind (arith, positions-true_at n ps ascending within, positions-narrowed_at, positions-ascending (rank_intersection (true_at n ps) (true_at (count (true_at n ps)) qs)))
+
+pub ruleset rising_facts = (rises-to)

@@ -59,6 +59,7 @@ fn look_up(short: &mut [usize], long: &[usize]) -> usize
 
 // How many indices are below `least`, which those before place `from` are: sought in strides that double, and then by
 // halves.
+#[tactic(auto, using(crate::proofs::Lists::PlaceListLemmas::rising_facts))]
 fn place_of(list: &[usize], from: usize, least: usize) -> usize
     requires ascending { IsStrictlyIncreasing list.now }
     requires within { from ≤ length list.now }
@@ -74,6 +75,7 @@ fn place_of(list: &[usize], from: usize, least: usize) -> usize
 }
 
 // How many indices are below `least`, which those before place `low` are, and none from `high` on is.
+#[tactic(auto, using(crate::proofs::Lists::PlaceListLemmas::rising_facts))]
 fn place_between(list: &[usize], low: usize, high: usize, least: usize) -> usize
     requires ascending { IsStrictlyIncreasing list.now }
     requires order { low ≤ high }

@@ -5,7 +5,7 @@ use Rattle.mask_bits.specs.Positions.{rank_intersection}
 use Rattle.mask_bits.specs.Stacks.{folded_left}
 use Rattle.vortex_mask.specs.Mask.{mixed, truth}
 use Rattle.vortex_mask.proofs.ResultLemmas.{IfOk-both}
-use Rattle.vortex_mask.proofs.Masks.FoldLemmas.{fold_above, fold_below, fold_fits, fold_of_last, one_way, some_rows}
+use Rattle.vortex_mask.proofs.Masks.FoldLemmas.{fold_above, fold_below, fold_fits, one_way, some_rows}
 use Rattle.vortex_mask.proofs.intersect_by_rank.stack.fold_down.Goals as goal
 
 pub intersect_by_rank-requires : goal.intersect_by_rank-requires

@@ -3,14 +3,6 @@ use Rattle.vortex_mask.proofs.Lists.PlaceListLemmas.{rises-to}
 use Rattle.vortex_mask.proofs.mask.common_indices.place_of.Goals as goal
 use Rattle.vortex_mask.proofs.mask.common_indices.place_of.Goals.{then-loop-high-test+else-list-high, else-loop-high-test}
 
-pub loop-high-preserved : goal.loop-high-preserved
-loop-high-preserved c = record {
-  from = omega arith;
-  order = omega arith;
-  within = omega arith;
-  before = λ k h. omega (arith, c.if-list-high.true, rises-to c.args.list.now k c.loop-high.high c.requires.ascending (omega arith) (omega (arith, c.loop-high-test.true)));
-}
-
 pub place_between-requires-clause-after : goal.place_between-requires-clause-after
 place_between-requires-clause-after c = elim c.loop-high-test.branch [
   | then-loop-high-test+else-list-high w ↦ λ k h inside.

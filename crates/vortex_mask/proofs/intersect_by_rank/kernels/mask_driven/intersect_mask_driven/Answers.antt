@@ -1,12 +1,8 @@
-use Rattle.std.proofs.Common.{◌≡◌, ◌<◌, List, ℕ, subst, sym, ◌∙◌, arith}
-use Rattle.std.proofs.lemmas.Grind.{common_steps}
-use Rattle.std.proofs.lemmas.List.{length-append}
+use Rattle.std.proofs.Common.{◌<◌, subst, sym, ◌∙◌}
 use Rattle.std.specs.List.{All}
 use Rattle.mask_bits.specs.Buffer.{values}
-use Rattle.mask_bits.specs.Positions.{positions, count, at_indices}
-use Rattle.mask_bits.proofs.Lists.Places.PlaceLemmas.{count-le-length}
-use Rattle.vortex_mask.specs.Mask.{truth}
-use Rattle.vortex_mask.proofs.Kernels.DrivenLemmas.{ascending-few, not-above-next, ranks-at_turn, ranks-at_exit, found-more, found-all, found-steps, indices-ascending, indices-within, drained}
+use Rattle.mask_bits.specs.Positions.{count}
+use Rattle.vortex_mask.proofs.Kernels.DrivenLemmas.{not-above-next, ranks-at_turn, found-more, found-all, indices-ascending, indices-within}
 use Rattle.vortex_mask.proofs.intersect_by_rank.kernels.mask_driven.intersect_mask_driven.Goals as goal
 
 pub index_of-requires-clause-ahead : goal.index_of-requires-clause-ahead

@@ -1,4 +1,5 @@
-use Rattle.std.proofs.Common.{◌≡◌, ℕ, List, Bool, length, take, ◌++◌, sym, ap, ◌∙◌, arith}
+use Rattle.std.proofs.Common.{◌≡◌, ℕ, List, Bool, length, take, ◌++◌, ap, ◌∙◌, arith}
+use Rattle.std.proofs.lemmas.Grind.{common_steps}
 use Rattle.std.proofs.lemmas.List.{take_at}
 use Rattle.mask_bits.specs.Buffer.{values}
 use Rattle.mask_bits.specs.Positions.{positions, true_at, at_indices}
@@ -10,10 +11,7 @@ use Rattle.vortex_mask.proofs.intersect_by_rank.kernels.rank_indices.intersect_b
 written : (out rest : List ℕ) (size len : ℕ) (a m : List Bool) (qs : List ℕ) → length out ≡ size → m ≡ a → len ≡ length a
     → values (record { bytes = out; offset = 0; len = length m }) ≡ true_at (length m) (at_indices (positions m) qs)
     → values (record { bytes = take size (out ++ rest); offset = 0; len = len }) ≡ true_at (length a) (at_indices (positions a) qs)
-written out rest size len a m qs whole same is_len list =
-    ap (λ (xs : List ℕ). values (record { bytes = xs; offset = 0; len = len })) (take_at out rest size whole)
-    ∙ ap (λ n. values (record { bytes = out; offset = 0; len = n })) (is_len ∙ ap length (sym same))
-    ∙ list ∙ ap (λ (x : List Bool). true_at (length x) (at_indices (positions x) qs)) same
+written out rest size len a m qs whole same is_len list = grind (arith, common_steps, take_at)
 
 pub of_words-requires-clause-counted : goal.of_words-requires-clause-counted
 of_words-requires-clause-counted g c = grind (arith, written, count-at_indices)

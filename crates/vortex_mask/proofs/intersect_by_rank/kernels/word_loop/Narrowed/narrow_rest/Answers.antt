@@ -1,4 +1,5 @@
-use Rattle.std.proofs.Common.{◌≡◌, ◌+◌, refl, sym, ap, subst, arith, count_ones}
+use Rattle.std.proofs.Common.{◌≡◌, ◌+◌, refl, ap, subst, arith, count_ones}
+use Rattle.std.proofs.lemmas.Grind.{common_steps}
 use Rattle.mask_bits.proofs.Lists.Words.WordLemmas.{count-word_bits}
 use Rattle.vortex_mask.proofs.Kernels.WordKernelLemmas.{deposited-at, deposited-list, deposited-more, deposited-steps, word-started}
 use Rattle.vortex_mask.proofs.Lists.StartedWordLemmas.{IsAt, place-after_within}
@@ -8,11 +9,7 @@ use Rattle.vortex_mask.proofs.intersect_by_rank.kernels.word_loop.Narrowed.narro
 
 -- the word of a turn
 here : (g : Over) (c : After-word-word g) → IsAt c.args.chunks.now c.loop-i.i (g.R.RankWords.number c.args.ranks.now c.loop-i.done.at) c.word-word.result (count_ones c.word-word.result)
-here g c = record {
-  place = c.loop-i.invariant.narrowed.place;
-  shows = word-started c.args.chunks.now c.loop-i.i c.word-word.result (omega arith) c.word-word.ensures.whole c.word-word.ensures.last;
-  counted = sym (count-word_bits c.word-word.result c.word-word.type_inv);
-}
+here g c = grind (arith, common_steps, word-started, count-word_bits, c.loop-i.invariant.narrowed.place, c.word-word.ensures.whole, c.word-word.ensures.last)
 
 pub two_words-requires-clause-within : goal.two_words-requires-clause-within
 two_words-requires-clause-within g c = omega (arith, c.requires.ranks, place-after_within (here g (goal.at.two_words-requires-clause-within g c).After-word-word))
