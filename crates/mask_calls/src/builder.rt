@@ -1,20 +1,11 @@
 //! Calls of builders.
 
-use crate::answer::{Answer, Told};
-use crate::built::{Built, NO_BUILDER};
+use crate::built::{Built, NO_BUILDER, write_built};
 use crate::fault::Fault;
-use crate::lines::calls;
-use crate::packed;
-use crate::words::{Words, halves, number, pair};
+use crate::text::Text;
+use crate::words::{Word, number, pair};
 use mask_bits::{BitBuffer, BitBufferMut};
 use std::alloc::Global;
-
-/// The call of a builder.
-pub(crate) fn of<'a>(name: &str, operands: Option<(Global, &'a mut BuilderCall)>) -> Told<'a> {
-    calls! { name, operands as (alloc, call);
-        "builder" (builder) => call.run(alloc),
-    }
-}
 
 // No list of a test is longer.
 const LONGEST: usize = 10_000_000;
@@ -70,12 +61,9 @@ impl Operation {
     }
 
     fn read(alloc: Global, word: &str) -> Result<Operation, Fault> {
-        match halves(word, ":") {
+        match word.split_once(":") {
             None if word == "freeze" => Ok(Operation::Freeze),
-            Some(("b", rest)) => match packed::read(alloc, rest) {
-                Ok(other) => Ok(Operation::AppendBuffer(other)),
-                Err(fault) => Err(fault),
-            },
+            Some(("b", rest)) => Ok(Operation::AppendBuffer(BitBuffer::read(alloc, rest)?)),
             Some((form @ ("n" | "w"), rest)) => append(form, pair(rest, ":", "two numbers")?),
             Some((form, rest)) => of_number(form, number(rest)?),
             None => Err(UNREAD),
@@ -114,15 +102,8 @@ pub struct BuilderCall {
 }
 
 impl BuilderCall {
-    // Does the last operation.
-    fn run<'a>(&'a mut self, alloc: Global) -> Told<'a> {
-        match self.make(alloc) {
-            Ok(()) => Ok(Answer::Built(&mut self.built)),
-            Err(fault) => Err(fault),
-        }
-    }
-
-    fn make(&mut self, alloc: Global) -> Result<(), Fault> {
+    /// Does the last operation.
+    pub fn make(&mut self, alloc: Global) -> Result<(), Fault> {
         for _ in 0..self.times {
             self.last.make(alloc, &mut self.built)?;
             self.times = self.times.saturating_sub(1);
@@ -130,12 +111,11 @@ impl BuilderCall {
         Ok(())
     }
 
-    /// Operations by all words that are left: `with_capacity:130`, `new_set:130` or `new_unset:130` make a builder,
-    /// `n:1:5` appends five true values, `w:0x5:64` the 64 bits of a word, `b:3+101` a buffer by its word, `set:4` and
-    /// `unset:4` change a value, `freeze` makes the buffer, and `9*n:1:5` appends nine times.
-    pub fn next(words: &mut Words<'_>) -> Option<BuilderCall> {
-        let call = read(words.alloc, words.all());
-        words.found(call)
+    /// Writes what was made, once all is done.
+    pub fn write(&mut self, text: &mut Text) {
+        if self.times == 0 {
+            write_built(text, &mut self.built);
+        }
     }
 
     fn set_last(&mut self, alloc: Global, (times, word): (&str, &str)) -> Result<(), Fault> {
@@ -156,15 +136,20 @@ impl BuilderCall {
     }
 }
 
-fn read(alloc: Global, words: &str) -> Result<BuilderCall, Fault> {
-    let mut call = BuilderCall {
-        built: Built::Nothing,
-        last: Operation::Freeze,
-        times: 0,
-    };
-    for word in words.split(' ') {
-        call.make(alloc)?;
-        call.set_last(alloc, halves(word, "*").unwrap_or(("1", word)))?;
+/// Operations with a space between two: `with_capacity:130`, `new_set:130` or `new_unset:130` make a builder, `n:1:5`
+/// appends five true values, `w:0x5:64` the 64 bits of a word, `b:3+101` a buffer by its word, `set:4` and `unset:4`
+/// change a value, `freeze` makes the buffer, and `9*n:1:5` appends nine times.
+impl Word for Option<BuilderCall> {
+    fn read(alloc: Global, words: &str) -> Result<Option<BuilderCall>, Fault> {
+        let mut call = BuilderCall {
+            built: Built::Nothing,
+            last: Operation::Freeze,
+            times: 0,
+        };
+        for word in words.split(' ') {
+            call.make(alloc)?;
+            call.set_last(alloc, word.split_once("*").unwrap_or(("1", word)))?;
+        }
+        Ok(Some(call))
     }
-    Ok(call)
 }

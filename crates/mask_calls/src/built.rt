@@ -1,6 +1,7 @@
 //! A builder, and the buffer that it makes.
 
 use crate::fault::Fault;
+use crate::tell::tell_fault;
 use crate::text::Text;
 use crate::walks::write_buffer;
 use mask_bits::{BitBuffer, BitBufferMut};
@@ -52,7 +53,7 @@ fn frozen(builder: BitBufferMut) -> Result<BitBuffer, Fault> {
 pub(crate) fn write_built(text: &mut Text, built: &mut Built) {
     if matches!(built, Built::Builder(_)) {
         if let Err(fault) = built.freeze() {
-            fault.write(text);
+            tell_fault(text, fault);
         }
     }
     if let Built::Frozen(buffer) = built {

@@ -1,14 +1,12 @@
 //! A call with its operands.
 
-use crate::answer::{Answer, Told};
-use crate::fault::Fault;
-use crate::group::{self, GROUPS};
-use crate::lines::UNKNOWN;
+use crate::fault::{Fault, UNKNOWN};
+use crate::lines::Found;
 use crate::operands::Operands;
-use crate::text::Text;
-use crate::walks::write_backed;
+use crate::tell::tell_fault;
+use crate::text::{Detail, Text};
 use crate::words::Words;
-use crate::written::{write_mask, write_mixed};
+use crate::{bits, kernels, masks, mixed, others};
 use std::alloc::Global;
 
 /// A call with its operands. Where it was refused memory, operands that were lent are there still, and it can be
@@ -17,13 +15,43 @@ use std::alloc::Global;
 pub struct Call<'n> {
     name: &'n str,
     group: usize,
-    operands: Operands,
+    pub operands: Operands,
+}
+
+// How many functions have lines of calls. They have the numbers from 0 on.
+const GROUPS: usize = 19;
+
+// Makes the call of this name, or looks it up, by the function of this number.
+fn in_group(group: usize, name: &str, o: &mut Operands, text: &mut Text) -> Found {
+    match group {
+        0 => masks::read(name, o, text),
+        1 => masks::walk(name, o, text),
+        2 => masks::part(name, o, text),
+        3 => masks::place(name, o, text),
+        4 => masks::pair(name, o, text),
+        5 => masks::rank(name, o, text),
+        6 => masks::taken(name, o, text),
+        7 => masks::changed(name, o, text),
+        8 => bits::read(name, o, text),
+        9 => bits::walk(name, o, text),
+        10 => bits::part(name, o, text),
+        11 => bits::place(name, o, text),
+        12 => bits::pair(name, o, text),
+        13 => others::uniform(name, o, text),
+        14 => others::words(name, o, text),
+        15 => others::lent(name, o, text),
+        16 => others::taken(name, o, text),
+        17 => mixed::of(name, o, text),
+        18 => kernels::of(name, o, text),
+        _ => None,
+    }
 }
 
 // The group that has a line of this name, and what the line reads.
-fn look_up(name: &str) -> Option<(usize, &'static str)> {
+fn look_up(name: &str, unread: &mut Operands) -> Option<(usize, &'static str)> {
+    let mut text = Text::new(unread.alloc, Detail::Whole);
     for group in 0..GROUPS {
-        if let Ok(Answer::Reads(operands)) = group::call(group, name, None) {
+        if let Some(operands) = in_group(group, name, unread, &mut text) {
             return Some((group, operands));
         }
     }
@@ -33,10 +61,11 @@ fn look_up(name: &str) -> Option<(usize, &'static str)> {
 impl<'n> Call<'n> {
     /// The call of this name, and its operands by the words behind it.
     pub fn read(alloc: Global, name: &'n str, words: &str) -> Result<Call<'n>, Fault> {
-        match look_up(name) {
-            Some((group, operands)) => {
+        let mut operands = Operands::new(alloc);
+        match look_up(name, &mut operands) {
+            Some((group, names)) => {
                 let mut words = Words::new(alloc, words);
-                let operands = read(&mut words, operands);
+                operands.read(&mut words, names);
                 words.end(Call {
                     name,
                     group,
@@ -47,47 +76,21 @@ impl<'n> Call<'n> {
         }
     }
 
-    /// Makes the call, and asks for memory in it alone.
-    pub fn run<'a>(&'a mut self, alloc: Global) -> Told<'a> {
-        group::call(self.group, self.name, Some((alloc, &mut self.operands)))
+    /// Makes the call, and tells what it answers. With room in the text, it asks for memory in the call alone.
+    pub fn run(&mut self, text: &mut Text) {
+        if in_group(self.group, self.name, &mut self.operands, text).is_none() {
+            tell_fault(text, Fault::Unmet("operands that are there"));
+        }
     }
 
-    /// Holds a clone of each mask and buffer that the call is of.
-    pub fn hold(&mut self) -> Result<(), Fault> {
-        self.operands.hold()
-    }
-
-    /// Whether all operands are lent, so that they are there still where the call was refused memory.
-    pub fn lends(&self) -> bool {
-        self.operands.are_lent()
+    /// What the call leaves as it was, with no list cut: operands that are lent, and clones that are held. Where it
+    /// `is_refused` memory, these are also the operands that it changes in place.
+    pub fn kept(&self, is_refused: bool) -> Text {
+        let mut text = Text::new(self.operands.alloc, Detail::Whole);
+        self.operands.write_kept(&mut text, is_refused);
+        text
     }
 
     /// Lets the operands go, so that other crates need no proof of how that is done.
     pub fn end(self) {}
-
-    /// Has a builder do no more than make its buffer.
-    pub fn give_up(&mut self) {
-        if let Some(call) = &mut self.operands.builder {
-            call.give_up();
-        }
-    }
-
-    /// Writes what the call leaves as it was: operands that are lent, and clones that are held. Where it `is_refused`
-    /// memory, these are also the operands that it changes in place.
-    pub fn write_kept(&self, text: &mut Text, is_refused: bool) {
-        self.operands.write_kept(text, is_refused);
-    }
-
-    /// Writes what the call changed in place, with what it has cached.
-    pub fn write_changed(&self, text: &mut Text) {
-        self.operands.write_changed(text);
-    }
-}
-
-fn read(words: &mut Words<'_>, names: &str) -> Operands {
-    let mut operands = Operands::new(words.alloc);
-    for name in names.split(' ') {
-        operands.read(words, name);
-    }
-    operands
 }

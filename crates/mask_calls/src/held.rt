@@ -3,7 +3,7 @@
 use crate::fault::Fault;
 use crate::text::Text;
 use crate::walks::write_backed;
-use crate::words::push;
+use crate::words::{Word, Words, push};
 use crate::written::{write_mixed, write_placed};
 use mask_bits::BitBuffer;
 use vortex_mask::{Mask, MaskValues};
@@ -87,13 +87,38 @@ pub(crate) struct Held<T: Share> {
     how: Use,
 }
 
+impl<T: Share + Word> Held<T> {
+    /// Reads it by the next word, which may end in `&`, where a clone is held.
+    pub fn read(&mut self, words: &mut Words<'_>, how: Use) {
+        let word = words.next();
+        let (word, is_held) = match word.strip_suffix("&") {
+            Some(rest) => (rest, true),
+            None => (word, false),
+        };
+        let read = T::read(words.alloc, word);
+        self.put(words, read, how);
+        if is_held {
+            if let Err(fault) = self.hold() {
+                words.note(fault);
+            }
+        }
+    }
+}
+
 impl<T: Share> Held<T> {
-    pub fn new(it: T, how: Use) -> Held<T> {
+    /// What stands for an operand that is not read.
+    pub fn new(it: T) -> Held<T> {
         Held {
             it,
             held: None,
-            how,
+            how: Use::Unread,
         }
+    }
+
+    /// Puts what was read into its place.
+    pub fn put(&mut self, words: &mut Words<'_>, read: Result<T, Fault>, how: Use) {
+        words.put(&mut self.it, read);
+        self.how = how;
     }
 
     /// Holds a clone from now on.
@@ -107,24 +132,17 @@ impl<T: Share> Held<T> {
     /// Writes the clone that is held, and the operand where it was lent, or where the call `is_refused` and has
     /// changed nothing.
     pub fn write_kept(&self, text: &mut Text, is_refused: bool) {
-        if self.is_kept(is_refused) {
+        let is_kept = match self.how {
+            Use::Lent => true,
+            Use::Changed => is_refused,
+            Use::Taken | Use::Unread => false,
+        };
+        if is_kept {
             self.it.write_kept(text);
         }
         if let Some(held) = &self.held {
             held.write_kept(text);
         }
-    }
-
-    fn is_kept(&self, is_refused: bool) -> bool {
-        match self.how {
-            Use::Lent => true,
-            Use::Changed => is_refused,
-            Use::Taken | Use::Unread => false,
-        }
-    }
-
-    pub fn is_taken(&self) -> bool {
-        matches!(self.how, Use::Taken)
     }
 
     pub fn is_changed(&self) -> bool {

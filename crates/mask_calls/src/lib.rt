@@ -2,14 +2,11 @@
 //! text can say, with an answer that is compared as text or as values.
 #![tactic(auto)]
 
-mod answer;
 mod bits;
 mod builder;
 mod built;
 mod call;
-mod deposits;
 mod fault;
-mod group;
 mod held;
 mod kernels;
 mod lines;
@@ -21,15 +18,15 @@ mod operands;
 mod others;
 mod packed;
 mod row;
+mod tell;
 mod tested;
 mod text;
 mod walks;
 mod words;
 mod written;
 
-pub use answer::Answer;
 pub use call::Call;
 pub use fault::Fault;
-pub use row::{Manner, Outcome, Row, kept, write_outcome};
+pub use operands::Operands;
+pub use row::Row;
 pub use text::{Detail, Text};
-pub use words::halves;

@@ -1,6 +1,7 @@
 //! Buffers with a list of where they are true.
 
 use crate::fault::Fault;
+use crate::words::{Word, halves, number};
 use mask_bits::{BitBuffer, laws};
 use std::alloc::Global;
 use std::marker::Model;
@@ -26,13 +27,12 @@ impl Model for Listed {
         × All (λ i. i < length (values l.buffer)) l.indices.items };
 }
 
-impl Listed {
-    /// A buffer with its indices.
-    pub(crate) fn of(alloc: Global, buffer: BitBuffer) -> Result<Listed, Fault> {
-        match buffer.set_indices().collect(alloc) {
-            Ok(indices) => Ok(Listed { buffer, indices }),
-            Err(_) => Err(Fault::Memory),
-        }
+/// A buffer with its indices.
+impl Word for Option<Listed> {
+    fn read(alloc: Global, word: &str) -> Result<Option<Listed>, Fault> {
+        let buffer = BitBuffer::read(alloc, word)?;
+        let indices = buffer.set_indices().collect(alloc)?;
+        Ok(Some(Listed { buffer, indices }))
     }
 }
 
@@ -63,8 +63,7 @@ impl Ranged {
         Ok(Ranged { buffer, ranges })
     }
 
-    /// A buffer of so many values that is true in these ranges, with them.
-    pub(crate) fn of_ranges(
+    fn of_ranges(
         alloc: Global,
         len: usize,
         ranges: Vec<(usize, usize)>,
@@ -78,5 +77,13 @@ impl Ranged {
     pub(crate) fn mask(self, alloc: Global) -> Result<Mask, MaskError> {
         let Ranged { buffer, ranges } = self;
         Mask::from_buffer_with_slices(alloc, buffer, ranges)
+    }
+}
+
+/// A buffer of so many values that is true in these ranges, with them.
+impl Word for Option<Ranged> {
+    fn read(alloc: Global, words: &str) -> Result<Option<Ranged>, Fault> {
+        let (len, ranges) = halves(words, " ", "a word")?;
+        Ok(Some(Ranged::of_ranges(alloc, number(len)?, Vec::read(alloc, ranges)?)?))
     }
 }

@@ -2,38 +2,34 @@
 
 use crate::fault::Fault;
 use crate::listed::Ranged;
-use crate::packed;
+use crate::packed::{self, Packed};
 use crate::tested::from_common;
-use crate::words::{halves, number, numbers, push, ranges, values};
+use crate::words::{Word, number, values};
 use mask_bits::BitBuffer;
 use std::alloc::Global;
-use vortex_mask::{Mask, MaskError};
-
-/// Masks by words with a space between two, or none for `()`.
-pub(crate) fn read_all(alloc: Global, words: &str) -> Result<Vec<Mask>, Fault> {
-    let mut masks: Vec<Mask> = Vec::new(alloc);
-    if words != "()" {
-        for word in words.split(' ') {
-            push(&mut masks, read(alloc, word)?)?;
-        }
-    }
-    Ok(masks)
-}
+use vortex_mask::{Mask, MaskError, MaskValues};
 
 /// The mask of a word that may end in `!i` or `!r` or both, or begin with `i:`, `r:` or `ir:`, where its indices or
 /// ranges are then cached.
-pub(crate) fn read(alloc: Global, word: &str) -> Result<Mask, Fault> {
-    for (mark, lists) in [("i:", "i"), ("r:", "r"), ("ir:", "ir")] {
-        if let Some(rest) = word.strip_prefix(mark) {
-            return cached(alloc, rest, lists);
+impl Word for Mask {
+    fn read(alloc: Global, word: &str) -> Result<Mask, Fault> {
+        for (before, behind) in [("ir:", "!i!r"), ("i:", "!i"), ("r:", "!r")] {
+            if let Some(rest) = word.strip_prefix(before).or(word.strip_suffix(behind)) {
+                return cached(alloc, rest, before);
+            }
+        }
+        mask(alloc, word)
+    }
+}
+
+/// The values of a mixed mask, as their own clone.
+impl Word for Option<MaskValues> {
+    fn read(alloc: Global, word: &str) -> Result<Option<MaskValues>, Fault> {
+        match Mask::read(alloc, word)?.values() {
+            Some(values) => Ok(Some(values.clone()?)),
+            None => Err(Fault::Unmet("a mixed mask")),
         }
     }
-    for (mark, lists) in [("!i!r", "ir"), ("!i", "i"), ("!r", "r")] {
-        if let Some(rest) = word.strip_suffix(mark) {
-            return cached(alloc, rest, lists);
-        }
-    }
-    mask(alloc, word)
 }
 
 fn cached(alloc: Global, word: &str, lists: &str) -> Result<Mask, Fault> {
@@ -50,7 +46,7 @@ fn cached(alloc: Global, word: &str, lists: &str) -> Result<Mask, Fault> {
 // A mask by a word: `all:5` and `none:5` of one value, `5:1,3` by `from_indices`, `10:0..3,5..7` by `from_slices`,
 // `rows:10110` by that constructor, and otherwise of a buffer, as that is written, which caches nothing.
 fn mask(alloc: Global, word: &str) -> Result<Mask, Fault> {
-    match halves(word, ":") {
+    match word.split_once(":") {
         Some(("all", len)) => Ok(Mask::new_true(number(len)?)),
         Some(("none", len)) => Ok(Mask::new_false(number(len)?)),
         Some(("every" | "first" | "at", _)) | None => of_bits(alloc, word),
@@ -63,17 +59,17 @@ fn mask(alloc: Global, word: &str) -> Result<Mask, Fault> {
 
 fn listed(alloc: Global, len: usize, list: &str) -> Result<Mask, Fault> {
     if list.contains("..") {
-        Ok(Mask::from_slices(alloc, len, ranges(alloc, list)?)?)
-    } else {
-        Ok(Mask::from_indices(alloc, len, numbers(alloc, list)?.iter().copied())?)
+        return Ok(Mask::from_slices(alloc, len, Vec::read(alloc, list)?)?);
     }
+    let indices: Vec<usize> = Vec::read(alloc, list)?;
+    Ok(Mask::from_indices(alloc, len, indices.into_iter())?)
 }
 
 fn of_bits(alloc: Global, word: &str) -> Result<Mask, Fault> {
-    if packed::offset_of(word).is_some() {
-        Ok(Mask::from_buffer(alloc, packed::read(alloc, word)?)?)
+    if Packed::of_word(word).is_some() {
+        Ok(Mask::from_buffer(alloc, BitBuffer::read(alloc, word)?)?)
     } else {
-        Ok(Mask::from_bools(alloc, values(alloc, word)?.iter().copied())?)
+        Ok(Mask::from_bools(alloc, values(alloc, word)?.into_iter())?)
     }
 }
 

@@ -1,44 +1,32 @@
 //! The calls of the values inside a mixed mask.
 
-use crate::answer::{
-    Answer, Told, mask_buffer, own_either, own_indices, own_slices, values as cloned,
-};
-use crate::fault::Fault;
-use crate::lines::calls;
+use crate::lines::{Found, calls};
+use crate::operands::Operands;
+use crate::text::Text;
 use mask_bits::BitBuffer;
-use std::alloc::Global;
 use vortex_mask::{MaskError, MaskValues};
 
-/// Of values that are lent.
-pub(crate) fn read<'a>(name: &str, operands: Option<(&'a MaskValues, usize)>) -> Told<'a> {
-    calls! { name, operands as (values, n);
-        "values.clone" (values) => cloned(values.clone()),
-        "values.into_bit_buffer" (values) => mask_buffer(clone_buffer(values)),
-        "values.len" (values) => Ok(Answer::Number(values.len())),
-        "values.is_empty" (values) => Ok(Answer::Flag(values.is_empty())),
-        "values.true_count" (values) => Ok(Answer::Number(values.true_count())),
-        "values.density" (values) => Ok(Answer::Fraction(values.density())),
-        "values.bit_buffer" (values) => Ok(Answer::PartBuffer(values.bit_buffer())),
-        "values.debug" (values) => Ok(Answer::DebugValue(values)),
+/// Of values that are lent, and of some that are changed in place.
+pub(crate) fn of(name: &str, o: &mut Operands, text: &mut Text) -> Found {
+    calls! { name, o, text, alloc;
+        "values.clone" (values) => values.clone(),
+        "values.into_bit_buffer" (values) => clone_buffer(values),
+        "values.len" (values) => values.len(),
+        "values.is_empty" (values) => values.is_empty(),
+        "values.true_count" (values) => values.true_count(),
+        "values.density" (values) => values.density(),
+        "values.bit_buffer" (values) => values.bit_buffer(),
+        "values.debug" (values) => text.put_debug(values),
         "values.value" (values n) [n < values.len(), "an index within the values"]
-            => Ok(Answer::Flag(values.value(n))),
+            => values.value(n),
+        "values.indices" (changed_values) => changed_values.indices(alloc),
+        "values.slices" (changed_values) => changed_values.slices(alloc),
+        "values.threshold_iter" (changed_values m n) [n > 0, "a denominator above 0"]
+            => changed_values.threshold_iter(alloc, m, n),
     }
 }
 
 // The buffer of a clone, by value.
 fn clone_buffer(values: &MaskValues) -> Result<BitBuffer, MaskError> {
     Ok(values.clone()?.into_bit_buffer())
-}
-
-/// Of values that are changed in place.
-pub(crate) fn changed<'a>(
-    name: &str,
-    operands: Option<(Global, usize, usize, &'a mut MaskValues)>,
-) -> Told<'a> {
-    calls! { name, operands as (alloc, m, n, values);
-        "values.indices" (changed_values) => own_indices(values.indices(alloc)),
-        "values.slices" (changed_values) => own_slices(values.slices(alloc)),
-        "values.threshold_iter" (changed_values m n) [n > 0, "a denominator above 0"]
-            => own_either(values.threshold_iter(alloc, m, n)),
-    }
 }

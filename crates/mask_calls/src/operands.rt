@@ -4,141 +4,149 @@ use crate::builder::BuilderCall;
 use crate::fault::Fault;
 use crate::held::{Held, Use};
 use crate::listed::{Listed, Ranged};
+use crate::packed;
 use crate::text::Text;
 use crate::walks::write_backed;
-use crate::words::Words;
+use crate::words::{Words, list, values};
 use crate::written::{write_mask, write_mixed};
-use crate::{mask_word, packed};
-use bytes::Bytes;
 use mask_bits::BitBuffer;
 use std::alloc::Global;
-use std::mem;
 use vortex_mask::{Fraction, Mask, MaskValues};
-
-fn write_some(text: &mut Text, values: &Option<MaskValues>) {
-    if let Some(values) = values {
-        write_mixed(text, values);
-    }
-}
-
-fn no_buffer() -> BitBuffer {
-    BitBuffer::new(Bytes::new(), 0)
-}
 
 /// The operands of a call: those that its line names, and others that are empty or 0.
 #[derive(Drop)]
-pub(crate) struct Operands {
-    pub a: Held<Mask>,
-    pub b: Held<Mask>,
-    pub masks: Held<Vec<Mask>>,
-    pub values: Held<Option<MaskValues>>,
-    pub x: Held<BitBuffer>,
-    pub y: Held<BitBuffer>,
-    pub rows: Option<Listed>,
-    pub ranks: Option<Listed>,
-    pub ranged: Option<Ranged>,
-    pub builder: Option<BuilderCall>,
-    pub m: usize,
-    pub n: usize,
-    pub p: Fraction,
-    pub q: Fraction,
-    pub list: Vec<usize>,
-    pub flags: Vec<bool>,
-    pub ranges: Vec<(usize, usize)>,
-    pub bytes: Vec<u8>,
-    is_list_taken: bool,
+pub struct Operands {
+    pub(crate) alloc: Global,
+    /// Whether they were read: else a call is only looked up.
+    pub(crate) are_read: bool,
+    pub(crate) a: Held<Mask>,
+    pub(crate) b: Held<Mask>,
+    pub(crate) masks: Held<Vec<Mask>>,
+    pub(crate) values: Held<Option<MaskValues>>,
+    pub(crate) x: Held<BitBuffer>,
+    pub(crate) y: Held<BitBuffer>,
+    pub(crate) rows: Option<Listed>,
+    pub(crate) ranks: Option<Listed>,
+    pub(crate) ranged: Option<Ranged>,
+    pub(crate) builder: Option<BuilderCall>,
+    pub(crate) m: usize,
+    pub(crate) n: usize,
+    pub(crate) p: Fraction,
+    pub(crate) q: Fraction,
+    pub(crate) list: Vec<usize>,
+    pub(crate) flags: Vec<bool>,
+    pub(crate) ranges: Vec<(usize, usize)>,
+    pub(crate) bytes: Vec<u8>,
+    is_taken: bool,
 }
 
 impl Operands {
-    pub fn new(alloc: Global) -> Operands {
-        let (p, q) = (Fraction { num: 0, den: 0 }, Fraction { num: 0, den: 0 });
+    /// No operands.
+    pub(crate) fn new(alloc: Global) -> Operands {
         Operands {
-            a: Held::new(Mask::default(), Use::Unread),
-            b: Held::new(Mask::default(), Use::Unread),
-            masks: Held::new(Vec::new(alloc), Use::Unread),
-            values: Held::new(None, Use::Unread),
-            x: Held::new(no_buffer(), Use::Unread),
-            y: Held::new(no_buffer(), Use::Unread),
+            alloc,
+            are_read: false,
+            a: Held::new(Mask::default()),
+            b: Held::new(Mask::default()),
+            masks: Held::new(Vec::new(alloc)),
+            values: Held::new(None),
+            x: Held::new(packed::empty()),
+            y: Held::new(packed::empty()),
             rows: None,
             ranks: None,
             ranged: None,
             builder: None,
             m: 0,
             n: 0,
-            p,
-            q,
+            p: Fraction { num: 0, den: 0 },
+            q: Fraction { num: 0, den: 0 },
             list: Vec::new(alloc),
             flags: Vec::new(alloc),
             ranges: Vec::new(alloc),
             bytes: Vec::new(alloc),
-            is_list_taken: false,
+            is_taken: false,
         }
     }
 
-    /// Reads the operand of this name from the next words.
-    pub fn read(&mut self, words: &mut Words<'_>, name: &str) {
+    /// Reads the operands of these names.
+    pub(crate) fn read(&mut self, words: &mut Words<'_>, names: &str) {
+        self.are_read = true;
+        self.is_taken = names.contains("taken");
+        for name in names.split(' ') {
+            self.read_mask(words, name);
+        }
+    }
+
+    fn read_mask(&mut self, words: &mut Words<'_>, name: &str) {
         match name {
-            "a" => self.a = mask(words, Use::Lent),
-            "b" => self.b = mask(words, Use::Lent),
-            "taken" => self.a = mask(words, Use::Taken),
-            "changed" => self.a = mask(words, Use::Changed),
-            "masks" => self.masks = masks(words, Use::Lent),
-            "taken_masks" => self.masks = masks(words, Use::Taken),
-            "values" => self.values = values(words, Use::Lent),
-            "changed_values" => self.values = values(words, Use::Changed),
+            "a" => self.a.read(words, Use::Lent),
+            "b" => self.b.read(words, Use::Lent),
+            "taken" => self.a.read(words, Use::Taken),
+            "changed" => self.a.read(words, Use::Changed),
+            "masks" => self.read_masks(words, Use::Lent),
+            "taken_masks" => self.read_masks(words, Use::Taken),
+            "values" => self.values.read(words, Use::Lent),
+            "changed_values" => self.values.read(words, Use::Changed),
             _ => self.read_buffer(words, name),
         }
     }
 
     fn read_buffer(&mut self, words: &mut Words<'_>, name: &str) {
         match name {
-            "x" => self.x = buffer(words, Use::Lent),
-            "y" => self.y = buffer(words, Use::Lent),
-            "taken_x" => self.x = buffer(words, Use::Taken),
+            "x" => self.x.read(words, Use::Lent),
+            "y" => self.y.read(words, Use::Lent),
+            "taken_x" => self.x.read(words, Use::Taken),
             "common" => self.read_common(words),
-            "rows" => self.rows = listed(words),
-            "ranks" => self.ranks = listed(words),
-            "ranged" => {
-                self.is_list_taken = true;
-                self.ranged = ranged(words);
-            }
-            "builder" => self.builder = BuilderCall::next(words),
+            "rows" => words.read(&mut self.rows),
+            "ranks" => words.read(&mut self.ranks),
+            "taken_ranged" => words.read_all(&mut self.ranged),
+            "builder" => words.read_all(&mut self.builder),
             _ => self.read_list(words, name),
         }
     }
 
     fn read_list(&mut self, words: &mut Words<'_>, name: &str) {
         match name {
-            "m" => self.m = words.number(),
-            "n" => self.n = words.number(),
-            "p" => self.p = words.fraction(),
-            "q" => self.q = words.fraction(),
-            "list" => self.list = words.numbers(),
-            "flags" => self.flags = words.values(),
-            "ranges" => {
-                self.is_list_taken = true;
-                self.ranges = words.ranges();
-            }
-            "bytes" => {
-                self.is_list_taken = true;
-                self.bytes = packed::next_bytes(words);
-            }
+            "m" | "source" => words.read(&mut self.m),
+            "n" | "word" => words.read(&mut self.n),
+            "p" => words.read(&mut self.p),
+            "q" => words.read(&mut self.q),
+            "list" => words.read(&mut self.list),
+            "flags" => self.read_flags(words),
+            "taken_ranges" => words.read(&mut self.ranges),
+            "taken_bytes" => words.read(&mut self.bytes),
             _ => words.note(Fault::Malformed("an operand of this name")),
         }
     }
 
+    // Masks by all words that are left, or none for `()`.
+    fn read_masks(&mut self, words: &mut Words<'_>, how: Use) {
+        let masks = match words.all() {
+            "()" => Ok(Vec::new(words.alloc)),
+            all => list(words.alloc, all, ' '),
+        };
+        self.masks.put(words, masks, how);
+    }
+
+    fn read_flags(&mut self, words: &mut Words<'_>) {
+        let flags = values(words.alloc, words.next());
+        words.put(&mut self.flags, flags);
+    }
+
     // Two buffers of a thousand values by the indices of the true ones, or twice the last index that there is.
     fn read_common(&mut self, words: &mut Words<'_>) {
-        match (words.next(), words.next()) {
-            ("max", "max") => self.n = usize::MAX,
-            (lhs, rhs) => {
-                self.x = true_at(words, lhs);
-                self.y = true_at(words, rhs);
-            }
+        let (lhs, rhs) = (words.next(), words.next());
+        if lhs == "max" {
+            self.n = usize::MAX;
+        } else {
+            let (lhs, rhs) = (true_at(words, lhs), true_at(words, rhs));
+            self.x.put(words, lhs, Use::Lent);
+            self.y.put(words, rhs, Use::Lent);
         }
     }
 
-    pub fn hold(&mut self) -> Result<(), Fault> {
+    /// Holds a clone of each mask and buffer that the call is of.
+    pub(crate) fn hold(&mut self) -> Result<(), Fault> {
         self.a.hold()?;
         self.b.hold()?;
         self.masks.hold()?;
@@ -147,16 +155,25 @@ impl Operands {
         self.y.hold()
     }
 
+    /// Whether all operands are lent, so that they are there still where the call was refused memory.
     pub fn are_lent(&self) -> bool {
-        let is_taken = self.a.is_taken() || self.x.is_taken() || self.masks.is_taken();
         let is_builder_lent = match &self.builder {
             Some(call) => call.lends(),
             None => true,
         };
-        is_builder_lent && !is_taken && !self.is_list_taken
+        is_builder_lent && !self.is_taken
     }
 
-    pub fn write_kept(&self, text: &mut Text, is_refused: bool) {
+    /// Has a builder do no more than make its buffer.
+    pub fn give_up(&mut self) {
+        if let Some(call) = &mut self.builder {
+            call.give_up();
+        }
+    }
+
+    /// Writes operands that are lent, and clones that are held. Where the call `is_refused` memory, these are also the
+    /// operands that it changes in place.
+    pub(crate) fn write_kept(&self, text: &mut Text, is_refused: bool) {
         self.a.write_kept(text, is_refused);
         self.b.write_kept(text, is_refused);
         self.masks.write_kept(text, is_refused);
@@ -170,7 +187,8 @@ impl Operands {
         }
     }
 
-    pub fn write_changed(&self, text: &mut Text) {
+    /// Writes what the call changed in place, with what it has cached; and what a builder made.
+    pub fn write_changed(&mut self, text: &mut Text) {
         if self.a.is_changed() {
             text.put(" then ");
             write_mask(text, &self.a.it);
@@ -179,98 +197,18 @@ impl Operands {
             text.put(" then ");
             write_some(text, &self.values.it);
         }
-    }
-
-    pub fn take_x(&mut self) -> BitBuffer {
-        mem::replace(&mut self.x.it, no_buffer())
-    }
-
-    pub fn take_masks(&mut self, alloc: Global) -> Vec<Mask> {
-        mem::replace(&mut self.masks.it, Vec::new(alloc))
-    }
-
-    pub fn take_ranges(&mut self, alloc: Global) -> Vec<(usize, usize)> {
-        mem::replace(&mut self.ranges, Vec::new(alloc))
-    }
-
-    pub fn take_bytes(&mut self, alloc: Global) -> Vec<u8> {
-        mem::replace(&mut self.bytes, Vec::new(alloc))
-    }
-}
-
-// A mask by the next word, which may end in `&`, where a clone is held.
-fn mask(words: &mut Words<'_>, how: Use) -> Held<Mask> {
-    let word = words.next();
-    let (word, is_held) = match word.strip_suffix("&") {
-        Some(rest) => (rest, true),
-        None => (word, false),
-    };
-    let mask = mask_word::read(words.alloc, word);
-    let mut operand = Held::new(words.found(mask).unwrap_or(Mask::default()), how);
-    if is_held {
-        let held = operand.hold();
-        let _ = words.found(held);
-    }
-    operand
-}
-
-// Masks by all words that are left, or none for `()`.
-fn masks(words: &mut Words<'_>, how: Use) -> Held<Vec<Mask>> {
-    let masks = mask_word::read_all(words.alloc, words.all());
-    Held::new(words.list(masks), how)
-}
-
-// The values of a mixed mask, as their own clone.
-fn values(words: &mut Words<'_>, how: Use) -> Held<Option<MaskValues>> {
-    let mask = mask(words, Use::Lent);
-    let clone = match mask.it.values() {
-        Some(values) => cloned(values),
-        None => Err(Fault::Unmet("a mixed mask")),
-    };
-    Held::new(words.found(clone), how)
-}
-
-fn cloned(values: &MaskValues) -> Result<MaskValues, Fault> {
-    Ok(values.clone()?)
-}
-
-fn buffer(words: &mut Words<'_>, how: Use) -> Held<BitBuffer> {
-    let buffer = packed::read(words.alloc, words.next());
-    found_buffer(words, buffer, how)
-}
-
-fn found_buffer(
-    words: &mut Words<'_>,
-    buffer: Result<BitBuffer, Fault>,
-    how: Use,
-) -> Held<BitBuffer> {
-    match words.found(buffer) {
-        Some(buffer) => Held::new(buffer, how),
-        None => Held::new(no_buffer(), how),
-    }
-}
-
-fn true_at(words: &mut Words<'_>, list: &str) -> Held<BitBuffer> {
-    let buffer = packed::true_at(words.alloc, "1000", list);
-    found_buffer(words, buffer, Use::Lent)
-}
-
-fn listed(words: &mut Words<'_>) -> Option<Listed> {
-    let buffer = packed::read(words.alloc, words.next());
-    let listed = match buffer {
-        Ok(buffer) => Listed::of(words.alloc, buffer),
-        Err(fault) => Err(fault),
-    };
-    words.found(listed)
-}
-
-fn ranged(words: &mut Words<'_>) -> Option<Ranged> {
-    let (len, ranges) = (words.number(), words.ranges());
-    match Ranged::of_ranges(words.alloc, len, ranges) {
-        Ok(ranged) => Some(ranged),
-        Err(error) => {
-            words.note(Fault::from(error));
-            None
+        if let Some(call) = &mut self.builder {
+            call.write(text);
         }
     }
+}
+
+fn write_some(text: &mut Text, values: &Option<MaskValues>) {
+    if let Some(values) = values {
+        write_mixed(text, values);
+    }
+}
+
+fn true_at(words: &Words<'_>, list: &str) -> Result<BitBuffer, Fault> {
+    packed::true_at(words.alloc, "1000", list)
 }

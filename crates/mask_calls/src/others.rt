@@ -1,69 +1,75 @@
-//! Constructors, and calls of numbers.
+//! Constructors, builders, and calls of numbers.
 
-use crate::answer::{Answer, Told, buffer, mask};
-use crate::deposits::{deposit_bits, extract_bits, select, two_holes, two_lowest};
-use crate::fault::Fault;
-use crate::lines::calls;
+use crate::lines::{Found, calls};
 use crate::operands::Operands;
-use crate::tested::{cloned, common, from_ranged, from_vec};
-use mask_bits::BitBuffer;
+use crate::tested::{cloned, in_common};
+use crate::text::Text;
 use mask_bits::extract::extract;
-use std::alloc::Global;
+use mask_bits::{BitBuffer, laws};
 use vortex_mask::Mask;
-use vortex_mask::intersect_by_rank::{Portable, PortableLoop, deposit_bytewise};
+use vortex_mask::intersect_by_rank::{
+    DepositBits, ExtractBits, Portable, PortableLoop, SelectBit, deposit_bytewise,
+    deposit_two_holes, deposit_two_lowest,
+};
 
 /// Of lengths.
-pub(crate) fn uniform<'a>(name: &str, operands: Option<(Global, usize, usize)>) -> Told<'a> {
-    calls! { name, operands as (alloc, m, n);
-        "new" (m n) => Ok(Answer::Mask(Mask::new(m, n == 1))),
-        "new_true" (m) => Ok(Answer::Mask(Mask::new_true(m))),
-        "new_false" (m) => Ok(Answer::Mask(Mask::new_false(m))),
-        "default" (m) => Ok(Answer::Mask(Mask::default())),
-        "bits.new_set" (m) => buffer(BitBuffer::new_set(alloc, m)),
-        "bits.new_unset" (m) => buffer(BitBuffer::new_unset(alloc, m)),
+pub(crate) fn uniform(name: &str, o: &mut Operands, text: &mut Text) -> Found {
+    calls! { name, o, text, alloc;
+        "new" (m n) => Mask::new(m, n == 1),
+        "new_true" (m) => Mask::new_true(m),
+        "new_false" (m) => Mask::new_false(m),
+        "default" (m) [m == 0, "no length"] => Mask::default(),
+        "bits.new_set" (m) => BitBuffer::new_set(alloc, m),
+        "bits.new_unset" (m) => BitBuffer::new_unset(alloc, m),
         "cloned" (m) => cloned(alloc, m),
     }
 }
 
 /// Of truth values, and of operands that no other call has.
-pub(crate) fn lent<'a>(name: &str, operands: Option<(Global, &'a Operands)>) -> Told<'a> {
-    calls! { name, operands as (alloc, o);
-        "from_rows" (flags) => mask(Mask::from_rows(alloc, &o.flags, |row| *row)),
-        "bits.from_bools" (flags) => buffer(BitBuffer::from_bools(alloc, o.flags.iter().copied())),
-        "bits.from_rows" (flags) => buffer(BitBuffer::from_rows(alloc, &o.flags, |row| *row)),
-        "bits.from_indices" (m list) [o.list.iter().all(|i| *i < o.m), "indices below the length"]
-            => buffer(BitBuffer::from_indices(alloc, o.m, &o.list)),
-        "equals_buffer" (a x) => Ok(Answer::Flag(o.a.it.equals_buffer(&o.x.it))),
-        "from_intersection_indices" (m common) => mask(common(alloc, o)),
-        "at_least" (p q) [o.p.den > 0 && o.q.den > 0, "denominators above 0"]
-            => Ok(Answer::Flag(o.p.at_least(o.q))),
-        "equal_fractions" (p q) => Ok(Answer::Flag(o.p == o.q)),
+pub(crate) fn lent(name: &str, o: &mut Operands, text: &mut Text) -> Found {
+    calls! { name, o, text, alloc;
+        "from_rows" (flags) => Mask::from_rows(alloc, flags, |row| *row),
+        "bits.from_bools" (flags) => BitBuffer::from_bools(alloc, flags.iter().copied()),
+        "bits.from_rows" (flags) => BitBuffer::from_rows(alloc, flags, |row| *row),
+        "bits.from_indices" (m list) [list.iter().all(|i| *i < m), "indices below the length"]
+            => BitBuffer::from_indices(alloc, m, list),
+        "equals_buffer" (a x) => a.equals_buffer(x),
+        "from_intersection_indices" (m common) => in_common(alloc, m, common),
+        "at_least" (p q) [p.den > 0 && q.den > 0, "denominators above 0"] => p.at_least(q),
+        "equal_fractions" (p q) => p == q,
     }
 }
 
-/// Of operands by value.
-pub(crate) fn taken<'a>(name: &str, operands: Option<(Global, &'a mut Operands)>) -> Told<'a> {
-    calls! { name, operands as (alloc, o);
-        "from_buffer" (taken_x) => mask(Mask::from_buffer(alloc, o.take_x())),
-        "from_slices" (m ranges) => mask(Mask::from_slices(alloc, o.m, o.take_ranges(alloc))),
-        "from_masks" (taken_masks)
-            => mask(Mask::from_masks(alloc, o.take_masks(alloc).into_iter())),
-        "from_buffer_with_slices" (ranged) => from_ranged(alloc, &mut o.ranged),
-        "bits.from_vec" (bytes m) => from_vec(o.take_bytes(alloc), o.m),
+/// Of operands by value, and of a builder.
+pub(crate) fn taken(name: &str, o: &mut Operands, text: &mut Text) -> Found {
+    calls! { name, o, text, alloc;
+        "from_buffer" (taken_x) => Mask::from_buffer(alloc, taken_x),
+        "from_slices" (m taken_ranges) => Mask::from_slices(alloc, m, taken_ranges),
+        "from_buffer_with_slices" (taken_ranged) => taken_ranged.mask(alloc),
+        "bits.from_vec" (taken_bytes m)
+            [m <= 8 * taken_bytes.len().min(1_000_000), "a bit for each value"]
+            => BitBuffer::from_vec(taken_bytes, m),
+        "builder" (builder) => builder.make(alloc),
     }
 }
 
 /// Deposits, extracts and selections of a word.
-pub(crate) fn words<'a>(name: &str, operands: Option<(usize, usize)>) -> Told<'a> {
-    calls! { name, operands as (m, n);
-        "deposit" (m n) => Ok(Answer::Word(deposit_bits::<Portable>(m as u64, n as u64))),
-        "deposit_by_loop" (m n)
-            => Ok(Answer::Word(deposit_bits::<PortableLoop>(m as u64, n as u64))),
-        "deposit_bytewise" (m n) => Ok(Answer::Word(deposit_bytewise(m as u64, n as u64))),
-        "deposit_two_lowest" (m n) => two_lowest(m as u64, n as u64),
-        "deposit_two_holes" (m n) => two_holes(m as u64, n as u64),
-        "extract" (m n) => Ok(Answer::Word(extract_bits(m as u64, n as u64))),
-        "extract_by_bits" (m n) => Ok(Answer::Word(extract(m as u64, n as u64))),
-        "select" (m n) => select(m as u64, n),
+pub(crate) fn words(name: &str, o: &mut Operands, text: &mut Text) -> Found {
+    laws::counts_of_words();
+    calls! { name, o, text, alloc;
+        "deposit" (source word)
+            => Portable::deposit_bits(source, word, word.count_ones() as usize),
+        "deposit_by_loop" (source word)
+            => PortableLoop::deposit_bits(source, word, word.count_ones() as usize),
+        "deposit_bytewise" (source word) => deposit_bytewise(source, word),
+        "deposit_two_lowest" (source word) [word.count_ones() <= 2, "at most two set bits"]
+            => deposit_two_lowest(source, word),
+        "deposit_two_holes" (source word) [word.count_ones() >= 62, "at most two clear bits"]
+            => deposit_two_holes(source, word),
+        "extract" (source word)
+            => Portable::extract_bits(source, word, word.count_ones() as usize),
+        "extract_by_bits" (source word) => extract(source, word),
+        "select" (source n) [n < source.count_ones() as usize, "a set bit of this number"]
+            => Portable::select_bit_position(source, n),
     }
 }

@@ -1,38 +1,32 @@
 //! Calls whose conditions take more than a comparison, and calls of what another call made.
 ghost use Rattle.mask_bits.specs.Positions.{count};
 ghost use Rattle.mask_bits.specs.Stacks.{IsStack};
-ghost use Rattle.std.specs.List.Sorted.{IsNonDecreasing};
-ghost use Rattle.std.specs.Prelude.{◌∷◌, ◌↔◌, ◌≡◌, ◌<◌, IfOk, IsTrue, length, map};
+ghost use Rattle.std.specs.Prelude.{◌∷◌, ◌↔◌, ◌≡◌, ◌<◌, IsTrue, length, map};
 ghost use Rattle.vortex_mask.specs.Mask.{truth};
 
-use crate::answer::{Answer, Told, buffer, mask, rows, uncached};
 use crate::fault::Fault;
-use crate::listed::Ranged;
-use crate::operands::Operands;
-use mask_bits::BitBuffer;
+use crate::tell::{Tell, tell_fault};
+use crate::text::Text;
+use crate::walks::write_selected;
+use crate::written::write_uncached;
+use mask_bits::{BitBuffer, laws};
 use std::alloc::{AllocError, Global};
 use vortex_mask::intersect_by_rank::rank_path;
 use vortex_mask::{AllOr, Mask, MaskError};
 
-// Whether the numbers are in order.
-fn ascend(numbers: &[usize]) -> Result<(), Fault>
-    ensures { IfOk result (λ _. IsNonDecreasing numbers.now) }
-{
-    if numbers.is_sorted() {
-        Ok(())
-    } else {
-        Err(Fault::Unmet("indices in order"))
-    }
-}
-
-pub(crate) fn valid_counts<'a>(alloc: Global, a: &Mask, indices: &[usize]) -> Told<'a> {
-    if let Err(fault) = ascend(indices) {
-        return Err(fault);
+pub(crate) fn valid_counts(
+    alloc: Global,
+    a: &Mask,
+    indices: &[usize],
+) -> Result<Vec<usize>, Fault> {
+    laws::sorted_numbers();
+    if !indices.is_sorted() {
+        return Err(Fault::Unmet("indices in order"));
     }
     if !indices.iter().all(|i| *i <= a.len()) {
         return Err(Fault::Unmet("indices within the mask"));
     }
-    rows(a.valid_counts_for_indices(alloc, indices))
+    Ok(a.valid_counts_for_indices(alloc, indices)?)
 }
 
 // Whether each mask is as long as the one before it has true values.
@@ -50,22 +44,25 @@ fn are_a_stack(first: &Mask, rest: &[Mask]) -> bool
 }
 
 /// A stack of one mask is a clone of it, with its lists.
-pub(crate) fn stack<'a>(alloc: Global, masks: &[Mask]) -> Told<'a> {
+pub(crate) fn stack(alloc: Global, text: &mut Text, masks: &[Mask]) {
     match masks {
-        [] => Err(Fault::Unmet("a mask")),
+        [] => tell_fault(text, Fault::Unmet("a mask")),
         [first, rest @ ..] if !are_a_stack(first, rest) => {
-            Err(Fault::Unmet("a rank for each true value"))
+            tell_fault(text, Fault::Unmet("a rank for each true value"));
         }
-        [first] => mask(first.intersect_all_by_rank(alloc, &[])),
-        [first, rest @ ..] => uncached(first.intersect_all_by_rank(alloc, rest)),
+        [first] => first.intersect_all_by_rank(alloc, &[]).tell(text),
+        [first, rest @ ..] => match first.intersect_all_by_rank(alloc, rest) {
+            Ok(mask) => write_uncached(text, &mask),
+            Err(error) => tell_fault(text, Fault::from(error)),
+        },
     }
 }
 
 /// `rank_path`, where both masks are mixed.
-pub(crate) fn path<'a>(rows: &Mask, ranks: &Mask) -> Told<'a> {
+pub(crate) fn path(text: &mut Text, rows: &Mask, ranks: &Mask) {
     match (rows.values(), ranks.values()) {
-        (Some(rows), Some(ranks)) => Ok(Answer::Path(rank_path(rows, ranks))),
-        _ => Err(Fault::Unmet("two mixed masks")),
+        (Some(rows), Some(ranks)) => text.put_debug(&rank_path(rows, ranks)),
+        _ => tell_fault(text, Fault::Unmet("two mixed masks")),
     }
 }
 
@@ -91,20 +88,28 @@ pub(crate) fn from_groups(alloc: Global, a: &Mask, size: usize) -> Result<Mask, 
     Mask::from_masks(alloc, a.groups(alloc, size)?.into_iter())
 }
 
-/// The index of each true value of these numbers, in the buffer that a call copies.
-pub(crate) fn selected<'a>(alloc: Global, a: &Mask, numbers: usize) -> Told<'a> {
-    match a.to_bit_buffer(alloc) {
-        Ok(buffer) => Ok(Answer::OwnSelected(buffer, numbers)),
-        Err(error) => Err(Fault::from(error)),
+/// The index of each true value of these numbers, and the last one.
+pub(crate) fn selected(text: &mut Text, made: Result<BitBuffer, MaskError>, numbers: usize) {
+    match made {
+        Ok(buffer) => {
+            write_selected(text, &buffer, numbers);
+            text.put(" last ");
+            buffer.last_set_index().tell(text);
+        }
+        Err(error) => tell_fault(text, Fault::from(error)),
     }
 }
 
 /// `from_intersection_indices` of two buffers, or of two lists of one index, where no buffer is that long.
-pub(crate) fn common(alloc: Global, o: &Operands) -> Result<Mask, MaskError> {
-    if o.n == 0 {
-        from_common(alloc, o.m, &o.x.it, &o.y.it)
+pub(crate) fn in_common(
+    alloc: Global,
+    len: usize,
+    (lhs, rhs, index): (&BitBuffer, &BitBuffer, usize),
+) -> Result<Mask, MaskError> {
+    if index == 0 {
+        from_common(alloc, len, lhs, rhs)
     } else {
-        Mask::from_intersection_indices(alloc, o.m, [o.n].into_iter(), [o.n].into_iter())
+        Mask::from_intersection_indices(alloc, len, [index].into_iter(), [index].into_iter())
     }
 }
 
@@ -116,22 +121,6 @@ pub(crate) fn from_common(
     rhs: &BitBuffer,
 ) -> Result<Mask, MaskError> {
     Mask::from_intersection_indices(alloc, len, lhs.set_indices(), rhs.set_indices())
-}
-
-/// `from_buffer_with_slices`, by value.
-pub(crate) fn from_ranged<'a>(alloc: Global, ranged: &mut Option<Ranged>) -> Told<'a> {
-    match ranged.take() {
-        Some(ranged) => mask(ranged.mask(alloc)),
-        None => Err(Fault::Unmet("a buffer that is there")),
-    }
-}
-
-/// `BitBuffer::from_vec`.
-pub(crate) fn from_vec<'a>(bytes: Vec<u8>, len: usize) -> Told<'a> {
-    if len > 8 * bytes.len().min(1_000_000) {
-        return Err(Fault::Unmet("a bit for each value"));
-    }
-    buffer(BitBuffer::from_vec(bytes, len))
 }
 
 // A number whose clone takes memory.
@@ -154,11 +143,10 @@ impl Clone for Number {
 }
 
 /// `AllOr::cloned` on what lends a number.
-pub(crate) fn cloned<'a>(alloc: Global, value: usize) -> Told<'a> {
+pub(crate) fn cloned(alloc: Global, value: usize) -> Result<usize, Fault> {
     let number = Number { alloc, value };
-    match AllOr::Some(&number).cloned() {
-        Ok(AllOr::Some(number)) => Ok(Answer::Number(number.value)),
-        Ok(_) => Err(Fault::Unmet("a clone of a number")),
-        Err(error) => Err(Fault::from(error)),
+    match AllOr::Some(&number).cloned()? {
+        AllOr::Some(number) => Ok(number.value),
+        _ => Err(Fault::Unmet("a clone of a number")),
     }
 }

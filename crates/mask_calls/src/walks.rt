@@ -1,8 +1,29 @@
 //! Buffers, and what walks yield, as text.
 
+use crate::fault::Fault;
+use crate::tell::{Tell, tell_fault, tell_lent};
 use crate::text::{Detail, Text};
 use mask_bits::{BitBuffer, BitChunks, BitIterator, SetIndices, SetSlices};
-use vortex_mask::{MaskBoolIter, MaskSetIndices, MaskSetSlices};
+use std::alloc::AllocError;
+use vortex_mask::{AllOr, MaskBoolIter, MaskSetIndices, MaskSetSlices};
+
+impl Tell for BitBuffer {
+    fn tell(self, text: &mut Text) {
+        write_buffer(text, &self);
+    }
+}
+
+impl<'a> Tell for &'a BitBuffer {
+    fn tell(self, text: &mut Text) {
+        write_buffer(text, self);
+    }
+}
+
+impl<'a> Tell for AllOr<&'a BitBuffer> {
+    fn tell(self, text: &mut Text) {
+        tell_lent(text, "Some ", self);
+    }
+}
 
 /// Writes the list of a buffer, or of a long one its length and how many values are true.
 pub fn write_buffer(text: &mut Text, buffer: &BitBuffer) {
@@ -31,7 +52,17 @@ pub fn write_backed(text: &mut Text, buffer: &BitBuffer) {
     if !matches!(text.detail, Detail::Lists) {
         text.put_next(" at ", buffer.offset());
         text.put(" of");
-        write_bytes(text, buffer.inner().as_slice());
+        for byte in buffer.inner().as_slice().iter().take(16) {
+            text.put_next(" ", *byte as usize);
+        }
+    }
+}
+
+/// Writes a buffer that was made, and where it stands.
+pub(crate) fn write_made(text: &mut Text, made: Result<BitBuffer, AllocError>) {
+    match made {
+        Ok(buffer) => write_backed(text, &buffer),
+        Err(error) => tell_fault(text, Fault::from(error)),
     }
 }
 
@@ -45,95 +76,72 @@ pub(crate) fn write_each(text: &mut Text, buffer: &BitBuffer) {
     text.put(" by index");
 }
 
-fn write_bytes(text: &mut Text, bytes: &[u8]) {
-    for byte in bytes.iter().take(16) {
-        text.put_next(" ", *byte as usize);
-    }
-}
-
 // How many are left, by both calls that say it.
 fn write_hint(text: &mut Text, len: usize, (least, most): (usize, Option<usize>)) {
     match most {
         Some(most) if most == least && len == least => {}
         _ => text.put("not exactly "),
     }
-    text.put_number(least);
-}
-
-fn write_next(text: &mut Text, value: Option<bool>) {
-    text.put(match value {
-        Some(true) => ":1 ",
-        Some(false) => ":0 ",
-        None => ":none ",
-    });
-}
-
-fn write_word(text: &mut Text, word: Option<u64>) {
-    match word {
-        Some(word) => {
-            text.put_next(":", word as usize);
-            text.put(" ");
-        }
-        None => text.put(":none "),
-    }
-}
-
-fn write_end(text: &mut Text, is_end: bool) {
-    text.put(if is_end { "" } else { ":one more" });
+    text.put_display(&least);
 }
 
 // Each item, with how many are said to be left before it; and so often how many past the last.
 macro_rules! steps {
-    ($text:ident, $walk:expr, $write:ident, $ends:literal) => {
+    ($text:ident, $walk:expr, $ends:literal) => {
         let mut walk = $walk;
         for _ in 0..walk.len() {
             write_hint($text, walk.len(), walk.size_hint());
-            $write($text, walk.next());
+            match walk.next() {
+                Some(item) => $text.put_next(":", item as usize),
+                None => $text.put(":none"),
+            }
+            $text.put(" ");
         }
         for _ in 0..$ends {
             write_hint($text, walk.len(), walk.size_hint());
-            write_end($text, walk.next().is_none());
+            $text.put(if walk.next().is_none() { "" } else { ":one more" });
         }
     };
 }
 
 // Each item behind a name of them all.
 macro_rules! each {
-    ($text:ident, $name:literal, $items:ident, $put:ident) => {
+    ($text:ident, $name:literal, $items:ident) => {
         $text.put($name);
         for item in $items {
-            $text.$put(" ", item);
+            $text.put(" ");
+            item.tell($text);
         }
     };
 }
 
 pub(crate) fn write_values(text: &mut Text, values: MaskBoolIter<'_>) {
-    steps!(text, values, write_next, 1usize);
+    steps!(text, values, 1usize);
 }
 
 pub(crate) fn write_indices(text: &mut Text, indices: MaskSetIndices<'_>) {
-    each!(text, "indices", indices, put_next);
+    each!(text, "indices", indices);
 }
 
 pub(crate) fn write_slices(text: &mut Text, ranges: MaskSetSlices<'_>) {
-    each!(text, "ranges", ranges, put_range);
+    each!(text, "ranges", ranges);
 }
 
 pub(crate) fn write_bit_values(text: &mut Text, values: BitIterator<'_>) {
-    steps!(text, values, write_next, 2usize);
+    steps!(text, values, 2usize);
 }
 
 pub(crate) fn write_bit_indices(text: &mut Text, indices: SetIndices<'_>) {
-    each!(text, "indices", indices, put_next);
+    each!(text, "indices", indices);
 }
 
 pub(crate) fn write_bit_slices(text: &mut Text, ranges: SetSlices<'_>) {
-    each!(text, "ranges", ranges, put_range);
+    each!(text, "ranges", ranges);
 }
 
 /// Each started word.
 pub(crate) fn write_padded(text: &mut Text, chunks: &BitChunks<'_>) {
-    steps!(text, chunks.iter_padded(), write_word, 1usize);
+    steps!(text, chunks.iter_padded(), 1usize);
 }
 
 /// Each whole word by the walk, and by its number; and what is left after them.
@@ -145,7 +153,7 @@ pub(crate) fn write_words(text: &mut Text, chunks: &BitChunks<'_>) {
 }
 
 fn write_whole_words(text: &mut Text, chunks: &BitChunks<'_>) {
-    steps!(text, chunks.iter(), write_word, 1usize);
+    steps!(text, chunks.iter(), 1usize);
 }
 
 fn write_words_by_number(text: &mut Text, chunks: &BitChunks<'_>) {
@@ -160,10 +168,8 @@ fn write_words_by_number(text: &mut Text, chunks: &BitChunks<'_>) {
 // The index of each true value of these numbers, from 0 on.
 pub(crate) fn write_selected(text: &mut Text, buffer: &BitBuffer, numbers: usize) {
     for n in 0..numbers {
-        match buffer.select(n) {
-            Some(index) => text.put_count(index, " "),
-            None => text.put("none "),
-        }
+        buffer.select(n).tell(text);
+        text.put(" ");
     }
     text.put("by number");
 }

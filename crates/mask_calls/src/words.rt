@@ -1,12 +1,71 @@
 //! What the words of a row say: numbers, lists of them, ranges, and truth values.
 
-use crate::fault::Fault;
-use crate::lines::UNKNOWN;
+use crate::fault::{Fault, UNKNOWN};
 use std::alloc::Global;
 use vortex_mask::Fraction;
 
+/// What a word can say.
+pub(crate) trait Word: Drop {
+    fn read(alloc: Global, word: &str) -> Result<Self, Fault>;
+}
+
+impl Word for usize {
+    fn read(_alloc: Global, word: &str) -> Result<usize, Fault> {
+        number(word)
+    }
+}
+
+impl Word for u8 {
+    fn read(_alloc: Global, word: &str) -> Result<u8, Fault> {
+        match number(word) {
+            Ok(number) if number < 256 => Ok(number as u8),
+            _ => Err(Fault::Malformed("a byte")),
+        }
+    }
+}
+
+/// A range such as `5..7`.
+impl Word for (usize, usize) {
+    fn read(_alloc: Global, word: &str) -> Result<(usize, usize), Fault> {
+        pair(word, "..", "a range")
+    }
+}
+
+/// A fraction such as `3/5`.
+impl Word for Fraction {
+    fn read(_alloc: Global, word: &str) -> Result<Fraction, Fault> {
+        let (num, den) = pair(word, "/", "a fraction")?;
+        Ok(Fraction { num, den })
+    }
+}
+
+/// Numbers, ranges or bytes with a comma between two, as `0,2,3`, or `-`.
+impl<T: Word> Word for Vec<T> {
+    fn read(alloc: Global, word: &str) -> Result<Vec<T>, Fault> {
+        if word == "-" {
+            Ok(Vec::new(alloc))
+        } else {
+            list(alloc, word, ',')
+        }
+    }
+}
+
+/// What the parts of a text say, with this mark between two.
+pub(crate) fn list<T: Word>(alloc: Global, text: &str, mark: char) -> Result<Vec<T>, Fault> {
+    let mut items: Vec<T> = Vec::new(alloc);
+    for part in text.split(mark) {
+        push(&mut items, T::read(alloc, part)?)?;
+    }
+    Ok(items)
+}
+
+/// Puts an item behind the others.
+pub(crate) fn push<T: Drop>(list: &mut Vec<T>, item: T) -> Result<(), Fault> {
+    Ok(list.push(item)?)
+}
+
 /// A number: its digits, `0x` and hexadecimal ones, `max`, or `max-1`.
-pub fn number(word: &str) -> Result<usize, Fault> {
+pub(crate) fn number(word: &str) -> Result<usize, Fault> {
     match word {
         "max" => Ok(usize::MAX),
         "max-1" => Ok(usize::MAX - 1),
@@ -25,128 +84,77 @@ fn parsed<E: Drop>(parsed: Result<usize, E>) -> Result<usize, Fault> {
 }
 
 /// The parts before and behind the first mark.
-pub fn halves<'a>(text: &'a str, mark: &str) -> Option<(&'a str, &'a str)> {
-    text.split_once(mark)
-}
-
-/// An empty list with room for so many items.
-pub fn with_room<T>(alloc: Global, count: usize) -> Result<Vec<T>, Fault> {
-    Ok(Vec::with_capacity(alloc, count)?)
-}
-
-/// Puts an item behind the others.
-pub fn push<T: Drop>(list: &mut Vec<T>, item: T) -> Result<(), Fault> {
-    Ok(list.push(item)?)
-}
-
-/// Numbers with a comma between two, as `0,2,3`, or `-`.
-pub fn numbers(alloc: Global, word: &str) -> Result<Vec<usize>, Fault> {
-    let mut numbers: Vec<usize> = Vec::new(alloc);
-    if word != "-" {
-        for part in word.split(',') {
-            push(&mut numbers, number(part)?)?;
-        }
-    }
-    Ok(numbers)
+pub(crate) fn halves<'a>(
+    text: &'a str,
+    mark: &str,
+    what: &'static str,
+) -> Result<(&'a str, &'a str), Fault> {
+    text.split_once(mark).ok_or(Fault::Malformed(what))
 }
 
 /// Two numbers with this mark between.
-pub fn pair(word: &str, mark: &str, what: &'static str) -> Result<(usize, usize), Fault> {
-    match halves(word, mark) {
-        Some((first, second)) => Ok((number(first)?, number(second)?)),
-        None => Err(Fault::Malformed(what)),
-    }
-}
-
-/// Ranges with a comma between two, as `0..3,5..7`, or `-`.
-pub fn ranges(alloc: Global, word: &str) -> Result<Vec<(usize, usize)>, Fault> {
-    let mut ranges: Vec<(usize, usize)> = Vec::new(alloc);
-    if word != "-" {
-        for part in word.split(',') {
-            push(&mut ranges, pair(part, "..", "a range")?)?;
-        }
-    }
-    Ok(ranges)
-}
-
-fn digit(byte: u8) -> Result<bool, Fault> {
-    match byte {
-        b'0' => Ok(false),
-        b'1' => Ok(true),
-        _ => Err(Fault::Malformed("a digit 0 or 1")),
-    }
-}
-
-/// Truth values, as `10110`, or `-`.
-pub fn digits(alloc: Global, word: &str) -> Result<Vec<bool>, Fault> {
-    let mut values: Vec<bool> = with_room(alloc, word.len())?;
-    if word != "-" {
-        for byte in word.as_bytes() {
-            push(&mut values, digit(*byte)?)?;
-        }
-    }
-    Ok(values)
-}
-
-/// So many values, of which those at these indices are true.
-pub fn true_at(alloc: Global, len: usize, indices: &[usize]) -> Result<Vec<bool>, Fault> {
-    let mut values: Vec<bool> = Vec::new(alloc);
-    for i in 0..len {
-        push(&mut values, indices.contains(&i))?;
-    }
-    Ok(values)
-}
-
-/// So many values: of each `period` of them the first `trues` are true.
-pub fn repeating(
-    alloc: Global,
-    len: usize,
-    (period, trues): (usize, usize),
-) -> Result<Vec<bool>, Fault> {
-    let mut values: Vec<bool> = Vec::new(alloc);
-    for i in 0..len {
-        let is_true = match i.checked_rem(period) {
-            Some(rest) => rest < trues,
-            None => false,
-        };
-        push(&mut values, is_true)?;
-    }
-    Ok(values)
+pub(crate) fn pair(word: &str, mark: &str, what: &'static str) -> Result<(usize, usize), Fault> {
+    let (first, second) = halves(word, mark, what)?;
+    Ok((number(first)?, number(second)?))
 }
 
 /// Truth values by a word: `10110`, `-`, `every:3:20000` (the first of each 3), `first:6:130` (the first 6 of
 /// 130), `at:200:5,150` (those at 5 and 150 of 200).
-pub fn values(alloc: Global, word: &str) -> Result<Vec<bool>, Fault> {
-    match halves(word, ":") {
-        Some((form, rest)) => values_by(alloc, form, rest),
-        None => digits(alloc, word),
+pub(crate) fn values(alloc: Global, word: &str) -> Result<Vec<bool>, Fault> {
+    match word.split_once(":") {
+        Some(("at", rest)) => true_at(alloc, rest.split_once(":").unwrap_or((rest, "-"))),
+        Some((form, rest)) => repeating(alloc, form, pair(rest, ":", "truth values")?),
+        None => digits(alloc, if word == "-" { "" } else { word }),
     }
 }
 
-fn values_by(alloc: Global, form: &str, rest: &str) -> Result<Vec<bool>, Fault> {
-    match form {
-        "at" => listed(alloc, halves(rest, ":").unwrap_or((rest, "-"))),
-        "every" => {
-            let (period, len) = pair(rest, ":", "truth values")?;
-            repeating(alloc, len, (period, 1))
-        }
-        "first" => {
-            let (trues, len) = pair(rest, ":", "truth values")?;
-            repeating(alloc, len, (usize::MAX, trues))
-        }
-        _ => Err(Fault::Malformed("truth values")),
+fn digits(alloc: Global, word: &str) -> Result<Vec<bool>, Fault> {
+    are_digits(word)?;
+    Ok(
+        word.as_bytes()
+            .iter()
+            .map(|digit| *digit == b'1')
+            .collect(alloc)?,
+    )
+}
+
+/// Whether there are no others.
+pub(crate) fn are_digits(word: &str) -> Result<(), Fault> {
+    if word
+        .as_bytes()
+        .iter()
+        .all(|digit| matches!(*digit, b'0' | b'1'))
+    {
+        Ok(())
+    } else {
+        Err(Fault::Malformed("digits 0 and 1"))
     }
 }
 
-fn listed(alloc: Global, (len, list): (&str, &str)) -> Result<Vec<bool>, Fault> {
-    let indices = numbers(alloc, list)?;
-    true_at(alloc, number(len)?, &indices)
+fn true_at(alloc: Global, (len, list): (&str, &str)) -> Result<Vec<bool>, Fault> {
+    let indices: Vec<usize> = Vec::read(alloc, list)?;
+    Ok(
+        (0..number(len)?)
+            .map(|i| indices.contains(&i))
+            .collect(alloc)?,
+    )
 }
 
-/// The words behind the name of a call, read one after another, and the first fault in them. What can't be read is 0
-/// or empty, so that no word is asked about alone: `end` answers the fault.
+// Of each period so many are true.
+fn repeating(alloc: Global, form: &str, (count, len): (usize, usize)) -> Result<Vec<bool>, Fault> {
+    let (period, trues) = match form {
+        "every" => (count, 1),
+        "first" => (usize::MAX, count),
+        _ => return Err(Fault::Malformed("truth values")),
+    };
+    let is_true = |i: usize| i.checked_rem(period).unwrap_or(trues) < trues;
+    Ok((0..len).map(is_true).collect(alloc)?)
+}
+
+/// The words behind the name of a call, read one after another, and the first fault in them. What can't be read stays
+/// as it is, so that no word is asked about alone: `end` answers the fault.
 #[derive(Drop)]
-pub struct Words<'a> {
+pub(crate) struct Words<'a> {
     /// Where lists and masks are made.
     pub alloc: Global,
     rest: &'a str,
@@ -179,15 +187,24 @@ impl<'a> Words<'a> {
         }
     }
 
-    /// What was found, or else the fault is noted.
-    pub fn found<T>(&mut self, outcome: Result<T, Fault>) -> Option<T> {
-        match outcome {
-            Ok(it) => Some(it),
-            Err(fault) => {
-                self.note(fault);
-                None
-            }
+    /// Puts what was read into its place, or notes why that can't be done.
+    pub fn put<T: Drop>(&mut self, place: &mut T, read: Result<T, Fault>) {
+        match read {
+            Ok(it) => *place = it,
+            Err(fault) => self.note(fault),
         }
+    }
+
+    /// Reads the next word.
+    pub fn read<T: Word>(&mut self, place: &mut T) {
+        let read = T::read(self.alloc, self.next());
+        self.put(place, read);
+    }
+
+    /// Reads all words that are left.
+    pub fn read_all<T: Word>(&mut self, place: &mut T) {
+        let read = T::read(self.alloc, self.all());
+        self.put(place, read);
     }
 
     /// All words that are left.
@@ -199,61 +216,15 @@ impl<'a> Words<'a> {
 
     /// The next word.
     pub fn next(&mut self) -> &'a str {
-        match halves(self.rest, " ") {
+        if self.rest.is_empty() {
+            self.note(Fault::Malformed("a word"));
+        }
+        match self.rest.split_once(" ") {
             Some((word, rest)) => {
                 self.rest = rest;
                 word
             }
-            None => self.last(),
-        }
-    }
-
-    fn last(&mut self) -> &'a str {
-        if self.rest.is_empty() {
-            self.note(Fault::Malformed("a word"));
-        }
-        self.all()
-    }
-
-    /// The next word, as a number.
-    pub fn number(&mut self) -> usize {
-        let number = number(self.next());
-        self.found(number).unwrap_or(0)
-    }
-
-    /// The next word, as a fraction such as `3/5`.
-    pub fn fraction(&mut self) -> Fraction {
-        let fraction = pair(self.next(), "/", "a fraction");
-        let (num, den) = self.found(fraction).unwrap_or((0, 0));
-        Fraction { num, den }
-    }
-
-    /// The next word, as numbers.
-    pub fn numbers(&mut self) -> Vec<usize> {
-        let list = numbers(self.alloc, self.next());
-        self.list(list)
-    }
-
-    /// The next word, as ranges.
-    pub fn ranges(&mut self) -> Vec<(usize, usize)> {
-        let list = ranges(self.alloc, self.next());
-        self.list(list)
-    }
-
-    /// The next word, as truth values.
-    pub fn values(&mut self) -> Vec<bool> {
-        let list = values(self.alloc, self.next());
-        self.list(list)
-    }
-
-    /// A list, which is empty if it was not found.
-    pub fn list<T: Drop>(&mut self, list: Result<Vec<T>, Fault>) -> Vec<T> {
-        match list {
-            Ok(list) => list,
-            Err(fault) => {
-                self.note(fault);
-                Vec::new(self.alloc)
-            }
+            None => self.all(),
         }
     }
 }

@@ -3,8 +3,7 @@
 //! was refused is made once more behind `calls again`. Between `calls` and the next line nothing but the call asks for
 //! memory. The script misses a line that can't be written.
 
-use mask_calls::{Answer, Call, Fault, Row, Text, halves, kept, write_outcome};
-use std::alloc::AllocError;
+use mask_calls::{Call, Row, Text};
 use std::io::{self, BufRead, BufReader};
 
 /// Makes the call of each row.
@@ -24,7 +23,7 @@ fn say_of<R: Print>(rt: &R, what: &str, of: &str) {
 }
 
 fn check_line<R: Print + AllocGlobal>(rt: &R, line: &str) {
-    match Row::read(line) {
+    match Row::read(line, " -> ") {
         Some(row) => check_row(rt, row),
         None => say_of(rt, "wrong: no row:", line),
     }
@@ -48,41 +47,33 @@ fn check_call<R: Print + AllocGlobal>(rt: &R, row: Row<'_>, call: Call<'_>) {
 
 // Makes the call, compares what it leaves as it was, and makes it again where it was refused.
 fn check_made<R: Print + AllocGlobal>(rt: &R, row: Row<'_>, call: &mut Call<'_>) {
-    let answered = kept(rt.alloc(), call, false);
-    let refused = kept(rt.alloc(), call, true);
+    let answered = call.kept(false);
+    let refused = call.kept(true);
     if is_answered(rt, "calls", call, wants(row.want).0) {
-        is_kept(rt, answered, kept(rt.alloc(), call, false));
+        is_kept(rt, answered, call.kept(false));
     } else {
-        is_kept(rt, refused, kept(rt.alloc(), call, true));
+        is_kept(rt, refused, call.kept(true));
         again(rt, row, call);
     }
 }
 
 // What a row wants, which may end in ` or ` and what a builder has that was refused: then it is not called again.
 fn wants(want: &str) -> (&str, Option<&str>) {
-    match halves(want, " or ") {
+    match want.split_once(" or ") {
         Some((want, left)) => (want, Some(left)),
         None => (want, None),
     }
 }
 
-fn is_kept<R: Print>(
-    rt: &R,
-    before: Result<String, AllocError>,
-    after: Result<String, AllocError>,
-) {
-    let is_same = match (&before, &after) {
-        (Ok(before), Ok(after)) => before.as_str() == after.as_str(),
-        _ => false,
-    };
-    if !is_same {
+fn is_kept<R: Print>(rt: &R, before: Text, after: Text) {
+    if !before.says(after.as_str()) {
         say(rt, "wrong: what was lent has changed");
     }
 }
 
 // Operands by value are gone after a refusal: then the second call is read anew.
 fn again<R: Print + AllocGlobal>(rt: &R, row: Row<'_>, call: &mut Call<'_>) {
-    if call.lends() {
+    if call.operands.are_lent() {
         is_answered_now(rt, row, call);
     } else {
         match Call::read(rt.alloc(), row.names, row.words) {
@@ -101,46 +92,37 @@ fn is_answered_anew<R: Print + AllocGlobal>(rt: &R, row: Row<'_>, call: Call<'_>
 fn is_answered_now<R: Print + AllocGlobal>(rt: &R, row: Row<'_>, call: &mut Call<'_>) {
     let (want, left) = wants(row.want);
     if left.is_some() {
-        call.give_up();
+        call.operands.give_up();
     }
     if !is_answered(rt, "calls again", call, left.unwrap_or(want)) {
         say(rt, "wrong: it is refused once more");
     }
 }
 
-// Makes the call behind a line, and compares its answer.
+// Makes the call behind a line, and compares its answer. Its text has room from before the call on.
 fn is_answered<R: Print + AllocGlobal>(
     rt: &R,
     line: &str,
     call: &mut Call<'_>,
     want: &str,
 ) -> bool {
-    let mut text = Text::whole(rt.alloc());
+    let mut text = Text::with_room(rt.alloc(), ROOM);
     say(rt, line);
-    let is_answered = ended(rt, &mut text, call.run(rt.alloc()));
+    call.run(&mut text);
+    let is_answered = !text.is_out_of_memory;
+    say(rt, if is_answered { "answered" } else { "refused" });
     if is_answered {
-        call.write_changed(&mut text);
+        call.operands.write_changed(&mut text);
         is_wanted(rt, text, want);
     }
     is_answered
 }
 
-fn ended<R: Print>(rt: &R, text: &mut Text, outcome: Result<Answer<'_>, Fault>) -> bool {
-    let is_answered = !matches!(outcome, Err(Fault::Memory));
-    say(rt, if is_answered { "answered" } else { "refused" });
-    write_outcome(text, outcome);
-    is_answered
-}
+// No answer of a row is longer.
+const ROOM: usize = 1 << 20;
 
 fn is_wanted<R: Print>(rt: &R, text: Text, want: &str) {
-    match text.finish() {
-        Ok(text) => is_wanted_text(rt, text.as_str(), want),
-        Err(_) => say(rt, "wrong: there is no memory for the answer's text"),
-    }
-}
-
-fn is_wanted_text<R: Print>(rt: &R, text: &str, want: &str) {
-    if text != want {
-        say_of(rt, "wrong: it answers", text);
+    if !text.says(want) {
+        say_of(rt, "wrong: it answers", text.as_str());
     }
 }

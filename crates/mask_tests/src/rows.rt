@@ -1,8 +1,7 @@
 //! Each row as it stands: its calls are made once on operands that nobody else holds, and once while a clone of each is
 //! held. Operands that a call only borrows must read the same afterwards.
 
-use mask_calls::{Detail, Manner, Outcome, Row};
-use std::alloc::Global;
+use mask_calls::{Detail, Row};
 use std::io::{self, BufRead, BufReader};
 
 /// Makes the calls of each row, says which answer otherwise, and how many rows there are. How many calls were wrong.
@@ -25,7 +24,7 @@ fn is_row(line: &str) -> bool {
 }
 
 fn check_line<R: Print + AllocGlobal>(rt: &R, line: &str) -> io::Result<usize> {
-    match Row::read(line) {
+    match Row::read(line, " -> ") {
         Some(row) => check_row(rt, row),
         None => {
             println!(rt; "no row: {line}")?;
@@ -50,24 +49,11 @@ fn check_call<R: Print + AllocGlobal>(
     row: Row<'_>,
     is_shared: bool,
 ) -> io::Result<usize> {
-    match fault(rt.alloc(), name, row, is_shared) {
+    match row.fault(rt.alloc(), name, Detail::Short, is_shared) {
         None => Ok(0),
         Some(fault) => {
-            println!(rt; "{name} {}: {fault} for {}", row.words, row.want)?;
+            println!(rt; "{name} {}: {} for {}", row.words, fault.as_str(), row.want)?;
             Ok(1)
         }
-    }
-}
-
-// What the call answers, if that is not what is wanted.
-fn fault(alloc: Global, name: &str, row: Row<'_>, is_shared: bool) -> Option<String> {
-    let manner = Manner {
-        detail: Detail::Short,
-        is_shared,
-        tells_operands: true,
-    };
-    match Outcome::of(alloc, name, row.words, manner) {
-        Ok(outcome) => outcome.fault(row.want),
-        Err(_) => Some(String::new(alloc)),
     }
 }

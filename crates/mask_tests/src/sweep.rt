@@ -4,7 +4,7 @@
 //! same after the call. Each list of an answer is written whole, and with `=>` in place of `->` without what masks
 //! have cached.
 
-use mask_calls::{Detail, Manner, Outcome, Row, Text, halves};
+use mask_calls::{Detail, Row};
 use std::alloc::{AllocError, Global};
 use std::io::{self, BufRead, BufReader};
 
@@ -30,9 +30,9 @@ struct Count {
 #[derive(Drop, Clone, Copy)]
 struct Case<'a> {
     name: &'a str,
-    words: &'a str,
-    want: &'a str,
-    manner: Manner,
+    row: Row<'a>,
+    detail: Detail,
+    is_shared: bool,
 }
 
 /// Makes each call, says which answer otherwise, and how many rows and calls there are. How many calls were wrong.
@@ -62,7 +62,7 @@ fn check_line<R: Print + AllocGlobal>(
     count: &mut Count,
     line: &str,
 ) -> io::Result<()> {
-    match halves(line, " ") {
+    match line.split_once(" ") {
         Some(("@", list)) => marks.first = String::from_str(rt.alloc(), list)?,
         Some(("%", list)) => marks.second = String::from_str(rt.alloc(), list)?,
         _ => check_row(rt, marks, count, line)?,
@@ -88,12 +88,9 @@ fn check_row<R: Print + AllocGlobal>(
 
 // The parts of a line, and how much is told of lists.
 fn read<'a>(line: &'a str) -> Option<(Row<'a>, Detail)> {
-    match Row::around(line, " => ") {
+    match Row::read(line, " => ") {
         Some(row) => Some((row, Detail::Lists)),
-        None => match Row::read(line) {
-            Some(row) => Some((row, Detail::Whole)),
-            None => None,
-        },
+        None => Some((Row::read(line, " -> ")?, Detail::Whole)),
     }
 }
 
@@ -111,19 +108,15 @@ fn check_names<R: Print + AllocGlobal>(
 }
 
 fn case_of<'a>(name: &'a str, row: Row<'a>, detail: Detail) -> Case<'a> {
-    let (name, is_shared) = match halves(name, "&") {
+    let (name, is_shared) = match name.split_once("&") {
         Some((name, "")) => (name, true),
         _ => (name, false),
     };
     Case {
         name,
-        words: row.words,
-        want: row.want,
-        manner: Manner {
-            detail,
-            is_shared,
-            tells_operands: is_shared,
-        },
+        row,
+        detail,
+        is_shared,
     }
 }
 
@@ -134,8 +127,8 @@ fn check_first<R: Print + AllocGlobal>(
     count: &mut Count,
     case: Case<'_>,
 ) -> io::Result<()> {
-    for form in forms_of(marks.first.as_str(), case.words, "@").split(' ') {
-        let words = filled(rt.alloc(), case.words, "@", form)?;
+    for form in forms_of(marks.first.as_str(), case.row.words, "@").split(' ') {
+        let words = filled(rt.alloc(), case.row.words, "@", form)?;
         check_second(rt, marks, count, case, words.as_str())?;
     }
     Ok(())
@@ -158,7 +151,7 @@ fn check_second<R: Print + AllocGlobal>(
 
 // Where the mark isn't there, one of them.
 fn forms_of<'a>(forms: &'a str, words: &str, mark: &str) -> &'a str {
-    match (halves(words, mark), halves(forms, " ")) {
+    match (words.split_once(mark), forms.split_once(" ")) {
         (None, Some((first, _))) => first,
         _ => forms,
     }
@@ -166,16 +159,13 @@ fn forms_of<'a>(forms: &'a str, words: &str, mark: &str) -> &'a str {
 
 // The words with a form in place of the mark.
 fn filled(alloc: Global, words: &str, mark: &str, form: &str) -> Result<String, AllocError> {
-    let mut text = Text::new(alloc);
-    match halves(words, mark) {
-        Some((before, behind)) => {
-            text.put(before);
-            text.put(form);
-            text.put(behind);
-        }
-        None => text.put(words),
+    let (before, behind) = words.split_once(mark).unwrap_or((words, ""));
+    let mut text = String::from_str(alloc, before)?;
+    if before.len() < words.len() {
+        text.push_str(form)?;
+        text.push_str(behind)?;
     }
-    text.finish()
+    Ok(text)
 }
 
 fn check_call<R: Print + AllocGlobal>(
@@ -185,11 +175,16 @@ fn check_call<R: Print + AllocGlobal>(
     words: &str,
 ) -> io::Result<()> {
     count.calls = count.calls.saturating_add(1);
-    let outcome = Outcome::of(rt.alloc(), case.name, words, case.manner)?;
-    if let Some(fault) = outcome.fault(case.want) {
+    let row = Row { words, ..case.row };
+    if let Some(fault) = row.fault(rt.alloc(), case.name, case.detail, case.is_shared) {
         count.wrong = count.wrong.saturating_add(1);
         if count.wrong <= MOST {
-            println!(rt; "{} {words}: {fault} for {}", case.name, case.want)?;
+            println!(rt;
+                "{} {words}: {} for {}",
+                case.name,
+                fault.as_str(),
+                row.want
+            )?;
         }
     }
     Ok(())
