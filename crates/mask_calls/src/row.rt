@@ -50,13 +50,24 @@ fn change(call: Call<'_>, is_shared: bool, answer: &mut Text) -> Option<Text> {
     if is_shared {
         call.operands.hold().tell(answer);
     }
-    let before = call.kept(false);
+    // long lists of sweeps are compared while they are shared alone
+    let is_compared = is_shared || matches!(answer.detail, Detail::Short);
+    let before = told(&call, is_compared);
     call.run(answer);
     call.operands.write_changed(answer);
-    let after = call.kept(false);
+    let after = told(&call, is_compared);
     if before.says(after.as_str()) {
         None
     } else {
         Some(after)
+    }
+}
+
+// What the call leaves as it was, where that is compared.
+fn told(call: &Call<'_>, is_compared: bool) -> Text {
+    if is_compared {
+        call.kept(false)
+    } else {
+        Text::new(call.operands.alloc, Detail::Whole)
     }
 }
