@@ -20,6 +20,9 @@ mod buf;
 mod declared;
 mod dispatch;
 mod error;
+#[doc(hidden)]
+pub mod kit;
+mod proved;
 mod row;
 mod selection;
 mod strings;
@@ -28,6 +31,13 @@ mod walks;
 pub use bitmap::{Bitmap, Room};
 pub use buf::BitmapBuf;
 pub use error::Error;
+pub use kit::{AllocError, Bytes};
+pub use proved::mask_bits::{
+    BitBuffer, BitBufferMut, BitChunks, BitIterator, PaddedWords, SetIndices, SetSlices, Words,
+};
+pub use proved::vortex_mask::{
+    AllOr, Fraction, Mask, MaskBoolIter, MaskError, MaskIter, MaskSetIndices, MaskSetSlices, MaskValues, MaskValuesRef,
+};
 pub use row::Row;
 pub use selection::Selection;
 pub use strings::{Offset, Strings};
@@ -39,6 +49,19 @@ pub use walks::{Indices, Runs, Values};
 pub fn library_version() -> u32 {
     // SAFETY: this function asks nothing.
     unsafe { declared::row_mask_version() }
+}
+
+/// Rank intersection by its parts: the kernels, the deposits and selections of a word, and which kernel is taken.
+pub mod intersect_by_rank {
+    pub use crate::proved::mask_bits::extract::extract;
+    pub use crate::proved::vortex_mask::intersect_by_rank::{
+        DepositBits, ExtractBits, Portable, PortableLoop, RankBits, RankPath, SelectBit, Steps, deposit_bytewise,
+        deposits_by_loop, rank_path,
+    };
+    pub use crate::proved::vortex_mask::tested::{
+        deposit_two_holes, deposit_two_lowest, intersect_bit_buffer_by_rank_indices, intersect_bit_buffers,
+        intersect_by_rank_indices, intersect_mask_driven,
+    };
 }
 
 #[cfg(test)]

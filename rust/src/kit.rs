@@ -1,0 +1,48 @@
+//! What the proved sources take of Rattle's library, over Rust's own: lists whose growth is refused by an error, shared
+//! bytes, text and lanes. With the compilers and the script that made those sources, this is all that is trusted.
+
+mod bytes;
+pub mod conditions;
+pub(crate) mod lanes;
+mod list;
+mod shared;
+mod text;
+pub(crate) mod words;
+
+pub use bytes::{Bytes, BytesMut};
+pub use list::{Collect, CowSlice, List, ToList, filled};
+pub use shared::{TryClone, boxed, shared};
+pub use text::{Text, TryToString, formatted};
+
+/// Memory was asked for and refused.
+#[derive(Clone, Copy, Debug, PartialEq, Eq, Hash)]
+pub struct AllocError;
+
+impl core::fmt::Display for AllocError {
+    fn fmt(&self, f: &mut core::fmt::Formatter<'_>) -> core::fmt::Result {
+        f.write_str("out of memory")
+    }
+}
+
+impl std::error::Error for AllocError {}
+
+impl From<AllocError> for std::io::Error {
+    fn from(_: AllocError) -> std::io::Error {
+        std::io::ErrorKind::OutOfMemory.into()
+    }
+}
+
+/// Memory for a value was asked for and refused: the value.
+#[derive(Clone, Copy, Debug, PartialEq, Eq, Hash)]
+pub struct AllocFailed<T>(pub T);
+
+impl<T> From<AllocFailed<T>> for AllocError {
+    fn from(_: AllocFailed<T>) -> AllocError {
+        AllocError
+    }
+}
+
+/// What the proved sources have in scope.
+pub mod prelude {
+    pub use super::{Collect as _, List as _, ToList as _, Text as _, TryClone as _, TryToString as _};
+}

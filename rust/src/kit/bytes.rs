@@ -1,0 +1,92 @@
+//! Bytes that several buffers share.
+
+use super::{AllocError, TryClone};
+use std::ops::Deref;
+use std::sync::Arc;
+
+/// Bytes that never change while they are shared. A clone shares them.
+#[derive(Clone, Debug, Default, PartialEq, Eq, Hash)]
+pub struct Bytes(Arc<Vec<u8>>);
+
+/// Bytes that nobody else holds, from one of them on.
+#[derive(Debug)]
+pub struct BytesMut {
+    bytes: Vec<u8>,
+    first: usize,
+}
+
+impl Bytes {
+    /// No bytes.
+    #[must_use]
+    pub fn new() -> Bytes {
+        Bytes::default()
+    }
+
+    /// The bytes of a list, which are not copied.
+    ///
+    /// # Errors
+    /// None: Rust's `Arc` aborts where memory is refused for its counts.
+    pub fn from_vec(bytes: Vec<u8>) -> Result<Bytes, AllocError> {
+        Ok(Bytes::from(bytes))
+    }
+
+    /// All bytes.
+    #[must_use]
+    pub fn as_slice(&self) -> &[u8] {
+        &self.0
+    }
+
+    pub(crate) fn try_into_mut(self) -> Result<BytesMut, Bytes> {
+        Arc::try_unwrap(self.0).map(|bytes| BytesMut { bytes, first: 0 }).map_err(Bytes)
+    }
+}
+
+impl From<Vec<u8>> for Bytes {
+    fn from(bytes: Vec<u8>) -> Bytes {
+        Bytes(Arc::new(bytes))
+    }
+}
+
+impl Deref for Bytes {
+    type Target = [u8];
+
+    fn deref(&self) -> &[u8] {
+        &self.0
+    }
+}
+
+impl AsRef<[u8]> for Bytes {
+    fn as_ref(&self) -> &[u8] {
+        &self.0
+    }
+}
+
+impl TryClone for Bytes {
+    fn try_clone(&self) -> Result<Bytes, AllocError> {
+        Ok(self.clone())
+    }
+}
+
+impl BytesMut {
+    pub(crate) fn advance(&mut self, count: usize) {
+        self.first += count;
+    }
+
+    pub(crate) fn as_mut_slice(&mut self) -> &mut [u8] {
+        &mut self.bytes[self.first..]
+    }
+
+    // What stands before the first is moved away: a buffer begins at the bytes' own first one.
+    pub(crate) fn freeze(mut self) -> Result<Bytes, AllocError> {
+        self.bytes.drain(..self.first);
+        Bytes::from_vec(self.bytes)
+    }
+}
+
+impl Deref for BytesMut {
+    type Target = [u8];
+
+    fn deref(&self) -> &[u8] {
+        &self.bytes[self.first..]
+    }
+}

@@ -1,0 +1,61 @@
+//! What callers owe, as tests. A public call tests it and stops where it isn't met.
+
+use crate::proved::mask_bits::BitBuffer;
+use crate::proved::vortex_mask::Mask;
+
+/// Stops where a condition isn't met.
+///
+/// # Panics
+/// Where it isn't, with the names of the call and the condition.
+#[inline]
+#[track_caller]
+pub(crate) fn owed(is_met: bool, call: &'static str, name: &'static str, words: &'static str) {
+    if !is_met {
+        broken(call, name, words);
+    }
+}
+
+#[cold]
+#[inline(never)]
+#[track_caller]
+fn broken(call: &'static str, name: &'static str, words: &'static str) -> ! {
+    panic!("`{call}` is called with `{name}` broken: {words}");
+}
+
+/// Whether each index is above the one before it.
+pub(crate) fn ascends(indices: &[usize]) -> bool {
+    indices.is_sorted_by(|a, b| a < b)
+}
+
+/// Whether bits from `offset` on, so many, are within the bytes.
+pub(crate) fn are_within(bytes: &[u8], offset: usize, len: usize) -> bool {
+    offset.checked_add(len).is_some_and(|end| end.div_ceil(8) <= bytes.len())
+}
+
+/// Whether these are indices of so many true values of a list with `values` of them.
+pub(crate) fn are_ranks(ranks: &[usize], values: usize, count: usize) -> bool {
+    ascends(ranks) && ranks.len() == count && ranks.last().is_none_or(|last| *last < values)
+}
+
+/// Whether each mask has a value for each true value of the one before it.
+pub(crate) fn are_a_stack(first: &Mask, masks: &[Mask]) -> bool {
+    let counts = std::iter::once(first).chain(masks).map(Mask::true_count);
+    counts.zip(masks).all(|(count, mask)| count == mask.len())
+}
+
+/// Whether ranges hold exactly the true values: each isn't empty and ends at most where the next begins.
+pub(crate) fn are_ranges(buffer: &BitBuffer, ranges: &[(usize, usize)]) -> bool {
+    let mut at = 0;
+    let mut count = 0;
+    for &(start, end) in ranges {
+        if start < at || end <= start || end > buffer.len() {
+            return false;
+        }
+        if buffer.count_range(start, end) != end - start {
+            return false;
+        }
+        at = end;
+        count += end - start;
+    }
+    count == buffer.true_count()
+}

@@ -1,0 +1,194 @@
+//! Lists whose growth is refused by an error.
+
+use super::AllocError;
+use std::alloc::Layout;
+
+/// What grows a list, with an error where memory is refused. The list then stays as it was.
+pub trait List<T>: Sized {
+    /// An empty list with room for so many items.
+    ///
+    /// # Errors
+    /// [`AllocError`] where memory is refused.
+    fn with_room(count: usize) -> Result<Self, AllocError>;
+
+    /// The items of a slice.
+    ///
+    /// # Errors
+    /// [`AllocError`] where memory is refused.
+    fn from_slice(items: &[T]) -> Result<Self, AllocError>
+    where
+        T: Copy;
+
+    /// Puts an item behind the others.
+    ///
+    /// # Errors
+    /// [`AllocError`] where memory is refused.
+    fn try_push(&mut self, item: T) -> Result<(), AllocError>;
+
+    /// Puts an item into room that is there.
+    fn push_reserved(&mut self, item: T);
+
+    /// Cuts the list to so many items, or fills it up to them.
+    ///
+    /// # Errors
+    /// [`AllocError`] where memory is refused.
+    fn try_resize(&mut self, count: usize, item: T) -> Result<(), AllocError>
+    where
+        T: Copy;
+}
+
+impl<T> List<T> for Vec<T> {
+    #[inline]
+    fn with_room(count: usize) -> Result<Vec<T>, AllocError> {
+        let mut list = Vec::new();
+        list.try_reserve_exact(count).map_err(|_| AllocError)?;
+        Ok(list)
+    }
+
+    #[inline]
+    fn from_slice(items: &[T]) -> Result<Vec<T>, AllocError>
+    where
+        T: Copy,
+    {
+        let mut list = Vec::with_room(items.len())?;
+        list.extend_from_slice(items);
+        Ok(list)
+    }
+
+    #[inline]
+    fn try_push(&mut self, item: T) -> Result<(), AllocError> {
+        if self.len() == self.capacity() {
+            self.try_reserve(1).map_err(|_| AllocError)?;
+        }
+        self.push(item);
+        Ok(())
+    }
+
+    #[inline(always)]
+    fn push_reserved(&mut self, item: T) {
+        assert!(self.len() < self.capacity(), "there is no room");
+        self.push(item);
+    }
+
+    #[inline]
+    fn try_resize(&mut self, count: usize, item: T) -> Result<(), AllocError>
+    where
+        T: Copy,
+    {
+        self.try_reserve(count.saturating_sub(self.len())).map_err(|_| AllocError)?;
+        self.resize(count, item);
+        Ok(())
+    }
+}
+
+/// A list of so many items that are the same. Bytes that are 0 are asked for as such, so that none is written.
+///
+/// # Errors
+/// [`AllocError`] where memory is refused.
+#[inline]
+pub fn filled<T: Fill>(item: T, count: usize) -> Result<Vec<T>, AllocError> {
+    item.filled(count)
+}
+
+/// Items that lists are filled with.
+pub trait Fill: Copy {
+    /// A list of so many of it.
+    ///
+    /// # Errors
+    /// [`AllocError`] where memory is refused.
+    fn filled(self, count: usize) -> Result<Vec<Self>, AllocError> {
+        let mut list = Vec::with_room(count)?;
+        list.resize(count, self);
+        Ok(list)
+    }
+}
+
+impl Fill for u8 {
+    #[inline]
+    fn filled(self, count: usize) -> Result<Vec<u8>, AllocError> {
+        let mut list = Vec::with_room(if self == 0 { 0 } else { count })?;
+        if self == 0 {
+            return zeroed(count);
+        }
+        list.resize(count, self);
+        Ok(list)
+    }
+}
+
+impl Fill for usize {}
+impl Fill for u32 {}
+impl Fill for u64 {}
+impl Fill for bool {}
+
+fn zeroed(count: usize) -> Result<Vec<u8>, AllocError> {
+    if count == 0 {
+        return Ok(Vec::new());
+    }
+    let layout = Layout::array::<u8>(count).map_err(|_| AllocError)?;
+    // SAFETY: the layout isn't of no bytes.
+    let bytes = unsafe { std::alloc::alloc_zeroed(layout) };
+    if bytes.is_null() {
+        return Err(AllocError);
+    }
+    // SAFETY: the allocator gave so many bytes for this layout, which is that of a list of them, and all are 0.
+    Ok(unsafe { Vec::from_raw_parts(bytes, count, count) })
+}
+
+/// Collects what an iterator yields.
+pub trait Collect: Iterator + Sized {
+    /// The items in their order.
+    ///
+    /// # Errors
+    /// [`AllocError`] where memory is refused.
+    fn collected(self) -> Result<Vec<Self::Item>, AllocError> {
+        let mut list = Vec::with_room(self.size_hint().0)?;
+        for item in self {
+            list.try_push(item)?;
+        }
+        Ok(list)
+    }
+}
+
+impl<I: Iterator> Collect for I {}
+
+/// A slice that is lent, or a list.
+#[derive(Debug)]
+pub enum CowSlice<'a, T> {
+    /// A slice of somebody else.
+    Borrowed(&'a [T]),
+    /// A list of its own.
+    Owned(Vec<T>),
+}
+
+impl<T> CowSlice<'_, T> {
+    /// The items.
+    pub fn as_slice(&self) -> &[T] {
+        self
+    }
+}
+
+impl<T> std::ops::Deref for CowSlice<'_, T> {
+    type Target = [T];
+
+    fn deref(&self) -> &[T] {
+        match self {
+            CowSlice::Borrowed(items) => items,
+            CowSlice::Owned(items) => items,
+        }
+    }
+}
+
+/// A list of what a slice has.
+pub trait ToList<T> {
+    /// The items in their order.
+    ///
+    /// # Errors
+    /// [`AllocError`] where memory is refused.
+    fn try_to_vec(&self) -> Result<Vec<T>, AllocError>;
+}
+
+impl<T: Copy> ToList<T> for [T] {
+    fn try_to_vec(&self) -> Result<Vec<T>, AllocError> {
+        Vec::from_slice(self)
+    }
+}

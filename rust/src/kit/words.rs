@@ -1,0 +1,1 @@
+//! Words of bytes, read and written where the proved sources say that the bytes are there.

@@ -1,0 +1,5 @@
+//! The proved sources as plain Rust, made by `rust/erase` of the crates of these names.
+#![allow(clippy::all, clippy::pedantic, missing_docs, unused_imports, unused_mut, unused_variables, dead_code)]
+
+pub mod mask_bits;
+pub mod vortex_mask;

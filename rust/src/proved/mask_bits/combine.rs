@@ -1,0 +1,158 @@
+// Made of `crates/mask_bits/src/combine.rt` by `rust/erase`: change that, and make this anew.
+//! The list that an operation makes of two lists, value by value, over plain bytes.
+
+use crate::kit::prelude::*;
+use crate::proved::mask_bits::read_word::{Anywhere, Bits, Covered, ReadWord, Shifted, Whole};
+use crate::proved::mask_bits::words::{set_word, started_words, word_at, word_of};
+
+/// An operation on truth values, done on 64 at once.
+pub trait BitOp {
+    fn of(x: u64, y: u64) -> u64;
+}
+
+/// True in both.
+pub struct And;
+
+/// True in one or in both.
+pub struct Or;
+
+/// True in the first, and not in the second.
+pub struct AndNot;
+
+/// True in one, and not in the other.
+pub struct Xor;
+
+/// Negates the first, and takes no account of the second.
+pub struct Not;
+
+impl BitOp for And {
+    #[inline]
+    fn of(x: u64, y: u64) -> u64 {
+        x & y
+    }
+}
+
+impl BitOp for Or {
+    #[inline]
+    fn of(x: u64, y: u64) -> u64 {
+        x | y
+    }
+}
+
+impl BitOp for AndNot {
+    #[inline]
+    fn of(x: u64, y: u64) -> u64 {
+        x & !y
+    }
+}
+
+impl BitOp for Xor {
+    #[inline]
+    fn of(x: u64, y: u64) -> u64 {
+        x ^ y
+    }
+}
+
+impl BitOp for Not {
+    #[inline]
+    fn of(x: u64, _y: u64) -> u64 {
+        !x
+    }
+}
+
+/// Writes the list that `C` makes of the `len` bits of `a` from bit `a_offset` on and of those of
+/// `b` from bit `b_offset` on, value by value, to the front of `out`, which is room of whole words.
+/// The bits of `out` past the list have no meaning.
+pub fn combine<C: BitOp>(
+    a: &[u8],
+    a_offset: usize,
+    b: &[u8],
+    b_offset: usize,
+    len: usize,
+    out: &mut [u8],
+) {
+    let (a, b) = (Bits::new(a, a_offset), Bits::new(b, b_offset));
+    let (whole, words) = (len / 64, started_words(len));
+    extend_whole::<C>(a, b, whole, out);
+    extend::<C, Anywhere, Anywhere>(a, b, whole, words, out);
+}
+
+// Writes the first words.
+fn extend_whole<C: BitOp>(a: Bits<'_>, b: Bits<'_>, words: usize, out: &mut [u8]) {
+    if a.low == 0 && b.low == 0 {
+        extend::<C, Whole, Whole>(a, b, 0, words, out);
+    } else {
+        let inner = a.neighbors().min(b.neighbors()).min(words);
+        extend_inner::<C>(a, b, inner, out);
+        extend::<C, Covered, Covered>(a, b, inner, words, out);
+    }
+}
+
+// Writes words beside which there is another one. Each list is read in its own way, since a shift of one
+// that begins at a whole byte takes nearly as long as the rest.
+fn extend_inner<C: BitOp>(a: Bits<'_>, b: Bits<'_>, words: usize, out: &mut [u8]) {
+    if a.low == 0 {
+        extend::<C, Whole, Shifted>(a, b, 0, words, out);
+    } else if b.low == 0 {
+        extend::<C, Shifted, Whole>(a, b, 0, words, out);
+    } else {
+        extend::<C, Shifted, Shifted>(a, b, 0, words, out);
+    }
+}
+
+// Writes words `from` to `to`, where those before are written.
+fn extend<C: BitOp, A: ReadWord, B: ReadWord>(
+    a: Bits<'_>,
+    b: Bits<'_>,
+    from: usize,
+    to: usize,
+    out: &mut [u8],
+) {
+    for i in from..to {
+        set_word(out, i, C::of(A::word(a, i), B::word(b, i)));
+    }
+}
+
+/// The same where the bits of `a` begin `bytes`: the list is written in their place. The bits of
+/// `bytes` past the list have no meaning.
+pub fn combine_in_place<C: BitOp>(bytes: &mut [u8], b: &[u8], b_offset: usize, len: usize) {
+    let b = Bits::new(b, b_offset);
+    change_whole::<C>(bytes, b, len / 64);
+    if len % 64 != 0 {
+        change_last::<C>(bytes, b, len / 64);
+    }
+}
+
+// Combines the first words in place.
+fn change_whole<C: BitOp>(bytes: &mut [u8], b: Bits<'_>, words: usize) {
+    if b.low == 0 {
+        change::<C, Whole>(bytes, b, 0, words);
+    } else {
+        let inner = b.neighbors().min(words);
+        change::<C, Shifted>(bytes, b, 0, inner);
+        change::<C, Covered>(bytes, b, inner, words);
+    }
+}
+
+// Combines words `from` to `to` in place.
+fn change<C: BitOp, R: ReadWord>(bytes: &mut [u8], b: Bits<'_>, from: usize, to: usize) {
+    for i in from..to {
+        set_word(bytes, i, C::of(word_of(bytes, i), R::word(b, i)));
+    }
+}
+
+// Combines as much of word `i` in place as the bytes have.
+fn change_last<C: BitOp>(bytes: &mut [u8], b: Bits<'_>, i: usize) {
+    let end = bytes.len().min(8 * i + 8);
+    let mut last = [0u8; 8];
+    let word = C::of(word_at(bytes, 64 * i), Anywhere::word(b, i));
+    set_word(&mut last, 0, word);
+    bytes[8 * i..end].copy_from_slice(&last[..end - 8 * i]);
+}
+
+/// Negates the first `len` bits of `bytes`. Those past them have no meaning.
+pub fn negate_in_place(bytes: &mut [u8], len: usize) {
+    for i in 0..len.div_ceil(8) {
+        bytes[i] ^= 0xFF;
+    }
+}

@@ -1,0 +1,56 @@
+// Made of `crates/mask_bits/src/from_rows.rt` by `rust/erase`: change that, and make this anew.
+//! Buffers of what a test answers of each row.
+
+use crate::kit::AllocError;
+use crate::kit::prelude::*;
+use crate::proved::mask_bits::bools::word_of_lanes;
+use crate::proved::mask_bits::buffer::BitBuffer;
+use crate::proved::mask_bits::buffer_mut::BitBufferMut;
+
+impl BitBuffer {
+    /// What a test answers of each row, in their order: value `i` is its answer of row `i`. The
+    /// answers are packed as they come, 64 to a word, and are listed nowhere else.
+    ///
+    /// # The caller owes
+    ///
+    /// - `F.IsAlwaysCallable test`
+    ///
+    /// # Proved
+    ///
+    /// - *answers*: `IfOk result (λ b. AreAnswers (FnReturnsAt F.Fn test) rows.now (values b))`
+    /// - *list*: `IfOk result (λ b. AreAsComputed (F.post test) rows.now (values b))`
+    pub fn from_rows<T, F: Fn(&T) -> bool>(rows: &[T], test: F) -> Result<BitBuffer, AllocError> {
+        let mut bits = BitBufferMut::with_capacity(rows.len())?;
+        let whole = rows.len() / 64;
+        for i in 0..whole {
+            bits.push_word_proved(word_of_rows(&rows[64 * i..64 * i + 64], &test), 64)?;
+        }
+        let rest = &rows[64 * whole..];
+        bits.push_word_proved(word_of_rows(rest, &test), rest.len())?;
+        bits.freeze()
+    }
+}
+
+// The word of what a test answers of at most 64 rows, the first lowest, with zeros past them.
+//
+// An answer is a lane of its own, so that several rows are tested at once where the test allows it, and all lanes
+// become bits together. Always inlined, as the packing of a list's values.
+#[inline(always)]
+fn word_of_rows<T, F: Fn(&T) -> bool>(rows: &[T], test: &F) -> u64 {
+    let mut lanes = [0u8; 64];
+    let whole = rows.len() / 16;
+    for k in 0..whole {
+        put_answers(&mut lanes, 16 * k, &rows[16 * k..16 * k + 16], test);
+    }
+    put_answers(&mut lanes, 16 * whole, &rows[16 * whole..], test);
+    word_of_lanes(&lanes)
+}
+
+// Writes what a test answers of some rows to the lanes behind the first `at`. Of sixteen rows, the lanes of a vector,
+// no loop is left.
+#[inline(always)]
+fn put_answers<T, F: Fn(&T) -> bool>(lanes: &mut [u8; 64], at: usize, rows: &[T], test: &F) {
+    for j in 0..rows.len() {
+        lanes[at + j] = test(&rows[j]) as u8;
+    }
+}

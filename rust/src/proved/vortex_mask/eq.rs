@@ -1,0 +1,45 @@
+// Made of `crates/vortex_mask/src/eq.rt` by `rust/erase`: change that, and make this anew.
+//! When two masks are equal, and a mask and a buffer: they hold the same list.
+
+use crate::kit::prelude::*;
+use crate::proved::mask_bits::BitBuffer;
+use crate::proved::vortex_mask::mask::Mask;
+
+// Two masks are equal where their lists are; cached lists, offsets and how an empty list is held
+// don't count.
+impl PartialEq for Mask {
+    fn eq(&self, other: &Mask) -> bool {
+        self.len() == other.len() && same_lists(self, other)
+    }
+}
+
+impl Eq for Mask {}
+
+impl Mask {
+    /// Whether these are the values of a buffer.
+    ///
+    /// # Proved
+    ///
+    /// - `IsTrue result ↔ (truth self.now ≡ values buffer.now)`
+    pub fn equals_buffer(&self, buffer: &BitBuffer) -> bool {
+        self.len() == buffer.len() && same_values(self, buffer)
+    }
+}
+
+// Whether a mask and a buffer of one length have the same list.
+fn same_values(mask: &Mask, buffer: &BitBuffer) -> bool {
+    match mask {
+        Mask::AllTrue(len) => buffer.true_count() == *len,
+        Mask::AllFalse(_) => buffer.true_count() == 0,
+        Mask::Values(values) => values.bit_buffer() == buffer,
+    }
+}
+
+// Whether two masks of one length have the same list.
+fn same_lists(a: &Mask, b: &Mask) -> bool {
+    match (a, b) {
+        (Mask::Values(a), Mask::Values(b)) => a.bit_buffer() == b.bit_buffer(),
+        // one of them is of one value, so that the count tells the list
+        _ => a.true_count() == b.true_count(),
+    }
+}

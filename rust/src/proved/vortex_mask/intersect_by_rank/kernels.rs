@@ -1,0 +1,16 @@
+// Made of `crates/vortex_mask/src/intersect_by_rank/kernels.rt` by `rust/erase`: change that, and make this anew.
+//! The kernels, one for each `RankPath`.
+
+use crate::kit::prelude::*;
+mod bit_buffers;
+mod indices;
+mod mask_driven;
+mod rank_blocks;
+mod rank_indices;
+mod rank_lists;
+mod word_loop;
+
+pub use bit_buffers::{intersect_bit_buffers, narrow_by_bits};
+pub use indices::intersect_by_rank_indices;
+pub use mask_driven::intersect_mask_driven;
+pub use rank_indices::{intersect_bit_buffer_by_rank_indices, narrow_at_ranks};

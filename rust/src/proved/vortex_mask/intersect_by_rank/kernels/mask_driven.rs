@@ -1,0 +1,58 @@
+// Made of `crates/vortex_mask/src/intersect_by_rank/kernels/mask_driven.rt` by `rust/erase`: change that, and make this anew.
+//! The kernel that goes by ranks: one selection for each, in words that are read in turn.
+
+use crate::kit::prelude::*;
+use crate::proved::mask_bits::{BitBuffer, BitChunks};
+use crate::proved::vortex_mask::intersect_by_rank::select::SelectBit;
+use crate::proved::vortex_mask::intersect_by_rank::steps::Steps;
+use crate::proved::vortex_mask::mask::{Mask, MaskError};
+
+pub fn intersect_mask_driven<S: SelectBit, I: Iterator<Item = usize>>(
+    self_buffer: &BitBuffer,
+    mask_indices: I,
+    true_count: usize,
+) -> Result<(Mask, Steps), MaskError> {
+    let (len, chunks) = (self_buffer.len(), self_buffer.chunks());
+    let mut indices = Vec::with_room(true_count)?;
+    let mut steps = Steps::new();
+    let mut reached = Reached { word: 0, before: 0 };
+    for rank in mask_indices {
+        indices.try_push(reached.index_of::<S>(&chunks, &mut steps, rank))?;
+    }
+    Ok((Mask::of_indices(len, indices)?, steps))
+}
+
+// How far the words have been read. The steps count them: a second count would take time for each word.
+struct Reached {
+    // the last of them
+    word: u64,
+    // how many true values stand before it
+    before: usize,
+}
+
+impl Reached {
+    // The index of the true value at `rank`, which doesn't stand before the last word. Reads on
+    // until it is in the last word. Inlined, so that what is reached stays in registers.
+    #[inline(always)]
+    fn index_of<S: SelectBit>(
+        &mut self,
+        chunks: &BitChunks<'_>,
+        steps: &mut Steps,
+        rank: usize,
+    ) -> usize {
+        self.read_to(chunks, steps, rank);
+        64 * (steps.words() - 1) + steps.select_proved::<S>(self.word, rank - self.before)
+    }
+
+    // Reads on until the true value at `rank` is in the last word.
+    #[inline(always)]
+    fn read_to(&mut self, chunks: &BitChunks<'_>, steps: &mut Steps, rank: usize) {
+        let mut end = self.before + self.word.count_ones() as usize;
+        while end <= rank {
+            self.before = end;
+            let next = steps.words();
+            self.word = steps.word_proved(chunks, next);
+            end += self.word.count_ones() as usize;
+        }
+    }
+}

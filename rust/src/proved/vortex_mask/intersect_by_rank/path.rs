@@ -1,0 +1,96 @@
+// Made of `crates/vortex_mask/src/intersect_by_rank/path.rt` by `rust/erase`: change that, and make this anew.
+//! Which kernel narrows two masks of mixed values. The crate's `README.md` has the tests in a table, with the
+//! reason of each.
+
+use crate::kit::prelude::*;
+use crate::proved::mask_bits::words::started_words;
+use crate::proved::vortex_mask::mask::MaskValues;
+
+/// The four kernels of rank intersection.
+#[derive(Debug, Clone, Copy, PartialEq, Eq)]
+pub enum RankPath {
+    /// `intersect_by_rank_indices`: one list of true indices is taken at another.
+    Indices,
+    /// `intersect_mask_driven`: each rank is looked for in the words of self.
+    MaskDriven,
+    /// `intersect_bit_buffers`: the rank mask's bits are deposited into the words of self.
+    BitBuffers,
+    /// `intersect_bit_buffer_by_rank_indices`: bits made of a list of ranks are deposited.
+    RankIndices,
+}
+
+// A word kernel looks at each word of 64 rows. Where fewer than one row in 64 is true, there are
+// fewer true rows than words, and it is quicker to go over a list of these.
+const ROWS_PER_TRUE_BY_INDICES: u64 = 64;
+
+// At one rank in 32 values there are on average at most two selections for a word of rows, and about
+// there they cost as much as to count and deposit each word. Fewer ranks are found one by one.
+const VALUES_PER_RANK_BY_SELECTION: u64 = 32;
+
+// A list of ranks has to be turned into bits. Above one rank in four values that takes longer than
+// to read the rank mask's bits as they are.
+const VALUES_PER_RANK_BY_BITS: u64 = 4;
+
+// What the choice of a path goes by, of one mask: how many values it has, how many of them are
+// true, and whether its true indices are cached.
+#[derive(Clone, Copy)]
+pub(super) struct Summary {
+    len: usize,
+    true_count: usize,
+    pub(super) is_listed: bool,
+}
+
+impl Summary {
+    pub(super) fn of(mask: &MaskValues) -> Summary {
+        Summary {
+            len: mask.len(),
+            true_count: mask.true_count(),
+            is_listed: mask.cached_indices().is_some(),
+        }
+    }
+
+    // Of the mask narrowed by a mixed one over its true values: which true indices stay is found one by one,
+    // and so cached, on two of the paths.
+    pub(super) fn narrowed_by(self, ranks: Summary) -> Summary {
+        let path = path_by(self, ranks);
+        Summary {
+            len: self.len,
+            true_count: ranks.true_count,
+            is_listed: matches!(path, RankPath::Indices | RankPath::MaskDriven),
+        }
+    }
+
+    // So many times the number of true values, which may pass 64 bits.
+    fn times_true(self, times: u64) -> u128 {
+        u128::from(times) * self.true_count as u128
+    }
+}
+
+/// The path of two mixed masks, by their lengths, their counts and which lists of true indices are
+/// cached. It makes no list.
+///
+/// # Proved
+///
+/// - `result ≡ path_of values.now ranks.now`
+pub fn rank_path(values: &MaskValues, ranks: &MaskValues) -> RankPath {
+    path_by(Summary::of(values), Summary::of(ranks))
+}
+
+// The path of a mask that is narrowed by another one, by what these numbers say of each.
+pub(super) fn path_by(rows: Summary, ranks: Summary) -> RankPath {
+    // with both lists at hand, the entries to take are fewer than the words to read
+    let are_few = ranks.true_count < started_words(rows.len);
+    if ranks.is_listed && rows.is_listed && are_few {
+        return RankPath::Indices;
+    }
+    if rows.times_true(ROWS_PER_TRUE_BY_INDICES) < rows.len as u128 {
+        return RankPath::Indices;
+    }
+    if ranks.times_true(VALUES_PER_RANK_BY_SELECTION) < ranks.len as u128 {
+        return RankPath::MaskDriven;
+    }
+    if !ranks.is_listed || ranks.times_true(VALUES_PER_RANK_BY_BITS) > ranks.len as u128 {
+        return RankPath::BitBuffers;
+    }
+    RankPath::RankIndices
+}

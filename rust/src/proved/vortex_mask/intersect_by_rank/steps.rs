@@ -1,0 +1,287 @@
+// Made of `crates/vortex_mask/src/intersect_by_rank/steps.rt` by `rust/erase`: change that, and make this anew.
+//! The steps that a kernel takes, counted. The fields are private to this file, so that the calls
+//! here alone change them.
+
+use super::deposit::DepositBits;
+use super::select::SelectBit;
+use crate::kit::prelude::*;
+use crate::proved::mask_bits::BitChunks;
+
+/// How many words a kernel has deposited, read and selected in, and sums over these steps.
+///
+/// A step adds at most 64 to a sum, so a sum never passes its type.
+//
+// The steps are inlined always, so that a kernel's loop keeps the counters in registers: a call
+// would write them back for each word.
+#[derive(Debug)]
+pub struct Steps {
+    deposits: usize,
+    words: usize,
+    selections: usize,
+    offered: u128,
+    placed: u128,
+    spots: u128,
+}
+
+impl Steps {
+    /// No steps yet.
+    ///
+    /// # Proved
+    ///
+    /// - `result ≡ no_steps`
+    pub fn new() -> Steps {
+        Steps { deposits: 0, words: 0, selections: 0, offered: 0, placed: 0, spots: 0 }
+    }
+
+    /// How many words were deposited.
+    ///
+    /// # Proved
+    ///
+    /// - `result ≡ self.now.deposits`
+    pub fn deposits(&self) -> usize {
+        self.deposits
+    }
+
+    /// How many words of self were read.
+    ///
+    /// # Proved
+    ///
+    /// - `result ≡ self.now.words`
+    pub fn words(&self) -> usize {
+        self.words
+    }
+
+    /// How many set bits were selected.
+    ///
+    /// # Proved
+    ///
+    /// - `result ≡ self.now.selections`
+    pub fn selections(&self) -> usize {
+        self.selections
+    }
+
+    /// The sum of `mask_count` over all deposits: the set bits of their masks.
+    ///
+    /// # Proved
+    ///
+    /// - `result ≡ self.now.offered`
+    pub fn offered(&self) -> u128 {
+        self.offered
+    }
+
+    /// The set bits of all deposited words.
+    ///
+    /// # Proved
+    ///
+    /// - `result ≡ self.now.placed`
+    pub fn placed(&self) -> u128 {
+        self.placed
+    }
+
+    /// The sum of the bits' places within their words that all selections found.
+    ///
+    /// # Proved
+    ///
+    /// - `result ≡ self.now.spots`
+    pub fn spots(&self) -> u128 {
+        self.spots
+    }
+
+    /// Deposits the bits of `source` at the set places of `mask`, of which there are `mask_count`.
+    ///
+    /// # The caller owes
+    ///
+    /// - *room*: `self.old.deposits < usize.MAX`
+    /// - *counted*: `mask_count ≡ count (word_bits mask)`
+    ///
+    /// # Proved
+    ///
+    /// - *deposited*: `Deposits source mask result`
+    /// - *ticked*: `self.new ≡ record self.old { deposits = self.old.deposits + 1; offered = self.old.offered + mask_count; placed = self.old.placed + count (word_bits result); }`
+    #[inline]
+    #[track_caller]
+    pub fn deposit<D: DepositBits>(&mut self, source: u64, mask: u64, mask_count: usize) -> u64 {
+        crate::kit::conditions::owed(
+            self.deposits < usize::MAX,
+            "Steps::deposit",
+            "room",
+            "self.old.deposits < usize.MAX",
+        );
+        crate::kit::conditions::owed(
+            mask_count == (mask.count_ones() as usize),
+            "Steps::deposit",
+            "counted",
+            "mask_count ≡ count (word_bits mask)",
+        );
+        self.deposit_proved::<D>(source, mask, mask_count)
+    }
+
+    #[inline(always)]
+    pub(crate) fn deposit_proved<D: DepositBits>(
+        &mut self,
+        source: u64,
+        mask: u64,
+        mask_count: usize,
+    ) -> u64 {
+        let result = D::deposit_bits_proved(source, mask, mask_count);
+        self.deposits += 1;
+        self.offered += mask_count as u128;
+        self.placed += u128::from(result.count_ones());
+        result
+    }
+
+    /// Deposits two words, and counts what two calls of [`Steps::deposit`] would.
+    ///
+    /// # The caller owes
+    ///
+    /// - *room*: `self.old.deposits + 1 < usize.MAX`
+    /// - *counted_first*: `slice_index mask_counts 0 ≡ count (word_bits (slice_index masks 0))`
+    /// - *counted_second*: `slice_index mask_counts 1 ≡ count (word_bits (slice_index masks 1))`
+    ///
+    /// # Proved
+    ///
+    /// - *first*: `Deposits (slice_index sources 0) (slice_index masks 0) (slice_index result 0)`
+    /// - *second*: `Deposits (slice_index sources 1) (slice_index masks 1) (slice_index result 1)`
+    /// - *ticked*: `self.new ≡ record self.old { deposits = self.old.deposits + 2; offered = self.old.offered + slice_index mask_counts 0 + slice_index mask_counts 1; placed = self.old.placed + count (word_bits (slice_index result 0)) + count (word_bits (slice_index result 1)); }`
+    #[inline]
+    #[track_caller]
+    pub fn deposit_two<D: DepositBits>(
+        &mut self,
+        sources: [u64; 2],
+        masks: [u64; 2],
+        mask_counts: [usize; 2],
+    ) -> [u64; 2] {
+        crate::kit::conditions::owed(
+            (self.deposits as u128) + 1 < (usize::MAX as u128),
+            "Steps::deposit_two",
+            "room",
+            "self.old.deposits + 1 < usize.MAX",
+        );
+        crate::kit::conditions::owed(
+            mask_counts[0] == (masks[0].count_ones() as usize),
+            "Steps::deposit_two",
+            "counted_first",
+            "slice_index mask_counts 0 ≡ count (word_bits (slice_index masks 0))",
+        );
+        crate::kit::conditions::owed(
+            mask_counts[1] == (masks[1].count_ones() as usize),
+            "Steps::deposit_two",
+            "counted_second",
+            "slice_index mask_counts 1 ≡ count (word_bits (slice_index masks 1))",
+        );
+        self.deposit_two_proved::<D>(sources, masks, mask_counts)
+    }
+
+    #[inline(always)]
+    pub(crate) fn deposit_two_proved<D: DepositBits>(
+        &mut self,
+        sources: [u64; 2],
+        masks: [u64; 2],
+        mask_counts: [usize; 2],
+    ) -> [u64; 2] {
+        let results = D::deposit_two_proved(sources, masks, mask_counts);
+        self.deposits += 2;
+        self.offered += (mask_counts[0] + mask_counts[1]) as u128;
+        self.placed += u128::from(results[0].count_ones() + results[1].count_ones());
+        results
+    }
+
+    /// Deposits two words of a list as [`Steps::deposit_two`] does. A list has so few words that its
+    /// sums are of 64 bits, which a loop adds in fewer steps.
+    #[inline(always)]
+    pub(crate) fn deposit_words<D: DepositBits>(
+        &mut self,
+        sources: [u64; 2],
+        masks: [u64; 2],
+        mask_counts: [usize; 2],
+    ) -> [u64; 2] {
+        let words = D::deposit_two_proved(sources, masks, mask_counts);
+        let offered = self.offered as u64 + mask_counts[0] as u64 + mask_counts[1] as u64;
+        let placed = self.placed as u64 + u64::from(words[0].count_ones() + words[1].count_ones());
+        self.deposits += 2;
+        self.offered = u128::from(offered);
+        self.placed = u128::from(placed);
+        words
+    }
+
+    /// Word `i` of the values: a whole word, or as the last one the values after the whole words
+    /// in its low bits and zeros above.
+    ///
+    /// # The caller owes
+    ///
+    /// - *room*: `self.old.words < usize.MAX`
+    /// - *there*: `64 * i < length chunks.now`
+    ///
+    /// # Proved
+    ///
+    /// - *whole*: `i < length chunks.now / 64 → word_bits result ≡ word_part chunks.now i`
+    /// - *last*: `i ≡ length chunks.now / 64 → word_bits result ≡ padded_remainder chunks.now`
+    /// - *ticked*: `self.new ≡ record self.old { words = self.old.words + 1 }`
+    #[inline]
+    #[track_caller]
+    pub fn word(&mut self, chunks: &BitChunks<'_>, i: usize) -> u64 {
+        crate::kit::conditions::owed(
+            self.words < usize::MAX,
+            "Steps::word",
+            "room",
+            "self.old.words < usize.MAX",
+        );
+        crate::kit::conditions::owed(
+            64 * (i as u128) < ((64 * chunks.len() + chunks.remainder_len()) as u128),
+            "Steps::word",
+            "there",
+            "64 * i < length chunks.now",
+        );
+        self.word_proved(chunks, i)
+    }
+
+    #[inline(always)]
+    pub(crate) fn word_proved(&mut self, chunks: &BitChunks<'_>, i: usize) -> u64 {
+        self.words += 1;
+        if i < chunks.len() { chunks.word_proved(i) } else { chunks.remainder_bits() }
+    }
+
+    /// Whole words `i` and `i + 1` of the values. Counts what two calls of [`Steps::word`] would.
+    #[inline(always)]
+    pub(crate) fn two_words(&mut self, chunks: &BitChunks<'_>, i: usize) -> (u64, u64) {
+        self.words += 2;
+        (chunks.word_proved(i), chunks.word_proved(i + 1))
+    }
+
+    /// The place of set bit number `rank` of `word`.
+    ///
+    /// # The caller owes
+    ///
+    /// - *room*: `self.old.selections < usize.MAX`
+    /// - *inside*: `rank < count (word_bits word)`
+    ///
+    /// # Proved
+    ///
+    /// - *selected*: `result ≡ selected word rank`
+    /// - *ticked*: `self.new ≡ record self.old { selections = self.old.selections + 1; spots = self.old.spots + result; }`
+    #[inline]
+    #[track_caller]
+    pub fn select<S: SelectBit>(&mut self, word: u64, rank: usize) -> usize {
+        crate::kit::conditions::owed(
+            self.selections < usize::MAX,
+            "Steps::select",
+            "room",
+            "self.old.selections < usize.MAX",
+        );
+        crate::kit::conditions::owed(
+            rank < (word.count_ones() as usize),
+            "Steps::select",
+            "inside",
+            "rank < count (word_bits word)",
+        );
+        self.select_proved::<S>(word, rank)
+    }
+
+    #[inline(always)]
+    pub(crate) fn select_proved<S: SelectBit>(&mut self, word: u64, rank: usize) -> usize {
+        let place = S::select_bit_position_proved(word, rank);
+        self.selections += 1;
+        self.spots += place as u128;
+        place
+    }
+}

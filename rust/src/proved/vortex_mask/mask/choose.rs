@@ -1,0 +1,57 @@
+// Made of `crates/vortex_mask/src/mask/choose.rt` by `rust/erase`: change that, and make this anew.
+//! The rows that a mask chooses.
+
+use crate::kit::AllocError;
+use crate::kit::prelude::*;
+use crate::proved::mask_bits::BitBuffer;
+use crate::proved::vortex_mask::mask::push_rows::choose_rows;
+use crate::proved::vortex_mask::mask::{Mask, MaskError};
+
+/// Choosing rows.
+impl Mask {
+    /// The rows at the true indices, in their order.
+    ///
+    /// # The caller owes
+    ///
+    /// - `length rows.now ≡ length (truth self.now)`
+    ///
+    /// # Proved
+    ///
+    /// - *rows*: `IfOk result (λ v. v.items ≡ chosen rows.now (truth self.now))`
+    /// - *len*: `IfOk result (λ v. vec_len v ≡ count (truth self.now))`
+    /// - *none*: `variant self.now ≡ all_false → IsOk result`
+    /// - *refused*: `IsOkUnless result (MaskError.Memory alloc_error)`
+    #[inline]
+    #[track_caller]
+    pub fn choose<T: Copy>(&self, rows: &[T]) -> Result<Vec<T>, MaskError> {
+        crate::kit::conditions::owed(
+            rows.len() == self.len(),
+            "Mask::choose",
+            "the condition",
+            "length rows.now ≡ length (truth self.now)",
+        );
+        self.choose_proved::<T>(rows)
+    }
+
+    pub(crate) fn choose_proved<T: Copy>(&self, rows: &[T]) -> Result<Vec<T>, MaskError> {
+        match self {
+            Mask::AllTrue(_) => Ok(Vec::from_slice(rows)?),
+            Mask::AllFalse(_) => Ok(Vec::new()),
+            Mask::Values(values) => {
+                let true_count = values.true_count();
+                Ok(rows_at(rows, values.bit_buffer(), true_count)?)
+            }
+        }
+    }
+}
+
+// The rows at the true indices of a buffer, of which there are `true_count`, in their order.
+fn rows_at<T: Copy>(
+    rows: &[T],
+    buffer: &BitBuffer,
+    true_count: usize,
+) -> Result<Vec<T>, AllocError> {
+    let mut chosen_rows = Vec::with_room(true_count)?;
+    choose_rows::<4, _, _>(&mut chosen_rows, rows, &buffer.chunks());
+    Ok(chosen_rows)
+}

@@ -1,0 +1,113 @@
+// Made of `crates/vortex_mask/src/mask/concat.rt` by `rust/erase`: change that, and make this anew.
+//! Masks one after another.
+
+use crate::kit::AllocError;
+use crate::kit::prelude::*;
+use crate::proved::mask_bits::{BitBuffer, BitBufferMut};
+use crate::proved::vortex_mask::mask::{Mask, MaskError};
+
+impl Mask {
+    /// The values of the masks that an iterator yields, one mask after another. No values give
+    /// `AllTrue(0)`.
+    ///
+    /// The masks are listed first, so `Memory` may come before `LengthOverflow`, which is reported
+    /// where the sum of all lengths is above `usize::MAX`.
+    ///
+    /// # The caller owes
+    ///
+    /// - *can*: `I.can_next masks`
+    /// - *ends*: `IsFinite (I.remaining masks)`
+    ///
+    /// # Proved
+    ///
+    /// - *list*: `IfOk result (λ m. (ms : List (Bor mask)) × Drains I.next_gives masks ms × Joins (lists_of ms) m)`
+    /// - *whole*: `IfOk result (λ m. WholeRun I.next_gives masks (λ p. Joins (lists_of p.items) m))`
+    /// - *variant*: `IfOk result (λ m. variant m ≡ fitting_variant all_true (truth m))`
+    /// - *caches*: `IfOk result (λ m. caches m ≡ no_caches)`
+    /// - *refused*: `IfErr result (λ e. (e ≡ MaskError.Memory alloc_error) ⊎ ((ms : List (Bor mask)) × Drains I.next_gives masks ms × (e ≡ MaskError.LengthOverflow) × (2 ^ 64 ≤ total_len (lists_of ms))))`
+    /// - *refused_whole*: `IfErr result (λ e. (e ≡ MaskError.Memory alloc_error) ⊎ WholeRun I.next_gives masks (λ p. (e ≡ MaskError.LengthOverflow) × (2 ^ 64 ≤ total_len (lists_of p.items))))`
+    pub fn concat<'a, I: Iterator<Item = &'a Mask>>(masks: I) -> Result<Mask, MaskError> {
+        let masks: Vec<&Mask> = masks.collected()?;
+        Mask::concat_list(&masks)
+    }
+
+    /// The values of the masks that an iterator yields, one mask after another, as by `concat`. The
+    /// masks are taken by value.
+    ///
+    /// # The caller owes
+    ///
+    /// - *can*: `I.can_next masks`
+    /// - *ends*: `IsFinite (I.remaining masks)`
+    ///
+    /// # Proved
+    ///
+    /// - *list*: `IfOk result (λ m. (ms : List mask) × Drains I.next_gives masks ms × Joins (map truth ms) m)`
+    /// - *whole*: `IfOk result (λ m. WholeRun I.next_gives masks (λ p. Joins (map truth p.items) m))`
+    /// - *variant*: `IfOk result (λ m. variant m ≡ fitting_variant all_true (truth m))`
+    /// - *caches*: `IfOk result (λ m. caches m ≡ no_caches)`
+    /// - *refused*: `IfErr result (λ e. (e ≡ MaskError.Memory alloc_error) ⊎ ((ms : List mask) × Drains I.next_gives masks ms × (e ≡ MaskError.LengthOverflow) × (2 ^ 64 ≤ total_len (map truth ms))))`
+    /// - *refused_whole*: `IfErr result (λ e. (e ≡ MaskError.Memory alloc_error) ⊎ WholeRun I.next_gives masks (λ p. (e ≡ MaskError.LengthOverflow) × (2 ^ 64 ≤ total_len (map truth p.items))))`
+    pub fn from_masks<I: Iterator<Item = Mask>>(masks: I) -> Result<Mask, MaskError> {
+        let masks: Vec<Mask> = masks.collected()?;
+        Mask::concat_held(&masks)
+    }
+
+    // The same of masks that are listed.
+    fn concat_held(masks: &[Mask]) -> Result<Mask, MaskError> {
+        Mask::concat(masks.iter())
+    }
+
+    // The masks' values one after another.
+    fn concat_list(masks: &[&Mask]) -> Result<Mask, MaskError> {
+        let Some(len) = total_len(masks) else {
+            return Err(MaskError::LengthOverflow);
+        };
+        if all_true(masks) {
+            return Ok(Mask::AllTrue(len));
+        }
+        if all_false(masks) {
+            return Ok(Mask::AllFalse(len));
+        }
+        let (buffer, true_count) = buffer_of(len, masks)?;
+        Mask::from_counted_buffer(buffer, true_count, None)
+    }
+}
+
+// Whether each value of each mask is true.
+fn all_true(masks: &[&Mask]) -> bool {
+    masks.iter().all(|mask| mask.all_true())
+}
+
+// Whether each value of each mask is false.
+fn all_false(masks: &[&Mask]) -> bool {
+    masks.iter().all(|mask| mask.all_false())
+}
+
+// The sum of the masks' lengths, if it fits.
+fn total_len(masks: &[&Mask]) -> Option<usize> {
+    let mut total: usize = 0;
+    for mask in masks {
+        total = total.checked_add(mask.len())?;
+    }
+    Some(total)
+}
+
+// The masks' values one after another, of which there are `len`, and how many are true: the masks
+// know their counts, so no value is counted again.
+fn buffer_of(len: usize, masks: &[&Mask]) -> Result<(BitBuffer, usize), AllocError> {
+    let mut buffer = BitBufferMut::with_capacity(len)?;
+    let mut true_count = 0;
+    for mask in masks {
+        append(&mut buffer, mask)?;
+        true_count += mask.true_count();
+    }
+    Ok((buffer.freeze()?, true_count))
+}
+
+fn append(buffer: &mut BitBufferMut, mask: &Mask) -> Result<(), AllocError> {
+    match mask {
+        Mask::AllTrue(len) => buffer.append_n_proved(true, *len),
+        Mask::AllFalse(len) => buffer.append_n_proved(false, *len),
+        Mask::Values(values) => buffer.append_buffer_proved(values.bit_buffer()),
+    }
+}

@@ -1,0 +1,316 @@
+// Made of `crates/vortex_mask/src/mask/values.rt` by `rust/erase`: change that, and make this anew.
+//! The values of a mask that has both true and false ones.
+
+use crate::kit::AllocError;
+use crate::kit::prelude::*;
+use crate::proved::mask_bits::BitBuffer;
+use crate::proved::vortex_mask::mask::{MaskError, MaskIter};
+use std::fmt;
+
+use std::sync::Arc;
+
+/// The values of a mask that has both true and false ones, shared: an `Rc` of [`MaskValues`].
+pub type MaskValuesRef = Arc<MaskValues>;
+
+/// A bit buffer in which some values are true and some are not, with the count of the true ones.
+///
+/// It may cache the list of the true indices, and the list of their runs.
+pub struct MaskValues {
+    buffer: BitBuffer,
+    true_count: usize,
+    indices: Option<Vec<usize>>,
+    slices: Option<Vec<(usize, usize)>>,
+}
+
+impl fmt::Debug for MaskValues {
+    fn fmt(&self, f: &mut fmt::Formatter<'_>) -> fmt::Result {
+        let true_count = self.true_count();
+        let len = self.len();
+        write!(f, "true_count={true_count}, len={len}")
+    }
+}
+
+impl MaskValues {
+    #[inline(always)]
+    pub(crate) fn new(
+        buffer: BitBuffer,
+        true_count: usize,
+        indices: Option<Vec<usize>>,
+        slices: Option<Vec<(usize, usize)>>,
+    ) -> MaskValues {
+        MaskValues { buffer, true_count, indices, slices }
+    }
+
+    /// How many values there are.
+    ///
+    /// # Proved
+    ///
+    /// - `result ≡ length (values self.now.buffer)`
+    pub fn len(&self) -> usize {
+        self.buffer.len()
+    }
+
+    /// Always false: there are at least two values.
+    ///
+    /// # Proved
+    ///
+    /// - `IsTrue result ↔ (values self.now.buffer ≡ [])`
+    pub fn is_empty(&self) -> bool {
+        self.buffer.is_empty()
+    }
+
+    /// How many values are true: at least one, and not all.
+    ///
+    /// # Proved
+    ///
+    /// - *counted*: `result ≡ count (values self.now.buffer)`
+    /// - *cached*: `result ≡ self.now.true_count`
+    /// - *some_true*: `0 < result`
+    /// - *some_false*: `result < length (values self.now.buffer)`
+    pub fn true_count(&self) -> usize {
+        self.true_count
+    }
+
+    /// The values, packed: some of them true, and some not.
+    ///
+    /// # Proved
+    ///
+    /// - *buffer*: `result.now ≡ self.now.buffer`
+    /// - *mixed*: `IsMixed result.now self.now.true_count`
+    pub fn bit_buffer(&self) -> &BitBuffer {
+        &self.buffer
+    }
+
+    /// Takes the packed values out. Their count and the cached lists are dropped.
+    ///
+    /// # Proved
+    ///
+    /// - `result ≡ self.buffer`
+    pub fn into_bit_buffer(self) -> BitBuffer {
+        let MaskValues { buffer, true_count: _, indices: _, slices: _ } = self;
+        buffer
+    }
+
+    /// Value `index`.
+    ///
+    /// # The caller owes
+    ///
+    /// - `index < length (values self.now.buffer)`
+    ///
+    /// # Proved
+    ///
+    /// - `slice_get (values self.now.buffer) index ≡ Some result`
+    #[inline]
+    #[track_caller]
+    pub fn value(&self, index: usize) -> bool {
+        crate::kit::conditions::owed(
+            index < self.buffer.len(),
+            "MaskValues::value",
+            "the condition",
+            "index < length (values self.now.buffer)",
+        );
+        self.value_proved(index)
+    }
+
+    pub(crate) fn value_proved(&self, index: usize) -> bool {
+        self.buffer.value_proved(index)
+    }
+
+    /// The true indices, ascending, if they are cached.
+    ///
+    /// # Proved
+    ///
+    /// - *cached*: `option_map (λ indices. indices.now) result ≡ self.now.caches.indices`
+    /// - *whole*: `AreOf (values self.now.buffer) self.now.caches`
+    pub fn cached_indices(&self) -> Option<&[usize]> {
+        self.indices.as_deref()
+    }
+
+    /// The runs of true indices, ascending, if they are cached.
+    ///
+    /// # Proved
+    ///
+    /// - *cached*: `option_map (λ ranges. ranges.now) result ≡ self.now.caches.ranges`
+    /// - *whole*: `AreOf (values self.now.buffer) self.now.caches`
+    pub fn cached_slices(&self) -> Option<&[(usize, usize)]> {
+        self.slices.as_deref()
+    }
+
+    // The buffer of values that somebody else may hold too.
+    pub(crate) fn buffer_of(held: MaskValuesRef) -> Result<BitBuffer, AllocError> {
+        match Arc::try_unwrap(held) {
+            Ok(own) => Ok(own.into_bit_buffer()),
+            Err(shared) => shared.bit_buffer().try_clone(),
+        }
+    }
+
+    /// The same values with the same lists cached.
+    ///
+    /// # Proved
+    ///
+    /// - *same*: `IfOk result (λ v. v ≡ self.now)`
+    /// - *refused*: `IsOkUnless result (MaskError.Memory alloc_error)`
+    pub fn try_clone(&self) -> Result<MaskValues, MaskError> {
+        Ok(MaskValues {
+            buffer: self.buffer.try_clone()?,
+            true_count: self.true_count,
+            indices: self.indices.try_clone()?,
+            slices: self.slices.try_clone()?,
+        })
+    }
+}
+
+/// Lists of the true indices, made where they are not cached yet, and cached from then on.
+///
+/// Where being out of memory refuses one, the cached lists stay as they were.
+impl MaskValues {
+    /// The true indices, ascending.
+    ///
+    /// # Proved
+    ///
+    /// - *list*: `IfOk result (λ indices. indices.now ≡ positions (values self.old.buffer))`
+    /// - *after*: `sem 𝓛 (Rests the_row self.entry (λ new. IfOk result (λ indices. new ≡ with_caches (with_indices indices.now self.old.caches) self.old) × OnErr result (new ≡ self.old)))`
+    /// - *cached*: `IsSome self.old.caches.indices → IsOk result`
+    /// - *refused*: `IsOkUnless result (MaskError.Memory alloc_error)`
+    pub fn indices(&mut self) -> Result<&[usize], MaskError> {
+        self.cache_indices()?;
+        Ok(self.lend_indices())
+    }
+
+    /// The runs of true indices, ascending. Each is its first index and the index past its
+    /// last.
+    ///
+    /// # Proved
+    ///
+    /// - *list*: `IfOk result (λ ranges. ranges.now ≡ runs (values self.old.buffer))`
+    /// - *after*: `sem 𝓛 (Rests the_row self.entry (λ new. IfOk result (λ ranges. new ≡ with_caches (with_ranges ranges.now self.old.caches) self.old) × OnErr result (new ≡ self.old)))`
+    /// - *cached*: `IsSome self.old.caches.ranges → IsOk result`
+    /// - *refused*: `IsOkUnless result (MaskError.Memory alloc_error)`
+    pub fn slices(&mut self) -> Result<&[(usize, usize)], MaskError> {
+        self.cache_slices()?;
+        Ok(self.lend_slices())
+    }
+
+    /// The ranges of `slices` where the share of true values is `num / den` or more, else the list of
+    /// `indices`. The comparison is exact.
+    ///
+    /// # The caller owes
+    ///
+    /// - `0 < den`
+    ///
+    /// # Proved
+    ///
+    /// - *threshold*: `IfOk result (λ lent. IsTrue (lends_ranges lent) ↔ ReachesShare (values self.old.buffer) num den)`
+    /// - *list*: `IfOk result (IsLentOf (values self.old.buffer))`
+    /// - *after*: `sem 𝓛 (Rests the_row self.entry (λ new. IfOk result (λ lent. new ≡ with_caches (with_list lent self.old.caches) self.old) × OnErr result (new ≡ self.old)))`
+    /// - *cached_ranges*: `ReachesShare (values self.old.buffer) num den → IsSome self.old.caches.ranges → IsOk result`
+    /// - *cached_indices*: `count (values self.old.buffer) * den < num * length (values self.old.buffer) → IsSome self.old.caches.indices → IsOk result`
+    /// - *refused*: `IsOkUnless result (MaskError.Memory alloc_error)`
+    #[inline]
+    #[track_caller]
+    pub fn threshold_iter(&mut self, num: usize, den: usize) -> Result<MaskIter<'_>, MaskError> {
+        crate::kit::conditions::owed(
+            0 < den,
+            "MaskValues::threshold_iter",
+            "the condition",
+            "0 < den",
+        );
+        self.threshold_iter_proved(num, den)
+    }
+
+    pub(crate) fn threshold_iter_proved(
+        &mut self,
+        num: usize,
+        den: usize,
+    ) -> Result<MaskIter<'_>, MaskError> {
+        if self.reaches_share(num, den) {
+            self.cache_slices()?;
+            Ok(MaskIter::Slices(self.lend_slices()))
+        } else {
+            self.cache_indices()?;
+            Ok(MaskIter::Indices(self.lend_indices()))
+        }
+    }
+
+    // Whether at least `num` of each `den` values are true.
+    pub(crate) fn reaches_share(&self, num: usize, den: usize) -> bool {
+        let true_part = self.true_count as u128 * den as u128;
+        true_part >= num as u128 * self.buffer.len() as u128
+    }
+
+    // The true indices, which are cached.
+    pub(crate) fn lend_indices(&self) -> &[usize] {
+        self.indices.as_deref().unwrap()
+    }
+
+    // The runs, which are cached.
+    pub(crate) fn lend_slices(&self) -> &[(usize, usize)] {
+        self.slices.as_deref().unwrap()
+    }
+
+    // The runs, or the true indices, which are cached.
+    pub(super) fn lend_list(&self, by_ranges: bool) -> MaskIter<'_> {
+        if by_ranges {
+            MaskIter::Slices(self.lend_slices())
+        } else {
+            MaskIter::Indices(self.lend_indices())
+        }
+    }
+
+    // Makes the list of the true indices, then caches it, where there is none.
+    pub(super) fn cache_indices(&mut self) -> Result<(), MaskError> {
+        if self.indices.is_none() {
+            self.indices = Some(self.index_list()?);
+        }
+        Ok(())
+    }
+
+    // Lets go of the cached true indices.
+    pub(super) fn drop_indices(&mut self) {
+        self.indices = None;
+    }
+
+    // Makes the list of the runs and caches it, where there is none.
+    pub(super) fn cache_slices(&mut self) -> Result<(), MaskError> {
+        if self.slices.is_none() {
+            self.slices = Some(self.runs()?);
+        }
+        Ok(())
+    }
+
+    // A clone with the true indices cached.
+    pub(super) fn with_indices(&self) -> Result<MaskValues, MaskError> {
+        let mut filled = self.try_clone()?;
+        filled.cache_indices()?;
+        Ok(filled)
+    }
+
+    // A clone that doesn't cache them.
+    pub(super) fn without_indices(&self) -> Result<MaskValues, MaskError> {
+        let mut bare = self.try_clone()?;
+        bare.drop_indices();
+        Ok(bare)
+    }
+
+    // A clone with the runs cached.
+    pub(super) fn with_slices(&self) -> Result<MaskValues, MaskError> {
+        let mut filled = self.try_clone()?;
+        filled.cache_slices()?;
+        Ok(filled)
+    }
+
+    // The true indices, in room that is made once.
+    pub(crate) fn index_list(&self) -> Result<Vec<usize>, AllocError> {
+        self.buffer.indices_proved(self.true_count)
+    }
+
+    // The runs of true indices: by a walk where few values are true, of which most words have none.
+    fn runs(&self) -> Result<Vec<(usize, usize)>, AllocError> {
+        if self.true_count < self.buffer.len() / 32 {
+            let ranges: Vec<_> = self.buffer.set_slices().collected()?;
+
+            return Ok(ranges);
+        }
+        self.buffer.runs()
+    }
+}

@@ -1,0 +1,221 @@
+// Made of the functions of `crates/vortex_mask` that have conditions by `rust/erase`: change that, and make this anew.
+//! Kernels and deposits as callers outside have them: each tests what its caller owes.
+
+use crate::kit::prelude::*;
+use crate::proved::mask_bits::*;
+use crate::proved::vortex_mask::intersect_by_rank::{self, *};
+use crate::proved::vortex_mask::*;
+
+/// The deposit at a mask with at most two set bits.
+///
+/// # The caller owes
+///
+/// - `count (word_bits mask) ≤ 2`
+///
+/// # Proved
+///
+/// - `Deposits source mask result`
+#[inline]
+#[track_caller]
+pub fn deposit_two_lowest(source: u64, mask: u64) -> u64 {
+    crate::kit::conditions::owed(
+        (mask.count_ones() as usize) <= 2,
+        "deposit_two_lowest",
+        "the condition",
+        "count (word_bits mask) ≤ 2",
+    );
+    intersect_by_rank::deposit_two_lowest(source, mask)
+}
+
+/// The deposit at a mask with at most two clear bits: from each of these on, the lowest first, the
+/// bits of the source move up by one.
+///
+/// # The caller owes
+///
+/// - `62 ≤ count (word_bits mask)`
+///
+/// # Proved
+///
+/// - `Deposits source mask result`
+#[inline]
+#[track_caller]
+pub fn deposit_two_holes(source: u64, mask: u64) -> u64 {
+    crate::kit::conditions::owed(
+        62 <= (mask.count_ones() as usize),
+        "deposit_two_holes",
+        "the condition",
+        "62 ≤ count (word_bits mask)",
+    );
+    intersect_by_rank::deposit_two_holes(source, mask)
+}
+
+/// The values of one buffer narrowed by those of another, of which `true_count` are true. Each
+/// started word of the first takes one deposit.
+///
+/// # The caller owes
+///
+/// - *fitting*: `length (values mask_buffer.now) ≡ count (values self_buffer.now)`
+/// - *counted*: `true_count ≡ count (values mask_buffer.now)`
+///
+/// # Proved
+///
+/// - *list*: `IfOk result (λ r. truth r.0 ≡ rank_intersection (values self_buffer.now) (values mask_buffer.now))`
+/// - *variant*: `IfOk result (λ r. variant r.0 ≡ fitting_variant all_false (truth r.0))`
+/// - *caches*: `IfOk result (λ r. caches r.0 ≡ no_caches)`
+/// - *steps*: `IfOk result (λ r. r.1 ≡ word_steps (values self_buffer.now) (truth r.0))`
+/// - *refused*: `IsOkUnless result (MaskError.Memory alloc_error)`
+#[inline]
+#[track_caller]
+pub fn intersect_bit_buffers<D: DepositBits>(
+    self_buffer: &BitBuffer,
+    mask_buffer: &BitBuffer,
+    true_count: usize,
+) -> Result<(Mask, Steps), MaskError> {
+    crate::kit::conditions::owed(
+        mask_buffer.len() == self_buffer.true_count(),
+        "intersect_bit_buffers",
+        "fitting",
+        "length (values mask_buffer.now) ≡ count (values self_buffer.now)",
+    );
+    crate::kit::conditions::owed(
+        true_count == mask_buffer.true_count(),
+        "intersect_bit_buffers",
+        "counted",
+        "true_count ≡ count (values mask_buffer.now)",
+    );
+    intersect_by_rank::intersect_bit_buffers::<D>(self_buffer, mask_buffer, true_count)
+}
+
+/// The mask of `len` values whose true indices are `self_indices` taken at `mask_indices`, which it
+/// caches. No word is read and none is deposited.
+///
+/// # The caller owes
+///
+/// - *self_ascending*: `IsStrictlyIncreasing self_indices.now`
+/// - *self_within*: `All (λ i. i < len) self_indices.now`
+/// - *mask_ascending*: `IsStrictlyIncreasing mask_indices.now`
+/// - *mask_within*: `All (λ k. k < length self_indices.now) mask_indices.now`
+///
+/// # Proved
+///
+/// - *len*: `IfOk result (λ r. length (truth r.0) ≡ len)`
+/// - *true_indices*: `IfOk result (λ r. positions (truth r.0) ≡ at_indices self_indices.now mask_indices.now)`
+/// - *variant*: `IfOk result (λ r. variant r.0 ≡ fitting_variant all_false (truth r.0))`
+/// - *caches*: `IfOk result (λ r. caches r.0 ≡ where_mixed r.0 (only_indices (at_indices self_indices.now mask_indices.now)))`
+/// - *steps*: `IfOk result (λ r. r.1 ≡ no_steps)`
+/// - *refused*: `IsOkUnless result (MaskError.Memory alloc_error)`
+#[inline]
+#[track_caller]
+pub fn intersect_by_rank_indices(
+    len: usize,
+    self_indices: &[usize],
+    mask_indices: &[usize],
+) -> Result<(Mask, Steps), MaskError> {
+    crate::kit::conditions::owed(
+        crate::kit::conditions::ascends(self_indices),
+        "intersect_by_rank_indices",
+        "self_ascending",
+        "IsStrictlyIncreasing self_indices.now",
+    );
+    crate::kit::conditions::owed(
+        self_indices.iter().all(|&i| i < len),
+        "intersect_by_rank_indices",
+        "self_within",
+        "All (λ i. i < len) self_indices.now",
+    );
+    crate::kit::conditions::owed(
+        crate::kit::conditions::ascends(mask_indices),
+        "intersect_by_rank_indices",
+        "mask_ascending",
+        "IsStrictlyIncreasing mask_indices.now",
+    );
+    crate::kit::conditions::owed(
+        mask_indices.iter().all(|&k| k < self_indices.len()),
+        "intersect_by_rank_indices",
+        "mask_within",
+        "All (λ k. k < length self_indices.now) mask_indices.now",
+    );
+    intersect_by_rank::intersect_by_rank_indices(len, self_indices, mask_indices)
+}
+
+/// Keeps the true values of `self_buffer` at the ranks that `mask_indices` yields, ascending,
+/// `true_count` of them. The result caches its true indices.
+///
+/// Takes one selection for each rank. A word of the buffer is read only once a rank lies past the
+/// words read so far, and none is read again, so this is the kernel for few ranks. No word is
+/// deposited.
+///
+/// # The caller owes
+///
+/// - *can*: `I.can_next mask_indices`
+/// - *ends*: `IsFinite (I.remaining mask_indices)`
+/// - *ranks*: `EachRunFrom I.next_gives mask_indices (AreRanks (count (values self_buffer.now)) true_count)`
+///
+/// # Proved
+///
+/// - *len*: `IfOk result (λ r. length (truth r.0) ≡ length (values self_buffer.now))`
+/// - *true_indices*: `IfOk result (λ r. (xs : List ℕ) × Drains I.next_gives mask_indices xs × (positions (truth r.0) ≡ at_indices (positions (values self_buffer.now)) xs))`
+/// - *whole*: `IfOk result (λ r. WholeRun I.next_gives mask_indices (λ p. positions (truth r.0) ≡ at_indices (positions (values self_buffer.now)) p.items))`
+/// - *counted*: `IfOk result (λ r. count (truth r.0) ≡ true_count)`
+/// - *variant*: `IfOk result (λ r. variant r.0 ≡ fitting_variant all_false (truth r.0))`
+/// - *caches*: `IfOk result (λ r. caches r.0 ≡ where_mixed r.0 (only_indices (positions (truth r.0))))`
+/// - *words*: `IfOk result (λ r. r.1.words ≤ started_words (length (values self_buffer.now)))`
+/// - *steps*: `IfOk result (λ r. r.1 ≡ driven_steps r.1.words true_count (positions (truth r.0)))`
+/// - *refused*: `IsOkUnless result (MaskError.Memory alloc_error)`
+#[inline]
+#[track_caller]
+pub fn intersect_mask_driven<S: SelectBit, I: Iterator<Item = usize>>(
+    self_buffer: &BitBuffer,
+    mask_indices: I,
+    true_count: usize,
+) -> Result<(Mask, Steps), MaskError> {
+    let mask_indices = crate::kit::Collect::collected(mask_indices)?;
+    crate::kit::conditions::owed(
+        crate::kit::conditions::are_ranks(&mask_indices, self_buffer.true_count(), true_count),
+        "intersect_mask_driven",
+        "ranks",
+        "EachRunFrom I.next_gives mask_indices (AreRanks (count (values self_buffer.now)) true_count)",
+    );
+    intersect_by_rank::intersect_mask_driven::<S, _>(
+        self_buffer,
+        mask_indices.into_iter(),
+        true_count,
+    )
+}
+
+/// The values of a buffer narrowed to the true ones whose numbers are `mask_indices`. Each started
+/// word of the buffer takes one deposit.
+///
+/// # The caller owes
+///
+/// - *ascending*: `IsStrictlyIncreasing mask_indices.now`
+/// - *within*: `All (λ k. k < count (values self_buffer.now)) mask_indices.now`
+///
+/// # Proved
+///
+/// - *len*: `IfOk result (λ r. length (truth r.0) ≡ length (values self_buffer.now))`
+/// - *true_indices*: `IfOk result (λ r. positions (truth r.0) ≡ at_indices (positions (values self_buffer.now)) mask_indices.now)`
+/// - *variant*: `IfOk result (λ r. variant r.0 ≡ fitting_variant all_false (truth r.0))`
+/// - *caches*: `IfOk result (λ r. caches r.0 ≡ no_caches)`
+/// - *steps*: `IfOk result (λ r. r.1 ≡ word_steps (values self_buffer.now) (truth r.0))`
+/// - *refused*: `IsOkUnless result (MaskError.Memory alloc_error)`
+#[inline]
+#[track_caller]
+pub fn intersect_bit_buffer_by_rank_indices<D: DepositBits>(
+    self_buffer: &BitBuffer,
+    mask_indices: &[usize],
+) -> Result<(Mask, Steps), MaskError> {
+    crate::kit::conditions::owed(
+        crate::kit::conditions::ascends(mask_indices),
+        "intersect_bit_buffer_by_rank_indices",
+        "ascending",
+        "IsStrictlyIncreasing mask_indices.now",
+    );
+    crate::kit::conditions::owed(
+        mask_indices.iter().all(|&k| k < self_buffer.true_count()),
+        "intersect_bit_buffer_by_rank_indices",
+        "within",
+        "All (λ k. k < count (values self_buffer.now)) mask_indices.now",
+    );
+    intersect_by_rank::intersect_bit_buffer_by_rank_indices::<D>(self_buffer, mask_indices)
+}

@@ -1,0 +1,36 @@
+//! The rows of the crates `mask_calls` and `mask_tests` on the calls of this package. As a test it makes the calls of
+//! each row that `rows.txt` has. With the argument `rows`, `sweep` or `refused` it takes rows from standard input, as the
+//! program `mask_tests` does.
+#![allow(clippy::all, clippy::pedantic, dead_code, unused_imports, unused_variables)]
+
+#[path = "../host/mod.rs"]
+mod host;
+
+mod mask_calls;
+mod refused;
+mod rows;
+mod sweep;
+
+use crate::host::{Host, HostRuntime, Kept, io};
+use std::process::ExitCode;
+
+fn main() -> ExitCode {
+    let wrong = match std::env::args().nth(1).as_deref() {
+        Some("rows") => rows::check(&HostRuntime),
+        Some("sweep") => sweep::check(&HostRuntime),
+        Some("refused") => refused::check(&HostRuntime),
+        _ => all_rows(),
+    };
+    match wrong {
+        Ok(0) => ExitCode::SUCCESS,
+        Ok(_) => ExitCode::FAILURE,
+        Err(_) => ExitCode::from(3),
+    }
+}
+
+fn all_rows() -> io::Result<usize> {
+    let kept = Kept::new(include_str!("rows.txt"));
+    let wrong = rows::check(&kept)?;
+    HostRuntime.print_line(format_args!("{}", kept.printed.borrow()))?;
+    Ok(wrong)
+}
