@@ -51,6 +51,10 @@ pub fn library_version() -> u32 {
     unsafe { declared::row_mask_version() }
 }
 
+/// How to read the contracts in this documentation, and what their words mean.
+#[doc = include_str!("definitions.md")]
+pub mod definitions {}
+
 /// Rank intersection by its parts: the kernels, the deposits and selections of a word, and which kernel is taken.
 pub mod intersect_by_rank {
     pub use crate::proved::mask_bits::extract::extract;

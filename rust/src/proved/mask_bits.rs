@@ -1,4 +1,4 @@
-// Made of `crates/mask_bits/src/lib.rt` by `rust/erase`: change that, and make this anew.
+// Made of crates/mask_bits/src/lib.rt by `rust/erase`: change that, and make this anew.
 //! Packed bits: a list of truth values, eight to a byte, at any bit offset.
 
 use crate::kit::prelude::*;

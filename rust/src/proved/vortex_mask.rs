@@ -1,4 +1,4 @@
-// Made of `crates/vortex_mask/src/lib.rt` by `rust/erase`: change that, and make this anew.
+// Made of crates/vortex_mask/src/lib.rt by `rust/erase`: change that, and make this anew.
 //! Masks: lists of truth values that say which rows are chosen, and their rank intersection.
 
 use crate::kit::prelude::*;

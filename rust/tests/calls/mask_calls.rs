@@ -1,4 +1,4 @@
-// Made of `crates/mask_calls/src/lib.rt` by `rust/erase`: change that, and make this anew.
+// Made of crates/mask_calls/src/lib.rt by `rust/erase`: change that, and make this anew.
 //! The calls of `mask_bits` and `vortex_mask` as tests make them: each at one place, of operands that a line of
 //! text can say, with an answer that is compared as text or as values.
 

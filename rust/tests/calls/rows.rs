@@ -1,4 +1,4 @@
-// Made of `crates/mask_tests/src/rows.rt` by `rust/erase`: change that, and make this anew.
+// Made of crates/mask_tests/src/rows.rt by `rust/erase`: change that, and make this anew.
 //! Each row as it stands: its calls are made once on operands that nobody else holds, and once while a clone of each is
 //! held. Operands that a call only borrows must read the same afterwards.
 

@@ -1,4 +1,4 @@
-// Made of `crates/mask_tests/src/sweep.rt` by `rust/erase`: change that, and make this anew.
+// Made of crates/mask_tests/src/sweep.rt by `rust/erase`: change that, and make this anew.
 //! Rows that stand for many. In a row `@` and `%` are put before operands, and stand for each of their forms in turn:
 //! the lines `@ FORM ..` and `% FORM ..` say which, for all rows below. So `@ 0+ 1- rows:` and `not @10110 => 01001 Values`
 //! are three calls. The name of a call may end in `&`: a clone of each operand is then held, and the operands must read the

@@ -1,4 +1,4 @@
-// Made of `crates/mask_bench/src/awkward.rt` by `rust/erase`: change that, and make this anew.
+// Made of crates/mask_bench/src/awkward.rt by `rust/erase`: change that, and make this anew.
 //! Awkward inputs: alternating and random bits, shares at the thresholds between kernels, stacks of halves, lengths
 //! with 63 left over, many masks of a few rows, and texts.
 

@@ -1,4 +1,4 @@
-// Made of `crates/mask_bench/src/bitmaps.rt` by `rust/erase`: change that, and make this anew.
+// Made of crates/mask_bench/src/bitmaps.rt by `rust/erase`: change that, and make this anew.
 //! Validity bitmaps: pages from any bit on, combined, compared and counted.
 
 use crate::calls::{bitand, bitand_not, choose_values, count_range, into_bitor};

@@ -1,4 +1,4 @@
-// Made of `crates/mask_bench/src/calls.rt` by `rust/erase`: change that, and make this anew.
+// Made of crates/mask_bench/src/calls.rt by `rust/erase`: change that, and make this anew.
 //! Calls with what they require tested first. Where it isn't met they answer `LengthOverflow`, which no job sees.
 
 use row_mask::kit::prelude::*;

@@ -1,4 +1,4 @@
-// Made of `crates/mask_bench/src/digest.rt` by `rust/erase`: change that, and make this anew.
+// Made of crates/mask_bench/src/digest.rt by `rust/erase`: change that, and make this anew.
 //! One number for all answers of a job.
 
 use row_mask::kit::prelude::*;

@@ -1,4 +1,4 @@
-// Made of `crates/mask_bench/src/groups.rt` by `rust/erase`: change that, and make this anew.
+// Made of crates/mask_bench/src/groups.rt by `rust/erase`: change that, and make this anew.
 //! Row groups, most of them all or nothing: planned by ranges, cut, limited, and put together again.
 
 use crate::calls::{bitand, slice, valid_counts};

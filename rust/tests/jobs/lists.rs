@@ -1,4 +1,4 @@
-// Made of `crates/mask_bench/src/lists.rt` by `rust/erase`: change that, and make this anew.
+// Made of crates/mask_bench/src/lists.rt by `rust/erase`: change that, and make this anew.
 //! Lists of rows: from an index, joined, deleted, and read as indices, as ranges and by walks.
 
 use crate::calls::{narrow, of_common};

@@ -1,4 +1,4 @@
-// Made of `crates/mask_bench/src/numbers.rt` by `rust/erase`: change that, and make this anew.
+// Made of crates/mask_bench/src/numbers.rt by `rust/erase`: change that, and make this anew.
 //! Numbers that inputs are made of.
 
 use row_mask::kit::prelude::*;

@@ -1,4 +1,4 @@
-// Made of `crates/mask_bench/src/pages.rt` by `rust/erase`: change that, and make this anew.
+// Made of crates/mask_bench/src/pages.rt by `rust/erase`: change that, and make this anew.
 //! A long bitmap, of which each page begins at another bit.
 
 use crate::numbers::Numbers;

@@ -1,4 +1,4 @@
-// Made of `crates/mask_bench/src/stacks.rt` by `rust/erase`: change that, and make this anew.
+// Made of crates/mask_bench/src/stacks.rt by `rust/erase`: change that, and make this anew.
 //! Stacked filters over a table: each test runs over the rows that are left, and one mask chooses from all columns.
 
 use crate::calls::{choose, narrow, narrow_all};

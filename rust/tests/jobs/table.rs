@@ -1,4 +1,4 @@
-// Made of `crates/mask_bench/src/table.rt` by `rust/erase`: change that, and make this anew.
+// Made of crates/mask_bench/src/table.rt by `rust/erase`: change that, and make this anew.
 //! A table of columns, and parts of lists.
 
 use crate::numbers::Numbers;

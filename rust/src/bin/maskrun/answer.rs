@@ -1,4 +1,4 @@
-// Made of `crates/maskrun/src/answer.rt` by `rust/erase`: change that, and make this anew.
+// Made of crates/maskrun/src/answer.rt by `rust/erase`: change that, and make this anew.
 //! What the program prints for its command line.
 
 use crate::command::Command;

@@ -1,4 +1,4 @@
-// Made of `crates/maskrun/src/argument.rt` by `rust/erase`: change that, and make this anew.
+// Made of crates/maskrun/src/argument.rt by `rust/erase`: change that, and make this anew.
 //! What the arguments of a command say, which needs no memory, and the masks that they name.
 
 use crate::error::RunError;

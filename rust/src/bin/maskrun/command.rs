@@ -1,4 +1,4 @@
-// Made of `crates/maskrun/src/command.rt` by `rust/erase`: change that, and make this anew.
+// Made of crates/maskrun/src/command.rt by `rust/erase`: change that, and make this anew.
 //! The commands: how each reads its arguments, and what it prints.
 
 use crate::argument::{

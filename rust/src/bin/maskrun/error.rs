@@ -1,4 +1,4 @@
-// Made of `crates/maskrun/src/error.rt` by `rust/erase`: change that, and make this anew.
+// Made of crates/maskrun/src/error.rt by `rust/erase`: change that, and make this anew.
 //! Why a command prints no line.
 
 use row_mask::kit::prelude::*;

@@ -1,4 +1,4 @@
-// Made of `crates/maskrun/src/print.rt` by `rust/erase`: change that, and make this anew.
+// Made of crates/maskrun/src/print.rt by `rust/erase`: change that, and make this anew.
 //! A list as it is printed.
 
 use row_mask::kit::AllocError;

@@ -1,4 +1,4 @@
-// Made of `crates/mask_bits/src/bit_iterator.rt` by `rust/erase`: change that, and make this anew.
+// Made of crates/mask_bits/src/bit_iterator.rt by `rust/erase`: change that, and make this anew.
 //! The walk over a buffer's values.
 
 use crate::kit::prelude::*;

@@ -1,4 +1,4 @@
-// Made of `crates/mask_bits/src/bitops.rt` by `rust/erase`: change that, and make this anew.
+// Made of crates/mask_bits/src/bitops.rt by `rust/erase`: change that, and make this anew.
 //! The boolean calls of buffers.
 
 use crate::kit::AllocError;
@@ -12,11 +12,11 @@ use crate::proved::mask_bits::words::started_words;
 impl BitBuffer {
     /// The values that are true in both.
     ///
-    /// # The caller owes
+    /// # The caller owes ([terms](crate::definitions))
     ///
     /// - `length (values self.now) ≡ length (values other.now)`
     ///
-    /// # Proved
+    /// # Proved ([terms](crate::definitions))
     ///
     /// - *list*: `IfOk result (λ b. values b ≡ and_of (values self.now) (values other.now))`
     /// - *len*: `IfOk result (λ b. length (values b) ≡ length (values self.now))`
@@ -26,7 +26,7 @@ impl BitBuffer {
         crate::kit::conditions::owed(
             self.len() == other.len(),
             "BitBuffer::bitand",
-            "the condition",
+            "its condition",
             "length (values self.now) ≡ length (values other.now)",
         );
         self.bitand_proved(other)
@@ -38,11 +38,11 @@ impl BitBuffer {
 
     /// The values that are true in one or in both.
     ///
-    /// # The caller owes
+    /// # The caller owes ([terms](crate::definitions))
     ///
     /// - `length (values self.now) ≡ length (values other.now)`
     ///
-    /// # Proved
+    /// # Proved ([terms](crate::definitions))
     ///
     /// - *list*: `IfOk result (λ b. values b ≡ or_of (values self.now) (values other.now))`
     /// - *len*: `IfOk result (λ b. length (values b) ≡ length (values self.now))`
@@ -52,7 +52,7 @@ impl BitBuffer {
         crate::kit::conditions::owed(
             self.len() == other.len(),
             "BitBuffer::bitor",
-            "the condition",
+            "its condition",
             "length (values self.now) ≡ length (values other.now)",
         );
         self.bitor_proved(other)
@@ -64,11 +64,11 @@ impl BitBuffer {
 
     /// The values that are true here and not in `other`.
     ///
-    /// # The caller owes
+    /// # The caller owes ([terms](crate::definitions))
     ///
     /// - `length (values self.now) ≡ length (values other.now)`
     ///
-    /// # Proved
+    /// # Proved ([terms](crate::definitions))
     ///
     /// - *list*: `IfOk result (λ b. values b ≡ and_not_of (values self.now) (values other.now))`
     /// - *len*: `IfOk result (λ b. length (values b) ≡ length (values self.now))`
@@ -78,7 +78,7 @@ impl BitBuffer {
         crate::kit::conditions::owed(
             self.len() == other.len(),
             "BitBuffer::bitand_not",
-            "the condition",
+            "its condition",
             "length (values self.now) ≡ length (values other.now)",
         );
         self.bitand_not_proved(other)
@@ -90,7 +90,7 @@ impl BitBuffer {
 
     /// The complement: each value negated.
     ///
-    /// # Proved
+    /// # Proved ([terms](crate::definitions))
     ///
     /// - *list*: `IfOk result (λ b. values b ≡ not_of (values self.now))`
     /// - *len*: `IfOk result (λ b. length (values b) ≡ length (values self.now))`
@@ -104,11 +104,11 @@ impl BitBuffer {
 impl BitBuffer {
     /// The values that are true in both.
     ///
-    /// # The caller owes
+    /// # The caller owes ([terms](crate::definitions))
     ///
     /// - `length (values self) ≡ length (values other.now)`
     ///
-    /// # Proved
+    /// # Proved ([terms](crate::definitions))
     ///
     /// - *list*: `IfOk result (λ b. values b ≡ and_of (values self) (values other.now))`
     /// - *len*: `IfOk result (λ b. length (values b) ≡ length (values self))`
@@ -118,7 +118,7 @@ impl BitBuffer {
         crate::kit::conditions::owed(
             self.len() == other.len(),
             "BitBuffer::into_bitand",
-            "the condition",
+            "its condition",
             "length (values self) ≡ length (values other.now)",
         );
         self.into_bitand_proved(other)
@@ -130,11 +130,11 @@ impl BitBuffer {
 
     /// The values that are true in one or in both.
     ///
-    /// # The caller owes
+    /// # The caller owes ([terms](crate::definitions))
     ///
     /// - `length (values self) ≡ length (values other.now)`
     ///
-    /// # Proved
+    /// # Proved ([terms](crate::definitions))
     ///
     /// - *list*: `IfOk result (λ b. values b ≡ or_of (values self) (values other.now))`
     /// - *len*: `IfOk result (λ b. length (values b) ≡ length (values self))`
@@ -144,7 +144,7 @@ impl BitBuffer {
         crate::kit::conditions::owed(
             self.len() == other.len(),
             "BitBuffer::into_bitor",
-            "the condition",
+            "its condition",
             "length (values self) ≡ length (values other.now)",
         );
         self.into_bitor_proved(other)
@@ -156,11 +156,11 @@ impl BitBuffer {
 
     /// The values that are true here and not in `other`.
     ///
-    /// # The caller owes
+    /// # The caller owes ([terms](crate::definitions))
     ///
     /// - `length (values self) ≡ length (values other.now)`
     ///
-    /// # Proved
+    /// # Proved ([terms](crate::definitions))
     ///
     /// - *list*: `IfOk result (λ b. values b ≡ and_not_of (values self) (values other.now))`
     /// - *len*: `IfOk result (λ b. length (values b) ≡ length (values self))`
@@ -170,7 +170,7 @@ impl BitBuffer {
         crate::kit::conditions::owed(
             self.len() == other.len(),
             "BitBuffer::into_bitand_not",
-            "the condition",
+            "its condition",
             "length (values self) ≡ length (values other.now)",
         );
         self.into_bitand_not_proved(other)
@@ -182,7 +182,7 @@ impl BitBuffer {
 
     /// The complement: each value negated.
     ///
-    /// # Proved
+    /// # Proved ([terms](crate::definitions))
     ///
     /// - *list*: `IfOk result (λ b. values b ≡ not_of (values self))`
     /// - *len*: `IfOk result (λ b. length (values b) ≡ length (values self))`

@@ -1,4 +1,4 @@
-// Made of `crates/mask_bits/src/blocks.rt` by `rust/erase`: change that, and make this anew.
+// Made of crates/mask_bits/src/blocks.rt by `rust/erase`: change that, and make this anew.
 //! Blocks of four words, and the indices of their set bits.
 
 use crate::kit::prelude::*;

@@ -1,4 +1,4 @@
-// Made of `crates/mask_bits/src/bools.rt` by `rust/erase`: change that, and make this anew.
+// Made of crates/mask_bits/src/bools.rt by `rust/erase`: change that, and make this anew.
 //! Truth values packed into words.
 
 use crate::kit::lanes::*;

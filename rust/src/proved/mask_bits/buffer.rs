@@ -1,4 +1,4 @@
-// Made of `crates/mask_bits/src/buffer.rt` by `rust/erase`: change that, and make this anew.
+// Made of crates/mask_bits/src/buffer.rt by `rust/erase`: change that, and make this anew.
 //! A list of truth values, packed.
 
 use crate::kit::AllocError;
@@ -26,11 +26,11 @@ pub struct BitBuffer {
 impl BitBuffer {
     /// The first `len` bits of `bytes`.
     ///
-    /// # The caller owes
+    /// # The caller owes ([terms](crate::definitions))
     ///
     /// - `len ≤ 8 * length bytes`
     ///
-    /// # Proved
+    /// # Proved ([terms](crate::definitions))
     ///
     /// - *buffer*: `result ≡ record { bytes = bytes; offset = 0; len = len }`
     /// - *len*: `length (values result) ≡ len`
@@ -40,7 +40,7 @@ impl BitBuffer {
         crate::kit::conditions::owed(
             (len as u128) <= 8 * (bytes.len() as u128),
             "BitBuffer::new",
-            "the condition",
+            "its condition",
             "len ≤ 8 * length bytes",
         );
         BitBuffer::new_proved(bytes, len)
@@ -52,12 +52,12 @@ impl BitBuffer {
 
     /// The `len` bits of `bytes` from bit position `offset` on.
     ///
-    /// # The caller owes
+    /// # The caller owes ([terms](crate::definitions))
     ///
     /// - *covered*: `offset + len ≤ 8 * length bytes`
     /// - *fits*: `offset + len < 2 ^ 64`
     ///
-    /// # Proved
+    /// # Proved ([terms](crate::definitions))
     ///
     /// - *buffer*: `result ≡ record { bytes = bytes; offset = offset; len = len }`
     /// - *len*: `length (values result) ≡ len`
@@ -85,11 +85,11 @@ impl BitBuffer {
 
     /// The first `len` bits of bytes that a caller has written.
     ///
-    /// # The caller owes
+    /// # The caller owes ([terms](crate::definitions))
     ///
     /// - `len ≤ 8 * vec_len bytes`
     ///
-    /// # Proved
+    /// # Proved ([terms](crate::definitions))
     ///
     /// - *buffer*: `IfOk result (λ b. b ≡ record { bytes = bytes.items; offset = 0; len = len })`
     /// - *len*: `IfOk result (λ b. length (values b) ≡ len)`
@@ -99,7 +99,7 @@ impl BitBuffer {
         crate::kit::conditions::owed(
             (len as u128) <= 8 * (bytes.len() as u128),
             "BitBuffer::from_vec",
-            "the condition",
+            "its condition",
             "len ≤ 8 * vec_len bytes",
         );
         BitBuffer::from_vec_proved(bytes, len)
@@ -111,7 +111,7 @@ impl BitBuffer {
 
     /// `len` true values.
     ///
-    /// # Proved
+    /// # Proved ([terms](crate::definitions))
     ///
     /// - `IfOk result (λ b. values b ≡ repeated len true)`
     pub fn new_set(len: usize) -> Result<BitBuffer, AllocError> {
@@ -121,7 +121,7 @@ impl BitBuffer {
 
     /// `len` false values.
     ///
-    /// # Proved
+    /// # Proved ([terms](crate::definitions))
     ///
     /// - `IfOk result (λ b. values b ≡ repeated len false)`
     pub fn new_unset(len: usize) -> Result<BitBuffer, AllocError> {
@@ -130,11 +130,11 @@ impl BitBuffer {
 
     /// The list of `len` values that is true exactly at `indices`, in any order and with repeats.
     ///
-    /// # The caller owes
+    /// # The caller owes ([terms](crate::definitions))
     ///
     /// - `All (λ i. i < len) indices.now`
     ///
-    /// # Proved
+    /// # Proved ([terms](crate::definitions))
     ///
     /// - `IfOk result (λ b. values b ≡ true_at len indices.now)`
     #[inline]
@@ -143,7 +143,7 @@ impl BitBuffer {
         crate::kit::conditions::owed(
             indices.iter().all(|&i| i < len),
             "BitBuffer::from_indices",
-            "the condition",
+            "its condition",
             "All (λ i. i < len) indices.now",
         );
         BitBuffer::from_indices_proved(len, indices)
@@ -162,16 +162,17 @@ impl BitBuffer {
 
     /// The values that an iterator yields, in their order.
     ///
-    /// # The caller owes
+    /// # The caller owes ([terms](crate::definitions))
     ///
     /// - *can*: `I.can_next bools`
     /// - *ends*: `UpTo (I.remaining bools) usize.MAX`
     ///
-    /// # Proved
+    /// # Proved ([terms](crate::definitions))
     ///
     /// - *items*: `IfOk result (λ b. Drains I.next_gives bools (values b))`
     /// - *whole*: `IfOk result (λ b. WholeRun I.next_gives bools (λ p. values b ≡ p.items))`
-    pub fn from_bools<I: Iterator<Item = bool>>(bools: I) -> Result<BitBuffer, AllocError> {
+    pub fn from_bools<I: IntoIterator<Item = bool>>(bools: I) -> Result<BitBuffer, AllocError> {
+        let bools = bools.into_iter();
         // listed first: a word is packed from 64 values in a row several times as fast as from an
         // iterator, which may end at each
         let bools: Vec<bool> = bools.collected()?;
@@ -186,7 +187,7 @@ impl BitBuffer {
 
     /// A buffer of the same backing bytes, at the same offset and length.
     ///
-    /// # Proved
+    /// # Proved ([terms](crate::definitions))
     ///
     /// - `IfOk result (λ b. b ≡ self.now)`
     pub fn try_clone(&self) -> Result<BitBuffer, AllocError> {
@@ -196,12 +197,12 @@ impl BitBuffer {
 
     /// The values from `start` to `end`, over the same bytes at the offset of value `start`.
     ///
-    /// # The caller owes
+    /// # The caller owes ([terms](crate::definitions))
     ///
     /// - *ordered*: `start ≤ end`
     /// - *within*: `end ≤ length (values self.now)`
     ///
-    /// # Proved
+    /// # Proved ([terms](crate::definitions))
     ///
     /// - *backing*: `IfOk result (λ b. b ≡ record self.now { offset = self.now.offset + start; len = end - start })`
     /// - *list*: `IfOk result (λ b. values b ≡ slice_range (values self.now) start end)`
@@ -225,7 +226,7 @@ impl BitBuffer {
 
     /// How many values there are.
     ///
-    /// # Proved
+    /// # Proved ([terms](crate::definitions))
     ///
     /// - `result ≡ length (values self.now)`
     pub fn len(&self) -> usize {
@@ -234,7 +235,7 @@ impl BitBuffer {
 
     /// Whether there is no value.
     ///
-    /// # Proved
+    /// # Proved ([terms](crate::definitions))
     ///
     /// - `IsTrue result ↔ (values self.now ≡ [])`
     pub fn is_empty(&self) -> bool {
@@ -243,7 +244,7 @@ impl BitBuffer {
 
     /// How many values are true.
     ///
-    /// # Proved
+    /// # Proved ([terms](crate::definitions))
     ///
     /// - *counted*: `result ≡ count (values self.now)`
     /// - *at_most*: `result ≤ length (values self.now)`
@@ -253,7 +254,7 @@ impl BitBuffer {
 
     /// How many values are false.
     ///
-    /// # Proved
+    /// # Proved ([terms](crate::definitions))
     ///
     /// - `count (values self.now) + result ≡ length (values self.now)`
     pub fn false_count(&self) -> usize {
@@ -262,12 +263,12 @@ impl BitBuffer {
 
     /// How many of the values from `start` to `end` are true.
     ///
-    /// # The caller owes
+    /// # The caller owes ([terms](crate::definitions))
     ///
     /// - *ordered*: `start ≤ end`
     /// - *within*: `end ≤ length (values self.now)`
     ///
-    /// # Proved
+    /// # Proved ([terms](crate::definitions))
     ///
     /// - *counted*: `result ≡ count (slice_range (values self.now) start end)`
     /// - *at_most*: `result ≤ end - start`
@@ -295,7 +296,7 @@ impl BitBuffer {
 
     /// The position of value 0 in the backing bytes, in bits.
     ///
-    /// # Proved
+    /// # Proved ([terms](crate::definitions))
     ///
     /// - `result ≡ self.now.offset`
     pub fn offset(&self) -> usize {
@@ -304,7 +305,7 @@ impl BitBuffer {
 
     /// The backing bytes. All values are within them.
     ///
-    /// # Proved
+    /// # Proved ([terms](crate::definitions))
     ///
     /// - *bytes*: `result.now ≡ self.now.bytes`
     /// - *within*: `IsWithinBytes self.now.bytes self.now.offset self.now.len`
@@ -339,11 +340,11 @@ impl BitBuffer {
 
     /// Value `i`.
     ///
-    /// # The caller owes
+    /// # The caller owes ([terms](crate::definitions))
     ///
     /// - `i < length (values self.now)`
     ///
-    /// # Proved
+    /// # Proved ([terms](crate::definitions))
     ///
     /// - `slice_get (values self.now) i ≡ Some result`
     #[inline]
@@ -352,7 +353,7 @@ impl BitBuffer {
         crate::kit::conditions::owed(
             i < self.len(),
             "BitBuffer::value",
-            "the condition",
+            "its condition",
             "i < length (values self.now)",
         );
         self.value_proved(i)
@@ -365,7 +366,7 @@ impl BitBuffer {
 
     /// The index of true value number `n`, counted from 0, and `None` from the true count on.
     ///
-    /// # Proved
+    /// # Proved ([terms](crate::definitions))
     ///
     /// - *index*: `result ≡ slice_get (positions (values self.now)) n`
     /// - *within*: `IfSome result (λ p. p < length (values self.now))`
@@ -375,7 +376,7 @@ impl BitBuffer {
 
     /// The index of the last true value, if there is one.
     ///
-    /// # Proved
+    /// # Proved ([terms](crate::definitions))
     ///
     /// - *index*: `result ≡ slice_get (positions (values self.now)) (count (values self.now) - 1)`
     /// - *within*: `IfSome result (λ p. p < length (values self.now))`
@@ -385,11 +386,11 @@ impl BitBuffer {
 
     /// The first index from `from` on whose value is `value`, and the length where none is.
     ///
-    /// # The caller owes
+    /// # The caller owes ([terms](crate::definitions))
     ///
     /// - `from ≤ length (values self.now)`
     ///
-    /// # Proved
+    /// # Proved ([terms](crate::definitions))
     ///
     /// - `IsFirstFrom (values self.now) from value result`
     #[inline]
@@ -398,7 +399,7 @@ impl BitBuffer {
         crate::kit::conditions::owed(
             from <= self.len(),
             "BitBuffer::first_from",
-            "the condition",
+            "its condition",
             "from ≤ length (values self.now)",
         );
         self.first_from_proved(from, value)
@@ -410,7 +411,7 @@ impl BitBuffer {
 
     /// The values in their order.
     ///
-    /// # Proved
+    /// # Proved ([terms](crate::definitions))
     ///
     /// - *list*: `result ≡ values self.now`
     /// - *in_order*: `YieldsInOrder (YieldsFirst {A = Bool} (λ s. s)) (λ s. s)`
@@ -421,7 +422,7 @@ impl BitBuffer {
 
     /// The values in words of 64, the first value lowest.
     ///
-    /// # Proved
+    /// # Proved ([terms](crate::definitions))
     ///
     /// - *list*: `result ≡ values self.now`
     /// - *fits*: `length result < 2 ^ 64`

@@ -1,4 +1,4 @@
-// Made of `crates/mask_bits/src/buffer_mut.rt` by `rust/erase`: change that, and make this anew.
+// Made of crates/mask_bits/src/buffer_mut.rt by `rust/erase`: change that, and make this anew.
 //! A builder of packed bits.
 
 use crate::kit::AllocError;
@@ -20,7 +20,7 @@ pub struct BitBufferMut {
 impl BitBufferMut {
     /// An empty list, with room for `n` bits.
     ///
-    /// # Proved
+    /// # Proved ([terms](crate::definitions))
     ///
     /// - `IfOk result (λ b. b ≡ [])`
     pub fn with_capacity(n: usize) -> Result<BitBufferMut, AllocError> {
@@ -29,7 +29,7 @@ impl BitBufferMut {
 
     /// `len` true values.
     ///
-    /// # Proved
+    /// # Proved ([terms](crate::definitions))
     ///
     /// - `IfOk result (λ b. b ≡ repeated len true)`
     pub fn new_set(len: usize) -> Result<BitBufferMut, AllocError> {
@@ -40,7 +40,7 @@ impl BitBufferMut {
 
     /// `len` false values.
     ///
-    /// # Proved
+    /// # Proved ([terms](crate::definitions))
     ///
     /// - `IfOk result (λ b. b ≡ repeated len false)`
     pub fn new_unset(len: usize) -> Result<BitBufferMut, AllocError> {
@@ -51,7 +51,7 @@ impl BitBufferMut {
 
     /// How many values there are.
     ///
-    /// # Proved
+    /// # Proved ([terms](crate::definitions))
     ///
     /// - `result ≡ length self.now`
     pub fn len(&self) -> usize {
@@ -60,11 +60,11 @@ impl BitBufferMut {
 
     /// Makes value `i` true.
     ///
-    /// # The caller owes
+    /// # The caller owes ([terms](crate::definitions))
     ///
     /// - `i < length self.old`
     ///
-    /// # Proved
+    /// # Proved ([terms](crate::definitions))
     ///
     /// - `self.new ≡ slice_set self.old i true`
     #[inline]
@@ -73,7 +73,7 @@ impl BitBufferMut {
         crate::kit::conditions::owed(
             i < self.len(),
             "BitBufferMut::set",
-            "the condition",
+            "its condition",
             "i < length self.old",
         );
         self.set_proved(i)
@@ -85,11 +85,11 @@ impl BitBufferMut {
 
     /// Makes value `i` false.
     ///
-    /// # The caller owes
+    /// # The caller owes ([terms](crate::definitions))
     ///
     /// - `i < length self.old`
     ///
-    /// # Proved
+    /// # Proved ([terms](crate::definitions))
     ///
     /// - `self.new ≡ slice_set self.old i false`
     #[inline]
@@ -98,7 +98,7 @@ impl BitBufferMut {
         crate::kit::conditions::owed(
             i < self.len(),
             "BitBufferMut::unset",
-            "the condition",
+            "its condition",
             "i < length self.old",
         );
         self.unset_proved(i)
@@ -110,11 +110,11 @@ impl BitBufferMut {
 
     /// Appends `value`, `n` times.
     ///
-    /// # The caller owes
+    /// # The caller owes ([terms](crate::definitions))
     ///
     /// - `length self.old + n < 2 ^ 64`
     ///
-    /// # Proved
+    /// # Proved ([terms](crate::definitions))
     ///
     /// - *added*: `OnOk result (self.new ≡ self.old ++ repeated n value)`
     /// - *refused*: `OnErr result (self.new ≡ self.old)`
@@ -124,7 +124,7 @@ impl BitBufferMut {
         crate::kit::conditions::owed(
             (self.len() as u128) + (n as u128) < 1 << 64,
             "BitBufferMut::append_n",
-            "the condition",
+            "its condition",
             "length self.old + n < 2 ^ 64",
         );
         self.append_n_proved(value, n)
@@ -139,11 +139,11 @@ impl BitBufferMut {
 
     /// Appends the values of a buffer, whatever its bit offset.
     ///
-    /// # The caller owes
+    /// # The caller owes ([terms](crate::definitions))
     ///
     /// - `length self.old + length (values other.now) < 2 ^ 64`
     ///
-    /// # Proved
+    /// # Proved ([terms](crate::definitions))
     ///
     /// - *added*: `OnOk result (self.new ≡ self.old ++ values other.now)`
     /// - *refused*: `OnErr result (self.new ≡ self.old)`
@@ -153,7 +153,7 @@ impl BitBufferMut {
         crate::kit::conditions::owed(
             (self.len() as u128) + (other.len() as u128) < 1 << 64,
             "BitBufferMut::append_buffer",
-            "the condition",
+            "its condition",
             "length self.old + length (values other.now) < 2 ^ 64",
         );
         self.append_buffer_proved(other)
@@ -169,12 +169,12 @@ impl BitBufferMut {
 
     /// Appends the lowest `count` bits of a word, the lowest first.
     ///
-    /// # The caller owes
+    /// # The caller owes ([terms](crate::definitions))
     ///
     /// - *few*: `count ≤ 64`
     /// - *fits*: `length self.old + count < 2 ^ 64`
     ///
-    /// # Proved
+    /// # Proved ([terms](crate::definitions))
     ///
     /// - *added*: `OnOk result (self.new ≡ self.old ++ take count (word_bits word))`
     /// - *refused*: `OnErr result (self.new ≡ self.old)`
@@ -200,7 +200,7 @@ impl BitBufferMut {
 
     /// A buffer of the same list.
     ///
-    /// # Proved
+    /// # Proved ([terms](crate::definitions))
     ///
     /// - `IfOk result (λ b. values b ≡ self)`
     pub fn freeze(self) -> Result<BitBuffer, AllocError> {

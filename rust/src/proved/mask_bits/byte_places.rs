@@ -1,4 +1,4 @@
-// Made of `crates/mask_bits/src/byte_places.rt` by `rust/erase`: change that, and make this anew.
+// Made of crates/mask_bits/src/byte_places.rt by `rust/erase`: change that, and make this anew.
 //! The places of a byte's set bits, and their indices, read from a table.
 
 use crate::kit::lanes::*;

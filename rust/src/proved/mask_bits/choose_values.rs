@@ -1,4 +1,4 @@
-// Made of `crates/mask_bits/src/choose_values.rt` by `rust/erase`: change that, and make this anew.
+// Made of crates/mask_bits/src/choose_values.rt by `rust/erase`: change that, and make this anew.
 //! The values of a list at the rows that another chooses.
 
 use crate::kit::AllocError;
@@ -13,11 +13,11 @@ impl BitBuffer {
     /// The values of `of` at the true indices of this buffer, in their order: the way back of a
     /// rank intersection. What Arrow calls to filter `of` by this buffer.
     ///
-    /// # The caller owes
+    /// # The caller owes ([terms](crate::definitions))
     ///
     /// - `length (values of.now) ≡ length (values self.now)`
     ///
-    /// # Proved
+    /// # Proved ([terms](crate::definitions))
     ///
     /// - *list*: `IfOk result (λ b. values b ≡ chosen (values of.now) (values self.now))`
     /// - *len*: `IfOk result (λ b. length (values b) ≡ count (values self.now))`
@@ -27,7 +27,7 @@ impl BitBuffer {
         crate::kit::conditions::owed(
             of.len() == self.len(),
             "BitBuffer::choose_values",
-            "the condition",
+            "its condition",
             "length (values of.now) ≡ length (values self.now)",
         );
         self.choose_values_proved(of)

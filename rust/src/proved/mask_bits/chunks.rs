@@ -1,4 +1,4 @@
-// Made of `crates/mask_bits/src/chunks.rt` by `rust/erase`: change that, and make this anew.
+// Made of crates/mask_bits/src/chunks.rt by `rust/erase`: change that, and make this anew.
 //! The words of a list, and searches by words.
 
 use crate::kit::prelude::*;
@@ -16,11 +16,11 @@ pub struct BitChunks<'a> {
 impl<'a> BitChunks<'a> {
     /// The words of `len` bits of `bytes` from bit `offset` on, without a `BitBuffer`.
     ///
-    /// # The caller owes
+    /// # The caller owes ([terms](crate::definitions))
     ///
     /// - `IsWithinBytes bytes.now offset len`
     ///
-    /// # Proved
+    /// # Proved ([terms](crate::definitions))
     ///
     /// - *list*: `result ≡ bitmap bytes.now offset len`
     /// - *len*: `length result ≡ len`
@@ -30,7 +30,7 @@ impl<'a> BitChunks<'a> {
         crate::kit::conditions::owed(
             crate::kit::conditions::are_within(bytes, offset, len),
             "BitChunks::new",
-            "the condition",
+            "its condition",
             "IsWithinBytes bytes.now offset len",
         );
         BitChunks::new_proved(bytes, offset, len)
@@ -48,7 +48,7 @@ impl<'a> BitChunks<'a> {
 
     /// How many whole words there are.
     ///
-    /// # Proved
+    /// # Proved ([terms](crate::definitions))
     ///
     /// - `result ≡ length self.now / 64`
     pub fn len(&self) -> usize {
@@ -57,11 +57,11 @@ impl<'a> BitChunks<'a> {
 
     /// Whole word `i`, whose bit `j` is value `64 * i + j`.
     ///
-    /// # The caller owes
+    /// # The caller owes ([terms](crate::definitions))
     ///
     /// - `i < length self.now / 64`
     ///
-    /// # Proved
+    /// # Proved ([terms](crate::definitions))
     ///
     /// - `word_bits result ≡ word_part self.now i`
     #[inline]
@@ -70,7 +70,7 @@ impl<'a> BitChunks<'a> {
         crate::kit::conditions::owed(
             i < (64 * self.len() + self.remainder_len()) / 64,
             "BitChunks::word",
-            "the condition",
+            "its condition",
             "i < length self.now / 64",
         );
         self.word_proved(i)
@@ -82,7 +82,7 @@ impl<'a> BitChunks<'a> {
 
     /// The whole words, in their order.
     ///
-    /// # Proved
+    /// # Proved ([terms](crate::definitions))
     ///
     /// - *parts*: `result ≡ word_parts self.now`
     /// - *in_order*: `EveryRun (YieldsFirstBy word_bits (λ s. s)) (λ p. ItemsMapTo p word_bits p.from)`
@@ -93,7 +93,7 @@ impl<'a> BitChunks<'a> {
 
     /// How many values come after the whole words: fewer than 64.
     ///
-    /// # Proved
+    /// # Proved ([terms](crate::definitions))
     ///
     /// - `result ≡ length self.now % 64`
     pub fn remainder_len(&self) -> usize {
@@ -102,7 +102,7 @@ impl<'a> BitChunks<'a> {
 
     /// The values after the whole words in the low bits, and zeros above.
     ///
-    /// # Proved
+    /// # Proved ([terms](crate::definitions))
     ///
     /// - `word_bits result ≡ padded_remainder self.now`
     pub fn remainder_bits(&self) -> u64 {
@@ -115,7 +115,7 @@ impl<'a> BitChunks<'a> {
     /// The started words, in their order: the whole words, and the remainder word where there is a
     /// remainder.
     ///
-    /// # Proved
+    /// # Proved ([terms](crate::definitions))
     ///
     /// - *parts*: `result ≡ padded_parts self.now`
     /// - *in_order*: `EveryRun (YieldsFirstBy word_bits (λ s. s)) (λ p. ItemsMapTo p word_bits p.from)`
@@ -126,7 +126,7 @@ impl<'a> BitChunks<'a> {
 
     /// The index of true value number `n`, counted from 0, and `None` from the true count on.
     ///
-    /// # Proved
+    /// # Proved ([terms](crate::definitions))
     ///
     /// - *index*: `result ≡ slice_get (positions self.now) n`
     /// - *within*: `IfSome result (λ p. p < length self.now)`
@@ -146,7 +146,7 @@ impl<'a> BitChunks<'a> {
 
     /// The index of the last true value, if there is one.
     ///
-    /// # Proved
+    /// # Proved ([terms](crate::definitions))
     ///
     /// - *index*: `result ≡ slice_get (positions self.now) (count self.now - 1)`
     /// - *within*: `IfSome result (λ p. p < length self.now)`
@@ -164,11 +164,11 @@ impl<'a> BitChunks<'a> {
 
     /// The first index from `from` on whose value is `value`, and the length where none is.
     ///
-    /// # The caller owes
+    /// # The caller owes ([terms](crate::definitions))
     ///
     /// - `from ≤ length self.now`
     ///
-    /// # Proved
+    /// # Proved ([terms](crate::definitions))
     ///
     /// - `IsFirstFrom self.now from value result`
     #[inline]
@@ -177,7 +177,7 @@ impl<'a> BitChunks<'a> {
         crate::kit::conditions::owed(
             from <= (64 * self.len() + self.remainder_len()),
             "BitChunks::first_from",
-            "the condition",
+            "its condition",
             "from ≤ length self.now",
         );
         self.first_from_proved(from, value)
@@ -213,7 +213,7 @@ impl<'a> BitChunks<'a> {
 
     /// How many words are started: the whole ones, and one more where there is a remainder.
     ///
-    /// # Proved
+    /// # Proved ([terms](crate::definitions))
     ///
     /// - *words*: `result ≡ started_words (length self.now)`
     /// - *fits*: `length self.now < 2 ^ 64`
@@ -224,11 +224,11 @@ impl<'a> BitChunks<'a> {
 
     /// Started word `i`, with zeros past the last value.
     ///
-    /// # The caller owes
+    /// # The caller owes ([terms](crate::definitions))
     ///
     /// - `i < started_words (length self.now)`
     ///
-    /// # Proved
+    /// # Proved ([terms](crate::definitions))
     ///
     /// - `word_bits result ≡ padded_part self.now i`
     #[inline]
@@ -237,7 +237,7 @@ impl<'a> BitChunks<'a> {
         crate::kit::conditions::owed(
             i < (64 * self.len() + self.remainder_len()).div_ceil(64),
             "BitChunks::started_word",
-            "the condition",
+            "its condition",
             "i < started_words (length self.now)",
         );
         self.started_word_proved(i)

@@ -1,4 +1,4 @@
-// Made of `crates/mask_bits/src/combine.rt` by `rust/erase`: change that, and make this anew.
+// Made of crates/mask_bits/src/combine.rt by `rust/erase`: change that, and make this anew.
 //! The list that an operation makes of two lists, value by value, over plain bytes.
 
 use crate::kit::prelude::*;

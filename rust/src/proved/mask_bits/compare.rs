@@ -1,4 +1,4 @@
-// Made of `crates/mask_bits/src/compare.rt` by `rust/erase`: change that, and make this anew.
+// Made of crates/mask_bits/src/compare.rt by `rust/erase`: change that, and make this anew.
 //! The true values that an operation makes of two lists: whether there is one, and how many; and whether
 //! two lists are the same. Over plain bytes.
 

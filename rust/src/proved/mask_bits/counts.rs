@@ -1,4 +1,4 @@
-// Made of `crates/mask_bits/src/counts.rt` by `rust/erase`: change that, and make this anew.
+// Made of crates/mask_bits/src/counts.rt by `rust/erase`: change that, and make this anew.
 //! How many bits of some bytes are set, counted by words.
 
 use crate::kit::prelude::*;

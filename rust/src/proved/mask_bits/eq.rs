@@ -1,4 +1,4 @@
-// Made of `crates/mask_bits/src/eq.rt` by `rust/erase`: change that, and make this anew.
+// Made of crates/mask_bits/src/eq.rt by `rust/erase`: change that, and make this anew.
 //! When two buffers are equal: they hold the same list.
 
 use crate::kit::prelude::*;

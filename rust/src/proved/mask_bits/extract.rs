@@ -1,4 +1,4 @@
-// Made of `crates/mask_bits/src/extract.rt` by `rust/erase`: change that, and make this anew.
+// Made of crates/mask_bits/src/extract.rt by `rust/erase`: change that, and make this anew.
 //! The bits of one word at the set places of another.
 //!
 //! At most two bits are taken without a branch, and a few more one after another. More of them are gathered by bytes,
@@ -17,7 +17,7 @@ const FEW: u32 = 4;
 /// zeros above them: what the instruction PEXT does. It takes about as long at each mask, and less
 /// where all places are set or at most four.
 ///
-/// # Proved
+/// # Proved ([terms](crate::definitions))
 ///
 /// - `Extracts source mask result`
 #[inline]

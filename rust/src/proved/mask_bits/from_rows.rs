@@ -1,4 +1,4 @@
-// Made of `crates/mask_bits/src/from_rows.rt` by `rust/erase`: change that, and make this anew.
+// Made of crates/mask_bits/src/from_rows.rt by `rust/erase`: change that, and make this anew.
 //! Buffers of what a test answers of each row.
 
 use crate::kit::AllocError;
@@ -11,11 +11,11 @@ impl BitBuffer {
     /// What a test answers of each row, in their order: value `i` is its answer of row `i`. The
     /// answers are packed as they come, 64 to a word, and are listed nowhere else.
     ///
-    /// # The caller owes
+    /// # The caller owes ([terms](crate::definitions))
     ///
     /// - `F.IsAlwaysCallable test`
     ///
-    /// # Proved
+    /// # Proved ([terms](crate::definitions))
     ///
     /// - *answers*: `IfOk result (λ b. AreAnswers (FnReturnsAt F.Fn test) rows.now (values b))`
     /// - *list*: `IfOk result (λ b. AreAsComputed (F.post test) rows.now (values b))`

@@ -1,4 +1,4 @@
-// Made of `crates/mask_bits/src/read_word.rt` by `rust/erase`: change that, and make this anew.
+// Made of crates/mask_bits/src/read_word.rt by `rust/erase`: change that, and make this anew.
 //! Ways to read the words of a list that begins at some bit of some bytes.
 //!
 //! A loop that is generic over the way compiles to one that tests nothing per word.

@@ -1,4 +1,4 @@
-// Made of `crates/mask_bits/src/room.rt` by `rust/erase`: change that, and make this anew.
+// Made of crates/mask_bits/src/room.rt by `rust/erase`: change that, and make this anew.
 //! Room that was made before items are put into it: a list's own, or the front of a slice that a caller lends.
 
 use crate::kit::prelude::*;

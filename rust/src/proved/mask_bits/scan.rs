@@ -1,4 +1,4 @@
-// Made of `crates/mask_bits/src/scan.rt` by `rust/erase`: change that, and make this anew.
+// Made of crates/mask_bits/src/scan.rt by `rust/erase`: change that, and make this anew.
 //! Words of a walk by the started words of a list: the first one, and the next of which something is left.
 
 use crate::kit::prelude::*;

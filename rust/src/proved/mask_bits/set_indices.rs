@@ -1,4 +1,4 @@
-// Made of `crates/mask_bits/src/set_indices.rt` by `rust/erase`: change that, and make this anew.
+// Made of crates/mask_bits/src/set_indices.rt by `rust/erase`: change that, and make this anew.
 //! The indices of a buffer's true values: their list, and the walk over them.
 
 use crate::kit::AllocError;
@@ -12,7 +12,7 @@ use crate::proved::mask_bits::word_indices::push_indices;
 impl BitBuffer {
     /// The indices of the true values, ascending.
     ///
-    /// # Proved
+    /// # Proved ([terms](crate::definitions))
     ///
     /// - *indices*: `result ≡ positions (values self.now)`
     /// - *in_order*: `YieldsInOrder (YieldsFirst {A = ℕ} (λ s. s)) (λ s. s)`
@@ -27,11 +27,11 @@ impl BitBuffer {
     ///
     /// It takes less time than to collect `set_indices`.
     ///
-    /// # The caller owes
+    /// # The caller owes ([terms](crate::definitions))
     ///
     /// - `true_count ≡ count (values self.now)`
     ///
-    /// # Proved
+    /// # Proved ([terms](crate::definitions))
     ///
     /// - `IfOk result (λ indices. indices.items ≡ positions (values self.now))`
     #[inline]
@@ -40,7 +40,7 @@ impl BitBuffer {
         crate::kit::conditions::owed(
             true_count == self.true_count(),
             "BitBuffer::indices",
-            "the condition",
+            "its condition",
             "true_count ≡ count (values self.now)",
         );
         self.indices_proved(true_count)

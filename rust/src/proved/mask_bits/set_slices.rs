@@ -1,4 +1,4 @@
-// Made of `crates/mask_bits/src/set_slices.rt` by `rust/erase`: change that, and make this anew.
+// Made of crates/mask_bits/src/set_slices.rt by `rust/erase`: change that, and make this anew.
 //! The runs of a buffer's true values: their list, and the walk over them.
 
 use crate::kit::AllocError;
@@ -11,7 +11,7 @@ impl BitBuffer {
     /// The runs (maximal ranges) of true values, ascending, each by its first index and the index past its
     /// last.
     ///
-    /// # Proved
+    /// # Proved ([terms](crate::definitions))
     ///
     /// - *runs*: `AreRuns (values self.now) result`
     /// - *in_order*: `YieldsInOrder (YieldsFirst {A = ℕ × ℕ} (λ s. s)) (λ s. s)`
@@ -25,7 +25,7 @@ impl BitBuffer {
     ///
     /// It takes less time than to collect `set_slices`.
     ///
-    /// # Proved
+    /// # Proved ([terms](crate::definitions))
     ///
     /// - `IfOk result (λ ranges. ranges.items ≡ runs (values self.now))`
     pub fn runs(&self) -> Result<Vec<(usize, usize)>, AllocError> {

@@ -1,4 +1,4 @@
-// Made of `crates/mask_bits/src/word_indices.rt` by `rust/erase`: change that, and make this anew.
+// Made of crates/mask_bits/src/word_indices.rt by `rust/erase`: change that, and make this anew.
 //! The indices of the set bits of a word, put into room that was made for them.
 
 use crate::kit::prelude::*;

@@ -1,4 +1,4 @@
-// Made of `crates/mask_bits/src/word_items.rt` by `rust/erase`: change that, and make this anew.
+// Made of crates/mask_bits/src/word_items.rt by `rust/erase`: change that, and make this anew.
 //! What the set bits of a word yield, put into room that was made for it: one after another, or several at a
 //! time.
 //!

@@ -1,4 +1,4 @@
-// Made of `crates/mask_bits/src/word_rows.rt` by `rust/erase`: change that, and make this anew.
+// Made of crates/mask_bits/src/word_rows.rt by `rust/erase`: change that, and make this anew.
 //! The rows at the set bits of a word.
 
 use crate::kit::prelude::*;

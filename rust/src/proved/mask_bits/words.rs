@@ -1,4 +1,4 @@
-// Made of `crates/mask_bits/src/words.rt` by `rust/erase`: change that, and make this anew.
+// Made of crates/mask_bits/src/words.rt by `rust/erase`: change that, and make this anew.
 //! Words of 64 bits of some bytes: read, written, and made of two neighbors.
 
 use crate::kit::prelude::*;

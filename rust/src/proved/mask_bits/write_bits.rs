@@ -1,4 +1,4 @@
-// Made of `crates/mask_bits/src/write_bits.rt` by `rust/erase`: change that, and make this anew.
+// Made of crates/mask_bits/src/write_bits.rt by `rust/erase`: change that, and make this anew.
 //! Bits written to bytes: one bit, a word, one value many times, or bits of other bytes.
 
 use crate::kit::prelude::*;

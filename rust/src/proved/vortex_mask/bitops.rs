@@ -1,4 +1,4 @@
-// Made of `crates/vortex_mask/src/bitops.rt` by `rust/erase`: change that, and make this anew.
+// Made of crates/vortex_mask/src/bitops.rt by `rust/erase`: change that, and make this anew.
 //! The boolean calls of masks.
 
 use crate::kit::prelude::*;
@@ -10,11 +10,11 @@ use crate::proved::vortex_mask::mask::{Mask, MaskError, MaskValues};
 impl Mask {
     /// The values that are true in both.
     ///
-    /// # The caller owes
+    /// # The caller owes ([terms](crate::definitions))
     ///
     /// - `length (truth self.now) ≡ length (truth other.now)`
     ///
-    /// # Proved
+    /// # Proved ([terms](crate::definitions))
     ///
     /// - *list*: `IfOk result (λ m. truth m ≡ and_of (truth self.now) (truth other.now))`
     /// - *len*: `IfOk result (λ m. length (truth m) ≡ length (truth self.now))`
@@ -29,7 +29,7 @@ impl Mask {
         crate::kit::conditions::owed(
             self.len() == other.len(),
             "Mask::bitand",
-            "the condition",
+            "its condition",
             "length (truth self.now) ≡ length (truth other.now)",
         );
         self.bitand_proved(other)
@@ -49,11 +49,11 @@ impl Mask {
 
     /// The values that are true in one or in both.
     ///
-    /// # The caller owes
+    /// # The caller owes ([terms](crate::definitions))
     ///
     /// - `length (truth self.now) ≡ length (truth other.now)`
     ///
-    /// # Proved
+    /// # Proved ([terms](crate::definitions))
     ///
     /// - *list*: `IfOk result (λ m. truth m ≡ or_of (truth self.now) (truth other.now))`
     /// - *len*: `IfOk result (λ m. length (truth m) ≡ length (truth self.now))`
@@ -68,7 +68,7 @@ impl Mask {
         crate::kit::conditions::owed(
             self.len() == other.len(),
             "Mask::bitor",
-            "the condition",
+            "its condition",
             "length (truth self.now) ≡ length (truth other.now)",
         );
         self.bitor_proved(other)
@@ -88,7 +88,7 @@ impl Mask {
 
     /// The complement: each value negated.
     ///
-    /// # Proved
+    /// # Proved ([terms](crate::definitions))
     ///
     /// - *list*: `IfOk result (λ m. truth m ≡ not_of (truth self.now))`
     /// - *len*: `IfOk result (λ m. length (truth m) ≡ length (truth self.now))`
@@ -110,11 +110,11 @@ impl Mask {
 
     /// The values that are true here and not in `other`: `bitand_not` of a mask that is only lent.
     ///
-    /// # The caller owes
+    /// # The caller owes ([terms](crate::definitions))
     ///
     /// - `length (truth self.now) ≡ length (truth other.now)`
     ///
-    /// # Proved
+    /// # Proved ([terms](crate::definitions))
     ///
     /// - *list*: `IfOk result (λ m. truth m ≡ and_not_of (truth self.now) (truth other.now))`
     /// - *len*: `IfOk result (λ m. length (truth m) ≡ length (truth self.now))`
@@ -129,7 +129,7 @@ impl Mask {
         crate::kit::conditions::owed(
             self.len() == other.len(),
             "Mask::to_bitand_not",
-            "the condition",
+            "its condition",
             "length (truth self.now) ≡ length (truth other.now)",
         );
         self.to_bitand_not_proved(other)
@@ -154,11 +154,11 @@ impl Mask {
 impl Mask {
     /// The values that are true in both.
     ///
-    /// # The caller owes
+    /// # The caller owes ([terms](crate::definitions))
     ///
     /// - `length (truth self) ≡ length (truth other.now)`
     ///
-    /// # Proved
+    /// # Proved ([terms](crate::definitions))
     ///
     /// - *list*: `IfOk result (λ m. truth m ≡ and_of (truth self) (truth other.now))`
     /// - *len*: `IfOk result (λ m. length (truth m) ≡ length (truth self))`
@@ -174,7 +174,7 @@ impl Mask {
         crate::kit::conditions::owed(
             self.len() == other.len(),
             "Mask::into_bitand",
-            "the condition",
+            "its condition",
             "length (truth self) ≡ length (truth other.now)",
         );
         self.into_bitand_proved(other)
@@ -195,11 +195,11 @@ impl Mask {
 
     /// The values that are true in one or in both.
     ///
-    /// # The caller owes
+    /// # The caller owes ([terms](crate::definitions))
     ///
     /// - `length (truth self) ≡ length (truth other.now)`
     ///
-    /// # Proved
+    /// # Proved ([terms](crate::definitions))
     ///
     /// - *list*: `IfOk result (λ m. truth m ≡ or_of (truth self) (truth other.now))`
     /// - *len*: `IfOk result (λ m. length (truth m) ≡ length (truth self))`
@@ -215,7 +215,7 @@ impl Mask {
         crate::kit::conditions::owed(
             self.len() == other.len(),
             "Mask::into_bitor",
-            "the condition",
+            "its condition",
             "length (truth self) ≡ length (truth other.now)",
         );
         self.into_bitor_proved(other)
@@ -236,7 +236,7 @@ impl Mask {
 
     /// The complement: each value negated.
     ///
-    /// # Proved
+    /// # Proved ([terms](crate::definitions))
     ///
     /// - *list*: `IfOk result (λ m. truth m ≡ not_of (truth self))`
     /// - *len*: `IfOk result (λ m. length (truth m) ≡ length (truth self))`
@@ -257,11 +257,11 @@ impl Mask {
 
     /// The values that are true here and not in `other`.
     ///
-    /// # The caller owes
+    /// # The caller owes ([terms](crate::definitions))
     ///
     /// - `length (truth self) ≡ length (truth other.now)`
     ///
-    /// # Proved
+    /// # Proved ([terms](crate::definitions))
     ///
     /// - *list*: `IfOk result (λ m. truth m ≡ and_not_of (truth self) (truth other.now))`
     /// - *len*: `IfOk result (λ m. length (truth m) ≡ length (truth self))`
@@ -277,7 +277,7 @@ impl Mask {
         crate::kit::conditions::owed(
             self.len() == other.len(),
             "Mask::bitand_not",
-            "the condition",
+            "its condition",
             "length (truth self) ≡ length (truth other.now)",
         );
         self.bitand_not_proved(other)

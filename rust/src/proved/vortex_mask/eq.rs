@@ -1,4 +1,4 @@
-// Made of `crates/vortex_mask/src/eq.rt` by `rust/erase`: change that, and make this anew.
+// Made of crates/vortex_mask/src/eq.rt by `rust/erase`: change that, and make this anew.
 //! When two masks are equal, and a mask and a buffer: they hold the same list.
 
 use crate::kit::prelude::*;
@@ -18,7 +18,7 @@ impl Eq for Mask {}
 impl Mask {
     /// Whether these are the values of a buffer.
     ///
-    /// # Proved
+    /// # Proved ([terms](crate::definitions))
     ///
     /// - `IsTrue result ↔ (truth self.now ≡ values buffer.now)`
     pub fn equals_buffer(&self, buffer: &BitBuffer) -> bool {

@@ -1,4 +1,4 @@
-// Made of `crates/vortex_mask/src/intersect_by_rank.rt` by `rust/erase`: change that, and make this anew.
+// Made of crates/vortex_mask/src/intersect_by_rank.rt by `rust/erase`: change that, and make this anew.
 //! Rank intersection: a mask narrowed by a mask over its true values.
 
 use crate::kit::prelude::*;
@@ -34,11 +34,11 @@ impl Mask {
     /// The mask in which the true values of this one are narrowed by a mask over them: true value
     /// number `k` stays true exactly where value `k` of `mask` is true.
     ///
-    /// # The caller owes
+    /// # The caller owes ([terms](crate::definitions))
     ///
     /// - `length (truth mask.now) ≡ count (truth self.now)`
     ///
-    /// # Proved
+    /// # Proved ([terms](crate::definitions))
     ///
     /// - *len*: `IfOk result (λ m. length (truth m) ≡ length (truth self.now))`
     /// - *true_indices*: `IfOk result (λ m. positions (truth m) ≡ at_indices (positions (truth self.now)) (positions (truth mask.now)))`
@@ -54,7 +54,7 @@ impl Mask {
         crate::kit::conditions::owed(
             mask.len() == self.true_count(),
             "Mask::intersect_by_rank",
-            "the condition",
+            "its condition",
             "length (truth mask.now) ≡ count (truth self.now)",
         );
         self.intersect_by_rank_proved(mask)
@@ -67,11 +67,11 @@ impl Mask {
     /// The mask of `intersect_by_rank`, with the steps that its kernel takes. No step is counted
     /// where no kernel runs: where a side is all true or all false.
     ///
-    /// # The caller owes
+    /// # The caller owes ([terms](crate::definitions))
     ///
     /// - `length (truth mask.now) ≡ count (truth self.now)`
     ///
-    /// # Proved
+    /// # Proved ([terms](crate::definitions))
     ///
     /// - *len*: `IfOk result (λ r. length (truth r.0) ≡ length (truth self.now))`
     /// - *true_indices*: `IfOk result (λ r. positions (truth r.0) ≡ at_indices (positions (truth self.now)) (positions (truth mask.now)))`
@@ -88,7 +88,7 @@ impl Mask {
         crate::kit::conditions::owed(
             mask.len() == self.true_count(),
             "Mask::intersect_by_rank_counted",
-            "the condition",
+            "its condition",
             "length (truth mask.now) ≡ count (truth self.now)",
         );
         self.intersect_by_rank_counted_proved(mask)
@@ -114,11 +114,11 @@ impl Mask {
     /// runs. Which lists of its true indices the result of one mask or more caches is
     /// left open: it depends on each step.
     ///
-    /// # The caller owes
+    /// # The caller owes ([terms](crate::definitions))
     ///
     /// - `IsStack (truth self.now ∷ map truth masks.now)`
     ///
-    /// # Proved
+    /// # Proved ([terms](crate::definitions))
     ///
     /// - *len*: `IfOk result (λ m. length (truth m) ≡ length (truth self.now))`
     /// - *list*: `IfOk result (λ m. truth m ≡ folded_left (truth self.now ∷ map truth masks.now))`
@@ -133,7 +133,7 @@ impl Mask {
         crate::kit::conditions::owed(
             crate::kit::conditions::are_a_stack(self, masks),
             "Mask::intersect_all_by_rank",
-            "the condition",
+            "its condition",
             "IsStack (truth self.now ∷ map truth masks.now)",
         );
         self.intersect_all_by_rank_proved(masks)

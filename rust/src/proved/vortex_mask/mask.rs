@@ -1,4 +1,4 @@
-// Made of `crates/vortex_mask/src/mask.rt` by `rust/erase`: change that, and make this anew.
+// Made of crates/vortex_mask/src/mask.rt by `rust/erase`: change that, and make this anew.
 //! Masks: lists of truth values that say which rows are chosen.
 
 use crate::kit::prelude::*;
@@ -78,7 +78,7 @@ impl fmt::Display for Mask {
 impl Mask {
     /// `len` values, each of them `value`.
     ///
-    /// # Proved
+    /// # Proved ([terms](crate::definitions))
     ///
     /// - `result ≡ (if value then Mask.AllTrue len else Mask.AllFalse len)`
     pub fn new(len: usize, value: bool) -> Mask {
@@ -87,7 +87,7 @@ impl Mask {
 
     /// `len` true values.
     ///
-    /// # Proved
+    /// # Proved ([terms](crate::definitions))
     ///
     /// - `result ≡ Mask.AllTrue len`
     pub fn new_true(len: usize) -> Mask {
@@ -96,7 +96,7 @@ impl Mask {
 
     /// `len` false values.
     ///
-    /// # Proved
+    /// # Proved ([terms](crate::definitions))
     ///
     /// - `result ≡ Mask.AllFalse len`
     pub fn new_false(len: usize) -> Mask {
@@ -105,7 +105,7 @@ impl Mask {
 
     /// The same mask, with the lists that this one has cached.
     ///
-    /// # Proved
+    /// # Proved ([terms](crate::definitions))
     ///
     /// - *list*: `IfOk result (λ m. truth m ≡ truth self.now)`
     /// - *variant*: `IfOk result (λ m. variant m ≡ variant self.now)`
@@ -123,7 +123,7 @@ impl Mask {
 
     /// Becomes `AllFalse(0)`. The old values are dropped.
     ///
-    /// # Proved
+    /// # Proved ([terms](crate::definitions))
     ///
     /// - `self.new ≡ Mask.AllFalse 0`
     pub fn clear(&mut self) {
@@ -135,7 +135,7 @@ impl Mask {
 impl Mask {
     /// How many values there are.
     ///
-    /// # Proved
+    /// # Proved ([terms](crate::definitions))
     ///
     /// - `result ≡ length (truth self.now)`
     pub fn len(&self) -> usize {
@@ -147,7 +147,7 @@ impl Mask {
 
     /// Whether there is no value.
     ///
-    /// # Proved
+    /// # Proved ([terms](crate::definitions))
     ///
     /// - `IsTrue result ↔ (truth self.now ≡ [])`
     pub fn is_empty(&self) -> bool {
@@ -156,7 +156,7 @@ impl Mask {
 
     /// How many values are true.
     ///
-    /// # Proved
+    /// # Proved ([terms](crate::definitions))
     ///
     /// - *counted*: `result ≡ count (truth self.now)`
     /// - *at_most*: `result ≤ length (truth self.now)`
@@ -170,7 +170,7 @@ impl Mask {
 
     /// How many values are false.
     ///
-    /// # Proved
+    /// # Proved ([terms](crate::definitions))
     ///
     /// - `count (truth self.now) + result ≡ length (truth self.now)`
     pub fn false_count(&self) -> usize {
@@ -179,7 +179,7 @@ impl Mask {
 
     /// Whether each value is true, as of an empty mask.
     ///
-    /// # Proved
+    /// # Proved ([terms](crate::definitions))
     ///
     /// - `IsTrue result ↔ All (λ v. v ≡ true) (truth self.now)`
     pub fn all_true(&self) -> bool {
@@ -188,7 +188,7 @@ impl Mask {
 
     /// Whether each value is false, as of an empty mask.
     ///
-    /// # Proved
+    /// # Proved ([terms](crate::definitions))
     ///
     /// - `IsTrue result ↔ All (λ v. v ≡ false) (truth self.now)`
     pub fn all_false(&self) -> bool {
@@ -197,11 +197,11 @@ impl Mask {
 
     /// Value `index`.
     ///
-    /// # The caller owes
+    /// # The caller owes ([terms](crate::definitions))
     ///
     /// - `index < length (truth self.now)`
     ///
-    /// # Proved
+    /// # Proved ([terms](crate::definitions))
     ///
     /// - `slice_get (truth self.now) index ≡ Some result`
     #[inline]
@@ -210,7 +210,7 @@ impl Mask {
         crate::kit::conditions::owed(
             index < self.len(),
             "Mask::value",
-            "the condition",
+            "its condition",
             "index < length (truth self.now)",
         );
         self.value_proved(index)
@@ -226,11 +226,11 @@ impl Mask {
 
     /// The index of true value number `n`, counted from 0.
     ///
-    /// # The caller owes
+    /// # The caller owes ([terms](crate::definitions))
     ///
     /// - `n < count (truth self.now)`
     ///
-    /// # Proved
+    /// # Proved ([terms](crate::definitions))
     ///
     /// - *index*: `slice_get (positions (truth self.now)) n ≡ Some result`
     /// - *within*: `result < length (truth self.now)`
@@ -240,7 +240,7 @@ impl Mask {
         crate::kit::conditions::owed(
             n < self.true_count(),
             "Mask::rank",
-            "the condition",
+            "its condition",
             "n < count (truth self.now)",
         );
         self.rank_proved(n)
@@ -256,7 +256,7 @@ impl Mask {
 
     /// The mixed values, or `None` where the mask is all true or all false.
     ///
-    /// # Proved
+    /// # Proved ([terms](crate::definitions))
     ///
     /// - `option_copied result ≡ contents self.now`
     pub fn values(&self) -> Option<&MaskValues> {
@@ -271,12 +271,12 @@ impl Mask {
 impl Mask {
     /// How many of the values from `start` to `end` are true.
     ///
-    /// # The caller owes
+    /// # The caller owes ([terms](crate::definitions))
     ///
     /// - *ordered*: `start ≤ end`
     /// - *within*: `end ≤ length (truth self.now)`
     ///
-    /// # Proved
+    /// # Proved ([terms](crate::definitions))
     ///
     /// - *counted*: `result ≡ count (slice_range (truth self.now) start end)`
     /// - *at_most*: `result ≤ end - start`
@@ -306,7 +306,7 @@ impl Mask {
 impl Mask {
     /// The index of the first true value, if there is one.
     ///
-    /// # Proved
+    /// # Proved ([terms](crate::definitions))
     ///
     /// - *index*: `result ≡ slice_get (positions (truth self.now)) 0`
     /// - *within*: `IfSome result (λ p. p < length (truth self.now))`
@@ -320,7 +320,7 @@ impl Mask {
 
     /// The index of the last true value, if there is one.
     ///
-    /// # Proved
+    /// # Proved ([terms](crate::definitions))
     ///
     /// - *index*: `result ≡ slice_get (positions (truth self.now)) (count (truth self.now) - 1)`
     /// - *within*: `IfSome result (λ p. p < length (truth self.now))`
@@ -335,12 +335,12 @@ impl Mask {
     /// For each index the number of true values below it. Values are counted once for all indices,
     /// up to the last of them.
     ///
-    /// # The caller owes
+    /// # The caller owes ([terms](crate::definitions))
     ///
     /// - *ascending*: `IsNonDecreasing indices.now`
     /// - *within*: `All (λ i. i ≤ length (truth self.now)) indices.now`
     ///
-    /// # Proved
+    /// # Proved ([terms](crate::definitions))
     ///
     /// - *counts*: `IfOk result (λ v. v.items ≡ map (count_below (truth self.now)) indices.now)`
     /// - *refused*: `IsOkUnless result (MaskError.Memory alloc_error)`

@@ -1,18 +1,18 @@
-// Made of the functions of `crates/vortex_mask` that have conditions by `rust/erase`: change that, and make this anew.
+// Made of functions that have conditions by `rust/erase`: change that, and make this anew.
 //! Kernels and deposits as callers outside have them: each tests what its caller owes.
 
 use crate::kit::prelude::*;
-use crate::proved::mask_bits::*;
-use crate::proved::vortex_mask::intersect_by_rank::{self, *};
-use crate::proved::vortex_mask::*;
+use crate::proved::mask_bits::BitBuffer;
+use crate::proved::vortex_mask::intersect_by_rank::{self as inner, DepositBits, SelectBit, Steps};
+use crate::proved::vortex_mask::{Mask, MaskError};
 
 /// The deposit at a mask with at most two set bits.
 ///
-/// # The caller owes
+/// # The caller owes ([terms](crate::definitions))
 ///
 /// - `count (word_bits mask) ≤ 2`
 ///
-/// # Proved
+/// # Proved ([terms](crate::definitions))
 ///
 /// - `Deposits source mask result`
 #[inline]
@@ -21,20 +21,20 @@ pub fn deposit_two_lowest(source: u64, mask: u64) -> u64 {
     crate::kit::conditions::owed(
         (mask.count_ones() as usize) <= 2,
         "deposit_two_lowest",
-        "the condition",
+        "its condition",
         "count (word_bits mask) ≤ 2",
     );
-    intersect_by_rank::deposit_two_lowest(source, mask)
+    inner::deposit_two_lowest(source, mask)
 }
 
 /// The deposit at a mask with at most two clear bits: from each of these on, the lowest first, the
 /// bits of the source move up by one.
 ///
-/// # The caller owes
+/// # The caller owes ([terms](crate::definitions))
 ///
 /// - `62 ≤ count (word_bits mask)`
 ///
-/// # Proved
+/// # Proved ([terms](crate::definitions))
 ///
 /// - `Deposits source mask result`
 #[inline]
@@ -43,21 +43,21 @@ pub fn deposit_two_holes(source: u64, mask: u64) -> u64 {
     crate::kit::conditions::owed(
         62 <= (mask.count_ones() as usize),
         "deposit_two_holes",
-        "the condition",
+        "its condition",
         "62 ≤ count (word_bits mask)",
     );
-    intersect_by_rank::deposit_two_holes(source, mask)
+    inner::deposit_two_holes(source, mask)
 }
 
 /// The values of one buffer narrowed by those of another, of which `true_count` are true. Each
 /// started word of the first takes one deposit.
 ///
-/// # The caller owes
+/// # The caller owes ([terms](crate::definitions))
 ///
 /// - *fitting*: `length (values mask_buffer.now) ≡ count (values self_buffer.now)`
 /// - *counted*: `true_count ≡ count (values mask_buffer.now)`
 ///
-/// # Proved
+/// # Proved ([terms](crate::definitions))
 ///
 /// - *list*: `IfOk result (λ r. truth r.0 ≡ rank_intersection (values self_buffer.now) (values mask_buffer.now))`
 /// - *variant*: `IfOk result (λ r. variant r.0 ≡ fitting_variant all_false (truth r.0))`
@@ -83,20 +83,20 @@ pub fn intersect_bit_buffers<D: DepositBits>(
         "counted",
         "true_count ≡ count (values mask_buffer.now)",
     );
-    intersect_by_rank::intersect_bit_buffers::<D>(self_buffer, mask_buffer, true_count)
+    inner::intersect_bit_buffers::<D>(self_buffer, mask_buffer, true_count)
 }
 
 /// The mask of `len` values whose true indices are `self_indices` taken at `mask_indices`, which it
 /// caches. No word is read and none is deposited.
 ///
-/// # The caller owes
+/// # The caller owes ([terms](crate::definitions))
 ///
 /// - *self_ascending*: `IsStrictlyIncreasing self_indices.now`
 /// - *self_within*: `All (λ i. i < len) self_indices.now`
 /// - *mask_ascending*: `IsStrictlyIncreasing mask_indices.now`
 /// - *mask_within*: `All (λ k. k < length self_indices.now) mask_indices.now`
 ///
-/// # Proved
+/// # Proved ([terms](crate::definitions))
 ///
 /// - *len*: `IfOk result (λ r. length (truth r.0) ≡ len)`
 /// - *true_indices*: `IfOk result (λ r. positions (truth r.0) ≡ at_indices self_indices.now mask_indices.now)`
@@ -135,7 +135,7 @@ pub fn intersect_by_rank_indices(
         "mask_within",
         "All (λ k. k < length self_indices.now) mask_indices.now",
     );
-    intersect_by_rank::intersect_by_rank_indices(len, self_indices, mask_indices)
+    inner::intersect_by_rank_indices(len, self_indices, mask_indices)
 }
 
 /// Keeps the true values of `self_buffer` at the ranks that `mask_indices` yields, ascending,
@@ -145,13 +145,13 @@ pub fn intersect_by_rank_indices(
 /// words read so far, and none is read again, so this is the kernel for few ranks. No word is
 /// deposited.
 ///
-/// # The caller owes
+/// # The caller owes ([terms](crate::definitions))
 ///
 /// - *can*: `I.can_next mask_indices`
 /// - *ends*: `IsFinite (I.remaining mask_indices)`
 /// - *ranks*: `EachRunFrom I.next_gives mask_indices (AreRanks (count (values self_buffer.now)) true_count)`
 ///
-/// # Proved
+/// # Proved ([terms](crate::definitions))
 ///
 /// - *len*: `IfOk result (λ r. length (truth r.0) ≡ length (values self_buffer.now))`
 /// - *true_indices*: `IfOk result (λ r. (xs : List ℕ) × Drains I.next_gives mask_indices xs × (positions (truth r.0) ≡ at_indices (positions (values self_buffer.now)) xs))`
@@ -164,34 +164,30 @@ pub fn intersect_by_rank_indices(
 /// - *refused*: `IsOkUnless result (MaskError.Memory alloc_error)`
 #[inline]
 #[track_caller]
-pub fn intersect_mask_driven<S: SelectBit, I: Iterator<Item = usize>>(
+pub fn intersect_mask_driven<S: SelectBit, I: IntoIterator<Item = usize>>(
     self_buffer: &BitBuffer,
     mask_indices: I,
     true_count: usize,
 ) -> Result<(Mask, Steps), MaskError> {
-    let mask_indices = crate::kit::Collect::collected(mask_indices)?;
+    let mask_indices = crate::kit::Collect::collected(mask_indices.into_iter())?;
     crate::kit::conditions::owed(
         crate::kit::conditions::are_ranks(&mask_indices, self_buffer.true_count(), true_count),
         "intersect_mask_driven",
         "ranks",
         "EachRunFrom I.next_gives mask_indices (AreRanks (count (values self_buffer.now)) true_count)",
     );
-    intersect_by_rank::intersect_mask_driven::<S, _>(
-        self_buffer,
-        mask_indices.into_iter(),
-        true_count,
-    )
+    inner::intersect_mask_driven::<S, _>(self_buffer, mask_indices.into_iter(), true_count)
 }
 
 /// The values of a buffer narrowed to the true ones whose numbers are `mask_indices`. Each started
 /// word of the buffer takes one deposit.
 ///
-/// # The caller owes
+/// # The caller owes ([terms](crate::definitions))
 ///
 /// - *ascending*: `IsStrictlyIncreasing mask_indices.now`
 /// - *within*: `All (λ k. k < count (values self_buffer.now)) mask_indices.now`
 ///
-/// # Proved
+/// # Proved ([terms](crate::definitions))
 ///
 /// - *len*: `IfOk result (λ r. length (truth r.0) ≡ length (values self_buffer.now))`
 /// - *true_indices*: `IfOk result (λ r. positions (truth r.0) ≡ at_indices (positions (values self_buffer.now)) mask_indices.now)`
@@ -217,5 +213,5 @@ pub fn intersect_bit_buffer_by_rank_indices<D: DepositBits>(
         "within",
         "All (λ k. k < count (values self_buffer.now)) mask_indices.now",
     );
-    intersect_by_rank::intersect_bit_buffer_by_rank_indices::<D>(self_buffer, mask_indices)
+    inner::intersect_bit_buffer_by_rank_indices::<D>(self_buffer, mask_indices)
 }

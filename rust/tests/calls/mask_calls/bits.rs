@@ -1,4 +1,4 @@
-// Made of `crates/mask_calls/src/bits.rt` by `rust/erase`: change that, and make this anew.
+// Made of crates/mask_calls/src/bits.rt by `rust/erase`: change that, and make this anew.
 //! The calls of packed bits.
 
 use crate::mask_calls::lines::{Found, calls};

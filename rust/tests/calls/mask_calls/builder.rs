@@ -1,4 +1,4 @@
-// Made of `crates/mask_calls/src/builder.rt` by `rust/erase`: change that, and make this anew.
+// Made of crates/mask_calls/src/builder.rt by `rust/erase`: change that, and make this anew.
 //! Calls of builders.
 
 use crate::mask_calls::built::{Built, NO_BUILDER, write_built};

@@ -1,4 +1,4 @@
-// Made of `crates/mask_calls/src/built.rt` by `rust/erase`: change that, and make this anew.
+// Made of crates/mask_calls/src/built.rt by `rust/erase`: change that, and make this anew.
 //! A builder, and the buffer that it makes.
 
 use crate::mask_calls::fault::Fault;

@@ -1,4 +1,4 @@
-// Made of `crates/mask_calls/src/call.rt` by `rust/erase`: change that, and make this anew.
+// Made of crates/mask_calls/src/call.rt by `rust/erase`: change that, and make this anew.
 //! A call with its operands.
 
 use crate::mask_calls::fault::{Fault, UNKNOWN};

@@ -1,4 +1,4 @@
-// Made of `crates/mask_calls/src/fault.rt` by `rust/erase`: change that, and make this anew.
+// Made of crates/mask_calls/src/fault.rt by `rust/erase`: change that, and make this anew.
 //! Why there is no answer.
 
 use row_mask::MaskError;

@@ -1,4 +1,4 @@
-// Made of `crates/mask_calls/src/held.rt` by `rust/erase`: change that, and make this anew.
+// Made of crates/mask_calls/src/held.rt by `rust/erase`: change that, and make this anew.
 //! Operands of which a clone may be held.
 
 use crate::mask_calls::fault::Fault;

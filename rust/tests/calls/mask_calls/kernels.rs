@@ -1,4 +1,4 @@
-// Made of `crates/mask_calls/src/kernels.rt` by `rust/erase`: change that, and make this anew.
+// Made of crates/mask_calls/src/kernels.rt by `rust/erase`: change that, and make this anew.
 //! The kernels of rank intersection. Those of words stand with each of both deposits.
 
 use crate::mask_calls::lines::{Found, calls};

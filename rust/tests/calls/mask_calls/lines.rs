@@ -1,4 +1,4 @@
-// Made of `crates/mask_calls/src/lines.rt` by `rust/erase`: change that, and make this anew.
+// Made of crates/mask_calls/src/lines.rt by `rust/erase`: change that, and make this anew.
 //! How a call stands in a line.
 
 use crate::mask_calls::fault::Fault;

@@ -1,4 +1,4 @@
-// Made of `crates/mask_calls/src/listed.rt` by `rust/erase`: change that, and make this anew.
+// Made of crates/mask_calls/src/listed.rt by `rust/erase`: change that, and make this anew.
 //! Buffers with a list of where they are true.
 
 use crate::mask_calls::fault::Fault;

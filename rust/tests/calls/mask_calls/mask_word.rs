@@ -1,4 +1,4 @@
-// Made of `crates/mask_calls/src/mask_word.rt` by `rust/erase`: change that, and make this anew.
+// Made of crates/mask_calls/src/mask_word.rt by `rust/erase`: change that, and make this anew.
 //! Masks by words of a row.
 
 use crate::mask_calls::fault::Fault;

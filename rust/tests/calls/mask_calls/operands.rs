@@ -1,4 +1,4 @@
-// Made of `crates/mask_calls/src/operands.rt` by `rust/erase`: change that, and make this anew.
+// Made of crates/mask_calls/src/operands.rt by `rust/erase`: change that, and make this anew.
 //! What calls are made of.
 
 use crate::mask_calls::builder::BuilderCall;

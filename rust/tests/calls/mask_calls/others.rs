@@ -1,4 +1,4 @@
-// Made of `crates/mask_calls/src/others.rt` by `rust/erase`: change that, and make this anew.
+// Made of crates/mask_calls/src/others.rt by `rust/erase`: change that, and make this anew.
 //! Constructors, builders, and calls of numbers.
 
 use crate::mask_calls::lines::{Found, calls};

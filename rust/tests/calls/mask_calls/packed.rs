@@ -1,4 +1,4 @@
-// Made of `crates/mask_calls/src/packed.rt` by `rust/erase`: change that, and make this anew.
+// Made of crates/mask_calls/src/packed.rt by `rust/erase`: change that, and make this anew.
 //! Packed bits at an offset, with bits outside the list that are as a test wants them.
 
 use crate::mask_calls::fault::Fault;

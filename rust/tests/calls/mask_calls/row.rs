@@ -1,4 +1,4 @@
-// Made of `crates/mask_calls/src/row.rt` by `rust/erase`: change that, and make this anew.
+// Made of crates/mask_calls/src/row.rt by `rust/erase`: change that, and make this anew.
 //! Rows: a line each, of calls, their operands and what they answer.
 
 use crate::mask_calls::call::Call;

@@ -1,4 +1,4 @@
-// Made of `crates/mask_calls/src/tell.rt` by `rust/erase`: change that, and make this anew.
+// Made of crates/mask_calls/src/tell.rt by `rust/erase`: change that, and make this anew.
 //! What calls answer, as rows say it.
 
 use crate::mask_calls::fault::Fault;

@@ -1,4 +1,4 @@
-// Made of `crates/mask_calls/src/tested.rt` by `rust/erase`: change that, and make this anew.
+// Made of crates/mask_calls/src/tested.rt by `rust/erase`: change that, and make this anew.
 //! Calls whose conditions take more than a comparison, and calls of what another call made.
 
 use crate::mask_calls::fault::Fault;

@@ -1,4 +1,4 @@
-// Made of `crates/mask_calls/src/text.rt` by `rust/erase`: change that, and make this anew.
+// Made of crates/mask_calls/src/text.rt by `rust/erase`: change that, and make this anew.
 //! Text that is written piece by piece.
 
 use row_mask::kit::prelude::*;

@@ -1,4 +1,4 @@
-// Made of `crates/mask_calls/src/walks.rt` by `rust/erase`: change that, and make this anew.
+// Made of crates/mask_calls/src/walks.rt by `rust/erase`: change that, and make this anew.
 //! Buffers, and what walks yield, as text.
 
 use crate::mask_calls::fault::Fault;

@@ -1,4 +1,4 @@
-// Made of `crates/mask_calls/src/words.rt` by `rust/erase`: change that, and make this anew.
+// Made of crates/mask_calls/src/words.rt by `rust/erase`: change that, and make this anew.
 //! What the words of a row say: numbers, lists of them, ranges, and truth values.
 
 use crate::mask_calls::fault::{Fault, UNKNOWN};

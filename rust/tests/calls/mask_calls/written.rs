@@ -1,4 +1,4 @@
-// Made of `crates/mask_calls/src/written.rt` by `rust/erase`: change that, and make this anew.
+// Made of crates/mask_calls/src/written.rt by `rust/erase`: change that, and make this anew.
 //! How a row says what a mask holds.
 
 use crate::mask_calls::tell::Tell;

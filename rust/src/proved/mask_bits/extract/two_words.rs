@@ -1,4 +1,4 @@
-// Made of `crates/mask_bits/src/extract/two_words.rt` by `rust/erase`: change that, and make this anew.
+// Made of crates/mask_bits/src/extract/two_words.rt by `rust/erase`: change that, and make this anew.
 //! The bits of two words at the set places of two masks, in all their sixteen bytes at once, with a lane
 //! of a vector for each byte.
 //!

@@ -1,4 +1,4 @@
-// Made of `crates/vortex_mask/src/intersect_by_rank/deposit.rt` by `rust/erase`: change that, and make this anew.
+// Made of crates/vortex_mask/src/intersect_by_rank/deposit.rt by `rust/erase`: change that, and make this anew.
 //! Deposits: the bits of one word at the set places of another.
 
 use crate::kit::prelude::*;
@@ -10,6 +10,10 @@ pub(super) use bytewise::{counts_below, words_of};
 use nibbles::deposit_two_by_nibbles;
 
 /// Scatters the low bits of a word to the set bits of a mask word, as the instruction PDEP does.
+///
+/// # Safety
+///
+/// Each answer is as its contract says: a compiler can't see that.
 pub unsafe trait DepositBits {
     /// The word whose bit `i` is set exactly where bit `i` of `mask` is and so is the bit of
     /// `source` whose number is the count of mask bits below `i`. So the set places of `mask`
@@ -17,11 +21,11 @@ pub unsafe trait DepositBits {
     ///
     /// `mask_count` is how many bits of `mask` are set, which callers know anyway.
     ///
-    /// # The caller owes
+    /// # The caller owes ([terms](crate::definitions))
     ///
     /// - `mask_count ≡ count (word_bits mask)`
     ///
-    /// # Proved
+    /// # Proved ([terms](crate::definitions))
     ///
     /// - `Deposits source mask result`
     #[inline]
@@ -30,25 +34,24 @@ pub unsafe trait DepositBits {
         crate::kit::conditions::owed(
             mask_count == (mask.count_ones() as usize),
             "DepositBits::deposit_bits",
-            "the condition",
+            "its condition",
             "mask_count ≡ count (word_bits mask)",
         );
         Self::deposit_bits_proved(source, mask, mask_count)
     }
 
     /// The same, where the caller meets the conditions.
-
     fn deposit_bits_proved(source: u64, mask: u64, mask_count: usize) -> u64;
 
     /// The deposits of two words, each as [`DepositBits::deposit_bits`] has it, which answers them one
     /// by one where an implementation says nothing else. The kernels deposit two words at a time.
     ///
-    /// # The caller owes
+    /// # The caller owes ([terms](crate::definitions))
     ///
     /// - *counted_first*: `slice_index mask_counts 0 ≡ count (word_bits (slice_index masks 0))`
     /// - *counted_second*: `slice_index mask_counts 1 ≡ count (word_bits (slice_index masks 1))`
     ///
-    /// # Proved
+    /// # Proved ([terms](crate::definitions))
     ///
     /// - *first*: `Deposits (slice_index sources 0) (slice_index masks 0) (slice_index result 0)`
     /// - *second*: `Deposits (slice_index sources 1) (slice_index masks 1) (slice_index result 1)`
@@ -71,7 +74,6 @@ pub unsafe trait DepositBits {
     }
 
     /// The same, where the caller meets the conditions.
-
     fn deposit_two_proved(sources: [u64; 2], masks: [u64; 2], mask_counts: [usize; 2]) -> [u64; 2] {
         [
             Self::deposit_bits_proved(sources[0], masks[0], mask_counts[0]),
@@ -155,7 +157,7 @@ const VALUES_PER_TRUE_BY_LOOP: u64 = 16;
 /// Whether a word kernel over `len` values, of which `true_count` are true, deposits by `PortableLoop`:
 /// where fewer than one in 16 is. Else it deposits by `Portable`.
 ///
-/// # Proved
+/// # Proved ([terms](crate::definitions))
 ///
 /// - `result ≡ is_deposited_by_loop len true_count`
 pub fn deposits_by_loop(len: usize, true_count: usize) -> bool {

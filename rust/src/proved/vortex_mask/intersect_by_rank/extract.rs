@@ -1,4 +1,4 @@
-// Made of `crates/vortex_mask/src/intersect_by_rank/extract.rt` by `rust/erase`: change that, and make this anew.
+// Made of crates/vortex_mask/src/intersect_by_rank/extract.rt by `rust/erase`: change that, and make this anew.
 //! Extracts: the bits of one word at the set places of another.
 
 use crate::kit::prelude::*;
@@ -7,17 +7,21 @@ use crate::proved::vortex_mask::intersect_by_rank::Portable;
 
 /// Gathers the bits of a word at the set places of a mask word, as the instruction PEXT does: the way
 /// back of a deposit.
+///
+/// # Safety
+///
+/// Each answer is as its contract says: a compiler can't see that.
 pub unsafe trait ExtractBits {
     /// The word whose bit `k` is the bit of `source` at set place number `k` of `mask`, counted from
     /// the lowest, for each `k` below `mask_count`, and whose other bits are 0.
     ///
     /// `mask_count` is how many bits of `mask` are set, which callers know anyway.
     ///
-    /// # The caller owes
+    /// # The caller owes ([terms](crate::definitions))
     ///
     /// - `mask_count ≡ count (word_bits mask)`
     ///
-    /// # Proved
+    /// # Proved ([terms](crate::definitions))
     ///
     /// - `Extracts source mask result`
     #[inline]
@@ -26,14 +30,13 @@ pub unsafe trait ExtractBits {
         crate::kit::conditions::owed(
             mask_count == (mask.count_ones() as usize),
             "ExtractBits::extract_bits",
-            "the condition",
+            "its condition",
             "mask_count ≡ count (word_bits mask)",
         );
         Self::extract_bits_proved(source, mask, mask_count)
     }
 
     /// The same, where the caller meets the conditions.
-
     fn extract_bits_proved(source: u64, mask: u64, mask_count: usize) -> u64;
 }
 

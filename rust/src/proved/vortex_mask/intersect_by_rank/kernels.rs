@@ -1,4 +1,4 @@
-// Made of `crates/vortex_mask/src/intersect_by_rank/kernels.rt` by `rust/erase`: change that, and make this anew.
+// Made of crates/vortex_mask/src/intersect_by_rank/kernels.rt by `rust/erase`: change that, and make this anew.
 //! The kernels, one for each `RankPath`.
 
 use crate::kit::prelude::*;

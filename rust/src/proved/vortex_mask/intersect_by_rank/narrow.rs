@@ -1,4 +1,4 @@
-// Made of `crates/vortex_mask/src/intersect_by_rank/narrow.rt` by `rust/erase`: change that, and make this anew.
+// Made of crates/vortex_mask/src/intersect_by_rank/narrow.rt by `rust/erase`: change that, and make this anew.
 //! The call of the kernel that a path names.
 
 use crate::kit::AllocError;

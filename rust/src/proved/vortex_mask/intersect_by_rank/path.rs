@@ -1,4 +1,4 @@
-// Made of `crates/vortex_mask/src/intersect_by_rank/path.rt` by `rust/erase`: change that, and make this anew.
+// Made of crates/vortex_mask/src/intersect_by_rank/path.rt by `rust/erase`: change that, and make this anew.
 //! Which kernel narrows two masks of mixed values. The crate's `README.md` has the tests in a table, with the
 //! reason of each.
 
@@ -69,7 +69,7 @@ impl Summary {
 /// The path of two mixed masks, by their lengths, their counts and which lists of true indices are
 /// cached. It makes no list.
 ///
-/// # Proved
+/// # Proved ([terms](crate::definitions))
 ///
 /// - `result ≡ path_of values.now ranks.now`
 pub fn rank_path(values: &MaskValues, ranks: &MaskValues) -> RankPath {

@@ -1,4 +1,4 @@
-// Made of `crates/vortex_mask/src/intersect_by_rank/rank_bits.rt` by `rust/erase`: change that, and make this anew.
+// Made of crates/vortex_mask/src/intersect_by_rank/rank_bits.rt by `rust/erase`: change that, and make this anew.
 //! The bits of a rank mask, read many at once from any bit on.
 
 use crate::kit::prelude::*;
@@ -18,7 +18,7 @@ pub struct RankBits<'a> {
 impl<'a> RankBits<'a> {
     /// The bits of `buffer`.
     ///
-    /// # Proved
+    /// # Proved ([terms](crate::definitions))
     ///
     /// - *buffer*: `result ≡ buffer.now`
     /// - *within*: `IsWithinBytes result.bytes result.offset result.len`
@@ -28,11 +28,11 @@ impl<'a> RankBits<'a> {
 
     /// The `len` bits of `bytes` from bit `offset` on, without a `BitBuffer`.
     ///
-    /// # The caller owes
+    /// # The caller owes ([terms](crate::definitions))
     ///
     /// - `IsWithinBytes bytes.now offset len`
     ///
-    /// # Proved
+    /// # Proved ([terms](crate::definitions))
     ///
     /// - *bits*: `result ≡ record { bytes = bytes.now; offset = offset; len = len }`
     /// - *within*: `IsWithinBytes result.bytes result.offset result.len`
@@ -42,7 +42,7 @@ impl<'a> RankBits<'a> {
         crate::kit::conditions::owed(
             crate::kit::conditions::are_within(bytes, offset, len),
             "RankBits::over",
-            "the condition",
+            "its condition",
             "IsWithinBytes bytes.now offset len",
         );
         RankBits::over_proved(bytes, offset, len)
@@ -71,11 +71,11 @@ impl<'a> RankBits<'a> {
     /// Those past the bytes are 0. Those past the last value but inside the bytes are as they
     /// stand, since a deposit ignores the bits past its mask's count.
     ///
-    /// # The caller owes
+    /// # The caller owes ([terms](crate::definitions))
     ///
     /// - `self.now.offset + offset < 2 ^ 64`
     ///
-    /// # Proved
+    /// # Proved ([terms](crate::definitions))
     ///
     /// - `word_bits result ≡ window self.now.bytes (self.now.offset + offset)`
     #[inline]
@@ -84,7 +84,7 @@ impl<'a> RankBits<'a> {
         crate::kit::conditions::owed(
             (self.offset as u128) + (offset as u128) < 1 << 64,
             "RankBits::read",
-            "the condition",
+            "its condition",
             "self.now.offset + offset < 2 ^ 64",
         );
         self.read_proved(offset)

@@ -1,4 +1,4 @@
-// Made of `crates/vortex_mask/src/intersect_by_rank/select.rt` by `rust/erase`: change that, and make this anew.
+// Made of crates/vortex_mask/src/intersect_by_rank/select.rt by `rust/erase`: change that, and make this anew.
 //! Selections: the place of a set bit by its number.
 //!
 //! The set bits below a byte are counted for all bytes of the word at once. The bit lies in the last byte
@@ -18,14 +18,18 @@ use crate::kit::prelude::*;
 use crate::proved::mask_bits::byte_places::place_in_byte;
 
 /// A way to find a set bit of a word by its number.
+///
+/// # Safety
+///
+/// Each answer is as its contract says: a compiler can't see that.
 pub unsafe trait SelectBit {
     /// The place of set bit number `rank`, counted from 0 at the lowest.
     ///
-    /// # The caller owes
+    /// # The caller owes ([terms](crate::definitions))
     ///
     /// - `rank < count (word_bits word)`
     ///
-    /// # Proved
+    /// # Proved ([terms](crate::definitions))
     ///
     /// - `result ≡ selected word rank`
     #[inline]
@@ -34,14 +38,13 @@ pub unsafe trait SelectBit {
         crate::kit::conditions::owed(
             rank < (word.count_ones() as usize),
             "SelectBit::select_bit_position",
-            "the condition",
+            "its condition",
             "rank < count (word_bits word)",
         );
         Self::select_bit_position_proved(word, rank)
     }
 
     /// The same, where the caller meets the conditions.
-
     fn select_bit_position_proved(word: u64, rank: usize) -> usize;
 }
 

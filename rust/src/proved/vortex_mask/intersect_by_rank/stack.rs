@@ -1,4 +1,4 @@
-// Made of `crates/vortex_mask/src/intersect_by_rank/stack.rt` by `rust/erase`: change that, and make this anew.
+// Made of crates/vortex_mask/src/intersect_by_rank/stack.rt by `rust/erase`: change that, and make this anew.
 //! A stack of masks as one, from the last mask down. `docs/DECISIONS.md` says why, and where a fold goes up.
 
 use crate::kit::prelude::*;

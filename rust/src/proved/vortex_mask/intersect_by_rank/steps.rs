@@ -1,4 +1,4 @@
-// Made of `crates/vortex_mask/src/intersect_by_rank/steps.rt` by `rust/erase`: change that, and make this anew.
+// Made of crates/vortex_mask/src/intersect_by_rank/steps.rt by `rust/erase`: change that, and make this anew.
 //! The steps that a kernel takes, counted. The fields are private to this file, so that the calls
 //! here alone change them.
 
@@ -26,7 +26,7 @@ pub struct Steps {
 impl Steps {
     /// No steps yet.
     ///
-    /// # Proved
+    /// # Proved ([terms](crate::definitions))
     ///
     /// - `result ≡ no_steps`
     pub fn new() -> Steps {
@@ -35,7 +35,7 @@ impl Steps {
 
     /// How many words were deposited.
     ///
-    /// # Proved
+    /// # Proved ([terms](crate::definitions))
     ///
     /// - `result ≡ self.now.deposits`
     pub fn deposits(&self) -> usize {
@@ -44,7 +44,7 @@ impl Steps {
 
     /// How many words of self were read.
     ///
-    /// # Proved
+    /// # Proved ([terms](crate::definitions))
     ///
     /// - `result ≡ self.now.words`
     pub fn words(&self) -> usize {
@@ -53,7 +53,7 @@ impl Steps {
 
     /// How many set bits were selected.
     ///
-    /// # Proved
+    /// # Proved ([terms](crate::definitions))
     ///
     /// - `result ≡ self.now.selections`
     pub fn selections(&self) -> usize {
@@ -62,7 +62,7 @@ impl Steps {
 
     /// The sum of `mask_count` over all deposits: the set bits of their masks.
     ///
-    /// # Proved
+    /// # Proved ([terms](crate::definitions))
     ///
     /// - `result ≡ self.now.offered`
     pub fn offered(&self) -> u128 {
@@ -71,7 +71,7 @@ impl Steps {
 
     /// The set bits of all deposited words.
     ///
-    /// # Proved
+    /// # Proved ([terms](crate::definitions))
     ///
     /// - `result ≡ self.now.placed`
     pub fn placed(&self) -> u128 {
@@ -80,7 +80,7 @@ impl Steps {
 
     /// The sum of the bits' places within their words that all selections found.
     ///
-    /// # Proved
+    /// # Proved ([terms](crate::definitions))
     ///
     /// - `result ≡ self.now.spots`
     pub fn spots(&self) -> u128 {
@@ -89,12 +89,12 @@ impl Steps {
 
     /// Deposits the bits of `source` at the set places of `mask`, of which there are `mask_count`.
     ///
-    /// # The caller owes
+    /// # The caller owes ([terms](crate::definitions))
     ///
     /// - *room*: `self.old.deposits < usize.MAX`
     /// - *counted*: `mask_count ≡ count (word_bits mask)`
     ///
-    /// # Proved
+    /// # Proved ([terms](crate::definitions))
     ///
     /// - *deposited*: `Deposits source mask result`
     /// - *ticked*: `self.new ≡ record self.old { deposits = self.old.deposits + 1; offered = self.old.offered + mask_count; placed = self.old.placed + count (word_bits result); }`
@@ -132,13 +132,13 @@ impl Steps {
 
     /// Deposits two words, and counts what two calls of [`Steps::deposit`] would.
     ///
-    /// # The caller owes
+    /// # The caller owes ([terms](crate::definitions))
     ///
     /// - *room*: `self.old.deposits + 1 < usize.MAX`
     /// - *counted_first*: `slice_index mask_counts 0 ≡ count (word_bits (slice_index masks 0))`
     /// - *counted_second*: `slice_index mask_counts 1 ≡ count (word_bits (slice_index masks 1))`
     ///
-    /// # Proved
+    /// # Proved ([terms](crate::definitions))
     ///
     /// - *first*: `Deposits (slice_index sources 0) (slice_index masks 0) (slice_index result 0)`
     /// - *second*: `Deposits (slice_index sources 1) (slice_index masks 1) (slice_index result 1)`
@@ -207,12 +207,12 @@ impl Steps {
     /// Word `i` of the values: a whole word, or as the last one the values after the whole words
     /// in its low bits and zeros above.
     ///
-    /// # The caller owes
+    /// # The caller owes ([terms](crate::definitions))
     ///
     /// - *room*: `self.old.words < usize.MAX`
     /// - *there*: `64 * i < length chunks.now`
     ///
-    /// # Proved
+    /// # Proved ([terms](crate::definitions))
     ///
     /// - *whole*: `i < length chunks.now / 64 → word_bits result ≡ word_part chunks.now i`
     /// - *last*: `i ≡ length chunks.now / 64 → word_bits result ≡ padded_remainder chunks.now`
@@ -250,12 +250,12 @@ impl Steps {
 
     /// The place of set bit number `rank` of `word`.
     ///
-    /// # The caller owes
+    /// # The caller owes ([terms](crate::definitions))
     ///
     /// - *room*: `self.old.selections < usize.MAX`
     /// - *inside*: `rank < count (word_bits word)`
     ///
-    /// # Proved
+    /// # Proved ([terms](crate::definitions))
     ///
     /// - *selected*: `result ≡ selected word rank`
     /// - *ticked*: `self.new ≡ record self.old { selections = self.old.selections + 1; spots = self.old.spots + result; }`

@@ -1,4 +1,4 @@
-// Made of `crates/vortex_mask/src/mask/all_or.rt` by `rust/erase`: change that, and make this anew.
+// Made of crates/vortex_mask/src/mask/all_or.rt by `rust/erase`: change that, and make this anew.
 //! A value, or all rows, or none.
 
 use crate::kit::prelude::*;
@@ -18,12 +18,12 @@ pub enum AllOr<T> {
 impl<T> AllOr<T> {
     /// The value of `Some`, or what `all_true` answers for `All` and `all_false` for `None`.
     ///
-    /// # The caller owes
+    /// # The caller owes ([terms](crate::definitions))
     ///
     /// - *all_true*: `self ≡ AllOr.All → F.pre all_true`
     /// - *all_false*: `self ≡ AllOr.None → G.pre all_false`
     ///
-    /// # Proved
+    /// # Proved ([terms](crate::definitions))
     ///
     /// - `MatchAllOr self (F.post all_true result) (G.post all_false result) (λ x. result ≡ x)`
     pub fn unwrap_or_else<F: FnOnce() -> T, G: FnOnce() -> T>(
@@ -42,11 +42,11 @@ impl<T> AllOr<T> {
 impl<T: crate::kit::TryClone> AllOr<&T> {
     /// Clones the value behind the reference, which its clones have to equal.
     ///
-    /// # The caller owes
+    /// # The caller owes ([terms](crate::definitions))
     ///
     /// - `ForValue self (λ x. IsOnlyClone T.is_clone x.now)`
     ///
-    /// # Proved
+    /// # Proved ([terms](crate::definitions))
     ///
     /// - *same*: `IfOk result (λ a. a ≡ all_or_copied self.entry)`
     /// - *clone*: `IfErr result (λ _. MatchAllOr self.entry ⊥ ⊥ (λ x. ¬ (T.is_infallible x.now)))`

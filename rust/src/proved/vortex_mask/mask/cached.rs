@@ -1,4 +1,4 @@
-// Made of `crates/vortex_mask/src/mask/cached.rt` by `rust/erase`: change that, and make this anew.
+// Made of crates/vortex_mask/src/mask/cached.rt by `rust/erase`: change that, and make this anew.
 //! Lists of the true indices and of their runs, which a mask makes once and caches.
 
 use crate::kit::prelude::*;
@@ -21,7 +21,7 @@ pub enum MaskIter<'a> {
 impl Mask {
     /// `All`, `None` or the true indices, ascending, by variant.
     ///
-    /// # Proved
+    /// # Proved ([terms](crate::definitions))
     ///
     /// - *variant*: `IfOk result (λ lent. lender_variant lent ≡ variant self.old)`
     /// - *list*: `IfOk result (λ lent. IfLent lent (λ indices. indices.now ≡ positions (truth self.old)))`
@@ -42,7 +42,7 @@ impl Mask {
     /// index and the index past its last. Equal masks that are mixed lend equal ranges, however they
     /// were made.
     ///
-    /// # Proved
+    /// # Proved ([terms](crate::definitions))
     ///
     /// - *variant*: `IfOk result (λ lent. lender_variant lent ≡ variant self.old)`
     /// - *list*: `IfOk result (λ lent. IfLent lent (λ ranges. ranges.now ≡ runs (truth self.old)))`
@@ -62,11 +62,11 @@ impl Mask {
     /// `All`, `None` or a list, by variant: the ranges of `slices` where the share of true values is
     /// `num / den` or more, else the list of `indices`. The comparison is exact.
     ///
-    /// # The caller owes
+    /// # The caller owes ([terms](crate::definitions))
     ///
     /// - `0 < den`
     ///
-    /// # Proved
+    /// # Proved ([terms](crate::definitions))
     ///
     /// - *variant*: `IfOk result (λ lent. lender_variant lent ≡ variant self.old)`
     /// - *threshold*: `IfOk result (λ lent. IfLent lent (λ list. IsTrue (lends_ranges list) ↔ ReachesShare (truth self.old) num den))`
@@ -83,7 +83,7 @@ impl Mask {
         num: usize,
         den: usize,
     ) -> Result<AllOr<MaskIter<'_>>, MaskError> {
-        crate::kit::conditions::owed(0 < den, "Mask::threshold_iter", "the condition", "0 < den");
+        crate::kit::conditions::owed(0 < den, "Mask::threshold_iter", "its condition", "0 < den");
         self.threshold_iter_proved(num, den)
     }
 

@@ -1,4 +1,4 @@
-// Made of `crates/vortex_mask/src/mask/choose.rt` by `rust/erase`: change that, and make this anew.
+// Made of crates/vortex_mask/src/mask/choose.rt by `rust/erase`: change that, and make this anew.
 //! The rows that a mask chooses.
 
 use crate::kit::AllocError;
@@ -11,11 +11,11 @@ use crate::proved::vortex_mask::mask::{Mask, MaskError};
 impl Mask {
     /// The rows at the true indices, in their order.
     ///
-    /// # The caller owes
+    /// # The caller owes ([terms](crate::definitions))
     ///
     /// - `length rows.now ≡ length (truth self.now)`
     ///
-    /// # Proved
+    /// # Proved ([terms](crate::definitions))
     ///
     /// - *rows*: `IfOk result (λ v. v.items ≡ chosen rows.now (truth self.now))`
     /// - *len*: `IfOk result (λ v. vec_len v ≡ count (truth self.now))`
@@ -27,7 +27,7 @@ impl Mask {
         crate::kit::conditions::owed(
             rows.len() == self.len(),
             "Mask::choose",
-            "the condition",
+            "its condition",
             "length rows.now ≡ length (truth self.now)",
         );
         self.choose_proved::<T>(rows)

@@ -1,4 +1,4 @@
-// Made of `crates/vortex_mask/src/mask/choose_values.rt` by `rust/erase`: change that, and make this anew.
+// Made of crates/vortex_mask/src/mask/choose_values.rt by `rust/erase`: change that, and make this anew.
 //! The values of a mask at the rows that another chooses.
 
 use crate::kit::prelude::*;
@@ -14,11 +14,11 @@ impl Mask {
     ///
     /// Where this mask is all true, the result is a clone of `of`.
     ///
-    /// # The caller owes
+    /// # The caller owes ([terms](crate::definitions))
     ///
     /// - `length (truth of.now) ≡ length (truth self.now)`
     ///
-    /// # Proved
+    /// # Proved ([terms](crate::definitions))
     ///
     /// - *list*: `IfOk result (λ m. truth m ≡ chosen (truth of.now) (truth self.now))`
     /// - *len*: `IfOk result (λ m. length (truth m) ≡ count (truth self.now))`
@@ -34,7 +34,7 @@ impl Mask {
         crate::kit::conditions::owed(
             of.len() == self.len(),
             "Mask::choose_values",
-            "the condition",
+            "its condition",
             "length (truth of.now) ≡ length (truth self.now)",
         );
         self.choose_values_proved(of)

@@ -1,4 +1,4 @@
-// Made of `crates/vortex_mask/src/mask/common_indices.rt` by `rust/erase`: change that, and make this anew.
+// Made of crates/vortex_mask/src/mask/common_indices.rt by `rust/erase`: change that, and make this anew.
 //! The indices that two ascending lists have in common.
 
 use crate::kit::prelude::*;

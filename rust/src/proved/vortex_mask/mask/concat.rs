@@ -1,4 +1,4 @@
-// Made of `crates/vortex_mask/src/mask/concat.rt` by `rust/erase`: change that, and make this anew.
+// Made of crates/vortex_mask/src/mask/concat.rt by `rust/erase`: change that, and make this anew.
 //! Masks one after another.
 
 use crate::kit::AllocError;
@@ -13,12 +13,12 @@ impl Mask {
     /// The masks are listed first, so `Memory` may come before `LengthOverflow`, which is reported
     /// where the sum of all lengths is above `usize::MAX`.
     ///
-    /// # The caller owes
+    /// # The caller owes ([terms](crate::definitions))
     ///
     /// - *can*: `I.can_next masks`
     /// - *ends*: `IsFinite (I.remaining masks)`
     ///
-    /// # Proved
+    /// # Proved ([terms](crate::definitions))
     ///
     /// - *list*: `IfOk result (λ m. (ms : List (Bor mask)) × Drains I.next_gives masks ms × Joins (lists_of ms) m)`
     /// - *whole*: `IfOk result (λ m. WholeRun I.next_gives masks (λ p. Joins (lists_of p.items) m))`
@@ -26,7 +26,8 @@ impl Mask {
     /// - *caches*: `IfOk result (λ m. caches m ≡ no_caches)`
     /// - *refused*: `IfErr result (λ e. (e ≡ MaskError.Memory alloc_error) ⊎ ((ms : List (Bor mask)) × Drains I.next_gives masks ms × (e ≡ MaskError.LengthOverflow) × (2 ^ 64 ≤ total_len (lists_of ms))))`
     /// - *refused_whole*: `IfErr result (λ e. (e ≡ MaskError.Memory alloc_error) ⊎ WholeRun I.next_gives masks (λ p. (e ≡ MaskError.LengthOverflow) × (2 ^ 64 ≤ total_len (lists_of p.items))))`
-    pub fn concat<'a, I: Iterator<Item = &'a Mask>>(masks: I) -> Result<Mask, MaskError> {
+    pub fn concat<'a, I: IntoIterator<Item = &'a Mask>>(masks: I) -> Result<Mask, MaskError> {
+        let masks = masks.into_iter();
         let masks: Vec<&Mask> = masks.collected()?;
         Mask::concat_list(&masks)
     }
@@ -34,12 +35,12 @@ impl Mask {
     /// The values of the masks that an iterator yields, one mask after another, as by `concat`. The
     /// masks are taken by value.
     ///
-    /// # The caller owes
+    /// # The caller owes ([terms](crate::definitions))
     ///
     /// - *can*: `I.can_next masks`
     /// - *ends*: `IsFinite (I.remaining masks)`
     ///
-    /// # Proved
+    /// # Proved ([terms](crate::definitions))
     ///
     /// - *list*: `IfOk result (λ m. (ms : List mask) × Drains I.next_gives masks ms × Joins (map truth ms) m)`
     /// - *whole*: `IfOk result (λ m. WholeRun I.next_gives masks (λ p. Joins (map truth p.items) m))`
@@ -47,7 +48,8 @@ impl Mask {
     /// - *caches*: `IfOk result (λ m. caches m ≡ no_caches)`
     /// - *refused*: `IfErr result (λ e. (e ≡ MaskError.Memory alloc_error) ⊎ ((ms : List mask) × Drains I.next_gives masks ms × (e ≡ MaskError.LengthOverflow) × (2 ^ 64 ≤ total_len (map truth ms))))`
     /// - *refused_whole*: `IfErr result (λ e. (e ≡ MaskError.Memory alloc_error) ⊎ WholeRun I.next_gives masks (λ p. (e ≡ MaskError.LengthOverflow) × (2 ^ 64 ≤ total_len (map truth p.items))))`
-    pub fn from_masks<I: Iterator<Item = Mask>>(masks: I) -> Result<Mask, MaskError> {
+    pub fn from_masks<I: IntoIterator<Item = Mask>>(masks: I) -> Result<Mask, MaskError> {
+        let masks = masks.into_iter();
         let masks: Vec<Mask> = masks.collected()?;
         Mask::concat_held(&masks)
     }

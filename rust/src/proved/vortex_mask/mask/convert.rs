@@ -1,4 +1,4 @@
-// Made of `crates/vortex_mask/src/mask/convert.rt` by `rust/erase`: change that, and make this anew.
+// Made of crates/vortex_mask/src/mask/convert.rt by `rust/erase`: change that, and make this anew.
 //! Masks from buffers and truth values, and buffers from masks.
 
 use crate::kit::prelude::*;
@@ -10,7 +10,7 @@ use crate::proved::vortex_mask::mask::{AllOr, Mask, MaskError, MaskValues};
 impl Mask {
     /// The values of a buffer. An empty one gives `AllFalse(0)`.
     ///
-    /// # Proved
+    /// # Proved ([terms](crate::definitions))
     ///
     /// - *list*: `IfOk result (λ m. truth m ≡ values buffer)`
     /// - *variant*: `IfOk result (λ m. variant m ≡ fitting_variant all_false (values buffer))`
@@ -26,11 +26,11 @@ impl Mask {
     /// some are not the mask caches its runs: ranges that touch are merged, in the memory
     /// that came with them. An empty buffer gives `AllFalse(0)`.
     ///
-    /// # The caller owes
+    /// # The caller owes ([terms](crate::definitions))
     ///
     /// - `AreRanges (values buffer) ranges.items`
     ///
-    /// # Proved
+    /// # Proved ([terms](crate::definitions))
     ///
     /// - *list*: `IfOk result (λ m. truth m ≡ values buffer)`
     /// - *variant*: `IfOk result (λ m. variant m ≡ fitting_variant all_false (values buffer))`
@@ -46,7 +46,7 @@ impl Mask {
         crate::kit::conditions::owed(
             crate::kit::conditions::are_ranges(&buffer, &ranges),
             "Mask::from_buffer_with_slices",
-            "the condition",
+            "its condition",
             "AreRanges (values buffer) ranges.items",
         );
         Mask::from_buffer_with_slices_proved(buffer, ranges)
@@ -63,19 +63,20 @@ impl Mask {
 
     /// The values that an iterator yields, in their order. No values give `AllFalse(0)`.
     ///
-    /// # The caller owes
+    /// # The caller owes ([terms](crate::definitions))
     ///
     /// - *can*: `I.can_next bools`
     /// - *ends*: `UpTo (I.remaining bools) usize.MAX`
     ///
-    /// # Proved
+    /// # Proved ([terms](crate::definitions))
     ///
     /// - *list*: `IfOk result (λ m. Drains I.next_gives bools (truth m))`
     /// - *whole*: `IfOk result (λ m. WholeRun I.next_gives bools (λ p. truth m ≡ p.items))`
     /// - *variant*: `IfOk result (λ m. variant m ≡ fitting_variant all_false (truth m))`
     /// - *caches*: `IfOk result (λ m. caches m ≡ no_caches)`
     /// - *refused*: `IsOkUnless result (MaskError.Memory alloc_error)`
-    pub fn from_bools<I: Iterator<Item = bool>>(bools: I) -> Result<Mask, MaskError> {
+    pub fn from_bools<I: IntoIterator<Item = bool>>(bools: I) -> Result<Mask, MaskError> {
+        let bools = bools.into_iter();
         let buffer = BitBuffer::from_bools(bools)?;
         Mask::from_buffer(buffer)
     }
@@ -85,11 +86,11 @@ impl Mask {
     ///
     /// The filter of a column by a test of its rows: `Mask::from_rows(alloc, rows, |row| *row > low)`.
     ///
-    /// # The caller owes
+    /// # The caller owes ([terms](crate::definitions))
     ///
     /// - `F.IsAlwaysCallable test`
     ///
-    /// # Proved
+    /// # Proved ([terms](crate::definitions))
     ///
     /// - *answers*: `IfOk result (λ m. AreAnswers (FnReturnsAt F.Fn test) rows.now (truth m))`
     /// - *list*: `IfOk result (λ m. AreAsComputed (F.post test) rows.now (truth m))`
@@ -106,7 +107,7 @@ impl Mask {
 impl Mask {
     /// `All`, `None` or the packed values, by variant.
     ///
-    /// # Proved
+    /// # Proved ([terms](crate::definitions))
     ///
     /// - *held*: `all_or_copied result ≡ held_buffer self.now`
     /// - *list*: `IsListOf result (truth self.now)`
@@ -120,7 +121,7 @@ impl Mask {
 
     /// A buffer of the values.
     ///
-    /// # Proved
+    /// # Proved ([terms](crate::definitions))
     ///
     /// - *list*: `IfOk result (λ b. values b ≡ truth self.now)`
     /// - *refused*: `IsOkUnless result (MaskError.Memory alloc_error)`
@@ -134,7 +135,7 @@ impl Mask {
 
     /// A buffer of the values, of a mask that is taken by value.
     ///
-    /// # Proved
+    /// # Proved ([terms](crate::definitions))
     ///
     /// - *list*: `IfOk result (λ b. values b ≡ truth self)`
     /// - *refused*: `IsOkUnless result (MaskError.Memory alloc_error)`

@@ -1,4 +1,4 @@
-// Made of `crates/vortex_mask/src/mask/error.rt` by `rust/erase`: change that, and make this anew.
+// Made of crates/vortex_mask/src/mask/error.rt by `rust/erase`: change that, and make this anew.
 //! Why a call on masks is refused.
 
 use crate::kit::prelude::*;

@@ -1,4 +1,4 @@
-// Made of `crates/vortex_mask/src/mask/fraction.rt` by `rust/erase`: change that, and make this anew.
+// Made of crates/vortex_mask/src/mask/fraction.rt by `rust/erase`: change that, and make this anew.
 //! Shares of true values, and thresholds.
 
 use crate::kit::prelude::*;
@@ -14,12 +14,12 @@ pub struct Fraction {
 impl Fraction {
     /// Whether `self >= other`, compared exactly.
     ///
-    /// # The caller owes
+    /// # The caller owes ([terms](crate::definitions))
     ///
     /// - *den*: `0 < self.den`
     /// - *other_den*: `0 < other.den`
     ///
-    /// # Proved
+    /// # Proved ([terms](crate::definitions))
     ///
     /// - `IsTrue result ↔ (other.num * self.den ≤ self.num * other.den)`
     #[inline]
@@ -44,7 +44,7 @@ impl Mask {
     /// The share of true values: 1/1 of `AllTrue`, 0/1 of `AllFalse`, also where they are empty, and
     /// else the true count over the length.
     ///
-    /// # Proved
+    /// # Proved ([terms](crate::definitions))
     ///
     /// - *by_variant*: `result ≡ share_by_variant self.now`
     /// - *share*: `result.num * length (truth self.now) ≡ count (truth self.now) * result.den`
@@ -61,7 +61,7 @@ impl Mask {
 impl MaskValues {
     /// The share of true values: the true count over the length.
     ///
-    /// # Proved
+    /// # Proved ([terms](crate::definitions))
     ///
     /// - *share*: `result ≡ share (values self.now.buffer)`
     /// - *positive*: `0 < result.den`

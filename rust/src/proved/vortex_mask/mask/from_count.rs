@@ -1,4 +1,4 @@
-// Made of `crates/vortex_mask/src/mask/from_count.rt` by `rust/erase`: change that, and make this anew.
+// Made of crates/vortex_mask/src/mask/from_count.rt by `rust/erase`: change that, and make this anew.
 //! Masks of values whose count of true ones is known, and which variant holds them.
 
 use crate::kit::prelude::*;

@@ -1,4 +1,4 @@
-// Made of `crates/vortex_mask/src/mask/from_indices.rt` by `rust/erase`: change that, and make this anew.
+// Made of crates/vortex_mask/src/mask/from_indices.rt by `rust/erase`: change that, and make this anew.
 //! Masks from indices, and what is wrong with a list of them.
 
 use crate::kit::prelude::*;
@@ -15,12 +15,12 @@ impl Mask {
     /// `UnsortedIndices` for the first place below the one before it, else `RepeatedIndex` for the
     /// first that equals it, else `IndexOutOfBounds` for the first that is not below `len`.
     ///
-    /// # The caller owes
+    /// # The caller owes ([terms](crate::definitions))
     ///
     /// - *can*: `I.can_next indices`
     /// - *ends*: `IsFinite (I.remaining indices)`
     ///
-    /// # Proved
+    /// # Proved ([terms](crate::definitions))
     ///
     /// - *len*: `IfOk result (λ m. length (truth m) ≡ len)`
     /// - *indices*: `IfOk result (λ m. Drains I.next_gives indices (positions (truth m)))`
@@ -30,10 +30,11 @@ impl Mask {
     /// - *caches*: `IfOk result (λ m. caches m ≡ where_mixed m (only_indices (positions (truth m))))`
     /// - *refused*: `IfErr result (λ e. (e ≡ MaskError.Memory alloc_error) ⊎ ((xs : List ℕ) × Drains I.next_gives indices xs × (index_fault len xs ≡ Some e)))`
     /// - *refused_whole*: `IfErr result (λ e. (e ≡ MaskError.Memory alloc_error) ⊎ WholeRun I.next_gives indices (λ p. index_fault len p.items ≡ Some e))`
-    pub fn from_indices<I: Iterator<Item = usize>>(
+    pub fn from_indices<I: IntoIterator<Item = usize>>(
         len: usize,
         indices: I,
     ) -> Result<Mask, MaskError> {
+        let indices = indices.into_iter();
         let indices: Vec<usize> = indices.collected()?;
         Mask::of_list(len, indices)
     }
@@ -112,12 +113,12 @@ impl Mask {
     /// The values are made first, so `Memory` may come before the other refusal:
     /// `IndexOutOfBounds` for the first index, as the iterator has them, that is not below `len`.
     ///
-    /// # The caller owes
+    /// # The caller owes ([terms](crate::definitions))
     ///
     /// - *can*: `I.can_next indices`
     /// - *ends*: `IsFinite (I.remaining indices)`
     ///
-    /// # Proved
+    /// # Proved ([terms](crate::definitions))
     ///
     /// - *len*: `IfOk result (λ m. length (truth m) ≡ len)`
     /// - *list*: `IfOk result (λ m. (xs : List ℕ) × Drains I.next_gives indices xs × (out_of_bounds len xs ≡ None) × (truth m ≡ not_of (true_at len xs)))`
@@ -126,10 +127,11 @@ impl Mask {
     /// - *caches*: `IfOk result (λ m. caches m ≡ no_caches)`
     /// - *refused*: `IfErr result (λ e. (e ≡ MaskError.Memory alloc_error) ⊎ ((xs : List ℕ) × Drains I.next_gives indices xs × (out_of_bounds len xs ≡ Some e)))`
     /// - *refused_whole*: `IfErr result (λ e. (e ≡ MaskError.Memory alloc_error) ⊎ WholeRun I.next_gives indices (λ p. out_of_bounds len p.items ≡ Some e))`
-    pub fn from_excluded_indices<I: Iterator<Item = usize>>(
+    pub fn from_excluded_indices<I: IntoIterator<Item = usize>>(
         len: usize,
         indices: I,
     ) -> Result<Mask, MaskError> {
+        let indices = indices.into_iter();
         let mut builder = BitBufferMut::new_set(len)?;
         if let Some(index) = exclude(&mut builder, indices) {
             return Err(MaskError::IndexOutOfBounds { index, len });
@@ -174,7 +176,7 @@ impl Mask {
     /// their ends first, so `Memory` may come before the other refusal: `IndexOutOfBounds` for the
     /// first index in common that is not below `len`.
     ///
-    /// # The caller owes
+    /// # The caller owes ([terms](crate::definitions))
     ///
     /// - *can_lhs*: `L.can_next lhs`
     /// - *can_rhs*: `R.can_next rhs`
@@ -183,7 +185,7 @@ impl Mask {
     /// - *lhs_ascends*: `EachRunFrom L.next_gives lhs IsAscending`
     /// - *rhs_ascends*: `EachRunFrom R.next_gives rhs IsAscending`
     ///
-    /// # Proved
+    /// # Proved ([terms](crate::definitions))
     ///
     /// - *len*: `IfOk result (λ m. length (truth m) ≡ len)`
     /// - *indices*: `IfOk result (λ m. (xs : List ℕ) × (ys : List ℕ) × Drains L.next_gives lhs xs × Drains R.next_gives rhs ys × (positions (truth m) ≡ common xs ys))`
@@ -193,15 +195,19 @@ impl Mask {
     /// - *caches*: `IfOk result (λ m. caches m ≡ where_mixed m (only_indices (positions (truth m))))`
     /// - *refused*: `IfErr result (λ e. (e ≡ MaskError.Memory alloc_error) ⊎ ((xs : List ℕ) × (ys : List ℕ) × Drains L.next_gives lhs xs × Drains R.next_gives rhs ys × (out_of_bounds len (common xs ys) ≡ Some e)))`
     /// - *refused_whole*: `IfErr result (λ e. (e ≡ MaskError.Memory alloc_error) ⊎ WholeRun L.next_gives lhs (λ p. WholeRun R.next_gives rhs (λ q. out_of_bounds len (common p.items q.items) ≡ Some e)))`
-    #[inline]
     #[track_caller]
-    pub fn from_intersection_indices<L: Iterator<Item = usize>, R: Iterator<Item = usize>>(
+    pub fn from_intersection_indices<
+        L: IntoIterator<Item = usize>,
+        R: IntoIterator<Item = usize>,
+    >(
         len: usize,
         lhs: L,
         rhs: R,
     ) -> Result<Mask, MaskError> {
-        let lhs = crate::kit::Collect::collected(lhs)?;
-        let rhs = crate::kit::Collect::collected(rhs)?;
+        let lhs = lhs.into_iter();
+        let rhs = rhs.into_iter();
+        let lhs: Vec<usize> = lhs.collected()?;
+        let rhs: Vec<usize> = rhs.collected()?;
         crate::kit::conditions::owed(
             crate::kit::conditions::ascends(&lhs),
             "Mask::from_intersection_indices",
@@ -214,19 +220,6 @@ impl Mask {
             "rhs_ascends",
             "EachRunFrom R.next_gives rhs IsAscending",
         );
-        Mask::from_intersection_indices_proved::<_, _>(len, lhs.into_iter(), rhs.into_iter())
-    }
-
-    pub(crate) fn from_intersection_indices_proved<
-        L: Iterator<Item = usize>,
-        R: Iterator<Item = usize>,
-    >(
-        len: usize,
-        lhs: L,
-        rhs: R,
-    ) -> Result<Mask, MaskError> {
-        let lhs: Vec<usize> = lhs.collected()?;
-        let rhs: Vec<usize> = rhs.collected()?;
         Mask::of_common(len, lhs, rhs)
     }
 

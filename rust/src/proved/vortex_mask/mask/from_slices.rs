@@ -1,4 +1,4 @@
-// Made of `crates/vortex_mask/src/mask/from_slices.rt` by `rust/erase`: change that, and make this anew.
+// Made of crates/vortex_mask/src/mask/from_slices.rt by `rust/erase`: change that, and make this anew.
 //! Masks from ranges, and what is wrong with a list of them.
 
 use crate::kit::AllocError;
@@ -17,7 +17,7 @@ impl Mask {
     /// empty or passes the length, else `UnsortedRanges` or `OverlappingRanges` of the first that
     /// does not start after the start of the one before it, or starts below its end.
     ///
-    /// # Proved
+    /// # Proved ([terms](crate::definitions))
     ///
     /// - *len*: `IfOk result (λ m. length (truth m) ≡ len)`
     /// - *list*: `IfOk result (λ m. AreRanges (truth m) ranges.items)`

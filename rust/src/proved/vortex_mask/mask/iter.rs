@@ -1,4 +1,4 @@
-// Made of `crates/vortex_mask/src/mask/iter.rt` by `rust/erase`: change that, and make this anew.
+// Made of crates/vortex_mask/src/mask/iter.rt by `rust/erase`: change that, and make this anew.
 //! Walks over a mask that is only lent: its values, true indices and runs.
 
 use crate::kit::prelude::*;
@@ -47,7 +47,7 @@ impl ExactSizeIterator for MaskBoolIter<'_> {
 impl Mask {
     /// The values in their order.
     ///
-    /// # Proved
+    /// # Proved ([terms](crate::definitions))
     ///
     /// - *list*: `values_left result ≡ truth self.now`
     /// - *in_order*: `YieldsInOrder (YieldsFirst values_left) values_left`
@@ -90,7 +90,7 @@ impl Mask {
     /// The indices of the true values, ascending, of a mask that is only lent. No list is made or
     /// cached.
     ///
-    /// # Proved
+    /// # Proved ([terms](crate::definitions))
     ///
     /// - *indices*: `indices_left result ≡ positions (truth self.now)`
     /// - *in_order*: `YieldsInOrder (YieldsFirst indices_left) indices_left`
@@ -129,7 +129,7 @@ impl Mask {
     /// The runs of the true values, ascending, of a mask that is only lent. No list is made or
     /// cached.
     ///
-    /// # Proved
+    /// # Proved ([terms](crate::definitions))
     ///
     /// - *runs*: `AreRuns (truth self.now) (ranges_left result)`
     /// - *in_order*: `YieldsInOrder (YieldsFirst ranges_left) ranges_left`

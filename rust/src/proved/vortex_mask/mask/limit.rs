@@ -1,4 +1,4 @@
-// Made of `crates/vortex_mask/src/mask/limit.rt` by `rust/erase`: change that, and make this anew.
+// Made of crates/vortex_mask/src/mask/limit.rt by `rust/erase`: change that, and make this anew.
 //! The first true values of a mask.
 
 use crate::kit::AllocError;
@@ -11,7 +11,7 @@ impl Mask {
     /// The first `k` true values, and false ones from there on. A mask that has no more true ones
     /// stays as it is.
     ///
-    /// # Proved
+    /// # Proved ([terms](crate::definitions))
     ///
     /// - *list*: `IfOk result (λ m. truth m ≡ limited (truth self) k)`
     /// - *len*: `IfOk result (λ m. length (truth m) ≡ length (truth self))`
@@ -31,7 +31,7 @@ impl Mask {
     /// The first `k` true values of a mask that is only lent, and false ones from there on. The
     /// result is a clone of a mask that has no more true ones.
     ///
-    /// # Proved
+    /// # Proved ([terms](crate::definitions))
     ///
     /// - *list*: `IfOk result (λ m. truth m ≡ limited (truth self.now) k)`
     /// - *len*: `IfOk result (λ m. length (truth m) ≡ length (truth self.now))`

@@ -1,4 +1,4 @@
-// Made of `crates/vortex_mask/src/mask/push_rows.rt` by `rust/erase`: change that, and make this anew.
+// Made of crates/vortex_mask/src/mask/push_rows.rt by `rust/erase`: change that, and make this anew.
 //! The rows at the true values of a list, put into room that was made for just these.
 
 use crate::kit::prelude::*;

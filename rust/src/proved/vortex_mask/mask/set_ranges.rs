@@ -1,4 +1,4 @@
-// Made of `crates/vortex_mask/src/mask/set_ranges.rt` by `rust/erase`: change that, and make this anew.
+// Made of crates/vortex_mask/src/mask/set_ranges.rt by `rust/erase`: change that, and make this anew.
 //! The bits of ranges set in bytes.
 
 use crate::kit::prelude::*;

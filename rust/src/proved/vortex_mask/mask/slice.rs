@@ -1,4 +1,4 @@
-// Made of `crates/vortex_mask/src/mask/slice.rt` by `rust/erase`: change that, and make this anew.
+// Made of crates/vortex_mask/src/mask/slice.rt by `rust/erase`: change that, and make this anew.
 //! Parts of a mask, and its groups.
 
 use crate::kit::prelude::*;
@@ -8,12 +8,12 @@ use crate::proved::vortex_mask::mask::{Mask, MaskError};
 impl Mask {
     /// The values `start..end`. The whole mask has its cached lists, and any other part has none.
     ///
-    /// # The caller owes
+    /// # The caller owes ([terms](crate::definitions))
     ///
     /// - *ordered*: `start ≤ end`
     /// - *within*: `end ≤ length (truth self.now)`
     ///
-    /// # Proved
+    /// # Proved ([terms](crate::definitions))
     ///
     /// - *list*: `IfOk result (λ m. truth m ≡ slice_range (truth self.now) start end)`
     /// - *variant*: `IfOk result (λ m. variant m ≡ fitting_variant (variant_of_no_part (variant self.now)) (truth m))`
@@ -54,11 +54,11 @@ impl Mask {
     /// A mask for each group of `size` values, as for the row groups of a file or the batches of a
     /// scan. The last group may have fewer values, and no values give no group.
     ///
-    /// # The caller owes
+    /// # The caller owes ([terms](crate::definitions))
     ///
     /// - `0 < size`
     ///
-    /// # Proved
+    /// # Proved ([terms](crate::definitions))
     ///
     /// - *groups*: `IfOk result (λ v. map truth v.items ≡ map (group (truth self.now) size) (range_with_len 0 (div_ceil (length (truth self.now)) size)))`
     /// - *len*: `IfOk result (λ v. vec_len v ≡ div_ceil (length (truth self.now)) size)`
@@ -67,7 +67,7 @@ impl Mask {
     #[inline]
     #[track_caller]
     pub fn groups(&self, size: usize) -> Result<Vec<Mask>, MaskError> {
-        crate::kit::conditions::owed(0 < size, "Mask::groups", "the condition", "0 < size");
+        crate::kit::conditions::owed(0 < size, "Mask::groups", "its condition", "0 < size");
         self.groups_proved(size)
     }
 

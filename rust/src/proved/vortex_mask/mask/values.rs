@@ -1,4 +1,4 @@
-// Made of `crates/vortex_mask/src/mask/values.rt` by `rust/erase`: change that, and make this anew.
+// Made of crates/vortex_mask/src/mask/values.rt by `rust/erase`: change that, and make this anew.
 //! The values of a mask that has both true and false ones.
 
 use crate::kit::AllocError;
@@ -43,7 +43,7 @@ impl MaskValues {
 
     /// How many values there are.
     ///
-    /// # Proved
+    /// # Proved ([terms](crate::definitions))
     ///
     /// - `result ≡ length (values self.now.buffer)`
     pub fn len(&self) -> usize {
@@ -52,7 +52,7 @@ impl MaskValues {
 
     /// Always false: there are at least two values.
     ///
-    /// # Proved
+    /// # Proved ([terms](crate::definitions))
     ///
     /// - `IsTrue result ↔ (values self.now.buffer ≡ [])`
     pub fn is_empty(&self) -> bool {
@@ -61,7 +61,7 @@ impl MaskValues {
 
     /// How many values are true: at least one, and not all.
     ///
-    /// # Proved
+    /// # Proved ([terms](crate::definitions))
     ///
     /// - *counted*: `result ≡ count (values self.now.buffer)`
     /// - *cached*: `result ≡ self.now.true_count`
@@ -73,7 +73,7 @@ impl MaskValues {
 
     /// The values, packed: some of them true, and some not.
     ///
-    /// # Proved
+    /// # Proved ([terms](crate::definitions))
     ///
     /// - *buffer*: `result.now ≡ self.now.buffer`
     /// - *mixed*: `IsMixed result.now self.now.true_count`
@@ -83,7 +83,7 @@ impl MaskValues {
 
     /// Takes the packed values out. Their count and the cached lists are dropped.
     ///
-    /// # Proved
+    /// # Proved ([terms](crate::definitions))
     ///
     /// - `result ≡ self.buffer`
     pub fn into_bit_buffer(self) -> BitBuffer {
@@ -93,11 +93,11 @@ impl MaskValues {
 
     /// Value `index`.
     ///
-    /// # The caller owes
+    /// # The caller owes ([terms](crate::definitions))
     ///
     /// - `index < length (values self.now.buffer)`
     ///
-    /// # Proved
+    /// # Proved ([terms](crate::definitions))
     ///
     /// - `slice_get (values self.now.buffer) index ≡ Some result`
     #[inline]
@@ -106,7 +106,7 @@ impl MaskValues {
         crate::kit::conditions::owed(
             index < self.buffer.len(),
             "MaskValues::value",
-            "the condition",
+            "its condition",
             "index < length (values self.now.buffer)",
         );
         self.value_proved(index)
@@ -118,7 +118,7 @@ impl MaskValues {
 
     /// The true indices, ascending, if they are cached.
     ///
-    /// # Proved
+    /// # Proved ([terms](crate::definitions))
     ///
     /// - *cached*: `option_map (λ indices. indices.now) result ≡ self.now.caches.indices`
     /// - *whole*: `AreOf (values self.now.buffer) self.now.caches`
@@ -128,7 +128,7 @@ impl MaskValues {
 
     /// The runs of true indices, ascending, if they are cached.
     ///
-    /// # Proved
+    /// # Proved ([terms](crate::definitions))
     ///
     /// - *cached*: `option_map (λ ranges. ranges.now) result ≡ self.now.caches.ranges`
     /// - *whole*: `AreOf (values self.now.buffer) self.now.caches`
@@ -146,7 +146,7 @@ impl MaskValues {
 
     /// The same values with the same lists cached.
     ///
-    /// # Proved
+    /// # Proved ([terms](crate::definitions))
     ///
     /// - *same*: `IfOk result (λ v. v ≡ self.now)`
     /// - *refused*: `IsOkUnless result (MaskError.Memory alloc_error)`
@@ -166,7 +166,7 @@ impl MaskValues {
 impl MaskValues {
     /// The true indices, ascending.
     ///
-    /// # Proved
+    /// # Proved ([terms](crate::definitions))
     ///
     /// - *list*: `IfOk result (λ indices. indices.now ≡ positions (values self.old.buffer))`
     /// - *after*: `sem 𝓛 (Rests the_row self.entry (λ new. IfOk result (λ indices. new ≡ with_caches (with_indices indices.now self.old.caches) self.old) × OnErr result (new ≡ self.old)))`
@@ -180,7 +180,7 @@ impl MaskValues {
     /// The runs of true indices, ascending. Each is its first index and the index past its
     /// last.
     ///
-    /// # Proved
+    /// # Proved ([terms](crate::definitions))
     ///
     /// - *list*: `IfOk result (λ ranges. ranges.now ≡ runs (values self.old.buffer))`
     /// - *after*: `sem 𝓛 (Rests the_row self.entry (λ new. IfOk result (λ ranges. new ≡ with_caches (with_ranges ranges.now self.old.caches) self.old) × OnErr result (new ≡ self.old)))`
@@ -194,11 +194,11 @@ impl MaskValues {
     /// The ranges of `slices` where the share of true values is `num / den` or more, else the list of
     /// `indices`. The comparison is exact.
     ///
-    /// # The caller owes
+    /// # The caller owes ([terms](crate::definitions))
     ///
     /// - `0 < den`
     ///
-    /// # Proved
+    /// # Proved ([terms](crate::definitions))
     ///
     /// - *threshold*: `IfOk result (λ lent. IsTrue (lends_ranges lent) ↔ ReachesShare (values self.old.buffer) num den)`
     /// - *list*: `IfOk result (IsLentOf (values self.old.buffer))`
@@ -212,7 +212,7 @@ impl MaskValues {
         crate::kit::conditions::owed(
             0 < den,
             "MaskValues::threshold_iter",
-            "the condition",
+            "its condition",
             "0 < den",
         );
         self.threshold_iter_proved(num, den)

@@ -1,4 +1,4 @@
-// Made of `crates/vortex_mask/src/intersect_by_rank/deposit/bytewise.rt` by `rust/erase`: change that, and make this anew.
+// Made of crates/vortex_mask/src/intersect_by_rank/deposit/bytewise.rt by `rust/erase`: change that, and make this anew.
 //! Deposits that work on the sixteen bytes of two words at once, with no branch: the network of the
 //! Rust crate, with a lane of a vector for each byte.
 //!
@@ -44,7 +44,7 @@ use crate::kit::prelude::*;
 /// The deposit at any mask, by a network over its eight bytes at once. It takes about as long at
 /// each mask, and as long as two deposits by [`deposit_two_bytewise`].
 ///
-/// # Proved
+/// # Proved ([terms](crate::definitions))
 ///
 /// - `Deposits source mask result`
 #[inline(always)]

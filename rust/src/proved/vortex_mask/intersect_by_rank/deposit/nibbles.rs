@@ -1,4 +1,4 @@
-// Made of `crates/vortex_mask/src/intersect_by_rank/deposit/nibbles.rt` by `rust/erase`: change that, and make this anew.
+// Made of crates/vortex_mask/src/intersect_by_rank/deposit/nibbles.rt by `rust/erase`: change that, and make this anew.
 //! Deposits into two words at once that read from tables how the bits of a nibble move: four bits, or
 //! half of a byte. The network of `bytewise` works that out by shifts, which takes longer.
 //!

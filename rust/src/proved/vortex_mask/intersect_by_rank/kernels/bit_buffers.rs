@@ -1,4 +1,4 @@
-// Made of `crates/vortex_mask/src/intersect_by_rank/kernels/bit_buffers.rt` by `rust/erase`: change that, and make this anew.
+// Made of crates/vortex_mask/src/intersect_by_rank/kernels/bit_buffers.rt by `rust/erase`: change that, and make this anew.
 //! The kernel over two bit buffers: one deposit for each started word.
 
 use crate::kit::prelude::*;

@@ -1,4 +1,4 @@
-// Made of `crates/vortex_mask/src/intersect_by_rank/kernels/indices.rt` by `rust/erase`: change that, and make this anew.
+// Made of crates/vortex_mask/src/intersect_by_rank/kernels/indices.rt by `rust/erase`: change that, and make this anew.
 //! The kernel over two lists of indices.
 
 use crate::kit::AllocError;

@@ -1,4 +1,4 @@
-// Made of `crates/vortex_mask/src/intersect_by_rank/kernels/mask_driven.rt` by `rust/erase`: change that, and make this anew.
+// Made of crates/vortex_mask/src/intersect_by_rank/kernels/mask_driven.rt by `rust/erase`: change that, and make this anew.
 //! The kernel that goes by ranks: one selection for each, in words that are read in turn.
 
 use crate::kit::prelude::*;

@@ -1,4 +1,4 @@
-// Made of `crates/vortex_mask/src/intersect_by_rank/kernels/rank_blocks.rt` by `rust/erase`: change that, and make this anew.
+// Made of crates/vortex_mask/src/intersect_by_rank/kernels/rank_blocks.rt by `rust/erase`: change that, and make this anew.
 //! The loop of the kernel over indices of a rank mask that narrows most words: the ranks become a block
 //! of bits, by which pairs of whole words are narrowed as by the bits of a buffer.
 

@@ -1,4 +1,4 @@
-// Made of `crates/vortex_mask/src/intersect_by_rank/kernels/rank_indices.rt` by `rust/erase`: change that, and make this anew.
+// Made of crates/vortex_mask/src/intersect_by_rank/kernels/rank_indices.rt by `rust/erase`: change that, and make this anew.
 //! The kernel over a bit buffer and the indices of a rank mask: one deposit for each started word.
 
 use crate::kit::prelude::*;

@@ -1,4 +1,4 @@
-// Made of `crates/vortex_mask/src/intersect_by_rank/kernels/rank_lists.rt` by `rust/erase`: change that, and make this anew.
+// Made of crates/vortex_mask/src/intersect_by_rank/kernels/rank_lists.rt by `rust/erase`: change that, and make this anew.
 //! Ascending ranks in a list as the rank bits of words.
 
 use crate::kit::prelude::*;

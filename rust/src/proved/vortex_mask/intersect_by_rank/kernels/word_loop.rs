@@ -1,4 +1,4 @@
-// Made of `crates/vortex_mask/src/intersect_by_rank/kernels/word_loop.rt` by `rust/erase`: change that, and make this anew.
+// Made of crates/vortex_mask/src/intersect_by_rank/kernels/word_loop.rt by `rust/erase`: change that, and make this anew.
 //! The loop over words: each started word takes a deposit of rank bits, whole words two at a time.
 
 use crate::kit::prelude::*;

@@ -1,0 +1,138 @@
+"""What is changed in what is left of a source."""
+import collections
+import re
+
+from erasing.tokens import Fault, Masked
+
+# Each crate's sources, where they go, and the path of that place's root.
+PLACES = {
+    "mask_bits": ("src/proved/mask_bits", "crate::proved::mask_bits"),
+    "vortex_mask": ("src/proved/vortex_mask", "crate::proved::vortex_mask"),
+    "maskrun": ("src/bin/maskrun", "crate"),
+    "mask_calls": ("tests/calls/mask_calls", "crate::mask_calls"),
+    "mask_tests": ("tests/calls", "crate"),
+    "mask_bench": ("tests/jobs", "crate"),
+}
+INSIDE = ["mask_bits", "vortex_mask"]
+KIT = {it: "crate::kit" if it in INSIDE else "row_mask::kit" for it in PLACES}
+GONE = {"std::alloc::Global", "std::marker::Model", "thiserror::Error", "std::rt::Env"}
+# Where these paths stand outside the package's own modules, and inside.
+ELSEWHERE = [
+    {
+        "mask_bits::extract::extract": "row_mask::intersect_by_rank::extract",
+        "std::env": "crate::host::env",
+        "std::io": "crate::host::io",
+        "std::io::BufRead": "crate::host::BufRead",
+        "std::io::BufReader": "crate::host::BufReader",
+    },
+    {},
+]
+for inside, kit in enumerate(["row_mask::kit", "crate::kit"]):
+    ELSEWHERE[inside] |= {
+        "bytes::Bytes": f"{kit}::Bytes",
+        "bytes::BytesMut": f"{kit}::BytesMut",
+        "std::alloc::AllocError": f"{kit}::AllocError",
+        "std::alloc::AllocFailed": f"{kit}::AllocFailed",
+        "std::borrow::CowSlice": f"{kit}::CowSlice",
+        "std::rc::Rc": "std::sync::Arc",
+        "std::simd::prelude::*": f"{kit}::lanes::*",
+    }
+SAME = {"std::fmt", "std::fmt::Debug", "std::fmt::Display", "std::mem", "std::mem::size_of_val", "std::process::ExitCode"}
+# Traits whose implementations have to be lawful, which no compiler sees.
+LAWFUL = ["DepositBits", "SelectBit", "ExtractBits"]
+# Functions whose bodies are others here, with the body that they have in the sources.
+LEAVES = {}
+ALLOCATOR = r"(?:\w+\.)*alloc\b(?!\s*[:(!])"
+RULES = [
+    ("the allocator", r",\s*\$alloc(:ident)?", ""),
+    ("the allocator", r"let \$alloc = \$o\.alloc;", ""),
+    ("the allocator", r"\(\$alloc\)", "()"),
+    ("the allocator", r"(pub(\(crate\))?\s+)?\balloc: Global,\s*", ""),
+    ("the allocator", r"\balloc: self\.alloc,\s*", ""),
+    ("the allocator", r"vec!\[in alloc; ([^;\]]+); ([^\]]+)\]", r"{kit}::filled(\1, \2)"),
+    ("the allocator", r"\brt\.alloc\(\),\s*", ""),
+    ("the allocator", r"\(\s*rt\.alloc\(\)\s*\)", "()"),
+    ("the allocator", r"\(\s*\*self\.allocator\(\)\s*\)", "()"),
+    ("the allocator", rf"\b{ALLOCATOR},\s*", ""),
+    ("the allocator", rf",\s*{ALLOCATOR}(?=\s*[);])", ""),
+    ("the allocator", rf"\(\s*{ALLOCATOR}\s*\)", "()"),
+    ("laws", r"\b(?:mask_bits::|crate::)?laws::\w+(?:::<[^>]*>)?\((?:[^()]|\([^()]*\))*\);", ""),
+    ("`prove!(..)`", r"\bprove!\((?:[^()]|\([^()]*\))*\);", ""),
+    ("what takes memory", r"\.clone\(\)", ".try_clone()"),
+    ("what takes memory", r"\bfn clone\(", "fn try_clone("),
+    ("what takes memory", r"\bimpl Clone for\b", "impl {kit}::TryClone for"),
+    ("what takes memory", r"\b(\w+): Clone\b", r"\1: {kit}::TryClone"),
+    ("what takes memory", r"\.collect\(\)", ".collected()"),
+    ("what takes memory", r"\.(push|push_str|resize|to_string|to_vec)\(", r".try_\1("),
+    ("what takes memory", r"\b(Vec|String)::with_capacity\(", r"\1::with_room("),
+    ("what takes memory", r"\bString::from_str\(", "String::try_from_str("),
+    ("what takes memory", r"\bwrite!\(((?!f\b)[\w.]+),\s*([^()]*)\)", r"\1.try_write(format_args!(\2))"),
+    ("what takes memory", r"\bRc::new\(", "{kit}::shared("),
+    ("what takes memory", r"\bBox::new\(", "{kit}::boxed("),
+    ("`Rc`", r"\bRc(?=[<:])", "Arc"),
+    ("shifts", r"(<<|>>) (\w+x\d+)::splat\(", r"\1 \2::every("),
+    ("shifts", r"\blet step = (\w+x\d+)::splat\(", r"let step = \1::every("),
+    ("`fmt`", r"fn fmt<W: fmt::Write>\(&self, f: &mut fmt::Formatter<W>\)", "fn fmt(&self, f: &mut fmt::Formatter<'_>)"),
+    ("`fmt`", r"\b([\w.()]+)\.fmt\(f\)", r"fmt::Debug::fmt(\1, f)"),
+    ("the program's handle", r"\b(e?println)!\(rt;\s*", r"crate::host::\1!(rt; "),
+    ("modules", r"\b(\$?)crate::(?!kit\b|proved\b|mask_calls\b|host\b)", r"\1{root}::"),
+]
+LEFT = re.compile(r"\b(ghost|requires|ensures|tactic|Model|alloc|Global|laws|prove|unreachable_unchecked)\b|[^\x00-\x7f]")
+
+
+def changed(crate, text, found, twins):
+    """The text by all rules, with calls of those that have the body."""
+    masked = Masked(text)
+    for rule, pattern, into in RULES:
+        into = into.replace("{kit}", KIT[crate]).replace("{root}", PLACES[crate][1])
+        masked.text, count = re.subn(pattern, into, masked.text)
+        found[rule][0] += count
+    if crate in INSIDE:
+        masked.text = by_body(masked.text, twins, found)
+    if left := LEFT.search(masked.text):
+        line = masked.text[: left.start()].count("\n")
+        raise Fault(f"`{left[0]}` is left: {masked.text.splitlines()[line].strip()}")
+    return masked.shown()
+
+
+def by_body(text, twins, found):
+    """Has calls inside the package go to what has the body, and tests nothing.
+
+    >>> by_body("a.set(i); a.set(); A::new(b); B::new(b); D::bits(1)", {("A", "set"): 1, ("A", "new"): 1, ("D", "bits"): 1}, counts())
+    'a.set_proved(i); a.set(); A::new_proved(b); B::new(b); D::bits_proved(1)'
+    """
+    methods = collections.defaultdict(set)
+    for (of, name), operands in twins.items():
+        methods[name].add(operands)
+    traits = {name for of, name in twins if of in LAWFUL}
+
+    def renamed(match):
+        on, name = match["on"], match["name"]
+        if on == ".":
+            fits = name in methods and number_of_operands(text, match.end()) in methods[name]
+        else:
+            fits = (on.removesuffix("::"), name) in twins or name in traits or (on == "D::" and name in methods)
+        found["calls inside the package"][0] += fits
+        return match[0].replace(name, name + "_proved", 1) if fits else match[0]
+
+    return re.sub(r"(?P<on>\.|\b[A-Z]\w*::)(?P<name>\w+)(::<[^()]*?>)?\(", renamed, text)
+
+
+def number_of_operands(text, i):
+    """How many operands a call has, from behind its bracket on."""
+    depth, commas, last = 0, 0, "("
+    while depth >= 0:
+        it = text[i]
+        depth += (it in "([{") - (it in ")]}")
+        commas += it == "," and not depth
+        if depth >= 0 and not it.isspace():
+            last = it
+        i += 1
+    return commas + (last not in "(,")
+
+
+def counts():
+    """Places and lines, by rule."""
+    return collections.defaultdict(lambda: [0, 0])
+
+

@@ -1,0 +1,445 @@
+"""What is left of the items of a source when contracts are taken out."""
+import collections
+import re
+
+from erasing.changes import ELSEWHERE, GONE, INSIDE, LAWFUL, LEAVES, PLACES, SAME
+from erasing.conditions import TESTS, Condition
+from erasing.tokens import Fault, attached, leaves, spaced
+
+DROP = re.compile(r"\s*\+\s*Drop\b|:\s*Drop\b")
+
+
+class Function:
+    """A function's signature: its parts as text.
+
+    >>> from erasing.tokens import Source
+    >>> source = Source("pub fn put<const K: usize, I: Iterator<Item = u8>>(&mut self, alloc: Global, it: I) -> bool {}")
+    >>> function = Function(source, 0, len(source.tokens) - 2)
+    >>> function.name, function.parameters, function.call("put_proved", "A", ["it"])
+    ('put', ['&mut self', 'it: I'], 'self.put_proved::<K, _>(it.into_iter())')
+    """
+
+    def __init__(self, source, i, end):
+        j = i
+        while source.tokens[j][1] != "fn":
+            j += 1
+        self.before = source.text(i, j)
+        j = source.next(j + 1, end)
+        self.name = source.tokens[j][1]
+        j = source.next(j + 1, end)
+        begin, depth = j, 0
+        while source.tokens[j][1] == "<" or depth:
+            depth += source.angle(j)
+            j += 1
+        self.generics = source.split(begin + 1, j - 1) if j > begin else []
+        j = source.next(j, end)
+        last = source.partner[j]
+        self.parameters = [it for it in source.split(j + 1, last) if not re.match(r"_?alloc:", it)]
+        self.tail = DROP.sub("", source.text(last + 1, end)).rstrip()
+
+    def types(self, of=None):
+        """The types of the parameters by their names."""
+        named = [it.split(":", 1) for it in self.parameters if not it.endswith("self")]
+        return {name.removeprefix("mut ").strip(): it.strip() for name, it in named} | {"self": of or ""}
+
+    def iterators(self):
+        """The parameters that are iterators, with the names of their types."""
+        kinds = {it.split(":")[0] for it in self.generics if re.match(r"\w+: Iterator<", it)}
+        return {name: it for name, it in self.types().items() if it in kinds}
+
+    def signature(self, name=None, before=None, widened=False):
+        generics = [DROP.sub("", it) for it in self.generics]
+        if widened:
+            generics = [re.sub(r"^(\w+): Iterator<", r"\1: IntoIterator<", it) for it in generics]
+        head = f"{self.before if before is None else before}fn {name or self.name}"
+        generics = f"<{', '.join(generics)}>" if generics else ""
+        return f"{head}{generics}({', '.join(self.parameters)}){self.tail}"
+
+    def call(self, name, of, listed):
+        """A call with the function's own parameters, of which these are lists now."""
+        generics = [re.sub(r"^const ", "", it).split(":")[0].strip() for it in self.generics]
+        anew = set(self.iterators().values())
+        generics = ["_" if it in anew else it for it in generics if not it.startswith("'")]
+        turbofish = f"::<{', '.join(generics)}>" if generics else ""
+        handed = [f"{it}.into_iter()" if it in listed else it for it in list(self.types())[:-1]]
+        is_method = bool(self.parameters) and self.parameters[0].endswith("self")
+        on = "self." if is_method else f"{of}::" if of else ""
+        return f"{on}{name}{turbofish}({', '.join(handed)})"
+
+
+class Erasure:
+    """What is left of a file of a crate."""
+
+    def __init__(self, crate, source, public, twins, counts):
+        self.crate, self.source = crate, source
+        # names that the package hands out
+        self.public = public
+        # calls of which one tests conditions and another has the body, each with its number of operands
+        self.twins = twins
+        # places and lines, by rule
+        self.counts = counts
+        # functions that test conditions, of those that are no methods
+        self.tested = []
+
+    def count(self, rule, text=""):
+        self.counts[rule][0] += 1
+        self.counts[rule][1] += text.count("\n")
+
+    def all(self):
+        return self.items(0, len(self.source.tokens), ("file", None))
+
+    def items(self, i, end, context):
+        out, tokens = [], self.source.tokens
+        while True:
+            lead = i
+            i, attributes = self.attributes(i, end)
+            if i >= end:
+                return "".join(out) + self.source.text(lead, end)
+            j = i
+            while tokens[j][1] in ("pub", "unsafe", "extern") or self.source.text(j, j + 3) == "const fn":
+                j = self.behind_quality(j, end)
+            word = tokens[j][1]
+            form = getattr(self, f"item_{word}", None)
+            if self.source.word(j, end) == "!":
+                form = self.item_macro
+            if form is None:
+                self.source.fault(j, f"no form for an item that begins with `{word}`")
+            made, i = form(i, j, end, context, self.lead(lead, i), attributes)
+            out.append(made)
+
+    def behind_quality(self, j, end):
+        """Behind `pub`, `pub(crate)`, `unsafe`, `const` or `extern "C"`."""
+        k = self.source.next(j + 1, end)
+        if self.source.tokens[j][1] == "pub" and self.source.tokens[k][1] == "(":
+            return self.source.next(self.source.partner[k] + 1, end)
+        return self.source.next(k + 1, end) if self.source.tokens[j][1] == "extern" else k
+
+    def attributes(self, i, end):
+        """Behind the attributes and comments that stand before an item."""
+        found, tokens = [], self.source.tokens
+        while True:
+            i = self.source.next(i, end)
+            if i >= end or tokens[i][1] != "#":
+                return i, found
+            begin = i
+            i = self.source.partner[i + (2 if tokens[i + 1][1] == "!" else 1)] + 1
+            found.append(self.source.text(begin, i))
+
+    def lead(self, i, end):
+        """What stands before an item, without tactics, and without derives of what Rust has by itself."""
+        text, tokens = "", self.source.tokens
+        while i < end:
+            if tokens[i][1] != "#":
+                text += tokens[i][1]
+                i += 1
+                continue
+            j = i + (2 if tokens[i + 1][1] == "!" else 1)
+            last, word = self.source.partner[j] + 1, tokens[j + 1][1]
+            kept = self.source.text(i, last)
+            if word == "tactic":
+                self.count("tactics", kept + "\n")
+                kept = ""
+            elif word == "derive":
+                names = re.findall(r"\w+", kept)[1:]
+                left = [it for it in names if it not in ("Drop", "Error")]
+                self.counts["drops"][0] += "Drop" in names
+                kept = f"#[derive({', '.join(left)})]" if left else ""
+            text += kept
+            i = last
+            if not kept and i < end and tokens[i][0] == "space":
+                text += tokens[i][1].partition("\n")[2].lstrip(" ")
+                i += 1
+        return text
+
+    def taken(self, rule, i, end, before):
+        """Takes an item out, with what belongs to it."""
+        kept, own = attached(before)
+        self.count(rule, own + self.source.text(i, end) + "\n")
+        return kept, end
+
+    def item_ghost(self, i, j, end, context, before, attributes):
+        return self.taken("ghost items", i, self.source.find(j, end, [";"]) + 1, before)
+
+    def item_use(self, i, j, end, context, before, attributes):
+        last = self.source.find(j, end, [";"]) + 1
+        return before + self.imports(self.source.text(i, j), self.source.text(j + 1, last - 1)), last
+
+    def item_mod(self, i, j, end, context, before, attributes):
+        last = self.source.find(j, end, [";", "{"])
+        if self.source.tokens[last][1] == "{":
+            self.source.fault(j, "a module within a file")
+        if self.source.word(j, end) == "laws":
+            return self.taken("laws", i, last + 1, before)
+        return before + self.source.text(i, last + 1), last + 1
+
+    def item_impl(self, i, j, end, context, before, attributes):
+        body = self.source.find(j, end, ["{"])
+        last = self.source.partner[body] + 1
+        head = self.source.text(i, body)
+        if re.search(r"\bModel\s+for\b", head):
+            return self.taken("models", i, last, before)
+        trait = re.search(r"(\w+)\s*(<[^{]*>)?\s+for\s", head)
+        of = re.search(r"impl\s*(<(?:[^<>]|<[^<>]*>|->)*>)?\s*(\w+)", head)
+        items = self.items(body + 1, last - 1, ("trait impl", trait[1]) if trait else ("impl", of[2]))
+        quality = "unsafe " if trait and trait[1] in LAWFUL else ""
+        return f"{before}{quality}{DROP.sub('', head)}{{{items}}}", last
+
+    def item_trait(self, i, j, end, context, before, attributes):
+        body = self.source.find(j, end, ["{"])
+        last = self.source.partner[body] + 1
+        name = self.source.word(j, end)
+        head = DROP.sub("", self.source.text(i, body))
+        items = self.items(body + 1, last - 1, ("trait", name))
+        if name in LAWFUL:
+            self.count("lawful traits")
+            before += "///\n/// # Safety\n///\n/// Each answer is as its contract says: a compiler can't see that.\n"
+            head = re.sub(r"\btrait\b", "unsafe trait", head)
+        if "Result<Self" in items and ":" not in head:
+            head = head.rstrip() + ": Sized "
+        return f"{before}{head}{{{items}}}", last
+
+    def item_struct(self, i, j, end, context, before, attributes):
+        first = self.source.find(j, end, ["{", ";"])
+        if self.source.tokens[first][1] == ";":
+            return before + self.source.text(i, first + 1), first + 1
+        last = self.source.partner[first]
+        made = before + DROP.sub("", self.source.text(i, first + 1)) + self.fields(first + 1, last) + "}"
+        if any("Error" in re.findall(r"\w+", it) for it in attributes):
+            made += self.error(self.source.word(j, end), first + 1, last)
+        return made, last + 1
+
+    item_enum = item_struct
+
+    def fields(self, i, end):
+        """The fields of a struct, or the variants of an enum."""
+        out, tokens = "", self.source.tokens
+        while i < end:
+            if tokens[i] == ("word", "ghost"):
+                last = self.source.find(i, end, [","]) + 1
+                at = out.rfind(",") + 1
+                kept, own = attached(out[at:])
+                out = out[:at] + kept
+                self.count("ghost items", own + self.source.text(i, last) + "\n")
+                i = last
+            elif tokens[i][1] == "#" and tokens[i + 2][1] in ("error", "from"):
+                i = self.source.partner[i + 1] + 1
+            else:
+                out += tokens[i][1]
+                i += 1
+        return out
+
+    def error(self, name, i, end):
+        """What `thiserror` derives: the texts of the variants."""
+        arms, text, tokens = [], None, self.source.tokens
+        i = self.source.next(i, end)
+        while i < end:
+            if tokens[i][1] == "#":
+                last = self.source.partner[i + 1]
+                text = self.source.text(i + 4, last - 1).strip()
+                i = last
+            elif tokens[i][0] == "word":
+                variant, j = tokens[i][1], self.source.next(i + 1, end)
+                fields = self.source.text(j, self.source.partner[j]) if j in self.source.partner else ""
+                arms.append(f"{name}::{variant}{arm(fields, text)},")
+                i = self.source.partner.get(j, i)
+            i = self.source.next(i + 1, end)
+        self.count("errors")
+        return f"""
+
+impl std::fmt::Display for {name} {{
+    fn fmt(&self, f: &mut std::fmt::Formatter<'_>) -> std::fmt::Result {{
+        match self {{ {' '.join(arms)} }}
+    }}
+}}
+
+impl std::error::Error for {name} {{}}
+"""
+
+    def item_const(self, i, j, end, context, before, attributes):
+        last = self.source.find(j, end, [";"]) + 1
+        return before + self.source.text(i, last), last
+
+    item_static = item_const
+    item_type = item_const
+
+    def item_macro(self, i, j, end, context, before, attributes):
+        last = j
+        while self.source.tokens[last][1] not in "([{":
+            last += 1
+        last = self.source.partner[last] + 1
+        if self.source.tokens[last - 1][1] != "}":
+            last = self.source.find(last, end, [";"]) + 1
+        return before + self.source.text(i, last), last
+
+    def imports(self, head, tree):
+        """The imports of an item `use`, by the paths that they have here."""
+        groups = collections.defaultdict(list)
+        for path in leaves(tree):
+            here = self.path(path)
+            if here is None:
+                self.count("imports")
+            else:
+                place, mark, name = here.rpartition("::")
+                groups[place + mark].append(name)
+        return "\n".join(f"{head}use {place}{{{', '.join(names)}}};" for place, names in groups.items())
+
+    def path(self, path):
+        """Where a path stands here, or none where nothing is left to import."""
+        root, *rest = path.split("::")
+        if "laws" in rest or path in GONE:
+            return None
+        if path in ELSEWHERE[self.crate in INSIDE]:
+            return ELSEWHERE[self.crate in INSIDE][path]
+        if root == "crate":
+            return "::".join([PLACES[self.crate][1], *rest])
+        if root in INSIDE:
+            return "::".join([PLACES[root][1] if self.crate in INSIDE else "row_mask", *rest])
+        if root == "mask_calls":
+            return "::".join([PLACES[root][1], *rest])
+        if root in ("std", "bytes", "thiserror") and path not in SAME:
+            raise Fault(f"{self.source.name}: no place for `{path}`")
+        return path
+
+    def item_fn(self, i, j, end, context, before, attributes):
+        last = self.source.find(i, end, ["{", ";", "requires", "ensures"])
+        function = Function(self.source, i, last)
+        clauses, last = self.clauses(last, end)
+        body = ";"
+        if self.source.tokens[last][1] == "{":
+            body = self.source.text(last, self.source.partner[last] + 1)
+            last = self.source.partner[last]
+        kind, of = context
+        where = function.name if of is None else f"{of}::{function.name}"
+        body = self.leaf(where, body)
+        if kind == "trait impl":
+            name = function.name + ("_proved" if (of, function.name) in self.twins else "")
+            return f"{before}{function.signature(name)} {body}", last + 1
+        if not self.is_public(function, context):
+            return f"{before}{function.signature()} {body}", last + 1
+        tests, listed = self.tests(function, clauses, of, where)
+        before = documented(before, clauses)
+        if lists := lists_first(body, listed):
+            body = body[:lists] + "\n" + "\n".join(tests) + body[lists:]
+            return f"{before}#[track_caller]\n{self.widened(function, body)}", last + 1
+        if tests:
+            return self.with_tests(function, tests, listed, context, before, body), last + 1
+        return before + self.widened(function, body), last + 1
+
+    def widened(self, function, body):
+        """A public function, which takes all that can be gone through where the source takes an iterator."""
+        iterators = list(function.iterators())
+        if iterators:
+            self.count("iterators")
+            body = "{" + "".join(f"let {it} = {it}.into_iter();" for it in iterators) + body[1:]
+        return function.signature(widened=True) + " " + body
+
+    def leaf(self, where, body):
+        if where not in LEAVES:
+            return body
+        if spaced(body) != spaced(LEAVES[where][0]):
+            raise Fault(f"{self.source.name}: the leaf {where} has another body")
+        self.count("leaves", body)
+        return LEAVES[where][1]
+
+    def is_public(self, function, context):
+        kind, of = context
+        if self.crate not in INSIDE:
+            return False
+        if kind == "trait":
+            return of in self.public
+        return function.before.strip() == "pub" and (function.name if kind == "file" else of) in self.public
+
+    def clauses(self, i, end):
+        """The clauses of a contract, and the token behind them."""
+        found, tokens = [], self.source.tokens
+        while True:
+            i = self.source.next(i, end)
+            if tokens[i][1] not in ("requires", "ensures"):
+                return found, i
+            word, begin = tokens[i][1], i
+            i = self.source.next(i + 1, end)
+            if tokens[i][1] == "*":
+                i = self.source.next(i + 1, end)
+            name = tokens[i][1] if tokens[i][0] == "word" else None
+            i = self.source.next(i + 1, end) if name else i
+            last = self.source.partner[i]
+            self.count("contracts", self.source.text(begin, last) + "\n")
+            found.append((word, name, spaced(self.source.text(i + 1, last))))
+            i = last + 1
+
+    def tests(self, function, clauses, of, where):
+        """The tests of what a caller owes, and the iterators whose items are listed for them."""
+        tests, listed = [], []
+        for word, name, words in clauses:
+            if word != "requires":
+                continue
+            condition = Condition(function.types(of), words)
+            try:
+                test = condition.test()
+            except (Fault, AttributeError, IndexError, ValueError) as fault:
+                raise Fault(f"{self.source.name}: {where}: no test for `{words}` ({fault})") from fault
+            listed += condition.listed
+            if test:
+                self.count("conditions")
+                tests.append(f'{TESTS}::owed({test}, "{where}", "{name or "its condition"}", "{words}");')
+        return tests, list(dict.fromkeys(listed))
+
+    def with_tests(self, function, tests, listed, context, before, body):
+        """A function that tests what its caller owes, and one that has the body."""
+        kind, of = context
+        attributes = "".join(f"{it}\n" for it in before.splitlines() if it.strip().startswith("#["))
+        docs = "\n".join(it for it in before.splitlines() if not it.strip().startswith("#["))
+        lists = [f"let {it} = crate::kit::Collect::collected({it}.into_iter())?;" for it in listed]
+        head = f"\n{docs}\n#[inline]\n#[track_caller]\n{function.signature(widened=True)}"
+        if kind == "file":
+            call = function.call(f"inner::{function.name}", None, listed)
+            self.tested.append(f"{head} {{\n{' '.join([*lists, *tests, call])}\n}}\n")
+            return f"\n\n{attributes}{function.signature()} {body}"
+        self.twins[(of, function.name)] = len(function.types()) - 1
+        name = f"{function.name}_proved"
+        call = function.call(name, "Self" if kind == "trait" else of, listed)
+        quality = "" if kind == "trait" else "pub(crate) "
+        hidden = "/// The same, where the caller meets the conditions.\n" if kind == "trait" else ""
+        twin = f"{hidden}{attributes}{function.signature(name, quality)} {body}"
+        return f"{head} {{ {' '.join([*lists, *tests, call])} }}\n\n{twin}"
+
+
+def lists_first(body, iterators):
+    """Where tests of these iterators' items can stand: behind the statements that list them, if the body begins so.
+
+    >>> lists_first("{ let a: Vec<usize> = a.collect(alloc)?; f(a) }", ["a"])
+    40
+    """
+    end = 1
+    for it in iterators:
+        match = re.compile(rf"\s*let {it}: Vec<\w+> = {it}\.collect\(alloc\)\?;").match(body, end)
+        end = match.end() if match else 0
+    return end if iterators and end > 1 else 0
+
+
+def arm(fields, text):
+    """The pattern of a variant, and what it prints.
+
+    >>> arm("{ at: usize", '"at {at}"'), arm("(AllocError", '"no memory"'), arm("(MaskError", "transparent")
+    (' { at } => write!(f, "at {at}")', '(..) => f.write_str("no memory")', '(it) => std::fmt::Display::fmt(it, f)')
+    """
+    if text == "transparent":
+        return "(it) => std::fmt::Display::fmt(it, f)"
+    if not fields.startswith("{"):
+        return f"{'(..)' if fields else ''} => f.write_str({text})"
+    names = re.findall(r"(\w+):", fields)
+    used = [it for it in names if f"{{{it}}}" in text]
+    return f" {{ {', '.join(used if used == names else [*used, '..'])} }} => write!(f, {text})"
+
+
+def documented(before, clauses):
+    """The comment of a function, with its contract behind it."""
+    lines = []
+    for title, word in [("The caller owes", "requires"), ("Proved", "ensures")]:
+        found = [(name, it) for kind, name, it in clauses if kind == word]
+        if found:
+            lines += ["", f"# {title} ([terms](crate::definitions))", ""]
+            lines += [f"- {f'*{name}*: ' if name else ''}`{it}`" for name, it in found]
+    docs = [it for it in before.splitlines() if it.lstrip().startswith("///")]
+    rest = [it for it in before.splitlines() if it.strip() and it not in docs]
+    return "\n".join(["\n", *docs, *(f"/// {it}".rstrip() for it in lines), *rest]) + "\n"

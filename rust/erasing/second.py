@@ -1,0 +1,200 @@
+"""A second way to see that nothing was touched but what has a rule. It knows no items: it takes from the tokens of a source
+what has to be gone, and from those of what was made what has to be new, gives a few words the names that they have on
+the other side, and then both are one list of tokens. Commas and imports are not compared."""
+import re
+
+from erasing.changes import LAWFUL, LEAVES
+from erasing.tokens import CLOSING, OPENING, TOKEN, Fault, spaced
+
+# Words of a source that have another name in what was made of it.
+NAMED = {
+    "clone": "try_clone", "Clone": "TryClone", "collect": "collected", "push": "try_push", "push_str": "try_push_str",
+    "resize": "try_resize", "to_string": "try_to_string", "to_vec": "try_to_vec", "with_capacity": "with_room",
+    "Rc": "Arc", "IntoIterator": "Iterator", "splat": "every",
+}
+# Paths that stand before a name on one side or the other.
+PATHS = [
+    "crate :: proved :: mask_bits ::", "crate :: proved :: vortex_mask ::", "crate :: mask_calls ::", "crate :: host ::",
+    "crate :: kit ::", "row_mask :: kit ::", "row_mask :: intersect_by_rank ::", "row_mask ::", "mask_bits ::",
+    "vortex_mask ::", "crate ::",
+]
+# Statements and parts that have to be gone from a source, and that have to be new in what was made.
+GONE = [
+    r"(?:laws ::|mask_bits :: laws ::|crate :: laws ::) \w+ (?::: < [^>]* > )?\( [^;]*\) ;",
+    r"prove ! \( [^;]*\) ;",
+    r"(?:pub (?:\( crate \) )?)?_?alloc : Global",
+    r"let \$ alloc = \$ o \. alloc ;",
+    r"\$ alloc(?: : ident)?",
+    r"alloc : self \. alloc",
+    r"in alloc ;",
+    r"rt \. alloc \( \)",
+    r"\* self \. allocator \( \)",
+    r"(?:\w+ \. )*alloc(?= [^:(!]|$)",
+    r": Drop(?= [>,{)]|$)",
+    r"\+ Drop",
+]
+OWED = r"crate :: kit :: conditions :: owed \( [^;]*?, \"[-\d]+\" , \"[-\d]+\" , \"[-\d]+\" \) ;"
+NEW = [
+    OWED,
+    r"# \[ track_caller \]",
+    r"let (\w+) = \1 \. into_iter \( \) ;",
+    r": Sized(?= \{)",
+    r"unsafe(?= (?:trait|impl))",
+]
+# Forms that are others, on either side.
+SAME = [
+    (r"vec ! \[ ([^;\]]*) ; ([^\]]*) \]", r"filled ( \1 \2 )"),
+    (r"write ! \( (?!f )((?:\w+ \. )*\w+) ([^()]*) \)", r"\1 . try_write ( format_args ! ( \2 ) )"),
+    (r"fn fmt < W : fmt :: Write > \( & self f : & mut fmt :: Formatter < W > \)",
+     "fn fmt ( & self f : & mut fmt :: Formatter < '_ > )"),
+    (r"(?<= => )(\S+(?: \. \w+ \( \))?) \. fmt \( f \)", r"fmt :: Debug :: fmt ( \1 f )"),
+    (r"Arc :: new", "shared"),
+    (r"Box :: new", "boxed"),
+    (r"String :: from_str", "String :: try_from_str"),
+]
+
+
+def tokens(text):
+    """The tokens of a text but for space and comments, with `::`, `->` and `=>` as one."""
+    found = [(m.lastgroup, m[0]) for m in TOKEN.finditer(text) if m.lastgroup not in ("space", "comment")]
+    # (a string is one word)
+    words = [f'"{hash(it)}"' if kind == "string" else it for kind, it in found]
+    return " ".join(words).replace(": :", "::").replace("- >", "->").replace("= >", "=>").split()
+
+
+def behind(words, i):
+    """Behind the group that begins here."""
+    depth = 0
+    while True:
+        depth += (words[i] in OPENING) - (words[i] in CLOSING)
+        i += 1
+        if not depth:
+            return i
+
+
+def without_items(words):
+    """A source without contracts, ghost items, models and attributes of the checker."""
+    kept, i = [], 0
+    while i < len(words):
+        it = words[i]
+        if it == "ghost":
+            while words[i] not in (";", ","):
+                i = behind(words, i) if words[i] in OPENING else i + 1
+        elif it in ("requires", "ensures"):
+            while words[i] != "{":
+                i += 1
+            i = behind(words, i) - 1
+        elif it == "impl" and "Model" in words[i : words.index("{", i)]:
+            i = behind(words, words.index("{", i)) - 1
+        elif it == "#":
+            begin = i
+            i = behind(words, i + (2 if words[i + 1] == "!" else 1)) - 1
+            attribute = [it for it in words[begin : i + 1] if it not in ("Drop", "Error")]
+            if "tactic" not in attribute and attribute[2] not in ("error", "from"):
+                kept += attribute if attribute[2] != "derive" or len(attribute) > 6 else []
+        elif it in ("use", "mod") and (not kept or kept[-1] in (";", "}", "{", "pub", ")", "]")):
+            i = words.index(";", i)
+            drop_quality(kept)
+        else:
+            kept.append(it)
+        i += 1
+    return kept
+
+
+def drop_quality(kept):
+    """Takes the `pub` of an import away."""
+    if kept and kept[-1] == ")":
+        del kept[-4:]
+    elif kept and kept[-1] == "pub":
+        kept.pop()
+
+
+def without_tests(words, name, heads):
+    """What was made, without calls that test conditions, whose heads it lists, and without the texts of errors."""
+    kept, i = [], 0
+    while i < len(words):
+        if words[i : i + 8] == "# [ inline ] # [ track_caller ]".split():
+            i += 8
+            body = words.index("{", i)
+            last = behind(words, body)
+            look(" ".join(words[i:body]), " ".join(words[body + 1 : last - 1]), name)
+            heads.append(words[i:body])
+            i = last
+        elif words[i : i + 4] == ["impl", "std", "::", "fmt"]:
+            i = behind(words, words.index("{", i))
+        elif words[i : i + 4] == ["impl", "std", "::", "error"]:
+            i = behind(words, words.index("{", i))
+        elif words[i] in ("use", "mod") and (not kept or kept[-1] in (";", "}", "{", "pub", ")", "]")):
+            drop_quality(kept)
+            i = words.index(";", i) + 1
+        elif words[i] == "#":
+            last = behind(words, i + (2 if words[i + 1] == "!" else 1))
+            kept += words[i:last] if len(words[i:last]) > 6 or words[i + 2] != "derive" else []
+            i = last
+        else:
+            kept.append(words[i])
+            i += 1
+    return kept
+
+
+LISTED = r"let (\w+) = crate :: kit :: Collect :: collected \( \1 \. into_iter \( \) \) \? ;"
+
+
+def look(head, body, name):
+    """A call that tests what is owed does nothing else but to call what has the body, with its own operands."""
+    of = re.search(r"fn (\w+)", head)[1]
+    rest = re.sub(rf"^(?:{LISTED} )*(?:{OWED} )+", "", body)
+    call = rf"(?:self \. |\w+ :: )(?:{of}_proved|{of})(?: :: < [\w ,]+ >)? \( (.*)\)"
+    found = re.fullmatch(call, rest)
+    parameters = re.search(rf"fn {of}(?: <.*?>)? \( (.*)\)", head)
+    if not found or not parameters or rest == body:
+        raise Fault(f"{name}: {of} does more than to test: {rest}")
+    own = re.findall(r"(?:^|, )(?:mut )?(\w+) :(?!:)", parameters[1])
+    handed = [it for it in re.sub(r" \. into_iter \( \)", "", found[2 if found.lastindex > 1 else 1]).split() if it != ","]
+    if [it for it in own if it != "self"] != handed:
+        raise Fault(f"{name}: {of} hands on {handed}")
+
+
+def plain(words, taken):
+    """One list for both sides."""
+    text = " ".join(words)
+    for it in taken:
+        text = " ".join(re.sub(rf"(?<!\S){it}(?!\S)", "", text).split())
+    text = " ".join(it for it in text.split() if it != ",")
+    for path in PATHS:
+        text = re.sub(rf"(?<!\S)(?:\$ )?{path} ", "", text)
+    text = " ".join(NAMED.get(it, it).removesuffix("_proved") for it in text.split())
+    for pattern, into in SAME:
+        text = re.sub(rf"(?<!\S){pattern}(?!\S)", into, text)
+    # (what only this crate has is `pub` in the source)
+    return re.sub(r"pub \( crate \) ", "pub ", text).split()
+
+
+def compared(name, source, made):
+    """Nothing, if what was made of a source is its own tokens.
+
+    >>> compared("a.rt", "fn f(a: u8) -> u8\\n ensures { result ≡ a }\\n{ a }", "fn f(a: u8) -> u8 { a }")
+    >>> compared("a.rt", "fn f(a: u8) -> u8\\n ensures { result ≡ a }\\n{ a }", "fn f(a: u8) -> u8 { a + 1 }")
+    Traceback (most recent call last):
+    erasing.tokens.Fault: a.rt: `{ a }` has become `{ a + 1 }`
+    """
+    heads = []
+    one = plain(without_items(tokens(source)), GONE)
+    other = plain(without_tests(tokens(made), name, heads), NEW)
+    for head in heads:
+        text = " ".join(plain(head, NEW)).removeprefix("pub ")
+        if text not in " ".join(one):
+            raise Fault(f"{name}: no source has `{text}`")
+    if source.startswith("//! all"):
+        one = []
+    for body, into in LEAVES.values():
+        one = replaced(one, plain(tokens(body), GONE), plain(tokens(into), NEW))
+    if one != other:
+        i = next((i for i, (a, b) in enumerate(zip(one, other)) if a != b), min(len(one), len(other)))
+        before = max(i - 2, 0)
+        raise Fault(f"{name}: `{' '.join(one[before:i + 9])}` has become `{' '.join(other[before:i + 9])}`")
+
+
+def replaced(words, body, into):
+    text = f" {' '.join(words)} "
+    return text.replace(f" {' '.join(body)} ", f" {' '.join(into)} ").split()
