@@ -19,8 +19,9 @@
  *
  * Nothing of this is tested, and a call that breaks it may do anything. Where it is kept, each function
  * answers as its comment says, on every bitmap: that is proved of the sources that the library is
- * compiled from. None takes memory, none fails, none keeps a pointer, and none has state: each may be
- * called from any thread, also from several at once over the same bitmaps.
+ * compiled from. None takes memory, none fails, and none keeps a pointer. The only state is which
+ * instructions the processor has: each may be called from any thread, also from several at once over the
+ * same bitmaps.
  *
  * A call that writes a bitmap of `len` values writes just `row_mask_room(len)` bytes, from the first on,
  * and leaves every byte behind them as it was. In the last of them the bits behind the last value are
@@ -52,7 +53,8 @@
  * In any other one each name goes to those that the processor is good for, which is found before `main`.
  * A program may say what all names begin with, such as `-DROW_MASK_PREFIX='"row_mask_"'` for a library that
  * has each function once. */
-#if !defined(ROW_MASK_PREFIX) && defined(__x86_64__) && defined(__AVX2__) && defined(__BMI__) &&     defined(__BMI2__) && defined(__F16C__) && defined(__FMA__) && defined(__LZCNT__) && defined(__MOVBE__)
+#if !defined(ROW_MASK_PREFIX) && defined(__x86_64__) && defined(__AVX2__) && defined(__BMI__) && \
+    defined(__BMI2__) && defined(__F16C__) && defined(__FMA__) && defined(__LZCNT__) && defined(__MOVBE__)
 #define ROW_MASK_PREFIX "row_mask_v3_"
 #endif
 #if defined(ROW_MASK_PREFIX) && defined(__GNUC__)
