@@ -98,7 +98,7 @@ def changed(crate, text, found, twins):
 def by_body(text, twins, found):
     """Has calls inside the package go to what has the body, and tests nothing.
 
-    >>> by_body("a.set(i); a.set(); A::new(b); B::new(b); D::bits(1)", {("A", "set"): 1, ("A", "new"): 1, ("D", "bits"): 1}, counts())
+    >>> by_body("a.set(i); a.set(); A::new(b); B::new(b); D::bits(1)", {("A", "set"): 1, ("A", "new"): 1, ("D", "bits"): 1}, Counts())
     'a.set_proved(i); a.set(); A::new_proved(b); B::new(b); D::bits_proved(1)'
     """
     methods = collections.defaultdict(set)
@@ -131,8 +131,9 @@ def number_of_operands(text, i):
     return commas + (last not in "(,")
 
 
-def counts():
-    """Places and lines, by rule."""
-    return collections.defaultdict(lambda: [0, 0])
+class Counts(collections.defaultdict):
+    """Places and lines, by rule; and conditions, by form."""
 
-
+    def __init__(self):
+        super().__init__(lambda: [0, 0])
+        self.forms = collections.defaultdict(list)

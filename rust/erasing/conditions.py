@@ -40,7 +40,8 @@ class Condition:
 
     def test(self):
         """The test, or nothing where every value meets it."""
-        if any(re.fullmatch(it, self.words) for it in MET):
+        self.form = next((it for it in MET if re.fullmatch(it, self.words)), None)
+        if self.form:
             return None
         forms = [
             (r"All \(λ (\w+)\. \1 ([<≤]) (.+)\) (\S+)", self.each),
@@ -54,7 +55,9 @@ class Condition:
         ]
         for form, made in forms:
             if match := re.fullmatch(form, self.words):
+                self.form = form
                 return made(*match.groups())
+        self.form = "a comparison"
         return self.compared(self.words)
 
     def each(self, name, sign, bound, items):

@@ -80,6 +80,8 @@ class Erasure:
         self.counts = counts
         # functions that test conditions, of those that are no methods
         self.tested = []
+        # calls with their conditions and tests, by the form of the condition
+        self.forms = counts.forms
 
     def count(self, rule, text=""):
         self.counts[rule][0] += 1
@@ -379,6 +381,7 @@ impl std::error::Error for {name} {{}}
             except (Fault, AttributeError, IndexError, ValueError) as fault:
                 raise Fault(f"{self.source.name}: {where}: no test for `{words}` ({fault})") from fault
             listed += condition.listed
+            self.forms[condition.form].append((where, words, test))
             if test:
                 self.count("conditions")
                 tests.append(f'{TESTS}::owed({test}, "{where}", "{name or "its condition"}", "{words}");')
