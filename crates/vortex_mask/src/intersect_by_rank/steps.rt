@@ -18,7 +18,7 @@ use std::marker::Model;
 //
 // The steps are inlined always, so that a kernel's loop keeps the counters in registers: a call
 // would write them back for each word.
-#[derive(Debug, Drop)]
+#[derive(Drop)]
 pub struct Steps {
     deposits: usize,
     words: usize,
@@ -122,40 +122,8 @@ impl Steps {
         result
     }
 
-    /// Deposits two words, and counts what two calls of [`Steps::deposit`] would.
-    #[tactic(auto, using(crate::proofs::Kernels::DepositListLemmas::word_counts))]
-    #[inline(always)]
-    pub fn deposit_two<D: DepositBits>(
-        &mut self,
-        sources: [u64; 2],
-        masks: [u64; 2],
-        mask_counts: [usize; 2],
-    ) -> [u64; 2]
-        requires room { self.old.deposits + 1 < usize.MAX }
-        requires counted_first { slice_index mask_counts 0
-            ≡ count (word_bits (slice_index masks 0)) }
-        requires counted_second { slice_index mask_counts 1
-            ≡ count (word_bits (slice_index masks 1)) }
-        ensures first { Deposits (slice_index sources 0) (slice_index masks 0)
-            (slice_index result 0) }
-        ensures second { Deposits (slice_index sources 1) (slice_index masks 1)
-            (slice_index result 1) }
-        ensures ticked { self.new ≡ record self.old {
-          deposits = self.old.deposits + 2;
-          offered = self.old.offered + slice_index mask_counts 0 + slice_index mask_counts 1;
-          placed = self.old.placed + count (word_bits (slice_index result 0))
-              + count (word_bits (slice_index result 1));
-        } }
-    {
-        let results = D::deposit_two(sources, masks, mask_counts);
-        self.deposits += 2;
-        self.offered += (mask_counts[0] + mask_counts[1]) as u128;
-        self.placed += u128::from(results[0].count_ones() + results[1].count_ones());
-        results
-    }
-
-    /// Deposits two words of a list as [`Steps::deposit_two`] does. A list has so few words that its
-    /// sums are of 64 bits, which a loop adds in fewer steps.
+    /// Deposits two words of a list, and counts what two calls of [`Steps::deposit`] would. A list has so
+    /// few words that its sums are of 64 bits, which a loop adds in fewer steps.
     #[tactic(auto, using(crate::proofs::Kernels::DepositListLemmas::word_counts))]
     #[inline(always)]
     pub(crate) fn deposit_words<D: DepositBits>(
