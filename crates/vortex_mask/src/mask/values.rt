@@ -323,8 +323,9 @@ impl MaskValues {
             ≡ with_caches (with_indices (positions (values self.now.buffer)) self.now.caches) self.now) }
         ensures refused { IsOkUnless result (MaskError.Memory alloc_error) }
     {
+        let indices = self.index_list(alloc)?;
         let mut filled = self.clone()?;
-        filled.cache_indices(alloc)?;
+        filled.indices = Some(indices);
         Ok(filled)
     }
 
@@ -345,8 +346,9 @@ impl MaskValues {
             ≡ with_caches (with_ranges (runs (values self.now.buffer)) self.now.caches) self.now) }
         ensures refused { IsOkUnless result (MaskError.Memory alloc_error) }
     {
+        let slices = self.runs(alloc)?;
         let mut filled = self.clone()?;
-        filled.cache_slices(alloc)?;
+        filled.slices = Some(slices);
         Ok(filled)
     }
 
