@@ -2,30 +2,42 @@
 //! Packed bits: a list of truth values, eight to a byte, at any bit offset.
 
 use crate::kit::prelude::*;
+// A hidden module serves the other crates of this repository alone. README.md lists them.
 mod bit_iterator;
 mod bitops;
+#[doc(hidden)]
 pub mod blocks;
+#[doc(hidden)]
 pub mod bools;
 mod buffer;
 mod buffer_mut;
+#[doc(hidden)]
 pub mod byte_places;
+#[doc(hidden)]
 pub mod choose_values;
 mod chunks;
+#[doc(hidden)]
 pub mod combine;
+#[doc(hidden)]
 pub mod compare;
+#[doc(hidden)]
 pub mod counts;
 mod eq;
+#[doc(hidden)]
 pub mod extract;
 mod from_rows;
 mod read_word;
+#[doc(hidden)]
 pub mod room;
 mod scan;
 mod set_indices;
 mod set_slices;
 mod word_indices;
 mod word_items;
+#[doc(hidden)]
 pub mod word_rows;
 pub mod words;
+#[doc(hidden)]
 pub mod write_bits;
 
 pub use bit_iterator::BitIterator;

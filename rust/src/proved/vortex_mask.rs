@@ -9,7 +9,11 @@ mod mask;
 
 pub use mask::{
     AllOr, Fraction, Mask, MaskBoolIter, MaskError, MaskIter, MaskSetIndices, MaskSetSlices,
-    MaskValues, MaskValuesRef, choose_rows,
+    MaskValues, MaskValuesRef,
 };
+
+// It puts rows into a `Room`, which `mask_bits` hides. It serves `mask_c` alone.
+#[doc(hidden)]
+pub use mask::choose_rows;
 
 pub mod tested;

@@ -13,7 +13,6 @@ use crate::proved::mask_bits::BitChunks;
 //
 // The steps are inlined always, so that a kernel's loop keeps the counters in registers: a call
 // would write them back for each word.
-#[derive(Debug)]
 pub struct Steps {
     deposits: usize,
     words: usize,
@@ -130,64 +129,8 @@ impl Steps {
         result
     }
 
-    /// Deposits two words, and counts what two calls of [`Steps::deposit`] would.
-    ///
-    /// # The caller owes ([terms](crate::definitions))
-    ///
-    /// - *room*: `self.old.deposits + 1 < usize.MAX`
-    /// - *counted_first*: `slice_index mask_counts 0 ≡ count (word_bits (slice_index masks 0))`
-    /// - *counted_second*: `slice_index mask_counts 1 ≡ count (word_bits (slice_index masks 1))`
-    ///
-    /// # Proved ([terms](crate::definitions))
-    ///
-    /// - *first*: `Deposits (slice_index sources 0) (slice_index masks 0) (slice_index result 0)`
-    /// - *second*: `Deposits (slice_index sources 1) (slice_index masks 1) (slice_index result 1)`
-    /// - *ticked*: `self.new ≡ record self.old { deposits = self.old.deposits + 2; offered = self.old.offered + slice_index mask_counts 0 + slice_index mask_counts 1; placed = self.old.placed + count (word_bits (slice_index result 0)) + count (word_bits (slice_index result 1)); }`
-    #[inline]
-    #[track_caller]
-    pub fn deposit_two<D: DepositBits>(
-        &mut self,
-        sources: [u64; 2],
-        masks: [u64; 2],
-        mask_counts: [usize; 2],
-    ) -> [u64; 2] {
-        crate::kit::conditions::owed(
-            (self.deposits as u128) + 1 < (usize::MAX as u128),
-            "Steps::deposit_two",
-            "room",
-            "self.old.deposits + 1 < usize.MAX",
-        );
-        crate::kit::conditions::owed(
-            mask_counts[0] == (masks[0].count_ones() as usize),
-            "Steps::deposit_two",
-            "counted_first",
-            "slice_index mask_counts 0 ≡ count (word_bits (slice_index masks 0))",
-        );
-        crate::kit::conditions::owed(
-            mask_counts[1] == (masks[1].count_ones() as usize),
-            "Steps::deposit_two",
-            "counted_second",
-            "slice_index mask_counts 1 ≡ count (word_bits (slice_index masks 1))",
-        );
-        self.deposit_two_proved::<D>(sources, masks, mask_counts)
-    }
-
-    #[inline(always)]
-    pub(crate) fn deposit_two_proved<D: DepositBits>(
-        &mut self,
-        sources: [u64; 2],
-        masks: [u64; 2],
-        mask_counts: [usize; 2],
-    ) -> [u64; 2] {
-        let results = D::deposit_two_proved(sources, masks, mask_counts);
-        self.deposits += 2;
-        self.offered += (mask_counts[0] + mask_counts[1]) as u128;
-        self.placed += u128::from(results[0].count_ones() + results[1].count_ones());
-        results
-    }
-
-    /// Deposits two words of a list as [`Steps::deposit_two`] does. A list has so few words that its
-    /// sums are of 64 bits, which a loop adds in fewer steps.
+    /// Deposits two words of a list, and counts what two calls of [`Steps::deposit`] would. A list has so
+    /// few words that its sums are of 64 bits, which a loop adds in fewer steps.
     #[inline(always)]
     pub(crate) fn deposit_words<D: DepositBits>(
         &mut self,

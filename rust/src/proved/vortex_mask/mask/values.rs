@@ -280,8 +280,9 @@ impl MaskValues {
 
     // A clone with the true indices cached.
     pub(super) fn with_indices(&self) -> Result<MaskValues, MaskError> {
+        let indices = self.index_list()?;
         let mut filled = self.try_clone()?;
-        filled.cache_indices()?;
+        filled.indices = Some(indices);
         Ok(filled)
     }
 
@@ -294,8 +295,9 @@ impl MaskValues {
 
     // A clone with the runs cached.
     pub(super) fn with_slices(&self) -> Result<MaskValues, MaskError> {
+        let slices = self.runs()?;
         let mut filled = self.try_clone()?;
-        filled.cache_slices()?;
+        filled.slices = Some(slices);
         Ok(filled)
     }
 
