@@ -15,6 +15,9 @@ compile_error!(
     "the loops are compiled for machines of 64 bits whose words begin with the lowest byte"
 );
 
+#[cfg(not(target_pointer_width = "64"))]
+compile_error!("row-mask needs a `usize` of 64 bits: its proofs say 2^64");
+
 mod bitmap;
 mod buf;
 mod declared;
