@@ -491,12 +491,35 @@ def hexadecimal(word):
     return f"0x{word:X}"
 
 
-def words_at_random(state):
-    if state == 1:
-        yield from word_rows()
-    source = words(0x9E37_79B9_7F4A_7C15 + state)
-    for turn in range(5_000):
+def rounds(first, end):
+    """The places and the source of each of these rounds. All draw from one stream, so those before them are drawn too.
+
+    >>> found = [it for share in SECTIONS["words"][0] for it in rounds(*share)]
+    >>> len(found)
+    20000
+    >>> for turn in (0, 1, 5_000, 19_999):
+    ...     print(turn, *map(hexadecimal, found[turn]))
+    0 0xDC1B77AE0BF34DAD 0x64F0EEB9026E6076
+    1 0xCFF8FBFFDB7FBFCB 0x2CEB16E0A1C54AEC
+    5000 0x400214000210 0xEB0C0135F1E11D94
+    19999 0xE40DBBAEE91521E5 0x7F5C3D26CFFFCD26
+    """
+    source = words(0x9E37_79B9_7F4A_7C15)
+    for turn in range(end):
         places, word = places_of(source, turn), next(source)
+        if turn >= first:
+            yield places, word
+
+
+def words_at_random(first, end):
+    """The deposits and extracts of these rounds, and the selections of the first 250 of them.
+
+    >>> next(words_at_random(19_999, 20_000))
+    'deposit,deposit_by_loop,deposit_bytewise 0x7f5c3d26cfffcd26 0xe40dbbaee91521e5 -> 0x6005BBAE89040124'
+    """
+    if first == 0:
+        yield from word_rows()
+    for turn, (places, word) in enumerate(rounds(first, end)):
         yield from deposit_rows(word, places, deposit(word, places))
         for it in (word, MAX):
             yield f"extract,extract_by_bits {it:#x} {places:#x} -> {hexadecimal(extract(it, places))}"
@@ -677,7 +700,7 @@ SECTIONS = {
     "pushed words": (each([*STARTS, 10_003]), pushed_words),
     "appended values": (each([*STARTS, 10_003]), appended_values),
     "changed values": (each([130]), changed_values),
-    "words": (each([1, 2, 3, 4]), words_at_random),
+    "words": ([(n, n + 5_000) for n in range(0, 20_000, 5_000)], words_at_random),
     "kernels": (each([0]), kernel_rows),
     "runs": (each([0]), long_runs),
     "densities": ([(length, it) for length in (4_096, 1_000, 65, 64, 63, 1) for it in THRESHOLDS], densities),
