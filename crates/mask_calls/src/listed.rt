@@ -63,7 +63,8 @@ impl Ranged {
         Ok(Ranged { buffer, ranges })
     }
 
-    fn of_ranges(
+    /// A buffer of so many values that is true in these ranges, with them.
+    pub(crate) fn of_ranges(
         alloc: Global,
         len: usize,
         ranges: Vec<(usize, usize)>,
@@ -80,7 +81,7 @@ impl Ranged {
     }
 }
 
-/// A buffer of so many values that is true in these ranges, with them.
+/// By a length and ranges.
 impl Word for Option<Ranged> {
     fn read(alloc: Global, words: &str) -> Result<Option<Ranged>, Fault> {
         let (len, ranges) = halves(words, " ", "a word")?;

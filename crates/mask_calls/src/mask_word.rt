@@ -4,7 +4,7 @@ use crate::fault::Fault;
 use crate::listed::Ranged;
 use crate::packed::{self, Packed};
 use crate::tested::from_common;
-use crate::words::{Word, number, values};
+use crate::words::{Word, halves, number, values};
 use mask_bits::BitBuffer;
 use std::alloc::Global;
 use vortex_mask::{Mask, MaskError, MaskValues};
@@ -44,12 +44,15 @@ fn cached(alloc: Global, word: &str, lists: &str) -> Result<Mask, Fault> {
 }
 
 // A mask by a word: `all:5` and `none:5` of one value, `5:1,3` by `from_indices`, `10:0..3,5..7` by `from_slices`,
-// `rows:10110` by that constructor, and otherwise of a buffer, as that is written, which caches nothing.
+// `ranged:10:0..3,5..7` by `from_buffer_with_slices`, `rows:10110` by that constructor, and otherwise of a buffer, as
+// that is written, which caches nothing.
 fn mask(alloc: Global, word: &str) -> Result<Mask, Fault> {
     match word.split_once(":") {
         Some(("all", len)) => Ok(Mask::new_true(number(len)?)),
         Some(("none", len)) => Ok(Mask::new_false(number(len)?)),
+        Some(("bytes" | "part" | "true" | "clone", _)) => of_packed(alloc, word),
         Some(("every" | "first" | "at", _)) | None => of_bits(alloc, word),
+        Some(("ranged", rest)) if rest.contains("..") => of_ranges(alloc, rest),
         Some((form, list)) => match number(form) {
             Ok(len) => listed(alloc, len, list),
             Err(_) => by_constructor(alloc, form, values(alloc, list)?),
@@ -65,9 +68,20 @@ fn listed(alloc: Global, len: usize, list: &str) -> Result<Mask, Fault> {
     Ok(Mask::from_indices(alloc, len, indices.into_iter())?)
 }
 
+// So many values, with ranges of the true ones that may touch.
+fn of_ranges(alloc: Global, word: &str) -> Result<Mask, Fault> {
+    let (len, ranges) = halves(word, ":", "two parts")?;
+    let ranged = Ranged::of_ranges(alloc, number(len)?, Vec::read(alloc, ranges)?)?;
+    Ok(ranged.mask(alloc)?)
+}
+
+fn of_packed(alloc: Global, word: &str) -> Result<Mask, Fault> {
+    Ok(Mask::from_buffer(alloc, BitBuffer::read(alloc, word)?)?)
+}
+
 fn of_bits(alloc: Global, word: &str) -> Result<Mask, Fault> {
     if Packed::of_word(word).is_some() {
-        Ok(Mask::from_buffer(alloc, BitBuffer::read(alloc, word)?)?)
+        of_packed(alloc, word)
     } else {
         Ok(Mask::from_bools(alloc, values(alloc, word)?.into_iter())?)
     }
