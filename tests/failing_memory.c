@@ -2,9 +2,13 @@
    variable REFUSED_REQUEST has. Where REFUSES_REST is 1 it refuses each later one too, until the program
    writes something. It counts from the start on, or, where IN_CALLS is 1, anew from each line `calls` that
    the program writes until it writes something else. It tells of the first refusal by a line on the
-   descriptor that REFUSAL_TO names. */
+   descriptor that REFUSAL_TO names. If the program aborts, it tells there how many bytes were refused last,
+   and which calls they were asked for in, the innermost first. */
 #define _GNU_SOURCE
 #include <dlfcn.h>
+#include <execinfo.h>
+#include <stdint.h>
+#include <stdio.h>
 #include <stdlib.h>
 #include <string.h>
 #include <sys/syscall.h>
@@ -12,6 +16,10 @@
 
 static long refused_request, requests_left, refuses_rest, refusal_to;
 static int is_out_of_memory;
+
+static void *refused_in[64];
+static int refused_depth;
+static size_t refused_size;
 
 static long number_in(const char *name)
 {
@@ -21,13 +29,26 @@ static long number_in(const char *name)
 
 __attribute__((constructor)) static void start(void)
 {
+    /* (which asks for memory the first time) */
+    backtrace(refused_in, 1);
     refused_request = number_in("REFUSED_REQUEST");
     requests_left = number_in("IN_CALLS") == 1 ? 0 : refused_request;
     refuses_rest = number_in("REFUSES_REST");
     refusal_to = number_in("REFUSAL_TO");
 }
 
-static int is_refused(void)
+void abort(void)
+{
+    void (*next)(void) = (void (*)(void))dlsym(RTLD_NEXT, "abort");
+    char line[64];
+    int length = snprintf(line, sizeof line, "aborts, refused %zu bytes in\n", refused_size);
+    if (refused_depth > 0 && syscall(SYS_write, refusal_to, line, length) == length)
+        backtrace_symbols_fd(refused_in, refused_depth, refusal_to);
+    next();
+    _exit(1);
+}
+
+static int is_next_refused(void)
 {
     static const char line[] = "request refused\n";
     if (requests_left < 1 || --requests_left > 0)
@@ -38,12 +59,32 @@ static int is_refused(void)
     return 1;
 }
 
-void *malloc(size_t size)
+static int is_refused(size_t size)
+{
+    if (!is_next_refused())
+        return 0;
+    refused_size = size;
+    refused_depth = backtrace(refused_in, sizeof refused_in / sizeof *refused_in);
+    return 1;
+}
+
+static void *taken(size_t size)
 {
     static void *(*next)(size_t);
     if (!next)
         next = (void *(*)(size_t))dlsym(RTLD_NEXT, "malloc");
-    return is_refused() ? NULL : next(size);
+    return is_refused(size) ? NULL : next(size);
+}
+
+void *malloc(size_t size)
+{
+    return taken(size);
+}
+
+void *calloc(size_t count, size_t size)
+{
+    void *bytes = size && count > SIZE_MAX / size ? NULL : taken(count * size);
+    return bytes ? memset(bytes, 0, count * size) : NULL;
 }
 
 void *realloc(void *old, size_t size)
@@ -51,7 +92,7 @@ void *realloc(void *old, size_t size)
     static void *(*next)(void *, size_t);
     if (!next)
         next = (void *(*)(void *, size_t))dlsym(RTLD_NEXT, "realloc");
-    return is_refused() ? NULL : next(old, size);
+    return is_refused(size) ? NULL : next(old, size);
 }
 
 ssize_t write(int to, const void *bytes, size_t length)
