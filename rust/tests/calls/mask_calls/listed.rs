@@ -36,7 +36,8 @@ impl Ranged {
         Ok(Ranged { buffer, ranges })
     }
 
-    fn of_ranges(len: usize, ranges: Vec<(usize, usize)>) -> Result<Ranged, MaskError> {
+    /// A buffer of so many values that is true in these ranges, with them.
+    pub(crate) fn of_ranges(len: usize, ranges: Vec<(usize, usize)>) -> Result<Ranged, MaskError> {
         let mask = Mask::from_slices(len, ranges.try_to_vec()?)?;
         let buffer = mask.to_bit_buffer()?;
         Ok(Ranged { buffer, ranges })
@@ -49,7 +50,7 @@ impl Ranged {
     }
 }
 
-/// A buffer of so many values that is true in these ranges, with them.
+/// By a length and ranges.
 impl Word for Option<Ranged> {
     fn read(words: &str) -> Result<Option<Ranged>, Fault> {
         let (len, ranges) = halves(words, " ", "a word")?;

@@ -6,7 +6,7 @@ use crate::mask_calls::listed::Ranged;
 use crate::mask_calls::packed;
 use crate::mask_calls::packed::Packed;
 use crate::mask_calls::tested::from_common;
-use crate::mask_calls::words::{Word, number, values};
+use crate::mask_calls::words::{Word, halves, number, values};
 use row_mask::BitBuffer;
 use row_mask::kit::prelude::*;
 
@@ -47,12 +47,15 @@ fn cached(word: &str, lists: &str) -> Result<Mask, Fault> {
 }
 
 // A mask by a word: `all:5` and `none:5` of one value, `5:1,3` by `from_indices`, `10:0..3,5..7` by `from_slices`,
-// `rows:10110` by that constructor, and otherwise of a buffer, as that is written, which caches nothing.
+// `ranged:10:0..3,5..7` by `from_buffer_with_slices`, `rows:10110` by that constructor, and otherwise of a buffer, as
+// that is written, which caches nothing.
 fn mask(word: &str) -> Result<Mask, Fault> {
     match word.split_once(":") {
         Some(("all", len)) => Ok(Mask::new_true(number(len)?)),
         Some(("none", len)) => Ok(Mask::new_false(number(len)?)),
+        Some(("bytes" | "part" | "true" | "clone", _)) => of_packed(word),
         Some(("every" | "first" | "at", _)) | None => of_bits(word),
+        Some(("ranged", rest)) if rest.contains("..") => of_ranges(rest),
         Some((form, list)) => match number(form) {
             Ok(len) => listed(len, list),
             Err(_) => by_constructor(form, values(list)?),
@@ -68,9 +71,20 @@ fn listed(len: usize, list: &str) -> Result<Mask, Fault> {
     Ok(Mask::from_indices(len, indices.into_iter())?)
 }
 
+// So many values, with ranges of the true ones that may touch.
+fn of_ranges(word: &str) -> Result<Mask, Fault> {
+    let (len, ranges) = halves(word, ":", "two parts")?;
+    let ranged = Ranged::of_ranges(number(len)?, Vec::read(ranges)?)?;
+    Ok(ranged.mask()?)
+}
+
+fn of_packed(word: &str) -> Result<Mask, Fault> {
+    Ok(Mask::from_buffer(BitBuffer::read(word)?)?)
+}
+
 fn of_bits(word: &str) -> Result<Mask, Fault> {
     if Packed::of_word(word).is_some() {
-        Ok(Mask::from_buffer(BitBuffer::read(word)?)?)
+        of_packed(word)
     } else {
         Ok(Mask::from_bools(values(word)?.into_iter())?)
     }
