@@ -25,6 +25,7 @@ mod dispatch;
 mod error;
 #[doc(hidden)]
 pub mod kit;
+mod mask;
 mod proved;
 mod row;
 mod selection;

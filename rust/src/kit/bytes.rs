@@ -47,6 +47,26 @@ impl From<Vec<u8>> for Bytes {
     }
 }
 
+/// A copy of the bytes.
+impl From<&[u8]> for Bytes {
+    fn from(bytes: &[u8]) -> Bytes {
+        Bytes::from(bytes.to_vec())
+    }
+}
+
+/// The bytes, which are not copied.
+impl From<Box<[u8]>> for Bytes {
+    fn from(bytes: Box<[u8]>) -> Bytes {
+        Bytes::from(bytes.into_vec())
+    }
+}
+
+impl FromIterator<u8> for Bytes {
+    fn from_iter<I: IntoIterator<Item = u8>>(bytes: I) -> Bytes {
+        Bytes::from(Vec::from_iter(bytes))
+    }
+}
+
 impl Deref for Bytes {
     type Target = [u8];
 

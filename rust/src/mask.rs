@@ -1,0 +1,205 @@
+//! What users of Rust expect of masks and buffers besides the proved calls: operators, clones, hashes, and makers from
+//! iterators. They answer no `Result`: where memory is refused they end the process, as Rust's own lists do.
+
+mod answers;
+mod walks;
+
+use crate::kit::{AllocError, TryClone};
+use crate::proved::mask_bits::{BitBuffer, BitBufferMut};
+use crate::proved::vortex_mask::{Mask, MaskError};
+use std::alloc::{Layout, handle_alloc_error};
+use std::fmt;
+use std::hash::{Hash, Hasher};
+use std::ops::{BitAnd, BitOr, Not};
+
+// What a call gave that may have asked for memory for so many bits.
+#[track_caller]
+fn granted<T>(given: Result<T, impl Into<MaskError>>, bits: usize) -> T {
+    match given.map_err(Into::into) {
+        Ok(it) => it,
+        Err(MaskError::Memory(_)) => out_of_memory(bits),
+        Err(refusal) => panic!("{refusal}"),
+    }
+}
+
+#[cold]
+fn out_of_memory(bits: usize) -> ! {
+    let layout = Layout::array::<u8>(bits.div_ceil(8));
+    handle_alloc_error(layout.expect("an eighth of any number is the size of a list"))
+}
+
+// Operators and clones, by calls that both types have.
+macro_rules! operators {
+    ($($of:ident)*) => {$(
+        /// The same values. A clone shares their bytes, and takes no memory.
+        impl Clone for $of {
+            fn clone(&self) -> $of {
+                granted(self.try_clone(), self.len())
+            }
+        }
+
+        /// As `clone`.
+        impl TryClone for $of {
+            fn try_clone(&self) -> Result<$of, AllocError> {
+                Ok(self.clone())
+            }
+        }
+
+        /// The values that are true in both. Panics where the lengths differ.
+        impl BitAnd for &$of {
+            type Output = $of;
+
+            #[track_caller]
+            fn bitand(self, other: &$of) -> $of {
+                granted($of::bitand(self, other), self.len())
+            }
+        }
+
+        /// The same, in the first one's bytes where nobody else holds them. Panics where the lengths differ.
+        impl BitAnd<&$of> for $of {
+            type Output = $of;
+
+            #[track_caller]
+            fn bitand(self, other: &$of) -> $of {
+                granted(self.into_bitand(other), other.len())
+            }
+        }
+
+        /// The values that are true in one or in both. Panics where the lengths differ.
+        impl BitOr for &$of {
+            type Output = $of;
+
+            #[track_caller]
+            fn bitor(self, other: &$of) -> $of {
+                granted($of::bitor(self, other), self.len())
+            }
+        }
+
+        /// The same, in the first one's bytes where nobody else holds them. Panics where the lengths differ.
+        impl BitOr<&$of> for $of {
+            type Output = $of;
+
+            #[track_caller]
+            fn bitor(self, other: &$of) -> $of {
+                granted(self.into_bitor(other), other.len())
+            }
+        }
+
+        /// Each value negated.
+        impl Not for &$of {
+            type Output = $of;
+
+            fn not(self) -> $of {
+                granted($of::not(self), self.len())
+            }
+        }
+
+        /// Each value negated, in the same bytes where nobody else holds them.
+        impl Not for $of {
+            type Output = $of;
+
+            fn not(self) -> $of {
+                let len = self.len();
+                granted(self.into_not(), len)
+            }
+        }
+    )*};
+}
+
+operators!(BitBuffer Mask);
+
+/// By the length and the values, as `==`: offsets and the bits outside don't count.
+impl Hash for BitBuffer {
+    fn hash<H: Hasher>(&self, state: &mut H) {
+        self.len().hash(state);
+        self.chunks().iter_padded().for_each(|word| state.write_u64(word));
+    }
+}
+
+/// By the length and the values, as `==`: cached lists, offsets and how an empty mask is held don't count.
+impl Hash for Mask {
+    fn hash<H: Hasher>(&self, state: &mut H) {
+        // (these tell a mask of one value)
+        (self.len(), self.true_count()).hash(state);
+        if let Some(values) = self.values() {
+            values.bit_buffer().hash(state);
+        }
+    }
+}
+
+/// The values, packed.
+impl From<&[bool]> for BitBuffer {
+    fn from(values: &[bool]) -> BitBuffer {
+        granted(BitBuffer::from_rows(values, |value| *value), values.len())
+    }
+}
+
+/// The values, packed.
+impl From<Vec<bool>> for BitBuffer {
+    fn from(values: Vec<bool>) -> BitBuffer {
+        BitBuffer::from(&values[..])
+    }
+}
+
+/// The values, packed. They are listed first.
+impl FromIterator<bool> for BitBuffer {
+    fn from_iter<I: IntoIterator<Item = bool>>(values: I) -> BitBuffer {
+        BitBuffer::from(Vec::from_iter(values))
+    }
+}
+
+/// The values of a buffer. An empty one gives `AllFalse(0)`.
+impl From<BitBuffer> for Mask {
+    fn from(buffer: BitBuffer) -> Mask {
+        let len = buffer.len();
+        granted(Mask::from_buffer(buffer), len)
+    }
+}
+
+/// The values. No values give `AllFalse(0)`.
+impl FromIterator<bool> for Mask {
+    fn from_iter<I: IntoIterator<Item = bool>>(values: I) -> Mask {
+        Mask::from(BitBuffer::from_iter(values))
+    }
+}
+
+/// The masks, one after another. No values give `AllTrue(0)`. Panics where the sum of their lengths doesn't fit.
+impl FromIterator<Mask> for Mask {
+    fn from_iter<I: IntoIterator<Item = Mask>>(masks: I) -> Mask {
+        let masks = Vec::from_iter(masks);
+        let len = masks.iter().map(Mask::len).fold(0, usize::saturating_add);
+        granted(Mask::from_masks(masks), len)
+    }
+}
+
+/// No value.
+impl Default for BitBufferMut {
+    fn default() -> BitBufferMut {
+        granted(BitBufferMut::with_capacity(0), 0)
+    }
+}
+
+/// How many values there are: a builder tells no more.
+impl fmt::Debug for BitBufferMut {
+    fn fmt(&self, f: &mut fmt::Formatter<'_>) -> fmt::Result {
+        f.debug_struct("BitBufferMut").field("len", &self.len()).finish_non_exhaustive()
+    }
+}
+
+/// Adds values behind the last one. They are listed first.
+impl Extend<bool> for BitBufferMut {
+    fn extend<I: IntoIterator<Item = bool>>(&mut self, values: I) {
+        let values = BitBuffer::from_iter(values);
+        let bits = self.len().saturating_add(values.len());
+        granted(self.append_buffer(&values), bits);
+    }
+}
+
+/// The values, packed.
+impl FromIterator<bool> for BitBufferMut {
+    fn from_iter<I: IntoIterator<Item = bool>>(values: I) -> BitBufferMut {
+        let mut made = BitBufferMut::default();
+        made.extend(values);
+        made
+    }
+}

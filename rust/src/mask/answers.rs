@@ -1,0 +1,64 @@
+//! What small values have that the proved sources don't derive.
+
+use crate::intersect_by_rank::RankPath;
+use crate::proved::vortex_mask::{AllOr, Fraction, MaskError, MaskIter};
+use std::fmt;
+use std::hash::{Hash, Hasher};
+use std::mem::discriminant;
+
+impl<T: Clone> Clone for AllOr<T> {
+    fn clone(&self) -> AllOr<T> {
+        match self {
+            AllOr::All => AllOr::All,
+            AllOr::None => AllOr::None,
+            AllOr::Some(value) => AllOr::Some(value.clone()),
+        }
+    }
+}
+
+impl<T: Copy> Copy for AllOr<T> {}
+
+impl<T: Hash> Hash for AllOr<T> {
+    fn hash<H: Hasher>(&self, state: &mut H) {
+        discriminant(self).hash(state);
+        if let AllOr::Some(value) = self {
+            value.hash(state);
+        }
+    }
+}
+
+/// By the fields, as `==`.
+impl Hash for Fraction {
+    fn hash<H: Hasher>(&self, state: &mut H) {
+        (self.num, self.den).hash(state);
+    }
+}
+
+impl Hash for RankPath {
+    fn hash<H: Hasher>(&self, state: &mut H) {
+        discriminant(self).hash(state);
+    }
+}
+
+macro_rules! copied {
+    ($($of:ty),*) => {$(
+        impl Clone for $of {
+            fn clone(&self) -> Self {
+                *self
+            }
+        }
+
+        impl Copy for $of {}
+    )*};
+}
+
+copied!(MaskError, MaskIter<'_>);
+
+impl fmt::Debug for MaskIter<'_> {
+    fn fmt(&self, f: &mut fmt::Formatter<'_>) -> fmt::Result {
+        match self {
+            MaskIter::Indices(indices) => f.debug_tuple("Indices").field(indices).finish(),
+            MaskIter::Slices(ranges) => f.debug_tuple("Slices").field(ranges).finish(),
+        }
+    }
+}
