@@ -1,0 +1,79 @@
+//! What is made of iterators, lists and bytes, beside plain lists.
+
+use crate::lists::{buffers, lists};
+use crate::said;
+use row_mask::{BitBuffer, BitBufferMut, Bytes, Mask};
+
+fn values<'a>(of: impl IntoIterator<Item = bool> + 'a) -> Vec<bool> {
+    of.into_iter().collect()
+}
+
+#[test]
+fn of_values() {
+    for list in lists() {
+        let made = [
+            BitBuffer::from(&list[..]),
+            BitBuffer::from(list.clone()),
+            list.iter().copied().collect(),
+            list.iter().copied().filter(|_| true).collect(),
+            list.iter().copied().collect::<BitBufferMut>().freeze().unwrap(),
+        ];
+        for buffer in made {
+            assert_eq!(values(&buffer), list);
+        }
+        let mask: Mask = list.iter().copied().collect();
+        assert_eq!(values(&mask), list);
+        assert!(!list.is_empty() || matches!(mask, Mask::AllFalse(0)));
+        for buffer in buffers(&list) {
+            let mask = Mask::from(buffer);
+            assert_eq!(values(&mask), list);
+            assert_eq!(
+                matches!(mask, Mask::Values(_)),
+                list.contains(&true) && list.contains(&false)
+            );
+        }
+    }
+}
+
+#[test]
+fn of_masks() {
+    let lists = lists();
+    let joined: Mask = lists.iter().map(|it| it.iter().copied().collect::<Mask>()).collect();
+    assert_eq!(values(&joined), lists.concat());
+    assert!(matches!(Mask::from_iter([] as [Mask; 0]), Mask::AllTrue(0)));
+    let longest = [Mask::AllTrue(usize::MAX - 1), Mask::AllTrue(1)];
+    assert!(matches!(longest.into_iter().collect(), Mask::AllTrue(usize::MAX)));
+    let too_long = || [Mask::AllTrue(usize::MAX), Mask::AllFalse(1)].into_iter().collect::<Mask>();
+    assert_eq!(said(too_long).as_deref(), Some("the sum of the lengths does not fit"));
+}
+
+#[test]
+fn builders_grow() {
+    let (mut builder, mut list) = (BitBufferMut::default(), Vec::new());
+    assert_eq!(builder.len(), 0);
+    for more in lists() {
+        builder.extend(more.iter().copied());
+        list.extend(more);
+        assert_eq!(builder.len(), list.len());
+    }
+    assert_eq!(format!("{builder:?}"), format!("BitBufferMut {{ len: {}, .. }}", list.len()));
+    assert_eq!(values(&builder.freeze().unwrap()), list);
+}
+
+#[test]
+fn of_bytes() {
+    let bytes = [0xB4, 0xFF];
+    let boxed: Box<[u8]> = Box::from(bytes);
+    let place = boxed.as_ptr();
+    let made = [
+        Bytes::from(&bytes[..]),
+        Bytes::from(boxed),
+        Bytes::from_iter(bytes),
+        Bytes::from(bytes.to_vec()),
+    ];
+    assert_eq!(made[1].as_ptr(), place);
+    for it in made {
+        assert_eq!(it.as_slice(), bytes);
+        assert_eq!(format!("{:?}", BitBuffer::new(it, 10)), "BitBuffer(0010110111)");
+    }
+}

@@ -1,0 +1,132 @@
+//! Operators and clones beside plain lists, and beside the calls that they stand for.
+
+use crate::lists::{buffers, lists, masks};
+use crate::said;
+use row_mask::{AllOr, BitBuffer, Mask};
+use std::mem::discriminant;
+
+/// Another list of the same length.
+fn other(list: &[bool]) -> Vec<bool> {
+    list.iter()
+        .enumerate()
+        .map(|(i, value)| (i % 3 == 0) ^ (i % 5 == 1) ^ (*value && i % 2 == 0))
+        .collect()
+}
+
+fn combined(a: &[bool], b: &[bool], of: fn(bool, bool) -> bool) -> Vec<bool> {
+    a.iter().zip(b).map(|(a, b)| of(*a, *b)).collect()
+}
+
+/// The operators of a type, on values that hold two lists, answer these lists.
+macro_rules! answer {
+    ($a:expr, $b:expr, $list:expr, $other:expr) => {
+        let and = combined(&$list, &$other, |a, b| a && b);
+        let or = combined(&$list, &$other, |a, b| a || b);
+        let not: Vec<bool> = $list.iter().map(|value| !value).collect();
+        for a in &$a {
+            for b in &$b {
+                assert!((a & b).iter().eq(and.iter().copied()) && (a.clone() & b) == a & b);
+                assert!((a | b).iter().eq(or.iter().copied()) && (a.clone() | b) == a | b);
+            }
+            assert!((!a).iter().eq(not.iter().copied()) && !a.clone() == !a);
+            assert!(a.clone() == *a && a.iter().eq($list.iter().copied()));
+        }
+    };
+}
+
+#[test]
+fn of_buffers() {
+    for list in lists() {
+        let other = other(&list);
+        answer!(buffers(&list), buffers(&other), list, other);
+    }
+}
+
+#[test]
+fn of_masks() {
+    for list in lists() {
+        let other = other(&list);
+        answer!(masks(&list), masks(&other), list, other);
+    }
+}
+
+/// The calls by name answer masks of the same variants and caches.
+#[test]
+fn as_by_name() {
+    for list in lists().iter().filter(|it| it.len() == 4 || it.len() > 64) {
+        for (a, b) in masks(list).iter().zip(masks(&other(list)).iter().rev()) {
+            same(&(a & b), &a.bitand(b).unwrap());
+            same(&(a | b), &a.bitor(b).unwrap());
+            same(&(a.clone() & b), &a.clone().into_bitand(b).unwrap());
+            same(&(a.clone() | b), &a.clone().into_bitor(b).unwrap());
+            same(&!a, &a.not().unwrap());
+            same(&!a.clone(), &a.clone().into_not().unwrap());
+            same(&a.clone(), a);
+        }
+    }
+}
+
+fn same(a: &Mask, b: &Mask) {
+    let caches = |mask: &Mask| {
+        mask.values().map(|it| (it.cached_indices().is_some(), it.cached_slices().is_some()))
+    };
+    assert!(a == b && discriminant(a) == discriminant(b) && caches(a) == caches(b), "{a} {b}");
+}
+
+/// A result is written into the bytes of an operand that nobody else holds, and not into shared ones.
+#[test]
+fn in_place() {
+    let [ones, rows] = [vec![true; 4], vec![true, false, true, true]].map(BitBuffer::from);
+    let bytes = |buffer: &BitBuffer| buffer.inner().as_ptr();
+    let (own, shared) = (BitBuffer::from(vec![true, true, false, true]), rows.clone());
+    assert_eq!(bytes(&shared), bytes(&rows));
+    let place = bytes(&own);
+    let made = !((own & &rows) | &ones);
+    assert_eq!(bytes(&made), place);
+    let made = shared & &ones;
+    assert_ne!(bytes(&made), bytes(&rows));
+    assert_eq!(made, rows);
+}
+
+#[test]
+fn of_two_lengths_panic() {
+    let [a, b] = [vec![true, false], vec![true, false, true]].map(BitBuffer::from);
+    let [p, q] = [a.clone(), b.clone()].map(Mask::from);
+    let panics = [
+        ("BitBuffer::bitand", said(|| &a & &b)),
+        ("BitBuffer::bitor", said(|| &a | &b)),
+        ("BitBuffer::into_bitand", said(|| a.clone() & &b)),
+        ("BitBuffer::into_bitor", said(|| a.clone() | &b)),
+    ];
+    for (call, said) in panics {
+        assert!(
+            said.as_ref().is_some_and(|it| it.contains(&format!("`{call}`"))),
+            "{call}: {said:?}"
+        );
+    }
+    let panics = [
+        ("Mask::bitand", said(|| &p & &q)),
+        ("Mask::bitor", said(|| &p | &q)),
+        ("Mask::into_bitand", said(|| p.clone() & &q)),
+        ("Mask::into_bitor", said(|| p.clone() | &q)),
+        ("Mask::bitand", said(|| &p & &Mask::AllTrue(3))),
+        ("Mask::into_bitor", said(|| Mask::AllTrue(1) | &p)),
+    ];
+    for (call, said) in panics {
+        assert!(
+            said.as_ref().is_some_and(|it| it.contains(&format!("`{call}`"))),
+            "{call}: {said:?}"
+        );
+    }
+}
+
+/// What is lent by a mask can be cloned.
+#[test]
+fn lent_buffers_are_cloned() {
+    let mask: Mask = [true, false].into_iter().collect();
+    assert_eq!(
+        mask.bit_buffer().cloned().unwrap(),
+        AllOr::Some(BitBuffer::from(vec![true, false]))
+    );
+    assert_eq!(AllOr::Some(&mask).cloned().unwrap(), AllOr::Some(mask));
+}
