@@ -2,7 +2,7 @@
 
 use crate::MANY;
 use crate::memory::limit;
-use row_mask::{BitmapBuf, Selection};
+use row_mask::{BitBuffer, BitBufferMut, BitmapBuf, Mask, Selection};
 use std::os::unix::process::ExitStatusExt;
 use std::process::Command;
 use std::{env, iter};
@@ -56,6 +56,45 @@ fn call_that_aborts(name: &str) {
     println!("{name} made {len}");
 }
 
+/// By its name, an operator or a maker of masks, where there is no memory.
+fn mask_call_that_aborts(name: &str) {
+    let _alone = limit();
+    let len = 8 * (600 << 20);
+    let mut bytes = vec![0; len / 8];
+    bytes[0] = 1;
+    let rows = Mask::from(BitBuffer::from_vec(bytes, len).unwrap());
+    let same = rows.clone();
+    let len = match name {
+        "and" => (&rows & &same).len(),
+        "or" => (&rows | &same).len(),
+        "not" => (!&rows).len(),
+        "and of a clone" => (rows & &same).len(),
+        "or of a clone" => (rows | &same).len(),
+        "not of a clone" => (!rows).len(),
+        "collect masks" => [rows, same].into_iter().collect::<Mask>().len(),
+        "collect values" => iter::repeat_n(true, 1 << 40).collect::<Mask>().len(),
+        "extend" => {
+            drop((rows, same));
+            let mut builder = BitBufferMut::new_unset(len).unwrap();
+            builder.extend([true; 9]);
+            builder.len()
+        }
+        _ => unreachable!("{name}"),
+    };
+    println!("{name} made {len}");
+}
+
+/// In a process of its own, a test's call of this name aborts.
+fn aborts(test: &str, name: &str) {
+    let mut child = Command::new(env::current_exe().unwrap());
+    child.args(["--exact", &format!("aborts::{test}"), "--nocapture"]);
+    let done = child.env("CALL_THAT_ABORTS", name).output().unwrap();
+    let said = String::from_utf8_lossy(&done.stderr);
+    assert!(said.contains("memory allocation of"), "{name}: {said}");
+    // (SIGABRT)
+    assert_eq!(done.status.signal(), Some(6), "{name}: {said}");
+}
+
 #[test]
 fn what_aborts_is_what_the_page_says() {
     if let Ok(name) = env::var("CALL_THAT_ABORTS") {
@@ -85,12 +124,17 @@ fn what_aborts_is_what_the_page_says() {
         "selection",
     ];
     for name in makers.into_iter().chain(others) {
-        let mut child = Command::new(env::current_exe().unwrap());
-        child.args(["--exact", "aborts::what_aborts_is_what_the_page_says", "--nocapture"]);
-        let done = child.env("CALL_THAT_ABORTS", name).output().unwrap();
-        let said = String::from_utf8_lossy(&done.stderr);
-        assert!(said.contains("memory allocation of"), "{name}: {said}");
-        // (SIGABRT)
-        assert_eq!(done.status.signal(), Some(6), "{name}: {said}");
+        aborts("what_aborts_is_what_the_page_says", name);
+    }
+}
+
+#[test]
+fn operators_and_makers_of_masks_abort() {
+    if let Ok(name) = env::var("CALL_THAT_ABORTS") {
+        return mask_call_that_aborts(&name);
+    }
+    let operators = ["and", "or", "not", "and of a clone", "or of a clone", "not of a clone"];
+    for name in operators.into_iter().chain(["collect masks", "collect values", "extend"]) {
+        aborts("operators_and_makers_of_masks_abort", name);
     }
 }

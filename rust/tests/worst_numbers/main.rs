@@ -1,5 +1,5 @@
-//! Each public call with the largest and worst numbers that it takes, in a process that may take less than 1 GiB. None
-//! panics or stops the process, and none asks for memory before what it is given was tested.
+//! Each public call on bitmaps with the largest and worst numbers that it takes, in a process that may take less than
+//! 1 GiB. None panics or stops the process, and none asks for memory before what it is given was tested.
 
 #![cfg(target_os = "linux")]
 
@@ -22,7 +22,10 @@ fn each_public_call_is_here() {
         for entry in fs::read_dir(folder).unwrap() {
             let path = entry.unwrap().path();
             if path.is_dir() {
-                names(&path, all);
+                // (masks and buffers have tests of their own)
+                if !["bin", "kit", "proved"].iter().any(|it| path.ends_with(it)) {
+                    names(&path, all);
+                }
                 continue;
             }
             let text = fs::read_to_string(path).unwrap();
