@@ -40,7 +40,8 @@ pub use proved::mask_bits::{
     BitBuffer, BitBufferMut, BitChunks, BitIterator, PaddedWords, SetIndices, SetSlices, Words,
 };
 pub use proved::vortex_mask::{
-    AllOr, Fraction, Mask, MaskBoolIter, MaskError, MaskIter, MaskSetIndices, MaskSetSlices, MaskValues, MaskValuesRef,
+    AllOr, Fraction, Mask, MaskBoolIter, MaskError, MaskIter, MaskSetIndices, MaskSetSlices,
+    MaskValues, MaskValuesRef,
 };
 pub use row::Row;
 pub use selection::Selection;
@@ -63,12 +64,12 @@ pub mod definitions {}
 pub mod intersect_by_rank {
     pub use crate::proved::mask_bits::extract::extract;
     pub use crate::proved::vortex_mask::intersect_by_rank::{
-        DepositBits, ExtractBits, Portable, PortableLoop, RankBits, RankPath, SelectBit, Steps, deposit_bytewise,
-        deposits_by_loop, rank_path,
+        DepositBits, ExtractBits, Portable, PortableLoop, RankBits, RankPath, SelectBit, Steps,
+        deposit_bytewise, deposits_by_loop, rank_path,
     };
     pub use crate::proved::vortex_mask::tested::{
-        deposit_two_holes, deposit_two_lowest, intersect_bit_buffer_by_rank_indices, intersect_bit_buffers,
-        intersect_by_rank_indices, intersect_mask_driven,
+        deposit_two_holes, deposit_two_lowest, intersect_bit_buffer_by_rank_indices,
+        intersect_bit_buffers, intersect_by_rank_indices, intersect_mask_driven,
     };
 }
 

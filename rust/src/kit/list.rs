@@ -65,6 +65,10 @@ impl<T> List<T> for Vec<T> {
     }
 
     #[inline(always)]
+    #[expect(
+        clippy::inline_always,
+        reason = "it is a step of loops, which keep the list in registers"
+    )]
     fn push_reserved(&mut self, item: T) {
         assert!(self.len() < self.capacity(), "there is no room");
         self.push(item);
@@ -131,7 +135,8 @@ fn zeroed(count: usize) -> Result<Vec<u8>, AllocError> {
         return Err(AllocError);
     }
     // SAFETY: the allocator gave so many bytes for this layout, which is that of a list of them, and all are 0.
-    Ok(unsafe { Vec::from_raw_parts(bytes, count, count) })
+    let bytes = unsafe { Box::from_raw(std::ptr::slice_from_raw_parts_mut(bytes, count)) };
+    Ok(bytes.into_vec())
 }
 
 /// Collects what an iterator yields.
@@ -162,6 +167,7 @@ pub enum CowSlice<'a, T> {
 
 impl<T> CowSlice<'_, T> {
     /// The items.
+    #[must_use]
     pub fn as_slice(&self) -> &[T] {
         self
     }
