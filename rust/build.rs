@@ -19,7 +19,6 @@ fn main() {
     }
     println!("cargo::rustc-check-cfg=cfg(row_mask_library)");
     println!("cargo::rustc-check-cfg=cfg(row_mask_loops, values(\"both\", \"v2\", \"v3\"))");
-    println!("cargo::rustc-check-cfg=cfg(row_mask_arrays)");
     println!("cargo::metadata=include={}", package.display());
     if env::var_os("DOCS_RS").is_some() {
         println!("cargo::rustc-cfg=row_mask_library");

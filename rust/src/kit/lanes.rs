@@ -1,59 +1,153 @@
-//! Lanes: numbers side by side that are computed with at once, under the names of Rust's portable `std::simd`.
-//! Sums, differences and products wrap.
+//! Lanes: numbers side by side that are computed with at once, under the names of Rust's portable `std::simd`. Sums,
+//! differences and products wrap. A shift is by one count for all lanes: `lanes << u8x16::every(3)`.
 //!
-//! On x86-64 they lie in registers (`sse`), and elsewhere in arrays (`arrays`), as the program is compiled. With
-//! `--cfg row_mask_arrays` they lie in arrays everywhere.
+//! Lanes lie in registers of x86-64, as far as a program is compiled for these, and else in arrays. With
+//! `--cfg row_mask_arrays` all of them do.
 
 #![allow(non_camel_case_types, reason = "they are the names of `std::simd`")]
-#![allow(clippy::inline_always, reason = "a call is few instructions, of those that its caller is compiled for")]
+#![allow(clippy::inline_always, reason = "a call is a few instructions of its caller")]
 #![allow(dead_code, reason = "all lanes have the same calls")]
 
-mod arrays;
-#[cfg(all(target_arch = "x86_64", target_feature = "sse2", not(row_mask_arrays)))]
-mod sse;
-#[cfg(test)]
-mod tests;
+/// A type of lanes, and what it is inside: of one number for every lane, of an array, and back to an array.
+macro_rules! lanes {
+    (
+        $name:ident: [$lane:ident; $count:literal] in $inner:ty,
+        |$one:ident| $splat:expr, |$array:ident| $from:expr, |$inside:ident| $to:expr
+    ) => {
+        #[derive(Clone, Copy)]
+        pub struct $name(pub(super) $inner);
 
-#[cfg(not(all(target_arch = "x86_64", target_feature = "sse2", not(row_mask_arrays))))]
-pub use arrays::{u8x8, u8x16, u8x64, u16x8, u16x16, u32x4, u32x8, u64x2, usizex8};
-#[cfg(all(target_arch = "x86_64", target_feature = "sse2", not(row_mask_arrays)))]
-pub use sse::{u8x8, u8x16, u8x64, u16x8, u16x16, u32x4, u32x8, u64x2, usizex8};
-
-/// How far every lane is shifted: less than a lane has bits.
-#[derive(Clone, Copy)]
-pub struct Every<L>(L);
-
-macro_rules! every {
-    ($($lane:ident: $bits:literal),*) => {$(
-        impl From<$lane> for Every<$lane> {
+        impl $name {
             #[inline(always)]
-            fn from(count: $lane) -> Self {
-                debug_assert!(count < $bits);
-                Every(count % $bits)
+            pub fn splat($one: $lane) -> Self {
+                Self($splat)
+            }
+
+            #[inline(always)]
+            pub fn from_array($array: [$lane; $count]) -> Self {
+                Self($from)
+            }
+
+            #[inline(always)]
+            pub fn to_array(self) -> [$lane; $count] {
+                let $inside = self.0;
+                $to
+            }
+
+            /// The first numbers of a slice, which has at least as many as there are lanes.
+            #[inline(always)]
+            pub fn from_slice(numbers: &[$lane]) -> Self {
+                Self::from_array(*numbers.first_chunk().expect("a number for each lane"))
+            }
+
+            /// A count to shift all lanes by, less than a lane has bits.
+            #[inline(always)]
+            pub fn every(count: $lane) -> Every<$lane> {
+                #[allow(clippy::cast_possible_truncation, reason = "it is at most 64")]
+                const BITS: $lane = $lane::BITS as $lane;
+                debug_assert!(count < BITS, "a lane has {BITS} bits");
+                Every(count % BITS)
+            }
+
+            #[inline(always)]
+            pub fn cast<L>(self) -> <Self as Cast<L>>::Lanes
+            where
+                Self: Cast<L>,
+            {
+                self.cast_lanes()
+            }
+        }
+
+        impl core::ops::Not for $name {
+            type Output = Self;
+
+            #[inline(always)]
+            fn not(self) -> Self {
+                self ^ Self::splat($lane::MAX)
+            }
+        }
+
+        impl core::ops::BitXorAssign for $name {
+            #[inline(always)]
+            fn bitxor_assign(&mut self, other: Self) {
+                *self = *self ^ other;
+            }
+        }
+    };
+}
+
+/// Operators, by what is inside.
+macro_rules! operators {
+    ($name:ident: $($trait:ident $call:ident $other:ty, |$a:ident, $b:ident| $made:expr;)*) => {$(
+        impl core::ops::$trait<$other> for $name {
+            type Output = Self;
+
+            #[inline(always)]
+            fn $call(self, other: $other) -> Self {
+                let ($a, $b) = (self.0, other.0);
+                Self($made)
             }
         }
     )*};
 }
 
-every!(u8: 8, u16: 16, u32: 32, u64: 64);
+/// Methods, by what is inside.
+macro_rules! methods {
+    ($($name:ident: $call:ident -> $to:ident, |$a:ident $(, $b:ident)?| $made:expr;)*) => {$(
+        impl $name {
+            #[inline(always)]
+            pub fn $call(self $(, $b: Self)?) -> $to {
+                let $a = self.0;
+                $(let $b = $b.0;)?
+                $to($made)
+            }
+        }
+    )*};
+}
 
-/// Lanes that can become lanes of type `L`: each keeps its number, or the low bits of it.
+/// Casts, by what is inside.
+macro_rules! casts {
+    ($($name:ident as $lane:ident: $to:ident, |$a:ident| $made:expr;)*) => {$(
+        impl Cast<$lane> for $name {
+            type Lanes = $to;
+
+            #[inline(always)]
+            fn cast_lanes(self) -> $to {
+                let $a = self.0;
+                $to($made)
+            }
+        }
+    )*};
+}
+
+mod arrays;
+#[cfg(all(target_feature = "sse2", target_pointer_width = "64", not(row_mask_arrays)))]
+mod sse;
+#[cfg(test)]
+mod tests;
+
+#[cfg(not(all(target_feature = "sse2", target_pointer_width = "64", not(row_mask_arrays))))]
+pub use arrays::{u8x8, u8x16, u8x64, u16x8, u16x16, u32x4, u32x8, u64x2, usizex8};
+#[cfg(all(target_feature = "sse2", target_pointer_width = "64", not(row_mask_arrays)))]
+pub use sse::{u8x8, u8x16, u8x64, u16x8, u16x16, u32x4, u32x8, u64x2, usizex8};
+
+/// By how many bits all lanes are shifted.
+#[derive(Clone, Copy)]
+pub struct Every<L>(L);
+
+/// Lanes that can be cast to lanes of the type `L`.
 pub trait Cast<L> {
-    /// As many lanes of that type.
     type Lanes;
 
-    /// What `cast` of these lanes gives.
     fn cast_lanes(self) -> Self::Lanes;
 }
 
-/// Which lanes are equal.
+/// Which lanes are equal, with a bit for each, the first in the lowest.
 #[derive(Clone, Copy)]
 pub struct LaneMask(u64);
 
 impl LaneMask {
-    /// A bit for each lane, the first lane's lowest.
     #[inline(always)]
-    #[must_use]
     pub fn to_bitmask(self) -> u64 {
         self.0
     }

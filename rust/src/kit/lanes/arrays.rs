@@ -1,230 +1,94 @@
-//! Lanes in arrays, for every processor. A compiler makes vectors of their loops where it can.
+//! Lanes in arrays, for every processor. A compiler makes vectors of them where it can.
 
 use super::{Cast, Every, LaneMask};
-use core::array;
-use core::ops::{Add, BitAnd, BitOr, BitXor, BitXorAssign, Mul, Not, Shl, Shr, Sub};
+use core::array::from_fn;
 
-/// Lanes, the first in front.
-#[derive(Clone, Copy)]
-pub struct Lanes<L, const N: usize>([L; N]);
-
-/// Eight bytes.
-pub type u8x8 = Lanes<u8, 8>;
-/// Sixteen bytes.
-pub type u8x16 = Lanes<u8, 16>;
-/// Sixty-four bytes.
-pub type u8x64 = Lanes<u8, 64>;
-/// Eight numbers of 16 bits.
-pub type u16x8 = Lanes<u16, 8>;
-/// Sixteen numbers of 16 bits.
-pub type u16x16 = Lanes<u16, 16>;
-/// Four numbers of 32 bits.
-pub type u32x4 = Lanes<u32, 4>;
-/// Eight numbers of 32 bits.
-pub type u32x8 = Lanes<u32, 8>;
-/// Two numbers of 64 bits.
-pub type u64x2 = Lanes<u64, 2>;
-/// Eight numbers as wide as addresses.
-pub type usizex8 = Lanes<usize, 8>;
-
-impl<L: Copy, const N: usize> Lanes<L, N> {
-    /// The same number in every lane.
-    #[inline(always)]
-    #[must_use]
-    pub fn splat(lane: L) -> Self {
-        Lanes([lane; N])
-    }
-
-    /// These lanes.
-    #[inline(always)]
-    #[must_use]
-    pub fn from_array(lanes: [L; N]) -> Self {
-        Lanes(lanes)
-    }
-
-    /// The lanes.
-    #[inline(always)]
-    #[must_use]
-    pub fn to_array(self) -> [L; N] {
-        self.0
-    }
-
-    /// The first of these numbers.
-    ///
-    /// # Panics
-    ///
-    /// Where there are fewer than lanes.
-    #[inline(always)]
-    #[must_use]
-    pub fn from_slice(numbers: &[L]) -> Self {
-        Lanes(*numbers.first_chunk().expect("a number for each lane"))
-    }
-
-    /// The count `count`, to shift every lane by.
-    #[inline(always)]
-    #[must_use]
-    pub fn every(count: L) -> Every<L>
-    where
-        Every<L>: From<L>,
-    {
-        Every::from(count)
-    }
-
-    /// Lanes of another type.
-    #[inline(always)]
-    #[must_use]
-    pub fn cast<T>(self) -> <Self as Cast<T>>::Lanes
-    where
-        Self: Cast<T>,
-    {
-        self.cast_lanes()
-    }
-
-    #[inline(always)]
-    fn zip(self, other: Self, of: impl Fn(L, L) -> L) -> Self {
-        Lanes(array::from_fn(|i| of(self.0[i], other.0[i])))
-    }
-}
-
-impl<L: Copy + PartialEq, const N: usize> Lanes<L, N> {
-    /// Which lanes are equal, of at most 64.
-    #[inline(always)]
-    #[must_use]
-    pub fn simd_eq(self, other: Self) -> LaneMask {
-        LaneMask((0..N).fold(0, |bits, i| bits | u64::from(self.0[i] == other.0[i]) << i))
-    }
-}
-
-macro_rules! operators {
-    ($lane:ident: $($trait:ident $call:ident |$one:ident, $other:ident| $of:expr;)*) => {
-        $(impl<const N: usize> $trait for Lanes<$lane, N> {
-            type Output = Self;
-
-            #[inline(always)]
-            fn $call(self, other: Self) -> Self {
-                self.zip(other, |$one, $other| $of)
-            }
-        })*
-    };
-    ($($lane:ident)*) => {$(
+macro_rules! arrays {
+    ($($name:ident: [$lane:ident; $count:literal];)*) => {$(
+        lanes! {
+            $name: [$lane; $count] in [$lane; $count],
+            |one| [one; $count], |array| array, |array| array
+        }
         operators! {
-            $lane:
-            Add add |a, b| a.wrapping_add(b);
-            Sub sub |a, b| a.wrapping_sub(b);
-            Mul mul |a, b| a.wrapping_mul(b);
-            BitAnd bitand |a, b| a & b;
-            BitOr bitor |a, b| a | b;
-            BitXor bitxor |a, b| a ^ b;
-        }
-
-        impl<const N: usize> Not for Lanes<$lane, N> {
-            type Output = Self;
-
-            #[inline(always)]
-            fn not(self) -> Self {
-                Lanes(self.0.map(|lane| !lane))
-            }
-        }
-
-        impl<const N: usize> BitXorAssign for Lanes<$lane, N> {
-            #[inline(always)]
-            fn bitxor_assign(&mut self, other: Self) {
-                *self = *self ^ other;
-            }
+            $name:
+            Add add Self, |a, b| from_fn(|i| a[i].wrapping_add(b[i]));
+            Sub sub Self, |a, b| from_fn(|i| a[i].wrapping_sub(b[i]));
+            Mul mul Self, |a, b| from_fn(|i| a[i].wrapping_mul(b[i]));
+            BitAnd bitand Self, |a, b| from_fn(|i| a[i] & b[i]);
+            BitOr bitor Self, |a, b| from_fn(|i| a[i] | b[i]);
+            BitXor bitxor Self, |a, b| from_fn(|i| a[i] ^ b[i]);
+            Shl shl Every<$lane>, |a, count| a.map(|lane| lane << count);
+            Shr shr Every<$lane>, |a, count| a.map(|lane| lane >> count);
         }
     )*};
 }
 
-operators!(u8 u16 u32 u64 usize);
-
-macro_rules! shifts {
-    ($($lane:ident)*) => {$(
-        impl<const N: usize> Shl<Every<$lane>> for Lanes<$lane, N> {
-            type Output = Self;
-
-            #[inline(always)]
-            fn shl(self, count: Every<$lane>) -> Self {
-                Lanes(self.0.map(|lane| lane << count.0))
-            }
-        }
-
-        impl<const N: usize> Shr<Every<$lane>> for Lanes<$lane, N> {
-            type Output = Self;
-
-            #[inline(always)]
-            fn shr(self, count: Every<$lane>) -> Self {
-                Lanes(self.0.map(|lane| lane >> count.0))
-            }
-        }
-    )*};
-}
-
-shifts!(u8 u16 u32 u64);
-
-macro_rules! casts {
-    ($($lane:ident as $other:ident;)*) => {$(
-        impl<const N: usize> Cast<$other> for Lanes<$lane, N> {
-            type Lanes = Lanes<$other, N>;
-
-            #[inline(always)]
-            fn cast_lanes(self) -> Lanes<$other, N> {
-                Lanes(self.0.map(|lane| lane as $other))
-            }
-        }
-    )*};
+arrays! {
+    u8x8: [u8; 8];
+    u8x16: [u8; 16];
+    u8x64: [u8; 64];
+    u16x8: [u16; 8];
+    u16x16: [u16; 16];
+    u32x4: [u32; 4];
+    u32x8: [u32; 8];
+    u64x2: [u64; 2];
+    usizex8: [usize; 8];
 }
 
 casts! {
-    u8 as u16;
-    u8 as u32;
-    u8 as usize;
-    u16 as u8;
+    u8x8 as u32: u32x8, |lanes| lanes.map(u32::from);
+    u8x8 as usize: usizex8, |lanes| lanes.map(usize::from);
+    u8x16 as u16: u16x16, |lanes| lanes.map(u16::from);
+    u16x16 as u8: u8x16, |lanes| lanes.map(|lane| lane.to_le_bytes()[0]);
 }
 
-macro_rules! swizzles {
-    ($($lane:ident)*) => {$(
-        impl<const N: usize> Lanes<$lane, N> {
-            /// The lanes with these numbers, and 0 where there is none.
-            #[inline(always)]
-            #[must_use]
-            pub fn swizzle_dyn(self, numbers: Self) -> Self {
-                Lanes(numbers.0.map(|i| if (i as usize) < N { self.0[i as usize] } else { 0 }))
-            }
-        }
-    )*};
+methods! {
+    u8x8: swizzle_dyn -> u8x8, |lanes, indices| swizzle(lanes, indices.map(usize::from));
+    u8x16: swizzle_dyn -> u8x16, |lanes, indices| swizzle(lanes, indices.map(usize::from));
+    u32x8: swizzle_dyn -> u32x8, |lanes, indices| swizzle(lanes, indices.map(|i| i as usize));
+    u8x16: simd_eq -> LaneMask, |a, b| equal(a, b);
+    u8x64: simd_eq -> LaneMask, |a, b| equal(a, b);
+    u8x16: count_ones -> u8x16, |lanes| lanes.map(|lane| lane.count_ones().to_le_bytes()[0]);
 }
 
-swizzles!(u8 u32);
+/// The lanes at the indices, and 0 at an index past the last, of at most 16 lanes.
+#[inline(always)]
+fn swizzle<L: Copy + Default, const N: usize>(lanes: [L; N], indices: [usize; N]) -> [L; N] {
+    // (with a 0 behind the lanes, nothing branches)
+    let mut room = [L::default(); 17];
+    room[..N].copy_from_slice(&lanes);
+    indices.map(|i| room[i.min(N)])
+}
 
-impl u8x16 {
-    /// How many bits of each lane are set.
-    #[inline(always)]
-    #[must_use]
-    pub fn count_ones(self) -> Self {
-        Lanes(self.0.map(|lane| lane.count_ones() as u8))
+/// A bit for each byte, of which there are eights, and at most 64.
+#[inline(always)]
+fn equal<const N: usize>(a: [u8; N], b: [u8; N]) -> u64 {
+    let equal: [u8; N] = from_fn(|i| u8::from(a[i] == b[i]));
+    let mut bits = 0;
+    for (k, eight) in equal.as_chunks().0.iter().enumerate() {
+        // (the top byte of the product has a bit of each)
+        let byte = u64::from_le_bytes(*eight).wrapping_mul(0x0102_0408_1020_4080) >> 56;
+        bits |= byte << (8 * k);
     }
+    bits
 }
 
 macro_rules! bytes {
-    ($($kind:ident: $lane:ident;)*) => {$(
-        impl $kind {
-            /// The numbers of these bytes, the lowest byte of each in front.
+    ($($name:ident: $lane:ident;)*) => {$(
+        impl $name {
             #[inline(always)]
-            #[must_use]
             pub fn from_le_bytes(bytes: u8x16) -> Self {
                 let (lanes, _) = bytes.0.as_chunks();
-                Lanes(array::from_fn(|i| $lane::from_le_bytes(lanes[i])))
+                Self(from_fn(|i| $lane::from_le_bytes(lanes[i])))
             }
 
-            /// The bytes of the numbers, the lowest byte of each in front.
             #[inline(always)]
-            #[must_use]
             pub fn to_le_bytes(self) -> u8x16 {
                 let mut bytes = [0; 16];
                 for (bytes, lane) in bytes.as_chunks_mut().0.iter_mut().zip(self.0) {
                     *bytes = lane.to_le_bytes();
                 }
-                Lanes(bytes)
+                u8x16(bytes)
             }
         }
     )*};
