@@ -183,7 +183,7 @@ class Erasure:
         trait = re.search(r"(\w+)\s*(<[^{]*>)?\s+for\s", head)
         of = re.search(r"impl\s*(<(?:[^<>]|<[^<>]*>|->)*>)?\s*(\w+)", head)
         items = self.items(body + 1, last - 1, ("trait impl", trait[1]) if trait else ("impl", of[2]))
-        quality = "unsafe " if trait and trait[1] in LAWFUL else ""
+        quality = "// SAFETY: its answers are proved to be as the contract says.\nunsafe " if trait and trait[1] in LAWFUL else ""
         return f"{before}{quality}{DROP.sub('', head)}{{{items}}}", last
 
     def item_trait(self, i, j, end, context, before, attributes):

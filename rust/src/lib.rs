@@ -58,6 +58,7 @@ pub fn library_version() -> u32 {
 
 /// How to read the contracts in this documentation, and what their words mean.
 #[doc = include_str!("definitions.md")]
+#[allow(clippy::doc_markdown, reason = "the page is that of the repository")]
 pub mod definitions {}
 
 /// Rank intersection by its parts: the kernels, the deposits and selections of a word, and which kernel is taken.

@@ -127,8 +127,10 @@ mod sse;
 mod tests;
 
 #[cfg(not(all(target_feature = "sse2", target_pointer_width = "64", not(row_mask_arrays))))]
+#[allow(unused_imports, reason = "tests take all of them")]
 pub use arrays::{u8x8, u8x16, u8x64, u16x8, u16x16, u32x4, u32x8, u64x2, usizex8};
 #[cfg(all(target_feature = "sse2", target_pointer_width = "64", not(row_mask_arrays)))]
+#[allow(unused_imports, reason = "tests take all of them")]
 pub use sse::{u8x8, u8x16, u8x64, u16x8, u16x16, u32x4, u32x8, u64x2, usizex8};
 
 /// By how many bits all lanes are shifted.

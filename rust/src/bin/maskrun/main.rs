@@ -4,7 +4,7 @@
 //! It starts without what Rust does before `main`: that opens outputs which are closed, so that a line which nobody
 //! reads would count as written, and aborts where it finds no memory for the arguments.
 #![cfg_attr(not(test), no_main)]
-#![allow(unused_imports)]
+#![allow(clippy::all, clippy::pedantic, unused_imports)]
 
 mod answer;
 mod argument;

@@ -90,6 +90,7 @@ const FEW: usize = 2;
 /// forms where both masks allow them, and else tables of their nibbles, unless both sources are zero.
 pub struct Portable;
 
+// SAFETY: its answers are proved to be as the contract says.
 unsafe impl DepositBits for Portable {
     // inlined into the loop of a kernel, which knows the count
     #[inline(always)]
@@ -139,6 +140,7 @@ fn deposit_closed(source: u64, mask: u64, mask_count: usize) -> u64 {
 /// Deposits one set place after another: quick where few bits of the masks are set.
 pub struct PortableLoop;
 
+// SAFETY: its answers are proved to be as the contract says.
 unsafe impl DepositBits for PortableLoop {
     #[inline(always)]
     fn deposit_bits_proved(source: u64, mask: u64, mask_count: usize) -> u64 {

@@ -40,6 +40,7 @@ pub unsafe trait ExtractBits {
     fn extract_bits_proved(source: u64, mask: u64, mask_count: usize) -> u64;
 }
 
+// SAFETY: its answers are proved to be as the contract says.
 unsafe impl ExtractBits for Portable {
     #[inline(always)]
     fn extract_bits_proved(source: u64, mask: u64, _mask_count: usize) -> u64 {

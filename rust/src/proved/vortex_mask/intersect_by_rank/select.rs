@@ -48,6 +48,7 @@ pub unsafe trait SelectBit {
     fn select_bit_position_proved(word: u64, rank: usize) -> usize;
 }
 
+// SAFETY: its answers are proved to be as the contract says.
 unsafe impl SelectBit for Portable {
     // Without a branch, which would often be guessed wrong.
     #[inline(always)]
