@@ -63,7 +63,7 @@ RULES = [
     ("what takes memory", r"\bimpl Clone for\b", "impl {kit}::TryClone for"),
     ("what takes memory", r"\b(\w+): Clone\b", r"\1: {kit}::TryClone"),
     ("what takes memory", r"\.collect\(\)", ".collected()"),
-    ("what takes memory", r"\.(push|push_str|resize|to_string|to_vec)\(", r".try_\1("),
+    ("what takes memory", r"\.(push|push_str|resize|to_string|to_vec|shrink_to_fit)\(", r".try_\1("),
     ("what takes memory", r"\b(Vec|String)::with_capacity\(", r"\1::with_room("),
     ("what takes memory", r"\bString::from_str\(", "String::try_from_str("),
     ("what takes memory", r"\bwrite!\(((?!f\b)[\w.]+),\s*([^()]*)\)", r"\1.try_write(format_args!(\2))"),

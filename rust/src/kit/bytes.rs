@@ -1,12 +1,16 @@
 //! Bytes that several buffers share.
 
 use super::{AllocError, TryClone};
+use std::fmt;
 use std::ops::Deref;
 use std::sync::Arc;
 
 /// Bytes that never change while they are shared. A clone shares them.
-#[derive(Clone, Debug, Default, PartialEq, Eq, Hash)]
-pub struct Bytes(Arc<Vec<u8>>);
+#[derive(Clone, Default, PartialEq, Eq, Hash)]
+pub struct Bytes(
+    // (none where there are no bytes, which takes no memory)
+    Option<Arc<Vec<u8>>>,
+);
 
 /// Bytes that nobody else holds, from one of them on.
 #[derive(Debug)]
@@ -33,17 +37,18 @@ impl Bytes {
     /// All bytes.
     #[must_use]
     pub fn as_slice(&self) -> &[u8] {
-        &self.0
+        self.0.as_deref().map_or(&[], Vec::as_slice)
     }
 
     pub(crate) fn try_into_mut(self) -> Result<BytesMut, Bytes> {
-        Arc::try_unwrap(self.0).map(|bytes| BytesMut { bytes, first: 0 }).map_err(Bytes)
+        let own = self.0.map_or(Ok(Vec::new()), Arc::try_unwrap);
+        own.map(|bytes| BytesMut { bytes, first: 0 }).map_err(|held| Bytes(Some(held)))
     }
 }
 
 impl From<Vec<u8>> for Bytes {
     fn from(bytes: Vec<u8>) -> Bytes {
-        Bytes(Arc::new(bytes))
+        Bytes((!bytes.is_empty()).then(|| Arc::new(bytes)))
     }
 }
 
@@ -71,13 +76,19 @@ impl Deref for Bytes {
     type Target = [u8];
 
     fn deref(&self) -> &[u8] {
-        &self.0
+        self.as_slice()
     }
 }
 
 impl AsRef<[u8]> for Bytes {
     fn as_ref(&self) -> &[u8] {
-        &self.0
+        self.as_slice()
+    }
+}
+
+impl fmt::Debug for Bytes {
+    fn fmt(&self, f: &mut fmt::Formatter<'_>) -> fmt::Result {
+        self.as_slice().fmt(f)
     }
 }
 

@@ -28,6 +28,11 @@ pub trait List<T>: Sized {
     /// Puts an item into room that is there.
     fn push_reserved(&mut self, item: T);
 
+    /// Gives back the room that is left, where there is memory for a list without it.
+    fn try_shrink_to_fit(&mut self)
+    where
+        T: Copy;
+
     /// Cuts the list to so many items, or fills it up to them.
     ///
     /// # Errors
@@ -72,6 +77,17 @@ impl<T> List<T> for Vec<T> {
     fn push_reserved(&mut self, item: T) {
         assert!(self.len() < self.capacity(), "there is no room");
         self.push(item);
+    }
+
+    fn try_shrink_to_fit(&mut self)
+    where
+        T: Copy,
+    {
+        if self.len() < self.capacity()
+            && let Ok(fitting) = Vec::from_slice(self)
+        {
+            *self = fitting;
+        }
     }
 
     #[inline]

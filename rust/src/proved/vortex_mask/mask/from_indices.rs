@@ -230,7 +230,7 @@ impl Mask {
             return Err(fault);
         }
         // the mask keeps the list, which may have room for all of the shorter one
-        indices.shrink_to_fit();
+        indices.try_shrink_to_fit();
         Mask::of_indices(len, indices)
     }
 }
