@@ -1,8 +1,8 @@
 //! Lanes: numbers side by side that are computed with at once, under the names of Rust's portable `std::simd`. Sums,
 //! differences and products wrap. A shift is by one count for all lanes: `lanes << u8x16::every(3)`.
 //!
-//! Lanes lie in registers of x86-64, as far as a program is compiled for these, and else in arrays. With
-//! `--cfg row_mask_arrays` all of them do.
+//! On x86-64 they lie in registers, as far as a program is compiled for these, and elsewhere in arrays. With
+//! `--cfg row_mask_arrays` they lie in arrays everywhere.
 
 #![allow(non_camel_case_types, reason = "they are the names of `std::simd`")]
 #![allow(clippy::inline_always, reason = "a call is a few instructions of its caller")]
@@ -144,7 +144,7 @@ pub trait Cast<L> {
     fn cast_lanes(self) -> Self::Lanes;
 }
 
-/// Which lanes are equal, with a bit for each, the first in the lowest.
+/// Which lanes are equal: a bit for each, the first in the lowest.
 #[derive(Clone, Copy)]
 pub struct LaneMask(u64);
 

@@ -51,7 +51,7 @@ methods! {
     u8x16: count_ones -> u8x16, |lanes| lanes.map(|lane| lane.count_ones().to_le_bytes()[0]);
 }
 
-/// The lanes at the indices, and 0 at an index past the last, of at most 16 lanes.
+/// The lanes at the indices, and 0 at an index past the last. There are at most 16.
 #[inline(always)]
 fn swizzle<L: Copy + Default, const N: usize>(lanes: [L; N], indices: [usize; N]) -> [L; N] {
     // (with a 0 behind the lanes, nothing branches)
@@ -60,7 +60,7 @@ fn swizzle<L: Copy + Default, const N: usize>(lanes: [L; N], indices: [usize; N]
     indices.map(|i| room[i.min(N)])
 }
 
-/// A bit for each byte, of which there are eights, and at most 64.
+/// Which bytes are equal, with a bit for each, the first in the lowest. There are whole eights of them, and at most 64.
 #[inline(always)]
 fn equal<const N: usize>(a: [u8; N], b: [u8; N]) -> u64 {
     let equal: [u8; N] = from_fn(|i| u8::from(a[i] == b[i]));

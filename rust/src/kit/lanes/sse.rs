@@ -1,5 +1,5 @@
-//! Lanes in the registers of SSE2, which each processor of x86-64 has. What takes more of one is there where a program
-//! is compiled for that.
+//! Lanes in the registers of SSE2, which each processor of x86-64 has. Instructions of SSSE3 and AVX2 are taken where a
+//! program is compiled for them.
 
 use super::{Cast, Every, LaneMask, arrays};
 use core::arch::x86_64::__m128i;
@@ -11,12 +11,12 @@ pub use wide::{u32x8, usizex8};
 /// Calls an instruction.
 macro_rules! call {
     ($name:ident($($argument:expr),*)) => {
-        // SAFETY: the program is compiled for processors that have it, and it takes its arguments alone.
+        // SAFETY: the program is compiled for processors that have it, and it touches no memory.
         unsafe { core::arch::x86_64::$name($($argument),*) }
     };
 }
 
-/// Lanes in so many registers, of which each has these instructions.
+/// Lanes in so many registers, and the instructions for the bits of one.
 macro_rules! registers {
     (
         $register:ident $and:ident $or:ident $xor:ident:
@@ -162,7 +162,7 @@ fn register(number: u64) -> __m128i {
     call!(_mm_cvtsi64_si128(number.cast_signed()))
 }
 
-/// A bit for each byte.
+/// Which bytes are equal, with a bit for each, the first in the lowest.
 #[inline(always)]
 fn equal<const N: usize>(a: [__m128i; N], b: [__m128i; N]) -> u64 {
     let mut bits = 0;
