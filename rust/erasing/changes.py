@@ -41,7 +41,30 @@ SAME = {"std::fmt", "std::fmt::Debug", "std::fmt::Display", "std::mem", "std::me
 # Traits whose implementations have to be lawful, which no compiler sees.
 LAWFUL = ["DepositBits", "SelectBit", "ExtractBits"]
 # Functions whose bodies are others here, with the body that they have in the sources.
-LEAVES = {}
+LEAVES = {
+    "word_of": (
+        "{ match bytes[8 * i..8 * i + 8].first_chunk::<8>() {"
+        " Some(chunk) => u64::from_le_bytes(*chunk), None => unreachable!(), } }",
+        "{ crate::kit::words::word_of(bytes, i) }",
+    ),
+    "set_word": (
+        "{ bytes[8 * i..8 * i + 8].copy_from_slice(&word.to_le_bytes()); }",
+        "{ crate::kit::words::set_word(bytes, i, word); }",
+    ),
+    "sixteen_whole_bytes": (
+        "{ match bytes[first..first + 16].first_chunk::<16>() {"
+        " Some(chunk) => u128::from_le_bytes(*chunk), None => unreachable!(), } }",
+        "{ crate::kit::words::sixteen_bytes(bytes, first) }",
+    ),
+    "step": (
+        "{ let (left, right) = (list[at.list], other[at.other]); list[at.found] = left; Places {"
+        " list: at.list + (left <= right) as usize, other: at.other + (right <= left) as usize,"
+        " found: at.found + (left == right) as usize, } }",
+        "{ let (left, right) = crate::kit::words::kept(list, other, at.list, at.other, at.found); Places {"
+        " list: at.list + (left <= right) as usize, other: at.other + (right <= left) as usize,"
+        " found: at.found + (left == right) as usize, } }",
+    ),
+}
 ALLOCATOR = r"(?:\w+\.)*alloc\b(?!\s*[:(!])"
 RULES = [
     ("the allocator", r",\s*\$alloc(:ident)?", ""),
@@ -63,7 +86,8 @@ RULES = [
     ("what takes memory", r"\bimpl Clone for\b", "impl {kit}::TryClone for"),
     ("what takes memory", r"\b(\w+): Clone\b", r"\1: {kit}::TryClone"),
     ("what takes memory", r"\.collect\(\)", ".collected()"),
-    ("what takes memory", r"\.(push|push_str|resize|to_string|to_vec|shrink_to_fit)\(", r".try_\1("),
+    ("what takes memory", r"\.(push|push_str|resize|to_string|to_vec)\(", r".try_\1("),
+    ("what takes memory", r"\.shrink_to_fit\(", ".shrink_or_stay("),
     ("what takes memory", r"\b(Vec|String)::with_capacity\(", r"\1::with_room("),
     ("what takes memory", r"\bString::from_str\(", "String::try_from_str("),
     ("what takes memory", r"\bwrite!\(((?!f\b)[\w.]+),\s*([^()]*)\)", r"\1.try_write(format_args!(\2))"),

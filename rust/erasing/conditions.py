@@ -27,7 +27,7 @@ class Condition:
     >>> Condition({"i": "usize", "chunks": "&BitChunks<'_>"}, "64 * i < length chunks.now").test()
     '64 * (i as u128) < ((64 * chunks.len() + chunks.remainder_len()) as u128)'
     >>> Condition({"ks": "&[usize]"}, "All (λ k. k < count (values b.now)) ks.now").test()
-    'ks.iter().all(|&k| k < b.true_count())'
+    'crate::kit::conditions::are_below(ks, b.true_count())'
     >>> Condition({}, "F.IsAlwaysCallable test").test() is None
     True
     """
@@ -61,7 +61,8 @@ class Condition:
         return self.compared(self.words)
 
     def each(self, name, sign, bound, items):
-        return f"{self.place(items)}.iter().all(|&{name}| {name} {sign.replace('≤', '<=')} {self.sum(bound)})"
+        test = {"<": "are_below", "≤": "are_at_most"}[sign]
+        return f"{TESTS}::{test}({self.place(items)}, {self.sum(bound)})"
 
     def ascending_items(self, items):
         self.listed.append(items)

@@ -313,19 +313,28 @@ impl std::error::Error for {name} {{}}
         kind, of = context
         where = function.name if of is None else f"{of}::{function.name}"
         body = self.leaf(where, body)
+        inline = self.inline(before, body)
         if kind == "trait impl":
             name = function.name + ("_proved" if (of, function.name) in self.twins else "")
-            return f"{before}{function.signature(name)} {body}", last + 1
+            return f"{before}{inline}{function.signature(name)} {body}", last + 1
         if not self.is_public(function, context):
-            return f"{before}{function.signature()} {body}", last + 1
+            return f"{before}{inline}{function.signature()} {body}", last + 1
         tests, listed = self.tests(function, clauses, of, where)
         before = documented(before, clauses)
         if lists := lists_first(body, listed):
             body = body[:lists] + "\n" + "\n".join(tests) + body[lists:]
-            return f"{before}#[track_caller]\n{self.widened(function, body)}", last + 1
+            return f"{before}#[track_caller]\n{inline}{self.widened(function, body)}", last + 1
+        before += inline
         if tests:
             return self.with_tests(function, tests, listed, context, before, body), last + 1
         return before + self.widened(function, body), last + 1
+
+    def inline(self, before, body):
+        """The attribute of a function of the package that says nothing of how it is compiled into others."""
+        if self.crate not in INSIDE or body == ";" or re.search(r"#\[(inline|cold)\b", before):
+            return ""
+        self.count("inlining")
+        return "#[inline]\n"
 
     def widened(self, function, body):
         """A public function, which takes all that can be gone through where the source takes an iterator."""

@@ -9,7 +9,7 @@ from erasing.tokens import CLOSING, OPENING, TOKEN, Fault, spaced
 # Words of a source that have another name in what was made of it.
 NAMED = {
     "clone": "try_clone", "Clone": "TryClone", "collect": "collected", "push": "try_push", "push_str": "try_push_str",
-    "resize": "try_resize", "to_string": "try_to_string", "to_vec": "try_to_vec", "shrink_to_fit": "try_shrink_to_fit", "with_capacity": "with_room",
+    "resize": "try_resize", "to_string": "try_to_string", "to_vec": "try_to_vec", "shrink_to_fit": "shrink_or_stay", "with_capacity": "with_room",
     "Rc": "Arc", "IntoIterator": "Iterator", "splat": "every",
 }
 # Paths that stand before a name on one side or the other.
@@ -32,11 +32,13 @@ GONE = [
     r"(?:\w+ \. )*alloc(?= [^:(!]|$)",
     r": Drop(?= [>,{)]|$)",
     r"\+ Drop",
+    r"# \[ inline \]",
 ]
 OWED = r"crate :: kit :: conditions :: owed \( [^;]*?, \"[-\d]+\" , \"[-\d]+\" , \"[-\d]+\" \) ;"
 NEW = [
     OWED,
     r"# \[ track_caller \]",
+    r"# \[ inline \]",
     r"let (\w+) = \1 \. into_iter \( \) ;",
     r": Sized(?= \{)",
     r"unsafe(?= (?:trait|impl))",

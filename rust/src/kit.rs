@@ -44,6 +44,7 @@ impl<T> From<AllocFailed<T>> for AllocError {
 
 /// What the proved sources have in scope.
 pub mod prelude {
+    pub(crate) use super::words::Reserved as _;
     pub use super::{
         Collect as _, List as _, Text as _, ToList as _, TryClone as _, TryToString as _,
     };

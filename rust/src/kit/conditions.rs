@@ -22,9 +22,20 @@ fn broken(call: &'static str, name: &'static str, words: &'static str) -> ! {
     panic!("`{call}` is called with `{name}` broken: {words}");
 }
 
-/// Whether each index is above the one before it.
+/// Whether each index is above the one before it. With no branch for each, so that several are compared at once.
 pub(crate) fn ascends(indices: &[usize]) -> bool {
-    indices.is_sorted_by(|a, b| a < b)
+    let next = indices.get(1..).unwrap_or_default();
+    indices.iter().zip(next).fold(0, |wrong, (one, next)| wrong | usize::from(one >= next)) == 0
+}
+
+/// Whether each index is below a number.
+pub(crate) fn are_below(indices: &[usize], end: usize) -> bool {
+    indices.iter().all(|index| *index < end)
+}
+
+/// Whether each index is at most a number.
+pub(crate) fn are_at_most(indices: &[usize], most: usize) -> bool {
+    indices.iter().all(|index| *index <= most)
 }
 
 /// Whether bits from `offset` on, so many, are within the bytes.

@@ -25,11 +25,8 @@ pub trait List<T>: Sized {
     /// [`AllocError`] where memory is refused.
     fn try_push(&mut self, item: T) -> Result<(), AllocError>;
 
-    /// Puts an item into room that is there.
-    fn push_reserved(&mut self, item: T);
-
     /// Gives back the room that is left, where there is memory for a list without it.
-    fn try_shrink_to_fit(&mut self)
+    fn shrink_or_stay(&mut self)
     where
         T: Copy;
 
@@ -74,12 +71,7 @@ impl<T> List<T> for Vec<T> {
         clippy::inline_always,
         reason = "it is a step of loops, which keep the list in registers"
     )]
-    fn push_reserved(&mut self, item: T) {
-        assert!(self.len() < self.capacity(), "there is no room");
-        self.push(item);
-    }
-
-    fn try_shrink_to_fit(&mut self)
+    fn shrink_or_stay(&mut self)
     where
         T: Copy,
     {
@@ -161,8 +153,15 @@ pub trait Collect: Iterator + Sized {
     ///
     /// # Errors
     /// [`AllocError`] where memory is refused.
+    #[inline]
     fn collected(self) -> Result<Vec<Self::Item>, AllocError> {
-        let mut list = Vec::with_room(self.size_hint().0)?;
+        let (least, most) = self.size_hint();
+        let mut list = Vec::with_room(least)?;
+        if most == Some(least) {
+            // there is room for all
+            list.extend(self);
+            return Ok(list);
+        }
         for item in self {
             list.try_push(item)?;
         }

@@ -65,7 +65,7 @@ fn read(words: &[*const c_char]) -> io::Result<Vec<String>> {
     for word in words {
         // SAFETY: the system hands over words that a 0 ends.
         let text = unsafe { CStr::from_ptr(*word) }.to_str();
-        texts.push_reserved(String::try_from_str(text.map_err(|_| io::ErrorKind::InvalidInput)?)?);
+        texts.push(String::try_from_str(text.map_err(|_| io::ErrorKind::InvalidInput)?)?);
     }
     Ok(texts)
 }

@@ -14,6 +14,7 @@ pub struct BitIterator<'a> {
 }
 
 impl<'a> BitIterator<'a> {
+    #[inline]
     pub(crate) fn new(chunks: BitChunks<'a>) -> BitIterator<'a> {
         BitIterator { chunks, next: 0, word: 0, end: 0 }
     }
@@ -22,6 +23,7 @@ impl<'a> BitIterator<'a> {
 impl Iterator for BitIterator<'_> {
     type Item = bool;
 
+    #[inline]
     fn next(&mut self) -> Option<bool> {
         // within a word one test serves for its end and the list's
         if self.next == self.end && self.next == self.chunks.values_len() {
@@ -35,6 +37,7 @@ impl Iterator for BitIterator<'_> {
         Some(bit & 1 == 1)
     }
 
+    #[inline]
     fn size_hint(&self) -> (usize, Option<usize>) {
         let left = self.len();
         (left, Some(left))
@@ -42,6 +45,7 @@ impl Iterator for BitIterator<'_> {
 }
 
 impl ExactSizeIterator for BitIterator<'_> {
+    #[inline]
     fn len(&self) -> usize {
         self.chunks.values_len() - self.next
     }

@@ -32,6 +32,7 @@ impl BitBuffer {
         self.bitand_proved(other)
     }
 
+    #[inline]
     pub(crate) fn bitand_proved(&self, other: &BitBuffer) -> Result<BitBuffer, AllocError> {
         combined_buffer::<And>(self, other)
     }
@@ -58,6 +59,7 @@ impl BitBuffer {
         self.bitor_proved(other)
     }
 
+    #[inline]
     pub(crate) fn bitor_proved(&self, other: &BitBuffer) -> Result<BitBuffer, AllocError> {
         combined_buffer::<Or>(self, other)
     }
@@ -84,6 +86,7 @@ impl BitBuffer {
         self.bitand_not_proved(other)
     }
 
+    #[inline]
     pub(crate) fn bitand_not_proved(&self, other: &BitBuffer) -> Result<BitBuffer, AllocError> {
         combined_buffer::<AndNot>(self, other)
     }
@@ -94,6 +97,7 @@ impl BitBuffer {
     ///
     /// - *list*: `IfOk result (λ b. values b ≡ not_of (values self.now))`
     /// - *len*: `IfOk result (λ b. length (values b) ≡ length (values self.now))`
+    #[inline]
     pub fn not(&self) -> Result<BitBuffer, AllocError> {
         combined_buffer::<Not>(self, self)
     }
@@ -124,6 +128,7 @@ impl BitBuffer {
         self.into_bitand_proved(other)
     }
 
+    #[inline]
     pub(crate) fn into_bitand_proved(self, other: &BitBuffer) -> Result<BitBuffer, AllocError> {
         combined_into::<And>(self, other)
     }
@@ -150,6 +155,7 @@ impl BitBuffer {
         self.into_bitor_proved(other)
     }
 
+    #[inline]
     pub(crate) fn into_bitor_proved(self, other: &BitBuffer) -> Result<BitBuffer, AllocError> {
         combined_into::<Or>(self, other)
     }
@@ -176,6 +182,7 @@ impl BitBuffer {
         self.into_bitand_not_proved(other)
     }
 
+    #[inline]
     pub(crate) fn into_bitand_not_proved(self, other: &BitBuffer) -> Result<BitBuffer, AllocError> {
         combined_into::<AndNot>(self, other)
     }
@@ -186,6 +193,7 @@ impl BitBuffer {
     ///
     /// - *list*: `IfOk result (λ b. values b ≡ not_of (values self))`
     /// - *len*: `IfOk result (λ b. length (values b) ≡ length (values self))`
+    #[inline]
     pub fn into_not(self) -> Result<BitBuffer, AllocError> {
         let len = self.len();
         match self.into_room() {
@@ -199,6 +207,7 @@ impl BitBuffer {
 }
 
 // A buffer of what `C` makes of two.
+#[inline]
 fn combined_buffer<C: BitOp>(a: &BitBuffer, b: &BitBuffer) -> Result<BitBuffer, AllocError> {
     let len = a.len();
     let mut out = crate::kit::filled(0u8, 8 * started_words(len))?;
@@ -207,6 +216,7 @@ fn combined_buffer<C: BitOp>(a: &BitBuffer, b: &BitBuffer) -> Result<BitBuffer, 
 }
 
 // The same in the first one's bytes, where they are its own.
+#[inline]
 fn combined_into<C: BitOp>(a: BitBuffer, b: &BitBuffer) -> Result<BitBuffer, AllocError> {
     let len = a.len();
     match a.into_room() {

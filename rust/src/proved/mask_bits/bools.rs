@@ -7,6 +7,7 @@ use crate::proved::mask_bits::words::set_word;
 
 /// Writes truth values to the front of `bytes`, which is room of whole words, a word at a time. The bits
 /// past them have no meaning.
+#[inline]
 pub fn put_bools(bytes: &mut [u8], bools: &[bool]) {
     let whole = bools.len() / 64;
     for i in 0..whole {

@@ -46,6 +46,7 @@ impl BitBuffer {
         BitBuffer::new_proved(bytes, len)
     }
 
+    #[inline]
     pub(crate) fn new_proved(bytes: Bytes, len: usize) -> BitBuffer {
         BitBuffer::new_with_offset_proved(bytes, 0, len)
     }
@@ -79,6 +80,7 @@ impl BitBuffer {
         BitBuffer::new_with_offset_proved(bytes, offset, len)
     }
 
+    #[inline]
     pub(crate) fn new_with_offset_proved(bytes: Bytes, offset: usize, len: usize) -> BitBuffer {
         BitBuffer { bytes, offset, len }
     }
@@ -105,6 +107,7 @@ impl BitBuffer {
         BitBuffer::from_vec_proved(bytes, len)
     }
 
+    #[inline]
     pub(crate) fn from_vec_proved(bytes: Vec<u8>, len: usize) -> Result<BitBuffer, AllocError> {
         Ok(BitBuffer::new_proved(Bytes::from_vec(bytes)?, len))
     }
@@ -114,6 +117,7 @@ impl BitBuffer {
     /// # Proved ([terms](crate::definitions))
     ///
     /// - `IfOk result (λ b. values b ≡ repeated len true)`
+    #[inline]
     pub fn new_set(len: usize) -> Result<BitBuffer, AllocError> {
         let ones = crate::kit::filled(0xFFu8, len.div_ceil(8))?;
         BitBuffer::from_vec_proved(ones, len)
@@ -124,6 +128,7 @@ impl BitBuffer {
     /// # Proved ([terms](crate::definitions))
     ///
     /// - `IfOk result (λ b. values b ≡ repeated len false)`
+    #[inline]
     pub fn new_unset(len: usize) -> Result<BitBuffer, AllocError> {
         BitBuffer::from_vec_proved(zeroed(len)?, len)
     }
@@ -141,7 +146,7 @@ impl BitBuffer {
     #[track_caller]
     pub fn from_indices(len: usize, indices: &[usize]) -> Result<BitBuffer, AllocError> {
         crate::kit::conditions::owed(
-            indices.iter().all(|&i| i < len),
+            crate::kit::conditions::are_below(indices, len),
             "BitBuffer::from_indices",
             "its condition",
             "All (λ i. i < len) indices.now",
@@ -149,6 +154,7 @@ impl BitBuffer {
         BitBuffer::from_indices_proved(len, indices)
     }
 
+    #[inline]
     pub(crate) fn from_indices_proved(
         len: usize,
         indices: &[usize],
@@ -171,6 +177,7 @@ impl BitBuffer {
     ///
     /// - *items*: `IfOk result (λ b. Drains I.next_gives bools (values b))`
     /// - *whole*: `IfOk result (λ b. WholeRun I.next_gives bools (λ p. values b ≡ p.items))`
+    #[inline]
     pub fn from_bools<I: IntoIterator<Item = bool>>(bools: I) -> Result<BitBuffer, AllocError> {
         let bools = bools.into_iter();
         // listed first: a word is packed from 64 values in a row several times as fast as from an
@@ -179,6 +186,7 @@ impl BitBuffer {
         BitBuffer::from_slice(&bools)
     }
 
+    #[inline]
     fn from_slice(bools: &[bool]) -> Result<BitBuffer, AllocError> {
         let mut bytes = crate::kit::filled(0u8, 8 * started_words(bools.len()))?;
         put_bools(&mut bytes, bools);
@@ -190,6 +198,7 @@ impl BitBuffer {
     /// # Proved ([terms](crate::definitions))
     ///
     /// - `IfOk result (λ b. b ≡ self.now)`
+    #[inline]
     pub fn try_clone(&self) -> Result<BitBuffer, AllocError> {
         let bytes = self.bytes.try_clone()?;
         Ok(BitBuffer::new_with_offset_proved(bytes, self.offset, self.len))
@@ -219,6 +228,7 @@ impl BitBuffer {
         self.slice_proved(start, end)
     }
 
+    #[inline]
     pub(crate) fn slice_proved(&self, start: usize, end: usize) -> Result<BitBuffer, AllocError> {
         let bytes = self.bytes.try_clone()?;
         Ok(BitBuffer::new_with_offset_proved(bytes, self.offset + start, end - start))
@@ -229,6 +239,7 @@ impl BitBuffer {
     /// # Proved ([terms](crate::definitions))
     ///
     /// - `result ≡ length (values self.now)`
+    #[inline]
     pub fn len(&self) -> usize {
         self.len
     }
@@ -238,6 +249,7 @@ impl BitBuffer {
     /// # Proved ([terms](crate::definitions))
     ///
     /// - `IsTrue result ↔ (values self.now ≡ [])`
+    #[inline]
     pub fn is_empty(&self) -> bool {
         self.len == 0
     }
@@ -248,6 +260,7 @@ impl BitBuffer {
     ///
     /// - *counted*: `result ≡ count (values self.now)`
     /// - *at_most*: `result ≤ length (values self.now)`
+    #[inline]
     pub fn true_count(&self) -> usize {
         count_bits(self.bytes.as_slice(), self.offset, self.len)
     }
@@ -257,6 +270,7 @@ impl BitBuffer {
     /// # Proved ([terms](crate::definitions))
     ///
     /// - `count (values self.now) + result ≡ length (values self.now)`
+    #[inline]
     pub fn false_count(&self) -> usize {
         self.len - self.true_count()
     }
@@ -290,6 +304,7 @@ impl BitBuffer {
         self.count_range_proved(start, end)
     }
 
+    #[inline]
     pub(crate) fn count_range_proved(&self, start: usize, end: usize) -> usize {
         count_bits(self.bytes.as_slice(), self.offset + start, end - start)
     }
@@ -299,6 +314,7 @@ impl BitBuffer {
     /// # Proved ([terms](crate::definitions))
     ///
     /// - `result ≡ self.now.offset`
+    #[inline]
     pub fn offset(&self) -> usize {
         self.offset
     }
@@ -309,16 +325,19 @@ impl BitBuffer {
     ///
     /// - *bytes*: `result.now ≡ self.now.bytes`
     /// - *within*: `IsWithinBytes self.now.bytes self.now.offset self.now.len`
+    #[inline]
     pub fn inner(&self) -> &Bytes {
         &self.bytes
     }
 
     // The bytes, with what readers of them need to know.
+    #[inline]
     pub(crate) fn bits(&self) -> &[u8] {
         self.inner().as_slice()
     }
 
     // The bytes from the first value's on, where nobody else holds them and that value begins one.
+    #[inline]
     pub(crate) fn into_room(self) -> Result<BytesMut, BitBuffer> {
         let BitBuffer { bytes, offset, len } = self;
         if offset % 8 != 0 {
@@ -334,6 +353,7 @@ impl BitBuffer {
     }
 
     // The first `len` bits of bytes that were written in place.
+    #[inline]
     pub(crate) fn from_room(room: BytesMut, len: usize) -> Result<BitBuffer, AllocError> {
         Ok(BitBuffer::new_proved(room.freeze()?, len))
     }
@@ -359,6 +379,7 @@ impl BitBuffer {
         self.value_proved(i)
     }
 
+    #[inline]
     pub(crate) fn value_proved(&self, i: usize) -> bool {
         let position = self.offset + i;
         (self.bytes.as_slice()[position / 8] >> (position % 8)) & 1 == 1
@@ -370,6 +391,7 @@ impl BitBuffer {
     ///
     /// - *index*: `result ≡ slice_get (positions (values self.now)) n`
     /// - *within*: `IfSome result (λ p. p < length (values self.now))`
+    #[inline]
     pub fn select(&self, n: usize) -> Option<usize> {
         self.chunks().select(n)
     }
@@ -380,6 +402,7 @@ impl BitBuffer {
     ///
     /// - *index*: `result ≡ slice_get (positions (values self.now)) (count (values self.now) - 1)`
     /// - *within*: `IfSome result (λ p. p < length (values self.now))`
+    #[inline]
     pub fn last_set_index(&self) -> Option<usize> {
         self.chunks().last_set_index()
     }
@@ -405,6 +428,7 @@ impl BitBuffer {
         self.first_from_proved(from, value)
     }
 
+    #[inline]
     pub(crate) fn first_from_proved(&self, from: usize, value: bool) -> usize {
         self.chunks().first_from_proved(from, value)
     }
@@ -416,6 +440,7 @@ impl BitBuffer {
     /// - *list*: `result ≡ values self.now`
     /// - *in_order*: `YieldsInOrder (YieldsFirst {A = Bool} (λ s. s)) (λ s. s)`
     /// - *fits*: `length result < 2 ^ 64`
+    #[inline]
     pub fn iter(&self) -> BitIterator<'_> {
         BitIterator::new(self.chunks())
     }
@@ -426,12 +451,14 @@ impl BitBuffer {
     ///
     /// - *list*: `result ≡ values self.now`
     /// - *fits*: `length result < 2 ^ 64`
+    #[inline]
     pub fn chunks(&self) -> BitChunks<'_> {
         BitChunks::new_proved(self.bytes.as_slice(), self.offset, self.len)
     }
 }
 
 impl fmt::Debug for BitBuffer {
+    #[inline]
     fn fmt(&self, f: &mut fmt::Formatter<'_>) -> fmt::Result {
         f.write_str("BitBuffer(")?;
         for value in self.iter() {
@@ -442,6 +469,7 @@ impl fmt::Debug for BitBuffer {
 }
 
 // Bytes for `len` bits, all clear.
+#[inline]
 fn zeroed(len: usize) -> Result<Vec<u8>, AllocError> {
     crate::kit::filled(0u8, len.div_ceil(8))
 }

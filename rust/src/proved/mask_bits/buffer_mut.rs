@@ -23,6 +23,7 @@ impl BitBufferMut {
     /// # Proved ([terms](crate::definitions))
     ///
     /// - `IfOk result (λ b. b ≡ [])`
+    #[inline]
     pub fn with_capacity(n: usize) -> Result<BitBufferMut, AllocError> {
         Ok(BitBufferMut { bytes: crate::kit::filled(0u8, 8 * started_words(n))?, len: 0 })
     }
@@ -32,6 +33,7 @@ impl BitBufferMut {
     /// # Proved ([terms](crate::definitions))
     ///
     /// - `IfOk result (λ b. b ≡ repeated len true)`
+    #[inline]
     pub fn new_set(len: usize) -> Result<BitBufferMut, AllocError> {
         let mut buffer = BitBufferMut::with_capacity(len)?;
         buffer.append_n_proved(true, len)?;
@@ -43,6 +45,7 @@ impl BitBufferMut {
     /// # Proved ([terms](crate::definitions))
     ///
     /// - `IfOk result (λ b. b ≡ repeated len false)`
+    #[inline]
     pub fn new_unset(len: usize) -> Result<BitBufferMut, AllocError> {
         let mut buffer = BitBufferMut::with_capacity(len)?;
         buffer.append_n_proved(false, len)?;
@@ -54,6 +57,7 @@ impl BitBufferMut {
     /// # Proved ([terms](crate::definitions))
     ///
     /// - `result ≡ length self.now`
+    #[inline]
     pub fn len(&self) -> usize {
         self.len
     }
@@ -79,6 +83,7 @@ impl BitBufferMut {
         self.set_proved(i)
     }
 
+    #[inline]
     pub(crate) fn set_proved(&mut self, i: usize) {
         set_bit(&mut self.bytes, i);
     }
@@ -104,6 +109,7 @@ impl BitBufferMut {
         self.unset_proved(i)
     }
 
+    #[inline]
     pub(crate) fn unset_proved(&mut self, i: usize) {
         clear_bit(&mut self.bytes, i);
     }
@@ -130,6 +136,7 @@ impl BitBufferMut {
         self.append_n_proved(value, n)
     }
 
+    #[inline]
     pub(crate) fn append_n_proved(&mut self, value: bool, n: usize) -> Result<(), AllocError> {
         make_room(&mut self.bytes, self.len + n)?;
         put_same(&mut self.bytes, self.len, value, n);
@@ -159,6 +166,7 @@ impl BitBufferMut {
         self.append_buffer_proved(other)
     }
 
+    #[inline]
     pub(crate) fn append_buffer_proved(&mut self, other: &BitBuffer) -> Result<(), AllocError> {
         let n = other.len();
         make_room(&mut self.bytes, self.len + n)?;
@@ -191,6 +199,7 @@ impl BitBufferMut {
         self.push_word_proved(word, count)
     }
 
+    #[inline]
     pub(crate) fn push_word_proved(&mut self, word: u64, count: usize) -> Result<(), AllocError> {
         make_room(&mut self.bytes, self.len + count)?;
         put_word(&mut self.bytes, self.len, word, count);
@@ -203,6 +212,7 @@ impl BitBufferMut {
     /// # Proved ([terms](crate::definitions))
     ///
     /// - `IfOk result (λ b. values b ≡ self)`
+    #[inline]
     pub fn freeze(self) -> Result<BitBuffer, AllocError> {
         let BitBufferMut { bytes, len } = self;
         Ok(BitBuffer::new_proved(Bytes::from_vec(bytes)?, len))

@@ -33,6 +33,7 @@ impl BitBuffer {
         self.choose_values_proved(of)
     }
 
+    #[inline]
     pub(crate) fn choose_values_proved(&self, of: &BitBuffer) -> Result<BitBuffer, AllocError> {
         let mut bytes = crate::kit::filled(0u8, 8 * started_words(self.true_count()))?;
         let last = put_chosen(&self.chunks(), &of.chunks(), &mut bytes);
@@ -52,6 +53,7 @@ pub struct LastChosen {
 
 /// Writes the values of `values` at the true values of `masks`, in their order, to the front of `out`, as far as they
 /// fill words of 64. Answers how many there are, and those past the whole words.
+#[inline]
 pub fn put_chosen(masks: &BitChunks<'_>, values: &BitChunks<'_>, out: &mut [u8]) -> LastChosen {
     let words = masks.started_words();
     let mut last = put_pairs(masks, values, out);
@@ -64,6 +66,7 @@ pub fn put_chosen(masks: &BitChunks<'_>, values: &BitChunks<'_>, out: &mut [u8])
 }
 
 // The same by pairs of whole words.
+#[inline]
 fn put_pairs(masks: &BitChunks<'_>, values: &BitChunks<'_>, out: &mut [u8]) -> LastChosen {
     let mut last = LastChosen { count: 0, word: 0 };
     for pair in 0..masks.len() / 2 {

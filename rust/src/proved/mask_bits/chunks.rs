@@ -36,6 +36,7 @@ impl<'a> BitChunks<'a> {
         BitChunks::new_proved(bytes, offset, len)
     }
 
+    #[inline]
     pub(crate) fn new_proved(bytes: &'a [u8], offset: usize, len: usize) -> BitChunks<'a> {
         BitChunks { bytes, offset, len }
     }
@@ -51,6 +52,7 @@ impl<'a> BitChunks<'a> {
     /// # Proved ([terms](crate::definitions))
     ///
     /// - `result ≡ length self.now / 64`
+    #[inline]
     pub fn len(&self) -> usize {
         self.values_len() / 64
     }
@@ -76,6 +78,7 @@ impl<'a> BitChunks<'a> {
         self.word_proved(i)
     }
 
+    #[inline]
     pub(crate) fn word_proved(&self, i: usize) -> u64 {
         Covered::word(Bits::new(self.bytes, self.offset), i)
     }
@@ -87,6 +90,7 @@ impl<'a> BitChunks<'a> {
     /// - *parts*: `result ≡ word_parts self.now`
     /// - *in_order*: `EveryRun (YieldsFirstBy word_bits (λ s. s)) (λ p. ItemsMapTo p word_bits p.from)`
     /// - *fits*: `length result < 2 ^ 64`
+    #[inline]
     pub fn iter(&self) -> Words<'a> {
         Words { chunks: BitChunks::new_proved(self.bytes, self.offset, self.len), next: 0 }
     }
@@ -96,6 +100,7 @@ impl<'a> BitChunks<'a> {
     /// # Proved ([terms](crate::definitions))
     ///
     /// - `result ≡ length self.now % 64`
+    #[inline]
     pub fn remainder_len(&self) -> usize {
         self.values_len() % 64
     }
@@ -105,6 +110,7 @@ impl<'a> BitChunks<'a> {
     /// # Proved ([terms](crate::definitions))
     ///
     /// - `word_bits result ≡ padded_remainder self.now`
+    #[inline]
     pub fn remainder_bits(&self) -> u64 {
         if self.len % 64 == 0 {
             return 0;
@@ -120,6 +126,7 @@ impl<'a> BitChunks<'a> {
     /// - *parts*: `result ≡ padded_parts self.now`
     /// - *in_order*: `EveryRun (YieldsFirstBy word_bits (λ s. s)) (λ p. ItemsMapTo p word_bits p.from)`
     /// - *fits*: `length result < 2 ^ 64`
+    #[inline]
     pub fn iter_padded(&self) -> PaddedWords<'a> {
         PaddedWords { chunks: BitChunks::new_proved(self.bytes, self.offset, self.len), next: 0 }
     }
@@ -130,6 +137,7 @@ impl<'a> BitChunks<'a> {
     ///
     /// - *index*: `result ≡ slice_get (positions self.now) n`
     /// - *within*: `IfSome result (λ p. p < length self.now)`
+    #[inline]
     pub fn select(&self, n: usize) -> Option<usize> {
         let (first, rest) = self.passed_blocks(n);
         let mut left = rest;
@@ -150,6 +158,7 @@ impl<'a> BitChunks<'a> {
     ///
     /// - *index*: `result ≡ slice_get (positions self.now) (count self.now - 1)`
     /// - *within*: `IfSome result (λ p. p < length self.now)`
+    #[inline]
     pub fn last_set_index(&self) -> Option<usize> {
         let mut i = self.started_words();
         while i > 0 {
@@ -183,6 +192,7 @@ impl<'a> BitChunks<'a> {
         self.first_from_proved(from, value)
     }
 
+    #[inline]
     pub(crate) fn first_from_proved(&self, from: usize, value: bool) -> usize {
         let mut index = from;
         while self.len - index > 64 {
@@ -197,6 +207,7 @@ impl<'a> BitChunks<'a> {
 
     // The word at which a block of 64 words begins, not past the word of true value number `n`, and
     // that value's number among the values from there on.
+    #[inline]
     fn passed_blocks(&self, n: usize) -> (usize, usize) {
         let mut word = 0;
         let mut rest = n;
@@ -288,6 +299,7 @@ pub struct Words<'a> {
 impl Iterator for Words<'_> {
     type Item = u64;
 
+    #[inline]
     fn next(&mut self) -> Option<u64> {
         if self.next == self.chunks.len() {
             return None;
@@ -297,6 +309,7 @@ impl Iterator for Words<'_> {
         Some(word)
     }
 
+    #[inline]
     fn size_hint(&self) -> (usize, Option<usize>) {
         let left = self.len();
         (left, Some(left))
@@ -304,6 +317,7 @@ impl Iterator for Words<'_> {
 }
 
 impl ExactSizeIterator for Words<'_> {
+    #[inline]
     fn len(&self) -> usize {
         self.chunks.len() - self.next
     }
@@ -319,6 +333,7 @@ pub struct PaddedWords<'a> {
 impl Iterator for PaddedWords<'_> {
     type Item = u64;
 
+    #[inline]
     fn next(&mut self) -> Option<u64> {
         if self.next == self.chunks.started_words() {
             return None;
@@ -328,6 +343,7 @@ impl Iterator for PaddedWords<'_> {
         Some(word)
     }
 
+    #[inline]
     fn size_hint(&self) -> (usize, Option<usize>) {
         let left = self.len();
         (left, Some(left))
@@ -335,6 +351,7 @@ impl Iterator for PaddedWords<'_> {
 }
 
 impl ExactSizeIterator for PaddedWords<'_> {
+    #[inline]
     fn len(&self) -> usize {
         self.chunks.started_words() - self.next
     }

@@ -63,6 +63,7 @@ impl BitOp for Not {
 /// Writes the list that `C` makes of the `len` bits of `a` from bit `a_offset` on and of those of
 /// `b` from bit `b_offset` on, value by value, to the front of `out`, which is room of whole words.
 /// The bits of `out` past the list have no meaning.
+#[inline]
 pub fn combine<C: BitOp>(
     a: &[u8],
     a_offset: usize,
@@ -78,6 +79,7 @@ pub fn combine<C: BitOp>(
 }
 
 // Writes the first words.
+#[inline]
 fn extend_whole<C: BitOp>(a: Bits<'_>, b: Bits<'_>, words: usize, out: &mut [u8]) {
     if a.low == 0 && b.low == 0 {
         extend::<C, Whole, Whole>(a, b, 0, words, out);
@@ -90,6 +92,7 @@ fn extend_whole<C: BitOp>(a: Bits<'_>, b: Bits<'_>, words: usize, out: &mut [u8]
 
 // Writes words beside which there is another one. Each list is read in its own way, since a shift of one
 // that begins at a whole byte takes nearly as long as the rest.
+#[inline]
 fn extend_inner<C: BitOp>(a: Bits<'_>, b: Bits<'_>, words: usize, out: &mut [u8]) {
     if a.low == 0 {
         extend::<C, Whole, Shifted>(a, b, 0, words, out);
@@ -101,6 +104,7 @@ fn extend_inner<C: BitOp>(a: Bits<'_>, b: Bits<'_>, words: usize, out: &mut [u8]
 }
 
 // Writes words `from` to `to`, where those before are written.
+#[inline]
 fn extend<C: BitOp, A: ReadWord, B: ReadWord>(
     a: Bits<'_>,
     b: Bits<'_>,
@@ -115,6 +119,7 @@ fn extend<C: BitOp, A: ReadWord, B: ReadWord>(
 
 /// The same where the bits of `a` begin `bytes`: the list is written in their place. The bits of
 /// `bytes` past the list have no meaning.
+#[inline]
 pub fn combine_in_place<C: BitOp>(bytes: &mut [u8], b: &[u8], b_offset: usize, len: usize) {
     let b = Bits::new(b, b_offset);
     change_whole::<C>(bytes, b, len / 64);
@@ -124,6 +129,7 @@ pub fn combine_in_place<C: BitOp>(bytes: &mut [u8], b: &[u8], b_offset: usize, l
 }
 
 // Combines the first words in place.
+#[inline]
 fn change_whole<C: BitOp>(bytes: &mut [u8], b: Bits<'_>, words: usize) {
     if b.low == 0 {
         change::<C, Whole>(bytes, b, 0, words);
@@ -135,6 +141,7 @@ fn change_whole<C: BitOp>(bytes: &mut [u8], b: Bits<'_>, words: usize) {
 }
 
 // Combines words `from` to `to` in place.
+#[inline]
 fn change<C: BitOp, R: ReadWord>(bytes: &mut [u8], b: Bits<'_>, from: usize, to: usize) {
     for i in from..to {
         set_word(bytes, i, C::of(word_of(bytes, i), R::word(b, i)));
@@ -142,6 +149,7 @@ fn change<C: BitOp, R: ReadWord>(bytes: &mut [u8], b: Bits<'_>, from: usize, to:
 }
 
 // Combines as much of word `i` in place as the bytes have.
+#[inline]
 fn change_last<C: BitOp>(bytes: &mut [u8], b: Bits<'_>, i: usize) {
     let end = bytes.len().min(8 * i + 8);
     let mut last = [0u8; 8];
@@ -151,6 +159,7 @@ fn change_last<C: BitOp>(bytes: &mut [u8], b: Bits<'_>, i: usize) {
 }
 
 /// Negates the first `len` bits of `bytes`. Those past them have no meaning.
+#[inline]
 pub fn negate_in_place(bytes: &mut [u8], len: usize) {
     for i in 0..len.div_ceil(8) {
         bytes[i] ^= 0xFF;

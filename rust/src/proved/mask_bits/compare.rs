@@ -8,12 +8,14 @@ use crate::proved::mask_bits::read_word::{Bits, Covered, Neighbors, ReadWord, Sh
 use crate::proved::mask_bits::words::word_at;
 
 /// Whether the `len` bits of `a` from bit `a_offset` on are those of `b` from bit `b_offset` on.
+#[inline]
 pub fn same_bits(a: &[u8], a_offset: usize, b: &[u8], b_offset: usize, len: usize) -> bool {
     none_true::<Xor>(a, a_offset, b, b_offset, len)
 }
 
 /// Whether no value is true that `C` makes of the `len` bits of `a` from bit `a_offset` on and of those
 /// of `b` from bit `b_offset` on.
+#[inline]
 pub fn none_true<C: BitOp>(
     a: &[u8],
     a_offset: usize,
@@ -33,6 +35,7 @@ fn none_in_last<C: BitOp>(a: &[u8], p: usize, b: &[u8], q: usize, rest: usize) -
 }
 
 // Whether none is true that `C` makes of whole words.
+#[inline]
 fn none_in_words<C: BitOp>(
     a: &[u8],
     a_offset: usize,
@@ -107,6 +110,7 @@ fn none_in_block<C: BitOp, A: ReadWord, B: ReadWord>(
 
 /// How many values are true that `C` makes of the `len` bits of `a` from bit `a_offset` on and of those of
 /// `b` from bit `b_offset` on.
+#[inline]
 pub fn count_true<C: BitOp>(
     a: &[u8],
     a_offset: usize,
@@ -127,6 +131,7 @@ fn count_in_last<C: BitOp>(a: &[u8], p: usize, b: &[u8], q: usize, rest: usize) 
 }
 
 // How many are true that `C` makes of whole words.
+#[inline]
 fn count_in_words<C: BitOp>(
     a: &[u8],
     a_offset: usize,
@@ -145,6 +150,7 @@ fn count_in_words<C: BitOp>(
 
 // How many are true that `C` makes of words beside which there is another one. Each list is read in its
 // own way.
+#[inline]
 fn count_in_inner_words<C: BitOp>(a: Bits<'_>, b: Bits<'_>, words: usize) -> usize {
     if a.low == 0 {
         count_on::<C, Whole, Neighbors>(a, b, 0, words, 0)

@@ -5,6 +5,7 @@ use crate::kit::prelude::*;
 use crate::proved::mask_bits::words::{word_at, word_of};
 
 /// How many of the `len` bits from bit `position` on are set.
+#[inline]
 pub fn count_bits(bytes: &[u8], position: usize, len: usize) -> usize {
     if len < 64 {
         return count_few(bytes, position, len);

@@ -7,6 +7,7 @@ use crate::proved::mask_bits::compare::same_bits;
 
 // Two buffers are equal where their lists are; offsets and the bits outside don't count.
 impl PartialEq for BitBuffer {
+    #[inline]
     fn eq(&self, other: &BitBuffer) -> bool {
         self.len() == other.len() && same_lists(self, other)
     }
@@ -15,6 +16,7 @@ impl PartialEq for BitBuffer {
 impl Eq for BitBuffer {}
 
 // Whether two buffers of one length have the same list.
+#[inline]
 fn same_lists(a: &BitBuffer, b: &BitBuffer) -> bool {
     same_bits(a.bits(), a.offset(), b.bits(), b.offset(), a.len())
 }

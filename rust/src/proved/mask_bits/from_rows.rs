@@ -19,6 +19,7 @@ impl BitBuffer {
     ///
     /// - *answers*: `IfOk result (λ b. AreAnswers (FnReturnsAt F.Fn test) rows.now (values b))`
     /// - *list*: `IfOk result (λ b. AreAsComputed (F.post test) rows.now (values b))`
+    #[inline]
     pub fn from_rows<T, F: Fn(&T) -> bool>(rows: &[T], test: F) -> Result<BitBuffer, AllocError> {
         let mut bits = BitBufferMut::with_capacity(rows.len())?;
         let whole = rows.len() / 64;

@@ -19,6 +19,7 @@ impl BitBuffer {
     /// - *ascending*: `IsStrictlyIncreasing result`
     /// - *within*: `All (λ p. p < length (values self.now)) result`
     /// - *fits*: `length result < 2 ^ 64`
+    #[inline]
     pub fn set_indices(&self) -> SetIndices<'_> {
         SetIndices::new(self.chunks())
     }
@@ -46,6 +47,7 @@ impl BitBuffer {
         self.indices_proved(true_count)
     }
 
+    #[inline]
     pub(crate) fn indices_proved(&self, true_count: usize) -> Result<Vec<usize>, AllocError> {
         let chunks = self.chunks();
         let mut indices = Vec::with_room(true_count)?;
@@ -113,6 +115,7 @@ pub struct SetIndices<'a> {
 }
 
 impl<'a> SetIndices<'a> {
+    #[inline]
     pub(crate) fn new(chunks: BitChunks<'a>) -> SetIndices<'a> {
         let word = first_word(&chunks);
         SetIndices { chunks, at: 0, word }
@@ -122,6 +125,7 @@ impl<'a> SetIndices<'a> {
 impl Iterator for SetIndices<'_> {
     type Item = usize;
 
+    #[inline]
     fn next(&mut self) -> Option<usize> {
         let (at, word) = next_word(&self.chunks, self.at, self.word)?;
         self.at = at;

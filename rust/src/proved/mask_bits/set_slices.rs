@@ -16,6 +16,7 @@ impl BitBuffer {
     /// - *runs*: `AreRuns (values self.now) result`
     /// - *in_order*: `YieldsInOrder (YieldsFirst {A = ℕ × ℕ} (λ s. s)) (λ s. s)`
     /// - *fits*: `length result < 2 ^ 64`
+    #[inline]
     pub fn set_slices(&self) -> SetSlices<'_> {
         SetSlices::new(self.chunks())
     }
@@ -28,6 +29,7 @@ impl BitBuffer {
     /// # Proved ([terms](crate::definitions))
     ///
     /// - `IfOk result (λ ranges. ranges.items ≡ runs (values self.now))`
+    #[inline]
     pub fn runs(&self) -> Result<Vec<(usize, usize)>, AllocError> {
         let chunks = self.chunks();
         let mut ranges = Vec::new();
@@ -187,6 +189,7 @@ pub struct SetSlices<'a> {
 }
 
 impl<'a> SetSlices<'a> {
+    #[inline]
     pub(crate) fn new(chunks: BitChunks<'a>) -> SetSlices<'a> {
         let word = first_word(&chunks);
         SetSlices { chunks, at: 0, word }
@@ -196,6 +199,7 @@ impl<'a> SetSlices<'a> {
 impl Iterator for SetSlices<'_> {
     type Item = (usize, usize);
 
+    #[inline]
     fn next(&mut self) -> Option<(usize, usize)> {
         let (at, word) = next_word(&self.chunks, self.at, self.word)?;
         let start = 64 * at + word.trailing_zeros() as usize;

@@ -11,16 +11,13 @@ pub fn started_words(len: usize) -> usize {
 /// Word `i` of the whole words of `bytes`: bits `64 * i` to `64 * i + 63`, the first lowest.
 #[inline]
 pub fn word_of(bytes: &[u8], i: usize) -> u64 {
-    match bytes[8 * i..8 * i + 8].first_chunk::<8>() {
-        Some(chunk) => u64::from_le_bytes(*chunk),
-        None => unreachable!(),
-    }
+    crate::kit::words::word_of(bytes, i)
 }
 
 /// Writes word `i` of the whole words of `bytes`, and nothing else.
 #[inline]
 pub fn set_word(bytes: &mut [u8], i: usize, word: u64) {
-    bytes[8 * i..8 * i + 8].copy_from_slice(&word.to_le_bytes());
+    crate::kit::words::set_word(bytes, i, word);
 }
 
 /// The lowest `count` bits of `word`, and zeros above them.
@@ -62,10 +59,7 @@ fn sixteen_bytes(bytes: &[u8], first: usize) -> u128 {
 // Sixteen bytes from byte `first` on, where all are there.
 #[inline]
 fn sixteen_whole_bytes(bytes: &[u8], first: usize) -> u128 {
-    match bytes[first..first + 16].first_chunk::<16>() {
-        Some(chunk) => u128::from_le_bytes(*chunk),
-        None => unreachable!(),
-    }
+    crate::kit::words::sixteen_bytes(bytes, first)
 }
 
 #[cold]

@@ -6,11 +6,13 @@ use crate::proved::mask_bits::read_word::{Bits, ReadWord, Shifted, Whole};
 use crate::proved::mask_bits::words::{low_bits, set_word, word_at, word_of};
 
 /// Sets the bit at one position and no other.
+#[inline]
 pub fn set_bit(bytes: &mut [u8], position: usize) {
     bytes[position / 8] |= 1 << (position % 8);
 }
 
 /// Clears the bit at one position and no other.
+#[inline]
 pub fn clear_bit(bytes: &mut [u8], position: usize) {
     bytes[position / 8] &= !(1 << (position % 8));
 }
@@ -31,6 +33,7 @@ pub(crate) fn put_word(bytes: &mut [u8], at: usize, word: u64, count: usize) {
 }
 
 // Writes `value`, `n` times, behind the first `at` bits.
+#[inline]
 pub(crate) fn put_same(bytes: &mut [u8], at: usize, value: bool, n: usize) {
     // false values are there
     if value {
@@ -38,6 +41,7 @@ pub(crate) fn put_same(bytes: &mut [u8], at: usize, value: bool, n: usize) {
     }
 }
 
+#[inline]
 fn put_ones(bytes: &mut [u8], at: usize, n: usize) {
     let room = 64 - at % 64;
     if n <= room {
@@ -51,11 +55,13 @@ fn put_ones(bytes: &mut [u8], at: usize, n: usize) {
 }
 
 // Writes whole words of ones, from word `first` on.
+#[inline]
 fn put_full(bytes: &mut [u8], first: usize, words: usize) {
     bytes[8 * first..8 * (first + words)].fill(0xFF);
 }
 
 // Writes the `n` bits of `from` from bit `offset` on behind the first `at` bits.
+#[inline]
 pub(crate) fn put_bits(bytes: &mut [u8], at: usize, from: &[u8], offset: usize, n: usize) {
     let room = 64 - at % 64;
     if n < room + 128 {
@@ -71,6 +77,7 @@ pub(crate) fn put_bits(bytes: &mut [u8], at: usize, from: &[u8], offset: usize, 
 }
 
 // Writes bits behind those that are there, by a window for each word.
+#[inline]
 fn put_windows(bytes: &mut [u8], at: usize, from: &[u8], offset: usize, n: usize) {
     let mut done = 0;
     while done < n {
@@ -81,6 +88,7 @@ fn put_windows(bytes: &mut [u8], at: usize, from: &[u8], offset: usize, n: usize
 }
 
 // Writes whole words of `from`, from bit `offset` on, as the words from `first` on.
+#[inline]
 fn put_whole(bytes: &mut [u8], first: usize, from: &[u8], offset: usize, words: usize) {
     let from = Bits::new(from, offset);
     if from.low == 0 {
@@ -91,6 +99,7 @@ fn put_whole(bytes: &mut [u8], first: usize, from: &[u8], offset: usize, words: 
 }
 
 // Writes the first words of a list as the words from `first` on.
+#[inline]
 fn put_words<R: ReadWord>(bytes: &mut [u8], first: usize, from: Bits<'_>, words: usize) {
     for i in 0..words {
         set_word(bytes, first + i, R::word(from, i));

@@ -35,6 +35,7 @@ impl Mask {
         self.bitand_proved(other)
     }
 
+    #[inline]
     pub(crate) fn bitand_proved(&self, other: &Mask) -> Result<Mask, MaskError> {
         match (self, other) {
             (_, Mask::AllTrue(_)) => self.try_clone(),
@@ -74,6 +75,7 @@ impl Mask {
         self.bitor_proved(other)
     }
 
+    #[inline]
     pub(crate) fn bitor_proved(&self, other: &Mask) -> Result<Mask, MaskError> {
         match (self, other) {
             (_, Mask::AllFalse(_)) => self.try_clone(),
@@ -96,6 +98,7 @@ impl Mask {
     /// - *caches*: `IfOk result (λ m. caches m ≡ no_caches)`
     /// - *uniform*: `variant self.now ≢ mixed → IsOk result`
     /// - *refused*: `IsOkUnless result (MaskError.Memory alloc_error)`
+    #[inline]
     pub fn not(&self) -> Result<Mask, MaskError> {
         match self {
             Mask::AllTrue(len) => Ok(Mask::AllFalse(*len)),
@@ -135,6 +138,7 @@ impl Mask {
         self.to_bitand_not_proved(other)
     }
 
+    #[inline]
     pub(crate) fn to_bitand_not_proved(&self, other: &Mask) -> Result<Mask, MaskError> {
         match (self, other) {
             (_, Mask::AllFalse(_)) => self.try_clone(),
@@ -180,6 +184,7 @@ impl Mask {
         self.into_bitand_proved(other)
     }
 
+    #[inline]
     pub(crate) fn into_bitand_proved(self, other: &Mask) -> Result<Mask, MaskError> {
         if let Mask::AllTrue(_) = other {
             return Ok(self);
@@ -221,6 +226,7 @@ impl Mask {
         self.into_bitor_proved(other)
     }
 
+    #[inline]
     pub(crate) fn into_bitor_proved(self, other: &Mask) -> Result<Mask, MaskError> {
         if let Mask::AllFalse(_) = other {
             return Ok(self);
@@ -244,6 +250,7 @@ impl Mask {
     /// - *caches*: `IfOk result (λ m. caches m ≡ no_caches)`
     /// - *uniform*: `variant self ≢ mixed → IsOk result`
     /// - *refused*: `IsOkUnless result (MaskError.Memory alloc_error)`
+    #[inline]
     pub fn into_not(self) -> Result<Mask, MaskError> {
         match self {
             Mask::Values(values) => {
@@ -283,6 +290,7 @@ impl Mask {
         self.bitand_not_proved(other)
     }
 
+    #[inline]
     pub(crate) fn bitand_not_proved(self, other: &Mask) -> Result<Mask, MaskError> {
         match (self, other) {
             (mask, Mask::AllFalse(_)) => Ok(mask),

@@ -8,6 +8,7 @@ use crate::proved::vortex_mask::mask::Mask;
 // Two masks are equal where their lists are; cached lists, offsets and how an empty list is held
 // don't count.
 impl PartialEq for Mask {
+    #[inline]
     fn eq(&self, other: &Mask) -> bool {
         self.len() == other.len() && same_lists(self, other)
     }
@@ -21,12 +22,14 @@ impl Mask {
     /// # Proved ([terms](crate::definitions))
     ///
     /// - `IsTrue result ↔ (truth self.now ≡ values buffer.now)`
+    #[inline]
     pub fn equals_buffer(&self, buffer: &BitBuffer) -> bool {
         self.len() == buffer.len() && same_values(self, buffer)
     }
 }
 
 // Whether a mask and a buffer of one length have the same list.
+#[inline]
 fn same_values(mask: &Mask, buffer: &BitBuffer) -> bool {
     match mask {
         Mask::AllTrue(len) => buffer.true_count() == *len,
@@ -36,6 +39,7 @@ fn same_values(mask: &Mask, buffer: &BitBuffer) -> bool {
 }
 
 // Whether two masks of one length have the same list.
+#[inline]
 fn same_lists(a: &Mask, b: &Mask) -> bool {
     match (a, b) {
         (Mask::Values(a), Mask::Values(b)) => a.bit_buffer() == b.bit_buffer(),

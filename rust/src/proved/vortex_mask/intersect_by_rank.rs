@@ -60,6 +60,7 @@ impl Mask {
         self.intersect_by_rank_proved(mask)
     }
 
+    #[inline]
     pub(crate) fn intersect_by_rank_proved(&self, mask: &Mask) -> Result<Mask, MaskError> {
         Ok(self.intersect_by_rank_counted_proved(mask)?.0)
     }
@@ -94,6 +95,7 @@ impl Mask {
         self.intersect_by_rank_counted_proved(mask)
     }
 
+    #[inline]
     pub(crate) fn intersect_by_rank_counted_proved(
         &self,
         mask: &Mask,
@@ -139,6 +141,7 @@ impl Mask {
         self.intersect_all_by_rank_proved(masks)
     }
 
+    #[inline]
     pub(crate) fn intersect_all_by_rank_proved(&self, masks: &[Mask]) -> Result<Mask, MaskError> {
         // `docs/DECISIONS.md` says from which end a stack is folded, and why
         if let Mask::Values(values) = self {

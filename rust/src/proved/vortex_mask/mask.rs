@@ -46,12 +46,14 @@ pub enum Mask {
 }
 
 impl Default for Mask {
+    #[inline]
     fn default() -> Mask {
         Mask::AllTrue(0)
     }
 }
 
 impl fmt::Debug for Mask {
+    #[inline]
     fn fmt(&self, f: &mut fmt::Formatter<'_>) -> fmt::Result {
         match self {
             Mask::AllTrue(len) => write!(f, "All true({len})"),
@@ -63,6 +65,7 @@ impl fmt::Debug for Mask {
 
 /// The values in their order, `1` for true and `0` for false, and `-` for a mask with no values.
 impl fmt::Display for Mask {
+    #[inline]
     fn fmt(&self, f: &mut fmt::Formatter<'_>) -> fmt::Result {
         if self.is_empty() {
             return f.write_str("-");
@@ -81,6 +84,7 @@ impl Mask {
     /// # Proved ([terms](crate::definitions))
     ///
     /// - `result ≡ (if value then Mask.AllTrue len else Mask.AllFalse len)`
+    #[inline]
     pub fn new(len: usize, value: bool) -> Mask {
         if value { Mask::AllTrue(len) } else { Mask::AllFalse(len) }
     }
@@ -90,6 +94,7 @@ impl Mask {
     /// # Proved ([terms](crate::definitions))
     ///
     /// - `result ≡ Mask.AllTrue len`
+    #[inline]
     pub fn new_true(len: usize) -> Mask {
         Mask::AllTrue(len)
     }
@@ -99,6 +104,7 @@ impl Mask {
     /// # Proved ([terms](crate::definitions))
     ///
     /// - `result ≡ Mask.AllFalse len`
+    #[inline]
     pub fn new_false(len: usize) -> Mask {
         Mask::AllFalse(len)
     }
@@ -113,6 +119,7 @@ impl Mask {
     /// - *caches*: `IfOk result (λ m. caches m ≡ caches self.now)`
     /// - *uniform*: `variant self.now ≢ mixed → IsOk result`
     /// - *refused*: `IsOkUnless result (MaskError.Memory alloc_error)`
+    #[inline]
     pub fn try_clone(&self) -> Result<Mask, MaskError> {
         match self {
             Mask::AllTrue(len) => Ok(Mask::AllTrue(*len)),
@@ -126,6 +133,7 @@ impl Mask {
     /// # Proved ([terms](crate::definitions))
     ///
     /// - `self.new ≡ Mask.AllFalse 0`
+    #[inline]
     pub fn clear(&mut self) {
         *self = Mask::AllFalse(0);
     }
@@ -138,6 +146,7 @@ impl Mask {
     /// # Proved ([terms](crate::definitions))
     ///
     /// - `result ≡ length (truth self.now)`
+    #[inline]
     pub fn len(&self) -> usize {
         match self {
             Mask::AllTrue(len) | Mask::AllFalse(len) => *len,
@@ -150,6 +159,7 @@ impl Mask {
     /// # Proved ([terms](crate::definitions))
     ///
     /// - `IsTrue result ↔ (truth self.now ≡ [])`
+    #[inline]
     pub fn is_empty(&self) -> bool {
         self.len() == 0
     }
@@ -160,6 +170,7 @@ impl Mask {
     ///
     /// - *counted*: `result ≡ count (truth self.now)`
     /// - *at_most*: `result ≤ length (truth self.now)`
+    #[inline]
     pub fn true_count(&self) -> usize {
         match self {
             Mask::AllTrue(len) => *len,
@@ -173,6 +184,7 @@ impl Mask {
     /// # Proved ([terms](crate::definitions))
     ///
     /// - `count (truth self.now) + result ≡ length (truth self.now)`
+    #[inline]
     pub fn false_count(&self) -> usize {
         self.len() - self.true_count()
     }
@@ -182,6 +194,7 @@ impl Mask {
     /// # Proved ([terms](crate::definitions))
     ///
     /// - `IsTrue result ↔ All (λ v. v ≡ true) (truth self.now)`
+    #[inline]
     pub fn all_true(&self) -> bool {
         self.true_count() == self.len()
     }
@@ -191,6 +204,7 @@ impl Mask {
     /// # Proved ([terms](crate::definitions))
     ///
     /// - `IsTrue result ↔ All (λ v. v ≡ false) (truth self.now)`
+    #[inline]
     pub fn all_false(&self) -> bool {
         self.true_count() == 0
     }
@@ -216,6 +230,7 @@ impl Mask {
         self.value_proved(index)
     }
 
+    #[inline]
     pub(crate) fn value_proved(&self, index: usize) -> bool {
         match self {
             Mask::AllTrue(_) => true,
@@ -246,6 +261,7 @@ impl Mask {
         self.rank_proved(n)
     }
 
+    #[inline]
     pub(crate) fn rank_proved(&self, n: usize) -> usize {
         match self {
             Mask::AllTrue(_) => n,
@@ -259,6 +275,7 @@ impl Mask {
     /// # Proved ([terms](crate::definitions))
     ///
     /// - `option_copied result ≡ contents self.now`
+    #[inline]
     pub fn values(&self) -> Option<&MaskValues> {
         match self {
             Mask::AllTrue(_) | Mask::AllFalse(_) => None,
@@ -293,6 +310,7 @@ impl Mask {
         self.count_range_proved(start, end)
     }
 
+    #[inline]
     pub(crate) fn count_range_proved(&self, start: usize, end: usize) -> usize {
         match self {
             Mask::AllTrue(_) => end - start,
@@ -310,6 +328,7 @@ impl Mask {
     ///
     /// - *index*: `result ≡ slice_get (positions (truth self.now)) 0`
     /// - *within*: `IfSome result (λ p. p < length (truth self.now))`
+    #[inline]
     pub fn first(&self) -> Option<usize> {
         match self {
             Mask::AllTrue(len) => (*len > 0).then_some(0),
@@ -324,6 +343,7 @@ impl Mask {
     ///
     /// - *index*: `result ≡ slice_get (positions (truth self.now)) (count (truth self.now) - 1)`
     /// - *within*: `IfSome result (λ p. p < length (truth self.now))`
+    #[inline]
     pub fn last(&self) -> Option<usize> {
         match self {
             Mask::AllTrue(len) => len.checked_sub(1),
@@ -354,7 +374,7 @@ impl Mask {
             "IsNonDecreasing indices.now",
         );
         crate::kit::conditions::owed(
-            indices.iter().all(|&i| i <= self.len()),
+            crate::kit::conditions::are_at_most(indices, self.len()),
             "Mask::valid_counts_for_indices",
             "within",
             "All (λ i. i ≤ length (truth self.now)) indices.now",
@@ -362,6 +382,7 @@ impl Mask {
         self.valid_counts_for_indices_proved(indices)
     }
 
+    #[inline]
     pub(crate) fn valid_counts_for_indices_proved(
         &self,
         indices: &[usize],
@@ -375,6 +396,7 @@ impl Mask {
 }
 
 // For each index the number of true values below it, by a count that runs from one to the next.
+#[inline]
 fn counts_below(buffer: &BitBuffer, indices: &[usize]) -> Result<Vec<usize>, AllocError> {
     let mut counts = Vec::with_room(indices.len())?;
     let mut counted_to = 0;

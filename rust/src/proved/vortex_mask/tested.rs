@@ -118,7 +118,7 @@ pub fn intersect_by_rank_indices(
         "IsStrictlyIncreasing self_indices.now",
     );
     crate::kit::conditions::owed(
-        self_indices.iter().all(|&i| i < len),
+        crate::kit::conditions::are_below(self_indices, len),
         "intersect_by_rank_indices",
         "self_within",
         "All (λ i. i < len) self_indices.now",
@@ -130,7 +130,7 @@ pub fn intersect_by_rank_indices(
         "IsStrictlyIncreasing mask_indices.now",
     );
     crate::kit::conditions::owed(
-        mask_indices.iter().all(|&k| k < self_indices.len()),
+        crate::kit::conditions::are_below(mask_indices, self_indices.len()),
         "intersect_by_rank_indices",
         "mask_within",
         "All (λ k. k < length self_indices.now) mask_indices.now",
@@ -208,7 +208,7 @@ pub fn intersect_bit_buffer_by_rank_indices<D: DepositBits>(
         "IsStrictlyIncreasing mask_indices.now",
     );
     crate::kit::conditions::owed(
-        mask_indices.iter().all(|&k| k < self_buffer.true_count()),
+        crate::kit::conditions::are_below(mask_indices, self_buffer.true_count()),
         "intersect_bit_buffer_by_rank_indices",
         "within",
         "All (λ k. k < count (values self_buffer.now)) mask_indices.now",

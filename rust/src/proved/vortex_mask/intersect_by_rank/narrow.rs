@@ -16,6 +16,7 @@ use crate::proved::vortex_mask::intersect_by_rank::steps::Steps;
 use crate::proved::vortex_mask::mask::{Mask, MaskError, MaskValues};
 
 // The rank intersection of two mixed masks, by the kernel that `rank_path` names.
+#[inline]
 pub(super) fn narrow_by_path(
     rows: &MaskValues,
     ranks: &MaskValues,
@@ -32,12 +33,14 @@ pub(super) fn narrow_by_path(
 }
 
 // Of true indices of both, which are listed where they are not cached.
+#[inline]
 fn by_indices(rows: &MaskValues, ranks: &MaskValues) -> Result<(Mask, Steps), MaskError> {
     let (indices, ranks) = (true_indices(rows)?, true_indices(ranks)?);
     intersect_by_rank_indices(rows.len(), indices.as_slice(), ranks.as_slice())
 }
 
 // The true indices: the cached ones, or a list made for the call.
+#[inline]
 fn true_indices(mask: &MaskValues) -> Result<CowSlice<'_, usize>, AllocError> {
     Ok(match mask.cached_indices() {
         Some(cached) => CowSlice::Borrowed(cached),
@@ -46,6 +49,7 @@ fn true_indices(mask: &MaskValues) -> Result<CowSlice<'_, usize>, AllocError> {
 }
 
 // By a selection for each true index of the second, which are walked over where they aren't cached.
+#[inline]
 fn by_selections(rows: &MaskValues, ranks: &MaskValues) -> Result<(Mask, Steps), MaskError> {
     let (buffer, true_count) = (rows.bit_buffer(), ranks.true_count());
     match ranks.cached_indices() {
@@ -61,6 +65,7 @@ fn by_selections(rows: &MaskValues, ranks: &MaskValues) -> Result<(Mask, Steps),
 }
 
 // Of the bits of both: one deposit a word.
+#[inline]
 fn by_buffers<D: DepositBits>(
     rows: &MaskValues,
     ranks: &MaskValues,
@@ -70,6 +75,7 @@ fn by_buffers<D: DepositBits>(
 }
 
 // Of the bits of the first and the cached true indices of the second: one deposit a word.
+#[inline]
 fn by_rank_indices<D: DepositBits>(
     rows: &MaskValues,
     ranks: &MaskValues,

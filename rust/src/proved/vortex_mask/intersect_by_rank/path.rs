@@ -41,6 +41,7 @@ pub(super) struct Summary {
 }
 
 impl Summary {
+    #[inline]
     pub(super) fn of(mask: &MaskValues) -> Summary {
         Summary {
             len: mask.len(),
@@ -51,6 +52,7 @@ impl Summary {
 
     // Of the mask narrowed by a mixed one over its true values: which true indices stay is found one by one,
     // and so cached, on two of the paths.
+    #[inline]
     pub(super) fn narrowed_by(self, ranks: Summary) -> Summary {
         let path = path_by(self, ranks);
         Summary {
@@ -61,6 +63,7 @@ impl Summary {
     }
 
     // So many times the number of true values, which may pass 64 bits.
+    #[inline]
     fn times_true(self, times: u64) -> u128 {
         u128::from(times) * self.true_count as u128
     }
@@ -72,11 +75,13 @@ impl Summary {
 /// # Proved ([terms](crate::definitions))
 ///
 /// - `result ≡ path_of values.now ranks.now`
+#[inline]
 pub fn rank_path(values: &MaskValues, ranks: &MaskValues) -> RankPath {
     path_by(Summary::of(values), Summary::of(ranks))
 }
 
 // The path of a mask that is narrowed by another one, by what these numbers say of each.
+#[inline]
 pub(super) fn path_by(rows: Summary, ranks: Summary) -> RankPath {
     // with both lists at hand, the entries to take are fewer than the words to read
     let are_few = ranks.true_count < started_words(rows.len);

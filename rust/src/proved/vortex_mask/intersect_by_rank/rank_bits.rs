@@ -22,6 +22,7 @@ impl<'a> RankBits<'a> {
     ///
     /// - *buffer*: `result ≡ buffer.now`
     /// - *within*: `IsWithinBytes result.bytes result.offset result.len`
+    #[inline]
     pub fn new(buffer: &'a BitBuffer) -> RankBits<'a> {
         RankBits::over_proved(buffer.inner().as_slice(), buffer.offset(), buffer.len())
     }
@@ -48,6 +49,7 @@ impl<'a> RankBits<'a> {
         RankBits::over_proved(bytes, offset, len)
     }
 
+    #[inline]
     pub(crate) fn over_proved(bytes: &'a [u8], offset: usize, len: usize) -> RankBits<'a> {
         let tail_from = bytes.len().saturating_sub(16);
         let last = &bytes[tail_from..];
@@ -57,11 +59,13 @@ impl<'a> RankBits<'a> {
     }
 
     /// All the bytes, in which value 0 is bit [`RankBits::offset`].
+    #[inline]
     pub(super) fn bytes(&self) -> &[u8] {
         self.bytes
     }
 
     /// Where value 0 is in the bytes.
+    #[inline]
     pub(super) fn offset(&self) -> usize {
         self.offset
     }

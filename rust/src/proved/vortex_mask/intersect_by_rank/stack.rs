@@ -7,12 +7,14 @@ use crate::proved::vortex_mask::intersect_by_rank::path::{RankPath, Summary, ran
 use crate::proved::vortex_mask::mask::{Mask, MaskError, MaskValues};
 
 // Whether each mask chooses a row, so that no fold of them ends early.
+#[inline]
 pub(super) fn all_choose(masks: &[Mask]) -> bool {
     masks.iter().all(|mask| mask.true_count() > 0)
 }
 
 // Whether the fold from the first mask up begins by taking one cached list at another, which reads no word and leaves
 // a list for the next step. An all-true mask changes nothing.
+#[inline]
 pub(super) fn begins_by_lists(first: &MaskValues, masks: &[Mask]) -> bool {
     for mask in masks {
         if let Mask::Values(ranks) = mask {
@@ -25,6 +27,7 @@ pub(super) fn begins_by_lists(first: &MaskValues, masks: &[Mask]) -> bool {
 
 // The first mask, which has these values, narrowed by the fold of the others, each of which chooses a row. Its true
 // indices are cached exactly where the fold from the first mask up has them cached.
+#[inline]
 pub(super) fn fold_down_as_up(
     first: &Mask,
     first_values: &MaskValues,
@@ -40,6 +43,7 @@ pub(super) fn fold_down_as_up(
 }
 
 // The first mask narrowed by the fold of the others, each of which chooses a row.
+#[inline]
 fn fold_down(first: &Mask, masks: &[Mask]) -> Result<Mask, MaskError> {
     let mut i = masks.len() - 1;
     let mut narrowed = masks[i].try_clone()?;
@@ -51,6 +55,7 @@ fn fold_down(first: &Mask, masks: &[Mask]) -> Result<Mask, MaskError> {
 }
 
 // Whether the fold from the first mask up, which has these values, ends with its true indices cached.
+#[inline]
 fn fold_up_is_listed(first: &MaskValues, masks: &[Mask]) -> bool {
     let mut folded = Summary::of(first);
     for mask in masks {

@@ -28,6 +28,7 @@ impl Steps {
     /// # Proved ([terms](crate::definitions))
     ///
     /// - `result ≡ no_steps`
+    #[inline]
     pub fn new() -> Steps {
         Steps { deposits: 0, words: 0, selections: 0, offered: 0, placed: 0, spots: 0 }
     }
@@ -37,6 +38,7 @@ impl Steps {
     /// # Proved ([terms](crate::definitions))
     ///
     /// - `result ≡ self.now.deposits`
+    #[inline]
     pub fn deposits(&self) -> usize {
         self.deposits
     }
@@ -46,6 +48,7 @@ impl Steps {
     /// # Proved ([terms](crate::definitions))
     ///
     /// - `result ≡ self.now.words`
+    #[inline]
     pub fn words(&self) -> usize {
         self.words
     }
@@ -55,6 +58,7 @@ impl Steps {
     /// # Proved ([terms](crate::definitions))
     ///
     /// - `result ≡ self.now.selections`
+    #[inline]
     pub fn selections(&self) -> usize {
         self.selections
     }
@@ -64,6 +68,7 @@ impl Steps {
     /// # Proved ([terms](crate::definitions))
     ///
     /// - `result ≡ self.now.offered`
+    #[inline]
     pub fn offered(&self) -> u128 {
         self.offered
     }
@@ -73,6 +78,7 @@ impl Steps {
     /// # Proved ([terms](crate::definitions))
     ///
     /// - `result ≡ self.now.placed`
+    #[inline]
     pub fn placed(&self) -> u128 {
         self.placed
     }
@@ -82,6 +88,7 @@ impl Steps {
     /// # Proved ([terms](crate::definitions))
     ///
     /// - `result ≡ self.now.spots`
+    #[inline]
     pub fn spots(&self) -> u128 {
         self.spots
     }

@@ -26,6 +26,7 @@ impl<T> AllOr<T> {
     /// # Proved ([terms](crate::definitions))
     ///
     /// - `MatchAllOr self (F.post all_true result) (G.post all_false result) (λ x. result ≡ x)`
+    #[inline]
     pub fn unwrap_or_else<F: FnOnce() -> T, G: FnOnce() -> T>(
         self,
         all_true: F,
@@ -51,6 +52,7 @@ impl<T: crate::kit::TryClone> AllOr<&T> {
     /// - *same*: `IfOk result (λ a. a ≡ all_or_copied self.entry)`
     /// - *clone*: `IfErr result (λ _. MatchAllOr self.entry ⊥ ⊥ (λ x. ¬ (T.is_infallible x.now)))`
     /// - *refused*: `IsOkUnless result (MaskError.Memory alloc_error)`
+    #[inline]
     pub fn cloned(self) -> Result<AllOr<T>, MaskError> {
         match self {
             AllOr::All => Ok(AllOr::All),

@@ -29,6 +29,7 @@ impl Mask {
     /// - *cached*: `IsSome (caches self.old).indices → IsOk result`
     /// - *uniform*: `variant self.old ≢ mixed → IsOk result`
     /// - *refused*: `IsOkUnless result (MaskError.Memory alloc_error)`
+    #[inline]
     pub fn indices(&mut self) -> Result<AllOr<&[usize]>, MaskError> {
         self.fill_indices()?;
         Ok(match self {
@@ -50,6 +51,7 @@ impl Mask {
     /// - *cached*: `IsSome (caches self.old).ranges → IsOk result`
     /// - *uniform*: `variant self.old ≢ mixed → IsOk result`
     /// - *refused*: `IsOkUnless result (MaskError.Memory alloc_error)`
+    #[inline]
     pub fn slices(&mut self) -> Result<AllOr<&[(usize, usize)]>, MaskError> {
         self.fill_slices()?;
         Ok(match self {
@@ -87,6 +89,7 @@ impl Mask {
         self.threshold_iter_proved(num, den)
     }
 
+    #[inline]
     pub(crate) fn threshold_iter_proved(
         &mut self,
         num: usize,
@@ -103,6 +106,7 @@ impl Mask {
     }
 
     // Whether at least `num` of each `den` values of a mixed mask are true.
+    #[inline]
     fn reaches_share(&self, num: usize, den: usize) -> bool {
         match self {
             Mask::AllTrue(_) | Mask::AllFalse(_) => false,
@@ -112,6 +116,7 @@ impl Mask {
 
     // Caches the true indices where the mask is mixed. Values that nobody else holds cache them in
     // place, and else the mask becomes one of a clone with them.
+    #[inline]
     pub(crate) fn fill_indices(&mut self) -> Result<(), MaskError> {
         if let Mask::Values(values) = self {
             if let Some(own) = Arc::get_mut(values) {
@@ -126,6 +131,7 @@ impl Mask {
     }
 
     // Lets go of the true indices that the mask caches, in the same way.
+    #[inline]
     pub(crate) fn drop_indices(&mut self) -> Result<(), MaskError> {
         if let Mask::Values(values) = self {
             if let Some(own) = Arc::get_mut(values) {
@@ -139,6 +145,7 @@ impl Mask {
     }
 
     // Caches the runs where the mask is mixed, in the same way.
+    #[inline]
     fn fill_slices(&mut self) -> Result<(), MaskError> {
         if let Mask::Values(values) = self {
             if let Some(own) = Arc::get_mut(values) {

@@ -33,6 +33,7 @@ impl Mask {
         self.choose_proved::<T>(rows)
     }
 
+    #[inline]
     pub(crate) fn choose_proved<T: Copy>(&self, rows: &[T]) -> Result<Vec<T>, MaskError> {
         match self {
             Mask::AllTrue(_) => Ok(Vec::from_slice(rows)?),
@@ -46,6 +47,7 @@ impl Mask {
 }
 
 // The rows at the true indices of a buffer, of which there are `true_count`, in their order.
+#[inline]
 fn rows_at<T: Copy>(
     rows: &[T],
     buffer: &BitBuffer,

@@ -40,6 +40,7 @@ impl Mask {
         self.choose_values_proved(of)
     }
 
+    #[inline]
     pub(crate) fn choose_values_proved(&self, of: &Mask) -> Result<Mask, MaskError> {
         match (self, of) {
             (_, Mask::AllTrue(_)) => Ok(Mask::AllTrue(self.true_count())),

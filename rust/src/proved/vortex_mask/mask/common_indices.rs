@@ -3,6 +3,7 @@
 
 use crate::kit::prelude::*;
 /// The indices that both lists have, in the shorter one's room.
+#[inline]
 pub(crate) fn common(lhs: Vec<usize>, rhs: Vec<usize>) -> Vec<usize> {
     if lhs.len() <= rhs.len() { keep_common(lhs, &rhs) } else { keep_common(rhs, &lhs) }
 }
@@ -10,6 +11,7 @@ pub(crate) fn common(lhs: Vec<usize>, rhs: Vec<usize>) -> Vec<usize> {
 // The indices of a list that another one has too, in its own room.
 //
 // Few indices are looked up in a list that is much longer, and other lists are merged.
+#[inline]
 fn keep_common(list: Vec<usize>, other: &[usize]) -> Vec<usize> {
     let mut list = list;
     let found = if list.len() <= other.len() / 16 {
@@ -23,6 +25,7 @@ fn keep_common(list: Vec<usize>, other: &[usize]) -> Vec<usize> {
 
 // Moves the indices that a long list has too to the front of a short one, and tells how many these are. Each is looked
 // up from the place of the one before it on.
+#[inline]
 fn look_up(short: &mut [usize], long: &[usize]) -> usize {
     let (mut from, mut found) = (0, 0);
     for i in 0..short.len() {
@@ -38,6 +41,7 @@ fn look_up(short: &mut [usize], long: &[usize]) -> usize {
 
 // How many indices are below `least`, which those before place `from` are: sought in strides that double, and then by
 // halves.
+#[inline]
 fn place_of(list: &[usize], from: usize, least: usize) -> usize {
     let (mut low, mut high) = (from, from);
     while high < list.len() && list[high] < least {
@@ -48,6 +52,7 @@ fn place_of(list: &[usize], from: usize, least: usize) -> usize {
 }
 
 // How many indices are below `least`, which those before place `low` are, and none from `high` on is.
+#[inline]
 fn place_between(list: &[usize], low: usize, high: usize, least: usize) -> usize {
     let (mut low, mut high) = (low, high);
     while low < high {
@@ -63,6 +68,7 @@ fn place_between(list: &[usize], low: usize, high: usize, least: usize) -> usize
 
 // Moves the indices that another list has too to the front of a list, and tells how many these are: by a merge of their
 // first parts beside one of their last parts.
+#[inline]
 fn merge(list: &mut [usize], other: &[usize]) -> usize {
     let at = list.len() / 2;
     let place = place_between(other, 0, other.len(), list[at]);
@@ -73,12 +79,14 @@ fn merge(list: &mut [usize], other: &[usize]) -> usize {
 
 // Merges the parts of two lists before a place of each, and those from there on, each in its part of the first list, and
 // tells how many indices each two have in common.
+#[inline]
 fn merge_parts(list: &mut [usize], other: &[usize], at: usize, place: usize) -> (usize, usize) {
     let (first, last) = list.split_at_mut(at);
     merge_both(first, &other[..place], last, &other[place..])
 }
 
 // Merges two pairs of lists. A step of the one needs nothing of the other's, so both are under way at once.
+#[inline]
 fn merge_both(
     first: &mut [usize],
     other: &[usize],
@@ -95,6 +103,7 @@ fn merge_both(
 }
 
 // Merges what is left of two lists, and tells how many indices both have.
+#[inline]
 fn merge_rest(list: &mut [usize], other: &[usize], at: Places) -> usize {
     let mut at = merge_eights(list, other, at);
     while at.list < list.len() && at.other < other.len() {
@@ -104,6 +113,7 @@ fn merge_rest(list: &mut [usize], other: &[usize], at: Places) -> usize {
 }
 
 // Merges two lists as long as both have eight indices more.
+#[inline]
 fn merge_eights(list: &mut [usize], other: &[usize], at: Places) -> Places {
     let mut at = at;
     while at.have_eight(list, other) {
@@ -133,8 +143,7 @@ fn eight_steps(list: &mut [usize], other: &[usize], at: Places) -> Places {
 // were kept before. With no branch, since it can't be foreseen which one is lower.
 #[inline]
 fn step(list: &mut [usize], other: &[usize], at: Places) -> Places {
-    let (left, right) = (list[at.list], other[at.other]);
-    list[at.found] = left;
+    let (left, right) = crate::kit::words::kept(list, other, at.list, at.other, at.found);
     Places {
         list: at.list + (left <= right) as usize,
         other: at.other + (right <= left) as usize,
@@ -151,6 +160,7 @@ struct Places {
 }
 
 impl Places {
+    #[inline]
     fn start() -> Places {
         Places { list: 0, other: 0, found: 0 }
     }

@@ -26,6 +26,7 @@ impl Mask {
     /// - *caches*: `IfOk result (λ m. caches m ≡ no_caches)`
     /// - *refused*: `IfErr result (λ e. (e ≡ MaskError.Memory alloc_error) ⊎ ((ms : List (Bor mask)) × Drains I.next_gives masks ms × (e ≡ MaskError.LengthOverflow) × (2 ^ 64 ≤ total_len (lists_of ms))))`
     /// - *refused_whole*: `IfErr result (λ e. (e ≡ MaskError.Memory alloc_error) ⊎ WholeRun I.next_gives masks (λ p. (e ≡ MaskError.LengthOverflow) × (2 ^ 64 ≤ total_len (lists_of p.items))))`
+    #[inline]
     pub fn concat<'a, I: IntoIterator<Item = &'a Mask>>(masks: I) -> Result<Mask, MaskError> {
         let masks = masks.into_iter();
         let masks: Vec<&Mask> = masks.collected()?;
@@ -48,6 +49,7 @@ impl Mask {
     /// - *caches*: `IfOk result (λ m. caches m ≡ no_caches)`
     /// - *refused*: `IfErr result (λ e. (e ≡ MaskError.Memory alloc_error) ⊎ ((ms : List mask) × Drains I.next_gives masks ms × (e ≡ MaskError.LengthOverflow) × (2 ^ 64 ≤ total_len (map truth ms))))`
     /// - *refused_whole*: `IfErr result (λ e. (e ≡ MaskError.Memory alloc_error) ⊎ WholeRun I.next_gives masks (λ p. (e ≡ MaskError.LengthOverflow) × (2 ^ 64 ≤ total_len (map truth p.items))))`
+    #[inline]
     pub fn from_masks<I: IntoIterator<Item = Mask>>(masks: I) -> Result<Mask, MaskError> {
         let masks = masks.into_iter();
         let masks: Vec<Mask> = masks.collected()?;
@@ -55,11 +57,13 @@ impl Mask {
     }
 
     // The same of masks that are listed.
+    #[inline]
     fn concat_held(masks: &[Mask]) -> Result<Mask, MaskError> {
         Mask::concat(masks.iter())
     }
 
     // The masks' values one after another.
+    #[inline]
     fn concat_list(masks: &[&Mask]) -> Result<Mask, MaskError> {
         let Some(len) = total_len(masks) else {
             return Err(MaskError::LengthOverflow);
@@ -76,16 +80,19 @@ impl Mask {
 }
 
 // Whether each value of each mask is true.
+#[inline]
 fn all_true(masks: &[&Mask]) -> bool {
     masks.iter().all(|mask| mask.all_true())
 }
 
 // Whether each value of each mask is false.
+#[inline]
 fn all_false(masks: &[&Mask]) -> bool {
     masks.iter().all(|mask| mask.all_false())
 }
 
 // The sum of the masks' lengths, if it fits.
+#[inline]
 fn total_len(masks: &[&Mask]) -> Option<usize> {
     let mut total: usize = 0;
     for mask in masks {
@@ -96,6 +103,7 @@ fn total_len(masks: &[&Mask]) -> Option<usize> {
 
 // The masks' values one after another, of which there are `len`, and how many are true: the masks
 // know their counts, so no value is counted again.
+#[inline]
 fn buffer_of(len: usize, masks: &[&Mask]) -> Result<(BitBuffer, usize), AllocError> {
     let mut buffer = BitBufferMut::with_capacity(len)?;
     let mut true_count = 0;
@@ -106,6 +114,7 @@ fn buffer_of(len: usize, masks: &[&Mask]) -> Result<(BitBuffer, usize), AllocErr
     Ok((buffer.freeze()?, true_count))
 }
 
+#[inline]
 fn append(buffer: &mut BitBufferMut, mask: &Mask) -> Result<(), AllocError> {
     match mask {
         Mask::AllTrue(len) => buffer.append_n_proved(true, *len),

@@ -17,6 +17,7 @@ impl Mask {
     /// - *caches*: `IfOk result (λ m. caches m ≡ no_caches)`
     /// - *uniform*: `IsUniform (values buffer) → IsOk result`
     /// - *refused*: `IsOkUnless result (MaskError.Memory alloc_error)`
+    #[inline]
     pub fn from_buffer(buffer: BitBuffer) -> Result<Mask, MaskError> {
         let true_count = buffer.true_count();
         Mask::from_counted_buffer(buffer, true_count, None)
@@ -52,6 +53,7 @@ impl Mask {
         Mask::from_buffer_with_slices_proved(buffer, ranges)
     }
 
+    #[inline]
     pub(crate) fn from_buffer_with_slices_proved(
         buffer: BitBuffer,
         mut ranges: Vec<(usize, usize)>,
@@ -75,6 +77,7 @@ impl Mask {
     /// - *variant*: `IfOk result (λ m. variant m ≡ fitting_variant all_false (truth m))`
     /// - *caches*: `IfOk result (λ m. caches m ≡ no_caches)`
     /// - *refused*: `IsOkUnless result (MaskError.Memory alloc_error)`
+    #[inline]
     pub fn from_bools<I: IntoIterator<Item = bool>>(bools: I) -> Result<Mask, MaskError> {
         let bools = bools.into_iter();
         let buffer = BitBuffer::from_bools(bools)?;
@@ -97,6 +100,7 @@ impl Mask {
     /// - *variant*: `IfOk result (λ m. variant m ≡ fitting_variant all_false (truth m))`
     /// - *caches*: `IfOk result (λ m. caches m ≡ no_caches)`
     /// - *refused*: `IsOkUnless result (MaskError.Memory alloc_error)`
+    #[inline]
     pub fn from_rows<T, F: Fn(&T) -> bool>(rows: &[T], test: F) -> Result<Mask, MaskError> {
         let buffer = BitBuffer::from_rows(rows, test)?;
         Mask::from_buffer(buffer)
@@ -111,6 +115,7 @@ impl Mask {
     ///
     /// - *held*: `all_or_copied result ≡ held_buffer self.now`
     /// - *list*: `IsListOf result (truth self.now)`
+    #[inline]
     pub fn bit_buffer(&self) -> AllOr<&BitBuffer> {
         match self {
             Mask::AllTrue(_) => AllOr::All,
@@ -125,6 +130,7 @@ impl Mask {
     ///
     /// - *list*: `IfOk result (λ b. values b ≡ truth self.now)`
     /// - *refused*: `IsOkUnless result (MaskError.Memory alloc_error)`
+    #[inline]
     pub fn to_bit_buffer(&self) -> Result<BitBuffer, MaskError> {
         match self {
             Mask::AllTrue(len) => Ok(BitBuffer::new_set(*len)?),
@@ -139,6 +145,7 @@ impl Mask {
     ///
     /// - *list*: `IfOk result (λ b. values b ≡ truth self)`
     /// - *refused*: `IsOkUnless result (MaskError.Memory alloc_error)`
+    #[inline]
     pub fn into_bit_buffer(self) -> Result<BitBuffer, MaskError> {
         match self {
             Mask::AllTrue(len) => Ok(BitBuffer::new_set(len)?),

@@ -35,6 +35,7 @@ impl Fraction {
         self.at_least_proved(other)
     }
 
+    #[inline]
     pub(crate) fn at_least_proved(self, other: Fraction) -> bool {
         self.num as u128 * other.den as u128 >= other.num as u128 * self.den as u128
     }
@@ -49,6 +50,7 @@ impl Mask {
     /// - *by_variant*: `result ≡ share_by_variant self.now`
     /// - *share*: `result.num * length (truth self.now) ≡ count (truth self.now) * result.den`
     /// - *positive*: `0 < result.den`
+    #[inline]
     pub fn density(&self) -> Fraction {
         match self {
             Mask::AllTrue(_) => Fraction { num: 1, den: 1 },
@@ -65,6 +67,7 @@ impl MaskValues {
     ///
     /// - *share*: `result ≡ share (values self.now.buffer)`
     /// - *positive*: `0 < result.den`
+    #[inline]
     pub fn density(&self) -> Fraction {
         Fraction { num: self.true_count(), den: self.len() }
     }

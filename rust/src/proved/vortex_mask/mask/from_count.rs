@@ -48,6 +48,7 @@ impl Mask {
     }
 
     // The mask of the first `len` bits of `words`, of which `true_count` are true.
+    #[inline]
     pub(crate) fn of_words(
         words: Vec<u8>,
         len: usize,
@@ -61,6 +62,7 @@ impl Mask {
     }
 
     // The mask of `len` values that is true exactly at these indices, which it caches.
+    #[inline]
     pub(crate) fn of_indices(len: usize, indices: Vec<usize>) -> Result<Mask, MaskError> {
         let true_count = indices.len();
         if let Some(mask) = Mask::of_one_value(len, true_count) {

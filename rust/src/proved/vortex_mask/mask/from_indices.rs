@@ -30,6 +30,7 @@ impl Mask {
     /// - *caches*: `IfOk result (λ m. caches m ≡ where_mixed m (only_indices (positions (truth m))))`
     /// - *refused*: `IfErr result (λ e. (e ≡ MaskError.Memory alloc_error) ⊎ ((xs : List ℕ) × Drains I.next_gives indices xs × (index_fault len xs ≡ Some e)))`
     /// - *refused_whole*: `IfErr result (λ e. (e ≡ MaskError.Memory alloc_error) ⊎ WholeRun I.next_gives indices (λ p. index_fault len p.items ≡ Some e))`
+    #[inline]
     pub fn from_indices<I: IntoIterator<Item = usize>>(
         len: usize,
         indices: I,
@@ -40,6 +41,7 @@ impl Mask {
     }
 
     // The mask of `len` values that is true exactly at the indices of a list, or what is wrong with it.
+    #[inline]
     fn of_list(len: usize, indices: Vec<usize>) -> Result<Mask, MaskError> {
         if let Some(fault) = index_fault(len, &indices) {
             return Err(fault);
@@ -49,6 +51,7 @@ impl Mask {
 }
 
 // Order over the whole list first, then repeats, then bounds.
+#[inline]
 fn index_fault(len: usize, indices: &[usize]) -> Option<MaskError> {
     // one quick scan tells that there is no fault, and the slower ones which it is
     if let Some(last) = indices.last() {
@@ -67,6 +70,7 @@ fn index_fault(len: usize, indices: &[usize]) -> Option<MaskError> {
 
 // Whether each index is above the one before it. With no early return, so that several are compared
 // at once.
+#[inline]
 fn ascends(indices: &[usize]) -> bool {
     let mut ascends = true;
     for at in 1..indices.len() {
@@ -76,6 +80,7 @@ fn ascends(indices: &[usize]) -> bool {
 }
 
 // The first place whose index is below the one before it.
+#[inline]
 fn first_unsorted(indices: &[usize]) -> Option<usize> {
     for at in 1..indices.len() {
         if indices[at] < indices[at - 1] {
@@ -86,6 +91,7 @@ fn first_unsorted(indices: &[usize]) -> Option<usize> {
 }
 
 // The first place whose index equals the one before it.
+#[inline]
 fn first_repeated(indices: &[usize]) -> Option<usize> {
     for at in 1..indices.len() {
         if indices[at] == indices[at - 1] {
@@ -96,6 +102,7 @@ fn first_repeated(indices: &[usize]) -> Option<usize> {
 }
 
 // The first index that is not below the length.
+#[inline]
 fn out_of_bounds(len: usize, indices: &[usize]) -> Option<MaskError> {
     for index in indices {
         if *index >= len {
@@ -127,6 +134,7 @@ impl Mask {
     /// - *caches*: `IfOk result (λ m. caches m ≡ no_caches)`
     /// - *refused*: `IfErr result (λ e. (e ≡ MaskError.Memory alloc_error) ⊎ ((xs : List ℕ) × Drains I.next_gives indices xs × (out_of_bounds len xs ≡ Some e)))`
     /// - *refused_whole*: `IfErr result (λ e. (e ≡ MaskError.Memory alloc_error) ⊎ WholeRun I.next_gives indices (λ p. out_of_bounds len p.items ≡ Some e))`
+    #[inline]
     pub fn from_excluded_indices<I: IntoIterator<Item = usize>>(
         len: usize,
         indices: I,
@@ -140,6 +148,7 @@ impl Mask {
     }
 
     // The mask of these values. No values give `AllTrue(0)`.
+    #[inline]
     fn of_builder(builder: BitBufferMut) -> Result<Mask, MaskError> {
         if builder.len() == 0 {
             return Ok(Mask::AllTrue(0));
@@ -150,6 +159,7 @@ impl Mask {
 }
 
 // Makes the values at these indices false, and tells the first one that is past the end.
+#[inline]
 fn exclude<I: Iterator<Item = usize>>(builder: &mut BitBufferMut, indices: I) -> Option<usize> {
     let mut past_end = None;
     for index in indices {
@@ -159,6 +169,7 @@ fn exclude<I: Iterator<Item = usize>>(builder: &mut BitBufferMut, indices: I) ->
 }
 
 // Makes one value false, or notes that its index is past the end where none was noted yet.
+#[inline]
 fn exclude_one(builder: &mut BitBufferMut, index: usize, past_end: Option<usize>) -> Option<usize> {
     if index < builder.len() {
         builder.unset_proved(index);
@@ -196,6 +207,7 @@ impl Mask {
     /// - *refused*: `IfErr result (λ e. (e ≡ MaskError.Memory alloc_error) ⊎ ((xs : List ℕ) × (ys : List ℕ) × Drains L.next_gives lhs xs × Drains R.next_gives rhs ys × (out_of_bounds len (common xs ys) ≡ Some e)))`
     /// - *refused_whole*: `IfErr result (λ e. (e ≡ MaskError.Memory alloc_error) ⊎ WholeRun L.next_gives lhs (λ p. WholeRun R.next_gives rhs (λ q. out_of_bounds len (common p.items q.items) ≡ Some e)))`
     #[track_caller]
+    #[inline]
     pub fn from_intersection_indices<
         L: IntoIterator<Item = usize>,
         R: IntoIterator<Item = usize>,
@@ -224,13 +236,14 @@ impl Mask {
     }
 
     // The mask of `len` values that is true exactly at the indices that two lists have in common.
+    #[inline]
     fn of_common(len: usize, lhs: Vec<usize>, rhs: Vec<usize>) -> Result<Mask, MaskError> {
         let mut indices = common(lhs, rhs);
         if let Some(fault) = out_of_bounds(len, &indices) {
             return Err(fault);
         }
         // the mask keeps the list, which may have room for all of the shorter one
-        indices.try_shrink_to_fit();
+        indices.shrink_or_stay();
         Mask::of_indices(len, indices)
     }
 }

@@ -27,6 +27,7 @@ impl Mask {
     /// - *fault*: `IfSome (range_fault len ranges.items) (λ e. result ≡ Err e)`
     /// - *refused*: `IfErr result (λ e. (e ≡ MaskError.Memory alloc_error) ⊎ (range_fault len ranges.items ≡ Some e))`
     /// - *uniform*: `range_fault len ranges.items ≡ None → (rows_held ranges.items ≡ 0) ⊎ (rows_held ranges.items ≡ len) → IsOk result`
+    #[inline]
     pub fn from_slices(len: usize, ranges: Vec<(usize, usize)>) -> Result<Mask, MaskError> {
         if let Some(fault) = fault_of(len, &ranges) {
             return Err(fault);
@@ -35,6 +36,7 @@ impl Mask {
     }
 
     // The mask of ranges in which no fault was found.
+    #[inline]
     fn of_ranges(len: usize, mut ranges: Vec<(usize, usize)>) -> Result<Mask, MaskError> {
         let true_count = rows_held(&ranges);
         if let Some(mask) = Mask::of_one_value(len, true_count) {
@@ -47,10 +49,12 @@ impl Mask {
 }
 
 // What is wrong with ranges that are to make a mask of `len` values.
+#[inline]
 fn fault_of(len: usize, ranges: &[(usize, usize)]) -> Option<MaskError> {
     bad_range(len, ranges).or_else(|| neighbors_fault(ranges))
 }
 
+#[inline]
 fn bad_range(len: usize, ranges: &[(usize, usize)]) -> Option<MaskError> {
     ranges
         .iter()
@@ -58,6 +62,7 @@ fn bad_range(len: usize, ranges: &[(usize, usize)]) -> Option<MaskError> {
         .map(|at| MaskError::BadRange { at })
 }
 
+#[inline]
 fn neighbors_fault(ranges: &[(usize, usize)]) -> Option<MaskError> {
     for at in 1..ranges.len() {
         let (before, range) = (ranges[at - 1], ranges[at]);
@@ -72,11 +77,13 @@ fn neighbors_fault(ranges: &[(usize, usize)]) -> Option<MaskError> {
 }
 
 // Merges ranges that touch, in place: what held exactly the true indices of a list is its runs then.
+#[inline]
 pub(super) fn merge_touching(ranges: &mut Vec<(usize, usize)>) {
     ranges.dedup_by(lengthens);
 }
 
 // Whether `range` begins where `run` ends, which then ends where `range` does.
+#[inline]
 fn lengthens(range: &mut (usize, usize), run: &mut (usize, usize)) -> bool {
     let touch = range.0 == run.1;
     if touch {
@@ -86,11 +93,13 @@ fn lengthens(range: &mut (usize, usize), run: &mut (usize, usize)) -> bool {
 }
 
 // How many indices the ranges hold.
+#[inline]
 fn rows_held(ranges: &[(usize, usize)]) -> usize {
     ranges.iter().map(|(start, end)| end - start).sum()
 }
 
 // `len` values that are true exactly in the ranges.
+#[inline]
 fn buffer_of(len: usize, ranges: &[(usize, usize)]) -> Result<BitBuffer, AllocError> {
     let mut bytes = crate::kit::filled(0u8, 8 * started_words(len))?;
     set_ranges(&mut bytes, ranges);

@@ -16,6 +16,7 @@ pub enum MaskBoolIter<'a> {
 impl Iterator for MaskBoolIter<'_> {
     type Item = bool;
 
+    #[inline]
     fn next(&mut self) -> Option<bool> {
         match self {
             MaskBoolIter::Repeat { value, remaining } => {
@@ -29,6 +30,7 @@ impl Iterator for MaskBoolIter<'_> {
         }
     }
 
+    #[inline]
     fn size_hint(&self) -> (usize, Option<usize>) {
         let left = self.len();
         (left, Some(left))
@@ -36,6 +38,7 @@ impl Iterator for MaskBoolIter<'_> {
 }
 
 impl ExactSizeIterator for MaskBoolIter<'_> {
+    #[inline]
     fn len(&self) -> usize {
         match self {
             MaskBoolIter::Repeat { remaining, .. } => *remaining,
@@ -52,6 +55,7 @@ impl Mask {
     /// - *list*: `values_left result ≡ truth self.now`
     /// - *in_order*: `YieldsInOrder (YieldsFirst values_left) values_left`
     /// - *fits*: `length (values_left result) < 2 ^ 64`
+    #[inline]
     pub fn iter(&self) -> MaskBoolIter<'_> {
         if let Mask::Values(values) = self {
             return MaskBoolIter::Bits(values.bit_buffer().iter());
@@ -71,6 +75,7 @@ pub enum MaskSetIndices<'a> {
 impl Iterator for MaskSetIndices<'_> {
     type Item = usize;
 
+    #[inline]
     fn next(&mut self) -> Option<usize> {
         match self {
             MaskSetIndices::Range { next, end } => {
@@ -97,6 +102,7 @@ impl Mask {
     /// - *ascending*: `IsStrictlyIncreasing (indices_left result)`
     /// - *within*: `All (λ i. i < length (truth self.now)) (indices_left result)`
     /// - *fits*: `length (indices_left result) < 2 ^ 64`
+    #[inline]
     pub fn set_indices(&self) -> MaskSetIndices<'_> {
         match self {
             Mask::AllTrue(len) => MaskSetIndices::Range { next: 0, end: *len },
@@ -117,6 +123,7 @@ pub enum MaskSetSlices<'a> {
 impl Iterator for MaskSetSlices<'_> {
     type Item = (usize, usize);
 
+    #[inline]
     fn next(&mut self) -> Option<(usize, usize)> {
         match self {
             MaskSetSlices::Whole(run) => run.take(),
@@ -134,6 +141,7 @@ impl Mask {
     /// - *runs*: `AreRuns (truth self.now) (ranges_left result)`
     /// - *in_order*: `YieldsInOrder (YieldsFirst ranges_left) ranges_left`
     /// - *fits*: `length (ranges_left result) < 2 ^ 64`
+    #[inline]
     pub fn set_slices(&self) -> MaskSetSlices<'_> {
         match self {
             Mask::AllTrue(len) => MaskSetSlices::Whole(whole_run(*len)),
@@ -144,6 +152,7 @@ impl Mask {
 }
 
 // The run of so many true values, if there are any.
+#[inline]
 fn whole_run(len: usize) -> Option<(usize, usize)> {
     if len == 0 {
         return None;

@@ -21,6 +21,7 @@ impl Mask {
     /// - *unchanged*: `count (truth self) ≤ k → result ≡ Ok self`
     /// - *none*: `k ≡ 0 → IsOk result`
     /// - *refused*: `IsOkUnless result (MaskError.Memory alloc_error)`
+    #[inline]
     pub fn limit(self, k: usize) -> Result<Mask, MaskError> {
         if self.true_count() <= k {
             return Ok(self);
@@ -42,6 +43,7 @@ impl Mask {
     /// - *uniform*: `count (truth self.now) ≤ k → variant self.now ≢ mixed → IsOk result`
     /// - *none*: `k ≡ 0 → 0 < count (truth self.now) → IsOk result`
     /// - *refused*: `IsOkUnless result (MaskError.Memory alloc_error)`
+    #[inline]
     pub fn to_limited(&self, k: usize) -> Result<Mask, MaskError> {
         if self.true_count() <= k {
             return self.try_clone();
@@ -50,6 +52,7 @@ impl Mask {
     }
 
     // The first `k` true values of more, and false ones from there on.
+    #[inline]
     fn limit_below_count(&self, k: usize) -> Result<Mask, MaskError> {
         if k == 0 {
             return Ok(Mask::AllFalse(self.len()));
@@ -58,6 +61,7 @@ impl Mask {
     }
 
     // The first `k` true values of more, packed.
+    #[inline]
     fn first_true(&self, k: usize) -> Result<BitBuffer, AllocError> {
         let len = self.len();
         let end = self.rank_proved(k);
@@ -68,6 +72,7 @@ impl Mask {
     }
 
     // Appends the values before index `end`.
+    #[inline]
     fn append_front(&self, bits: &mut BitBufferMut, end: usize) -> Result<(), AllocError> {
         match self {
             Mask::AllTrue(_) => bits.append_n_proved(true, end),

@@ -5,6 +5,7 @@ use crate::kit::prelude::*;
 use crate::proved::mask_bits::words::{set_word, word_of};
 
 // Sets the bits in ranges, of bytes that are all clear.
+#[inline]
 pub(super) fn set_ranges(bytes: &mut [u8], ranges: &[(usize, usize)]) {
     for (start, end) in ranges {
         set_range(bytes, *start, *end);

@@ -34,6 +34,7 @@ impl Mask {
         self.slice_proved(start, end)
     }
 
+    #[inline]
     pub(crate) fn slice_proved(&self, start: usize, end: usize) -> Result<Mask, MaskError> {
         match self {
             Mask::AllTrue(_) => Ok(Mask::AllTrue(end - start)),
@@ -71,6 +72,7 @@ impl Mask {
         self.groups_proved(size)
     }
 
+    #[inline]
     pub(crate) fn groups_proved(&self, size: usize) -> Result<Vec<Mask>, MaskError> {
         let mut groups = Vec::new();
         for number in 0..self.len().div_ceil(size) {
@@ -80,6 +82,7 @@ impl Mask {
     }
 
     // The values of one group.
+    #[inline]
     fn group(&self, size: usize, number: usize) -> Result<Mask, MaskError> {
         let len = self.len();
         let start = size * number;

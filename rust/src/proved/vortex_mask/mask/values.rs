@@ -23,6 +23,7 @@ pub struct MaskValues {
 }
 
 impl fmt::Debug for MaskValues {
+    #[inline]
     fn fmt(&self, f: &mut fmt::Formatter<'_>) -> fmt::Result {
         let true_count = self.true_count();
         let len = self.len();
@@ -46,6 +47,7 @@ impl MaskValues {
     /// # Proved ([terms](crate::definitions))
     ///
     /// - `result ≡ length (values self.now.buffer)`
+    #[inline]
     pub fn len(&self) -> usize {
         self.buffer.len()
     }
@@ -55,6 +57,7 @@ impl MaskValues {
     /// # Proved ([terms](crate::definitions))
     ///
     /// - `IsTrue result ↔ (values self.now.buffer ≡ [])`
+    #[inline]
     pub fn is_empty(&self) -> bool {
         self.buffer.is_empty()
     }
@@ -67,6 +70,7 @@ impl MaskValues {
     /// - *cached*: `result ≡ self.now.true_count`
     /// - *some_true*: `0 < result`
     /// - *some_false*: `result < length (values self.now.buffer)`
+    #[inline]
     pub fn true_count(&self) -> usize {
         self.true_count
     }
@@ -77,6 +81,7 @@ impl MaskValues {
     ///
     /// - *buffer*: `result.now ≡ self.now.buffer`
     /// - *mixed*: `IsMixed result.now self.now.true_count`
+    #[inline]
     pub fn bit_buffer(&self) -> &BitBuffer {
         &self.buffer
     }
@@ -86,6 +91,7 @@ impl MaskValues {
     /// # Proved ([terms](crate::definitions))
     ///
     /// - `result ≡ self.buffer`
+    #[inline]
     pub fn into_bit_buffer(self) -> BitBuffer {
         let MaskValues { buffer, true_count: _, indices: _, slices: _ } = self;
         buffer
@@ -112,6 +118,7 @@ impl MaskValues {
         self.value_proved(index)
     }
 
+    #[inline]
     pub(crate) fn value_proved(&self, index: usize) -> bool {
         self.buffer.value_proved(index)
     }
@@ -122,6 +129,7 @@ impl MaskValues {
     ///
     /// - *cached*: `option_map (λ indices. indices.now) result ≡ self.now.caches.indices`
     /// - *whole*: `AreOf (values self.now.buffer) self.now.caches`
+    #[inline]
     pub fn cached_indices(&self) -> Option<&[usize]> {
         self.indices.as_deref()
     }
@@ -132,11 +140,13 @@ impl MaskValues {
     ///
     /// - *cached*: `option_map (λ ranges. ranges.now) result ≡ self.now.caches.ranges`
     /// - *whole*: `AreOf (values self.now.buffer) self.now.caches`
+    #[inline]
     pub fn cached_slices(&self) -> Option<&[(usize, usize)]> {
         self.slices.as_deref()
     }
 
     // The buffer of values that somebody else may hold too.
+    #[inline]
     pub(crate) fn buffer_of(held: MaskValuesRef) -> Result<BitBuffer, AllocError> {
         match Arc::try_unwrap(held) {
             Ok(own) => Ok(own.into_bit_buffer()),
@@ -150,6 +160,7 @@ impl MaskValues {
     ///
     /// - *same*: `IfOk result (λ v. v ≡ self.now)`
     /// - *refused*: `IsOkUnless result (MaskError.Memory alloc_error)`
+    #[inline]
     pub fn try_clone(&self) -> Result<MaskValues, MaskError> {
         Ok(MaskValues {
             buffer: self.buffer.try_clone()?,
@@ -172,6 +183,7 @@ impl MaskValues {
     /// - *after*: `sem 𝓛 (Rests the_row self.entry (λ new. IfOk result (λ indices. new ≡ with_caches (with_indices indices.now self.old.caches) self.old) × OnErr result (new ≡ self.old)))`
     /// - *cached*: `IsSome self.old.caches.indices → IsOk result`
     /// - *refused*: `IsOkUnless result (MaskError.Memory alloc_error)`
+    #[inline]
     pub fn indices(&mut self) -> Result<&[usize], MaskError> {
         self.cache_indices()?;
         Ok(self.lend_indices())
@@ -186,6 +198,7 @@ impl MaskValues {
     /// - *after*: `sem 𝓛 (Rests the_row self.entry (λ new. IfOk result (λ ranges. new ≡ with_caches (with_ranges ranges.now self.old.caches) self.old) × OnErr result (new ≡ self.old)))`
     /// - *cached*: `IsSome self.old.caches.ranges → IsOk result`
     /// - *refused*: `IsOkUnless result (MaskError.Memory alloc_error)`
+    #[inline]
     pub fn slices(&mut self) -> Result<&[(usize, usize)], MaskError> {
         self.cache_slices()?;
         Ok(self.lend_slices())
@@ -218,6 +231,7 @@ impl MaskValues {
         self.threshold_iter_proved(num, den)
     }
 
+    #[inline]
     pub(crate) fn threshold_iter_proved(
         &mut self,
         num: usize,
@@ -233,22 +247,26 @@ impl MaskValues {
     }
 
     // Whether at least `num` of each `den` values are true.
+    #[inline]
     pub(crate) fn reaches_share(&self, num: usize, den: usize) -> bool {
         let true_part = self.true_count as u128 * den as u128;
         true_part >= num as u128 * self.buffer.len() as u128
     }
 
     // The true indices, which are cached.
+    #[inline]
     pub(crate) fn lend_indices(&self) -> &[usize] {
         self.indices.as_deref().unwrap()
     }
 
     // The runs, which are cached.
+    #[inline]
     pub(crate) fn lend_slices(&self) -> &[(usize, usize)] {
         self.slices.as_deref().unwrap()
     }
 
     // The runs, or the true indices, which are cached.
+    #[inline]
     pub(super) fn lend_list(&self, by_ranges: bool) -> MaskIter<'_> {
         if by_ranges {
             MaskIter::Slices(self.lend_slices())
@@ -258,6 +276,7 @@ impl MaskValues {
     }
 
     // Makes the list of the true indices, then caches it, where there is none.
+    #[inline]
     pub(super) fn cache_indices(&mut self) -> Result<(), MaskError> {
         if self.indices.is_none() {
             self.indices = Some(self.index_list()?);
@@ -266,11 +285,13 @@ impl MaskValues {
     }
 
     // Lets go of the cached true indices.
+    #[inline]
     pub(super) fn drop_indices(&mut self) {
         self.indices = None;
     }
 
     // Makes the list of the runs and caches it, where there is none.
+    #[inline]
     pub(super) fn cache_slices(&mut self) -> Result<(), MaskError> {
         if self.slices.is_none() {
             self.slices = Some(self.runs()?);
@@ -279,6 +300,7 @@ impl MaskValues {
     }
 
     // A clone with the true indices cached.
+    #[inline]
     pub(super) fn with_indices(&self) -> Result<MaskValues, MaskError> {
         let indices = self.index_list()?;
         let mut filled = self.try_clone()?;
@@ -287,6 +309,7 @@ impl MaskValues {
     }
 
     // A clone that doesn't cache them.
+    #[inline]
     pub(super) fn without_indices(&self) -> Result<MaskValues, MaskError> {
         let mut bare = self.try_clone()?;
         bare.drop_indices();
@@ -294,6 +317,7 @@ impl MaskValues {
     }
 
     // A clone with the runs cached.
+    #[inline]
     pub(super) fn with_slices(&self) -> Result<MaskValues, MaskError> {
         let slices = self.runs()?;
         let mut filled = self.try_clone()?;
@@ -302,11 +326,13 @@ impl MaskValues {
     }
 
     // The true indices, in room that is made once.
+    #[inline]
     pub(crate) fn index_list(&self) -> Result<Vec<usize>, AllocError> {
         self.buffer.indices_proved(self.true_count)
     }
 
     // The runs of true indices: by a walk where few values are true, of which most words have none.
+    #[inline]
     fn runs(&self) -> Result<Vec<(usize, usize)>, AllocError> {
         if self.true_count < self.buffer.len() / 32 {
             let ranges: Vec<_> = self.buffer.set_slices().collected()?;

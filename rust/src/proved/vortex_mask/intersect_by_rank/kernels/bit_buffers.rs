@@ -10,6 +10,7 @@ use crate::proved::vortex_mask::intersect_by_rank::rank_bits::{RankBits, word_in
 use crate::proved::vortex_mask::intersect_by_rank::steps::Steps;
 use crate::proved::vortex_mask::mask::{Mask, MaskError};
 
+#[inline]
 pub fn intersect_bit_buffers<D: DepositBits>(
     self_buffer: &BitBuffer,
     mask_buffer: &BitBuffer,
@@ -24,6 +25,7 @@ pub fn intersect_bit_buffers<D: DepositBits>(
 
 /// Writes the values of `chunks` narrowed by those of `ranks` to `out`, which has just the bytes of
 /// the started words, and answers the steps.
+#[inline]
 pub fn narrow_by_bits<D: DepositBits>(
     chunks: &BitChunks<'_>,
     ranks: &RankBits<'_>,

@@ -6,6 +6,7 @@ use crate::kit::prelude::*;
 use crate::proved::vortex_mask::intersect_by_rank::steps::Steps;
 use crate::proved::vortex_mask::mask::{Mask, MaskError};
 
+#[inline]
 pub fn intersect_by_rank_indices(
     len: usize,
     self_indices: &[usize],
@@ -17,6 +18,7 @@ pub fn intersect_by_rank_indices(
 }
 
 // The entries of `indices` at `ranks`, in the order of `ranks`.
+#[inline]
 fn entries_at(indices: &[usize], ranks: &[usize]) -> Result<Vec<usize>, AllocError> {
     let mut entries = Vec::with_room(ranks.len())?;
     for rank in ranks {

@@ -7,6 +7,7 @@ use crate::proved::vortex_mask::intersect_by_rank::select::SelectBit;
 use crate::proved::vortex_mask::intersect_by_rank::steps::Steps;
 use crate::proved::vortex_mask::mask::{Mask, MaskError};
 
+#[inline]
 pub fn intersect_mask_driven<S: SelectBit, I: Iterator<Item = usize>>(
     self_buffer: &BitBuffer,
     mask_indices: I,

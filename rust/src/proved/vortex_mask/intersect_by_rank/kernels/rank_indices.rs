@@ -11,6 +11,7 @@ use crate::proved::vortex_mask::intersect_by_rank::kernels::word_loop::Narrowed;
 use crate::proved::vortex_mask::intersect_by_rank::steps::Steps;
 use crate::proved::vortex_mask::mask::{Mask, MaskError};
 
+#[inline]
 pub fn intersect_bit_buffer_by_rank_indices<D: DepositBits>(
     self_buffer: &BitBuffer,
     mask_indices: &[usize],
@@ -23,6 +24,7 @@ pub fn intersect_bit_buffer_by_rank_indices<D: DepositBits>(
 
 /// Writes the values of `chunks` narrowed to the true ones whose numbers are `ranks` to `out`, which
 /// has just the bytes of the started words, and answers the steps.
+#[inline]
 pub fn narrow_at_ranks<D: DepositBits>(
     chunks: &BitChunks<'_>,
     ranks: &[usize],
