@@ -1,6 +1,6 @@
 //! The rows of the crates `mask_calls` and `mask_tests` on the calls of this package. As a test it makes the calls of
-//! each row that `rows.txt` has. With the argument `rows`, `sweep` or `refused` it takes rows from standard input, as the
-//! program `mask_tests` does.
+//! each row that `rows.txt` has. With the arguments `rows stdin`, `sweep stdin` or `refused stdin` it takes rows from
+//! standard input, as the program `mask_tests` does.
 #![allow(clippy::all, clippy::pedantic, dead_code, unused_imports, unused_variables)]
 
 #[path = "../host/mod.rs"]
@@ -15,10 +15,11 @@ use crate::host::{Host, HostRuntime, Kept, io};
 use std::process::ExitCode;
 
 fn main() -> ExitCode {
-    let wrong = match std::env::args().nth(1).as_deref() {
-        Some("rows") => rows::check(&HostRuntime),
-        Some("sweep") => sweep::check(&HostRuntime),
-        Some("refused") => refused::check(&HostRuntime),
+    let words: Vec<String> = std::env::args().skip(1).collect();
+    let wrong = match words.iter().map(String::as_str).collect::<Vec<_>>()[..] {
+        ["rows", "stdin"] => rows::check(&HostRuntime),
+        ["sweep", "stdin"] => sweep::check(&HostRuntime),
+        ["refused", "stdin"] => refused::check(&HostRuntime),
         _ => all_rows(),
     };
     match wrong {
