@@ -65,6 +65,8 @@ LEAVES = {
         " found: at.found + (left == right) as usize, } }",
     ),
 }
+# Functions that are put into their callers always: tests of places make them seem too long for that.
+INLINED = ["eight_steps", "next_word"]
 ALLOCATOR = r"(?:\w+\.)*alloc\b(?!\s*[:(!])"
 RULES = [
     ("the allocator", r",\s*\$alloc(:ident)?", ""),

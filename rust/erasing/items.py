@@ -2,7 +2,7 @@
 import collections
 import re
 
-from erasing.changes import ELSEWHERE, GONE, INSIDE, LAWFUL, LEAVES, PLACES, SAME
+from erasing.changes import ELSEWHERE, GONE, INLINED, INSIDE, LAWFUL, LEAVES, PLACES, SAME
 from erasing.conditions import TESTS, Condition
 from erasing.tokens import Fault, attached, leaves, spaced
 
@@ -313,7 +313,7 @@ impl std::error::Error for {name} {{}}
         kind, of = context
         where = function.name if of is None else f"{of}::{function.name}"
         body = self.leaf(where, body)
-        inline = self.inline(before, body)
+        before, inline = self.inlining(where, before, body)
         if kind == "trait impl":
             name = function.name + ("_proved" if (of, function.name) in self.twins else "")
             return f"{before}{inline}{function.signature(name)} {body}", last + 1
@@ -329,12 +329,14 @@ impl std::error::Error for {name} {{}}
             return self.with_tests(function, tests, listed, context, before, body), last + 1
         return before + self.widened(function, body), last + 1
 
-    def inline(self, before, body):
-        """The attribute of a function of the package that says nothing of how it is compiled into others."""
-        if self.crate not in INSIDE or body == ";" or re.search(r"#\[(inline|cold)\b", before):
-            return ""
+    def inlining(self, where, before, body):
+        """What stands before a function, and an attribute where that says nothing of how it is compiled into others."""
+        if where in INLINED:
+            before = before.replace("#[inline]\n", "")
+        elif self.crate not in INSIDE or body == ";" or re.search(r"#\[(inline|cold)\b", before):
+            return before, ""
         self.count("inlining")
-        return "#[inline]\n"
+        return before, "#[inline(always)]\n" if where in INLINED else "#[inline]\n"
 
     def widened(self, function, body):
         """A public function, which takes all that can be gone through where the source takes an iterator."""

@@ -32,13 +32,13 @@ GONE = [
     r"(?:\w+ \. )*alloc(?= [^:(!]|$)",
     r": Drop(?= [>,{)]|$)",
     r"\+ Drop",
-    r"# \[ inline \]",
+    r"# \[ inline(?: \( always \))? \]",
 ]
 OWED = r"crate :: kit :: conditions :: owed \( [^;]*?, \"[-\d]+\" , \"[-\d]+\" , \"[-\d]+\" \) ;"
 NEW = [
     OWED,
     r"# \[ track_caller \]",
-    r"# \[ inline \]",
+    r"# \[ inline(?: \( always \))? \]",
     r"let (\w+) = \1 \. into_iter \( \) ;",
     r": Sized(?= \{)",
     r"unsafe(?= (?:trait|impl))",

@@ -1,7 +1,8 @@
 //! Lists whose growth is refused by an error.
 
 use super::AllocError;
-use std::alloc::Layout;
+use std::alloc::{Layout, realloc};
+use std::mem::{self, ManuallyDrop};
 
 /// What grows a list, with an error where memory is refused. The list then stays as it was.
 pub trait List<T>: Sized {
@@ -66,20 +67,29 @@ impl<T> List<T> for Vec<T> {
         Ok(())
     }
 
-    #[inline(always)]
-    #[expect(
-        clippy::inline_always,
-        reason = "it is a step of loops, which keep the list in registers"
-    )]
+    // (Rust's own call ends the program where memory is refused)
     fn shrink_or_stay(&mut self)
     where
         T: Copy,
     {
-        if self.len() < self.capacity()
-            && let Ok(fitting) = Vec::from_slice(self)
-        {
-            *self = fitting;
+        let (count, room) = (self.len(), self.capacity());
+        if size_of::<T>() == 0 || count == 0 || count == room {
+            return;
         }
+        let mut held = ManuallyDrop::new(mem::take(self));
+        let items = held.as_mut_ptr();
+        let layout = Layout::array::<T>(room).expect("the size of a list that is there");
+        // SAFETY: the list lies where the allocator put it, for this layout; the size isn't 0, and less than that.
+        let shrunk = unsafe { realloc(items.cast(), layout, count * size_of::<T>()) };
+        // SAFETY: of a list that became shorter, the items are at the new place, with room for just them. Else it is as
+        // it was.
+        *self = unsafe {
+            if shrunk.is_null() {
+                Vec::from_raw_parts(items, count, room)
+            } else {
+                Vec::from_raw_parts(shrunk.cast(), count, count)
+            }
+        };
     }
 
     #[inline]

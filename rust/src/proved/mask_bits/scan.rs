@@ -13,7 +13,7 @@ pub(crate) fn first_word(chunks: &BitChunks<'_>) -> u64 {
 // From word `at` on, of which `word` is left: the first word of which something is left.
 //
 // The whole words apart, so that none is tested for being the last.
-#[inline]
+#[inline(always)]
 pub(crate) fn next_word(chunks: &BitChunks<'_>, at: usize, word: u64) -> Option<(usize, u64)> {
     let whole = chunks.values_len() / 64;
     let mut at = at;

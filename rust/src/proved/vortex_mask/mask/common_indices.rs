@@ -124,7 +124,7 @@ fn merge_eights(list: &mut [usize], other: &[usize], at: Places) -> Places {
 
 // Eight steps, of which none is tested for the end of a list. Where the next eight indices of a list are below all that
 // the other one has left, as in long runs of one list, they are passed at once.
-#[inline]
+#[inline(always)]
 fn eight_steps(list: &mut [usize], other: &[usize], at: Places) -> Places {
     if list[at.list + 7] < other[at.other] {
         return at.moved(8, 0);
