@@ -84,11 +84,9 @@ impl<T> List<T> for Vec<T> {
         // SAFETY: of a list that became shorter, the items are at the new place, with room for just them. Else it is as
         // it was.
         *self = unsafe {
-            if shrunk.is_null() {
-                Vec::from_raw_parts(items, count, room)
-            } else {
-                Vec::from_raw_parts(shrunk.cast(), count, count)
-            }
+            let (items, room) =
+                if shrunk.is_null() { (items, room) } else { (shrunk.cast(), count) };
+            Vec::from_raw_parts(items, count, room)
         };
     }
 

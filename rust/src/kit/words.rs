@@ -1,5 +1,6 @@
 //! What is read and written unchecked, where the proved sources say that it is there. Nothing outside the package reaches
 //! these functions but through calls that test what the contract of their caller asks.
+#![allow(clippy::inline_always, reason = "each is a step of loops")]
 
 /// Word `i` of the whole words of `bytes`, the first byte lowest.
 #[inline(always)]
