@@ -25,7 +25,15 @@ fn broken(call: &'static str, name: &'static str, words: &'static str) -> ! {
 /// Whether each index is above the one before it. With no branch for each, so that several are compared at once.
 pub(crate) fn ascends(indices: &[usize]) -> bool {
     let next = indices.get(1..).unwrap_or_default();
-    indices.iter().zip(next).fold(0, |wrong, (one, next)| wrong | usize::from(one >= next)) == 0
+    let fits = |index: Option<&usize>| index.is_none_or(|index| index.cast_signed() >= 0);
+    if fits(indices.first()) && fits(indices.last()) {
+        // signed numbers are compared in fewer steps, and between these two none is negative where all ascend
+        return indices
+            .iter()
+            .zip(next)
+            .fold(true, |so_far, (one, next)| so_far & (one.cast_signed() < next.cast_signed()));
+    }
+    indices.is_sorted_by(|one, next| one < next)
 }
 
 /// Whether each index is below a number.
@@ -69,4 +77,22 @@ pub(crate) fn are_ranges(buffer: &BitBuffer, ranges: &[(usize, usize)]) -> bool 
         count += end - start;
     }
     count == buffer.true_count()
+}
+
+#[cfg(test)]
+mod tests {
+    /// As each pair is compared alone: on both sides of the largest signed number too.
+    #[test]
+    fn ascends_as_each_pair_does() {
+        let high = 1 << (usize::BITS - 1);
+        let numbers = [0, 1, 2, high - 1, high, high + 1, usize::MAX];
+        for code in 0..7_usize.pow(5) {
+            let list: Vec<usize> = (0..5).map(|k| numbers[code / 7_usize.pow(k) % 7]).collect();
+            for count in 0..=5 {
+                let list = &list[..count];
+                let each = list.windows(2).all(|two| two[0] < two[1]);
+                assert_eq!(super::ascends(list), each, "{list:?}");
+            }
+        }
+    }
 }
