@@ -8,12 +8,13 @@ from erasing.tokens import Fault, Masked
 PLACES = {
     "mask_bits": ("src/proved/mask_bits", "crate::proved::mask_bits"),
     "vortex_mask": ("src/proved/vortex_mask", "crate::proved::vortex_mask"),
+    "mask_c": ("src/proved/mask_c", "crate::proved::mask_c"),
     "maskrun": ("src/bin/maskrun", "crate"),
     "mask_calls": ("tests/calls/mask_calls", "crate::mask_calls"),
     "mask_tests": ("tests/calls", "crate"),
     "mask_bench": ("tests/jobs", "crate"),
 }
-INSIDE = ["mask_bits", "vortex_mask"]
+INSIDE = ["mask_bits", "vortex_mask", "mask_c"]
 KIT = {it: "crate::kit" if it in INSIDE else "row_mask::kit" for it in PLACES}
 GONE = {"std::alloc::Global", "std::marker::Model", "thiserror::Error", "std::rt::Env"}
 # Where these paths stand outside the package's own modules, and inside.
@@ -67,6 +68,8 @@ LEAVES = {
 }
 # Functions that are put into their callers always: tests of places make them seem too long for that.
 INLINED = ["eight_steps", "next_word"]
+# What only the package's own calls do.
+QUICKEST = "the processor's deposits"
 ALLOCATOR = r"(?:\w+\.)*alloc\b(?!\s*[:(!])"
 RULES = [
     ("the allocator", r",\s*\$alloc(:ident)?", ""),
@@ -81,7 +84,7 @@ RULES = [
     ("the allocator", rf"\b{ALLOCATOR},\s*", ""),
     ("the allocator", rf",\s*{ALLOCATOR}(?=\s*[);])", ""),
     ("the allocator", rf"\(\s*{ALLOCATOR}\s*\)", "()"),
-    ("laws", r"\b(?:mask_bits::|crate::)?laws::\w+(?:::<[^>]*>)?\((?:[^()]|\([^()]*\))*\);", ""),
+    ("laws", r"\b(?:mask_bits::|vortex_mask::|crate::)?laws::\w+(?:::<[^>]*>)?\((?:[^()]|\([^()]*\))*\);", ""),
     ("`prove!(..)`", r"\bprove!\((?:[^()]|\([^()]*\))*\);", ""),
     ("what takes memory", r"\.clone\(\)", ".try_clone()"),
     ("what takes memory", r"\bfn clone\(", "fn try_clone("),
@@ -101,6 +104,8 @@ RULES = [
     ("`fmt`", r"fn fmt<W: fmt::Write>\(&self, f: &mut fmt::Formatter<W>\)", "fn fmt(&self, f: &mut fmt::Formatter<'_>)"),
     ("`fmt`", r"\b([\w.()]+)\.fmt\(f\)", r"fmt::Debug::fmt(\1, f)"),
     ("the program's handle", r"\b(e?println)!\(rt;\s*", r"crate::host::\1!(rt; "),
+    (QUICKEST, r"\b(\w+)::<Portable(, _)?>\(([^()]*)\)", r"crate::kit::quickest!(\1::<Portable\2>(\3))"),
+    (QUICKEST, r"(?<!fn )\bdeposits_by_loop\(", "crate::kit::processor::by_loop("),
     ("modules", r"\b(\$?)crate::(?!kit\b|proved\b|mask_calls\b|host\b)", r"\1{root}::"),
 ]
 LEFT = re.compile(r"\b(ghost|requires|ensures|tactic|Model|alloc|Global|laws|prove|unreachable_unchecked)\b|[^\x00-\x7f]")
@@ -110,6 +115,8 @@ def changed(crate, text, found, twins):
     """The text by all rules, with calls of those that have the body."""
     masked = Masked(text)
     for rule, pattern, into in RULES:
+        if rule == QUICKEST and crate not in INSIDE:
+            continue
         into = into.replace("{kit}", KIT[crate]).replace("{root}", PLACES[crate][1])
         masked.text, count = re.subn(pattern, into, masked.text)
         found[rule][0] += count

@@ -4,6 +4,7 @@ import re
 
 from erasing.changes import ELSEWHERE, GONE, INLINED, INSIDE, LAWFUL, LEAVES, PLACES, SAME
 from erasing.conditions import TESTS, Condition
+from erasing.levels import BY_PEXT, LEVELLED, by_pext, levelled
 from erasing.tokens import Fault, attached, leaves, spaced
 
 DROP = re.compile(r"\s*\+\s*Drop\b|:\s*Drop\b")
@@ -141,6 +142,9 @@ class Erasure:
             if word == "tactic":
                 self.count("tactics", kept + "\n")
                 kept = ""
+            elif "no_mangle" in kept:
+                self.count("exports")
+                kept = ""
             elif word == "derive":
                 names = re.findall(r"\w+", kept)[1:]
                 left = [it for it in names if it not in ("Drop", "Error")]
@@ -170,8 +174,12 @@ class Erasure:
         last = self.source.find(j, end, [";", "{"])
         if self.source.tokens[last][1] == "{":
             self.source.fault(j, "a module within a file")
-        if self.source.word(j, end) == "laws":
+        name = self.source.word(j, end)
+        if name == "laws":
             return self.taken("laws", i, last + 1, before)
+        if self.crate == "mask_c":
+            self.count("modules")
+            return f"{before}mod {name};\npub use {name}::*;", last + 1
         return before + self.source.text(i, last + 1), last + 1
 
     def item_impl(self, i, j, end, context, before, attributes):
@@ -305,6 +313,7 @@ impl std::error::Error for {name} {{}}
     def item_fn(self, i, j, end, context, before, attributes):
         last = self.source.find(i, end, ["{", ";", "requires", "ensures"])
         function = Function(self.source, i, last)
+        function.before = function.before.replace('extern "C" ', "")
         clauses, last = self.clauses(last, end)
         body = ";"
         if self.source.tokens[last][1] == "{":
@@ -317,8 +326,16 @@ impl std::error::Error for {name} {{}}
         if kind == "trait impl":
             name = function.name + ("_proved" if (of, function.name) in self.twins else "")
             return f"{before}{inline}{function.signature(name)} {body}", last + 1
+        levels, is_levelled = "", where in LEVELLED.get(self.crate, [])
+        if self.crate == "mask_bits" and where in BY_PEXT:
+            self.count("copies by an instruction")
+            levels = by_pext(function, body, is_levelled)
+        if is_levelled:
+            self.count("levels of the processor")
+            body, more = levelled(function, of, body)
+            levels = more + levels
         if not self.is_public(function, context):
-            return f"{before}{inline}{function.signature()} {body}", last + 1
+            return f"{before}{inline}{function.signature()} {body}{levels}", last + 1
         tests, listed = self.tests(function, clauses, of, where)
         before = documented(before, clauses)
         if lists := lists_first(body, listed):
@@ -326,8 +343,8 @@ impl std::error::Error for {name} {{}}
             return f"{before}#[track_caller]\n{inline}{self.widened(function, body)}", last + 1
         before += inline
         if tests:
-            return self.with_tests(function, tests, listed, context, before, body), last + 1
-        return before + self.widened(function, body), last + 1
+            return self.with_tests(function, tests, listed, context, before, body) + levels, last + 1
+        return before + self.widened(function, body) + levels, last + 1
 
     def inlining(self, where, before, body):
         """What stands before a function, and an attribute where that says nothing of how it is compiled into others."""

@@ -10,17 +10,17 @@ from erasing.tokens import CLOSING, OPENING, TOKEN, Fault, spaced
 NAMED = {
     "clone": "try_clone", "Clone": "TryClone", "collect": "collected", "push": "try_push", "push_str": "try_push_str",
     "resize": "try_resize", "to_string": "try_to_string", "to_vec": "try_to_vec", "shrink_to_fit": "shrink_or_stay", "with_capacity": "with_room",
-    "Rc": "Arc", "IntoIterator": "Iterator", "splat": "every",
+    "Rc": "Arc", "IntoIterator": "Iterator", "splat": "every", "deposits_by_loop": "by_loop",
 }
 # Paths that stand before a name on one side or the other.
 PATHS = [
     "crate :: proved :: mask_bits ::", "crate :: proved :: vortex_mask ::", "crate :: mask_calls ::", "crate :: host ::",
-    "crate :: kit ::", "row_mask :: kit ::", "row_mask :: intersect_by_rank ::", "row_mask ::", "mask_bits ::",
+    "crate :: kit :: processor ::", "crate :: kit ::", "row_mask :: kit ::", "row_mask :: intersect_by_rank ::", "row_mask ::", "mask_bits ::",
     "vortex_mask ::", "crate ::",
 ]
 # Statements and parts that have to be gone from a source, and that have to be new in what was made.
 GONE = [
-    r"(?:laws ::|mask_bits :: laws ::|crate :: laws ::) \w+ (?::: < [^>]* > )?\( [^;]*\) ;",
+    r"(?:laws ::|mask_bits :: laws ::|vortex_mask :: laws ::|crate :: laws ::) \w+ (?::: < [^>]* > )?\( [^;]*\) ;",
     r"prove ! \( [^;]*\) ;",
     r"(?:pub (?:\( crate \) )?)?_?alloc : Global",
     r"let \$ alloc = \$ o \. alloc ;",
@@ -33,6 +33,8 @@ GONE = [
     r": Drop(?= [>,{)]|$)",
     r"\+ Drop",
     r"# \[ inline(?: \( always \))? \]",
+    r"# \[ unsafe \( no_mangle \) \]",
+    r"extern \"[-\d]+\"",
 ]
 OWED = r"crate :: kit :: conditions :: owed \( [^;]*?, \"[-\d]+\" , \"[-\d]+\" , \"[-\d]+\" \) ;"
 NEW = [
@@ -50,6 +52,7 @@ SAME = [
     (r"fn fmt < W : fmt :: Write > \( & self f : & mut fmt :: Formatter < W > \)",
      "fn fmt ( & self f : & mut fmt :: Formatter < '_ > )"),
     (r"(?<= => )(\S+(?: \. \w+ \( \))?) \. fmt \( f \)", r"fmt :: Debug :: fmt ( \1 f )"),
+    (r"quickest ! \( (\w+ :: < Portable (?:_ )?> \( [^()]* \)) \)", r"\1"),
     (r"Arc :: new", "shared"),
     (r"Box :: new", "boxed"),
     (r"String :: from_str", "String :: try_from_str"),
@@ -139,6 +142,76 @@ def without_tests(words, name, heads):
     return kept
 
 
+def without_levels(words, name):
+    """What was made, with each function that goes to one of two levels as the one that it is: its head, and the body that
+    both have.
+
+    >>> made = "fn f(a: u8) { crate::kit::by_level!(f_v3(a), f_any(a)) }"
+    >>> made += '#[cfg(target_arch = "x86_64")] #[target_feature(enable = "avx2")] fn f_v3(a: u8) { f_any(a) }'
+    >>> made += "#[inline(always)] fn f_any(a: u8) { g(a) } fn h() {}"
+    >>> " ".join(without_levels(tokens(made), "a.rt"))
+    'fn f ( a : u8 ) { g ( a ) } fn h ( ) { }'
+    >>> without_levels(tokens(made.replace("f_v3(a)", "f_v3(b)")), "a.rt")
+    Traceback (most recent call last):
+    erasing.tokens.Fault: a.rt: f goes elsewhere
+    """
+    kept, i = [], 0
+    while i < len(words):
+        body = words.index("{", i) if words[i] == "fn" and "{" in words[i:] else None
+        if body is None or words[body + 1 : body + 7] != "crate :: kit :: by_level !".split():
+            kept.append(words[i])
+            i += 1
+            continue
+        of, head = words[i + 1].removesuffix("_proved"), words[i + 2 : body]
+        last = behind(words, body)
+        calls = " ".join(words[body + 8 : last - 2])
+        generics = next(n for n in range(len(head)) if head[n] == "(" and head[:n].count("<") == head[:n].count(">"))
+        own = re.findall(r"(?:^|[(,] )(?:mut )?(\w+) :(?!:)", " ".join(head[generics:behind(head, generics)]))
+        call = rf"(?:(?:self \.|Self ::) )?{of}_LEVEL(?: :: < [\w ,]+ >)? \( {' , '.join(own)} \)".replace("(  ", "( ")
+        of_v3 = "# [ cfg ( target_arch = x ) ] # [ target_feature ( enable = x ) ] fn".split() + [f"{of}_v3", *head, "{"]
+        begin = ['"' if it.startswith('"') else it for it in words[last : last + len(of_v3)]]
+        inner = last + len(of_v3)
+        end = words.index("}", inner)
+        of_any = ["#", "[", "inline", "(", "always", ")", "]", "fn", f"{of}_any", *head]
+        at = end + 1 + len(of_any)
+        pext = f"(?:{call.replace('LEVEL', 'by_pext')} , )?"
+        fits = re.fullmatch(f"{pext}({call.replace('LEVEL', 'v3')}) , ({call.replace('LEVEL', 'any')})", calls)
+        if (
+            not fits
+            or fits[1].replace(f"{of}_v3", f"{of}_any") != fits[2]
+            or begin != ['"' if it == "x" else it for it in of_v3]
+            or " ".join(words[inner:end]) != fits[2]
+            or words[end + 1 : at] != of_any
+        ):
+            raise Fault(f"{name}: {of} goes elsewhere")
+        kept += words[i:body]
+        i = at
+    return without_copies(kept, name)
+
+
+def without_copies(words, name):
+    """What was made, without the copies by an instruction, each of which has just the words of what it is a copy of.
+
+    >>> made = "fn f(a: u8) { g(a) } #[cfg(target_arch = 1)] #[inline(always)] fn f_by_pext(a: u8) { "
+    >>> " ".join(without_copies(tokens(made + "crate::kit::processor::g(a) }"), "a.rt"))
+    'fn f ( a : u8 ) { g ( a ) }'
+    >>> without_copies(tokens(made + "h(a) }"), "a.rt")
+    Traceback (most recent call last):
+    erasing.tokens.Fault: a.rt: f_by_pext is no copy
+    """
+    text = " ".join(words)
+    copy = r" # \[ cfg \( [^]]* \) \] # \[ (?:target_feature|inline) [^]]* \] (fn \w+_by_pext [^{]*\{)"
+    while found := re.search(copy, text):
+        begin = len(text[: found.start(1)].split())
+        last = behind(text.split(), begin + found[1].split().index("{"))
+        own = " ".join(text.split()[begin:last])
+        of = own.replace("_by_pext", "").replace("crate :: kit :: processor :: ", "")
+        text = text[: found.start()] + " " + " ".join(text.split()[last:])
+        if of not in text:
+            raise Fault(f"{name}: {own.split()[1]} is no copy")
+    return text.split()
+
+
 LISTED = r"let (\w+) = crate :: kit :: Collect :: collected \( \1 \. into_iter \( \) \) \? ;"
 
 
@@ -182,7 +255,7 @@ def compared(name, source, made):
     """
     heads = []
     one = plain(without_items(tokens(source)), GONE)
-    other = plain(without_tests(tokens(made), name, heads), NEW)
+    other = plain(without_tests(without_levels(tokens(made), name), name, heads), NEW)
     for head in heads:
         text = " ".join(plain(head, NEW)).removeprefix("pub ")
         if text not in " ".join(one):

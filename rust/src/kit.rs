@@ -5,11 +5,13 @@ mod bytes;
 pub mod conditions;
 pub(crate) mod lanes;
 mod list;
+pub(crate) mod processor;
 mod shared;
 mod text;
 pub(crate) mod words;
 
 pub use bytes::{Bytes, BytesMut};
+pub(crate) use processor::{by_level, quickest};
 pub use list::{Collect, CowSlice, List, ToList, filled};
 pub use shared::{TryClone, boxed, shared};
 pub use text::{Text, TryToString, formatted};

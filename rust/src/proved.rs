@@ -11,4 +11,5 @@
 )]
 
 pub mod mask_bits;
+pub mod mask_c;
 pub mod vortex_mask;

@@ -14,7 +14,7 @@ pub struct BitIterator<'a> {
 }
 
 impl<'a> BitIterator<'a> {
-    #[inline]
+    #[inline(always)]
     pub(crate) fn new(chunks: BitChunks<'a>) -> BitIterator<'a> {
         BitIterator { chunks, next: 0, word: 0, end: 0 }
     }
@@ -45,7 +45,7 @@ impl Iterator for BitIterator<'_> {
 }
 
 impl ExactSizeIterator for BitIterator<'_> {
-    #[inline]
+    #[inline(always)]
     fn len(&self) -> usize {
         self.chunks.values_len() - self.next
     }

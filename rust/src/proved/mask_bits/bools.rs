@@ -9,6 +9,17 @@ use crate::proved::mask_bits::words::set_word;
 /// past them have no meaning.
 #[inline]
 pub fn put_bools(bytes: &mut [u8], bools: &[bool]) {
+    crate::kit::by_level!(put_bools_v3(bytes, bools), put_bools_any(bytes, bools))
+}
+
+#[cfg(target_arch = "x86_64")]
+#[target_feature(enable = "avx2,bmi1,bmi2,f16c,fma,lzcnt,movbe,popcnt")]
+fn put_bools_v3(bytes: &mut [u8], bools: &[bool]) {
+    put_bools_any(bytes, bools)
+}
+
+#[inline(always)]
+fn put_bools_any(bytes: &mut [u8], bools: &[bool]) {
     let whole = bools.len() / 64;
     for i in 0..whole {
         set_word(bytes, i, word_of_bools(&bools[64 * i..64 * i + 64]));

@@ -46,7 +46,7 @@ impl BitBuffer {
         BitBuffer::new_proved(bytes, len)
     }
 
-    #[inline]
+    #[inline(always)]
     pub(crate) fn new_proved(bytes: Bytes, len: usize) -> BitBuffer {
         BitBuffer::new_with_offset_proved(bytes, 0, len)
     }
@@ -80,7 +80,7 @@ impl BitBuffer {
         BitBuffer::new_with_offset_proved(bytes, offset, len)
     }
 
-    #[inline]
+    #[inline(always)]
     pub(crate) fn new_with_offset_proved(bytes: Bytes, offset: usize, len: usize) -> BitBuffer {
         BitBuffer { bytes, offset, len }
     }
@@ -107,7 +107,7 @@ impl BitBuffer {
         BitBuffer::from_vec_proved(bytes, len)
     }
 
-    #[inline]
+    #[inline(always)]
     pub(crate) fn from_vec_proved(bytes: Vec<u8>, len: usize) -> Result<BitBuffer, AllocError> {
         Ok(BitBuffer::new_proved(Bytes::from_vec(bytes)?, len))
     }
@@ -154,7 +154,7 @@ impl BitBuffer {
         BitBuffer::from_indices_proved(len, indices)
     }
 
-    #[inline]
+    #[inline(always)]
     pub(crate) fn from_indices_proved(
         len: usize,
         indices: &[usize],
@@ -186,7 +186,7 @@ impl BitBuffer {
         BitBuffer::from_slice(&bools)
     }
 
-    #[inline]
+    #[inline(always)]
     fn from_slice(bools: &[bool]) -> Result<BitBuffer, AllocError> {
         let mut bytes = crate::kit::filled(0u8, 8 * started_words(bools.len()))?;
         put_bools(&mut bytes, bools);
@@ -239,7 +239,7 @@ impl BitBuffer {
     /// # Proved ([terms](crate::definitions))
     ///
     /// - `result ≡ length (values self.now)`
-    #[inline]
+    #[inline(always)]
     pub fn len(&self) -> usize {
         self.len
     }
@@ -260,7 +260,7 @@ impl BitBuffer {
     ///
     /// - *counted*: `result ≡ count (values self.now)`
     /// - *at_most*: `result ≤ length (values self.now)`
-    #[inline]
+    #[inline(always)]
     pub fn true_count(&self) -> usize {
         count_bits(self.bytes.as_slice(), self.offset, self.len)
     }
@@ -304,7 +304,7 @@ impl BitBuffer {
         self.count_range_proved(start, end)
     }
 
-    #[inline]
+    #[inline(always)]
     pub(crate) fn count_range_proved(&self, start: usize, end: usize) -> usize {
         count_bits(self.bytes.as_slice(), self.offset + start, end - start)
     }
@@ -314,7 +314,7 @@ impl BitBuffer {
     /// # Proved ([terms](crate::definitions))
     ///
     /// - `result ≡ self.now.offset`
-    #[inline]
+    #[inline(always)]
     pub fn offset(&self) -> usize {
         self.offset
     }
@@ -325,7 +325,7 @@ impl BitBuffer {
     ///
     /// - *bytes*: `result.now ≡ self.now.bytes`
     /// - *within*: `IsWithinBytes self.now.bytes self.now.offset self.now.len`
-    #[inline]
+    #[inline(always)]
     pub fn inner(&self) -> &Bytes {
         &self.bytes
     }
@@ -402,7 +402,7 @@ impl BitBuffer {
     ///
     /// - *index*: `result ≡ slice_get (positions (values self.now)) (count (values self.now) - 1)`
     /// - *within*: `IfSome result (λ p. p < length (values self.now))`
-    #[inline]
+    #[inline(always)]
     pub fn last_set_index(&self) -> Option<usize> {
         self.chunks().last_set_index()
     }
@@ -440,7 +440,7 @@ impl BitBuffer {
     /// - *list*: `result ≡ values self.now`
     /// - *in_order*: `YieldsInOrder (YieldsFirst {A = Bool} (λ s. s)) (λ s. s)`
     /// - *fits*: `length result < 2 ^ 64`
-    #[inline]
+    #[inline(always)]
     pub fn iter(&self) -> BitIterator<'_> {
         BitIterator::new(self.chunks())
     }
@@ -451,7 +451,7 @@ impl BitBuffer {
     ///
     /// - *list*: `result ≡ values self.now`
     /// - *fits*: `length result < 2 ^ 64`
-    #[inline]
+    #[inline(always)]
     pub fn chunks(&self) -> BitChunks<'_> {
         BitChunks::new_proved(self.bytes.as_slice(), self.offset, self.len)
     }
@@ -469,7 +469,7 @@ impl fmt::Debug for BitBuffer {
 }
 
 // Bytes for `len` bits, all clear.
-#[inline]
+#[inline(always)]
 fn zeroed(len: usize) -> Result<Vec<u8>, AllocError> {
     crate::kit::filled(0u8, len.div_ceil(8))
 }

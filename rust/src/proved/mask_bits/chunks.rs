@@ -36,13 +36,13 @@ impl<'a> BitChunks<'a> {
         BitChunks::new_proved(bytes, offset, len)
     }
 
-    #[inline]
+    #[inline(always)]
     pub(crate) fn new_proved(bytes: &'a [u8], offset: usize, len: usize) -> BitChunks<'a> {
         BitChunks { bytes, offset, len }
     }
 
     // How many values there are.
-    #[inline]
+    #[inline(always)]
     pub(crate) fn values_len(&self) -> usize {
         self.len
     }
@@ -52,7 +52,7 @@ impl<'a> BitChunks<'a> {
     /// # Proved ([terms](crate::definitions))
     ///
     /// - `result ≡ length self.now / 64`
-    #[inline]
+    #[inline(always)]
     pub fn len(&self) -> usize {
         self.values_len() / 64
     }
@@ -78,7 +78,7 @@ impl<'a> BitChunks<'a> {
         self.word_proved(i)
     }
 
-    #[inline]
+    #[inline(always)]
     pub(crate) fn word_proved(&self, i: usize) -> u64 {
         Covered::word(Bits::new(self.bytes, self.offset), i)
     }
@@ -90,7 +90,7 @@ impl<'a> BitChunks<'a> {
     /// - *parts*: `result ≡ word_parts self.now`
     /// - *in_order*: `EveryRun (YieldsFirstBy word_bits (λ s. s)) (λ p. ItemsMapTo p word_bits p.from)`
     /// - *fits*: `length result < 2 ^ 64`
-    #[inline]
+    #[inline(always)]
     pub fn iter(&self) -> Words<'a> {
         Words { chunks: BitChunks::new_proved(self.bytes, self.offset, self.len), next: 0 }
     }
@@ -100,7 +100,7 @@ impl<'a> BitChunks<'a> {
     /// # Proved ([terms](crate::definitions))
     ///
     /// - `result ≡ length self.now % 64`
-    #[inline]
+    #[inline(always)]
     pub fn remainder_len(&self) -> usize {
         self.values_len() % 64
     }
@@ -110,7 +110,7 @@ impl<'a> BitChunks<'a> {
     /// # Proved ([terms](crate::definitions))
     ///
     /// - `word_bits result ≡ padded_remainder self.now`
-    #[inline]
+    #[inline(always)]
     pub fn remainder_bits(&self) -> u64 {
         if self.len % 64 == 0 {
             return 0;
@@ -139,6 +139,17 @@ impl<'a> BitChunks<'a> {
     /// - *within*: `IfSome result (λ p. p < length self.now)`
     #[inline]
     pub fn select(&self, n: usize) -> Option<usize> {
+        crate::kit::by_level!(self.select_v3(n), self.select_any(n))
+    }
+
+    #[cfg(target_arch = "x86_64")]
+    #[target_feature(enable = "avx2,bmi1,bmi2,f16c,fma,lzcnt,movbe,popcnt")]
+    fn select_v3(&self, n: usize) -> Option<usize> {
+        self.select_any(n)
+    }
+
+    #[inline(always)]
+    fn select_any(&self, n: usize) -> Option<usize> {
         let (first, rest) = self.passed_blocks(n);
         let mut left = rest;
         for i in first..self.started_words() {
@@ -158,7 +169,7 @@ impl<'a> BitChunks<'a> {
     ///
     /// - *index*: `result ≡ slice_get (positions self.now) (count self.now - 1)`
     /// - *within*: `IfSome result (λ p. p < length self.now)`
-    #[inline]
+    #[inline(always)]
     pub fn last_set_index(&self) -> Option<usize> {
         let mut i = self.started_words();
         while i > 0 {
@@ -207,7 +218,7 @@ impl<'a> BitChunks<'a> {
 
     // The word at which a block of 64 words begins, not past the word of true value number `n`, and
     // that value's number among the values from there on.
-    #[inline]
+    #[inline(always)]
     fn passed_blocks(&self, n: usize) -> (usize, usize) {
         let mut word = 0;
         let mut rest = n;
@@ -228,7 +239,7 @@ impl<'a> BitChunks<'a> {
     ///
     /// - *words*: `result ≡ started_words (length self.now)`
     /// - *fits*: `length self.now < 2 ^ 64`
-    #[inline]
+    #[inline(always)]
     pub fn started_words(&self) -> usize {
         started_words(self.values_len())
     }
@@ -254,7 +265,7 @@ impl<'a> BitChunks<'a> {
         self.started_word_proved(i)
     }
 
-    #[inline]
+    #[inline(always)]
     pub(crate) fn started_word_proved(&self, i: usize) -> u64 {
         if i < self.len() {
             self.word_proved(i)
@@ -274,7 +285,7 @@ fn remainder(bytes: &[u8], offset: usize, len: usize) -> u64 {
 }
 
 // The index of set bit number `n`, counted from 0.
-#[inline]
+#[inline(always)]
 fn index_in_word(word: u64, n: usize) -> usize {
     let mut word = word;
     for _ in 0..n {
@@ -317,7 +328,7 @@ impl Iterator for Words<'_> {
 }
 
 impl ExactSizeIterator for Words<'_> {
-    #[inline]
+    #[inline(always)]
     fn len(&self) -> usize {
         self.chunks.len() - self.next
     }
@@ -351,7 +362,7 @@ impl Iterator for PaddedWords<'_> {
 }
 
 impl ExactSizeIterator for PaddedWords<'_> {
-    #[inline]
+    #[inline(always)]
     fn len(&self) -> usize {
         self.chunks.started_words() - self.next
     }

@@ -26,35 +26,35 @@ pub struct Xor;
 pub struct Not;
 
 impl BitOp for And {
-    #[inline]
+    #[inline(always)]
     fn of(x: u64, y: u64) -> u64 {
         x & y
     }
 }
 
 impl BitOp for Or {
-    #[inline]
+    #[inline(always)]
     fn of(x: u64, y: u64) -> u64 {
         x | y
     }
 }
 
 impl BitOp for AndNot {
-    #[inline]
+    #[inline(always)]
     fn of(x: u64, y: u64) -> u64 {
         x & !y
     }
 }
 
 impl BitOp for Xor {
-    #[inline]
+    #[inline(always)]
     fn of(x: u64, y: u64) -> u64 {
         x ^ y
     }
 }
 
 impl BitOp for Not {
-    #[inline]
+    #[inline(always)]
     fn of(x: u64, _y: u64) -> u64 {
         !x
     }
@@ -72,6 +72,34 @@ pub fn combine<C: BitOp>(
     len: usize,
     out: &mut [u8],
 ) {
+    crate::kit::by_level!(
+        combine_v3::<C>(a, a_offset, b, b_offset, len, out),
+        combine_any::<C>(a, a_offset, b, b_offset, len, out)
+    )
+}
+
+#[cfg(target_arch = "x86_64")]
+#[target_feature(enable = "avx2,bmi1,bmi2,f16c,fma,lzcnt,movbe,popcnt")]
+fn combine_v3<C: BitOp>(
+    a: &[u8],
+    a_offset: usize,
+    b: &[u8],
+    b_offset: usize,
+    len: usize,
+    out: &mut [u8],
+) {
+    combine_any::<C>(a, a_offset, b, b_offset, len, out)
+}
+
+#[inline(always)]
+fn combine_any<C: BitOp>(
+    a: &[u8],
+    a_offset: usize,
+    b: &[u8],
+    b_offset: usize,
+    len: usize,
+    out: &mut [u8],
+) {
     let (a, b) = (Bits::new(a, a_offset), Bits::new(b, b_offset));
     let (whole, words) = (len / 64, started_words(len));
     extend_whole::<C>(a, b, whole, out);
@@ -79,7 +107,7 @@ pub fn combine<C: BitOp>(
 }
 
 // Writes the first words.
-#[inline]
+#[inline(always)]
 fn extend_whole<C: BitOp>(a: Bits<'_>, b: Bits<'_>, words: usize, out: &mut [u8]) {
     if a.low == 0 && b.low == 0 {
         extend::<C, Whole, Whole>(a, b, 0, words, out);
@@ -92,7 +120,7 @@ fn extend_whole<C: BitOp>(a: Bits<'_>, b: Bits<'_>, words: usize, out: &mut [u8]
 
 // Writes words beside which there is another one. Each list is read in its own way, since a shift of one
 // that begins at a whole byte takes nearly as long as the rest.
-#[inline]
+#[inline(always)]
 fn extend_inner<C: BitOp>(a: Bits<'_>, b: Bits<'_>, words: usize, out: &mut [u8]) {
     if a.low == 0 {
         extend::<C, Whole, Shifted>(a, b, 0, words, out);
@@ -104,7 +132,7 @@ fn extend_inner<C: BitOp>(a: Bits<'_>, b: Bits<'_>, words: usize, out: &mut [u8]
 }
 
 // Writes words `from` to `to`, where those before are written.
-#[inline]
+#[inline(always)]
 fn extend<C: BitOp, A: ReadWord, B: ReadWord>(
     a: Bits<'_>,
     b: Bits<'_>,
@@ -121,6 +149,20 @@ fn extend<C: BitOp, A: ReadWord, B: ReadWord>(
 /// `bytes` past the list have no meaning.
 #[inline]
 pub fn combine_in_place<C: BitOp>(bytes: &mut [u8], b: &[u8], b_offset: usize, len: usize) {
+    crate::kit::by_level!(
+        combine_in_place_v3::<C>(bytes, b, b_offset, len),
+        combine_in_place_any::<C>(bytes, b, b_offset, len)
+    )
+}
+
+#[cfg(target_arch = "x86_64")]
+#[target_feature(enable = "avx2,bmi1,bmi2,f16c,fma,lzcnt,movbe,popcnt")]
+fn combine_in_place_v3<C: BitOp>(bytes: &mut [u8], b: &[u8], b_offset: usize, len: usize) {
+    combine_in_place_any::<C>(bytes, b, b_offset, len)
+}
+
+#[inline(always)]
+fn combine_in_place_any<C: BitOp>(bytes: &mut [u8], b: &[u8], b_offset: usize, len: usize) {
     let b = Bits::new(b, b_offset);
     change_whole::<C>(bytes, b, len / 64);
     if len % 64 != 0 {
@@ -129,7 +171,7 @@ pub fn combine_in_place<C: BitOp>(bytes: &mut [u8], b: &[u8], b_offset: usize, l
 }
 
 // Combines the first words in place.
-#[inline]
+#[inline(always)]
 fn change_whole<C: BitOp>(bytes: &mut [u8], b: Bits<'_>, words: usize) {
     if b.low == 0 {
         change::<C, Whole>(bytes, b, 0, words);
@@ -141,7 +183,7 @@ fn change_whole<C: BitOp>(bytes: &mut [u8], b: Bits<'_>, words: usize) {
 }
 
 // Combines words `from` to `to` in place.
-#[inline]
+#[inline(always)]
 fn change<C: BitOp, R: ReadWord>(bytes: &mut [u8], b: Bits<'_>, from: usize, to: usize) {
     for i in from..to {
         set_word(bytes, i, C::of(word_of(bytes, i), R::word(b, i)));
@@ -149,7 +191,7 @@ fn change<C: BitOp, R: ReadWord>(bytes: &mut [u8], b: Bits<'_>, from: usize, to:
 }
 
 // Combines as much of word `i` in place as the bytes have.
-#[inline]
+#[inline(always)]
 fn change_last<C: BitOp>(bytes: &mut [u8], b: Bits<'_>, i: usize) {
     let end = bytes.len().min(8 * i + 8);
     let mut last = [0u8; 8];
@@ -161,6 +203,17 @@ fn change_last<C: BitOp>(bytes: &mut [u8], b: Bits<'_>, i: usize) {
 /// Negates the first `len` bits of `bytes`. Those past them have no meaning.
 #[inline]
 pub fn negate_in_place(bytes: &mut [u8], len: usize) {
+    crate::kit::by_level!(negate_in_place_v3(bytes, len), negate_in_place_any(bytes, len))
+}
+
+#[cfg(target_arch = "x86_64")]
+#[target_feature(enable = "avx2,bmi1,bmi2,f16c,fma,lzcnt,movbe,popcnt")]
+fn negate_in_place_v3(bytes: &mut [u8], len: usize) {
+    negate_in_place_any(bytes, len)
+}
+
+#[inline(always)]
+fn negate_in_place_any(bytes: &mut [u8], len: usize) {
     for i in 0..len.div_ceil(8) {
         bytes[i] ^= 0xFF;
     }

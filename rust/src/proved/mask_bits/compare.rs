@@ -23,19 +23,45 @@ pub fn none_true<C: BitOp>(
     b_offset: usize,
     len: usize,
 ) -> bool {
+    crate::kit::by_level!(
+        none_true_v3::<C>(a, a_offset, b, b_offset, len),
+        none_true_any::<C>(a, a_offset, b, b_offset, len)
+    )
+}
+
+#[cfg(target_arch = "x86_64")]
+#[target_feature(enable = "avx2,bmi1,bmi2,f16c,fma,lzcnt,movbe,popcnt")]
+fn none_true_v3<C: BitOp>(
+    a: &[u8],
+    a_offset: usize,
+    b: &[u8],
+    b_offset: usize,
+    len: usize,
+) -> bool {
+    none_true_any::<C>(a, a_offset, b, b_offset, len)
+}
+
+#[inline(always)]
+fn none_true_any<C: BitOp>(
+    a: &[u8],
+    a_offset: usize,
+    b: &[u8],
+    b_offset: usize,
+    len: usize,
+) -> bool {
     let whole = 64 * (len / 64);
     none_in_words::<C>(a, a_offset, b, b_offset, len / 64)
         && none_in_last::<C>(a, a_offset + whole, b, b_offset + whole, len % 64)
 }
 
 // Whether none is true that `C` makes of fewer than 64 bits.
-#[inline]
+#[inline(always)]
 fn none_in_last<C: BitOp>(a: &[u8], p: usize, b: &[u8], q: usize, rest: usize) -> bool {
     C::of(word_at(a, p), word_at(b, q)) & ((1 << rest) - 1) == 0
 }
 
 // Whether none is true that `C` makes of whole words.
-#[inline]
+#[inline(always)]
 fn none_in_words<C: BitOp>(
     a: &[u8],
     a_offset: usize,
@@ -61,7 +87,7 @@ fn none_in_shifted_words<C: BitOp>(a: Bits<'_>, b: Bits<'_>, words: usize) -> bo
 
 // Whether none is true that `C` makes of words beside which there is another one. Each list is read in
 // its own way.
-#[inline]
+#[inline(always)]
 fn none_in_inner_words<C: BitOp>(a: Bits<'_>, b: Bits<'_>, words: usize) -> bool {
     if a.low == 0 {
         none_in_blocks::<C, Whole, Shifted>(a, b, words)
@@ -76,7 +102,7 @@ fn none_in_inner_words<C: BitOp>(a: Bits<'_>, b: Bits<'_>, words: usize) -> bool
 const BLOCK: usize = 32;
 
 // Whether none is true that `C` makes of the first words.
-#[inline]
+#[inline(always)]
 fn none_in_blocks<C: BitOp, A: ReadWord, B: ReadWord>(
     a: Bits<'_>,
     b: Bits<'_>,
@@ -94,7 +120,7 @@ fn none_in_blocks<C: BitOp, A: ReadWord, B: ReadWord>(
 
 // Whether there is none up to word `to`, where there is none before word `from`. With no early return, so
 // that several words are looked at at once: the true values of all are gathered, and tested at the end.
-#[inline]
+#[inline(always)]
 fn none_in_block<C: BitOp, A: ReadWord, B: ReadWord>(
     a: Bits<'_>,
     b: Bits<'_>,
@@ -118,20 +144,46 @@ pub fn count_true<C: BitOp>(
     b_offset: usize,
     len: usize,
 ) -> usize {
+    crate::kit::by_level!(
+        count_true_v3::<C>(a, a_offset, b, b_offset, len),
+        count_true_any::<C>(a, a_offset, b, b_offset, len)
+    )
+}
+
+#[cfg(target_arch = "x86_64")]
+#[target_feature(enable = "avx2,bmi1,bmi2,f16c,fma,lzcnt,movbe,popcnt")]
+fn count_true_v3<C: BitOp>(
+    a: &[u8],
+    a_offset: usize,
+    b: &[u8],
+    b_offset: usize,
+    len: usize,
+) -> usize {
+    count_true_any::<C>(a, a_offset, b, b_offset, len)
+}
+
+#[inline(always)]
+fn count_true_any<C: BitOp>(
+    a: &[u8],
+    a_offset: usize,
+    b: &[u8],
+    b_offset: usize,
+    len: usize,
+) -> usize {
     let whole = 64 * (len / 64);
     count_in_words::<C>(a, a_offset, b, b_offset, len / 64)
         + count_in_last::<C>(a, a_offset + whole, b, b_offset + whole, len % 64)
 }
 
 // How many are true that `C` makes of fewer than 64 bits.
-#[inline]
+#[inline(always)]
 fn count_in_last<C: BitOp>(a: &[u8], p: usize, b: &[u8], q: usize, rest: usize) -> usize {
     let made = C::of(word_at(a, p), word_at(b, q));
     (made & ((1 << rest) - 1)).count_ones() as usize
 }
 
 // How many are true that `C` makes of whole words.
-#[inline]
+#[inline(always)]
 fn count_in_words<C: BitOp>(
     a: &[u8],
     a_offset: usize,
@@ -150,7 +202,7 @@ fn count_in_words<C: BitOp>(
 
 // How many are true that `C` makes of words beside which there is another one. Each list is read in its
 // own way.
-#[inline]
+#[inline(always)]
 fn count_in_inner_words<C: BitOp>(a: Bits<'_>, b: Bits<'_>, words: usize) -> usize {
     if a.low == 0 {
         count_on::<C, Whole, Neighbors>(a, b, 0, words, 0)
@@ -162,7 +214,7 @@ fn count_in_inner_words<C: BitOp>(a: Bits<'_>, b: Bits<'_>, words: usize) -> usi
 }
 
 // How many are true up to word `to`, where `before` are before word `from`.
-#[inline]
+#[inline(always)]
 fn count_on<C: BitOp, A: ReadWord, B: ReadWord>(
     a: Bits<'_>,
     b: Bits<'_>,

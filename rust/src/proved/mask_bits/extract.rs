@@ -20,7 +20,7 @@ const FEW: u32 = 4;
 /// # Proved ([terms](crate::definitions))
 ///
 /// - `Extracts source mask result`
-#[inline]
+#[inline(always)]
 pub fn extract(source: u64, mask: u64) -> u64 {
     if mask.count_ones() <= 2 {
         extract_two_lowest(source, mask)
@@ -70,7 +70,7 @@ fn masked_bit(source: u64, place: u64) -> u64 {
 }
 
 // One set place after another.
-#[inline]
+#[inline(always)]
 fn extract_in_turn(source: u64, mask: u64) -> u64 {
     let mut left = mask;
     let mut result = 0;

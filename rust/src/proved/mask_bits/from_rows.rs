@@ -21,6 +21,20 @@ impl BitBuffer {
     /// - *list*: `IfOk result (λ b. AreAsComputed (F.post test) rows.now (values b))`
     #[inline]
     pub fn from_rows<T, F: Fn(&T) -> bool>(rows: &[T], test: F) -> Result<BitBuffer, AllocError> {
+        crate::kit::by_level!(
+            Self::from_rows_v3::<T, F>(rows, test),
+            Self::from_rows_any::<T, F>(rows, test)
+        )
+    }
+
+    #[cfg(target_arch = "x86_64")]
+    #[target_feature(enable = "avx2,bmi1,bmi2,f16c,fma,lzcnt,movbe,popcnt")]
+    fn from_rows_v3<T, F: Fn(&T) -> bool>(rows: &[T], test: F) -> Result<BitBuffer, AllocError> {
+        Self::from_rows_any::<T, F>(rows, test)
+    }
+
+    #[inline(always)]
+    fn from_rows_any<T, F: Fn(&T) -> bool>(rows: &[T], test: F) -> Result<BitBuffer, AllocError> {
         let mut bits = BitBufferMut::with_capacity(rows.len())?;
         let whole = rows.len() / 64;
         for i in 0..whole {

@@ -15,13 +15,13 @@ pub(crate) struct Bits<'a> {
 
 impl<'a> Bits<'a> {
     // The list that begins at bit `offset` of these bytes.
-    #[inline]
+    #[inline(always)]
     pub(crate) fn new(bytes: &'a [u8], offset: usize) -> Bits<'a> {
         Bits { bytes: &bytes[offset / 8..], low: (offset % 8) as u32 }
     }
 
     // How many of the whole words have another one beside them.
-    #[inline]
+    #[inline(always)]
     pub(crate) fn neighbors(self) -> usize {
         (self.bytes.len() / 8).saturating_sub(1)
     }
@@ -49,21 +49,21 @@ pub(crate) struct Covered;
 pub(crate) struct Anywhere;
 
 impl ReadWord for Whole {
-    #[inline]
+    #[inline(always)]
     fn word(bits: Bits<'_>, i: usize) -> u64 {
         word_of(bits.bytes, i)
     }
 }
 
 impl ReadWord for Neighbors {
-    #[inline]
+    #[inline(always)]
     fn word(bits: Bits<'_>, i: usize) -> u64 {
         funnel_shift(word_of(bits.bytes, i), word_of(bits.bytes, i + 1), bits.low)
     }
 }
 
 impl ReadWord for Shifted {
-    #[inline]
+    #[inline(always)]
     fn word(bits: Bits<'_>, i: usize) -> u64 {
         funnel_shift_inside(word_of(bits.bytes, i), word_of(bits.bytes, i + 1), bits.low)
     }
@@ -72,7 +72,7 @@ impl ReadWord for Shifted {
 impl ReadWord for Covered {
     // tests nothing that a loop over words has to test again, and reads past no end, so that such a
     // loop needs no slower way for its last words
-    #[inline]
+    #[inline(always)]
     fn word(bits: Bits<'_>, i: usize) -> u64 {
         let word = word_of(bits.bytes, i);
         if bits.low == 0 {
@@ -84,7 +84,7 @@ impl ReadWord for Covered {
 }
 
 impl ReadWord for Anywhere {
-    #[inline]
+    #[inline(always)]
     fn word(bits: Bits<'_>, i: usize) -> u64 {
         word_at(bits.bytes, bits.low as usize + 64 * i)
     }

@@ -5,7 +5,7 @@ use crate::kit::prelude::*;
 use crate::proved::mask_bits::chunks::BitChunks;
 
 // The first started word, of which all is left.
-#[inline]
+#[inline(always)]
 pub(crate) fn first_word(chunks: &BitChunks<'_>) -> u64 {
     if chunks.started_words() == 0 { 0 } else { chunks.started_word_proved(0) }
 }

@@ -49,6 +49,17 @@ impl BitBuffer {
 
     #[inline]
     pub(crate) fn indices_proved(&self, true_count: usize) -> Result<Vec<usize>, AllocError> {
+        crate::kit::by_level!(self.indices_v3(true_count), self.indices_any(true_count))
+    }
+
+    #[cfg(target_arch = "x86_64")]
+    #[target_feature(enable = "avx2,bmi1,bmi2,f16c,fma,lzcnt,movbe,popcnt")]
+    fn indices_v3(&self, true_count: usize) -> Result<Vec<usize>, AllocError> {
+        self.indices_any(true_count)
+    }
+
+    #[inline(always)]
+    fn indices_any(&self, true_count: usize) -> Result<Vec<usize>, AllocError> {
         let chunks = self.chunks();
         let mut indices = Vec::with_room(true_count)?;
         // the whole words apart, so that none is tested for being the last
@@ -115,7 +126,7 @@ pub struct SetIndices<'a> {
 }
 
 impl<'a> SetIndices<'a> {
-    #[inline]
+    #[inline(always)]
     pub(crate) fn new(chunks: BitChunks<'a>) -> SetIndices<'a> {
         let word = first_word(&chunks);
         SetIndices { chunks, at: 0, word }

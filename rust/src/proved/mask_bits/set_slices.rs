@@ -31,6 +31,17 @@ impl BitBuffer {
     /// - `IfOk result (λ ranges. ranges.items ≡ runs (values self.now))`
     #[inline]
     pub fn runs(&self) -> Result<Vec<(usize, usize)>, AllocError> {
+        crate::kit::by_level!(self.runs_v3(), self.runs_any())
+    }
+
+    #[cfg(target_arch = "x86_64")]
+    #[target_feature(enable = "avx2,bmi1,bmi2,f16c,fma,lzcnt,movbe,popcnt")]
+    fn runs_v3(&self) -> Result<Vec<(usize, usize)>, AllocError> {
+        self.runs_any()
+    }
+
+    #[inline(always)]
+    fn runs_any(&self) -> Result<Vec<(usize, usize)>, AllocError> {
         let chunks = self.chunks();
         let mut ranges = Vec::new();
         let mut begun = Open { inside: false, start: 0 };
@@ -92,13 +103,13 @@ fn push_edges(
 }
 
 // The bit before each bit, where `inside` is the one before the first.
-#[inline]
+#[inline(always)]
 fn bits_before(inside: bool, word: u64) -> u64 {
     word << 1 | inside as u64
 }
 
 // The edges of a word in which bits of `starts` begin runs and those of `ends` end them.
-#[inline]
+#[inline(always)]
 fn edges_of(begun: Open, base: usize, starts: u64, ends: u64) -> Edges {
     if begun.inside {
         return Edges { first: begun.start, starts, ends };
@@ -111,7 +122,7 @@ fn edges_of(begun: Open, base: usize, starts: u64, ends: u64) -> Edges {
 }
 
 // The first run, and the edges past it; where no end is left, another pair.
-#[inline]
+#[inline(always)]
 fn pop(base: usize, edges: Edges) -> ((usize, usize), Edges) {
     let run = (edges.first, base.wrapping_add(edges.ends.trailing_zeros() as usize));
     let left = Edges {
@@ -123,7 +134,7 @@ fn pop(base: usize, edges: Edges) -> ((usize, usize), Edges) {
 }
 
 // Appends the runs between edges.
-#[inline]
+#[inline(always)]
 fn push_between(
     ranges: &mut Vec<(usize, usize)>,
     base: usize,
@@ -138,7 +149,7 @@ fn push_between(
 }
 
 // The same, one by one. Within a word nothing is looked up but the word.
-#[inline]
+#[inline(always)]
 fn push_each_run(
     ranges: &mut Vec<(usize, usize)>,
     base: usize,
@@ -155,7 +166,7 @@ fn push_each_run(
 
 // The same where there is room. One test for two runs is guessed right more often than one for each, and
 // the first two need none.
-#[inline]
+#[inline(always)]
 fn push_by_two(ranges: &mut Vec<(usize, usize)>, base: usize, edges: Edges) {
     let end = ranges.len() + edges.ends.count_ones() as usize;
     let mut left = push_two(ranges, base, edges);
@@ -166,14 +177,14 @@ fn push_by_two(ranges: &mut Vec<(usize, usize)>, base: usize, edges: Edges) {
 }
 
 // Appends the first two runs, and other pairs where there are fewer. Returns the edges that are left.
-#[inline]
+#[inline(always)]
 fn push_two(ranges: &mut Vec<(usize, usize)>, base: usize, edges: Edges) -> Edges {
     let left = push_first(ranges, base, edges);
     push_first(ranges, base, left)
 }
 
 // The same of the first run.
-#[inline]
+#[inline(always)]
 fn push_first(ranges: &mut Vec<(usize, usize)>, base: usize, edges: Edges) -> Edges {
     let (run, left) = pop(base, edges);
     ranges.push_reserved(run);
@@ -189,7 +200,7 @@ pub struct SetSlices<'a> {
 }
 
 impl<'a> SetSlices<'a> {
-    #[inline]
+    #[inline(always)]
     pub(crate) fn new(chunks: BitChunks<'a>) -> SetSlices<'a> {
         let word = first_word(&chunks);
         SetSlices { chunks, at: 0, word }

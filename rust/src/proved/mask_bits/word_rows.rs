@@ -31,7 +31,7 @@ pub fn push_rows_of_word<const K: usize, T: Copy, R: Room<T>>(out: &mut R, rows:
 }
 
 /// Puts them one after another, as where there are fewer rows than a word has bits.
-#[inline]
+#[inline(always)]
 pub fn push_rows_one_by_one<T: Copy, R: Room<T>>(out: &mut R, rows: &[T], word: u64) {
     push_one_by_one(out, rows, word);
 }

@@ -6,7 +6,7 @@ use crate::proved::mask_bits::read_word::{Bits, ReadWord, Shifted, Whole};
 use crate::proved::mask_bits::words::{low_bits, set_word, word_at, word_of};
 
 /// Sets the bit at one position and no other.
-#[inline]
+#[inline(always)]
 pub fn set_bit(bytes: &mut [u8], position: usize) {
     bytes[position / 8] |= 1 << (position % 8);
 }
@@ -18,7 +18,7 @@ pub fn clear_bit(bytes: &mut [u8], position: usize) {
 }
 
 // Writes the lowest `count` bits of a word behind the first `at` bits.
-#[inline]
+#[inline(always)]
 pub(crate) fn put_word(bytes: &mut [u8], at: usize, word: u64, count: usize) {
     if count == 0 {
         return;
@@ -63,6 +63,20 @@ fn put_full(bytes: &mut [u8], first: usize, words: usize) {
 // Writes the `n` bits of `from` from bit `offset` on behind the first `at` bits.
 #[inline]
 pub(crate) fn put_bits(bytes: &mut [u8], at: usize, from: &[u8], offset: usize, n: usize) {
+    crate::kit::by_level!(
+        put_bits_v3(bytes, at, from, offset, n),
+        put_bits_any(bytes, at, from, offset, n)
+    )
+}
+
+#[cfg(target_arch = "x86_64")]
+#[target_feature(enable = "avx2,bmi1,bmi2,f16c,fma,lzcnt,movbe,popcnt")]
+fn put_bits_v3(bytes: &mut [u8], at: usize, from: &[u8], offset: usize, n: usize) {
+    put_bits_any(bytes, at, from, offset, n)
+}
+
+#[inline(always)]
+fn put_bits_any(bytes: &mut [u8], at: usize, from: &[u8], offset: usize, n: usize) {
     let room = 64 - at % 64;
     if n < room + 128 {
         put_windows(bytes, at, from, offset, n);
@@ -77,7 +91,7 @@ pub(crate) fn put_bits(bytes: &mut [u8], at: usize, from: &[u8], offset: usize, 
 }
 
 // Writes bits behind those that are there, by a window for each word.
-#[inline]
+#[inline(always)]
 fn put_windows(bytes: &mut [u8], at: usize, from: &[u8], offset: usize, n: usize) {
     let mut done = 0;
     while done < n {
@@ -88,7 +102,7 @@ fn put_windows(bytes: &mut [u8], at: usize, from: &[u8], offset: usize, n: usize
 }
 
 // Writes whole words of `from`, from bit `offset` on, as the words from `first` on.
-#[inline]
+#[inline(always)]
 fn put_whole(bytes: &mut [u8], first: usize, from: &[u8], offset: usize, words: usize) {
     let from = Bits::new(from, offset);
     if from.low == 0 {
@@ -99,7 +113,7 @@ fn put_whole(bytes: &mut [u8], first: usize, from: &[u8], offset: usize, words: 
 }
 
 // Writes the first words of a list as the words from `first` on.
-#[inline]
+#[inline(always)]
 fn put_words<R: ReadWord>(bytes: &mut [u8], first: usize, from: Bits<'_>, words: usize) {
     for i in 0..words {
         set_word(bytes, first + i, R::word(from, i));

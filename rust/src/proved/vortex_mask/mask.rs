@@ -84,7 +84,7 @@ impl Mask {
     /// # Proved ([terms](crate::definitions))
     ///
     /// - `result ≡ (if value then Mask.AllTrue len else Mask.AllFalse len)`
-    #[inline]
+    #[inline(always)]
     pub fn new(len: usize, value: bool) -> Mask {
         if value { Mask::AllTrue(len) } else { Mask::AllFalse(len) }
     }
@@ -146,7 +146,7 @@ impl Mask {
     /// # Proved ([terms](crate::definitions))
     ///
     /// - `result ≡ length (truth self.now)`
-    #[inline]
+    #[inline(always)]
     pub fn len(&self) -> usize {
         match self {
             Mask::AllTrue(len) | Mask::AllFalse(len) => *len,
@@ -170,7 +170,7 @@ impl Mask {
     ///
     /// - *counted*: `result ≡ count (truth self.now)`
     /// - *at_most*: `result ≤ length (truth self.now)`
-    #[inline]
+    #[inline(always)]
     pub fn true_count(&self) -> usize {
         match self {
             Mask::AllTrue(len) => *len,
@@ -310,7 +310,7 @@ impl Mask {
         self.count_range_proved(start, end)
     }
 
-    #[inline]
+    #[inline(always)]
     pub(crate) fn count_range_proved(&self, start: usize, end: usize) -> usize {
         match self {
             Mask::AllTrue(_) => end - start,
@@ -343,7 +343,7 @@ impl Mask {
     ///
     /// - *index*: `result ≡ slice_get (positions (truth self.now)) (count (truth self.now) - 1)`
     /// - *within*: `IfSome result (λ p. p < length (truth self.now))`
-    #[inline]
+    #[inline(always)]
     pub fn last(&self) -> Option<usize> {
         match self {
             Mask::AllTrue(len) => len.checked_sub(1),
@@ -396,7 +396,7 @@ impl Mask {
 }
 
 // For each index the number of true values below it, by a count that runs from one to the next.
-#[inline]
+#[inline(always)]
 fn counts_below(buffer: &BitBuffer, indices: &[usize]) -> Result<Vec<usize>, AllocError> {
     let mut counts = Vec::with_room(indices.len())?;
     let mut counted_to = 0;

@@ -74,7 +74,7 @@ pub unsafe trait DepositBits {
     }
 
     /// The same, where the caller meets the conditions.
-    #[inline]
+    #[inline(always)]
     fn deposit_two_proved(sources: [u64; 2], masks: [u64; 2], mask_counts: [usize; 2]) -> [u64; 2] {
         [
             Self::deposit_bits_proved(sources[0], masks[0], mask_counts[0]),
@@ -169,7 +169,7 @@ pub fn deposits_by_loop(len: usize, true_count: usize) -> bool {
 }
 
 // The lowest set place of the mask takes the lowest bit of the source, until either is used up.
-#[inline]
+#[inline(always)]
 fn deposit_in_turn(source: u64, mask: u64) -> u64 {
     let mut bits = source;
     let mut places = mask;
@@ -183,7 +183,7 @@ fn deposit_in_turn(source: u64, mask: u64) -> u64 {
     result
 }
 
-#[inline]
+#[inline(always)]
 pub fn deposit_two_lowest(source: u64, mask: u64) -> u64 {
     let second = mask & mask.wrapping_sub(1);
     let lowest = mask - second;
@@ -192,12 +192,12 @@ pub fn deposit_two_lowest(source: u64, mask: u64) -> u64 {
 
 // The lowest bit of `source`, put at `place`: by a mask of ones or zeros, since a branch on the
 // bit would often be guessed wrong.
-#[inline]
+#[inline(always)]
 fn lowest_bit_at(place: u64, source: u64) -> u64 {
     place & (source & 1).wrapping_neg()
 }
 
-#[inline]
+#[inline(always)]
 pub fn deposit_two_holes(source: u64, mask: u64) -> u64 {
     let holes = !mask;
     let second = holes & holes.wrapping_sub(1);
@@ -207,7 +207,7 @@ pub fn deposit_two_holes(source: u64, mask: u64) -> u64 {
 
 // Moves the bits from a hole on up by one, by adding them to themselves. The hole is the word that
 // has its place alone, or 0 where there is none.
-#[inline]
+#[inline(always)]
 fn with_room(source: u64, hole: u64) -> u64 {
     source.wrapping_add(source & hole.wrapping_neg())
 }

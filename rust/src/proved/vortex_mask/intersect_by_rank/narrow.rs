@@ -21,14 +21,14 @@ pub(super) fn narrow_by_path(
     rows: &MaskValues,
     ranks: &MaskValues,
 ) -> Result<(Mask, Steps), MaskError> {
-    let by_loop = deposits_by_loop(rows.len(), rows.true_count());
+    let by_loop = crate::kit::processor::by_loop(rows.len(), rows.true_count());
     match rank_path(rows, ranks) {
         RankPath::Indices => by_indices(rows, ranks),
         RankPath::MaskDriven => by_selections(rows, ranks),
         RankPath::BitBuffers if by_loop => by_buffers::<PortableLoop>(rows, ranks),
-        RankPath::BitBuffers => by_buffers::<Portable>(rows, ranks),
+        RankPath::BitBuffers => crate::kit::quickest!(by_buffers::<Portable>(rows, ranks)),
         RankPath::RankIndices if by_loop => by_rank_indices::<PortableLoop>(rows, ranks),
-        RankPath::RankIndices => by_rank_indices::<Portable>(rows, ranks),
+        RankPath::RankIndices => crate::kit::quickest!(by_rank_indices::<Portable>(rows, ranks)),
     }
 }
 
@@ -55,11 +55,11 @@ fn by_selections(rows: &MaskValues, ranks: &MaskValues) -> Result<(Mask, Steps),
     match ranks.cached_indices() {
         Some(cached) => {
             let ranks = cached.iter().copied();
-            intersect_mask_driven::<Portable, _>(buffer, ranks, true_count)
+            crate::kit::quickest!(intersect_mask_driven::<Portable, _>(buffer, ranks, true_count))
         }
         None => {
             let ranks = ranks.bit_buffer().set_indices();
-            intersect_mask_driven::<Portable, _>(buffer, ranks, true_count)
+            crate::kit::quickest!(intersect_mask_driven::<Portable, _>(buffer, ranks, true_count))
         }
     }
 }

@@ -41,7 +41,7 @@ pub(super) struct Summary {
 }
 
 impl Summary {
-    #[inline]
+    #[inline(always)]
     pub(super) fn of(mask: &MaskValues) -> Summary {
         Summary {
             len: mask.len(),

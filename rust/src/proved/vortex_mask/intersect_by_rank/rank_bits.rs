@@ -22,7 +22,7 @@ impl<'a> RankBits<'a> {
     ///
     /// - *buffer*: `result ≡ buffer.now`
     /// - *within*: `IsWithinBytes result.bytes result.offset result.len`
-    #[inline]
+    #[inline(always)]
     pub fn new(buffer: &'a BitBuffer) -> RankBits<'a> {
         RankBits::over_proved(buffer.inner().as_slice(), buffer.offset(), buffer.len())
     }
@@ -49,7 +49,7 @@ impl<'a> RankBits<'a> {
         RankBits::over_proved(bytes, offset, len)
     }
 
-    #[inline]
+    #[inline(always)]
     pub(crate) fn over_proved(bytes: &'a [u8], offset: usize, len: usize) -> RankBits<'a> {
         let tail_from = bytes.len().saturating_sub(16);
         let last = &bytes[tail_from..];
@@ -59,13 +59,13 @@ impl<'a> RankBits<'a> {
     }
 
     /// All the bytes, in which value 0 is bit [`RankBits::offset`].
-    #[inline]
+    #[inline(always)]
     pub(super) fn bytes(&self) -> &[u8] {
         self.bytes
     }
 
     /// Where value 0 is in the bytes.
-    #[inline]
+    #[inline(always)]
     pub(super) fn offset(&self) -> usize {
         self.offset
     }

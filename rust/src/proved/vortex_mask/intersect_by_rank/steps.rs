@@ -28,7 +28,7 @@ impl Steps {
     /// # Proved ([terms](crate::definitions))
     ///
     /// - `result ≡ no_steps`
-    #[inline]
+    #[inline(always)]
     pub fn new() -> Steps {
         Steps { deposits: 0, words: 0, selections: 0, offered: 0, placed: 0, spots: 0 }
     }
@@ -48,7 +48,7 @@ impl Steps {
     /// # Proved ([terms](crate::definitions))
     ///
     /// - `result ≡ self.now.words`
-    #[inline]
+    #[inline(always)]
     pub fn words(&self) -> usize {
         self.words
     }

@@ -115,7 +115,7 @@ impl Mask {
     ///
     /// - *held*: `all_or_copied result ≡ held_buffer self.now`
     /// - *list*: `IsListOf result (truth self.now)`
-    #[inline]
+    #[inline(always)]
     pub fn bit_buffer(&self) -> AllOr<&BitBuffer> {
         match self {
             Mask::AllTrue(_) => AllOr::All,

@@ -55,14 +55,14 @@ impl std::fmt::Display for MaskError {
 impl std::error::Error for MaskError {}
 
 impl From<AllocError> for MaskError {
-    #[inline]
+    #[inline(always)]
     fn from(error: AllocError) -> MaskError {
         MaskError::Memory(error)
     }
 }
 
 impl<T> From<AllocFailed<T>> for MaskError {
-    #[inline]
+    #[inline(always)]
     fn from(_failed: AllocFailed<T>) -> MaskError {
         MaskError::Memory(AllocError)
     }

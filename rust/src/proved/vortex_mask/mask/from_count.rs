@@ -10,7 +10,7 @@ use std::sync::Arc;
 impl Mask {
     // The mask of `len` values of which `true_count` are true, if these are none or all. No values are
     // all false.
-    #[inline]
+    #[inline(always)]
     pub(super) fn of_one_value(len: usize, true_count: usize) -> Option<Mask> {
         if true_count == 0 {
             return Some(Mask::AllFalse(len));
@@ -62,7 +62,7 @@ impl Mask {
     }
 
     // The mask of `len` values that is true exactly at these indices, which it caches.
-    #[inline]
+    #[inline(always)]
     pub(crate) fn of_indices(len: usize, indices: Vec<usize>) -> Result<Mask, MaskError> {
         let true_count = indices.len();
         if let Some(mask) = Mask::of_one_value(len, true_count) {

@@ -30,7 +30,7 @@ impl Mask {
     /// - *caches*: `IfOk result (λ m. caches m ≡ where_mixed m (only_indices (positions (truth m))))`
     /// - *refused*: `IfErr result (λ e. (e ≡ MaskError.Memory alloc_error) ⊎ ((xs : List ℕ) × Drains I.next_gives indices xs × (index_fault len xs ≡ Some e)))`
     /// - *refused_whole*: `IfErr result (λ e. (e ≡ MaskError.Memory alloc_error) ⊎ WholeRun I.next_gives indices (λ p. index_fault len p.items ≡ Some e))`
-    #[inline]
+    #[inline(always)]
     pub fn from_indices<I: IntoIterator<Item = usize>>(
         len: usize,
         indices: I,
@@ -41,7 +41,7 @@ impl Mask {
     }
 
     // The mask of `len` values that is true exactly at the indices of a list, or what is wrong with it.
-    #[inline]
+    #[inline(always)]
     fn of_list(len: usize, indices: Vec<usize>) -> Result<Mask, MaskError> {
         if let Some(fault) = index_fault(len, &indices) {
             return Err(fault);
@@ -51,7 +51,7 @@ impl Mask {
 }
 
 // Order over the whole list first, then repeats, then bounds.
-#[inline]
+#[inline(always)]
 fn index_fault(len: usize, indices: &[usize]) -> Option<MaskError> {
     // one quick scan tells that there is no fault, and the slower ones which it is
     if let Some(last) = indices.last() {
@@ -70,7 +70,7 @@ fn index_fault(len: usize, indices: &[usize]) -> Option<MaskError> {
 
 // Whether each index is above the one before it. With no early return, so that several are compared
 // at once.
-#[inline]
+#[inline(always)]
 fn ascends(indices: &[usize]) -> bool {
     let mut ascends = true;
     for at in 1..indices.len() {
@@ -80,7 +80,7 @@ fn ascends(indices: &[usize]) -> bool {
 }
 
 // The first place whose index is below the one before it.
-#[inline]
+#[inline(always)]
 fn first_unsorted(indices: &[usize]) -> Option<usize> {
     for at in 1..indices.len() {
         if indices[at] < indices[at - 1] {
@@ -91,7 +91,7 @@ fn first_unsorted(indices: &[usize]) -> Option<usize> {
 }
 
 // The first place whose index equals the one before it.
-#[inline]
+#[inline(always)]
 fn first_repeated(indices: &[usize]) -> Option<usize> {
     for at in 1..indices.len() {
         if indices[at] == indices[at - 1] {
@@ -102,7 +102,7 @@ fn first_repeated(indices: &[usize]) -> Option<usize> {
 }
 
 // The first index that is not below the length.
-#[inline]
+#[inline(always)]
 fn out_of_bounds(len: usize, indices: &[usize]) -> Option<MaskError> {
     for index in indices {
         if *index >= len {

@@ -38,7 +38,7 @@ impl Iterator for MaskBoolIter<'_> {
 }
 
 impl ExactSizeIterator for MaskBoolIter<'_> {
-    #[inline]
+    #[inline(always)]
     fn len(&self) -> usize {
         match self {
             MaskBoolIter::Repeat { remaining, .. } => *remaining,
@@ -55,7 +55,7 @@ impl Mask {
     /// - *list*: `values_left result ≡ truth self.now`
     /// - *in_order*: `YieldsInOrder (YieldsFirst values_left) values_left`
     /// - *fits*: `length (values_left result) < 2 ^ 64`
-    #[inline]
+    #[inline(always)]
     pub fn iter(&self) -> MaskBoolIter<'_> {
         if let Mask::Values(values) = self {
             return MaskBoolIter::Bits(values.bit_buffer().iter());

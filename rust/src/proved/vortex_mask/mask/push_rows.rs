@@ -13,6 +13,28 @@ pub fn choose_rows<const K: usize, T: Copy, R: Room<T>>(
     rows: &[T],
     chunks: &BitChunks<'_>,
 ) {
+    crate::kit::by_level!(
+        choose_rows_v3::<K, T, R>(out, rows, chunks),
+        choose_rows_any::<K, T, R>(out, rows, chunks)
+    )
+}
+
+#[cfg(target_arch = "x86_64")]
+#[target_feature(enable = "avx2,bmi1,bmi2,f16c,fma,lzcnt,movbe,popcnt")]
+fn choose_rows_v3<const K: usize, T: Copy, R: Room<T>>(
+    out: &mut R,
+    rows: &[T],
+    chunks: &BitChunks<'_>,
+) {
+    choose_rows_any::<K, T, R>(out, rows, chunks)
+}
+
+#[inline(always)]
+fn choose_rows_any<const K: usize, T: Copy, R: Room<T>>(
+    out: &mut R,
+    rows: &[T],
+    chunks: &BitChunks<'_>,
+) {
     let whole = chunks.len();
     for i in 0..whole {
         push_rows_of_word::<K, _, _>(out, &rows[64 * i..64 * i + 64], chunks.word_proved(i));

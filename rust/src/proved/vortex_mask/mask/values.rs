@@ -47,7 +47,7 @@ impl MaskValues {
     /// # Proved ([terms](crate::definitions))
     ///
     /// - `result ≡ length (values self.now.buffer)`
-    #[inline]
+    #[inline(always)]
     pub fn len(&self) -> usize {
         self.buffer.len()
     }
@@ -70,7 +70,7 @@ impl MaskValues {
     /// - *cached*: `result ≡ self.now.true_count`
     /// - *some_true*: `0 < result`
     /// - *some_false*: `result < length (values self.now.buffer)`
-    #[inline]
+    #[inline(always)]
     pub fn true_count(&self) -> usize {
         self.true_count
     }
@@ -81,7 +81,7 @@ impl MaskValues {
     ///
     /// - *buffer*: `result.now ≡ self.now.buffer`
     /// - *mixed*: `IsMixed result.now self.now.true_count`
-    #[inline]
+    #[inline(always)]
     pub fn bit_buffer(&self) -> &BitBuffer {
         &self.buffer
     }
@@ -129,7 +129,7 @@ impl MaskValues {
     ///
     /// - *cached*: `option_map (λ indices. indices.now) result ≡ self.now.caches.indices`
     /// - *whole*: `AreOf (values self.now.buffer) self.now.caches`
-    #[inline]
+    #[inline(always)]
     pub fn cached_indices(&self) -> Option<&[usize]> {
         self.indices.as_deref()
     }

@@ -31,6 +31,28 @@ pub fn narrow_by_bits<D: DepositBits>(
     ranks: &RankBits<'_>,
     out: &mut [u8],
 ) -> Steps {
+    crate::kit::by_level!(
+        narrow_by_bits_v3::<D>(chunks, ranks, out),
+        narrow_by_bits_any::<D>(chunks, ranks, out)
+    )
+}
+
+#[cfg(target_arch = "x86_64")]
+#[target_feature(enable = "avx2,bmi1,bmi2,f16c,fma,lzcnt,movbe,popcnt")]
+fn narrow_by_bits_v3<D: DepositBits>(
+    chunks: &BitChunks<'_>,
+    ranks: &RankBits<'_>,
+    out: &mut [u8],
+) -> Steps {
+    narrow_by_bits_any::<D>(chunks, ranks, out)
+}
+
+#[inline(always)]
+fn narrow_by_bits_any<D: DepositBits>(
+    chunks: &BitChunks<'_>,
+    ranks: &RankBits<'_>,
+    out: &mut [u8],
+) -> Steps {
     let inside = BitsInside { bytes: ranks.bytes(), offset: ranks.offset() };
     let mut done = Narrowed::new(ranks.offset());
     done.narrow_pairs::<D, _>(chunks, &inside, out);

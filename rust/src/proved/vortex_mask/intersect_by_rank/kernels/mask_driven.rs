@@ -13,6 +13,28 @@ pub fn intersect_mask_driven<S: SelectBit, I: Iterator<Item = usize>>(
     mask_indices: I,
     true_count: usize,
 ) -> Result<(Mask, Steps), MaskError> {
+    crate::kit::by_level!(
+        intersect_mask_driven_v3::<S, _>(self_buffer, mask_indices, true_count),
+        intersect_mask_driven_any::<S, _>(self_buffer, mask_indices, true_count)
+    )
+}
+
+#[cfg(target_arch = "x86_64")]
+#[target_feature(enable = "avx2,bmi1,bmi2,f16c,fma,lzcnt,movbe,popcnt")]
+fn intersect_mask_driven_v3<S: SelectBit, I: Iterator<Item = usize>>(
+    self_buffer: &BitBuffer,
+    mask_indices: I,
+    true_count: usize,
+) -> Result<(Mask, Steps), MaskError> {
+    intersect_mask_driven_any::<S, _>(self_buffer, mask_indices, true_count)
+}
+
+#[inline(always)]
+fn intersect_mask_driven_any<S: SelectBit, I: Iterator<Item = usize>>(
+    self_buffer: &BitBuffer,
+    mask_indices: I,
+    true_count: usize,
+) -> Result<(Mask, Steps), MaskError> {
     let (len, chunks) = (self_buffer.len(), self_buffer.chunks());
     let mut indices = Vec::with_room(true_count)?;
     let mut steps = Steps::new();

@@ -62,7 +62,7 @@ fn put_ranks(ranks: &[usize], next: usize, base: usize, block: &mut [u8]) -> usi
     }
 }
 
-#[inline]
+#[inline(always)]
 fn put_by_words(ranks: &[usize], next: usize, base: usize, block: &mut [u8]) -> usize {
     let mut next = next;
     let mut at = base;
@@ -75,7 +75,7 @@ fn put_by_words(ranks: &[usize], next: usize, base: usize, block: &mut [u8]) -> 
     next
 }
 
-#[inline]
+#[inline(always)]
 fn put_one_by_one(ranks: &[usize], next: usize, base: usize, block: &mut [u8]) -> usize {
     let mut next = next;
     while next < ranks.len() && ranks[next] - base < 4096 {
@@ -87,7 +87,7 @@ fn put_one_by_one(ranks: &[usize], next: usize, base: usize, block: &mut [u8]) -
 }
 
 // How many ranks are below `limit`, which none is from number `end` on.
-#[inline]
+#[inline(always)]
 fn ranks_below(ranks: &[usize], end: usize, limit: usize) -> usize {
     let mut below = end;
     while below > 0 && ranks[below - 1] >= limit {

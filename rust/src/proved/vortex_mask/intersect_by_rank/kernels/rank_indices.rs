@@ -30,6 +30,28 @@ pub fn narrow_at_ranks<D: DepositBits>(
     ranks: &[usize],
     out: &mut [u8],
 ) -> Steps {
+    crate::kit::by_level!(
+        narrow_at_ranks_v3::<D>(chunks, ranks, out),
+        narrow_at_ranks_any::<D>(chunks, ranks, out)
+    )
+}
+
+#[cfg(target_arch = "x86_64")]
+#[target_feature(enable = "avx2,bmi1,bmi2,f16c,fma,lzcnt,movbe,popcnt")]
+fn narrow_at_ranks_v3<D: DepositBits>(
+    chunks: &BitChunks<'_>,
+    ranks: &[usize],
+    out: &mut [u8],
+) -> Steps {
+    narrow_at_ranks_any::<D>(chunks, ranks, out)
+}
+
+#[inline(always)]
+fn narrow_at_ranks_any<D: DepositBits>(
+    chunks: &BitChunks<'_>,
+    ranks: &[usize],
+    out: &mut [u8],
+) -> Steps {
     if chunks.len() < SOME_WORDS || ranks.len() / RANKS_IN_A_WORD > chunks.len() {
         return narrow_by_list::<D>(chunks, ranks, out);
     }

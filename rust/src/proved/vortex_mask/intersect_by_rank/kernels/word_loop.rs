@@ -28,7 +28,7 @@ pub(super) struct Narrowed {
 
 impl Narrowed {
     // No words yet.
-    #[inline]
+    #[inline(always)]
     pub(super) fn new(at: usize) -> Narrowed {
         Narrowed { steps: Steps::new(), pairs: 0, at, next: 0 }
     }

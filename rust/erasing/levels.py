@@ -1,0 +1,129 @@
+"""Functions that are compiled for the processor that a program runs on, beside the one that it is compiled for."""
+import re
+
+# What x86-64-v3 has above plain x86-64, as far as loops gain by it.
+FEATURES = "avx2,bmi1,bmi2,f16c,fma,lzcnt,movbe,popcnt"
+# Loops over words and rows, by their crates.
+LEVELLED = {
+    "mask_bits": [
+        "BitBuffer::from_rows",
+        "BitBuffer::indices",
+        "BitBuffer::runs",
+        "BitChunks::select",
+        "combine",
+        "combine_in_place",
+        "count_bits",
+        "count_true",
+        "negate_in_place",
+        "none_true",
+        "put_bits",
+        "put_bools",
+        "put_chosen",
+    ],
+    "vortex_mask": ["choose_rows", "intersect_mask_driven", "narrow_at_ranks", "narrow_by_bits"],
+    "mask_c": [
+        "row_mask_counts_below",
+        "row_mask_from_indices",
+        "row_mask_next_indices",
+        "row_mask_rank_words",
+        "row_mask_words",
+    ],
+}
+# Functions that have a copy by the instruction PEXT.
+BY_PEXT = {"put_chosen", "put_pairs"}
+PEXT = [
+    (r"\bput_pairs\(", "put_pairs_by_pext("),
+    (r"\b(extract|extract_two)\(", r"crate::kit::processor::\1("),
+]
+
+
+def levelled(function, of, body):
+    """The body that goes to the function for the processor, and the functions that it goes to.
+
+    >>> from erasing.items import Function
+    >>> from erasing.tokens import Source
+    >>> source = Source("fn f(a: u8) {}")
+    >>> made, more = levelled(Function(source, 0, len(source.tokens) - 3), None, "{ g(a) }")
+    >>> made
+    '{ crate::kit::by_level!(f_v3(a), f_any(a)) }'
+    >>> print(more.strip())
+    #[cfg(target_arch = "x86_64")]
+    #[target_feature(enable = "avx2,bmi1,bmi2,f16c,fma,lzcnt,movbe,popcnt")]
+    fn f_v3(a: u8) { f_any(a) }
+    <BLANKLINE>
+    #[inline(always)]
+    fn f_any(a: u8) { g(a) }
+    """
+    v3, of_any = (f"{function.name}_{it}" for it in ("v3", "any"))
+    place = "Self" if of else None
+    calls = [function.call(it, place, []) for it in (v3, of_any)]
+    by_pext = function.call(f"{function.name}_by_pext", place, []) + ", " if function.name in BY_PEXT else ""
+    more = f"""
+
+#[cfg(target_arch = "x86_64")]
+#[target_feature(enable = "{FEATURES}")]
+{function.signature(v3, "")} {{ {calls[1]} }}
+
+#[inline(always)]
+{function.signature(of_any, "")} {body}
+"""
+    return f"{{ crate::kit::by_level!({by_pext}{calls[0]}, {calls[1]}) }}", more
+
+
+def by_pext(function, body, is_levelled):
+    """A copy of a function that takes bits by the instruction."""
+    for pattern, into in PEXT:
+        body = re.sub(pattern, into, body)
+    how = f'#[target_feature(enable = "{FEATURES}")]' if is_levelled else "#[inline(always)]"
+    return f"""
+
+#[cfg(target_arch = "x86_64")]
+{how}
+{function.signature(f"{function.name}_by_pext", "")} {body}
+"""
+
+
+FN = re.compile(r"\bfn (\w+)")
+
+
+def called(text):
+    """The names that each function of a text calls, by its name.
+
+    >>> sorted(called("fn f(a: u8) { g(a); a.h::<u8>() } fn g(a: u8) {}")["f"])
+    ['g', 'h']
+    """
+    found = {}
+    heads = list(FN.finditer(text))
+    for head, behind in zip(heads, [*heads[1:], None]):
+        body = text[head.end() : behind.start() if behind else len(text)]
+        names = set(re.findall(r"\b([a-z_]\w*)(?:::<[^()]*?>)?\(", body))
+        found.setdefault(head[1], set()).update(names)
+    return found
+
+
+def within(texts):
+    """The names of the functions that the levelled ones stand on, which are put into them always."""
+    calls = {}
+    for text in texts:
+        for name, names in called(text).items():
+            calls.setdefault(name, set()).update(names)
+    roots = {f"{it.rpartition('::')[2]}_any" for names in LEVELLED.values() for it in names}
+    found, left = set(), list(roots)
+    while left:
+        for name in calls.get(left.pop(), set()) - found:
+            if name in calls and f"{name}_any" not in calls:
+                found.add(name)
+                left.append(name)
+    return found
+
+
+def put_in(text, names, found):
+    """Has these functions inlined always."""
+    def always(match):
+        if match["name"] not in names:
+            return match[0]
+        found["inlining"][0] += 1
+        return match[0].replace("#[inline]", "#[inline(always)]", 1)
+
+    return re.sub(r"#\[inline\]\s*(?:///[^\n]*\n\s*)*(?:pub(?:\([^)]*\))? )?fn (?P<name>\w+)", always, text)
+

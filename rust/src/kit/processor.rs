@@ -1,0 +1,163 @@
+//! What the processor has that a program runs on, where it isn't compiled for that: x86-64-v3, and the instructions PDEP
+//! and PEXT where these are quick.
+
+use crate::proved::vortex_mask::intersect_by_rank as proved;
+#[cfg(target_arch = "x86_64")]
+pub(crate) use by_instruction::{Bmi2, extract, extract_two};
+
+/// Calls the function that is compiled for what the processor has: where PEXT is quick, for x86-64-v3, or for any.
+macro_rules! by_level {
+    ($by_pext:expr, $v3:expr, $any:expr) => {{
+        #[cfg(target_arch = "x86_64")]
+        if crate::kit::processor::has_quick_bits() {
+            // SAFETY: the processor has what it is compiled for.
+            return unsafe { $by_pext };
+        }
+        crate::kit::by_level!($v3, $any)
+    }};
+    ($v3:expr, $any:expr) => {{
+        #[cfg(target_arch = "x86_64")]
+        if crate::kit::processor::has_v3() {
+            // SAFETY: the processor has what it is compiled for.
+            return unsafe { $v3 };
+        }
+        $any
+    }};
+}
+pub(crate) use by_level;
+
+/// Deposits by PDEP where that is quick, and else as the sources do.
+macro_rules! quickest {
+    ($call:ident::<Portable $(, $more:tt)?>($($argument:expr),* $(,)?)) => {{
+        #[cfg(target_arch = "x86_64")]
+        let result = if crate::kit::processor::has_quick_bits() {
+            $call::<crate::kit::processor::Bmi2 $(, $more)?>($($argument),*)
+        } else {
+            $call::<Portable $(, $more)?>($($argument),*)
+        };
+        #[cfg(not(target_arch = "x86_64"))]
+        let result = $call::<Portable $(, $more)?>($($argument),*);
+        result
+    }};
+}
+pub(crate) use quickest;
+
+/// Whether deposits go by a loop over set places: only where the processor has no quick PDEP.
+#[inline]
+pub(crate) fn by_loop(len: usize, true_count: usize) -> bool {
+    !has_quick_bits() && proved::deposits_by_loop(len, true_count)
+}
+
+/// Whether the processor has x86-64-v3, where a program isn't compiled for that anyway.
+#[cfg(target_arch = "x86_64")]
+#[inline(always)]
+pub(crate) fn has_v3() -> bool {
+    cfg!(not(target_feature = "avx2")) && found::all() & found::V3 != 0
+}
+
+/// Whether the processor has PDEP and PEXT in a few cycles, and x86-64-v3.
+#[inline(always)]
+pub(crate) fn has_quick_bits() -> bool {
+    #[cfg(target_arch = "x86_64")]
+    return found::all() & found::QUICK_BITS != 0;
+    #[cfg(not(target_arch = "x86_64"))]
+    return false;
+}
+
+#[cfg(target_arch = "x86_64")]
+mod found {
+    use std::arch::x86_64::__cpuid;
+    use std::sync::atomic::{AtomicU8, Ordering::Relaxed};
+
+    const KNOWN: u8 = 1;
+    pub(super) const V3: u8 = 2;
+    pub(super) const QUICK_BITS: u8 = 4;
+
+    static FOUND: AtomicU8 = AtomicU8::new(0);
+
+    /// All that was found, by the bits above.
+    #[inline(always)]
+    pub(super) fn all() -> u8 {
+        match FOUND.load(Relaxed) {
+            0 => find(),
+            known => known,
+        }
+    }
+
+    #[cold]
+    #[inline(never)]
+    fn find() -> u8 {
+        let mut found = KNOWN;
+        if !cfg!(row_mask_one_level) && has_v3() {
+            found |= V3 | if is_before_zen_3() { 0 } else { QUICK_BITS };
+        }
+        FOUND.store(found, Relaxed);
+        found
+    }
+
+    fn has_v3() -> bool {
+        is_x86_feature_detected!("avx2")
+            && is_x86_feature_detected!("bmi1")
+            && is_x86_feature_detected!("bmi2")
+            && is_x86_feature_detected!("f16c")
+            && is_x86_feature_detected!("fma")
+            && is_x86_feature_detected!("lzcnt")
+            && is_x86_feature_detected!("movbe")
+            && is_x86_feature_detected!("popcnt")
+    }
+
+    // AMD's processors before Zen 3 take up to hundreds of cycles for PDEP and PEXT.
+    fn is_before_zen_3() -> bool {
+        // SAFETY: each processor of x86-64 answers.
+        #[allow(unused_unsafe, reason = "newer compilers ask for none")]
+        let (vendor, version) = unsafe { (__cpuid(0), __cpuid(1).eax) };
+        let (base, more) = (version >> 8 & 0xF, version >> 20 & 0xFF);
+        let family = if base == 0xF { base + more } else { base };
+        // (Hygon's are Zen of the first generation)
+        let is_amd = [*b"Auth", *b"Hygo"].map(u32::from_le_bytes).contains(&vendor.ebx);
+        is_amd && family < 0x19
+    }
+}
+
+#[cfg(target_arch = "x86_64")]
+mod by_instruction {
+    //! What the instructions give. Each is what the contracts of deposits, extractions and selections say, by the manual of
+    //! the processor. Nothing here runs unless `has_quick_bits` answers yes.
+
+    use crate::proved::vortex_mask::intersect_by_rank::{DepositBits, SelectBit};
+    use std::arch::x86_64::{_pdep_u64, _pext_u64};
+
+    /// Deposits and selections by PDEP.
+    pub(crate) struct Bmi2;
+
+    // SAFETY: PDEP puts bit number k of the source at set place number k of the mask, and zeros elsewhere.
+    unsafe impl DepositBits for Bmi2 {
+        #[inline(always)]
+        fn deposit_bits_proved(source: u64, mask: u64, _mask_count: usize) -> u64 {
+            // SAFETY: the processor has it, as is asked before this type is taken.
+            unsafe { _pdep_u64(source, mask) }
+        }
+    }
+
+    // SAFETY: of a word with bit number `rank` alone, PDEP makes one with the place of that set bit alone.
+    unsafe impl SelectBit for Bmi2 {
+        #[inline(always)]
+        fn select_bit_position_proved(word: u64, rank: usize) -> usize {
+            // SAFETY: as above.
+            unsafe { _pdep_u64(1 << rank, word) }.trailing_zeros() as usize
+        }
+    }
+
+    /// The bits at set places, by PEXT.
+    #[inline(always)]
+    pub(crate) fn extract(source: u64, mask: u64) -> u64 {
+        // SAFETY: the processor has it, as is asked before a function that calls this.
+        unsafe { _pext_u64(source, mask) }
+    }
+
+    /// The same of two words.
+    #[inline(always)]
+    pub(crate) fn extract_two(sources: [u64; 2], masks: [u64; 2]) -> [u64; 2] {
+        [extract(sources[0], masks[0]), extract(sources[1], masks[1])]
+    }
+}

@@ -1,0 +1,99 @@
+// Made of crates/mask_c/src/choose.rt by `rust/erase`: change that, and make this anew.
+//! The rows at the true values of a bitmap, by the size of a row.
+
+use crate::kit::prelude::*;
+use crate::proved::mask_bits::BitChunks;
+use crate::proved::mask_bits::room::Lent;
+use crate::proved::vortex_mask::choose_rows;
+
+/// A row of 16 bytes.
+#[derive(Clone, Copy)]
+#[repr(C)]
+pub struct RowMask16 {
+    pub first: u64,
+    pub second: u64,
+}
+
+/// Writes the rows at the true values, in their order, to the front of `out`, and answers how many
+/// they are. A row has 1 byte.
+///
+/// Asks that `rows_count == len`, and that `out_count` is at least the count of the true values.
+#[inline]
+pub fn row_mask_choose_1(
+    bytes: &[u8],
+    offset: usize,
+    len: usize,
+    rows: &[u8],
+    out: &mut [u8],
+) -> usize {
+    choose(bytes, offset, len, rows, out)
+}
+
+/// Writes the rows at the true values, in their order, to the front of `out`, and answers how many
+/// they are. A row has 2 bytes.
+///
+/// Asks that `rows_count == len`, and that `out_count` is at least the count of the true values.
+#[inline]
+pub fn row_mask_choose_2(
+    bytes: &[u8],
+    offset: usize,
+    len: usize,
+    rows: &[u16],
+    out: &mut [u16],
+) -> usize {
+    choose(bytes, offset, len, rows, out)
+}
+
+/// Writes the rows at the true values, in their order, to the front of `out`, and answers how many
+/// they are. A row has 4 bytes.
+///
+/// Asks that `rows_count == len`, and that `out_count` is at least the count of the true values.
+#[inline]
+pub fn row_mask_choose_4(
+    bytes: &[u8],
+    offset: usize,
+    len: usize,
+    rows: &[u32],
+    out: &mut [u32],
+) -> usize {
+    choose(bytes, offset, len, rows, out)
+}
+
+/// Writes the rows at the true values, in their order, to the front of `out`, and answers how many
+/// they are. A row has 8 bytes.
+///
+/// Asks that `rows_count == len`, and that `out_count` is at least the count of the true values.
+#[inline]
+pub fn row_mask_choose_8(
+    bytes: &[u8],
+    offset: usize,
+    len: usize,
+    rows: &[u64],
+    out: &mut [u64],
+) -> usize {
+    choose(bytes, offset, len, rows, out)
+}
+
+/// Writes the rows at the true values, in their order, to the front of `out`, and answers how many
+/// they are. A row has 16 bytes.
+///
+/// Asks that `rows_count == len`, and that `out_count` is at least the count of the true values.
+#[inline]
+pub fn row_mask_choose_16(
+    bytes: &[u8],
+    offset: usize,
+    len: usize,
+    rows: &[RowMask16],
+    out: &mut [RowMask16],
+) -> usize {
+    choose(bytes, offset, len, rows, out)
+}
+
+// The rows at the true values.
+#[inline]
+fn choose<T: Copy>(bytes: &[u8], offset: usize, len: usize, rows: &[T], out: &mut [T]) -> usize {
+    let chunks = BitChunks::new_proved(bytes, offset, len);
+    let mut room = Lent { out, at: 0 };
+    choose_rows::<0, _, _>(&mut room, rows, &chunks);
+    room.at
+}

@@ -1,0 +1,142 @@
+// Made of crates/mask_c/src/strings.rt by `rust/erase`: change that, and make this anew.
+//! The bytes of strings that are chosen.
+
+use crate::kit::prelude::*;
+use crate::proved::mask_bits::BitChunks;
+use crate::proved::mask_c::indices::indices_in_word;
+use crate::proved::mask_c::offsets::{Offset, offset_at};
+
+/// Writes the bytes of the strings at the true values, one string behind another, to the front of `out`, and
+/// answers how many these are. String `i` has the bytes from `offsets[i]` to `offsets[i + 1]`, and an offset
+/// has 4 bytes.
+///
+/// Asks that `offsets_count == len + 1`, that no offset is below the one before it and the last is at most
+/// `string_bytes_size`, and that `out_size` is at least what `row_mask_choose_offsets_4` answers.
+#[inline]
+pub fn row_mask_choose_bytes_4(
+    bytes: &[u8],
+    offset: usize,
+    len: usize,
+    offsets: &[u32],
+    string_bytes: &[u8],
+    out: &mut [u8],
+) -> usize {
+    let chunks = BitChunks::new_proved(bytes, offset, len);
+    choose_strings(&chunks, offsets, string_bytes, out)
+}
+
+/// Writes the bytes of the strings at the true values, one string behind another, to the front of `out`, and
+/// answers how many these are. String `i` has the bytes from `offsets[i]` to `offsets[i + 1]`, and an offset
+/// has 8 bytes.
+///
+/// Asks that `offsets_count == len + 1`, that no offset is below the one before it and the last is at most
+/// `string_bytes_size`, and that `out_size` is at least what `row_mask_choose_offsets_8` answers.
+#[inline]
+pub fn row_mask_choose_bytes_8(
+    bytes: &[u8],
+    offset: usize,
+    len: usize,
+    offsets: &[u64],
+    string_bytes: &[u8],
+    out: &mut [u8],
+) -> usize {
+    let chunks = BitChunks::new_proved(bytes, offset, len);
+    choose_strings(&chunks, offsets, string_bytes, out)
+}
+
+/// Writes the bytes of the strings at `indices`, in their order and one behind another, to the front of
+/// `out`, and answers how many these are. Indices may come in any order and more than once. String `i` has
+/// the bytes from `offsets[i]` to `offsets[i + 1]`, and an offset has 4 bytes.
+///
+/// Asks that each index is below `offsets_count - 1`, that no offset is below the one before it and the last
+/// is at most `string_bytes_size`, and that `out_size` is at least what `row_mask_take_offsets_4` answers.
+#[inline]
+pub fn row_mask_take_bytes_4(
+    indices: &[usize],
+    offsets: &[u32],
+    string_bytes: &[u8],
+    out: &mut [u8],
+) -> usize {
+    put_strings(indices, offsets, string_bytes, out, 0)
+}
+
+/// Writes the bytes of the strings at `indices`, in their order and one behind another, to the front of
+/// `out`, and answers how many these are. Indices may come in any order and more than once. String `i` has
+/// the bytes from `offsets[i]` to `offsets[i + 1]`, and an offset has 8 bytes.
+///
+/// Asks that each index is below `offsets_count - 1`, that no offset is below the one before it and the last
+/// is at most `string_bytes_size`, and that `out_size` is at least what `row_mask_take_offsets_8` answers.
+#[inline]
+pub fn row_mask_take_bytes_8(
+    indices: &[usize],
+    offsets: &[u64],
+    string_bytes: &[u8],
+    out: &mut [u8],
+) -> usize {
+    put_strings(indices, offsets, string_bytes, out, 0)
+}
+
+// The strings at the true values, word by word.
+#[inline]
+fn choose_strings<O: Offset>(
+    chunks: &BitChunks<'_>,
+    offsets: &[O],
+    string_bytes: &[u8],
+    out: &mut [u8],
+) -> usize {
+    let mut block = [0; 64];
+    let mut at = 0;
+    for i in 0..chunks.started_words() {
+        let some = indices_in_word(chunks, i, &mut block);
+        at = put_strings(&block[..some], offsets, string_bytes, out, at);
+    }
+    at
+}
+
+// Writes the strings at some indices behind the first `at` bytes, and answers how many bytes there are
+// then. Strings that are neighbors are copied at once.
+#[inline]
+fn put_strings<O: Offset>(
+    indices: &[usize],
+    offsets: &[O],
+    string_bytes: &[u8],
+    out: &mut [u8],
+    at: usize,
+) -> usize {
+    let (mut written, mut begin, mut end) = (at, 0, 0);
+    for k in 0..indices.len() {
+        let from = offset_at(offsets, indices[k]);
+        let to = offset_at(offsets, indices[k] + 1);
+        let part = part_before(string_bytes, begin, end, from, out, written);
+        begin = part.0;
+        written = part.1;
+        end = to;
+    }
+    put_part(string_bytes, begin, end, out, written)
+}
+
+// The part of the bytes from `begin` to `end` waits to be copied. It goes on if the next string begins
+// where it ends. Else it is copied, and a part begins there. Answers where the part begins that waits
+// then, and how many bytes are written.
+#[inline]
+fn part_before(
+    bytes: &[u8],
+    begin: usize,
+    end: usize,
+    next: usize,
+    out: &mut [u8],
+    at: usize,
+) -> (usize, usize) {
+    if next == end {
+        return (begin, at);
+    }
+    (next, put_part(bytes, begin, end, out, at))
+}
+
+// Writes a part of some bytes behind the first `at`, and answers how many there are then.
+#[inline]
+fn put_part(bytes: &[u8], begin: usize, end: usize, out: &mut [u8], at: usize) -> usize {
+    let written = at + (end - begin);
+    out[at..written].copy_from_slice(&bytes[begin..end]);
+    written
+}
