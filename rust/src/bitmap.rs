@@ -1,4 +1,5 @@
-use crate::declared;
+use crate::proved::mask_bits::BitChunks;
+use crate::proved::mask_c;
 use crate::{BitmapBuf, Error, Values};
 use std::ops::{Bound, Range, RangeBounds};
 
@@ -6,10 +7,6 @@ mod choose;
 mod choose_bits;
 mod combine;
 mod compare;
-#[cfg(target_arch = "x86_64")]
-mod deposit;
-#[cfg(target_arch = "x86_64")]
-mod extract;
 mod narrow;
 mod read;
 mod room;
@@ -17,7 +14,9 @@ mod text;
 
 pub(crate) use read::INDICES_OF_A_BLOCK;
 pub use room::Room;
-pub(crate) use room::{append_to, copy_to, front, init, list_of, room_for, take_first};
+pub(crate) use room::{
+    append_to, as_bytes, as_cells, copy_to, front, init, list_of, room_for, take_first,
+};
 pub(crate) use text::debug;
 
 /// A list of truth values, packed eight to a byte, that lies in borrowed bytes: value `i` is the bit
@@ -40,21 +39,12 @@ pub struct Bitmap<'a> {
     len: usize,
 }
 
-/// An exported function, with a bitmap as its first four arguments.
-// SAFETY of the calls by it: a bitmap is made by `new`, which tests that its bits are within the
-// bytes, by `slice`, which takes a part of them, and by `of_room`, whose bytes are room for the
-// values. So `row_mask_is_within` holds of each. The pointers and sizes passed are those of slices,
-// which are borrowed for the call, and what is written is borrowed by nothing else. What a function
-// asks beside that is tested or made so just above its call.
+/// A proved loop, with a bitmap as its first three arguments. What such a loop asks isn't tested again there: that the
+/// bits are within the bytes holds of each bitmap, since `new` tests it, `slice` takes a part of them, and the bytes of
+/// `of_room` are room for the values. What a loop asks beside that is tested or made so just above its call.
 macro_rules! call {
     ($function:ident($bitmap:expr $(, $more:expr)* $(,)?)) => {
-        $crate::declared::$function(
-            $bitmap.bytes.as_ptr(),
-            $bitmap.bytes.len(),
-            $bitmap.offset,
-            $bitmap.len
-            $(, $more)*
-        )
+        $crate::proved::mask_c::$function($bitmap.bytes, $bitmap.offset, $bitmap.len $(, $more)*)
     };
 }
 use call;
@@ -66,8 +56,7 @@ impl<'a> Bitmap<'a> {
     ///
     /// [`Error::OutOfBytes`] where they are not within the bytes.
     pub fn new(bytes: &'a [u8], offset: usize, len: usize) -> Result<Bitmap<'a>, Error> {
-        // SAFETY: this function asks nothing.
-        if unsafe { declared::row_mask_is_within(bytes.as_ptr(), bytes.len(), offset, len) } {
+        if mask_c::row_mask_is_within(bytes, offset, len) {
             return Ok(Bitmap { bytes, offset, len });
         }
         let bytes = bytes.len();
@@ -126,8 +115,7 @@ impl<'a> Bitmap<'a> {
     /// Value `i`, and `None` past the end.
     #[must_use]
     pub fn get(self, i: usize) -> Option<bool> {
-        // SAFETY: above; `i` is below the length.
-        (i < self.len).then(|| unsafe { call!(row_mask_value(self, i)) })
+        (i < self.len).then(|| call!(row_mask_value(self, i)))
     }
 
     /// The values of a range, in the same bytes.
@@ -144,6 +132,12 @@ impl<'a> Bitmap<'a> {
     /// [`Error::BadRange`] where it is no range of the values.
     pub fn slice(self, range: impl RangeBounds<usize>) -> Result<Bitmap<'a>, Error> {
         Ok(self.part(range_within(&range, self.len)?))
+    }
+
+    // The words of 64 values.
+    #[inline]
+    pub(crate) fn chunks(self) -> BitChunks<'a> {
+        BitChunks::new_proved(self.bytes, self.offset, self.len)
     }
 
     // The bytes from the one that value 0 is in on.

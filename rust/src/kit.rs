@@ -11,8 +11,8 @@ mod text;
 pub(crate) mod words;
 
 pub use bytes::{Bytes, BytesMut};
-pub(crate) use processor::{by_level, quickest};
 pub use list::{Collect, CowSlice, List, ToList, filled};
+pub(crate) use processor::{by_level, quickest};
 pub use shared::{TryClone, boxed, shared};
 pub use text::{Text, TryToString, formatted};
 

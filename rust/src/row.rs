@@ -5,9 +5,6 @@ use std::mem::MaybeUninit;
 /// A value that [`Bitmap::choose`](crate::Bitmap::choose) and [`Selection::choose`](crate::Selection::choose) copy: a
 /// number, a `bool`, a `char`, an array of these, and what a caller says is one.
 ///
-/// A [`Bitmap`](crate::Bitmap) copies rows of 1, 2, 4, 8 and 16 bytes by the proved loops, if they lie at places for
-/// numbers of that size (those of 16 bytes at places for numbers of 8), and all others one by one.
-///
 /// ```
 /// use row_mask::{Bitmap, Row};
 ///
@@ -38,27 +35,6 @@ rows!(u8, i8, bool, u16, i16, u32, i32, f32, char, u64, i64, f64, usize, isize, 
 
 // SAFETY: nothing lies between the items of an array.
 unsafe impl<T: Row, const N: usize> Row for [T; N] {}
-
-/// As what a row crosses to the library: an item of its size, that asks no more of its place.
-pub(crate) enum Item {
-    Of1,
-    Of2,
-    Of4,
-    Of8,
-    Of16,
-    None,
-}
-
-pub(crate) const fn item_of<T>() -> Item {
-    match (size_of::<T>(), align_of::<T>()) {
-        (1, _) => Item::Of1,
-        (2, 2..) => Item::Of2,
-        (4, 4..) => Item::Of4,
-        (8, 8..) => Item::Of8,
-        (16, 8..) => Item::Of16,
-        _ => Item::None,
-    }
-}
 
 /// Writes the rows at indices.
 ///

@@ -1,10 +1,11 @@
 //! Values of any length, as strings: their bytes one after another, and where each begins.
 
 use crate::Error;
-use crate::bitmap::range_within;
-use crate::declared::{row_mask_take_bytes_4, row_mask_take_bytes_8};
+use crate::bitmap::{as_bytes, range_within};
+use crate::proved::mask_c::{row_mask_take_bytes_4, row_mask_take_bytes_8};
 use std::mem::MaybeUninit;
 use std::ops::{Range, RangeBounds};
+use std::slice;
 
 /// Where a value begins in the bytes of a column: 4 or 8 bytes, as Arrow has them.
 pub trait Offset:
@@ -41,20 +42,11 @@ macro_rules! offsets {
                 bytes: &[u8],
                 out: &mut [MaybeUninit<u8>],
             ) -> usize {
-                // SAFETY: the pointers and sizes are those of slices, which are borrowed for the call,
-                // an offset that isn't negative has the same bytes as one of its size without a sign,
-                // and the rest is what this function asks.
+                // SAFETY: an offset that isn't negative has the same bytes as one of its size without a sign, and as
+                // many bytes are written as are answered.
                 unsafe {
-                    $take_bytes(
-                        indices.as_ptr(),
-                        indices.len(),
-                        offsets.as_ptr().cast::<$item>(),
-                        offsets.len(),
-                        bytes.as_ptr(),
-                        bytes.len(),
-                        out.as_mut_ptr().cast(),
-                        out.len(),
-                    )
+                    let offsets = slice::from_raw_parts(offsets.as_ptr().cast::<$item>(), offsets.len());
+                    $take_bytes(indices, offsets, bytes, as_bytes(out))
                 }
             }
         }

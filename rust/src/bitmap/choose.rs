@@ -1,8 +1,8 @@
 //! Rows chosen at the true values.
 
-use super::{append_to, call, front, take_first};
-use crate::declared::RowMask16;
-use crate::row::{self, Item};
+use super::{append_to, as_cells, front};
+use crate::proved::mask_bits::room::Lent;
+use crate::proved::vortex_mask::choose_rows;
 use crate::{Bitmap, Error, Row};
 use std::mem::MaybeUninit;
 
@@ -65,42 +65,8 @@ impl Bitmap<'_> {
         Err(Error::RowsDiffer { rows: rows.len(), len: self.len })
     }
 
-    // SAFETY of a call: there is a row for each value, and just as many places as values are true. Each is
-    // written.
-    unsafe fn choose_to<T: Row>(self, rows: &[T], out: &mut [MaybeUninit<T>]) {
-        macro_rules! by {
-            ($choose:ident, $item:ty) => {
-                // SAFETY: as `call` says; rows are read and written as items of their size and place, each byte of
-                // them was written, each written one is a copy of a row, and the rest is asked here.
-                unsafe {
-                    call!($choose(
-                        self,
-                        rows.as_ptr().cast::<$item>(),
-                        rows.len(),
-                        out.as_mut_ptr().cast::<$item>(),
-                        out.len(),
-                    ));
-                }
-            };
-        }
-        match row::item_of::<T>() {
-            Item::Of1 => by!(row_mask_choose_1, u8),
-            Item::Of2 => by!(row_mask_choose_2, u16),
-            Item::Of4 => by!(row_mask_choose_4, u32),
-            Item::Of8 => by!(row_mask_choose_8, u64),
-            Item::Of16 => by!(row_mask_choose_16, RowMask16),
-            // SAFETY: as is asked here.
-            Item::None => unsafe { self.choose_by_indices(rows, out) },
-        }
-    }
-
-    // SAFETY of a call: as above.
-    unsafe fn choose_by_indices<T: Row>(self, rows: &[T], out: &mut [MaybeUninit<T>]) {
-        let mut left = out;
-        self.by_blocks(|block| {
-            let places = take_first(&mut left, block.len());
-            // SAFETY: the indices are those of true values, and there is a row for each value.
-            unsafe { row::take(block.iter().copied(), rows, places) };
-        });
+    // Writes each place. There is a row for each value, and just as many places as values are true.
+    fn choose_to<T: Row>(self, rows: &[T], out: &mut [MaybeUninit<T>]) {
+        choose_rows::<0, _, _>(&mut Lent { out, at: 0 }, as_cells(rows), &self.chunks());
     }
 }

@@ -1,13 +1,11 @@
 //! Bitmaps combined value by value.
 
-use super::call;
 use super::room::Room;
-use crate::{Bitmap, BitmapBuf, Error, declared};
+use super::{as_bytes, call};
+use crate::proved::mask_c;
+use crate::{Bitmap, BitmapBuf, Error};
 use std::mem::MaybeUninit;
 use std::ops::Not;
-
-type Combine =
-    unsafe extern "C" fn(*const u8, usize, usize, *const u8, usize, usize, usize, *mut u8, usize);
 
 impl Bitmap<'_> {
     /// The values that are true in both.
@@ -16,7 +14,7 @@ impl Bitmap<'_> {
     ///
     /// [`Error::LengthsDiffer`], and [`Error::OutOfMemory`].
     pub fn and(self, other: Bitmap<'_>) -> Result<BitmapBuf, Error> {
-        self.combined(other, declared::row_mask_and)
+        self.combined(other, mask_c::row_mask_and)
     }
 
     /// The values that are true in both, written into `out`.
@@ -25,7 +23,7 @@ impl Bitmap<'_> {
     ///
     /// [`Error::LengthsDiffer`], and the refusals of [`Room`].
     pub fn and_into(self, other: Bitmap<'_>, out: &mut (impl Room + ?Sized)) -> Result<(), Error> {
-        self.combined_into(other, declared::row_mask_and, out)
+        self.combined_into(other, mask_c::row_mask_and, out)
     }
 
     /// The values that are true in one or in both.
@@ -34,7 +32,7 @@ impl Bitmap<'_> {
     ///
     /// [`Error::LengthsDiffer`], and [`Error::OutOfMemory`].
     pub fn or(self, other: Bitmap<'_>) -> Result<BitmapBuf, Error> {
-        self.combined(other, declared::row_mask_or)
+        self.combined(other, mask_c::row_mask_or)
     }
 
     /// The values that are true in one or in both, written into `out`.
@@ -43,7 +41,7 @@ impl Bitmap<'_> {
     ///
     /// [`Error::LengthsDiffer`], and the refusals of [`Room`].
     pub fn or_into(self, other: Bitmap<'_>, out: &mut (impl Room + ?Sized)) -> Result<(), Error> {
-        self.combined_into(other, declared::row_mask_or, out)
+        self.combined_into(other, mask_c::row_mask_or, out)
     }
 
     /// The values that are true here and not in `other`.
@@ -52,7 +50,7 @@ impl Bitmap<'_> {
     ///
     /// [`Error::LengthsDiffer`], and [`Error::OutOfMemory`].
     pub fn and_not(self, other: Bitmap<'_>) -> Result<BitmapBuf, Error> {
-        self.combined(other, declared::row_mask_and_not)
+        self.combined(other, mask_c::row_mask_and_not)
     }
 
     /// The values that are true here and not in `other`, written into `out`.
@@ -65,7 +63,7 @@ impl Bitmap<'_> {
         other: Bitmap<'_>,
         out: &mut (impl Room + ?Sized),
     ) -> Result<(), Error> {
-        self.combined_into(other, declared::row_mask_and_not, out)
+        self.combined_into(other, mask_c::row_mask_and_not, out)
     }
 
     /// The values that are true in one and not in the other.
@@ -74,7 +72,7 @@ impl Bitmap<'_> {
     ///
     /// [`Error::LengthsDiffer`], and [`Error::OutOfMemory`].
     pub fn xor(self, other: Bitmap<'_>) -> Result<BitmapBuf, Error> {
-        self.combined(other, declared::row_mask_xor)
+        self.combined(other, mask_c::row_mask_xor)
     }
 
     /// The values that are true in one and not in the other, written into `out`.
@@ -83,7 +81,7 @@ impl Bitmap<'_> {
     ///
     /// [`Error::LengthsDiffer`], and the refusals of [`Room`].
     pub fn xor_into(self, other: Bitmap<'_>, out: &mut (impl Room + ?Sized)) -> Result<(), Error> {
-        self.combined_into(other, declared::row_mask_xor, out)
+        self.combined_into(other, mask_c::row_mask_xor, out)
     }
 
     /// Each value negated, written into `out`.
@@ -98,8 +96,8 @@ impl Bitmap<'_> {
 
     // Writes the bytes of the values negated, to room for just them.
     fn not_to(self, out: &mut [MaybeUninit<u8>]) {
-        // SAFETY: as `call` says; `out` is room for the length.
-        unsafe { call!(row_mask_not(self, out.as_mut_ptr().cast(), out.len())) }
+        // SAFETY: it writes each byte.
+        call!(row_mask_not(self, unsafe { as_bytes(out) }));
     }
 
     /// The same values, written into `out`.
@@ -122,11 +120,11 @@ impl Bitmap<'_> {
     // Writes the bytes of the values to the front of room for them.
     pub(crate) fn copy_to(self, out: &mut [MaybeUninit<u8>]) {
         debug_assert!(out.len() >= self.len.div_ceil(8));
-        // SAFETY: as `call` says; `out` is room for the length.
-        unsafe { call!(row_mask_copy(self, out.as_mut_ptr().cast(), out.len())) }
+        // SAFETY: it writes each byte.
+        call!(row_mask_copy(self, unsafe { as_bytes(out) }));
     }
 
-    fn combined(self, other: Bitmap<'_>, combine: Combine) -> Result<BitmapBuf, Error> {
+    fn combined(self, other: Bitmap<'_>, combine: impl Combine) -> Result<BitmapBuf, Error> {
         let mut out = BitmapBuf::default();
         self.combined_into(other, combine, &mut out)?;
         Ok(out)
@@ -135,29 +133,24 @@ impl Bitmap<'_> {
     fn combined_into(
         self,
         other: Bitmap<'_>,
-        combine: Combine,
+        combine: impl Combine,
         out: &mut (impl Room + ?Sized),
     ) -> Result<(), Error> {
         self.of_length_of(other)?;
-        // SAFETY: as `call` says; both have the length, and `out` is room for it, of which each byte
-        // is written.
+        let (a, b, len) = (self, other, self.len);
+        // SAFETY: it writes each byte.
         unsafe {
-            out.write(self.len, |out| {
-                combine(
-                    self.bytes.as_ptr(),
-                    self.bytes.len(),
-                    self.offset,
-                    other.bytes.as_ptr(),
-                    other.bytes.len(),
-                    other.offset,
-                    self.len,
-                    out.as_mut_ptr().cast(),
-                    out.len(),
-                );
+            out.write(len, |out| {
+                combine(a.bytes, a.offset, b.bytes, b.offset, len, as_bytes(out));
             })
         }
     }
 }
+
+/// A proved loop over two bitmaps of one length.
+trait Combine: FnOnce(&[u8], usize, &[u8], usize, usize, &mut [u8]) {}
+
+impl<F: FnOnce(&[u8], usize, &[u8], usize, usize, &mut [u8])> Combine for F {}
 
 /// Each value negated, in bytes of their own.
 impl Not for Bitmap<'_> {

@@ -1,9 +1,7 @@
 //! Two bitmaps of one length beside each other.
 
-use crate::{Bitmap, BitmapBuf, Error, declared};
-
-type Compare<T> =
-    unsafe extern "C" fn(*const u8, usize, usize, *const u8, usize, usize, usize) -> T;
+use crate::proved::mask_c;
+use crate::{Bitmap, BitmapBuf, Error};
 
 impl<'a> Bitmap<'a> {
     /// How many values are true in both.
@@ -12,7 +10,7 @@ impl<'a> Bitmap<'a> {
     ///
     /// [`Error::LengthsDiffer`].
     pub fn and_count(self, other: Bitmap<'_>) -> Result<usize, Error> {
-        self.compared(other, declared::row_mask_and_count)
+        self.compared(other, mask_c::row_mask_and_count)
     }
 
     /// Whether some value is true in both.
@@ -21,7 +19,7 @@ impl<'a> Bitmap<'a> {
     ///
     /// [`Error::LengthsDiffer`].
     pub fn intersects(self, other: Bitmap<'_>) -> Result<bool, Error> {
-        self.compared(other, declared::row_mask_intersects)
+        self.compared(other, mask_c::row_mask_intersects)
     }
 
     /// Whether each true value of this one is true in `other`.
@@ -38,23 +36,16 @@ impl<'a> Bitmap<'a> {
     ///
     /// [`Error::LengthsDiffer`].
     pub fn is_subset(self, other: Bitmap<'_>) -> Result<bool, Error> {
-        self.compared(other, declared::row_mask_is_subset)
+        self.compared(other, mask_c::row_mask_is_subset)
     }
 
-    fn compared<T>(self, other: Bitmap<'_>, compare: Compare<T>) -> Result<T, Error> {
+    fn compared<T>(
+        self,
+        other: Bitmap<'_>,
+        compare: impl FnOnce(&[u8], usize, &[u8], usize, usize) -> T,
+    ) -> Result<T, Error> {
         self.of_length_of(other)?;
-        // SAFETY: as `call` says; both have the one length.
-        Ok(unsafe {
-            compare(
-                self.bytes.as_ptr(),
-                self.bytes.len(),
-                self.offset,
-                other.bytes.as_ptr(),
-                other.bytes.len(),
-                other.offset,
-                self.len,
-            )
-        })
+        Ok(compare(self.bytes, self.offset, other.bytes, other.offset, self.len))
     }
 
     // The bytes that have eight values each, where they have them all in whole.
@@ -85,7 +76,7 @@ impl PartialEq<Bitmap<'_>> for Bitmap<'_> {
         let rest = whole..self.len;
         let (first, second) = (self.part(rest.clone()), other.part(rest));
         left == right
-            && (first.is_empty() || first.compared(second, declared::row_mask_equal) == Ok(true))
+            && (first.is_empty() || first.compared(second, mask_c::row_mask_equal) == Ok(true))
     }
 }
 

@@ -1,18 +1,14 @@
 //! Rank intersection: a bitmap narrowed by another over its true values.
 
-use super::call;
-#[cfg(target_arch = "x86_64")]
-use super::deposit;
 use super::room::Room;
+use super::{as_bytes, call};
 use crate::{Bitmap, BitmapBuf, Error};
-use std::mem::MaybeUninit;
 
 impl Bitmap<'_> {
     /// The bitmap narrowed by another over its true values: true value number `k` stays true exactly
     /// where value `k` of `ranks` is true.
     ///
-    /// Where the processor has the instruction `pdep`, and in a few cycles, that deposits the words which
-    /// the library gives. Elsewhere the library does all.
+    /// Where the processor has the instruction `pdep`, and in a few cycles, that deposits the words.
     ///
     /// # Errors
     ///
@@ -38,35 +34,12 @@ impl Bitmap<'_> {
         if ranks.len != count {
             return Err(Error::RanksDiffer { ranks: ranks.len, count });
         }
+        let (bits, offset) = (ranks.bytes, ranks.offset);
         // SAFETY: it writes each byte.
-        unsafe { out.write(self.len, |out| self.narrow(ranks, out)) }
-    }
-
-    // (of ranks as many as true values, to just the bytes that the values take)
-    fn narrow(self, ranks: Bitmap<'_>, out: &mut [MaybeUninit<u8>]) {
-        // (where all values are true, the library copies the ranks)
-        #[cfg(target_arch = "x86_64")]
-        if ranks.len < self.len && deposit::is_quick() {
-            // SAFETY: the processor has `pdep`, and the rest is so of each call.
-            unsafe { self.narrow_by_pdep(ranks, out) };
-            return;
-        }
-        self.narrow_by_library(ranks, out);
-    }
-
-    fn narrow_by_library(self, ranks: Bitmap<'_>, out: &mut [MaybeUninit<u8>]) {
-        // SAFETY: as `call` says; there is one rank for each true value, and `out` is room for the
-        // length.
         unsafe {
-            call!(row_mask_intersect_by_rank(
-                self,
-                ranks.bytes.as_ptr(),
-                ranks.bytes.len(),
-                ranks.offset,
-                ranks.len,
-                out.as_mut_ptr().cast(),
-                out.len(),
-            ));
+            out.write(self.len, |out| {
+                call!(row_mask_intersect_by_rank(self, bits, offset, count, as_bytes(out)));
+            })
         }
     }
 
@@ -107,36 +80,11 @@ impl Bitmap<'_> {
         if let Some(&rank) = ranks.last().filter(|rank| **rank >= count) {
             return Err(Error::RankOutOfBounds { rank, count });
         }
-        let (ranks, ranks_count) = (ranks.as_ptr(), ranks.len());
-        // SAFETY: as `call` says; the ranks ascend and their last is below the count, so all are,
-        // and `out` is room for the length, of which each byte is written.
+        // SAFETY: the ranks ascend and their last is below the count, so all are; it writes each byte.
         unsafe {
             out.write(self.len, |out| {
-                let (out, size) = (out.as_mut_ptr().cast(), out.len());
-                call!(row_mask_intersect_at_ranks(self, ranks, ranks_count, out, size));
+                call!(row_mask_intersect_at_ranks(self, ranks, as_bytes(out)));
             })
-        }
-    }
-}
-
-#[cfg(test)]
-mod tests {
-    use crate::BitmapBuf;
-
-    /// A processor with a quick `pdep` and one without give the same.
-    #[test]
-    fn both_ways_agree() {
-        for len in [0, 1, 63, 64, 65, 1000, 8191, 8192, 8193, 20_000] {
-            for share in [1, 3, 7] {
-                let rows = BitmapBuf::from_fn(len, |i| i * i % 7 < share);
-                let count = rows.as_bitmap().count();
-                let ranks = BitmapBuf::from_fn(count, |k| k * k % 5 < 2);
-                let (rows, ranks) = (rows.as_bitmap(), ranks.as_bitmap());
-                // SAFETY: it writes each byte.
-                let narrowed =
-                    unsafe { BitmapBuf::made(len, |out| rows.narrow_by_library(ranks, out)) };
-                assert_eq!(rows.intersect_by_rank(ranks), Ok(narrowed));
-            }
         }
     }
 }

@@ -1,8 +1,8 @@
 //! Counts, indices and runs of a bitmap, and its words.
 
-use super::{call, front, list_of, range_within};
+use super::room::{first_of, room_of};
+use super::{call, range_within};
 use crate::{Bitmap, Error, Indices, Runs, Values};
-use std::mem::MaybeUninit;
 use std::ops::{Range, RangeBounds};
 
 pub(crate) const INDICES_OF_A_BLOCK: usize = 256;
@@ -11,8 +11,7 @@ impl<'a> Bitmap<'a> {
     /// How many values are true.
     #[must_use]
     pub fn count(self) -> usize {
-        // SAFETY: as `call` says.
-        unsafe { call!(row_mask_count(self)) }
+        call!(row_mask_count(self))
     }
 
     /// How many of the values of a range are true.
@@ -22,8 +21,7 @@ impl<'a> Bitmap<'a> {
     /// [`Error::BadRange`] where it is no range of the values.
     pub fn count_range(self, range: impl RangeBounds<usize>) -> Result<usize, Error> {
         let Range { start, end } = range_within(&range, self.len)?;
-        // SAFETY: as `call` says; the range was tested.
-        Ok(unsafe { call!(row_mask_count_range(self, start, end)) })
+        Ok(call!(row_mask_count_range(self, start, end)))
     }
 
     /// Whether some value is true.
@@ -53,8 +51,10 @@ impl<'a> Bitmap<'a> {
     /// [`Error::IndexOutOfBounds`] where one is above the length, and [`Error::OutOfMemory`].
     pub fn counts_below(self, indices: &[usize]) -> Result<Vec<usize>, Error> {
         self.are_ends(indices)?;
-        // SAFETY: the indices were tested, and there is a place for each.
-        unsafe { list_of(indices.len(), |out| self.counts_below_to(indices, out)) }
+        let mut counts = room_of(indices.len())?;
+        counts.resize(indices.len(), 0);
+        call!(row_mask_counts_below(self, indices, &mut counts));
+        Ok(counts)
     }
 
     /// As [`counts_below`](Bitmap::counts_below), to the front of `out`.
@@ -65,8 +65,7 @@ impl<'a> Bitmap<'a> {
     /// where `out` has fewer items than there are indices.
     pub fn counts_below_into(self, indices: &[usize], out: &mut [usize]) -> Result<(), Error> {
         self.are_ends(indices)?;
-        // SAFETY: as above; numbers are written.
-        unsafe { self.counts_below_to(indices, front(out, indices.len())?) };
+        call!(row_mask_counts_below(self, indices, first_of(out, indices.len())?));
         Ok(())
     }
 
@@ -81,35 +80,23 @@ impl<'a> Bitmap<'a> {
         Ok(())
     }
 
-    // SAFETY of a call: the indices ascend and are at most the length, and there is a place for each, which
-    // is written.
-    unsafe fn counts_below_to(self, indices: &[usize], out: &mut [MaybeUninit<usize>]) {
-        let (indices, count) = (indices.as_ptr(), indices.len());
-        let (out, out_count) = (out.as_mut_ptr().cast(), out.len());
-        // SAFETY: as `call` says, and as is asked here.
-        unsafe { call!(row_mask_counts_below(self, indices, count, out, out_count)) }
-    }
-
     /// The index of true value number `n`, counted from 0.
     #[must_use]
     pub fn select(self, n: usize) -> Option<usize> {
-        // SAFETY: as `call` says.
-        self.inside(unsafe { call!(row_mask_select(self, n)) })
+        self.inside(call!(row_mask_select(self, n)))
     }
 
     /// The first index from `from` on whose value is true.
     #[must_use]
     pub fn next_index(self, from: usize) -> Option<usize> {
-        // SAFETY: as `call` says.
-        self.inside(unsafe { call!(row_mask_next_index(self, from)) })
+        self.inside(call!(row_mask_next_index(self, from)))
     }
 
     /// Writes the indices of the true values from `from` on to the front of `out`, as many as there
     /// are or as it takes, and answers how many these are. Behind them `out` may have other numbers
     /// than before.
     pub fn next_indices(self, from: usize, out: &mut [usize]) -> usize {
-        // SAFETY: as `call` says.
-        unsafe { call!(row_mask_next_indices(self, from, out.as_mut_ptr(), out.len())) }
+        call!(row_mask_next_indices(self, from, out))
     }
 
     // Calls a function with the indices of the true values, block after block of them, in the nearest memory.
@@ -137,15 +124,13 @@ impl<'a> Bitmap<'a> {
     /// The index of the last true value.
     #[must_use]
     pub fn last_index(self) -> Option<usize> {
-        // SAFETY: as `call` says.
-        self.inside(unsafe { call!(row_mask_last_index(self)) })
+        self.inside(call!(row_mask_last_index(self)))
     }
 
     /// The first run of true values from `from` on. A run that `from` is inside begins there.
     #[must_use]
     pub fn next_run(self, from: usize) -> Option<Range<usize>> {
-        // SAFETY: as `call` says.
-        let run = unsafe { call!(row_mask_next_run(self, from)) };
+        let run = call!(row_mask_next_run(self, from));
         (run.start < self.len).then_some(run.start..run.end)
     }
 
@@ -162,8 +147,7 @@ impl<'a> Bitmap<'a> {
     /// # Ok::<(), row_mask::Error>(())
     /// ```
     pub fn next_words(self, from: usize, out: &mut [u64]) -> usize {
-        // SAFETY: as `call` says.
-        unsafe { call!(row_mask_words(self, from, out.as_mut_ptr(), out.len())) }
+        call!(row_mask_words(self, from, out))
     }
 
     /// All words of 64 values, as [`next_words`](Bitmap::next_words) has them.

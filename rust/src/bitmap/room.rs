@@ -1,7 +1,7 @@
 //! What a bitmap can be written into.
 
 use crate::buf::pack_values;
-use crate::{BitmapBuf, Error, declared};
+use crate::{BitmapBuf, Error};
 use std::mem::MaybeUninit;
 use std::slice;
 
@@ -95,6 +95,20 @@ impl sealed::Room for [u8] {
     }
 }
 
+/// Room for `count` items.
+pub(crate) fn room_of<T>(count: usize) -> Result<Vec<T>, Error> {
+    let mut list = Vec::new();
+    let refused = Error::OutOfMemory { bytes: count.saturating_mul(size_of::<T>()) };
+    list.try_reserve_exact(count).map_err(|_| refused)?;
+    Ok(list)
+}
+
+/// The first `needed` items.
+pub(crate) fn first_of<T>(out: &mut [T], needed: usize) -> Result<&mut [T], Error> {
+    let room = out.len();
+    out.get_mut(..needed).ok_or(Error::RoomTooSmall { room, needed })
+}
+
 /// A list of `count` items, which are written by what gets their places.
 ///
 /// # Safety
@@ -104,9 +118,7 @@ pub(crate) unsafe fn list_of<T>(
     count: usize,
     fill: impl FnOnce(&mut [MaybeUninit<T>]),
 ) -> Result<Vec<T>, Error> {
-    let mut list = Vec::new();
-    let refused = Error::OutOfMemory { bytes: count.saturating_mul(size_of::<T>()) };
-    list.try_reserve_exact(count).map_err(|_| refused)?;
+    let mut list = room_of(count)?;
     // SAFETY: this is what is asked here too.
     unsafe { append_to(&mut list, count, fill)? };
     Ok(list)
@@ -140,8 +152,7 @@ pub(crate) unsafe fn front<T: Copy>(
     out: &mut [T],
     needed: usize,
 ) -> Result<&mut [MaybeUninit<T>], Error> {
-    let room = out.len();
-    let out = out.get_mut(..needed).ok_or(Error::RoomTooSmall { room, needed })?;
+    let out = first_of(out, needed)?;
     // SAFETY: it is the same borrowed slice, and the rest is asked here.
     Ok(unsafe { slice::from_raw_parts_mut(out.as_mut_ptr().cast(), out.len()) })
 }
@@ -160,6 +171,22 @@ pub(crate) fn copy_to<T: Copy>(items: &[T], out: &mut [MaybeUninit<T>]) {
     unsafe { out.as_mut_ptr().cast::<T>().copy_from_nonoverlapping(items.as_ptr(), count) };
 }
 
+/// Items as cells that may be written or not, for loops that copy from them.
+pub(crate) fn as_cells<T>(items: &[T]) -> &[MaybeUninit<T>] {
+    // SAFETY: it is the same slice, and each of its cells is written.
+    unsafe { slice::from_raw_parts(items.as_ptr().cast(), items.len()) }
+}
+
+/// The same bytes, for a proved loop that writes each of them and reads none before.
+///
+/// # Safety
+///
+/// Each byte is written before it is read.
+pub(crate) unsafe fn as_bytes(out: &mut [MaybeUninit<u8>]) -> &mut [u8] {
+    // SAFETY: it is the same borrowed slice, any byte is a value, and the rest is asked here.
+    unsafe { slice::from_raw_parts_mut(out.as_mut_ptr().cast(), out.len()) }
+}
+
 /// The same bytes, all of them written.
 pub(crate) fn init(out: &mut [MaybeUninit<u8>]) -> &mut [u8] {
     out.fill(MaybeUninit::new(0));
@@ -169,6 +196,5 @@ pub(crate) fn init(out: &mut [MaybeUninit<u8>]) -> &mut [u8] {
 
 /// How many bytes so many values take.
 pub(crate) fn room_for(len: usize) -> usize {
-    // SAFETY: this function asks nothing.
-    unsafe { declared::row_mask_room(len) }
+    len.div_ceil(8)
 }

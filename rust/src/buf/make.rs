@@ -1,9 +1,9 @@
 //! What a bitmap of its own bytes is made of.
 
-use super::change::{append, fill};
 use super::pack::{AHEAD, pack, pack_fn};
-use crate::bitmap::{Room, init, range_within, room_for};
-use crate::{Bitmap, BitmapBuf, Error, declared};
+use crate::bitmap::{Room, as_bytes, init, range_within, room_for};
+use crate::proved::mask_c::{row_mask_append, row_mask_fill_range, row_mask_from_indices};
+use crate::{Bitmap, BitmapBuf, Error};
 use std::alloc::{Layout, alloc_zeroed};
 use std::mem::MaybeUninit;
 use std::ops::Range;
@@ -103,8 +103,7 @@ impl BitmapBuf {
     #[must_use]
     pub fn all_true(len: usize) -> BitmapBuf {
         let mut made = BitmapBuf::all_false(len);
-        // SAFETY: the bytes are room for the length.
-        unsafe { fill(&mut made.bytes, 0, len, true) };
+        row_mask_fill_range(&mut made.bytes, 0, len, true);
         made
     }
 
@@ -115,8 +114,7 @@ impl BitmapBuf {
     /// [`Error::OutOfMemory`].
     pub fn try_all_true(len: usize) -> Result<BitmapBuf, Error> {
         let mut made = BitmapBuf::try_all_false(len)?;
-        // SAFETY: the bytes are room for the length.
-        unsafe { fill(&mut made.bytes, 0, len, true) };
+        row_mask_fill_range(&mut made.bytes, 0, len, true);
         Ok(made)
     }
 
@@ -126,8 +124,8 @@ impl BitmapBuf {
     ///
     /// The refusals of [`Room`].
     pub fn all_into(len: usize, value: bool, out: &mut (impl Room + ?Sized)) -> Result<(), Error> {
-        // SAFETY: `init` writes each byte, which are room for the length.
-        unsafe { out.write(len, |out| fill(init(out), 0, len, value)) }
+        // SAFETY: `init` writes each byte.
+        unsafe { out.write(len, |out| row_mask_fill_range(init(out), 0, len, value)) }
     }
 
     /// `value(0)`, `value(1)` and so on.
@@ -232,13 +230,8 @@ impl BitmapBuf {
         if let Some(&index) = indices.iter().find(|index| **index >= len) {
             return Err(Error::IndexOutOfBounds { index, len });
         }
-        // SAFETY: each index is below the length, and each byte is written.
-        unsafe {
-            out.write(len, |out| {
-                let (out, size) = (out.as_mut_ptr().cast(), out.len());
-                declared::row_mask_from_indices(indices.as_ptr(), indices.len(), len, out, size);
-            })
-        }
+        // SAFETY: it writes each byte.
+        unsafe { out.write(len, |out| row_mask_from_indices(indices, len, as_bytes(out))) }
     }
 
     /// `len` values, of which just those within the ranges are true. These may come in any order, and
@@ -264,8 +257,7 @@ impl BitmapBuf {
             if end > made.len {
                 made.lengthen(if end > near { len } else { near })?;
             }
-            // SAFETY: the bytes are room for what was tested.
-            unsafe { fill(&mut made.bytes, start, end, true) };
+            row_mask_fill_range(&mut made.bytes, start, end, true);
         }
         made.lengthen(len)?;
         Ok(made)
@@ -282,12 +274,12 @@ impl BitmapBuf {
         out: &mut (impl Room + ?Sized),
     ) -> Result<(), Error> {
         ranges.iter().try_for_each(|range| range_within(range, len).map(|_| ()))?;
-        // SAFETY: `init` writes each byte, which are room for the length, and each range is within it.
+        // SAFETY: `init` writes each byte.
         unsafe {
             out.write(len, |out| {
                 let out = init(out);
                 for range in ranges {
-                    fill(out, range.start, range.end, true);
+                    row_mask_fill_range(out, range.start, range.end, true);
                 }
             })
         }
@@ -316,8 +308,7 @@ impl BitmapBuf {
         }
         bytes.truncate(room_for(len));
         let end = 8 * bytes.len();
-        // SAFETY: the bytes are room for the length.
-        unsafe { fill(&mut bytes, len, end, false) };
+        row_mask_fill_range(&mut bytes, len, end, false);
         Ok(BitmapBuf { bytes, len })
     }
 
@@ -346,12 +337,12 @@ impl BitmapBuf {
         out: &mut (impl Room + ?Sized),
     ) -> Result<(), Error> {
         let len = bitmaps.iter().fold(0_usize, |len, bitmap| len.saturating_add(bitmap.len()));
-        // SAFETY: `init` writes each byte, which are room for all values.
+        // SAFETY: `init` writes each byte.
         unsafe {
             out.write(len, |out| {
                 let (out, mut len) = (init(out), 0);
                 for bitmap in bitmaps {
-                    append(out, len, *bitmap);
+                    row_mask_append(out, len, bitmap.bytes(), bitmap.offset(), bitmap.len());
                     len += bitmap.len();
                 }
             })

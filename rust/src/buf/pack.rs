@@ -2,8 +2,9 @@
 
 use super::BitmapBuf;
 use super::lanes::{Lanes, pack_words};
-use crate::bitmap::{Room, room_for};
-use crate::{Error, declared};
+use crate::Error;
+use crate::bitmap::{Room, as_bytes, room_for};
+use crate::proved::mask_c;
 use std::mem::MaybeUninit;
 
 // Bytes that are asked for ahead by a number that nothing has borne out yet, such as an iterator's hint.
@@ -15,15 +16,8 @@ const BLOCK: usize = 512;
 /// Writes each byte of the values.
 pub(super) fn pack(values: &[bool], out: &mut [MaybeUninit<u8>]) {
     debug_assert!(out.len() >= room_for(values.len()));
-    // SAFETY: `out` is room for the values, and borrowed by nothing else.
-    unsafe {
-        declared::row_mask_from_bools(
-            values.as_ptr(),
-            values.len(),
-            out.as_mut_ptr().cast(),
-            out.len(),
-        );
-    }
+    // SAFETY: it writes each byte.
+    mask_c::row_mask_from_bools(values, unsafe { as_bytes(out) });
 }
 
 /// Writes each byte of `value(0)`, `value(1)` and so on, to just the bytes that `len` values take.
