@@ -75,9 +75,23 @@ mod found {
 
     static FOUND: AtomicU8 = AtomicU8::new(0);
 
+    #[cfg(test)]
+    thread_local! {
+        /// What a test lets be found.
+        pub(super) static MOST: std::cell::Cell<u8> = const { std::cell::Cell::new(u8::MAX) };
+    }
+
     /// All that was found, by the bits above.
     #[inline(always)]
     pub(super) fn all() -> u8 {
+        #[cfg(test)]
+        return MOST.get() & known();
+        #[cfg(not(test))]
+        known()
+    }
+
+    #[inline(always)]
+    fn known() -> u8 {
         match FOUND.load(Relaxed) {
             0 => find(),
             known => known,
@@ -161,3 +175,6 @@ mod by_instruction {
         [extract(sources[0], masks[0]), extract(sources[1], masks[1])]
     }
 }
+
+#[cfg(all(test, target_arch = "x86_64"))]
+mod tests;

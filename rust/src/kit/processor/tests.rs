@@ -1,0 +1,82 @@
+//! Each call that goes by what the processor has, with all of it, without PDEP and PEXT, and without x86-64-v3.
+
+use super::found::{MOST, QUICK_BITS, V3};
+use crate::{BitBuffer, Bitmap, BitmapBuf, Mask};
+
+/// A call gives the same whatever the processor has.
+fn same<T: PartialEq + std::fmt::Debug>(call: impl Fn() -> T) {
+    let mut gives = [0, V3, V3 | QUICK_BITS].map(|most| {
+        MOST.set(most);
+        call()
+    });
+    MOST.set(u8::MAX);
+    gives.reverse();
+    let [all, no_bits, none] = gives;
+    assert_eq!(all, no_bits);
+    assert_eq!(no_bits, none);
+}
+
+// (none to all of them, and runs)
+fn values(len: usize, share: usize) -> BitmapBuf {
+    BitmapBuf::from_fn(len, |i| if share < 8 { i * i % 7 < share } else { i / share % 2 == 0 })
+}
+
+fn each_list(call: impl Fn(Bitmap<'_>, Bitmap<'_>)) {
+    for len in [0, 1, 63, 64, 65, 200, 1_000, 8_191, 8_192, 8_193] {
+        for share in [0, 1, 3, 6, 7, 40, 300] {
+            for offset in [0, 3] {
+                let (a, b) = (values(len + offset, share), values(len + 5, 3));
+                let part =
+                    |of: &BitmapBuf| of.as_bitmap().slice(of.len() - len..).map(|it| it.to_buf());
+                let whole = (part(&a).unwrap(), part(&b).unwrap());
+                call(a.as_bitmap().slice(offset..).unwrap(), b.as_bitmap().slice(5..).unwrap());
+                call(whole.0.as_bitmap(), whole.1.as_bitmap());
+            }
+        }
+    }
+}
+
+#[test]
+fn bitmaps() {
+    each_list(|a, b| {
+        same(|| (a.count(), a.and_count(b), a.intersects(b), a.is_subset(b), a == b));
+        same(|| (a.and(b), a.or(b), a.and_not(b), a.xor(b), !a, a.to_buf()));
+        same(|| (a.to_indices(), a.to_words(), a.runs().collect::<Vec<_>>()));
+        same(|| (a.select(a.count() / 2), a.counts_below(&[0, a.len() / 3, a.len()])));
+        same(|| BitmapBuf::concat([b, a, b]));
+        same(|| BitmapBuf::from_indices(a.len(), &a.to_indices()));
+        same(|| BitmapBuf::from(&a.iter().collect::<Vec<_>>()[..]));
+        same(|| {
+            let mut kept = a.to_buf();
+            kept.and_with(b).map(|()| kept.negate()).map(|()| kept)
+        });
+    });
+}
+
+#[test]
+fn choosing() {
+    each_list(|a, b| {
+        let rows: Vec<usize> = (0..a.len()).collect();
+        let ranks = values(a.count(), 3);
+        same(|| (a.choose(&rows), a.choose_bits(b)));
+        same(|| {
+            (
+                a.intersect_by_rank(ranks.as_bitmap()),
+                a.intersect_at_ranks(&ranks.as_bitmap().to_indices()),
+            )
+        });
+        same(|| BitmapBuf::from_rows(&rows, |row| row % 3 == 1));
+    });
+}
+
+#[test]
+fn masks() {
+    each_list(|a, b| {
+        let of = |values: Bitmap<'_>| Mask::from(values.iter().collect::<BitBuffer>());
+        let ranks = values(a.count(), 3);
+        let (a, b, ranks) = (of(a), of(b), of(ranks.as_bitmap()));
+        same(|| (a.intersect_by_rank(&ranks), a.choose_values(&b)));
+        same(|| (a.bitand(&b), a.bitor(&b), a == b, a.true_count()));
+        same(|| BitBuffer::from_rows(&[3_u64, 5, 8], |row| row % 2 == 1));
+    });
+}
