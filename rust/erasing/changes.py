@@ -35,10 +35,12 @@ for inside, kit in enumerate(["row_mask::kit", "crate::kit"]):
         "std::alloc::AllocError": f"{kit}::AllocError",
         "std::alloc::AllocFailed": f"{kit}::AllocFailed",
         "std::borrow::CowSlice": f"{kit}::CowSlice",
-        "std::rc::Rc": "std::sync::Arc",
+        "std::rc::Rc": f"{kit}::Arc",
         "std::simd::prelude::*": f"{kit}::lanes::*",
     }
-SAME = {"std::fmt", "std::fmt::Debug", "std::fmt::Display", "std::mem", "std::mem::size_of_val", "std::process::ExitCode"}
+# What Rust has in `core`, by these names.
+CORE = {"std::fmt", "std::fmt::Debug", "std::fmt::Display", "std::mem", "std::mem::size_of_val"}
+SAME = {"std::process::ExitCode"}
 # Traits whose implementations have to be lawful, which no compiler sees.
 LAWFUL = ["DepositBits", "SelectBit", "ExtractBits"]
 # Functions whose bodies are others here, with the body that they have in the sources.

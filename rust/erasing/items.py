@@ -2,7 +2,7 @@
 import collections
 import re
 
-from erasing.changes import ELSEWHERE, GONE, INLINED, INSIDE, LAWFUL, LEAVES, PLACES, SAME
+from erasing.changes import CORE, ELSEWHERE, GONE, INLINED, INSIDE, LAWFUL, LEAVES, PLACES, SAME
 from erasing.conditions import TESTS, Condition
 from erasing.levels import BY_PEXT, LEVELLED, by_pext, levelled
 from erasing.tokens import Fault, attached, leaves, spaced
@@ -256,13 +256,13 @@ class Erasure:
         self.count("errors")
         return f"""
 
-impl std::fmt::Display for {name} {{
-    fn fmt(&self, f: &mut std::fmt::Formatter<'_>) -> std::fmt::Result {{
+impl core::fmt::Display for {name} {{
+    fn fmt(&self, f: &mut core::fmt::Formatter<'_>) -> core::fmt::Result {{
         match self {{ {' '.join(arms)} }}
     }}
 }}
 
-impl std::error::Error for {name} {{}}
+impl core::error::Error for {name} {{}}
 """
 
     def item_const(self, i, j, end, context, before, attributes):
@@ -306,6 +306,8 @@ impl std::error::Error for {name} {{}}
             return "::".join([PLACES[root][1] if self.crate in INSIDE else "row_mask", *rest])
         if root == "mask_calls":
             return "::".join([PLACES[root][1], *rest])
+        if path in CORE:
+            return path.replace("std", "core", 1)
         if root in ("std", "bytes", "thiserror") and path not in SAME:
             raise Fault(f"{self.source.name}: no place for `{path}`")
         return path
@@ -452,10 +454,10 @@ def arm(fields, text):
     """The pattern of a variant, and what it prints.
 
     >>> arm("{ at: usize", '"at {at}"'), arm("(AllocError", '"no memory"'), arm("(MaskError", "transparent")
-    (' { at } => write!(f, "at {at}")', '(..) => f.write_str("no memory")', '(it) => std::fmt::Display::fmt(it, f)')
+    (' { at } => write!(f, "at {at}")', '(..) => f.write_str("no memory")', '(it) => core::fmt::Display::fmt(it, f)')
     """
     if text == "transparent":
-        return "(it) => std::fmt::Display::fmt(it, f)"
+        return "(it) => core::fmt::Display::fmt(it, f)"
     if not fields.startswith("{"):
         return f"{'(..)' if fields else ''} => f.write_str({text})"
     names = re.findall(r"(\w+):", fields)

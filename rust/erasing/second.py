@@ -125,9 +125,9 @@ def without_tests(words, name, heads):
             look(" ".join(words[i:body]), " ".join(words[body + 1 : last - 1]), name)
             heads.append(words[i:body])
             i = last
-        elif words[i : i + 4] == ["impl", "std", "::", "fmt"]:
+        elif words[i : i + 4] == ["impl", "core", "::", "fmt"]:
             i = behind(words, words.index("{", i))
-        elif words[i : i + 4] == ["impl", "std", "::", "error"]:
+        elif words[i : i + 4] == ["impl", "core", "::", "error"]:
             i = behind(words, words.index("{", i))
         elif words[i] in ("use", "mod") and (not kept or kept[-1] in (";", "}", "{", "pub", ")", "]")):
             drop_quality(kept)

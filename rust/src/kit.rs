@@ -10,6 +10,7 @@ mod shared;
 mod text;
 pub(crate) mod words;
 
+pub use alloc::sync::Arc;
 pub use bytes::{Bytes, BytesMut};
 pub use list::{Collect, CowSlice, List, ToList, filled};
 pub(crate) use processor::{by_level, quickest};
@@ -26,8 +27,9 @@ impl core::fmt::Display for AllocError {
     }
 }
 
-impl std::error::Error for AllocError {}
+impl core::error::Error for AllocError {}
 
+#[cfg(feature = "std")]
 impl From<AllocError> for std::io::Error {
     fn from(_: AllocError) -> std::io::Error {
         std::io::ErrorKind::OutOfMemory.into()
@@ -50,4 +52,5 @@ pub mod prelude {
     pub use super::{
         Collect as _, List as _, Text as _, ToList as _, TryClone as _, TryToString as _,
     };
+    pub use alloc::{boxed::Box, string::String, vec::Vec};
 }

@@ -1,4 +1,7 @@
 #![doc = include_str!("../README.md")]
+#![cfg_attr(not(feature = "std"), no_std)]
+
+extern crate alloc;
 
 #[cfg(not(target_pointer_width = "64"))]
 compile_error!("row-mask needs a `usize` of 64 bits: its proofs say 2^64");

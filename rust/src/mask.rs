@@ -7,10 +7,11 @@ mod walks;
 use crate::kit::{AllocError, TryClone};
 use crate::proved::mask_bits::{BitBuffer, BitBufferMut};
 use crate::proved::vortex_mask::{Mask, MaskError};
-use std::alloc::{Layout, handle_alloc_error};
-use std::fmt;
-use std::hash::{Hash, Hasher};
-use std::ops::{BitAnd, BitOr, Not};
+use alloc::alloc::{Layout, handle_alloc_error};
+use alloc::vec::Vec;
+use core::fmt;
+use core::hash::{Hash, Hasher};
+use core::ops::{BitAnd, BitOr, Not};
 
 // What a call gave that may have asked for memory for so many bits.
 #[track_caller]

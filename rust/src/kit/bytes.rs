@@ -1,9 +1,11 @@
 //! Bytes that several buffers share.
 
 use super::{AllocError, TryClone};
-use std::fmt;
-use std::ops::Deref;
-use std::sync::Arc;
+use alloc::boxed::Box;
+use alloc::sync::Arc;
+use alloc::vec::Vec;
+use core::fmt;
+use core::ops::Deref;
 
 /// Bytes that never change while they are shared. A clone shares them.
 #[derive(Clone, Default, PartialEq, Eq, Hash)]

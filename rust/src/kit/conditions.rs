@@ -58,7 +58,7 @@ pub(crate) fn are_ranks(ranks: &[usize], values: usize, count: usize) -> bool {
 
 /// Whether each mask has a value for each true value of the one before it.
 pub(crate) fn are_a_stack(first: &Mask, masks: &[Mask]) -> bool {
-    let counts = std::iter::once(first).chain(masks).map(Mask::true_count);
+    let counts = core::iter::once(first).chain(masks).map(Mask::true_count);
     counts.zip(masks).all(|(count, mask)| count == mask.len())
 }
 
@@ -81,6 +81,8 @@ pub(crate) fn are_ranges(buffer: &BitBuffer, ranges: &[(usize, usize)]) -> bool 
 
 #[cfg(test)]
 mod tests {
+    use alloc::vec::Vec;
+
     /// As each pair is compared alone: on both sides of the largest signed number too.
     #[test]
     fn ascends_as_each_pair_does() {

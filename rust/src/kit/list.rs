@@ -1,8 +1,9 @@
 //! Lists whose growth is refused by an error.
 
 use super::AllocError;
-use std::alloc::{Layout, realloc};
-use std::mem::{self, ManuallyDrop};
+use alloc::alloc::{Layout, alloc_zeroed, realloc};
+use alloc::vec::Vec;
+use core::mem::{self, ManuallyDrop};
 
 /// What grows a list, with an error where memory is refused. The list then stays as it was.
 pub trait List<T>: Sized {
@@ -146,12 +147,13 @@ fn zeroed(count: usize) -> Result<Vec<u8>, AllocError> {
     }
     let layout = Layout::array::<u8>(count).map_err(|_| AllocError)?;
     // SAFETY: the layout isn't of no bytes.
-    let bytes = unsafe { std::alloc::alloc_zeroed(layout) };
+    let bytes = unsafe { alloc_zeroed(layout) };
     if bytes.is_null() {
         return Err(AllocError);
     }
     // SAFETY: the allocator gave so many bytes for this layout, which is that of a list of them, and all are 0.
-    let bytes = unsafe { Box::from_raw(std::ptr::slice_from_raw_parts_mut(bytes, count)) };
+    let bytes =
+        unsafe { alloc::boxed::Box::from_raw(core::ptr::slice_from_raw_parts_mut(bytes, count)) };
     Ok(bytes.into_vec())
 }
 
@@ -196,7 +198,7 @@ impl<T> CowSlice<'_, T> {
     }
 }
 
-impl<T> std::ops::Deref for CowSlice<'_, T> {
+impl<T> core::ops::Deref for CowSlice<'_, T> {
     type Target = [T];
 
     fn deref(&self) -> &[T] {

@@ -66,8 +66,8 @@ pub(crate) fn has_quick_bits() -> bool {
 
 #[cfg(target_arch = "x86_64")]
 mod found {
-    use std::arch::x86_64::__cpuid;
-    use std::sync::atomic::{AtomicU8, Ordering::Relaxed};
+    use core::arch::x86_64::__cpuid;
+    use core::sync::atomic::{AtomicU8, Ordering::Relaxed};
 
     const KNOWN: u8 = 1;
     pub(super) const V3: u8 = 2;
@@ -109,15 +109,22 @@ mod found {
         found
     }
 
+    // (`core` doesn't ask the processor)
+    #[cfg(not(feature = "std"))]
     fn has_v3() -> bool {
-        is_x86_feature_detected!("avx2")
-            && is_x86_feature_detected!("bmi1")
-            && is_x86_feature_detected!("bmi2")
-            && is_x86_feature_detected!("f16c")
-            && is_x86_feature_detected!("fma")
-            && is_x86_feature_detected!("lzcnt")
-            && is_x86_feature_detected!("movbe")
-            && is_x86_feature_detected!("popcnt")
+        cfg!(all(target_feature = "avx2", target_feature = "bmi2", target_feature = "lzcnt"))
+    }
+
+    #[cfg(feature = "std")]
+    fn has_v3() -> bool {
+        std::arch::is_x86_feature_detected!("avx2")
+            && std::arch::is_x86_feature_detected!("bmi1")
+            && std::arch::is_x86_feature_detected!("bmi2")
+            && std::arch::is_x86_feature_detected!("f16c")
+            && std::arch::is_x86_feature_detected!("fma")
+            && std::arch::is_x86_feature_detected!("lzcnt")
+            && std::arch::is_x86_feature_detected!("movbe")
+            && std::arch::is_x86_feature_detected!("popcnt")
     }
 
     // AMD's processors before Zen 3 take up to hundreds of cycles for PDEP and PEXT.
@@ -139,7 +146,7 @@ mod by_instruction {
     //! the processor. Nothing here runs unless `has_quick_bits` answers yes.
 
     use crate::proved::vortex_mask::intersect_by_rank::{DepositBits, SelectBit};
-    use std::arch::x86_64::{_pdep_u64, _pext_u64};
+    use core::arch::x86_64::{_pdep_u64, _pext_u64};
 
     /// Deposits and selections by PDEP.
     pub(crate) struct Bmi2;

@@ -1,7 +1,9 @@
 //! Values that are shared, and clones that may be refused.
 
 use super::{AllocError, AllocFailed};
-use std::sync::Arc;
+use alloc::boxed::Box;
+use alloc::sync::Arc;
+use alloc::vec::Vec;
 
 /// A clone that is refused where there is no memory for it.
 pub trait TryClone: Sized {

@@ -1,7 +1,8 @@
 //! Text whose growth is refused by an error.
 
 use super::AllocError;
-use std::fmt::{Arguments, Display, Write};
+use alloc::string::String;
+use core::fmt::{Arguments, Display, Write};
 
 /// What grows a text, with an error where memory is refused.
 pub trait Text: Sized {
@@ -68,8 +69,8 @@ impl Text for String {
 struct Growing<'a>(&'a mut String);
 
 impl Write for Growing<'_> {
-    fn write_str(&mut self, text: &str) -> std::fmt::Result {
-        self.0.try_push_str(text).map_err(|_| std::fmt::Error)
+    fn write_str(&mut self, text: &str) -> core::fmt::Result {
+        self.0.try_push_str(text).map_err(|_| core::fmt::Error)
     }
 }
 

@@ -2,6 +2,8 @@
 //! these functions but through calls that test what the contract of their caller asks.
 #![allow(clippy::inline_always, reason = "each is a step of loops")]
 
+use alloc::vec::Vec;
+
 /// Word `i` of the whole words of `bytes`, the first byte lowest.
 #[inline(always)]
 pub(crate) fn word_of(bytes: &[u8], i: usize) -> u64 {

@@ -2,9 +2,9 @@
 
 use crate::intersect_by_rank::RankPath;
 use crate::proved::vortex_mask::{AllOr, Fraction, MaskError, MaskIter};
-use std::fmt;
-use std::hash::{Hash, Hasher};
-use std::mem::discriminant;
+use core::fmt;
+use core::hash::{Hash, Hasher};
+use core::mem::discriminant;
 
 impl<T: Clone> Clone for AllOr<T> {
     fn clone(&self) -> AllOr<T> {

@@ -5,8 +5,8 @@ use crate::proved::mask_bits::{
     BitBuffer, BitChunks, BitIterator, PaddedWords, SetIndices, SetSlices, Words,
 };
 use crate::proved::vortex_mask::{Mask, MaskBoolIter, MaskSetIndices, MaskSetSlices};
-use std::fmt;
-use std::iter::FusedIterator;
+use core::fmt;
+use core::iter::FusedIterator;
 
 /// The values in their order.
 impl<'a> IntoIterator for &'a Mask {

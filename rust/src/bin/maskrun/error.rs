@@ -24,8 +24,8 @@ pub enum RunError {
     Mask(MaskError),
 }
 
-impl std::fmt::Display for RunError {
-    fn fmt(&self, f: &mut std::fmt::Formatter<'_>) -> std::fmt::Result {
+impl core::fmt::Display for RunError {
+    fn fmt(&self, f: &mut core::fmt::Formatter<'_>) -> core::fmt::Result {
         match self {
             RunError::Usage => f.write_str("usage: maskrun COMMAND WORDS"),
             RunError::BadBit { word, at } => write!(f, "word {word}: byte {at} is not 0 or 1"),
@@ -34,12 +34,12 @@ impl std::fmt::Display for RunError {
             }
             RunError::BadNumber { word } => write!(f, "word {word}: not a number"),
             RunError::OutOfRange { word } => write!(f, "word {word}: out of range"),
-            RunError::Mask(it) => std::fmt::Display::fmt(it, f),
+            RunError::Mask(it) => core::fmt::Display::fmt(it, f),
         }
     }
 }
 
-impl std::error::Error for RunError {}
+impl core::error::Error for RunError {}
 
 impl From<MaskError> for RunError {
     fn from(error: MaskError) -> RunError {

@@ -10,7 +10,7 @@ use crate::proved::mask_bits::chunks::BitChunks;
 use crate::proved::mask_bits::counts::count_bits;
 use crate::proved::mask_bits::words::started_words;
 use crate::proved::mask_bits::write_bits::set_bit;
-use std::fmt;
+use core::fmt;
 
 /// An immutable list of truth values, packed eight to a byte.
 ///

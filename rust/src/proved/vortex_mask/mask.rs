@@ -25,11 +25,11 @@ use crate::kit::AllocError;
 use crate::proved::mask_bits::BitBuffer;
 pub use all_or::AllOr;
 pub use cached::MaskIter;
+use core::fmt;
 pub use error::MaskError;
 pub use fraction::Fraction;
 pub use iter::{MaskBoolIter, MaskSetIndices, MaskSetSlices};
 pub use push_rows::choose_rows;
-use std::fmt;
 pub use values::{MaskValues, MaskValuesRef};
 
 /// Which rows of a column are chosen: a list of truth values, one for each row.

@@ -5,10 +5,10 @@ use crate::mask_calls::fault::Fault;
 use crate::mask_calls::tell::tell_fault;
 use crate::mask_calls::text::Text;
 use crate::mask_calls::walks::write_buffer;
+use core::mem;
 use row_mask::kit::AllocError;
 use row_mask::kit::prelude::*;
 use row_mask::{BitBuffer, BitBufferMut};
-use std::mem;
 
 pub(crate) const NO_BUILDER: Fault = Fault::Unmet("a builder that is there");
 

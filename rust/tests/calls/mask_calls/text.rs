@@ -1,8 +1,8 @@
 // Made of crates/mask_calls/src/text.rt by `rust/erase`: change that, and make this anew.
 //! Text that is written piece by piece.
 
+use core::fmt::{Debug, Display};
 use row_mask::kit::prelude::*;
-use std::fmt::{Debug, Display};
 
 /// How much is written of long lists, and of what masks have cached.
 #[derive(Clone, Copy)]

@@ -4,7 +4,7 @@
 use crate::kit::prelude::*;
 use crate::proved::vortex_mask::mask::{AllOr, Mask, MaskError};
 
-use std::sync::Arc;
+use crate::kit::Arc;
 
 /// A list of the true indices of a mask: the indices, or their runs: the maximal ranges that hold them.
 pub enum MaskIter<'a> {

@@ -5,7 +5,7 @@ use crate::kit::prelude::*;
 use crate::proved::mask_bits::BitBuffer;
 use crate::proved::vortex_mask::mask::{Mask, MaskError, MaskValues};
 
-use std::sync::Arc;
+use crate::kit::Arc;
 
 impl Mask {
     // The mask of `len` values of which `true_count` are true, if these are none or all. No values are

@@ -5,9 +5,9 @@ use crate::kit::AllocError;
 use crate::kit::prelude::*;
 use crate::proved::mask_bits::BitBuffer;
 use crate::proved::vortex_mask::mask::{MaskError, MaskIter};
-use std::fmt;
+use core::fmt;
 
-use std::sync::Arc;
+use crate::kit::Arc;
 
 /// The values of a mask that has both true and false ones, shared: an `Rc` of [`MaskValues`].
 pub type MaskValuesRef = Arc<MaskValues>;
