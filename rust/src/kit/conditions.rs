@@ -1,4 +1,5 @@
 //! What callers owe, as tests. A public call tests it and stops where it isn't met.
+#![allow(clippy::inline_always, reason = "a copy is compiled for what the function around it has")]
 
 use crate::proved::mask_bits::BitBuffer;
 use crate::proved::vortex_mask::Mask;
@@ -24,6 +25,17 @@ fn broken(call: &'static str, name: &'static str, words: &'static str) -> ! {
 
 /// Whether each index is above the one before it. With no branch for each, so that several are compared at once.
 pub(crate) fn ascends(indices: &[usize]) -> bool {
+    crate::kit::by_level!(ascends_v3(indices), ascends_any(indices))
+}
+
+#[cfg(target_arch = "x86_64")]
+#[target_feature(enable = "avx2")]
+fn ascends_v3(indices: &[usize]) -> bool {
+    ascends_any(indices)
+}
+
+#[inline(always)]
+fn ascends_any(indices: &[usize]) -> bool {
     let next = indices.get(1..).unwrap_or_default();
     let fits = |index: Option<&usize>| index.is_none_or(|index| index.cast_signed() >= 0);
     if fits(indices.first()) && fits(indices.last()) {
