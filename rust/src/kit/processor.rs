@@ -1,5 +1,6 @@
 //! What the processor has that a program runs on, where it isn't compiled for that: x86-64-v3, and the instructions PDEP
 //! and PEXT where these are quick.
+#![allow(clippy::inline_always, reason = "each is compiled for what the function around it has")]
 
 use crate::proved::vortex_mask::intersect_by_rank as proved;
 #[cfg(target_arch = "x86_64")]

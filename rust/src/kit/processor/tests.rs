@@ -18,7 +18,9 @@ fn same<T: PartialEq + std::fmt::Debug>(call: impl Fn() -> T) {
 
 // (none to all of them, and runs)
 fn values(len: usize, share: usize) -> BitmapBuf {
-    BitmapBuf::from_fn(len, |i| if share < 8 { i * i % 7 < share } else { i / share % 2 == 0 })
+    BitmapBuf::from_fn(len, |i| {
+        if share < 8 { i * i % 7 < share } else { (i / share).is_multiple_of(2) }
+    })
 }
 
 fn each_list(call: impl Fn(Bitmap<'_>, Bitmap<'_>)) {
@@ -27,7 +29,7 @@ fn each_list(call: impl Fn(Bitmap<'_>, Bitmap<'_>)) {
             for offset in [0, 3] {
                 let (a, b) = (values(len + offset, share), values(len + 5, 3));
                 let part =
-                    |of: &BitmapBuf| of.as_bitmap().slice(of.len() - len..).map(|it| it.to_buf());
+                    |of: &BitmapBuf| of.as_bitmap().slice(of.len() - len..).map(Bitmap::to_buf);
                 let whole = (part(&a).unwrap(), part(&b).unwrap());
                 call(a.as_bitmap().slice(offset..).unwrap(), b.as_bitmap().slice(5..).unwrap());
                 call(whole.0.as_bitmap(), whole.1.as_bitmap());
