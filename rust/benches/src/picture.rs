@@ -12,9 +12,10 @@ const LEN: usize = 1 << 20;
 const EACH: Duration = Duration::from_millis(100);
 const SHARES: [u64; 15] = [1, 5, 10, 20, 50, 100, 200, 300, 400, 500, 600, 700, 800, 900, 990];
 // Each line: the call, whose it is, its color, and its dashes.
-const LINES: [(&str, &str, &str, &str); 5] = [
+const LINES: &[(&str, &str, &str, &str)] = &[
     ("rank intersection", "row-mask", "#1f77b4", ""),
     ("rank intersection", "by hand", "#1f77b4", "4 3"),
+    #[cfg(feature = "no_instructions")]
     ("rank intersection, no pdep", "row-mask", "#2ca02c", ""),
     ("choose", "row-mask", "#d62728", ""),
     ("choose", "by hand", "#d62728", "4 3"),
@@ -64,7 +65,7 @@ fn times(lists: &Lists) -> Vec<f64> {
     let (ours, by_hand) = (Ours(lists), ByHand(lists));
     let mut calls = Vec::new();
     let mut ends = Vec::new();
-    for (call, who, ..) in LINES {
+    for &(call, who, ..) in LINES {
         match who {
             "by hand" => calls.extend(by_hand.calls(call)),
             _ => calls.extend(ours.call(call)),

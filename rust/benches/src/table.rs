@@ -16,16 +16,18 @@ const ROUNDS: usize = 4;
 const EACH: Duration = Duration::from_millis(50);
 const LENGTHS: [usize; 2] = [1 << 16, 1 << 20];
 const SHARES: [(u64, &str); 3] = [(10, "1%"), (500, "50%"), (990, "99%")];
-pub const CALLS: [&str; 22] = [
+pub const CALLS: &[&str] = &[
     "count",
     "and",
     "and, at odd bits",
     "==",
     "==, at odd bits",
     "rank intersection",
+    #[cfg(feature = "no_instructions")]
     "rank intersection, no pdep",
     "choose",
     "choose bits, by pext",
+    #[cfg(feature = "no_instructions")]
     "choose bits, no pext",
     "choose bits, of Vec<bool>",
     "choose, by a selection",
@@ -45,7 +47,8 @@ const PEERS: [&str; 2] = ["fixedbitset", "CRoaring"];
 
 pub fn table(is_asked: impl Fn(&str) -> bool) -> String {
     let mut lines: Vec<Line> = CALLS
-        .into_iter()
+        .iter()
+        .copied()
         .filter(|name| is_asked(name))
         .flat_map(|name| {
             SHARES.map(|(share, said)| LENGTHS.map(|len| Line::new(name, len, share, said)))
