@@ -2,6 +2,7 @@
 //! quickest is the one that counts.
 
 mod bits;
+mod masks;
 mod pack;
 mod rows;
 mod scan;
@@ -91,15 +92,19 @@ impl ByHand<'_> {
                 Box::new(move || last(&packed_by_shifts(column, |it| it < lists.share), len)),
                 Box::new(move || last(&packed_by_eights(column, |it| it < lists.share), len)),
             ],
-            _ => vec![],
+            _ => masks::calls(lists, name),
         }
     }
 }
 
 /// The last byte of a list, where it is kept in words.
 fn last(words: &[u64], len: usize) -> u64 {
-    let at = (len - 1) / 8;
-    black_box(words)[at / 8] >> (8 * (at % 8)) & 0xFF
+    byte(words, len - 1)
+}
+
+/// The byte that has value `at`.
+fn byte(words: &[u64], at: usize) -> u64 {
+    black_box(words)[at / 64] >> (at % 64 / 8 * 8) & 0xFF
 }
 
 fn last_of((words, count): &(Vec<u64>, usize)) -> u64 {

@@ -1,12 +1,14 @@
 //! Lists that look random and are the same in each run, and bitmaps of them.
 
 use row_mask::BitmapBuf;
+use std::hint::black_box;
 
 /// How many of 1,000 values are true.
 pub type Share = u64;
 
 /// What calls are timed on: a bitmap, another of its length, one with a value for each true value, and rows.
 pub struct Lists {
+    _before: Vec<u8>,
     pub len: usize,
     pub list: Vec<bool>,
     pub other: Vec<bool>,
@@ -62,7 +64,9 @@ impl Packed {
 }
 
 impl Lists {
-    pub fn new(len: usize, share: Share) -> Lists {
+    /// Lists of so many rows, which lie elsewhere in each round.
+    pub fn new(len: usize, share: Share, round: usize) -> Lists {
+        let before = black_box(vec![0; 24 + 16 * round]);
         let mut state = 0x2545_F491_4F6C_DD1D_u64;
         let mut number = || {
             state ^= state << 13;
@@ -71,11 +75,14 @@ impl Lists {
             u32::try_from((state >> 20) % 1000).unwrap()
         };
         let share = u32::try_from(share).unwrap();
-        let column: Vec<u32> = (0..len).map(|_| number()).collect();
+        let mut column: Vec<u32> = (0..len).map(|_| number()).collect();
+        put_ends(&mut column, [0, 0], [999, 999]);
         let list: Vec<bool> = column.iter().map(|it| *it < share).collect();
-        let other: Vec<bool> = (0..len).map(|_| number() < share).collect();
+        let mut other: Vec<bool> = (0..len).map(|_| number() < share).collect();
+        put_ends(&mut other, [true, false], [true, false]);
         let count = list.iter().filter(|value| **value).count();
-        let ranks: Vec<bool> = (0..count).map(|_| number() < 500).collect();
+        let mut ranks: Vec<bool> = (0..count).map(|_| number() < 500).collect();
+        put_ends(&mut ranks, [false], [true]);
         let packed = Packed::new(&list, &other, &ranks);
         let rows = (0..len as u64).collect();
         let indices = (0_u32..).zip(&list).filter(|(_, value)| **value).map(|(i, _)| i).collect();
@@ -88,6 +95,7 @@ impl Lists {
             texts.0.push(texts.0[texts.0.len() - 1] + size);
         }
         Lists {
+            _before: before,
             len,
             list,
             other,
@@ -102,6 +110,20 @@ impl Lists {
             texts,
         }
     }
+
+    /// Half of the number of true values, and the index of the last one of these.
+    pub fn half(&self) -> (usize, usize) {
+        let count = self.indices.len() / 2;
+        (count, self.indices[count - 1] as usize)
+    }
+}
+
+/// What the first and the last values are, so that of few rows too each list has both values, and so has what a call
+/// makes of two: a mask of one value is held as its length alone.
+fn put_ends<T: Copy, const N: usize>(list: &mut [T], first: [T; N], last: [T; N]) {
+    let from = list.len() - N;
+    list[..N].copy_from_slice(&first);
+    list[from..].copy_from_slice(&last);
 }
 
 fn words(list: &[bool]) -> Vec<u64> {

@@ -1,17 +1,20 @@
 //! Times `row-mask` beside loops as one writes them by hand, and beside bitmap libraries.
 //!
-//!     cargo run --release                           prints a table, and what it was taken on
+//!     cargo run --release                           prints the tables, and what they were taken on
 //!     cargo run --release -- --only CALL            prints the lines of one call
-//!     cargo run --release -- README.md density.svg  writes the table into a page, and the picture
+//!     cargo run --release -- README.md density.svg  writes the tables into a page, and the picture
 //!
 //! A cell is the least time of one call, of many. The answers of `row-mask` and of the loops by hand are compared before
-//! they are timed.
+//! they are timed. `turns` runs it by `--lines`, which prints the lines that there are, and by `--turn` with the words of
+//! one and the number of a round, which prints the time of `row-mask` alone.
 
 mod by_hand;
 #[cfg(feature = "fixedbitset")]
 mod fixed;
 mod lists;
 mod ours;
+mod page;
+mod peers;
 mod picture;
 #[cfg(feature = "roaring")]
 mod roaring;
@@ -20,25 +23,44 @@ mod timed;
 
 use std::env;
 use std::process::exit;
+use table::TABLES;
 
 /// A call of a peer: it answers a digest of its result.
 pub type Call<'a> = Box<dyn FnMut() -> u64 + 'a>;
 
 fn main() {
-    let paths: Vec<String> = env::args().skip(1).collect();
+    let words: Vec<String> = env::args().skip(1).collect();
     let load = timed::load();
-    match paths.iter().map(String::as_str).collect::<Vec<_>>()[..] {
-        [] => println!("{}\n{}", table::table(|_| true), timed::taken_on(&load)),
-        ["--only", name] if table::CALLS.contains(&name) => {
-            print!("{}", table::table(|it| it == name));
+    match words.iter().map(String::as_str).collect::<Vec<_>>()[..] {
+        [] => {
+            for table in TABLES {
+                println!("{}\n{}\n", table.timed(|_| true), table.taken_on(&load));
+            }
+        }
+        ["--only", name] if table::calls().any(|it| it == name) => {
+            for table in TABLES {
+                print!("{}", table.timed(|it| it == name));
+            }
         }
         ["--only", name] => {
-            eprintln!("there is no call `{name}`: the calls are {}", table::CALLS.join("; "));
+            let calls: Vec<&str> = table::calls().collect();
+            eprintln!("there is no call `{name}`: the calls are {}", calls.join("; "));
             exit(2);
         }
+        ["--lines"] => {
+            for (name, len, share) in table::lines() {
+                println!("{name}\t{len}\t{share}");
+            }
+        }
+        ["--turn", name, len, share, round] => {
+            let number = |word: &str| word.parse::<usize>().expect("a number");
+            println!("{}", table::turn(name, number(len), number(share) as u64, number(round)));
+        }
         [page, image] => {
-            let table = table::table(|_| true);
-            table::write(page, &table, &timed::taken_on(&load));
+            for table in TABLES {
+                let lines = table.timed(|_| true);
+                page::write(page, table.heading, &lines, &table.taken_on(&load));
+            }
             picture::write(image);
         }
         _ => {

@@ -1,5 +1,6 @@
 //! The calls of `row-mask`.
 
+mod masks;
 #[cfg(feature = "no_instructions")]
 mod no_instructions;
 
@@ -74,8 +75,13 @@ impl Ours<'_> {
             "from_fn of a predicate" => Box::new(move || {
                 last(BitmapBuf::from_fn(lists.len, |i| lists.column[i] < lists.share))
             }),
-            _ => return None,
+            _ => return masks::call(lists, name),
         })
+    }
+
+    /// What the call of a name does so that it can be made again, whose time is taken off.
+    pub fn beside(&self, name: &str) -> Option<Call<'_>> {
+        masks::beside(self.0, name)
     }
 }
 
@@ -105,6 +111,11 @@ pub fn digest_of_scan(
 ) -> u64 {
     let last = rows.last().copied().unwrap_or(0) ^ u64::from(column.last().copied().unwrap_or(0));
     ((count as u64) << 32 ^ last) ^ digest(names)
+}
+
+/// Of a list of indices or runs: how many there are, and the last index, or where the last run ends.
+pub fn listed(count: usize, last: usize) -> u64 {
+    (count as u64) << 32 | last as u64
 }
 
 /// Of chosen strings: how many there are, and how many bytes.

@@ -53,7 +53,7 @@ fn lines() -> Vec<Line> {
         })
         .collect();
     for share in SHARES {
-        for (line, time) in lines.iter_mut().zip(times(&Lists::new(LEN, share))) {
+        for (line, time) in lines.iter_mut().zip(times(&Lists::new(LEN, share, 0))) {
             line.points.push((share as f64 / 10.0, time / LEN as f64));
         }
     }

@@ -1,81 +1,152 @@
-//! The table: each call's time beside the best loop by hand, as a ratio.
+//! The tables: each call's time beside the best loop by hand, as a ratio.
 
 use crate::Call;
 use crate::by_hand::ByHand;
 use crate::lists::{Lists, Share};
 use crate::ours::Ours;
-use crate::timed::least;
+use crate::peers::{self, Peers};
+use crate::timed::{self, least};
 use std::fmt::Write;
-use std::fs;
-use std::hint::black_box;
-use std::marker::PhantomData;
 use std::time::Duration;
 
-// The table is timed so often from its first line to the last, since the machine may be slow for some seconds.
+// A table is timed so often from its first line to the last, since the machine may be slow for some seconds.
 const ROUNDS: usize = 4;
 const EACH: Duration = Duration::from_millis(50);
-const LENGTHS: [usize; 2] = [1 << 16, 1 << 20];
-const SHARES: [(u64, &str); 3] = [(10, "1%"), (500, "50%"), (990, "99%")];
-pub const CALLS: &[&str] = &[
-    "count",
-    "and",
-    "and, at odd bits",
-    "==",
-    "==, at odd bits",
-    "rank intersection",
-    #[cfg(feature = "no_instructions")]
-    "rank intersection, no pdep",
-    "choose",
-    "choose bits, by pext",
-    #[cfg(feature = "no_instructions")]
-    "choose bits, no pext",
-    "choose bits, of Vec<bool>",
-    "choose, by a selection",
-    "choose bits, by a selection",
-    "choose strings, by a selection",
-    "for over indices",
-    "sum of indices",
-    "for over values",
-    "from_rows of a predicate",
-    "collect a predicate",
-    "from_fn of a predicate",
-    "retain by a predicate",
-    "scan",
-];
-// The libraries. Their answers are no digests of the result, and aren't compared.
-const PEERS: [&str; 2] = ["fixedbitset", "CRoaring"];
+const SHARES: [(Share, &str); 3] = [(10, "1%"), (500, "50%"), (990, "99%")];
+// Of the second table, and of all lines of `turns`.
+const LENGTHS: [usize; 4] = [100, 1000, 1 << 16, 1 << 20];
 
-pub fn table(is_asked: impl Fn(&str) -> bool) -> String {
-    let mut lines: Vec<Line> = CALLS
-        .iter()
-        .copied()
-        .filter(|name| is_asked(name))
-        .flat_map(|name| {
-            SHARES.map(|(share, said)| LENGTHS.map(|len| Line::new(name, len, share, said)))
-        })
-        .flatten()
-        .collect();
-    for round in 0..ROUNDS {
-        for line in &mut lines {
-            line.time(round);
-        }
-    }
-    let mut table = format!(
-        "| Call | True | by hand, ns | row-mask | {} |\n|---|---|---|---|---|---|\n",
-        PEERS.join(" | ")
-    );
-    for row in lines.chunks(LENGTHS.len()) {
-        let Line { name, said, .. } = row[0];
-        let cells: Vec<Vec<String>> = row.iter().map(Line::cells).collect();
-        let column = |at: usize| {
-            let mut said: Vec<&str> = cells.iter().map(|it| it[at].as_str()).collect();
-            said.dedup();
-            said.join(" / ")
+/// A table of the page, below its heading.
+pub struct Table {
+    pub heading: &'static str,
+    ours: &'static str,
+    calls: &'static [&'static str],
+    lengths: &'static [usize],
+    peers: &'static [&'static str],
+}
+
+pub const TABLES: [Table; 2] = [
+    Table {
+        heading: "## Table",
+        ours: "row-mask",
+        calls: &[
+            "count",
+            "and",
+            "and, at odd bits",
+            "==",
+            "==, at odd bits",
+            "rank intersection",
+            #[cfg(feature = "no_instructions")]
+            "rank intersection, no pdep",
+            "choose",
+            "choose bits, by pext",
+            #[cfg(feature = "no_instructions")]
+            "choose bits, no pext",
+            "choose bits, of Vec<bool>",
+            "choose, by a selection",
+            "choose bits, by a selection",
+            "choose strings, by a selection",
+            "for over indices",
+            "sum of indices",
+            "for over values",
+            "from_rows of a predicate",
+            "collect a predicate",
+            "from_fn of a predicate",
+            "retain by a predicate",
+            "scan",
+        ],
+        lengths: &[1 << 16, 1 << 20],
+        peers: &peers::NAMES,
+    },
+    Table {
+        heading: "## Masks",
+        ours: "Mask",
+        calls: &[
+            "Mask::intersect_by_rank",
+            "Mask::bitand",
+            "Mask::bitor",
+            "Mask::not",
+            "Mask::to_bitand_not",
+            "Mask::indices",
+            "Mask::slices",
+            "Mask::to_limited",
+            "Mask::concat",
+        ],
+        lengths: &LENGTHS,
+        peers: &[],
+    },
+];
+
+/// The names of all calls.
+pub fn calls() -> impl Iterator<Item = &'static str> {
+    TABLES.iter().flat_map(|table| table.calls).copied()
+}
+
+/// Each line of `turns`: a call, of how many rows, and of how many in 1,000 true ones.
+pub fn lines() -> impl Iterator<Item = (&'static str, usize, Share)> {
+    calls().flat_map(|name| {
+        SHARES.into_iter().flat_map(move |(share, _)| LENGTHS.map(|len| (name, len, share)))
+    })
+}
+
+/// The time of a call of `row-mask` alone, which `turns` asks for.
+pub fn turn(name: &str, len: usize, share: Share, round: usize) -> f64 {
+    let lists = &Lists::new(len, share, round);
+    let (by_hand, ours) = (ByHand(lists), Ours(lists));
+    let mut calls = compared(&by_hand, &ours, name);
+    calls.drain(..calls.len() - 1);
+    calls.extend(ours.beside(name));
+    let times = least(&mut calls, EACH);
+    times[0] - times.get(1).unwrap_or(&0.0)
+}
+
+/// The calls by hand, and that of `row-mask` behind them, whose answers are the same.
+fn compared<'a>(by_hand: &'a ByHand<'_>, ours: &'a Ours<'_>, name: &str) -> Vec<Call<'a>> {
+    let mut calls = by_hand.calls(name);
+    calls.push(ours.call(name).unwrap());
+    let answers: Vec<u64> = calls.iter_mut().map(|call| call()).collect();
+    assert!(answers.iter().all(|it| *it == answers[0]), "{name}: {answers:?}");
+    calls
+}
+
+impl Table {
+    /// The lines of the calls that are asked for, or nothing where none is.
+    pub fn timed(&self, is_asked: impl Fn(&str) -> bool) -> String {
+        let of_call = |name| {
+            SHARES
+                .map(|(share, said)| self.lengths.iter().map(move |len| (name, *len, share, said)))
         };
-        let columns: Vec<String> = (0..cells[0].len()).map(column).collect();
-        writeln!(table, "| {name} | {said} | {} |", columns.join(" | ")).unwrap();
+        let asked = self.calls.iter().filter(|name| is_asked(name));
+        let mut lines: Vec<Line> = asked
+            .flat_map(|name| of_call(*name))
+            .flatten()
+            .map(|(name, len, share, said)| Line::new(name, len, share, said, self.peers.len()))
+            .collect();
+        for round in 0..ROUNDS {
+            for line in &mut lines {
+                line.time(round);
+            }
+        }
+        let mut titles = vec!["Call", "True", "by hand, ns", self.ours];
+        titles.extend(self.peers);
+        let mut table = format!("| {} |\n|{}\n", titles.join(" | "), "---|".repeat(titles.len()));
+        for row in lines.chunks(self.lengths.len()) {
+            let Line { name, said, .. } = row[0];
+            let cells: Vec<Vec<String>> = row.iter().map(Line::cells).collect();
+            let column = |at: usize| {
+                let said: Vec<&str> = cells.iter().map(|it| it[at].as_str()).collect();
+                let is_one = said.iter().all(|it| *it == said[0]);
+                if is_one { said[0].to_string() } else { said.join(" / ") }
+            };
+            let columns: Vec<String> = (0..cells[0].len()).map(column).collect();
+            writeln!(table, "| {name} | {said} | {} |", columns.join(" | ")).unwrap();
+        }
+        if lines.is_empty() { String::new() } else { table }
     }
-    table
+
+    pub fn taken_on(&self, load_before: &str) -> String {
+        timed::taken_on(load_before, !self.peers.is_empty())
+    }
 }
 
 /// A number with commas between groups of three digits.
@@ -90,7 +161,7 @@ fn grouped(number: usize) -> String {
     groups.join(",")
 }
 
-/// A line of the table, and the least times so far: those of the loops by hand, of `row-mask`, and of the peers that
+/// A line of a table, and the least times so far: those of the loops by hand, of `row-mask`, and of the peers that
 /// have such a call.
 struct Line {
     name: &'static str,
@@ -103,34 +174,32 @@ struct Line {
 }
 
 impl Line {
-    fn new(name: &'static str, len: usize, share: Share, said: &'static str) -> Line {
-        let (by_hand, peers) = (vec![], vec![None; PEERS.len()]);
+    fn new(name: &'static str, len: usize, share: Share, said: &'static str, peers: usize) -> Line {
+        let (by_hand, peers) = (vec![], vec![None; peers]);
         Line { name, len, share, said, by_hand, ours: f64::INFINITY, peers }
     }
 
     /// Times all once more, of lists that lie elsewhere in each round.
     fn time(&mut self, round: usize) {
-        let before = black_box(vec![0_u8; 24 + 16 * round]);
-        let lists = &Lists::new(self.len, self.share);
+        let lists = &Lists::new(self.len, self.share, round);
         let (by_hand, ours, peers) = (ByHand(lists), Ours(lists), Peers::new(lists));
-        let mut calls = by_hand.calls(self.name);
-        let hands = calls.len();
-        calls.push(ours.call(self.name).unwrap());
-        let answers: Vec<u64> = calls.iter_mut().map(|call| call()).collect();
-        assert!(answers.iter().all(|it| *it == answers[0]), "{}: {answers:?}", self.name);
+        let mut calls = compared(&by_hand, &ours, self.name);
+        let hands = calls.len() - 1;
         let peers = peers.calls(self.name);
         let has: Vec<bool> = peers.iter().map(Option::is_some).collect();
         calls.extend(peers.into_iter().flatten());
+        calls.extend(ours.beside(self.name));
         let mut times = least(&mut calls, EACH).into_iter();
         self.by_hand.resize(hands, f64::INFINITY);
         for least in &mut self.by_hand {
             *least = least.min(times.next().unwrap());
         }
-        self.ours = self.ours.min(times.next().unwrap());
+        let ours = times.next().unwrap();
         for (least, has) in self.peers.iter_mut().zip(has) {
             *least = has.then(|| times.next().unwrap().min(least.unwrap_or(f64::INFINITY)));
         }
-        drop(before);
+        let beside = times.next().unwrap_or(0.0);
+        self.ours = self.ours.min(ours - beside);
     }
 
     /// The time of the best loop by hand, and the ratios of the others to it.
@@ -149,68 +218,4 @@ impl Line {
 fn nanoseconds(time: f64) -> String {
     #[expect(clippy::cast_possible_truncation, clippy::cast_sign_loss, reason = "a time")]
     grouped(time.round() as usize)
-}
-
-/// The libraries, where they are asked for.
-struct Peers<'a> {
-    #[cfg(feature = "fixedbitset")]
-    fixed: crate::fixed::Fixed<'a>,
-    #[cfg(feature = "roaring")]
-    roaring: crate::roaring::Roaring<'a>,
-    lists: PhantomData<&'a Lists>,
-}
-
-impl<'a> Peers<'a> {
-    fn new(lists: &'a Lists) -> Peers<'a> {
-        let _ = lists;
-        Peers {
-            #[cfg(feature = "fixedbitset")]
-            fixed: crate::fixed::Fixed::new(lists),
-            #[cfg(feature = "roaring")]
-            roaring: crate::roaring::Roaring::new(lists),
-            lists: PhantomData,
-        }
-    }
-
-    /// Their calls, as many as `PEERS`, where they have such a call.
-    fn calls(&self, name: &str) -> Vec<Option<Call<'_>>> {
-        let _ = (name, self.lists);
-        vec![
-            #[cfg(feature = "fixedbitset")]
-            self.fixed.call(name),
-            #[cfg(not(feature = "fixedbitset"))]
-            None,
-            #[cfg(feature = "roaring")]
-            self.roaring.call(name),
-            #[cfg(not(feature = "roaring"))]
-            None,
-        ]
-    }
-}
-
-/// Puts the table where the one before it stands in a page: below its heading, above that of the picture.
-pub fn write(page: &str, table: &str, taken: &str) {
-    let text = fs::read_to_string(page).expect("the page is there");
-    let (before, rest) = text.split_once("## Table\n").expect("the page has a table");
-    let (_, after) = rest.split_once("## Picture\n").expect("the page has a picture");
-    let lines = wrapped(taken);
-    let text = format!("{before}## Table\n\n{lines}\n{table}\n## Picture\n{after}");
-    fs::write(page, text).expect("the page can be written");
-}
-
-fn wrapped(text: &str) -> String {
-    let mut lines = String::new();
-    let mut width = 0;
-    for word in text.split(' ') {
-        if width + word.len() > 118 {
-            lines.push('\n');
-            width = 0;
-        } else if width > 0 {
-            lines.push(' ');
-        }
-        lines.push_str(word);
-        width += word.len() + 1;
-    }
-    lines.push('\n');
-    lines
 }
