@@ -7,7 +7,7 @@ use std::process::Command;
 use std::time::{Duration, Instant};
 
 // Calls that take less than this, in nanoseconds, are timed so many in a row that they take as long: to ask for the time
-// takes some 25.
+// takes some 50.
 const SHORT: f64 = 2000.0;
 
 /// The least time of each call, in nanoseconds, of those that `each` is time for. They take turns, so that what else
