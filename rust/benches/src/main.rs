@@ -6,7 +6,7 @@
 //!
 //! A cell is the least time of one call, of many. The answers of `row-mask` and of the loops by hand are compared before
 //! they are timed. `turns` runs it by `--lines`, which prints the lines that there are, and by `--turn` with the words of
-//! one and the number of a round, which prints the time of `row-mask` alone.
+//! one and the number of a round, which prints the time of `row-mask` alone, and what is to be taken off it.
 
 mod by_hand;
 #[cfg(feature = "fixedbitset")]
@@ -54,7 +54,9 @@ fn main() {
         }
         ["--turn", name, len, share, round] => {
             let number = |word: &str| word.parse::<usize>().expect("a number");
-            println!("{}", table::turn(name, number(len), number(share) as u64, number(round)));
+            let share = number(share) as u64;
+            let (time, beside) = table::turn(name, number(len), share, number(round));
+            println!("{time} {beside}");
         }
         [page, image] => {
             for table in TABLES {

@@ -89,15 +89,15 @@ pub fn lines() -> impl Iterator<Item = (&'static str, usize, Share)> {
     })
 }
 
-/// The time of a call of `row-mask` alone, which `turns` asks for.
-pub fn turn(name: &str, len: usize, share: Share, round: usize) -> f64 {
+/// The time of a call of `row-mask` alone, and what is taken off it, which `turns` asks for.
+pub fn turn(name: &str, len: usize, share: Share, round: usize) -> (f64, f64) {
     let lists = &Lists::new(len, share, round);
     let (by_hand, ours) = (ByHand(lists), Ours(lists));
     let mut calls = compared(&by_hand, &ours, name);
     calls.drain(..calls.len() - 1);
     calls.extend(ours.beside(name));
     let times = least(&mut calls, EACH);
-    times[0] - times.get(1).unwrap_or(&0.0)
+    (times[0], times.get(1).copied().unwrap_or(0.0))
 }
 
 /// The calls by hand, and that of `row-mask` behind them, whose answers are the same.
@@ -161,8 +161,8 @@ fn grouped(number: usize) -> String {
     groups.join(",")
 }
 
-/// A line of a table, and the least times so far: those of the loops by hand, of `row-mask`, and of the peers that
-/// have such a call.
+/// A line of a table, and the least times so far: those of the loops by hand, of `row-mask` with what is taken off, and of
+/// the peers that have such a call.
 struct Line {
     name: &'static str,
     len: usize,
@@ -170,13 +170,15 @@ struct Line {
     said: &'static str,
     by_hand: Vec<f64>,
     ours: f64,
+    beside: f64,
     peers: Vec<Option<f64>>,
 }
 
 impl Line {
     fn new(name: &'static str, len: usize, share: Share, said: &'static str, peers: usize) -> Line {
         let (by_hand, peers) = (vec![], vec![None; peers]);
-        Line { name, len, share, said, by_hand, ours: f64::INFINITY, peers }
+        let (ours, beside) = (f64::INFINITY, f64::INFINITY);
+        Line { name, len, share, said, by_hand, ours, beside, peers }
     }
 
     /// Times all once more, of lists that lie elsewhere in each round.
@@ -194,18 +196,17 @@ impl Line {
         for least in &mut self.by_hand {
             *least = least.min(times.next().unwrap());
         }
-        let ours = times.next().unwrap();
+        self.ours = self.ours.min(times.next().unwrap());
         for (least, has) in self.peers.iter_mut().zip(has) {
             *least = has.then(|| times.next().unwrap().min(least.unwrap_or(f64::INFINITY)));
         }
-        let beside = times.next().unwrap_or(0.0);
-        self.ours = self.ours.min(ours - beside);
+        self.beside = self.beside.min(times.next().unwrap_or(0.0));
     }
 
     /// The time of the best loop by hand, and the ratios of the others to it.
     fn cells(&self) -> Vec<String> {
         let best = self.by_hand.iter().copied().fold(f64::INFINITY, f64::min);
-        let mut cells = vec![nanoseconds(best), format!("{:.2}", self.ours / best)];
+        let mut cells = vec![nanoseconds(best), format!("{:.2}", (self.ours - self.beside) / best)];
         cells.extend(
             self.peers
                 .iter()
