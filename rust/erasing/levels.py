@@ -15,6 +15,7 @@ LEVELLED = {
         "count_bits",
         "count_true",
         "negate_in_place",
+        "none_in_shifted_words",
         "none_true",
         "put_bits",
         "put_bools",

@@ -80,6 +80,20 @@ fn none_in_words<C: BitOp>(
 // inlined, so that the quicker case stays small.
 #[inline(never)]
 fn none_in_shifted_words<C: BitOp>(a: Bits<'_>, b: Bits<'_>, words: usize) -> bool {
+    crate::kit::by_level!(
+        none_in_shifted_words_v3::<C>(a, b, words),
+        none_in_shifted_words_any::<C>(a, b, words)
+    )
+}
+
+#[cfg(target_arch = "x86_64")]
+#[target_feature(enable = "avx2,bmi1,bmi2,f16c,fma,lzcnt,movbe,popcnt")]
+fn none_in_shifted_words_v3<C: BitOp>(a: Bits<'_>, b: Bits<'_>, words: usize) -> bool {
+    none_in_shifted_words_any::<C>(a, b, words)
+}
+
+#[inline(always)]
+fn none_in_shifted_words_any<C: BitOp>(a: Bits<'_>, b: Bits<'_>, words: usize) -> bool {
     let inner = a.neighbors().min(b.neighbors()).min(words);
     none_in_inner_words::<C>(a, b, inner)
         && none_in_block::<C, Covered, Covered>(a, b, inner, words)
