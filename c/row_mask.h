@@ -1,4 +1,4 @@
-/* Proved loops over bitmaps. Made by rust/declarations from crates/mask_c: edit that. */
+/* Proved loops over bitmaps. Made by c/declarations from crates/mask_c: edit that. */
 #ifndef ROW_MASK_H
 #define ROW_MASK_H
 

@@ -1,5 +1,5 @@
 /* Where each exported name of the library for x86-64 goes: to its loop for x86-64-v3 where the processor has that,
- * and else to the one for x86-64-v2. Made by rust/declarations from crates/mask_c: edit that. */
+ * and else to the one for x86-64-v2. Made by c/declarations from crates/mask_c: edit that. */
 
 #define EACH(of) \
     of(version) of(is_within) of(room) of(value) of(words) of(count) of(count_range) \
