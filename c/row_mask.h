@@ -44,17 +44,19 @@
 #error "row_mask: C99 or later is needed"
 #endif
 
-#if SIZE_MAX != UINT64_MAX || !defined(__BYTE_ORDER__) || __BYTE_ORDER__ != __ORDER_LITTLE_ENDIAN__
+/* (Windows runs on such machines alone, and not each compiler there says so) */
+#if SIZE_MAX != UINT64_MAX || \
+    (!defined(_WIN32) && (!defined(__BYTE_ORDER__) || __BYTE_ORDER__ != __ORDER_LITTLE_ENDIAN__))
 #error "row_mask: the library is for 64-bit machines whose words begin with the lowest byte"
 #endif
 
-/* The library for x86-64 has each function twice, compiled for x86-64-v2 and, under names that begin with
- * `row_mask_v3_`, for x86-64-v3, which has AVX2. A program that is itself compiled for x86-64-v3 calls those.
- * In any other one each name goes to those that the processor is good for, which is found before `main`.
- * A program may say what all names begin with, such as `-DROW_MASK_PREFIX='"row_mask_"'` for a library that
- * has each function once. */
-#if !defined(ROW_MASK_PREFIX) && defined(__x86_64__) && defined(__AVX2__) && defined(__BMI__) && \
-    defined(__BMI2__) && defined(__F16C__) && defined(__FMA__) && defined(__LZCNT__) && defined(__MOVBE__)
+/* The library for Linux on x86-64 has each function twice, compiled for x86-64-v2 and, under names that begin
+ * with `row_mask_v3_`, for x86-64-v3, which has AVX2. A program that is itself compiled for x86-64-v3 calls
+ * those. In any other one each name goes to those that the processor is good for, which is found before
+ * `main`. A program may say what all names begin with, such as `-DROW_MASK_PREFIX='"row_mask_"'`. */
+#if !defined(ROW_MASK_PREFIX) && defined(__linux__) && defined(__x86_64__) && defined(__AVX2__) && \
+    defined(__BMI__) && defined(__BMI2__) && defined(__F16C__) && defined(__FMA__) && defined(__LZCNT__) && \
+    defined(__MOVBE__)
 #define ROW_MASK_PREFIX "row_mask_v3_"
 #endif
 #if defined(ROW_MASK_PREFIX) && defined(__GNUC__)
