@@ -30,6 +30,9 @@ LEVELLED = {
         "row_mask_words",
     ],
 }
+# Of these, loops over vectors alone. In a program that is compiled for x86-64-v2 they stay as it has them: there LLVM
+# reads each 32 bytes as two halves.
+WIDE = {"combine", "combine_in_place", "negate_in_place", "none_in_shifted_words", "none_true", "put_bits"}
 # Functions that have a copy by the instruction PEXT.
 BY_PEXT = {"put_chosen", "put_pairs"}
 PEXT = [
@@ -68,7 +71,8 @@ def levelled(function, of, body):
 #[inline(always)]
 {function.signature(of_any, "")} {body}
 """
-    return f"{{ crate::kit::by_level!({by_pext}{calls[0]}, {calls[1]}) }}", more
+    wide = "wide_" if function.name in WIDE else ""
+    return f"{{ crate::kit::by_{wide}level!({by_pext}{calls[0]}, {calls[1]}) }}", more
 
 
 def by_pext(function, body, is_levelled):

@@ -158,7 +158,7 @@ def without_levels(words, name):
     kept, i = [], 0
     while i < len(words):
         body = words.index("{", i) if words[i] == "fn" and "{" in words[i:] else None
-        if body is None or words[body + 1 : body + 7] != "crate :: kit :: by_level !".split():
+        if body is None or " ".join(words[body + 1 : body + 7]).replace("wide_", "") != "crate :: kit :: by_level !":
             kept.append(words[i])
             i += 1
             continue

@@ -4,6 +4,8 @@
 //!     cargo run --release -- --only CALL            prints the lines of one call
 //!     cargo run --release -- README.md density.svg  writes the tables into a page, and the picture
 //!
+//! With `--cfg row_mask_one_level` it has the table of calls without `pdep` and `pext` alone.
+//!
 //! A cell is the least time of one call, of many. The answers of `row-mask` and of the loops by hand are compared before
 //! they are timed. `turns` runs it by `--lines`, which prints the lines that there are, and by `--turn` with the words of
 //! one and the number of a round, which prints the time of `row-mask` alone, and what is to be taken off it.
@@ -58,16 +60,21 @@ fn main() {
             let (time, beside) = table::turn(name, number(len), share, number(round));
             println!("{time} {beside}");
         }
+        [page] => write(page, &load),
         [page, image] => {
-            for table in TABLES {
-                let lines = table.timed(|_| true);
-                page::write(page, table.heading, &lines, &table.taken_on(&load));
-            }
+            write(page, &load);
             picture::write(image);
         }
         _ => {
             eprintln!("a page and a picture to write, one call, or nothing");
             exit(2);
         }
+    }
+}
+
+fn write(page: &str, load: &str) {
+    for table in TABLES {
+        let lines = table.timed(|_| true);
+        page::write(page, table.heading, &lines, &table.taken_on(load));
     }
 }

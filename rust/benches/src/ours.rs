@@ -1,8 +1,6 @@
 //! The calls of `row-mask`.
 
 mod masks;
-#[cfg(feature = "no_instructions")]
-mod no_instructions;
 
 use crate::Call;
 use crate::lists::{Lists, OFFSETS, Packed, is_named, is_small};
@@ -27,17 +25,13 @@ impl Ours<'_> {
             "and, at odd bits" => Box::new(move || last(a_moved.and(b_moved).unwrap())),
             "==" => Box::new(move || u64::from(a == copy)),
             "==, at odd bits" => Box::new(move || u64::from(a_moved == copy)),
-            "rank intersection" => Box::new(move || last(a.intersect_by_rank(ranks).unwrap())),
-            #[cfg(feature = "no_instructions")]
-            "rank intersection, no pdep" => {
-                Box::new(move || last(no_instructions::without_pdep(a, ranks)))
+            "rank intersection" | "rank intersection, no pdep" => {
+                Box::new(move || last(a.intersect_by_rank(ranks).unwrap()))
             }
             "choose" => Box::new(move || a.choose(rows).unwrap().last().copied().unwrap_or(0)),
-            "choose bits, by pext" | "choose bits, of Vec<bool>" => {
+            "choose bits, by pext" | "choose bits, no pext" | "choose bits, of Vec<bool>" => {
                 Box::new(move || last(a.choose_bits(b).unwrap()))
             }
-            #[cfg(feature = "no_instructions")]
-            "choose bits, no pext" => Box::new(move || last(no_instructions::without_pext(a, b))),
             "choose, by a selection" => {
                 let chosen = Selection::new(a);
                 Box::new(move || chosen.choose(rows).unwrap().last().copied().unwrap_or(0))

@@ -4,6 +4,7 @@ use crate::Call;
 use crate::lists::Lists;
 use std::marker::PhantomData;
 
+#[cfg(not(row_mask_one_level))]
 pub const NAMES: [&str; 2] = ["fixedbitset", "CRoaring"];
 
 /// The libraries, where they are asked for.

@@ -15,8 +15,6 @@ const SHARES: [u64; 15] = [1, 5, 10, 20, 50, 100, 200, 300, 400, 500, 600, 700, 
 const LINES: &[(&str, &str, &str, &str)] = &[
     ("rank intersection", "row-mask", "#1f77b4", ""),
     ("rank intersection", "by hand", "#1f77b4", "4 3"),
-    #[cfg(feature = "no_instructions")]
-    ("rank intersection, no pdep", "row-mask", "#2ca02c", ""),
     ("choose", "row-mask", "#d62728", ""),
     ("choose", "by hand", "#d62728", "4 3"),
 ];

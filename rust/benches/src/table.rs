@@ -4,7 +4,9 @@ use crate::Call;
 use crate::by_hand::ByHand;
 use crate::lists::{Lists, Share};
 use crate::ours::Ours;
-use crate::peers::{self, Peers};
+#[cfg(not(row_mask_one_level))]
+use crate::peers::NAMES;
+use crate::peers::Peers;
 use crate::timed::{self, least};
 use std::fmt::Write;
 use std::time::Duration;
@@ -25,6 +27,17 @@ pub struct Table {
     peers: &'static [&'static str],
 }
 
+/// Those of a build whose calls go by what it is compiled for.
+#[cfg(row_mask_one_level)]
+pub const TABLES: [Table; 1] = [Table {
+    heading: "## Without `pdep` and `pext`",
+    ours: "row-mask",
+    calls: &["rank intersection, no pdep", "choose bits, no pext"],
+    lengths: &[1 << 16, 1 << 20],
+    peers: &[],
+}];
+
+#[cfg(not(row_mask_one_level))]
 pub const TABLES: [Table; 2] = [
     Table {
         heading: "## Table",
@@ -36,12 +49,8 @@ pub const TABLES: [Table; 2] = [
             "==",
             "==, at odd bits",
             "rank intersection",
-            #[cfg(feature = "no_instructions")]
-            "rank intersection, no pdep",
             "choose",
             "choose bits, by pext",
-            #[cfg(feature = "no_instructions")]
-            "choose bits, no pext",
             "choose bits, of Vec<bool>",
             "choose, by a selection",
             "choose bits, by a selection",
@@ -56,7 +65,7 @@ pub const TABLES: [Table; 2] = [
             "scan",
         ],
         lengths: &[1 << 16, 1 << 20],
-        peers: &peers::NAMES,
+        peers: &NAMES,
     },
     Table {
         heading: "## Masks",

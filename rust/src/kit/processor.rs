@@ -27,6 +27,20 @@ macro_rules! by_level {
 }
 pub(crate) use by_level;
 
+/// The same of loops over vectors alone: a program that is compiled for x86-64-v2 takes its own, since the compiler reads
+/// each 32 bytes as two halves there.
+macro_rules! by_wide_level {
+    ($v3:expr, $any:expr) => {{
+        #[cfg(all(target_arch = "x86_64", not(target_feature = "sse4.2")))]
+        if crate::kit::processor::has_v3() {
+            // SAFETY: the processor has what it is compiled for.
+            return unsafe { $v3 };
+        }
+        $any
+    }};
+}
+pub(crate) use by_wide_level;
+
 /// Deposits by PDEP where that is quick, and else as the sources do.
 macro_rules! quickest {
     ($call:ident::<Portable $(, $more:tt)?>($($argument:expr),* $(,)?)) => {{
