@@ -140,22 +140,6 @@ impl<'a> Bitmap<'a> {
         BitChunks::new_proved(self.bytes, self.offset, self.len)
     }
 
-    // The bytes from the one that value 0 is in on.
-    #[inline]
-    pub(crate) fn touched(self) -> &'a [u8] {
-        self.bytes.get(self.offset / 8..).unwrap_or_default()
-    }
-
-    // The words of 64 values that lie whole in the bytes, where the first begins at a byte, and else none.
-    #[inline]
-    pub(crate) fn whole_words(self) -> &'a [[u8; 8]] {
-        if !self.offset.is_multiple_of(8) {
-            return &[];
-        }
-        let (words, _) = self.bytes[self.offset / 8..].as_chunks();
-        &words[..self.len / 64]
-    }
-
     // The values of a range that lies within them.
     pub(crate) fn part(self, Range { start, end }: Range<usize>) -> Bitmap<'a> {
         debug_assert!(start <= end && end <= self.len);

@@ -1,6 +1,6 @@
 //! Iterators, from both ends, beside those of a plain list.
 
-use crate::lists::{Comparisons, Generator, indices_of};
+use crate::lists::{Comparisons, Generator, indices_of, runs_of};
 use row_mask::Bitmap;
 use std::fmt::Debug;
 
@@ -53,4 +53,30 @@ fn steps<T: Debug + PartialEq>(
     seen.same(walk.clone().rev().eq(plain.clone().rev()), true);
     seen.same(walk.by_ref().eq(plain), true);
     seen.same((walk.next(), walk.next_back()), (None, None));
+}
+
+/// A clone of a walk over runs goes on from the same place, which its text says too.
+#[test]
+fn clones_of_runs() {
+    let mut random = Generator(3);
+    for len in [0, 1, 64, 65, 200, 500] {
+        for offset in [0, 3, 13] {
+            let list = random.list(len, 128);
+            let bytes = random.packed(&list, offset);
+            let bitmap = Bitmap::new(&bytes, offset, len).unwrap();
+            let (runs, mut walk, mut end) = (runs_of(&list), bitmap.runs(), 0);
+            for k in 0..=runs.len() {
+                assert_eq!(
+                    format!("{walk:?}"),
+                    format!("Runs {{ bitmap: {bitmap:?}, next: {end} }}")
+                );
+                assert!(walk.size_hint().1.unwrap() >= runs.len() - k);
+                assert!(walk.clone().eq(runs[k..].iter().cloned()));
+                walk = walk.clone();
+                assert_eq!(walk.next(), runs.get(k).cloned());
+                end = runs.get(k).map_or(len, |run| run.end);
+            }
+            assert_eq!((walk.next(), walk.clone().next()), (None, None));
+        }
+    }
 }
