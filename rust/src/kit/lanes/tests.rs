@@ -264,7 +264,7 @@ fn number(bytes: &[u8]) -> u64 {
     bytes.iter().rev().fold(0, |number, byte| 256 * number + u64::from(*byte))
 }
 
-/// Tests of what lanes of each type are made of, and of a count that is too large.
+/// Tests of what lanes of each type are made of, and of the counts to shift them by.
 macro_rules! types {
     ($($name:ident [$lane:ident; $count:literal];)*) => {
         mod splat {$(
@@ -291,16 +291,19 @@ macro_rules! types {
             }
         )*}
 
-        mod too_large_a_count {$(
-            // (a build with debug assertions says so, and another one takes it modulo the lane's bits)
+        mod count {$(
+            // (debug assertions tell of one that is too large, and else it is taken modulo the lane's bits)
             #[test]
             fn $name() {
                 use super::*;
-                let count = $lane::BITS as $lane + 3;
-                let by_arrays = catch_unwind(|| arrays::$name::every(count).0);
-                let made = catch_unwind(|| lanes::$name::every(count).0);
-                assert_eq!(by_arrays.ok(), (!cfg!(debug_assertions)).then_some(3));
-                assert_eq!(made.ok(), (!cfg!(debug_assertions)).then_some(3));
+                let bits = $lane::BITS as $lane;
+                for count in (0..bits + 4).chain([$lane::MAX]) {
+                    let by_rule = (count < bits || !cfg!(debug_assertions)).then_some(count % bits);
+                    let by_arrays = catch_unwind(|| arrays::$name::every(count).0);
+                    let made = catch_unwind(|| lanes::$name::every(count).0);
+                    assert_eq!(by_arrays.ok(), by_rule, "by arrays, of {count}");
+                    assert_eq!(made.ok(), by_rule, "of {count}");
+                }
             }
         )*}
     };
