@@ -67,6 +67,33 @@ LEAVES = {
         " list: at.list + (left <= right) as usize, other: at.other + (right <= left) as usize,"
         " found: at.found + (left == right) as usize, } }",
     ),
+    "last_bytes": (
+        "{ if bytes.len() <= first { return 0; } if bytes.len() >= 16 { return end_of_sixteen(bytes, first); }"
+        " let rest = &bytes[first..]; let mut chunk = [0u8; 16]; chunk[..rest.len()].copy_from_slice(rest);"
+        " u128::from_le_bytes(chunk) }",
+        "{ crate::kit::words::last_bytes(bytes, first) }",
+    ),
+    "ReadWord for Covered::word": (
+        "{ let word = word_of(bits.bytes, i); if bits.low == 0 { word } else {"
+        " funnel_shift_inside(word, bits.bytes[8 * i + 8] as u64, bits.low) } }",
+        "{ let word = word_of(bits.bytes, i); if bits.low == 0 { word } else {"
+        " funnel_shift_inside(word, crate::kit::words::item(bits.bytes, 8 * i + 8) as u64, bits.low) } }",
+    ),
+    "Room for Lent::put": (
+        "{ self.out[self.at] = item; self.at += 1; }",
+        "{ crate::kit::words::put(self.out, self.at, item); self.at += 1; }",
+    ),
+    "indices_of_word": (
+        "{ let mut word = word; let mut at = at; while word != 0 { if at == out.len() { return at; }"
+        " out[at] = first + word.trailing_zeros() as usize; at += 1; word &= word - 1; } at }",
+        "{ crate::kit::words::put_indices(word, first, out, at) }",
+    ),
+    "offset_at": ("{ offsets[i].get() }", "{ crate::kit::words::item(offsets, i).get() }"),
+    "set_offset": ("{ offsets[i] = O::of(n); }", "{ crate::kit::words::put(offsets, i, O::of(n)); }"),
+    "put_part": (
+        "{ let written = at + (end - begin); out[at..written].copy_from_slice(&bytes[begin..end]); written }",
+        "{ let written = at + (end - begin); crate::kit::words::put_part(bytes, begin, end, out, at); written }",
+    ),
 }
 # Functions that are put into their callers always: tests of places make them seem too long for that.
 INLINED = ["eight_steps", "next_word"]

@@ -5,8 +5,9 @@ import re
 from erasing.changes import CORE, ELSEWHERE, GONE, INLINED, INSIDE, LAWFUL, LEAVES, PLACES, SAME
 from erasing.conditions import TESTS, Condition
 from erasing.levels import BY_PEXT, LEVELLED, by_pext, levelled
-from erasing.tokens import Fault, attached, leaves, spaced
+from erasing.tokens import Fault, attached, leaves, spaced, words
 
+GENERIC = r"(?:\s*<(?:[^<>]|<[^<>]*>|->)*>)?"
 DROP = re.compile(r"\s*\+\s*Drop\b|:\s*Drop\b")
 
 
@@ -188,10 +189,12 @@ class Erasure:
         head = self.source.text(i, body)
         if re.search(r"\bModel\s+for\b", head):
             return self.taken("models", i, last, before)
-        trait = re.search(r"(\w+)\s*(<[^{]*>)?\s+for\s", head)
-        of = re.search(r"impl\s*(<(?:[^<>]|<[^<>]*>|->)*>)?\s*(\w+)", head)
-        items = self.items(body + 1, last - 1, ("trait impl", trait[1]) if trait else ("impl", of[2]))
-        quality = "// SAFETY: its answers are proved to be as the contract says.\nunsafe " if trait and trait[1] in LAWFUL else ""
+        of, by = re.search(rf"impl{GENERIC}\s+(?:\w+::)*(\w+){GENERIC}(?:\s+for\s+(\w*))?", head).groups()
+        # (with the type, so that two of one trait are told apart)
+        context = ("impl", of) if by is None else ("trait impl", f"{of} for {by}")
+        items = self.items(body + 1, last - 1, context)
+        is_lawful = by is not None and of in LAWFUL
+        quality = "// SAFETY: its answers are proved to be as the contract says.\nunsafe " if is_lawful else ""
         return f"{before}{quality}{DROP.sub('', head)}{{{items}}}", last
 
     def item_trait(self, i, j, end, context, before, attributes):
@@ -326,7 +329,8 @@ impl core::error::Error for {name} {{}}
         body = self.leaf(where, body)
         before, inline = self.inlining(where, before, body)
         if kind == "trait impl":
-            name = function.name + ("_proved" if (of, function.name) in self.twins else "")
+            is_twin = (of.partition(" for ")[0], function.name) in self.twins
+            name = function.name + ("_proved" if is_twin else "")
             return f"{before}{inline}{function.signature(name)} {body}", last + 1
         levels, is_levelled = "", where in LEVELLED.get(self.crate, [])
         if self.crate == "mask_bits" and where in BY_PEXT:
@@ -368,7 +372,7 @@ impl core::error::Error for {name} {{}}
     def leaf(self, where, body):
         if where not in LEAVES:
             return body
-        if spaced(body) != spaced(LEAVES[where][0]):
+        if words(body) != words(LEAVES[where][0]):
             raise Fault(f"{self.source.name}: the leaf {where} has another body")
         self.count("leaves", body)
         return LEAVES[where][1]

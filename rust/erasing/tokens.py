@@ -18,6 +18,15 @@ def spaced(text):
     return " ".join(text.split())
 
 
+def words(text):
+    """The tokens of a text but for space and comments.
+
+    >>> words("f(1) // one")
+    ['f', '(', '1', ')']
+    """
+    return [m[0] for m in TOKEN.finditer(text) if m.lastgroup not in ("space", "comment")]
+
+
 class Source:
     """The tokens of a file, with the partner of each bracket.
 

@@ -46,6 +46,77 @@ pub(crate) fn kept(
     }
 }
 
+/// The bytes from byte `first` on, fewer than sixteen, as one number, the first lowest. They are read where they stand,
+/// since to copy so few takes longer.
+#[inline(always)]
+pub(crate) fn last_bytes(bytes: &[u8], first: usize) -> u128 {
+    let count = bytes.len().saturating_sub(first);
+    match bytes.get(first..).and_then(|rest| rest.first_chunk()) {
+        None => u128::from(last_of_eight(bytes, count)),
+        Some(front) => {
+            let behind = last_of_eight(bytes, count - 8);
+            u128::from(u64::from_le_bytes(*front)) | u128::from(behind) << 64
+        }
+    }
+}
+
+/// The last `count` bytes, fewer than eight, as one number.
+#[inline(always)]
+fn last_of_eight(bytes: &[u8], count: usize) -> u64 {
+    match bytes.last_chunk() {
+        // (two shifts, since one by 64 would be none)
+        Some(last) => u64::from_le_bytes(*last) >> 8 >> (8 * (7 - count)),
+        None => {
+            bytes.iter().rev().take(count).fold(0, |number, byte| number << 8 | u64::from(*byte))
+        }
+    }
+}
+
+/// Item `i`.
+#[inline(always)]
+pub(crate) fn item<T: Copy>(items: &[T], i: usize) -> T {
+    debug_assert!(i < items.len());
+    // SAFETY: the contract of the proved caller: `i < items.len()`.
+    *unsafe { items.get_unchecked(i) }
+}
+
+/// Writes an item to place `at`.
+#[inline(always)]
+pub(crate) fn put<T: Copy>(out: &mut [T], at: usize, item: T) {
+    debug_assert!(at < out.len());
+    // SAFETY: the contract of the proved caller: `at < out.len()`.
+    *unsafe { out.get_unchecked_mut(at) } = item;
+}
+
+/// Writes `first` and the indices of the set bits of a word from there on behind the first `at` indices, as many as there
+/// is room for, and answers how many there are then.
+#[inline(always)]
+pub(crate) fn put_indices(mut word: u64, first: usize, out: &mut [usize], at: usize) -> usize {
+    debug_assert!(at <= out.len());
+    if word == 0 {
+        return at;
+    }
+    let end = at + (word.count_ones() as usize).min(out.len().wrapping_sub(at));
+    for at in at..end {
+        put(out, at, first + word.trailing_zeros() as usize);
+        word &= word - 1;
+    }
+    end
+}
+
+/// Writes the bytes from `begin` to `end` behind the first `at` bytes.
+#[inline(always)]
+pub(crate) fn put_part(bytes: &[u8], begin: usize, end: usize, out: &mut [u8], at: usize) {
+    debug_assert!(begin <= end && end <= bytes.len() && at <= out.len());
+    debug_assert!(end - begin <= out.len() - at);
+    // SAFETY: the contract of the proved caller: `begin <= end`, `end <= bytes.len()` and `at + (end - begin) <=
+    // out.len()`. What is borrowed to be written is borrowed by nothing else.
+    unsafe {
+        let to = out.as_mut_ptr().add(at);
+        to.copy_from_nonoverlapping(bytes.as_ptr().add(begin), end - begin);
+    }
+}
+
 /// What puts an item into room that a list has.
 pub(crate) trait Reserved<T> {
     /// Puts it behind the others.
@@ -61,6 +132,40 @@ impl<T> Reserved<T> for Vec<T> {
         unsafe {
             self.as_mut_ptr().add(count).write(item);
             self.set_len(count + 1);
+        }
+    }
+}
+
+#[cfg(test)]
+mod tests {
+    use alloc::vec::Vec;
+
+    /// As when the bytes are copied to sixteen zeros.
+    #[test]
+    fn last_bytes_are_those_of_a_copy() {
+        let bytes: Vec<u8> = (1..=40).map(|i| 6 * i).collect();
+        for len in 0..=bytes.len() {
+            for first in len.saturating_sub(15)..len + 3 {
+                let mut copy = [0; 16];
+                let rest = bytes[..len].get(first..).unwrap_or_default();
+                copy[..rest.len()].copy_from_slice(rest);
+                let made = super::last_bytes(&bytes[..len], first);
+                assert_eq!(made, u128::from_le_bytes(copy), "from byte {first} of {len}");
+            }
+        }
+    }
+
+    /// As many as there is room for, and no place behind them.
+    #[test]
+    fn indices_end_where_the_room_does() {
+        for word in [0, 1, 0b1011, u64::MAX, 1 << 63] {
+            for room in 0..70 {
+                let mut out = [7; 70];
+                let end = super::put_indices(word, 100, &mut out[..room], room.min(2));
+                let bits = (0..64).filter(|bit| word >> bit & 1 == 1).map(|bit| 100 + bit);
+                let wanted: Vec<usize> = (0..2).map(|_| 7).chain(bits).take(room).collect();
+                assert_eq!((&out[..end], &out[end..]), (&wanted[..], &[7; 70][end..]));
+            }
         }
     }
 }

@@ -78,7 +78,11 @@ impl ReadWord for Covered {
         if bits.low == 0 {
             word
         } else {
-            funnel_shift_inside(word, bits.bytes[8 * i + 8] as u64, bits.low)
+            funnel_shift_inside(
+                word,
+                crate::kit::words::item(bits.bytes, 8 * i + 8) as u64,
+                bits.low,
+            )
         }
     }
 }

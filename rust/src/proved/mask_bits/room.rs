@@ -45,7 +45,7 @@ pub struct Lent<'a, T> {
 impl<'a, T: Copy> Room<T> for Lent<'a, T> {
     #[inline(always)]
     fn put(&mut self, item: T) {
-        self.out[self.at] = item;
+        crate::kit::words::put(self.out, self.at, item);
         self.at += 1;
     }
 

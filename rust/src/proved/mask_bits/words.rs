@@ -65,21 +65,11 @@ fn sixteen_whole_bytes(bytes: &[u8], first: usize) -> u128 {
 #[cold]
 #[inline(never)]
 fn last_bytes(bytes: &[u8], first: usize) -> u128 {
-    if bytes.len() <= first {
-        return 0;
-    }
-    // the end of a longer list is read as it stands, since to copy it takes longer
-    if bytes.len() >= 16 {
-        return end_of_sixteen(bytes, first);
-    }
-    let rest = &bytes[first..];
-    let mut chunk = [0u8; 16];
-    chunk[..rest.len()].copy_from_slice(rest);
-    u128::from_le_bytes(chunk)
+    crate::kit::words::last_bytes(bytes, first)
 }
 
 // Sixteen bytes from byte `first` on, by the last sixteen, with those before `first` shifted out.
-#[inline(always)]
+#[inline]
 fn end_of_sixteen(bytes: &[u8], first: usize) -> u128 {
     let begin = bytes.len() - 16;
     sixteen_whole_bytes(bytes, begin) >> (8 * (first - begin))

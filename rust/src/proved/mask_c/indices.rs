@@ -129,17 +129,7 @@ fn put_block<R: Room<usize>>(out: &mut R, first: usize, words: &[u64; 4], ones: 
 // as many as there is room for, and answers how many there are then.
 #[inline(always)]
 fn indices_of_word(word: u64, first: usize, out: &mut [usize], at: usize) -> usize {
-    let mut word = word;
-    let mut at = at;
-    while word != 0 {
-        if at == out.len() {
-            return at;
-        }
-        out[at] = first + word.trailing_zeros() as usize;
-        at += 1;
-        word &= word - 1;
-    }
-    at
+    crate::kit::words::put_indices(word, first, out, at)
 }
 
 // Writes the indices of the true values of started word `i` to the front of `block`, and answers how

@@ -101,12 +101,12 @@ pub fn row_mask_take_offsets_8(indices: &[usize], offsets: &[u64], out: &mut [u6
 // Offset `i`.
 #[inline]
 pub(crate) fn offset_at<O: Offset>(offsets: &[O], i: usize) -> usize {
-    offsets[i].get()
+    crate::kit::words::item(offsets, i).get()
 }
 
 #[inline]
 fn set_offset<O: Offset>(offsets: &mut [O], i: usize, n: usize) {
-    offsets[i] = O::of(n);
+    crate::kit::words::put(offsets, i, O::of(n));
 }
 
 // How many bytes string `i` has.

@@ -137,6 +137,6 @@ fn part_before(
 #[inline]
 fn put_part(bytes: &[u8], begin: usize, end: usize, out: &mut [u8], at: usize) -> usize {
     let written = at + (end - begin);
-    out[at..written].copy_from_slice(&bytes[begin..end]);
+    crate::kit::words::put_part(bytes, begin, end, out, at);
     written
 }
