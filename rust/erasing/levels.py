@@ -21,7 +21,7 @@ LEVELLED = {
         "put_bools",
         "put_chosen",
     ],
-    "vortex_mask": ["choose_rows", "intersect_mask_driven", "narrow_at_ranks", "narrow_by_bits"],
+    "vortex_mask": ["choose_rows", "intersect_mask_driven", "narrow_at_ranks", "narrow_by_bits", "narrow_by_list"],
     "mask_c": [
         "row_mask_counts_below",
         "row_mask_from_indices",
@@ -33,6 +33,8 @@ LEVELLED = {
 # Of these, loops over vectors alone. In a program that is compiled for x86-64-v2 they stay as it has them: there LLVM
 # reads each 32 bytes as two halves.
 WIDE = {"combine", "combine_in_place", "negate_in_place", "none_in_shifted_words", "none_true", "put_bits"}
+# Levelled functions that others call in their loops: these go on to the one of their own level.
+INNER = {"count_bits": "crate::proved::mask_bits::counts::count_bits_any"}
 # Functions that have a copy by the instruction PEXT.
 BY_PEXT = {"put_chosen", "put_pairs"}
 PEXT = [
@@ -62,6 +64,8 @@ def levelled(function, of, body):
     place = "Self" if of else None
     calls = [function.call(it, place, []) for it in (v3, of_any)]
     by_pext = function.call(f"{function.name}_by_pext", place, []) + ", " if function.name in BY_PEXT else ""
+    for name, path in INNER.items():
+        body = re.sub(rf"\b{name}\(", f"{path}(", body)
     more = f"""
 
 #[cfg(target_arch = "x86_64")]
@@ -69,7 +73,7 @@ def levelled(function, of, body):
 {function.signature(v3, "")} {{ {calls[1]} }}
 
 #[inline(always)]
-{function.signature(of_any, "")} {body}
+{function.signature(of_any, "pub(crate) " if function.name in INNER else "")} {body}
 """
     wide = "wide_" if function.name in WIDE else ""
     return f"{{ crate::kit::by_{wide}level!({by_pext}{calls[0]}, {calls[1]}) }}", more

@@ -4,6 +4,7 @@ the other side, and then both are one list of tokens. Commas and imports are not
 import re
 
 from erasing.changes import LAWFUL, LEAVES
+from erasing.levels import INNER
 from erasing.tokens import CLOSING, OPENING, TOKEN, Fault, spaced
 
 # Words of a source that have another name in what was made of it.
@@ -47,6 +48,7 @@ NEW = [
 ]
 # Forms that are others, on either side.
 SAME = [
+    *((path.partition("mask_bits::")[2].replace("::", " :: "), name) for name, path in INNER.items()),
     (r"vec ! \[ ([^;\]]*) ; ([^\]]*) \]", r"filled ( \1 \2 )"),
     (r"write ! \( (?!f )((?:\w+ \. )*\w+) ([^()]*) \)", r"\1 . try_write ( format_args ! ( \2 ) )"),
     (r"fn fmt < W : fmt :: Write > \( & self f : & mut fmt :: Formatter < W > \)",
@@ -172,7 +174,8 @@ def without_levels(words, name):
         begin = ['"' if it.startswith('"') else it for it in words[last : last + len(of_v3)]]
         inner = last + len(of_v3)
         end = words.index("}", inner)
-        of_any = ["#", "[", "inline", "(", "always", ")", "]", "fn", f"{of}_any", *head]
+        seen = "pub ( crate )".split() if of in INNER else []
+        of_any = [*"# [ inline ( always ) ]".split(), *seen, "fn", f"{of}_any", *head]
         at = end + 1 + len(of_any)
         pext = f"(?:{call.replace('LEVEL', 'by_pext')} , )?"
         fits = re.fullmatch(f"{pext}({call.replace('LEVEL', 'v3')}) , ({call.replace('LEVEL', 'any')})", calls)

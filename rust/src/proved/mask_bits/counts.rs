@@ -17,7 +17,7 @@ fn count_bits_v3(bytes: &[u8], position: usize, len: usize) -> usize {
 }
 
 #[inline(always)]
-fn count_bits_any(bytes: &[u8], position: usize, len: usize) -> usize {
+pub(crate) fn count_bits_any(bytes: &[u8], position: usize, len: usize) -> usize {
     if len < 64 {
         return count_few(bytes, position, len);
     }

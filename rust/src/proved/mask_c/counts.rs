@@ -68,7 +68,8 @@ fn row_mask_counts_below_any(
     let mut from = 0;
     let mut below = 0;
     for (i, index) in indices.iter().enumerate() {
-        below += count_bits(bytes, offset + from, *index - from);
+        below +=
+            crate::proved::mask_bits::counts::count_bits_any(bytes, offset + from, *index - from);
         from = *index;
         out[i] = below;
     }

@@ -74,5 +74,27 @@ fn narrow_by_list<D: DepositBits>(
     ranks: &[usize],
     out: &mut [u8],
 ) -> Steps {
+    crate::kit::by_level!(
+        narrow_by_list_v3::<D>(chunks, ranks, out),
+        narrow_by_list_any::<D>(chunks, ranks, out)
+    )
+}
+
+#[cfg(target_arch = "x86_64")]
+#[target_feature(enable = "avx2,bmi1,bmi2,f16c,fma,lzcnt,movbe,popcnt")]
+fn narrow_by_list_v3<D: DepositBits>(
+    chunks: &BitChunks<'_>,
+    ranks: &[usize],
+    out: &mut [u8],
+) -> Steps {
+    narrow_by_list_any::<D>(chunks, ranks, out)
+}
+
+#[inline(always)]
+fn narrow_by_list_any<D: DepositBits>(
+    chunks: &BitChunks<'_>,
+    ranks: &[usize],
+    out: &mut [u8],
+) -> Steps {
     Narrowed::new(0).narrow_rest::<D, _>(chunks, &ListedRanks { ranks }, out)
 }
