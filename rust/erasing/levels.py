@@ -36,11 +36,8 @@ WIDE = {"combine", "combine_in_place", "negate_in_place", "none_in_shifted_words
 # Levelled functions that others call in their loops: these go on to the one of their own level.
 INNER = {"count_bits": "crate::proved::mask_bits::counts::count_bits_any"}
 # Functions that have a copy by the instruction PEXT.
-BY_PEXT = {"put_chosen", "put_pairs"}
-PEXT = [
-    (r"\bput_pairs\(", "put_pairs_by_pext("),
-    (r"\b(extract|extract_two)\(", r"crate::kit::processor::\1("),
-]
+BY_PEXT = {"put_chosen"}
+PEXT = [(r"\b(extract|put_pairs)\(", r"crate::kit::processor::\1(")]
 
 
 def levelled(function, of, body):

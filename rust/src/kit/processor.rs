@@ -4,7 +4,7 @@
 
 use crate::proved::vortex_mask::intersect_by_rank as proved;
 #[cfg(target_arch = "x86_64")]
-pub(crate) use by_instruction::{Bmi2, extract, extract_two};
+pub(crate) use by_instruction::{Bmi2, extract, put_pairs};
 
 /// Calls the function that is compiled for what the processor has: where PEXT is quick, for x86-64-v3, or for any.
 macro_rules! by_level {
@@ -160,8 +160,11 @@ mod by_instruction {
     //! What the instructions give. Each is what the contracts of deposits, extractions and selections say, by the manual of
     //! the processor. Nothing here runs unless `has_quick_bits` answers yes.
 
+    use crate::proved::mask_bits::BitChunks;
+    use crate::proved::mask_bits::choose_values::LastChosen;
     use crate::proved::vortex_mask::intersect_by_rank::{DepositBits, SelectBit};
     use core::arch::x86_64::{_pdep_u64, _pext_u64};
+    use core::hint::{black_box, select_unpredictable};
 
     /// Deposits and selections by PDEP.
     pub(crate) struct Bmi2;
@@ -191,10 +194,35 @@ mod by_instruction {
         unsafe { _pext_u64(source, mask) }
     }
 
-    /// The same of two words.
+    /// The same of all pairs of whole words, put one behind another: as the proved loop of this name, but with no branch
+    /// that would be guessed wrong.
     #[inline(always)]
-    pub(crate) fn extract_two(sources: [u64; 2], masks: [u64; 2]) -> [u64; 2] {
-        [extract(sources[0], masks[0]), extract(sources[1], masks[1])]
+    pub(crate) fn put_pairs(
+        masks: &BitChunks<'_>,
+        values: &BitChunks<'_>,
+        out: &mut [u8],
+    ) -> LastChosen {
+        // (where the compiler sees that nobody reads a write, it has a branch around it)
+        let mut nowhere = [0; 8];
+        let nowhere = black_box(&raw mut nowhere);
+        let out = out.as_mut_ptr().cast::<[u8; 8]>();
+        let (mut words, mut low, mut begun) = (0, 0, 0);
+        for i in 0..masks.len() / 2 * 2 {
+            let mask = masks.word_proved(i);
+            let word = extract(values.word_proved(i), mask);
+            let (end, joined) = (low + mask.count_ones(), begun | word << low);
+            let is_whole = end >= 64;
+            // SAFETY: the contract of the proved loop: there is room for all bits.
+            unsafe {
+                let place = select_unpredictable(is_whole, out.add(words), nowhere);
+                place.write(joined.to_le_bytes());
+            }
+            // (two shifts, since one by 64 would be none)
+            begun = select_unpredictable(is_whole, word >> 1 >> (63 - low), joined);
+            words += usize::from(is_whole);
+            low = end % 64;
+        }
+        LastChosen { count: 64 * words + low as usize, word: begun }
     }
 }
 

@@ -84,7 +84,7 @@ fn put_chosen_any(masks: &BitChunks<'_>, values: &BitChunks<'_>, out: &mut [u8])
 #[target_feature(enable = "avx2,bmi1,bmi2,f16c,fma,lzcnt,movbe,popcnt")]
 fn put_chosen_by_pext(masks: &BitChunks<'_>, values: &BitChunks<'_>, out: &mut [u8]) -> LastChosen {
     let words = masks.started_words();
-    let mut last = put_pairs_by_pext(masks, values, out);
+    let mut last = crate::kit::processor::put_pairs(masks, values, out);
     for i in masks.len() / 2 * 2..words {
         let mask = masks.started_word_proved(i);
         let word = crate::kit::processor::extract(values.started_word_proved(i), mask);
@@ -101,23 +101,6 @@ fn put_pairs(masks: &BitChunks<'_>, values: &BitChunks<'_>, out: &mut [u8]) -> L
         let i = 2 * pair;
         let two = [masks.word_proved(i), masks.word_proved(i + 1)];
         let words = extract_two([values.word_proved(i), values.word_proved(i + 1)], two);
-        last = put_behind(out, last, words[0], two[0].count_ones() as usize);
-        last = put_behind(out, last, words[1], two[1].count_ones() as usize);
-    }
-    last
-}
-
-#[cfg(target_arch = "x86_64")]
-#[inline(always)]
-fn put_pairs_by_pext(masks: &BitChunks<'_>, values: &BitChunks<'_>, out: &mut [u8]) -> LastChosen {
-    let mut last = LastChosen { count: 0, word: 0 };
-    for pair in 0..masks.len() / 2 {
-        let i = 2 * pair;
-        let two = [masks.word_proved(i), masks.word_proved(i + 1)];
-        let words = crate::kit::processor::extract_two(
-            [values.word_proved(i), values.word_proved(i + 1)],
-            two,
-        );
         last = put_behind(out, last, words[0], two[0].count_ones() as usize);
         last = put_behind(out, last, words[1], two[1].count_ones() as usize);
     }
