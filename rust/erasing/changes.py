@@ -95,6 +95,8 @@ LEAVES = {
         "{ let written = at + (end - begin); crate::kit::words::put_part(bytes, begin, end, out, at); written }",
     ),
 }
+# Private functions that calls by hand go to.
+PUBLIC_HERE = {"put_ends", "put_strings", "take_offsets"}
 # Functions that are put into their callers always: tests of places make them seem too long for that.
 INLINED = ["eight_steps", "next_word"]
 # What only the package's own calls do.

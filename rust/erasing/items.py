@@ -2,7 +2,7 @@
 import collections
 import re
 
-from erasing.changes import CORE, ELSEWHERE, GONE, INLINED, INSIDE, LAWFUL, LEAVES, PLACES, SAME
+from erasing.changes import CORE, ELSEWHERE, GONE, INLINED, INSIDE, LAWFUL, LEAVES, PLACES, PUBLIC_HERE, SAME
 from erasing.conditions import TESTS, Condition
 from erasing.levels import BY_PEXT, LEVELLED, by_pext, levelled
 from erasing.tokens import Fault, attached, leaves, spaced, words
@@ -327,6 +327,9 @@ impl core::error::Error for {name} {{}}
         kind, of = context
         where = function.name if of is None else f"{of}::{function.name}"
         body = self.leaf(where, body)
+        if where in PUBLIC_HERE:
+            self.count("private functions")
+            function.before = "pub(crate) " + function.before
         before, inline = self.inlining(where, before, body)
         if kind == "trait impl":
             is_twin = (of.partition(" for ")[0], function.name) in self.twins

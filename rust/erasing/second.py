@@ -3,7 +3,7 @@ what has to be gone, and from those of what was made what has to be new, gives a
 the other side, and then both are one list of tokens. Commas and imports are not compared."""
 import re
 
-from erasing.changes import LAWFUL, LEAVES
+from erasing.changes import LAWFUL, LEAVES, PUBLIC_HERE
 from erasing.levels import INNER
 from erasing.tokens import CLOSING, OPENING, TOKEN, Fault, spaced
 
@@ -45,6 +45,7 @@ NEW = [
     r"let (\w+) = \1 \. into_iter \( \) ;",
     r": Sized(?= \{)",
     r"unsafe(?= (?:trait|impl))",
+    rf"pub \( crate \)(?= fn (?:{'|'.join(sorted(PUBLIC_HERE))}) )",
 ]
 # Forms that are others, on either side.
 SAME = [

@@ -118,7 +118,7 @@ fn size_at<O: Offset>(offsets: &[O], i: usize) -> usize {
 // Writes behind the first `at` offsets where each of the strings at some indices ends, if the first of
 // them begins at byte `from`, and answers where the last one ends.
 #[inline]
-fn put_ends<O: Offset>(
+pub(crate) fn put_ends<O: Offset>(
     indices: &[usize],
     offsets: &[O],
     from: usize,
@@ -135,7 +135,7 @@ fn put_ends<O: Offset>(
 
 // The offsets of the strings at some indices.
 #[inline]
-fn take_offsets<O: Offset>(indices: &[usize], offsets: &[O], out: &mut [O]) -> usize {
+pub(crate) fn take_offsets<O: Offset>(indices: &[usize], offsets: &[O], out: &mut [O]) -> usize {
     set_offset(out, 0, 0);
     put_ends(indices, offsets, 0, out, 1)
 }

@@ -96,7 +96,7 @@ fn choose_strings<O: Offset>(
 // Writes the strings at some indices behind the first `at` bytes, and answers how many bytes there are
 // then. Strings that are neighbors are copied at once.
 #[inline]
-fn put_strings<O: Offset>(
+pub(crate) fn put_strings<O: Offset>(
     indices: &[usize],
     offsets: &[O],
     string_bytes: &[u8],
