@@ -14,8 +14,10 @@ mod text;
 
 pub(crate) use read::INDICES_OF_A_BLOCK;
 pub use room::Room;
+pub(crate) use room::as_items as as_bytes;
 pub(crate) use room::{
-    append_to, as_bytes, as_cells, copy_to, front, init, list_of, room_for, take_first,
+    append_to, as_cells, as_items, copy_to, first_of, first_unfit, front, init, list_of, room_for,
+    take_first,
 };
 pub(crate) use text::debug;
 

@@ -4,7 +4,8 @@ use super::{append_to, as_cells, front};
 use crate::proved::mask_bits::room::Lent;
 use crate::proved::vortex_mask::choose_rows;
 use crate::{Bitmap, Error, Row};
-use std::mem::MaybeUninit;
+use alloc::vec::Vec;
+use core::mem::MaybeUninit;
 
 impl Bitmap<'_> {
     /// The rows at the true values, in their order.
@@ -27,19 +28,11 @@ impl Bitmap<'_> {
 
     /// As [`choose`](Bitmap::choose), behind the items of a list.
     ///
-    /// ```
-    /// # use row_mask::Bitmap;
-    /// let (rows, mut chosen) = (Bitmap::new(&[0b0_1101], 0, 5)?, vec![7]);
-    /// rows.choose_append(&[10, 11, 12, 13, 14], &mut chosen)?;
-    /// assert_eq!(chosen, [7, 10, 12, 13]);
-    /// # Ok::<(), row_mask::Error>(())
-    /// ```
-    ///
     /// # Errors
     ///
-    /// [`Error::RowsDiffer`] as there, and [`Error::OutOfMemory`]. Then the list is as it was.
+    /// As there. Then the list is as it was.
     pub fn choose_append<T: Row>(self, rows: &[T], list: &mut Vec<T>) -> Result<(), Error> {
-        self.has_one_for_each(rows)?;
+        self.has_one_for_each(rows.len())?;
         // SAFETY: there is a row for each value, and a place for each true value, which is written.
         unsafe { append_to(list, self.count(), |out| self.choose_to(rows, out)) }
     }
@@ -48,25 +41,27 @@ impl Bitmap<'_> {
     ///
     /// # Errors
     ///
-    /// [`Error::RowsDiffer`] as there, and [`Error::RoomTooSmall`] where `out` has fewer items than values
-    /// are true.
+    /// [`Error::RowsDiffer`] as there, and [`Error::RoomTooSmall`] where `out` has fewer items than values are true.
     pub fn choose_into<T: Row>(self, rows: &[T], out: &mut [T]) -> Result<usize, Error> {
-        self.has_one_for_each(rows)?;
+        self.has_one_for_each(rows.len())?;
         let count = self.count();
         // SAFETY: there is a row for each value, and `out` has one for each true value, which is written.
         unsafe { self.choose_to(rows, front(out, count)?) };
         Ok(count)
     }
 
-    fn has_one_for_each<T>(self, rows: &[T]) -> Result<(), Error> {
-        if rows.len() == self.len {
+    // Tests that there is a row for each value.
+    pub(crate) fn has_one_for_each(self, rows: usize) -> Result<(), Error> {
+        if rows == self.len {
             return Ok(());
         }
-        Err(Error::RowsDiffer { rows: rows.len(), len: self.len })
+        Err(Error::RowsDiffer { rows, len: self.len })
     }
 
     // Writes each place. There is a row for each value, and just as many places as values are true.
     fn choose_to<T: Row>(self, rows: &[T], out: &mut [MaybeUninit<T>]) {
-        choose_rows::<0, _, _>(&mut Lent { out, at: 0 }, as_cells(rows), &self.chunks());
+        // (of a length that the compiler sees, no part is tested)
+        let rows = &as_cells(rows)[..self.len];
+        choose_rows::<0, _, _>(&mut Lent { out, at: 0 }, rows, &self.chunks());
     }
 }

@@ -1,6 +1,6 @@
 //! The values of another bitmap at the true values.
 
-use super::{Room, as_bytes, call};
+use super::{Room, as_items, call};
 use crate::{Bitmap, BitmapBuf, Error};
 use std::mem::MaybeUninit;
 
@@ -40,9 +40,7 @@ impl Bitmap<'_> {
         bits: Bitmap<'_>,
         out: &mut (impl Room + ?Sized),
     ) -> Result<usize, Error> {
-        if bits.len != self.len {
-            return Err(Error::RowsDiffer { rows: bits.len, len: self.len });
-        }
+        self.has_one_for_each(bits.len)?;
         let count = self.count();
         // SAFETY: it writes each byte.
         unsafe { out.write(count, |out| self.choose_bits_to(bits, out))? };
@@ -52,6 +50,6 @@ impl Bitmap<'_> {
     // (of as many bits as values, to just the bytes that those at true values take)
     pub(crate) fn choose_bits_to(self, bits: Bitmap<'_>, out: &mut [MaybeUninit<u8>]) {
         // SAFETY: it writes each byte.
-        call!(row_mask_choose_bits(self, bits.bytes, bits.offset, unsafe { as_bytes(out) }));
+        call!(row_mask_choose_bits(self, bits.bytes, bits.offset, unsafe { as_items(out) }));
     }
 }

@@ -1,7 +1,7 @@
 //! Bitmaps combined value by value.
 
 use super::room::Room;
-use super::{as_bytes, call};
+use super::{as_items, call};
 use crate::proved::mask_c;
 use crate::{Bitmap, BitmapBuf, Error};
 use std::mem::MaybeUninit;
@@ -97,7 +97,7 @@ impl Bitmap<'_> {
     // Writes the bytes of the values negated, to room for just them.
     fn not_to(self, out: &mut [MaybeUninit<u8>]) {
         // SAFETY: it writes each byte.
-        call!(row_mask_not(self, unsafe { as_bytes(out) }));
+        call!(row_mask_not(self, unsafe { as_items(out) }));
     }
 
     /// The same values, written into `out`.
@@ -121,7 +121,7 @@ impl Bitmap<'_> {
     pub(crate) fn copy_to(self, out: &mut [MaybeUninit<u8>]) {
         debug_assert!(out.len() >= self.len.div_ceil(8));
         // SAFETY: it writes each byte.
-        call!(row_mask_copy(self, unsafe { as_bytes(out) }));
+        call!(row_mask_copy(self, unsafe { as_items(out) }));
     }
 
     fn combined(self, other: Bitmap<'_>, combine: impl Combine) -> Result<BitmapBuf, Error> {
@@ -141,7 +141,7 @@ impl Bitmap<'_> {
         // SAFETY: it writes each byte.
         unsafe {
             out.write(len, |out| {
-                combine(a.bytes, a.offset, b.bytes, b.offset, len, as_bytes(out));
+                combine(a.bytes, a.offset, b.bytes, b.offset, len, as_items(out));
             })
         }
     }

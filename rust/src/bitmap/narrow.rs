@@ -1,7 +1,7 @@
 //! Rank intersection: a bitmap narrowed by another over its true values.
 
 use super::room::Room;
-use super::{as_bytes, call};
+use super::{as_items, call, first_unfit};
 use crate::{Bitmap, BitmapBuf, Error};
 
 impl Bitmap<'_> {
@@ -38,7 +38,7 @@ impl Bitmap<'_> {
         // SAFETY: it writes each byte.
         unsafe {
             out.write(self.len, |out| {
-                call!(row_mask_intersect_by_rank(self, bits, offset, count, as_bytes(out)));
+                call!(row_mask_intersect_by_rank(self, bits, offset, count, as_items(out)));
             })
         }
     }
@@ -73,8 +73,8 @@ impl Bitmap<'_> {
         ranks: &[usize],
         out: &mut (impl Room + ?Sized),
     ) -> Result<(), Error> {
-        if let Some(at) = ranks.windows(2).position(|pair| pair[1] <= pair[0]) {
-            return Err(Error::UnsortedRanks { at: at + 1 });
+        if let Some(at) = first_unfit(ranks, PartialOrd::lt) {
+            return Err(Error::UnsortedRanks { at });
         }
         let count = self.count();
         if let Some(&rank) = ranks.last().filter(|rank| **rank >= count) {
@@ -83,7 +83,7 @@ impl Bitmap<'_> {
         // SAFETY: the ranks ascend and their last is below the count, so all are; it writes each byte.
         unsafe {
             out.write(self.len, |out| {
-                call!(row_mask_intersect_at_ranks(self, ranks, as_bytes(out)));
+                call!(row_mask_intersect_at_ranks(self, ranks, as_items(out)));
             })
         }
     }

@@ -1,8 +1,8 @@
 //! Counts, indices and runs of a bitmap, and its words.
 
-use super::room::{first_of, room_of};
-use super::{call, range_within};
+use super::{append_to, as_items, call, first_of, first_unfit, list_of, range_within};
 use crate::{Bitmap, Error, Indices, Runs, Values};
+use std::mem::MaybeUninit;
 use std::ops::{Range, RangeBounds};
 
 pub(crate) const INDICES_OF_A_BLOCK: usize = 256;
@@ -51,10 +51,12 @@ impl<'a> Bitmap<'a> {
     /// [`Error::IndexOutOfBounds`] where one is above the length, and [`Error::OutOfMemory`].
     pub fn counts_below(self, indices: &[usize]) -> Result<Vec<usize>, Error> {
         self.are_ends(indices)?;
-        let mut counts = room_of(indices.len())?;
-        counts.resize(indices.len(), 0);
-        call!(row_mask_counts_below(self, indices, &mut counts));
-        Ok(counts)
+        // SAFETY: each place is written.
+        unsafe {
+            list_of(indices.len(), |out| {
+                call!(row_mask_counts_below(self, indices, as_items(out)));
+            })
+        }
     }
 
     /// As [`counts_below`](Bitmap::counts_below), to the front of `out`.
@@ -71,8 +73,8 @@ impl<'a> Bitmap<'a> {
 
     // Tests that indices ascend and are at most the length.
     fn are_ends(self, indices: &[usize]) -> Result<(), Error> {
-        if let Some(at) = indices.windows(2).position(|pair| pair[1] < pair[0]) {
-            return Err(Error::UnsortedIndices { at: at + 1 });
+        if let Some(at) = first_unfit(indices, PartialOrd::le) {
+            return Err(Error::UnsortedIndices { at });
         }
         if let Some(&index) = indices.last().filter(|index| **index > self.len) {
             return Err(Error::IndexOutOfBounds { index, len: self.len });
@@ -101,9 +103,11 @@ impl<'a> Bitmap<'a> {
 
     // Calls a function with the indices of the true values, block after block of them, in the nearest memory.
     pub(crate) fn by_blocks(self, mut of: impl FnMut(&[usize])) {
-        let (mut block, mut from) = ([0; INDICES_OF_A_BLOCK], 0);
+        let (mut block, mut from) = ([MaybeUninit::uninit(); INDICES_OF_A_BLOCK], 0);
+        // SAFETY: none is read that wasn't found.
+        let block = unsafe { as_items(&mut block) };
         loop {
-            let found = self.next_indices(from, &mut block);
+            let found = self.next_indices(from, block);
             of(&block[..found]);
             if found < block.len() {
                 return;
@@ -115,9 +119,15 @@ impl<'a> Bitmap<'a> {
     /// The indices of the true values, ascending, in room for just as many.
     #[must_use]
     pub fn to_indices(self) -> Vec<usize> {
-        let mut indices = vec![0; self.count()];
-        let found = self.next_indices(0, &mut indices);
-        debug_assert_eq!(found, indices.len());
+        let count = self.count();
+        let mut indices = Vec::with_capacity(count);
+        // SAFETY: each place is written, since so many values are true.
+        let made = unsafe {
+            append_to(&mut indices, count, |out| {
+                self.next_indices(0, as_items(out));
+            })
+        };
+        debug_assert!(made.is_ok(), "there is room");
         indices
     }
 

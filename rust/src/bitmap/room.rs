@@ -177,13 +177,13 @@ pub(crate) fn as_cells<T>(items: &[T]) -> &[MaybeUninit<T>] {
     unsafe { slice::from_raw_parts(items.as_ptr().cast(), items.len()) }
 }
 
-/// The same bytes, for a proved loop that writes each of them and reads none before.
+/// The same places as items, for a proved loop of numbers that writes each of them and reads none before.
 ///
 /// # Safety
 ///
-/// Each byte is written before it is read.
-pub(crate) unsafe fn as_bytes(out: &mut [MaybeUninit<u8>]) -> &mut [u8] {
-    // SAFETY: it is the same borrowed slice, any byte is a value, and the rest is asked here.
+/// Each place is written before it is read.
+pub(crate) unsafe fn as_items<T>(out: &mut [MaybeUninit<T>]) -> &mut [T] {
+    // SAFETY: it is the same borrowed slice, and the rest is asked here.
     unsafe { slice::from_raw_parts_mut(out.as_mut_ptr().cast(), out.len()) }
 }
 
@@ -192,6 +192,16 @@ pub(crate) fn init(out: &mut [MaybeUninit<u8>]) -> &mut [u8] {
     out.fill(MaybeUninit::new(0));
     // SAFETY: it is the same borrowed slice, and each byte was written.
     unsafe { slice::from_raw_parts_mut(out.as_mut_ptr().cast(), out.len()) }
+}
+
+/// The place of the first item that isn't fit to stand behind the one before it.
+pub(crate) fn first_unfit<T>(items: &[T], is_fit: impl Fn(&T, &T) -> bool) -> Option<usize> {
+    let mut pairs = items.windows(2).map(|pair| is_fit(&pair[0], &pair[1]));
+    // (a way out of the loop would stop each step)
+    if pairs.clone().fold(true, |all, fit| all & fit) {
+        return None;
+    }
+    pairs.position(|fit| !fit).map(|at| at + 1)
 }
 
 /// How many bytes so many values take.
