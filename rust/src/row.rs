@@ -1,7 +1,5 @@
 //! Rows that are chosen.
 
-use std::mem::MaybeUninit;
-
 /// A value that [`Bitmap::choose`](crate::Bitmap::choose) and [`Selection::choose`](crate::Selection::choose) copy: a
 /// number, a `bool`, a `char`, an array of these, and what a caller says is one.
 ///
@@ -35,20 +33,3 @@ rows!(u8, i8, bool, u16, i16, u32, i32, f32, char, u64, i64, f64, usize, isize, 
 
 // SAFETY: nothing lies between the items of an array.
 unsafe impl<T: Row, const N: usize> Row for [T; N] {}
-
-/// Writes the rows at indices.
-///
-/// # Safety
-///
-/// Each index is below the number of rows, and there are as many as places. These are written.
-#[inline]
-pub(crate) unsafe fn take<T: Row>(
-    indices: impl Iterator<Item = usize>,
-    rows: &[T],
-    out: &mut [MaybeUninit<T>],
-) {
-    for (place, i) in out.iter_mut().zip(indices) {
-        // SAFETY: as is asked here.
-        place.write(*unsafe { rows.get_unchecked(i) });
-    }
-}

@@ -1,9 +1,12 @@
-use crate::bitmap::{Room, append_to, copy_to, front, take_first};
-use crate::{Bitmap, BitmapBuf, Error, Row, row};
-use kept::{Indices, Kept};
-use std::mem::MaybeUninit;
+use crate::bitmap::{INDICES_OF_A_BLOCK, Room, append_to, as_cells, as_items, front, take_first};
+use crate::kit::words::put_indices;
+use crate::proved::mask_bits::room::Lent;
+use crate::proved::mask_bits::{SetSlices, word_rows::push_rows_one_by_one};
+use crate::proved::mask_c::row_mask_and_count;
+use crate::{Bitmap, BitmapBuf, Error, Row};
+use alloc::vec::Vec;
+use core::{mem::MaybeUninit, ops::Range};
 
-mod kept;
 mod strings;
 
 /// The true values of a [`Bitmap`], read once, to choose the rows, bits and strings of many columns. It keeps the
@@ -15,6 +18,7 @@ mod strings;
 /// let chosen = Selection::new(Bitmap::new(&[0b0_1101], 0, 5)?);
 /// assert_eq!(chosen.choose(&[10, 11, 12, 13, 14])?, [10, 12, 13]);
 /// assert_eq!(chosen.choose(&['a', 'b', 'c', 'd', 'e'])?, ['a', 'c', 'd']);
+/// assert_eq!(chosen.choose_bits(Bitmap::new(&[0b1_0110], 0, 5)?)?.to_string(), "010");
 /// # Ok::<(), row_mask::Error>(())
 /// ```
 #[derive(Clone, Debug)]
@@ -24,12 +28,48 @@ pub struct Selection {
     kept: Kept,
 }
 
+// What is kept beside the bitmap. By hand are loops over indices of 4 bytes, which are read in less time than those of 8,
+// and over runs, which are copied at once: no proved loop takes either.
+#[derive(Clone, Debug)]
+enum Kept {
+    // of at most 64 values, where few are true
+    Word(u64),
+    Indices(Vec<u32>),
+    // each by its first index and the one past its last; also where an index may have more than 4 bytes
+    Runs(Vec<(usize, usize)>),
+}
+
+// To copy a run at once pays where runs have so many values, taken together.
+const OF_A_RUN: usize = 24;
+
+impl Kept {
+    // Of a bitmap that begins at bit 0, and has so many true values.
+    fn of(bitmap: Bitmap<'_>, count: usize) -> Kept {
+        let (bytes, len, mut runs) = (bitmap.bytes(), bitmap.len(), count);
+        if count >= OF_A_RUN {
+            // (a run begins where no true value is just before)
+            runs -= row_mask_and_count(bytes, 1, bytes, 0, len - 1);
+        }
+        if OF_A_RUN * runs < count || u32::try_from(len).is_err() {
+            let mut list = Vec::with_capacity(runs);
+            list.extend(SetSlices::new(bitmap.chunks()));
+            return Kept::Runs(list);
+        }
+        if len <= 64 && count < OF_A_RUN {
+            return Kept::Word(bitmap.chunks().started_word_proved(0));
+        }
+        let mut list = Vec::with_capacity(count);
+        #[expect(clippy::cast_possible_truncation, reason = "the length is of 32 bits")]
+        bitmap.by_blocks(|block| list.extend(block.iter().map(|i| *i as u32)));
+        Kept::Indices(list)
+    }
+}
+
 impl Selection {
     /// Reads a bitmap.
     #[must_use]
     pub fn new(bitmap: Bitmap<'_>) -> Selection {
-        let bitmap = bitmap.to_buf();
-        let count = bitmap.as_bitmap().count();
+        let (bitmap, count) = (bitmap.to_buf(), bitmap.count());
         let kept = Kept::of(bitmap.as_bitmap(), count);
         Selection { bitmap, count, kept }
     }
@@ -62,8 +102,7 @@ impl Selection {
     ///
     /// # Errors
     ///
-    /// [`Error::RowsDiffer`] where the column has not [`len`](Selection::len) rows, and
-    /// [`Error::OutOfMemory`].
+    /// [`Error::RowsDiffer`] where the column has not [`len`](Selection::len) rows, and [`Error::OutOfMemory`].
     pub fn choose<T: Row>(&self, rows: &[T]) -> Result<Vec<T>, Error> {
         let mut chosen = Vec::new();
         self.choose_append(rows, &mut chosen)?;
@@ -74,10 +113,10 @@ impl Selection {
     ///
     /// # Errors
     ///
-    /// [`Error::RowsDiffer`] as there, and [`Error::OutOfMemory`]. Then the list is as it was.
+    /// As there. Then the list is as it was.
     pub fn choose_append<T: Row>(&self, rows: &[T], list: &mut Vec<T>) -> Result<(), Error> {
-        self.of_len(rows.len())?;
-        // SAFETY: there is a row for each value, and a place for each true one, which is written.
+        self.as_bitmap().has_one_for_each(rows.len())?;
+        // SAFETY: there is a place for each true value, which is written.
         unsafe { append_to(list, self.count, |out| self.choose_to(rows, out)) }
     }
 
@@ -88,47 +127,17 @@ impl Selection {
     /// [`Error::RowsDiffer`] as there, and [`Error::RoomTooSmall`] where `out` has fewer than
     /// [`count`](Selection::count) items.
     pub fn choose_into<T: Row>(&self, rows: &[T], out: &mut [T]) -> Result<(), Error> {
-        self.of_len(rows.len())?;
-        // SAFETY: there is a row for each value, and a place for each true one, which is written.
+        self.as_bitmap().has_one_for_each(rows.len())?;
+        // SAFETY: rows are written.
         unsafe { self.choose_to(rows, front(out, self.count)?) };
         Ok(())
     }
 
-    // SAFETY of a call: there is a row for each value, and a place for each true one, which is written.
-    unsafe fn choose_to<T: Row>(&self, rows: &[T], out: &mut [MaybeUninit<T>]) {
-        match &self.kept {
-            Kept::Indices(Indices::Short(list)) => {
-                let indices = list.iter().map(|i| *i as usize);
-                // SAFETY: the indices are those of true values, and the rest is asked here.
-                unsafe { row::take(indices, rows, out) };
-            }
-            Kept::Indices(Indices::Long(list)) => {
-                // SAFETY: as above.
-                unsafe { row::take(list.iter().copied(), rows, out) };
-            }
-            Kept::Runs(runs) => {
-                let mut left = out;
-                for run in runs {
-                    copy_to(&rows[run.clone()], take_first(&mut left, run.len()));
-                }
-            }
-        }
-    }
-
     /// The chosen values of a bitmap, such as the validity of a column.
-    ///
-    /// ```
-    /// # use row_mask::{Bitmap, Selection};
-    /// let chosen = Selection::new(Bitmap::new(&[0b0_1101], 0, 5)?);
-    /// let valid = Bitmap::new(&[0b1_0110], 0, 5)?;
-    /// assert_eq!(chosen.choose_bits(valid)?.to_string(), "010");
-    /// # Ok::<(), row_mask::Error>(())
-    /// ```
     ///
     /// # Errors
     ///
-    /// [`Error::RowsDiffer`] where the bitmap has not [`len`](Selection::len) values, and
-    /// [`Error::OutOfMemory`].
+    /// [`Error::RowsDiffer`] where the bitmap has not [`len`](Selection::len) values, and [`Error::OutOfMemory`].
     pub fn choose_bits(&self, bits: Bitmap<'_>) -> Result<BitmapBuf, Error> {
         let mut out = BitmapBuf::default();
         self.choose_bits_into(bits, &mut out)?;
@@ -145,17 +154,53 @@ impl Selection {
         bits: Bitmap<'_>,
         out: &mut (impl Room + ?Sized),
     ) -> Result<(), Error> {
-        self.of_len(bits.len())?;
+        self.as_bitmap().has_one_for_each(bits.len())?;
         // SAFETY: it writes each byte.
         unsafe { out.write(self.count, |out| self.as_bitmap().choose_bits_to(bits, out)) }
     }
 
-    fn of_len(&self, rows: usize) -> Result<(), Error> {
-        let len = self.len();
-        if rows == len {
-            return Ok(());
+    // Writes each place. There is a row for each value, and a place for each true one.
+    fn choose_to<T: Row>(&self, rows: &[T], out: &mut [MaybeUninit<T>]) {
+        let cells = as_cells(rows);
+        match &self.kept {
+            Kept::Word(word) => push_rows_one_by_one(&mut Lent { out, at: 0 }, cells, *word),
+            Kept::Runs(runs) => copy_parts(cells, runs.iter().map(|run| run.0..run.1), out),
+            Kept::Indices(indices) => {
+                for (place, i) in out.iter_mut().zip(indices) {
+                    // SAFETY: it is the index of a true value, and there is a row for each value.
+                    *place = *unsafe { cells.get_unchecked(*i as usize) };
+                }
+            }
         }
-        Err(Error::RowsDiffer { rows, len })
+    }
+
+    // Calls a function with the indices, block after block of them, as the proved loops take them.
+    #[inline]
+    fn by_blocks(&self, mut of: impl FnMut(&[usize])) {
+        let mut block = [MaybeUninit::uninit(); INDICES_OF_A_BLOCK];
+        // SAFETY: none is read that wasn't written.
+        let block = unsafe { as_items(&mut block) };
+        match &self.kept {
+            Kept::Word(word) => {
+                let count = put_indices(*word, 0, block, 0);
+                of(&block[..count]);
+            }
+            Kept::Indices(indices) => {
+                for short in indices.chunks(block.len()) {
+                    block.iter_mut().zip(short).for_each(|(long, short)| *long = *short as usize);
+                    of(&block[..short.len()]);
+                }
+            }
+            Kept::Runs(_) => self.as_bitmap().by_blocks(of),
+        }
+    }
+}
+
+// Copies parts of items, one behind another.
+fn copy_parts<T: Copy>(items: &[T], parts: impl Iterator<Item = Range<usize>>, out: &mut [T]) {
+    let mut left = out;
+    for part in parts {
+        take_first(&mut left, part.len()).copy_from_slice(&items[part]);
     }
 }
 

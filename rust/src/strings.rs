@@ -1,62 +1,31 @@
 //! Values of any length, as strings: their bytes one after another, and where each begins.
 
 use crate::Error;
-use crate::bitmap::{as_bytes, range_within};
-use crate::proved::mask_c::{row_mask_take_bytes_4, row_mask_take_bytes_8};
-use std::mem::MaybeUninit;
-use std::ops::{Range, RangeBounds};
-use std::slice;
+use crate::bitmap::{first_unfit, range_within};
+use crate::proved::mask_c;
+use core::ops::{Range, RangeBounds};
 
 /// Where a value begins in the bytes of a column: 4 or 8 bytes, as Arrow has them.
+#[expect(private_bounds, reason = "no other type is one")]
 pub trait Offset:
-    Copy + Default + PartialOrd + TryFrom<usize> + TryInto<usize> + sealed::Offset
+    Copy + Default + PartialOrd + TryFrom<usize> + TryInto<usize> + mask_c::Offset
 {
 }
 
-mod sealed {
-    use std::mem::MaybeUninit;
-
-    pub trait Offset: Sized {
-        /// # Safety
-        ///
-        /// Each index is below the number of offsets by two or more, no index comes twice, no offset is
-        /// negative or below the one before it, the last is within the bytes, and `out` has as many as the
-        /// strings have, or more. As many are written, and answered.
-        unsafe fn take_bytes(
-            indices: &[usize],
-            offsets: &[Self],
-            bytes: &[u8],
-            out: &mut [MaybeUninit<u8>],
-        ) -> usize;
-    }
-}
-
 macro_rules! offsets {
-    ($($take_bytes:ident as $item:ty: $($offset:ty),+;)+) => {$($(
-        impl Offset for $offset {}
+    ($($signed:ty, $unsigned:ty);+) => {$(
+        impl Offset for $signed {}
+        impl Offset for $unsigned {}
 
-        impl sealed::Offset for $offset {
-            unsafe fn take_bytes(
-                indices: &[usize],
-                offsets: &[Self],
-                bytes: &[u8],
-                out: &mut [MaybeUninit<u8>],
-            ) -> usize {
-                // SAFETY: an offset that isn't negative has the same bytes as one of its size without a sign, and as
-                // many bytes are written as are answered.
-                unsafe {
-                    let offsets = slice::from_raw_parts(offsets.as_ptr().cast::<$item>(), offsets.len());
-                    $take_bytes(indices, offsets, bytes, as_bytes(out))
-                }
-            }
+        #[allow(clippy::pedantic, reason = "none is negative, or more than the last one of a column")]
+        impl mask_c::Offset for $signed {
+            fn get(self) -> usize { self as usize }
+            fn of(n: usize) -> $signed { n as $signed }
         }
-    )+)+};
+    )+};
 }
 
-offsets! {
-    row_mask_take_bytes_4 as u32: u32, i32;
-    row_mask_take_bytes_8 as u64: u64, i64;
-}
+offsets!(i32, u32; i64, u64);
 
 /// A column of strings that lies in borrowed memory: value `i` has the bytes from `offsets[i]` to `offsets[i + 1]`. That
 /// these lie in order within the bytes is tested once.
@@ -88,10 +57,8 @@ impl<'a, O: Offset> Strings<'a, O> {
     /// below the one before it, and [`Error::OffsetOutOfBounds`] where the last is past the end of the bytes.
     pub fn new(offsets: &'a [O], bytes: &'a [u8]) -> Result<Strings<'a, O>, Error> {
         are_sorted(offsets)?;
-        let Some(last) = offsets.last() else {
-            return Err(Error::OffsetsDiffer { offsets: 0, len: 0 });
-        };
-        let (offset, size) = (place(*last), bytes.len());
+        let last = offsets.last().ok_or(Error::OffsetsDiffer { offsets: 0, len: 0 })?;
+        let (offset, size) = (last.get(), bytes.len());
         if offset > size {
             return Err(Error::OffsetOutOfBounds { offset, size });
         }
@@ -114,9 +81,8 @@ impl<'a, O: Offset> Strings<'a, O> {
     #[must_use]
     #[inline]
     pub fn get(self, i: usize) -> Option<&'a [u8]> {
-        let start = *self.offsets.get(i)?;
-        let end = *self.offsets.get(i.wrapping_add(1))?;
-        self.bytes.get(place(start)..place(end))
+        let (start, end) = (self.offsets.get(i)?, self.offsets.get(i.wrapping_add(1))?);
+        self.bytes.get(start.get()..end.get())
     }
 
     /// The values of a range, in the same bytes.
@@ -143,22 +109,8 @@ impl<'a, O: Offset> Strings<'a, O> {
 }
 
 /// Tests that none is negative or below the one before it.
-#[expect(clippy::needless_bitwise_bool, reason = "a way out of the loop would stop each step")]
 pub(crate) fn are_sorted<O: Offset>(offsets: &[O]) -> Result<(), Error> {
-    let is_fit = |i: usize| match i {
-        0 => offsets[0] >= O::default(),
-        _ => offsets[i - 1] <= offsets[i],
-    };
-    let first = offsets.first().is_none_or(|it| *it >= O::default());
-    if offsets.windows(2).fold(first, |fit, pair| fit & (pair[0] <= pair[1])) {
-        return Ok(());
-    }
-    let at = (0..offsets.len()).find(|i| !is_fit(*i)).unwrap_or_default();
-    Err(Error::UnsortedOffsets { at })
-}
-
-/// An offset that isn't negative, as a place in the bytes.
-#[inline]
-pub(crate) fn place<O: Offset>(offset: O) -> usize {
-    offset.try_into().unwrap_or_default()
+    let is_negative = offsets.first().is_some_and(|first| *first < O::default());
+    let unfit = if is_negative { Some(0) } else { first_unfit(offsets, PartialOrd::le) };
+    unfit.map_or(Ok(()), |at| Err(Error::UnsortedOffsets { at }))
 }

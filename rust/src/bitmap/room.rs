@@ -95,14 +95,6 @@ impl sealed::Room for [u8] {
     }
 }
 
-/// Room for `count` items.
-pub(crate) fn room_of<T>(count: usize) -> Result<Vec<T>, Error> {
-    let mut list = Vec::new();
-    let refused = Error::OutOfMemory { bytes: count.saturating_mul(size_of::<T>()) };
-    list.try_reserve_exact(count).map_err(|_| refused)?;
-    Ok(list)
-}
-
 /// The first `needed` items.
 pub(crate) fn first_of<T>(out: &mut [T], needed: usize) -> Result<&mut [T], Error> {
     let room = out.len();
@@ -118,7 +110,9 @@ pub(crate) unsafe fn list_of<T>(
     count: usize,
     fill: impl FnOnce(&mut [MaybeUninit<T>]),
 ) -> Result<Vec<T>, Error> {
-    let mut list = room_of(count)?;
+    let mut list = Vec::new();
+    let refused = Error::OutOfMemory { bytes: count.saturating_mul(size_of::<T>()) };
+    list.try_reserve_exact(count).map_err(|_| refused)?;
     // SAFETY: this is what is asked here too.
     unsafe { append_to(&mut list, count, fill)? };
     Ok(list)
@@ -161,14 +155,6 @@ pub(crate) unsafe fn front<T: Copy>(
 #[expect(clippy::mut_mut, reason = "the list that is left becomes a shorter one")]
 pub(crate) fn take_first<'a, T>(left: &mut &'a mut [T], count: usize) -> &'a mut [T] {
     left.split_off_mut(..count).unwrap_or_default()
-}
-
-/// Copies items to as many places, at once.
-pub(crate) fn copy_to<T: Copy>(items: &[T], out: &mut [MaybeUninit<T>]) {
-    debug_assert_eq!(items.len(), out.len());
-    let count = items.len().min(out.len());
-    // SAFETY: both have so many, and what is borrowed to be written is borrowed by nothing else.
-    unsafe { out.as_mut_ptr().cast::<T>().copy_from_nonoverlapping(items.as_ptr(), count) };
 }
 
 /// Items as cells that may be written or not, for loops that copy from them.
