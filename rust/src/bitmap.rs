@@ -1,7 +1,7 @@
 use crate::proved::mask_bits::BitChunks;
 use crate::proved::mask_c;
 use crate::{BitmapBuf, Error, Values};
-use std::ops::{Bound, Range, RangeBounds};
+use core::ops::{Bound, Range, RangeBounds};
 
 mod choose;
 mod choose_bits;

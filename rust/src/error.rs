@@ -1,5 +1,5 @@
-use std::error;
-use std::fmt;
+use core::error;
+use core::fmt;
 
 /// Why a call was refused. Nothing was done.
 #[derive(Debug, Clone, Copy, PartialEq, Eq)]

@@ -2,7 +2,7 @@
 
 use super::{Room, as_items, call};
 use crate::{Bitmap, BitmapBuf, Error};
-use std::mem::MaybeUninit;
+use core::mem::MaybeUninit;
 
 impl Bitmap<'_> {
     /// The values of another bitmap at the true values, in their order: the validity of a column that is

@@ -4,8 +4,8 @@ use super::room::Room;
 use super::{as_items, call};
 use crate::proved::mask_c;
 use crate::{Bitmap, BitmapBuf, Error};
-use std::mem::MaybeUninit;
-use std::ops::Not;
+use core::mem::MaybeUninit;
+use core::ops::Not;
 
 impl Bitmap<'_> {
     /// The values that are true in both.

@@ -2,8 +2,10 @@
 
 use super::{append_to, as_items, call, first_of, first_unfit, list_of, range_within};
 use crate::{Bitmap, Error, Indices, Runs, Values};
-use std::mem::MaybeUninit;
-use std::ops::{Range, RangeBounds};
+use alloc::vec;
+use alloc::vec::Vec;
+use core::mem::MaybeUninit;
+use core::ops::{Range, RangeBounds};
 
 pub(crate) const INDICES_OF_A_BLOCK: usize = 256;
 

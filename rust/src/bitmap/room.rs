@@ -2,8 +2,9 @@
 
 use crate::buf::pack_values;
 use crate::{BitmapBuf, Error};
-use std::mem::MaybeUninit;
-use std::slice;
+use alloc::vec::Vec;
+use core::mem::MaybeUninit;
+use core::slice;
 
 /// What the calls named `.._into` write a bitmap into, from bit 0 on: bytes of the caller, or a
 /// [`BitmapBuf`], which then has just these values and keeps the memory that it has.
@@ -38,7 +39,7 @@ impl Room for [u8] {}
 
 pub(crate) mod sealed {
     use crate::Error;
-    use std::mem::MaybeUninit;
+    use core::mem::MaybeUninit;
 
     pub trait Room {
         /// Writes `len` values by what gets the bytes that they take.

@@ -1,7 +1,8 @@
 //! How a bitmap is printed.
 
 use crate::Bitmap;
-use std::fmt;
+use alloc::string::String;
+use core::fmt;
 
 /// `1` for each true value and `0` for each false one, in their order.
 impl fmt::Display for Bitmap<'_> {
