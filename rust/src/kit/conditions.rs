@@ -39,11 +39,12 @@ fn ascends_any(indices: &[usize]) -> bool {
     let next = indices.get(1..).unwrap_or_default();
     let fits = |index: Option<&usize>| index.is_none_or(|index| index.cast_signed() >= 0);
     if fits(indices.first()) && fits(indices.last()) {
-        // signed numbers are compared in fewer steps, and between these two none is negative where all ascend
-        return indices
+        // between these two no index has the top bit where all ascend, and then a difference has it just where they do
+        let tops = indices
             .iter()
             .zip(next)
-            .fold(true, |so_far, (one, next)| so_far & (one.cast_signed() < next.cast_signed()));
+            .fold(usize::MAX, |so_far, (one, next)| so_far & one.wrapping_sub(*next) & !next);
+        return tops.cast_signed() < 0;
     }
     indices.is_sorted_by(|one, next| one < next)
 }
