@@ -83,6 +83,14 @@ LEAVES = {
         "{ self.out[self.at] = item; self.at += 1; }",
         "{ crate::kit::words::put(self.out, self.at, item); self.at += 1; }",
     ),
+    "choose_rows": (
+        "{ let whole = chunks.len(); for i in 0..whole {"
+        " push_rows_of_word::<K, _, _>(out, &rows[64 * i..64 * i + 64], chunks.word(i)); }"
+        " push_rows_one_by_one(out, &rows[64 * whole..], chunks.remainder_bits()); }",
+        "{ let whole = chunks.len(); for i in 0..whole {"
+        " push_rows_of_word::<K, _, _>(out, crate::kit::words::part(rows, 64 * i, 64), chunks.word(i)); }"
+        " push_rows_one_by_one(out, &rows[64 * whole..], chunks.remainder_bits()); }",
+    ),
     "indices_of_word": (
         "{ let mut word = word; let mut at = at; while word != 0 { if at == out.len() { return at; }"
         " out[at] = first + word.trailing_zeros() as usize; at += 1; word &= word - 1; } at }",

@@ -60,8 +60,6 @@ impl Bitmap<'_> {
 
     // Writes each place. There is a row for each value, and just as many places as values are true.
     fn choose_to<T: Row>(self, rows: &[T], out: &mut [MaybeUninit<T>]) {
-        // (of a length that the compiler sees, no part is tested)
-        let rows = &as_cells(rows)[..self.len];
-        choose_rows::<0, _, _>(&mut Lent { out, at: 0 }, rows, &self.chunks());
+        choose_rows::<0, _, _>(&mut Lent { out, at: 0 }, as_cells(rows), &self.chunks());
     }
 }

@@ -80,6 +80,14 @@ pub(crate) fn item<T: Copy>(items: &[T], i: usize) -> T {
     *unsafe { items.get_unchecked(i) }
 }
 
+/// The `count` items from item `first` on.
+#[inline(always)]
+pub(crate) fn part<T>(items: &[T], first: usize, count: usize) -> &[T] {
+    debug_assert!(count <= items.len() && first <= items.len() - count);
+    // SAFETY: the contract of the proved caller: `first + count <= items.len()`.
+    unsafe { items.get_unchecked(first..first + count) }
+}
+
 /// Writes an item to place `at`.
 #[inline(always)]
 pub(crate) fn put<T: Copy>(out: &mut [T], at: usize, item: T) {

@@ -37,7 +37,11 @@ fn choose_rows_any<const K: usize, T: Copy, R: Room<T>>(
 ) {
     let whole = chunks.len();
     for i in 0..whole {
-        push_rows_of_word::<K, _, _>(out, &rows[64 * i..64 * i + 64], chunks.word_proved(i));
+        push_rows_of_word::<K, _, _>(
+            out,
+            crate::kit::words::part(rows, 64 * i, 64),
+            chunks.word_proved(i),
+        );
     }
     push_rows_one_by_one(out, &rows[64 * whole..], chunks.remainder_bits());
 }
