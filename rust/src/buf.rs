@@ -1,8 +1,9 @@
 use crate::bitmap;
 use crate::{Bitmap, Values};
-use std::fmt;
-use std::hash::{Hash, Hasher};
-use std::ops::Not;
+use alloc::vec::Vec;
+use core::fmt;
+use core::hash::{Hash, Hasher};
+use core::ops::Not;
 
 mod change;
 mod lanes;

@@ -3,7 +3,7 @@
 use crate::bitmap::{range_within, room_for};
 use crate::proved::mask_c;
 use crate::{Bitmap, BitmapBuf, Error};
-use std::ops::{Range, RangeBounds};
+use core::ops::{Range, RangeBounds};
 
 impl BitmapBuf {
     /// Leaves those values true that are true in `other` too, in place.

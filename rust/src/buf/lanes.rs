@@ -1,7 +1,7 @@
 //! Truth values as lanes, each all ones or all zeros, which the processor makes of comparisons, and packs.
 
-use std::array;
-use std::mem::MaybeUninit;
+use core::array;
+use core::mem::MaybeUninit;
 
 /// Values before they are packed. With lanes of 16 bits a compiler makes vectors of comparisons of rows of any size;
 /// with those of 8 it does worse by rows of 8 bytes, and with wider ones by rows of 1.
@@ -67,7 +67,7 @@ pub(super) fn pack_words<T>(
     out: &mut [[MaybeUninit<u8>; 8]],
 ) {
     #[cfg(target_arch = "x86_64")]
-    if is_x86_feature_detected!("avx2") {
+    if cfg!(target_feature = "avx2") || crate::kit::processor::has_v3() {
         // SAFETY: the processor has it.
         unsafe { pack_words_by_avx2(rows, is_true, out) };
         return;
@@ -141,8 +141,8 @@ fn word_by<T>(all: &[T; 64], mut of: impl FnMut(&[T; 16]) -> u16) -> u64 {
 mod bits {
     //! The bits of sixteen lanes, by what each processor of x86-64 has.
 
-    use std::arch::x86_64::{__m128i, _mm_movemask_epi8, _mm_packs_epi16, _mm_packs_epi32};
-    use std::mem::transmute;
+    use core::arch::x86_64::{__m128i, _mm_movemask_epi8, _mm_packs_epi16, _mm_packs_epi32};
+    use core::mem::transmute;
 
     macro_rules! bits {
         ($($of:ident: $lane:ty, $count:literal, $by:ident;)+) => {$(
@@ -214,8 +214,8 @@ mod bits {
 #[cfg(test)]
 mod tests {
     use super::{pack_each_word, pack_words};
-    use std::array;
-    use std::mem::MaybeUninit;
+    use core::array;
+    use core::mem::MaybeUninit;
 
     fn agree<T>(row: impl Fn(usize) -> T, mut is_true: impl FnMut(&T) -> bool) {
         let rows: Vec<[T; 64]> =

@@ -4,10 +4,13 @@ use super::pack::{AHEAD, pack, pack_fn};
 use crate::bitmap::{Room, as_bytes, init, range_within, room_for};
 use crate::proved::mask_c::{row_mask_append, row_mask_fill_range, row_mask_from_indices};
 use crate::{Bitmap, BitmapBuf, Error};
-use std::alloc::{Layout, alloc_zeroed};
-use std::mem::MaybeUninit;
-use std::ops::Range;
-use std::ptr;
+use alloc::alloc::{Layout, alloc_zeroed};
+use alloc::boxed::Box;
+use alloc::vec;
+use alloc::vec::Vec;
+use core::mem::MaybeUninit;
+use core::ops::Range;
+use core::ptr;
 
 impl BitmapBuf {
     // The `len` values that `fill` writes into room for them.

@@ -5,7 +5,7 @@ use super::lanes::{Lanes, pack_words};
 use crate::Error;
 use crate::bitmap::{Room, as_bytes, room_for};
 use crate::proved::mask_c;
-use std::mem::MaybeUninit;
+use core::mem::MaybeUninit;
 
 // Bytes that are asked for ahead by a number that nothing has borne out yet, such as an iterator's hint.
 pub(super) const AHEAD: usize = 1 << 20;
