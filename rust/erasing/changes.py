@@ -106,7 +106,7 @@ LEAVES = {
 # Private functions that calls by hand go to.
 PUBLIC_HERE = {"put_ends", "put_strings", "take_offsets"}
 # Functions that are put into their callers always: tests of places make them seem too long for that.
-INLINED = ["eight_steps", "next_word"]
+INLINED = ["Iterator for SetSlices::next", "eight_steps", "next_word", "past_full_words"]
 # What only the package's own calls do.
 QUICKEST = "the processor's deposits"
 ALLOCATOR = r"(?:\w+\.)*alloc\b(?!\s*[:(!])"

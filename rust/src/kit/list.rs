@@ -127,14 +127,17 @@ pub trait Fill: Copy {
 impl Fill for u8 {
     #[inline]
     fn filled(self, count: usize) -> Result<Vec<u8>, AllocError> {
-        let mut list = Vec::with_room(if self == 0 { 0 } else { count })?;
-        if self == 0 {
+        if self == 0 && count > FEW {
             return zeroed(count);
         }
+        let mut list = Vec::with_room(count)?;
         list.resize(count, self);
         Ok(list)
     }
 }
+
+// So few bytes an allocator has at hand, where it may look for those that are 0.
+const FEW: usize = 1024;
 
 impl Fill for usize {}
 impl Fill for u32 {}
@@ -142,11 +145,8 @@ impl Fill for u64 {}
 impl Fill for bool {}
 
 fn zeroed(count: usize) -> Result<Vec<u8>, AllocError> {
-    if count == 0 {
-        return Ok(Vec::new());
-    }
     let layout = Layout::array::<u8>(count).map_err(|_| AllocError)?;
-    // SAFETY: the layout isn't of no bytes.
+    // SAFETY: the layout is of more than no bytes.
     let bytes = unsafe { alloc_zeroed(layout) };
     if bytes.is_null() {
         return Err(AllocError);

@@ -210,7 +210,7 @@ impl<'a> SetSlices<'a> {
 impl Iterator for SetSlices<'_> {
     type Item = (usize, usize);
 
-    #[inline]
+    #[inline(always)]
     fn next(&mut self) -> Option<(usize, usize)> {
         let (at, word) = next_word(&self.chunks, self.at, self.word)?;
         let start = 64 * at + word.trailing_zeros() as usize;
@@ -224,7 +224,7 @@ impl Iterator for SetSlices<'_> {
 }
 
 // From word `at` on, of which `word` is left: the first word that isn't full, or the last.
-#[inline]
+#[inline(always)]
 fn past_full_words(chunks: &BitChunks<'_>, at: usize, word: u64) -> (usize, u64) {
     let mut at = at;
     let mut word = word;

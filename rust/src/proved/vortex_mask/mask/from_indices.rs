@@ -70,8 +70,19 @@ fn index_fault(len: usize, indices: &[usize]) -> Option<MaskError> {
 
 // Whether each index is above the one before it. With no early return, so that several are compared
 // at once.
-#[inline(always)]
+#[inline]
 fn ascends(indices: &[usize]) -> bool {
+    crate::kit::by_level!(ascends_v3(indices), ascends_any(indices))
+}
+
+#[cfg(target_arch = "x86_64")]
+#[target_feature(enable = "avx2,bmi1,bmi2,f16c,fma,lzcnt,movbe,popcnt")]
+fn ascends_v3(indices: &[usize]) -> bool {
+    ascends_any(indices)
+}
+
+#[inline(always)]
+fn ascends_any(indices: &[usize]) -> bool {
     let mut ascends = true;
     for at in 1..indices.len() {
         ascends &= indices[at - 1] < indices[at];
