@@ -21,7 +21,14 @@ LEVELLED = {
         "put_bools",
         "put_chosen",
     ],
-    "vortex_mask": ["ascends", "choose_rows", "intersect_mask_driven", "narrow_at_ranks", "narrow_by_bits", "narrow_by_list"],
+    "vortex_mask": [
+        "ascends",
+        "choose_rows",
+        "intersect_mask_driven",
+        "narrow_at_ranks",
+        "narrow_by_bits",
+        "narrow_by_list",
+    ],
     "mask_c": [
         "row_mask_counts_below",
         "row_mask_from_indices",
