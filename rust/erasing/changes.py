@@ -83,6 +83,10 @@ LEAVES = {
         "{ self.out[self.at] = item; self.at += 1; }",
         "{ crate::kit::words::put(self.out, self.at, item); self.at += 1; }",
     ),
+    "Bits::new": (
+        "{ Bits { bytes: &bytes[offset / 8..], low: (offset % 8) as u32, } }",
+        "{ Bits { bytes: crate::kit::words::rest(bytes, offset / 8), low: (offset % 8) as u32, } }",
+    ),
     "choose_rows": (
         "{ let whole = chunks.len(); for i in 0..whole {"
         " push_rows_of_word::<K, _, _>(out, &rows[64 * i..64 * i + 64], chunks.word(i)); }"
@@ -105,6 +109,8 @@ LEAVES = {
 }
 # Private functions that calls by hand go to.
 PUBLIC_HERE = {"put_ends", "put_strings", "take_offsets"}
+# Modules that have such a function, and are private too.
+MODULES_HERE = {"bit_buffers", "from_rows", "kernels", "read_word"}
 # Functions that are put into their callers always: tests of places make them seem too long for that.
 INLINED = ["Iterator for SetSlices::next", "eight_steps", "next_word", "past_full_words"]
 # What only the package's own calls do.
@@ -143,7 +149,8 @@ RULES = [
     ("`fmt`", r"fn fmt<W: fmt::Write>\(&self, f: &mut fmt::Formatter<W>\)", "fn fmt(&self, f: &mut fmt::Formatter<'_>)"),
     ("`fmt`", r"\b([\w.()]+)\.fmt\(f\)", r"fmt::Debug::fmt(\1, f)"),
     ("the program's handle", r"\b(e?println)!\(rt;\s*", r"crate::host::\1!(rt; "),
-    (QUICKEST, r"\b(\w+)::<Portable(, _)?>\(([^()]*)\)", r"crate::kit::quickest!(\1::<Portable\2>(\3))"),
+    (QUICKEST, r"\b([\w:]+)::<Portable(, _)?>\(([^()]*)\)", r"crate::kit::quickest!(\1::<Portable\2>(\3))"),
+    (QUICKEST, r"\bPortable::(deposit_bits)\(([^()]*)\)", r"crate::kit::quickest!(Portable::\1(\2))"),
     (QUICKEST, r"(?<!fn )\bdeposits_by_loop\(", "crate::kit::processor::by_loop("),
     ("modules", r"\b(\$?)crate::(?!kit\b|proved\b|mask_calls\b|host\b)", r"\1{root}::"),
 ]

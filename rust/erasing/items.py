@@ -2,7 +2,8 @@
 import collections
 import re
 
-from erasing.changes import CORE, ELSEWHERE, GONE, INLINED, INSIDE, LAWFUL, LEAVES, PLACES, PUBLIC_HERE, SAME
+from erasing.changes import CORE, ELSEWHERE, GONE, INLINED, INSIDE, LAWFUL, LEAVES, MODULES_HERE, PLACES
+from erasing.changes import PUBLIC_HERE, SAME
 from erasing.conditions import TESTS, Condition
 from erasing.levels import BY_PEXT, LEVELLED, by_pext, levelled
 from erasing.tokens import Fault, attached, leaves, spaced, words
@@ -181,6 +182,9 @@ class Erasure:
         if self.crate == "mask_c":
             self.count("modules")
             return f"{before}mod {name};\npub use {name}::*;", last + 1
+        if name in MODULES_HERE and self.crate in INSIDE:
+            self.count("private functions")
+            before += "pub(crate) "
         return before + self.source.text(i, last + 1), last + 1
 
     def item_impl(self, i, j, end, context, before, attributes):

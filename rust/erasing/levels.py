@@ -30,6 +30,7 @@ LEVELLED = {
         "narrow_by_list",
     ],
     "mask_c": [
+        "narrow_whole",
         "row_mask_counts_below",
         "row_mask_from_indices",
         "row_mask_next_indices",
@@ -41,7 +42,10 @@ LEVELLED = {
 # reads each 32 bytes as two halves.
 WIDE = {"combine", "combine_in_place", "negate_in_place", "none_in_shifted_words", "none_true", "put_bits"}
 # Levelled functions that others call in their loops: these go on to the one of their own level.
-INNER = {"count_bits": "crate::proved::mask_bits::counts::count_bits_any"}
+INNER = {
+    "count_bits": "crate::proved::mask_bits::counts::count_bits_any",
+    "narrow_by_bits": "crate::proved::vortex_mask::intersect_by_rank::kernels::bit_buffers::narrow_by_bits_any",
+}
 # Functions that have a copy by the instruction PEXT.
 BY_PEXT = {"put_chosen"}
 PEXT = [(r"\b(extract|put_pairs)\(", r"crate::kit::processor::\1(")]
@@ -69,7 +73,7 @@ def levelled(function, of, body):
     calls = [function.call(it, place, []) for it in (v3, of_any)]
     by_pext = function.call(f"{function.name}_by_pext", place, []) + ", " if function.name in BY_PEXT else ""
     for name, path in INNER.items():
-        body = re.sub(rf"\b{name}\(", f"{path}(", body)
+        body = re.sub(rf"\b{name}(?=\(|::<)", path, body)
     more = f"""
 
 #[cfg(target_arch = "x86_64")]

@@ -49,13 +49,13 @@ NEW = [
 ]
 # Forms that are others, on either side.
 SAME = [
-    *((path.partition("mask_bits::")[2].replace("::", " :: "), name) for name, path in INNER.items()),
+    *((re.split("mask_bits::|vortex_mask::", path)[1].replace("::", " :: "), name) for name, path in INNER.items()),
     (r"vec ! \[ ([^;\]]*) ; ([^\]]*) \]", r"filled ( \1 \2 )"),
     (r"write ! \( (?!f )((?:\w+ \. )*\w+) ([^()]*) \)", r"\1 . try_write ( format_args ! ( \2 ) )"),
     (r"fn fmt < W : fmt :: Write > \( & self f : & mut fmt :: Formatter < W > \)",
      "fn fmt ( & self f : & mut fmt :: Formatter < '_ > )"),
     (r"(?<= => )(\S+(?: \. \w+ \( \))?) \. fmt \( f \)", r"fmt :: Debug :: fmt ( \1 f )"),
-    (r"quickest ! \( (\w+ :: < Portable (?:_ )?> \( [^()]* \)) \)", r"\1"),
+    (r"quickest ! \( ((?:\w+ :: )*(?:< Portable (?:_ )?>|deposit_bits) \( [^()]* \)) \)", r"\1"),
     (r"Arc :: new", "shared"),
     (r"Box :: new", "boxed"),
     (r"String :: from_str", "String :: try_from_str"),

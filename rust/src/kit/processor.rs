@@ -43,15 +43,29 @@ pub(crate) use by_wide_level;
 
 /// Deposits by PDEP where that is quick, and else as the sources do.
 macro_rules! quickest {
-    ($call:ident::<Portable $(, $more:tt)?>($($argument:expr),* $(,)?)) => {{
+    (Portable::$call:ident($($argument:expr),* $(,)?)) => {
+        crate::kit::quickest!(
+            <crate::kit::processor::Bmi2 as DepositBits>::$call($($argument),*),
+            Portable::$call($($argument),*)
+        )
+    };
+    ($($call:ident::)+<Portable $(,)?>($($argument:expr),* $(,)?)) => {
+        crate::kit::quickest!(
+            $($call::)+<crate::kit::processor::Bmi2>($($argument),*),
+            $($call::)+<Portable>($($argument),*)
+        )
+    };
+    ($($call:ident::)+<Portable, _>($($argument:expr),* $(,)?)) => {
+        crate::kit::quickest!(
+            $($call::)+<crate::kit::processor::Bmi2, _>($($argument),*),
+            $($call::)+<Portable, _>($($argument),*)
+        )
+    };
+    ($by_pdep:expr, $as_it_is:expr) => {{
         #[cfg(target_arch = "x86_64")]
-        let result = if crate::kit::processor::has_quick_bits() {
-            $call::<crate::kit::processor::Bmi2 $(, $more)?>($($argument),*)
-        } else {
-            $call::<Portable $(, $more)?>($($argument),*)
-        };
+        let result = if crate::kit::processor::has_quick_bits() { $by_pdep } else { $as_it_is };
         #[cfg(not(target_arch = "x86_64"))]
-        let result = $call::<Portable $(, $more)?>($($argument),*);
+        let result = $as_it_is;
         result
     }};
 }

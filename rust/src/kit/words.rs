@@ -88,6 +88,14 @@ pub(crate) fn part<T>(items: &[T], first: usize, count: usize) -> &[T] {
     unsafe { items.get_unchecked(first..first + count) }
 }
 
+/// The items from item `first` on.
+#[inline(always)]
+pub(crate) fn rest<T>(items: &[T], first: usize) -> &[T] {
+    debug_assert!(first <= items.len());
+    // SAFETY: the contract of the proved caller: `first <= items.len()`.
+    unsafe { items.get_unchecked(first..) }
+}
+
 /// Writes an item to place `at`.
 #[inline(always)]
 pub(crate) fn put<T: Copy>(out: &mut [T], at: usize, item: T) {

@@ -25,8 +25,8 @@ pub mod counts;
 mod eq;
 #[doc(hidden)]
 pub mod extract;
-mod from_rows;
-mod read_word;
+pub(crate) mod from_rows;
+pub(crate) mod read_word;
 #[doc(hidden)]
 pub mod room;
 mod scan;

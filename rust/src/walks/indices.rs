@@ -1,4 +1,5 @@
 use crate::Bitmap;
+use crate::proved::mask_bits::read_word::{Bits, Covered, ReadWord};
 use core::fmt;
 use core::iter::FusedIterator;
 use core::mem::take;
@@ -7,6 +8,7 @@ use core::mem::take;
 #[derive(Clone)]
 pub struct Indices<'a> {
     bitmap: Bitmap<'a>,
+    bits: Bits<'a>,
     // of the word that begins at `first`, the true value that was given last, and those after it: it is
     // cleared when the next one is asked for, just before that is tested
     word: u64,
@@ -19,8 +21,9 @@ pub struct Indices<'a> {
 impl<'a> Indices<'a> {
     #[inline]
     pub(crate) fn new(bitmap: Bitmap<'a>) -> Indices<'a> {
-        let (chunks, first) = (bitmap.chunks(), 0_usize.wrapping_sub(64));
-        Indices { bitmap, word: 0, first, end: chunks.len(), back: chunks.remainder_bits() }
+        let (chunks, bits) = (bitmap.chunks(), Bits::new(bitmap.bytes(), bitmap.offset()));
+        let (first, end, back) = (0_usize.wrapping_sub(64), chunks.len(), chunks.remainder_bits());
+        Indices { bitmap, bits, word: 0, first, end, back }
     }
 
     // The true values that are left of the word.
@@ -35,6 +38,12 @@ impl<'a> Indices<'a> {
         self.first.wrapping_add(64) / 64
     }
 
+    // Word `k`, which is a whole one.
+    #[inline(always)]
+    fn word(&self, k: usize) -> u64 {
+        Covered::word(self.bits, k)
+    }
+
     // The values of the words that neither end has taken.
     #[inline]
     fn between(&self) -> Bitmap<'a> {
@@ -42,10 +51,11 @@ impl<'a> Indices<'a> {
     }
 
     // Takes the next word that has a true value, and says whether there is one.
+    #[cold]
     #[inline(always)]
     fn advance(&mut self) -> bool {
         for k in self.next_word()..self.end {
-            (self.word, self.first) = (self.bitmap.chunks().word_proved(k), 64 * k);
+            (self.word, self.first) = (self.word(k), 64 * k);
             if self.word != 0 {
                 return true;
             }
@@ -80,7 +90,7 @@ impl Iterator for Indices<'_> {
             let between = self.between();
             if let Some(i) = between.select(n - here) {
                 let k = self.next_word() + i / 64;
-                self.word = self.bitmap.chunks().word_proved(k) & !0 << (i % 64);
+                self.word = self.word(k) & !0 << (i % 64);
                 self.first = 64 * k;
                 return Some(self.first + i % 64);
             }
@@ -102,16 +112,18 @@ impl Iterator for Indices<'_> {
     // word by word, for `sum`, `for_each` and the like
     #[inline]
     fn fold<B, F: FnMut(B, usize) -> B>(self, init: B, mut f: F) -> B {
-        let chunks = self.bitmap.chunks();
-        let words = (self.next_word()..self.end).map(|k| (chunks.word_proved(k), 64 * k));
-        let words = [(self.left(), self.first)].into_iter().chain(words);
-        words.chain([(self.back, 64 * self.end)]).fold(init, |mut folded, (mut word, first)| {
+        let mut each = |mut folded, mut word: u64, first| {
             while word != 0 {
                 folded = f(folded, first + word.trailing_zeros() as usize);
                 word &= word - 1;
             }
             folded
-        })
+        };
+        let mut folded = each(init, self.left(), self.first);
+        for k in self.next_word()..self.end {
+            folded = each(folded, self.word(k), 64 * k);
+        }
+        each(folded, self.back, 64 * self.end)
     }
 }
 
@@ -126,7 +138,7 @@ impl DoubleEndedIterator for Indices<'_> {
                 return Some(self.first + bit as usize);
             }
             self.end -= 1;
-            self.back = self.bitmap.chunks().word_proved(self.end);
+            self.back = self.word(self.end);
         }
         let bit = self.back.ilog2();
         self.back ^= 1 << bit;

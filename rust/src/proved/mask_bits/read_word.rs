@@ -17,7 +17,7 @@ impl<'a> Bits<'a> {
     // The list that begins at bit `offset` of these bytes.
     #[inline(always)]
     pub(crate) fn new(bytes: &'a [u8], offset: usize) -> Bits<'a> {
-        Bits { bytes: &bytes[offset / 8..], low: (offset % 8) as u32 }
+        Bits { bytes: crate::kit::words::rest(bytes, offset / 8), low: (offset % 8) as u32 }
     }
 
     // How many of the whole words have another one beside them.

@@ -41,7 +41,7 @@ pub fn row_mask_intersect_by_rank(
     narrow_whole(&front, &bits, are_few, &mut out[..8 * whole]);
     let source = word_at(ranks, ranks_offset + before);
 
-    put_last(out, Portable::deposit_bits_proved(source, word, ones), len);
+    put_last(out, crate::kit::quickest!(Portable::deposit_bits_proved(source, word, ones)), len);
 }
 
 // The values past the whole words in the low bits of a word, and how many of them are true.
@@ -54,15 +54,33 @@ fn last_word(bytes: &[u8], offset: usize, len: usize) -> (u64, usize) {
 // Narrows whole words.
 #[inline]
 fn narrow_whole(chunks: &BitChunks<'_>, ranks: &RankBits<'_>, are_few: bool, out: &mut [u8]) {
+    crate::kit::by_level!(
+        narrow_whole_v3(chunks, ranks, are_few, out),
+        narrow_whole_any(chunks, ranks, are_few, out)
+    )
+}
+
+#[cfg(target_arch = "x86_64")]
+#[target_feature(enable = "avx2,bmi1,bmi2,f16c,fma,lzcnt,movbe,popcnt")]
+fn narrow_whole_v3(chunks: &BitChunks<'_>, ranks: &RankBits<'_>, are_few: bool, out: &mut [u8]) {
+    narrow_whole_any(chunks, ranks, are_few, out)
+}
+
+#[inline(always)]
+fn narrow_whole_any(chunks: &BitChunks<'_>, ranks: &RankBits<'_>, are_few: bool, out: &mut [u8]) {
     if are_few {
         narrow_few(chunks, ranks, out);
     } else {
-        crate::kit::quickest!(narrow_by_bits::<Portable>(chunks, ranks, out));
+        crate::kit::quickest!(
+            crate::proved::vortex_mask::intersect_by_rank::kernels::bit_buffers::narrow_by_bits_any::<
+                Portable,
+            >(chunks, ranks, out)
+        );
     }
 }
 
 // Narrows values of which few are true. Most words have none, and need no ranks.
-#[inline]
+#[inline(always)]
 fn narrow_few(chunks: &BitChunks<'_>, ranks: &RankBits<'_>, out: &mut [u8]) {
     let mut at = 0;
     for i in 0..chunks.len() {

@@ -4,7 +4,7 @@
 use crate::kit::prelude::*;
 mod deposit;
 mod extract;
-mod kernels;
+pub(crate) mod kernels;
 mod narrow;
 mod path;
 mod rank_bits;

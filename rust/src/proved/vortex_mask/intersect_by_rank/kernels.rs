@@ -2,7 +2,7 @@
 //! The kernels, one for each `RankPath`.
 
 use crate::kit::prelude::*;
-mod bit_buffers;
+pub(crate) mod bit_buffers;
 mod indices;
 mod mask_driven;
 mod rank_blocks;

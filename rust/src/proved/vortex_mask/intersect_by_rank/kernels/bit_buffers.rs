@@ -48,7 +48,7 @@ fn narrow_by_bits_v3<D: DepositBits>(
 }
 
 #[inline(always)]
-fn narrow_by_bits_any<D: DepositBits>(
+pub(crate) fn narrow_by_bits_any<D: DepositBits>(
     chunks: &BitChunks<'_>,
     ranks: &RankBits<'_>,
     out: &mut [u8],
