@@ -1,14 +1,23 @@
 -- What a test answers of rows, row by row and lane by lane.
-use Rattle.std.proofs.Common.{◌≡◌, ℕ, drop, ◌+◌, ◌-◌, ◌<◌, ◌≤◌, Bool, false, List, [], ◌∷◌, ◌++◌, length, get_or, map, nat_eq, replicate, set, take, zip, refl, sym, subst, ◌∙◌, arith, Bor, All}
+use Rattle.std.proofs.Common.{◌≡◌, ℕ, drop, ◌+◌, ◌-◌, ◌<◌, ◌≤◌, ◌*◌, ◌^◌, Bool, false, List, [], ◌∷◌, ◌++◌, length, get_or, map, nat_eq, replicate, set, take, zip, refl, sym, subst, ap, ap₂, ◌∙◌, inl, inr, arith, Bor, All}
 use Rattle.std.specs.Fn.{FnReturnsAt, Shared}
-use Rattle.std.proofs.lemmas.List.{ext_get_or, get_or-take, length-take, length-append, length-drop, length-take-le, take-append-le, take-take, take-append-drop, drop-take}
+use Rattle.std.specs.Int.{bit_at}
+use Rattle.std.proofs.lemmas.Bool.{cases_lt}
+use Rattle.std.proofs.lemmas.Bool.Decides.{nat_tests}
+use Rattle.std.proofs.lemmas.List.{ext_get_or, get_or-take, get_or_past, length-take, length-append, length-drop, length-take-le, take-append-le, take-take, take-append-drop, drop-take}
 use Rattle.std.proofs.Math.Seq.{get_or-append_seam}
+use Rattle.std.proofs.lemmas.Nat.Bits.{bit_at-lt, bit_at_above}
 use Rattle.std.proofs.lemmas.List.Elements.{All-nil, All-cons, All-head, All-tail}
+use Rattle.mask_bits.specs.Bitmap.{bitmap}
+use Rattle.mask_bits.specs.Buffer.{backing_bit}
 use Rattle.mask_bits.specs.Lanes.{AreLanesOf, ArePacked}
 use Rattle.mask_bits.specs.Rows.{AreAnswers, AreAsComputed}
-use Rattle.mask_bits.specs.Words.{word_bits}
+use Rattle.mask_bits.specs.Words.{window, word_bits}
 use Rattle.mask_bits.proofs.BoolsLemmas.{lanes-none, lanes-more}
-use Rattle.mask_bits.proofs.Lists.Words.WordLemmas.{length-word_bits}
+use Rattle.mask_bits.proofs.ChosenBitLemmas.{joined, joined-clear, joined-list}
+use Rattle.mask_bits.proofs.Lists.Words.BackingBitLemmas.{bitmap-append, no_values}
+use Rattle.mask_bits.proofs.Lists.Words.FrontLemmas.{front-same, window-take}
+use Rattle.mask_bits.proofs.Lists.Words.WordLemmas.{get_or-word_bits, length-word_bits}
 use mir.Val.{bool_byte}
 
 -- the answers are those of any function that the test computes
@@ -57,23 +66,23 @@ answers-more gives rows n e w a new ordered front back same =
 
 -- ---- in lanes
 
-pub packed_no_answers : {T : Type 0} (gives : T → Bool → Type 0) → ArePacked gives [] (replicate 64 0)
-packed_no_answers gives = record { list = []; answers = no_answers gives; packed = lanes-none [] }
+pub packed_no_answers : {T : Type 0} (n : ℕ) (gives : T → Bool → Type 0) → ArePacked n gives [] (replicate n 0)
+packed_no_answers n gives = record { list = []; answers = no_answers gives; packed = lanes-none n [] }
 
-pub packed_one_more : {T : Type 0} (gives : T → Bool → Type 0) (rows : List T) (j : ℕ) (lanes : List ℕ) (row : T) (b : Bool) → length rows ≡ j → j < 64 → gives row b → ArePacked gives rows lanes
-    → ArePacked gives (rows ++ row ∷ []) (set lanes j (bool_byte b))
-packed_one_more gives rows j lanes row b at few is so_far =
+pub packed_one_more : {T : Type 0} (n : ℕ) (gives : T → Bool → Type 0) (rows : List T) (j : ℕ) (lanes : List ℕ) (row : T) (b : Bool) → length rows ≡ j → j < n → gives row b → ArePacked n gives rows lanes
+    → ArePacked n gives (rows ++ row ∷ []) (set lanes j (bool_byte b))
+packed_one_more n gives rows j lanes row b at few is so_far =
     let list : List Bool = so_far.list in
     let len : length list ≡ j = so_far.answers.len ∙ at in
-    let before : AreLanesOf (list ++ b ∷ []) j lanes = grind (arith, take-append-le) in
-    let value : get_or (list ++ b ∷ []) j false ≡ b = subst (λ (n : ℕ). get_or (list ++ b ∷ []) n false ≡ b) len (get_or-append_seam list b [] false) in
+    let before : AreLanesOf n (list ++ b ∷ []) j lanes = grind (arith, take-append-le) in
+    let value : get_or (list ++ b ∷ []) j false ≡ b = subst (λ (k : ℕ). get_or (list ++ b ∷ []) k false ≡ b) len (get_or-append_seam list b [] false) in
     let longer : length (rows ++ row ∷ []) ≡ j + 1 = omega (arith, length-append rows (row ∷ []), at) in
-    grind (arith, answers-append gives rows (row ∷ []) list (b ∷ []) so_far.answers (one_answer gives row b is), one_answer gives row b is, lanes-more (list ++ b ∷ []) lanes j few before)
+    grind (arith, answers-append gives rows (row ∷ []) list (b ∷ []) so_far.answers (one_answer gives row b is), one_answer gives row b is, lanes-more n (list ++ b ∷ []) lanes j few before)
 
 -- the lowest bits of the word that the lanes become are the answers
-pub answers_of_word : {T : Type 0} (gives : T → Bool → Type 0) (rows : List T) (lanes : List ℕ) (w : ℕ) → length rows ≤ 64
-    → ((j : ℕ) → j < 64 → get_or (word_bits w) j false ≡ nat_eq (get_or lanes j 0) 1) → ArePacked gives rows lanes → AreAnswers gives rows (take (length rows) (word_bits w))
-answers_of_word gives rows lanes w few is_word packed =
+pub answers_of_word : {T : Type 0} (lane_count : ℕ) (gives : T → Bool → Type 0) (rows : List T) (lanes : List ℕ) (w : ℕ) → length rows ≤ lane_count → lane_count ≤ 64
+    → ((j : ℕ) → j < 64 → get_or (word_bits w) j false ≡ nat_eq (get_or lanes j 0) 1) → ArePacked lane_count gives rows lanes → AreAnswers gives rows (take (length rows) (word_bits w))
+answers_of_word lane_count gives rows lanes w few within is_word packed =
     let n : ℕ = length rows in
     let list : List Bool = packed.list in
     let len : length (take n (word_bits w)) ≡ n = length-take n (word_bits w) ∙ omega (arith, length-word_bits w) in
@@ -81,3 +90,46 @@ answers_of_word gives rows lanes w few is_word packed =
     ext_get_or false list (take n (word_bits w)) (packed.answers.len ∙ sym len)
     (λ k h. sym (get_or-take n (word_bits w) k false (omega (arith, packed.answers.len)) ∙ is_word k (omega (arith, packed.answers.len)) ∙ packed.packed.each k (omega (arith, packed.answers.len)) ∙ get_or-take n list k false (omega (arith, packed.answers.len)))) in
     subst (λ (xs : List Bool). AreAnswers gives rows xs) same packed.answers
+
+-- past sixteen lanes the word that they become has no bits
+pub clear_past_lanes : (lanes : List ℕ) (w : ℕ) → length lanes ≡ 16 → w < 2 ^ 64 → ((j : ℕ) → j < 64 → get_or (word_bits w) j false ≡ nat_eq (get_or lanes j 0) 1)
+    → (j : ℕ) → 16 ≤ j → bit_at w j ≡ 0
+clear_past_lanes lanes w len fits is_word j past = elim (cases_lt j 64) [
+  | inl few ↦ grind (arith, bit_at-lt, get_or_past, get_or-word_bits, is_word j few, nat_tests)
+  | inr above ↦ bit_at_above w 64 j fits above
+]
+
+-- ---- in words that are joined
+
+-- sixteen answers behind those that a word has
+pub answers-sixteen : {T : Type 0} (gives : T → Bool → Type 0) (rows : List T) (begun word k : ℕ) → k < 4 → ((i : ℕ) → 16 * k ≤ i → bit_at begun i ≡ 0)
+    → AreAnswers gives (take (16 * k) rows) (take (16 * k) (word_bits begun)) → AreAnswers gives (take 16 (drop (16 * k) rows)) (take 16 (word_bits word))
+    → AreAnswers gives (take (16 * (k + 1)) rows) (take (16 * (k + 1)) (word_bits (joined begun (16 * k) word)))
+answers-sixteen gives rows begun word k few clear front back =
+    let n : ℕ = 16 * k in
+    let next : 16 * (k + 1) ≡ n + 16 = omega arith in
+    grind (arith, joined-list begun n word 16 (omega arith) (omega arith) clear, take_part n 16 rows, answers-append gives (take n rows) (take 16 (drop n rows)) (take n (word_bits begun)) (take 16 (word_bits word)) front back)
+
+-- and no bits past them
+pub sixteen-clear : (begun word k j : ℕ) → k < 4 → ((i : ℕ) → 16 * k ≤ i → bit_at begun i ≡ 0) → ((i : ℕ) → 16 ≤ i → bit_at word i ≡ 0) → 16 * (k + 1) ≤ j → bit_at (joined begun (16 * k) word) j ≡ 0
+sixteen-clear begun word k j few clear past from = joined-clear begun (16 * k) word 16 j clear past (omega arith)
+
+-- ---- in words that are written
+
+-- none yet
+pub answers-none : {T : Type 0} (gives : T → Bool → Type 0) (bytes : List ℕ) → AreAnswers gives [] (bitmap bytes 0 0)
+answers-none gives bytes = subst (λ (xs : List Bool). AreAnswers gives [] xs) (sym (no_values bytes 0)) (no_answers gives)
+
+-- those of the first n rows, and behind them those of rows up to e, which are within a word
+pub answers-written : {T : Type 0} (gives : T → Bool → Type 0) (rows : List T) (old new : List ℕ) (n e w : ℕ) → n ≤ e → e ≤ n + 64 → e ≤ length rows → AreAnswers gives (take n rows) (bitmap old 0 n)
+    → AreAnswers gives (take (e - n) (drop n rows)) (take (length (take (e - n) (drop n rows))) (word_bits w)) → window new n ≡ word_bits w
+    → ((p : ℕ) → p < n → backing_bit new p ≡ backing_bit old p) → AreAnswers gives (take e rows) (bitmap new 0 e)
+answers-written gives rows old new n e w ordered few within front back here before =
+    let size : length (take (e - n) (drop n rows)) ≡ e - n = length-part rows n e within in
+    let k : ℕ = e - n in
+    let end : n + k ≡ e = omega (arith, ordered) in
+    let at : 0 + n ≡ n = omega arith in
+    let behind : bitmap new (0 + n) k ≡ take k (word_bits w) = ap (λ p. bitmap new p k) at ∙ sym (window-take new n k (omega (arith, few))) ∙ ap (take k) here in
+    let same : bitmap new 0 e ≡ bitmap old 0 n ++ take k (word_bits w)
+    = ap (bitmap new 0) (sym end) ∙ bitmap-append new 0 n k ∙ ap₂ (λ (xs ys : List Bool). xs ++ ys) (front-same old new n before) behind in
+    answers-more gives rows n e w (bitmap old 0 n) (bitmap new 0 e) ordered front back (same ∙ ap (λ j. bitmap old 0 n ++ take j (word_bits w)) (sym size))

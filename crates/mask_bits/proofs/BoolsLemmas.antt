@@ -10,15 +10,15 @@ use mir.Val.{bool_byte}
 
 -- ---- a lane for each value
 
-pub lanes-none : (m : List Bool) → AreLanesOf m 0 (replicate 64 0)
-lanes-none m = record { len = length-replicate {A = ℕ} 64 0; each = λ k h. ap (λ n. nat_eq n 1) (get_or-replicate 64 k 0 0 h) }
+pub lanes-none : (n : ℕ) (m : List Bool) → AreLanesOf n m 0 (replicate n 0)
+lanes-none n m = record { len = length-replicate {A = ℕ} n 0; each = λ k h. ap (λ x. nat_eq x 1) (get_or-replicate n k 0 0 h) }
 
 is_set_lane : (b : Bool) → nat_eq (bool_byte b) 1 ≡ b
 is_set_lane true = refl
 is_set_lane false = refl
 
-pub lanes-more : (m : List Bool) (lanes : List ℕ) (j : ℕ) → j < 64 → AreLanesOf m j lanes → AreLanesOf m (j + 1) (set lanes j (bool_byte (get_or m j false)))
-lanes-more m lanes j few before = grind (arith, length-set, get_or-set_same, is_set_lane, get_or-take, get_or-set_other, get_or_past, length-take)
+pub lanes-more : (n : ℕ) (m : List Bool) (lanes : List ℕ) (j : ℕ) → j < n → AreLanesOf n m j lanes → AreLanesOf n m (j + 1) (set lanes j (bool_byte (get_or m j false)))
+lanes-more n m lanes j few before = grind (arith, length-set, get_or-set_same, is_set_lane, get_or-take, get_or-set_other, get_or_past, length-take)
 
 -- one more word of a list is written
 pub bools-more : (old new : List ℕ) (m part : List Bool) (i w : ℕ) → ((p : ℕ) → p < 64 * i → backing_bit old p ≡ get_or m p false)

@@ -55,9 +55,17 @@ joined-value : (begun low word n j : ℕ) → low < 64 → n ≤ 64 → ((i : �
 joined-value begun low word n j few many above in_word h = grind (arith, joined-first, get_or_append_left, length-take, length-word_bits, get_or-take, get_or-word_bits, joined-second, get_or-append_right)
 
 -- both within one word
-joined-list : (begun low word n : ℕ) → low + n < 64 → ((i : ℕ) → low ≤ i → bit_at begun i ≡ 0) → take (low + n) (word_bits (joined begun low word)) ≡ both begun low word n
-joined-list begun low word n few above =
+pub joined-list : (begun low word n : ℕ) → low < 64 → low + n ≤ 64 → ((i : ℕ) → low ≤ i → bit_at begun i ≡ 0) → take (low + n) (word_bits (joined begun low word)) ≡ both begun low word n
+joined-list begun low word n few within above =
     ext_get_or false _ _ (grind (arith, length-take, length-word_bits, length-append, get_or-take, get_or-word_bits, joined-value)) (λ j h. grind (arith, length-take, length-word_bits, length-append, get_or-take, get_or-word_bits, joined-value))
+
+-- which has no bits past both
+pub joined-clear : (begun low word n j : ℕ) → ((i : ℕ) → low ≤ i → bit_at begun i ≡ 0) → ((i : ℕ) → n ≤ i → bit_at word i ≡ 0) → low + n ≤ j → bit_at (joined begun low word) j ≡ 0
+joined-clear begun low word n j above clear from = elim (cases_lt j 64) [
+  | inl in_word ↦ joined-second begun low word j above (omega arith) in_word ∙ clear (j - low) (omega arith)
+  | inr past ↦
+      grind (arith, bit_at_or begun (word * 2 ^ low % 2 ^ 64) j, bit_at_above (word * 2 ^ low % 2 ^ 64) 64 j (omega arith) past)
+]
 
 -- and in two
 joined-lists : (begun low word n : ℕ) → low < 64 → n ≤ 64 → 64 ≤ low + n → ((i : ℕ) → low ≤ i → bit_at begun i ≡ 0)
@@ -73,15 +81,11 @@ nothing_yet out = append-nil (bitmap out 0 0) ∙ no_values out 0 ∙ sym chosen
 -- where the word isn't full
 pub put-begun : (out : List ℕ) (at begun word n : ℕ) → at % 64 + n < 64 → ((i : ℕ) → at % 64 ≤ i → bit_at begun i ≡ 0)
     → values_so_far out (joined begun (at % 64) word) (at + n) ≡ values_so_far out begun at ++ take n (word_bits word)
-put-begun out at begun word n few above = grind (arith, joined-list begun (at % 64) word n few above, append_assoc)
+put-begun out at begun word n few above = grind (arith, joined-list begun (at % 64) word n (omega arith) (omega arith) above, append_assoc)
 
 pub put-begun_clear : (at begun word n j : ℕ) → at % 64 + n < 64 → ((i : ℕ) → at % 64 ≤ i → bit_at begun i ≡ 0) → ((i : ℕ) → n ≤ i → bit_at word i ≡ 0)
     → (at + n) % 64 ≤ j → bit_at (joined begun (at % 64) word) j ≡ 0
-put-begun_clear at begun word n j few above clear from = elim (cases_lt j 64) [
-  | inl in_word ↦ joined-second begun (at % 64) word j above (omega arith) in_word ∙ clear (j - at % 64) (omega arith)
-  | inr past ↦
-      grind (arith, bit_at_or begun (word * 2 ^ (at % 64) % 2 ^ 64) j, bit_at_above (word * 2 ^ (at % 64) % 2 ^ 64) 64 j (omega arith) past)
-]
+put-begun_clear at begun word n j few above clear from = joined-clear begun (at % 64) word n j above clear (omega arith)
 
 -- a word written into its eight bytes
 window-put : (out ys : List ℕ) (w e : ℕ) → e ≡ 8 * w + 8 → e ≤ length out → length ys ≡ e - 8 * w → window (put_mid (8 * w) (e - 8 * w) out ys) (64 * w) ≡ window ys 0

@@ -199,7 +199,7 @@ impl BitBufferMut {
         self.push_word_proved(word, count)
     }
 
-    #[inline(always)]
+    #[inline]
     pub(crate) fn push_word_proved(&mut self, word: u64, count: usize) -> Result<(), AllocError> {
         make_room(&mut self.bytes, self.len + count)?;
         put_word(&mut self.bytes, self.len, word, count);
@@ -212,7 +212,7 @@ impl BitBufferMut {
     /// # Proved ([terms](crate::definitions))
     ///
     /// - `IfOk result (λ b. values b ≡ self)`
-    #[inline(always)]
+    #[inline]
     pub fn freeze(self) -> Result<BitBuffer, AllocError> {
         let BitBufferMut { bytes, len } = self;
         Ok(BitBuffer::new_proved(Bytes::from_vec(bytes)?, len))
@@ -220,7 +220,7 @@ impl BitBufferMut {
 }
 
 // Makes room for `bits` bits, where there isn't; new bits are clear.
-#[inline(always)]
+#[inline]
 fn make_room(bytes: &mut Vec<u8>, bits: usize) -> Result<(), AllocError> {
     if bytes.len() < bits.div_ceil(8) {
         grow(bytes, bits)?;

@@ -3,9 +3,14 @@
 
 use crate::kit::AllocError;
 use crate::kit::prelude::*;
-use crate::proved::mask_bits::bools::word_of_lanes;
+use crate::proved::mask_bits::bools::{word_of_lanes, word_of_sixteen_lanes};
 use crate::proved::mask_bits::buffer::BitBuffer;
-use crate::proved::mask_bits::buffer_mut::BitBufferMut;
+use crate::proved::mask_bits::words::{set_word, started_words};
+use core::mem::size_of_val;
+
+// The bytes of 64 rows of 8 bytes. The answers of so wide rows and of wider ones become bits sixteen at a time: as
+// lanes of all 64 they stay in memory.
+const WIDE: usize = 64 * 8;
 
 impl BitBuffer {
     /// What a test answers of each row, in their order: value `i` is its answer of row `i`. The
@@ -35,15 +40,46 @@ impl BitBuffer {
 
     #[inline(always)]
     fn from_rows_any<T, F: Fn(&T) -> bool>(rows: &[T], test: F) -> Result<BitBuffer, AllocError> {
-        let mut bits = BitBufferMut::with_capacity(rows.len())?;
-        let whole = rows.len() / 64;
-        for i in 0..whole {
-            bits.push_word_proved(word_of_rows(&rows[64 * i..64 * i + 64], &test), 64)?;
-        }
-        let rest = &rows[64 * whole..];
-        bits.push_word_proved(word_of_rows(rest, &test), rest.len())?;
-        bits.freeze()
+        let mut bytes = crate::kit::filled(0u8, 8 * started_words(rows.len()))?;
+        put_answers(&mut bytes, rows, &test);
+        BitBuffer::from_vec_proved(bytes, rows.len())
     }
+}
+
+// Writes what a test answers of rows to the front of `bytes`, which is room of whole words, a word at a time.
+#[inline(always)]
+fn put_answers<T, F: Fn(&T) -> bool>(bytes: &mut [u8], rows: &[T], test: &F) {
+    let whole = rows.len() / 64;
+    for i in 0..whole {
+        set_word(bytes, i, word_of_whole(&rows[64 * i..64 * i + 64], test));
+    }
+    if 64 * whole < rows.len() {
+        set_word(bytes, whole, word_of_rows(&rows[64 * whole..], test));
+    }
+}
+
+// The word of what a test answers of 64 rows, the first lowest.
+#[inline(always)]
+fn word_of_whole<T, F: Fn(&T) -> bool>(rows: &[T], test: &F) -> u64 {
+    if size_of_val(rows) < WIDE { word_of_rows(rows, test) } else { word_by_sixteens(rows, test) }
+}
+
+// The same, where sixteen answers become bits as they come.
+#[inline(always)]
+fn word_by_sixteens<T, F: Fn(&T) -> bool>(rows: &[T], test: &F) -> u64 {
+    let mut word = 0;
+    for k in 0..4 {
+        word |= bits_of_sixteen(&rows[16 * k..16 * k + 16], test) << (16 * k);
+    }
+    word
+}
+
+// What a test answers of sixteen rows, the first lowest, with zeros past them.
+#[inline(always)]
+fn bits_of_sixteen<T, F: Fn(&T) -> bool>(rows: &[T], test: &F) -> u64 {
+    let mut lanes = [0u8; 16];
+    put_lanes(&mut lanes, 0, rows, test);
+    word_of_sixteen_lanes(&lanes)
 }
 
 // The word of what a test answers of at most 64 rows, the first lowest, with zeros past them.
@@ -55,16 +91,21 @@ fn word_of_rows<T, F: Fn(&T) -> bool>(rows: &[T], test: &F) -> u64 {
     let mut lanes = [0u8; 64];
     let whole = rows.len() / 16;
     for k in 0..whole {
-        put_answers(&mut lanes, 16 * k, &rows[16 * k..16 * k + 16], test);
+        put_lanes(&mut lanes, 16 * k, &rows[16 * k..16 * k + 16], test);
     }
-    put_answers(&mut lanes, 16 * whole, &rows[16 * whole..], test);
+    put_lanes(&mut lanes, 16 * whole, &rows[16 * whole..], test);
     word_of_lanes(&lanes)
 }
 
 // Writes what a test answers of some rows to the lanes behind the first `at`. Of sixteen rows, the lanes of a vector,
 // no loop is left.
 #[inline(always)]
-fn put_answers<T, F: Fn(&T) -> bool>(lanes: &mut [u8; 64], at: usize, rows: &[T], test: &F) {
+fn put_lanes<const N: usize, T, F: Fn(&T) -> bool>(
+    lanes: &mut [u8; N],
+    at: usize,
+    rows: &[T],
+    test: &F,
+) {
     for j in 0..rows.len() {
         lanes[at + j] = test(&rows[j]) as u8;
     }

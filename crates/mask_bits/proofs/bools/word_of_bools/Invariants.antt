@@ -3,4 +3,4 @@ use Rattle.mask_bits.proofs.bools.word_of_bools.Given as goal
 
 -- the values so far have their lanes
 abbrev pub invariant-loop-j : goal.invariant-loop-j
-invariant-loop-j l = AreLanesOf l.bools l.j l.lanes
+invariant-loop-j l = AreLanesOf 64 l.bools l.j l.lanes

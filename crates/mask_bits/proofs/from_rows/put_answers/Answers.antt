@@ -1,19 +1,31 @@
-use Rattle.std.proofs.Common.{◌≡◌, ◌+◌, ◌++◌, set, length, take, sym, subst, ap, ◌∙◌, arith}
+use Rattle.std.proofs.Common.{◌≡◌, ℕ, ◌+◌, ◌*◌, ◌/◌, length, take, subst, arith, inl, take_all}
 use Rattle.std.specs.Fn.{FnReturnsAt}
-use Rattle.std.proofs.lemmas.List.{length-take-le, length-append, append_assoc, take_more}
-use Rattle.mask_bits.specs.Lanes.{ArePacked}
-use Rattle.mask_bits.proofs.AnswerLemmas.{packed_one_more}
+use Rattle.mask_bits.specs.Bitmap.{bitmap}
+use Rattle.mask_bits.specs.Rows.{AreAnswers}
+use Rattle.mask_bits.proofs.AnswerLemmas.{answers-none, answers-written}
 use Rattle.mask_bits.proofs.from_rows.put_answers.Goals as goal
-use mir.Val.{bool_byte}
 
-pub loop-j-preserved : goal.loop-j-preserved
-loop-j-preserved g c front len start =
+pub loop-i-init : goal.loop-i-init
+loop-i-init g c = answers-none (FnReturnsAt g.F.Fn c.args.test.now) c.args.bytes.now
+
+pub loop-i-preserved : goal.loop-i-preserved
+loop-i-preserved g c =
     let rows = c.args.rows.now in
-    let j = c.loop-j.j in
+    let i = c.loop-i.i in
     let gives = FnReturnsAt g.F.Fn c.args.test.now in
-    let at = c.args.at + j in
-    let few : length (take j rows) ≡ j = length-take-le j rows (omega (arith, c.loop-j-test.true)) in
-    subst (λ rs. ArePacked gives rs (set c.loop-j.lanes at (bool_byte c.test.result)))
-    (append_assoc front (take j rows) _ ∙ ap (λ rs. front ++ rs) (sym (take_more rows j c.index-rows-j.result c.loop-j-test.true)))
-    (packed_one_more gives (front ++ take j rows) at c.loop-j.lanes _ c.test.result (omega (arith, length-append front (take j rows), len, few))
-    (omega (arith, c.loop-j-test.true, c.requires.room)) (record { shown = _; shows = c.index-rows-j.is; says = record { met = c.test.ensures } }) (c.loop-j.invariant front len start))
+    let next : 64 * i + 64 ≡ 64 * (i + 1) = omega arith in
+    subst (λ n. AreAnswers gives (take n rows) (bitmap c.set_word.new.bytes 0 n)) next
+    (answers-written gives rows c.loop-i.bytes c.set_word.new.bytes (64 * i) (64 * i + 64) c.word_of_whole.result (omega arith) (omega arith) (omega (arith, c.loop-i-test.true)) c.loop-i.invariant c.word_of_whole.ensures
+    c.set_word.ensures.here (λ p h. c.set_word.ensures.others p (inl h)))
+
+pub returns-then-whole-rows : goal.returns-then-whole-rows
+returns-then-whole-rows g c =
+    let rows = c.args.rows.now in
+    let n : ℕ = 64 * (length rows / 64) in
+    let gives = FnReturnsAt g.F.Fn c.args.test.now in
+    let new = c.set_word-then-whole-rows.new.bytes in
+    let whole : c.loop-i.i ≡ length rows / 64 = omega (arith, c.loop-i-test.false, c.loop-i.auto) in
+    let front = subst (λ k. AreAnswers gives (take (64 * k) rows) (bitmap c.loop-i.bytes 0 (64 * k))) whole c.loop-i.invariant in
+    subst (λ rs. AreAnswers gives rs (bitmap new 0 (length rows))) (take_all (length rows) rows (omega arith))
+    (answers-written gives rows c.loop-i.bytes new n (length rows) c.word_of_rows.result (omega arith) (omega arith) (omega arith) front c.word_of_rows.ensures c.set_word-then-whole-rows.ensures.here
+    (λ p h. c.set_word-then-whole-rows.ensures.others p (inl h)))

@@ -1,9 +1,9 @@
-use Rattle.std.proofs.Common.{◌≡◌, ◌++◌, List, length, take}
+use Rattle.std.proofs.Common.{take, ◌*◌}
 use Rattle.std.specs.Fn.{FnReturnsAt}
-use Rattle.mask_bits.specs.Lanes.{ArePacked}
+use Rattle.mask_bits.specs.Bitmap.{bitmap}
+use Rattle.mask_bits.specs.Rows.{AreAnswers}
 use Rattle.mask_bits.proofs.from_rows.put_answers.Given as goal
 
--- the answers so far have their lanes, behind those that were there
-abbrev pub invariant-loop-j : goal.invariant-loop-j
-invariant-loop-j g l = (front : List g.row.T.Denot) → length front ≡ l.at → ArePacked (FnReturnsAt g.F.Fn l.test) front l.fn.lanes
-    → ArePacked (FnReturnsAt g.F.Fn l.test) (front ++ take l.j l.rows) l.lanes
+-- the answers of the words so far are written
+abbrev pub invariant-loop-i : goal.invariant-loop-i
+invariant-loop-i g l = AreAnswers (FnReturnsAt g.F.Fn l.test) (take (64 * l.i) l.rows) (bitmap l.bytes 0 (64 * l.i))

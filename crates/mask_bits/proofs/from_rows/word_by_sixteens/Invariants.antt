@@ -1,0 +1,13 @@
+use Rattle.std.proofs.Common.{◌≡◌, ℕ, ◌≤◌, ◌*◌, take}
+use Rattle.std.specs.Fn.{FnReturnsAt}
+use Rattle.std.specs.Int.{bit_at}
+use Rattle.mask_bits.specs.Rows.{AreAnswers}
+use Rattle.mask_bits.specs.Words.{word_bits}
+use Rattle.mask_bits.proofs.from_rows.word_by_sixteens.Given as goal
+
+-- the word has the answers so far, and no bits past them
+abbrev pub invariant-loop-k : goal.invariant-loop-k
+invariant-loop-k g l = record {
+  answers : AreAnswers (FnReturnsAt g.F.Fn l.test) (take (16 * l.k) l.rows) (take (16 * l.k) (word_bits l.word));
+  clear : (j : ℕ) → 16 * l.k ≤ j → bit_at l.word j ≡ 0;
+}
