@@ -87,13 +87,11 @@ LEAVES = {
         "{ Bits { bytes: &bytes[offset / 8..], low: (offset % 8) as u32, } }",
         "{ Bits { bytes: crate::kit::words::rest(bytes, offset / 8), low: (offset % 8) as u32, } }",
     ),
-    "choose_rows": (
-        "{ let whole = chunks.len(); for i in 0..whole {"
-        " push_rows_of_word::<K, _, _>(out, &rows[64 * i..64 * i + 64], chunks.word(i)); }"
-        " push_rows_one_by_one(out, &rows[64 * whole..], chunks.remainder_bits()); }",
-        "{ let whole = chunks.len(); for i in 0..whole {"
-        " push_rows_of_word::<K, _, _>(out, crate::kit::words::part(rows, 64 * i, 64), chunks.word(i)); }"
-        " push_rows_one_by_one(out, &rows[64 * whole..], chunks.remainder_bits()); }",
+    "push_whole_words": (
+        "{ for i in first..end {"
+        " push_rows_of_word::<K, _, _>(out, &rows[64 * i..64 * i + ROWS], chunks.word(i)); } }",
+        "{ for i in first..end {"
+        " push_rows_of_word::<K, _, _>(out, crate::kit::words::part(rows, 64 * i, ROWS), chunks.word(i)); } }",
     ),
     "indices_of_word": (
         "{ let mut word = word; let mut at = at; while word != 0 { if at == out.len() { return at; }"

@@ -44,15 +44,15 @@ impl WordItems for usize {
 
 /// Each place yields its row.
 impl<'a, T: Copy> WordItems for &'a [T] {
-    ghost use Rattle.std.specs.Prelude.{slice_get, ◌%◌};
+    ghost use Rattle.std.specs.Prelude.{slice_get};
 
     type Item = T;
 
-    ghost at = { λ rows p. slice_get rows.now (p % 64) };
+    ghost at = { λ rows p. slice_get rows.now p };
 
     #[inline(always)]
     fn lowest(self, word: u64) -> T {
-        self[(word.trailing_zeros() % 64) as usize]
+        self[word.trailing_zeros() as usize]
     }
 }
 

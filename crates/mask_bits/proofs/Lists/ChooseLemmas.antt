@@ -1,5 +1,5 @@
 -- Rows at the true places: all of them, none of them, and one more.
-use Rattle.std.proofs.Common.{◌≡◌, ℕ, zero, suc, Bool, true, false, List, [], ◌∷◌, length, slice_get, refl, ap, sym, ◌∙◌, arith}
+use Rattle.std.proofs.Common.{◌≡◌, ◌≤◌, ℕ, zero, suc, Bool, true, false, List, [], ◌∷◌, length, take, slice_get, refl, ap, sym, ◌∙◌, arith}
 use Rattle.std.specs.List.{filter_map, items_where_true}
 use Rattle.mask_bits.specs.Positions.{positions, count, repeated, chosen}
 use Rattle.mask_bits.proofs.Lists.LawLemmas.{chosen-items_where_true}
@@ -30,6 +30,17 @@ chosen_by_all_true rows = chosen-all_true rows (length rows) refl
 pub chosen_at_positions : {X : Type 0} (rows : List X) (m : List Bool) → chosen rows m ≡ filter_map (λ i. slice_get rows i) (positions m)
 unfolding chosen
 chosen_at_positions rows m = refl
+
+-- ---- among the first n rows, which are as many as the list has values
+
+items_where_true-front : {X : Type 0} (rows : List X) (m : List Bool) (n : ℕ) → length m ≤ n → items_where_true m (take n rows) ≡ items_where_true m rows
+items_where_true-front rows [] n enough = refl
+items_where_true-front rows (v ∷ m) zero enough = absurd (omega arith)
+items_where_true-front [] (v ∷ m) (suc n) enough = refl
+items_where_true-front (r ∷ rows) (v ∷ m) (suc n) enough = grind (arith, items_where_true-front rows m n (omega arith))
+
+pub chosen-of_front : {X : Type 0} (rows : List X) (m : List Bool) (n : ℕ) → length m ≤ n → chosen (take n rows) m ≡ chosen rows m
+chosen-of_front {X} rows m n enough = grind (arith, chosen-items_where_true, items_where_true-front)
 
 -- ---- of a list of one value, one for each true value
 

@@ -5,12 +5,14 @@ use Rattle.std.specs.List.{All, filter_map}
 use Rattle.std.proofs.lemmas.List.{length-drop, length-take, take-append-drop}
 use Rattle.mask_bits.specs.Positions.{chosen, count, positions, repeated}
 use Rattle.mask_bits.specs.Words.{padded_remainder, word_bits, word_part}
-use Rattle.mask_bits.proofs.Lists.ChooseLemmas.{chosen_at_positions}
+use Rattle.mask_bits.proofs.Lists.ChooseLemmas.{chosen-of_front, chosen_at_positions}
 use Rattle.mask_bits.proofs.Lists.CountLemmas.{count-append, indices_from-repeated_false}
+use Rattle.mask_bits.proofs.Lists.LawLemmas.{length-chosen}
 use Rattle.mask_bits.proofs.Lists.Places.PlaceLemmas.{positions-within}
 use Rattle.mask_bits.proofs.Lists.Places.SelectLemmas.{indices_from-append}
 use Rattle.mask_bits.proofs.Lists.RowLemmas.{chosen_of_two_chunks}
 use Rattle.mask_bits.proofs.Lists.Words.ChosenWordLemmas.{chosen-part_more}
+use Rattle.mask_bits.proofs.Lists.Words.WordLemmas.{length-word_bits}
 
 abbrev items_at : {X : Type 0} → List X → List ℕ → List X
 items_at rows ps = filter_map (λ p. slice_get rows p) ps
@@ -47,11 +49,22 @@ rest_chosen {X} rows part m n w len whole is shows =
 pub rest_counted : (m : List Bool) (n w : ℕ) → n ≡ 64 * (length m / 64) → word_bits w ≡ padded_remainder m → count (take n m) + count (word_bits w) ≡ count m
 rest_counted m n w whole shows = grind (arith, common_steps, places_of_rest m, count-append (take n m) (drop n m), take-append-drop n m)
 
+-- the rows of the values so far are as many as the true ones
+pub chosen_counted : {X : Type 0} (rows : List X) (m : List Bool) (n : ℕ) → length rows ≡ length m → length (chosen (take n rows) (take n m)) ≡ count (take n m)
+chosen_counted rows m n len = length-chosen (take n rows) (take n m) (omega (arith, length-take n rows, length-take n m, len))
+
+-- a word chooses among its own 64 rows, whatever rows come behind them
+own_rows : {X : Type 0} (rows : List X) (n r w : ℕ) → 64 ≤ r → chosen (slice_range rows n (n + r)) (word_bits w) ≡ chosen (slice_range rows n (n + 64)) (word_bits w)
+own_rows rows n r w enough =
+    let of_all : (k : ℕ) → 64 ≤ k → chosen (take (n + k - n) (drop n rows)) (word_bits w) ≡ chosen (drop n rows) (word_bits w)
+    = λ k h. chosen-of_front (drop n rows) (word_bits w) (n + k - n) (omega (arith, length-word_bits w)) in
+    of_all r enough ∙ sym (of_all 64 (omega arith))
+
 -- one more word's rows are pushed
-pub word_pushed : {X : Type 0} (rows old new : List X) (m : List Bool) (i w : ℕ) → length rows ≡ length m → 64 * i + 64 ≤ length m → word_bits w ≡ word_part m i
-    → old ≡ chosen (take (64 * i) rows) (take (64 * i) m) → new ≡ old ++ chosen (slice_range rows (64 * i) (64 * i + 64)) (word_bits w)
+pub word_pushed : {X : Type 0} (rows old new : List X) (m : List Bool) (i r w : ℕ) → length rows ≡ length m → 64 ≤ r → 64 * i + 64 ≤ length m → word_bits w ≡ word_part m i
+    → old ≡ chosen (take (64 * i) rows) (take (64 * i) m) → new ≡ old ++ chosen (slice_range rows (64 * i) (64 * i + r)) (word_bits w)
     → new ≡ chosen (take (64 * (i + 1)) rows) (take (64 * (i + 1)) m)
-word_pushed {X} rows old new m i w len within shows before pushed = grind (arith, common_steps, chosen-part_more)
+word_pushed {X} rows old new m i r w len enough within shows before pushed = grind (arith, common_steps, own_rows rows (64 * i) r w enough, chosen-part_more)
 
 -- the rows of the rest are pushed, and with them all
 pub rest_pushed : {X : Type 0} (rows part old new : List X) (m : List Bool) (n w : ℕ) → length rows ≡ length m → n ≡ 64 * (length m / 64) → part ≡ drop n rows → word_bits w ≡ padded_remainder m

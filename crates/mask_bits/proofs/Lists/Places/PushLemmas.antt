@@ -5,7 +5,7 @@ use Rattle.std.specs.List.{All, cons_option, filter_map}
 use Rattle.std.specs.Option.{IsSome}
 use Rattle.std.proofs.lemmas.Bool.{cases_lt}
 use Rattle.std.proofs.lemmas.Bool.Decides.{nat_tests}
-use Rattle.std.proofs.lemmas.List.{take-append-le, length-take}
+use Rattle.std.proofs.lemmas.List.{take-append-le, length-take, length-take-le}
 use Rattle.std.proofs.lemmas.List.Elements.{All-head, All-tail, All-weaker}
 use lib.Seq.{take-append_seam}
 use Rattle.mask_bits.specs.Positions.{chosen, indices_from, positions, count, repeated}
@@ -13,7 +13,7 @@ use Rattle.mask_bits.specs.Pushed.{ArePushed}
 use Rattle.mask_bits.specs.WordItems.{items_of}
 use Rattle.mask_bits.specs.Words.{word_bits}
 use Rattle.std.proofs.lemmas.Option.{get_or_from_slice_get, slice_get_cases}
-use Rattle.mask_bits.proofs.Lists.ChooseLemmas.{chosen-all_true, chosen_at_positions}
+use Rattle.mask_bits.proofs.Lists.ChooseLemmas.{chosen-all_true, chosen-of_front, chosen_at_positions}
 use Rattle.mask_bits.proofs.Lists.CountLemmas.{count-repeated_true, length-repeated, slice_get-repeated}
 use Rattle.mask_bits.proofs.Lists.Places.SelectLemmas.{positions-lowest, indices-of_none}
 use Rattle.mask_bits.proofs.Lists.Places.PlaceLemmas.{length-indices_from-trues, positions-within, count-le-length}
@@ -23,8 +23,8 @@ use Rattle.mask_bits.proofs.Lists.Words.WordLemmas.{count-word_bits, length-word
 -- ---- what a word yields
 
 -- the places of a word are among 64
-pub places-within : (w n : ℕ) → n ≡ 64 → All (λ p. p < n) (positions (word_bits w))
-places-within w n is = subst (λ k. All (λ p. p < k) (positions (word_bits w))) (length-word_bits w ∙ sym is) (positions-within (word_bits w))
+pub places-within : (w n : ℕ) → 64 ≤ n → All (λ p. p < n) (positions (word_bits w))
+places-within w n enough = All-weaker (λ p. p < length (word_bits w)) (λ p. p < n) (λ p h. omega (arith, length-word_bits w)) (positions (word_bits w)) (positions-within (word_bits w))
 
 -- the item of its lowest bit comes first
 pub items_of-lowest : {X : Type 0} (at : ℕ → Option X) (w : ℕ) (x : X) → 0 < w → w < 2 ^ 64 → at (low w) ≡ Some x → items_of at (word_bits w) ≡ x ∷ items_of at (word_bits (bit_and w (w - 1)))
@@ -102,7 +102,7 @@ index-some : (base p : ℕ) → base + p < 2 ^ 64 → IsSome (index_at base p)
 index-some base p fits = grind (arith, nat_tests)
 
 pub indices-some : (base w : ℕ) → base + 63 < 2 ^ 64 → All (λ p. IsSome (index_at base p)) (positions (word_bits w))
-indices-some base w fits = All-weaker (λ p. p < 64) (λ p. IsSome (index_at base p)) (λ p h. index-some base p (omega arith)) (positions (word_bits w)) (places-within w 64 refl)
+indices-some base w fits = All-weaker (λ p. p < 64) (λ p. IsSome (index_at base p)) (λ p h. index-some base p (omega arith)) (positions (word_bits w)) (places-within w 64 (omega arith))
 
 indices_of : (base n : ℕ) (m : List Bool) → base + n + length m ≤ 2 ^ 64 → filter_map (index_at base) (indices_from n m) ≡ indices_from (base + n) m
 indices_of base n [] fits = refl
@@ -120,24 +120,25 @@ full_word w fits full =
     ap (λ b. nat_eq b 1) (ones-set w j fits (omega (arith, ones-of_full w full)))
     ∙ sym (get_or_from_slice_get (repeated 64 true) j true false (slice_get-repeated 64 true j (omega (arith, length-repeated 64 true)))))
 
-pub count_of_full : (w : ℕ) → w < 2 ^ 64 → w ≡ 2 ^ 64 - 1 → count (word_bits w) ≡ 64
+count_of_full : (w : ℕ) → w < 2 ^ 64 → w ≡ 2 ^ 64 - 1 → count (word_bits w) ≡ 64
 count_of_full w fits full = ap count (full_word w fits full) ∙ count-repeated_true 64
 
--- so that all rows are chosen
-pub chosen_by_full : {X : Type 0} (rows : List X) (w : ℕ) → length rows ≡ 64 → w < 2 ^ 64 → w ≡ 2 ^ 64 - 1 → chosen rows (word_bits w) ≡ rows
-chosen_by_full rows w len fits full = ap (chosen rows) (full_word w fits full) ∙ chosen-all_true rows 64 len
+-- so that all of its rows are chosen
+pub chosen_by_full : {X : Type 0} (rows : List X) (w : ℕ) → 64 ≤ length rows → w < 2 ^ 64 → w ≡ 2 ^ 64 - 1 → chosen rows (word_bits w) ≡ take 64 rows
+chosen_by_full rows w enough fits full =
+    sym (chosen-of_front rows (word_bits w) 64 (omega (arith, length-word_bits w))) ∙ ap (chosen (take 64 rows)) (full_word w fits full) ∙ chosen-all_true (take 64 rows) 64 (length-take-le 64 rows enough)
+
+-- which are as many as it has bits
+pub rows_of_full : {X : Type 0} (rows : List X) (w : ℕ) → 64 ≤ length rows → w < 2 ^ 64 → w ≡ 2 ^ 64 - 1 → length (take 64 rows) ≡ count (word_bits w)
+rows_of_full rows w enough fits full = length-take-le 64 rows enough ∙ sym (count_of_full w fits full)
 
 -- where each place yields its row
-pub row-some : {X : Type 0} (rows : List X) (p : ℕ) → p % 64 < length rows → IsSome (slice_get rows (p % 64))
+pub row-some : {X : Type 0} (rows : List X) (p : ℕ) → p < length rows → IsSome (slice_get rows p)
 row-some rows p inside = grind (arith, slice_get_cases)
 
-rows_of : {X : Type 0} (rows : List X) (ps : List ℕ) → All (λ p. p < 64) ps → filter_map (λ p. slice_get rows (p % 64)) ps ≡ filter_map (λ p. slice_get rows p) ps
-rows_of rows [] few = refl
-rows_of {X} rows (p ∷ ps) few = grind (arith, All-head, All-tail, rows_of rows ps (All-tail (λ q. q < 64) p ps few))
+pub items_of-rows : {X : Type 0} (rows : List X) (w : ℕ) → items_of (λ p. slice_get rows p) (word_bits w) ≡ chosen rows (word_bits w)
+items_of-rows rows w = sym (chosen_at_positions rows (word_bits w))
 
-pub items_of-rows : {X : Type 0} (rows : List X) (w : ℕ) → items_of (λ p. slice_get rows (p % 64)) (word_bits w) ≡ chosen rows (word_bits w)
-items_of-rows rows w = rows_of rows (positions (word_bits w)) (places-within w 64 refl) ∙ sym (chosen_at_positions rows (word_bits w))
-
-pub ruleset rows_of_words = (count_of_full, places-within, row-some, chosen_by_full, count-le-length, length-word_bits)
+pub ruleset rows_of_words = (rows_of_full, places-within, row-some, chosen_by_full, count-le-length, length-word_bits)
 
 pub ruleset items_of_words = (items_of-zero, append-nil, length-take)

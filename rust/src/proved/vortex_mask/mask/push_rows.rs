@@ -36,12 +36,27 @@ fn choose_rows_any<const K: usize, T: Copy, R: Room<T>>(
     chunks: &BitChunks<'_>,
 ) {
     let whole = chunks.len();
-    for i in 0..whole {
+    // the last whole word may have no row behind its own
+    let followed = rows.len().saturating_sub(1) / 64;
+    push_whole_words::<K, 65, _, _>(out, rows, chunks, 0, followed);
+    push_whole_words::<0, 64, _, _>(out, rows, chunks, followed, whole);
+    push_rows_one_by_one(out, &rows[64 * whole..], chunks.remainder_bits());
+}
+
+// Puts those of the whole words from `first` to `end`, with `ROWS` rows at hand at each.
+#[inline(always)]
+fn push_whole_words<const K: usize, const ROWS: usize, T: Copy, R: Room<T>>(
+    out: &mut R,
+    rows: &[T],
+    chunks: &BitChunks<'_>,
+    first: usize,
+    end: usize,
+) {
+    for i in first..end {
         push_rows_of_word::<K, _, _>(
             out,
-            crate::kit::words::part(rows, 64 * i, 64),
+            crate::kit::words::part(rows, 64 * i, ROWS),
             chunks.word_proved(i),
         );
     }
-    push_rows_one_by_one(out, &rows[64 * whole..], chunks.remainder_bits());
 }
