@@ -9,6 +9,11 @@ use crate::mask::push_rows::choose_rows;
 use crate::mask::{Mask, MaskError};
 use mask_bits::BitBuffer;
 use std::alloc::{AllocError, Global};
+use std::mem::size_of_val;
+
+// Rows that lie so many bytes apart on the average go one by one: to read others beside them, from lines of their own,
+// takes longer than a branch that is guessed wrong.
+const FAR: usize = 256;
 
 /// Choosing rows.
 #[tactic(auto, using(crate::proofs::Masks::MaskLemmas::chosen_value_facts, crate::proofs::Masks::MaskLemmas::count_facts))]
@@ -46,6 +51,10 @@ fn rows_at<T: Copy>(
     ensures { IfOk result (λ v. v.items ≡ chosen rows.now (values buffer.now)) }
 {
     let mut chosen_rows = Vec::with_capacity(alloc, true_count)?;
-    choose_rows::<4, _, _>(&mut chosen_rows, rows, &buffer.chunks());
+    if true_count < size_of_val(rows) / FAR {
+        choose_rows::<0, _, _>(&mut chosen_rows, rows, &buffer.chunks());
+    } else {
+        choose_rows::<4, _, _>(&mut chosen_rows, rows, &buffer.chunks());
+    }
     Ok(chosen_rows)
 }

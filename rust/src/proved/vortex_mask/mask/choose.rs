@@ -6,6 +6,11 @@ use crate::kit::prelude::*;
 use crate::proved::mask_bits::BitBuffer;
 use crate::proved::vortex_mask::mask::push_rows::choose_rows;
 use crate::proved::vortex_mask::mask::{Mask, MaskError};
+use core::mem::size_of_val;
+
+// Rows that lie so many bytes apart on the average go one by one: to read others beside them, from lines of their own,
+// takes longer than a branch that is guessed wrong.
+const FAR: usize = 256;
 
 /// Choosing rows.
 impl Mask {
@@ -54,6 +59,10 @@ fn rows_at<T: Copy>(
     true_count: usize,
 ) -> Result<Vec<T>, AllocError> {
     let mut chosen_rows = Vec::with_room(true_count)?;
-    choose_rows::<4, _, _>(&mut chosen_rows, rows, &buffer.chunks());
+    if true_count < size_of_val(rows) / FAR {
+        choose_rows::<0, _, _>(&mut chosen_rows, rows, &buffer.chunks());
+    } else {
+        choose_rows::<4, _, _>(&mut chosen_rows, rows, &buffer.chunks());
+    }
     Ok(chosen_rows)
 }
