@@ -106,13 +106,15 @@ LEAVES = {
     ),
 }
 # Private functions that calls by hand go to.
-PUBLIC_HERE = {"put_ends", "put_strings", "take_offsets"}
+PUBLIC_HERE = {"put_ends", "put_strings", "take_offsets", "word_of_rows", "word_of_whole"}
 # Modules that have such a function, and are private too.
 MODULES_HERE = {"bit_buffers", "from_rows", "kernels", "read_word"}
 # Functions that are put into their callers always: tests of places make them seem too long for that.
 INLINED = ["Iterator for SetSlices::next", "eight_steps", "next_word", "past_full_words"]
 # What only the package's own calls do.
 QUICKEST = "the processor's deposits"
+# Tests of rows that calls by hand hand on to private functions may count what they are asked.
+CLOSURES = "tests of rows"
 ALLOCATOR = r"(?:\w+\.)*alloc\b(?!\s*[:(!])"
 RULES = [
     ("the allocator", r",\s*\$alloc(:ident)?", ""),
@@ -149,6 +151,8 @@ RULES = [
     ("the program's handle", r"\b(e?println)!\(rt;\s*", r"crate::host::\1!(rt; "),
     (QUICKEST, r"\b([\w:]+)::<Portable(, _)?>\(([^()]*)\)", r"crate::kit::quickest!(\1::<Portable\2>(\3))"),
     (QUICKEST, r"\bPortable::(deposit_bits)\(([^()]*)\)", r"crate::kit::quickest!(Portable::\1(\2))"),
+    (CLOSURES, r"\bF: Fn(\(&T\) -> bool>\([^()]*\btest: &)F\b", r"F: FnMut\1mut F"),
+    (CLOSURES, r"(\bput_answers\([^()]*), &test\)", r"\1, &mut { test })"),
     (QUICKEST, r"(?<!fn )\bdeposits_by_loop\(", "crate::kit::processor::by_loop("),
     ("modules", r"\b(\$?)crate::(?!kit\b|proved\b|mask_calls\b|host\b)", r"\1{root}::"),
 ]

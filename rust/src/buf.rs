@@ -6,7 +6,6 @@ use core::hash::{Hash, Hasher};
 use core::ops::Not;
 
 mod change;
-mod lanes;
 mod make;
 mod pack;
 

@@ -1,9 +1,10 @@
 //! Truth values that are packed.
 
 use super::BitmapBuf;
-use super::lanes::{Lanes, pack_words};
 use crate::Error;
-use crate::bitmap::{Room, as_bytes, room_for};
+use crate::bitmap::{Room, as_items, room_for};
+use crate::kit::by_level;
+use crate::proved::mask_bits::from_rows::{word_of_rows, word_of_whole};
 use crate::proved::mask_c;
 use core::mem::MaybeUninit;
 
@@ -13,11 +14,32 @@ pub(super) const AHEAD: usize = 1 << 20;
 // Values that are asked for before they are packed: a multiple of 64, in the nearest memory.
 const BLOCK: usize = 512;
 
+/// Takes values, as many as there are or as the block has places, and answers how many these are.
+#[inline]
+fn take(block: &mut [u16; BLOCK], values: impl Iterator<Item = bool>) -> usize {
+    let mut count = 0;
+    for (place, value) in block.iter_mut().zip(values) {
+        *place = value.into();
+        count += 1;
+    }
+    count
+}
+
+/// The same of at most `most` values.
+#[inline]
+fn take_most(
+    block: &mut [u16; BLOCK],
+    values: &mut impl Iterator<Item = bool>,
+    most: usize,
+) -> usize {
+    if most < BLOCK { take(block, values.take(most)) } else { take(block, values) }
+}
+
 /// Writes each byte of the values.
 pub(super) fn pack(values: &[bool], out: &mut [MaybeUninit<u8>]) {
     debug_assert!(out.len() >= room_for(values.len()));
     // SAFETY: it writes each byte.
-    mask_c::row_mask_from_bools(values, unsafe { as_bytes(out) });
+    mask_c::row_mask_from_bools(values, unsafe { as_items(out) });
 }
 
 /// Writes each byte of `value(0)`, `value(1)` and so on, to just the bytes that `len` values take.
@@ -26,11 +48,10 @@ pub(crate) fn pack_fn(
     mut value: impl FnMut(usize) -> bool,
     out: &mut [MaybeUninit<u8>],
 ) {
-    let mut lanes = Lanes::<BLOCK>::default();
+    let mut block = [0; BLOCK];
     for (out, start) in out.chunks_mut(BLOCK / 8).zip((0..len).step_by(BLOCK)) {
-        let values = (start..len.min(start + BLOCK)).map(&mut value);
-        let count = lanes.take(values);
-        lanes.pack(count, out);
+        let count = take(&mut block, (start..len.min(start + BLOCK)).map(&mut value));
+        pack_rows(&block[..count], |it| *it != 0, out);
     }
 }
 
@@ -41,11 +62,14 @@ pub(crate) fn pack_values(
     len: usize,
     out: &mut [MaybeUninit<u8>],
 ) {
-    let (mut lanes, mut left) = (Lanes::<BLOCK>::default(), len);
+    let (mut block, mut left) = ([0; BLOCK], len);
     for out in out.chunks_mut(BLOCK / 8) {
-        let count = lanes.take_most(values, left);
-        lanes.pack(count, out);
-        left = left.saturating_sub(BLOCK);
+        let (count, most) = (take_most(&mut block, values, left), left.min(BLOCK));
+        if let Some(missing) = block.get_mut(count..most) {
+            missing.fill(0);
+        }
+        pack_rows(&block[..most], |it| *it != 0, out);
+        left -= most;
     }
 }
 
@@ -80,15 +104,15 @@ impl BitmapBuf {
 
     /// Adds at most `most` values behind the last one, where the last byte has eight.
     pub(crate) fn add_blocks(&mut self, values: &mut impl Iterator<Item = bool>, most: usize) {
-        let (mut lanes, mut left) = (Lanes::<BLOCK>::default(), most);
+        let (mut block, mut left) = ([0; BLOCK], most);
         loop {
             if self.bytes.capacity() - self.bytes.len() < BLOCK / 8 {
                 // (a hint that was right for so long: if it is refused, room is made for what comes)
                 let _ = self.bytes.try_reserve(room_for(values.size_hint().0.min(left)));
             }
-            let count = lanes.take_most(values, left);
+            let count = take_most(&mut block, values, left);
             // SAFETY: it writes each byte, and the last byte has eight values.
-            unsafe { self.add(count, |out| lanes.pack(count, out)) };
+            unsafe { self.add(count, |out| pack_rows(&block[..count], |it| *it != 0, out)) };
             left -= count;
             if count < BLOCK {
                 return;
@@ -99,10 +123,49 @@ impl BitmapBuf {
 
 /// Writes each byte of what is asked of rows, to just the bytes that they take.
 fn pack_rows<T>(rows: &[T], mut is_true: impl FnMut(&T) -> bool, out: &mut [MaybeUninit<u8>]) {
-    let (whole, rest) = rows.as_chunks();
+    by_level!(
+        pack_rows_v3(rows, &mut is_true, out),
+        pack_rows_any::<T, _, { cfg!(target_feature = "avx2") }>(rows, &mut is_true, out)
+    );
+}
+
+#[cfg(target_arch = "x86_64")]
+#[target_feature(enable = "avx2,bmi1,bmi2,f16c,fma,lzcnt,movbe,popcnt")]
+fn pack_rows_v3<T, F: FnMut(&T) -> bool>(rows: &[T], is_true: &mut F, out: &mut [MaybeUninit<u8>]) {
+    pack_rows_any::<T, F, true>(rows, is_true, out);
+}
+
+#[expect(clippy::inline_always, reason = "a copy is compiled for what the function around it has")]
+#[inline(always)]
+fn pack_rows_any<T, F: FnMut(&T) -> bool, const HAS_AVX2: bool>(
+    rows: &[T],
+    is_true: &mut F,
+    out: &mut [MaybeUninit<u8>],
+) {
+    let (whole, rest) = rows.as_chunks::<64>();
     let (words, last) = out.split_at_mut(8 * whole.len());
-    pack_words(whole, &mut is_true, words.as_chunks_mut().0);
-    pack_fn(rest.len(), |i| is_true(&rest[i]), last);
+    for (out, rows) in words.as_chunks_mut().0.iter_mut().zip(whole) {
+        let word = match size_of::<T>() {
+            8 if HAS_AVX2 => word_by_bits(rows, is_true),
+            _ => word_of_whole(rows, is_true),
+        };
+        *out = word.to_le_bytes().map(MaybeUninit::new);
+    }
+    for (out, byte) in last.iter_mut().zip(word_of_rows(rest, is_true).to_le_bytes()) {
+        out.write(byte);
+    }
+}
+
+/// What is asked of each of 64 rows of 8 bytes. By hand: with AVX2 a compiler needs 0.6 of the time that it takes of the
+/// proved loop, and without it some times as long.
+#[expect(clippy::inline_always, reason = "as above")]
+#[inline(always)]
+fn word_by_bits<T>(rows: &[T; 64], is_true: &mut impl FnMut(&T) -> bool) -> u64 {
+    let mut word = 0;
+    for (bit, row) in rows.iter().enumerate() {
+        word |= u64::from(is_true(row)) << bit;
+    }
+    word
 }
 
 impl FromIterator<bool> for BitmapBuf {

@@ -71,6 +71,44 @@ fn choosing() {
     });
 }
 
+/// Rows of each size are asked once, in their order.
+fn asked<T>(row: impl Fn(usize) -> T, is_true: impl Fn(&T) -> bool) {
+    for len in [0, 1, 63, 64, 65, 200, 2_000] {
+        let rows: Vec<T> = (0..len).map(|i| row(i * 7 % 1_009)).collect();
+        same(|| {
+            let mut next = rows.iter();
+            let made = BitmapBuf::from_rows(&rows, |row| {
+                next.next().is_some_and(|it| std::ptr::eq(it, row)) && is_true(row)
+            });
+            assert!(next.next().is_none());
+            for (row, value) in rows.iter().zip(&made) {
+                assert_eq!(value, is_true(row));
+            }
+            made.len()
+        });
+    }
+}
+
+#[test]
+fn packing() {
+    asked(|_| (), |()| true);
+    asked(|i| i % 256 < 100, |it| *it);
+    asked(|i| u16::try_from(i).unwrap(), |it| *it > 500);
+    asked(|i| [i % 3 == 0; 3], |it| it[2]);
+    asked(|i| i32::try_from(i).unwrap(), |it| *it % 3 == 1);
+    asked(|i| [i < 9; 5], |it| it[4]);
+    asked(|i| i, |it| *it > 500);
+    asked(|i| (i, i % 2), |it| it.0 > 300 && it.1 == 1);
+    each_list(|a, _| {
+        let mut values: Vec<bool> = a.iter().collect();
+        assert_eq!(a, values.iter().copied().collect::<BitmapBuf>());
+        assert_eq!(a, BitmapBuf::from_fn(a.len(), |i| values[i]));
+        let mut bytes = vec![!0; a.len().div_ceil(8)];
+        BitmapBuf::collect_into(values.drain(..), &mut bytes[..]).unwrap();
+        assert_eq!(Bitmap::new(&bytes, 0, a.len()), Bitmap::new(a.to_buf().as_bytes(), 0, a.len()));
+    });
+}
+
 #[test]
 fn masks() {
     each_list(|a, b| {

@@ -41,14 +41,14 @@ impl BitBuffer {
     #[inline(always)]
     fn from_rows_any<T, F: Fn(&T) -> bool>(rows: &[T], test: F) -> Result<BitBuffer, AllocError> {
         let mut bytes = crate::kit::filled(0u8, 8 * started_words(rows.len()))?;
-        put_answers(&mut bytes, rows, &test);
+        put_answers(&mut bytes, rows, &mut { test });
         BitBuffer::from_vec_proved(bytes, rows.len())
     }
 }
 
 // Writes what a test answers of rows to the front of `bytes`, which is room of whole words, a word at a time.
 #[inline(always)]
-fn put_answers<T, F: Fn(&T) -> bool>(bytes: &mut [u8], rows: &[T], test: &F) {
+fn put_answers<T, F: FnMut(&T) -> bool>(bytes: &mut [u8], rows: &[T], test: &mut F) {
     let whole = rows.len() / 64;
     for i in 0..whole {
         set_word(bytes, i, word_of_whole(&rows[64 * i..64 * i + 64], test));
@@ -60,13 +60,13 @@ fn put_answers<T, F: Fn(&T) -> bool>(bytes: &mut [u8], rows: &[T], test: &F) {
 
 // The word of what a test answers of 64 rows, the first lowest.
 #[inline(always)]
-fn word_of_whole<T, F: Fn(&T) -> bool>(rows: &[T], test: &F) -> u64 {
+pub(crate) fn word_of_whole<T, F: FnMut(&T) -> bool>(rows: &[T], test: &mut F) -> u64 {
     if size_of_val(rows) < WIDE { word_of_rows(rows, test) } else { word_by_sixteens(rows, test) }
 }
 
 // The same, where sixteen answers become bits as they come.
 #[inline(always)]
-fn word_by_sixteens<T, F: Fn(&T) -> bool>(rows: &[T], test: &F) -> u64 {
+fn word_by_sixteens<T, F: FnMut(&T) -> bool>(rows: &[T], test: &mut F) -> u64 {
     let mut word = 0;
     for k in 0..4 {
         word |= bits_of_sixteen(&rows[16 * k..16 * k + 16], test) << (16 * k);
@@ -76,7 +76,7 @@ fn word_by_sixteens<T, F: Fn(&T) -> bool>(rows: &[T], test: &F) -> u64 {
 
 // What a test answers of sixteen rows, the first lowest, with zeros past them.
 #[inline(always)]
-fn bits_of_sixteen<T, F: Fn(&T) -> bool>(rows: &[T], test: &F) -> u64 {
+fn bits_of_sixteen<T, F: FnMut(&T) -> bool>(rows: &[T], test: &mut F) -> u64 {
     let mut lanes = [0u8; 16];
     put_lanes(&mut lanes, 0, rows, test);
     word_of_sixteen_lanes(&lanes)
@@ -87,7 +87,7 @@ fn bits_of_sixteen<T, F: Fn(&T) -> bool>(rows: &[T], test: &F) -> u64 {
 // An answer is a lane of its own, so that several rows are tested at once where the test allows it, and all lanes
 // become bits together. Always inlined, as the packing of a list's values.
 #[inline(always)]
-fn word_of_rows<T, F: Fn(&T) -> bool>(rows: &[T], test: &F) -> u64 {
+pub(crate) fn word_of_rows<T, F: FnMut(&T) -> bool>(rows: &[T], test: &mut F) -> u64 {
     let mut lanes = [0u8; 64];
     let whole = rows.len() / 16;
     for k in 0..whole {
@@ -100,11 +100,11 @@ fn word_of_rows<T, F: Fn(&T) -> bool>(rows: &[T], test: &F) -> u64 {
 // Writes what a test answers of some rows to the lanes behind the first `at`. Of sixteen rows, the lanes of a vector,
 // no loop is left.
 #[inline(always)]
-fn put_lanes<const N: usize, T, F: Fn(&T) -> bool>(
+fn put_lanes<const N: usize, T, F: FnMut(&T) -> bool>(
     lanes: &mut [u8; N],
     at: usize,
     rows: &[T],
-    test: &F,
+    test: &mut F,
 ) {
     for j in 0..rows.len() {
         lanes[at + j] = test(&rows[j]) as u8;
