@@ -1,153 +1,57 @@
 use core::error;
 use core::fmt;
 
-/// Why a call was refused. Nothing was done.
-#[derive(Debug, Clone, Copy, PartialEq, Eq)]
-#[non_exhaustive]
-pub enum Error {
-    /// The `len` bits from bit `offset` on are not within so many bytes.
-    OutOfBytes {
-        /// How many bytes there are.
-        bytes: usize,
-        /// The position of the first bit.
-        offset: usize,
-        /// How many bits were asked for.
-        len: usize,
-    },
-    /// Two bitmaps that are combined value by value have two lengths.
-    LengthsDiffer {
-        /// The length of the first.
-        left: usize,
-        /// The length of the second.
-        right: usize,
-    },
-    /// A range does not lie within the values, or ends before it starts.
-    BadRange {
-        /// The first index.
-        start: usize,
-        /// The index past the last.
-        end: usize,
-        /// How many values there are.
-        len: usize,
-    },
-    /// There is not one row for each value.
-    RowsDiffer {
-        /// How many rows there are.
-        rows: usize,
-        /// How many values there are.
-        len: usize,
-    },
-    /// There is not one rank for each true value.
-    RanksDiffer {
-        /// How many values the bitmap of ranks has.
-        ranks: usize,
-        /// How many true values there are.
-        count: usize,
-    },
-    /// A rank is not above the one before it.
-    UnsortedRanks {
-        /// The place of the rank in the list.
-        at: usize,
-    },
-    /// A rank is no number of a true value.
-    RankOutOfBounds {
-        /// The rank.
-        rank: usize,
-        /// How many true values there are.
-        count: usize,
-    },
-    /// An index is below the one before it.
-    UnsortedIndices {
-        /// The place of the index in the list.
-        at: usize,
-    },
-    /// An index is past the end.
-    IndexOutOfBounds {
-        /// The index.
-        index: usize,
-        /// How many values there are.
-        len: usize,
-    },
-    /// There is not one offset more than there are rows.
-    OffsetsDiffer {
-        /// How many offsets there are.
-        offsets: usize,
-        /// How many rows there are.
-        len: usize,
-    },
-    /// An offset is negative, or below the one before it.
-    UnsortedOffsets {
-        /// The place of the offset in the list.
-        at: usize,
-    },
-    /// The last offset is past the end of the bytes.
-    OffsetOutOfBounds {
-        /// The offset.
-        offset: usize,
-        /// How many bytes there are.
-        size: usize,
-    },
-    /// There is no memory for what is to be made.
-    OutOfMemory {
-        /// How many bytes it takes.
-        bytes: usize,
-    },
-    /// What is to be written has no room.
-    RoomTooSmall {
-        /// How many bytes or items there is room for.
-        room: usize,
-        /// How many there are to write.
-        needed: usize,
-    },
-}
+/// Refusals: of each its sentence, the numbers that this has, and how it is printed.
+macro_rules! refusals {
+    ($($(#[$sentence:meta])* $name:ident { $($number:ident),+ } => $text:literal;)+) => {
+        /// Why a call was refused. Nothing was done.
+        #[derive(Debug, Clone, Copy, PartialEq, Eq)]
+        #[non_exhaustive]
+        #[allow(missing_docs, reason = "the sentence of each says what its numbers are")]
+        pub enum Error {
+            $($(#[$sentence])* $name { $($number: usize),+ },)+
+        }
 
-impl fmt::Display for Error {
-    fn fmt(&self, f: &mut fmt::Formatter<'_>) -> fmt::Result {
-        match *self {
-            Error::OutOfBytes { bytes, offset, len } => {
-                write!(f, "{len} bits from bit {offset} on are not within {bytes} bytes")
-            }
-            Error::LengthsDiffer { left, right } => {
-                write!(f, "one bitmap has {left} values, and the other {right}")
-            }
-            Error::BadRange { start, end, len } => {
-                write!(f, "{start}..{end} is no range of {len} values")
-            }
-            Error::RowsDiffer { rows, len } => {
-                write!(f, "there are {rows} rows, and {len} values")
-            }
-            Error::RanksDiffer { ranks, count } => {
-                write!(f, "there are {ranks} ranks, and {count} true values")
-            }
-            Error::UnsortedRanks { at } => {
-                write!(f, "rank number {at} is not above the one before it")
-            }
-            Error::RankOutOfBounds { rank, count } => {
-                write!(f, "there is no rank {rank} of {count} true values")
-            }
-            Error::UnsortedIndices { at } => {
-                write!(f, "index number {at} is below the one before it")
-            }
-            Error::IndexOutOfBounds { index, len } => {
-                write!(f, "index {index} is past the end of {len} values")
-            }
-            Error::OffsetsDiffer { offsets, len } => {
-                write!(f, "there are {offsets} offsets, and {len} rows")
-            }
-            Error::UnsortedOffsets { at } => {
-                write!(f, "offset number {at} is negative, or below the one before it")
-            }
-            Error::OffsetOutOfBounds { offset, size } => {
-                write!(f, "offset {offset} is past the end of {size} bytes")
-            }
-            Error::OutOfMemory { bytes } => {
-                write!(f, "there is no memory for {bytes} bytes")
-            }
-            Error::RoomTooSmall { room, needed } => {
-                write!(f, "there is room for {room}, and {needed} are to be written")
+        impl fmt::Display for Error {
+            fn fmt(&self, f: &mut fmt::Formatter<'_>) -> fmt::Result {
+                match *self {
+                    $(Error::$name { $($number),+ } => write!(f, $text),)+
+                }
             }
         }
-    }
+    };
+}
+
+refusals! {
+    /// The `len` bits from bit `offset` on are not within so many `bytes`.
+    OutOfBytes { bytes, offset, len } => "{len} bits from bit {offset} on are not within {bytes} bytes";
+    /// Two bitmaps that are combined value by value have two lengths: that of the first, `left`, and that of the
+    /// second, `right`.
+    LengthsDiffer { left, right } => "one bitmap has {left} values, and the other {right}";
+    /// The range from index `start` to the one before `end` does not lie within `len` values, or ends before it starts.
+    BadRange { start, end, len } => "{start}..{end} is no range of {len} values";
+    /// There is not one row for each value: there are so many `rows`, and `len` values.
+    RowsDiffer { rows, len } => "there are {rows} rows, and {len} values";
+    /// There is not one rank for each true value: the bitmap of ranks has so many, and `count` values are true.
+    RanksDiffer { ranks, count } => "there are {ranks} ranks, and {count} true values";
+    /// The rank at place `at` of the list is not above the one before it.
+    UnsortedRanks { at } => "rank number {at} is not above the one before it";
+    /// A `rank` is no number of a true value, of which there are `count`.
+    RankOutOfBounds { rank, count } => "there is no rank {rank} of {count} true values";
+    /// The index at place `at` of the list is below the one before it.
+    UnsortedIndices { at } => "index number {at} is below the one before it";
+    /// An `index` is past the end of `len` values.
+    IndexOutOfBounds { index, len } => "index {index} is past the end of {len} values";
+    /// There is not one offset more than there are rows: there are so many `offsets`, and `len` rows.
+    OffsetsDiffer { offsets, len } => "there are {offsets} offsets, and {len} rows";
+    /// The offset at place `at` of the list is negative, or below the one before it.
+    UnsortedOffsets { at } => "offset number {at} is negative, or below the one before it";
+    /// The last `offset` is past the end of the bytes, of which there are `size`.
+    OffsetOutOfBounds { offset, size } => "offset {offset} is past the end of {size} bytes";
+    /// There is no memory for what is to be made, which takes so many `bytes`.
+    OutOfMemory { bytes } => "there is no memory for {bytes} bytes";
+    /// What is to be written has no room: there is `room` for so many bytes or items, and so many are `needed`.
+    RoomTooSmall { room, needed } => "there is room for {room}, and {needed} are to be written";
 }
 
 impl error::Error for Error {}

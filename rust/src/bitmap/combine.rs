@@ -7,83 +7,52 @@ use crate::{Bitmap, BitmapBuf, Error};
 use core::mem::MaybeUninit;
 use core::ops::Not;
 
+/// Calls of two bitmaps of one length, each by a proved loop: what is true in the values that they make, and the same written
+/// into room.
+macro_rules! combined {
+    ($($what:literal: $call:ident, $into:ident by $combine:ident;)+) => {
+        impl Bitmap<'_> {$(
+            #[doc = concat!("The values that are true ", $what, ".")]
+            ///
+            /// # Errors
+            ///
+            /// [`Error::LengthsDiffer`], and [`Error::OutOfMemory`].
+            pub fn $call(self, other: Bitmap<'_>) -> Result<BitmapBuf, Error> {
+                let mut out = BitmapBuf::default();
+                self.$into(other, &mut out)?;
+                Ok(out)
+            }
+
+            #[doc = concat!("The values that are true ", $what, ", written into `out`.")]
+            ///
+            /// # Errors
+            ///
+            /// [`Error::LengthsDiffer`], and the refusals of [`Room`].
+            pub fn $into(
+                self,
+                other: Bitmap<'_>,
+                out: &mut (impl Room + ?Sized),
+            ) -> Result<(), Error> {
+                self.of_length_of(other)?;
+                let (bytes, offset) = (other.bytes, other.offset);
+                let combine = |out: &mut [u8]| {
+                    mask_c::$combine(self.bytes, self.offset, bytes, offset, self.len, out);
+                };
+                // SAFETY: it writes each byte.
+                unsafe { out.write(self.len, |out| combine(as_items(out))) }
+            }
+        )+}
+    };
+}
+
+combined! {
+    "in both": and, and_into by row_mask_and;
+    "in one or in both": or, or_into by row_mask_or;
+    "here and not in `other`": and_not, and_not_into by row_mask_and_not;
+    "in one and not in the other": xor, xor_into by row_mask_xor;
+}
+
 impl Bitmap<'_> {
-    /// The values that are true in both.
-    ///
-    /// # Errors
-    ///
-    /// [`Error::LengthsDiffer`], and [`Error::OutOfMemory`].
-    pub fn and(self, other: Bitmap<'_>) -> Result<BitmapBuf, Error> {
-        self.combined(other, mask_c::row_mask_and)
-    }
-
-    /// The values that are true in both, written into `out`.
-    ///
-    /// # Errors
-    ///
-    /// [`Error::LengthsDiffer`], and the refusals of [`Room`].
-    pub fn and_into(self, other: Bitmap<'_>, out: &mut (impl Room + ?Sized)) -> Result<(), Error> {
-        self.combined_into(other, mask_c::row_mask_and, out)
-    }
-
-    /// The values that are true in one or in both.
-    ///
-    /// # Errors
-    ///
-    /// [`Error::LengthsDiffer`], and [`Error::OutOfMemory`].
-    pub fn or(self, other: Bitmap<'_>) -> Result<BitmapBuf, Error> {
-        self.combined(other, mask_c::row_mask_or)
-    }
-
-    /// The values that are true in one or in both, written into `out`.
-    ///
-    /// # Errors
-    ///
-    /// [`Error::LengthsDiffer`], and the refusals of [`Room`].
-    pub fn or_into(self, other: Bitmap<'_>, out: &mut (impl Room + ?Sized)) -> Result<(), Error> {
-        self.combined_into(other, mask_c::row_mask_or, out)
-    }
-
-    /// The values that are true here and not in `other`.
-    ///
-    /// # Errors
-    ///
-    /// [`Error::LengthsDiffer`], and [`Error::OutOfMemory`].
-    pub fn and_not(self, other: Bitmap<'_>) -> Result<BitmapBuf, Error> {
-        self.combined(other, mask_c::row_mask_and_not)
-    }
-
-    /// The values that are true here and not in `other`, written into `out`.
-    ///
-    /// # Errors
-    ///
-    /// [`Error::LengthsDiffer`], and the refusals of [`Room`].
-    pub fn and_not_into(
-        self,
-        other: Bitmap<'_>,
-        out: &mut (impl Room + ?Sized),
-    ) -> Result<(), Error> {
-        self.combined_into(other, mask_c::row_mask_and_not, out)
-    }
-
-    /// The values that are true in one and not in the other.
-    ///
-    /// # Errors
-    ///
-    /// [`Error::LengthsDiffer`], and [`Error::OutOfMemory`].
-    pub fn xor(self, other: Bitmap<'_>) -> Result<BitmapBuf, Error> {
-        self.combined(other, mask_c::row_mask_xor)
-    }
-
-    /// The values that are true in one and not in the other, written into `out`.
-    ///
-    /// # Errors
-    ///
-    /// [`Error::LengthsDiffer`], and the refusals of [`Room`].
-    pub fn xor_into(self, other: Bitmap<'_>, out: &mut (impl Room + ?Sized)) -> Result<(), Error> {
-        self.combined_into(other, mask_c::row_mask_xor, out)
-    }
-
     /// Each value negated, written into `out`.
     ///
     /// # Errors
@@ -123,34 +92,7 @@ impl Bitmap<'_> {
         // SAFETY: it writes each byte.
         call!(row_mask_copy(self, unsafe { as_items(out) }));
     }
-
-    fn combined(self, other: Bitmap<'_>, combine: impl Combine) -> Result<BitmapBuf, Error> {
-        let mut out = BitmapBuf::default();
-        self.combined_into(other, combine, &mut out)?;
-        Ok(out)
-    }
-
-    fn combined_into(
-        self,
-        other: Bitmap<'_>,
-        combine: impl Combine,
-        out: &mut (impl Room + ?Sized),
-    ) -> Result<(), Error> {
-        self.of_length_of(other)?;
-        let (a, b, len) = (self, other, self.len);
-        // SAFETY: it writes each byte.
-        unsafe {
-            out.write(len, |out| {
-                combine(a.bytes, a.offset, b.bytes, b.offset, len, as_items(out));
-            })
-        }
-    }
 }
-
-/// A proved loop over two bitmaps of one length.
-trait Combine: FnOnce(&[u8], usize, &[u8], usize, usize, &mut [u8]) {}
-
-impl<F: FnOnce(&[u8], usize, &[u8], usize, usize, &mut [u8])> Combine for F {}
 
 /// Each value negated, in bytes of their own.
 impl Not for Bitmap<'_> {

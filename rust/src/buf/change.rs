@@ -5,7 +5,27 @@ use crate::proved::mask_c;
 use crate::{Bitmap, BitmapBuf, Error};
 use core::ops::{Range, RangeBounds};
 
-impl BitmapBuf {
+/// Calls that change values in place by those of a bitmap of their length, each by a proved loop.
+macro_rules! changed {
+    ($($(#[$what:meta])+ $call:ident by $change:ident;)+) => {
+        impl BitmapBuf {$(
+            $(#[$what])+
+            ///
+            /// # Errors
+            ///
+            /// [`Error::LengthsDiffer`].
+            pub fn $call(&mut self, other: Bitmap<'_>) -> Result<(), Error> {
+                if self.len != other.len() {
+                    return Err(Error::LengthsDiffer { left: self.len, right: other.len() });
+                }
+                mask_c::$change(&mut self.bytes, other.bytes(), other.offset(), self.len);
+                Ok(())
+            }
+        )+}
+    };
+}
+
+changed! {
     /// Leaves those values true that are true in `other` too, in place.
     ///
     /// ```
@@ -15,41 +35,16 @@ impl BitmapBuf {
     /// assert_eq!(rows.to_string(), "001");
     /// # Ok::<(), row_mask::Error>(())
     /// ```
-    ///
-    /// # Errors
-    ///
-    /// [`Error::LengthsDiffer`].
-    pub fn and_with(&mut self, other: Bitmap<'_>) -> Result<(), Error> {
-        self.change(other, mask_c::row_mask_and_in_place)
-    }
-
+    and_with by row_mask_and_in_place;
     /// Makes those values true that are true in `other`, in place.
-    ///
-    /// # Errors
-    ///
-    /// [`Error::LengthsDiffer`].
-    pub fn or_with(&mut self, other: Bitmap<'_>) -> Result<(), Error> {
-        self.change(other, mask_c::row_mask_or_in_place)
-    }
-
+    or_with by row_mask_or_in_place;
     /// Makes those values false that are true in `other`, in place.
-    ///
-    /// # Errors
-    ///
-    /// [`Error::LengthsDiffer`].
-    pub fn and_not_with(&mut self, other: Bitmap<'_>) -> Result<(), Error> {
-        self.change(other, mask_c::row_mask_and_not_in_place)
-    }
-
+    and_not_with by row_mask_and_not_in_place;
     /// Negates those values that are true in `other`, in place.
-    ///
-    /// # Errors
-    ///
-    /// [`Error::LengthsDiffer`].
-    pub fn xor_with(&mut self, other: Bitmap<'_>) -> Result<(), Error> {
-        self.change(other, mask_c::row_mask_xor_in_place)
-    }
+    xor_with by row_mask_xor_in_place;
+}
 
+impl BitmapBuf {
     /// Negates each value, in place.
     pub fn negate(&mut self) {
         mask_c::row_mask_not_in_place(&mut self.bytes, self.len);
@@ -169,17 +164,5 @@ impl BitmapBuf {
         self.bytes.resize(room_for(len), 0);
         mask_c::row_mask_append(&mut self.bytes, self.len, more.bytes(), more.offset(), more.len());
         self.len = len;
-    }
-
-    fn change(
-        &mut self,
-        other: Bitmap<'_>,
-        change: impl FnOnce(&mut [u8], &[u8], usize, usize),
-    ) -> Result<(), Error> {
-        if self.len != other.len() {
-            return Err(Error::LengthsDiffer { left: self.len, right: other.len() });
-        }
-        change(&mut self.bytes, other.bytes(), other.offset(), self.len);
-        Ok(())
     }
 }

@@ -30,7 +30,12 @@ fn each_public_call_is_here() {
             }
             let text = fs::read_to_string(path).unwrap();
             let calls = text.lines().filter_map(|line| line.trim().strip_prefix("pub fn "));
-            all.extend(calls.filter_map(|it| Some(it.split(['(', '<']).next()?.to_owned())));
+            let names = calls.filter_map(|it| it.split(['(', '<']).next());
+            // (and those that a macro makes, each of a line that names its loop)
+            let made = text.lines().filter_map(|line| line.split_once(" by row_mask_"));
+            let made = made.flat_map(|(it, _)| it.rsplit(": ").next().unwrap().split(", "));
+            let all_names = names.filter(|it| !it.starts_with('$')).chain(made.map(str::trim));
+            all.extend(all_names.map(str::to_owned));
         }
     }
     let mut all = vec![];
