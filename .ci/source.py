@@ -1,8 +1,10 @@
 """Reads Rust with contracts: the functions of a crate, their clauses, and where they stand; and spec files.
 
-What the scripts beside this file share. It reads text and runs nothing. `.ci/docs` runs the examples in it.
+What the scripts beside this file share: it also says where a program is, and has it built. `.ci/docs` runs the examples
+in it.
 """
 import re
+import subprocess
 import textwrap
 from collections import namedtuple
 from functools import cache
@@ -12,7 +14,7 @@ from pathlib import Path
 ROOT = Path(__file__).resolve().parent.parent
 CRATES = ROOT / "crates"
 # Crates that have nothing but tests, and the benchmark.
-TEST_CRATES = "mask_calls", "mask_tests", "uses_tests", "mask_bench"
+TEST_CRATES = "mask_tests", "mask_bench"
 
 
 class Function:
@@ -151,9 +153,14 @@ def functions_in(file, text=None):
 
 
 @cache
+def crates():
+    """The crates of the repository, each with those that it stands on."""
+    lines = re.findall(r"^(\w+).*?: *(.*)", (ROOT / "crates.txt").read_text(), re.M)
+    return {name: text.split() for name, text in lines}
+
+
 def library_crates():
-    names = [line.split(":")[0].split()[0] for line in (ROOT / "crates.txt").read_text().splitlines() if ":" in line]
-    return [it for it in names if it != "uses"]
+    return [it for it in crates() if it != "uses"]
 
 
 @cache
@@ -173,6 +180,31 @@ def clauses_of(crate):
     for it in functions_of(crate):
         found.setdefault(it.name, set()).update(it.clauses)
     return found
+
+
+def edits_of(crate):
+    """The edits of a crate: the name of each, what it breaks, and the places that it changes: a file and a line."""
+    for edit in sorted(CRATES.glob(f"{crate}/*/*.edit"), key=lambda it: it.stem):
+        breaks, places, file = [], [], None
+        for key, value in re.findall(r"^(\w+): (.*)", edit.read_text(), re.M):
+            breaks += [value] if key == "breaks" else []
+            file = CRATES / crate / value if key == "file" else file
+            places += [(file, file.read_text().partition(value)[0].count("\n") + 1)] if key == "old" else []
+        yield edit.stem, breaks, places
+
+
+def edited_as(function):
+    """What the names of a function's edits may begin with: its own, with its type or module or without. Of an export to C
+    they may leave out how all names begin, and the size of a row.
+
+    >>> sorted(edited_as(Function(Path("a.rt"), "", "BitBuffer::len", "", 0, 0, 0, {}, True, False)))
+    ['bit_buffer_len', 'len']
+    >>> sorted(edited_as(Function(Path("a.rt"), "", "take::row_mask_take_8", "", 0, 0, 0, {}, True, False)))
+    ['row_mask_take_8', 'take', 'take_row_mask_take', 'take_row_mask_take_8']
+    """
+    names = {function.name.split("::")[1], function.name.replace("::", "_")}
+    names |= {re.sub(r"_\d+$", "", it.removeprefix("row_mask_")) for it in names}
+    return {re.sub(r"(?<=[a-z])(?=[A-Z])", "_", it).lower() for it in names}
 
 
 @cache
@@ -205,3 +237,23 @@ def specs():
 
     ordered = [it for module in sorted(texts, key=rank) for it in with_imports(module)]
     return {it: texts[it] for it in ordered if it in texts}
+
+
+def program(crate, options, rust_name, *arguments):
+    """Where the program of a crate is: `--built` as `rt ci` left it, `--rust` of the Rust sources, or else `rt` proves it
+    first, and runs it with these arguments."""
+    if "--rust" in options:
+        return subprocess.check_output([ROOT / ".ci" / "rust_program", rust_name], text=True).strip()
+    if "--built" not in options:
+        how = {"cwd": CRATES / crate, "stdin": subprocess.DEVNULL, "stdout": subprocess.DEVNULL}
+        subprocess.run(["rt", "run", "--", *arguments], **how, check=True)
+    return CRATES / crate / "out" / crate
+
+
+def tell(name, things):
+    """Prints each fault of what was checked, where each thing is the list of its faults, and the counts. The status."""
+    faults = dict.fromkeys(fault for it in things for fault in it)
+    for it in faults:
+        print(f"{name}: {it}")
+    print(f"{sum(not it for it in things)} passed, {len(faults)} failed")
+    return 1 if faults else 0

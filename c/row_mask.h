@@ -44,10 +44,8 @@
 #error "row_mask: C99 or later is needed"
 #endif
 
-/* (Windows runs on such machines alone, and not each compiler there says so) */
-#if SIZE_MAX != UINT64_MAX || \
-    (!defined(_WIN32) && (!defined(__BYTE_ORDER__) || __BYTE_ORDER__ != __ORDER_LITTLE_ENDIAN__))
-#error "row_mask: the library is for 64-bit machines whose words begin with the lowest byte"
+#if SIZE_MAX != UINT64_MAX
+#error "row_mask: the library is for 64-bit machines"
 #endif
 
 /* The library for Linux on x86-64 has each function twice, compiled for x86-64-v2 and, under names that begin
@@ -60,7 +58,10 @@
 #define ROW_MASK_PREFIX "row_mask_v3_"
 #endif
 #if defined(ROW_MASK_PREFIX) && defined(__GNUC__)
-#define ROW_MASK_LOOP(name) __asm__(ROW_MASK_PREFIX #name)
+/* (a name of C begins with `_` on macOS) */
+#define ROW_MASK_TEXT_OF(words) #words
+#define ROW_MASK_TEXT(words) ROW_MASK_TEXT_OF(words)
+#define ROW_MASK_LOOP(name) __asm__(ROW_MASK_TEXT(__USER_LABEL_PREFIX__) ROW_MASK_PREFIX #name)
 #else
 #define ROW_MASK_LOOP(name)
 #endif
@@ -193,6 +194,15 @@ ROW_MASK_READ(1, 2)
 row_mask_run row_mask_next_run(
     const uint8_t *bytes, size_t bytes_size, size_t offset, size_t len,
     size_t from) ROW_MASK_LOOP(next_run);
+
+/* Writes the runs of true values from `from` on, ascending, to the front of `out`, as many as there
+ * are or as it takes, and answers how many these are: none from past the end. A run that `from` is
+ * inside begins there. So a walk over all runs goes on from the end of the last, until fewer come
+ * than `out` takes. Behind them `out` may have other numbers than before. */
+ROW_MASK_READ(1, 2) ROW_MASK_WRITE(6, 7)
+size_t row_mask_next_runs(
+    const uint8_t *bytes, size_t bytes_size, size_t offset, size_t len, size_t from,
+    row_mask_run *out, size_t out_count) ROW_MASK_LOOP(next_runs);
 
 /* Writes truth values as a bitmap, from bit 0 on.
  *
@@ -374,7 +384,7 @@ size_t row_mask_rank_words(
     uint64_t *sources, size_t sources_count) ROW_MASK_LOOP(rank_words);
 
 /* Writes the rows at the true values, in their order, to the front of `out`, and answers how many
- * they are. A row has 1 byte.
+ * they are. A row has 1 byte. Behind these rows, `out` may have others than before.
  *
  * Asks that `rows_count == len`, and that `out_count` is at least the count of the true values. */
 ROW_MASK_READ(1, 2) ROW_MASK_READ(5, 6) ROW_MASK_WRITE(7, 8)

@@ -184,11 +184,14 @@ def text(values):
     return values or "-"
 
 
+def is_mixed(a):
+    return "0" in a.values and "1" in a.values
+
+
 def mask_text(a):
-    count, length = a.values.count("1"), len(a.values)
-    if 0 < count < length:
+    if is_mixed(a):
         return f"{a.values} Values"
-    return f"{count} of {length} " + ("AllTrue" if a.is_all_true else "AllFalse")
+    return f"{a.values.count('1')} of {len(a.values)} " + ("AllTrue" if a.is_all_true else "AllFalse")
 
 
 def numbers_text(numbers):
@@ -199,24 +202,33 @@ def ranges_text(found):
     return ",".join(f"{start}..{end}" for start, end in found) or "-"
 
 
+# The lists that a mask caches: `i` its indices, `r` its ranges.
+LISTS = {
+    "i": ("indices", lambda values: numbers_text(indices(values))),
+    "r": ("ranges", lambda values: ranges_text(ranges(values))),
+}
+
+
 def cached_text(a, caches):
-    """The mask with what it has cached, if it is mixed: `i` its indices, `r` its ranges."""
-    text = mask_text(a)
-    if text.endswith(" Values"):
-        text += f" indices {numbers_text(indices(a.values))}" * ("i" in caches)
-        text += f" ranges {ranges_text(ranges(a.values))}" * ("r" in caches)
-    return text
+    """The mask with what it has cached, if it is mixed."""
+    listed = (LISTS[it] for it in "ir" if it in caches and is_mixed(a))
+    return mask_text(a) + "".join(f" {name} {of(a.values)}" for name, of in listed)
 
 
 def masks_text(masks):
-    return " ".join([f"{len(masks)}:", *map(mask_text, masks)])
+    return ",".join(map(mask_text, masks)) or "-"
 
 
-def lent_text(a, kind, found):
-    """A list that a mask lends, and the mask after it."""
-    count, length = a.values.count("1"), len(a.values)
-    lent = f"{kind} {found}" if 0 < count < length else "All" if a.is_all_true else "None"
-    return f"{lent} then {mask_text(a)}"
+def lent_text(a, kind, caches=""):
+    """A list that a mask lends, and the mask after it, which has these cached."""
+    lent = LISTS[kind][1](a.values) if is_mixed(a) else "All" if a.is_all_true else "None"
+    return f"{lent} then {cached_text(a, caches)}"
+
+
+def threshold_text(a, num, den, caches=None):
+    """The list that a mask lends by a threshold of its density, which is then cached beside these."""
+    kind, name = ("r", "Slices ") if a.values.count("1") * den >= num * len(a.values) else ("i", "Indices ")
+    return name * is_mixed(a) + lent_text(a, kind, "" if caches is None else caches + kind)
 
 
 def walk_text(values):

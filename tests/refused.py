@@ -2,113 +2,73 @@
 import pathlib
 import re
 
+from plain import (
+    AND, AND_NOT, OR, at_rows, cached_text, combined_masks, counts, groups, indices, lent_text, limited, mask, mask_text,
+    masks_text, negated, not_mask, numbers_text, part, ranges, ranges_text, text, threshold_text,
+)
+
 FILE = pathlib.Path(__file__).resolve().parent.parent / "crates" / "mask_tests" / "refused"
 EACH = "indices,one_rank,ranges,both,bits"
 FIRST_ROW = 100
 
 
-def filled(length, listed, value):
-    """So many values, with this one at the indices and in the ranges that are listed."""
-    values = [not value] * length
-    for part in listed.split(",") if listed != "-" else ():
-        start, _, end = part.partition("..")
-        for i in range(int(start), int(end or start) + (not end)):
-            values[i] = value
-    return values
+def filled(length, listed):
+    """So many values, true at the indices and in the ranges that are listed."""
+    values = ["0"] * length
+    for it in listed.split(",") if listed != "-" else ():
+        start, _, end = it.partition("..")
+        last = int(end) if end else int(start) + 1
+        values[int(start) : last] = "1" * (last - int(start))
+    return "".join(values)
 
 
 def values_of(word):
     """The list of a word: as rows write it, `but:5:1,3` that is false at 1 and 3 alone, and `edges:64:128` that is true
     at the first and the last of each 64."""
-    form, *rest = word.split("!")[0].split(":")
+    form, *rest = re.sub("^[ir]+:", "", word).split(":")
     if form in ("all", "none"):
-        return [form == "all"] * int(rest[0])
-    if form in ("at", "but"):
-        return filled(int(rest[0]), rest[1], form == "at")
+        return "01"[form == "all"] * int(rest[0])
     if form in ("every", "first", "edges"):
-        step, length = int(rest[0]), int(rest[1])
-        places = {"every": lambda i: i % step == 0, "first": lambda i: i < step}
-        return [places.get(form, lambda i: i % step in (0, step - 1))(i) for i in range(length)]
-    return filled(int(form), rest[0], True)
+        step, length = map(int, rest)
+        is_true = {"every": lambda i: i % step == 0, "first": lambda i: i < step}
+        return "".join("01"[is_true.get(form, lambda i: i % step in (0, step - 1))(i)] for i in range(length))
+    if form == "but":
+        return negated(filled(int(rest[0]), rest[1]))
+    return filled(int(rest[0]), rest[1]) if form == "at" else filled(int(form), rest[0])
 
 
 def caches_of(word):
     """Which lists a mask by this word caches: `i` for indices, `r` for ranges."""
-    made = re.match(r"\d+:([\d.,]+)", word)
-    return ("r" if ".." in made[1] else "i") + "".join(word.split("!")[1:]) if made else ""
-
-
-def digits(values):
-    return "".join("01"[it] for it in values) or "-"
-
-
-def indices(values):
-    return ",".join(str(i) for i, it in enumerate(values) if it) or "-"
-
-
-def ranges(values):
-    return ",".join(f"{it.start()}..{it.end()}" for it in re.finditer("1+", digits(values))) or "-"
-
-
-def mixed(values, caches, variant=""):
-    """The values inside of a mask as a row writes them, and the lists that they cache."""
-    listed = f" indices {indices(values)}" * ("i" in caches) + f" ranges {ranges(values)}" * ("r" in caches)
-    return digits(values) + variant + listed
-
-
-def mask(values, caches=""):
-    """A mask as a row writes it."""
-    if 0 < sum(values) < len(values):
-        return mixed(values, caches, " Values")
-    return f"{sum(values)} of {len(values)} {'AllTrue' if values and all(values) else 'AllFalse'}"
-
-
-def limited(values, most):
-    return [it and sum(values[:i]) < most for i, it in enumerate(values)]
-
-
-def groups(values, size):
-    parts = [mask(values[i : i + size]) for i in range(0, len(values), size)]
-    return f"{len(parts)}: {' '.join(parts)}"
-
-
-def lent(call, values, caches, by_ranges):
-    """A list that a call lends, and what holds it, with that list cached."""
-    listed, cached = (ranges(values), "r") if by_ranges else (indices(values), "i")
-    form = "" if call in ("values.slices", "values.indices") else "Slices " if by_ranges else "Indices "
-    holder = mixed if call.startswith("values.") else mask
-    return f"{form}{listed} then {holder(values, caches + cached)}"
+    lists, made = re.fullmatch(r"(?:([ir]+):)?(?:\d+:([\d.,]+))?.*", word).groups(default="")
+    return lists + ("r" if ".." in made else "i") * bool(made)
 
 
 def answer(call, values, caches, other, numbers):
     """What a call answers of a mask with these values, which caches these lists, and of another one."""
-    pairs = [*zip(values, other)]
-    answers = {
-        "bitand": lambda: mask([a and b for a, b in pairs]),
-        "bitor": lambda: mask([a or b for a, b in pairs]),
-        "bitand_not": lambda: mask([a and not b for a, b in pairs]),
-        "not": lambda: mask([not it for it in values]),
-        "choose_values": lambda: mask([b for a, b in pairs if a]),
-        **dict.fromkeys(("concat", "from_masks"), lambda: mask(values + other)),
-        **dict.fromkeys(("limit", "limited"), lambda: mask(limited(values, numbers[0]))),
-        "slice": lambda: mask(values[slice(*numbers)], caches * (numbers == [0, len(values)])),
-        "groups": lambda: groups(values, numbers[0]),
-        "clone": lambda: mask(values, caches),
-        "values.clone": lambda: mixed(values, caches),
-        "bit_buffer": lambda: digits(values),
-        "choose": lambda: ",".join(str(FIRST_ROW + i) for i, it in enumerate(values) if it),
-        "valid_counts_for_indices": lambda: ",".join(str(sum(values[:i])) for i in numbers),
-        **dict.fromkeys(("from_buffer", "from_rows", "from_bools", "from_excluded_indices"), lambda: mask(values)),
-        **dict.fromkeys(("from_indices", "from_intersection_indices"), lambda: mask(values, "i")),
-        **dict.fromkeys(("from_slices", "from_buffer_with_slices"), lambda: mask(values, "r")),
-        **dict.fromkeys(("indices", "values.indices"), lambda: lent(call, values, caches, False)),
-        **dict.fromkeys(("slices", "values.slices"), lambda: lent(call, values, caches, True)),
-        **dict.fromkeys(
-            ("threshold_iter", "values.threshold_iter"),
-            lambda: lent(call, values, caches, numbers[0] < numbers[1]),
-        ),
+    a, b = mask(values), mask(other)
+    by_call = {
+        "bitand": lambda: mask_text(combined_masks(AND, a, b)),
+        "bitor": lambda: mask_text(combined_masks(OR, a, b)),
+        "bitand_not": lambda: mask_text(combined_masks(AND_NOT, a, b)),
+        "not": lambda: mask_text(not_mask(a)),
+        "choose_values": lambda: mask_text(mask(at_rows(values, other), b.is_all_true)),
+        **dict.fromkeys(("concat", "from_masks"), lambda: mask_text(mask(values + other))),
+        **dict.fromkeys(("limit", "limited"), lambda: mask_text(mask(limited(values, numbers[0])))),
+        "slice": lambda: cached_text(part(a, *numbers), caches * (numbers == [0, len(values)])),
+        "groups": lambda: masks_text(groups(a, numbers[0])),
+        "clone": lambda: cached_text(a, caches),
+        "bit_buffer": lambda: text(values),
+        "choose": lambda: numbers_text(FIRST_ROW + i for i in indices(values)),
+        "valid_counts_for_indices": lambda: numbers_text(counts(values)[i] for i in numbers),
+        **dict.fromkeys(("from_buffer", "from_rows", "from_bools", "from_excluded_indices"), lambda: mask_text(a)),
+        **dict.fromkeys(("from_indices", "from_intersection_indices"), lambda: cached_text(a, "i")),
+        **dict.fromkeys(("from_slices", "from_buffer_with_slices"), lambda: cached_text(a, "r")),
+        "indices": lambda: lent_text(a, "i", caches + "i"),
+        "slices": lambda: lent_text(a, "r", caches + "r"),
+        "threshold_iter": lambda: threshold_text(a, *numbers, caches),
     }
-    return answers[re.sub("^(into_|to_)", "", call)]()
+    told = by_call[re.sub(r"^(into_|to_|values\.)", "", call)]()
+    return told.replace(" Values", "") if call.startswith("values.") else told
 
 
 def of_mask(line, call):
@@ -116,9 +76,10 @@ def of_mask(line, call):
     _, _, length, word, other, start, end, listed = line.split()
     values = values_of(word)
     stands = {
-        **{"A": word, "B": other, "S": start, "E": end, "I": listed, "L": length},
-        **{"V": digits(values), "T": indices(values), "R": ranges(values), "N": indices([True] * len(values))},
-        **{"F": indices([not it for it in values]), "ROWS": ",".join(str(FIRST_ROW + i) for i in range(len(values)))},
+        **{"A": word, "B": other, "S": start, "E": end, "I": listed, "L": length, "V": text(values)},
+        **{"T": numbers_text(indices(values)), "F": numbers_text(indices(negated(values)))},
+        **{"R": ranges_text(ranges(values)), "N": "1" * len(values)},
+        "ROWS": numbers_text(FIRST_ROW + i for i in range(len(values))),
     }
     name, *words = call.split()
     words = [stands.get(it.strip("&"), it.strip("&")) + "&" * it.endswith("&") for it in words]
@@ -129,7 +90,10 @@ def of_mask(line, call):
 
 def written(found):
     what, is_of, word = found[1].partition(" of ")
-    return {"ranges": ranges, "indices": indices}[what](values_of(word)) if is_of else digits(values_of(what))
+    if not is_of:
+        return text(values_of(what))
+    values = values_of(word)
+    return ranges_text(ranges(values)) if what == "ranges" else numbers_text(indices(values))
 
 
 def rows():

@@ -51,6 +51,10 @@ export! {
     row_mask_next_run, row_mask_v3_next_run(
         bytes: *const u8, bytes_size: usize, offset: usize, len: usize, from: usize) -> RowMaskRun
         = (read(bytes, bytes_size), offset, len, from);
+    row_mask_next_runs, row_mask_v3_next_runs(
+        bytes: *const u8, bytes_size: usize, offset: usize, len: usize, from: usize,
+        out: *mut RowMaskRun, out_count: usize) -> usize
+        = (read(bytes, bytes_size), offset, len, from, write(out, out_count));
     row_mask_from_bools, row_mask_v3_from_bools(
         values: *const bool, values_count: usize, out: *mut u8, out_size: usize) -> ()
         = (read(values, values_count), write(out, out_size));

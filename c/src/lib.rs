@@ -3,8 +3,8 @@
 
 extern crate alloc;
 
-#[cfg(not(all(target_pointer_width = "64", target_endian = "little")))]
-compile_error!("row_mask.h is for machines of 64 bits whose words begin with the lowest byte");
+#[cfg(not(target_pointer_width = "64"))]
+compile_error!("row_mask.h is for machines of 64 bits");
 
 /// Exports functions of the proved sources. A program for Linux that is compiled for x86-64-v3 calls them by the second
 /// name, by which the shipped library has its loops for that.

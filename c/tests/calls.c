@@ -7,8 +7,12 @@
 #include <stdio.h>
 #include <stdlib.h>
 #include <string.h>
+#ifdef _WIN32
+#include <windows.h>
+#else
 #include <sys/mman.h>
 #include <unistd.h>
+#endif
 
 enum { LONGEST = 200 };
 
@@ -40,6 +44,23 @@ typedef struct room {
     uint8_t *start, *end;
 } room;
 
+#ifdef _WIN32
+static room new_room(void) {
+    SYSTEM_INFO system;
+    DWORD before;
+    uint8_t *at;
+    room made;
+
+    GetSystemInfo(&system);
+    at = VirtualAlloc(NULL, 3 * system.dwPageSize, MEM_RESERVE | MEM_COMMIT, PAGE_READWRITE);
+    if (at == NULL || !VirtualProtect(at, system.dwPageSize, PAGE_NOACCESS, &before)
+        || !VirtualProtect(at + 2 * system.dwPageSize, system.dwPageSize, PAGE_NOACCESS, &before))
+        exit(2);
+    made.start = at + system.dwPageSize;
+    made.end = at + 2 * system.dwPageSize;
+    return made;
+}
+#else
 static room new_room(void) {
     size_t page = (size_t)sysconf(_SC_PAGESIZE);
     uint8_t *at = mmap(NULL, 3 * page, PROT_READ | PROT_WRITE, MAP_PRIVATE | MAP_ANONYMOUS, -1, 0);
@@ -52,6 +73,7 @@ static room new_room(void) {
     made.end = at + 2 * page;
     return made;
 }
+#endif
 
 /* A list, and the bitmap that has it from a bit on, among random bits. */
 typedef struct bitmap {
@@ -137,6 +159,7 @@ static void same_written(room where, const uint8_t *out, size_t len, const bool 
 
 static void reads(const bitmap *b) {
     size_t from, last = b->len, n = 0;
+    row_mask_run past;
 
     same(row_mask_is_within(WHOLE(b)), true, "is_within");
     same(row_mask_is_within(b->bytes, b->size, b->offset, 8 * b->size - b->offset + 1), false, "is_within");
@@ -146,6 +169,7 @@ static void reads(const bitmap *b) {
     same(row_mask_next_run(WHOLE(b), b->len + 1).start, b->len, "next_run");
     same(row_mask_next_run(WHOLE(b), b->len + 1).end, b->len, "next_run");
     same(row_mask_next_indices(WHOLE(b), b->len + 1, &last, 1), 0, "next_indices");
+    same(row_mask_next_runs(WHOLE(b), b->len + 1, &past, 1), 0, "next_runs");
     for (from = 0; from <= b->len; from++) {
         size_t start = next_in(b, from, true);
         row_mask_run run = row_mask_next_run(WHOLE(b), from);
@@ -193,6 +217,24 @@ static void walks(const bitmap *b, room out_room) {
                 same(out[room], at++, "next_indices");
             }
             same(found == sizes[i] || next_in(b, at, true) == b->len, true, "next_indices");
+        }
+}
+
+static void walks_runs(const bitmap *b, room out_room) {
+    size_t sizes[] = {0, 1, 9, 64, 200}, i, from, room, found;
+
+    for (i = 0; i < sizeof sizes / sizeof *sizes; i++)
+        for (from = 0; from <= b->len; from += 1 + b->len / 3) {
+            row_mask_run *out = (row_mask_run *)(void *)marked(out_room, from % 2 ? FIRST : LAST, sizes[i] * sizeof *out);
+            size_t at = from;
+            found = row_mask_next_runs(WHOLE(b), from, out, sizes[i]);
+            for (room = 0; room < found; room++) {
+                at = next_in(b, at, true);
+                same(out[room].start, at, "next_runs");
+                at = next_in(b, at, false);
+                same(out[room].end, at, "next_runs");
+            }
+            same(found == sizes[i] || next_in(b, at, true) == b->len, true, "next_runs");
         }
 }
 
@@ -528,6 +570,7 @@ static void nothing(void) {
     same(row_mask_next_index(NULL, 0, 0, 0, 0), 0, "next_index");
     same(row_mask_last_index(NULL, 0, 0, 0), 0, "last_index");
     same(row_mask_next_indices(NULL, 0, 0, 0, 0, NULL, 0), 0, "next_indices");
+    same(row_mask_next_runs(NULL, 0, 0, 0, 0, NULL, 0), 0, "next_runs");
     same(run.start + run.end, 0, "next_run");
     row_mask_and(NULL, 0, 0, NULL, 0, 0, 0, NULL, 0);
     row_mask_or(NULL, 0, 0, NULL, 0, 0, 0, NULL, 0);
@@ -587,6 +630,7 @@ int main(void) {
                 reads(&a);
                 counts(&a, third, fourth);
                 walks(&a, third);
+                walks_runs(&a, third);
                 words(&a, third);
                 from_bools(&a, second, third);
                 from_indices(&a, second, third);

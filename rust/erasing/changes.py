@@ -10,7 +10,6 @@ PLACES = {
     "vortex_mask": ("src/proved/vortex_mask", "crate::proved::vortex_mask"),
     "mask_c": ("src/proved/mask_c", "crate::proved::mask_c"),
     "maskrun": ("src/bin/maskrun", "crate"),
-    "mask_calls": ("tests/calls/mask_calls", "crate::mask_calls"),
     "mask_tests": ("tests/calls", "crate"),
     "mask_bench": ("tests/jobs", "crate"),
 }
@@ -93,6 +92,19 @@ LEAVES = {
         "{ for i in first..end {"
         " push_rows_of_word::<K, _, _>(out, crate::kit::words::part(rows, 64 * i, ROWS), chunks.word(i)); } }",
     ),
+    "push_small_words": (
+        "{ for i in 0..end {"
+        " push_small_rows::<FEW, M, _, _>(out, &rows[64 * i..64 * i + 64], chunks.word(i)); } }",
+        "{ for i in 0..end {"
+        " push_small_rows::<FEW, M, _, _>(out, crate::kit::words::part(rows, 64 * i, 64), chunks.word(i)); } }",
+    ),
+    "row_mask_choose_1": (
+        "{ if have_many(bytes, offset, len) { choose_small::<6, ByTable, _>(bytes, offset, len, rows, out) } else {"
+        " choose(bytes, offset, len, rows, out) } }",
+        "{ if crate::kit::processor::moves_bytes() && have_many(bytes, offset, len) {"
+        " choose_small::<6, crate::kit::processor::Moved, _>(bytes, offset, len, rows, out) } else {"
+        " choose(bytes, offset, len, rows, out) } }",
+    ),
     "indices_of_word": (
         "{ let mut word = word; let mut at = at; while word != 0 { if at == out.len() { return at; }"
         " out[at] = first + word.trailing_zeros() as usize; at += 1; word &= word - 1; } at }",
@@ -121,7 +133,6 @@ RULES = [
     ("the allocator", r"let \$alloc = \$o\.alloc;", ""),
     ("the allocator", r"\(\$alloc\)", "()"),
     ("the allocator", r"(pub(\(crate\))?\s+)?\balloc: Global,\s*", ""),
-    ("the allocator", r"\balloc: self\.alloc,\s*", ""),
     ("the allocator", r"vec!\[in alloc; ([^;\]]+); ([^\]]+)\]", r"{kit}::filled(\1, \2)"),
     ("the allocator", r"\brt\.alloc\(\),\s*", ""),
     ("the allocator", r"\(\s*rt\.alloc\(\)\s*\)", "()"),
@@ -133,7 +144,6 @@ RULES = [
     ("`prove!(..)`", r"\bprove!\((?:[^()]|\([^()]*\))*\);", ""),
     ("what takes memory", r"\.clone\(\)", ".try_clone()"),
     ("what takes memory", r"\bfn clone\(", "fn try_clone("),
-    ("what takes memory", r"\bimpl Clone for\b", "impl {kit}::TryClone for"),
     ("what takes memory", r"\b(\w+): Clone\b", r"\1: {kit}::TryClone"),
     ("what takes memory", r"\.collect\(\)", ".collected()"),
     ("what takes memory", r"\.(push|push_str|resize|to_string|to_vec)\(", r".try_\1("),
@@ -142,7 +152,6 @@ RULES = [
     ("what takes memory", r"\bString::from_str\(", "String::try_from_str("),
     ("what takes memory", r"\bwrite!\(((?!f\b)[\w.]+),\s*([^()]*)\)", r"\1.try_write(format_args!(\2))"),
     ("what takes memory", r"\bRc::new\(", "{kit}::shared("),
-    ("what takes memory", r"\bBox::new\(", "{kit}::boxed("),
     ("`Rc`", r"\bRc(?=[<:])", "Arc"),
     ("shifts", r"(<<|>>) (\w+x\d+)::splat\(", r"\1 \2::every("),
     ("shifts", r"\blet step = (\w+x\d+)::splat\(", r"let step = \1::every("),
@@ -154,7 +163,6 @@ RULES = [
     (CLOSURES, r"\bF: Fn(\(&T\) -> bool>\([^()]*\btest: &)F\b", r"F: FnMut\1mut F"),
     (CLOSURES, r"(\bput_answers\([^()]*), &test\)", r"\1, &mut { test })"),
     (QUICKEST, r"(?<!fn )\bdeposits_by_loop\(", "crate::kit::processor::by_loop("),
-    ("modules", r"\b(\$?)crate::(?!kit\b|proved\b|mask_calls\b|host\b)", r"\1{root}::"),
 ]
 LEFT = re.compile(r"\b(ghost|requires|ensures|tactic|Model|alloc|Global|laws|prove|unreachable_unchecked)\b|[^\x00-\x7f]")
 

@@ -15,6 +15,7 @@ MET = [
 ]
 NUMBER = re.compile(r"\d+|usize\.MAX|[\w.]+|[()+*/^]|[≤<≡]|\S")
 TESTS = "crate::kit::conditions"
+PROVED = "crate::proved::vortex_mask::conditions"
 
 
 class Condition:
@@ -48,7 +49,7 @@ class Condition:
             (r"IsStrictlyIncreasing (\S+)", lambda it: f"{TESTS}::ascends({self.lent(it)})"),
             (r"IsNonDecreasing (\S+)", lambda it: f"{self.place(it)}.is_sorted()"),
             (r"IsWithinBytes (\S+) (\S+) (\S+)", lambda b, o, n: f"{TESTS}::are_within({self.place(b)}, {o}, {n})"),
-            (r"IsStack \(truth self\.now ∷ map truth (\w+)\.now\)", lambda ms: f"{TESTS}::are_a_stack(self, {ms})"),
+            (r"IsStack \(truth self\.now ∷ map truth (\w+)\.now\)", lambda ms: f"{PROVED}::are_a_stack(self, {ms})"),
             (r"AreRanges \(values (\w+)\) (\w+)\.items", lambda b, rs: f"{TESTS}::are_ranges(&{b}, &{rs})"),
             (r"EachRunFrom \w+\.next_gives (\w+) IsAscending", self.ascending_items),
             (r"EachRunFrom \w+\.next_gives (\w+) \(AreRanks \((.+)\) (\w+)\)", self.ranks),

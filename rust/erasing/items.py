@@ -5,7 +5,7 @@ import re
 from erasing.changes import CORE, ELSEWHERE, GONE, INLINED, INSIDE, LAWFUL, LEAVES, MODULES_HERE, PLACES
 from erasing.changes import PUBLIC_HERE, SAME
 from erasing.conditions import TESTS, Condition
-from erasing.levels import BY_PEXT, LEVELLED, by_pext, levelled
+from erasing.levels import BETWEEN, BY_PEXT, LEVELLED, between, by_pext, levelled
 from erasing.tokens import Fault, attached, leaves, spaced, words
 
 GENERIC = r"(?:\s*<(?:[^<>]|<[^<>]*>|->)*>)?"
@@ -311,8 +311,6 @@ impl core::error::Error for {name} {{}}
             return "::".join([PLACES[self.crate][1], *rest])
         if root in INSIDE:
             return "::".join([PLACES[root][1] if self.crate in INSIDE else "row_mask", *rest])
-        if root == "mask_calls":
-            return "::".join([PLACES[root][1], *rest])
         if path in CORE:
             return path.replace("std", "core", 1)
         if root in ("std", "bytes", "thiserror") and path not in SAME:
@@ -343,6 +341,9 @@ impl core::error::Error for {name} {{}}
         if self.crate == "mask_bits" and where in BY_PEXT:
             self.count("copies by an instruction")
             levels = by_pext(function, body, is_levelled)
+        if where in BETWEEN:
+            self.count("copies between levels")
+            levels = between(function, body)
         if is_levelled:
             self.count("levels of the processor")
             body, more = levelled(function, of, body)

@@ -22,8 +22,10 @@ LEVELLED = {
         "put_chosen",
     ],
     "vortex_mask": [
+        "Mask::intersect_by_rank",
         "ascends",
         "choose_rows",
+        "choose_small_rows",
         "intersect_mask_driven",
         "narrow_at_ranks",
         "narrow_by_bits",
@@ -42,10 +44,20 @@ LEVELLED = {
 # reads each 32 bytes as two halves.
 WIDE = {"combine", "combine_in_place", "negate_in_place", "none_in_shifted_words", "none_true", "put_bits"}
 # Levelled functions that others call in their loops: these go on to the one of their own level.
+RANK = "crate::proved::vortex_mask::intersect_by_rank"
 INNER = {
+    "by_buffers": "by_buffers_any",
     "count_bits": "crate::proved::mask_bits::counts::count_bits_any",
-    "narrow_by_bits": "crate::proved::vortex_mask::intersect_by_rank::kernels::bit_buffers::narrow_by_bits_any",
+    "intersect_bit_buffers": f"{RANK}::kernels::bit_buffers::intersect_bit_buffers_any",
+    "intersect_by_rank_counted": "intersect_by_rank_counted_any",
+    "narrow_by_bits": f"{RANK}::kernels::bit_buffers::narrow_by_bits_any",
+    "narrow_by_path": f"{RANK}::narrow::narrow_by_path_any",
 }
+# Of these, what lies between a levelled function that drops the steps of a kernel and its loop: each has a copy that goes
+# on to the loop of its own level, so that the compiler sees that nobody reads the counts.
+BETWEEN = {"Mask::intersect_by_rank_counted", "by_buffers", "intersect_bit_buffers", "narrow_by_path"}
+# The levelled function that these copies are for, which is long enough without all else that it calls.
+DROPS_STEPS = "Mask::intersect_by_rank"
 # Functions that have a copy by the instruction PEXT.
 BY_PEXT = {"put_chosen"}
 PEXT = [(r"\b(extract|put_pairs)\(", r"crate::kit::processor::\1(")]
@@ -72,8 +84,7 @@ def levelled(function, of, body):
     place = "Self" if of else None
     calls = [function.call(it, place, []) for it in (v3, of_any)]
     by_pext = function.call(f"{function.name}_by_pext", place, []) + ", " if function.name in BY_PEXT else ""
-    for name, path in INNER.items():
-        body = re.sub(rf"\b{name}(?=\(|::<)", path, body)
+    body = inner(body)
     more = f"""
 
 #[cfg(target_arch = "x86_64")]
@@ -85,6 +96,22 @@ def levelled(function, of, body):
 """
     wide = "wide_" if function.name in WIDE else ""
     return f"{{ crate::kit::by_{wide}level!({by_pext}{calls[0]}, {calls[1]}) }}", more
+
+
+def inner(body):
+    """The body with calls of the functions of its own level."""
+    for name, path in INNER.items():
+        body = re.sub(rf"\b{name}(?=\(|::<)", path, body)
+    return body
+
+
+def between(function, body):
+    """A copy of a function that stays on the level of what calls it."""
+    return f"""
+
+#[inline(always)]
+{function.signature(f"{function.name}_any", "pub(crate) ")} {inner(body)}
+"""
 
 
 def by_pext(function, body, is_levelled):
@@ -124,7 +151,7 @@ def within(texts):
     for text in texts:
         for name, names in called(text).items():
             calls.setdefault(name, set()).update(names)
-    roots = {f"{it.rpartition('::')[2]}_any" for names in LEVELLED.values() for it in names}
+    roots = {f"{it.rpartition('::')[2]}_any" for names in LEVELLED.values() for it in names if it != DROPS_STEPS}
     found, left = set(), list(roots)
     while left:
         for name in calls.get(left.pop(), set()) - found:

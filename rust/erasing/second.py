@@ -15,7 +15,7 @@ NAMED = {
 }
 # Paths that stand before a name on one side or the other.
 PATHS = [
-    "crate :: proved :: mask_bits ::", "crate :: proved :: vortex_mask ::", "crate :: mask_calls ::", "crate :: host ::",
+    "crate :: proved :: mask_bits ::", "crate :: proved :: vortex_mask ::", "crate :: host ::",
     "crate :: kit :: processor ::", "crate :: kit ::", "row_mask :: kit ::", "row_mask :: intersect_by_rank ::", "row_mask ::", "mask_bits ::",
     "vortex_mask ::", "crate ::",
 ]
@@ -49,7 +49,7 @@ NEW = [
 ]
 # Forms that are others, on either side.
 SAME = [
-    *((re.split("mask_bits::|vortex_mask::", path)[1].replace("::", " :: "), name) for name, path in INNER.items()),
+    *((re.split("mask_bits::|vortex_mask::", path)[-1].replace("::", " :: "), name) for name, path in INNER.items()),
     (r"vec ! \[ ([^;\]]*) ; ([^\]]*) \]", r"filled ( \1 \2 )"),
     (r"write ! \( (?!f )((?:\w+ \. )*\w+) ([^()]*) \)", r"\1 . try_write ( format_args ! ( \2 ) )"),
     (r"fn fmt < W : fmt :: Write > \( & self f : & mut fmt :: Formatter < W > \)",
@@ -60,7 +60,6 @@ SAME = [
     (r"test : & mut F", "test : & F"),
     (r"& mut \{ test \}", "& test"),
     (r"Arc :: new", "shared"),
-    (r"Box :: new", "boxed"),
     (r"String :: from_str", "String :: try_from_str"),
 ]
 
@@ -197,7 +196,8 @@ def without_levels(words, name):
 
 
 def without_copies(words, name):
-    """What was made, without the copies by an instruction, each of which has just the words of what it is a copy of.
+    """What was made, without the copies by an instruction and those between levels, each of which has just the words of
+    what it is a copy of.
 
     >>> made = "fn f(a: u8) { g(a) } #[cfg(target_arch = 1)] #[inline(always)] fn f_by_pext(a: u8) { "
     >>> " ".join(without_copies(tokens(made + "crate::kit::processor::g(a) }"), "a.rt"))
@@ -205,16 +205,23 @@ def without_copies(words, name):
     >>> without_copies(tokens(made + "h(a) }"), "a.rt")
     Traceback (most recent call last):
     erasing.tokens.Fault: a.rt: f_by_pext is no copy
+    >>> made = "fn f(a: u8) { by_buffers(a) } #[inline(always)] pub(crate) fn f_any(a: u8) { by_buffers_any(a"
+    >>> " ".join(without_copies(tokens(made + ") }"), "a.rt"))
+    'fn f ( a : u8 ) { by_buffers ( a ) }'
+    >>> without_copies(tokens(made + " + 1) }"), "a.rt")
+    Traceback (most recent call last):
+    erasing.tokens.Fault: a.rt: f_any is no copy
     """
     text = " ".join(words)
-    copy = r" # \[ cfg \( [^]]* \) \] # \[ (?:target_feature|inline) [^]]* \] (fn \w+_by_pext [^{]*\{)"
+    by_pext = r"# \[ cfg \( [^]]* \) \] # \[ (?:target_feature|inline) [^]]* \] (?=fn \w+_by_pext )"
+    copy = rf" (?:{by_pext}|# \[ inline \( always \) \] pub \( crate \) (?=fn \w+_any ))(fn [^{{]*\{{)"
+    places = r"crate :: (?:kit :: processor|proved :: [\w :]+?) :: (?=\w+ (?:\(|:: <))|_by_pext|_any|_proved"
     while found := re.search(copy, text):
         begin = len(text[: found.start(1)].split())
         last = behind(text.split(), begin + found[1].split().index("{"))
         own = " ".join(text.split()[begin:last])
-        of = own.replace("_by_pext", "").replace("crate :: kit :: processor :: ", "")
         text = text[: found.start()] + " " + " ".join(text.split()[last:])
-        if of not in text:
+        if re.sub(places, "", own) not in re.sub(places, "", text):
             raise Fault(f"{name}: {own.split()[1]} is no copy")
     return text.split()
 

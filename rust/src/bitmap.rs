@@ -16,7 +16,7 @@ pub(crate) use read::INDICES_OF_A_BLOCK;
 pub use room::Room;
 pub(crate) use room::as_items as as_bytes;
 pub(crate) use room::{
-    append_to, as_cells, as_items, first_of, first_unfit, front, init, list_of, room_for,
+    append_to, as_cells, as_items, first_of, first_unfit, front, init, list_of, reserve, room_for,
     take_first,
 };
 pub(crate) use text::debug;

@@ -14,7 +14,7 @@ pub use alloc::sync::Arc;
 pub use bytes::{Bytes, BytesMut};
 pub use list::{Collect, CowSlice, List, ToList, filled};
 pub(crate) use processor::{by_level, by_wide_level, quickest};
-pub use shared::{TryClone, boxed, shared};
+pub use shared::{TryClone, shared};
 pub use text::{Text, TryToString, formatted};
 
 /// Memory was asked for and refused.

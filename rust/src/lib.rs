@@ -6,6 +6,7 @@ extern crate alloc;
 #[cfg(not(target_pointer_width = "64"))]
 compile_error!("row-mask needs a `usize` of 64 bits: its proofs say 2^64");
 
+pub mod arrow;
 mod bitmap;
 mod buf;
 mod error;

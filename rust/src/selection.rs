@@ -103,6 +103,7 @@ impl Selection {
     /// # Errors
     ///
     /// [`Error::RowsDiffer`] where the column has not [`len`](Selection::len) rows, and [`Error::OutOfMemory`].
+    #[doc(alias("filter", "take"))]
     pub fn choose<T: Row>(&self, rows: &[T]) -> Result<Vec<T>, Error> {
         let mut chosen = Vec::new();
         self.choose_append(rows, &mut chosen)?;

@@ -35,6 +35,17 @@ each_listed b few = agree_below_at all_listed (λ _. true) 256 b refl few
 place-listed : (b k : ℕ) → b < 256 → k < count_ones b → get_or PLACES (8 * b + k) 0 ≡ get_or (positions (take 8 (word_bits b))) k 0
 place-listed b k few inside = eqb-true _ _ (agree_below_at (is_listed b) (λ _. true) (count_ones b) k (each_listed b few) inside)
 
+-- whether each of a byte's eight entries is a place
+abbrev all_within : ℕ → Bool
+all_within b = agree_below (λ k. eqb (get_or PLACES (8 * b + k) 0 / 8) 0) (λ _. true) 8
+
+-- computed
+each_within : (b : ℕ) → b < 256 → all_within b ≡ true
+each_within b few = agree_below_at all_within (λ _. true) 256 b refl few
+
+place-within : (b k : ℕ) → b < 256 → k < 8 → get_or PLACES (8 * b + k) 0 < 8
+place-within b k few inside = omega (arith, eqb-true _ _ (agree_below_at (λ j. eqb (get_or PLACES (8 * b + j) 0 / 8) 0) (λ _. true) 8 k (each_within b few) inside))
+
 -- eight entries of a table
 length-eight : (table : List ℕ) (n : ℕ) → n + 8 ≤ length table → length (take 8 (between n (n + 8) table)) ≡ 8
 length-eight table n h = omega (arith, length-take 8 (between n (n + 8) table), length-between table n (n + 8) h)
@@ -48,11 +59,17 @@ length-PLACES = refl
 pub length-places : (b : ℕ) → b < 256 → length (take 8 (between (8 * b) (8 * b + 8) PLACES)) ≡ 8
 length-places b few = length-eight PLACES (8 * b) (omega (arith, length-PLACES))
 
+pub places-within : (b k : ℕ) → b < 256 → k < 8 → get_or (take 8 (between (8 * b) (8 * b + 8) PLACES)) k 0 < 8
+places-within b k few inside = omega (arith, get_or-eight PLACES (8 * b) k inside, place-within b k few inside)
+
 pub places-listed : (b k : ℕ) → b < 256 → k < count_ones b → get_or (take 8 (between (8 * b) (8 * b + 8) PLACES)) k 0 ≡ get_or (positions (take 8 (word_bits b))) k 0
 places-listed b k few inside = get_or-eight PLACES (8 * b) k (omega (arith, ones-le 8 b few)) ∙ place-listed b k few inside
 
-count-byte : (b : ℕ) → b < 256 → count (take 8 (word_bits b)) ≡ count_ones b
-count-byte b few = count_below-word_bits b 8 (omega arith) ∙ ap count_ones (mod-eq_of_lt few)
+pub count-front : (b n : ℕ) → n ≤ 64 → b < 2 ^ n → count (take n (word_bits b)) ≡ count_ones b
+count-front b n most few = count_below-word_bits b n most ∙ ap count_ones (mod-eq_of_lt few)
+
+pub count-byte : (b : ℕ) → b < 256 → count (take 8 (word_bits b)) ≡ count_ones b
+count-byte b few = count-front b 8 (omega arith) few
 
 -- p is the place of set bit number k of byte b
 abbrev pub IsPlace : ℕ → ℕ → ℕ → Type 0
@@ -97,23 +114,24 @@ lanes-indices base b places lanes few fits are listed =
 abbrev pub byte_of : ℕ → ℕ → ℕ
 byte_of w j = bit_and (w / 2 ^ (8 * j)) 255
 
+-- the n bits from place s on are those of a number that agrees with what is there
+pub front-bits : (w x s n : ℕ) → s + n ≤ 64 → x % 2 ^ n ≡ w / 2 ^ s % 2 ^ n → take n (word_bits x) ≡ take n (drop s (word_bits w))
+front-bits w x s n within is =
+    let here : length (take n (word_bits x)) ≡ n = omega (arith, length-take n (word_bits x), length-word_bits x) in
+    let there : length (take n (drop s (word_bits w))) ≡ n = omega (arith, length-take n (drop s (word_bits w)), length-drop s (word_bits w), length-word_bits w) in
+    ext_get_or false (take n (word_bits x)) (take n (drop s (word_bits w))) (here ∙ sym there) (λ k h.
+    let inside : k < n = omega (arith, here) in
+    get_or-take n (word_bits x) k false inside
+    ∙ get_or-word_bits x k false (omega arith)
+    ∙ ap (λ b. nat_eq b 1) (sym (bit_at-mod x n k inside) ∙ ap (λ y. bit_at y k) is ∙ bit_at-mod (w / 2 ^ s) n k inside ∙ bit_at-shr w s k)
+    ∙ sym (get_or-word_bits w (s + k) false (omega arith))
+    ∙ sym (get_or-take n (drop s (word_bits w)) k false inside ∙ get_or-drop s (word_bits w) k false))
+
 byte-bits : (w j : ℕ) → j < 8 → take 8 (word_bits (byte_of w j)) ≡ take 8 (drop (8 * j) (word_bits w))
-byte-bits w j few =
-    let b : ℕ = byte_of w j in
-    let is : b ≡ w / 2 ^ (8 * j) % 2 ^ 8 = and_mask (w / 2 ^ (8 * j)) 8 in
-    let here : length (take 8 (word_bits b)) ≡ 8 = omega (arith, length-take 8 (word_bits b), length-word_bits b) in
-    let there : length (take 8 (drop (8 * j) (word_bits w))) ≡ 8 = omega (arith, length-take 8 (drop (8 * j) (word_bits w)), length-drop (8 * j) (word_bits w), length-word_bits w) in
-    ext_get_or false (take 8 (word_bits b)) (take 8 (drop (8 * j) (word_bits w))) (here ∙ sym there) (λ k h.
-    let inside : k < 8 = omega (arith, here) in
-    get_or-take 8 (word_bits b) k false inside
-    ∙ get_or-word_bits b k false (omega arith)
-    ∙ ap (λ n. nat_eq (bit_at n k) 1) is
-    ∙ ap (λ n. nat_eq n 1) (bit_at-mod (w / 2 ^ (8 * j)) 8 k inside ∙ bit_at-shr w (8 * j) k)
-    ∙ sym (get_or-word_bits w (8 * j + k) false (omega arith))
-    ∙ sym (get_or-take 8 (drop (8 * j) (word_bits w)) k false inside ∙ get_or-drop (8 * j) (word_bits w) k false))
+byte-bits w j few = front-bits w (byte_of w j) (8 * j) 8 (omega arith) (ap (λ x. x % 2 ^ 8) (and_mask (w / 2 ^ (8 * j)) 8) ∙ omega arith)
 
 -- one byte, and what is left
-bits-byte_more : (w j : ℕ) → j < 8 → drop (8 * j) (word_bits w) ≡ take 8 (word_bits (byte_of w j)) ++ drop (8 * (j + 1)) (word_bits w)
+pub bits-byte_more : (w j : ℕ) → j < 8 → drop (8 * j) (word_bits w) ≡ take 8 (word_bits (byte_of w j)) ++ drop (8 * (j + 1)) (word_bits w)
 bits-byte_more w j few =
     let next : 8 * j + 8 ≡ 8 * (j + 1) = omega arith in
     sym (take-append-drop 8 (drop (8 * j) (word_bits w)))

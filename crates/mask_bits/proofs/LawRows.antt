@@ -1,17 +1,17 @@
 -- What the laws that stand for themselves say of lists that are known: each row takes a law, and computes one instance of it.
-use Rattle.std.specs.Prelude.{ℕ, ◌≡◌, ◌+◌, ◌-◌, ◌<◌, ◌≤◌, ◌&&◌, ◌||◌, Bool, true, false, List, [], ◌∷◌, length, nat_lt, All, Any, slice_index, slice_index_or, slice_range, sum_by, take, refl}
+use Rattle.std.specs.Prelude.{ℕ, ◌≡◌, ◌+◌, ◌-◌, ◌<◌, ◌≤◌, Bool, true, false, List, [], ◌∷◌, length, nat_lt, All, slice_index, slice_index_or, slice_range, sum_by, take, refl}
 use Rattle.std.specs.List.{AllAdjacentBelow}
 use Rattle.std.specs.List.Sorted.{IsNonDecreasing, IsStrictlyIncreasing}
 use Rattle.std.proofs.Common.{arith, ap}
-use Rattle.mask_bits.specs.Laws.Boolean.{ValueOfAnd, ValueOfOr, ValueOfAndNot, ValueOfNot, CountOfComplement, CountOfAndWithOr, ComplementOfAnd, ComplementOfOr}
+use Rattle.mask_bits.specs.Laws.Boolean.{CountOfComplement}
 use Rattle.mask_bits.specs.Laws.Indices.{ListOfOneValue}
 use Rattle.mask_bits.specs.Laws.Stacks.{CountOfFoldIsAtMostTheFirst}
 use Rattle.mask_bits.specs.Extract.{Extracts}
 use Rattle.mask_bits.specs.Laws.Words.{ExtractIsChosenValues}
-use Rattle.mask_bits.specs.Laws.Indices.{PositionsAscend, CountBelowTheFirst, CountBelowTheNext, NeighborsDoNotFall}
+use Rattle.mask_bits.specs.Laws.Indices.{PositionsAscend, NeighborsDoNotFall}
 use Rattle.mask_bits.specs.Laws.Runs.{AllTrueIsOneRange, AllTrueIsOneRun, AllFalseHasNoRange, AllFalseHasNoRun}
 use Rattle.mask_bits.specs.Laws.Boolean.{IsFreeOfOrder, DistributesOver, Absorbs, HasComplements, AndNotIsAndOfNot, KeepsLength}
-use Rattle.mask_bits.specs.Laws.Indices.{IndicesAreWithin, CountIsSomeOfAnyTrue, PositionsDetermineList, CountBelowPosition}
+use Rattle.mask_bits.specs.Laws.Indices.{PositionsDetermineList, CountBelowPosition}
 use Rattle.mask_bits.specs.Laws.Parts.{PartOfPart, PartOfConcat, LimitOfLimit, HasLimitCount}
 use Rattle.mask_bits.specs.Laws.RankIntersection.{IsRankIntersection, RankIntersectionIsTheList, RankIntersectionValue, AllTrueLeftUnit, AllTrueRightUnit, RankIntersectionPosition, RankIntersectionOfAnd, RankIntersectionOfNot}
 use Rattle.mask_bits.specs.Laws.Runs.{RunsExist, RunsAreUnique, RunsAreRanges, RangesAddUpToTheCount}
@@ -36,9 +36,6 @@ c = false ∷ true ∷ false ∷ []
 
 -- ---- true indices and words
 
-indices_are_within : IndicesAreWithin → All (λ p. p < 5) (0 ∷ 2 ∷ 4 ∷ [])
-indices_are_within law = law m
-
 value_of_word : ValueOfWord → slice_index_or (word_bits 6) 1 false ≡ true
 value_of_word law = law 6 1 (omega arith)
 
@@ -53,23 +50,11 @@ positions_determine_list law xs len at = law xs c len at
 positions_ascend : PositionsAscend → IsStrictlyIncreasing (0 ∷ 2 ∷ 4 ∷ [])
 positions_ascend law = law m
 
-some_are_true : CountIsSomeOfAnyTrue → (xs : List Bool) → 0 < count xs → Any (λ v. v ≡ true) xs
-some_are_true law xs = (law xs).0
-
-one_is_counted : CountIsSomeOfAnyTrue → (xs : List Bool) → Any (λ v. v ≡ true) xs → 0 < count xs
-one_is_counted law xs = (law xs).1
-
 neighbors_do_not_fall : NeighborsDoNotFall → (xs : List ℕ) → AllAdjacentBelow (λ x y. x ≤ y) xs (length xs) → IsNonDecreasing xs
 neighbors_do_not_fall law = law
 
 count_below_position : CountBelowPosition → count_below m (slice_index (positions m) 2) ≡ 2
 count_below_position law = law m 2 (omega arith)
-
-count_below_the_first : CountBelowTheFirst → (xs : List Bool) → count_below xs 0 ≡ 0
-count_below_the_first law = law
-
-count_below_the_next : CountBelowTheNext → count_below m (2 + 1) ≡ 2
-count_below_the_next law = law m 2
 
 -- ---- rank intersection
 
@@ -171,29 +156,8 @@ and_not_is_and_of_not law a = law a b
 keeps_length : KeepsLength → (a : List Bool) → length a ≡ 3 → length (and_of a b) + length (or_of a b) + length (and_not_of a b) + length (not_of a) ≡ 12
 keeps_length law a len = omega (arith, law.and a b len, law.or a b len, law.and_not a b len, law.not a)
 
-value_of_and : ValueOfAnd → (a : List Bool) → slice_index_or (and_of a b) 1 false ≡ (slice_index_or a 1 false && true)
-value_of_and law a = law a b 1
-
-value_of_or : ValueOfOr → (a : List Bool) → length a ≡ 3 → slice_index_or (or_of a b) 0 false ≡ (slice_index_or a 0 false || false)
-value_of_or law a len = law a b 0 len
-
-value_of_and_not : ValueOfAndNot → (a : List Bool) → length a ≡ 3 → slice_index_or (and_not_of a b) 1 false ≡ (slice_index_or a 1 false && false)
-value_of_and_not law a len = law a b 1 len
-
-value_of_not : ValueOfNot → slice_index_or (not_of m) 1 false ≡ true
-value_of_not law = law m 1 (omega arith)
-
-complement_of_and : ComplementOfAnd → (a : List Bool) → not_of (and_of a b) ≡ or_of (not_of a) (true ∷ false ∷ false ∷ [])
-complement_of_and law a = law a b
-
-complement_of_or : ComplementOfOr → (a : List Bool) → not_of (or_of a b) ≡ and_of (not_of a) (true ∷ false ∷ false ∷ [])
-complement_of_or law a = law a b
-
 count_of_complement : CountOfComplement → 3 + count (not_of m) ≡ 5
 count_of_complement law = law m
-
-count_of_and_with_or : CountOfAndWithOr → count (and_of b c) + count (or_of b c) ≡ 3
-count_of_and_with_or law = law b c refl
 
 list_of_one_value : ListOfOneValue → (xs : List Bool) → All (λ v. v ≡ false) xs → xs ≡ repeated (length xs) false
 list_of_one_value law xs = law xs false

@@ -4,6 +4,7 @@ mod BoolsLemmas
 mod BufferLemmas
 mod BuilderLemmas
 mod ByteLemmas
+mod ByteRowLemmas
 mod ChosenBitLemmas
 mod CombineLemmas
 mod CompareLemmas
@@ -14,6 +15,7 @@ mod LawRows
 mod LawRules
 pub mod Lists
 mod NumberLemmas
+mod RunWalkLemmas
 mod RunWordLemmas
 mod SetBitLemmas
 mod WindowLemmas

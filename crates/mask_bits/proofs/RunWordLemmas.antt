@@ -179,17 +179,17 @@ last-of_word before w fits =
     let low_enough : w / 2 ^ 63 < 2 = omega arith in
     last-is before (word_bits w) 63 (length-word_bits w) ∙ get_or-word_bits w 63 false (omega arith) ∙ ap (λ n. nat_eq n 1) (mod-eq_of_lt low_enough)
 
-open-full : (inside : Bool) (start n : ℕ) (m : List Bool) → inside ≢ true → 0 < length m → ((i : ℕ) → i < length m → get_or m i false ≡ true) → open_of inside start n m ≡ n
-open-full true start n m differs some every = absurd (differs refl)
-open-full false start n m differs some every = open-first start n m some every
+open-full : (inside : Bool) (start n : ℕ) (m : List Bool) → inside ≡ false → 0 < length m → ((i : ℕ) → i < length m → get_or m i false ≡ true) → open_of inside start n m ≡ n
+open-full true start n m outside some every = absurd (true≢false outside)
+open-full false start n m outside some every = open-first start n m some every
 
 -- a word behind which a run is open: it begins past the last bit that is not set
-open-word : (inside : Bool) (start base w b : ℕ) → base + 64 ≤ 2 ^ 64 → w < 2 ^ 64 → (w ≡ 2 ^ 64 - 1 → inside ≡ true → b ≡ w) → w ≢ b → nat_eq (w / 2 ^ 63) 1 ≡ true
+open-word : (inside : Bool) (start base w : ℕ) → base + 64 ≤ 2 ^ 64 → w < 2 ^ 64 → (w ≡ 2 ^ 64 - 1 → inside ≡ false) → nat_eq (w / 2 ^ 63) 1 ≡ true
     → open_of inside start base (word_bits w) ≡ (base + (64 - leading_ones w64 w)) % 2 ^ 64
-open-word inside start base w b room fits full differs last = elim (cases_eq w (2 ^ 64 - 1)) [
+open-word inside start base w room fits some_edge last = elim (cases_eq w (2 ^ 64 - 1)) [
   | inl every ↦
       let all_ones : leading_ones w64 w ≡ 64 = ap (leading_ones w64) every ∙ leading_of_zero 64 in
-      open-full inside start base (word_bits w) (λ e. differs (sym (full every e))) (omega (arith, length-word_bits w)) (λ i h.
+      open-full inside start base (word_bits w) (some_edge every) (omega (arith, length-word_bits w)) (λ i h.
       let few : i < 64 = omega (arith, length-word_bits w) in
       get_or-word_bits w i false few ∙ ap (λ n. nat_eq n 1) (ap (λ n. bit_at n i) every ∙ bit_at_ones 64 i few))
       ∙ sym (ap (λ k. (base + (64 - k)) % 2 ^ 64) all_ones ∙ ap (λ n. n % 2 ^ 64) (add-zero base) ∙ mod-eq_of_lt (omega arith))
@@ -209,6 +209,54 @@ open-word inside start base w b room fits full differs last = elim (cases_eq w (
       ∙ sym (mod-eq_of_lt (omega (arith, some_ones))) ∙ ap (λ n. n % 2 ^ 64) (omega (arith, some_ones, top.0))
 ]
 
+-- ---- whether a word ends a run
+
+-- inside a run, a value that is not true ends it
+ends-some : (n : ℕ) (m : List Bool) (j : ℕ) → j < length m → get_or m j false ≡ false → 0 < length (indices_from n (ends_of true m))
+ends-some n [] j h e = absurd (omega arith)
+ends-some n (false ∷ m) j h e = omega arith
+ends-some n (true ∷ m) zero h e = absurd (true≢false e)
+ends-some n (true ∷ m) (suc j) h e = ends-some (n + 1) m j (omega arith) e
+
+-- and where none ends it, it goes on
+stays : (n : ℕ) (m : List Bool) → length (indices_from n (ends_of true m)) ≡ 0 → last_of true m ≡ true
+stays n [] none = refl
+stays n (true ∷ m) none = stays (n + 1) m none
+stays n (false ∷ m) none = absurd (omega arith)
+
+goes_on : (inside : Bool) (n : ℕ) (m : List Bool) → length (indices_from n (ends_of inside m)) ≡ 0 → 0 < length (indices_from n m) → last_of inside m ≡ true
+goes_on true n m none some = stays n m none
+goes_on false n [] none some = absurd (omega arith)
+goes_on false n (true ∷ m) none some = stays (n + 1) m none
+goes_on false n (false ∷ m) none some = goes_on false (n + 1) m none some
+
+-- a bit that is not set
+unset : (w : ℕ) → w < 2 ^ 64 → w ≢ 2 ^ 64 - 1 → (j : ℕ) × (j < 64) × (get_or (word_bits w) j false ≡ false)
+unset w fits some =
+    let u : ℕ = bit_not w64 w in
+    let top = high u (omega arith) (omega arith) in
+    let j : ℕ = 63 - leading_ones w64 w in
+    let clear : bit_at w j ≡ 0 = omega (arith, top.1, bit_at_not w64 w j fits (omega (arith, top.0)), bit_at-lt w j) in
+    (j, omega arith, get_or-word_bits w j false (omega arith) ∙ ap (λ n. nat_eq n 1) clear)
+
+pub word-ends : (inside : Bool) (w b : ℕ) → w < 2 ^ 64 → word_bits b ≡ take 64 (inside ∷ word_bits w) → (w ≡ 2 ^ 64 - 1 → inside ≡ false) → inside ≡ true → 0 < bit_and b (2 ^ 64 - 1 - w)
+word-ends false w b fits shows some_edge is = absurd (true≢false (sym is))
+word-ends true w b fits shows some_edge is =
+    let e : ℕ = bit_and b (2 ^ 64 - 1 - w) in
+    let some = unset w fits (λ full. true≢false (some_edge full)) in
+    let ends = ends-some 0 (word_bits w) some.0 (omega (arith, some.1, length-word_bits w)) some.2 in
+    let same : length (indices_from 0 (word_bits e)) ≡ length (indices_from 0 (ends_of true (word_bits w))) = ap (λ (m : List Bool). length (indices_from 0 m)) (word_of_ends true w b fits shows) in
+    elim (cases_eq e 0) [
+      | inl none ↦ absurd (omega (arith, ends, same, ap length (none-of 0 e none)))
+      | inr more ↦ omega (arith, more)
+    ]
+
+pub word-begun : (inside : Bool) (w b : ℕ) → w < 2 ^ 64 → word_bits b ≡ take 64 (inside ∷ word_bits w) → bit_and b (2 ^ 64 - 1 - w) ≡ 0 → w ≢ 0 → nat_eq (w / 2 ^ 63) 1 ≡ true
+word-begun inside w b fits shows none some =
+    let e : ℕ = bit_and b (2 ^ 64 - 1 - w) in
+    let same : length (indices_from 0 (word_bits e)) ≡ length (indices_from 0 (ends_of inside (word_bits w))) = ap (λ (m : List Bool). length (indices_from 0 m)) (word_of_ends inside w b fits shows) in
+    sym (last-of_word inside w fits) ∙ goes_on inside 0 (word_bits w) (omega (arith, same, ap length (none-of 0 e none))) (omega (arith, ap length (places-lowest 0 w (omega (arith, some)) fits)))
+
 -- where none is open, its beginning does not matter
 same_open : (inside : Bool) (a b n : ℕ) (m : List Bool) → (inside ≡ true → a ≡ b) → runs_behind inside a n m ≡ runs_behind inside b n m
 same_open true a b n m same = ap (λ start. runs_behind true start n m) (same refl)
@@ -216,20 +264,25 @@ same_open false a b n m same = refl
 
 -- the runs that end in a word, and those behind it
 pub behind-word : (inside : Bool) (start base w b : ℕ) (rest : List Bool) → base + 64 ≤ 2 ^ 64 → w < 2 ^ 64 → b < 2 ^ 64 → word_bits b ≡ take 64 (inside ∷ word_bits w)
-    → (w ≡ 2 ^ 64 - 1 → inside ≡ true → b ≡ w) → w ≢ b
+    → (w ≡ 2 ^ 64 - 1 → inside ≡ false)
     → zip (begins inside start (indices_from base (word_bits (bit_and w (2 ^ 64 - 1 - b))))) (indices_from base (word_bits (bit_and b (2 ^ 64 - 1 - w))))
     ++ runs_behind (nat_eq (w / 2 ^ 63) 1) ((base + (64 - leading_ones w64 w)) % 2 ^ 64) (base + 64) rest
     ≡ runs_behind inside start base (word_bits w ++ rest)
-behind-word inside start base w b rest room fits b_fits shows full differs =
+behind-word inside start base w b rest room fits b_fits shows some_edge =
     let m : List Bool = word_bits w in
     let last = last-of_word inside w fits in
     let here : ℕ = (base + (64 - leading_ones w64 w)) % 2 ^ 64 in
     ap₂ (λ (s e : List Bool). zip (begins inside start (indices_from base s)) (indices_from base e) ++ runs_behind (nat_eq (w / 2 ^ 63) 1) here (base + 64) rest)
     (word_of_starts inside w b b_fits shows) (word_of_ends inside w b fits shows)
     ∙ ap (λ (rs : List (ℕ × ℕ)). zip (begins inside start (indices_from base (starts_of inside m))) (indices_from base (ends_of inside m)) ++ rs)
-    (same_open (nat_eq (w / 2 ^ 63) 1) here (open_of inside start base m) (base + 64) rest (λ e. sym (open-word inside start base w b room fits full differs e))
+    (same_open (nat_eq (w / 2 ^ 63) 1) here (open_of inside start base m) (base + 64) rest (λ e. sym (open-word inside start base w room fits some_edge e))
     ∙ ap₂ (λ l n. runs_behind l (open_of inside start base m) (base + n) rest) (sym last) (sym (length-word_bits w)))
     ∙ sym (behind-more inside start base m rest)
+
+-- a full word that has an edge is outside a run
+pub outside : (inside : Bool) (w b : ℕ) → (w ≡ 2 ^ 64 - 1 → inside ≡ true → b ≡ w) → w ≢ b → w ≡ 2 ^ 64 - 1 → inside ≡ false
+outside true w b full some is = absurd (some (sym (full is refl)))
+outside false w b full some is = refl
 
 pub each_of_word_begins : (inside : Bool) (start base w b : ℕ) → w < 2 ^ 64 → b < 2 ^ 64 → word_bits b ≡ take 64 (inside ∷ word_bits w)
     → length (indices_from base (word_bits (bit_and b (2 ^ 64 - 1 - w)))) ≤ length (begins inside start (indices_from base (word_bits (bit_and w (2 ^ 64 - 1 - b)))))

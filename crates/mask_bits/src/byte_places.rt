@@ -31,8 +31,9 @@ pub(crate) fn indices_of_byte(base: usize, byte: u8) -> [usize; 8]
 
 // The places of a byte's set bits, ascending, and zeros behind them.
 #[inline(always)]
-fn places_of(byte: u8) -> u8x8
+pub(crate) fn places_of(byte: u8) -> u8x8
     ensures lanes { length result ≡ 8 }
+    ensures inside { (k : ℕ) → k < 8 → slice_index result k < 8 }
     ensures places { (k : ℕ) → k < count_ones byte → slice_index result k
         ≡ slice_index (positions (take 8 (word_bits byte))) k }
 {

@@ -11,16 +11,14 @@ mod stacks;
 mod words;
 
 pub use boolean::{
-    and_is_free_of_order, and_not_is_and_of_not, and_or_absorb, and_or_distribute, boolean_counts,
-    boolean_values, complements, de_morgan, keeps_length, or_is_free_of_order,
+    and_is_free_of_order, and_not_is_and_of_not, and_or_absorb, and_or_distribute, complements,
+    or_is_free_of_order,
 };
 pub use indices::{
-    count_below_by_steps, count_below_position, counts, indices_are_within, lists_of_one_value,
-    positions_ascend, positions_determine_list, sorted_numbers, true_at_indices,
+    count_below_position, lists_of_one_value, positions_determine_list, sorted_numbers,
 };
 pub use parts::{
-    groups, limit_count, limit_of_limit, limit_of_rank_intersection, limits, part_of_concat,
-    part_of_part,
+    groups, limit_count, limit_of_limit, limit_of_rank_intersection, part_of_concat, part_of_part,
 };
 pub use rank_intersection::{
     all_true_left_unit, all_true_right_unit, choosing_twice, choosing_values,
@@ -28,17 +26,10 @@ pub use rank_intersection::{
     rank_intersection_of_and, rank_intersection_of_not, rank_intersection_position,
     rank_intersection_value,
 };
-pub use rows::{
-    choosing, choosing_by_a_limit, choosing_by_a_test, choosing_by_chunks, choosing_by_ranges,
-    chosen_and_the_rest,
-};
+pub use rows::{choosing, choosing_by_a_test, choosing_by_ranges};
 pub use runs::{
-    ranges_add_up_to_the_count, ranges_of_one_value, runs_are_ranges, runs_are_the_list,
-    runs_are_unique, runs_exist, runs_of_one_value,
+    ranges_of_one_value, runs_are_ranges, runs_are_the_list, runs_are_unique, runs_exist,
+    runs_of_one_value,
 };
-pub use stacks::{
-    choosing_in_turn, folding_keeps_a_stack, folds, neighbors_make_one, stack_folds_alike,
-};
-pub use words::{
-    counts_of_words, extracts, length_of_values, same_values_are_one_list, values_of_words,
-};
+pub use stacks::{choosing_in_turn, folding_keeps_a_stack, folds, stack_folds_alike};
+pub use words::{counts_of_words, length_of_values, same_values_are_one_list};

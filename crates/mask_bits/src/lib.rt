@@ -29,9 +29,12 @@ pub mod laws;
 mod read_word;
 #[doc(hidden)]
 pub mod room;
+mod run_words;
 mod scan;
 mod set_indices;
 mod set_slices;
+#[doc(hidden)]
+pub mod small_rows;
 mod word_indices;
 mod word_items;
 #[doc(hidden)]

@@ -8,4 +8,5 @@ mod FromIndicesLemmas
 mod IndexLemmas
 mod LastLemmas
 mod LastRankLemmas
+mod RunLemmas
 mod StringLemmas

@@ -1,11 +1,13 @@
 //! The rows at the true values of a bitmap, by the size of a row.
 
 ghost use Rattle.mask_bits.specs.Bitmap.{bitmap};
+ghost use Rattle.mask_bits.specs.Buffer.{IsWithinBytes};
 ghost use Rattle.mask_c.specs.Bitmap.{AreChosen, CanChoose};
 
 use mask_bits::BitChunks;
 use mask_bits::room::Lent;
-use vortex_mask::choose_rows;
+use mask_bits::small_rows::{ByTable, MoveRows};
+use vortex_mask::{choose_rows, choose_small_rows};
 
 /// A row of 16 bytes.
 #[derive(Clone, Copy)]
@@ -16,7 +18,7 @@ pub struct RowMask16 {
 }
 
 /// Writes the rows at the true values, in their order, to the front of `out`, and answers how many
-/// they are. A row has 1 byte.
+/// they are. A row has 1 byte. Behind these rows, `out` may have others than before.
 ///
 /// Asks that `rows_count == len`, and that `out_count` is at least the count of the true values.
 #[unsafe(no_mangle)]
@@ -30,7 +32,11 @@ pub extern "C" fn row_mask_choose_1(
     requires { CanChoose bytes.now offset len rows.now out.old }
     ensures { AreChosen rows.now (bitmap bytes.now offset len) out.new result }
 {
-    choose(bytes, offset, len, rows, out)
+    if have_many(bytes, offset, len) {
+        choose_small::<6, ByTable, _>(bytes, offset, len, rows, out)
+    } else {
+        choose(bytes, offset, len, rows, out)
+    }
 }
 
 /// Writes the rows at the true values, in their order, to the front of `out`, and answers how many
@@ -115,4 +121,40 @@ fn choose<T: Copy>(bytes: &[u8], offset: usize, len: usize, rows: &[T], out: &mu
     let mut room = Lent { out, at: 0 };
     choose_rows::<0, _, _>(&mut room, rows, &chunks);
     room.at
+}
+
+// The same of small rows, of which several are moved at once where a word has `FEW` true values or more. It isn't
+// inlined: in one function with the loop above, that one takes longer.
+#[inline(never)]
+fn choose_small<const FEW: usize, M: MoveRows<T>, T: Copy>(
+    bytes: &[u8],
+    offset: usize,
+    len: usize,
+    rows: &[T],
+    out: &mut [T],
+) -> usize
+    requires { CanChoose bytes.now offset len rows.now out.old }
+    ensures { AreChosen rows.now (bitmap bytes.now offset len) out.new result }
+{
+    let chunks = BitChunks::new(bytes, offset, len);
+    let mut room = Lent { out, at: 0 };
+    choose_small_rows::<FEW, M, _, _>(&mut room, rows, &chunks);
+    room.at
+}
+
+// Whether words have eight true values or more on the average, by four of them. Where they have fewer, to count
+// those of each word takes longer than is gained.
+#[inline]
+fn have_many(bytes: &[u8], offset: usize, len: usize) -> bool
+    requires { IsWithinBytes bytes.now offset len }
+{
+    let chunks = BitChunks::new(bytes, offset, len);
+    let whole = chunks.len();
+    if whole == 0 {
+        return false;
+    }
+    let apart = whole / 4;
+    let first = chunks.word(0).count_ones() + chunks.word(apart).count_ones();
+    let last = chunks.word(2 * apart).count_ones() + chunks.word(3 * apart).count_ones();
+    first + last >= 4 * 8
 }

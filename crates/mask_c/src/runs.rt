@@ -1,11 +1,12 @@
 //! The runs of true values of a bitmap.
 
-ghost use Rattle.std.specs.Prelude.{min, true, false};
+ghost use Rattle.std.specs.Prelude.{◌≡◌, ◌+◌, ◌<◌, ◌^◌, ℕ, drop, length, map, min, take, true, false};
 ghost use Rattle.mask_bits.specs.Bitmap.{bitmap};
 ghost use Rattle.mask_bits.specs.Buffer.{IsWithinBytes};
 ghost use Rattle.mask_bits.specs.Positions.{IsFirstFrom};
+ghost use Rattle.mask_bits.specs.RunScan.{runs, runs_from};
 
-use mask_bits::BitChunks;
+use mask_bits::{BitChunks, SetSlices};
 
 /// The indices from `start` to `end`, the end left out.
 #[derive(Clone, Copy)]
@@ -33,4 +34,52 @@ pub extern "C" fn row_mask_next_run(
     let start = values.first_from(from.min(len), true);
     let end = values.first_from(start, false);
     RowMaskRun { start, end }
+}
+
+/// Writes the runs of true values from `from` on, ascending, to the front of `out`, as many as there are or
+/// as it takes, and answers how many these are: none from past the end. A run that `from` is inside begins
+/// there. So a walk over all runs goes on from the end of the last, until fewer come than `out` takes.
+/// Behind them `out` may have other numbers than before.
+#[unsafe(no_mangle)]
+pub extern "C" fn row_mask_next_runs(
+    bytes: &[u8],
+    offset: usize,
+    len: usize,
+    from: usize,
+    out: &mut [RowMaskRun],
+) -> usize
+    requires { IsWithinBytes bytes.now offset len }
+    ensures runs { map {B = ℕ × ℕ} (λ r. (r.start, r.end)) (take result out.new) ≡ take (length out.old)
+        (runs_from from (drop from (bitmap bytes.now offset len))) }
+    ensures count { result ≡ min (length out.old)
+        (length (runs_from from (drop from (bitmap bytes.now offset len)))) }
+{
+    if from > len {
+        return 0;
+    }
+    let values = BitChunks::new(bytes, offset + from, len - from);
+    runs_of_values(values, from, out)
+}
+
+// Writes the runs of values of which the first has the index `from`.
+#[inline]
+fn runs_of_values(values: BitChunks<'_>, from: usize, out: &mut [RowMaskRun]) -> usize
+    requires fits { from + length values < 2 ^ 64 }
+    ensures runs { map {B = ℕ × ℕ} (λ r. (r.start, r.end)) (take result out.new) ≡ take (length out.old)
+        (map {B = ℕ × ℕ} (λ r. (from + r.0, from + r.1)) (runs values.entry)) }
+    ensures count { result ≡ min (length out.old) (length (runs values.entry)) }
+{
+    let mut runs = SetSlices::new(values);
+    let mut at = 0;
+    while at < out.len() {
+        let Some((start, end)) = runs.next() else {
+            return at;
+        };
+        out[at] = RowMaskRun {
+            start: from + start,
+            end: from + end,
+        };
+        at += 1;
+    }
+    at
 }

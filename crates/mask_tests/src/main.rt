@@ -1,12 +1,32 @@
 //! Tests of `mask_bits` and `vortex_mask` as rows of text on standard input: a row has calls, their operands, and
-//! what each of them answers. `mask_calls` reads a row and makes its calls. With the argument `sweep` a row stands for
-//! many, as `sweep` says.
+//! what each of them answers. Each public call stands in one line, as `lines` says. With the argument `sweep` lists are
+//! told whole, and with `refused` the rows are scenarios of refused memory.
 #![tactic(auto)]
 
+mod bits;
+mod builder;
+mod call;
+mod fault;
+mod held;
+mod kernels;
+mod lines;
+mod listed;
+mod mask_word;
+mod masks;
+mod mixed;
+mod operands;
+mod others;
+mod packed;
 mod refused;
 mod rows;
-mod sweep;
+mod tell;
+mod tested;
+mod text;
+mod walks;
+mod words;
+mod written;
 
+use crate::text::Detail;
 use std::process::ExitCode;
 use std::rt::Env;
 use std::{env, io};
@@ -24,8 +44,8 @@ fn main(rt: HostRuntime) -> ExitCode {
 fn check<R: Env + Input + Print + AllocGlobal>(rt: &R) -> io::Result<usize> {
     match env::args(rt)?.nth(1) {
         Some(mode) if mode.as_str() == "refused" => refused::check(rt),
-        Some(_) => sweep::check(rt),
-        None => rows::check(rt),
+        Some(_) => rows::check(rt, Detail::Whole),
+        None => rows::check(rt, Detail::Short),
     }
 }
 

@@ -3,7 +3,9 @@
 //! was refused is made once more behind `calls again`. Between `calls` and the next line nothing but the call asks for
 //! memory. The script misses a line that can't be written.
 
-use mask_calls::{Call, Row, Text};
+use crate::call::Call;
+use crate::rows::Row;
+use crate::text::{Detail, Text};
 use std::io::{self, BufRead, BufReader};
 
 /// Makes the call of each row.
@@ -23,7 +25,7 @@ fn say_of<R: Print>(rt: &R, what: &str, of: &str) {
 }
 
 fn check_line<R: Print + AllocGlobal>(rt: &R, line: &str) {
-    match Row::read(line, " -> ") {
+    match Row::read(line, Detail::Whole) {
         Some(row) => check_row(rt, row),
         None => say_of(rt, "wrong: no row:", line),
     }

@@ -1,12 +1,8 @@
--- Groups of rows of one size, of which the last may have fewer: whether a row is chosen, and how many are null.
-use Rattle.std.specs.Prelude.{ℕ, ◌-◌, ◌*◌, Bool, List, length, min, nat_lt}
+-- Groups of rows of one size, of which the last may have fewer: whether a row is chosen.
+use Rattle.std.specs.Prelude.{ℕ, Bool, List, nat_lt}
 use Rattle.mask_bits.specs.Lists.{group}
 use Rattle.mask_bits.specs.Positions.{count}
 
 -- whether a row of group g is chosen
 abbrev pub is_chosen_of : List Bool → ℕ → ℕ → Bool
 is_chosen_of m size g = nat_lt 0 (count (group m size g))
-
--- how many rows of group g are null, where the list says which are valid
-abbrev pub nulls_of : List Bool → ℕ → ℕ → ℕ
-nulls_of m size g = min size (length m - size * g) - count (group m size g)

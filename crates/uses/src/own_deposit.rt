@@ -7,21 +7,8 @@ ghost use Rattle.vortex_mask.specs.Mask.{truth};
 
 use mask_bits::BitBuffer;
 use std::alloc::Global;
-use vortex_mask::intersect_by_rank::{DepositBits, Portable, intersect_bit_buffers};
+use vortex_mask::intersect_by_rank::{DepositBits, intersect_bit_buffers};
 use vortex_mask::{Mask, MaskError, laws};
-
-/// Deposits whole words as they are, and others by the portable deposit.
-pub struct WholeWords;
-
-impl DepositBits for WholeWords {
-    fn deposit_bits(source: u64, mask: u64, mask_count: usize) -> u64 {
-        laws::deposits();
-        if mask == u64::MAX {
-            return source;
-        }
-        Portable::deposit_bits(source, mask, mask_count)
-    }
-}
 
 /// Deposits at one set bit after another, from the lowest.
 pub struct InTurn;

@@ -1,43 +1,17 @@
-//! Which groups of rows a reader may skip.
-ghost use Rattle.std.specs.Prelude.{ℕ, ◌≡◌, ◌*◌, ◌/◌, ◌<◌, All, count_by, false, IfOk, length, nat_eq, nat_lt, slice_index_or, vec_len};
+//! Which groups of rows a reader may skip, and in which ranges it reads the others.
+ghost use Rattle.std.specs.Prelude.{ℕ, ◌≡◌, ◌/◌, ◌<◌, All, IfOk, IfSome, count_by, false, length, nat_eq, nat_lt, slice_index_or, vec_len};
 ghost use Rattle.std.specs.Int.{div_ceil};
-ghost use Rattle.mask_bits.specs.Buffer.{values};
+ghost use Rattle.mask_bits.specs.RunScan.{runs};
 ghost use Rattle.uses.specs.RowGroups.{is_chosen_of};
 ghost use Rattle.vortex_mask.specs.Mask.{truth};
 
-use mask_bits::{BitBuffer, laws};
+use mask_bits::laws;
 use std::alloc::{AllocError, Global};
 use vortex_mask::{AllOr, Mask, MaskError};
 
-/// For each group of `size` rows whether one of its rows is chosen; the last may have fewer rows.
-pub fn kept(alloc: Global, rows: &BitBuffer, size: usize) -> Result<Vec<bool>, AllocError>
-    requires { 0 < size }
-    ensures len { IfOk result (λ kept. vec_len kept ≡ div_ceil (length (values rows.now)) size) }
-    ensures exact { IfOk result (λ kept. (g : ℕ) → g < div_ceil (length (values rows.now)) size
-        → slice_index_or kept.items g false ≡ is_chosen_of (values rows.now) size g) }
-{
-    let groups = rows.len().div_ceil(size);
-    (0..groups)
-        .map(|number| has_chosen(rows, size, number))
-        .collect(alloc)
-}
-
-/// Whether a row of group `number` is chosen.
-pub fn has_chosen(rows: &BitBuffer, size: usize, number: usize) -> bool
-    requires size { 0 < size }
-    requires within { number < div_ceil (length (values rows.now)) size }
-    ensures { result ≡ is_chosen_of (values rows.now) size number }
-{
-    laws::groups();
-    let len = rows.len();
-    let start = size * number;
-    let end = start + size.min(len - start);
-    rows.count_range(start, end) > 0
-}
-
 /// For each group of `size` rows whether a mask chooses one of its rows, by the list of indices that the
-/// mask lends.
-pub fn kept_by_indices(alloc: Global, mask: &mut Mask, size: usize) -> Result<Vec<bool>, MaskError>
+/// mask lends; the last may have fewer rows.
+pub fn kept(alloc: Global, mask: &mut Mask, size: usize) -> Result<Vec<bool>, MaskError>
     requires { 0 < size }
     ensures len { IfOk result (λ kept. vec_len kept ≡ div_ceil (length (truth mask.old)) size) }
     ensures exact { IfOk result (λ kept. (g : ℕ) → g < div_ceil (length (truth mask.old)) size
@@ -48,19 +22,10 @@ pub fn kept_by_indices(alloc: Global, mask: &mut Mask, size: usize) -> Result<Ve
     vortex_mask::laws::variants_of_one_value();
     let groups = mask.len().div_ceil(size);
     match mask.indices(alloc)? {
-        AllOr::All => all_alike(alloc, groups, true),
-        AllOr::None => all_alike(alloc, groups, false),
-        AllOr::Some(indices) => marked(alloc, indices, size, groups),
+        AllOr::All => Ok(vec![in alloc; true; groups]?),
+        AllOr::None => Ok(vec![in alloc; false; groups]?),
+        AllOr::Some(indices) => Ok(marked(alloc, indices, size, groups)?),
     }
-}
-
-// The same answer for each group.
-fn all_alike(alloc: Global, groups: usize, kept: bool) -> Result<Vec<bool>, MaskError>
-    ensures len { IfOk result (λ all. vec_len all ≡ groups) }
-    ensures exact { IfOk result (λ all. (g : ℕ) → g < groups
-        → slice_index_or all.items g false ≡ kept) }
-{
-    Ok(vec![in alloc; kept; groups]?)
 }
 
 // Which groups have one of these indices.
@@ -69,7 +34,7 @@ fn marked(
     indices: &[usize],
     size: usize,
     groups: usize,
-) -> Result<Vec<bool>, MaskError>
+) -> Result<Vec<bool>, AllocError>
     requires some { 0 < size }
     requires within { All (λ p. p / size < groups) indices.now }
     ensures len { IfOk result (λ kept. vec_len kept ≡ groups) }
@@ -78,20 +43,46 @@ fn marked(
         ≡ nat_lt 0 (count_by (λ p. nat_eq (p / size) g) indices.now)) }
 {
     let mut kept = vec![in alloc; false; groups]?;
-    mark(&mut kept, indices, size);
+    for index in indices {
+        kept[*index / size] = true;
+    }
     Ok(kept)
 }
 
-// Marks the groups of these indices, where none is marked yet.
-fn mark(kept: &mut [bool], indices: &[usize], size: usize)
-    requires some { 0 < size }
-    requires unmarked { (g : ℕ) → g < length kept.old → slice_index_or kept.old g false ≡ false }
-    requires within { All (λ p. p / size < length kept.old) indices.now }
-    ensures len { length kept.new ≡ length kept.old }
-    ensures exact { (g : ℕ) → g < length kept.old → slice_index_or kept.new g false
-        ≡ nat_lt 0 (count_by (λ p. nat_eq (p / size) g) indices.now) }
+/// The ranges of the rows that a mask chooses, none of which touches another.
+pub fn ranges_of(alloc: Global, mask: &mut Mask) -> Result<Vec<(usize, usize)>, MaskError>
+    ensures { IfOk result (λ ranges. ranges.items ≡ runs (truth mask.old)) }
 {
-    for index in indices {
-        kept[*index / size] = true;
+    laws::runs_of_one_value();
+    vortex_mask::laws::variants_of_one_value();
+    let len = mask.len();
+    if mask.is_empty() {
+        return Ok(Vec::new(alloc));
+    }
+    match mask.slices(alloc)? {
+        AllOr::All => Ok(Vec::from_slice(alloc, &[(0, len)])?),
+        AllOr::None => Ok(Vec::new(alloc)),
+        AllOr::Some(ranges) => Ok(Vec::from_slice(alloc, ranges)?),
+    }
+}
+
+/// The ranges of the rows of an index, given as ranges that may touch, and of a filter, given one by
+/// one. They are equal. There are none where the two do not choose the same rows.
+pub fn ranges_both_ways(
+    alloc: Global,
+    len: usize,
+    index: Vec<(usize, usize)>,
+    filter: &[usize],
+) -> Result<Option<(Vec<(usize, usize)>, Vec<(usize, usize)>)>, MaskError>
+    ensures same { IfOk result (λ both. IfSome both (λ lists. lists.0.items ≡ lists.1.items)) }
+{
+    let mut by_index = Mask::from_slices(alloc, len, index)?;
+    let mut by_filter = Mask::from_indices(alloc, len, filter.iter().copied())?;
+    if by_index == by_filter {
+        let left = ranges_of(alloc, &mut by_index)?;
+        let right = ranges_of(alloc, &mut by_filter)?;
+        Ok(Some((left, right)))
+    } else {
+        Ok(None)
     }
 }

@@ -1,27 +1,26 @@
-//! Where the values of pages begin, in a column that stores values of its valid rows alone.
-ghost use Rattle.std.specs.Prelude.{ℕ, ◌≡◌, ◌≢◌, ◌+◌, ◌≤◌, ◌<◌, All, IfNone, IfOk, IfSome, false, length, map, slice_index_or, true};
+//! Which rows are valid, how many values are stored before a row, and the bitmaps of two columns as one.
+ghost use Rattle.std.specs.Prelude.{◌≡◌, ◌≢◌, ◌+◌, ◌*◌, ◌<◌, ◌≤◌, ◌^◌, All, IfNone, IfOk, IfSome, length, map, vec_len};
 ghost use Rattle.std.specs.List.Sorted.{IsNonDecreasing};
-ghost use Rattle.mask_bits.specs.Positions.{count_below};
+ghost use Rattle.mask_bits.specs.Bitmap.{bitmap};
+ghost use Rattle.mask_bits.specs.Buffer.{values};
+ghost use Rattle.mask_bits.specs.Lists.{and_of};
+ghost use Rattle.mask_bits.specs.Positions.{positions, count_below};
 ghost use Rattle.vortex_mask.specs.Mask.{truth};
 
-use mask_bits::laws;
+use bytes::Bytes;
+use mask_bits::{BitBuffer, laws};
 use std::alloc::{AllocError, Global};
 use vortex_mask::{Mask, MaskError};
 
-/// For each page, by its first row, how many values are stored before its own.
-pub fn page_offsets(
-    alloc: Global,
-    validity: &Mask,
-    starts: &[usize],
-) -> Result<Vec<usize>, MaskError>
-    requires ascending { IsNonDecreasing starts.now }
-    requires within { All (λ row. row ≤ length (truth validity.now)) starts.now }
-    ensures { IfOk result (λ v. v.items ≡ map (count_below (truth validity.now)) starts.now) }
+/// The rows that are valid.
+pub fn valid_rows(alloc: Global, validity: &BitBuffer) -> Result<Vec<usize>, AllocError>
+    ensures { IfOk result (λ rows. rows.items ≡ positions (values validity.now)) }
 {
-    validity.valid_counts_for_indices(alloc, starts)
+    validity.set_indices().collect(alloc)
 }
 
-/// The same for two columns at once, where they are valid in the same rows, and else nothing.
+/// How many values are stored before those of each page, by its first row, where two columns store values of
+/// their valid rows alone and are valid in the same rows; else nothing.
 pub fn page_offsets_of_both(
     alloc: Global,
     first: &Mask,
@@ -37,39 +36,45 @@ pub fn page_offsets_of_both(
     ensures none { IfOk result (λ both. IfNone both (truth first.now ≢ truth second.now)) }
 {
     if *first == *second {
-        return Ok(Some(page_offsets(alloc, first, starts)?));
+        return Ok(Some(first.valid_counts_for_indices(alloc, starts)?));
     }
     Ok(None)
 }
 
-/// For each row whether it is valid.
-pub fn by_rows(alloc: Global, validity: &Mask) -> Result<Vec<bool>, AllocError>
-    ensures { IfOk result (λ v. v.items ≡ truth validity.now) }
+/// For each row number from outside how many rows before it are valid, where the numbers ascend and none
+/// passes the length, and else nothing.
+pub fn counts_before(
+    alloc: Global,
+    validity: &Mask,
+    rows: &[usize],
+) -> Result<Option<Vec<usize>>, MaskError>
+    ensures { IfOk result (λ counts. IfSome counts
+        (λ v. v.items ≡ map (count_below (truth validity.now)) rows.now)) }
 {
-    validity.iter().collect(alloc)
+    laws::sorted_numbers();
+    let len = validity.len();
+    if !rows.is_sorted() || !rows.iter().all(|row| *row <= len) {
+        return Ok(None);
+    }
+    Ok(Some(validity.valid_counts_for_indices(alloc, rows)?))
 }
 
-/// The first row that is not valid, if there is one.
-pub fn first_invalid(validity: &Mask) -> Option<usize>
-    ensures within { IfSome result (λ row. row < length (truth validity.now)) }
-    ensures invalid { IfSome result (λ row. slice_index_or (truth validity.now) row true ≡ false) }
-    ensures before { IfSome result
-        (λ row. (i : ℕ) → i < row → slice_index_or (truth validity.now) i false ≡ true) }
-    ensures none { IfNone result (All (λ valid. valid ≡ true) (truth validity.now)) }
+/// The rows that are valid in both of two columns, where the first bitmap was written by the caller and
+/// the second begins at any bit.
+pub fn valid_in_both(
+    alloc: Global,
+    written: Vec<u8>,
+    column: Bytes,
+    start: usize,
+    rows: usize,
+) -> Result<BitBuffer, AllocError>
+    requires written { rows ≤ 8 * vec_len written }
+    requires column { start + rows ≤ 8 * length column }
+    requires fits { start + rows < 2 ^ 64 }
+    ensures { IfOk result (λ b. values b ≡ and_of
+        (bitmap written.items 0 rows)
+        (bitmap column start rows)) }
 {
-    validity.iter().position(|valid| !valid)
-}
-
-/// How many values are stored before row `row + 1`, from how many there are before row `row`.
-pub fn next_offset(validity: &Mask, row: usize, before: usize) -> usize
-    requires row { row < length (truth validity.now) }
-    requires before { before ≡ count_below (truth validity.now) row }
-    requires at_most { before ≤ row }
-    ensures { result ≡ count_below (truth validity.now) (row + 1) }
-{
-    // no row passes the length, which fits
-    let _ = validity.len();
-    let after = before + usize::from(validity.value(row));
-    laws::count_below_by_steps();
-    after
+    let column = BitBuffer::new_with_offset(column, start, rows);
+    BitBuffer::from_vec(written, rows)?.bitand(alloc, &column)
 }

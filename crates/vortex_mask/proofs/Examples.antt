@@ -1,7 +1,7 @@
 -- Worked rows of the terms that masks are described in, computed by the checker.
 use Rattle.std.proofs.Common.{ℕ, ◌≡◌, ◌+◌, ◌^◌, Bool, true, false, List, [], ◌∷◌, map, Some, None, refl, ap, inl, inr, arith}
 use Rattle.std.specs.Int.{bit_at}
-use Rattle.mask_bits.specs.Positions.{positions, repeated, true_at, count_below}
+use Rattle.mask_bits.specs.Positions.{positions, repeated, count_below}
 use Rattle.mask_bits.specs.Words.{word_bits}
 use Rattle.vortex_mask.specs.Bitops.{and_caches, or_caches, and_not_caches}
 use Rattle.vortex_mask.specs.Deposit.{Deposits, selected}
@@ -12,7 +12,7 @@ use Rattle.vortex_mask.specs.Caches.{caches, where_mixed}
 use Rattle.vortex_mask.specs.Mask.{Variant, truth, variant, contents, all_true, all_false, mixed, fitting_variant, variant_and, variant_or, variant_not, variant_of_no_part, IsUniform}
 use Rattle.vortex_mask.specs.MaskValues.{AreOf, Contents, no_caches, only_indices, only_ranges, with_indices, with_ranges}
 use Rattle.vortex_mask.specs.Path.{path, path_of, is_deposited_by_loop, path_caches, narrowed_caches, AreStepsOf}
-use Rattle.vortex_mask.specs.StackFold.{IsFoldedUp, first_mixed}
+use Rattle.vortex_mask.specs.StackFold.{first_mixed}
 use Rattle.vortex_mask.specs.Steps.{StepCounts, no_steps, word_steps, driven_steps}
 use Rattle.vortex_mask.specs.declared.intersect_by_rank.path.RankPath.TheVariants.{Indices, MaskDriven, BitBuffers, RankIndices}
 use Rattle.vortex_mask.specs.declared.mask.Mask.{Mask}
@@ -242,12 +242,7 @@ two_mixed_narrowed : (a b m : Mask) (v w : Contents) → contents a ≡ Some v �
 two_mixed_narrowed (Values x) (Values y) m v w held also = cc
 two_mixed_narrowed a b m v w held also = absurd (cc)
 
--- ---- the fold of a stack from its first mask up
-
--- 11 narrowed by 11, and that by 00
-folded_up : IsFoldedUp (AllTrue 2) (AllTrue 2 ∷ AllFalse 2 ∷ []) (AllFalse 2)
-unfolding repeated true_at
-folded_up = (AllTrue 2, record { list = refl; variant = refl; caches = refl }, (AllFalse 2, record { list = refl; variant = refl; caches = refl }, refl))
+-- ---- whether the fold of a stack begins by lists
 
 first_of_mixed : (a b m : Mask) (v w : Contents) → contents a ≡ Some v → contents b ≡ Some w → (first_mixed (AllTrue 3 ∷ a ∷ b ∷ []) ≡ Some v) × (first_mixed (AllTrue 3 ∷ AllFalse 3 ∷ []) ≡ None)
 first_of_mixed (Values x) b m v w held also = (held, refl)

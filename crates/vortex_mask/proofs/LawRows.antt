@@ -1,15 +1,13 @@
 -- What laws say of lists that are known, and what terms say where a clause is read from outside: each row takes one, and computes an instance of it.
-use Rattle.std.specs.Prelude.{ℕ, ◌≡◌, ◌+◌, ◌*◌, ◌<◌, ◌⊎◌, Bool, true, false, List, [], ◌∷◌, length, take, None, All}
-use Rattle.std.proofs.Common.{ap}
+use Rattle.std.specs.Prelude.{ℕ, ◌≡◌, ◌+◌, ◌*◌, ◌<◌, ◌⊎◌, Bool, true, false, List, [], ◌∷◌, length, None, All}
 use Rattle.std.specs.Borrow.{Bor}
 use Rattle.std.specs.List.Sorted.{IsStrictlyIncreasing}
 use Rattle.mask_bits.specs.Buffer.{Packed, values}
-use Rattle.mask_bits.specs.Extract.{Extracts}
 use Rattle.mask_bits.specs.Positions.{rank_intersection, repeated}
 use Rattle.mask_bits.specs.Words.{padded_part, window, word_bits}
 use Rattle.vortex_mask.specs.AllOr.{IsListOf}
 use Rattle.vortex_mask.specs.Deposit.{Deposits}
-use Rattle.vortex_mask.specs.Laws.Deposit.{DepositIsWordOfRankIntersection, DepositOfExtract, ExtractOfDeposit, StartedWordsAreTheList}
+use Rattle.vortex_mask.specs.Laws.Deposit.{DepositIsWordOfRankIntersection, StartedWordsAreTheList}
 use Rattle.vortex_mask.specs.Faults.{index_fault}
 use Rattle.vortex_mask.specs.Laws.Masks.{UniformIsOfOneValue, NoIndexFault}
 use Rattle.vortex_mask.specs.Lend.{IfLent}
@@ -36,15 +34,6 @@ first_deposited_word : DepositIsWordOfRankIntersection → (ranks : Packed) (sou
     → word_bits mask ≡ padded_part bits 0 → word_bits source ≡ window ranks.bytes (ranks.offset + 0) → Deposits source mask result
     → word_bits result ≡ padded_part (rank_intersection bits (values ranks)) 0
 first_deposited_word law ranks source mask result = law bits ranks 0 source mask result
-
--- 6 at the places of 12, its bits 2 and 3: the bit that both have, and then the source's two lowest bits
-deposit_of_extract : DepositOfExtract → (picked result : ℕ) → Extracts 6 12 picked → Deposits picked 12 result → take 4 (word_bits result) ≡ false ∷ false ∷ true ∷ false ∷ []
-unfolding word_bits
-deposit_of_extract law picked result is at = ap (take 4) (law 6 12 picked result is at)
-
-extract_of_deposit : ExtractOfDeposit → (placed result : ℕ) → Deposits 6 12 placed → Extracts placed 12 result → take 3 (word_bits result) ≡ false ∷ true ∷ false ∷ []
-unfolding word_bits repeated
-extract_of_deposit law placed result is at = ap (take 3) (law 6 12 placed result is at)
 
 one_started_word : StartedWordsAreTheList → (bytes : List ℕ) → ((i : ℕ) → i < 1 → window bytes (64 * i) ≡ padded_part bits i)
     → values (record { bytes = bytes; offset = 0; len = 5 }) ≡ bits

@@ -5,7 +5,6 @@ pub mod ConcatLemmas
 pub mod ExcludedLemmas
 pub mod FaultLemmas
 pub mod FoldLemmas
-pub mod FoldUpLemmas
 pub mod GroupLemmas
 pub mod MaskLemmas
 pub mod MaskWalkLemmas

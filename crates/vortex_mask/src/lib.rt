@@ -2,6 +2,7 @@
 #![tactic(auto)]
 
 mod bitops;
+pub mod conditions;
 mod eq;
 pub mod intersect_by_rank;
 pub mod laws;
@@ -9,9 +10,9 @@ mod mask;
 
 pub use mask::{
     AllOr, Fraction, Mask, MaskBoolIter, MaskError, MaskIter, MaskSetIndices, MaskSetSlices,
-    MaskValues, MaskValuesRef,
+    MaskValues, MaskValuesRef, index_fault, range_fault,
 };
 
-// It puts rows into a `Room`, which `mask_bits` hides. It serves `mask_c` alone.
+// They put rows into a `Room`, which `mask_bits` hides. They serve `mask_c` alone.
 #[doc(hidden)]
-pub use mask::choose_rows;
+pub use mask::{choose_rows, choose_small_rows};

@@ -69,14 +69,13 @@ impl PartialEq<Bitmap<'_>> for Bitmap<'_> {
             return false;
         }
         // (bytes that lie alike are compared as bytes are, which the platform does in its best way)
-        let (left, right, whole) = match (self.whole_bytes(), other.whole_bytes()) {
-            (Some(left), Some(right)) => (left, right, 8 * left.len()),
-            _ => (&[][..], &[][..], 0),
+        let whole = match (self.whole_bytes(), other.whole_bytes()) {
+            (Some(left), Some(right)) if left != right => return false,
+            (Some(left), Some(_)) => 8 * left.len(),
+            _ => 0,
         };
-        let rest = whole..self.len;
-        let (first, second) = (self.part(rest.clone()), other.part(rest));
-        left == right
-            && (first.is_empty() || first.compared(second, mask_c::row_mask_equal) == Ok(true))
+        let (first, second) = (self.part(whole..self.len), other.part(whole..self.len));
+        first.is_empty() || first.compared(second, mask_c::row_mask_equal) == Ok(true)
     }
 }
 

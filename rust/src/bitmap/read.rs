@@ -12,6 +12,7 @@ pub(crate) const INDICES_OF_A_BLOCK: usize = 256;
 impl<'a> Bitmap<'a> {
     /// How many values are true.
     #[must_use]
+    #[doc(alias("true_count", "count_set_bits", "count_ones"))]
     pub fn count(self) -> usize {
         call!(row_mask_count(self))
     }
@@ -86,6 +87,7 @@ impl<'a> Bitmap<'a> {
 
     /// The index of true value number `n`, counted from 0.
     #[must_use]
+    #[doc(alias = "limit")]
     pub fn select(self, n: usize) -> Option<usize> {
         self.inside(call!(row_mask_select(self, n)))
     }
@@ -187,6 +189,7 @@ impl<'a> Bitmap<'a> {
     /// # Ok::<(), row_mask::Error>(())
     /// ```
     #[must_use]
+    #[doc(alias("set_indices", "iter_ones"))]
     pub fn indices(self) -> Indices<'a> {
         Indices::new(self)
     }
@@ -200,6 +203,7 @@ impl<'a> Bitmap<'a> {
     /// # Ok::<(), row_mask::Error>(())
     /// ```
     #[must_use]
+    #[doc(alias = "set_slices")]
     pub fn runs(self) -> Runs<'a> {
         Runs::new(self)
     }

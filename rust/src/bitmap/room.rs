@@ -1,6 +1,7 @@
 //! What a bitmap can be written into.
 
 use crate::buf::pack_values;
+use crate::kit::List;
 use crate::{BitmapBuf, Error};
 use alloc::vec::Vec;
 use core::mem::MaybeUninit;
@@ -112,8 +113,6 @@ pub(crate) unsafe fn list_of<T>(
     fill: impl FnOnce(&mut [MaybeUninit<T>]),
 ) -> Result<Vec<T>, Error> {
     let mut list = Vec::new();
-    let refused = Error::OutOfMemory { bytes: count.saturating_mul(size_of::<T>()) };
-    list.try_reserve_exact(count).map_err(|_| refused)?;
     // SAFETY: this is what is asked here too.
     unsafe { append_to(&mut list, count, fill)? };
     Ok(list)
@@ -129,13 +128,22 @@ pub(crate) unsafe fn append_to<T>(
     count: usize,
     fill: impl FnOnce(&mut [MaybeUninit<T>]),
 ) -> Result<(), Error> {
-    let len = list.len().saturating_add(count);
-    let refused = Error::OutOfMemory { bytes: len.saturating_mul(size_of::<T>()) };
-    list.try_reserve(count).map_err(|_| refused)?;
+    reserve(list, count)?;
     fill(&mut list.spare_capacity_mut()[..count]);
     // SAFETY: so many places were reserved, and are written.
-    unsafe { list.set_len(len) };
+    unsafe { list.set_len(list.len() + count) };
     Ok(())
+}
+
+/// Has memory for `count` items more, if there is some: in a list that has none, for just these.
+pub(crate) fn reserve<T>(list: &mut Vec<T>, count: usize) -> Result<(), Error> {
+    let made = if list.capacity() == 0 {
+        Vec::with_room(count).map(|made| *list = made).is_ok()
+    } else {
+        list.try_reserve(count).is_ok()
+    };
+    let bytes = list.len().saturating_add(count).saturating_mul(size_of::<T>());
+    if made { Ok(()) } else { Err(Error::OutOfMemory { bytes }) }
 }
 
 /// The first `needed` places, for what writes each of them.

@@ -1,22 +1,20 @@
 //! What a bitmap of its own bytes is made of.
 
 use super::pack::{AHEAD, pack, pack_fn};
-use crate::bitmap::{Room, as_bytes, init, range_within, room_for};
+use crate::bitmap::{Room, as_bytes, init, range_within, reserve, room_for};
+use crate::kit::filled;
 use crate::proved::mask_c::{row_mask_append, row_mask_fill_range, row_mask_from_indices};
 use crate::{Bitmap, BitmapBuf, Error};
-use alloc::alloc::{Layout, alloc_zeroed};
-use alloc::boxed::Box;
 use alloc::vec;
 use alloc::vec::Vec;
 use core::mem::MaybeUninit;
 use core::ops::Range;
-use core::ptr;
 
 impl BitmapBuf {
     // The `len` values that `fill` writes into room for them.
     // SAFETY of a call: it writes each byte that it gets.
     pub(crate) unsafe fn made(len: usize, fill: impl FnOnce(&mut [MaybeUninit<u8>])) -> BitmapBuf {
-        let mut made = BitmapBuf::default();
+        let mut made = BitmapBuf::with_capacity(len);
         // SAFETY: as is asked here too; there is no last byte.
         unsafe { made.add(len, fill) };
         made
@@ -49,9 +47,8 @@ impl BitmapBuf {
 
     // Has memory for `len` values in all, if there is some.
     pub(crate) fn make_room(&mut self, len: usize) -> Result<(), Error> {
-        let bytes = room_for(len);
-        let more = bytes.saturating_sub(self.bytes.len());
-        self.bytes.try_reserve(more).map_err(|_| Error::OutOfMemory { bytes })
+        let more = room_for(len).saturating_sub(self.bytes.len());
+        reserve(&mut self.bytes, more)
     }
 
     // Adds false values up to `len`, where there are not as many, if there is memory.
@@ -353,22 +350,9 @@ impl BitmapBuf {
     }
 }
 
-// So many bytes, all of them 0, if there is memory. As of `vec![0; size]`, those of a large size are made by the
-// platform, when they are first touched.
-fn zeros(size: usize) -> Result<Vec<u8>, Error> {
-    let refused = Error::OutOfMemory { bytes: size };
-    let layout = Layout::array::<u8>(size).map_err(|_| refused)?;
-    if size == 0 {
-        return Ok(Vec::new());
-    }
-    // SAFETY: the size isn't 0.
-    let bytes = unsafe { alloc_zeroed(layout) };
-    if bytes.is_null() {
-        return Err(refused);
-    }
-    // SAFETY: so many bytes, which are written, are there by the layout of a slice of them.
-    let bytes = unsafe { Box::from_raw(ptr::slice_from_raw_parts_mut(bytes, size)) };
-    Ok(bytes.into_vec())
+// So many bytes, all of them 0, if there is memory.
+fn zeros(bytes: usize) -> Result<Vec<u8>, Error> {
+    filled(0, bytes).map_err(|_| Error::OutOfMemory { bytes })
 }
 
 impl From<Bitmap<'_>> for BitmapBuf {

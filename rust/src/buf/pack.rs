@@ -7,19 +7,21 @@ use crate::kit::by_level;
 use crate::proved::mask_bits::from_rows::{word_of_rows, word_of_whole};
 use crate::proved::mask_c;
 use core::mem::MaybeUninit;
+use core::slice;
 
 // Bytes that are asked for ahead by a number that nothing has borne out yet, such as an iterator's hint.
 pub(super) const AHEAD: usize = 1 << 20;
 
 // Values that are asked for before they are packed: a multiple of 64, in the nearest memory.
 const BLOCK: usize = 512;
+type Block = [MaybeUninit<u16>; BLOCK];
 
 /// Takes values, as many as there are or as the block has places, and answers how many these are.
 #[inline]
-fn take(block: &mut [u16; BLOCK], values: impl Iterator<Item = bool>) -> usize {
+fn take(block: &mut Block, values: impl Iterator<Item = bool>) -> usize {
     let mut count = 0;
     for (place, value) in block.iter_mut().zip(values) {
-        *place = value.into();
+        place.write(value.into());
         count += 1;
     }
     count
@@ -27,12 +29,18 @@ fn take(block: &mut [u16; BLOCK], values: impl Iterator<Item = bool>) -> usize {
 
 /// The same of at most `most` values.
 #[inline]
-fn take_most(
-    block: &mut [u16; BLOCK],
-    values: &mut impl Iterator<Item = bool>,
-    most: usize,
-) -> usize {
+fn take_most(block: &mut Block, values: &mut impl Iterator<Item = bool>, most: usize) -> usize {
     if most < BLOCK { take(block, values.take(most)) } else { take(block, values) }
+}
+
+/// What was taken.
+///
+/// # Safety
+///
+/// Each place was written.
+unsafe fn taken(block: &[MaybeUninit<u16>]) -> &[u16] {
+    // SAFETY: it is the same slice, and the rest is asked here.
+    unsafe { slice::from_raw_parts(block.as_ptr().cast(), block.len()) }
 }
 
 /// Writes each byte of the values.
@@ -48,10 +56,11 @@ pub(crate) fn pack_fn(
     mut value: impl FnMut(usize) -> bool,
     out: &mut [MaybeUninit<u8>],
 ) {
-    let mut block = [0; BLOCK];
+    let mut block = [MaybeUninit::uninit(); BLOCK];
     for (out, start) in out.chunks_mut(BLOCK / 8).zip((0..len).step_by(BLOCK)) {
         let count = take(&mut block, (start..len.min(start + BLOCK)).map(&mut value));
-        pack_rows(&block[..count], |it| *it != 0, out);
+        // SAFETY: so many were taken.
+        pack_rows(unsafe { taken(&block[..count]) }, |it| *it != 0, out);
     }
 }
 
@@ -62,13 +71,14 @@ pub(crate) fn pack_values(
     len: usize,
     out: &mut [MaybeUninit<u8>],
 ) {
-    let (mut block, mut left) = ([0; BLOCK], len);
+    let (mut block, mut left) = ([MaybeUninit::uninit(); BLOCK], len);
     for out in out.chunks_mut(BLOCK / 8) {
         let (count, most) = (take_most(&mut block, values, left), left.min(BLOCK));
         if let Some(missing) = block.get_mut(count..most) {
-            missing.fill(0);
+            missing.fill(MaybeUninit::new(0));
         }
-        pack_rows(&block[..most], |it| *it != 0, out);
+        // SAFETY: so many were taken or filled.
+        pack_rows(unsafe { taken(&block[..most]) }, |it| *it != 0, out);
         left -= most;
     }
 }
@@ -104,15 +114,15 @@ impl BitmapBuf {
 
     /// Adds at most `most` values behind the last one, where the last byte has eight.
     pub(crate) fn add_blocks(&mut self, values: &mut impl Iterator<Item = bool>, most: usize) {
-        let (mut block, mut left) = ([0; BLOCK], most);
+        let (mut block, mut left) = ([MaybeUninit::uninit(); BLOCK], most);
         loop {
             if self.bytes.capacity() - self.bytes.len() < BLOCK / 8 {
                 // (a hint that was right for so long: if it is refused, room is made for what comes)
                 let _ = self.bytes.try_reserve(room_for(values.size_hint().0.min(left)));
             }
             let count = take_most(&mut block, values, left);
-            // SAFETY: it writes each byte, and the last byte has eight values.
-            unsafe { self.add(count, |out| pack_rows(&block[..count], |it| *it != 0, out)) };
+            // SAFETY: so many were taken; it writes each byte, and the last byte has eight values.
+            unsafe { self.add(count, |out| pack_rows(taken(&block[..count]), |it| *it != 0, out)) };
             left -= count;
             if count < BLOCK {
                 return;

@@ -2,7 +2,6 @@
 #![allow(clippy::inline_always, reason = "a copy is compiled for what the function around it has")]
 
 use crate::proved::mask_bits::BitBuffer;
-use crate::proved::vortex_mask::Mask;
 
 /// Stops where a condition isn't met.
 ///
@@ -67,12 +66,6 @@ pub(crate) fn are_within(bytes: &[u8], offset: usize, len: usize) -> bool {
 /// Whether these are indices of so many true values of a list with `values` of them.
 pub(crate) fn are_ranks(ranks: &[usize], values: usize, count: usize) -> bool {
     ascends(ranks) && ranks.len() == count && ranks.last().is_none_or(|last| *last < values)
-}
-
-/// Whether each mask has a value for each true value of the one before it.
-pub(crate) fn are_a_stack(first: &Mask, masks: &[Mask]) -> bool {
-    let counts = core::iter::once(first).chain(masks).map(Mask::true_count);
-    counts.zip(masks).all(|(count, mask)| count == mask.len())
 }
 
 /// Whether ranges hold exactly the true values: each isn't empty and ends at most where the next begins.

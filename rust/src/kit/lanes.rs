@@ -1,8 +1,8 @@
 //! Lanes: numbers side by side that are computed with at once, under the names of Rust's portable `std::simd`. Sums,
 //! differences and products wrap. A shift is by one count for all lanes: `lanes << u8x16::every(3)`.
 //!
-//! On x86-64 they lie in registers, as far as a program is compiled for these, and elsewhere in arrays. With
-//! `--cfg row_mask_arrays` they lie in arrays everywhere.
+//! On x86-64 they lie in registers, as far as a program is compiled for these, and so on 64-bit ARM whose words begin with
+//! the lowest byte. Elsewhere they lie in arrays, and with `--cfg row_mask_arrays` everywhere.
 
 #![allow(non_camel_case_types, reason = "they are the names of `std::simd`")]
 #![allow(clippy::inline_always, reason = "a call is a few instructions of its caller")]
@@ -121,17 +121,24 @@ macro_rules! casts {
 }
 
 mod arrays;
+#[cfg(all(target_arch = "aarch64", target_endian = "little", not(row_mask_arrays)))]
+mod neon;
 #[cfg(all(target_feature = "sse2", target_pointer_width = "64", not(row_mask_arrays)))]
 mod sse;
 #[cfg(test)]
 mod tests;
 
-#[cfg(not(all(target_feature = "sse2", target_pointer_width = "64", not(row_mask_arrays))))]
-#[allow(unused_imports, reason = "tests take all of them")]
-pub use arrays::{u8x8, u8x16, u8x64, u16x8, u16x16, u32x4, u32x8, u64x2, usizex8};
+#[cfg(not(any(
+    all(target_arch = "aarch64", target_endian = "little", not(row_mask_arrays)),
+    all(target_feature = "sse2", target_pointer_width = "64", not(row_mask_arrays)),
+)))]
+use arrays as taken;
+#[cfg(all(target_arch = "aarch64", target_endian = "little", not(row_mask_arrays)))]
+use neon as taken;
 #[cfg(all(target_feature = "sse2", target_pointer_width = "64", not(row_mask_arrays)))]
+use sse as taken;
 #[allow(unused_imports, reason = "tests take all of them")]
-pub use sse::{u8x8, u8x16, u8x64, u16x8, u16x16, u32x4, u32x8, u64x2, usizex8};
+pub use taken::{u8x8, u8x16, u8x64, u16x8, u16x16, u32x4, u32x8, u64x2, usizex8};
 
 /// By how many bits all lanes are shifted.
 #[derive(Clone, Copy)]

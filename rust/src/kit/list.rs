@@ -1,7 +1,7 @@
 //! Lists whose growth is refused by an error.
 
 use super::AllocError;
-use alloc::alloc::{Layout, alloc_zeroed, realloc};
+use alloc::alloc::{Layout, alloc, alloc_zeroed, realloc};
 use alloc::vec::Vec;
 use core::mem::{self, ManuallyDrop};
 
@@ -44,9 +44,18 @@ pub trait List<T>: Sized {
 impl<T> List<T> for Vec<T> {
     #[inline]
     fn with_room(count: usize) -> Result<Vec<T>, AllocError> {
-        let mut list = Vec::new();
-        list.try_reserve_exact(count).map_err(|_| AllocError)?;
-        Ok(list)
+        let layout = Layout::array::<T>(count).map_err(|_| AllocError)?;
+        if layout.size() == 0 {
+            return Ok(Vec::new());
+        }
+        // (Rust's own call is made for lists that grow, and takes longer)
+        // SAFETY: the size isn't 0.
+        let items = unsafe { alloc(layout) };
+        if items.is_null() {
+            return Err(AllocError);
+        }
+        // SAFETY: the allocator gave them for the layout of so many items, and none is there yet.
+        Ok(unsafe { Vec::from_raw_parts(items.cast(), 0, count) })
     }
 
     #[inline]

@@ -2,6 +2,8 @@
 //! and PEXT where these are quick.
 #![allow(clippy::inline_always, reason = "each is compiled for what the function around it has")]
 
+use crate::proved::mask_bits::room::Room;
+use crate::proved::mask_bits::small_rows::{ByTable, MoveRows};
 use crate::proved::vortex_mask::intersect_by_rank as proved;
 #[cfg(target_arch = "x86_64")]
 pub(crate) use by_instruction::{Bmi2, extract, put_pairs};
@@ -75,6 +77,57 @@ pub(crate) use quickest;
 #[inline]
 pub(crate) fn by_loop(len: usize, true_count: usize) -> bool {
     !has_quick_bits() && proved::deposits_by_loop(len, true_count)
+}
+
+/// Whether a program is compiled for an instruction that moves the bytes of a register to places that another one has.
+const MOVES_BY_TABLE: bool = cfg!(all(target_feature = "ssse3", not(row_mask_arrays)));
+
+/// Whether several rows of one byte are moved at once: by that instruction, or by PEXT.
+#[inline(always)]
+pub(crate) fn moves_bytes() -> bool {
+    MOVES_BY_TABLE || has_quick_bits()
+}
+
+/// Whether several rows of four bytes are: by an instruction of x86-64-v3.
+#[inline(always)]
+pub(crate) fn moves_fours() -> bool {
+    #[cfg(target_arch = "x86_64")]
+    return cfg!(target_feature = "avx2") || has_v3();
+    #[cfg(not(target_arch = "x86_64"))]
+    return false;
+}
+
+/// What moves them, where the answer is yes.
+pub(crate) struct Moved;
+
+impl MoveRows<u8> for Moved {
+    #[inline(always)]
+    fn push_byte<R: Room<u8>>(out: &mut R, rows: &[u8], byte: u8) {
+        #[cfg(target_arch = "x86_64")]
+        if !MOVES_BY_TABLE {
+            return push_first(out, by_instruction::bytes_at(rows, byte), byte);
+        }
+        ByTable::push_byte(out, rows, byte);
+    }
+}
+
+#[cfg(target_arch = "x86_64")]
+impl MoveRows<[u8; 4]> for Moved {
+    #[inline(always)]
+    fn push_byte<R: Room<[u8; 4]>>(out: &mut R, rows: &[[u8; 4]], byte: u8) {
+        push_first(out, by_instruction::fours_at(rows, byte), byte);
+    }
+}
+
+/// Puts as many of eight rows as the byte has bits.
+#[cfg(target_arch = "x86_64")]
+#[inline(always)]
+fn push_first<T: Copy, R: Room<T>>(out: &mut R, rows: [T; 8], byte: u8) {
+    let end = out.count() + byte.count_ones() as usize;
+    for row in rows {
+        out.put(row);
+    }
+    out.cut(end);
 }
 
 /// Whether the processor has x86-64-v3, where a program isn't compiled for that anyway.
@@ -175,10 +228,15 @@ mod by_instruction {
     //! the processor. Nothing here runs unless `has_quick_bits` answers yes.
 
     use crate::proved::mask_bits::BitChunks;
+    use crate::proved::mask_bits::byte_places::places_of;
     use crate::proved::mask_bits::choose_values::LastChosen;
     use crate::proved::vortex_mask::intersect_by_rank::{DepositBits, SelectBit};
-    use core::arch::x86_64::{_pdep_u64, _pext_u64};
+    use core::arch::x86_64::{
+        _mm_cvtsi64_si128, _mm256_cvtepu8_epi32, _mm256_loadu_si256, _mm256_permutevar8x32_epi32,
+        _mm256_storeu_si256, _pdep_u64, _pext_u64,
+    };
     use core::hint::{black_box, select_unpredictable};
+    use core::mem::MaybeUninit;
 
     /// Deposits and selections by PDEP.
     pub(crate) struct Bmi2;
@@ -208,7 +266,37 @@ mod by_instruction {
         unsafe { _pext_u64(source, mask) }
     }
 
-    /// The same of all pairs of whole words, put one behind another: as the proved loop of this name, but with no branch
+    /// The rows of one byte at the set bits of a byte, and zeros behind them: PEXT takes the bytes of one number at the
+    /// bytes that are set in another, which PDEP and a product make of the bits.
+    #[inline(always)]
+    pub(super) fn bytes_at(rows: &[u8], byte: u8) -> [u8; 8] {
+        const LOWEST: u64 = u64::from_le_bytes([1; 8]);
+        let rows = u64::from_le_bytes(*rows.first_chunk().expect("eight rows"));
+        // SAFETY: the processor has it, as is asked before.
+        let places = 0xFF * unsafe { _pdep_u64(byte.into(), LOWEST) };
+        extract(rows, places).to_le_bytes()
+    }
+
+    /// The rows of four bytes at the set bits of a byte, and others behind them: VPERMD takes those at the places of the
+    /// bits.
+    #[inline(always)]
+    pub(super) fn fours_at<T: Copy>(rows: &[T], byte: u8) -> [T; 8] {
+        const { assert!(size_of::<T>() == 4) };
+        let rows: &[T; 8] = rows.first_chunk().expect("eight rows");
+        let places = u64::from_le_bytes(places_of(byte).to_array());
+        let mut moved = MaybeUninit::<[T; 8]>::uninit();
+        // SAFETY: the processor has the instructions, as is asked before, and eight rows are as many bytes as a register
+        // has. Each of those moved is one of them.
+        unsafe {
+            let rows = _mm256_loadu_si256(rows.as_ptr().cast());
+            let places = _mm256_cvtepu8_epi32(_mm_cvtsi64_si128(places.cast_signed()));
+            let rows = _mm256_permutevar8x32_epi32(rows, places);
+            _mm256_storeu_si256(moved.as_mut_ptr().cast(), rows);
+            moved.assume_init()
+        }
+    }
+
+    /// The bits of all pairs of whole words, put one behind another: as the proved loop of this name, but with no branch
     /// that would be guessed wrong.
     #[inline(always)]
     pub(crate) fn put_pairs(

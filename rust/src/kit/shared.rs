@@ -1,7 +1,6 @@
 //! Values that are shared, and clones that may be refused.
 
 use super::{AllocError, AllocFailed};
-use alloc::boxed::Box;
 use alloc::sync::Arc;
 use alloc::vec::Vec;
 
@@ -76,13 +75,4 @@ impl<T> TryClone for Arc<T> {
 #[inline]
 pub fn shared<T>(value: T) -> Result<Arc<T>, AllocFailed<T>> {
     Ok(Arc::new(value))
-}
-
-/// A value in a place of its own.
-///
-/// # Errors
-/// None: Rust's `Box` aborts where memory is refused.
-#[inline]
-pub fn boxed<T>(value: T) -> Result<Box<T>, AllocFailed<T>> {
-    Ok(Box::new(value))
 }

@@ -3,17 +3,18 @@
 
 use crate::kit::prelude::*;
 mod bitops;
+pub mod conditions;
 mod eq;
 pub mod intersect_by_rank;
 mod mask;
 
 pub use mask::{
     AllOr, Fraction, Mask, MaskBoolIter, MaskError, MaskIter, MaskSetIndices, MaskSetSlices,
-    MaskValues, MaskValuesRef,
+    MaskValues, MaskValuesRef, index_fault, range_fault,
 };
 
-// It puts rows into a `Room`, which `mask_bits` hides. It serves `mask_c` alone.
+// They put rows into a `Room`, which `mask_bits` hides. They serve `mask_c` alone.
 #[doc(hidden)]
-pub use mask::choose_rows;
+pub use mask::{choose_rows, choose_small_rows};
 
 pub mod tested;

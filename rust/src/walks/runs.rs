@@ -23,7 +23,7 @@ impl<'a> Runs<'a> {
 impl Iterator for Runs<'_> {
     type Item = Range<usize>;
 
-    #[inline]
+    #[inline(always)]
     fn next(&mut self) -> Option<Range<usize>> {
         let run = self.walk.next().map(|(start, end)| self.first + start..self.first + end);
         self.next = run.as_ref().map_or(self.bitmap.len(), |run| run.end);

@@ -1,24 +1,43 @@
-//! The rows of the crates `mask_calls` and `mask_tests` on the calls of this package. As a test it makes the calls of
-//! each row that `rows.txt` has. With the arguments `rows stdin`, `sweep stdin` or `refused stdin` it takes rows from
-//! standard input, as the program `mask_tests` does.
+//! The rows of the crate `mask_tests` on the calls of this package. As a test it makes the calls of each row that
+//! `rows.txt` has. With the arguments `rows stdin`, `sweep stdin` or `refused stdin` it takes rows from standard input, as
+//! the program `mask_tests` does.
 #![allow(clippy::all, clippy::pedantic, dead_code, unused_imports, unused_variables)]
 
 #[path = "../host/mod.rs"]
 mod host;
 
-mod mask_calls;
+mod bits;
+mod builder;
+mod call;
+mod fault;
+mod held;
+mod kernels;
+mod lines;
+mod listed;
+mod mask_word;
+mod masks;
+mod mixed;
+mod operands;
+mod others;
+mod packed;
 mod refused;
 mod rows;
-mod sweep;
+mod tell;
+mod tested;
+mod text;
+mod walks;
+mod words;
+mod written;
 
 use crate::host::{Host, HostRuntime, Kept, io};
+use crate::text::Detail;
 use std::process::ExitCode;
 
 fn main() -> ExitCode {
     let words: Vec<String> = std::env::args().skip(1).collect();
     let wrong = match words.iter().map(String::as_str).collect::<Vec<_>>()[..] {
-        ["rows", "stdin"] => rows::check(&HostRuntime),
-        ["sweep", "stdin"] => sweep::check(&HostRuntime),
+        ["rows", "stdin"] => rows::check(&HostRuntime, Detail::Short),
+        ["sweep", "stdin"] => rows::check(&HostRuntime, Detail::Whole),
         ["refused", "stdin"] => refused::check(&HostRuntime),
         _ => all_rows(),
     };
@@ -31,7 +50,7 @@ fn main() -> ExitCode {
 
 fn all_rows() -> io::Result<usize> {
     let kept = Kept::new(include_str!("rows.txt"));
-    let wrong = rows::check(&kept)?;
+    let wrong = rows::check(&kept, Detail::Short)?;
     HostRuntime.print_line(format_args!("{}", kept.printed.borrow()))?;
     Ok(wrong)
 }

@@ -4,9 +4,11 @@
 //! was refused is made once more behind `calls again`. Between `calls` and the next line nothing but the call asks for
 //! memory. The script misses a line that can't be written.
 
+use crate::call::Call;
 use crate::host::{AllocGlobal, Input, Print};
 use crate::host::{BufRead, BufReader, io};
-use crate::mask_calls::{Call, Row, Text};
+use crate::rows::Row;
+use crate::text::{Detail, Text};
 use row_mask::kit::prelude::*;
 
 /// Makes the call of each row.
@@ -26,7 +28,7 @@ fn say_of<R: Print>(rt: &R, what: &str, of: &str) {
 }
 
 fn check_line<R: Print + AllocGlobal>(rt: &R, line: &str) {
-    match Row::read(line, " -> ") {
+    match Row::read(line, Detail::Whole) {
         Some(row) => check_row(rt, row),
         None => say_of(rt, "wrong: no row:", line),
     }

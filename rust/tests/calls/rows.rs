@@ -1,62 +1,129 @@
 // Made of crates/mask_tests/src/rows.rt by `rust/erase`: change that, and make this anew.
-//! Each row as it stands: its calls are made once on operands that nobody else holds, and once while a clone of each is
-//! held. Operands that a call only borrows must read the same afterwards.
+//! Rows: a line each, of calls, their operands and what they answer. Each call is made once on operands that nobody else
+//! holds, and once while a clone of each is held. Operands that it only borrows must read the same afterwards.
 
+use crate::call::Call;
 use crate::host::{AllocGlobal, Input, Print};
-use crate::host::{BufRead, BufReader, io};
-use crate::mask_calls::{Detail, Row};
+use crate::tell::{Tell, tell_fault};
+use crate::text::{Detail, Text};
 use row_mask::kit::prelude::*;
 
-/// Makes the calls of each row, says which answer otherwise, and how many rows there are. How many calls were wrong.
-pub(crate) fn check<R: Input + Print + AllocGlobal>(rt: &R) -> io::Result<usize> {
-    let (mut rows, mut wrong) = (0usize, 0usize);
+use crate::host::{BufRead, BufReader, io};
+
+/// A line such as `slice 10110 1 4 -> 011 Values`, or `limit,to_limited 01101 2 -> 01100 Values` of two calls that
+/// answer the same. With `=>` it doesn't say what masks have cached, and has each list whole.
+#[derive(Clone, Copy)]
+pub(crate) struct Row<'a> {
+    /// The names of the calls, with a comma between two.
+    pub names: &'a str,
+    /// The operands.
+    pub words: &'a str,
+    /// The answer of each.
+    pub want: &'a str,
+    detail: Detail,
+}
+
+impl<'a> Row<'a> {
+    /// The parts of a line, in which `->` stands for so much detail.
+    pub fn read(line: &'a str, detail: Detail) -> Option<Row<'a>> {
+        let (mark, detail) =
+            if line.contains(" => ") { (" => ", Detail::Lists) } else { (" -> ", detail) };
+        let (call, want) = line.split_once(mark)?;
+        let (names, words) = call.split_once(" ")?;
+        Some(Row { names, words, want, detail })
+    }
+
+    // What is wrong with the call of this name: its answer where another one is wanted, or else what operands that it
+    // leaves as they are have become.
+    fn fault(self, name: &str, is_shared: bool) -> Option<Text> {
+        let mut answer = Text::new(self.detail);
+        let change = match Call::read(name, self.words) {
+            Ok(call) => change(call, is_shared, &mut answer),
+            Err(fault) => {
+                tell_fault(&mut answer, fault);
+                None
+            }
+        };
+        if answer.says(self.want) { change } else { Some(answer) }
+    }
+}
+
+// Tells the answer, and what the call changed in place. What it should leave as it was, if that has changed.
+fn change(call: Call<'_>, is_shared: bool, answer: &mut Text) -> Option<Text> {
+    let mut call = call;
+    if is_shared {
+        call.operands.hold().tell(answer);
+    }
+    let before = call.kept(false);
+    call.run(answer);
+    call.operands.write_changed(answer);
+    let after = call.kept(false);
+    if before.says(after.as_str()) { None } else { Some(after) }
+}
+
+// What was counted.
+struct Count {
+    rows: usize,
+    calls: usize,
+    wrong: usize,
+}
+
+// How many wrong answers are told.
+const MOST: usize = 20;
+
+/// Makes the calls of each row, says which answer otherwise, and how many there are. How many were wrong.
+pub(crate) fn check<R: Input + Print + AllocGlobal>(rt: &R, detail: Detail) -> io::Result<usize> {
+    let mut count = Count { rows: 0, calls: 0, wrong: 0 };
     for line in BufReader::new(rt.reader())?.lines() {
-        let line = line?;
-        if is_row(line.as_str()) {
-            rows = rows.saturating_add(1);
-            wrong = wrong.saturating_add(check_line(rt, line.as_str())?);
-        }
+        check_line(rt, &mut count, line?.as_str(), detail)?;
     }
-    crate::host::println!(rt; "{rows} rows, {wrong} wrong")?;
-    Ok(wrong)
+    crate::host::println!(rt; "{} rows, {} calls, {} wrong",
+        count.rows, count.calls, count.wrong
+    )?;
+    Ok(count.wrong)
 }
 
-// All lines but empty ones and comments.
-fn is_row(line: &str) -> bool {
-    !matches!(line.as_bytes(), [] | [b'#', ..])
-}
-
-fn check_line<R: Print + AllocGlobal>(rt: &R, line: &str) -> io::Result<usize> {
-    match Row::read(line, " -> ") {
-        Some(row) => check_row(rt, row),
+// Empty lines and comments are no rows.
+fn check_line<R: Print + AllocGlobal>(
+    rt: &R,
+    count: &mut Count,
+    line: &str,
+    detail: Detail,
+) -> io::Result<()> {
+    if matches!(line.as_bytes(), [] | [b'#', ..]) {
+        return Ok(());
+    }
+    count.rows = count.rows.saturating_add(1);
+    match Row::read(line, detail) {
+        Some(row) => check_row(rt, count, row),
         None => {
-            crate::host::println!(rt; "no row: {line}")?;
-            Ok(1)
+            count.wrong = count.wrong.saturating_add(1);
+            crate::host::println!(rt; "no row: {line}")
         }
     }
 }
 
-fn check_row<R: Print + AllocGlobal>(rt: &R, row: Row<'_>) -> io::Result<usize> {
-    let mut wrong = 0usize;
+fn check_row<R: Print + AllocGlobal>(rt: &R, count: &mut Count, row: Row<'_>) -> io::Result<()> {
     for name in row.names.split(',') {
-        for is_shared in [false, true] {
-            wrong = wrong.saturating_add(check_call(rt, name, row, is_shared)?);
-        }
+        check_call(rt, count, name, row, false)?;
+        check_call(rt, count, name, row, true)?;
     }
-    Ok(wrong)
+    Ok(())
 }
 
 fn check_call<R: Print + AllocGlobal>(
     rt: &R,
+    count: &mut Count,
     name: &str,
     row: Row<'_>,
     is_shared: bool,
-) -> io::Result<usize> {
-    match row.fault(name, Detail::Short, is_shared) {
-        None => Ok(0),
-        Some(fault) => {
+) -> io::Result<()> {
+    count.calls = count.calls.saturating_add(1);
+    if let Some(fault) = row.fault(name, is_shared) {
+        count.wrong = count.wrong.saturating_add(1);
+        if count.wrong <= MOST {
             crate::host::println!(rt; "{name} {}: {} for {}", row.words, fault.as_str(), row.want)?;
-            Ok(1)
         }
     }
+    Ok(())
 }

@@ -3,6 +3,7 @@
 use crate::MANY;
 use crate::memory::limit;
 use row_mask::{BitBuffer, BitBufferMut, BitmapBuf, Mask, Selection};
+use std::hint::black_box;
 use std::os::unix::process::ExitStatusExt;
 use std::process::Command;
 use std::{env, iter};
@@ -24,7 +25,7 @@ fn call_that_aborts(name: &str) {
         "to_words" => rows.to_words().len(),
         "not" => (!rows).len(),
         "to_string" => rows.to_string().len(),
-        "clone" => many.clone().len(),
+        "clone" => black_box(many.clone()).len(),
         "collect" => iter::repeat_n(true, usize::MAX).collect::<BitmapBuf>().len(),
         "append" => {
             let (mut longer, three) = (many, BitmapBuf::all_true(9));

@@ -227,6 +227,7 @@ fn places_past_the_end() {
         let outside = Error::OutOfBytes { bytes: 2, offset: n, len: n };
         assert_eq!(refused(|| Bitmap::new(&bytes, n, n)), outside);
         assert_eq!(refused(|| BitmapBuf::from_vec(bytes.to_vec(), n, n)), outside);
+        #[cfg(target_endian = "little")]
         assert!(within(LITTLE, || Bitmap::from_words(&[], n)).is_err());
         assert_eq!((rows.get(n), rows.select(n), rows.next_index(n)), (None, None, None));
         assert_eq!((rows.next_run(n), rows.next_indices(n, &mut [0; 9])), (None, 0));

@@ -1,6 +1,6 @@
 -- What holds of lists combined value by value: the laws of truth values, at each place.
 use Rattle.std.proofs.Common.{◌≡◌, ℕ, zero, suc, ◌<◌, Bool, true, false, not, ◌&&◌, ◌||◌, List, [], ◌∷◌, ◌++◌, length, get_or, take, map, refl, ap, arith}
-use Rattle.std.proofs.lemmas.List.{map-id, get_or_past}
+use Rattle.std.proofs.lemmas.List.{map-id}
 use Rattle.mask_bits.specs.Laws.Boolean.{IsFreeOfOrder, DistributesOver, Absorbs, HasComplements, AndNotIsAndOfNot, KeepsLength}
 use Rattle.mask_bits.specs.Laws.RankIntersection.{RankIntersectionOfAnd, RankIntersectionOfNot}
 use Rattle.mask_bits.specs.Lists.{combined, and_of, or_of, not_of, and_not_of}
@@ -55,10 +55,6 @@ combined_itself (x ∷ a) = ap (λ (xs : List Bool). not x ∷ xs) (combined_its
 pub get_or-combined : (f : Bool → Bool → Bool) (a b : List Bool) (i : ℕ) (d : Bool) → i < length a → length a ≡ length b → get_or (combined f a b) i d ≡ f (get_or a i d) (get_or b i d)
 get_or-combined f [] b i d h len = absurd (omega arith)
 get_or-combined f (v ∷ a) b i d h len = grind (arith, get_or-combined f a)
-
--- and past the end, where two false values make a false one
-pub value-combined : (f : Bool → Bool → Bool) (a b : List Bool) (i : ℕ) → f false false ≡ false → length a ≡ length b → get_or (combined f a b) i false ≡ f (get_or a i false) (get_or b i false)
-value-combined f a b i none len = grind (arith, get_or-combined f a b i false, get_or_past (combined f a b) i false, get_or_past a i false, get_or_past b i false, length-combined f a b len)
 
 -- ---- where one side is a list of one value
 

@@ -1,16 +1,13 @@
 -- The rows that a list chooses, by recursion on the list: those that pass a test, the first of them, rows in chunks, and rows that are truth values.
-use Rattle.std.proofs.Common.{◌≡◌, ℕ, zero, suc, Bool, true, false, List, [], ◌∷◌, ◌++◌, length, map, take, refl, ap, ◌∙◌, arith}
+use Rattle.std.proofs.Common.{◌≡◌, ℕ, Bool, true, false, List, [], ◌∷◌, ◌++◌, length, map, refl, ap, ◌∙◌, arith}
 use Rattle.std.specs.List.{filter, items_where_true}
-use Rattle.std.proofs.lemmas.List.{take-map}
-use Rattle.std.proofs.lemmas.List.Elements.{All-head, All-tail}
-use Rattle.mask_bits.specs.Laws.Parts.{PositionsOfLimit, LimitPastTheCount, LimitOfRankIntersection}
+use Rattle.mask_bits.specs.Laws.Parts.{LimitOfRankIntersection}
 use Rattle.mask_bits.specs.Laws.RankIntersection.{NarrowedByChosen, ChosenOfNarrowing}
-use Rattle.mask_bits.specs.Laws.Rows.{ChosenByTest, ChosenOfTwoChunks, ChosenOfChunks, ChosenByLimit}
+use Rattle.mask_bits.specs.Laws.Rows.{ChosenByTest, ChosenOfTwoChunks}
 use Rattle.mask_bits.specs.Lists.{and_of}
-use Rattle.mask_bits.specs.Positions.{positions}
 use Rattle.mask_bits.proofs.Lists.LawLemmas.{chosen-items_where_true, length-chosen}
-use Rattle.mask_bits.proofs.Lists.LimitLemmas.{kept, limited-kept, limited-all, length-limited}
-use Rattle.mask_bits.proofs.Lists.Places.PlaceLemmas.{positions-true, positions-false, trues, count-trues}
+use Rattle.mask_bits.proofs.Lists.LimitLemmas.{kept, limited-kept, length-limited}
+use Rattle.mask_bits.proofs.Lists.Places.PlaceLemmas.{trues, count-trues}
 use Rattle.mask_bits.proofs.Lists.RankLemmas.{narrow, rank_intersection-narrow}
 
 -- ---- rows that pass a test
@@ -33,32 +30,7 @@ items_where_true-append (r ∷ rows) more (v ∷ a) b len = grind (arith, items_
 pub chosen_of_two_chunks : {X : Type 0} → ChosenOfTwoChunks X
 chosen_of_two_chunks {X} rows more a b len = grind (arith, chosen-items_where_true, items_where_true-append)
 
-pub chosen_of_chunks : {X : Type 0} → ChosenOfChunks X
-chosen_of_chunks {X} [] all = chosen-items_where_true {X = X} [] []
-chosen_of_chunks {X} (c ∷ chunks) all = grind (arith, chosen_of_chunks chunks (All-tail (λ d. length d.0 ≡ length d.1) c chunks all), chosen_of_two_chunks, All-head)
-
 -- ---- the first of them
-
-items_where_true-kept : {X : Type 0} (rows : List X) (m : List Bool) (k : ℕ) → items_where_true (kept m k) rows ≡ take k (items_where_true m rows)
-items_where_true-kept rows [] zero = refl
-items_where_true-kept rows [] (suc k) = refl
-items_where_true-kept [] (v ∷ m) zero = grind arith
-items_where_true-kept [] (v ∷ m) (suc k) = grind arith
-items_where_true-kept (r ∷ rows) (v ∷ m) k = grind (arith, items_where_true-kept rows m)
-
-pub chosen_by_limit : {X : Type 0} → ChosenByLimit X
-chosen_by_limit {X} rows m k = grind (arith, limited-kept, chosen-items_where_true, items_where_true-kept)
-
-positions-kept : (m : List Bool) (k : ℕ) → positions (kept m k) ≡ take k (positions m)
-positions-kept [] zero = refl
-positions-kept [] (suc k) = refl
-positions-kept (v ∷ m) k = grind (arith, positions-kept m, positions-true, positions-false, take-map)
-
-pub positions_of_limit : PositionsOfLimit
-positions_of_limit m k = ap positions (limited-kept m k) ∙ positions-kept m k
-
-pub limit_past_the_count : LimitPastTheCount
-limit_past_the_count = limited-all
 
 -- ---- of a rank intersection
 

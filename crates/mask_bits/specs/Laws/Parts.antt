@@ -1,5 +1,5 @@
 -- What holds of parts, groups and limits.
-use Rattle.std.specs.Prelude.{ℕ, ◌+◌, ◌≡◌, ◌<◌, ◌≤◌, Bool, nat_eq, List, ◌∷◌, ◌++◌, length, All, take, ◌-◌, ◌*◌, ◌/◌, ◌↔◌, count_by, min, slice_range}
+use Rattle.std.specs.Prelude.{ℕ, ◌+◌, ◌≡◌, ◌<◌, ◌≤◌, Bool, nat_eq, List, ◌∷◌, ◌++◌, length, All, ◌-◌, ◌*◌, ◌/◌, ◌↔◌, count_by, min, slice_range}
 use Rattle.std.specs.Int.{div_ceil}
 use Rattle.mask_bits.specs.Lists.{limited, concat, group}
 use Rattle.mask_bits.specs.Positions.{count, repeated, positions, rank_intersection}
@@ -38,14 +38,6 @@ LimitOfLimit = (m : List Bool) (k j : ℕ) → limited (limited m k) j ≡ limit
 pub record HasLimitCount : Type 0 where
   pub len : (m : List Bool) (k : ℕ) → length (limited m k) ≡ length m
   pub count : (m : List Bool) (k : ℕ) → count (limited m k) ≡ min k (count m)
-
--- its true indices are the first k
-abbrev pub PositionsOfLimit : Type 0
-PositionsOfLimit = (m : List Bool) (k : ℕ) → positions (limited m k) ≡ take k (positions m)
-
--- a limit that the count doesn't pass changes nothing
-abbrev pub LimitPastTheCount : Type 0
-LimitPastTheCount = (m : List Bool) (k : ℕ) → count m ≤ k → limited m k ≡ m
 
 -- a limit of a rank intersection is one of the second list
 abbrev pub LimitOfRankIntersection : Type 0

@@ -1,7 +1,7 @@
 -- What holds of the rows that a list chooses.
-use Rattle.std.specs.Prelude.{ℕ, ◌≡◌, Bool, false, List, ◌++◌, length, All, IsPermutation, map, take, flat_map, true, [], slice_get, slice_range}
+use Rattle.std.specs.Prelude.{ℕ, ◌≡◌, Bool, false, List, ◌++◌, length, IsPermutation, map, flat_map, true, [], slice_get, slice_range}
 use Rattle.std.specs.List.{filter, filter_map}
-use Rattle.mask_bits.specs.Lists.{not_of, limited}
+use Rattle.mask_bits.specs.Lists.{not_of}
 use Rattle.mask_bits.specs.Positions.{count, repeated, chosen, positions}
 use Rattle.mask_bits.specs.Runs.{AreRanges}
 
@@ -29,15 +29,6 @@ ChosenByTest X = (rows : List X) (test : X → Bool) → chosen rows (map test r
 abbrev pub ChosenOfTwoChunks : Type 0 → Type 0
 ChosenOfTwoChunks X = (rows more : List X) (a b : List Bool) → length rows ≡ length a
     → chosen (rows ++ more) (a ++ b) ≡ chosen rows a ++ chosen more b
-
--- the same of any number of chunks, each a pair of rows and list
-abbrev pub ChosenOfChunks : Type 0 → Type 0
-ChosenOfChunks X = (chunks : List (List X × List Bool)) → All (λ c. length c.0 ≡ length c.1) chunks
-    → chosen (flat_map (λ c. c.0) chunks) (flat_map (λ c. c.1) chunks) ≡ flat_map (λ c. chosen c.0 c.1) chunks
-
--- a limited list chooses the first k of the chosen rows
-abbrev pub ChosenByLimit : Type 0 → Type 0
-ChosenByLimit X = (rows : List X) (m : List Bool) (k : ℕ) → chosen rows (limited m k) ≡ take k (chosen rows m)
 
 -- the rows of ranges that hold exactly the true indices, one range after another, are the chosen rows
 abbrev pub ChosenByRanges : Type 0 → Type 0

@@ -1,6 +1,6 @@
 //! Laws of `and`, `or`, and-not and complements.
 
-ghost use Rattle.mask_bits.specs.Laws.Boolean.{ValueOfAnd, ValueOfOr, ValueOfAndNot, ValueOfNot, ComplementOfAnd, ComplementOfOr, CountOfComplement, CountOfAnd, CountOfAndWithOr, CountOfAndWithAndNot, IsFreeOfOrder, DistributesOver, Absorbs, HasComplements, AndNotIsAndOfNot, KeepsLength};
+ghost use Rattle.mask_bits.specs.Laws.Boolean.{IsFreeOfOrder, DistributesOver, Absorbs, HasComplements, AndNotIsAndOfNot};
 ghost use Rattle.mask_bits.specs.Lists.{and_of, or_of};
 
 /// `and` may be sorted and grouped in any way.
@@ -40,36 +40,4 @@ pub fn complements()
 #[tactic(auto, using(crate::proofs::Lists::BooleanLemmas::and_not_is_and_of_not))]
 pub fn and_not_is_and_of_not()
     ensures same { AndNotIsAndOfNot }
-{}
-
-/// De Morgan's laws: the complement of `and` is `or` of the complements, and the other way round.
-#[tactic(auto, using(crate::proofs::Lists::BooleanValueLemmas::complement_of_and, crate::proofs::Lists::BooleanValueLemmas::complement_of_or))]
-pub fn de_morgan()
-    ensures and { ComplementOfAnd }
-    ensures or { ComplementOfOr }
-{}
-
-/// `and`, `or`, `not` and and-not of lists of one length have that length.
-#[tactic(auto, using(crate::proofs::Lists::BooleanLemmas::keeps_length))]
-pub fn keeps_length()
-    ensures lengths { KeepsLength }
-{}
-
-/// Each value of `and`, `or`, and-not and a complement, by the values at its index.
-#[tactic(auto, using(crate::proofs::Lists::BooleanValueLemmas::value_of_and, crate::proofs::Lists::BooleanValueLemmas::value_of_or, crate::proofs::Lists::BooleanValueLemmas::value_of_and_not, crate::proofs::Lists::BooleanValueLemmas::value_of_not))]
-pub fn boolean_values()
-    ensures and { ValueOfAnd }
-    ensures or { ValueOfOr }
-    ensures and_not { ValueOfAndNot }
-    ensures not { ValueOfNot }
-{}
-
-/// How many values are true: of a list and its complement, of `and`, of `and` and `or` together, and
-/// of what a second list leaves of the first and takes from it.
-#[tactic(auto, using(crate::proofs::Lists::BooleanValueLemmas::count_of_complement, crate::proofs::Lists::BooleanValueLemmas::count_of_and, crate::proofs::Lists::BooleanValueLemmas::count_of_and_with_or, crate::proofs::Lists::BooleanValueLemmas::count_of_and_with_and_not))]
-pub fn boolean_counts()
-    ensures complement { CountOfComplement }
-    ensures and { CountOfAnd }
-    ensures and_with_or { CountOfAndWithOr }
-    ensures and_with_and_not { CountOfAndWithAndNot }
 {}

@@ -1,6 +1,6 @@
 //! Laws of parts, groups and limits.
 
-ghost use Rattle.mask_bits.specs.Laws.Parts.{PositionsOfLimit, LimitPastTheCount, LimitOfRankIntersection, PartOfPart, PartOfConcat, LimitOfLimit, HasLimitCount, GroupsBeginWithin, GroupOfRepeated, IndicesLieInGroups, CountOfGroup};
+ghost use Rattle.mask_bits.specs.Laws.Parts.{LimitOfRankIntersection, PartOfPart, PartOfConcat, LimitOfLimit, HasLimitCount, GroupsBeginWithin, GroupOfRepeated, IndicesLieInGroups, CountOfGroup};
 
 /// A part of a part is one part of the whole.
 #[tactic(auto, using(crate::proofs::Lists::PartLemmas::part_of_part))]
@@ -35,13 +35,6 @@ pub fn limit_of_limit()
 #[tactic(auto, using(crate::proofs::Lists::LimitLemmas::limit_count))]
 pub fn limit_count()
     ensures count { HasLimitCount }
-{}
-
-/// A limited mask has the first of the mask's true indices, and is the mask where it has no more.
-#[tactic(auto, using(crate::proofs::Lists::RowLemmas::positions_of_limit, crate::proofs::Lists::RowLemmas::limit_past_the_count))]
-pub fn limits()
-    ensures indices { PositionsOfLimit }
-    ensures unchanged { LimitPastTheCount }
 {}
 
 /// A limit of two stacked filters may be taken of the second alone.

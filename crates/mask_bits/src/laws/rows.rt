@@ -3,7 +3,7 @@
 #![tactic(auto, using(crate::proofs::LawRules::laws))]
 
 ghost use Rattle.std.specs.Prelude.{◌≡◌, Bool, List, flat_map, length, slice_range};
-ghost use Rattle.mask_bits.specs.Laws.Rows.{ChosenAndTheRest, ChosenByTest, ChosenOfTwoChunks, ChosenOfChunks, ChosenByLimit, ChosenByAllTrue, ChosenByAllFalse, ChosenIsRowsAtPositions, CountOfChosen, ChosenByRanges};
+ghost use Rattle.mask_bits.specs.Laws.Rows.{ChosenByTest, ChosenByAllTrue, ChosenByAllFalse, ChosenIsRowsAtPositions, CountOfChosen, ChosenByRanges};
 ghost use Rattle.mask_bits.specs.Positions.{chosen};
 ghost use Rattle.mask_bits.specs.Runs.{AreRanges};
 
@@ -22,30 +22,9 @@ pub fn choosing_by_a_test<T>()
     ensures filter { ChosenByTest T }
 {}
 
-/// Chunks of rows, each filtered by its own mask, are all rows filtered by the masks one after
-/// another.
-#[tactic(auto, using(crate::proofs::Lists::RowLemmas::chosen_of_two_chunks, crate::proofs::Lists::RowLemmas::chosen_of_chunks))]
-pub fn choosing_by_chunks<T>()
-    ensures two { ChosenOfTwoChunks T }
-    ensures chunks { ChosenOfChunks T }
-{}
-
-/// A limited mask chooses the first of the rows that the mask chooses.
-#[tactic(auto, using(crate::proofs::Lists::RowLemmas::chosen_by_limit))]
-pub fn choosing_by_a_limit<T>()
-    ensures first { ChosenByLimit T }
-{}
-
 /// Rows copied range by range, by ranges that hold exactly the true indices, are the rows chosen.
 pub fn choosing_by_ranges<T>(rows: &[T], ranges: &[(usize, usize)])
     ensures rows { ChosenByRanges T }
     ensures given { (m : List Bool) → length rows.now ≡ length m → AreRanges m ranges.now
         → flat_map (λ r. slice_range rows.now r.0 r.1) ranges.now ≡ chosen rows.now m }
-{}
-
-/// The rows that a list chooses, and then those that its complement chooses, are all rows in another
-/// order.
-#[tactic(auto, using(crate::proofs::Lists::BooleanValueLemmas::chosen_and_the_rest))]
-pub fn chosen_and_the_rest<T>()
-    ensures permuted { ChosenAndTheRest T }
 {}

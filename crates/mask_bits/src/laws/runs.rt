@@ -3,7 +3,7 @@
 #![tactic(auto, using(crate::proofs::LawRules::laws))]
 
 ghost use Rattle.std.specs.Prelude.{◌≡◌, ◌↔◌, Bool, List};
-ghost use Rattle.mask_bits.specs.Laws.Runs.{AllTrueIsOneRange, AllTrueIsOneRun, AllFalseHasNoRange, AllFalseHasNoRun, RunsExist, RunsAreUnique, RunsAreRanges, RangesAddUpToTheCount, RunsAreTheList, RunOfAllTrue, RunsOfAllFalse};
+ghost use Rattle.mask_bits.specs.Laws.Runs.{AllTrueIsOneRange, AllTrueIsOneRun, AllFalseHasNoRange, AllFalseHasNoRun, RunsExist, RunsAreUnique, RunsAreRanges, RunsAreTheList, RunOfAllTrue, RunsOfAllFalse};
 ghost use Rattle.mask_bits.specs.RunScan.{runs};
 ghost use Rattle.mask_bits.specs.Runs.{AreRuns};
 
@@ -44,9 +44,4 @@ pub fn ranges_of_one_value()
     ensures one_run { AllTrueIsOneRun }
     ensures no_range { AllFalseHasNoRange }
     ensures no_run { AllFalseHasNoRun }
-{}
-
-/// The lengths of ranges that hold exactly the true indices add up to the count.
-pub fn ranges_add_up_to_the_count()
-    ensures count { RangesAddUpToTheCount }
 {}

@@ -2,7 +2,7 @@
 
 #![tactic(auto, using(crate::proofs::LawRules::laws))]
 
-ghost use Rattle.mask_bits.specs.Laws.Stacks.{CountOfFoldIsAtMostTheFirst, FoldingKeepsAStack, StackFoldsAlike, FoldedByTheFirst, FoldOfOne, FoldedLeftByTheLast, LengthOfFold, CountOfFold, FoldOfNoRow, NeighborsMakeOne, ChoosingInTurn};
+ghost use Rattle.mask_bits.specs.Laws.Stacks.{CountOfFoldIsAtMostTheFirst, FoldingKeepsAStack, StackFoldsAlike, FoldedByTheFirst, FoldOfOne, FoldedLeftByTheLast, LengthOfFold, CountOfFold, FoldOfNoRow, ChoosingInTurn};
 
 /// A stack whose first two lists are made one is a stack.
 pub fn folding_keeps_a_stack()
@@ -28,12 +28,6 @@ pub fn folds()
     ensures count { CountOfFold }
     ensures at_most { CountOfFoldIsAtMostTheFirst }
     ensures no_row { FoldOfNoRow }
-{}
-
-/// Any two neighbors of a stack may be made one.
-#[tactic(auto, using(crate::proofs::Lists::StackLemmas::neighbors_make_one))]
-pub fn neighbors_make_one()
-    ensures one { NeighborsMakeOne }
 {}
 
 /// Choosing by the fold of a stack is choosing by each of its lists in turn.

@@ -2,12 +2,7 @@
 
 #![tactic(auto, using(crate::proofs::LawRules::laws))]
 
-ghost use Rattle.mask_bits.specs.Laws.Words.{ExtractIsChosenValues, ValueOfWord, CountOfWord, CountsOfWordsAddUp, LengthOfValues, SameValuesAreOneList};
-
-/// Value `i` of a word is true where bit `i` is set.
-pub fn values_of_words()
-    ensures value { ValueOfWord }
-{}
+ghost use Rattle.mask_bits.specs.Laws.Words.{CountOfWord, CountsOfWordsAddUp, LengthOfValues, SameValuesAreOneList};
 
 /// The count of a word's values is that of its set bits, and the counts of a list's words add up to
 /// its count.
@@ -24,11 +19,4 @@ pub fn length_of_values()
 /// `==` of two buffers says whether their lists are the same.
 pub fn same_values_are_one_list()
     ensures same { SameValuesAreOneList }
-{}
-
-/// An extract of a word, as a list: the source's values at the mask's true indices, and false values
-/// behind them.
-#[tactic(auto, using(crate::proofs::Lists::Words::ExtractLemmas::extract_is_chosen_values))]
-pub fn extracts()
-    ensures list { ExtractIsChosenValues }
 {}

@@ -8,14 +8,11 @@ use Rattle.std.proofs.lemmas.Nat.Bits.{bit_at-lt, bit_at_or}
 use Rattle.mask_bits.proofs.Lists.Words.ShiftLemmas.{bit_at-mod}
 use Rattle.mask_bits.proofs.Lists.Words.WordLemmas.{count_below-word_bits}
 use Rattle.vortex_mask.specs.Deposit.{Deposits}
-use Rattle.vortex_mask.specs.Laws.Deposit.{DepositAtAllOnes, DepositIsRankIntersection, DepositAtNoOnes, WithoutLowestIsBelow, DepositOfOddSource, DepositOfEvenSource, DepositOfExtract, ExtractOfDeposit, without_lowest}
+use Rattle.vortex_mask.specs.Laws.Deposit.{DepositAtAllOnes, DepositIsRankIntersection, DepositAtNoOnes, WithoutLowestIsBelow, DepositOfOddSource, DepositOfEvenSource, without_lowest}
 use Rattle.vortex_mask.proofs.Deposits.DepositLemmas.{Deposits-from_bits, Deposits-from_deposit, bit_at-deposit, deposit, deposit-zero, deposit_step, first, left_of}
 use Rattle.vortex_mask.proofs.Deposits.HoleLemmas.{deposit-all}
 use Rattle.vortex_mask.proofs.Deposits.SetPlaceLemmas.{lowest, ones_below}
-use Rattle.vortex_mask.proofs.Kernels.DepositListLemmas.{word_bits-deposited, length-offered_bits, offered_bits}
-use Rattle.mask_bits.proofs.Lists.RowLemmas.{narrowed_by_chosen, chosen_of_narrowing}
-use Rattle.mask_bits.proofs.Lists.Words.ExtractLemmas.{extract_is_chosen_values, take-extracted}
-use Rattle.mask_bits.proofs.Lists.Words.WordLemmas.{length-word_bits}
+use Rattle.vortex_mask.proofs.Kernels.DepositListLemmas.{word_bits-deposited}
 
 pub deposit_at_all_ones : DepositAtAllOnes
 deposit_at_all_ones source =
@@ -51,9 +48,3 @@ pub deposit_of_even_source : DepositOfEvenSource
 deposit_of_even_source source mask rest fits even d = grind (arith, common_steps, by_lowest source mask rest 0 fits (sym (mul-zero (lowest 64 mask)) ∙ ap (λ b. lowest 64 mask * b) (sym even)) d, mul-zero (lowest 64 mask), lowest 64 mask, or_zero_r rest)
 
 -- ---- extracts
-
-pub deposit_of_extract : DepositOfExtract
-deposit_of_extract s m x r picks places = grind (arith, common_steps, word_bits-deposited, take-extracted, narrowed_by_chosen, length-word_bits)
-
-pub extract_of_deposit : ExtractOfDeposit
-extract_of_deposit s m d r places picks = grind (arith, common_steps, extract_is_chosen_values, word_bits-deposited, chosen_of_narrowing, offered_bits, length-offered_bits)

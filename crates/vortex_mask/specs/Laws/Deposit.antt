@@ -1,10 +1,8 @@
 -- What holds of deposits, and of extracts beside them.
-use Rattle.std.specs.Prelude.{ℕ, ◌+◌, ◌-◌, ◌*◌, ◌/◌, ◌%◌, ◌^◌, ◌≡◌, ◌<◌, ◌++◌, Bool, false, List, bit_and, bit_or, length, take}
+use Rattle.std.specs.Prelude.{ℕ, ◌+◌, ◌-◌, ◌*◌, ◌/◌, ◌%◌, ◌^◌, ◌≡◌, ◌<◌, Bool, List, bit_and, bit_or, length, take}
 use Rattle.mask_bits.specs.Bitmap.{bitmap}
 use Rattle.mask_bits.specs.Buffer.{Packed, values}
-use Rattle.mask_bits.specs.Extract.{Extracts}
-use Rattle.mask_bits.specs.Lists.{and_of}
-use Rattle.mask_bits.specs.Positions.{count, count_below, rank_intersection, repeated}
+use Rattle.mask_bits.specs.Positions.{count, count_below, rank_intersection}
 use Rattle.mask_bits.specs.Words.{padded_part, started_words, window, word_bits}
 use Rattle.vortex_mask.specs.Deposit.{Deposits}
 
@@ -49,13 +47,3 @@ DepositIsWordOfRankIntersection = (m : List Bool) (ranks : Packed) (i source mas
 abbrev pub StartedWordsAreTheList : Type 0
 StartedWordsAreTheList = (m : List Bool) (bytes : List ℕ) → ((i : ℕ) → i < started_words (length m) → window bytes (64 * i) ≡ padded_part m i)
     → bitmap bytes 0 (length m) ≡ m
-
--- a deposit of an extract cuts the source to the mask: it has the bits that both have
-abbrev pub DepositOfExtract : Type 0
-DepositOfExtract = (source mask picked result : ℕ) → Extracts source mask picked → Deposits picked mask result
-    → word_bits result ≡ and_of (word_bits mask) (word_bits source)
-
--- an extract of a deposit is the source's low bits, as many as the mask has set ones
-abbrev pub ExtractOfDeposit : Type 0
-ExtractOfDeposit = (source mask placed result : ℕ) → Deposits source mask placed → Extracts placed mask result
-    → word_bits result ≡ take (count (word_bits mask)) (word_bits source) ++ repeated (64 - count (word_bits mask)) false

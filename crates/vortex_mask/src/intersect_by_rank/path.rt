@@ -38,14 +38,14 @@ const VALUES_PER_RANK_BY_BITS: u64 = 4;
 // What the choice of a path goes by, of one mask: how many values it has, how many of them are
 // true, and whether its true indices are cached.
 #[derive(Clone, Copy)]
-pub(super) struct Summary {
+struct Summary {
     len: usize,
     true_count: usize,
-    pub(super) is_listed: bool,
+    is_listed: bool,
 }
 
 impl Summary {
-    pub(super) fn of(mask: &MaskValues) -> Summary
+    fn of(mask: &MaskValues) -> Summary
         ensures len { result.len ≡ length (values mask.now.buffer) }
         ensures true_count { result.true_count ≡ count (values mask.now.buffer) }
         ensures is_listed { result.is_listed ≡ is_some mask.now.caches.indices }
@@ -55,23 +55,6 @@ impl Summary {
             len: mask.len(),
             true_count: mask.true_count(),
             is_listed: mask.cached_indices().is_some(),
-        }
-    }
-
-    // Of the mask narrowed by a mixed one over its true values: which true indices stay is found one by one,
-    // and so cached, on two of the paths.
-    pub(super) fn narrowed_by(self, ranks: Summary) -> Summary
-        ensures len { result.len ≡ self.len }
-        ensures true_count { result.true_count ≡ ranks.true_count }
-        ensures is_listed { (m : List Bool) → is_some (path_caches
-            (path self.len self.true_count ranks.len ranks.true_count self.is_listed ranks.is_listed)
-            m).indices ≡ result.is_listed }
-    {
-        let path = path_by(self, ranks);
-        Summary {
-            len: self.len,
-            true_count: ranks.true_count,
-            is_listed: matches!(path, RankPath::Indices | RankPath::MaskDriven),
         }
     }
 
@@ -92,7 +75,7 @@ pub fn rank_path(values: &MaskValues, ranks: &MaskValues) -> RankPath
 }
 
 // The path of a mask that is narrowed by another one, by what these numbers say of each.
-pub(super) fn path_by(rows: Summary, ranks: Summary) -> RankPath
+fn path_by(rows: Summary, ranks: Summary) -> RankPath
     ensures { result ≡ path rows.len rows.true_count ranks.len ranks.true_count
         rows.is_listed ranks.is_listed }
 {

@@ -1,15 +1,12 @@
 //! A stack of masks as one, from the last mask down. `docs/DECISIONS.md` says why, and where a fold goes up.
 
-ghost use Rattle.std.specs.Prelude.{◌≡◌, ◌∷◌, ◌<◌, ◌↔◌, IsTrue, IsSomeAnd, All, IfOk, IsOkUnless, alloc_error, length, map, Some, is_some};
-ghost use Rattle.vortex_mask.specs.Caches.{caches};
-ghost use Rattle.vortex_mask.specs.Mask.{truth, variant, fitting_variant, mixed, contents};
-ghost use Rattle.vortex_mask.specs.StackFold.{IsFoldedUp, TakesListAtList, first_mixed};
-ghost use Rattle.mask_bits.specs.Buffer.{values};
+ghost use Rattle.std.specs.Prelude.{◌≡◌, ◌∷◌, ◌<◌, ◌↔◌, IsTrue, IsSomeAnd, All, IfOk, IsOkUnless, alloc_error, length, map};
+ghost use Rattle.vortex_mask.specs.Mask.{truth, variant, fitting_variant, mixed};
+ghost use Rattle.vortex_mask.specs.StackFold.{TakesListAtList, first_mixed};
 ghost use Rattle.mask_bits.specs.Positions.{count};
 ghost use Rattle.mask_bits.specs.Stacks.{IsStack, folded_left};
 
-use crate::intersect_by_rank::path::{RankPath, Summary, rank_path};
-use crate::laws;
+use crate::intersect_by_rank::path::{RankPath, rank_path};
 use crate::mask::{Mask, MaskError, MaskValues};
 use std::alloc::Global;
 
@@ -34,37 +31,8 @@ pub(super) fn begins_by_lists(first: &MaskValues, masks: &[Mask]) -> bool
     false
 }
 
-// The first mask, which has these values, narrowed by the fold of the others, each of which chooses a row. Its true
-// indices are cached exactly where the fold from the first mask up has them cached.
-pub(super) fn fold_down_as_up(
-    alloc: Global,
-    first: &Mask,
-    first_values: &MaskValues,
-    masks: &[Mask],
-) -> Result<Mask, MaskError>
-    requires contents { contents first.now ≡ Some first_values.now }
-    requires stack { IsStack (truth first.now ∷ map truth masks.now) }
-    requires some { 0 < length masks.now }
-    requires choose { All (λ m. 0 < count (truth m)) masks.now }
-    ensures list { IfOk result (λ m. truth m ≡ folded_left (truth first.now ∷ map truth masks.now)) }
-    ensures nonempty { IfOk result (λ m. 0 < length (truth m)) }
-    ensures variant { IfOk result (λ m. variant m ≡ fitting_variant mixed (truth m)) }
-    ensures indices { (up : Mask) → IsFoldedUp first.now masks.now up
-        → IfOk result (λ m. is_some (caches m).indices ≡ is_some (caches up).indices) }
-    ensures refused { IsOkUnless result (MaskError.Memory alloc_error) }
-{
-    laws::one_variant(first);
-    let mut folded = fold_down(alloc, first, masks)?;
-    if fold_up_is_listed(first_values, masks) {
-        folded.fill_indices(alloc)?;
-    } else {
-        folded.drop_indices(alloc)?;
-    }
-    Ok(folded)
-}
-
 // The first mask narrowed by the fold of the others, each of which chooses a row.
-fn fold_down(alloc: Global, first: &Mask, masks: &[Mask]) -> Result<Mask, MaskError>
+pub(super) fn fold_down(alloc: Global, first: &Mask, masks: &[Mask]) -> Result<Mask, MaskError>
     requires stack { IsStack (truth first.now ∷ map truth masks.now) }
     requires some { 0 < length masks.now }
     requires choose { All (λ m. 0 < count (truth m)) masks.now }
@@ -80,21 +48,4 @@ fn fold_down(alloc: Global, first: &Mask, masks: &[Mask]) -> Result<Mask, MaskEr
         narrowed = masks[i].intersect_by_rank(alloc, &narrowed)?;
     }
     first.intersect_by_rank(alloc, &narrowed)
-}
-
-// Whether the fold from the first mask up, which has these values, ends with its true indices cached.
-fn fold_up_is_listed(first: &MaskValues, masks: &[Mask]) -> bool
-    requires stack { IsStack (values first.now.buffer ∷ map truth masks.now) }
-    requires choose { All (λ m. 0 < count (truth m)) masks.now }
-    ensures { (a up : Mask) → contents a ≡ Some first.now → IsFoldedUp a masks.now up
-        → is_some (caches up).indices ≡ result }
-{
-    let mut folded = Summary::of(first);
-    for mask in masks {
-        // an all-true mask changes nothing
-        if let Mask::Values(ranks) = mask {
-            folded = folded.narrowed_by(Summary::of(ranks));
-        }
-    }
-    folded.is_listed
 }

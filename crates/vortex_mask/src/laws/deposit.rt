@@ -1,6 +1,6 @@
 //! Laws of deposits, and of extracts beside them.
 
-ghost use Rattle.vortex_mask.specs.Laws.Deposit.{DepositAtAllOnes, DepositAtNoOnes, DepositIsRankIntersection, DepositIsWordOfRankIntersection, DepositOfEvenSource, DepositOfExtract, DepositOfOddSource, ExtractOfDeposit, StartedWordsAreTheList, WithoutLowestIsBelow};
+ghost use Rattle.vortex_mask.specs.Laws.Deposit.{DepositAtAllOnes, DepositAtNoOnes, DepositIsRankIntersection, DepositIsWordOfRankIntersection, DepositOfEvenSource, DepositOfOddSource, StartedWordsAreTheList, WithoutLowestIsBelow};
 
 /// A deposit in the words of lists: the rank intersection of the mask's list and of as many of the
 /// source's values as the mask has set bits. At a mask of set bits alone it is the source.
@@ -27,12 +27,4 @@ pub fn deposits_by_lowest()
 pub fn deposits_by_words()
     ensures word { DepositIsWordOfRankIntersection }
     ensures list { StartedWordsAreTheList }
-{}
-
-/// Extracts and deposits at one mask undo each other: a deposit of an extract is the source cut to the
-/// mask, and an extract of a deposit is the source's low bits.
-#[tactic(auto, using(crate::proofs::Deposits::DepositLawLemmas::deposit_of_extract, crate::proofs::Deposits::DepositLawLemmas::extract_of_deposit))]
-pub fn extracts_and_deposits()
-    ensures cut { DepositOfExtract }
-    ensures low { ExtractOfDeposit }
 {}

@@ -5,7 +5,7 @@ ghost use Rattle.std.specs.Prelude.{◌≡◌};
 ghost use Rattle.mask_bits.specs.RunScan.{runs};
 ghost use Rattle.mask_bits.specs.Runs.{AreRanges};
 ghost use Rattle.vortex_mask.specs.Caches.{caches};
-ghost use Rattle.vortex_mask.specs.Laws.Masks.{UniformIsOfOneValue, NoIndexFault, AllTrueHasTrueValues, AllFalseHasFalseValues, SameTruthIsOneList};
+ghost use Rattle.vortex_mask.specs.Laws.Masks.{AllTrueHasTrueValues, AllFalseHasFalseValues};
 ghost use Rattle.vortex_mask.specs.Mask.{truth, variant, fitting_variant};
 ghost use Rattle.vortex_mask.specs.MaskValues.{AreOf};
 
@@ -55,22 +55,3 @@ pub fn one_list_of_ranges(left: &Mask, right: &Mask)
     cached_lists(left);
     cached_lists(right);
 }
-
-/// A list is uniform exactly if it is a number of true values or of false ones.
-#[tactic(auto, using(crate::proofs::Masks::MaskLemmas::uniform_is_of_one_value))]
-pub fn uniform_is_of_one_value()
-    ensures { UniformIsOfOneValue }
-{}
-
-/// Indices have no fault exactly if each is above the one before it and all are below the length.
-#[tactic(auto, using(crate::proofs::Masks::FaultLemmas::no_index_fault))]
-pub fn no_index_fault()
-    ensures { NoIndexFault }
-{}
-
-/// `same_truth`, by which `==` of masks and of references to them is stated, says whether their lists
-/// are the same.
-#[tactic(auto, using(crate::proofs::Masks::MaskLemmas::same_truth_is_one_list))]
-pub fn same_truth_is_one_list()
-    ensures same { SameTruthIsOneList }
-{}

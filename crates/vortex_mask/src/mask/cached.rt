@@ -132,7 +132,7 @@ impl Mask {
 
     // Caches the true indices where the mask is mixed. Values that nobody else holds cache them in
     // place, and else the mask becomes one of a clone with them.
-    pub(crate) fn fill_indices(&mut self, alloc: Global) -> Result<(), MaskError>
+    fn fill_indices(&mut self, alloc: Global) -> Result<(), MaskError>
         ensures filled { IfOk result (λ _. variant self.old ≡ mixed → IsCaching self.old
             (with_indices (positions (truth self.old)) (caches self.old)) self.new) }
         ensures stays { variant self.old ≢ mixed → self.new ≡ self.old }
@@ -148,23 +148,6 @@ impl Mask {
             if values.cached_indices().is_none() {
                 let filled = values.with_indices(alloc)?;
                 *self = Mask::Values(Rc::new(alloc, filled)?);
-            }
-        }
-        Ok(())
-    }
-
-    // Lets go of the true indices that the mask caches, in the same way.
-    pub(crate) fn drop_indices(&mut self, alloc: Global) -> Result<(), MaskError>
-        ensures dropped { IfOk result (λ _. IsCaching self.old
-            (record (caches self.old) { indices = None }) self.new) }
-        ensures refused { IsOkUnless result (MaskError.Memory alloc_error) }
-    {
-        if let Mask::Values(values) = self {
-            if let Some(own) = Rc::get_mut(values) {
-                own.drop_indices();
-            } else if values.cached_indices().is_some() {
-                let bare = values.without_indices()?;
-                *self = Mask::Values(Rc::new(alloc, bare)?);
             }
         }
         Ok(())

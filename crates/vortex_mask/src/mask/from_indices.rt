@@ -13,6 +13,7 @@ ghost use Rattle.vortex_mask.specs.MaskValues.{only_indices, no_caches};
 ghost use Rattle.mask_bits.specs.Lists.{not_of};
 ghost use Rattle.vortex_mask.specs.Ranks.{IsAscending};
 
+use crate::conditions::ascends;
 use crate::mask::common_indices::common;
 use crate::mask::{Mask, MaskError};
 use mask_bits::BitBufferMut;
@@ -67,9 +68,10 @@ impl Mask {
     }
 }
 
-// Order over the whole list first, then repeats, then bounds.
+/// What [`Mask::from_indices`] refuses these indices by, if it does: order over the whole list first, then repeats, then
+/// bounds.
 #[tactic(auto, using(crate::proofs::Masks::FaultLemmas::order_facts))]
-fn index_fault(len: usize, indices: &[usize]) -> Option<MaskError>
+pub fn index_fault(len: usize, indices: &[usize]) -> Option<MaskError>
     ensures { result ≡ index_fault len indices.now }
 {
     // one quick scan tells that there is no fault, and the slower ones which it is
@@ -85,18 +87,6 @@ fn index_fault(len: usize, indices: &[usize]) -> Option<MaskError>
         return Some(MaskError::RepeatedIndex { at });
     }
     out_of_bounds(len, indices)
-}
-
-// Whether each index is above the one before it. With no early return, so that several are compared
-// at once.
-fn ascends(indices: &[usize]) -> bool
-    ensures { IsTrue result ↔ IsStrictlyIncreasing indices.now }
-{
-    let mut ascends = true;
-    for at in 1..indices.len() {
-        ascends &= indices[at - 1] < indices[at];
-    }
-    ascends
 }
 
 // The first place whose index is below the one before it.

@@ -46,7 +46,7 @@ impl Mask {
         ensures uniform { range_fault len ranges.items ≡ None
             → (rows_held ranges.items ≡ 0) ⊎ (rows_held ranges.items ≡ len) → IsOk result }
     {
-        if let Some(fault) = fault_of(len, &ranges) {
+        if let Some(fault) = range_fault(len, &ranges) {
             return Err(fault);
         }
         Mask::of_ranges(alloc, len, ranges)
@@ -79,8 +79,8 @@ impl Mask {
     }
 }
 
-// What is wrong with ranges that are to make a mask of `len` values.
-fn fault_of(len: usize, ranges: &[(usize, usize)]) -> Option<MaskError>
+/// What [`Mask::from_slices`] refuses these ranges by, if it does.
+pub fn range_fault(len: usize, ranges: &[(usize, usize)]) -> Option<MaskError>
     ensures { result ≡ range_fault len ranges.now }
 {
     bad_range(len, ranges).or_else(|| neighbors_fault(ranges))

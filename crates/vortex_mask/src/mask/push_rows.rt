@@ -5,6 +5,7 @@ ghost use Rattle.mask_bits.specs.Positions.{count, chosen};
 
 use mask_bits::BitChunks;
 use mask_bits::room::Room;
+use mask_bits::small_rows::{MoveRows, push_small_rows};
 use mask_bits::word_rows::{push_rows_of_word, push_rows_one_by_one};
 
 /// Puts the rows at the true values, in their order, into room for these, as [`push_rows_of_word`] does.
@@ -50,5 +51,43 @@ fn push_whole_words<const K: usize, const ROWS: usize, T: Copy, R: Room<T>>(
 {
     for i in first..end {
         push_rows_of_word::<K, _, _>(out, &rows[64 * i..64 * i + ROWS], chunks.word(i));
+    }
+}
+
+/// The same of small rows, as [`push_small_rows`] puts those of a word.
+#[inline(always)]
+pub fn choose_small_rows<const FEW: usize, M: MoveRows<T>, T: Copy, R: Room<T>>(
+    out: &mut R,
+    rows: &[T],
+    chunks: &BitChunks<'_>,
+)
+    requires fitting { length rows.now ≡ length chunks.now }
+    requires empty { R.items out.old ≡ [] }
+    requires room { count chunks.now ≤ R.capacity (R.kept out.old) }
+    ensures rows { R.items out.new ≡ chosen rows.now chunks.now }
+    ensures kept { R.kept out.new ≡ R.kept out.old }
+{
+    let words = chunks.len();
+    push_small_words::<FEW, M, _, _>(out, rows, chunks, words);
+    push_rows_one_by_one(out, &rows[64 * words..], chunks.remainder_bits());
+}
+
+// Puts those of the whole words before `end`.
+#[inline(always)]
+fn push_small_words<const FEW: usize, M: MoveRows<T>, T: Copy, R: Room<T>>(
+    out: &mut R,
+    rows: &[T],
+    chunks: &BitChunks<'_>,
+    end: usize,
+)
+    requires fitting { length rows.now ≡ length chunks.now }
+    requires within { 64 * end ≤ length rows.now }
+    requires empty { R.items out.old ≡ [] }
+    requires room { count chunks.now ≤ R.capacity (R.kept out.old) }
+    ensures rows { R.items out.new ≡ chosen (take (64 * end) rows.now) (take (64 * end) chunks.now) }
+    ensures kept { R.kept out.new ≡ R.kept out.old }
+{
+    for i in 0..end {
+        push_small_rows::<FEW, M, _, _>(out, &rows[64 * i..64 * i + 64], chunks.word(i));
     }
 }

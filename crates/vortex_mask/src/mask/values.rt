@@ -296,13 +296,6 @@ impl MaskValues {
         Ok(())
     }
 
-    // Lets go of the cached true indices.
-    pub(super) fn drop_indices(&mut self)
-        ensures { self.new ≡ with_caches (record self.old.caches { indices = None }) self.old }
-    {
-        self.indices = None;
-    }
-
     // Makes the list of the runs and caches it, where there is none.
     pub(super) fn cache_slices(&mut self, alloc: Global) -> Result<(), MaskError>
         ensures filled { IfOk result (λ _. self.new
@@ -327,17 +320,6 @@ impl MaskValues {
         let mut filled = self.clone()?;
         filled.indices = Some(indices);
         Ok(filled)
-    }
-
-    // A clone that doesn't cache them.
-    pub(super) fn without_indices(&self) -> Result<MaskValues, MaskError>
-        ensures bare { IfOk result (λ v. v
-            ≡ with_caches (record self.now.caches { indices = None }) self.now) }
-        ensures refused { IsOkUnless result (MaskError.Memory alloc_error) }
-    {
-        let mut bare = self.clone()?;
-        bare.drop_indices();
-        Ok(bare)
     }
 
     // A clone with the runs cached.

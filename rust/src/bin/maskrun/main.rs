@@ -1,9 +1,6 @@
 //! `maskrun rank A B` prints mask `A` narrowed by mask `B` over its true values. All commands stand in the docs of
 //! `answer`.
-//!
-//! It starts without what Rust does before `main`: that opens outputs which are closed, so that a line which nobody
-//! reads would count as written, and aborts where it finds no memory for the arguments.
-#![cfg_attr(not(test), no_main)]
+#![cfg_attr(unix, no_main)]
 #![allow(clippy::all, clippy::pedantic, unused_imports)]
 
 mod answer;
@@ -11,67 +8,36 @@ mod argument;
 mod command;
 mod error;
 mod print;
+#[cfg(unix)]
+mod unix;
 
 use row_mask::kit::prelude::*;
-use std::ffi::{CStr, c_char, c_int};
-use std::fs::File;
 use std::io::{self, Write};
-use std::mem::ManuallyDrop;
-use std::os::fd::{FromRawFd, RawFd};
-use std::slice;
 
 /// The statuses of the program, beside 0.
-const FAULT: c_int = 2;
-const NOT_READ_OR_WRITTEN: c_int = 3;
-
-const OUT: RawFd = 1;
-const ERR: RawFd = 2;
-
-/// What ends a program that writes to a pipe which nobody reads, and what has the write fail in its place.
-const SIGPIPE: c_int = 13;
-const SIG_IGN: usize = 1;
-
-unsafe extern "C" {
-    fn signal(number: c_int, handler: usize) -> usize;
-}
-
-#[cfg_attr(not(test), unsafe(no_mangle))]
-extern "C" fn main(count: c_int, words: *const *const c_char) -> c_int {
-    // SAFETY: no handler is set, and the system hands over so many words.
-    let words = unsafe {
-        signal(SIGPIPE, SIG_IGN);
-        slice::from_raw_parts(words, usize::try_from(count).unwrap_or(0))
-    };
-    run(words.get(1..).unwrap_or_default()).unwrap_or(NOT_READ_OR_WRITTEN)
-}
+const FAULT: u8 = 2;
+const NOT_READ_OR_WRITTEN: u8 = 3;
 
 /// Prints the line for the arguments after the program's name, or their fault.
-fn run(words: &[*const c_char]) -> io::Result<c_int> {
-    match answer::answer(&read(words)?) {
+fn run(words: &[String], out: &mut impl Write, err: &mut impl Write) -> io::Result<u8> {
+    match answer::answer(words) {
         Ok(line) => {
-            writeln!(output(OUT), "{line}")?;
+            writeln!(out, "{line}")?;
             Ok(0)
         }
         Err(fault) => {
-            writeln!(output(ERR), "maskrun: {fault}")?;
+            writeln!(err, "maskrun: {fault}")?;
             Ok(FAULT)
         }
     }
 }
 
-/// The texts of words.
-fn read(words: &[*const c_char]) -> io::Result<Vec<String>> {
-    let mut texts = Vec::with_room(words.len())?;
-    for word in words {
-        // SAFETY: the system hands over words that a 0 ends.
-        let text = unsafe { CStr::from_ptr(*word) }.to_str();
-        texts.push(String::try_from_str(text.map_err(|_| io::ErrorKind::InvalidInput)?)?);
-    }
-    Ok(texts)
-}
-
-/// An output of the program, which stays open.
-fn output(number: RawFd) -> ManuallyDrop<File> {
-    // SAFETY: nothing in the program closes it.
-    ManuallyDrop::new(unsafe { File::from_raw_fd(number) })
+/// As `unix` has it, by Rust's own arguments and outputs.
+#[cfg(not(unix))]
+fn main() -> std::process::ExitCode {
+    let texts = std::env::args_os().skip(1).map(|word| word.into_string());
+    let texts =
+        texts.collect::<Result<Vec<_>, _>>().map_err(|_| io::ErrorKind::InvalidInput.into());
+    let status = texts.and_then(|texts| run(&texts, &mut io::stdout(), &mut io::stderr()));
+    status.unwrap_or(NOT_READ_OR_WRITTEN).into()
 }

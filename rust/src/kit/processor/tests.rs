@@ -1,7 +1,7 @@
 //! Each call that goes by what the processor has, with all of it, without PDEP and PEXT, and without x86-64-v3.
 
 use super::found::{MOST, QUICK_BITS, V3};
-use crate::{BitBuffer, Bitmap, BitmapBuf, Mask};
+use crate::{BitBuffer, Bitmap, BitmapBuf, Mask, Row};
 
 /// A call gives the same whatever the processor has.
 fn same<T: PartialEq + std::fmt::Debug>(call: impl Fn() -> T) {
@@ -68,6 +68,30 @@ fn choosing() {
             )
         });
         same(|| BitmapBuf::from_rows(&rows, |row| row % 3 == 1));
+    });
+}
+
+/// Rows are those that a walk over the indices reads, and nothing is written behind them.
+fn chosen<T: Row + PartialEq + std::fmt::Debug>(a: Bitmap<'_>, row: impl Fn(usize) -> T) {
+    let rows: Vec<T> = (0..a.len()).map(&row).collect();
+    let wanted: Vec<T> = a.indices().map(|i| rows[i]).collect();
+    same(|| {
+        assert_eq!(a.choose(&rows).unwrap(), wanted);
+        let mut out = vec![row(5); wanted.len() + 70];
+        assert_eq!(a.choose_into(&rows, &mut out), Ok(wanted.len()));
+        assert_eq!(out[..wanted.len()], wanted);
+        assert_eq!(out[wanted.len()..], [row(5); 70]);
+    });
+}
+
+#[test]
+fn choosing_small_rows() {
+    each_list(|a, _| {
+        chosen(a, |i| (i % 251).to_le_bytes()[0]);
+        chosen(a, |i| i % 3 == 0);
+        chosen(a, |i| u32::try_from(i).unwrap().wrapping_mul(0x9E37_79B9));
+        chosen(a, |i| [i.to_le_bytes()[0], 7, i.to_le_bytes()[1], 9]);
+        chosen(a, |i| char::from(i.to_le_bytes()[0]));
     });
 }
 

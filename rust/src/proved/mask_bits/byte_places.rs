@@ -19,7 +19,7 @@ pub(crate) fn indices_of_byte(base: usize, byte: u8) -> [usize; 8] {
 
 // The places of a byte's set bits, ascending, and zeros behind them.
 #[inline(always)]
-fn places_of(byte: u8) -> u8x8 {
+pub(crate) fn places_of(byte: u8) -> u8x8 {
     let first = 8 * byte as usize;
     u8x8::from_slice(&PLACES[first..first + 8])
 }

@@ -5,7 +5,7 @@ use crate::kit::AllocError;
 use crate::kit::prelude::*;
 use crate::proved::mask_bits::buffer::BitBuffer;
 use crate::proved::mask_bits::chunks::BitChunks;
-use crate::proved::mask_bits::scan::{first_word, next_word};
+use crate::proved::mask_bits::run_words::{Edges, Open, bits_before, edges_in, edges_of, pop};
 
 impl BitBuffer {
     /// The runs (maximal ranges) of true values, ascending, each by its first index and the index past its
@@ -55,21 +55,6 @@ impl BitBuffer {
     }
 }
 
-// Whether the words so far end inside a run, and where that begins.
-#[derive(Clone, Copy)]
-struct Open {
-    inside: bool,
-    start: usize,
-}
-
-// Where runs end in a word and where others begin, and the start of the first that ends.
-#[derive(Clone, Copy)]
-struct Edges {
-    first: usize,
-    starts: u64,
-    ends: u64,
-}
-
 // Appends the runs that end within a word whose first index is `base`.
 #[inline(always)]
 fn push_runs(
@@ -100,37 +85,6 @@ fn push_edges(
         inside: word >> 63 == 1,
         start: base.wrapping_add(64 - word.leading_ones() as usize),
     })
-}
-
-// The bit before each bit, where `inside` is the one before the first.
-#[inline(always)]
-fn bits_before(inside: bool, word: u64) -> u64 {
-    word << 1 | inside as u64
-}
-
-// The edges of a word in which bits of `starts` begin runs and those of `ends` end them.
-#[inline(always)]
-fn edges_of(begun: Open, base: usize, starts: u64, ends: u64) -> Edges {
-    if begun.inside {
-        return Edges { first: begun.start, starts, ends };
-    }
-    Edges {
-        first: base.wrapping_add(starts.trailing_zeros() as usize),
-        starts: starts & starts.wrapping_sub(1),
-        ends,
-    }
-}
-
-// The first run, and the edges past it; where no end is left, another pair.
-#[inline(always)]
-fn pop(base: usize, edges: Edges) -> ((usize, usize), Edges) {
-    let run = (edges.first, base.wrapping_add(edges.ends.trailing_zeros() as usize));
-    let left = Edges {
-        first: base.wrapping_add(edges.starts.trailing_zeros() as usize),
-        starts: edges.starts & edges.starts.wrapping_sub(1),
-        ends: edges.ends & edges.ends.wrapping_sub(1),
-    };
-    (run, left)
 }
 
 // Appends the runs between edges.
@@ -194,16 +148,36 @@ fn push_first(ranges: &mut Vec<(usize, usize)>, base: usize, edges: Edges) -> Ed
 /// The runs (maximal ranges) of a buffer's true values, ascending.
 pub struct SetSlices<'a> {
     chunks: BitChunks<'a>,
-    // the started word at hand, and its bits that are in no range yet
-    at: usize,
-    word: u64,
+    at: AtWord,
+}
+
+// The edges that are left of a word whose first index is `base`, what is open behind it, and the number of
+// the word that comes next.
+#[derive(Clone, Copy)]
+struct AtWord {
+    base: usize,
+    edges: Edges,
+    behind: Open,
+    next: usize,
 }
 
 impl<'a> SetSlices<'a> {
+    /// The runs of the values of `chunks`. It serves the other crates of this repository alone.
+    ///
+    /// # Proved ([terms](crate::definitions))
+    ///
+    /// - *runs*: `AreRuns chunks.entry result`
+    /// - *list*: `result ≡ runs chunks.entry`
+    #[doc(hidden)]
     #[inline(always)]
-    pub(crate) fn new(chunks: BitChunks<'a>) -> SetSlices<'a> {
-        let word = first_word(&chunks);
-        SetSlices { chunks, at: 0, word }
+    pub fn new(chunks: BitChunks<'a>) -> SetSlices<'a> {
+        let at = AtWord {
+            base: 0,
+            edges: Edges { first: 0, starts: 0, ends: 0 },
+            behind: Open { inside: false, start: 0 },
+            next: 0,
+        };
+        SetSlices { chunks, at }
     }
 }
 
@@ -212,25 +186,70 @@ impl Iterator for SetSlices<'_> {
 
     #[inline(always)]
     fn next(&mut self) -> Option<(usize, usize)> {
-        let (at, word) = next_word(&self.chunks, self.at, self.word)?;
-        let start = 64 * at + word.trailing_zeros() as usize;
-        // filled up from below, so that the run begins with the word
-        let (at, word) = past_full_words(&self.chunks, at, word | (word - 1));
-        let end = 64 * at + word.trailing_ones() as usize;
-        self.at = at;
-        self.word = word & word.wrapping_add(1);
-        Some((start, end))
+        if self.at.edges.ends == 0 {
+            self.at = next_ends(&self.chunks, self.at.behind, self.at.next)?;
+        }
+        let (run, left) = pop(self.at.base, self.at.edges);
+        self.at.edges = left;
+        Some(run)
     }
 }
 
-// From word `at` on, of which `word` is left: the first word that isn't full, or the last.
+// The first word from word `next` on that ends a run. Inside a run and outside words are passed by a loop
+// each, since long runs and long gaps then take turns that are guessed right.
 #[inline(always)]
-fn past_full_words(chunks: &BitChunks<'_>, at: usize, word: u64) -> (usize, u64) {
-    let mut at = at;
-    let mut word = word;
-    while word == u64::MAX && chunks.started_words() > at + 1 {
-        at += 1;
-        word = chunks.started_word_proved(at);
+fn next_ends(chunks: &BitChunks<'_>, begun: Open, next: usize) -> Option<AtWord> {
+    if begun.inside {
+        return Some(next_end(chunks, begun.start, next));
     }
-    (at, word)
+    let (i, word) = next_edge(chunks, false, next);
+    if word == 0 {
+        return None;
+    }
+    let outside = Open { inside: false, start: 0 };
+    let at = at_word(outside, i, word);
+    if at.edges.ends != 0 {
+        return Some(at);
+    }
+    Some(next_end(chunks, at.behind.start, at.next))
+}
+
+// Inside a run that begins at `start`: the first word from word `next` on that ends it.
+#[inline(always)]
+fn next_end(chunks: &BitChunks<'_>, start: usize, next: usize) -> AtWord {
+    let (i, word) = next_edge(chunks, true, next);
+    let begun = Open { inside: true, start };
+    at_word(begun, i, word)
+}
+
+// The first word from word `next` on that has an edge, and its number; where there is none, the zeros behind
+// the last value.
+#[inline(always)]
+fn next_edge(chunks: &BitChunks<'_>, inside: bool, next: usize) -> (usize, u64) {
+    let same = word_without_edges(inside);
+    let whole = chunks.values_len() / 64;
+    for i in next..whole {
+        let word = chunks.word_proved(i);
+        if word != same {
+            return (i, word);
+        }
+    }
+    if next > whole {
+        return (whole, 0);
+    }
+    (whole, chunks.remainder_bits())
+}
+
+// The word whose bits are all set or all not.
+#[inline(always)]
+fn word_without_edges(inside: bool) -> u64 {
+    if inside { u64::MAX } else { 0 }
+}
+
+// The edges of word `i`, behind a run that is open where `begun.inside`.
+#[inline(always)]
+fn at_word(begun: Open, i: usize, word: u64) -> AtWord {
+    let base = 64 * i;
+    let (edges, behind) = edges_in(begun, base, word, bits_before(begun.inside, word));
+    AtWord { base, edges, behind, next: i + 1 }
 }

@@ -4,7 +4,8 @@
 use crate::kit::prelude::*;
 use crate::proved::mask_bits::BitChunks;
 use crate::proved::mask_bits::room::Lent;
-use crate::proved::vortex_mask::choose_rows;
+use crate::proved::mask_bits::small_rows::{ByTable, MoveRows};
+use crate::proved::vortex_mask::{choose_rows, choose_small_rows};
 
 /// A row of 16 bytes.
 #[derive(Clone, Copy)]
@@ -15,7 +16,7 @@ pub struct RowMask16 {
 }
 
 /// Writes the rows at the true values, in their order, to the front of `out`, and answers how many
-/// they are. A row has 1 byte.
+/// they are. A row has 1 byte. Behind these rows, `out` may have others than before.
 ///
 /// Asks that `rows_count == len`, and that `out_count` is at least the count of the true values.
 #[inline]
@@ -26,7 +27,11 @@ pub fn row_mask_choose_1(
     rows: &[u8],
     out: &mut [u8],
 ) -> usize {
-    choose(bytes, offset, len, rows, out)
+    if crate::kit::processor::moves_bytes() && have_many(bytes, offset, len) {
+        choose_small::<6, crate::kit::processor::Moved, _>(bytes, offset, len, rows, out)
+    } else {
+        choose(bytes, offset, len, rows, out)
+    }
 }
 
 /// Writes the rows at the true values, in their order, to the front of `out`, and answers how many
@@ -96,4 +101,36 @@ fn choose<T: Copy>(bytes: &[u8], offset: usize, len: usize, rows: &[T], out: &mu
     let mut room = Lent { out, at: 0 };
     choose_rows::<0, _, _>(&mut room, rows, &chunks);
     room.at
+}
+
+// The same of small rows, of which several are moved at once where a word has `FEW` true values or more. It isn't
+// inlined: in one function with the loop above, that one takes longer.
+#[inline(never)]
+fn choose_small<const FEW: usize, M: MoveRows<T>, T: Copy>(
+    bytes: &[u8],
+    offset: usize,
+    len: usize,
+    rows: &[T],
+    out: &mut [T],
+) -> usize {
+    let chunks = BitChunks::new_proved(bytes, offset, len);
+    let mut room = Lent { out, at: 0 };
+    choose_small_rows::<FEW, M, _, _>(&mut room, rows, &chunks);
+    room.at
+}
+
+// Whether words have eight true values or more on the average, by four of them. Where they have fewer, to count
+// those of each word takes longer than is gained.
+#[inline]
+fn have_many(bytes: &[u8], offset: usize, len: usize) -> bool {
+    let chunks = BitChunks::new_proved(bytes, offset, len);
+    let whole = chunks.len();
+    if whole == 0 {
+        return false;
+    }
+    let apart = whole / 4;
+    let first = chunks.word_proved(0).count_ones() + chunks.word_proved(apart).count_ones();
+    let last =
+        chunks.word_proved(2 * apart).count_ones() + chunks.word_proved(3 * apart).count_ones();
+    first + last >= 4 * 8
 }

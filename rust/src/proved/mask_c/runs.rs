@@ -2,7 +2,7 @@
 //! The runs of true values of a bitmap.
 
 use crate::kit::prelude::*;
-use crate::proved::mask_bits::BitChunks;
+use crate::proved::mask_bits::{BitChunks, SetSlices};
 
 /// The indices from `start` to `end`, the end left out.
 #[derive(Clone, Copy)]
@@ -21,4 +21,38 @@ pub fn row_mask_next_run(bytes: &[u8], offset: usize, len: usize, from: usize) -
     let start = values.first_from_proved(from.min(len), true);
     let end = values.first_from_proved(start, false);
     RowMaskRun { start, end }
+}
+
+/// Writes the runs of true values from `from` on, ascending, to the front of `out`, as many as there are or
+/// as it takes, and answers how many these are: none from past the end. A run that `from` is inside begins
+/// there. So a walk over all runs goes on from the end of the last, until fewer come than `out` takes.
+/// Behind them `out` may have other numbers than before.
+#[inline]
+pub fn row_mask_next_runs(
+    bytes: &[u8],
+    offset: usize,
+    len: usize,
+    from: usize,
+    out: &mut [RowMaskRun],
+) -> usize {
+    if from > len {
+        return 0;
+    }
+    let values = BitChunks::new_proved(bytes, offset + from, len - from);
+    runs_of_values(values, from, out)
+}
+
+// Writes the runs of values of which the first has the index `from`.
+#[inline]
+fn runs_of_values(values: BitChunks<'_>, from: usize, out: &mut [RowMaskRun]) -> usize {
+    let mut runs = SetSlices::new(values);
+    let mut at = 0;
+    while at < out.len() {
+        let Some((start, end)) = runs.next() else {
+            return at;
+        };
+        out[at] = RowMaskRun { start: from + start, end: from + end };
+        at += 1;
+    }
+    at
 }

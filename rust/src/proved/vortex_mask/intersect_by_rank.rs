@@ -26,7 +26,7 @@ use narrow::narrow_by_path;
 pub use path::{RankPath, rank_path};
 pub use rank_bits::RankBits;
 pub use select::SelectBit;
-use stack::{all_choose, begins_by_lists, fold_down_as_up};
+use stack::{all_choose, begins_by_lists, fold_down};
 
 pub use steps::Steps;
 
@@ -62,7 +62,18 @@ impl Mask {
 
     #[inline]
     pub(crate) fn intersect_by_rank_proved(&self, mask: &Mask) -> Result<Mask, MaskError> {
-        Ok(self.intersect_by_rank_counted_proved(mask)?.0)
+        crate::kit::by_level!(self.intersect_by_rank_v3(mask), self.intersect_by_rank_any(mask))
+    }
+
+    #[cfg(target_arch = "x86_64")]
+    #[target_feature(enable = "avx2,bmi1,bmi2,f16c,fma,lzcnt,movbe,popcnt")]
+    fn intersect_by_rank_v3(&self, mask: &Mask) -> Result<Mask, MaskError> {
+        self.intersect_by_rank_any(mask)
+    }
+
+    #[inline(always)]
+    fn intersect_by_rank_any(&self, mask: &Mask) -> Result<Mask, MaskError> {
+        Ok(self.intersect_by_rank_counted_any(mask)?.0)
     }
 
     /// The mask of `intersect_by_rank`, with the steps that its kernel takes. No step is counted
@@ -109,6 +120,24 @@ impl Mask {
         }
     }
 
+    #[inline(always)]
+    pub(crate) fn intersect_by_rank_counted_any(
+        &self,
+        mask: &Mask,
+    ) -> Result<(Mask, Steps), MaskError> {
+        match (self, mask) {
+            (_, Mask::AllTrue(_)) => Ok((self.try_clone()?, Steps::new())),
+            (_, Mask::AllFalse(_)) => Ok((Mask::new_false(self.len()), Steps::new())),
+            (Mask::AllTrue(_), Mask::Values(_)) => Ok((mask.try_clone()?, Steps::new())),
+            (Mask::AllFalse(_), Mask::Values(_)) => Ok((Mask::new_false(self.len()), Steps::new())),
+            (Mask::Values(values), Mask::Values(ranks)) => {
+                crate::proved::vortex_mask::intersect_by_rank::narrow::narrow_by_path_any(
+                    values, ranks,
+                )
+            }
+        }
+    }
+
     /// This mask narrowed by each of `masks` in turn: by the first over its true values, and by each
     /// next one over the true values of the one before it. Without `masks` it is a clone.
     ///
@@ -133,7 +162,7 @@ impl Mask {
     #[track_caller]
     pub fn intersect_all_by_rank(&self, masks: &[Mask]) -> Result<Mask, MaskError> {
         crate::kit::conditions::owed(
-            crate::kit::conditions::are_a_stack(self, masks),
+            crate::proved::vortex_mask::conditions::are_a_stack(self, masks),
             "Mask::intersect_all_by_rank",
             "its condition",
             "IsStack (truth self.now ∷ map truth masks.now)",
@@ -146,7 +175,7 @@ impl Mask {
         // `docs/DECISIONS.md` says from which end a stack is folded, and why
         if let Mask::Values(values) = self {
             if masks.len() > 1 && all_choose(masks) && !begins_by_lists(values, masks) {
-                return fold_down_as_up(self, values, masks);
+                return fold_down(self, masks);
             }
         }
         let mut narrowed = self.try_clone()?;

@@ -28,8 +28,10 @@ pub use cached::MaskIter;
 use core::fmt;
 pub use error::MaskError;
 pub use fraction::Fraction;
+pub use from_indices::index_fault;
+pub use from_slices::range_fault;
 pub use iter::{MaskBoolIter, MaskSetIndices, MaskSetSlices};
-pub use push_rows::choose_rows;
+pub use push_rows::{choose_rows, choose_small_rows};
 pub use values::{MaskValues, MaskValuesRef};
 
 /// Which rows of a column are chosen: a list of truth values, one for each row.

@@ -1,14 +1,13 @@
 -- True indices in their order, the count below the next one, and the ranges of a list of one value.
-use Rattle.std.proofs.Common.{◌≡◌, ℕ, zero, suc, ◌+◌, ◌-◌, ◌<◌, ◌≤◌, Bool, true, false, List, [], ◌∷◌, cond, length, get_or, take, Some, slice_get, refl, subst, arith}
+use Rattle.std.proofs.Common.{◌≡◌, ℕ, zero, suc, ◌+◌, ◌-◌, ◌<◌, ◌≤◌, true, false, List, [], ◌∷◌, length, get_or, Some, slice_get, subst, arith}
 use Rattle.std.proofs.lemmas.List.Sorted.{IsNonDecreasingBy-from_all_adjacent}
 use Rattle.std.proofs.lemmas.Map.Keys.{le_from_is_le}
 use Rattle.std.proofs.lemmas.Option.{slice_get_within, get_or_from_slice_get}
-use Rattle.mask_bits.specs.Laws.Indices.{PositionsAscend, FirstIsAtMostLast, CountBelowTheFirst, CountBelowTheNext, NeighborsDoNotFall, SortedDoNotFall}
+use Rattle.mask_bits.specs.Laws.Indices.{PositionsAscend, NeighborsDoNotFall, SortedDoNotFall}
 use Rattle.mask_bits.specs.Laws.Runs.{AllTrueIsOneRange, AllTrueIsOneRun, AllFalseHasNoRange, AllFalseHasNoRun}
-use Rattle.mask_bits.specs.Positions.{positions, count, repeated}
+use Rattle.mask_bits.specs.Positions.{count, repeated}
 use Rattle.mask_bits.specs.Runs.{AreRuns}
-use Rattle.mask_bits.proofs.Lists.Places.AscendingLemmas.{Rising, positions-rising, positions-ascending}
-use Rattle.mask_bits.proofs.Lists.Places.PlaceLemmas.{trues, count-trues}
+use Rattle.mask_bits.proofs.Lists.Places.AscendingLemmas.{Rising, positions-ascending}
 use Rattle.mask_bits.proofs.Lists.Runs.RunLemmas.{AreRuns-runs_from, runs_are_ranges}
 use Rattle.mask_bits.proofs.Lists.Runs.RunListLemmas.{run_of_all_true, runs_of_all_false}
 
@@ -28,23 +27,7 @@ Rising-first low high (x ∷ ps) k p q r first at =
 pub positions_ascend : PositionsAscend
 positions_ascend = positions-ascending
 
-pub first_is_at_most_last : FirstIsAtMostLast
-first_is_at_most_last m p q first last =
-    Rising-first 0 (length m) (positions m) (count m - 1) p q (positions-rising m) first last
-
 -- ---- the count below
-
-pub count_below_the_first : CountBelowTheFirst
-count_below_the_first m = refl
-
-trues-next : (m : List Bool) (i : ℕ) → trues (take (suc i) m) ≡ trues (take i m) + cond (get_or m i false) 1 0
-trues-next [] zero = refl
-trues-next [] (suc i) = refl
-trues-next (v ∷ m) zero = grind arith
-trues-next (v ∷ m) (suc i) = grind (arith, trues-next m i)
-
-pub count_below_the_next : CountBelowTheNext
-count_below_the_next m i = grind (arith, count-trues, trues-next)
 
 -- ---- lists of one value
 

@@ -1,5 +1,5 @@
 -- The runs of a list: there is one list of them, and the scan finds it.
-use Rattle.std.proofs.Common.{◌≡◌, ◌≢◌, ℕ, zero, suc, ◌+◌, ◌<◌, ◌≤◌, ◌&&◌, ◌||◌, Bool, true, false, nat_eq, List, [], ◌∷◌, length, get_or, drop, refl, sym, ap, ◌∙◌, inl, inr, arith, add-one, nat_le, nat_lt}
+use Rattle.std.proofs.Common.{◌≡◌, ◌≢◌, ℕ, zero, suc, ◌+◌, ◌<◌, ◌≤◌, ◌&&◌, ◌||◌, Bool, true, false, nat_eq, List, [], ◌∷◌, length, get_or, drop, map, refl, sym, ap, ◌∙◌, inl, inr, arith, add-one, nat_le, nat_lt}
 use Rattle.std.proofs.lemmas.Bool.{cases_eq, eq-eqb, ne_eqb, le-leb, lt-ltb, le-ltb, and_from, and_right, or_left, cond-true, cond-false, true≢false}
 use Rattle.std.specs.List.{All, AllAdjacentBelow, list_any}
 use Rattle.mask_bits.specs.Laws.Runs.{RunsExist, RunsAreUnique, RunsAreRanges}
@@ -212,3 +212,14 @@ length-runs_from n (v ∷ m) = grind (arith, length-runs_from (n + 1) m)
 
 pub length-AreRuns : (m : List Bool) (rs : List (ℕ × ℕ)) → AreRuns m rs → length rs ≤ length m
 length-AreRuns m rs are = omega (arith, ap length (runs_from-AreRuns m rs are), length-runs_from 0 m)
+
+-- ---- a list whose first index is k more
+
+with_index-moved : (k n : ℕ) (rs : List (ℕ × ℕ)) → with_index (k + n) (map (λ r. (k + r.0, k + r.1)) rs) ≡ map (λ r. (k + r.0, k + r.1)) (with_index n rs)
+with_index-moved k n [] = grind arith
+with_index-moved k n (r ∷ rs) = grind arith
+
+pub runs_from-moved : (k n : ℕ) (m : List Bool) → runs_from (k + n) m ≡ map (λ r. (k + r.0, k + r.1)) (runs_from n m)
+runs_from-moved k n [] = refl
+runs_from-moved k n (true ∷ m) = grind (arith, runs_from-moved k (n + 1) m, with_index-moved k n (runs_from (n + 1) m))
+runs_from-moved k n (false ∷ m) = grind (arith, runs_from-moved k (n + 1) m)

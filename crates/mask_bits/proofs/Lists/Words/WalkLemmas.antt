@@ -1,18 +1,17 @@
 -- Walks over a list by its started words: what is left of it after each step.
-use Rattle.std.proofs.Common.{◌≡◌, ℕ, zero, suc, ◌+◌, ◌*◌, ◌-◌, ◌%◌, ◌^◌, ◌<◌, ◌≤◌, Bool, true, false, nat_eq, List, [], ◌∷◌, length, get_or, drop, refl, sym, ap, ◌∙◌, arith, lit<}
+use Rattle.std.proofs.Common.{◌≡◌, ℕ, zero, suc, ◌+◌, ◌*◌, ◌-◌, ◌^◌, ◌<◌, ◌≤◌, Bool, true, false, nat_eq, List, [], ◌∷◌, length, get_or, drop, refl, sym, ap, ◌∙◌, arith, lit<}
 use Rattle.std.specs.Int.{bit_at}
-use Rattle.std.specs.Int.RustNames.{bit_and, bit_or}
-use Rattle.std.proofs.lemmas.Bool.{true≢false}
+use Rattle.std.specs.Int.RustNames.{bit_and}
 use Rattle.std.proofs.lemmas.List.{ext_get_or, length-append, length-drop, length-take, get_or_append_left, get_or-append_right, get_or-drop, get_or-take, get_or_past, get_or-replicate, length-replicate}
-use Rattle.std.proofs.lemmas.Nat.{and_le_l, or_lt}
-use Rattle.std.proofs.lemmas.Nat.Bits.{bit_at-lt, bit_at-zero, bit_at_ones}
+use Rattle.std.proofs.lemmas.Nat.{and_le_l}
+use Rattle.std.proofs.lemmas.Nat.Bits.{bit_at-lt, bit_at-zero}
 use Rattle.mask_bits.specs.Positions.{indices_from, positions, repeated, IsFirstFrom}
 use Rattle.mask_bits.specs.RunScan.{runs_from}
-use Rattle.mask_bits.specs.Walk.{left_of, IsLeft, PassesTrue}
+use Rattle.mask_bits.specs.Walk.{left_of, IsLeft}
 use Rattle.mask_bits.specs.Words.{word_bits, padded_part, started_words}
-use Rattle.mask_bits.proofs.Lists.Words.LowestLemmas.{low, low-within, low-set, low-first, bit_at-lowest_cleared, bit_at-lowest_others, bit_at-filled, bit_at-filled_others, ones, ones-few, ones-within, ones-set, ones-end, bit_at-ones_cleared, bit_at-ones_others}
+use Rattle.mask_bits.proofs.Lists.Words.LowestLemmas.{low, low-within, low-set, low-first, bit_at-lowest_cleared, bit_at-lowest_others}
 use Rattle.mask_bits.proofs.Lists.Words.PaddedLemmas.{get_or-padded_part}
-use Rattle.mask_bits.proofs.Lists.Places.ScanLemmas.{skip, indices_from-first, runs_from-first}
+use Rattle.mask_bits.proofs.Lists.Places.ScanLemmas.{skip, indices_from-first}
 use Rattle.mask_bits.proofs.Lists.Words.WordLemmas.{length-word_bits, get_or-word_bits}
 use Rattle.mask_bits.proofs.Lists.CountLemmas.{positions-all_false}
 
@@ -40,19 +39,6 @@ places-step m n place within len passed holds cleared same =
     indices_from-first m 0 place first within
     ∙ ap (λ (xs : List Bool). place ∷ indices_from (place + 1) xs) (sym (drop-same m n (place + 1) len (λ i h. same i (omega arith))))
     ∙ ap (λ (ps : List ℕ). place ∷ ps) (sym (skip-front indices_from (λ _ _. refl) n (place + 1) (omega arith) (λ i h. cleared i (omega arith))))
-
--- the first run, and the runs of the list without it
-pub runs-step : (m n : List Bool) (start stop : ℕ) → start < stop → stop ≤ length m → length n ≡ length m
-    → ((i : ℕ) → i < start → get_or m i false ≡ false) → ((i : ℕ) → start ≤ i → i < stop → get_or m i false ≡ true)
-    → (stop < length m → get_or m stop false ≡ false)
-    → ((i : ℕ) → i < stop → get_or n i false ≡ false) → ((i : ℕ) → stop ≤ i → get_or n i false ≡ get_or m i false)
-    → runs_from 0 m ≡ (start, stop) ∷ runs_from 0 n
-runs-step m n start stop some within len passed holds ends cleared same =
-    let first : IsFirstFrom m 0 true start = record { not_before = omega arith; within = omega arith; passed = λ i _ h. passed i h; holds = λ _. holds start (omega arith) some } in
-    let last : IsFirstFrom m (start + 1) false stop = record { not_before = omega arith; within = within; passed = λ i from to. holds i (omega arith) to; holds = ends } in
-    runs_from-first m 0 start stop first (omega arith) last
-    ∙ ap (λ (xs : List Bool). (start, stop) ∷ runs_from stop xs) (sym (drop-same m n stop len same))
-    ∙ ap (λ (rs : List (ℕ × ℕ)). (start, stop) ∷ rs) (sym (skip-front runs_from (λ _ _. refl) n stop (omega arith) cleared))
 
 -- ---- what is left
 
@@ -158,80 +144,6 @@ places-lowest m i w some fits left =
     (λ p h. grind (arith, left_of-before, left_of-clear m i v p, bit_at-lowest_cleared w (p - 64 * i) some fits))
     (λ p h. left_of-same m i w v p left.within (omega arith) (λ j _ place. bit_at-lowest_others w j some fits (omega arith)))
 
--- ---- runs
-
--- a word filled up to its lowest set bit
-pub IsLeft-filled : (m : List Bool) (i w : ℕ) → 0 < w → w < 2 ^ 64 → IsLeft m i w → IsLeft m i (bit_or w (w - 1))
-IsLeft-filled m i w some fits left = record {
-  word = or_lt 64 w (w - 1) fits (omega arith);
-  within = left.within;
-  ends = λ j few past. bit_at-filled_others w j some fits (omega (arith, low-inside m i w some fits left)) ∙ left.ends j few past;
-}
-
--- a full word more
-pub PassesTrue-more : (m : List Bool) (i w j v u : ℕ) → u < 2 ^ 64 → v ≡ 2 ^ 64 - 1 → j + 1 < started_words (length m) → word_bits u ≡ padded_part m (j + 1) → PassesTrue m i w j v → PassesTrue m i w (j + 1) u
-PassesTrue-more m i w j v u fits is_full more read so_far = record {
-  is = IsLeft-read m (j + 1) u fits read more;
-  later = omega (arith, so_far.later);
-  full = λ p from to. grind (arith, so_far.full p from, so_far.rest p, left_of-at m j v p (p - 64 * j), ap (λ k. bit_at k (p - 64 * j)) is_full, bit_at_ones 64 (p - 64 * j));
-  rest = λ p from. grind (arith, left_of-read m (j + 1) u p read more from, left_of-past m j v p, so_far.rest p);
-}
-
--- the ones at the low end of what is left lie within the list
-pub ones-inside : (m : List Bool) (i w : ℕ) → w < 2 ^ 64 → IsLeft m i w → 64 * i + ones w ≤ length m
-ones-inside m i w fits left =
-    let j : ℕ = length m - 64 * i in
-    grind (arith, left.within, ones-within w fits, ones-set w j fits, left.ends j)
-
-pub IsLeft-ones_cleared : (m : List Bool) (i w : ℕ) → w < 2 ^ 64 → IsLeft m i w → IsLeft m i (bit_and w ((w + 1) % 2 ^ 64))
-IsLeft-ones_cleared m i w fits left = record {
-  word = omega (arith, and_le_l w ((w + 1) % 2 ^ 64));
-  within = left.within;
-  ends = λ j few past. grind (arith, bit_at-ones_others w j fits few, ones-inside m i w fits left, left.ends j few past);
-}
-
--- from its lowest set bit on, a word filled up to that is the word
-left_of-filled : (m : List Bool) (i w p : ℕ) → 0 < w → w < 2 ^ 64 → 64 * i ≤ length m → 64 * i + low w ≤ p → get_or (left_of m i (bit_or w (w - 1))) p false ≡ get_or (left_of m i w) p false
-left_of-filled m i w p some fits within h = grind (arith, left_of-same, bit_at-filled_others)
-
--- all is true up to the end of the ones that the walk came to
-run_true : (m : List Bool) (i f j v p : ℕ) → v < 2 ^ 64 → PassesTrue m i f j v → 64 * i ≤ p → p < 64 * j + ones v → get_or (left_of m i f) p false ≡ true
-run_true m i f j v p v_fits passes from to =
-    grind (arith, passes.full p from, passes.rest p, left_of-at m j v p (p - 64 * j), ones-within v v_fits, ones-inside m j v v_fits passes.is, ones-set v (p - 64 * j) v_fits)
-
--- where the run ends before the list does, it ends within the word
-run_ends : (m : List Bool) (j v : ℕ) → v < 2 ^ 64 → (v ≡ 2 ^ 64 - 1 → length m ≤ 64 * j + 64) → 64 * j + ones v < length m → 64 * j + ones v < 64 * j + 64
-run_ends m j v v_fits last inside = grind (arith, ones-few)
-
--- the lowest set bit of a word is in front of the end of its run
-runs-start_below_stop : (m : List Bool) (i w j v : ℕ) → 0 < w → w < 2 ^ 64 → v < 2 ^ 64 → IsLeft m i w → PassesTrue m i (bit_or w (w - 1)) j v → (v ≡ 2 ^ 64 - 1 → length m ≤ 64 * j + 64) → 64 * i + low w < 64 * j + ones v
-runs-start_below_stop m i w j v some fits v_fits left passes last =
-    let f : ℕ = bit_or w (w - 1) in
-    let k : ℕ = ones v in
-    let few = low-within w some fits in
-    let inside = low-inside m i w some fits left in
-    grind (arith, passes.later, left_of-at m i f (64 * j + k) k, bit_at-filled w k some fits, left_of-clear m j v (64 * j + k), passes.is.within, ones-end v v_fits, passes.rest (64 * j + k), true≢false)
-
--- where the run of a word's lowest true value ends
-pub runs-lowest : (m : List Bool) (i w j v : ℕ) → 0 < w → w < 2 ^ 64 → v < 2 ^ 64 → IsLeft m i w → PassesTrue m i (bit_or w (w - 1)) j v → (v ≡ 2 ^ 64 - 1 → length m ≤ 64 * j + 64)
-    → runs_from 0 (left_of m i w) ≡ (64 * i + low w, 64 * j + ones v) ∷ runs_from 0 (left_of m j (bit_and v ((v + 1) % 2 ^ 64)))
-runs-lowest m i w j v some fits v_fits left passes last =
-    let u : ℕ = bit_and v ((v + 1) % 2 ^ 64) in
-    let within = left.within in
-    let len = length-left_of m i w within in
-    let many = ones-within v v_fits in
-    let stop_inside = ones-inside m j v v_fits passes.is in
-    let some_run = runs-start_below_stop m i w j v some fits v_fits left passes last in
-    let ends = run_ends m j v v_fits last in
-    let same = λ (p : ℕ). left_of-filled m i w p some fits within in
-    runs-step (left_of m i w) (left_of m j u) (64 * i + low w) (64 * j + ones v) some_run (omega (arith, len, stop_inside))
-    (length-left_of m j u passes.is.within ∙ sym len)
-    (λ p h. left_of-below_low m i w p some fits within h)
-    (λ p from to. sym (same p from) ∙ run_true m i (bit_or w (w - 1)) j v p v_fits passes (omega arith) to)
-    (λ h. grind (arith, same (64 * j + ones v), passes.rest (64 * j + ones v), left_of-clear m j v (64 * j + ones v), ones-end v v_fits, passes.is.within))
-    (λ p h. grind (arith, passes.is.within, left_of-before, left_of-clear m j u p, bit_at-ones_cleared v (p - 64 * j) v_fits))
-    (λ p h. left_of-same m j v u p passes.is.within (omega arith) (λ k few_k place. bit_at-ones_others v k v_fits few_k (omega arith)) ∙ passes.rest p (omega arith) ∙ same p (omega arith))
-
 -- an all-false list has no run
 pub runs_from-repeated_false : (n k : ℕ) → runs_from n (repeated k false) ≡ []
 unfolding repeated
@@ -241,5 +153,3 @@ runs_from-repeated_false n (suc k) = runs_from-repeated_false (n + 1) k
 pub ruleset left_in_words = (left_of-first, left_of-none, left_of-next, left_of-last, IsLeft-none, IsLeft-read)
 
 pub ruleset places_left = (places-lowest, low-inside, positions-all_false)
-
-pub ruleset runs_left = (runs-lowest, runs_from-repeated_false)

@@ -1,7 +1,7 @@
 use Rattle.std.proofs.Common.{List, ℕ, ◌/◌, ◌%◌, ◌^◌, ◌+◌, ◌-◌, nat_eq, ap, ◌∙◌, ◌++◌, append_assoc}
 use Rattle.std.specs.Int.{w64, leading_ones}
 use Rattle.mask_bits.specs.Pushed.{runs_behind, runs_between}
-use Rattle.mask_bits.proofs.RunWordLemmas.{behind-word}
+use Rattle.mask_bits.proofs.RunWordLemmas.{behind-word, outside}
 use Rattle.mask_bits.proofs.set_slices.push_edges.Goals as goal
 
 pub returns-clause-runs : goal.returns-clause-runs
@@ -17,4 +17,4 @@ returns-clause-runs c rest =
     ∙ append_assoc a.ranges.now.items (runs_between a.base e.first e.starts e.ends) behind
     ∙ ap (λ (rs : List (ℕ × ℕ)). a.ranges.now.items ++ (rs ++ behind)) c.edges_of-edges.ensures.runs
     ∙ ap (λ (rs : List (ℕ × ℕ)). a.ranges.now.items ++ rs)
-    (behind-word a.begun.inside a.begun.start a.base a.word b rest is.fits c.ranges.word.fits c.ranges.before.fits is.bits is.full is.some)
+    (behind-word a.begun.inside a.begun.start a.base a.word b rest is.fits c.ranges.word.fits c.ranges.before.fits is.bits (outside a.begun.inside a.word a.before is.full is.some))

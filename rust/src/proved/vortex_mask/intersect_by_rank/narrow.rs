@@ -32,6 +32,22 @@ pub(super) fn narrow_by_path(
     }
 }
 
+#[inline(always)]
+pub(crate) fn narrow_by_path_any(
+    rows: &MaskValues,
+    ranks: &MaskValues,
+) -> Result<(Mask, Steps), MaskError> {
+    let by_loop = crate::kit::processor::by_loop(rows.len(), rows.true_count());
+    match rank_path(rows, ranks) {
+        RankPath::Indices => by_indices(rows, ranks),
+        RankPath::MaskDriven => by_selections(rows, ranks),
+        RankPath::BitBuffers if by_loop => by_buffers_any::<PortableLoop>(rows, ranks),
+        RankPath::BitBuffers => crate::kit::quickest!(by_buffers_any::<Portable>(rows, ranks)),
+        RankPath::RankIndices if by_loop => by_rank_indices::<PortableLoop>(rows, ranks),
+        RankPath::RankIndices => crate::kit::quickest!(by_rank_indices::<Portable>(rows, ranks)),
+    }
+}
+
 // Of true indices of both, which are listed where they are not cached.
 #[inline]
 fn by_indices(rows: &MaskValues, ranks: &MaskValues) -> Result<(Mask, Steps), MaskError> {
@@ -72,6 +88,17 @@ fn by_buffers<D: DepositBits>(
 ) -> Result<(Mask, Steps), MaskError> {
     let (buffer, bits, true_count) = (rows.bit_buffer(), ranks.bit_buffer(), ranks.true_count());
     intersect_bit_buffers::<D>(buffer, bits, true_count)
+}
+
+#[inline(always)]
+pub(crate) fn by_buffers_any<D: DepositBits>(
+    rows: &MaskValues,
+    ranks: &MaskValues,
+) -> Result<(Mask, Steps), MaskError> {
+    let (buffer, bits, true_count) = (rows.bit_buffer(), ranks.bit_buffer(), ranks.true_count());
+    crate::proved::vortex_mask::intersect_by_rank::kernels::bit_buffers::intersect_bit_buffers_any::<
+        D,
+    >(buffer, bits, true_count)
 }
 
 // Of the bits of the first and the cached true indices of the second: one deposit a word.

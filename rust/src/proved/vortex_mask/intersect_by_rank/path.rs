@@ -34,31 +34,19 @@ const VALUES_PER_RANK_BY_BITS: u64 = 4;
 // What the choice of a path goes by, of one mask: how many values it has, how many of them are
 // true, and whether its true indices are cached.
 #[derive(Clone, Copy)]
-pub(super) struct Summary {
+struct Summary {
     len: usize,
     true_count: usize,
-    pub(super) is_listed: bool,
+    is_listed: bool,
 }
 
 impl Summary {
     #[inline(always)]
-    pub(super) fn of(mask: &MaskValues) -> Summary {
+    fn of(mask: &MaskValues) -> Summary {
         Summary {
             len: mask.len(),
             true_count: mask.true_count(),
             is_listed: mask.cached_indices().is_some(),
-        }
-    }
-
-    // Of the mask narrowed by a mixed one over its true values: which true indices stay is found one by one,
-    // and so cached, on two of the paths.
-    #[inline]
-    pub(super) fn narrowed_by(self, ranks: Summary) -> Summary {
-        let path = path_by(self, ranks);
-        Summary {
-            len: self.len,
-            true_count: ranks.true_count,
-            is_listed: matches!(path, RankPath::Indices | RankPath::MaskDriven),
         }
     }
 
@@ -82,7 +70,7 @@ pub fn rank_path(values: &MaskValues, ranks: &MaskValues) -> RankPath {
 
 // The path of a mask that is narrowed by another one, by what these numbers say of each.
 #[inline]
-pub(super) fn path_by(rows: Summary, ranks: Summary) -> RankPath {
+fn path_by(rows: Summary, ranks: Summary) -> RankPath {
     // with both lists at hand, the entries to take are fewer than the words to read
     let are_few = ranks.true_count < started_words(rows.len);
     if ranks.is_listed && rows.is_listed && are_few {

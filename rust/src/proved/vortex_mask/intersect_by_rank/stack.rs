@@ -2,8 +2,7 @@
 //! A stack of masks as one, from the last mask down. `docs/DECISIONS.md` says why, and where a fold goes up.
 
 use crate::kit::prelude::*;
-use crate::proved::vortex_mask::intersect_by_rank::path::{RankPath, Summary, rank_path};
-
+use crate::proved::vortex_mask::intersect_by_rank::path::{RankPath, rank_path};
 use crate::proved::vortex_mask::mask::{Mask, MaskError, MaskValues};
 
 // Whether each mask chooses a row, so that no fold of them ends early.
@@ -25,26 +24,9 @@ pub(super) fn begins_by_lists(first: &MaskValues, masks: &[Mask]) -> bool {
     false
 }
 
-// The first mask, which has these values, narrowed by the fold of the others, each of which chooses a row. Its true
-// indices are cached exactly where the fold from the first mask up has them cached.
-#[inline]
-pub(super) fn fold_down_as_up(
-    first: &Mask,
-    first_values: &MaskValues,
-    masks: &[Mask],
-) -> Result<Mask, MaskError> {
-    let mut folded = fold_down(first, masks)?;
-    if fold_up_is_listed(first_values, masks) {
-        folded.fill_indices()?;
-    } else {
-        folded.drop_indices()?;
-    }
-    Ok(folded)
-}
-
 // The first mask narrowed by the fold of the others, each of which chooses a row.
 #[inline]
-fn fold_down(first: &Mask, masks: &[Mask]) -> Result<Mask, MaskError> {
+pub(super) fn fold_down(first: &Mask, masks: &[Mask]) -> Result<Mask, MaskError> {
     let mut i = masks.len() - 1;
     let mut narrowed = masks[i].try_clone()?;
     while i > 0 {
@@ -52,17 +34,4 @@ fn fold_down(first: &Mask, masks: &[Mask]) -> Result<Mask, MaskError> {
         narrowed = masks[i].intersect_by_rank_proved(&narrowed)?;
     }
     first.intersect_by_rank_proved(&narrowed)
-}
-
-// Whether the fold from the first mask up, which has these values, ends with its true indices cached.
-#[inline]
-fn fold_up_is_listed(first: &MaskValues, masks: &[Mask]) -> bool {
-    let mut folded = Summary::of(first);
-    for mask in masks {
-        // an all-true mask changes nothing
-        if let Mask::Values(ranks) = mask {
-            folded = folded.narrowed_by(Summary::of(ranks));
-        }
-    }
-    folded.is_listed
 }

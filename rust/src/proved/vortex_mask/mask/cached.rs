@@ -117,7 +117,7 @@ impl Mask {
     // Caches the true indices where the mask is mixed. Values that nobody else holds cache them in
     // place, and else the mask becomes one of a clone with them.
     #[inline]
-    pub(crate) fn fill_indices(&mut self) -> Result<(), MaskError> {
+    fn fill_indices(&mut self) -> Result<(), MaskError> {
         if let Mask::Values(values) = self {
             if let Some(own) = Arc::get_mut(values) {
                 return own.cache_indices();
@@ -125,20 +125,6 @@ impl Mask {
             if values.cached_indices().is_none() {
                 let filled = values.with_indices()?;
                 *self = Mask::Values(crate::kit::shared(filled)?);
-            }
-        }
-        Ok(())
-    }
-
-    // Lets go of the true indices that the mask caches, in the same way.
-    #[inline]
-    pub(crate) fn drop_indices(&mut self) -> Result<(), MaskError> {
-        if let Mask::Values(values) = self {
-            if let Some(own) = Arc::get_mut(values) {
-                own.drop_indices();
-            } else if values.cached_indices().is_some() {
-                let bare = values.without_indices()?;
-                *self = Mask::Values(crate::kit::shared(bare)?);
             }
         }
         Ok(())

@@ -3,6 +3,7 @@
 
 use crate::kit::prelude::*;
 use crate::proved::mask_bits::BitBufferMut;
+use crate::proved::vortex_mask::conditions::ascends;
 use crate::proved::vortex_mask::mask::common_indices::common;
 use crate::proved::vortex_mask::mask::{Mask, MaskError};
 
@@ -50,9 +51,10 @@ impl Mask {
     }
 }
 
-// Order over the whole list first, then repeats, then bounds.
+/// What [`Mask::from_indices`] refuses these indices by, if it does: order over the whole list first, then repeats, then
+/// bounds.
 #[inline(always)]
-fn index_fault(len: usize, indices: &[usize]) -> Option<MaskError> {
+pub fn index_fault(len: usize, indices: &[usize]) -> Option<MaskError> {
     // one quick scan tells that there is no fault, and the slower ones which it is
     if let Some(last) = indices.last() {
         if *last < len && ascends(indices) {
@@ -66,28 +68,6 @@ fn index_fault(len: usize, indices: &[usize]) -> Option<MaskError> {
         return Some(MaskError::RepeatedIndex { at });
     }
     out_of_bounds(len, indices)
-}
-
-// Whether each index is above the one before it. With no early return, so that several are compared
-// at once.
-#[inline]
-fn ascends(indices: &[usize]) -> bool {
-    crate::kit::by_level!(ascends_v3(indices), ascends_any(indices))
-}
-
-#[cfg(target_arch = "x86_64")]
-#[target_feature(enable = "avx2,bmi1,bmi2,f16c,fma,lzcnt,movbe,popcnt")]
-fn ascends_v3(indices: &[usize]) -> bool {
-    ascends_any(indices)
-}
-
-#[inline(always)]
-fn ascends_any(indices: &[usize]) -> bool {
-    let mut ascends = true;
-    for at in 1..indices.len() {
-        ascends &= indices[at - 1] < indices[at];
-    }
-    ascends
 }
 
 // The first place whose index is below the one before it.

@@ -29,7 +29,7 @@ impl Mask {
     /// - *uniform*: `range_fault len ranges.items ≡ None → (rows_held ranges.items ≡ 0) ⊎ (rows_held ranges.items ≡ len) → IsOk result`
     #[inline]
     pub fn from_slices(len: usize, ranges: Vec<(usize, usize)>) -> Result<Mask, MaskError> {
-        if let Some(fault) = fault_of(len, &ranges) {
+        if let Some(fault) = range_fault(len, &ranges) {
             return Err(fault);
         }
         Mask::of_ranges(len, ranges)
@@ -48,9 +48,9 @@ impl Mask {
     }
 }
 
-// What is wrong with ranges that are to make a mask of `len` values.
+/// What [`Mask::from_slices`] refuses these ranges by, if it does.
 #[inline]
-fn fault_of(len: usize, ranges: &[(usize, usize)]) -> Option<MaskError> {
+pub fn range_fault(len: usize, ranges: &[(usize, usize)]) -> Option<MaskError> {
     bad_range(len, ranges).or_else(|| neighbors_fault(ranges))
 }
 

@@ -284,12 +284,6 @@ impl MaskValues {
         Ok(())
     }
 
-    // Lets go of the cached true indices.
-    #[inline]
-    pub(super) fn drop_indices(&mut self) {
-        self.indices = None;
-    }
-
     // Makes the list of the runs and caches it, where there is none.
     #[inline]
     pub(super) fn cache_slices(&mut self) -> Result<(), MaskError> {
@@ -306,14 +300,6 @@ impl MaskValues {
         let mut filled = self.try_clone()?;
         filled.indices = Some(indices);
         Ok(filled)
-    }
-
-    // A clone that doesn't cache them.
-    #[inline]
-    pub(super) fn without_indices(&self) -> Result<MaskValues, MaskError> {
-        let mut bare = self.try_clone()?;
-        bare.drop_indices();
-        Ok(bare)
     }
 
     // A clone with the runs cached.

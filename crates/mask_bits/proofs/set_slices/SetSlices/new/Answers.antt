@@ -1,10 +1,13 @@
-use Rattle.std.proofs.Common.{Bool, List, sym, subst}
-use Rattle.mask_bits.specs.RunScan.{runs_from}
+use Rattle.std.proofs.Common.{false, refl, sym, subst}
 use Rattle.mask_bits.specs.Runs.{AreRuns}
 use Rattle.mask_bits.proofs.Lists.Runs.RunLemmas.{AreRuns-runs_from}
+use Rattle.mask_bits.proofs.RunWalkLemmas.{left-none}
 use Rattle.mask_bits.proofs.set_slices.SetSlices.new.Goals as goal
 
-pub returns : goal.returns
-returns c =
+pub returns-clause-runs : goal.returns-clause-runs
+returns-clause-runs c =
     let m = c.args.chunks in
-    subst (λ (xs : List Bool). AreRuns m (runs_from 0 xs)) (sym c.first_word-word.ensures.all) (AreRuns-runs_from m)
+    subst (AreRuns m) (sym (left-none m 0 0 0 0 false 0 0 refl)) (AreRuns-runs_from m)
+
+pub returns-clause-list : goal.returns-clause-list
+returns-clause-list c = left-none c.args.chunks 0 0 0 0 false 0 0 refl

@@ -23,6 +23,24 @@ pub fn intersect_bit_buffers<D: DepositBits>(
     Ok((Mask::of_words(words, len, true_count)?, steps))
 }
 
+#[inline(always)]
+pub(crate) fn intersect_bit_buffers_any<D: DepositBits>(
+    self_buffer: &BitBuffer,
+    mask_buffer: &BitBuffer,
+    true_count: usize,
+) -> Result<(Mask, Steps), MaskError> {
+    let len = self_buffer.len();
+    let mut words = crate::kit::filled(0u8, 8 * started_words(len))?;
+    let ranks = RankBits::new(mask_buffer);
+    let steps =
+        crate::proved::vortex_mask::intersect_by_rank::kernels::bit_buffers::narrow_by_bits_any::<D>(
+            &self_buffer.chunks(),
+            &ranks,
+            &mut words,
+        );
+    Ok((Mask::of_words(words, len, true_count)?, steps))
+}
+
 /// Writes the values of `chunks` narrowed by those of `ranks` to `out`, which has just the bytes of
 /// the started words, and answers the steps.
 #[inline]

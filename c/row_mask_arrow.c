@@ -1,0 +1,388 @@
+/* Rows of an array of Arrow's C data interface at the true values of a bitmap: row_mask_arrow.h says which. */
+#include "row_mask_arrow.h"
+
+#include "row_mask.h"
+
+#include <errno.h>
+#include <stdio.h>
+#include <stdlib.h>
+#include <string.h>
+
+/* What is in the buffers of an array, behind its validity. */
+enum kind { UNKNOWN, BITS, ROWS, STRINGS, LARGE_STRINGS, STRUCT };
+
+typedef struct layout {
+    enum kind kind;
+    size_t width; /* of rows, in bytes */
+} layout;
+
+/* A bitmap over the rows that are asked for, and how many it chooses. */
+typedef struct selection {
+    const uint8_t *bytes;
+    size_t size, offset, len, count;
+} selection;
+
+#define WHOLE(s) (s)->bytes, (s)->size, (s)->offset, (s)->len
+
+static int refuse(row_mask_arrow_error *error, int number, const char *what, const struct ArrowSchema *schema) {
+    if (error != NULL)
+        snprintf(
+            error->message, sizeof error->message, "%s: column '%.40s' of format '%.20s'", what,
+            schema->name ? schema->name : "", schema->format);
+    return number;
+}
+
+/* ---- formats ---- */
+
+/* The number that a text is, or 0 where it is none or none that a row may have as its width. */
+static size_t number_of(const char *text) {
+    size_t number = 0;
+
+    if (*text == '0')
+        return 0;
+    for (; *text >= '0' && *text <= '9'; text++) {
+        number = 10 * number + (size_t)(*text - '0');
+        if (number > INT32_MAX)
+            return 0;
+    }
+    return *text == 0 ? number : 0;
+}
+
+/* `d:19,10` has 16 bytes, and `d:19,10,N` has N bits. */
+static size_t width_of_decimal(const char *format) {
+    const char *comma = strchr(format, ',');
+    size_t bits;
+
+    if (comma == NULL)
+        return 0;
+    comma = strchr(comma + 1, ',');
+    if (comma == NULL)
+        return 16;
+    bits = number_of(comma + 1);
+    return bits == 32 || bits == 64 || bits == 128 || bits == 256 ? bits / 8 : 0;
+}
+
+/* Times, of which some have a zone behind a colon. */
+static size_t width_of_time(const char *format) {
+    static const struct {
+        const char *format;
+        size_t width;
+    } times[] = {{"tdD", 4}, {"tdm", 8}, {"tts", 4}, {"ttm", 4}, {"ttu", 8}, {"ttn", 8}, {"tDs", 8}, {"tDm", 8},
+                 {"tDu", 8}, {"tDn", 8}, {"tiM", 4}, {"tiD", 8}, {"tin", 16}};
+    size_t i;
+
+    for (i = 0; i < sizeof times / sizeof *times; i++)
+        if (strcmp(format, times[i].format) == 0)
+            return times[i].width;
+    return strncmp(format, "ts", 2) == 0 && format[2] != 0 && strchr("smun", format[2]) && format[3] == ':' ? 8 : 0;
+}
+
+static size_t width_of(const char *format) {
+    static const char letters[] = "cCsSeiIflLg", widths[] = "\1\1\2\2\2\4\4\4\10\10\10";
+    const char *letter;
+
+    if (format[0] == 't')
+        return width_of_time(format);
+    if (format[0] == 'w' && format[1] == ':')
+        return number_of(format + 2);
+    if (format[0] == 'd' && format[1] == ':')
+        return width_of_decimal(format);
+    letter = format[0] != 0 && format[1] == 0 ? strchr(letters, format[0]) : NULL;
+    return letter ? (size_t)widths[letter - letters] : 0;
+}
+
+static layout layout_of(const char *format) {
+    layout it = {UNKNOWN, 0};
+
+    if (strcmp(format, "b") == 0)
+        it.kind = BITS;
+    else if (strcmp(format, "u") == 0 || strcmp(format, "z") == 0)
+        it.kind = STRINGS;
+    else if (strcmp(format, "U") == 0 || strcmp(format, "Z") == 0)
+        it.kind = LARGE_STRINGS;
+    else if (strcmp(format, "+s") == 0)
+        it.kind = STRUCT;
+    else if ((it.width = width_of(format)) > 0)
+        it.kind = ROWS;
+    return it;
+}
+
+static bool is_string(layout it) {
+    return it.kind == STRINGS || it.kind == LARGE_STRINGS;
+}
+
+/* How many buffers an array has, the one of validity among them. */
+static int64_t buffers_of(layout it) {
+    return it.kind == STRUCT ? 1 : is_string(it) ? 3 : 2;
+}
+
+/* ---- what is refused ---- */
+
+/* Whether offsets are numbers that don't descend. */
+static bool ascends_4(const int32_t *offsets, size_t len) {
+    bool ascends = offsets[0] >= 0;
+    size_t i;
+
+    for (i = 0; i < len; i++)
+        ascends &= offsets[i] <= offsets[i + 1];
+    return ascends;
+}
+
+static bool ascends_8(const int64_t *offsets, size_t len) {
+    bool ascends = offsets[0] >= 0;
+    size_t i;
+
+    for (i = 0; i < len; i++)
+        ascends &= offsets[i] <= offsets[i + 1];
+    return ascends;
+}
+
+static bool is_aligned(const void *items, size_t size) {
+    return (uintptr_t)items % size == 0;
+}
+
+static bool has_offsets(const struct ArrowArray *array, bool large, size_t start, size_t len) {
+    const int32_t *offsets = (const int32_t *)array->buffers[1] + start;
+    const int64_t *large_offsets = (const int64_t *)array->buffers[1] + start;
+
+    if (large)
+        return is_aligned(large_offsets, sizeof *large_offsets) && ascends_8(large_offsets, len)
+            && (array->buffers[2] != NULL || large_offsets[0] == large_offsets[len]);
+    return is_aligned(offsets, sizeof *offsets) && ascends_4(offsets, len)
+        && (array->buffers[2] != NULL || offsets[0] == offsets[len]);
+}
+
+/* What can be seen of the buffers of the `len` values from `start` on. Where there are none, buffers may be absent. */
+static bool has_buffers(layout it, const struct ArrowArray *array, size_t start, size_t len) {
+    if (it.kind == STRUCT || len == 0)
+        return true;
+    if (array->buffers[1] == NULL)
+        return false;
+    return !is_string(it) || has_offsets(array, it.kind == LARGE_STRINGS, start, len);
+}
+
+/* Whether the `len` rows from `start` on of an array can be filtered, and so those of its children. */
+static int check(
+    const struct ArrowSchema *schema, const struct ArrowArray *array, size_t start, size_t len,
+    row_mask_arrow_error *error) {
+    layout it = layout_of(schema->format);
+    int64_t i;
+    int status = 0;
+
+    if (it.kind == UNKNOWN)
+        return refuse(error, ENOTSUP, "not supported", schema);
+    if (schema->dictionary != NULL || array->dictionary != NULL)
+        return refuse(error, ENOTSUP, "dictionaries are not supported", schema);
+    if (array->length < 0 || array->offset < 0 || array->offset > INT64_MAX - array->length
+        || start + len > (size_t)array->length)
+        return refuse(error, EINVAL, "bad length or offset", schema);
+    if (array->n_buffers != buffers_of(it) || array->buffers == NULL)
+        return refuse(error, EINVAL, "bad number of buffers", schema);
+    if (array->n_children != schema->n_children || (it.kind != STRUCT && array->n_children != 0))
+        return refuse(error, EINVAL, "bad number of children", schema);
+    start += (size_t)array->offset;
+    if (!has_buffers(it, array, start, len))
+        return refuse(error, EINVAL, "a bad buffer", schema);
+    for (i = 0; i < array->n_children && status == 0; i++)
+        status = check(schema->children[i], array->children[i], start, len, error);
+    return status;
+}
+
+/* ---- what is made ---- */
+
+/* The memory of an array. */
+typedef struct kept {
+    void *buffers[3];
+    struct ArrowArray **children;
+} kept;
+
+static void release(struct ArrowArray *array) {
+    kept *it = (kept *)array->private_data;
+    int64_t i;
+
+    for (i = 0; i < array->n_children; i++) {
+        if (it->children[i]->release != NULL)
+            it->children[i]->release(it->children[i]);
+        free(it->children[i]);
+    }
+    for (i = 0; i < 3; i++)
+        free(it->buffers[i]);
+    free(it->children);
+    free(it);
+    array->release = NULL;
+}
+
+/* An array of so many values, with no buffer and no child yet. */
+static bool begin(struct ArrowArray *out, layout of, int64_t children, size_t count) {
+    kept *it = (kept *)calloc(1, sizeof *it);
+
+    memset(out, 0, sizeof *out);
+    if (it == NULL)
+        return false;
+    out->private_data = it;
+    out->release = release;
+    out->length = (int64_t)count;
+    out->n_buffers = buffers_of(of);
+    out->buffers = (const void **)it->buffers;
+    it->children = out->children = (struct ArrowArray **)calloc((size_t)children + 1, sizeof *out->children);
+    return it->children != NULL;
+}
+
+/* Room for a buffer, or NULL where there is no memory. */
+static void *room(struct ArrowArray *out, int buffer, size_t size) {
+    kept *it = (kept *)out->private_data;
+
+    return it->buffers[buffer] = malloc(size > 0 ? size : 1);
+}
+
+static bool choose_validity(
+    const struct ArrowArray *array, size_t start, const selection *rows, struct ArrowArray *out) {
+    const uint8_t *values = (const uint8_t *)array->buffers[0];
+    size_t size = row_mask_room(rows->count);
+    uint8_t *made;
+
+    if (array->null_count == 0 || values == NULL || rows->len == 0)
+        return true;
+    made = (uint8_t *)room(out, 0, size);
+    if (made == NULL)
+        return false;
+    row_mask_choose_bits(WHOLE(rows), values, row_mask_room(start + rows->len), start, made, size);
+    out->null_count = (int64_t)(rows->count - row_mask_count(made, size, 0, rows->count));
+    return true;
+}
+
+static bool choose_bits(const uint8_t *values, size_t start, const selection *rows, struct ArrowArray *out) {
+    size_t size = row_mask_room(rows->count);
+    uint8_t *made = (uint8_t *)room(out, 1, size);
+
+    if (made != NULL && rows->len > 0)
+        row_mask_choose_bits(WHOLE(rows), values, row_mask_room(start + rows->len), start, made, size);
+    return made != NULL;
+}
+
+/* Rows of any width, by the runs of rows that are chosen. */
+static void copy_runs(const selection *rows, const uint8_t *from, size_t width, uint8_t *to) {
+    row_mask_run run = {0, 0};
+
+    for (;;) {
+        run = row_mask_next_run(WHOLE(rows), run.end);
+        if (run.start == run.end)
+            return;
+        memcpy(to, from + width * run.start, width * (run.end - run.start));
+        to += width * (run.end - run.start);
+    }
+}
+
+#define CHOOSE(size, row)                                                                          \
+    if (width == (size) && is_aligned(from, sizeof(row) < 16 ? sizeof(row) : 8)) {                 \
+        row_mask_choose_##size(WHOLE(rows), (const row *)from, rows->len, (row *)to, rows->count); \
+        return true;                                                                               \
+    }
+
+static bool choose_rows(
+    const void *items, size_t width, size_t start, const selection *rows, struct ArrowArray *out) {
+    void *to = rows->count > SIZE_MAX / width ? NULL : room(out, 1, width * rows->count);
+    const uint8_t *from = (const uint8_t *)items;
+
+    if (to == NULL || rows->len == 0)
+        return to != NULL;
+    from += width * start;
+    CHOOSE(1, uint8_t)
+    CHOOSE(2, uint16_t)
+    CHOOSE(4, uint32_t)
+    CHOOSE(8, uint64_t)
+    CHOOSE(16, row_mask_16)
+    copy_runs(rows, from, width, (uint8_t *)to);
+    return true;
+}
+
+#define CHOOSE_STRINGS(name, size, number)                                                                    \
+    static bool name(                                                                                         \
+        const struct ArrowArray *array, size_t start, const selection *rows, struct ArrowArray *out) {         \
+        static const number none[] = {0};                                                                     \
+        const number *offsets = rows->len > 0 ? (const number *)array->buffers[1] + start : none;             \
+        number *made = (number *)room(out, 1, (rows->count + 1) * sizeof *made);                              \
+        size_t bytes;                                                                                         \
+        uint8_t *to;                                                                                          \
+                                                                                                              \
+        if (made == NULL)                                                                                     \
+            return false;                                                                                     \
+        bytes = row_mask_choose_offsets_##size(WHOLE(rows), offsets, rows->len + 1, made, rows->count + 1);   \
+        to = (uint8_t *)room(out, 2, bytes);                                                                  \
+        if (to != NULL && bytes > 0)                                                                          \
+            row_mask_choose_bytes_##size(                                                                     \
+                WHOLE(rows), offsets, rows->len + 1, (const uint8_t *)array->buffers[2], offsets[rows->len], to, \
+                bytes);                                                                                       \
+        return to != NULL;                                                                                    \
+    }
+
+CHOOSE_STRINGS(choose_strings, 4, uint32_t)
+CHOOSE_STRINGS(choose_large_strings, 8, uint64_t)
+
+static bool choose(
+    const struct ArrowSchema *schema, const struct ArrowArray *array, size_t start, const selection *rows,
+    struct ArrowArray *out);
+
+static bool choose_children(
+    const struct ArrowSchema *schema, const struct ArrowArray *array, size_t start, const selection *rows,
+    struct ArrowArray *out) {
+    bool found = true;
+    int64_t i;
+
+    for (i = 0; i < array->n_children && found; i++) {
+        out->children[i] = (struct ArrowArray *)calloc(1, sizeof *out);
+        found = out->children[i] != NULL;
+        out->n_children += found;
+        found = found && choose(schema->children[i], array->children[i], start, rows, out->children[i]);
+    }
+    return found;
+}
+
+/* Whether there was memory. If not, `out` is what there was memory for, which is released. */
+static bool choose(
+    const struct ArrowSchema *schema, const struct ArrowArray *array, size_t start, const selection *rows,
+    struct ArrowArray *out) {
+    layout it = layout_of(schema->format);
+
+    start += (size_t)array->offset;
+    if (!begin(out, it, array->n_children, rows->count) || !choose_validity(array, start, rows, out))
+        return false;
+    switch (it.kind) {
+    case BITS:
+        return choose_bits((const uint8_t *)array->buffers[1], start, rows, out);
+    case ROWS:
+        return choose_rows(array->buffers[1], it.width, start, rows, out);
+    case STRINGS:
+        return choose_strings(array, start, rows, out);
+    case LARGE_STRINGS:
+        return choose_large_strings(array, start, rows, out);
+    default:
+        return choose_children(schema, array, start, rows, out);
+    }
+}
+
+int row_mask_arrow_filter(
+    const struct ArrowSchema *schema, const struct ArrowArray *array, const uint8_t *bytes, size_t bytes_size,
+    size_t offset, size_t len, struct ArrowArray *out, row_mask_arrow_error *error) {
+    selection rows;
+    struct ArrowArray made;
+    int status;
+
+    if (array->length < 0 || (size_t)array->length != len || !row_mask_is_within(bytes, bytes_size, offset, len))
+        return refuse(error, EINVAL, "a bitmap of other rows", schema);
+    status = check(schema, array, 0, len, error);
+    if (status != 0)
+        return status;
+    rows.bytes = bytes;
+    rows.size = bytes_size;
+    rows.offset = offset;
+    rows.len = len;
+    rows.count = row_mask_count(bytes, bytes_size, offset, len);
+    if (!choose(schema, array, 0, &rows, &made)) {
+        if (made.release != NULL)
+            made.release(&made);
+        return refuse(error, ENOMEM, "no memory", schema);
+    }
+    *out = made;
+    return 0;
+}

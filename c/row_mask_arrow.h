@@ -1,0 +1,81 @@
+/* Rows of an array of Arrow's C data interface at the true values of a bitmap.
+ *
+ * A program compiles row_mask_arrow.c, which is C99 or C++11, beside a library of row_mask.h. It takes memory by
+ * `malloc`. The two structs are those of Arrow's page, under its guard: a program that has them of another header defines
+ * ARROW_C_DATA_INTERFACE before this one, where that header didn't. */
+#ifndef ROW_MASK_ARROW_H
+#define ROW_MASK_ARROW_H
+
+#include <stddef.h>
+#include <stdint.h>
+
+#ifdef __cplusplus
+extern "C" {
+#endif
+
+#ifndef ARROW_C_DATA_INTERFACE
+#define ARROW_C_DATA_INTERFACE
+
+#define ARROW_FLAG_DICTIONARY_ORDERED 1
+#define ARROW_FLAG_NULLABLE 2
+#define ARROW_FLAG_MAP_KEYS_SORTED 4
+
+struct ArrowSchema {
+    const char *format;
+    const char *name;
+    const char *metadata;
+    int64_t flags;
+    int64_t n_children;
+    struct ArrowSchema **children;
+    struct ArrowSchema *dictionary;
+    void (*release)(struct ArrowSchema *);
+    void *private_data;
+};
+
+struct ArrowArray {
+    int64_t length;
+    int64_t null_count;
+    int64_t offset;
+    int64_t n_buffers;
+    int64_t n_children;
+    const void **buffers;
+    struct ArrowArray **children;
+    struct ArrowArray *dictionary;
+    void (*release)(struct ArrowArray *);
+    void *private_data;
+};
+
+#endif
+
+/* Why an array is not filtered, in words: a text that a 0 ends. */
+typedef struct row_mask_arrow_error {
+    char message[128];
+} row_mask_arrow_error;
+
+/* Makes an array of the rows of `array` at the true values of the bitmap, in their order, and answers 0. It is of the same
+ * `schema`, has an offset of 0 and says its `null_count`. Nothing in it points to the array that it was made of. Its
+ * owner releases it by its callback, and may move it or a child of it, as Arrow says.
+ *
+ * Formats are those whose rows have a fixed width: `c`, `C`, `s`, `S`, `i`, `I`, `l`, `L`, `e`, `f`, `g`, `w:N`, `d:..`,
+ * and those that begin with `t`; `b`; `u`, `U`, `z` and `Z`; and `+s` of these. Buffers may be absent where an array has
+ * no values, and the one of validity where it has no null.
+ *
+ * Else the answer is a number of <errno.h>, `error` says why unless it is NULL, and nothing else was written:
+ *
+ * - ENOTSUP: another format, or a dictionary. The message names it, with its column.
+ * - EINVAL: an array that its schema doesn't fit, such as one with too few buffers or children, with a negative number, or
+ *   with an offset of a string below the one before it. Or a bitmap that has another length than the array, or whose bits
+ *   are not all within its bytes.
+ * - ENOMEM: no memory.
+ *
+ * That buffers are as long as the array says can't be seen, and is owed by the caller. `array` and `schema` are only
+ * read, and are still their owner's to release. */
+int row_mask_arrow_filter(
+    const struct ArrowSchema *schema, const struct ArrowArray *array, const uint8_t *bytes, size_t bytes_size,
+    size_t offset, size_t len, struct ArrowArray *out, row_mask_arrow_error *error);
+
+#ifdef __cplusplus
+}
+#endif
+
+#endif

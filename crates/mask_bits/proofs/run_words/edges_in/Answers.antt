@@ -1,0 +1,24 @@
+use Rattle.std.proofs.Common.{List, ℕ, ◌/◌, ◌%◌, ◌^◌, ◌+◌, ◌-◌, nat_eq, ap, sym, arith, ◌∙◌, ◌++◌}
+use Rattle.std.specs.Int.{w64, leading_ones}
+use Rattle.mask_bits.specs.Pushed.{runs_behind, runs_between}
+use Rattle.mask_bits.proofs.RunWordLemmas.{behind-word, word-ends, word-begun}
+use Rattle.mask_bits.proofs.run_words.edges_in.Goals as goal
+
+pub returns-clause-runs : goal.returns-clause-runs
+returns-clause-runs c rest =
+    let a = c.args in
+    let is = c.requires in
+    let e = c.edges_of-edges.result in
+    let behind_ones : ℕ → List (ℕ × ℕ) = λ k. runs_behind (nat_eq (a.word / 2 ^ 63) 1) ((a.base + (64 - k)) % 2 ^ 64) (a.base + 64) rest in
+    let behind : List (ℕ × ℕ) = behind_ones (leading_ones w64 a.word) in
+    ap (λ k. runs_between a.base e.first e.starts e.ends ++ behind_ones k) c.leading_ones.ensures
+    ∙ ap (λ (rs : List (ℕ × ℕ)). rs ++ behind) c.edges_of-edges.ensures.runs
+    ∙ behind-word a.begun.inside a.begun.start a.base a.word a.before rest is.fits c.ranges.word.fits c.ranges.before.fits is.bits is.some
+
+pub returns-clause-ended : goal.returns-clause-ended
+returns-clause-ended c is =
+    omega (arith, c.edges_of-edges.ensures.ends, word-ends c.args.begun.inside c.args.word c.args.before c.ranges.word.fits c.requires.bits c.requires.some is)
+
+pub returns-clause-begun : goal.returns-clause-begun
+returns-clause-begun c none some =
+    word-begun c.args.begun.inside c.args.word c.args.before c.ranges.word.fits c.requires.bits (sym c.edges_of-edges.ensures.ends ∙ none) some

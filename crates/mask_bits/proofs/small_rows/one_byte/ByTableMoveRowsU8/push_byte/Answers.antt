@@ -1,0 +1,17 @@
+use Rattle.std.proofs.Common.{◌+◌, count_ones, length, ap, arith}
+use Rattle.std.proofs.lemmas.List.{length-append, length-take}
+use Rattle.std.proofs.lemmas.Nat.{ones-le}
+use Rattle.std.proofs.Math.Seq.{take-append-add}
+use Rattle.mask_bits.proofs.ByteLemmas.{count-byte}
+use Rattle.mask_bits.proofs.small_rows.one_byte.ByTableMoveRowsU8.push_byte.Goals as goal
+
+pub cut-requires : goal.cut-requires
+cut-requires g c =
+    omega (arith, c.count-before.ensures.count, ap length c.push_eight.ensures.items, length-append (g.R.Room.items c.args.out.now) c.rows_of_byte.result, c.rows_of_byte.type_inv, ones-le 8 c.args.byte c.ranges.byte.fits)
+
+pub returns-clause-rows : goal.returns-clause-rows
+returns-clause-rows g c = grind (arith, take-append-add)
+
+pub returns-clause-len : goal.returns-clause-len
+returns-clause-len g c =
+    omega (arith, c.count-before.ensures.count, ap length c.push_eight.ensures.items, length-append (g.R.Room.items c.args.out.now) c.rows_of_byte.result, c.rows_of_byte.type_inv, ones-le 8 c.args.byte c.ranges.byte.fits, ap length c.cut.ensures.items, length-take (c.count-before.result + count_ones c.args.byte) (g.R.Room.items c.push_eight.new.out), count-byte c.args.byte c.ranges.byte.fits)

@@ -1,0 +1,39 @@
+-- Runs from an index on, one after another, as many as there is room for.
+use Rattle.std.proofs.Common.{◌≡◌, ℕ, suc, ◌+◌, ◌<◌, ◌≤◌, ◌⊎◌, Bool, List, [], ◌∷◌, ◌++◌, append_assoc, length, set, take, map, sym, ap, ◌∙◌, add-zero, append-nil, arith}
+use Rattle.std.proofs.Math.Seq.{take-suc-set}
+use Rattle.std.proofs.lemmas.List.{length-map, map-append, take_all, take_at}
+use Rattle.mask_bits.specs.RunScan.{runs_from}
+use Rattle.mask_bits.proofs.Lists.Runs.RunLemmas.{runs_from-moved}
+use Rattle.mask_c.specs.declared.runs.RowMaskRun.{RowMaskRun}
+
+-- a run as a pair
+abbrev pub pair : RowMaskRun → ℕ × ℕ
+pair r = (r.start, r.end)
+
+abbrev pub run_of : ℕ → ℕ × ℕ → RowMaskRun
+run_of from r = record { start = from + r.0; end = from + r.1 }
+
+-- a run whose indices are counted from a value on
+abbrev pub moved : ℕ → ℕ × ℕ → ℕ × ℕ
+moved from r = (from + r.0, from + r.1)
+
+-- what was written where nothing is left, or the room is full
+pub runs_stopped : (n at : ℕ) (xs rest whole : List (ℕ × ℕ)) → length xs ≡ at → at ≤ n → xs ++ rest ≡ whole → ((rest ≡ []) ⊎ (at ≡ n)) → xs ≡ take n whole
+runs_stopped n at xs rest whole len room is either = grind (arith, append-nil, take_all, take_at)
+
+-- one more
+pub run_more : (from at : ℕ) (out : List RowMaskRun) (r : ℕ × ℕ) (left : List (ℕ × ℕ)) → at < length out
+    → map pair (take (at + 1) (set out at (run_of from r))) ++ map (moved from) left ≡ map pair (take at out) ++ map (moved from) (r ∷ left)
+run_more from at out r left inside =
+    let next : at + 1 ≡ suc at = omega arith in
+    ap (λ n. map pair (take n (set out at (run_of from r))) ++ map (moved from) left) next
+    ∙ ap (λ (xs : List RowMaskRun). map pair xs ++ map (moved from) left) (take-suc-set out at (run_of from r) inside)
+    ∙ ap (λ (xs : List (ℕ × ℕ)). xs ++ map (moved from) left) (map-append pair (take at out) (run_of from r ∷ []))
+    ∙ append_assoc (map pair (take at out)) (pair (run_of from r) ∷ []) (map (moved from) left)
+
+-- the runs of values of which the first has another index
+pub moved_runs : (from : ℕ) (m : List Bool) → map (moved from) (runs_from 0 m) ≡ runs_from from m
+moved_runs from m = sym (runs_from-moved from 0 m) ∙ ap (λ n. runs_from n m) (add-zero from)
+
+pub length_moved : (from : ℕ) (m : List Bool) → length (runs_from 0 m) ≡ length (runs_from from m)
+length_moved from m = sym (length-map (runs_from 0 m) (moved from)) ∙ ap length (moved_runs from m)

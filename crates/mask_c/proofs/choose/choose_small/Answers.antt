@@ -1,0 +1,16 @@
+use Rattle.std.proofs.Common.{ap, ◌∙◌, length, arith}
+use Rattle.std.proofs.lemmas.List.{length-take}
+use Rattle.mask_bits.proofs.Lists.LawLemmas.{length-chosen}
+use Rattle.mask_bits.specs.Positions.{chosen}
+use Rattle.mask_c.proofs.choose.choose_small.Goals as goal
+
+pub returns : goal.returns
+returns g c =
+    let rows = c.args.rows.now in
+    let room = c.choose_small_rows.new.out in
+    let front = c.choose_small_rows.ensures.rows ∙ ap (chosen rows) c.new-chunks.ensures.list in
+    let same = ap (λ k. k.0) c.choose_small_rows.ensures.kept in
+    record {
+      front = grind (arith, front, same);
+      counted = grind (arith, ap length c.choose_small_rows.ensures.rows, length-take room.at room.out.now, room.within, length-chosen rows c.new-chunks.result, c.new-chunks.ensures);
+    }

@@ -1,0 +1,18 @@
+use Rattle.std.proofs.Common.{◌≡◌, ◌+◌, ◌-◌, ◌<◌, ◌≤◌, ◌++◌, ℕ, length, map, take}
+use Rattle.std.specs.List.{All}
+use Rattle.mask_bits.specs.RunScan.{runs}
+use Rattle.mask_c.proofs.RunLemmas.{moved, pair}
+use Rattle.mask_c.proofs.runs.runs_of_values.Given as goal
+
+-- the runs so far and those that are left are all
+abbrev pub invariant-loop-at : goal.invariant-loop-at
+invariant-loop-at l = record {
+  all : map pair (take l.at l.out) ++ map (moved l.fn.from) l.runs ≡ map (moved l.fn.from) (runs l.fn.values);
+  counted : l.at + length l.runs ≡ length (runs l.fn.values);
+  nonempty : All (λ (r : ℕ × ℕ). r.0 < r.1) l.runs;
+  within : All (λ (r : ℕ × ℕ). r.1 ≤ length l.fn.values) l.runs;
+  room : l.at ≤ length l.out;
+}
+
+abbrev pub decreases-loop-at : goal.decreases-loop-at
+decreases-loop-at l = length l.out - l.at

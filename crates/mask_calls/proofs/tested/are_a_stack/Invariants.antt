@@ -1,8 +1,0 @@
-use Rattle.std.proofs.Common.{◌∷◌, ◌↔◌, map, drop}
-use Rattle.vortex_mask.specs.Mask.{truth}
-use Rattle.mask_bits.specs.Stacks.{IsStack}
-use Rattle.mask_calls.proofs.tested.are_a_stack.Given as goal
-
--- the masks are a stack exactly if those from the one before on are
-abbrev pub invariant-loop-mask : goal.invariant-loop-mask
-invariant-loop-mask l = IsStack (truth l.before ∷ map truth (drop l.mask-index l.rest)) ↔ IsStack (truth l.first ∷ map truth l.rest)

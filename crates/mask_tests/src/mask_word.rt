@@ -1,0 +1,131 @@
+//! Masks by words of a row.
+
+use crate::fault::Fault;
+use crate::listed::Ranged;
+use crate::packed::{self, Packed};
+use crate::words::{Word, halves, number, values};
+use mask_bits::BitBuffer;
+use std::alloc::Global;
+use vortex_mask::{Mask, MaskError, MaskValues};
+
+/// The mask of a word that may begin with `i:`, `r:` or `ir:`, where its indices or ranges are then cached.
+impl Word for Mask {
+    fn read(alloc: Global, word: &str) -> Result<Mask, Fault> {
+        match word.split_once(":") {
+            Some((lists @ ("i" | "r" | "ir"), rest)) => cached(alloc, rest, lists),
+            _ => mask(alloc, word),
+        }
+    }
+}
+
+/// The values of a mixed mask, as their own clone.
+impl Word for Option<MaskValues> {
+    fn read(alloc: Global, word: &str) -> Result<Option<MaskValues>, Fault> {
+        match Mask::read(alloc, word)?.values() {
+            Some(values) => Ok(Some(values.clone()?)),
+            None => Err(Fault::Unmet("a mixed mask")),
+        }
+    }
+}
+
+fn cached(alloc: Global, word: &str, lists: &str) -> Result<Mask, Fault> {
+    let mut mask = mask(alloc, word)?;
+    if lists.contains("i") {
+        let _ = mask.indices(alloc)?;
+    }
+    if lists.contains("r") {
+        let _ = mask.slices(alloc)?;
+    }
+    Ok(mask)
+}
+
+// A mask by a word: `all:5` and `none:5` of one value, `5:1,3` by `from_indices`, `10:0..3,5..7` by `from_slices`,
+// `ranged:10:0..3,5..7` by `from_buffer_with_slices`, `rows:10110` by that constructor, and otherwise of a buffer, as
+// that is written, which caches nothing.
+fn mask(alloc: Global, word: &str) -> Result<Mask, Fault> {
+    match word.split_once(":") {
+        Some(("all", len)) => Ok(Mask::new_true(number(len)?)),
+        Some(("none", len)) => Ok(Mask::new_false(number(len)?)),
+        Some(("bytes", _)) => of_packed(alloc, word),
+        Some(("every" | "first" | "at", _)) | None => of_bits(alloc, word),
+        Some(("ranged", rest)) if rest.contains("..") => of_ranges(alloc, rest),
+        Some((form, list)) => match number(form) {
+            Ok(len) => listed(alloc, len, list),
+            Err(_) => by_constructor(alloc, form, values(alloc, list)?),
+        },
+    }
+}
+
+fn listed(alloc: Global, len: usize, list: &str) -> Result<Mask, Fault> {
+    if list.contains("..") {
+        return Ok(Mask::from_slices(alloc, len, Vec::read(alloc, list)?)?);
+    }
+    let indices: Vec<usize> = Vec::read(alloc, list)?;
+    Ok(Mask::from_indices(alloc, len, indices.into_iter())?)
+}
+
+// So many values, with ranges of the true ones that may touch.
+fn of_ranges(alloc: Global, word: &str) -> Result<Mask, Fault> {
+    let (len, ranges) = halves(word, ":", "two parts")?;
+    let ranged = Ranged::of_ranges(alloc, number(len)?, Vec::read(alloc, ranges)?)?;
+    Ok(ranged.mask(alloc)?)
+}
+
+fn of_packed(alloc: Global, word: &str) -> Result<Mask, Fault> {
+    Ok(Mask::from_buffer(alloc, BitBuffer::read(alloc, word)?)?)
+}
+
+fn of_bits(alloc: Global, word: &str) -> Result<Mask, Fault> {
+    if Packed::of_word(word).is_some() {
+        of_packed(alloc, word)
+    } else {
+        Ok(Mask::from_bools(alloc, values(alloc, word)?.into_iter())?)
+    }
+}
+
+// The mask of these values by a constructor of truth values.
+fn by_constructor(alloc: Global, form: &str, values: Vec<bool>) -> Result<Mask, Fault> {
+    match form {
+        "bools" => Ok(Mask::from_bools(alloc, values.iter().copied())?),
+        "rows" => Ok(Mask::from_rows(alloc, &values, |row| *row)?),
+        _ => of_buffer(alloc, form, packed::from_bools(alloc, &values)?),
+    }
+}
+
+// By one of a buffer, or of lists of what it holds.
+fn of_buffer(alloc: Global, form: &str, buffer: BitBuffer) -> Result<Mask, Fault> {
+    let len = buffer.len();
+    match form {
+        "buffer" => Ok(Mask::from_buffer(alloc, buffer)?),
+        "ranged" => Ok(Ranged::of_runs(alloc, buffer)?.mask(alloc)?),
+        "indices" => Ok(Mask::from_indices(alloc, len, buffer.set_indices())?),
+        "excluded" => Ok(of_excluded(alloc, buffer)?),
+        "common" => Ok(Mask::from_intersection_indices(
+            alloc,
+            len,
+            buffer.set_indices(),
+            buffer.set_indices(),
+        )?),
+        "slices" => Ok(Mask::from_slices(alloc, len, buffer.runs(alloc)?)?),
+        _ => of_parts(alloc, form, Mask::from_buffer(alloc, buffer)?),
+    }
+}
+
+fn of_excluded(alloc: Global, buffer: BitBuffer) -> Result<Mask, MaskError> {
+    let excluded = buffer.not(alloc)?;
+    Mask::from_excluded_indices(alloc, buffer.len(), excluded.set_indices())
+}
+
+// By one of masks: the first third, and the rest.
+fn of_parts(alloc: Global, form: &str, mask: Mask) -> Result<Mask, Fault> {
+    let third = mask.len() / 3;
+    let parts = [
+        mask.slice(alloc, 0, third)?,
+        mask.slice(alloc, third, mask.len())?,
+    ];
+    match form {
+        "concat" => Ok(Mask::concat(alloc, parts.iter())?),
+        "masks" => Ok(Mask::from_masks(alloc, parts.into_iter())?),
+        _ => Err(Fault::Malformed("a mask")),
+    }
+}

@@ -1,5 +1,0 @@
-use Rattle.std.proofs.Common.{length}
-use Rattle.uses.proofs.stacks.+are_a_stack.Given as goal
-
-abbrev pub decreases-are_a_stack : goal.decreases-are_a_stack
-decreases-are_a_stack l = length l.rest.now

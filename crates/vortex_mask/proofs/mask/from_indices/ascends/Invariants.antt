@@ -1,6 +1,0 @@
-use Rattle.std.proofs.Common.{◌+◌, ◌<◌, ◌↔◌, IsTrue, ℕ, length, get_or}
-use Rattle.vortex_mask.proofs.mask.from_indices.ascends.Given as goal
-
--- the indices before this one ascend
-abbrev pub invariant-loop-at : goal.invariant-loop-at
-invariant-loop-at l = IsTrue l.ascends ↔ ((k : ℕ) → k + 1 < l.at → k + 1 < length l.indices → get_or l.indices k 0 < get_or l.indices (k + 1) 0)

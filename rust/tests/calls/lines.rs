@@ -1,0 +1,125 @@
+// Made of crates/mask_tests/src/lines.rt by `rust/erase`: change that, and make this anew.
+//! How a call stands in a line.
+
+use crate::fault::Fault;
+use crate::host::{AllocGlobal, Input, Print};
+use crate::tell::tell_fault;
+use crate::text::Text;
+use row_mask::kit::prelude::*;
+
+/// The names of the operands that a line reads, where there is a line of this name and they are there.
+pub(crate) type Found = Option<&'static str>;
+
+/// Calls by lines such as
+///
+///     "slice" (a m n) [m <= n && n <= a.len(), "a range within the mask"] => a.slice(alloc, m, n),
+///
+/// A line has the name of a call; what it reads from a row, by names that `Operands::read` and `operand` know; what the
+/// call requires, in words too; and the call, whose answer is told by `Tell`. A line may also write it itself.
+macro_rules! calls {
+    ($name:ident, $o:ident, $text:ident; $(
+        $call:literal ($first:ident $($next:ident)*) $([$is_met:expr, $condition:literal])? => $answer:expr,
+    )*) => {
+        match $name {
+            $($call => {
+                if $o.are_read {
+
+                    let $first = $crate::lines::operand!($o, $first);
+                    $(let $next = $crate::lines::operand!($o, $next);)*
+                    $(if !($is_met) {
+                        return $crate::lines::unmet($text, $condition);
+                    })?
+                    $crate::tell::Tell::tell($answer, $text);
+                }
+                Some(concat!(stringify!($first) $(, " ", stringify!($next))*))
+            })*
+            _ => None,
+        }
+    };
+}
+
+// How a call takes an operand that is not a number: lent, for a change, or by value.
+macro_rules! operand {
+    ($o:ident, taken) => {
+        std::mem::take(&mut $o.a.it)
+    };
+    ($o:ident, changed) => {
+        &mut $o.a.it
+    };
+    ($o:ident, taken_masks) => {
+        std::mem::replace(&mut $o.masks.it, Vec::new())
+    };
+    ($o:ident, taken_x) => {
+        std::mem::replace(&mut $o.x.it, $crate::packed::empty())
+    };
+    ($o:ident, taken_ranges) => {
+        std::mem::replace(&mut $o.ranges, Vec::new())
+    };
+    ($o:ident, taken_bytes) => {
+        std::mem::replace(&mut $o.bytes, Vec::new())
+    };
+    ($o:ident, taken_ranged) => {
+        $crate::lines::there!($o.ranged.take())
+    };
+    ($o:ident, values) => {
+        $crate::lines::there!(&$o.values.it)
+    };
+    ($o:ident, changed_values) => {
+        $crate::lines::there!(&mut $o.values.it)
+    };
+    ($o:ident, rows) => {
+        $crate::lines::there!(&$o.rows)
+    };
+    ($o:ident, ranks) => {
+        $crate::lines::there!(&$o.ranks)
+    };
+    ($o:ident, builder) => {
+        $crate::lines::there!(&mut $o.builder)
+    };
+    ($o:ident, list) => {
+        &$o.list
+    };
+    ($o:ident, flags) => {
+        &$o.flags
+    };
+    ($o:ident, source) => {
+        $o.m as u64
+    };
+    ($o:ident, word) => {
+        $o.n as u64
+    };
+    ($o:ident, m) => {
+        $o.m
+    };
+    ($o:ident, n) => {
+        $o.n
+    };
+    ($o:ident, p) => {
+        $o.p
+    };
+    ($o:ident, q) => {
+        $o.q
+    };
+    ($o:ident, $held:ident) => {
+        &$o.$held.it
+    };
+}
+
+macro_rules! there {
+    ($operand:expr) => {
+        match $operand {
+            Some(it) => it,
+            None => return None,
+        }
+    };
+}
+
+pub(crate) use calls;
+pub(crate) use operand;
+pub(crate) use there;
+
+/// Says that a row breaks a condition of its call.
+pub(crate) fn unmet(text: &mut Text, condition: &'static str) -> Found {
+    tell_fault(text, Fault::Unmet(condition));
+    Some("")
+}

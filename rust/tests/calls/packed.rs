@@ -1,0 +1,133 @@
+// Made of crates/mask_tests/src/packed.rt by `rust/erase`: change that, and make this anew.
+//! Packed bits at an offset, with bits outside the list that are as a test wants them.
+
+use crate::fault::Fault;
+use crate::host::{AllocGlobal, Input, Print};
+use crate::words::{Word, are_digits, halves, number, pair, push, values};
+use row_mask::BitBuffer;
+use row_mask::kit::Bytes;
+use row_mask::kit::prelude::*;
+
+/// A list of digits from bit `offset` on, and digits outside of it: each one before it, the first two behind it, and
+/// each one behind these.
+#[derive(Clone, Copy)]
+pub(crate) struct Packed<'a> {
+    offset: &'a str,
+    list: &'a str,
+    before: &'static str,
+    behind: &'static str,
+    last: &'static str,
+}
+
+impl<'a> Packed<'a> {
+    /// The parts of a word such as `3+10110`, with set bits around the list; `-` is for clear ones, and `~` for set ones
+    /// before it and one set bit behind it, between two clear ones.
+    pub fn of_word(word: &'a str) -> Option<Packed<'a>> {
+        if word == "-" {
+            return None;
+        }
+        for (mark, before, behind, last) in
+            [("+", "1", "11", "1"), ("~", "1", "01", "0"), ("-", "0", "00", "0")]
+        {
+            if let Some((offset, list)) = word.split_once(mark) {
+                return Some(Packed {
+                    offset,
+                    list: if list == "-" { "" } else { list },
+                    before,
+                    behind,
+                    last,
+                });
+            }
+        }
+        None
+    }
+
+    fn buffer(self) -> Result<BitBuffer, Fault> {
+        are_digits(self.list)?;
+        let offset = number(self.offset)?;
+        of_own(self.bytes(offset)?, offset, self.list.len())
+    }
+
+    // What lies outside fills the last byte, and nine bytes more.
+    fn bytes(self, offset: usize) -> Result<Vec<u8>, Fault> {
+        let mut digits = String::new();
+        for _ in 0..offset.min(LONGEST) {
+            digits.try_push_str(self.before)?;
+        }
+        digits.try_push_str(self.list)?;
+        digits.try_push_str(self.behind)?;
+        for _ in 0..77 {
+            digits.try_push_str(self.last)?;
+        }
+        bytes_of(digits.as_bytes())
+    }
+}
+
+// No longer list of bits is in a row.
+const LONGEST: usize = 8_000_000;
+
+// Eight digits for a byte, the first lowest.
+fn bytes_of(digits: &[u8]) -> Result<Vec<u8>, Fault> {
+    let mut bytes: Vec<u8> = Vec::new();
+    let (eights, _) = digits.as_chunks::<8>();
+    for eight in eights {
+        push(&mut bytes, byte_of(eight))?;
+    }
+    Ok(bytes)
+}
+
+fn byte_of(digits: &[u8; 8]) -> u8 {
+    let mut byte = 0u8;
+    for digit in digits.iter().rev() {
+        byte = byte << 1 | *digit & 1;
+    }
+    byte
+}
+
+/// A buffer of no bits.
+pub(crate) fn empty() -> BitBuffer {
+    BitBuffer::new(Bytes::new(), 0)
+}
+
+// `BitBuffer::new_with_offset`, of bytes that nobody else holds.
+fn of_own(bytes: Vec<u8>, offset: usize, len: usize) -> Result<BitBuffer, Fault> {
+    if bytes.len() > LONGEST / 8 {
+        return Err(Fault::Unmet("a million bytes at most"));
+    }
+    let bits = 8 * bytes.len();
+    if offset > bits || len > bits - offset {
+        return Err(Fault::Unmet("within the bytes"));
+    }
+    match Bytes::from_vec(bytes) {
+        Ok(bytes) => Ok(BitBuffer::new_with_offset(bytes, offset, len)),
+        Err(_) => Err(Fault::Memory),
+    }
+}
+
+/// `BitBuffer::from_bools`.
+pub(crate) fn from_bools(values: &[bool]) -> Result<BitBuffer, Fault> {
+    Ok(BitBuffer::from_bools(values.iter().copied())?)
+}
+
+// Bytes, offset and length.
+fn of_bytes(word: &str) -> Result<BitBuffer, Fault> {
+    let (list, part) = halves(word, ":", "two parts")?;
+    let (offset, len) = pair(part, ":", "an offset and a length")?;
+    of_own(Vec::read(list)?, offset, len)
+}
+
+/// A buffer by a word: truth values; `all:130` and `none:130`; `3+10110`, `3-10110` and `3~10110` of values from bit
+/// 3 on with bits around them as `Packed` says; and `bytes:180,255:2:5` of five values from bit 2 of these bytes on.
+impl Word for BitBuffer {
+    fn read(word: &str) -> Result<BitBuffer, Fault> {
+        match word.split_once(":") {
+            Some(("all", len)) => Ok(BitBuffer::new_set(number(len)?)?),
+            Some(("none", len)) => Ok(BitBuffer::new_unset(number(len)?)?),
+            Some(("bytes", rest)) => of_bytes(rest),
+            _ => match Packed::of_word(word) {
+                Some(packed) => packed.buffer(),
+                None => from_bools(&values(word)?),
+            },
+        }
+    }
+}

@@ -1,0 +1,168 @@
+// Made of crates/mask_tests/src/walks.rt by `rust/erase`: change that, and make this anew.
+//! Buffers, and what walks yield, as text.
+
+use crate::fault::Fault;
+use crate::host::{AllocGlobal, Input, Print};
+use crate::tell::{Tell, tell_fault};
+use crate::text::{Detail, Text};
+use row_mask::kit::AllocError;
+use row_mask::kit::prelude::*;
+use row_mask::{BitBuffer, BitChunks, BitIterator, SetIndices, SetSlices};
+use row_mask::{MaskBoolIter, MaskSetIndices, MaskSetSlices};
+
+impl Tell for BitBuffer {
+    fn tell(self, text: &mut Text) {
+        write_buffer(text, &self);
+    }
+}
+
+impl<'a> Tell for &'a BitBuffer {
+    fn tell(self, text: &mut Text) {
+        write_buffer(text, self);
+    }
+}
+
+/// Writes the list of a buffer, or of a long one its length and how many values are true.
+pub fn write_buffer(text: &mut Text, buffer: &BitBuffer) {
+    if text.cuts(buffer.len()) {
+        text.put_pair(buffer.true_count(), " of ", buffer.len());
+    } else if buffer.is_empty() {
+        text.put("-");
+    } else {
+        write_bits(text, buffer);
+    }
+}
+
+// Word by word.
+pub(crate) fn write_bits(text: &mut Text, buffer: &BitBuffer) {
+    let mut left = buffer.len();
+    for word in buffer.chunks().iter_padded() {
+        text.put_bits(word, left.min(64));
+        left = left.saturating_sub(64);
+    }
+}
+
+/// Writes the list of a buffer, and where more than lists is told the bit offset that it stands at, and the bytes, the
+/// first sixteen of them.
+pub fn write_backed(text: &mut Text, buffer: &BitBuffer) {
+    write_buffer(text, buffer);
+    if !matches!(text.detail, Detail::Lists) {
+        text.put_next(" at ", buffer.offset());
+        text.put(" of");
+        for byte in buffer.inner().as_slice().iter().take(16) {
+            text.put_next(" ", *byte as usize);
+        }
+    }
+}
+
+/// Writes a buffer that was made, and where it stands.
+pub(crate) fn write_made(text: &mut Text, made: Result<BitBuffer, AllocError>) {
+    match made {
+        Ok(buffer) => write_backed(text, &buffer),
+        Err(error) => tell_fault(text, Fault::from(error)),
+    }
+}
+
+// Each value by its index.
+pub(crate) fn write_each(text: &mut Text, buffer: &BitBuffer) {
+    for i in 0..buffer.len() {
+        text.put_digit(buffer.value(i));
+    }
+    text.put(" by index");
+}
+
+// How many are left, by both calls that say it.
+fn write_hint(text: &mut Text, len: usize, (least, most): (usize, Option<usize>)) {
+    match most {
+        Some(most) if most == least && len == least => {}
+        _ => text.put("not exactly "),
+    }
+    text.put_display(&least);
+}
+
+// Each item, with how many are said to be left before it; and so often how many past the last.
+macro_rules! steps {
+    ($text:ident, $walk:expr, $ends:literal) => {
+        let mut walk = $walk;
+        for _ in 0..walk.len() {
+            write_hint($text, walk.len(), walk.size_hint());
+            match walk.next() {
+                Some(item) => $text.put_next(":", item as usize),
+                None => $text.put(":none"),
+            }
+            $text.put(" ");
+        }
+        for _ in 0..$ends {
+            write_hint($text, walk.len(), walk.size_hint());
+            $text.put(if walk.next().is_none() { "" } else { ":one more" });
+        }
+    };
+}
+
+// Each item behind a name of them all.
+macro_rules! each {
+    ($text:ident, $name:literal, $items:ident) => {
+        $text.put($name);
+        for item in $items {
+            $text.put(" ");
+            item.tell($text);
+        }
+    };
+}
+
+pub(crate) fn write_values(text: &mut Text, values: MaskBoolIter<'_>) {
+    steps!(text, values, 1usize);
+}
+
+pub(crate) fn write_indices(text: &mut Text, indices: MaskSetIndices<'_>) {
+    each!(text, "indices", indices);
+}
+
+pub(crate) fn write_slices(text: &mut Text, ranges: MaskSetSlices<'_>) {
+    each!(text, "ranges", ranges);
+}
+
+pub(crate) fn write_bit_values(text: &mut Text, values: BitIterator<'_>) {
+    steps!(text, values, 2usize);
+}
+
+pub(crate) fn write_bit_indices(text: &mut Text, indices: SetIndices<'_>) {
+    each!(text, "indices", indices);
+}
+
+pub(crate) fn write_bit_slices(text: &mut Text, ranges: SetSlices<'_>) {
+    each!(text, "ranges", ranges);
+}
+
+/// Each started word.
+pub(crate) fn write_padded(text: &mut Text, chunks: &BitChunks<'_>) {
+    steps!(text, chunks.iter_padded(), 1usize);
+}
+
+/// Each whole word by the walk, and by its number; and what is left after them.
+pub(crate) fn write_words(text: &mut Text, chunks: &BitChunks<'_>) {
+    write_whole_words(text, chunks);
+    write_words_by_number(text, chunks);
+    text.put_next(" rest ", chunks.remainder_len());
+    text.put_next(" ", chunks.remainder_bits() as usize);
+}
+
+fn write_whole_words(text: &mut Text, chunks: &BitChunks<'_>) {
+    steps!(text, chunks.iter(), 1usize);
+}
+
+fn write_words_by_number(text: &mut Text, chunks: &BitChunks<'_>) {
+    text.put_next(" of ", chunks.len());
+    for i in 0..chunks.len() {
+        text.put_next(" ", chunks.word(i) as usize);
+    }
+}
+
+// The index of each true value of these numbers, from 0 on.
+pub(crate) fn write_selected(text: &mut Text, buffer: &BitBuffer, numbers: usize) {
+    for n in 0..numbers {
+        buffer.select(n).tell(text);
+        text.put(" ");
+    }
+    text.put("by number");
+}
