@@ -28,7 +28,7 @@ pub use proved::mask_bits::{
 };
 pub use proved::vortex_mask::{
     AllOr, Fraction, Mask, MaskBoolIter, MaskError, MaskIter, MaskSetIndices, MaskSetSlices,
-    MaskValues, MaskValuesRef,
+    MaskValues, MaskValuesRef, index_fault, range_fault,
 };
 pub use row::Row;
 pub use selection::Selection;
@@ -39,6 +39,11 @@ pub use walks::{Indices, Runs, Values};
 #[doc = include_str!("definitions.md")]
 #[allow(clippy::doc_markdown, reason = "the page is that of the repository")]
 pub mod definitions {}
+
+/// What calls of masks require, as tests.
+pub mod conditions {
+    pub use crate::proved::vortex_mask::conditions::{are_a_stack, ascends};
+}
 
 /// Rank intersection by its parts: the kernels, the deposits and selections of a word, and which kernel is taken.
 pub mod intersect_by_rank {

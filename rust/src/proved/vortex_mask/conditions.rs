@@ -6,6 +6,10 @@ use crate::proved::vortex_mask::mask::Mask;
 
 /// Whether these masks are a stack, as [`Mask::intersect_all_by_rank`] requires it: each has a value for each
 /// true value of the one before it.
+///
+/// # Proved ([terms](crate::definitions))
+///
+/// - `IsTrue result ↔ IsStack (truth first.now ∷ map truth masks.now)`
 #[inline]
 pub fn are_a_stack(first: &Mask, masks: &[Mask]) -> bool {
     let mut before = first;
@@ -19,6 +23,10 @@ pub fn are_a_stack(first: &Mask, masks: &[Mask]) -> bool {
 }
 
 /// Whether each index is above the one before it, as [`Mask::from_intersection_indices`] requires it of both lists.
+///
+/// # Proved ([terms](crate::definitions))
+///
+/// - `IsTrue result ↔ IsStrictlyIncreasing indices.now`
 //
 // With no early return, so that several are compared at once.
 #[inline]

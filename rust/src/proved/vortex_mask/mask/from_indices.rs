@@ -53,6 +53,10 @@ impl Mask {
 
 /// What [`Mask::from_indices`] refuses these indices by, if it does: order over the whole list first, then repeats, then
 /// bounds.
+///
+/// # Proved ([terms](crate::definitions))
+///
+/// - `result ≡ index_fault len indices.now`
 #[inline(always)]
 pub fn index_fault(len: usize, indices: &[usize]) -> Option<MaskError> {
     // one quick scan tells that there is no fault, and the slower ones which it is

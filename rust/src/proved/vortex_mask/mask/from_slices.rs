@@ -49,6 +49,10 @@ impl Mask {
 }
 
 /// What [`Mask::from_slices`] refuses these ranges by, if it does.
+///
+/// # Proved ([terms](crate::definitions))
+///
+/// - `result ≡ range_fault len ranges.now`
 #[inline]
 pub fn range_fault(len: usize, ranges: &[(usize, usize)]) -> Option<MaskError> {
     bad_range(len, ranges).or_else(|| neighbors_fault(ranges))
