@@ -1,25 +1,22 @@
 use crate::proved::mask_bits::BitChunks;
 use crate::proved::mask_c;
-use crate::{BitmapBuf, Error, Values};
+use crate::{BitmapBuf, Error};
 use core::ops::{Bound, Range, RangeBounds};
 
+mod alike;
 mod choose;
-mod choose_bits;
 mod combine;
 mod compare;
 mod narrow;
 mod read;
 mod room;
-mod text;
 
 pub(crate) use read::INDICES_OF_A_BLOCK;
 pub use room::Room;
-pub(crate) use room::as_items as as_bytes;
+pub(crate) use room::sealed::Room as WriteRoom;
 pub(crate) use room::{
-    append_to, as_cells, as_items, first_of, first_unfit, front, init, list_of, reserve, room_for,
-    take_first,
+    append_to, are_fit, as_cells, as_items, first_of, front, granted, list_of, made, reserve,
 };
-pub(crate) use text::debug;
 
 /// A list of truth values, packed eight to a byte, that lies in borrowed bytes: value `i` is the bit
 /// at position `p = offset + i`, which is bit `p % 8`, counted from the lowest, of byte `p / 8`.
@@ -51,6 +48,41 @@ macro_rules! call {
 }
 use call;
 
+/// Calls that make a bitmap, each with the form that writes into room and what that answers. Of both, why they refuse.
+macro_rules! makers {
+    (impl $of:ident $(<$lifetime:lifetime>)?; $(
+        $(#[$what:meta])+
+        pub fn $call:ident, $into:ident([$($receiver:tt)*] $($beside:ident: $type:ty),+; $out:ident)
+            -> $answer:ty $(, $answers:literal)?; refused by $refusals:literal $body:block
+    )+) => {
+        impl $of $(<$lifetime>)? {$(
+            $(#[$what])+
+            ///
+            /// # Errors
+            ///
+            #[doc = concat!($refusals, ", and [`Error::OutOfMemory`].")]
+            pub fn $call($($receiver)* $($beside: $type),+) -> Result<BitmapBuf, Error> {
+                $crate::bitmap::made(|$out| $body)
+            }
+
+            #[doc = concat!(
+                "As [`", stringify!($call), "`](", stringify!($of), "::", stringify!($call), "), written into `out`",
+                $(", and answers ", $answers,)? "."
+            )]
+            ///
+            /// # Errors
+            ///
+            #[doc = concat!($refusals, ", and the refusals of [`Room`].")]
+            pub fn $into(
+                $($receiver)*
+                $($beside: $type,)+
+                $out: &mut (impl Room + ?Sized),
+            ) -> Result<$answer, Error> $body
+        )+}
+    };
+}
+pub(crate) use makers;
+
 impl<'a> Bitmap<'a> {
     /// The `len` bits of `bytes` from bit `offset` on.
     ///
@@ -58,11 +90,9 @@ impl<'a> Bitmap<'a> {
     ///
     /// [`Error::OutOfBytes`] where they are not within the bytes.
     pub fn new(bytes: &'a [u8], offset: usize, len: usize) -> Result<Bitmap<'a>, Error> {
-        if mask_c::row_mask_is_within(bytes, offset, len) {
-            return Ok(Bitmap { bytes, offset, len });
-        }
-        let bytes = bytes.len();
-        Err(Error::OutOfBytes { bytes, offset, len })
+        let refusal = Error::OutOfBytes { bytes: bytes.len(), offset, len };
+        refusal.unless(mask_c::row_mask_is_within(bytes, offset, len))?;
+        Ok(Bitmap { bytes, offset, len })
     }
 
     /// The first `len` bits of words of 64, each from its lowest on, where they lie: nothing is
@@ -165,23 +195,12 @@ pub(crate) fn range_within(
         Bound::Excluded(end) => *end,
         Bound::Unbounded => len,
     };
-    if start <= end && end <= len {
-        return Ok(start..end);
-    }
-    Err(Error::BadRange { start, end, len })
+    Error::BadRange { start, end, len }.unless(start <= end && end <= len)?;
+    Ok(start..end)
 }
 
 impl<'a> From<&'a BitmapBuf> for Bitmap<'a> {
     fn from(buf: &'a BitmapBuf) -> Bitmap<'a> {
         buf.as_bitmap()
-    }
-}
-
-impl<'a> IntoIterator for Bitmap<'a> {
-    type Item = bool;
-    type IntoIter = Values<'a>;
-
-    fn into_iter(self) -> Values<'a> {
-        self.iter()
     }
 }

@@ -1,15 +1,10 @@
-use crate::bitmap;
 use crate::{Bitmap, Values};
 use alloc::vec::Vec;
-use core::fmt;
-use core::hash::{Hash, Hasher};
 use core::ops::Not;
 
 mod change;
 mod make;
 mod pack;
-
-pub(crate) use pack::pack_values;
 
 /// A list of truth values in bytes of its own, from bit 0 on: what a call on a [`Bitmap`] makes.
 ///
@@ -19,14 +14,20 @@ pub(crate) use pack::pack_values;
 /// let rows: BitmapBuf = [true, false, true].into_iter().collect();
 /// assert_eq!(rows.as_bitmap().select(1), Some(2));
 /// ```
-#[derive(Clone, Default)]
+#[derive(Clone, Default, PartialEq, Eq, Hash)]
 pub struct BitmapBuf {
-    // just those that the values take, with the bits behind the last value clear
+    // just those that the values take, with the bits behind the last value clear: equal lists have equal bytes
     bytes: Vec<u8>,
     len: usize,
 }
 
 impl BitmapBuf {
+    // Of just the bytes that the values take, with the bits behind the last value clear.
+    pub(crate) fn of_bytes(bytes: Vec<u8>, len: usize) -> BitmapBuf {
+        debug_assert!(bytes.len() == len.div_ceil(8));
+        BitmapBuf { bytes, len }
+    }
+
     /// The values, borrowed.
     #[must_use]
     pub fn as_bitmap(&self) -> Bitmap<'_> {
@@ -65,30 +66,6 @@ impl BitmapBuf {
     }
 }
 
-impl<'a> IntoIterator for &'a BitmapBuf {
-    type Item = bool;
-    type IntoIter = Values<'a>;
-
-    fn into_iter(self) -> Values<'a> {
-        self.iter()
-    }
-}
-
-impl PartialEq for BitmapBuf {
-    fn eq(&self, other: &BitmapBuf) -> bool {
-        self.as_bitmap() == other.as_bitmap()
-    }
-}
-
-impl Eq for BitmapBuf {}
-
-impl Hash for BitmapBuf {
-    fn hash<H: Hasher>(&self, state: &mut H) {
-        self.len.hash(state);
-        self.bytes.hash(state);
-    }
-}
-
 impl PartialEq<Bitmap<'_>> for BitmapBuf {
     fn eq(&self, other: &Bitmap<'_>) -> bool {
         self.as_bitmap() == *other
@@ -111,19 +88,5 @@ impl Not for BitmapBuf {
     fn not(mut self) -> BitmapBuf {
         self.negate();
         self
-    }
-}
-
-/// `1` for each true value and `0` for each false one, in their order.
-impl fmt::Display for BitmapBuf {
-    fn fmt(&self, f: &mut fmt::Formatter<'_>) -> fmt::Result {
-        self.as_bitmap().fmt(f)
-    }
-}
-
-/// The length, how many values are true, and the first values.
-impl fmt::Debug for BitmapBuf {
-    fn fmt(&self, f: &mut fmt::Formatter<'_>) -> fmt::Result {
-        bitmap::debug(self.as_bitmap(), "BitmapBuf", f)
     }
 }

@@ -55,3 +55,10 @@ refusals! {
 }
 
 impl error::Error for Error {}
+
+impl Error {
+    /// This refusal, unless a condition is met.
+    pub(crate) fn unless(self, is_met: bool) -> Result<(), Error> {
+        if is_met { Ok(()) } else { Err(self) }
+    }
+}

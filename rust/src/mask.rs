@@ -24,7 +24,7 @@ fn granted<T>(given: Result<T, impl Into<MaskError>>, bits: usize) -> T {
 }
 
 #[cold]
-fn out_of_memory(bits: usize) -> ! {
+pub(crate) fn out_of_memory(bits: usize) -> ! {
     let layout = Layout::array::<u8>(bits.div_ceil(8));
     handle_alloc_error(layout.expect("an eighth of any number is the size of a list"))
 }

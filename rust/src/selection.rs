@@ -1,5 +1,6 @@
-use crate::bitmap::{INDICES_OF_A_BLOCK, Room, append_to, as_cells, as_items, front, take_first};
-use crate::kit::words::put_indices;
+use crate::bitmap::{
+    INDICES_OF_A_BLOCK, Room, append_to, as_cells, as_items, front, list_of, makers,
+};
 use crate::proved::mask_bits::room::Lent;
 use crate::proved::mask_bits::{SetSlices, word_rows::push_rows_one_by_one};
 use crate::proved::mask_c::row_mask_and_count;
@@ -17,7 +18,6 @@ mod strings;
 ///
 /// let chosen = Selection::new(Bitmap::new(&[0b0_1101], 0, 5)?);
 /// assert_eq!(chosen.choose(&[10, 11, 12, 13, 14])?, [10, 12, 13]);
-/// assert_eq!(chosen.choose(&['a', 'b', 'c', 'd', 'e'])?, ['a', 'c', 'd']);
 /// assert_eq!(chosen.choose_bits(Bitmap::new(&[0b1_0110], 0, 5)?)?.to_string(), "010");
 /// # Ok::<(), row_mask::Error>(())
 /// ```
@@ -65,6 +65,17 @@ impl Kept {
     }
 }
 
+makers! {
+    impl Selection;
+
+    /// The chosen values of a bitmap, such as the validity of a column.
+    pub fn choose_bits, choose_bits_into([&self,] bits: Bitmap<'_>; out) -> ();
+        refused by "[`Error::RowsDiffer`] where the bitmap has not [`len`](Selection::len) values"
+    {
+        self.as_bitmap().choose_count(self.count, bits, out)
+    }
+}
+
 impl Selection {
     /// Reads a bitmap.
     #[must_use]
@@ -105,9 +116,9 @@ impl Selection {
     /// [`Error::RowsDiffer`] where the column has not [`len`](Selection::len) rows, and [`Error::OutOfMemory`].
     #[doc(alias("filter", "take"))]
     pub fn choose<T: Row>(&self, rows: &[T]) -> Result<Vec<T>, Error> {
-        let mut chosen = Vec::new();
-        self.choose_append(rows, &mut chosen)?;
-        Ok(chosen)
+        self.as_bitmap().has_one_for_each(rows.len())?;
+        // SAFETY: there is a place for each true value, which is written.
+        unsafe { list_of(self.count, |out| self.choose_to(rows, out)) }
     }
 
     /// As [`choose`](Selection::choose), behind the items of a list.
@@ -117,7 +128,7 @@ impl Selection {
     /// As there. Then the list is as it was.
     pub fn choose_append<T: Row>(&self, rows: &[T], list: &mut Vec<T>) -> Result<(), Error> {
         self.as_bitmap().has_one_for_each(rows.len())?;
-        // SAFETY: there is a place for each true value, which is written.
+        // SAFETY: as above.
         unsafe { append_to(list, self.count, |out| self.choose_to(rows, out)) }
     }
 
@@ -132,32 +143,6 @@ impl Selection {
         // SAFETY: rows are written.
         unsafe { self.choose_to(rows, front(out, self.count)?) };
         Ok(())
-    }
-
-    /// The chosen values of a bitmap, such as the validity of a column.
-    ///
-    /// # Errors
-    ///
-    /// [`Error::RowsDiffer`] where the bitmap has not [`len`](Selection::len) values, and [`Error::OutOfMemory`].
-    pub fn choose_bits(&self, bits: Bitmap<'_>) -> Result<BitmapBuf, Error> {
-        let mut out = BitmapBuf::default();
-        self.choose_bits_into(bits, &mut out)?;
-        Ok(out)
-    }
-
-    /// As [`choose_bits`](Selection::choose_bits), written into `out`.
-    ///
-    /// # Errors
-    ///
-    /// [`Error::RowsDiffer`] as there, and the refusals of [`Room`].
-    pub fn choose_bits_into(
-        &self,
-        bits: Bitmap<'_>,
-        out: &mut (impl Room + ?Sized),
-    ) -> Result<(), Error> {
-        self.as_bitmap().has_one_for_each(bits.len())?;
-        // SAFETY: it writes each byte.
-        unsafe { out.write(self.count, |out| self.as_bitmap().choose_bits_to(bits, out)) }
     }
 
     // Writes each place. There is a row for each value, and a place for each true one.
@@ -182,26 +167,24 @@ impl Selection {
         // SAFETY: none is read that wasn't written.
         let block = unsafe { as_items(&mut block) };
         match &self.kept {
-            Kept::Word(word) => {
-                let count = put_indices(*word, 0, block, 0);
-                of(&block[..count]);
-            }
             Kept::Indices(indices) => {
                 for short in indices.chunks(block.len()) {
                     block.iter_mut().zip(short).for_each(|(long, short)| *long = *short as usize);
                     of(&block[..short.len()]);
                 }
             }
-            Kept::Runs(_) => self.as_bitmap().by_blocks(of),
+            Kept::Word(_) | Kept::Runs(_) => self.as_bitmap().by_blocks(of),
         }
     }
 }
 
 // Copies parts of items, one behind another.
 fn copy_parts<T: Copy>(items: &[T], parts: impl Iterator<Item = Range<usize>>, out: &mut [T]) {
-    let mut left = out;
+    let mut at = 0;
     for part in parts {
-        take_first(&mut left, part.len()).copy_from_slice(&items[part]);
+        let end = at + part.len();
+        out[at..end].copy_from_slice(&items[part]);
+        at = end;
     }
 }
 

@@ -1,7 +1,7 @@
 //! Values of any length, as strings: their bytes one after another, and where each begins.
 
 use crate::Error;
-use crate::bitmap::{first_unfit, range_within};
+use crate::bitmap::{are_fit, range_within};
 use crate::proved::mask_c;
 use core::ops::{Range, RangeBounds};
 
@@ -59,9 +59,7 @@ impl<'a, O: Offset> Strings<'a, O> {
         are_sorted(offsets)?;
         let last = offsets.last().ok_or(Error::OffsetsDiffer { offsets: 0, len: 0 })?;
         let (offset, size) = (last.get(), bytes.len());
-        if offset > size {
-            return Err(Error::OffsetOutOfBounds { offset, size });
-        }
+        Error::OffsetOutOfBounds { offset, size }.unless(offset <= size)?;
         Ok(Strings { offsets, bytes })
     }
 
@@ -111,6 +109,6 @@ impl<'a, O: Offset> Strings<'a, O> {
 /// Tests that none is negative or below the one before it.
 pub(crate) fn are_sorted<O: Offset>(offsets: &[O]) -> Result<(), Error> {
     let is_negative = offsets.first().is_some_and(|first| *first < O::default());
-    let unfit = if is_negative { Some(0) } else { first_unfit(offsets, PartialOrd::le) };
-    unfit.map_or(Ok(()), |at| Err(Error::UnsortedOffsets { at }))
+    let sorted = if is_negative { Err(0) } else { are_fit(offsets, PartialOrd::le) };
+    sorted.map_err(|at| Error::UnsortedOffsets { at })
 }

@@ -1,33 +1,51 @@
-//! Rows chosen at the true values.
+//! Rows and values chosen at the true values.
 
-use super::{append_to, as_cells, front};
+use super::{Room, append_to, as_cells, call, front, list_of, makers};
 use crate::kit::processor::{Moved, moves_bytes, moves_fours};
 use crate::proved::mask_bits::room::Lent;
 use crate::proved::mask_bits::small_rows::MoveRows;
 use crate::proved::vortex_mask::{choose_rows, choose_small_rows};
-use crate::{Bitmap, Error, Row};
+use crate::{Bitmap, BitmapBuf, Error, Row};
 use alloc::vec::Vec;
 use core::mem::MaybeUninit;
-use core::slice;
 
-impl Bitmap<'_> {
-    /// The rows at the true values, in their order.
+makers! {
+    impl Bitmap<'_>;
+
+    /// The values of another bitmap at the true values, in their order: the validity of a column that is
+    /// filtered, or a predicate of all rows as one of those that are left, which
+    /// [`intersect_by_rank`](Bitmap::intersect_by_rank) takes as ranks.
+    ///
+    /// Where the processor has the instruction `pext`, and in a few cycles, that takes the bits of words.
     ///
     /// ```
     /// # use row_mask::Bitmap;
     /// let rows = Bitmap::new(&[0b0_1101], 0, 5)?;
-    /// assert_eq!(rows.choose(&[10, 11, 12, 13, 14])?, [10, 12, 13]);
+    /// let valid = Bitmap::new(&[0b1_0110], 0, 5)?;
+    /// assert_eq!(rows.choose_bits(valid)?.to_string(), "010");
     /// # Ok::<(), row_mask::Error>(())
     /// ```
+    pub fn choose_bits, choose_bits_into([self,] bits: Bitmap<'_>; out)
+        -> usize, "how many values these are";
+        refused by "[`Error::RowsDiffer`] where the other bitmap has not one value for each value"
+    {
+        let count = self.count();
+        self.choose_count(count, bits, out)?;
+        Ok(count)
+    }
+}
+
+impl Bitmap<'_> {
+    /// The rows at the true values, in their order.
     ///
     /// # Errors
     ///
     /// [`Error::RowsDiffer`] where there is not one row for each value, and [`Error::OutOfMemory`].
     #[doc(alias = "filter")]
     pub fn choose<T: Row>(self, rows: &[T]) -> Result<Vec<T>, Error> {
-        let mut chosen = Vec::new();
-        self.choose_append(rows, &mut chosen)?;
-        Ok(chosen)
+        self.has_one_for_each(rows.len())?;
+        // SAFETY: there is a row for each value, and a place for each true value, which is written.
+        unsafe { list_of(self.count(), |out| self.choose_to(rows, out)) }
     }
 
     /// As [`choose`](Bitmap::choose), behind the items of a list.
@@ -37,7 +55,7 @@ impl Bitmap<'_> {
     /// As there. Then the list is as it was.
     pub fn choose_append<T: Row>(self, rows: &[T], list: &mut Vec<T>) -> Result<(), Error> {
         self.has_one_for_each(rows.len())?;
-        // SAFETY: there is a row for each value, and a place for each true value, which is written.
+        // SAFETY: as above.
         unsafe { append_to(list, self.count(), |out| self.choose_to(rows, out)) }
     }
 
@@ -54,12 +72,22 @@ impl Bitmap<'_> {
         Ok(count)
     }
 
+    // Chooses bits, where it is known how many values are true.
+    pub(crate) fn choose_count(
+        self,
+        count: usize,
+        bits: Bitmap<'_>,
+        out: &mut (impl Room + ?Sized),
+    ) -> Result<(), Error> {
+        self.has_one_for_each(bits.len)?;
+        let (bytes, offset) = (bits.bytes, bits.offset);
+        // SAFETY: it writes each byte.
+        unsafe { out.write(count, |out| _ = call!(row_mask_choose_bits(self, bytes, offset, out))) }
+    }
+
     // Tests that there is a row for each value.
     pub(crate) fn has_one_for_each(self, rows: usize) -> Result<(), Error> {
-        if rows == self.len {
-            return Ok(());
-        }
-        Err(Error::RowsDiffer { rows, len: self.len })
+        Error::RowsDiffer { rows, len: self.len }.unless(rows == self.len)
     }
 
     // Writes each place. There is a row for each value, and just as many places as values are true.
@@ -69,13 +97,13 @@ impl Bitmap<'_> {
         match size_of::<T>() {
             1 if has_many && moves_bytes() => {
                 // SAFETY: a row is a byte. Each place is written, and none is read before.
-                let (rows, out) = unsafe { (as_rows::<T, u8>(rows), as_places(out)) };
+                let (rows, out) = unsafe { (rows.align_to().1, out.align_to_mut().1) };
                 self.choose_several::<6, u8>(rows, out);
             }
             #[cfg(target_arch = "x86_64")]
             4 if has_many && moves_fours() => {
                 // SAFETY: a row is four bytes. Each place is written, and none is read before.
-                let (rows, out) = unsafe { (as_rows::<T, [u8; 4]>(rows), as_places(out)) };
+                let (rows, out) = unsafe { (rows.align_to().1, out.align_to_mut().1) };
                 self.choose_several::<8, [u8; 4]>(rows, out);
             }
             _ => {
@@ -93,26 +121,4 @@ impl Bitmap<'_> {
     {
         choose_small_rows::<FEW, Moved, _, _>(&mut Lent { out, at: 0 }, rows, &self.chunks());
     }
-}
-
-/// Rows as rows of bytes.
-///
-/// # Safety
-///
-/// `U` is as many bytes as `T`, and asks nothing of their place.
-unsafe fn as_rows<T: Row, U>(rows: &[T]) -> &[U] {
-    const { assert!(align_of::<U>() == 1) };
-    // SAFETY: it is the same slice, and each byte of a row is written.
-    unsafe { slice::from_raw_parts(rows.as_ptr().cast(), rows.len()) }
-}
-
-/// Places for such rows.
-///
-/// # Safety
-///
-/// As above, each place is written with rows, and none is read before.
-unsafe fn as_places<T: Row, U>(out: &mut [MaybeUninit<T>]) -> &mut [U] {
-    const { assert!(align_of::<U>() == 1) };
-    // SAFETY: it is the same borrowed slice, and the rest is asked here.
-    unsafe { slice::from_raw_parts_mut(out.as_mut_ptr().cast(), out.len()) }
 }

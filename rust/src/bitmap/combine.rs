@@ -1,58 +1,55 @@
 //! Bitmaps combined value by value.
 
-use super::room::Room;
-use super::{as_items, call};
+use super::{Room, call, granted, made, makers};
 use crate::proved::mask_c;
 use crate::{Bitmap, BitmapBuf, Error};
-use core::mem::MaybeUninit;
 use core::ops::Not;
 
-/// Calls of two bitmaps of one length, each by a proved loop: what is true in the values that they make, and the same written
-/// into room.
-macro_rules! combined {
-    ($($what:literal: $call:ident, $into:ident by $combine:ident;)+) => {
-        impl Bitmap<'_> {$(
-            #[doc = concat!("The values that are true ", $what, ".")]
-            ///
-            /// # Errors
-            ///
-            /// [`Error::LengthsDiffer`], and [`Error::OutOfMemory`].
-            pub fn $call(self, other: Bitmap<'_>) -> Result<BitmapBuf, Error> {
-                let mut out = BitmapBuf::default();
-                self.$into(other, &mut out)?;
-                Ok(out)
-            }
+makers! {
+    impl Bitmap<'_>;
 
-            #[doc = concat!("The values that are true ", $what, ", written into `out`.")]
-            ///
-            /// # Errors
-            ///
-            /// [`Error::LengthsDiffer`], and the refusals of [`Room`].
-            pub fn $into(
-                self,
-                other: Bitmap<'_>,
-                out: &mut (impl Room + ?Sized),
-            ) -> Result<(), Error> {
-                self.of_length_of(other)?;
-                let (bytes, offset) = (other.bytes, other.offset);
-                let combine = |out: &mut [u8]| {
-                    mask_c::$combine(self.bytes, self.offset, bytes, offset, self.len, out);
-                };
-                // SAFETY: it writes each byte.
-                unsafe { out.write(self.len, |out| combine(as_items(out))) }
-            }
-        )+}
-    };
-}
+    /// The values that are true in both.
+    pub fn and, and_into([self,] other: Bitmap<'_>; out) -> ();
+        refused by "[`Error::LengthsDiffer`]"
+    {
+        self.combined(other, mask_c::row_mask_and, out)
+    }
 
-combined! {
-    "in both": and, and_into by row_mask_and;
-    "in one or in both": or, or_into by row_mask_or;
-    "here and not in `other`": and_not, and_not_into by row_mask_and_not;
-    "in one and not in the other": xor, xor_into by row_mask_xor;
+    /// The values that are true in one or in both.
+    pub fn or, or_into([self,] other: Bitmap<'_>; out) -> ();
+        refused by "[`Error::LengthsDiffer`]"
+    {
+        self.combined(other, mask_c::row_mask_or, out)
+    }
+
+    /// The values that are true here and not in `other`.
+    pub fn and_not, and_not_into([self,] other: Bitmap<'_>; out) -> ();
+        refused by "[`Error::LengthsDiffer`]"
+    {
+        self.combined(other, mask_c::row_mask_and_not, out)
+    }
+
+    /// The values that are true in one and not in the other.
+    pub fn xor, xor_into([self,] other: Bitmap<'_>; out) -> ();
+        refused by "[`Error::LengthsDiffer`]"
+    {
+        self.combined(other, mask_c::row_mask_xor, out)
+    }
 }
 
 impl Bitmap<'_> {
+    fn combined(
+        self,
+        other: Bitmap<'_>,
+        combine: impl FnOnce(&[u8], usize, &[u8], usize, usize, &mut [u8]),
+        out: &mut (impl Room + ?Sized),
+    ) -> Result<(), Error> {
+        self.of_length_of(other)?;
+        let Bitmap { bytes, offset, len } = self;
+        // SAFETY: it writes each byte.
+        unsafe { out.write(len, |out| combine(bytes, offset, other.bytes, other.offset, len, out)) }
+    }
+
     /// Each value negated, written into `out`.
     ///
     /// # Errors
@@ -60,13 +57,7 @@ impl Bitmap<'_> {
     /// The refusals of [`Room`].
     pub fn not_into(self, out: &mut (impl Room + ?Sized)) -> Result<(), Error> {
         // SAFETY: it writes each byte.
-        unsafe { out.write(self.len, |out| self.not_to(out)) }
-    }
-
-    // Writes the bytes of the values negated, to room for just them.
-    fn not_to(self, out: &mut [MaybeUninit<u8>]) {
-        // SAFETY: it writes each byte.
-        call!(row_mask_not(self, unsafe { as_items(out) }));
+        unsafe { out.write(self.len, |out| call!(row_mask_not(self, out))) }
     }
 
     /// The same values, written into `out`.
@@ -76,21 +67,13 @@ impl Bitmap<'_> {
     /// The refusals of [`Room`].
     pub fn copy_into(self, out: &mut (impl Room + ?Sized)) -> Result<(), Error> {
         // SAFETY: it writes each byte.
-        unsafe { out.write(self.len, |out| self.copy_to(out)) }
+        unsafe { out.write(self.len, |out| call!(row_mask_copy(self, out))) }
     }
 
     /// The same values in bytes of their own, from bit 0 on.
     #[must_use]
     pub fn to_buf(self) -> BitmapBuf {
-        // SAFETY: it writes each byte.
-        unsafe { BitmapBuf::made(self.len, |out| self.copy_to(out)) }
-    }
-
-    // Writes the bytes of the values to the front of room for them.
-    pub(crate) fn copy_to(self, out: &mut [MaybeUninit<u8>]) {
-        debug_assert!(out.len() >= self.len.div_ceil(8));
-        // SAFETY: it writes each byte.
-        call!(row_mask_copy(self, unsafe { as_items(out) }));
+        granted(made(|out| self.copy_into(out)), self.len)
     }
 }
 
@@ -99,7 +82,6 @@ impl Not for Bitmap<'_> {
     type Output = BitmapBuf;
 
     fn not(self) -> BitmapBuf {
-        // SAFETY: it writes each byte.
-        unsafe { BitmapBuf::made(self.len, |out| self.not_to(out)) }
+        granted(made(|out| self.not_into(out)), self.len)
     }
 }

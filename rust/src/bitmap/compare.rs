@@ -54,11 +54,8 @@ impl<'a> Bitmap<'a> {
         self.offset.is_multiple_of(8).then(|| &self.bytes[start..start + self.len / 8])
     }
 
-    pub(super) fn of_length_of(self, other: Bitmap<'_>) -> Result<(), Error> {
-        if self.len == other.len {
-            return Ok(());
-        }
-        Err(Error::LengthsDiffer { left: self.len, right: other.len })
+    pub(crate) fn of_length_of(self, other: Bitmap<'_>) -> Result<(), Error> {
+        Error::LengthsDiffer { left: self.len, right: other.len }.unless(self.len == other.len)
     }
 }
 

@@ -1,46 +1,25 @@
 //! Rank intersection: a bitmap narrowed by another over its true values.
 
-use super::room::Room;
-use super::{as_items, call, first_unfit};
+use super::{Room, WriteRoom as _, are_fit, call, makers};
 use crate::{Bitmap, BitmapBuf, Error};
 
-impl Bitmap<'_> {
+makers! {
+    impl Bitmap<'_>;
+
     /// The bitmap narrowed by another over its true values: true value number `k` stays true exactly
     /// where value `k` of `ranks` is true.
     ///
     /// Where the processor has the instruction `pdep`, and in a few cycles, that deposits the words.
-    ///
-    /// # Errors
-    ///
-    /// [`Error::RanksDiffer`] where `ranks` has not one value for each true value, and
-    /// [`Error::OutOfMemory`].
-    pub fn intersect_by_rank(self, ranks: Bitmap<'_>) -> Result<BitmapBuf, Error> {
-        let mut out = BitmapBuf::default();
-        self.intersect_by_rank_into(ranks, &mut out)?;
-        Ok(out)
-    }
-
-    /// As [`intersect_by_rank`](Bitmap::intersect_by_rank), written into `out`.
-    ///
-    /// # Errors
-    ///
-    /// [`Error::RanksDiffer`] as there, and the refusals of [`Room`].
-    pub fn intersect_by_rank_into(
-        self,
-        ranks: Bitmap<'_>,
-        out: &mut (impl Room + ?Sized),
-    ) -> Result<(), Error> {
-        let count = self.count();
-        if ranks.len != count {
-            return Err(Error::RanksDiffer { ranks: ranks.len, count });
-        }
-        let (bits, offset) = (ranks.bytes, ranks.offset);
+    pub fn intersect_by_rank, intersect_by_rank_into([self,] ranks: Bitmap<'_>; out) -> ();
+        refused by "[`Error::RanksDiffer`] where `ranks` has not one value for each true value"
+    {
+        let (count, Bitmap { bytes, offset, len }) = (self.count(), ranks);
+        Error::RanksDiffer { ranks: len, count }.unless(len == count)?;
+        let narrow = |out: &mut [u8]| {
+            call!(row_mask_intersect_by_rank(self, bytes, offset, count, out));
+        };
         // SAFETY: it writes each byte.
-        unsafe {
-            out.write(self.len, |out| {
-                call!(row_mask_intersect_by_rank(self, bits, offset, count, as_items(out)));
-            })
-        }
+        unsafe { out.write(self.len, narrow) }
     }
 
     /// The bitmap in which just those true values stay true whose numbers are `ranks`.
@@ -51,40 +30,16 @@ impl Bitmap<'_> {
     /// assert_eq!(rows.intersect_at_ranks(&[2, 4])?.to_string(), "00001001");
     /// # Ok::<(), row_mask::Error>(())
     /// ```
-    ///
-    /// # Errors
-    ///
-    /// [`Error::UnsortedRanks`] where a rank is not above the one before it,
-    /// [`Error::RankOutOfBounds`] where one is not below the number of true values, and
-    /// [`Error::OutOfMemory`].
-    pub fn intersect_at_ranks(self, ranks: &[usize]) -> Result<BitmapBuf, Error> {
-        let mut out = BitmapBuf::default();
-        self.intersect_at_ranks_into(ranks, &mut out)?;
-        Ok(out)
-    }
-
-    /// As [`intersect_at_ranks`](Bitmap::intersect_at_ranks), written into `out`.
-    ///
-    /// # Errors
-    ///
-    /// [`Error::UnsortedRanks`] and [`Error::RankOutOfBounds`] as there, and the refusals of [`Room`].
-    pub fn intersect_at_ranks_into(
-        self,
-        ranks: &[usize],
-        out: &mut (impl Room + ?Sized),
-    ) -> Result<(), Error> {
-        if let Some(at) = first_unfit(ranks, PartialOrd::lt) {
-            return Err(Error::UnsortedRanks { at });
-        }
-        let count = self.count();
-        if let Some(&rank) = ranks.last().filter(|rank| **rank >= count) {
-            return Err(Error::RankOutOfBounds { rank, count });
+    pub fn intersect_at_ranks, intersect_at_ranks_into([self,] ranks: &[usize]; out) -> ();
+        refused by "[`Error::UnsortedRanks`] where a rank is not above the one before it, \
+            [`Error::RankOutOfBounds`] where one is not below the number of true values"
+    {
+        are_fit(ranks, PartialOrd::lt).map_err(|at| Error::UnsortedRanks { at })?;
+        if let Some(&rank) = ranks.last() {
+            let count = self.count();
+            Error::RankOutOfBounds { rank, count }.unless(rank < count)?;
         }
         // SAFETY: the ranks ascend and their last is below the count, so all are; it writes each byte.
-        unsafe {
-            out.write(self.len, |out| {
-                call!(row_mask_intersect_at_ranks(self, ranks, as_items(out)));
-            })
-        }
+        unsafe { out.write(self.len, |out| call!(row_mask_intersect_at_ranks(self, ranks, out))) }
     }
 }

@@ -1,8 +1,7 @@
 //! Counts, indices and runs of a bitmap, and its words.
 
-use super::{append_to, as_items, call, first_of, first_unfit, list_of, range_within};
+use super::{are_fit, as_items, call, first_of, granted, list_of, range_within};
 use crate::{Bitmap, Error, Indices, Runs, Values};
-use alloc::vec;
 use alloc::vec::Vec;
 use core::mem::MaybeUninit;
 use core::ops::{Range, RangeBounds};
@@ -56,9 +55,7 @@ impl<'a> Bitmap<'a> {
         self.are_ends(indices)?;
         // SAFETY: each place is written.
         unsafe {
-            list_of(indices.len(), |out| {
-                call!(row_mask_counts_below(self, indices, as_items(out)));
-            })
+            list_of(indices.len(), |out| call!(row_mask_counts_below(self, indices, as_items(out))))
         }
     }
 
@@ -76,13 +73,9 @@ impl<'a> Bitmap<'a> {
 
     // Tests that indices ascend and are at most the length.
     fn are_ends(self, indices: &[usize]) -> Result<(), Error> {
-        if let Some(at) = first_unfit(indices, PartialOrd::le) {
-            return Err(Error::UnsortedIndices { at });
-        }
-        if let Some(&index) = indices.last().filter(|index| **index > self.len) {
-            return Err(Error::IndexOutOfBounds { index, len: self.len });
-        }
-        Ok(())
+        are_fit(indices, PartialOrd::le).map_err(|at| Error::UnsortedIndices { at })?;
+        let index = indices.last().copied().unwrap_or(0);
+        Error::IndexOutOfBounds { index, len: self.len }.unless(index <= self.len)
     }
 
     /// The index of true value number `n`, counted from 0.
@@ -124,15 +117,9 @@ impl<'a> Bitmap<'a> {
     #[must_use]
     pub fn to_indices(self) -> Vec<usize> {
         let count = self.count();
-        let mut indices = Vec::with_capacity(count);
         // SAFETY: each place is written, since so many values are true.
-        let made = unsafe {
-            append_to(&mut indices, count, |out| {
-                self.next_indices(0, as_items(out));
-            })
-        };
-        debug_assert!(made.is_ok(), "there is room");
-        indices
+        let indices = unsafe { list_of(count, |out| _ = self.next_indices(0, as_items(out))) };
+        granted(indices, count.saturating_mul(64))
     }
 
     /// The index of the last true value.
@@ -167,10 +154,10 @@ impl<'a> Bitmap<'a> {
     /// All words of 64 values, as [`next_words`](Bitmap::next_words) has them.
     #[must_use]
     pub fn to_words(self) -> Vec<u64> {
-        let mut words = vec![0; self.len.div_ceil(64)];
-        let written = self.next_words(0, &mut words);
-        debug_assert_eq!(written, words.len());
-        words
+        // SAFETY: each place is written, since there are so many words.
+        let words =
+            unsafe { list_of(self.len.div_ceil(64), |out| _ = self.next_words(0, as_items(out))) };
+        granted(words, self.len)
     }
 
     /// The values, in their order.
@@ -181,13 +168,6 @@ impl<'a> Bitmap<'a> {
     }
 
     /// The indices of the true values, ascending.
-    ///
-    /// ```
-    /// # use row_mask::Bitmap;
-    /// let rows = Bitmap::new(&[0b0_1101], 0, 5)?;
-    /// assert_eq!(rows.indices().collect::<Vec<_>>(), [0, 2, 3]);
-    /// # Ok::<(), row_mask::Error>(())
-    /// ```
     #[must_use]
     #[doc(alias("set_indices", "iter_ones"))]
     pub fn indices(self) -> Indices<'a> {

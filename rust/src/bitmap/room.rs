@@ -1,7 +1,8 @@
 //! What a bitmap can be written into.
 
-use crate::buf::pack_values;
 use crate::kit::List;
+use crate::mask::out_of_memory;
+use crate::proved::mask_c::row_mask_room as room_for;
 use crate::{BitmapBuf, Error};
 use alloc::vec::Vec;
 use core::mem::MaybeUninit;
@@ -40,61 +41,70 @@ impl Room for [u8] {}
 
 pub(crate) mod sealed {
     use crate::Error;
-    use core::mem::MaybeUninit;
 
     pub trait Room {
         /// Writes `len` values by what gets the bytes that they take.
         ///
         /// # Safety
         ///
-        /// `fill` writes each byte that it gets.
-        unsafe fn write(
-            &mut self,
-            len: usize,
-            fill: impl FnOnce(&mut [MaybeUninit<u8>]),
-        ) -> Result<(), Error>;
+        /// `fill` writes each byte that it gets, and reads none before.
+        unsafe fn write(&mut self, len: usize, fill: impl FnOnce(&mut [u8])) -> Result<(), Error>;
 
-        /// Writes the values of an iterator, of which it says how many they are.
-        fn collect(&mut self, values: impl ExactSizeIterator<Item = bool>) -> Result<(), Error>;
+        /// Forgets the values from the first `len` on, where it knows how many there are.
+        fn keep(&mut self, _len: usize) {}
     }
 }
 
 impl sealed::Room for BitmapBuf {
-    unsafe fn write(
-        &mut self,
-        len: usize,
-        fill: impl FnOnce(&mut [MaybeUninit<u8>]),
-    ) -> Result<(), Error> {
-        // SAFETY: this is what is asked here too.
-        unsafe { self.refill(len, fill) }
-    }
-
-    fn collect(&mut self, mut values: impl ExactSizeIterator<Item = bool>) -> Result<(), Error> {
-        let len = values.len();
+    unsafe fn write(&mut self, len: usize, fill: impl FnOnce(&mut [u8])) -> Result<(), Error> {
         self.make_room(len)?;
         self.clear();
-        // (so that no memory is asked for where there are more than was said)
-        self.add_blocks(&mut values, len);
+        // SAFETY: this is what is asked here too, and there is no last byte.
+        unsafe { self.add(len, fill) };
         Ok(())
+    }
+
+    fn keep(&mut self, len: usize) {
+        self.truncate(len);
     }
 }
 
 impl sealed::Room for [u8] {
-    unsafe fn write(
-        &mut self,
-        len: usize,
-        fill: impl FnOnce(&mut [MaybeUninit<u8>]),
-    ) -> Result<(), Error> {
-        // SAFETY: `fill` writes bytes.
-        fill(unsafe { front(self, room_for(len))? });
+    unsafe fn write(&mut self, len: usize, fill: impl FnOnce(&mut [u8])) -> Result<(), Error> {
+        fill(first_of(self, room_for(len))?);
         Ok(())
     }
+}
 
-    fn collect(&mut self, mut values: impl ExactSizeIterator<Item = bool>) -> Result<(), Error> {
-        let len = values.len();
-        // SAFETY: it writes each byte.
-        unsafe { self.write(len, |out| pack_values(&mut values, len, out)) }
+/// Room for just what is written, which is made then. (Before that there is none, not an empty bitmap, whose drop would
+/// keep the bitmap in memory.)
+pub(crate) struct New(Option<BitmapBuf>);
+
+impl Room for New {}
+
+impl sealed::Room for New {
+    #[inline]
+    unsafe fn write(&mut self, len: usize, fill: impl FnOnce(&mut [u8])) -> Result<(), Error> {
+        // SAFETY: this is what is asked here too.
+        let bytes = unsafe { list_of(room_for(len), |out| fill(as_items(out)))? };
+        self.0 = Some(BitmapBuf::of_bytes(bytes, len));
+        Ok(())
     }
+}
+
+/// What a call writes, as a bitmap of its own.
+#[inline]
+pub(crate) fn made<T>(
+    write: impl FnOnce(&mut New) -> Result<T, Error>,
+) -> Result<BitmapBuf, Error> {
+    let mut new = New(None);
+    write(&mut new)?;
+    Ok(new.0.unwrap_or_default())
+}
+
+/// What was made, of so many bits: where there is no memory, the process ends, as by Rust's own lists.
+pub(crate) fn granted<M>(made: Result<M, Error>, bits: usize) -> M {
+    made.unwrap_or_else(|_| out_of_memory(bits))
 }
 
 /// The first `needed` items.
@@ -103,22 +113,25 @@ pub(crate) fn first_of<T>(out: &mut [T], needed: usize) -> Result<&mut [T], Erro
     out.get_mut(..needed).ok_or(Error::RoomTooSmall { room, needed })
 }
 
-/// A list of `count` items, which are written by what gets their places.
+/// A list of `count` items, which are written by what gets their places, if there is memory.
 ///
 /// # Safety
 ///
 /// `fill` writes each place that it gets.
+#[inline]
 pub(crate) unsafe fn list_of<T>(
     count: usize,
     fill: impl FnOnce(&mut [MaybeUninit<T>]),
 ) -> Result<Vec<T>, Error> {
-    let mut list = Vec::new();
-    // SAFETY: this is what is asked here too.
-    unsafe { append_to(&mut list, count, fill)? };
+    let refusal = Error::OutOfMemory { bytes: count.saturating_mul(size_of::<T>()) };
+    let mut list = Vec::with_room(count).map_err(|_| refusal)?;
+    fill(&mut list.spare_capacity_mut()[..count]);
+    // SAFETY: there is room for so many, which are written.
+    unsafe { list.set_len(count) };
     Ok(list)
 }
 
-/// Adds `count` items behind those of a list, which are written by what gets their places, if there is memory.
+/// Adds such items behind those of a list.
 ///
 /// # Safety
 ///
@@ -143,10 +156,16 @@ pub(crate) fn reserve<T>(list: &mut Vec<T>, count: usize) -> Result<(), Error> {
         list.try_reserve(count).is_ok()
     };
     let bytes = list.len().saturating_add(count).saturating_mul(size_of::<T>());
-    if made { Ok(()) } else { Err(Error::OutOfMemory { bytes }) }
+    Error::OutOfMemory { bytes }.unless(made)
 }
 
-/// The first `needed` places, for what writes each of them.
+/// Items as cells that may be written or not, for loops that copy from them.
+pub(crate) fn as_cells<T>(items: &[T]) -> &[MaybeUninit<T>] {
+    // SAFETY: it is the same slice, and each of its cells is written.
+    unsafe { slice::from_raw_parts(items.as_ptr().cast(), items.len()) }
+}
+
+/// The first `needed` places, as cells for what writes each of them.
 ///
 /// # Safety
 ///
@@ -160,46 +179,22 @@ pub(crate) unsafe fn front<T: Copy>(
     Ok(unsafe { slice::from_raw_parts_mut(out.as_mut_ptr().cast(), out.len()) })
 }
 
-/// Takes the first `count` places of those that are left.
-#[expect(clippy::mut_mut, reason = "the list that is left becomes a shorter one")]
-pub(crate) fn take_first<'a, T>(left: &mut &'a mut [T], count: usize) -> &'a mut [T] {
-    left.split_off_mut(..count).unwrap_or_default()
-}
-
-/// Items as cells that may be written or not, for loops that copy from them.
-pub(crate) fn as_cells<T>(items: &[T]) -> &[MaybeUninit<T>] {
-    // SAFETY: it is the same slice, and each of its cells is written.
-    unsafe { slice::from_raw_parts(items.as_ptr().cast(), items.len()) }
-}
-
-/// The same places as items, for a proved loop of numbers that writes each of them and reads none before.
+/// Cells as numbers, for a loop that writes each of them and reads none before.
 ///
 /// # Safety
 ///
-/// Each place is written before it is read.
-pub(crate) unsafe fn as_items<T>(out: &mut [MaybeUninit<T>]) -> &mut [T] {
+/// Each cell is written before it is read.
+pub(crate) unsafe fn as_items<T: Copy>(out: &mut [MaybeUninit<T>]) -> &mut [T] {
     // SAFETY: it is the same borrowed slice, and the rest is asked here.
     unsafe { slice::from_raw_parts_mut(out.as_mut_ptr().cast(), out.len()) }
 }
 
-/// The same bytes, all of them written.
-pub(crate) fn init(out: &mut [MaybeUninit<u8>]) -> &mut [u8] {
-    out.fill(MaybeUninit::new(0));
-    // SAFETY: it is the same borrowed slice, and each byte was written.
-    unsafe { slice::from_raw_parts_mut(out.as_mut_ptr().cast(), out.len()) }
-}
-
-/// The place of the first item that isn't fit to stand behind the one before it.
-pub(crate) fn first_unfit<T>(items: &[T], is_fit: impl Fn(&T, &T) -> bool) -> Option<usize> {
+/// Tests that each item is fit to stand behind the one before it. Else it is the place of the first that isn't.
+pub(crate) fn are_fit<T>(items: &[T], is_fit: impl Fn(&T, &T) -> bool) -> Result<(), usize> {
     let mut pairs = items.windows(2).map(|pair| is_fit(&pair[0], &pair[1]));
     // (a way out of the loop would stop each step)
     if pairs.clone().fold(true, |all, fit| all & fit) {
-        return None;
+        return Ok(());
     }
-    pairs.position(|fit| !fit).map(|at| at + 1)
-}
-
-/// How many bytes so many values take.
-pub(crate) fn room_for(len: usize) -> usize {
-    len.div_ceil(8)
+    pairs.position(|fit| !fit).map_or(Ok(()), |at| Err(at + 1))
 }

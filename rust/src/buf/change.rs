@@ -1,7 +1,7 @@
 //! Changes in place.
 
-use crate::bitmap::{range_within, room_for};
-use crate::proved::mask_c;
+use crate::bitmap::{granted, range_within};
+use crate::proved::mask_c::{self, row_mask_room as room_for};
 use crate::{Bitmap, BitmapBuf, Error};
 use core::ops::{Range, RangeBounds};
 
@@ -15,9 +15,7 @@ macro_rules! changed {
             ///
             /// [`Error::LengthsDiffer`].
             pub fn $call(&mut self, other: Bitmap<'_>) -> Result<(), Error> {
-                if self.len != other.len() {
-                    return Err(Error::LengthsDiffer { left: self.len, right: other.len() });
-                }
+                self.as_bitmap().of_length_of(other)?;
                 mask_c::$change(&mut self.bytes, other.bytes(), other.offset(), self.len);
                 Ok(())
             }
@@ -77,9 +75,7 @@ impl BitmapBuf {
     /// [`Error::IndexOutOfBounds`] where there is no such value.
     #[inline]
     pub fn set(&mut self, i: usize, value: bool) -> Result<(), Error> {
-        if i >= self.len {
-            return Err(Error::IndexOutOfBounds { index: i, len: self.len });
-        }
+        Error::IndexOutOfBounds { index: i, len: self.len }.unless(i < self.len)?;
         let (byte, bit) = (&mut self.bytes[i / 8], 1 << (i % 8));
         *byte = if value { *byte | bit } else { *byte & !bit };
         Ok(())
@@ -134,8 +130,7 @@ impl BitmapBuf {
 
     /// Has memory for so many values more, at least.
     pub fn reserve(&mut self, more: usize) {
-        let bytes = room_for(self.len.saturating_add(more));
-        self.bytes.reserve(bytes - self.bytes.len());
+        granted(self.try_reserve(more), self.len.saturating_add(more));
     }
 
     /// As [`reserve`](BitmapBuf::reserve), of a number that may be any.

@@ -1,47 +1,107 @@
 //! What a bitmap of its own bytes is made of.
 
-use super::pack::{AHEAD, pack, pack_fn};
-use crate::bitmap::{Room, as_bytes, init, range_within, reserve, room_for};
+use super::pack::{AHEAD, pack_fn};
+use crate::bitmap::{Room, WriteRoom as _, as_items, granted, made, range_within, reserve};
 use crate::kit::filled;
-use crate::proved::mask_c::{row_mask_append, row_mask_fill_range, row_mask_from_indices};
+use crate::proved::mask_c::{
+    row_mask_append, row_mask_fill_range, row_mask_from_bools, row_mask_from_indices,
+    row_mask_room as room_for,
+};
 use crate::{Bitmap, BitmapBuf, Error};
-use alloc::vec;
 use alloc::vec::Vec;
-use core::mem::MaybeUninit;
 use core::ops::Range;
 
+crate::bitmap::makers! {
+    impl BitmapBuf;
+
+    /// `len` values, of which just those at `indices` are true. These may come in any order and more
+    /// than once.
+    ///
+    /// ```
+    /// # use row_mask::BitmapBuf;
+    /// assert_eq!(BitmapBuf::from_indices(5, &[3, 0, 3])?.to_string(), "10010");
+    /// # Ok::<(), row_mask::Error>(())
+    /// ```
+    pub fn from_indices, from_indices_into([] len: usize, indices: &[usize]; out) -> ();
+        refused by "[`Error::IndexOutOfBounds`] with the first that is not below the length"
+    {
+        if let Some(&index) = indices.iter().find(|index| **index >= len) {
+            return Err(Error::IndexOutOfBounds { index, len });
+        }
+        // SAFETY: it writes each byte.
+        unsafe { out.write(len, |out| row_mask_from_indices(indices, len, out)) }
+    }
+}
+
+/// Makers that abort where there is no memory, as Rust's own lists do, each with the form that answers so.
+macro_rules! makers {
+    ($(
+        $(#[$what:meta])+
+        pub fn $call:ident, $tried:ident($len:ident: usize $(, $more:ident: $type:ty)?) $body:block
+    )+) => {
+        impl BitmapBuf {$(
+            $(#[$what])+
+            #[must_use]
+            pub fn $call($len: usize $(, $more: $type)?) -> BitmapBuf {
+                granted(BitmapBuf::$tried($len $(, $more)?), $len)
+            }
+
+            #[doc = concat!("As [`", stringify!($call), "`](BitmapBuf::", stringify!($call), "), of a length that may be any.")]
+            ///
+            /// # Errors
+            ///
+            /// [`Error::OutOfMemory`].
+            pub fn $tried($len: usize $(, $more: $type)?) -> Result<BitmapBuf, Error> $body
+        )+}
+    };
+}
+
+makers! {
+    /// No value, with memory for so many.
+    ///
+    /// ```
+    /// # use row_mask::{BitmapBuf, Error};
+    /// let refused = BitmapBuf::try_with_capacity(usize::MAX).unwrap_err();
+    /// assert_eq!(refused, Error::OutOfMemory { bytes: usize::MAX / 8 + 1 });
+    /// ```
+    pub fn with_capacity, try_with_capacity(len: usize) {
+        let mut made = BitmapBuf::default();
+        made.make_room(len)?;
+        Ok(made)
+    }
+
+    /// So many values, all false.
+    pub fn all_false, try_all_false(len: usize) {
+        Ok(BitmapBuf { bytes: zeros(room_for(len))?, len })
+    }
+
+    /// So many values, all true.
+    pub fn all_true, try_all_true(len: usize) {
+        made(|out| BitmapBuf::all_into(len, true, out))
+    }
+
+    /// `value(0)`, `value(1)` and so on. Where there is no memory, no value is asked for.
+    ///
+    /// ```
+    /// # use row_mask::BitmapBuf;
+    /// assert_eq!(BitmapBuf::from_fn(5, |i| i % 2 == 0).to_string(), "10101");
+    /// ```
+    pub fn from_fn, try_from_fn(len: usize, value: impl FnMut(usize) -> bool) {
+        made(|out| BitmapBuf::from_fn_into(len, value, out))
+    }
+}
+
 impl BitmapBuf {
-    // The `len` values that `fill` writes into room for them.
-    // SAFETY of a call: it writes each byte that it gets.
-    pub(crate) unsafe fn made(len: usize, fill: impl FnOnce(&mut [MaybeUninit<u8>])) -> BitmapBuf {
-        let mut made = BitmapBuf::with_capacity(len);
-        // SAFETY: as is asked here too; there is no last byte.
-        unsafe { made.add(len, fill) };
-        made
-    }
-
-    // Takes such values in place of those that are there, if there is memory.
-    // SAFETY of a call: as above.
-    pub(crate) unsafe fn refill(
-        &mut self,
-        len: usize,
-        fill: impl FnOnce(&mut [MaybeUninit<u8>]),
-    ) -> Result<(), Error> {
-        self.make_room(len)?;
-        self.clear();
-        // SAFETY: as above.
-        unsafe { self.add(len, fill) };
-        Ok(())
-    }
-
-    // Adds such values behind those that are there.
-    // SAFETY of a call: it writes each byte that it gets, and the last byte has eight values.
-    pub(crate) unsafe fn add(&mut self, len: usize, fill: impl FnOnce(&mut [MaybeUninit<u8>])) {
+    // Adds the `len` values that `fill` writes into room for them.
+    // SAFETY of a call: it writes each byte that it gets, and reads none before; the last byte has eight values.
+    pub(crate) unsafe fn add(&mut self, len: usize, fill: impl FnOnce(&mut [u8])) {
         let size = room_for(len);
         self.bytes.reserve(size);
-        fill(&mut self.bytes.spare_capacity_mut()[..size]);
         // SAFETY: so many bytes were reserved, and are written.
-        unsafe { self.bytes.set_len(self.bytes.len() + size) };
+        unsafe {
+            fill(as_items(&mut self.bytes.spare_capacity_mut()[..size]));
+            self.bytes.set_len(self.bytes.len() + size);
+        }
         self.len += len;
     }
 
@@ -61,94 +121,19 @@ impl BitmapBuf {
         Ok(())
     }
 
-    /// No value, with memory for so many.
-    #[must_use]
-    pub fn with_capacity(len: usize) -> BitmapBuf {
-        BitmapBuf { bytes: Vec::with_capacity(room_for(len)), len: 0 }
-    }
-
-    /// As [`with_capacity`](BitmapBuf::with_capacity), of a length that may be any.
-    ///
-    /// ```
-    /// # use row_mask::{BitmapBuf, Error};
-    /// let refused = BitmapBuf::try_with_capacity(usize::MAX).unwrap_err();
-    /// assert_eq!(refused, Error::OutOfMemory { bytes: usize::MAX / 8 + 1 });
-    /// ```
-    ///
-    /// # Errors
-    ///
-    /// [`Error::OutOfMemory`].
-    pub fn try_with_capacity(len: usize) -> Result<BitmapBuf, Error> {
-        let mut made = BitmapBuf::default();
-        made.make_room(len)?;
-        Ok(made)
-    }
-
-    /// So many values, all false.
-    #[must_use]
-    pub fn all_false(len: usize) -> BitmapBuf {
-        BitmapBuf { bytes: vec![0; room_for(len)], len }
-    }
-
-    /// As [`all_false`](BitmapBuf::all_false), of a length that may be any.
-    ///
-    /// # Errors
-    ///
-    /// [`Error::OutOfMemory`].
-    pub fn try_all_false(len: usize) -> Result<BitmapBuf, Error> {
-        Ok(BitmapBuf { bytes: zeros(room_for(len))?, len })
-    }
-
-    /// So many values, all true.
-    #[must_use]
-    pub fn all_true(len: usize) -> BitmapBuf {
-        let mut made = BitmapBuf::all_false(len);
-        row_mask_fill_range(&mut made.bytes, 0, len, true);
-        made
-    }
-
-    /// As [`all_true`](BitmapBuf::all_true), of a length that may be any.
-    ///
-    /// # Errors
-    ///
-    /// [`Error::OutOfMemory`].
-    pub fn try_all_true(len: usize) -> Result<BitmapBuf, Error> {
-        let mut made = BitmapBuf::try_all_false(len)?;
-        row_mask_fill_range(&mut made.bytes, 0, len, true);
-        Ok(made)
-    }
-
     /// So many values, all of them `value`, written into `out`.
     ///
     /// # Errors
     ///
     /// The refusals of [`Room`].
     pub fn all_into(len: usize, value: bool, out: &mut (impl Room + ?Sized)) -> Result<(), Error> {
-        // SAFETY: `init` writes each byte.
-        unsafe { out.write(len, |out| row_mask_fill_range(init(out), 0, len, value)) }
-    }
-
-    /// `value(0)`, `value(1)` and so on.
-    ///
-    /// ```
-    /// # use row_mask::BitmapBuf;
-    /// assert_eq!(BitmapBuf::from_fn(5, |i| i % 2 == 0).to_string(), "10101");
-    /// ```
-    #[must_use]
-    pub fn from_fn(len: usize, value: impl FnMut(usize) -> bool) -> BitmapBuf {
+        let fill = |out: &mut [u8]| {
+            out.fill(if value { 0xFF } else { 0 });
+            let end = 8 * out.len();
+            row_mask_fill_range(out, len, end, false);
+        };
         // SAFETY: it writes each byte.
-        unsafe { BitmapBuf::made(len, |out| pack_fn(len, value, out)) }
-    }
-
-    /// As [`from_fn`](BitmapBuf::from_fn), of a length that may be any.
-    ///
-    /// # Errors
-    ///
-    /// [`Error::OutOfMemory`]. Then no value was asked for.
-    pub fn try_from_fn(len: usize, value: impl FnMut(usize) -> bool) -> Result<BitmapBuf, Error> {
-        let mut made = BitmapBuf::default();
-        BitmapBuf::from_fn_into(len, value, &mut made)?;
-        Ok(made)
+        unsafe { out.write(len, fill) }
     }
 
     /// As [`from_fn`](BitmapBuf::from_fn), written into `out`.
@@ -185,7 +170,16 @@ impl BitmapBuf {
         values: impl IntoIterator<Item = bool, IntoIter: ExactSizeIterator>,
         out: &mut (impl Room + ?Sized),
     ) -> Result<(), Error> {
-        out.collect(values.into_iter())
+        let (mut values, mut count) = (values.into_iter().fuse(), 0);
+        let len = values.len();
+        let next = |_| {
+            let value = values.next();
+            count += usize::from(value.is_some());
+            value == Some(true)
+        };
+        BitmapBuf::from_fn_into(len, next, out)?;
+        out.keep(count);
+        Ok(())
     }
 
     /// A list of truth values, written into `out`. `BitmapBuf::from` makes a bitmap of one.
@@ -195,43 +189,7 @@ impl BitmapBuf {
     /// The refusals of [`Room`].
     pub fn from_bools_into(values: &[bool], out: &mut (impl Room + ?Sized)) -> Result<(), Error> {
         // SAFETY: it writes each byte.
-        unsafe { out.write(values.len(), |out| pack(values, out)) }
-    }
-
-    /// `len` values, of which just those at `indices` are true. These may come in any order and more
-    /// than once.
-    ///
-    /// ```
-    /// # use row_mask::BitmapBuf;
-    /// assert_eq!(BitmapBuf::from_indices(5, &[3, 0, 3])?.to_string(), "10010");
-    /// # Ok::<(), row_mask::Error>(())
-    /// ```
-    ///
-    /// # Errors
-    ///
-    /// [`Error::IndexOutOfBounds`] with the first that is not below the length, and
-    /// [`Error::OutOfMemory`].
-    pub fn from_indices(len: usize, indices: &[usize]) -> Result<BitmapBuf, Error> {
-        let mut made = BitmapBuf::default();
-        BitmapBuf::from_indices_into(len, indices, &mut made)?;
-        Ok(made)
-    }
-
-    /// As [`from_indices`](BitmapBuf::from_indices), written into `out`.
-    ///
-    /// # Errors
-    ///
-    /// [`Error::IndexOutOfBounds`] as there, and the refusals of [`Room`].
-    pub fn from_indices_into(
-        len: usize,
-        indices: &[usize],
-        out: &mut (impl Room + ?Sized),
-    ) -> Result<(), Error> {
-        if let Some(&index) = indices.iter().find(|index| **index >= len) {
-            return Err(Error::IndexOutOfBounds { index, len });
-        }
-        // SAFETY: it writes each byte.
-        unsafe { out.write(len, |out| row_mask_from_indices(indices, len, as_bytes(out))) }
+        unsafe { out.write(values.len(), |out| row_mask_from_bools(values, out)) }
     }
 
     /// `len` values, of which just those within the ranges are true. These may come in any order, and
@@ -274,15 +232,14 @@ impl BitmapBuf {
         out: &mut (impl Room + ?Sized),
     ) -> Result<(), Error> {
         ranges.iter().try_for_each(|range| range_within(range, len).map(|_| ()))?;
-        // SAFETY: `init` writes each byte.
-        unsafe {
-            out.write(len, |out| {
-                let out = init(out);
-                for range in ranges {
-                    row_mask_fill_range(out, range.start, range.end, true);
-                }
-            })
-        }
+        let fill = |out: &mut [u8]| {
+            out.fill(0);
+            for range in ranges {
+                row_mask_fill_range(out, range.start, range.end, true);
+            }
+        };
+        // SAFETY: it writes each byte.
+        unsafe { out.write(len, fill) }
     }
 
     /// The `len` values from bit `offset` on of bytes that are given away. From bit 0 on they are
@@ -299,17 +256,14 @@ impl BitmapBuf {
     ///
     /// [`Error::OutOfBytes`] where they are not within the bytes, and [`Error::OutOfMemory`] where they are
     /// copied.
-    pub fn from_vec(mut bytes: Vec<u8>, offset: usize, len: usize) -> Result<BitmapBuf, Error> {
+    pub fn from_vec(bytes: Vec<u8>, offset: usize, len: usize) -> Result<BitmapBuf, Error> {
         let bitmap = Bitmap::new(&bytes, offset, len)?;
         if offset > 0 {
-            let mut made = BitmapBuf::default();
-            bitmap.copy_into(&mut made)?;
-            return Ok(made);
+            return made(|out| bitmap.copy_into(out));
         }
-        bytes.truncate(room_for(len));
-        let end = 8 * bytes.len();
-        row_mask_fill_range(&mut bytes, len, end, false);
-        Ok(BitmapBuf { bytes, len })
+        let mut made = BitmapBuf { len: bytes.len().saturating_mul(8), bytes };
+        made.truncate(len);
+        Ok(made)
     }
 
     /// The values of bitmaps, one after another.
@@ -337,16 +291,15 @@ impl BitmapBuf {
         out: &mut (impl Room + ?Sized),
     ) -> Result<(), Error> {
         let len = bitmaps.iter().fold(0_usize, |len, bitmap| len.saturating_add(bitmap.len()));
-        // SAFETY: `init` writes each byte.
-        unsafe {
-            out.write(len, |out| {
-                let (out, mut len) = (init(out), 0);
-                for bitmap in bitmaps {
-                    row_mask_append(out, len, bitmap.bytes(), bitmap.offset(), bitmap.len());
-                    len += bitmap.len();
-                }
-            })
-        }
+        let join = |out: &mut [u8]| {
+            out.fill(0);
+            bitmaps.iter().fold(0, |len, bitmap| {
+                row_mask_append(out, len, bitmap.bytes(), bitmap.offset(), bitmap.len());
+                len + bitmap.len()
+            });
+        };
+        // SAFETY: it writes each byte.
+        unsafe { out.write(len, join) }
     }
 }
 

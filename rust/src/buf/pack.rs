@@ -1,19 +1,18 @@
 //! Truth values that are packed.
 
-use super::BitmapBuf;
-use crate::Error;
-use crate::bitmap::{Room, as_items, room_for};
+use crate::bitmap::{Room, as_items, granted, made, reserve};
 use crate::kit::by_level;
 use crate::proved::mask_bits::from_rows::{word_of_rows, word_of_whole};
-use crate::proved::mask_c;
+use crate::proved::mask_c::row_mask_room as room_for;
+use crate::{BitmapBuf, Error};
 use core::mem::MaybeUninit;
-use core::slice;
 
 // Bytes that are asked for ahead by a number that nothing has borne out yet, such as an iterator's hint.
 pub(super) const AHEAD: usize = 1 << 20;
 
-// Values that are asked for before they are packed: a multiple of 64, in the nearest memory.
-const BLOCK: usize = 512;
+// Values that are asked for before they are packed: a multiple of 64, in the nearest memory. To write them as bytes takes
+// 1.2 of the time.
+const BLOCK: usize = 1024;
 type Block = [MaybeUninit<u16>; BLOCK];
 
 /// Takes values, as many as there are or as the block has places, and answers how many these are.
@@ -27,59 +26,13 @@ fn take(block: &mut Block, values: impl Iterator<Item = bool>) -> usize {
     count
 }
 
-/// The same of at most `most` values.
-#[inline]
-fn take_most(block: &mut Block, values: &mut impl Iterator<Item = bool>, most: usize) -> usize {
-    if most < BLOCK { take(block, values.take(most)) } else { take(block, values) }
-}
-
-/// What was taken.
-///
-/// # Safety
-///
-/// Each place was written.
-unsafe fn taken(block: &[MaybeUninit<u16>]) -> &[u16] {
-    // SAFETY: it is the same slice, and the rest is asked here.
-    unsafe { slice::from_raw_parts(block.as_ptr().cast(), block.len()) }
-}
-
-/// Writes each byte of the values.
-pub(super) fn pack(values: &[bool], out: &mut [MaybeUninit<u8>]) {
-    debug_assert!(out.len() >= room_for(values.len()));
-    // SAFETY: it writes each byte.
-    mask_c::row_mask_from_bools(values, unsafe { as_items(out) });
-}
-
 /// Writes each byte of `value(0)`, `value(1)` and so on, to just the bytes that `len` values take.
-pub(crate) fn pack_fn(
-    len: usize,
-    mut value: impl FnMut(usize) -> bool,
-    out: &mut [MaybeUninit<u8>],
-) {
+pub(super) fn pack_fn(len: usize, mut value: impl FnMut(usize) -> bool, out: &mut [u8]) {
     let mut block = [MaybeUninit::uninit(); BLOCK];
     for (out, start) in out.chunks_mut(BLOCK / 8).zip((0..len).step_by(BLOCK)) {
         let count = take(&mut block, (start..len.min(start + BLOCK)).map(&mut value));
         // SAFETY: so many were taken.
-        pack_rows(unsafe { taken(&block[..count]) }, |it| *it != 0, out);
-    }
-}
-
-/// Writes each byte of `len` values, to just the bytes that these take. Where there are fewer, false ones stand in
-/// their place.
-pub(crate) fn pack_values(
-    values: &mut impl Iterator<Item = bool>,
-    len: usize,
-    out: &mut [MaybeUninit<u8>],
-) {
-    let (mut block, mut left) = ([MaybeUninit::uninit(); BLOCK], len);
-    for out in out.chunks_mut(BLOCK / 8) {
-        let (count, most) = (take_most(&mut block, values, left), left.min(BLOCK));
-        if let Some(missing) = block.get_mut(count..most) {
-            missing.fill(MaybeUninit::new(0));
-        }
-        // SAFETY: so many were taken or filled.
-        pack_rows(unsafe { taken(&block[..most]) }, |it| *it != 0, out);
-        left -= most;
+        pack_rows(unsafe { as_items(&mut block[..count]) }, |it| *it != 0, out);
     }
 }
 
@@ -94,8 +47,8 @@ impl BitmapBuf {
     /// ```
     #[must_use]
     pub fn from_rows<T>(rows: &[T], is_true: impl FnMut(&T) -> bool) -> BitmapBuf {
-        // SAFETY: it writes each byte.
-        unsafe { BitmapBuf::made(rows.len(), |out| pack_rows(rows, is_true, out)) }
+        let made = made(|out| BitmapBuf::from_rows_into(rows, is_true, out));
+        granted(made, rows.len())
     }
 
     /// As [`from_rows`](BitmapBuf::from_rows), written into `out`.
@@ -111,28 +64,10 @@ impl BitmapBuf {
         // SAFETY: it writes each byte.
         unsafe { out.write(rows.len(), |out| pack_rows(rows, is_true, out)) }
     }
-
-    /// Adds at most `most` values behind the last one, where the last byte has eight.
-    pub(crate) fn add_blocks(&mut self, values: &mut impl Iterator<Item = bool>, most: usize) {
-        let (mut block, mut left) = ([MaybeUninit::uninit(); BLOCK], most);
-        loop {
-            if self.bytes.capacity() - self.bytes.len() < BLOCK / 8 {
-                // (a hint that was right for so long: if it is refused, room is made for what comes)
-                let _ = self.bytes.try_reserve(room_for(values.size_hint().0.min(left)));
-            }
-            let count = take_most(&mut block, values, left);
-            // SAFETY: so many were taken; it writes each byte, and the last byte has eight values.
-            unsafe { self.add(count, |out| pack_rows(taken(&block[..count]), |it| *it != 0, out)) };
-            left -= count;
-            if count < BLOCK {
-                return;
-            }
-        }
-    }
 }
 
 /// Writes each byte of what is asked of rows, to just the bytes that they take.
-fn pack_rows<T>(rows: &[T], mut is_true: impl FnMut(&T) -> bool, out: &mut [MaybeUninit<u8>]) {
+fn pack_rows<T>(rows: &[T], mut is_true: impl FnMut(&T) -> bool, out: &mut [u8]) {
     by_level!(
         pack_rows_v3(rows, &mut is_true, out),
         pack_rows_any::<T, _, { cfg!(target_feature = "avx2") }>(rows, &mut is_true, out)
@@ -141,7 +76,7 @@ fn pack_rows<T>(rows: &[T], mut is_true: impl FnMut(&T) -> bool, out: &mut [Mayb
 
 #[cfg(target_arch = "x86_64")]
 #[target_feature(enable = "avx2,bmi1,bmi2,f16c,fma,lzcnt,movbe,popcnt")]
-fn pack_rows_v3<T, F: FnMut(&T) -> bool>(rows: &[T], is_true: &mut F, out: &mut [MaybeUninit<u8>]) {
+fn pack_rows_v3<T, F: FnMut(&T) -> bool>(rows: &[T], is_true: &mut F, out: &mut [u8]) {
     pack_rows_any::<T, F, true>(rows, is_true, out);
 }
 
@@ -150,7 +85,7 @@ fn pack_rows_v3<T, F: FnMut(&T) -> bool>(rows: &[T], is_true: &mut F, out: &mut 
 fn pack_rows_any<T, F: FnMut(&T) -> bool, const HAS_AVX2: bool>(
     rows: &[T],
     is_true: &mut F,
-    out: &mut [MaybeUninit<u8>],
+    out: &mut [u8],
 ) {
     let (whole, rest) = rows.as_chunks::<64>();
     let (words, last) = out.split_at_mut(8 * whole.len());
@@ -159,10 +94,10 @@ fn pack_rows_any<T, F: FnMut(&T) -> bool, const HAS_AVX2: bool>(
             8 if HAS_AVX2 => word_by_bits(rows, is_true),
             _ => word_of_whole(rows, is_true),
         };
-        *out = word.to_le_bytes().map(MaybeUninit::new);
+        *out = word.to_le_bytes();
     }
     for (out, byte) in last.iter_mut().zip(word_of_rows(rest, is_true).to_le_bytes()) {
-        out.write(byte);
+        *out = byte;
     }
 }
 
@@ -188,8 +123,7 @@ impl FromIterator<bool> for BitmapBuf {
 
 impl From<&[bool]> for BitmapBuf {
     fn from(values: &[bool]) -> BitmapBuf {
-        // SAFETY: it writes each byte.
-        unsafe { BitmapBuf::made(values.len(), |out| pack(values, out)) }
+        granted(made(|out| BitmapBuf::from_bools_into(values, out)), values.len())
     }
 }
 
@@ -201,7 +135,23 @@ impl Extend<bool> for BitmapBuf {
             let Some(value) = values.next() else { return };
             self.push(value);
         }
-        self.bytes.reserve(room_for(values.size_hint().0).min(AHEAD));
-        self.add_blocks(&mut values, usize::MAX);
+        let ahead = room_for(values.size_hint().0).min(AHEAD);
+        granted(reserve(&mut self.bytes, ahead), 8 * ahead);
+        let mut block = [MaybeUninit::uninit(); BLOCK];
+        loop {
+            if self.bytes.capacity() - self.bytes.len() < BLOCK / 8 {
+                // (a hint that was right for so long: if it is refused, room is made for what comes)
+                let _ = self.bytes.try_reserve(room_for(values.size_hint().0));
+            }
+            let count = take(&mut block, values.by_ref());
+            // SAFETY: so many were taken; it writes each byte, and the last byte has eight values.
+            unsafe {
+                let rows = as_items(&mut block[..count]);
+                self.add(count, |out| pack_rows(rows, |it| *it != 0, out));
+            }
+            if count < BLOCK {
+                return;
+            }
+        }
     }
 }

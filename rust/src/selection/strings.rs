@@ -55,10 +55,8 @@ impl Selection {
     }
 
     fn of_offsets<O>(&self, offsets: &[O]) -> Result<(), Error> {
-        if offsets.len().checked_sub(1) == Some(self.len()) {
-            return Ok(());
-        }
-        Err(Error::OffsetsDiffer { offsets: offsets.len(), len: self.len() })
+        let differ = Error::OffsetsDiffer { offsets: offsets.len(), len: self.len() };
+        differ.unless(offsets.len().checked_sub(1) == Some(self.len()))
     }
 
     // Writes each place, and answers how many bytes the chosen values have. The offsets are those of a column, and there
@@ -85,9 +83,8 @@ impl<O: Offset> Strings<'_, O> {
         let (offsets, mut size) = (self.offsets(), 0);
         // SAFETY: each place is written.
         unsafe {
-            let offsets = list_of(selection.count + 1, |out| {
-                size = selection.offsets_to(offsets, as_items(out));
-            })?;
+            let write = |out: &mut [_]| size = selection.offsets_to(offsets, as_items(out));
+            let offsets = list_of(selection.count + 1, write)?;
             Ok((offsets, list_of(size, |out| self.bytes_to(selection, as_items(out)))?))
         }
     }

@@ -32,6 +32,12 @@ impl<'a> Indices<'a> {
         self.word & self.word.wrapping_sub(1)
     }
 
+    // The index of the true value that is given.
+    #[inline(always)]
+    fn index(&self) -> usize {
+        self.first + self.word.trailing_zeros() as usize
+    }
+
     // The number of the word behind it.
     #[inline]
     fn next_word(&self) -> usize {
@@ -71,10 +77,7 @@ impl Iterator for Indices<'_> {
     #[inline(always)]
     fn next(&mut self) -> Option<usize> {
         self.word = self.left();
-        if self.word == 0 && !self.advance() {
-            return None;
-        }
-        Some(self.first + self.word.trailing_zeros() as usize)
+        (self.word != 0 || self.advance()).then(|| self.index())
     }
 
     #[inline]
@@ -90,15 +93,14 @@ impl Iterator for Indices<'_> {
             let between = self.between();
             if let Some(i) = between.select(n - here) {
                 let k = self.next_word() + i / 64;
-                self.word = self.word(k) & !0 << (i % 64);
-                self.first = 64 * k;
-                return Some(self.first + i % 64);
+                (self.word, self.first) = (self.word(k) & !0 << (i % 64), 64 * k);
+                return Some(self.index());
             }
             n -= here + between.count();
             (self.word, self.first) = (take(&mut self.back), 64 * self.end);
         }
         (0..n.min(64)).for_each(|_| self.word = self.left());
-        (self.word != 0).then(|| self.first + self.word.trailing_zeros() as usize)
+        (self.word != 0).then(|| self.index())
     }
 
     fn count(self) -> usize {

@@ -98,21 +98,15 @@ impl Iterator for Values<'_> {
 impl DoubleEndedIterator for Values<'_> {
     #[inline]
     fn next_back(&mut self) -> Option<bool> {
-        if self.next >= self.end {
-            // what is left is in the word
-            self.word = lowest(self.word, (self.word.ilog2() as usize).checked_sub(1)?);
-        }
-        self.end -= 1;
-        Some(row_mask_value(self.bytes, 0, self.end + 1, self.end))
+        self.nth_back(0)
     }
 
     #[inline]
     fn nth_back(&mut self, n: usize) -> Option<bool> {
-        let left = self.left();
-        let kept = left.saturating_sub(n);
-        self.end -= left - kept;
-        self.word = lowest(self.word, kept.min(self.word.ilog2() as usize));
-        self.next_back()
+        let (left, kept) = (self.left(), self.left().saturating_sub(n).checked_sub(1));
+        self.end -= left - kept.unwrap_or(0);
+        self.word = lowest(self.word, kept.unwrap_or(0).min(self.word.ilog2() as usize));
+        kept.map(|_| row_mask_value(self.bytes, 0, self.end + 1, self.end))
     }
 }
 
