@@ -59,7 +59,6 @@ macro_rules! makers {
             $(#[$what])+
             ///
             /// # Errors
-            ///
             #[doc = concat!($refusals, ", and [`Error::OutOfMemory`].")]
             pub fn $call($($receiver)* $($beside: $type),+) -> Result<BitmapBuf, Error> {
                 $crate::bitmap::made(|$out| $body)
@@ -71,7 +70,6 @@ macro_rules! makers {
             )]
             ///
             /// # Errors
-            ///
             #[doc = concat!($refusals, ", and the refusals of [`Room`].")]
             pub fn $into(
                 $($receiver)*
@@ -87,7 +85,6 @@ impl<'a> Bitmap<'a> {
     /// The `len` bits of `bytes` from bit `offset` on.
     ///
     /// # Errors
-    ///
     /// [`Error::OutOfBytes`] where they are not within the bytes.
     pub fn new(bytes: &'a [u8], offset: usize, len: usize) -> Result<Bitmap<'a>, Error> {
         let refusal = Error::OutOfBytes { bytes: bytes.len(), offset, len };
@@ -105,7 +102,6 @@ impl<'a> Bitmap<'a> {
     /// ```
     ///
     /// # Errors
-    ///
     /// [`Error::OutOfBytes`] where they are not within the words.
     #[cfg(target_endian = "little")]
     pub fn from_words(words: &'a [u64], len: usize) -> Result<Bitmap<'a>, Error> {
@@ -160,7 +156,6 @@ impl<'a> Bitmap<'a> {
     /// ```
     ///
     /// # Errors
-    ///
     /// [`Error::BadRange`] where it is no range of the values.
     pub fn slice(self, range: impl RangeBounds<usize>) -> Result<Bitmap<'a>, Error> {
         Ok(self.part(range_within(&range, self.len)?))

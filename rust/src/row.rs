@@ -18,7 +18,6 @@
 /// ```
 ///
 /// # Safety
-///
 /// A value is plain bytes, each of them written: there is no padding between its fields or behind the last one.
 pub unsafe trait Row: Copy {}
 

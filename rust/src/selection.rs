@@ -112,7 +112,6 @@ impl Selection {
     /// The chosen rows of a column, in their order.
     ///
     /// # Errors
-    ///
     /// [`Error::RowsDiffer`] where the column has not [`len`](Selection::len) rows, and [`Error::OutOfMemory`].
     #[doc(alias("filter", "take"))]
     pub fn choose<T: Row>(&self, rows: &[T]) -> Result<Vec<T>, Error> {
@@ -124,7 +123,6 @@ impl Selection {
     /// As [`choose`](Selection::choose), behind the items of a list.
     ///
     /// # Errors
-    ///
     /// As there. Then the list is as it was.
     pub fn choose_append<T: Row>(&self, rows: &[T], list: &mut Vec<T>) -> Result<(), Error> {
         self.as_bitmap().has_one_for_each(rows.len())?;
@@ -135,7 +133,6 @@ impl Selection {
     /// As [`choose`](Selection::choose), to the front of `out`.
     ///
     /// # Errors
-    ///
     /// [`Error::RowsDiffer`] as there, and [`Error::RoomTooSmall`] where `out` has fewer than
     /// [`count`](Selection::count) items.
     pub fn choose_into<T: Row>(&self, rows: &[T], out: &mut [T]) -> Result<(), Error> {

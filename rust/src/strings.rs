@@ -52,7 +52,6 @@ impl<'a, O: Offset> Strings<'a, O> {
     /// any, so a part of a column's offsets goes with all of its bytes.
     ///
     /// # Errors
-    ///
     /// [`Error::OffsetsDiffer`] where there is no offset, [`Error::UnsortedOffsets`] where one is negative or
     /// below the one before it, and [`Error::OffsetOutOfBounds`] where the last is past the end of the bytes.
     pub fn new(offsets: &'a [O], bytes: &'a [u8]) -> Result<Strings<'a, O>, Error> {
@@ -86,7 +85,6 @@ impl<'a, O: Offset> Strings<'a, O> {
     /// The values of a range, in the same bytes.
     ///
     /// # Errors
-    ///
     /// [`Error::BadRange`] where it is no range of the values.
     pub fn slice(self, range: impl RangeBounds<usize>) -> Result<Strings<'a, O>, Error> {
         let Range { start, end } = range_within(&range, self.len())?;

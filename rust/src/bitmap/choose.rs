@@ -39,7 +39,6 @@ impl Bitmap<'_> {
     /// The rows at the true values, in their order.
     ///
     /// # Errors
-    ///
     /// [`Error::RowsDiffer`] where there is not one row for each value, and [`Error::OutOfMemory`].
     #[doc(alias = "filter")]
     pub fn choose<T: Row>(self, rows: &[T]) -> Result<Vec<T>, Error> {
@@ -51,7 +50,6 @@ impl Bitmap<'_> {
     /// As [`choose`](Bitmap::choose), behind the items of a list.
     ///
     /// # Errors
-    ///
     /// As there. Then the list is as it was.
     pub fn choose_append<T: Row>(self, rows: &[T], list: &mut Vec<T>) -> Result<(), Error> {
         self.has_one_for_each(rows.len())?;
@@ -62,7 +60,6 @@ impl Bitmap<'_> {
     /// As [`choose`](Bitmap::choose), to the front of `out`, and answers how many rows these are.
     ///
     /// # Errors
-    ///
     /// [`Error::RowsDiffer`] as there, and [`Error::RoomTooSmall`] where `out` has fewer items than values are true.
     pub fn choose_into<T: Row>(self, rows: &[T], out: &mut [T]) -> Result<usize, Error> {
         self.has_one_for_each(rows.len())?;

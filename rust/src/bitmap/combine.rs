@@ -53,7 +53,6 @@ impl Bitmap<'_> {
     /// Each value negated, written into `out`.
     ///
     /// # Errors
-    ///
     /// The refusals of [`Room`].
     pub fn not_into(self, out: &mut (impl Room + ?Sized)) -> Result<(), Error> {
         // SAFETY: it writes each byte.
@@ -63,7 +62,6 @@ impl Bitmap<'_> {
     /// The same values, written into `out`.
     ///
     /// # Errors
-    ///
     /// The refusals of [`Room`].
     pub fn copy_into(self, out: &mut (impl Room + ?Sized)) -> Result<(), Error> {
         // SAFETY: it writes each byte.

@@ -7,7 +7,6 @@ impl<'a> Bitmap<'a> {
     /// How many values are true in both.
     ///
     /// # Errors
-    ///
     /// [`Error::LengthsDiffer`].
     pub fn and_count(self, other: Bitmap<'_>) -> Result<usize, Error> {
         self.compared(other, mask_c::row_mask_and_count)
@@ -16,7 +15,6 @@ impl<'a> Bitmap<'a> {
     /// Whether some value is true in both.
     ///
     /// # Errors
-    ///
     /// [`Error::LengthsDiffer`].
     pub fn intersects(self, other: Bitmap<'_>) -> Result<bool, Error> {
         self.compared(other, mask_c::row_mask_intersects)
@@ -33,7 +31,6 @@ impl<'a> Bitmap<'a> {
     /// ```
     ///
     /// # Errors
-    ///
     /// [`Error::LengthsDiffer`].
     pub fn is_subset(self, other: Bitmap<'_>) -> Result<bool, Error> {
         self.compared(other, mask_c::row_mask_is_subset)

@@ -19,7 +19,6 @@ impl<'a> Bitmap<'a> {
     /// How many of the values of a range are true.
     ///
     /// # Errors
-    ///
     /// [`Error::BadRange`] where it is no range of the values.
     pub fn count_range(self, range: impl RangeBounds<usize>) -> Result<usize, Error> {
         let Range { start, end } = range_within(&range, self.len)?;
@@ -48,7 +47,6 @@ impl<'a> Bitmap<'a> {
     /// ```
     ///
     /// # Errors
-    ///
     /// [`Error::UnsortedIndices`] where an index is below the one before it,
     /// [`Error::IndexOutOfBounds`] where one is above the length, and [`Error::OutOfMemory`].
     pub fn counts_below(self, indices: &[usize]) -> Result<Vec<usize>, Error> {
@@ -62,7 +60,6 @@ impl<'a> Bitmap<'a> {
     /// As [`counts_below`](Bitmap::counts_below), to the front of `out`.
     ///
     /// # Errors
-    ///
     /// [`Error::UnsortedIndices`] and [`Error::IndexOutOfBounds`] as there, and [`Error::RoomTooSmall`]
     /// where `out` has fewer items than there are indices.
     pub fn counts_below_into(self, indices: &[usize], out: &mut [usize]) -> Result<(), Error> {

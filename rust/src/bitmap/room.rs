@@ -46,7 +46,6 @@ pub(crate) mod sealed {
         /// Writes `len` values by what gets the bytes that they take.
         ///
         /// # Safety
-        ///
         /// `fill` writes each byte that it gets, and reads none before.
         unsafe fn write(&mut self, len: usize, fill: impl FnOnce(&mut [u8])) -> Result<(), Error>;
 
@@ -116,7 +115,6 @@ pub(crate) fn first_of<T>(out: &mut [T], needed: usize) -> Result<&mut [T], Erro
 /// A list of `count` items, which are written by what gets their places, if there is memory.
 ///
 /// # Safety
-///
 /// `fill` writes each place that it gets.
 #[inline]
 pub(crate) unsafe fn list_of<T>(
@@ -134,7 +132,6 @@ pub(crate) unsafe fn list_of<T>(
 /// Adds such items behind those of a list.
 ///
 /// # Safety
-///
 /// As above.
 pub(crate) unsafe fn append_to<T>(
     list: &mut Vec<T>,
@@ -168,7 +165,6 @@ pub(crate) fn as_cells<T>(items: &[T]) -> &[MaybeUninit<T>] {
 /// The first `needed` places, as cells for what writes each of them.
 ///
 /// # Safety
-///
 /// Nothing but values is written into them.
 pub(crate) unsafe fn front<T: Copy>(
     out: &mut [T],
@@ -182,7 +178,6 @@ pub(crate) unsafe fn front<T: Copy>(
 /// Cells as numbers, for a loop that writes each of them and reads none before.
 ///
 /// # Safety
-///
 /// Each cell is written before it is read.
 pub(crate) unsafe fn as_items<T: Copy>(out: &mut [MaybeUninit<T>]) -> &mut [T] {
     // SAFETY: it is the same borrowed slice, and the rest is asked here.

@@ -12,7 +12,6 @@ macro_rules! changed {
             $(#[$what])+
             ///
             /// # Errors
-            ///
             /// [`Error::LengthsDiffer`].
             pub fn $call(&mut self, other: Bitmap<'_>) -> Result<(), Error> {
                 self.as_bitmap().of_length_of(other)?;
@@ -60,7 +59,6 @@ impl BitmapBuf {
     /// ```
     ///
     /// # Errors
-    ///
     /// [`Error::BadRange`] where it is no range of the values.
     pub fn fill_range(&mut self, range: impl RangeBounds<usize>, value: bool) -> Result<(), Error> {
         let Range { start, end } = range_within(&range, self.len)?;
@@ -71,7 +69,6 @@ impl BitmapBuf {
     /// Makes value `i` true, or false.
     ///
     /// # Errors
-    ///
     /// [`Error::IndexOutOfBounds`] where there is no such value.
     #[inline]
     pub fn set(&mut self, i: usize, value: bool) -> Result<(), Error> {
@@ -136,7 +133,6 @@ impl BitmapBuf {
     /// As [`reserve`](BitmapBuf::reserve), of a number that may be any.
     ///
     /// # Errors
-    ///
     /// [`Error::OutOfMemory`].
     pub fn try_reserve(&mut self, more: usize) -> Result<(), Error> {
         self.make_room(self.len.saturating_add(more))

@@ -49,7 +49,6 @@ macro_rules! makers {
             #[doc = concat!("As [`", stringify!($call), "`](BitmapBuf::", stringify!($call), "), of a length that may be any.")]
             ///
             /// # Errors
-            ///
             /// [`Error::OutOfMemory`].
             pub fn $tried($len: usize $(, $more: $type)?) -> Result<BitmapBuf, Error> $body
         )+}
@@ -124,7 +123,6 @@ impl BitmapBuf {
     /// So many values, all of them `value`, written into `out`.
     ///
     /// # Errors
-    ///
     /// The refusals of [`Room`].
     pub fn all_into(len: usize, value: bool, out: &mut (impl Room + ?Sized)) -> Result<(), Error> {
         let fill = |out: &mut [u8]| {
@@ -139,7 +137,6 @@ impl BitmapBuf {
     /// As [`from_fn`](BitmapBuf::from_fn), written into `out`.
     ///
     /// # Errors
-    ///
     /// The refusals of [`Room`].
     pub fn from_fn_into(
         len: usize,
@@ -164,7 +161,6 @@ impl BitmapBuf {
     /// ```
     ///
     /// # Errors
-    ///
     /// The refusals of [`Room`].
     pub fn collect_into(
         values: impl IntoIterator<Item = bool, IntoIter: ExactSizeIterator>,
@@ -185,7 +181,6 @@ impl BitmapBuf {
     /// A list of truth values, written into `out`. `BitmapBuf::from` makes a bitmap of one.
     ///
     /// # Errors
-    ///
     /// The refusals of [`Room`].
     pub fn from_bools_into(values: &[bool], out: &mut (impl Room + ?Sized)) -> Result<(), Error> {
         // SAFETY: it writes each byte.
@@ -203,7 +198,6 @@ impl BitmapBuf {
     /// ```
     ///
     /// # Errors
-    ///
     /// [`Error::BadRange`] with the first that is no range of the values, and [`Error::OutOfMemory`].
     pub fn from_ranges(
         len: usize,
@@ -224,7 +218,6 @@ impl BitmapBuf {
     /// As [`from_ranges`](BitmapBuf::from_ranges) of a list, written into `out`.
     ///
     /// # Errors
-    ///
     /// [`Error::BadRange`] as there, and the refusals of [`Room`].
     pub fn from_ranges_into(
         len: usize,
@@ -253,7 +246,6 @@ impl BitmapBuf {
     /// ```
     ///
     /// # Errors
-    ///
     /// [`Error::OutOfBytes`] where they are not within the bytes, and [`Error::OutOfMemory`] where they are
     /// copied.
     pub fn from_vec(bytes: Vec<u8>, offset: usize, len: usize) -> Result<BitmapBuf, Error> {
@@ -284,7 +276,6 @@ impl BitmapBuf {
     /// As [`concat`](BitmapBuf::concat) of a list, written into `out`.
     ///
     /// # Errors
-    ///
     /// The refusals of [`Room`].
     pub fn concat_into(
         bitmaps: &[Bitmap<'_>],

@@ -54,7 +54,6 @@ impl BitmapBuf {
     /// As [`from_rows`](BitmapBuf::from_rows), written into `out`.
     ///
     /// # Errors
-    ///
     /// The refusals of [`Room`].
     pub fn from_rows_into<T>(
         rows: &[T],

@@ -14,7 +14,6 @@ impl Selection {
     /// It reads all offsets, to test them. [`Strings`] are tested once for any number of calls.
     ///
     /// # Errors
-    ///
     /// [`Error::OffsetsDiffer`] where the column has not one offset more than [`len`](Selection::len) rows,
     /// [`Error::UnsortedOffsets`] where one is negative or below the one before it, and [`Error::RoomTooSmall`] where
     /// `out` has not one item more than [`count`](Selection::count).
@@ -27,7 +26,6 @@ impl Selection {
     /// Writes the bytes of the chosen values to the front of `out`, and answers how many these are. It reads all offsets.
     ///
     /// # Errors
-    ///
     /// As [`choose_strings`](Selection::choose_strings), but [`Error::RoomTooSmall`] where `out` has not so many bytes.
     pub fn choose_bytes<O: Offset>(
         &self,
@@ -42,7 +40,6 @@ impl Selection {
     /// The chosen values, as offsets and bytes of their own. It reads all offsets.
     ///
     /// # Errors
-    ///
     /// [`Error::OffsetsDiffer`] and [`Error::UnsortedOffsets`] as of [`choose_offsets`](Selection::choose_offsets),
     /// [`Error::OffsetOutOfBounds`] where the last offset is past the end of `bytes`, and [`Error::OutOfMemory`].
     pub fn choose_strings<O: Offset>(
@@ -75,7 +72,6 @@ impl<O: Offset> Strings<'_, O> {
     /// The chosen values, as offsets and bytes of their own. Just the offsets of these are read.
     ///
     /// # Errors
-    ///
     /// [`Error::RowsDiffer`] where there are not as many values as rows that the selection is of, and
     /// [`Error::OutOfMemory`].
     pub fn choose(self, selection: &Selection) -> Result<(Vec<O>, Vec<u8>), Error> {
@@ -92,7 +88,6 @@ impl<O: Offset> Strings<'_, O> {
     /// As [`Selection::choose_offsets`] does. Just the offsets of the chosen values are read.
     ///
     /// # Errors
-    ///
     /// [`Error::RowsDiffer`] as of [`choose`](Strings::choose), and [`Error::RoomTooSmall`] as there.
     pub fn choose_offsets(self, selection: &Selection, out: &mut [O]) -> Result<usize, Error> {
         selection.as_bitmap().has_one_for_each(self.len())?;
@@ -102,7 +97,6 @@ impl<O: Offset> Strings<'_, O> {
     /// Writes the bytes of the chosen values to the front of `out`, and answers how many these are.
     ///
     /// # Errors
-    ///
     /// [`Error::RowsDiffer`] as of [`choose`](Strings::choose), and [`Error::RoomTooSmall`] where `out` has not so many
     /// bytes.
     pub fn choose_bytes(self, selection: &Selection, out: &mut [u8]) -> Result<usize, Error> {
