@@ -1,9 +1,8 @@
-/* Loaded before the C library: refuses a program's request for memory whose number, counted from 1, the
-   variable REFUSED_REQUEST has. Where REFUSES_REST is 1 it refuses each later one too, until the program
-   writes something. It counts from the start on, or, where IN_CALLS is 1, anew from each line `calls` that
-   the program writes until it writes something else. It tells of the first refusal by a line on the
-   descriptor that REFUSAL_TO names. If the program aborts, it tells there how many bytes were refused last,
-   and which calls they were asked for in, the innermost first. */
+/* Loaded before the C library: refuses a program's request for memory whose number, counted from 1, the variable
+   REFUSED_REQUEST has. Where REFUSES_REST is 1 it refuses each later one too, until the program writes something. It
+   counts from the start on, or, where IN_CALLS is 1, anew from each line `calls` that the program writes until it writes
+   something else. It tells of the first refusal by a line on the descriptor that REFUSAL_TO names. If the program
+   aborts, it tells there how many bytes were refused last, and which calls they were asked for in, the innermost first. */
 #define _GNU_SOURCE
 #include <dlfcn.h>
 #include <execinfo.h>
@@ -40,32 +39,25 @@ __attribute__((constructor)) static void start(void)
 void abort(void)
 {
     void (*next)(void) = (void (*)(void))dlsym(RTLD_NEXT, "abort");
-    char line[64];
-    int length = snprintf(line, sizeof line, "aborts, refused %zu bytes in\n", refused_size);
-    if (refused_depth > 0 && syscall(SYS_write, refusal_to, line, length) == length)
+    if (refused_depth > 0 && dprintf(refusal_to, "aborts, refused %zu bytes in\n", refused_size) > 0)
         backtrace_symbols_fd(refused_in, refused_depth, refusal_to);
     next();
     _exit(1);
 }
 
-static int is_next_refused(void)
-{
-    static const char line[] = "request refused\n";
-    if (requests_left < 1 || --requests_left > 0)
-        return is_out_of_memory;
-    if (syscall(SYS_write, refusal_to, line, sizeof line - 1) < 0)
-        abort();
-    is_out_of_memory = refuses_rest == 1;
-    return 1;
-}
-
 static int is_refused(size_t size)
 {
-    if (!is_next_refused())
-        return 0;
-    refused_size = size;
-    refused_depth = backtrace(refused_in, sizeof refused_in / sizeof *refused_in);
-    return 1;
+    static const char line[] = "request refused\n";
+    int is_this = requests_left > 0 && --requests_left == 0;
+    if (is_this && syscall(SYS_write, refusal_to, line, sizeof line - 1) < 0)
+        abort();
+    if (is_this)
+        is_out_of_memory = refuses_rest == 1;
+    if (is_this || is_out_of_memory) {
+        refused_size = size;
+        refused_depth = backtrace(refused_in, sizeof refused_in / sizeof *refused_in);
+    }
+    return is_this || is_out_of_memory;
 }
 
 static void *taken(size_t size)
@@ -81,6 +73,7 @@ void *malloc(size_t size)
     return taken(size);
 }
 
+/* (of a call of `malloc` here, compilers make one of `calloc`) */
 void *calloc(size_t count, size_t size)
 {
     void *bytes = size && count > SIZE_MAX / size ? NULL : taken(count * size);
@@ -104,7 +97,4 @@ ssize_t write(int to, const void *bytes, size_t length)
     return syscall(SYS_write, to, bytes, length);
 }
 
-ssize_t __write(int to, const void *bytes, size_t length)
-{
-    return write(to, bytes, length);
-}
+ssize_t __write(int to, const void *bytes, size_t length) __attribute__((alias("write")));
