@@ -9,6 +9,8 @@ from itertools import compress
 from typing import NamedTuple
 
 MAX = 2**64 - 1
+# How a value is true by its word: what is left of the word by the first number is from the second on, and below the last.
+ODD, THREE_IN_FIVE, TWO_IN_THREE = (2, 1, 2), (5, 0, 3), (3, 1, 3)
 
 
 class Mask(NamedTuple):
@@ -38,21 +40,10 @@ def words(state):
         yield state
 
 
-def drawn(source, length, by, first, end):
-    """A value is true where what is left of its word by `by` is from `first` on and below `end`."""
+def drawn(source, length, share):
+    """As many values by words: how they are true says the share, as `ODD`."""
+    by, first, end = share
     return "".join("1" if first <= next(source) % by < end else "0" for _ in range(length))
-
-
-def odd(source, length):
-    return drawn(source, length, 2, 1, 2)
-
-
-def three_in_five(source, length):
-    return drawn(source, length, 5, 0, 3)
-
-
-def two_in_three(source, length):
-    return drawn(source, length, 3, 1, 3)
 
 
 def bits_of(word):
@@ -138,22 +129,14 @@ def at_rows(rows, values):
 
 def deposit(source, places):
     """The low bits of `source`, one after another, at the set places."""
-    found, count = 0, 0
-    for place in range(64):
-        if places >> place & 1:
-            found |= (source >> count & 1) << place
-            count += 1
-    return found
+    found = [place for place in range(64) if places >> place & 1]
+    return sum((source >> count & 1) << place for count, place in enumerate(found))
 
 
 def extract(source, places):
     """The bits of `source` at the set places, one after another."""
-    found, count = 0, 0
-    for place in range(64):
-        if places >> place & 1:
-            found |= (source >> place & 1) << count
-            count += 1
-    return found
+    found = [place for place in range(64) if places >> place & 1]
+    return sum((source >> place & 1) << count for count, place in enumerate(found))
 
 
 # ---- the same of masks, with how they are held if there are no values
@@ -219,16 +202,16 @@ def masks_text(masks):
     return ",".join(map(mask_text, masks)) or "-"
 
 
-def lent_text(a, kind, caches=""):
-    """A list that a mask lends, and the mask after it, which has these cached."""
+def lent_text(a, kind, caches):
+    """A list that a mask lends, and the mask after it, which has it cached beside these, if it is told of them."""
     lent = LISTS[kind][1](a.values) if is_mixed(a) else "All" if a.is_all_true else "None"
-    return f"{lent} then {cached_text(a, caches)}"
+    return f"{lent} then {mask_text(a) if caches is None else cached_text(a, caches + kind)}"
 
 
-def threshold_text(a, num, den, caches=None):
+def threshold_text(a, num, den, caches):
     """The list that a mask lends by a threshold of its density, which is then cached beside these."""
     kind, name = ("r", "Slices ") if a.values.count("1") * den >= num * len(a.values) else ("i", "Indices ")
-    return name * is_mixed(a) + lent_text(a, kind, "" if caches is None else caches + kind)
+    return name * is_mixed(a) + lent_text(a, kind, caches)
 
 
 def walk_text(values):
@@ -238,3 +221,60 @@ def walk_text(values):
 
 def index_text(found, n):
     return str(found[n]) if 0 <= n < len(found) else "none"
+
+
+def density_text(a):
+    return f"{a.values.count('1')}/{len(a.values)}" if is_mixed(a) else f"{int(a.is_all_true)}/1"
+
+
+def debug_text(a):
+    counted = f"true_count={a.values.count('1')}, len={len(a.values)}"
+    return counted if is_mixed(a) else f"All {flag(a.is_all_true)}({len(a.values)})"
+
+
+def flag(value):
+    return "true" if value else "false"
+
+
+# ---- what calls answer of a mask, another one, and numbers; `lists` are those that the mask caches, or None is told
+
+ANSWERS = {
+    "len": lambda a, *_: len(a.values),
+    "true_count": lambda a, *_: a.values.count("1"),
+    "false_count": lambda a, *_: a.values.count("0"),
+    "is_empty": lambda a, *_: flag(not a.values),
+    "all_true": lambda a, *_: flag("0" not in a.values),
+    "all_false": lambda a, *_: flag("1" not in a.values),
+    "first": lambda a, *_: index_text(indices(a.values), 0),
+    "last": lambda a, *_: index_text(indices(a.values), a.values.count("1") - 1),
+    "density": lambda a, *_: density_text(a),
+    "debug": lambda a, *_: debug_text(a),
+    "bit_buffer": lambda a, *_: text(a.values),
+    "not": lambda a, *_: mask_text(not_mask(a)),
+    **dict.fromkeys(("mask", "clone"), lambda a, b, numbers, lists: cached_text(a, lists or "")),
+    "indices": lambda a, b, numbers, lists: lent_text(a, "i", lists),
+    "slices": lambda a, b, numbers, lists: lent_text(a, "r", lists),
+    "threshold_iter": lambda a, b, numbers, lists: threshold_text(a, *numbers, lists),
+    "slice": lambda a, b, numbers, lists: cached_text(
+        part(a, *numbers), (lists or "") * ([*numbers] == [0, len(a.values)])
+    ),
+    **dict.fromkeys(("limit", "limited"), lambda a, b, k, _: mask_text(mask(limited(a.values, k[0]), a.is_all_true))),
+    "groups": lambda a, b, numbers, _: masks_text(groups(a, numbers[0])),
+    "valid_counts_for_indices": lambda a, b, numbers, _: numbers_text(counts(a.values)[i] for i in numbers),
+    "choose": lambda a, b, rows, _: numbers_text(rows[i] for i in indices(a.values)),
+    "bitand": lambda a, b, *_: mask_text(combined_masks(AND, a, b)),
+    "bitor": lambda a, b, *_: mask_text(combined_masks(OR, a, b)),
+    "bitand_not": lambda a, b, *_: mask_text(combined_masks(AND_NOT, a, b)),
+    "choose_values": lambda a, b, *_: mask_text(mask(at_rows(a.values, b.values), b.is_all_true)),
+    "intersect_by_rank": lambda a, b, *_: mask_text(narrowed_mask(a, b)),
+    "equal": lambda a, b, *_: flag(a.values == b.values),
+    **dict.fromkeys(("concat", "from_masks"), lambda a, b, *_: mask_text(mask(a.values + b.values))),
+    **dict.fromkeys(("from_buffer", "from_rows", "from_bools", "from_excluded_indices"), lambda a, *_: mask_text(a)),
+    **dict.fromkeys(("from_indices", "from_intersection_indices"), lambda a, *_: cached_text(a, "i")),
+    **dict.fromkeys(("from_slices", "from_buffer_with_slices"), lambda a, *_: cached_text(a, "r")),
+}
+
+
+def answer(call, a, b=None, numbers=(), lists=None):
+    told = ANSWERS[re.sub(r"^(into_|to_|values\.)", "", call)](a, b, numbers, lists)
+    return told.replace(" Values", "") if call.startswith("values.") else told

@@ -2,10 +2,7 @@
 import pathlib
 import re
 
-from plain import (
-    AND, AND_NOT, OR, at_rows, cached_text, combined_masks, counts, groups, indices, lent_text, limited, mask, mask_text,
-    masks_text, negated, not_mask, numbers_text, part, ranges, ranges_text, text, threshold_text,
-)
+from plain import answer, indices, mask, negated, numbers_text, ranges, ranges_text, text
 
 FILE = pathlib.Path(__file__).resolve().parent.parent / "crates" / "mask_tests" / "refused"
 EACH = "indices,one_rank,ranges,both,bits"
@@ -43,34 +40,6 @@ def caches_of(word):
     return lists + ("r" if ".." in made else "i") * bool(made)
 
 
-def answer(call, values, caches, other, numbers):
-    """What a call answers of a mask with these values, which caches these lists, and of another one."""
-    a, b = mask(values), mask(other)
-    by_call = {
-        "bitand": lambda: mask_text(combined_masks(AND, a, b)),
-        "bitor": lambda: mask_text(combined_masks(OR, a, b)),
-        "bitand_not": lambda: mask_text(combined_masks(AND_NOT, a, b)),
-        "not": lambda: mask_text(not_mask(a)),
-        "choose_values": lambda: mask_text(mask(at_rows(values, other), b.is_all_true)),
-        **dict.fromkeys(("concat", "from_masks"), lambda: mask_text(mask(values + other))),
-        **dict.fromkeys(("limit", "limited"), lambda: mask_text(mask(limited(values, numbers[0])))),
-        "slice": lambda: cached_text(part(a, *numbers), caches * (numbers == [0, len(values)])),
-        "groups": lambda: masks_text(groups(a, numbers[0])),
-        "clone": lambda: cached_text(a, caches),
-        "bit_buffer": lambda: text(values),
-        "choose": lambda: numbers_text(FIRST_ROW + i for i in indices(values)),
-        "valid_counts_for_indices": lambda: numbers_text(counts(values)[i] for i in numbers),
-        **dict.fromkeys(("from_buffer", "from_rows", "from_bools", "from_excluded_indices"), lambda: mask_text(a)),
-        **dict.fromkeys(("from_indices", "from_intersection_indices"), lambda: cached_text(a, "i")),
-        **dict.fromkeys(("from_slices", "from_buffer_with_slices"), lambda: cached_text(a, "r")),
-        "indices": lambda: lent_text(a, "i", caches + "i"),
-        "slices": lambda: lent_text(a, "r", caches + "r"),
-        "threshold_iter": lambda: threshold_text(a, *numbers, caches),
-    }
-    told = by_call[re.sub(r"^(into_|to_|values\.)", "", call)]()
-    return told.replace(" Values", "") if call.startswith("values.") else told
-
-
 def of_mask(line, call):
     """The row of a call of a mask of the tables."""
     _, _, length, word, other, start, end, listed = line.split()
@@ -84,7 +53,7 @@ def of_mask(line, call):
     name, *words = call.split()
     words = [stands.get(it.strip("&"), it.strip("&")) + "&" * it.endswith("&") for it in words]
     numbers = [int(it) for word in words[1:] for it in word.split(",") if it.isdecimal()]
-    want = answer(name, values, caches_of(word), values_of(other), numbers)
+    want = answer(name, mask(values), mask(values_of(other)), numbers, caches_of(word))
     return f"{name} {' '.join(words)} -> {want}"
 
 

@@ -1,10 +1,9 @@
 """The rows of the sweeps, by section: a list of shares, and a function that gives the rows of one. Deposits, kernels, masks
 and densities go by fixed streams of words; the others look at lengths and bit offsets where the code has a branch."""
 from plain import (
-    AND, AND_NOT, MAX, OR, at_rows, bits_of, cached_text, combined, combined_masks, counts, deposit, drawn, extract,
-    groups, index_text, indices, lent_text, limited, mask, mask_text, masks_text, narrowed, narrowed_mask, negated,
-    negated_at, not_mask, numbers_text, odd, part, ranges, ranges_text, repeating, text, three_in_five, threshold_text,
-    two_in_three, walk_text, word_of, words, words_of,
+    AND, AND_NOT, MAX, ODD, OR, THREE_IN_FIVE, TWO_IN_THREE, answer, at_rows, bits_of, cached_text, combined, deposit,
+    drawn, extract, flag, index_text, indices, mask, mask_text, narrowed, narrowed_mask, negated, negated_at,
+    numbers_text, ranges, ranges_text, repeating, text, walk_text, word_of, words, words_of,
 )
 
 STATE = 0x2545_F491_4F6C_DD1D
@@ -30,61 +29,47 @@ def spread(rows, first, second=("bools:",)):
                 yield row.replace("@", one).replace("%", other)
 
 
-def flag(value):
-    return "true" if value else "false"
-
-
 # ---- masks
+
+READS = ["mask,clone", "not,into_not", "to_bit_buffer,into_bit_buffer,display", "len", "true_count", "false_count"]
+READS += ["is_empty", "all_true", "all_false", "first", "last", "density", "debug", "indices", "slices"]
+
+
+def row(names, a, operand, b=None, numbers=()):
+    """Calls that answer the same of a mask, and what else their words say."""
+    others = [f"%{text(b.values)}"] if b else []
+    others += [numbers_text(numbers)] if names in ("choose", "valid_counts_for_indices") else map(str, numbers)
+    return f"{names} {' '.join([operand, *others])} => {answer(names.split(',')[0], a, b, numbers)}"
+
 
 def reads(a, operand):
     """The calls that read one mask."""
-    values, found = a.values, indices(a.values)
-    length, count = len(values), len(found)
-    is_mixed = 0 < count < length
-    yield f"mask,clone {operand} => {mask_text(a)}"
-    yield f"not,into_not {operand} => {mask_text(not_mask(a))}"
-    yield f"to_bit_buffer,into_bit_buffer,display {operand} => {text(values)}"
-    yield f"len {operand} => {length}"
-    yield f"true_count {operand} => {count}"
-    yield f"false_count {operand} => {length - count}"
-    yield f"is_empty {operand} => {flag(length == 0)}"
-    yield f"all_true {operand} => {flag(count == length)}"
-    yield f"all_false {operand} => {flag(count == 0)}"
-    yield f"first {operand} => {index_text(found, 0)}"
-    yield f"last {operand} => {index_text(found, count - 1)}"
-    yield f"density {operand} => {f'{count}/{length}' if is_mixed else f'{int(a.is_all_true)}/1'}"
-    yield f"debug {operand} => {f'true_count={count}, len={length}' if is_mixed else f'All {flag(a.is_all_true)}({length})'}"
-    yield f"indices {operand} => {lent_text(a, 'i')}"
-    yield f"slices {operand} => {lent_text(a, 'r')}"
-    yield f"valid_counts_for_indices {operand} {numbers_text(range(length + 1))} => {numbers_text(counts(values))}"
-    yield f"choose {operand} {numbers_text(range(length))} => {numbers_text(found)}"
+    yield from (row(names, a, operand) for names in READS)
+    yield row("valid_counts_for_indices", a, operand, numbers=range(len(a.values) + 1))
+    yield row("choose", a, operand, numbers=range(len(a.values)))
 
 
 def pairs(a, operand):
     """The calls of two masks: of the list reversed, of itself, with one value negated, and of ranks."""
     values, last = a.values, max(len(a.values) - 1, 0)
-    reverse = mask(values[::-1])
-    for op, names in [(AND, "bitand,into_bitand"), (OR, "bitor,into_bitor"), (AND_NOT, "to_bitand_not,bitand_not")]:
-        yield f"{names} {operand} %{text(reverse.values)} => {mask_text(combined_masks(op, a, reverse))}"
+    for names in ("bitand,into_bitand", "bitor,into_bitor", "to_bitand_not,bitand_not", "choose_values"):
+        yield row(names, a, operand, mask(values[::-1]))
     for other in [values, *(negated_at(values, i) for i in (0, last // 2, last))]:
-        yield f"equal {operand} %{text(other)} => {flag(values == other)}"
-    yield f"choose_values {operand} %{text(reverse.values)} => {mask_text(mask(at_rows(values, reverse.values)))}"
-    ranks = mask(repeating(values.count("1"), 3, 1))
-    names = "intersect_by_rank,intersect_all_by_rank"
-    yield f"{names} {operand} %{text(ranks.values)} => {mask_text(narrowed_mask(a, ranks))}"
+        yield row("equal", a, operand, mask(other))
+    yield row("intersect_by_rank,intersect_all_by_rank", a, operand, mask(repeating(values.count("1"), 3, 1)))
 
 
 def parts(a, operand):
     """The calls of a mask and numbers."""
-    values, count, length = a.values, a.values.count("1"), len(a.values)
+    count, length = a.values.count("1"), len(a.values)
     for k in sorted({0, 1, count // 2, max(count - 1, 0), count, count + 1, 65_536, MAX}):
-        yield f"limit,to_limited {operand} {k} => {mask_text(mask(limited(values, k), a.is_all_true))}"
-    for start, end in [(0, length), (0, length // 3), (length // 3, length), (length // 5, length // 2), (length, length)]:
-        yield f"slice {operand} {start} {end} => {mask_text(part(a, start, end))}"
+        yield row("limit,to_limited", a, operand, numbers=[k])
+    for it in [(0, length), (0, length // 3), (length // 3, length), (length // 5, length // 2), (length, length)]:
+        yield row("slice", a, operand, numbers=it)
     for size in [65, max(length // 3, 1), MAX]:
-        yield f"groups {operand} {size} => {masks_text(groups(a, size))}"
-    for num, den in [(1, 2), (count, max(length, 1)), (count + 1, max(length, 1)), (1, MAX)]:
-        yield f"threshold_iter {operand} {num} {den} => {threshold_text(a, num, den)}"
+        yield row("groups", a, operand, numbers=[size])
+    for it in [(1, 2), (count, max(length, 1)), (count + 1, max(length, 1)), (1, MAX)]:
+        yield row("threshold_iter", a, operand, numbers=it)
 
 
 def walks(a, operand):
@@ -110,8 +95,8 @@ def masks(length, start):
     """A list of each length, by each constructor, and from the bits 0 to 63 on of its bytes."""
     source = words(STATE)
     for before in range(length):
-        odd(source, before)
-    values = odd(source, length)
+        drawn(source, before, ODD)
+    values = drawn(source, length, ODD)
     if start == 0:
         yield from by_constructors(values, every_call)
     yield from spread(every_call(mask(values), "@" + text(values)), at(range(start, start + 32)))
@@ -184,8 +169,8 @@ def buffer_walks(values, operand):
 def buffers(length):
     source = words(STATE)
     for before in range(length):
-        three_in_five(source, before)
-    values = three_in_five(source, length)
+        drawn(source, before, THREE_IN_FIVE)
+    values = drawn(source, length, THREE_IN_FIVE)
     yield from spread([*buffer_reads(values, "@" + text(values)), *buffer_walks(values, "@" + text(values))], at(OFFSETS))
 
 
@@ -201,7 +186,7 @@ def buffer_pairs(a, b):
 def pairs_of_offsets(length):
     """Two lists, and one beside itself, and beside one that differs in the last value alone."""
     source = words(0x9E37_79B9_7F4A_7C15 + length)
-    a, b = three_in_five(source, length), three_in_five(source, length)
+    a, b = drawn(source, length, THREE_IN_FIVE), drawn(source, length, THREE_IN_FIVE)
     yield from spread([f"bits.not,bits.into_not @{text(a)} => {text(negated(a))}"], at(range(64)))
     for other in [b, a, negated_at(a, length - 1)]:
         yield from spread(buffer_pairs(a, other), at(OFFSETS, "+-"), at(OFFSETS, "+-"))
@@ -325,7 +310,7 @@ def runs(_):
         for _ in range(1 + next(source) % 20):
             rows += ["0" * 64, "1" * 64][turn % 3] if turn % 3 < 2 else bits_of(next(source))
     rows += "10110"
-    yield from beside_each_other(by_each_kernel(rows, two_in_three(source, rows.count("1"))), [0, 3, 67])
+    yield from beside_each_other(by_each_kernel(rows, drawn(source, rows.count("1"), TWO_IN_THREE)), [0, 3, 67])
 
 
 def long_kernels(length, row_step, rank_step):
@@ -350,8 +335,8 @@ def densities(length, threshold):
     """Each value is true in so many of 1,024 cases."""
     for of_ranks in THRESHOLDS:
         source = words(STATE)
-        rows = mask(drawn(source, length, 1_024, 0, threshold))
-        ranks = mask(drawn(source, rows.values.count("1"), 1_024, 0, of_ranks))
+        rows = mask(drawn(source, length, (1_024, 0, threshold)))
+        ranks = mask(drawn(source, rows.values.count("1"), (1_024, 0, of_ranks)))
         for cached in [(False, False), (True, False), (False, True), (True, True)]:
             lists = "i" * caches_indices(rows, ranks, cached)
             operands = [f"{'i:' * it}{mark}{text(of.values)}" for it, mark, of in zip(cached, "@%", (rows, ranks))]
