@@ -17,27 +17,23 @@ CRATES = ROOT / "crates"
 TEST_CRATES = "mask_tests", "mask_bench"
 
 
-class Function:
-    """A function: `name` as `Type::f` or `module::f`, `clauses` by name, and where its text stands.
+# An impl or a trait: where it stands, its type, the trait of an impl, whether a public trait, its ghost members.
+Block = namedtuple("Block", "start end owner trait is_public_trait ghosts")
+
+
+class Function(namedtuple("Function", "file name path lines clauses contract whole is_public is_of_trait")):
+    """A function: `name` as `Type::f` or `module::f`, `clauses` by name, its text up to the body and whole.
 
     `path` is its name for the check, without the crate and, of a method, without the module: `combine::extend`,
     `Mask::clone`, `MaskPartialEq::eq`. `lines` are its first, with its attributes, and its last, counted from 1.
     """
 
-    def __init__(self, file, text, name, path, start, sign, end, clauses, is_public, is_of_trait):
-        self.file, self.name, self.path, self.clauses = file, name, path, clauses
-        self.is_public, self.is_of_trait = is_public, is_of_trait
-        line = text.rfind("\n", 0, start) + 1
-        self.contract = textwrap.dedent(text[line:sign]).strip()
-        before = text[:line].splitlines()
-        attributes = sum(1 for _ in takewhile(re.compile(r"\s*#\[").match, reversed(before)))
-        self.lines = len(before) - attributes + 1, text.count("\n", 0, end) + 1
-        docs = sum(len(it) + 1 for it in takewhile(re.compile(r"\s*(///|#\[)").match, reversed(before)))
-        self.whole = textwrap.dedent(text[line - docs : end]).strip()
+    def named(self, *kinds):
+        """The names of its clauses of these kinds."""
+        return [name for name, (kind, _) in self.clauses.items() if kind in kinds]
 
-
-def spaces(text):
-    return re.sub(r"[^\n]", " ", text)
+    def stands_at(self, file, line):
+        return self.file == file and self.lines[0] <= line <= self.lines[1]
 
 
 def blanked(text):
@@ -48,6 +44,9 @@ def blanked(text):
     >>> blanked("fn f() {}  #[cfg(test)] mod tests { fn t() { } }").split()
     ['fn', 'f()', '{}']
     """
+    def spaces(text):
+        return re.sub(r"[^\n]", " ", text)
+
     parts = r"//[^\n]*|\"(?:\\.|[^\"\\])*\"|'(?:\\[^'\n]+|[^'\\\n])'"
     code = re.sub(parts, lambda it: spaces(it[0]), text)
     for it in re.finditer(r"#\[cfg\(test\)\]\s*mod \w+ \{", code):
@@ -69,10 +68,6 @@ def closing(text, at):
 def without_generics(head):
     shorter = re.sub(r"<[^<>]*>", "", head)
     return head if shorter == head else without_generics(shorter)
-
-
-# An impl or a trait: where it stands, its type, the trait of an impl, whether a public trait, its ghost members.
-Block = namedtuple("Block", "start end owner trait is_public_trait ghosts")
 
 
 def blocks_of(code):
@@ -145,11 +140,19 @@ def functions_in(file, text=None):
         # (a law is called by the module that hands all of them on)
         owner = block.owner if block else "laws" if "laws" in module_of(file) else file.stem
         path = "::".join([block.owner + block.trait if block else "::".join(module_of(file)), it[2]]).removeprefix("::")
-        clauses = {**clauses, **{ghost: ("ghost", "") for ghost in (block.ghosts if block else ())}}
-        is_promised = block and (block.is_public_trait or block.trait and any(kind == "ensures" for kind, _ in clauses.values()))
+        clauses |= {ghost: ("ghost", "") for ghost in (block.ghosts if block else ())}
+        ensures = any(kind == "ensures" for kind, _ in clauses.values())
+        is_promised = block and (block.is_public_trait or block.trait and ensures)
         is_public = bool(is_promised) or (it[1] or "").strip() == "pub"
+        start = text.rfind("\n", 0, it.start()) + 1
+        above = text[:start].splitlines()[::-1]
+        comment = [*takewhile(re.compile(r"\s*(///|#\[)").match, above)]
+        attributes = [*takewhile(re.compile(r"\s*#\[").match, above)]
+        lines = len(above) - len(attributes) + 1, text.count("\n", 0, end) + 1
+        whole = "\n".join([*comment[::-1], text[start:end]])
+        contract, whole = (textwrap.dedent(part).strip() for part in (text[start:sign], whole))
         is_of_trait = bool(block and block.trait)
-        yield Function(file, text, f"{owner}::{it[2]}", path, it.start(), sign, end, clauses, is_public, is_of_trait)
+        yield Function(file, f"{owner}::{it[2]}", path, lines, clauses, contract, whole, is_public, is_of_trait)
 
 
 @cache
@@ -193,16 +196,16 @@ def edits_of(crate):
         yield edit.stem, breaks, places
 
 
-def edited_as(function):
-    """What the names of a function's edits may begin with: its own, with its type or module or without. Of an export to C
-    they may leave out how all names begin, and the size of a row.
+def edited_as(name):
+    """What the names of a function's edits may begin with: its own, with its type or module or without. Of an export to
+    C they may leave out how all names begin, and the size of a row.
 
-    >>> sorted(edited_as(Function(Path("a.rt"), "", "BitBuffer::len", "", 0, 0, 0, {}, True, False)))
+    >>> sorted(edited_as("BitBuffer::len"))
     ['bit_buffer_len', 'len']
-    >>> sorted(edited_as(Function(Path("a.rt"), "", "take::row_mask_take_8", "", 0, 0, 0, {}, True, False)))
+    >>> sorted(edited_as("take::row_mask_take_8"))
     ['row_mask_take_8', 'take', 'take_row_mask_take', 'take_row_mask_take_8']
     """
-    names = {function.name.split("::")[1], function.name.replace("::", "_")}
+    names = {name.split("::")[1], name.replace("::", "_")}
     names |= {re.sub(r"_\d+$", "", it.removeprefix("row_mask_")) for it in names}
     return {re.sub(r"(?<=[a-z])(?=[A-Z])", "_", it).lower() for it in names}
 
@@ -240,8 +243,8 @@ def specs():
 
 
 def program(crate, options, rust_name, *arguments):
-    """Where the program of a crate is: `--built` as `rt ci` left it, `--rust` of the Rust sources, or else `rt` proves it
-    first, and runs it with these arguments."""
+    """Where the program of a crate is: `--built` as `rt ci` left it, `--rust` of the Rust sources, or else `rt` proves
+    it first, and runs it with these arguments."""
     if "--rust" in options:
         return subprocess.check_output([ROOT / ".ci" / "rust_program", rust_name], text=True).strip()
     if "--built" not in options:
