@@ -9,7 +9,7 @@ from itertools import compress
 from typing import NamedTuple
 
 MAX = 2**64 - 1
-# How a value is true by its word: what is left of the word by the first number is from the second on, and below the last.
+# A value is true where what is left of its word by the first number is from the second on, and below the last.
 ODD, THREE_IN_FIVE, TWO_IN_THREE = (2, 1, 2), (5, 0, 3), (3, 1, 3)
 
 
@@ -145,20 +145,12 @@ def combined_masks(op, a, b):
     return mask(combined(op, a.values, b.values), bool(op(a.is_all_true, b.is_all_true)))
 
 
-def not_mask(a):
-    return mask(negated(a.values), not a.is_all_true)
-
-
 def narrowed_mask(rows, ranks):
     return mask(narrowed(rows.values, ranks.values), rows.is_all_true and ranks.is_all_true)
 
 
 def part(a, start, end):
     return mask(a.values[start:end], a.is_all_true)
-
-
-def groups(a, size):
-    return [part(a, start, start + size) for start in range(0, len(a.values), size)]
 
 
 # ---- texts, as the rows say them
@@ -198,10 +190,6 @@ def cached_text(a, caches):
     return mask_text(a) + "".join(f" {name} {of(a.values)}" for name, of in listed)
 
 
-def masks_text(masks):
-    return ",".join(map(mask_text, masks)) or "-"
-
-
 def lent_text(a, kind, caches):
     """A list that a mask lends, and the mask after it, which has it cached beside these, if it is told of them."""
     lent = LISTS[kind][1](a.values) if is_mixed(a) else "All" if a.is_all_true else "None"
@@ -221,10 +209,6 @@ def walk_text(values):
 
 def index_text(found, n):
     return str(found[n]) if 0 <= n < len(found) else "none"
-
-
-def density_text(a):
-    return f"{a.values.count('1')}/{len(a.values)}" if is_mixed(a) else f"{int(a.is_all_true)}/1"
 
 
 def debug_text(a):
@@ -247,10 +231,12 @@ ANSWERS = {
     "all_false": lambda a, *_: flag("1" not in a.values),
     "first": lambda a, *_: index_text(indices(a.values), 0),
     "last": lambda a, *_: index_text(indices(a.values), a.values.count("1") - 1),
-    "density": lambda a, *_: density_text(a),
+    "density": lambda a, *_: (
+        f"{a.values.count('1')}/{len(a.values)}" if is_mixed(a) else f"{int(a.is_all_true)}/1"
+    ),
     "debug": lambda a, *_: debug_text(a),
     "bit_buffer": lambda a, *_: text(a.values),
-    "not": lambda a, *_: mask_text(not_mask(a)),
+    "not": lambda a, *_: mask_text(mask(negated(a.values), not a.is_all_true)),
     **dict.fromkeys(("mask", "clone"), lambda a, b, numbers, lists: cached_text(a, lists or "")),
     "indices": lambda a, b, numbers, lists: lent_text(a, "i", lists),
     "slices": lambda a, b, numbers, lists: lent_text(a, "r", lists),
@@ -259,7 +245,9 @@ ANSWERS = {
         part(a, *numbers), (lists or "") * ([*numbers] == [0, len(a.values)])
     ),
     **dict.fromkeys(("limit", "limited"), lambda a, b, k, _: mask_text(mask(limited(a.values, k[0]), a.is_all_true))),
-    "groups": lambda a, b, numbers, _: masks_text(groups(a, numbers[0])),
+    "groups": lambda a, b, n, _: ",".join(
+        mask_text(part(a, start, start + n[0])) for start in range(0, len(a.values), n[0])
+    ) or "-",
     "valid_counts_for_indices": lambda a, b, numbers, _: numbers_text(counts(a.values)[i] for i in numbers),
     "choose": lambda a, b, rows, _: numbers_text(rows[i] for i in indices(a.values)),
     "bitand": lambda a, b, *_: mask_text(combined_masks(AND, a, b)),

@@ -1,5 +1,5 @@
-"""The rows of the sweeps, by section: a list of shares, and a function that gives the rows of one. Deposits, kernels, masks
-and densities go by fixed streams of words; the others look at lengths and bit offsets where the code has a branch."""
+"""The rows of the sweeps, by section: a list of shares, and a function that gives the rows of one. Deposits, kernels,
+masks and densities go by fixed streams of words; the others look at lengths and offsets where the code has a branch."""
 from plain import (
     AND, AND_NOT, MAX, ODD, OR, THREE_IN_FIVE, TWO_IN_THREE, answer, at_rows, bits_of, cached_text, combined, deposit,
     drawn, extract, flag, index_text, indices, mask, mask_text, narrowed, narrowed_mask, negated, negated_at,
@@ -136,10 +136,8 @@ def many_masks(count):
 
 def buffer_reads(values, operand):
     found, length = indices(values), len(values)
-    yield f"bits.is_empty {operand} => {flag(length == 0)}"
-    yield f"bits.len {operand} => {length}"
-    yield f"bits.true_count {operand} => {len(found)}"
-    yield f"bits.false_count {operand} => {length - len(found)}"
+    for name in ("is_empty", "len", "true_count", "false_count"):
+        yield f"bits.{name} {operand} => {answer(name, mask(values))}"
     yield f"bits.last_set_index {operand} => {index_text(found, len(found) - 1)}"
     yield f"bits.debug {operand} => BitBuffer({values})"
     yield f"bits.set_indices {operand} => {' '.join(['indices', *map(str, found)])}"
@@ -171,7 +169,8 @@ def buffers(length):
     for before in range(length):
         drawn(source, before, THREE_IN_FIVE)
     values = drawn(source, length, THREE_IN_FIVE)
-    yield from spread([*buffer_reads(values, "@" + text(values)), *buffer_walks(values, "@" + text(values))], at(OFFSETS))
+    operand = "@" + text(values)
+    yield from spread([*buffer_reads(values, operand), *buffer_walks(values, operand)], at(OFFSETS))
 
 
 def buffer_pairs(a, b):
@@ -215,7 +214,8 @@ def scattered(length):
 def builders(before):
     """So many values, an operation, and what is written next, which finds clear bits."""
     start = scattered(before)
-    changes = [(f"b:{form}{text(scattered(n))}", scattered(n)) for n in (0, 1, 9, 63, 64, 65, 193, 20_021) for form in at(OFFSETS, "+-")]
+    lists = [scattered(n) for n in (0, 1, 9, 63, 64, 65, 193, 20_021)]
+    changes = [(f"b:{form}{text(it)}", it) for it in lists for form in at(OFFSETS, "+-")]
     for word in (MAX, 0x9E37_79B9_7F4A_7C15, 0):
         changes += [(f"w:{word:#x}:{count}", bits_of(word)[:count]) for count in range(65)]
     for n in (0, 1, 7, 8, 9, 60, 63, 64, 65, 127, 128, 129, 300, 12_345):
@@ -278,7 +278,8 @@ def words_at_random(first, end):
 
 # ---- kernels
 
-WORD_KERNELS = "intersect_bit_buffers", "intersect_bit_buffer_by_rank_indices"
+WORD_KERNELS = "intersect_bit_buffers", "intersect_bit_buffers_by_loop"
+WORD_KERNELS += "intersect_bit_buffer_by_rank_indices", "intersect_bit_buffer_by_rank_indices_by_loop"
 
 
 def by_each_kernel(rows, ranks):
@@ -287,12 +288,12 @@ def by_each_kernel(rows, ranks):
     found, started = indices(want), len(words_of(want))
     read = found[-1] // 64 + 1 if found else 0
     steps = {
-        **{f"{it}{by}": f"{started},{started},0 {rows.count('1')},{len(found)},0" for it in WORD_KERNELS for by in ("", "_by_loop")},
+        **dict.fromkeys(WORD_KERNELS, f"{started},{started},0 {rows.count('1')},{len(found)},0"),
         "intersect_by_rank_indices": "0,0,0 0,0,0",
         "intersect_mask_driven": f"0,{read},{len(found)} 0,0,{sum(i % 64 for i in found)}",
     }
     for kernel, told in steps.items():
-        cached = cached_text(mask(want), "" if kernel.startswith(WORD_KERNELS) else "i")
+        cached = cached_text(mask(want), "" if kernel in WORD_KERNELS else "i")
         yield f"kernel.{kernel} @{text(rows)} %{text(ranks)} -> {cached} steps {told}"
 
 
@@ -323,7 +324,7 @@ THRESHOLDS = [5, 10, 20, 128, 512, 1_000]
 
 
 def caches_indices(rows, ranks, cached):
-    """A clone has the lists of its operand, and of two mixed masks those paths cache indices that find them one by one."""
+    """A clone has its operand's lists, and of two mixed masks those paths cache indices that find them one by one."""
     length, count, ranked = len(rows.values), rows.values.count("1"), ranks.values.count("1")
     if rows.is_all_true or ranks.is_all_true:
         return cached[1] if rows.is_all_true else cached[0]
