@@ -146,7 +146,7 @@ def functions_in(file, text=None):
         is_public = bool(is_promised) or (it[1] or "").strip() == "pub"
         start = text.rfind("\n", 0, it.start()) + 1
         above = text[:start].splitlines()[::-1]
-        comment = [*takewhile(re.compile(r"\s*(///|#\[)").match, above)]
+        comment = [*takewhile(re.compile(r"\s*(//|#\[)").match, above)]
         attributes = [*takewhile(re.compile(r"\s*#\[").match, above)]
         lines = len(above) - len(attributes) + 1, text.count("\n", 0, end) + 1
         whole = "\n".join([*comment[::-1], text[start:end]])
