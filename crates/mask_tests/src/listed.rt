@@ -63,8 +63,14 @@ impl Ranged {
         Ok(Ranged { buffer, ranges })
     }
 
-    /// A buffer of so many values that is true in these ranges, with them.
-    pub(crate) fn of_ranges(
+    /// By a length and ranges, with this mark between: a buffer that is true in these ranges, which may touch.
+    pub(crate) fn read(alloc: Global, words: &str, mark: &str) -> Result<Ranged, Fault> {
+        let (len, ranges) = halves(words, mark, "a length and ranges")?;
+        let ranges: Vec<(usize, usize)> = Vec::read(alloc, ranges)?;
+        Ok(Ranged::of_ranges(alloc, number(len)?, ranges)?)
+    }
+
+    fn of_ranges(
         alloc: Global,
         len: usize,
         ranges: Vec<(usize, usize)>,
@@ -81,10 +87,8 @@ impl Ranged {
     }
 }
 
-/// By a length and ranges.
 impl Word for Option<Ranged> {
     fn read(alloc: Global, words: &str) -> Result<Option<Ranged>, Fault> {
-        let (len, ranges) = halves(words, " ", "a word")?;
-        Ok(Some(Ranged::of_ranges(alloc, number(len)?, Vec::read(alloc, ranges)?)?))
+        Ok(Some(Ranged::read(alloc, words, " ")?))
     }
 }

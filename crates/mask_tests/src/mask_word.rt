@@ -3,7 +3,7 @@
 use crate::fault::Fault;
 use crate::listed::Ranged;
 use crate::packed::{self, Packed};
-use crate::words::{Word, halves, number, values};
+use crate::words::{Word, number, values};
 use mask_bits::BitBuffer;
 use std::alloc::Global;
 use vortex_mask::{Mask, MaskError, MaskValues};
@@ -64,11 +64,8 @@ fn listed(alloc: Global, len: usize, list: &str) -> Result<Mask, Fault> {
     Ok(Mask::from_indices(alloc, len, indices.into_iter())?)
 }
 
-// So many values, with ranges of the true ones that may touch.
 fn of_ranges(alloc: Global, word: &str) -> Result<Mask, Fault> {
-    let (len, ranges) = halves(word, ":", "two parts")?;
-    let ranged = Ranged::of_ranges(alloc, number(len)?, Vec::read(alloc, ranges)?)?;
-    Ok(ranged.mask(alloc)?)
+    Ok(Ranged::read(alloc, word, ":")?.mask(alloc)?)
 }
 
 fn of_packed(alloc: Global, word: &str) -> Result<Mask, Fault> {
@@ -83,32 +80,33 @@ fn of_bits(alloc: Global, word: &str) -> Result<Mask, Fault> {
     }
 }
 
-// The mask of these values by a constructor of truth values.
+// The mask of these values by a constructor of truth values, or of a buffer.
 fn by_constructor(alloc: Global, form: &str, values: Vec<bool>) -> Result<Mask, Fault> {
     match form {
         "bools" => Ok(Mask::from_bools(alloc, values.iter().copied())?),
         "rows" => Ok(Mask::from_rows(alloc, &values, |row| *row)?),
-        _ => of_buffer(alloc, form, packed::from_bools(alloc, &values)?),
+        "buffer" | "ranged" | "indices" | "excluded" | "common" | "slices" | "concat" | "masks" => {
+            of_buffer(alloc, form, packed::from_bools(alloc, &values)?)
+        }
+        _ => Err(Fault::Malformed("a mask")),
     }
 }
 
-// By one of a buffer, or of lists of what it holds.
+// By one of a buffer, of lists of what it holds, or of masks.
 fn of_buffer(alloc: Global, form: &str, buffer: BitBuffer) -> Result<Mask, Fault> {
-    let len = buffer.len();
-    match form {
-        "buffer" => Ok(Mask::from_buffer(alloc, buffer)?),
-        "ranged" => Ok(Ranged::of_runs(alloc, buffer)?.mask(alloc)?),
-        "indices" => Ok(Mask::from_indices(alloc, len, buffer.set_indices())?),
-        "excluded" => Ok(of_excluded(alloc, buffer)?),
-        "common" => Ok(Mask::from_intersection_indices(
-            alloc,
-            len,
-            buffer.set_indices(),
-            buffer.set_indices(),
-        )?),
-        "slices" => Ok(Mask::from_slices(alloc, len, buffer.runs(alloc)?)?),
-        _ => of_parts(alloc, form, Mask::from_buffer(alloc, buffer)?),
-    }
+    Ok(match form {
+        "buffer" => Mask::from_buffer(alloc, buffer),
+        "ranged" => of_runs(alloc, buffer),
+        "indices" => Mask::from_indices(alloc, buffer.len(), buffer.set_indices()),
+        "excluded" => of_excluded(alloc, buffer),
+        "common" => of_common(alloc, &buffer),
+        "slices" => of_slices(alloc, &buffer),
+        _ => of_parts(alloc, form, Mask::from_buffer(alloc, buffer)),
+    }?)
+}
+
+fn of_runs(alloc: Global, buffer: BitBuffer) -> Result<Mask, MaskError> {
+    Ranged::of_runs(alloc, buffer)?.mask(alloc)
 }
 
 fn of_excluded(alloc: Global, buffer: BitBuffer) -> Result<Mask, MaskError> {
@@ -116,16 +114,32 @@ fn of_excluded(alloc: Global, buffer: BitBuffer) -> Result<Mask, MaskError> {
     Mask::from_excluded_indices(alloc, buffer.len(), excluded.set_indices())
 }
 
+fn of_common(alloc: Global, buffer: &BitBuffer) -> Result<Mask, MaskError> {
+    Mask::from_intersection_indices(
+        alloc,
+        buffer.len(),
+        buffer.set_indices(),
+        buffer.set_indices(),
+    )
+}
+
+fn of_slices(alloc: Global, buffer: &BitBuffer) -> Result<Mask, MaskError> {
+    Mask::from_slices(alloc, buffer.len(), buffer.runs(alloc)?)
+}
+
 // By one of masks: the first third, and the rest.
-fn of_parts(alloc: Global, form: &str, mask: Mask) -> Result<Mask, Fault> {
+fn of_parts(alloc: Global, form: &str, mask: Result<Mask, MaskError>) -> Result<Mask, MaskError> {
+    let parts = thirds(alloc, &mask?)?;
+    match form {
+        "concat" => Mask::concat(alloc, parts.iter()),
+        _ => Mask::from_masks(alloc, parts.into_iter()),
+    }
+}
+
+fn thirds(alloc: Global, mask: &Mask) -> Result<[Mask; 2], MaskError> {
     let third = mask.len() / 3;
-    let parts = [
+    Ok([
         mask.slice(alloc, 0, third)?,
         mask.slice(alloc, third, mask.len())?,
-    ];
-    match form {
-        "concat" => Ok(Mask::concat(alloc, parts.iter())?),
-        "masks" => Ok(Mask::from_masks(alloc, parts.into_iter())?),
-        _ => Err(Fault::Malformed("a mask")),
-    }
+    ])
 }

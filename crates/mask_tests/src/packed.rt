@@ -109,6 +109,13 @@ pub(crate) fn from_bools(alloc: Global, values: &[bool]) -> Result<BitBuffer, Fa
     Ok(BitBuffer::from_bools(alloc, values.iter().copied())?)
 }
 
+fn of_one_value(alloc: Global, value: &str, len: usize) -> Result<BitBuffer, Fault> {
+    Ok(match value {
+        "all" => BitBuffer::new_set(alloc, len),
+        _ => BitBuffer::new_unset(alloc, len),
+    }?)
+}
+
 // Bytes, offset and length.
 fn of_bytes(alloc: Global, word: &str) -> Result<BitBuffer, Fault> {
     let (list, part) = halves(word, ":", "two parts")?;
@@ -121,8 +128,7 @@ fn of_bytes(alloc: Global, word: &str) -> Result<BitBuffer, Fault> {
 impl Word for BitBuffer {
     fn read(alloc: Global, word: &str) -> Result<BitBuffer, Fault> {
         match word.split_once(":") {
-            Some(("all", len)) => Ok(BitBuffer::new_set(alloc, number(len)?)?),
-            Some(("none", len)) => Ok(BitBuffer::new_unset(alloc, number(len)?)?),
+            Some((value @ ("all" | "none"), len)) => of_one_value(alloc, value, number(len)?),
             Some(("bytes", rest)) => of_bytes(alloc, rest),
             _ => match Packed::of_word(word) {
                 Some(packed) => packed.buffer(alloc),

@@ -37,8 +37,14 @@ impl Ranged {
         Ok(Ranged { buffer, ranges })
     }
 
-    /// A buffer of so many values that is true in these ranges, with them.
-    pub(crate) fn of_ranges(len: usize, ranges: Vec<(usize, usize)>) -> Result<Ranged, MaskError> {
+    /// By a length and ranges, with this mark between: a buffer that is true in these ranges, which may touch.
+    pub(crate) fn read(words: &str, mark: &str) -> Result<Ranged, Fault> {
+        let (len, ranges) = halves(words, mark, "a length and ranges")?;
+        let ranges: Vec<(usize, usize)> = Vec::read(ranges)?;
+        Ok(Ranged::of_ranges(number(len)?, ranges)?)
+    }
+
+    fn of_ranges(len: usize, ranges: Vec<(usize, usize)>) -> Result<Ranged, MaskError> {
         let mask = Mask::from_slices(len, ranges.try_to_vec()?)?;
         let buffer = mask.to_bit_buffer()?;
         Ok(Ranged { buffer, ranges })
@@ -51,10 +57,8 @@ impl Ranged {
     }
 }
 
-/// By a length and ranges.
 impl Word for Option<Ranged> {
     fn read(words: &str) -> Result<Option<Ranged>, Fault> {
-        let (len, ranges) = halves(words, " ", "a word")?;
-        Ok(Some(Ranged::of_ranges(number(len)?, Vec::read(ranges)?)?))
+        Ok(Some(Ranged::read(words, " ")?))
     }
 }

@@ -6,7 +6,7 @@ use crate::host::{AllocGlobal, Input, Print};
 use crate::listed::Ranged;
 use crate::packed;
 use crate::packed::Packed;
-use crate::words::{Word, halves, number, values};
+use crate::words::{Word, number, values};
 use row_mask::BitBuffer;
 use row_mask::kit::prelude::*;
 
@@ -68,11 +68,8 @@ fn listed(len: usize, list: &str) -> Result<Mask, Fault> {
     Ok(Mask::from_indices(len, indices.into_iter())?)
 }
 
-// So many values, with ranges of the true ones that may touch.
 fn of_ranges(word: &str) -> Result<Mask, Fault> {
-    let (len, ranges) = halves(word, ":", "two parts")?;
-    let ranged = Ranged::of_ranges(number(len)?, Vec::read(ranges)?)?;
-    Ok(ranged.mask()?)
+    Ok(Ranged::read(word, ":")?.mask()?)
 }
 
 fn of_packed(word: &str) -> Result<Mask, Fault> {
@@ -87,29 +84,33 @@ fn of_bits(word: &str) -> Result<Mask, Fault> {
     }
 }
 
-// The mask of these values by a constructor of truth values.
+// The mask of these values by a constructor of truth values, or of a buffer.
 fn by_constructor(form: &str, values: Vec<bool>) -> Result<Mask, Fault> {
     match form {
         "bools" => Ok(Mask::from_bools(values.iter().copied())?),
         "rows" => Ok(Mask::from_rows(&values, |row| *row)?),
-        _ => of_buffer(form, packed::from_bools(&values)?),
+        "buffer" | "ranged" | "indices" | "excluded" | "common" | "slices" | "concat" | "masks" => {
+            of_buffer(form, packed::from_bools(&values)?)
+        }
+        _ => Err(Fault::Malformed("a mask")),
     }
 }
 
-// By one of a buffer, or of lists of what it holds.
+// By one of a buffer, of lists of what it holds, or of masks.
 fn of_buffer(form: &str, buffer: BitBuffer) -> Result<Mask, Fault> {
-    let len = buffer.len();
-    match form {
-        "buffer" => Ok(Mask::from_buffer(buffer)?),
-        "ranged" => Ok(Ranged::of_runs(buffer)?.mask()?),
-        "indices" => Ok(Mask::from_indices(len, buffer.set_indices())?),
-        "excluded" => Ok(of_excluded(buffer)?),
-        "common" => {
-            Ok(Mask::from_intersection_indices(len, buffer.set_indices(), buffer.set_indices())?)
-        }
-        "slices" => Ok(Mask::from_slices(len, buffer.runs()?)?),
-        _ => of_parts(form, Mask::from_buffer(buffer)?),
-    }
+    Ok(match form {
+        "buffer" => Mask::from_buffer(buffer),
+        "ranged" => of_runs(buffer),
+        "indices" => Mask::from_indices(buffer.len(), buffer.set_indices()),
+        "excluded" => of_excluded(buffer),
+        "common" => of_common(&buffer),
+        "slices" => of_slices(&buffer),
+        _ => of_parts(form, Mask::from_buffer(buffer)),
+    }?)
+}
+
+fn of_runs(buffer: BitBuffer) -> Result<Mask, MaskError> {
+    Ranged::of_runs(buffer)?.mask()
 }
 
 fn of_excluded(buffer: BitBuffer) -> Result<Mask, MaskError> {
@@ -117,13 +118,24 @@ fn of_excluded(buffer: BitBuffer) -> Result<Mask, MaskError> {
     Mask::from_excluded_indices(buffer.len(), excluded.set_indices())
 }
 
+fn of_common(buffer: &BitBuffer) -> Result<Mask, MaskError> {
+    Mask::from_intersection_indices(buffer.len(), buffer.set_indices(), buffer.set_indices())
+}
+
+fn of_slices(buffer: &BitBuffer) -> Result<Mask, MaskError> {
+    Mask::from_slices(buffer.len(), buffer.runs()?)
+}
+
 // By one of masks: the first third, and the rest.
-fn of_parts(form: &str, mask: Mask) -> Result<Mask, Fault> {
-    let third = mask.len() / 3;
-    let parts = [mask.slice(0, third)?, mask.slice(third, mask.len())?];
+fn of_parts(form: &str, mask: Result<Mask, MaskError>) -> Result<Mask, MaskError> {
+    let parts = thirds(&mask?)?;
     match form {
-        "concat" => Ok(Mask::concat(parts.iter())?),
-        "masks" => Ok(Mask::from_masks(parts.into_iter())?),
-        _ => Err(Fault::Malformed("a mask")),
+        "concat" => Mask::concat(parts.iter()),
+        _ => Mask::from_masks(parts.into_iter()),
     }
+}
+
+fn thirds(mask: &Mask) -> Result<[Mask; 2], MaskError> {
+    let third = mask.len() / 3;
+    Ok([mask.slice(0, third)?, mask.slice(third, mask.len())?])
 }

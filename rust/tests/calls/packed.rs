@@ -109,6 +109,13 @@ pub(crate) fn from_bools(values: &[bool]) -> Result<BitBuffer, Fault> {
     Ok(BitBuffer::from_bools(values.iter().copied())?)
 }
 
+fn of_one_value(value: &str, len: usize) -> Result<BitBuffer, Fault> {
+    Ok(match value {
+        "all" => BitBuffer::new_set(len),
+        _ => BitBuffer::new_unset(len),
+    }?)
+}
+
 // Bytes, offset and length.
 fn of_bytes(word: &str) -> Result<BitBuffer, Fault> {
     let (list, part) = halves(word, ":", "two parts")?;
@@ -121,8 +128,7 @@ fn of_bytes(word: &str) -> Result<BitBuffer, Fault> {
 impl Word for BitBuffer {
     fn read(word: &str) -> Result<BitBuffer, Fault> {
         match word.split_once(":") {
-            Some(("all", len)) => Ok(BitBuffer::new_set(number(len)?)?),
-            Some(("none", len)) => Ok(BitBuffer::new_unset(number(len)?)?),
+            Some((value @ ("all" | "none"), len)) => of_one_value(value, number(len)?),
             Some(("bytes", rest)) => of_bytes(rest),
             _ => match Packed::of_word(word) {
                 Some(packed) => packed.buffer(),
