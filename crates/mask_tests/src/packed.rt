@@ -51,16 +51,23 @@ impl<'a> Packed<'a> {
     // What lies outside fills the last byte, and nine bytes more.
     fn bytes(self, alloc: Global, offset: usize) -> Result<Vec<u8>, Fault> {
         let mut digits = String::new(alloc);
-        for _ in 0..offset.min(LONGEST) {
-            digits.push_str(self.before)?;
-        }
-        digits.push_str(self.list)?;
-        digits.push_str(self.behind)?;
-        for _ in 0..77 {
-            digits.push_str(self.last)?;
+        for (part, times) in [
+            (self.before, offset.min(LONGEST)),
+            (self.list, 1),
+            (self.behind, 1),
+            (self.last, 77),
+        ] {
+            push_times(&mut digits, part, times)?;
         }
         bytes_of(alloc, digits.as_bytes())
     }
+}
+
+fn push_times(digits: &mut String, part: &str, times: usize) -> Result<(), Fault> {
+    for _ in 0..times {
+        digits.push_str(part)?;
+    }
+    Ok(())
 }
 
 // No longer list of bits is in a row.
