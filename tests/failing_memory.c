@@ -1,8 +1,8 @@
 /* Loaded before the C library: refuses a program's request for memory whose number, counted from 1, the variable
    REFUSED_REQUEST has. Where REFUSES_REST is 1 it refuses each later one too, until the program writes something. It
-   counts from the start on, or, where IN_CALLS is 1, anew from each line `calls` that the program writes until it writes
-   something else. It tells of the first refusal by a line on the descriptor that REFUSAL_TO names. If the program
-   aborts, it tells there how many bytes were refused last, and which calls they were asked for in, the innermost first. */
+   counts from the start on, or, where IN_CALLS is 1, anew from each line `calls` that the program writes until it
+   writes something else. It tells of the first refusal by a line on the descriptor that REFUSAL_TO names. If the
+   program aborts, it tells there how many bytes were refused last, and in which calls, the innermost first. */
 #define _GNU_SOURCE
 #include <dlfcn.h>
 #include <execinfo.h>
