@@ -503,16 +503,18 @@ TAKES(take_4, uint32_t, row_mask_take_4)
 TAKES(take_8, uint64_t, row_mask_take_8)
 TAKES(take_16, row_mask_16, row_mask_take_16)
 
-/* Strings of 0 to 6 bytes that tell their index, at true values and at indices that go back and forth. */
+/* Strings of few bytes that tell their index, at true values and at indices that go back and forth. The longest are of
+   1 to 40 bytes, by the call, as far as all fit a page. */
 #define STRINGS(name, type, choose_offsets, choose_bytes, take_offsets, take_bytes)  \
     static void name(const bitmap *b, room offsets_room, room bytes_room, room out_room) { \
         type *offsets = (type *)(void *)offsets_room.end - (b->len + 1), mark;      \
         size_t indices[LONGEST], many = 0, i, k, size, at;                          \
+        size_t below = 2 + random_below(b->len <= 100 ? 40 : 19);                   \
         uint8_t *string_bytes;                                                      \
         int place, taken;                                                           \
         memset(&mark, MARK, sizeof mark);                                           \
         for (i = 0, offsets[0] = 0; i < b->len; i++)                                \
-            offsets[i + 1] = (type)(offsets[i] + random_below(7));                  \
+            offsets[i + 1] = (type)(offsets[i] + random_below(below));              \
         string_bytes = bytes_room.end - offsets[b->len];                            \
         for (i = 0; i < b->len; i++)                                                \
             memset(string_bytes + offsets[i], (int)(i + 1), (size_t)(offsets[i + 1] - offsets[i])); \

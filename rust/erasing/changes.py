@@ -116,6 +116,11 @@ LEAVES = {
         "{ let written = at + (end - begin); out[at..written].copy_from_slice(&bytes[begin..end]); written }",
         "{ let written = at + (end - begin); crate::kit::words::put_part(bytes, begin, end, out, at); written }",
     ),
+    "put_eight": (
+        "{ match bytes[begin..begin + 8].first_chunk::<8>() { Some(chunk) =>"
+        " out[at..at + 8].copy_from_slice(&u64::from_le_bytes(*chunk).to_le_bytes()), None => unreachable!(), } }",
+        "{ crate::kit::words::put_eight(bytes, begin, out, at); }",
+    ),
 }
 # Private functions that calls by hand go to.
 PUBLIC_HERE = {"put_ends", "put_strings", "take_offsets", "word_of_rows", "word_of_whole"}

@@ -9,4 +9,5 @@ mod IndexLemmas
 mod LastLemmas
 mod LastRankLemmas
 mod RunLemmas
+mod ShortStringLemmas
 mod StringLemmas

@@ -144,7 +144,7 @@ fn put_block<R: Room<usize>>(out: &mut R, first: usize, words: &[u64; 4], ones: 
 // Writes `first` and the indices of the set bits of a word from there on behind the first `at` indices,
 // as many as there is room for, and answers how many there are then.
 #[inline]
-fn indices_of_word(word: u64, first: usize, out: &mut [usize], at: usize) -> usize
+pub(crate) fn indices_of_word(word: u64, first: usize, out: &mut [usize], at: usize) -> usize
     requires fits { All (λ p. first + p < 2 ^ 64) (positions (word_bits word)) }
     requires room { at ≤ length out.old }
     ensures indices { take result out.new ≡ take (length out.old)

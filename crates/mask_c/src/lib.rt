@@ -19,6 +19,7 @@ mod offsets;
 mod pointwise;
 mod rank_words;
 mod runs;
+mod short_strings;
 mod strings;
 mod take;
 mod version;

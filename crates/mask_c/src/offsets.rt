@@ -191,7 +191,7 @@ fn set_offset<O: Offset>(offsets: &mut [O], i: usize, n: usize)
 
 // How many bytes string `i` has.
 #[inline]
-fn size_at<O: Offset>(offsets: &[O], i: usize) -> usize
+pub(crate) fn size_at<O: Offset>(offsets: &[O], i: usize) -> usize
     requires within { i + 1 < length offsets.now }
     requires ascending { IsNonDecreasing (map O.number offsets.now) }
     ensures { slice_get (sizes (map O.number offsets.now)) i ≡ Some result }

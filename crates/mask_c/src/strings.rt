@@ -8,8 +8,9 @@ ghost use Rattle.mask_bits.specs.Buffer.{IsWithinBytes};
 ghost use Rattle.mask_bits.specs.Positions.{chosen};
 ghost use Rattle.mask_c.specs.Strings.{items_at, sizes, strings};
 
-use crate::indices::indices_in_word;
+use crate::indices::indices_of_word;
 use crate::offsets::{Offset, offset_at};
+use crate::short_strings::{put_first, put_part, words_of_each};
 use mask_bits::BitChunks;
 
 /// Writes the bytes of the strings at the true values, one string behind another, to the front of `out`, and
@@ -124,7 +125,7 @@ pub extern "C" fn row_mask_take_bytes_8(
     put_strings(indices, offsets, string_bytes, out, 0)
 }
 
-// The strings at the true values, word by word.
+// The strings at the true values, by as many words as `block` has room for the indices of.
 #[inline]
 fn choose_strings<O: Offset>(
     chunks: &BitChunks<'_>,
@@ -143,18 +144,106 @@ fn choose_strings<O: Offset>(
     ensures size { result ≡ sum (chosen (sizes (map O.number offsets.now)) chunks.now) }
 {
     let mut block = [0; 64];
-    let mut at = 0;
+    let (mut waiting, mut at) = (0, 0);
     for i in 0..chunks.started_words() {
-        let some = indices_in_word(chunks, i, &mut block);
-        at = put_strings(&block[..some], offsets, string_bytes, out, at);
+        let word = chunks.started_word(i);
+        let ones = word.count_ones() as usize;
+        let left = put_if_full(&block[..waiting], ones, offsets, string_bytes, out, at);
+        at = left.1;
+        waiting = indices_of_word(word, 64 * i, &mut block, left.0);
     }
-    at
+    put_strings(&block[..waiting], offsets, string_bytes, out, at)
+}
+
+// Writes the strings that wait if these and `more` are above 64. Answers how many wait then, and how many bytes
+// are written.
+#[inline]
+fn put_if_full<O: Offset>(
+    waiting: &[usize],
+    more: usize,
+    offsets: &[O],
+    string_bytes: &[u8],
+    out: &mut [u8],
+    at: usize,
+) -> (usize, usize)
+    requires few { more ≤ 64 }
+    requires within { All (λ i. i + 1 < length offsets.now) waiting.now }
+    requires ascending { IsNonDecreasing (map O.number offsets.now) }
+    requires covered { slice_index (map O.number offsets.now) (length offsets.now - 1)
+        ≤ length string_bytes.now }
+    requires room { at + sum (items_at (sizes (map O.number offsets.now)) waiting.now) ≤ length out.old }
+    ensures few { result.0 + more ≤ 64 }
+    ensures within { result.0 ≤ length waiting.now }
+    ensures later { at ≤ result.1 }
+    ensures strings { take result.1 out.new
+        ++ concat (items_at (strings (map O.number offsets.now) string_bytes.now) (take result.0 waiting.now))
+        ≡ take at out.old
+        ++ concat (items_at (strings (map O.number offsets.now) string_bytes.now) waiting.now) }
+    ensures behind { drop result.1 out.new ≡ drop result.1 out.old }
+    ensures size { result.1 + sum (items_at (sizes (map O.number offsets.now)) (take result.0 waiting.now))
+        ≡ at + sum (items_at (sizes (map O.number offsets.now)) waiting.now) }
+{
+    if waiting.len() + more <= 64 {
+        return (waiting.len(), at);
+    }
+    (0, put_strings(waiting, offsets, string_bytes, out, at))
 }
 
 // Writes the strings at some indices behind the first `at` bytes, and answers how many bytes there are
-// then. Strings that are neighbors are copied at once.
+// then.
 #[inline]
 fn put_strings<O: Offset>(
+    indices: &[usize],
+    offsets: &[O],
+    string_bytes: &[u8],
+    out: &mut [u8],
+    at: usize,
+) -> usize
+    requires within { All (λ i. i + 1 < length offsets.now) indices.now }
+    requires ascending { IsNonDecreasing (map O.number offsets.now) }
+    requires covered { slice_index (map O.number offsets.now) (length offsets.now - 1)
+        ≤ length string_bytes.now }
+    requires room { at + sum (items_at (sizes (map O.number offsets.now)) indices.now) ≤ length out.old }
+    ensures strings { take result out.new ≡ take at out.old
+        ++ concat (items_at (strings (map O.number offsets.now) string_bytes.now) indices.now) }
+    ensures behind { drop result out.new ≡ drop result out.old }
+    ensures size { result ≡ at + sum (items_at (sizes (map O.number offsets.now)) indices.now) }
+{
+    let words = words_of_each(indices, offsets);
+    if words == 0 {
+        return put_runs(indices, offsets, string_bytes, out, at);
+    }
+    put_short(words, indices, offsets, string_bytes, out, at)
+}
+
+// The same where strings are short, so that `words` words are copied for each. It isn't inlined: where it is, long
+// strings take longer.
+#[inline(never)]
+fn put_short<O: Offset>(
+    words: usize,
+    indices: &[usize],
+    offsets: &[O],
+    string_bytes: &[u8],
+    out: &mut [u8],
+    at: usize,
+) -> usize
+    requires within { All (λ i. i + 1 < length offsets.now) indices.now }
+    requires ascending { IsNonDecreasing (map O.number offsets.now) }
+    requires covered { slice_index (map O.number offsets.now) (length offsets.now - 1)
+        ≤ length string_bytes.now }
+    requires room { at + sum (items_at (sizes (map O.number offsets.now)) indices.now) ≤ length out.old }
+    ensures strings { take result out.new ≡ take at out.old
+        ++ concat (items_at (strings (map O.number offsets.now) string_bytes.now) indices.now) }
+    ensures behind { drop result out.new ≡ drop result out.old }
+    ensures size { result ≡ at + sum (items_at (sizes (map O.number offsets.now)) indices.now) }
+{
+    let first = put_first(words, indices, offsets, string_bytes, out, at);
+    put_runs(&indices[first.0..], offsets, string_bytes, out, first.1)
+}
+
+// The same, where strings that are neighbors are copied at once.
+#[inline]
+fn put_runs<O: Offset>(
     indices: &[usize],
     offsets: &[O],
     string_bytes: &[u8],
@@ -209,19 +298,4 @@ fn part_before(
         return (begin, at);
     }
     (next, put_part(bytes, begin, end, out, at))
-}
-
-// Writes a part of some bytes behind the first `at`, and answers how many there are then.
-#[inline]
-fn put_part(bytes: &[u8], begin: usize, end: usize, out: &mut [u8], at: usize) -> usize
-    requires ordered { begin ≤ end }
-    requires within { end ≤ length bytes.now }
-    requires room { at + (end - begin) ≤ length out.old }
-    ensures bytes { take result out.new ≡ take at out.old ++ slice_range bytes.now begin end }
-    ensures behind { drop result out.new ≡ drop result out.old }
-    ensures size { result ≡ at + (end - begin) }
-{
-    let written = at + (end - begin);
-    out[at..written].copy_from_slice(&bytes[begin..end]);
-    written
 }

@@ -133,6 +133,18 @@ pub(crate) fn put_part(bytes: &[u8], begin: usize, end: usize, out: &mut [u8], a
     }
 }
 
+/// Writes the eight bytes from `begin` on behind the first `at` bytes.
+#[inline(always)]
+pub(crate) fn put_eight(bytes: &[u8], begin: usize, out: &mut [u8], at: usize) {
+    debug_assert!(begin <= bytes.len() && bytes.len() - begin >= 8);
+    debug_assert!(at <= out.len() && out.len() - at >= 8);
+    // SAFETY: the contract of the proved caller: `begin + 8 <= bytes.len()` and `at + 8 <= out.len()`.
+    unsafe {
+        let word = bytes.as_ptr().add(begin).cast::<u64>().read_unaligned();
+        out.as_mut_ptr().add(at).cast::<u64>().write_unaligned(word);
+    }
+}
+
 /// What puts an item into room that a list has.
 pub(crate) trait Reserved<T> {
     /// Puts it behind the others.

@@ -37,6 +37,8 @@ mod rank_words;
 pub use rank_words::*;
 mod runs;
 pub use runs::*;
+mod short_strings;
+pub use short_strings::*;
 mod strings;
 pub use strings::*;
 mod take;

@@ -16,8 +16,9 @@ pub fn selects(seen: &mut Comparisons, random: &mut Generator, list: &[bool], bi
     let mut out = vec![0xA5; count_of(list).div_ceil(8) + 1];
     seen.same(selection.choose_bits_into(packed, &mut out[..]), Ok(()));
     seen.same(out, [&lists::packed(&chosen(&bits, list))[..], &[0xA5]].concat());
-    let values: Vec<Vec<u8>> =
-        list.iter().map(|_| random.word().to_le_bytes()[..random.below(9)].to_vec()).collect();
+    let below = [9, 17, 40][random.below(3)];
+    let mut value = |_: &bool| random.word().to_le_bytes().repeat(5)[..random.below(below)].to_vec();
+    let values: Vec<Vec<u8>> = list.iter().map(&mut value).collect();
     strings::<u32>(seen, &values, list, &selection);
     strings::<i64>(seen, &values, list, &selection);
 }

@@ -128,7 +128,7 @@ fn put_block<R: Room<usize>>(out: &mut R, first: usize, words: &[u64; 4], ones: 
 // Writes `first` and the indices of the set bits of a word from there on behind the first `at` indices,
 // as many as there is room for, and answers how many there are then.
 #[inline(always)]
-fn indices_of_word(word: u64, first: usize, out: &mut [usize], at: usize) -> usize {
+pub(crate) fn indices_of_word(word: u64, first: usize, out: &mut [usize], at: usize) -> usize {
     crate::kit::words::put_indices(word, first, out, at)
 }
 

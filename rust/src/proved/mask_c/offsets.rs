@@ -111,7 +111,7 @@ fn set_offset<O: Offset>(offsets: &mut [O], i: usize, n: usize) {
 
 // How many bytes string `i` has.
 #[inline]
-fn size_at<O: Offset>(offsets: &[O], i: usize) -> usize {
+pub(crate) fn size_at<O: Offset>(offsets: &[O], i: usize) -> usize {
     offset_at(offsets, i + 1) - offset_at(offsets, i)
 }
 

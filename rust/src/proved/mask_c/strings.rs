@@ -3,8 +3,9 @@
 
 use crate::kit::prelude::*;
 use crate::proved::mask_bits::BitChunks;
-use crate::proved::mask_c::indices::indices_in_word;
+use crate::proved::mask_c::indices::indices_of_word;
 use crate::proved::mask_c::offsets::{Offset, offset_at};
+use crate::proved::mask_c::short_strings::{put_first, put_part, words_of_each};
 
 /// Writes the bytes of the strings at the true values, one string behind another, to the front of `out`, and
 /// answers how many these are. String `i` has the bytes from `offsets[i]` to `offsets[i + 1]`, and an offset
@@ -76,7 +77,7 @@ pub fn row_mask_take_bytes_8(
     put_strings(indices, offsets, string_bytes, out, 0)
 }
 
-// The strings at the true values, word by word.
+// The strings at the true values, by as many words as `block` has room for the indices of.
 #[inline]
 fn choose_strings<O: Offset>(
     chunks: &BitChunks<'_>,
@@ -85,18 +86,69 @@ fn choose_strings<O: Offset>(
     out: &mut [u8],
 ) -> usize {
     let mut block = [0; 64];
-    let mut at = 0;
+    let (mut waiting, mut at) = (0, 0);
     for i in 0..chunks.started_words() {
-        let some = indices_in_word(chunks, i, &mut block);
-        at = put_strings(&block[..some], offsets, string_bytes, out, at);
+        let word = chunks.started_word_proved(i);
+        let ones = word.count_ones() as usize;
+        let left = put_if_full(&block[..waiting], ones, offsets, string_bytes, out, at);
+        at = left.1;
+        waiting = indices_of_word(word, 64 * i, &mut block, left.0);
     }
-    at
+    put_strings(&block[..waiting], offsets, string_bytes, out, at)
+}
+
+// Writes the strings that wait if these and `more` are above 64. Answers how many wait then, and how many bytes
+// are written.
+#[inline]
+fn put_if_full<O: Offset>(
+    waiting: &[usize],
+    more: usize,
+    offsets: &[O],
+    string_bytes: &[u8],
+    out: &mut [u8],
+    at: usize,
+) -> (usize, usize) {
+    if waiting.len() + more <= 64 {
+        return (waiting.len(), at);
+    }
+    (0, put_strings(waiting, offsets, string_bytes, out, at))
 }
 
 // Writes the strings at some indices behind the first `at` bytes, and answers how many bytes there are
-// then. Strings that are neighbors are copied at once.
+// then.
 #[inline]
 pub(crate) fn put_strings<O: Offset>(
+    indices: &[usize],
+    offsets: &[O],
+    string_bytes: &[u8],
+    out: &mut [u8],
+    at: usize,
+) -> usize {
+    let words = words_of_each(indices, offsets);
+    if words == 0 {
+        return put_runs(indices, offsets, string_bytes, out, at);
+    }
+    put_short(words, indices, offsets, string_bytes, out, at)
+}
+
+// The same where strings are short, so that `words` words are copied for each. It isn't inlined: where it is, long
+// strings take longer.
+#[inline(never)]
+fn put_short<O: Offset>(
+    words: usize,
+    indices: &[usize],
+    offsets: &[O],
+    string_bytes: &[u8],
+    out: &mut [u8],
+    at: usize,
+) -> usize {
+    let first = put_first(words, indices, offsets, string_bytes, out, at);
+    put_runs(&indices[first.0..], offsets, string_bytes, out, first.1)
+}
+
+// The same, where strings that are neighbors are copied at once.
+#[inline]
+fn put_runs<O: Offset>(
     indices: &[usize],
     offsets: &[O],
     string_bytes: &[u8],
@@ -131,12 +183,4 @@ fn part_before(
         return (begin, at);
     }
     (next, put_part(bytes, begin, end, out, at))
-}
-
-// Writes a part of some bytes behind the first `at`, and answers how many there are then.
-#[inline]
-fn put_part(bytes: &[u8], begin: usize, end: usize, out: &mut [u8], at: usize) -> usize {
-    let written = at + (end - begin);
-    crate::kit::words::put_part(bytes, begin, end, out, at);
-    written
 }

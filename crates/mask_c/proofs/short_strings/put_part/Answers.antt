@@ -1,6 +1,6 @@
 use Rattle.std.proofs.Common.{◌+◌, ◌-◌, arith}
 use Rattle.std.proofs.lemmas.Slice.{drop-put_mid}
-use Rattle.mask_c.proofs.strings.put_part.Goals as goal
+use Rattle.mask_c.proofs.short_strings.put_part.Goals as goal
 
 pub returns-clause-behind : goal.returns-clause-behind
 returns-clause-behind c =

@@ -5,7 +5,7 @@ use Rattle.std.proofs.lemmas.List.Elements.{All-get_or}
 use Rattle.mask_c.specs.Strings.{items_at, sizes, strings}
 use Rattle.mask_c.proofs.StringLemmas.{bytes-step, items_at-more, slice_get-sizes, slice_get-strings, sum-first, sum-more}
 use Rattle.mask_bits.proofs.Lists.Words.FrontLemmas.{behind-later}
-use Rattle.mask_c.proofs.strings.put_strings.Goals as goal
+use Rattle.mask_c.proofs.strings.put_runs.Goals as goal
 
 pub part_before-part-requires-clause-room : goal.part_before-part-requires-clause-room
 part_before-part-requires-clause-room g c =

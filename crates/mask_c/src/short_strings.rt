@@ -1,0 +1,226 @@
+//! The bytes of short strings: for each some words are copied, with what comes behind it, and the next string is
+//! written over that.
+
+ghost use Rattle.std.specs.Prelude.{◌≡◌, ◌+◌, ◌-◌, ◌<◌, ◌≤◌, ◌^◌, ◌++◌, ◌*◌, ◌⊎◌, All, drop, length, map, slice_index, slice_range, take};
+ghost use Rattle.std.specs.List.{concat, sum};
+ghost use Rattle.std.specs.List.Sorted.{IsNonDecreasing};
+ghost use Rattle.mask_c.specs.Strings.{items_at, sizes, strings};
+
+use crate::offsets::{Offset, offset_at, size_at};
+
+/// How many words of eight bytes to copy for each string, by the strings from the first index to the last: none
+/// where these are long, where most are taken, or where most are empty.
+#[inline]
+pub(crate) fn words_of_each<O: Offset>(indices: &[usize], offsets: &[O]) -> usize
+    requires within { All (λ i. i + 1 < length offsets.now) indices.now }
+    requires ascending { IsNonDecreasing (map O.number offsets.now) }
+{
+    let count = indices.len();
+    if count < 4 {
+        return 0;
+    }
+    let (one, other) = (indices[0], indices[count - 1]);
+    let (first, last) = (one.min(other), one.max(other));
+    let rows = last - first + 1;
+    let size = offset_at(offsets, last + 1) - offset_at(offsets, first);
+    if count > rows - rows / 3 || size < rows || size / 16 > rows {
+        return 0;
+    }
+    if !are_apart(&indices[..count.min(16)], offsets) {
+        return 0;
+    }
+    if size / 8 < rows { 2 } else { 4 }
+}
+
+// Whether a fourth of the strings or more don't begin where the one before them ends.
+#[inline(never)]
+fn are_apart<O: Offset>(indices: &[usize], offsets: &[O]) -> bool
+    requires within { All (λ i. i + 1 < length offsets.now) indices.now }
+{
+    let (mut apart, mut end) = (0, 0);
+    for k in 0..indices.len() {
+        if offset_at(offsets, indices[k]) != end {
+            apart += 1;
+        }
+        end = offset_at(offsets, indices[k] + 1);
+    }
+    apart >= indices.len() / 4
+}
+
+/// Writes the first of the strings at some indices behind the first `at` bytes, two or four words for each, and
+/// other bytes than before where the last of them come. Answers how many strings these are, and how many bytes
+/// there are then.
+#[inline]
+pub(crate) fn put_first<O: Offset>(
+    words: usize,
+    indices: &[usize],
+    offsets: &[O],
+    string_bytes: &[u8],
+    out: &mut [u8],
+    at: usize,
+) -> (usize, usize)
+    requires within { All (λ i. i + 1 < length offsets.now) indices.now }
+    requires ascending { IsNonDecreasing (map O.number offsets.now) }
+    requires covered { slice_index (map O.number offsets.now) (length offsets.now - 1)
+        ≤ length string_bytes.now }
+    requires room { at + sum (items_at (sizes (map O.number offsets.now)) indices.now) ≤ length out.old }
+    ensures within { result.0 ≤ length indices.now }
+    ensures strings { take result.1 out.new ≡ take at out.old
+        ++ concat (items_at (strings (map O.number offsets.now) string_bytes.now) (take result.0 indices.now)) }
+    ensures behind { drop (at + sum (items_at (sizes (map O.number offsets.now)) indices.now)) out.new
+        ≡ drop (at + sum (items_at (sizes (map O.number offsets.now)) indices.now)) out.old }
+    ensures size { result.1
+        ≡ at + sum (items_at (sizes (map O.number offsets.now)) (take result.0 indices.now)) }
+{
+    match words {
+        2 => put_before_last::<2, _>(indices, offsets, string_bytes, out, at),
+        _ => put_before_last::<4, _>(indices, offsets, string_bytes, out, at),
+    }
+}
+
+// The same, where `WORDS` words of eight bytes are copied for each string.
+#[inline]
+fn put_before_last<const WORDS: usize, O: Offset>(
+    indices: &[usize],
+    offsets: &[O],
+    string_bytes: &[u8],
+    out: &mut [u8],
+    at: usize,
+) -> (usize, usize)
+    requires few { WORDS ≤ 4 }
+    requires within { All (λ i. i + 1 < length offsets.now) indices.now }
+    requires ascending { IsNonDecreasing (map O.number offsets.now) }
+    requires covered { slice_index (map O.number offsets.now) (length offsets.now - 1)
+        ≤ length string_bytes.now }
+    requires room { at + sum (items_at (sizes (map O.number offsets.now)) indices.now) ≤ length out.old }
+    ensures within { result.0 ≤ length indices.now }
+    ensures strings { take result.1 out.new ≡ take at out.old
+        ++ concat (items_at (strings (map O.number offsets.now) string_bytes.now) (take result.0 indices.now)) }
+    ensures behind { drop (at + sum (items_at (sizes (map O.number offsets.now)) indices.now)) out.new
+        ≡ drop (at + sum (items_at (sizes (map O.number offsets.now)) indices.now)) out.old }
+    ensures size { result.1
+        ≡ at + sum (items_at (sizes (map O.number offsets.now)) (take result.0 indices.now)) }
+{
+    let first = before_last::<WORDS, _>(indices, offsets);
+    if first == 0 {
+        return (0, at);
+    }
+    let written = put_wide::<WORDS, _>(&indices[..first], offsets, string_bytes, out, at);
+    (first, written)
+}
+
+// How many strings have as many bytes of others behind them.
+#[inline]
+fn before_last<const WORDS: usize, O: Offset>(indices: &[usize], offsets: &[O]) -> usize
+    requires few { WORDS ≤ 4 }
+    requires within { All (λ i. i + 1 < length offsets.now) indices.now }
+    requires ascending { IsNonDecreasing (map O.number offsets.now) }
+    requires fits { sum (items_at (sizes (map O.number offsets.now)) indices.now) < 2 ^ 64 }
+    ensures within { result ≤ length indices.now }
+    ensures behind { (result ≡ 0) ⊎ (sum (items_at (sizes (map O.number offsets.now)) (take result indices.now))
+        + 8 * WORDS ≤ sum (items_at (sizes (map O.number offsets.now)) indices.now)) }
+{
+    let (mut first, mut behind) = (indices.len(), 0);
+    while behind < 8 * WORDS {
+        if first == 0 {
+            return 0;
+        }
+        first -= 1;
+        behind += size_at(offsets, indices[first]);
+    }
+    first
+}
+
+// Writes the strings, and up to `WORDS` words behind them. Answers how many bytes there are then.
+#[inline]
+fn put_wide<const WORDS: usize, O: Offset>(
+    indices: &[usize],
+    offsets: &[O],
+    string_bytes: &[u8],
+    out: &mut [u8],
+    at: usize,
+) -> usize
+    requires within { All (λ i. i + 1 < length offsets.now) indices.now }
+    requires ascending { IsNonDecreasing (map O.number offsets.now) }
+    requires covered { slice_index (map O.number offsets.now) (length offsets.now - 1)
+        ≤ length string_bytes.now }
+    requires room { at + sum (items_at (sizes (map O.number offsets.now)) indices.now) + 8 * WORDS ≤ length out.old }
+    ensures strings { take result out.new ≡ take at out.old
+        ++ concat (items_at (strings (map O.number offsets.now) string_bytes.now) indices.now) }
+    ensures behind { drop (result + 8 * WORDS) out.new ≡ drop (result + 8 * WORDS) out.old }
+    ensures size { result ≡ at + sum (items_at (sizes (map O.number offsets.now)) indices.now) }
+{
+    let mut written = at;
+    for k in 0..indices.len() {
+        let from = offset_at(offsets, indices[k]);
+        let to = offset_at(offsets, indices[k] + 1);
+        written = put_one::<WORDS>(string_bytes, from, to, out, written);
+    }
+    written
+}
+
+// Writes one string, by whole words of which all bytes are there, where it has no more.
+#[inline]
+fn put_one<const WORDS: usize>(
+    bytes: &[u8],
+    begin: usize,
+    end: usize,
+    out: &mut [u8],
+    at: usize,
+) -> usize
+    requires ordered { begin ≤ end }
+    requires within { end ≤ length bytes.now }
+    requires room { at + (end - begin) + 8 * WORDS ≤ length out.old }
+    ensures bytes { take result out.new ≡ take at out.old ++ slice_range bytes.now begin end }
+    ensures behind { drop (result + 8 * WORDS) out.new ≡ drop (result + 8 * WORDS) out.old }
+    ensures size { result ≡ at + (end - begin) }
+{
+    if end - begin <= 8 * WORDS && 8 * WORDS <= bytes.len() - begin {
+        put_words::<WORDS>(bytes, begin, out, at);
+        return at + (end - begin);
+    }
+    put_part(bytes, begin, end, out, at)
+}
+
+#[inline]
+fn put_words<const WORDS: usize>(bytes: &[u8], begin: usize, out: &mut [u8], at: usize)
+    requires within { begin + 8 * WORDS ≤ length bytes.now }
+    requires room { at + 8 * WORDS ≤ length out.old }
+    ensures bytes { take (at + 8 * WORDS) out.new
+        ≡ take at out.old ++ slice_range bytes.now begin (begin + 8 * WORDS) }
+    ensures behind { drop (at + 8 * WORDS) out.new ≡ drop (at + 8 * WORDS) out.old }
+{
+    for j in 0..WORDS {
+        put_eight(bytes, begin + 8 * j, out, at + 8 * j);
+    }
+}
+
+// Writes eight bytes. They are a number on the way: two copies, of which one has a size that is known, are compiled as
+// one of any size.
+#[inline]
+fn put_eight(bytes: &[u8], begin: usize, out: &mut [u8], at: usize)
+    requires within { begin + 8 ≤ length bytes.now }
+    requires room { at + 8 ≤ length out.old }
+    ensures bytes { take (at + 8) out.new ≡ take at out.old ++ slice_range bytes.now begin (begin + 8) }
+    ensures behind { drop (at + 8) out.new ≡ drop (at + 8) out.old }
+{
+    match bytes[begin..begin + 8].first_chunk::<8>() {
+        Some(chunk) => out[at..at + 8].copy_from_slice(&u64::from_le_bytes(*chunk).to_le_bytes()),
+        None => unreachable!(),
+    }
+}
+
+/// Writes a part of some bytes behind the first `at`, and answers how many there are then.
+#[inline]
+pub(crate) fn put_part(bytes: &[u8], begin: usize, end: usize, out: &mut [u8], at: usize) -> usize
+    requires ordered { begin ≤ end }
+    requires within { end ≤ length bytes.now }
+    requires room { at + (end - begin) ≤ length out.old }
+    ensures bytes { take result out.new ≡ take at out.old ++ slice_range bytes.now begin end }
+    ensures behind { drop result out.new ≡ drop result out.old }
+    ensures size { result ≡ at + (end - begin) }
+{
+    let written = at + (end - begin);
+    out[at..written].copy_from_slice(&bytes[begin..end]);
+    written
+}

@@ -1,0 +1,145 @@
+// Made of crates/mask_c/src/short_strings.rt by `rust/erase`: change that, and make this anew.
+//! The bytes of short strings: for each some words are copied, with what comes behind it, and the next string is
+//! written over that.
+
+use crate::kit::prelude::*;
+use crate::proved::mask_c::offsets::{Offset, offset_at, size_at};
+
+/// How many words of eight bytes to copy for each string, by the strings from the first index to the last: none
+/// where these are long, where most are taken, or where most are empty.
+#[inline]
+pub(crate) fn words_of_each<O: Offset>(indices: &[usize], offsets: &[O]) -> usize {
+    let count = indices.len();
+    if count < 4 {
+        return 0;
+    }
+    let (one, other) = (indices[0], indices[count - 1]);
+    let (first, last) = (one.min(other), one.max(other));
+    let rows = last - first + 1;
+    let size = offset_at(offsets, last + 1) - offset_at(offsets, first);
+    if count > rows - rows / 3 || size < rows || size / 16 > rows {
+        return 0;
+    }
+    if !are_apart(&indices[..count.min(16)], offsets) {
+        return 0;
+    }
+    if size / 8 < rows { 2 } else { 4 }
+}
+
+// Whether a fourth of the strings or more don't begin where the one before them ends.
+#[inline(never)]
+fn are_apart<O: Offset>(indices: &[usize], offsets: &[O]) -> bool {
+    let (mut apart, mut end) = (0, 0);
+    for k in 0..indices.len() {
+        if offset_at(offsets, indices[k]) != end {
+            apart += 1;
+        }
+        end = offset_at(offsets, indices[k] + 1);
+    }
+    apart >= indices.len() / 4
+}
+
+/// Writes the first of the strings at some indices behind the first `at` bytes, two or four words for each, and
+/// other bytes than before where the last of them come. Answers how many strings these are, and how many bytes
+/// there are then.
+#[inline]
+pub(crate) fn put_first<O: Offset>(
+    words: usize,
+    indices: &[usize],
+    offsets: &[O],
+    string_bytes: &[u8],
+    out: &mut [u8],
+    at: usize,
+) -> (usize, usize) {
+    match words {
+        2 => put_before_last::<2, _>(indices, offsets, string_bytes, out, at),
+        _ => put_before_last::<4, _>(indices, offsets, string_bytes, out, at),
+    }
+}
+
+// The same, where `WORDS` words of eight bytes are copied for each string.
+#[inline]
+fn put_before_last<const WORDS: usize, O: Offset>(
+    indices: &[usize],
+    offsets: &[O],
+    string_bytes: &[u8],
+    out: &mut [u8],
+    at: usize,
+) -> (usize, usize) {
+    let first = before_last::<WORDS, _>(indices, offsets);
+    if first == 0 {
+        return (0, at);
+    }
+    let written = put_wide::<WORDS, _>(&indices[..first], offsets, string_bytes, out, at);
+    (first, written)
+}
+
+// How many strings have as many bytes of others behind them.
+#[inline]
+fn before_last<const WORDS: usize, O: Offset>(indices: &[usize], offsets: &[O]) -> usize {
+    let (mut first, mut behind) = (indices.len(), 0);
+    while behind < 8 * WORDS {
+        if first == 0 {
+            return 0;
+        }
+        first -= 1;
+        behind += size_at(offsets, indices[first]);
+    }
+    first
+}
+
+// Writes the strings, and up to `WORDS` words behind them. Answers how many bytes there are then.
+#[inline]
+fn put_wide<const WORDS: usize, O: Offset>(
+    indices: &[usize],
+    offsets: &[O],
+    string_bytes: &[u8],
+    out: &mut [u8],
+    at: usize,
+) -> usize {
+    let mut written = at;
+    for k in 0..indices.len() {
+        let from = offset_at(offsets, indices[k]);
+        let to = offset_at(offsets, indices[k] + 1);
+        written = put_one::<WORDS>(string_bytes, from, to, out, written);
+    }
+    written
+}
+
+// Writes one string, by whole words of which all bytes are there, where it has no more.
+#[inline]
+fn put_one<const WORDS: usize>(
+    bytes: &[u8],
+    begin: usize,
+    end: usize,
+    out: &mut [u8],
+    at: usize,
+) -> usize {
+    if end - begin <= 8 * WORDS && 8 * WORDS <= bytes.len() - begin {
+        put_words::<WORDS>(bytes, begin, out, at);
+        return at + (end - begin);
+    }
+    put_part(bytes, begin, end, out, at)
+}
+
+#[inline(always)]
+fn put_words<const WORDS: usize>(bytes: &[u8], begin: usize, out: &mut [u8], at: usize) {
+    for j in 0..WORDS {
+        put_eight(bytes, begin + 8 * j, out, at + 8 * j);
+    }
+}
+
+// Writes eight bytes. They are a number on the way: two copies, of which one has a size that is known, are compiled as
+// one of any size.
+#[inline(always)]
+fn put_eight(bytes: &[u8], begin: usize, out: &mut [u8], at: usize) {
+    crate::kit::words::put_eight(bytes, begin, out, at);
+}
+
+/// Writes a part of some bytes behind the first `at`, and answers how many there are then.
+#[inline]
+pub(crate) fn put_part(bytes: &[u8], begin: usize, end: usize, out: &mut [u8], at: usize) -> usize {
+    let written = at + (end - begin);
+    crate::kit::words::put_part(bytes, begin, end, out, at);
+    written
+}
