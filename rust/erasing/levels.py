@@ -10,6 +10,8 @@ LEVELLED = {
         "BitBuffer::indices",
         "BitBuffer::runs",
         "BitChunks::select",
+        "choose_rows",
+        "choose_small_rows",
         "combine",
         "combine_in_place",
         "count_bits",
@@ -24,8 +26,6 @@ LEVELLED = {
     "vortex_mask": [
         "Mask::intersect_by_rank",
         "ascends",
-        "choose_rows",
-        "choose_small_rows",
         "intersect_mask_driven",
         "narrow_at_ranks",
         "narrow_by_bits",

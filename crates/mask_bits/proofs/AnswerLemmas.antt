@@ -1,18 +1,6 @@
 -- What a test answers of rows, row by row and lane by lane.
-use Rattle.std.proofs.Common.{◌≡◌, ℕ, drop, ◌+◌, ◌-◌, ◌<◌, ◌≤◌, ◌*◌, ◌^◌, Bool, false, List, [], ◌∷◌, ◌++◌, length, get_or, map, nat_eq, replicate, set, take, zip, refl, sym, subst, ap, ap₂, ◌∙◌, inl, inr, arith, Bor, All}
-use Rattle.std.specs.Fn.{FnReturnsAt, Shared}
-use Rattle.std.specs.Int.{bit_at}
-use Rattle.std.proofs.lemmas.Bool.{cases_lt}
-use Rattle.std.proofs.lemmas.Bool.Decides.{nat_tests}
-use Rattle.std.proofs.lemmas.List.{ext_get_or, get_or-take, get_or_past, length-take, length-append, length-drop, length-take-le, take-append-le, take-take, take-append-drop, drop-take}
-use Rattle.std.proofs.Math.Seq.{get_or-append_seam}
-use Rattle.std.proofs.lemmas.Nat.Bits.{bit_at-lt, bit_at_above}
-use Rattle.std.proofs.lemmas.List.Elements.{All-nil, All-cons, All-head, All-tail}
-use Rattle.mask_bits.specs.Bitmap.{bitmap}
-use Rattle.mask_bits.specs.Buffer.{backing_bit}
-use Rattle.mask_bits.specs.Lanes.{AreLanesOf, ArePacked}
-use Rattle.mask_bits.specs.Rows.{AreAnswers, AreAsComputed}
-use Rattle.mask_bits.specs.Words.{window, word_bits}
+use Rattle.mask_bits.proofs.Common.{◌≡◌, ℕ, drop, ◌+◌, ◌-◌, ◌<◌, ◌≤◌, ◌*◌, ◌^◌, Bool, false, List, [], ◌∷◌, ◌++◌, length, get_or, map, nat_eq, replicate, set, take, zip, refl, sym, subst, ap, ap₂, ◌∙◌, inl, inr, arith, Bor, All, FnReturnsAt, Shared, bit_at, cases_lt, nat_tests, get_or-take, get_or_past, length-append, take-append-le, take-take, take-append-drop, drop-take, get_or-append_seam, bit_at-lt, bit_at_above, All-nil, All-cons, All-head, All-tail, bitmap, backing_bit, AreLanesOf, ArePacked, AreAnswers, AreAsComputed, window, word_bits}
+use Rattle.std.proofs.lemmas.List.{ext_get_or, length-take, length-drop, length-take-le}
 use Rattle.mask_bits.proofs.BoolsLemmas.{lanes-none, lanes-more}
 use Rattle.mask_bits.proofs.ChosenBitLemmas.{joined, joined-clear, joined-list}
 use Rattle.mask_bits.proofs.Lists.Words.BackingBitLemmas.{bitmap-append, no_values}

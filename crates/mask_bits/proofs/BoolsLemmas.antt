@@ -1,10 +1,6 @@
 -- Truth values that are packed into words.
-use Rattle.std.proofs.Common.{◌≡◌, ℕ, ◌+◌, ◌*◌, ◌-◌, ◌<◌, ◌≤◌, ◌⊎◌, Bool, true, false, nat_eq, List, get_or, replicate, set, refl, ap, ◌∙◌, inl, inr, arith}
-use Rattle.std.proofs.lemmas.Bool.{cases_lt}
-use Rattle.std.proofs.lemmas.List.{get_or-replicate, get_or-set_same, get_or-set_other, get_or-take, get_or_past, length-replicate, length-set, length-take}
-use Rattle.mask_bits.specs.Buffer.{backing_bit}
-use Rattle.mask_bits.specs.Lanes.{AreLanesOf}
-use Rattle.mask_bits.specs.Words.{word_bits, window}
+use Rattle.mask_bits.proofs.Common.{◌≡◌, ℕ, ◌+◌, ◌*◌, ◌-◌, ◌<◌, ◌≤◌, ◌⊎◌, Bool, true, false, nat_eq, List, get_or, replicate, set, refl, ap, ◌∙◌, inl, inr, arith, cases_lt, get_or-replicate, get_or-set_same, get_or-set_other, get_or-take, get_or_past, length-replicate, length-set, backing_bit, AreLanesOf, word_bits, window}
+use Rattle.std.proofs.lemmas.List.{length-take}
 use Rattle.mask_bits.proofs.Lists.Words.FrontLemmas.{get_or-window}
 use mir.Val.{bool_byte}
 

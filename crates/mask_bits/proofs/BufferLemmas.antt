@@ -1,15 +1,6 @@
 -- What the list of a buffer is, from its backing bytes.
-use Rattle.std.proofs.Common.{◌-◌, ◌*◌, ◌≤◌, true, replicate, slice_range, ◌≡◌, ℕ, ◌+◌, ◌<◌, Bool, false, List, length, get_or, Some, slice_get, sym, ap, ◌∙◌, arith, map, nat_eq}
-use Rattle.std.specs.List.{list_any, range_with_len}
-use Rattle.std.proofs.lemmas.List.FromFn.{length-map-range_with_len, get_or-map-range_with_len, fill_by_all}
-use Rattle.std.proofs.lemmas.Option.{slice_get-get_or}
-use Rattle.std.proofs.lemmas.List.{length-replicate, get_or-replicate}
-use Rattle.std.proofs.lemmas.List.Edits.{length-between, get_or-between}
-use Rattle.std.proofs.lemmas.Slice.Eq.{slice_eq-Decides}
-use Rattle.mask_bits.specs.Buffer.{Packed, backing_bit, values, same_values}
-use Rattle.mask_bits.specs.Positions.{repeated, true_at}
+use Rattle.mask_bits.proofs.Common.{◌-◌, ◌*◌, ◌≤◌, true, replicate, slice_range, ◌≡◌, ℕ, ◌+◌, ◌<◌, Bool, false, List, length, get_or, Some, slice_get, sym, ap, ◌∙◌, arith, map, nat_eq, list_any, range_with_len, length-map-range_with_len, get_or-map-range_with_len, fill_by_all, slice_get-get_or, length-replicate, get_or-replicate, length-between, get_or-between, slice_eq-Decides, Packed, backing_bit, values, same_values, repeated, true_at}
 use Rattle.mask_bits.proofs.SetBitLemmas.{backing_bit-ones}
-use Rattle.mask_bits.specs.Laws.Words.{SameValuesAreOneList}
 
 -- a buffer's list is as long as the buffer says
 pub length-values : (b : Packed) → length (values b) ≡ b.len
@@ -71,8 +62,5 @@ values-none bytes n clear = grind (arith, values_from_front, length-replicate n 
 -- an answer that is true just where the lists are equal is that of the comparison
 pub same_values-from_answer : (a b : Packed) (r : Bool) → (r ≡ true → values a ≡ values b) → (values a ≡ values b → r ≡ true) → r ≡ same_values a b
 same_values-from_answer a b r told tells = grind (arith, slice_eq-Decides)
-
-pub same_values_are_one_list : SameValuesAreOneList
-same_values_are_one_list a b = grind (arith, slice_eq-Decides)
 
 pub ruleset one_value = (values-ones, values-none)

@@ -1,9 +1,7 @@
 -- The list of a builder, from its bytes.
-use Rattle.std.proofs.Common.{◌≡◌, ◌≢◌, ℕ, ◌+◌, ◌*◌, ◌%◌, ◌<◌, ◌≤◌, Bool, true, false, not, ◌&&◌, ◌||◌, nat_eq, List, [], ◌++◌, length, set, take, drop, Result, Ok, Err, OnErr, refl, ap, ◌∙◌, arith}
-use Rattle.std.proofs.lemmas.Bool.{eq-eqb, ne_eqb}
-use Rattle.std.proofs.lemmas.List.{length-set, get_or-set_same, get_or-set_other, nil_from_length, with_items_is, length-take}
-use Rattle.mask_bits.specs.Buffer.{backing_bit, values}
-use Rattle.mask_bits.specs.BufferMut.{IsWrittenBehind, IsRoom}
+use Rattle.mask_bits.proofs.Common.{◌≡◌, ◌≢◌, ℕ, ◌+◌, ◌*◌, ◌%◌, ◌<◌, ◌≤◌, Bool, true, false, not, ◌&&◌, ◌||◌, nat_eq, List, [], ◌++◌, length, set, take, drop, Result, Ok, Err, OnErr, refl, ap, ◌∙◌, arith, ne_eqb, length-set, get_or-set_same, get_or-set_other, nil_from_length, with_items_is, backing_bit, values, IsWrittenBehind, IsRoom}
+use Rattle.std.proofs.lemmas.Bool.{eq-eqb}
+use Rattle.std.proofs.lemmas.List.{length-take}
 use Rattle.mask_bits.proofs.BufferLemmas.{length-values, values_from_front}
 use Rattle.mask_bits.proofs.CombineLemmas.{take_back}
 use Rattle.mask_bits.proofs.Lists.Words.FrontLemmas.{get_or-front, front-same}

@@ -1,11 +1,7 @@
 -- The rows at a byte's set bits, moved by the table, and those of the bytes of a word.
-use Rattle.std.proofs.Common.{◌≡◌, ℕ, ◌+◌, ◌-◌, ◌*◌, ◌^◌, ◌<◌, ◌≤◌, Bool, List, [], ◌++◌, length, get_or, take, drop, slice_range, refl, sym, ap, ap₂, ◌∙◌, arith, count_ones, append-nil, append_assoc}
-use Rattle.std.proofs.Math.Nat.{div-eq_of_lt}
+use Rattle.mask_bits.proofs.Common.{◌≡◌, ℕ, ◌+◌, ◌-◌, ◌*◌, ◌^◌, ◌<◌, ◌≤◌, Bool, List, [], ◌++◌, length, get_or, take, drop, slice_range, refl, sym, ap, ap₂, ◌∙◌, arith, count_ones, append-nil, append_assoc, div-eq_of_lt, Each1-from_get_or, swz_l, SwzOk, SwzOk-from_below, length-swz_l, get_or-swz_l_below, drop_all, get_or-take, length-append, take-append-drop, chosen, count, positions, word_bits}
 use mir.Syntax.{Width}
-use Rattle.std.proofs.lemmas.Simd.{Each1-from_get_or, swz_l, SwzOk, SwzOk-from_below, length-swz_l, get_or-swz_l_below}
-use Rattle.std.proofs.lemmas.List.{drop-drop, drop_all, ext_get_or, get_or-take, length-append, length-drop, length-take, take-append-drop, take_all}
-use Rattle.mask_bits.specs.Positions.{chosen, count, positions}
-use Rattle.mask_bits.specs.Words.{word_bits}
+use Rattle.std.proofs.lemmas.List.{drop-drop, ext_get_or, length-drop, length-take, take_all}
 use Rattle.mask_bits.proofs.ByteLemmas.{bits-byte_more, byte_of, count-byte_more, count-front}
 use Rattle.mask_bits.proofs.Lists.LawLemmas.{length-chosen}
 use Rattle.mask_bits.proofs.Lists.Places.PlaceLemmas.{count-le-length}

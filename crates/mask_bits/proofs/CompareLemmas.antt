@@ -1,17 +1,5 @@
 -- Which values an operation makes true of two lists, by words.
-use Rattle.std.proofs.Common.{◌≡◌, ◌↔◌, nat_eq, ℕ, ◌+◌, ◌*◌, ◌-◌, ◌/◌, ◌%◌, ◌^◌, ◌<◌, ◌≤◌, ◌&&◌, ◌||◌, not, Bool, false, List, ◌++◌, length, get_or, drop, refl, sym, ap, ◌∙◌, inl, inr, arith, mod-eq_of_lt, count_ones, bit_and, bit_or, bit_xor, ext_get_or}
-use Rattle.std.proofs.Math.Pow.{pow-lt}
-use Rattle.std.specs.Int.{bit_at}
-use Rattle.std.proofs.lemmas.Bool.{cases_lt}
-use Rattle.std.proofs.lemmas.Bool.Decides.{nat_tests}
-use Rattle.std.proofs.lemmas.Nat.{and_le_l}
-use Rattle.std.proofs.lemmas.Nat.Bits.{same_from_bits, same_from_bits_below, bit_at-lt, bit_at-zero, bit_at_or, bit_at_xor}
-use Rattle.mask_bits.specs.Bitmap.{bitmap}
-use Rattle.mask_bits.specs.Buffer.{Packed, backing_bit, values}
-use Rattle.mask_bits.specs.Combine.{IsNoneTrue}
-use Rattle.mask_bits.specs.Lists.{combined, xor_of}
-use Rattle.mask_bits.specs.Positions.{count, repeated}
-use Rattle.mask_bits.specs.Words.{word_bits, window}
+use Rattle.mask_bits.proofs.Common.{◌≡◌, ◌↔◌, nat_eq, ℕ, ◌+◌, ◌*◌, ◌-◌, ◌/◌, ◌%◌, ◌^◌, ◌<◌, ◌≤◌, ◌&&◌, ◌||◌, not, Bool, false, List, ◌++◌, length, get_or, drop, refl, sym, ap, ◌∙◌, inl, inr, arith, mod-eq_of_lt, count_ones, bit_and, bit_or, bit_xor, ext_get_or, pow-lt, bit_at, cases_lt, nat_tests, and_le_l, same_from_bits, same_from_bits_below, bit_at-lt, bit_at-zero, bit_at_or, bit_at_xor, bitmap, Packed, backing_bit, values, IsNoneTrue, combined, xor_of, count, repeated, word_bits, window}
 use Rattle.mask_bits.proofs.BufferLemmas.{length-values, get_or-values}
 use Rattle.mask_bits.proofs.CombineLemmas.{backing_bit-drop, combined_bit, word_bits-combined}
 use Rattle.mask_bits.proofs.Lists.BooleanLemmas.{combined-append, combined-take, length-combined, get_or-combined}

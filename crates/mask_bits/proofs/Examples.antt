@@ -1,15 +1,7 @@
 -- Worked examples of the words that make lists of truth values, computed by the checker.
-use Rattle.std.specs.Prelude.{ℕ, ◌≡◌, ◌<◌, Bool, true, false, List, [], ◌∷◌, slice_range, refl}
-use Rattle.std.proofs.Math.Bool.{beq}
-use Rattle.std.specs.Cmp.Lexicographic.{pointwise}
-use Rattle.std.proofs.Common.{arith}
-use Rattle.mask_bits.specs.Positions.{true_at, IsFirstFrom}
-use Rattle.mask_bits.specs.Runs.{AreRanges, AreRuns}
-use Rattle.mask_bits.specs.Stacks.{IsStack, folded_left, folded_right}
-use Rattle.mask_bits.specs.Words.{word_bits, window}
+use Rattle.mask_bits.proofs.Common.{ℕ, ◌≡◌, ◌<◌, Bool, true, false, List, [], ◌∷◌, slice_range, refl, arith, beq, pointwise, true_at, IsFirstFrom, AreRanges, AreRuns, IsStack, folded_left, folded_right, word_bits, window, and_of, or_of, not_of, and_not_of, concat, limited, positions, count_below, rank_intersection, repeated, chosen, values}
 use Rattle.mask_bits.proofs.Lists.Runs.RangeLemmas.{ranges_add_up_to_the_count}
 use Rattle.mask_bits.proofs.Lists.Runs.RunLemmas.{AreRuns-runs_from, runs_are_ranges}
-use Rattle.mask_bits.specs.Lists.{and_of, or_of, not_of, and_not_of, concat, limited}
 
 -- 1100 and 1010
 abbrev a : List Bool
@@ -138,3 +130,42 @@ low_bits_first = refl
 bits_from_the_offset : slice_range (window (180 ∷ 255 ∷ []) 2) 0 5 ≡ true ∷ false ∷ true ∷ true ∷ false ∷ []
 unfolding window
 bits_from_the_offset = refl
+
+-- ---- 10011101 and 00101: true indices, one list narrowed by another, and rows 10 to 17 chosen by one and then by the other
+
+abbrev first : List Bool
+first = true ∷ false ∷ false ∷ true ∷ true ∷ true ∷ false ∷ true ∷ []
+
+abbrev second : List Bool
+second = false ∷ false ∷ true ∷ false ∷ true ∷ []
+
+positions_of_first : positions first ≡ 0 ∷ 3 ∷ 4 ∷ 5 ∷ 7 ∷ []
+positions_of_first = refl
+
+count_below_of_first : count_below first 5 ≡ 3
+count_below_of_first = refl
+
+first_narrowed_by_second : rank_intersection first second ≡ false ∷ false ∷ false ∷ false ∷ true ∷ false ∷ false ∷ true ∷ []
+unfolding true_at
+first_narrowed_by_second = refl
+
+narrowed_by_nothing : rank_intersection (repeated 3 false) [] ≡ repeated 3 false
+unfolding true_at repeated
+narrowed_by_nothing = refl
+
+rows_by_first : chosen {X = ℕ} (10 ∷ 11 ∷ 12 ∷ 13 ∷ 14 ∷ 15 ∷ 16 ∷ 17 ∷ []) first ≡ 10 ∷ 13 ∷ 14 ∷ 15 ∷ 17 ∷ []
+unfolding chosen
+rows_by_first = refl
+
+rows_by_both : chosen {X = ℕ} (10 ∷ 13 ∷ 14 ∷ 15 ∷ 17 ∷ []) second ≡ 14 ∷ 17 ∷ []
+unfolding chosen
+rows_by_both = refl
+
+-- bits 2 to 6 of the bytes 0xB4 and 0xFF, and the last bit of 0x80
+bits_at_an_odd_offset : values (record { bytes = 180 ∷ 255 ∷ []; offset = 2; len = 5 }) ≡ true ∷ false ∷ true ∷ true ∷ false ∷ []
+unfolding values
+bits_at_an_odd_offset = refl
+
+the_last_bit : values (record { bytes = 128 ∷ []; offset = 7; len = 1 }) ≡ true ∷ []
+unfolding values
+the_last_bit = refl

@@ -1,7 +1,5 @@
 -- Where a value first stands in a list from an index on, found in the backing bits.
-use Rattle.std.proofs.Common.{◌≡◌, ℕ, ◌+◌, ◌-◌, ◌<◌, ◌≤◌, Bool, false, not, List, get_or, min, ◌⊎◌, arith}
-use Rattle.mask_bits.specs.Buffer.{Packed, backing_bit, values}
-use Rattle.mask_bits.specs.Positions.{IsFirstFrom}
+use Rattle.mask_bits.proofs.Common.{◌≡◌, ℕ, ◌+◌, ◌-◌, ◌<◌, ◌≤◌, Bool, false, not, List, get_or, min, ◌⊎◌, arith, Packed, backing_bit, values, IsFirstFrom}
 use Rattle.mask_bits.proofs.BufferLemmas.{len-of_list, get_or-values}
 
 -- bit j past an index is the value there

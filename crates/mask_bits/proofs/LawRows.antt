@@ -1,28 +1,10 @@
 -- What the laws that stand for themselves say of lists that are known: each row takes a law, and computes one instance of it.
-use Rattle.std.specs.Prelude.{ℕ, ◌≡◌, ◌+◌, ◌-◌, ◌<◌, ◌≤◌, Bool, true, false, List, [], ◌∷◌, length, nat_lt, All, slice_index, slice_index_or, slice_range, sum_by, take, refl}
-use Rattle.std.specs.List.{AllAdjacentBelow}
-use Rattle.std.specs.List.Sorted.{IsNonDecreasing, IsStrictlyIncreasing}
-use Rattle.std.proofs.Common.{arith, ap}
-use Rattle.mask_bits.specs.Laws.Boolean.{CountOfComplement}
-use Rattle.mask_bits.specs.Laws.Indices.{ListOfOneValue}
-use Rattle.mask_bits.specs.Laws.Stacks.{CountOfFoldIsAtMostTheFirst}
-use Rattle.mask_bits.specs.Extract.{Extracts}
-use Rattle.mask_bits.specs.Laws.Words.{ExtractIsChosenValues}
-use Rattle.mask_bits.specs.Laws.Indices.{PositionsAscend, NeighborsDoNotFall}
-use Rattle.mask_bits.specs.Laws.Runs.{AllTrueIsOneRange, AllTrueIsOneRun, AllFalseHasNoRange, AllFalseHasNoRun}
-use Rattle.mask_bits.specs.Laws.Boolean.{IsFreeOfOrder, DistributesOver, Absorbs, HasComplements, AndNotIsAndOfNot, KeepsLength}
+use Rattle.mask_bits.proofs.Common.{ℕ, ◌≡◌, Bool, true, false, List, [], ◌∷◌, length, nat_lt, slice_range, refl, arith, slice_index, slice_index_or, and_of, or_of, not_of, and_not_of, concat, limited, positions, count, count_below, rank_intersection, repeated, AreAnswers, AreAsComputed, AreRanges, AreRuns}
+use Rattle.mask_bits.specs.Laws.Boolean.{IsFreeOfOrder, DistributesOver, Absorbs, HasComplements, AndNotIsAndOfNot}
 use Rattle.mask_bits.specs.Laws.Indices.{PositionsDetermineList, CountBelowPosition}
 use Rattle.mask_bits.specs.Laws.Parts.{PartOfPart, PartOfConcat, LimitOfLimit, HasLimitCount}
 use Rattle.mask_bits.specs.Laws.RankIntersection.{IsRankIntersection, RankIntersectionIsTheList, RankIntersectionValue, AllTrueLeftUnit, AllTrueRightUnit, RankIntersectionPosition, RankIntersectionOfAnd, RankIntersectionOfNot}
-use Rattle.mask_bits.specs.Laws.Runs.{RunsExist, RunsAreUnique, RunsAreRanges, RangesAddUpToTheCount}
-use Rattle.mask_bits.specs.Laws.Stacks.{CountOfFold, NeighborsMakeOne}
-use Rattle.mask_bits.specs.Laws.Words.{ValueOfWord}
-use Rattle.mask_bits.specs.Lists.{and_of, or_of, not_of, and_not_of, concat, limited}
-use Rattle.mask_bits.specs.Positions.{positions, count, count_below, rank_intersection, repeated, chosen}
-use Rattle.mask_bits.specs.Rows.{AreAnswers, AreAsComputed}
-use Rattle.mask_bits.specs.Runs.{AreRanges, AreRuns}
-use Rattle.mask_bits.specs.Stacks.{folded_left}
-use Rattle.mask_bits.specs.Words.{word_bits}
+use Rattle.mask_bits.specs.Laws.Runs.{RunsExist, RunsAreUnique, RunsAreRanges}
 
 -- 10101, and 011 and 010 over its true values
 abbrev m : List Bool
@@ -36,22 +18,8 @@ c = false ∷ true ∷ false ∷ []
 
 -- ---- true indices and words
 
-value_of_word : ValueOfWord → slice_index_or (word_bits 6) 1 false ≡ true
-value_of_word law = law 6 1 (omega arith)
-
--- 6 at the places of 12: its bits 2 and 3
-extract_is_chosen_values : ExtractIsChosenValues → (r : ℕ) → Extracts 6 12 r → take 3 (word_bits r) ≡ true ∷ false ∷ false ∷ []
-unfolding word_bits chosen repeated
-extract_is_chosen_values law r is = ap (take 3) (law 6 12 r is)
-
 positions_determine_list : PositionsDetermineList → (xs : List Bool) → length xs ≡ 3 → positions xs ≡ 1 ∷ [] → xs ≡ c
 positions_determine_list law xs len at = law xs c len at
-
-positions_ascend : PositionsAscend → IsStrictlyIncreasing (0 ∷ 2 ∷ 4 ∷ [])
-positions_ascend law = law m
-
-neighbors_do_not_fall : NeighborsDoNotFall → (xs : List ℕ) → AllAdjacentBelow (λ x y. x ≤ y) xs (length xs) → IsNonDecreasing xs
-neighbors_do_not_fall law = law
 
 count_below_position : CountBelowPosition → count_below m (slice_index (positions m) 2) ≡ 2
 count_below_position law = law m 2 (omega arith)
@@ -79,11 +47,6 @@ rank_intersection_of_and law = law m b c refl refl
 rank_intersection_of_not : RankIntersectionOfNot → rank_intersection m (true ∷ false ∷ false ∷ []) ≡ and_not_of m (rank_intersection m b)
 rank_intersection_of_not law = law m b refl
 
--- 11111, 10101 and 011: the last two as one
-neighbors_make_one : NeighborsMakeOne → folded_left (repeated 5 true ∷ rank_intersection m b ∷ []) ≡ folded_left (repeated 5 true ∷ m ∷ b ∷ [])
-unfolding repeated
-neighbors_make_one law = (law (repeated 5 true ∷ []) [] m b (refl, (refl, tt))).1
-
 -- ---- runs
 
 runs_exist : RunsExist → (rs : List (ℕ × ℕ)) × AreRuns m rs
@@ -94,26 +57,6 @@ runs_are_unique law = law m
 
 runs_are_ranges : RunsAreRanges → (rs : List (ℕ × ℕ)) → AreRuns m rs → AreRanges m rs
 runs_are_ranges law = law m
-
--- a list of one value, of three values
-all_true_is_one_range : AllTrueIsOneRange → AreRanges (true ∷ true ∷ true ∷ []) ((0, 3) ∷ [])
-unfolding repeated
-all_true_is_one_range law = law 3 (omega arith)
-
-all_true_is_one_run : AllTrueIsOneRun → AreRuns (true ∷ true ∷ true ∷ []) ((0, 3) ∷ [])
-unfolding repeated
-all_true_is_one_run law = law 3 (omega arith)
-
-all_false_has_no_range : AllFalseHasNoRange → AreRanges (false ∷ false ∷ false ∷ []) []
-unfolding repeated
-all_false_has_no_range law = law 3
-
-all_false_has_no_run : AllFalseHasNoRun → AreRuns (false ∷ false ∷ false ∷ []) []
-unfolding repeated
-all_false_has_no_run law = law 3
-
-ranges_add_up_to_the_count : RangesAddUpToTheCount → (rs : List (ℕ × ℕ)) → AreRanges m rs → sum_by (λ r. r.1 - r.0) rs ≡ 3
-ranges_add_up_to_the_count law = law m
 
 -- ---- value by value, of a list that isn't known and one that is
 
@@ -152,21 +95,6 @@ complement_twice law = law.twice
 
 and_not_is_and_of_not : AndNotIsAndOfNot → (a : List Bool) → and_not_of a b ≡ and_of a (true ∷ false ∷ false ∷ [])
 and_not_is_and_of_not law a = law a b
-
-keeps_length : KeepsLength → (a : List Bool) → length a ≡ 3 → length (and_of a b) + length (or_of a b) + length (and_not_of a b) + length (not_of a) ≡ 12
-keeps_length law a len = omega (arith, law.and a b len, law.or a b len, law.and_not a b len, law.not a)
-
-count_of_complement : CountOfComplement → 3 + count (not_of m) ≡ 5
-count_of_complement law = law m
-
-list_of_one_value : ListOfOneValue → (xs : List Bool) → All (λ v. v ≡ false) xs → xs ≡ repeated (length xs) false
-list_of_one_value law xs = law xs false
-
-fold_has_at_most_the_first : CountOfFoldIsAtMostTheFirst → count (folded_left (m ∷ b ∷ [])) < 4
-fold_has_at_most_the_first law = omega (arith, law m (b ∷ []) (refl, tt))
-
-fold_has_as_many_as_the_last : CountOfFold → count (folded_left (m ∷ b ∷ [])) ≡ 2
-fold_has_as_many_as_the_last law = law b (m ∷ []) (refl, tt)
 
 -- ---- parts and limits
 

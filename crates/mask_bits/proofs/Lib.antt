@@ -1,4 +1,4 @@
--- Lemmas. Crates above may cite those of `Lists`, and no others.
+-- Lemmas. Crates above may cite those of `Lists`, and what `Common` passes on, and no others.
 mod AnswerLemmas
 mod BoolsLemmas
 mod BufferLemmas
@@ -7,10 +7,10 @@ mod ByteLemmas
 mod ByteRowLemmas
 mod ChosenBitLemmas
 mod CombineLemmas
+pub mod Common
 mod CompareLemmas
 mod Examples
 mod FirstLemmas
-mod LawExamples
 mod LawRows
 mod LawRules
 pub mod Lists

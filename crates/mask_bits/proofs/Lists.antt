@@ -8,6 +8,7 @@ pub mod LawLemmas
 pub mod LimitLemmas
 pub mod PartLemmas
 pub mod Places
+pub mod PushRowsLemmas
 pub mod RankLemmas
 pub mod RowLemmas
 pub mod Runs

@@ -1,9 +1,7 @@
 -- Bytes as one number, the first byte lowest, and its bits.
-use Rattle.std.proofs.Common.{◌≡◌, ℕ, zero, suc, ◌+◌, ◌*◌, ◌-◌, ◌/◌, ◌%◌, ◌^◌, ◌<◌, ◌≤◌, List, [], ◌∷◌, ◌++◌, length, get_or, take, drop, replicate, refl, sym, ap, subst, ◌∙◌, arith, lit<, mul_assoc, mul-div_cancel, bit_and, shr-shr, pow_pos}
-use Rattle.std.specs.Int.{bit_at, w64, w128, from_le_bytes, to_le_bytes, bytes_low_first, byte_at, sum_through, byte_worth}
-use Rattle.std.proofs.lemmas.List.{get_or-drop, get_or-take, get_or_past, length-append, length-drop, length-take, take_all, take_rest, drop-replicate, drop-drop}
-use Rattle.std.proofs.lemmas.Nat.Bits.{bit_at-zero, bit_at_cat_low, bit_at_cat_high}
-use Rattle.mask_bits.specs.Number.{number}
+use Rattle.mask_bits.proofs.Common.{◌≡◌, ℕ, zero, suc, ◌+◌, ◌*◌, ◌-◌, ◌/◌, ◌%◌, ◌^◌, ◌<◌, ◌≤◌, List, [], ◌∷◌, ◌++◌, length, get_or, take, drop, replicate, refl, sym, ap, subst, ◌∙◌, arith, lit<, mul_assoc, mul-div_cancel, bit_and, shr-shr, pow_pos, bit_at, w128, from_le_bytes, to_le_bytes, bytes_low_first, byte_at, sum_through, byte_worth, get_or-drop, get_or-take, get_or_past, length-append, take_rest, drop-replicate, bit_at-zero, bit_at_cat_low, bit_at_cat_high, number}
+use Rattle.std.specs.Int.{w64}
+use Rattle.std.proofs.lemmas.List.{length-drop, length-take, take_all, drop-drop}
 use Rattle.mask_bits.proofs.Lists.Words.ShiftLemmas.{bit_at-shr, bit_at-low_mask}
 use Rattle.std.proofs.Math.Nat.{pow-suc}
 

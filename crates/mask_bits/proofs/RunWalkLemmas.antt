@@ -1,11 +1,6 @@
 -- Walks over the runs of a list by its words.
-use Rattle.std.proofs.Common.{◌≡◌, ◌≢◌, ℕ, ◌+◌, ◌*◌, ◌-◌, ◌/◌, ◌%◌, ◌^◌, ◌<◌, ◌≤◌, Bool, true, false, List, [], ◌++◌, length, get_or, drop, refl, sym, ap, ap₂, ◌∙◌, arith, nat_eq, bit_or, append-nil}
+use Rattle.mask_bits.proofs.Common.{◌≡◌, ◌≢◌, ℕ, ◌+◌, ◌*◌, ◌-◌, ◌/◌, ◌%◌, ◌^◌, ◌<◌, ◌≤◌, Bool, true, false, List, [], ◌++◌, length, get_or, drop, refl, sym, ap, ap₂, ◌∙◌, arith, nat_eq, bit_or, append-nil, true≢false, drop_all, runs_behind, runs_between, runs_past, runs_left, word_bits, word_part, padded_remainder, bit_at-zero}
 use mir.Val.{bool_byte}
-use Rattle.std.proofs.lemmas.Bool.{true≢false}
-use Rattle.std.proofs.lemmas.List.{drop_all}
-use Rattle.mask_bits.specs.Pushed.{runs_behind, runs_between, runs_past, runs_left, IsAhead}
-use Rattle.mask_bits.specs.Words.{word_bits, word_part, padded_remainder}
-use Rattle.std.proofs.lemmas.Nat.Bits.{bit_at-zero}
 use Rattle.mask_bits.proofs.Lists.Words.WordLemmas.{get_or-word_bits}
 use Rattle.mask_bits.proofs.RunWordLemmas.{word_bits-before, before-full, behind-same_word, behind-whole, behind-remainder, remainder_ends, no_runs_between, last_bit}
 
@@ -71,10 +66,6 @@ pub zero-last : get_or (word_bits 0) 63 false ≡ false
 zero-last = get_or-word_bits 0 63 false (omega arith) ∙ ap (λ n. nat_eq n 1) (bit_at-zero 63)
 
 -- ---- the word at hand
-
-pub IsAhead-next : (m : List Bool) (i w : ℕ) (inside : Bool) → i ≤ length m / 64 → (i ≡ length m / 64 → get_or (word_bits w) 63 false ≡ false)
-    → inside ≡ get_or (word_bits w) 63 false → IsAhead m inside (i + 1)
-IsAhead-next m i w inside within ends is = record { within = omega (arith, within); closed = λ past. is ∙ ends (omega (arith, within)) }
 
 -- where no edge is left that ends a run
 pub left-none : (m : List Bool) (base first starts ends : ℕ) (inside : Bool) (start next : ℕ) → ends ≡ 0

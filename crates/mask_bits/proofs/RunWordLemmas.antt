@@ -1,17 +1,8 @@
 -- Runs of a list, word by word, by where they begin and end.
-use Rattle.std.proofs.Common.{◌≡◌, ◌≢◌, ℕ, zero, suc, ◌+◌, ◌*◌, ◌-◌, ◌/◌, ◌%◌, ◌^◌, ◌<◌, ◌≤◌, ◌&&◌, not, Bool, true, false, nat_eq, List, [], ◌∷◌, ◌++◌, length, get_or, take, drop, count_ones, refl, sym, ap, ap₂, ◌∙◌, inl, inr, arith, mod-eq_of_lt, add-zero, bit_and, bit_or, zip, append-nil}
-use Rattle.std.specs.Int.{bit_at, bit_not, w64, leading_ones}
-use Rattle.std.specs.Int.Count.{leading_of_zero}
-use Rattle.std.proofs.lemmas.Bool.{cases_eq, true≢false}
-use Rattle.std.proofs.lemmas.Nat.Bits.{bit_at_not, bit_at-lt, bit_at_ones, bit_at_above, bit_at-zero}
+use Rattle.mask_bits.proofs.Common.{◌≡◌, ◌≢◌, ℕ, zero, suc, ◌+◌, ◌*◌, ◌-◌, ◌/◌, ◌%◌, ◌^◌, ◌<◌, ◌≤◌, ◌&&◌, not, Bool, true, false, nat_eq, List, [], ◌∷◌, ◌++◌, length, get_or, take, drop, count_ones, refl, sym, ap, ap₂, ◌∙◌, inl, inr, arith, mod-eq_of_lt, add-zero, bit_and, bit_or, zip, append-nil, bit_at, bit_not, leading_ones, leading_of_zero, cases_eq, true≢false, bit_at_not, bit_at-lt, bit_at_ones, bit_at_above, bit_at-zero, take-append-drop, nil_from_length, get_or-take, get_or_past, and_le_l, length-zip, indices_from, repeated, runs_from, with_index, runs_behind, runs_between, AreEdges, begins, word_bits, word_part, padded_remainder}
+use Rattle.std.specs.Int.{w64}
 use mir.Val.{bool_byte}
-use Rattle.std.proofs.lemmas.List.{take-append-drop, drop-drop, ext_get_or, nil_from_length, get_or-take, length-take, get_or_past, length-drop}
-use Rattle.std.proofs.lemmas.Nat.{and_le_l}
-use Rattle.std.proofs.lemmas.Slice.Zip.{length-zip}
-use Rattle.mask_bits.specs.Positions.{indices_from, repeated}
-use Rattle.mask_bits.specs.RunScan.{runs_from, with_index}
-use Rattle.mask_bits.specs.Pushed.{runs_behind, runs_between, AreEdges, begins}
-use Rattle.mask_bits.specs.Words.{word_bits, word_part, padded_remainder}
+use Rattle.std.proofs.lemmas.List.{drop-drop, ext_get_or, length-take, length-drop}
 use Rattle.mask_bits.proofs.Lists.CountLemmas.{get_or-padded}
 use Rattle.mask_bits.proofs.Lists.Words.WalkLemmas.{runs_from-repeated_false}
 use Rattle.mask_bits.proofs.Lists.Places.PushLemmas.{cleared, cleared-some, length-indices_of_word}

@@ -1,8 +1,5 @@
 -- The words that a buffer's bytes show.
-use Rattle.std.proofs.Common.{◌≡◌, ℕ, ◌+◌, ◌*◌, ◌-◌, ◌/◌, ◌%◌, ◌^◌, ◌<◌, List, take, drop, arith, bit_and}
-use Rattle.mask_bits.specs.Buffer.{Packed, values}
-use Rattle.mask_bits.specs.Words.{word_bits, window, word_part, padded_remainder}
-use Rattle.mask_bits.specs.Number.{number}
+use Rattle.mask_bits.proofs.Common.{◌≡◌, ℕ, ◌+◌, ◌*◌, ◌-◌, ◌/◌, ◌%◌, ◌^◌, ◌<◌, List, take, drop, arith, bit_and, Packed, values, word_bits, window, word_part, padded_remainder, number}
 use Rattle.mask_bits.proofs.BufferLemmas.{length-values, values-part}
 use Rattle.mask_bits.proofs.Lists.Words.WordLemmas.{word_bits_from_bits}
 use Rattle.mask_bits.proofs.NumberLemmas.{AreBytes, bit_at-window}

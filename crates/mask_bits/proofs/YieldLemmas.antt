@@ -1,9 +1,5 @@
 -- An iterator whose state shows the list that is left: it makes progress at each item, and each run of calls gives that list in order.
-use Rattle.std.proofs.Common.{◌≡◌, ℕ, Bool, List, ◌∷◌, length, Some, ap, arith}
-use Rattle.std.specs.Iterator.{MakesProgress, YieldsFirst, YieldsFirstBy, item_count}
-use Rattle.std.specs.Iterator.Runs.{YieldsInOrder, EveryRun, ItemsMapTo}
-use Rattle.std.proofs.iter.runs.Sources.{from_front, as_is}
-use Rattle.mask_bits.specs.Words.{word_bits}
+use Rattle.mask_bits.proofs.Common.{◌≡◌, ℕ, Bool, List, ◌∷◌, length, Some, ap, arith, MakesProgress, YieldsFirst, YieldsFirstBy, item_count, YieldsInOrder, EveryRun, ItemsMapTo, from_front, as_is, word_bits}
 
 pub MakesProgress-item : {A B : Type 0} (s t : List A) (x : A) (r : B) → s ≡ x ∷ t → MakesProgress {S = List A} {A = B} (λ _. Unit {0}) (item_count {A = A} (λ s. s)) s (Some r) t
 MakesProgress-item s t x r e = grind (arith)

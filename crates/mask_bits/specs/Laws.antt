@@ -3,7 +3,5 @@ pub mod Boolean
 pub mod Indices
 pub mod Parts
 pub mod RankIntersection
-pub mod Rows
 pub mod Runs
 pub mod Stacks
-pub mod Words

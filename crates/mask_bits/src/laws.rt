@@ -5,31 +5,19 @@ mod boolean;
 mod indices;
 mod parts;
 mod rank_intersection;
-mod rows;
 mod runs;
 mod stacks;
-mod words;
 
 pub use boolean::{
     and_is_free_of_order, and_not_is_and_of_not, and_or_absorb, and_or_distribute, complements,
     or_is_free_of_order,
 };
-pub use indices::{
-    count_below_position, lists_of_one_value, positions_determine_list, sorted_numbers,
-};
-pub use parts::{
-    groups, limit_count, limit_of_limit, limit_of_rank_intersection, part_of_concat, part_of_part,
-};
+pub use indices::{count_below_position, positions_determine_list};
+pub use parts::{limit_count, limit_of_limit, part_of_concat, part_of_part};
 pub use rank_intersection::{
-    all_true_left_unit, all_true_right_unit, choosing_twice, choosing_values,
-    rank_intersection_associative, rank_intersection_count, rank_intersection_is_the_list,
-    rank_intersection_of_and, rank_intersection_of_not, rank_intersection_position,
-    rank_intersection_value,
+    all_true_left_unit, all_true_right_unit, choosing_twice, rank_intersection_associative,
+    rank_intersection_count, rank_intersection_is_the_list, rank_intersection_of_and,
+    rank_intersection_of_not, rank_intersection_position, rank_intersection_value,
 };
-pub use rows::{choosing, choosing_by_a_test, choosing_by_ranges};
-pub use runs::{
-    ranges_of_one_value, runs_are_ranges, runs_are_the_list, runs_are_unique, runs_exist,
-    runs_of_one_value,
-};
-pub use stacks::{choosing_in_turn, folding_keeps_a_stack, folds, stack_folds_alike};
-pub use words::{counts_of_words, length_of_values, same_values_are_one_list};
+pub use runs::{runs_are_ranges, runs_are_the_list, runs_are_unique, runs_exist};
+pub use stacks::stack_folds_alike;

@@ -26,6 +26,8 @@ mod eq;
 pub mod extract;
 mod from_rows;
 pub mod laws;
+#[doc(hidden)]
+pub mod push_rows;
 mod read_word;
 #[doc(hidden)]
 pub mod room;
@@ -37,8 +39,7 @@ mod set_slices;
 pub mod small_rows;
 mod word_indices;
 mod word_items;
-#[doc(hidden)]
-pub mod word_rows;
+mod word_rows;
 pub mod words;
 #[doc(hidden)]
 pub mod write_bits;

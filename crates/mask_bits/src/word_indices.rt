@@ -6,7 +6,7 @@ ghost use Rattle.mask_bits.specs.Words.{word_bits};
 
 use crate::byte_places::indices_of_byte;
 use crate::room::Room;
-use crate::word_items::{push_by, push_one_by_one};
+use crate::word_items::{push_by, push_eight, push_one_by_one};
 
 /// Puts the indices of the set bits of a word whose first bit has the index `base`: `K` at a time; one after
 /// another where `K` is 0, and byte by byte where it is 64.
@@ -52,16 +52,4 @@ fn push_byte<R: Room<usize>>(indices: &mut R, base: usize, byte: u8)
     let before = indices.count();
     push_eight(indices, &indices_of_byte(base, byte));
     indices.cut(before + byte.count_ones() as usize);
-}
-
-// Puts eight numbers.
-#[inline(always)]
-fn push_eight<R: Room<usize>>(indices: &mut R, numbers: &[usize; 8])
-    requires room { length (R.items indices.old) + 8 ≤ R.capacity (R.kept indices.old) }
-    ensures items { R.items indices.new ≡ R.items indices.old ++ numbers.now }
-    ensures kept { R.kept indices.new ≡ R.kept indices.old }
-{
-    for k in 0..8 {
-        indices.put(numbers[k]);
-    }
 }

@@ -24,7 +24,11 @@ const ROOM: usize = 68;
 /// is read where no bit is left.
 #[inline(always)]
 #[tactic(auto, using(crate::proofs::Lists::Places::PushLemmas::rows_of_words))]
-pub fn push_rows_of_word<const K: usize, T: Copy, R: Room<T>>(out: &mut R, rows: &[T], word: u64)
+pub(crate) fn push_rows_of_word<const K: usize, T: Copy, R: Room<T>>(
+    out: &mut R,
+    rows: &[T],
+    word: u64,
+)
     requires few { K ≤ 4 }
     requires whole { 64 ≤ length rows.now }
     requires room { length (R.items out.old) + count (word_bits word) ≤ R.capacity (R.kept out.old) }
@@ -48,7 +52,7 @@ pub fn push_rows_of_word<const K: usize, T: Copy, R: Room<T>>(out: &mut R, rows:
 
 /// Puts them one after another, as where there are fewer rows than a word has bits.
 #[inline]
-pub fn push_rows_one_by_one<T: Copy, R: Room<T>>(out: &mut R, rows: &[T], word: u64)
+pub(crate) fn push_rows_one_by_one<T: Copy, R: Room<T>>(out: &mut R, rows: &[T], word: u64)
     requires within { All (λ p. p < length rows.now) (positions (word_bits word)) }
     requires room { length (R.items out.old) + count (word_bits word) ≤ R.capacity (R.kept out.old) }
     ensures rows { R.items out.new ≡ R.items out.old ++ chosen rows.now (word_bits word) }

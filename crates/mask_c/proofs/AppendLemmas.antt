@@ -1,20 +1,9 @@
 -- Values written behind those of a bitmap: up to the end of their byte, and from the next byte on.
-use Rattle.std.proofs.lemmas.Grind.{common_steps}
-use Rattle.std.proofs.Common.{◌≡◌, ℕ, nat_eq, set, ◌^◌, ◌+◌, ◌-◌, ◌*◌, ◌/◌, ◌%◌, ◌<◌, ◌≤◌, Bool, false, List, ◌++◌, append-nil, length, get_or, take, drop, sym, ap, ap₂, ◌∙◌, inl, inr, arith}
-use Rattle.std.specs.Int.{bit_at, div_ceil}
-use Rattle.std.specs.Int.RustNames.{bit_and, bit_or}
-use Rattle.std.proofs.lemmas.Bool.{cases_eq}
-use Rattle.std.proofs.lemmas.Grind.{get_or-set_at}
-use Rattle.std.proofs.lemmas.List.{drop_at, drop-drop, nil_from_length, ext_get_or, get_or-set_other, length-drop, length-take-le}
-use Rattle.std.proofs.lemmas.Nat.{one_shl}
-use Rattle.std.proofs.lemmas.Nat.Bits.{bit_at_or}
-use Rattle.mask_bits.specs.Bitmap.{bitmap}
-use Rattle.mask_bits.specs.Buffer.{backing_bit}
-use Rattle.mask_bits.specs.Words.{window, word_bits}
+use Rattle.mask_c.proofs.Common.{common_steps, get_or-set_at, ◌≡◌, ℕ, nat_eq, set, ◌^◌, ◌+◌, ◌-◌, ◌*◌, ◌/◌, ◌%◌, ◌<◌, ◌≤◌, Bool, false, List, ◌++◌, append-nil, length, get_or, take, drop, sym, ap, ap₂, ◌∙◌, inl, inr, arith, bit_at, div_ceil, bit_and, bit_or, cases_eq, drop_at, drop-drop, nil_from_length, ext_get_or, length-drop, length-take-le, one_shl, bit_at_or, bitmap, backing_bit, window, word_bits, AreClearBehind}
+use Rattle.std.proofs.lemmas.List.{get_or-set_other}
 use Rattle.mask_bits.proofs.Lists.Words.BackingBitLemmas.{bit-window, bitmap-append, bitmap-drop, length-bitmap, get_or-bitmap}
 use Rattle.mask_bits.proofs.Lists.Words.FrontLemmas.{front-same, get_or-put_mid_inside}
 use Rattle.mask_bits.proofs.Lists.Words.ShiftLemmas.{bit_at-low_mask, bit_at-past_mask, bit_at-mod, bit_at-shl_low, bit_at-shl_high}
-use Rattle.mask_c.specs.Bitmap.{AreClearBehind}
 use Rattle.mask_c.proofs.LastLemmas.{front-appended, front-taken}
 use borrow.Rule.Slice.PartMut.{put_mid}
 

@@ -1,19 +1,9 @@
 -- Lists of bitmaps: their values and parts, and the words that show them.
-use Rattle.std.proofs.Common.{◌≡◌, ◌↔◌, ℕ, ◌+◌, ◌-◌, ◌<◌, ◌≤◌, ◌&&◌, not, Bool, true, false, List, [], ◌∷◌, length, get_or, slice_range, slice_get, Some, refl, sym, ap, ◌∙◌, add_assoc, inl, inr, arith}
-use Rattle.std.specs.Bool.{IsTrue}
-use Rattle.std.proofs.lemmas.Bool.{cases_lt, false≢true}
-use Rattle.std.proofs.lemmas.List.{ext_get_or}
-use Rattle.std.proofs.lemmas.List.Edits.{length-between, get_or-between}
-use Rattle.std.proofs.lemmas.Option.{slice_get-get_or}
-use Rattle.mask_bits.specs.Bitmap.{bitmap}
-use Rattle.mask_bits.specs.Buffer.{backing_bit}
-use Rattle.mask_bits.specs.Lists.{and_not_of, combined}
-use Rattle.mask_bits.specs.Positions.{count, count_below, repeated}
+use Rattle.mask_c.proofs.Common.{◌≡◌, ◌↔◌, ℕ, ◌+◌, ◌-◌, ◌<◌, ◌≤◌, ◌&&◌, not, Bool, true, false, List, [], ◌∷◌, length, get_or, slice_range, slice_get, Some, refl, sym, ap, ◌∙◌, add_assoc, inl, inr, arith, IsTrue, cases_lt, false≢true, ext_get_or, length-between, get_or-between, slice_get-get_or, bitmap, backing_bit, and_not_of, combined, count, count_below, repeated, IsSubset}
 use Rattle.mask_bits.proofs.Lists.Words.BackingBitLemmas.{length-bitmap, get_or-bitmap}
 use Rattle.mask_bits.proofs.Lists.BooleanLemmas.{get_or-combined, length-combined}
 use Rattle.mask_bits.proofs.Lists.CountLemmas.{all_false_from_count, count-repeated_false, get_or-repeated, length-repeated}
 use Rattle.mask_bits.proofs.Lists.Places.SelectLemmas.{count-part_further}
-use Rattle.mask_c.specs.Bitmap.{IsSubset}
 
 -- value i is the backing bit at offset + i
 pub slice_get-bitmap : (bytes : List ℕ) (offset len i : ℕ) → i < len → slice_get (bitmap bytes offset len) i ≡ Some (backing_bit bytes (offset + i))

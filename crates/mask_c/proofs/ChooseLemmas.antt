@@ -1,15 +1,9 @@
 -- The places of started words, and rows at one more index.
-use Rattle.std.proofs.Common.{◌≡◌, ℕ, ◌+◌, ◌*◌, ◌<◌, ◌≤◌, Bool, List, [], ◌∷◌, ◌++◌, length, get_or, set, take, drop, map, slice_get, Some, sym, subst, ap, ◌∙◌, add-zero, arith}
-use Rattle.std.specs.List.{All}
-use Rattle.std.proofs.lemmas.List.{length-drop, length-take, take_all, take_more_set}
-use Rattle.std.proofs.lemmas.List.Elements.{All-weaker}
-use Rattle.mask_bits.specs.Positions.{indices_from, positions}
-use Rattle.mask_bits.specs.Words.{padded_part, word_bits}
+use Rattle.mask_c.proofs.Common.{◌≡◌, ℕ, ◌+◌, ◌*◌, ◌<◌, ◌≤◌, Bool, List, [], ◌∷◌, ◌++◌, length, get_or, set, take, drop, map, slice_get, Some, sym, subst, ap, ◌∙◌, add-zero, arith, All, length-drop, length-take, take_all, take_more_set, All-weaker, indices_from, positions, padded_part, word_bits, items_at}
 use Rattle.mask_bits.proofs.Lists.Words.PaddedLemmas.{length-padded_part}
 use Rattle.mask_bits.proofs.Lists.Places.PlaceLemmas.{positions-within}
 use Rattle.mask_bits.proofs.Lists.Places.SelectLemmas.{indices_from-moved, places-word_more}
 use Rattle.vortex_mask.proofs.Lists.StartedWordLemmas.{part-same, places-same}
-use Rattle.mask_c.specs.Strings.{items_at}
 use Rattle.mask_c.proofs.StringLemmas.{items_at-more}
 
 -- a started part has the places of its values

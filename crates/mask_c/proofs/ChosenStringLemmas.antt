@@ -1,16 +1,6 @@
 -- Offsets and bytes say which strings they are of: those that two calls write, the chosen ones.
-use Rattle.std.proofs.Common.{◌≡◌, ◌+◌, ◌-◌, ◌<◌, ◌≤◌, ℕ, zero, suc, Bool, Option, Some, None, slice_get, List, [], ◌∷◌, ◌++◌, append_assoc, length, get_or, take, drop, map, slice_range, refl, sym, ap, ap₂, ◌∙◌, arith}
-use Rattle.std.proofs.Math.Seq.{drop-append_seam, take-append_seam}
-use Rattle.std.specs.List.{concat, cons_option}
-use Rattle.std.specs.List.Sorted.{IsNonDecreasing}
-use Rattle.std.specs.Option.{option_map}
-use Rattle.std.proofs.lemmas.List.Edits.{length-between}
-use Rattle.std.proofs.lemmas.Option.{get_or_from_slice_get, slice_get-map}
-use Rattle.std.proofs.lemmas.List.{ext_get_or, get_or-map, length-append, length-map, nil_from_length}
-use Rattle.std.proofs.lemmas.List.FromFn.{length-map-range_with_len, get_or-map-range_with_len}
-use Rattle.mask_bits.specs.Positions.{chosen, positions}
+use Rattle.mask_c.proofs.Common.{◌≡◌, ◌+◌, ◌-◌, ◌<◌, ◌≤◌, ℕ, zero, suc, Bool, Option, Some, None, slice_get, List, [], ◌∷◌, ◌++◌, append_assoc, length, get_or, take, drop, map, slice_range, refl, sym, ap, ap₂, ◌∙◌, arith, drop-append_seam, take-append_seam, concat, cons_option, IsNonDecreasing, option_map, length-between, get_or_from_slice_get, slice_get-map, ext_get_or, get_or-map, length-append, length-map, nil_from_length, length-map-range_with_len, get_or-map-range_with_len, chosen, positions, ends_from, items_at, offsets_of, sizes, strings}
 use Rattle.mask_bits.proofs.Lists.ChooseLemmas.{chosen_at_positions}
-use Rattle.mask_c.specs.Strings.{ends_from, items_at, offsets_of, sizes, strings}
 use Rattle.mask_c.proofs.StringLemmas.{length-sizes, slice_get-sizes}
 
 -- ---- the strings of some offsets and bytes

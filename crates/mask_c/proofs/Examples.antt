@@ -1,8 +1,5 @@
 -- Worked examples of strings, computed by the checker.
-use Rattle.std.proofs.Common.{◌≡◌, ℕ, true, false, List, [], ◌∷◌, refl}
-use Rattle.std.specs.List.{concat}
-use Rattle.mask_bits.specs.Positions.{chosen}
-use Rattle.mask_c.specs.Strings.{offsets_of, sizes, strings}
+use Rattle.mask_c.proofs.Common.{◌≡◌, ℕ, true, false, List, [], ◌∷◌, refl, concat, chosen, offsets_of, sizes, strings}
 
 -- three strings, of which the second has no bytes, behind two bytes of no string
 abbrev offsets : List ℕ

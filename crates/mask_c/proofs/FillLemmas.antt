@@ -1,14 +1,6 @@
 -- Bits that are written with one value.
-use Rattle.std.proofs.lemmas.Grind.{common_steps}
-use Rattle.std.proofs.Common.{◌≡◌, nat_eq, ℕ, ◌+◌, ◌-◌, ◌*◌, ◌<◌, ◌≤◌, ◌||◌, ◌&&◌, not, Bool, true, false, List, length, replicate, refl, ap, arith}
-use Rattle.std.specs.Int.{bit_at}
-use Rattle.std.proofs.lemmas.Bool.Decides.{nat_tests}
-use Rattle.std.proofs.lemmas.Bool.{cases_lt}
-use Rattle.std.proofs.lemmas.List.{length-replicate, get_or-replicate}
-use Rattle.std.proofs.lemmas.Nat.Bits.{bit_at-zero, bit_at_ones}
-use Rattle.mask_bits.specs.Buffer.{backing_bit}
+use Rattle.mask_c.proofs.Common.{common_steps, ◌≡◌, nat_eq, ℕ, ◌+◌, ◌-◌, ◌*◌, ◌<◌, ◌≤◌, ◌||◌, ◌&&◌, not, Bool, true, false, List, length, replicate, refl, ap, arith, bit_at, nat_tests, cases_lt, length-replicate, get_or-replicate, bit_at-zero, bit_at_ones, backing_bit, IsFilled}
 use Rattle.mask_bits.proofs.Lists.Words.FrontLemmas.{get_or-put_mid_below, get_or-put_mid_above, get_or-put_mid_inside}
-use Rattle.mask_c.specs.Bitmap.{IsFilled}
 use borrow.Rule.Slice.PartMut.{put_mid}
 
 -- none of them

@@ -1,20 +1,8 @@
 -- A bitmap whose set bits stand at a list of positions.
-use Rattle.std.proofs.lemmas.Grind.{common_steps}
-use Rattle.std.proofs.Common.{◌≡◌, nat_eq, ℕ, ◌+◌, ◌*◌, ◌<◌, ◌≤◌, ◌||◌, List, ◌++◌, length, get_or, take, sym, ap, ◌∙◌, arith}
-use Rattle.std.proofs.Math.Bool.{or_comm}
-use Rattle.std.specs.Int.{div_ceil}
-use Rattle.std.specs.List.{All, list_any}
-use Rattle.std.proofs.lemmas.Bool.{ne_eqb}
-use Rattle.std.proofs.lemmas.List.{get_or_append_left}
-use Rattle.std.proofs.lemmas.List.Elements.{All-weaker}
-use Rattle.std.proofs.lemmas.List.Folds.{list_any_more, list_any_none}
-use Rattle.mask_bits.specs.Bitmap.{bitmap}
-use Rattle.mask_bits.specs.Buffer.{backing_bit}
-use Rattle.mask_bits.specs.Positions.{true_at}
+use Rattle.mask_c.proofs.Common.{common_steps, ◌≡◌, nat_eq, ℕ, ◌+◌, ◌*◌, ◌<◌, ◌≤◌, ◌||◌, List, ◌++◌, length, get_or, take, sym, ap, ◌∙◌, arith, or_comm, div_ceil, All, list_any, ne_eqb, get_or_append_left, All-weaker, list_any_more, list_any_none, bitmap, backing_bit, true_at, AreClearBehind}
 use Rattle.mask_bits.proofs.Lists.BooleanValueLemmas.{value_of_true_at}
 use Rattle.mask_bits.proofs.Lists.RankLemmas.{length-true_at}
 use Rattle.vortex_mask.proofs.Lists.StartedWordLemmas.{list-from_bits}
-use Rattle.mask_c.specs.Bitmap.{AreClearBehind}
 use Rattle.mask_c.proofs.LastLemmas.{front-appended}
 
 -- the set bits of the bytes are those at some positions

@@ -1,13 +1,5 @@
 -- The indices of true values from an index on, one started word after another, as many as there is room for.
-use Rattle.std.proofs.Common.{◌≡◌, ℕ, ◌+◌, ◌-◌, ◌*◌, ◌^◌, ◌<◌, ◌≤◌, ◌⊎◌, Bool, List, [], ◌++◌, length, take, drop, map, min, slice_range, refl, sym, ap, ◌∙◌, add-zero, add_assoc, append-nil, arith}
-use Rattle.std.specs.List.{All}
-use Rattle.std.proofs.lemmas.Bool.{cases_lt}
-use Rattle.std.proofs.lemmas.List.{length-drop, length-map, length-take, map-append, take-append-drop, take-append-le, take_all, take_at}
-use Rattle.std.proofs.lemmas.List.Elements.{All-weaker}
-use Rattle.std.proofs.lemmas.Simd.{map-map}
-use Rattle.mask_bits.specs.Bitmap.{bitmap}
-use Rattle.mask_bits.specs.Positions.{count, indices_from, positions}
-use Rattle.mask_bits.specs.Words.{padded_part, word_bits}
+use Rattle.mask_c.proofs.Common.{◌≡◌, ℕ, ◌+◌, ◌-◌, ◌*◌, ◌^◌, ◌<◌, ◌≤◌, ◌⊎◌, Bool, List, [], ◌++◌, length, take, drop, map, min, slice_range, refl, sym, ap, ◌∙◌, add-zero, add_assoc, append-nil, arith, All, cases_lt, length-drop, length-map, length-take, map-append, take-append-drop, take-append-le, take_all, take_at, All-weaker, map-map, bitmap, count, indices_from, positions, padded_part, word_bits}
 use Rattle.mask_bits.proofs.Lists.Words.BackingBitLemmas.{length-bitmap}
 use Rattle.mask_bits.proofs.Lists.Places.SelectLemmas.{count-word_more, indices_from-append, indices_from-moved}
 use Rattle.mask_bits.proofs.Lists.Words.BlockLemmas.{block-more}

@@ -1,20 +1,6 @@
 -- The last values of a bitmap that is written, and the values before them.
-use Rattle.std.proofs.lemmas.Grind.{common_steps}
-use Rattle.std.proofs.Common.{◌≡◌, ℕ, nat_eq, set, ◌^◌, ◌+◌, ◌-◌, ◌*◌, ◌/◌, ◌%◌, ◌<◌, ◌≤◌, ◌&&◌, Bool, true, false, List, [], ◌∷◌, ◌++◌, append-nil, length, get_or, take, drop, refl, sym, ap, ap₂, ◌∙◌, arith}
-use Rattle.std.specs.Int.{bit_at, div_ceil}
-use Rattle.std.specs.Int.RustNames.{bit_and}
-use Rattle.std.proofs.Math.Seq.{drop-append_seam}
-use Rattle.std.proofs.lemmas.Bool.{cases_eq}
-use Rattle.std.proofs.lemmas.Grind.{get_or-set_at}
-use Rattle.std.proofs.lemmas.List.{get_or-set_other, get_or-take, get_or_append_left, get_or_past, length-append, length-drop, length-take, length-take-le, take-append-drop, take_at}
-use Rattle.std.proofs.lemmas.Nat.{one_shl}
-use Rattle.std.proofs.lemmas.Nat.Bits.{bit_at-zero}
-use Rattle.mask_bits.specs.Bitmap.{bitmap}
-use Rattle.mask_bits.specs.Buffer.{backing_bit}
-use Rattle.mask_bits.specs.ChosenBits.{values_so_far}
-use Rattle.mask_bits.specs.Lists.{combined}
-use Rattle.mask_bits.specs.Positions.{count, count_below, rank_intersection, repeated}
-use Rattle.mask_bits.specs.Words.{padded_part, padded_remainder, window, word_bits}
+use Rattle.mask_c.proofs.Common.{common_steps, get_or-set_at, ◌≡◌, ℕ, nat_eq, set, ◌^◌, ◌+◌, ◌-◌, ◌*◌, ◌/◌, ◌%◌, ◌<◌, ◌≤◌, ◌&&◌, Bool, true, false, List, [], ◌∷◌, ◌++◌, append-nil, length, get_or, take, drop, refl, sym, ap, ap₂, ◌∙◌, arith, bit_at, div_ceil, bit_and, drop-append_seam, cases_eq, get_or-take, get_or_append_left, get_or_past, length-append, length-drop, length-take, length-take-le, take-append-drop, take_at, one_shl, bit_at-zero, bitmap, backing_bit, values_so_far, combined, count, count_below, rank_intersection, repeated, padded_part, padded_remainder, window, word_bits, AreClearBehind}
+use Rattle.std.proofs.lemmas.List.{get_or-set_other}
 use Rattle.mask_bits.proofs.Lists.BooleanLemmas.{combined-append}
 use Rattle.mask_bits.proofs.Lists.CountLemmas.{all_true_from_count, count-append, count-repeated_false, get_or-padded}
 use Rattle.mask_bits.proofs.Lists.Places.PlaceLemmas.{trues, count-le-length, count-trues}
@@ -25,7 +11,6 @@ use Rattle.mask_bits.proofs.Lists.Words.WordLemmas.{get_or-word_bits, length-wor
 use Rattle.mask_bits.proofs.Lists.RankLemmas.{narrow, rank_intersection-all_true, rank_intersection-narrow}
 use Rattle.mask_bits.proofs.Lists.Words.BackingBitLemmas.{bitmap-append, bitmap-drop, front-split, length-bitmap}
 use Rattle.mask_bits.proofs.Lists.Words.FrontLemmas.{length-window, front-same, get_or-put_mid_inside, get_or-window, put-before, window_from_bits, window-take}
-use Rattle.mask_c.specs.Bitmap.{AreClearBehind}
 use borrow.Rule.Slice.PartMut.{put_mid}
 
 -- ---- a front

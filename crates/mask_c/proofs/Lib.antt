@@ -2,6 +2,7 @@ mod AppendLemmas
 mod BitmapLemmas
 mod ChooseLemmas
 mod ChosenStringLemmas
+pub mod Common
 mod Examples
 mod FillLemmas
 mod FromIndicesLemmas

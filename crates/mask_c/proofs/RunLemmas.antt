@@ -1,8 +1,5 @@
 -- Runs from an index on, one after another, as many as there is room for.
-use Rattle.std.proofs.Common.{◌≡◌, ℕ, suc, ◌+◌, ◌<◌, ◌≤◌, ◌⊎◌, Bool, List, [], ◌∷◌, ◌++◌, append_assoc, length, set, take, map, sym, ap, ◌∙◌, add-zero, append-nil, arith}
-use Rattle.std.proofs.Math.Seq.{take-suc-set}
-use Rattle.std.proofs.lemmas.List.{length-map, map-append, take_all, take_at}
-use Rattle.mask_bits.specs.RunScan.{runs_from}
+use Rattle.mask_c.proofs.Common.{◌≡◌, ℕ, suc, ◌+◌, ◌<◌, Bool, List, [], ◌∷◌, ◌++◌, append_assoc, length, set, take, map, sym, ap, ◌∙◌, add-zero, arith, take-suc-set, length-map, map-append, runs_from}
 use Rattle.mask_bits.proofs.Lists.Runs.RunLemmas.{runs_from-moved}
 use Rattle.mask_c.specs.declared.runs.RowMaskRun.{RowMaskRun}
 
@@ -16,10 +13,6 @@ run_of from r = record { start = from + r.0; end = from + r.1 }
 -- a run whose indices are counted from a value on
 abbrev pub moved : ℕ → ℕ × ℕ → ℕ × ℕ
 moved from r = (from + r.0, from + r.1)
-
--- what was written where nothing is left, or the room is full
-pub runs_stopped : (n at : ℕ) (xs rest whole : List (ℕ × ℕ)) → length xs ≡ at → at ≤ n → xs ++ rest ≡ whole → ((rest ≡ []) ⊎ (at ≡ n)) → xs ≡ take n whole
-runs_stopped n at xs rest whole len room is either = grind (arith, append-nil, take_all, take_at)
 
 -- one more
 pub run_more : (from at : ℕ) (out : List RowMaskRun) (r : ℕ × ℕ) (left : List (ℕ × ℕ)) → at < length out

@@ -5,9 +5,9 @@ ghost use Rattle.mask_bits.specs.Buffer.{IsWithinBytes};
 ghost use Rattle.mask_c.specs.Bitmap.{AreChosen, CanChoose};
 
 use mask_bits::BitChunks;
+use mask_bits::push_rows::{choose_rows, choose_small_rows};
 use mask_bits::room::Lent;
 use mask_bits::small_rows::{ByTable, MoveRows};
-use vortex_mask::{choose_rows, choose_small_rows};
 
 /// A row of 16 bytes.
 #[derive(Clone, Copy)]

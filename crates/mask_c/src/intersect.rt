@@ -58,7 +58,6 @@ pub extern "C" fn row_mask_intersect_by_rank(
     let are_few = deposits_by_loop(64 * whole, before);
     narrow_whole(&front, &bits, are_few, &mut out[..8 * whole]);
     let source = word_at(ranks, ranks_offset + before);
-    vortex_mask::laws::deposits();
     put_last(out, Portable::deposit_bits(source, word, ones), len);
 }
 
@@ -98,7 +97,6 @@ fn narrow_few(chunks: &BitChunks<'_>, ranks: &RankBits<'_>, out: &mut [u8])
     requires room { length out.old ≡ 8 * started_words (length chunks.now) }
     ensures { bitmap out.new 0 (length chunks.now) ≡ rank_intersection chunks.now (values ranks.now) }
 {
-    vortex_mask::laws::deposits_by_words();
     let mut at = 0;
     for i in 0..chunks.len() {
         let word = chunks.word(i);
@@ -120,7 +118,6 @@ fn narrow_word(word: u64, ones: usize, ranks: &RankBits<'_>, at: usize) -> u64
     if word == 0 {
         return 0;
     }
-    vortex_mask::laws::deposits_by_words();
     PortableLoop::deposit_bits(ranks.read(at), word, ones)
 }
 
@@ -177,7 +174,6 @@ fn narrow_at<D: DepositBits>(
     let (cut, bits) = last_ranks(ranks, true_count - ones);
     let front = BitChunks::new(bytes, offset, 64 * whole);
     narrow_at_ranks::<D>(&front, &ranks[..cut], &mut out[..8 * whole]);
-    vortex_mask::laws::deposits();
     put_last(out, D::deposit_bits(bits, word, ones), len);
 }
 

@@ -3,8 +3,8 @@
 use crate::lines::{Found, calls};
 use crate::operands::Operands;
 use crate::text::Text;
+use mask_bits::BitBuffer;
 use mask_bits::extract::extract;
-use mask_bits::{BitBuffer, laws};
 use vortex_mask::intersect_by_rank::{
     DepositBits, ExtractBits, Portable, PortableLoop, SelectBit, deposit_bytewise,
     deposit_two_holes, deposit_two_lowest,
@@ -50,8 +50,8 @@ pub(crate) fn taken(name: &str, o: &mut Operands, text: &mut Text) -> Found {
 }
 
 /// Deposits, extracts and selections of a word.
+#[tactic(auto, using(mask_bits::proofs::Lists::Words::WordLemmas::ones_of_word))]
 pub(crate) fn words(name: &str, o: &mut Operands, text: &mut Text) -> Found {
-    laws::counts_of_words();
     calls! { name, o, text, alloc;
         "deposit" (source word)
             => Portable::deposit_bits(source, word, word.count_ones() as usize),

@@ -1,21 +1,31 @@
 //! Calls whose conditions take more than a comparison.
 
+ghost use Rattle.std.specs.Prelude.{◌≡◌, List, Some, length, true, ℕ};
+ghost use Rattle.std.specs.List.{AllAdjacentBelow};
+ghost use Rattle.std.specs.List.Sorted.{IsNonDecreasing};
+ghost use Rattle.std.specs.Ordering.{nat_cmp, partial_le};
+
 use crate::fault::Fault;
 use crate::tell::{Tell, tell_fault};
 use crate::text::Text;
 use crate::written::write_uncached;
-use mask_bits::laws;
 use std::alloc::Global;
 use vortex_mask::Mask;
 use vortex_mask::conditions::are_a_stack;
 use vortex_mask::intersect_by_rank::rank_path;
+
+// Numbers that `is_sorted` finds sorted are in order over the whole list.
+fn sorted_numbers()
+    ensures { (xs : List ℕ) → AllAdjacentBelow (λ x y. partial_le (λ a b. Some (nat_cmp a b)) x y ≡ true) xs (length xs)
+        → IsNonDecreasing xs }
+{}
 
 pub(crate) fn valid_counts(
     alloc: Global,
     a: &Mask,
     indices: &[usize],
 ) -> Result<Vec<usize>, Fault> {
-    laws::sorted_numbers();
+    sorted_numbers();
     if !indices.is_sorted() {
         return Err(Fault::Unmet("indices in order"));
     }

@@ -1,11 +1,10 @@
 //! A column filtered by a test of its rows, with its validity, by page and by chunk: the mask first, then the rows.
 ghost use Rattle.std.specs.Borrow.{Bor};
-ghost use Rattle.std.specs.Prelude.{◌≡◌, ◌≤◌, Bool, IfOk, IfSome, filter, length, map, nat_lt, slice_range};
+ghost use Rattle.std.specs.Prelude.{◌≡◌, ◌≤◌, Bool, IfOk, IfSome, List, filter, length, map, nat_lt, slice_range};
 ghost use Rattle.vortex_mask.specs.Mask.{truth};
 ghost use Rattle.mask_bits.specs.Lists.{concat};
 ghost use Rattle.mask_bits.specs.Positions.{chosen};
 
-use mask_bits::laws;
 use std::alloc::Global;
 use vortex_mask::{Mask, MaskError};
 
@@ -17,10 +16,10 @@ pub fn above(alloc: Global, rows: &[u64], low: u64) -> Result<Mask, MaskError>
 }
 
 /// The rows above `low`.
+#[tactic(auto, using(mask_bits::proofs::Lists::RowLemmas::chosen_by_test))]
 pub fn filtered(alloc: Global, rows: &[u64], low: u64) -> Result<Vec<u64>, MaskError>
     ensures { IfOk result (λ v. v.items ≡ filter (nat_lt low) rows.now) }
 {
-    laws::choosing_by_a_test::<u64>();
     above(alloc, rows, low)?.choose(alloc, rows)
 }
 
@@ -35,9 +34,15 @@ pub fn passing<T: Copy, F: Fn(&T) -> bool>(
         → ((row : Bor T) (answer : Bool) → F.post test row answer → answer ≡ f row.now)
         → v.items ≡ filter f rows.now) }
 {
-    laws::choosing_by_a_test::<T>();
+    choosing_by_a_test::<T>();
     Mask::from_rows(alloc, rows, test)?.choose(alloc, rows)
 }
+
+// Choosing by a mask of a test of each row is filtering by it.
+#[tactic(auto, using(mask_bits::proofs::Lists::RowLemmas::chosen_by_test))]
+fn choosing_by_a_test<T>()
+    ensures { (rows : List T) (test : T → Bool) → chosen rows (map test rows) ≡ filter test rows }
+{}
 
 /// A column with nulls, filtered: its values and its validity, of which row `i` says whether value `i`
 /// is there.

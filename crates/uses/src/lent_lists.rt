@@ -1,24 +1,22 @@
 //! The rows that a mask chooses, by the lists that it lends: copied range by range where it is dense, and one by one
 //! where it isn't.
-ghost use Rattle.std.specs.Prelude.{◌≡◌, ◌<◌, ◌≤◌, All, Bool, IfOk, List, length, slice_get};
+ghost use Rattle.std.specs.Prelude.{◌≡◌, ◌<◌, ◌≤◌, All, Bool, IfOk, List, flat_map, length, slice_get, slice_range};
 ghost use Rattle.std.specs.List.{filter_map};
 ghost use Rattle.mask_bits.specs.Positions.{chosen};
 ghost use Rattle.mask_bits.specs.Runs.{AreRanges};
 ghost use Rattle.vortex_mask.specs.Mask.{truth};
 
-use mask_bits::laws;
 use std::alloc::{AllocError, Global};
 use vortex_mask::{AllOr, Mask, MaskError, MaskIter};
 
 /// The rows at the true indices: by ranges from every second row on, else by indices. The mask keeps
 /// the list that it lends.
+#[tactic(auto, using(mask_bits::proofs::Lists::ChooseLemmas::choosing_facts, vortex_mask::proofs::Lists::VariantLemmas::variants_of_one_value))]
 pub fn filtered<T: Copy>(alloc: Global, rows: &[T], mask: &mut Mask) -> Result<Vec<T>, MaskError>
     requires { length rows.now ≡ length (truth mask.old) }
     ensures { IfOk result (λ v. v.items ≡ chosen rows.now (truth mask.old)) }
 {
-    laws::choosing::<T>();
     vortex_mask::laws::cached_lists(mask);
-    vortex_mask::laws::variants_of_one_value();
     match mask.threshold_iter(alloc, 1, 2)? {
         AllOr::All => Ok(Vec::from_slice(alloc, rows)?),
         AllOr::None => Ok(Vec::new(alloc)),
@@ -38,13 +36,19 @@ fn by_ranges<T: Copy>(
     ensures { IfOk result (λ v. (m : List Bool) → length rows.now ≡ length m
         → AreRanges m ranges.now → v.items ≡ chosen rows.now m) }
 {
-    laws::choosing_by_ranges(rows, ranges);
+    choosing_by_ranges(rows, ranges);
     let mut copied = Vec::new(alloc);
     for (start, end) in ranges {
         copied.extend_from_slice(&rows[*start..*end])?;
     }
     Ok(copied)
 }
+
+// Rows copied range by range are the rows chosen.
+fn choosing_by_ranges<T>(rows: &[T], ranges: &[(usize, usize)])
+    ensures { (m : List Bool) → length rows.now ≡ length m → AreRanges m ranges.now
+        → flat_map (λ r. slice_range rows.now r.0 r.1) ranges.now ≡ chosen rows.now m }
+{}
 
 // The rows at indices, one after another.
 fn by_indices<T: Copy>(alloc: Global, rows: &[T], indices: &[usize]) -> Result<Vec<T>, AllocError>

@@ -8,7 +8,7 @@ ghost use Rattle.vortex_mask.specs.Mask.{truth};
 use mask_bits::BitBuffer;
 use std::alloc::Global;
 use vortex_mask::intersect_by_rank::{DepositBits, intersect_bit_buffers};
-use vortex_mask::{Mask, MaskError, laws};
+use vortex_mask::{Mask, MaskError};
 
 /// Deposits at one set bit after another, from the lowest.
 pub struct InTurn;
@@ -20,10 +20,10 @@ impl DepositBits for InTurn {
 }
 
 // The lowest set bit of the mask takes the lowest bit of the source, and the others take the rest.
+#[tactic(auto, using(vortex_mask::proofs::Lists::DepositLawLemmas::deposit_at_no_ones, vortex_mask::proofs::Lists::DepositLawLemmas::without_lowest_is_below, vortex_mask::proofs::Lists::DepositLawLemmas::deposit_of_odd_source, vortex_mask::proofs::Lists::DepositLawLemmas::deposit_of_even_source))]
 fn deposit_in_turn(source: u64, mask: u64) -> u64
     ensures { Deposits source mask result }
 {
-    laws::deposits_by_lowest();
     if mask == 0 {
         return 0;
     }

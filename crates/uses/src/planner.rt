@@ -1,6 +1,6 @@
 //! Filters of which each stands on the rows that the one before it chose, as a planner has them: run as one, limited,
 //! folded from either end, counted and explained.
-ghost use Rattle.std.specs.Prelude.{◌≡◌, ◌∷◌, ◌<◌, ◌≤◌, IfOk, false, filter, fold, length, map, nat_lt, slice_index_or};
+ghost use Rattle.std.specs.Prelude.{◌≡◌, ◌∷◌, ◌<◌, ◌≤◌, Bool, IfOk, List, false, filter, fold, length, map, nat_lt, slice_index_or};
 ghost use Rattle.vortex_mask.specs.Mask.{truth};
 ghost use Rattle.mask_bits.specs.Lists.{and_of, limited};
 ghost use Rattle.mask_bits.specs.Positions.{count, chosen, rank_intersection};
@@ -30,11 +30,11 @@ pub fn filtered<T: Copy>(
 
 /// The rows above `low`, and of these those below `high`: the second filter is tested on what the first
 /// one left, and both run as one.
+#[tactic(auto, using(mask_bits::proofs::Lists::RowLemmas::chosen_by_test))]
 pub fn between(alloc: Global, rows: &[u64], low: u64, high: u64) -> Result<Vec<u64>, MaskError>
     ensures { IfOk result
         (λ v. v.items ≡ filter (λ row. nat_lt row high) (filter (nat_lt low) rows.now)) }
 {
-    laws::choosing_by_a_test::<u64>();
     let first = above(alloc, rows, low)?;
     let second = below_of_left(alloc, rows, &first, high)?;
     filtered(alloc, rows, &first, &second)
@@ -53,17 +53,18 @@ fn below_of_left(alloc: Global, rows: &[u64], filter: &Mask, high: u64) -> Resul
 
 /// The rows that pass two filters, where the second was evaluated on all rows: as a rank mask of the
 /// first one's rows it narrows that to their `and`.
+#[tactic(auto, using(mask_bits::proofs::Lists::RowLemmas::narrowed_by_chosen))]
 pub fn narrowed_by_all_rows(alloc: Global, first: &Mask, second: &Mask) -> Result<Mask, MaskError>
     requires { length (truth second.now) ≡ length (truth first.now) }
     ensures { IfOk result (λ m. truth m ≡ and_of (truth first.now) (truth second.now)) }
 {
-    laws::choosing_values();
     let ranks = first.choose_values(alloc, second)?;
     first.intersect_by_rank(alloc, &ranks)
 }
 
 /// The first `k` rows of two stacked filters, and the rows of a third that is tested on these: the limit
 /// is pushed below the narrowing.
+#[tactic(auto, using(mask_bits::proofs::Lists::RowLemmas::limit_of_rank_intersection))]
 pub fn first_of_both(
     alloc: Global,
     first: &Mask,
@@ -76,11 +77,11 @@ pub fn first_of_both(
     ensures pushed_below { IfOk result (λ m. truth m
         ≡ rank_intersection (truth first.now) (limited (truth second.now) k)) }
 {
-    laws::limit_of_rank_intersection();
     first.intersect_by_rank(alloc, &second.to_limited(alloc, k)?)
 }
 
 /// The rows that a stack of filters chooses one after the other, by one mask in the place of all.
+#[tactic(auto, using(mask_bits::proofs::Lists::StackLemmas::choosing_in_turn))]
 pub fn filtered_by_all<T: Copy>(
     alloc: Global,
     rows: &[T],
@@ -92,21 +93,20 @@ pub fn filtered_by_all<T: Copy>(
     ensures in_turn { IfOk result
         (λ v. v.items ≡ fold chosen rows.now (truth first.now ∷ map truth rest.now)) }
 {
-    laws::choosing_in_turn::<T>();
     first
         .intersect_all_by_rank(alloc, rest)?
         .choose(alloc, rows)
 }
 
 /// A stack of filters as one mask, by a fold from the left that stops as soon as no row is left.
+#[tactic(auto, using(mask_bits::proofs::Lists::LawLemmas::folding_keeps_a_stack, mask_bits::proofs::Lists::StackLemmas::length_of_fold))]
 pub fn stopped_early(alloc: Global, first: &Mask, rest: &[Mask]) -> Result<Mask, MaskError>
     requires { IsStack (truth first.now ∷ map truth rest.now) }
     ensures { IfOk result (λ m. truth m ≡ folded_left (truth first.now ∷ map truth rest.now)) }
 {
-    laws::folds();
+    folds();
     match rest {
         [second, above @ ..] if first.true_count() > 0 => {
-            laws::folding_keeps_a_stack();
             let left = first.intersect_by_rank(alloc, second)?;
             stopped_early(alloc, &left, above)
         }
@@ -123,13 +123,23 @@ pub fn regrouped(alloc: Global, first: &Mask, rest: &[Mask]) -> Result<Mask, Mas
     match rest {
         [] => first.clone(),
         [second, above @ ..] => {
-            laws::stack_folds_alike();
-            laws::folds();
+            folds();
             let above = regrouped(alloc, second, above)?;
             first.intersect_by_rank(alloc, &above)
         }
     }
 }
+
+// The fold of a stack: of one that begins with no row, by its first list, and how long it is.
+#[tactic(auto, using(mask_bits::proofs::Lists::StackLemmas::fold_of_no_row, mask_bits::proofs::Lists::StackLemmas::folded_by_the_first, mask_bits::proofs::Lists::StackLemmas::length_of_fold))]
+fn folds()
+    ensures no_row { (first : List Bool) (ms : List (List Bool)) → count first ≡ 0
+        → IsStack (first ∷ ms) → folded_left (first ∷ ms) ≡ first }
+    ensures first { (first second : List Bool) (ms : List (List Bool)) → IsStack (first ∷ second ∷ ms)
+        → folded_left (first ∷ second ∷ ms) ≡ rank_intersection first (folded_left (second ∷ ms)) }
+    ensures len { (first : List Bool) (ms : List (List Bool))
+        → length (folded_left (first ∷ ms)) ≡ length first }
+{}
 
 /// Whether a row is left by two stacked filters, with no mask made.
 pub fn is_left(first: &Mask, second: &Mask, row: usize) -> bool

@@ -1,11 +1,13 @@
 //! Which groups of rows a reader may skip, and in which ranges it reads the others.
-ghost use Rattle.std.specs.Prelude.{ℕ, ◌≡◌, ◌/◌, ◌<◌, All, IfOk, IfSome, count_by, false, length, nat_eq, nat_lt, slice_index_or, vec_len};
+ghost use Rattle.std.specs.Prelude.{ℕ, ◌≡◌, ◌*◌, ◌-◌, ◌/◌, ◌<◌, ◌↔◌, ◌∷◌, [], All, Bool, IfOk, IfSome, List, count_by, false, length, min, nat_eq, nat_lt, slice_index_or, true, vec_len};
 ghost use Rattle.std.specs.Int.{div_ceil};
+ghost use Rattle.mask_bits.specs.Lists.{group};
+ghost use Rattle.mask_bits.specs.Positions.{count, positions, repeated};
 ghost use Rattle.mask_bits.specs.RunScan.{runs};
 ghost use Rattle.uses.specs.RowGroups.{is_chosen_of};
-ghost use Rattle.vortex_mask.specs.Mask.{truth};
+ghost use Rattle.vortex_mask.specs.Mask.{all_false, all_true, truth, variant};
+ghost use Rattle.vortex_mask.specs.declared.mask.Mask.{Mask as mask};
 
-use mask_bits::laws;
 use std::alloc::{AllocError, Global};
 use vortex_mask::{AllOr, Mask, MaskError};
 
@@ -17,9 +19,8 @@ pub fn kept(alloc: Global, mask: &mut Mask, size: usize) -> Result<Vec<bool>, Ma
     ensures exact { IfOk result (λ kept. (g : ℕ) → g < div_ceil (length (truth mask.old)) size
         → slice_index_or kept.items g false ≡ is_chosen_of (truth mask.old) size g) }
 {
-    laws::groups();
-    laws::lists_of_one_value();
-    vortex_mask::laws::variants_of_one_value();
+    groups();
+    variants_of_one_value();
     let groups = mask.len().div_ceil(size);
     match mask.indices(alloc)? {
         AllOr::All => Ok(vec![in alloc; true; groups]?),
@@ -27,6 +28,34 @@ pub fn kept(alloc: Global, mask: &mut Mask, size: usize) -> Result<Vec<bool>, Ma
         AllOr::Some(indices) => Ok(marked(alloc, indices, size, groups)?),
     }
 }
+
+// Which groups there are, what a group of one value is, and which groups true indices lie in.
+#[tactic(auto, using(mask_bits::proofs::Lists::GroupLemmas::group_facts))]
+fn groups()
+    ensures begins { (n size g : ℕ) → 0 < size → (g < div_ceil n size) ↔ (size * g < n) }
+    ensures one_value { (n size g : ℕ) (v : Bool) → size * g < n
+        → group (repeated n v) size g ≡ repeated (min size (n - size * g)) v }
+    ensures indices { (m : List Bool) (size : ℕ) → 0 < size
+        → All (λ p. p / size < div_ceil (length m) size) (positions m) }
+    ensures count { (m : List Bool) (size g : ℕ) → 0 < size
+        → count (group m size g) ≡ count_by (λ p. nat_eq (p / size) g) (positions m) }
+    ensures all_true { (n : ℕ) → count (repeated n true) ≡ n }
+    ensures all_false { (n : ℕ) → positions (repeated n false) ≡ [] }
+{}
+
+// The list of a mask that is held as all true, or as all false.
+#[tactic(auto, using(vortex_mask::proofs::Lists::VariantLemmas::variants_of_one_value))]
+fn variants_of_one_value()
+    ensures all_true { (m : mask) → variant m ≡ all_true → truth m ≡ repeated (length (truth m)) true }
+    ensures all_false { (m : mask) → variant m ≡ all_false → truth m ≡ repeated (length (truth m)) false }
+{}
+
+// The runs of a list of one value.
+#[tactic(auto, using(mask_bits::proofs::Lists::Runs::RunListLemmas::run_of_all_true, mask_bits::proofs::Lists::Runs::RunListLemmas::runs_of_all_false))]
+fn runs_of_one_value()
+    ensures whole { (n : ℕ) → 0 < n → runs (repeated n true) ≡ (0, n) ∷ [] }
+    ensures none { (n : ℕ) → runs (repeated n false) ≡ [] }
+{}
 
 // Which groups have one of these indices.
 fn marked(
@@ -53,8 +82,8 @@ fn marked(
 pub fn ranges_of(alloc: Global, mask: &mut Mask) -> Result<Vec<(usize, usize)>, MaskError>
     ensures { IfOk result (λ ranges. ranges.items ≡ runs (truth mask.old)) }
 {
-    laws::runs_of_one_value();
-    vortex_mask::laws::variants_of_one_value();
+    runs_of_one_value();
+    variants_of_one_value();
     let len = mask.len();
     if mask.is_empty() {
         return Ok(Vec::new(alloc));

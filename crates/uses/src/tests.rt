@@ -3,7 +3,7 @@
 use crate::own_deposit::{InTurn, rank_intersection_by};
 use crate::{column_filter, lent_lists, planner, row_groups, validity};
 use bytes::Bytes;
-use mask_bits::{BitBuffer, laws};
+use mask_bits::BitBuffer;
 use std::alloc::AllocError;
 use std::fmt::Display;
 use std::process::Abort;
@@ -306,8 +306,8 @@ fn texts_of_faults(rt: HostRuntime) {
     assert!(&rt; MaskError::BadRange { at: 1 } != MaskError::BadRange { at: 2 });
 }
 
+#[tactic(auto, using(mask_bits::proofs::Lists::Words::WordLemmas::ones_of_word))]
 fn ticks(rt: &impl Host, buffer: &BitBuffer, mask: u64) {
-    laws::counts_of_words();
     let ones = mask.count_ones() as usize;
     assert!(rt; buffer.len() == 130 && 2 < ones);
     let (mut steps, chunks) = (Steps::new(), buffer.chunks());

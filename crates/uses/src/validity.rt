@@ -1,6 +1,8 @@
 //! Which rows are valid, how many values are stored before a row, and the bitmaps of two columns as one.
-ghost use Rattle.std.specs.Prelude.{◌≡◌, ◌≢◌, ◌+◌, ◌*◌, ◌<◌, ◌≤◌, ◌^◌, All, IfNone, IfOk, IfSome, length, map, vec_len};
+ghost use Rattle.std.specs.Prelude.{◌≡◌, ◌≢◌, ◌+◌, ◌*◌, ◌<◌, ◌≤◌, ◌^◌, All, IfNone, IfOk, IfSome, List, Some, length, map, true, vec_len, ℕ};
+ghost use Rattle.std.specs.List.{AllAdjacentBelow};
 ghost use Rattle.std.specs.List.Sorted.{IsNonDecreasing};
+ghost use Rattle.std.specs.Ordering.{nat_cmp, partial_le};
 ghost use Rattle.mask_bits.specs.Bitmap.{bitmap};
 ghost use Rattle.mask_bits.specs.Buffer.{values};
 ghost use Rattle.mask_bits.specs.Lists.{and_of};
@@ -8,7 +10,7 @@ ghost use Rattle.mask_bits.specs.Positions.{positions, count_below};
 ghost use Rattle.vortex_mask.specs.Mask.{truth};
 
 use bytes::Bytes;
-use mask_bits::{BitBuffer, laws};
+use mask_bits::BitBuffer;
 use std::alloc::{AllocError, Global};
 use vortex_mask::{Mask, MaskError};
 
@@ -51,13 +53,19 @@ pub fn counts_before(
     ensures { IfOk result (λ counts. IfSome counts
         (λ v. v.items ≡ map (count_below (truth validity.now)) rows.now)) }
 {
-    laws::sorted_numbers();
+    sorted_numbers();
     let len = validity.len();
     if !rows.is_sorted() || !rows.iter().all(|row| *row <= len) {
         return Ok(None);
     }
     Ok(Some(validity.valid_counts_for_indices(alloc, rows)?))
 }
+
+// Numbers that `is_sorted` finds sorted are in order over the whole list.
+fn sorted_numbers()
+    ensures { (xs : List ℕ) → AllAdjacentBelow (λ x y. partial_le (λ a b. Some (nat_cmp a b)) x y ≡ true) xs (length xs)
+        → IsNonDecreasing xs }
+{}
 
 /// The rows that are valid in both of two columns, where the first bitmap was written by the caller and
 /// the second begins at any bit.

@@ -1,7 +1,6 @@
 -- Lemmas on deposits and on the bytes and bits of words.
 pub mod ByteCountLemmas
 pub mod ByteLemmas
-pub mod DepositLawLemmas
 pub mod DepositLemmas
 pub mod HoleLemmas
 pub mod LaneLemmas

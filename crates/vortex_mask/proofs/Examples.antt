@@ -1,19 +1,5 @@
 -- Worked rows of the terms that masks are described in, computed by the checker.
-use Rattle.std.proofs.Common.{ℕ, ◌≡◌, ◌+◌, ◌^◌, Bool, true, false, List, [], ◌∷◌, map, Some, None, refl, ap, inl, inr, arith}
-use Rattle.std.specs.Int.{bit_at}
-use Rattle.mask_bits.specs.Positions.{positions, repeated, count_below}
-use Rattle.mask_bits.specs.Words.{word_bits}
-use Rattle.vortex_mask.specs.Bitops.{and_caches, or_caches, and_not_caches}
-use Rattle.vortex_mask.specs.Deposit.{Deposits, selected}
-use Rattle.vortex_mask.specs.Faults.{index_fault, out_of_bounds, common, range_fault}
-use Rattle.vortex_mask.specs.Fraction.{share, share_by_variant}
-use Rattle.vortex_mask.specs.Lend.{ReachesShare}
-use Rattle.vortex_mask.specs.Caches.{caches, where_mixed}
-use Rattle.vortex_mask.specs.Mask.{Variant, truth, variant, contents, all_true, all_false, mixed, fitting_variant, variant_and, variant_or, variant_not, variant_of_no_part, IsUniform}
-use Rattle.vortex_mask.specs.MaskValues.{AreOf, Contents, no_caches, only_indices, only_ranges, with_indices, with_ranges}
-use Rattle.vortex_mask.specs.Path.{path, path_of, is_deposited_by_loop, path_caches, narrowed_caches, AreStepsOf}
-use Rattle.vortex_mask.specs.StackFold.{first_mixed}
-use Rattle.vortex_mask.specs.Steps.{StepCounts, no_steps, word_steps, driven_steps}
+use Rattle.vortex_mask.proofs.Common.{ℕ, ◌≡◌, ◌+◌, ◌^◌, Bool, true, false, List, [], ◌∷◌, map, Some, None, refl, ap, inl, inr, arith, bit_at, positions, repeated, count_below, word_bits, and_caches, or_caches, and_not_caches, Deposits, selected, index_fault, out_of_bounds, common, range_fault, share, share_by_variant, ReachesShare, caches, where_mixed, Variant, truth, variant, contents, all_true, all_false, mixed, fitting_variant, variant_and, variant_or, variant_not, variant_of_no_part, IsUniform, AreOf, Contents, no_caches, only_indices, only_ranges, with_indices, with_ranges, path, path_of, is_deposited_by_loop, path_caches, narrowed_caches, AreStepsOf, first_mixed, StepCounts, no_steps, word_steps, driven_steps}
 use Rattle.vortex_mask.specs.declared.intersect_by_rank.path.RankPath.TheVariants.{Indices, MaskDriven, BitBuffers, RankIndices}
 use Rattle.vortex_mask.specs.declared.mask.Mask.{Mask}
 use Rattle.vortex_mask.specs.declared.mask.Mask.TheVariants.{AllTrue, AllFalse, Values}

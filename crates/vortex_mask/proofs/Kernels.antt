@@ -1,6 +1,5 @@
 -- Lemmas on the kernels and on the path that is taken.
 pub mod DepositListLemmas
-pub mod DepositedWordLemmas
 pub mod DrivenLemmas
 pub mod PathLemmas
 pub mod RankBlockLemmas

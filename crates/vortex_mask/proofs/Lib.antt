@@ -1,4 +1,5 @@
 -- Lemmas.
+pub mod Common
 pub mod Deposits
 mod Examples
 pub mod Kernels

@@ -1,4 +1,6 @@
 -- Lemmas on lists of truth values and of indices, for this crate and for those above it.
+pub mod DepositLawLemmas
+pub mod DepositedWordLemmas
 pub mod PlaceListLemmas
-pub mod PushRowsLemmas
 pub mod StartedWordLemmas
+pub mod VariantLemmas

@@ -1,6 +1,5 @@
 -- Facts about the value of a call that went through.
-use Rattle.std.proofs.Common.{Result, Ok, Err, ◌⊎◌, inl, inr}
-use Rattle.std.specs.Result.{IfErr, IfOk, OnErr}
+use Rattle.vortex_mask.proofs.Common.{Result, Ok, Err, ◌⊎◌, inl, inr, IfErr, IfOk, OnErr}
 
 -- a refusal that is one of two, where the second is told otherwise
 pub IfErr-or : {T E : Type 0} (r : Result T E) (P Q R : E → Type 0) → ((e : E) → Q e → R e) → IfErr r (λ e. P e ⊎ Q e) → IfErr r (λ e. P e ⊎ R e)

@@ -7,7 +7,6 @@ pub mod Deposit
 pub mod Faults
 pub mod Fraction
 pub mod Iter
-pub mod Laws
 pub mod Lend
 pub mod Mask
 pub mod MaskValues

@@ -1,5 +1,5 @@
 -- What a contract sees of a `MaskValues`.
-use Rattle.std.specs.Prelude.{ℕ, ◌≡◌, ◌<◌, Bool, List, length, Option, Some, None}
+use Rattle.std.specs.Prelude.{ℕ, ◌≡◌, ◌<◌, Bool, false, true, List, length, IsSome, Option, Some, None}
 use Rattle.std.specs.Option.{ForSome}
 use Rattle.mask_bits.specs.Buffer.{Packed, values}
 use Rattle.mask_bits.specs.Positions.{positions, count}
@@ -29,6 +29,16 @@ with_indices indices cached = record cached { indices = Some indices }
 -- these lists, with the ranges cached beside the indices
 abbrev pub with_ranges : List (ℕ × ℕ) → Caches → Caches
 with_ranges ranges cached = record cached { ranges = Some ranges }
+
+-- these lists, with the runs of a list of truth values cached, or its true indices
+abbrev pub with_made : Bool → List Bool → Caches → Caches
+with_made true m cached = with_ranges (runs m) cached
+with_made false m cached = with_indices (positions m) cached
+
+-- the ranges are cached, or the indices
+abbrev pub HasList : Bool → Caches → Type 0
+HasList true cached = IsSome cached.ranges
+HasList false cached = IsSome cached.indices
 
 -- a buffer, how many of its values are true, and the cached lists of them
 pub record Contents : Type 0 where

@@ -7,7 +7,7 @@ ghost use Rattle.mask_bits.specs.Buffer.{values};
 ghost use Rattle.vortex_mask.specs.Mask.{truth, same_truth};
 
 use crate::mask::Mask;
-use mask_bits::{BitBuffer, laws};
+use mask_bits::BitBuffer;
 
 // Two masks are equal where their lists are; cached lists, offsets and how an empty list is held
 // don't count.
@@ -39,7 +39,7 @@ impl Mask {
 }
 
 // Whether a mask and a buffer of one length have the same list.
-#[tactic(auto, using(crate::proofs::Masks::MaskLemmas::variant_facts))]
+#[tactic(auto, using(crate::proofs::Masks::MaskLemmas::variant_facts, mask_bits::proofs::Lists::Words::BackingBitLemmas::same_values_are_one_list))]
 fn same_values(mask: &Mask, buffer: &BitBuffer) -> bool
     requires { length (truth mask.now) ≡ length (values buffer.now) }
     ensures { IsTrue result ↔ (truth mask.now ≡ values buffer.now) }
@@ -47,24 +47,18 @@ fn same_values(mask: &Mask, buffer: &BitBuffer) -> bool
     match mask {
         Mask::AllTrue(len) => buffer.true_count() == *len,
         Mask::AllFalse(_) => buffer.true_count() == 0,
-        Mask::Values(values) => {
-            laws::same_values_are_one_list();
-            values.bit_buffer() == buffer
-        }
+        Mask::Values(values) => values.bit_buffer() == buffer,
     }
 }
 
 // Whether two masks of one length have the same list.
-#[tactic(auto, using(crate::proofs::Masks::MaskLemmas::variant_facts))]
+#[tactic(auto, using(crate::proofs::Masks::MaskLemmas::variant_facts, mask_bits::proofs::Lists::Words::BackingBitLemmas::same_values_are_one_list))]
 fn same_lists(a: &Mask, b: &Mask) -> bool
     requires { length (truth a.now) ≡ length (truth b.now) }
     ensures { IsTrue result ↔ (truth a.now ≡ truth b.now) }
 {
     match (a, b) {
-        (Mask::Values(a), Mask::Values(b)) => {
-            laws::same_values_are_one_list();
-            a.bit_buffer() == b.bit_buffer()
-        }
+        (Mask::Values(a), Mask::Values(b)) => a.bit_buffer() == b.bit_buffer(),
         // one of them is of one value, so that the count tells the list
         _ => a.true_count() == b.true_count(),
     }

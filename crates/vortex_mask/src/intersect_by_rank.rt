@@ -112,6 +112,7 @@ impl Mask {
     /// A stack of filters becomes one by this call. Once the result so far is all false no kernel
     /// runs. Which lists of its true indices the result of one mask or more caches is
     /// left open: it depends on each step.
+    #[tactic(auto, using(mask_bits::proofs::Lists::StackLemmas::length_of_fold))]
     pub fn intersect_all_by_rank(&self, alloc: Global, masks: &[Mask]) -> Result<Mask, MaskError>
         requires { IsStack (truth self.now ∷ map truth masks.now) }
         ensures len { IfOk result (λ m. length (truth m) ≡ length (truth self.now)) }
@@ -127,7 +128,6 @@ impl Mask {
         ensures none { variant self.now ≡ all_false → IsOk result }
         ensures refused { IsOkUnless result (MaskError.Memory alloc_error) }
     {
-        mask_bits::laws::folds();
         // `docs/DECISIONS.md` says from which end a stack is folded, and why
         if let Mask::Values(values) = self {
             if masks.len() > 1 && all_choose(masks) && !begins_by_lists(values, masks) {

@@ -12,7 +12,3 @@ pub use mask::{
     AllOr, Fraction, Mask, MaskBoolIter, MaskError, MaskIter, MaskSetIndices, MaskSetSlices,
     MaskValues, MaskValuesRef, index_fault, range_fault,
 };
-
-// They put rows into a `Room`, which `mask_bits` hides. They serve `mask_c` alone.
-#[doc(hidden)]
-pub use mask::{choose_rows, choose_small_rows};

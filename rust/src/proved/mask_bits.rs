@@ -26,6 +26,8 @@ mod eq;
 #[doc(hidden)]
 pub mod extract;
 pub(crate) mod from_rows;
+#[doc(hidden)]
+pub mod push_rows;
 pub(crate) mod read_word;
 #[doc(hidden)]
 pub mod room;
@@ -37,8 +39,7 @@ mod set_slices;
 pub mod small_rows;
 mod word_indices;
 mod word_items;
-#[doc(hidden)]
-pub mod word_rows;
+pub(crate) mod word_rows;
 pub mod words;
 #[doc(hidden)]
 pub mod write_bits;

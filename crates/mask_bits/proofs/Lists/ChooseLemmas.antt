@@ -1,8 +1,6 @@
 -- Rows at the true places: all of them, none of them, and one more.
-use Rattle.std.proofs.Common.{◌≡◌, ◌≤◌, ℕ, zero, suc, Bool, true, false, List, [], ◌∷◌, length, take, slice_get, refl, ap, sym, ◌∙◌, arith}
-use Rattle.std.specs.List.{filter_map, items_where_true}
-use Rattle.mask_bits.specs.Positions.{positions, count, repeated, chosen}
-use Rattle.mask_bits.proofs.Lists.LawLemmas.{chosen-items_where_true}
+use Rattle.mask_bits.proofs.Common.{◌≡◌, ◌≤◌, ℕ, zero, suc, Bool, true, false, List, [], ◌∷◌, length, take, slice_get, refl, ap, sym, ◌∙◌, arith, filter_map, items_where_true, positions, count, repeated, chosen}
+use Rattle.mask_bits.proofs.Lists.LawLemmas.{chosen-items_where_true, length-chosen}
 use Rattle.mask_bits.proofs.Lists.Places.PlaceLemmas.{trues, count-trues}
 
 items_where_true-all_true : {X : Type 0} (rows : List X) → items_where_true (repeated (length rows) true) rows ≡ rows
@@ -30,6 +28,8 @@ chosen_by_all_true rows = chosen-all_true rows (length rows) refl
 pub chosen_at_positions : {X : Type 0} (rows : List X) (m : List Bool) → chosen rows m ≡ filter_map (λ i. slice_get rows i) (positions m)
 unfolding chosen
 chosen_at_positions rows m = refl
+
+pub ruleset choosing_facts = (chosen_by_all_true, chosen-all_false, length-chosen, chosen_at_positions)
 
 -- ---- among the first n rows, which are as many as the list has values
 

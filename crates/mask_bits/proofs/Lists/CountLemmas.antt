@@ -1,12 +1,7 @@
 -- How many values are true: of lists of one value, and what no or every true value says of a list.
-use Rattle.std.proofs.Common.{◌++◌, ◌≡◌, ℕ, zero, suc, ◌+◌, ◌<◌, ◌≤◌, Bool, true, false, List, [], ◌∷◌, length, get_or, take, drop, Some, slice_get, refl, sym, ap, ◌∙◌, arith, zero-add, ◌↔◌, Any}
-use Rattle.std.specs.List.{All, list_all, list_any, range_with_len}
-use Rattle.std.proofs.lemmas.List.{get_or-replicate, length-replicate, get_or_append_left, get_or-append_right, get_or_past, take-append-drop}
-use Rattle.std.proofs.lemmas.List.FromFn.{length-range_with_len, get_or-range_with_len}
-use Rattle.std.proofs.lemmas.Option.{slice_get-get_or}
-use Rattle.mask_bits.specs.Positions.{indices_from, positions, count, count_below, repeated}
+use Rattle.mask_bits.proofs.Common.{◌++◌, ◌≡◌, ℕ, zero, suc, ◌+◌, ◌<◌, ◌≤◌, Bool, true, false, List, [], ◌∷◌, length, get_or, take, drop, Some, slice_get, refl, sym, ap, ◌∙◌, arith, zero-add, ◌↔◌, list_all, list_any, range_with_len, get_or-replicate, length-replicate, get_or_append_left, get_or-append_right, get_or_past, take-append-drop, length-range_with_len, get_or-range_with_len, slice_get-get_or, indices_from, positions, count, count_below, repeated}
+use Rattle.std.specs.List.{All}
 use Rattle.mask_bits.proofs.Lists.Places.PlaceLemmas.{length-indices_from, trues, count-trues}
-use Rattle.std.proofs.lemmas.List.Folds.{Any-from_list_any, list_any-from_Any}
 
 -- every place of an all-true list, and none of an all-false one
 pub indices_from-repeated_true : (n k : ℕ) → indices_from n (repeated k true) ≡ range_with_len n k
@@ -117,9 +112,6 @@ positions-all_false n = indices_from-repeated_false 0 n
 
 pub all_true-count : (m : List Bool) → (count m ≡ length m) ↔ All (λ v. v ≡ true) m
 all_true-count m = (λ e. All-repeated true m (all_true_from_count 0 m e), λ all. ap count (repeated_from_All true m all) ∙ count-repeated_true (length m))
-
-pub any_true-count : (m : List Bool) → (0 < count m) ↔ Any (λ v. v ≡ true) m
-any_true-count m = grind (arith, Any-from_list_any, list_any-count, list_any-from_Any, list_any-count_zero)
 
 -- no count below a place is above that of all
 pub count_below-le : (m : List Bool) (n : ℕ) → count_below m n ≤ count m

@@ -1,12 +1,6 @@
 -- How many values of a part and of a group are true, by the true places.
-use Rattle.std.proofs.lemmas.Grind.{common_steps}
-use Rattle.std.proofs.Common.{◌≡◌, ℕ, zero, suc, ◌+◌, ◌-◌, ◌*◌, ◌/◌, ◌<◌, ◌≤◌, Bool, true, false, cond, nat_eq, min, List, [], ◌∷◌, length, take, drop, slice_range, refl, sym, ◌∙◌, arith, All, count_by}
-use Rattle.std.proofs.lemmas.List.Elements.{All-head, All-tail}
-use Rattle.std.proofs.lemmas.List.Sums.{sum_by-cons}
-use Rattle.mask_bits.specs.Laws.Parts.{GroupsBeginWithin, GroupOfRepeated, IndicesLieInGroups, CountOfGroup}
-use Rattle.mask_bits.specs.Positions.{indices_from, positions, count}
-use Rattle.mask_bits.specs.Runs.{is_inside}
-use Rattle.mask_bits.proofs.Lists.CountLemmas.{length-repeated}
+use Rattle.mask_bits.proofs.Common.{common_steps, ◌≡◌, ℕ, zero, suc, ◌+◌, ◌-◌, ◌*◌, ◌/◌, ◌<◌, ◌≤◌, Bool, true, false, cond, nat_eq, min, List, [], ◌∷◌, length, take, drop, slice_range, refl, sym, ◌∙◌, arith, All, count_by, ◌↔◌, All-head, All-tail, sum_by-cons, indices_from, positions, count, repeated, is_inside, div_ceil, group}
+use Rattle.mask_bits.proofs.Lists.CountLemmas.{count-repeated_true, length-repeated, positions-all_false, positions-all_true}
 use Rattle.mask_bits.proofs.Lists.PartLemmas.{part_of_repeated}
 use Rattle.mask_bits.proofs.Lists.Places.PlaceLemmas.{trues, count-trues, positions-within}
 
@@ -49,7 +43,8 @@ count_by-same p q P [] agree all = refl
 count_by-same p q P (x ∷ xs) agree all =
     grind (arith, agree x (All-head P x xs all), count_by-same p q P xs agree (All-tail P x xs all), sum_by-cons (λ y. cond (p y) 1 0) x xs, sum_by-cons (λ y. cond (q y) 1 0) x xs)
 
-pub count_of_group : CountOfGroup
+-- as many values of a group are true as true indices lie in it
+pub count_of_group : (m : List Bool) (size g : ℕ) → 0 < size → count (group m size g) ≡ count_by (λ p. nat_eq (p / size) g) (positions m)
 unfolding inside_from
 count_of_group m size g some =
     let s : ℕ = size * g in
@@ -58,11 +53,16 @@ count_of_group m size g some =
     part ∙ sym (inside_part s (s + k) 0 s k m (omega arith) refl)
     ∙ count_by-same (λ p. is_inside p (s, s + k)) (λ p. nat_eq (p / size) g) (λ p. p < length m) (positions m) (λ p within. in_group (length m) size g p some within) (positions-within m)
 
-pub places_lie_in_groups : IndicesLieInGroups
+-- of a list in groups of one size, each true index p lies in group number p / size, which is one of them
+pub places_lie_in_groups : (m : List Bool) (size : ℕ) → 0 < size → All (λ p. p / size < div_ceil (length m) size) (positions m)
 places_lie_in_groups m size some = λ k d h. grind (arith, positions-within m k d h)
 
-pub groups_begin_within : GroupsBeginWithin
+-- of n values in groups of one size, those are groups which begin before the end
+pub groups_begin_within : (n size g : ℕ) → 0 < size → (g < div_ceil n size) ↔ (size * g < n)
 groups_begin_within n size g some = (λ below. grind arith, λ begins. grind arith)
 
-pub group_of_repeated : GroupOfRepeated
+-- a group of a list of one value is such a list
+pub group_of_repeated : (n size g : ℕ) (v : Bool) → size * g < n → group (repeated n v) size g ≡ repeated (min size (n - size * g)) v
 group_of_repeated n size g v begins = grind (arith, length-repeated, part_of_repeated)
+
+pub ruleset group_facts = (groups_begin_within, group_of_repeated, places_lie_in_groups, count_of_group, length-repeated, count-repeated_true, positions-all_true, positions-all_false)

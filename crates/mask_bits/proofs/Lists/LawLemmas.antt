@@ -1,11 +1,7 @@
 -- The laws of rank intersection and of choosing, by recursion on the first list.
-use Rattle.std.proofs.Common.{◌≡◌, ℕ, suc, ◌&&◌, Bool, true, false, List, [], ◌∷◌, length, get_or, take, map, slice_get, refl, sym, ap, ◌∙◌, arith, ap₂}
-use Rattle.std.specs.List.{cons_option, filter_map, items_where_true}
-use Rattle.std.proofs.lemmas.List.{get_or-map}
+use Rattle.mask_bits.proofs.Common.{◌≡◌, ℕ, suc, ◌&&◌, Bool, true, false, List, [], ◌∷◌, length, get_or, take, map, slice_get, refl, sym, ap, ◌∙◌, arith, ap₂, cons_option, filter_map, items_where_true, get_or-map, positions, count, true_at, at_indices, rank_intersection, chosen, repeated, IsStack}
 use Rattle.mask_bits.specs.Laws.Indices.{PositionsDetermineList}
 use Rattle.mask_bits.specs.Laws.RankIntersection.{RankIntersectionIsTheList, RankIntersectionValue, ChoosingTwice, RankIntersectionAssociative, AllTrueLeftUnit, AllTrueRightUnit, RankIntersectionCount, RankIntersectionPosition}
-use Rattle.mask_bits.specs.Laws.Stacks.{FoldingKeepsAStack}
-use Rattle.mask_bits.specs.Positions.{positions, count, true_at, at_indices, rank_intersection, chosen, repeated}
 use Rattle.mask_bits.proofs.Lists.Places.PlaceLemmas.{positions-true, positions-false, trues, count-trues}
 use Rattle.mask_bits.proofs.Lists.RankLemmas.{narrow, rank_intersection-narrow, positions-fit, at_indices-map_suc, at_indices-cons_suc, true_at-suc, true_at-zero_suc, length-true_at, rank_intersection-all_true, rank_intersection-by_all_true}
 use Rattle.mask_bits.proofs.Lists.CountLemmas.{all_false_from_count}
@@ -115,7 +111,8 @@ rank_intersection_position a b n fits below = grind (arith, positions-rank_inter
 
 -- ---- stacks
 
-pub folding_keeps_a_stack : FoldingKeepsAStack
+-- a stack whose first two masks are made one is a stack
+pub folding_keeps_a_stack : (a b : List Bool) (ms : List (List Bool)) → IsStack (a ∷ b ∷ ms) → IsStack (rank_intersection a b ∷ ms)
 folding_keeps_a_stack a b [] stack = tt
 folding_keeps_a_stack a b (c ∷ ms) stack = (stack.1.0 ∙ sym (rank_intersection_count a b stack.0), stack.1.1)
 

@@ -1,12 +1,8 @@
 -- A list limited to its first true values, and the count below a true place.
-use Rattle.std.proofs.Common.{◌≡◌, ℕ, zero, suc, ◌-◌, ◌<◌, ◌≤◌, ◌++◌, min, Bool, true, false, ◌&&◌, nat_lt, List, [], ◌∷◌, length, get_or, take, slice_range, Some, slice_get, refl, sym, ap, ◌∙◌, arith}
-use Rattle.std.proofs.lemmas.List.{ext_get_or, get_or-map, length-take}
-use Rattle.std.proofs.lemmas.Option.{slice_get_within, get_or_from_slice_get}
-use Rattle.std.proofs.lemmas.List.FromFn.{length-map-range_with_len, get_or-map-range_with_len}
+use Rattle.mask_bits.proofs.Common.{◌≡◌, ℕ, zero, suc, ◌-◌, ◌<◌, ◌≤◌, ◌++◌, min, Bool, true, false, ◌&&◌, nat_lt, List, [], ◌∷◌, length, get_or, take, slice_range, Some, slice_get, refl, sym, ap, ◌∙◌, arith, get_or-map, slice_get_within, get_or_from_slice_get, length-map-range_with_len, get_or-map-range_with_len, limited, positions, count, count_below, repeated}
+use Rattle.std.proofs.lemmas.List.{ext_get_or, length-take}
 use Rattle.mask_bits.specs.Laws.Indices.{CountBelowPosition}
 use Rattle.mask_bits.specs.Laws.Parts.{LimitOfLimit, HasLimitCount}
-use Rattle.mask_bits.specs.Lists.{limited}
-use Rattle.mask_bits.specs.Positions.{positions, count, count_below, repeated}
 use Rattle.mask_bits.proofs.Lists.Places.PlaceLemmas.{positions-true, positions-false, trues, count-trues}
 
 -- the first k true values, by recursion on the list

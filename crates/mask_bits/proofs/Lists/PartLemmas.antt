@@ -1,9 +1,7 @@
 -- Parts of parts, and of lists one after another.
-use Rattle.std.proofs.Common.{◌≡◌, ℕ, ◌-◌, ◌≤◌, Bool, drop, slice_range, arith}
-use Rattle.std.proofs.lemmas.List.{take-take, drop-drop, drop-take, take-append-le, drop-append-le, drop_all, take_all, drop-replicate, take-replicate}
-use Rattle.std.proofs.lemmas.List.Concat.{flat_map-append}
+use Rattle.mask_bits.proofs.Common.{◌≡◌, ℕ, ◌-◌, ◌≤◌, Bool, drop, slice_range, arith, take-take, drop-take, take-append-le, drop-append-le, drop_all, drop-replicate, take-replicate, flat_map-append, repeated}
+use Rattle.std.proofs.lemmas.List.{drop-drop, take_all}
 use Rattle.mask_bits.specs.Laws.Parts.{PartOfPart, PartOfConcat}
-use Rattle.mask_bits.specs.Positions.{repeated}
 
 pub part_of_part : PartOfPart
 part_of_part m s e t u within = grind (arith, drop-take t (e - s - t) (drop s m), take-take, drop-drop)

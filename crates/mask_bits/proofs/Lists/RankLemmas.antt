@@ -1,10 +1,6 @@
 -- The rank intersection of two lists, by recursion on the first.
-use Rattle.std.proofs.Common.{◌≡◌, ℕ, zero, suc, ◌+◌, ◌<◌, ◌≤◌, Bool, true, false, List, [], ◌∷◌, length, get_or, map, nat_eq, refl, ap, ◌∙◌, arith}
-use Rattle.std.specs.List.{All, list_any, range_with_len}
-use Rattle.std.proofs.lemmas.List.{get_or-map, length-replicate}
-use Rattle.std.proofs.lemmas.List.Elements.{All-head, All-tail, All-map, All-weaker, All-get_or}
-use Rattle.std.proofs.lemmas.List.FromFn.{length-map-range_with_len}
-use Rattle.mask_bits.specs.Positions.{positions, count, true_at, at_indices, rank_intersection, repeated}
+use Rattle.mask_bits.proofs.Common.{◌≡◌, ℕ, zero, suc, ◌+◌, ◌<◌, ◌≤◌, Bool, true, false, List, [], ◌∷◌, length, get_or, map, nat_eq, refl, ap, ◌∙◌, arith, list_any, range_with_len, get_or-map, length-replicate, All-head, All-tail, All-map, All-weaker, All-get_or, length-map-range_with_len, positions, count, true_at, at_indices, rank_intersection, repeated}
+use Rattle.std.specs.List.{All}
 use Rattle.mask_bits.proofs.Lists.CountLemmas.{count-repeated_true}
 use Rattle.mask_bits.proofs.Lists.Places.PlaceLemmas.{positions-true, positions-false, trues, count-trues, positions-within}
 
@@ -110,5 +106,3 @@ length-true_at n places = length-map-range_with_len (λ i. list_any (nat_eq i) p
 pub All-at_indices : (P : ℕ → Type 0) (ps qs : List ℕ) → All P ps → All (λ q. q < length ps) qs → All P (at_indices ps qs)
 All-at_indices P ps qs all within =
     All-map P (λ q. get_or ps q 0) qs (All-weaker (λ q. q < length ps) (λ q. P (get_or ps q 0)) (λ q h. All-get_or P ps q 0 h all) qs within)
-
-pub ruleset true_at_facts = (length-true_at)

@@ -1,7 +1,7 @@
 -- What holds of `and`, `or`, and-not and complements.
-use Rattle.std.specs.Prelude.{◌+◌, ◌≡◌, Bool, false, not, List, length, true}
+use Rattle.std.specs.Prelude.{◌≡◌, Bool, false, not, List, length, true}
 use Rattle.mask_bits.specs.Lists.{and_of, or_of, not_of, and_not_of}
-use Rattle.mask_bits.specs.Positions.{count, repeated}
+use Rattle.mask_bits.specs.Positions.{repeated}
 
 -- an operation on two lists that takes them in either order, and three in either grouping
 pub record IsFreeOfOrder (join : List Bool → List Bool → List Bool) : Type 0 where
@@ -25,14 +25,3 @@ pub record HasComplements : Type 0 where
 -- and-not is `and` with the complement
 abbrev pub AndNotIsAndOfNot : Type 0
 AndNotIsAndOfNot = (a b : List Bool) → and_not_of a b ≡ and_of a (not_of b)
-
--- lists of one length give one of that length
-pub record KeepsLength : Type 0 where
-  pub and : (a b : List Bool) → length a ≡ length b → length (and_of a b) ≡ length a
-  pub or : (a b : List Bool) → length a ≡ length b → length (or_of a b) ≡ length a
-  pub and_not : (a b : List Bool) → length a ≡ length b → length (and_not_of a b) ≡ length a
-  pub not : (a : List Bool) → length (not_of a) ≡ length a
-
--- the true values of a list and of its complement are all values
-abbrev pub CountOfComplement : Type 0
-CountOfComplement = (m : List Bool) → count m + count (not_of m) ≡ length m

@@ -53,11 +53,3 @@ RankIntersectionOfAnd = (a b c : List Bool) → length b ≡ count a → length 
 abbrev pub RankIntersectionOfNot : Type 0
 RankIntersectionOfNot = (a b : List Bool) → length b ≡ count a
     → rank_intersection a (not_of b) ≡ and_not_of a (rank_intersection a b)
-
--- a narrowed by the values of c at a's true indices is true where both are
-abbrev pub NarrowedByChosen : Type 0
-NarrowedByChosen = (a c : List Bool) → length c ≡ length a → rank_intersection a (chosen c a) ≡ and_of a c
-
--- the values of a narrowing at a's true indices are the list that it was narrowed by
-abbrev pub ChosenOfNarrowing : Type 0
-ChosenOfNarrowing = (a b : List Bool) → length b ≡ count a → chosen (rank_intersection a b) a ≡ b

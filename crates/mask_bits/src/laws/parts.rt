@@ -1,6 +1,6 @@
 //! Laws of parts, groups and limits.
 
-ghost use Rattle.mask_bits.specs.Laws.Parts.{LimitOfRankIntersection, PartOfPart, PartOfConcat, LimitOfLimit, HasLimitCount, GroupsBeginWithin, GroupOfRepeated, IndicesLieInGroups, CountOfGroup};
+ghost use Rattle.mask_bits.specs.Laws.Parts.{PartOfPart, PartOfConcat, LimitOfLimit, HasLimitCount};
 
 /// A part of a part is one part of the whole.
 #[tactic(auto, using(crate::proofs::Lists::PartLemmas::part_of_part))]
@@ -14,17 +14,6 @@ pub fn part_of_concat()
     ensures part { PartOfConcat }
 {}
 
-/// A group is there exactly if it begins within the list. Groups of a list of one value are lists
-/// of that value. A true index lies in the group of its number divided by the size, which counts
-/// such indices.
-#[tactic(auto, using(crate::proofs::Lists::GroupLemmas::groups_begin_within, crate::proofs::Lists::GroupLemmas::group_of_repeated, crate::proofs::Lists::GroupLemmas::places_lie_in_groups, crate::proofs::Lists::GroupLemmas::count_of_group))]
-pub fn groups()
-    ensures begins { GroupsBeginWithin }
-    ensures one_value { GroupOfRepeated }
-    ensures indices { IndicesLieInGroups }
-    ensures count { CountOfGroup }
-{}
-
 /// A limit of a limit is the smaller limit.
 #[tactic(auto, using(crate::proofs::Lists::LimitLemmas::limit_of_limit))]
 pub fn limit_of_limit()
@@ -35,10 +24,4 @@ pub fn limit_of_limit()
 #[tactic(auto, using(crate::proofs::Lists::LimitLemmas::limit_count))]
 pub fn limit_count()
     ensures count { HasLimitCount }
-{}
-
-/// A limit of two stacked filters may be taken of the second alone.
-#[tactic(auto, using(crate::proofs::Lists::RowLemmas::limit_of_rank_intersection))]
-pub fn limit_of_rank_intersection()
-    ensures pushed { LimitOfRankIntersection }
 {}

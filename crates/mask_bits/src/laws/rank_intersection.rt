@@ -2,7 +2,7 @@
 
 #![tactic(auto, using(crate::proofs::LawRules::laws))]
 
-ghost use Rattle.mask_bits.specs.Laws.RankIntersection.{NarrowedByChosen, ChosenOfNarrowing, RankIntersectionIsTheList, RankIntersectionValue, ChoosingTwice, RankIntersectionAssociative, AllTrueLeftUnit, AllTrueRightUnit, RankIntersectionCount, RankIntersectionPosition, RankIntersectionOfAnd, RankIntersectionOfNot};
+ghost use Rattle.mask_bits.specs.Laws.RankIntersection.{RankIntersectionIsTheList, RankIntersectionValue, ChoosingTwice, RankIntersectionAssociative, AllTrueLeftUnit, AllTrueRightUnit, RankIntersectionCount, RankIntersectionPosition, RankIntersectionOfAnd, RankIntersectionOfNot};
 
 /// The rank intersection is the one list as long as the first whose true indices are the first's
 /// taken at the second's.
@@ -58,13 +58,4 @@ pub fn rank_intersection_of_and()
 #[tactic(auto, using(crate::proofs::Lists::BooleanLemmas::rank_intersection_of_not))]
 pub fn rank_intersection_of_not()
     ensures negated { RankIntersectionOfNot }
-{}
-
-/// Choosing truth values undoes a rank intersection: a list narrowed by another one's values at its
-/// true indices is `and` of both, and the values of a narrowing at the first list's true indices are
-/// the second list.
-#[tactic(auto, using(crate::proofs::Lists::RowLemmas::narrowed_by_chosen, crate::proofs::Lists::RowLemmas::chosen_of_narrowing))]
-pub fn choosing_values()
-    ensures and { NarrowedByChosen }
-    ensures back { ChosenOfNarrowing }
 {}

@@ -3,7 +3,7 @@
 #![tactic(auto, using(crate::proofs::LawRules::laws))]
 
 ghost use Rattle.std.specs.Prelude.{◌≡◌, ◌↔◌, Bool, List};
-ghost use Rattle.mask_bits.specs.Laws.Runs.{AllTrueIsOneRange, AllTrueIsOneRun, AllFalseHasNoRange, AllFalseHasNoRun, RunsExist, RunsAreUnique, RunsAreRanges, RunsAreTheList, RunOfAllTrue, RunsOfAllFalse};
+ghost use Rattle.mask_bits.specs.Laws.Runs.{RunsExist, RunsAreUnique, RunsAreRanges, RunsAreTheList};
 ghost use Rattle.mask_bits.specs.RunScan.{runs};
 ghost use Rattle.mask_bits.specs.Runs.{AreRuns};
 
@@ -28,20 +28,4 @@ pub fn runs_are_ranges()
 pub fn runs_are_the_list(ranges: &[(usize, usize)])
     ensures only { RunsAreTheList }
     ensures given { (m : List Bool) → (ranges.now ≡ runs m) ↔ AreRuns m ranges.now }
-{}
-
-/// An all-true list that isn't empty is one run, and an all-false one has none.
-#[tactic(auto, using(crate::proofs::Lists::Runs::RunListLemmas::run_of_all_true, crate::proofs::Lists::Runs::RunListLemmas::runs_of_all_false))]
-pub fn runs_of_one_value()
-    ensures whole { RunOfAllTrue }
-    ensures none { RunsOfAllFalse }
-{}
-
-/// The ranges of a list of one value, which are its runs: one of an all-true list that isn't empty,
-/// and none of an all-false one.
-pub fn ranges_of_one_value()
-    ensures one_range { AllTrueIsOneRange }
-    ensures one_run { AllTrueIsOneRun }
-    ensures no_range { AllFalseHasNoRange }
-    ensures no_run { AllFalseHasNoRun }
 {}

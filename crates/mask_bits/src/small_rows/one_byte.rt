@@ -1,13 +1,14 @@
 //! Rows of one byte: a vector has eight of them as its lanes, and the places of a byte's set bits say which lanes
 //! come first.
 
-ghost use Rattle.std.specs.Prelude.{◌≡◌, ◌+◌, ◌≤◌, ◌++◌, count_ones, length, take};
+ghost use Rattle.std.specs.Prelude.{◌≡◌, count_ones, length, take};
 ghost use Rattle.mask_bits.specs.Positions.{chosen};
 ghost use Rattle.mask_bits.specs.Words.{word_bits};
 
 use crate::byte_places::places_of;
 use crate::room::Room;
 use crate::small_rows::{ByTable, MoveRows};
+use crate::word_items::push_eight;
 use std::simd::prelude::*;
 
 impl MoveRows<u8> for ByTable {
@@ -16,18 +17,6 @@ impl MoveRows<u8> for ByTable {
         let before = out.count();
         push_eight(out, &rows_of_byte(rows, byte));
         out.cut(before + byte.count_ones() as usize);
-    }
-}
-
-// Puts eight bytes.
-#[inline(always)]
-fn push_eight<R: Room<u8>>(out: &mut R, bytes: &[u8; 8])
-    requires room { length (R.items out.old) + 8 ≤ R.capacity (R.kept out.old) }
-    ensures items { R.items out.new ≡ R.items out.old ++ bytes.now }
-    ensures kept { R.kept out.new ≡ R.kept out.old }
-{
-    for k in 0..8 {
-        out.put(bytes[k]);
     }
 }
 

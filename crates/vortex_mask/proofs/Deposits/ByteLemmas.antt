@@ -1,11 +1,7 @@
 -- The bytes of a word through each operation on it.
-use Rattle.std.proofs.lemmas.Grind.{common_steps}
-use Rattle.std.proofs.Common.{◌≡◌, ℕ, zero, suc, ◌+◌, ◌-◌, ◌*◌, ◌/◌, ◌%◌, ◌^◌, ◌<◌, ◌≤◌, sym, ap, ◌∙◌, arith}
-use Rattle.std.specs.Int.{bit_at}
-use Rattle.std.proofs.lemmas.Nat.{shr-shr}
+use Rattle.vortex_mask.proofs.Common.{common_steps, ◌≡◌, ℕ, zero, suc, ◌+◌, ◌-◌, ◌*◌, ◌/◌, ◌%◌, ◌^◌, ◌<◌, ◌≤◌, sym, ap, ◌∙◌, arith, bit_at, shr-shr, byte_at}
 use lib.Pow.{field, mod-mod-pow}
 use Rattle.mask_bits.proofs.Lists.Words.WideLaneLemmas.{low_split}
-use Rattle.vortex_mask.specs.Bytes.{byte_at}
 
 pub byte_at-lt : (w j : ℕ) → byte_at w j < 256
 unfolding byte_at

@@ -1,22 +1,13 @@
 -- Vectors of the bytes of two words, lane by lane.
-use Rattle.std.proofs.lemmas.Grind.{common_steps}
-use Rattle.std.proofs.Common.{◌≡◌, ℕ, zero, suc, ◌+◌, ◌-◌, ◌*◌, ◌/◌, ◌%◌, ◌^◌, ◌<◌, ◌≤◌, ◌⊎◌, inl, inr, List, [], ◌∷◌, length, get_or, refl, sym, ap, ap₂, subst, ◌∙◌, arith, w8, bit_and, Fits, count_ones, pow-add, pow-suc, map, replicate}
-use Rattle.std.specs.Simd.Lanes.{zip2, Each1, number_l, digits_l, chunk}
-use Rattle.std.proofs.lemmas.Simd.{swz_l, Each1-from_get_or, Each1-get_or, Each1-chunk, get_or-chunk, get_or_wider, get_or_narrower}
-use Rattle.std.proofs.lemmas.Nat.{shr-shr, shl-shr, and_mask, ones-le}
-use Rattle.std.proofs.lemmas.Bool.{cases_lt}
-use Rattle.std.proofs.Math.Nat.{zero-div}
+use Rattle.vortex_mask.proofs.Common.{common_steps, ◌≡◌, ℕ, zero, suc, ◌+◌, ◌-◌, ◌*◌, ◌/◌, ◌%◌, ◌^◌, ◌<◌, ◌≤◌, ◌⊎◌, inl, inr, List, [], ◌∷◌, length, get_or, refl, sym, ap, ap₂, subst, ◌∙◌, arith, w8, bit_and, Fits, count_ones, pow-add, pow-suc, map, replicate, zip2, Each1, number_l, digits_l, chunk, swz_l, Each1-from_get_or, Each1-get_or, Each1-chunk, get_or-chunk, get_or_wider, get_or_narrower, shr-shr, shl-shr, and_mask, ones-le, cases_lt, zero-div, AreLanes, byte_at, EachLane, byte_of_two, landed_in, Deposits}
 use lib.Pow.{field, mod-mod-pow}
-use Rattle.mask_bits.specs.Lanes.{AreLanes}
-use Rattle.vortex_mask.specs.Bytes.{byte_at, EachLane, byte_of_two, landed_in}
-use Rattle.vortex_mask.proofs.Deposits.ByteCountLemmas.{summed, ones_below-byte, Deposits-from_bytes}
+use Rattle.vortex_mask.proofs.Deposits.ByteCountLemmas.{ones_below-byte, Deposits-from_bytes}
 use Rattle.vortex_mask.proofs.Deposits.ByteLemmas.{byte_at-lt, byte_at-zero, byte_at-suc}
 use Rattle.mask_bits.proofs.Lists.Words.TableLemmas.{same_below}
 use Rattle.vortex_mask.proofs.Deposits.NetworkLemmas.{deposit_alike, landed_in-lt}
 use Rattle.mask_bits.proofs.Lists.Words.LaneLemmas.{AreLanes-itself, AreLanes-map, AreLanes-swz_l, AreLanes-zip2, AreLanes-splat, AreLanes-same}
 use Rattle.vortex_mask.proofs.Deposits.DepositLemmas.{deposit}
 use Rattle.vortex_mask.proofs.Deposits.SetPlaceLemmas.{ones_below, ones_below-le}
-use Rattle.vortex_mask.specs.Deposit.{Deposits}
 
 pub EachLane-fits : (v : List ℕ) → length v ≡ 16 → Each1 (Fits w8) v → EachLane (λ j. get_or v j 0 < 256)
 EachLane-fits v long fits = λ j l. (Each1-get_or (Fits w8) v j 0 (omega arith) fits).fits
@@ -106,31 +97,12 @@ module _ (s b n low high : ℕ) (first : low ≡ byte_at s (b / 8)) (next : b / 
 
 -- ---- the counts below each byte, as sums moved up
 
--- over one lower byte, over two, over four and over all
-abbrev pub summed_up : ℕ → ℕ
-summed_up x =
-    let one = x * 2 ^ 8 % 2 ^ 64 in
-    let two = (one + one * 2 ^ 8 % 2 ^ 64) % 2 ^ 64 in
-    let four = (two + two * 2 ^ 16 % 2 ^ 64) % 2 ^ 64 in
-    (four + four * 2 ^ 32 % 2 ^ 64) % 2 ^ 64
-
-summed_up-is : (x : ℕ) → summed_up x ≡ summed x
-summed_up-is x = omega arith
-
 -- the same of both words
 abbrev pub moved : ℕ → List ℕ → List ℕ
 moved n xs = zip2 (λ a b. a * 2 ^ b % 2 ^ 64) xs (n ∷ n ∷ [])
 
 abbrev pub added : ℕ → List ℕ → List ℕ
 added n xs = zip2 (λ a b. (a + b) % 2 ^ 64) xs (moved n xs)
-
-pub sums_at : (xs : List ℕ) → length xs ≡ 2 → (w : ℕ) → w < 2 → get_or (added 32 (added 16 (added 8 (moved 8 xs)))) w 0 ≡ summed (get_or xs w 0)
-sums_at [] long w h = absurd (omega arith)
-sums_at (x ∷ []) long w h = absurd (omega arith)
-sums_at (x ∷ y ∷ []) long zero h = summed_up-is x
-sums_at (x ∷ y ∷ []) long (suc zero) h = summed_up-is y
-sums_at (x ∷ y ∷ []) long (suc (suc w)) h = absurd (omega arith)
-sums_at (x ∷ y ∷ z ∷ zs) long w h = absurd (omega arith)
 
 -- ---- bytes that fit
 

@@ -1,11 +1,7 @@
 -- The last byte of a word that is at most a number, by the top bits of a difference.
-use Rattle.std.proofs.lemmas.Grind.{common_steps}
-use Rattle.std.proofs.Common.{◌≡◌, ℕ, zero, suc, ◌+◌, ◌-◌, ◌*◌, ◌/◌, ◌%◌, ◌^◌, ◌<◌, ◌≤◌, ap, ap₂, ◌∙◌, sym, arith, bit_and, eq-zero-or-pos, lt_of_le_of_lt}
-use Rattle.std.specs.Int.{bit_at, w64, leading_zeros}
-use Rattle.std.proofs.lemmas.Nat.{and_le_r}
-use Rattle.std.proofs.lemmas.Nat.Bits.{bit_at_and}
+use Rattle.vortex_mask.proofs.Common.{common_steps, ◌≡◌, ℕ, zero, suc, ◌+◌, ◌-◌, ◌*◌, ◌/◌, ◌%◌, ◌^◌, ◌<◌, ◌≤◌, ap, ap₂, ◌∙◌, sym, arith, bit_and, eq-zero-or-pos, lt_of_le_of_lt, bit_at, leading_zeros, and_le_r, bit_at_and, byte_at}
+use Rattle.std.specs.Int.{w64}
 use Rattle.mask_bits.proofs.Lists.Places.SelectLemmas.{high}
-use Rattle.vortex_mask.specs.Bytes.{byte_at}
 use Rattle.vortex_mask.proofs.Deposits.ByteLemmas.{byte_at-zero, byte_at-suc, byte_at-lt, bit_at_byte}
 use Rattle.mask_bits.proofs.Lists.Words.TableLemmas.{agree, same_below}
 

@@ -1,15 +1,8 @@
 -- The two nibbles of a byte: operations on each, tables computed at each of the sixteen, and a byte's deposit by theirs.
-use Rattle.std.proofs.lemmas.Grind.{common_steps}
-use Rattle.std.proofs.Common.{◌≡◌, ℕ, zero, suc, ◌+◌, ◌-◌, ◌*◌, ◌/◌, ◌%◌, ◌^◌, ◌<◌, ◌≤◌, ◌⊎◌, inl, inr, T, ltb, ltb→lt, ap, ap₂, ◌∙◌, sym, arith, bit_and, bit_or, count_ones, add_comm, min, max, mod-lt, lt_of_le_of_lt, pow-suc, List, [], ◌∷◌, length, get_or}
-use Rattle.std.specs.Int.{bit_at}
-use Rattle.std.proofs.lemmas.Nat.{pow_pos, shr-shr, shl-shr, and_mask, and_le_l, ones-le}
-use Rattle.std.proofs.lemmas.Nat.Bits.{bit_at_and, bit_at_or, bit_at_cat_low, bit_at_cat_high, same_from_bits}
-use Rattle.std.proofs.lemmas.Bool.{cases_lt}
+use Rattle.vortex_mask.proofs.Common.{common_steps, ◌≡◌, ℕ, zero, suc, ◌+◌, ◌-◌, ◌*◌, ◌/◌, ◌%◌, ◌^◌, ◌<◌, ◌≤◌, ◌⊎◌, inl, inr, T, ltb, ap, ap₂, ◌∙◌, sym, arith, bit_and, bit_or, count_ones, add_comm, min, max, mod-lt, lt_of_le_of_lt, pow-suc, List, [], ◌∷◌, get_or, bit_at, pow_pos, shr-shr, shl-shr, and_mask, and_le_l, ones-le, bit_at_and, bit_at_or, bit_at_cat_low, bit_at_cat_high, same_from_bits, cases_lt, field, mod-mod-pow, split, clear_below, place_after, packed_after, landed_in, stays_in, nibble_moved_up}
 use lib.Bits.{and_zero_r}
-use Rattle.std.proofs.Math.Pow.{field, mod-mod-pow, split}
-use Rattle.vortex_mask.specs.Bytes.{clear_below, place_after, packed_after, landed_in, stays_in, nibble_moved_up, AreNibbles}
 use Rattle.vortex_mask.proofs.Deposits.DepositLemmas.{deposit, deposit-odd, deposit-even}
-use Rattle.mask_bits.proofs.Lists.Words.TableLemmas.{all_below, every_below, same_below, agree, less_below}
+use Rattle.mask_bits.proofs.Lists.Words.TableLemmas.{all_below, same_below, agree, less_below}
 use Rattle.vortex_mask.proofs.Deposits.NetworkLemmas.{ones_among, ones_among-is, deposit_alike}
 use Rattle.vortex_mask.proofs.Deposits.SetPlaceLemmas.{parity}
 
@@ -124,9 +117,6 @@ by_one_at = same_below 16 (λ m. get_or by_one m 0) (landed_in 0) tt
 pub gaps_at : (m : ℕ) → m < 16 → get_or gaps m 0 ≡ 2 ^ (4 - count_ones m)
 unfolding ones_among
 gaps_at m h = same_below 16 (λ x. get_or gaps x 0) (λ x. 2 ^ (4 - ones_among 4 x)) tt m h ∙ ap (λ n. 2 ^ (4 - n)) (ones_among-is 4 m h)
-
-pub table_fits : (table : List ℕ) → length table ≡ 16 → T (all_below (λ m. ltb (get_or table m 0) 16) 16) → AreNibbles table
-table_fits table long fits = record { lanes = long; small = λ m h. ltb→lt _ _ (every_below (λ x. ltb (get_or table x 0) 16) 16 fits m h) }
 
 -- ---- both nibbles of a byte at once
 

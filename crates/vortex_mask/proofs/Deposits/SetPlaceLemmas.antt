@@ -1,11 +1,8 @@
 -- The set places of a number: how many are below a place, the lowest one, and the number without it.
-use Rattle.std.proofs.lemmas.Grind.{common_steps}
-use Rattle.std.proofs.Common.{◌≡◌, ℕ, zero, suc, ◌+◌, ◌-◌, ◌*◌, ◌/◌, ◌%◌, ◌^◌, ◌<◌, ◌≤◌, ◌⊎◌, inl, inr, sym, ap, ◌∙◌, arith, pow-suc, bit_and, count_ones, mod-lt}
-use Rattle.std.proofs.lemmas.Nat.{pow_pos, and_comm, and-not, ones-le}
+use Rattle.vortex_mask.proofs.Common.{common_steps, ◌≡◌, ℕ, zero, suc, ◌+◌, ◌-◌, ◌*◌, ◌/◌, ◌%◌, ◌^◌, ◌<◌, ◌≤◌, ◌⊎◌, inl, inr, sym, ap, ◌∙◌, arith, pow-suc, bit_and, count_ones, mod-lt, pow_pos, and_comm, and-not, ones-le, cases_lt}
 use lib.Bits.{and_step, and_self}
 use lib.Count.{ones_step}
 use lib.Arith.{mod-mul}
-use Rattle.std.proofs.lemmas.Bool.{cases_lt}
 
 -- how many of the places below i are set
 abbrev pub ones_below : ℕ → ℕ → ℕ

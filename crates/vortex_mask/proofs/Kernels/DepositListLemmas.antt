@@ -1,16 +1,8 @@
 -- What deposits and selections are for the lists of the words.
-use Rattle.std.proofs.Common.{◌≡◌, ℕ, zero, suc, ◌+◌, ◌<◌, ◌≤◌, ◌^◌, ◌↔◌, Bool, count_ones, true, false, ◌&&◌, nat_eq, List, [], ◌∷◌, length, get_or, take, refl, sym, ap, ◌∙◌, arith}
-use Rattle.std.specs.Int.{bit_at}
-use Rattle.std.proofs.lemmas.List.{ext_get_or, get_or-take, length-take}
-use Rattle.std.proofs.lemmas.Bool.Decides.{nat_tests}
-use Rattle.std.proofs.lemmas.Nat.{ones-le}
-use Rattle.std.proofs.lemmas.Nat.Bits.{bit_at-lt}
-use Rattle.mask_bits.specs.Positions.{indices_from, positions, count, count_below, rank_intersection}
-use Rattle.mask_bits.specs.Words.{word_bits}
+use Rattle.vortex_mask.proofs.Common.{◌≡◌, ℕ, zero, suc, ◌+◌, ◌<◌, ◌≤◌, ◌^◌, ◌↔◌, Bool, count_ones, true, false, ◌&&◌, nat_eq, List, [], ◌∷◌, length, get_or, take, refl, sym, ap, ◌∙◌, arith, bit_at, ext_get_or, get_or-take, length-take, nat_tests, ones-le, bit_at-lt, indices_from, positions, count, count_below, rank_intersection, word_bits, Deposits, selected}
 use Rattle.mask_bits.proofs.Lists.LawLemmas.{rank_intersection_value, length-rank_intersection}
 use Rattle.mask_bits.proofs.Lists.Places.PlaceLemmas.{count-le-length, length-indices_from, positions-within, trues, count-trues}
 use Rattle.mask_bits.proofs.Lists.Words.WordLemmas.{count-word_bits, length-word_bits, get_or-word_bits, count_below-word_bits}
-use Rattle.vortex_mask.specs.Deposit.{Deposits, selected}
 use Rattle.vortex_mask.proofs.Deposits.SetPlaceLemmas.{ones_below}
 
 -- ---- a true value and its number

@@ -1,27 +1,13 @@
 -- The kernel that goes by ranks: words that are read in turn, the indices found in them, and the run of calls that gave the ranks.
-use Rattle.std.proofs.lemmas.Grind.{common_steps}
-use Rattle.std.proofs.Common.{◌≡◌, ℕ, ◌+◌, ◌-◌, ◌*◌, ◌/◌, ◌^◌, ◌<◌, ◌≤◌, ◌%◌, Bool, List, [], ◌∷◌, ◌++◌, length, take, get_or, sym, subst, ap, ap₂, ◌∙◌, arith, count_ones, slice_get}
-use Rattle.std.proofs.Math.Seq.{get_or-append_seam}
-use Rattle.std.proofs.iter.runs.Made.{run_of_turn, run_of_exit, took}
-use Rattle.std.proofs.lemmas.List.{take_all, map-append, length-append, get_or_append_left}
-use Rattle.std.proofs.lemmas.List.Sums.{sum_by_push}
-use Rattle.std.proofs.lemmas.Option.{slice_get-get_or, get_or_from_slice_get}
-use Rattle.std.specs.Iterator.{Yields, Drains}
-use Rattle.std.specs.Iterator.Runs.{EachRunFrom, WholeRun}
-use Rattle.std.specs.List.{All, sum_by}
-use Rattle.std.specs.List.Sorted.{IsStrictlyIncreasing}
+use Rattle.vortex_mask.proofs.Common.{common_steps, ◌≡◌, ℕ, ◌+◌, ◌-◌, ◌*◌, ◌/◌, ◌^◌, ◌<◌, ◌≤◌, ◌%◌, Bool, List, [], ◌∷◌, ◌++◌, length, take, get_or, sym, subst, ap, ap₂, ◌∙◌, arith, count_ones, slice_get, get_or-append_seam, run_of_turn, run_of_exit, took, take_all, map-append, length-append, get_or_append_left, sum_by_push, slice_get-get_or, get_or_from_slice_get, Yields, Drains, EachRunFrom, WholeRun, sum_by, IsStrictlyIncreasing, positions, count, at_indices, word_bits, word_part, padded_part, padded_remainder, selected, AreRanks, HasRead, StepCounts}
+use Rattle.std.specs.List.{All}
 use Rattle.std.specs.declared.option.Option.{Option}
 use Rattle.std.specs.declared.option.Option.TheVariants.{Some, None}
-use Rattle.mask_bits.specs.Positions.{positions, count, true_at, at_indices}
-use Rattle.mask_bits.specs.Words.{word_bits, word_part, padded_part, padded_remainder}
-use Rattle.mask_bits.proofs.Lists.Places.AscendingLemmas.{positions-true_at, positions-ascending}
-use Rattle.mask_bits.proofs.Lists.Places.PlaceLemmas.{count-le-length, positions-within}
-use Rattle.mask_bits.proofs.Lists.RankLemmas.{length-true_at, All-at_indices}
+use Rattle.mask_bits.proofs.Lists.Places.AscendingLemmas.{positions-ascending}
+use Rattle.mask_bits.proofs.Lists.Places.PlaceLemmas.{positions-within}
+use Rattle.mask_bits.proofs.Lists.RankLemmas.{All-at_indices}
 use Rattle.mask_bits.proofs.Lists.Places.SelectLemmas.{count-word_more, place_in_word}
 use Rattle.mask_bits.proofs.Lists.Words.WordLemmas.{count-word_bits}
-use Rattle.vortex_mask.specs.Deposit.{selected}
-use Rattle.vortex_mask.specs.Ranks.{AreRanks, HasRead}
-use Rattle.vortex_mask.specs.Steps.{StepCounts}
 use Rattle.vortex_mask.proofs.Lists.PlaceListLemmas.{at_indices-ascending}
 use Rattle.vortex_mask.proofs.Kernels.WordKernelLemmas.{word-started}
 
@@ -48,10 +34,6 @@ place-found m n w before rank p read fits reached inside is =
     (rw (← shows) (slice_get-get_or (positions (word_bits w)) r 0 (omega (arith, count-word_bits w fits)) ∙ ap Some (sym is)))
 
 -- ---- ranks as an iterator gives them
-
--- no more ascending numbers than the number that they are all below
-pub ascending-few : (top : ℕ) (ps : List ℕ) → IsStrictlyIncreasing ps → All (λ p. p < top) ps → length ps ≤ top
-ascending-few top ps ascending within = grind (arith, common_steps, positions-true_at top ps ascending within, count-le-length (true_at top ps), length-true_at top ps)
 
 -- what is not above the last is not above the next
 pub not-above-next : (xs : List ℕ) (x n : ℕ) → IsStrictlyIncreasing (xs ++ x ∷ []) → n ≤ get_or xs (length xs - 1) 0 → n ≤ x
@@ -103,11 +85,6 @@ found-more m ranks x words word before more next passed indices new p steps tick
           ∙ sym (map-append (λ k. get_or (positions m) k 0) ranks (x ∷ []));
       counted = rw (counted, so_far.counted, longer, spots);
     }
-
--- the steps, once all n ranks have their indices
-pub found-steps : (m : List Bool) (ranks : List ℕ) (words word before : ℕ) (indices : List ℕ) (steps : StepCounts) (n : ℕ) → AreFound m ranks words word before indices steps → length ranks ≡ n
-    → steps ≡ record { deposits = 0; words = steps.words; selections = n; offered = 0; placed = 0; spots = sum_by (λ p. p % 64) indices }
-found-steps m ranks words word before indices steps n all len = rw (all.counted, len)
 
 -- the indices of all ranks ascend within the list
 module _ {S : Type 0} (steps : S → Option ℕ → S → Type 0) (s : S) (m : List Bool) (n : ℕ) (indices : List ℕ) (ranks : EachRunFrom steps s (AreRanks (count m) n)) (run : WholeRun steps s (λ p. indices ≡ at_indices (positions m) p.items)) where

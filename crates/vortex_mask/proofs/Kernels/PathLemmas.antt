@@ -1,14 +1,8 @@
 -- Two masks of mixed values, narrowed on their path.
 use Rattle.mask_bits.proofs.Lists.Places.PlaceLemmas.{positions-within}
 use Rattle.mask_bits.proofs.Lists.Places.AscendingLemmas.{positions-ascending}
-use Rattle.std.proofs.Common.{◌≡◌, ℕ, Bool, List, length, Option, Result, Ok, Err, ap, ◌∙◌}
-use Rattle.std.proofs.lemmas.Iterator.{YieldsList}
-use Rattle.std.specs.Iterator.Runs.{WholeRun}
-use Rattle.std.specs.Result.{IfOk}
-use Rattle.mask_bits.specs.Positions.{positions, count, at_indices, rank_intersection}
+use Rattle.vortex_mask.proofs.Common.{◌≡◌, ℕ, Bool, List, length, Option, Result, Ok, Err, ap, ◌∙◌, YieldsList, WholeRun, IfOk, positions, count, at_indices, rank_intersection, truth, StepCounts}
 use Rattle.mask_bits.proofs.Lists.LawLemmas.{rank_intersection_is_the_list}
-use Rattle.vortex_mask.specs.Mask.{truth}
-use Rattle.vortex_mask.specs.Steps.{StepCounts}
 use Rattle.vortex_mask.specs.declared.mask.Mask.{Mask}
 use Rattle.vortex_mask.proofs.Kernels.RankRunLemmas.{taken_whole}
 

@@ -1,17 +1,7 @@
 -- Ascending ranks as the bits of a block of bytes.
-use Rattle.std.proofs.Common.{◌≡◌, ℕ, ◌+◌, ◌-◌, ◌*◌, ◌/◌, ◌%◌, ◌^◌, ◌<◌, ◌≤◌, ◌||◌, Bool, false, nat_eq, List, length, get_or, set, replicate, take, drop, refl, sym, ap, ◌∙◌, arith}
+use Rattle.vortex_mask.proofs.Common.{◌≡◌, ℕ, ◌+◌, ◌-◌, ◌*◌, ◌/◌, ◌%◌, ◌^◌, ◌<◌, ◌≤◌, ◌||◌, Bool, false, nat_eq, List, length, get_or, set, replicate, take, drop, refl, sym, ap, ◌∙◌, arith, list_any, or-false, cases_eq, eq-eqb, ne_eqb, get_or-set_at, common_steps, get_or-drop, get_or-replicate, get_or_past, get_or-set_other, length-drop, length-replicate, take-append-drop, list_any-append, bit_at-zero, bit_at_set_same, bit_at_set_other, backing_bit, word_bits, window, AreBitsFrom, HoldsRanks, is_listed}
 use Rattle.std.specs.Int.{w8}
 use Rattle.std.specs.Int.RustNames.{bit_or}
-use Rattle.std.specs.List.{list_any}
-use Rattle.std.proofs.Math.Bool.{or-false}
-use Rattle.std.proofs.lemmas.Bool.{cases_eq, eq-eqb, ne_eqb}
-use Rattle.std.proofs.lemmas.Grind.{get_or-set_at, common_steps}
-use Rattle.std.proofs.lemmas.List.{get_or-drop, get_or-replicate, get_or_past, get_or-set_other, length-drop, length-replicate, take-append-drop}
-use Rattle.std.proofs.lemmas.List.Folds.{list_any-append}
-use Rattle.std.proofs.lemmas.Nat.Bits.{bit_at-zero, bit_at_set_same, bit_at_set_other}
-use Rattle.mask_bits.specs.Buffer.{backing_bit}
-use Rattle.mask_bits.specs.Words.{word_bits, window}
-use Rattle.vortex_mask.specs.Ranks.{AreBitsFrom, HoldsRanks, is_listed}
 use Rattle.vortex_mask.proofs.Kernels.WordKernelLemmas.{bit-read}
 use Rattle.vortex_mask.proofs.Lists.PlaceListLemmas.{none-is}
 

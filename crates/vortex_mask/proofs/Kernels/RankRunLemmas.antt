@@ -1,16 +1,7 @@
 -- An iterator that yields ascending numbers, as it is handed to the kernel that goes by them.
-use Rattle.std.proofs.lemmas.Grind.{common_steps}
-use Rattle.std.proofs.Common.{◌≡◌, ℕ, ◌<◌, true, List, length, take, Option, None, refl, sym, subst, ap, ◌∙◌, arith}
-use Rattle.std.proofs.lemmas.Iterator.{YieldsList}
-use Rattle.std.proofs.lemmas.Iterator.Consumers.{YieldsList-so_far, YieldsList-end}
-use Rattle.std.proofs.lemmas.List.{map-id}
-use Rattle.std.proofs.lemmas.List.Elements.{All-take}
-use Rattle.std.specs.Iterator.{Yields}
-use Rattle.std.specs.Iterator.Runs.{Run, EachRunFrom, WholeRun, YieldsRun}
+use Rattle.vortex_mask.proofs.Common.{common_steps, ◌≡◌, ℕ, ◌<◌, true, List, length, take, Option, None, refl, sym, subst, ap, ◌∙◌, arith, YieldsList, YieldsList-so_far, YieldsList-end, map-id, All-take, Yields, Run, EachRunFrom, WholeRun, IsStrictlyIncreasing, at_indices, AreRanks}
+use Rattle.std.specs.Iterator.Runs.{YieldsRun}
 use Rattle.std.specs.List.{All}
-use Rattle.std.specs.List.Sorted.{IsStrictlyIncreasing}
-use Rattle.mask_bits.specs.Positions.{at_indices}
-use Rattle.vortex_mask.specs.Ranks.{AreRanks}
 use Rattle.vortex_mask.proofs.Lists.PlaceListLemmas.{ascending-take}
 
 module _ {S : Type 0} (steps : S → Option ℕ → S → Type 0) (s : S) (all : List ℕ) (yields : YieldsList steps (λ x. x) s all) where

@@ -1,19 +1,10 @@
 -- Ascending ranks as the rank bits of a word.
-use Rattle.std.proofs.lemmas.Grind.{common_steps}
-use Rattle.std.proofs.Common.{◌≡◌, ℕ, ◌+◌, ◌-◌, ◌*◌, ◌<◌, ◌≤◌, ◌^◌, inl, inr, List, length, get_or, refl, sym, ap, subst, ◌∙◌, arith, ◌%◌}
-use Rattle.std.proofs.Math.Bool.{or-false}
+use Rattle.vortex_mask.proofs.Common.{common_steps, ◌≡◌, ℕ, ◌+◌, ◌-◌, ◌*◌, ◌<◌, ◌≤◌, ◌^◌, inl, inr, List, length, get_or, refl, sym, ap, subst, ◌∙◌, arith, ◌%◌, or-false, IsStrictlyIncreasing, cases_lt, take_more, take-append-drop, get_or-take, get_or-drop, length-take, length-drop, list_any-append, bit_at-zero, one_shl, AreBitsFrom, AreSplit, IsGathered, is_listed}
 use lib.Bits.{or_zero_r}
 use Rattle.std.specs.Int.RustNames.{bit_or}
-use Rattle.std.specs.List.Sorted.{IsStrictlyIncreasing}
-use Rattle.std.proofs.lemmas.Bool.{cases_lt}
-use Rattle.std.proofs.lemmas.List.{take_more, take-append-drop, get_or-take, get_or-drop, length-take, length-drop}
-use Rattle.std.proofs.lemmas.List.Folds.{list_any-append}
-use Rattle.std.proofs.lemmas.Nat.Bits.{bit_at-zero}
-use Rattle.std.proofs.lemmas.Nat.{one_shl}
 use Rattle.vortex_mask.proofs.Lists.PlaceListLemmas.{bit_of_pow, none-is, rises-to}
 use Rattle.mask_bits.proofs.Lists.Words.ShiftLemmas.{get_or-word_bits_or}
 use Rattle.mask_bits.proofs.Lists.Words.WordLemmas.{get_or-word_bits}
-use Rattle.vortex_mask.specs.Ranks.{AreBitsFrom, AreSplit, IsGathered, is_listed}
 
 -- ---- the walk
 

@@ -1,29 +1,17 @@
 -- A rank intersection word by word: each started word of the mask takes a deposit of rank bits.
-use Rattle.std.proofs.lemmas.Grind.{common_steps}
-use Rattle.std.proofs.Common.{◌≡◌, ℕ, ◌+◌, ◌*◌, ◌-◌, ◌/◌, ◌<◌, ◌≤◌, ◌⊎◌, Bool, false, List, length, get_or, take, drop, refl, sym, ap, subst, ◌∙◌, inl, inr, arith}
-use Rattle.std.proofs.Math.Seq.{take-add}
-use Rattle.std.proofs.lemmas.Bool.{cases_lt}
-use Rattle.std.proofs.lemmas.List.{ext_get_or, take_all}
-use Rattle.std.proofs.lemmas.List.FromFn.{get_or-map-range_with_len, length-map-range_with_len}
-use Rattle.mask_bits.specs.Buffer.{Packed, backing_bit, values}
-use Rattle.mask_bits.specs.Positions.{at_indices, count, count_below, positions, rank_intersection, true_at}
-use Rattle.mask_bits.specs.Words.{word_bits, word_part, window, padded_part, padded_remainder, started_words}
+use Rattle.vortex_mask.proofs.Common.{common_steps, ◌≡◌, ℕ, ◌+◌, ◌*◌, ◌-◌, ◌/◌, ◌<◌, ◌≤◌, ◌⊎◌, Bool, false, List, length, get_or, take, drop, sym, ap, subst, ◌∙◌, inl, inr, arith, take-add, cases_lt, ext_get_or, take_all, get_or-map-range_with_len, length-map-range_with_len, Packed, backing_bit, values, at_indices, count, count_below, positions, rank_intersection, true_at, word_bits, word_part, window, padded_part, padded_remainder, started_words, IsStrictlyIncreasing, Deposits, AreBitsFrom, first_bits, is_listed, narrowed_by, IsDeposited, StepCounts, word_steps}
 use Rattle.mask_bits.proofs.Lists.Words.BackingBitLemmas.{length-bitmap, get_or-bitmap}
 use Rattle.mask_bits.proofs.Lists.CountLemmas.{count-append}
 use Rattle.mask_bits.proofs.Lists.Words.FrontLemmas.{get_or-window}
 use Rattle.mask_bits.proofs.Lists.BooleanValueLemmas.{value_of_true_at}
 use Rattle.mask_bits.proofs.Lists.RankLemmas.{length-true_at}
 use Rattle.std.specs.List.{All}
-use Rattle.std.specs.List.Sorted.{IsStrictlyIncreasing}
 use Rattle.vortex_mask.proofs.Lists.PlaceListLemmas.{narrowed_at}
 use Rattle.mask_bits.proofs.Lists.LawLemmas.{length-rank_intersection, rank_intersection_value}
 use Rattle.mask_bits.proofs.Lists.Words.PaddedLemmas.{get_or-padded_part, padded_part_from_values, padded_part-whole, padded_part-remainder}
 use Rattle.mask_bits.proofs.Lists.Places.PlaceLemmas.{count-trues}
 use Rattle.mask_bits.proofs.Lists.Places.SelectLemmas.{count-word_more}
 use Rattle.mask_bits.proofs.Lists.Words.WordLemmas.{length-word_bits}
-use Rattle.vortex_mask.specs.Deposit.{Deposits}
-use Rattle.vortex_mask.specs.Ranks.{AreBitsFrom, first_bits, is_listed, narrowed_by}
-use Rattle.vortex_mask.specs.Steps.{IsDeposited, StepCounts, no_steps, word_steps}
 use Rattle.vortex_mask.proofs.Lists.StartedWordLemmas.{IsAt, list-from_bits, part-same, place-after_within, place-next, places-same}
 use Rattle.vortex_mask.proofs.Kernels.DepositListLemmas.{deposited-value, and_where, trues-take}
 
@@ -108,10 +96,6 @@ two_more before ones w ones₂ w₂ read_two deposited = grind (arith, common_st
 
 pub deposited-at : {a r : List Bool} {i j at to : ℕ} {out : List ℕ} {s t : StepCounts} → i ≡ j → at ≡ to → s ≡ t → IsDeposited a r i at out s → IsDeposited a r j to out t
 deposited-at {a} {r} {i} {j} {at} {to} {out} {s} {t} e f h is = subst (λ n. IsDeposited a r n to out t) e (subst (λ n. IsDeposited a r i n out t) f (subst (IsDeposited a r i at out) h is))
-
--- before the first word
-pub deposited-none : (a r : List Bool) (out : List ℕ) → IsDeposited a r 0 0 out no_steps
-deposited-none a r out = record { place = grind arith; written = λ p h. grind arith; counted = refl }
 
 module _ (f : ℕ → Bool) (a : List Bool) where
   abbrev b : List Bool

@@ -1,10 +1,5 @@
 -- Started words of a list, and how many values are true before them and in them.
-use Rattle.std.proofs.Common.{◌≡◌, ℕ, suc, ◌+◌, ◌*◌, ◌<◌, ◌≤◌, Bool, false, List, [], ◌∷◌, length, get_or, take, drop, sym, ap, ◌∙◌, arith, ◌^◌}
-use Rattle.std.proofs.lemmas.Bool.{cases_lt}
-use Rattle.std.proofs.lemmas.List.{ext_get_or, get_or-take, get_or-drop, get_or_past, length-take}
-use Rattle.mask_bits.specs.Buffer.{Packed, backing_bit, values}
-use Rattle.mask_bits.specs.Positions.{count, count_below, indices_from}
-use Rattle.mask_bits.specs.Words.{word_bits, padded_part}
+use Rattle.vortex_mask.proofs.Common.{◌≡◌, ℕ, suc, ◌+◌, ◌*◌, ◌<◌, ◌≤◌, Bool, false, List, [], ◌∷◌, length, get_or, take, drop, sym, ap, ◌∙◌, arith, ◌^◌, cases_lt, ext_get_or, get_or-take, get_or-drop, get_or_past, length-take, Packed, backing_bit, values, count, count_below, indices_from, word_bits, padded_part}
 use Rattle.mask_bits.proofs.Lists.CountLemmas.{count_below-le}
 use Rattle.mask_bits.proofs.Lists.Places.PlaceLemmas.{count-le-length}
 use Rattle.mask_bits.proofs.Lists.Places.SelectLemmas.{count-word_more, no_index}

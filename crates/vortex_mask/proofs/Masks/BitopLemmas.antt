@@ -1,9 +1,5 @@
 -- Boolean calls where one list is of one value.
-use Rattle.std.proofs.Common.{◌≡◌, ℕ, ◌-◌, Bool, true, false, not, ◌&&◌, ◌||◌, List, length, refl, ◌∙◌, arith}
-use Rattle.std.specs.Prelude.{if◌then◌else◌}
-use Rattle.std.proofs.Math.Bool.{and-true, and-false, or-true, or-false}
-use Rattle.mask_bits.specs.Lists.{and_of, or_of, not_of, and_not_of}
-use Rattle.mask_bits.specs.Positions.{count, repeated}
+use Rattle.vortex_mask.proofs.Common.{◌≡◌, ℕ, ◌-◌, Bool, true, false, not, ◌&&◌, ◌||◌, List, length, refl, ◌∙◌, arith, if◌then◌else◌, and-true, and-false, or-true, or-false, and_of, or_of, not_of, and_not_of, count, repeated}
 use Rattle.mask_bits.proofs.Lists.BooleanLemmas.{combined_itself, length-combined, length-not_of, combined-left, combined-right, map-itself, map-one, not_of-repeated}
 use Rattle.mask_bits.proofs.Lists.BooleanValueLemmas.{count_of_complement}
 

@@ -1,20 +1,9 @@
 -- Lists one after another.
-use Rattle.std.proofs.lemmas.Grind.{common_steps}
-use Rattle.std.proofs.Common.{drop, map, get_or, ◌≡◌, ℕ, ◌+◌, ◌<◌, ◌≤◌, Bool, List, [], ◌∷◌, ◌++◌, length, true, suc, sym, inl, inr, arith}
-use Rattle.std.specs.Borrow.{Bor}
+use Rattle.vortex_mask.proofs.Common.{common_steps, drop, map, get_or, ◌≡◌, ℕ, ◌+◌, ◌<◌, ◌≤◌, Bool, List, [], ◌∷◌, ◌++◌, length, true, suc, sym, inl, inr, arith, Bor, cases_lt, length-flat_map, at_drop_more, length-append, All-nil, All-cons, All-append, sum_by-cons, map-map, concat, repeated, lists_of, total_len, AreAll, truth}
 use Rattle.std.specs.List.{All}
-use Rattle.std.proofs.lemmas.Bool.{cases_lt}
-use Rattle.std.proofs.lemmas.List.Concat.{length-flat_map}
-use Rattle.std.proofs.lemmas.List.{append_assoc, at_drop_more, length-append}
-use Rattle.std.proofs.lemmas.List.Elements.{All-nil, All-cons, All-append}
-use Rattle.std.proofs.lemmas.List.Sums.{sum_by-cons}
-use Rattle.std.proofs.lemmas.Simd.{map-map}
-use Rattle.mask_bits.specs.Lists.{concat}
-use Rattle.mask_bits.specs.Positions.{repeated}
+use Rattle.std.proofs.lemmas.List.{append_assoc}
 use Rattle.mask_bits.proofs.Lists.CountLemmas.{count-append, repeated_from_All}
 use Rattle.mask_bits.proofs.Lists.Places.PlaceLemmas.{count-le-length}
-use Rattle.vortex_mask.specs.Concat.{lists_of, total_len, AreAll}
-use Rattle.vortex_mask.specs.Mask.{truth}
 use Rattle.vortex_mask.specs.declared.mask.Mask.{Mask}
 
 pub length-concat : (ms : List (List Bool)) → length (concat ms) ≡ total_len ms

@@ -1,18 +1,8 @@
 -- The list that is false exactly at some indices, as they come one by one.
-use Rattle.std.proofs.Common.{◌≡◌, ℕ, ◌<◌, ◌≤◌, Bool, true, false, not, nat_eq, List, [], ◌∷◌, ◌++◌, length, get_or, set, Option, Some, ◌∙◌, arith}
-use Rattle.std.specs.Option.{option_or}
-use Rattle.std.specs.List.{list_any}
-use Rattle.std.proofs.lemmas.Bool.{cases_lt, cases_eq}
-use Rattle.std.proofs.lemmas.List.{same_lists, length-set, get_or-map, get_or-set_other}
-use Rattle.std.proofs.lemmas.Grind.{get_or-set_at, common_steps}
-use Rattle.std.proofs.lemmas.List.Folds.{list_any-append}
-use Rattle.std.proofs.lemmas.List.FromFn.{get_or-map-range_with_len}
-use Rattle.mask_bits.specs.Lists.{not_of}
-use Rattle.mask_bits.specs.Positions.{repeated, true_at}
+use Rattle.vortex_mask.proofs.Common.{◌≡◌, ℕ, ◌<◌, ◌≤◌, Bool, true, false, not, nat_eq, List, [], ◌∷◌, ◌++◌, length, get_or, set, Option, Some, ◌∙◌, arith, option_or, list_any, cases_lt, cases_eq, same_lists, length-set, get_or-map, get_or-set_other, get_or-set_at, common_steps, list_any-append, get_or-map-range_with_len, not_of, repeated, true_at, first_past}
 use Rattle.mask_bits.proofs.Lists.BooleanLemmas.{length-not_of}
 use Rattle.mask_bits.proofs.Lists.CountLemmas.{length-repeated, get_or-repeated}
 use Rattle.mask_bits.proofs.Lists.RankLemmas.{length-true_at}
-use Rattle.vortex_mask.specs.Faults.{first_past}
 use Rattle.vortex_mask.proofs.Masks.FaultLemmas.{first_past-within, first_past-more}
 
 -- the list that is false exactly at these indices

@@ -1,16 +1,6 @@
 -- The faults of a list of indices: how a loop finds them, and what holds where there is none.
-use Rattle.std.proofs.lemmas.Grind.{common_steps}
-use Rattle.std.proofs.Common.{◌≡◌, ℕ, zero, suc, ◌+◌, ◌<◌, ◌≤◌, Bool, true, false, nat_eq, nat_lt, nat_le, List, [], ◌∷◌, ◌++◌, length, get_or, drop, Option, Some, None, cond, refl, sym, ap, subst, ◌∙◌, ◌-◌, inl, inr, arith}
-use Rattle.std.specs.List.{All, list_any}
-use Rattle.std.specs.Option.{option_map, option_or}
-use Rattle.std.specs.List.Sorted.{IsStrictlyIncreasing}
-use Rattle.std.proofs.lemmas.Bool.{cases_lt}
-use Rattle.std.proofs.lemmas.Bool.Decides.{nat_tests}
-use Rattle.std.proofs.lemmas.List.{length-drop}
-use Rattle.std.proofs.lemmas.List.Elements.{All-nil, All-cons, All-head, All-tail, All-from_get_or}
-use Rattle.std.proofs.lemmas.List.Kept.{IsStrictlyIncreasing-filter, AllPairs-from_increasing}
-use Rattle.vortex_mask.specs.Laws.Masks.{NoIndexFault}
-use Rattle.vortex_mask.specs.Faults.{common, first_pair_from, first_past, index_fault, out_of_bounds}
+use Rattle.vortex_mask.proofs.Common.{common_steps, ◌≡◌, ℕ, zero, suc, ◌+◌, ◌<◌, ◌≤◌, Bool, true, false, nat_eq, nat_lt, nat_le, List, [], ◌∷◌, ◌++◌, length, get_or, drop, Option, Some, None, cond, refl, sym, ap, subst, ◌∙◌, ◌-◌, inl, inr, arith, ◌↔◌, list_any, option_map, option_or, IsStrictlyIncreasing, cases_lt, nat_tests, length-drop, All-nil, All-cons, All-head, All-tail, All-from_get_or, IsStrictlyIncreasing-filter, AllPairs-from_increasing, common, first_pair_from, first_past, index_fault, out_of_bounds}
+use Rattle.std.specs.List.{All}
 use Rattle.vortex_mask.specs.declared.mask.error.MaskError.TheVariants.{IndexOutOfBounds}
 
 -- ---- pairs of neighbors
@@ -87,7 +77,8 @@ faultless-by_last len xs ascending last =
       | inr past ↦ subst (λ (k : ℕ). get_or xs k 0 < len) (omega arith) (last (omega arith))
     ])))
 
-pub no_index_fault : NoIndexFault
+-- indices have no fault exactly if each is above the one before it and all are below the length
+pub no_index_fault : (len : ℕ) (xs : List ℕ) → (index_fault len xs ≡ None) ↔ (IsStrictlyIncreasing xs × All (λ i. i < len) xs)
 no_index_fault len xs = (index_fault-none len xs, λ h. faultless len xs h.0 h.1)
 
 -- ---- one more index

@@ -1,17 +1,11 @@
 -- The variant of a fold, and folds that need no memory.
-use Rattle.std.proofs.lemmas.Grind.{common_steps}
-use Rattle.std.proofs.Common.{◌≡◌, ◌≢◌, ℕ, zero, suc, ◌+◌, ◌<◌, Bool, List, [], ◌∷◌, length, get_or, drop, fold, map, refl, ap, ◌∙◌, arith}
-use Rattle.std.proofs.lemmas.List.{drop_all, drop_more, length-drop, length-map}
-use Rattle.std.proofs.lemmas.List.Elements.{All-head}
+use Rattle.vortex_mask.proofs.Common.{common_steps, ◌≡◌, ◌≢◌, ℕ, zero, suc, ◌+◌, ◌<◌, Bool, List, [], ◌∷◌, length, get_or, drop, map, refl, ap, ◌∙◌, arith, fold, drop_more, length-drop, length-map, All-head, count, rank_intersection, IsStack, folded_left, truth, Variant, variant, variant_and, fitting_variant, all_false, mixed}
 use Rattle.std.specs.List.{All}
-use Rattle.mask_bits.specs.Positions.{count, rank_intersection}
 use Rattle.mask_bits.proofs.Lists.CountLemmas.{count-repeated_true, count-repeated_false, length-repeated}
 use Rattle.mask_bits.proofs.Lists.LawLemmas.{rank_intersection_count, folding_keeps_a_stack}
 use Rattle.mask_bits.proofs.Lists.Places.PlaceLemmas.{count-le-length}
 use Rattle.mask_bits.proofs.Lists.RankLemmas.{rank_intersection-all_true}
 use Rattle.mask_bits.proofs.Lists.StackLemmas.{folded_by_the_first, length_of_fold}
-use Rattle.mask_bits.specs.Stacks.{IsStack, folded_left}
-use Rattle.vortex_mask.specs.Mask.{truth, Variant, variant, variant_and, fitting_variant, all_false, mixed}
 use Rattle.vortex_mask.specs.declared.mask.Mask.{Mask}
 use Rattle.vortex_mask.specs.declared.mask.Mask.TheVariants.{AllTrue, AllFalse, Values}
 use Rattle.vortex_mask.proofs.Masks.MaskLemmas.{fitting_variant-all_false, fitting_variant-repeated_true}
@@ -69,10 +63,6 @@ stack_from a (m ∷ masks) (suc i) within stack = stack_from (truth m) masks i (
 pub fold_above : (a : List Bool) (ms : List (List Bool)) → IsStack (a ∷ ms) → 0 < length ms → (length (folded_left ms) ≡ count a) × (folded_left (a ∷ ms) ≡ rank_intersection a (folded_left ms))
 fold_above a [] stack some = absurd (omega arith)
 fold_above a (b ∷ ms) stack some = (length_of_fold b ms ∙ stack.0, folded_by_the_first a b ms stack)
-
--- the fold of the last mask is the mask
-pub fold_of_last : (masks : List Mask) (i : ℕ) (m last : Mask) → i + 1 ≡ length masks → last ≡ get_or masks i last → truth m ≡ truth last → truth m ≡ folded_left (map truth (drop i masks))
-fold_of_last masks i m last ends is same = grind (arith, common_steps, drop_more, drop_all)
 
 -- the masks from number i on, of which there is one above it
 below : (a : List Bool) (masks : List Mask) (i : ℕ) (m : Mask) → IsStack (a ∷ map truth masks) → i + 1 < length masks → m ≡ get_or masks i m

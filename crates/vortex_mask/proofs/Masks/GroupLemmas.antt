@@ -1,11 +1,6 @@
 -- The masks of groups: how many there are, and how many values of each are true.
-use Rattle.std.proofs.Common.{◌≡◌, ℕ, Bool, List, length, map, sym, ap, ◌∙◌, arith}
-use Rattle.std.specs.List.{range_with_len}
-use Rattle.std.proofs.lemmas.List.{length-map}
-use Rattle.std.proofs.lemmas.Simd.{map-map}
-use Rattle.std.proofs.lemmas.List.FromFn.{length-map-range_with_len}
-use Rattle.mask_bits.specs.Positions.{count}
-use Rattle.vortex_mask.specs.Mask.{truth}
+use Rattle.vortex_mask.proofs.Common.{◌≡◌, ℕ, Bool, List, length, map, sym, ap, ◌∙◌, arith, range_with_len, length-map, map-map, length-map-range_with_len, count, truth}
+use Rattle.mask_bits.proofs.Lists.GroupLemmas.{groups_begin_within}
 use Rattle.vortex_mask.specs.declared.mask.Mask.{Mask}
 
 -- as many masks as groups
@@ -17,4 +12,4 @@ pub counts-groups : (masks : List Mask) (group : ℕ → List Bool) (n : ℕ) �
     → map (λ m. count (truth m)) masks ≡ map (λ number. count (group number)) (range_with_len 0 n)
 counts-groups masks group n same = sym (map-map count truth masks) ∙ ap (map count) same ∙ map-map count group (range_with_len 0 n)
 
-pub ruleset group_facts = (length-groups, counts-groups)
+pub ruleset group_facts = (length-groups, counts-groups, groups_begin_within)

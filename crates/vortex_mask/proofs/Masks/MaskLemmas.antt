@@ -1,12 +1,5 @@
 -- Lists of one value, and the variants that lists may have.
-use Rattle.std.proofs.lemmas.Grind.{common_steps}
-use Rattle.std.specs.Prelude.{◌↔◌}
-use Rattle.std.proofs.Common.{◌≤◌, slice_range, All, ◌≡◌, ℕ, zero, suc, ◌<◌, Bool, true, false, List, [], ◌∷◌, length, refl, sym, ap, ◌∙◌, arith}
-use Rattle.std.specs.Cmp.{booleans_Decides}
-use Rattle.std.proofs.lemmas.Slice.Eq.{slice_eq-Decides}
-use Rattle.vortex_mask.specs.Mask.{Variant, all_true, all_false, mixed, fitting_variant, truth, same_truth}
-use Rattle.mask_bits.specs.Positions.{at_indices, count, positions, rank_intersection, repeated}
-use Rattle.vortex_mask.specs.declared.mask.Mask.TheVariants.{AllTrue, AllFalse}
+use Rattle.vortex_mask.proofs.Common.{common_steps, ◌↔◌, ◌≤◌, slice_range, All, ◌≡◌, ℕ, zero, suc, ◌<◌, Bool, true, false, List, [], ◌∷◌, length, refl, sym, ap, ◌∙◌, arith, IsTrue, booleans_Decides, slice_eq-Decides, Variant, all_true, all_false, mixed, fitting_variant, truth, same_truth, at_indices, count, positions, rank_intersection, repeated}
 use Rattle.mask_bits.proofs.Lists.ChooseLemmas.{chosen-all_true, chosen-all_false, chosen_of_repeated}
 use Rattle.mask_bits.proofs.Lists.LawLemmas.{length-chosen, positions-rank_intersection, rank_intersection-none, length-rank_intersection}
 use Rattle.mask_bits.proofs.Lists.LimitLemmas.{limited-front, limited-all, limited-none, length-limited, count-limited}
@@ -15,7 +8,7 @@ use Rattle.mask_bits.proofs.Lists.Places.PlaceLemmas.{count-le-length}
 use Rattle.mask_bits.proofs.Lists.Words.BackingBitLemmas.{length-bitmap}
 use Rattle.mask_bits.proofs.Lists.RankLemmas.{rank_intersection-all_true, rank_intersection-by_all_true}
 use Rattle.mask_bits.proofs.Lists.CountLemmas.{nil-repeated, slice_get-repeated, all_true-count, positions-repeated_true_at, All-repeated, repeated_from_All, count-repeated_true, count-repeated_false, all_true_from_count, all_false_from_count, list_all-count, list_all-count_less, list_any-count, list_any-count_zero, length-repeated}
-use Rattle.vortex_mask.specs.Laws.Masks.{UniformIsOfOneValue, AllTrueHasTrueValues, AllFalseHasFalseValues, SameTruthIsOneList}
+use Rattle.vortex_mask.specs.declared.mask.Mask.{Mask}
 
 pub fitting_variant-all : (empty : Variant) (m : List Bool) → 0 < length m → count m ≡ length m → fitting_variant empty m ≡ all_true
 fitting_variant-all empty [] some e = absurd (omega arith)
@@ -69,19 +62,6 @@ narrowed_indices a b fits = sym (positions-rank_intersection a b fits)
 
 pub ruleset narrowing_facts = (narrowed_indices, rank_intersection-all_true, rank_intersection-by_all_true, rank_intersection-none, length-rank_intersection)
 
--- ---- laws
-
-pub all_true_has_true_values : AllTrueHasTrueValues
-all_true_has_true_values (AllTrue n) held = rw length-repeated refl
-all_true_has_true_values m held = absurd (cc)
-
-pub all_false_has_false_values : AllFalseHasFalseValues
-all_false_has_false_values (AllFalse n) held = rw length-repeated refl
-all_false_has_false_values m held = absurd (cc)
-
--- a uniform list is of one value
-pub uniform_is_of_one_value : UniformIsOfOneValue
-uniform_is_of_one_value m = grind (arith, repeated-all m, repeated-none m, count-repeated_true (length m), count-repeated_false (length m))
-
-pub same_truth_is_one_list : SameTruthIsOneList
+-- the test of two masks' lists is true exactly where they are one list
+pub same_truth_is_one_list : (a b : Mask) → IsTrue (same_truth a b) ↔ (truth a ≡ truth b)
 same_truth_is_one_list a b = slice_eq-Decides booleans_Decides (truth a) (truth b) (same_truth a b) refl

@@ -1,16 +1,9 @@
 -- The walks over a mask: each run of calls gives what is left, and what a walk over a mask of one value has.
-use Rattle.std.proofs.Common.{Option, zero, sym, Bool, replicate, ◌≡◌, ℕ, suc, ◌+◌, ◌-◌, ◌<◌, List, ◌∷◌, length, ap, arith}
-use Rattle.std.specs.Iterator.{Drains, DrainsIf, YieldsFirst}
-use Rattle.std.specs.List.{range_with_len}
-use Rattle.std.specs.Iterator.Runs.{YieldsInOrder, WholeRun}
-use Rattle.std.proofs.iter.runs.Consumers.{total_runs}
-use Rattle.std.proofs.iter.runs.Sources.{from_front, as_is}
-use Rattle.std.proofs.lemmas.List.FromFn.{get_or-range_with_len, length-range_with_len}
-use Rattle.mask_bits.specs.Positions.{repeated}
+use Rattle.vortex_mask.proofs.Common.{Option, zero, sym, Bool, replicate, ◌≡◌, ℕ, suc, ◌+◌, ◌-◌, ◌<◌, List, ◌∷◌, length, ap, arith, Drains, DrainsIf, YieldsFirst, range_with_len, YieldsInOrder, WholeRun, total_runs, from_front, as_is, get_or-range_with_len, length-range_with_len, repeated, values_left, indices_left, ranges_left}
 use Rattle.mask_bits.proofs.Lists.CountLemmas.{length-repeated, nil-repeated, positions-all_true, positions-all_false}
 use Rattle.mask_bits.proofs.Lists.Places.AscendingLemmas.{positions-ascending}
 use Rattle.mask_bits.proofs.Lists.Places.PlaceLemmas.{positions-within}
-use Rattle.vortex_mask.specs.Iter.{values_left, indices_left, ranges_left}
+use Rattle.mask_bits.proofs.Lists.Places.IndexLemmas.{all_false_has_no_run, all_true_is_one_run}
 
 in_order : {S A : Type 0} (left : S → List A) → YieldsInOrder (YieldsFirst left) left
 in_order left p seen = as_is p (left p.from) (from_front (YieldsFirst left) (λ x. x) left (λ s t h. ap length h.0) (λ s x t h. h) p seen)
@@ -37,7 +30,7 @@ unfolding repeated
 repeated-next zero v h = absurd (omega (arith, h))
 repeated-next (suc n) v h = let e : suc n - 1 ≡ n = omega arith in ap (λ k. v ∷ replicate k v) (sym e)
 
-pub ruleset next_facts = (length-repeated, nil-repeated, repeated-next, range-next)
+pub ruleset next_facts = (length-repeated, nil-repeated, repeated-next, range-next, all_true_is_one_run, all_false_has_no_run)
 
 -- ---- what an iterator gave to its end, told as a list and as a run
 

@@ -1,15 +1,5 @@
 -- What is left of a list's ranges once each that touches the one before it has lengthened it: the runs.
-use Rattle.std.proofs.lemmas.Grind.{common_steps}
-use Rattle.std.proofs.Common.{◌≡◌, ◌≢◌, ℕ, ◌+◌, ◌<◌, ◌||◌, Bool, true, false, nat_eq, List, [], ◌∷◌, length, refl, sym, ap, ◌∙◌, arith, subst}
-use Rattle.std.proofs.Math.Bool.{or_assoc}
-use Rattle.std.specs.Prelude.{if◌then◌else◌}
-use Rattle.std.specs.Bool.{MatchBool}
-use Rattle.std.specs.List.{list_any}
-use Rattle.std.specs.List.Retain.{DedupsFrom, DedupsAll, IsDeduped}
-use Rattle.std.proofs.lemmas.Bool.{eqb-true, eqb-false}
-use Rattle.std.proofs.lemmas.Bool.Decides.{nat_tests}
-use Rattle.mask_bits.specs.Runs.{is_inside, AreRanges}
-use Rattle.mask_bits.specs.RunScan.{runs}
+use Rattle.vortex_mask.proofs.Common.{common_steps, ◌≡◌, ◌≢◌, ℕ, ◌+◌, ◌<◌, ◌||◌, Bool, true, false, nat_eq, List, [], ◌∷◌, length, refl, sym, ap, ◌∙◌, arith, subst, if◌then◌else◌, or_assoc, MatchBool, list_any, DedupsFrom, DedupsAll, IsDeduped, eqb-true, eqb-false, nat_tests, is_inside, AreRanges, runs}
 use Rattle.mask_bits.proofs.Lists.Runs.RangeLemmas.{Ordered, Ordered-top, Ordered-of}
 use Rattle.mask_bits.proofs.Lists.Runs.RunLemmas.{Spread, runs_from-RunsOf}
 

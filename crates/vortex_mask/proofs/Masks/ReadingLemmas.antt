@@ -1,14 +1,6 @@
 -- Masks that are read by values, indices and counts.
-use Rattle.std.proofs.Common.{Option, Some, None, slice_get, nat_lt, zero, suc, ◌≡◌, ℕ, ◌+◌, ◌-◌, ◌≤◌, Bool, true, false, List, [], ◌∷◌, length, map, take, drop, replicate, slice_range, refl, sym, ap, ap₂, ◌∙◌, arith}
-use Rattle.std.specs.Bool.{then_some}
+use Rattle.vortex_mask.proofs.Common.{Option, Some, None, slice_get, nat_lt, zero, suc, ◌≡◌, ℕ, ◌+◌, ◌-◌, ◌≤◌, Bool, true, false, List, [], ◌∷◌, length, map, take, drop, replicate, slice_range, refl, sym, ap, ap₂, ◌∙◌, arith, then_some, SomeIff, lt-ltb, common_steps, map_more, take-replicate, take-append-drop, All-head, All-tail, slice_get_past, positions, count, count_below, repeated}
 use Rattle.std.specs.List.{All}
-use Rattle.std.specs.Option.{SomeIff}
-use Rattle.std.proofs.lemmas.Bool.{lt-ltb}
-use Rattle.std.proofs.lemmas.Grind.{common_steps}
-use Rattle.std.proofs.lemmas.List.{map_more, take-replicate, take-append-drop}
-use Rattle.std.proofs.lemmas.List.Elements.{All-head, All-tail}
-use Rattle.std.proofs.lemmas.Option.{slice_get_past}
-use Rattle.mask_bits.specs.Positions.{positions, count, count_below, repeated}
 use Rattle.mask_bits.proofs.Lists.CountLemmas.{count-repeated_true, count-repeated_false, count-append, length-repeated, positions-repeated_true_at, positions-all_false, nil-repeated}
 use Rattle.mask_bits.proofs.Lists.Places.SelectLemmas.{count-part_further}
 use Rattle.vortex_mask.proofs.Lists.StartedWordLemmas.{count_below-within}

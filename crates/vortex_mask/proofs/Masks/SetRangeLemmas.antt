@@ -1,21 +1,9 @@
 -- Bits that are set in bytes, a range at a time.
-use Rattle.std.proofs.lemmas.Grind.{common_steps}
-use Rattle.std.proofs.Common.{◌≡◌, ℕ, ◌+◌, ◌-◌, ◌*◌, ◌/◌, ◌%◌, ◌^◌, ◌<◌, ◌≤◌, ◌||◌, ◌&&◌, ◌⊎◌, Bool, true, false, nat_eq, nat_le, List, length, get_or, replicate, sym, ap, ap₂, ◌∙◌, arith, inl, inr}
-use Rattle.std.specs.Int.{bit_at}
+use Rattle.vortex_mask.proofs.Common.{common_steps, ◌≡◌, ℕ, ◌+◌, ◌-◌, ◌*◌, ◌/◌, ◌%◌, ◌^◌, ◌<◌, ◌≤◌, ◌||◌, ◌&&◌, ◌⊎◌, Bool, true, false, nat_eq, nat_le, List, length, get_or, replicate, sym, ap, ap₂, ◌∙◌, arith, inl, inr, bit_at, or_comm, cases_lt, nat_tests, length-replicate, get_or-replicate, get_or_past, length-between, bit_at_ones, backing_bit, is_inside, word_bits, window, AreSet}
 use Rattle.std.specs.Int.RustNames.{bit_and, bit_or}
-use Rattle.std.proofs.Math.Bool.{or_comm}
-use Rattle.std.proofs.lemmas.Bool.{cases_lt}
-use Rattle.std.proofs.lemmas.Bool.Decides.{nat_tests}
-use Rattle.std.proofs.lemmas.List.{length-replicate, get_or-replicate, get_or_past}
-use Rattle.std.proofs.lemmas.List.Edits.{length-between}
-use Rattle.std.proofs.lemmas.Nat.Bits.{bit_at_ones}
-use Rattle.mask_bits.specs.Buffer.{backing_bit}
-use Rattle.mask_bits.specs.Runs.{is_inside}
-use Rattle.mask_bits.specs.Words.{word_bits, window}
 use Rattle.mask_bits.proofs.Lists.Words.FrontLemmas.{get_or-window, get_or-put_mid_below, get_or-put_mid_above, get_or-put_mid_inside}
 use Rattle.mask_bits.proofs.Lists.Words.ShiftLemmas.{get_or-word_bits_and, get_or-word_bits_or, get_or-word_bits_shl_low, get_or-word_bits_shl_high, get_or-word_bits_shr}
 use Rattle.mask_bits.proofs.Lists.Words.WordLemmas.{get_or-word_bits, length-word_bits}
-use Rattle.vortex_mask.specs.SetRanges.{AreSet}
 use borrow.Rule.Slice.PartMut.{put_mid}
 
 -- ---- of a word

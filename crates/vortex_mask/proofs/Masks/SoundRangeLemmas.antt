@@ -1,22 +1,10 @@
 -- Ranges in which there is no fault, and the values that are true exactly in them.
-use Rattle.std.proofs.lemmas.Grind.{common_steps}
-use Rattle.std.proofs.Common.{◌≡◌, ℕ, ◌+◌, ◌<◌, ◌≤◌, ◌&&◌, not, Bool, true, false, nat_lt, nat_le, List, [], ◌∷◌, length, get_or, drop, map, zero, suc, None, sym, ◌∙◌, arith, subst}
-use Rattle.std.specs.List.{All, AllAdjacentBelow, list_any, prefix_len, position, range_with_len}
-use Rattle.std.proofs.lemmas.List.FromFn.{get_or-map-range_with_len, length-map-range_with_len}
-use Rattle.std.proofs.lemmas.Bool.{cases_lt}
-use Rattle.std.proofs.lemmas.Bool.Decides.{nat_tests}
-use Rattle.std.proofs.lemmas.List.{at_drop_more, at_drop_all}
-use Rattle.std.proofs.lemmas.List.Sums.{prefix_len_passes}
-use Rattle.mask_bits.specs.Bitmap.{bitmap}
-use Rattle.mask_bits.specs.Buffer.{backing_bit}
-use Rattle.mask_bits.specs.Positions.{count, repeated}
-use Rattle.mask_bits.specs.Runs.{is_inside, AreRanges}
+use Rattle.vortex_mask.proofs.Common.{common_steps, ◌≡◌, ℕ, ◌+◌, ◌<◌, ◌≤◌, ◌&&◌, not, Bool, true, false, nat_lt, nat_le, List, [], ◌∷◌, length, get_or, drop, map, zero, suc, None, sym, ◌∙◌, arith, subst, AllAdjacentBelow, list_any, prefix_len, position, range_with_len, get_or-map-range_with_len, length-map-range_with_len, cases_lt, nat_tests, at_drop_more, at_drop_all, prefix_len_passes, bitmap, backing_bit, count, repeated, is_inside, AreRanges, bad_range, neighbor_fault, neighbors_fault_from, range_fault, rows_held}
+use Rattle.std.specs.List.{All}
 use Rattle.mask_bits.proofs.Lists.CountLemmas.{all_true_from_count, all_false_from_count}
 use Rattle.mask_bits.proofs.Lists.Places.PlaceLemmas.{count-le-length}
 use Rattle.mask_bits.proofs.Lists.Runs.RangeLemmas.{ranges_add_up_to_the_count}
 use Rattle.mask_bits.proofs.Lists.Words.BackingBitLemmas.{length-bitmap, get_or-bitmap}
-use Rattle.vortex_mask.specs.Faults.{bad_range, neighbor_fault, neighbors_fault_from, range_fault}
-use Rattle.vortex_mask.specs.Ranges.{rows_held}
 use Rattle.vortex_mask.proofs.Masks.FaultLemmas.{option_or-none, none_mapped}
 
 -- ---- neighbors, one pair at a time

@@ -4,7 +4,7 @@ ghost use Rattle.std.specs.Prelude.{◌≡◌, ◌+◌, ◌/◌, ◌<◌, ◌≤
 ghost use Rattle.mask_bits.specs.Buffer.{IsWithinBytes};
 ghost use Rattle.mask_bits.specs.Words.{word_bits, window};
 
-use mask_bits::{BitBuffer, laws, words};
+use mask_bits::{BitBuffer, words};
 use std::marker::Model;
 
 /// The bits of a rank mask, read 64 at a time from any bit on.
@@ -35,11 +35,11 @@ impl<'a> Model for RankBits<'a> {
 
 impl<'a> RankBits<'a> {
     /// The bits of `buffer`.
+    #[tactic(auto, using(mask_bits::proofs::Lists::Words::BackingBitLemmas::lengths))]
     pub fn new(buffer: &'a BitBuffer) -> RankBits<'a>
         ensures buffer { result ≡ buffer.now }
         ensures within { IsWithinBytes result.bytes result.offset result.len }
     {
-        laws::length_of_values();
         RankBits::over(buffer.inner().as_slice(), buffer.offset(), buffer.len())
     }
 

@@ -8,7 +8,7 @@ ghost use Rattle.mask_bits.specs.RunScan.{runs};
 ghost use Rattle.vortex_mask.specs.Lend.{ReachesShare, lends_ranges, IsLentOf, with_list, lender_variant, IfLent, with_lent, IsCaching};
 ghost use Rattle.vortex_mask.specs.Caches.{caches};
 ghost use Rattle.vortex_mask.specs.Mask.{truth, variant, mixed};
-ghost use Rattle.vortex_mask.specs.MaskValues.{with_indices, with_ranges};
+ghost use Rattle.vortex_mask.specs.MaskValues.{HasList, with_indices, with_made, with_ranges};
 ghost use Rattle.vortex_mask.specs.contracts.mask.Mask.{the_row};
 ghost use Rattle.mask_bits.specs.Buffer.{values};
 
@@ -45,7 +45,7 @@ impl Mask {
         ensures uniform { variant self.old ≢ mixed → IsOk result }
         ensures refused { IsOkUnless result (MaskError.Memory alloc_error) }
     {
-        self.fill_indices(alloc)?;
+        self.fill(alloc, false)?;
         Ok(match self {
             Mask::AllTrue(_) => AllOr::All,
             Mask::AllFalse(_) => AllOr::None,
@@ -70,7 +70,7 @@ impl Mask {
         ensures uniform { variant self.old ≢ mixed → IsOk result }
         ensures refused { IsOkUnless result (MaskError.Memory alloc_error) }
     {
-        self.fill_slices(alloc)?;
+        self.fill(alloc, true)?;
         Ok(match self {
             Mask::AllTrue(_) => AllOr::All,
             Mask::AllFalse(_) => AllOr::None,
@@ -106,12 +106,7 @@ impl Mask {
         ensures refused { IsOkUnless result (MaskError.Memory alloc_error) }
     {
         let by_ranges = self.reaches_share(num, den);
-        let filled = if by_ranges {
-            self.fill_slices(alloc)
-        } else {
-            self.fill_indices(alloc)
-        };
-        filled?;
+        self.fill(alloc, by_ranges)?;
         Ok(match self {
             Mask::AllTrue(_) => AllOr::All,
             Mask::AllFalse(_) => AllOr::None,
@@ -130,45 +125,23 @@ impl Mask {
         }
     }
 
-    // Caches the true indices where the mask is mixed. Values that nobody else holds cache them in
-    // place, and else the mask becomes one of a clone with them.
-    fn fill_indices(&mut self, alloc: Global) -> Result<(), MaskError>
+    // Caches the runs, or the true indices, where the mask is mixed. Values that nobody else holds cache
+    // them in place, and else the mask becomes one of a clone with them.
+    fn fill(&mut self, alloc: Global, by_ranges: bool) -> Result<(), MaskError>
         ensures filled { IfOk result (λ _. variant self.old ≡ mixed → IsCaching self.old
-            (with_indices (positions (truth self.old)) (caches self.old)) self.new) }
+            (with_made by_ranges (truth self.old) (caches self.old)) self.new) }
         ensures stays { variant self.old ≢ mixed → self.new ≡ self.old }
         ensures unfilled { OnErr result (self.new ≡ self.old) }
-        ensures cached { IsSome (caches self.old).indices → IsOk result }
+        ensures cached { HasList by_ranges (caches self.old) → IsOk result }
         ensures uniform { variant self.old ≢ mixed → IsOk result }
         ensures refused { IsOkUnless result (MaskError.Memory alloc_error) }
     {
         if let Mask::Values(values) = self {
             if let Some(own) = Rc::get_mut(values) {
-                return own.cache_indices(alloc);
+                return own.cache_list(alloc, by_ranges);
             }
-            if values.cached_indices().is_none() {
-                let filled = values.with_indices(alloc)?;
-                *self = Mask::Values(Rc::new(alloc, filled)?);
-            }
-        }
-        Ok(())
-    }
-
-    // Caches the runs where the mask is mixed, in the same way.
-    fn fill_slices(&mut self, alloc: Global) -> Result<(), MaskError>
-        ensures filled { IfOk result (λ _. variant self.old ≡ mixed → IsCaching self.old
-            (with_ranges (runs (truth self.old)) (caches self.old)) self.new) }
-        ensures stays { variant self.old ≢ mixed → self.new ≡ self.old }
-        ensures unfilled { OnErr result (self.new ≡ self.old) }
-        ensures cached { IsSome (caches self.old).ranges → IsOk result }
-        ensures uniform { variant self.old ≢ mixed → IsOk result }
-        ensures refused { IsOkUnless result (MaskError.Memory alloc_error) }
-    {
-        if let Mask::Values(values) = self {
-            if let Some(own) = Rc::get_mut(values) {
-                return own.cache_slices(alloc);
-            }
-            if values.cached_slices().is_none() {
-                let filled = values.with_slices(alloc)?;
+            if !values.has_list(by_ranges) {
+                let filled = values.with_list(alloc, by_ranges)?;
                 *self = Mask::Values(Rc::new(alloc, filled)?);
             }
         }

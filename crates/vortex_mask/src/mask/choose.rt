@@ -5,9 +5,9 @@ ghost use Rattle.mask_bits.specs.Buffer.{values};
 ghost use Rattle.mask_bits.specs.Positions.{count, chosen};
 ghost use Rattle.vortex_mask.specs.Mask.{truth, variant, all_false};
 
-use crate::mask::push_rows::choose_rows;
 use crate::mask::{Mask, MaskError};
 use mask_bits::BitBuffer;
+use mask_bits::push_rows::choose_rows;
 use std::alloc::{AllocError, Global};
 use std::mem::size_of_val;
 

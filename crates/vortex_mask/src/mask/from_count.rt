@@ -121,7 +121,6 @@ impl Mask {
         ensures uniform { (vec_len indices ≡ 0) ⊎ (vec_len indices ≡ len) → IsOk result }
         ensures refused { IsOkUnless result (MaskError.Memory alloc_error) }
     {
-        mask_bits::laws::lists_of_one_value();
         let true_count = indices.len();
         if let Some(mask) = Mask::of_one_value(len, true_count) {
             return Ok(mask);

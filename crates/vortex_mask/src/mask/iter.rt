@@ -12,7 +12,7 @@ ghost use Rattle.mask_bits.specs.Positions.{positions, repeated};
 ghost use Rattle.mask_bits.specs.Runs.{AreRuns};
 
 use crate::mask::Mask;
-use mask_bits::{BitIterator, SetIndices, SetSlices, laws};
+use mask_bits::{BitIterator, SetIndices, SetSlices};
 
 /// The values of a mask, in their order.
 #[derive(Drop)]
@@ -180,7 +180,6 @@ impl Mask {
 fn whole_run(len: usize) -> Option<(usize, usize)>
     ensures { AreRuns (repeated len true) (option_to_list result) }
 {
-    laws::ranges_of_one_value();
     if len == 0 {
         return None;
     }

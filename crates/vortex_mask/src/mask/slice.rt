@@ -62,7 +62,6 @@ impl Mask {
             (range_with_len 0 (div_ceil (length (truth self.now)) size))) }
         ensures refused { IsOkUnless result (MaskError.Memory alloc_error) }
     {
-        mask_bits::laws::groups();
         let mut groups = Vec::new(alloc);
         for number in 0..self.len().div_ceil(size) {
             groups.push(self.group(alloc, size, number)?)?;

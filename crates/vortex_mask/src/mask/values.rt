@@ -6,7 +6,7 @@ ghost use Rattle.std.specs.Borrow.{sem};
 ghost use Rattle.std.specs.Io.BufRead.{Rests};
 ghost use Rattle.mask_bits.specs.Buffer.{values};
 ghost use Rattle.mask_bits.specs.Positions.{count, positions};
-ghost use Rattle.vortex_mask.specs.MaskValues.{IsMixed, IsWhole, AreOf, contents, with_caches, with_indices, with_ranges};
+ghost use Rattle.vortex_mask.specs.MaskValues.{HasList, IsMixed, IsWhole, AreOf, contents, with_caches, with_indices, with_made, with_ranges};
 ghost use Rattle.mask_bits.specs.RunScan.{runs};
 ghost use Rattle.vortex_mask.specs.Lend.{ReachesShare, lends_ranges, IsLentOf, with_list};
 ghost use Rattle.vortex_mask.specs.Text.{counts_text};
@@ -187,7 +187,7 @@ impl MaskValues {
         ensures cached { IsSome self.old.caches.indices → IsOk result }
         ensures refused { IsOkUnless result (MaskError.Memory alloc_error) }
     {
-        self.cache_indices(alloc)?;
+        self.cache_list(alloc, false)?;
         Ok(self.lend_indices())
     }
 
@@ -204,7 +204,7 @@ impl MaskValues {
         ensures cached { IsSome self.old.caches.ranges → IsOk result }
         ensures refused { IsOkUnless result (MaskError.Memory alloc_error) }
     {
-        self.cache_slices(alloc)?;
+        self.cache_list(alloc, true)?;
         Ok(self.lend_slices())
     }
 
@@ -232,13 +232,9 @@ impl MaskValues {
             → IsSome self.old.caches.indices → IsOk result }
         ensures refused { IsOkUnless result (MaskError.Memory alloc_error) }
     {
-        if self.reaches_share(num, den) {
-            self.cache_slices(alloc)?;
-            Ok(MaskIter::Slices(self.lend_slices()))
-        } else {
-            self.cache_indices(alloc)?;
-            Ok(MaskIter::Indices(self.lend_indices()))
-        }
+        let by_ranges = self.reaches_share(num, den);
+        self.cache_list(alloc, by_ranges)?;
+        Ok(self.lend_list(by_ranges))
     }
 
     // Whether at least `num` of each `den` values are true.
@@ -282,55 +278,46 @@ impl MaskValues {
         }
     }
 
-    // Makes the list of the true indices, then caches it, where there is none.
-    pub(super) fn cache_indices(&mut self, alloc: Global) -> Result<(), MaskError>
-        ensures filled { IfOk result (λ _. self.new
-            ≡ with_caches (with_indices (positions (values self.old.buffer)) self.old.caches) self.old) }
+    // Whether the runs, or the true indices, are cached.
+    pub(super) fn has_list(&self, by_ranges: bool) -> bool
+        ensures has { IsTrue result ↔ HasList by_ranges self.now.caches }
+        ensures made { IsTrue result → with_made by_ranges (values self.now.buffer) self.now.caches
+            ≡ self.now.caches }
+    {
+        if by_ranges {
+            self.slices.is_some()
+        } else {
+            self.indices.is_some()
+        }
+    }
+
+    // Makes the list of the runs, or of the true indices, then caches it, where there is none.
+    pub(super) fn cache_list(&mut self, alloc: Global, by_ranges: bool) -> Result<(), MaskError>
+        ensures filled { IfOk result (λ _. self.new ≡ with_caches
+            (with_made by_ranges (values self.old.buffer) self.old.caches) self.old) }
         ensures unfilled { OnErr result (self.new ≡ self.old) }
-        ensures cached { IsSome self.old.caches.indices → IsOk result }
+        ensures cached { HasList by_ranges self.old.caches → IsOk result }
         ensures refused { IsOkUnless result (MaskError.Memory alloc_error) }
     {
-        if self.indices.is_none() {
+        if self.has_list(by_ranges) {
+            return Ok(());
+        }
+        if by_ranges {
+            self.slices = Some(self.runs(alloc)?);
+        } else {
             self.indices = Some(self.index_list(alloc)?);
         }
         Ok(())
     }
 
-    // Makes the list of the runs and caches it, where there is none.
-    pub(super) fn cache_slices(&mut self, alloc: Global) -> Result<(), MaskError>
-        ensures filled { IfOk result (λ _. self.new
-            ≡ with_caches (with_ranges (runs (values self.old.buffer)) self.old.caches) self.old) }
-        ensures unfilled { OnErr result (self.new ≡ self.old) }
-        ensures cached { IsSome self.old.caches.ranges → IsOk result }
+    // A clone with that list cached.
+    pub(super) fn with_list(&self, alloc: Global, by_ranges: bool) -> Result<MaskValues, MaskError>
+        ensures filled { IfOk result (λ v. v ≡ with_caches
+            (with_made by_ranges (values self.now.buffer) self.now.caches) self.now) }
         ensures refused { IsOkUnless result (MaskError.Memory alloc_error) }
     {
-        if self.slices.is_none() {
-            self.slices = Some(self.runs(alloc)?);
-        }
-        Ok(())
-    }
-
-    // A clone with the true indices cached.
-    pub(super) fn with_indices(&self, alloc: Global) -> Result<MaskValues, MaskError>
-        ensures filled { IfOk result (λ v. v
-            ≡ with_caches (with_indices (positions (values self.now.buffer)) self.now.caches) self.now) }
-        ensures refused { IsOkUnless result (MaskError.Memory alloc_error) }
-    {
-        let indices = self.index_list(alloc)?;
         let mut filled = self.clone()?;
-        filled.indices = Some(indices);
-        Ok(filled)
-    }
-
-    // A clone with the runs cached.
-    pub(super) fn with_slices(&self, alloc: Global) -> Result<MaskValues, MaskError>
-        ensures filled { IfOk result (λ v. v
-            ≡ with_caches (with_ranges (runs (values self.now.buffer)) self.now.caches) self.now) }
-        ensures refused { IsOkUnless result (MaskError.Memory alloc_error) }
-    {
-        let slices = self.runs(alloc)?;
-        let mut filled = self.clone()?;
-        filled.slices = Some(slices);
+        filled.cache_list(alloc, by_ranges)?;
         Ok(filled)
     }
 

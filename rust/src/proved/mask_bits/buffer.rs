@@ -198,7 +198,7 @@ impl BitBuffer {
     /// # Proved ([terms](crate::definitions))
     ///
     /// - `IfOk result (λ b. b ≡ self.now)`
-    #[inline]
+    #[inline(always)]
     pub fn try_clone(&self) -> Result<BitBuffer, AllocError> {
         let bytes = self.bytes.try_clone()?;
         Ok(BitBuffer::new_with_offset_proved(bytes, self.offset, self.len))

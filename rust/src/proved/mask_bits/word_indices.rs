@@ -4,7 +4,7 @@
 use crate::kit::prelude::*;
 use crate::proved::mask_bits::byte_places::indices_of_byte;
 use crate::proved::mask_bits::room::Room;
-use crate::proved::mask_bits::word_items::{push_by, push_one_by_one};
+use crate::proved::mask_bits::word_items::{push_by, push_eight, push_one_by_one};
 
 /// Puts the indices of the set bits of a word whose first bit has the index `base`: `K` at a time; one after
 /// another where `K` is 0, and byte by byte where it is 64.
@@ -35,12 +35,4 @@ fn push_byte<R: Room<usize>>(indices: &mut R, base: usize, byte: u8) {
     let before = indices.count();
     push_eight(indices, &indices_of_byte(base, byte));
     indices.cut(before + byte.count_ones() as usize);
-}
-
-// Puts eight numbers.
-#[inline(always)]
-fn push_eight<R: Room<usize>>(indices: &mut R, numbers: &[usize; 8]) {
-    for k in 0..8 {
-        indices.put(numbers[k]);
-    }
 }

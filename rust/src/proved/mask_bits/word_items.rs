@@ -82,3 +82,11 @@ fn push_lowest<W: WordItems, R: Room<W::Item>>(out: &mut R, items: W, word: u64)
     out.put(items.lowest(word));
     word & word.wrapping_sub(1)
 }
+
+/// Puts eight items.
+#[inline(always)]
+pub(crate) fn push_eight<T: Copy, R: Room<T>>(out: &mut R, items: &[T; 8]) {
+    for k in 0..8 {
+        out.put(items[k]);
+    }
+}

@@ -21,7 +21,11 @@ const ROOM: usize = 68;
 /// `K` is 0, which takes less time where few bits are set. `K` at a time takes a row behind those of the word, which
 /// is read where no bit is left.
 #[inline(always)]
-pub fn push_rows_of_word<const K: usize, T: Copy, R: Room<T>>(out: &mut R, rows: &[T], word: u64) {
+pub(crate) fn push_rows_of_word<const K: usize, T: Copy, R: Room<T>>(
+    out: &mut R,
+    rows: &[T],
+    word: u64,
+) {
     if word == FULL {
         push_all(out, &rows[..64]);
     } else if K == 0
@@ -38,7 +42,7 @@ pub fn push_rows_of_word<const K: usize, T: Copy, R: Room<T>>(out: &mut R, rows:
 
 /// Puts them one after another, as where there are fewer rows than a word has bits.
 #[inline(always)]
-pub fn push_rows_one_by_one<T: Copy, R: Room<T>>(out: &mut R, rows: &[T], word: u64) {
+pub(crate) fn push_rows_one_by_one<T: Copy, R: Room<T>>(out: &mut R, rows: &[T], word: u64) {
     push_one_by_one(out, rows, word);
 }
 

@@ -3,9 +3,9 @@
 
 use crate::kit::prelude::*;
 use crate::proved::mask_bits::BitChunks;
+use crate::proved::mask_bits::push_rows::{choose_rows, choose_small_rows};
 use crate::proved::mask_bits::room::Lent;
 use crate::proved::mask_bits::small_rows::{ByTable, MoveRows};
-use crate::proved::vortex_mask::{choose_rows, choose_small_rows};
 
 /// A row of 16 bytes.
 #[derive(Clone, Copy)]

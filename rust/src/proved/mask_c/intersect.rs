@@ -40,7 +40,6 @@ pub fn row_mask_intersect_by_rank(
     let are_few = crate::kit::processor::by_loop(64 * whole, before);
     narrow_whole(&front, &bits, are_few, &mut out[..8 * whole]);
     let source = word_at(ranks, ranks_offset + before);
-
     put_last(out, crate::kit::quickest!(Portable::deposit_bits_proved(source, word, ones)), len);
 }
 
@@ -97,7 +96,6 @@ fn narrow_word(word: u64, ones: usize, ranks: &RankBits<'_>, at: usize) -> u64 {
     if word == 0 {
         return 0;
     }
-
     PortableLoop::deposit_bits_proved(ranks.read_proved(at), word, ones)
 }
 
@@ -136,7 +134,6 @@ fn narrow_at<D: DepositBits>(
     let (cut, bits) = last_ranks(ranks, true_count - ones);
     let front = BitChunks::new_proved(bytes, offset, 64 * whole);
     narrow_at_ranks::<D>(&front, &ranks[..cut], &mut out[..8 * whole]);
-
     put_last(out, D::deposit_bits_proved(bits, word, ones), len);
 }
 

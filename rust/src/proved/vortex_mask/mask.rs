@@ -16,7 +16,6 @@ mod from_indices;
 mod from_slices;
 mod iter;
 mod limit;
-mod push_rows;
 mod set_ranges;
 mod slice;
 mod values;
@@ -31,7 +30,6 @@ pub use fraction::Fraction;
 pub use from_indices::index_fault;
 pub use from_slices::range_fault;
 pub use iter::{MaskBoolIter, MaskSetIndices, MaskSetSlices};
-pub use push_rows::{choose_rows, choose_small_rows};
 pub use values::{MaskValues, MaskValuesRef};
 
 /// Which rows of a column are chosen: a list of truth values, one for each row.
@@ -121,7 +119,7 @@ impl Mask {
     /// - *caches*: `IfOk result (λ m. caches m ≡ caches self.now)`
     /// - *uniform*: `variant self.now ≢ mixed → IsOk result`
     /// - *refused*: `IsOkUnless result (MaskError.Memory alloc_error)`
-    #[inline]
+    #[inline(always)]
     pub fn try_clone(&self) -> Result<Mask, MaskError> {
         match self {
             Mask::AllTrue(len) => Ok(Mask::AllTrue(*len)),

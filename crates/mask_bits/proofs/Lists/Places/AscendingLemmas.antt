@@ -1,12 +1,9 @@
 -- Ascending lists of places: the true places of a list are such a list, and each such list is one list's true places.
-use Rattle.std.proofs.Common.{◌≡◌, ℕ, zero, suc, ◌+◌, ◌<◌, ◌≤◌, ◌||◌, Bool, true, false, nat_eq, List, [], ◌∷◌, length, get_or, map, refl, sym, ap, subst, inl, inr, arith}
-use Rattle.std.specs.List.{All, list_any, range_with_len}
-use Rattle.std.specs.List.Sorted.{IsStrictlyIncreasing}
-use Rattle.std.proofs.lemmas.Bool.{cases_eq, eq-eqb, ne_eqb}
-use Rattle.mask_bits.specs.Positions.{indices_from, positions, true_at, repeated}
+use Rattle.mask_bits.proofs.Common.{◌≡◌, ℕ, zero, suc, ◌+◌, ◌<◌, ◌≤◌, ◌||◌, Bool, true, false, nat_eq, List, [], ◌∷◌, length, get_or, map, refl, sym, ap, subst, inl, inr, arith, list_any, range_with_len, IsStrictlyIncreasing, cases_eq, ne_eqb, indices_from, positions, true_at, repeated, get_or_default}
+use Rattle.std.specs.List.{All}
+use Rattle.std.proofs.lemmas.Bool.{eq-eqb}
 use Rattle.mask_bits.proofs.Lists.CountLemmas.{all_true_from_count}
 use Rattle.mask_bits.proofs.Lists.RankLemmas.{length-true_at, map_range_same}
-use Rattle.std.proofs.lemmas.List.{get_or_default}
 
 -- places from low on, below high, each above the one before it
 abbrev pub Rising : ℕ → ℕ → List ℕ → Type 0

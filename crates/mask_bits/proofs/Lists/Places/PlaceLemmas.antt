@@ -1,8 +1,5 @@
 -- The places of true values, over lists.
-use Rattle.std.proofs.Common.{◌≡◌, ℕ, zero, suc, ◌+◌, ◌<◌, ◌≤◌, Bool, true, false, List, [], ◌∷◌, length, get_or, map, slice_get, refl, ap, arith, ◌-◌, All, IfSome}
-use Rattle.std.proofs.lemmas.List.Elements.{All-nil, All-head, All-tail}
-use Rattle.std.proofs.lemmas.List.{get_or-map, length-map}
-use Rattle.mask_bits.specs.Positions.{indices_from, positions, count}
+use Rattle.mask_bits.proofs.Common.{◌≡◌, ℕ, zero, suc, ◌+◌, ◌<◌, ◌≤◌, Bool, true, false, List, [], ◌∷◌, length, get_or, map, slice_get, refl, ap, arith, ◌-◌, All, IfSome, All-nil, All-head, All-tail, get_or-map, length-map, indices_from, positions, count}
 
 -- no list has more true values than values
 pub length-indices_from : (n : ℕ) (m : List Bool) → length (indices_from n m) ≤ length m

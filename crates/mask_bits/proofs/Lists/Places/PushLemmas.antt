@@ -1,18 +1,9 @@
 -- What a word's bits yield, put into room without a test of whether one is left.
-use Rattle.std.proofs.Common.{◌≡◌, ℕ, Bool, ◌+◌, ◌-◌, ◌%◌, ◌^◌, ◌<◌, ◌≤◌, List, [], ◌∷◌, ◌++◌, Option, Some, None, suc, length, take, slice_get, true, nat_eq, false, subst, refl, sym, ap, nat_lt, if◌then◌else◌, count_ones, ◌∙◌, inl, inr, arith, append-nil, append_assoc, add-zero}
+use Rattle.mask_bits.proofs.Common.{◌≡◌, ℕ, Bool, ◌+◌, ◌-◌, ◌%◌, ◌^◌, ◌<◌, ◌≤◌, List, [], ◌∷◌, ◌++◌, Option, Some, None, suc, length, take, slice_get, true, nat_eq, false, refl, sym, ap, nat_lt, if◌then◌else◌, count_ones, ◌∙◌, inl, inr, arith, append-nil, append_assoc, add-zero, cons_option, filter_map, IsSome, cases_lt, nat_tests, take-append-le, All-head, All-tail, All-weaker, chosen, indices_from, positions, count, repeated, ArePushed, items_of, word_bits, get_or_from_slice_get, slice_get_cases}
 use Rattle.std.specs.Int.RustNames.{bit_and}
-use Rattle.std.specs.List.{All, cons_option, filter_map}
-use Rattle.std.specs.Option.{IsSome}
-use Rattle.std.proofs.lemmas.Bool.{cases_lt}
-use Rattle.std.proofs.lemmas.Bool.Decides.{nat_tests}
-use Rattle.std.proofs.lemmas.List.{take-append-le, length-take, length-take-le}
-use Rattle.std.proofs.lemmas.List.Elements.{All-head, All-tail, All-weaker}
+use Rattle.std.specs.List.{All}
+use Rattle.std.proofs.lemmas.List.{length-take, length-take-le}
 use lib.Seq.{take-append_seam}
-use Rattle.mask_bits.specs.Positions.{chosen, indices_from, positions, count, repeated}
-use Rattle.mask_bits.specs.Pushed.{ArePushed}
-use Rattle.mask_bits.specs.WordItems.{items_of}
-use Rattle.mask_bits.specs.Words.{word_bits}
-use Rattle.std.proofs.lemmas.Option.{get_or_from_slice_get, slice_get_cases}
 use Rattle.mask_bits.proofs.Lists.ChooseLemmas.{chosen-all_true, chosen-of_front, chosen_at_positions}
 use Rattle.mask_bits.proofs.Lists.CountLemmas.{count-repeated_true, length-repeated, slice_get-repeated}
 use Rattle.mask_bits.proofs.Lists.Places.SelectLemmas.{positions-lowest, indices-of_none}

@@ -1,13 +1,7 @@
 -- Where true value number n of a list stands, found by the counts of its started words; and its last true value.
-use Rattle.std.proofs.Common.{◌≡◌, ℕ, suc, ◌+◌, ◌*◌, ◌-◌, ◌^◌, ◌<◌, ◌≤◌, Bool, true, false, List, [], ◌∷◌, ◌++◌, length, get_or, take, drop, map, Some, None, slice_get, slice_range, refl, sym, ap, ◌∙◌, arith, append-nil, append_assoc, add-zero, pow-suc, drop-drop, option_map, bit_and, take-add}
-use Rattle.std.specs.Int.{bit_at, w64, leading_zeros}
-use Rattle.std.proofs.lemmas.List.{take-append-drop, drop-drop, drop_more, take_all, length-append, length-map, length-drop, length-take, get_or-drop, get_or-take, get_or_past}
-use Rattle.std.proofs.lemmas.Bool.{cases_lt}
-use Rattle.std.proofs.lemmas.Nat.{leading_top, ones-le}
-use Rattle.std.proofs.lemmas.Nat.Bits.{bit_at_above, bit_at-zero}
-use Rattle.std.proofs.lemmas.Option.{slice_get-get_or, slice_get_past, slice_get-map}
-use Rattle.mask_bits.specs.Positions.{indices_from, positions, count, repeated}
-use Rattle.mask_bits.specs.Words.{word_bits, padded_part}
+use Rattle.mask_bits.proofs.Common.{◌≡◌, ℕ, suc, ◌+◌, ◌*◌, ◌-◌, ◌^◌, ◌<◌, ◌≤◌, Bool, true, false, List, [], ◌∷◌, ◌++◌, length, get_or, take, drop, map, Some, None, slice_get, slice_range, refl, sym, ap, ◌∙◌, arith, append-nil, append_assoc, add-zero, drop-drop, option_map, bit_and, take-add, bit_at, leading_zeros, take-append-drop, drop_more, length-append, length-map, get_or-drop, get_or-take, get_or_past, cases_lt, leading_top, ones-le, bit_at_above, bit_at-zero, slice_get-get_or, slice_get_past, slice_get-map, indices_from, positions, count, repeated, word_bits, padded_part}
+use Rattle.std.specs.Int.{w64}
+use Rattle.std.proofs.lemmas.List.{drop-drop, take_all, length-drop, length-take}
 use Rattle.mask_bits.proofs.Lists.CountLemmas.{count-append, count-repeated_false, indices_from-repeated_false, length-repeated, get_or-padded}
 use Rattle.mask_bits.proofs.Lists.Words.LowestLemmas.{low, low-within, low-set, low-first, bit_at-lowest_cleared, bit_at-lowest_others}
 use Rattle.mask_bits.proofs.Lists.Words.PaddedLemmas.{padded_part_from_values}

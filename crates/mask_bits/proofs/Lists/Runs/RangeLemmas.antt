@@ -1,13 +1,7 @@
 -- How many places ranges hold.
-use Rattle.std.proofs.Common.{◌≡◌, ℕ, ◌-◌, ◌<◌, ◌≤◌, Bool, true, false, List, [], ◌∷◌, length, get_or, drop, slice_range, refl, ap, ◌∙◌, suc, arith}
-use Rattle.std.specs.List.{All, AllAdjacentBelow, list_any, sum_by}
-use Rattle.std.proofs.lemmas.List.{drop_all, ext_get_or}
-use Rattle.std.proofs.lemmas.List.Edits.{length-between, get_or-between}
-use Rattle.std.proofs.lemmas.List.Folds.{drop_split}
-use Rattle.std.proofs.lemmas.List.Sums.{sum_by-cons}
-use Rattle.mask_bits.specs.Laws.Runs.{RangesAddUpToTheCount}
-use Rattle.mask_bits.specs.Positions.{count, repeated}
-use Rattle.mask_bits.specs.Runs.{is_inside, AreRanges}
+use Rattle.mask_bits.proofs.Common.{◌≡◌, ℕ, ◌-◌, ◌<◌, ◌≤◌, Bool, true, false, List, [], ◌∷◌, length, get_or, drop, slice_range, refl, ap, ◌∙◌, suc, arith, AllAdjacentBelow, list_any, sum_by, drop_all, length-between, get_or-between, drop_split, sum_by-cons, count, repeated, is_inside, AreRanges}
+use Rattle.std.specs.List.{All}
+use Rattle.std.proofs.lemmas.List.{ext_get_or}
 use Rattle.mask_bits.proofs.Lists.CountLemmas.{count-append, count-repeated_true, count-repeated_false, length-repeated, get_or-repeated}
 use Rattle.mask_bits.proofs.Lists.Runs.RunLemmas.{inside, inside-past}
 
@@ -56,5 +50,6 @@ Ordered-from low high (r ∷ rs) top first nonempty within ordered = (
 pub Ordered-of : (m : List Bool) (rs : List (ℕ × ℕ)) → AreRanges m rs → Ordered 0 (length m) rs
 Ordered-of m rs are = Ordered-from 0 (length m) rs (omega arith) (λ k d first h. omega arith) are.nonempty are.within are.ordered
 
-pub ranges_add_up_to_the_count : RangesAddUpToTheCount
+-- ranges hold as many indices as values are true
+pub ranges_add_up_to_the_count : (m : List Bool) (rs : List (ℕ × ℕ)) → AreRanges m rs → sum_by (λ r. r.1 - r.0) rs ≡ count m
 ranges_add_up_to_the_count m rs are = from_place m 0 rs (Ordered-of m rs are) (λ i from h. are.exact i h)

@@ -1,12 +1,5 @@
 -- The rows that ranges hold.
-use Rattle.std.proofs.Common.{◌≡◌, ℕ, ◌-◌, ◌<◌, ◌≤◌, Bool, true, false, List, [], ◌∷◌, ◌++◌, length, get_or, drop, slice_range, sym, ap, ◌∙◌, arith, ap₂}
-use Rattle.std.specs.List.{list_any, flat_map}
-use Rattle.std.proofs.lemmas.List.{drop_all}
-use Rattle.std.proofs.lemmas.List.Edits.{length-between}
-use Rattle.std.proofs.lemmas.List.Folds.{drop_split}
-use Rattle.mask_bits.specs.Laws.Rows.{ChosenByRanges}
-use Rattle.mask_bits.specs.Positions.{chosen}
-use Rattle.mask_bits.specs.Runs.{is_inside}
+use Rattle.mask_bits.proofs.Common.{◌≡◌, ℕ, ◌-◌, ◌<◌, ◌≤◌, Bool, true, false, List, [], ◌∷◌, ◌++◌, length, get_or, drop, slice_range, sym, ap, ◌∙◌, arith, ap₂, list_any, flat_map, drop_all, length-between, drop_split, chosen, is_inside, AreRanges}
 use Rattle.mask_bits.proofs.Lists.ChooseLemmas.{chosen-all_true, chosen-all_false}
 use Rattle.mask_bits.proofs.Lists.LawLemmas.{chosen-items_where_true}
 use Rattle.mask_bits.proofs.Lists.Runs.RangeLemmas.{Ordered, Ordered-top, Ordered-of, none_below, part_of_one}
@@ -42,5 +35,7 @@ rows_from {X} rows m low (r ∷ rs) len o exact =
     sym (chosen-part rows m low r.0 len o.0 (omega (arith, o.1, top))
     ∙ ap₂ (λ (xs ys : List X). xs ++ ys) gap (chosen-part rows m r.0 r.1 len (omega (arith, o.1)) top ∙ ap₂ (λ (xs ys : List X). xs ++ ys) held (sym rest)))
 
-pub chosen_by_ranges : {X : Type 0} → ChosenByRanges X
+-- the rows of ranges that hold exactly the true indices, one range after another, are the chosen rows
+pub chosen_by_ranges : {X : Type 0} (rows copied : List X) (m : List Bool) (rs : List (ℕ × ℕ)) → copied ≡ flat_map (λ r. slice_range rows r.0 r.1) rs
+    → length rows ≡ length m → AreRanges m rs → copied ≡ chosen rows m
 chosen_by_ranges rows copied m rs same len are = same ∙ rows_from rows m 0 rs len (Ordered-of m rs are) (λ i from h. are.exact i h)

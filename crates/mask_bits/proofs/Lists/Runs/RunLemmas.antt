@@ -1,10 +1,8 @@
 -- The runs of a list: there is one list of them, and the scan finds it.
-use Rattle.std.proofs.Common.{◌≡◌, ◌≢◌, ℕ, zero, suc, ◌+◌, ◌<◌, ◌≤◌, ◌&&◌, ◌||◌, Bool, true, false, nat_eq, List, [], ◌∷◌, length, get_or, drop, map, refl, sym, ap, ◌∙◌, inl, inr, arith, add-one, nat_le, nat_lt}
-use Rattle.std.proofs.lemmas.Bool.{cases_eq, eq-eqb, ne_eqb, le-leb, lt-ltb, le-ltb, and_from, and_right, or_left, cond-true, cond-false, true≢false}
-use Rattle.std.specs.List.{All, AllAdjacentBelow, list_any}
+use Rattle.mask_bits.proofs.Common.{◌≡◌, ◌≢◌, ℕ, zero, suc, ◌+◌, ◌<◌, ◌≤◌, ◌&&◌, ◌||◌, Bool, true, false, nat_eq, List, [], ◌∷◌, length, get_or, drop, map, refl, sym, ap, ◌∙◌, inl, inr, arith, add-one, nat_le, nat_lt, cases_eq, ne_eqb, le-leb, lt-ltb, le-ltb, and_from, and_right, or_left, cond-true, cond-false, true≢false, AllAdjacentBelow, list_any, is_inside, AreRuns, with_index, runs_from}
+use Rattle.std.proofs.lemmas.Bool.{eq-eqb}
+use Rattle.std.specs.List.{All}
 use Rattle.mask_bits.specs.Laws.Runs.{RunsExist, RunsAreUnique, RunsAreRanges}
-use Rattle.mask_bits.specs.Runs.{is_inside, AreRuns}
-use Rattle.mask_bits.specs.RunScan.{with_index, runs_from}
 
 -- ---- one range
 

@@ -1,11 +1,5 @@
 -- The bits of some bytes from any position on: parts of them, the words that show them, and their counts.
-use Rattle.std.proofs.Common.{◌≡◌, ℕ, ◌+◌, ◌*◌, ◌-◌, ◌%◌, ◌/◌, ◌^◌, ◌<◌, ◌≤◌, Bool, false, nat_eq, List, [], ◌++◌, length, get_or, drop, sym, arith, count_ones, bit_and}
-use Rattle.std.specs.Int.{bit_at}
-use Rattle.std.proofs.lemmas.List.{get_or-drop, nil_from_length}
-use Rattle.mask_bits.specs.Bitmap.{bitmap}
-use Rattle.mask_bits.specs.Buffer.{backing_bit}
-use Rattle.mask_bits.specs.Positions.{count, repeated}
-use Rattle.mask_bits.specs.Words.{word_bits, window}
+use Rattle.mask_bits.proofs.Common.{◌≡◌, ℕ, ◌+◌, ◌*◌, ◌-◌, ◌%◌, ◌/◌, ◌^◌, ◌<◌, ◌≤◌, Bool, false, nat_eq, List, [], ◌++◌, length, get_or, drop, sym, arith, count_ones, bit_and, ◌↔◌, bit_at, get_or-drop, nil_from_length, bitmap, backing_bit, Packed, values, same_values, count, repeated, word_bits, window, slice_eq-Decides, IsTrue}
 use Rattle.mask_bits.proofs.BufferLemmas.{length-values, get_or-values, values_from_front}
 use Rattle.mask_bits.proofs.Lists.CountLemmas.{count-append, count-repeated_false}
 use Rattle.mask_bits.proofs.Lists.Words.FrontLemmas.{get_or-window, values-join, window-take, front-same}
@@ -22,6 +16,12 @@ get_or-bitmap bytes p n j d h = get_or-values (record { bytes = bytes; offset = 
 -- some bits, and those past them
 pub bitmap-append : (bytes : List ℕ) (p a b : ℕ) → bitmap bytes p (a + b) ≡ bitmap bytes p a ++ bitmap bytes (p + a) b
 bitmap-append bytes p a b = sym (values-join bytes p a b)
+
+pub ruleset lengths = (length-values, length-bitmap)
+
+-- the test of two buffers' lists is true exactly where they are one list
+pub same_values_are_one_list : (a b : Packed) → IsTrue (same_values a b) ↔ (values a ≡ values b)
+same_values_are_one_list a b = grind (arith, slice_eq-Decides)
 
 -- the bits of bytes whose first k are left out
 pub backing_bit-drop : (bytes : List ℕ) (k p : ℕ) → backing_bit (drop k bytes) p ≡ backing_bit bytes (8 * k + p)

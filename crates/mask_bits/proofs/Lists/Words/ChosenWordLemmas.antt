@@ -1,6 +1,5 @@
 -- The values that one list chooses of another, word by word.
-use Rattle.std.proofs.Common.{◌≡◌, ℕ, ◌-◌, ◌≤◌, Bool, List, [], ◌++◌, length, take, slice_range, refl, arith, take-add, length-take}
-use Rattle.mask_bits.specs.Positions.{chosen}
+use Rattle.mask_bits.proofs.Common.{◌≡◌, ℕ, ◌-◌, ◌≤◌, Bool, List, [], ◌++◌, length, take, slice_range, refl, arith, take-add, length-take, chosen}
 use Rattle.mask_bits.proofs.Lists.RowLemmas.{chosen_of_two_chunks}
 
 -- the rows before a place and those of the part that follows

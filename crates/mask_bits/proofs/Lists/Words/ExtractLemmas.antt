@@ -1,21 +1,8 @@
 -- The bits of a word at the set places of another, one by one and as a list.
-use Rattle.std.proofs.lemmas.Grind.{common_steps}
-use Rattle.std.proofs.Common.{◌≡◌, ◌≢◌, ◌⊎◌, inl, inr, subst, bit_and, bit_or, bit_xor, ℕ, zero, suc, ◌+◌, ◌*◌, ◌-◌, ◌/◌, ◌%◌, ◌^◌, ◌<◌, ◌≤◌, ◌↔◌, Bool, true, false, nat_eq, List, [], ◌∷◌, length, get_or, take, drop, sym, ap, ◌∙◌, arith}
-use Rattle.std.specs.Int.{bit_at}
-use Rattle.std.specs.List.{items_where_true}
-use Rattle.std.proofs.lemmas.Bool.Decides.{nat_tests}
-use Rattle.std.proofs.lemmas.List.{ext_get_or, get_or-map, length-append, get_or_append_left, get_or-append_right, take-append-le, take_all, length-drop}
-use Rattle.std.proofs.lemmas.Bool.{cases_lt}
-use Rattle.std.proofs.lemmas.Nat.{and_mask, and_le_l}
-use Rattle.std.specs.Int.Bits.{or_zero_l, or_zero_r, xor_zero_r}
-use Rattle.std.proofs.lemmas.Nat.Bits.{bit_at-lt, bit_at_or, bit_at_xor, bit_at_above, bit_at-pow_same, bit_at-pow_other, same_from_bits}
-use Rattle.std.proofs.lemmas.Option.{get_or_from_slice_get}
+use Rattle.mask_bits.proofs.Common.{common_steps, ◌≡◌, ◌≢◌, ◌⊎◌, inl, inr, subst, bit_and, bit_or, bit_xor, ℕ, zero, suc, ◌+◌, ◌*◌, ◌-◌, ◌/◌, ◌%◌, ◌^◌, ◌<◌, ◌≤◌, ◌↔◌, Bool, true, false, nat_eq, List, [], ◌∷◌, length, get_or, take, drop, sym, ap, ◌∙◌, arith, ◌++◌, bit_at, items_where_true, nat_tests, get_or-map, length-append, get_or_append_left, get_or-append_right, take-append-le, cases_lt, and_mask, and_le_l, or_zero_l, or_zero_r, xor_zero_r, bit_at-lt, bit_at_or, bit_at_xor, bit_at_above, bit_at-pow_same, bit_at-pow_other, same_from_bits, get_or_from_slice_get, Extracts, positions, count, chosen, repeated, word_bits}
+use Rattle.std.proofs.lemmas.List.{ext_get_or, take_all, length-drop}
 use Rattle.mask_bits.proofs.Lists.Words.LowestLemmas.{low, low-first, low-set, bit_at-lowest_cleared, bit_at-lowest_others}
 use Rattle.mask_bits.proofs.Lists.Words.ShiftLemmas.{bit_at-mod, bit_at-shl_high, bit_at-shl_low}
-use Rattle.mask_bits.specs.Extract.{Extracts}
-use Rattle.mask_bits.specs.Laws.Words.{ExtractIsChosenValues}
-use Rattle.mask_bits.specs.Positions.{positions, count, chosen}
-use Rattle.mask_bits.specs.Words.{word_bits}
 use Rattle.mask_bits.proofs.Lists.CountLemmas.{length-repeated, get_or-repeated}
 use Rattle.mask_bits.proofs.Lists.LawLemmas.{chosen-items_where_true, length-chosen}
 use Rattle.mask_bits.proofs.Lists.Places.PlaceLemmas.{positions-true, positions-false, trues, count-trues, count-le-length, positions-within}
@@ -57,7 +44,9 @@ extracted-value s m r k is h = grind (arith, count-of_word, place_in_word, get_o
 extracted-above : (s m r k : ℕ) → Extracts s m r → k < 64 → count (word_bits m) ≤ k → get_or (word_bits r) k false ≡ false
 extracted-above s m r k is few h = grind (arith, get_or-word_bits, clear_bit, bit_at-lt)
 
-pub extract_is_chosen_values : ExtractIsChosenValues
+-- an extract is the source's values at the mask's true indices, and false values behind them
+pub extract_is_chosen_values : (source mask result : ℕ) → Extracts source mask result
+    → word_bits result ≡ chosen (word_bits source) (word_bits mask) ++ repeated (64 - count (word_bits mask)) false
 extract_is_chosen_values s m r is =
     ext_get_or false _ _ (grind (arith, length-chosen, length-word_bits, length-append, length-repeated, count-of_word, extracted-value, extracted-above, get_or_append_left, get_or-append_right, get_or-repeated)) (λ j h. grind (arith, length-chosen, length-word_bits, length-append, length-repeated, count-of_word, extracted-value, extracted-above, get_or_append_left, get_or-append_right, get_or-repeated))
 

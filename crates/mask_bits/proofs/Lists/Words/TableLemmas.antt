@@ -1,5 +1,5 @@
 -- What a test computes at each number below one: tables, and functions that agree there.
-use Rattle.std.proofs.Common.{◌≡◌, ℕ, zero, suc, ◌-◌, ◌<◌, Bool, true, false, ◌&&◌, T, eqb, eqb→eq, ltb, ltb→lt, subst, arith, eq-zero-or-pos, inl, inr}
+use Rattle.mask_bits.proofs.Common.{◌≡◌, ℕ, zero, suc, ◌-◌, ◌<◌, Bool, true, false, ◌&&◌, T, eqb, eqb→eq, ltb, ltb→lt, subst, arith, eq-zero-or-pos, inl, inr}
 
 abbrev pub all_below : (ℕ → Bool) → ℕ → Bool
 all_below p zero = true

@@ -1,15 +1,11 @@
 -- Lanes read as one number, and as lanes of another width.
-use Rattle.std.proofs.Common.{◌≡◌, ℕ, zero, suc, ◌+◌, ◌-◌, ◌*◌, ◌/◌, ◌%◌, ◌^◌, ◌<◌, List, [], ◌∷◌, length, get_or, refl, sym, ap, subst, ◌∙◌, arith, pow-suc, add_comm, bit_and, count_ones, pow-add, pow_mono, Fits, ◌≤◌, ap₂}
+use Rattle.mask_bits.proofs.Common.{◌≡◌, ℕ, zero, suc, ◌+◌, ◌-◌, ◌*◌, ◌/◌, ◌%◌, ◌^◌, ◌<◌, List, [], ◌∷◌, length, get_or, refl, sym, ap, subst, ◌∙◌, arith, pow-suc, add_comm, bit_and, count_ones, pow-add, pow_mono, Fits, ◌≤◌, ap₂, Each1, number_l, digits_l, chunk, Each1-from_get_or, length-chunk, get_or-chunk, get_or_wider, Each1-get_or, and_mask, mod-mul-add, shr_high, ones_cat, ones-le, one-le-pow, pow-zero, add-mul-mod_self_left, digits_lt, AreLanes}
 use mir.Syntax.{Width}
 use mir.Val.{bits}
-use Rattle.std.specs.Simd.Lanes.{Each1, number_l, digits_l, chunk}
-use Rattle.std.proofs.lemmas.Simd.{Each1-from_get_or, length-chunk, get_or-chunk, get_or_wider, Each1-get_or}
-use Rattle.std.proofs.lemmas.Nat.{shr-shr, and_mask, mod-mul-add, shr_high, ones_cat, ones-le}
-use Rattle.std.proofs.Math.Nat.{one-le-pow, mul_comm, pow-zero, add-mul-mod_self_left}
-use Rattle.std.proofs.Math.Arith.{digits_lt}
+use Rattle.std.proofs.lemmas.Nat.{shr-shr}
+use Rattle.std.proofs.Math.Nat.{mul_comm}
 use lib.Arith.{mod-mul}
 use lib.Count.{ones}
-use Rattle.mask_bits.specs.Lanes.{AreLanes}
 use Rattle.mask_bits.proofs.Lists.Words.TableLemmas.{same_below}
 
 -- ---- a number cut into lanes

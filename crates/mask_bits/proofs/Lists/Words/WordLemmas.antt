@@ -1,18 +1,9 @@
 -- Words of 64 bits as lists of truth values.
-use Rattle.std.proofs.lemmas.Grind.{common_steps}
-use Rattle.std.proofs.Common.{zero-add, ◌≡◌, ℕ, ◌+◌, ◌/◌, ◌<◌, ◌≤◌, Bool, false, nat_eq, List, [], ◌∷◌, length, get_or, drop, sym, ap, ◌∙◌, arith, ◌*◌, ◌%◌, zero, suc, map, ◌^◌, take, count_ones, mod-lt, mod-eq_of_lt}
-use Rattle.std.specs.Int.{bit_at}
-use Rattle.std.proofs.lemmas.List.{drop_more, drop_all, take_more, take_all, length-drop}
-use Rattle.std.proofs.lemmas.List.FromFn.{length-map-range_with_len, get_or-map-range_with_len, fill_by_all, sum_by-map-range_with_len_more}
-use Rattle.mask_bits.specs.Words.{word_bits, word_part, word_parts}
-use Rattle.mask_bits.specs.Laws.Words.{ValueOfWord, CountsOfWordsAddUp}
-use Rattle.mask_bits.specs.Positions.{count, count_below}
-use Rattle.mask_bits.proofs.Lists.CountLemmas.{count-append, count-repeated_false, count-push}
-use Rattle.std.specs.List.{sum_by, range_with_len}
-use Rattle.std.proofs.lemmas.List.Folds.{drop_split}
+use Rattle.mask_bits.proofs.Common.{common_steps, ◌≡◌, ℕ, ◌+◌, ◌/◌, ◌<◌, ◌≤◌, Bool, false, nat_eq, List, [], ◌∷◌, length, get_or, drop, sym, arith, ◌%◌, zero, suc, ◌^◌, take, count_ones, mod-lt, mod-eq_of_lt, bit_at, drop_more, drop_all, take_more, length-map-range_with_len, get_or-map-range_with_len, fill_by_all, word_bits, word_part, word_parts, count, count_below, ones-le, ones_cat, mod-pow-add, bit_at-lt}
+use Rattle.std.proofs.lemmas.List.{take_all, length-drop}
+use Rattle.mask_bits.proofs.Lists.CountLemmas.{count-push}
 use lib.Count.{ones_step}
-use Rattle.std.proofs.lemmas.Nat.{pow_pos, ones-le, ones_cat, mod-pow-add}
-use Rattle.std.proofs.lemmas.Nat.Bits.{bit_at-lt}
+use Rattle.std.proofs.lemmas.Nat.{pow_pos}
 
 pub length-word_bits : (w : ℕ) → length (word_bits w) ≡ 64
 unfolding word_bits
@@ -65,19 +56,6 @@ pub drop-word_parts_all : (m : List Bool) (i : ℕ) → length m / 64 ≤ i → 
 drop-word_parts_all m i h = drop_all i (word_parts m) (omega (arith, length-word_parts m))
 
 -- ---- counts
-
--- the parts so far and what comes after them have all true values
-counts_of_front : (m : List Bool) (k : ℕ) → 64 * k ≤ length m → sum_by count (map (word_part m) (range_with_len 0 k)) + count (drop (64 * k) m) ≡ count m
-counts_of_front m zero h = zero-add (count m)
-counts_of_front m (suc k) h =
-    grind (arith, sum_by-map-range_with_len_more count (word_part m) 0 k k (omega arith), drop_split m (64 * k) (64 * k + 64) (omega arith), count-append, counts_of_front m k (omega arith))
-
-pub value_of_word : ValueOfWord
-value_of_word w i h = get_or-word_bits w i false h
-
-pub counts_of_words_add_up : CountsOfWordsAddUp
-unfolding word_parts
-counts_of_words_add_up m = grind (arith, counts_of_front, count-append, count-repeated_false)
 
 pub ruleset words_of_list = (length-word_parts, drop-word_parts, drop-word_parts_all, length-drop)
 

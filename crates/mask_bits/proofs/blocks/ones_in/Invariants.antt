@@ -1,6 +1,4 @@
-use Rattle.std.proofs.Common.{◌≡◌, ◌≤◌, ◌+◌, ◌*◌, drop}
-use Rattle.mask_bits.specs.Positions.{count}
-use Rattle.mask_bits.specs.Words.{bits_of_words}
+use Rattle.mask_bits.proofs.Common.{◌≡◌, ◌≤◌, ◌+◌, ◌*◌, drop, count, bits_of_words}
 use Rattle.mask_bits.proofs.blocks.ones_in.Given as goal
 
 -- those so far, and those that are left, are all

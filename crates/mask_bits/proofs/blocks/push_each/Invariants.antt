@@ -1,6 +1,4 @@
-use Rattle.std.proofs.Common.{◌≡◌, ◌+◌, ◌*◌, ◌++◌, drop, length}
-use Rattle.mask_bits.specs.Positions.{count, indices_from}
-use Rattle.mask_bits.specs.Words.{bits_of_words}
+use Rattle.mask_bits.proofs.Common.{◌≡◌, ◌+◌, ◌*◌, ◌++◌, drop, length, count, indices_from, bits_of_words}
 use Rattle.mask_bits.proofs.blocks.push_each.Given as goal
 
 -- the indices so far, and those of the words that are left, are all

@@ -1,6 +1,4 @@
-use Rattle.std.proofs.Common.{Bool, List, ◌*◌, ◌+◌, ◌/◌, false, length, get_or, ap, ◌∙◌, arith}
-use Rattle.std.proofs.lemmas.List.{take_rest, get_or-drop}
-use Rattle.std.proofs.lemmas.List.Edits.{get_or-between}
+use Rattle.mask_bits.proofs.Common.{Bool, List, ◌*◌, ◌+◌, ◌/◌, false, length, get_or, ap, ◌∙◌, arith, take_rest, get_or-drop, get_or-between}
 use Rattle.mask_bits.proofs.BoolsLemmas.{bools-more}
 use Rattle.mask_bits.proofs.bools.put_bools.Goals as goal
 

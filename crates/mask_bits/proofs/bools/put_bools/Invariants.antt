@@ -1,5 +1,4 @@
-use Rattle.std.proofs.Common.{◌≡◌, ℕ, ◌*◌, ◌<◌, false, get_or}
-use Rattle.mask_bits.specs.Buffer.{backing_bit}
+use Rattle.mask_bits.proofs.Common.{◌≡◌, ℕ, ◌*◌, ◌<◌, false, get_or, backing_bit}
 use Rattle.mask_bits.proofs.bools.put_bools.Given as goal
 
 -- the values of the words so far are written

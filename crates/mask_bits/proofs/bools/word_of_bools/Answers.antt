@@ -1,4 +1,4 @@
-use Rattle.std.proofs.Common.{arith}
+use Rattle.mask_bits.proofs.Common.{arith}
 use Rattle.mask_bits.proofs.BoolsLemmas.{lanes-none, lanes-more}
 use Rattle.mask_bits.proofs.bools.word_of_bools.Goals as goal
 

@@ -1,4 +1,4 @@
-use Rattle.mask_bits.specs.Lanes.{AreLanesOf}
+use Rattle.mask_bits.proofs.Common.{AreLanesOf}
 use Rattle.mask_bits.proofs.bools.word_of_bools.Given as goal
 
 -- the values so far have their lanes

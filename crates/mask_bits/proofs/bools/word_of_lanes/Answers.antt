@@ -1,7 +1,5 @@
-use Rattle.std.proofs.Common.{◌≡◌, ℕ, Bool, true, false, List, length, get_or, take, map, cond, nat_eq, eqb, refl, ap, ◌∙◌, arith, w8}
-use Rattle.std.proofs.lemmas.List.{get_or-map, take_all}
-use Rattle.std.proofs.lemmas.Simd.{bitmask_splat, bit_mask_l}
-use Rattle.mask_bits.specs.Words.{word_bits}
+use Rattle.mask_bits.proofs.Common.{◌≡◌, ℕ, Bool, true, false, List, length, get_or, take, map, cond, nat_eq, eqb, refl, ap, ◌∙◌, arith, w8, get_or-map, bitmask_splat, bit_mask_l, word_bits}
+use Rattle.std.proofs.lemmas.List.{take_all}
 use Rattle.mask_bits.proofs.Lists.Words.WordLemmas.{get_or-word_bits}
 use Rattle.mask_bits.proofs.bools.word_of_lanes.Goals as goal
 use lib.Lanes.{mask_l}

@@ -1,8 +1,5 @@
-use Rattle.std.proofs.Common.{◌≡◌, ℕ, Bool, true, false, List, length, get_or, take, map, cond, nat_eq, eqb, refl, ap, ◌∙◌, inl, inr, arith, w8}
-use Rattle.std.proofs.lemmas.Bool.{cases_lt}
-use Rattle.std.proofs.lemmas.List.{get_or-map, get_or_past, length-map, take_all}
-use Rattle.std.proofs.lemmas.Simd.{bitmask_splat, bit_mask_l}
-use Rattle.mask_bits.specs.Words.{word_bits}
+use Rattle.mask_bits.proofs.Common.{◌≡◌, ℕ, Bool, true, false, List, length, get_or, take, map, cond, nat_eq, eqb, refl, ap, ◌∙◌, inl, inr, arith, w8, cases_lt, get_or-map, get_or_past, length-map, bitmask_splat, bit_mask_l, word_bits}
+use Rattle.std.proofs.lemmas.List.{take_all}
 use Rattle.mask_bits.proofs.Lists.Words.WordLemmas.{get_or-word_bits}
 use Rattle.mask_bits.proofs.bools.word_of_sixteen_lanes.Goals as goal
 use lib.Lanes.{mask_l}

@@ -1,4 +1,4 @@
-use Rattle.std.proofs.Common.{ℕ, ◌+◌, ◌%◌, ◌^◌, refl, arith}
+use Rattle.mask_bits.proofs.Common.{ℕ, ◌+◌, ◌%◌, ◌^◌, refl, arith}
 use Rattle.mask_bits.proofs.ByteLemmas.{lanes-indices}
 use Rattle.mask_bits.proofs.Lists.Words.LaneLemmas.{AreLanes-map, AreLanes-splat, AreLanes-zip2}
 use Rattle.mask_bits.proofs.byte_places.indices_of_byte.Goals as goal

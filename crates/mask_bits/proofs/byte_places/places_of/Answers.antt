@@ -1,4 +1,4 @@
-use Rattle.std.proofs.Common.{arith}
+use Rattle.mask_bits.proofs.Common.{arith}
 use Rattle.mask_bits.proofs.ByteLemmas.{length-places, places-listed, places-within}
 use Rattle.mask_bits.proofs.byte_places.places_of.Goals as goal
 

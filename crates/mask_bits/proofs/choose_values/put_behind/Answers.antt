@@ -1,4 +1,4 @@
-use Rattle.std.proofs.Common.{arith}
+use Rattle.mask_bits.proofs.Common.{arith}
 use Rattle.mask_bits.proofs.ChosenBitLemmas.{clear-behind, put-full_clear}
 use Rattle.mask_bits.proofs.choose_values.put_behind.Goals as goal
 

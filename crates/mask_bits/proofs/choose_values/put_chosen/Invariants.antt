@@ -1,4 +1,4 @@
-use Rattle.mask_bits.specs.ChosenBits.{AreChosenSoFar}
+use Rattle.mask_bits.proofs.Common.{AreChosenSoFar}
 use Rattle.mask_bits.proofs.choose_values.put_chosen.Given as goal
 
 -- the values chosen in the words so far

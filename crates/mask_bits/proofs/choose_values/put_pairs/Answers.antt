@@ -1,5 +1,4 @@
-use Rattle.std.proofs.Common.{◌≡◌, ◌+◌, ◌*◌, subst, arith, rules}
-use Rattle.mask_bits.specs.ChosenBits.{AreChosenSoFar}
+use Rattle.mask_bits.proofs.Common.{◌≡◌, ◌+◌, ◌*◌, subst, arith, rules, AreChosenSoFar}
 use Rattle.mask_bits.proofs.ChosenBitLemmas.{AreChosenAt-whole, AreChosenSoFar-none, AreChosenSoFar-more, chosen-within, extracted-clear}
 use Rattle.mask_bits.proofs.Lists.Places.PlaceLemmas.{count-le-length}
 use Rattle.mask_bits.proofs.choose_values.put_pairs.Goals as goal

@@ -1,5 +1,4 @@
-use Rattle.std.proofs.Common.{◌*◌}
-use Rattle.mask_bits.specs.ChosenBits.{AreChosenSoFar}
+use Rattle.mask_bits.proofs.Common.{◌*◌, AreChosenSoFar}
 use Rattle.mask_bits.proofs.choose_values.put_pairs.Given as goal
 
 -- the values chosen in the pairs so far

@@ -1,6 +1,4 @@
-use Rattle.std.proofs.Common.{◌≡◌, drop}
-use Rattle.mask_bits.specs.Positions.{positions}
-use Rattle.mask_bits.specs.Words.{word_bits}
+use Rattle.mask_bits.proofs.Common.{◌≡◌, drop, positions, word_bits}
 use Rattle.mask_bits.proofs.chunks.index_in_word.Given as goal
 
 -- the lowest set bits so far are cleared

@@ -1,5 +1,4 @@
-use Rattle.std.proofs.Common.{arith}
-use Rattle.std.proofs.lemmas.Grind.{one_shifted}
+use Rattle.mask_bits.proofs.Common.{arith, one_shifted}
 use Rattle.mask_bits.proofs.WindowLemmas.{word_bits-remainder}
 use Rattle.mask_bits.proofs.chunks.remainder.Goals as goal
 

@@ -1,5 +1,4 @@
-use Rattle.std.proofs.Common.{nat_eq, not, ap, sym, ◌∙◌, arith}
-use Rattle.std.specs.Int.{bit_at}
+use Rattle.mask_bits.proofs.Common.{nat_eq, not, ap, sym, ◌∙◌, arith, bit_at}
 use Rattle.mask_bits.proofs.Lists.Words.BackingBitLemmas.{bit-window}
 use Rattle.mask_bits.proofs.Lists.Words.LowestLemmas.{zeros-within, zeros-clear, zeros-end, ones-within, ones-set, ones-end}
 use Rattle.mask_bits.proofs.chunks.run_of_others.Goals as goal

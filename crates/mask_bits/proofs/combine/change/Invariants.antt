@@ -1,5 +1,4 @@
-use Rattle.std.proofs.Common.{◌*◌}
-use Rattle.mask_bits.specs.Combine.{IsCombinedBetween}
+use Rattle.mask_bits.proofs.Common.{◌*◌, IsCombinedBetween}
 use Rattle.mask_bits.proofs.combine.change.Given as goal
 
 -- the words before are combined

@@ -1,4 +1,4 @@
-use Rattle.std.proofs.Common.{◌*◌, arith}
+use Rattle.mask_bits.proofs.Common.{◌*◌, arith}
 use Rattle.mask_bits.proofs.CombineLemmas.{values-combined}
 use Rattle.mask_bits.proofs.combine.combine.Goals as goal
 

@@ -1,4 +1,4 @@
-use Rattle.std.proofs.Common.{◌*◌, ◌/◌, arith}
+use Rattle.mask_bits.proofs.Common.{◌*◌, ◌/◌, arith}
 use Rattle.mask_bits.proofs.CombineLemmas.{between-join, values-in_place}
 use Rattle.mask_bits.proofs.combine.combine_in_place.Goals as goal
 

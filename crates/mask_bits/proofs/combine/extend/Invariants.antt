@@ -1,5 +1,4 @@
-use Rattle.std.proofs.Common.{◌*◌}
-use Rattle.mask_bits.specs.Combine.{AreCombined}
+use Rattle.mask_bits.proofs.Common.{◌*◌, AreCombined}
 use Rattle.mask_bits.proofs.combine.extend.Given as goal
 
 -- the words before are written

@@ -1,5 +1,4 @@
-use Rattle.std.proofs.Common.{◌*◌, not}
-use Rattle.mask_bits.specs.Combine.{IsCombinedBetween}
+use Rattle.mask_bits.proofs.Common.{◌*◌, not, IsCombinedBetween}
 use Rattle.mask_bits.proofs.combine.negate_in_place.Given as goal
 
 -- the bytes before are negated

@@ -1,4 +1,4 @@
-use Rattle.std.proofs.Common.{◌*◌, ◌+◌, arith}
+use Rattle.mask_bits.proofs.Common.{◌*◌, ◌+◌, arith}
 use Rattle.mask_bits.proofs.CompareLemmas.{count-at_most, count-step}
 use Rattle.mask_bits.proofs.compare.count_on.Goals as goal
 

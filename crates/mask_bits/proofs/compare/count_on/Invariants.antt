@@ -1,7 +1,4 @@
-use Rattle.std.proofs.Common.{◌≡◌, ◌*◌}
-use Rattle.mask_bits.specs.Bitmap.{bitmap}
-use Rattle.mask_bits.specs.Lists.{combined}
-use Rattle.mask_bits.specs.Positions.{count}
+use Rattle.mask_bits.proofs.Common.{◌≡◌, ◌*◌, bitmap, combined, count}
 use Rattle.mask_bits.proofs.compare.count_on.Given as goal
 
 -- those of the words before are counted

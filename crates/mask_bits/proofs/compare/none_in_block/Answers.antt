@@ -1,4 +1,4 @@
-use Rattle.std.proofs.Common.{◌*◌, arith}
+use Rattle.mask_bits.proofs.Common.{◌*◌, arith}
 use Rattle.mask_bits.proofs.CompareLemmas.{none-or, none-word, none-join}
 use Rattle.mask_bits.proofs.compare.none_in_block.Goals as goal
 

@@ -1,5 +1,4 @@
-use Rattle.std.proofs.Common.{◌≡◌, ◌*◌, ◌↔◌}
-use Rattle.mask_bits.specs.Combine.{IsNoneTrue}
+use Rattle.mask_bits.proofs.Common.{◌≡◌, ◌*◌, ◌↔◌, IsNoneTrue}
 use Rattle.mask_bits.proofs.compare.none_in_block.Given as goal
 
 -- `found` tells whether there is none in the words before

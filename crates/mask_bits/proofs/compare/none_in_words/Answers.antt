@@ -1,4 +1,4 @@
-use Rattle.std.proofs.Common.{◌*◌}
+use Rattle.mask_bits.proofs.Common.{◌*◌}
 use Rattle.mask_bits.proofs.CompareLemmas.{none-drop}
 use Rattle.mask_bits.proofs.compare.none_in_words.Goals as goal
 

@@ -1,7 +1,4 @@
-use Rattle.std.proofs.Common.{ℕ, ◌≡◌, ◌+◌, ◌-◌, ◌*◌, ◌/◌, ◌%◌, take, drop, length, ap, arith}
-use Rattle.std.proofs.lemmas.List.{take_rest}
-use Rattle.mask_bits.specs.Bitmap.{bitmap}
-use Rattle.mask_bits.specs.Positions.{count}
+use Rattle.mask_bits.proofs.Common.{ℕ, ◌≡◌, ◌+◌, ◌-◌, ◌*◌, ◌/◌, ◌%◌, take, drop, length, ap, arith, take_rest, bitmap, count}
 use Rattle.mask_bits.proofs.Lists.Words.BackingBitLemmas.{count-split}
 use Rattle.mask_bits.proofs.counts.count_bits.Goals as goal
 

@@ -1,6 +1,4 @@
-use Rattle.std.proofs.Common.{◌*◌, ◌+◌, ◌≡◌, sym, arith, count_ones}
-use Rattle.mask_bits.specs.Bitmap.{bitmap}
-use Rattle.mask_bits.specs.Positions.{count}
+use Rattle.mask_bits.proofs.Common.{◌*◌, ◌+◌, ◌≡◌, sym, arith, count_ones, bitmap, count}
 use Rattle.mask_bits.proofs.Lists.Words.BackingBitLemmas.{count-bitmap-le}
 use Rattle.mask_bits.proofs.Lists.CountLemmas.{count-append}
 use Rattle.mask_bits.proofs.Lists.Words.FrontLemmas.{front-more_word}

@@ -1,6 +1,4 @@
-use Rattle.std.proofs.Common.{◌≡◌, ◌*◌}
-use Rattle.mask_bits.specs.Bitmap.{bitmap}
-use Rattle.mask_bits.specs.Positions.{count}
+use Rattle.mask_bits.proofs.Common.{◌≡◌, ◌*◌, bitmap, count}
 use Rattle.mask_bits.proofs.counts.count_words.Given as goal
 
 -- the ones of the words so far

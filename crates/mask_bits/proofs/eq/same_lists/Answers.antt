@@ -1,4 +1,4 @@
-use Rattle.std.proofs.Common.{arith}
+use Rattle.mask_bits.proofs.Common.{arith}
 use Rattle.mask_bits.proofs.BufferLemmas.{same_values-from_answer}
 use Rattle.mask_bits.proofs.CombineLemmas.{values-parts}
 use Rattle.mask_bits.proofs.eq.same_lists.Goals as goal

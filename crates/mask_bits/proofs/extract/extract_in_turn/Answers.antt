@@ -1,4 +1,4 @@
-use Rattle.std.proofs.Common.{arith}
+use Rattle.mask_bits.proofs.Common.{arith}
 use Rattle.mask_bits.proofs.Lists.Words.ExtractLemmas.{IsExtractedTo-some, IsExtractedTo-more, Extracts-all, count-of_word}
 use Rattle.mask_bits.proofs.extract.extract_in_turn.Goals as goal
 

@@ -1,5 +1,4 @@
-use Rattle.std.proofs.Common.{ℕ, ◌≡◌, ◌+◌, ◌-◌, ◌%◌, ◌^◌, ap, ◌∙◌, bit_and, bit_xor, arith}
-use Rattle.std.proofs.lemmas.Bool.{cases_lt}
+use Rattle.mask_bits.proofs.Common.{ℕ, ◌≡◌, ◌+◌, ◌-◌, ◌%◌, ◌^◌, ap, ◌∙◌, bit_and, bit_xor, arith, cases_lt}
 use Rattle.mask_bits.proofs.Lists.Words.LowestLemmas.{low}
 use Rattle.mask_bits.proofs.Lists.Words.ExtractLemmas.{Extracts-two, lowest_alone, second_alone}
 use Rattle.mask_bits.proofs.extract.extract_two_lowest.Goals as goal

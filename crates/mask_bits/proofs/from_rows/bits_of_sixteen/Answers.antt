@@ -1,8 +1,4 @@
-use Rattle.std.proofs.Common.{[], take, refl, subst, arith}
-use Rattle.std.specs.Fn.{FnReturnsAt}
-use Rattle.mask_bits.specs.Lanes.{ArePacked}
-use Rattle.mask_bits.specs.Rows.{AreAnswers}
-use Rattle.mask_bits.specs.Words.{word_bits}
+use Rattle.mask_bits.proofs.Common.{[], take, refl, subst, arith, FnReturnsAt, ArePacked, AreAnswers, word_bits}
 use Rattle.mask_bits.proofs.AnswerLemmas.{packed_no_answers, answers_of_word, clear_past_lanes}
 use Rattle.mask_bits.proofs.from_rows.bits_of_sixteen.Goals as goal
 

@@ -1,7 +1,4 @@
-use Rattle.std.proofs.Common.{◌≡◌, ℕ, ◌+◌, ◌*◌, ◌/◌, length, take, subst, arith, inl, take_all}
-use Rattle.std.specs.Fn.{FnReturnsAt}
-use Rattle.mask_bits.specs.Bitmap.{bitmap}
-use Rattle.mask_bits.specs.Rows.{AreAnswers}
+use Rattle.mask_bits.proofs.Common.{◌≡◌, ℕ, ◌+◌, ◌*◌, ◌/◌, length, take, subst, arith, inl, take_all, FnReturnsAt, bitmap, AreAnswers}
 use Rattle.mask_bits.proofs.AnswerLemmas.{answers-none, answers-written}
 use Rattle.mask_bits.proofs.from_rows.put_answers.Goals as goal
 

@@ -1,7 +1,4 @@
-use Rattle.std.proofs.Common.{take, ◌*◌}
-use Rattle.std.specs.Fn.{FnReturnsAt}
-use Rattle.mask_bits.specs.Bitmap.{bitmap}
-use Rattle.mask_bits.specs.Rows.{AreAnswers}
+use Rattle.mask_bits.proofs.Common.{take, ◌*◌, FnReturnsAt, bitmap, AreAnswers}
 use Rattle.mask_bits.proofs.from_rows.put_answers.Given as goal
 
 -- the answers of the words so far are written

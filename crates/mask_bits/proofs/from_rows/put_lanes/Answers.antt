@@ -1,7 +1,5 @@
-use Rattle.std.proofs.Common.{◌≡◌, ◌+◌, ◌++◌, set, length, take, sym, subst, ap, ◌∙◌, arith}
-use Rattle.std.specs.Fn.{FnReturnsAt}
-use Rattle.std.proofs.lemmas.List.{length-take-le, length-append, append_assoc, take_more}
-use Rattle.mask_bits.specs.Lanes.{ArePacked}
+use Rattle.mask_bits.proofs.Common.{◌≡◌, ◌+◌, ◌++◌, set, length, take, sym, subst, ap, ◌∙◌, arith, FnReturnsAt, length-append, take_more, ArePacked}
+use Rattle.std.proofs.lemmas.List.{length-take-le, append_assoc}
 use Rattle.mask_bits.proofs.AnswerLemmas.{packed_one_more}
 use Rattle.mask_bits.proofs.from_rows.put_lanes.Goals as goal
 use mir.Val.{bool_byte}

@@ -1,6 +1,4 @@
-use Rattle.std.proofs.Common.{◌≡◌, ◌++◌, List, length, take}
-use Rattle.std.specs.Fn.{FnReturnsAt}
-use Rattle.mask_bits.specs.Lanes.{ArePacked}
+use Rattle.mask_bits.proofs.Common.{◌≡◌, ◌++◌, List, length, take, FnReturnsAt, ArePacked}
 use Rattle.mask_bits.proofs.from_rows.put_lanes.Given as goal
 
 -- the answers so far have their lanes, behind those that were there

@@ -1,7 +1,4 @@
-use Rattle.std.proofs.Common.{◌≡◌, ◌+◌, ◌-◌, ◌*◌, take, drop, subst, arith}
-use Rattle.std.specs.Fn.{FnReturnsAt}
-use Rattle.mask_bits.specs.Rows.{AreAnswers}
-use Rattle.mask_bits.specs.Words.{word_bits}
+use Rattle.mask_bits.proofs.Common.{◌≡◌, ◌+◌, ◌-◌, ◌*◌, take, drop, subst, arith, FnReturnsAt, AreAnswers, word_bits}
 use Rattle.mask_bits.proofs.AnswerLemmas.{answers-sixteen, sixteen-clear}
 use Rattle.mask_bits.proofs.from_rows.word_by_sixteens.Goals as goal
 

@@ -1,8 +1,4 @@
-use Rattle.std.proofs.Common.{◌≡◌, ℕ, ◌≤◌, ◌*◌, take}
-use Rattle.std.specs.Fn.{FnReturnsAt}
-use Rattle.std.specs.Int.{bit_at}
-use Rattle.mask_bits.specs.Rows.{AreAnswers}
-use Rattle.mask_bits.specs.Words.{word_bits}
+use Rattle.mask_bits.proofs.Common.{◌≡◌, ℕ, ◌≤◌, ◌*◌, take, FnReturnsAt, bit_at, AreAnswers, word_bits}
 use Rattle.mask_bits.proofs.from_rows.word_by_sixteens.Given as goal
 
 -- the word has the answers so far, and no bits past them

@@ -1,6 +1,4 @@
-use Rattle.std.proofs.Common.{◌≡◌, ℕ, ◌+◌, ◌-◌, ◌*◌, ◌/◌, length, take, subst, ◌∙◌, arith, length-take-le, take_all}
-use Rattle.std.specs.Fn.{FnReturnsAt}
-use Rattle.mask_bits.specs.Lanes.{ArePacked}
+use Rattle.mask_bits.proofs.Common.{◌≡◌, ℕ, ◌+◌, ◌-◌, ◌*◌, ◌/◌, length, take, subst, ◌∙◌, arith, length-take-le, take_all, FnReturnsAt, ArePacked}
 use Rattle.mask_bits.proofs.AnswerLemmas.{packed_no_answers, answers_of_word, take_part}
 use Rattle.mask_bits.proofs.from_rows.word_of_rows.Goals as goal
 

@@ -1,6 +1,4 @@
-use Rattle.std.proofs.Common.{◌*◌, take}
-use Rattle.std.specs.Fn.{FnReturnsAt}
-use Rattle.mask_bits.specs.Lanes.{ArePacked}
+use Rattle.mask_bits.proofs.Common.{◌*◌, take, FnReturnsAt, ArePacked}
 use Rattle.mask_bits.proofs.from_rows.word_of_rows.Given as goal
 
 -- the answers so far have their lanes

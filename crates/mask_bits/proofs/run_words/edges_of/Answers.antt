@@ -1,8 +1,5 @@
-use Rattle.std.proofs.Common.{◌≤◌, length, ap, ◌∙◌, sym, subst}
+use Rattle.mask_bits.proofs.Common.{◌≤◌, length, ap, ◌∙◌, sym, subst, indices_from, runs_between, begins, word_bits}
 use Rattle.std.specs.List.{zip}
-use Rattle.mask_bits.specs.Positions.{indices_from}
-use Rattle.mask_bits.specs.Pushed.{runs_between, begins}
-use Rattle.mask_bits.specs.Words.{word_bits}
 use Rattle.mask_bits.proofs.RunWordLemmas.{first_begins, AreEdges-first}
 use Rattle.mask_bits.proofs.run_words.edges_of.Goals as goal
 

@@ -1,4 +1,4 @@
-use Rattle.std.proofs.Common.{arith}
+use Rattle.mask_bits.proofs.Common.{arith}
 use Rattle.mask_bits.proofs.Lists.Words.WalkLemmas.{IsLeft-read}
 use Rattle.mask_bits.proofs.scan.first_word.Goals as goal
 

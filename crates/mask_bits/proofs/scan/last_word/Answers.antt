@@ -1,5 +1,4 @@
-use Rattle.std.proofs.Common.{◌≡◌, ◌+◌, ◌<◌, length, ◌∙◌, sym, subst, arith}
-use Rattle.mask_bits.specs.Words.{word_bits, padded_part, started_words}
+use Rattle.mask_bits.proofs.Common.{◌≡◌, ◌+◌, ◌<◌, length, ◌∙◌, sym, subst, arith, word_bits, padded_part, started_words}
 use Rattle.mask_bits.proofs.Lists.Words.WalkLemmas.{left_of-next, left_of-last}
 use Rattle.mask_bits.proofs.scan.last_word.Goals as goal
 

@@ -1,6 +1,4 @@
-use Rattle.std.proofs.Common.{◌≡◌, ◌-◌, length}
-use Rattle.mask_bits.specs.Walk.{left_of, IsLeft}
-use Rattle.mask_bits.specs.Words.{started_words}
+use Rattle.mask_bits.proofs.Common.{◌≡◌, ◌-◌, length, left_of, IsLeft, started_words}
 use Rattle.mask_bits.proofs.scan.next_word.Given as goal
 
 -- the words so far had nothing left

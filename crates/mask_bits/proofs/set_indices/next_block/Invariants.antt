@@ -1,5 +1,4 @@
-use Rattle.std.proofs.Common.{◌≡◌, ◌*◌, take}
-use Rattle.mask_bits.specs.Positions.{positions}
+use Rattle.mask_bits.proofs.Common.{◌≡◌, ◌*◌, take, positions}
 use Rattle.mask_bits.proofs.set_indices.next_block.Given as goal
 
 -- none so far

@@ -1,5 +1,4 @@
-use Rattle.std.proofs.Common.{◌≡◌, ◌≤◌, ◌-◌, ◌*◌, take, vec_capacity}
-use Rattle.mask_bits.specs.Positions.{positions}
+use Rattle.mask_bits.proofs.Common.{◌≡◌, ◌≤◌, ◌-◌, ◌*◌, take, vec_capacity, positions}
 use Rattle.mask_bits.proofs.set_indices.push_blocks.Given as goal
 
 -- the indices in the blocks so far

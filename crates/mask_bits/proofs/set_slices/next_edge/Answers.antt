@@ -1,5 +1,4 @@
-use Rattle.std.proofs.Common.{◌≡◌, ◌/◌, ◌<◌, length, refl, sym, ap, ◌∙◌, arith}
-use Rattle.mask_bits.specs.Pushed.{runs_past}
+use Rattle.mask_bits.proofs.Common.{◌≡◌, ◌/◌, ◌<◌, length, refl, sym, ap, ◌∙◌, arith, runs_past}
 use Rattle.mask_bits.proofs.RunWalkLemmas.{word-at, word-passed, zeros-last, none_past, zero-last, remainder-at, remainder-last, not_full}
 use Rattle.mask_bits.proofs.set_slices.next_edge.Goals as goal
 

@@ -1,5 +1,4 @@
-use Rattle.std.proofs.Common.{◌≡◌, ℕ}
-use Rattle.mask_bits.specs.Pushed.{runs_past}
+use Rattle.mask_bits.proofs.Common.{◌≡◌, ℕ, runs_past}
 use Rattle.mask_bits.proofs.set_slices.next_edge.Given as goal
 
 -- the words from the first on have no edge

@@ -1,5 +1,4 @@
-use Rattle.std.proofs.Common.{◌+◌, ◌*◌, drop, false, refl, sym, ap, ◌∙◌, arith}
-use Rattle.mask_bits.specs.Pushed.{runs_past}
+use Rattle.mask_bits.proofs.Common.{◌+◌, ◌*◌, drop, false, refl, sym, ap, ◌∙◌, arith, runs_past}
 use Rattle.mask_bits.proofs.RunWalkLemmas.{zeros-last, left-at, left-none}
 use Rattle.mask_bits.proofs.set_slices.next_ends.Goals as goal
 

@@ -1,6 +1,4 @@
-use Rattle.std.proofs.Common.{List, ℕ, ◌≡◌, ◌≤◌, ap, ◌∙◌, ◌+◌, ◌++◌, length, take, count_ones, arith, sym}
-use Rattle.std.proofs.lemmas.List.{length-append}
-use Rattle.mask_bits.specs.Pushed.{runs_between}
+use Rattle.mask_bits.proofs.Common.{List, ℕ, ◌≡◌, ◌≤◌, ap, ◌∙◌, ◌+◌, ◌++◌, length, take, count_ones, arith, sym, length-append, runs_between}
 use Rattle.mask_bits.proofs.Lists.Places.PushLemmas.{ArePushed-all, ArePushed-none}
 use Rattle.mask_bits.proofs.RunWordLemmas.{length-runs_between}
 use Rattle.mask_bits.proofs.set_slices.push_by_two.Goals as goal

@@ -1,5 +1,4 @@
-use Rattle.std.proofs.Common.{◌≡◌, ◌-◌, ◌++◌, vec_len, vec_capacity}
-use Rattle.mask_bits.specs.Pushed.{AreEdges, ArePushed, runs_between}
+use Rattle.mask_bits.proofs.Common.{◌≡◌, ◌-◌, ◌++◌, vec_len, vec_capacity, AreEdges, ArePushed, runs_between}
 use Rattle.mask_bits.proofs.set_slices.push_by_two.Given as goal
 
 abbrev pub invariant-loop-left : goal.invariant-loop-left

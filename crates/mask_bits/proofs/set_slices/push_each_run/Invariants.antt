@@ -1,5 +1,4 @@
-use Rattle.std.proofs.Common.{◌≡◌, ◌++◌}
-use Rattle.mask_bits.specs.Pushed.{AreEdges, runs_between}
+use Rattle.mask_bits.proofs.Common.{◌≡◌, ◌++◌, AreEdges, runs_between}
 use Rattle.mask_bits.proofs.set_slices.push_each_run.Given as goal
 
 -- the runs so far, and those that are left, are all

@@ -1,6 +1,5 @@
-use Rattle.std.proofs.Common.{List, ℕ, ◌/◌, ◌%◌, ◌^◌, ◌+◌, ◌-◌, nat_eq, ap, ◌∙◌, ◌++◌, append_assoc}
-use Rattle.std.specs.Int.{w64, leading_ones}
-use Rattle.mask_bits.specs.Pushed.{runs_behind, runs_between}
+use Rattle.mask_bits.proofs.Common.{List, ℕ, ◌/◌, ◌%◌, ◌^◌, ◌+◌, ◌-◌, nat_eq, ap, ◌∙◌, ◌++◌, append_assoc, leading_ones, runs_behind, runs_between}
+use Rattle.std.specs.Int.{w64}
 use Rattle.mask_bits.proofs.RunWordLemmas.{behind-word, outside}
 use Rattle.mask_bits.proofs.set_slices.push_edges.Goals as goal
 

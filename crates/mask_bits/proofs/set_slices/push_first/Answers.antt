@@ -1,5 +1,4 @@
-use Rattle.std.proofs.Common.{List, ℕ, subst, sym}
-use Rattle.mask_bits.specs.Pushed.{ArePushed, runs_between}
+use Rattle.mask_bits.proofs.Common.{List, ℕ, subst, sym, ArePushed, runs_between}
 use Rattle.mask_bits.proofs.Lists.Places.PushLemmas.{ArePushed-more}
 use Rattle.mask_bits.proofs.RunWordLemmas.{no_runs_between}
 use Rattle.mask_bits.proofs.set_slices.push_first.Goals as goal

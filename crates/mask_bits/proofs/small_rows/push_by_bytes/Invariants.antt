@@ -1,6 +1,4 @@
-use Rattle.std.proofs.Common.{◌≡◌, ◌+◌, ◌*◌, ◌++◌, drop, length}
-use Rattle.mask_bits.specs.Positions.{chosen, count}
-use Rattle.mask_bits.specs.Words.{word_bits}
+use Rattle.mask_bits.proofs.Common.{◌≡◌, ◌+◌, ◌*◌, ◌++◌, drop, length, chosen, count, word_bits}
 use Rattle.mask_bits.proofs.small_rows.push_by_bytes.Given as goal
 
 -- the rows so far, and those of the bytes that are left, are all

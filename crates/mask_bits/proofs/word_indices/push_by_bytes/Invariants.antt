@@ -1,6 +1,4 @@
-use Rattle.std.proofs.Common.{◌≡◌, ◌+◌, ◌*◌, ◌++◌, drop, length}
-use Rattle.mask_bits.specs.Positions.{count, indices_from}
-use Rattle.mask_bits.specs.Words.{word_bits}
+use Rattle.mask_bits.proofs.Common.{◌≡◌, ◌+◌, ◌*◌, ◌++◌, drop, length, count, indices_from, word_bits}
 use Rattle.mask_bits.proofs.word_indices.push_by_bytes.Given as goal
 
 -- the indices so far, and those of the bytes that are left, are all

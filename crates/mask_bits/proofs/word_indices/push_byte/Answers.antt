@@ -1,7 +1,4 @@
-use Rattle.std.proofs.Common.{length, ap, arith}
-use Rattle.std.proofs.lemmas.List.{length-append}
-use Rattle.std.proofs.lemmas.Nat.{ones-le}
-use Rattle.std.proofs.Math.Seq.{take-append-add}
+use Rattle.mask_bits.proofs.Common.{length, ap, arith, length-append, ones-le, take-append-add}
 use Rattle.mask_bits.proofs.word_indices.push_byte.Goals as goal
 
 pub cut-requires : goal.cut-requires

@@ -1,4 +1,4 @@
-use Rattle.std.proofs.Common.{ℕ, List, ◌++◌, ap, ◌∙◌, arith}
+use Rattle.mask_bits.proofs.Common.{ℕ, List, ◌++◌, ap, ◌∙◌, arith}
 use Rattle.mask_bits.proofs.Lists.Places.PushLemmas.{indices-some, items_of-indices}
 use Rattle.mask_bits.proofs.word_indices.push_indices.Goals as goal
 

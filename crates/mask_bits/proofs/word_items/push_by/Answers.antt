@@ -1,7 +1,4 @@
-use Rattle.std.proofs.Common.{◌≡◌, ◌≤◌, ap, ◌∙◌, ◌+◌, ◌++◌, length, take, count_ones, arith, sym}
-use Rattle.std.proofs.lemmas.List.{length-append}
-use Rattle.mask_bits.specs.WordItems.{items_of}
-use Rattle.mask_bits.specs.Words.{word_bits}
+use Rattle.mask_bits.proofs.Common.{◌≡◌, ◌≤◌, ap, ◌∙◌, ◌+◌, ◌++◌, length, take, count_ones, arith, sym, length-append, items_of, word_bits}
 use Rattle.mask_bits.proofs.Lists.Places.PushLemmas.{ArePushed-all, length-items_of_word}
 use Rattle.mask_bits.proofs.word_items.push_by.Goals as goal
 

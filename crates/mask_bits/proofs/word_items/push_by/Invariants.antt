@@ -1,7 +1,4 @@
-use Rattle.std.proofs.Common.{◌≡◌, ◌-◌, ◌++◌, length}
-use Rattle.mask_bits.specs.Pushed.{ArePushed}
-use Rattle.mask_bits.specs.WordItems.{items_of}
-use Rattle.mask_bits.specs.Words.{word_bits}
+use Rattle.mask_bits.proofs.Common.{◌≡◌, ◌-◌, ◌++◌, length, ArePushed, items_of, word_bits}
 use Rattle.mask_bits.proofs.word_items.push_by.Given as goal
 
 abbrev pub invariant-loop-items : goal.invariant-loop-items

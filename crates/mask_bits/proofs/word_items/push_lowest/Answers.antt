@@ -1,7 +1,4 @@
-use Rattle.std.proofs.Common.{ap, subst, sym}
-use Rattle.mask_bits.specs.Pushed.{ArePushed}
-use Rattle.mask_bits.specs.WordItems.{items_of}
-use Rattle.mask_bits.specs.Words.{word_bits}
+use Rattle.mask_bits.proofs.Common.{ap, subst, sym, ArePushed, items_of, word_bits}
 use Rattle.mask_bits.proofs.Lists.Places.PushLemmas.{ArePushed-more, cleared, items_of-next, items_of-zero}
 use Rattle.mask_bits.proofs.word_items.push_lowest.Goals as goal
 

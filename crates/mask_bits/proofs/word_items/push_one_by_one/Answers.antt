@@ -1,12 +1,6 @@
-use Rattle.std.proofs.Common.{◌<◌, ◌-◌, ◌++◌, ◌∷◌, [], subst, sym, ap, ◌∙◌, length, append_assoc, arith}
+use Rattle.mask_bits.proofs.Common.{◌<◌, ◌-◌, ◌++◌, ◌∷◌, [], subst, sym, ap, ◌∙◌, length, append_assoc, arith, IsSome, length-append, All-head, All-tail, positions, items_of, word_bits}
 use Rattle.std.specs.Int.RustNames.{bit_and}
 use Rattle.std.specs.List.{All}
-use Rattle.std.specs.Option.{IsSome}
-use Rattle.std.proofs.lemmas.List.{length-append}
-use Rattle.std.proofs.lemmas.List.Elements.{All-head, All-tail}
-use Rattle.mask_bits.specs.Positions.{positions}
-use Rattle.mask_bits.specs.WordItems.{items_of}
-use Rattle.mask_bits.specs.Words.{word_bits}
 use Rattle.mask_bits.proofs.Lists.Places.PushLemmas.{items_of-lowest}
 use Rattle.mask_bits.proofs.Lists.Places.SelectLemmas.{positions-lowest}
 use Rattle.mask_bits.proofs.Lists.Words.LowestLemmas.{low}

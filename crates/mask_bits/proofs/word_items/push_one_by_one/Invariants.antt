@@ -1,9 +1,5 @@
-use Rattle.std.proofs.Common.{◌≡◌, ◌+◌, ◌++◌, length}
+use Rattle.mask_bits.proofs.Common.{◌≡◌, ◌+◌, ◌++◌, length, IsSome, count, positions, items_of, word_bits}
 use Rattle.std.specs.List.{All}
-use Rattle.std.specs.Option.{IsSome}
-use Rattle.mask_bits.specs.Positions.{count, positions}
-use Rattle.mask_bits.specs.WordItems.{items_of}
-use Rattle.mask_bits.specs.Words.{word_bits}
 use Rattle.mask_bits.proofs.word_items.push_one_by_one.Given as goal
 
 -- the items so far, and those that are left, are all

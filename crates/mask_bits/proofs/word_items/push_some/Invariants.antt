@@ -1,7 +1,4 @@
-use Rattle.std.proofs.Common.{◌≡◌, ◌+◌, List, length}
-use Rattle.mask_bits.specs.Pushed.{ArePushed}
-use Rattle.mask_bits.specs.WordItems.{items_of}
-use Rattle.mask_bits.specs.Words.{word_bits}
+use Rattle.mask_bits.proofs.Common.{◌≡◌, ◌+◌, List, length, ArePushed, items_of, word_bits}
 use Rattle.mask_bits.proofs.word_items.push_some.Given as goal
 
 -- the items so far

@@ -1,4 +1,4 @@
-use Rattle.std.proofs.Common.{◌≡◌, ◌++◌, take}
+use Rattle.mask_bits.proofs.Common.{◌≡◌, ◌++◌, take}
 use Rattle.mask_bits.proofs.word_rows.push_all.Given as goal
 
 -- the rows so far

@@ -1,4 +1,4 @@
-use Rattle.std.proofs.Common.{◌++◌, ap, ◌∙◌}
+use Rattle.mask_bits.proofs.Common.{◌++◌, ap, ◌∙◌}
 use Rattle.mask_bits.proofs.Lists.Places.PushLemmas.{items_of-rows}
 use Rattle.mask_bits.proofs.word_rows.push_rows_of_word.Goals as goal
 

@@ -1,5 +1,4 @@
-use Rattle.std.proofs.Common.{◌++◌, ap, ◌∙◌, arith}
-use Rattle.std.proofs.lemmas.List.Elements.{All-weaker}
+use Rattle.mask_bits.proofs.Common.{◌++◌, ap, ◌∙◌, arith, All-weaker}
 use Rattle.mask_bits.proofs.Lists.Places.PushLemmas.{items_of-rows, row-some}
 use Rattle.mask_bits.proofs.word_rows.push_rows_one_by_one.Goals as goal
 

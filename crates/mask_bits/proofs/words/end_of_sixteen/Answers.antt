@@ -1,4 +1,4 @@
-use Rattle.std.proofs.Common.{◌-◌, ◌*◌, ◌/◌, ◌^◌, length, ap, ◌∙◌, arith}
+use Rattle.mask_bits.proofs.Common.{◌-◌, ◌*◌, ◌/◌, ◌^◌, length, ap, ◌∙◌, arith}
 use Rattle.mask_bits.proofs.NumberLemmas.{number-end}
 use Rattle.mask_bits.proofs.words.end_of_sixteen.Goals as goal
 

@@ -1,4 +1,4 @@
-use Rattle.std.proofs.Common.{◌≡◌, ◌+◌, ◌*◌, ◌-◌, ◌/◌, ◌%◌, refl, arith}
+use Rattle.mask_bits.proofs.Common.{◌≡◌, ◌+◌, ◌*◌, ◌-◌, ◌/◌, ◌%◌, refl, arith}
 use Rattle.mask_bits.proofs.WriteLemmas.{written-more, written-bits_clear}
 use Rattle.mask_bits.proofs.write_bits.put_bits.Goals as goal
 

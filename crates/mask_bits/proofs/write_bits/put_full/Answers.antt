@@ -1,5 +1,4 @@
-use Rattle.std.proofs.Common.{◌≡◌, ◌+◌, ◌*◌, replicate, length, slice_range, ap, ◌∙◌, refl, arith}
-use Rattle.std.proofs.lemmas.List.Edits.{length-between}
+use Rattle.mask_bits.proofs.Common.{◌≡◌, ◌+◌, ◌*◌, replicate, length, slice_range, ap, ◌∙◌, refl, arith, length-between}
 use Rattle.mask_bits.proofs.WriteLemmas.{written-full}
 use Rattle.mask_bits.proofs.write_bits.put_full.Goals as goal
 

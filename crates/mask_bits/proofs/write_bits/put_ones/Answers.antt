@@ -1,6 +1,4 @@
-use Rattle.std.proofs.Common.{ℕ, true, ◌≡◌, ◌+◌, ◌*◌, ◌-◌, ◌/◌, ◌%◌, subst, arith}
-use Rattle.mask_bits.specs.BufferMut.{IsWrittenBehind}
-use Rattle.mask_bits.specs.Positions.{repeated}
+use Rattle.mask_bits.proofs.Common.{ℕ, true, ◌≡◌, ◌+◌, ◌*◌, ◌-◌, ◌/◌, ◌%◌, subst, arith, IsWrittenBehind, repeated}
 use Rattle.mask_bits.proofs.WriteLemmas.{written-ones, written-more_ones, written-ones_clear}
 use Rattle.mask_bits.proofs.write_bits.put_ones.Goals as goal
 

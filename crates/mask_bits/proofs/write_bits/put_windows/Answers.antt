@@ -1,4 +1,4 @@
-use Rattle.std.proofs.Common.{◌+◌, refl}
+use Rattle.mask_bits.proofs.Common.{◌+◌, refl}
 use Rattle.mask_bits.proofs.WriteLemmas.{written-bits_clear}
 use Rattle.mask_bits.proofs.write_bits.put_windows.Goals as goal
 

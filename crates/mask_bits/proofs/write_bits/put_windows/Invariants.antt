@@ -1,6 +1,4 @@
-use Rattle.std.proofs.Common.{◌-◌, ◌≤◌}
-use Rattle.mask_bits.specs.Buffer.{values}
-use Rattle.mask_bits.specs.BufferMut.{IsWrittenBehind}
+use Rattle.mask_bits.proofs.Common.{◌-◌, ◌≤◌, values, IsWrittenBehind}
 use Rattle.mask_bits.proofs.write_bits.put_windows.Given as goal
 
 -- the bits so far are written

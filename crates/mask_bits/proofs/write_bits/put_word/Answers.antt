@@ -1,5 +1,4 @@
-use Rattle.std.proofs.lemmas.Grind.{common_steps}
-use Rattle.std.proofs.Common.{arith, length-take}
+use Rattle.mask_bits.proofs.Common.{common_steps, arith, length-take}
 use Rattle.mask_bits.proofs.Lists.Words.WordLemmas.{length-word_bits}
 use Rattle.mask_bits.proofs.WriteLemmas.{written-first_word, written-one, written-two}
 use Rattle.mask_bits.proofs.write_bits.put_word.Goals as goal

@@ -1,7 +1,4 @@
-use Rattle.std.proofs.Common.{ℕ, ◌≡◌, ◌+◌, ◌*◌, subst, ◌∙◌, arith}
-use Rattle.mask_bits.specs.Bitmap.{bitmap}
-use Rattle.mask_bits.specs.BufferMut.{IsWrittenBehind, AreClearFrom}
-use Rattle.mask_bits.specs.Words.{word_bits}
+use Rattle.mask_bits.proofs.Common.{ℕ, ◌≡◌, ◌+◌, ◌*◌, subst, ◌∙◌, arith, bitmap, IsWrittenBehind, AreClearFrom, word_bits}
 use Rattle.mask_bits.proofs.Lists.Words.FrontLemmas.{window-whole}
 use Rattle.mask_bits.proofs.Lists.Words.WordLemmas.{length-word_bits}
 use Rattle.mask_bits.proofs.WriteLemmas.{written-more, written-bits_clear, written-word}

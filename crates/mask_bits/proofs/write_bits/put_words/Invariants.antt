@@ -1,6 +1,4 @@
-use Rattle.std.proofs.Common.{◌*◌}
-use Rattle.mask_bits.specs.Bitmap.{bitmap}
-use Rattle.mask_bits.specs.BufferMut.{IsWrittenBehind}
+use Rattle.mask_bits.proofs.Common.{◌*◌, bitmap, IsWrittenBehind}
 use Rattle.mask_bits.proofs.write_bits.put_words.Given as goal
 
 -- the words so far are written

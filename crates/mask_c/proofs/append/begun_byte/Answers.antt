@@ -1,5 +1,4 @@
-use Rattle.std.proofs.Common.{ap, ◌∙◌}
-use Rattle.std.specs.Int.{bit_at}
+use Rattle.mask_c.proofs.Common.{ap, ◌∙◌, bit_at}
 use Rattle.mask_c.proofs.AppendLemmas.{begun-kept, begun-put}
 use Rattle.mask_c.proofs.append.begun_byte.Goals as goal
 

@@ -1,6 +1,4 @@
-use Rattle.std.proofs.Common.{◌/◌, append-nil, arith}
-use Rattle.std.specs.Int.{div_ceil}
-use Rattle.std.proofs.lemmas.List.{drop-set-lt}
+use Rattle.mask_c.proofs.Common.{◌/◌, append-nil, arith, div_ceil, drop-set-lt}
 use Rattle.mask_c.proofs.AppendLemmas.{filled-values}
 use Rattle.mask_bits.proofs.Lists.Words.BackingBitLemmas.{no_values}
 use Rattle.mask_c.proofs.append.fill_last.Goals as goal

@@ -1,9 +1,5 @@
-use Rattle.std.proofs.Common.{ℕ, Bool, List, ◌≡◌, ◌+◌, ◌-◌, ◌++◌, length, drop, append_assoc, subst, sym, ap, ◌∙◌, arith}
-use Rattle.std.specs.Int.{div_ceil}
-use Rattle.std.proofs.lemmas.List.{length-drop, take_rest}
+use Rattle.mask_c.proofs.Common.{ℕ, Bool, List, ◌≡◌, ◌+◌, ◌-◌, ◌++◌, length, drop, append_assoc, subst, sym, ap, ◌∙◌, arith, div_ceil, length-drop, take_rest, bitmap, AreClearBehind}
 use Rattle.mask_bits.proofs.Lists.Words.BackingBitLemmas.{bitmap-append}
-use Rattle.mask_bits.specs.Bitmap.{bitmap}
-use Rattle.mask_c.specs.Bitmap.{AreClearBehind}
 use Rattle.mask_c.proofs.AppendLemmas.{ArePut, appended-values, appended-clear, appended-behind}
 use borrow.Rule.Slice.PartMut.{put_mid}
 use Rattle.mask_c.proofs.append.row_mask_append.Goals as goal

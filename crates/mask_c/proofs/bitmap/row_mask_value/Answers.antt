@@ -1,5 +1,4 @@
-use Rattle.std.proofs.Common.{◌+◌, ◌/◌, ◌%◌, get_or}
-use Rattle.std.proofs.lemmas.Nat.Bits.{shr_and_one}
+use Rattle.mask_c.proofs.Common.{◌+◌, ◌/◌, ◌%◌, get_or, shr_and_one}
 use Rattle.mask_c.proofs.BitmapLemmas.{slice_get-bitmap}
 use Rattle.mask_c.proofs.bitmap.row_mask_value.Goals as goal
 

@@ -1,7 +1,4 @@
-use Rattle.std.proofs.Common.{Bool, List, ◌<◌, ◌*◌, ◌/◌, ◌%◌, false, length, get_or, take, drop, sym, ap, ◌∙◌, arith}
-use Rattle.std.proofs.lemmas.List.{ext_get_or, get_or-take, length-drop, length-take, length-take-le, take-append-drop, take_rest}
-use Rattle.mask_bits.specs.Bitmap.{bitmap}
-use Rattle.mask_bits.specs.Words.{word_bits}
+use Rattle.mask_c.proofs.Common.{Bool, List, ◌<◌, ◌*◌, ◌/◌, ◌%◌, false, length, get_or, take, drop, sym, ap, ◌∙◌, arith, ext_get_or, get_or-take, length-drop, length-take, length-take-le, take-append-drop, take_rest, bitmap, word_bits}
 use Rattle.mask_bits.proofs.Lists.Words.WordLemmas.{length-word_bits}
 use Rattle.vortex_mask.proofs.Lists.StartedWordLemmas.{list-from_bits}
 use Rattle.mask_c.proofs.LastLemmas.{written}

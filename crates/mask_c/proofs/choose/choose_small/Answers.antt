@@ -1,7 +1,5 @@
-use Rattle.std.proofs.Common.{ap, ◌∙◌, length, arith}
-use Rattle.std.proofs.lemmas.List.{length-take}
+use Rattle.mask_c.proofs.Common.{ap, ◌∙◌, length, arith, length-take, chosen}
 use Rattle.mask_bits.proofs.Lists.LawLemmas.{length-chosen}
-use Rattle.mask_bits.specs.Positions.{chosen}
 use Rattle.mask_c.proofs.choose.choose_small.Goals as goal
 
 pub returns : goal.returns

@@ -1,6 +1,4 @@
-use Rattle.std.proofs.Common.{◌&&◌, sym, ◌∙◌}
-use Rattle.mask_bits.specs.Bitmap.{bitmap}
-use Rattle.mask_bits.specs.Lists.{and_of}
+use Rattle.mask_c.proofs.Common.{◌&&◌, sym, ◌∙◌, bitmap, and_of}
 use Rattle.mask_bits.proofs.Lists.BooleanLemmas.{length-combined}
 use Rattle.mask_bits.proofs.Lists.Words.BackingBitLemmas.{length-bitmap}
 use Rattle.mask_c.proofs.BitmapLemmas.{some_from_none}

@@ -1,5 +1,4 @@
-use Rattle.std.proofs.Common.{ap, ◌∙◌}
-use Rattle.mask_bits.specs.Positions.{count}
+use Rattle.mask_c.proofs.Common.{ap, ◌∙◌, count}
 use Rattle.mask_c.proofs.BitmapLemmas.{bitmap-part}
 use Rattle.mask_c.proofs.counts.row_mask_count_range.Goals as goal
 

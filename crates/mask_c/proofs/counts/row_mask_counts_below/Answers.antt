@@ -1,8 +1,4 @@
-use Rattle.std.proofs.Common.{◌<◌, ◌≤◌, ◌≢◌, length, map, get_or, get_or-set_same, get_or-set_other, below_more, sym, ◌∙◌, arith}
-use Rattle.std.proofs.lemmas.List.{ext_get_or, get_or-map, length-map}
-use Rattle.std.proofs.lemmas.List.Elements.{All-get_or}
-use Rattle.mask_bits.specs.Bitmap.{bitmap}
-use Rattle.mask_bits.specs.Positions.{count_below}
+use Rattle.mask_c.proofs.Common.{◌<◌, ◌≤◌, ◌≢◌, length, map, get_or, get_or-set_same, get_or-set_other, below_more, sym, ◌∙◌, arith, ext_get_or, get_or-map, length-map, All-get_or, bitmap, count_below}
 use Rattle.vortex_mask.proofs.Lists.StartedWordLemmas.{count_below-within}
 use Rattle.mask_c.proofs.BitmapLemmas.{count-runs_on}
 use Rattle.mask_c.proofs.counts.row_mask_counts_below.Goals as goal

@@ -1,6 +1,4 @@
-use Rattle.std.proofs.Common.{ℕ, ◌≡◌, ◌<◌, ◌≤◌, length, get_or}
-use Rattle.mask_bits.specs.Bitmap.{bitmap}
-use Rattle.mask_bits.specs.Positions.{count_below}
+use Rattle.mask_c.proofs.Common.{ℕ, ◌≡◌, ◌<◌, ◌≤◌, length, get_or, bitmap, count_below}
 use Rattle.mask_c.proofs.counts.row_mask_counts_below.Given as goal
 
 -- the counts so far, of which the last runs on, and no index to come is below where it stands

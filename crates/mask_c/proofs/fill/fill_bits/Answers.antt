@@ -1,4 +1,4 @@
-use Rattle.std.proofs.Common.{◌+◌, arith}
+use Rattle.mask_c.proofs.Common.{◌+◌, arith}
 use Rattle.mask_c.proofs.FillLemmas.{filled-join, filled-none}
 use Rattle.mask_c.proofs.fill.fill_bits.Goals as goal
 

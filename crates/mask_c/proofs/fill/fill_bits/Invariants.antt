@@ -1,4 +1,4 @@
-use Rattle.mask_c.specs.Bitmap.{IsFilled}
+use Rattle.mask_c.proofs.Common.{IsFilled}
 use Rattle.mask_c.proofs.fill.fill_bits.Given as goal
 
 -- the bits so far are filled

@@ -1,5 +1,4 @@
-use Rattle.std.proofs.Common.{replicate, sym, ap, ◌∙◌}
-use Rattle.std.proofs.lemmas.List.Edits.{length-between}
+use Rattle.mask_c.proofs.Common.{replicate, sym, ap, ◌∙◌, length-between}
 use Rattle.mask_c.proofs.FillLemmas.{bits_of_ones, bits_of_zeros, filled-bytes}
 use Rattle.mask_c.proofs.fill.fill_bytes.Goals as goal
 

@@ -1,5 +1,4 @@
-use Rattle.std.proofs.Common.{arith}
-use Rattle.std.proofs.lemmas.List.{length-take}
+use Rattle.mask_c.proofs.Common.{arith, length-take}
 use Rattle.mask_c.proofs.FromIndicesLemmas.{list_from_set, clear_from_set}
 use Rattle.mask_c.proofs.from_indices.row_mask_from_indices.Goals as goal
 

@@ -1,4 +1,4 @@
-use Rattle.std.proofs.Common.{arith}
+use Rattle.mask_c.proofs.Common.{arith}
 use Rattle.mask_c.proofs.FromIndicesLemmas.{set_at-more}
 use Rattle.mask_c.proofs.from_indices.set_alone.Goals as goal
 

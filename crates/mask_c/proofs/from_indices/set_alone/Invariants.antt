@@ -1,4 +1,4 @@
-use Rattle.std.proofs.Common.{take}
+use Rattle.mask_c.proofs.Common.{take}
 use Rattle.mask_c.proofs.FromIndicesLemmas.{AreSetAt}
 use Rattle.mask_c.proofs.from_indices.set_alone.Given as goal
 

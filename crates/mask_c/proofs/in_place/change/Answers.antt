@@ -1,7 +1,4 @@
-use Rattle.std.proofs.Common.{ap, ◌∙◌, arith}
-use Rattle.std.proofs.lemmas.List.{length-take}
-use Rattle.mask_bits.specs.Bitmap.{bitmap}
-use Rattle.mask_bits.specs.Lists.{combined}
+use Rattle.mask_c.proofs.Common.{ap, ◌∙◌, arith, length-take, bitmap, combined}
 use Rattle.mask_c.proofs.LastLemmas.{front-appended, front-taken}
 use Rattle.mask_c.proofs.in_place.change.Goals as goal
 

@@ -1,6 +1,4 @@
-use Rattle.std.proofs.Common.{ap, ◌∙◌, arith}
-use Rattle.std.proofs.lemmas.List.{length-take}
-use Rattle.mask_bits.specs.Lists.{not_of}
+use Rattle.mask_c.proofs.Common.{ap, ◌∙◌, arith, length-take, not_of}
 use Rattle.mask_c.proofs.LastLemmas.{front-appended, front-taken}
 use Rattle.mask_c.proofs.in_place.row_mask_not_in_place.Goals as goal
 

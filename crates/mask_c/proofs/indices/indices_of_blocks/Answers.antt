@@ -1,5 +1,4 @@
-use Rattle.std.proofs.Common.{◌≤◌, ◌+◌, ◌*◌, length, ◌∙◌, arith}
-use Rattle.mask_bits.specs.Words.{bits_of_words}
+use Rattle.mask_c.proofs.Common.{◌≤◌, ◌+◌, ◌*◌, length, ◌∙◌, arith, bits_of_words}
 use Rattle.mask_c.proofs.IndexLemmas.{block_done}
 use Rattle.mask_c.proofs.indices.indices_of_blocks.Goals as goal
 

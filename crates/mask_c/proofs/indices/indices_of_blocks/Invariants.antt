@@ -1,5 +1,4 @@
-use Rattle.std.proofs.Common.{◌≡◌, ◌+◌, ◌*◌, map, take}
-use Rattle.mask_bits.specs.Positions.{positions}
+use Rattle.mask_c.proofs.Common.{◌≡◌, ◌+◌, ◌*◌, map, take, positions}
 use Rattle.mask_c.proofs.indices.indices_of_blocks.Given as goal
 
 -- the indices of the blocks so far

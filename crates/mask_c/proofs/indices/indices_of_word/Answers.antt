@@ -1,11 +1,4 @@
-use Rattle.std.proofs.Common.{ℕ, suc, set, ◌≡◌, ◌<◌, ◌-◌, ◌+◌, ◌^◌, ◌++◌, ◌∷◌, [], List, length, map, take, subst, sym, ap, ◌∙◌, append_assoc, inl, inr, arith}
-use Rattle.std.proofs.Math.Seq.{take-suc-set}
-use Rattle.std.specs.Int.RustNames.{bit_and}
-use Rattle.std.specs.List.{All}
-use Rattle.std.proofs.lemmas.List.{length-set, length-take}
-use Rattle.std.proofs.lemmas.List.Elements.{All-head, All-tail}
-use Rattle.mask_bits.specs.Positions.{positions}
-use Rattle.mask_bits.specs.Words.{word_bits}
+use Rattle.mask_c.proofs.Common.{ℕ, suc, set, ◌≡◌, ◌<◌, ◌-◌, ◌+◌, ◌^◌, ◌++◌, ◌∷◌, [], List, length, map, take, subst, sym, ap, ◌∙◌, append_assoc, inl, inr, arith, take-suc-set, bit_and, All, length-set, length-take, All-head, All-tail, positions, word_bits}
 use Rattle.mask_bits.proofs.Lists.Words.LowestLemmas.{low}
 use Rattle.mask_bits.proofs.Lists.Places.SelectLemmas.{positions-lowest}
 use Rattle.mask_bits.proofs.Lists.Places.PushLemmas.{no_places}

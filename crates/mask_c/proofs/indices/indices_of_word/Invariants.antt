@@ -1,7 +1,4 @@
-use Rattle.std.proofs.Common.{◌≡◌, ◌+◌, ◌<◌, ◌≤◌, ◌^◌, ◌++◌, length, map, take}
-use Rattle.std.specs.List.{All}
-use Rattle.mask_bits.specs.Positions.{count, positions}
-use Rattle.mask_bits.specs.Words.{word_bits}
+use Rattle.mask_c.proofs.Common.{◌≡◌, ◌+◌, ◌<◌, ◌≤◌, ◌^◌, ◌++◌, length, map, take, All, count, positions, word_bits}
 use Rattle.mask_c.proofs.indices.indices_of_word.Given as goal
 
 -- the indices so far and those of the bits that are left are the indices of the word

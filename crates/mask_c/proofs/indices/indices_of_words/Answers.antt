@@ -1,6 +1,4 @@
-use Rattle.std.proofs.Common.{◌≡◌, Bool, List, ◌+◌, ◌*◌, length, map, min, take, sym, ap, ◌∙◌, arith}
-use Rattle.std.proofs.lemmas.List.{take_all}
-use Rattle.mask_bits.specs.Positions.{count, indices_from, positions}
+use Rattle.mask_c.proofs.Common.{◌≡◌, Bool, List, ◌+◌, ◌*◌, length, map, min, take, sym, ap, ◌∙◌, arith, take_all, count, indices_from, positions}
 use Rattle.mask_c.proofs.IndexLemmas.{bitmap-rest, indices-within, all_indices, first_indices, word_done, word_counted}
 use Rattle.mask_bits.proofs.Lists.CountLemmas.{count_below-le}
 use Rattle.mask_c.proofs.indices.indices_of_words.Goals as goal
@@ -25,8 +23,8 @@ loop-i-preserved c =
           ∙ ap (λ k. min k (count (take (64 * (i + 1)) m))) (sym put.auto.out);
     }
 
-pub returns-then-at-out-clause-indices : goal.returns-then-at-out-clause-indices
-returns-then-at-out-clause-indices c =
+pub returns-then-at-out : goal.returns-then-at-out
+returns-then-at-out c =
     let m = c.new-chunks.result in
     let size : length c.loop-i.out ≡ length c.args.out.now = omega (arith, c.loop-i.auto.out) in
     let i = c.loop-i.i in
@@ -36,20 +34,13 @@ returns-then-at-out-clause-indices c =
     let len = c.new-chunks.ensures.len in
     let many = word_counted m i c.loop-i.at put.result _ n c.started_word.ensures was.counted put.ensures.count in
     let rest = c.new-chunks.ensures.list ∙ bitmap-rest c.args.bytes.now c.args.offset c.args.len c.args.from c.requires.within in
-    word_done m c.args.from i c.loop-i.at put.result _ n c.loop-i.out put.new.out (omega arith) c.started_word.ensures was.indices put.ensures.indices
-    ∙ first_indices m c.args.from n (64 * (i + 1)) (omega (arith, many, c.if-at-out.true, put.auto.out))
-    ∙ ap (λ k. take k (indices_from c.args.from m)) size
-    ∙ ap (λ (x : List Bool). take (length c.args.out.now) (indices_from c.args.from x)) rest
-
-pub returns-then-at-out-clause-count : goal.returns-then-at-out-clause-count
-returns-then-at-out-clause-count c =
-    let m = c.new-chunks.result in
-    let size : length c.loop-i.out ≡ length c.args.out.now = omega (arith, c.loop-i.auto.out) in
-    let i = c.loop-i.i in
-    let put = c.indices_of_word-at in
-    let many = word_counted m i c.loop-i.at put.result _ (length c.loop-i.out) c.started_word.ensures c.loop-i.invariant.counted put.ensures.count in
-    let rest = c.new-chunks.ensures.list ∙ bitmap-rest c.args.bytes.now c.args.offset c.args.len c.args.from c.requires.within in
-    omega (arith, many, c.if-at-out.true, put.auto.out, size, count_below-le m (64 * (i + 1)), ap count rest)
+    record {
+      indices = word_done m c.args.from i c.loop-i.at put.result _ n c.loop-i.out put.new.out (omega arith) c.started_word.ensures was.indices put.ensures.indices
+          ∙ first_indices m c.args.from n (64 * (i + 1)) (omega (arith, many, c.if-at-out.true, put.auto.out))
+          ∙ ap (λ k. take k (indices_from c.args.from m)) size
+          ∙ ap (λ (x : List Bool). take (length c.args.out.now) (indices_from c.args.from x)) rest;
+      count = omega (arith, many, c.if-at-out.true, put.auto.out, size, count_below-le m (64 * (i + 1)), ap count rest);
+    }
 
 pub returns-clause-indices : goal.returns-clause-indices
 returns-clause-indices c =

@@ -1,5 +1,4 @@
-use Rattle.std.proofs.Common.{◌≡◌, ◌+◌, ◌*◌, length, map, min, take}
-use Rattle.mask_bits.specs.Positions.{count, positions}
+use Rattle.mask_c.proofs.Common.{◌≡◌, ◌+◌, ◌*◌, length, map, min, take, count, positions}
 use Rattle.mask_c.proofs.indices.indices_of_words.Given as goal
 
 -- the indices of the words so far, as many as there is room for

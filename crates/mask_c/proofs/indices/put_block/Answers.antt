@@ -1,4 +1,4 @@
-use Rattle.std.proofs.Common.{append-nil, arith}
+use Rattle.mask_c.proofs.Common.{append-nil, arith}
 use Rattle.mask_bits.proofs.Lists.Words.BlockLemmas.{indices-none}
 use Rattle.mask_c.proofs.indices.put_block.Goals as goal
 

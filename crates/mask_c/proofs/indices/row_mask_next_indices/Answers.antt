@@ -1,5 +1,4 @@
-use Rattle.std.proofs.Common.{arith}
-use Rattle.std.proofs.Math.ListN.{drop_of_length-le}
+use Rattle.mask_c.proofs.Common.{arith, drop_of_length-le}
 use Rattle.mask_bits.proofs.Lists.Words.BackingBitLemmas.{length-bitmap}
 use Rattle.mask_c.proofs.indices.row_mask_next_indices.Goals as goal
 

@@ -1,7 +1,4 @@
-use Rattle.std.proofs.Common.{Bool, List, get_or, ap, ◌∙◌}
-use Rattle.std.proofs.lemmas.Option.{unwrap_or-slice_get}
-use Rattle.std.specs.Option.{unwrap_or}
-use Rattle.mask_bits.specs.Positions.{positions}
+use Rattle.mask_c.proofs.Common.{Bool, List, get_or, ap, ◌∙◌, unwrap_or-slice_get, unwrap_or, positions}
 use Rattle.mask_c.proofs.indices.row_mask_select.Goals as goal
 
 pub returns : goal.returns

@@ -1,5 +1,4 @@
-use Rattle.std.proofs.Common.{◌-◌, ◌<◌, get_or, length, arith}
-use Rattle.std.proofs.lemmas.Nat.{one_shl}
+use Rattle.mask_c.proofs.Common.{◌-◌, ◌<◌, get_or, length, arith, one_shl}
 use Rattle.mask_c.proofs.LastRankLemmas.{gathered-more, gathered-none, gathered-split}
 use Rattle.mask_c.proofs.intersect.last_ranks.Goals as goal
 

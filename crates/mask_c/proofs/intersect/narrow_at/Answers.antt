@@ -1,15 +1,11 @@
-use Rattle.std.proofs.Common.{false, subst, ◌≡◌, ◌<◌, ◌≤◌, ◌+◌, ◌*◌, ◌/◌, ◌-◌, take, sym, ap, ap₂, ◌∙◌, arith}
-use Rattle.std.proofs.lemmas.List.{get_or-take, length-take}
-use Rattle.std.specs.List.{All}
-use Rattle.mask_bits.specs.Bitmap.{bitmap}
-use Rattle.mask_bits.specs.Positions.{at_indices, count, positions, rank_intersection, true_at}
-use Rattle.mask_bits.specs.Words.{word_bits}
+use Rattle.mask_c.proofs.Common.{false, subst, ◌≡◌, ◌<◌, ◌≤◌, ◌+◌, ◌*◌, ◌/◌, ◌-◌, take, sym, ap, ap₂, ◌∙◌, arith, get_or-take, length-take, All, bitmap, at_indices, count, positions, rank_intersection, true_at, word_bits}
 use Rattle.mask_bits.proofs.Lists.RankLemmas.{length-true_at}
 use Rattle.mask_bits.proofs.Lists.Words.BackingBitLemmas.{length-bitmap}
 use Rattle.mask_bits.proofs.Lists.Words.WordLemmas.{length-word_bits}
 use Rattle.vortex_mask.proofs.Lists.PlaceListLemmas.{ascending-take, narrowed_at}
 use Rattle.mask_c.proofs.LastLemmas.{written-narrowed}
 use Rattle.mask_c.proofs.LastRankLemmas.{below-all, ranks-parts}
+use Rattle.vortex_mask.proofs.Lists.DepositLawLemmas.{deposit_is_rank_intersection}
 use Rattle.mask_c.proofs.intersect.narrow_at.Goals as goal
 
 pub narrow_at_ranks-requires-clause-within : goal.narrow_at_ranks-requires-clause-within
@@ -39,7 +35,7 @@ returns-clause-values g c =
     (length-true_at n (take cut ranks) ∙ omega (arith, is_n, ap count c.new-front.ensures.list))
     (ap (bitmap front 0) (sym c.new-front.ensures.len) ∙ c.narrow_at_ranks.ensures.list ∙ sym (narrowed_at a (take cut ranks) (ascending-take cut ranks c.requires.ascending) within)
     ∙ ap₂ (λ x i. rank_intersection x (true_at i (take cut ranks))) c.new-front.ensures.list is_n)
-    c.last_word-word.ensures.word (c.deposits.ensures.list bits mask c.deposit_bits.result c.deposit_bits.ensures)
+    c.last_word-word.ensures.word (deposit_is_rank_intersection bits mask c.deposit_bits.result c.deposit_bits.ensures)
     ∙ ap (rank_intersection m)
     (sym (ranks-parts ranks n k cut last c.last_ranks-cut.ensures.split (omega (arith, length-take k (word_bits bits), length-word_bits bits)) (λ j h.
     get_or-take k (word_bits bits) j false h ∙ c.last_ranks-cut.ensures.bits j (omega arith)))

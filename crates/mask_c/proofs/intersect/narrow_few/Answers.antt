@@ -1,12 +1,10 @@
-use Rattle.std.proofs.Common.{◌+◌, ◌*◌, below_more, count_ones, inl, sym, ap, ◌∙◌, arith}
-use Rattle.mask_bits.specs.Bitmap.{bitmap}
-use Rattle.mask_bits.specs.Buffer.{values}
-use Rattle.mask_bits.specs.Positions.{rank_intersection}
+use Rattle.mask_c.proofs.Common.{◌+◌, ◌*◌, below_more, count_ones, inl, sym, ap, ◌∙◌, arith, bitmap, values, rank_intersection}
 use Rattle.mask_bits.proofs.Lists.LawLemmas.{length-rank_intersection}
 use Rattle.mask_bits.proofs.Lists.Words.PaddedLemmas.{padded_part-whole}
 use Rattle.mask_bits.proofs.Lists.Words.WordLemmas.{count-word_bits}
 use Rattle.vortex_mask.proofs.Lists.StartedWordLemmas.{IsAt, place-after_within, place-next, place-within, rank_place-fits}
 use Rattle.mask_c.proofs.LastLemmas.{window-kept}
+use Rattle.vortex_mask.proofs.Lists.DepositedWordLemmas.{started_words_are_the_list}
 use Rattle.mask_c.proofs.intersect.narrow_few.Goals as goal
 use Rattle.mask_c.proofs.intersect.narrow_few.Goals.{After-word-word}
 
@@ -46,4 +44,4 @@ returns c =
     let r = rank_intersection c.args.chunks.now (values c.args.ranks.now) in
     let len = length-rank_intersection c.args.chunks.now (values c.args.ranks.now) in
     ap (bitmap c.loop-i.out 0) (sym len)
-    ∙ c.deposits_by_words.ensures.list r c.loop-i.out (λ i h. c.loop-i.invariant.words i (omega (arith, h, len, c.loop-i-test, c.len-i-end.ensures, c.requires.whole)))
+    ∙ started_words_are_the_list r c.loop-i.out (λ i h. c.loop-i.invariant.words i (omega (arith, h, len, c.loop-i-test, c.len-i-end.ensures, c.requires.whole)))

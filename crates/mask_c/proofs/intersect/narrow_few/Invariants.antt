@@ -1,7 +1,4 @@
-use Rattle.std.proofs.Common.{ℕ, ◌≡◌, ◌*◌, ◌<◌}
-use Rattle.mask_bits.specs.Buffer.{values}
-use Rattle.mask_bits.specs.Positions.{count_below, rank_intersection}
-use Rattle.mask_bits.specs.Words.{padded_part, window}
+use Rattle.mask_c.proofs.Common.{ℕ, ◌≡◌, ◌*◌, ◌<◌, values, count_below, rank_intersection, padded_part, window}
 use Rattle.mask_c.proofs.intersect.narrow_few.Given as goal
 
 -- the words so far, and how many values are true before the next one

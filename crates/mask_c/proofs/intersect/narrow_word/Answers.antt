@@ -1,7 +1,6 @@
-use Rattle.std.proofs.Common.{◌+◌, sym, ap, ◌∙◌}
-use Rattle.mask_bits.specs.Buffer.{values}
-use Rattle.mask_bits.specs.Words.{window, word_bits}
+use Rattle.mask_c.proofs.Common.{◌+◌, sym, ap, ◌∙◌, values, window, word_bits}
 use Rattle.mask_c.proofs.LastLemmas.{narrowed-none}
+use Rattle.vortex_mask.proofs.Lists.DepositedWordLemmas.{deposit_is_word_of_rank_intersection}
 use Rattle.mask_c.proofs.intersect.narrow_word.Goals as goal
 
 pub returns-then-word-eq0 : goal.returns-then-word-eq0
@@ -10,5 +9,5 @@ returns-then-word-eq0 c = λ m i fits place shows.
 
 pub returns : goal.returns
 returns c = λ m i fits place shows.
-    c.deposits_by_words.ensures.word m c.args.ranks.now i c.read.result c.args.word c.deposit_bits.result fits shows
+    deposit_is_word_of_rank_intersection m c.args.ranks.now i c.read.result c.args.word c.deposit_bits.result fits shows
     (c.read.ensures ∙ ap (λ n. window c.args.ranks.now.bytes (c.args.ranks.now.offset + n)) place) c.deposit_bits.ensures

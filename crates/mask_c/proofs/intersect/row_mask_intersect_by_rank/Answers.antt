@@ -1,12 +1,8 @@
-use Rattle.std.proofs.Common.{◌≡◌, List, Bool, ◌+◌, ◌*◌, ◌/◌, ◌-◌, ◌++◌, length, take, sym, ap, ap₂, ◌∙◌, arith}
-use Rattle.std.proofs.lemmas.List.{length-take}
-use Rattle.mask_bits.specs.Bitmap.{bitmap}
-use Rattle.mask_bits.specs.Buffer.{Packed, values}
-use Rattle.mask_bits.specs.Positions.{count, rank_intersection}
-use Rattle.mask_bits.specs.Words.{word_bits}
+use Rattle.mask_c.proofs.Common.{◌≡◌, List, Bool, ◌+◌, ◌*◌, ◌/◌, ◌-◌, ◌++◌, length, take, sym, ap, ap₂, ◌∙◌, arith, length-take, bitmap, Packed, values, count, rank_intersection, word_bits}
 use Rattle.mask_bits.proofs.Lists.Words.BackingBitLemmas.{bitmap-append, length-bitmap}
 use Rattle.mask_bits.proofs.Lists.Words.FrontLemmas.{window-take}
 use Rattle.mask_c.proofs.LastLemmas.{narrowed_by_all, written-narrowed}
+use Rattle.vortex_mask.proofs.Lists.DepositLawLemmas.{deposit_is_rank_intersection}
 use Rattle.mask_c.proofs.intersect.row_mask_intersect_by_rank.Goals as goal
 
 pub returns-then-ranks_len-len-clause-values : goal.returns-then-ranks_len-len-clause-values
@@ -43,6 +39,6 @@ returns-clause-values c =
     (omega (arith, c.narrow_whole.auto.out, length-take (8 * (len / 64)) c.args.out.now, c.requires.room))
     (length-bitmap ranks begin before ∙ omega (arith, c.requires.fitting, c.last_word-word.ensures.all))
     (ap (bitmap front 0) (sym c.new-front.ensures.len) ∙ c.narrow_whole.ensures ∙ ap₂ rank_intersection c.new-front.ensures.list (ap values c.over-bits.ensures.bits))
-    c.last_word-word.ensures.word (c.deposits.ensures.list source mask c.deposit_bits.result c.deposit_bits.ensures)
+    c.last_word-word.ensures.word (deposit_is_rank_intersection source mask c.deposit_bits.result c.deposit_bits.ensures)
     ∙ ap (rank_intersection (bitmap bytes c.args.offset len))
     (ap (λ (xs : List Bool). bitmap ranks begin before ++ xs) reads ∙ sym (bitmap-append ranks begin before ones) ∙ ap (bitmap ranks begin) all)

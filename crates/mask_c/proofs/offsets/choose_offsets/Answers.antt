@@ -1,8 +1,4 @@
-use Rattle.std.proofs.Common.{get_or, ◌≡◌, ◌+◌, ◌*◌, ◌≤◌, ◌++◌, length, take, drop, map, refl, sym, ap, ◌∙◌, arith}
-use Rattle.std.specs.List.{sum}
-use Rattle.std.proofs.lemmas.List.{drop-set-lt, length-map, length-take, take_all, take_more_set}
-use Rattle.mask_bits.specs.Positions.{count, positions}
-use Rattle.mask_c.specs.Strings.{ends_from, items_at, offsets_of, sizes}
+use Rattle.mask_c.proofs.Common.{get_or, ◌≡◌, ◌+◌, ◌*◌, ◌≤◌, ◌++◌, length, take, drop, map, refl, sym, ap, ◌∙◌, arith, sum, drop-set-lt, length-map, length-take, take_all, take_more_set, count, positions, ends_from, items_at, offsets_of, sizes}
 use Rattle.mask_c.proofs.StringLemmas.{items-all, offsets-word, sum-chosen, sum-parts, sum-word, word-counted, word-within}
 use Rattle.mask_c.proofs.offsets.choose_offsets.Given.{Over}
 use Rattle.mask_bits.proofs.Lists.Words.FrontLemmas.{behind-further}

@@ -1,7 +1,4 @@
-use Rattle.std.proofs.Common.{◌≡◌, ◌+◌, ◌*◌, drop, map, take}
-use Rattle.std.specs.List.{sum}
-use Rattle.mask_bits.specs.Positions.{count, positions}
-use Rattle.mask_c.specs.Strings.{items_at, offsets_of, sizes}
+use Rattle.mask_c.proofs.Common.{◌≡◌, ◌+◌, ◌*◌, drop, map, take, sum, count, positions, items_at, offsets_of, sizes}
 use Rattle.mask_c.proofs.offsets.choose_offsets.Given as goal
 
 -- the offsets of the words so far, and what is behind them as it was

@@ -1,6 +1,4 @@
-use Rattle.std.proofs.Common.{◌+◌, ◌<◌, length, take, drop, map, ap, ◌∙◌, arith}
-use Rattle.std.proofs.lemmas.List.{length-map}
-use Rattle.mask_c.specs.Strings.{sizes}
+use Rattle.mask_c.proofs.Common.{◌+◌, ◌<◌, length, take, drop, map, ap, ◌∙◌, arith, length-map, sizes}
 use Rattle.mask_c.proofs.StringLemmas.{behind-step, ends-step, sum-first, sum-more}
 use Rattle.mask_c.proofs.offsets.put_ends.Goals as goal
 

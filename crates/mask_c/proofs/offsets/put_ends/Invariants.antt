@@ -1,6 +1,4 @@
-use Rattle.std.proofs.Common.{◌≡◌, ◌+◌, ◌++◌, drop, map, take}
-use Rattle.std.specs.List.{sum}
-use Rattle.mask_c.specs.Strings.{ends_from, items_at, sizes}
+use Rattle.mask_c.proofs.Common.{◌≡◌, ◌+◌, ◌++◌, drop, map, take, sum, ends_from, items_at, sizes}
 use Rattle.mask_c.proofs.offsets.put_ends.Given as goal
 
 -- the ends of the strings so far, and what is behind them as it was

@@ -1,5 +1,4 @@
-use Rattle.std.proofs.Common.{map, slice_set, ap, ◌∙◌}
-use Rattle.std.proofs.lemmas.List.{map-set}
+use Rattle.mask_c.proofs.Common.{map, slice_set, ap, ◌∙◌, map-set}
 use Rattle.mask_c.proofs.offsets.set_offset.Goals as goal
 
 pub returns : goal.returns

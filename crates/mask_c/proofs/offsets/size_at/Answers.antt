@@ -1,5 +1,4 @@
-use Rattle.std.proofs.Common.{map, Some, sym, ap, ap₂, ◌-◌, ◌∙◌, arith}
-use Rattle.std.proofs.lemmas.List.{length-map}
+use Rattle.mask_c.proofs.Common.{map, Some, sym, ap, ap₂, ◌-◌, ◌∙◌, arith, length-map}
 use Rattle.mask_c.proofs.StringLemmas.{slice_get-sizes}
 use Rattle.mask_c.proofs.offsets.size_at.Goals as goal
 

@@ -1,6 +1,4 @@
-use Rattle.std.proofs.Common.{◌≡◌, ◌+◌, ◌++◌, length, take, drop, map, sym, ap, ◌∙◌, arith}
-use Rattle.std.proofs.lemmas.List.{drop-set-lt, length-map, take_more_set}
-use Rattle.mask_c.specs.Strings.{ends_from, items_at, sizes}
+use Rattle.mask_c.proofs.Common.{◌≡◌, ◌+◌, ◌++◌, length, take, drop, map, sym, ap, ◌∙◌, arith, drop-set-lt, length-map, take_more_set, ends_from, items_at, sizes}
 use Rattle.mask_bits.proofs.Lists.Words.FrontLemmas.{behind-later}
 use Rattle.mask_c.proofs.offsets.take_offsets.Goals as goal
 

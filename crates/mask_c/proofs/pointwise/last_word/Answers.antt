@@ -1,5 +1,4 @@
-use Rattle.std.proofs.Common.{arith}
-use Rattle.std.proofs.lemmas.Grind.{common_steps}
+use Rattle.mask_c.proofs.Common.{arith, common_steps}
 use Rattle.mask_bits.proofs.Lists.BooleanLemmas.{combined-take}
 use Rattle.mask_bits.proofs.Lists.Words.BackingBitLemmas.{no_values}
 use Rattle.mask_bits.proofs.Lists.Words.FrontLemmas.{window-take}

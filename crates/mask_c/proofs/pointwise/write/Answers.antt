@@ -1,5 +1,4 @@
-use Rattle.std.proofs.Common.{◌*◌, ◌/◌, ◌∙◌, arith}
-use Rattle.std.proofs.lemmas.List.{length-take}
+use Rattle.mask_c.proofs.Common.{◌*◌, ◌/◌, ◌∙◌, arith, length-take}
 use Rattle.mask_c.proofs.LastLemmas.{written-combined}
 use Rattle.mask_c.proofs.pointwise.write.Goals as goal
 

@@ -1,8 +1,4 @@
-use Rattle.std.proofs.Common.{get_or, ◌≡◌, ◌<◌, ◌≢◌, ◌+◌, ◌*◌, length, get_or-set_same, get_or-set_other, below_more, ap, ◌∙◌, arith, count_ones}
-use Rattle.mask_bits.specs.Bitmap.{bitmap}
-use Rattle.mask_bits.specs.Buffer.{Packed}
-use Rattle.mask_bits.specs.Positions.{count, count_below}
-use Rattle.mask_bits.specs.Words.{window}
+use Rattle.mask_c.proofs.Common.{get_or, ◌≡◌, ◌<◌, ◌≢◌, ◌+◌, ◌*◌, length, get_or-set_same, get_or-set_other, below_more, ap, ◌∙◌, arith, count_ones, bitmap, Packed, count, count_below, window}
 use Rattle.mask_bits.proofs.Lists.Places.SelectLemmas.{count-word_more}
 use Rattle.mask_bits.proofs.Lists.Words.WordLemmas.{count-word_bits}
 use Rattle.mask_bits.proofs.Lists.CountLemmas.{count_below-le}

@@ -1,7 +1,4 @@
-use Rattle.std.proofs.Common.{ℕ, ◌≡◌, ◌+◌, ◌*◌, ◌<◌, get_or}
-use Rattle.mask_bits.specs.Bitmap.{bitmap}
-use Rattle.mask_bits.specs.Positions.{count_below}
-use Rattle.mask_bits.specs.Words.{window, word_bits}
+use Rattle.mask_c.proofs.Common.{ℕ, ◌≡◌, ◌+◌, ◌*◌, ◌<◌, get_or, bitmap, count_below, window, word_bits}
 use Rattle.mask_c.proofs.rank_words.row_mask_rank_words.Given as goal
 
 -- the rank bits beside each word so far, and how many values are true before the next one

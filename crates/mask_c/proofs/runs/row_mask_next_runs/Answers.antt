@@ -1,6 +1,4 @@
-use Rattle.std.proofs.Common.{Bool, List, length, min, take, ap, ◌∙◌, arith}
-use Rattle.std.proofs.Math.ListN.{drop_of_length-le}
-use Rattle.mask_bits.specs.RunScan.{runs_from}
+use Rattle.mask_c.proofs.Common.{Bool, List, length, min, take, ap, ◌∙◌, arith, drop_of_length-le, runs_from}
 use Rattle.mask_bits.proofs.Lists.Words.BackingBitLemmas.{length-bitmap}
 use Rattle.mask_c.proofs.IndexLemmas.{bitmap-rest}
 use Rattle.mask_c.proofs.RunLemmas.{moved_runs, length_moved}

@@ -1,7 +1,4 @@
-use Rattle.std.proofs.Common.{◌≡◌, ◌<◌, ◌≤◌, ◌++◌, ◌∷◌, ℕ, List, length, map, take, subst, sym, ap, ◌∙◌, arith}
-use Rattle.std.specs.List.{All}
-use Rattle.std.proofs.lemmas.List.{length-set}
-use Rattle.std.proofs.lemmas.List.Elements.{All-tail}
+use Rattle.mask_c.proofs.Common.{◌≡◌, ◌<◌, ◌≤◌, ◌++◌, ◌∷◌, ℕ, List, length, map, take, subst, sym, ap, ◌∙◌, arith, All, length-set, All-tail}
 use Rattle.mask_c.proofs.RunLemmas.{moved, pair, run_of, run_more}
 use Rattle.mask_c.proofs.runs.runs_of_values.Goals as goal
 

@@ -1,6 +1,4 @@
-use Rattle.std.proofs.Common.{◌≡◌, ◌+◌, ◌-◌, ◌<◌, ◌≤◌, ◌++◌, ℕ, length, map, take}
-use Rattle.std.specs.List.{All}
-use Rattle.mask_bits.specs.RunScan.{runs}
+use Rattle.mask_c.proofs.Common.{◌≡◌, ◌+◌, ◌-◌, ◌<◌, ◌≤◌, ◌++◌, ℕ, length, map, take, All, runs}
 use Rattle.mask_c.proofs.RunLemmas.{moved, pair}
 use Rattle.mask_c.proofs.runs.runs_of_values.Given as goal
 

@@ -1,8 +1,4 @@
-use Rattle.std.proofs.Common.{◌≡◌, ◌<◌, ◌≤◌, ◌+◌, ◌-◌, ◌++◌, length, take, map, get_or, slice_range, slice_get, Some, sym, ap, ap₂, ◌∙◌, arith}
-use Rattle.std.specs.List.{concat}
-use Rattle.std.proofs.lemmas.List.{length-map}
-use Rattle.std.proofs.lemmas.List.Elements.{All-get_or}
-use Rattle.mask_c.specs.Strings.{items_at, sizes, strings}
+use Rattle.mask_c.proofs.Common.{◌≡◌, ◌<◌, ◌≤◌, ◌+◌, ◌-◌, ◌++◌, length, take, map, get_or, slice_range, slice_get, Some, sym, ap, ap₂, ◌∙◌, arith, concat, length-map, All-get_or, items_at, sizes, strings}
 use Rattle.mask_c.proofs.StringLemmas.{bytes-step, items_at-more, slice_get-sizes, slice_get-strings, sum-first, sum-more}
 use Rattle.mask_bits.proofs.Lists.Words.FrontLemmas.{behind-later}
 use Rattle.mask_c.proofs.strings.put_runs.Goals as goal

@@ -1,8 +1,4 @@
-use Rattle.std.proofs.Common.{◌<◌, ◌+◌, Some, drop, length, get_or, sym, ap, ◌∙◌, arith}
-use Rattle.std.proofs.lemmas.List.{drop-drop, drop-set-lt, take_all}
-use Rattle.std.proofs.lemmas.List.Elements.{All-get_or}
-use Rattle.std.proofs.lemmas.Option.{slice_get-get_or}
-use Rattle.mask_c.specs.Strings.{items_at}
+use Rattle.mask_c.proofs.Common.{◌<◌, ◌+◌, Some, drop, length, get_or, sym, ap, ◌∙◌, arith, drop-drop, drop-set-lt, take_all, All-get_or, slice_get-get_or, items_at}
 use Rattle.mask_c.proofs.ChooseLemmas.{rows_at-more}
 use Rattle.mask_c.proofs.take.rows_at.Goals as goal
 

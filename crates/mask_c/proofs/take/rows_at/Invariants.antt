@@ -1,5 +1,4 @@
-use Rattle.std.proofs.Common.{◌≡◌, drop, take}
-use Rattle.mask_c.specs.Strings.{items_at}
+use Rattle.mask_c.proofs.Common.{◌≡◌, drop, take, items_at}
 use Rattle.mask_c.proofs.take.rows_at.Given as goal
 
 -- the rows at the indices so far, and what is behind them as it was

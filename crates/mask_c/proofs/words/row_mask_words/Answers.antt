@@ -1,5 +1,4 @@
-use Rattle.std.proofs.Common.{◌<◌, ◌≢◌, ◌+◌, drop, length, get_or-set_same, get_or-set_other, below_more, sym, ap, ◌∙◌, arith}
-use Rattle.std.proofs.lemmas.List.{drop-drop, drop-set-lt}
+use Rattle.mask_c.proofs.Common.{◌<◌, ◌≢◌, ◌+◌, drop, length, get_or-set_same, get_or-set_other, below_more, sym, ap, ◌∙◌, arith, drop-drop, drop-set-lt}
 use Rattle.mask_bits.proofs.Lists.Words.PaddedLemmas.{padded_part-whole}
 use Rattle.mask_c.proofs.words.row_mask_words.Goals as goal
 

@@ -1,5 +1,4 @@
-use Rattle.std.proofs.Common.{ℕ, ◌≡◌, ◌+◌, ◌<◌, drop, get_or}
-use Rattle.mask_bits.specs.Words.{padded_part, word_bits}
+use Rattle.mask_c.proofs.Common.{ℕ, ◌≡◌, ◌+◌, ◌<◌, drop, get_or, padded_part, word_bits}
 use Rattle.mask_c.proofs.words.row_mask_words.Given as goal
 
 -- the words so far, and what is behind them as it was

@@ -1,6 +1,4 @@
-use Rattle.std.proofs.Common.{◌∷◌, ◌↔◌, map, drop}
-use Rattle.vortex_mask.specs.Mask.{truth}
-use Rattle.mask_bits.specs.Stacks.{IsStack}
+use Rattle.vortex_mask.proofs.Common.{◌∷◌, ◌↔◌, map, drop, truth, IsStack}
 use Rattle.vortex_mask.proofs.conditions.are_a_stack.Given as goal
 
 -- the masks are a stack exactly if those from the one before on are

@@ -1,4 +1,4 @@
-use Rattle.std.proofs.Common.{◌+◌, ◌<◌, ◌↔◌, IsTrue, ℕ, length, get_or}
+use Rattle.vortex_mask.proofs.Common.{◌+◌, ◌<◌, ◌↔◌, ℕ, length, get_or, IsTrue}
 use Rattle.vortex_mask.proofs.conditions.ascends.Given as goal
 
 -- the indices before this one ascend

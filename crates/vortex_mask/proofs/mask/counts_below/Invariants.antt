@@ -1,6 +1,4 @@
-use Rattle.std.proofs.Common.{ℕ, ◌≡◌, ◌<◌, ◌≤◌, length, map, take, get_or}
-use Rattle.mask_bits.specs.Buffer.{values}
-use Rattle.mask_bits.specs.Positions.{count_below}
+use Rattle.vortex_mask.proofs.Common.{ℕ, ◌≡◌, ◌<◌, ◌≤◌, length, map, take, get_or, values, count_below}
 use Rattle.vortex_mask.proofs.mask.counts_below.Given as goal
 
 -- the counts so far, of which the last runs on, and no index to come is below where it stands

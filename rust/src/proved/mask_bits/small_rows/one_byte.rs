@@ -7,6 +7,7 @@ use crate::kit::prelude::*;
 use crate::proved::mask_bits::byte_places::places_of;
 use crate::proved::mask_bits::room::Room;
 use crate::proved::mask_bits::small_rows::{ByTable, MoveRows};
+use crate::proved::mask_bits::word_items::push_eight;
 
 impl MoveRows<u8> for ByTable {
     #[inline(always)]
@@ -14,14 +15,6 @@ impl MoveRows<u8> for ByTable {
         let before = out.count();
         push_eight(out, &rows_of_byte(rows, byte));
         out.cut(before + byte.count_ones() as usize);
-    }
-}
-
-// Puts eight bytes.
-#[inline(always)]
-fn push_eight<R: Room<u8>>(out: &mut R, bytes: &[u8; 8]) {
-    for k in 0..8 {
-        out.put(bytes[k]);
     }
 }
 

@@ -31,7 +31,7 @@ impl Mask {
     /// - *refused*: `IsOkUnless result (MaskError.Memory alloc_error)`
     #[inline]
     pub fn indices(&mut self) -> Result<AllOr<&[usize]>, MaskError> {
-        self.fill_indices()?;
+        self.fill(false)?;
         Ok(match self {
             Mask::AllTrue(_) => AllOr::All,
             Mask::AllFalse(_) => AllOr::None,
@@ -53,7 +53,7 @@ impl Mask {
     /// - *refused*: `IsOkUnless result (MaskError.Memory alloc_error)`
     #[inline]
     pub fn slices(&mut self) -> Result<AllOr<&[(usize, usize)]>, MaskError> {
-        self.fill_slices()?;
+        self.fill(true)?;
         Ok(match self {
             Mask::AllTrue(_) => AllOr::All,
             Mask::AllFalse(_) => AllOr::None,
@@ -96,8 +96,7 @@ impl Mask {
         den: usize,
     ) -> Result<AllOr<MaskIter<'_>>, MaskError> {
         let by_ranges = self.reaches_share(num, den);
-        let filled = if by_ranges { self.fill_slices() } else { self.fill_indices() };
-        filled?;
+        self.fill(by_ranges)?;
         Ok(match self {
             Mask::AllTrue(_) => AllOr::All,
             Mask::AllFalse(_) => AllOr::None,
@@ -114,31 +113,16 @@ impl Mask {
         }
     }
 
-    // Caches the true indices where the mask is mixed. Values that nobody else holds cache them in
-    // place, and else the mask becomes one of a clone with them.
-    #[inline]
-    fn fill_indices(&mut self) -> Result<(), MaskError> {
+    // Caches the runs, or the true indices, where the mask is mixed. Values that nobody else holds cache
+    // them in place, and else the mask becomes one of a clone with them.
+    #[inline(always)]
+    fn fill(&mut self, by_ranges: bool) -> Result<(), MaskError> {
         if let Mask::Values(values) = self {
             if let Some(own) = Arc::get_mut(values) {
-                return own.cache_indices();
+                return own.cache_list(by_ranges);
             }
-            if values.cached_indices().is_none() {
-                let filled = values.with_indices()?;
-                *self = Mask::Values(crate::kit::shared(filled)?);
-            }
-        }
-        Ok(())
-    }
-
-    // Caches the runs where the mask is mixed, in the same way.
-    #[inline]
-    fn fill_slices(&mut self) -> Result<(), MaskError> {
-        if let Mask::Values(values) = self {
-            if let Some(own) = Arc::get_mut(values) {
-                return own.cache_slices();
-            }
-            if values.cached_slices().is_none() {
-                let filled = values.with_slices()?;
+            if !values.has_list(by_ranges) {
+                let filled = values.with_list(by_ranges)?;
                 *self = Mask::Values(crate::kit::shared(filled)?);
             }
         }

@@ -160,7 +160,7 @@ impl MaskValues {
     ///
     /// - *same*: `IfOk result (λ v. v ≡ self.now)`
     /// - *refused*: `IsOkUnless result (MaskError.Memory alloc_error)`
-    #[inline]
+    #[inline(always)]
     pub fn try_clone(&self) -> Result<MaskValues, MaskError> {
         Ok(MaskValues {
             buffer: self.buffer.try_clone()?,
@@ -185,7 +185,7 @@ impl MaskValues {
     /// - *refused*: `IsOkUnless result (MaskError.Memory alloc_error)`
     #[inline]
     pub fn indices(&mut self) -> Result<&[usize], MaskError> {
-        self.cache_indices()?;
+        self.cache_list(false)?;
         Ok(self.lend_indices())
     }
 
@@ -200,7 +200,7 @@ impl MaskValues {
     /// - *refused*: `IsOkUnless result (MaskError.Memory alloc_error)`
     #[inline]
     pub fn slices(&mut self) -> Result<&[(usize, usize)], MaskError> {
-        self.cache_slices()?;
+        self.cache_list(true)?;
         Ok(self.lend_slices())
     }
 
@@ -237,13 +237,9 @@ impl MaskValues {
         num: usize,
         den: usize,
     ) -> Result<MaskIter<'_>, MaskError> {
-        if self.reaches_share(num, den) {
-            self.cache_slices()?;
-            Ok(MaskIter::Slices(self.lend_slices()))
-        } else {
-            self.cache_indices()?;
-            Ok(MaskIter::Indices(self.lend_indices()))
-        }
+        let by_ranges = self.reaches_share(num, den);
+        self.cache_list(by_ranges)?;
+        Ok(self.lend_list(by_ranges))
     }
 
     // Whether at least `num` of each `den` values are true.
@@ -275,44 +271,36 @@ impl MaskValues {
         }
     }
 
-    // Makes the list of the true indices, then caches it, where there is none.
-    #[inline]
-    pub(super) fn cache_indices(&mut self) -> Result<(), MaskError> {
-        if self.indices.is_none() {
+    // Whether the runs, or the true indices, are cached.
+    #[inline(always)]
+    pub(super) fn has_list(&self, by_ranges: bool) -> bool {
+        if by_ranges { self.slices.is_some() } else { self.indices.is_some() }
+    }
+
+    // Makes the list of the runs, or of the true indices, then caches it, where there is none.
+    #[inline(always)]
+    pub(super) fn cache_list(&mut self, by_ranges: bool) -> Result<(), MaskError> {
+        if self.has_list(by_ranges) {
+            return Ok(());
+        }
+        if by_ranges {
+            self.slices = Some(self.runs()?);
+        } else {
             self.indices = Some(self.index_list()?);
         }
         Ok(())
     }
 
-    // Makes the list of the runs and caches it, where there is none.
-    #[inline]
-    pub(super) fn cache_slices(&mut self) -> Result<(), MaskError> {
-        if self.slices.is_none() {
-            self.slices = Some(self.runs()?);
-        }
-        Ok(())
-    }
-
-    // A clone with the true indices cached.
-    #[inline]
-    pub(super) fn with_indices(&self) -> Result<MaskValues, MaskError> {
-        let indices = self.index_list()?;
+    // A clone with that list cached.
+    #[inline(always)]
+    pub(super) fn with_list(&self, by_ranges: bool) -> Result<MaskValues, MaskError> {
         let mut filled = self.try_clone()?;
-        filled.indices = Some(indices);
-        Ok(filled)
-    }
-
-    // A clone with the runs cached.
-    #[inline]
-    pub(super) fn with_slices(&self) -> Result<MaskValues, MaskError> {
-        let slices = self.runs()?;
-        let mut filled = self.try_clone()?;
-        filled.slices = Some(slices);
+        filled.cache_list(by_ranges)?;
         Ok(filled)
     }
 
     // The true indices, in room that is made once.
-    #[inline]
+    #[inline(always)]
     pub(crate) fn index_list(&self) -> Result<Vec<usize>, AllocError> {
         self.buffer.indices_proved(self.true_count)
     }

@@ -1,6 +1,4 @@
-use Rattle.std.proofs.Common.{◌≡◌, Bool, ◌∷◌, ◌+◌, ◌*◌, ◌/◌, ◌%◌, false, nat_eq, get_or, drop, sym, ap, ◌∙◌, arith}
-use Rattle.std.proofs.lemmas.List.{drop_more}
-use Rattle.std.proofs.lemmas.Nat.Bits.{shr_and_one}
+use Rattle.mask_bits.proofs.Common.{◌≡◌, Bool, ◌∷◌, ◌+◌, ◌*◌, ◌/◌, ◌%◌, false, nat_eq, get_or, drop, sym, ap, ◌∙◌, arith, drop_more, shr_and_one}
 use Rattle.mask_bits.proofs.Lists.Words.WalkLemmas.{bit-padded}
 use Rattle.mask_bits.proofs.bit_iterator.BitIteratorIterator.next.Goals as goal
 

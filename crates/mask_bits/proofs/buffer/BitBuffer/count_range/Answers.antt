@@ -1,7 +1,4 @@
-use Rattle.std.proofs.Common.{ℕ, List, ◌+◌, ◌-◌, slice_range, ap, refl, ◌∙◌, arith}
-use Rattle.mask_bits.specs.Bitmap.{bitmap}
-use Rattle.mask_bits.specs.Buffer.{Packed, values}
-use Rattle.mask_bits.specs.Positions.{count}
+use Rattle.mask_bits.proofs.Common.{ℕ, List, ◌+◌, ◌-◌, slice_range, ap, refl, ◌∙◌, arith, bitmap, Packed, values, count}
 use Rattle.mask_bits.proofs.BufferLemmas.{len-of_list, length-values, values-part}
 use Rattle.mask_bits.proofs.Lists.Places.PlaceLemmas.{count-le-length}
 use Rattle.mask_bits.proofs.buffer.BitBuffer.count_range.Goals as goal

@@ -1,5 +1,4 @@
-use Rattle.std.proofs.Common.{◌∙◌}
-use Rattle.std.proofs.lemmas.Result.{IfOk-weaker}
+use Rattle.mask_bits.proofs.Common.{◌∙◌, IfOk-weaker}
 use Rattle.mask_bits.proofs.buffer.BitBuffer.from_bools.Goals as goal
 
 pub returns-clause-whole : goal.returns-clause-whole

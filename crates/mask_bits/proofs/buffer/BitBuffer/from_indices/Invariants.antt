@@ -1,6 +1,4 @@
-use Rattle.std.proofs.Common.{◌≡◌, ◌*◌, ◌≤◌, ℕ, nat_eq, take, vec_len}
-use Rattle.std.specs.List.{list_any}
-use Rattle.mask_bits.specs.Buffer.{backing_bit}
+use Rattle.mask_bits.proofs.Common.{◌≡◌, ◌*◌, ◌≤◌, ℕ, nat_eq, take, vec_len, list_any, backing_bit}
 use Rattle.mask_bits.proofs.buffer.BitBuffer.from_indices.Given as goal
 
 -- the bits set so far are at the indices so far

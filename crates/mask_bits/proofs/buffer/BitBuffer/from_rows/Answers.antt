@@ -1,9 +1,4 @@
-use Rattle.std.proofs.Common.{length, sym, subst, arith}
-use Rattle.std.specs.Fn.{FnReturnsAt}
-use Rattle.std.proofs.lemmas.Result.{IfOk-weaker}
-use Rattle.mask_bits.specs.Bitmap.{bitmap}
-use Rattle.mask_bits.specs.Buffer.{values}
-use Rattle.mask_bits.specs.Rows.{AreAnswers}
+use Rattle.mask_bits.proofs.Common.{length, sym, subst, arith, FnReturnsAt, IfOk-weaker, bitmap, values, AreAnswers}
 use Rattle.mask_bits.proofs.AnswerLemmas.{computed_of_answers}
 use Rattle.mask_bits.proofs.CombineLemmas.{take_back}
 use Rattle.mask_bits.proofs.buffer.BitBuffer.from_rows.Goals as goal

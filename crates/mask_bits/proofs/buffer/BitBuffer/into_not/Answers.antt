@@ -1,5 +1,4 @@
-use Rattle.std.proofs.lemmas.Grind.{common_steps}
-use Rattle.std.proofs.Common.{arith}
+use Rattle.mask_bits.proofs.Common.{common_steps, arith}
 use Rattle.mask_bits.proofs.BufferLemmas.{length-values}
 use Rattle.mask_bits.proofs.CombineLemmas.{room-shows, room-covers, values-written}
 use Rattle.mask_bits.proofs.buffer.BitBuffer.into_not.Goals as goal

@@ -1,6 +1,4 @@
-use Rattle.std.proofs.Common.{length, ap, ◌∙◌, sym, eqb-true, eq-eqb}
-use Rattle.std.proofs.lemmas.List.{nil_from_length}
-use Rattle.mask_bits.specs.Buffer.{values}
+use Rattle.mask_bits.proofs.Common.{length, ap, ◌∙◌, sym, eqb-true, eq-eqb, nil_from_length, values}
 use Rattle.mask_bits.proofs.BufferLemmas.{length-values}
 use Rattle.mask_bits.proofs.buffer.BitBuffer.is_empty.Goals as goal
 

@@ -1,7 +1,4 @@
-use Rattle.std.proofs.Common.{List, [], Bool, false, ℕ, ◌≡◌, ◌+◌, ◌*◌, ◌/◌, ◌++◌, length, drop, get_or, ap, ap₂, ◌∙◌, sym, arith, append-nil}
-use Rattle.mask_bits.specs.Buffer.{values}
-use Rattle.mask_bits.specs.Pushed.{runs_behind}
-use Rattle.mask_bits.specs.Words.{word_bits, padded_remainder}
+use Rattle.mask_bits.proofs.Common.{List, [], Bool, false, ℕ, ◌≡◌, ◌+◌, ◌*◌, ◌/◌, ◌++◌, length, drop, get_or, ap, ap₂, ◌∙◌, sym, arith, append-nil, values, runs_behind, word_bits, padded_remainder}
 use Rattle.mask_bits.proofs.RunWordLemmas.{behind-whole, behind-remainder, remainder_ends}
 use Rattle.mask_bits.proofs.buffer.BitBuffer.runs.Goals as goal
 

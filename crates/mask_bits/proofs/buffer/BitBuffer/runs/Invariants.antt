@@ -1,7 +1,4 @@
-use Rattle.std.proofs.Common.{◌≡◌, ◌*◌, ◌++◌, drop}
-use Rattle.mask_bits.specs.Buffer.{values}
-use Rattle.mask_bits.specs.RunScan.{runs}
-use Rattle.mask_bits.specs.Pushed.{runs_behind}
+use Rattle.mask_bits.proofs.Common.{◌≡◌, ◌*◌, ◌++◌, drop, values, runs, runs_behind}
 use Rattle.mask_bits.proofs.buffer.BitBuffer.runs.Given as goal
 
 -- the runs that the words so far end, and those of the rest, are all

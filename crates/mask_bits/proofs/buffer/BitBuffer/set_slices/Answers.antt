@@ -1,4 +1,4 @@
-use Rattle.std.proofs.Common.{arith}
+use Rattle.mask_bits.proofs.Common.{arith}
 use Rattle.mask_bits.proofs.Lists.Runs.RunLemmas.{length-AreRuns}
 use Rattle.mask_bits.proofs.buffer.BitBuffer.set_slices.Goals as goal
 

@@ -1,5 +1,4 @@
-use Rattle.std.proofs.Common.{ℕ, List, ◌+◌, ◌-◌, slice_range, ap, ◌∙◌, arith}
-use Rattle.mask_bits.specs.Buffer.{Packed, values}
+use Rattle.mask_bits.proofs.Common.{ℕ, List, ◌+◌, ◌-◌, slice_range, ap, ◌∙◌, arith, Packed, values}
 use Rattle.mask_bits.proofs.BufferLemmas.{length-values, values-part}
 use Rattle.mask_bits.proofs.buffer.BitBuffer.slice.Goals as goal
 

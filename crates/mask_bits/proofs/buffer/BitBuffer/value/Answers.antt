@@ -1,5 +1,4 @@
-use Rattle.std.proofs.Common.{◌+◌, ◌/◌, ◌%◌, get_or}
-use Rattle.std.proofs.lemmas.Nat.Bits.{shr_and_one}
+use Rattle.mask_bits.proofs.Common.{◌+◌, ◌/◌, ◌%◌, get_or, shr_and_one}
 use Rattle.mask_bits.proofs.BufferLemmas.{slice_get-values}
 use Rattle.mask_bits.proofs.buffer.BitBuffer.value.Goals as goal
 

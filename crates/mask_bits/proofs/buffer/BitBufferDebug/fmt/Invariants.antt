@@ -1,6 +1,4 @@
-use Rattle.std.proofs.Common.{map}
-use Rattle.std.specs.Fmt.{HasWritten, IsPlainFormatter}
-use Rattle.mask_bits.specs.Text.{digit}
+use Rattle.mask_bits.proofs.Common.{map, HasWritten, IsPlainFormatter, digit}
 use Rattle.mask_bits.proofs.buffer.BitBufferDebug.fmt.Given as goal
 
 -- a digit is written for each value so far

@@ -1,5 +1,4 @@
-use Rattle.std.proofs.Common.{List, Bool, ◌∙◌, arith}
-use Rattle.mask_bits.specs.Buffer.{values}
+use Rattle.mask_bits.proofs.Common.{List, Bool, ◌∙◌, arith, values}
 use Rattle.mask_bits.proofs.BufferLemmas.{length-values}
 use Rattle.mask_bits.proofs.BuilderLemmas.{room-appended}
 use Rattle.mask_bits.proofs.buffer_mut.BitBufferMut.append_buffer.Goals as goal

@@ -1,5 +1,4 @@
-use Rattle.std.proofs.Common.{List, Bool, ◌∙◌, arith}
-use Rattle.mask_bits.specs.Positions.{repeated}
+use Rattle.mask_bits.proofs.Common.{List, Bool, ◌∙◌, arith, repeated}
 use Rattle.mask_bits.proofs.Lists.CountLemmas.{length-repeated}
 use Rattle.mask_bits.proofs.BuilderLemmas.{room-appended}
 use Rattle.mask_bits.proofs.buffer_mut.BitBufferMut.append_n.Goals as goal

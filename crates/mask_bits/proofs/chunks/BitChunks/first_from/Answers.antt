@@ -1,6 +1,4 @@
-use Rattle.std.proofs.Common.{not, inl, inr, arith}
-use Rattle.std.proofs.lemmas.Bool.{cases_lt}
-use Rattle.mask_bits.specs.Buffer.{Packed}
+use Rattle.mask_bits.proofs.Common.{not, inl, inr, arith, cases_lt, Packed}
 use Rattle.mask_bits.proofs.BufferLemmas.{len-of_list}
 use Rattle.mask_bits.proofs.FirstLemmas.{passed_more, first_index}
 use Rattle.mask_bits.proofs.chunks.BitChunks.first_from.Goals as goal

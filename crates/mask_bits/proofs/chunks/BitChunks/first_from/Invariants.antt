@@ -1,4 +1,4 @@
-use Rattle.std.proofs.Common.{◌≡◌, ◌-◌, ◌≤◌, ◌<◌, ℕ, false, not, get_or, length}
+use Rattle.mask_bits.proofs.Common.{◌≡◌, ◌-◌, ◌≤◌, ◌<◌, ℕ, false, not, get_or, length}
 use Rattle.mask_bits.proofs.chunks.BitChunks.first_from.Given as goal
 
 -- no index so far holds the value

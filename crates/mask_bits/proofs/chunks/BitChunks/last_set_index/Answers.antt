@@ -1,5 +1,4 @@
-use Rattle.std.proofs.Common.{ℕ, Option, ◌<◌, ◌-◌, length, subst, sym, arith, IfSome}
-use Rattle.mask_bits.specs.Positions.{count}
+use Rattle.mask_bits.proofs.Common.{ℕ, Option, ◌<◌, ◌-◌, length, subst, sym, arith, IfSome, count}
 use Rattle.mask_bits.proofs.Lists.Places.PlaceLemmas.{place-within}
 use Rattle.mask_bits.proofs.Lists.Places.SelectLemmas.{last_in_word}
 use Rattle.mask_bits.proofs.chunks.BitChunks.last_set_index.Goals as goal

@@ -1,5 +1,4 @@
-use Rattle.std.proofs.Common.{◌≡◌, ◌*◌, ◌≤◌, ℕ, false, get_or, length}
-use Rattle.mask_bits.specs.Words.{started_words}
+use Rattle.mask_bits.proofs.Common.{◌≡◌, ◌*◌, ◌≤◌, ℕ, false, get_or, length, started_words}
 use Rattle.mask_bits.proofs.chunks.BitChunks.last_set_index.Given as goal
 
 -- no value of the words so far is true

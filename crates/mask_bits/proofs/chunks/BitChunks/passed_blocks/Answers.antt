@@ -1,6 +1,4 @@
-use Rattle.std.proofs.Common.{Bool, List, ◌≡◌, ◌+◌, ◌*◌, ◌≤◌, ap, ◌∙◌, slice_range, arith}
-use Rattle.mask_bits.specs.Buffer.{Packed, values}
-use Rattle.mask_bits.specs.Positions.{count}
+use Rattle.mask_bits.proofs.Common.{Bool, List, ◌≡◌, ◌+◌, ◌*◌, ◌≤◌, ap, ◌∙◌, slice_range, arith, Packed, values, count}
 use Rattle.mask_bits.proofs.BufferLemmas.{len-of_list, values-part}
 use Rattle.mask_bits.proofs.Lists.Places.SelectLemmas.{count-part_further}
 use Rattle.mask_bits.proofs.chunks.BitChunks.passed_blocks.Goals as goal

@@ -1,4 +1,4 @@
-use Rattle.std.proofs.Common.{sym, arith}
+use Rattle.mask_bits.proofs.Common.{sym, arith}
 use Rattle.mask_bits.proofs.Lists.Places.PlaceLemmas.{place-within}
 use Rattle.mask_bits.proofs.Lists.Places.SelectLemmas.{place_in_word, place_none}
 use Rattle.mask_bits.proofs.Lists.Words.WordLemmas.{count-word_bits}

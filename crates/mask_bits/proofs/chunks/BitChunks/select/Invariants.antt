@@ -1,5 +1,4 @@
-use Rattle.std.proofs.Common.{◌≡◌, ◌+◌, ◌*◌, take}
-use Rattle.mask_bits.specs.Positions.{count}
+use Rattle.mask_bits.proofs.Common.{◌≡◌, ◌+◌, ◌*◌, take, count}
 use Rattle.mask_bits.proofs.chunks.BitChunks.select.Given as goal
 
 -- the true values of the words so far, and those still to pass

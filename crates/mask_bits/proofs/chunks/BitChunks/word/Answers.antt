@@ -1,6 +1,4 @@
-use Rattle.std.proofs.Common.{Bool, ℕ, List, ◌+◌, ◌*◌, ◌/◌, ◌%◌, ap, ap₂, ◌∙◌, arith, length-drop}
-use Rattle.mask_bits.specs.Buffer.{Packed}
-use Rattle.mask_bits.specs.Words.{word_part, window}
+use Rattle.mask_bits.proofs.Common.{Bool, ℕ, List, ◌+◌, ◌*◌, ◌/◌, ◌%◌, ap, ap₂, ◌∙◌, arith, length-drop, Packed, word_part, window}
 use Rattle.mask_bits.proofs.BufferLemmas.{len-of_list}
 use Rattle.mask_bits.proofs.Lists.Words.FrontLemmas.{window-drop}
 use Rattle.mask_bits.proofs.WindowLemmas.{window-word_part}

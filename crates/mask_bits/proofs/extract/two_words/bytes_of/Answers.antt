@@ -1,5 +1,4 @@
-use Rattle.std.proofs.Common.{◌*◌, ◌/◌, ◌%◌, ◌^◌, ap}
-use Rattle.std.specs.Simd.Lanes.{number_l}
+use Rattle.mask_bits.proofs.Common.{◌*◌, ◌/◌, ◌%◌, ◌^◌, ap, number_l}
 use Rattle.mask_bits.proofs.Lists.Words.LaneLemmas.{AreLanes-same}
 use Rattle.mask_bits.proofs.Lists.Words.WideLaneLemmas.{AreLanes-digits, number-two}
 use Rattle.mask_bits.proofs.extract.two_words.bytes_of.Goals as goal

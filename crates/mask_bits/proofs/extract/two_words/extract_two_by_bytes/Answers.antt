@@ -1,10 +1,6 @@
-use Rattle.std.proofs.lemmas.Grind.{common_steps}
-use Rattle.std.proofs.Common.{ℕ, ◌≡◌, ◌+◌, ◌*◌, ◌/◌, ◌%◌, ◌^◌, ◌<◌, List, length, Fits, ap, ap₂, ◌∙◌, sym, subst, get_or, count_ones, w64, arith, pow-add, add_comm}
-use Rattle.std.specs.Simd.Lanes.{Each1}
-use Rattle.std.proofs.lemmas.Bool.{cases_lt}
-use Rattle.std.proofs.lemmas.Nat.{shr-shr, ones_cat}
+use Rattle.mask_bits.proofs.Common.{common_steps, ℕ, ◌≡◌, ◌+◌, ◌*◌, ◌/◌, ◌%◌, ◌^◌, ◌<◌, List, length, Fits, ap, ap₂, ◌∙◌, sym, subst, get_or, count_ones, w64, arith, pow-add, add_comm, Each1, cases_lt, ones_cat, Extracts, gathered, two_words}
+use Rattle.std.proofs.lemmas.Nat.{shr-shr}
 use lib.Pow.{mod-mod-pow}
-use Rattle.mask_bits.specs.Extract.{Extracts, gathered, two_words}
 use Rattle.mask_bits.proofs.Lists.Words.GatherLemmas.{gathered-low, gathered-two, Extracts-gathered}
 use Rattle.mask_bits.proofs.Lists.Words.WideLaneLemmas.{wide_lane-fits}
 use Rattle.mask_bits.proofs.extract.two_words.extract_two_by_bytes.Goals as goal

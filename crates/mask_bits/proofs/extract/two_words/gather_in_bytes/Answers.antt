@@ -1,5 +1,4 @@
-use Rattle.std.proofs.Common.{◌≡◌, ◌-◌, ◌+◌, ℕ, arith, bit_and, get_or, lt_of_le_of_lt}
-use Rattle.std.proofs.lemmas.Nat.{and_le_r}
+use Rattle.mask_bits.proofs.Common.{◌≡◌, ◌-◌, ◌+◌, ℕ, arith, bit_and, get_or, lt_of_le_of_lt, and_le_r}
 use Rattle.mask_bits.proofs.Lists.Words.LaneLemmas.{AreLanes-itself, AreLanes-zip2, AreLanes-same, lane-fits}
 use Rattle.mask_bits.proofs.Lists.Words.GatherLemmas.{closed_from, within-free, closed_from-top, closed_from-free, closed_from-more, gathered-byte}
 use Rattle.mask_bits.proofs.extract.two_words.gather_in_bytes.Goals as goal

@@ -1,5 +1,4 @@
-use Rattle.std.proofs.Common.{◌-◌, bit_and, get_or}
-use Rattle.mask_bits.specs.Lanes.{AreLanes}
+use Rattle.mask_bits.proofs.Common.{◌-◌, bit_and, get_or, AreLanes}
 use Rattle.mask_bits.proofs.Lists.Words.GatherLemmas.{closed_from}
 use Rattle.mask_bits.proofs.extract.two_words.gather_in_bytes.Given as goal
 

@@ -1,4 +1,4 @@
-use Rattle.std.proofs.Common.{ℕ, ◌+◌, ◌*◌, ◌/◌, ◌%◌, ◌^◌, ◌<◌, ap₂, ◌∙◌, refl, bit_and, get_or, arith}
+use Rattle.mask_bits.proofs.Common.{ℕ, ◌+◌, ◌*◌, ◌/◌, ◌%◌, ◌^◌, ◌<◌, ap₂, ◌∙◌, refl, bit_and, get_or, arith}
 use Rattle.mask_bits.proofs.Lists.Words.LaneLemmas.{AreLanes-itself, AreLanes-zip2, AreLanes-splat, AreLanes-same, lane-fits}
 use Rattle.mask_bits.proofs.Lists.Words.WideLaneLemmas.{AreLanes-wider, lower_lane, upper_lane, sum_cut}
 use Rattle.mask_bits.proofs.extract.two_words.join_bytes.Goals as goal

@@ -1,8 +1,4 @@
-use Rattle.std.proofs.Common.{ℕ, inl, inr, [], ◌∷◌, ◌≡◌, ◌+◌, ◌*◌, ◌/◌, ◌%◌, ◌^◌, ◌<◌, arith, ap, ◌∙◌, sym, refl, subst, get_or, w32, count_ones}
-use Rattle.std.specs.Simd.Lanes.{digits_l}
-use Rattle.std.proofs.lemmas.Bool.{cases_lt}
-use Rattle.std.proofs.lemmas.Simd.{below_from_Fits}
-use Rattle.mask_bits.specs.Lanes.{AreLanes}
+use Rattle.mask_bits.proofs.Common.{ℕ, inl, inr, [], ◌∷◌, ◌≡◌, ◌+◌, ◌*◌, ◌/◌, ◌%◌, ◌^◌, ◌<◌, arith, ap, ◌∙◌, sym, refl, subst, get_or, w32, count_ones, digits_l, cases_lt, below_from_Fits, AreLanes}
 use Rattle.mask_bits.proofs.Lists.Words.LaneLemmas.{AreLanes-itself}
 use Rattle.mask_bits.proofs.Lists.Words.WideLaneLemmas.{AreLanes-wider, through_bytes, wide_lane-fits}
 use Rattle.mask_bits.proofs.extract.two_words.join_halves.Goals as goal

@@ -1,5 +1,4 @@
-use Rattle.std.proofs.Common.{ℕ, ◌+◌, ◌*◌, ◌/◌, ◌%◌, ◌^◌, ◌<◌, w16, ap₂, ◌∙◌, bit_and, get_or, arith}
-use Rattle.std.proofs.lemmas.Nat.{mul-mod_second}
+use Rattle.mask_bits.proofs.Common.{ℕ, ◌+◌, ◌*◌, ◌/◌, ◌%◌, ◌^◌, ◌<◌, w16, ap₂, ◌∙◌, bit_and, get_or, arith, mul-mod_second}
 use Rattle.mask_bits.proofs.Lists.Words.LaneLemmas.{AreLanes-zip2, AreLanes-splat, AreLanes-same}
 use Rattle.mask_bits.proofs.Lists.Words.WideLaneLemmas.{wide_lane-fits, lower_lane, upper_lane, sum_cut}
 use Rattle.mask_bits.proofs.extract.two_words.join_pairs.Goals as goal

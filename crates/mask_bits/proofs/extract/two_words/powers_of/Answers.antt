@@ -1,7 +1,4 @@
-use Rattle.std.proofs.Common.{◌≡◌, ◌+◌, ◌*◌, ◌/◌, ◌%◌, ◌^◌, ◌<◌, ◌∙◌, ℕ, List, ap, ap₂, refl, length, get_or, bit_and, count_ones, replicate, Fits, w8, arith, pow_mono}
-use Rattle.std.specs.Simd.Lanes.{Each1, digits_l, number_l, zip2}
-use Rattle.std.proofs.lemmas.Nat.{and_mask, ones-le}
-use Rattle.mask_bits.specs.Lanes.{AreLanes}
+use Rattle.mask_bits.proofs.Common.{◌≡◌, ◌+◌, ◌*◌, ◌/◌, ◌%◌, ◌^◌, ◌<◌, ◌∙◌, ℕ, List, ap, ap₂, refl, length, get_or, bit_and, count_ones, replicate, Fits, w8, arith, pow_mono, Each1, digits_l, number_l, zip2, and_mask, ones-le, AreLanes}
 use Rattle.mask_bits.proofs.Lists.Words.LaneLemmas.{AreLanes-itself, AreLanes-zip2, AreLanes-splat, AreLanes-same, lane-fits}
 use Rattle.mask_bits.proofs.Lists.Words.WideLaneLemmas.{AreLanes-wider, lower_lane, upper_lane, power_of_byte}
 use Rattle.mask_bits.proofs.extract.two_words.powers_of.Goals as goal

@@ -1,4 +1,4 @@
-use Rattle.std.proofs.Common.{get_or}
+use Rattle.mask_bits.proofs.Common.{get_or}
 use Rattle.mask_bits.proofs.Lists.Words.LaneLemmas.{AreLanes-itself, AreLanes-same, AreLanes-swz_l, SwzOk-lanes}
 use Rattle.mask_bits.proofs.Lists.Words.WideLaneLemmas.{powers, power_at}
 use Rattle.mask_bits.proofs.extract.two_words.powers_of_nibbles.Goals as goal

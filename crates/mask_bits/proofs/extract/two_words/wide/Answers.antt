@@ -1,7 +1,4 @@
-use Rattle.std.proofs.Common.{◌^◌, ◌*◌, ◌+◌, ap, refl, subst, sym, get_or, w16, arith}
-use Rattle.std.specs.Simd.Lanes.{digits_l}
-use Rattle.std.proofs.lemmas.Simd.{below_from_Fits}
-use Rattle.mask_bits.specs.Lanes.{AreLanes}
+use Rattle.mask_bits.proofs.Common.{◌^◌, ◌*◌, ◌+◌, ap, refl, subst, sym, get_or, w16, arith, digits_l, below_from_Fits, AreLanes}
 use Rattle.mask_bits.proofs.Lists.Words.LaneLemmas.{AreLanes-itself}
 use Rattle.mask_bits.proofs.Lists.Words.WideLaneLemmas.{AreLanes-wider, through_bytes, wide_lane-fits}
 use Rattle.mask_bits.proofs.extract.two_words.wide.Goals as goal

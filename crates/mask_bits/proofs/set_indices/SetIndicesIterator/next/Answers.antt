@@ -1,4 +1,4 @@
-use Rattle.std.proofs.Common.{arith}
+use Rattle.mask_bits.proofs.Common.{arith}
 use Rattle.mask_bits.proofs.Lists.Words.WalkLemmas.{IsLeft-cleared}
 use Rattle.mask_bits.proofs.set_indices.SetIndicesIterator.next.Goals as goal
 

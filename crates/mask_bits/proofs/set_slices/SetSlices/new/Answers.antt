@@ -1,5 +1,4 @@
-use Rattle.std.proofs.Common.{false, refl, sym, subst}
-use Rattle.mask_bits.specs.Runs.{AreRuns}
+use Rattle.mask_bits.proofs.Common.{false, refl, sym, subst, AreRuns}
 use Rattle.mask_bits.proofs.Lists.Runs.RunLemmas.{AreRuns-runs_from}
 use Rattle.mask_bits.proofs.RunWalkLemmas.{left-none}
 use Rattle.mask_bits.proofs.set_slices.SetSlices.new.Goals as goal

@@ -1,4 +1,4 @@
-use Rattle.std.proofs.Common.{w8, arith}
+use Rattle.mask_bits.proofs.Common.{w8, arith}
 use Rattle.mask_bits.proofs.ByteRowLemmas.{SwzOk-all, lanes-rows}
 use Rattle.mask_bits.proofs.small_rows.one_byte.rows_of_byte.Goals as goal
 

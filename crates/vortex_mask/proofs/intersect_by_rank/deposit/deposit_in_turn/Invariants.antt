@@ -1,4 +1,4 @@
-use Rattle.std.proofs.Common.{◌≡◌, bit_or}
+use Rattle.vortex_mask.proofs.Common.{◌≡◌, bit_or}
 use Rattle.vortex_mask.proofs.Deposits.DepositLemmas.{deposit}
 use Rattle.vortex_mask.proofs.intersect_by_rank.deposit.deposit_in_turn.Given as goal
 

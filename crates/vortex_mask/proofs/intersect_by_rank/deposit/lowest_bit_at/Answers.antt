@@ -1,4 +1,4 @@
-use Rattle.std.proofs.Common.{rules}
+use Rattle.vortex_mask.proofs.Common.{rules}
 use Rattle.vortex_mask.proofs.Deposits.DepositLemmas.{masked}
 use Rattle.vortex_mask.proofs.intersect_by_rank.deposit.lowest_bit_at.Goals as goal
 

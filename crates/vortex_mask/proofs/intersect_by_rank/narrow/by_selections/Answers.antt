@@ -1,8 +1,4 @@
-use Rattle.std.proofs.Common.{◌≡◌, refl, ap, ◌∙◌, arith, rules}
-use Rattle.std.proofs.lemmas.Iterator.{YieldsList-from_slice}
-use Rattle.std.proofs.lemmas.Iterator.Consumers.{YieldsList-from_copied, YieldsList-from_first, YieldsList-at}
-use Rattle.mask_bits.specs.Buffer.{values}
-use Rattle.mask_bits.specs.Positions.{positions}
+use Rattle.vortex_mask.proofs.Common.{◌≡◌, refl, ap, ◌∙◌, arith, rules, YieldsList-from_slice, YieldsList-from_copied, YieldsList-from_first, YieldsList-at, values, positions}
 use Rattle.mask_bits.proofs.Lists.Places.AscendingLemmas.{positions-ascending}
 use Rattle.mask_bits.proofs.Lists.Places.PlaceLemmas.{positions-within}
 use Rattle.vortex_mask.proofs.Kernels.PathLemmas.{list_from_ranks}

@@ -1,7 +1,4 @@
-use Rattle.std.proofs.Common.{◌≡◌, ◌/◌, ◌%◌, ◌*◌, sym, ap₂, ◌∙◌, arith, get_or, [], ◌∷◌}
-use Rattle.mask_bits.specs.Positions.{count_below}
-use Rattle.mask_bits.specs.Words.{word_bits}
-use Rattle.vortex_mask.specs.Bytes.{byte_at}
+use Rattle.vortex_mask.proofs.Common.{◌≡◌, ◌/◌, ◌%◌, ◌*◌, sym, ap₂, ◌∙◌, arith, get_or, [], ◌∷◌, count_below, word_bits, byte_at}
 use Rattle.vortex_mask.proofs.intersect_by_rank.select.counts_below_bytes.Goals as goal
 
 pub returns : goal.returns

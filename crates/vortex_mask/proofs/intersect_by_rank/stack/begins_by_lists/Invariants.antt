@@ -1,5 +1,4 @@
-use Rattle.std.proofs.Common.{◌≡◌, drop}
-use Rattle.vortex_mask.specs.StackFold.{first_mixed}
+use Rattle.vortex_mask.proofs.Common.{◌≡◌, drop, first_mixed}
 use Rattle.vortex_mask.proofs.intersect_by_rank.stack.begins_by_lists.Given as goal
 
 -- no mask so far is mixed

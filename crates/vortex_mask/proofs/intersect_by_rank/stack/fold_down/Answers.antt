@@ -1,9 +1,4 @@
-use Rattle.std.proofs.Common.{◌≡◌, ℕ, ◌+◌, ◌-◌, drop, length, map, ap, ◌∙◌, sym, arith}
-use Rattle.std.proofs.lemmas.List.{length-map}
-use Rattle.std.proofs.lemmas.Result.{IfOk-weaker}
-use Rattle.mask_bits.specs.Positions.{rank_intersection}
-use Rattle.mask_bits.specs.Stacks.{folded_left}
-use Rattle.vortex_mask.specs.Mask.{mixed, truth}
+use Rattle.vortex_mask.proofs.Common.{◌≡◌, ℕ, ◌+◌, ◌-◌, drop, length, map, ap, ◌∙◌, sym, arith, length-map, IfOk-weaker, rank_intersection, folded_left, mixed, truth}
 use Rattle.vortex_mask.proofs.ResultLemmas.{IfOk-both}
 use Rattle.vortex_mask.proofs.Masks.FoldLemmas.{fold_above, fold_below, fold_fits, one_way, some_rows}
 use Rattle.vortex_mask.proofs.intersect_by_rank.stack.fold_down.Goals as goal

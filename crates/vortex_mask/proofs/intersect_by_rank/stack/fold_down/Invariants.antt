@@ -1,6 +1,4 @@
-use Rattle.std.proofs.Common.{◌≡◌, ◌<◌, drop, length, map}
-use Rattle.mask_bits.specs.Stacks.{folded_left}
-use Rattle.vortex_mask.specs.Mask.{truth}
+use Rattle.vortex_mask.proofs.Common.{◌≡◌, ◌<◌, drop, length, map, folded_left, truth}
 use Rattle.vortex_mask.proofs.intersect_by_rank.stack.fold_down.Given as goal
 
 -- the masks from number i on are folded

@@ -1,6 +1,4 @@
-use Rattle.std.proofs.Common.{◌≤◌, ◌^◌, ◌∙◌, subst}
-use Rattle.std.proofs.lemmas.Result.{IfOk-weaker}
-use Rattle.vortex_mask.specs.Concat.{lists_of, total_len, Joins}
+use Rattle.vortex_mask.proofs.Common.{◌≤◌, ◌^◌, ◌∙◌, subst, IfOk-weaker, lists_of, total_len, Joins}
 use Rattle.vortex_mask.proofs.ResultLemmas.{IfErr-or}
 use Rattle.vortex_mask.proofs.mask.Mask.concat.Goals as goal
 

@@ -1,7 +1,4 @@
-use Rattle.std.proofs.Common.{◌≡◌, map, ap, subst, ◌∙◌}
-use Rattle.std.proofs.lemmas.Result.{IfOk-weaker}
-use Rattle.vortex_mask.specs.Concat.{Joins}
-use Rattle.vortex_mask.specs.Mask.{truth}
+use Rattle.vortex_mask.proofs.Common.{◌≡◌, map, ap, subst, ◌∙◌, IfOk-weaker, Joins, truth}
 use Rattle.vortex_mask.proofs.Masks.ConcatLemmas.{lists_of-lent}
 use Rattle.vortex_mask.proofs.mask.Mask.concat_held.Goals as goal
 

@@ -1,5 +1,4 @@
-use Rattle.std.proofs.Common.{◌∙◌}
-use Rattle.std.proofs.lemmas.Result.{IfOk-weaker}
+use Rattle.vortex_mask.proofs.Common.{◌∙◌, IfOk-weaker}
 use Rattle.vortex_mask.proofs.mask.Mask.from_bools.Goals as goal
 
 pub returns-clause-whole : goal.returns-clause-whole

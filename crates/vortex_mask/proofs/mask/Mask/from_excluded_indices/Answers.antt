@@ -1,11 +1,5 @@
-use Rattle.std.proofs.Common.{◌≡◌, List, ℕ, Some, None, true, length, inr, sym, ap, ◌∙◌}
-use Rattle.std.specs.Option.{option_map}
-use Rattle.std.proofs.lemmas.Result.{IfOk-weaker}
-use Rattle.mask_bits.specs.Lists.{not_of}
-use Rattle.mask_bits.specs.Positions.{repeated, true_at}
+use Rattle.vortex_mask.proofs.Common.{◌≡◌, List, ℕ, Some, None, true, length, inr, sym, ap, ◌∙◌, option_map, IfOk-weaker, not_of, repeated, true_at, out_of_bounds, truth}
 use Rattle.mask_bits.proofs.Lists.CountLemmas.{length-repeated}
-use Rattle.vortex_mask.specs.Faults.{out_of_bounds}
-use Rattle.vortex_mask.specs.Mask.{truth}
 use Rattle.vortex_mask.specs.declared.mask.error.MaskError.TheVariants.{IndexOutOfBounds}
 use Rattle.vortex_mask.proofs.Masks.ExcludedLemmas.{length-without}
 use Rattle.vortex_mask.proofs.Masks.FaultLemmas.{out_of_bounds-first}

@@ -1,6 +1,4 @@
-use Rattle.std.proofs.Common.{sym, ap, ◌∙◌}
-use Rattle.std.proofs.lemmas.Result.{IfOk-weaker}
-use Rattle.vortex_mask.specs.Faults.{index_fault}
+use Rattle.vortex_mask.proofs.Common.{sym, ap, ◌∙◌, IfOk-weaker, index_fault}
 use Rattle.vortex_mask.proofs.ResultLemmas.{IfErr-or}
 use Rattle.vortex_mask.proofs.mask.Mask.from_indices.Goals as goal
 

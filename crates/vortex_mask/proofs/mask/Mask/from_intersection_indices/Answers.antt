@@ -1,6 +1,4 @@
-use Rattle.std.proofs.Common.{sym, ap, ap₂, ◌∙◌}
-use Rattle.std.proofs.lemmas.Result.{IfOk-weaker}
-use Rattle.vortex_mask.specs.Faults.{common, out_of_bounds}
+use Rattle.vortex_mask.proofs.Common.{sym, ap, ap₂, ◌∙◌, IfOk-weaker, common, out_of_bounds}
 use Rattle.vortex_mask.proofs.ResultLemmas.{IfErr-or}
 use Rattle.vortex_mask.proofs.Masks.MaskWalkLemmas.{drained}
 use Rattle.vortex_mask.proofs.mask.Mask.from_intersection_indices.Goals as goal

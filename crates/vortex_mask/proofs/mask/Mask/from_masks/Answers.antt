@@ -1,7 +1,4 @@
-use Rattle.std.proofs.Common.{map, ◌≤◌, ◌^◌, ◌∙◌, subst}
-use Rattle.std.proofs.lemmas.Result.{IfOk-weaker}
-use Rattle.vortex_mask.specs.Concat.{total_len, Joins}
-use Rattle.vortex_mask.specs.Mask.{truth}
+use Rattle.vortex_mask.proofs.Common.{map, ◌≤◌, ◌^◌, ◌∙◌, subst, IfOk-weaker, total_len, Joins, truth}
 use Rattle.vortex_mask.proofs.ResultLemmas.{IfErr-or}
 use Rattle.vortex_mask.proofs.mask.Mask.from_masks.Goals as goal
 

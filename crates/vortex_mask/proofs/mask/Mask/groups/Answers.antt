@@ -1,10 +1,4 @@
-use Rattle.std.proofs.Common.{◌≡◌, Bool, List, [], ◌∷◌, ◌++◌, length, map, sym, ap, ap₂, ◌∙◌, arith}
-use Rattle.std.specs.Int.{div_ceil}
-use Rattle.std.specs.List.{range_with_len}
-use Rattle.std.proofs.lemmas.List.{map-append}
-use Rattle.std.proofs.lemmas.List.FromFn.{map-range_with_len_more}
-use Rattle.mask_bits.specs.Lists.{group}
-use Rattle.vortex_mask.specs.Mask.{truth}
+use Rattle.vortex_mask.proofs.Common.{◌≡◌, Bool, List, [], ◌∷◌, ◌++◌, length, map, sym, ap, ap₂, ◌∙◌, arith, div_ceil, range_with_len, map-append, map-range_with_len_more, group, truth}
 use Rattle.vortex_mask.proofs.Masks.GroupLemmas.{counts-groups}
 use Rattle.vortex_mask.proofs.mask.Mask.groups.Goals as goal
 

@@ -1,7 +1,4 @@
-use Rattle.std.proofs.Common.{◌≡◌, map}
-use Rattle.std.specs.List.{range_with_len}
-use Rattle.mask_bits.specs.Lists.{group}
-use Rattle.vortex_mask.specs.Mask.{truth}
+use Rattle.vortex_mask.proofs.Common.{◌≡◌, map, range_with_len, group, truth}
 use Rattle.vortex_mask.proofs.mask.Mask.groups.Given as goal
 
 -- the groups so far are made

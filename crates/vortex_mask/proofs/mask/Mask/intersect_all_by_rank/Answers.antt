@@ -1,4 +1,4 @@
-use Rattle.std.proofs.Common.{arith}
+use Rattle.vortex_mask.proofs.Common.{arith}
 use Rattle.vortex_mask.proofs.Masks.FoldLemmas.{fold_more}
 use Rattle.vortex_mask.proofs.mask.Mask.intersect_all_by_rank.Goals as goal
 

@@ -1,5 +1,4 @@
-use Rattle.std.proofs.Common.{◌≡◌}
-use Rattle.vortex_mask.specs.Caches.{caches}
+use Rattle.vortex_mask.proofs.Common.{◌≡◌, caches}
 use Rattle.vortex_mask.proofs.Masks.FoldLemmas.{IsFoldSoFar}
 use Rattle.vortex_mask.proofs.mask.Mask.intersect_all_by_rank.Given as goal
 

@@ -1,6 +1,4 @@
-use Rattle.std.proofs.Common.{List, ℕ, arith}
-use Rattle.std.proofs.lemmas.Grind.{common_steps}
-use Rattle.std.proofs.lemmas.List.{nil_from_length}
+use Rattle.vortex_mask.proofs.Common.{List, ℕ, arith, common_steps, nil_from_length}
 use Rattle.mask_bits.proofs.Lists.CountLemmas.{positions-all_false}
 use Rattle.mask_bits.proofs.Lists.Places.AscendingLemmas.{positions-full}
 use Rattle.vortex_mask.proofs.Masks.MaskLemmas.{variant_facts}

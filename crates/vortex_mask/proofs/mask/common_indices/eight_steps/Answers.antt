@@ -1,4 +1,4 @@
-use Rattle.std.proofs.Common.{arith}
+use Rattle.vortex_mask.proofs.Common.{arith}
 use Rattle.vortex_mask.proofs.Masks.CommonLemmas.{goes-list, goes-other}
 use Rattle.vortex_mask.proofs.mask.common_indices.eight_steps.Goals as goal
 

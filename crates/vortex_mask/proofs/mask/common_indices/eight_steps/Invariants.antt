@@ -1,5 +1,4 @@
-use Rattle.std.proofs.Common.{◌≡◌, ◌+◌, ◌≤◌}
-use Rattle.vortex_mask.specs.Merges.{IsUnderWay, comes_to}
+use Rattle.vortex_mask.proofs.Common.{◌≡◌, ◌+◌, ◌≤◌, IsUnderWay, comes_to}
 use Rattle.vortex_mask.proofs.mask.common_indices.eight_steps.Given as goal
 
 -- a step goes on by one in a list at most, and by one in all at least

@@ -1,7 +1,4 @@
-use Rattle.std.proofs.Common.{◌≡◌, ◌∙◌, ap, ap₂, sym, subst, ◌+◌, ◌++◌, ◌∷◌, [], ℕ, get_or, take, refl, arith}
-use Rattle.std.proofs.lemmas.Grind.{take-set_at}
-use Rattle.std.proofs.lemmas.List.{get_or-set_other}
-use Rattle.vortex_mask.specs.Ranks.{AreSplit}
+use Rattle.vortex_mask.proofs.Common.{◌≡◌, ◌∙◌, ap, ap₂, sym, subst, ◌+◌, ◌++◌, ◌∷◌, [], ℕ, get_or, take, refl, arith, take-set_at, get_or-set_other, AreSplit}
 use Rattle.vortex_mask.proofs.Masks.CommonLemmas.{common-found, common-missed}
 use Rattle.vortex_mask.proofs.Lists.PlaceListLemmas.{rises-to}
 use Rattle.vortex_mask.proofs.mask.common_indices.look_up.Goals as goal

@@ -1,5 +1,4 @@
-use Rattle.std.proofs.Common.{◌≡◌, ℕ, ◌<◌, ◌≤◌, length, get_or, take}
-use Rattle.vortex_mask.specs.Faults.{common}
+use Rattle.vortex_mask.proofs.Common.{◌≡◌, ℕ, ◌<◌, ◌≤◌, length, get_or, take, common}
 use Rattle.vortex_mask.proofs.mask.common_indices.look_up.Given as goal
 
 -- those found are the ones in common among the indices so far, those to come are as they were, and what lies before the

@@ -1,5 +1,4 @@
-use Rattle.std.proofs.Common.{ℕ, ◌+◌, ◌/◌, ◌∙◌, ap, arith, take, length}
-use Rattle.std.proofs.lemmas.List.{length-take, length-drop}
+use Rattle.vortex_mask.proofs.Common.{ℕ, ◌+◌, ◌/◌, ◌∙◌, ap, arith, take, length, length-take, length-drop}
 use Rattle.vortex_mask.proofs.Masks.CommonLemmas.{found-joined}
 use Rattle.vortex_mask.proofs.mask.common_indices.merge.Goals as goal
 

@@ -1,6 +1,4 @@
-use Rattle.std.proofs.Common.{◌≡◌, ◌+◌, ◌-◌, length}
-use Rattle.vortex_mask.specs.Faults.{common}
-use Rattle.vortex_mask.specs.Merges.{IsUnderWay, comes_to}
+use Rattle.vortex_mask.proofs.Common.{◌≡◌, ◌+◌, ◌-◌, length, common, IsUnderWay, comes_to}
 use Rattle.vortex_mask.proofs.mask.common_indices.merge_both.Given as goal
 
 abbrev pub invariant-loop-last : goal.invariant-loop-last

@@ -1,5 +1,4 @@
-use Rattle.std.proofs.Common.{◌≡◌, ◌+◌, ◌-◌, length}
-use Rattle.vortex_mask.specs.Merges.{IsUnderWay, comes_to}
+use Rattle.vortex_mask.proofs.Common.{◌≡◌, ◌+◌, ◌-◌, length, IsUnderWay, comes_to}
 use Rattle.vortex_mask.proofs.mask.common_indices.merge_rest.Given as goal
 
 abbrev pub invariant-loop-at : goal.invariant-loop-at

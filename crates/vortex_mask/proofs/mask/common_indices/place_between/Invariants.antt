@@ -1,4 +1,4 @@
-use Rattle.std.proofs.Common.{ℕ, ◌-◌, ◌<◌, ◌≤◌, length, get_or}
+use Rattle.vortex_mask.proofs.Common.{ℕ, ◌-◌, ◌<◌, ◌≤◌, length, get_or}
 use Rattle.vortex_mask.proofs.mask.common_indices.place_between.Given as goal
 
 -- those before `low` are below, and those from `high` on aren't

@@ -1,4 +1,4 @@
-use Rattle.std.proofs.Common.{arith}
+use Rattle.vortex_mask.proofs.Common.{arith}
 use Rattle.vortex_mask.proofs.Lists.PlaceListLemmas.{rises-to}
 use Rattle.vortex_mask.proofs.mask.common_indices.place_of.Goals as goal
 use Rattle.vortex_mask.proofs.mask.common_indices.place_of.Goals.{then-loop-high-test+else-list-high, else-loop-high-test}

@@ -1,7 +1,4 @@
-use Rattle.std.proofs.Common.{◌≡◌, ◌++◌, drop}
-use Rattle.mask_bits.specs.Lists.{concat}
-use Rattle.mask_bits.specs.Positions.{count}
-use Rattle.vortex_mask.specs.Concat.{lists_of}
+use Rattle.vortex_mask.proofs.Common.{◌≡◌, ◌++◌, drop, concat, count, lists_of}
 use Rattle.vortex_mask.proofs.mask.concat.buffer_of.Given as goal
 
 abbrev pub invariant-loop-mask : goal.invariant-loop-mask

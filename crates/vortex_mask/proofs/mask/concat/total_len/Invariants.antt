@@ -1,5 +1,4 @@
-use Rattle.std.proofs.Common.{◌≡◌, ◌+◌, drop}
-use Rattle.vortex_mask.specs.Concat.{lists_of, total_len}
+use Rattle.vortex_mask.proofs.Common.{◌≡◌, ◌+◌, drop, lists_of, total_len}
 use Rattle.vortex_mask.proofs.mask.concat.total_len.Given as goal
 
 abbrev pub invariant-loop-mask : goal.invariant-loop-mask

@@ -1,4 +1,4 @@
-use Rattle.std.proofs.Common.{length, refl, ◌∙◌}
+use Rattle.vortex_mask.proofs.Common.{length, refl, ◌∙◌}
 use Rattle.vortex_mask.proofs.Masks.ExcludedLemmas.{without-none, excluded-more}
 use Rattle.vortex_mask.proofs.mask.from_indices.exclude.Goals as goal
 

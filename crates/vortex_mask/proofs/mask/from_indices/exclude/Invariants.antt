@@ -1,5 +1,4 @@
-use Rattle.std.proofs.Common.{◌≡◌, length}
-use Rattle.vortex_mask.specs.Faults.{first_past}
+use Rattle.vortex_mask.proofs.Common.{◌≡◌, length, first_past}
 use Rattle.vortex_mask.proofs.Masks.ExcludedLemmas.{without}
 use Rattle.vortex_mask.proofs.mask.from_indices.exclude.Given as goal
 

@@ -1,5 +1,4 @@
-use Rattle.std.proofs.Common.{◌≡◌, ◌-◌, nat_lt, drop}
-use Rattle.vortex_mask.specs.Faults.{first_unsorted, first_pair_from}
+use Rattle.vortex_mask.proofs.Common.{◌≡◌, ◌-◌, nat_lt, drop, first_unsorted, first_pair_from}
 use Rattle.vortex_mask.proofs.mask.from_indices.first_unsorted.Given as goal
 
 -- the first such pair is among those from the index before this one on

@@ -1,5 +1,4 @@
-use Rattle.std.proofs.Common.{◌≡◌, drop}
-use Rattle.vortex_mask.specs.Faults.{out_of_bounds}
+use Rattle.vortex_mask.proofs.Common.{◌≡◌, drop, out_of_bounds}
 use Rattle.vortex_mask.proofs.mask.from_indices.out_of_bounds.Given as goal
 
 -- the first one past the length is among those that are left

@@ -1,7 +1,4 @@
-use Rattle.std.proofs.Common.{ℕ, ◌≡◌, Bool, not, ◌&&◌, nat_lt, nat_le, rules, tests}
-use Rattle.std.specs.List.{position}
-use Rattle.std.proofs.lemmas.Iterator.{YieldsList-from_slice}
-use Rattle.std.proofs.lemmas.Iterator.Search.{position_from_yields_List}
+use Rattle.vortex_mask.proofs.Common.{ℕ, ◌≡◌, Bool, not, ◌&&◌, nat_lt, nat_le, rules, tests, position, YieldsList-from_slice, position_from_yields_List}
 use Rattle.vortex_mask.proofs.mask.from_slices.bad_range.Goals as goal
 
 pub returns : goal.returns

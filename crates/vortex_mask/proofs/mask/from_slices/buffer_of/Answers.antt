@@ -1,9 +1,4 @@
-use Rattle.std.proofs.Common.{◌∙◌, ◌*◌, Bool, List, ℕ, length, sym, subst, ap, arith}
-use Rattle.std.proofs.lemmas.List.{take_at}
-use Rattle.std.proofs.lemmas.Result.{IfOk-weaker}
-use Rattle.mask_bits.specs.Bitmap.{bitmap}
-use Rattle.mask_bits.specs.Buffer.{values}
-use Rattle.mask_bits.specs.Runs.{AreRanges}
+use Rattle.vortex_mask.proofs.Common.{◌∙◌, ◌*◌, Bool, List, ℕ, length, sym, subst, ap, arith, take_at, IfOk-weaker, bitmap, values, AreRanges}
 use Rattle.vortex_mask.proofs.Masks.SoundRangeLemmas.{nonempty-no_fault, within-no_fault, AreRanges-set}
 use Rattle.vortex_mask.proofs.mask.from_slices.buffer_of.Goals as goal
 

@@ -1,6 +1,5 @@
 -- `dedup_by` tells each call by the values that it was shown and those that it left.
-use Rattle.std.proofs.Common.{nat_eq, sym, ◌∙◌}
-use Rattle.std.specs.Prelude.{if◌then◌else◌}
+use Rattle.vortex_mask.proofs.Common.{nat_eq, sym, ◌∙◌, if◌then◌else◌}
 use Rattle.vortex_mask.proofs.Masks.MergeLemmas.{runs-merged}
 use Rattle.vortex_mask.proofs.mask.from_slices.merge_touching.Goals as goal
 

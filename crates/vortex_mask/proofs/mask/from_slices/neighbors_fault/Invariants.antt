@@ -1,5 +1,4 @@
-use Rattle.std.proofs.Common.{◌≡◌, ◌-◌, drop}
-use Rattle.vortex_mask.specs.Faults.{neighbors_fault_from}
+use Rattle.vortex_mask.proofs.Common.{◌≡◌, ◌-◌, drop, neighbors_fault_from}
 use Rattle.vortex_mask.proofs.mask.from_slices.neighbors_fault.Given as goal
 
 abbrev pub invariant-loop-at : goal.invariant-loop-at

@@ -1,7 +1,4 @@
-use Rattle.std.proofs.Common.{◌≡◌, ℕ, take}
-use Rattle.std.specs.List.{list_any}
-use Rattle.mask_bits.specs.Buffer.{backing_bit}
-use Rattle.mask_bits.specs.Runs.{is_inside}
+use Rattle.vortex_mask.proofs.Common.{◌≡◌, ℕ, take, list_any, backing_bit, is_inside}
 use Rattle.vortex_mask.proofs.mask.set_ranges.set_ranges.Given as goal
 
 -- the bits in the ranges before are set

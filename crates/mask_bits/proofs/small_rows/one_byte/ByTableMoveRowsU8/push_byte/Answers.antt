@@ -1,7 +1,5 @@
-use Rattle.std.proofs.Common.{◌+◌, count_ones, length, ap, arith}
-use Rattle.std.proofs.lemmas.List.{length-append, length-take}
-use Rattle.std.proofs.lemmas.Nat.{ones-le}
-use Rattle.std.proofs.Math.Seq.{take-append-add}
+use Rattle.mask_bits.proofs.Common.{◌+◌, count_ones, length, ap, arith, length-append, ones-le, take-append-add}
+use Rattle.std.proofs.lemmas.List.{length-take}
 use Rattle.mask_bits.proofs.ByteLemmas.{count-byte}
 use Rattle.mask_bits.proofs.small_rows.one_byte.ByTableMoveRowsU8.push_byte.Goals as goal
 

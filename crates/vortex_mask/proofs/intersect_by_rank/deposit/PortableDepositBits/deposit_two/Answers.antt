@@ -1,5 +1,4 @@
-use Rattle.std.proofs.Common.{arith, get_or}
-use Rattle.std.proofs.lemmas.Nat.{le_or_l, le_or_r}
+use Rattle.vortex_mask.proofs.Common.{arith, get_or, le_or_l, le_or_r}
 use Rattle.vortex_mask.proofs.Deposits.DepositLemmas.{Deposits-none}
 use Rattle.vortex_mask.proofs.intersect_by_rank.deposit.PortableDepositBits.deposit_two.Goals as goal
 

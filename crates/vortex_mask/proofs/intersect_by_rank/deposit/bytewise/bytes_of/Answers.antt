@@ -1,5 +1,4 @@
-use Rattle.std.proofs.Common.{w64}
-use Rattle.std.proofs.lemmas.Simd.{below_from_Fits}
+use Rattle.vortex_mask.proofs.Common.{w64, below_from_Fits}
 use Rattle.vortex_mask.proofs.Deposits.LaneLemmas.{AreLanes-words}
 use Rattle.vortex_mask.proofs.intersect_by_rank.deposit.bytewise.bytes_of.Goals as goal
 

@@ -1,4 +1,4 @@
-use Rattle.std.proofs.Common.{ℕ, ◌<◌, ◌-◌, sym, arith, ◌∙◌, get_or}
+use Rattle.vortex_mask.proofs.Common.{ℕ, ◌<◌, ◌-◌, sym, arith, ◌∙◌, get_or}
 use Rattle.mask_bits.proofs.Lists.Words.LaneLemmas.{AreLanes-itself, AreLanes-map}
 use Rattle.vortex_mask.proofs.Deposits.LaneLemmas.{EachLane-fits}
 use Rattle.vortex_mask.proofs.Deposits.NetworkLemmas.{packed_after-zero, packed_after-full, zeros_before-zero, stage}

@@ -1,7 +1,5 @@
-use Rattle.std.proofs.Common.{◌≡◌, ◌+◌, ◌*◌, ◌/◌, ◌%◌, ◌<◌, ℕ, ap, ap₂, ◌∙◌, sym, arith, count_ones, get_or}
-use Rattle.std.proofs.lemmas.Nat.{ones-le}
+use Rattle.vortex_mask.proofs.Common.{◌≡◌, ◌+◌, ◌*◌, ◌/◌, ◌%◌, ◌<◌, ℕ, ap, ap₂, ◌∙◌, sym, arith, count_ones, get_or, ones-le, byte_at, byte_of_two}
 use Rattle.mask_bits.proofs.Lists.Words.WordLemmas.{count_below-word_bits}
-use Rattle.vortex_mask.specs.Bytes.{byte_at, byte_of_two}
 use Rattle.vortex_mask.proofs.Deposits.ByteCountLemmas.{summed_is}
 use Rattle.vortex_mask.proofs.Deposits.ByteLemmas.{byte_at-lt}
 use Rattle.mask_bits.proofs.Lists.Words.LaneLemmas.{AreLanes-map}

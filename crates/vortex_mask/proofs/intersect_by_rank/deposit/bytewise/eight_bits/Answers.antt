@@ -1,7 +1,4 @@
-use Rattle.std.proofs.Common.{◌≡◌, ◌+◌, ◌-◌, ◌*◌, ◌/◌, ◌%◌, ◌^◌, bit_and, arith, get_or, List, ℕ, length, replicate, w8, w16, pow_mono, Fits}
-use Rattle.std.specs.Simd.Lanes.{zip2, Each1}
-use Rattle.std.proofs.lemmas.Simd.{widens}
-use Rattle.mask_bits.specs.Lanes.{AreLanes}
+use Rattle.vortex_mask.proofs.Common.{◌≡◌, ◌+◌, ◌-◌, ◌*◌, ◌/◌, ◌%◌, ◌^◌, bit_and, arith, get_or, List, ℕ, length, replicate, w8, w16, pow_mono, Fits, zip2, Each1, widens, AreLanes}
 use Rattle.mask_bits.proofs.Lists.Words.LaneLemmas.{AreLanes-map, SwzOk-lanes, AreLanes-zip2, AreLanes-splat, AreLanes-same}
 use Rattle.vortex_mask.proofs.Deposits.LaneLemmas.{AreLanes-fit, cut_out, numbers, power, product, product-is}
 use Rattle.vortex_mask.proofs.intersect_by_rank.deposit.bytewise.eight_bits.Goals as goal

@@ -1,4 +1,4 @@
-use Rattle.std.proofs.Common.{◌%◌, ◌^◌, ap, ◌∙◌, get_or, ◌/◌}
+use Rattle.vortex_mask.proofs.Common.{◌%◌, ◌^◌, ap, ◌∙◌, get_or, ◌/◌}
 use Rattle.vortex_mask.proofs.Deposits.LaneLemmas.{eight_from}
 use Rattle.vortex_mask.proofs.intersect_by_rank.deposit.bytewise.gather.Goals as goal
 

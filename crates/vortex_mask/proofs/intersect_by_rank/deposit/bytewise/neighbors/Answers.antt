@@ -1,8 +1,4 @@
-use Rattle.std.proofs.Common.{◌≡◌, ◌+◌, ◌*◌, ◌/◌, ◌%◌, ◌^◌, ◌<◌, ℕ, ap₂, ◌∙◌, bit_and, arith, get_or, List, [], ◌∷◌, length, replicate, refl}
-use Rattle.std.specs.Simd.Lanes.{zip2}
-use Rattle.std.proofs.lemmas.Nat.{and_mask}
-use Rattle.mask_bits.specs.Lanes.{AreLanes}
-use Rattle.vortex_mask.specs.Bytes.{EachLane, byte_at}
+use Rattle.vortex_mask.proofs.Common.{◌≡◌, ◌+◌, ◌*◌, ◌/◌, ◌%◌, ◌^◌, ◌<◌, ℕ, ap₂, ◌∙◌, bit_and, arith, get_or, List, [], ◌∷◌, length, replicate, refl, zip2, and_mask, AreLanes, EachLane, byte_at}
 use Rattle.mask_bits.proofs.Lists.Words.LaneLemmas.{AreLanes-itself, AreLanes-swz_l, SwzOk-lanes, AreLanes-zip2, AreLanes-splat, AreLanes-same}
 use Rattle.mask_bits.proofs.Lists.Words.TableLemmas.{same_below}
 use Rattle.vortex_mask.proofs.intersect_by_rank.deposit.bytewise.neighbors.Goals as goal

@@ -1,5 +1,4 @@
-use Rattle.std.proofs.Common.{◌≡◌, ◌-◌, length, get_or}
-use Rattle.vortex_mask.specs.Bytes.{EachLane}
+use Rattle.vortex_mask.proofs.Common.{◌≡◌, ◌-◌, length, get_or, EachLane}
 use Rattle.vortex_mask.proofs.Deposits.NetworkLemmas.{doubled}
 use Rattle.vortex_mask.proofs.intersect_by_rank.deposit.bytewise.odd_zeros.Given as goal
 

@@ -1,5 +1,4 @@
-use Rattle.std.proofs.Common.{w8, ap, ◌∙◌, arith, get_or}
-use Rattle.std.proofs.lemmas.Simd.{below_from_Fits}
+use Rattle.vortex_mask.proofs.Common.{w8, ap, ◌∙◌, arith, get_or, below_from_Fits}
 use Rattle.vortex_mask.proofs.Deposits.LaneLemmas.{byte_at-word, lane_is}
 use Rattle.vortex_mask.proofs.intersect_by_rank.deposit.bytewise.words_of.Goals as goal
 

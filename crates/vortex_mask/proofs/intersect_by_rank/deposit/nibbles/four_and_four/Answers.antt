@@ -1,9 +1,4 @@
-use Rattle.std.proofs.Common.{◌≡◌, ◌+◌, ◌-◌, ◌*◌, ◌/◌, ◌%◌, ◌^◌, ◌<◌, ℕ, bit_and, arith, count_ones, get_or, List, w8, w16, pow_mono, length, map, replicate, Fits}
-use Rattle.std.specs.Simd.Lanes.{zip2, Each1}
-use Rattle.std.proofs.lemmas.Nat.{ones-le}
-use Rattle.std.proofs.lemmas.Simd.{widens, swz_l}
-use Rattle.mask_bits.specs.Lanes.{AreLanes}
-use Rattle.vortex_mask.specs.Bytes.{EachLane}
+use Rattle.vortex_mask.proofs.Common.{◌≡◌, ◌+◌, ◌-◌, ◌*◌, ◌/◌, ◌%◌, ◌^◌, ◌<◌, ℕ, bit_and, arith, count_ones, get_or, List, w8, w16, pow_mono, length, map, replicate, Fits, zip2, Each1, ones-le, widens, swz_l, AreLanes, EachLane}
 use Rattle.mask_bits.proofs.Lists.Words.LaneLemmas.{AreLanes-itself, AreLanes-swz_l, SwzOk-lanes, AreLanes-map, AreLanes-zip2, AreLanes-splat, AreLanes-same}
 use Rattle.vortex_mask.proofs.Deposits.LaneLemmas.{AreLanes-fit, numbers, power, product, product-is}
 use Rattle.vortex_mask.proofs.Deposits.NibbleLemmas.{gaps, gaps_at, cut_apart}

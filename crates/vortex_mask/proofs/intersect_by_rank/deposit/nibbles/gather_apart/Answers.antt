@@ -1,5 +1,4 @@
-use Rattle.std.proofs.Common.{◌+◌, ◌/◌, ◌%◌, ◌^◌, ◌≤◌, ap, ◌∙◌, count_ones, arith, get_or}
-use Rattle.std.proofs.lemmas.Nat.{ones-le}
+use Rattle.vortex_mask.proofs.Common.{◌+◌, ◌/◌, ◌%◌, ◌^◌, ◌≤◌, ap, ◌∙◌, count_ones, arith, get_or, ones-le}
 use Rattle.vortex_mask.proofs.Deposits.LaneLemmas.{eight_from}
 use Rattle.vortex_mask.proofs.Deposits.NibbleLemmas.{lower_from, upper_from}
 use Rattle.vortex_mask.proofs.intersect_by_rank.deposit.nibbles.gather_apart.Goals as goal

@@ -1,4 +1,4 @@
-use Rattle.std.proofs.Common.{◌+◌, ◌*◌, ◌%◌, ◌^◌, bit_and, bit_or, get_or}
+use Rattle.vortex_mask.proofs.Common.{◌+◌, ◌*◌, ◌%◌, ◌^◌, bit_and, bit_or, get_or}
 use Rattle.vortex_mask.proofs.Deposits.LaneLemmas.{EachLane-fits}
 use Rattle.vortex_mask.proofs.Deposits.NibbleLemmas.{moved_in_nibbles}
 use Rattle.mask_bits.proofs.Lists.Words.LaneLemmas.{AreLanes-itself, AreLanes-zip2, AreLanes-splat, AreLanes-same}

@@ -1,6 +1,5 @@
-use Rattle.std.proofs.Common.{ap, ◌∙◌, arith}
+use Rattle.vortex_mask.proofs.Common.{ap, ◌∙◌, arith, word_steps}
 use Rattle.mask_bits.proofs.Lists.Words.BackingBitLemmas.{length-bitmap}
-use Rattle.vortex_mask.specs.Steps.{word_steps}
 use Rattle.vortex_mask.proofs.Kernels.WordKernelLemmas.{narrowed-values}
 use Rattle.vortex_mask.proofs.intersect_by_rank.kernels.bit_buffers.narrow_by_bits.Goals as goal
 

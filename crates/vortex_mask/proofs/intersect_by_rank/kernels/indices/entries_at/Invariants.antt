@@ -1,5 +1,4 @@
-use Rattle.std.proofs.Common.{◌≡◌, take}
-use Rattle.mask_bits.specs.Positions.{at_indices}
+use Rattle.vortex_mask.proofs.Common.{◌≡◌, take, at_indices}
 use Rattle.vortex_mask.proofs.intersect_by_rank.kernels.indices.entries_at.Given as goal
 
 abbrev pub invariant-loop-rank : goal.invariant-loop-rank

@@ -1,6 +1,4 @@
-use Rattle.std.proofs.Common.{◌<◌, arith}
-use Rattle.std.proofs.lemmas.List.Elements.{All-get_or}
-use Rattle.mask_bits.specs.Positions.{count}
+use Rattle.vortex_mask.proofs.Common.{◌<◌, arith, All-get_or, count}
 use Rattle.mask_bits.proofs.Lists.Places.PlaceLemmas.{count-le-length}
 use Rattle.vortex_mask.proofs.Kernels.RankBlockLemmas.{backing_bit-zeros}
 use Rattle.vortex_mask.proofs.Lists.StartedWordLemmas.{place-within}

@@ -1,6 +1,4 @@
-use Rattle.std.proofs.Common.{◌*◌, ◌-◌, ◌/◌, ◌≤◌, length}
-use Rattle.vortex_mask.specs.Ranks.{AreSplit, is_listed, narrowed_by}
-use Rattle.vortex_mask.specs.Steps.{IsDeposited}
+use Rattle.vortex_mask.proofs.Common.{◌*◌, ◌-◌, ◌/◌, ◌≤◌, length, AreSplit, is_listed, narrowed_by, IsDeposited}
 use Rattle.vortex_mask.proofs.intersect_by_rank.kernels.rank_blocks.narrow_by_blocks.Given as goal
 
 -- the pairs of words before took their deposits, and the ranks below the running place are passed

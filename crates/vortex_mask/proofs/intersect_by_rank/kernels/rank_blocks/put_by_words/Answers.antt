@@ -1,7 +1,4 @@
-use Rattle.std.proofs.Common.{◌≡◌, ◌+◌, ◌-◌, ◌*◌, Bool, List, false, nat_eq, get_or, inl, inr, sym, ap, ◌∙◌, arith}
-use Rattle.std.specs.List.{list_any}
-use Rattle.std.proofs.lemmas.Bool.{cases_lt}
-use Rattle.mask_bits.specs.Buffer.{backing_bit}
+use Rattle.vortex_mask.proofs.Common.{◌≡◌, ◌+◌, ◌-◌, ◌*◌, Bool, List, false, nat_eq, get_or, inl, inr, sym, ap, ◌∙◌, arith, list_any, cases_lt, backing_bit}
 use Rattle.mask_bits.proofs.Lists.Words.FrontLemmas.{get_or-window}
 use Rattle.vortex_mask.proofs.intersect_by_rank.kernels.rank_blocks.put_by_words.Goals as goal
 

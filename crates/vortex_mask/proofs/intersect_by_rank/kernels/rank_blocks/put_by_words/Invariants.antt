@@ -1,7 +1,4 @@
-use Rattle.std.proofs.Common.{◌≡◌, ℕ, ◌+◌, ◌-◌, ◌*◌, ◌<◌, ◌^◌, min, nat_eq}
-use Rattle.std.specs.List.{list_any}
-use Rattle.mask_bits.specs.Buffer.{backing_bit}
-use Rattle.vortex_mask.specs.Ranks.{AreSplit}
+use Rattle.vortex_mask.proofs.Common.{◌≡◌, ℕ, ◌+◌, ◌-◌, ◌*◌, ◌<◌, ◌^◌, min, nat_eq, list_any, backing_bit, AreSplit}
 use Rattle.vortex_mask.proofs.intersect_by_rank.kernels.rank_blocks.put_by_words.Given as goal
 
 -- the words before have the ranks below the running place

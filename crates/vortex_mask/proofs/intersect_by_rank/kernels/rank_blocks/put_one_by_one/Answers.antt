@@ -1,6 +1,4 @@
-use Rattle.std.proofs.Common.{◌+◌, ◌-◌, ◌<◌, ◌≤◌, ℕ, length, nat_eq, get_or, take, sym, ◌∙◌, arith}
-use Rattle.std.proofs.lemmas.List.{get_or-take, length-take}
-use Rattle.std.proofs.lemmas.List.Folds.{list_any_more}
+use Rattle.vortex_mask.proofs.Common.{◌+◌, ◌-◌, ◌<◌, ◌≤◌, ℕ, length, nat_eq, get_or, take, sym, ◌∙◌, arith, get_or-take, length-take, list_any_more}
 use Rattle.vortex_mask.proofs.Kernels.RankBlockLemmas.{backing_bit-set, nat_eq-from, among-first}
 use Rattle.vortex_mask.proofs.Lists.PlaceListLemmas.{none-is, rises-to}
 use Rattle.vortex_mask.proofs.intersect_by_rank.kernels.rank_blocks.put_one_by_one.Goals as goal

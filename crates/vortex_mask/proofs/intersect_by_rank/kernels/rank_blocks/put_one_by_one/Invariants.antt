@@ -1,6 +1,4 @@
-use Rattle.std.proofs.Common.{◌≡◌, ℕ, ◌+◌, ◌-◌, ◌<◌, ◌≤◌, length, get_or, take, nat_eq}
-use Rattle.std.specs.List.{list_any}
-use Rattle.mask_bits.specs.Buffer.{backing_bit}
+use Rattle.vortex_mask.proofs.Common.{◌≡◌, ℕ, ◌+◌, ◌-◌, ◌<◌, ◌≤◌, length, get_or, take, nat_eq, list_any, backing_bit}
 use Rattle.vortex_mask.proofs.intersect_by_rank.kernels.rank_blocks.put_one_by_one.Given as goal
 
 -- the ranks before the next one are set bits

@@ -1,4 +1,4 @@
-use Rattle.std.proofs.Common.{ℕ, ◌<◌, ◌≤◌, length, get_or}
+use Rattle.vortex_mask.proofs.Common.{ℕ, ◌<◌, ◌≤◌, length, get_or}
 use Rattle.vortex_mask.proofs.intersect_by_rank.kernels.rank_blocks.ranks_below.Given as goal
 
 -- none is below the limit from the running number on

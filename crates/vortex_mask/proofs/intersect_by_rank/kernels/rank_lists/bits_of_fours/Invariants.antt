@@ -1,5 +1,4 @@
-use Rattle.std.proofs.Common.{◌-◌, length}
-use Rattle.vortex_mask.specs.Ranks.{IsGathered}
+use Rattle.vortex_mask.proofs.Common.{◌-◌, length, IsGathered}
 use Rattle.vortex_mask.proofs.intersect_by_rank.kernels.rank_lists.bits_of_fours.Given as goal
 
 -- the ranks before the next one are set bits

@@ -1,5 +1,4 @@
-use Rattle.std.proofs.Common.{◌-◌, ◌<◌, get_or, arith}
-use Rattle.std.proofs.lemmas.Nat.{one_shl}
+use Rattle.vortex_mask.proofs.Common.{◌-◌, ◌<◌, get_or, arith, one_shl}
 use Rattle.vortex_mask.proofs.Kernels.RankWordLemmas.{gathered-more, gathered-split, gathered-bits}
 use Rattle.vortex_mask.proofs.intersect_by_rank.kernels.rank_lists.bits_of_ranks.Goals as goal
 

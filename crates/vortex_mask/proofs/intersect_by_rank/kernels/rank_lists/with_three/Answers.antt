@@ -1,4 +1,4 @@
-use Rattle.std.proofs.Common.{arith}
+use Rattle.vortex_mask.proofs.Common.{arith}
 use Rattle.vortex_mask.proofs.Kernels.RankWordLemmas.{gathered-three}
 use Rattle.vortex_mask.proofs.intersect_by_rank.kernels.rank_lists.with_three.Goals as goal
 

@@ -1,5 +1,4 @@
-use Rattle.std.proofs.Common.{◌≡◌, ℕ, List, ◌-◌, length, take, drop, replicate, ◌++◌, ap, ap₂, ◌∙◌, arith}
-use Rattle.std.proofs.lemmas.List.{drop-replicate, length-drop, take_all}
+use Rattle.vortex_mask.proofs.Common.{◌≡◌, ℕ, List, ◌-◌, length, take, drop, replicate, ◌++◌, ap, ap₂, ◌∙◌, arith, drop-replicate, length-drop, take_all}
 use Rattle.vortex_mask.proofs.intersect_by_rank.rank_bits.RankBits.over.Goals as goal
 
 pub invariant_of-result : goal.invariant_of-result

@@ -1,4 +1,4 @@
-use Rattle.std.proofs.Common.{◌+◌, ◌∙◌, arith}
+use Rattle.vortex_mask.proofs.Common.{◌+◌, ◌∙◌, arith}
 use Rattle.mask_bits.proofs.Lists.Words.PaddedLemmas.{padded_part-whole}
 use Rattle.vortex_mask.proofs.intersect_by_rank.steps.Steps.two_words.Goals as goal
 

@@ -1,4 +1,4 @@
-use Rattle.std.proofs.Common.{arith}
+use Rattle.vortex_mask.proofs.Common.{arith}
 use Rattle.mask_bits.proofs.Lists.Words.WordLemmas.{count-word_bits}
 use Rattle.vortex_mask.proofs.Kernels.DepositListLemmas.{selected-lt}
 use Rattle.vortex_mask.proofs.Kernels.DrivenLemmas.{place-found}

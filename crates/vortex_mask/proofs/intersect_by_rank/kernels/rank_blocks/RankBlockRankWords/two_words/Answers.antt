@@ -1,4 +1,4 @@
-use Rattle.std.proofs.Common.{◌+◌, arith, get_or}
+use Rattle.vortex_mask.proofs.Common.{◌+◌, arith, get_or}
 use Rattle.vortex_mask.proofs.Kernels.RankBlockLemmas.{ranks-read}
 use Rattle.vortex_mask.proofs.intersect_by_rank.kernels.rank_blocks.RankBlockRankWords.two_words.Goals as goal
 

@@ -1,4 +1,4 @@
-use Rattle.std.proofs.Common.{◌+◌, ◌*◌, refl, sym, arith, count_ones}
+use Rattle.vortex_mask.proofs.Common.{◌+◌, ◌*◌, refl, sym, arith, count_ones}
 use Rattle.mask_bits.proofs.Lists.Words.WordLemmas.{count-word_bits}
 use Rattle.vortex_mask.proofs.Kernels.WordKernelLemmas.{deposited-at, deposited-more, two_more}
 use Rattle.vortex_mask.proofs.Lists.StartedWordLemmas.{IsAt, place-next, place-after_within}

@@ -1,6 +1,4 @@
-use Rattle.std.proofs.Common.{◌≡◌, ◌-◌, ◌*◌, ◌/◌, ◌≤◌, length}
-use Rattle.vortex_mask.specs.Ranks.{narrowed_by}
-use Rattle.vortex_mask.specs.Steps.{IsDeposited}
+use Rattle.vortex_mask.proofs.Common.{◌≡◌, ◌-◌, ◌*◌, ◌/◌, ◌≤◌, length, narrowed_by, IsDeposited}
 use Rattle.vortex_mask.proofs.intersect_by_rank.kernels.word_loop.Narrowed.narrow_pairs.Given as goal
 
 -- the pairs of words before took their deposits, and their rank bits are passed

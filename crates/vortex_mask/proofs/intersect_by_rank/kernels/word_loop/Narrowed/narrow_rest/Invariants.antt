@@ -1,5 +1,4 @@
-use Rattle.vortex_mask.specs.Ranks.{narrowed_by}
-use Rattle.vortex_mask.specs.Steps.{IsDeposited}
+use Rattle.vortex_mask.proofs.Common.{narrowed_by, IsDeposited}
 use Rattle.vortex_mask.proofs.intersect_by_rank.kernels.word_loop.Narrowed.narrow_rest.Given as goal
 
 -- the words before took their deposits, and their rank bits are passed

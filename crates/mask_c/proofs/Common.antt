@@ -1,0 +1,27 @@
+-- What the proofs below cite of std and of `specs`, from one place.
+unfoldable pub use Rattle.vortex_mask.proofs.Common.{repeated, true_at, values, window, word_bits}
+pub use Rattle.vortex_mask.proofs.Common.{All-from_get_or, All-get_or, All-head, All-tail, All-weaker, AreSplit, Bool, IsStrictlyIncreasing, List, None, Option, Packed, Some, [], add-zero, and_not_of, and_of, ap, append-nil, append_assoc}
+pub use Rattle.vortex_mask.proofs.Common.{ap₂, arith, at_indices, backing_bit, bit_at, bit_at-zero, bit_at_ones, bit_at_or, bitmap, cases_eq, cases_lt, common_steps, count, count_below, count_ones, div_ceil, drop, drop-drop, drop-set-lt}
+pub use Rattle.vortex_mask.proofs.Common.{drop_more, ext_get_or, false, get_or, get_or-append_right, get_or-drop, get_or-map, get_or-map-range_with_len, get_or-replicate, get_or-set_at, get_or-take, get_or_append_left}
+pub use Rattle.vortex_mask.proofs.Common.{get_or_from_slice_get, get_or_past, indices_from, inl, inr, length, length-append, length-between, length-drop, length-map, length-map-range_with_len, length-replicate, length-set, length-take}
+pub use Rattle.vortex_mask.proofs.Common.{list_any, list_any-append, list_any_more, list_any_none, map, map-append, map-id, map-map, min, nat_eq, nat_tests, ne_eqb, nil_from_length, not, not_of, one_shl, option_map, or-false, or_comm}
+pub use Rattle.vortex_mask.proofs.Common.{padded_part, padded_remainder, positions, range_with_len, rank_intersection, refl, replicate, runs, set, slice_get, slice_get-get_or, slice_range, subst, suc, sym, take, take-add, take-append-drop}
+pub use Rattle.vortex_mask.proofs.Common.{take_all, take_at, take_more, true, zero, ℕ, ◌%◌, ◌&&◌, ◌*◌, ◌++◌, ◌+◌, ◌-◌, ◌/◌, ◌<◌, ◌^◌, ◌||◌, ◌↔◌, ◌∙◌, ◌∷◌, ◌≡◌, ◌≢◌, ◌≤◌, ◌⊎◌}
+unfoldable pub use Rattle.mask_bits.proofs.Common.{chosen}
+pub use Rattle.mask_bits.proofs.Common.{IsNonDecreasing, bits_of_words, combined, cons_option, drop-put_mid, get_or-between, items_where_true, runs_from, shr_and_one, slice_get-map, take-append-le, take_rest, values_so_far}
+pub use Rattle.mask_c.specs.Bitmap.{AreClearBehind, IsFilled, IsSubset}
+unfoldable pub use Rattle.mask_c.specs.Strings.{sizes, strings}
+pub use Rattle.mask_c.specs.Strings.{ends_from, items_at, offsets_of}
+pub use Rattle.std.proofs.Common.{add_assoc, below_more, get_or-set_other, get_or-set_same, slice_set}
+pub use Rattle.std.proofs.Math.ListN.{drop_of_length-le}
+pub use Rattle.std.proofs.Math.Seq.{drop-append_seam, take-append_seam, take-suc-set}
+pub use Rattle.std.proofs.lemmas.Bool.{false≢true}
+pub use Rattle.std.proofs.lemmas.List.{drop_at, length-take-le, map-set, take_more_set}
+pub use Rattle.std.proofs.lemmas.List.Elements.{filter_map-append}
+pub use Rattle.std.proofs.lemmas.List.Folds.{concat-append}
+pub use Rattle.std.proofs.lemmas.List.Sums.{sum_by-append, sum_by_more}
+pub use Rattle.std.proofs.lemmas.Option.{unwrap_or-slice_get}
+pub use Rattle.std.specs.Bool.{IsTrue}
+pub use Rattle.std.specs.Int.RustNames.{bit_and, bit_or}
+pub use Rattle.std.specs.List.{All, concat, sum}
+pub use Rattle.std.specs.Option.{unwrap_or}

@@ -1,3 +1,0 @@
--- What the laws say, by subject.
-pub mod Deposit
-pub mod Masks
