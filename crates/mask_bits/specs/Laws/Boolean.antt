@@ -1,5 +1,5 @@
 -- What holds of `and`, `or`, and-not and complements.
-use Rattle.std.specs.Prelude.{◌≡◌, Bool, false, not, List, length, true}
+use Rattle.std.specs.Prelude.{◌≡◌, Bool, false, List, length, true}
 use Rattle.mask_bits.specs.Lists.{and_of, or_of, not_of, and_not_of}
 use Rattle.mask_bits.specs.Positions.{repeated}
 

@@ -1,5 +1,5 @@
 -- What holds of true indices, how many there are, and how many below an index.
-use Rattle.std.specs.Prelude.{ℕ, ◌≡◌, ◌<◌, Bool, List, length, true, slice_index}
+use Rattle.std.specs.Prelude.{ℕ, ◌≡◌, ◌<◌, Bool, List, length, slice_index}
 use Rattle.mask_bits.specs.Positions.{count, positions, count_below}
 
 -- lists of one length with the same true indices are one list

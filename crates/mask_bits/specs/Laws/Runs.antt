@@ -1,5 +1,5 @@
 -- What holds of runs, and of ranges that hold exactly the true indices.
-use Rattle.std.specs.Prelude.{ℕ, ◌≡◌, Bool, List, ◌-◌, true, ◌↔◌}
+use Rattle.std.specs.Prelude.{ℕ, ◌≡◌, Bool, List, ◌↔◌}
 use Rattle.mask_bits.specs.RunScan.{runs}
 use Rattle.mask_bits.specs.Runs.{AreRanges, AreRuns}
 

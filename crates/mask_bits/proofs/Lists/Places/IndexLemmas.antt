@@ -1,5 +1,5 @@
 -- True indices in their order, the count below the next one, and the ranges of a list of one value.
-use Rattle.mask_bits.proofs.Common.{◌≡◌, ℕ, ◌+◌, ◌-◌, ◌<◌, ◌≤◌, true, false, List, [], ◌∷◌, length, get_or, Some, subst, IsNonDecreasingBy-from_all_adjacent, le_from_is_le, repeated, AreRuns, AllAdjacentBelow, IsNonDecreasing, nat_cmp, partial_le}
+use Rattle.mask_bits.proofs.Common.{◌≡◌, ℕ, ◌+◌, ◌<◌, ◌≤◌, true, false, List, [], ◌∷◌, length, get_or, Some, subst, IsNonDecreasingBy-from_all_adjacent, le_from_is_le, repeated, AreRuns, AllAdjacentBelow, IsNonDecreasing, nat_cmp, partial_le}
 use Rattle.mask_bits.proofs.Lists.Runs.RunLemmas.{AreRuns-runs_from}
 use Rattle.mask_bits.proofs.Lists.Runs.RunListLemmas.{run_of_all_true, runs_of_all_false}
 

@@ -1,4 +1,4 @@
-use Rattle.std.proofs.Common.{ℕ, List, ◌≡◌, ◌+◌, ◌-◌, ◌*◌, ◌++◌, length, take, map, sym, ap, ◌∙◌, arith, rules}
+use Rattle.std.proofs.Common.{ℕ, List, ◌≡◌, ◌+◌, ◌*◌, ◌++◌, length, take, map, sym, ap, ◌∙◌, arith, rules}
 use Rattle.std.specs.List.{concat, sum}
 use Rattle.std.proofs.lemmas.List.{length-append, length-map, length-take, take-take, take_all}
 use Rattle.mask_bits.specs.Positions.{positions}
