@@ -83,6 +83,7 @@ def ranges(values):
     return [it.span() for it in re.finditer("1+", values)]
 
 
+@lru_cache(8)
 def counts(values):
     """How many true values stand before each value, and in all."""
     found, count = [], 0
