@@ -17,7 +17,8 @@ pub fn selects(seen: &mut Comparisons, random: &mut Generator, list: &[bool], bi
     seen.same(selection.choose_bits_into(packed, &mut out[..]), Ok(()));
     seen.same(out, [&lists::packed(&chosen(&bits, list))[..], &[0xA5]].concat());
     let below = [9, 17, 40][random.below(3)];
-    let mut value = |_: &bool| random.word().to_le_bytes().repeat(5)[..random.below(below)].to_vec();
+    let mut value =
+        |_: &bool| random.word().to_le_bytes().repeat(5)[..random.below(below)].to_vec();
     let values: Vec<Vec<u8>> = list.iter().map(&mut value).collect();
     strings::<u32>(seen, &values, list, &selection);
     strings::<i64>(seen, &values, list, &selection);
