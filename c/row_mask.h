@@ -198,7 +198,7 @@ row_mask_run row_mask_next_run(
 /* Writes the runs of true values from `from` on, ascending, to the front of `out`, as many as there
  * are or as it takes, and answers how many these are: none from past the end. A run that `from` is
  * inside begins there. So a walk over all runs goes on from the end of the last, until fewer come
- * than `out` takes. Behind them `out` may have other numbers than before. */
+ * than `out` takes. What is behind them in `out` stays as it was. */
 ROW_MASK_READ(1, 2) ROW_MASK_WRITE(6, 7)
 size_t row_mask_next_runs(
     const uint8_t *bytes, size_t bytes_size, size_t offset, size_t len, size_t from,

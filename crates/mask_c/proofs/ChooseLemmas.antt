@@ -1,5 +1,5 @@
 -- The places of started words, and rows at one more index.
-use Rattle.mask_c.proofs.Common.{◌≡◌, ℕ, ◌+◌, ◌*◌, ◌<◌, ◌≤◌, Bool, List, [], ◌∷◌, ◌++◌, length, get_or, set, take, drop, map, slice_get, Some, sym, subst, ap, ◌∙◌, add-zero, arith, All, length-drop, length-take, take_all, take_more_set, All-weaker, indices_from, positions, padded_part, word_bits, items_at}
+use Rattle.mask_c.proofs.Common.{◌≡◌, ℕ, ◌+◌, ◌*◌, ◌<◌, ◌≤◌, Bool, List, [], ◌∷◌, ◌++◌, length, get_or, set, take, drop, map, slice_get, Some, sym, subst, ap, ◌∙◌, add-zero, arith, All, length-drop, length-take, drop-drop, drop-set-lt, take_all, take_more_set, All-weaker, indices_from, positions, padded_part, word_bits, items_at}
 use Rattle.mask_bits.proofs.Lists.Words.PaddedLemmas.{length-padded_part}
 use Rattle.mask_bits.proofs.Lists.Places.PlaceLemmas.{positions-within}
 use Rattle.mask_bits.proofs.Lists.Places.SelectLemmas.{indices_from-moved, places-word_more}
@@ -34,3 +34,7 @@ pub rows_at-more : {X : Type 0} (rows : List X) (ps : List ℕ) (out : List X) (
     → take (k + 1) (set out k row) ≡ items_at rows (take (k + 1) ps)
 rows_at-more {X} rows ps out k row few room so_far read =
     take_more_set out k row room ∙ ap (λ (xs : List X). xs ++ row ∷ []) so_far ∙ sym (items_at-more rows ps k row few read)
+
+-- and what is behind it stays as it was
+pub behind-more : {X : Type 0} (xs old : List X) (k n : ℕ) (x : X) → n ≡ k + 1 → drop k xs ≡ drop k old → drop n (set xs k x) ≡ drop n old
+behind-more xs old k n x next same = grind (arith, drop-set-lt n xs k x (omega arith), drop-drop 1 k xs, ap (drop 1) same, drop-drop 1 k old)

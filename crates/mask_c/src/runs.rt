@@ -39,7 +39,7 @@ pub extern "C" fn row_mask_next_run(
 /// Writes the runs of true values from `from` on, ascending, to the front of `out`, as many as there are or
 /// as it takes, and answers how many these are: none from past the end. A run that `from` is inside begins
 /// there. So a walk over all runs goes on from the end of the last, until fewer come than `out` takes.
-/// Behind them `out` may have other numbers than before.
+/// What is behind them in `out` stays as it was.
 #[unsafe(no_mangle)]
 pub extern "C" fn row_mask_next_runs(
     bytes: &[u8],
@@ -53,6 +53,7 @@ pub extern "C" fn row_mask_next_runs(
         (runs_from from (drop from (bitmap bytes.now offset len))) }
     ensures count { result ≡ min (length out.old)
         (length (runs_from from (drop from (bitmap bytes.now offset len)))) }
+    ensures behind { drop result out.new ≡ drop result out.old }
 {
     if from > len {
         return 0;
@@ -68,6 +69,7 @@ fn runs_of_values(values: BitChunks<'_>, from: usize, out: &mut [RowMaskRun]) ->
     ensures runs { map {B = ℕ × ℕ} (λ r. (r.start, r.end)) (take result out.new) ≡ take (length out.old)
         (map {B = ℕ × ℕ} (λ r. (from + r.0, from + r.1)) (runs values.entry)) }
     ensures count { result ≡ min (length out.old) (length (runs values.entry)) }
+    ensures behind { drop result out.new ≡ drop result out.old }
 {
     let mut runs = SetSlices::new(values);
     let mut at = 0;

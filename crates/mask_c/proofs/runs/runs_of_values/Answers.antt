@@ -1,4 +1,5 @@
-use Rattle.mask_c.proofs.Common.{◌≡◌, ◌<◌, ◌≤◌, ◌++◌, ◌∷◌, ℕ, List, length, map, take, subst, sym, ap, ◌∙◌, arith, All, length-set, All-tail}
+use Rattle.mask_c.proofs.Common.{◌≡◌, ◌<◌, ◌≤◌, ◌+◌, ◌++◌, ◌∷◌, ℕ, List, length, map, take, subst, sym, ap, ◌∙◌, arith, All, length-set, All-tail}
+use Rattle.mask_c.proofs.ChooseLemmas.{behind-more}
 use Rattle.mask_c.proofs.RunLemmas.{moved, pair, run_of, run_more}
 use Rattle.mask_c.proofs.runs.runs_of_values.Goals as goal
 
@@ -20,4 +21,5 @@ loop-at-preserved c =
       nonempty = All-tail (λ (r : ℕ × ℕ). r.0 < r.1) r left (subst (All (λ (r : ℕ × ℕ). r.0 < r.1)) step was.nonempty);
       within = All-tail (λ (r : ℕ × ℕ). r.1 ≤ length c.args.values) r left (subst (All (λ (r : ℕ × ℕ). r.1 ≤ length c.args.values)) step was.within);
       room = omega (arith, inside, length-set out at (run_of from r));
+      behind = behind-more out c.args.out.now at (at + 1) (run_of from r) (omega arith) was.behind;
     }
