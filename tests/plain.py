@@ -5,17 +5,30 @@ it is held as `AllTrue`.
 """
 import re
 from functools import lru_cache
-from itertools import compress
+from itertools import accumulate, compress
 from typing import NamedTuple
 
 MAX = 2**64 - 1
 # A value is true where what is left of its word by the first number is from the second on, and below the last.
 ODD, THREE_IN_FIVE, TWO_IN_THREE = (2, 1, 2), (5, 0, 3), (3, 1, 3)
+# Of whole lists at once, each as the number with its bits.
+OPERATIONS = {"bitand": lambda a, b: a & b, "bitor": lambda a, b: a | b, "bitand_not": lambda a, b: a & ~b}
+# Of a digit, as a byte, its bit.
+BITS = bytes(digit & 1 for digit in range(256))
 
 
 class Mask(NamedTuple):
     values: str
     is_all_true: bool
+
+    def count(self):
+        return self.values.count("1")
+
+    def is_mixed(self):
+        return "0" in self.values and "1" in self.values
+
+    def part(self, start, end):
+        return mask(self.values[start:end], self.is_all_true)
 
 
 def mask(values, if_empty=False):
@@ -46,9 +59,9 @@ def drawn(source, length, share):
     return "".join("1" if first <= next(source) % by < end else "0" for _ in range(length))
 
 
-def bits_of(word):
+def bits_of(word, count=64):
     """The bits of a word, the lowest first."""
-    return "".join("1" if word >> i & 1 else "0" for i in range(64))
+    return f"{word:0{count}b}"[::-1][:count]
 
 
 def word_of(values):
@@ -67,11 +80,7 @@ def negated_at(values, i):
     return values[:i] + negated(values[i : i + 1]) + values[i + 1 :]
 
 
-# ---- what is found in a list
-
-# Of a digit, as a byte, its bit.
-BITS = bytes(digit & 1 for digit in range(256))
-
+# ---- what is found in a list, and what is made of lists
 
 @lru_cache(8)
 def indices(values):
@@ -86,25 +95,15 @@ def ranges(values):
 @lru_cache(8)
 def counts(values):
     """How many true values stand before each value, and in all."""
-    found, count = [], 0
-    for it in values:
-        found.append(count)
-        count += it == "1"
-    return found + [count]
+    return [*accumulate(map(int, values), initial=0)]
 
 
-# ---- what is made of lists
-
-# Of whole lists at once, each as the number with its bits.
-AND, OR = int.__and__, int.__or__
+def combined(name, a, b):
+    return bits_of(OPERATIONS[name](word_of(a), word_of(b)), len(a))
 
 
-def AND_NOT(a, b):
-    return a & ~b
-
-
-def combined(op, a, b):
-    return f"{op(word_of(a), word_of(b)):0{len(a)}b}"[::-1][: len(a)]
+def combined_masks(name, a, b):
+    return mask(combined(name, a.values, b.values), bool(OPERATIONS[name](a.is_all_true, b.is_all_true)))
 
 
 def narrowed(rows, ranks):
@@ -115,6 +114,10 @@ def narrowed(rows, ranks):
     return "".join(found)
 
 
+def narrowed_mask(rows, ranks):
+    return mask(narrowed(rows.values, ranks.values), rows.is_all_true and ranks.is_all_true)
+
+
 def limited(values, k):
     """The values, of which the first k true ones stay."""
     end = max(indices(values)[:k], default=-1) + 1
@@ -122,36 +125,8 @@ def limited(values, k):
 
 
 def at_rows(rows, values):
-    """The values at the true ones of `rows`."""
+    """The values at the true ones of `rows`: of a word, its bits at set places, one after another."""
     return "".join(values[i] for i in indices(rows))
-
-
-# ---- words
-
-def deposit(source, places):
-    """The low bits of `source`, one after another, at the set places."""
-    found = [place for place in range(64) if places >> place & 1]
-    return sum((source >> count & 1) << place for count, place in enumerate(found))
-
-
-def extract(source, places):
-    """The bits of `source` at the set places, one after another."""
-    found = [place for place in range(64) if places >> place & 1]
-    return sum((source >> place & 1) << count for count, place in enumerate(found))
-
-
-# ---- the same of masks, with how they are held if there are no values
-
-def combined_masks(op, a, b):
-    return mask(combined(op, a.values, b.values), bool(op(a.is_all_true, b.is_all_true)))
-
-
-def narrowed_mask(rows, ranks):
-    return mask(narrowed(rows.values, ranks.values), rows.is_all_true and ranks.is_all_true)
-
-
-def part(a, start, end):
-    return mask(a.values[start:end], a.is_all_true)
 
 
 # ---- texts, as the rows say them
@@ -160,14 +135,9 @@ def text(values):
     return values or "-"
 
 
-def is_mixed(a):
-    return "0" in a.values and "1" in a.values
-
-
 def mask_text(a):
-    if is_mixed(a):
-        return f"{a.values} Values"
-    return f"{a.values.count('1')} of {len(a.values)} " + ("AllTrue" if a.is_all_true else "AllFalse")
+    held = f"{a.count()} of {len(a.values)} " + ("AllTrue" if a.is_all_true else "AllFalse")
+    return f"{a.values} Values" if a.is_mixed() else held
 
 
 def numbers_text(numbers):
@@ -187,20 +157,20 @@ LISTS = {
 
 def cached_text(a, caches):
     """The mask with what it has cached, if it is mixed."""
-    listed = (LISTS[it] for it in "ir" if it in caches and is_mixed(a))
+    listed = (LISTS[it] for it in "ir" if it in caches and a.is_mixed())
     return mask_text(a) + "".join(f" {name} {of(a.values)}" for name, of in listed)
 
 
 def lent_text(a, kind, caches):
     """A list that a mask lends, and the mask after it, which has it cached beside these, if it is told of them."""
-    lent = LISTS[kind][1](a.values) if is_mixed(a) else "All" if a.is_all_true else "None"
+    lent = LISTS[kind][1](a.values) if a.is_mixed() else "All" if a.is_all_true else "None"
     return f"{lent} then {mask_text(a) if caches is None else cached_text(a, caches + kind)}"
 
 
 def threshold_text(a, num, den, caches):
     """The list that a mask lends by a threshold of its density, which is then cached beside these."""
-    kind, name = ("r", "Slices ") if a.values.count("1") * den >= num * len(a.values) else ("i", "Indices ")
-    return name * is_mixed(a) + lent_text(a, kind, caches)
+    kind, name = ("r", "Slices ") if a.count() * den >= num * len(a.values) else ("i", "Indices ")
+    return name * a.is_mixed() + lent_text(a, kind, caches)
 
 
 def walk_text(values):
@@ -212,58 +182,56 @@ def index_text(found, n):
     return str(found[n]) if 0 <= n < len(found) else "none"
 
 
-def debug_text(a):
-    counted = f"true_count={a.values.count('1')}, len={len(a.values)}"
-    return counted if is_mixed(a) else f"All {flag(a.is_all_true)}({len(a.values)})"
-
-
 def flag(value):
     return "true" if value else "false"
 
 
 # ---- what calls answer of a mask, another one, and numbers; `lists` are those that the mask caches, or None is told
 
-ANSWERS = {
+ALONE = {
+    "mask,clone": lambda a, b, numbers, lists: cached_text(a, lists or ""),
+    "not,into_not": lambda a, *_: mask_text(mask(negated(a.values), not a.is_all_true)),
+    "to_bit_buffer,into_bit_buffer,display": lambda a, *_: text(a.values),
     "len": lambda a, *_: len(a.values),
-    "true_count": lambda a, *_: a.values.count("1"),
+    "true_count": lambda a, *_: a.count(),
     "false_count": lambda a, *_: a.values.count("0"),
     "is_empty": lambda a, *_: flag(not a.values),
     "all_true": lambda a, *_: flag("0" not in a.values),
     "all_false": lambda a, *_: flag("1" not in a.values),
     "first": lambda a, *_: index_text(indices(a.values), 0),
-    "last": lambda a, *_: index_text(indices(a.values), a.values.count("1") - 1),
-    "density": lambda a, *_: (
-        f"{a.values.count('1')}/{len(a.values)}" if is_mixed(a) else f"{int(a.is_all_true)}/1"
+    "last": lambda a, *_: index_text(indices(a.values), a.count() - 1),
+    "density": lambda a, *_: f"{a.count()}/{len(a.values)}" if a.is_mixed() else f"{int(a.is_all_true)}/1",
+    "debug": lambda a, *_: (
+        f"true_count={a.count()}, len={len(a.values)}" if a.is_mixed()
+        else f"All {flag(a.is_all_true)}({len(a.values)})"
     ),
-    "debug": lambda a, *_: debug_text(a),
-    "bit_buffer": lambda a, *_: text(a.values),
-    "not": lambda a, *_: mask_text(mask(negated(a.values), not a.is_all_true)),
-    **dict.fromkeys(("mask", "clone"), lambda a, b, numbers, lists: cached_text(a, lists or "")),
     "indices": lambda a, b, numbers, lists: lent_text(a, "i", lists),
     "slices": lambda a, b, numbers, lists: lent_text(a, "r", lists),
+}
+ANSWERS = {
+    **ALONE,
+    **{
+        f"{it},into_{it},to_{it}": lambda a, b, *_, name=it: mask_text(combined_masks(name, a, b)) for it in OPERATIONS
+    },
     "threshold_iter": lambda a, b, numbers, lists: threshold_text(a, *numbers, lists),
-    "slice": lambda a, b, numbers, lists: cached_text(
-        part(a, *numbers), (lists or "") * ([*numbers] == [0, len(a.values)])
+    "slice": lambda a, b, numbers, lists: (
+        cached_text(a.part(*numbers), (lists or "") * ([*numbers] == [0, len(a.values)]))
     ),
-    **dict.fromkeys(("limit", "limited"), lambda a, b, k, _: mask_text(mask(limited(a.values, k[0]), a.is_all_true))),
-    "groups": lambda a, b, n, _: ",".join(
-        mask_text(part(a, start, start + n[0])) for start in range(0, len(a.values), n[0])
-    ) or "-",
+    "limit,to_limited": lambda a, b, k, _: mask_text(mask(limited(a.values, k[0]), a.is_all_true)),
+    "groups": lambda a, b, n, _: ",".join(mask_text(a.part(i, i + n[0])) for i in range(0, len(a.values), n[0])) or "-",
     "valid_counts_for_indices": lambda a, b, numbers, _: numbers_text(counts(a.values)[i] for i in numbers),
     "choose": lambda a, b, rows, _: numbers_text(rows[i] for i in indices(a.values)),
-    "bitand": lambda a, b, *_: mask_text(combined_masks(AND, a, b)),
-    "bitor": lambda a, b, *_: mask_text(combined_masks(OR, a, b)),
-    "bitand_not": lambda a, b, *_: mask_text(combined_masks(AND_NOT, a, b)),
     "choose_values": lambda a, b, *_: mask_text(mask(at_rows(a.values, b.values), b.is_all_true)),
     "intersect_by_rank": lambda a, b, *_: mask_text(narrowed_mask(a, b)),
     "equal": lambda a, b, *_: flag(a.values == b.values),
-    **dict.fromkeys(("concat", "from_masks"), lambda a, b, *_: mask_text(mask(a.values + b.values))),
-    **dict.fromkeys(("from_buffer", "from_rows", "from_bools", "from_excluded_indices"), lambda a, *_: mask_text(a)),
-    **dict.fromkeys(("from_indices", "from_intersection_indices"), lambda a, *_: cached_text(a, "i")),
-    **dict.fromkeys(("from_slices", "from_buffer_with_slices"), lambda a, *_: cached_text(a, "r")),
+    "concat,from_masks": lambda a, b, *_: mask_text(mask(a.values + b.values)),
+    "from_buffer,from_rows,from_bools,from_excluded_indices": lambda a, *_: mask_text(a),
+    "from_indices,from_intersection_indices": lambda a, *_: cached_text(a, "i"),
+    "from_slices,from_buffer_with_slices": lambda a, *_: cached_text(a, "r"),
 }
+BY_NAME = {name: of for names, of in ANSWERS.items() for name in names.split(",")}
 
 
 def answer(call, a, b=None, numbers=(), lists=None):
-    told = ANSWERS[re.sub(r"^(into_|to_|values\.)", "", call)](a, b, numbers, lists)
+    told = BY_NAME[call.removeprefix("values.")](a, b, numbers, lists)
     return told.replace(" Values", "") if call.startswith("values.") else told

@@ -1,9 +1,9 @@
 """The rows of the sweeps, by section: a list of shares, and a function that gives the rows of one. Deposits, kernels,
 masks and densities go by fixed streams of words; the others look at lengths and offsets where the code has a branch."""
 from plain import (
-    AND, AND_NOT, MAX, ODD, OR, THREE_IN_FIVE, TWO_IN_THREE, answer, at_rows, bits_of, cached_text, combined, deposit,
-    drawn, extract, flag, index_text, indices, mask, mask_text, narrowed, narrowed_mask, negated, negated_at,
-    numbers_text, ranges, ranges_text, repeating, text, walk_text, word_of, words, words_of,
+    ALONE, MAX, ODD, OPERATIONS, THREE_IN_FIVE, TWO_IN_THREE, answer, at_rows, bits_of, cached_text, combined, drawn,
+    flag, index_text, indices, mask, mask_text, narrowed, narrowed_mask, negated, negated_at, numbers_text, ranges,
+    ranges_text, repeating, text, walk_text, word_of, words, words_of,
 )
 
 STATE = 0x2545_F491_4F6C_DD1D
@@ -31,10 +31,6 @@ def spread(rows, first, second=("bools:",)):
 
 # ---- masks
 
-READS = ["mask,clone", "not,into_not", "to_bit_buffer,into_bit_buffer,display", "len", "true_count", "false_count"]
-READS += ["is_empty", "all_true", "all_false", "first", "last", "density", "debug", "indices", "slices"]
-
-
 def row(names, a, operand, b=None, numbers=()):
     """Calls that answer the same of a mask, and what else their words say."""
     others = [f"%{text(b.values)}"] if b else []
@@ -42,26 +38,19 @@ def row(names, a, operand, b=None, numbers=()):
     return f"{names} {' '.join([operand, *others])} => {answer(names.split(',')[0], a, b, numbers)}"
 
 
-def reads(a, operand):
-    """The calls that read one mask."""
-    yield from (row(names, a, operand) for names in READS)
-    yield row("valid_counts_for_indices", a, operand, numbers=range(len(a.values) + 1))
-    yield row("choose", a, operand, numbers=range(len(a.values)))
-
-
-def pairs(a, operand):
-    """The calls of two masks: of the list reversed, of itself, with one value negated, and of ranks."""
-    values, last = a.values, max(len(a.values) - 1, 0)
+def calls(a, operand):
+    """The calls of a mask; of it and numbers; and of it and another: the list reversed, itself, with one value negated,
+    and ranks."""
+    values, count, length = a.values, a.count(), len(a.values)
+    yield from (row(names, a, operand) for names in ALONE)
+    yield row("valid_counts_for_indices", a, operand, numbers=range(length + 1))
+    yield row("choose", a, operand, numbers=range(length))
     for names in ("bitand,into_bitand", "bitor,into_bitor", "to_bitand_not,bitand_not", "choose_values"):
         yield row(names, a, operand, mask(values[::-1]))
+    last = max(length - 1, 0)
     for other in [values, *(negated_at(values, i) for i in (0, last // 2, last))]:
         yield row("equal", a, operand, mask(other))
-    yield row("intersect_by_rank,intersect_all_by_rank", a, operand, mask(repeating(values.count("1"), 3, 1)))
-
-
-def parts(a, operand):
-    """The calls of a mask and numbers."""
-    count, length = a.values.count("1"), len(a.values)
+    yield row("intersect_by_rank,intersect_all_by_rank", a, operand, mask(repeating(count, 3, 1)))
     for k in sorted({0, 1, count // 2, max(count - 1, 0), count, count + 1, 65_536, MAX}):
         yield row("limit,to_limited", a, operand, numbers=[k])
     for it in [(0, length), (0, length // 3), (length // 3, length), (length // 5, length // 2), (length, length)]:
@@ -72,17 +61,14 @@ def parts(a, operand):
         yield row("threshold_iter", a, operand, numbers=it)
 
 
-def walks(a, operand):
-    """Each value, and each true one by its number."""
+def calls_and_walks(a, operand):
+    """And each value, and each true one by its number."""
+    yield from calls(a, operand)
     yield f"each_value {operand} => {text(a.values)}"
     yield f"each_rank {operand} => {' '.join(['ranks', *map(str, indices(a.values))])}"
     yield f"iter {operand} => {walk_text(a.values)}"
-    if "0" in a.values and "1" in a.values:
+    if a.is_mixed():
         yield f"values.clone {operand} => {a.values}"
-
-
-def every_call(a, operand):
-    return [*reads(a, operand), *pairs(a, operand), *parts(a, operand), *walks(a, operand)]
 
 
 def by_constructors(values, of):
@@ -91,28 +77,30 @@ def by_constructors(values, of):
         yield from spread(of(mask(values, if_empty), "@" + text(values)), forms)
 
 
+def one_drawn(length, share):
+    """The list of this length, of lists of each length from 0 on that are drawn one after another."""
+    return drawn(words(STATE), sum(range(length + 1)), share)[sum(range(length)) :]
+
+
 def masks(length, start):
     """A list of each length, by each constructor, and from the bits 0 to 63 on of its bytes."""
-    source = words(STATE)
-    for before in range(length):
-        drawn(source, before, ODD)
-    values = drawn(source, length, ODD)
+    values = one_drawn(length, ODD)
     if start == 0:
-        yield from by_constructors(values, every_call)
-    yield from spread(every_call(mask(values), "@" + text(values)), at(range(start, start + 32)))
+        yield from by_constructors(values, calls_and_walks)
+    yield from spread(calls_and_walks(mask(values), "@" + text(values)), at(range(start, start + 32)))
 
 
 def masks_of_one_value(length):
     for value, form in [("0", "none:"), ("1", "all:")]:
-        yield from by_constructors(value * length, every_call)
-        yield from spread(every_call(mask(value * length, value == "1"), f"{form}{length}"), [""])
+        yield from by_constructors(value * length, calls_and_walks)
+        yield from spread(calls_and_walks(mask(value * length, value == "1"), f"{form}{length}"), [""])
 
 
 def long_masks(length):
     """The calls of a long mask, with each cached list, and as many indices, ranges and masks."""
     values = repeating(length, 3, 1)
     a, operand = mask(values), "@" + text(values)
-    yield from spread([*reads(a, operand), *pairs(a, operand), *parts(a, operand)], ["0+", "3-"], ["5+"])
+    yield from spread(calls(a, operand), ["0+", "3-"], ["5+"])
     for cached in ["", "i", "r", "ir"]:
         yield from spread([f"mask,clone @{values} -> {cached_text(a, cached)}"], [f"{cached}:" * bool(cached) + "3+"])
     yield from by_constructors(values, lambda of, operand: [f"mask {operand} => {mask_text(of)}"])
@@ -165,10 +153,7 @@ def buffer_walks(values, operand):
 
 
 def buffers(length):
-    source = words(STATE)
-    for before in range(length):
-        drawn(source, before, THREE_IN_FIVE)
-    values = drawn(source, length, THREE_IN_FIVE)
+    values = one_drawn(length, THREE_IN_FIVE)
     operand = "@" + text(values)
     yield from spread([*buffer_reads(values, operand), *buffer_walks(values, operand)], at(OFFSETS))
 
@@ -176,8 +161,8 @@ def buffers(length):
 def buffer_pairs(a, b):
     """Boolean calls, equality and chosen values."""
     left, right = "@" + text(a), "%" + text(b)
-    for op, name in [(AND, "bitand"), (OR, "bitor"), (AND_NOT, "bitand_not")]:
-        yield f"bits.{name},bits.into_{name} {left} {right} => {text(combined(op, a, b))}"
+    for name in OPERATIONS:
+        yield f"bits.{name},bits.into_{name} {left} {right} => {text(combined(name, a, b))}"
     yield f"bits.choose_values {left} {right} => {text(at_rows(a, b))}"
     yield f"bits.equal {left} {right} => {flag(a == b)}"
 
@@ -228,20 +213,13 @@ def builders(before):
 
 # ---- deposits, extracts and selections of a word
 
-def places_of(source, turn):
-    """Every seventh is a word, and the others have ever fewer set bits; every other one is complemented."""
-    found = next(source)
-    for _ in range(turn % 7):
-        found &= next(source)
-    return MAX ^ found if turn % 2 else found
-
-
 def hexadecimal(word):
     return f"0x{word:X}"
 
 
 def rounds(first, end):
-    """The places and the source of each of these rounds. All draw from one stream, so those before them are drawn too.
+    """The places and the source of each of these rounds. Every seventh places are a word, and the others have ever
+    fewer set bits; every other one is complemented. All draw from one stream, so those before them are drawn too.
 
     >>> found = [it for share in SECTIONS["words"][0] for it in rounds(*share)]
     >>> len(found)
@@ -255,9 +233,12 @@ def rounds(first, end):
     """
     source = words(0x9E37_79B9_7F4A_7C15)
     for turn in range(end):
-        places, word = places_of(source, turn), next(source)
+        places = next(source)
+        for _ in range(turn % 7):
+            places &= next(source)
+        word = next(source)
         if turn >= first:
-            yield places, word
+            yield MAX ^ places if turn % 2 else places, word
 
 
 def words_at_random(first, end):
@@ -267,13 +248,14 @@ def words_at_random(first, end):
     'deposit,deposit_by_loop,deposit_bytewise 0x7f5c3d26cfffcd26 0xe40dbbaee91521e5 -> 0x6005BBAE89040124'
     """
     for turn, (places, word) in enumerate(rounds(first, end)):
-        wanted = hexadecimal(deposit(word, places))
-        yield f"deposit,deposit_by_loop,deposit_bytewise {word:#x} {places:#x} -> {wanted}"
+        at_places = bits_of(places)
+        deposited = word_of(narrowed(at_places, bits_of(word)[: at_places.count("1")]))
+        yield f"deposit,deposit_by_loop,deposit_bytewise {word:#x} {places:#x} -> {hexadecimal(deposited)}"
         for it in (word, MAX):
-            yield f"extract,extract_by_bits {it:#x} {places:#x} -> {hexadecimal(extract(it, places))}"
+            extracted = word_of(at_rows(at_places, bits_of(it)))
+            yield f"extract,extract_by_bits {it:#x} {places:#x} -> {hexadecimal(extracted)}"
         if turn < 250:
-            for rank, place in enumerate(indices(bits_of(places))):
-                yield f"select {places:#x} {rank} -> {place}"
+            yield from (f"select {places:#x} {rank} -> {place}" for rank, place in enumerate(indices(at_places)))
 
 
 # ---- kernels
@@ -304,7 +286,7 @@ def beside_each_other(rows, offsets):
         yield from spread(rows, [form], [form])
 
 
-def runs(_):
+def runs():
     """One to twenty words in each turn: clear, then full, and then of any bits."""
     source, rows = words(STATE), ""
     for turn in range(48):
@@ -345,21 +327,17 @@ def densities(length, threshold):
             yield from beside_each_other([f"intersect_by_rank {' '.join(operands)} -> {left}"], [0, 3, 67])
 
 
-def each(found):
-    return [(it,) for it in found]
-
-
 SECTIONS = {
-    "long masks": (each(LONG[::-1]), long_masks),
-    "long buffers": (each(LONG[::-1]), long_buffers),
+    "long masks": ([*zip(LONG[::-1])], long_masks),
+    "long buffers": ([*zip(LONG[::-1])], long_buffers),
     "long kernels": ([(length, *it) for length in LONG[:0:-1] for it in [(3, 2), (3, 64), (100, 2)]], long_kernels),
-    "many masks": (each([65_537, 1_001, 1_000, 65, 64, 63, 1, 0]), many_masks),
+    "many masks": ([*zip([65_537, 1_001, 1_000, 65, 64, 63, 1, 0])], many_masks),
     "masks": ([(length, start) for length in range(200, -1, -1) for start in (0, 32)], masks),
-    "masks of one value": (each([0, 1, 63, 64, 65, 200]), masks_of_one_value),
-    "buffers": (each(range(130, -1, -1)), buffers),
-    "boolean calls": (each([0, 1, 63, 64, 65, 128, 129, 130]), pairs_of_offsets),
-    "builders": (each([*range(9), 62, 63, 64, 65, 66, 10_003]), builders),
+    "masks of one value": ([*zip([0, 1, 63, 64, 65, 200])], masks_of_one_value),
+    "buffers": ([*zip(range(130, -1, -1))], buffers),
+    "boolean calls": ([*zip([0, 1, 63, 64, 65, 128, 129, 130])], pairs_of_offsets),
+    "builders": ([*zip([*range(9), 62, 63, 64, 65, 66, 10_003])], builders),
     "words": ([(n, n + 5_000) for n in range(0, 20_000, 5_000)], words_at_random),
-    "runs": (each([0]), runs),
+    "runs": ([()], runs),
     "densities": ([(length, it) for length in (4_096, 1_000, 65, 64, 63, 1) for it in THRESHOLDS], densities),
 }
