@@ -3,8 +3,10 @@
 What the scripts beside this file share: it also says where a program is, and has it built. `.ci/docs` runs the examples
 in it.
 """
+import inspect
 import re
 import subprocess
+import sys
 import textwrap
 from collections import namedtuple
 from functools import cache
@@ -185,15 +187,29 @@ def clauses_of(crate):
     return found
 
 
-def edits_of(crate):
-    """The edits of a crate: the name of each, what it breaks, and the places that it changes: a file and a line."""
-    for edit in sorted(CRATES.glob(f"{crate}/*/*.edit"), key=lambda it: it.stem):
-        breaks, places, file = [], [], None
-        for key, value in re.findall(r"^(\w+): (.*)", edit.read_text(), re.M):
-            breaks += [value] if key == "breaks" else []
-            file = CRATES / crate / value if key == "file" else file
-            places += [(file, file.read_text().partition(value)[0].count("\n") + 1)] if key == "old" else []
-        yield edit.stem, breaks, places
+class Edit:
+    """An edit: what it breaks, and its pairs of texts, old and new, behind their file; or its fault."""
+
+    def __init__(self, file):
+        self.name, self.breaks, self.pairs, self.fault = file.stem, [], [], None
+        path = old = None
+        for line in filter(str.strip, file.read_text().splitlines()):
+            key, _, value = line.partition(": ")
+            if key == "breaks":
+                self.breaks = re.findall(r"\S+(?: by \S+)?", value)
+            elif key == "file":
+                path = file.parents[1] / value.strip()
+            elif key == "old" and path:
+                old = value
+            elif key == "new" and old:
+                self.pairs.append((path, old, value))
+                old = None
+            elif key != "why" or not value:
+                self.fault = f"its line `{line}` is none of an edit"
+
+
+def edit_files(crate):
+    return sorted(CRATES.glob(f"{crate}/*/*.edit"), key=lambda it: it.stem)
 
 
 def edited_as(name):
@@ -242,12 +258,12 @@ def specs():
     return {it: texts[it] for it in ordered if it in texts}
 
 
-def program(crate, options, rust_name, *arguments):
+def program(crate, option, rust_name, *arguments):
     """Where the program of a crate is: `--built` as `rt ci` left it, `--rust` of the Rust sources, or else `rt` proves
     it first, and runs it with these arguments."""
-    if "--rust" in options:
+    if option == "--rust":
         return subprocess.check_output([ROOT / ".ci" / "rust_program", rust_name], text=True).strip()
-    if "--built" not in options:
+    if option != "--built":
         how = {"cwd": CRATES / crate, "stdin": subprocess.DEVNULL, "stdout": subprocess.DEVNULL}
         subprocess.run(["rt", "run", "--", *arguments], **how, check=True)
     return CRATES / crate / "out" / crate
@@ -260,3 +276,18 @@ def tell(name, things):
         print(f"{name}: {it}")
     print(f"{sum(not it for it in things)} passed, {len(faults)} failed")
     return 1 if faults else 0
+
+
+def start(main, *options):
+    """Ends a script with the status of its `main`, which gets an option, if there are any, and then the other words
+    that were given. Where these don't fit, it says what they may be."""
+    words = sys.argv[1:]
+    asked = [it for it in words if it.startswith("-")] or [""] * bool(options)
+    words = [*asked, *(it for it in words if it not in asked)]
+    try:
+        inspect.signature(main).bind(*words)
+    except TypeError:
+        words = None
+    if words is None or len(asked) > 1 or not {it.partition("=")[0] for it in asked} <= {"", *options}:
+        sys.exit(main.__globals__["__doc__"])
+    sys.exit(main(*words))

@@ -1,48 +1,43 @@
-/* Loaded before the C library: refuses a program's request for memory whose number, counted from 1, the variable
-   REFUSED_REQUEST has. Where REFUSES_REST is 1 it refuses each later one too, until the program writes something. It
-   counts from the start on, or, where IN_CALLS is 1, anew from each line `calls` that the program writes until it
-   writes something else. It tells of the first refusal by a line on the descriptor that REFUSAL_TO names. If the
-   program aborts, it tells there how many bytes were refused last, and in which calls, the innermost first. */
-#define _GNU_SOURCE
-#include <dlfcn.h>
+/* Loaded before the C library: refuses a program's request for memory. The variable REFUSED has four numbers: which
+   request, counted from 1; 1 where each later one is refused too, until the program writes something; the descriptor on
+   which the first refusal is told by a line; and 1 where it counts not from the start on, but anew from each line
+   `calls` that the program writes until it writes something else. If the program aborts, it tells on the descriptor how
+   many bytes were refused last, and in which calls, the innermost first. */
 #include <execinfo.h>
-#include <stdint.h>
+#include <signal.h>
 #include <stdio.h>
 #include <stdlib.h>
 #include <string.h>
 #include <sys/syscall.h>
 #include <unistd.h>
 
-static long refused_request, requests_left, refuses_rest, refusal_to;
-static int is_out_of_memory;
+/* (the C library's own, by the names that it has for them too) */
+void *__libc_malloc(size_t size);
+void *__libc_calloc(size_t count, size_t size);
+void *__libc_realloc(void *old, size_t size);
+
+static long refused_request, requests_left;
+static int refuses_rest, refusal_to, is_out_of_memory;
 
 static void *refused_in[64];
 static int refused_depth;
 static size_t refused_size;
 
-static long number_in(const char *name)
+static void tell_abort(int number)
 {
-    const char *number = getenv(name);
-    return number ? atol(number) : 0;
+    (void)number;
+    if (refused_depth > 0 && dprintf(refusal_to, "aborts, refused %zu bytes in\n", refused_size) > 0)
+        backtrace_symbols_fd(refused_in, refused_depth, refusal_to);
 }
 
 __attribute__((constructor)) static void start(void)
 {
+    int in_calls = 0;
     /* (which asks for memory the first time) */
     backtrace(refused_in, 1);
-    refused_request = number_in("REFUSED_REQUEST");
-    requests_left = number_in("IN_CALLS") == 1 ? 0 : refused_request;
-    refuses_rest = number_in("REFUSES_REST");
-    refusal_to = number_in("REFUSAL_TO");
-}
-
-void abort(void)
-{
-    void (*next)(void) = (void (*)(void))dlsym(RTLD_NEXT, "abort");
-    if (refused_depth > 0 && dprintf(refusal_to, "aborts, refused %zu bytes in\n", refused_size) > 0)
-        backtrace_symbols_fd(refused_in, refused_depth, refusal_to);
-    next();
-    _exit(1);
+    signal(SIGABRT, tell_abort);
+    sscanf(getenv("REFUSED"), "%ld %d %d %d", &refused_request, &refuses_rest, &refusal_to, &in_calls);
+    requests_left = in_calls ? 0 : refused_request;
 }
 
 static int is_refused(size_t size)
@@ -52,7 +47,7 @@ static int is_refused(size_t size)
     if (is_this && syscall(SYS_write, refusal_to, line, sizeof line - 1) < 0)
         abort();
     if (is_this)
-        is_out_of_memory = refuses_rest == 1;
+        is_out_of_memory = refuses_rest;
     if (is_this || is_out_of_memory) {
         refused_size = size;
         refused_depth = backtrace(refused_in, sizeof refused_in / sizeof *refused_in);
@@ -60,32 +55,19 @@ static int is_refused(size_t size)
     return is_this || is_out_of_memory;
 }
 
-static void *taken(size_t size)
-{
-    static void *(*next)(size_t);
-    if (!next)
-        next = (void *(*)(size_t))dlsym(RTLD_NEXT, "malloc");
-    return is_refused(size) ? NULL : next(size);
-}
-
 void *malloc(size_t size)
 {
-    return taken(size);
+    return is_refused(size) ? NULL : __libc_malloc(size);
 }
 
-/* (of a call of `malloc` here, compilers make one of `calloc`) */
 void *calloc(size_t count, size_t size)
 {
-    void *bytes = size && count > SIZE_MAX / size ? NULL : taken(count * size);
-    return bytes ? memset(bytes, 0, count * size) : NULL;
+    return is_refused(count * size) ? NULL : __libc_calloc(count, size);
 }
 
 void *realloc(void *old, size_t size)
 {
-    static void *(*next)(void *, size_t);
-    if (!next)
-        next = (void *(*)(void *, size_t))dlsym(RTLD_NEXT, "realloc");
-    return is_refused(size) ? NULL : next(old, size);
+    return is_refused(size) ? NULL : __libc_realloc(old, size);
 }
 
 ssize_t write(int to, const void *bytes, size_t length)
