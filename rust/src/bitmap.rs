@@ -1,22 +1,12 @@
-use crate::proved::mask_bits::BitChunks;
-use crate::proved::mask_c;
-use crate::{BitmapBuf, Error};
-use core::ops::{Bound, Range, RangeBounds};
+use crate::prelude::*;
 
 mod alike;
 mod choose;
 mod combine;
 mod compare;
 mod narrow;
-mod read;
-mod room;
-
-pub(crate) use read::INDICES_OF_A_BLOCK;
-pub use room::Room;
-pub(crate) use room::sealed::Room as WriteRoom;
-pub(crate) use room::{
-    append_to, are_fit, as_cells, as_items, first_of, front, granted, list_of, made, reserve,
-};
+pub(crate) mod read;
+pub(crate) mod room;
 
 /// A list of truth values, packed eight to a byte, that lies in borrowed bytes: value `i` is the bit
 /// at position `p = offset + i`, which is bit `p % 8`, counted from the lowest, of byte `p / 8`.
@@ -43,10 +33,10 @@ pub struct Bitmap<'a> {
 /// `of_room` are room for the values. What a loop asks beside that is tested or made so just above its call.
 macro_rules! call {
     ($function:ident($bitmap:expr $(, $more:expr)* $(,)?)) => {
-        $crate::proved::mask_c::$function($bitmap.bytes, $bitmap.offset, $bitmap.len $(, $more)*)
+        $crate::proved::mask_c::$function($bitmap.bytes(), $bitmap.offset(), $bitmap.len() $(, $more)*)
     };
 }
-use call;
+pub(crate) use call;
 
 /// Calls that make a bitmap, each with the form that writes into room and what that answers. Of both, why they refuse.
 macro_rules! makers {
@@ -61,7 +51,7 @@ macro_rules! makers {
             /// # Errors
             #[doc = concat!($refusals, ", and [`Error::OutOfMemory`].")]
             pub fn $call($($receiver)* $($beside: $type),+) -> Result<BitmapBuf, Error> {
-                $crate::bitmap::made(|$out| $body)
+                made(|$out| $body)
             }
 
             #[doc = concat!(

@@ -1,6 +1,4 @@
-use crate::{Bitmap, Values};
-use alloc::vec::Vec;
-use core::ops::Not;
+use crate::prelude::*;
 
 mod change;
 mod make;

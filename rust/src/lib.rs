@@ -13,13 +13,14 @@ mod error;
 #[doc(hidden)]
 pub mod kit;
 mod mask;
+mod prelude;
 mod proved;
 mod row;
 mod selection;
 mod strings;
 mod walks;
 
-pub use bitmap::{Bitmap, Room};
+pub use bitmap::{Bitmap, room::Room};
 pub use buf::BitmapBuf;
 pub use error::Error;
 pub use kit::{AllocError, Bytes};

@@ -1,12 +1,5 @@
-use crate::bitmap::{
-    INDICES_OF_A_BLOCK, Room, append_to, as_cells, as_items, front, list_of, makers,
-};
-use crate::proved::mask_bits::room::Lent;
-use crate::proved::mask_bits::{SetSlices, word_rows::push_rows_one_by_one};
-use crate::proved::mask_c::row_mask_and_count;
-use crate::{Bitmap, BitmapBuf, Error, Row};
-use alloc::vec::Vec;
-use core::{mem::MaybeUninit, ops::Range};
+use crate::prelude::*;
+use crate::proved::mask_bits::word_rows::push_rows_one_by_one;
 
 mod strings;
 
@@ -48,7 +41,7 @@ impl Kept {
         let (bytes, len, mut runs) = (bitmap.bytes(), bitmap.len(), count);
         if count >= OF_A_RUN {
             // (a run begins where no true value is just before)
-            runs -= row_mask_and_count(bytes, 1, bytes, 0, len - 1);
+            runs -= mask_c::row_mask_and_count(bytes, 1, bytes, 0, len - 1);
         }
         if OF_A_RUN * runs < count || u32::try_from(len).is_err() {
             let mut list = Vec::with_capacity(runs);

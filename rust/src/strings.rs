@@ -1,9 +1,6 @@
 //! Values of any length, as strings: their bytes one after another, and where each begins.
 
-use crate::Error;
-use crate::bitmap::{are_fit, range_within};
-use crate::proved::mask_c;
-use core::ops::{Range, RangeBounds};
+use crate::prelude::*;
 
 /// Where a value begins in the bytes of a column: 4 or 8 bytes, as Arrow has them.
 #[expect(private_bounds, reason = "no other type is one")]

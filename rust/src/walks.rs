@@ -2,11 +2,7 @@
 //! front alone, and a step of them isn't inlined, so `Values` and `Indices` have theirs by hand.
 #![allow(clippy::inline_always, reason = "a call would keep the fields of a walk in memory")]
 
-use crate::Bitmap;
-use crate::proved::mask_bits::SetSlices;
-use core::fmt;
-use core::iter::FusedIterator;
-use core::ops::Range;
+use crate::prelude::*;
 
 mod indices;
 mod values;

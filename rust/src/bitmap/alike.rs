@@ -1,8 +1,6 @@
 //! What bitmaps have alike, whether they lend their bytes or own them.
 
-use crate::{Bitmap, BitmapBuf, Values};
-use alloc::string::String;
-use core::fmt;
+use crate::prelude::*;
 
 // As many values are printed of a bitmap that may have millions.
 const PRINTED: usize = 64;

@@ -1,13 +1,9 @@
 //! Rows and values chosen at the true values.
 
-use super::{Room, append_to, as_cells, call, front, list_of, makers};
 use crate::kit::processor::{Moved, moves_bytes, moves_fours};
+use crate::prelude::*;
 use crate::proved::mask_bits::push_rows::{choose_rows, choose_small_rows};
-use crate::proved::mask_bits::room::Lent;
 use crate::proved::mask_bits::small_rows::MoveRows;
-use crate::{Bitmap, BitmapBuf, Error, Row};
-use alloc::vec::Vec;
-use core::mem::MaybeUninit;
 
 makers! {
     impl Bitmap<'_>;

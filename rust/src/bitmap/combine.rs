@@ -1,9 +1,6 @@
 //! Bitmaps combined value by value.
 
-use super::{Room, call, granted, made, makers};
-use crate::proved::mask_c;
-use crate::{Bitmap, BitmapBuf, Error};
-use core::ops::Not;
+use crate::prelude::*;
 
 makers! {
     impl Bitmap<'_>;

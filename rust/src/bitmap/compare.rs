@@ -1,7 +1,6 @@
 //! Two bitmaps of one length beside each other.
 
-use crate::proved::mask_c;
-use crate::{Bitmap, BitmapBuf, Error};
+use crate::prelude::*;
 
 impl<'a> Bitmap<'a> {
     /// How many values are true in both.

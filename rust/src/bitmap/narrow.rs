@@ -1,7 +1,6 @@
 //! Rank intersection: a bitmap narrowed by another over its true values.
 
-use super::{Room, WriteRoom as _, are_fit, call, makers};
-use crate::{Bitmap, BitmapBuf, Error};
+use crate::prelude::*;
 
 makers! {
     impl Bitmap<'_>;

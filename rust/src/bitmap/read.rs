@@ -1,10 +1,6 @@
 //! Counts, indices and runs of a bitmap, and its words.
 
-use super::{are_fit, as_items, call, first_of, granted, list_of, range_within};
-use crate::{Bitmap, Error, Indices, Runs, Values};
-use alloc::vec::Vec;
-use core::mem::MaybeUninit;
-use core::ops::{Range, RangeBounds};
+use crate::prelude::*;
 
 pub(crate) const INDICES_OF_A_BLOCK: usize = 256;
 

@@ -2,10 +2,7 @@
 
 use crate::kit::List;
 use crate::mask::out_of_memory;
-use crate::proved::mask_c::row_mask_room as room_for;
-use crate::{BitmapBuf, Error};
-use alloc::vec::Vec;
-use core::mem::MaybeUninit;
+use crate::prelude::*;
 use core::slice;
 
 /// What the calls named `.._into` write a bitmap into, from bit 0 on: bytes of the caller, or a

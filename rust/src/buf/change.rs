@@ -1,9 +1,6 @@
 //! Changes in place.
 
-use crate::bitmap::{granted, range_within};
-use crate::proved::mask_c::{self, row_mask_room as room_for};
-use crate::{Bitmap, BitmapBuf, Error};
-use core::ops::{Range, RangeBounds};
+use crate::prelude::*;
 
 /// Calls that change values in place by those of a bitmap of their length, each by a proved loop.
 macro_rules! changed {

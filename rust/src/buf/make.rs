@@ -1,17 +1,10 @@
 //! What a bitmap of its own bytes is made of.
 
 use super::pack::{AHEAD, pack_fn};
-use crate::bitmap::{Room, WriteRoom as _, as_items, granted, made, range_within, reserve};
 use crate::kit::filled;
-use crate::proved::mask_c::{
-    row_mask_append, row_mask_fill_range, row_mask_from_bools, row_mask_from_indices,
-    row_mask_room as room_for,
-};
-use crate::{Bitmap, BitmapBuf, Error};
-use alloc::vec::Vec;
-use core::ops::Range;
+use crate::prelude::*;
 
-crate::bitmap::makers! {
+crate::prelude::makers! {
     impl BitmapBuf;
 
     /// `len` values, of which just those at `indices` are true. These may come in any order and more
@@ -29,7 +22,7 @@ crate::bitmap::makers! {
             return Err(Error::IndexOutOfBounds { index, len });
         }
         // SAFETY: it writes each byte.
-        unsafe { out.write(len, |out| row_mask_from_indices(indices, len, out)) }
+        unsafe { out.write(len, |out| mask_c::row_mask_from_indices(indices, len, out)) }
     }
 }
 
@@ -128,7 +121,7 @@ impl BitmapBuf {
         let fill = |out: &mut [u8]| {
             out.fill(if value { 0xFF } else { 0 });
             let end = 8 * out.len();
-            row_mask_fill_range(out, len, end, false);
+            mask_c::row_mask_fill_range(out, len, end, false);
         };
         // SAFETY: it writes each byte.
         unsafe { out.write(len, fill) }
@@ -184,7 +177,7 @@ impl BitmapBuf {
     /// The refusals of [`Room`].
     pub fn from_bools_into(values: &[bool], out: &mut (impl Room + ?Sized)) -> Result<(), Error> {
         // SAFETY: it writes each byte.
-        unsafe { out.write(values.len(), |out| row_mask_from_bools(values, out)) }
+        unsafe { out.write(values.len(), |out| mask_c::row_mask_from_bools(values, out)) }
     }
 
     /// `len` values, of which just those within the ranges are true. These may come in any order, and
@@ -209,7 +202,7 @@ impl BitmapBuf {
             if end > made.len {
                 made.lengthen(if end > near { len } else { near })?;
             }
-            row_mask_fill_range(&mut made.bytes, start, end, true);
+            mask_c::row_mask_fill_range(&mut made.bytes, start, end, true);
         }
         made.lengthen(len)?;
         Ok(made)
@@ -228,7 +221,7 @@ impl BitmapBuf {
         let fill = |out: &mut [u8]| {
             out.fill(0);
             for range in ranges {
-                row_mask_fill_range(out, range.start, range.end, true);
+                mask_c::row_mask_fill_range(out, range.start, range.end, true);
             }
         };
         // SAFETY: it writes each byte.
@@ -285,7 +278,7 @@ impl BitmapBuf {
         let join = |out: &mut [u8]| {
             out.fill(0);
             bitmaps.iter().fold(0, |len, bitmap| {
-                row_mask_append(out, len, bitmap.bytes(), bitmap.offset(), bitmap.len());
+                mask_c::row_mask_append(out, len, bitmap.bytes(), bitmap.offset(), bitmap.len());
                 len + bitmap.len()
             });
         };

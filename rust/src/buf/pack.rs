@@ -1,11 +1,8 @@
 //! Truth values that are packed.
 
-use crate::bitmap::{Room, as_items, granted, made, reserve};
 use crate::kit::by_level;
+use crate::prelude::*;
 use crate::proved::mask_bits::from_rows::{word_of_rows, word_of_whole};
-use crate::proved::mask_c::row_mask_room as room_for;
-use crate::{BitmapBuf, Error};
-use core::mem::MaybeUninit;
 
 // Bytes that are asked for ahead by a number that nothing has borne out yet, such as an iterator's hint.
 pub(super) const AHEAD: usize = 1 << 20;

@@ -1,11 +1,8 @@
 //! Strings at the chosen rows.
 
-use super::{Kept, Selection, copy_parts};
-use crate::bitmap::{as_items, first_of, list_of};
-use crate::proved::mask_c::{put_ends, put_strings, take_offsets};
+use super::{Kept, copy_parts};
+use crate::prelude::*;
 use crate::strings::are_sorted;
-use crate::{Error, Offset, Strings};
-use alloc::vec::Vec;
 
 impl Selection {
     /// Writes where the chosen values begin and end to the front of `out`, from 0 on, and answers how many bytes they
@@ -59,9 +56,9 @@ impl Selection {
     // Writes each place, and answers how many bytes the chosen values have. The offsets are those of a column, and there
     // is one place more than rows are chosen.
     fn offsets_to<O: Offset>(&self, offsets: &[O], out: &mut [O]) -> usize {
-        let (mut end, mut at) = (take_offsets(&[], offsets, out), 1);
+        let (mut end, mut at) = (mask_c::take_offsets(&[], offsets, out), 1);
         self.by_blocks(|block| {
-            end = put_ends(block, offsets, end, out, at);
+            end = mask_c::put_ends(block, offsets, end, out, at);
             at += block.len();
         });
         end
@@ -119,7 +116,8 @@ impl<O: Offset> Strings<'_, O> {
                 let parts = runs.iter().map(|run| offsets[run.0].get()..offsets[run.1].get());
                 copy_parts(bytes, parts, out);
             }
-            _ => selection.by_blocks(|block| at = put_strings(block, offsets, bytes, out, at)),
+            _ => selection
+                .by_blocks(|block| at = mask_c::put_strings(block, offsets, bytes, out, at)),
         }
     }
 }

@@ -1,8 +1,5 @@
-use crate::Bitmap;
+use crate::prelude::*;
 use crate::proved::mask_bits::read_word::{Bits, Covered, ReadWord};
-use core::fmt;
-use core::iter::FusedIterator;
-use core::mem::take;
 
 /// The indices of the true values of a [`Bitmap`], ascending.
 #[derive(Clone)]

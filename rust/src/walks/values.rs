@@ -1,8 +1,4 @@
-use crate::Bitmap;
-use crate::proved::mask_bits::BitChunks;
-use crate::proved::mask_c::row_mask_value;
-use core::fmt;
-use core::iter::FusedIterator;
+use crate::prelude::*;
 
 /// The values of a [`Bitmap`], in their order.
 #[derive(Clone)]
@@ -73,7 +69,7 @@ impl Iterator for Values<'_> {
     fn nth(&mut self, n: usize) -> Option<bool> {
         let at = self.end - self.left().saturating_sub(n);
         (self.word, self.next) = (1, at + 1);
-        (at < self.end).then(|| row_mask_value(self.bytes, 0, self.end, at))
+        (at < self.end).then(|| mask_c::row_mask_value(self.bytes, 0, self.end, at))
     }
 
     fn count(self) -> usize {
@@ -106,7 +102,7 @@ impl DoubleEndedIterator for Values<'_> {
         let (left, kept) = (self.left(), self.left().saturating_sub(n).checked_sub(1));
         self.end -= left - kept.unwrap_or(0);
         self.word = lowest(self.word, kept.unwrap_or(0).min(self.word.ilog2() as usize));
-        kept.map(|_| row_mask_value(self.bytes, 0, self.end + 1, self.end))
+        kept.map(|_| mask_c::row_mask_value(self.bytes, 0, self.end + 1, self.end))
     }
 }
 
