@@ -2,74 +2,33 @@ use crate::prelude::*;
 
 mod alike;
 mod choose;
-mod combine;
-mod compare;
-mod narrow;
+mod pairs;
 pub(crate) mod read;
 pub(crate) mod room;
 
-/// A list of truth values, packed eight to a byte, that lies in borrowed bytes: value `i` is the bit
-/// at position `p = offset + i`, which is bit `p % 8`, counted from the lowest, of byte `p / 8`.
+/// A list of truth values, packed eight to a byte, that lies in borrowed bytes: value `i` is the bit at position
+/// `p = offset + i`, which is bit `p % 8`, counted from the lowest, of byte `p / 8`.
 ///
 /// ```
 /// use row_mask::Bitmap;
 ///
 /// let rows = Bitmap::new(&[0b1011_1001], 0, 8)?;
-/// let ranks = Bitmap::new(&[0b1_0100], 0, 5)?;
 /// assert_eq!(rows.to_string(), "10011101");
+/// assert_eq!(rows.slice(2..)?.to_string(), "011101");
 /// assert_eq!(rows.count(), 5);
+/// assert!(rows.runs().eq([0..1, 3..6, 7..8]));
+/// let ranks = Bitmap::new(&[0b1_0100], 0, 5)?;
 /// assert_eq!(rows.intersect_by_rank(ranks)?.to_string(), "00001001");
+/// assert_eq!(rows.intersect_at_ranks(&[2, 4])?.to_string(), "00001001");
 /// # Ok::<(), row_mask::Error>(())
 /// ```
 #[derive(Clone, Copy)]
 pub struct Bitmap<'a> {
-    bytes: &'a [u8],
-    offset: usize,
-    len: usize,
+    // the bits lie within the bytes
+    pub(crate) bytes: &'a [u8],
+    pub(crate) offset: usize,
+    pub(crate) len: usize,
 }
-
-/// A proved loop, with a bitmap as its first three arguments. What such a loop asks isn't tested again there: that the
-/// bits are within the bytes holds of each bitmap, since `new` tests it, `slice` takes a part of them, and the bytes of
-/// `of_room` are room for the values. What a loop asks beside that is tested or made so just above its call.
-macro_rules! call {
-    ($function:ident($bitmap:expr $(, $more:expr)* $(,)?)) => {
-        $crate::proved::mask_c::$function($bitmap.bytes(), $bitmap.offset(), $bitmap.len() $(, $more)*)
-    };
-}
-pub(crate) use call;
-
-/// Calls that make a bitmap, each with the form that writes into room and what that answers. Of both, why they refuse.
-macro_rules! makers {
-    (impl $of:ident $(<$lifetime:lifetime>)?; $(
-        $(#[$what:meta])+
-        pub fn $call:ident, $into:ident([$($receiver:tt)*] $($beside:ident: $type:ty),+; $out:ident)
-            -> $answer:ty $(, $answers:literal)?; refused by $refusals:literal $body:block
-    )+) => {
-        impl $of $(<$lifetime>)? {$(
-            $(#[$what])+
-            ///
-            /// # Errors
-            #[doc = concat!($refusals, ", and [`Error::OutOfMemory`].")]
-            pub fn $call($($receiver)* $($beside: $type),+) -> Result<BitmapBuf, Error> {
-                made(|$out| $body)
-            }
-
-            #[doc = concat!(
-                "As [`", stringify!($call), "`](", stringify!($of), "::", stringify!($call), "), written into `out`",
-                $(", and answers ", $answers,)? "."
-            )]
-            ///
-            /// # Errors
-            #[doc = concat!($refusals, ", and the refusals of [`Room`].")]
-            pub fn $into(
-                $($receiver)*
-                $($beside: $type,)+
-                $out: &mut (impl Room + ?Sized),
-            ) -> Result<$answer, Error> $body
-        )+}
-    };
-}
-pub(crate) use makers;
 
 impl<'a> Bitmap<'a> {
     /// The `len` bits of `bytes` from bit `offset` on.
@@ -82,12 +41,12 @@ impl<'a> Bitmap<'a> {
         Ok(Bitmap { bytes, offset, len })
     }
 
-    /// The first `len` bits of words of 64, each from its lowest on, where they lie: nothing is
-    /// copied. [`Bitmap::to_words`] is the way back.
+    /// The first `len` bits of words of 64, each from its lowest on, where they lie: nothing is copied.
+    /// [`Bitmap::to_words`] is the way back.
     ///
     /// ```
-    /// # use row_mask::Bitmap;
-    /// assert_eq!(Bitmap::from_words(&[1, 1], 65)?.indices().collect::<Vec<_>>(), [0, 64]);
+    /// let rows = row_mask::Bitmap::from_words(&[1, 1], 65)?;
+    /// assert!(rows.indices().eq([0, 64]));
     /// # Ok::<(), row_mask::Error>(())
     /// ```
     ///
@@ -100,50 +59,20 @@ impl<'a> Bitmap<'a> {
         Bitmap::new(bytes, 0, len)
     }
 
-    // The values of a `BitmapBuf`, whose bytes are room for them.
-    pub(crate) fn of_room(bytes: &'a [u8], len: usize) -> Bitmap<'a> {
-        debug_assert!(len <= 8 * bytes.len());
-        Bitmap { bytes, offset: 0, len }
-    }
-
-    /// How many values there are.
-    #[must_use]
-    pub fn len(self) -> usize {
-        self.len
-    }
-
-    /// Whether there is no value.
-    #[must_use]
-    pub fn is_empty(self) -> bool {
-        self.len == 0
-    }
-
-    /// The bytes that the values lie in.
-    #[must_use]
-    pub fn bytes(self) -> &'a [u8] {
-        self.bytes
-    }
-
-    /// The position of value 0 in the bytes, in bits.
-    #[must_use]
-    pub fn offset(self) -> usize {
-        self.offset
-    }
-
-    /// Value `i`, and `None` past the end.
-    #[must_use]
-    pub fn get(self, i: usize) -> Option<bool> {
-        (i < self.len).then(|| call!(row_mask_value(self, i)))
+    tells! {
+        /// How many values there are.
+        pub fn len(self) -> usize = self.len;
+        /// Whether there is no value.
+        pub fn is_empty(self) -> bool = self.len == 0;
+        /// The bytes that the values lie in.
+        pub fn bytes(self) -> &'a [u8] = self.bytes;
+        /// The position of value 0 in the bytes, in bits.
+        pub fn offset(self) -> usize = self.offset;
+        /// Value `i`, and `None` past the end.
+        pub fn get(self, i: usize) -> Option<bool> = (i < self.len).then(|| call!(row_mask_value(self, i)));
     }
 
     /// The values of a range, in the same bytes.
-    ///
-    /// ```
-    /// # use row_mask::Bitmap;
-    /// let rows = Bitmap::new(&[0b0_1101], 0, 5)?;
-    /// assert_eq!(rows.slice(2..)?.to_string(), "110");
-    /// # Ok::<(), row_mask::Error>(())
-    /// ```
     ///
     /// # Errors
     /// [`Error::BadRange`] where it is no range of the values.
@@ -182,10 +111,4 @@ pub(crate) fn range_within(
     };
     Error::BadRange { start, end, len }.unless(start <= end && end <= len)?;
     Ok(start..end)
-}
-
-impl<'a> From<&'a BitmapBuf> for Bitmap<'a> {
-    fn from(buf: &'a BitmapBuf) -> Bitmap<'a> {
-        buf.as_bitmap()
-    }
 }

@@ -9,82 +9,33 @@ mod pack;
 /// ```
 /// use row_mask::BitmapBuf;
 ///
-/// let rows: BitmapBuf = [true, false, true].into_iter().collect();
+/// let mut rows: BitmapBuf = [true, false, true].into_iter().collect();
 /// assert_eq!(rows.as_bitmap().select(1), Some(2));
+/// rows.or_with(BitmapBuf::from_indices(3, &[1, 0])?.as_bitmap())?;
+/// rows.fill_range(2.., false)?;
+/// assert_eq!(rows, BitmapBuf::from_ranges(3, [0..2])?);
+/// # Ok::<(), row_mask::Error>(())
 /// ```
 #[derive(Clone, Default, PartialEq, Eq, Hash)]
 pub struct BitmapBuf {
     // just those that the values take, with the bits behind the last value clear: equal lists have equal bytes
-    bytes: Vec<u8>,
-    len: usize,
+    pub(crate) bytes: Vec<u8>,
+    pub(crate) len: usize,
 }
 
 impl BitmapBuf {
-    // Of just the bytes that the values take, with the bits behind the last value clear.
-    pub(crate) fn of_bytes(bytes: Vec<u8>, len: usize) -> BitmapBuf {
-        debug_assert!(bytes.len() == len.div_ceil(8));
-        BitmapBuf { bytes, len }
-    }
-
-    /// The values, borrowed.
-    #[must_use]
-    pub fn as_bitmap(&self) -> Bitmap<'_> {
-        Bitmap::of_room(&self.bytes, self.len)
-    }
-
-    /// How many values there are.
-    #[must_use]
-    pub fn len(&self) -> usize {
-        self.len
-    }
-
-    /// Whether there is no value.
-    #[must_use]
-    pub fn is_empty(&self) -> bool {
-        self.len == 0
-    }
-
-    /// The values, in their order.
-    #[must_use]
-    pub fn iter(&self) -> Values<'_> {
-        self.as_bitmap().iter()
-    }
-
-    /// The bytes that have the values. The bits behind the last value are clear, so equal lists have
-    /// equal bytes.
-    #[must_use]
-    pub fn as_bytes(&self) -> &[u8] {
-        &self.bytes
-    }
-
-    /// The same bytes, in place of the list.
-    #[must_use]
-    pub fn into_bytes(self) -> Vec<u8> {
-        self.bytes
-    }
-}
-
-impl PartialEq<Bitmap<'_>> for BitmapBuf {
-    fn eq(&self, other: &Bitmap<'_>) -> bool {
-        self.as_bitmap() == *other
-    }
-}
-
-/// Each value negated.
-impl Not for &BitmapBuf {
-    type Output = BitmapBuf;
-
-    fn not(self) -> BitmapBuf {
-        !self.as_bitmap()
-    }
-}
-
-/// Each value negated, in place.
-impl Not for BitmapBuf {
-    type Output = BitmapBuf;
-
-    fn not(mut self) -> BitmapBuf {
-        self.negate();
-        self
+    tells! {
+        /// The values, borrowed.
+        pub fn as_bitmap(&self) -> Bitmap<'_> = Bitmap { bytes: &self.bytes, offset: 0, len: self.len };
+        /// How many values there are.
+        pub fn len(&self) -> usize = self.len;
+        /// Whether there is no value.
+        pub fn is_empty(&self) -> bool = self.len == 0;
+        /// The values, in their order.
+        pub fn iter(&self) -> Values<'_> = self.as_bitmap().iter();
+        /// The bytes that have the values. The bits behind the last value are clear, so equal lists have equal bytes.
+        pub fn as_bytes(&self) -> &[u8] = &self.bytes;
+        /// The same bytes, in place of the list.
+        pub fn into_bytes(self) -> Vec<u8> = self.bytes;
     }
 }

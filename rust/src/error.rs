@@ -1,5 +1,4 @@
-use core::error;
-use core::fmt;
+use crate::prelude::*;
 
 /// Refusals: of each its sentence, the numbers that this has, and how it is printed.
 macro_rules! refusals {
@@ -25,8 +24,7 @@ macro_rules! refusals {
 refusals! {
     /// The `len` bits from bit `offset` on are not within so many `bytes`.
     OutOfBytes { bytes, offset, len } => "{len} bits from bit {offset} on are not within {bytes} bytes";
-    /// Two bitmaps that are combined value by value have two lengths: that of the first, `left`, and that of the
-    /// second, `right`.
+    /// Two bitmaps that are combined or compared have two lengths: the first one's, `left`, and the second one's, `right`.
     LengthsDiffer { left, right } => "one bitmap has {left} values, and the other {right}";
     /// The range from index `start` to the one before `end` does not lie within `len` values, or ends before it starts.
     BadRange { start, end, len } => "{start}..{end} is no range of {len} values";
@@ -54,7 +52,7 @@ refusals! {
     RoomTooSmall { room, needed } => "there is room for {room}, and {needed} are to be written";
 }
 
-impl error::Error for Error {}
+impl core::error::Error for Error {}
 
 impl Error {
     /// This refusal, unless a condition is met.

@@ -10,6 +10,7 @@ pub mod arrow;
 mod bitmap;
 mod buf;
 mod error;
+mod forms;
 #[doc(hidden)]
 pub mod kit;
 mod mask;

@@ -13,7 +13,6 @@
 ///
 /// let rows = Bitmap::new(&[0b101], 0, 3)?;
 /// assert_eq!(rows.choose(&[Cents(5), Cents(7), Cents(9)])?, [Cents(5), Cents(9)]);
-/// assert_eq!(rows.choose(&[*b"ab", *b"cd", *b"ef"])?, [*b"ab", *b"ef"]);
 /// # Ok::<(), row_mask::Error>(())
 /// ```
 ///

@@ -58,17 +58,6 @@ impl Kept {
     }
 }
 
-makers! {
-    impl Selection;
-
-    /// The chosen values of a bitmap, such as the validity of a column.
-    pub fn choose_bits, choose_bits_into([&self,] bits: Bitmap<'_>; out) -> ();
-        refused by "[`Error::RowsDiffer`] where the bitmap has not [`len`](Selection::len) values"
-    {
-        self.as_bitmap().choose_count(self.count, bits, out)
-    }
-}
-
 impl Selection {
     /// Reads a bitmap.
     #[must_use]
@@ -78,61 +67,34 @@ impl Selection {
         Selection { bitmap, count, kept }
     }
 
-    /// How many rows a column has.
-    #[must_use]
-    pub fn len(&self) -> usize {
-        self.bitmap.len()
+    tells! {
+        /// How many rows a column has.
+        pub fn len(&self) -> usize = self.bitmap.len;
+        /// Whether a column has no rows.
+        pub fn is_empty(&self) -> bool = self.bitmap.is_empty();
+        /// How many rows are chosen.
+        pub fn count(&self) -> usize = self.count;
+        /// The bitmap that was read.
+        pub fn as_bitmap(&self) -> Bitmap<'_> = self.bitmap.as_bitmap();
     }
 
-    /// Whether a column has no rows.
-    #[must_use]
-    pub fn is_empty(&self) -> bool {
-        self.bitmap.is_empty()
+    makers! {
+        /// The chosen values of a bitmap, such as the validity of a column.
+        pub fn choose_bits, choose_bits_into(&self, bits: Bitmap<'_>);
+            refused by "[`Error::RowsDiffer`] where the bitmap has not [`len`](Self::len) values"
+            { self.has_one_for_each(bits.len())?; }
+            of self.count, by |out| _ = call!(row_mask_choose_bits(self.as_bitmap(), bits.bytes, bits.offset, out));
     }
 
-    /// How many rows are chosen.
-    #[must_use]
-    pub fn count(&self) -> usize {
-        self.count
+    choosers! {
+        /// The chosen rows of a column, in their order.
+        #[doc(alias("filter", "take"))]
+        pub fn choose(&self), of self;
+            refused by "[`Error::RowsDiffer`] where the column has not [`len`](Self::len) rows"
     }
 
-    /// The bitmap that was read.
-    #[must_use]
-    pub fn as_bitmap(&self) -> Bitmap<'_> {
-        self.bitmap.as_bitmap()
-    }
-
-    /// The chosen rows of a column, in their order.
-    ///
-    /// # Errors
-    /// [`Error::RowsDiffer`] where the column has not [`len`](Selection::len) rows, and [`Error::OutOfMemory`].
-    #[doc(alias("filter", "take"))]
-    pub fn choose<T: Row>(&self, rows: &[T]) -> Result<Vec<T>, Error> {
-        self.as_bitmap().has_one_for_each(rows.len())?;
-        // SAFETY: there is a place for each true value, which is written.
-        unsafe { list_of(self.count, |out| self.choose_to(rows, out)) }
-    }
-
-    /// As [`choose`](Selection::choose), behind the items of a list.
-    ///
-    /// # Errors
-    /// As there. Then the list is as it was.
-    pub fn choose_append<T: Row>(&self, rows: &[T], list: &mut Vec<T>) -> Result<(), Error> {
-        self.as_bitmap().has_one_for_each(rows.len())?;
-        // SAFETY: as above.
-        unsafe { append_to(list, self.count, |out| self.choose_to(rows, out)) }
-    }
-
-    /// As [`choose`](Selection::choose), to the front of `out`.
-    ///
-    /// # Errors
-    /// [`Error::RowsDiffer`] as there, and [`Error::RoomTooSmall`] where `out` has fewer than
-    /// [`count`](Selection::count) items.
-    pub fn choose_into<T: Row>(&self, rows: &[T], out: &mut [T]) -> Result<(), Error> {
-        self.as_bitmap().has_one_for_each(rows.len())?;
-        // SAFETY: rows are written.
-        unsafe { self.choose_to(rows, front(out, self.count)?) };
-        Ok(())
+    fn has_one_for_each(&self, rows: usize) -> Result<(), Error> {
+        self.as_bitmap().has_one_for_each(rows)
     }
 
     // Writes each place. There is a row for each value, and a place for each true one.
@@ -175,11 +137,5 @@ fn copy_parts<T: Copy>(items: &[T], parts: impl Iterator<Item = Range<usize>>, o
         let end = at + part.len();
         out[at..end].copy_from_slice(&items[part]);
         at = end;
-    }
-}
-
-impl From<Bitmap<'_>> for Selection {
-    fn from(bitmap: Bitmap<'_>) -> Selection {
-        Selection::new(bitmap)
     }
 }

@@ -59,24 +59,20 @@ impl<'a, O: Offset> Strings<'a, O> {
         Ok(Strings { offsets, bytes })
     }
 
-    /// How many values there are.
-    #[must_use]
-    pub fn len(self) -> usize {
-        self.offsets.len() - 1
-    }
-
-    /// Whether there is no value.
-    #[must_use]
-    pub fn is_empty(self) -> bool {
-        self.len() == 0
-    }
-
-    /// Value `i`, and `None` past the end.
-    #[must_use]
-    #[inline]
-    pub fn get(self, i: usize) -> Option<&'a [u8]> {
-        let (start, end) = (self.offsets.get(i)?, self.offsets.get(i.wrapping_add(1))?);
-        self.bytes.get(start.get()..end.get())
+    tells! {
+        /// How many values there are.
+        pub fn len(self) -> usize = self.offsets.len() - 1;
+        /// Whether there is no value.
+        pub fn is_empty(self) -> bool = self.len() == 0;
+        /// Where the values begin in the bytes, and where the last one ends.
+        pub fn offsets(self) -> &'a [O] = self.offsets;
+        /// The bytes that the values lie in.
+        pub fn bytes(self) -> &'a [u8] = self.bytes;
+        /// Value `i`, and `None` past the end.
+        pub fn get(self, i: usize) -> Option<&'a [u8]> = {
+            let (start, end) = (self.offsets.get(i)?, self.offsets.get(i.wrapping_add(1))?);
+            self.bytes.get(start.get()..end.get())
+        };
     }
 
     /// The values of a range, in the same bytes.
@@ -86,18 +82,6 @@ impl<'a, O: Offset> Strings<'a, O> {
     pub fn slice(self, range: impl RangeBounds<usize>) -> Result<Strings<'a, O>, Error> {
         let Range { start, end } = range_within(&range, self.len())?;
         Ok(Strings { offsets: &self.offsets[start..=end], bytes: self.bytes })
-    }
-
-    /// Where the values begin in the bytes, and where the last one ends.
-    #[must_use]
-    pub fn offsets(self) -> &'a [O] {
-        self.offsets
-    }
-
-    /// The bytes that the values lie in.
-    #[must_use]
-    pub fn bytes(self) -> &'a [u8] {
-        self.bytes
     }
 }
 

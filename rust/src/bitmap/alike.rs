@@ -5,9 +5,9 @@ use crate::prelude::*;
 // As many values are printed of a bitmap that may have millions.
 const PRINTED: usize = 64;
 
-/// Texts and walks: of a type its name, how it is read, and what is walked.
+/// Texts, walks and comparisons: of a type its name, how it is read, what is walked; and what else it is compared with.
 macro_rules! alike {
-    ($($of:ty, $name:literal, $read:path, $walked:ty;)+) => {$(
+    ($($of:ty, $name:literal, $read:path, $walked:ty; $other:ty, $read_other:path;)+) => {$(
         /// `1` for each true value and `0` for each false one, in their order.
         impl fmt::Display for $of {
             fn fmt(&self, f: &mut fmt::Formatter<'_>) -> fmt::Result {
@@ -30,6 +30,12 @@ macro_rules! alike {
             }
         }
 
+        impl PartialEq<$other> for $of {
+            fn eq(&self, other: &$other) -> bool {
+                $read(self) == $read_other(other)
+            }
+        }
+
         impl<'a> IntoIterator for $walked {
             type Item = bool;
             type IntoIter = Values<'a>;
@@ -42,6 +48,47 @@ macro_rules! alike {
 }
 
 alike! {
-    Bitmap<'_>, "Bitmap", Bitmap::clone, Bitmap<'a>;
-    BitmapBuf, "BitmapBuf", BitmapBuf::as_bitmap, &'a BitmapBuf;
+    Bitmap<'_>, "Bitmap", Bitmap::clone, Bitmap<'a>; BitmapBuf, BitmapBuf::as_bitmap;
+    BitmapBuf, "BitmapBuf", BitmapBuf::as_bitmap, &'a BitmapBuf; Bitmap<'_>, Bitmap::clone;
+}
+
+/// Negations: of a type what it is, and how.
+macro_rules! negated {
+    ($($(#[$what:meta])+ $of:ty: $negate:expr;)+) => {$(
+        $(#[$what])+
+        impl Not for $of {
+            type Output = BitmapBuf;
+
+            fn not(self) -> BitmapBuf {
+                $negate(self)
+            }
+        }
+    )+};
+}
+
+negated! {
+    /// Each value negated, in bytes of their own.
+    Bitmap<'_>: |it: Self| granted(made(|out| it.not_into(out)), it.len);
+    /// Each value negated.
+    &BitmapBuf: |it: Self| !it.as_bitmap();
+    /// Each value negated, in place.
+    BitmapBuf: |mut it: Self| { it.negate(); it };
+}
+
+/// Conversions by a call of this form.
+macro_rules! converted {
+    ($([$($lifetime:lifetime)?] $from:ty => $to:ty: $call:expr;)+) => {$(
+        impl<$($lifetime)?> From<$from> for $to {
+            fn from(it: $from) -> $to {
+                $call(it)
+            }
+        }
+    )+};
+}
+
+converted! {
+    ['a] &'a BitmapBuf => Bitmap<'a>: BitmapBuf::as_bitmap;
+    [] Bitmap<'_> => BitmapBuf: Bitmap::to_buf;
+    [] Bitmap<'_> => Selection: Selection::new;
+    [] &[bool] => BitmapBuf: |it: &[bool]| granted(made(|out| BitmapBuf::from_bools_into(it, out)), it.len());
 }

@@ -5,77 +5,27 @@ use crate::prelude::*;
 use crate::proved::mask_bits::push_rows::{choose_rows, choose_small_rows};
 use crate::proved::mask_bits::small_rows::MoveRows;
 
-makers! {
-    impl Bitmap<'_>;
-
-    /// The values of another bitmap at the true values, in their order: the validity of a column that is
-    /// filtered, or a predicate of all rows as one of those that are left, which
-    /// [`intersect_by_rank`](Bitmap::intersect_by_rank) takes as ranks.
-    ///
-    /// Where the processor has the instruction `pext`, and in a few cycles, that takes the bits of words.
-    ///
-    /// ```
-    /// # use row_mask::Bitmap;
-    /// let rows = Bitmap::new(&[0b0_1101], 0, 5)?;
-    /// let valid = Bitmap::new(&[0b1_0110], 0, 5)?;
-    /// assert_eq!(rows.choose_bits(valid)?.to_string(), "010");
-    /// # Ok::<(), row_mask::Error>(())
-    /// ```
-    pub fn choose_bits, choose_bits_into([self,] bits: Bitmap<'_>; out)
-        -> usize, "how many values these are";
-        refused by "[`Error::RowsDiffer`] where the other bitmap has not one value for each value"
-    {
-        let count = self.count();
-        self.choose_count(count, bits, out)?;
-        Ok(count)
-    }
-}
-
 impl Bitmap<'_> {
-    /// The rows at the true values, in their order.
-    ///
-    /// # Errors
-    /// [`Error::RowsDiffer`] where there is not one row for each value, and [`Error::OutOfMemory`].
-    #[doc(alias = "filter")]
-    pub fn choose<T: Row>(self, rows: &[T]) -> Result<Vec<T>, Error> {
-        self.has_one_for_each(rows.len())?;
-        // SAFETY: there is a row for each value, and a place for each true value, which is written.
-        unsafe { list_of(self.count(), |out| self.choose_to(rows, out)) }
+    makers! {
+        /// The values of another bitmap at the true values, in their order: the validity of a column that is filtered, or
+        /// a predicate of all rows as one of those that are left, which
+        /// [`intersect_by_rank`](Bitmap::intersect_by_rank) takes as ranks.
+        ///
+        /// Where the processor has the instruction `pext`, and in a few cycles, that takes the bits of words.
+        pub fn choose_bits, choose_bits_into(self, bits: Bitmap<'_>) -> count: usize, "how many values these are";
+            refused by "[`Error::RowsDiffer`] where the other bitmap has not one value for each value"
+            {
+                self.has_one_for_each(bits.len)?;
+                let count = self.count();
+            }
+            of count, by |out| _ = call!(row_mask_choose_bits(self, bits.bytes, bits.offset, out));
     }
 
-    /// As [`choose`](Bitmap::choose), behind the items of a list.
-    ///
-    /// # Errors
-    /// As there. Then the list is as it was.
-    pub fn choose_append<T: Row>(self, rows: &[T], list: &mut Vec<T>) -> Result<(), Error> {
-        self.has_one_for_each(rows.len())?;
-        // SAFETY: as above.
-        unsafe { append_to(list, self.count(), |out| self.choose_to(rows, out)) }
-    }
-
-    /// As [`choose`](Bitmap::choose), to the front of `out`, and answers how many rows these are.
-    ///
-    /// # Errors
-    /// [`Error::RowsDiffer`] as there, and [`Error::RoomTooSmall`] where `out` has fewer items than values are true.
-    pub fn choose_into<T: Row>(self, rows: &[T], out: &mut [T]) -> Result<usize, Error> {
-        self.has_one_for_each(rows.len())?;
-        let count = self.count();
-        // SAFETY: there is a row for each value, and `out` has one for each true value, which is written.
-        unsafe { self.choose_to(rows, front(out, count)?) };
-        Ok(count)
-    }
-
-    // Chooses bits, where it is known how many values are true.
-    pub(crate) fn choose_count(
-        self,
-        count: usize,
-        bits: Bitmap<'_>,
-        out: &mut (impl Room + ?Sized),
-    ) -> Result<(), Error> {
-        self.has_one_for_each(bits.len)?;
-        let (bytes, offset) = (bits.bytes, bits.offset);
-        // SAFETY: it writes each byte.
-        unsafe { out.write(count, |out| _ = call!(row_mask_choose_bits(self, bytes, offset, out))) }
+    choosers! {
+        /// The rows at the true values, in their order.
+        #[doc(alias = "filter")]
+        pub fn choose(self), of self -> usize, "how many rows these are";
+            refused by "[`Error::RowsDiffer`] where there is not one row for each value"
     }
 
     // Tests that there is a row for each value.

@@ -5,11 +5,50 @@ use crate::prelude::*;
 pub(crate) const INDICES_OF_A_BLOCK: usize = 256;
 
 impl<'a> Bitmap<'a> {
-    /// How many values are true.
-    #[must_use]
-    #[doc(alias("true_count", "count_set_bits", "count_ones"))]
-    pub fn count(self) -> usize {
-        call!(row_mask_count(self))
+    tells! {
+        /// How many values are true.
+        #[doc(alias("true_count", "count_set_bits", "count_ones"))]
+        pub fn count(self) -> usize = call!(row_mask_count(self));
+        /// Whether some value is true.
+        pub fn any(self) -> bool = self.next_index(0).is_some();
+        /// Whether no value is false.
+        pub fn all(self) -> bool = self.is_empty() || self.next_run(0) == Some(0..self.len);
+        /// The index of true value number `n`, counted from 0.
+        #[doc(alias = "limit")]
+        pub fn select(self, n: usize) -> Option<usize> = self.inside(call!(row_mask_select(self, n)));
+        /// The first index from `from` on whose value is true.
+        pub fn next_index(self, from: usize) -> Option<usize> = self.inside(call!(row_mask_next_index(self, from)));
+        /// The index of the last true value.
+        pub fn last_index(self) -> Option<usize> = self.inside(call!(row_mask_last_index(self)));
+        /// The first run of true values from `from` on. A run that `from` is inside begins there.
+        pub fn next_run(self, from: usize) -> Option<Range<usize>> =
+            Some(call!(row_mask_next_run(self, from))).filter(|run| run.start < self.len).map(|run| run.start..run.end);
+        /// The values, in their order.
+        pub fn iter(self) -> Values<'a> = Values::new(self);
+        /// The indices of the true values, ascending.
+        #[doc(alias("set_indices", "iter_ones"))]
+        pub fn indices(self) -> Indices<'a> = Indices::new(self);
+        /// The maximal ranges of true values, ascending.
+        #[doc(alias = "set_slices")]
+        pub fn runs(self) -> Runs<'a> = Runs::new(self);
+        /// The indices of the true values, ascending, in room for just as many.
+        pub fn to_indices(self) -> Vec<usize> = {
+            let count = self.count();
+            // SAFETY: each place is written, since so many values are true.
+            let indices = unsafe { list_of(count, |out| _ = self.next_indices(0, as_items(out))) };
+            granted(indices, count.saturating_mul(64))
+        };
+        /// All words of 64 values, as [`next_words`](Bitmap::next_words) has them.
+        pub fn to_words(self) -> Vec<u64> = {
+            // SAFETY: each place is written, since there are so many words.
+            let words = unsafe { list_of(self.len.div_ceil(64), |out| _ = self.next_words(0, as_items(out))) };
+            granted(words, self.len)
+        };
+    }
+
+    // An index, where a call answers the length for none.
+    fn inside(self, index: usize) -> Option<usize> {
+        (index < self.len).then_some(index)
     }
 
     /// How many of the values of a range are true.
@@ -21,43 +60,29 @@ impl<'a> Bitmap<'a> {
         Ok(call!(row_mask_count_range(self, start, end)))
     }
 
-    /// Whether some value is true.
-    #[must_use]
-    pub fn any(self) -> bool {
-        self.next_index(0).is_some()
-    }
-
-    /// Whether no value is false.
-    #[must_use]
-    pub fn all(self) -> bool {
-        self.is_empty() || self.next_run(0) == Some(0..self.len)
-    }
-
     /// For each index how many of the values below it are true, all in one pass.
     ///
     /// ```
-    /// # use row_mask::Bitmap;
-    /// let rows = Bitmap::new(&[0b0_1101], 0, 5)?;
+    /// let rows = row_mask::Bitmap::new(&[0b0_1101], 0, 5)?;
     /// assert_eq!(rows.counts_below(&[0, 1, 3, 5])?, [0, 1, 2, 3]);
     /// # Ok::<(), row_mask::Error>(())
     /// ```
     ///
     /// # Errors
-    /// [`Error::UnsortedIndices`] where an index is below the one before it,
-    /// [`Error::IndexOutOfBounds`] where one is above the length, and [`Error::OutOfMemory`].
+    /// [`Error::UnsortedIndices`] where an index is below the one before it, [`Error::IndexOutOfBounds`] where one is
+    /// above the length, and [`Error::OutOfMemory`].
     pub fn counts_below(self, indices: &[usize]) -> Result<Vec<usize>, Error> {
         self.are_ends(indices)?;
+        let count = indices.len();
         // SAFETY: each place is written.
-        unsafe {
-            list_of(indices.len(), |out| call!(row_mask_counts_below(self, indices, as_items(out))))
-        }
+        unsafe { list_of(count, |out| call!(row_mask_counts_below(self, indices, as_items(out)))) }
     }
 
     /// As [`counts_below`](Bitmap::counts_below), to the front of `out`.
     ///
     /// # Errors
-    /// [`Error::UnsortedIndices`] and [`Error::IndexOutOfBounds`] as there, and [`Error::RoomTooSmall`]
-    /// where `out` has fewer items than there are indices.
+    /// [`Error::UnsortedIndices`] and [`Error::IndexOutOfBounds`] as there, and [`Error::RoomTooSmall`] where `out` has
+    /// fewer items than there are indices.
     pub fn counts_below_into(self, indices: &[usize], out: &mut [usize]) -> Result<(), Error> {
         self.are_ends(indices)?;
         call!(row_mask_counts_below(self, indices, first_of(out, indices.len())?));
@@ -71,22 +96,8 @@ impl<'a> Bitmap<'a> {
         Error::IndexOutOfBounds { index, len: self.len }.unless(index <= self.len)
     }
 
-    /// The index of true value number `n`, counted from 0.
-    #[must_use]
-    #[doc(alias = "limit")]
-    pub fn select(self, n: usize) -> Option<usize> {
-        self.inside(call!(row_mask_select(self, n)))
-    }
-
-    /// The first index from `from` on whose value is true.
-    #[must_use]
-    pub fn next_index(self, from: usize) -> Option<usize> {
-        self.inside(call!(row_mask_next_index(self, from)))
-    }
-
-    /// Writes the indices of the true values from `from` on to the front of `out`, as many as there
-    /// are or as it takes, and answers how many these are. Behind them `out` may have other numbers
-    /// than before.
+    /// Writes the indices of the true values from `from` on to the front of `out`, as many as there are or as it takes,
+    /// and answers how many these are. Behind them `out` may have other numbers than before.
     pub fn next_indices(self, from: usize, out: &mut [usize]) -> usize {
         call!(row_mask_next_indices(self, from, out))
     }
@@ -106,83 +117,16 @@ impl<'a> Bitmap<'a> {
         }
     }
 
-    /// The indices of the true values, ascending, in room for just as many.
-    #[must_use]
-    pub fn to_indices(self) -> Vec<usize> {
-        let count = self.count();
-        // SAFETY: each place is written, since so many values are true.
-        let indices = unsafe { list_of(count, |out| _ = self.next_indices(0, as_items(out))) };
-        granted(indices, count.saturating_mul(64))
-    }
-
-    /// The index of the last true value.
-    #[must_use]
-    pub fn last_index(self) -> Option<usize> {
-        self.inside(call!(row_mask_last_index(self)))
-    }
-
-    /// The first run of true values from `from` on. A run that `from` is inside begins there.
-    #[must_use]
-    pub fn next_run(self, from: usize) -> Option<Range<usize>> {
-        let run = call!(row_mask_next_run(self, from));
-        (run.start < self.len).then_some(run.start..run.end)
-    }
-
-    /// Writes the words of 64 values from word `from` on to the front of `out`, as many as there are
-    /// or as it takes, and answers how many these are. Bit `b` of word `w` is value `64 * w + b`, and
-    /// the bits past the last value are clear.
+    /// Writes the words of 64 values from word `from` on to the front of `out`, as many as there are or as it takes, and
+    /// answers how many these are. Bit `b` of word `w` is value `64 * w + b`, and the bits past the last value are clear.
     ///
     /// ```
-    /// # use row_mask::Bitmap;
-    /// let rows = Bitmap::new(&[0b1101_1110], 1, 5)?;
-    /// let mut words = [0; 2];
+    /// let (rows, mut words) = (row_mask::Bitmap::new(&[0b1101_1110], 1, 5)?, [0; 2]);
     /// assert_eq!(rows.next_words(0, &mut words), 1);
     /// assert_eq!(words, [0b0_1111, 0]);
     /// # Ok::<(), row_mask::Error>(())
     /// ```
     pub fn next_words(self, from: usize, out: &mut [u64]) -> usize {
         call!(row_mask_words(self, from, out))
-    }
-
-    /// All words of 64 values, as [`next_words`](Bitmap::next_words) has them.
-    #[must_use]
-    pub fn to_words(self) -> Vec<u64> {
-        // SAFETY: each place is written, since there are so many words.
-        let words =
-            unsafe { list_of(self.len.div_ceil(64), |out| _ = self.next_words(0, as_items(out))) };
-        granted(words, self.len)
-    }
-
-    /// The values, in their order.
-    #[must_use]
-    #[inline]
-    pub fn iter(self) -> Values<'a> {
-        Values::new(self)
-    }
-
-    /// The indices of the true values, ascending.
-    #[must_use]
-    #[doc(alias("set_indices", "iter_ones"))]
-    pub fn indices(self) -> Indices<'a> {
-        Indices::new(self)
-    }
-
-    /// The maximal ranges of true values, ascending.
-    ///
-    /// ```
-    /// # use row_mask::Bitmap;
-    /// let rows = Bitmap::new(&[0b0_1101], 0, 5)?;
-    /// assert_eq!(rows.runs().collect::<Vec<_>>(), [0..1, 2..4]);
-    /// # Ok::<(), row_mask::Error>(())
-    /// ```
-    #[must_use]
-    #[doc(alias = "set_slices")]
-    pub fn runs(self) -> Runs<'a> {
-        Runs::new(self)
-    }
-
-    // An index, where a call answers the length for none.
-    fn inside(self, index: usize) -> Option<usize> {
-        (index < self.len).then_some(index)
     }
 }

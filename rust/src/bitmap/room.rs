@@ -5,24 +5,23 @@ use crate::mask::out_of_memory;
 use crate::prelude::*;
 use core::slice;
 
-/// What the calls named `.._into` write a bitmap into, from bit 0 on: bytes of the caller, or a
-/// [`BitmapBuf`], which then has just these values and keeps the memory that it has.
+/// What the calls named `.._into` write a bitmap into, from bit 0 on: bytes of the caller, or a [`BitmapBuf`], which then
+/// has just these values and keeps the memory that it has.
 ///
-/// Of bytes just the first `(len + 7) / 8` are written, where `len` is the length of what is written,
-/// and the bits behind the last value are cleared in the last of them.
+/// Of bytes just the first `(len + 7) / 8` are written, where `len` is the length of what is written, and the bits behind
+/// the last value are cleared in the last of them.
 ///
-/// Bytes that are too few are refused by [`Error::RoomTooSmall`], and a [`BitmapBuf`] that finds no memory
-/// by [`Error::OutOfMemory`]. Neither is changed then.
+/// Bytes that are too few are refused by [`Error::RoomTooSmall`], and a [`BitmapBuf`] that finds no memory by
+/// [`Error::OutOfMemory`]. Neither is changed then.
 ///
 /// ```
 /// use row_mask::{Bitmap, BitmapBuf};
 ///
 /// let rows = Bitmap::new(&[0b0_1101], 0, 5)?;
-/// let mut turned = BitmapBuf::default();
+/// let (mut turned, mut bytes) = (BitmapBuf::default(), [0xFF; 2]);
 /// rows.not_into(&mut turned)?;
-/// assert_eq!(turned.to_string(), "01001");
-/// let mut bytes = [0xFF; 2];
 /// rows.not_into(&mut bytes[..])?;
+/// assert_eq!(turned.to_string(), "01001");
 /// assert_eq!(bytes, [0b1_0010, 0xFF]);
 /// # Ok::<(), row_mask::Error>(())
 /// ```
@@ -33,7 +32,6 @@ use core::slice;
 pub trait Room: sealed::Room {}
 
 impl Room for BitmapBuf {}
-
 impl Room for [u8] {}
 
 pub(crate) mod sealed {
@@ -53,11 +51,10 @@ pub(crate) mod sealed {
 
 impl sealed::Room for BitmapBuf {
     unsafe fn write(&mut self, len: usize, fill: impl FnOnce(&mut [u8])) -> Result<(), Error> {
-        self.make_room(len)?;
+        self.try_reserve(len.saturating_sub(self.len))?;
         self.clear();
         // SAFETY: this is what is asked here too, and there is no last byte.
-        unsafe { self.add(len, fill) };
-        Ok(())
+        unsafe { self.add(len, fill) }
     }
 
     fn keep(&mut self, len: usize) {
@@ -83,7 +80,7 @@ impl sealed::Room for New {
     unsafe fn write(&mut self, len: usize, fill: impl FnOnce(&mut [u8])) -> Result<(), Error> {
         // SAFETY: this is what is asked here too.
         let bytes = unsafe { list_of(room_for(len), |out| fill(as_items(out)))? };
-        self.0 = Some(BitmapBuf::of_bytes(bytes, len));
+        self.0 = Some(BitmapBuf { bytes, len });
         Ok(())
     }
 }
@@ -109,27 +106,11 @@ pub(crate) fn first_of<T>(out: &mut [T], needed: usize) -> Result<&mut [T], Erro
     out.get_mut(..needed).ok_or(Error::RoomTooSmall { room, needed })
 }
 
-/// A list of `count` items, which are written by what gets their places, if there is memory.
+/// Adds `count` items behind those of a list, if there is memory. They are written by what gets their places.
 ///
 /// # Safety
 /// `fill` writes each place that it gets.
 #[inline]
-pub(crate) unsafe fn list_of<T>(
-    count: usize,
-    fill: impl FnOnce(&mut [MaybeUninit<T>]),
-) -> Result<Vec<T>, Error> {
-    let refusal = Error::OutOfMemory { bytes: count.saturating_mul(size_of::<T>()) };
-    let mut list = Vec::with_room(count).map_err(|_| refusal)?;
-    fill(&mut list.spare_capacity_mut()[..count]);
-    // SAFETY: there is room for so many, which are written.
-    unsafe { list.set_len(count) };
-    Ok(list)
-}
-
-/// Adds such items behind those of a list.
-///
-/// # Safety
-/// As above.
 pub(crate) unsafe fn append_to<T>(
     list: &mut Vec<T>,
     count: usize,
@@ -142,7 +123,23 @@ pub(crate) unsafe fn append_to<T>(
     Ok(())
 }
 
+/// A list of just such items.
+///
+/// # Safety
+/// As above.
+#[inline]
+pub(crate) unsafe fn list_of<T>(
+    count: usize,
+    fill: impl FnOnce(&mut [MaybeUninit<T>]),
+) -> Result<Vec<T>, Error> {
+    let mut list = Vec::new();
+    // SAFETY: this is what is asked here too.
+    unsafe { append_to(&mut list, count, fill)? };
+    Ok(list)
+}
+
 /// Has memory for `count` items more, if there is some: in a list that has none, for just these.
+#[inline]
 pub(crate) fn reserve<T>(list: &mut Vec<T>, count: usize) -> Result<(), Error> {
     let made = if list.capacity() == 0 {
         Vec::with_room(count).map(|made| *list = made).is_ok()
@@ -159,17 +156,13 @@ pub(crate) fn as_cells<T>(items: &[T]) -> &[MaybeUninit<T>] {
     unsafe { slice::from_raw_parts(items.as_ptr().cast(), items.len()) }
 }
 
-/// The first `needed` places, as cells for what writes each of them.
+/// Items of the caller as cells.
 ///
 /// # Safety
 /// Nothing but values is written into them.
-pub(crate) unsafe fn front<T: Copy>(
-    out: &mut [T],
-    needed: usize,
-) -> Result<&mut [MaybeUninit<T>], Error> {
-    let out = first_of(out, needed)?;
+pub(crate) unsafe fn as_places<T: Copy>(out: &mut [T]) -> &mut [MaybeUninit<T>] {
     // SAFETY: it is the same borrowed slice, and the rest is asked here.
-    Ok(unsafe { slice::from_raw_parts_mut(out.as_mut_ptr().cast(), out.len()) })
+    unsafe { slice::from_raw_parts_mut(out.as_mut_ptr().cast(), out.len()) }
 }
 
 /// Cells as numbers, for a loop that writes each of them and reads none before.

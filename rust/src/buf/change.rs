@@ -2,42 +2,6 @@
 
 use crate::prelude::*;
 
-/// Calls that change values in place by those of a bitmap of their length, each by a proved loop.
-macro_rules! changed {
-    ($($(#[$what:meta])+ $call:ident by $change:ident;)+) => {
-        impl BitmapBuf {$(
-            $(#[$what])+
-            ///
-            /// # Errors
-            /// [`Error::LengthsDiffer`].
-            pub fn $call(&mut self, other: Bitmap<'_>) -> Result<(), Error> {
-                self.as_bitmap().of_length_of(other)?;
-                mask_c::$change(&mut self.bytes, other.bytes(), other.offset(), self.len);
-                Ok(())
-            }
-        )+}
-    };
-}
-
-changed! {
-    /// Leaves those values true that are true in `other` too, in place.
-    ///
-    /// ```
-    /// # use row_mask::{Bitmap, BitmapBuf};
-    /// let mut rows: BitmapBuf = [true, false, true].into_iter().collect();
-    /// rows.and_with(Bitmap::new(&[0b110], 0, 3)?)?;
-    /// assert_eq!(rows.to_string(), "001");
-    /// # Ok::<(), row_mask::Error>(())
-    /// ```
-    and_with by row_mask_and_in_place;
-    /// Makes those values true that are true in `other`, in place.
-    or_with by row_mask_or_in_place;
-    /// Makes those values false that are true in `other`, in place.
-    and_not_with by row_mask_and_not_in_place;
-    /// Negates those values that are true in `other`, in place.
-    xor_with by row_mask_xor_in_place;
-}
-
 impl BitmapBuf {
     /// Negates each value, in place.
     pub fn negate(&mut self) {
@@ -45,15 +9,6 @@ impl BitmapBuf {
     }
 
     /// Makes all values of a range true, or all false.
-    ///
-    /// ```
-    /// # use row_mask::BitmapBuf;
-    /// let mut rows = BitmapBuf::all_false(5);
-    /// rows.fill_range(1..4, true)?;
-    /// rows.fill_range(2..=2, false)?;
-    /// assert_eq!(rows.to_string(), "01010");
-    /// # Ok::<(), row_mask::Error>(())
-    /// ```
     ///
     /// # Errors
     /// [`Error::BadRange`] where it is no range of the values.
@@ -79,9 +34,8 @@ impl BitmapBuf {
     /// their order: a predicate over the rows that others left.
     ///
     /// ```
-    /// # use row_mask::BitmapBuf;
     /// let prices = [250, 700, 120, 90];
-    /// let mut rows: BitmapBuf = [true, true, false, true].into_iter().collect();
+    /// let mut rows = row_mask::BitmapBuf::from(&[true, true, false, true][..]);
     /// rows.retain(|row| prices[row] < 400);
     /// assert_eq!(rows.to_string(), "1001");
     /// ```
@@ -113,13 +67,12 @@ impl BitmapBuf {
 
     /// Forgets the values from the first `len` on, if there are more, and keeps the memory.
     pub fn truncate(&mut self, len: usize) {
-        if len >= self.len {
-            return;
+        if len < self.len {
+            self.bytes.truncate(room_for(len));
+            let end = 8 * self.bytes.len();
+            mask_c::row_mask_fill_range(&mut self.bytes, len, end, false);
+            self.len = len;
         }
-        self.bytes.truncate(room_for(len));
-        let end = 8 * self.bytes.len();
-        mask_c::row_mask_fill_range(&mut self.bytes, len, end, false);
-        self.len = len;
     }
 
     /// Has memory for so many values more, at least.
@@ -132,7 +85,8 @@ impl BitmapBuf {
     /// # Errors
     /// [`Error::OutOfMemory`].
     pub fn try_reserve(&mut self, more: usize) -> Result<(), Error> {
-        self.make_room(self.len.saturating_add(more))
+        let more = room_for(self.len.saturating_add(more)) - self.bytes.len();
+        reserve(&mut self.bytes, more)
     }
 
     /// Adds a value behind the last one.

@@ -15,12 +15,7 @@ type Block = [MaybeUninit<u16>; BLOCK];
 /// Takes values, as many as there are or as the block has places, and answers how many these are.
 #[inline]
 fn take(block: &mut Block, values: impl Iterator<Item = bool>) -> usize {
-    let mut count = 0;
-    for (place, value) in block.iter_mut().zip(values) {
-        place.write(value.into());
-        count += 1;
-    }
-    count
+    block.iter_mut().zip(values).map(|(place, value)| place.write(value.into())).count()
 }
 
 /// Writes each byte of `value(0)`, `value(1)` and so on, to just the bytes that `len` values take.
@@ -33,37 +28,8 @@ pub(super) fn pack_fn(len: usize, mut value: impl FnMut(usize) -> bool, out: &mu
     }
 }
 
-impl BitmapBuf {
-    /// For each row whether it is one that is asked for: a predicate over a column. It takes less time than the same
-    /// by [`collect`](Iterator::collect) or [`from_fn`](BitmapBuf::from_fn).
-    ///
-    /// ```
-    /// # use row_mask::BitmapBuf;
-    /// let prices = [250, 700, 120];
-    /// assert_eq!(BitmapBuf::from_rows(&prices, |price| *price < 400).to_string(), "101");
-    /// ```
-    #[must_use]
-    pub fn from_rows<T>(rows: &[T], is_true: impl FnMut(&T) -> bool) -> BitmapBuf {
-        let made = made(|out| BitmapBuf::from_rows_into(rows, is_true, out));
-        granted(made, rows.len())
-    }
-
-    /// As [`from_rows`](BitmapBuf::from_rows), written into `out`.
-    ///
-    /// # Errors
-    /// The refusals of [`Room`].
-    pub fn from_rows_into<T>(
-        rows: &[T],
-        is_true: impl FnMut(&T) -> bool,
-        out: &mut (impl Room + ?Sized),
-    ) -> Result<(), Error> {
-        // SAFETY: it writes each byte.
-        unsafe { out.write(rows.len(), |out| pack_rows(rows, is_true, out)) }
-    }
-}
-
 /// Writes each byte of what is asked of rows, to just the bytes that they take.
-fn pack_rows<T>(rows: &[T], mut is_true: impl FnMut(&T) -> bool, out: &mut [u8]) {
+pub(super) fn pack_rows<T>(rows: &[T], mut is_true: impl FnMut(&T) -> bool, out: &mut [u8]) {
     by_level!(
         pack_rows_v3(rows, &mut is_true, out),
         pack_rows_any::<T, _, { cfg!(target_feature = "avx2") }>(rows, &mut is_true, out)
@@ -117,12 +83,6 @@ impl FromIterator<bool> for BitmapBuf {
     }
 }
 
-impl From<&[bool]> for BitmapBuf {
-    fn from(values: &[bool]) -> BitmapBuf {
-        granted(made(|out| BitmapBuf::from_bools_into(values, out)), values.len())
-    }
-}
-
 /// Adds values behind the last one.
 impl Extend<bool> for BitmapBuf {
     fn extend<I: IntoIterator<Item = bool>>(&mut self, values: I) {
@@ -141,10 +101,11 @@ impl Extend<bool> for BitmapBuf {
             }
             let count = take(&mut block, values.by_ref());
             // SAFETY: so many were taken; it writes each byte, and the last byte has eight values.
-            unsafe {
+            let added = unsafe {
                 let rows = as_items(&mut block[..count]);
-                self.add(count, |out| pack_rows(rows, |it| *it != 0, out));
-            }
+                self.add(count, |out| pack_rows(rows, |it| *it != 0, out))
+            };
+            granted(added, count);
             if count < BLOCK {
                 return;
             }

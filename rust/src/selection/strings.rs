@@ -2,6 +2,7 @@
 
 use super::{Kept, copy_parts};
 use crate::prelude::*;
+use crate::proved::mask_c::{put_ends, put_strings, take_offsets};
 use crate::strings::are_sorted;
 
 impl Selection {
@@ -56,9 +57,9 @@ impl Selection {
     // Writes each place, and answers how many bytes the chosen values have. The offsets are those of a column, and there
     // is one place more than rows are chosen.
     fn offsets_to<O: Offset>(&self, offsets: &[O], out: &mut [O]) -> usize {
-        let (mut end, mut at) = (mask_c::take_offsets(&[], offsets, out), 1);
+        let (mut end, mut at) = (take_offsets(&[], offsets, out), 1);
         self.by_blocks(|block| {
-            end = mask_c::put_ends(block, offsets, end, out, at);
+            end = put_ends(block, offsets, end, out, at);
             at += block.len();
         });
         end
@@ -69,10 +70,9 @@ impl<O: Offset> Strings<'_, O> {
     /// The chosen values, as offsets and bytes of their own. Just the offsets of these are read.
     ///
     /// # Errors
-    /// [`Error::RowsDiffer`] where there are not as many values as rows that the selection is of, and
-    /// [`Error::OutOfMemory`].
+    /// [`Error::RowsDiffer`] where there is not one value for each row of a column, and [`Error::OutOfMemory`].
     pub fn choose(self, selection: &Selection) -> Result<(Vec<O>, Vec<u8>), Error> {
-        selection.as_bitmap().has_one_for_each(self.len())?;
+        selection.has_one_for_each(self.len())?;
         let (offsets, mut size) = (self.offsets(), 0);
         // SAFETY: each place is written.
         unsafe {
@@ -87,17 +87,16 @@ impl<O: Offset> Strings<'_, O> {
     /// # Errors
     /// [`Error::RowsDiffer`] as of [`choose`](Strings::choose), and [`Error::RoomTooSmall`] as there.
     pub fn choose_offsets(self, selection: &Selection, out: &mut [O]) -> Result<usize, Error> {
-        selection.as_bitmap().has_one_for_each(self.len())?;
+        selection.has_one_for_each(self.len())?;
         Ok(selection.offsets_to(self.offsets(), first_of(out, selection.count + 1)?))
     }
 
     /// Writes the bytes of the chosen values to the front of `out`, and answers how many these are.
     ///
     /// # Errors
-    /// [`Error::RowsDiffer`] as of [`choose`](Strings::choose), and [`Error::RoomTooSmall`] where `out` has not so many
-    /// bytes.
+    /// [`Error::RowsDiffer`] as of [`choose`](Strings::choose), and [`Error::RoomTooSmall`] where `out` has fewer bytes.
     pub fn choose_bytes(self, selection: &Selection, out: &mut [u8]) -> Result<usize, Error> {
-        selection.as_bitmap().has_one_for_each(self.len())?;
+        selection.has_one_for_each(self.len())?;
         let (offsets, mut size) = (self.offsets(), 0);
         let mut add = |start: usize, end: usize| size += offsets[end].get() - offsets[start].get();
         match &selection.kept {
@@ -116,8 +115,7 @@ impl<O: Offset> Strings<'_, O> {
                 let parts = runs.iter().map(|run| offsets[run.0].get()..offsets[run.1].get());
                 copy_parts(bytes, parts, out);
             }
-            _ => selection
-                .by_blocks(|block| at = mask_c::put_strings(block, offsets, bytes, out, at)),
+            _ => selection.by_blocks(|block| at = put_strings(block, offsets, bytes, out, at)),
         }
     }
 }
