@@ -3,12 +3,17 @@
 use crate::prelude::*;
 
 pub(crate) const INDICES_OF_A_BLOCK: usize = 256;
+const FEW: usize = 128;
 
 impl<'a> Bitmap<'a> {
     tells! {
         /// How many values are true.
         #[doc(alias("true_count", "count_set_bits", "count_ones"))]
-        pub fn count(self) -> usize = call!(row_mask_count(self));
+        pub fn count(self) -> usize = match self.len {
+            // (to ask what the processor has takes longer than to count so few)
+            0..=FEW => self.chunks().iter_padded().map(|word| word.count_ones() as usize).sum(),
+            _ => call!(row_mask_count(self)),
+        };
         /// Whether some value is true.
         pub fn any(self) -> bool = self.next_index(0).is_some();
         /// Whether no value is false.
