@@ -24,7 +24,7 @@ macro_rules! refusals {
 refusals! {
     /// The `len` bits from bit `offset` on are not within so many `bytes`.
     OutOfBytes { bytes, offset, len } => "{len} bits from bit {offset} on are not within {bytes} bytes";
-    /// Two bitmaps that are combined or compared have two lengths: the first one's, `left`, and the second one's, `right`.
+    /// Two bitmaps that are combined or compared have two lengths: that of the first, `left`, and the other's, `right`.
     LengthsDiffer { left, right } => "one bitmap has {left} values, and the other {right}";
     /// The range from index `start` to the one before `end` does not lie within `len` values, or ends before it starts.
     BadRange { start, end, len } => "{start}..{end} is no range of {len} values";

@@ -1,9 +1,9 @@
 //! The forms that calls of bitmaps have.
 
 /// A proved loop, with a bitmap as its first three arguments, or two of one length as its first five. What such a loop
-/// asks isn't tested again there: that the bits are within the bytes holds of each bitmap, since `new` tests it, `slice`
-/// takes a part of them, and the bytes of a `BitmapBuf` are room for its values. What a loop asks beside that is tested or
-/// made so just above its call.
+/// asks isn't tested again there: that the bits are within the bytes holds of each bitmap, since `new` tests it,
+/// `slice` takes a part of them, and the bytes of a `BitmapBuf` are room for its values. What a loop asks beside that
+/// is tested or made so just above its call.
 macro_rules! call {
     ($function:ident($first:expr, beside $second:expr $(, $more:expr)* $(,)?)) => {
         mask_c::$function($first.bytes(), $first.offset(), $second.bytes(), $second.offset(), $first.len() $(, $more)*)
@@ -25,7 +25,7 @@ macro_rules! tells {
     )+};
 }
 
-/// Calls that write so many values into room, by what writes each of the bytes that these take. Some test something first.
+/// Calls that write so many values into room, by what writes each byte that these take. Some test something first.
 macro_rules! writers {
     ($(
         $(#[$what:meta])+
@@ -44,8 +44,8 @@ macro_rules! writers {
     )+};
 }
 
-/// Calls that make a bitmap of so many values in the same way, each with the form that writes it into room and what that
-/// answers. Both test the same first. Of both, why they refuse.
+/// Calls that make a bitmap of so many values in the same way, each with the form that writes it into room and what
+/// that answers. Both test the same first. Of both, why they refuse.
 macro_rules! makers {
     ($(
         $(#[$what:meta])+
@@ -79,8 +79,8 @@ macro_rules! makers {
     )+};
 }
 
-/// The calls that choose rows: as a list, behind the items of one, and in the caller's room. What chooses them tells how
-/// many they are (`count`), tests a column (`has_one_for_each`) and writes each place (`choose_to`).
+/// The calls that choose rows: as a list, behind the items of one, and in the caller's room. What chooses them tells
+/// how many they are (`count`), tests a column (`has_one_for_each`) and writes each place (`choose_to`).
 macro_rules! choosers {
     (
         $(#[$what:meta])+

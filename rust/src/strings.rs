@@ -24,8 +24,8 @@ macro_rules! offsets {
 
 offsets!(i32, u32; i64, u64);
 
-/// A column of strings that lies in borrowed memory: value `i` has the bytes from `offsets[i]` to `offsets[i + 1]`. That
-/// these lie in order within the bytes is tested once.
+/// A column of strings that lies in borrowed memory: value `i` has the bytes from `offsets[i]` to `offsets[i + 1]`.
+/// That these lie in order within the bytes is tested once.
 ///
 /// ```
 /// use row_mask::{Bitmap, Selection, Strings};
@@ -45,8 +45,8 @@ pub struct Strings<'a, O> {
 }
 
 impl<'a, O: Offset> Strings<'a, O> {
-    /// The strings that begin at these offsets, of which the last is where the last string ends. The first offset may be
-    /// any, so a part of a column's offsets goes with all of its bytes.
+    /// The strings that begin at these offsets, of which the last is where the last string ends. The first offset may
+    /// be any, so a part of a column's offsets goes with all of its bytes.
     ///
     /// # Errors
     /// [`Error::OffsetsDiffer`] where there is no offset, [`Error::UnsortedOffsets`] where one is negative or

@@ -7,8 +7,8 @@ use crate::proved::mask_bits::small_rows::MoveRows;
 
 impl Bitmap<'_> {
     makers! {
-        /// The values of another bitmap at the true values, in their order: the validity of a column that is filtered, or
-        /// a predicate of all rows as one of those that are left, which
+        /// The values of another bitmap at the true values, in their order: the validity of a column that is filtered,
+        /// or a predicate of all rows as one of those that are left, which
         /// [`intersect_by_rank`](Bitmap::intersect_by_rank) takes as ranks.
         ///
         /// Where the processor has the instruction `pext`, and in a few cycles, that takes the bits of words.

@@ -83,8 +83,8 @@ impl<'a> Bitmap<'a> {
     }
 
     makers! {
-        /// The bitmap narrowed by another over its true values: true value number `k` stays true exactly where value `k`
-        /// of `ranks` is true.
+        /// The bitmap narrowed by another over its true values: true value number `k` stays true exactly where value
+        /// `k` of `ranks` is true.
         ///
         /// Where the processor has the instruction `pdep`, and in a few cycles, that deposits the words.
         pub fn intersect_by_rank, intersect_by_rank_into(self, ranks: Bitmap<'_>);

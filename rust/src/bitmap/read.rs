@@ -122,8 +122,8 @@ impl<'a> Bitmap<'a> {
         }
     }
 
-    /// Writes the words of 64 values from word `from` on to the front of `out`, as many as there are or as it takes, and
-    /// answers how many these are. Bit `b` of word `w` is value `64 * w + b`, and the bits past the last value are clear.
+    /// Writes the words of 64 values from word `from` on to the front of `out`, as many as there are or as it takes,
+    /// and answers how many these are. Bit `b` of word `w` is value `64 * w + b`. Bits past the last value are clear.
     ///
     /// ```
     /// let (rows, mut words) = (row_mask::Bitmap::new(&[0b1101_1110], 1, 5)?, [0; 2]);

@@ -5,11 +5,11 @@ use crate::mask::out_of_memory;
 use crate::prelude::*;
 use core::slice;
 
-/// What the calls named `.._into` write a bitmap into, from bit 0 on: bytes of the caller, or a [`BitmapBuf`], which then
-/// has just these values and keeps the memory that it has.
+/// What the calls named `.._into` write a bitmap into, from bit 0 on: bytes of the caller, or a [`BitmapBuf`], which
+/// then has just these values and keeps the memory that it has.
 ///
-/// Of bytes just the first `(len + 7) / 8` are written, where `len` is the length of what is written, and the bits behind
-/// the last value are cleared in the last of them.
+/// Of bytes just the first `(len + 7) / 8` are written, where `len` is the length of what is written, and the bits
+/// behind the last value are cleared in the last of them.
 ///
 /// Bytes that are too few are refused by [`Error::RoomTooSmall`], and a [`BitmapBuf`] that finds no memory by
 /// [`Error::OutOfMemory`]. Neither is changed then.

@@ -109,10 +109,10 @@ impl BitmapBuf {
         granted(made(|out| BitmapBuf::from_rows_into(rows, is_true, out)), rows.len())
     }
 
-    /// As [`collect`](Iterator::collect) makes a bitmap, written into `out`. `values` have to know how many they are; of
-    /// others [`extend`](Extend::extend) fills a bitmap that was cleared, in the memory that it has. Of values that turn
-    /// out more, the first are taken; where they turn out fewer, a [`BitmapBuf`] has just these, and bytes of the caller
-    /// have false ones for the others.
+    /// As [`collect`](Iterator::collect) makes a bitmap, written into `out`. `values` have to know how many they are;
+    /// of others [`extend`](Extend::extend) fills a bitmap that was cleared, in the memory that it has. Of values that
+    /// turn out more, the first are taken; where they turn out fewer, a [`BitmapBuf`] has just these, and bytes of the
+    /// caller have false ones for the others.
     ///
     /// ```
     /// let (column, mut bytes) = ([7, 2, 9], [0; 1]);

@@ -7,8 +7,8 @@ use crate::proved::mask_bits::from_rows::{word_of_rows, word_of_whole};
 // Bytes that are asked for ahead by a number that nothing has borne out yet, such as an iterator's hint.
 pub(super) const AHEAD: usize = 1 << 20;
 
-// Values that are asked for before they are packed: a multiple of 64, in the nearest memory. To write them as bytes takes
-// 1.2 of the time.
+// Values that are asked for before they are packed: a multiple of 64, in the nearest memory. To write them as bytes
+// takes 1.2 of the time.
 const BLOCK: usize = 1024;
 type Block = [MaybeUninit<u16>; BLOCK];
 
@@ -63,8 +63,8 @@ fn pack_rows_any<T, F: FnMut(&T) -> bool, const HAS_AVX2: bool>(
     }
 }
 
-/// What is asked of each of 64 rows of 8 bytes. By hand: with AVX2 a compiler needs 0.6 of the time that it takes of the
-/// proved loop, and without it some times as long.
+/// What is asked of each of 64 rows of 8 bytes. By hand: with AVX2 a compiler needs 0.6 of the time that it takes of
+/// the proved loop, and without it some times as long.
 #[expect(clippy::inline_always, reason = "as above")]
 #[inline(always)]
 fn word_by_bits<T>(rows: &[T; 64], is_true: &mut impl FnMut(&T) -> bool) -> u64 {

@@ -21,7 +21,7 @@ impl Selection {
         Ok(self.offsets_to(offsets, first_of(out, self.count + 1)?))
     }
 
-    /// Writes the bytes of the chosen values to the front of `out`, and answers how many these are. It reads all offsets.
+    /// Writes the bytes of the chosen values to the front of `out`, and answers how many. It reads all offsets.
     ///
     /// # Errors
     /// As [`choose_strings`](Selection::choose_strings), but [`Error::RoomTooSmall`] where `out` has not so many bytes.
@@ -54,8 +54,8 @@ impl Selection {
         differ.unless(offsets.len().checked_sub(1) == Some(self.len()))
     }
 
-    // Writes each place, and answers how many bytes the chosen values have. The offsets are those of a column, and there
-    // is one place more than rows are chosen.
+    // Writes each place, and answers how many bytes the chosen values have. The offsets are those of a column, and
+    // there is one place more than rows are chosen.
     fn offsets_to<O: Offset>(&self, offsets: &[O], out: &mut [O]) -> usize {
         let (mut end, mut at) = (take_offsets(&[], offsets, out), 1);
         self.by_blocks(|block| {
@@ -94,7 +94,7 @@ impl<O: Offset> Strings<'_, O> {
     /// Writes the bytes of the chosen values to the front of `out`, and answers how many these are.
     ///
     /// # Errors
-    /// [`Error::RowsDiffer`] as of [`choose`](Strings::choose), and [`Error::RoomTooSmall`] where `out` has fewer bytes.
+    /// [`Error::RowsDiffer`] as of [`choose`](Self::choose), and [`Error::RoomTooSmall`] where `out` has fewer bytes.
     pub fn choose_bytes(self, selection: &Selection, out: &mut [u8]) -> Result<usize, Error> {
         selection.has_one_for_each(self.len())?;
         let (offsets, mut size) = (self.offsets(), 0);
