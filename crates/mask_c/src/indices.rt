@@ -63,26 +63,7 @@ pub extern "C" fn row_mask_next_indices(
     if from > len {
         return 0;
     }
-    indices_of_words(bytes, offset, len, from, out)
-}
-
-// Writes the indices of the true values from an index on: by blocks as long as there is room to spare, and
-// then word by word.
-#[inline]
-fn indices_of_words(
-    bytes: &[u8],
-    offset: usize,
-    len: usize,
-    from: usize,
-    out: &mut [usize],
-) -> usize
-    requires bitmap { IsWithinBytes bytes.now offset len }
-    requires within { from ≤ len }
-    ensures indices { take result out.new ≡ take (length out.old)
-        (indices_from from (drop from (bitmap bytes.now offset len))) }
-    ensures count { result ≡ min (length out.old)
-        (count (drop from (bitmap bytes.now offset len))) }
-{
+    // by blocks as long as there is room to spare, and then word by word
     let chunks = BitChunks::new(bytes, offset + from, len - from);
     let mut room = Lent { out, at: 0 };
     let first = indices_of_blocks(&chunks, from, &mut room);

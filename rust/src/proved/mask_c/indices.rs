@@ -67,19 +67,7 @@ fn row_mask_next_indices_any(
     if from > len {
         return 0;
     }
-    indices_of_words(bytes, offset, len, from, out)
-}
-
-// Writes the indices of the true values from an index on: by blocks as long as there is room to spare, and
-// then word by word.
-#[inline(always)]
-fn indices_of_words(
-    bytes: &[u8],
-    offset: usize,
-    len: usize,
-    from: usize,
-    out: &mut [usize],
-) -> usize {
+    // by blocks as long as there is room to spare, and then word by word
     let chunks = BitChunks::new_proved(bytes, offset + from, len - from);
     let mut room = Lent { out, at: 0 };
     let first = indices_of_blocks(&chunks, from, &mut room);

@@ -1,4 +1,6 @@
-use Rattle.mask_c.proofs.Common.{arith, drop_of_length-le}
+use Rattle.mask_c.proofs.Common.{◌≡◌, Bool, List, ◌+◌, ◌*◌, length, map, min, take, sym, ap, ◌∙◌, arith, drop_of_length-le, take_all, count, indices_from, positions}
+use Rattle.mask_c.proofs.IndexLemmas.{bitmap-rest, indices-within, all_indices, first_indices, word_done, word_counted}
+use Rattle.mask_bits.proofs.Lists.CountLemmas.{count_below-le}
 use Rattle.mask_bits.proofs.Lists.Words.BackingBitLemmas.{length-bitmap}
 use Rattle.mask_c.proofs.indices.row_mask_next_indices.Goals as goal
 
@@ -7,3 +9,56 @@ returns-then-from-len-clause-indices c = grind (arith, drop_of_length-le, length
 
 pub returns-then-from-len-clause-count : goal.returns-then-from-len-clause-count
 returns-then-from-len-clause-count c = grind (arith, drop_of_length-le, length-bitmap)
+
+pub indices_of_word-at-requires-clause-fits : goal.indices_of_word-at-requires-clause-fits
+indices_of_word-at-requires-clause-fits c =
+    let len = c.new-chunks.ensures.len in
+    indices-within c.new-chunks.result (c.args.from + 64 * c.loop-i.i) c.loop-i.i c.started_word.result c.started_word.ensures (omega arith) (omega (arith, c.if-from-len.false))
+
+pub loop-i-preserved : goal.loop-i-preserved
+loop-i-preserved c =
+    let m = c.new-chunks.result in
+    let i = c.loop-i.i in
+    let was = c.loop-i.invariant in
+    let put = c.indices_of_word-at in
+    let n = length c.loop-i.out in
+    let len = c.new-chunks.ensures.len in
+    record {
+      indices = word_done m c.args.from i c.loop-i.at put.result _ n c.loop-i.out put.new.out (omega arith) c.started_word.ensures was.indices put.ensures.indices
+          ∙ ap (λ k. take k (map (λ p. c.args.from + p) (positions (take (64 * (i + 1)) m)))) (sym put.auto.out);
+      counted = word_counted m i c.loop-i.at put.result _ n c.started_word.ensures was.counted put.ensures.count
+          ∙ ap (λ k. min k (count (take (64 * (i + 1)) m))) (sym put.auto.out);
+    }
+
+pub returns-then-at-out : goal.returns-then-at-out
+returns-then-at-out c =
+    let m = c.new-chunks.result in
+    let size : length c.loop-i.out ≡ length c.args.out.now = omega (arith, c.loop-i.auto.out) in
+    let i = c.loop-i.i in
+    let was = c.loop-i.invariant in
+    let put = c.indices_of_word-at in
+    let n = length c.loop-i.out in
+    let len = c.new-chunks.ensures.len in
+    let many = word_counted m i c.loop-i.at put.result _ n c.started_word.ensures was.counted put.ensures.count in
+    let rest = c.new-chunks.ensures.list ∙ bitmap-rest c.args.bytes.now c.args.offset c.args.len c.args.from (omega (arith, c.if-from-len.false)) in
+    record {
+      indices = word_done m c.args.from i c.loop-i.at put.result _ n c.loop-i.out put.new.out (omega arith) c.started_word.ensures was.indices put.ensures.indices
+          ∙ first_indices m c.args.from n (64 * (i + 1)) (omega (arith, many, c.if-at-out.true, put.auto.out))
+          ∙ ap (λ k. take k (indices_from c.args.from m)) size
+          ∙ ap (λ (x : List Bool). take (length c.args.out.now) (indices_from c.args.from x)) rest;
+      count = omega (arith, many, c.if-at-out.true, put.auto.out, size, count_below-le m (64 * (i + 1)), ap count rest);
+    }
+
+pub returns-clause-indices : goal.returns-clause-indices
+returns-clause-indices c =
+    let m = c.new-chunks.result in
+    let size : length c.loop-i.out ≡ length c.args.out.now = omega (arith, c.loop-i.auto.out) in
+    let len = c.new-chunks.ensures.len in
+    let rest = c.new-chunks.ensures.list ∙ bitmap-rest c.args.bytes.now c.args.offset c.args.len c.args.from (omega (arith, c.if-from-len.false)) in
+    c.loop-i.invariant.indices
+    ∙ ap (take (length c.loop-i.out)) (all_indices m c.args.from (64 * c.loop-i.i) (omega arith))
+    ∙ ap (λ k. take k (indices_from c.args.from m)) size
+    ∙ ap (λ (x : List Bool). take (length c.args.out.now) (indices_from c.args.from x)) rest
+
+pub returns-clause-count : goal.returns-clause-count
+returns-clause-count c = grind (arith, bitmap-rest, take_all)

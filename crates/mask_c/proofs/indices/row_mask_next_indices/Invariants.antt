@@ -1,5 +1,5 @@
 use Rattle.mask_c.proofs.Common.{◌≡◌, ◌+◌, ◌*◌, length, map, min, take, count, positions}
-use Rattle.mask_c.proofs.indices.indices_of_words.Given as goal
+use Rattle.mask_c.proofs.indices.row_mask_next_indices.Given as goal
 
 -- the indices of the words so far, as many as there is room for
 abbrev pub invariant-loop-i : goal.invariant-loop-i
