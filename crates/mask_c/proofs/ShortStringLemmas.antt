@@ -2,7 +2,6 @@
 use Rattle.std.proofs.Common.{◌≡◌, ℕ, Bool, subst, ◌+◌, ◌-◌, ◌*◌, ◌<◌, ◌≤◌, List, ◌++◌, append_assoc, length, get_or, take, drop, slice_range, slice_get, Some, sym, ap, ◌∙◌, arith}
 use Rattle.std.specs.Int.{w64, from_le_bytes, to_le_bytes}
 use Rattle.std.specs.List.{All, concat, sum}
-use Rattle.std.specs.List.Sorted.{IsNonDecreasing}
 use Rattle.std.proofs.lemmas.List.{get_or_past, length-append, length-drop, length-take, take-append-drop, take-take, take_all, take_at}
 use Rattle.std.proofs.lemmas.List.Edits.{get_or-between}
 use Rattle.std.proofs.lemmas.List.Elements.{All-append, All-take}
@@ -94,14 +93,6 @@ rest-of ps k = take_all (length ps - k) (drop k ps) (omega (arith, length-drop k
 
 pub sum-both : (xs ps : List ℕ) (k : ℕ) → sum (items_at xs ps) ≡ sum (items_at xs (take k ps)) + sum (items_at xs (drop k ps))
 sum-both xs ps k = sum-parts xs ps (take k ps) (drop k ps) (sym (take-append-drop k ps))
-
--- ---- offsets
-
-pub in-order : (ns : List ℕ) (i : ℕ) → IsNonDecreasing ns → i + 1 < length ns → get_or ns i 0 ≤ get_or ns (i + 1) 0
-in-order ns i ascending few = ascending i (i + 1) 0 (omega arith) few
-
-pub in-bytes : (ns : List ℕ) (i n : ℕ) → IsNonDecreasing ns → i + 1 < length ns → get_or ns (length ns - 1) 0 ≤ n → get_or ns (i + 1) 0 ≤ n
-in-bytes ns i n ascending few covered = omega (arith, covered, ascending (i + 1) (length ns - 1) 0 (omega (arith, few)) (omega (arith, few)))
 
 -- ---- strings that wait
 

@@ -1,5 +1,6 @@
 -- Strings at some indices: their sizes, where they end, and their bytes one behind another.
 use Rattle.mask_c.proofs.Common.{common_steps, ◌≡◌, ℕ, zero, suc, ◌+◌, ◌-◌, ◌*◌, ◌<◌, ◌≤◌, Bool, true, false, List, [], ◌∷◌, ◌++◌, append_assoc, append-nil, length, get_or, set, take, drop, map, slice_range, slice_get, Some, refl, sym, subst, ap, ◌∙◌, arith, take-add, All, concat, items_where_true, range_with_len, sum, IsNonDecreasing, drop-drop, drop-set-lt, get_or-append_right, length-append, length-take, map-id, take-append-drop, take_all, take_more, take_more_set, All-weaker, filter_map-append, concat-append, length-map-range_with_len, get_or-map-range_with_len, sum_by-append, sum_by_more, get_or_from_slice_get, slice_get-get_or, chosen, count, indices_from, positions, ends_from, items_at, offsets_of, sizes, strings}
+use Rattle.std.proofs.lemmas.List.{take-take}
 use Rattle.mask_bits.proofs.Lists.ChooseLemmas.{chosen_at_positions}
 use Rattle.mask_bits.proofs.Lists.LawLemmas.{chosen-items_where_true}
 use Rattle.mask_bits.proofs.Lists.Places.PlaceLemmas.{positions-within}
@@ -61,6 +62,10 @@ sum-parts xs ps front here is = ap sum (items_at-append xs ps front here is) ∙
 -- the sum of the first sizes is no more than that of all
 pub sum-first : (xs ps : List ℕ) (k : ℕ) → sum (items_at xs (take k ps)) ≤ sum (items_at xs ps)
 sum-first xs ps k = omega (arith, sum-parts xs ps (take k ps) (drop k ps) (sym (take-append-drop k ps)))
+
+-- nor that of fewer than that of more
+pub sum-earlier : (xs ps : List ℕ) (k n : ℕ) → k ≤ n → sum (items_at xs (take k ps)) ≤ sum (items_at xs (take n ps))
+sum-earlier xs ps k n few = omega (arith, sum-first xs (take n ps) k, ap (λ (qs : List ℕ). sum (items_at xs qs)) (take-take k n ps few))
 
 pub sum-more : (xs ps : List ℕ) (k x : ℕ) → k < length ps → slice_get xs (get_or ps k 0) ≡ Some x → sum (items_at xs (take (k + 1) ps)) ≡ sum (items_at xs (take k ps)) + x
 sum-more xs ps k x few read = omega (arith, ap sum (items_at-more xs ps k x few read), sum-append (items_at xs (take k ps)) (x ∷ []), sum-one x)

@@ -1,12 +1,12 @@
 //! The offsets of strings that are chosen.
 
-ghost use Rattle.std.specs.Prelude.{◌≡◌, ◌+◌, ◌*◌, ◌<◌, ◌≤◌, ◌^◌, ◌++◌, Some, All, drop, length, map, slice_get, slice_index, slice_set, take};
+ghost use Rattle.std.specs.Prelude.{◌≡◌, ◌+◌, ◌*◌, ◌<◌, ◌≤◌, ◌^◌, ◌++◌, ◌-◌, ℕ, List, Some, All, drop, length, map, slice_get, slice_index, slice_range, slice_set, take};
 ghost use Rattle.std.specs.List.{sum};
 ghost use Rattle.std.specs.List.Sorted.{IsNonDecreasing};
 ghost use Rattle.mask_bits.specs.Bitmap.{bitmap};
 ghost use Rattle.mask_bits.specs.Buffer.{IsWithinBytes};
 ghost use Rattle.mask_bits.specs.Positions.{chosen, count};
-ghost use Rattle.mask_c.specs.Strings.{ends_from, items_at, offsets_of, sizes};
+ghost use Rattle.mask_c.specs.Strings.{ends_from, items_at, offsets_of, size_of, sizes, strings};
 
 use crate::indices::indices_in_word;
 use mask_bits::BitChunks;
@@ -196,7 +196,22 @@ pub(crate) fn size_at<O: Offset>(offsets: &[O], i: usize) -> usize
     requires ascending { IsNonDecreasing (map O.number offsets.now) }
     ensures { slice_get (sizes (map O.number offsets.now)) i ≡ Some result }
 {
-    offset_at(offsets, i + 1) - offset_at(offsets, i)
+    let (from, to) = string_at(offsets, i);
+    to - from
+}
+
+/// Where string `i` begins, and where it ends.
+#[inline]
+pub(crate) fn string_at<O: Offset>(offsets: &[O], i: usize) -> (usize, usize)
+    requires within { i + 1 < length offsets.now }
+    requires ascending { IsNonDecreasing (map O.number offsets.now) }
+    ensures ordered { result.0 ≤ result.1 }
+    ensures covered { result.1 ≤ slice_index (map O.number offsets.now) (length offsets.now - 1) }
+    ensures size { slice_get (sizes (map O.number offsets.now)) i ≡ Some (result.1 - result.0) }
+    ensures string { (bytes : List ℕ) → slice_get (strings (map O.number offsets.now) bytes) i
+        ≡ Some (slice_range bytes result.0 result.1) }
+{
+    (offset_at(offsets, i), offset_at(offsets, i + 1))
 }
 
 // Writes behind the first `at` offsets where each of the strings at some indices ends, if the first of
@@ -211,15 +226,15 @@ fn put_ends<O: Offset>(
 ) -> usize
     requires within { All (λ i. i + 1 < length offsets.now) indices.now }
     requires ascending { IsNonDecreasing (map O.number offsets.now) }
-    requires fits { from + sum (items_at (sizes (map O.number offsets.now)) indices.now) < O.limit }
-    requires in_usize { from + sum (items_at (sizes (map O.number offsets.now)) indices.now) < 2 ^ 64 }
+    requires fits { from + size_of (map O.number offsets.now) indices.now < O.limit }
+    requires in_usize { from + size_of (map O.number offsets.now) indices.now < 2 ^ 64 }
     requires room { at + length indices.now ≤ length out.old }
     ensures ends { take (at + length indices.now) (map O.number out.new)
         ≡ take at (map O.number out.old)
         ++ ends_from from (items_at (sizes (map O.number offsets.now)) indices.now) }
     ensures behind { drop (at + length indices.now) (map O.number out.new)
         ≡ drop (at + length indices.now) (map O.number out.old) }
-    ensures end { result ≡ from + sum (items_at (sizes (map O.number offsets.now)) indices.now) }
+    ensures end { result ≡ from + size_of (map O.number offsets.now) indices.now }
 {
     let mut end = from;
     for k in 0..indices.len() {
@@ -234,14 +249,14 @@ fn put_ends<O: Offset>(
 fn take_offsets<O: Offset>(indices: &[usize], offsets: &[O], out: &mut [O]) -> usize
     requires within { All (λ i. i + 1 < length offsets.now) indices.now }
     requires ascending { IsNonDecreasing (map O.number offsets.now) }
-    requires fits { sum (items_at (sizes (map O.number offsets.now)) indices.now) < O.limit }
-    requires in_usize { sum (items_at (sizes (map O.number offsets.now)) indices.now) < 2 ^ 64 }
+    requires fits { size_of (map O.number offsets.now) indices.now < O.limit }
+    requires in_usize { size_of (map O.number offsets.now) indices.now < 2 ^ 64 }
     requires room { length indices.now < length out.old }
     ensures offsets { take (length indices.now + 1) (map O.number out.new)
         ≡ offsets_of (items_at (sizes (map O.number offsets.now)) indices.now) }
     ensures behind { drop (length indices.now + 1) (map O.number out.new)
         ≡ drop (length indices.now + 1) (map O.number out.old) }
-    ensures size { result ≡ sum (items_at (sizes (map O.number offsets.now)) indices.now) }
+    ensures size { result ≡ size_of (map O.number offsets.now) indices.now }
 {
     set_offset(out, 0, 0);
     put_ends(indices, offsets, 0, out, 1)

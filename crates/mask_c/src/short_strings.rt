@@ -2,11 +2,10 @@
 //! written over that.
 
 ghost use Rattle.std.specs.Prelude.{◌≡◌, ◌+◌, ◌-◌, ◌<◌, ◌≤◌, ◌^◌, ◌++◌, ◌*◌, ◌⊎◌, All, drop, length, map, slice_index, slice_range, take};
-ghost use Rattle.std.specs.List.{concat, sum};
 ghost use Rattle.std.specs.List.Sorted.{IsNonDecreasing};
-ghost use Rattle.mask_c.specs.Strings.{items_at, sizes, strings};
+ghost use Rattle.mask_c.specs.Strings.{bytes_of, size_of};
 
-use crate::offsets::{Offset, offset_at, size_at};
+use crate::offsets::{Offset, offset_at, size_at, string_at};
 
 /// How many words of eight bytes to copy for each string, by the strings from the first index to the last: none
 /// where these are long, where most are taken, or where most are empty.
@@ -47,78 +46,16 @@ fn are_apart<O: Offset>(indices: &[usize], offsets: &[O]) -> bool
     apart >= indices.len() / 4
 }
 
-/// Writes the first of the strings at some indices behind the first `at` bytes, two or four words for each, and
-/// other bytes than before where the last of them come. Answers how many strings these are, and how many bytes
-/// there are then.
+/// How many of the strings at some indices have `WORDS` words of others behind them.
 #[inline]
-pub(crate) fn put_first<O: Offset>(
-    words: usize,
-    indices: &[usize],
-    offsets: &[O],
-    string_bytes: &[u8],
-    out: &mut [u8],
-    at: usize,
-) -> (usize, usize)
-    requires within { All (λ i. i + 1 < length offsets.now) indices.now }
-    requires ascending { IsNonDecreasing (map O.number offsets.now) }
-    requires covered { slice_index (map O.number offsets.now) (length offsets.now - 1)
-        ≤ length string_bytes.now }
-    requires room { at + sum (items_at (sizes (map O.number offsets.now)) indices.now) ≤ length out.old }
-    ensures within { result.0 ≤ length indices.now }
-    ensures strings { take result.1 out.new ≡ take at out.old
-        ++ concat (items_at (strings (map O.number offsets.now) string_bytes.now) (take result.0 indices.now)) }
-    ensures behind { drop (at + sum (items_at (sizes (map O.number offsets.now)) indices.now)) out.new
-        ≡ drop (at + sum (items_at (sizes (map O.number offsets.now)) indices.now)) out.old }
-    ensures size { result.1
-        ≡ at + sum (items_at (sizes (map O.number offsets.now)) (take result.0 indices.now)) }
-{
-    match words {
-        2 => put_before_last::<2, _>(indices, offsets, string_bytes, out, at),
-        _ => put_before_last::<4, _>(indices, offsets, string_bytes, out, at),
-    }
-}
-
-// The same, where `WORDS` words of eight bytes are copied for each string.
-#[inline]
-fn put_before_last<const WORDS: usize, O: Offset>(
-    indices: &[usize],
-    offsets: &[O],
-    string_bytes: &[u8],
-    out: &mut [u8],
-    at: usize,
-) -> (usize, usize)
+pub(crate) fn before_last<const WORDS: usize, O: Offset>(indices: &[usize], offsets: &[O]) -> usize
     requires few { WORDS ≤ 4 }
     requires within { All (λ i. i + 1 < length offsets.now) indices.now }
     requires ascending { IsNonDecreasing (map O.number offsets.now) }
-    requires covered { slice_index (map O.number offsets.now) (length offsets.now - 1)
-        ≤ length string_bytes.now }
-    requires room { at + sum (items_at (sizes (map O.number offsets.now)) indices.now) ≤ length out.old }
-    ensures within { result.0 ≤ length indices.now }
-    ensures strings { take result.1 out.new ≡ take at out.old
-        ++ concat (items_at (strings (map O.number offsets.now) string_bytes.now) (take result.0 indices.now)) }
-    ensures behind { drop (at + sum (items_at (sizes (map O.number offsets.now)) indices.now)) out.new
-        ≡ drop (at + sum (items_at (sizes (map O.number offsets.now)) indices.now)) out.old }
-    ensures size { result.1
-        ≡ at + sum (items_at (sizes (map O.number offsets.now)) (take result.0 indices.now)) }
-{
-    let first = before_last::<WORDS, _>(indices, offsets);
-    if first == 0 {
-        return (0, at);
-    }
-    let written = put_wide::<WORDS, _>(&indices[..first], offsets, string_bytes, out, at);
-    (first, written)
-}
-
-// How many strings have as many bytes of others behind them.
-#[inline]
-fn before_last<const WORDS: usize, O: Offset>(indices: &[usize], offsets: &[O]) -> usize
-    requires few { WORDS ≤ 4 }
-    requires within { All (λ i. i + 1 < length offsets.now) indices.now }
-    requires ascending { IsNonDecreasing (map O.number offsets.now) }
-    requires fits { sum (items_at (sizes (map O.number offsets.now)) indices.now) < 2 ^ 64 }
+    requires fits { size_of (map O.number offsets.now) indices.now < 2 ^ 64 }
     ensures within { result ≤ length indices.now }
-    ensures behind { (result ≡ 0) ⊎ (sum (items_at (sizes (map O.number offsets.now)) (take result indices.now))
-        + 8 * WORDS ≤ sum (items_at (sizes (map O.number offsets.now)) indices.now)) }
+    ensures behind { (result ≡ 0) ⊎ (size_of (map O.number offsets.now) (take result indices.now)
+        + 8 * WORDS ≤ size_of (map O.number offsets.now) indices.now) }
 {
     let (mut first, mut behind) = (indices.len(), 0);
     while behind < 8 * WORDS {
@@ -131,29 +68,34 @@ fn before_last<const WORDS: usize, O: Offset>(indices: &[usize], offsets: &[O]) 
     first
 }
 
-// Writes the strings, and up to `WORDS` words behind them. Answers how many bytes there are then.
+/// Writes the first of the strings at some indices behind the first `at` bytes, `WORDS` words of eight bytes for each,
+/// and other bytes than before where the last of them come. Answers how many bytes there are then.
 #[inline]
-fn put_wide<const WORDS: usize, O: Offset>(
+pub(crate) fn put_wide<const WORDS: usize, O: Offset>(
+    first: usize,
     indices: &[usize],
     offsets: &[O],
     string_bytes: &[u8],
     out: &mut [u8],
     at: usize,
 ) -> usize
+    requires first { first ≤ length indices.now }
+    requires behind { (first ≡ 0) ⊎ (size_of (map O.number offsets.now) (take first indices.now)
+        + 8 * WORDS ≤ size_of (map O.number offsets.now) indices.now) }
     requires within { All (λ i. i + 1 < length offsets.now) indices.now }
     requires ascending { IsNonDecreasing (map O.number offsets.now) }
     requires covered { slice_index (map O.number offsets.now) (length offsets.now - 1)
         ≤ length string_bytes.now }
-    requires room { at + sum (items_at (sizes (map O.number offsets.now)) indices.now) + 8 * WORDS ≤ length out.old }
+    requires room { at + size_of (map O.number offsets.now) indices.now ≤ length out.old }
     ensures strings { take result out.new ≡ take at out.old
-        ++ concat (items_at (strings (map O.number offsets.now) string_bytes.now) indices.now) }
-    ensures behind { drop (result + 8 * WORDS) out.new ≡ drop (result + 8 * WORDS) out.old }
-    ensures size { result ≡ at + sum (items_at (sizes (map O.number offsets.now)) indices.now) }
+        ++ bytes_of (map O.number offsets.now) string_bytes.now (take first indices.now) }
+    ensures behind { drop (at + size_of (map O.number offsets.now) indices.now) out.new
+        ≡ drop (at + size_of (map O.number offsets.now) indices.now) out.old }
+    ensures size { result ≡ at + size_of (map O.number offsets.now) (take first indices.now) }
 {
     let mut written = at;
-    for k in 0..indices.len() {
-        let from = offset_at(offsets, indices[k]);
-        let to = offset_at(offsets, indices[k] + 1);
+    for k in 0..first {
+        let (from, to) = string_at(offsets, indices[k]);
         written = put_one::<WORDS>(string_bytes, from, to, out, written);
     }
     written

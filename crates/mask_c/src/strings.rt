@@ -6,11 +6,11 @@ ghost use Rattle.std.specs.List.Sorted.{IsNonDecreasing};
 ghost use Rattle.mask_bits.specs.Bitmap.{bitmap};
 ghost use Rattle.mask_bits.specs.Buffer.{IsWithinBytes};
 ghost use Rattle.mask_bits.specs.Positions.{chosen};
-ghost use Rattle.mask_c.specs.Strings.{items_at, sizes, strings};
+ghost use Rattle.mask_c.specs.Strings.{bytes_of, items_at, size_of, sizes, strings};
 
 use crate::indices::indices_of_word;
-use crate::offsets::{Offset, offset_at};
-use crate::short_strings::{put_first, put_part, words_of_each};
+use crate::offsets::{Offset, string_at};
+use crate::short_strings::{before_last, put_part, put_wide, words_of_each};
 use mask_bits::BitChunks;
 
 /// Writes the bytes of the strings at the true values, one string behind another, to the front of `out`, and
@@ -39,8 +39,12 @@ pub extern "C" fn row_mask_choose_bytes_4(
     ensures behind { drop result out.new ≡ drop result out.old }
     ensures size { result ≡ sum (chosen (sizes offsets.now) (bitmap bytes.now offset len)) }
 {
-    let chunks = BitChunks::new(bytes, offset, len);
-    choose_strings(&chunks, offsets, string_bytes, out)
+    choose_strings(
+        &BitChunks::new(bytes, offset, len),
+        offsets,
+        string_bytes,
+        out,
+    )
 }
 
 /// Writes the bytes of the strings at the true values, one string behind another, to the front of `out`, and
@@ -69,8 +73,12 @@ pub extern "C" fn row_mask_choose_bytes_8(
     ensures behind { drop result out.new ≡ drop result out.old }
     ensures size { result ≡ sum (chosen (sizes offsets.now) (bitmap bytes.now offset len)) }
 {
-    let chunks = BitChunks::new(bytes, offset, len);
-    choose_strings(&chunks, offsets, string_bytes, out)
+    choose_strings(
+        &BitChunks::new(bytes, offset, len),
+        offsets,
+        string_bytes,
+        out,
+    )
 }
 
 /// Writes the bytes of the strings at `indices`, in their order and one behind another, to the front of
@@ -171,17 +179,16 @@ fn put_if_full<O: Offset>(
     requires ascending { IsNonDecreasing (map O.number offsets.now) }
     requires covered { slice_index (map O.number offsets.now) (length offsets.now - 1)
         ≤ length string_bytes.now }
-    requires room { at + sum (items_at (sizes (map O.number offsets.now)) waiting.now) ≤ length out.old }
+    requires room { at + size_of (map O.number offsets.now) waiting.now ≤ length out.old }
     ensures few { result.0 + more ≤ 64 }
     ensures within { result.0 ≤ length waiting.now }
     ensures later { at ≤ result.1 }
     ensures strings { take result.1 out.new
-        ++ concat (items_at (strings (map O.number offsets.now) string_bytes.now) (take result.0 waiting.now))
-        ≡ take at out.old
-        ++ concat (items_at (strings (map O.number offsets.now) string_bytes.now) waiting.now) }
+        ++ bytes_of (map O.number offsets.now) string_bytes.now (take result.0 waiting.now)
+        ≡ take at out.old ++ bytes_of (map O.number offsets.now) string_bytes.now waiting.now }
     ensures behind { drop result.1 out.new ≡ drop result.1 out.old }
-    ensures size { result.1 + sum (items_at (sizes (map O.number offsets.now)) (take result.0 waiting.now))
-        ≡ at + sum (items_at (sizes (map O.number offsets.now)) waiting.now) }
+    ensures size { result.1 + size_of (map O.number offsets.now) (take result.0 waiting.now)
+        ≡ at + size_of (map O.number offsets.now) waiting.now }
 {
     if waiting.len() + more <= 64 {
         return (waiting.len(), at);
@@ -203,42 +210,43 @@ fn put_strings<O: Offset>(
     requires ascending { IsNonDecreasing (map O.number offsets.now) }
     requires covered { slice_index (map O.number offsets.now) (length offsets.now - 1)
         ≤ length string_bytes.now }
-    requires room { at + sum (items_at (sizes (map O.number offsets.now)) indices.now) ≤ length out.old }
+    requires room { at + size_of (map O.number offsets.now) indices.now ≤ length out.old }
     ensures strings { take result out.new ≡ take at out.old
-        ++ concat (items_at (strings (map O.number offsets.now) string_bytes.now) indices.now) }
+        ++ bytes_of (map O.number offsets.now) string_bytes.now indices.now }
     ensures behind { drop result out.new ≡ drop result out.old }
-    ensures size { result ≡ at + sum (items_at (sizes (map O.number offsets.now)) indices.now) }
+    ensures size { result ≡ at + size_of (map O.number offsets.now) indices.now }
 {
-    let words = words_of_each(indices, offsets);
-    if words == 0 {
-        return put_runs(indices, offsets, string_bytes, out, at);
+    match words_of_each(indices, offsets) {
+        0 => put_runs(indices, offsets, string_bytes, out, at),
+        2 => put_short::<2, _>(indices, offsets, string_bytes, out, at),
+        _ => put_short::<4, _>(indices, offsets, string_bytes, out, at),
     }
-    put_short(words, indices, offsets, string_bytes, out, at)
 }
 
-// The same where strings are short, so that `words` words are copied for each. It isn't inlined: where it is, long
+// The same where strings are short: `WORDS` words are copied for each but the last. It isn't inlined: where it is, long
 // strings take longer.
 #[inline(never)]
-fn put_short<O: Offset>(
-    words: usize,
+fn put_short<const WORDS: usize, O: Offset>(
     indices: &[usize],
     offsets: &[O],
     string_bytes: &[u8],
     out: &mut [u8],
     at: usize,
 ) -> usize
+    requires few { WORDS ≤ 4 }
     requires within { All (λ i. i + 1 < length offsets.now) indices.now }
     requires ascending { IsNonDecreasing (map O.number offsets.now) }
     requires covered { slice_index (map O.number offsets.now) (length offsets.now - 1)
         ≤ length string_bytes.now }
-    requires room { at + sum (items_at (sizes (map O.number offsets.now)) indices.now) ≤ length out.old }
+    requires room { at + size_of (map O.number offsets.now) indices.now ≤ length out.old }
     ensures strings { take result out.new ≡ take at out.old
-        ++ concat (items_at (strings (map O.number offsets.now) string_bytes.now) indices.now) }
+        ++ bytes_of (map O.number offsets.now) string_bytes.now indices.now }
     ensures behind { drop result out.new ≡ drop result out.old }
-    ensures size { result ≡ at + sum (items_at (sizes (map O.number offsets.now)) indices.now) }
+    ensures size { result ≡ at + size_of (map O.number offsets.now) indices.now }
 {
-    let first = put_first(words, indices, offsets, string_bytes, out, at);
-    put_runs(&indices[first.0..], offsets, string_bytes, out, first.1)
+    let first = before_last::<WORDS, _>(indices, offsets);
+    let written = put_wide::<WORDS, _>(first, indices, offsets, string_bytes, out, at);
+    put_runs(&indices[first..], offsets, string_bytes, out, written)
 }
 
 // The same, where strings that are neighbors are copied at once.
@@ -254,16 +262,15 @@ fn put_runs<O: Offset>(
     requires ascending { IsNonDecreasing (map O.number offsets.now) }
     requires covered { slice_index (map O.number offsets.now) (length offsets.now - 1)
         ≤ length string_bytes.now }
-    requires room { at + sum (items_at (sizes (map O.number offsets.now)) indices.now) ≤ length out.old }
+    requires room { at + size_of (map O.number offsets.now) indices.now ≤ length out.old }
     ensures strings { take result out.new ≡ take at out.old
-        ++ concat (items_at (strings (map O.number offsets.now) string_bytes.now) indices.now) }
+        ++ bytes_of (map O.number offsets.now) string_bytes.now indices.now }
     ensures behind { drop result out.new ≡ drop result out.old }
-    ensures size { result ≡ at + sum (items_at (sizes (map O.number offsets.now)) indices.now) }
+    ensures size { result ≡ at + size_of (map O.number offsets.now) indices.now }
 {
     let (mut written, mut begin, mut end) = (at, 0, 0);
     for k in 0..indices.len() {
-        let from = offset_at(offsets, indices[k]);
-        let to = offset_at(offsets, indices[k] + 1);
+        let (from, to) = string_at(offsets, indices[k]);
         let part = part_before(string_bytes, begin, end, from, out, written);
         begin = part.0;
         written = part.1;

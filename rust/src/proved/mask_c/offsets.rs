@@ -112,7 +112,14 @@ fn set_offset<O: Offset>(offsets: &mut [O], i: usize, n: usize) {
 // How many bytes string `i` has.
 #[inline]
 pub(crate) fn size_at<O: Offset>(offsets: &[O], i: usize) -> usize {
-    offset_at(offsets, i + 1) - offset_at(offsets, i)
+    let (from, to) = string_at(offsets, i);
+    to - from
+}
+
+/// Where string `i` begins, and where it ends.
+#[inline]
+pub(crate) fn string_at<O: Offset>(offsets: &[O], i: usize) -> (usize, usize) {
+    (offset_at(offsets, i), offset_at(offsets, i + 1))
 }
 
 // Writes behind the first `at` offsets where each of the strings at some indices ends, if the first of

@@ -3,7 +3,7 @@
 //! written over that.
 
 use crate::kit::prelude::*;
-use crate::proved::mask_c::offsets::{Offset, offset_at, size_at};
+use crate::proved::mask_c::offsets::{Offset, offset_at, size_at, string_at};
 
 /// How many words of eight bytes to copy for each string, by the strings from the first index to the last: none
 /// where these are long, where most are taken, or where most are empty.
@@ -39,44 +39,12 @@ fn are_apart<O: Offset>(indices: &[usize], offsets: &[O]) -> bool {
     apart >= indices.len() / 4
 }
 
-/// Writes the first of the strings at some indices behind the first `at` bytes, two or four words for each, and
-/// other bytes than before where the last of them come. Answers how many strings these are, and how many bytes
-/// there are then.
+/// How many of the strings at some indices have `WORDS` words of others behind them.
 #[inline]
-pub(crate) fn put_first<O: Offset>(
-    words: usize,
+pub(crate) fn before_last<const WORDS: usize, O: Offset>(
     indices: &[usize],
     offsets: &[O],
-    string_bytes: &[u8],
-    out: &mut [u8],
-    at: usize,
-) -> (usize, usize) {
-    match words {
-        2 => put_before_last::<2, _>(indices, offsets, string_bytes, out, at),
-        _ => put_before_last::<4, _>(indices, offsets, string_bytes, out, at),
-    }
-}
-
-// The same, where `WORDS` words of eight bytes are copied for each string.
-#[inline]
-fn put_before_last<const WORDS: usize, O: Offset>(
-    indices: &[usize],
-    offsets: &[O],
-    string_bytes: &[u8],
-    out: &mut [u8],
-    at: usize,
-) -> (usize, usize) {
-    let first = before_last::<WORDS, _>(indices, offsets);
-    if first == 0 {
-        return (0, at);
-    }
-    let written = put_wide::<WORDS, _>(&indices[..first], offsets, string_bytes, out, at);
-    (first, written)
-}
-
-// How many strings have as many bytes of others behind them.
-#[inline]
-fn before_last<const WORDS: usize, O: Offset>(indices: &[usize], offsets: &[O]) -> usize {
+) -> usize {
     let (mut first, mut behind) = (indices.len(), 0);
     while behind < 8 * WORDS {
         if first == 0 {
@@ -88,9 +56,11 @@ fn before_last<const WORDS: usize, O: Offset>(indices: &[usize], offsets: &[O]) 
     first
 }
 
-// Writes the strings, and up to `WORDS` words behind them. Answers how many bytes there are then.
+/// Writes the first of the strings at some indices behind the first `at` bytes, `WORDS` words of eight bytes for each,
+/// and other bytes than before where the last of them come. Answers how many bytes there are then.
 #[inline]
-fn put_wide<const WORDS: usize, O: Offset>(
+pub(crate) fn put_wide<const WORDS: usize, O: Offset>(
+    first: usize,
     indices: &[usize],
     offsets: &[O],
     string_bytes: &[u8],
@@ -98,9 +68,8 @@ fn put_wide<const WORDS: usize, O: Offset>(
     at: usize,
 ) -> usize {
     let mut written = at;
-    for k in 0..indices.len() {
-        let from = offset_at(offsets, indices[k]);
-        let to = offset_at(offsets, indices[k] + 1);
+    for k in 0..first {
+        let (from, to) = string_at(offsets, indices[k]);
         written = put_one::<WORDS>(string_bytes, from, to, out, written);
     }
     written

@@ -4,8 +4,8 @@
 use crate::kit::prelude::*;
 use crate::proved::mask_bits::BitChunks;
 use crate::proved::mask_c::indices::indices_of_word;
-use crate::proved::mask_c::offsets::{Offset, offset_at};
-use crate::proved::mask_c::short_strings::{put_first, put_part, words_of_each};
+use crate::proved::mask_c::offsets::{Offset, string_at};
+use crate::proved::mask_c::short_strings::{before_last, put_part, put_wide, words_of_each};
 
 /// Writes the bytes of the strings at the true values, one string behind another, to the front of `out`, and
 /// answers how many these are. String `i` has the bytes from `offsets[i]` to `offsets[i + 1]`, and an offset
@@ -22,8 +22,7 @@ pub fn row_mask_choose_bytes_4(
     string_bytes: &[u8],
     out: &mut [u8],
 ) -> usize {
-    let chunks = BitChunks::new_proved(bytes, offset, len);
-    choose_strings(&chunks, offsets, string_bytes, out)
+    choose_strings(&BitChunks::new_proved(bytes, offset, len), offsets, string_bytes, out)
 }
 
 /// Writes the bytes of the strings at the true values, one string behind another, to the front of `out`, and
@@ -41,8 +40,7 @@ pub fn row_mask_choose_bytes_8(
     string_bytes: &[u8],
     out: &mut [u8],
 ) -> usize {
-    let chunks = BitChunks::new_proved(bytes, offset, len);
-    choose_strings(&chunks, offsets, string_bytes, out)
+    choose_strings(&BitChunks::new_proved(bytes, offset, len), offsets, string_bytes, out)
 }
 
 /// Writes the bytes of the strings at `indices`, in their order and one behind another, to the front of
@@ -124,26 +122,26 @@ pub(crate) fn put_strings<O: Offset>(
     out: &mut [u8],
     at: usize,
 ) -> usize {
-    let words = words_of_each(indices, offsets);
-    if words == 0 {
-        return put_runs(indices, offsets, string_bytes, out, at);
+    match words_of_each(indices, offsets) {
+        0 => put_runs(indices, offsets, string_bytes, out, at),
+        2 => put_short::<2, _>(indices, offsets, string_bytes, out, at),
+        _ => put_short::<4, _>(indices, offsets, string_bytes, out, at),
     }
-    put_short(words, indices, offsets, string_bytes, out, at)
 }
 
-// The same where strings are short, so that `words` words are copied for each. It isn't inlined: where it is, long
+// The same where strings are short: `WORDS` words are copied for each but the last. It isn't inlined: where it is, long
 // strings take longer.
 #[inline(never)]
-fn put_short<O: Offset>(
-    words: usize,
+fn put_short<const WORDS: usize, O: Offset>(
     indices: &[usize],
     offsets: &[O],
     string_bytes: &[u8],
     out: &mut [u8],
     at: usize,
 ) -> usize {
-    let first = put_first(words, indices, offsets, string_bytes, out, at);
-    put_runs(&indices[first.0..], offsets, string_bytes, out, first.1)
+    let first = before_last::<WORDS, _>(indices, offsets);
+    let written = put_wide::<WORDS, _>(first, indices, offsets, string_bytes, out, at);
+    put_runs(&indices[first..], offsets, string_bytes, out, written)
 }
 
 // The same, where strings that are neighbors are copied at once.
@@ -157,8 +155,7 @@ fn put_runs<O: Offset>(
 ) -> usize {
     let (mut written, mut begin, mut end) = (at, 0, 0);
     for k in 0..indices.len() {
-        let from = offset_at(offsets, indices[k]);
-        let to = offset_at(offsets, indices[k] + 1);
+        let (from, to) = string_at(offsets, indices[k]);
         let part = part_before(string_bytes, begin, end, from, out, written);
         begin = part.0;
         written = part.1;

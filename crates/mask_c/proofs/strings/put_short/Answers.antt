@@ -7,27 +7,27 @@ use Rattle.mask_c.proofs.strings.put_short.Goals as goal
 pub put_runs-requires-clause-room : goal.put_runs-requires-clause-room
 put_runs-requires-clause-room g c =
     let ls = sizes (map g.O.Offset.number c.args.offsets.now) in
-    let k = c.put_first-first.result.0 in
-    omega (arith, c.put_first-first.ensures.size, sum-both ls c.args.indices.now k, ap (λ ps. sum (items_at ls ps)) (rest-of c.args.indices.now k), c.requires.room, c.put_first-first.auto.out)
+    let k = c.before_last-first.result in
+    omega (arith, c.put_wide-written.ensures.size, sum-both ls c.args.indices.now k, ap (λ ps. sum (items_at ls ps)) (rest-of c.args.indices.now k), c.requires.room, c.put_wide-written.auto.out)
 
 pub returns-clause-strings : goal.returns-clause-strings
 returns-clause-strings g c =
-    let first = c.put_first-first in
-    let k = first.result.0 in
+    let wide = c.put_wide-written in
+    let k = c.before_last-first.result in
     let xss = strings (map g.O.Offset.number c.args.offsets.now) c.args.string_bytes.now in
-    both-parts xss c.args.indices.now (take c.args.at c.args.out.now) (take first.result.1 first.new.out) (take c.put_runs.result c.put_runs.new.out) k first.ensures.strings
-    (c.put_runs.ensures.strings ∙ ap (λ ps. take first.result.1 first.new.out ++ concat (items_at xss ps)) (rest-of c.args.indices.now k))
+    both-parts xss c.args.indices.now (take c.args.at c.args.out.now) (take wide.result wide.new.out) (take c.put_runs.result c.put_runs.new.out) k wide.ensures.strings
+    (c.put_runs.ensures.strings ∙ ap (λ ps. take wide.result wide.new.out ++ concat (items_at xss ps)) (rest-of c.args.indices.now k))
 
 pub returns-clause-behind : goal.returns-clause-behind
 returns-clause-behind g c =
     let ls = sizes (map g.O.Offset.number c.args.offsets.now) in
-    let first = c.put_first-first in
-    let k = first.result.0 in
-    let total : c.put_runs.result ≡ c.args.at + sum (items_at ls c.args.indices.now) = omega (arith, c.put_runs.ensures.size, first.ensures.size, sum-both ls c.args.indices.now k, ap (λ ps. sum (items_at ls ps)) (rest-of c.args.indices.now k)) in
-    c.put_runs.ensures.behind ∙ ap (λ n. drop n first.new.out) total ∙ first.ensures.behind ∙ sym (ap (λ n. drop n c.args.out.now) total)
+    let wide = c.put_wide-written in
+    let k = c.before_last-first.result in
+    let total : c.put_runs.result ≡ c.args.at + sum (items_at ls c.args.indices.now) = omega (arith, c.put_runs.ensures.size, wide.ensures.size, sum-both ls c.args.indices.now k, ap (λ ps. sum (items_at ls ps)) (rest-of c.args.indices.now k)) in
+    c.put_runs.ensures.behind ∙ ap (λ n. drop n wide.new.out) total ∙ wide.ensures.behind ∙ sym (ap (λ n. drop n c.args.out.now) total)
 
 pub returns-clause-size : goal.returns-clause-size
 returns-clause-size g c =
     let ls = sizes (map g.O.Offset.number c.args.offsets.now) in
-    let k = c.put_first-first.result.0 in
-    omega (arith, c.put_runs.ensures.size, c.put_first-first.ensures.size, sum-both ls c.args.indices.now k, ap (λ ps. sum (items_at ls ps)) (rest-of c.args.indices.now k))
+    let k = c.before_last-first.result in
+    omega (arith, c.put_runs.ensures.size, c.put_wide-written.ensures.size, sum-both ls c.args.indices.now k, ap (λ ps. sum (items_at ls ps)) (rest-of c.args.indices.now k))
