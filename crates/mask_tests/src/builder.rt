@@ -1,41 +1,32 @@
 //! Calls of builders.
 
 use crate::fault::Fault;
-use crate::tell::tell_fault;
+use crate::packed::empty;
+use crate::tell::Tell;
 use crate::text::Text;
-use crate::walks::write_buffer;
 use crate::words::{Word, number, pair};
 use mask_bits::{BitBuffer, BitBufferMut};
 use std::alloc::{AllocError, Global};
-use std::mem;
-
-const UNREAD: Fault = Fault::Malformed("a builder's operation");
 
 const NO_BUILDER: Fault = Fault::Unmet("a builder that is there");
 
-// A builder, or the buffer that it made.
+// A builder, and the buffer that it made: one of both at most.
 #[derive(Drop)]
-enum Built {
-    Nothing,
-    Builder(BitBufferMut),
-    Frozen(BitBuffer),
+struct Built {
+    builder: Option<BitBufferMut>,
+    frozen: Option<BitBuffer>,
 }
 
 impl Built {
     fn start(&mut self, made: Result<BitBufferMut, AllocError>) -> Result<(), Fault> {
-        *self = Built::Builder(made?);
+        self.builder = Some(made?);
         Ok(())
     }
 
     // Makes the buffer. The builder is gone where that is refused.
     fn freeze(&mut self) -> Result<(), Fault> {
-        match mem::replace(self, Built::Nothing) {
-            Built::Builder(builder) => {
-                *self = Built::Frozen(frozen(builder)?);
-                Ok(())
-            }
-            _ => Err(NO_BUILDER),
-        }
+        self.frozen = Some(frozen(self.builder.take().ok_or(NO_BUILDER)?)?);
+        Ok(())
     }
 }
 
@@ -49,98 +40,71 @@ fn frozen(builder: BitBufferMut) -> Result<BitBuffer, Fault> {
     }
 }
 
-// Writes the list of a buffer, and freezes a builder for that.
-fn write_built(text: &mut Text, built: &mut Built) {
-    if matches!(built, Built::Builder(_)) {
-        if let Err(fault) = built.freeze() {
-            tell_fault(text, fault);
-        }
-    }
-    if let Built::Frozen(buffer) = built {
-        write_buffer(text, buffer);
-    }
-}
-
 // No list of a test is longer.
 const LONGEST: usize = 10_000_000;
 
-// What is done to a builder.
+// What can be done to a builder.
+const FORMS: &str = "with_capacity new_set new_unset n w b set unset freeze";
+
+// What is done to a builder: one of these, with numbers or a buffer.
 #[derive(Drop)]
-enum Operation {
-    WithCapacity(usize),
-    NewSet(usize),
-    NewUnset(usize),
-    AppendN(bool, usize),
-    PushWord(u64, usize),
-    AppendBuffer(BitBuffer),
-    Set(usize),
-    Unset(usize),
-    Freeze,
+struct Operation {
+    form: &'static str,
+    first: usize,
+    count: usize,
+    buffer: BitBuffer,
 }
 
 impl Operation {
+    fn new(form: &'static str, (first, count): (usize, usize), buffer: BitBuffer) -> Operation {
+        Operation {
+            form,
+            first,
+            count,
+            buffer,
+        }
+    }
+
+    fn read(alloc: Global, word: &str) -> Result<Operation, Fault> {
+        let (name, rest) = word.split_once(":").unwrap_or((word, "0"));
+        match FORMS.split(' ').find(|form| *form == name) {
+            Some(form @ "b") => Ok(Operation::new(form, (0, 0), BitBuffer::read(alloc, rest)?)),
+            Some(form @ ("n" | "w")) => {
+                let numbers = pair(rest, ":", "two numbers")?;
+                Ok(Operation::new(form, numbers, empty()))
+            }
+            Some(form) => Ok(Operation::new(form, (number(rest)?, 0), empty())),
+            None => Err(Fault::Malformed("a builder's operation")),
+        }
+    }
+
     fn make(&self, alloc: Global, built: &mut Built) -> Result<(), Fault> {
-        match self {
-            Operation::WithCapacity(n) => built.start(BitBufferMut::with_capacity(alloc, *n)),
-            Operation::NewSet(len) => built.start(BitBufferMut::new_set(alloc, *len)),
-            Operation::NewUnset(len) => built.start(BitBufferMut::new_unset(alloc, *len)),
-            Operation::Freeze => built.freeze(),
-            _ => match built {
-                Built::Builder(builder) => self.change(builder),
-                _ => Err(NO_BUILDER),
+        match self.form {
+            "with_capacity" => built.start(BitBufferMut::with_capacity(alloc, self.first)),
+            "new_set" => built.start(BitBufferMut::new_set(alloc, self.first)),
+            "new_unset" => built.start(BitBufferMut::new_unset(alloc, self.first)),
+            "freeze" => built.freeze(),
+            _ => match &mut built.builder {
+                Some(builder) => self.change(builder),
+                None => Err(NO_BUILDER),
             },
         }
     }
 
     fn change(&self, builder: &mut BitBufferMut) -> Result<(), Fault> {
         let len = builder.len();
-        if len > LONGEST {
+        if len.max(self.count).max(self.buffer.len()) > LONGEST {
             return Err(Fault::Unmet("a length that fits"));
         }
-        match self {
-            Operation::AppendN(value, n) if *n <= LONGEST => Ok(builder.append_n(*value, *n)?),
-            Operation::PushWord(word, count) if *count <= 64 => Ok(builder.push_word(
-                *word, *count,
-            )?),
-            Operation::AppendBuffer(other) if other.len() <= LONGEST => Ok(builder.append_buffer(
-                other,
-            )?),
-            Operation::Set(i) if *i < len => Ok(builder.set(*i)),
-            Operation::Unset(i) if *i < len => Ok(builder.unset(*i)),
-            Operation::Set(_) | Operation::Unset(_) => Err(Fault::Unmet(
-                "an index below the length",
-            )),
-            _ => Err(Fault::Unmet("a length that fits, and 64 bits at most")),
+        match self.form {
+            "n" => Ok(builder.append_n(self.first == 1, self.count)?),
+            "w" if self.count <= 64 => Ok(builder.push_word(self.first as u64, self.count)?),
+            "b" => Ok(builder.append_buffer(&self.buffer)?),
+            "set" if self.first < len => Ok(builder.set(self.first)),
+            "unset" if self.first < len => Ok(builder.unset(self.first)),
+            "w" => Err(Fault::Unmet("64 bits at most")),
+            _ => Err(Fault::Unmet("an index below the length")),
         }
-    }
-
-    fn read(alloc: Global, word: &str) -> Result<Operation, Fault> {
-        match word.split_once(":") {
-            None if word == "freeze" => Ok(Operation::Freeze),
-            Some(("b", rest)) => Ok(Operation::AppendBuffer(BitBuffer::read(alloc, rest)?)),
-            Some((form @ ("n" | "w"), rest)) => append(form, pair(rest, ":", "two numbers")?),
-            Some((form, rest)) => of_number(form, number(rest)?),
-            None => Err(UNREAD),
-        }
-    }
-}
-
-fn append(form: &str, (first, count): (usize, usize)) -> Result<Operation, Fault> {
-    match form {
-        "n" => Ok(Operation::AppendN(first == 1, count)),
-        "w" => Ok(Operation::PushWord(first as u64, count)),
-        _ => Err(UNREAD),
-    }
-}
-
-fn of_number(form: &str, number: usize) -> Result<Operation, Fault> {
-    match form {
-        "with_capacity" => Ok(Operation::WithCapacity(number)),
-        "new_set" => Ok(Operation::NewSet(number)),
-        "new_unset" => Ok(Operation::NewUnset(number)),
-        "set" => Ok(Operation::Set(number)),
-        "unset" => Ok(Operation::Unset(number)),
-        _ => Err(UNREAD),
     }
 }
 
@@ -154,7 +118,6 @@ pub struct BuilderCall {
 }
 
 impl BuilderCall {
-    /// Does the last operation.
     pub fn make(&mut self, alloc: Global) -> Result<(), Fault> {
         for _ in 0..self.times {
             self.last.make(alloc, &mut self.built)?;
@@ -163,10 +126,15 @@ impl BuilderCall {
         Ok(())
     }
 
-    /// Writes what was made, once all is done.
+    /// Writes the list of what was made, once all is done. A builder is frozen for that.
     pub fn write(&mut self, text: &mut Text) {
         if self.times == 0 {
-            write_built(text, &mut self.built);
+            if self.built.builder.is_some() {
+                self.built.freeze().tell(text);
+            }
+            if let Some(buffer) = &self.built.frozen {
+                buffer.tell(text);
+            }
         }
     }
 
@@ -178,12 +146,12 @@ impl BuilderCall {
 
     /// Whether the builder is lent, and there still where it was refused memory.
     pub fn lends(&self) -> bool {
-        !matches!(self.last, Operation::Freeze)
+        self.last.form != "freeze"
     }
 
     /// Does no more than to make the buffer.
     pub fn give_up(&mut self) {
-        self.last = Operation::Freeze;
+        self.last.form = "freeze";
         self.times = 1;
     }
 }
@@ -194,8 +162,11 @@ impl BuilderCall {
 impl Word for Option<BuilderCall> {
     fn read(alloc: Global, words: &str) -> Result<Option<BuilderCall>, Fault> {
         let mut call = BuilderCall {
-            built: Built::Nothing,
-            last: Operation::Freeze,
+            built: Built {
+                builder: None,
+                frozen: None,
+            },
+            last: Operation::new("freeze", (0, 0), empty()),
             times: 0,
         };
         for word in words.split(' ') {

@@ -1,6 +1,6 @@
 //! Why there is no answer.
 
-use std::alloc::{AllocError, AllocFailed};
+use std::alloc::AllocError;
 use vortex_mask::MaskError;
 
 /// Why a call has no answer.
@@ -30,12 +30,6 @@ impl From<MaskError> for Fault {
 
 impl From<AllocError> for Fault {
     fn from(_error: AllocError) -> Fault {
-        Fault::Memory
-    }
-}
-
-impl<T: Drop> From<AllocFailed<T>> for Fault {
-    fn from(_failed: AllocFailed<T>) -> Fault {
         Fault::Memory
     }
 }

@@ -1,5 +1,8 @@
 //! Buffers with a list of where they are true.
 
+ghost use Rattle.std.specs.Prelude.{◌≡◌, IsTrue, length};
+ghost use Rattle.mask_bits.specs.Positions.{count};
+
 use crate::fault::Fault;
 use crate::words::{Word, halves, number};
 use mask_bits::{BitBuffer, laws};
@@ -25,6 +28,15 @@ impl Model for Listed {
 
     ghost invariant = { λ l. IsStrictlyIncreasing l.indices.items
         × All (λ i. i < length (values l.buffer)) l.indices.items };
+}
+
+impl Listed {
+    /// Whether it has a value for each true one of these rows.
+    pub(crate) fn fits(&self, rows: &Listed) -> bool
+        ensures { IsTrue result → length self.now ≡ count rows.now }
+    {
+        self.buffer.len() == rows.buffer.true_count()
+    }
 }
 
 /// A buffer with its indices.

@@ -8,19 +8,16 @@ mod builder;
 mod call;
 mod fault;
 mod held;
-mod kernels;
 mod lines;
 mod listed;
 mod mask_word;
 mod masks;
-mod mixed;
 mod operands;
 mod others;
 mod packed;
 mod refused;
 mod rows;
 mod tell;
-mod tested;
 mod text;
 mod walks;
 mod words;
@@ -37,7 +34,11 @@ const WRONG: u8 = 1;
 const NOT_READ_OR_WRITTEN: u8 = 3;
 
 fn main(rt: HostRuntime) -> ExitCode {
-    ExitCode::from(status(check(&rt)))
+    match check(&rt) {
+        Ok(0) => ExitCode::SUCCESS,
+        Ok(_) => ExitCode::from(WRONG),
+        Err(_) => ExitCode::from(NOT_READ_OR_WRITTEN),
+    }
 }
 
 // The first argument says what the rows are for.
@@ -46,13 +47,5 @@ fn check<R: Env + Input + Print + AllocGlobal>(rt: &R) -> io::Result<usize> {
         Some(mode) if mode.as_str() == "refused" => refused::check(rt),
         Some(_) => rows::check(rt, Detail::Whole),
         None => rows::check(rt, Detail::Short),
-    }
-}
-
-fn status(wrong: io::Result<usize>) -> u8 {
-    match wrong {
-        Ok(0) => 0,
-        Ok(_) => WRONG,
-        Err(_) => NOT_READ_OR_WRITTEN,
     }
 }

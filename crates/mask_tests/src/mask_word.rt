@@ -2,7 +2,7 @@
 
 use crate::fault::Fault;
 use crate::listed::Ranged;
-use crate::packed::{self, Packed};
+use crate::packed::from_bools;
 use crate::words::{Word, number, values};
 use mask_bits::BitBuffer;
 use std::alloc::Global;
@@ -46,12 +46,15 @@ fn mask(alloc: Global, word: &str) -> Result<Mask, Fault> {
     match word.split_once(":") {
         Some(("all", len)) => Ok(Mask::new_true(number(len)?)),
         Some(("none", len)) => Ok(Mask::new_false(number(len)?)),
-        Some(("bytes", _)) => of_packed(alloc, word),
-        Some(("every" | "first" | "at", _)) | None => of_bits(alloc, word),
-        Some(("ranged", rest)) if rest.contains("..") => of_ranges(alloc, rest),
+        Some(("bytes" | "every" | "first" | "at", _)) | None => {
+            Ok(Mask::from_buffer(alloc, BitBuffer::read(alloc, word)?)?)
+        }
+        Some(("ranged", rest)) if rest.contains("..") => {
+            Ok(Ranged::read(alloc, rest, ":")?.mask(alloc)?)
+        }
         Some((form, list)) => match number(form) {
             Ok(len) => listed(alloc, len, list),
-            Err(_) => by_constructor(alloc, form, values(alloc, list)?),
+            Err(_) => by_values(alloc, form, &values(alloc, list)?),
         },
     }
 }
@@ -64,79 +67,45 @@ fn listed(alloc: Global, len: usize, list: &str) -> Result<Mask, Fault> {
     Ok(Mask::from_indices(alloc, len, indices.into_iter())?)
 }
 
-fn of_ranges(alloc: Global, word: &str) -> Result<Mask, Fault> {
-    Ok(Ranged::read(alloc, word, ":")?.mask(alloc)?)
+fn by_values(alloc: Global, form: &str, values: &[bool]) -> Result<Mask, Fault> {
+    by_constructor(alloc, form, values, &from_bools(alloc, values)?)
 }
 
-fn of_packed(alloc: Global, word: &str) -> Result<Mask, Fault> {
-    Ok(Mask::from_buffer(alloc, BitBuffer::read(alloc, word)?)?)
-}
-
-fn of_bits(alloc: Global, word: &str) -> Result<Mask, Fault> {
-    if Packed::of_word(word).is_some() {
-        of_packed(alloc, word)
-    } else {
-        Ok(Mask::from_bools(alloc, values(alloc, word)?.into_iter())?)
-    }
-}
-
-// The mask of these values by a constructor of truth values, or of a buffer.
-fn by_constructor(alloc: Global, form: &str, values: Vec<bool>) -> Result<Mask, Fault> {
-    match form {
-        "bools" => Ok(Mask::from_bools(alloc, values.iter().copied())?),
-        "rows" => Ok(Mask::from_rows(alloc, &values, |row| *row)?),
-        "buffer" | "ranged" | "indices" | "excluded" | "common" | "slices" | "concat" | "masks" => {
-            of_buffer(alloc, form, packed::from_bools(alloc, &values)?)
-        }
-        _ => Err(Fault::Malformed("a mask")),
-    }
-}
-
-// By one of a buffer, of lists of what it holds, or of masks.
-fn of_buffer(alloc: Global, form: &str, buffer: BitBuffer) -> Result<Mask, Fault> {
+// The mask of these values by a constructor of truth values, of a buffer, of lists of what it holds, or of masks: the
+// first third, and the rest. It holds nothing itself, so that each refusal is proved soon.
+fn by_constructor(
+    alloc: Global,
+    form: &str,
+    values: &[bool],
+    buffer: &BitBuffer,
+) -> Result<Mask, Fault> {
     Ok(match form {
-        "buffer" => Mask::from_buffer(alloc, buffer),
-        "ranged" => of_runs(alloc, buffer),
+        "bools" => Mask::from_bools(alloc, values.iter().copied()),
+        "rows" => Mask::from_rows(alloc, values, |row| *row),
+        "buffer" => Mask::from_buffer(alloc, buffer.clone()?),
+        "ranged" => Ranged::of_runs(alloc, buffer.clone()?)?.mask(alloc),
         "indices" => Mask::from_indices(alloc, buffer.len(), buffer.set_indices()),
         "excluded" => of_excluded(alloc, buffer),
-        "common" => of_common(alloc, &buffer),
-        "slices" => of_slices(alloc, &buffer),
-        _ => of_parts(alloc, form, Mask::from_buffer(alloc, buffer)),
+        "common" => of_common(alloc, buffer),
+        "slices" => Mask::from_slices(alloc, buffer.len(), buffer.runs(alloc)?),
+        "concat" => Mask::concat(alloc, thirds(alloc, buffer)?.iter()),
+        "masks" => Mask::from_masks(alloc, thirds(alloc, buffer)?.into_iter()),
+        _ => return Err(Fault::Malformed("a mask")),
     }?)
 }
 
-fn of_runs(alloc: Global, buffer: BitBuffer) -> Result<Mask, MaskError> {
-    Ranged::of_runs(alloc, buffer)?.mask(alloc)
-}
-
-fn of_excluded(alloc: Global, buffer: BitBuffer) -> Result<Mask, MaskError> {
+fn of_excluded(alloc: Global, buffer: &BitBuffer) -> Result<Mask, MaskError> {
     let excluded = buffer.not(alloc)?;
     Mask::from_excluded_indices(alloc, buffer.len(), excluded.set_indices())
 }
 
 fn of_common(alloc: Global, buffer: &BitBuffer) -> Result<Mask, MaskError> {
-    Mask::from_intersection_indices(
-        alloc,
-        buffer.len(),
-        buffer.set_indices(),
-        buffer.set_indices(),
-    )
+    let (lhs, rhs) = (buffer.set_indices(), buffer.set_indices());
+    Mask::from_intersection_indices(alloc, buffer.len(), lhs, rhs)
 }
 
-fn of_slices(alloc: Global, buffer: &BitBuffer) -> Result<Mask, MaskError> {
-    Mask::from_slices(alloc, buffer.len(), buffer.runs(alloc)?)
-}
-
-// By one of masks: the first third, and the rest.
-fn of_parts(alloc: Global, form: &str, mask: Result<Mask, MaskError>) -> Result<Mask, MaskError> {
-    let parts = thirds(alloc, &mask?)?;
-    match form {
-        "concat" => Mask::concat(alloc, parts.iter()),
-        _ => Mask::from_masks(alloc, parts.into_iter()),
-    }
-}
-
-fn thirds(alloc: Global, mask: &Mask) -> Result<[Mask; 2], MaskError> {
+fn thirds(alloc: Global, buffer: &BitBuffer) -> Result<[Mask; 2], MaskError> {
+    let mask = Mask::from_buffer(alloc, buffer.clone()?)?;
     let third = mask.len() / 3;
     Ok([
         mask.slice(alloc, 0, third)?,

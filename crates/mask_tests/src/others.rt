@@ -1,4 +1,4 @@
-//! Constructors, builders, and calls of numbers.
+//! Constructors, builders, kernels, and calls of numbers.
 
 use crate::lines::{Found, calls};
 use crate::operands::Operands;
@@ -7,7 +7,8 @@ use mask_bits::BitBuffer;
 use mask_bits::extract::extract;
 use vortex_mask::intersect_by_rank::{
     DepositBits, ExtractBits, Portable, PortableLoop, SelectBit, deposit_bytewise,
-    deposit_two_holes, deposit_two_lowest,
+    deposit_two_holes, deposit_two_lowest, intersect_bit_buffer_by_rank_indices,
+    intersect_bit_buffers, intersect_by_rank_indices, intersect_mask_driven,
 };
 use vortex_mask::{AllOr, Mask};
 
@@ -37,8 +38,7 @@ pub(crate) fn taken(name: &str, o: &mut Operands, text: &mut Text) -> Found {
     calls! { name, o, text, alloc;
         "from_intersection_indices" (m x y)
             => Mask::from_intersection_indices(alloc, m, x.set_indices(), y.set_indices()),
-        "from_common_index" (m n)
-            => Mask::from_intersection_indices(alloc, m, [n].into_iter(), [n].into_iter()),
+        "from_common_index" (m n) => Mask::from_intersection_indices(alloc, m, [n].into_iter(), [n].into_iter()),
         "from_buffer" (taken_x) => Mask::from_buffer(alloc, taken_x),
         "from_slices" (m taken_ranges) => Mask::from_slices(alloc, m, taken_ranges),
         "from_buffer_with_slices" (taken_ranged) => taken_ranged.mask(alloc),
@@ -53,19 +53,36 @@ pub(crate) fn taken(name: &str, o: &mut Operands, text: &mut Text) -> Found {
 #[tactic(auto, using(mask_bits::proofs::Lists::Words::WordLemmas::ones_of_word))]
 pub(crate) fn words(name: &str, o: &mut Operands, text: &mut Text) -> Found {
     calls! { name, o, text, alloc;
-        "deposit" (source word)
-            => Portable::deposit_bits(source, word, word.count_ones() as usize),
-        "deposit_by_loop" (source word)
-            => PortableLoop::deposit_bits(source, word, word.count_ones() as usize),
+        "deposit" (source word) => Portable::deposit_bits(source, word, word.count_ones() as usize),
+        "deposit_by_loop" (source word) => PortableLoop::deposit_bits(source, word, word.count_ones() as usize),
         "deposit_bytewise" (source word) => deposit_bytewise(source, word),
         "deposit_two_lowest" (source word) [word.count_ones() <= 2, "at most two set bits"]
             => deposit_two_lowest(source, word),
         "deposit_two_holes" (source word) [word.count_ones() >= 62, "at most two clear bits"]
             => deposit_two_holes(source, word),
-        "extract" (source word)
-            => Portable::extract_bits(source, word, word.count_ones() as usize),
+        "extract" (source word) => Portable::extract_bits(source, word, word.count_ones() as usize),
         "extract_by_bits" (source word) => extract(source, word),
         "select" (source n) [n < source.count_ones() as usize, "a set bit of this number"]
             => Portable::select_bit_position(source, n),
+    }
+}
+
+/// The kernels of rank intersection. Those of words stand with each of both deposits.
+pub(crate) fn kernels(name: &str, o: &mut Operands, text: &mut Text) -> Found {
+    calls! { name, o, text, alloc;
+        "kernel.intersect_bit_buffers" (rows ranks) [ranks.fits(rows), "a rank for each row"]
+            => intersect_bit_buffers::<Portable>(alloc, &rows.buffer, &ranks.buffer, ranks.buffer.true_count()),
+        "kernel.intersect_bit_buffers_by_loop" (rows ranks) [ranks.fits(rows), "a rank for each row"]
+            => intersect_bit_buffers::<PortableLoop>(alloc, &rows.buffer, &ranks.buffer, ranks.buffer.true_count()),
+        "kernel.intersect_bit_buffer_by_rank_indices" (rows ranks) [ranks.fits(rows), "a rank for each row"]
+            => intersect_bit_buffer_by_rank_indices::<Portable>(alloc, &rows.buffer, &ranks.indices),
+        "kernel.intersect_bit_buffer_by_rank_indices_by_loop" (rows ranks) [ranks.fits(rows), "a rank for each row"]
+            => intersect_bit_buffer_by_rank_indices::<PortableLoop>(alloc, &rows.buffer, &ranks.indices),
+        "kernel.intersect_by_rank_indices" (rows ranks) [ranks.buffer.len() == rows.indices.len(), "a rank for each row"]
+            => intersect_by_rank_indices(alloc, rows.buffer.len(), &rows.indices, &ranks.indices),
+        "kernel.intersect_mask_driven" (rows ranks) [ranks.fits(rows), "a rank for each row"]
+            => intersect_mask_driven::<Portable, _>(
+                alloc, &rows.buffer, ranks.buffer.set_indices(), ranks.buffer.true_count(),
+            ),
     }
 }

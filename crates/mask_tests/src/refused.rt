@@ -16,88 +16,63 @@ pub(crate) fn check<R: Input + Print + AllocGlobal>(rt: &R) -> io::Result<usize>
     Ok(0)
 }
 
-fn say<R: Print>(rt: &R, line: &str) {
-    let _ = println!(rt; "{line}");
-}
-
-fn say_of<R: Print>(rt: &R, what: &str, of: &str) {
-    let _ = println!(rt; "{what} {of}");
+fn say<R: Print>(rt: &R, what: &str, of: &str) {
+    let _ = println!(rt; "{what}{of}");
 }
 
 fn check_line<R: Print + AllocGlobal>(rt: &R, line: &str) {
     match Row::read(line, Detail::Whole) {
-        Some(row) => check_row(rt, row),
-        None => say_of(rt, "wrong: no row:", line),
+        Some(row) => {
+            say(rt, "scenario ", row.names);
+            if let Some(call) = read(rt, row) {
+                check_call(rt, row, call);
+            }
+        }
+        None => say(rt, "wrong: no row: ", line),
     }
 }
 
-const UNREAD: &str = "wrong: it can't be read";
-
-fn check_row<R: Print + AllocGlobal>(rt: &R, row: Row<'_>) {
-    say_of(rt, "scenario", row.names);
-    match Call::read(rt.alloc(), row.names, row.words) {
-        Ok(call) => check_call(rt, row, call),
-        Err(_) => say(rt, UNREAD),
+fn read<'a, R: Print + AllocGlobal>(rt: &R, row: Row<'a>) -> Option<Call<'a>> {
+    let read = Call::read(rt.alloc(), row.names, row.words, false);
+    if read.is_err() {
+        say(rt, "wrong: it can't be read", "");
     }
+    read.ok()
 }
 
-fn check_call<R: Print + AllocGlobal>(rt: &R, row: Row<'_>, call: Call<'_>) {
-    let mut call = call;
-    check_made(rt, row, &mut call);
-    call.end();
-}
-
-// Makes the call, compares what it leaves as it was, and makes it again where it was refused.
-fn check_made<R: Print + AllocGlobal>(rt: &R, row: Row<'_>, call: &mut Call<'_>) {
+// Makes the call, compares what it leaves as it was, and makes it again where it was refused. What a row wants may end
+// in ` or ` and what a builder has that was refused: then it is not called again.
+fn check_call<R: Print + AllocGlobal>(rt: &R, row: Row<'_>, mut call: Call<'_>) {
     let answered = call.kept(false);
     let refused = call.kept(true);
-    if is_answered(rt, "calls", call, wants(row.want).0) {
-        is_kept(rt, answered, call.kept(false));
-    } else {
-        is_kept(rt, refused, call.kept(true));
+    let (want, _) = row.want.split_once(" or ").unwrap_or((row.want, ""));
+    let is_refused = !is_answered(rt, "calls", &mut call, want);
+    let before = if is_refused { &refused } else { &answered };
+    if !before.says(call.kept(is_refused).as_str()) {
+        say(rt, "wrong: what was lent has changed", "");
+    }
+    if is_refused {
         again(rt, row, call);
     }
 }
 
-// What a row wants, which may end in ` or ` and what a builder has that was refused: then it is not called again.
-fn wants(want: &str) -> (&str, Option<&str>) {
-    match want.split_once(" or ") {
-        Some((want, left)) => (want, Some(left)),
-        None => (want, None),
-    }
-}
-
-fn is_kept<R: Print>(rt: &R, before: Text, after: Text) {
-    if !before.says(after.as_str()) {
-        say(rt, "wrong: what was lent has changed");
-    }
-}
-
 // Operands by value are gone after a refusal: then the second call is read anew.
-fn again<R: Print + AllocGlobal>(rt: &R, row: Row<'_>, call: &mut Call<'_>) {
+fn again<R: Print + AllocGlobal>(rt: &R, row: Row<'_>, call: Call<'_>) {
     if call.operands.are_lent() {
         is_answered_now(rt, row, call);
-    } else {
-        match Call::read(rt.alloc(), row.names, row.words) {
-            Ok(call) => is_answered_anew(rt, row, call),
-            Err(_) => say(rt, UNREAD),
-        }
+    } else if let Some(call) = read(rt, row) {
+        is_answered_now(rt, row, call);
     }
 }
 
-fn is_answered_anew<R: Print + AllocGlobal>(rt: &R, row: Row<'_>, call: Call<'_>) {
-    let mut call = call;
-    is_answered_now(rt, row, &mut call);
-    call.end();
-}
-
-fn is_answered_now<R: Print + AllocGlobal>(rt: &R, row: Row<'_>, call: &mut Call<'_>) {
-    let (want, left) = wants(row.want);
+fn is_answered_now<R: Print + AllocGlobal>(rt: &R, row: Row<'_>, mut call: Call<'_>) {
+    let left = row.want.split_once(" or ");
     if left.is_some() {
         call.operands.give_up();
     }
-    if !is_answered(rt, "calls again", call, left.unwrap_or(want)) {
-        say(rt, "wrong: it is refused once more");
+    let (_, want) = left.unwrap_or(("", row.want));
+    if !is_answered(rt, "calls again", &mut call, want) {
+        say(rt, "wrong: it is refused once more", "");
     }
 }
 
@@ -109,22 +84,19 @@ fn is_answered<R: Print + AllocGlobal>(
     want: &str,
 ) -> bool {
     let mut text = Text::with_room(rt.alloc(), ROOM);
-    say(rt, line);
+    say(rt, line, "");
     call.run(&mut text);
-    let is_answered = !text.is_out_of_memory;
-    say(rt, if is_answered { "answered" } else { "refused" });
-    if is_answered {
-        call.operands.write_changed(&mut text);
-        is_wanted(rt, text, want);
+    if text.is_out_of_memory {
+        say(rt, "refused", "");
+        return false;
     }
-    is_answered
+    say(rt, "answered", "");
+    call.operands.write_changed(&mut text);
+    if !text.says(want) {
+        say(rt, "wrong: it answers ", text.as_str());
+    }
+    true
 }
 
 // No answer of a row is longer.
 const ROOM: usize = 1 << 20;
-
-fn is_wanted<R: Print>(rt: &R, text: Text, want: &str) {
-    if !text.says(want) {
-        say_of(rt, "wrong: it answers", text.as_str());
-    }
-}

@@ -2,7 +2,7 @@
 //! holds, and once while a clone of each is held. Operands that it only borrows must read the same afterwards.
 
 use crate::call::Call;
-use crate::tell::{Tell, tell_fault};
+use crate::tell::tell_fault;
 use crate::text::{Detail, Text};
 use std::alloc::Global;
 use std::io::{self, BufRead, BufReader};
@@ -42,8 +42,8 @@ impl<'a> Row<'a> {
     // leaves as they are have become.
     fn fault(self, alloc: Global, name: &str, is_shared: bool) -> Option<Text> {
         let mut answer = Text::new(alloc, self.detail);
-        let change = match Call::read(alloc, name, self.words) {
-            Ok(call) => change(call, is_shared, &mut answer),
+        let change = match Call::read(alloc, name, self.words, is_shared) {
+            Ok(call) => change(call, &mut answer),
             Err(fault) => {
                 tell_fault(&mut answer, fault);
                 None
@@ -58,24 +58,17 @@ impl<'a> Row<'a> {
 }
 
 // Tells the answer, and what the call changed in place. What it should leave as it was, if that has changed.
-fn change(call: Call<'_>, is_shared: bool, answer: &mut Text) -> Option<Text> {
-    let mut call = call;
-    if is_shared {
-        call.operands.hold().tell(answer);
-    }
+fn change(mut call: Call<'_>, answer: &mut Text) -> Option<Text> {
     let before = call.kept(false);
     call.run(answer);
     call.operands.write_changed(answer);
     let after = call.kept(false);
-    if before.says(after.as_str()) {
-        None
-    } else {
-        Some(after)
-    }
+    let is_kept = before.says(after.as_str());
+    if is_kept { None } else { Some(after) }
 }
 
 // What was counted.
-#[derive(Drop)]
+#[derive(Drop, Default)]
 struct Count {
     rows: usize,
     calls: usize,
@@ -87,11 +80,7 @@ const MOST: usize = 20;
 
 /// Makes the calls of each row, says which answer otherwise, and how many there are. How many were wrong.
 pub(crate) fn check<R: Input + Print + AllocGlobal>(rt: &R, detail: Detail) -> io::Result<usize> {
-    let mut count = Count {
-        rows: 0,
-        calls: 0,
-        wrong: 0,
-    };
+    let mut count = Count::default();
     for line in BufReader::new(rt.alloc(), rt.reader())?.lines(rt.alloc()) {
         check_line(rt, &mut count, line?.as_str(), detail)?;
     }

@@ -1,5 +1,7 @@
 //! What calls answer, as rows say it.
 
+ghost use Rattle.std.specs.Iterator.{IsFinite};
+
 use crate::fault::Fault;
 use crate::text::Text;
 use vortex_mask::{AllOr, Fraction, MaskIter};
@@ -88,16 +90,29 @@ impl Tell for (usize, usize) {
     }
 }
 
+/// Writes each item behind a mark, which is another one for the first.
+pub(crate) fn tell_each<T: Tell, I: Iterator<Item = T>>(
+    text: &mut Text,
+    first: &str,
+    mark: &str,
+    items: I,
+)
+    requires can { I.can_next items }
+    requires ends { IsFinite (I.remaining items) }
+{
+    let mut is_next = false;
+    for item in items {
+        text.put(if is_next { mark } else { first });
+        item.tell(text);
+        is_next = true;
+    }
+}
+
 /// The items with a comma between two.
 impl<'a, T: Tell + Copy> Tell for &'a [T] {
     fn tell(self, text: &mut Text) {
         if text.takes_items(self.len()) {
-            let mut is_next = false;
-            for item in self {
-                text.put(if is_next { "," } else { "" });
-                (*item).tell(text);
-                is_next = true;
-            }
+            tell_each(text, "", ",", self.iter().copied());
         }
     }
 }
@@ -106,12 +121,7 @@ impl<'a, T: Tell + Copy> Tell for &'a [T] {
 impl<T: Tell + Drop> Tell for Vec<T> {
     fn tell(self, text: &mut Text) {
         if text.takes_items(self.len()) {
-            let mut is_next = false;
-            for item in self {
-                text.put(if is_next { "," } else { "" });
-                item.tell(text);
-                is_next = true;
-            }
+            tell_each(text, "", ",", self.into_iter());
         }
     }
 }

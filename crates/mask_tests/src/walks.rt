@@ -1,32 +1,29 @@
 //! Buffers, and what walks yield, as text.
 
+ghost use Rattle.std.specs.Iterator.{IsFinite};
+
 use crate::fault::Fault;
-use crate::tell::{Tell, tell_fault};
+use crate::tell::{Tell, tell_each, tell_fault};
 use crate::text::{Detail, Text};
-use mask_bits::{BitBuffer, BitChunks, BitIterator, SetIndices, SetSlices};
+use mask_bits::{BitBuffer, BitChunks};
 use std::alloc::AllocError;
-use vortex_mask::{MaskBoolIter, MaskSetIndices, MaskSetSlices};
 
 impl Tell for BitBuffer {
     fn tell(self, text: &mut Text) {
-        write_buffer(text, &self);
+        (&self).tell(text);
     }
 }
 
+/// The list of a buffer, or of a long one its length and how many values are true.
 impl<'a> Tell for &'a BitBuffer {
     fn tell(self, text: &mut Text) {
-        write_buffer(text, self);
-    }
-}
-
-/// Writes the list of a buffer, or of a long one its length and how many values are true.
-pub fn write_buffer(text: &mut Text, buffer: &BitBuffer) {
-    if text.cuts(buffer.len()) {
-        text.put_pair(buffer.true_count(), " of ", buffer.len());
-    } else if buffer.is_empty() {
-        text.put("-");
-    } else {
-        write_bits(text, buffer);
+        if text.cuts(self.len()) {
+            text.put_pair(self.true_count(), " of ", self.len());
+        } else if self.is_empty() {
+            text.put("-");
+        } else {
+            write_bits(text, self);
+        }
     }
 }
 
@@ -42,13 +39,11 @@ pub(crate) fn write_bits(text: &mut Text, buffer: &BitBuffer) {
 /// Writes the list of a buffer, and where more than lists is told the bit offset that it stands at, and the bytes, the
 /// first sixteen of them.
 pub fn write_backed(text: &mut Text, buffer: &BitBuffer) {
-    write_buffer(text, buffer);
+    buffer.tell(text);
     if !matches!(text.detail, Detail::Lists) {
         text.put_next(" at ", buffer.offset());
-        text.put(" of");
-        for byte in buffer.inner().as_slice().iter().take(16) {
-            text.put_next(" ", *byte as usize);
-        }
+        let bytes = buffer.inner().as_slice().iter().take(16);
+        write_walk(text, " of", bytes.map(|byte| *byte as usize));
     }
 }
 
@@ -77,82 +72,50 @@ fn write_hint(text: &mut Text, len: usize, (least, most): (usize, Option<usize>)
     text.put_display(&least);
 }
 
-// Each item, with how many are said to be left before it; and so often how many past the last.
-macro_rules! steps {
-    ($text:ident, $walk:expr, $ends:literal) => {
-        let mut walk = $walk;
-        for _ in 0..walk.len() {
-            write_hint($text, walk.len(), walk.size_hint());
-            match walk.next() {
-                Some(item) => $text.put_next(":", item as usize),
-                None => $text.put(":none"),
-            }
-            $text.put(" ");
+/// Each item, with how many are said to be left before it; and so often how many past the last.
+pub(crate) fn write_steps<T: Into<u64> + Drop, I: ExactSizeIterator<Item = T>>(
+    text: &mut Text,
+    mut walk: I,
+    ends: usize,
+)
+    requires { (it : I) → I.can_next it }
+{
+    for _ in 0..walk.len() {
+        write_hint(text, walk.len(), walk.size_hint());
+        match walk.next() {
+            Some(item) => text.put_next::<u64>(":", item.into()),
+            None => text.put(":none"),
         }
-        for _ in 0..$ends {
-            write_hint($text, walk.len(), walk.size_hint());
-            $text.put(if walk.next().is_none() { "" } else { ":one more" });
-        }
-    };
+        text.put(" ");
+    }
+    for _ in 0..ends {
+        write_hint(text, walk.len(), walk.size_hint());
+        text.put(if walk.next().is_none() {
+            ""
+        } else {
+            ":one more"
+        });
+    }
 }
 
-// Each item behind a name of them all.
-macro_rules! each {
-    ($text:ident, $name:literal, $items:ident) => {
-        $text.put($name);
-        for item in $items {
-            $text.put(" ");
-            item.tell($text);
-        }
-    };
-}
-
-pub(crate) fn write_values(text: &mut Text, values: MaskBoolIter<'_>) {
-    steps!(text, values, 1usize);
-}
-
-pub(crate) fn write_indices(text: &mut Text, indices: MaskSetIndices<'_>) {
-    each!(text, "indices", indices);
-}
-
-pub(crate) fn write_slices(text: &mut Text, ranges: MaskSetSlices<'_>) {
-    each!(text, "ranges", ranges);
-}
-
-pub(crate) fn write_bit_values(text: &mut Text, values: BitIterator<'_>) {
-    steps!(text, values, 2usize);
-}
-
-pub(crate) fn write_bit_indices(text: &mut Text, indices: SetIndices<'_>) {
-    each!(text, "indices", indices);
-}
-
-pub(crate) fn write_bit_slices(text: &mut Text, ranges: SetSlices<'_>) {
-    each!(text, "ranges", ranges);
-}
-
-/// Each started word.
-pub(crate) fn write_padded(text: &mut Text, chunks: &BitChunks<'_>) {
-    steps!(text, chunks.iter_padded(), 1usize);
+/// Each item behind a name of them all.
+pub(crate) fn write_walk<T: Tell, I: Iterator<Item = T>>(text: &mut Text, name: &str, items: I)
+    requires can { I.can_next items }
+    requires ends { IsFinite (I.remaining items) }
+{
+    text.put(name);
+    tell_each(text, " ", " ", items);
 }
 
 /// Each whole word by the walk, and by its number; and what is left after them.
 pub(crate) fn write_words(text: &mut Text, chunks: &BitChunks<'_>) {
-    write_whole_words(text, chunks);
-    write_words_by_number(text, chunks);
-    text.put_next(" rest ", chunks.remainder_len());
-    text.put_next(" ", chunks.remainder_bits() as usize);
-}
-
-fn write_whole_words(text: &mut Text, chunks: &BitChunks<'_>) {
-    steps!(text, chunks.iter(), 1usize);
-}
-
-fn write_words_by_number(text: &mut Text, chunks: &BitChunks<'_>) {
+    write_steps(text, chunks.iter(), 1);
     text.put_next(" of ", chunks.len());
     for i in 0..chunks.len() {
-        text.put_next(" ", chunks.word(i) as usize);
+        text.put_next(" ", chunks.word(i));
     }
+    text.put_next(" rest ", chunks.remainder_len());
+    text.put_next(" ", chunks.remainder_bits());
 }
 
 // The index of each true value of these numbers, from 0 on.

@@ -204,11 +204,8 @@ fn two_columns(rt: HostRuntime) {
 // ---- row groups
 
 fn keeps(rt: &impl Host, rows: &str, want: &[bool]) {
-    has(
-        rt,
-        row_groups::kept(rt.alloc(), &mut mask(rt, rows), 3),
-        want,
-    );
+    let kept = row_groups::kept(rt.alloc(), &mut mask(rt, rows), 3);
+    has(rt, kept, want);
 }
 
 #[test]

@@ -19,11 +19,11 @@ pub(crate) fn read(name: &str, o: &mut Operands, text: &mut Text) -> Found {
         "bits.false_count" (x) => x.false_count(),
         "bits.last_set_index" (x) => x.last_set_index(),
         "bits.debug" (x) => text.put_debug(x),
-        "bits.iter" (x) => walks::write_bit_values(text, x.iter()),
-        "bits.set_indices" (x) => walks::write_bit_indices(text, x.set_indices()),
-        "bits.set_slices" (x) => walks::write_bit_slices(text, x.set_slices()),
+        "bits.iter" (x) => walks::write_steps(text, x.iter(), 2),
+        "bits.set_indices" (x) => walks::write_walk(text, "indices", x.set_indices()),
+        "bits.set_slices" (x) => walks::write_walk(text, "ranges", x.set_slices()),
         "bits.words" (x) => walks::write_words(text, &x.chunks()),
-        "bits.padded" (x) => walks::write_padded(text, &x.chunks()),
+        "bits.padded" (x) => walks::write_steps(text, x.chunks().iter_padded(), 1),
         "bits.each_value" (x) => walks::write_each(text, x),
     }
 }
@@ -44,10 +44,8 @@ pub(crate) fn part(name: &str, o: &mut Operands, text: &mut Text) -> Found {
         "bits.rank_bits" (x m)
             [x.offset() < 8 && m <= 10_000_000, "an offset within a byte, and a position that fits"]
             => RankBits::new(x).read(m),
-        "bits.count_range" (x m n) [m <= n && n <= x.len(), "a range within the buffer"]
-            => x.count_range(m, n),
-        "bits.first_from" (x m n) [m <= x.len(), "an index within the buffer"]
-            => x.first_from(m, n == 1),
+        "bits.count_range" (x m n) [m <= n && n <= x.len(), "a range within the buffer"] => x.count_range(m, n),
+        "bits.first_from" (x m n) [m <= x.len(), "an index within the buffer"] => x.first_from(m, n == 1),
     }
 }
 
@@ -57,14 +55,11 @@ pub(crate) fn pair(name: &str, o: &mut Operands, text: &mut Text) -> Found {
         "bits.bitand" (x y) [x.len() == y.len(), "equal lengths"] => x.bitand(y),
         "bits.bitor" (x y) [x.len() == y.len(), "equal lengths"] => x.bitor(y),
         "bits.bitand_not" (x y) [x.len() == y.len(), "equal lengths"] => x.bitand_not(y),
-        "bits.choose_values" (x y) [x.len() == y.len(), "equal lengths"]
-            => x.choose_values(y),
+        "bits.choose_values" (x y) [x.len() == y.len(), "equal lengths"] => x.choose_values(y),
         "bits.equal" (x y) => x == y,
         "bits.into_not" (taken_x) => taken_x.into_not(),
-        "bits.into_bitand" (taken_x y) [taken_x.len() == y.len(), "equal lengths"]
-            => taken_x.into_bitand(y),
-        "bits.into_bitor" (taken_x y) [taken_x.len() == y.len(), "equal lengths"]
-            => taken_x.into_bitor(y),
+        "bits.into_bitand" (taken_x y) [taken_x.len() == y.len(), "equal lengths"] => taken_x.into_bitand(y),
+        "bits.into_bitor" (taken_x y) [taken_x.len() == y.len(), "equal lengths"] => taken_x.into_bitor(y),
         "bits.into_bitand_not" (taken_x y) [taken_x.len() == y.len(), "equal lengths"]
             => taken_x.into_bitand_not(y),
     }

@@ -8,7 +8,7 @@ use crate::operands::Operands;
 use crate::tell::tell_fault;
 use crate::text::{Detail, Text};
 use crate::words::Words;
-use crate::{bits, kernels, masks, mixed, others};
+use crate::{bits, masks, others};
 use row_mask::kit::prelude::*;
 
 /// A call with its operands. Where it was refused memory, operands that were lent are there still, and it can be
@@ -35,8 +35,8 @@ fn in_group(group: usize, name: &str, o: &mut Operands, text: &mut Text) -> Foun
         7 => others::lent(name, o, text),
         8 => others::taken(name, o, text),
         9 => others::words(name, o, text),
-        10 => mixed::of(name, o, text),
-        11 => kernels::of(name, o, text),
+        10 => masks::mixed(name, o, text),
+        11 => others::kernels(name, o, text),
         _ => None,
     }
 }
@@ -53,12 +53,12 @@ fn look_up(name: &str, unread: &mut Operands) -> Option<(usize, &'static str)> {
 }
 
 impl<'n> Call<'n> {
-    /// The call of this name, and its operands by the words behind it.
-    pub fn read(name: &'n str, words: &str) -> Result<Call<'n>, Fault> {
+    /// The call of this name, and its operands by the words behind it. A clone of each is held where they `are_shared`.
+    pub fn read(name: &'n str, words: &str, are_shared: bool) -> Result<Call<'n>, Fault> {
         let mut operands = Operands::new();
         match look_up(name, &mut operands) {
             Some((group, names)) => {
-                let mut words = Words::new(words);
+                let mut words = Words::new(words, are_shared);
                 operands.read(&mut words, names);
                 words.end(Call { name, group, operands })
             }
@@ -80,7 +80,4 @@ impl<'n> Call<'n> {
         self.operands.write_kept(&mut text, is_refused);
         text
     }
-
-    /// Lets the operands go, so that other crates need no proof of how that is done.
-    pub fn end(self) {}
 }

@@ -3,8 +3,8 @@
 
 use crate::host::{AllocGlobal, Input, Print};
 use row_mask::MaskError;
+use row_mask::kit::AllocError;
 use row_mask::kit::prelude::*;
-use row_mask::kit::{AllocError, AllocFailed};
 
 /// Why a call has no answer.
 pub enum Fault {
@@ -32,12 +32,6 @@ impl From<MaskError> for Fault {
 
 impl From<AllocError> for Fault {
     fn from(_error: AllocError) -> Fault {
-        Fault::Memory
-    }
-}
-
-impl<T> From<AllocFailed<T>> for Fault {
-    fn from(_failed: AllocFailed<T>) -> Fault {
         Fault::Memory
     }
 }

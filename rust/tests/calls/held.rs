@@ -11,15 +11,12 @@ use row_mask::BitBuffer;
 use row_mask::kit::prelude::*;
 use row_mask::{Mask, MaskValues};
 
-/// What a call does with an operand.
 #[derive(Clone, Copy)]
 pub(crate) enum Use {
-    /// It has none.
-    Unread,
     Lent,
     /// It caches a list in it, or clears it.
     Changed,
-    /// It takes it by value, and leaves an empty one.
+    /// It takes it by value, and leaves an empty one, or has none.
     Taken,
 }
 
@@ -86,64 +83,42 @@ impl Share for Option<MaskValues> {
 pub(crate) struct Held<T: Share> {
     pub it: T,
     held: Option<T>,
-    how: Use,
+    pub how: Use,
 }
 
 impl<T: Share + Word> Held<T> {
     /// Reads it by the next word, which may end in `&`, where a clone is held.
     pub fn read(&mut self, words: &mut Words<'_>, how: Use) {
         let word = words.next();
-        let (word, is_held) = match word.strip_suffix("&") {
-            Some(rest) => (rest, true),
-            None => (word, false),
-        };
-        let read = T::read(word);
-        self.put(words, read, how);
-        if is_held {
-            if let Err(fault) = self.hold() {
-                words.note(fault);
-            }
-        }
+        let shared = word.strip_suffix("&");
+        let read = T::read(shared.unwrap_or(word));
+        self.put(words, read, how, shared.is_some());
     }
 }
 
 impl<T: Share> Held<T> {
     /// What stands for an operand that is not read.
     pub fn new(it: T) -> Held<T> {
-        Held { it, held: None, how: Use::Unread }
+        Held { it, held: None, how: Use::Taken }
     }
 
-    /// Puts what was read into its place.
-    pub fn put(&mut self, words: &mut Words<'_>, read: Result<T, Fault>, how: Use) {
+    /// Puts what was read into its place, and holds a clone of it where that is wanted.
+    pub fn put(&mut self, words: &mut Words<'_>, read: Result<T, Fault>, how: Use, is_held: bool) {
         words.put(&mut self.it, read);
         self.how = how;
-    }
-
-    /// Holds a clone from now on.
-    pub fn hold(&mut self) -> Result<(), Fault> {
-        if !matches!(self.how, Use::Unread) {
-            self.held = Some(self.it.share()?);
+        if is_held || words.are_shared {
+            words.put(&mut self.held, self.it.share().map(Some));
         }
-        Ok(())
     }
 
     /// Writes the clone that is held, and the operand where it was lent, or where the call `is_refused` and has
     /// changed nothing.
     pub fn write_kept(&self, text: &mut Text, is_refused: bool) {
-        let is_kept = match self.how {
-            Use::Lent => true,
-            Use::Changed => is_refused,
-            Use::Taken | Use::Unread => false,
-        };
-        if is_kept {
+        if matches!(self.how, Use::Lent) || is_refused && matches!(self.how, Use::Changed) {
             self.it.write_kept(text);
         }
         if let Some(held) = &self.held {
             held.write_kept(text);
         }
-    }
-
-    pub fn is_changed(&self) -> bool {
-        matches!(self.how, Use::Changed)
     }
 }

@@ -1,12 +1,8 @@
 // Made of crates/mask_tests/src/lines.rt by `rust/erase`: change that, and make this anew.
 //! How a call stands in a line.
 
-use crate::fault::Fault;
 use crate::host::{AllocGlobal, Input, Print};
-use crate::tell::tell_fault;
-use crate::text::Text;
 use row_mask::kit::prelude::*;
-
 /// The names of the operands that a line reads, where there is a line of this name and they are there.
 pub(crate) type Found = Option<&'static str>;
 
@@ -27,7 +23,8 @@ macro_rules! calls {
                     let $first = $crate::lines::operand!($o, $first);
                     $(let $next = $crate::lines::operand!($o, $next);)*
                     $(if !($is_met) {
-                        return $crate::lines::unmet($text, $condition);
+                        $crate::tell::tell_fault($text, $crate::fault::Fault::Unmet($condition));
+                        return Some("");
                     })?
                     $crate::tell::Tell::tell($answer, $text);
                 }
@@ -117,9 +114,3 @@ macro_rules! there {
 pub(crate) use calls;
 pub(crate) use operand;
 pub(crate) use there;
-
-/// Says that a row breaks a condition of its call.
-pub(crate) fn unmet(text: &mut Text, condition: &'static str) -> Found {
-    tell_fault(text, Fault::Unmet(condition));
-    Some("")
-}

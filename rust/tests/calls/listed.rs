@@ -15,6 +15,13 @@ pub struct Listed {
     pub(crate) indices: Vec<usize>,
 }
 
+impl Listed {
+    /// Whether it has a value for each true one of these rows.
+    pub(crate) fn fits(&self, rows: &Listed) -> bool {
+        self.buffer.len() == rows.buffer.true_count()
+    }
+}
+
 /// A buffer with its indices.
 impl Word for Option<Listed> {
     fn read(word: &str) -> Result<Option<Listed>, Fault> {

@@ -4,8 +4,7 @@
 use crate::fault::Fault;
 use crate::host::{AllocGlobal, Input, Print};
 use crate::listed::Ranged;
-use crate::packed;
-use crate::packed::Packed;
+use crate::packed::from_bools;
 use crate::words::{Word, number, values};
 use row_mask::BitBuffer;
 use row_mask::kit::prelude::*;
@@ -50,12 +49,13 @@ fn mask(word: &str) -> Result<Mask, Fault> {
     match word.split_once(":") {
         Some(("all", len)) => Ok(Mask::new_true(number(len)?)),
         Some(("none", len)) => Ok(Mask::new_false(number(len)?)),
-        Some(("bytes", _)) => of_packed(word),
-        Some(("every" | "first" | "at", _)) | None => of_bits(word),
-        Some(("ranged", rest)) if rest.contains("..") => of_ranges(rest),
+        Some(("bytes" | "every" | "first" | "at", _)) | None => {
+            Ok(Mask::from_buffer(BitBuffer::read(word)?)?)
+        }
+        Some(("ranged", rest)) if rest.contains("..") => Ok(Ranged::read(rest, ":")?.mask()?),
         Some((form, list)) => match number(form) {
             Ok(len) => listed(len, list),
-            Err(_) => by_constructor(form, values(list)?),
+            Err(_) => by_values(form, &values(list)?),
         },
     }
 }
@@ -68,74 +68,40 @@ fn listed(len: usize, list: &str) -> Result<Mask, Fault> {
     Ok(Mask::from_indices(len, indices.into_iter())?)
 }
 
-fn of_ranges(word: &str) -> Result<Mask, Fault> {
-    Ok(Ranged::read(word, ":")?.mask()?)
+fn by_values(form: &str, values: &[bool]) -> Result<Mask, Fault> {
+    by_constructor(form, values, &from_bools(values)?)
 }
 
-fn of_packed(word: &str) -> Result<Mask, Fault> {
-    Ok(Mask::from_buffer(BitBuffer::read(word)?)?)
-}
-
-fn of_bits(word: &str) -> Result<Mask, Fault> {
-    if Packed::of_word(word).is_some() {
-        of_packed(word)
-    } else {
-        Ok(Mask::from_bools(values(word)?.into_iter())?)
-    }
-}
-
-// The mask of these values by a constructor of truth values, or of a buffer.
-fn by_constructor(form: &str, values: Vec<bool>) -> Result<Mask, Fault> {
-    match form {
-        "bools" => Ok(Mask::from_bools(values.iter().copied())?),
-        "rows" => Ok(Mask::from_rows(&values, |row| *row)?),
-        "buffer" | "ranged" | "indices" | "excluded" | "common" | "slices" | "concat" | "masks" => {
-            of_buffer(form, packed::from_bools(&values)?)
-        }
-        _ => Err(Fault::Malformed("a mask")),
-    }
-}
-
-// By one of a buffer, of lists of what it holds, or of masks.
-fn of_buffer(form: &str, buffer: BitBuffer) -> Result<Mask, Fault> {
+// The mask of these values by a constructor of truth values, of a buffer, of lists of what it holds, or of masks: the
+// first third, and the rest. It holds nothing itself, so that each refusal is proved soon.
+fn by_constructor(form: &str, values: &[bool], buffer: &BitBuffer) -> Result<Mask, Fault> {
     Ok(match form {
-        "buffer" => Mask::from_buffer(buffer),
-        "ranged" => of_runs(buffer),
+        "bools" => Mask::from_bools(values.iter().copied()),
+        "rows" => Mask::from_rows(values, |row| *row),
+        "buffer" => Mask::from_buffer(buffer.try_clone()?),
+        "ranged" => Ranged::of_runs(buffer.try_clone()?)?.mask(),
         "indices" => Mask::from_indices(buffer.len(), buffer.set_indices()),
         "excluded" => of_excluded(buffer),
-        "common" => of_common(&buffer),
-        "slices" => of_slices(&buffer),
-        _ => of_parts(form, Mask::from_buffer(buffer)),
+        "common" => of_common(buffer),
+        "slices" => Mask::from_slices(buffer.len(), buffer.runs()?),
+        "concat" => Mask::concat(thirds(buffer)?.iter()),
+        "masks" => Mask::from_masks(thirds(buffer)?.into_iter()),
+        _ => return Err(Fault::Malformed("a mask")),
     }?)
 }
 
-fn of_runs(buffer: BitBuffer) -> Result<Mask, MaskError> {
-    Ranged::of_runs(buffer)?.mask()
-}
-
-fn of_excluded(buffer: BitBuffer) -> Result<Mask, MaskError> {
+fn of_excluded(buffer: &BitBuffer) -> Result<Mask, MaskError> {
     let excluded = buffer.not()?;
     Mask::from_excluded_indices(buffer.len(), excluded.set_indices())
 }
 
 fn of_common(buffer: &BitBuffer) -> Result<Mask, MaskError> {
-    Mask::from_intersection_indices(buffer.len(), buffer.set_indices(), buffer.set_indices())
+    let (lhs, rhs) = (buffer.set_indices(), buffer.set_indices());
+    Mask::from_intersection_indices(buffer.len(), lhs, rhs)
 }
 
-fn of_slices(buffer: &BitBuffer) -> Result<Mask, MaskError> {
-    Mask::from_slices(buffer.len(), buffer.runs()?)
-}
-
-// By one of masks: the first third, and the rest.
-fn of_parts(form: &str, mask: Result<Mask, MaskError>) -> Result<Mask, MaskError> {
-    let parts = thirds(&mask?)?;
-    match form {
-        "concat" => Mask::concat(parts.iter()),
-        _ => Mask::from_masks(parts.into_iter()),
-    }
-}
-
-fn thirds(mask: &Mask) -> Result<[Mask; 2], MaskError> {
+fn thirds(buffer: &BitBuffer) -> Result<[Mask; 2], MaskError> {
+    let mask = Mask::from_buffer(buffer.try_clone()?)?;
     let third = mask.len() / 3;
     Ok([mask.slice(0, third)?, mask.slice(third, mask.len())?])
 }

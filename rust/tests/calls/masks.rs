@@ -1,15 +1,19 @@
 // Made of crates/mask_tests/src/masks.rt by `rust/erase`: change that, and make this anew.
 //! The calls of masks.
 
+use crate::fault::Fault;
 use crate::host::{AllocGlobal, Input, Print};
-use crate::lines::{Found, calls};
+use crate::lines::{Found, calls, there};
 use crate::operands::Operands;
-use crate::tested::{path, stack, valid_counts};
+use crate::tell::{Tell, tell_fault};
 use crate::text::Text;
 use crate::walks;
-use crate::written::{write_each_rank, write_each_value, write_mask};
-use row_mask::Mask;
+use crate::written::{write_each_rank, write_each_value, write_mask, write_uncached};
 use row_mask::kit::prelude::*;
+
+use row_mask::conditions::are_a_stack;
+use row_mask::intersect_by_rank::rank_path;
+use row_mask::{Mask, MaskValues};
 
 /// What a mask holds, and its texts.
 pub(crate) fn read(name: &str, o: &mut Operands, text: &mut Text) -> Found {
@@ -34,9 +38,9 @@ pub(crate) fn read(name: &str, o: &mut Operands, text: &mut Text) -> Found {
 /// Walks, and calls of one mask and numbers.
 pub(crate) fn part(name: &str, o: &mut Operands, text: &mut Text) -> Found {
     calls! { name, o, text;
-        "iter" (a) => walks::write_values(text, a.iter()),
-        "set_indices" (a) => walks::write_indices(text, a.set_indices()),
-        "set_slices" (a) => walks::write_slices(text, a.set_slices()),
+        "iter" (a) => walks::write_steps(text, a.iter(), 1),
+        "set_indices" (a) => walks::write_walk(text, "indices", a.set_indices()),
+        "set_slices" (a) => walks::write_walk(text, "ranges", a.set_slices()),
         "each_value" (a) => write_each_value(text, a),
         "each_rank" (a) => write_each_rank(text, a),
         "value" (a n) [n < a.len(), "an index within the mask"] => a.value(n),
@@ -60,11 +64,9 @@ pub(crate) fn pair(name: &str, o: &mut Operands, text: &mut Text) -> Found {
         "choose_values" (a b) [a.len() == b.len(), "equal lengths"] => a.choose_values(b),
         "equal" (a b) => a == b,
         "equal_swapped" (a b) => b == a,
-        "intersect_by_rank" (a b) [b.len() == a.true_count(), "a rank for each true value"]
-            => a.intersect_by_rank(b),
-        "intersect_by_rank_counted" (a b) [b.len() == a.true_count(), "a rank for each true value"]
-            => a.intersect_by_rank_counted(b),
-        "rank_path" (a b) => path(text, a, b),
+        "intersect_by_rank" (a b) [b.len() == a.true_count(), "a rank for each row"] => a.intersect_by_rank(b),
+        "intersect_by_rank_counted" (a b) [b.len() == a.true_count(), "a rank for each row"] => a.intersect_by_rank_counted(b),
+        "rank_path" (a b) => text.put_debug(&rank_path(there!(a.values()), there!(b.values()))),
         "intersect_all_by_rank" (masks) => stack(text, masks),
         "concat" (masks) => Mask::concat(masks.iter()),
         "from_masks" (taken_masks) => Mask::from_masks(taken_masks.into_iter()),
@@ -77,24 +79,57 @@ pub(crate) fn taken(name: &str, o: &mut Operands, text: &mut Text) -> Found {
         "into_not" (taken) => taken.into_not(),
         "into_bit_buffer" (taken) => taken.into_bit_buffer(),
         "limit" (taken n) => taken.limit(n),
-        "into_bitand" (taken b) [taken.len() == b.len(), "equal lengths"]
-            => taken.into_bitand(b),
-        "into_bitor" (taken b) [taken.len() == b.len(), "equal lengths"]
-            => taken.into_bitor(b),
-        "bitand_not" (taken b) [taken.len() == b.len(), "equal lengths"]
-            => taken.bitand_not(b),
-        "clear" (changed) => {
-            changed.clear();
-            text.put("done")
-        },
+        "into_bitand" (taken b) [taken.len() == b.len(), "equal lengths"] => taken.into_bitand(b),
+        "into_bitor" (taken b) [taken.len() == b.len(), "equal lengths"] => taken.into_bitor(b),
+        "bitand_not" (taken b) [taken.len() == b.len(), "equal lengths"] => taken.bitand_not(b),
+        "clear" (changed) => { changed.clear(); text.put("done") },
         "indices" (changed) => changed.indices(),
         "slices" (changed) => changed.slices(),
-        "threshold_iter" (changed m n) [n > 0, "a denominator above 0"]
-            => changed.threshold_iter(m, n),
+        "threshold_iter" (changed m n) [n > 0, "a denominator above 0"] => changed.threshold_iter(m, n),
         "valid_counts_for_indices" (a list) => valid_counts(a, list),
         "choose" (a list) [list.len() == a.len(), "a row for each value"] => a.choose(list),
         "from_indices" (m list) => Mask::from_indices(m, list.iter().copied()),
-        "from_excluded_indices" (m list)
-            => Mask::from_excluded_indices(m, list.iter().copied()),
+        "from_excluded_indices" (m list) => Mask::from_excluded_indices(m, list.iter().copied()),
+    }
+}
+
+/// Of the values inside a mixed mask.
+pub(crate) fn mixed(name: &str, o: &mut Operands, text: &mut Text) -> Found {
+    calls! { name, o, text;
+        "values.clone" (values) => values.try_clone(),
+        "values.into_bit_buffer" (values) => values.try_clone().map(MaskValues::into_bit_buffer),
+        "values.len" (values) => values.len(),
+        "values.is_empty" (values) => values.is_empty(),
+        "values.true_count" (values) => values.true_count(),
+        "values.density" (values) => values.density(),
+        "values.bit_buffer" (values) => values.bit_buffer(),
+        "values.debug" (values) => text.put_debug(values),
+        "values.value" (values n) [n < values.len(), "an index within the values"] => values.value(n),
+        "values.indices" (changed_values) => changed_values.indices(),
+        "values.slices" (changed_values) => changed_values.slices(),
+        "values.threshold_iter" (changed_values m n) [n > 0, "a denominator above 0"]
+            => changed_values.threshold_iter(m, n),
+    }
+}
+
+// Numbers that `is_sorted` finds sorted are in order over the whole list.
+fn sorted_numbers() {}
+
+fn valid_counts(a: &Mask, indices: &[usize]) -> Result<Vec<usize>, Fault> {
+    sorted_numbers();
+    if !indices.is_sorted() || !indices.iter().all(|i| *i <= a.len()) {
+        return Err(Fault::Unmet("indices in order, within the mask"));
+    }
+    Ok(a.valid_counts_for_indices(indices)?)
+}
+
+// A stack of one mask is a clone of it, with its lists.
+fn stack(text: &mut Text, masks: &[Mask]) {
+    match masks {
+        [first, rest @ ..] if are_a_stack(first, rest) => match first.intersect_all_by_rank(rest) {
+            Ok(mask) if !rest.is_empty() => write_uncached(text, &mask),
+            answer => answer.tell(text),
+        },
+        _ => tell_fault(text, Fault::Unmet("a mask, and a rank for each row")),
     }
 }

@@ -42,7 +42,6 @@ pub struct Operands {
 }
 
 impl Operands {
-    /// No operands.
     pub(crate) fn new() -> Operands {
         Operands {
             are_read: false,
@@ -68,16 +67,15 @@ impl Operands {
         }
     }
 
-    /// Reads the operands of these names.
     pub(crate) fn read(&mut self, words: &mut Words<'_>, names: &str) {
         self.are_read = true;
         self.is_taken = names.contains("taken");
         for name in names.split(' ') {
-            self.read_held(words, name);
+            self.read_one(words, name);
         }
     }
 
-    fn read_held(&mut self, words: &mut Words<'_>, name: &str) {
+    fn read_one(&mut self, words: &mut Words<'_>, name: &str) {
         match name {
             "a" => self.a.read(words, Use::Lent),
             "b" => self.b.read(words, Use::Lent),
@@ -90,12 +88,6 @@ impl Operands {
             "x" => self.x.read(words, Use::Lent),
             "y" => self.y.read(words, Use::Lent),
             "taken_x" => self.x.read(words, Use::Taken),
-            _ => self.read_other(words, name),
-        }
-    }
-
-    fn read_other(&mut self, words: &mut Words<'_>, name: &str) {
-        match name {
             "rows" => words.read(&mut self.rows),
             "ranks" => words.read(&mut self.ranks),
             "taken_ranged" => words.read_all(&mut self.ranged),
@@ -118,7 +110,7 @@ impl Operands {
             "()" => Ok(Vec::new()),
             all => list(all, ' '),
         };
-        self.masks.put(words, masks, how);
+        self.masks.put(words, masks, how, false);
     }
 
     fn read_flags(&mut self, words: &mut Words<'_>) {
@@ -126,23 +118,12 @@ impl Operands {
         words.put(&mut self.flags, flags);
     }
 
-    /// Holds a clone of each mask and buffer that the call is of.
-    pub(crate) fn hold(&mut self) -> Result<(), Fault> {
-        self.a.hold()?;
-        self.b.hold()?;
-        self.masks.hold()?;
-        self.values.hold()?;
-        self.x.hold()?;
-        self.y.hold()
-    }
-
     /// Whether all operands are lent, so that they are there still where the call was refused memory.
     pub fn are_lent(&self) -> bool {
-        let is_builder_lent = match &self.builder {
+        match &self.builder {
             Some(call) => call.lends(),
-            None => true,
-        };
-        is_builder_lent && !self.is_taken
+            None => !self.is_taken,
+        }
     }
 
     /// Has a builder do no more than make its buffer.
@@ -170,15 +151,13 @@ impl Operands {
 
     /// Writes what the call changed in place, with what it has cached; and what a builder made.
     pub fn write_changed(&mut self, text: &mut Text) {
-        if self.a.is_changed() {
+        if matches!(self.a.how, Use::Changed) {
             text.put(" then ");
             write_mask(text, &self.a.it);
         }
-        if self.values.is_changed() {
-            if let Some(values) = &self.values.it {
-                text.put(" then ");
-                write_mixed(text, values);
-            }
+        if let (Use::Changed, Some(values)) = (self.values.how, &self.values.it) {
+            text.put(" then ");
+            write_mixed(text, values);
         }
         if let Some(call) = &mut self.builder {
             call.write(text);

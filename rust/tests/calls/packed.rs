@@ -3,61 +3,34 @@
 
 use crate::fault::Fault;
 use crate::host::{AllocGlobal, Input, Print};
-use crate::words::{Word, are_digits, halves, number, pair, push, values};
+use crate::words::{Word, digits, halves, number, pair, values};
 use row_mask::BitBuffer;
 use row_mask::kit::Bytes;
 use row_mask::kit::prelude::*;
 
-/// A list of digits from bit `offset` on, and digits outside of it: each one before it, the first two behind it, and
-/// each one behind these.
-#[derive(Clone, Copy)]
-pub(crate) struct Packed<'a> {
-    offset: &'a str,
-    list: &'a str,
-    before: &'static str,
-    behind: &'static str,
-    last: &'static str,
+// Digits outside of a list: each one before it, the first two behind it, and each one behind these.
+type Around = (&'static str, &'static str, &'static str);
+
+// The parts of a word such as `3+10110`: a bit offset, a list of digits from there on, and what lies around it.
+fn parts(word: &str) -> Option<(&str, &str, Around)> {
+    for (mark, around) in
+        [("+", ("1", "11", "1")), ("~", ("1", "01", "0")), ("-", ("0", "00", "0"))]
+    {
+        match word.split_once(mark) {
+            Some((offset, list)) if !offset.is_empty() => return Some((offset, list, around)),
+            _ => {}
+        }
+    }
+    None
 }
 
-impl<'a> Packed<'a> {
-    /// The parts of a word such as `3+10110`, with set bits around the list; `-` is for clear ones, and `~` for set ones
-    /// before it and one set bit behind it, between two clear ones.
-    pub fn of_word(word: &'a str) -> Option<Packed<'a>> {
-        if word == "-" {
-            return None;
-        }
-        for (mark, before, behind, last) in
-            [("+", "1", "11", "1"), ("~", "1", "01", "0"), ("-", "0", "00", "0")]
-        {
-            if let Some((offset, list)) = word.split_once(mark) {
-                return Some(Packed {
-                    offset,
-                    list: if list == "-" { "" } else { list },
-                    before,
-                    behind,
-                    last,
-                });
-            }
-        }
-        None
+// What lies outside fills the last byte, and nine bytes more.
+fn packed(offset: usize, list: &str, (before, behind, last): Around) -> Result<BitBuffer, Fault> {
+    let mut digits = String::new();
+    for (part, times) in [(before, offset.min(LONGEST)), (list, 1), (behind, 1), (last, 77)] {
+        push_times(&mut digits, part, times)?;
     }
-
-    fn buffer(self) -> Result<BitBuffer, Fault> {
-        are_digits(self.list)?;
-        let offset = number(self.offset)?;
-        of_own(self.bytes(offset)?, offset, self.list.len())
-    }
-
-    // What lies outside fills the last byte, and nine bytes more.
-    fn bytes(self, offset: usize) -> Result<Vec<u8>, Fault> {
-        let mut digits = String::new();
-        for (part, times) in
-            [(self.before, offset.min(LONGEST)), (self.list, 1), (self.behind, 1), (self.last, 77)]
-        {
-            push_times(&mut digits, part, times)?;
-        }
-        bytes_of(digits.as_bytes())
-    }
+    of_own(bytes_of(digits.as_bytes())?, offset, list.len())
 }
 
 fn push_times(digits: &mut String, part: &str, times: usize) -> Result<(), Fault> {
@@ -72,20 +45,13 @@ const LONGEST: usize = 8_000_000;
 
 // Eight digits for a byte, the first lowest.
 fn bytes_of(digits: &[u8]) -> Result<Vec<u8>, Fault> {
-    let mut bytes: Vec<u8> = Vec::new();
     let (eights, _) = digits.as_chunks::<8>();
-    for eight in eights {
-        push(&mut bytes, byte_of(eight))?;
-    }
-    Ok(bytes)
+    Ok(eights.iter().map(|eight| byte_of(eight)).collected()?)
 }
 
 fn byte_of(digits: &[u8; 8]) -> u8 {
-    let mut byte = 0u8;
-    for digit in digits.iter().rev() {
-        byte = byte << 1 | *digit & 1;
-    }
-    byte
+    let digits = digits.iter().rev();
+    digits.fold(0, |byte, digit| byte << 1 | *digit & 1)
 }
 
 /// A buffer of no bits.
@@ -113,13 +79,6 @@ pub(crate) fn from_bools(values: &[bool]) -> Result<BitBuffer, Fault> {
     Ok(BitBuffer::from_bools(values.iter().copied())?)
 }
 
-fn of_one_value(value: &str, len: usize) -> Result<BitBuffer, Fault> {
-    Ok(match value {
-        "all" => BitBuffer::new_set(len),
-        _ => BitBuffer::new_unset(len),
-    }?)
-}
-
 // Bytes, offset and length.
 fn of_bytes(word: &str) -> Result<BitBuffer, Fault> {
     let (list, part) = halves(word, ":", "two parts")?;
@@ -128,14 +87,16 @@ fn of_bytes(word: &str) -> Result<BitBuffer, Fault> {
 }
 
 /// A buffer by a word: truth values; `all:130` and `none:130`; `3+10110`, `3-10110` and `3~10110` of values from bit
-/// 3 on with bits around them as `Packed` says; and `bytes:180,255:2:5` of five values from bit 2 of these bytes on.
+/// 3 on, with set bits around them, with clear ones, or with set ones before them and one behind, between two clear
+/// ones; and `bytes:180,255:2:5` of five values from bit 2 of these bytes on.
 impl Word for BitBuffer {
     fn read(word: &str) -> Result<BitBuffer, Fault> {
         match word.split_once(":") {
-            Some((value @ ("all" | "none"), len)) => of_one_value(value, number(len)?),
+            Some(("all", len)) => Ok(BitBuffer::new_set(number(len)?)?),
+            Some(("none", len)) => Ok(BitBuffer::new_unset(number(len)?)?),
             Some(("bytes", rest)) => of_bytes(rest),
-            _ => match Packed::of_word(word) {
-                Some(packed) => packed.buffer(),
+            _ => match parts(word) {
+                Some((offset, list, around)) => packed(number(offset)?, digits(list)?, around),
                 None => from_bools(&values(word)?),
             },
         }

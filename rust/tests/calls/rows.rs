@@ -4,7 +4,7 @@
 
 use crate::call::Call;
 use crate::host::{AllocGlobal, Input, Print};
-use crate::tell::{Tell, tell_fault};
+use crate::tell::tell_fault;
 use crate::text::{Detail, Text};
 use row_mask::kit::prelude::*;
 
@@ -37,8 +37,8 @@ impl<'a> Row<'a> {
     // leaves as they are have become.
     fn fault(self, name: &str, is_shared: bool) -> Option<Text> {
         let mut answer = Text::new(self.detail);
-        let change = match Call::read(name, self.words) {
-            Ok(call) => change(call, is_shared, &mut answer),
+        let change = match Call::read(name, self.words, is_shared) {
+            Ok(call) => change(call, &mut answer),
             Err(fault) => {
                 tell_fault(&mut answer, fault);
                 None
@@ -49,19 +49,17 @@ impl<'a> Row<'a> {
 }
 
 // Tells the answer, and what the call changed in place. What it should leave as it was, if that has changed.
-fn change(call: Call<'_>, is_shared: bool, answer: &mut Text) -> Option<Text> {
-    let mut call = call;
-    if is_shared {
-        call.operands.hold().tell(answer);
-    }
+fn change(mut call: Call<'_>, answer: &mut Text) -> Option<Text> {
     let before = call.kept(false);
     call.run(answer);
     call.operands.write_changed(answer);
     let after = call.kept(false);
-    if before.says(after.as_str()) { None } else { Some(after) }
+    let is_kept = before.says(after.as_str());
+    if is_kept { None } else { Some(after) }
 }
 
 // What was counted.
+#[derive(Default)]
 struct Count {
     rows: usize,
     calls: usize,
@@ -73,7 +71,7 @@ const MOST: usize = 20;
 
 /// Makes the calls of each row, says which answer otherwise, and how many there are. How many were wrong.
 pub(crate) fn check<R: Input + Print + AllocGlobal>(rt: &R, detail: Detail) -> io::Result<usize> {
-    let mut count = Count { rows: 0, calls: 0, wrong: 0 };
+    let mut count = Count::default();
     for line in BufReader::new(rt.reader())?.lines() {
         check_line(rt, &mut count, line?.as_str(), detail)?;
     }

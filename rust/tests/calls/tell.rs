@@ -91,16 +91,26 @@ impl Tell for (usize, usize) {
     }
 }
 
+/// Writes each item behind a mark, which is another one for the first.
+pub(crate) fn tell_each<T: Tell, I: Iterator<Item = T>>(
+    text: &mut Text,
+    first: &str,
+    mark: &str,
+    items: I,
+) {
+    let mut is_next = false;
+    for item in items {
+        text.put(if is_next { mark } else { first });
+        item.tell(text);
+        is_next = true;
+    }
+}
+
 /// The items with a comma between two.
 impl<'a, T: Tell + Copy> Tell for &'a [T] {
     fn tell(self, text: &mut Text) {
         if text.takes_items(self.len()) {
-            let mut is_next = false;
-            for item in self {
-                text.put(if is_next { "," } else { "" });
-                (*item).tell(text);
-                is_next = true;
-            }
+            tell_each(text, "", ",", self.iter().copied());
         }
     }
 }
@@ -109,12 +119,7 @@ impl<'a, T: Tell + Copy> Tell for &'a [T] {
 impl<T: Tell> Tell for Vec<T> {
     fn tell(self, text: &mut Text) {
         if text.takes_items(self.len()) {
-            let mut is_next = false;
-            for item in self {
-                text.put(if is_next { "," } else { "" });
-                item.tell(text);
-                is_next = true;
-            }
+            tell_each(text, "", ",", self.into_iter());
         }
     }
 }

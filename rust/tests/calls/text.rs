@@ -68,47 +68,32 @@ impl Text {
         !self.is_cut && self.text.as_str() == text
     }
 
-    /// Writes a part.
     pub fn put(&mut self, part: &str) {
-        if self.text.try_push_str(part).is_err() {
-            self.is_cut = true;
-        }
+        self.is_cut |= self.text.try_push_str(part).is_err();
     }
 
-    /// Writes what `Display` says.
     pub(crate) fn put_display<T: Display>(&mut self, value: &T) {
-        if self.text.try_write(format_args!("{value}")).is_err() {
-            self.is_cut = true;
-        }
+        self.is_cut |= self.text.try_write(format_args!("{value}")).is_err();
     }
 
-    /// Writes what `Debug` says.
     pub(crate) fn put_debug<T: Debug>(&mut self, value: &T) {
-        if self.text.try_write(format_args!("{value:?}")).is_err() {
-            self.is_cut = true;
-        }
+        self.is_cut |= self.text.try_write(format_args!("{value:?}")).is_err();
     }
 
-    /// Writes a word in hexadecimal digits.
     pub(crate) fn put_hex(&mut self, word: u64) {
-        if self.text.try_write(format_args!("{word:#X}")).is_err() {
-            self.is_cut = true;
-        }
+        self.is_cut |= self.text.try_write(format_args!("{word:#X}")).is_err();
     }
 
-    /// Writes a mark, and the number behind it.
-    pub(crate) fn put_next(&mut self, mark: &str, number: usize) {
+    pub(crate) fn put_next<T: Display>(&mut self, mark: &str, number: T) {
         self.put(mark);
         self.put_display(&number);
     }
 
-    /// Writes two numbers with a mark between.
     pub(crate) fn put_pair(&mut self, first: usize, mark: &str, second: usize) {
         self.put_display(&first);
         self.put_next(mark, second);
     }
 
-    /// Writes a truth value as a digit.
     pub(crate) fn put_digit(&mut self, value: bool) {
         self.put(if value { "1" } else { "0" });
     }

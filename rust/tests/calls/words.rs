@@ -20,10 +20,7 @@ impl Word for usize {
 
 impl Word for u8 {
     fn read(word: &str) -> Result<u8, Fault> {
-        match number(word) {
-            Ok(number) if number < 256 => Ok(number as u8),
-            _ => Err(Fault::Malformed("a byte")),
-        }
+        parsed(u8::try_from(number(word)?))
     }
 }
 
@@ -58,9 +55,8 @@ pub(crate) fn list<T: Word>(text: &str, mark: char) -> Result<Vec<T>, Fault> {
     Ok(items)
 }
 
-/// Puts an item behind the others.
 pub(crate) fn push<T>(list: &mut Vec<T>, item: T) -> Result<(), Fault> {
-    Ok(list.try_push(item)?)
+    list.try_push(item).map_err(|_| Fault::Memory)
 }
 
 /// A number: its digits, `0x` and hexadecimal ones, `max`, or `max-1`.
@@ -75,11 +71,8 @@ pub(crate) fn number(word: &str) -> Result<usize, Fault> {
     }
 }
 
-fn parsed<E>(parsed: Result<usize, E>) -> Result<usize, Fault> {
-    match parsed {
-        Ok(number) => Ok(number),
-        Err(_) => Err(Fault::Malformed("a number")),
-    }
+fn parsed<T, E>(parsed: Result<T, E>) -> Result<T, Fault> {
+    parsed.map_err(|_| Fault::Malformed("a number"))
 }
 
 /// The parts before and behind the first mark.
@@ -103,27 +96,25 @@ pub(crate) fn values(word: &str) -> Result<Vec<bool>, Fault> {
     match word.split_once(":") {
         Some(("at", rest)) => true_at(rest.split_once(":").unwrap_or((rest, "-"))),
         Some((form, rest)) => repeating(form, pair(rest, ":", "truth values")?),
-        None => digits(if word == "-" { "" } else { word }),
+        None => {
+            let digits = digits(word)?.as_bytes().iter();
+            Ok(digits.map(|digit| *digit == b'1').collected()?)
+        }
     }
 }
 
-fn digits(word: &str) -> Result<Vec<bool>, Fault> {
-    are_digits(word)?;
-    Ok(word.as_bytes().iter().map(|digit| *digit == b'1').collected()?)
-}
-
-/// Whether there are no others.
-pub(crate) fn are_digits(word: &str) -> Result<(), Fault> {
-    if word.as_bytes().iter().all(|digit| matches!(*digit, b'0' | b'1')) {
-        Ok(())
-    } else {
-        Err(Fault::Malformed("digits 0 and 1"))
+/// The digits 0 and 1 that a word is of, or none of `-`.
+pub(crate) fn digits(word: &str) -> Result<&str, Fault> {
+    let digits = if word == "-" { "" } else { word };
+    match digits.find(|digit| !matches!(digit, '0' | '1')) {
+        Some(_) => Err(Fault::Malformed("digits 0 and 1")),
+        None => Ok(digits),
     }
 }
 
 fn true_at((len, list): (&str, &str)) -> Result<Vec<bool>, Fault> {
-    let indices: Vec<usize> = Vec::read(list)?;
-    Ok((0..number(len)?).map(|i| indices.contains(&i)).collected()?)
+    let (len, indices) = (number(len)?, Vec::read(list)?);
+    Ok((0..len).map(|i| indices.contains(&i)).collected()?)
 }
 
 // Of each period so many are true.
@@ -140,15 +131,15 @@ fn repeating(form: &str, (count, len): (usize, usize)) -> Result<Vec<bool>, Faul
 /// The words behind the name of a call, read one after another, and the first fault in them. What can't be read stays
 /// as it is, so that no word is asked about alone: `end` answers the fault.
 pub(crate) struct Words<'a> {
-    /// Where lists and masks are made.
+    /// Whether a clone is held of each mask and buffer.
+    pub are_shared: bool,
     rest: &'a str,
     fault: Option<Fault>,
 }
 
 impl<'a> Words<'a> {
-    /// The words of a text, with a space between two.
-    pub fn new(text: &'a str) -> Words<'a> {
-        Words { rest: text, fault: None }
+    pub fn new(text: &'a str, are_shared: bool) -> Words<'a> {
+        Words { are_shared, rest: text, fault: None }
     }
 
     /// What the words make, if each could be read and none is left.
@@ -175,26 +166,22 @@ impl<'a> Words<'a> {
         }
     }
 
-    /// Reads the next word.
     pub fn read<T: Word>(&mut self, place: &mut T) {
         let read = T::read(self.next());
         self.put(place, read);
     }
 
-    /// Reads all words that are left.
     pub fn read_all<T: Word>(&mut self, place: &mut T) {
         let read = T::read(self.all());
         self.put(place, read);
     }
 
-    /// All words that are left.
     pub fn all(&mut self) -> &'a str {
         let all = self.rest;
         self.rest = "";
         all
     }
 
-    /// The next word.
     pub fn next(&mut self) -> &'a str {
         if self.rest.is_empty() {
             self.note(Fault::Malformed("a word"));

@@ -2,9 +2,9 @@
 //! How a row says what a mask holds.
 
 use crate::host::{AllocGlobal, Input, Print};
-use crate::tell::Tell;
+use crate::tell::{Tell, tell_each};
 use crate::text::{Detail, Text};
-use crate::walks::{write_bits, write_buffer};
+use crate::walks::write_bits;
 use row_mask::intersect_by_rank::Steps;
 use row_mask::kit::prelude::*;
 use row_mask::{Mask, MaskValues};
@@ -26,28 +26,18 @@ pub(crate) fn write_mask(text: &mut Text, mask: &Mask) {
 
 /// Writes the list of a mask, and its variant.
 pub(crate) fn write_uncached(text: &mut Text, mask: &Mask) {
-    if !matches!(text.detail, Detail::Short) {
-        write_whole(text, mask);
-    } else if mask.len() <= MOST_VALUES {
-        write_each_value(text, mask);
-    } else if mask.values().is_some() && mask.true_count() <= MOST_INDICES {
-        write_true(text, mask);
-    } else {
-        text.put_pair(mask.true_count(), " of ", mask.len());
+    let is_short = matches!(text.detail, Detail::Short);
+    match mask.values() {
+        Some(values) if !is_short => write_bits(text, values.bit_buffer()),
+        _ if is_short && mask.len() <= MOST_VALUES => write_each_value(text, mask),
+        Some(_) if mask.true_count() <= MOST_INDICES => write_true(text, mask),
+        _ => text.put_pair(mask.true_count(), " of ", mask.len()),
     }
     text.put(match mask {
         Mask::AllTrue(_) => " AllTrue",
         Mask::AllFalse(_) => " AllFalse",
         Mask::Values(_) => " Values",
     });
-}
-
-// A mixed list whole.
-fn write_whole(text: &mut Text, mask: &Mask) {
-    match mask.values() {
-        Some(values) => write_bits(text, values.bit_buffer()),
-        None => text.put_pair(mask.true_count(), " of ", mask.len()),
-    }
 }
 
 /// Writes the values of a mask one by one, or `-`.
@@ -62,11 +52,7 @@ pub(crate) fn write_each_value(text: &mut Text, mask: &Mask) {
 
 fn write_true(text: &mut Text, mask: &Mask) {
     text.put_display(&mask.len());
-    let mut is_next = false;
-    for index in mask.set_indices() {
-        text.put_next(if is_next { "," } else { ":" }, index);
-        is_next = true;
-    }
+    tell_each(text, ":", ",", mask.set_indices());
 }
 
 /// Writes the index of each true value, by its number.
@@ -101,7 +87,7 @@ pub(crate) fn write_placed(text: &mut Text, mask: &Mask) {
 
 /// Writes the list, and what is cached.
 pub(crate) fn write_mixed(text: &mut Text, values: &MaskValues) {
-    write_buffer(text, values.bit_buffer());
+    values.bit_buffer().tell(text);
     write_lists(text, values);
 }
 
@@ -125,9 +111,8 @@ impl Tell for (Mask, Steps) {
         text.put_next(" steps ", steps.deposits());
         text.put_next(",", steps.words());
         text.put_next(",", steps.selections());
-        for (mark, count) in [(" ", steps.offered()), (",", steps.placed()), (",", steps.spots())] {
-            text.put(mark);
-            text.put_display(&count);
-        }
+        text.put_next(" ", steps.offered());
+        text.put_next(",", steps.placed());
+        text.put_next(",", steps.spots());
     }
 }
