@@ -1,12 +1,10 @@
 -- What a test answers of rows, row by row and lane by lane.
-use Rattle.mask_bits.proofs.Common.{◌≡◌, ℕ, drop, ◌+◌, ◌-◌, ◌<◌, ◌≤◌, ◌*◌, ◌^◌, Bool, false, List, [], ◌∷◌, ◌++◌, length, get_or, map, nat_eq, replicate, set, take, zip, refl, sym, subst, ap, ap₂, ◌∙◌, inl, inr, arith, Bor, All, FnReturnsAt, Shared, bit_at, cases_lt, nat_tests, get_or-take, get_or_past, length-append, take-append-le, take-take, take-append-drop, drop-take, get_or-append_seam, bit_at-lt, bit_at_above, All-nil, All-cons, All-head, All-tail, bitmap, backing_bit, AreLanesOf, ArePacked, AreAnswers, AreAsComputed, window, word_bits}
-use Rattle.std.proofs.lemmas.List.{ext_get_or, length-take, length-drop, length-take-le}
+use Rattle.mask_bits.proofs.Common.{◌≡◌, ℕ, drop, ◌+◌, ◌-◌, ◌<◌, ◌≤◌, ◌*◌, ◌^◌, Bool, false, List, [], ◌∷◌, ◌++◌, length, get_or, map, nat_eq, replicate, set, take, zip, refl, sym, subst, ap, ap₂, ◌∙◌, inl, inr, arith, Bor, All, FnReturnsAt, Shared, bit_at, cases_lt, nat_tests, get_or-take, get_or_past, length-append, take-append-le, take-take, take-append-drop, drop-take, get_or-append_seam, bit_at-lt, bit_at_above, All-nil, All-cons, All-head, All-tail, bitmap, backing_bit, AreLanesOf, ArePacked, AreAnswers, AreAsComputed, window, word_bits, ext_get_or, length-take, length-drop, length-take-le, bool_byte}
 use Rattle.mask_bits.proofs.BoolsLemmas.{lanes-none, lanes-more}
 use Rattle.mask_bits.proofs.ChosenBitLemmas.{joined, joined-clear, joined-list}
 use Rattle.mask_bits.proofs.Lists.Words.BackingBitLemmas.{bitmap-append, no_values}
 use Rattle.mask_bits.proofs.Lists.Words.FrontLemmas.{front-same, window-take}
 use Rattle.mask_bits.proofs.Lists.Words.WordLemmas.{get_or-word_bits, length-word_bits}
-use mir.Val.{bool_byte}
 
 -- the answers are those of any function that the test computes
 as_computed : {F T : Type 0} (g : Shared F (Bor T × Unit {0}) Bool) (test : F) (rows : List T) (answers : List Bool) (f : T → Bool)

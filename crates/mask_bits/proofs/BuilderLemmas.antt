@@ -1,7 +1,5 @@
 -- The list of a builder, from its bytes.
-use Rattle.mask_bits.proofs.Common.{◌≡◌, ◌≢◌, ℕ, ◌+◌, ◌*◌, ◌%◌, ◌<◌, ◌≤◌, Bool, true, false, not, ◌&&◌, ◌||◌, nat_eq, List, [], ◌++◌, length, set, take, drop, Result, Ok, Err, OnErr, refl, ap, ◌∙◌, arith, ne_eqb, length-set, get_or-set_same, get_or-set_other, nil_from_length, with_items_is, backing_bit, values, IsWrittenBehind, IsRoom}
-use Rattle.std.proofs.lemmas.Bool.{eq-eqb}
-use Rattle.std.proofs.lemmas.List.{length-take}
+use Rattle.mask_bits.proofs.Common.{◌≡◌, ◌≢◌, ℕ, ◌+◌, ◌*◌, ◌%◌, ◌<◌, ◌≤◌, Bool, true, false, not, ◌&&◌, ◌||◌, nat_eq, List, [], ◌++◌, length, set, take, drop, Result, Ok, Err, OnErr, refl, ap, ◌∙◌, arith, ne_eqb, length-set, get_or-set_same, get_or-set_other, nil_from_length, with_items_is, backing_bit, values, IsWrittenBehind, IsRoom, eq-eqb, length-take}
 use Rattle.mask_bits.proofs.BufferLemmas.{length-values, values_from_front}
 use Rattle.mask_bits.proofs.CombineLemmas.{take_back}
 use Rattle.mask_bits.proofs.Lists.Words.FrontLemmas.{get_or-front, front-same}

@@ -1,10 +1,6 @@
 -- The places of a byte's set bits, by the table, and the bytes of a word.
-use Rattle.mask_bits.proofs.Common.{◌≡◌, ℕ, ◌+◌, ◌*◌, ◌/◌, ◌%◌, ◌^◌, ◌<◌, ◌≤◌, Bool, true, false, nat_eq, List, subst, ◌++◌, length, get_or, take, drop, map, refl, sym, ap, ◌∙◌, arith, count_ones, add-zero, mod-eq_of_lt, append-nil, append_assoc, agree_below, agree_below_at, indices_from, positions, count, count_below, AreLanes, word_bits, get_or-drop, get_or-map, get_or-take, take-append-drop, take-take, length-append, drop_all, and_mask, ones-le, bit_at, between, get_or-between, length-between}
-use Rattle.std.proofs.lemmas.Bool.{eqb-true}
-use Rattle.std.proofs.Math.Dec.{eqb}
+use Rattle.mask_bits.proofs.Common.{◌≡◌, ℕ, ◌+◌, ◌*◌, ◌/◌, ◌%◌, ◌^◌, ◌<◌, ◌≤◌, Bool, true, false, nat_eq, List, subst, ◌++◌, length, get_or, take, drop, map, refl, sym, ap, ◌∙◌, arith, count_ones, add-zero, mod-eq_of_lt, append-nil, append_assoc, agree_below, agree_below_at, indices_from, positions, count, count_below, AreLanes, word_bits, get_or-drop, get_or-map, get_or-take, take-append-drop, take-take, length-append, drop_all, and_mask, ones-le, bit_at, between, get_or-between, length-between, eqb-true, eqb, drop-drop, ext_get_or, length-drop, length-take, bit_and}
 use Rattle.mask_bits.specs.declared.byte_places.TheConstants.{PLACES}
-use Rattle.std.proofs.lemmas.List.{drop-drop, ext_get_or, length-drop, length-take}
-use Rattle.std.specs.Int.Bits.{bit_and}
 use Rattle.mask_bits.proofs.Lists.CountLemmas.{count-append}
 use Rattle.mask_bits.proofs.Lists.LimitLemmas.{count_below_position}
 use Rattle.mask_bits.proofs.Lists.Words.ShiftLemmas.{bit_at-mod, bit_at-shr}

@@ -1,6 +1,5 @@
 -- Values put behind others by words: in the word that is begun, and in the next one once it is full.
-use Rattle.mask_bits.proofs.Common.{◌≡◌, ℕ, nat_eq, ◌^◌, ◌+◌, ◌-◌, ◌*◌, ◌/◌, ◌%◌, ◌<◌, ◌≤◌, Bool, false, List, [], ◌++◌, append-nil, append_assoc, count_ones, length, get_or, take, drop, refl, subst, sym, ap, ap₂, ◌∙◌, inl, inr, arith, bit_or, take-add, bit_at, cases_lt, get_or-drop, get_or-take, get_or_append_left, get_or-append_right, length-append, bit_at-lt, bit_at-zero, bit_at_above, bit_at_or, bitmap, Extracts, chosen, count, repeated, padded_part, window, word_bits, word_part, AreChosenSoFar, values_so_far, drop-put_mid}
-use Rattle.std.proofs.lemmas.List.{ext_get_or, length-drop, length-take}
+use Rattle.mask_bits.proofs.Common.{◌≡◌, ℕ, nat_eq, ◌^◌, ◌+◌, ◌-◌, ◌*◌, ◌/◌, ◌%◌, ◌<◌, ◌≤◌, Bool, false, List, [], ◌++◌, append-nil, append_assoc, count_ones, length, get_or, take, drop, refl, subst, sym, ap, ap₂, ◌∙◌, inl, inr, arith, bit_or, take-add, bit_at, cases_lt, get_or-drop, get_or-take, get_or_append_left, get_or-append_right, length-append, bit_at-lt, bit_at-zero, bit_at_above, bit_at_or, bitmap, Extracts, chosen, count, repeated, padded_part, window, word_bits, word_part, AreChosenSoFar, values_so_far, drop-put_mid, ext_get_or, length-drop, length-take, put_mid}
 use Rattle.mask_bits.proofs.Lists.ChooseLemmas.{chosen-all_false}
 use Rattle.mask_bits.proofs.Lists.CountLemmas.{count_below-le, get_or-padded, length-repeated}
 use Rattle.mask_bits.proofs.Lists.Places.SelectLemmas.{count-word_more}
@@ -12,7 +11,6 @@ use Rattle.mask_bits.proofs.Lists.Words.PaddedLemmas.{padded_part-whole, padded_
 use Rattle.mask_bits.proofs.Lists.Words.ShiftLemmas.{bit_at-mod, bit_at-shl_high, bit_at-shl_low, bit_at-shr}
 use Rattle.mask_bits.proofs.Lists.Words.WordLemmas.{count-word_bits, get_or-word_bits, length-word_bits}
 use Rattle.mask_bits.proofs.Lists.Words.BackingBitLemmas.{no_values}
-use borrow.Rule.Slice.PartMut.{put_mid}
 use Rattle.mask_bits.proofs.Lists.Places.PlaceLemmas.{count-le-length}
 
 -- ---- two words

@@ -1,11 +1,9 @@
 -- The bits that the loops over words write and compare.
-use Rattle.mask_bits.proofs.Common.{◌≡◌, Result, ℕ, ◌+◌, ◌*◌, ◌-◌, ◌/◌, ◌%◌, ◌<◌, ◌≤◌, ◌⊎◌, min, not, set, Bool, false, List, ◌++◌, length, get_or, take, drop, slice_range, refl, sym, ap, ◌∙◌, arith, bit_xor, IfOk, cases_lt, get_or-drop, get_or-set_other, get_or-take, take-append-le, length-append, get_or_append_left, get_or-append_right, length-between, get_or-between, get_or-set_at, bit_at-lt, bit_at_xor, bit_at_ones, IfOk-weaker, Packed, IsWithinBytes, backing_bit, values, AreCombined, IsCombinedBetween, combined, not_of, word_bits, window}
-use Rattle.std.proofs.lemmas.List.{ext_get_or, length-take, take_all}
+use Rattle.mask_bits.proofs.Common.{◌≡◌, Result, ℕ, ◌+◌, ◌*◌, ◌-◌, ◌/◌, ◌%◌, ◌<◌, ◌≤◌, ◌⊎◌, min, not, set, Bool, false, List, ◌++◌, length, get_or, take, drop, slice_range, refl, sym, ap, ◌∙◌, arith, bit_xor, IfOk, cases_lt, get_or-drop, get_or-set_other, get_or-take, take-append-le, length-append, get_or_append_left, get_or-append_right, length-between, get_or-between, get_or-set_at, bit_at-lt, bit_at_xor, bit_at_ones, IfOk-weaker, Packed, IsWithinBytes, backing_bit, values, AreCombined, IsCombinedBetween, combined, not_of, word_bits, window, ext_get_or, length-take, take_all, put_mid}
 use Rattle.mask_bits.proofs.BufferLemmas.{length-values, get_or-values, values_from_front}
 use Rattle.mask_bits.proofs.Lists.BooleanLemmas.{combined_itself, length-combined, get_or-combined}
 use Rattle.mask_bits.proofs.Lists.Words.FrontLemmas.{get_or-put_mid_below, get_or-put_mid_above, get_or-put_mid_inside, length-window, get_or-window, window-between, window_from_bits}
 use Rattle.mask_bits.proofs.Lists.Words.WordLemmas.{length-word_bits, get_or-word_bits}
-use borrow.Rule.Slice.PartMut.{put_mid}
 
 -- ---- windows
 

@@ -75,3 +75,5 @@ pub use Rattle.std.specs.Option.{IsSome}
 pub use Rattle.std.specs.Ordering.{nat_cmp, partial_le}
 pub use Rattle.std.specs.Prelude.{IsTrue, fold, slice_index, slice_index_or}
 pub use Rattle.std.specs.Simd.Lanes.{Each1, chunk, digits_l, number_l, zip2}
+pub use borrow.Rule.Slice.PartMut.{put_mid}
+pub use mir.Val.{bool_byte}

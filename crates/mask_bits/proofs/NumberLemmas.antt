@@ -1,9 +1,6 @@
 -- Bytes as one number, the first byte lowest, and its bits.
-use Rattle.mask_bits.proofs.Common.{◌≡◌, ℕ, zero, suc, ◌+◌, ◌*◌, ◌-◌, ◌/◌, ◌%◌, ◌^◌, ◌<◌, ◌≤◌, List, [], ◌∷◌, ◌++◌, length, get_or, take, drop, replicate, refl, sym, ap, subst, ◌∙◌, arith, lit<, mul_assoc, mul-div_cancel, bit_and, shr-shr, pow_pos, bit_at, w128, from_le_bytes, to_le_bytes, bytes_low_first, byte_at, sum_through, byte_worth, get_or-drop, get_or-take, get_or_past, length-append, take_rest, drop-replicate, bit_at-zero, bit_at_cat_low, bit_at_cat_high, number}
-use Rattle.std.specs.Int.{w64}
-use Rattle.std.proofs.lemmas.List.{length-drop, length-take, take_all, drop-drop}
+use Rattle.mask_bits.proofs.Common.{◌≡◌, ℕ, zero, suc, ◌+◌, ◌*◌, ◌-◌, ◌/◌, ◌%◌, ◌^◌, ◌<◌, ◌≤◌, List, [], ◌∷◌, ◌++◌, length, get_or, take, drop, replicate, refl, sym, ap, subst, ◌∙◌, arith, lit<, mul_assoc, mul-div_cancel, bit_and, shr-shr, pow_pos, bit_at, w128, from_le_bytes, to_le_bytes, bytes_low_first, byte_at, sum_through, byte_worth, get_or-drop, get_or-take, get_or_past, length-append, take_rest, drop-replicate, bit_at-zero, bit_at_cat_low, bit_at_cat_high, number, w64, length-drop, length-take, take_all, drop-drop, pow-suc}
 use Rattle.mask_bits.proofs.Lists.Words.ShiftLemmas.{bit_at-shr, bit_at-low_mask}
-use Rattle.std.proofs.Math.Nat.{pow-suc}
 
 -- each entry is a byte
 abbrev pub AreBytes : List ℕ → Type 0

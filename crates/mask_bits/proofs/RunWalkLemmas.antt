@@ -1,6 +1,5 @@
 -- Walks over the runs of a list by its words.
-use Rattle.mask_bits.proofs.Common.{◌≡◌, ◌≢◌, ℕ, ◌+◌, ◌*◌, ◌-◌, ◌/◌, ◌%◌, ◌^◌, ◌<◌, ◌≤◌, Bool, true, false, List, [], ◌++◌, length, get_or, drop, refl, sym, ap, ap₂, ◌∙◌, arith, nat_eq, bit_or, append-nil, true≢false, drop_all, runs_behind, runs_between, runs_past, runs_left, word_bits, word_part, padded_remainder, bit_at-zero}
-use mir.Val.{bool_byte}
+use Rattle.mask_bits.proofs.Common.{◌≡◌, ◌≢◌, ℕ, ◌+◌, ◌*◌, ◌-◌, ◌/◌, ◌%◌, ◌^◌, ◌<◌, ◌≤◌, Bool, true, false, List, [], ◌++◌, length, get_or, drop, refl, sym, ap, ap₂, ◌∙◌, arith, nat_eq, bit_or, append-nil, true≢false, drop_all, runs_behind, runs_between, runs_past, runs_left, word_bits, word_part, padded_remainder, bit_at-zero, bool_byte}
 use Rattle.mask_bits.proofs.Lists.Words.WordLemmas.{get_or-word_bits}
 use Rattle.mask_bits.proofs.RunWordLemmas.{word_bits-before, before-full, behind-same_word, behind-whole, behind-remainder, remainder_ends, no_runs_between, last_bit}
 

@@ -1,8 +1,5 @@
 -- Runs of a list, word by word, by where they begin and end.
-use Rattle.mask_bits.proofs.Common.{◌≡◌, ◌≢◌, ℕ, zero, suc, ◌+◌, ◌*◌, ◌-◌, ◌/◌, ◌%◌, ◌^◌, ◌<◌, ◌≤◌, ◌&&◌, not, Bool, true, false, nat_eq, List, [], ◌∷◌, ◌++◌, length, get_or, take, drop, count_ones, refl, sym, ap, ap₂, ◌∙◌, inl, inr, arith, mod-eq_of_lt, add-zero, bit_and, bit_or, zip, append-nil, bit_at, bit_not, leading_ones, leading_of_zero, cases_eq, true≢false, bit_at_not, bit_at-lt, bit_at_ones, bit_at_above, bit_at-zero, take-append-drop, nil_from_length, get_or-take, get_or_past, and_le_l, length-zip, indices_from, repeated, runs_from, with_index, runs_behind, runs_between, AreEdges, begins, word_bits, word_part, padded_remainder}
-use Rattle.std.specs.Int.{w64}
-use mir.Val.{bool_byte}
-use Rattle.std.proofs.lemmas.List.{drop-drop, ext_get_or, length-take, length-drop}
+use Rattle.mask_bits.proofs.Common.{◌≡◌, ◌≢◌, ℕ, zero, suc, ◌+◌, ◌*◌, ◌-◌, ◌/◌, ◌%◌, ◌^◌, ◌<◌, ◌≤◌, ◌&&◌, not, Bool, true, false, nat_eq, List, [], ◌∷◌, ◌++◌, length, get_or, take, drop, count_ones, refl, sym, ap, ap₂, ◌∙◌, inl, inr, arith, mod-eq_of_lt, add-zero, bit_and, bit_or, zip, append-nil, bit_at, bit_not, leading_ones, leading_of_zero, cases_eq, true≢false, bit_at_not, bit_at-lt, bit_at_ones, bit_at_above, bit_at-zero, take-append-drop, nil_from_length, get_or-take, get_or_past, and_le_l, length-zip, indices_from, repeated, runs_from, with_index, runs_behind, runs_between, AreEdges, begins, word_bits, word_part, padded_remainder, w64, drop-drop, ext_get_or, length-take, length-drop, bool_byte, append_assoc}
 use Rattle.mask_bits.proofs.Lists.CountLemmas.{get_or-padded}
 use Rattle.mask_bits.proofs.Lists.Words.WalkLemmas.{runs_from-repeated_false}
 use Rattle.mask_bits.proofs.Lists.Places.PushLemmas.{cleared, cleared-some, length-indices_of_word}
@@ -343,6 +340,6 @@ behind-remainder inside start n m = grind (arith, behind-padded inside start n (
 pub remainder_ends : (m : List Bool) → get_or (padded_remainder m) 63 false ≡ false
 remainder_ends m = grind (arith, get_or-padded, get_or_past, length-drop)
 
-pub ruleset runs_of_word = (word_bits-before, before-full, behind-same_word, last-same_word)
+pub ruleset runs_of_word = (word_bits-before, before-full, behind-same_word, last-same_word, outside, append_assoc)
 
 pub ruleset runs_pushed = (no_runs_between, append-nil)

@@ -1,6 +1,5 @@
 -- One bit of a list of bytes, read and set.
-use Rattle.mask_bits.proofs.Common.{◌≡◌, ℕ, ◌*◌, ◌/◌, ◌%◌, ◌^◌, ◌<◌, true, not, ◌||◌, ◌&&◌, List, length, get_or, set, replicate, nat_eq, arith, bit_and, bit_or, bit_not, get_or-set_other, get_or-replicate, bit_at_set_same, bit_at_set_other, bit_at_clear_same, bit_at_clear_other, bit_at_ones, backing_bit, get_or-set_at}
-use Rattle.std.specs.Int.{w8}
+use Rattle.mask_bits.proofs.Common.{◌≡◌, ℕ, ◌*◌, ◌/◌, ◌%◌, ◌^◌, ◌<◌, true, not, ◌||◌, ◌&&◌, List, length, get_or, set, replicate, nat_eq, arith, bit_and, bit_or, bit_not, get_or-set_other, get_or-replicate, bit_at_set_same, bit_at_set_other, bit_at_clear_same, bit_at_clear_other, bit_at_ones, backing_bit, get_or-set_at, w8}
 
 -- the bytes with the bit at q set
 abbrev pub with_bit : List ℕ → ℕ → List ℕ

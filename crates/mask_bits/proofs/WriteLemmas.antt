@@ -1,7 +1,5 @@
 -- Bits written behind the first bits of some bytes.
-use Rattle.mask_bits.proofs.Common.{◌≡◌, ℕ, ◌+◌, ◌*◌, ◌-◌, ◌/◌, ◌%◌, ◌^◌, ◌<◌, ◌≤◌, Bool, true, false, ◌||◌, nat_eq, List, ◌++◌, length, get_or, take, drop, replicate, ap, ◌∙◌, inl, inr, ◌⊎◌, arith, bit_or, bit_at, or-false, cases_lt, length-append, length-replicate, get_or-replicate, get_or_append_left, get_or-append_right, get_or_past, get_or-take, replicate-append-replicate, bit_at_ones, bitmap, backing_bit, values, IsWrittenBehind, AreClearFrom, repeated, word_bits, window}
-use Rattle.std.proofs.lemmas.List.{length-take, ext_get_or}
-use borrow.Rule.Slice.PartMut.{put_mid}
+use Rattle.mask_bits.proofs.Common.{◌≡◌, ℕ, ◌+◌, ◌*◌, ◌-◌, ◌/◌, ◌%◌, ◌^◌, ◌<◌, ◌≤◌, Bool, true, false, ◌||◌, nat_eq, List, ◌++◌, length, get_or, take, drop, replicate, ap, ◌∙◌, inl, inr, ◌⊎◌, arith, bit_or, bit_at, or-false, cases_lt, length-append, length-replicate, get_or-replicate, get_or_append_left, get_or-append_right, get_or_past, get_or-take, replicate-append-replicate, bit_at_ones, bitmap, backing_bit, values, IsWrittenBehind, AreClearFrom, repeated, word_bits, window, length-take, ext_get_or, put_mid}
 use Rattle.mask_bits.proofs.BufferLemmas.{length-values, values_from_front}
 use Rattle.mask_bits.proofs.CompareLemmas.{bitmap-byte}
 use Rattle.mask_bits.proofs.Lists.Words.FrontLemmas.{get_or-window, get_or-front, get_or-put_mid_below, get_or-put_mid_above, get_or-put_mid_inside, values-join, window-take}

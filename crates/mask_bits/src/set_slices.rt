@@ -13,7 +13,7 @@ ghost use Rattle.mask_bits.specs.Words.{word_bits};
 
 use crate::buffer::BitBuffer;
 use crate::chunks::BitChunks;
-use crate::run_words::{Edges, Open, bits_before, edges_in, edges_of, pop};
+use crate::run_words::{Edges, Open, bits_before, edges_in, pop};
 use std::alloc::{AllocError, Global};
 use std::marker::Model;
 
@@ -75,33 +75,9 @@ fn push_runs(
     if word == before {
         return Ok(begun);
     }
-    push_edges(ranges, begun, base, word, before)
-}
-
-// The same for a word that has edges.
-#[inline(always)]
-#[tactic(auto, using(crate::proofs::RunWordLemmas::each_of_word_begins, crate::proofs::RunWordLemmas::last_bit))]
-fn push_edges(
-    ranges: &mut Vec<(usize, usize)>,
-    begun: Open,
-    base: usize,
-    word: u64,
-    before: u64,
-) -> Result<Open, AllocError>
-    requires fits { base + 64 ≤ 2 ^ 64 }
-    requires bits { word_bits before ≡ take 64 (begun.inside ∷ word_bits word) }
-    requires full { word ≡ 2 ^ 64 - 1 → begun.inside ≡ true → before ≡ word }
-    requires some { word ≢ before }
-    ensures runs { IfOk result (λ after. (rest : List Bool) → ranges.new.items ++ runs_behind after.inside after.start (base + 64) rest
-        ≡ ranges.old.items ++ runs_behind begun.inside begun.start base (word_bits word ++ rest)) }
-    ensures last { IfOk result (λ after. after.inside ≡ slice_index_or (word_bits word) 63 false) }
-{
-    let edges = edges_of(begun, base, word & !before, before & !word);
+    let (edges, after) = edges_in(begun, base, word, before);
     push_between(ranges, base, edges)?;
-    Ok(Open {
-        inside: word >> 63 == 1,
-        start: base.wrapping_add(64 - word.leading_ones() as usize),
-    })
+    Ok(after)
 }
 
 // Appends the runs between edges.
@@ -157,30 +133,16 @@ fn push_by_two(ranges: &mut Vec<(usize, usize)>, base: usize, edges: Edges)
         ≡ ranges.old.items ++ runs_between base edges.first edges.starts edges.ends }
 {
     let end = ranges.len() + edges.ends.count_ones() as usize;
-    let mut left = push_two(ranges, base, edges);
+    let first = push_first(ranges, base, edges);
+    let mut left = push_first(ranges, base, first);
     while ranges.len() < end {
-        left = push_two(ranges, base, left);
+        let next = push_first(ranges, base, left);
+        left = push_first(ranges, base, next);
     }
     ranges.truncate(end);
 }
 
-// Appends the first two runs, and other pairs where there are fewer. Returns the edges that are left.
-#[inline]
-fn push_two(ranges: &mut Vec<(usize, usize)>, base: usize, edges: Edges) -> Edges
-    requires room { vec_len ranges.old + 2 ≤ vec_capacity ranges.old }
-    requires fits { base + 64 ≤ 2 ^ 64 }
-    requires edges { AreEdges base edges.starts edges.ends }
-    ensures pushed { (all : List (ℕ × ℕ)) → ArePushed all ranges.old.items (runs_between base edges.first edges.starts edges.ends)
-        → ArePushed all ranges.new.items (runs_between base result.first result.starts result.ends) }
-    ensures edges { AreEdges base result.starts result.ends }
-    ensures len { vec_len ranges.new ≡ vec_len ranges.old + 2 }
-    ensures room { vec_capacity ranges.new ≡ vec_capacity ranges.old }
-{
-    let left = push_first(ranges, base, edges);
-    push_first(ranges, base, left)
-}
-
-// The same of the first run.
+// Appends the first run, or another pair where there is none. Returns the edges that are left.
 #[inline]
 fn push_first(ranges: &mut Vec<(usize, usize)>, base: usize, edges: Edges) -> Edges
     requires room { vec_len ranges.old < vec_capacity ranges.old }

@@ -1,6 +1,5 @@
 -- How many values are true: of lists of one value, and what no or every true value says of a list.
-use Rattle.mask_bits.proofs.Common.{◌++◌, ◌≡◌, ℕ, zero, suc, ◌+◌, ◌<◌, ◌≤◌, Bool, true, false, List, [], ◌∷◌, length, get_or, take, drop, Some, slice_get, refl, sym, ap, ◌∙◌, arith, zero-add, ◌↔◌, list_all, list_any, range_with_len, get_or-replicate, length-replicate, get_or_append_left, get_or-append_right, get_or_past, take-append-drop, length-range_with_len, get_or-range_with_len, slice_get-get_or, indices_from, positions, count, count_below, repeated}
-use Rattle.std.specs.List.{All}
+use Rattle.mask_bits.proofs.Common.{◌++◌, ◌≡◌, ℕ, zero, suc, ◌+◌, ◌<◌, ◌≤◌, Bool, true, false, List, [], ◌∷◌, length, get_or, take, drop, Some, slice_get, refl, sym, ap, ◌∙◌, arith, zero-add, ◌↔◌, list_all, list_any, range_with_len, get_or-replicate, length-replicate, get_or_append_left, get_or-append_right, get_or_past, take-append-drop, length-range_with_len, get_or-range_with_len, slice_get-get_or, indices_from, positions, count, count_below, repeated, All}
 use Rattle.mask_bits.proofs.Lists.Places.PlaceLemmas.{length-indices_from, trues, count-trues}
 
 -- every place of an all-true list, and none of an all-false one

@@ -4,10 +4,6 @@ use Rattle.mask_bits.proofs.Lists.CountLemmas.{count-repeated_true, length-repea
 use Rattle.mask_bits.proofs.Lists.PartLemmas.{part_of_repeated}
 use Rattle.mask_bits.proofs.Lists.Places.PlaceLemmas.{trues, count-trues, positions-within}
 
--- one item in front that passes, or does not
-counted : (p : ℕ → Bool) (x : ℕ) (xs : List ℕ) → p x ≡ true → count_by p (x ∷ xs) ≡ suc (count_by p xs)
-counted p x xs passes = grind (arith, sum_by-cons (λ y. cond (p y) 1 0) x xs)
-
 -- the true places that lie in a part, where the list's first place is n
 inside_from : ℕ → ℕ → ℕ → List Bool → ℕ
 inside_from s e n m = count_by (λ p. is_inside p (s, e)) (indices_from n m)

@@ -1,6 +1,5 @@
 -- A list limited to its first true values, and the count below a true place.
-use Rattle.mask_bits.proofs.Common.{◌≡◌, ℕ, zero, suc, ◌-◌, ◌<◌, ◌≤◌, ◌++◌, min, Bool, true, false, ◌&&◌, nat_lt, List, [], ◌∷◌, length, get_or, take, slice_range, Some, slice_get, refl, sym, ap, ◌∙◌, arith, get_or-map, slice_get_within, get_or_from_slice_get, length-map-range_with_len, get_or-map-range_with_len, limited, positions, count, count_below, repeated}
-use Rattle.std.proofs.lemmas.List.{ext_get_or, length-take}
+use Rattle.mask_bits.proofs.Common.{◌≡◌, ℕ, zero, suc, ◌-◌, ◌<◌, ◌≤◌, ◌++◌, min, Bool, true, false, ◌&&◌, nat_lt, List, [], ◌∷◌, length, get_or, take, slice_range, Some, slice_get, refl, sym, ap, ◌∙◌, arith, get_or-map, slice_get_within, get_or_from_slice_get, length-map-range_with_len, get_or-map-range_with_len, limited, positions, count, count_below, repeated, ext_get_or, length-take}
 use Rattle.mask_bits.specs.Laws.Indices.{CountBelowPosition}
 use Rattle.mask_bits.specs.Laws.Parts.{LimitOfLimit, HasLimitCount}
 use Rattle.mask_bits.proofs.Lists.Places.PlaceLemmas.{positions-true, positions-false, trues, count-trues}

@@ -1,6 +1,5 @@
 -- Parts of parts, and of lists one after another.
-use Rattle.mask_bits.proofs.Common.{◌≡◌, ℕ, ◌-◌, ◌≤◌, Bool, drop, slice_range, arith, take-take, drop-take, take-append-le, drop-append-le, drop_all, drop-replicate, take-replicate, flat_map-append, repeated}
-use Rattle.std.proofs.lemmas.List.{drop-drop, take_all}
+use Rattle.mask_bits.proofs.Common.{◌≡◌, ℕ, ◌-◌, ◌≤◌, Bool, drop, slice_range, arith, take-take, drop-take, take-append-le, drop-append-le, drop_all, drop-replicate, take-replicate, flat_map-append, repeated, drop-drop, take_all}
 use Rattle.mask_bits.specs.Laws.Parts.{PartOfPart, PartOfConcat}
 
 pub part_of_part : PartOfPart

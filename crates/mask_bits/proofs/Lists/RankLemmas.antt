@@ -1,6 +1,5 @@
 -- The rank intersection of two lists, by recursion on the first.
-use Rattle.mask_bits.proofs.Common.{◌≡◌, ℕ, zero, suc, ◌+◌, ◌<◌, ◌≤◌, Bool, true, false, List, [], ◌∷◌, length, get_or, map, nat_eq, refl, ap, ◌∙◌, arith, list_any, range_with_len, get_or-map, length-replicate, All-head, All-tail, All-map, All-weaker, All-get_or, length-map-range_with_len, positions, count, true_at, at_indices, rank_intersection, repeated}
-use Rattle.std.specs.List.{All}
+use Rattle.mask_bits.proofs.Common.{◌≡◌, ℕ, zero, suc, ◌+◌, ◌<◌, ◌≤◌, Bool, true, false, List, [], ◌∷◌, length, get_or, map, nat_eq, refl, ap, ◌∙◌, arith, list_any, range_with_len, get_or-map, length-replicate, All-head, All-tail, All-map, All-weaker, All-get_or, length-map-range_with_len, positions, count, true_at, at_indices, rank_intersection, repeated, All}
 use Rattle.mask_bits.proofs.Lists.CountLemmas.{count-repeated_true}
 use Rattle.mask_bits.proofs.Lists.Places.PlaceLemmas.{positions-true, positions-false, trues, count-trues, positions-within}
 

@@ -5,7 +5,7 @@ use crate::kit::AllocError;
 use crate::kit::prelude::*;
 use crate::proved::mask_bits::buffer::BitBuffer;
 use crate::proved::mask_bits::chunks::BitChunks;
-use crate::proved::mask_bits::run_words::{Edges, Open, bits_before, edges_in, edges_of, pop};
+use crate::proved::mask_bits::run_words::{Edges, Open, bits_before, edges_in, pop};
 
 impl BitBuffer {
     /// The runs (maximal ranges) of true values, ascending, each by its first index and the index past its
@@ -67,24 +67,9 @@ fn push_runs(
     if word == before {
         return Ok(begun);
     }
-    push_edges(ranges, begun, base, word, before)
-}
-
-// The same for a word that has edges.
-#[inline(always)]
-fn push_edges(
-    ranges: &mut Vec<(usize, usize)>,
-    begun: Open,
-    base: usize,
-    word: u64,
-    before: u64,
-) -> Result<Open, AllocError> {
-    let edges = edges_of(begun, base, word & !before, before & !word);
+    let (edges, after) = edges_in(begun, base, word, before);
     push_between(ranges, base, edges)?;
-    Ok(Open {
-        inside: word >> 63 == 1,
-        start: base.wrapping_add(64 - word.leading_ones() as usize),
-    })
+    Ok(after)
 }
 
 // Appends the runs between edges.
@@ -123,21 +108,16 @@ fn push_each_run(
 #[inline(always)]
 fn push_by_two(ranges: &mut Vec<(usize, usize)>, base: usize, edges: Edges) {
     let end = ranges.len() + edges.ends.count_ones() as usize;
-    let mut left = push_two(ranges, base, edges);
+    let first = push_first(ranges, base, edges);
+    let mut left = push_first(ranges, base, first);
     while ranges.len() < end {
-        left = push_two(ranges, base, left);
+        let next = push_first(ranges, base, left);
+        left = push_first(ranges, base, next);
     }
     ranges.truncate(end);
 }
 
-// Appends the first two runs, and other pairs where there are fewer. Returns the edges that are left.
-#[inline(always)]
-fn push_two(ranges: &mut Vec<(usize, usize)>, base: usize, edges: Edges) -> Edges {
-    let left = push_first(ranges, base, edges);
-    push_first(ranges, base, left)
-}
-
-// The same of the first run.
+// Appends the first run, or another pair where there is none. Returns the edges that are left.
 #[inline(always)]
 fn push_first(ranges: &mut Vec<(usize, usize)>, base: usize, edges: Edges) -> Edges {
     let (run, left) = pop(base, edges);

@@ -1,7 +1,5 @@
 -- Ascending lists of places: the true places of a list are such a list, and each such list is one list's true places.
-use Rattle.mask_bits.proofs.Common.{◌≡◌, ℕ, zero, suc, ◌+◌, ◌<◌, ◌≤◌, ◌||◌, Bool, true, false, nat_eq, List, [], ◌∷◌, length, get_or, map, refl, sym, ap, subst, inl, inr, arith, list_any, range_with_len, IsStrictlyIncreasing, cases_eq, ne_eqb, indices_from, positions, true_at, repeated, get_or_default}
-use Rattle.std.specs.List.{All}
-use Rattle.std.proofs.lemmas.Bool.{eq-eqb}
+use Rattle.mask_bits.proofs.Common.{◌≡◌, ℕ, zero, suc, ◌+◌, ◌<◌, ◌≤◌, ◌||◌, Bool, true, false, nat_eq, List, [], ◌∷◌, length, get_or, map, refl, sym, ap, subst, inl, inr, arith, list_any, range_with_len, IsStrictlyIncreasing, cases_eq, ne_eqb, indices_from, positions, true_at, repeated, get_or_default, All, eq-eqb}
 use Rattle.mask_bits.proofs.Lists.CountLemmas.{all_true_from_count}
 use Rattle.mask_bits.proofs.Lists.RankLemmas.{length-true_at, map_range_same}
 

@@ -1,8 +1,5 @@
 -- What a word's bits yield, put into room without a test of whether one is left.
-use Rattle.mask_bits.proofs.Common.{◌≡◌, ℕ, Bool, ◌+◌, ◌-◌, ◌%◌, ◌^◌, ◌<◌, ◌≤◌, List, [], ◌∷◌, ◌++◌, Option, Some, None, suc, length, take, slice_get, true, nat_eq, false, refl, sym, ap, nat_lt, if◌then◌else◌, count_ones, ◌∙◌, inl, inr, arith, append-nil, append_assoc, add-zero, cons_option, filter_map, IsSome, cases_lt, nat_tests, take-append-le, All-head, All-tail, All-weaker, chosen, indices_from, positions, count, repeated, ArePushed, items_of, word_bits, get_or_from_slice_get, slice_get_cases}
-use Rattle.std.specs.Int.RustNames.{bit_and}
-use Rattle.std.specs.List.{All}
-use Rattle.std.proofs.lemmas.List.{length-take, length-take-le}
+use Rattle.mask_bits.proofs.Common.{◌≡◌, ℕ, Bool, ◌+◌, ◌-◌, ◌%◌, ◌^◌, ◌<◌, ◌≤◌, List, [], ◌∷◌, ◌++◌, Option, Some, None, suc, length, take, slice_get, true, nat_eq, false, refl, sym, ap, nat_lt, if◌then◌else◌, count_ones, ◌∙◌, inl, inr, arith, append-nil, append_assoc, add-zero, cons_option, filter_map, IsSome, cases_lt, nat_tests, take-append-le, All-head, All-tail, All-weaker, chosen, indices_from, positions, count, repeated, ArePushed, items_of, word_bits, get_or_from_slice_get, slice_get_cases, bit_and, All, length-take, length-take-le}
 use lib.Seq.{take-append_seam}
 use Rattle.mask_bits.proofs.Lists.ChooseLemmas.{chosen-all_true, chosen-of_front, chosen_at_positions}
 use Rattle.mask_bits.proofs.Lists.CountLemmas.{count-repeated_true, length-repeated, slice_get-repeated}

@@ -1,7 +1,5 @@
 -- Where true value number n of a list stands, found by the counts of its started words; and its last true value.
-use Rattle.mask_bits.proofs.Common.{◌≡◌, ℕ, suc, ◌+◌, ◌*◌, ◌-◌, ◌^◌, ◌<◌, ◌≤◌, Bool, true, false, List, [], ◌∷◌, ◌++◌, length, get_or, take, drop, map, Some, None, slice_get, slice_range, refl, sym, ap, ◌∙◌, arith, append-nil, append_assoc, add-zero, drop-drop, option_map, bit_and, take-add, bit_at, leading_zeros, take-append-drop, drop_more, length-append, length-map, get_or-drop, get_or-take, get_or_past, cases_lt, leading_top, ones-le, bit_at_above, bit_at-zero, slice_get-get_or, slice_get_past, slice_get-map, indices_from, positions, count, repeated, word_bits, padded_part}
-use Rattle.std.specs.Int.{w64}
-use Rattle.std.proofs.lemmas.List.{drop-drop, take_all, length-drop, length-take}
+use Rattle.mask_bits.proofs.Common.{◌≡◌, ℕ, suc, ◌+◌, ◌*◌, ◌-◌, ◌^◌, ◌<◌, ◌≤◌, Bool, true, false, List, [], ◌∷◌, ◌++◌, length, get_or, take, drop, map, Some, None, slice_get, slice_range, refl, sym, ap, ◌∙◌, arith, append-nil, append_assoc, add-zero, drop-drop, option_map, bit_and, take-add, bit_at, leading_zeros, take-append-drop, drop_more, length-append, length-map, get_or-drop, get_or-take, get_or_past, cases_lt, leading_top, ones-le, bit_at_above, bit_at-zero, slice_get-get_or, slice_get_past, slice_get-map, indices_from, positions, count, repeated, word_bits, padded_part, w64, take_all, length-drop, length-take}
 use Rattle.mask_bits.proofs.Lists.CountLemmas.{count-append, count-repeated_false, indices_from-repeated_false, length-repeated, get_or-padded}
 use Rattle.mask_bits.proofs.Lists.Words.LowestLemmas.{low, low-within, low-set, low-first, bit_at-lowest_cleared, bit_at-lowest_others}
 use Rattle.mask_bits.proofs.Lists.Words.PaddedLemmas.{padded_part_from_values}
@@ -136,8 +134,6 @@ none_more m i read none p from = grind (arith, none p, bit-padded m i 0 (p - 64 
 -- the true values up to a place, and those of the part from there
 pub count-part_further : (m : List Bool) (s n : ℕ) → count (take (s + n) m) ≡ count (take s m) + count (slice_range m s (s + n))
 count-part_further m s n = grind (arith, take-add, count-append)
-
-pub ruleset indices_of_word = (places-lowest, indices-of_none, append-nil, append_assoc)
 
 pub ruleset left_in_word = (some_left, left-more, left-first, low-within)
 

@@ -1,7 +1,5 @@
 -- How many places ranges hold.
-use Rattle.mask_bits.proofs.Common.{◌≡◌, ℕ, ◌-◌, ◌<◌, ◌≤◌, Bool, true, false, List, [], ◌∷◌, length, get_or, drop, slice_range, refl, ap, ◌∙◌, suc, arith, AllAdjacentBelow, list_any, sum_by, drop_all, length-between, get_or-between, drop_split, sum_by-cons, count, repeated, is_inside, AreRanges}
-use Rattle.std.specs.List.{All}
-use Rattle.std.proofs.lemmas.List.{ext_get_or}
+use Rattle.mask_bits.proofs.Common.{◌≡◌, ℕ, ◌-◌, ◌<◌, ◌≤◌, Bool, true, false, List, [], ◌∷◌, length, get_or, drop, slice_range, refl, ap, ◌∙◌, suc, arith, AllAdjacentBelow, list_any, sum_by, drop_all, length-between, get_or-between, drop_split, sum_by-cons, count, repeated, is_inside, AreRanges, All, ext_get_or}
 use Rattle.mask_bits.proofs.Lists.CountLemmas.{count-append, count-repeated_true, count-repeated_false, length-repeated, get_or-repeated}
 use Rattle.mask_bits.proofs.Lists.Runs.RunLemmas.{inside, inside-past}
 

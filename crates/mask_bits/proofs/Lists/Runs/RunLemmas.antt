@@ -1,7 +1,5 @@
 -- The runs of a list: there is one list of them, and the scan finds it.
-use Rattle.mask_bits.proofs.Common.{◌≡◌, ◌≢◌, ℕ, zero, suc, ◌+◌, ◌<◌, ◌≤◌, ◌&&◌, ◌||◌, Bool, true, false, nat_eq, List, [], ◌∷◌, length, get_or, drop, map, refl, sym, ap, ◌∙◌, inl, inr, arith, add-one, nat_le, nat_lt, cases_eq, ne_eqb, le-leb, lt-ltb, le-ltb, and_from, and_right, or_left, cond-true, cond-false, true≢false, AllAdjacentBelow, list_any, is_inside, AreRuns, with_index, runs_from}
-use Rattle.std.proofs.lemmas.Bool.{eq-eqb}
-use Rattle.std.specs.List.{All}
+use Rattle.mask_bits.proofs.Common.{◌≡◌, ◌≢◌, ℕ, zero, suc, ◌+◌, ◌<◌, ◌≤◌, ◌&&◌, ◌||◌, Bool, true, false, nat_eq, List, [], ◌∷◌, length, get_or, drop, map, refl, sym, ap, ◌∙◌, inl, inr, arith, add-one, nat_le, nat_lt, cases_eq, ne_eqb, le-leb, lt-ltb, le-ltb, and_from, and_right, or_left, cond-true, cond-false, true≢false, AllAdjacentBelow, list_any, is_inside, AreRuns, with_index, runs_from, eq-eqb, All}
 use Rattle.mask_bits.specs.Laws.Runs.{RunsExist, RunsAreUnique, RunsAreRanges}
 
 -- ---- one range

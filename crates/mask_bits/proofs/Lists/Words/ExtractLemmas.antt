@@ -1,6 +1,5 @@
 -- The bits of a word at the set places of another, one by one and as a list.
-use Rattle.mask_bits.proofs.Common.{common_steps, ◌≡◌, ◌≢◌, ◌⊎◌, inl, inr, subst, bit_and, bit_or, bit_xor, ℕ, zero, suc, ◌+◌, ◌*◌, ◌-◌, ◌/◌, ◌%◌, ◌^◌, ◌<◌, ◌≤◌, ◌↔◌, Bool, true, false, nat_eq, List, [], ◌∷◌, length, get_or, take, drop, sym, ap, ◌∙◌, arith, ◌++◌, bit_at, items_where_true, nat_tests, get_or-map, length-append, get_or_append_left, get_or-append_right, take-append-le, cases_lt, and_mask, and_le_l, or_zero_l, or_zero_r, xor_zero_r, bit_at-lt, bit_at_or, bit_at_xor, bit_at_above, bit_at-pow_same, bit_at-pow_other, same_from_bits, get_or_from_slice_get, Extracts, positions, count, chosen, repeated, word_bits}
-use Rattle.std.proofs.lemmas.List.{ext_get_or, take_all, length-drop}
+use Rattle.mask_bits.proofs.Common.{common_steps, ◌≡◌, ◌≢◌, ◌⊎◌, inl, inr, subst, bit_and, bit_or, bit_xor, ℕ, zero, suc, ◌+◌, ◌*◌, ◌-◌, ◌/◌, ◌%◌, ◌^◌, ◌<◌, ◌≤◌, ◌↔◌, Bool, true, false, nat_eq, List, [], ◌∷◌, length, get_or, take, drop, sym, ap, ◌∙◌, arith, ◌++◌, bit_at, items_where_true, nat_tests, get_or-map, length-append, get_or_append_left, get_or-append_right, take-append-le, cases_lt, and_mask, and_le_l, or_zero_l, or_zero_r, xor_zero_r, bit_at-lt, bit_at_or, bit_at_xor, bit_at_above, bit_at-pow_same, bit_at-pow_other, same_from_bits, get_or_from_slice_get, Extracts, positions, count, chosen, repeated, word_bits, ext_get_or, take_all, length-drop}
 use Rattle.mask_bits.proofs.Lists.Words.LowestLemmas.{low, low-first, low-set, bit_at-lowest_cleared, bit_at-lowest_others}
 use Rattle.mask_bits.proofs.Lists.Words.ShiftLemmas.{bit_at-mod, bit_at-shl_high, bit_at-shl_low}
 use Rattle.mask_bits.proofs.Lists.CountLemmas.{length-repeated, get_or-repeated}

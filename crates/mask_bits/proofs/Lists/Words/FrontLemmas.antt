@@ -1,11 +1,8 @@
 -- Words and first bits of some bytes: what a window shows, and a front that grows by a word.
-use Rattle.mask_bits.proofs.Common.{◌≡◌, ℕ, ◌+◌, ◌*◌, ◌-◌, ◌<◌, ◌≤◌, Bool, false, List, ◌++◌, length, get_or, take, drop, slice_range, refl, sym, ap, ◌∙◌, arith, from_le_bytes, length-append, get_or_append_left, get_or-append_right, get_or_past, get_or-drop, get_or-take, length-between, get_or-between, length-map-range_with_len, get_or-map-range_with_len, fill_by_all, take-put_mid_below, drop-put_mid, between-put_mid, bitmap, Packed, backing_bit, values, word_bits, window}
-use Rattle.std.specs.Int.{w64}
-use Rattle.std.proofs.lemmas.List.{drop-drop, length-take}
+use Rattle.mask_bits.proofs.Common.{◌≡◌, ℕ, ◌+◌, ◌*◌, ◌-◌, ◌<◌, ◌≤◌, Bool, false, List, ◌++◌, length, get_or, take, drop, slice_range, refl, sym, ap, ◌∙◌, arith, from_le_bytes, length-append, get_or_append_left, get_or-append_right, get_or_past, get_or-drop, get_or-take, length-between, get_or-between, length-map-range_with_len, get_or-map-range_with_len, fill_by_all, take-put_mid_below, drop-put_mid, between-put_mid, bitmap, Packed, backing_bit, values, word_bits, window, w64, drop-drop, length-take, put_mid}
 use Rattle.mask_bits.proofs.BufferLemmas.{length-values, get_or-values, values_from_bits, values_from_front}
 use Rattle.mask_bits.proofs.Lists.Words.WordLemmas.{word_bits_from_bits}
 use Rattle.mask_bits.proofs.NumberLemmas.{AreBytes, bit_at-chunk}
-use borrow.Rule.Slice.PartMut.{put_mid}
 
 -- ---- windows
 

@@ -1,8 +1,7 @@
 -- The bits of a word's lowest places at the set ones of a mask: by parts, and one by one.
-use Rattle.mask_bits.proofs.Common.{◌≡◌, ◌⊎◌, inl, inr, bit_and, ℕ, zero, suc, min, ◌+◌, ◌*◌, ◌-◌, ◌/◌, ◌%◌, ◌^◌, ◌<◌, ◌≤◌, Bool, false, nat_eq, List, [], ◌∷◌, length, get_or, count_ones, refl, sym, ap, ap₂, ◌∙◌, arith, pow-add, pow_mono, lt_of_lt_of_le, mod-lt, mod-eq_of_lt, subst, mul_assoc, mul_comm, add-mul, bit_at, cases_lt, get_or-map, length-map, shr_split, shr_high, ones-le, and_shr, mod-pow-add, mod-mul-add, bit_at_lowest, bit_at-suc, bit_at_above, bit_at_and, bit_at_cat_low, Extracts, gathered, closed_up, positions, count, word_bits}
+use Rattle.mask_bits.proofs.Common.{◌≡◌, ◌⊎◌, inl, inr, bit_and, ℕ, zero, suc, min, ◌+◌, ◌*◌, ◌-◌, ◌/◌, ◌%◌, ◌^◌, ◌<◌, ◌≤◌, Bool, false, nat_eq, List, [], ◌∷◌, length, get_or, count_ones, refl, sym, ap, ap₂, ◌∙◌, arith, pow-add, pow_mono, lt_of_lt_of_le, mod-lt, mod-eq_of_lt, subst, mul_assoc, mul_comm, add-mul, bit_at, cases_lt, get_or-map, length-map, shr_split, shr_high, ones-le, and_shr, mod-pow-add, mod-mul-add, bit_at_lowest, bit_at-suc, bit_at_above, bit_at_and, bit_at_cat_low, Extracts, gathered, closed_up, positions, count, word_bits, pow_pos, shr-shr}
 use lib.Count.{ones_step}
 use lib.Pow.{field, mod-mod-pow}
-use Rattle.std.proofs.lemmas.Nat.{pow_pos, shr-shr}
 use Rattle.mask_bits.proofs.Lists.Places.PlaceLemmas.{positions-true, positions-false}
 use Rattle.mask_bits.proofs.Lists.Words.ShiftLemmas.{bit_at-mod}
 use Rattle.mask_bits.proofs.Lists.Words.WordLemmas.{word_bits_from_bits}

@@ -1,7 +1,5 @@
 -- Vectors lane by lane, those of the eight bytes of a word, and how the bits of a byte close up.
-use Rattle.mask_bits.proofs.Common.{◌≡◌, ℕ, ◌+◌, ◌-◌, ◌*◌, ◌/◌, ◌%◌, ◌^◌, ◌<◌, inl, inr, List, length, get_or, map, replicate, refl, ap, ◌∙◌, arith, w8, bit_and, Fits, mul_assoc, bit_at, zip2, Each1, length-zip2, get_or-zip2, Each1-get_or, Each1-from_get_or, swz_l, SwzOk, SwzOk-from_below, length-swz_l, get_or-swz_l_below, shr_split, one_shl, bit_at-lt, and_pow, and_high_mask, and_zero_r, pow-lt, cases_lt, length-map, get_or-map, closed_up, AreLanes}
-use Rattle.std.proofs.lemmas.Simd.{length-replicate, get_or-replicate}
-use Rattle.std.proofs.lemmas.Nat.{pow_pos, shr-shr}
+use Rattle.mask_bits.proofs.Common.{◌≡◌, ℕ, ◌+◌, ◌-◌, ◌*◌, ◌/◌, ◌%◌, ◌^◌, ◌<◌, inl, inr, List, length, get_or, map, replicate, refl, ap, ◌∙◌, arith, w8, bit_and, Fits, mul_assoc, bit_at, zip2, Each1, length-zip2, get_or-zip2, Each1-get_or, Each1-from_get_or, swz_l, SwzOk, SwzOk-from_below, length-swz_l, get_or-swz_l_below, shr_split, one_shl, bit_at-lt, and_pow, and_high_mask, and_zero_r, pow-lt, cases_lt, length-map, get_or-map, closed_up, AreLanes, length-replicate, get_or-replicate, pow_pos, shr-shr}
 
 -- ---- what an operator leaves in each lane
 

@@ -1,7 +1,5 @@
 -- The lowest set bit of a word, and its lowest run of set bits: cleared, and filled up from below.
-use Rattle.mask_bits.proofs.Common.{◌≡◌, ℕ, zero, suc, ◌-◌, ◌/◌, ◌%◌, ◌^◌, ◌<◌, ◌≤◌, sym, ap, ◌∙◌, inl, inr, arith, bit_at, trailing_zeros, trailing_ones, bit_not, trailing_of_zero, trailing_le, cases_eq, bit_at_lowest, bit_at-suc, bit_at_and, bit_at_ones, bit_at-trailing_zeros, bit_at-trailing_ones}
-use Rattle.std.specs.Int.{w64}
-use Rattle.std.specs.Int.RustNames.{bit_and}
+use Rattle.mask_bits.proofs.Common.{◌≡◌, ℕ, zero, suc, ◌-◌, ◌/◌, ◌%◌, ◌^◌, ◌<◌, ◌≤◌, sym, ap, ◌∙◌, inl, inr, arith, bit_at, trailing_zeros, trailing_ones, bit_not, trailing_of_zero, trailing_le, cases_eq, bit_at_lowest, bit_at-suc, bit_at_and, bit_at_ones, bit_at-trailing_zeros, bit_at-trailing_ones, w64, bit_and}
 
 -- ---- one less, and one more
 
@@ -11,15 +9,7 @@ half_less n some even = omega arith
 half_less_odd : (n : ℕ) → n % 2 ≡ 1 → (n - 1) / 2 ≡ n / 2
 half_less_odd n odd = omega arith
 
--- a number less one: the bits below the lowest set one turn to 1, that one to 0, and the others stay
-less_below : (z n i : ℕ) → 0 < n → bit_at n z ≡ 1 → ((j : ℕ) → j < z → bit_at n j ≡ 0) → i < z → bit_at (n - 1) i ≡ 1
-less_below zero n i some set clear h = absurd (omega arith)
-less_below (suc z) n zero some set clear h = omega (arith, bit_at_lowest (n - 1), bit_at_lowest n, clear 0 (omega arith))
-less_below (suc z) n (suc i) some set clear h =
-    let even : n % 2 ≡ 0 = omega (arith, bit_at_lowest n, clear 0 (omega arith)) in
-    let rest = less_below z (n / 2) i (omega arith) (sym (bit_at-suc n z) ∙ set) (λ j l. sym (bit_at-suc n j) ∙ clear (suc j) (omega arith)) (omega arith) in
-    grind (arith, bit_at-suc (n - 1) i, half_less n some even, rest)
-
+-- a number less one: its lowest set bit turns to 0, and those above it stay
 less_at : (z n : ℕ) → 0 < n → bit_at n z ≡ 1 → ((j : ℕ) → j < z → bit_at n j ≡ 0) → bit_at (n - 1) z ≡ 0
 less_at zero n some set clear = omega (arith, bit_at_lowest (n - 1), bit_at_lowest n)
 less_at (suc z) n some set clear =

@@ -1,6 +1,5 @@
 -- A list in started words: the last one has false values up to a whole word.
-use Rattle.mask_bits.proofs.Common.{◌≡◌, ℕ, ◌+◌, ◌*◌, ◌-◌, ◌/◌, ◌%◌, ◌^◌, ◌<◌, ◌≤◌, Bool, false, List, [], ◌∷◌, ◌++◌, length, get_or, drop, sym, ◌∙◌, arith, bit_and, drop_more, drop_all, length-append, get_or-drop, get_or-take, get_or_past, length-between, get_or-between, length-map-range_with_len, get_or-map-range_with_len, bitmap, Packed, values, repeated, word_bits, window, word_part, padded_remainder, started_words, padded_part, padded_parts}
-use Rattle.std.proofs.lemmas.List.{ext_get_or, length-drop, length-take}
+use Rattle.mask_bits.proofs.Common.{◌≡◌, ℕ, ◌+◌, ◌*◌, ◌-◌, ◌/◌, ◌%◌, ◌^◌, ◌<◌, ◌≤◌, Bool, false, List, [], ◌∷◌, ◌++◌, length, get_or, drop, sym, ◌∙◌, arith, bit_and, drop_more, drop_all, length-append, get_or-drop, get_or-take, get_or_past, length-between, get_or-between, length-map-range_with_len, get_or-map-range_with_len, bitmap, Packed, values, repeated, word_bits, window, word_part, padded_remainder, started_words, padded_part, padded_parts, ext_get_or, length-drop, length-take}
 use Rattle.mask_bits.proofs.BufferLemmas.{length-values, get_or-values}
 use Rattle.mask_bits.proofs.Lists.Words.BackingBitLemmas.{length-bitmap, get_or-bitmap, word_bits-low}
 use Rattle.mask_bits.proofs.Lists.Words.WordLemmas.{length-word_bits, get_or-word_bits}

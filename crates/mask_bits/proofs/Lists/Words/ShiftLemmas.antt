@@ -1,8 +1,5 @@
 -- The bits of words that were shifted and masked, and of two words by a funnel shift.
-use Rattle.mask_bits.proofs.Common.{◌≡◌, ℕ, ◌+◌, ◌*◌, ◌-◌, ◌/◌, ◌%◌, ◌^◌, ◌<◌, ◌≤◌, Bool, false, ◌&&◌, ◌||◌, not, List, ◌++◌, length, get_or, take, replicate, slice_range, ap, inl, inr, arith, add-zero, bit_and, bit_or, mul_assoc, bit_at, bit_not, cases_lt, or-false, length-append, length-replicate, get_or-take, get_or-replicate, get_or_append_left, get_or-append_right, get_or_past, length-between, get_or-between, and_mask, mul-mod_first, bit_at-lt, bit_at_and, bit_at_or, bit_at_not, bit_at_above, bit_at_ones, bit_at_ones_above, ones_shr, bit_at_cat_low, bit_at_cat_high, repeated, word_bits, nat_tests}
-use Rattle.std.specs.Int.{w64}
-use Rattle.std.proofs.lemmas.List.{length-take}
-use Rattle.std.proofs.lemmas.Nat.{shr-shr, pow_pos, pow-add}
+use Rattle.mask_bits.proofs.Common.{◌≡◌, ℕ, ◌+◌, ◌*◌, ◌-◌, ◌/◌, ◌%◌, ◌^◌, ◌<◌, ◌≤◌, Bool, false, ◌&&◌, ◌||◌, not, List, ◌++◌, length, get_or, take, replicate, slice_range, ap, inl, inr, arith, add-zero, bit_and, bit_or, mul_assoc, bit_at, bit_not, cases_lt, or-false, length-append, length-replicate, get_or-take, get_or-replicate, get_or_append_left, get_or-append_right, get_or_past, length-between, get_or-between, and_mask, mul-mod_first, bit_at-lt, bit_at_and, bit_at_or, bit_at_not, bit_at_above, bit_at_ones, bit_at_ones_above, ones_shr, bit_at_cat_low, bit_at_cat_high, repeated, word_bits, nat_tests, w64, length-take, shr-shr, pow_pos, pow-add}
 use Rattle.mask_bits.proofs.Lists.Words.WordLemmas.{length-word_bits, get_or-word_bits, word_bits_from_bits}
 
 -- ---- one bit of a number

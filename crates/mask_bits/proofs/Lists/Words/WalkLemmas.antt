@@ -1,7 +1,5 @@
 -- Walks over a list by its started words: what is left of it after each step.
-use Rattle.mask_bits.proofs.Common.{◌≡◌, ℕ, zero, suc, ◌+◌, ◌*◌, ◌-◌, ◌^◌, ◌<◌, ◌≤◌, Bool, true, false, nat_eq, List, [], ◌∷◌, length, get_or, drop, refl, sym, ap, ◌∙◌, arith, lit<, bit_at, length-append, get_or_append_left, get_or-append_right, get_or-drop, get_or-take, get_or_past, get_or-replicate, length-replicate, and_le_l, bit_at-lt, bit_at-zero, indices_from, positions, repeated, IsFirstFrom, runs_from, left_of, IsLeft, word_bits, padded_part, started_words}
-use Rattle.std.specs.Int.RustNames.{bit_and}
-use Rattle.std.proofs.lemmas.List.{ext_get_or, length-drop, length-take}
+use Rattle.mask_bits.proofs.Common.{◌≡◌, ℕ, zero, suc, ◌+◌, ◌*◌, ◌-◌, ◌^◌, ◌<◌, ◌≤◌, Bool, true, false, nat_eq, List, [], ◌∷◌, length, get_or, drop, refl, sym, ap, ◌∙◌, arith, lit<, bit_at, length-append, get_or_append_left, get_or-append_right, get_or-drop, get_or-take, get_or_past, get_or-replicate, length-replicate, and_le_l, bit_at-lt, bit_at-zero, indices_from, positions, repeated, IsFirstFrom, runs_from, left_of, IsLeft, word_bits, padded_part, started_words, bit_and, ext_get_or, length-drop, length-take}
 use Rattle.mask_bits.proofs.Lists.Words.LowestLemmas.{low, low-within, low-set, low-first, bit_at-lowest_cleared, bit_at-lowest_others}
 use Rattle.mask_bits.proofs.Lists.Words.PaddedLemmas.{get_or-padded_part}
 use Rattle.mask_bits.proofs.Lists.Places.ScanLemmas.{skip, indices_from-first}

@@ -1,9 +1,7 @@
 -- Lanes read as one number, and as lanes of another width.
-use Rattle.mask_bits.proofs.Common.{◌≡◌, ℕ, zero, suc, ◌+◌, ◌-◌, ◌*◌, ◌/◌, ◌%◌, ◌^◌, ◌<◌, List, [], ◌∷◌, length, get_or, refl, sym, ap, subst, ◌∙◌, arith, pow-suc, add_comm, bit_and, count_ones, pow-add, pow_mono, Fits, ◌≤◌, ap₂, Each1, number_l, digits_l, chunk, Each1-from_get_or, length-chunk, get_or-chunk, get_or_wider, Each1-get_or, and_mask, mod-mul-add, shr_high, ones_cat, ones-le, one-le-pow, pow-zero, add-mul-mod_self_left, digits_lt, AreLanes}
+use Rattle.mask_bits.proofs.Common.{◌≡◌, ℕ, zero, suc, ◌+◌, ◌-◌, ◌*◌, ◌/◌, ◌%◌, ◌^◌, ◌<◌, List, [], ◌∷◌, length, get_or, refl, sym, ap, subst, ◌∙◌, arith, pow-suc, add_comm, bit_and, count_ones, pow-add, pow_mono, Fits, ◌≤◌, ap₂, Each1, number_l, digits_l, chunk, Each1-from_get_or, length-chunk, get_or-chunk, get_or_wider, Each1-get_or, and_mask, mod-mul-add, shr_high, ones_cat, ones-le, one-le-pow, pow-zero, add-mul-mod_self_left, digits_lt, AreLanes, shr-shr, mul_comm}
 use mir.Syntax.{Width}
 use mir.Val.{bits}
-use Rattle.std.proofs.lemmas.Nat.{shr-shr}
-use Rattle.std.proofs.Math.Nat.{mul_comm}
 use lib.Arith.{mod-mul}
 use lib.Count.{ones}
 use Rattle.mask_bits.proofs.Lists.Words.TableLemmas.{same_below}

@@ -1,9 +1,7 @@
 -- Words of 64 bits as lists of truth values.
-use Rattle.mask_bits.proofs.Common.{common_steps, ◌≡◌, ℕ, ◌+◌, ◌/◌, ◌<◌, ◌≤◌, Bool, false, nat_eq, List, [], ◌∷◌, length, get_or, drop, sym, arith, ◌%◌, zero, suc, ◌^◌, take, count_ones, mod-lt, mod-eq_of_lt, bit_at, drop_more, drop_all, take_more, length-map-range_with_len, get_or-map-range_with_len, fill_by_all, word_bits, word_part, word_parts, count, count_below, ones-le, ones_cat, mod-pow-add, bit_at-lt}
-use Rattle.std.proofs.lemmas.List.{take_all, length-drop}
+use Rattle.mask_bits.proofs.Common.{common_steps, ◌≡◌, ℕ, ◌+◌, ◌/◌, ◌<◌, ◌≤◌, Bool, false, nat_eq, List, [], ◌∷◌, length, get_or, drop, sym, arith, ◌%◌, zero, suc, ◌^◌, take, count_ones, mod-lt, mod-eq_of_lt, bit_at, drop_more, drop_all, take_more, length-map-range_with_len, get_or-map-range_with_len, fill_by_all, word_bits, word_part, word_parts, count, count_below, ones-le, ones_cat, mod-pow-add, bit_at-lt, take_all, length-drop, pow_pos}
 use Rattle.mask_bits.proofs.Lists.CountLemmas.{count-push}
 use lib.Count.{ones_step}
-use Rattle.std.proofs.lemmas.Nat.{pow_pos}
 
 pub length-word_bits : (w : ℕ) → length (word_bits w) ≡ 64
 unfolding word_bits

@@ -1,8 +1,6 @@
-use Rattle.mask_bits.proofs.Common.{◌≡◌, ◌+◌, ◌++◌, set, length, take, sym, subst, ap, ◌∙◌, arith, FnReturnsAt, length-append, take_more, ArePacked}
-use Rattle.std.proofs.lemmas.List.{length-take-le, append_assoc}
+use Rattle.mask_bits.proofs.Common.{◌≡◌, ◌+◌, ◌++◌, set, length, take, sym, subst, ap, ◌∙◌, arith, FnReturnsAt, length-append, take_more, ArePacked, length-take-le, append_assoc, bool_byte}
 use Rattle.mask_bits.proofs.AnswerLemmas.{packed_one_more}
 use Rattle.mask_bits.proofs.from_rows.put_lanes.Goals as goal
-use mir.Val.{bool_byte}
 
 pub loop-j-preserved : goal.loop-j-preserved
 loop-j-preserved g c front len start =

@@ -1,5 +1,4 @@
-use Rattle.mask_bits.proofs.Common.{List, ℕ, ◌/◌, ◌%◌, ◌^◌, ◌+◌, ◌-◌, nat_eq, ap, sym, arith, ◌∙◌, ◌++◌, leading_ones, runs_behind, runs_between}
-use Rattle.std.specs.Int.{w64}
+use Rattle.mask_bits.proofs.Common.{List, ℕ, ◌/◌, ◌%◌, ◌^◌, ◌+◌, ◌-◌, nat_eq, ap, sym, arith, ◌∙◌, ◌++◌, leading_ones, runs_behind, runs_between, w64}
 use Rattle.mask_bits.proofs.RunWordLemmas.{behind-word, word-ends, word-begun}
 use Rattle.mask_bits.proofs.run_words.edges_in.Goals as goal
 

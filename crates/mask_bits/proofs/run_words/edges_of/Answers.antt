@@ -1,5 +1,4 @@
-use Rattle.mask_bits.proofs.Common.{◌≤◌, length, ap, ◌∙◌, sym, subst, indices_from, runs_between, begins, word_bits}
-use Rattle.std.specs.List.{zip}
+use Rattle.mask_bits.proofs.Common.{◌≤◌, length, ap, ◌∙◌, sym, subst, indices_from, runs_between, begins, word_bits, zip}
 use Rattle.mask_bits.proofs.RunWordLemmas.{first_begins, AreEdges-first}
 use Rattle.mask_bits.proofs.run_words.edges_of.Goals as goal
 

@@ -5,13 +5,16 @@ use Rattle.mask_bits.proofs.set_slices.push_by_two.Goals as goal
 
 pub loop-left-init : goal.loop-left-init
 loop-left-init c =
-    let is = c.push_two-left.ensures in
-    record { pushed = is.pushed _ (ArePushed-none _ _); edges = is.edges; room = is.room }
+    let first = c.push_first-first.ensures in
+    let is = c.push_first-left.ensures in
+    record { pushed = is.pushed _ (first.pushed _ (ArePushed-none _ _)); edges = is.edges; room = is.room ∙ first.room }
 
 pub loop-left-preserved : goal.loop-left-preserved
 loop-left-preserved c =
-    let is = c.push_two-left-in-loop-left.ensures in
-    record { pushed = is.pushed _ c.loop-left.invariant.pushed; edges = is.edges; room = is.room ∙ c.loop-left.invariant.room }
+    let so_far = c.loop-left.invariant in
+    let next = c.push_first-next.ensures in
+    let is = c.push_first-left-in-loop-left.ensures in
+    record { pushed = is.pushed _ (next.pushed _ so_far.pushed); edges = is.edges; room = is.room ∙ next.room ∙ so_far.room }
 
 pub returns : goal.returns
 returns c =

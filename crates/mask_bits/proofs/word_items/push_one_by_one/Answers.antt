@@ -1,6 +1,4 @@
-use Rattle.mask_bits.proofs.Common.{◌<◌, ◌-◌, ◌++◌, ◌∷◌, [], subst, sym, ap, ◌∙◌, length, append_assoc, arith, IsSome, length-append, All-head, All-tail, positions, items_of, word_bits}
-use Rattle.std.specs.Int.RustNames.{bit_and}
-use Rattle.std.specs.List.{All}
+use Rattle.mask_bits.proofs.Common.{◌<◌, ◌-◌, ◌++◌, ◌∷◌, [], subst, sym, ap, ◌∙◌, length, append_assoc, arith, IsSome, length-append, All-head, All-tail, positions, items_of, word_bits, bit_and, All}
 use Rattle.mask_bits.proofs.Lists.Places.PushLemmas.{items_of-lowest}
 use Rattle.mask_bits.proofs.Lists.Places.SelectLemmas.{positions-lowest}
 use Rattle.mask_bits.proofs.Lists.Words.LowestLemmas.{low}

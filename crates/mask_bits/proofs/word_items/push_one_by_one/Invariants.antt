@@ -1,5 +1,4 @@
-use Rattle.mask_bits.proofs.Common.{◌≡◌, ◌+◌, ◌++◌, length, IsSome, count, positions, items_of, word_bits}
-use Rattle.std.specs.List.{All}
+use Rattle.mask_bits.proofs.Common.{◌≡◌, ◌+◌, ◌++◌, length, IsSome, count, positions, items_of, word_bits, All}
 use Rattle.mask_bits.proofs.word_items.push_one_by_one.Given as goal
 
 -- the items so far, and those that are left, are all

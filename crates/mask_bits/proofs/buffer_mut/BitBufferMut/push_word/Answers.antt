@@ -1,5 +1,4 @@
-use Rattle.mask_bits.proofs.Common.{List, Bool, take, ◌∙◌, arith, word_bits}
-use Rattle.std.proofs.lemmas.List.{length-take}
+use Rattle.mask_bits.proofs.Common.{List, Bool, take, ◌∙◌, arith, word_bits, length-take}
 use Rattle.mask_bits.proofs.BuilderLemmas.{room-appended}
 use Rattle.mask_bits.proofs.Lists.Words.WordLemmas.{length-word_bits}
 use Rattle.mask_bits.proofs.buffer_mut.BitBufferMut.push_word.Goals as goal

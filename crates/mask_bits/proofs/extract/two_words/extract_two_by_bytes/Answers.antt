@@ -1,5 +1,4 @@
-use Rattle.mask_bits.proofs.Common.{common_steps, ℕ, ◌≡◌, ◌+◌, ◌*◌, ◌/◌, ◌%◌, ◌^◌, ◌<◌, List, length, Fits, ap, ap₂, ◌∙◌, sym, subst, get_or, count_ones, w64, arith, pow-add, add_comm, Each1, cases_lt, ones_cat, Extracts, gathered, two_words}
-use Rattle.std.proofs.lemmas.Nat.{shr-shr}
+use Rattle.mask_bits.proofs.Common.{common_steps, ℕ, ◌≡◌, ◌+◌, ◌*◌, ◌/◌, ◌%◌, ◌^◌, ◌<◌, List, length, Fits, ap, ap₂, ◌∙◌, sym, subst, get_or, count_ones, w64, arith, pow-add, add_comm, Each1, cases_lt, ones_cat, Extracts, gathered, two_words, shr-shr}
 use lib.Pow.{mod-mod-pow}
 use Rattle.mask_bits.proofs.Lists.Words.GatherLemmas.{gathered-low, gathered-two, Extracts-gathered}
 use Rattle.mask_bits.proofs.Lists.Words.WideLaneLemmas.{wide_lane-fits}
