@@ -79,6 +79,7 @@ impl BitBuffer {
     }
 
     /// The complement: each value negated.
+    #[tactic(auto, using(crate::proofs::Lists::BooleanLemmas::length_facts, crate::proofs::CombineLemmas::room_facts, std::proofs::lemmas::Grind::common_steps))]
     pub fn into_not(self, alloc: Global) -> Result<BitBuffer, AllocError>
         ensures list { IfOk result (λ b. values b ≡ not_of (values self)) }
         ensures len { IfOk result (λ b. length (values b) ≡ length (values self)) }

@@ -63,20 +63,8 @@ fn word_of_whole<T, F: Fn(&T) -> bool>(rows: &[T], test: &F) -> u64
         (take (length rows.now) (word_bits result)) }
 {
     if size_of_val(rows) < WIDE {
-        word_of_rows(rows, test)
-    } else {
-        word_by_sixteens(rows, test)
+        return word_of_rows(rows, test);
     }
-}
-
-// The same, where sixteen answers become bits as they come.
-#[inline(always)]
-fn word_by_sixteens<T, F: Fn(&T) -> bool>(rows: &[T], test: &F) -> u64
-    requires whole { length rows.now ≡ 64 }
-    requires callable { F.IsAlwaysCallable test.now }
-    ensures { AreAnswers (FnReturnsAt F.Fn test.now) rows.now
-        (take (length rows.now) (word_bits result)) }
-{
     let mut word = 0;
     for k in 0..4 {
         word |= bits_of_sixteen(&rows[16 * k..16 * k + 16], test) << (16 * k);

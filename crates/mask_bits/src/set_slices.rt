@@ -76,31 +76,16 @@ fn push_runs(
         return Ok(begun);
     }
     let (edges, after) = edges_in(begun, base, word, before);
-    push_between(ranges, base, edges)?;
+    // less room than for any word and two more
+    if ranges.capacity() - ranges.len() < 66 {
+        push_each_run(ranges, base, edges)?;
+        return Ok(after);
+    }
+    push_by_two(ranges, base, edges);
     Ok(after)
 }
 
-// Appends the runs between edges.
-#[inline]
-fn push_between(
-    ranges: &mut Vec<(usize, usize)>,
-    base: usize,
-    edges: Edges,
-) -> Result<(), AllocError>
-    requires fits { base + 64 ≤ 2 ^ 64 }
-    requires edges { AreEdges base edges.starts edges.ends }
-    ensures { IfOk result (λ _. ranges.new.items
-        ≡ ranges.old.items ++ runs_between base edges.first edges.starts edges.ends) }
-{
-    // less room than for any word and two more
-    if ranges.capacity() - ranges.len() < 66 {
-        return push_each_run(ranges, base, edges);
-    }
-    push_by_two(ranges, base, edges);
-    Ok(())
-}
-
-// The same, one by one. Within a word nothing is looked up but the word.
+// Appends the runs between edges, one by one. Within a word nothing is looked up but the word.
 #[inline]
 #[tactic(auto, using(crate::proofs::RunWordLemmas::runs_pushed))]
 fn push_each_run(

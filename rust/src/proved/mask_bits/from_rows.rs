@@ -61,12 +61,9 @@ fn put_answers<T, F: FnMut(&T) -> bool>(bytes: &mut [u8], rows: &[T], test: &mut
 // The word of what a test answers of 64 rows, the first lowest.
 #[inline(always)]
 pub(crate) fn word_of_whole<T, F: FnMut(&T) -> bool>(rows: &[T], test: &mut F) -> u64 {
-    if size_of_val(rows) < WIDE { word_of_rows(rows, test) } else { word_by_sixteens(rows, test) }
-}
-
-// The same, where sixteen answers become bits as they come.
-#[inline(always)]
-fn word_by_sixteens<T, F: FnMut(&T) -> bool>(rows: &[T], test: &mut F) -> u64 {
+    if size_of_val(rows) < WIDE {
+        return word_of_rows(rows, test);
+    }
     let mut word = 0;
     for k in 0..4 {
         word |= bits_of_sixteen(&rows[16 * k..16 * k + 16], test) << (16 * k);

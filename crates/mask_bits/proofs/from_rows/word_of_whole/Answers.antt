@@ -1,6 +1,6 @@
 use Rattle.mask_bits.proofs.Common.{◌≡◌, ◌+◌, ◌-◌, ◌*◌, take, drop, subst, arith, FnReturnsAt, AreAnswers, word_bits}
 use Rattle.mask_bits.proofs.AnswerLemmas.{answers-sixteen, sixteen-clear}
-use Rattle.mask_bits.proofs.from_rows.word_by_sixteens.Goals as goal
+use Rattle.mask_bits.proofs.from_rows.word_of_whole.Goals as goal
 
 pub loop-k-preserved : goal.loop-k-preserved
 loop-k-preserved g c =
