@@ -1,4 +1,4 @@
--- What the proofs below cite of std and of `specs`, from one place.
+-- What the proofs below cite of std, of `mask_bits` and of `specs`, from one place.
 unfoldable pub use Rattle.mask_bits.proofs.Common.{repeated, true_at, values, window, word_bits}
 pub use Rattle.mask_bits.proofs.Common.{All, All-cons, All-get_or, All-head, All-nil, All-tail, All-weaker, AllAdjacentBelow, AreLanes, AreRanges, AreRuns, Bool, Each1, Each1-from_get_or, Each1-get_or, Err, Fits, HasWritten, IfOk-weaker}
 pub use Rattle.mask_bits.proofs.Common.{IsPlainFormatter, IsStack, IsStrictlyIncreasing, IsTrue, List, None, Ok, Option, Packed, Result, Some, T, YieldsFirst, YieldsInOrder, [], add-zero, add_comm, and_le_l, and_le_r, and_mask, and_not_of}
@@ -12,6 +12,22 @@ pub use Rattle.mask_bits.proofs.Common.{nat_le, nat_lt, nat_tests, ne_eqb, nil_f
 pub use Rattle.mask_bits.proofs.Common.{pow_mono, range_with_len, rank_intersection, refl, replicate, rules, runs, same_from_bits, set, shr_split, slice_eq-Decides, slice_get, slice_get-get_or, slice_get_past, slice_range, started_words}
 pub use Rattle.mask_bits.proofs.Common.{subst, suc, sum_by, sum_by-cons, swz_l, sym, take, take-append-drop, take-replicate, take-take, take_at, take_more, true, w16, w64, w8, word_part, zero, zip2, ℕ, ◌%◌, ◌&&◌, ◌*◌, ◌++◌, ◌+◌, ◌-◌, ◌/◌}
 pub use Rattle.mask_bits.proofs.Common.{◌<◌, ◌^◌, ◌||◌, ◌↔◌, ◌∙◌, ◌∷◌, ◌≡◌, ◌≢◌, ◌≤◌, ◌⊎◌}
+pub use Rattle.mask_bits.proofs.Lists.BooleanLemmas.{combined-left, combined-right, combined_itself, length-combined, length-not_of, map-itself, map-one, not_of-repeated}
+pub use Rattle.mask_bits.proofs.Lists.BooleanValueLemmas.{count_of_complement, value_of_true_at}
+pub use Rattle.mask_bits.proofs.Lists.CountLemmas.{All-repeated, all_false_from_count, all_true-count, all_true_from_count, count-append, count-repeated_false, count-repeated_true, count_below-le, get_or-repeated, length-repeated, list_all-count, list_all-count_less, list_any-count, list_any-count_zero, nil-repeated, positions-all_false, positions-all_true, positions-repeated_true_at, repeated_from_All, slice_get-repeated}
+pub use Rattle.mask_bits.proofs.Lists.LawLemmas.{folding_keeps_a_stack, length-chosen, length-rank_intersection, positions-rank_intersection, rank_intersection-none, rank_intersection_count, rank_intersection_is_the_list, rank_intersection_value}
+pub use Rattle.mask_bits.proofs.Lists.Places.AscendingLemmas.{positions-ascending, positions-full, positions-true_at}
+pub use Rattle.mask_bits.proofs.Lists.Places.IndexLemmas.{all_false_has_no_run, all_true_is_one_run}
+pub use Rattle.mask_bits.proofs.Lists.Places.PlaceLemmas.{count-le-length, count-trues, length-indices_from, positions-within, trues}
+pub use Rattle.mask_bits.proofs.Lists.Places.SelectLemmas.{count-part_further, count-word_more, high, no_index, place_in_word}
+pub use Rattle.mask_bits.proofs.Lists.RankLemmas.{All-at_indices, length-true_at, rank_intersection-all_true, rank_intersection-by_all_true}
+pub use Rattle.mask_bits.proofs.Lists.Words.BackingBitLemmas.{get_or-bitmap, length-bitmap}
+pub use Rattle.mask_bits.proofs.Lists.Words.FrontLemmas.{get_or-front, get_or-put_mid_above, get_or-put_mid_below, get_or-put_mid_inside, get_or-window, length-window, window-drop, window_from_bits}
+pub use Rattle.mask_bits.proofs.Lists.Words.LaneLemmas.{AreLanes-itself, AreLanes-map, AreLanes-same, AreLanes-splat, AreLanes-swz_l, AreLanes-zip2, SwzOk-lanes}
+pub use Rattle.mask_bits.proofs.Lists.Words.PaddedLemmas.{get_or-padded_part, padded_part-remainder, padded_part-whole, padded_part_from_values}
+pub use Rattle.mask_bits.proofs.Lists.Words.ShiftLemmas.{bit_at-mod, get_or-word_bits_and, get_or-word_bits_or, get_or-word_bits_shl_high, get_or-word_bits_shl_low, get_or-word_bits_shr}
+pub use Rattle.mask_bits.proofs.Lists.Words.TableLemmas.{agree, all_below, every_below, less_below, same_below}
+pub use Rattle.mask_bits.proofs.Lists.Words.WordLemmas.{count-word_bits, count_below-word_bits, get_or-word_bits, length-word_bits, ones_below-more}
 pub use Rattle.std.proofs.Common.{max, mul-one, mul-zero, mul_right_comm, tests, zero-mul}
 pub use Rattle.std.proofs.Math.Bool.{and-false, and-true, or-true}
 pub use Rattle.std.proofs.Math.Nat.{div-div-eq-div-mul, zero-div}
@@ -65,3 +81,7 @@ pub use Rattle.vortex_mask.specs.Ranks.{AreBitsFrom, AreRanks, AreSplit, HasRead
 pub use Rattle.vortex_mask.specs.SetRanges.{AreSet}
 pub use Rattle.vortex_mask.specs.StackFold.{first_mixed}
 pub use Rattle.vortex_mask.specs.Steps.{IsDeposited, StepCounts, driven_steps, no_steps, word_steps}
+pub use Rattle.vortex_mask.specs.declared.mask.Mask.{Mask}
+pub use Rattle.vortex_mask.specs.declared.mask.Mask.TheVariants.{AllFalse, AllTrue, Values}
+pub use lib.Bits.{and_self, and_step, and_zero_r, or_step, or_zero_r}
+pub use lib.Count.{ones_step}

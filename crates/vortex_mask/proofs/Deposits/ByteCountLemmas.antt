@@ -1,7 +1,5 @@
 -- The counts of set bits in each byte and below it, and what they say of places in the bytes.
-use Rattle.vortex_mask.proofs.Common.{common_steps, ◌≡◌, ℕ, zero, suc, ◌+◌, ◌*◌, ◌/◌, ◌%◌, ◌^◌, ◌<◌, ◌≤◌, inl, inr, sym, ap, ap₂, ◌∙◌, arith, count_ones, add_comm, mod-lt, add-zero, min, bit_at, pow_pos, shr-shr, ones_cat, mod-pow-add, cases_lt, byte_at, Deposits}
-use Rattle.mask_bits.proofs.Lists.Words.ShiftLemmas.{bit_at-mod}
-use Rattle.mask_bits.proofs.Lists.Words.WordLemmas.{ones_below-more}
+use Rattle.vortex_mask.proofs.Common.{common_steps, ◌≡◌, ℕ, zero, suc, ◌+◌, ◌*◌, ◌/◌, ◌%◌, ◌^◌, ◌<◌, ◌≤◌, inl, inr, sym, ap, ap₂, ◌∙◌, arith, count_ones, add_comm, mod-lt, add-zero, min, bit_at, pow_pos, shr-shr, ones_cat, mod-pow-add, cases_lt, byte_at, Deposits, bit_at-mod, ones_below-more}
 use Rattle.vortex_mask.proofs.Deposits.ByteLemmas.{byte_at-zero, byte_at-suc, byte_at_add, byte_at-low, bit_at_byte}
 use Rattle.vortex_mask.proofs.Deposits.DepositLemmas.{deposit, bit_at-deposit, Deposits-from_bits}
 use Rattle.vortex_mask.proofs.Deposits.SetPlaceLemmas.{ones_below, ones_below-zero, ones_below-le}

@@ -1,7 +1,5 @@
 -- The deposit as a function of the two words, by their lowest bits, and that it is the one number that a deposit may give.
-use Rattle.vortex_mask.proofs.Common.{common_steps, ◌≡◌, ℕ, zero, suc, ◌+◌, ◌-◌, ◌*◌, ◌/◌, ◌%◌, ◌^◌, ◌<◌, ◌≤◌, inl, inr, min, refl, sym, ap, ap₂, ◌∙◌, arith, pow-suc, bit_and, bit_or, count_ones, mul_right_comm, mul-one, mul-zero, zero-mul, lt_of_le_of_lt, rules, bit_at, pow_pos, shr-shr, and_mask, and_le_l, zero_from_ones, bit_at_lowest, bit_at-suc, bit_at-lt, bit_at_or, same_from_bits, cases_lt, Deposits}
-use lib.Bits.{or_step, and_zero_r, or_zero_r}
-use Rattle.mask_bits.proofs.Lists.Words.WordLemmas.{count_below-word_bits, count-word_bits}
+use Rattle.vortex_mask.proofs.Common.{common_steps, ◌≡◌, ℕ, zero, suc, ◌+◌, ◌-◌, ◌*◌, ◌/◌, ◌%◌, ◌^◌, ◌<◌, ◌≤◌, inl, inr, min, refl, sym, ap, ap₂, ◌∙◌, arith, pow-suc, bit_and, bit_or, count_ones, mul_right_comm, mul-one, mul-zero, zero-mul, lt_of_le_of_lt, rules, bit_at, pow_pos, shr-shr, and_mask, and_le_l, zero_from_ones, bit_at_lowest, bit_at-suc, bit_at-lt, bit_at_or, same_from_bits, cases_lt, Deposits, or_step, and_zero_r, or_zero_r, count_below-word_bits, count-word_bits}
 use Rattle.vortex_mask.proofs.Deposits.SetPlaceLemmas.{ones_below, parity, ones_below-zero, ones_below-suc, cleared, cleared-odd, cleared-even, lowest, lowest-odd, lowest-even, lowest_sum, ones-cleared_le}
 
 -- the low k bits of the deposit of s into m

@@ -1,8 +1,6 @@
 -- The two nibbles of a byte: operations on each, tables computed at each of the sixteen, and a byte's deposit by theirs.
-use Rattle.vortex_mask.proofs.Common.{common_steps, ◌≡◌, ℕ, zero, suc, ◌+◌, ◌-◌, ◌*◌, ◌/◌, ◌%◌, ◌^◌, ◌<◌, ◌≤◌, ◌⊎◌, inl, inr, T, ltb, ap, ap₂, ◌∙◌, sym, arith, bit_and, bit_or, count_ones, add_comm, min, max, mod-lt, lt_of_le_of_lt, pow-suc, List, [], ◌∷◌, get_or, bit_at, pow_pos, shr-shr, shl-shr, and_mask, and_le_l, ones-le, bit_at_and, bit_at_or, bit_at_cat_low, bit_at_cat_high, same_from_bits, cases_lt, field, mod-mod-pow, split, clear_below, place_after, packed_after, landed_in, stays_in, nibble_moved_up}
-use lib.Bits.{and_zero_r}
+use Rattle.vortex_mask.proofs.Common.{common_steps, ◌≡◌, ℕ, zero, suc, ◌+◌, ◌-◌, ◌*◌, ◌/◌, ◌%◌, ◌^◌, ◌<◌, ◌≤◌, ◌⊎◌, inl, inr, T, ltb, ap, ap₂, ◌∙◌, sym, arith, bit_and, bit_or, count_ones, add_comm, min, max, mod-lt, lt_of_le_of_lt, pow-suc, List, [], ◌∷◌, get_or, bit_at, pow_pos, shr-shr, shl-shr, and_mask, and_le_l, ones-le, bit_at_and, bit_at_or, bit_at_cat_low, bit_at_cat_high, same_from_bits, cases_lt, field, mod-mod-pow, split, clear_below, place_after, packed_after, landed_in, stays_in, nibble_moved_up, and_zero_r, all_below, same_below, agree, less_below}
 use Rattle.vortex_mask.proofs.Deposits.DepositLemmas.{deposit, deposit-odd, deposit-even}
-use Rattle.mask_bits.proofs.Lists.Words.TableLemmas.{all_below, same_below, agree, less_below}
 use Rattle.vortex_mask.proofs.Deposits.NetworkLemmas.{ones_among, ones_among-is, deposit_alike}
 use Rattle.vortex_mask.proofs.Deposits.SetPlaceLemmas.{parity}
 

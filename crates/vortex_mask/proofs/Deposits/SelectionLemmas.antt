@@ -1,6 +1,5 @@
 -- The set bit of a word with a number: the byte that has it, and its place there.
-use Rattle.vortex_mask.proofs.Common.{common_steps, ◌≡◌, ℕ, suc, ◌+◌, ◌-◌, ◌*◌, ◌^◌, ◌<◌, ◌≤◌, ap, ◌∙◌, arith, count_ones, inl, inr, mod-eq_of_lt, bit_at, cases_lt, count, count_below, word_bits, byte_at, selected}
-use Rattle.mask_bits.proofs.Lists.Words.WordLemmas.{count-word_bits, count_below-word_bits}
+use Rattle.vortex_mask.proofs.Common.{common_steps, ◌≡◌, ℕ, suc, ◌+◌, ◌-◌, ◌*◌, ◌^◌, ◌<◌, ◌≤◌, ap, ◌∙◌, arith, count_ones, inl, inr, mod-eq_of_lt, bit_at, cases_lt, count, count_below, word_bits, byte_at, selected, count-word_bits, count_below-word_bits}
 use Rattle.vortex_mask.proofs.Deposits.ByteCountLemmas.{ones_below-byte, ones_below-in_byte}
 use Rattle.vortex_mask.proofs.Deposits.ByteLemmas.{bit_at_byte}
 use Rattle.vortex_mask.proofs.Deposits.SetPlaceLemmas.{ones_below, ones_below-le}

@@ -1,7 +1,5 @@
 -- The set places of a number: how many are below a place, the lowest one, and the number without it.
-use Rattle.vortex_mask.proofs.Common.{common_steps, ◌≡◌, ℕ, zero, suc, ◌+◌, ◌-◌, ◌*◌, ◌/◌, ◌%◌, ◌^◌, ◌<◌, ◌≤◌, ◌⊎◌, inl, inr, sym, ap, ◌∙◌, arith, pow-suc, bit_and, count_ones, mod-lt, pow_pos, and_comm, and-not, ones-le, cases_lt}
-use lib.Bits.{and_step, and_self}
-use lib.Count.{ones_step}
+use Rattle.vortex_mask.proofs.Common.{common_steps, ◌≡◌, ℕ, zero, suc, ◌+◌, ◌-◌, ◌*◌, ◌/◌, ◌%◌, ◌^◌, ◌<◌, ◌≤◌, ◌⊎◌, inl, inr, sym, ap, ◌∙◌, arith, pow-suc, bit_and, count_ones, mod-lt, pow_pos, and_comm, and-not, ones-le, cases_lt, and_step, and_self, ones_step}
 use lib.Arith.{mod-mul}
 
 -- how many of the places below i are set

@@ -1,8 +1,5 @@
 -- What deposits and selections are for the lists of the words.
-use Rattle.vortex_mask.proofs.Common.{◌≡◌, ℕ, zero, suc, ◌+◌, ◌<◌, ◌≤◌, ◌^◌, ◌↔◌, Bool, count_ones, true, false, ◌&&◌, nat_eq, List, [], ◌∷◌, length, get_or, take, refl, sym, ap, ◌∙◌, arith, bit_at, ext_get_or, get_or-take, length-take, nat_tests, ones-le, bit_at-lt, indices_from, positions, count, count_below, rank_intersection, word_bits, Deposits, selected}
-use Rattle.mask_bits.proofs.Lists.LawLemmas.{rank_intersection_value, length-rank_intersection}
-use Rattle.mask_bits.proofs.Lists.Places.PlaceLemmas.{count-le-length, length-indices_from, positions-within, trues, count-trues}
-use Rattle.mask_bits.proofs.Lists.Words.WordLemmas.{count-word_bits, length-word_bits, get_or-word_bits, count_below-word_bits}
+use Rattle.vortex_mask.proofs.Common.{◌≡◌, ℕ, zero, suc, ◌+◌, ◌<◌, ◌≤◌, ◌^◌, ◌↔◌, Bool, count_ones, true, false, ◌&&◌, nat_eq, List, [], ◌∷◌, length, get_or, take, refl, sym, ap, ◌∙◌, arith, bit_at, ext_get_or, get_or-take, length-take, nat_tests, ones-le, bit_at-lt, indices_from, positions, count, count_below, rank_intersection, word_bits, Deposits, selected, rank_intersection_value, length-rank_intersection, count-le-length, length-indices_from, positions-within, trues, count-trues, count-word_bits, length-word_bits, get_or-word_bits, count_below-word_bits}
 use Rattle.vortex_mask.proofs.Deposits.SetPlaceLemmas.{ones_below}
 
 -- ---- a true value and its number

@@ -1,9 +1,5 @@
 -- Two masks of mixed values, narrowed on their path.
-use Rattle.mask_bits.proofs.Lists.Places.PlaceLemmas.{positions-within}
-use Rattle.mask_bits.proofs.Lists.Places.AscendingLemmas.{positions-ascending}
-use Rattle.vortex_mask.proofs.Common.{◌≡◌, ℕ, Bool, List, length, Option, Result, Ok, Err, ap, ◌∙◌, YieldsList, WholeRun, IfOk, positions, count, at_indices, rank_intersection, truth, StepCounts}
-use Rattle.mask_bits.proofs.Lists.LawLemmas.{rank_intersection_is_the_list}
-use Rattle.vortex_mask.specs.declared.mask.Mask.{Mask}
+use Rattle.vortex_mask.proofs.Common.{◌≡◌, ℕ, Bool, List, length, Option, Result, Ok, Err, ap, ◌∙◌, YieldsList, WholeRun, IfOk, positions, count, at_indices, rank_intersection, truth, StepCounts, positions-within, positions-ascending, rank_intersection_is_the_list, Mask}
 use Rattle.vortex_mask.proofs.Kernels.RankRunLemmas.{taken_whole}
 
 -- a list of a's length that is true at a's true indices taken at b's is the rank intersection

@@ -1,7 +1,5 @@
 -- The laws of deposits.
-use Rattle.vortex_mask.proofs.Common.{common_steps, ◌≡◌, ℕ, ◌-◌, ◌*◌, ◌/◌, ◌^◌, ◌<◌, sym, ap, ◌∙◌, arith, bit_and, bit_or, mul-one, mul-zero, take, ◌%◌, bit_at, and_le_r, bit_at-lt, bit_at_or, Deposits, count, rank_intersection, word_bits}
-use lib.Bits.{or_zero_r}
-use Rattle.mask_bits.proofs.Lists.Words.WordLemmas.{count_below-word_bits}
+use Rattle.vortex_mask.proofs.Common.{common_steps, ◌≡◌, ℕ, ◌-◌, ◌*◌, ◌/◌, ◌^◌, ◌<◌, sym, ap, ◌∙◌, arith, bit_and, bit_or, mul-one, mul-zero, take, ◌%◌, bit_at, and_le_r, bit_at-lt, bit_at_or, Deposits, count, rank_intersection, word_bits, or_zero_r, count_below-word_bits}
 use Rattle.vortex_mask.proofs.Deposits.DepositLemmas.{Deposits-from_bits, Deposits-from_deposit, bit_at-deposit, deposit, deposit-zero, deposit_step, first, left_of}
 use Rattle.vortex_mask.proofs.Deposits.SetPlaceLemmas.{lowest, ones_below}
 use Rattle.vortex_mask.proofs.Kernels.DepositListLemmas.{word_bits-deposited}

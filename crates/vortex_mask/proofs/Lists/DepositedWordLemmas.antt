@@ -1,10 +1,5 @@
 -- The laws of a rank intersection word by word.
-use Rattle.vortex_mask.proofs.Common.{◌≡◌, ℕ, ◌+◌, ◌*◌, ◌/◌, ◌%◌, ◌<◌, Bool, false, List, get_or, refl, sym, ap, ◌∙◌, arith, length, backing_bit, values, Packed, count, count_below, rank_intersection, word_bits, padded_part, window, started_words, Deposits, bitmap}
-use Rattle.mask_bits.proofs.Lists.Words.BackingBitLemmas.{length-bitmap, get_or-bitmap}
-use Rattle.mask_bits.proofs.Lists.Words.FrontLemmas.{get_or-window}
-use Rattle.mask_bits.proofs.Lists.Words.PaddedLemmas.{get_or-padded_part}
-use Rattle.mask_bits.proofs.Lists.Places.PlaceLemmas.{count-le-length}
-use Rattle.mask_bits.proofs.Lists.Words.WordLemmas.{length-word_bits}
+use Rattle.vortex_mask.proofs.Common.{◌≡◌, ℕ, ◌+◌, ◌*◌, ◌/◌, ◌%◌, ◌<◌, Bool, false, List, get_or, refl, sym, ap, ◌∙◌, arith, length, backing_bit, values, Packed, count, count_below, rank_intersection, word_bits, padded_part, window, started_words, Deposits, bitmap, length-bitmap, get_or-bitmap, get_or-window, get_or-padded_part, count-le-length, length-word_bits}
 use Rattle.vortex_mask.proofs.Kernels.WordKernelLemmas.{deposited-word}
 use Rattle.vortex_mask.proofs.Lists.StartedWordLemmas.{IsAt, list-from_bits, place-after_within}
 

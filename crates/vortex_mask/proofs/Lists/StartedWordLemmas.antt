@@ -1,11 +1,5 @@
 -- Started words of a list, and how many values are true before them and in them.
-use Rattle.vortex_mask.proofs.Common.{◌≡◌, ℕ, suc, ◌+◌, ◌*◌, ◌<◌, ◌≤◌, Bool, false, List, [], ◌∷◌, length, get_or, take, drop, sym, ap, ◌∙◌, arith, ◌^◌, cases_lt, ext_get_or, get_or-take, get_or-drop, get_or_past, length-take, Packed, backing_bit, values, count, count_below, indices_from, word_bits, padded_part}
-use Rattle.mask_bits.proofs.Lists.CountLemmas.{count_below-le}
-use Rattle.mask_bits.proofs.Lists.Places.PlaceLemmas.{count-le-length}
-use Rattle.mask_bits.proofs.Lists.Places.SelectLemmas.{count-word_more, no_index}
-use Rattle.mask_bits.proofs.Lists.Words.BackingBitLemmas.{length-bitmap}
-use Rattle.mask_bits.proofs.Lists.Words.FrontLemmas.{get_or-front}
-use Rattle.mask_bits.proofs.Lists.Words.PaddedLemmas.{get_or-padded_part}
+use Rattle.vortex_mask.proofs.Common.{◌≡◌, ℕ, suc, ◌+◌, ◌*◌, ◌<◌, ◌≤◌, Bool, false, List, [], ◌∷◌, length, get_or, take, drop, sym, ap, ◌∙◌, arith, ◌^◌, cases_lt, ext_get_or, get_or-take, get_or-drop, get_or_past, length-take, Packed, backing_bit, values, count, count_below, indices_from, word_bits, padded_part, count_below-le, count-le-length, count-word_more, no_index, length-bitmap, get_or-front, get_or-padded_part}
 
 -- false values past the end have no place
 pub places-same : (n : ℕ) (xs ys : List Bool) → ((i : ℕ) → get_or xs i false ≡ get_or ys i false) → indices_from n xs ≡ indices_from n ys

@@ -1,8 +1,5 @@
 -- The list of a mask, by the variant that it is held in.
-use Rattle.vortex_mask.proofs.Common.{◌≡◌, true, false, length, refl, all_true, all_false, variant, truth, repeated}
-use Rattle.mask_bits.proofs.Lists.CountLemmas.{length-repeated}
-use Rattle.vortex_mask.specs.declared.mask.Mask.{Mask}
-use Rattle.vortex_mask.specs.declared.mask.Mask.TheVariants.{AllTrue, AllFalse}
+use Rattle.vortex_mask.proofs.Common.{◌≡◌, true, false, length, refl, all_true, all_false, variant, truth, repeated, length-repeated, Mask, AllTrue, AllFalse}
 
 -- a mask that is held as all true has true values alone
 pub all_true_has_true_values : (m : Mask) → variant m ≡ all_true → truth m ≡ repeated (length (truth m)) true

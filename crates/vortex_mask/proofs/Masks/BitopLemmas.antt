@@ -1,7 +1,5 @@
 -- Boolean calls where one list is of one value.
-use Rattle.vortex_mask.proofs.Common.{◌≡◌, ℕ, ◌-◌, Bool, true, false, not, ◌&&◌, ◌||◌, List, length, refl, ◌∙◌, arith, if◌then◌else◌, and-true, and-false, or-true, or-false, and_of, or_of, not_of, and_not_of, count, repeated}
-use Rattle.mask_bits.proofs.Lists.BooleanLemmas.{combined_itself, length-combined, length-not_of, combined-left, combined-right, map-itself, map-one, not_of-repeated}
-use Rattle.mask_bits.proofs.Lists.BooleanValueLemmas.{count_of_complement}
+use Rattle.vortex_mask.proofs.Common.{◌≡◌, ℕ, ◌-◌, Bool, true, false, not, ◌&&◌, ◌||◌, List, length, refl, ◌∙◌, arith, if◌then◌else◌, and-true, and-false, or-true, or-false, and_of, or_of, not_of, and_not_of, count, repeated, combined_itself, length-combined, length-not_of, combined-left, combined-right, map-itself, map-one, not_of-repeated, count_of_complement}
 
 pub and_of-left : (v : Bool) (n : ℕ) (b : List Bool) → n ≡ length b → and_of (repeated n v) b ≡ (if v then b else repeated n false)
 and_of-left true n b e = rw e (combined-left (λ x y. x && y) true (λ y. y) (λ y. refl) b ∙ map-itself b)

@@ -1,8 +1,5 @@
 -- The list that is false exactly at some indices, as they come one by one.
-use Rattle.vortex_mask.proofs.Common.{◌≡◌, ℕ, ◌<◌, ◌≤◌, Bool, true, false, not, nat_eq, List, [], ◌∷◌, ◌++◌, length, get_or, set, Option, Some, ◌∙◌, arith, option_or, list_any, cases_lt, cases_eq, same_lists, length-set, get_or-map, get_or-set_other, get_or-set_at, common_steps, list_any-append, get_or-map-range_with_len, not_of, repeated, true_at, first_past}
-use Rattle.mask_bits.proofs.Lists.BooleanLemmas.{length-not_of}
-use Rattle.mask_bits.proofs.Lists.CountLemmas.{length-repeated, get_or-repeated}
-use Rattle.mask_bits.proofs.Lists.RankLemmas.{length-true_at}
+use Rattle.vortex_mask.proofs.Common.{◌≡◌, ℕ, ◌<◌, ◌≤◌, Bool, true, false, not, nat_eq, List, [], ◌∷◌, ◌++◌, length, get_or, set, Option, Some, ◌∙◌, arith, option_or, list_any, cases_lt, cases_eq, same_lists, length-set, get_or-map, get_or-set_other, get_or-set_at, common_steps, list_any-append, get_or-map-range_with_len, not_of, repeated, true_at, first_past, length-not_of, length-repeated, get_or-repeated, length-true_at}
 use Rattle.vortex_mask.proofs.Masks.FaultLemmas.{first_past-within, first_past-more}
 
 -- the list that is false exactly at these indices

@@ -1,7 +1,6 @@
 -- The masks of groups: how many there are, and how many values of each are true.
-use Rattle.vortex_mask.proofs.Common.{◌≡◌, ℕ, Bool, List, length, map, sym, ap, ◌∙◌, arith, range_with_len, length-map, map-map, length-map-range_with_len, count, truth}
+use Rattle.vortex_mask.proofs.Common.{◌≡◌, ℕ, Bool, List, length, map, sym, ap, ◌∙◌, arith, range_with_len, length-map, map-map, length-map-range_with_len, count, truth, Mask}
 use Rattle.mask_bits.proofs.Lists.GroupLemmas.{groups_begin_within}
-use Rattle.vortex_mask.specs.declared.mask.Mask.{Mask}
 
 -- as many masks as groups
 pub length-groups : (masks : List Mask) (group : ℕ → List Bool) (n : ℕ) → map truth masks ≡ map group (range_with_len 0 n) → length masks ≡ n

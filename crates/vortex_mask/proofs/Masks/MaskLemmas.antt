@@ -1,14 +1,8 @@
 -- Lists of one value, and the variants that lists may have.
-use Rattle.vortex_mask.proofs.Common.{common_steps, ◌↔◌, ◌≤◌, slice_range, All, ◌≡◌, ℕ, zero, suc, ◌<◌, Bool, true, false, List, [], ◌∷◌, length, refl, sym, ap, ◌∙◌, arith, IsTrue, booleans_Decides, slice_eq-Decides, Variant, all_true, all_false, mixed, fitting_variant, truth, same_truth, at_indices, count, positions, rank_intersection, repeated}
+use Rattle.vortex_mask.proofs.Common.{common_steps, ◌↔◌, ◌≤◌, slice_range, All, ◌≡◌, ℕ, zero, suc, ◌<◌, Bool, true, false, List, [], ◌∷◌, length, refl, sym, ap, ◌∙◌, arith, IsTrue, booleans_Decides, slice_eq-Decides, Variant, all_true, all_false, mixed, fitting_variant, truth, same_truth, at_indices, count, positions, rank_intersection, repeated, length-chosen, positions-rank_intersection, rank_intersection-none, length-rank_intersection, count-le-length, length-bitmap, rank_intersection-all_true, rank_intersection-by_all_true, nil-repeated, slice_get-repeated, all_true-count, positions-repeated_true_at, All-repeated, repeated_from_All, count-repeated_true, count-repeated_false, all_true_from_count, all_false_from_count, list_all-count, list_all-count_less, list_any-count, list_any-count_zero, length-repeated, Mask}
 use Rattle.mask_bits.proofs.Lists.ChooseLemmas.{chosen-all_true, chosen-all_false, chosen_of_repeated}
-use Rattle.mask_bits.proofs.Lists.LawLemmas.{length-chosen, positions-rank_intersection, rank_intersection-none, length-rank_intersection}
 use Rattle.mask_bits.proofs.Lists.LimitLemmas.{limited-front, limited-all, limited-none, length-limited, count-limited}
 use Rattle.mask_bits.proofs.Lists.PartLemmas.{part_of_repeated}
-use Rattle.mask_bits.proofs.Lists.Places.PlaceLemmas.{count-le-length}
-use Rattle.mask_bits.proofs.Lists.Words.BackingBitLemmas.{length-bitmap}
-use Rattle.mask_bits.proofs.Lists.RankLemmas.{rank_intersection-all_true, rank_intersection-by_all_true}
-use Rattle.mask_bits.proofs.Lists.CountLemmas.{nil-repeated, slice_get-repeated, all_true-count, positions-repeated_true_at, All-repeated, repeated_from_All, count-repeated_true, count-repeated_false, all_true_from_count, all_false_from_count, list_all-count, list_all-count_less, list_any-count, list_any-count_zero, length-repeated}
-use Rattle.vortex_mask.specs.declared.mask.Mask.{Mask}
 
 pub fitting_variant-all : (empty : Variant) (m : List Bool) → 0 < length m → count m ≡ length m → fitting_variant empty m ≡ all_true
 fitting_variant-all empty [] some e = absurd (omega arith)

@@ -1,9 +1,5 @@
 -- The walks over a mask: each run of calls gives what is left, and what a walk over a mask of one value has.
-use Rattle.vortex_mask.proofs.Common.{Option, zero, sym, Bool, replicate, ◌≡◌, ℕ, suc, ◌+◌, ◌-◌, ◌<◌, List, ◌∷◌, length, ap, arith, Drains, DrainsIf, YieldsFirst, range_with_len, YieldsInOrder, WholeRun, total_runs, from_front, as_is, get_or-range_with_len, length-range_with_len, repeated, values_left, indices_left, ranges_left}
-use Rattle.mask_bits.proofs.Lists.CountLemmas.{length-repeated, nil-repeated, positions-all_true, positions-all_false}
-use Rattle.mask_bits.proofs.Lists.Places.AscendingLemmas.{positions-ascending}
-use Rattle.mask_bits.proofs.Lists.Places.PlaceLemmas.{positions-within}
-use Rattle.mask_bits.proofs.Lists.Places.IndexLemmas.{all_false_has_no_run, all_true_is_one_run}
+use Rattle.vortex_mask.proofs.Common.{Option, zero, sym, Bool, replicate, ◌≡◌, ℕ, suc, ◌+◌, ◌-◌, ◌<◌, List, ◌∷◌, length, ap, arith, Drains, DrainsIf, YieldsFirst, range_with_len, YieldsInOrder, WholeRun, total_runs, from_front, as_is, get_or-range_with_len, length-range_with_len, repeated, values_left, indices_left, ranges_left, length-repeated, nil-repeated, positions-all_true, positions-all_false, positions-ascending, positions-within, all_false_has_no_run, all_true_is_one_run}
 
 in_order : {S A : Type 0} (left : S → List A) → YieldsInOrder (YieldsFirst left) left
 in_order left p seen = as_is p (left p.from) (from_front (YieldsFirst left) (λ x. x) left (λ s t h. ap length h.0) (λ s x t h. h) p seen)

@@ -1,5 +1,4 @@
-use Rattle.vortex_mask.proofs.Common.{◌-◌, ap, arith}
-use Rattle.mask_bits.proofs.Lists.Words.WordLemmas.{count-word_bits}
+use Rattle.vortex_mask.proofs.Common.{◌-◌, ap, arith, count-word_bits}
 use Rattle.vortex_mask.proofs.Deposits.DepositLemmas.{cleared_word, Deposits-from_deposit}
 use Rattle.vortex_mask.proofs.Deposits.HoleLemmas.{clear, two_holes}
 use Rattle.vortex_mask.proofs.intersect_by_rank.deposit.deposit_two_holes.Goals as goal

@@ -1,6 +1,4 @@
-use Rattle.vortex_mask.proofs.Common.{◌≡◌, refl, ap, ◌∙◌, arith, rules, YieldsList-from_slice, YieldsList-from_copied, YieldsList-from_first, YieldsList-at, values, positions}
-use Rattle.mask_bits.proofs.Lists.Places.AscendingLemmas.{positions-ascending}
-use Rattle.mask_bits.proofs.Lists.Places.PlaceLemmas.{positions-within}
+use Rattle.vortex_mask.proofs.Common.{◌≡◌, refl, ap, ◌∙◌, arith, rules, YieldsList-from_slice, YieldsList-from_copied, YieldsList-from_first, YieldsList-at, values, positions, positions-ascending, positions-within}
 use Rattle.vortex_mask.proofs.Kernels.PathLemmas.{list_from_ranks}
 use Rattle.vortex_mask.proofs.Kernels.RankRunLemmas.{are_ranks}
 use Rattle.vortex_mask.proofs.intersect_by_rank.narrow.by_selections.Goals as goal

@@ -1,5 +1,4 @@
-use Rattle.vortex_mask.proofs.Common.{◌≡◌, ◌+◌, ◌-◌, ◌/◌, ◌%◌, List, ℕ, take, drop, false, refl, ◌∙◌, arith, get_or-take, get_or-drop, window}
-use Rattle.mask_bits.proofs.Lists.Words.FrontLemmas.{get_or-window, length-window, window_from_bits}
+use Rattle.vortex_mask.proofs.Common.{◌≡◌, ◌+◌, ◌-◌, ◌/◌, ◌%◌, List, ℕ, take, drop, false, refl, ◌∙◌, arith, get_or-take, get_or-drop, window, get_or-window, length-window, window_from_bits}
 use Rattle.vortex_mask.proofs.intersect_by_rank.rank_bits.word_inside.Goals as goal
 
 -- the window is the same in the sixteen bytes from its first one on

@@ -1,5 +1,4 @@
-use Rattle.vortex_mask.proofs.Common.{◌∙◌, ap, sym, rc_with_value}
-use Rattle.vortex_mask.specs.declared.mask.Mask.TheVariants.{Values}
+use Rattle.vortex_mask.proofs.Common.{◌∙◌, ap, sym, rc_with_value, Values}
 use Rattle.vortex_mask.proofs.ResultLemmas.{OnErr-map}
 use Rattle.vortex_mask.proofs.mask.Mask.fill.Goals as goal
 

@@ -1,6 +1,4 @@
-use Rattle.vortex_mask.proofs.Common.{List, ℕ, arith, common_steps, nil_from_length}
-use Rattle.mask_bits.proofs.Lists.CountLemmas.{positions-all_false}
-use Rattle.mask_bits.proofs.Lists.Places.AscendingLemmas.{positions-full}
+use Rattle.vortex_mask.proofs.Common.{List, ℕ, arith, common_steps, nil_from_length, positions-all_false, positions-full}
 use Rattle.vortex_mask.proofs.Masks.MaskLemmas.{variant_facts}
 use Rattle.vortex_mask.proofs.Lists.PlaceListLemmas.{index_facts}
 use Rattle.vortex_mask.proofs.mask.Mask.of_indices.Goals as goal

@@ -1,5 +1,4 @@
-use Rattle.vortex_mask.proofs.Common.{Bool, List, [], ap, sym, subst, AreRuns, truth}
-use Rattle.mask_bits.proofs.Lists.Places.IndexLemmas.{all_false_has_no_run}
+use Rattle.vortex_mask.proofs.Common.{Bool, List, [], ap, sym, subst, AreRuns, truth, all_false_has_no_run}
 use Rattle.vortex_mask.proofs.mask.Mask.set_slices.Goals as goal
 
 pub returns-in-AllFalse-clause-runs : goal.returns-in-AllFalse-clause-runs

@@ -1,5 +1,4 @@
-use Rattle.vortex_mask.proofs.Common.{arith}
-use Rattle.mask_bits.proofs.Lists.Places.IndexLemmas.{all_true_is_one_run}
+use Rattle.vortex_mask.proofs.Common.{arith, all_true_is_one_run}
 use Rattle.vortex_mask.proofs.mask.iter.whole_run.Goals as goal
 
 pub returns : goal.returns

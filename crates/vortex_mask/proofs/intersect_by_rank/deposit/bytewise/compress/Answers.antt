@@ -1,5 +1,4 @@
-use Rattle.vortex_mask.proofs.Common.{ℕ, ◌<◌, ◌-◌, sym, arith, ◌∙◌, get_or}
-use Rattle.mask_bits.proofs.Lists.Words.LaneLemmas.{AreLanes-itself, AreLanes-map}
+use Rattle.vortex_mask.proofs.Common.{ℕ, ◌<◌, ◌-◌, sym, arith, ◌∙◌, get_or, AreLanes-itself, AreLanes-map}
 use Rattle.vortex_mask.proofs.Deposits.LaneLemmas.{EachLane-fits}
 use Rattle.vortex_mask.proofs.Deposits.NetworkLemmas.{packed_after-zero, packed_after-full, zeros_before-zero, stage}
 use Rattle.vortex_mask.proofs.intersect_by_rank.deposit.bytewise.compress.Goals as goal

@@ -1,8 +1,6 @@
-use Rattle.vortex_mask.proofs.Common.{◌≡◌, ◌+◌, ◌*◌, ◌/◌, ◌%◌, ◌<◌, ℕ, ap, ap₂, ◌∙◌, sym, arith, count_ones, get_or, ones-le, byte_at, byte_of_two}
-use Rattle.mask_bits.proofs.Lists.Words.WordLemmas.{count_below-word_bits}
+use Rattle.vortex_mask.proofs.Common.{◌≡◌, ◌+◌, ◌*◌, ◌/◌, ◌%◌, ◌<◌, ℕ, ap, ap₂, ◌∙◌, sym, arith, count_ones, get_or, ones-le, byte_at, byte_of_two, count_below-word_bits, AreLanes-map}
 use Rattle.vortex_mask.proofs.Deposits.ByteCountLemmas.{summed_is}
 use Rattle.vortex_mask.proofs.Deposits.ByteLemmas.{byte_at-lt}
-use Rattle.mask_bits.proofs.Lists.Words.LaneLemmas.{AreLanes-map}
 use Rattle.vortex_mask.proofs.Deposits.LaneLemmas.{AreLanes-fit}
 use Rattle.vortex_mask.proofs.intersect_by_rank.deposit.bytewise.counts_below.Goals as goal
 

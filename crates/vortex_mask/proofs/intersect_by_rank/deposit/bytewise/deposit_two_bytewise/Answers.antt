@@ -1,7 +1,5 @@
-use Rattle.vortex_mask.proofs.Common.{◌≡◌, ◌/◌, ◌%◌, ◌*◌, ◌+◌, ◌^◌, ◌≤◌, ◌<◌, ℕ, ap, ap₂, ◌∙◌, subst, bit_and, arith, get_or, byte_of_two, moved_up}
-use Rattle.mask_bits.proofs.Lists.Words.WordLemmas.{count_below-word_bits}
+use Rattle.vortex_mask.proofs.Common.{◌≡◌, ◌/◌, ◌%◌, ◌*◌, ◌+◌, ◌^◌, ◌≤◌, ◌<◌, ℕ, ap, ap₂, ◌∙◌, subst, bit_and, arith, get_or, byte_of_two, moved_up, count_below-word_bits, AreLanes-itself, AreLanes-zip2}
 use Rattle.vortex_mask.proofs.Deposits.DepositLemmas.{deposit}
-use Rattle.mask_bits.proofs.Lists.Words.LaneLemmas.{AreLanes-itself, AreLanes-zip2}
 use Rattle.vortex_mask.proofs.Deposits.LaneLemmas.{bytes_fit, landed_fit, Deposits-from_lanes, gathered_alike}
 use Rattle.vortex_mask.proofs.Deposits.NetworkLemmas.{moved_back}
 use Rattle.vortex_mask.proofs.Deposits.SetPlaceLemmas.{ones_below, ones_below-le}

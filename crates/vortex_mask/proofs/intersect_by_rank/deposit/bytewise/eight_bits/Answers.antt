@@ -1,5 +1,4 @@
-use Rattle.vortex_mask.proofs.Common.{◌≡◌, ◌+◌, ◌-◌, ◌*◌, ◌/◌, ◌%◌, ◌^◌, bit_and, arith, get_or, List, ℕ, length, replicate, w8, w16, pow_mono, Fits, zip2, Each1, widens, AreLanes}
-use Rattle.mask_bits.proofs.Lists.Words.LaneLemmas.{AreLanes-map, SwzOk-lanes, AreLanes-zip2, AreLanes-splat, AreLanes-same}
+use Rattle.vortex_mask.proofs.Common.{◌≡◌, ◌+◌, ◌-◌, ◌*◌, ◌/◌, ◌%◌, ◌^◌, bit_and, arith, get_or, List, ℕ, length, replicate, w8, w16, pow_mono, Fits, zip2, Each1, widens, AreLanes, AreLanes-map, SwzOk-lanes, AreLanes-zip2, AreLanes-splat, AreLanes-same}
 use Rattle.vortex_mask.proofs.Deposits.LaneLemmas.{AreLanes-fit, cut_out, numbers, power, product, product-is}
 use Rattle.vortex_mask.proofs.intersect_by_rank.deposit.bytewise.eight_bits.Goals as goal
 

@@ -1,5 +1,4 @@
-use Rattle.vortex_mask.proofs.Common.{◌≡◌, ◌+◌, ◌-◌, ◌*◌, ◌%◌, ◌<◌, ◌^◌, ap, ◌∙◌, bit_and, bit_or, arith, lt_of_le_of_lt, mod-eq_of_lt, subst, ℕ, get_or, and_le_r, shl_below, shifts_fit_splat, moved_up}
-use Rattle.mask_bits.proofs.Lists.Words.LaneLemmas.{AreLanes-itself, AreLanes-map, AreLanes-zip2, AreLanes-splat, AreLanes-same}
+use Rattle.vortex_mask.proofs.Common.{◌≡◌, ◌+◌, ◌-◌, ◌*◌, ◌%◌, ◌<◌, ◌^◌, ap, ◌∙◌, bit_and, bit_or, arith, lt_of_le_of_lt, mod-eq_of_lt, subst, ℕ, get_or, and_le_r, shl_below, shifts_fit_splat, moved_up, AreLanes-itself, AreLanes-map, AreLanes-zip2, AreLanes-splat, AreLanes-same}
 use Rattle.vortex_mask.proofs.Deposits.NetworkLemmas.{shift_is, shift_small}
 use Rattle.vortex_mask.proofs.intersect_by_rank.deposit.bytewise.move_up.Goals as goal
 

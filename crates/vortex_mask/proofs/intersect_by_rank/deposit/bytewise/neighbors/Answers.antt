@@ -1,6 +1,4 @@
-use Rattle.vortex_mask.proofs.Common.{◌≡◌, ◌+◌, ◌*◌, ◌/◌, ◌%◌, ◌^◌, ◌<◌, ℕ, ap₂, ◌∙◌, bit_and, arith, get_or, List, [], ◌∷◌, length, replicate, refl, zip2, and_mask, AreLanes, EachLane, byte_at}
-use Rattle.mask_bits.proofs.Lists.Words.LaneLemmas.{AreLanes-itself, AreLanes-swz_l, SwzOk-lanes, AreLanes-zip2, AreLanes-splat, AreLanes-same}
-use Rattle.mask_bits.proofs.Lists.Words.TableLemmas.{same_below}
+use Rattle.vortex_mask.proofs.Common.{◌≡◌, ◌+◌, ◌*◌, ◌/◌, ◌%◌, ◌^◌, ◌<◌, ℕ, ap₂, ◌∙◌, bit_and, arith, get_or, List, [], ◌∷◌, length, replicate, refl, zip2, and_mask, AreLanes, EachLane, byte_at, AreLanes-itself, AreLanes-swz_l, SwzOk-lanes, AreLanes-zip2, AreLanes-splat, AreLanes-same, same_below}
 use Rattle.vortex_mask.proofs.intersect_by_rank.deposit.bytewise.neighbors.Goals as goal
 
 abbrev base : List ℕ

@@ -1,5 +1,4 @@
-use Rattle.vortex_mask.proofs.Common.{◌+◌, ◌-◌, ◌*◌, ◌%◌, ◌^◌, ap, ◌∙◌, sym, arith, bit_xor, get_or, shifts_fit_splat}
-use Rattle.mask_bits.proofs.Lists.Words.LaneLemmas.{AreLanes-itself, AreLanes-zip2, AreLanes-splat}
+use Rattle.vortex_mask.proofs.Common.{◌+◌, ◌-◌, ◌*◌, ◌%◌, ◌^◌, ap, ◌∙◌, sym, arith, bit_xor, get_or, shifts_fit_splat, AreLanes-itself, AreLanes-zip2, AreLanes-splat}
 use Rattle.vortex_mask.proofs.Deposits.LaneLemmas.{EachLane-fits}
 use Rattle.vortex_mask.proofs.Deposits.NetworkLemmas.{doubled, doubled-more, doubled-all, doubled-is, shift_is, shift_small}
 use Rattle.vortex_mask.proofs.intersect_by_rank.deposit.bytewise.odd_zeros.Goals as goal

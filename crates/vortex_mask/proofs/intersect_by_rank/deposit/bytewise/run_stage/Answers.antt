@@ -1,5 +1,4 @@
-use Rattle.vortex_mask.proofs.Common.{◌-◌, ◌/◌, ◌^◌, ℕ, ap, bit_and, bit_xor, arith, get_or, shifts_fit_splat, moved_down, with_moved, halved, odd_places}
-use Rattle.mask_bits.proofs.Lists.Words.LaneLemmas.{AreLanes-itself, AreLanes-map, AreLanes-zip2, AreLanes-splat, AreLanes-same}
+use Rattle.vortex_mask.proofs.Common.{◌-◌, ◌/◌, ◌^◌, ℕ, ap, bit_and, bit_xor, arith, get_or, shifts_fit_splat, moved_down, with_moved, halved, odd_places, AreLanes-itself, AreLanes-map, AreLanes-zip2, AreLanes-splat, AreLanes-same}
 use Rattle.vortex_mask.proofs.Deposits.NetworkLemmas.{shift_is, shift_small}
 use Rattle.vortex_mask.proofs.intersect_by_rank.deposit.bytewise.run_stage.Goals as goal
 

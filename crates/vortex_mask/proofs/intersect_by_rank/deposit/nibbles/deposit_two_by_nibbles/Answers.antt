@@ -1,5 +1,4 @@
-use Rattle.vortex_mask.proofs.Common.{suc, ◌≡◌, ◌/◌, ◌%◌, ◌*◌, ◌+◌, ◌^◌, ◌≤◌, ◌<◌, ℕ, ap, ap₂, sym, ◌∙◌, count_ones, arith, get_or, ones-le, ones_cat, byte_of_two, nibble_moved_up}
-use Rattle.mask_bits.proofs.Lists.Words.WordLemmas.{count_below-word_bits}
+use Rattle.vortex_mask.proofs.Common.{suc, ◌≡◌, ◌/◌, ◌%◌, ◌*◌, ◌+◌, ◌^◌, ◌≤◌, ◌<◌, ℕ, ap, ap₂, sym, ◌∙◌, count_ones, arith, get_or, ones-le, ones_cat, byte_of_two, nibble_moved_up, count_below-word_bits}
 use Rattle.vortex_mask.proofs.Deposits.ByteCountLemmas.{ones_below-byte}
 use Rattle.vortex_mask.proofs.Deposits.DepositLemmas.{deposit}
 use Rattle.vortex_mask.proofs.Deposits.LaneLemmas.{bytes_fit, Deposits-from_lanes}

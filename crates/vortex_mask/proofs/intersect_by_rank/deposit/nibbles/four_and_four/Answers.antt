@@ -1,5 +1,4 @@
-use Rattle.vortex_mask.proofs.Common.{◌≡◌, ◌+◌, ◌-◌, ◌*◌, ◌/◌, ◌%◌, ◌^◌, ◌<◌, ℕ, bit_and, arith, count_ones, get_or, List, w8, w16, pow_mono, length, map, replicate, Fits, zip2, Each1, ones-le, widens, swz_l, AreLanes, EachLane}
-use Rattle.mask_bits.proofs.Lists.Words.LaneLemmas.{AreLanes-itself, AreLanes-swz_l, SwzOk-lanes, AreLanes-map, AreLanes-zip2, AreLanes-splat, AreLanes-same}
+use Rattle.vortex_mask.proofs.Common.{◌≡◌, ◌+◌, ◌-◌, ◌*◌, ◌/◌, ◌%◌, ◌^◌, ◌<◌, ℕ, bit_and, arith, count_ones, get_or, List, w8, w16, pow_mono, length, map, replicate, Fits, zip2, Each1, ones-le, widens, swz_l, AreLanes, EachLane, AreLanes-itself, AreLanes-swz_l, SwzOk-lanes, AreLanes-map, AreLanes-zip2, AreLanes-splat, AreLanes-same}
 use Rattle.vortex_mask.proofs.Deposits.LaneLemmas.{AreLanes-fit, numbers, power, product, product-is}
 use Rattle.vortex_mask.proofs.Deposits.NibbleLemmas.{gaps, gaps_at, cut_apart}
 use Rattle.vortex_mask.proofs.intersect_by_rank.deposit.nibbles.four_and_four.Goals as goal

@@ -1,7 +1,6 @@
-use Rattle.vortex_mask.proofs.Common.{◌+◌, ◌*◌, ◌%◌, ◌^◌, bit_and, bit_or, get_or}
+use Rattle.vortex_mask.proofs.Common.{◌+◌, ◌*◌, ◌%◌, ◌^◌, bit_and, bit_or, get_or, AreLanes-itself, AreLanes-zip2, AreLanes-splat, AreLanes-same}
 use Rattle.vortex_mask.proofs.Deposits.LaneLemmas.{EachLane-fits}
 use Rattle.vortex_mask.proofs.Deposits.NibbleLemmas.{moved_in_nibbles}
-use Rattle.mask_bits.proofs.Lists.Words.LaneLemmas.{AreLanes-itself, AreLanes-zip2, AreLanes-splat, AreLanes-same}
 use Rattle.vortex_mask.proofs.intersect_by_rank.deposit.nibbles.move_up_in_nibbles.Goals as goal
 
 pub returns : goal.returns

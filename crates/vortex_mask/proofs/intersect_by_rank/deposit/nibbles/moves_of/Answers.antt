@@ -1,6 +1,5 @@
-use Rattle.vortex_mask.proofs.Common.{◌+◌, ◌*◌, ◌^◌, ap₂}
+use Rattle.vortex_mask.proofs.Common.{◌+◌, ◌*◌, ◌^◌, ap₂, AreLanes-same}
 use Rattle.vortex_mask.proofs.Deposits.NibbleLemmas.{stay_at, by_two_at, by_one_at}
-use Rattle.mask_bits.proofs.Lists.Words.LaneLemmas.{AreLanes-same}
 use Rattle.vortex_mask.proofs.intersect_by_rank.deposit.nibbles.moves_of.Goals as goal
 
 pub returns-clause-stay : goal.returns-clause-stay

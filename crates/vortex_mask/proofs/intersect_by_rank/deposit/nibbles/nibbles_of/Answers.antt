@@ -1,5 +1,4 @@
-use Rattle.vortex_mask.proofs.Common.{◌/◌, ◌^◌, bit_and, get_or, and_mask}
-use Rattle.mask_bits.proofs.Lists.Words.LaneLemmas.{AreLanes-itself, AreLanes-zip2, AreLanes-splat, AreLanes-same}
+use Rattle.vortex_mask.proofs.Common.{◌/◌, ◌^◌, bit_and, get_or, and_mask, AreLanes-itself, AreLanes-zip2, AreLanes-splat, AreLanes-same}
 use Rattle.vortex_mask.proofs.intersect_by_rank.deposit.nibbles.nibbles_of.Goals as goal
 
 pub returns-clause-lower : goal.returns-clause-lower

@@ -1,5 +1,4 @@
-use Rattle.vortex_mask.proofs.Common.{◌+◌, ◌*◌, ◌%◌, ◌^◌, arith, get_or}
-use Rattle.mask_bits.proofs.Lists.Words.LaneLemmas.{AreLanes-itself, AreLanes-swz_l, SwzOk-lanes, AreLanes-zip2, AreLanes-splat, AreLanes-same}
+use Rattle.vortex_mask.proofs.Common.{◌+◌, ◌*◌, ◌%◌, ◌^◌, arith, get_or, AreLanes-itself, AreLanes-swz_l, SwzOk-lanes, AreLanes-zip2, AreLanes-splat, AreLanes-same}
 use Rattle.vortex_mask.proofs.intersect_by_rank.deposit.nibbles.of_nibbles.Goals as goal
 
 pub swizzle : goal.swizzle

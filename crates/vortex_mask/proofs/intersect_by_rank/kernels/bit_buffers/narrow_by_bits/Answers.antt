@@ -1,5 +1,4 @@
-use Rattle.vortex_mask.proofs.Common.{ap, ◌∙◌, arith, word_steps}
-use Rattle.mask_bits.proofs.Lists.Words.BackingBitLemmas.{length-bitmap}
+use Rattle.vortex_mask.proofs.Common.{ap, ◌∙◌, arith, word_steps, length-bitmap}
 use Rattle.vortex_mask.proofs.Kernels.WordKernelLemmas.{narrowed-values}
 use Rattle.vortex_mask.proofs.intersect_by_rank.kernels.bit_buffers.narrow_by_bits.Goals as goal
 

@@ -1,5 +1,4 @@
-use Rattle.vortex_mask.proofs.Common.{◌<◌}
-use Rattle.mask_bits.proofs.Lists.RankLemmas.{All-at_indices}
+use Rattle.vortex_mask.proofs.Common.{◌<◌, All-at_indices}
 use Rattle.vortex_mask.proofs.Lists.PlaceListLemmas.{at_indices-ascending}
 use Rattle.vortex_mask.proofs.intersect_by_rank.kernels.indices.intersect_by_rank_indices.Goals as goal
 

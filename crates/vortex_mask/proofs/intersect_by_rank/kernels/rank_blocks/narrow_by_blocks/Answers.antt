@@ -1,5 +1,4 @@
-use Rattle.vortex_mask.proofs.Common.{◌<◌, arith, All-get_or, count}
-use Rattle.mask_bits.proofs.Lists.Places.PlaceLemmas.{count-le-length}
+use Rattle.vortex_mask.proofs.Common.{◌<◌, arith, All-get_or, count, count-le-length}
 use Rattle.vortex_mask.proofs.Kernels.RankBlockLemmas.{backing_bit-zeros}
 use Rattle.vortex_mask.proofs.Lists.StartedWordLemmas.{place-within}
 use Rattle.vortex_mask.proofs.intersect_by_rank.kernels.rank_blocks.narrow_by_blocks.Goals as goal

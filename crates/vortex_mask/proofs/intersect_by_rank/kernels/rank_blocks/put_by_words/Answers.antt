@@ -1,5 +1,4 @@
-use Rattle.vortex_mask.proofs.Common.{◌≡◌, ◌+◌, ◌-◌, ◌*◌, Bool, List, false, nat_eq, get_or, inl, inr, sym, ap, ◌∙◌, arith, list_any, cases_lt, backing_bit}
-use Rattle.mask_bits.proofs.Lists.Words.FrontLemmas.{get_or-window}
+use Rattle.vortex_mask.proofs.Common.{◌≡◌, ◌+◌, ◌-◌, ◌*◌, Bool, List, false, nat_eq, get_or, inl, inr, sym, ap, ◌∙◌, arith, list_any, cases_lt, backing_bit, get_or-window}
 use Rattle.vortex_mask.proofs.intersect_by_rank.kernels.rank_blocks.put_by_words.Goals as goal
 
 pub loop-i-preserved : goal.loop-i-preserved

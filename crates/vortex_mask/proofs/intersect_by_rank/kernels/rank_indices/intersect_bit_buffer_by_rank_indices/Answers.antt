@@ -1,5 +1,4 @@
-use Rattle.vortex_mask.proofs.Common.{◌≡◌, ℕ, List, Bool, length, take, ◌++◌, ap, ◌∙◌, arith, common_steps, take_at, values, positions, true_at, at_indices}
-use Rattle.mask_bits.proofs.Lists.Words.BackingBitLemmas.{length-bitmap}
+use Rattle.vortex_mask.proofs.Common.{◌≡◌, ℕ, List, Bool, length, take, ◌++◌, ap, ◌∙◌, arith, common_steps, take_at, values, positions, true_at, at_indices, length-bitmap}
 use Rattle.vortex_mask.proofs.Lists.PlaceListLemmas.{positions-at_indices, count-at_indices}
 use Rattle.vortex_mask.proofs.intersect_by_rank.kernels.rank_indices.intersect_bit_buffer_by_rank_indices.Goals as goal
 

@@ -1,5 +1,4 @@
-use Rattle.vortex_mask.proofs.Common.{ap, ◌∙◌, arith, word_steps}
-use Rattle.mask_bits.proofs.Lists.Places.PlaceLemmas.{count-le-length}
+use Rattle.vortex_mask.proofs.Common.{ap, ◌∙◌, arith, word_steps, count-le-length}
 use Rattle.vortex_mask.proofs.Kernels.WordKernelLemmas.{narrowed-listed}
 use Rattle.vortex_mask.proofs.intersect_by_rank.kernels.rank_indices.narrow_at_ranks.Goals as goal
 

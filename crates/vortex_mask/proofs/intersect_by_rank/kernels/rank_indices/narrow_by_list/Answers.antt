@@ -1,5 +1,4 @@
-use Rattle.vortex_mask.proofs.Common.{arith}
-use Rattle.mask_bits.proofs.Lists.Places.PlaceLemmas.{count-le-length}
+use Rattle.vortex_mask.proofs.Common.{arith, count-le-length}
 use Rattle.vortex_mask.proofs.intersect_by_rank.kernels.rank_indices.narrow_by_list.Goals as goal
 
 pub narrow_rest-requires-clause-ranks : goal.narrow_rest-requires-clause-ranks

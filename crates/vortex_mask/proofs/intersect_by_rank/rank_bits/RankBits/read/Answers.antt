@@ -1,5 +1,4 @@
-use Rattle.vortex_mask.proofs.Common.{◌≡◌, ℕ, ◌+◌, ◌/◌, ◌%◌, nat_eq, false, List, ◌++◌, get_or, replicate, sym, ap, ◌∙◌, arith, get_or_append_left, get_or-append_right, get_or_past, get_or-replicate, length-replicate, bit_at, window}
-use Rattle.mask_bits.proofs.Lists.Words.FrontLemmas.{length-window, get_or-window, window_from_bits, window-drop}
+use Rattle.vortex_mask.proofs.Common.{◌≡◌, ℕ, ◌+◌, ◌/◌, ◌%◌, nat_eq, false, List, ◌++◌, get_or, replicate, sym, ap, ◌∙◌, arith, get_or_append_left, get_or-append_right, get_or_past, get_or-replicate, length-replicate, bit_at, window, length-window, get_or-window, window_from_bits, window-drop}
 use Rattle.vortex_mask.proofs.intersect_by_rank.rank_bits.RankBits.read.Goals as goal
 
 -- zeros behind bytes read as what is past them

@@ -1,6 +1,4 @@
-use Rattle.vortex_mask.proofs.Common.{arith, word_bits}
-use Rattle.mask_bits.proofs.Lists.Places.PlaceLemmas.{count-le-length}
-use Rattle.mask_bits.proofs.Lists.Words.WordLemmas.{length-word_bits}
+use Rattle.vortex_mask.proofs.Common.{arith, word_bits, count-le-length, length-word_bits}
 use Rattle.vortex_mask.proofs.Deposits.ByteLemmas.{byte_at-lt}
 use Rattle.vortex_mask.proofs.Deposits.SelectionLemmas.{below-small, bit-there, selected-there}
 use Rattle.vortex_mask.proofs.intersect_by_rank.select.PortableSelectBit.select_bit_position.Goals as goal

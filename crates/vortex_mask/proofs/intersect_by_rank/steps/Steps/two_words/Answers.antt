@@ -1,5 +1,4 @@
-use Rattle.vortex_mask.proofs.Common.{◌+◌, ◌∙◌, arith}
-use Rattle.mask_bits.proofs.Lists.Words.PaddedLemmas.{padded_part-whole}
+use Rattle.vortex_mask.proofs.Common.{◌+◌, ◌∙◌, arith, padded_part-whole}
 use Rattle.vortex_mask.proofs.intersect_by_rank.steps.Steps.two_words.Goals as goal
 
 pub returns-clause-first : goal.returns-clause-first

@@ -1,5 +1,4 @@
-use Rattle.vortex_mask.proofs.Common.{arith}
-use Rattle.mask_bits.proofs.Lists.Words.WordLemmas.{count-word_bits}
+use Rattle.vortex_mask.proofs.Common.{arith, count-word_bits}
 use Rattle.vortex_mask.proofs.Kernels.DepositListLemmas.{selected-lt}
 use Rattle.vortex_mask.proofs.Kernels.DrivenLemmas.{place-found}
 use Rattle.vortex_mask.proofs.intersect_by_rank.kernels.mask_driven.Reached.index_of.Goals as goal

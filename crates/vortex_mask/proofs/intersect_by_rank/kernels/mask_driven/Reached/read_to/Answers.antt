@@ -1,5 +1,4 @@
-use Rattle.vortex_mask.proofs.Common.{◌+◌, refl, ap, arith, StepCounts}
-use Rattle.mask_bits.proofs.Lists.Places.PlaceLemmas.{count-le-length}
+use Rattle.vortex_mask.proofs.Common.{◌+◌, refl, ap, arith, StepCounts, count-le-length}
 use Rattle.vortex_mask.proofs.Kernels.DrivenLemmas.{more-words, read-more}
 use Rattle.vortex_mask.proofs.Lists.StartedWordLemmas.{place-within}
 use Rattle.vortex_mask.proofs.intersect_by_rank.kernels.mask_driven.Reached.read_to.Goals as goal

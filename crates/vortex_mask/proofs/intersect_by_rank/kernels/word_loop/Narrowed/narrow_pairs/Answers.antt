@@ -1,5 +1,4 @@
-use Rattle.vortex_mask.proofs.Common.{◌+◌, ◌*◌, refl, sym, arith, count_ones}
-use Rattle.mask_bits.proofs.Lists.Words.WordLemmas.{count-word_bits}
+use Rattle.vortex_mask.proofs.Common.{◌+◌, ◌*◌, refl, sym, arith, count_ones, count-word_bits}
 use Rattle.vortex_mask.proofs.Kernels.WordKernelLemmas.{deposited-at, deposited-more, two_more}
 use Rattle.vortex_mask.proofs.Lists.StartedWordLemmas.{IsAt, place-next, place-after_within}
 use Rattle.vortex_mask.proofs.intersect_by_rank.kernels.word_loop.Narrowed.narrow_pairs.Goals as goal

@@ -1,5 +1,4 @@
-use Rattle.vortex_mask.proofs.Common.{◌≡◌, ◌+◌, refl, ap, subst, arith, count_ones, common_steps}
-use Rattle.mask_bits.proofs.Lists.Words.WordLemmas.{count-word_bits}
+use Rattle.vortex_mask.proofs.Common.{◌≡◌, ◌+◌, refl, ap, subst, arith, count_ones, common_steps, count-word_bits}
 use Rattle.vortex_mask.proofs.Kernels.WordKernelLemmas.{deposited-at, deposited-list, deposited-more, deposited-steps, word-started}
 use Rattle.vortex_mask.proofs.Lists.StartedWordLemmas.{IsAt, place-after_within}
 use Rattle.vortex_mask.proofs.intersect_by_rank.kernels.word_loop.Narrowed.narrow_rest.Goals as goal
