@@ -4,7 +4,7 @@ use Rattle.mask_bits.proofs.Lists.BooleanValueLemmas.{value_of_true_at}
 use Rattle.mask_bits.proofs.Lists.RankLemmas.{length-true_at}
 use Rattle.mask_bits.proofs.Lists.Words.ShiftLemmas.{get_or-word_bits_or}
 use Rattle.mask_bits.proofs.Lists.Words.WordLemmas.{get_or-word_bits}
-use Rattle.vortex_mask.proofs.Lists.PlaceListLemmas.{bit_of_pow, none-is, rises-to}
+use Rattle.vortex_mask.proofs.Lists.PlaceListLemmas.{bit_of_pow, none-is, rises_to}
 
 -- the ranks from number `cut` on are at least `from`, and are the set bits of a word
 pub record AreGathered (ranks : List ℕ) (from cut bits : ℕ) : Type 0 where
@@ -22,7 +22,7 @@ gathered-more ranks from cut bits bit some high is g = grind (arith, common_step
 -- ---- ascending ranks
 
 pub gathered-split : (ranks : List ℕ) (from cut bits : ℕ) → IsStrictlyIncreasing ranks → (0 < cut → get_or ranks (cut - 1) 0 < from) → AreGathered ranks from cut bits → AreSplit ranks cut from
-gathered-split ranks from cut bits ascending stop g = grind (arith, rises-to)
+gathered-split ranks from cut bits ascending stop g = grind (arith, rises_to)
 
 -- ranks below `from` are none of the bits
 pub gathered-bits : (ranks : List ℕ) (from cut bits : ℕ) → IsStrictlyIncreasing ranks → (0 < cut → get_or ranks (cut - 1) 0 < from) → AreGathered ranks from cut bits

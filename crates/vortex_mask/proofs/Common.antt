@@ -73,7 +73,7 @@ pub use Rattle.vortex_mask.specs.Iter.{indices_left, ranges_left, values_left}
 pub use Rattle.vortex_mask.specs.Lend.{IfLent, ReachesShare}
 pub use Rattle.vortex_mask.specs.Mask.{IsUniform, Variant, all_false, all_true, contents, fitting_variant, mixed, same_truth, truth, variant, variant_and, variant_not, variant_of_no_part, variant_or}
 pub use Rattle.vortex_mask.specs.MaskValues.{AreOf, Contents, no_caches, only_indices, only_ranges, with_indices, with_ranges}
-pub use Rattle.vortex_mask.specs.Merges.{IsFound, IsUnderWay, comes_to}
+pub use Rattle.vortex_mask.specs.Merges.{GoesOn, IsFound, IsUnderWay, comes_to}
 pub use Rattle.vortex_mask.specs.Path.{AreNarrowingSteps, AreStepsOf, is_deposited_by_loop, narrowed_caches, path, path_caches, path_of}
 pub use Rattle.vortex_mask.specs.Ranges.{rows_held}
 unfoldable pub use Rattle.vortex_mask.specs.Ranks.{first_bits}

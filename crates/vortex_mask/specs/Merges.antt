@@ -18,3 +18,8 @@ pub record IsUnderWay (list other : List ℕ) (i j n : ℕ) : Type 0 where
   pub within_list : i ≤ length list
   pub within_other : j ≤ length other
   pub ascending : IsStrictlyIncreasing (drop i list)
+
+-- a merge that stands at places i and j with n indices found goes on to i' and j' with n', and comes to the same
+pub record GoesOn (list new other : List ℕ) (i j n i' j' n' : ℕ) : Type 0 where
+  pub under_way : IsUnderWay new other i' j' n'
+  pub same : comes_to new other i' j' n' ≡ comes_to list other i j n

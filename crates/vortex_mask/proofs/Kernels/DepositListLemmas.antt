@@ -30,8 +30,8 @@ selected-is w rank p inside set below =
     ap (λ n. get_or (positions (word_bits w)) n 0) number ∙ omega (arith, indices_from-trues 0 (word_bits w) p holds)
 
 -- the place is one of the word's
-pub selected-lt : (w n : ℕ) → n < count (word_bits w) → selected w n < 64
-selected-lt w n h = omega (arith, positions-within (word_bits w) n 0 h, length-word_bits w)
+pub selected_is_inside : (w n : ℕ) → n < count (word_bits w) → selected w n < 64
+selected_is_inside w n h = omega (arith, positions-within (word_bits w) n 0 h, length-word_bits w)
 
 -- ---- deposits
 
@@ -75,5 +75,3 @@ pub few-ones : (w : ℕ) → w < 2 ^ 64 → count_ones w ≤ 64
 few-ones w fits = ones-le 64 w fits
 
 pub ruleset word_counts = (few-true, few-ones, count-word_bits)
-
-pub ruleset selected_facts = (selected-lt)

@@ -2,7 +2,7 @@
 use Rattle.vortex_mask.proofs.Common.{◌≡◌, ℕ, ◌+◌, ◌-◌, ◌*◌, ◌/◌, ◌%◌, ◌^◌, ◌<◌, ◌≤◌, ◌||◌, Bool, false, nat_eq, List, length, get_or, set, replicate, take, drop, refl, sym, ap, ◌∙◌, arith, list_any, or-false, cases_eq, eq-eqb, ne_eqb, get_or-set_at, common_steps, get_or-drop, get_or-replicate, get_or_past, get_or-set_other, length-drop, length-replicate, take-append-drop, list_any-append, bit_at-zero, bit_at_set_same, bit_at_set_other, backing_bit, word_bits, window, AreBitsFrom, HoldsRanks, is_listed}
 use Rattle.std.specs.Int.{w8}
 use Rattle.std.specs.Int.RustNames.{bit_or}
-use Rattle.vortex_mask.proofs.Kernels.WordKernelLemmas.{bit-read}
+use Rattle.vortex_mask.proofs.Kernels.WordKernelLemmas.{bit_of_window}
 use Rattle.vortex_mask.proofs.Lists.PlaceListLemmas.{none-is}
 
 -- zeros have no bit
@@ -32,4 +32,4 @@ pub ranks-read : {ranks block : List ℕ} {base : ℕ} → HoldsRanks ranks base
     → word_bits w ≡ window block at → AreBitsFrom (is_listed ranks) number n w
 ranks-read {ranks} {block} {base} held number at n w is inside small few shows = λ k h.
     let e : base + (at + k) ≡ number + k = omega arith in
-    bit-read block at w k (at + k) shows (omega arith) refl ∙ held.bits (at + k) (omega arith) (omega (arith, e)) ∙ ap (is_listed ranks) e
+    bit_of_window block at w k (at + k) shows (omega arith) refl ∙ held.bits (at + k) (omega arith) (omega (arith, e)) ∙ ap (is_listed ranks) e

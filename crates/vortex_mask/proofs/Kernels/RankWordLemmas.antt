@@ -1,7 +1,7 @@
 -- Ascending ranks as the rank bits of a word.
 use Rattle.vortex_mask.proofs.Common.{common_steps, ◌≡◌, ℕ, ◌+◌, ◌-◌, ◌*◌, ◌<◌, ◌≤◌, ◌^◌, inl, inr, List, length, get_or, refl, sym, ap, subst, ◌∙◌, arith, ◌%◌, or-false, IsStrictlyIncreasing, cases_lt, take_more, take-append-drop, get_or-take, get_or-drop, length-take, length-drop, list_any-append, bit_at-zero, one_shl, AreBitsFrom, AreSplit, IsGathered, is_listed, or_zero_r, get_or-word_bits_or, get_or-word_bits}
 use Rattle.std.specs.Int.RustNames.{bit_or}
-use Rattle.vortex_mask.proofs.Lists.PlaceListLemmas.{bit_of_pow, none-is, rises-to}
+use Rattle.vortex_mask.proofs.Lists.PlaceListLemmas.{bit_of_pow, none-is, rises_to}
 
 -- ---- the walk
 
@@ -27,7 +27,7 @@ gathered-four ranks at end next bits ascending few inside below g =
     let e2 : next + 1 + 1 ≡ next + 2 = omega arith in
     let e3 : next + 2 + 1 ≡ next + 3 = omega arith in
     let e4 : next + 3 + 1 ≡ next + 4 = omega arith in
-    let under : (k : ℕ) → k ≤ next + 3 → get_or ranks k 0 < end = λ k h. omega (arith, rises-to ranks k (next + 3) ascending h (omega arith)) in
+    let under : (k : ℕ) → k ≤ next + 3 → get_or ranks k 0 < end = λ k h. omega (arith, rises_to ranks k (next + 3) ascending h (omega arith)) in
     let is : (k : ℕ) → k ≤ next + 3 → bit k ≡ 2 ^ (get_or ranks k 0 - at) = λ k h. one_shl (get_or ranks k 0 - at) 64 (omega (arith, under k h)) in
     let g1 : IsGathered ranks at end (next + 1) one = gathered-more ranks at end next bits (bit next) (omega arith) (under next (omega arith)) (is next (omega arith)) g in
     let g2 : IsGathered ranks at end (next + 2) two = subst (λ n. IsGathered ranks at end n two) e2 (gathered-more ranks at end (next + 1) one (bit (next + 1)) (omega arith) (under (next + 1) (omega arith)) (is (next + 1) (omega arith)) g1) in
@@ -57,7 +57,7 @@ pub gathered-three : (ranks : List ℕ) (at end next bits : ℕ) (p q r : ℕ ×
     → (get_or ranks (next + 2) 0 < end → r ≡ (2 ^ (get_or ranks (next + 2) 0 - at), 1)) → (end ≤ get_or ranks (next + 2) 0 → r ≡ (0, 0))
     → IsGathered ranks at end (next + (p.1 + q.1 + r.1)) (bit_or (bit_or (bit_or bits p.0) q.0) r.0)
 gathered-three ranks at end next bits p q r ascending inside g below0 past0 below1 past1 below2 past2 =
-    let rise : (i j : ℕ) → i ≤ j → j ≤ next + 2 → get_or ranks i 0 ≤ get_or ranks j 0 = λ i j h last. rises-to ranks i j ascending h (omega arith) in
+    let rise : (i j : ℕ) → i ≤ j → j ≤ next + 2 → get_or ranks i 0 ≤ get_or ranks j 0 = λ i j h last. rises_to ranks i j ascending h (omega arith) in
     let one : get_or ranks (next + 1) 0 < end → next + p.1 ≡ next + 1 = λ h. omega (arith, ap (λ t. t.1) (below0 (omega (arith, rise next (next + 1) (omega arith) (omega arith))))) in
     let two : get_or ranks (next + 2) 0 < end → next + p.1 + q.1 ≡ next + 2
     = λ h. let under : get_or ranks (next + 1) 0 < end = omega (arith, rise (next + 1) (next + 2) (omega arith) (omega arith)) in omega (arith, one under, ap (λ t. t.1) (below1 under)) in
@@ -67,7 +67,7 @@ gathered-three ranks at end next bits p q r ascending inside g below0 past0 belo
     (gathered-step ranks at end (next + p.1) (next + 1) _ q (omega arith) one below1 past1 (gathered-step ranks at end next next bits p (omega arith) (λ h. refl) below0 past0 g)))
 
 pub gathered-split : (ranks : List ℕ) (at end next bits : ℕ) → IsStrictlyIncreasing ranks → (next < length ranks → end ≤ get_or ranks next 0) → IsGathered ranks at end next bits → AreSplit ranks next end
-gathered-split ranks at end next bits ascending stop g = grind (arith, rises-to)
+gathered-split ranks at end next bits ascending stop g = grind (arith, rises_to)
 
 pub gathered-bits : (ranks : List ℕ) (at end next bits : ℕ) → end ≤ at + 64 → IsStrictlyIncreasing ranks → (next < length ranks → end ≤ get_or ranks next 0) → IsGathered ranks at end next bits
     → AreBitsFrom (is_listed ranks) at (end - at) bits

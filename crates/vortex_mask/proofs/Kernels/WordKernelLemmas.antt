@@ -49,10 +49,8 @@ pub narrowed-listed : (a : List Bool) (ranks : List ℕ) → IsStrictlyIncreasin
 narrowed-listed a ranks ascending within = grind (arith, first_bits-of, length-true_at, value_of_true_at, narrowed_at, length-true_at (count a) ranks, narrowed_at a ranks ascending within)
 
 -- bits that a word shows
-pub bit-read : (bytes : List ℕ) (p w k q : ℕ) → word_bits w ≡ window bytes p → k < 64 → q ≡ p + k → get_or (word_bits w) k false ≡ backing_bit bytes q
-bit-read bytes p w k q shows few is = grind (arith, shows, get_or-window bytes p k false few)
-
-pub ruleset window_bits = (bit-read)
+pub bit_of_window : (bytes : List ℕ) (p w k q : ℕ) → word_bits w ≡ window bytes p → k < 64 → q ≡ p + k → get_or (word_bits w) k false ≡ backing_bit bytes q
+bit_of_window bytes p w k q shows few is = grind (arith, shows, get_or-window bytes p k false few)
 
 -- ---- the words so far
 

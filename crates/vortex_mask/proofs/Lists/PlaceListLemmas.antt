@@ -10,8 +10,8 @@ none-is p [] apart = refl
 none-is p (x ∷ xs) apart = grind (arith, common_steps, ne_eqb p x (λ same. apart 0 (omega arith) (sym same)), none-is p xs (λ k h. apart (suc k) (omega arith)))
 
 -- a later one is no less
-pub rises-to : (xs : List ℕ) (i k : ℕ) → IsStrictlyIncreasing xs → i ≤ k → k < length xs → get_or xs i 0 ≤ get_or xs k 0
-rises-to xs i k ascending h inside = grind (arith, cases_lt, AllPairs-from_increasing)
+pub rises_to : (xs : List ℕ) (i k : ℕ) → IsStrictlyIncreasing xs → i ≤ k → k < length xs → get_or xs i 0 ≤ get_or xs k 0
+rises_to xs i k ascending h inside = grind (arith, cases_lt, AllPairs-from_increasing)
 
 -- the first numbers of ascending ones ascend
 pub ascending-take : (n : ℕ) (xs : List ℕ) → IsStrictlyIncreasing xs → IsStrictlyIncreasing (take n xs)
@@ -43,5 +43,3 @@ count-at_indices a qs ascending within = grind (arith, common_steps, positions-a
 -- ascending indices taken at ascending indices ascend
 pub at_indices-ascending : (n : ℕ) (ps qs : List ℕ) → IsStrictlyIncreasing ps → All (λ p. p < n) ps → IsStrictlyIncreasing qs → All (λ k. k < length ps) qs → IsStrictlyIncreasing (at_indices ps qs)
 at_indices-ascending n ps qs ascending within mask_ascending mask_within = grind (arith, positions-true_at n ps ascending within, positions-narrowed_at, positions-ascending (rank_intersection (true_at n ps) (true_at (count (true_at n ps)) qs)))
-
-pub ruleset rising_facts = (rises-to)

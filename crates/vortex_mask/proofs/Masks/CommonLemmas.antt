@@ -1,7 +1,7 @@
 -- The indices that two ascending lists have in common, found at their fronts.
-use Rattle.vortex_mask.proofs.Common.{common_steps, take-set_at, suc, append_assoc, append-nil, ◌≡◌, ℕ, ◌+◌, ◌<◌, ◌≤◌, false, nat_eq, nat_le, set, List, [], ◌∷◌, ◌++◌, length, get_or, take, drop, ◌||◌, ◌-◌, cond, refl, sym, ap, ap₂, subst, ◌∙◌, ◌⊎◌, inl, inr, arith, copy_within, list_any, take-paste, paste, IsStrictlyIncreasing, le-leb, lt-leb, eq-eqb, ne_eqb, cases_lt, cases_eq, cases_order, or-false, drop-set-lt, set-get_or, length-set, drop_more, length-drop, length-take, get_or-take, take-append-drop, take-set, take-take, get_or-drop, drop_all, drop-drop, get_or_default, All-head, All-tail, All-cons, All-weaker, filter-append, filter_more, list_any_none, list_any-append, list_any-from_Any, AllPairs-from_increasing, common, AreSplit, IsFound, IsUnderWay, comes_to}
+use Rattle.vortex_mask.proofs.Common.{common_steps, take-set_at, suc, append_assoc, append-nil, ◌≡◌, ℕ, ◌+◌, ◌<◌, ◌≤◌, false, nat_eq, nat_le, set, List, [], ◌∷◌, ◌++◌, length, get_or, take, drop, ◌||◌, ◌-◌, cond, refl, sym, ap, ap₂, subst, ◌∙◌, ◌⊎◌, inl, inr, arith, copy_within, list_any, take-paste, paste, IsStrictlyIncreasing, le-leb, lt-leb, eq-eqb, ne_eqb, cases_lt, cases_eq, cases_order, or-false, drop-set-lt, set-get_or, length-set, drop_more, length-drop, length-take, get_or-take, take-append-drop, take-set, take-take, get_or-drop, drop_all, drop-drop, get_or_default, All-head, All-tail, All-cons, All-weaker, filter-append, filter_more, list_any_none, list_any-append, list_any-from_Any, AllPairs-from_increasing, common, AreSplit, IsFound, IsUnderWay, GoesOn, comes_to}
 use Rattle.std.specs.List.{All}
-use Rattle.vortex_mask.proofs.Lists.PlaceListLemmas.{none-is, rises-to}
+use Rattle.vortex_mask.proofs.Lists.PlaceListLemmas.{none-is, rises_to}
 use mir.Val.{bool_byte}
 
 -- what ascends from place i on does so from a later one on
@@ -38,27 +38,27 @@ ascending-rest x xs ascending k h =
     let next : suc k + 1 ≡ suc (k + 1) = omega arith in
     subst (λ (j : ℕ). get_or xs k 0 < get_or (x ∷ xs) j 0) next (ascending (suc k) (omega arith))
 
-pub common-swapped : (xs ys : List ℕ) → IsStrictlyIncreasing xs → IsStrictlyIncreasing ys → common xs ys ≡ common ys xs
-common-swapped [] ys a b = sym (common-none ys)
-common-swapped (x ∷ xs) [] a b = common-none (x ∷ xs)
-common-swapped (x ∷ xs) (y ∷ ys) a b = elim (cases_order x y) [
+pub common_either_way : (xs ys : List ℕ) → IsStrictlyIncreasing xs → IsStrictlyIncreasing ys → common xs ys ≡ common ys xs
+common_either_way [] ys a b = sym (common-none ys)
+common_either_way (x ∷ xs) [] a b = common-none (x ∷ xs)
+common_either_way (x ∷ xs) (y ∷ ys) a b = elim (cases_order x y) [
   | inl same ↦
       let e : common (y ∷ ys) (y ∷ xs) ≡ y ∷ common ys xs = common-first y ys xs (above-first y ys b) in
       ap (λ z. common (x ∷ xs) (z ∷ ys)) (sym same)
       ∙ common-first x xs ys (above-first x xs a)
-      ∙ ap (λ zs. x ∷ zs) (common-swapped xs ys (ascending-rest x xs a) (ascending-rest y ys b))
+      ∙ ap (λ zs. x ∷ zs) (common_either_way xs ys (ascending-rest x xs a) (ascending-rest y ys b))
       ∙ ap (λ z. z ∷ common ys xs) same
       ∙ sym e
       ∙ ap (λ z. common (y ∷ ys) (z ∷ xs)) (sym same)
   | inr (inl less) ↦
       let above : All (λ z. x < z) (y ∷ ys) = above-all x y ys b less in
       common-left x xs (y ∷ ys) above
-      ∙ common-swapped xs (y ∷ ys) (ascending-rest x xs a) b
+      ∙ common_either_way xs (y ∷ ys) (ascending-rest x xs a) b
       ∙ sym (common-right x (y ∷ ys) xs above)
   | inr (inr more) ↦
       let above : All (λ z. y < z) (x ∷ xs) = above-all y x xs a more in
       common-right y (x ∷ xs) ys above
-      ∙ common-swapped (x ∷ xs) ys a (ascending-rest y ys b)
+      ∙ common_either_way (x ∷ xs) ys a (ascending-rest y ys b)
       ∙ sym (common-left y ys (x ∷ xs) above)
 ]
 
@@ -87,7 +87,7 @@ common-missed xs ys i n ascending h split missed =
       | inl before ↦ absurd (omega (arith, split.before k before))
       | inr after ↦ elim (cases_eq (get_or ys n 0) (get_or xs i 0)) [
         | inl here ↦ missed (omega arith) here
-        | inr apart ↦ absurd (omega (arith, split.after n (omega arith) (omega arith), rises-to ys n k ascending after inside, apart))
+        | inr apart ↦ absurd (omega (arith, split.after n (omega arith) (omega arith), rises_to ys n k ascending after inside, apart))
       ]
     ]) in
     filter_more (λ x. list_any (nat_eq x) ys) xs i 0 h ∙ ap (λ b. common (take i xs) ys ++ cond b (get_or xs i 0 ∷ []) []) lacks ∙ append-nil (common (take i xs) ys)
@@ -121,7 +121,7 @@ pub common-parts : (xs ys : List ℕ) (m n : ℕ) → IsStrictlyIncreasing xs �
 common-parts xs ys m n ascending h split =
     let x = get_or xs m 0 in
     let low = all-first xs m x (λ k few. AllPairs-from_increasing xs ascending k m 0 few h) in
-    let high = all-last xs m x (λ k later inside. rises-to xs m k ascending later inside) in
+    let high = all-last xs m x (λ k later inside. rises_to xs m k ascending later inside) in
     let below = all-first ys n x split.before in
     let above = all-last ys n x split.after in
     ap (λ zs. common zs ys) (sym (take-append-drop m xs))
@@ -140,11 +140,6 @@ common-passed us vs k y low high =
 common-passed_right : (us vs : List ℕ) (k x : ℕ) → All (λ z. x ≤ z) us → All (λ z. z < x) (take k vs) → common us vs ≡ common us (drop k vs)
 common-passed_right us vs k x high low = ap (common us) (sym (take-append-drop k vs)) ∙ common-above x us (take k vs) (drop k vs) high low
 
--- from one place and number to another, with what the merge comes to
-pub record GoesOn (xs new ys : List ℕ) (i j n i' j' n' : ℕ) : Type 0 where
-  pub under_way : IsUnderWay new ys i' j' n'
-  pub same : comes_to new ys i' j' n' ≡ comes_to xs ys i j n
-
 goes-past : (xs ys : List ℕ) (i j n k l : ℕ) → IsUnderWay xs ys i j n → i + k ≤ length xs → j + l ≤ length ys
     → common (drop i xs) (drop j ys) ≡ common (drop k (drop i xs)) (drop l (drop j ys)) → GoesOn xs xs ys i j n (i + k) (j + l) n
 goes-past xs ys i j n k l w left right same = grind (arith, common_steps, ascending-later xs i (i + k) (omega arith) w.ascending, drop-drop k i xs, drop-drop l j ys)
@@ -154,16 +149,16 @@ pub goes-list : (xs ys : List ℕ) (i j n k : ℕ) → IsStrictlyIncreasing ys �
     → get_or xs (i + k) 0 < get_or ys j 0 → GoesOn xs xs ys i j n (i + (k + 1)) (j + 0) n
 goes-list xs ys i j n k b h h' w less =
     goes-past xs ys i j n (k + 1) 0 w (omega arith) (omega arith) (common-passed (drop i xs) (drop j ys) (k + 1) (get_or ys j 0)
-    (all-first (drop i xs) (k + 1) (get_or ys j 0) (λ m few. omega (arith, get_or-drop i xs k 0, rises-to (drop i xs) m k w.ascending (omega arith) (omega (arith, length-drop i xs)))))
-    (all-last ys j (get_or ys j 0) (λ m later inside. rises-to ys j m b later inside)))
+    (all-first (drop i xs) (k + 1) (get_or ys j 0) (λ m few. omega (arith, get_or-drop i xs k 0, rises_to (drop i xs) m k w.ascending (omega arith) (omega (arith, length-drop i xs)))))
+    (all-last ys j (get_or ys j 0) (λ m later inside. rises_to ys j m b later inside)))
 
 pub goes-other : (xs ys : List ℕ) (i j n k : ℕ) → IsStrictlyIncreasing ys → i < length xs → j + k < length ys → IsUnderWay xs ys i j n
     → get_or ys (j + k) 0 < get_or xs i 0 → GoesOn xs xs ys i j n (i + 0) (j + (k + 1)) n
 goes-other xs ys i j n k b h h' w less =
     let first : i + 0 ≡ i = omega arith in
     goes-past xs ys i j n 0 (k + 1) w (omega arith) (omega arith) (common-passed_right (drop i xs) (drop j ys) (k + 1) (get_or xs i 0)
-    (all-last (drop i xs) 0 (get_or xs i 0) (λ m later inside. omega (arith, get_or-drop i xs 0 0, ap (λ p. get_or xs p 0) first, rises-to (drop i xs) 0 m w.ascending later inside)))
-    (all-first (drop j ys) (k + 1) (get_or xs i 0) (λ m few. omega (arith, get_or-drop j ys m 0, rises-to ys (j + m) (j + k) b (omega arith) h'))))
+    (all-last (drop i xs) 0 (get_or xs i 0) (λ m later inside. omega (arith, get_or-drop i xs 0 0, ap (λ p. get_or xs p 0) first, rises_to (drop i xs) 0 m w.ascending later inside)))
+    (all-first (drop j ys) (k + 1) (get_or xs i 0) (λ m few. omega (arith, get_or-drop j ys m 0, rises_to ys (j + m) (j + k) b (omega arith) h'))))
 
 -- an index moved down to place n leaves what comes from its own place on
 kept_from : (xs : List ℕ) (i n : ℕ) → n ≤ i → drop i (set xs n (get_or xs i 0)) ≡ drop i xs
@@ -213,15 +208,11 @@ goes-step xs ys i j n b h k w =
     ]
 
 -- and its end
-pub merged-over : (xs ys : List ℕ) (i j n : ℕ) → IsUnderWay xs ys i j n → (length xs ≤ i) ⊎ (length ys ≤ j) → take n xs ≡ comes_to xs ys i j n
-merged-over xs ys i j n w over = sym (append-nil (take n xs)) ∙ ap (λ zs. take n xs ++ zs) (sym (common-over xs ys i j over))
+pub merge_is_over : (xs ys : List ℕ) (i j n : ℕ) → IsUnderWay xs ys i j n → (length xs ≤ i) ⊎ (length ys ≤ j) → take n xs ≡ comes_to xs ys i j n
+merge_is_over xs ys i j n w over = sym (append-nil (take n xs)) ∙ ap (λ zs. take n xs ++ zs) (sym (common-over xs ys i j over))
 
 -- what was found in the first parts and in the last ones, moved together
 pub found-joined : (xs ys both : List ℕ) (m n at f l : ℕ) → IsStrictlyIncreasing xs → m < length xs → AreSplit ys n (get_or xs m 0)
     → IsFound (take m xs) (take n ys) (take at both) f → IsFound (drop m xs) (drop n ys) (drop at both) l
     → take (f + l) (copy_within both at (at + l) f) ≡ common xs ys
 found-joined xs ys both m n at f l ascending h split first last = grind (arith, paste, take-paste, length-take, take-take, common-parts)
-
-pub ruleset merged_facts = (merged-over)
-
-pub ruleset swapped_facts = (common-swapped)

@@ -7,8 +7,8 @@ use Rattle.vortex_mask.proofs.Masks.FaultLemmas.{option_or-none, none_mapped}
 -- ---- neighbors, one pair at a time
 
 -- the last range has no next one
-pub neighbors-end : (rs : List (ℕ × ℕ)) (n : ℕ) → length rs ≤ n + 1 → neighbors_fault_from n (drop n rs) ≡ None
-neighbors-end rs n h = grind (arith, common_steps, cases_lt n (length rs), at_drop_more, at_drop_all (λ ys. neighbors_fault_from n (get_or rs n (0, 0) ∷ ys)) rs (n + 1) h, at_drop_all)
+pub no_more_neighbors : (rs : List (ℕ × ℕ)) (n : ℕ) → length rs ≤ n + 1 → neighbors_fault_from n (drop n rs) ≡ None
+no_more_neighbors rs n h = grind (arith, common_steps, cases_lt n (length rs), at_drop_more, at_drop_all (λ ys. neighbors_fault_from n (get_or rs n (0, 0) ∷ ys)) rs (n + 1) h, at_drop_all)
 
 -- ---- no fault
 
@@ -82,5 +82,3 @@ pub AreRanges-set : (len : ℕ) (rs : List (ℕ × ℕ)) (bytes : List ℕ) → 
 AreRanges-set len rs bytes none set = grind (arith, common_steps, AreRanges-no_fault len rs (bitmap bytes 0 len) none (length-bitmap bytes 0 len) (λ i h. grind (arith, get_or-bitmap, set i)), length-bitmap bytes 0 len, get_or-bitmap)
 
 pub ruleset range_facts = (nonempty-no_fault, rows_held-le, AreRanges-none, AreRanges-all, ranges_add_up_to_the_count)
-
-pub ruleset neighbor_facts = (neighbors-end)

@@ -190,7 +190,7 @@ impl Steps {
     }
 
     /// The place of set bit number `rank` of `word`.
-    #[tactic(auto, using(crate::proofs::Kernels::DepositListLemmas::selected_facts))]
+    #[tactic(auto, using(crate::proofs::Kernels::DepositListLemmas::selected_is_inside))]
     #[inline(always)]
     pub fn select<S: SelectBit>(&mut self, word: u64, rank: usize) -> usize
         requires room { self.old.selections < usize.MAX }

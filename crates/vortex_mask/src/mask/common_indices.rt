@@ -3,11 +3,11 @@
 ghost use Rattle.std.specs.Prelude.{◌≡◌, ◌+◌, ◌<◌, ◌≤◌, ◌^◌, ◌↔◌, IsTrue, ℕ, length, take, drop, slice_index};
 ghost use Rattle.std.specs.List.Sorted.{IsStrictlyIncreasing};
 ghost use Rattle.vortex_mask.specs.Faults.{common};
-ghost use Rattle.vortex_mask.specs.Merges.{IsFound, IsUnderWay, comes_to};
+ghost use Rattle.vortex_mask.specs.Merges.{IsFound, IsUnderWay, GoesOn, comes_to};
 ghost use Rattle.vortex_mask.specs.Ranks.{AreSplit};
 
 /// The indices that both lists have, in the shorter one's room.
-#[tactic(auto, using(crate::proofs::Masks::CommonLemmas::swapped_facts))]
+#[tactic(auto, using(crate::proofs::Masks::CommonLemmas::common_either_way))]
 pub(crate) fn common(lhs: Vec<usize>, rhs: Vec<usize>) -> Vec<usize>
     requires lhs { IsStrictlyIncreasing lhs.items }
     requires rhs { IsStrictlyIncreasing rhs.items }
@@ -59,7 +59,7 @@ fn look_up(short: &mut [usize], long: &[usize]) -> usize
 
 // How many indices are below `least`, which those before place `from` are: sought in strides that double, and then by
 // halves.
-#[tactic(auto, using(crate::proofs::Lists::PlaceListLemmas::rising_facts))]
+#[tactic(auto, using(crate::proofs::Lists::PlaceListLemmas::rises_to))]
 fn place_of(list: &[usize], from: usize, least: usize) -> usize
     requires ascending { IsStrictlyIncreasing list.now }
     requires within { from ≤ length list.now }
@@ -75,7 +75,7 @@ fn place_of(list: &[usize], from: usize, least: usize) -> usize
 }
 
 // How many indices are below `least`, which those before place `low` are, and none from `high` on is.
-#[tactic(auto, using(crate::proofs::Lists::PlaceListLemmas::rising_facts))]
+#[tactic(auto, using(crate::proofs::Lists::PlaceListLemmas::rises_to))]
 fn place_between(list: &[usize], low: usize, high: usize, least: usize) -> usize
     requires ascending { IsStrictlyIncreasing list.now }
     requires order { low ≤ high }
@@ -149,7 +149,7 @@ fn merge_both(
 }
 
 // Merges what is left of two lists, and tells how many indices both have.
-#[tactic(auto, using(crate::proofs::Masks::CommonLemmas::merged_facts))]
+#[tactic(auto, using(crate::proofs::Masks::CommonLemmas::merge_is_over))]
 fn merge_rest(list: &mut [usize], other: &[usize], at: Places) -> usize
     requires other { IsStrictlyIncreasing other.now }
     requires under_way { IsUnderWay list.old other.now at.list at.other at.found }
@@ -167,9 +167,8 @@ fn merge_rest(list: &mut [usize], other: &[usize], at: Places) -> usize
 fn merge_eights(list: &mut [usize], other: &[usize], at: Places) -> Places
     requires other { IsStrictlyIncreasing other.now }
     requires under_way { IsUnderWay list.old other.now at.list at.other at.found }
-    ensures under_way { IsUnderWay list.new other.now result.list result.other result.found }
-    ensures same { comes_to list.new other.now result.list result.other result.found
-        ≡ comes_to list.old other.now at.list at.other at.found }
+    ensures merged { GoesOn list.old list.new other.now at.list at.other at.found
+        result.list result.other result.found }
 {
     let mut at = at;
     while at.have_eight(list, other) {
@@ -186,9 +185,8 @@ fn eight_steps(list: &mut [usize], other: &[usize], at: Places) -> Places
     requires left_list { at.list + 8 ≤ length list.old }
     requires left_other { at.other + 8 ≤ length other.now }
     requires under_way { IsUnderWay list.old other.now at.list at.other at.found }
-    ensures under_way { IsUnderWay list.new other.now result.list result.other result.found }
-    ensures same { comes_to list.new other.now result.list result.other result.found
-        ≡ comes_to list.old other.now at.list at.other at.found }
+    ensures merged { GoesOn list.old list.new other.now at.list at.other at.found
+        result.list result.other result.found }
     ensures goes_on { at.list + at.other < result.list + result.other }
 {
     if list[at.list + 7] < other[at.other] {
@@ -212,9 +210,8 @@ fn step(list: &mut [usize], other: &[usize], at: Places) -> Places
     requires left_list { at.list < length list.old }
     requires left_other { at.other < length other.now }
     requires under_way { IsUnderWay list.old other.now at.list at.other at.found }
-    ensures under_way { IsUnderWay list.new other.now result.list result.other result.found }
-    ensures same { comes_to list.new other.now result.list result.other result.found
-        ≡ comes_to list.old other.now at.list at.other at.found }
+    ensures merged { GoesOn list.old list.new other.now at.list at.other at.found
+        result.list result.other result.found }
     ensures goes_on { at.list + at.other < result.list + result.other }
     ensures list_by_one { result.list ≤ at.list + 1 }
     ensures other_by_one { result.other ≤ at.other + 1 }

@@ -95,7 +95,7 @@ fn bad_range(len: usize, ranges: &[(usize, usize)]) -> Option<MaskError>
         .map(|at| MaskError::BadRange { at })
 }
 
-#[tactic(auto, using(crate::proofs::Masks::SoundRangeLemmas::neighbor_facts))]
+#[tactic(auto, using(crate::proofs::Masks::SoundRangeLemmas::no_more_neighbors))]
 fn neighbors_fault(ranges: &[(usize, usize)]) -> Option<MaskError>
     ensures { result ≡ faults.neighbors_fault_from 0 ranges.now }
 {

@@ -94,7 +94,7 @@ impl RankWords for BitsInside<'_> {
     }
 
     // Two words from positions that are known to be inside.
-    #[tactic(auto, using(crate::proofs::Kernels::WordKernelLemmas::window_bits))]
+    #[tactic(auto, using(crate::proofs::Kernels::WordKernelLemmas::bit_of_window))]
     #[inline(always)]
     fn two_words(&self, _next: &mut usize, at: usize, ones: [usize; 2]) -> [u64; 2] {
         let next = at + ones[0];
@@ -119,7 +119,7 @@ impl RankWords for RankBits<'_> {
         true
     }
 
-    #[tactic(auto, using(crate::proofs::Kernels::WordKernelLemmas::window_bits))]
+    #[tactic(auto, using(crate::proofs::Kernels::WordKernelLemmas::bit_of_window))]
     #[inline(always)]
     fn two_words(&self, _next: &mut usize, at: usize, ones: [usize; 2]) -> [u64; 2] {
         let first = at - self.offset();

@@ -85,7 +85,7 @@ impl RankWords for RankBlock<'_> {
 
 // Puts the ranks from `base` on as set bits, that of `base` first, whose first one is number `next`.
 // Answers the number of the first rank past the block.
-#[tactic(auto, using(crate::proofs::Lists::PlaceListLemmas::rising_facts))]
+#[tactic(auto, using(crate::proofs::Lists::PlaceListLemmas::rises_to))]
 #[inline(always)]
 fn put_ranks(ranks: &[usize], next: usize, base: usize, block: &mut [u8]) -> usize
     requires room { CanHold ranks.now next base block.old }
@@ -130,7 +130,7 @@ fn put_one_by_one(ranks: &[usize], next: usize, base: usize, block: &mut [u8]) -
 }
 
 // How many ranks are below `limit`, which none is from number `end` on.
-#[tactic(auto, using(crate::proofs::Lists::PlaceListLemmas::rising_facts))]
+#[tactic(auto, using(crate::proofs::Lists::PlaceListLemmas::rises_to))]
 fn ranks_below(ranks: &[usize], end: usize, limit: usize) -> usize
     requires ascending { IsStrictlyIncreasing ranks.now }
     requires within { end ≤ length ranks.now }

@@ -1,11 +1,10 @@
-use Rattle.vortex_mask.proofs.Common.{◌≡◌, ◌+◌, ◌≤◌, IsUnderWay, comes_to}
+use Rattle.vortex_mask.proofs.Common.{◌+◌, ◌≤◌, GoesOn}
 use Rattle.vortex_mask.proofs.mask.common_indices.eight_steps.Given as goal
 
 -- a step goes on by one in a list at most, and by one in all at least
 abbrev pub invariant-loop-k : goal.invariant-loop-k
 invariant-loop-k l = record {
-  under_way : IsUnderWay l.list l.other l.next.list l.next.other l.next.found;
-  same : comes_to l.list l.other l.next.list l.next.other l.next.found ≡ comes_to l.initial.list l.other l.fn.at.list l.fn.at.other l.fn.at.found;
+  merged : GoesOn l.initial.list l.list l.other l.fn.at.list l.fn.at.other l.fn.at.found l.next.list l.next.other l.next.found;
   few_list : l.next.list ≤ l.fn.at.list + l.k;
   few_other : l.next.other ≤ l.fn.at.other + l.k;
   some : l.fn.at.list + l.fn.at.other + l.k ≤ l.next.list + l.next.other;

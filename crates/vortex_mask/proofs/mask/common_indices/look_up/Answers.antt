@@ -1,6 +1,6 @@
 use Rattle.vortex_mask.proofs.Common.{◌≡◌, ◌∙◌, ap, ap₂, sym, subst, ◌+◌, ◌++◌, ◌∷◌, [], ℕ, get_or, take, refl, arith, take-set_at, get_or-set_other, AreSplit}
 use Rattle.vortex_mask.proofs.Masks.CommonLemmas.{common-found, common-missed}
-use Rattle.vortex_mask.proofs.Lists.PlaceListLemmas.{rises-to}
+use Rattle.vortex_mask.proofs.Lists.PlaceListLemmas.{rises_to}
 use Rattle.vortex_mask.proofs.mask.common_indices.look_up.Goals as goal
 use Rattle.vortex_mask.proofs.mask.common_indices.look_up.Goals.{then-from-long+then-long-from, else-from-long, else-from-long-via-then-from-long+else-long-from, else-from-long-via-else-from-long}
 
@@ -26,7 +26,7 @@ loop-i-preserved c =
             ap (λ zs. get_or zs k 0) w.short-is ∙ get_or-set_other now found k (get_or now i 0) 0 (λ e. absurd (omega (arith, few))) ∙ c.loop-i.invariant.kept k (omega arith)
         | else-from-long w ↦ ap (λ zs. get_or zs k 0) w.short-is ∙ c.loop-i.invariant.kept k (omega arith)
       ];
-      passed = λ k j h later inside. omega (arith, split.before k h, rises-to xs i j c.requires.short (omega arith) (omega (arith, c.if-from-long.auto.short, c.loop-i.auto.short)));
+      passed = λ k j h later inside. omega (arith, split.before k h, rises_to xs i j c.requires.short (omega arith) (omega (arith, c.if-from-long.auto.short, c.loop-i.auto.short)));
       found = elim c.if-from-long.branch [
         | then-from-long+then-long-from w ↦
             ap₂ take w.found-is w.short-is ∙ take-set_at now found (found + 1) (get_or now i 0) refl (omega (arith, few, c.loop-i.auto.short))

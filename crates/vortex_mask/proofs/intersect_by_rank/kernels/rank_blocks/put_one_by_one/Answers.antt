@@ -1,6 +1,6 @@
 use Rattle.vortex_mask.proofs.Common.{◌+◌, ◌-◌, ◌<◌, ◌≤◌, ℕ, length, nat_eq, get_or, take, sym, ◌∙◌, arith, get_or-take, length-take, list_any_more}
 use Rattle.vortex_mask.proofs.Kernels.RankBlockLemmas.{backing_bit-set, nat_eq-from, among-first}
-use Rattle.vortex_mask.proofs.Lists.PlaceListLemmas.{none-is, rises-to}
+use Rattle.vortex_mask.proofs.Lists.PlaceListLemmas.{none-is, rises_to}
 use Rattle.vortex_mask.proofs.intersect_by_rank.kernels.rank_blocks.put_one_by_one.Goals as goal
 
 pub loop-next-init : goal.loop-next-init
@@ -28,7 +28,7 @@ loop-next-preserved c =
 pub returns-else-ranks-next-lt4096 : goal.returns-else-ranks-next-lt4096
 returns-else-ranks-next-lt4096 c =
     let past : (k : ℕ) → c.loop-next.next ≤ k → k < length c.args.ranks.now → c.args.base + 4096 ≤ get_or c.args.ranks.now k 0
-    = λ k later inside. omega (arith, c.if-ranks-next-lt4096.false, rises-to c.args.ranks.now c.loop-next.next k c.requires.room.ascending later inside) in
+    = λ k later inside. omega (arith, c.if-ranks-next-lt4096.false, rises_to c.args.ranks.now c.loop-next.next k c.requires.room.ascending later inside) in
     record {
       holds = record {
         room = omega (arith, c.requires.room.room);
