@@ -5,7 +5,7 @@ ghost use Rattle.std.specs.Prelude.{◌≡◌, ◌*◌, Bool, List, length, is_s
 ghost use Rattle.mask_bits.specs.Buffer.{values};
 ghost use Rattle.mask_bits.specs.Positions.{count};
 ghost use Rattle.vortex_mask.specs.MaskValues.{IsMixed};
-ghost use Rattle.vortex_mask.specs.Path.{path, path_of, path_caches};
+ghost use Rattle.vortex_mask.specs.Path.{path_of};
 
 use crate::mask::MaskValues;
 use mask_bits::words::started_words;
@@ -71,14 +71,7 @@ impl Summary {
 pub fn rank_path(values: &MaskValues, ranks: &MaskValues) -> RankPath
     ensures { result ≡ path_of values.now ranks.now }
 {
-    path_by(Summary::of(values), Summary::of(ranks))
-}
-
-// The path of a mask that is narrowed by another one, by what these numbers say of each.
-fn path_by(rows: Summary, ranks: Summary) -> RankPath
-    ensures { result ≡ path rows.len rows.true_count ranks.len ranks.true_count
-        rows.is_listed ranks.is_listed }
-{
+    let (rows, ranks) = (Summary::of(values), Summary::of(ranks));
     // with both lists at hand, the entries to take are fewer than the words to read
     let are_few = ranks.true_count < started_words(rows.len);
     if ranks.is_listed && rows.is_listed && are_few {
