@@ -1,13 +1,13 @@
 //! The call of the kernel that a path names.
 
-ghost use Rattle.std.specs.Prelude.{◌≡◌, ◌<◌, IfOk, IsOkUnless, IsSome, alloc_error, length};
+ghost use Rattle.std.specs.Prelude.{◌≡◌, ◌<◌, IfOk, IsOkUnless, alloc_error, length};
 ghost use Rattle.std.specs.Cow.{cow_slice_items};
 ghost use Rattle.mask_bits.specs.Buffer.{values};
 ghost use Rattle.mask_bits.specs.Positions.{count, positions};
 ghost use Rattle.vortex_mask.specs.Mask.{truth};
 ghost use Rattle.vortex_mask.specs.Path.{path_of, IsNarrowedOn};
 
-use crate::intersect_by_rank::deposit::{DepositBits, Portable, PortableLoop, deposits_by_loop};
+use crate::intersect_by_rank::deposit::{Portable, PortableLoop, deposits_by_loop};
 use crate::intersect_by_rank::kernels::{
     intersect_bit_buffer_by_rank_indices, intersect_bit_buffers, intersect_by_rank_indices,
     intersect_mask_driven,
@@ -19,7 +19,7 @@ use std::alloc::{AllocError, Global};
 use std::borrow::CowSlice;
 
 // The rank intersection of two mixed masks, by the kernel that `rank_path` names.
-#[tactic(auto, using(crate::proofs::Masks::MaskLemmas::narrowing_facts))]
+#[tactic(auto, using(crate::proofs::Masks::MaskLemmas::narrowing_facts, crate::proofs::Kernels::PathLemmas::path_facts))]
 pub(super) fn narrow_by_path(
     alloc: Global,
     rows: &MaskValues,
@@ -32,13 +32,24 @@ pub(super) fn narrow_by_path(
     ensures refused { IsOkUnless result (MaskError.Memory alloc_error) }
 {
     let by_loop = deposits_by_loop(rows.len(), rows.true_count());
+    let (buffer, bits, true_count) = (rows.bit_buffer(), ranks.bit_buffer(), ranks.true_count());
     match rank_path(rows, ranks) {
         RankPath::Indices => by_indices(alloc, rows, ranks),
         RankPath::MaskDriven => by_selections(alloc, rows, ranks),
-        RankPath::BitBuffers if by_loop => by_buffers::<PortableLoop>(alloc, rows, ranks),
-        RankPath::BitBuffers => by_buffers::<Portable>(alloc, rows, ranks),
-        RankPath::RankIndices if by_loop => by_rank_indices::<PortableLoop>(alloc, rows, ranks),
-        RankPath::RankIndices => by_rank_indices::<Portable>(alloc, rows, ranks),
+        RankPath::BitBuffers if by_loop => {
+            intersect_bit_buffers::<PortableLoop>(alloc, buffer, bits, true_count)
+        }
+        RankPath::BitBuffers => {
+            intersect_bit_buffers::<Portable>(alloc, buffer, bits, true_count)
+        }
+        RankPath::RankIndices if by_loop => {
+            let indices = ranks.lend_indices();
+            intersect_bit_buffer_by_rank_indices::<PortableLoop>(alloc, buffer, indices)
+        }
+        RankPath::RankIndices => {
+            let indices = ranks.lend_indices();
+            intersect_bit_buffer_by_rank_indices::<Portable>(alloc, buffer, indices)
+        }
     }
 }
 
@@ -91,35 +102,4 @@ fn by_selections(
             intersect_mask_driven::<Portable, _>(alloc, buffer, ranks, true_count)
         }
     }
-}
-
-// Of the bits of both: one deposit a word.
-fn by_buffers<D: DepositBits>(
-    alloc: Global,
-    rows: &MaskValues,
-    ranks: &MaskValues,
-) -> Result<(Mask, Steps), MaskError>
-    requires { length (values ranks.now.buffer) ≡ count (values rows.now.buffer) }
-    ensures narrowed { IfOk result
-        (λ r. IsNarrowedOn RankPath.BitBuffers rows.now ranks.now r.0 r.1) }
-    ensures refused { IsOkUnless result (MaskError.Memory alloc_error) }
-{
-    let (buffer, bits, true_count) = (rows.bit_buffer(), ranks.bit_buffer(), ranks.true_count());
-    intersect_bit_buffers::<D>(alloc, buffer, bits, true_count)
-}
-
-// Of the bits of the first and the cached true indices of the second: one deposit a word.
-#[tactic(auto, using(crate::proofs::Kernels::PathLemmas::path_facts))]
-fn by_rank_indices<D: DepositBits>(
-    alloc: Global,
-    rows: &MaskValues,
-    ranks: &MaskValues,
-) -> Result<(Mask, Steps), MaskError>
-    requires fitting { length (values ranks.now.buffer) ≡ count (values rows.now.buffer) }
-    requires cached { IsSome ranks.now.caches.indices }
-    ensures narrowed { IfOk result
-        (λ r. IsNarrowedOn RankPath.RankIndices rows.now ranks.now r.0 r.1) }
-    ensures refused { IsOkUnless result (MaskError.Memory alloc_error) }
-{
-    intersect_bit_buffer_by_rank_indices::<D>(alloc, rows.bit_buffer(), ranks.lend_indices())
 }
