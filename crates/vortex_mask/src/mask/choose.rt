@@ -1,14 +1,12 @@
 //! The rows that a mask chooses.
 
 ghost use Rattle.std.specs.Prelude.{◌≡◌, IsOk, IfOk, IsOkUnless, alloc_error, length, vec_len};
-ghost use Rattle.mask_bits.specs.Buffer.{values};
 ghost use Rattle.mask_bits.specs.Positions.{count, chosen};
 ghost use Rattle.vortex_mask.specs.Mask.{truth, variant, all_false};
 
 use crate::mask::{Mask, MaskError};
-use mask_bits::BitBuffer;
 use mask_bits::push_rows::choose_rows;
-use std::alloc::{AllocError, Global};
+use std::alloc::Global;
 use std::mem::size_of_val;
 
 // Rows that lie so many bytes apart on the average go one by one: to read others beside them, from lines of their own,
@@ -32,29 +30,15 @@ impl Mask {
             Mask::AllTrue(_) => Ok(Vec::from_slice(alloc, rows)?),
             Mask::AllFalse(_) => Ok(Vec::new(alloc)),
             Mask::Values(values) => {
-                let true_count = values.true_count();
-                Ok(rows_at(alloc, rows, values.bit_buffer(), true_count)?)
+                let (buffer, true_count) = (values.bit_buffer(), values.true_count());
+                let mut chosen_rows = Vec::with_capacity(alloc, true_count)?;
+                if true_count < size_of_val(rows) / FAR {
+                    choose_rows::<0, _, _>(&mut chosen_rows, rows, &buffer.chunks());
+                } else {
+                    choose_rows::<4, _, _>(&mut chosen_rows, rows, &buffer.chunks());
+                }
+                Ok(chosen_rows)
             }
         }
     }
-}
-
-// The rows at the true indices of a buffer, of which there are `true_count`, in their order.
-fn rows_at<T: Copy>(
-    alloc: Global,
-    rows: &[T],
-    buffer: &BitBuffer,
-    true_count: usize,
-) -> Result<Vec<T>, AllocError>
-    requires fitting { length rows.now ≡ length (values buffer.now) }
-    requires counted { true_count ≡ count (values buffer.now) }
-    ensures { IfOk result (λ v. v.items ≡ chosen rows.now (values buffer.now)) }
-{
-    let mut chosen_rows = Vec::with_capacity(alloc, true_count)?;
-    if true_count < size_of_val(rows) / FAR {
-        choose_rows::<0, _, _>(&mut chosen_rows, rows, &buffer.chunks());
-    } else {
-        choose_rows::<4, _, _>(&mut chosen_rows, rows, &buffer.chunks());
-    }
-    Ok(chosen_rows)
 }
