@@ -17,6 +17,7 @@ use mask_bits::BitBuffer;
 use mask_bits::words::started_words;
 use std::alloc::{AllocError, Global};
 
+#[tactic(auto, using(crate::proofs::Masks::MaskLemmas::variant_facts, crate::proofs::Masks::SoundRangeLemmas::range_facts))]
 impl Mask {
     /// The mask of `len` values that is true exactly in these ranges. Where some values are true and
     /// some are not it caches its runs: ranges that touch are merged, in the memory that
@@ -49,31 +50,12 @@ impl Mask {
         if let Some(fault) = range_fault(len, &ranges) {
             return Err(fault);
         }
-        Mask::of_ranges(alloc, len, ranges)
-    }
-
-    // The mask of ranges in which no fault was found.
-    #[tactic(auto, using(crate::proofs::Masks::MaskLemmas::variant_facts, crate::proofs::Masks::SoundRangeLemmas::range_facts))]
-    fn of_ranges(
-        alloc: Global,
-        len: usize,
-        mut ranges: Vec<(usize, usize)>,
-    ) -> Result<Mask, MaskError>
-        requires { range_fault len ranges.items ≡ None }
-        ensures len { IfOk result (λ m. length (truth m) ≡ len) }
-        ensures list { IfOk result (λ m. AreRanges (truth m) ranges.items) }
-        ensures variant { IfOk result (λ m. variant m ≡ fitting_variant all_false (truth m)) }
-        ensures caches { IfOk result
-            (λ m. caches m ≡ where_mixed m (only_ranges (runs (truth m)))) }
-        ensures uniform { (rows_held ranges.items ≡ 0) ⊎ (rows_held ranges.items ≡ len)
-            → IsOk result }
-        ensures refused { IsOkUnless result (MaskError.Memory alloc_error) }
-    {
         let true_count = rows_held(&ranges);
         if let Some(mask) = Mask::of_one_value(len, true_count) {
             return Ok(mask);
         }
         let buffer = buffer_of(alloc, len, &ranges)?;
+        let mut ranges = ranges;
         merge_touching(&mut ranges);
         Mask::of_mixed(alloc, buffer, true_count, None, Some(ranges))
     }
