@@ -8,7 +8,7 @@ ghost use Rattle.std.specs.List.Sorted.{IsStrictlyIncreasing};
 ghost use Rattle.std.specs.Option.{option_to_list};
 ghost use Rattle.vortex_mask.specs.Iter.{values_left, indices_left, ranges_left};
 ghost use Rattle.vortex_mask.specs.Mask.{truth};
-ghost use Rattle.mask_bits.specs.Positions.{positions, repeated};
+ghost use Rattle.mask_bits.specs.Positions.{positions};
 ghost use Rattle.mask_bits.specs.Runs.{AreRuns};
 
 use crate::mask::Mask;
@@ -158,7 +158,7 @@ impl Iterator for MaskSetSlices<'_> {
     }
 }
 
-#[tactic(auto, using(crate::proofs::Masks::MaskWalkLemmas::ranges_in_order))]
+#[tactic(auto, using(crate::proofs::Masks::MaskWalkLemmas::run_walks))]
 impl Mask {
     /// The runs of the true values, ascending, of a mask that is only lent. No list is made or
     /// cached.
@@ -168,20 +168,9 @@ impl Mask {
         ensures fits { length (ranges_left result) < 2 ^ 64 }
     {
         match self {
-            Mask::AllTrue(len) => MaskSetSlices::Whole(whole_run(*len)),
+            Mask::AllTrue(len) => MaskSetSlices::Whole((*len > 0).then_some((0, *len))),
             Mask::AllFalse(_) => MaskSetSlices::Whole(None),
             Mask::Values(values) => MaskSetSlices::Bits(values.bit_buffer().set_slices()),
         }
     }
-}
-
-// The run of so many true values, if there are any.
-#[tactic(auto, using(crate::proofs::Masks::MaskWalkLemmas::next_facts))]
-fn whole_run(len: usize) -> Option<(usize, usize)>
-    ensures { AreRuns (repeated len true) (option_to_list result) }
-{
-    if len == 0 {
-        return None;
-    }
-    Some((0, len))
 }
