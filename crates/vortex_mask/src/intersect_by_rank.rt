@@ -32,7 +32,7 @@ use narrow::narrow_by_path;
 pub use path::{RankPath, rank_path};
 pub use rank_bits::RankBits;
 pub use select::SelectBit;
-use stack::{all_choose, begins_by_lists, fold_down};
+use stack::{begins_by_lists, fold_down};
 use std::alloc::Global;
 pub use steps::Steps;
 
@@ -130,7 +130,9 @@ impl Mask {
     {
         // `docs/DECISIONS.md` says from which end a stack is folded, and why
         if let Mask::Values(values) = self {
-            if masks.len() > 1 && all_choose(masks) && !begins_by_lists(values, masks) {
+            // where each mask chooses a row, no fold of them ends early
+            let all_choose = masks.iter().all(|mask| mask.true_count() > 0);
+            if masks.len() > 1 && all_choose && !begins_by_lists(values, masks) {
                 return fold_down(alloc, self, masks);
             }
         }

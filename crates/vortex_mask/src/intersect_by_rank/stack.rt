@@ -10,13 +10,6 @@ use crate::intersect_by_rank::path::{RankPath, rank_path};
 use crate::mask::{Mask, MaskError, MaskValues};
 use std::alloc::Global;
 
-// Whether each mask chooses a row, so that no fold of them ends early.
-pub(super) fn all_choose(masks: &[Mask]) -> bool
-    ensures { IsTrue result ↔ All (λ m. 0 < count (truth m)) masks.now }
-{
-    masks.iter().all(|mask| mask.true_count() > 0)
-}
-
 // Whether the fold from the first mask up begins by taking one cached list at another, which reads no word and leaves
 // a list for the next step. An all-true mask changes nothing.
 pub(super) fn begins_by_lists(first: &MaskValues, masks: &[Mask]) -> bool
