@@ -92,22 +92,6 @@ impl Reached {
           spots = steps.old.spots + result % 64;
         } }
     {
-        self.read_to(chunks, steps, rank);
-        64 * (steps.words() - 1) + steps.select::<S>(self.word, rank - self.before)
-    }
-
-    // Reads on until the true value at `rank` is in the last word.
-    #[inline(always)]
-    fn read_to(&mut self, chunks: &BitChunks<'_>, steps: &mut Steps, rank: usize)
-        requires fits { length chunks.now < 2 ^ 64 }
-        requires read { HasRead chunks.now steps.old.words self.old.word self.old.before }
-        requires ahead { self.old.before ≤ rank }
-        requires there { rank < count chunks.now }
-        ensures read { HasRead chunks.now steps.new.words self.new.word self.new.before }
-        ensures reached { self.new.before ≤ rank }
-        ensures inside { rank < self.new.before + count_ones self.new.word }
-        ensures ticked { steps.new ≡ record steps.old { words = steps.new.words } }
-    {
         let mut end = self.before + self.word.count_ones() as usize;
         while end <= rank {
             self.before = end;
@@ -115,5 +99,6 @@ impl Reached {
             self.word = steps.word(chunks, next);
             end += self.word.count_ones() as usize;
         }
+        64 * (steps.words() - 1) + steps.select::<S>(self.word, rank - self.before)
     }
 }

@@ -1,9 +1,9 @@
 use Rattle.vortex_mask.proofs.Common.{◌≡◌, ◌+◌, ◌-◌, ◌*◌, ◌≤◌, length, count_ones, HasRead}
-use Rattle.vortex_mask.proofs.intersect_by_rank.kernels.mask_driven.Reached.read_to.Given as goal
+use Rattle.vortex_mask.proofs.intersect_by_rank.kernels.mask_driven.Reached.index_of.Given as goal
 
 -- the words so far, and the true values up to the end of the last
 abbrev pub invariant-loop-end : goal.invariant-loop-end
-invariant-loop-end l = record {
+invariant-loop-end g l = record {
   read : HasRead l.chunks l.steps.words l.self.word l.self.before;
   ends : l.end ≡ l.self.before + count_ones l.self.word;
   reached : l.self.before ≤ l.rank;
@@ -11,4 +11,4 @@ invariant-loop-end l = record {
 }
 
 abbrev pub decreases-loop-end : goal.decreases-loop-end
-decreases-loop-end l = length l.chunks - 64 * l.steps.words
+decreases-loop-end g l = length l.chunks - 64 * l.steps.words
