@@ -30,11 +30,9 @@ pub(super) fn deposit_two_by_nibbles(sources: [u64; 2], masks: [u64; 2]) -> [u64
 {
     let masks = u64x2::from_array(masks);
     let nibbles = nibbles_of(bytes_of(masks));
-    let bits = gather_apart(
-        u64x2::from_array(sources),
-        counts_below(masks),
-        nibbles.lower,
-    );
+    let below = counts_below(masks);
+    let bytes = neighbors(u64x2::from_array(sources), below);
+    let bits = four_and_four(bytes.low, bytes.high, below, nibbles.lower);
     words_of(move_up_in_nibbles(bits, nibbles)).to_array()
 }
 
@@ -53,27 +51,6 @@ fn nibbles_of(bytes: u8x16) -> TwoNibbles
         lower: bytes & u8x16::splat(15),
         upper: bytes >> u8x16::splat(4),
     }
-}
-
-// In each lane four bits of its word from that lane of `below` on, and above them four bits from as
-// many bits further on as `lower` has set.
-#[inline(always)]
-fn gather_apart(words: u64x2, below: u8x16, lower: u8x16) -> u8x16
-    requires below { EachLane (λ j. slice_index below j < 64) }
-    requires lower { EachLane (λ j. slice_index lower j < 16) }
-    ensures lanes { length result ≡ 16 }
-    ensures bytes { EachLane (λ j. slice_index result j < 256) }
-    ensures lower_bits { EachLane (λ j. (n : ℕ) → n ≤ 4 → slice_index below j + n ≤ 64
-        → slice_index result j % 2 ^ 4 % 2 ^ n
-        ≡ slice_index words (j / 8) / 2 ^ slice_index below j % 2 ^ n) }
-    ensures upper_bits { EachLane (λ j. (n : ℕ) → n ≤ 4
-        → slice_index below j + (count_ones (slice_index lower j) + n) ≤ 64
-        → slice_index result j / 2 ^ 4 % 2 ^ n
-        ≡ slice_index words (j / 8) / 2 ^ slice_index below j
-        / 2 ^ count_ones (slice_index lower j) % 2 ^ n) }
-{
-    let bytes = neighbors(words, below);
-    four_and_four(bytes.low, bytes.high, below, lower)
 }
 
 // In each lane, of the number whose two bytes are `low` and `high`, four bits from that lane of
