@@ -139,7 +139,7 @@ fn merge_both(
     ensures first { IsFound first.old other.now first.new result.0 }
     ensures last { IsFound last.old last_other.now last.new result.1 }
 {
-    let (mut at, mut last_at) = (Places::start(), Places::start());
+    let (mut at, mut last_at) = (Places::default(), Places::default());
     while at.have_eight(first, other) && last_at.have_eight(last, last_other) {
         at = eight_steps(first, other, at);
         last_at = eight_steps(last, last_other, last_at);
@@ -190,10 +190,16 @@ fn eight_steps(list: &mut [usize], other: &[usize], at: Places) -> Places
     ensures goes_on { at.list + at.other < result.list + result.other }
 {
     if list[at.list + 7] < other[at.other] {
-        return at.moved(8, 0);
+        return Places {
+            list: at.list + 8,
+            ..at
+        };
     }
     if other[at.other + 7] < list[at.list] {
-        return at.moved(0, 8);
+        return Places {
+            other: at.other + 8,
+            ..at
+        };
     }
     let mut next = at;
     for k in 0..8usize {
@@ -226,7 +232,7 @@ fn step(list: &mut [usize], other: &[usize], at: Places) -> Places
 }
 
 // Where a merge stands: a place in each list, and how many indices before these places both have.
-#[derive(Clone, Copy)]
+#[derive(Clone, Copy, Default)]
 struct Places {
     list: usize,
     other: usize,
@@ -234,16 +240,6 @@ struct Places {
 }
 
 impl Places {
-    fn start() -> Places
-        ensures { (result.list ≡ 0) × (result.other ≡ 0) × (result.found ≡ 0) }
-    {
-        Places {
-            list: 0,
-            other: 0,
-            found: 0,
-        }
-    }
-
     // Whether both lists have eight indices more.
     #[inline]
     fn have_eight(self, list: &[usize], other: &[usize]) -> bool
@@ -252,21 +248,5 @@ impl Places {
         ensures { IsTrue result ↔ ((self.list + 8 ≤ length list.now) × (self.other + 8 ≤ length other.now)) }
     {
         list.len() - self.list >= 8 && other.len() - self.other >= 8
-    }
-
-    // So many indices of each list further.
-    #[inline]
-    fn moved(self, list: usize, other: usize) -> Places
-        requires list { self.list + list < 2 ^ 64 }
-        requires other { self.other + other < 2 ^ 64 }
-        ensures list { result.list ≡ self.list + list }
-        ensures other { result.other ≡ self.other + other }
-        ensures found { result.found ≡ self.found }
-    {
-        Places {
-            list: self.list + list,
-            other: self.other + other,
-            found: self.found,
-        }
     }
 }
