@@ -1,6 +1,6 @@
 -- What the proofs below cite of std, of `mask_bits` and of `specs`, from one place.
 unfoldable pub use Rattle.mask_bits.proofs.Common.{repeated, true_at, values, window, word_bits}
-pub use Rattle.mask_bits.proofs.Common.{All, All-cons, All-get_or, All-head, All-nil, All-tail, All-weaker, AllAdjacentBelow, AreLanes, AreRanges, AreRuns, Bool, Each1, Each1-from_get_or, Each1-get_or, Err, Fits, HasWritten, IfOk-weaker}
+pub use Rattle.mask_bits.proofs.Common.{All-cons, All-get_or, All-head, All-nil, All-tail, All-weaker, AllAdjacentBelow, AreLanes, AreRanges, AreRuns, Bool, Each1, Each1-from_get_or, Each1-get_or, Err, Fits, HasWritten, IfOk-weaker}
 pub use Rattle.mask_bits.proofs.Common.{IsPlainFormatter, IsStack, IsStrictlyIncreasing, IsTrue, List, None, Ok, Option, Packed, Result, Some, T, YieldsFirst, YieldsInOrder, [], add-zero, add_comm, and_le_l, and_le_r, and_mask, and_not_of}
 pub use Rattle.mask_bits.proofs.Common.{and_of, ap, append-nil, append_assoc, ap₂, arith, as_is, at_indices, backing_bit, below_from_Fits, bit_and, bit_at, bit_at-lt, bit_at-pow_other, bit_at-pow_same, bit_at-suc, bit_at-zero, bit_at_and}
 pub use Rattle.mask_bits.proofs.Common.{bit_at_cat_high, bit_at_cat_low, bit_at_lowest, bit_at_ones, bit_at_or, bit_at_set_other, bit_at_set_same, bit_or, bit_xor, bitmap, cases_eq, cases_lt, chunk, common_steps, concat, cond, count}
@@ -21,6 +21,8 @@ pub use Rattle.mask_bits.proofs.Lists.Places.IndexLemmas.{all_false_has_no_run, 
 pub use Rattle.mask_bits.proofs.Lists.Places.PlaceLemmas.{count-le-length, count-trues, length-indices_from, positions-within, trues}
 pub use Rattle.mask_bits.proofs.Lists.Places.SelectLemmas.{count-part_further, count-word_more, high, no_index, place_in_word}
 pub use Rattle.mask_bits.proofs.Lists.RankLemmas.{All-at_indices, length-true_at, rank_intersection-all_true, rank_intersection-by_all_true}
+pub use Rattle.mask_bits.proofs.Lists.Runs.RangeLemmas.{Ordered, Ordered-of, Ordered-top, ranges_add_up_to_the_count}
+pub use Rattle.mask_bits.proofs.Lists.Runs.RunLemmas.{AreRuns-runs_from, Spread, runs_are_ranges, runs_from-RunsOf}
 pub use Rattle.mask_bits.proofs.Lists.Words.BackingBitLemmas.{get_or-bitmap, length-bitmap}
 pub use Rattle.mask_bits.proofs.Lists.Words.FrontLemmas.{get_or-front, get_or-put_mid_above, get_or-put_mid_below, get_or-put_mid_inside, get_or-window, length-window, window-drop, window_from_bits}
 pub use Rattle.mask_bits.proofs.Lists.Words.LaneLemmas.{AreLanes-itself, AreLanes-map, AreLanes-same, AreLanes-splat, AreLanes-swz_l, AreLanes-zip2, SwzOk-lanes}
@@ -28,6 +30,9 @@ pub use Rattle.mask_bits.proofs.Lists.Words.PaddedLemmas.{get_or-padded_part, pa
 pub use Rattle.mask_bits.proofs.Lists.Words.ShiftLemmas.{bit_at-mod, get_or-word_bits_and, get_or-word_bits_or, get_or-word_bits_shl_high, get_or-word_bits_shl_low, get_or-word_bits_shr}
 pub use Rattle.mask_bits.proofs.Lists.Words.TableLemmas.{agree, all_below, every_below, less_below, same_below}
 pub use Rattle.mask_bits.proofs.Lists.Words.WordLemmas.{count-word_bits, count_below-word_bits, get_or-word_bits, length-word_bits, ones_below-more}
+pub use Rattle.mask_bits.proofs.Lists.Words.WideLaneLemmas.{low_split}
+pub use lib.Bits.{and_self, and_step, and_zero_r, or_step, or_zero_r}
+pub use lib.Count.{ones_step}
 pub use Rattle.std.proofs.Common.{max, mul-one, mul-zero, mul_right_comm, tests, zero-mul}
 pub use Rattle.std.proofs.Math.Bool.{and-false, and-true, or-true}
 pub use Rattle.std.proofs.Math.Nat.{div-div-eq-div-mul, zero-div}
@@ -55,7 +60,7 @@ pub use Rattle.std.specs.Borrow.{Bor}
 pub use Rattle.std.specs.Cmp.{booleans_Decides}
 pub use Rattle.std.specs.Iterator.{Drains, DrainsIf, Yields}
 pub use Rattle.std.specs.Iterator.Runs.{EachRunFrom, Run, WholeRun, YieldsRun}
-pub use Rattle.std.specs.List.{copy_within, position, prefix_len}
+pub use Rattle.std.specs.List.{All, copy_within, position, prefix_len}
 pub use Rattle.std.specs.List.Retain.{DedupsAll, DedupsFrom, IsDeduped}
 pub use Rattle.std.specs.Option.{SomeIff, option_map, option_or, option_to_list}
 pub use Rattle.std.specs.Rc.{rc_with_value}
@@ -81,7 +86,6 @@ pub use Rattle.vortex_mask.specs.Ranks.{AreBitsFrom, AreRanks, AreSplit, HasRead
 pub use Rattle.vortex_mask.specs.SetRanges.{AreSet}
 pub use Rattle.vortex_mask.specs.StackFold.{first_mixed}
 pub use Rattle.vortex_mask.specs.Steps.{IsDeposited, StepCounts, driven_steps, no_steps, word_steps}
+pub use Rattle.vortex_mask.specs.declared.mask.error.MaskError.TheVariants.{BadRange, IndexOutOfBounds, OverlappingRanges, RepeatedIndex, UnsortedIndices, UnsortedRanges}
 pub use Rattle.vortex_mask.specs.declared.mask.Mask.{Mask}
 pub use Rattle.vortex_mask.specs.declared.mask.Mask.TheVariants.{AllFalse, AllTrue, Values}
-pub use lib.Bits.{and_self, and_step, and_zero_r, or_step, or_zero_r}
-pub use lib.Count.{ones_step}

@@ -1,7 +1,6 @@
 -- Worked rows of the terms that masks are described in, computed by the checker.
-use Rattle.vortex_mask.proofs.Common.{ℕ, ◌≡◌, ◌+◌, ◌^◌, Bool, true, false, List, [], ◌∷◌, map, Some, None, refl, ap, inl, inr, arith, bit_at, positions, repeated, count_below, word_bits, and_caches, or_caches, and_not_caches, Deposits, selected, index_fault, out_of_bounds, common, range_fault, share, share_by_variant, ReachesShare, caches, where_mixed, Variant, truth, variant, contents, all_true, all_false, mixed, fitting_variant, variant_and, variant_or, variant_not, variant_of_no_part, IsUniform, AreOf, Contents, no_caches, only_indices, only_ranges, with_indices, with_ranges, path, path_of, is_deposited_by_loop, path_caches, narrowed_caches, AreStepsOf, first_mixed, StepCounts, no_steps, word_steps, driven_steps, Mask, AllTrue, AllFalse, Values}
+use Rattle.vortex_mask.proofs.Common.{ℕ, ◌≡◌, ◌+◌, ◌^◌, Bool, true, false, List, [], ◌∷◌, map, Some, None, refl, ap, inl, inr, arith, bit_at, positions, repeated, count_below, word_bits, and_caches, or_caches, and_not_caches, Deposits, selected, index_fault, out_of_bounds, common, range_fault, share, share_by_variant, ReachesShare, caches, where_mixed, Variant, truth, variant, contents, all_true, all_false, mixed, fitting_variant, variant_and, variant_or, variant_not, variant_of_no_part, IsUniform, AreOf, Contents, no_caches, only_indices, only_ranges, with_indices, with_ranges, path, path_of, is_deposited_by_loop, path_caches, narrowed_caches, AreStepsOf, first_mixed, StepCounts, no_steps, word_steps, driven_steps, Mask, AllTrue, AllFalse, Values, UnsortedIndices, RepeatedIndex, IndexOutOfBounds, BadRange, UnsortedRanges, OverlappingRanges}
 use Rattle.vortex_mask.specs.declared.intersect_by_rank.path.RankPath.TheVariants.{Indices, MaskDriven, BitBuffers, RankIndices}
-use Rattle.vortex_mask.specs.declared.mask.error.MaskError.TheVariants.{UnsortedIndices, RepeatedIndex, IndexOutOfBounds, BadRange, UnsortedRanges, OverlappingRanges}
 
 -- each row has what the function is given, and what it gives
 abbrev Gives : {A B : Type 0} → (A → B) → List (A × B) → Type 0

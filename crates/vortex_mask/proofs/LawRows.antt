@@ -1,7 +1,5 @@
 -- What terms say where a clause is read from outside: each row takes one, and computes an instance of it.
-use Rattle.vortex_mask.proofs.Common.{ℕ, ◌≡◌, Bool, List, Bor, Packed, values, IsListOf, IfLent, AreNarrowingSteps, StepCounts, no_steps}
-use Rattle.vortex_mask.specs.declared.mask.Mask.{Mask}
-use Rattle.vortex_mask.specs.declared.mask.Mask.TheVariants.{AllTrue, AllFalse, Values}
+use Rattle.vortex_mask.proofs.Common.{ℕ, ◌≡◌, Bool, List, Bor, Packed, values, IsListOf, IfLent, AreNarrowingSteps, StepCounts, no_steps, Mask, AllTrue, AllFalse, Values}
 use Rattle.vortex_mask.specs.declared.mask.all_or.AllOr.TheVariants.{Some}
 
 -- ---- a list that is lent

@@ -1,7 +1,5 @@
 -- The bytes of a word through each operation on it.
-use Rattle.vortex_mask.proofs.Common.{common_steps, ◌≡◌, ℕ, zero, suc, ◌+◌, ◌-◌, ◌*◌, ◌/◌, ◌%◌, ◌^◌, ◌<◌, ◌≤◌, sym, ap, ◌∙◌, arith, bit_at, shr-shr, byte_at}
-use lib.Pow.{field, mod-mod-pow}
-use Rattle.mask_bits.proofs.Lists.Words.WideLaneLemmas.{low_split}
+use Rattle.vortex_mask.proofs.Common.{common_steps, ◌≡◌, ℕ, zero, suc, ◌+◌, ◌-◌, ◌*◌, ◌/◌, ◌%◌, ◌^◌, ◌<◌, ◌≤◌, sym, ap, ◌∙◌, arith, bit_at, shr-shr, byte_at, field, mod-mod-pow, low_split}
 
 pub byte_at-lt : (w j : ℕ) → byte_at w j < 256
 unfolding byte_at

@@ -1,7 +1,5 @@
 -- A source that makes room for the clear places of a mask, the lowest first.
-use Rattle.vortex_mask.proofs.Common.{common_steps, ◌≡◌, ℕ, zero, suc, ◌+◌, ◌-◌, ◌*◌, ◌/◌, ◌%◌, ◌^◌, ◌<◌, ◌≤◌, ◌⊎◌, inl, inr, refl, sym, ap, ◌∙◌, arith, pow-suc, bit_and, count_ones, lt_of_le_of_lt, mul_assoc, mul_comm, div-div-eq-div-mul, pow_pos, shr_split, pow_below, and_comm, and_mask, and-not, and_le_l, ones-le, ones_step}
-use lib.Pow.{mod-mod-pow}
-use Rattle.mask_bits.proofs.Lists.Words.WideLaneLemmas.{low_split}
+use Rattle.vortex_mask.proofs.Common.{common_steps, ◌≡◌, ℕ, zero, suc, ◌+◌, ◌-◌, ◌*◌, ◌/◌, ◌%◌, ◌^◌, ◌<◌, ◌≤◌, ◌⊎◌, inl, inr, refl, sym, ap, ◌∙◌, arith, pow-suc, bit_and, count_ones, lt_of_le_of_lt, mul_assoc, mul_comm, div-div-eq-div-mul, pow_pos, shr_split, pow_below, and_comm, and_mask, and-not, and_le_l, ones-le, ones_step, mod-mod-pow, low_split}
 use Rattle.vortex_mask.proofs.Deposits.NetworkLemmas.{deposit_alike}
 use Rattle.vortex_mask.proofs.Deposits.SetPlaceLemmas.{parity, cleared, lowest, lowest-odd, lowest-even, lowest_sum}
 use Rattle.vortex_mask.proofs.Deposits.DepositLemmas.{deposit, deposit-odd, deposit-even, left_of, none_left}

@@ -1,6 +1,5 @@
 -- Vectors of the bytes of two words, lane by lane.
-use Rattle.vortex_mask.proofs.Common.{common_steps, ◌≡◌, ℕ, zero, suc, ◌+◌, ◌-◌, ◌*◌, ◌/◌, ◌%◌, ◌^◌, ◌<◌, ◌≤◌, ◌⊎◌, inl, inr, List, [], ◌∷◌, length, get_or, refl, sym, ap, ap₂, subst, ◌∙◌, arith, w8, bit_and, Fits, count_ones, pow-add, pow-suc, map, replicate, zip2, Each1, number_l, digits_l, chunk, swz_l, Each1-from_get_or, Each1-get_or, Each1-chunk, get_or-chunk, get_or_wider, get_or_narrower, shr-shr, shl-shr, and_mask, ones-le, cases_lt, zero-div, AreLanes, byte_at, EachLane, byte_of_two, landed_in, Deposits, same_below, AreLanes-itself, AreLanes-map, AreLanes-swz_l, AreLanes-zip2, AreLanes-splat, AreLanes-same}
-use lib.Pow.{field, mod-mod-pow}
+use Rattle.vortex_mask.proofs.Common.{common_steps, ◌≡◌, ℕ, zero, suc, ◌+◌, ◌-◌, ◌*◌, ◌/◌, ◌%◌, ◌^◌, ◌<◌, ◌≤◌, ◌⊎◌, inl, inr, List, [], ◌∷◌, length, get_or, refl, sym, ap, ap₂, subst, ◌∙◌, arith, w8, bit_and, Fits, count_ones, pow-add, pow-suc, map, replicate, zip2, Each1, number_l, digits_l, chunk, swz_l, Each1-from_get_or, Each1-get_or, Each1-chunk, get_or-chunk, get_or_wider, get_or_narrower, shr-shr, shl-shr, and_mask, ones-le, cases_lt, zero-div, AreLanes, byte_at, EachLane, byte_of_two, landed_in, Deposits, same_below, AreLanes-itself, AreLanes-map, AreLanes-swz_l, AreLanes-zip2, AreLanes-splat, AreLanes-same, field, mod-mod-pow}
 use Rattle.vortex_mask.proofs.Deposits.ByteCountLemmas.{ones_below-byte, Deposits-from_bytes}
 use Rattle.vortex_mask.proofs.Deposits.ByteLemmas.{byte_at-lt, byte_at-zero, byte_at-suc}
 use Rattle.vortex_mask.proofs.Deposits.NetworkLemmas.{deposit_alike, landed_in-lt}

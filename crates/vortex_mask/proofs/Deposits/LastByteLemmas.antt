@@ -1,6 +1,5 @@
 -- The last byte of a word that is at most a number, by the top bits of a difference.
-use Rattle.vortex_mask.proofs.Common.{common_steps, ◌≡◌, ℕ, zero, suc, ◌+◌, ◌-◌, ◌*◌, ◌/◌, ◌%◌, ◌^◌, ◌<◌, ◌≤◌, ap, ap₂, ◌∙◌, sym, arith, bit_and, eq-zero-or-pos, lt_of_le_of_lt, bit_at, leading_zeros, and_le_r, bit_at_and, byte_at, high, agree, same_below}
-use Rattle.std.specs.Int.{w64}
+use Rattle.vortex_mask.proofs.Common.{common_steps, ◌≡◌, ℕ, zero, suc, ◌+◌, ◌-◌, ◌*◌, ◌/◌, ◌%◌, ◌^◌, ◌<◌, ◌≤◌, ap, ap₂, ◌∙◌, sym, arith, bit_and, eq-zero-or-pos, lt_of_le_of_lt, bit_at, leading_zeros, and_le_r, bit_at_and, byte_at, high, agree, same_below, w64}
 use Rattle.vortex_mask.proofs.Deposits.ByteLemmas.{byte_at-zero, byte_at-suc, byte_at-lt, bit_at_byte}
 
 -- a difference in which no byte takes from the next

@@ -1,6 +1,5 @@
 -- The network on one byte, computed at each of the 256 mask bytes and, for the way back, at each source byte too.
-use Rattle.vortex_mask.proofs.Common.{◌≡◌, ℕ, zero, suc, ◌+◌, ◌-◌, ◌*◌, ◌/◌, ◌%◌, ◌^◌, ◌<◌, ◌≤◌, Bool, T, eqb, refl, ap, ◌∙◌, arith, bit_and, bit_xor, inl, inr, count_ones, pow-suc, sym, ap₂, mod-lt, ones-le, one_shl, pow_below, pow_pos, and_mask, clear_below, place_after, packed_after, landed_in, odd_places, moved_down, with_moved, halved, moved_up, ones_step, all_below, every_below, same_below, agree, less_below}
-use lib.Pow.{field, mod-mod-pow}
+use Rattle.vortex_mask.proofs.Common.{◌≡◌, ℕ, zero, suc, ◌+◌, ◌-◌, ◌*◌, ◌/◌, ◌%◌, ◌^◌, ◌<◌, ◌≤◌, Bool, T, eqb, refl, ap, ◌∙◌, arith, bit_and, bit_xor, inl, inr, count_ones, pow-suc, sym, ap₂, mod-lt, ones-le, one_shl, pow_below, pow_pos, and_mask, clear_below, place_after, packed_after, landed_in, odd_places, moved_down, with_moved, halved, moved_up, ones_step, all_below, every_below, same_below, agree, less_below, field, mod-mod-pow}
 use Rattle.vortex_mask.proofs.Deposits.DepositLemmas.{deposit, deposit-odd, deposit-even}
 use Rattle.vortex_mask.proofs.Deposits.SetPlaceLemmas.{parity}
 

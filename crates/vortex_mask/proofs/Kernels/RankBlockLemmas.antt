@@ -1,7 +1,5 @@
 -- Ascending ranks as the bits of a block of bytes.
-use Rattle.vortex_mask.proofs.Common.{◌≡◌, ℕ, ◌+◌, ◌-◌, ◌*◌, ◌/◌, ◌%◌, ◌^◌, ◌<◌, ◌≤◌, ◌||◌, Bool, false, nat_eq, List, length, get_or, set, replicate, take, drop, refl, sym, ap, ◌∙◌, arith, list_any, or-false, cases_eq, eq-eqb, ne_eqb, get_or-set_at, common_steps, get_or-drop, get_or-replicate, get_or_past, get_or-set_other, length-drop, length-replicate, take-append-drop, list_any-append, bit_at-zero, bit_at_set_same, bit_at_set_other, backing_bit, word_bits, window, AreBitsFrom, HoldsRanks, is_listed}
-use Rattle.std.specs.Int.{w8}
-use Rattle.std.specs.Int.RustNames.{bit_or}
+use Rattle.vortex_mask.proofs.Common.{◌≡◌, ℕ, ◌+◌, ◌-◌, ◌*◌, ◌/◌, ◌%◌, ◌^◌, ◌<◌, ◌≤◌, ◌||◌, Bool, false, nat_eq, List, length, get_or, set, replicate, take, drop, refl, sym, ap, ◌∙◌, arith, list_any, or-false, cases_eq, eq-eqb, ne_eqb, get_or-set_at, common_steps, get_or-drop, get_or-replicate, get_or_past, get_or-set_other, length-drop, length-replicate, take-append-drop, list_any-append, bit_at-zero, bit_at_set_same, bit_at_set_other, backing_bit, word_bits, window, AreBitsFrom, HoldsRanks, is_listed, w8, bit_or}
 use Rattle.vortex_mask.proofs.Kernels.WordKernelLemmas.{bit_of_window}
 use Rattle.vortex_mask.proofs.Lists.PlaceListLemmas.{none-is}
 

@@ -1,6 +1,5 @@
 -- Ascending ranks as the rank bits of a word.
-use Rattle.vortex_mask.proofs.Common.{common_steps, ◌≡◌, ℕ, ◌+◌, ◌-◌, ◌*◌, ◌<◌, ◌≤◌, ◌^◌, inl, inr, List, length, get_or, refl, sym, ap, subst, ◌∙◌, arith, ◌%◌, or-false, IsStrictlyIncreasing, cases_lt, take_more, take-append-drop, get_or-take, get_or-drop, length-take, length-drop, list_any-append, bit_at-zero, one_shl, AreBitsFrom, AreSplit, IsGathered, is_listed, or_zero_r, get_or-word_bits_or, get_or-word_bits}
-use Rattle.std.specs.Int.RustNames.{bit_or}
+use Rattle.vortex_mask.proofs.Common.{common_steps, ◌≡◌, ℕ, ◌+◌, ◌-◌, ◌*◌, ◌<◌, ◌≤◌, ◌^◌, inl, inr, List, length, get_or, refl, sym, ap, subst, ◌∙◌, arith, ◌%◌, or-false, IsStrictlyIncreasing, cases_lt, take_more, take-append-drop, get_or-take, get_or-drop, length-take, length-drop, list_any-append, bit_at-zero, one_shl, AreBitsFrom, AreSplit, IsGathered, is_listed, or_zero_r, get_or-word_bits_or, get_or-word_bits, bit_or}
 use Rattle.vortex_mask.proofs.Lists.PlaceListLemmas.{bit_of_pow, none-is, rises_to}
 
 -- ---- the walk

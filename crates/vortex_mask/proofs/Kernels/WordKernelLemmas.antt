@@ -1,6 +1,5 @@
 -- A rank intersection word by word: each started word of the mask takes a deposit of rank bits.
-use Rattle.vortex_mask.proofs.Common.{common_steps, ◌≡◌, ℕ, ◌+◌, ◌*◌, ◌-◌, ◌/◌, ◌<◌, ◌≤◌, ◌⊎◌, Bool, false, List, length, get_or, take, drop, sym, ap, subst, ◌∙◌, inl, inr, arith, take-add, cases_lt, ext_get_or, take_all, get_or-map-range_with_len, length-map-range_with_len, Packed, backing_bit, values, at_indices, count, count_below, positions, rank_intersection, true_at, word_bits, word_part, window, padded_part, padded_remainder, started_words, IsStrictlyIncreasing, Deposits, AreBitsFrom, first_bits, is_listed, narrowed_by, IsDeposited, StepCounts, word_steps, length-bitmap, get_or-bitmap, count-append, get_or-window, value_of_true_at, length-true_at, length-rank_intersection, rank_intersection_value, get_or-padded_part, padded_part_from_values, padded_part-whole, padded_part-remainder, count-trues, count-word_more, length-word_bits}
-use Rattle.std.specs.List.{All}
+use Rattle.vortex_mask.proofs.Common.{common_steps, ◌≡◌, ℕ, ◌+◌, ◌*◌, ◌-◌, ◌/◌, ◌<◌, ◌≤◌, ◌⊎◌, Bool, false, List, length, get_or, take, drop, sym, ap, subst, ◌∙◌, inl, inr, arith, take-add, cases_lt, ext_get_or, take_all, get_or-map-range_with_len, length-map-range_with_len, Packed, backing_bit, values, at_indices, count, count_below, positions, rank_intersection, true_at, word_bits, word_part, window, padded_part, padded_remainder, started_words, IsStrictlyIncreasing, Deposits, AreBitsFrom, first_bits, is_listed, narrowed_by, IsDeposited, StepCounts, word_steps, length-bitmap, get_or-bitmap, count-append, get_or-window, value_of_true_at, length-true_at, length-rank_intersection, rank_intersection_value, get_or-padded_part, padded_part_from_values, padded_part-whole, padded_part-remainder, count-trues, count-word_more, length-word_bits, All}
 use Rattle.vortex_mask.proofs.Lists.PlaceListLemmas.{narrowed_at}
 use Rattle.vortex_mask.proofs.Lists.StartedWordLemmas.{IsAt, list-from_bits, part-same, place-after_within, place-next, places-same}
 use Rattle.vortex_mask.proofs.Kernels.DepositListLemmas.{deposited-value, and_where, trues-take}

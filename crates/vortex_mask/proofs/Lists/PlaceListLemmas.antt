@@ -1,6 +1,5 @@
 -- Ascending lists of indices, also as the true indices of masks.
-use Rattle.vortex_mask.proofs.Common.{common_steps, ◌≡◌, ℕ, suc, ◌+◌, ◌-◌, ◌^◌, ◌<◌, ◌≤◌, ◌||◌, Bool, false, nat_eq, List, [], ◌∷◌, length, get_or, take, refl, sym, arith, list_any, cases_eq, cases_lt, eq-eqb, ne_eqb, get_or-take, length-map, length-take, AllPairs-from_increasing, bit_at-pow_same, bit_at-pow_other, IsStrictlyIncreasing, positions, count, true_at, at_indices, rank_intersection, word_bits, positions-true_at, positions-ascending, positions-full, positions-all_false, positions-rank_intersection, length-true_at, get_or-word_bits}
-use Rattle.std.specs.List.{All}
+use Rattle.vortex_mask.proofs.Common.{common_steps, ◌≡◌, ℕ, suc, ◌+◌, ◌-◌, ◌^◌, ◌<◌, ◌≤◌, ◌||◌, Bool, false, nat_eq, List, [], ◌∷◌, length, get_or, take, refl, sym, arith, list_any, cases_eq, cases_lt, eq-eqb, ne_eqb, get_or-take, length-map, length-take, AllPairs-from_increasing, bit_at-pow_same, bit_at-pow_other, IsStrictlyIncreasing, positions, count, true_at, at_indices, rank_intersection, word_bits, positions-true_at, positions-ascending, positions-full, positions-all_false, positions-rank_intersection, length-true_at, get_or-word_bits, All}
 
 -- ---- ascending numbers
 

@@ -1,6 +1,5 @@
 -- The indices that two ascending lists have in common, found at their fronts.
-use Rattle.vortex_mask.proofs.Common.{common_steps, take-set_at, suc, append_assoc, append-nil, ◌≡◌, ℕ, ◌+◌, ◌<◌, ◌≤◌, false, nat_eq, nat_le, set, List, [], ◌∷◌, ◌++◌, length, get_or, take, drop, ◌||◌, ◌-◌, cond, refl, sym, ap, ap₂, subst, ◌∙◌, ◌⊎◌, inl, inr, arith, copy_within, list_any, take-paste, paste, IsStrictlyIncreasing, le-leb, lt-leb, eq-eqb, ne_eqb, cases_lt, cases_eq, cases_order, or-false, drop-set-lt, set-get_or, length-set, drop_more, length-drop, length-take, get_or-take, take-append-drop, take-set, take-take, get_or-drop, drop_all, drop-drop, get_or_default, All-head, All-tail, All-cons, All-weaker, filter-append, filter_more, list_any_none, list_any-append, list_any-from_Any, AllPairs-from_increasing, common, AreSplit, IsFound, IsUnderWay, GoesOn, comes_to}
-use Rattle.std.specs.List.{All}
+use Rattle.vortex_mask.proofs.Common.{common_steps, take-set_at, suc, append_assoc, append-nil, ◌≡◌, ℕ, ◌+◌, ◌<◌, ◌≤◌, false, nat_eq, nat_le, set, List, [], ◌∷◌, ◌++◌, length, get_or, take, drop, ◌||◌, ◌-◌, cond, refl, sym, ap, ap₂, subst, ◌∙◌, ◌⊎◌, inl, inr, arith, copy_within, list_any, take-paste, paste, IsStrictlyIncreasing, le-leb, lt-leb, eq-eqb, ne_eqb, cases_lt, cases_eq, cases_order, or-false, drop-set-lt, set-get_or, length-set, drop_more, length-drop, length-take, get_or-take, take-append-drop, take-set, take-take, get_or-drop, drop_all, drop-drop, get_or_default, All-head, All-tail, All-cons, All-weaker, filter-append, filter_more, list_any_none, list_any-append, list_any-from_Any, AllPairs-from_increasing, common, AreSplit, IsFound, IsUnderWay, GoesOn, comes_to, All}
 use Rattle.vortex_mask.proofs.Lists.PlaceListLemmas.{none-is, rises_to}
 use mir.Val.{bool_byte}
 

@@ -1,7 +1,5 @@
 -- Lists one after another.
-use Rattle.vortex_mask.proofs.Common.{common_steps, drop, map, get_or, ◌≡◌, ℕ, ◌+◌, ◌<◌, ◌≤◌, Bool, List, [], ◌∷◌, ◌++◌, length, true, suc, sym, inl, inr, arith, Bor, cases_lt, length-flat_map, at_drop_more, length-append, All-nil, All-cons, All-append, sum_by-cons, map-map, concat, repeated, lists_of, total_len, AreAll, truth, count-append, repeated_from_All, count-le-length, Mask}
-use Rattle.std.specs.List.{All}
-use Rattle.std.proofs.lemmas.List.{append_assoc}
+use Rattle.vortex_mask.proofs.Common.{common_steps, drop, map, get_or, ◌≡◌, ℕ, ◌+◌, ◌<◌, ◌≤◌, Bool, List, [], ◌∷◌, ◌++◌, length, true, suc, sym, inl, inr, arith, Bor, cases_lt, length-flat_map, at_drop_more, length-append, All-nil, All-cons, All-append, sum_by-cons, map-map, concat, repeated, lists_of, total_len, AreAll, truth, count-append, repeated_from_All, count-le-length, Mask, All, append_assoc}
 
 pub length-concat : (ms : List (List Bool)) → length (concat ms) ≡ total_len ms
 length-concat ms = length-flat_map (λ m. m) ms

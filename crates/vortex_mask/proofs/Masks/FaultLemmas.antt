@@ -1,7 +1,5 @@
 -- The faults of a list of indices: how a loop finds them, and what holds where there is none.
-use Rattle.vortex_mask.proofs.Common.{common_steps, ◌≡◌, ℕ, zero, suc, ◌+◌, ◌<◌, ◌≤◌, Bool, true, false, nat_eq, nat_lt, nat_le, List, [], ◌∷◌, ◌++◌, length, get_or, drop, Option, Some, None, cond, refl, sym, ap, subst, ◌∙◌, ◌-◌, inl, inr, arith, ◌↔◌, list_any, option_map, option_or, IsStrictlyIncreasing, cases_lt, nat_tests, length-drop, All-nil, All-cons, All-head, All-tail, All-from_get_or, IsStrictlyIncreasing-filter, AllPairs-from_increasing, common, first_pair_from, first_past, index_fault, out_of_bounds}
-use Rattle.std.specs.List.{All}
-use Rattle.vortex_mask.specs.declared.mask.error.MaskError.TheVariants.{IndexOutOfBounds}
+use Rattle.vortex_mask.proofs.Common.{common_steps, ◌≡◌, ℕ, zero, suc, ◌+◌, ◌<◌, ◌≤◌, Bool, true, false, nat_eq, nat_lt, nat_le, List, [], ◌∷◌, ◌++◌, length, get_or, drop, Option, Some, None, cond, refl, sym, ap, subst, ◌∙◌, ◌-◌, inl, inr, arith, ◌↔◌, list_any, option_map, option_or, IsStrictlyIncreasing, cases_lt, nat_tests, length-drop, All-nil, All-cons, All-head, All-tail, All-from_get_or, IsStrictlyIncreasing-filter, AllPairs-from_increasing, common, first_pair_from, first_past, index_fault, out_of_bounds, All, IndexOutOfBounds}
 
 -- ---- pairs of neighbors
 

@@ -1,6 +1,5 @@
 -- The variant of a fold, and folds that need no memory.
-use Rattle.vortex_mask.proofs.Common.{common_steps, ◌≡◌, ◌≢◌, ℕ, zero, suc, ◌+◌, ◌<◌, Bool, List, [], ◌∷◌, length, get_or, drop, map, refl, ap, ◌∙◌, arith, fold, drop_more, length-drop, length-map, All-head, count, rank_intersection, IsStack, folded_left, truth, Variant, variant, variant_and, fitting_variant, all_false, mixed, count-repeated_true, count-repeated_false, length-repeated, rank_intersection_count, folding_keeps_a_stack, count-le-length, rank_intersection-all_true, Mask, AllTrue, AllFalse, Values}
-use Rattle.std.specs.List.{All}
+use Rattle.vortex_mask.proofs.Common.{common_steps, ◌≡◌, ◌≢◌, ℕ, zero, suc, ◌+◌, ◌<◌, Bool, List, [], ◌∷◌, length, get_or, drop, map, refl, ap, ◌∙◌, arith, fold, drop_more, length-drop, length-map, All-head, count, rank_intersection, IsStack, folded_left, truth, Variant, variant, variant_and, fitting_variant, all_false, mixed, count-repeated_true, count-repeated_false, length-repeated, rank_intersection_count, folding_keeps_a_stack, count-le-length, rank_intersection-all_true, Mask, AllTrue, AllFalse, Values, All}
 use Rattle.mask_bits.proofs.Lists.StackLemmas.{folded_by_the_first, length_of_fold}
 use Rattle.vortex_mask.proofs.Masks.MaskLemmas.{fitting_variant-all_false, fitting_variant-repeated_true}
 

@@ -1,7 +1,5 @@
 -- What is left of a list's ranges once each that touches the one before it has lengthened it: the runs.
-use Rattle.vortex_mask.proofs.Common.{common_steps, ◌≡◌, ◌≢◌, ℕ, ◌+◌, ◌<◌, ◌||◌, Bool, true, false, nat_eq, List, [], ◌∷◌, length, refl, sym, ap, ◌∙◌, arith, subst, if◌then◌else◌, or_assoc, MatchBool, list_any, DedupsFrom, DedupsAll, IsDeduped, eqb-true, eqb-false, nat_tests, is_inside, AreRanges, runs}
-use Rattle.mask_bits.proofs.Lists.Runs.RangeLemmas.{Ordered, Ordered-top, Ordered-of}
-use Rattle.mask_bits.proofs.Lists.Runs.RunLemmas.{Spread, runs_from-RunsOf}
+use Rattle.vortex_mask.proofs.Common.{common_steps, ◌≡◌, ◌≢◌, ℕ, ◌+◌, ◌<◌, ◌||◌, Bool, true, false, nat_eq, List, [], ◌∷◌, length, refl, sym, ap, ◌∙◌, arith, subst, if◌then◌else◌, or_assoc, MatchBool, list_any, DedupsFrom, DedupsAll, IsDeduped, eqb-true, eqb-false, nat_tests, is_inside, AreRanges, runs, Ordered, Ordered-top, Ordered-of, Spread, runs_from-RunsOf}
 
 -- ---- one range and the run before it
 

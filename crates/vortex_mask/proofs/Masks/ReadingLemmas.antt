@@ -1,6 +1,5 @@
 -- Masks that are read by values, indices and counts.
-use Rattle.vortex_mask.proofs.Common.{Option, Some, None, slice_get, nat_lt, zero, suc, ◌≡◌, ℕ, ◌+◌, ◌-◌, ◌≤◌, Bool, true, false, List, [], ◌∷◌, length, map, take, drop, replicate, slice_range, refl, sym, ap, ap₂, ◌∙◌, arith, then_some, SomeIff, lt-ltb, common_steps, map_more, take-replicate, take-append-drop, All-head, All-tail, slice_get_past, positions, count, count_below, repeated, count-repeated_true, count-repeated_false, count-append, length-repeated, positions-repeated_true_at, positions-all_false, nil-repeated, count-part_further}
-use Rattle.std.specs.List.{All}
+use Rattle.vortex_mask.proofs.Common.{Option, Some, None, slice_get, nat_lt, zero, suc, ◌≡◌, ℕ, ◌+◌, ◌-◌, ◌≤◌, Bool, true, false, List, [], ◌∷◌, length, map, take, drop, replicate, slice_range, refl, sym, ap, ap₂, ◌∙◌, arith, then_some, SomeIff, lt-ltb, common_steps, map_more, take-replicate, take-append-drop, All-head, All-tail, slice_get_past, positions, count, count_below, repeated, count-repeated_true, count-repeated_false, count-append, length-repeated, positions-repeated_true_at, positions-all_false, nil-repeated, count-part_further, All}
 use Rattle.vortex_mask.proofs.Lists.StartedWordLemmas.{count_below-within}
 
 -- ---- lists of one value

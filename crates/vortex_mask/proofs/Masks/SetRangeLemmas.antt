@@ -1,6 +1,5 @@
 -- Bits that are set in bytes, a range at a time.
-use Rattle.vortex_mask.proofs.Common.{common_steps, ◌≡◌, ℕ, ◌+◌, ◌-◌, ◌*◌, ◌/◌, ◌%◌, ◌^◌, ◌<◌, ◌≤◌, ◌||◌, ◌&&◌, ◌⊎◌, Bool, true, false, nat_eq, nat_le, List, length, get_or, replicate, sym, ap, ap₂, ◌∙◌, arith, inl, inr, bit_at, or_comm, cases_lt, nat_tests, length-replicate, get_or-replicate, get_or_past, length-between, bit_at_ones, backing_bit, is_inside, word_bits, window, AreSet, get_or-window, get_or-put_mid_below, get_or-put_mid_above, get_or-put_mid_inside, get_or-word_bits_and, get_or-word_bits_or, get_or-word_bits_shl_low, get_or-word_bits_shl_high, get_or-word_bits_shr, get_or-word_bits, length-word_bits}
-use Rattle.std.specs.Int.RustNames.{bit_and, bit_or}
+use Rattle.vortex_mask.proofs.Common.{common_steps, ◌≡◌, ℕ, ◌+◌, ◌-◌, ◌*◌, ◌/◌, ◌%◌, ◌^◌, ◌<◌, ◌≤◌, ◌||◌, ◌&&◌, ◌⊎◌, Bool, true, false, nat_eq, nat_le, List, length, get_or, replicate, sym, ap, ap₂, ◌∙◌, arith, inl, inr, bit_at, or_comm, cases_lt, nat_tests, length-replicate, get_or-replicate, get_or_past, length-between, bit_at_ones, backing_bit, is_inside, word_bits, window, AreSet, get_or-window, get_or-put_mid_below, get_or-put_mid_above, get_or-put_mid_inside, get_or-word_bits_and, get_or-word_bits_or, get_or-word_bits_shl_low, get_or-word_bits_shl_high, get_or-word_bits_shr, get_or-word_bits, length-word_bits, bit_and, bit_or}
 use borrow.Rule.Slice.PartMut.{put_mid}
 
 -- ---- of a word

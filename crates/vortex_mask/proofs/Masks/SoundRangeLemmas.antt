@@ -1,7 +1,5 @@
 -- Ranges in which there is no fault, and the values that are true exactly in them.
-use Rattle.vortex_mask.proofs.Common.{common_steps, ◌≡◌, ℕ, ◌+◌, ◌<◌, ◌≤◌, ◌&&◌, not, Bool, true, false, nat_lt, nat_le, List, [], ◌∷◌, length, get_or, drop, map, zero, suc, None, sym, ◌∙◌, arith, subst, AllAdjacentBelow, list_any, prefix_len, position, range_with_len, get_or-map-range_with_len, length-map-range_with_len, cases_lt, nat_tests, at_drop_more, at_drop_all, prefix_len_passes, bitmap, backing_bit, count, repeated, is_inside, AreRanges, bad_range, neighbor_fault, neighbors_fault_from, range_fault, rows_held, all_true_from_count, all_false_from_count, count-le-length, length-bitmap, get_or-bitmap}
-use Rattle.std.specs.List.{All}
-use Rattle.mask_bits.proofs.Lists.Runs.RangeLemmas.{ranges_add_up_to_the_count}
+use Rattle.vortex_mask.proofs.Common.{common_steps, ◌≡◌, ℕ, ◌+◌, ◌<◌, ◌≤◌, ◌&&◌, not, Bool, true, false, nat_lt, nat_le, List, [], ◌∷◌, length, get_or, drop, map, zero, suc, None, sym, ◌∙◌, arith, subst, AllAdjacentBelow, list_any, prefix_len, position, range_with_len, get_or-map-range_with_len, length-map-range_with_len, cases_lt, nat_tests, at_drop_more, at_drop_all, prefix_len_passes, bitmap, backing_bit, count, repeated, is_inside, AreRanges, bad_range, neighbor_fault, neighbors_fault_from, range_fault, rows_held, all_true_from_count, all_false_from_count, count-le-length, length-bitmap, get_or-bitmap, All, ranges_add_up_to_the_count}
 use Rattle.vortex_mask.proofs.Masks.FaultLemmas.{option_or-none, none_mapped}
 
 -- ---- neighbors, one pair at a time

@@ -1,4 +1,4 @@
-use Rattle.mask_bits.proofs.Lists.Runs.RunLemmas.{AreRuns-runs_from, runs_are_ranges}
+use Rattle.vortex_mask.proofs.Common.{AreRuns-runs_from, runs_are_ranges}
 use Rattle.vortex_mask.proofs.laws.cached_lists.Goals as goal
 
 pub returns-in-Values-clause-lent : goal.returns-in-Values-clause-lent

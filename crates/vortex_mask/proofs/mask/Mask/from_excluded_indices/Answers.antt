@@ -1,5 +1,4 @@
-use Rattle.vortex_mask.proofs.Common.{◌≡◌, List, ℕ, Some, None, true, length, inr, sym, ap, ◌∙◌, option_map, IfOk-weaker, not_of, repeated, true_at, out_of_bounds, truth, length-repeated}
-use Rattle.vortex_mask.specs.declared.mask.error.MaskError.TheVariants.{IndexOutOfBounds}
+use Rattle.vortex_mask.proofs.Common.{◌≡◌, List, ℕ, Some, None, true, length, inr, sym, ap, ◌∙◌, option_map, IfOk-weaker, not_of, repeated, true_at, out_of_bounds, truth, length-repeated, IndexOutOfBounds}
 use Rattle.vortex_mask.proofs.Masks.ExcludedLemmas.{length-without}
 use Rattle.vortex_mask.proofs.Masks.FaultLemmas.{out_of_bounds-first}
 use Rattle.vortex_mask.proofs.Masks.MaskWalkLemmas.{whole_run}

@@ -1,5 +1,4 @@
-use Rattle.vortex_mask.proofs.Common.{◌<◌, subst, sym, ◌∙◌, values, count}
-use Rattle.std.specs.List.{All}
+use Rattle.vortex_mask.proofs.Common.{◌<◌, subst, sym, ◌∙◌, values, count, All}
 use Rattle.vortex_mask.proofs.Kernels.DrivenLemmas.{not-above-next, ranks-at_turn, found-more, found-all, indices-ascending, indices-within}
 use Rattle.vortex_mask.proofs.intersect_by_rank.kernels.mask_driven.intersect_mask_driven.Goals as goal
 
