@@ -92,15 +92,6 @@ module _ (s b n low high : ℕ) (first : low ≡ byte_at s (b / 8)) (next : b / 
       ∙ ap (λ v. v / 2 ^ r) (same_low few inside (cases_lt 8 (n + r))) ∙ field y n r
       ∙ ap (λ v. v % 2 ^ n) (shr-shr s (8 * (b / 8)) r ∙ ap (λ k. s / 2 ^ k) f)
 
--- ---- the counts below each byte, as sums moved up
-
--- the same of both words
-abbrev pub moved : ℕ → List ℕ → List ℕ
-moved n xs = zip2 (λ a b. a * 2 ^ b % 2 ^ 64) xs (n ∷ n ∷ [])
-
-abbrev pub added : ℕ → List ℕ → List ℕ
-added n xs = zip2 (λ a b. (a + b) % 2 ^ 64) xs (moved n xs)
-
 -- ---- bytes that fit
 
 pub AreLanes-fit : {v : List ℕ} {f : ℕ → ℕ} → AreLanes 16 v f → EachLane (λ j. f j < 256) → Each1 (Fits w8) v

@@ -87,7 +87,3 @@ module _ {S : Type 0} (steps : S → Option ℕ → S → Type 0) (s : S) (m : L
 
   pub indices-within : All (λ i. i < length m) indices
   indices-within = grind (arith, common_steps, All-at_indices (λ i. i < length m) (positions m) run.0.items (positions-within m) (ranks run.0 run.0.seen run.1).1, positions-within m)
-
--- what a whole run gave is all that the iterator yields
-pub drained : {S A : Type 0} (steps : S → Option A → S → Type 0) (s : S) (P : List A → Type 0) → WholeRun steps s (λ p. P p.items) → (xs : List A) × Drains steps s xs × P xs
-drained steps s P run = grind (arith, common_steps, took run.0)

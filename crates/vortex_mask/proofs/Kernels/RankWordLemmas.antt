@@ -4,8 +4,8 @@ use Rattle.vortex_mask.proofs.Lists.PlaceListLemmas.{bit_of_pow, none-is, rises_
 
 -- ---- the walk
 
-pub gathered-none : (ranks : List ℕ) (at end next : ℕ) → at ≤ end → AreSplit ranks next at → IsGathered ranks at end next 0
-gathered-none ranks at end next ordered split = grind (arith, get_or-word_bits, bit_at-zero, none-is, length-take, get_or-take)
+pub gathered_none : (ranks : List ℕ) (at end next : ℕ) → at ≤ end → AreSplit ranks next at → IsGathered ranks at end next 0
+gathered_none ranks at end next ordered split = grind (arith, get_or-word_bits, bit_at-zero, none-is, length-take, get_or-take)
 
 pub gathered-more : (ranks : List ℕ) (at end next bits bit : ℕ) → next < length ranks → get_or ranks next 0 < end → bit ≡ 2 ^ (get_or ranks next 0 - at)
     → IsGathered ranks at end next bits → IsGathered ranks at end (next + 1) (bit_or bits bit)

@@ -159,6 +159,7 @@ pub fn deposit_two_lowest(source: u64, mask: u64) -> u64
 
 // The lowest bit of `source`, put at `place`: by a mask of ones or zeros, since a branch on the
 // bit would often be guessed wrong.
+#[tactic(auto, using(crate::proofs::Deposits::DepositLemmas::masked))]
 fn lowest_bit_at(place: u64, source: u64) -> u64
     ensures { result ≡ place * (source % 2) }
 {

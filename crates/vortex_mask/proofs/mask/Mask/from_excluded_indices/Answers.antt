@@ -1,4 +1,4 @@
-use Rattle.vortex_mask.proofs.Common.{◌≡◌, List, ℕ, Some, None, true, length, inr, sym, ap, ◌∙◌, option_map, IfOk-weaker, not_of, repeated, true_at, out_of_bounds, truth, length-repeated, IndexOutOfBounds}
+use Rattle.vortex_mask.proofs.Common.{◌≡◌, List, ℕ, Some, None, true, length, inl, inr, sym, ap, ◌∙◌, option_map, IfOk-weaker, not_of, repeated, true_at, out_of_bounds, truth, length-repeated, IndexOutOfBounds}
 use Rattle.vortex_mask.proofs.Masks.ExcludedLemmas.{length-without}
 use Rattle.vortex_mask.proofs.Masks.FaultLemmas.{out_of_bounds-first}
 use Rattle.vortex_mask.proofs.Masks.MaskWalkLemmas.{whole_run}
@@ -17,12 +17,10 @@ returns-in-Some-clause-refused g c =
     inr (came.0, came.1, fault)
 
 pub returns-in-Some-clause-refused_whole : goal.returns-in-Some-clause-refused_whole
-returns-in-Some-clause-refused_whole g c =
-    let came = c.exclude.ensures in
-    let n = ap length c.in_ok-builder.ensures ∙ length-repeated c.args.len true in
-    let fault = out_of_bounds-first c.args.len (length c.in_ok-builder.builder) came.0 c.exclude.result n came.3
-    ∙ ap (option_map (λ x. IndexOutOfBounds x c.args.len)) c.in-Some.is in
-    inr (whole_run _ _ (λ (xs : List ℕ). out_of_bounds c.args.len xs ≡ Some (IndexOutOfBounds c.in-Some.index c.args.len)) came.0 came.1 fault)
+returns-in-Some-clause-refused_whole g c = elim (returns-in-Some-clause-refused g c) [
+  | inl memory ↦ inl memory
+  | inr came ↦ inr (whole_run _ _ (λ (xs : List ℕ). out_of_bounds c.args.len xs ≡ Some (IndexOutOfBounds c.in-Some.index c.args.len)) came.0 came.1 came.2)
+]
 
 pub returns-clause-list : goal.returns-clause-list
 returns-clause-list g c =
@@ -38,7 +36,4 @@ returns-clause-whole g c =
     whole_run _ _ (λ (xs : List ℕ). (out_of_bounds c.args.len xs ≡ None) × (truth m ≡ not_of (true_at c.args.len xs))) made.0 made.1 (made.2, made.3)) (returns-clause-list g c)
 
 pub returns-clause-len : goal.returns-clause-len
-returns-clause-len g c =
-    let came = c.exclude.ensures in
-    let n = ap length c.in_ok-builder.ensures ∙ length-repeated c.args.len true in
-    IfOk-weaker c.of_builder.result _ _ (λ m same. ap length (same ∙ came.2) ∙ length-without (length c.in_ok-builder.builder) came.0 ∙ n) c.of_builder.ensures.list
+returns-clause-len g c = IfOk-weaker c.of_builder.result _ _ (λ m made. ap length made.3 ∙ length-without c.args.len made.0) (returns-clause-list g c)
