@@ -36,12 +36,11 @@ impl Mask {
                 laws::one_variant(self);
                 self.clone()
             }
-            (_, Mask::AllFalse(_)) => Ok(Mask::new_false(self.len())),
+            (_, Mask::AllFalse(_)) | (Mask::AllFalse(_), _) => Ok(Mask::new_false(self.len())),
             (Mask::AllTrue(_), Mask::Values(_)) => {
                 laws::one_variant(other);
                 other.clone()
             }
-            (Mask::AllFalse(_), Mask::Values(_)) => Ok(Mask::new_false(self.len())),
             (Mask::Values(a), Mask::Values(b)) => {
                 Mask::from_buffer(alloc, a.bit_buffer().bitand(alloc, b.bit_buffer())?)
             }
@@ -68,12 +67,11 @@ impl Mask {
                 laws::one_variant(self);
                 self.clone()
             }
-            (_, Mask::AllTrue(_)) => Ok(Mask::new_true(self.len())),
+            (_, Mask::AllTrue(_)) | (Mask::AllTrue(_), _) => Ok(Mask::new_true(self.len())),
             (Mask::AllFalse(_), Mask::Values(_)) => {
                 laws::one_variant(other);
                 other.clone()
             }
-            (Mask::AllTrue(_), Mask::Values(_)) => Ok(Mask::new_true(self.len())),
             (Mask::Values(a), Mask::Values(b)) => {
                 Mask::from_buffer(alloc, a.bit_buffer().bitor(alloc, b.bit_buffer())?)
             }
@@ -121,8 +119,7 @@ impl Mask {
                 laws::one_variant(self);
                 self.clone()
             }
-            (_, Mask::AllTrue(_)) => Ok(Mask::new_false(self.len())),
-            (Mask::AllFalse(_), Mask::Values(_)) => Ok(Mask::new_false(self.len())),
+            (_, Mask::AllTrue(_)) | (Mask::AllFalse(_), _) => Ok(Mask::new_false(self.len())),
             (Mask::AllTrue(_), Mask::Values(_)) => other.not(alloc),
             (Mask::Values(a), Mask::Values(b)) => {
                 Mask::from_buffer(alloc, a.bit_buffer().bitand_not(alloc, b.bit_buffer())?)

@@ -94,13 +94,12 @@ impl Mask {
                 laws::one_variant(self);
                 Ok((self.clone()?, Steps::new()))
             }
-            (_, Mask::AllFalse(_)) => Ok((Mask::new_false(self.len()), Steps::new())),
+            (_, Mask::AllFalse(_)) | (Mask::AllFalse(_), _) => {
+                Ok((Mask::new_false(self.len()), Steps::new()))
+            }
             (Mask::AllTrue(_), Mask::Values(_)) => {
                 laws::one_variant(mask);
                 Ok((mask.clone()?, Steps::new()))
-            }
-            (Mask::AllFalse(_), Mask::Values(_)) => {
-                Ok((Mask::new_false(self.len()), Steps::new()))
             }
             (Mask::Values(values), Mask::Values(ranks)) => narrow_by_path(alloc, values, ranks),
         }

@@ -1,11 +1,10 @@
 //! Masks from ranges, and what is wrong with a list of them.
 
 ghost use Rattle.std.specs.Prelude.{◌≡◌, ◌<◌, ◌^◌, ◌⊎◌, if◌then◌else◌, IsOk, IfOk, IfErr, OnOk, IfSome, All, Some, None, Ok, Err, alloc_error, IsOkUnless, length, nat_eq, List, Bool};
-ghost use Rattle.vortex_mask.specs.Faults as faults;
 ghost use Rattle.mask_bits.specs.Buffer.{values};
 ghost use Rattle.mask_bits.specs.RunScan.{runs};
 ghost use Rattle.mask_bits.specs.Runs.{AreRanges};
-ghost use Rattle.vortex_mask.specs.Faults.{range_fault};
+ghost use Rattle.vortex_mask.specs.Faults.{bad_range, neighbors_fault_from, range_fault};
 ghost use Rattle.vortex_mask.specs.Caches.{caches, where_mixed};
 ghost use Rattle.vortex_mask.specs.Mask.{truth, variant, fitting_variant, all_false};
 ghost use Rattle.vortex_mask.specs.MaskValues.{only_ranges};
@@ -69,7 +68,7 @@ pub fn range_fault(len: usize, ranges: &[(usize, usize)]) -> Option<MaskError>
 }
 
 fn bad_range(len: usize, ranges: &[(usize, usize)]) -> Option<MaskError>
-    ensures { result ≡ faults.bad_range len ranges.now }
+    ensures { result ≡ bad_range len ranges.now }
 {
     ranges
         .iter()
@@ -79,7 +78,7 @@ fn bad_range(len: usize, ranges: &[(usize, usize)]) -> Option<MaskError>
 
 #[tactic(auto, using(crate::proofs::Masks::SoundRangeLemmas::no_more_neighbors))]
 fn neighbors_fault(ranges: &[(usize, usize)]) -> Option<MaskError>
-    ensures { result ≡ faults.neighbors_fault_from 0 ranges.now }
+    ensures { result ≡ neighbors_fault_from 0 ranges.now }
 {
     for at in 1..ranges.len() {
         let (before, range) = (ranges[at - 1], ranges[at]);
