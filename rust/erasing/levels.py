@@ -46,7 +46,6 @@ WIDE = {"combine", "combine_in_place", "negate_in_place", "none_in_shifted_words
 # Levelled functions that others call in their loops: these go on to the one of their own level.
 RANK = "crate::proved::vortex_mask::intersect_by_rank"
 INNER = {
-    "by_buffers": "by_buffers_any",
     "count_bits": "crate::proved::mask_bits::counts::count_bits_any",
     "intersect_bit_buffers": f"{RANK}::kernels::bit_buffers::intersect_bit_buffers_any",
     "intersect_by_rank_counted": "intersect_by_rank_counted_any",
@@ -55,7 +54,7 @@ INNER = {
 }
 # Of these, what lies between a levelled function that drops the steps of a kernel and its loop: each has a copy that goes
 # on to the loop of its own level, so that the compiler sees that nobody reads the counts.
-BETWEEN = {"Mask::intersect_by_rank_counted", "by_buffers", "intersect_bit_buffers", "narrow_by_path"}
+BETWEEN = {"Mask::intersect_by_rank_counted", "intersect_bit_buffers", "narrow_by_path"}
 # The levelled function that these copies are for, which is long enough without all else that it calls.
 DROPS_STEPS = "Mask::intersect_by_rank"
 # Functions that have a copy by the instruction PEXT.

@@ -205,9 +205,9 @@ def without_copies(words, name):
     >>> without_copies(tokens(made + "h(a) }"), "a.rt")
     Traceback (most recent call last):
     erasing.tokens.Fault: a.rt: f_by_pext is no copy
-    >>> made = "fn f(a: u8) { by_buffers(a) } #[inline(always)] pub(crate) fn f_any(a: u8) { by_buffers_any(a"
+    >>> made = "fn f(a: u8) { go_on(a) } #[inline(always)] pub(crate) fn f_any(a: u8) { go_on_any(a"
     >>> " ".join(without_copies(tokens(made + ") }"), "a.rt"))
-    'fn f ( a : u8 ) { by_buffers ( a ) }'
+    'fn f ( a : u8 ) { go_on ( a ) }'
     >>> without_copies(tokens(made + " + 1) }"), "a.rt")
     Traceback (most recent call last):
     erasing.tokens.Fault: a.rt: f_any is no copy

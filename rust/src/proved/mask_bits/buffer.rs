@@ -260,7 +260,7 @@ impl BitBuffer {
     ///
     /// - *counted*: `result ≡ count (values self.now)`
     /// - *at_most*: `result ≤ length (values self.now)`
-    #[inline(always)]
+    #[inline]
     pub fn true_count(&self) -> usize {
         count_bits(self.bytes.as_slice(), self.offset, self.len)
     }

@@ -26,7 +26,7 @@ use narrow::narrow_by_path;
 pub use path::{RankPath, rank_path};
 pub use rank_bits::RankBits;
 pub use select::SelectBit;
-use stack::{all_choose, begins_by_lists, fold_down};
+use stack::{begins_by_lists, fold_down};
 
 pub use steps::Steps;
 
@@ -113,9 +113,10 @@ impl Mask {
     ) -> Result<(Mask, Steps), MaskError> {
         match (self, mask) {
             (_, Mask::AllTrue(_)) => Ok((self.try_clone()?, Steps::new())),
-            (_, Mask::AllFalse(_)) => Ok((Mask::new_false(self.len()), Steps::new())),
+            (_, Mask::AllFalse(_)) | (Mask::AllFalse(_), _) => {
+                Ok((Mask::new_false(self.len()), Steps::new()))
+            }
             (Mask::AllTrue(_), Mask::Values(_)) => Ok((mask.try_clone()?, Steps::new())),
-            (Mask::AllFalse(_), Mask::Values(_)) => Ok((Mask::new_false(self.len()), Steps::new())),
             (Mask::Values(values), Mask::Values(ranks)) => narrow_by_path(values, ranks),
         }
     }
@@ -127,9 +128,10 @@ impl Mask {
     ) -> Result<(Mask, Steps), MaskError> {
         match (self, mask) {
             (_, Mask::AllTrue(_)) => Ok((self.try_clone()?, Steps::new())),
-            (_, Mask::AllFalse(_)) => Ok((Mask::new_false(self.len()), Steps::new())),
+            (_, Mask::AllFalse(_)) | (Mask::AllFalse(_), _) => {
+                Ok((Mask::new_false(self.len()), Steps::new()))
+            }
             (Mask::AllTrue(_), Mask::Values(_)) => Ok((mask.try_clone()?, Steps::new())),
-            (Mask::AllFalse(_), Mask::Values(_)) => Ok((Mask::new_false(self.len()), Steps::new())),
             (Mask::Values(values), Mask::Values(ranks)) => {
                 crate::proved::vortex_mask::intersect_by_rank::narrow::narrow_by_path_any(
                     values, ranks,
@@ -174,7 +176,9 @@ impl Mask {
     pub(crate) fn intersect_all_by_rank_proved(&self, masks: &[Mask]) -> Result<Mask, MaskError> {
         // `docs/DECISIONS.md` says from which end a stack is folded, and why
         if let Mask::Values(values) = self {
-            if masks.len() > 1 && all_choose(masks) && !begins_by_lists(values, masks) {
+            // where each mask chooses a row, no fold of them ends early
+            let all_choose = masks.iter().all(|mask| mask.true_count() > 0);
+            if masks.len() > 1 && all_choose && !begins_by_lists(values, masks) {
                 return fold_down(self, masks);
             }
         }

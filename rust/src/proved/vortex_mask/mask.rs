@@ -170,7 +170,7 @@ impl Mask {
     ///
     /// - *counted*: `result ≡ count (truth self.now)`
     /// - *at_most*: `result ≤ length (truth self.now)`
-    #[inline(always)]
+    #[inline]
     pub fn true_count(&self) -> usize {
         match self {
             Mask::AllTrue(len) => *len,

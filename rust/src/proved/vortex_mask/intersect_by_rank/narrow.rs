@@ -5,7 +5,7 @@ use crate::kit::AllocError;
 use crate::kit::CowSlice;
 use crate::kit::prelude::*;
 use crate::proved::vortex_mask::intersect_by_rank::deposit::{
-    DepositBits, Portable, PortableLoop, deposits_by_loop,
+    Portable, PortableLoop, deposits_by_loop,
 };
 use crate::proved::vortex_mask::intersect_by_rank::kernels::{
     intersect_bit_buffer_by_rank_indices, intersect_bit_buffers, intersect_by_rank_indices,
@@ -22,13 +22,24 @@ pub(super) fn narrow_by_path(
     ranks: &MaskValues,
 ) -> Result<(Mask, Steps), MaskError> {
     let by_loop = crate::kit::processor::by_loop(rows.len(), rows.true_count());
+    let (buffer, bits, true_count) = (rows.bit_buffer(), ranks.bit_buffer(), ranks.true_count());
     match rank_path(rows, ranks) {
         RankPath::Indices => by_indices(rows, ranks),
         RankPath::MaskDriven => by_selections(rows, ranks),
-        RankPath::BitBuffers if by_loop => by_buffers::<PortableLoop>(rows, ranks),
-        RankPath::BitBuffers => crate::kit::quickest!(by_buffers::<Portable>(rows, ranks)),
-        RankPath::RankIndices if by_loop => by_rank_indices::<PortableLoop>(rows, ranks),
-        RankPath::RankIndices => crate::kit::quickest!(by_rank_indices::<Portable>(rows, ranks)),
+        RankPath::BitBuffers if by_loop => {
+            intersect_bit_buffers::<PortableLoop>(buffer, bits, true_count)
+        }
+        RankPath::BitBuffers => {
+            crate::kit::quickest!(intersect_bit_buffers::<Portable>(buffer, bits, true_count))
+        }
+        RankPath::RankIndices if by_loop => {
+            let indices = ranks.lend_indices();
+            intersect_bit_buffer_by_rank_indices::<PortableLoop>(buffer, indices)
+        }
+        RankPath::RankIndices => {
+            let indices = ranks.lend_indices();
+            crate::kit::quickest!(intersect_bit_buffer_by_rank_indices::<Portable>(buffer, indices))
+        }
     }
 }
 
@@ -38,13 +49,24 @@ pub(crate) fn narrow_by_path_any(
     ranks: &MaskValues,
 ) -> Result<(Mask, Steps), MaskError> {
     let by_loop = crate::kit::processor::by_loop(rows.len(), rows.true_count());
+    let (buffer, bits, true_count) = (rows.bit_buffer(), ranks.bit_buffer(), ranks.true_count());
     match rank_path(rows, ranks) {
         RankPath::Indices => by_indices(rows, ranks),
         RankPath::MaskDriven => by_selections(rows, ranks),
-        RankPath::BitBuffers if by_loop => by_buffers_any::<PortableLoop>(rows, ranks),
-        RankPath::BitBuffers => crate::kit::quickest!(by_buffers_any::<Portable>(rows, ranks)),
-        RankPath::RankIndices if by_loop => by_rank_indices::<PortableLoop>(rows, ranks),
-        RankPath::RankIndices => crate::kit::quickest!(by_rank_indices::<Portable>(rows, ranks)),
+        RankPath::BitBuffers if by_loop => {
+            crate::proved::vortex_mask::intersect_by_rank::kernels::bit_buffers::intersect_bit_buffers_any::<PortableLoop>(buffer, bits, true_count)
+        }
+        RankPath::BitBuffers => {
+            crate::kit::quickest!(crate::proved::vortex_mask::intersect_by_rank::kernels::bit_buffers::intersect_bit_buffers_any::<Portable>(buffer, bits, true_count))
+        }
+        RankPath::RankIndices if by_loop => {
+            let indices = ranks.lend_indices();
+            intersect_bit_buffer_by_rank_indices::<PortableLoop>(buffer, indices)
+        }
+        RankPath::RankIndices => {
+            let indices = ranks.lend_indices();
+            crate::kit::quickest!(intersect_bit_buffer_by_rank_indices::<Portable>(buffer, indices))
+        }
     }
 }
 
@@ -78,34 +100,4 @@ fn by_selections(rows: &MaskValues, ranks: &MaskValues) -> Result<(Mask, Steps),
             crate::kit::quickest!(intersect_mask_driven::<Portable, _>(buffer, ranks, true_count))
         }
     }
-}
-
-// Of the bits of both: one deposit a word.
-#[inline]
-fn by_buffers<D: DepositBits>(
-    rows: &MaskValues,
-    ranks: &MaskValues,
-) -> Result<(Mask, Steps), MaskError> {
-    let (buffer, bits, true_count) = (rows.bit_buffer(), ranks.bit_buffer(), ranks.true_count());
-    intersect_bit_buffers::<D>(buffer, bits, true_count)
-}
-
-#[inline(always)]
-pub(crate) fn by_buffers_any<D: DepositBits>(
-    rows: &MaskValues,
-    ranks: &MaskValues,
-) -> Result<(Mask, Steps), MaskError> {
-    let (buffer, bits, true_count) = (rows.bit_buffer(), ranks.bit_buffer(), ranks.true_count());
-    crate::proved::vortex_mask::intersect_by_rank::kernels::bit_buffers::intersect_bit_buffers_any::<
-        D,
-    >(buffer, bits, true_count)
-}
-
-// Of the bits of the first and the cached true indices of the second: one deposit a word.
-#[inline]
-fn by_rank_indices<D: DepositBits>(
-    rows: &MaskValues,
-    ranks: &MaskValues,
-) -> Result<(Mask, Steps), MaskError> {
-    intersect_bit_buffer_by_rank_indices::<D>(rows.bit_buffer(), ranks.lend_indices())
 }

@@ -31,30 +31,10 @@ const VALUES_PER_RANK_BY_SELECTION: u64 = 32;
 // to read the rank mask's bits as they are.
 const VALUES_PER_RANK_BY_BITS: u64 = 4;
 
-// What the choice of a path goes by, of one mask: how many values it has, how many of them are
-// true, and whether its true indices are cached.
-#[derive(Clone, Copy)]
-struct Summary {
-    len: usize,
-    true_count: usize,
-    is_listed: bool,
-}
-
-impl Summary {
-    #[inline(always)]
-    fn of(mask: &MaskValues) -> Summary {
-        Summary {
-            len: mask.len(),
-            true_count: mask.true_count(),
-            is_listed: mask.cached_indices().is_some(),
-        }
-    }
-
-    // So many times the number of true values, which may pass 64 bits.
-    #[inline]
-    fn times_true(self, times: u64) -> u128 {
-        u128::from(times) * self.true_count as u128
-    }
+// So many times the number of true values, which may pass 64 bits.
+#[inline]
+fn times_true(mask: &MaskValues, times: u64) -> u128 {
+    u128::from(times) * mask.true_count() as u128
 }
 
 /// The path of two mixed masks, by their lengths, their counts and which lists of true indices are
@@ -65,24 +45,20 @@ impl Summary {
 /// - `result ≡ path_of values.now ranks.now`
 #[inline]
 pub fn rank_path(values: &MaskValues, ranks: &MaskValues) -> RankPath {
-    path_by(Summary::of(values), Summary::of(ranks))
-}
-
-// The path of a mask that is narrowed by another one, by what these numbers say of each.
-#[inline]
-fn path_by(rows: Summary, ranks: Summary) -> RankPath {
+    let (len, rank_len) = (values.len() as u128, ranks.len() as u128);
+    let is_listed = ranks.cached_indices().is_some();
     // with both lists at hand, the entries to take are fewer than the words to read
-    let are_few = ranks.true_count < started_words(rows.len);
-    if ranks.is_listed && rows.is_listed && are_few {
+    let are_few = ranks.true_count() < started_words(values.len());
+    if is_listed && values.cached_indices().is_some() && are_few {
         return RankPath::Indices;
     }
-    if rows.times_true(ROWS_PER_TRUE_BY_INDICES) < rows.len as u128 {
+    if times_true(values, ROWS_PER_TRUE_BY_INDICES) < len {
         return RankPath::Indices;
     }
-    if ranks.times_true(VALUES_PER_RANK_BY_SELECTION) < ranks.len as u128 {
+    if times_true(ranks, VALUES_PER_RANK_BY_SELECTION) < rank_len {
         return RankPath::MaskDriven;
     }
-    if !ranks.is_listed || ranks.times_true(VALUES_PER_RANK_BY_BITS) > ranks.len as u128 {
+    if !is_listed || times_true(ranks, VALUES_PER_RANK_BY_BITS) > rank_len {
         return RankPath::BitBuffers;
     }
     RankPath::RankIndices

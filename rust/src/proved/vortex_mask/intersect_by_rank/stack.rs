@@ -5,12 +5,6 @@ use crate::kit::prelude::*;
 use crate::proved::vortex_mask::intersect_by_rank::path::{RankPath, rank_path};
 use crate::proved::vortex_mask::mask::{Mask, MaskError, MaskValues};
 
-// Whether each mask chooses a row, so that no fold of them ends early.
-#[inline]
-pub(super) fn all_choose(masks: &[Mask]) -> bool {
-    masks.iter().all(|mask| mask.true_count() > 0)
-}
-
 // Whether the fold from the first mask up begins by taking one cached list at another, which reads no word and leaves
 // a list for the next step. An all-true mask changes nothing.
 #[inline]

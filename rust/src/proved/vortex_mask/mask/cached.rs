@@ -95,22 +95,13 @@ impl Mask {
         num: usize,
         den: usize,
     ) -> Result<AllOr<MaskIter<'_>>, MaskError> {
-        let by_ranges = self.reaches_share(num, den);
+        let by_ranges = self.values().is_some_and(|values| values.reaches_share(num, den));
         self.fill(by_ranges)?;
         Ok(match self {
             Mask::AllTrue(_) => AllOr::All,
             Mask::AllFalse(_) => AllOr::None,
             Mask::Values(values) => AllOr::Some(values.lend_list(by_ranges)),
         })
-    }
-
-    // Whether at least `num` of each `den` values of a mixed mask are true.
-    #[inline]
-    fn reaches_share(&self, num: usize, den: usize) -> bool {
-        match self {
-            Mask::AllTrue(_) | Mask::AllFalse(_) => false,
-            Mask::Values(values) => values.reaches_share(num, den),
-        }
     }
 
     // Caches the runs, or the true indices, where the mask is mixed. Values that nobody else holds cache

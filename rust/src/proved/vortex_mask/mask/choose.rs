@@ -1,11 +1,10 @@
 // Made of crates/vortex_mask/src/mask/choose.rt by `rust/erase`: change that, and make this anew.
 //! The rows that a mask chooses.
 
-use crate::kit::AllocError;
 use crate::kit::prelude::*;
-use crate::proved::mask_bits::BitBuffer;
 use crate::proved::mask_bits::push_rows::choose_rows;
 use crate::proved::vortex_mask::mask::{Mask, MaskError};
+
 use core::mem::size_of_val;
 
 // Rows that lie so many bytes apart on the average go one by one: to read others beside them, from lines of their own,
@@ -44,25 +43,15 @@ impl Mask {
             Mask::AllTrue(_) => Ok(Vec::from_slice(rows)?),
             Mask::AllFalse(_) => Ok(Vec::new()),
             Mask::Values(values) => {
-                let true_count = values.true_count();
-                Ok(rows_at(rows, values.bit_buffer(), true_count)?)
+                let (buffer, true_count) = (values.bit_buffer(), values.true_count());
+                let mut chosen_rows = Vec::with_room(true_count)?;
+                if true_count < size_of_val(rows) / FAR {
+                    choose_rows::<0, _, _>(&mut chosen_rows, rows, &buffer.chunks());
+                } else {
+                    choose_rows::<4, _, _>(&mut chosen_rows, rows, &buffer.chunks());
+                }
+                Ok(chosen_rows)
             }
         }
     }
-}
-
-// The rows at the true indices of a buffer, of which there are `true_count`, in their order.
-#[inline]
-fn rows_at<T: Copy>(
-    rows: &[T],
-    buffer: &BitBuffer,
-    true_count: usize,
-) -> Result<Vec<T>, AllocError> {
-    let mut chosen_rows = Vec::with_room(true_count)?;
-    if true_count < size_of_val(rows) / FAR {
-        choose_rows::<0, _, _>(&mut chosen_rows, rows, &buffer.chunks());
-    } else {
-        choose_rows::<4, _, _>(&mut chosen_rows, rows, &buffer.chunks());
-    }
-    Ok(chosen_rows)
 }

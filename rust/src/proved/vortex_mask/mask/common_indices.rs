@@ -93,7 +93,7 @@ fn merge_both(
     last: &mut [usize],
     last_other: &[usize],
 ) -> (usize, usize) {
-    let (mut at, mut last_at) = (Places::start(), Places::start());
+    let (mut at, mut last_at) = (Places::default(), Places::default());
     while at.have_eight(first, other) && last_at.have_eight(last, last_other) {
         at = eight_steps(first, other, at);
         last_at = eight_steps(last, last_other, last_at);
@@ -127,10 +127,10 @@ fn merge_eights(list: &mut [usize], other: &[usize], at: Places) -> Places {
 #[inline(always)]
 fn eight_steps(list: &mut [usize], other: &[usize], at: Places) -> Places {
     if list[at.list + 7] < other[at.other] {
-        return at.moved(8, 0);
+        return Places { list: at.list + 8, ..at };
     }
     if other[at.other + 7] < list[at.list] {
-        return at.moved(0, 8);
+        return Places { other: at.other + 8, ..at };
     }
     let mut next = at;
     for k in 0..8usize {
@@ -152,7 +152,7 @@ fn step(list: &mut [usize], other: &[usize], at: Places) -> Places {
 }
 
 // Where a merge stands: a place in each list, and how many indices before these places both have.
-#[derive(Clone, Copy)]
+#[derive(Clone, Copy, Default)]
 struct Places {
     list: usize,
     other: usize,
@@ -160,20 +160,9 @@ struct Places {
 }
 
 impl Places {
-    #[inline]
-    fn start() -> Places {
-        Places { list: 0, other: 0, found: 0 }
-    }
-
     // Whether both lists have eight indices more.
     #[inline]
     fn have_eight(self, list: &[usize], other: &[usize]) -> bool {
         list.len() - self.list >= 8 && other.len() - self.other >= 8
-    }
-
-    // So many indices of each list further.
-    #[inline]
-    fn moved(self, list: usize, other: usize) -> Places {
-        Places { list: self.list + list, other: self.other + other, found: self.found }
     }
 }

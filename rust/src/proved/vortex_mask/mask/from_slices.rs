@@ -32,17 +32,12 @@ impl Mask {
         if let Some(fault) = range_fault(len, &ranges) {
             return Err(fault);
         }
-        Mask::of_ranges(len, ranges)
-    }
-
-    // The mask of ranges in which no fault was found.
-    #[inline]
-    fn of_ranges(len: usize, mut ranges: Vec<(usize, usize)>) -> Result<Mask, MaskError> {
         let true_count = rows_held(&ranges);
         if let Some(mask) = Mask::of_one_value(len, true_count) {
             return Ok(mask);
         }
         let buffer = buffer_of(len, &ranges)?;
+        let mut ranges = ranges;
         merge_touching(&mut ranges);
         Mask::of_mixed(buffer, true_count, None, Some(ranges))
     }

@@ -70,7 +70,7 @@ impl MaskValues {
     /// - *cached*: `result ≡ self.now.true_count`
     /// - *some_true*: `0 < result`
     /// - *some_false*: `result < length (values self.now.buffer)`
-    #[inline(always)]
+    #[inline]
     pub fn true_count(&self) -> usize {
         self.true_count
     }
@@ -129,7 +129,7 @@ impl MaskValues {
     ///
     /// - *cached*: `option_map (λ indices. indices.now) result ≡ self.now.caches.indices`
     /// - *whole*: `AreOf (values self.now.buffer) self.now.caches`
-    #[inline(always)]
+    #[inline]
     pub fn cached_indices(&self) -> Option<&[usize]> {
         self.indices.as_deref()
     }

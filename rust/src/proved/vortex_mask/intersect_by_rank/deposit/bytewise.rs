@@ -58,7 +58,10 @@ pub fn deposit_bytewise(source: u64, mask: u64) -> u64 {
 pub(super) fn deposit_two_bytewise(sources: [u64; 2], masks: [u64; 2]) -> [u64; 2] {
     let masks = u64x2::from_array(masks);
     let packing = compress(bytes_of(masks));
-    let bits = gather(u64x2::from_array(sources), counts_below(masks));
+    let below = counts_below(masks);
+    let bytes = neighbors(u64x2::from_array(sources), below);
+    // what would lie past the end of a word is of no use
+    let bits = eight_bits(bytes.low, bytes.high, below);
     let lanes = move_up(bits & packing.packed, packing.landed_2, 2);
     let lanes = move_up(lanes, packing.landed_1, 1);
     words_of(move_up(lanes, packing.landed_0, 0)).to_array()
@@ -143,14 +146,6 @@ fn compress(mask: u8x16) -> Packing {
         landed_1: by_two.landed,
         landed_2: by_four.landed,
     }
-}
-
-// In each lane, eight bits of its word, from that lane of `below` on. What would lie past the end of
-// the word is of no use, and may be any bits.
-#[inline(always)]
-fn gather(words: u64x2, below: u8x16) -> u8x16 {
-    let bytes = neighbors(words, below);
-    eight_bits(bytes.low, bytes.high, below)
 }
 
 #[derive(Clone, Copy)]

@@ -24,7 +24,9 @@ use crate::kit::prelude::*;
 pub(super) fn deposit_two_by_nibbles(sources: [u64; 2], masks: [u64; 2]) -> [u64; 2] {
     let masks = u64x2::from_array(masks);
     let nibbles = nibbles_of(bytes_of(masks));
-    let bits = gather_apart(u64x2::from_array(sources), counts_below(masks), nibbles.lower);
+    let below = counts_below(masks);
+    let bytes = neighbors(u64x2::from_array(sources), below);
+    let bits = four_and_four(bytes.low, bytes.high, below, nibbles.lower);
     words_of(move_up_in_nibbles(bits, nibbles)).to_array()
 }
 
@@ -37,14 +39,6 @@ struct TwoNibbles {
 #[inline(always)]
 fn nibbles_of(bytes: u8x16) -> TwoNibbles {
     TwoNibbles { lower: bytes & u8x16::splat(15), upper: bytes >> u8x16::every(4) }
-}
-
-// In each lane four bits of its word from that lane of `below` on, and above them four bits from as
-// many bits further on as `lower` has set.
-#[inline(always)]
-fn gather_apart(words: u64x2, below: u8x16, lower: u8x16) -> u8x16 {
-    let bytes = neighbors(words, below);
-    four_and_four(bytes.low, bytes.high, below, lower)
 }
 
 // In each lane, of the number whose two bytes are `low` and `high`, four bits from that lane of

@@ -63,13 +63,6 @@ impl Reached {
         steps: &mut Steps,
         rank: usize,
     ) -> usize {
-        self.read_to(chunks, steps, rank);
-        64 * (steps.words() - 1) + steps.select_proved::<S>(self.word, rank - self.before)
-    }
-
-    // Reads on until the true value at `rank` is in the last word.
-    #[inline(always)]
-    fn read_to(&mut self, chunks: &BitChunks<'_>, steps: &mut Steps, rank: usize) {
         let mut end = self.before + self.word.count_ones() as usize;
         while end <= rank {
             self.before = end;
@@ -77,5 +70,6 @@ impl Reached {
             self.word = steps.word_proved(chunks, next);
             end += self.word.count_ones() as usize;
         }
+        64 * (steps.words() - 1) + steps.select_proved::<S>(self.word, rank - self.before)
     }
 }
