@@ -39,7 +39,7 @@ pub use Rattle.std.proofs.Math.Nat.{div-div-eq-div-mul, zero-div}
 pub use Rattle.std.proofs.Math.Pow.{field, mod-mod-pow, split}
 pub use Rattle.std.proofs.Math.Seq.{paste, take-add}
 pub use Rattle.std.proofs.iter.runs.Consumers.{total_runs}
-pub use Rattle.std.proofs.iter.runs.Made.{run_of_exit, run_of_turn, took}
+pub use Rattle.std.proofs.iter.runs.Made.{run_of_exit, run_of_turn}
 pub use Rattle.std.proofs.lemmas.Bool.{cases_order, eq-eqb, eqb-false, eqb-true, lt-leb}
 pub use Rattle.std.proofs.lemmas.Grind.{take-set_at}
 pub use Rattle.std.proofs.lemmas.Iterator.{YieldsList, YieldsList-from_slice}

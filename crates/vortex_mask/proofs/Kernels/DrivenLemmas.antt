@@ -1,5 +1,5 @@
 -- The kernel that goes by ranks: words that are read in turn, the indices found in them, and the run of calls that gave the ranks.
-use Rattle.vortex_mask.proofs.Common.{Option, Some, None, common_steps, ◌≡◌, ℕ, ◌+◌, ◌-◌, ◌*◌, ◌/◌, ◌^◌, ◌<◌, ◌≤◌, ◌%◌, Bool, List, [], ◌∷◌, ◌++◌, length, take, get_or, sym, subst, ap, ap₂, ◌∙◌, arith, count_ones, slice_get, get_or-append_seam, run_of_turn, run_of_exit, took, take_all, map-append, length-append, get_or_append_left, sum_by_push, slice_get-get_or, get_or_from_slice_get, Yields, Drains, EachRunFrom, WholeRun, sum_by, IsStrictlyIncreasing, positions, count, at_indices, word_bits, word_part, padded_part, padded_remainder, selected, AreRanks, HasRead, StepCounts, positions-ascending, positions-within, All-at_indices, count-word_more, place_in_word, count-word_bits, All}
+use Rattle.vortex_mask.proofs.Common.{Option, Some, None, common_steps, ◌≡◌, ℕ, ◌+◌, ◌-◌, ◌*◌, ◌/◌, ◌^◌, ◌<◌, ◌≤◌, ◌%◌, Bool, List, [], ◌∷◌, ◌++◌, length, take, get_or, sym, subst, ap, ap₂, ◌∙◌, arith, count_ones, slice_get, get_or-append_seam, run_of_turn, run_of_exit, take_all, map-append, length-append, get_or_append_left, sum_by_push, slice_get-get_or, get_or_from_slice_get, Yields, EachRunFrom, WholeRun, sum_by, IsStrictlyIncreasing, positions, count, at_indices, word_bits, word_part, padded_part, padded_remainder, selected, AreRanks, HasRead, StepCounts, positions-ascending, positions-within, All-at_indices, count-word_more, place_in_word, count-word_bits, All}
 use Rattle.vortex_mask.proofs.Lists.PlaceListLemmas.{at_indices-ascending}
 use Rattle.vortex_mask.proofs.Kernels.WordKernelLemmas.{word-started}
 

@@ -1,6 +1,6 @@
 //! The indices that two ascending lists have in common.
 
-ghost use Rattle.std.specs.Prelude.{◌≡◌, ◌+◌, ◌<◌, ◌≤◌, ◌^◌, ◌↔◌, IsTrue, ℕ, length, take, drop, slice_index};
+ghost use Rattle.std.specs.Prelude.{◌≡◌, ◌+◌, ◌<◌, ◌≤◌, ◌↔◌, IsTrue, ℕ, length, take, drop, slice_index};
 ghost use Rattle.std.specs.List.Sorted.{IsStrictlyIncreasing};
 ghost use Rattle.vortex_mask.specs.Faults.{common};
 ghost use Rattle.vortex_mask.specs.Merges.{IsFound, IsUnderWay, GoesOn, comes_to};

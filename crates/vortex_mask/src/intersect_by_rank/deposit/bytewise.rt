@@ -37,7 +37,7 @@
 //! stage 2, by 4  . . . . 1 1 1 1   3        from 7, with 4 below
 //! ```
 
-ghost use Rattle.std.specs.Prelude.{◌≡◌, ℕ, ◌+◌, ◌-◌, ◌*◌, ◌/◌, ◌%◌, ◌^◌, ◌<◌, ◌≤◌, slice_index, length, count_ones};
+ghost use Rattle.std.specs.Prelude.{◌≡◌, ℕ, ◌+◌, ◌-◌, ◌*◌, ◌/◌, ◌%◌, ◌^◌, ◌<◌, slice_index, length, count_ones};
 ghost use Rattle.mask_bits.specs.Positions.{count_below};
 ghost use Rattle.mask_bits.specs.Words.{word_bits};
 ghost use Rattle.mask_bits.specs.Lanes.{AreLanes};

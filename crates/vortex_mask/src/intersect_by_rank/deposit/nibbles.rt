@@ -13,7 +13,7 @@
 //! by one. The upper nibble's bits lie behind those of the lower one, of which there are as many as the
 //! lower nibble's mask has set. A product with a power of two moves them to the upper nibble.
 
-ghost use Rattle.std.specs.Prelude.{◌≡◌, ℕ, ◌+◌, ◌*◌, ◌/◌, ◌%◌, ◌^◌, ◌<◌, ◌≤◌, slice_index, length, count_ones};
+ghost use Rattle.std.specs.Prelude.{◌≡◌, ◌+◌, ◌*◌, ◌/◌, ◌%◌, ◌^◌, ◌<◌, slice_index, length, count_ones};
 ghost use Rattle.mask_bits.specs.Lanes.{AreLanes};
 ghost use Rattle.vortex_mask.specs.Bytes.{EachLane, AreNibbles, landed_in, stays_in, nibble_moved_up};
 ghost use Rattle.vortex_mask.specs.Deposit.{Deposits};
