@@ -1,5 +1,5 @@
 -- The walks over a mask: each run of calls gives what is left, and what a walk over a mask of one value has.
-use Rattle.vortex_mask.proofs.Common.{Option, zero, sym, subst, ◌∙◌, true, false, [], nat_lt, lt-ltb, then_some, option_to_list, AreRuns, Bool, replicate, ◌≡◌, ℕ, suc, ◌+◌, ◌-◌, ◌<◌, List, ◌∷◌, length, ap, arith, Drains, DrainsIf, YieldsFirst, range_with_len, YieldsInOrder, WholeRun, total_runs, from_front, as_is, get_or-range_with_len, length-range_with_len, repeated, values_left, indices_left, ranges_left, length-repeated, nil-repeated, positions-all_true, positions-all_false, positions-ascending, positions-within, all_false_has_no_run, all_true_is_one_run}
+use Rattle.vortex_mask.proofs.Common.{Option, zero, sym, Bool, replicate, ◌≡◌, ℕ, suc, ◌+◌, ◌-◌, ◌<◌, List, ◌∷◌, length, ap, arith, Drains, DrainsIf, YieldsFirst, range_with_len, YieldsInOrder, WholeRun, total_runs, from_front, as_is, get_or-range_with_len, length-range_with_len, repeated, values_left, indices_left, ranges_left, length-repeated, nil-repeated, positions-all_true, positions-all_false, positions-ascending, positions-within, all_false_has_no_run, all_true_is_one_run}
 
 in_order : {S A : Type 0} (left : S → List A) → YieldsInOrder (YieldsFirst left) left
 in_order left p seen = as_is p (left p.from) (from_front (YieldsFirst left) (λ x. x) left (λ s t h. ap length h.0) (λ s x t h. h) p seen)
@@ -12,13 +12,6 @@ indices_in_order = in_order indices_left
 
 pub ranges_in_order : YieldsInOrder (YieldsFirst ranges_left) ranges_left
 ranges_in_order = in_order ranges_left
-
--- the run of an all-true mask, where it has a value
-one_run : (n : ℕ) → AreRuns (repeated n true) (option_to_list (then_some (nat_lt 0 n) (0, n)))
-one_run zero = subst (λ (m : List Bool). AreRuns m []) (nil-repeated false ∙ sym (nil-repeated true)) (all_false_has_no_run zero)
-one_run (suc n) = rw (lt-ltb 0 (suc n) (omega arith)) (all_true_is_one_run (suc n) (omega arith))
-
-pub ruleset run_walks = (ranges_in_order, one_run, all_false_has_no_run)
 
 pub ruleset index_walks = (indices_in_order, length-repeated, length-range_with_len, get_or-range_with_len, positions-all_true, positions-all_false, positions-ascending, positions-within)
 
@@ -33,7 +26,7 @@ unfolding repeated
 repeated-next zero v h = absurd (omega (arith, h))
 repeated-next (suc n) v h = let e : suc n - 1 ≡ n = omega arith in ap (λ k. v ∷ replicate k v) (sym e)
 
-pub ruleset next_facts = (length-repeated, nil-repeated, repeated-next, range-next)
+pub ruleset next_facts = (length-repeated, nil-repeated, repeated-next, range-next, all_true_is_one_run, all_false_has_no_run)
 
 -- ---- what an iterator gave to its end, told as a list and as a run
 

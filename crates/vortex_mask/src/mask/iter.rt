@@ -1,13 +1,14 @@
 //! Walks over a mask that is only lent: its values, true indices and runs.
 
-ghost use Rattle.std.specs.Prelude.{◌≡◌, ◌<◌, ◌^◌, length, IfSome, Some, All};
+ghost use Rattle.std.specs.Prelude.{◌≡◌, ◌<◌, ◌^◌, length, IfSome, Some, All, true};
 ghost use Rattle.std.specs.Iterator.{YieldsFirst, UpTo, item_count};
 ghost use Rattle.std.specs.Iterator.Runs.{YieldsInOrder};
 ghost use Rattle.std.specs.Iterator.SizeHint.{IsWithinCount};
 ghost use Rattle.std.specs.List.Sorted.{IsStrictlyIncreasing};
+ghost use Rattle.std.specs.Option.{option_to_list};
 ghost use Rattle.vortex_mask.specs.Iter.{values_left, indices_left, ranges_left};
 ghost use Rattle.vortex_mask.specs.Mask.{truth};
-ghost use Rattle.mask_bits.specs.Positions.{positions};
+ghost use Rattle.mask_bits.specs.Positions.{positions, repeated};
 ghost use Rattle.mask_bits.specs.Runs.{AreRuns};
 
 use crate::mask::Mask;
@@ -157,7 +158,7 @@ impl Iterator for MaskSetSlices<'_> {
     }
 }
 
-#[tactic(auto, using(crate::proofs::Masks::MaskWalkLemmas::run_walks))]
+#[tactic(auto, using(crate::proofs::Masks::MaskWalkLemmas::ranges_in_order))]
 impl Mask {
     /// The runs of the true values, ascending, of a mask that is only lent. No list is made or
     /// cached.
@@ -167,9 +168,20 @@ impl Mask {
         ensures fits { length (ranges_left result) < 2 ^ 64 }
     {
         match self {
-            Mask::AllTrue(len) => MaskSetSlices::Whole((*len > 0).then_some((0, *len))),
+            Mask::AllTrue(len) => MaskSetSlices::Whole(whole_run(*len)),
             Mask::AllFalse(_) => MaskSetSlices::Whole(None),
             Mask::Values(values) => MaskSetSlices::Bits(values.bit_buffer().set_slices()),
         }
     }
+}
+
+// The run of so many true values, if there are any.
+#[tactic(auto, using(crate::proofs::Masks::MaskWalkLemmas::next_facts))]
+fn whole_run(len: usize) -> Option<(usize, usize)>
+    ensures { AreRuns (repeated len true) (option_to_list result) }
+{
+    if len == 0 {
+        return None;
+    }
+    Some((0, len))
 }
