@@ -55,8 +55,7 @@ impl<'a> Bitmap<'a> {
     #[cfg(target_endian = "little")]
     pub fn from_words(words: &'a [u64], len: usize) -> Result<Bitmap<'a>, Error> {
         // SAFETY: the bytes of words are bytes, with no place asked of them.
-        let (_, bytes, _) = unsafe { words.align_to::<u8>() };
-        Bitmap::new(bytes, 0, len)
+        Bitmap::new(unsafe { words.align_to().1 }, 0, len)
     }
 
     tells! {

@@ -6,7 +6,7 @@ use crate::prelude::*;
 macro_rules! combined {
     ($(
         $(#[$what:meta])+
-        pub fn $call:ident, $into:ident by $combine:ident, $with:ident by $change:ident: $changed:literal;
+        pub fn $call:ident, $into:ident, $with:ident($combine:ident, $change:ident): $changed:literal;
     )+) => {
         impl Bitmap<'_> {
             makers! {$(
@@ -33,22 +33,22 @@ macro_rules! combined {
 
 combined! {
     /// The values that are true in both.
-    pub fn and, and_into by row_mask_and, and_with by row_mask_and_in_place:
+    pub fn and, and_into, and_with(row_mask_and, row_mask_and_in_place):
         "Leaves those values true that are true in `other` too, in place.";
     /// The values that are true in one or in both.
-    pub fn or, or_into by row_mask_or, or_with by row_mask_or_in_place:
+    pub fn or, or_into, or_with(row_mask_or, row_mask_or_in_place):
         "Makes those values true that are true in `other`, in place.";
     /// The values that are true here and not in `other`.
-    pub fn and_not, and_not_into by row_mask_and_not, and_not_with by row_mask_and_not_in_place:
+    pub fn and_not, and_not_into, and_not_with(row_mask_and_not, row_mask_and_not_in_place):
         "Makes those values false that are true in `other`, in place.";
     /// The values that are true in one and not in the other.
-    pub fn xor, xor_into by row_mask_xor, xor_with by row_mask_xor_in_place:
+    pub fn xor, xor_into, xor_with(row_mask_xor, row_mask_xor_in_place):
         "Negates those values that are true in `other`, in place.";
 }
 
 /// Calls that tell something of two bitmaps, each by a proved loop.
 macro_rules! compared {
-    ($($(#[$what:meta])+ pub fn $call:ident by $compare:ident -> $answer:ty;)+) => {$(
+    ($($(#[$what:meta])+ pub fn $call:ident($compare:ident) -> $answer:ty;)+) => {$(
         $(#[$what])+
         ///
         /// # Errors
@@ -60,7 +60,7 @@ macro_rules! compared {
     )+};
 }
 
-impl<'a> Bitmap<'a> {
+impl Bitmap<'_> {
     writers! {
         /// Each value negated, written into `out`.
         pub fn not_into(self) of self.len, by |out| call!(row_mask_not(self, out));
@@ -75,11 +75,11 @@ impl<'a> Bitmap<'a> {
 
     compared! {
         /// How many values are true in both.
-        pub fn and_count by row_mask_and_count -> usize;
+        pub fn and_count(row_mask_and_count) -> usize;
         /// Whether some value is true in both.
-        pub fn intersects by row_mask_intersects -> bool;
+        pub fn intersects(row_mask_intersects) -> bool;
         /// Whether each true value of this one is true in `other`.
-        pub fn is_subset by row_mask_is_subset -> bool;
+        pub fn is_subset(row_mask_is_subset) -> bool;
     }
 
     makers! {
@@ -113,11 +113,6 @@ impl<'a> Bitmap<'a> {
     fn of_length_of(self, other: Bitmap<'_>) -> Result<(), Error> {
         Error::LengthsDiffer { left: self.len, right: other.len }.unless(self.len == other.len)
     }
-
-    // The first bytes, where the values begin with a whole one.
-    fn first_bytes(self, count: usize) -> &'a [u8] {
-        &self.bytes[self.offset / 8..][..count]
-    }
 }
 
 /// Equal where the values are: bytes, offsets and the bits around the values don't count.
@@ -130,8 +125,9 @@ impl PartialEq<Bitmap<'_>> for Bitmap<'_> {
         let lie_alike = self.offset.is_multiple_of(8) && other.offset.is_multiple_of(8);
         let whole = if lie_alike && self.len >= MANY { self.len / 8 } else { 0 };
         let (first, second) = (self.part(8 * whole..self.len), other.part(8 * whole..self.len));
-        (whole == 0 || self.first_bytes(whole) == other.first_bytes(whole))
-            && call!(row_mask_equal(first, beside second))
+        let (left, right) = (&self.bytes[self.offset / 8..], &other.bytes[other.offset / 8..]);
+        (whole == 0 || left[..whole] == right[..whole])
+            && (first.is_empty() || call!(row_mask_equal(first, beside second)))
     }
 }
 

@@ -69,8 +69,7 @@ impl BitmapBuf {
     pub fn truncate(&mut self, len: usize) {
         if len < self.len {
             self.bytes.truncate(room_for(len));
-            let end = 8 * self.bytes.len();
-            mask_c::row_mask_fill_range(&mut self.bytes, len, end, false);
+            mask_c::clear_behind(&mut self.bytes, len);
             self.len = len;
         }
     }

@@ -66,8 +66,7 @@ impl BitmapBuf {
         /// So many values, all of them `value`, written into `out`.
         pub fn all_into(len: usize, value: bool) of len, by |out| {
             out.fill(if value { 0xFF } else { 0 });
-            let end = 8 * out.len();
-            mask_c::row_mask_fill_range(out, len, end, false);
+            mask_c::clear_behind(out, len);
         };
         /// As [`from_fn`](Self::from_fn), written into `out`.
         pub fn from_fn_into(len: usize, value: impl FnMut(usize) -> bool) of len, by |out| pack_fn(len, value, out);

@@ -15,7 +15,12 @@ type Block = [MaybeUninit<u16>; BLOCK];
 /// Takes values, as many as there are or as the block has places, and answers how many these are.
 #[inline]
 fn take(block: &mut Block, values: impl Iterator<Item = bool>) -> usize {
-    block.iter_mut().zip(values).map(|(place, value)| place.write(value.into())).count()
+    let mut count = 0;
+    for (place, value) in block.iter_mut().zip(values) {
+        place.write(value.into());
+        count += 1;
+    }
+    count
 }
 
 /// Writes each byte of `value(0)`, `value(1)` and so on, to just the bytes that `len` values take.
@@ -100,11 +105,10 @@ impl Extend<bool> for BitmapBuf {
                 let _ = self.bytes.try_reserve(room_for(values.size_hint().0));
             }
             let count = take(&mut block, values.by_ref());
+            let rows = &mut block[..count];
             // SAFETY: so many were taken; it writes each byte, and the last byte has eight values.
-            let added = unsafe {
-                let rows = as_items(&mut block[..count]);
-                self.add(count, |out| pack_rows(rows, |it| *it != 0, out))
-            };
+            let added =
+                unsafe { self.add(count, |out| pack_rows(as_items(rows), |it| *it != 0, out)) };
             granted(added, count);
             if count < BLOCK {
                 return;

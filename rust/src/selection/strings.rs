@@ -70,7 +70,7 @@ impl<O: Offset> Strings<'_, O> {
     /// The chosen values, as offsets and bytes of their own. Just the offsets of these are read.
     ///
     /// # Errors
-    /// [`Error::RowsDiffer`] where there is not one value for each row of a column, and [`Error::OutOfMemory`].
+    /// [`Error::RowsDiffer`] where there are not [`Selection::len`] values, and [`Error::OutOfMemory`].
     pub fn choose(self, selection: &Selection) -> Result<(Vec<O>, Vec<u8>), Error> {
         selection.has_one_for_each(self.len())?;
         let (offsets, mut size) = (self.offsets(), 0);

@@ -30,14 +30,10 @@ fn each_public_call_is_here() {
             }
             let text = fs::read_to_string(path).unwrap();
             let calls = text.lines().filter_map(|line| line.trim().strip_prefix("pub fn "));
-            // (two where a macro makes them as a pair)
+            // (several where a macro makes them in the same way)
             let names = calls.filter_map(|it| it.split(['(', '<']).next());
             let names = names.flat_map(|it| it.split(", "));
-            // (and those that a macro makes, each of a line that names its loop)
-            let made = text.lines().filter_map(|line| line.split_once(" by row_mask_"));
-            let made = made.flat_map(|(it, _)| it.rsplit(": ").next().unwrap().split(", "));
-            let all_names = names.filter(|it| !it.starts_with('$')).chain(made.map(str::trim));
-            all.extend(all_names.map(str::to_owned));
+            all.extend(names.filter(|it| !it.starts_with('$')).map(str::to_owned));
         }
     }
     let mut all = vec![];
