@@ -1,13 +1,13 @@
 //! Masks one after another.
 
-ghost use Rattle.std.specs.Prelude.{◌≡◌, ◌+◌, ◌<◌, ◌≤◌, ◌^◌, ◌⊎◌, ◌++◌, IfOk, IfErr, OnOk, Some, MatchOption, List, map, alloc_error, length};
+ghost use Rattle.std.specs.Prelude.{◌≡◌, ◌+◌, ◌<◌, ◌≤◌, ◌^◌, ◌⊎◌, ◌++◌, IfOk, IfErr, OnOk, Some, MatchOption, true, false, ◌↔◌, IsTrue, List, map, alloc_error, length};
 ghost use Rattle.std.specs.Borrow.{Bor};
 ghost use Rattle.std.specs.Iterator.{IsFinite, Drains};
 ghost use Rattle.std.specs.Iterator.Runs.{WholeRun};
 ghost use Rattle.mask_bits.specs.Buffer.{values};
 ghost use Rattle.mask_bits.specs.Lists.{concat};
 ghost use Rattle.mask_bits.specs.Positions.{count};
-ghost use Rattle.vortex_mask.specs.Concat.{lists_of, total_len, Joins};
+ghost use Rattle.vortex_mask.specs.Concat.{lists_of, total_len, Joins, AreAll};
 ghost use Rattle.vortex_mask.specs.Caches.{caches};
 ghost use Rattle.vortex_mask.specs.Mask.{truth, variant, fitting_variant, all_true};
 ghost use Rattle.vortex_mask.specs.MaskValues.{no_caches};
@@ -93,15 +93,29 @@ impl Mask {
         let Some(len) = total_len(masks) else {
             return Err(MaskError::LengthOverflow);
         };
-        if masks.iter().all(|mask| mask.all_true()) {
+        if all_true(masks) {
             return Ok(Mask::AllTrue(len));
         }
-        if masks.iter().all(|mask| mask.all_false()) {
+        if all_false(masks) {
             return Ok(Mask::AllFalse(len));
         }
         let (buffer, true_count) = buffer_of(alloc, len, masks)?;
         Mask::from_counted_buffer(alloc, buffer, true_count, None)
     }
+}
+
+// Whether each value of each mask is true.
+fn all_true(masks: &[&Mask]) -> bool
+    ensures { IsTrue result ↔ AreAll true masks.now }
+{
+    masks.iter().all(|mask| mask.all_true())
+}
+
+// Whether each value of each mask is false.
+fn all_false(masks: &[&Mask]) -> bool
+    ensures { IsTrue result ↔ AreAll false masks.now }
+{
+    masks.iter().all(|mask| mask.all_false())
 }
 
 // The sum of the masks' lengths, if it fits.
