@@ -58,7 +58,6 @@ pub(super) fn bits_of_ranks(ranks: &[usize], next: &mut usize, at: usize, end: u
 }
 
 // The bits of those ranks where there are four or more, unless they are among the last three of all.
-#[tactic(auto, using(crate::proofs::Kernels::RankWordLemmas::gathered_none))]
 #[inline(always)]
 fn bits_of_most(ranks: &[usize], next: &mut usize, at: usize, end: usize) -> u64
     requires ascending { IsStrictlyIncreasing ranks.now }

@@ -68,15 +68,27 @@ impl Mask {
         let Some(len) = total_len(masks) else {
             return Err(MaskError::LengthOverflow);
         };
-        if masks.iter().all(|mask| mask.all_true()) {
+        if all_true(masks) {
             return Ok(Mask::AllTrue(len));
         }
-        if masks.iter().all(|mask| mask.all_false()) {
+        if all_false(masks) {
             return Ok(Mask::AllFalse(len));
         }
         let (buffer, true_count) = buffer_of(len, masks)?;
         Mask::from_counted_buffer(buffer, true_count, None)
     }
+}
+
+// Whether each value of each mask is true.
+#[inline]
+fn all_true(masks: &[&Mask]) -> bool {
+    masks.iter().all(|mask| mask.all_true())
+}
+
+// Whether each value of each mask is false.
+#[inline]
+fn all_false(masks: &[&Mask]) -> bool {
+    masks.iter().all(|mask| mask.all_false())
 }
 
 // The sum of the masks' lengths, if it fits.
