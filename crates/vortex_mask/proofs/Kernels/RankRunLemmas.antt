@@ -1,5 +1,6 @@
 -- An iterator that yields ascending numbers, as it is handed to the kernel that goes by them.
-use Rattle.vortex_mask.proofs.Common.{common_steps, ◌≡◌, ℕ, ◌<◌, true, List, length, take, Option, None, refl, sym, subst, ap, ◌∙◌, arith, YieldsList, YieldsList-so_far, YieldsList-end, map-id, All-take, Yields, Run, EachRunFrom, WholeRun, IsStrictlyIncreasing, at_indices, AreRanks, YieldsRun, All}
+use Rattle.vortex_mask.proofs.Common.{common_steps, ◌≡◌, ℕ, ◌<◌, true, List, length, take, Option, None, refl, sym, subst, ap, ◌∙◌, arith, YieldsList, YieldsList-so_far, YieldsList-end, map-id, All-take, Yields, Run, EachRunFrom, WholeRun, IsStrictlyIncreasing, at_indices, AreRanks, All}
+use Rattle.std.specs.Iterator.Runs.{YieldsRun}
 use Rattle.vortex_mask.proofs.Lists.PlaceListLemmas.{ascending-take}
 
 module _ {S : Type 0} (steps : S → Option ℕ → S → Type 0) (s : S) (all : List ℕ) (yields : YieldsList steps (λ x. x) s all) where
