@@ -78,7 +78,7 @@ pub(crate) fn kernels(name: &str, o: &mut Operands, text: &mut Text) -> Found {
             => intersect_bit_buffer_by_rank_indices::<Portable>(alloc, &rows.buffer, &ranks.indices),
         "kernel.intersect_bit_buffer_by_rank_indices_by_loop" (rows ranks) [ranks.fits(rows), "a rank for each row"]
             => intersect_bit_buffer_by_rank_indices::<PortableLoop>(alloc, &rows.buffer, &ranks.indices),
-        "kernel.intersect_by_rank_indices" (rows ranks) [ranks.buffer.len() == rows.indices.len(), "a rank for each row"]
+        "kernel.intersect_by_rank_indices" (rows ranks) [ranks.buffer.len() == rows.indices.len(), "a rank for each"]
             => intersect_by_rank_indices(alloc, rows.buffer.len(), &rows.indices, &ranks.indices),
         "kernel.intersect_mask_driven" (rows ranks) [ranks.fits(rows), "a rank for each row"]
             => intersect_mask_driven::<Portable, _>(

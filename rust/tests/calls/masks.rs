@@ -65,7 +65,8 @@ pub(crate) fn pair(name: &str, o: &mut Operands, text: &mut Text) -> Found {
         "equal" (a b) => a == b,
         "equal_swapped" (a b) => b == a,
         "intersect_by_rank" (a b) [b.len() == a.true_count(), "a rank for each row"] => a.intersect_by_rank(b),
-        "intersect_by_rank_counted" (a b) [b.len() == a.true_count(), "a rank for each row"] => a.intersect_by_rank_counted(b),
+        "intersect_by_rank_counted" (a b) [b.len() == a.true_count(), "a rank for each row"]
+            => a.intersect_by_rank_counted(b),
         "rank_path" (a b) => text.put_debug(&rank_path(there!(a.values()), there!(b.values()))),
         "intersect_all_by_rank" (masks) => stack(text, masks),
         "concat" (masks) => Mask::concat(masks.iter()),
