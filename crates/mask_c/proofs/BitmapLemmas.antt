@@ -1,9 +1,5 @@
 -- Lists of bitmaps: their values and parts, and the words that show them.
-use Rattle.mask_c.proofs.Common.{◌≡◌, ◌↔◌, ℕ, ◌+◌, ◌-◌, ◌<◌, ◌≤◌, ◌&&◌, not, Bool, true, false, List, [], ◌∷◌, length, get_or, slice_range, slice_get, Some, refl, sym, ap, ◌∙◌, add_assoc, inl, inr, arith, IsTrue, cases_lt, false≢true, ext_get_or, length-between, get_or-between, slice_get-get_or, bitmap, backing_bit, and_not_of, combined, count, count_below, repeated, IsSubset}
-use Rattle.mask_bits.proofs.Lists.Words.BackingBitLemmas.{length-bitmap, get_or-bitmap}
-use Rattle.mask_bits.proofs.Lists.BooleanLemmas.{get_or-combined, length-combined}
-use Rattle.mask_bits.proofs.Lists.CountLemmas.{all_false_from_count, count-repeated_false, get_or-repeated, length-repeated}
-use Rattle.mask_bits.proofs.Lists.Places.SelectLemmas.{count-part_further}
+use Rattle.mask_c.proofs.Common.{◌≡◌, ◌↔◌, ℕ, ◌+◌, ◌-◌, ◌<◌, ◌≤◌, ◌&&◌, not, Bool, true, false, List, [], ◌∷◌, length, get_or, slice_range, slice_get, Some, refl, sym, ap, ◌∙◌, add_assoc, inl, inr, arith, IsTrue, cases_lt, false≢true, ext_get_or, length-between, get_or-between, slice_get-get_or, bitmap, backing_bit, and_not_of, combined, count, count_below, repeated, IsSubset, length-bitmap, get_or-bitmap, get_or-combined, length-combined, all_false_from_count, count-repeated_false, get_or-repeated, length-repeated, count-part_further}
 
 -- value i is the backing bit at offset + i
 pub slice_get-bitmap : (bytes : List ℕ) (offset len i : ℕ) → i < len → slice_get (bitmap bytes offset len) i ≡ Some (backing_bit bytes (offset + i))

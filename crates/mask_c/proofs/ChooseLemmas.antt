@@ -1,9 +1,5 @@
 -- The places of started words, and rows at one more index.
-use Rattle.mask_c.proofs.Common.{◌≡◌, ℕ, ◌+◌, ◌*◌, ◌<◌, ◌≤◌, Bool, List, [], ◌∷◌, ◌++◌, length, get_or, set, take, drop, map, slice_get, Some, sym, subst, ap, ◌∙◌, add-zero, arith, All, length-drop, length-take, drop-drop, drop-set-lt, take_all, take_more_set, All-weaker, indices_from, positions, padded_part, word_bits, items_at}
-use Rattle.mask_bits.proofs.Lists.Words.PaddedLemmas.{length-padded_part}
-use Rattle.mask_bits.proofs.Lists.Places.PlaceLemmas.{positions-within}
-use Rattle.mask_bits.proofs.Lists.Places.SelectLemmas.{indices_from-moved, places-word_more}
-use Rattle.vortex_mask.proofs.Lists.StartedWordLemmas.{part-same, places-same}
+use Rattle.mask_c.proofs.Common.{◌≡◌, ℕ, ◌+◌, ◌*◌, ◌<◌, ◌≤◌, Bool, List, [], ◌∷◌, ◌++◌, length, get_or, set, take, drop, map, slice_get, Some, sym, subst, ap, ◌∙◌, add-zero, arith, All, length-drop, length-take, drop-drop, drop-set-lt, take_all, take_more_set, All-weaker, indices_from, positions, padded_part, word_bits, items_at, length-padded_part, positions-within, indices_from-moved, places-word_more, part-same, places-same}
 use Rattle.mask_c.proofs.StringLemmas.{items_at-more}
 
 -- a started part has the places of its values

@@ -1,6 +1,5 @@
 -- Offsets and bytes say which strings they are of: those that two calls write, the chosen ones.
-use Rattle.mask_c.proofs.Common.{◌≡◌, ◌+◌, ◌-◌, ◌<◌, ◌≤◌, ℕ, zero, suc, Bool, Option, Some, None, slice_get, List, [], ◌∷◌, ◌++◌, append_assoc, length, get_or, take, drop, map, slice_range, refl, sym, ap, ap₂, ◌∙◌, arith, drop-append_seam, take-append_seam, concat, cons_option, IsNonDecreasing, option_map, length-between, get_or_from_slice_get, slice_get-map, ext_get_or, get_or-map, length-append, length-map, nil_from_length, length-map-range_with_len, get_or-map-range_with_len, chosen, positions, ends_from, items_at, offsets_of, sizes, strings}
-use Rattle.mask_bits.proofs.Lists.ChooseLemmas.{chosen_at_positions}
+use Rattle.mask_c.proofs.Common.{◌≡◌, ◌+◌, ◌-◌, ◌<◌, ◌≤◌, ℕ, zero, suc, Bool, Option, Some, None, slice_get, List, [], ◌∷◌, ◌++◌, append_assoc, length, get_or, take, drop, map, slice_range, refl, sym, ap, ap₂, ◌∙◌, arith, drop-append_seam, take-append_seam, concat, cons_option, IsNonDecreasing, option_map, length-between, get_or_from_slice_get, slice_get-map, ext_get_or, get_or-map, length-append, length-map, nil_from_length, length-map-range_with_len, get_or-map-range_with_len, chosen, positions, ends_from, items_at, offsets_of, sizes, strings, chosen_at_positions}
 use Rattle.mask_c.proofs.StringLemmas.{length-sizes, slice_get-sizes}
 
 -- ---- the strings of some offsets and bytes

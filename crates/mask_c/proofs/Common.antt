@@ -12,12 +12,12 @@ pub use Rattle.mask_bits.proofs.Common.{IsNonDecreasing, bits_of_words, combined
 pub use Rattle.mask_c.specs.Bitmap.{AreClearBehind, IsFilled, IsSubset}
 unfoldable pub use Rattle.mask_c.specs.Strings.{sizes, strings}
 pub use Rattle.mask_c.specs.Strings.{ends_from, items_at, offsets_of}
-pub use Rattle.std.proofs.Common.{add_assoc, below_more, get_or-set_other, get_or-set_same, slice_set}
+pub use Rattle.std.proofs.Common.{add_assoc, below_more, get_or-set_other, get_or-set_same, slice_set, rules}
 pub use Rattle.std.proofs.Math.ListN.{drop_of_length-le}
 pub use Rattle.std.proofs.Math.Seq.{drop-append_seam, take-append_seam, take-suc-set}
 pub use Rattle.std.proofs.lemmas.Bool.{false≢true}
-pub use Rattle.std.proofs.lemmas.List.{drop_at, length-take-le, map-set, take_more_set}
-pub use Rattle.std.proofs.lemmas.List.Elements.{filter_map-append}
+pub use Rattle.std.proofs.lemmas.List.{drop_at, length-take-le, map-set, take_more_set, take-take}
+pub use Rattle.std.proofs.lemmas.List.Elements.{filter_map-append, All-append, All-take}
 pub use Rattle.std.proofs.lemmas.List.Folds.{concat-append}
 pub use Rattle.std.proofs.lemmas.List.Sums.{sum_by-append, sum_by_more}
 pub use Rattle.std.proofs.lemmas.Option.{unwrap_or-slice_get}
@@ -25,3 +25,28 @@ pub use Rattle.std.specs.Bool.{IsTrue}
 pub use Rattle.std.specs.Int.RustNames.{bit_and, bit_or}
 pub use Rattle.std.specs.List.{All, concat, sum}
 pub use Rattle.std.specs.Option.{unwrap_or}
+pub use Rattle.mask_bits.proofs.Lists.BooleanLemmas.{combined-append, combined-take, get_or-combined, length-combined}
+pub use Rattle.mask_bits.proofs.Lists.BooleanValueLemmas.{value_of_true_at}
+pub use Rattle.mask_bits.proofs.Lists.ChooseLemmas.{chosen_at_positions}
+pub use Rattle.mask_bits.proofs.Lists.CountLemmas.{all_false_from_count, all_true_from_count, count-append, count-repeated_false, count_below-le, get_or-padded, get_or-repeated, length-repeated}
+pub use Rattle.mask_bits.proofs.Lists.LawLemmas.{chosen-items_where_true, length-chosen, length-rank_intersection, rank_intersection_value}
+pub use Rattle.mask_bits.proofs.Lists.Places.PlaceLemmas.{count-le-length, count-trues, positions-within, trues}
+pub use Rattle.mask_bits.proofs.Lists.Places.PushLemmas.{no_places}
+pub use Rattle.mask_bits.proofs.Lists.Places.SelectLemmas.{count-part_further, count-word_more, indices_from-append, indices_from-moved, places-word_more, positions-lowest}
+pub use Rattle.mask_bits.proofs.Lists.RankLemmas.{length-true_at, narrow, rank_intersection-all_true, rank_intersection-narrow}
+pub use Rattle.mask_bits.proofs.Lists.Runs.RunLemmas.{runs_from-moved}
+pub use Rattle.mask_bits.proofs.Lists.Words.BackingBitLemmas.{bit-window, bitmap-append, bitmap-drop, front-split, get_or-bitmap, length-bitmap, no_values}
+pub use Rattle.mask_bits.proofs.Lists.Words.BlockLemmas.{block-more, indices-none}
+pub use Rattle.mask_bits.proofs.Lists.Words.FrontLemmas.{behind-further, behind-later, front-same, get_or-put_mid_above, get_or-put_mid_below, get_or-put_mid_inside, get_or-window, length-window, put-before, window-take, window_from_bits}
+pub use Rattle.mask_bits.proofs.Lists.Words.LowestLemmas.{low}
+pub use Rattle.mask_bits.proofs.Lists.Words.PaddedLemmas.{get_or-padded_part, length-padded_part, padded_part-whole, padded_part_from_values}
+pub use Rattle.mask_bits.proofs.Lists.Words.ShiftLemmas.{bit_at-low_mask, bit_at-mod, bit_at-past_mask, bit_at-shl_high, bit_at-shl_low, get_or-word_bits_or}
+pub use Rattle.mask_bits.proofs.Lists.Words.WordLemmas.{count-word_bits, get_or-word_bits, length-word_bits}
+pub use Rattle.mask_c.specs.declared.runs.RowMaskRun.{RowMaskRun}
+pub use Rattle.std.proofs.lemmas.Nat.{le_bytes_8}
+pub use Rattle.std.proofs.lemmas.Slice.{take-put_mid}
+pub use Rattle.std.specs.Int.{from_le_bytes, to_le_bytes, w64}
+pub use Rattle.vortex_mask.proofs.Lists.DepositLawLemmas.{deposit_is_rank_intersection}
+pub use Rattle.vortex_mask.proofs.Lists.DepositedWordLemmas.{deposit_is_word_of_rank_intersection, started_words_are_the_list}
+pub use Rattle.vortex_mask.proofs.Lists.PlaceListLemmas.{ascending-take, bit_of_pow, narrowed_at, none-is, rises_to}
+pub use Rattle.vortex_mask.proofs.Lists.StartedWordLemmas.{IsAt, count_below-within, list-from_bits, part-same, place-after_within, place-next, place-within, places-same, rank_place-fits}

@@ -1,6 +1,5 @@
 -- Bits that are written with one value.
-use Rattle.mask_c.proofs.Common.{common_steps, ◌≡◌, nat_eq, ℕ, ◌+◌, ◌-◌, ◌*◌, ◌<◌, ◌≤◌, ◌||◌, ◌&&◌, not, Bool, true, false, List, length, replicate, refl, ap, arith, bit_at, nat_tests, cases_lt, length-replicate, get_or-replicate, bit_at-zero, bit_at_ones, backing_bit, IsFilled}
-use Rattle.mask_bits.proofs.Lists.Words.FrontLemmas.{get_or-put_mid_below, get_or-put_mid_above, get_or-put_mid_inside}
+use Rattle.mask_c.proofs.Common.{common_steps, ◌≡◌, nat_eq, ℕ, ◌+◌, ◌-◌, ◌*◌, ◌<◌, ◌≤◌, ◌||◌, ◌&&◌, not, Bool, true, false, List, length, replicate, refl, ap, arith, bit_at, nat_tests, cases_lt, length-replicate, get_or-replicate, bit_at-zero, bit_at_ones, backing_bit, IsFilled, get_or-put_mid_below, get_or-put_mid_above, get_or-put_mid_inside}
 use borrow.Rule.Slice.PartMut.{put_mid}
 
 -- none of them

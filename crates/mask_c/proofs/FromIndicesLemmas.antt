@@ -1,8 +1,5 @@
 -- A bitmap whose set bits stand at a list of positions.
-use Rattle.mask_c.proofs.Common.{common_steps, ◌≡◌, nat_eq, ℕ, ◌+◌, ◌*◌, ◌<◌, ◌≤◌, ◌||◌, List, ◌++◌, length, get_or, take, sym, ap, ◌∙◌, arith, or_comm, div_ceil, All, list_any, ne_eqb, get_or_append_left, All-weaker, list_any_more, list_any_none, bitmap, backing_bit, true_at, AreClearBehind}
-use Rattle.mask_bits.proofs.Lists.BooleanValueLemmas.{value_of_true_at}
-use Rattle.mask_bits.proofs.Lists.RankLemmas.{length-true_at}
-use Rattle.vortex_mask.proofs.Lists.StartedWordLemmas.{list-from_bits}
+use Rattle.mask_c.proofs.Common.{common_steps, ◌≡◌, nat_eq, ℕ, ◌+◌, ◌*◌, ◌<◌, ◌≤◌, ◌||◌, List, ◌++◌, length, get_or, take, sym, ap, ◌∙◌, arith, or_comm, div_ceil, All, list_any, ne_eqb, get_or_append_left, All-weaker, list_any_more, list_any_none, bitmap, backing_bit, true_at, AreClearBehind, value_of_true_at, length-true_at, list-from_bits}
 use Rattle.mask_c.proofs.LastLemmas.{front-appended}
 
 -- the set bits of the bytes are those at some positions

@@ -1,10 +1,5 @@
 -- The ranks of the last values of a bitmap, as set bits.
-use Rattle.mask_c.proofs.Common.{◌≡◌, ℕ, ◌+◌, ◌-◌, ◌<◌, ◌≤◌, ◌^◌, Bool, false, nat_eq, List, ◌++◌, length, get_or, take, drop, sym, ap, ◌∙◌, inl, inr, arith, bit_or, All, list_any, IsStrictlyIncreasing, or_comm, or-false, common_steps, cases_lt, cases_eq, drop_more, ext_get_or, get_or-drop, get_or-take, get_or_append_left, get_or-append_right, length-append, length-drop, length-take, take-append-drop, All-from_get_or, list_any-append, bit_at-zero, true_at, word_bits, AreSplit}
-use Rattle.mask_bits.proofs.Lists.BooleanValueLemmas.{value_of_true_at}
-use Rattle.mask_bits.proofs.Lists.RankLemmas.{length-true_at}
-use Rattle.mask_bits.proofs.Lists.Words.ShiftLemmas.{get_or-word_bits_or}
-use Rattle.mask_bits.proofs.Lists.Words.WordLemmas.{get_or-word_bits}
-use Rattle.vortex_mask.proofs.Lists.PlaceListLemmas.{bit_of_pow, none-is, rises_to}
+use Rattle.mask_c.proofs.Common.{◌≡◌, ℕ, ◌+◌, ◌-◌, ◌<◌, ◌≤◌, ◌^◌, Bool, false, nat_eq, List, ◌++◌, length, get_or, take, drop, sym, ap, ◌∙◌, inl, inr, arith, bit_or, All, list_any, IsStrictlyIncreasing, or_comm, or-false, common_steps, cases_lt, cases_eq, drop_more, ext_get_or, get_or-drop, get_or-take, get_or_append_left, get_or-append_right, length-append, length-drop, length-take, take-append-drop, All-from_get_or, list_any-append, bit_at-zero, true_at, word_bits, AreSplit, value_of_true_at, length-true_at, get_or-word_bits_or, get_or-word_bits, bit_of_pow, none-is, rises_to}
 
 -- the ranks from number `cut` on are at least `from`, and are the set bits of a word
 pub record AreGathered (ranks : List ℕ) (from cut bits : ℕ) : Type 0 where

@@ -1,7 +1,5 @@
 -- Runs from an index on, one after another, as many as there is room for.
-use Rattle.mask_c.proofs.Common.{◌≡◌, ℕ, suc, ◌+◌, ◌<◌, Bool, List, [], ◌∷◌, ◌++◌, append_assoc, length, set, take, map, sym, ap, ◌∙◌, add-zero, arith, take-suc-set, length-map, map-append, runs_from}
-use Rattle.mask_bits.proofs.Lists.Runs.RunLemmas.{runs_from-moved}
-use Rattle.mask_c.specs.declared.runs.RowMaskRun.{RowMaskRun}
+use Rattle.mask_c.proofs.Common.{◌≡◌, ℕ, suc, ◌+◌, ◌<◌, Bool, List, [], ◌∷◌, ◌++◌, append_assoc, length, set, take, map, sym, ap, ◌∙◌, add-zero, arith, take-suc-set, length-map, map-append, runs_from, runs_from-moved, RowMaskRun}
 
 -- a run as a pair
 abbrev pub pair : RowMaskRun → ℕ × ℕ

@@ -1,10 +1,5 @@
 -- Strings at some indices: their sizes, where they end, and their bytes one behind another.
-use Rattle.mask_c.proofs.Common.{common_steps, ◌≡◌, ℕ, zero, suc, ◌+◌, ◌-◌, ◌*◌, ◌<◌, ◌≤◌, Bool, true, false, List, [], ◌∷◌, ◌++◌, append_assoc, append-nil, length, get_or, set, take, drop, map, slice_range, slice_get, Some, refl, sym, subst, ap, ◌∙◌, arith, take-add, All, concat, items_where_true, range_with_len, sum, IsNonDecreasing, drop-drop, drop-set-lt, get_or-append_right, length-append, length-take, map-id, take-append-drop, take_all, take_more, take_more_set, All-weaker, filter_map-append, concat-append, length-map-range_with_len, get_or-map-range_with_len, sum_by-append, sum_by_more, get_or_from_slice_get, slice_get-get_or, chosen, count, indices_from, positions, ends_from, items_at, offsets_of, sizes, strings}
-use Rattle.std.proofs.lemmas.List.{take-take}
-use Rattle.mask_bits.proofs.Lists.ChooseLemmas.{chosen_at_positions}
-use Rattle.mask_bits.proofs.Lists.LawLemmas.{chosen-items_where_true}
-use Rattle.mask_bits.proofs.Lists.Places.PlaceLemmas.{positions-within}
-use Rattle.mask_bits.proofs.Lists.Places.SelectLemmas.{indices_from-append}
+use Rattle.mask_c.proofs.Common.{common_steps, ◌≡◌, ℕ, zero, suc, ◌+◌, ◌-◌, ◌*◌, ◌<◌, ◌≤◌, Bool, true, false, List, [], ◌∷◌, ◌++◌, append_assoc, append-nil, length, get_or, set, take, drop, map, slice_range, slice_get, Some, refl, sym, subst, ap, ◌∙◌, arith, take-add, All, concat, items_where_true, range_with_len, sum, IsNonDecreasing, drop-drop, drop-set-lt, get_or-append_right, length-append, length-take, map-id, take-append-drop, take_all, take_more, take_more_set, All-weaker, filter_map-append, concat-append, length-map-range_with_len, get_or-map-range_with_len, sum_by-append, sum_by_more, get_or_from_slice_get, slice_get-get_or, chosen, count, indices_from, positions, ends_from, items_at, offsets_of, sizes, strings, take-take, chosen_at_positions, chosen-items_where_true, positions-within, indices_from-append}
 
 -- ---- one string
 

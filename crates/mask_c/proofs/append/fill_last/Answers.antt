@@ -1,6 +1,5 @@
-use Rattle.mask_c.proofs.Common.{◌/◌, append-nil, arith, div_ceil, drop-set-lt}
+use Rattle.mask_c.proofs.Common.{◌/◌, append-nil, arith, div_ceil, drop-set-lt, no_values}
 use Rattle.mask_c.proofs.AppendLemmas.{filled-values}
-use Rattle.mask_bits.proofs.Lists.Words.BackingBitLemmas.{no_values}
 use Rattle.mask_c.proofs.append.fill_last.Goals as goal
 
 pub returns-then-low-eq0-clause-values : goal.returns-then-low-eq0-clause-values

@@ -1,5 +1,4 @@
-use Rattle.mask_c.proofs.Common.{ℕ, Bool, List, ◌≡◌, ◌+◌, ◌-◌, ◌++◌, length, drop, append_assoc, subst, sym, ap, ◌∙◌, arith, div_ceil, length-drop, take_rest, bitmap, AreClearBehind}
-use Rattle.mask_bits.proofs.Lists.Words.BackingBitLemmas.{bitmap-append}
+use Rattle.mask_c.proofs.Common.{ℕ, Bool, List, ◌≡◌, ◌+◌, ◌-◌, ◌++◌, length, drop, append_assoc, subst, sym, ap, ◌∙◌, arith, div_ceil, length-drop, take_rest, bitmap, AreClearBehind, bitmap-append}
 use Rattle.mask_c.proofs.AppendLemmas.{ArePut, appended-values, appended-clear, appended-behind}
 use borrow.Rule.Slice.PartMut.{put_mid}
 use Rattle.mask_c.proofs.append.row_mask_append.Goals as goal

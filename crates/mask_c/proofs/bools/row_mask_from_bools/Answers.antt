@@ -1,6 +1,4 @@
-use Rattle.mask_c.proofs.Common.{Bool, List, ◌<◌, ◌*◌, ◌/◌, ◌%◌, false, length, get_or, take, drop, sym, ap, ◌∙◌, arith, ext_get_or, get_or-take, length-drop, length-take, length-take-le, take-append-drop, take_rest, bitmap, word_bits}
-use Rattle.mask_bits.proofs.Lists.Words.WordLemmas.{length-word_bits}
-use Rattle.vortex_mask.proofs.Lists.StartedWordLemmas.{list-from_bits}
+use Rattle.mask_c.proofs.Common.{Bool, List, ◌<◌, ◌*◌, ◌/◌, ◌%◌, false, length, get_or, take, drop, sym, ap, ◌∙◌, arith, ext_get_or, get_or-take, length-drop, length-take, length-take-le, take-append-drop, take_rest, bitmap, word_bits, length-word_bits, list-from_bits}
 use Rattle.mask_c.proofs.LastLemmas.{written}
 use Rattle.mask_c.proofs.bools.row_mask_from_bools.Goals as goal
 

@@ -1,5 +1,4 @@
-use Rattle.mask_c.proofs.Common.{ap, ◌∙◌, length, arith, length-take, chosen}
-use Rattle.mask_bits.proofs.Lists.LawLemmas.{length-chosen}
+use Rattle.mask_c.proofs.Common.{ap, ◌∙◌, length, arith, length-take, chosen, length-chosen}
 use Rattle.mask_c.proofs.choose.choose_small.Goals as goal
 
 pub returns : goal.returns

@@ -1,6 +1,4 @@
-use Rattle.mask_c.proofs.Common.{◌&&◌, sym, ◌∙◌, bitmap, and_of}
-use Rattle.mask_bits.proofs.Lists.BooleanLemmas.{length-combined}
-use Rattle.mask_bits.proofs.Lists.Words.BackingBitLemmas.{length-bitmap}
+use Rattle.mask_c.proofs.Common.{◌&&◌, sym, ◌∙◌, bitmap, and_of, length-combined, length-bitmap}
 use Rattle.mask_c.proofs.BitmapLemmas.{some_from_none}
 use Rattle.mask_c.proofs.compare.row_mask_intersects.Goals as goal
 

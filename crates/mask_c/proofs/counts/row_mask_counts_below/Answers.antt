@@ -1,5 +1,4 @@
-use Rattle.mask_c.proofs.Common.{◌<◌, ◌≤◌, ◌≢◌, length, map, get_or, get_or-set_same, get_or-set_other, below_more, sym, ◌∙◌, arith, ext_get_or, get_or-map, length-map, All-get_or, bitmap, count_below}
-use Rattle.vortex_mask.proofs.Lists.StartedWordLemmas.{count_below-within}
+use Rattle.mask_c.proofs.Common.{◌<◌, ◌≤◌, ◌≢◌, length, map, get_or, get_or-set_same, get_or-set_other, below_more, sym, ◌∙◌, arith, ext_get_or, get_or-map, length-map, All-get_or, bitmap, count_below, count_below-within}
 use Rattle.mask_c.proofs.BitmapLemmas.{count-runs_on}
 use Rattle.mask_c.proofs.counts.row_mask_counts_below.Goals as goal
 

@@ -1,6 +1,4 @@
-use Rattle.mask_c.proofs.Common.{ℕ, List, ◌+◌, ◌*◌, ◌++◌, take, map, sym, ap, ◌∙◌, arith, length-map, take_all, positions, word_bits}
-use Rattle.mask_bits.proofs.Lists.Places.PlaceLemmas.{count-le-length}
-use Rattle.mask_bits.proofs.Lists.Words.WordLemmas.{length-word_bits}
+use Rattle.mask_c.proofs.Common.{ℕ, List, ◌+◌, ◌*◌, ◌++◌, take, map, sym, ap, ◌∙◌, arith, length-map, take_all, positions, word_bits, count-le-length, length-word_bits}
 use Rattle.mask_c.proofs.ChooseLemmas.{positions-word_more}
 use Rattle.mask_c.proofs.IndexLemmas.{indices-within}
 use Rattle.mask_c.proofs.indices.indices_in_word.Goals as goal

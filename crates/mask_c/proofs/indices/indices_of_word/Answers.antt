@@ -1,7 +1,4 @@
-use Rattle.mask_c.proofs.Common.{ℕ, suc, set, ◌≡◌, ◌<◌, ◌-◌, ◌+◌, ◌^◌, ◌++◌, ◌∷◌, [], List, length, map, take, subst, sym, ap, ◌∙◌, append_assoc, inl, inr, arith, take-suc-set, bit_and, All, length-set, length-take, All-head, All-tail, positions, word_bits}
-use Rattle.mask_bits.proofs.Lists.Words.LowestLemmas.{low}
-use Rattle.mask_bits.proofs.Lists.Places.SelectLemmas.{positions-lowest}
-use Rattle.mask_bits.proofs.Lists.Places.PushLemmas.{no_places}
+use Rattle.mask_c.proofs.Common.{ℕ, suc, set, ◌≡◌, ◌<◌, ◌-◌, ◌+◌, ◌^◌, ◌++◌, ◌∷◌, [], List, length, map, take, subst, sym, ap, ◌∙◌, append_assoc, inl, inr, arith, take-suc-set, bit_and, All, length-set, length-take, All-head, All-tail, positions, word_bits, low, positions-lowest, no_places}
 use Rattle.mask_c.proofs.IndexLemmas.{stopped}
 use Rattle.mask_c.proofs.indices.indices_of_word.Goals as goal
 

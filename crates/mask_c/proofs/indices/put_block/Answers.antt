@@ -1,5 +1,4 @@
-use Rattle.mask_c.proofs.Common.{append-nil, arith}
-use Rattle.mask_bits.proofs.Lists.Words.BlockLemmas.{indices-none}
+use Rattle.mask_c.proofs.Common.{append-nil, arith, indices-none}
 use Rattle.mask_c.proofs.indices.put_block.Goals as goal
 
 pub returns-else-ones-ne0-clause-items : goal.returns-else-ones-ne0-clause-items

@@ -1,7 +1,5 @@
-use Rattle.mask_c.proofs.Common.{◌≡◌, Bool, List, ◌+◌, ◌*◌, length, map, min, take, sym, ap, ◌∙◌, arith, drop_of_length-le, take_all, count, indices_from, positions}
+use Rattle.mask_c.proofs.Common.{◌≡◌, Bool, List, ◌+◌, ◌*◌, length, map, min, take, sym, ap, ◌∙◌, arith, drop_of_length-le, take_all, count, indices_from, positions, count_below-le, length-bitmap}
 use Rattle.mask_c.proofs.IndexLemmas.{bitmap-rest, indices-within, all_indices, first_indices, word_done, word_counted}
-use Rattle.mask_bits.proofs.Lists.CountLemmas.{count_below-le}
-use Rattle.mask_bits.proofs.Lists.Words.BackingBitLemmas.{length-bitmap}
 use Rattle.mask_c.proofs.indices.row_mask_next_indices.Goals as goal
 
 pub returns-then-from-len-clause-indices : goal.returns-then-from-len-clause-indices

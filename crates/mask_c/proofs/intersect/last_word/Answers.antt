@@ -1,5 +1,4 @@
-use Rattle.mask_c.proofs.Common.{◌+◌, ◌*◌, ◌/◌, sym, ap, ◌∙◌, bitmap, count, padded_remainder}
-use Rattle.mask_bits.proofs.Lists.Words.WordLemmas.{count-word_bits}
+use Rattle.mask_c.proofs.Common.{◌+◌, ◌*◌, ◌/◌, sym, ap, ◌∙◌, bitmap, count, padded_remainder, count-word_bits}
 use Rattle.mask_c.proofs.LastLemmas.{count-remainder}
 use Rattle.mask_c.proofs.intersect.last_word.Goals as goal
 

@@ -1,11 +1,6 @@
-use Rattle.mask_c.proofs.Common.{false, subst, ◌≡◌, ◌<◌, ◌≤◌, ◌+◌, ◌*◌, ◌/◌, ◌-◌, take, sym, ap, ap₂, ◌∙◌, arith, get_or-take, length-take, All, bitmap, at_indices, count, positions, rank_intersection, true_at, word_bits}
-use Rattle.mask_bits.proofs.Lists.RankLemmas.{length-true_at}
-use Rattle.mask_bits.proofs.Lists.Words.BackingBitLemmas.{length-bitmap}
-use Rattle.mask_bits.proofs.Lists.Words.WordLemmas.{length-word_bits}
-use Rattle.vortex_mask.proofs.Lists.PlaceListLemmas.{ascending-take, narrowed_at}
+use Rattle.mask_c.proofs.Common.{false, subst, ◌≡◌, ◌<◌, ◌≤◌, ◌+◌, ◌*◌, ◌/◌, ◌-◌, take, sym, ap, ap₂, ◌∙◌, arith, get_or-take, length-take, All, bitmap, at_indices, count, positions, rank_intersection, true_at, word_bits, length-true_at, length-bitmap, length-word_bits, ascending-take, narrowed_at, deposit_is_rank_intersection}
 use Rattle.mask_c.proofs.LastLemmas.{written-narrowed}
 use Rattle.mask_c.proofs.LastRankLemmas.{below-all, ranks-parts}
-use Rattle.vortex_mask.proofs.Lists.DepositLawLemmas.{deposit_is_rank_intersection}
 use Rattle.mask_c.proofs.intersect.narrow_at.Goals as goal
 
 pub narrow_at_ranks-requires-clause-within : goal.narrow_at_ranks-requires-clause-within

@@ -1,10 +1,5 @@
-use Rattle.mask_c.proofs.Common.{◌+◌, ◌*◌, below_more, count_ones, inl, sym, ap, ◌∙◌, arith, bitmap, values, rank_intersection}
-use Rattle.mask_bits.proofs.Lists.LawLemmas.{length-rank_intersection}
-use Rattle.mask_bits.proofs.Lists.Words.PaddedLemmas.{padded_part-whole}
-use Rattle.mask_bits.proofs.Lists.Words.WordLemmas.{count-word_bits}
-use Rattle.vortex_mask.proofs.Lists.StartedWordLemmas.{IsAt, place-after_within, place-next, place-within, rank_place-fits}
+use Rattle.mask_c.proofs.Common.{◌+◌, ◌*◌, below_more, count_ones, inl, sym, ap, ◌∙◌, arith, bitmap, values, rank_intersection, length-rank_intersection, padded_part-whole, count-word_bits, IsAt, place-after_within, place-next, place-within, rank_place-fits, started_words_are_the_list}
 use Rattle.mask_c.proofs.LastLemmas.{window-kept}
-use Rattle.vortex_mask.proofs.Lists.DepositedWordLemmas.{started_words_are_the_list}
 use Rattle.mask_c.proofs.intersect.narrow_few.Goals as goal
 use Rattle.mask_c.proofs.intersect.narrow_few.Goals.{After-word-word}
 

@@ -1,6 +1,5 @@
-use Rattle.mask_c.proofs.Common.{◌+◌, sym, ap, ◌∙◌, values, window, word_bits}
+use Rattle.mask_c.proofs.Common.{◌+◌, sym, ap, ◌∙◌, values, window, word_bits, deposit_is_word_of_rank_intersection}
 use Rattle.mask_c.proofs.LastLemmas.{narrowed-none}
-use Rattle.vortex_mask.proofs.Lists.DepositedWordLemmas.{deposit_is_word_of_rank_intersection}
 use Rattle.mask_c.proofs.intersect.narrow_word.Goals as goal
 
 pub returns-then-word-eq0 : goal.returns-then-word-eq0

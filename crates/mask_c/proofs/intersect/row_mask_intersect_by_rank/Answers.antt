@@ -1,8 +1,5 @@
-use Rattle.mask_c.proofs.Common.{◌≡◌, List, Bool, ◌+◌, ◌*◌, ◌/◌, ◌-◌, ◌++◌, length, take, sym, ap, ap₂, ◌∙◌, arith, length-take, bitmap, Packed, values, count, rank_intersection, word_bits}
-use Rattle.mask_bits.proofs.Lists.Words.BackingBitLemmas.{bitmap-append, length-bitmap}
-use Rattle.mask_bits.proofs.Lists.Words.FrontLemmas.{window-take}
+use Rattle.mask_c.proofs.Common.{◌≡◌, List, Bool, ◌+◌, ◌*◌, ◌/◌, ◌-◌, ◌++◌, length, take, sym, ap, ap₂, ◌∙◌, arith, length-take, bitmap, Packed, values, count, rank_intersection, word_bits, bitmap-append, length-bitmap, window-take, deposit_is_rank_intersection}
 use Rattle.mask_c.proofs.LastLemmas.{narrowed_by_all, written-narrowed}
-use Rattle.vortex_mask.proofs.Lists.DepositLawLemmas.{deposit_is_rank_intersection}
 use Rattle.mask_c.proofs.intersect.row_mask_intersect_by_rank.Goals as goal
 
 pub returns-then-ranks_len-len-clause-values : goal.returns-then-ranks_len-len-clause-values

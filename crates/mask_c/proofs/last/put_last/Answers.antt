@@ -1,5 +1,4 @@
-use Rattle.mask_c.proofs.Common.{◌∙◌, arith, drop-put_mid}
-use Rattle.mask_bits.proofs.Lists.Words.FrontLemmas.{behind-later}
+use Rattle.mask_c.proofs.Common.{◌∙◌, arith, drop-put_mid, behind-later}
 use Rattle.mask_c.proofs.LastLemmas.{put-clear, put-cut}
 use Rattle.mask_c.proofs.last.put_last.Goals as goal
 

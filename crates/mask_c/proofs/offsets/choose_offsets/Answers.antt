@@ -1,8 +1,6 @@
-use Rattle.mask_c.proofs.Common.{get_or, ◌≡◌, ◌+◌, ◌*◌, ◌≤◌, ◌++◌, length, take, drop, map, refl, sym, ap, ◌∙◌, arith, sum, drop-set-lt, length-map, length-take, take_all, take_more_set, count, positions, ends_from, items_at, offsets_of, sizes}
+use Rattle.mask_c.proofs.Common.{get_or, ◌≡◌, ◌+◌, ◌*◌, ◌≤◌, ◌++◌, length, take, drop, map, refl, sym, ap, ◌∙◌, arith, sum, drop-set-lt, length-map, length-take, take_all, take_more_set, count, positions, ends_from, items_at, offsets_of, sizes, behind-further, count_below-le}
 use Rattle.mask_c.proofs.StringLemmas.{items-all, offsets-word, sum-chosen, sum-parts, sum-word, word-counted, word-within}
 use Rattle.mask_c.proofs.offsets.choose_offsets.Given.{Over}
-use Rattle.mask_bits.proofs.Lists.Words.FrontLemmas.{behind-further}
-use Rattle.mask_bits.proofs.Lists.CountLemmas.{count_below-le}
 use Rattle.mask_c.proofs.offsets.choose_offsets.Goals as goal
 use Rattle.mask_c.proofs.offsets.choose_offsets.Goals.{After-indices_in_word-some}
 

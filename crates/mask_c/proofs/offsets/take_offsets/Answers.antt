@@ -1,5 +1,4 @@
-use Rattle.mask_c.proofs.Common.{◌≡◌, ◌+◌, ◌++◌, length, take, drop, map, sym, ap, ◌∙◌, arith, drop-set-lt, length-map, take_more_set, ends_from, items_at, sizes}
-use Rattle.mask_bits.proofs.Lists.Words.FrontLemmas.{behind-later}
+use Rattle.mask_c.proofs.Common.{◌≡◌, ◌+◌, ◌++◌, length, take, drop, map, sym, ap, ◌∙◌, arith, drop-set-lt, length-map, take_more_set, ends_from, items_at, sizes, behind-later}
 use Rattle.mask_c.proofs.offsets.take_offsets.Goals as goal
 
 pub returns-clause-offsets : goal.returns-clause-offsets

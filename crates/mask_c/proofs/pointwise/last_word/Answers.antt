@@ -1,7 +1,4 @@
-use Rattle.mask_c.proofs.Common.{arith, common_steps}
-use Rattle.mask_bits.proofs.Lists.BooleanLemmas.{combined-take}
-use Rattle.mask_bits.proofs.Lists.Words.BackingBitLemmas.{no_values}
-use Rattle.mask_bits.proofs.Lists.Words.FrontLemmas.{window-take}
+use Rattle.mask_c.proofs.Common.{arith, common_steps, combined-take, no_values, window-take}
 use Rattle.mask_c.proofs.pointwise.last_word.Goals as goal
 
 pub returns-then-rest-eq0 : goal.returns-then-rest-eq0

@@ -1,7 +1,4 @@
-use Rattle.mask_c.proofs.Common.{get_or, ◌≡◌, ◌<◌, ◌≢◌, ◌+◌, ◌*◌, length, get_or-set_same, get_or-set_other, below_more, ap, ◌∙◌, arith, count_ones, bitmap, Packed, count, count_below, window}
-use Rattle.mask_bits.proofs.Lists.Places.SelectLemmas.{count-word_more}
-use Rattle.mask_bits.proofs.Lists.Words.WordLemmas.{count-word_bits}
-use Rattle.mask_bits.proofs.Lists.CountLemmas.{count_below-le}
+use Rattle.mask_c.proofs.Common.{get_or, ◌≡◌, ◌<◌, ◌≢◌, ◌+◌, ◌*◌, length, get_or-set_same, get_or-set_other, below_more, ap, ◌∙◌, arith, count_ones, bitmap, Packed, count, count_below, window, count-word_more, count-word_bits, count_below-le}
 use Rattle.mask_c.proofs.rank_words.row_mask_rank_words.Goals as goal
 
 pub read-requires : goal.read-requires

@@ -1,5 +1,4 @@
-use Rattle.mask_c.proofs.Common.{Bool, List, length, min, take, ap, ◌∙◌, arith, drop_of_length-le, runs_from}
-use Rattle.mask_bits.proofs.Lists.Words.BackingBitLemmas.{length-bitmap}
+use Rattle.mask_c.proofs.Common.{Bool, List, length, min, take, ap, ◌∙◌, arith, drop_of_length-le, runs_from, length-bitmap}
 use Rattle.mask_c.proofs.IndexLemmas.{bitmap-rest}
 use Rattle.mask_c.proofs.RunLemmas.{moved_runs, length_moved}
 use Rattle.mask_c.proofs.runs.row_mask_next_runs.Goals as goal

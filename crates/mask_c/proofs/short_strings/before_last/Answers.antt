@@ -1,6 +1,4 @@
-use Rattle.std.proofs.Common.{◌≡◌, ◌+◌, ◌-◌, map, take, ap, arith}
-use Rattle.std.specs.List.{sum}
-use Rattle.mask_c.specs.Strings.{items_at, sizes}
+use Rattle.mask_c.proofs.Common.{◌≡◌, ◌+◌, ◌-◌, map, take, ap, arith, sum, items_at, sizes}
 use Rattle.mask_c.proofs.StringLemmas.{sum-more}
 use Rattle.mask_c.proofs.short_strings.before_last.Goals as goal
 

@@ -1,6 +1,4 @@
-use Rattle.std.proofs.Common.{◌≡◌, ◌+◌, ◌≤◌, length, map, take}
-use Rattle.std.specs.List.{sum}
-use Rattle.mask_c.specs.Strings.{items_at, sizes}
+use Rattle.mask_c.proofs.Common.{◌≡◌, ◌+◌, ◌≤◌, length, map, take, sum, items_at, sizes}
 use Rattle.mask_c.proofs.short_strings.before_last.Given as goal
 
 -- the strings before and those behind are all

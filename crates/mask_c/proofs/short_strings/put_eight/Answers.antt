@@ -1,5 +1,4 @@
-use Rattle.std.proofs.Common.{◌+◌, ◌-◌, ◌∙◌, arith, rules}
-use Rattle.std.proofs.lemmas.Slice.{drop-put_mid}
+use Rattle.mask_c.proofs.Common.{◌+◌, ◌-◌, ◌∙◌, arith, rules, drop-put_mid}
 use Rattle.mask_c.proofs.ShortStringLemmas.{eight-bytes}
 use Rattle.mask_c.proofs.short_strings.put_eight.Goals as goal
 

@@ -1,5 +1,4 @@
-use Rattle.std.proofs.Common.{◌+◌, ◌-◌, arith}
-use Rattle.std.proofs.lemmas.Slice.{drop-put_mid}
+use Rattle.mask_c.proofs.Common.{◌+◌, ◌-◌, arith, drop-put_mid}
 use Rattle.mask_c.proofs.short_strings.put_part.Goals as goal
 
 pub returns-clause-behind : goal.returns-clause-behind

@@ -1,7 +1,4 @@
-use Rattle.std.proofs.Common.{◌≤◌, ◌<◌, ◌+◌, ◌-◌, ◌*◌, length, take, map, slice_range, ◌∙◌, arith}
-use Rattle.std.specs.List.{sum}
-use Rattle.mask_bits.proofs.Lists.Words.FrontLemmas.{behind-later}
-use Rattle.mask_c.specs.Strings.{items_at, sizes, strings}
+use Rattle.mask_c.proofs.Common.{◌≤◌, ◌<◌, ◌+◌, ◌-◌, ◌*◌, length, take, map, slice_range, ◌∙◌, arith, sum, behind-later, items_at, sizes, strings}
 use Rattle.mask_c.proofs.ShortStringLemmas.{one-more}
 use Rattle.mask_c.proofs.StringLemmas.{sum-earlier, sum-more}
 use Rattle.mask_c.proofs.short_strings.put_wide.Given.{Over}

@@ -1,6 +1,4 @@
-use Rattle.std.proofs.Common.{◌≡◌, ◌+◌, ◌++◌, drop, map, take}
-use Rattle.std.specs.List.{concat, sum}
-use Rattle.mask_c.specs.Strings.{items_at, sizes, strings}
+use Rattle.mask_c.proofs.Common.{◌≡◌, ◌+◌, ◌++◌, drop, map, take, concat, sum, items_at, sizes, strings}
 use Rattle.mask_c.proofs.short_strings.put_wide.Given as goal
 
 -- the strings so far, and what is behind all as it was

@@ -1,5 +1,4 @@
-use Rattle.std.proofs.Common.{◌+◌, ◌*◌, ◌∙◌, arith}
-use Rattle.mask_bits.proofs.Lists.Words.FrontLemmas.{behind-later}
+use Rattle.mask_c.proofs.Common.{◌+◌, ◌*◌, ◌∙◌, arith, behind-later}
 use Rattle.mask_c.proofs.ShortStringLemmas.{next-eight}
 use Rattle.mask_c.proofs.short_strings.put_words.Goals as goal
 

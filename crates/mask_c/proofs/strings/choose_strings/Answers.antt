@@ -1,11 +1,4 @@
-use Rattle.std.proofs.Common.{ℕ, List, ◌≡◌, ◌+◌, ◌*◌, ◌++◌, length, take, map, sym, ap, ◌∙◌, arith, rules}
-use Rattle.std.specs.List.{concat, sum}
-use Rattle.std.proofs.lemmas.List.{length-append, length-map, length-take, take-take, take_all}
-use Rattle.mask_bits.specs.Positions.{positions}
-use Rattle.mask_bits.specs.Words.{word_bits}
-use Rattle.mask_bits.proofs.Lists.Words.FrontLemmas.{behind-later}
-use Rattle.mask_bits.proofs.Lists.Words.WordLemmas.{count-word_bits}
-use Rattle.mask_c.specs.Strings.{sizes, strings}
+use Rattle.mask_c.proofs.Common.{ℕ, List, ◌≡◌, ◌+◌, ◌*◌, ◌++◌, length, take, map, sym, ap, ◌∙◌, arith, rules, concat, sum, length-append, length-map, length-take, take-take, take_all, positions, word_bits, behind-later, count-word_bits, sizes, strings}
 use Rattle.mask_c.proofs.ChooseLemmas.{positions-word_more}
 use Rattle.mask_c.proofs.IndexLemmas.{indices-within}
 use Rattle.mask_c.proofs.ShortStringLemmas.{waiting-strings, waiting-sum, waiting-within}

@@ -1,7 +1,4 @@
-use Rattle.std.proofs.Common.{◌≡◌, ◌+◌, ◌*◌, ◌<◌, ◌≤◌, ◌++◌, drop, length, map, take}
-use Rattle.std.specs.List.{All, concat, sum}
-use Rattle.mask_bits.specs.Positions.{positions}
-use Rattle.mask_c.specs.Strings.{items_at, sizes, strings}
+use Rattle.mask_c.proofs.Common.{◌≡◌, ◌+◌, ◌*◌, ◌<◌, ◌≤◌, ◌++◌, drop, length, map, take, All, concat, sum, positions, items_at, sizes, strings}
 use Rattle.mask_c.proofs.strings.choose_strings.Given as goal
 
 -- the strings so far and those that wait are the strings of the words so far, and what is behind them is as it was

@@ -1,6 +1,5 @@
-use Rattle.mask_c.proofs.Common.{◌<◌, ◌-◌, ◌++◌, length, take, map, slice_range, sym, ap, ◌∙◌, arith, concat, items_at, sizes, strings}
+use Rattle.mask_c.proofs.Common.{◌<◌, ◌-◌, ◌++◌, length, take, map, slice_range, sym, ap, ◌∙◌, arith, concat, items_at, sizes, strings, behind-later}
 use Rattle.mask_c.proofs.StringLemmas.{bytes-step, items_at-more, sum-first, sum-more}
-use Rattle.mask_bits.proofs.Lists.Words.FrontLemmas.{behind-later}
 use Rattle.mask_c.proofs.strings.put_runs.Goals as goal
 
 pub part_before-part-requires-clause-room : goal.part_before-part-requires-clause-room

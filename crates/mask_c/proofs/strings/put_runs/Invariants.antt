@@ -1,6 +1,4 @@
-use Rattle.std.proofs.Common.{◌≡◌, ◌+◌, ◌-◌, ◌≤◌, ◌++◌, drop, length, map, slice_range, take}
-use Rattle.std.specs.List.{concat, sum}
-use Rattle.mask_c.specs.Strings.{items_at, sizes, strings}
+use Rattle.mask_c.proofs.Common.{◌≡◌, ◌+◌, ◌-◌, ◌≤◌, ◌++◌, drop, length, map, slice_range, take, concat, sum, items_at, sizes, strings}
 use Rattle.mask_c.proofs.strings.put_runs.Given as goal
 
 -- the bytes so far and those that wait are the strings so far

@@ -1,6 +1,4 @@
-use Rattle.std.proofs.Common.{◌≡◌, ◌+◌, ◌++◌, drop, take, map, sym, ap, ◌∙◌, arith}
-use Rattle.std.specs.List.{concat, sum}
-use Rattle.mask_c.specs.Strings.{items_at, sizes, strings}
+use Rattle.mask_c.proofs.Common.{◌≡◌, ◌+◌, ◌++◌, drop, take, map, sym, ap, ◌∙◌, arith, concat, sum, items_at, sizes, strings}
 use Rattle.mask_c.proofs.ShortStringLemmas.{both-parts, rest-of, sum-both}
 use Rattle.mask_c.proofs.strings.put_short.Goals as goal
 

@@ -1,5 +1,4 @@
-use Rattle.mask_c.proofs.Common.{◌<◌, ◌≢◌, ◌+◌, drop, length, get_or-set_same, get_or-set_other, below_more, sym, ap, ◌∙◌, arith, drop-drop, drop-set-lt}
-use Rattle.mask_bits.proofs.Lists.Words.PaddedLemmas.{padded_part-whole}
+use Rattle.mask_c.proofs.Common.{◌<◌, ◌≢◌, ◌+◌, drop, length, get_or-set_same, get_or-set_other, below_more, sym, ap, ◌∙◌, arith, drop-drop, drop-set-lt, padded_part-whole}
 use Rattle.mask_c.proofs.words.row_mask_words.Goals as goal
 
 pub loop-i-preserved : goal.loop-i-preserved

@@ -1,5 +1,4 @@
-use Rattle.mask_c.proofs.Common.{sym, ◌∙◌, word_bits}
-use Rattle.mask_bits.proofs.Lists.Words.WordLemmas.{length-word_bits}
+use Rattle.mask_c.proofs.Common.{sym, ◌∙◌, word_bits, length-word_bits}
 use Rattle.mask_c.proofs.BitmapLemmas.{first_of}
 use Rattle.mask_c.proofs.pointwise.FirstBitOp.of.Goals as goal
 
