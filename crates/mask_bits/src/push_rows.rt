@@ -23,8 +23,12 @@ pub fn choose_rows<const K: usize, T: Copy, R: Room<T>>(
     ensures kept { R.kept out.new ≡ R.kept out.old }
 {
     let whole = chunks.len();
-    // the last whole word may have no row behind its own
-    let followed = rows.len().saturating_sub(1) / 64;
+    // one after another, no row behind a word's own is read, and the last whole word may have none
+    let followed = if K == 0 {
+        0
+    } else {
+        rows.len().saturating_sub(1) / 64
+    };
     push_whole_words::<K, 65, _, _>(out, rows, chunks, 0, followed);
     push_whole_words::<0, 64, _, _>(out, rows, chunks, followed, whole);
     push_rows_one_by_one(out, &rows[64 * whole..], chunks.remainder_bits());
@@ -68,26 +72,8 @@ pub fn choose_small_rows<const FEW: usize, M: MoveRows<T>, T: Copy, R: Room<T>>(
     ensures kept { R.kept out.new ≡ R.kept out.old }
 {
     let words = chunks.len();
-    push_small_words::<FEW, M, _, _>(out, rows, chunks, words);
-    push_rows_one_by_one(out, &rows[64 * words..], chunks.remainder_bits());
-}
-
-// Puts those of the whole words before `end`.
-#[inline(always)]
-fn push_small_words<const FEW: usize, M: MoveRows<T>, T: Copy, R: Room<T>>(
-    out: &mut R,
-    rows: &[T],
-    chunks: &BitChunks<'_>,
-    end: usize,
-)
-    requires fitting { length rows.now ≡ length chunks.now }
-    requires within { 64 * end ≤ length rows.now }
-    requires empty { R.items out.old ≡ [] }
-    requires room { count chunks.now ≤ R.capacity (R.kept out.old) }
-    ensures rows { R.items out.new ≡ chosen (take (64 * end) rows.now) (take (64 * end) chunks.now) }
-    ensures kept { R.kept out.new ≡ R.kept out.old }
-{
-    for i in 0..end {
+    for i in 0..words {
         push_small_rows::<FEW, M, _, _>(out, &rows[64 * i..64 * i + 64], chunks.word(i));
     }
+    push_rows_one_by_one(out, &rows[64 * words..], chunks.remainder_bits());
 }

@@ -37,8 +37,8 @@ fn choose_rows_any<const K: usize, T: Copy, R: Room<T>>(
     chunks: &BitChunks<'_>,
 ) {
     let whole = chunks.len();
-    // the last whole word may have no row behind its own
-    let followed = rows.len().saturating_sub(1) / 64;
+    // one after another, no row behind a word's own is read, and the last whole word may have none
+    let followed = if K == 0 { 0 } else { rows.len().saturating_sub(1) / 64 };
     push_whole_words::<K, 65, _, _>(out, rows, chunks, 0, followed);
     push_whole_words::<0, 64, _, _>(out, rows, chunks, followed, whole);
     push_rows_one_by_one(out, &rows[64 * whole..], chunks.remainder_bits());

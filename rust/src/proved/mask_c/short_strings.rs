@@ -10,31 +10,28 @@ use crate::proved::mask_c::offsets::{Offset, offset_at, size_at, string_at};
 #[inline]
 pub(crate) fn words_of_each<O: Offset>(indices: &[usize], offsets: &[O]) -> usize {
     let count = indices.len();
-    if count < 4 {
+    if count < 8 {
         return 0;
     }
     let (one, other) = (indices[0], indices[count - 1]);
     let (first, last) = (one.min(other), one.max(other));
     let rows = last - first + 1;
-    let size = offset_at(offsets, last + 1) - offset_at(offsets, first);
-    if count > rows - rows / 3 || size < rows || size / 16 > rows {
+    if count > rows - rows / 3 {
         return 0;
     }
-    if !are_apart(&indices[..count.min(16)], offsets) {
+    let size = offset_at(offsets, last + 1) - offset_at(offsets, first);
+    if size < rows || size / 16 > rows || !are_apart(&indices[..count.min(16)]) {
         return 0;
     }
     if size / 8 < rows { 2 } else { 4 }
 }
 
-// Whether a fourth of the strings or more don't begin where the one before them ends.
-#[inline(never)]
-fn are_apart<O: Offset>(indices: &[usize], offsets: &[O]) -> bool {
-    let (mut apart, mut end) = (0, 0);
-    for k in 0..indices.len() {
-        if offset_at(offsets, indices[k]) != end {
-            apart += 1;
-        }
-        end = offset_at(offsets, indices[k] + 1);
+// Whether a fourth of the strings or more don't come right behind the one before them.
+#[inline]
+fn are_apart(indices: &[usize]) -> bool {
+    let mut apart = 1;
+    for k in 1..indices.len() {
+        apart += usize::from(indices[k].wrapping_sub(indices[k - 1]) != 1);
     }
     apart >= indices.len() / 4
 }

@@ -1,5 +1,5 @@
 -- Where true value number n of a list stands, found by the counts of its started words; and its last true value.
-use Rattle.mask_bits.proofs.Common.{◌≡◌, ℕ, suc, ◌+◌, ◌*◌, ◌-◌, ◌^◌, ◌<◌, ◌≤◌, Bool, true, false, List, [], ◌∷◌, ◌++◌, length, get_or, take, drop, map, Some, None, slice_get, slice_range, refl, sym, ap, ◌∙◌, arith, append-nil, append_assoc, add-zero, drop-drop, option_map, bit_and, take-add, bit_at, leading_zeros, take-append-drop, drop_more, length-append, length-map, get_or-drop, get_or-take, get_or_past, cases_lt, leading_top, ones-le, bit_at_above, bit_at-zero, slice_get-get_or, slice_get_past, slice_get-map, indices_from, positions, count, repeated, word_bits, padded_part, w64, take_all, length-drop, length-take}
+use Rattle.mask_bits.proofs.Common.{◌≡◌, ℕ, suc, ◌+◌, ◌*◌, ◌-◌, ◌^◌, ◌<◌, ◌≤◌, Bool, true, false, List, [], ◌∷◌, ◌++◌, length, get_or, take, drop, map, Some, None, slice_get, slice_range, refl, sym, ap, ◌∙◌, arith, append-nil, add-zero, drop-drop, option_map, bit_and, take-add, bit_at, leading_zeros, take-append-drop, drop_more, length-append, length-map, get_or-drop, get_or-take, get_or_past, cases_lt, leading_top, ones-le, bit_at_above, bit_at-zero, slice_get-get_or, slice_get_past, slice_get-map, indices_from, positions, count, repeated, word_bits, padded_part, w64, take_all, length-drop, length-take}
 use Rattle.mask_bits.proofs.Lists.CountLemmas.{count-append, count-repeated_false, indices_from-repeated_false, length-repeated, get_or-padded}
 use Rattle.mask_bits.proofs.Lists.Words.LowestLemmas.{low, low-within, low-set, low-first, bit_at-lowest_cleared, bit_at-lowest_others}
 use Rattle.mask_bits.proofs.Lists.Words.PaddedLemmas.{padded_part_from_values}

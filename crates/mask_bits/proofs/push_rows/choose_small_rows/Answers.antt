@@ -1,6 +1,27 @@
-use Rattle.mask_bits.proofs.Common.{◌≡◌, ℕ, ◌*◌, ◌/◌, length, ap, arith, take_rest}
-use Rattle.mask_bits.proofs.Lists.PushRowsLemmas.{chosen_counted, rest_counted, rest_within, rest_pushed}
+use Rattle.mask_bits.proofs.Common.{◌≡◌, ◌+◌, ℕ, ◌*◌, ◌/◌, length, take, chosen, ap, ◌∙◌, refl, sym, arith, count, take_rest}
+use Rattle.mask_bits.proofs.Lists.Places.SelectLemmas.{count-part_further}
+use Rattle.mask_bits.proofs.Lists.CountLemmas.{count_below-le}
+use Rattle.mask_bits.proofs.Lists.PushRowsLemmas.{chosen_counted, chosen_of_none, rest_counted, rest_within, rest_pushed, word_pushed}
 use Rattle.mask_bits.proofs.push_rows.choose_small_rows.Goals as goal
+
+pub loop-i-init : goal.loop-i-init
+loop-i-init g c = record { items = c.requires.empty ∙ sym chosen_of_none; kept = refl }
+
+pub push_small_rows-requires-clause-room : goal.push_small_rows-requires-clause-room
+push_small_rows-requires-clause-room g c =
+    let m = c.args.chunks.now in
+    let i = c.loop-i.i in
+    omega (arith, ap length c.loop-i.invariant.items, chosen_counted c.args.rows.now m (64 * i) c.requires.fitting, ap g.R.Room.capacity c.loop-i.invariant.kept, ap count c.word.ensures, count-part_further m (64 * i) 64, count_below-le m (64 * i + 64), c.requires.room)
+
+pub loop-i-preserved : goal.loop-i-preserved
+loop-i-preserved g c =
+    let m = c.args.chunks.now in
+    let i = c.loop-i.i in
+    record {
+      items = word_pushed c.args.rows.now (g.R.Room.items c.loop-i.out) (g.R.Room.items c.push_small_rows.new.out) m i 64 c.word.result c.requires.fitting (omega arith) (omega (arith, c.len-words.ensures, c.requires.fitting, c.loop-i-test.true)) c.word.ensures c.loop-i.invariant.items
+          c.push_small_rows.ensures.rows;
+      kept = c.push_small_rows.ensures.kept ∙ c.loop-i.invariant.kept;
+    }
 
 pub push_rows_one_by_one-requires-clause-within : goal.push_rows_one_by_one-requires-clause-within
 push_rows_one_by_one-requires-clause-within g c =
@@ -9,15 +30,19 @@ push_rows_one_by_one-requires-clause-within g c =
 pub push_rows_one_by_one-requires-clause-room : goal.push_rows_one_by_one-requires-clause-room
 push_rows_one_by_one-requires-clause-room g c =
     let m = c.args.chunks.now in
+    let rows = c.args.rows.now in
     let n : ℕ = 64 * c.len-words.result in
     let whole : n ≡ 64 * (length m / 64) = ap (λ k. 64 * k) c.len-words.ensures in
-    let before = c.push_small_words.ensures in
-    omega (arith, ap length before.rows, chosen_counted c.args.rows.now m n c.requires.fitting, ap g.R.Room.capacity before.kept, rest_counted m n c.remainder_bits.result whole c.remainder_bits.ensures, c.requires.room)
+    let all : c.loop-i.i ≡ c.len-words.result = omega (arith, c.loop-i.auto.i-end, c.loop-i-test.false) in
+    let before = c.loop-i.invariant.items ∙ ap (λ k. chosen (take (64 * k) rows) (take (64 * k) m)) all in
+    omega (arith, ap length before, chosen_counted rows m n c.requires.fitting, ap g.R.Room.capacity c.loop-i.invariant.kept, rest_counted m n c.remainder_bits.result whole c.remainder_bits.ensures, c.requires.room)
 
 pub returns-clause-rows : goal.returns-clause-rows
 returns-clause-rows g c =
+    let m = c.args.chunks.now in
     let rows = c.args.rows.now in
     let n : ℕ = 64 * c.len-words.result in
-    let whole : n ≡ 64 * (length c.args.chunks.now / 64) = ap (λ k. 64 * k) c.len-words.ensures in
-    rest_pushed rows _ (g.R.Room.items c.push_small_words.new.out) (g.R.Room.items c.push_rows_one_by_one.new.out) c.args.chunks.now n c.remainder_bits.result c.requires.fitting whole (take_rest rows n) c.remainder_bits.ensures
-    c.push_small_words.ensures.rows c.push_rows_one_by_one.ensures.rows
+    let whole : n ≡ 64 * (length m / 64) = ap (λ k. 64 * k) c.len-words.ensures in
+    let all : c.loop-i.i ≡ c.len-words.result = omega (arith, c.loop-i.auto.i-end, c.loop-i-test.false) in
+    let before = c.loop-i.invariant.items ∙ ap (λ k. chosen (take (64 * k) rows) (take (64 * k) m)) all in
+    rest_pushed rows _ (g.R.Room.items c.loop-i.out) (g.R.Room.items c.push_rows_one_by_one.new.out) m n c.remainder_bits.result c.requires.fitting whole (take_rest rows n) c.remainder_bits.ensures before c.push_rows_one_by_one.ensures.rows

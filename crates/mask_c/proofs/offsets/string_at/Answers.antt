@@ -1,4 +1,4 @@
-use Rattle.mask_c.proofs.Common.{◌<◌, ◌+◌, ◌-◌, length, map, slice_range, Some, sym, ap, ap₂, ◌∙◌, arith, length-map}
+use Rattle.mask_c.proofs.Common.{◌+◌, ◌-◌, length, map, slice_range, Some, sym, ap, ap₂, ◌∙◌, arith, length-map}
 use Rattle.mask_c.proofs.StringLemmas.{slice_get-sizes, slice_get-strings}
 use Rattle.mask_c.proofs.offsets.string_at.Goals as goal
 

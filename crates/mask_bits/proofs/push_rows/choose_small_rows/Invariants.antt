@@ -1,5 +1,5 @@
 use Rattle.mask_bits.proofs.Common.{◌≡◌, ◌*◌, take, chosen}
-use Rattle.mask_bits.proofs.push_rows.push_small_words.Given as goal
+use Rattle.mask_bits.proofs.push_rows.choose_small_rows.Given as goal
 
 -- the rows of the words so far
 abbrev pub invariant-loop-i : goal.invariant-loop-i
