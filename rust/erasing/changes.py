@@ -86,6 +86,14 @@ LEAVES = {
         "{ Bits { bytes: &bytes[offset / 8..], low: (offset % 8) as u32, } }",
         "{ Bits { bytes: crate::kit::words::rest(bytes, offset / 8), low: (offset % 8) as u32, } }",
     ),
+    "word_from": (
+        "{ word_of(&bytes[first..], 0) }",
+        "{ word_of(crate::kit::words::rest(bytes, first), 0) }",
+    ),
+    "WordItems for [T]::lowest": (
+        "{ self[word.trailing_zeros() as usize] }",
+        "{ crate::kit::words::item(self, word.trailing_zeros() as usize) }",
+    ),
     "push_whole_words": (
         "{ for i in first..end {"
         " push_rows_of_word::<K, _, _>(out, &rows[64 * i..64 * i + ROWS], chunks.word(i)); } }",

@@ -193,7 +193,7 @@ class Erasure:
         head = self.source.text(i, body)
         if re.search(r"\bModel\s+for\b", head):
             return self.taken("models", i, last, before)
-        of, by = re.search(rf"impl{GENERIC}\s+(?:\w+::)*(\w+){GENERIC}(?:\s+for\s+(\w*))?", head).groups()
+        of, by = re.search(rf"impl{GENERIC}\s+(?:\w+::)*(\w+){GENERIC}(?:\s+for\s+(?:&'\w+ )?(\[\w+\]|\w*))?", head).groups()
         # (with the type, so that two of one trait are told apart)
         context = ("impl", of) if by is None else ("trait impl", f"{of} for {by}")
         items = self.items(body + 1, last - 1, context)

@@ -32,7 +32,7 @@ impl<'a, T: Copy> WordItems for &'a [T] {
 
     #[inline(always)]
     fn lowest(self, word: u64) -> T {
-        self[word.trailing_zeros() as usize]
+        crate::kit::words::item(self, word.trailing_zeros() as usize)
     }
 }
 
