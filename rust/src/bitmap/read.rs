@@ -11,7 +11,13 @@ impl<'a> Bitmap<'a> {
         #[doc(alias("true_count", "count_set_bits", "count_ones"))]
         pub fn count(self) -> usize = match self.len {
             // (to ask what the processor has takes longer than to count so few)
-            0..=FEW => self.chunks().iter_padded().map(|word| word.count_ones() as usize).sum(),
+            0..64 => self.chunks().remainder_bits().count_ones() as usize,
+            64..=FEW => {
+                let word = |from| self.part(from..from + 64).chunks().word_proved(0);
+                // (of the last word those values that the first one doesn't have)
+                let last = u128::from(word(self.len - 64)) >> (128 - self.len);
+                (word(0).count_ones() + last.count_ones()) as usize
+            }
             _ => call!(row_mask_count(self)),
         };
         /// Whether some value is true.
