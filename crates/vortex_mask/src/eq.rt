@@ -1,6 +1,6 @@
 //! When two masks are equal, and a mask and a buffer: they hold the same list.
 
-ghost use Rattle.std.specs.Prelude.{◌≡◌, ◌↔◌, length, IsTrue};
+ghost use Rattle.std.specs.Prelude.{◌≡◌, ◌↔◌, IsTrue};
 ghost use Rattle.std.specs.Cmp.{bool_eq_equiv, partial_equiv_from_equiv};
 ghost use Rattle.std.proofs.lemmas.Cmp.{on_equiv, lists_equiv};
 ghost use Rattle.mask_bits.specs.Buffer.{values};
@@ -16,12 +16,17 @@ impl PartialEq for Mask {
 
     ghost laws = { partial_equiv_from_equiv (on_equiv truth (lists_equiv bool_eq_equiv)) };
 
-    #[tactic(auto, using(crate::proofs::Masks::MaskLemmas::same_truth_is_one_list))]
+    #[tactic(auto, using(crate::proofs::Masks::MaskLemmas::same_truth_is_one_list, crate::proofs::Masks::MaskLemmas::variant_facts, mask_bits::proofs::Lists::Words::BackingBitLemmas::same_values_are_one_list))]
     fn eq(&self, other: &Mask) -> bool
         ensures answer { result ≡ same_truth self.now other.now }
         ensures same { IsTrue result ↔ (truth self.now ≡ truth other.now) }
     {
-        self.len() == other.len() && same_lists(self, other)
+        self.len() == other.len()
+            && match (self, other) {
+                (Mask::Values(a), Mask::Values(b)) => a.bit_buffer() == b.bit_buffer(),
+                // one of them is of one value, so that the count tells the list
+                _ => self.true_count() == other.true_count(),
+            }
     }
 }
 
@@ -29,37 +34,17 @@ impl Eq for Mask {
     ghost laws = { on_equiv truth (lists_equiv bool_eq_equiv) };
 }
 
+#[tactic(auto, using(crate::proofs::Masks::MaskLemmas::variant_facts, mask_bits::proofs::Lists::Words::BackingBitLemmas::same_values_are_one_list))]
 impl Mask {
     /// Whether these are the values of a buffer.
     pub fn equals_buffer(&self, buffer: &BitBuffer) -> bool
         ensures { IsTrue result ↔ (truth self.now ≡ values buffer.now) }
     {
-        self.len() == buffer.len() && same_values(self, buffer)
-    }
-}
-
-// Whether a mask and a buffer of one length have the same list.
-#[tactic(auto, using(crate::proofs::Masks::MaskLemmas::variant_facts, mask_bits::proofs::Lists::Words::BackingBitLemmas::same_values_are_one_list))]
-fn same_values(mask: &Mask, buffer: &BitBuffer) -> bool
-    requires { length (truth mask.now) ≡ length (values buffer.now) }
-    ensures { IsTrue result ↔ (truth mask.now ≡ values buffer.now) }
-{
-    match mask {
-        Mask::AllTrue(len) => buffer.true_count() == *len,
-        Mask::AllFalse(_) => buffer.true_count() == 0,
-        Mask::Values(values) => values.bit_buffer() == buffer,
-    }
-}
-
-// Whether two masks of one length have the same list.
-#[tactic(auto, using(crate::proofs::Masks::MaskLemmas::variant_facts, mask_bits::proofs::Lists::Words::BackingBitLemmas::same_values_are_one_list))]
-fn same_lists(a: &Mask, b: &Mask) -> bool
-    requires { length (truth a.now) ≡ length (truth b.now) }
-    ensures { IsTrue result ↔ (truth a.now ≡ truth b.now) }
-{
-    match (a, b) {
-        (Mask::Values(a), Mask::Values(b)) => a.bit_buffer() == b.bit_buffer(),
-        // one of them is of one value, so that the count tells the list
-        _ => a.true_count() == b.true_count(),
+        self.len() == buffer.len()
+            && match self {
+                Mask::AllTrue(len) => buffer.true_count() == *len,
+                Mask::AllFalse(_) => buffer.true_count() == 0,
+                Mask::Values(values) => values.bit_buffer() == buffer,
+            }
     }
 }

@@ -1,6 +1,5 @@
 -- The list that is false exactly at some indices, as they come one by one.
-use Rattle.vortex_mask.proofs.Common.{◌≡◌, ℕ, ◌<◌, ◌≤◌, Bool, true, false, not, nat_eq, List, [], ◌∷◌, ◌++◌, length, get_or, set, Option, Some, ◌∙◌, arith, option_or, list_any, cases_lt, cases_eq, same_lists, length-set, get_or-map, get_or-set_other, get_or-set_at, common_steps, list_any-append, get_or-map-range_with_len, not_of, repeated, true_at, first_past, length-not_of, length-repeated, get_or-repeated, length-true_at}
-use Rattle.vortex_mask.proofs.Masks.FaultLemmas.{first_past-within, first_past-more}
+use Rattle.vortex_mask.proofs.Common.{◌≡◌, ℕ, ◌<◌, ◌≤◌, Bool, true, false, not, nat_eq, List, [], ◌∷◌, ◌++◌, length, get_or, set, ◌∙◌, arith, list_any, cases_eq, same_lists, length-set, get_or-map, get_or-set_other, get_or-set_at, common_steps, list_any-append, get_or-map-range_with_len, not_of, repeated, true_at, length-not_of, length-repeated, get_or-repeated, length-true_at}
 
 -- the list that is false exactly at these indices
 abbrev pub without : ℕ → List ℕ → List Bool
@@ -24,9 +23,3 @@ without-set n x xs h = grind (arith, length-set, length-without, same_lists, cas
 -- one more index past its end
 pub without-past : (n x : ℕ) (xs : List ℕ) → n ≤ x → without n xs ≡ without n (xs ++ x ∷ [])
 without-past n x xs h = grind (arith, same_lists, length-without, get_or-without, list_any-append)
-
--- one more index: its value is made false, or it is the first past the end where none was
-pub excluded-more : (n x : ℕ) (xs : List ℕ) (old new : List Bool) (before after : Option ℕ) → old ≡ without n xs → before ≡ first_past n xs
-    → (x < length old → (new ≡ set old x false) × (after ≡ before)) → (length old ≤ x → (new ≡ old) × (after ≡ option_or before (Some x)))
-    → (new ≡ without n (xs ++ x ∷ [])) × (after ≡ first_past n (xs ++ x ∷ []))
-excluded-more n x xs old new before after list first within past = grind (arith, length-without, cases_lt, without-set, first_past-within, without-past, first_past-more)

@@ -93,10 +93,10 @@ impl Mask {
         let Some(len) = total_len(masks) else {
             return Err(MaskError::LengthOverflow);
         };
-        if all_true(masks) {
+        if are_all(masks, true) {
             return Ok(Mask::AllTrue(len));
         }
-        if all_false(masks) {
+        if are_all(masks, false) {
             return Ok(Mask::AllFalse(len));
         }
         let (buffer, true_count) = buffer_of(alloc, len, masks)?;
@@ -104,18 +104,15 @@ impl Mask {
     }
 }
 
-// Whether each value of each mask is true.
-fn all_true(masks: &[&Mask]) -> bool
-    ensures { IsTrue result ↔ AreAll true masks.now }
+// Whether each value of each mask is `value`.
+fn are_all(masks: &[&Mask], value: bool) -> bool
+    ensures { IsTrue result ↔ AreAll value masks.now }
 {
-    masks.iter().all(|mask| mask.all_true())
-}
-
-// Whether each value of each mask is false.
-fn all_false(masks: &[&Mask]) -> bool
-    ensures { IsTrue result ↔ AreAll false masks.now }
-{
-    masks.iter().all(|mask| mask.all_false())
+    masks.iter().all(|mask| if value {
+        mask.all_true()
+    } else {
+        mask.all_false()
+    })
 }
 
 // The sum of the masks' lengths, if it fits.

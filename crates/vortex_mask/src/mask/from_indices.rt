@@ -1,13 +1,11 @@
 //! Masks from indices, and what is wrong with a list of them.
 
-ghost use Rattle.std.specs.Prelude.{◌≡◌, ◌+◌, ◌<◌, ◌≤◌, ◌⊎◌, ◌↔◌, IsTrue, IfOk, IfErr, Some, None, Ok, Err, length, alloc_error, ℕ, List, true, false, slice_set};
+ghost use Rattle.std.specs.Prelude.{◌≡◌, ◌<◌, ◌⊎◌, IfOk, IfErr, Some, None, Ok, Err, length, alloc_error, ℕ, List, true, false};
 ghost use Rattle.std.specs.Iterator.{IsFinite, Drains};
 ghost use Rattle.std.specs.Iterator.Runs.{WholeRun, EachRunFrom};
-ghost use Rattle.std.specs.List.Sorted.{IsStrictlyIncreasing};
-ghost use Rattle.std.specs.Option.{option_or};
 ghost use Rattle.mask_bits.specs.Positions.{positions, true_at, repeated};
 ghost use Rattle.vortex_mask.specs.Faults.{index_fault, first_unsorted, first_repeated, out_of_bounds, first_past, common};
-ghost use Rattle.vortex_mask.specs.Caches.{caches, where_mixed, IsOfIndices};
+ghost use Rattle.vortex_mask.specs.Caches.{caches, where_mixed};
 ghost use Rattle.vortex_mask.specs.Mask.{truth, variant, fitting_variant, all_false, all_true};
 ghost use Rattle.vortex_mask.specs.MaskValues.{only_indices, no_caches};
 ghost use Rattle.mask_bits.specs.Lists.{not_of};
@@ -27,6 +25,7 @@ impl Mask {
     /// The iterator is read to its end first, so `Memory` may come before the other refusals:
     /// `UnsortedIndices` for the first place below the one before it, else `RepeatedIndex` for the
     /// first that equals it, else `IndexOutOfBounds` for the first that is not below `len`.
+    #[tactic(auto, using(crate::proofs::Masks::FaultLemmas::no_index_fault))]
     pub fn from_indices<I: Iterator<Item = usize>>(
         alloc: Global,
         len: usize,
@@ -50,17 +49,6 @@ impl Mask {
             ⊎ WholeRun I.next_gives indices (λ p. index_fault len p.items ≡ Some e)) }
     {
         let indices: Vec<usize> = indices.collect(alloc)?;
-        Mask::of_list(alloc, len, indices)
-    }
-
-    // The mask of `len` values that is true exactly at the indices of a list, or what is wrong with it.
-    #[tactic(auto, using(crate::proofs::Masks::FaultLemmas::no_index_fault))]
-    fn of_list(alloc: Global, len: usize, indices: Vec<usize>) -> Result<Mask, MaskError>
-        ensures mask { IfOk result (IsOfIndices len indices.items) }
-        ensures faultless { IfOk result (λ m. index_fault len indices.items ≡ None) }
-        ensures refused { IfErr result (λ e. (e ≡ MaskError.Memory alloc_error)
-            ⊎ (index_fault len indices.items ≡ Some e)) }
-    {
         if let Some(fault) = index_fault(len, &indices) {
             return Err(fault);
         }
@@ -119,12 +107,8 @@ fn first_repeated(indices: &[usize]) -> Option<usize>
 fn out_of_bounds(len: usize, indices: &[usize]) -> Option<MaskError>
     ensures { result ≡ out_of_bounds len indices.now }
 {
-    for index in indices {
-        if *index >= len {
-            return Some(MaskError::IndexOutOfBounds { index: *index, len });
-        }
-    }
-    None
+    let index = *indices.iter().find(|index| **index >= len)?;
+    Some(MaskError::IndexOutOfBounds { index, len })
 }
 
 /// Masks of false indices.
@@ -189,23 +173,13 @@ fn exclude<I: Iterator<Item = usize>>(builder: &mut BitBufferMut, indices: I) ->
 {
     let mut past_end = None;
     for index in indices {
-        past_end = exclude_one(builder, index, past_end);
+        if index < builder.len() {
+            builder.unset(index);
+        } else {
+            past_end = past_end.or(Some(index));
+        }
     }
     past_end
-}
-
-// Makes one value false, or notes that its index is past the end where none was noted yet.
-fn exclude_one(builder: &mut BitBufferMut, index: usize, past_end: Option<usize>) -> Option<usize>
-    ensures within { index < length builder.old
-        → (builder.new ≡ slice_set builder.old index false) × (result ≡ past_end) }
-    ensures past { length builder.old ≤ index
-        → (builder.new ≡ builder.old) × (result ≡ option_or past_end (Some index)) }
-{
-    if index < builder.len() {
-        builder.unset(index);
-        return past_end;
-    }
-    past_end.or(Some(index))
 }
 
 /// Masks of the indices that two lists have in common.
@@ -216,6 +190,7 @@ impl Mask {
     /// An index that only one of them yields is dropped, past `len` too. The iterators are read to
     /// their ends first, so `Memory` may come before the other refusal: `IndexOutOfBounds` for the
     /// first index in common that is not below `len`.
+    #[tactic(auto, using(crate::proofs::Masks::FaultLemmas::listed_facts))]
     pub fn from_intersection_indices<L: Iterator<Item = usize>, R: Iterator<Item = usize>>(
         alloc: Global,
         len: usize,
@@ -250,24 +225,6 @@ impl Mask {
     {
         let lhs: Vec<usize> = lhs.collect(alloc)?;
         let rhs: Vec<usize> = rhs.collect(alloc)?;
-        Mask::of_common(alloc, len, lhs, rhs)
-    }
-
-    // The mask of `len` values that is true exactly at the indices that two lists have in common.
-    #[tactic(auto, using(crate::proofs::Masks::FaultLemmas::listed_facts))]
-    fn of_common(
-        alloc: Global,
-        len: usize,
-        lhs: Vec<usize>,
-        rhs: Vec<usize>,
-    ) -> Result<Mask, MaskError>
-        requires lhs { IsStrictlyIncreasing lhs.items }
-        requires rhs { IsStrictlyIncreasing rhs.items }
-        ensures mask { IfOk result (IsOfIndices len (common lhs.items rhs.items)) }
-        ensures within { IfOk result (λ m. out_of_bounds len (common lhs.items rhs.items) ≡ None) }
-        ensures refused { IfErr result (λ e. (e ≡ MaskError.Memory alloc_error)
-            ⊎ (out_of_bounds len (common lhs.items rhs.items) ≡ Some e)) }
-    {
         let mut indices = common(lhs, rhs);
         if let Some(fault) = out_of_bounds(len, &indices) {
             return Err(fault);

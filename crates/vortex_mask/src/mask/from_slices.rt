@@ -4,7 +4,7 @@ ghost use Rattle.std.specs.Prelude.{◌≡◌, ◌<◌, ◌^◌, ◌⊎◌, if�
 ghost use Rattle.mask_bits.specs.Buffer.{values};
 ghost use Rattle.mask_bits.specs.RunScan.{runs};
 ghost use Rattle.mask_bits.specs.Runs.{AreRanges};
-ghost use Rattle.vortex_mask.specs.Faults.{bad_range, neighbors_fault_from, range_fault};
+ghost use Rattle.vortex_mask.specs.Faults.{neighbors_fault_from, range_fault};
 ghost use Rattle.vortex_mask.specs.Caches.{caches, where_mixed};
 ghost use Rattle.vortex_mask.specs.Mask.{truth, variant, fitting_variant, all_false};
 ghost use Rattle.vortex_mask.specs.MaskValues.{only_ranges};
@@ -14,7 +14,7 @@ use crate::mask::set_ranges::set_ranges;
 use crate::mask::{Mask, MaskError};
 use mask_bits::BitBuffer;
 use mask_bits::words::started_words;
-use std::alloc::{AllocError, Global};
+use std::alloc::Global;
 
 #[tactic(auto, using(crate::proofs::Masks::MaskLemmas::variant_facts, crate::proofs::Masks::SoundRangeLemmas::range_facts))]
 impl Mask {
@@ -53,7 +53,9 @@ impl Mask {
         if let Some(mask) = Mask::of_one_value(len, true_count) {
             return Ok(mask);
         }
-        let buffer = buffer_of(alloc, len, &ranges)?;
+        let mut bytes = vec![in alloc; 0u8; 8 * started_words(len)]?;
+        set_ranges(&mut bytes, &ranges);
+        let buffer = BitBuffer::from_vec(bytes, len)?;
         let mut ranges = ranges;
         merge_touching(&mut ranges);
         Mask::of_mixed(alloc, buffer, true_count, None, Some(ranges))
@@ -64,16 +66,11 @@ impl Mask {
 pub fn range_fault(len: usize, ranges: &[(usize, usize)]) -> Option<MaskError>
     ensures { result ≡ range_fault len ranges.now }
 {
-    bad_range(len, ranges).or_else(|| neighbors_fault(ranges))
-}
-
-fn bad_range(len: usize, ranges: &[(usize, usize)]) -> Option<MaskError>
-    ensures { result ≡ bad_range len ranges.now }
-{
     ranges
         .iter()
         .position(|(start, end)| !(start < end && *end <= len))
         .map(|at| MaskError::BadRange { at })
+        .or_else(|| neighbors_fault(ranges))
 }
 
 #[tactic(auto, using(crate::proofs::Masks::SoundRangeLemmas::no_more_neighbors))]
@@ -119,15 +116,4 @@ fn rows_held(ranges: &[(usize, usize)]) -> usize
     ensures { result ≡ rows_held ranges.now }
 {
     ranges.iter().map(|(start, end)| end - start).sum()
-}
-
-// `len` values that are true exactly in the ranges.
-fn buffer_of(alloc: Global, len: usize, ranges: &[(usize, usize)]) -> Result<BitBuffer, AllocError>
-    requires { range_fault len ranges.now ≡ None }
-    ensures len { IfOk result (λ b. length (values b) ≡ len) }
-    ensures list { IfOk result (λ b. AreRanges (values b) ranges.now) }
-{
-    let mut bytes = vec![in alloc; 0u8; 8 * started_words(len)]?;
-    set_ranges(&mut bytes, ranges);
-    BitBuffer::from_vec(bytes, len)
 }

@@ -5,10 +5,9 @@ ghost use Rattle.std.specs.Iterator.{YieldsFirst, UpTo, item_count};
 ghost use Rattle.std.specs.Iterator.Runs.{YieldsInOrder};
 ghost use Rattle.std.specs.Iterator.SizeHint.{IsWithinCount};
 ghost use Rattle.std.specs.List.Sorted.{IsStrictlyIncreasing};
-ghost use Rattle.std.specs.Option.{option_to_list};
 ghost use Rattle.vortex_mask.specs.Iter.{values_left, indices_left, ranges_left};
 ghost use Rattle.vortex_mask.specs.Mask.{truth};
-ghost use Rattle.mask_bits.specs.Positions.{positions, repeated};
+ghost use Rattle.mask_bits.specs.Positions.{positions};
 ghost use Rattle.mask_bits.specs.Runs.{AreRuns};
 
 use crate::mask::Mask;
@@ -168,20 +167,10 @@ impl Mask {
         ensures fits { length (ranges_left result) < 2 ^ 64 }
     {
         match self {
-            Mask::AllTrue(len) => MaskSetSlices::Whole(whole_run(*len)),
+            Mask::AllTrue(0) => MaskSetSlices::Whole(None),
+            Mask::AllTrue(len) => MaskSetSlices::Whole(Some((0, *len))),
             Mask::AllFalse(_) => MaskSetSlices::Whole(None),
             Mask::Values(values) => MaskSetSlices::Bits(values.bit_buffer().set_slices()),
         }
     }
-}
-
-// The run of so many true values, if there are any.
-#[tactic(auto, using(crate::proofs::Masks::MaskWalkLemmas::next_facts))]
-fn whole_run(len: usize) -> Option<(usize, usize)>
-    ensures { AreRuns (repeated len true) (option_to_list result) }
-{
-    if len == 0 {
-        return None;
-    }
-    Some((0, len))
 }

@@ -64,20 +64,10 @@ impl Mask {
     {
         let mut groups = Vec::new(alloc);
         for number in 0..self.len().div_ceil(size) {
-            groups.push(self.group(alloc, size, number)?)?;
+            let start = size * number;
+            let end = start + size.min(self.len() - start);
+            groups.push(self.slice(alloc, start, end)?)?;
         }
         Ok(groups)
-    }
-
-    // The values of one group.
-    fn group(&self, alloc: Global, size: usize, number: usize) -> Result<Mask, MaskError>
-        requires { size * number < length (truth self.now) }
-        ensures list { IfOk result (λ m. truth m ≡ group (truth self.now) size number) }
-        ensures refused { IsOkUnless result (MaskError.Memory alloc_error) }
-    {
-        let len = self.len();
-        let start = size * number;
-        let end = start + size.min(len - start);
-        self.slice(alloc, start, end)
     }
 }

@@ -1,4 +1,4 @@
-use Rattle.vortex_mask.proofs.Common.{◌≡◌, Bool, List, [], ◌∷◌, ◌++◌, length, map, sym, ap, ap₂, ◌∙◌, arith, div_ceil, range_with_len, map-append, map-range_with_len_more, group, truth}
+use Rattle.vortex_mask.proofs.Common.{◌≡◌, ℕ, ◌+◌, ◌-◌, ◌*◌, Bool, List, [], ◌∷◌, ◌++◌, length, map, min, slice_range, sym, ap, ap₂, ◌∙◌, arith, div_ceil, range_with_len, map-append, map-range_with_len_more, group, truth}
 use Rattle.vortex_mask.proofs.Masks.GroupLemmas.{counts-groups}
 use Rattle.vortex_mask.proofs.mask.Mask.groups.Goals as goal
 
@@ -6,10 +6,14 @@ use Rattle.vortex_mask.proofs.mask.Mask.groups.Goals as goal
 pub loop-number-preserved : goal.loop-number-preserved
 loop-number-preserved c =
     let n = c.loop-number.number in
+    let m : List Bool = truth c.args.self.now in
+    let start : ℕ = c.args.size * n in
+    let made : truth c.in_ok-slice.field-0 ≡ group m c.args.size n
+    = c.in_ok-slice.ensures.list ∙ ap (λ k. slice_range m start (start + k)) (c.min.ensures ∙ ap (λ k. min c.args.size (k - start)) c.len-in-loop-number.ensures) in
     ap (map truth) c.in_ok-push.ensures.items
-    ∙ map-append truth c.loop-number.groups.items (c.in_ok-group.field-0 ∷ [])
-    ∙ ap₂ (λ (xs ys : List (List Bool)). xs ++ ys) c.loop-number.invariant (ap (λ (m : List Bool). m ∷ []) c.in_ok-group.ensures.list)
-    ∙ sym (map-range_with_len_more (group (truth c.args.self.now) c.args.size) 0 n n (omega arith))
+    ∙ map-append truth c.loop-number.groups.items (c.in_ok-slice.field-0 ∷ [])
+    ∙ ap₂ (λ (xs ys : List (List Bool)). xs ++ ys) c.loop-number.invariant (ap (λ (m : List Bool). m ∷ []) made)
+    ∙ sym (map-range_with_len_more (group m c.args.size) 0 n n (omega arith))
 
 pub returns-clause-counts : goal.returns-clause-counts
 returns-clause-counts c =

@@ -1,5 +1,5 @@
 use Rattle.vortex_mask.proofs.Common.{ℕ, ◌≡◌, Bool, not, ◌&&◌, nat_lt, nat_le, rules, tests, position, YieldsList-from_slice, position_from_yields_List}
-use Rattle.vortex_mask.proofs.mask.from_slices.bad_range.Goals as goal
+use Rattle.vortex_mask.proofs.mask.from_slices.range_fault.Goals as goal
 
 pub returns : goal.returns
 returns c =
