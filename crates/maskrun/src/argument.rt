@@ -3,7 +3,7 @@
 ghost use Rattle.std.specs.Prelude.{◌≡◌, IfOk, IfErr, map, position, string_bytes};
 ghost use Rattle.std.specs.Char.{is_ascii_digit};
 ghost use Rattle.std.specs.List.{list_all};
-ghost use Rattle.maskrun.specs.Arguments.{is_bad_digit, mask_fault, mask_argument, number_argument, one_mask, two_masks, mask_and_number, mask_and_range, masks};
+ghost use Rattle.maskrun.specs.Arguments.{is_bad_digit, mask_argument, number_argument, one_mask, two_masks, mask_and_number, mask_and_range, masks};
 ghost use Rattle.maskrun.specs.Commands.{out_of_memory};
 ghost use Rattle.vortex_mask.specs.Mask.{truth};
 
@@ -32,8 +32,17 @@ impl<'a> MaskArgument<'a> {
     fn read(number: usize, text: &'a str) -> Result<MaskArgument<'a>, RunError>
         ensures { result ≡ mask_argument number text.now }
     {
-        match mask_fault(number, text) {
-            Some(fault) => Err(fault),
+        if text == "-" {
+            return Ok(MaskArgument { text });
+        }
+        if text.is_empty() {
+            return Err(RunError::BadBit {
+                word: number,
+                at: 0,
+            });
+        }
+        match first_bad_digit(text.as_bytes()) {
+            Some(at) => Err(RunError::BadBit { word: number, at }),
             None => Ok(MaskArgument { text }),
         }
     }
@@ -49,23 +58,6 @@ impl<'a> MaskArgument<'a> {
         let digits = self.text.as_bytes().iter().copied();
         Ok(Mask::from_bools(alloc, digits.map(|digit| digit == b'1'))?)
     }
-}
-
-// What is wrong with the argument of this number, if it is to be a mask.
-fn mask_fault(number: usize, text: &str) -> Option<RunError>
-    ensures { result ≡ mask_fault number text.now }
-{
-    if text == "-" {
-        return None;
-    }
-    if text.is_empty() {
-        return Some(RunError::BadBit {
-            word: number,
-            at: 0,
-        });
-    }
-    let at = first_bad_digit(text.as_bytes())?;
-    Some(RunError::BadBit { word: number, at })
 }
 
 // The place of the first byte that is neither `0` nor `1`.

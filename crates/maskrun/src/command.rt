@@ -17,8 +17,8 @@ use crate::argument::{
     MaskArgument, MaskList, mask_and_number, mask_and_range, masks, one_mask, two_masks,
 };
 use crate::error::RunError;
-use crate::print::{Item, list_text};
-use std::alloc::{AllocError, Global};
+use crate::print::list_text;
+use std::alloc::Global;
 use vortex_mask::{Mask, MaskError};
 
 // A command with its arguments read.
@@ -45,14 +45,7 @@ impl<'a> Command<'a> {
         let [name, arguments @ ..] = words else {
             return Err(RunError::Usage);
         };
-        Command::of_name(name.as_str(), arguments)
-    }
-
-    // What the command of this name says by its arguments.
-    fn of_name(name: &str, arguments: &'a [String]) -> Result<Command<'a>, RunError>
-        ensures { result ≡ command_of (name.now ∷ map string_bytes arguments.now) }
-    {
-        match name {
+        match name.as_str() {
             "rank" => two_masks(arguments).map(|(a, b)| Command::Rank(a, b)),
             "and" => two_masks(arguments).map(|(a, b)| Command::And(a, b)),
             "or" => two_masks(arguments).map(|(a, b)| Command::Or(a, b)),
@@ -136,17 +129,6 @@ fn print(alloc: Global, mask: Result<Mask, MaskError>) -> Result<String, RunErro
     ensures fault { IfErr mask (λ e. result ≡ Err (run_error.Mask e)) }
 {
     Ok(mask?.to_string(alloc)?)
-}
-
-// The line of a list, where memory was found for it.
-fn print_list<T: Item + Drop>(
-    alloc: Global,
-    items: Result<Vec<T>, AllocError>,
-) -> Result<String, RunError>
-    ensures found { IfOk items (λ v. Prints result (Ok (list_text T.text v.items))) }
-    ensures fault { IfErr items (λ _. result ≡ Err out_of_memory) }
-{
-    Ok(list_text(alloc, &items?)?)
 }
 
 // The mask has so many values.
@@ -240,21 +222,15 @@ fn indices(alloc: Global, a: &MaskArgument) -> Result<String, RunError>
     ensures { Prints result (Ok (list_text decimal (positions a.now))) }
 {
     let mask = a.mask(alloc)?;
-    print_list(alloc, mask.set_indices().collect(alloc))
+    let indices: Vec<_> = mask.set_indices().collect(alloc)?;
+    Ok(list_text(alloc, &indices)?)
 }
 
 fn ranges(alloc: Global, a: &MaskArgument) -> Result<String, RunError>
     ensures { Prints result (Ok (list_text range_text (runs a.now))) }
 {
     let mask = a.mask(alloc)?;
-    print_list(alloc, runs(alloc, &mask))
-}
-
-// The runs of true values.
-fn runs(alloc: Global, mask: &Mask) -> Result<Vec<(usize, usize)>, AllocError>
-    ensures { IfOk result (λ v. v.items ≡ runs (truth mask.now)) }
-{
     let runs: Vec<_> = mask.set_slices().collect(alloc)?;
     mask_bits::laws::runs_are_the_list(&runs);
-    Ok(runs)
+    Ok(list_text(alloc, &runs)?)
 }
