@@ -82,21 +82,11 @@ fn narrow_whole(chunks: &BitChunks<'_>, ranks: &RankBits<'_>, are_few: bool, out
     requires room { length out.old ≡ 8 * started_words (length chunks.now) }
     ensures { bitmap out.new 0 (length chunks.now) ≡ rank_intersection chunks.now (values ranks.now) }
 {
-    if are_few {
-        narrow_few(chunks, ranks, out);
-    } else {
+    if !are_few {
         narrow_by_bits::<Portable>(chunks, ranks, out);
+        return;
     }
-}
-
-// Narrows values of which few are true. Most words have none, and need no ranks.
-fn narrow_few(chunks: &BitChunks<'_>, ranks: &RankBits<'_>, out: &mut [u8])
-    requires fitting { length (values ranks.now) ≡ count chunks.now }
-    requires within { IsWithinBytes ranks.now.bytes ranks.now.offset ranks.now.len }
-    requires whole { length chunks.now % 64 ≡ 0 }
-    requires room { length out.old ≡ 8 * started_words (length chunks.now) }
-    ensures { bitmap out.new 0 (length chunks.now) ≡ rank_intersection chunks.now (values ranks.now) }
-{
+    // most words have no true value, and need no ranks
     let mut at = 0;
     for i in 0..chunks.len() {
         let word = chunks.word(i);

@@ -1,6 +1,6 @@
 //! The runs of true values of a bitmap.
 
-ghost use Rattle.std.specs.Prelude.{◌≡◌, ◌+◌, ◌<◌, ◌^◌, ℕ, drop, length, map, min, take, true, false};
+ghost use Rattle.std.specs.Prelude.{◌≡◌, ◌+◌, ◌<◌, ℕ, drop, length, map, min, take, true, false};
 ghost use Rattle.mask_bits.specs.Bitmap.{bitmap};
 ghost use Rattle.mask_bits.specs.Buffer.{IsWithinBytes};
 ghost use Rattle.mask_bits.specs.Positions.{IsFirstFrom};
@@ -58,20 +58,7 @@ pub extern "C" fn row_mask_next_runs(
     if from > len {
         return 0;
     }
-    let values = BitChunks::new(bytes, offset + from, len - from);
-    runs_of_values(values, from, out)
-}
-
-// Writes the runs of values of which the first has the index `from`.
-#[inline]
-fn runs_of_values(values: BitChunks<'_>, from: usize, out: &mut [RowMaskRun]) -> usize
-    requires fits { from + length values < 2 ^ 64 }
-    ensures runs { map {B = ℕ × ℕ} (λ r. (r.start, r.end)) (take result out.new) ≡ take (length out.old)
-        (map {B = ℕ × ℕ} (λ r. (from + r.0, from + r.1)) (runs values.entry)) }
-    ensures count { result ≡ min (length out.old) (length (runs values.entry)) }
-    ensures behind { drop result out.new ≡ drop result out.old }
-{
-    let mut runs = SetSlices::new(values);
+    let mut runs = SetSlices::new(BitChunks::new(bytes, offset + from, len - from));
     let mut at = 0;
     while at < out.len() {
         let Some((start, end)) = runs.next() else {

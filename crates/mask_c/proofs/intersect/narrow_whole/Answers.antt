@@ -1,7 +1,7 @@
 use Rattle.mask_c.proofs.Common.{◌+◌, ◌*◌, below_more, count_ones, inl, sym, ap, ◌∙◌, arith, bitmap, values, rank_intersection, length-rank_intersection, padded_part-whole, count-word_bits, IsAt, place-after_within, place-next, place-within, rank_place-fits, started_words_are_the_list}
 use Rattle.mask_c.proofs.LastLemmas.{window-kept}
-use Rattle.mask_c.proofs.intersect.narrow_few.Goals as goal
-use Rattle.mask_c.proofs.intersect.narrow_few.Goals.{After-word-word}
+use Rattle.mask_c.proofs.intersect.narrow_whole.Goals as goal
+use Rattle.mask_c.proofs.intersect.narrow_whole.Goals.{After-word-word}
 
 -- the word of a turn, and the ranks, of which there are as many as true values
 here : (c : After-word-word) → IsAt c.args.chunks.now c.loop-i.i c.loop-i.at c.word-word.result (count_ones c.word-word.result)

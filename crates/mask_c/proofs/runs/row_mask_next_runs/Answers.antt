@@ -1,6 +1,7 @@
-use Rattle.mask_c.proofs.Common.{Bool, List, length, min, take, ap, ◌∙◌, arith, drop_of_length-le, runs_from, length-bitmap}
+use Rattle.mask_c.proofs.Common.{◌≡◌, ◌<◌, ◌≤◌, ◌+◌, ◌-◌, ◌++◌, ◌∷◌, ℕ, Bool, List, length, map, take, subst, sym, ap, ◌∙◌, arith, All, length-set, All-tail, drop_of_length-le, refl, runs_from, length-bitmap}
+use Rattle.mask_c.proofs.ChooseLemmas.{behind-more}
 use Rattle.mask_c.proofs.IndexLemmas.{bitmap-rest}
-use Rattle.mask_c.proofs.RunLemmas.{moved_runs, length_moved}
+use Rattle.mask_c.proofs.RunLemmas.{moved, pair, run_of, run_more, moved_runs, length_moved}
 use Rattle.mask_c.proofs.runs.row_mask_next_runs.Goals as goal
 
 pub returns-then-from-len-clause-runs : goal.returns-then-from-len-clause-runs
@@ -9,15 +10,38 @@ returns-then-from-len-clause-runs c = grind (arith, drop_of_length-le, length-bi
 pub returns-then-from-len-clause-count : goal.returns-then-from-len-clause-count
 returns-then-from-len-clause-count c = grind (arith, drop_of_length-le, length-bitmap)
 
-pub returns-clause-runs : goal.returns-clause-runs
-returns-clause-runs c =
+pub loop-at-init : goal.loop-at-init
+loop-at-init c =
     let from = c.args.from in
-    let rest = c.new-values.ensures.list ∙ bitmap-rest c.args.bytes.now c.args.offset c.args.len from (omega (arith, c.if-from-len.false)) in
-    c.runs_of_values.ensures.runs ∙ ap (take (length c.args.out.now)) (moved_runs from c.new-values.result ∙ ap (runs_from from) rest)
+    let m : List Bool = c.new.result in
+    let rest = c.new.ensures.list ∙ bitmap-rest c.args.bytes.now c.args.offset c.args.len from (omega (arith, c.if-from-len.false)) in
+    let all = ap (map (moved from)) c.new-runs.ensures.list ∙ moved_runs from m ∙ ap (runs_from from) rest in
+    record {
+      all = all;
+      counted = omega (arith, ap length c.new-runs.ensures.list, length_moved from m, ap (λ (m : List Bool). length (runs_from from m)) rest);
+      nonempty = c.new-runs.ensures.runs.nonempty;
+      within = subst (λ (n : ℕ). All (λ (r : ℕ × ℕ). r.1 ≤ n) c.new-runs.result) (ap length c.new.ensures.list ∙ length-bitmap c.args.bytes.now (c.args.offset + from) (c.args.len - from)) c.new-runs.ensures.runs.within;
+      room = omega arith;
+      behind = refl;
+    }
 
-pub returns-clause-count : goal.returns-clause-count
-returns-clause-count c =
+pub loop-at-preserved : goal.loop-at-preserved
+loop-at-preserved c =
     let from = c.args.from in
-    let rest = c.new-values.ensures.list ∙ bitmap-rest c.args.bytes.now c.args.offset c.args.len from (omega (arith, c.if-from-len.false)) in
-    c.runs_of_values.ensures.count
-    ∙ ap (min (length c.args.out.now)) (length_moved from c.new-values.result ∙ ap (λ (m : List Bool). length (runs_from from m)) rest)
+    let at = c.loop-at.at in
+    let out = c.loop-at.out in
+    let was = c.loop-at.invariant in
+    let r : ℕ × ℕ = (c.in-Some.start, c.in-Some.end) in
+    let left : List (ℕ × ℕ) = c.next.new.self in
+    let step : c.loop-at.runs ≡ r ∷ left = c.in-Some.ensures.steps in
+    let inside : at < length out = omega (arith, c.loop-at-test.true, c.loop-at.auto.out) in
+    record {
+      all = run_more from at out r left inside
+          ∙ ap (λ (rs : List (ℕ × ℕ)). map pair (take at out) ++ map (moved from) rs) (sym step)
+          ∙ was.all;
+      counted = omega (arith, ap length step, was.counted);
+      nonempty = All-tail (λ (r : ℕ × ℕ). r.0 < r.1) r left (subst (All (λ (r : ℕ × ℕ). r.0 < r.1)) step was.nonempty);
+      within = All-tail (λ (r : ℕ × ℕ). r.1 ≤ c.args.len - from) r left (subst (All (λ (r : ℕ × ℕ). r.1 ≤ c.args.len - from)) step was.within);
+      room = omega (arith, inside, length-set out at (run_of from r));
+      behind = behind-more out c.args.out.now at (at + 1) (run_of from r) (omega arith) was.behind;
+    }
