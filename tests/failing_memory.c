@@ -17,21 +17,17 @@ void *__libc_calloc(size_t count, size_t size);
 void *__libc_realloc(void *old, size_t size);
 
 static long refused_request, requests_left;
-static int refuses_rest, refusal_to, is_out_of_memory;
-
+static int refuses_rest, refusal_to, is_out_of_memory, refused_depth;
 static void *refused_in[64];
-static int refused_depth;
 static size_t refused_size;
 
-static void tell_abort(int number)
-{
+static void tell_abort(int number) {
     (void)number;
     if (refused_depth > 0 && dprintf(refusal_to, "aborts, refused %zu bytes in\n", refused_size) > 0)
         backtrace_symbols_fd(refused_in, refused_depth, refusal_to);
 }
 
-__attribute__((constructor)) static void start(void)
-{
+__attribute__((constructor)) static void start(void) {
     int in_calls = 0;
     /* (which asks for memory the first time) */
     backtrace(refused_in, 1);
@@ -40,38 +36,33 @@ __attribute__((constructor)) static void start(void)
     requests_left = in_calls ? 0 : refused_request;
 }
 
-static int is_refused(size_t size)
-{
+static int is_refused(size_t size) {
     static const char line[] = "request refused\n";
     int is_this = requests_left > 0 && --requests_left == 0;
     if (is_this && syscall(SYS_write, refusal_to, line, sizeof line - 1) < 0)
         abort();
     if (is_this)
         is_out_of_memory = refuses_rest;
-    if (is_this || is_out_of_memory) {
-        refused_size = size;
-        refused_depth = backtrace(refused_in, sizeof refused_in / sizeof *refused_in);
-    }
-    return is_this || is_out_of_memory;
+    if (!is_this && !is_out_of_memory)
+        return 0;
+    refused_size = size;
+    refused_depth = backtrace(refused_in, sizeof refused_in / sizeof *refused_in);
+    return 1;
 }
 
-void *malloc(size_t size)
-{
+void *malloc(size_t size) {
     return is_refused(size) ? NULL : __libc_malloc(size);
 }
 
-void *calloc(size_t count, size_t size)
-{
+void *calloc(size_t count, size_t size) {
     return is_refused(count * size) ? NULL : __libc_calloc(count, size);
 }
 
-void *realloc(void *old, size_t size)
-{
+void *realloc(void *old, size_t size) {
     return is_refused(size) ? NULL : __libc_realloc(old, size);
 }
 
-ssize_t write(int to, const void *bytes, size_t length)
-{
+ssize_t write(int to, const void *bytes, size_t length) {
     static const char line[] = "calls\n";
     int is_call = length == sizeof line - 1 && memcmp(bytes, line, length) == 0;
     is_out_of_memory = 0;

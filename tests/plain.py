@@ -4,7 +4,7 @@ A mask of no values is held as `AllTrue` or as `AllFalse`, by how it was made: s
 it is held as `AllTrue`.
 """
 import re
-from functools import lru_cache
+from functools import lru_cache, partial
 from itertools import accumulate, compress
 from typing import NamedTuple
 
@@ -89,7 +89,7 @@ def indices(values):
 
 @lru_cache(8)
 def ranges(values):
-    return [it.span() for it in re.finditer("1+", values)]
+    return [f"{it.start()}..{it.end()}" for it in re.finditer("1+", values)]
 
 
 @lru_cache(8)
@@ -100,10 +100,6 @@ def counts(values):
 
 def combined(name, a, b):
     return bits_of(OPERATIONS[name](word_of(a), word_of(b)), len(a))
-
-
-def combined_masks(name, a, b):
-    return mask(combined(name, a.values, b.values), bool(OPERATIONS[name](a.is_all_true, b.is_all_true)))
 
 
 def narrowed(rows, ranks):
@@ -140,18 +136,18 @@ def mask_text(a):
     return f"{a.values} Values" if a.is_mixed() else held
 
 
-def numbers_text(numbers):
-    return ",".join(map(str, numbers)) or "-"
+def combined_text(name, a, b, *_):
+    return mask_text(mask(combined(name, a.values, b.values), bool(OPERATIONS[name](a.is_all_true, b.is_all_true))))
 
 
-def ranges_text(found):
-    return ",".join(f"{start}..{end}" for start, end in found) or "-"
+def list_text(items):
+    return ",".join(map(str, items)) or "-"
 
 
 # The lists that a mask caches: `i` its indices, `r` its ranges.
 LISTS = {
-    "i": ("indices", lambda values: numbers_text(indices(values))),
-    "r": ("ranges", lambda values: ranges_text(ranges(values))),
+    "i": ("indices", lambda values: list_text(indices(values))),
+    "r": ("ranges", lambda values: list_text(ranges(values))),
 }
 
 
@@ -210,17 +206,15 @@ ALONE = {
 }
 ANSWERS = {
     **ALONE,
-    **{
-        f"{it},into_{it},to_{it}": lambda a, b, *_, name=it: mask_text(combined_masks(name, a, b)) for it in OPERATIONS
-    },
+    **{f"{it},into_{it},to_{it}": partial(combined_text, it) for it in OPERATIONS},
     "threshold_iter": lambda a, b, numbers, lists: threshold_text(a, *numbers, lists),
     "slice": lambda a, b, numbers, lists: (
         cached_text(a.part(*numbers), (lists or "") * ([*numbers] == [0, len(a.values)]))
     ),
     "limit,to_limited": lambda a, b, k, _: mask_text(mask(limited(a.values, k[0]), a.is_all_true)),
     "groups": lambda a, b, n, _: ",".join(mask_text(a.part(i, i + n[0])) for i in range(0, len(a.values), n[0])) or "-",
-    "valid_counts_for_indices": lambda a, b, numbers, _: numbers_text(counts(a.values)[i] for i in numbers),
-    "choose": lambda a, b, rows, _: numbers_text(rows[i] for i in indices(a.values)),
+    "valid_counts_for_indices": lambda a, b, numbers, _: list_text(counts(a.values)[i] for i in numbers),
+    "choose": lambda a, b, rows, _: list_text(rows[i] for i in indices(a.values)),
     "choose_values": lambda a, b, *_: mask_text(mask(at_rows(a.values, b.values), b.is_all_true)),
     "intersect_by_rank": lambda a, b, *_: mask_text(narrowed_mask(a, b)),
     "equal": lambda a, b, *_: flag(a.values == b.values),

@@ -2,7 +2,7 @@
 import pathlib
 import re
 
-from plain import answer, indices, mask, negated, numbers_text, ranges, ranges_text, text
+from plain import answer, indices, list_text, mask, negated, ranges, text
 
 FILE = pathlib.Path(__file__).resolve().parent.parent / "crates" / "mask_tests" / "refused"
 EACH = "indices,one_rank,ranges,both,bits"
@@ -44,12 +44,9 @@ def of_mask(line, call):
     """The row of a call of a mask of the tables."""
     _, _, length, word, other, start, end, listed = line.split()
     values = values_of(word)
-    stands = {
-        **{"A": word, "B": other, "S": start, "E": end, "I": listed, "L": length, "V": text(values)},
-        **{"T": numbers_text(indices(values)), "F": numbers_text(indices(negated(values)))},
-        **{"R": ranges_text(ranges(values)), "N": "1" * len(values)},
-        "ROWS": numbers_text(FIRST_ROW + i for i in range(len(values))),
-    }
+    stands = {"A": word, "B": other, "S": start, "E": end, "I": listed, "L": length, "V": text(values)}
+    stands |= {"T": list_text(indices(values)), "F": list_text(indices(negated(values))), "N": "1" * len(values)}
+    stands |= {"R": list_text(ranges(values)), "ROWS": list_text(FIRST_ROW + i for i in range(len(values)))}
     name, *words = call.split()
     words = [stands.get(it.strip("&"), it.strip("&")) + "&" * it.endswith("&") for it in words]
     numbers = [int(it) for word in words[1:] for it in word.split(",") if it.isdecimal()]
@@ -58,28 +55,24 @@ def of_mask(line, call):
 
 
 def written(found):
-    what, is_of, word = found[1].partition(" of ")
-    if not is_of:
-        return text(values_of(what))
+    what, _, word = found[1].rpartition(" of ")
     values = values_of(word)
-    return ranges_text(ranges(values)) if what == "ranges" else numbers_text(indices(values))
+    return list_text({"ranges": ranges, "indices": indices}[what](values)) if what else text(values)
 
 
 def rows():
     """The group, the name and the row of each scenario."""
     group, masks = "", []
-    for line in FILE.read_text().splitlines():
+    for line in re.findall("^[^#\n].*", FILE.read_text(), re.M):
+        named = re.match(r"([\w/,]+): (.*)", line)
         if line.startswith("["):
             group = line.strip("[]")
-        elif line and not line.startswith("#") and group == "masks":
+        elif group == "masks":
             masks.append(line)
-        elif line and not line.startswith("#"):
-            named = re.match(r"([\w/,]+): (.*)", line)
-            if " -> " in line:
-                name, row = named.groups() if named else (line.split(" -> ")[0], line)
-                yield group, name, re.sub(r"\{(\w[^{} ]*|\w+ of [^{} ]+)\}", written, row)
-                continue
+        elif " -> " in line:
+            name, row = named.groups() if named else (line.split(" -> ")[0], line)
+            yield group, name, re.sub(r"\{(\w[^{} ]*|\w+ of [^{} ]+)\}", written, row)
+        else:
             kinds = named[1].replace("each", EACH).split(",")
-            for it in masks:
-                if it.split()[0] in kinds:
-                    yield group, f"{it.split()[1]}: {named[2]}", of_mask(it, named[2])
+            for it in (it for it in masks if it.split()[0] in kinds):
+                yield group, f"{it.split()[1]}: {named[2]}", of_mask(it, named[2])

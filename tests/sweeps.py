@@ -2,8 +2,8 @@
 masks and densities go by fixed streams of words; the others look at lengths and offsets where the code has a branch."""
 from plain import (
     ALONE, MAX, ODD, OPERATIONS, THREE_IN_FIVE, TWO_IN_THREE, answer, at_rows, bits_of, cached_text, combined, drawn,
-    flag, index_text, indices, mask, mask_text, narrowed, narrowed_mask, negated, negated_at, numbers_text, ranges,
-    ranges_text, repeating, text, walk_text, word_of, words, words_of,
+    flag, index_text, indices, list_text, mask, mask_text, narrowed, narrowed_mask, negated, negated_at, ranges,
+    repeating, text, walk_text, word_of, words, words_of,
 )
 
 STATE = 0x2545_F491_4F6C_DD1D
@@ -34,7 +34,7 @@ def spread(rows, first, second=("bools:",)):
 def row(names, a, operand, b=None, numbers=()):
     """Calls that answer the same of a mask, and what else their words say."""
     others = [f"%{text(b.values)}"] if b else []
-    others += [numbers_text(numbers)] if names in ("choose", "valid_counts_for_indices") else map(str, numbers)
+    others += [list_text(numbers)] if names in ("choose", "valid_counts_for_indices") else map(str, numbers)
     return f"{names} {' '.join([operand, *others])} => {answer(names.split(',')[0], a, b, numbers)}"
 
 
@@ -129,9 +129,9 @@ def buffer_reads(values, operand):
     yield f"bits.last_set_index {operand} => {index_text(found, len(found) - 1)}"
     yield f"bits.debug {operand} => BitBuffer({values})"
     yield f"bits.set_indices {operand} => {' '.join(['indices', *map(str, found)])}"
-    yield f"bits.indices {operand} => {numbers_text(found)}"
-    yield f"bits.set_slices {operand} => {' '.join(['ranges', *(ranges_text([it]) for it in ranges(values))])}"
-    yield f"bits.runs {operand} => {ranges_text(ranges(values))}"
+    yield f"bits.indices {operand} => {list_text(found)}"
+    yield f"bits.set_slices {operand} => {' '.join(['ranges', *ranges(values)])}"
+    yield f"bits.runs {operand} => {list_text(ranges(values))}"
     for start in {0, 1, length // 3, 63, 64, length}:
         for end in {0, 8, length // 2, 64, 65, length}:
             if start <= end <= length:
@@ -179,10 +179,10 @@ def pairs_of_offsets(length):
 def long_buffers(length):
     a, b = repeating(length, 3, 1), repeating(length, 7, 4)
     padded = a + "1" * (72 + -length % 8)
-    given = numbers_text(word_of(padded[i : i + 8]) for i in range(0, len(padded), 8))
+    given = list_text(word_of(padded[i : i + 8]) for i in range(0, len(padded), 8))
     yield f"bits.from_bools,bits.from_rows {a} => {a}"
     yield f"bits.from_vec {given} {length} => {a}"
-    yield f"bits.from_indices {length} {numbers_text(indices(a))} => {a}"
+    yield f"bits.from_indices {length} {list_text(indices(a))} => {a}"
     yield f"bits.new_set {length} => {'1' * length}"
     yield f"bits.new_unset {length} => {'0' * length}"
     negations = [f"bits.not,bits.into_not @{a} => {negated(a)}"]
@@ -191,15 +191,9 @@ def long_buffers(length):
 
 # ---- builders
 
-def scattered(length):
-    """Neither regular nor much of one value."""
-    return "".join(str((i * 0x9E37_79B9_7F4A_7C15 & MAX) >> 63) for i in range(length))
-
-
 def builders(before):
     """So many values, an operation, and what is written next, which finds clear bits."""
-    start = scattered(before)
-    lists = [scattered(n) for n in (0, 1, 9, 63, 64, 65, 193, 20_021)]
+    start, *lists = (drawn(words(STATE), n, ODD) for n in (before, 0, 1, 9, 63, 64, 65, 193, 20_021))
     changes = [(f"b:{form}{text(it)}", it) for it in lists for form in at(OFFSETS, "+-")]
     for word in (MAX, 0x9E37_79B9_7F4A_7C15, 0):
         changes += [(f"w:{word:#x}:{count}", bits_of(word)[:count]) for count in range(65)]
@@ -213,48 +207,34 @@ def builders(before):
 
 # ---- deposits, extracts and selections of a word
 
-def hexadecimal(word):
-    return f"0x{word:X}"
+def words_at_random(first, end):
+    """The deposits and extracts of these rounds, and the selections of the first 250 of them. Every seventh places are
+    a word, and the others have ever fewer set bits; every other one is complemented. All rounds draw from one stream.
 
-
-def rounds(first, end):
-    """The places and the source of each of these rounds. Every seventh places are a word, and the others have ever
-    fewer set bits; every other one is complemented. All draw from one stream, so those before them are drawn too.
-
-    >>> found = [it for share in SECTIONS["words"][0] for it in rounds(*share)]
-    >>> len(found)
+    >>> sum(end - first for first, end in SECTIONS["words"][0])
     20000
     >>> for turn in (0, 1, 5_000, 19_999):
-    ...     print(turn, *map(hexadecimal, found[turn]))
-    0 0xDC1B77AE0BF34DAD 0x64F0EEB9026E6076
-    1 0xCFF8FBFFDB7FBFCB 0x2CEB16E0A1C54AEC
-    5000 0x400214000210 0xEB0C0135F1E11D94
-    19999 0xE40DBBAEE91521E5 0x7F5C3D26CFFFCD26
+    ...     print(next(words_at_random(turn, turn + 1)).partition(" ")[2])
+    0x64f0eeb9026e6076 0xdc1b77ae0bf34dad -> 0xD01004A608C0058C
+    0x2ceb16e0a1c54aec 0xcff8fbffdb7fbfcb -> 0x48B0E050D0549748
+    0xeb0c0135f1e11d94 0x400214000210 -> 0x204000000
+    0x7f5c3d26cfffcd26 0xe40dbbaee91521e5 -> 0x6005BBAE89040124
     """
     source = words(0x9E37_79B9_7F4A_7C15)
     for turn in range(end):
         places = next(source)
         for _ in range(turn % 7):
             places &= next(source)
-        word = next(source)
-        if turn >= first:
-            yield MAX ^ places if turn % 2 else places, word
-
-
-def words_at_random(first, end):
-    """The deposits and extracts of these rounds, and the selections of the first 250 of them.
-
-    >>> next(words_at_random(19_999, 20_000))
-    'deposit,deposit_by_loop,deposit_bytewise 0x7f5c3d26cfffcd26 0xe40dbbaee91521e5 -> 0x6005BBAE89040124'
-    """
-    for turn, (places, word) in enumerate(rounds(first, end)):
+        places, word = MAX ^ places if turn % 2 else places, next(source)
+        if turn < first:
+            continue
         at_places = bits_of(places)
         deposited = word_of(narrowed(at_places, bits_of(word)[: at_places.count("1")]))
-        yield f"deposit,deposit_by_loop,deposit_bytewise {word:#x} {places:#x} -> {hexadecimal(deposited)}"
+        yield f"deposit,deposit_by_loop,deposit_bytewise {word:#x} {places:#x} -> 0x{deposited:X}"
         for it in (word, MAX):
             extracted = word_of(at_rows(at_places, bits_of(it)))
-            yield f"extract,extract_by_bits {it:#x} {places:#x} -> {hexadecimal(extracted)}"
-        if turn < 250:
+            yield f"extract,extract_by_bits {it:#x} {places:#x} -> 0x{extracted:X}"
+        if turn < first + 250:
             yield from (f"select {places:#x} {rank} -> {place}" for rank, place in enumerate(indices(at_places)))
 
 
