@@ -1,9 +1,10 @@
-"""Reads Rust with contracts: the functions of a crate, their clauses, and where they stand; and spec files.
+"""What the scripts share: reads Rust with contracts, spec files and edits, finds and builds programs, and counts.
 
-What the scripts beside this file share: it also says where a program is, and has it built. `.ci/docs` runs the examples
-in it.
+`.ci/docs` runs the examples in it.
 """
 import inspect
+import json
+import os
 import re
 import subprocess
 import sys
@@ -15,10 +16,10 @@ from pathlib import Path
 
 ROOT = Path(__file__).resolve().parent.parent
 CRATES = ROOT / "crates"
+sys.path.append(str(ROOT / "tests"))
 # Crates that have nothing but tests, and the benchmark.
 TEST_CRATES = "mask_tests", "mask_bench"
-
-
+CARGO_BUILD = "cargo build --offline -q --release --test calls --bin maskrun --message-format=json-render-diagnostics"
 # An impl or a trait: where it stands, its type, the trait of an impl, whether a public trait, its ghost members.
 Block = namedtuple("Block", "start end owner trait is_public_trait ghosts")
 
@@ -67,11 +68,6 @@ def closing(text, at):
     return len(text)
 
 
-def without_generics(head):
-    shorter = re.sub(r"<[^<>]*>", "", head)
-    return head if shorter == head else without_generics(shorter)
-
-
 def blocks_of(code):
     """
     >>> code = "impl<'a, T: Into<Vec<u8>>> Model for Walk<'a> { ghost view = { 1 } } pub trait Cut: Sized { }"
@@ -80,7 +76,10 @@ def blocks_of(code):
     """
     for it in re.finditer(r"^(?:pub(?:\([^)]*\))? )?(impl|trait)\b([^{;]*)\{", code, re.M):
         end = closing(code, it.end() - 1)
-        head = " ".join(without_generics(it[2].replace("->", "")).split()).split(" where ")[0]
+        head = it[2].replace("->", "")
+        while (shorter := re.sub(r"<[^<>]*>", "", head)) != head:
+            head = shorter
+        head = " ".join(head.split()).split(" where ")[0]
         trait, _, owner = f" {head}".rpartition(" for ") if it[1] == "impl" else ("", "", head.split(":")[0])
         owner, trait = ((re.findall(r"\w+", part) or [""])[-1] for part in (owner, trait))
         ghosts = re.findall(r"\bghost (\w+) =", code[it.end() : end])
@@ -176,17 +175,6 @@ def functions_of(crate):
     return [it for file in files for it in functions_in(file)]
 
 
-def clauses_of(crate):
-    """The clauses of each function, and the ghost members of each type's impls, as what always holds of it."""
-    found = {}
-    for file in (CRATES / crate / "src").rglob("*.rt"):
-        for block in blocks_of(blanked(file.read_text())):
-            found.setdefault(block.owner, set()).update(block.ghosts)
-    for it in functions_of(crate):
-        found.setdefault(it.name, set()).update(it.clauses)
-    return found
-
-
 class Edit:
     """An edit: what it breaks, and its pairs of texts, old and new, behind their file; or its fault."""
 
@@ -258,11 +246,15 @@ def specs():
     return {it: texts[it] for it in ordered if it in texts}
 
 
-def program(crate, option, rust_name, *arguments):
+def program(crate, option, *arguments):
     """Where the program of a crate is: `--built` as `rt ci` left it, `--rust` of the Rust sources, or else `rt` proves
     it first, and runs it with these arguments."""
     if option == "--rust":
-        return subprocess.check_output([ROOT / ".ci" / "rust_program", rust_name], text=True).strip()
+        # (with the lines of the sources, so that a place in a program can be told)
+        how = {"cwd": ROOT / "rust", "env": {**os.environ, "CARGO_PROFILE_RELEASE_DEBUG": "line-tables-only"}}
+        told = map(json.loads, subprocess.check_output(CARGO_BUILD.split(), **how).splitlines())
+        built = {it["target"]["name"]: it["executable"] for it in told if it.get("executable")}
+        return built["calls" if crate == "mask_tests" else crate]
     if option != "--built":
         how = {"cwd": CRATES / crate, "stdin": subprocess.DEVNULL, "stdout": subprocess.DEVNULL}
         subprocess.run(["rt", "run", "--", *arguments], **how, check=True)
