@@ -5,7 +5,7 @@ it is held as `AllTrue`.
 """
 import re
 from functools import lru_cache, partial
-from itertools import accumulate, compress
+from itertools import accumulate
 from typing import NamedTuple
 
 MAX = 2**64 - 1
@@ -13,8 +13,6 @@ MAX = 2**64 - 1
 ODD, THREE_IN_FIVE, TWO_IN_THREE = (2, 1, 2), (5, 0, 3), (3, 1, 3)
 # Of whole lists at once, each as the number with its bits.
 OPERATIONS = {"bitand": lambda a, b: a & b, "bitor": lambda a, b: a | b, "bitand_not": lambda a, b: a & ~b}
-# Of a digit, as a byte, its bit.
-BITS = bytes(digit & 1 for digit in range(256))
 
 
 class Mask(NamedTuple):
@@ -84,7 +82,7 @@ def negated_at(values, i):
 
 @lru_cache(8)
 def indices(values):
-    return [*compress(range(len(values)), values.encode().translate(BITS))]
+    return [it.start() for it in re.finditer("1", values)]
 
 
 @lru_cache(8)
@@ -144,22 +142,19 @@ def list_text(items):
     return ",".join(map(str, items)) or "-"
 
 
-# The lists that a mask caches: `i` its indices, `r` its ranges.
-LISTS = {
-    "i": ("indices", lambda values: list_text(indices(values))),
-    "r": ("ranges", lambda values: list_text(ranges(values))),
-}
+# The lists that a mask caches.
+LISTS = {"i": indices, "r": ranges}
 
 
 def cached_text(a, caches):
     """The mask with what it has cached, if it is mixed."""
     listed = (LISTS[it] for it in "ir" if it in caches and a.is_mixed())
-    return mask_text(a) + "".join(f" {name} {of(a.values)}" for name, of in listed)
+    return mask_text(a) + "".join(f" {of.__name__} {list_text(of(a.values))}" for of in listed)
 
 
 def lent_text(a, kind, caches):
     """A list that a mask lends, and the mask after it, which has it cached beside these, if it is told of them."""
-    lent = LISTS[kind][1](a.values) if a.is_mixed() else "All" if a.is_all_true else "None"
+    lent = list_text(LISTS[kind](a.values)) if a.is_mixed() else "All" if a.is_all_true else "None"
     return f"{lent} then {mask_text(a) if caches is None else cached_text(a, caches + kind)}"
 
 
@@ -208,9 +203,7 @@ ANSWERS = {
     **ALONE,
     **{f"{it},into_{it},to_{it}": partial(combined_text, it) for it in OPERATIONS},
     "threshold_iter": lambda a, b, numbers, lists: threshold_text(a, *numbers, lists),
-    "slice": lambda a, b, numbers, lists: (
-        cached_text(a.part(*numbers), (lists or "") * ([*numbers] == [0, len(a.values)]))
-    ),
+    "slice": lambda a, b, ends, lists: cached_text(a.part(*ends), (lists or "") * ([*ends] == [0, len(a.values)])),
     "limit,to_limited": lambda a, b, k, _: mask_text(mask(limited(a.values, k[0]), a.is_all_true)),
     "groups": lambda a, b, n, _: ",".join(mask_text(a.part(i, i + n[0])) for i in range(0, len(a.values), n[0])) or "-",
     "valid_counts_for_indices": lambda a, b, numbers, _: list_text(counts(a.values)[i] for i in numbers),

@@ -14,6 +14,10 @@ LONG = [4_095, 4_096, 4_097, 65_537, 1_048_583]
 # The constructors of a list, by how they hold one of no values.
 EMPTY_FALSE = ["bools:", "rows:", "indices:", "common:", "slices:", "buffer:", "ranged:"]
 EMPTY_TRUE = ["excluded:", "concat:", "masks:"]
+WORD_KERNELS = "intersect_bit_buffers", "intersect_bit_buffers_by_loop"
+WORD_KERNELS += "intersect_bit_buffer_by_rank_indices", "intersect_bit_buffer_by_rank_indices_by_loop"
+# Of the densities: how many of 1,024 values are true.
+THRESHOLDS = [5, 10, 20, 128, 512, 1_000]
 
 
 def at(offsets, kinds="+-~"):
@@ -55,8 +59,7 @@ def calls(a, operand):
         yield row("limit,to_limited", a, operand, numbers=[k])
     for it in [(0, length), (0, length // 3), (length // 3, length), (length // 5, length // 2), (length, length)]:
         yield row("slice", a, operand, numbers=it)
-    for size in [65, max(length // 3, 1), MAX]:
-        yield row("groups", a, operand, numbers=[size])
+    yield from (row("groups", a, operand, numbers=[it]) for it in (65, max(length // 3, 1), MAX))
     for it in [(1, 2), (count, max(length, 1)), (count + 1, max(length, 1)), (1, MAX)]:
         yield row("threshold_iter", a, operand, numbers=it)
 
@@ -110,14 +113,13 @@ def many_masks(count):
     """None true, all true, or mixed, and every fifth has no values; and masks that each narrow the ones before."""
     lists = [repeating(n % 5, 3, n % 3) for n in range(count)]
     yield f"concat,from_masks {' '.join(map(text, lists)) or '()'} => {mask_text(mask(''.join(lists), True))}"
-    first = left = mask(repeating(2_200, 5, 4))
-    ranks = []
+    left = mask(repeating(2_200, 5, 4))
+    stack = [left]
     for n in range(count):
         is_narrower = n % (1 + count // 1_000) == 0
-        ranks.append(mask(negated_at("1" * left.values.count("1"), n % 70 if is_narrower else MAX)))
-        left = narrowed_mask(left, ranks[-1]) if is_narrower else left
-    told = " ".join(text(it.values) for it in [first, *ranks])
-    yield f"intersect_all_by_rank {told} => {mask_text(left)}"
+        stack.append(mask(negated_at("1" * left.count(), n % 70 if is_narrower else MAX)))
+        left = narrowed_mask(left, stack[-1]) if is_narrower else left
+    yield f"intersect_all_by_rank {' '.join(text(it.values) for it in stack)} => {mask_text(left)}"
 
 
 # ---- buffers
@@ -145,11 +147,10 @@ def buffer_walks(values, operand):
     yield f"bits.iter {operand} => {walk_text(values)}0"
     selected = [index_text(found, n) for n in range(len(found) + 3)]
     yield f"bits.select_each {operand} {len(selected)} => {' '.join([*selected, 'by number'])}"
-    left = [f"{len(started) - i}:{it} " for i, it in enumerate(started)]
-    yield f"bits.padded {operand} => {''.join(left)}0"
-    left = [f"{whole - i}:{it} " for i, it in enumerate(started[:whole])]
+    yield f"bits.padded {operand} => {walk_text(started)}"
     rest = f"rest {len(values) % 64} {word_of(values[64 * whole :])}"
-    yield f"bits.words {operand} => {''.join(left)}0 of {whole}{''.join(f' {it}' for it in started[:whole])} {rest}"
+    listed = " ".join(map(str, [whole, *started[:whole]]))
+    yield f"bits.words {operand} => {walk_text(started[:whole])} of {listed} {rest}"
 
 
 def buffers(length):
@@ -240,10 +241,6 @@ def words_at_random(first, end):
 
 # ---- kernels
 
-WORD_KERNELS = "intersect_bit_buffers", "intersect_bit_buffers_by_loop"
-WORD_KERNELS += "intersect_bit_buffer_by_rank_indices", "intersect_bit_buffer_by_rank_indices_by_loop"
-
-
 def by_each_kernel(rows, ranks):
     """As many deposits as started words, and none is read past the last index that stays; offered, placed, spots."""
     want = narrowed(rows, ranks)
@@ -280,9 +277,6 @@ def long_kernels(length, row_step, rank_step):
     """One row in so many is chosen, and one rank in so many."""
     rows = repeating(length, row_step, 1)
     yield from spread(by_each_kernel(rows, repeating(rows.count("1"), rank_step, 1)), ["0+", "3-"], ["0+", "5-"])
-
-
-THRESHOLDS = [5, 10, 20, 128, 512, 1_000]
 
 
 def caches_indices(rows, ranks, cached):
