@@ -1,5 +1,5 @@
 -- Bytes as one number, the first byte lowest, and its bits.
-use Rattle.mask_bits.proofs.Common.{◌≡◌, ℕ, zero, suc, ◌+◌, ◌*◌, ◌-◌, ◌/◌, ◌%◌, ◌^◌, ◌<◌, ◌≤◌, List, [], ◌∷◌, ◌++◌, length, get_or, take, drop, replicate, refl, sym, ap, subst, ◌∙◌, arith, lit<, mul_assoc, mul-div_cancel, bit_and, shr-shr, pow_pos, bit_at, w128, from_le_bytes, to_le_bytes, bytes_low_first, byte_at, sum_through, byte_worth, get_or-drop, get_or-take, get_or_past, length-append, take_rest, drop-replicate, bit_at-zero, bit_at_cat_low, bit_at_cat_high, number, w64, length-drop, length-take, take_all, drop-drop, pow-suc}
+use Rattle.mask_bits.proofs.Common.{◌≡◌, ℕ, zero, suc, ◌+◌, ◌*◌, ◌-◌, ◌/◌, ◌%◌, ◌^◌, ◌<◌, ◌≤◌, List, [], ◌∷◌, ◌++◌, length, get_or, take, drop, replicate, refl, sym, ap, subst, ◌∙◌, arith, lit<, mul_assoc, mul-div_cancel, bit_and, shr-shr, pow_pos, bit_at, w128, from_le_bytes, to_le_bytes, bytes_low_first, byte_at, sum_through, byte_worth, get_or-drop, get_or-take, get_or_past, length-append, take_rest, drop-replicate, bit_at-zero, bit_at_cat_low, bit_at_cat_high, number, w64, length-drop, length-take, take_all, drop-drop, pow-suc, one-le-pow}
 use Rattle.mask_bits.proofs.Lists.Words.ShiftLemmas.{bit_at-shr, bit_at-low_mask}
 
 -- each entry is a byte
@@ -129,6 +129,19 @@ number-padded_chunk bytes part k is short =
     let len : length (part ++ zeros) ≤ 16 = omega (arith, length-append part zeros, ap length is, length-drop {A = ℕ} (length rest) (replicate 16 0), ap length whole) in
     number_of_sixteen (part ++ zeros) ∙ ap number (take_all 16 (part ++ zeros) len)
     ∙ number-append_zeros part zeros none ∙ ap number (is ∙ whole ∙ sym (take_all 16 (drop k bytes) few))
+
+-- the bytes from one on, by this and those behind it
+pub number-from : (k : ℕ) (bytes : List ℕ) → number (drop k bytes) ≡ get_or bytes k 0 + 256 * number (drop (suc k) bytes)
+number-from zero [] = refl
+number-from zero (b ∷ bs) = refl
+number-from (suc k) [] = refl
+number-from (suc k) (b ∷ bs) = number-from k bs
+
+-- how large the number of some bytes is
+pub number-fits : (k : ℕ) (bytes : List ℕ) → AreBytes bytes → length bytes ≤ k → number bytes < 256 ^ k
+number-fits k [] are few = omega (arith, one-le-pow k 256 (lit< tt))
+number-fits zero (b ∷ bs) are few = omega (arith, few)
+number-fits (suc k) (b ∷ bs) are few = omega (arith, are 0, number-fits k bs (λ j. are (suc j)) (omega (arith, few)), pow-suc 256 k)
 
 -- ---- eight bytes read as a number
 

@@ -3,7 +3,7 @@ use Rattle.mask_bits.proofs.Common.{◌≡◌, ℕ, ◌+◌, ◌*◌, ◌-◌, �
 use Rattle.mask_bits.proofs.BufferLemmas.{length-values, values-part}
 use Rattle.mask_bits.proofs.Lists.Words.WordLemmas.{length-word_bits, word_bits_from_bits}
 use Rattle.mask_bits.proofs.Lists.Words.ShiftLemmas.{get_or-word_bits_shr}
-use Rattle.mask_bits.proofs.NumberLemmas.{AreBytes, bit_at-window}
+use Rattle.mask_bits.proofs.NumberLemmas.{AreBytes, bit_at-number, bit_at-window}
 use Rattle.mask_bits.proofs.Lists.Words.FrontLemmas.{length-window, get_or-window, window-whole}
 use Rattle.mask_bits.proofs.Lists.Words.BackingBitLemmas.{length-bitmap, get_or-bitmap}
 use Rattle.mask_bits.proofs.Lists.Words.PaddedLemmas.{padded_part-low, padded_part-remainder}
@@ -11,6 +11,10 @@ use Rattle.mask_bits.proofs.Lists.Words.PaddedLemmas.{padded_part-low, padded_pa
 -- sixteen bytes, shifted and cut to a word, show the window
 pub word_bits-window : (bytes : List ℕ) (p : ℕ) → AreBytes bytes → word_bits (bit_and (number (take 16 (drop (p / 8) bytes)) / 2 ^ (p % 8)) 18446744073709551615) ≡ window bytes p
 word_bits-window bytes p are = grind (arith, word_bits_from_bits, length-window bytes p, bit_at-window, get_or-window)
+
+-- and so does the number of all bytes, from the first bit on
+pub word_bits-number : (bytes : List ℕ) → AreBytes bytes → word_bits (number bytes) ≡ window bytes 0
+word_bits-number bytes are = grind (arith, word_bits_from_bits, length-window bytes 0, bit_at-number, get_or-window)
 
 -- whole word i of a buffer is the window at its first bit
 pub window-word_part : (b : Packed) (i : ℕ) → i < b.len / 64 → window b.bytes (b.offset + 64 * i) ≡ word_part (values b) i

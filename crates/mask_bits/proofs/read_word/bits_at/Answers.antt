@@ -9,8 +9,8 @@ returns-then-count-eq0 c = grind (arith, no_values c.args.bytes.now c.args.posit
 
 pub returns-then-bytes-lt8 : goal.returns-then-bytes-lt8
 returns-then-bytes-lt8 c =
-    ap (λ (m : List Bool). take c.args.count m) c.word_at.ensures
-    ∙ window-take c.args.bytes.now c.args.position c.args.count c.requires.few
+    bits-shifted c.args.bytes.now 0 c.args.position c.args.position c.args.count c.word_of_few.result
+    (omega (arith, c.word_of_few.type_inv)) c.word_of_few.ensures (omega arith) (omega (arith, c.requires.within, c.if-bytes-lt8.true))
 
 pub returns-then-low-count-le64 : goal.returns-then-low-count-le64
 returns-then-low-count-le64 c =
