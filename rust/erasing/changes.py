@@ -86,6 +86,12 @@ LEAVES = {
         "{ Bits { bytes: &bytes[offset / 8..], low: (offset % 8) as u32, } }",
         "{ Bits { bytes: crate::kit::words::rest(bytes, offset / 8), low: (offset % 8) as u32, } }",
     ),
+    "mask_c::put_last": (
+        "{ if len % 64 == 0 { return; } let mut last = [0u8; 8]; set_word(&mut last, 0, low_bits(word, len % 64));"
+        " let (begin, end) = (8 * (len / 64), len.div_ceil(8)); out[begin..end].copy_from_slice(&last[..end - begin]); }",
+        "{ if len % 64 == 0 { return; } let (begin, end) = (8 * (len / 64), len.div_ceil(8));"
+        " crate::kit::words::put_lowest(low_bits(word, len % 64), &mut out[begin..end]); }",
+    ),
     "word_from": (
         "{ word_of(&bytes[first..], 0) }",
         "{ word_of(crate::kit::words::rest(bytes, first), 0) }",

@@ -1,5 +1,7 @@
 //! Changes in place.
 
+use crate::kit::by_level;
+use crate::kit::words::{number_of_few, put_lowest};
 use crate::prelude::*;
 
 impl BitmapBuf {
@@ -40,23 +42,8 @@ impl BitmapBuf {
     /// assert_eq!(rows.to_string(), "1001");
     /// ```
     pub fn retain(&mut self, mut is_kept: impl FnMut(usize) -> bool) {
-        let mut kept = |base: usize, mut word: u64| {
-            let mut kept = 0;
-            while word != 0 {
-                let bit = word.trailing_zeros();
-                kept |= u64::from(is_kept(base + bit as usize)) << bit;
-                word &= word - 1;
-            }
-            kept
-        };
-        let (whole, last) = self.bytes.as_chunks_mut();
-        let end = 64 * whole.len();
-        for (base, bytes) in (0..).step_by(64).zip(whole) {
-            *bytes = kept(base, u64::from_le_bytes(*bytes)).to_le_bytes();
-        }
-        for (base, byte) in (end..).step_by(8).zip(last) {
-            *byte = kept(base, u64::from(*byte)).to_le_bytes()[0];
-        }
+        let bytes = &mut self.bytes[..];
+        by_level!(retain_v3(bytes, &mut is_kept), retain_any(bytes, &mut is_kept));
     }
 
     /// Forgets all values, and keeps the memory.
@@ -106,4 +93,30 @@ impl BitmapBuf {
         mask_c::row_mask_append(&mut self.bytes, self.len, more.bytes(), more.offset(), more.len());
         self.len = len;
     }
+}
+
+#[cfg(target_arch = "x86_64")]
+#[target_feature(enable = "avx2,bmi1,bmi2,f16c,fma,lzcnt,movbe,popcnt")]
+fn retain_v3(bytes: &mut [u8], is_kept: &mut impl FnMut(usize) -> bool) {
+    retain_any(bytes, is_kept);
+}
+
+#[expect(clippy::inline_always, reason = "a copy is compiled for what the function around it has")]
+#[inline(always)]
+fn retain_any(bytes: &mut [u8], is_kept: &mut impl FnMut(usize) -> bool) {
+    let mut kept = |base: usize, mut word: u64| {
+        let mut kept = 0;
+        while word != 0 {
+            let bit = word.trailing_zeros();
+            kept |= u64::from(is_kept(base + bit as usize)) << bit;
+            word &= word - 1;
+        }
+        kept
+    };
+    let (whole, last) = bytes.as_chunks_mut();
+    let end = 64 * whole.len();
+    for (base, bytes) in (0..).step_by(64).zip(whole) {
+        *bytes = kept(base, u64::from_le_bytes(*bytes)).to_le_bytes();
+    }
+    put_lowest(kept(end, number_of_few(last)), last);
 }

@@ -1,6 +1,6 @@
 //! Truth values that are packed.
 
-use crate::kit::by_level;
+use crate::kit::{by_level, words::put_lowest};
 use crate::prelude::*;
 use crate::proved::mask_bits::from_rows::{word_of_rows, word_of_whole};
 
@@ -28,8 +28,31 @@ pub(super) fn pack_fn(len: usize, mut value: impl FnMut(usize) -> bool, out: &mu
     let mut block = [MaybeUninit::uninit(); BLOCK];
     for (out, start) in out.chunks_mut(BLOCK / 8).zip((0..len).step_by(BLOCK)) {
         let count = take(&mut block, (start..len.min(start + BLOCK)).map(&mut value));
-        // SAFETY: so many were taken.
-        pack_rows(unsafe { as_items(&mut block[..count]) }, |it| *it != 0, out);
+        pack_block(&mut block, count, out);
+    }
+}
+
+/// Writes each byte of the first `count` values of a block, which were taken, to just the bytes that they take.
+fn pack_block(block: &mut Block, count: usize, out: &mut [u8]) {
+    // (as whole words, which take less time than some of one)
+    let whole = count.next_multiple_of(64);
+    block[count..whole].fill(MaybeUninit::new(0));
+    // SAFETY: these were written, here or before.
+    let values = unsafe { as_items(&mut block[..whole]) };
+    by_level!(pack_words_v3(values, out), pack_words(values, out));
+}
+
+#[cfg(target_arch = "x86_64")]
+#[target_feature(enable = "avx2,bmi1,bmi2,f16c,fma,lzcnt,movbe,popcnt")]
+fn pack_words_v3(values: &[u16], out: &mut [u8]) {
+    pack_words(values, out);
+}
+
+#[expect(clippy::inline_always, reason = "a copy is compiled for what the function around it has")]
+#[inline(always)]
+fn pack_words(values: &[u16], out: &mut [u8]) {
+    for (out, values) in out.chunks_mut(8).zip(values.as_chunks::<64>().0) {
+        put_lowest(word_of_whole(values, &mut |it| *it != 0), out);
     }
 }
 
@@ -47,7 +70,7 @@ fn pack_rows_v3<T, F: FnMut(&T) -> bool>(rows: &[T], is_true: &mut F, out: &mut 
     pack_rows_any::<T, F, true>(rows, is_true, out);
 }
 
-#[expect(clippy::inline_always, reason = "a copy is compiled for what the function around it has")]
+#[expect(clippy::inline_always, reason = "as above")]
 #[inline(always)]
 fn pack_rows_any<T, F: FnMut(&T) -> bool, const HAS_AVX2: bool>(
     rows: &[T],
@@ -105,10 +128,8 @@ impl Extend<bool> for BitmapBuf {
                 let _ = self.bytes.try_reserve(room_for(values.size_hint().0));
             }
             let count = take(&mut block, values.by_ref());
-            let rows = &mut block[..count];
-            // SAFETY: so many were taken; it writes each byte, and the last byte has eight values.
-            let added =
-                unsafe { self.add(count, |out| pack_rows(as_items(rows), |it| *it != 0, out)) };
+            // SAFETY: it writes each byte, and the last byte has eight values.
+            let added = unsafe { self.add(count, |out| pack_block(&mut block, count, out)) };
             granted(added, count);
             if count < BLOCK {
                 return;

@@ -72,6 +72,44 @@ fn last_of_eight(bytes: &[u8], count: usize) -> u64 {
     }
 }
 
+/// Fewer than eight bytes as one number, the first lowest.
+#[inline(always)]
+pub(crate) fn number_of_few(bytes: &[u8]) -> u64 {
+    debug_assert!(bytes.len() < 8);
+    match (bytes.first_chunk(), bytes.last_chunk()) {
+        // (what is in both is the same)
+        (Some(first), Some(last)) => {
+            let behind = u64::from(u32::from_le_bytes(*last)) << (8 * (bytes.len() - 4));
+            u64::from(u32::from_le_bytes(*first)) | behind
+        }
+        _ => bytes.iter().rev().fold(0, |number, byte| number << 8 | u64::from(*byte)),
+    }
+}
+
+/// Writes the lowest bytes of a number to at most eight places, in less time than a copy of so few takes.
+#[expect(clippy::cast_possible_truncation, reason = "these are the lowest")]
+#[inline(always)]
+pub(crate) fn put_lowest(mut number: u64, out: &mut [u8]) {
+    debug_assert!(out.len() <= 8);
+    if let Ok(eight) = <&mut [u8; 8]>::try_from(&mut *out) {
+        *eight = number.to_le_bytes();
+        return;
+    }
+    let (fours, rest) = out.as_chunks_mut();
+    if let Some(four) = fours.first_mut() {
+        *four = (number as u32).to_le_bytes();
+        number >>= 32;
+    }
+    let (twos, ones) = rest.as_chunks_mut();
+    if let Some(two) = twos.first_mut() {
+        *two = (number as u16).to_le_bytes();
+        number >>= 16;
+    }
+    if let Some(one) = ones.first_mut() {
+        *one = number as u8;
+    }
+}
+
 /// Item `i`.
 #[inline(always)]
 pub(crate) fn item<T: Copy>(items: &[T], i: usize) -> T {
@@ -180,6 +218,21 @@ mod tests {
                 let made = super::last_bytes(&bytes[..len], first);
                 assert_eq!(made, u128::from_le_bytes(copy), "from byte {first} of {len}");
             }
+        }
+    }
+
+    /// As by a copy.
+    #[test]
+    fn few_bytes_are_read_and_written() {
+        let bytes: Vec<u8> = (1..=8).map(|i| 30 * i).collect();
+        for count in 0..=8 {
+            let mut copy = [0; 8];
+            copy[..count].copy_from_slice(&bytes[..count]);
+            let number = u64::from_le_bytes(copy);
+            assert!(count == 8 || super::number_of_few(&bytes[..count]) == number);
+            let mut out = [7; 9];
+            super::put_lowest(number, &mut out[..count]);
+            assert_eq!((&out[..count], &out[count..]), (&bytes[..count], &[7; 9][count..]));
         }
     }
 

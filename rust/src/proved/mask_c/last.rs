@@ -11,10 +11,8 @@ pub(crate) fn put_last(out: &mut [u8], word: u64, len: usize) {
     if len % 64 == 0 {
         return;
     }
-    let mut last = [0u8; 8];
-    set_word(&mut last, 0, low_bits(word, len % 64));
     let (begin, end) = (8 * (len / 64), len.div_ceil(8));
-    out[begin..end].copy_from_slice(&last[..end - begin]);
+    crate::kit::words::put_lowest(low_bits(word, len % 64), &mut out[begin..end]);
 }
 
 // Clears the bits behind the first `len` in their last byte.
