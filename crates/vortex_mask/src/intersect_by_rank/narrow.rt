@@ -43,11 +43,11 @@ pub(super) fn narrow_by_path(
             intersect_bit_buffers::<Portable>(alloc, buffer, bits, true_count)
         }
         RankPath::RankIndices if by_loop => {
-            let indices = ranks.lend_indices();
+            let indices = ranks.cached_indices().unwrap();
             intersect_bit_buffer_by_rank_indices::<PortableLoop>(alloc, buffer, indices)
         }
         RankPath::RankIndices => {
-            let indices = ranks.lend_indices();
+            let indices = ranks.cached_indices().unwrap();
             intersect_bit_buffer_by_rank_indices::<Portable>(alloc, buffer, indices)
         }
     }

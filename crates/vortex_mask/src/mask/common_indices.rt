@@ -156,25 +156,14 @@ fn merge_rest(list: &mut [usize], other: &[usize], at: Places) -> usize
     ensures within { result ≤ length list.new }
     ensures found { take result list.new ≡ comes_to list.old other.now at.list at.other at.found }
 {
-    let mut at = merge_eights(list, other, at);
-    while at.list < list.len() && at.other < other.len() {
-        at = step(list, other, at);
-    }
-    at.found
-}
-
-// Merges two lists as long as both have eight indices more.
-fn merge_eights(list: &mut [usize], other: &[usize], at: Places) -> Places
-    requires other { IsStrictlyIncreasing other.now }
-    requires under_way { IsUnderWay list.old other.now at.list at.other at.found }
-    ensures merged { GoesOn list.old list.new other.now at.list at.other at.found
-        result.list result.other result.found }
-{
     let mut at = at;
     while at.have_eight(list, other) {
         at = eight_steps(list, other, at);
     }
-    at
+    while at.list < list.len() && at.other < other.len() {
+        at = step(list, other, at);
+    }
+    at.found
 }
 
 // Eight steps, of which none is tested for the end of a list. Where the next eight indices of a list are below all that

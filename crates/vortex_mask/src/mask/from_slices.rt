@@ -14,7 +14,7 @@ use crate::mask::set_ranges::set_ranges;
 use crate::mask::{Mask, MaskError};
 use mask_bits::BitBuffer;
 use mask_bits::words::started_words;
-use std::alloc::Global;
+use std::alloc::{AllocError, Global};
 
 #[tactic(auto, using(crate::proofs::Masks::MaskLemmas::variant_facts, crate::proofs::Masks::SoundRangeLemmas::range_facts))]
 impl Mask {
@@ -53,9 +53,7 @@ impl Mask {
         if let Some(mask) = Mask::of_one_value(len, true_count) {
             return Ok(mask);
         }
-        let mut bytes = vec![in alloc; 0u8; 8 * started_words(len)]?;
-        set_ranges(&mut bytes, &ranges);
-        let buffer = BitBuffer::from_vec(bytes, len)?;
+        let buffer = buffer_of(alloc, len, &ranges)?;
         let mut ranges = ranges;
         merge_touching(&mut ranges);
         Mask::of_mixed(alloc, buffer, true_count, None, Some(ranges))
@@ -116,4 +114,15 @@ fn rows_held(ranges: &[(usize, usize)]) -> usize
     ensures { result ≡ rows_held ranges.now }
 {
     ranges.iter().map(|(start, end)| end - start).sum()
+}
+
+// `len` values that are true exactly in the ranges.
+fn buffer_of(alloc: Global, len: usize, ranges: &[(usize, usize)]) -> Result<BitBuffer, AllocError>
+    requires { range_fault len ranges.now ≡ None }
+    ensures len { IfOk result (λ b. length (values b) ≡ len) }
+    ensures list { IfOk result (λ b. AreRanges (values b) ranges.now) }
+{
+    let mut bytes = vec![in alloc; 0u8; 8 * started_words(len)]?;
+    set_ranges(&mut bytes, ranges);
+    BitBuffer::from_vec(bytes, len)
 }

@@ -1,6 +1,6 @@
 //! The values of a mask that has both true and false ones.
 
-ghost use Rattle.std.specs.Prelude.{◌≡◌, ◌<◌, ◌↔◌, [], true, false, IsTrue, IfOk, Some, None, length, slice_get, IsOkUnless, alloc_error, ◌*◌, IsOk, IsSome, OnErr};
+ghost use Rattle.std.specs.Prelude.{◌≡◌, ◌<◌, ◌↔◌, [], true, false, IsTrue, IfOk, Some, length, slice_get, IsOkUnless, alloc_error, ◌*◌, IsOk, IsSome, OnErr};
 ghost use Rattle.std.specs.Option.{option_map};
 ghost use Rattle.std.specs.Borrow.{sem};
 ghost use Rattle.std.specs.Io.BufRead.{Rests};
@@ -188,7 +188,7 @@ impl MaskValues {
         ensures refused { IsOkUnless result (MaskError.Memory alloc_error) }
     {
         self.cache_list(alloc, false)?;
-        Ok(self.lend_indices())
+        Ok(self.cached_indices().unwrap())
     }
 
     /// The runs of true indices, ascending. Each is its first index and the index past its
@@ -205,7 +205,7 @@ impl MaskValues {
         ensures refused { IsOkUnless result (MaskError.Memory alloc_error) }
     {
         self.cache_list(alloc, true)?;
-        Ok(self.lend_slices())
+        Ok(self.cached_slices().unwrap())
     }
 
     /// The ranges of `slices` where the share of true values is `num / den` or more, else the list of
@@ -245,24 +245,6 @@ impl MaskValues {
         true_part >= num as u128 * self.buffer.len() as u128
     }
 
-    // The true indices, which are cached.
-    pub(crate) fn lend_indices(&self) -> &[usize]
-        requires { IsSome self.now.caches.indices }
-        ensures list { result.now ≡ positions (values self.now.buffer) }
-        ensures cached { Some result.now ≡ self.now.caches.indices }
-    {
-        self.indices.as_deref().unwrap()
-    }
-
-    // The runs, which are cached.
-    pub(crate) fn lend_slices(&self) -> &[(usize, usize)]
-        requires { IsSome self.now.caches.ranges }
-        ensures list { result.now ≡ runs (values self.now.buffer) }
-        ensures cached { Some result.now ≡ self.now.caches.ranges }
-    {
-        self.slices.as_deref().unwrap()
-    }
-
     // The runs, or the true indices, which are cached.
     pub(super) fn lend_list(&self, by_ranges: bool) -> MaskIter<'_>
         requires ranges { by_ranges ≡ true → IsSome self.now.caches.ranges }
@@ -272,9 +254,9 @@ impl MaskValues {
         ensures cached { with_list result self.now.caches ≡ self.now.caches }
     {
         if by_ranges {
-            MaskIter::Slices(self.lend_slices())
+            MaskIter::Slices(self.cached_slices().unwrap())
         } else {
-            MaskIter::Indices(self.lend_indices())
+            MaskIter::Indices(self.cached_indices().unwrap())
         }
     }
 

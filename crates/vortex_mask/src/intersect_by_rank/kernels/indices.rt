@@ -10,7 +10,7 @@ ghost use Rattle.vortex_mask.specs.Steps.{no_steps};
 
 use crate::intersect_by_rank::steps::Steps;
 use crate::mask::{Mask, MaskError};
-use std::alloc::{AllocError, Global};
+use std::alloc::Global;
 
 /// The mask of `len` values whose true indices are `self_indices` taken at `mask_indices`, which it
 /// caches. No word is read and none is deposited.
@@ -33,19 +33,10 @@ pub fn intersect_by_rank_indices(
     ensures steps { IfOk result (λ r. r.1 ≡ no_steps) }
     ensures refused { IsOkUnless result (MaskError.Memory alloc_error) }
 {
-    let indices = entries_at(alloc, self_indices, mask_indices)?;
+    let mut indices = Vec::with_capacity(alloc, mask_indices.len())?;
+    for rank in mask_indices {
+        indices.push(self_indices[*rank])?;
+    }
     let mask = Mask::of_indices(alloc, len, indices)?;
     Ok((mask, Steps::new()))
-}
-
-// The entries of `indices` at `ranks`, in the order of `ranks`.
-fn entries_at(alloc: Global, indices: &[usize], ranks: &[usize]) -> Result<Vec<usize>, AllocError>
-    requires { All (λ k. k < length indices.now) ranks.now }
-    ensures { IfOk result (λ entries. entries.items ≡ at_indices indices.now ranks.now) }
-{
-    let mut entries = Vec::with_capacity(alloc, ranks.len())?;
-    for rank in ranks {
-        entries.push(indices[*rank])?;
-    }
-    Ok(entries)
 }

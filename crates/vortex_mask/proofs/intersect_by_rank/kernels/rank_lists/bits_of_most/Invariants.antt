@@ -1,5 +1,5 @@
 use Rattle.vortex_mask.proofs.Common.{◌-◌, length, IsGathered}
-use Rattle.vortex_mask.proofs.intersect_by_rank.kernels.rank_lists.bits_of_fours.Given as goal
+use Rattle.vortex_mask.proofs.intersect_by_rank.kernels.rank_lists.bits_of_most.Given as goal
 
 -- the ranks before the next one are set bits
 abbrev pub invariant-loop-next : goal.invariant-loop-next
