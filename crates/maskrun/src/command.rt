@@ -6,7 +6,7 @@ ghost use Rattle.maskrun.specs.Arguments.{◌unless◌};
 ghost use Rattle.maskrun.specs.Commands.{command_of, printed, Prints, len_fault, part_fault, sum_fault, misfit, out_of_memory};
 ghost use Rattle.maskrun.specs.declared.error.RunError.TheVariants as run_error;
 ghost use Rattle.maskrun.specs.Text.{list_text, range_text};
-ghost use Rattle.mask_bits.specs.Lists.{and_of, or_of, and_not_of, not_of, limited, concat};
+ghost use Rattle.mask_bits.specs.Lists.{and_of, or_of, and_not_of, concat};
 ghost use Rattle.mask_bits.specs.Positions.{positions, count, rank_intersection};
 ghost use Rattle.mask_bits.specs.RunScan.{runs};
 ghost use Rattle.mask_bits.specs.Stacks.{IsStack, folded_left};
@@ -70,9 +70,9 @@ impl<'a> Command<'a> {
             Command::And(a, b) => and(alloc, a, b),
             Command::Or(a, b) => or(alloc, a, b),
             Command::AndNot(a, b) => and_not(alloc, a, b),
-            Command::Not(a) => not(alloc, a),
+            Command::Not(a) => print(alloc, a.mask(alloc)?.not(alloc)),
             Command::Slice(a, start, end) => slice(alloc, a, *start, *end),
-            Command::Limit(a, k) => limit(alloc, a, *k),
+            Command::Limit(a, k) => print(alloc, a.mask(alloc)?.limit(alloc, *k)),
             Command::Cat(list) => cat(alloc, list),
             Command::Pipe(list) => pipe(alloc, list),
             Command::Indices(a) => indices(alloc, a),
@@ -143,12 +143,6 @@ fn expect_len(mask: &Mask, want: usize) -> Result<(), RunError>
     Ok(())
 }
 
-fn not(alloc: Global, a: &MaskArgument) -> Result<String, RunError>
-    ensures { Prints result (Ok (mask_text (not_of a.now))) }
-{
-    print(alloc, a.mask(alloc)?.not(alloc))
-}
-
 fn slice(alloc: Global, a: &MaskArgument, start: usize, end: usize) -> Result<String, RunError>
     ensures { Prints result (mask_text (slice_range a.now start end) unless part_fault a.now start end) }
 {
@@ -160,12 +154,6 @@ fn slice(alloc: Global, a: &MaskArgument, start: usize, end: usize) -> Result<St
         return Err(RunError::OutOfRange { word: 2 });
     }
     print(alloc, a.slice(alloc, start, end))
-}
-
-fn limit(alloc: Global, a: &MaskArgument, k: usize) -> Result<String, RunError>
-    ensures { Prints result (Ok (mask_text (limited a.now k))) }
-{
-    print(alloc, a.mask(alloc)?.limit(alloc, k))
 }
 
 fn cat(alloc: Global, list: &MaskList) -> Result<String, RunError>

@@ -1,8 +1,7 @@
 //! A list as it is printed.
 
-ghost use Rattle.std.specs.Prelude.{◌≡◌, ◌++◌, IfOk, OnOk, codes, string_bytes};
+ghost use Rattle.std.specs.Prelude.{◌≡◌, ◌++◌, IfOk, OnOk, string_bytes};
 ghost use Rattle.std.specs.Fmt.{decimal};
-ghost use Rattle.std.specs.List.{flat_map};
 ghost use Rattle.maskrun.specs.Text.{list_text, range_text};
 
 use std::alloc::{AllocError, Global};
@@ -45,17 +44,9 @@ pub(crate) fn list_text<T: Item>(alloc: Global, items: &[T]) -> Result<String, A
     };
     let mut line = String::new(alloc);
     first.write(&mut line)?;
-    write_rest(&mut line, rest)?;
-    Ok(line)
-}
-
-// Writes the items, each behind a space.
-fn write_rest<T: Item>(line: &mut String, items: &[T]) -> Result<(), AllocError>
-    ensures { OnOk result (string_bytes line.new ≡ string_bytes line.old ++ flat_map (λ item. codes " " ++ T.text item) items.now) }
-{
-    for item in items {
+    for item in rest {
         line.push(' ')?;
-        item.write(line)?;
+        item.write(&mut line)?;
     }
-    Ok(())
+    Ok(line)
 }
