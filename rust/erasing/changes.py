@@ -53,10 +53,13 @@ LEAVES = {
         "{ bytes[8 * i..8 * i + 8].copy_from_slice(&word.to_le_bytes()); }",
         "{ crate::kit::words::set_word(bytes, i, word); }",
     ),
-    "sixteen_whole_bytes": (
-        "{ match bytes[first..first + 16].first_chunk::<16>() {"
-        " Some(chunk) => u128::from_le_bytes(*chunk), None => unreachable!(), } }",
-        "{ crate::kit::words::sixteen_bytes(bytes, first) }",
+    "word_at": (
+        "{ let first = position / 8; if first + 8 < bytes.len() { let rest = &bytes[first..];"
+        " funnel_shift(word_of(rest, 0), rest[8] as u64, (position % 8) as u32) }"
+        " else if first < bytes.len() { last_bits(bytes, position) } else { 0 } }",
+        "{ let first = position / 8; if first + 8 < bytes.len() { let rest = crate::kit::words::rest(bytes, first);"
+        " funnel_shift(word_of(rest, 0), crate::kit::words::item(rest, 8) as u64, (position % 8) as u32) }"
+        " else if first < bytes.len() { last_bits(bytes, position) } else { 0 } }",
     ),
     "step": (
         "{ let (left, right) = (list[at.list], other[at.other]); list[at.found] = left; Places {"
@@ -65,12 +68,6 @@ LEAVES = {
         "{ let (left, right) = crate::kit::words::kept(list, other, at.list, at.other, at.found); Places {"
         " list: at.list + (left <= right) as usize, other: at.other + (right <= left) as usize,"
         " found: at.found + (left == right) as usize, } }",
-    ),
-    "last_bytes": (
-        "{ if bytes.len() <= first { return 0; } if bytes.len() >= 16 { return end_of_sixteen(bytes, first); }"
-        " let rest = &bytes[first..]; let mut chunk = [0u8; 16]; chunk[..rest.len()].copy_from_slice(rest);"
-        " u128::from_le_bytes(chunk) }",
-        "{ crate::kit::words::last_bytes(bytes, first) }",
     ),
     "ReadWord for Covered::word": (
         "{ let word = word_of(bits.bytes, i); if bits.low == 0 { word } else {"
@@ -92,10 +89,6 @@ LEAVES = {
         "{ if len % 64 == 0 { return; } let (begin, end) = (8 * (len / 64), len.div_ceil(8));"
         " crate::kit::words::put_lowest(low_bits(word, len % 64), &mut out[begin..end]); }",
     ),
-    "word_from": (
-        "{ word_of(&bytes[first..], 0) }",
-        "{ word_of(crate::kit::words::rest(bytes, first), 0) }",
-    ),
     "WordItems for [T]::lowest": (
         "{ self[word.trailing_zeros() as usize] }",
         "{ crate::kit::words::item(self, word.trailing_zeros() as usize) }",
@@ -106,11 +99,13 @@ LEAVES = {
         "{ for i in first..end {"
         " push_rows_of_word::<K, _, _>(out, crate::kit::words::part(rows, 64 * i, ROWS), chunks.word(i)); } }",
     ),
-    "push_small_words": (
-        "{ for i in 0..end {"
-        " push_small_rows::<FEW, M, _, _>(out, &rows[64 * i..64 * i + 64], chunks.word(i)); } }",
-        "{ for i in 0..end {"
-        " push_small_rows::<FEW, M, _, _>(out, crate::kit::words::part(rows, 64 * i, 64), chunks.word(i)); } }",
+    "choose_small_rows": (
+        "{ let words = chunks.len(); for i in 0..words {"
+        " push_small_rows::<FEW, M, _, _>(out, &rows[64 * i..64 * i + 64], chunks.word(i)); }"
+        " push_rows_one_by_one(out, &rows[64 * words..], chunks.remainder_bits()); }",
+        "{ let words = chunks.len(); for i in 0..words {"
+        " push_small_rows::<FEW, M, _, _>(out, crate::kit::words::part(rows, 64 * i, 64), chunks.word(i)); }"
+        " push_rows_one_by_one(out, &rows[64 * words..], chunks.remainder_bits()); }",
     ),
     "row_mask_choose_1": (
         "{ if have_many(bytes, offset, len) { choose_small::<6, ByTable, _>(bytes, offset, len, rows, out) } else {"

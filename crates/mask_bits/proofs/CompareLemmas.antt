@@ -1,14 +1,14 @@
 -- Which values an operation makes true of two lists, by words.
-use Rattle.mask_bits.proofs.Common.{◌≡◌, ◌↔◌, nat_eq, ℕ, ◌+◌, ◌*◌, ◌-◌, ◌/◌, ◌%◌, ◌^◌, ◌<◌, ◌≤◌, ◌&&◌, ◌||◌, not, Bool, false, List, ◌++◌, length, get_or, take, drop, refl, sym, ap, ◌∙◌, inl, inr, arith, mod-eq_of_lt, count_ones, bit_and, bit_or, bit_xor, ext_get_or, pow-lt, bit_at, cases_lt, nat_tests, and_le_l, same_from_bits, same_from_bits_below, bit_at-lt, bit_at-zero, bit_at_or, bit_at_xor, bitmap, Packed, backing_bit, values, IsNoneTrue, combined, xor_of, count, repeated, word_bits, window}
+use Rattle.mask_bits.proofs.Common.{◌≡◌, ◌↔◌, nat_eq, ℕ, ◌+◌, ◌*◌, ◌-◌, ◌/◌, ◌%◌, ◌^◌, ◌<◌, ◌≤◌, ◌&&◌, ◌||◌, not, Bool, false, List, ◌++◌, length, get_or, drop, refl, sym, ap, ◌∙◌, inl, inr, arith, mod-eq_of_lt, count_ones, bit_and, bit_or, bit_xor, ext_get_or, pow-lt, bit_at, cases_lt, nat_tests, and_le_l, same_from_bits, same_from_bits_below, bit_at-lt, bit_at-zero, bit_at_or, bit_at_xor, bitmap, Packed, backing_bit, values, IsNoneTrue, combined, xor_of, count, repeated, word_bits, window}
 use Rattle.mask_bits.proofs.BufferLemmas.{length-values, get_or-values}
 use Rattle.mask_bits.proofs.CombineLemmas.{backing_bit-drop, combined_bit, word_bits-combined}
 use Rattle.mask_bits.proofs.Lists.BooleanLemmas.{combined-append, combined-take, length-combined, get_or-combined}
 use Rattle.mask_bits.proofs.Lists.CountLemmas.{count-append, count-repeated_false, length-repeated, get_or-repeated}
 use Rattle.mask_bits.proofs.Lists.Places.PlaceLemmas.{count-le-length}
-use Rattle.mask_bits.proofs.Lists.Words.BackingBitLemmas.{bitmap-append, length-bitmap, get_or-bitmap, shown_bit}
-use Rattle.mask_bits.proofs.Lists.Words.FrontLemmas.{window-whole}
+use Rattle.mask_bits.proofs.Lists.Words.BackingBitLemmas.{bitmap-append, length-bitmap, get_or-bitmap}
+use Rattle.mask_bits.proofs.Lists.Words.FrontLemmas.{window-take, window-whole}
 use Rattle.mask_bits.proofs.Lists.Words.ShiftLemmas.{bit_at-low_mask, bit_at-past_mask, word_bits-low_mask, get_or-word_bits_and, get_or-word_bits_or, get_or-word_bits_not}
-use Rattle.mask_bits.proofs.Lists.Words.WordLemmas.{length-word_bits, count-word_bits, get_or-word_bits}
+use Rattle.mask_bits.proofs.Lists.Words.WordLemmas.{count-word_bits, get_or-word_bits}
 
 -- ---- words
 
@@ -59,13 +59,13 @@ none-join f a b p q m n = (
 
 -- the first bits of a word, where the others are cleared
 pub none-low : (f : Bool → Bool → Bool) (a b : List ℕ) (p q v w r mask n : ℕ) → n < 64 → r < 2 ^ 64
-    → take n (word_bits v) ≡ bitmap a p n → take n (word_bits w) ≡ bitmap b q n → word_bits r ≡ combined f (word_bits v) (word_bits w) → mask ≡ 2 ^ n - 1
+    → word_bits v ≡ window a p → word_bits w ≡ window b q → word_bits r ≡ combined f (word_bits v) (word_bits w) → mask ≡ 2 ^ n - 1
     → (bit_and r mask ≡ 0) ↔ IsNoneTrue f a p b q n
 none-low f a b p q v w r mask n few fits is_v is_w is_r is =
     let cut : ℕ = bit_and r (2 ^ n - 1) in
     let same : bit_and r mask ≡ cut = ap (bit_and r) is in
     let bit : (j : ℕ) → j < n → nat_eq (bit_at cut j) 1 ≡ f (backing_bit a (p + j)) (backing_bit b (q + j))
-    = λ j h. ap (λ x. nat_eq x 1) (bit_at-low_mask r n j h) ∙ sym (get_or-word_bits r j false (omega arith)) ∙ grind (arith, is_r, get_or-combined f (word_bits v) (word_bits w) j false, length-word_bits, shown_bit a p n v j, shown_bit b q n w j) in (
+    = λ j h. ap (λ x. nat_eq x 1) (bit_at-low_mask r n j h) ∙ sym (get_or-word_bits r j false (omega arith)) ∙ combined_bit f a b p q j (word_bits v) (word_bits w) (word_bits r) is_v is_w is_r (omega arith) in (
       λ none j h. sym (bit j h) ∙ ap (λ x. nat_eq (bit_at x j) 1) (sym same ∙ none) ∙ ap (λ x. nat_eq x 1) (bit_at-zero j),
       λ all. same ∙ same_from_bits_below 64 cut 0 (omega (arith, and_le_l r (2 ^ n - 1))) (omega arith) (grind (arith, bit_of_false, bit_at-lt, bit_at-zero, bit_at-past_mask)),
     )
@@ -134,10 +134,10 @@ count-at_most f a b p q n = omega (arith, count-le-length (combined f (bitmap a 
 
 -- the first bits of a word
 pub count-low : (f : Bool → Bool → Bool) (a b : List ℕ) (p q v w r mask n : ℕ) → n < 64 → bit_and r mask < 2 ^ 64
-    → take n (word_bits v) ≡ bitmap a p n → take n (word_bits w) ≡ bitmap b q n → word_bits r ≡ combined f (word_bits v) (word_bits w) → mask ≡ 2 ^ n - 1
+    → word_bits v ≡ window a p → word_bits w ≡ window b q → word_bits r ≡ combined f (word_bits v) (word_bits w) → mask ≡ 2 ^ n - 1
     → count_ones (bit_and r mask) ≡ count (combined f (bitmap a p n) (bitmap b q n))
 count-low f a b p q v w r mask n few fits is_v is_w is_r is =
-    grind (arith, combined-take, count-word_bits (bit_and r mask) fits, word_bits-low_mask, count-append, count-repeated_false)
+    grind (arith, combined-take, window-take, count-word_bits (bit_and r mask) fits, word_bits-low_mask, count-append, count-repeated_false)
 
 -- the same bits, seen from the byte that they begin in
 pub bitmap-byte : (bytes from : List ℕ) (low p n : ℕ) → from ≡ drop (p / 8) bytes → low ≡ p % 8 → bitmap from low n ≡ bitmap bytes p n

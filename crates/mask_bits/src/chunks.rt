@@ -11,7 +11,7 @@ ghost use Rattle.mask_bits.specs.Words.{word_bits, word_part, word_parts, padded
 ghost use Rattle.mask_bits.specs.Words.{started_words, padded_part, padded_parts};
 
 use crate::counts::count_bits;
-use crate::read_word::{Bits, Covered, ReadWord, bits_at};
+use crate::read_word::{Bits, Covered, ReadWord};
 use crate::words::{started_words, word_at};
 use std::marker::Model;
 
@@ -223,7 +223,7 @@ fn remainder(bytes: &[u8], offset: usize, len: usize) -> u64
     ensures { word_bits result ≡ padded_remainder (bitmap bytes.now offset len) }
 {
     let rest = len % 64;
-    bits_at(bytes, offset + (len - rest), rest) & ((1 << rest) - 1)
+    word_at(bytes, offset + (len - rest)) & ((1 << rest) - 1)
 }
 
 // The index of set bit number `n`, counted from 0.

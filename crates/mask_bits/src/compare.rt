@@ -9,7 +9,8 @@ ghost use Rattle.mask_bits.specs.Lists.{combined};
 ghost use Rattle.mask_bits.specs.Positions.{count, repeated};
 
 use crate::combine::{BitOp, Xor};
-use crate::read_word::{Bits, Covered, Neighbors, ReadWord, Shifted, Whole, bits_at};
+use crate::read_word::{Bits, Covered, Neighbors, ReadWord, Shifted, Whole};
+use crate::words::word_at;
 
 /// Whether the `len` bits of `a` from bit `a_offset` on are those of `b` from bit `b_offset` on.
 #[tactic(auto, using(crate::proofs::BufferLemmas::buffer_facts, crate::proofs::CompareLemmas::same_from_none_unlike))]
@@ -41,12 +42,10 @@ pub fn none_true<C: BitOp>(a: &[u8], a_offset: usize, b: &[u8], b_offset: usize,
 #[inline]
 #[tactic(auto, using(crate::proofs::CompareLemmas::none_in_rest))]
 fn none_in_last<C: BitOp>(a: &[u8], p: usize, b: &[u8], q: usize, rest: usize) -> bool
-    requires few { rest < 64 }
-    requires a_within { p + rest ≤ 8 * length a.now }
-    requires b_within { q + rest ≤ 8 * length b.now }
+    requires { rest < 64 }
     ensures { IsTrue result ↔ IsNoneTrue C.of_bits a.now p b.now q rest }
 {
-    C::of(bits_at(a, p, rest), bits_at(b, q, rest)) & ((1 << rest) - 1) == 0
+    C::of(word_at(a, p), word_at(b, q)) & ((1 << rest) - 1) == 0
 }
 
 // Whether none is true that `C` makes of whole words.
@@ -180,12 +179,10 @@ pub fn count_true<C: BitOp>(
 #[tactic(auto, using(crate::proofs::CompareLemmas::counted_in_rest, std::proofs::lemmas::Nat::and_le_l))]
 #[inline]
 fn count_in_last<C: BitOp>(a: &[u8], p: usize, b: &[u8], q: usize, rest: usize) -> usize
-    requires few { rest < 64 }
-    requires a_within { p + rest ≤ 8 * length a.now }
-    requires b_within { q + rest ≤ 8 * length b.now }
+    requires { rest < 64 }
     ensures { result ≡ count (combined C.of_bits (bitmap a.now p rest) (bitmap b.now q rest)) }
 {
-    let made = C::of(bits_at(a, p, rest), bits_at(b, q, rest));
+    let made = C::of(word_at(a, p), word_at(b, q));
     (made & ((1 << rest) - 1)).count_ones() as usize
 }
 

@@ -1,12 +1,11 @@
 //! How many bits of some bytes are set, counted by words.
 
-ghost use Rattle.std.specs.Prelude.{◌≡◌, ◌+◌, ◌*◌, ◌<◌, ◌≤◌, ◌^◌, length};
+ghost use Rattle.std.specs.Prelude.{◌≡◌, ◌*◌, ◌<◌, ◌≤◌, ◌^◌, length};
 ghost use Rattle.mask_bits.specs.Bitmap.{bitmap};
 ghost use Rattle.mask_bits.specs.Buffer.{IsWithinBytes};
 ghost use Rattle.mask_bits.specs.Positions.{count};
 
-use crate::read_word::bits_at;
-use crate::words::word_of;
+use crate::words::{word_at, word_of};
 
 /// How many of the `len` bits from bit `position` on are set.
 #[tactic(auto, using(crate::proofs::Lists::Words::BackingBitLemmas::low_counts))]
@@ -30,11 +29,10 @@ pub fn count_bits(bytes: &[u8], position: usize, len: usize) -> usize
 #[tactic(auto, using(crate::proofs::Lists::Words::BackingBitLemmas::low_counts, std::proofs::lemmas::Grind::one_shifted, std::proofs::lemmas::Nat::and_le_l))]
 #[inline]
 fn count_few(bytes: &[u8], position: usize, len: usize) -> usize
-    requires few { len < 64 }
-    requires within { position + len ≤ 8 * length bytes.now }
+    requires { len < 64 }
     ensures { result ≡ count (bitmap bytes.now position len) }
 {
-    (bits_at(bytes, position, len) & ((1 << len) - 1)).count_ones() as usize
+    (word_at(bytes, position) & ((1 << len) - 1)).count_ones() as usize
 }
 
 // How many bits of the first words are set.

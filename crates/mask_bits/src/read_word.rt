@@ -2,8 +2,7 @@
 //!
 //! A loop that is generic over the way compiles to one that tests nothing per word.
 
-ghost use Rattle.std.specs.Prelude.{◌≡◌, ◌≤◌, ◌+◌, ◌-◌, ◌*◌, ◌/◌, ◌%◌, length, take, drop, ◌<◌};
-ghost use Rattle.mask_bits.specs.Bitmap.{bitmap};
+ghost use Rattle.std.specs.Prelude.{◌≡◌, ◌≤◌, ◌+◌, ◌-◌, ◌*◌, ◌/◌, ◌%◌, length, drop};
 ghost use Rattle.mask_bits.specs.Combine.{IsWholeWord, IsInTwoWords, IsShifted, IsCovered, HasPlace};
 ghost use Rattle.mask_bits.specs.Words.{window, word_bits};
 
@@ -124,51 +123,4 @@ impl ReadWord for Anywhere {
     fn word(bits: Bits<'_>, i: usize) -> u64 {
         word_at(bits.bytes, bits.low as usize + 64 * i)
     }
-}
-
-/// The `count` bits from bit `position` on, the first lowest. Those above them have no meaning.
-#[inline]
-pub(crate) fn bits_at(bytes: &[u8], position: usize, count: usize) -> u64
-    requires few { count ≤ 64 }
-    requires within { position + count ≤ 8 * length bytes.now }
-    ensures { take count (word_bits result) ≡ bitmap bytes.now position count }
-{
-    if count == 0 {
-        return 0;
-    }
-    if bytes.len() < 8 {
-        return word_of_few(bytes) >> position;
-    }
-    // the eight bytes from the first one's on, or the last eight
-    let first = (position / 8).min(bytes.len() - 8);
-    let low = position - 8 * first;
-    if low + count <= 64 {
-        word_from(bytes, first) >> low
-    } else {
-        Covered::word(Bits::new(bytes, position), 0)
-    }
-}
-
-// All of fewer than eight bytes, the first lowest. There are too few to be copied by a call.
-#[inline]
-fn word_of_few(bytes: &[u8]) -> u64
-    requires { length bytes.now < 8 }
-    ensures { word_bits result ≡ window bytes.now 0 }
-{
-    let mut word = 0;
-    let mut left = bytes.len();
-    while left > 0 {
-        left -= 1;
-        word = 256 * word + u64::from(bytes[left]);
-    }
-    word
-}
-
-// The eight bytes from byte `first` on.
-#[inline]
-fn word_from(bytes: &[u8], first: usize) -> u64
-    requires { first + 8 ≤ length bytes.now }
-    ensures { word_bits result ≡ window bytes.now (8 * first) }
-{
-    word_of(&bytes[first..], 0)
 }

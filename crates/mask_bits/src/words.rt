@@ -1,9 +1,8 @@
 //! Words of 64 bits of some bytes: read, written, and made of two neighbors.
 
-ghost use Rattle.std.specs.Prelude.{◌≡◌, ◌+◌, ◌*◌, ◌<◌, ◌≤◌, ◌^◌, ℕ, length, take, drop};
+ghost use Rattle.std.specs.Prelude.{◌≡◌, ◌+◌, ◌*◌, ◌/◌, ◌<◌, ◌≤◌, ◌^◌, ℕ, length, take, drop};
 ghost use Rattle.std.specs.Prelude.{◌⊎◌, ◌++◌, ◌-◌, false, slice_range};
 ghost use Rattle.mask_bits.specs.Buffer.{backing_bit};
-ghost use Rattle.mask_bits.specs.Number.{number};
 ghost use Rattle.mask_bits.specs.Words.{window, word_bits, started_words};
 ghost use Rattle.mask_bits.specs.Positions.{repeated};
 
@@ -77,64 +76,42 @@ pub(crate) fn funnel_shift_inside(word: u64, next: u64, low: u32) -> u64
 pub fn word_at(bytes: &[u8], position: usize) -> u64
     ensures { word_bits result ≡ window bytes.now position }
 {
-    let low = (position % 8) as u32;
-    ((sixteen_bytes(bytes, position / 8) >> low) & 0xFFFF_FFFF_FFFF_FFFF) as u64
-}
-
-// The sixteen bytes from byte `first` on as one number, the first lowest; those past the end are 0.
-#[inline]
-fn sixteen_bytes(bytes: &[u8], first: usize) -> u128
-    requires { first < 2 ^ 61 }
-    ensures { result ≡ number (take 16 (drop first bytes.now)) }
-{
-    if first + 16 <= bytes.len() {
-        sixteen_whole_bytes(bytes, first)
+    let first = position / 8;
+    if first + 8 < bytes.len() {
+        let rest = &bytes[first..];
+        funnel_shift(word_of(rest, 0), rest[8] as u64, (position % 8) as u32)
+    } else if first < bytes.len() {
+        last_bits(bytes, position)
     } else {
-        last_bytes(bytes, first)
+        0
     }
 }
 
-// Sixteen bytes from byte `first` on, where all are there.
+// The bits from one of the last eight bytes on, by all of these, since there are too few behind it.
 #[inline]
-#[tactic(auto, using(crate::proofs::NumberLemmas::chunk_numbers))]
-fn sixteen_whole_bytes(bytes: &[u8], first: usize) -> u128
-    requires { first + 16 ≤ length bytes.now }
-    ensures { result ≡ number (take 16 (drop first bytes.now)) }
+fn last_bits(bytes: &[u8], position: usize) -> u64
+    requires some { position / 8 < length bytes.now }
+    requires near { length bytes.now ≤ position / 8 + 8 }
+    ensures { word_bits result ≡ window bytes.now position }
 {
-    match bytes[first..first + 16].first_chunk::<16>() {
-        Some(chunk) => u128::from_le_bytes(*chunk),
-        None => unreachable!(),
+    if bytes.len() < 8 {
+        return word_of_few(bytes) >> position;
     }
+    let begin = bytes.len() - 8;
+    word_of(&bytes[begin..], 0) >> (position - 8 * begin)
 }
 
-#[tactic(auto, using(crate::proofs::NumberLemmas::chunk_numbers))]
-#[cold]
-#[inline(never)]
-fn last_bytes(bytes: &[u8], first: usize) -> u128
-    requires { length bytes.now < first + 16 }
-    ensures { result ≡ number (take 16 (drop first bytes.now)) }
-{
-    if bytes.len() <= first {
-        return 0;
-    }
-    // the end of a longer list is read as it stands, since to copy it takes longer
-    if bytes.len() >= 16 {
-        return end_of_sixteen(bytes, first);
-    }
-    let rest = &bytes[first..];
-    let mut chunk = [0u8; 16];
-    chunk[..rest.len()].copy_from_slice(rest);
-    u128::from_le_bytes(chunk)
-}
-
-// Sixteen bytes from byte `first` on, by the last sixteen, with those before `first` shifted out.
+// All of fewer than eight bytes, the first lowest. There are too few to be copied by a call.
 #[inline]
-fn end_of_sixteen(bytes: &[u8], first: usize) -> u128
-    requires some { first < length bytes.now }
-    requires near { length bytes.now < first + 16 }
-    requires enough { 16 ≤ length bytes.now }
-    ensures { result ≡ number (take 16 (drop first bytes.now)) }
+fn word_of_few(bytes: &[u8]) -> u64
+    requires { length bytes.now < 8 }
+    ensures { word_bits result ≡ window bytes.now 0 }
 {
-    let begin = bytes.len() - 16;
-    sixteen_whole_bytes(bytes, begin) >> (8 * (first - begin))
+    let mut word = 0;
+    let mut left = bytes.len();
+    while left > 0 {
+        left -= 1;
+        word = 256 * word + u64::from(bytes[left]);
+    }
+    word
 }

@@ -20,14 +20,6 @@ pub(crate) fn set_word(bytes: &mut [u8], i: usize, word: u64) {
     unsafe { bytes.as_mut_ptr().add(8 * i).cast::<[u8; 8]>().write(word.to_le_bytes()) };
 }
 
-/// Sixteen bytes from byte `first` on as one number, the first lowest.
-#[inline(always)]
-pub(crate) fn sixteen_bytes(bytes: &[u8], first: usize) -> u128 {
-    debug_assert!(bytes.len() >= 16 && first <= bytes.len() - 16);
-    // SAFETY: the contract of the proved caller: `first + 16 <= bytes.len()`.
-    u128::from_le_bytes(unsafe { bytes.as_ptr().add(first).cast::<[u8; 16]>().read() })
-}
-
 /// Reads an item of each list, and writes the first one's to place `found` of its list.
 #[inline(always)]
 pub(crate) fn kept(
@@ -43,32 +35,6 @@ pub(crate) fn kept(
         let (left, right) = (*list.get_unchecked(at), *other.get_unchecked(other_at));
         *list.get_unchecked_mut(found) = left;
         (left, right)
-    }
-}
-
-/// The bytes from byte `first` on, fewer than sixteen, as one number, the first lowest. They are read where they stand,
-/// since to copy so few takes longer.
-#[inline(always)]
-pub(crate) fn last_bytes(bytes: &[u8], first: usize) -> u128 {
-    let count = bytes.len().saturating_sub(first);
-    match bytes.get(first..).and_then(|rest| rest.first_chunk()) {
-        None => u128::from(last_of_eight(bytes, count)),
-        Some(front) => {
-            let behind = last_of_eight(bytes, count - 8);
-            u128::from(u64::from_le_bytes(*front)) | u128::from(behind) << 64
-        }
-    }
-}
-
-/// The last `count` bytes, fewer than eight, as one number.
-#[inline(always)]
-fn last_of_eight(bytes: &[u8], count: usize) -> u64 {
-    match bytes.last_chunk() {
-        // (two shifts, since one by 64 would be none)
-        Some(last) => u64::from_le_bytes(*last) >> 8 >> (8 * (7 - count)),
-        None => {
-            bytes.iter().rev().take(count).fold(0, |number, byte| number << 8 | u64::from(*byte))
-        }
     }
 }
 
@@ -205,21 +171,6 @@ impl<T> Reserved<T> for Vec<T> {
 #[cfg(test)]
 mod tests {
     use alloc::vec::Vec;
-
-    /// As when the bytes are copied to sixteen zeros.
-    #[test]
-    fn last_bytes_are_those_of_a_copy() {
-        let bytes: Vec<u8> = (1..=40).map(|i| 6 * i).collect();
-        for len in 0..=bytes.len() {
-            for first in len.saturating_sub(15)..len + 3 {
-                let mut copy = [0; 16];
-                let rest = bytes[..len].get(first..).unwrap_or_default();
-                copy[..rest.len()].copy_from_slice(rest);
-                let made = super::last_bytes(&bytes[..len], first);
-                assert_eq!(made, u128::from_le_bytes(copy), "from byte {first} of {len}");
-            }
-        }
-    }
 
     /// As by a copy.
     #[test]

@@ -14,8 +14,14 @@ pub(crate) struct MaskArgument<'a> {
 impl<'a> MaskArgument<'a> {
     // What the argument of this number says.
     fn read(number: usize, text: &'a str) -> Result<MaskArgument<'a>, RunError> {
-        match mask_fault(number, text) {
-            Some(fault) => Err(fault),
+        if text == "-" {
+            return Ok(MaskArgument { text });
+        }
+        if text.is_empty() {
+            return Err(RunError::BadBit { word: number, at: 0 });
+        }
+        match first_bad_digit(text.as_bytes()) {
+            Some(at) => Err(RunError::BadBit { word: number, at }),
             None => Ok(MaskArgument { text }),
         }
     }
@@ -27,18 +33,6 @@ impl<'a> MaskArgument<'a> {
         let digits = self.text.as_bytes().iter().copied();
         Ok(Mask::from_bools(digits.map(|digit| digit == b'1'))?)
     }
-}
-
-// What is wrong with the argument of this number, if it is to be a mask.
-fn mask_fault(number: usize, text: &str) -> Option<RunError> {
-    if text == "-" {
-        return None;
-    }
-    if text.is_empty() {
-        return Some(RunError::BadBit { word: number, at: 0 });
-    }
-    let at = first_bad_digit(text.as_bytes())?;
-    Some(RunError::BadBit { word: number, at })
 }
 
 // The place of the first byte that is neither `0` nor `1`.

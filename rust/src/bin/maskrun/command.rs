@@ -5,9 +5,9 @@ use crate::argument::{
     MaskArgument, MaskList, mask_and_number, mask_and_range, masks, one_mask, two_masks,
 };
 use crate::error::RunError;
-use crate::print::{Item, list_text};
-use row_mask::kit::AllocError;
+use crate::print::list_text;
 use row_mask::kit::prelude::*;
+
 use row_mask::{Mask, MaskError};
 
 // A command with its arguments read.
@@ -31,12 +31,7 @@ impl<'a> Command<'a> {
         let [name, arguments @ ..] = words else {
             return Err(RunError::Usage);
         };
-        Command::of_name(name.as_str(), arguments)
-    }
-
-    // What the command of this name says by its arguments.
-    fn of_name(name: &str, arguments: &'a [String]) -> Result<Command<'a>, RunError> {
-        match name {
+        match name.as_str() {
             "rank" => two_masks(arguments).map(|(a, b)| Command::Rank(a, b)),
             "and" => two_masks(arguments).map(|(a, b)| Command::And(a, b)),
             "or" => two_masks(arguments).map(|(a, b)| Command::Or(a, b)),
@@ -59,9 +54,9 @@ impl<'a> Command<'a> {
             Command::And(a, b) => and(a, b),
             Command::Or(a, b) => or(a, b),
             Command::AndNot(a, b) => and_not(a, b),
-            Command::Not(a) => not(a),
+            Command::Not(a) => print(a.mask()?.not()),
             Command::Slice(a, start, end) => slice(a, *start, *end),
-            Command::Limit(a, k) => limit(a, *k),
+            Command::Limit(a, k) => print(a.mask()?.limit(*k)),
             Command::Cat(list) => cat(list),
             Command::Pipe(list) => pipe(list),
             Command::Indices(a) => indices(a),
@@ -103,11 +98,6 @@ fn print(mask: Result<Mask, MaskError>) -> Result<String, RunError> {
     Ok(mask?.try_to_string()?)
 }
 
-// The line of a list, where memory was found for it.
-fn print_list<T: Item>(items: Result<Vec<T>, AllocError>) -> Result<String, RunError> {
-    Ok(list_text(&items?)?)
-}
-
 // The mask has so many values.
 fn expect_len(mask: &Mask, want: usize) -> Result<(), RunError> {
     let got = mask.len();
@@ -115,10 +105,6 @@ fn expect_len(mask: &Mask, want: usize) -> Result<(), RunError> {
         return Err(RunError::LengthsDiffer { want, got });
     }
     Ok(())
-}
-
-fn not(a: &MaskArgument) -> Result<String, RunError> {
-    print(a.mask()?.not())
 }
 
 fn slice(a: &MaskArgument, start: usize, end: usize) -> Result<String, RunError> {
@@ -130,10 +116,6 @@ fn slice(a: &MaskArgument, start: usize, end: usize) -> Result<String, RunError>
         return Err(RunError::OutOfRange { word: 2 });
     }
     print(a.slice(start, end))
-}
-
-fn limit(a: &MaskArgument, k: usize) -> Result<String, RunError> {
-    print(a.mask()?.limit(k))
 }
 
 fn cat(list: &MaskList) -> Result<String, RunError> {
@@ -172,17 +154,13 @@ fn stacks_have_no_misfit() {}
 
 fn indices(a: &MaskArgument) -> Result<String, RunError> {
     let mask = a.mask()?;
-    print_list(mask.set_indices().collected())
+    let indices: Vec<_> = mask.set_indices().collected()?;
+    Ok(list_text(&indices)?)
 }
 
 fn ranges(a: &MaskArgument) -> Result<String, RunError> {
     let mask = a.mask()?;
-    print_list(runs(&mask))
-}
-
-// The runs of true values.
-fn runs(mask: &Mask) -> Result<Vec<(usize, usize)>, AllocError> {
     let runs: Vec<_> = mask.set_slices().collected()?;
 
-    Ok(runs)
+    Ok(list_text(&runs)?)
 }

@@ -31,15 +31,9 @@ pub(crate) fn list_text<T: Item>(items: &[T]) -> Result<String, AllocError> {
     };
     let mut line = String::new();
     first.write(&mut line)?;
-    write_rest(&mut line, rest)?;
-    Ok(line)
-}
-
-// Writes the items, each behind a space.
-fn write_rest<T: Item>(line: &mut String, items: &[T]) -> Result<(), AllocError> {
-    for item in items {
+    for item in rest {
         line.try_push(' ')?;
-        item.write(line)?;
+        item.write(&mut line)?;
     }
-    Ok(())
+    Ok(line)
 }

@@ -3,7 +3,7 @@
 
 use crate::kit::prelude::*;
 use crate::proved::mask_bits::counts::count_bits;
-use crate::proved::mask_bits::read_word::{Bits, Covered, ReadWord, bits_at};
+use crate::proved::mask_bits::read_word::{Bits, Covered, ReadWord};
 use crate::proved::mask_bits::words::{started_words, word_at};
 
 /// The values of a buffer in words of 64, the first value lowest.
@@ -281,7 +281,7 @@ impl<'a> BitChunks<'a> {
 #[inline(never)]
 fn remainder(bytes: &[u8], offset: usize, len: usize) -> u64 {
     let rest = len % 64;
-    bits_at(bytes, offset + (len - rest), rest) & ((1 << rest) - 1)
+    word_at(bytes, offset + (len - rest)) & ((1 << rest) - 1)
 }
 
 // The index of set bit number `n`, counted from 0.

@@ -4,9 +4,8 @@
 
 use crate::kit::prelude::*;
 use crate::proved::mask_bits::combine::{BitOp, Xor};
-use crate::proved::mask_bits::read_word::{
-    Bits, Covered, Neighbors, ReadWord, Shifted, Whole, bits_at,
-};
+use crate::proved::mask_bits::read_word::{Bits, Covered, Neighbors, ReadWord, Shifted, Whole};
+use crate::proved::mask_bits::words::word_at;
 
 /// Whether the `len` bits of `a` from bit `a_offset` on are those of `b` from bit `b_offset` on.
 #[inline]
@@ -58,7 +57,7 @@ fn none_true_any<C: BitOp>(
 // Whether none is true that `C` makes of fewer than 64 bits.
 #[inline(always)]
 fn none_in_last<C: BitOp>(a: &[u8], p: usize, b: &[u8], q: usize, rest: usize) -> bool {
-    C::of(bits_at(a, p, rest), bits_at(b, q, rest)) & ((1 << rest) - 1) == 0
+    C::of(word_at(a, p), word_at(b, q)) & ((1 << rest) - 1) == 0
 }
 
 // Whether none is true that `C` makes of whole words.
@@ -193,7 +192,7 @@ fn count_true_any<C: BitOp>(
 // How many are true that `C` makes of fewer than 64 bits.
 #[inline(always)]
 fn count_in_last<C: BitOp>(a: &[u8], p: usize, b: &[u8], q: usize, rest: usize) -> usize {
-    let made = C::of(bits_at(a, p, rest), bits_at(b, q, rest));
+    let made = C::of(word_at(a, p), word_at(b, q));
     (made & ((1 << rest) - 1)).count_ones() as usize
 }
 

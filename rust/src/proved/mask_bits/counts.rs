@@ -2,8 +2,7 @@
 //! How many bits of some bytes are set, counted by words.
 
 use crate::kit::prelude::*;
-use crate::proved::mask_bits::read_word::bits_at;
-use crate::proved::mask_bits::words::word_of;
+use crate::proved::mask_bits::words::{word_at, word_of};
 
 /// How many of the `len` bits from bit `position` on are set.
 #[inline]
@@ -34,7 +33,7 @@ pub(crate) fn count_bits_any(bytes: &[u8], position: usize, len: usize) -> usize
 // How many of fewer than 64 bits are set.
 #[inline(always)]
 fn count_few(bytes: &[u8], position: usize, len: usize) -> usize {
-    (bits_at(bytes, position, len) & ((1 << len) - 1)).count_ones() as usize
+    (word_at(bytes, position) & ((1 << len) - 1)).count_ones() as usize
 }
 
 // How many bits of the first words are set.

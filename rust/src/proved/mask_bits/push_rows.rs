@@ -92,23 +92,12 @@ fn choose_small_rows_any<const FEW: usize, M: MoveRows<T>, T: Copy, R: Room<T>>(
     chunks: &BitChunks<'_>,
 ) {
     let words = chunks.len();
-    push_small_words::<FEW, M, _, _>(out, rows, chunks, words);
-    push_rows_one_by_one(out, &rows[64 * words..], chunks.remainder_bits());
-}
-
-// Puts those of the whole words before `end`.
-#[inline(always)]
-fn push_small_words<const FEW: usize, M: MoveRows<T>, T: Copy, R: Room<T>>(
-    out: &mut R,
-    rows: &[T],
-    chunks: &BitChunks<'_>,
-    end: usize,
-) {
-    for i in 0..end {
+    for i in 0..words {
         push_small_rows::<FEW, M, _, _>(
             out,
             crate::kit::words::part(rows, 64 * i, 64),
             chunks.word_proved(i),
         );
     }
+    push_rows_one_by_one(out, &rows[64 * words..], chunks.remainder_bits());
 }

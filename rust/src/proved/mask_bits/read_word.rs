@@ -93,28 +93,3 @@ impl ReadWord for Anywhere {
         word_at(bits.bytes, bits.low as usize + 64 * i)
     }
 }
-
-/// The `count` bits from bit `position` on, the first lowest. Those above them have no meaning.
-#[inline(always)]
-pub(crate) fn bits_at(bytes: &[u8], position: usize, count: usize) -> u64 {
-    if count == 0 {
-        return 0;
-    }
-    if bytes.len() < 8 {
-        return word_at(bytes, position);
-    }
-    // the eight bytes from the first one's on, or the last eight
-    let first = (position / 8).min(bytes.len() - 8);
-    let low = position - 8 * first;
-    if low + count <= 64 {
-        word_from(bytes, first) >> low
-    } else {
-        Covered::word(Bits::new(bytes, position), 0)
-    }
-}
-
-// The eight bytes from byte `first` on.
-#[inline(always)]
-fn word_from(bytes: &[u8], first: usize) -> u64 {
-    word_of(crate::kit::words::rest(bytes, first), 0)
-}

@@ -42,35 +42,39 @@ pub(crate) fn funnel_shift_inside(word: u64, next: u64, low: u32) -> u64 {
 /// The 64 bits from bit `position` on, wherever that is; those past the last byte are 0.
 #[inline(always)]
 pub fn word_at(bytes: &[u8], position: usize) -> u64 {
-    let low = (position % 8) as u32;
-    ((sixteen_bytes(bytes, position / 8) >> low) & 0xFFFF_FFFF_FFFF_FFFF) as u64
-}
-
-// The sixteen bytes from byte `first` on as one number, the first lowest; those past the end are 0.
-#[inline(always)]
-fn sixteen_bytes(bytes: &[u8], first: usize) -> u128 {
-    if first + 16 <= bytes.len() {
-        sixteen_whole_bytes(bytes, first)
+    let first = position / 8;
+    if first + 8 < bytes.len() {
+        let rest = crate::kit::words::rest(bytes, first);
+        funnel_shift(
+            word_of(rest, 0),
+            crate::kit::words::item(rest, 8) as u64,
+            (position % 8) as u32,
+        )
+    } else if first < bytes.len() {
+        last_bits(bytes, position)
     } else {
-        last_bytes(bytes, first)
+        0
     }
 }
 
-// Sixteen bytes from byte `first` on, where all are there.
+// The bits from one of the last eight bytes on, by all of these, since there are too few behind it.
 #[inline(always)]
-fn sixteen_whole_bytes(bytes: &[u8], first: usize) -> u128 {
-    crate::kit::words::sixteen_bytes(bytes, first)
+fn last_bits(bytes: &[u8], position: usize) -> u64 {
+    if bytes.len() < 8 {
+        return word_of_few(bytes) >> position;
+    }
+    let begin = bytes.len() - 8;
+    word_of(&bytes[begin..], 0) >> (position - 8 * begin)
 }
 
-#[cold]
-#[inline(never)]
-fn last_bytes(bytes: &[u8], first: usize) -> u128 {
-    crate::kit::words::last_bytes(bytes, first)
-}
-
-// Sixteen bytes from byte `first` on, by the last sixteen, with those before `first` shifted out.
-#[inline]
-fn end_of_sixteen(bytes: &[u8], first: usize) -> u128 {
-    let begin = bytes.len() - 16;
-    sixteen_whole_bytes(bytes, begin) >> (8 * (first - begin))
+// All of fewer than eight bytes, the first lowest. There are too few to be copied by a call.
+#[inline(always)]
+fn word_of_few(bytes: &[u8]) -> u64 {
+    let mut word = 0;
+    let mut left = bytes.len();
+    while left > 0 {
+        left -= 1;
+        word = 256 * word + u64::from(bytes[left]);
+    }
+    word
 }

@@ -67,20 +67,15 @@ fn narrow_whole_v3(chunks: &BitChunks<'_>, ranks: &RankBits<'_>, are_few: bool, 
 
 #[inline(always)]
 fn narrow_whole_any(chunks: &BitChunks<'_>, ranks: &RankBits<'_>, are_few: bool, out: &mut [u8]) {
-    if are_few {
-        narrow_few(chunks, ranks, out);
-    } else {
+    if !are_few {
         crate::kit::quickest!(
             crate::proved::vortex_mask::intersect_by_rank::kernels::bit_buffers::narrow_by_bits_any::<
                 Portable,
             >(chunks, ranks, out)
         );
+        return;
     }
-}
-
-// Narrows values of which few are true. Most words have none, and need no ranks.
-#[inline(always)]
-fn narrow_few(chunks: &BitChunks<'_>, ranks: &RankBits<'_>, out: &mut [u8]) {
+    // most words have no true value, and need no ranks
     let mut at = 0;
     for i in 0..chunks.len() {
         let word = chunks.word_proved(i);

@@ -38,14 +38,7 @@ pub fn row_mask_next_runs(
     if from > len {
         return 0;
     }
-    let values = BitChunks::new_proved(bytes, offset + from, len - from);
-    runs_of_values(values, from, out)
-}
-
-// Writes the runs of values of which the first has the index `from`.
-#[inline]
-fn runs_of_values(values: BitChunks<'_>, from: usize, out: &mut [RowMaskRun]) -> usize {
-    let mut runs = SetSlices::new(values);
+    let mut runs = SetSlices::new(BitChunks::new_proved(bytes, offset + from, len - from));
     let mut at = 0;
     while at < out.len() {
         let Some((start, end)) = runs.next() else {

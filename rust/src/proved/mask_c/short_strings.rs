@@ -27,7 +27,7 @@ pub(crate) fn words_of_each<O: Offset>(indices: &[usize], offsets: &[O]) -> usiz
 }
 
 // Whether a fourth of the strings or more don't come right behind the one before them.
-#[inline]
+#[inline(never)]
 fn are_apart(indices: &[usize]) -> bool {
     let mut apart = 1;
     for k in 1..indices.len() {

@@ -10,7 +10,12 @@ use crate::proved::vortex_mask::mask::Mask;
 impl PartialEq for Mask {
     #[inline]
     fn eq(&self, other: &Mask) -> bool {
-        self.len() == other.len() && same_lists(self, other)
+        self.len() == other.len()
+            && match (self, other) {
+                (Mask::Values(a), Mask::Values(b)) => a.bit_buffer() == b.bit_buffer(),
+                // one of them is of one value, so that the count tells the list
+                _ => self.true_count() == other.true_count(),
+            }
     }
 }
 
@@ -24,26 +29,11 @@ impl Mask {
     /// - `IsTrue result ↔ (truth self.now ≡ values buffer.now)`
     #[inline]
     pub fn equals_buffer(&self, buffer: &BitBuffer) -> bool {
-        self.len() == buffer.len() && same_values(self, buffer)
-    }
-}
-
-// Whether a mask and a buffer of one length have the same list.
-#[inline]
-fn same_values(mask: &Mask, buffer: &BitBuffer) -> bool {
-    match mask {
-        Mask::AllTrue(len) => buffer.true_count() == *len,
-        Mask::AllFalse(_) => buffer.true_count() == 0,
-        Mask::Values(values) => values.bit_buffer() == buffer,
-    }
-}
-
-// Whether two masks of one length have the same list.
-#[inline]
-fn same_lists(a: &Mask, b: &Mask) -> bool {
-    match (a, b) {
-        (Mask::Values(a), Mask::Values(b)) => a.bit_buffer() == b.bit_buffer(),
-        // one of them is of one value, so that the count tells the list
-        _ => a.true_count() == b.true_count(),
+        self.len() == buffer.len()
+            && match self {
+                Mask::AllTrue(len) => buffer.true_count() == *len,
+                Mask::AllFalse(_) => buffer.true_count() == 0,
+                Mask::Values(values) => values.bit_buffer() == buffer,
+            }
     }
 }

@@ -1,5 +1,5 @@
 -- The bits of some bytes from any position on: parts of them, the words that show them, and their counts.
-use Rattle.mask_bits.proofs.Common.{◌≡◌, ℕ, ◌+◌, ◌*◌, ◌-◌, ◌%◌, ◌/◌, ◌^◌, ◌<◌, ◌≤◌, Bool, false, nat_eq, List, [], ◌++◌, length, get_or, take, drop, sym, ap, ◌∙◌, arith, get_or-take, count_ones, bit_and, ◌↔◌, bit_at, get_or-drop, nil_from_length, bitmap, backing_bit, Packed, values, same_values, count, repeated, word_bits, window, slice_eq-Decides, IsTrue}
+use Rattle.mask_bits.proofs.Common.{◌≡◌, ℕ, ◌+◌, ◌*◌, ◌-◌, ◌%◌, ◌/◌, ◌^◌, ◌<◌, ◌≤◌, Bool, false, nat_eq, List, [], ◌++◌, length, get_or, drop, sym, arith, count_ones, bit_and, ◌↔◌, bit_at, get_or-drop, nil_from_length, bitmap, backing_bit, Packed, values, same_values, count, repeated, word_bits, window, slice_eq-Decides, IsTrue}
 use Rattle.mask_bits.proofs.BufferLemmas.{length-values, get_or-values, values_from_front}
 use Rattle.mask_bits.proofs.Lists.CountLemmas.{count-append, count-repeated_false}
 use Rattle.mask_bits.proofs.Lists.Words.FrontLemmas.{get_or-window, values-join, window-take, front-same}
@@ -31,11 +31,11 @@ pub bitmap-drop : (bytes : List ℕ) (k n : ℕ) → bitmap (drop k bytes) 0 n �
 bitmap-drop bytes k n = grind (arith, values_from_front, length-bitmap bytes (8 * k) n, backing_bit-drop, get_or-bitmap)
 
 -- a word cut to its low bits shows those bits alone
-pub word_bits-low : (bytes : List ℕ) (p n w : ℕ) → n ≤ 64 → take n (word_bits w) ≡ bitmap bytes p n → word_bits (bit_and w (2 ^ n - 1)) ≡ bitmap bytes p n ++ repeated (64 - n) false
-word_bits-low bytes p n w few shows = grind (arith, word_bits-low_mask)
+pub word_bits-low : (bytes : List ℕ) (p n w : ℕ) → n ≤ 64 → word_bits w ≡ window bytes p → word_bits (bit_and w (2 ^ n - 1)) ≡ bitmap bytes p n ++ repeated (64 - n) false
+word_bits-low bytes p n w few shows = grind (arith, word_bits-low_mask, window-take)
 
 -- and has as many ones as they have true values
-pub count-low : (bytes : List ℕ) (p n w : ℕ) → n ≤ 64 → bit_and w (2 ^ n - 1) < 2 ^ 64 → take n (word_bits w) ≡ bitmap bytes p n → count_ones (bit_and w (2 ^ n - 1)) ≡ count (bitmap bytes p n)
+pub count-low : (bytes : List ℕ) (p n w : ℕ) → n ≤ 64 → bit_and w (2 ^ n - 1) < 2 ^ 64 → word_bits w ≡ window bytes p → count_ones (bit_and w (2 ^ n - 1)) ≡ count (bitmap bytes p n)
 count-low bytes p n w few fits shows =
     grind (arith, count-word_bits (bit_and w (2 ^ n - 1)) fits, word_bits-low bytes p n w few shows, count-append (bitmap bytes p n) (repeated (64 - n) false), count-repeated_false (64 - n))
 
@@ -51,10 +51,6 @@ count-bitmap-le bytes p n = omega (arith, count-le-length (bitmap bytes p n), le
 -- bit j of a word that shows the bits from p on
 pub bit-window : (bytes : List ℕ) (p w j : ℕ) → word_bits w ≡ window bytes p → j < 64 → nat_eq (bit_at w j) 1 ≡ backing_bit bytes (p + j)
 bit-window bytes p w j shows h = grind (arith, get_or-word_bits w j false h, get_or-window bytes p j false h)
-
--- and of one that shows the first bits from there on
-pub shown_bit : (bytes : List ℕ) (p n w j : ℕ) → take n (word_bits w) ≡ bitmap bytes p n → j < n → get_or (word_bits w) j false ≡ backing_bit bytes (p + j)
-shown_bit bytes p n w j shows h = sym (get_or-take n (word_bits w) j false h) ∙ ap (λ (m : List Bool). get_or m j false) shows ∙ get_or-bitmap bytes p n j false h
 
 -- ---- a list that is written word by word
 

@@ -1,5 +1,5 @@
 -- A list in started words: the last one has false values up to a whole word.
-use Rattle.mask_bits.proofs.Common.{take, ◌≡◌, ℕ, ◌+◌, ◌*◌, ◌-◌, ◌/◌, ◌%◌, ◌^◌, ◌<◌, ◌≤◌, Bool, false, List, [], ◌∷◌, ◌++◌, length, get_or, drop, sym, ◌∙◌, arith, bit_and, drop_more, drop_all, length-append, get_or-drop, get_or-take, get_or_past, length-between, get_or-between, length-map-range_with_len, get_or-map-range_with_len, bitmap, Packed, values, repeated, word_bits, window, word_part, padded_remainder, started_words, padded_part, padded_parts, ext_get_or, length-drop, length-take}
+use Rattle.mask_bits.proofs.Common.{◌≡◌, ℕ, ◌+◌, ◌*◌, ◌-◌, ◌/◌, ◌%◌, ◌^◌, ◌<◌, ◌≤◌, Bool, false, List, [], ◌∷◌, ◌++◌, length, get_or, drop, sym, ◌∙◌, arith, bit_and, drop_more, drop_all, length-append, get_or-drop, get_or-take, get_or_past, length-between, get_or-between, length-map-range_with_len, get_or-map-range_with_len, bitmap, Packed, values, repeated, word_bits, window, word_part, padded_remainder, started_words, padded_part, padded_parts, ext_get_or, length-drop, length-take}
 use Rattle.mask_bits.proofs.BufferLemmas.{length-values, get_or-values}
 use Rattle.mask_bits.proofs.Lists.Words.BackingBitLemmas.{length-bitmap, get_or-bitmap, word_bits-low}
 use Rattle.mask_bits.proofs.Lists.Words.WordLemmas.{length-word_bits, get_or-word_bits}
@@ -34,7 +34,7 @@ word_bits-no_remainder m none = grind (arith, padded_part_from_values, length-wo
 -- ---- the words that bytes show
 
 -- and of the last one, cut to the values that are left
-pub padded_part-low : (b : Packed) (i w : ℕ) → b.len - 64 * i ≤ 64 → take (b.len - 64 * i) (word_bits w) ≡ bitmap b.bytes (b.offset + 64 * i) (b.len - 64 * i) → word_bits (bit_and w (2 ^ (b.len - 64 * i) - 1)) ≡ padded_part (values b) i
+pub padded_part-low : (b : Packed) (i w : ℕ) → b.len - 64 * i ≤ 64 → word_bits w ≡ window b.bytes (b.offset + 64 * i) → word_bits (bit_and w (2 ^ (b.len - 64 * i) - 1)) ≡ padded_part (values b) i
 padded_part-low b i w few shows =
     let n : ℕ = b.len - 64 * i in
     let p : ℕ = b.offset + 64 * i in

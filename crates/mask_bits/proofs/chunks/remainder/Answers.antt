@@ -4,4 +4,4 @@ use Rattle.mask_bits.proofs.chunks.remainder.Goals as goal
 
 pub returns : goal.returns
 returns c =
-    grind (arith, one_shifted, word_bits-remainder (record { bytes = c.args.bytes.now; offset = c.args.offset; len = c.args.len }) c.bits_at.result c.bits_at.ensures)
+    grind (arith, one_shifted, word_bits-remainder (record { bytes = c.args.bytes.now; offset = c.args.offset; len = c.args.len }) c.word_at.result c.word_at.ensures)

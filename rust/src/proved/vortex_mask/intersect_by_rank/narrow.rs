@@ -33,11 +33,11 @@ pub(super) fn narrow_by_path(
             crate::kit::quickest!(intersect_bit_buffers::<Portable>(buffer, bits, true_count))
         }
         RankPath::RankIndices if by_loop => {
-            let indices = ranks.lend_indices();
+            let indices = ranks.cached_indices().unwrap();
             intersect_bit_buffer_by_rank_indices::<PortableLoop>(buffer, indices)
         }
         RankPath::RankIndices => {
-            let indices = ranks.lend_indices();
+            let indices = ranks.cached_indices().unwrap();
             crate::kit::quickest!(intersect_bit_buffer_by_rank_indices::<Portable>(buffer, indices))
         }
     }
@@ -60,11 +60,11 @@ pub(crate) fn narrow_by_path_any(
             crate::kit::quickest!(crate::proved::vortex_mask::intersect_by_rank::kernels::bit_buffers::intersect_bit_buffers_any::<Portable>(buffer, bits, true_count))
         }
         RankPath::RankIndices if by_loop => {
-            let indices = ranks.lend_indices();
+            let indices = ranks.cached_indices().unwrap();
             intersect_bit_buffer_by_rank_indices::<PortableLoop>(buffer, indices)
         }
         RankPath::RankIndices => {
-            let indices = ranks.lend_indices();
+            let indices = ranks.cached_indices().unwrap();
             crate::kit::quickest!(intersect_bit_buffer_by_rank_indices::<Portable>(buffer, indices))
         }
     }

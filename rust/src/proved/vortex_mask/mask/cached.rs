@@ -35,7 +35,7 @@ impl Mask {
         Ok(match self {
             Mask::AllTrue(_) => AllOr::All,
             Mask::AllFalse(_) => AllOr::None,
-            Mask::Values(values) => AllOr::Some(values.lend_indices()),
+            Mask::Values(values) => AllOr::Some(values.cached_indices().unwrap()),
         })
     }
 
@@ -57,7 +57,7 @@ impl Mask {
         Ok(match self {
             Mask::AllTrue(_) => AllOr::All,
             Mask::AllFalse(_) => AllOr::None,
-            Mask::Values(values) => AllOr::Some(values.lend_slices()),
+            Mask::Values(values) => AllOr::Some(values.cached_slices().unwrap()),
         })
     }
 

@@ -105,21 +105,14 @@ fn merge_both(
 // Merges what is left of two lists, and tells how many indices both have.
 #[inline]
 fn merge_rest(list: &mut [usize], other: &[usize], at: Places) -> usize {
-    let mut at = merge_eights(list, other, at);
-    while at.list < list.len() && at.other < other.len() {
-        at = step(list, other, at);
-    }
-    at.found
-}
-
-// Merges two lists as long as both have eight indices more.
-#[inline]
-fn merge_eights(list: &mut [usize], other: &[usize], at: Places) -> Places {
     let mut at = at;
     while at.have_eight(list, other) {
         at = eight_steps(list, other, at);
     }
-    at
+    while at.list < list.len() && at.other < other.len() {
+        at = step(list, other, at);
+    }
+    at.found
 }
 
 // Eight steps, of which none is tested for the end of a list. Where the next eight indices of a list are below all that

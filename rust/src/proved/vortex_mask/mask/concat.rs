@@ -68,10 +68,10 @@ impl Mask {
         let Some(len) = total_len(masks) else {
             return Err(MaskError::LengthOverflow);
         };
-        if all_true(masks) {
+        if are_all(masks, true) {
             return Ok(Mask::AllTrue(len));
         }
-        if all_false(masks) {
+        if are_all(masks, false) {
             return Ok(Mask::AllFalse(len));
         }
         let (buffer, true_count) = buffer_of(len, masks)?;
@@ -79,16 +79,10 @@ impl Mask {
     }
 }
 
-// Whether each value of each mask is true.
+// Whether each value of each mask is `value`.
 #[inline]
-fn all_true(masks: &[&Mask]) -> bool {
-    masks.iter().all(|mask| mask.all_true())
-}
-
-// Whether each value of each mask is false.
-#[inline]
-fn all_false(masks: &[&Mask]) -> bool {
-    masks.iter().all(|mask| mask.all_false())
+fn are_all(masks: &[&Mask], value: bool) -> bool {
+    masks.iter().all(|mask| if value { mask.all_true() } else { mask.all_false() })
 }
 
 // The sum of the masks' lengths, if it fits.

@@ -38,12 +38,6 @@ impl Mask {
     ) -> Result<Mask, MaskError> {
         let indices = indices.into_iter();
         let indices: Vec<usize> = indices.collected()?;
-        Mask::of_list(len, indices)
-    }
-
-    // The mask of `len` values that is true exactly at the indices of a list, or what is wrong with it.
-    #[inline(always)]
-    fn of_list(len: usize, indices: Vec<usize>) -> Result<Mask, MaskError> {
         if let Some(fault) = index_fault(len, &indices) {
             return Err(fault);
         }
@@ -99,12 +93,8 @@ fn first_repeated(indices: &[usize]) -> Option<usize> {
 // The first index that is not below the length.
 #[inline(always)]
 fn out_of_bounds(len: usize, indices: &[usize]) -> Option<MaskError> {
-    for index in indices {
-        if *index >= len {
-            return Some(MaskError::IndexOutOfBounds { index: *index, len });
-        }
-    }
-    None
+    let index = *indices.iter().find(|index| **index >= len)?;
+    Some(MaskError::IndexOutOfBounds { index, len })
 }
 
 /// Masks of false indices.
@@ -158,19 +148,13 @@ impl Mask {
 fn exclude<I: Iterator<Item = usize>>(builder: &mut BitBufferMut, indices: I) -> Option<usize> {
     let mut past_end = None;
     for index in indices {
-        past_end = exclude_one(builder, index, past_end);
+        if index < builder.len() {
+            builder.unset_proved(index);
+        } else {
+            past_end = past_end.or(Some(index));
+        }
     }
     past_end
-}
-
-// Makes one value false, or notes that its index is past the end where none was noted yet.
-#[inline]
-fn exclude_one(builder: &mut BitBufferMut, index: usize, past_end: Option<usize>) -> Option<usize> {
-    if index < builder.len() {
-        builder.unset_proved(index);
-        return past_end;
-    }
-    past_end.or(Some(index))
 }
 
 /// Masks of the indices that two lists have in common.
@@ -227,12 +211,6 @@ impl Mask {
             "rhs_ascends",
             "EachRunFrom R.next_gives rhs IsAscending",
         );
-        Mask::of_common(len, lhs, rhs)
-    }
-
-    // The mask of `len` values that is true exactly at the indices that two lists have in common.
-    #[inline]
-    fn of_common(len: usize, lhs: Vec<usize>, rhs: Vec<usize>) -> Result<Mask, MaskError> {
         let mut indices = common(lhs, rhs);
         if let Some(fault) = out_of_bounds(len, &indices) {
             return Err(fault);

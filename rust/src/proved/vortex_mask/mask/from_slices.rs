@@ -50,15 +50,11 @@ impl Mask {
 /// - `result ≡ range_fault len ranges.now`
 #[inline]
 pub fn range_fault(len: usize, ranges: &[(usize, usize)]) -> Option<MaskError> {
-    bad_range(len, ranges).or_else(|| neighbors_fault(ranges))
-}
-
-#[inline]
-fn bad_range(len: usize, ranges: &[(usize, usize)]) -> Option<MaskError> {
     ranges
         .iter()
         .position(|(start, end)| !(start < end && *end <= len))
         .map(|at| MaskError::BadRange { at })
+        .or_else(|| neighbors_fault(ranges))
 }
 
 #[inline]

@@ -144,18 +144,10 @@ impl Mask {
     #[inline]
     pub fn set_slices(&self) -> MaskSetSlices<'_> {
         match self {
-            Mask::AllTrue(len) => MaskSetSlices::Whole(whole_run(*len)),
+            Mask::AllTrue(0) => MaskSetSlices::Whole(None),
+            Mask::AllTrue(len) => MaskSetSlices::Whole(Some((0, *len))),
             Mask::AllFalse(_) => MaskSetSlices::Whole(None),
             Mask::Values(values) => MaskSetSlices::Bits(values.bit_buffer().set_slices()),
         }
     }
-}
-
-// The run of so many true values, if there are any.
-#[inline]
-fn whole_run(len: usize) -> Option<(usize, usize)> {
-    if len == 0 {
-        return None;
-    }
-    Some((0, len))
 }

@@ -76,17 +76,10 @@ impl Mask {
     pub(crate) fn groups_proved(&self, size: usize) -> Result<Vec<Mask>, MaskError> {
         let mut groups = Vec::new();
         for number in 0..self.len().div_ceil(size) {
-            groups.try_push(self.group(size, number)?)?;
+            let start = size * number;
+            let end = start + size.min(self.len() - start);
+            groups.try_push(self.slice_proved(start, end)?)?;
         }
         Ok(groups)
-    }
-
-    // The values of one group.
-    #[inline]
-    fn group(&self, size: usize, number: usize) -> Result<Mask, MaskError> {
-        let len = self.len();
-        let start = size * number;
-        let end = start + size.min(len - start);
-        self.slice_proved(start, end)
     }
 }

@@ -186,7 +186,7 @@ impl MaskValues {
     #[inline]
     pub fn indices(&mut self) -> Result<&[usize], MaskError> {
         self.cache_list(false)?;
-        Ok(self.lend_indices())
+        Ok(self.cached_indices().unwrap())
     }
 
     /// The runs of true indices, ascending. Each is its first index and the index past its
@@ -201,7 +201,7 @@ impl MaskValues {
     #[inline]
     pub fn slices(&mut self) -> Result<&[(usize, usize)], MaskError> {
         self.cache_list(true)?;
-        Ok(self.lend_slices())
+        Ok(self.cached_slices().unwrap())
     }
 
     /// The ranges of `slices` where the share of true values is `num / den` or more, else the list of
@@ -249,25 +249,13 @@ impl MaskValues {
         true_part >= num as u128 * self.buffer.len() as u128
     }
 
-    // The true indices, which are cached.
-    #[inline]
-    pub(crate) fn lend_indices(&self) -> &[usize] {
-        self.indices.as_deref().unwrap()
-    }
-
-    // The runs, which are cached.
-    #[inline]
-    pub(crate) fn lend_slices(&self) -> &[(usize, usize)] {
-        self.slices.as_deref().unwrap()
-    }
-
     // The runs, or the true indices, which are cached.
     #[inline]
     pub(super) fn lend_list(&self, by_ranges: bool) -> MaskIter<'_> {
         if by_ranges {
-            MaskIter::Slices(self.lend_slices())
+            MaskIter::Slices(self.cached_slices().unwrap())
         } else {
-            MaskIter::Indices(self.lend_indices())
+            MaskIter::Indices(self.cached_indices().unwrap())
         }
     }
 

@@ -36,7 +36,8 @@ pub(super) fn bits_of_ranks(ranks: &[usize], next: &mut usize, at: usize, end: u
     bits
 }
 
-// The bits of those ranks where there are four or more, unless they are among the last three of all.
+// The bits of those ranks where there are four or more, unless they are among the last three of all. They are taken by
+// fours: a test of each one would be guessed wrong once in most words.
 #[inline(always)]
 fn bits_of_most(ranks: &[usize], next: &mut usize, at: usize, end: usize) -> u64 {
     // most words of a sparse mask have no rank, which one test tells
@@ -46,14 +47,6 @@ fn bits_of_most(ranks: &[usize], next: &mut usize, at: usize, end: usize) -> u64
     if *next + 4 > ranks.len() || ranks[*next + 3] >= end {
         return 0;
     }
-    let bits = bits_of_fours(ranks, next, at, end);
-    with_three(ranks, next, at, end, bits)
-}
-
-// The bits of ranks as long as four of them are below `end`. A test of each one would be guessed
-// wrong once in most words.
-#[inline(always)]
-fn bits_of_fours(ranks: &[usize], next: &mut usize, at: usize, end: usize) -> u64 {
     let mut bits = 0u64;
     while *next + 4 <= ranks.len() && ranks[*next + 3] < end {
         bits |= 1 << (ranks[*next] - at);
@@ -62,7 +55,7 @@ fn bits_of_fours(ranks: &[usize], next: &mut usize, at: usize, end: usize) -> u6
         bits |= 1 << (ranks[*next + 3] - at);
         *next += 4;
     }
-    bits
+    with_three(ranks, next, at, end, bits)
 }
 
 // `bits`, and those of the next three ranks that are below `end`, if there are three more.

@@ -1,5 +1,5 @@
 use Rattle.mask_bits.proofs.Common.{◌≡◌, ◌≤◌, length, drop, number}
-use Rattle.mask_bits.proofs.read_word.word_of_few.Given as goal
+use Rattle.mask_bits.proofs.words.word_of_few.Given as goal
 
 -- the number of the bytes from one on
 abbrev pub invariant-loop-left : goal.invariant-loop-left

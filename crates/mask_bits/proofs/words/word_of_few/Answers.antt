@@ -1,7 +1,7 @@
 use Rattle.mask_bits.proofs.Common.{◌≡◌, ◌+◌, ◌-◌, ◌*◌, ◌<◌, ◌^◌, ℕ, List, length, drop, number, ap, ◌∙◌, arith, suc, length-drop, drop_all, word_bits, slice_index_or}
 use Rattle.mask_bits.proofs.NumberLemmas.{AreBytes, bytes-drop, number-fits, number-from}
 use Rattle.mask_bits.proofs.WindowLemmas.{word_bits-number}
-use Rattle.mask_bits.proofs.read_word.word_of_few.Goals as goal
+use Rattle.mask_bits.proofs.words.word_of_few.Goals as goal
 
 -- the next byte, with those behind it, is a word still
 step : (bytes : List ℕ) (left : ℕ) → AreBytes bytes → length bytes < 8 → 0 < left → record {

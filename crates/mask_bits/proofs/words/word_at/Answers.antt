@@ -1,0 +1,13 @@
+use Rattle.mask_bits.proofs.Common.{ℕ, ◌+◌, ◌*◌, ◌/◌, ◌%◌, ◌∙◌, List, ap, arith, drop, get_or, take_rest, window, word_bits}
+use Rattle.mask_bits.proofs.CombineLemmas.{window-next_byte}
+use Rattle.mask_bits.proofs.Lists.Words.FrontLemmas.{window-drop}
+use Rattle.mask_bits.proofs.words.word_at.Goals as goal
+
+pub returns-then-first-bytes : goal.returns-then-first-bytes
+returns-then-first-bytes c =
+    let bytes = c.args.bytes.now in
+    let p = c.args.position in
+    let same = take_rest bytes (p / 8) in
+    c.funnel_shift.ensures ∙ window-next_byte (drop (p / 8) bytes) (p % 8) 0 _ (word_bits c.word_of.result) (omega arith)
+    (c.word_of.ensures ∙ ap (λ (xs : List ℕ). window xs 0) same) (ap (λ (xs : List ℕ). get_or xs 8 0) same)
+    ∙ window-drop bytes (p / 8) (p % 8 + 64 * 0) p (omega arith)
