@@ -4,20 +4,52 @@ use crate::fault::Fault;
 use crate::packed::empty;
 use crate::tell::Tell;
 use crate::text::Text;
-use crate::words::{Word, number, pair};
+use crate::words::{Word, Words};
 use mask_bits::{BitBuffer, BitBufferMut};
 use std::alloc::{AllocError, Global};
 
 const NO_BUILDER: Fault = Fault::Unmet("a builder that is there");
 
-// A builder, and the buffer that it made: one of both at most.
+// No list of a test is longer.
+const LONGEST: usize = 10_000_000;
+
+// What can be done to a builder.
+const FORMS: &str = "with_capacity new_set new_unset n w b set unset freeze";
+
+/// A builder to which all operations but the last were done when the call was read, and how often the last is to be
+/// done. Where it was refused, the call goes on with it when it is made again.
 #[derive(Drop)]
-struct Built {
+pub struct BuilderCall {
     builder: Option<BitBufferMut>,
+    // The buffer that it made, in its place.
     frozen: Option<BitBuffer>,
+    times: usize,
+    // The last operation: one of the forms, with numbers or a buffer.
+    form: &'static str,
+    first: usize,
+    count: usize,
+    buffer: BitBuffer,
 }
 
-impl Built {
+impl BuilderCall {
+    pub fn make(&mut self, alloc: Global) -> Result<(), Fault> {
+        for _ in 0..self.times {
+            self.step(alloc)?;
+            self.times = self.times.saturating_sub(1);
+        }
+        Ok(())
+    }
+
+    fn step(&mut self, alloc: Global) -> Result<(), Fault> {
+        match self.form {
+            "with_capacity" => self.start(BitBufferMut::with_capacity(alloc, self.first)),
+            "new_set" => self.start(BitBufferMut::new_set(alloc, self.first)),
+            "new_unset" => self.start(BitBufferMut::new_unset(alloc, self.first)),
+            "freeze" => self.freeze(),
+            _ => self.change(),
+        }
+    }
+
     fn start(&mut self, made: Result<BitBufferMut, AllocError>) -> Result<(), Fault> {
         self.builder = Some(made?);
         Ok(())
@@ -28,6 +60,78 @@ impl Built {
         self.frozen = Some(frozen(self.builder.take().ok_or(NO_BUILDER)?)?);
         Ok(())
     }
+
+    fn change(&mut self) -> Result<(), Fault> {
+        let Some(builder) = &mut self.builder else {
+            return Err(NO_BUILDER);
+        };
+        let len = builder.len();
+        if len.max(self.count).max(self.buffer.len()) > LONGEST {
+            return Err(Fault::Unmet("a length that fits"));
+        }
+        match self.form {
+            "n" => memory(builder.append_n(self.first == 1, self.count)),
+            "w" if self.count <= 64 => memory(builder.push_word(self.first as u64, self.count)),
+            "b" => memory(builder.append_buffer(&self.buffer)),
+            "set" if self.first < len => Ok(builder.set(self.first)),
+            "unset" if self.first < len => Ok(builder.unset(self.first)),
+            "w" => Err(Fault::Unmet("64 bits at most")),
+            _ => Err(Fault::Unmet("an index below the length")),
+        }
+    }
+
+    /// Writes the list of what was made, once all is done. A builder is frozen for that.
+    pub fn write(&mut self, text: &mut Text) {
+        if self.times == 0 {
+            if self.builder.is_some() {
+                self.freeze().tell(text);
+            }
+            if let Some(buffer) = &self.frozen {
+                buffer.tell(text);
+            }
+        }
+    }
+
+    /// Whether the builder is lent, and there still where it was refused memory.
+    pub fn lends(&self) -> bool {
+        self.form != "freeze"
+    }
+
+    /// Does no more than to make the buffer.
+    pub fn give_up(&mut self) {
+        self.form = "freeze";
+        self.times = 1;
+    }
+
+    // Reads an operation, and how often it is done.
+    fn read(&mut self, words: &mut Words<'_>, word: &str) {
+        let (times, word) = word.split_once("*").unwrap_or(("1", word));
+        self.times = usize::read(words, times);
+        let (name, rest) = word.split_once(":").unwrap_or((word, "0"));
+        self.form = form(words, name);
+        self.read_operands(words, rest);
+    }
+
+    fn read_operands(&mut self, words: &mut Words<'_>, rest: &str) {
+        if self.form == "b" {
+            self.buffer = BitBuffer::read(words, rest);
+        } else {
+            let (first, count) = rest.split_once(":").unwrap_or((rest, "0"));
+            self.first = usize::read(words, first);
+            self.count = usize::read(words, count);
+        }
+    }
+}
+
+fn form(words: &mut Words<'_>, name: &str) -> &'static str {
+    match FORMS.split(' ').find(|form| *form == name) {
+        Some(form) => form,
+        None => words.unread("a builder's operation", ""),
+    }
+}
+
+fn memory(made: Result<(), AllocError>) -> Result<(), Fault> {
+    made.map_err(Fault::from)
 }
 
 // The buffer, which has the length that the builder said.
@@ -40,139 +144,24 @@ fn frozen(builder: BitBufferMut) -> Result<BitBuffer, Fault> {
     }
 }
 
-// No list of a test is longer.
-const LONGEST: usize = 10_000_000;
-
-// What can be done to a builder.
-const FORMS: &str = "with_capacity new_set new_unset n w b set unset freeze";
-
-// What is done to a builder: one of these, with numbers or a buffer.
-#[derive(Drop)]
-struct Operation {
-    form: &'static str,
-    first: usize,
-    count: usize,
-    buffer: BitBuffer,
-}
-
-impl Operation {
-    fn new(form: &'static str, (first, count): (usize, usize), buffer: BitBuffer) -> Operation {
-        Operation {
-            form,
-            first,
-            count,
-            buffer,
-        }
-    }
-
-    fn read(alloc: Global, word: &str) -> Result<Operation, Fault> {
-        let (name, rest) = word.split_once(":").unwrap_or((word, "0"));
-        match FORMS.split(' ').find(|form| *form == name) {
-            Some(form @ "b") => Ok(Operation::new(form, (0, 0), BitBuffer::read(alloc, rest)?)),
-            Some(form @ ("n" | "w")) => {
-                let numbers = pair(rest, ":", "two numbers")?;
-                Ok(Operation::new(form, numbers, empty()))
-            }
-            Some(form) => Ok(Operation::new(form, (number(rest)?, 0), empty())),
-            None => Err(Fault::Malformed("a builder's operation")),
-        }
-    }
-
-    fn make(&self, alloc: Global, built: &mut Built) -> Result<(), Fault> {
-        match self.form {
-            "with_capacity" => built.start(BitBufferMut::with_capacity(alloc, self.first)),
-            "new_set" => built.start(BitBufferMut::new_set(alloc, self.first)),
-            "new_unset" => built.start(BitBufferMut::new_unset(alloc, self.first)),
-            "freeze" => built.freeze(),
-            _ => match &mut built.builder {
-                Some(builder) => self.change(builder),
-                None => Err(NO_BUILDER),
-            },
-        }
-    }
-
-    fn change(&self, builder: &mut BitBufferMut) -> Result<(), Fault> {
-        let len = builder.len();
-        if len.max(self.count).max(self.buffer.len()) > LONGEST {
-            return Err(Fault::Unmet("a length that fits"));
-        }
-        match self.form {
-            "n" => Ok(builder.append_n(self.first == 1, self.count)?),
-            "w" if self.count <= 64 => Ok(builder.push_word(self.first as u64, self.count)?),
-            "b" => Ok(builder.append_buffer(&self.buffer)?),
-            "set" if self.first < len => Ok(builder.set(self.first)),
-            "unset" if self.first < len => Ok(builder.unset(self.first)),
-            "w" => Err(Fault::Unmet("64 bits at most")),
-            _ => Err(Fault::Unmet("an index below the length")),
-        }
-    }
-}
-
-/// A builder to which all operations but the last were done when the call was read, and how often the last is to be
-/// done. Where it was refused, the call goes on with it when it is made again.
-#[derive(Drop)]
-pub struct BuilderCall {
-    built: Built,
-    last: Operation,
-    times: usize,
-}
-
-impl BuilderCall {
-    pub fn make(&mut self, alloc: Global) -> Result<(), Fault> {
-        for _ in 0..self.times {
-            self.last.make(alloc, &mut self.built)?;
-            self.times = self.times.saturating_sub(1);
-        }
-        Ok(())
-    }
-
-    /// Writes the list of what was made, once all is done. A builder is frozen for that.
-    pub fn write(&mut self, text: &mut Text) {
-        if self.times == 0 {
-            if self.built.builder.is_some() {
-                self.built.freeze().tell(text);
-            }
-            if let Some(buffer) = &self.built.frozen {
-                buffer.tell(text);
-            }
-        }
-    }
-
-    fn set_last(&mut self, alloc: Global, (times, word): (&str, &str)) -> Result<(), Fault> {
-        self.times = number(times)?;
-        self.last = Operation::read(alloc, word)?;
-        Ok(())
-    }
-
-    /// Whether the builder is lent, and there still where it was refused memory.
-    pub fn lends(&self) -> bool {
-        self.last.form != "freeze"
-    }
-
-    /// Does no more than to make the buffer.
-    pub fn give_up(&mut self) {
-        self.last.form = "freeze";
-        self.times = 1;
-    }
-}
-
 /// Operations with a space between two: `with_capacity:130`, `new_set:130` or `new_unset:130` make a builder, `n:1:5`
 /// appends five true values, `w:0x5:64` the 64 bits of a word, `b:3+101` a buffer by its word, `set:4` and `unset:4`
 /// change a value, `freeze` makes the buffer, and `9*n:1:5` appends nine times.
 impl Word for Option<BuilderCall> {
-    fn read(alloc: Global, words: &str) -> Result<Option<BuilderCall>, Fault> {
+    fn read(words: &mut Words<'_>, text: &str) -> Option<BuilderCall> {
         let mut call = BuilderCall {
-            built: Built {
-                builder: None,
-                frozen: None,
-            },
-            last: Operation::new("freeze", (0, 0), empty()),
+            builder: None,
+            frozen: None,
             times: 0,
+            form: "",
+            first: 0,
+            count: 0,
+            buffer: empty(),
         };
-        for word in words.split(' ') {
-            call.make(alloc)?;
-            call.set_last(alloc, word.split_once("*").unwrap_or(("1", word)))?;
+        for word in text.split(' ') {
+            words.made(call.make(words.alloc), ());
+            call.read(words, word);
         }
-        Ok(Some(call))
+        Some(call)
     }
 }

@@ -3,8 +3,7 @@
 ghost use Rattle.std.specs.Prelude.{◌≡◌, IsTrue, length};
 ghost use Rattle.mask_bits.specs.Positions.{count};
 
-use crate::fault::Fault;
-use crate::words::{Word, halves, number};
+use crate::words::{Word, Words};
 use mask_bits::{BitBuffer, laws};
 use std::alloc::Global;
 use std::marker::Model;
@@ -41,10 +40,10 @@ impl Listed {
 
 /// A buffer with its indices.
 impl Word for Option<Listed> {
-    fn read(alloc: Global, word: &str) -> Result<Option<Listed>, Fault> {
-        let buffer = BitBuffer::read(alloc, word)?;
-        let indices = buffer.set_indices().collect(alloc)?;
-        Ok(Some(Listed { buffer, indices }))
+    fn read(words: &mut Words<'_>, word: &str) -> Option<Listed> {
+        let buffer = BitBuffer::read(words, word);
+        let indices = buffer.set_indices().collect(words.alloc).ok()?;
+        Some(Listed { buffer, indices })
     }
 }
 
@@ -68,27 +67,16 @@ impl Model for Ranged {
 }
 
 impl Ranged {
-    /// A buffer with its own runs.
-    pub(crate) fn of_runs(alloc: Global, buffer: BitBuffer) -> Result<Ranged, MaskError> {
-        laws::runs_are_ranges();
-        let ranges = buffer.set_slices().collect(alloc)?;
-        Ok(Ranged { buffer, ranges })
-    }
-
     /// By a length and ranges, with this mark between: a buffer that is true in these ranges, which may touch.
-    pub(crate) fn read(alloc: Global, words: &str, mark: &str) -> Result<Ranged, Fault> {
-        let (len, ranges) = halves(words, mark, "a length and ranges")?;
-        let ranges: Vec<(usize, usize)> = Vec::read(alloc, ranges)?;
-        Ok(Ranged::of_ranges(alloc, number(len)?, ranges)?)
+    pub(crate) fn read(words: &mut Words<'_>, text: &str, mark: &str) -> Option<Ranged> {
+        let (len, ranges) = words.halves(text, mark, "a length and ranges");
+        let (len, ranges) = (usize::read(words, len), words.list(ranges));
+        words.some(Ranged::new(words.alloc, len, ranges))
     }
 
-    fn of_ranges(
-        alloc: Global,
-        len: usize,
-        ranges: Vec<(usize, usize)>,
-    ) -> Result<Ranged, MaskError> {
+    fn new(alloc: Global, len: usize, ranges: Vec<(usize, usize)>) -> Result<Ranged, MaskError> {
         let mask = Mask::from_slices(alloc, len, ranges.to_vec(alloc)?)?;
-        let buffer = mask.to_bit_buffer(alloc)?;
+        let buffer = mask.into_bit_buffer(alloc)?;
         Ok(Ranged { buffer, ranges })
     }
 
@@ -99,8 +87,15 @@ impl Ranged {
     }
 }
 
+/// `Mask::from_buffer_with_slices`, of a buffer and its own runs.
+pub(crate) fn with_runs(alloc: Global, buffer: BitBuffer) -> Result<Mask, MaskError> {
+    laws::runs_are_ranges();
+    let runs = buffer.set_slices().collect(alloc)?;
+    Mask::from_buffer_with_slices(alloc, buffer, runs)
+}
+
 impl Word for Option<Ranged> {
-    fn read(alloc: Global, words: &str) -> Result<Option<Ranged>, Fault> {
-        Ok(Some(Ranged::read(alloc, words, " ")?))
+    fn read(words: &mut Words<'_>, text: &str) -> Option<Ranged> {
+        Ranged::read(words, text, " ")
     }
 }

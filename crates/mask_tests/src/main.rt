@@ -3,17 +3,15 @@
 //! told whole, and with `refused` the rows are scenarios of refused memory.
 #![tactic(auto)]
 
-mod bits;
 mod builder;
 mod call;
+mod calls;
 mod fault;
 mod held;
 mod lines;
 mod listed;
 mod mask_word;
-mod masks;
 mod operands;
-mod others;
 mod packed;
 mod refused;
 mod rows;

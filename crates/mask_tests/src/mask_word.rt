@@ -1,102 +1,115 @@
 //! Masks by words of a row.
 
-use crate::fault::Fault;
-use crate::listed::Ranged;
-use crate::packed::from_bools;
-use crate::words::{Word, number, values};
+use crate::listed::{Ranged, with_runs};
+use crate::words::{Word, Words, number};
 use mask_bits::BitBuffer;
 use std::alloc::Global;
 use vortex_mask::{Mask, MaskError, MaskValues};
 
 /// The mask of a word that may begin with `i:`, `r:` or `ir:`, where its indices or ranges are then cached.
 impl Word for Mask {
-    fn read(alloc: Global, word: &str) -> Result<Mask, Fault> {
-        match word.split_once(":") {
-            Some((lists @ ("i" | "r" | "ir"), rest)) => cached(alloc, rest, lists),
-            _ => mask(alloc, word),
+    fn read(words: &mut Words<'_>, word: &str) -> Mask {
+        let (lists, word) = match word.split_once(":") {
+            Some((lists @ ("i" | "r" | "ir"), rest)) => (lists, rest),
+            _ => ("", word),
+        };
+        let mask = mask(words, word);
+        let mut mask = words.made(mask, Mask::default());
+        if lists.contains("i") {
+            words.some(mask.indices(words.alloc));
         }
+        if lists.contains("r") {
+            words.some(mask.slices(words.alloc));
+        }
+        mask
     }
 }
 
 /// The values of a mixed mask, as their own clone.
 impl Word for Option<MaskValues> {
-    fn read(alloc: Global, word: &str) -> Result<Option<MaskValues>, Fault> {
-        match Mask::read(alloc, word)?.values() {
-            Some(values) => Ok(Some(values.clone()?)),
-            None => Err(Fault::Unmet("a mixed mask")),
-        }
+    fn read(words: &mut Words<'_>, word: &str) -> Option<MaskValues> {
+        let mask = Mask::read(words, word);
+        words.some(mask.values()?.clone())
     }
-}
-
-fn cached(alloc: Global, word: &str, lists: &str) -> Result<Mask, Fault> {
-    let mut mask = mask(alloc, word)?;
-    if lists.contains("i") {
-        let _ = mask.indices(alloc)?;
-    }
-    if lists.contains("r") {
-        let _ = mask.slices(alloc)?;
-    }
-    Ok(mask)
 }
 
 // A mask by a word: `all:5` and `none:5` of one value, `5:1,3` by `from_indices`, `10:0..3,5..7` by `from_slices`,
 // `ranged:10:0..3,5..7` by `from_buffer_with_slices`, `rows:10110` by that constructor, and otherwise of a buffer, as
 // that is written, which caches nothing.
-fn mask(alloc: Global, word: &str) -> Result<Mask, Fault> {
+fn mask(words: &mut Words<'_>, word: &str) -> Result<Mask, MaskError> {
     match word.split_once(":") {
-        Some(("all", len)) => Ok(Mask::new_true(number(len)?)),
-        Some(("none", len)) => Ok(Mask::new_false(number(len)?)),
-        Some(("bytes" | "every" | "first" | "at", _)) | None => {
-            Ok(Mask::from_buffer(alloc, BitBuffer::read(alloc, word)?)?)
-        }
-        Some(("ranged", rest)) if rest.contains("..") => {
-            Ok(Ranged::read(alloc, rest, ":")?.mask(alloc)?)
-        }
+        Some(("all", len)) => Ok(Mask::new_true(usize::read(words, len))),
+        Some(("none", len)) => Ok(Mask::new_false(usize::read(words, len))),
+        Some(("bytes" | "every" | "first" | "at", _)) | None => of_buffer(words, word),
+        Some(("ranged", rest)) if rest.contains("..") => ranged(words, rest),
         Some((form, list)) => match number(form) {
-            Ok(len) => listed(alloc, len, list),
-            Err(_) => by_values(alloc, form, &values(alloc, list)?),
+            Ok(len) => listed(words, len, list),
+            Err(_) => by_values(words, form, list),
         },
     }
 }
 
-fn listed(alloc: Global, len: usize, list: &str) -> Result<Mask, Fault> {
-    if list.contains("..") {
-        return Ok(Mask::from_slices(alloc, len, Vec::read(alloc, list)?)?);
-    }
-    let indices: Vec<usize> = Vec::read(alloc, list)?;
-    Ok(Mask::from_indices(alloc, len, indices.into_iter())?)
+fn of_buffer(words: &mut Words<'_>, word: &str) -> Result<Mask, MaskError> {
+    let buffer = BitBuffer::read(words, word);
+    Mask::from_buffer(words.alloc, buffer)
 }
 
-fn by_values(alloc: Global, form: &str, values: &[bool]) -> Result<Mask, Fault> {
-    by_constructor(alloc, form, values, &from_bools(alloc, values)?)
+fn ranged(words: &mut Words<'_>, word: &str) -> Result<Mask, MaskError> {
+    match Ranged::read(words, word, ":") {
+        Some(ranged) => ranged.mask(words.alloc),
+        None => Ok(Mask::default()),
+    }
+}
+
+fn listed(words: &mut Words<'_>, len: usize, list: &str) -> Result<Mask, MaskError> {
+    if list.contains("..") {
+        let ranges = words.list(list);
+        return Mask::from_slices(words.alloc, len, ranges);
+    }
+    let indices: Vec<usize> = words.list(list);
+    Mask::from_indices(words.alloc, len, indices.into_iter())
+}
+
+fn by_values(words: &mut Words<'_>, form: &str, list: &str) -> Result<Mask, MaskError> {
+    let values: Vec<bool> = Vec::read(words, list);
+    by_constructor(words, form, &values)
 }
 
 // The mask of these values by a constructor of truth values, of a buffer, of lists of what it holds, or of masks: the
-// first third, and the rest. It holds nothing itself, so that each refusal is proved soon.
-fn by_constructor(
-    alloc: Global,
-    form: &str,
-    values: &[bool],
-    buffer: &BitBuffer,
-) -> Result<Mask, Fault> {
-    Ok(match form {
-        "bools" => Mask::from_bools(alloc, values.iter().copied()),
-        "rows" => Mask::from_rows(alloc, values, |row| *row),
-        "buffer" => Mask::from_buffer(alloc, buffer.clone()?),
-        "ranged" => Ranged::of_runs(alloc, buffer.clone()?)?.mask(alloc),
-        "indices" => Mask::from_indices(alloc, buffer.len(), buffer.set_indices()),
-        "excluded" => of_excluded(alloc, buffer),
-        "common" => of_common(alloc, buffer),
-        "slices" => Mask::from_slices(alloc, buffer.len(), buffer.runs(alloc)?),
-        "concat" => Mask::concat(alloc, thirds(alloc, buffer)?.iter()),
-        "masks" => Mask::from_masks(alloc, thirds(alloc, buffer)?.into_iter()),
-        _ => return Err(Fault::Malformed("a mask")),
-    }?)
+// first third, and the rest.
+fn by_constructor(words: &mut Words<'_>, form: &str, values: &[bool]) -> Result<Mask, MaskError> {
+    match form {
+        "bools" => Mask::from_bools(words.alloc, values.iter().copied()),
+        "rows" => Mask::from_rows(words.alloc, values, |row| *row),
+        _ => of_form(
+            words,
+            form,
+            BitBuffer::from_bools(words.alloc, values.iter().copied())?,
+        ),
+    }
 }
 
-fn of_excluded(alloc: Global, buffer: &BitBuffer) -> Result<Mask, MaskError> {
-    let excluded = buffer.not(alloc)?;
-    Mask::from_excluded_indices(alloc, buffer.len(), excluded.set_indices())
+fn of_form(words: &mut Words<'_>, form: &str, buffer: BitBuffer) -> Result<Mask, MaskError> {
+    match form {
+        "buffer" => Mask::from_buffer(words.alloc, buffer),
+        "ranged" => with_runs(words.alloc, buffer),
+        "indices" => of_indices(words.alloc, &buffer),
+        "excluded" => of_excluded(words.alloc, buffer),
+        "common" => of_common(words.alloc, &buffer),
+        "slices" => of_runs(words.alloc, &buffer),
+        "concat" => of_thirds(words.alloc, buffer),
+        "masks" => of_taken_thirds(words.alloc, buffer),
+        _ => words.unread("a mask", Ok(Mask::default())),
+    }
+}
+
+fn of_indices(alloc: Global, buffer: &BitBuffer) -> Result<Mask, MaskError> {
+    Mask::from_indices(alloc, buffer.len(), buffer.set_indices())
+}
+
+fn of_excluded(alloc: Global, buffer: BitBuffer) -> Result<Mask, MaskError> {
+    let excluded = buffer.into_not(alloc)?;
+    Mask::from_excluded_indices(alloc, excluded.len(), excluded.set_indices())
 }
 
 fn of_common(alloc: Global, buffer: &BitBuffer) -> Result<Mask, MaskError> {
@@ -104,11 +117,21 @@ fn of_common(alloc: Global, buffer: &BitBuffer) -> Result<Mask, MaskError> {
     Mask::from_intersection_indices(alloc, buffer.len(), lhs, rhs)
 }
 
-fn thirds(alloc: Global, buffer: &BitBuffer) -> Result<[Mask; 2], MaskError> {
-    let mask = Mask::from_buffer(alloc, buffer.clone()?)?;
+fn of_runs(alloc: Global, buffer: &BitBuffer) -> Result<Mask, MaskError> {
+    Mask::from_slices(alloc, buffer.len(), buffer.runs(alloc)?)
+}
+
+fn of_thirds(alloc: Global, buffer: BitBuffer) -> Result<Mask, MaskError> {
+    Mask::concat(alloc, thirds(alloc, buffer)?.iter())
+}
+
+fn of_taken_thirds(alloc: Global, buffer: BitBuffer) -> Result<Mask, MaskError> {
+    Mask::from_masks(alloc, thirds(alloc, buffer)?.into_iter())
+}
+
+fn thirds(alloc: Global, buffer: BitBuffer) -> Result<[Mask; 2], MaskError> {
+    let mask = Mask::from_buffer(alloc, buffer)?;
     let third = mask.len() / 3;
-    Ok([
-        mask.slice(alloc, 0, third)?,
-        mask.slice(alloc, third, mask.len())?,
-    ])
+    let first = mask.slice(alloc, 0, third)?;
+    Ok([first, mask.slice(alloc, third, mask.len())?])
 }

@@ -1,13 +1,12 @@
 //! What calls are made of.
 
 use crate::builder::BuilderCall;
-use crate::fault::Fault;
 use crate::held::{Held, Use};
 use crate::listed::{Listed, Ranged};
 use crate::packed;
 use crate::text::Text;
 use crate::walks::write_backed;
-use crate::words::{Words, list, values};
+use crate::words::Words;
 use crate::written::{write_mask, write_mixed};
 use mask_bits::BitBuffer;
 use std::alloc::Global;
@@ -81,8 +80,8 @@ impl Operands {
             "b" => self.b.read(words, Use::Lent),
             "taken" => self.a.read(words, Use::Taken),
             "changed" => self.a.read(words, Use::Changed),
-            "masks" => self.read_masks(words, Use::Lent),
-            "taken_masks" => self.read_masks(words, Use::Taken),
+            "masks" => self.masks.read_all(words, Use::Lent),
+            "taken_masks" => self.masks.read_all(words, Use::Taken),
             "values" => self.values.read(words, Use::Lent),
             "changed_values" => self.values.read(words, Use::Changed),
             "x" => self.x.read(words, Use::Lent),
@@ -96,26 +95,12 @@ impl Operands {
             "n" | "word" => words.read(&mut self.n),
             "p" => words.read(&mut self.p),
             "q" => words.read(&mut self.q),
-            "list" => words.read(&mut self.list),
-            "flags" => self.read_flags(words),
-            "taken_ranges" => words.read(&mut self.ranges),
-            "taken_bytes" => words.read(&mut self.bytes),
-            _ => words.note(Fault::Malformed("an operand of this name")),
+            "list" => words.read_list(&mut self.list),
+            "flags" => words.read(&mut self.flags),
+            "taken_ranges" => words.read_list(&mut self.ranges),
+            "taken_bytes" => words.read_list(&mut self.bytes),
+            _ => words.unread("an operand of this name", ()),
         }
-    }
-
-    // Masks by all words that are left, or none for `()`.
-    fn read_masks(&mut self, words: &mut Words<'_>, how: Use) {
-        let masks = match words.all() {
-            "()" => Ok(Vec::new(words.alloc)),
-            all => list(words.alloc, all, ' '),
-        };
-        self.masks.put(words, masks, how, false);
-    }
-
-    fn read_flags(&mut self, words: &mut Words<'_>) {
-        let flags = values(words.alloc, words.next());
-        words.put(&mut self.flags, flags);
     }
 
     /// Whether all operands are lent, so that they are there still where the call was refused memory.

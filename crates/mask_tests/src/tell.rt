@@ -28,8 +28,8 @@ pub(crate) fn tell_fault(text: &mut Text, fault: Fault) {
             text.put("out of memory");
         }
         Fault::Refused(error) => text.put_debug(&error),
-        Fault::Malformed(what) => tell_named(text, "not a row: ", what),
-        Fault::Unmet(what) => tell_named(text, "this row breaks a condition: ", what),
+        Fault::Malformed(what) => text.put_next("not a row: ", what),
+        Fault::Unmet(what) => text.put_next("this row breaks a condition: ", what),
     }
 }
 
@@ -41,12 +41,6 @@ fn tell_named<T: Tell>(text: &mut Text, name: &str, it: T) {
 /// What is told already.
 impl Tell for () {
     fn tell(self, _text: &mut Text) {}
-}
-
-impl<'a> Tell for &'a str {
-    fn tell(self, text: &mut Text) {
-        text.put(self);
-    }
 }
 
 impl Tell for bool {

@@ -1,66 +1,43 @@
-//! What the words of a row say: numbers, lists of them, ranges, and truth values.
+//! The words of a row, and what they say: numbers, lists of them, ranges, and truth values.
 
 use crate::fault::{Fault, UNKNOWN};
-use std::alloc::Global;
+use std::alloc::{AllocError, Global};
 use vortex_mask::Fraction;
 
-/// What a word can say.
+/// What a word can say. Where it can't be read, its fault is noted, and it says something empty or 0.
 pub(crate) trait Word: Drop {
-    fn read(alloc: Global, word: &str) -> Result<Self, Fault>;
+    fn read(words: &mut Words<'_>, word: &str) -> Self;
 }
 
+/// A number: its digits, `0x` and hexadecimal ones, `max`, or `max-1`.
 impl Word for usize {
-    fn read(_alloc: Global, word: &str) -> Result<usize, Fault> {
-        number(word)
+    fn read(words: &mut Words<'_>, word: &str) -> usize {
+        words.made(number(word), 0)
     }
 }
 
 impl Word for u8 {
-    fn read(_alloc: Global, word: &str) -> Result<u8, Fault> {
-        parsed(u8::try_from(number(word)?))
+    fn read(words: &mut Words<'_>, word: &str) -> u8 {
+        words.made(parsed(word.parse::<u8>()), 0)
     }
 }
 
 /// A range such as `5..7`.
 impl Word for (usize, usize) {
-    fn read(_alloc: Global, word: &str) -> Result<(usize, usize), Fault> {
-        pair(word, "..", "a range")
+    fn read(words: &mut Words<'_>, word: &str) -> (usize, usize) {
+        words.pair(word, "..", "a range")
     }
 }
 
 /// A fraction such as `3/5`.
 impl Word for Fraction {
-    fn read(_alloc: Global, word: &str) -> Result<Fraction, Fault> {
-        let (num, den) = pair(word, "/", "a fraction")?;
-        Ok(Fraction { num, den })
+    fn read(words: &mut Words<'_>, word: &str) -> Fraction {
+        let (num, den) = words.pair(word, "/", "a fraction");
+        Fraction { num, den }
     }
 }
 
-/// Numbers, ranges or bytes with a comma between two, as `0,2,3`, or `-`.
-impl<T: Word> Word for Vec<T> {
-    fn read(alloc: Global, word: &str) -> Result<Vec<T>, Fault> {
-        if word == "-" {
-            Ok(Vec::new(alloc))
-        } else {
-            list(alloc, word, ',')
-        }
-    }
-}
-
-/// What the parts of a text say, with this mark between two.
-pub(crate) fn list<T: Word>(alloc: Global, text: &str, mark: char) -> Result<Vec<T>, Fault> {
-    let mut items: Vec<T> = Vec::new(alloc);
-    for part in text.split(mark) {
-        push(&mut items, T::read(alloc, part)?)?;
-    }
-    Ok(items)
-}
-
-pub(crate) fn push<T: Drop>(list: &mut Vec<T>, item: T) -> Result<(), Fault> {
-    list.push(item).map_err(|_| Fault::Memory)
-}
-
-/// A number: its digits, `0x` and hexadecimal ones, `max`, or `max-1`.
+/// What a word is as a number, if it is one.
 pub(crate) fn number(word: &str) -> Result<usize, Fault> {
     match word {
         "max" => Ok(usize::MAX),
@@ -76,61 +53,42 @@ fn parsed<T, E: Drop>(parsed: Result<T, E>) -> Result<T, Fault> {
     parsed.map_err(|_| Fault::Malformed("a number"))
 }
 
-/// The parts before and behind the first mark.
-pub(crate) fn halves<'a>(
-    text: &'a str,
-    mark: &str,
-    what: &'static str,
-) -> Result<(&'a str, &'a str), Fault> {
-    text.split_once(mark).ok_or(Fault::Malformed(what))
-}
-
-/// Two numbers with this mark between.
-pub(crate) fn pair(word: &str, mark: &str, what: &'static str) -> Result<(usize, usize), Fault> {
-    let (first, second) = halves(word, mark, what)?;
-    Ok((number(first)?, number(second)?))
-}
-
 /// Truth values by a word: `10110`, `-`, `every:3:20000` (the first of each 3), `first:6:130` (the first 6 of
 /// 130), `at:200:5,150` (those at 5 and 150 of 200).
-pub(crate) fn values(alloc: Global, word: &str) -> Result<Vec<bool>, Fault> {
-    match word.split_once(":") {
-        Some(("at", rest)) => true_at(alloc, rest.split_once(":").unwrap_or((rest, "-"))),
-        Some((form, rest)) => repeating(alloc, form, pair(rest, ":", "truth values")?),
-        None => {
-            let digits = digits(word)?.as_bytes().iter();
-            Ok(digits.map(|digit| *digit == b'1').collect(alloc)?)
+impl Word for Vec<bool> {
+    fn read(words: &mut Words<'_>, word: &str) -> Vec<bool> {
+        match word.split_once(":") {
+            Some(("at", rest)) => true_at(words, rest.split_once(":").unwrap_or((rest, "-"))),
+            Some((form, rest)) => {
+                let numbers = words.pair(rest, ":", "truth values");
+                repeating(words, form, numbers)
+            }
+            None => {
+                let digits = words.digits(word).as_bytes().iter();
+                words.collected(digits.map(|digit| *digit == b'1').collect(words.alloc))
+            }
         }
     }
 }
 
-/// The digits 0 and 1 that a word is of, or none of `-`.
-pub(crate) fn digits(word: &str) -> Result<&str, Fault> {
-    let digits = if word == "-" { "" } else { word };
-    match digits.find(|digit| !matches!(digit, '0' | '1')) {
-        Some(_) => Err(Fault::Malformed("digits 0 and 1")),
-        None => Ok(digits),
-    }
-}
-
-fn true_at(alloc: Global, (len, list): (&str, &str)) -> Result<Vec<bool>, Fault> {
-    let (len, indices) = (number(len)?, Vec::read(alloc, list)?);
-    Ok((0..len).map(|i| indices.contains(&i)).collect(alloc)?)
+fn true_at(words: &mut Words<'_>, (len, list): (&str, &str)) -> Vec<bool> {
+    let (len, indices) = (usize::read(words, len), words.list::<usize>(list));
+    words.collected((0..len).map(|i| indices.contains(&i)).collect(words.alloc))
 }
 
 // Of each period so many are true.
-fn repeating(alloc: Global, form: &str, (count, len): (usize, usize)) -> Result<Vec<bool>, Fault> {
+fn repeating(words: &mut Words<'_>, form: &str, (count, len): (usize, usize)) -> Vec<bool> {
     let (period, trues) = match form {
         "every" => (count, 1),
         "first" => (usize::MAX, count),
-        _ => return Err(Fault::Malformed("truth values")),
+        _ => words.unread("truth values", (1, 0)),
     };
     let is_true = |i: usize| i.checked_rem(period).unwrap_or(trues) < trues;
-    Ok((0..len).map(is_true).collect(alloc)?)
+    words.collected((0..len).map(is_true).collect(words.alloc))
 }
 
-/// The words behind the name of a call, read one after another, and the first fault in them. What can't be read stays
-/// as it is, so that no word is asked about alone: `end` answers the fault.
+/// The words behind the name of a call, read one after another, and the first fault in them, which `end` answers, so
+/// that no word is asked about alone.
 #[derive(Drop)]
 pub(crate) struct Words<'a> {
     pub alloc: Global,
@@ -166,22 +124,98 @@ impl<'a> Words<'a> {
         }
     }
 
-    /// Puts what was read into its place, or notes why that can't be done.
-    pub fn put<T: Drop>(&mut self, place: &mut T, read: Result<T, Fault>) {
-        match read {
-            Ok(it) => *place = it,
-            Err(fault) => self.note(fault),
+    /// What stands for a word of another form than this.
+    pub fn unread<T: Drop>(&mut self, form: &'static str, other: T) -> T {
+        self.note(Fault::Malformed(form));
+        other
+    }
+
+    /// What was made, if it was: else the fault is noted.
+    pub fn some<T: Drop, E: Into<Fault>>(&mut self, made: Result<T, E>) -> Option<T> {
+        match made {
+            Ok(it) => Some(it),
+            Err(error) => {
+                self.note(error.into());
+                None
+            }
         }
     }
 
+    /// What was made, or else another one.
+    pub fn made<T: Drop, E: Into<Fault>>(&mut self, made: Result<T, E>, other: T) -> T {
+        self.some(made).unwrap_or(other)
+    }
+
+    pub fn collected<T: Drop>(&mut self, made: Result<Vec<T>, AllocError>) -> Vec<T> {
+        self.made(made, Vec::new(self.alloc))
+    }
+
+    pub fn add<T: Drop>(&mut self, list: &mut Vec<T>, item: T) {
+        if list.push(item).is_err() {
+            self.note(Fault::Memory);
+        }
+    }
+
+    /// Numbers, ranges or bytes with a comma between two, as `0,2,3`, or `-`.
+    pub fn list<T: Word>(&mut self, word: &str) -> Vec<T> {
+        self.parts(word, ',', "-")
+    }
+
+    /// What the parts of a text say, with this mark between two: none in one text.
+    pub fn parts<T: Word>(&mut self, text: &str, mark: char, none: &str) -> Vec<T> {
+        let mut items: Vec<T> = Vec::new(self.alloc);
+        for part in text.split(mark).filter(|_| text != none) {
+            let item = T::read(self, part);
+            self.add(&mut items, item);
+        }
+        items
+    }
+
+    /// The parts before and behind the first mark.
+    pub fn halves<'w>(
+        &mut self,
+        text: &'w str,
+        mark: &str,
+        what: &'static str,
+    ) -> (&'w str, &'w str) {
+        match text.split_once(mark) {
+            Some(halves) => halves,
+            None => {
+                self.note(Fault::Malformed(what));
+                ("", "")
+            }
+        }
+    }
+
+    /// Two numbers with this mark between.
+    pub fn pair(&mut self, word: &str, mark: &str, what: &'static str) -> (usize, usize) {
+        let (first, second) = self.halves(word, mark, what);
+        (usize::read(self, first), usize::read(self, second))
+    }
+
+    /// The digits 0 and 1 that a word is of, or none of `-`.
+    pub fn digits<'w>(&mut self, word: &'w str) -> &'w str {
+        let digits = if word == "-" { "" } else { word };
+        match digits.find(|digit| !matches!(digit, '0' | '1')) {
+            Some(_) => self.unread("digits 0 and 1", ""),
+            None => digits,
+        }
+    }
+
+    /// Puts what the next word says into its place.
     pub fn read<T: Word>(&mut self, place: &mut T) {
-        let read = T::read(self.alloc, self.next());
-        self.put(place, read);
+        let word = self.next();
+        *place = T::read(self, word);
+    }
+
+    pub fn read_list<T: Word>(&mut self, place: &mut Vec<T>) {
+        let word = self.next();
+        *place = self.list(word);
     }
 
     pub fn read_all<T: Word>(&mut self, place: &mut T) {
-        let read = T::read(self.alloc, self.all());
-        self.put(place, read);
+        let words = self.all();
+        *place = T::read(self, words);
     }
 
     pub fn all(&mut self) -> &'a str {
@@ -192,7 +226,7 @@ impl<'a> Words<'a> {
 
     pub fn next(&mut self) -> &'a str {
         if self.rest.is_empty() {
-            self.note(Fault::Malformed("a word"));
+            return self.unread("a word", "");
         }
         match self.rest.split_once(" ") {
             Some((word, rest)) => {

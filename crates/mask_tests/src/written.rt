@@ -74,14 +74,6 @@ fn write_lists(text: &mut Text, values: &MaskValues) {
     }
 }
 
-/// Writes a mask, and the bit offset that its values stand at.
-pub(crate) fn write_placed(text: &mut Text, mask: &Mask) {
-    write_mask(text, mask);
-    if let Some(values) = mask.values() {
-        text.put_next(" at ", values.bit_buffer().offset());
-    }
-}
-
 /// Writes the list, and what is cached.
 pub(crate) fn write_mixed(text: &mut Text, values: &MaskValues) {
     values.bit_buffer().tell(text);
@@ -100,16 +92,18 @@ impl Tell for MaskValues {
     }
 }
 
-/// Deposits, words and selections; offered, placed and spots.
 impl Tell for (Mask, Steps) {
     fn tell(self, text: &mut Text) {
-        let (mask, steps) = self;
-        write_mask(text, &mask);
-        text.put_next(" steps ", steps.deposits());
-        text.put_next(",", steps.words());
-        text.put_next(",", steps.selections());
-        text.put_next(" ", steps.offered());
-        text.put_next(",", steps.placed());
-        text.put_next(",", steps.spots());
+        write_mask(text, &self.0);
+        write_counts(text, &self.1);
     }
+}
+
+// Deposits, words and selections; offered, placed and spots.
+fn write_counts(text: &mut Text, steps: &Steps) {
+    let whole = [steps.deposits(), steps.words(), steps.selections()];
+    tell_each(text, " steps ", ",", whole.iter().copied());
+    text.put_next(" ", steps.offered());
+    text.put_next(",", steps.placed());
+    text.put_next(",", steps.spots());
 }

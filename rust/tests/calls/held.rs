@@ -1,12 +1,12 @@
 // Made of crates/mask_tests/src/held.rt by `rust/erase`: change that, and make this anew.
 //! Operands of which a clone may be held.
 
-use crate::fault::Fault;
 use crate::host::{AllocGlobal, Input, Print};
+use crate::packed::empty;
 use crate::text::Text;
 use crate::walks::write_backed;
-use crate::words::{Word, Words, push};
-use crate::written::{write_mixed, write_placed};
+use crate::words::{Word, Words};
+use crate::written::{write_mask, write_mixed};
 use row_mask::BitBuffer;
 use row_mask::kit::prelude::*;
 use row_mask::{Mask, MaskValues};
@@ -21,25 +21,28 @@ pub(crate) enum Use {
 }
 
 /// Of what a clone can be held, so that its bytes are shared.
-pub(crate) trait Share: Sized {
-    fn share(&self) -> Result<Self, Fault>;
+pub(crate) trait Share {
+    fn share(&self, words: &mut Words<'_>) -> Self;
 
     fn write_kept(&self, text: &mut Text);
 }
 
 impl Share for Mask {
-    fn share(&self) -> Result<Mask, Fault> {
-        Ok(self.try_clone()?)
+    fn share(&self, words: &mut Words<'_>) -> Mask {
+        words.made(self.try_clone(), Mask::default())
     }
 
     fn write_kept(&self, text: &mut Text) {
-        write_placed(text, self);
+        write_mask(text, self);
+        if let Some(values) = self.values() {
+            text.put_next(" at ", values.bit_buffer().offset());
+        }
     }
 }
 
 impl Share for BitBuffer {
-    fn share(&self) -> Result<BitBuffer, Fault> {
-        Ok(self.try_clone()?)
+    fn share(&self, words: &mut Words<'_>) -> BitBuffer {
+        words.made(self.try_clone(), empty())
     }
 
     fn write_kept(&self, text: &mut Text) {
@@ -48,27 +51,25 @@ impl Share for BitBuffer {
 }
 
 impl Share for Vec<Mask> {
-    fn share(&self) -> Result<Vec<Mask>, Fault> {
+    fn share(&self, words: &mut Words<'_>) -> Vec<Mask> {
         let mut clones: Vec<Mask> = Vec::new();
         for mask in self {
-            push(&mut clones, mask.try_clone()?)?;
+            let clone = mask.share(words);
+            words.add(&mut clones, clone);
         }
-        Ok(clones)
+        clones
     }
 
     fn write_kept(&self, text: &mut Text) {
         for mask in self {
-            write_placed(text, mask);
+            mask.write_kept(text);
         }
     }
 }
 
 impl Share for Option<MaskValues> {
-    fn share(&self) -> Result<Option<MaskValues>, Fault> {
-        match self {
-            Some(values) => Ok(Some(values.try_clone()?)),
-            None => Ok(None),
-        }
+    fn share(&self, words: &mut Words<'_>) -> Option<MaskValues> {
+        words.some(self.as_ref()?.try_clone())
     }
 
     fn write_kept(&self, text: &mut Text) {
@@ -91,8 +92,17 @@ impl<T: Share + Word> Held<T> {
     pub fn read(&mut self, words: &mut Words<'_>, how: Use) {
         let word = words.next();
         let shared = word.strip_suffix("&");
-        let read = T::read(shared.unwrap_or(word));
-        self.put(words, read, how, shared.is_some());
+        self.it = T::read(words, shared.unwrap_or(word));
+        self.hold(words, how, shared.is_some());
+    }
+}
+
+impl Held<Vec<Mask>> {
+    /// Reads masks by all words that are left, or none for `()`.
+    pub fn read_all(&mut self, words: &mut Words<'_>, how: Use) {
+        let all = words.all();
+        self.it = words.parts(all, ' ', "()");
+        self.hold(words, how, false);
     }
 }
 
@@ -102,12 +112,11 @@ impl<T: Share> Held<T> {
         Held { it, held: None, how: Use::Taken }
     }
 
-    /// Puts what was read into its place, and holds a clone of it where that is wanted.
-    pub fn put(&mut self, words: &mut Words<'_>, read: Result<T, Fault>, how: Use, is_held: bool) {
-        words.put(&mut self.it, read);
+    /// Notes how the call takes it, and holds a clone of it where that is wanted.
+    pub fn hold(&mut self, words: &mut Words<'_>, how: Use, is_held: bool) {
         self.how = how;
         if is_held || words.are_shared {
-            words.put(&mut self.held, self.it.share().map(Some));
+            self.held = Some(self.it.share(words));
         }
     }
 

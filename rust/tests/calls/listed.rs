@@ -1,9 +1,8 @@
 // Made of crates/mask_tests/src/listed.rt by `rust/erase`: change that, and make this anew.
 //! Buffers with a list of where they are true.
 
-use crate::fault::Fault;
 use crate::host::{AllocGlobal, Input, Print};
-use crate::words::{Word, halves, number};
+use crate::words::{Word, Words};
 use row_mask::BitBuffer;
 use row_mask::kit::prelude::*;
 
@@ -24,10 +23,10 @@ impl Listed {
 
 /// A buffer with its indices.
 impl Word for Option<Listed> {
-    fn read(word: &str) -> Result<Option<Listed>, Fault> {
-        let buffer = BitBuffer::read(word)?;
-        let indices = buffer.set_indices().collected()?;
-        Ok(Some(Listed { buffer, indices }))
+    fn read(words: &mut Words<'_>, word: &str) -> Option<Listed> {
+        let buffer = BitBuffer::read(words, word);
+        let indices = buffer.set_indices().collected().ok()?;
+        Some(Listed { buffer, indices })
     }
 }
 
@@ -38,22 +37,16 @@ pub struct Ranged {
 }
 
 impl Ranged {
-    /// A buffer with its own runs.
-    pub(crate) fn of_runs(buffer: BitBuffer) -> Result<Ranged, MaskError> {
-        let ranges = buffer.set_slices().collected()?;
-        Ok(Ranged { buffer, ranges })
-    }
-
     /// By a length and ranges, with this mark between: a buffer that is true in these ranges, which may touch.
-    pub(crate) fn read(words: &str, mark: &str) -> Result<Ranged, Fault> {
-        let (len, ranges) = halves(words, mark, "a length and ranges")?;
-        let ranges: Vec<(usize, usize)> = Vec::read(ranges)?;
-        Ok(Ranged::of_ranges(number(len)?, ranges)?)
+    pub(crate) fn read(words: &mut Words<'_>, text: &str, mark: &str) -> Option<Ranged> {
+        let (len, ranges) = words.halves(text, mark, "a length and ranges");
+        let (len, ranges) = (usize::read(words, len), words.list(ranges));
+        words.some(Ranged::new(len, ranges))
     }
 
-    fn of_ranges(len: usize, ranges: Vec<(usize, usize)>) -> Result<Ranged, MaskError> {
+    fn new(len: usize, ranges: Vec<(usize, usize)>) -> Result<Ranged, MaskError> {
         let mask = Mask::from_slices(len, ranges.try_to_vec()?)?;
-        let buffer = mask.to_bit_buffer()?;
+        let buffer = mask.into_bit_buffer()?;
         Ok(Ranged { buffer, ranges })
     }
 
@@ -64,8 +57,14 @@ impl Ranged {
     }
 }
 
+/// `Mask::from_buffer_with_slices`, of a buffer and its own runs.
+pub(crate) fn with_runs(buffer: BitBuffer) -> Result<Mask, MaskError> {
+    let runs = buffer.set_slices().collected()?;
+    Mask::from_buffer_with_slices(buffer, runs)
+}
+
 impl Word for Option<Ranged> {
-    fn read(words: &str) -> Result<Option<Ranged>, Fault> {
-        Ok(Some(Ranged::read(words, " ")?))
+    fn read(words: &mut Words<'_>, text: &str) -> Option<Ranged> {
+        Ranged::read(words, text, " ")
     }
 }

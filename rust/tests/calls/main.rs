@@ -6,17 +6,15 @@
 #[path = "../host/mod.rs"]
 mod host;
 
-mod bits;
 mod builder;
 mod call;
+mod calls;
 mod fault;
 mod held;
 mod lines;
 mod listed;
 mod mask_word;
-mod masks;
 mod operands;
-mod others;
 mod packed;
 mod refused;
 mod rows;

@@ -3,10 +3,13 @@
 
 use crate::fault::Fault;
 use crate::host::{AllocGlobal, Input, Print};
-use crate::words::{Word, digits, halves, number, pair, values};
+use crate::words::{Word, Words};
 use row_mask::BitBuffer;
+use row_mask::kit::AllocError;
 use row_mask::kit::Bytes;
 use row_mask::kit::prelude::*;
+
+type Made = Result<BitBuffer, AllocError>;
 
 // Digits outside of a list: each one before it, the first two behind it, and each one behind these.
 type Around = (&'static str, &'static str, &'static str);
@@ -25,28 +28,31 @@ fn parts(word: &str) -> Option<(&str, &str, Around)> {
 }
 
 // What lies outside fills the last byte, and nine bytes more.
-fn packed(offset: usize, list: &str, (before, behind, last): Around) -> Result<BitBuffer, Fault> {
+fn packed(words: &mut Words<'_>, offset: usize, list: &str, around: Around) -> Made {
+    let (before, behind, last) = around;
     let mut digits = String::new();
-    for (part, times) in [(before, offset.min(LONGEST)), (list, 1), (behind, 1), (last, 77)] {
-        push_times(&mut digits, part, times)?;
-    }
-    of_own(bytes_of(digits.as_bytes())?, offset, list.len())
+    push_times(words, &mut digits, before, offset.min(LONGEST));
+    push_times(words, &mut digits, list, 1);
+    push_times(words, &mut digits, behind, 1);
+    push_times(words, &mut digits, last, 77);
+    let bytes = bytes_of(words, digits.as_bytes());
+    of_own(words, bytes, (offset, list.len()))
 }
 
-fn push_times(digits: &mut String, part: &str, times: usize) -> Result<(), Fault> {
+fn push_times(words: &mut Words<'_>, digits: &mut String, part: &str, times: usize) {
     for _ in 0..times {
-        digits.try_push_str(part)?;
+        words.made(digits.try_push_str(part), ());
     }
-    Ok(())
 }
 
 // No longer list of bits is in a row.
 const LONGEST: usize = 8_000_000;
 
 // Eight digits for a byte, the first lowest.
-fn bytes_of(digits: &[u8]) -> Result<Vec<u8>, Fault> {
+fn bytes_of(words: &mut Words<'_>, digits: &[u8]) -> Vec<u8> {
     let (eights, _) = digits.as_chunks::<8>();
-    Ok(eights.iter().map(|eight| byte_of(eight)).collected()?)
+    let bytes = eights.iter().map(|eight| byte_of(eight));
+    words.collected(bytes.collected())
 }
 
 fn byte_of(digits: &[u8; 8]) -> u8 {
@@ -60,45 +66,50 @@ pub(crate) fn empty() -> BitBuffer {
 }
 
 // `BitBuffer::new_with_offset`, of bytes that nobody else holds.
-fn of_own(bytes: Vec<u8>, offset: usize, len: usize) -> Result<BitBuffer, Fault> {
-    if bytes.len() > LONGEST / 8 {
-        return Err(Fault::Unmet("a million bytes at most"));
-    }
-    let bits = 8 * bytes.len();
+fn of_own(words: &mut Words<'_>, bytes: Vec<u8>, (offset, len): (usize, usize)) -> Made {
+    let bits = 8 * bytes.len().min(LONGEST / 8);
     if offset > bits || len > bits - offset {
-        return Err(Fault::Unmet("within the bytes"));
+        words.note(Fault::Unmet("within the bytes, a million at most"));
+        return Ok(empty());
     }
     match Bytes::from_vec(bytes) {
         Ok(bytes) => Ok(BitBuffer::new_with_offset(bytes, offset, len)),
-        Err(_) => Err(Fault::Memory),
+        Err(_) => Err(AllocError),
     }
 }
 
-/// `BitBuffer::from_bools`.
-pub(crate) fn from_bools(values: &[bool]) -> Result<BitBuffer, Fault> {
-    Ok(BitBuffer::from_bools(values.iter().copied())?)
+// Bytes, offset and length.
+fn of_bytes(words: &mut Words<'_>, word: &str) -> Made {
+    let (list, part) = words.halves(word, ":", "two parts");
+    let part = words.pair(part, ":", "an offset and a length");
+    let bytes = words.list(list);
+    of_own(words, bytes, part)
 }
 
-// Bytes, offset and length.
-fn of_bytes(word: &str) -> Result<BitBuffer, Fault> {
-    let (list, part) = halves(word, ":", "two parts")?;
-    let (offset, len) = pair(part, ":", "an offset and a length")?;
-    of_own(Vec::read(list)?, offset, len)
+fn of_values(words: &mut Words<'_>, word: &str) -> Made {
+    let values: Vec<bool> = Vec::read(words, word);
+    BitBuffer::from_bools(values.iter().copied())
+}
+
+fn buffer(words: &mut Words<'_>, word: &str) -> Made {
+    match (word.split_once(":"), parts(word)) {
+        (Some(("all", len)), _) => BitBuffer::new_set(usize::read(words, len)),
+        (Some(("none", len)), _) => BitBuffer::new_unset(usize::read(words, len)),
+        (Some(("bytes", rest)), _) => of_bytes(words, rest),
+        (_, Some((offset, list, around))) => {
+            let (offset, list) = (usize::read(words, offset), words.digits(list));
+            packed(words, offset, list, around)
+        }
+        _ => of_values(words, word),
+    }
 }
 
 /// A buffer by a word: truth values; `all:130` and `none:130`; `3+10110`, `3-10110` and `3~10110` of values from bit
 /// 3 on, with set bits around them, with clear ones, or with set ones before them and one behind, between two clear
 /// ones; and `bytes:180,255:2:5` of five values from bit 2 of these bytes on.
 impl Word for BitBuffer {
-    fn read(word: &str) -> Result<BitBuffer, Fault> {
-        match word.split_once(":") {
-            Some(("all", len)) => Ok(BitBuffer::new_set(number(len)?)?),
-            Some(("none", len)) => Ok(BitBuffer::new_unset(number(len)?)?),
-            Some(("bytes", rest)) => of_bytes(rest),
-            _ => match parts(word) {
-                Some((offset, list, around)) => packed(number(offset)?, digits(list)?, around),
-                None => from_bools(&values(word)?),
-            },
-        }
+    fn read(words: &mut Words<'_>, word: &str) -> BitBuffer {
+        let made = buffer(words, word);
+        words.made(made, empty())
     }
 }

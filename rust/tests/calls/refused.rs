@@ -55,20 +55,15 @@ fn check_call<R: Print + AllocGlobal>(rt: &R, row: Row<'_>, mut call: Call<'_>) 
         say(rt, "wrong: what was lent has changed", "");
     }
     if is_refused {
-        again(rt, row, call);
+        // Operands by value are gone: then the call is read anew.
+        let call = if call.operands.are_lent() { Some(call) } else { read(rt, row) };
+        if let Some(call) = call {
+            again(rt, row, call);
+        }
     }
 }
 
-// Operands by value are gone after a refusal: then the second call is read anew.
-fn again<R: Print + AllocGlobal>(rt: &R, row: Row<'_>, call: Call<'_>) {
-    if call.operands.are_lent() {
-        is_answered_now(rt, row, call);
-    } else if let Some(call) = read(rt, row) {
-        is_answered_now(rt, row, call);
-    }
-}
-
-fn is_answered_now<R: Print + AllocGlobal>(rt: &R, row: Row<'_>, mut call: Call<'_>) {
+fn again<R: Print + AllocGlobal>(rt: &R, row: Row<'_>, mut call: Call<'_>) {
     let left = row.want.split_once(" or ");
     if left.is_some() {
         call.operands.give_up();

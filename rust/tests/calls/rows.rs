@@ -69,11 +69,12 @@ struct Count {
 // How many wrong answers are told.
 const MOST: usize = 20;
 
-/// Makes the calls of each row, says which answer otherwise, and how many there are. How many were wrong.
+/// Makes the calls of each row, says which answer otherwise, and how many there are. How many were wrong. Where a line
+/// can't be written, nor can the last one.
 pub(crate) fn check<R: Input + Print + AllocGlobal>(rt: &R, detail: Detail) -> io::Result<usize> {
     let mut count = Count::default();
     for line in BufReader::new(rt.reader())?.lines() {
-        check_line(rt, &mut count, line?.as_str(), detail)?;
+        check_line(rt, &mut count, line?.as_str(), detail);
     }
     crate::host::println!(rt; "{} rows, {} calls, {} wrong",
         count.rows, count.calls, count.wrong
@@ -82,31 +83,24 @@ pub(crate) fn check<R: Input + Print + AllocGlobal>(rt: &R, detail: Detail) -> i
 }
 
 // Empty lines and comments are no rows.
-fn check_line<R: Print + AllocGlobal>(
-    rt: &R,
-    count: &mut Count,
-    line: &str,
-    detail: Detail,
-) -> io::Result<()> {
-    if matches!(line.as_bytes(), [] | [b'#', ..]) {
-        return Ok(());
-    }
-    count.rows = count.rows.saturating_add(1);
-    match Row::read(line, detail) {
-        Some(row) => check_row(rt, count, row),
-        None => {
-            count.wrong = count.wrong.saturating_add(1);
-            crate::host::println!(rt; "no row: {line}")
+fn check_line<R: Print + AllocGlobal>(rt: &R, count: &mut Count, line: &str, detail: Detail) {
+    if !matches!(line.as_bytes(), [] | [b'#', ..]) {
+        count.rows = count.rows.saturating_add(1);
+        match Row::read(line, detail) {
+            Some(row) => check_row(rt, count, row),
+            None => {
+                count.wrong = count.wrong.saturating_add(1);
+                let _ = crate::host::println!(rt; "no row: {line}");
+            }
         }
     }
 }
 
-fn check_row<R: Print + AllocGlobal>(rt: &R, count: &mut Count, row: Row<'_>) -> io::Result<()> {
+fn check_row<R: Print + AllocGlobal>(rt: &R, count: &mut Count, row: Row<'_>) {
     for name in row.names.split(',') {
-        check_call(rt, count, name, row, false)?;
-        check_call(rt, count, name, row, true)?;
+        check_call(rt, count, name, row, false);
+        check_call(rt, count, name, row, true);
     }
-    Ok(())
 }
 
 fn check_call<R: Print + AllocGlobal>(
@@ -115,13 +109,12 @@ fn check_call<R: Print + AllocGlobal>(
     name: &str,
     row: Row<'_>,
     is_shared: bool,
-) -> io::Result<()> {
+) {
     count.calls = count.calls.saturating_add(1);
     if let Some(fault) = row.fault(name, is_shared) {
         count.wrong = count.wrong.saturating_add(1);
         if count.wrong <= MOST {
-            crate::host::println!(rt; "{name} {}: {} for {}", row.words, fault.as_str(), row.want)?;
+            let _ = crate::host::println!(rt; "{name} {}: {} for {}", row.words, fault.as_str(), row.want);
         }
     }
-    Ok(())
 }
