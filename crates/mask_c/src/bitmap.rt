@@ -5,8 +5,7 @@ ghost use Rattle.std.specs.Int.{div_ceil};
 ghost use Rattle.mask_bits.specs.Bitmap.{bitmap};
 ghost use Rattle.mask_bits.specs.Buffer.{IsWithinBytes};
 
-/// Whether the `len` bits from bit `offset` on are within the bytes, as each other call on a bitmap
-/// takes for granted.
+/// Whether the `len` bits from bit `offset` on are within the bytes, as each other call on a bitmap takes for granted.
 #[unsafe(no_mangle)]
 pub extern "C" fn row_mask_is_within(bytes: &[u8], offset: usize, len: usize) -> bool
     ensures { IsTrue result ↔ IsWithinBytes bytes.now offset len }

@@ -53,8 +53,7 @@ pub extern "C" fn row_mask_and_not_in_place(a: &mut [u8], b: &[u8], b_offset: us
     change::<AndNot>(a, b, b_offset, len);
 }
 
-/// Writes the values that are true in one and not in the other in the place of `a`, which begins at
-/// bit 0.
+/// Writes the values that are true in one and not in the other in the place of `a`, which begins at bit 0.
 ///
 /// Asks that `a_size >= row_mask_room(len)`.
 #[unsafe(no_mangle)]
@@ -82,8 +81,7 @@ pub extern "C" fn row_mask_not_in_place(bytes: &mut [u8], len: usize)
     clear_behind(bytes, len);
 }
 
-// The values that `C` makes of two bitmaps, by the loop of `mask_bits`, over just the bytes that the
-// first takes.
+// The values that `C` makes of two bitmaps, by the loop of `mask_bits`, over just the bytes that the first takes.
 fn change<C: BitOp>(a: &mut [u8], b: &[u8], b_offset: usize, len: usize)
     requires room { div_ceil len 8 ≤ length a.old }
     requires b { IsWithinBytes b.now b_offset len }

@@ -19,9 +19,8 @@ pub extern "C" fn row_mask_select(bytes: &[u8], offset: usize, len: usize, n: us
     BitChunks::new(bytes, offset, len).select(n).unwrap_or(len)
 }
 
-/// The first index from `from` on whose value is true, and `len` where there is none, also from past
-/// the end. So a walk over the true values goes on from one past the index that it got, and ends where
-/// it got `len`.
+/// The first index from `from` on whose value is true, and `len` where there is none, also from past the end. So a walk
+/// over the true values goes on from one past the index that it got, and ends where it got `len`.
 #[unsafe(no_mangle)]
 pub extern "C" fn row_mask_next_index(bytes: &[u8], offset: usize, len: usize, from: usize) -> usize
     requires { IsWithinBytes bytes.now offset len }
@@ -42,10 +41,9 @@ pub extern "C" fn row_mask_last_index(bytes: &[u8], offset: usize, len: usize) -
         .unwrap_or(len)
 }
 
-/// Writes the indices of the true values from `from` on, ascending, to the front of `out`, as many as
-/// there are or as it takes, and answers how many these are: none from past the end. So a walk over all
-/// goes on from one past the last, until fewer come than `out` takes. Behind them `out` may have other
-/// numbers than before.
+/// Writes the indices of the true values from `from` on, ascending, to the front of `out`, as many as there are or as
+/// it takes, and answers how many these are: none from past the end. So a walk over all goes on from one past the last,
+/// until fewer come than `out` takes. Behind them `out` may have other numbers than before.
 #[unsafe(no_mangle)]
 pub extern "C" fn row_mask_next_indices(
     bytes: &[u8],
@@ -145,8 +143,7 @@ pub(crate) fn indices_of_word(word: u64, first: usize, out: &mut [usize], at: us
     at
 }
 
-// Writes the indices of the true values of started word `i` to the front of `block`, and answers how
-// many these are.
+// Writes the indices of the true values of started word `i` to the front of `block`, and answers how many these are.
 #[inline]
 pub(crate) fn indices_in_word(chunks: &BitChunks, i: usize, block: &mut [usize; 64]) -> usize
     requires within { i < started_words (length chunks.now) }

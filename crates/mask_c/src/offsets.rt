@@ -59,10 +59,9 @@ impl Offset for u64 {
     }
 }
 
-/// Writes the offsets of the strings at the true values to the front of `out`: 0, and then where each of
-/// these ends if they stand one behind the other. Answers how many bytes they have, which is the room for
-/// `row_mask_choose_bytes_4`. String `i` has the bytes from `offsets[i]` to `offsets[i + 1]`, and an offset
-/// has 4 bytes.
+/// Writes the offsets of the strings at the true values to the front of `out`: 0, and then where each of these ends if
+/// they stand one behind the other. Answers how many bytes they have, which is the room for `row_mask_choose_bytes_4`.
+/// String `i` has the bytes from `offsets[i]` to `offsets[i + 1]`, and an offset has 4 bytes.
 ///
 /// Asks that `offsets_count == len + 1`, that no offset is below the one before it, and that `out_count` is
 /// above the count of the true values.
@@ -88,10 +87,9 @@ pub extern "C" fn row_mask_choose_offsets_4(
     choose_offsets(&BitChunks::new(bytes, offset, len), offsets, out)
 }
 
-/// Writes the offsets of the strings at the true values to the front of `out`: 0, and then where each of
-/// these ends if they stand one behind the other. Answers how many bytes they have, which is the room for
-/// `row_mask_choose_bytes_8`. String `i` has the bytes from `offsets[i]` to `offsets[i + 1]`, and an offset
-/// has 8 bytes.
+/// Writes the offsets of the strings at the true values to the front of `out`: 0, and then where each of these ends if
+/// they stand one behind the other. Answers how many bytes they have, which is the room for `row_mask_choose_bytes_8`.
+/// String `i` has the bytes from `offsets[i]` to `offsets[i + 1]`, and an offset has 8 bytes.
 ///
 /// Asks that `offsets_count == len + 1`, that no offset is below the one before it, and that `out_count` is
 /// above the count of the true values.
@@ -122,9 +120,8 @@ pub extern "C" fn row_mask_choose_offsets_8(
 /// the room for `row_mask_take_bytes_4`. Indices may come in any order and more than once. String `i` has
 /// the bytes from `offsets[i]` to `offsets[i + 1]`, and an offset has 4 bytes.
 ///
-/// Asks that each index is below `offsets_count - 1`, that no offset is below the one before it, that the
-/// bytes are fewer than 2 to the 32, as they are where no index comes twice, and that `out_count` is above
-/// `indices_count`.
+/// Asks that each index is below `offsets_count - 1`, that no offset is below the one before it, that the bytes are
+/// fewer than 2 to the 32, as they are where no index comes twice, and that `out_count` is above `indices_count`.
 #[unsafe(no_mangle)]
 #[tactic(auto, using(crate::proofs::StringLemmas::number_itself))]
 pub extern "C" fn row_mask_take_offsets_4(
@@ -149,9 +146,8 @@ pub extern "C" fn row_mask_take_offsets_4(
 /// the room for `row_mask_take_bytes_8`. Indices may come in any order and more than once. String `i` has
 /// the bytes from `offsets[i]` to `offsets[i + 1]`, and an offset has 8 bytes.
 ///
-/// Asks that each index is below `offsets_count - 1`, that no offset is below the one before it, that the
-/// bytes are fewer than 2 to the 64, as they are where no index comes twice, and that `out_count` is above
-/// `indices_count`.
+/// Asks that each index is below `offsets_count - 1`, that no offset is below the one before it, that the bytes are
+/// fewer than 2 to the 64, as they are where no index comes twice, and that `out_count` is above `indices_count`.
 #[unsafe(no_mangle)]
 #[tactic(auto, using(crate::proofs::StringLemmas::number_itself))]
 pub extern "C" fn row_mask_take_offsets_8(

@@ -16,9 +16,8 @@ pub struct RowMaskRun {
     pub end: usize,
 }
 
-/// The first run of true values from `from` on, and the empty one at `len` where there is none, also
-/// from past the end. A run that `from` is inside begins there. So a walk over all runs goes on from the
-/// end of the one that it got.
+/// The first run of true values from `from` on, and the empty one at `len` where there is none, also from past the end.
+/// A run that `from` is inside begins there. So a walk over all runs goes on from the end of the one that it got.
 #[unsafe(no_mangle)]
 pub extern "C" fn row_mask_next_run(
     bytes: &[u8],

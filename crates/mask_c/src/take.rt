@@ -5,9 +5,8 @@ ghost use Rattle.std.specs.List.{filter_map};
 
 use crate::choose::RowMask16;
 
-/// Writes the rows at `indices`, in their order, to the front of `out`. A row has 1 byte. Indices may come in
-/// any order and more than once. So a bitmap that chooses rows of many columns is read once, by
-/// `row_mask_next_indices`.
+/// Writes the rows at `indices`, in their order, to the front of `out`. A row has 1 byte. Indices may come in any order
+/// and more than once. So a bitmap that chooses rows of many columns is read once, by `row_mask_next_indices`.
 ///
 /// Asks that each index is below `rows_count`, and that `out_count >= indices_count`.
 #[unsafe(no_mangle)]
@@ -21,9 +20,8 @@ pub extern "C" fn row_mask_take_1(indices: &[usize], rows: &[u8], out: &mut [u8]
     rows_at(indices, rows, out);
 }
 
-/// Writes the rows at `indices`, in their order, to the front of `out`. A row has 2 bytes. Indices may come in
-/// any order and more than once. So a bitmap that chooses rows of many columns is read once, by
-/// `row_mask_next_indices`.
+/// Writes the rows at `indices`, in their order, to the front of `out`. A row has 2 bytes. Indices may come in any
+/// order and more than once. So a bitmap that chooses rows of many columns is read once, by `row_mask_next_indices`.
 ///
 /// Asks that each index is below `rows_count`, and that `out_count >= indices_count`.
 #[unsafe(no_mangle)]
@@ -37,9 +35,8 @@ pub extern "C" fn row_mask_take_2(indices: &[usize], rows: &[u16], out: &mut [u1
     rows_at(indices, rows, out);
 }
 
-/// Writes the rows at `indices`, in their order, to the front of `out`. A row has 4 bytes. Indices may come in
-/// any order and more than once. So a bitmap that chooses rows of many columns is read once, by
-/// `row_mask_next_indices`.
+/// Writes the rows at `indices`, in their order, to the front of `out`. A row has 4 bytes. Indices may come in any
+/// order and more than once. So a bitmap that chooses rows of many columns is read once, by `row_mask_next_indices`.
 ///
 /// Asks that each index is below `rows_count`, and that `out_count >= indices_count`.
 #[unsafe(no_mangle)]
@@ -53,9 +50,8 @@ pub extern "C" fn row_mask_take_4(indices: &[usize], rows: &[u32], out: &mut [u3
     rows_at(indices, rows, out);
 }
 
-/// Writes the rows at `indices`, in their order, to the front of `out`. A row has 8 bytes. Indices may come in
-/// any order and more than once. So a bitmap that chooses rows of many columns is read once, by
-/// `row_mask_next_indices`.
+/// Writes the rows at `indices`, in their order, to the front of `out`. A row has 8 bytes. Indices may come in any
+/// order and more than once. So a bitmap that chooses rows of many columns is read once, by `row_mask_next_indices`.
 ///
 /// Asks that each index is below `rows_count`, and that `out_count >= indices_count`.
 #[unsafe(no_mangle)]
@@ -69,9 +65,8 @@ pub extern "C" fn row_mask_take_8(indices: &[usize], rows: &[u64], out: &mut [u6
     rows_at(indices, rows, out);
 }
 
-/// Writes the rows at `indices`, in their order, to the front of `out`. A row has 16 bytes. Indices may come in
-/// any order and more than once. So a bitmap that chooses rows of many columns is read once, by
-/// `row_mask_next_indices`.
+/// Writes the rows at `indices`, in their order, to the front of `out`. A row has 16 bytes. Indices may come in any
+/// order and more than once. So a bitmap that chooses rows of many columns is read once, by `row_mask_next_indices`.
 ///
 /// Asks that each index is below `rows_count`, and that `out_count >= indices_count`.
 #[unsafe(no_mangle)]

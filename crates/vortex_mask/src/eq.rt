@@ -9,8 +9,7 @@ ghost use Rattle.vortex_mask.specs.Mask.{truth, same_truth};
 use crate::mask::Mask;
 use mask_bits::BitBuffer;
 
-// Two masks are equal where their lists are; cached lists, offsets and how an empty list is held
-// don't count.
+// Two masks are equal where their lists are; cached lists, offsets and how an empty list is held don't count.
 impl PartialEq for Mask {
     ghost eq = { same_truth };
 

@@ -108,9 +108,8 @@ impl Mask {
     /// This mask narrowed by each of `masks` in turn: by the first over its true values, and by each
     /// next one over the true values of the one before it. Without `masks` it is a clone.
     ///
-    /// A stack of filters becomes one by this call. Once the result so far is all false no kernel
-    /// runs. Which lists of its true indices the result of one mask or more caches is
-    /// left open: it depends on each step.
+    /// A stack of filters becomes one by this call. Once the result so far is all false no kernel runs. Which lists of
+    /// its true indices the result of one mask or more caches is left open: it depends on each step.
     #[tactic(auto, using(mask_bits::proofs::Lists::StackLemmas::length_of_fold))]
     pub fn intersect_all_by_rank(&self, alloc: Global, masks: &[Mask]) -> Result<Mask, MaskError>
         requires { IsStack (truth self.now ∷ map truth masks.now) }

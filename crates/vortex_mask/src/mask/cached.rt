@@ -53,9 +53,8 @@ impl Mask {
         })
     }
 
-    /// `All`, `None` or the runs of true indices, ascending, by variant. Each is its first
-    /// index and the index past its last. Equal masks that are mixed lend equal ranges, however they
-    /// were made.
+    /// `All`, `None` or the runs of true indices, ascending, by variant. Each is its first index and the index past its
+    /// last. Equal masks that are mixed lend equal ranges, however they were made.
     pub fn slices(&mut self, alloc: Global) -> Result<AllOr<&[(usize, usize)]>, MaskError>
         ensures variant { IfOk result (λ lent. lender_variant lent ≡ variant self.old) }
         ensures list { IfOk result (λ lent. IfLent lent

@@ -18,8 +18,7 @@ use mask_bits::{BitBuffer, BitBufferMut};
 use std::alloc::{AllocError, Global};
 
 impl Mask {
-    /// The values of the masks that an iterator yields, one mask after another. No values give
-    /// `AllTrue(0)`.
+    /// The values of the masks that an iterator yields, one mask after another. No values give `AllTrue(0)`.
     ///
     /// The masks are listed first, so `Memory` may come before `LengthOverflow`, which is reported
     /// where the sum of all lengths is above `usize::MAX`.

@@ -17,8 +17,7 @@ use std::rc::Rc;
 
 #[tactic(auto, using(crate::proofs::Masks::MaskLemmas::variant_facts))]
 impl Mask {
-    // The mask of `len` values of which `true_count` are true, if these are none or all. No values are
-    // all false.
+    // The mask of `len` values of which `true_count` are true, if these are none or all. No values are all false.
     #[inline]
     pub(super) fn of_one_value(len: usize, true_count: usize) -> Option<Mask>
         ensures { MatchOption result ((0 < true_count) × (true_count ≢ len))

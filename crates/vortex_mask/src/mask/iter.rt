@@ -116,8 +116,7 @@ impl Iterator for MaskSetIndices<'_> {
 
 #[tactic(auto, using(crate::proofs::Masks::MaskWalkLemmas::index_walks))]
 impl Mask {
-    /// The indices of the true values, ascending, of a mask that is only lent. No list is made or
-    /// cached.
+    /// The indices of the true values, ascending, of a mask that is only lent. No list is made or cached.
     pub fn set_indices(&self) -> MaskSetIndices<'_>
         ensures indices { indices_left result ≡ positions (truth self.now) }
         ensures in_order { YieldsInOrder (YieldsFirst indices_left) indices_left }
@@ -159,8 +158,7 @@ impl Iterator for MaskSetSlices<'_> {
 
 #[tactic(auto, using(crate::proofs::Masks::MaskWalkLemmas::ranges_in_order))]
 impl Mask {
-    /// The runs of the true values, ascending, of a mask that is only lent. No list is made or
-    /// cached.
+    /// The runs of the true values, ascending, of a mask that is only lent. No list is made or cached.
     pub fn set_slices(&self) -> MaskSetSlices<'_>
         ensures runs { AreRuns (truth self.now) (ranges_left result) }
         ensures in_order { YieldsInOrder (YieldsFirst ranges_left) ranges_left }

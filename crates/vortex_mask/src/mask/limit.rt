@@ -16,8 +16,7 @@ use std::alloc::{AllocError, Global};
 /// The first true values.
 #[tactic(auto, using(crate::proofs::Masks::MaskLemmas::variant_facts, crate::proofs::Masks::MaskLemmas::part_facts))]
 impl Mask {
-    /// The first `k` true values, and false ones from there on. A mask that has no more true ones
-    /// stays as it is.
+    /// The first `k` true values, and false ones from there on. A mask that has no more true ones stays as it is.
     pub fn limit(self, alloc: Global, k: usize) -> Result<Mask, MaskError>
         ensures list { IfOk result (λ m. truth m ≡ limited (truth self) k) }
         ensures len { IfOk result (λ m. length (truth m) ≡ length (truth self)) }

@@ -191,8 +191,7 @@ impl MaskValues {
         Ok(self.cached_indices().unwrap())
     }
 
-    /// The runs of true indices, ascending. Each is its first index and the index past its
-    /// last.
+    /// The runs of true indices, ascending. Each is its first index and the index past its last.
     pub fn slices(&mut self, alloc: Global) -> Result<&[(usize, usize)], MaskError>
         ensures list { IfOk result (λ ranges. ranges.now ≡ runs (values self.old.buffer)) }
 

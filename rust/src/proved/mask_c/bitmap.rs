@@ -2,8 +2,7 @@
 //! What a bitmap is, and the room for one.
 
 use crate::kit::prelude::*;
-/// Whether the `len` bits from bit `offset` on are within the bytes, as each other call on a bitmap
-/// takes for granted.
+/// Whether the `len` bits from bit `offset` on are within the bytes, as each other call on a bitmap takes for granted.
 #[inline]
 pub fn row_mask_is_within(bytes: &[u8], offset: usize, len: usize) -> bool {
     len <= usize::MAX - offset && (offset + len).div_ceil(8) <= bytes.len()

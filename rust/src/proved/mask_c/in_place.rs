@@ -31,8 +31,7 @@ pub fn row_mask_and_not_in_place(a: &mut [u8], b: &[u8], b_offset: usize, len: u
     change::<AndNot>(a, b, b_offset, len);
 }
 
-/// Writes the values that are true in one and not in the other in the place of `a`, which begins at
-/// bit 0.
+/// Writes the values that are true in one and not in the other in the place of `a`, which begins at bit 0.
 ///
 /// Asks that `a_size >= row_mask_room(len)`.
 #[inline]
@@ -49,8 +48,7 @@ pub fn row_mask_not_in_place(bytes: &mut [u8], len: usize) {
     clear_behind(bytes, len);
 }
 
-// The values that `C` makes of two bitmaps, by the loop of `mask_bits`, over just the bytes that the
-// first takes.
+// The values that `C` makes of two bitmaps, by the loop of `mask_bits`, over just the bytes that the first takes.
 #[inline(always)]
 fn change<C: BitOp>(a: &mut [u8], b: &[u8], b_offset: usize, len: usize) {
     combine_in_place::<C>(&mut a[..len.div_ceil(8)], b, b_offset, len);

@@ -15,8 +15,7 @@ use crate::proved::vortex_mask::intersect_by_rank::{
 /// Writes the bitmap narrowed by another over its true values: true value number `k` stays true
 /// exactly where value `k` of `ranks` is true.
 ///
-/// Asks that `ranks_len` is the count of the bitmap's true values, and that
-/// `out_size >= row_mask_room(len)`.
+/// Asks that `ranks_len` is the count of the bitmap's true values, and that `out_size >= row_mask_room(len)`.
 #[inline]
 pub fn row_mask_intersect_by_rank(
     bytes: &[u8],

@@ -4,9 +4,8 @@
 use crate::kit::prelude::*;
 use crate::proved::mask_c::choose::RowMask16;
 
-/// Writes the rows at `indices`, in their order, to the front of `out`. A row has 1 byte. Indices may come in
-/// any order and more than once. So a bitmap that chooses rows of many columns is read once, by
-/// `row_mask_next_indices`.
+/// Writes the rows at `indices`, in their order, to the front of `out`. A row has 1 byte. Indices may come in any order
+/// and more than once. So a bitmap that chooses rows of many columns is read once, by `row_mask_next_indices`.
 ///
 /// Asks that each index is below `rows_count`, and that `out_count >= indices_count`.
 #[inline]
@@ -14,9 +13,8 @@ pub fn row_mask_take_1(indices: &[usize], rows: &[u8], out: &mut [u8]) {
     rows_at(indices, rows, out);
 }
 
-/// Writes the rows at `indices`, in their order, to the front of `out`. A row has 2 bytes. Indices may come in
-/// any order and more than once. So a bitmap that chooses rows of many columns is read once, by
-/// `row_mask_next_indices`.
+/// Writes the rows at `indices`, in their order, to the front of `out`. A row has 2 bytes. Indices may come in any
+/// order and more than once. So a bitmap that chooses rows of many columns is read once, by `row_mask_next_indices`.
 ///
 /// Asks that each index is below `rows_count`, and that `out_count >= indices_count`.
 #[inline]
@@ -24,9 +22,8 @@ pub fn row_mask_take_2(indices: &[usize], rows: &[u16], out: &mut [u16]) {
     rows_at(indices, rows, out);
 }
 
-/// Writes the rows at `indices`, in their order, to the front of `out`. A row has 4 bytes. Indices may come in
-/// any order and more than once. So a bitmap that chooses rows of many columns is read once, by
-/// `row_mask_next_indices`.
+/// Writes the rows at `indices`, in their order, to the front of `out`. A row has 4 bytes. Indices may come in any
+/// order and more than once. So a bitmap that chooses rows of many columns is read once, by `row_mask_next_indices`.
 ///
 /// Asks that each index is below `rows_count`, and that `out_count >= indices_count`.
 #[inline]
@@ -34,9 +31,8 @@ pub fn row_mask_take_4(indices: &[usize], rows: &[u32], out: &mut [u32]) {
     rows_at(indices, rows, out);
 }
 
-/// Writes the rows at `indices`, in their order, to the front of `out`. A row has 8 bytes. Indices may come in
-/// any order and more than once. So a bitmap that chooses rows of many columns is read once, by
-/// `row_mask_next_indices`.
+/// Writes the rows at `indices`, in their order, to the front of `out`. A row has 8 bytes. Indices may come in any
+/// order and more than once. So a bitmap that chooses rows of many columns is read once, by `row_mask_next_indices`.
 ///
 /// Asks that each index is below `rows_count`, and that `out_count >= indices_count`.
 #[inline]
@@ -44,9 +40,8 @@ pub fn row_mask_take_8(indices: &[usize], rows: &[u64], out: &mut [u64]) {
     rows_at(indices, rows, out);
 }
 
-/// Writes the rows at `indices`, in their order, to the front of `out`. A row has 16 bytes. Indices may come in
-/// any order and more than once. So a bitmap that chooses rows of many columns is read once, by
-/// `row_mask_next_indices`.
+/// Writes the rows at `indices`, in their order, to the front of `out`. A row has 16 bytes. Indices may come in any
+/// order and more than once. So a bitmap that chooses rows of many columns is read once, by `row_mask_next_indices`.
 ///
 /// Asks that each index is below `rows_count`, and that `out_count >= indices_count`.
 #[inline]

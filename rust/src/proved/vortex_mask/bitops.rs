@@ -149,9 +149,8 @@ impl Mask {
     }
 }
 
-/// Boolean calls of a mask that is taken by value. It is the result where the other side changes nothing.
-/// Else a result of mixed masks is written into its bytes, where nobody else holds them and it begins
-/// at a whole one.
+/// Boolean calls of a mask that is taken by value. It is the result where the other side changes nothing. Else a result
+/// of mixed masks is written into its bytes, where nobody else holds them and it begins at a whole one.
 impl Mask {
     /// The values that are true in both.
     ///

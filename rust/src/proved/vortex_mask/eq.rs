@@ -5,8 +5,7 @@ use crate::kit::prelude::*;
 use crate::proved::mask_bits::BitBuffer;
 use crate::proved::vortex_mask::mask::Mask;
 
-// Two masks are equal where their lists are; cached lists, offsets and how an empty list is held
-// don't count.
+// Two masks are equal where their lists are; cached lists, offsets and how an empty list is held don't count.
 impl PartialEq for Mask {
     #[inline]
     fn eq(&self, other: &Mask) -> bool {

@@ -143,9 +143,8 @@ impl Mask {
     /// This mask narrowed by each of `masks` in turn: by the first over its true values, and by each
     /// next one over the true values of the one before it. Without `masks` it is a clone.
     ///
-    /// A stack of filters becomes one by this call. Once the result so far is all false no kernel
-    /// runs. Which lists of its true indices the result of one mask or more caches is
-    /// left open: it depends on each step.
+    /// A stack of filters becomes one by this call. Once the result so far is all false no kernel runs. Which lists of
+    /// its true indices the result of one mask or more caches is left open: it depends on each step.
     ///
     /// # The caller owes ([terms](crate::definitions))
     ///

@@ -20,13 +20,11 @@
 //! Behind the last byte of a word another one's is fetched. But a mask byte uses no more bits than
 //! it has, so none past the 64 of the source.
 //!
-//! These bits come in as the byte's lowest ones, and each has to move up by the number of clear
-//! places below its set place. That number is below 8, so three moves do: by 4, by 2 and by 1, each
-//! where that bit of the number is set.
+//! These bits come in as the byte's lowest ones, and each has to move up by the number of clear places below its set
+//! place. That number is below 8, so three moves do: by 4, by 2 and by 1, each where that bit of the number is set.
 //!
-//! Which bits have to move is found the other way round, by moving the mask's own bits down to
-//! the low end of their byte, by 1, by 2 and by 4, and noting after each stage where the moved
-//! ones have landed:
+//! Which bits have to move is found the other way round, by moving the mask's own bits down to the low end of their
+//! byte, by 1, by 2 and by 4, and noting after each stage where the moved ones have landed:
 //!
 //! ```text
 //!        place   7 6 5 4 3 2 1 0   landed
@@ -99,8 +97,7 @@ pub(crate) fn counts_below(masks: u64x2) -> u8x16
     bytes_of(sums_below(words_of(bytes_of(masks).count_ones())))
 }
 
-// Of each word, the sums of all lower bytes, in each byte: of one lower byte, of two, of four and
-// then of all.
+// Of each word, the sums of all lower bytes, in each byte: of one lower byte, of two, of four and then of all.
 #[inline(always)]
 fn sums_below(words: u64x2) -> u64x2
     ensures sums { (w : ℕ) → w < 2 → slice_index result w
@@ -165,8 +162,7 @@ struct Packing {
     landed_2: u8x16,
 }
 
-// Moves the bits of each mask byte down to its low end, and says where those landed that each
-// stage has moved.
+// Moves the bits of each mask byte down to its low end, and says where those landed that each stage has moved.
 #[inline(always)]
 fn compress(mask: u8x16) -> Packing
     ensures places { AreLanes 16 result.packed (λ j. packed_after 3 (slice_index mask j)) }

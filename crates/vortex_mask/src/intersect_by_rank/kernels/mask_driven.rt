@@ -21,9 +21,8 @@ use std::alloc::Global;
 /// Keeps the true values of `self_buffer` at the ranks that `mask_indices` yields, ascending,
 /// `true_count` of them. The result caches its true indices.
 ///
-/// Takes one selection for each rank. A word of the buffer is read only once a rank lies past the
-/// words read so far, and none is read again, so this is the kernel for few ranks. No word is
-/// deposited.
+/// Takes one selection for each rank. A word of the buffer is read only once a rank lies past the words read so far,
+/// and none is read again, so this is the kernel for few ranks. No word is deposited.
 pub fn intersect_mask_driven<S: SelectBit, I: Iterator<Item = usize>>(
     alloc: Global,
     self_buffer: &BitBuffer,

@@ -39,9 +39,8 @@ impl Mask {
         })
     }
 
-    /// `All`, `None` or the runs of true indices, ascending, by variant. Each is its first
-    /// index and the index past its last. Equal masks that are mixed lend equal ranges, however they
-    /// were made.
+    /// `All`, `None` or the runs of true indices, ascending, by variant. Each is its first index and the index past its
+    /// last. Equal masks that are mixed lend equal ranges, however they were made.
     ///
     /// # Proved ([terms](crate::definitions))
     ///

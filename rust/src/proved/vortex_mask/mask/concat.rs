@@ -7,8 +7,7 @@ use crate::proved::mask_bits::{BitBuffer, BitBufferMut};
 use crate::proved::vortex_mask::mask::{Mask, MaskError};
 
 impl Mask {
-    /// The values of the masks that an iterator yields, one mask after another. No values give
-    /// `AllTrue(0)`.
+    /// The values of the masks that an iterator yields, one mask after another. No values give `AllTrue(0)`.
     ///
     /// The masks are listed first, so `Memory` may come before `LengthOverflow`, which is reported
     /// where the sum of all lengths is above `usize::MAX`.

@@ -8,8 +8,7 @@ use crate::proved::vortex_mask::mask::{Mask, MaskError, MaskValues};
 use crate::kit::Arc;
 
 impl Mask {
-    // The mask of `len` values of which `true_count` are true, if these are none or all. No values are
-    // all false.
+    // The mask of `len` values of which `true_count` are true, if these are none or all. No values are all false.
     #[inline(always)]
     pub(super) fn of_one_value(len: usize, true_count: usize) -> Option<Mask> {
         if true_count == 0 {

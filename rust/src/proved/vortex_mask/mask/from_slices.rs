@@ -9,9 +9,8 @@ use crate::proved::vortex_mask::mask::set_ranges::set_ranges;
 use crate::proved::vortex_mask::mask::{Mask, MaskError};
 
 impl Mask {
-    /// The mask of `len` values that is true exactly in these ranges. Where some values are true and
-    /// some are not it caches its runs: ranges that touch are merged, in the memory that
-    /// came with them. No values give `AllFalse(0)`.
+    /// The mask of `len` values that is true exactly in these ranges. Where some values are true and some are not it
+    /// caches its runs: ranges that touch are merged, in the memory that came with them. No values give `AllFalse(0)`.
     ///
     /// All ranges are tested before any memory is taken: `BadRange` is reported of the first that is
     /// empty or passes the length, else `UnsortedRanges` or `OverlappingRanges` of the first that

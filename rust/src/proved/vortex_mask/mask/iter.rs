@@ -92,8 +92,7 @@ impl Iterator for MaskSetIndices<'_> {
 }
 
 impl Mask {
-    /// The indices of the true values, ascending, of a mask that is only lent. No list is made or
-    /// cached.
+    /// The indices of the true values, ascending, of a mask that is only lent. No list is made or cached.
     ///
     /// # Proved ([terms](crate::definitions))
     ///
@@ -133,8 +132,7 @@ impl Iterator for MaskSetSlices<'_> {
 }
 
 impl Mask {
-    /// The runs of the true values, ascending, of a mask that is only lent. No list is made or
-    /// cached.
+    /// The runs of the true values, ascending, of a mask that is only lent. No list is made or cached.
     ///
     /// # Proved ([terms](crate::definitions))
     ///

@@ -8,8 +8,7 @@ use crate::proved::vortex_mask::mask::{Mask, MaskError};
 
 /// The first true values.
 impl Mask {
-    /// The first `k` true values, and false ones from there on. A mask that has no more true ones
-    /// stays as it is.
+    /// The first `k` true values, and false ones from there on. A mask that has no more true ones stays as it is.
     ///
     /// # Proved ([terms](crate::definitions))
     ///

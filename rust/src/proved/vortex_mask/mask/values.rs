@@ -189,8 +189,7 @@ impl MaskValues {
         Ok(self.cached_indices().unwrap())
     }
 
-    /// The runs of true indices, ascending. Each is its first index and the index past its
-    /// last.
+    /// The runs of true indices, ascending. Each is its first index and the index past its last.
     ///
     /// # Proved ([terms](crate::definitions))
     ///
