@@ -17,6 +17,12 @@ use crate::run_words::{Edges, Open, bits_before, edges_in, pop};
 use std::alloc::{AllocError, Global};
 use std::marker::Model;
 
+// What is open where no run is.
+const OUTSIDE: Open = Open {
+    inside: false,
+    start: 0,
+};
+
 impl BitBuffer {
     /// The runs (maximal ranges) of true values, ascending, each by its first index and the index past its
     /// last.
@@ -38,10 +44,7 @@ impl BitBuffer {
     {
         let chunks = self.chunks();
         let mut ranges = Vec::new(alloc);
-        let mut begun = Open {
-            inside: false,
-            start: 0,
-        };
+        let mut begun = OUTSIDE;
         // the whole words apart, so that none is tested for being the last
         for i in 0..chunks.len() {
             begun = push_runs(&mut ranges, begun, 64 * i, chunks.word(i))?;
@@ -186,10 +189,7 @@ impl<'a> SetSlices<'a> {
                 starts: 0,
                 ends: 0,
             },
-            behind: Open {
-                inside: false,
-                start: 0,
-            },
+            behind: OUTSIDE,
             next: 0,
         };
         SetSlices { chunks, at }
@@ -233,11 +233,7 @@ fn next_ends(chunks: &BitChunks<'_>, begun: Open, next: usize) -> Option<AtWord>
     if word == 0 {
         return None;
     }
-    let outside = Open {
-        inside: false,
-        start: 0,
-    };
-    let at = at_word(outside, i, word);
+    let at = at_word(OUTSIDE, i, word);
     if at.edges.ends != 0 {
         return Some(at);
     }
