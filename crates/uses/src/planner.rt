@@ -1,5 +1,5 @@
 //! Filters of which each stands on the rows that the one before it chose, as a planner has them: run as one, limited,
-//! folded from either end, counted and explained.
+//! folded, counted and explained.
 ghost use Rattle.std.specs.Prelude.{◌≡◌, ◌∷◌, ◌<◌, ◌≤◌, Bool, IfOk, List, false, filter, fold, length, map, nat_lt, slice_index_or};
 ghost use Rattle.vortex_mask.specs.Mask.{truth};
 ghost use Rattle.mask_bits.specs.Lists.{and_of, limited};
@@ -104,7 +104,7 @@ pub fn stopped_early(alloc: Global, first: &Mask, rest: &[Mask]) -> Result<Mask,
     requires { IsStack (truth first.now ∷ map truth rest.now) }
     ensures { IfOk result (λ m. truth m ≡ folded_left (truth first.now ∷ map truth rest.now)) }
 {
-    folds();
+    fold_of_no_row();
     match rest {
         [second, above @ ..] if first.true_count() > 0 => {
             let left = first.intersect_by_rank(alloc, second)?;
@@ -114,31 +114,11 @@ pub fn stopped_early(alloc: Global, first: &Mask, rest: &[Mask]) -> Result<Mask,
     }
 }
 
-/// A stack of filters as one mask, regrouped from the right: the last two are made one first, then the one
-/// below and these, and so on down.
-pub fn regrouped(alloc: Global, first: &Mask, rest: &[Mask]) -> Result<Mask, MaskError>
-    requires { IsStack (truth first.now ∷ map truth rest.now) }
-    ensures { IfOk result (λ m. truth m ≡ folded_left (truth first.now ∷ map truth rest.now)) }
-{
-    match rest {
-        [] => first.clone(),
-        [second, above @ ..] => {
-            folds();
-            let above = regrouped(alloc, second, above)?;
-            first.intersect_by_rank(alloc, &above)
-        }
-    }
-}
-
-// The fold of a stack: of one that begins with no row, by its first list, and how long it is.
-#[tactic(auto, using(mask_bits::proofs::Lists::StackLemmas::fold_of_no_row, mask_bits::proofs::Lists::StackLemmas::folded_by_the_first, mask_bits::proofs::Lists::StackLemmas::length_of_fold))]
-fn folds()
-    ensures no_row { (first : List Bool) (ms : List (List Bool)) → count first ≡ 0
+// The fold of a stack that begins with no row.
+#[tactic(auto, using(mask_bits::proofs::Lists::StackLemmas::fold_of_no_row))]
+fn fold_of_no_row()
+    ensures { (first : List Bool) (ms : List (List Bool)) → count first ≡ 0
         → IsStack (first ∷ ms) → folded_left (first ∷ ms) ≡ first }
-    ensures first { (first second : List Bool) (ms : List (List Bool)) → IsStack (first ∷ second ∷ ms)
-        → folded_left (first ∷ second ∷ ms) ≡ rank_intersection first (folded_left (second ∷ ms)) }
-    ensures len { (first : List Bool) (ms : List (List Bool))
-        → length (folded_left (first ∷ ms)) ≡ length first }
 {}
 
 /// Whether a row is left by two stacked filters, with no mask made.

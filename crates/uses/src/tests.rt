@@ -134,7 +134,7 @@ fn two_filters(rt: HostRuntime) {
     plans(&rt, &first, &second);
 }
 
-// The fold by one call, from the left and from the right.
+// The fold by one call, and by one after another.
 fn folds(rt: &impl Host, stack: &[Mask], want: &str) {
     let [first, rest @ ..] = stack else {
         panic!(rt; "no mask")
@@ -142,7 +142,6 @@ fn folds(rt: &impl Host, stack: &[Mask], want: &str) {
     assert!(rt; are_a_stack(first, rest));
     lists(rt, first.intersect_all_by_rank(rt.alloc(), rest), want);
     lists(rt, planner::stopped_early(rt.alloc(), first, rest), want);
-    lists(rt, planner::regrouped(rt.alloc(), first, rest), want);
 }
 
 #[test]
@@ -168,13 +167,6 @@ fn rows_of_a_stack(rt: HostRuntime) {
 
 // ---- validity
 
-// Pages of two rows each.
-fn offsets(rt: &impl Host, first: &Mask, second: &Mask, want: Option<&[usize]>) {
-    assert!(rt; first.len() == 6);
-    let offsets = validity::page_offsets_of_both(rt.alloc(), first, second, &[0, 2, 4]);
-    assert!(rt; found(rt, offsets).as_deref() == want);
-}
-
 fn counts(rt: &impl Host, validity: &Mask, rows: &[usize], want: Option<&[usize]>) {
     let counts = validity::counts_before(rt.alloc(), validity, rows);
     assert!(rt; found(rt, counts).as_deref() == want);
@@ -183,8 +175,6 @@ fn counts(rt: &impl Host, validity: &Mask, rows: &[usize], want: Option<&[usize]
 #[test]
 fn stored_values(rt: HostRuntime) {
     let validity = mask(&rt, "011001");
-    offsets(&rt, &validity, &validity, Some(&[0, 1, 2]));
-    offsets(&rt, &validity, &Mask::new_true(6), None);
     counts(&rt, &validity, &[0, 2, 6], Some(&[0, 1, 3]));
     counts(&rt, &validity, &[2, 1], None);
     counts(&rt, &validity, &[7], None);

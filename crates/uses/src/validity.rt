@@ -1,5 +1,5 @@
 //! Which rows are valid, how many values are stored before a row, and the bitmaps of two columns as one.
-ghost use Rattle.std.specs.Prelude.{◌≡◌, ◌≢◌, ◌+◌, ◌*◌, ◌<◌, ◌≤◌, ◌^◌, All, IfNone, IfOk, IfSome, List, Some, length, map, true, vec_len, ℕ};
+ghost use Rattle.std.specs.Prelude.{◌≡◌, ◌+◌, ◌*◌, ◌<◌, ◌≤◌, ◌^◌, All, IfOk, IfSome, List, Some, length, map, true, vec_len, ℕ};
 ghost use Rattle.std.specs.List.{AllAdjacentBelow};
 ghost use Rattle.std.specs.List.Sorted.{IsNonDecreasing};
 ghost use Rattle.std.specs.Ordering.{nat_cmp, partial_le};
@@ -21,30 +21,8 @@ pub fn valid_rows(alloc: Global, validity: &BitBuffer) -> Result<Vec<usize>, All
     validity.set_indices().collect(alloc)
 }
 
-/// How many values are stored before those of each page, by its first row, where two columns store values of
-/// their valid rows alone and are valid in the same rows; else nothing.
-pub fn page_offsets_of_both(
-    alloc: Global,
-    first: &Mask,
-    second: &Mask,
-    starts: &[usize],
-) -> Result<Option<Vec<usize>>, MaskError>
-    requires ascending { IsNonDecreasing starts.now }
-    requires within { All (λ row. row ≤ length (truth first.now)) starts.now }
-    ensures first { IfOk result (λ both. IfSome both
-        (λ v. v.items ≡ map (count_below (truth first.now)) starts.now)) }
-    ensures second { IfOk result (λ both. IfSome both
-        (λ v. v.items ≡ map (count_below (truth second.now)) starts.now)) }
-    ensures none { IfOk result (λ both. IfNone both (truth first.now ≢ truth second.now)) }
-{
-    if *first == *second {
-        return Ok(Some(first.valid_counts_for_indices(alloc, starts)?));
-    }
-    Ok(None)
-}
-
-/// For each row number from outside how many rows before it are valid, where the numbers ascend and none
-/// passes the length, and else nothing.
+/// How many values are stored before each of these rows, as of pages, where a column stores those of its valid rows
+/// alone. The numbers are from outside: there is nothing where they do not ascend or one passes the length.
 pub fn counts_before(
     alloc: Global,
     validity: &Mask,
