@@ -23,11 +23,11 @@ pub word_bits-last : (bytes : List ℕ) (first low p w : ℕ) → w < 2 ^ 64 →
 word_bits-last bytes first low p w fits shows near place =
     let m : List Bool = word_bits (w / 2 ^ low) in
     ext_get_or false m (window bytes p) (length-word_bits (w / 2 ^ low) ∙ sym (length-window bytes p)) (λ j h.
-      let inside : j < 64 = omega (arith, h, length-word_bits (w / 2 ^ low)) in
-      get_or-word_bits_shr w low j fits inside ∙ elim (cases_lt (low + j) 64) [
-        | inl here ↦ ap (λ (l : List Bool). get_or l (low + j) false) shows ∙ get_or-window bytes (8 * first) (low + j) false here ∙ ap (backing_bit bytes) (omega (arith, place)) ∙ sym (get_or-window bytes p j false inside)
-        | inr past ↦ get_or_past (word_bits w) (low + j) false (omega (arith, past, length-word_bits w)) ∙ sym (get_or-window bytes p j false inside ∙ bit-past bytes (p + j) (omega (arith, near, place, past)))
-      ])
+    let inside : j < 64 = omega (arith, h, length-word_bits (w / 2 ^ low)) in
+    get_or-word_bits_shr w low j fits inside ∙ elim (cases_lt (low + j) 64) [
+      | inl here ↦ ap (λ (l : List Bool). get_or l (low + j) false) shows ∙ get_or-window bytes (8 * first) (low + j) false here ∙ ap (backing_bit bytes) (omega (arith, place)) ∙ sym (get_or-window bytes p j false inside)
+      | inr past ↦ get_or_past (word_bits w) (low + j) false (omega (arith, past, length-word_bits w)) ∙ sym (get_or-window bytes p j false inside ∙ bit-past bytes (p + j) (omega (arith, near, place, past)))
+    ])
 
 -- whole word i of a buffer is the window at its first bit
 pub window-word_part : (b : Packed) (i : ℕ) → i < b.len / 64 → window b.bytes (b.offset + 64 * i) ≡ word_part (values b) i

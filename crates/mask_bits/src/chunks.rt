@@ -93,13 +93,15 @@ impl<'a> BitChunks<'a> {
 
     /// The values after the whole words in the low bits, and zeros above.
     #[tactic(auto, using(crate::proofs::BufferLemmas::len_facts, crate::proofs::Lists::Words::PaddedLemmas::no_remainder))]
+    #[inline]
     pub fn remainder_bits(&self) -> u64
         ensures { word_bits result ≡ padded_remainder self.now }
     {
-        if self.len % 64 == 0 {
+        let rest = self.len % 64;
+        if rest == 0 {
             return 0;
         }
-        remainder(self.bytes, self.offset, self.len)
+        word_at(self.bytes, self.offset + (self.len - rest)) & ((1 << rest) - 1)
     }
 
     /// The started words, in their order: the whole words, and the remainder word where there is a
@@ -209,21 +211,17 @@ impl<'a> BitChunks<'a> {
         if i < self.len() {
             self.word(i)
         } else {
-            remainder(self.bytes, self.offset, self.len)
+            last_word(self)
         }
     }
 }
 
-// The values after the whole words in the low bits, and zeros above.
-//
 // Never inlined: it is read once, and the walks over words stay small without it.
 #[inline(never)]
-fn remainder(bytes: &[u8], offset: usize, len: usize) -> u64
-    requires { IsWithinBytes bytes.now offset len }
-    ensures { word_bits result ≡ padded_remainder (bitmap bytes.now offset len) }
+fn last_word(chunks: &BitChunks<'_>) -> u64
+    ensures { word_bits result ≡ padded_remainder chunks.now }
 {
-    let rest = len % 64;
-    word_at(bytes, offset + (len - rest)) & ((1 << rest) - 1)
+    chunks.remainder_bits()
 }
 
 // The index of set bit number `n`, counted from 0.

@@ -70,7 +70,10 @@ impl<T> List<T> for Vec<T> {
 
     #[inline]
     fn try_push(&mut self, item: T) -> Result<(), AllocError> {
-        if self.len() == self.capacity() {
+        if self.capacity() == 0 {
+            // (as much as Rust's own call asks for, which takes longer)
+            *self = Vec::with_room(4)?;
+        } else if self.len() == self.capacity() {
             self.try_reserve(1).map_err(|_| AllocError)?;
         }
         self.push(item);

@@ -112,10 +112,11 @@ impl<'a> BitChunks<'a> {
     /// - `word_bits result ≡ padded_remainder self.now`
     #[inline(always)]
     pub fn remainder_bits(&self) -> u64 {
-        if self.len % 64 == 0 {
+        let rest = self.len % 64;
+        if rest == 0 {
             return 0;
         }
-        remainder(self.bytes, self.offset, self.len)
+        word_at(self.bytes, self.offset + (self.len - rest)) & ((1 << rest) - 1)
     }
 
     /// The started words, in their order: the whole words, and the remainder word where there is a
@@ -267,21 +268,14 @@ impl<'a> BitChunks<'a> {
 
     #[inline(always)]
     pub(crate) fn started_word_proved(&self, i: usize) -> u64 {
-        if i < self.len() {
-            self.word_proved(i)
-        } else {
-            remainder(self.bytes, self.offset, self.len)
-        }
+        if i < self.len() { self.word_proved(i) } else { last_word(self) }
     }
 }
 
-// The values after the whole words in the low bits, and zeros above.
-//
 // Never inlined: it is read once, and the walks over words stay small without it.
 #[inline(never)]
-fn remainder(bytes: &[u8], offset: usize, len: usize) -> u64 {
-    let rest = len % 64;
-    word_at(bytes, offset + (len - rest)) & ((1 << rest) - 1)
+fn last_word(chunks: &BitChunks<'_>) -> u64 {
+    chunks.remainder_bits()
 }
 
 // The index of set bit number `n`, counted from 0.
