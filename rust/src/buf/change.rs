@@ -1,7 +1,7 @@
 //! Changes in place.
 
 use crate::kit::by_level;
-use crate::kit::words::{number_of_few, put_lowest};
+use crate::kit::words::{number_of, put_lowest};
 use crate::prelude::*;
 
 impl BitmapBuf {
@@ -104,19 +104,13 @@ fn retain_v3(bytes: &mut [u8], is_kept: &mut impl FnMut(usize) -> bool) {
 #[expect(clippy::inline_always, reason = "a copy is compiled for what the function around it has")]
 #[inline(always)]
 fn retain_any(bytes: &mut [u8], is_kept: &mut impl FnMut(usize) -> bool) {
-    let mut kept = |base: usize, mut word: u64| {
-        let mut kept = 0;
+    for (base, bytes) in (0..).step_by(64).zip(bytes.chunks_mut(8)) {
+        let (mut word, mut kept) = (number_of(bytes), 0);
         while word != 0 {
             let bit = word.trailing_zeros();
             kept |= u64::from(is_kept(base + bit as usize)) << bit;
             word &= word - 1;
         }
-        kept
-    };
-    let (whole, last) = bytes.as_chunks_mut();
-    let end = 64 * whole.len();
-    for (base, bytes) in (0..).step_by(64).zip(whole) {
-        *bytes = kept(base, u64::from_le_bytes(*bytes)).to_le_bytes();
+        put_lowest(kept, bytes);
     }
-    put_lowest(kept(end, number_of_few(last)), last);
 }

@@ -86,9 +86,7 @@ fn pack_rows_any<T, F: FnMut(&T) -> bool, const HAS_AVX2: bool>(
         };
         *out = word.to_le_bytes();
     }
-    for (out, byte) in last.iter_mut().zip(word_of_rows(rest, is_true).to_le_bytes()) {
-        *out = byte;
-    }
+    put_lowest(word_of_rows(rest, is_true), last);
 }
 
 /// What is asked of each of 64 rows of 8 bytes. By hand: with AVX2 a compiler needs 0.6 of the time that it takes of

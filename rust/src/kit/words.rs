@@ -38,10 +38,13 @@ pub(crate) fn kept(
     }
 }
 
-/// Fewer than eight bytes as one number, the first lowest.
+/// At most eight bytes as one number, the first lowest.
 #[inline(always)]
-pub(crate) fn number_of_few(bytes: &[u8]) -> u64 {
-    debug_assert!(bytes.len() < 8);
+pub(crate) fn number_of(bytes: &[u8]) -> u64 {
+    debug_assert!(bytes.len() <= 8);
+    if let Ok(eight) = <[u8; 8]>::try_from(bytes) {
+        return u64::from_le_bytes(eight);
+    }
     match (bytes.first_chunk(), bytes.last_chunk()) {
         // (what is in both is the same)
         (Some(first), Some(last)) => {
@@ -180,7 +183,7 @@ mod tests {
             let mut copy = [0; 8];
             copy[..count].copy_from_slice(&bytes[..count]);
             let number = u64::from_le_bytes(copy);
-            assert!(count == 8 || super::number_of_few(&bytes[..count]) == number);
+            assert_eq!(super::number_of(&bytes[..count]), number);
             let mut out = [7; 9];
             super::put_lowest(number, &mut out[..count]);
             assert_eq!((&out[..count], &out[count..]), (&bytes[..count], &[7; 9][count..]));
