@@ -211,17 +211,18 @@ impl<'a> BitChunks<'a> {
         if i < self.len() {
             self.word(i)
         } else {
-            last_word(self)
+            last_word(self.bytes, self.offset, self.len)
         }
     }
 }
 
-// Never inlined: it is read once, and the walks over words stay small without it.
+// Never inlined: it is read once, and the walks over words stay small without it, and in registers.
 #[inline(never)]
-fn last_word(chunks: &BitChunks<'_>) -> u64
-    ensures { word_bits result ≡ padded_remainder chunks.now }
+fn last_word(bytes: &[u8], offset: usize, len: usize) -> u64
+    requires { IsWithinBytes bytes.now offset len }
+    ensures { word_bits result ≡ padded_remainder (bitmap bytes.now offset len) }
 {
-    chunks.remainder_bits()
+    BitChunks::new(bytes, offset, len).remainder_bits()
 }
 
 // The index of set bit number `n`, counted from 0.

@@ -268,14 +268,18 @@ impl<'a> BitChunks<'a> {
 
     #[inline(always)]
     pub(crate) fn started_word_proved(&self, i: usize) -> u64 {
-        if i < self.len() { self.word_proved(i) } else { last_word(self) }
+        if i < self.len() {
+            self.word_proved(i)
+        } else {
+            last_word(self.bytes, self.offset, self.len)
+        }
     }
 }
 
-// Never inlined: it is read once, and the walks over words stay small without it.
+// Never inlined: it is read once, and the walks over words stay small without it, and in registers.
 #[inline(never)]
-fn last_word(chunks: &BitChunks<'_>) -> u64 {
-    chunks.remainder_bits()
+fn last_word(bytes: &[u8], offset: usize, len: usize) -> u64 {
+    BitChunks::new_proved(bytes, offset, len).remainder_bits()
 }
 
 // The index of set bit number `n`, counted from 0.
