@@ -5,28 +5,14 @@ use alloc::boxed::Box;
 use alloc::sync::Arc;
 use alloc::vec::Vec;
 use core::fmt;
-use core::hash::{Hash, Hasher};
-use core::mem::{self, ManuallyDrop};
 use core::ops::Deref;
-use core::ptr::{self, NonNull};
-use core::slice;
-use core::sync::atomic::AtomicPtr;
-use core::sync::atomic::Ordering::{AcqRel, Acquire};
 
 /// Bytes that never change while they are shared. A clone shares them.
-pub struct Bytes {
-    // the parts of a list, which stay as they are until nobody holds it
-    first: NonNull<u8>,
-    len: usize,
-    room: usize,
-    // the same list, once several hold it: to count one alone takes memory for nothing
-    shared: AtomicPtr<Vec<u8>>,
-}
-
-// SAFETY: a list of bytes can be sent, and so can an `Arc` of one.
-unsafe impl Send for Bytes {}
-// SAFETY: nothing changes but the atomic pointer.
-unsafe impl Sync for Bytes {}
+#[derive(Clone, Default, PartialEq, Eq, Hash)]
+pub struct Bytes(
+    // (none where there are no bytes, which takes no memory)
+    Option<Arc<Vec<u8>>>,
+);
 
 /// Bytes that nobody else holds, from one of them on.
 #[derive(Debug)]
@@ -46,7 +32,7 @@ impl Bytes {
     /// The bytes of a list, which are not copied.
     ///
     /// # Errors
-    /// None: Rust's `Arc` aborts where memory is refused for its counts, which a clone asks for.
+    /// None: Rust's `Arc` aborts where memory is refused for its counts.
     #[inline]
     pub fn from_vec(bytes: Vec<u8>) -> Result<Bytes, AllocError> {
         Ok(Bytes::from(bytes))
@@ -56,107 +42,20 @@ impl Bytes {
     #[must_use]
     #[inline]
     pub fn as_slice(&self) -> &[u8] {
-        // SAFETY: they are the bytes of a list that is held.
-        unsafe { slice::from_raw_parts(self.first.as_ptr(), self.len) }
-    }
-
-    // The list.
-    // SAFETY of a call: no other one of these parts is used.
-    #[inline]
-    unsafe fn list(&self) -> Vec<u8> {
-        // SAFETY: they are those of a list; the rest is asked here.
-        unsafe { Vec::from_raw_parts(self.first.as_ptr(), self.len, self.room) }
-    }
-
-    // The list as one that several hold, if no other thread makes it so meanwhile.
-    #[cold]
-    fn share(&self) -> *mut Vec<u8> {
-        // SAFETY: it is forgotten where it isn't the one that is shared.
-        let made = Arc::into_raw(Arc::new(unsafe { self.list() })).cast_mut();
-        match self.shared.compare_exchange(ptr::null_mut(), made, AcqRel, Acquire) {
-            Ok(_) => made,
-            Err(shared) => {
-                // SAFETY: it was made above.
-                mem::forget(Arc::into_inner(unsafe { Arc::from_raw(made) }));
-                shared
-            }
-        }
+        self.0.as_deref().map_or(&[], Vec::as_slice)
     }
 
     #[inline]
     pub(crate) fn try_into_mut(self) -> Result<BytesMut, Bytes> {
-        let mut held = ManuallyDrop::new(self);
-        let shared = *held.shared.get_mut();
-        let own = if shared.is_null() {
-            // SAFETY: it is held here alone, and no more.
-            Ok(unsafe { held.list() })
-        } else {
-            // SAFETY: it is held here.
-            Arc::try_unwrap(unsafe { Arc::from_raw(shared) })
-        };
-        own.map(|bytes| BytesMut { bytes, first: 0 }).map_err(|shared| {
-            mem::forget(shared);
-            ManuallyDrop::into_inner(held)
-        })
-    }
-}
-
-impl Clone for Bytes {
-    #[inline]
-    fn clone(&self) -> Bytes {
-        let shared = self.shared.load(Acquire);
-        let shared = if shared.is_null() { self.share() } else { shared };
-        // SAFETY: it is held here.
-        unsafe { Arc::increment_strong_count(shared) };
-        let (first, len, room) = (self.first, self.len, self.room);
-        Bytes { first, len, room, shared: AtomicPtr::new(shared) }
-    }
-}
-
-impl Drop for Bytes {
-    #[inline]
-    fn drop(&mut self) {
-        let shared = *self.shared.get_mut();
-        if shared.is_null() {
-            // SAFETY: it is held here alone, and no more.
-            drop(unsafe { self.list() });
-        } else {
-            // SAFETY: it is held here.
-            drop(unsafe { Arc::from_raw(shared) });
-        }
-    }
-}
-
-impl Default for Bytes {
-    #[inline]
-    fn default() -> Bytes {
-        Bytes::from(Vec::new())
-    }
-}
-
-impl PartialEq for Bytes {
-    #[inline]
-    fn eq(&self, other: &Bytes) -> bool {
-        **self == **other
-    }
-}
-
-impl Eq for Bytes {}
-
-impl Hash for Bytes {
-    fn hash<H: Hasher>(&self, state: &mut H) {
-        (**self).hash(state);
+        let own = self.0.map_or(Ok(Vec::new()), Arc::try_unwrap);
+        own.map(|bytes| BytesMut { bytes, first: 0 }).map_err(|held| Bytes(Some(held)))
     }
 }
 
 impl From<Vec<u8>> for Bytes {
     #[inline]
     fn from(bytes: Vec<u8>) -> Bytes {
-        let mut bytes = ManuallyDrop::new(bytes);
-        let (len, room) = (bytes.len(), bytes.capacity());
-        // SAFETY: the place of a list isn't null.
-        let first = unsafe { NonNull::new_unchecked(bytes.as_mut_ptr()) };
-        Bytes { first, len, room, shared: AtomicPtr::default() }
+        Bytes((!bytes.is_empty()).then(|| Arc::new(bytes)))
     }
 }
 
@@ -237,33 +136,5 @@ impl Deref for BytesMut {
     #[inline]
     fn deref(&self) -> &[u8] {
         &self.bytes[self.first..]
-    }
-}
-
-#[cfg(test)]
-mod tests {
-    use super::Bytes;
-    use alloc::vec::Vec;
-    use std::thread;
-
-    /// Whichever of several threads shares the bytes first, each reads them, and the last that holds them has the list.
-    #[test]
-    fn threads_share_bytes() {
-        for round in 0..64 {
-            let list: Vec<u8> = (0..round).collect();
-            let (at, wanted) = (list.as_ptr(), list.clone());
-            let bytes = Bytes::from(list);
-            thread::scope(|scope| {
-                for _ in 0..4 {
-                    scope.spawn(|| {
-                        let held = [bytes.clone(), bytes.clone()];
-                        assert!(held.iter().all(|it| **it == *wanted));
-                        assert!(held.map(Bytes::try_into_mut).iter().all(Result::is_err));
-                    });
-                }
-            });
-            let own = bytes.try_into_mut().expect("nobody else holds them");
-            assert_eq!((own.as_ptr(), &*own), (at, &*wanted));
-        }
     }
 }
