@@ -93,15 +93,13 @@ impl<'a> BitChunks<'a> {
 
     /// The values after the whole words in the low bits, and zeros above.
     #[tactic(auto, using(crate::proofs::BufferLemmas::len_facts, crate::proofs::Lists::Words::PaddedLemmas::no_remainder))]
-    #[inline]
     pub fn remainder_bits(&self) -> u64
         ensures { word_bits result ≡ padded_remainder self.now }
     {
-        let rest = self.len % 64;
-        if rest == 0 {
+        if self.len % 64 == 0 {
             return 0;
         }
-        word_at(self.bytes, self.offset + (self.len - rest)) & ((1 << rest) - 1)
+        remainder(self.bytes, self.offset, self.len)
     }
 
     /// The started words, in their order: the whole words, and the remainder word where there is a
@@ -211,18 +209,21 @@ impl<'a> BitChunks<'a> {
         if i < self.len() {
             self.word(i)
         } else {
-            last_word(self.bytes, self.offset, self.len)
+            remainder(self.bytes, self.offset, self.len)
         }
     }
 }
 
-// Never inlined: it is read once, and the walks over words stay small without it, and in registers.
+// The values after the whole words in the low bits, and zeros above.
+//
+// Never inlined: it is read once, and the walks over words stay small without it.
 #[inline(never)]
-fn last_word(bytes: &[u8], offset: usize, len: usize) -> u64
+fn remainder(bytes: &[u8], offset: usize, len: usize) -> u64
     requires { IsWithinBytes bytes.now offset len }
     ensures { word_bits result ≡ padded_remainder (bitmap bytes.now offset len) }
 {
-    BitChunks::new(bytes, offset, len).remainder_bits()
+    let rest = len % 64;
+    word_at(bytes, offset + (len - rest)) & ((1 << rest) - 1)
 }
 
 // The index of set bit number `n`, counted from 0.

@@ -112,11 +112,10 @@ impl<'a> BitChunks<'a> {
     /// - `word_bits result ≡ padded_remainder self.now`
     #[inline(always)]
     pub fn remainder_bits(&self) -> u64 {
-        let rest = self.len % 64;
-        if rest == 0 {
+        if self.len % 64 == 0 {
             return 0;
         }
-        word_at(self.bytes, self.offset + (self.len - rest)) & ((1 << rest) - 1)
+        remainder(self.bytes, self.offset, self.len)
     }
 
     /// The started words, in their order: the whole words, and the remainder word where there is a
@@ -271,15 +270,18 @@ impl<'a> BitChunks<'a> {
         if i < self.len() {
             self.word_proved(i)
         } else {
-            last_word(self.bytes, self.offset, self.len)
+            remainder(self.bytes, self.offset, self.len)
         }
     }
 }
 
-// Never inlined: it is read once, and the walks over words stay small without it, and in registers.
+// The values after the whole words in the low bits, and zeros above.
+//
+// Never inlined: it is read once, and the walks over words stay small without it.
 #[inline(never)]
-fn last_word(bytes: &[u8], offset: usize, len: usize) -> u64 {
-    BitChunks::new_proved(bytes, offset, len).remainder_bits()
+fn remainder(bytes: &[u8], offset: usize, len: usize) -> u64 {
+    let rest = len % 64;
+    word_at(bytes, offset + (len - rest)) & ((1 << rest) - 1)
 }
 
 // The index of set bit number `n`, counted from 0.

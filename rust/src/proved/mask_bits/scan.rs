@@ -29,7 +29,7 @@ pub(crate) fn next_word(chunks: &BitChunks<'_>, at: usize, word: u64) -> Option<
 }
 
 // The same where nothing is left of word `at`, and no whole word comes after it.
-#[inline(always)]
+#[inline]
 fn last_word(chunks: &BitChunks<'_>, at: usize) -> Option<(usize, u64)> {
     if chunks.started_words() <= at + 1 {
         return None;

@@ -43,7 +43,7 @@ pub fn row_mask_intersect_by_rank(
 }
 
 // The values past the whole words in the low bits of a word, and how many of them are true.
-#[inline(always)]
+#[inline]
 fn last_word(bytes: &[u8], offset: usize, len: usize) -> (u64, usize) {
     let word = BitChunks::new_proved(bytes, offset, len).remainder_bits();
     (word, word.count_ones() as usize)
