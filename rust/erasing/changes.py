@@ -69,7 +69,7 @@ LEAVES = {
         " list: at.list + (left <= right) as usize, other: at.other + (right <= left) as usize,"
         " found: at.found + (left == right) as usize, } }",
     ),
-    "ReadWord for Covered::word": (
+    "ReadWord for Unaligned::word": (
         "{ let word = word_of(bits.bytes, i); if bits.low == 0 { word } else {"
         " funnel_shift_inside(word, bits.bytes[8 * i + 8] as u64, bits.low) } }",
         "{ let word = word_of(bits.bytes, i); if bits.low == 0 { word } else {"

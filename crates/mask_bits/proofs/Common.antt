@@ -14,14 +14,14 @@ pub use Rattle.mask_bits.specs.Number.{number}
 unfoldable pub use Rattle.mask_bits.specs.Positions.{chosen, repeated, true_at}
 pub use Rattle.mask_bits.specs.Positions.{IsFirstFrom, at_indices, count, count_below, indices_from, positions, rank_intersection}
 unfoldable pub use Rattle.mask_bits.specs.Pushed.{runs_between}
-pub use Rattle.mask_bits.specs.Pushed.{AreEdges, ArePushed, begins, runs_behind, runs_left, runs_past}
+pub use Rattle.mask_bits.specs.Pushed.{AreEdges, ArePushed, begins, runs_behind}
 pub use Rattle.mask_bits.specs.Rows.{AreAnswers, AreAsComputed}
 pub use Rattle.mask_bits.specs.RunScan.{runs, runs_from, with_index}
 pub use Rattle.mask_bits.specs.Runs.{AreRanges, AreRuns, is_inside}
 pub use Rattle.mask_bits.specs.Stacks.{IsStack, folded_left, folded_right}
 pub use Rattle.mask_bits.specs.Text.{digit}
 unfoldable pub use Rattle.mask_bits.specs.Walk.{left_of}
-pub use Rattle.mask_bits.specs.Walk.{IsLeft}
+pub use Rattle.mask_bits.specs.Walk.{IsLeft, PassesTrue}
 pub use Rattle.mask_bits.specs.WordItems.{items_of}
 unfoldable pub use Rattle.mask_bits.specs.Words.{padded_parts, window, word_bits, word_parts}
 pub use Rattle.mask_bits.specs.Words.{bits_of_words, padded_part, padded_remainder, started_words, word_part}
@@ -50,7 +50,7 @@ pub use Rattle.std.proofs.lemmas.List.FromFn.{fill_by_all, get_or-map-range_with
 pub use Rattle.std.proofs.lemmas.List.Sorted.{IsNonDecreasingBy-from_all_adjacent}
 pub use Rattle.std.proofs.lemmas.List.Sums.{sum_by-cons}
 pub use Rattle.std.proofs.lemmas.Map.Keys.{le_from_is_le}
-pub use Rattle.std.proofs.lemmas.Nat.{and_le_l, and_le_r, and_mask, and_shr, from_le_bytes-to_le_bytes_8, leading_top, mod-mul-add, mod-pow-add, mul-mod_first, mul-mod_second, one_shl, ones-le, ones_cat, shr_high, shr_split, trailing_le}
+pub use Rattle.std.proofs.lemmas.Nat.{and_le_l, and_le_r, and_mask, and_shr, from_le_bytes-to_le_bytes_8, leading_top, mod-mul-add, mod-pow-add, mul-mod_first, mul-mod_second, one_shl, ones-le, ones_cat, or_lt, shr_high, shr_split, trailing_le}
 pub use Rattle.std.proofs.lemmas.Nat.Bits.{and_high_mask, and_pow, bit_at-lt, bit_at-pow_other, bit_at-pow_same, bit_at-suc, bit_at-trailing_ones, bit_at-trailing_zeros, bit_at-zero, bit_at_above, bit_at_and, bit_at_cat_high}
 pub use Rattle.std.proofs.lemmas.Nat.Bits.{bit_at_cat_low, bit_at_clear_other, bit_at_clear_same, bit_at_lowest, bit_at_not, bit_at_ones, bit_at_ones_above, bit_at_or, bit_at_set_other, bit_at_set_same, bit_at_xor, ones_shr, same_from_bits}
 pub use Rattle.std.proofs.lemmas.Nat.Bits.{same_from_bits_below, shr_and_one}

@@ -1,81 +1,100 @@
 -- Walks over the runs of a list by its words.
-use Rattle.mask_bits.proofs.Common.{◌≡◌, ◌≢◌, ℕ, ◌+◌, ◌*◌, ◌-◌, ◌/◌, ◌%◌, ◌^◌, ◌<◌, ◌≤◌, Bool, true, false, List, [], ◌++◌, length, get_or, drop, refl, sym, ap, ap₂, ◌∙◌, arith, nat_eq, bit_or, append-nil, true≢false, drop_all, runs_behind, runs_between, runs_past, runs_left, word_bits, word_part, padded_remainder, bit_at-zero, bool_byte}
-use Rattle.mask_bits.proofs.Lists.Words.WordLemmas.{get_or-word_bits}
-use Rattle.mask_bits.proofs.RunWordLemmas.{word_bits-before, before-full, behind-same_word, behind-whole, behind-remainder, remainder_ends, no_runs_between, last_bit}
+use Rattle.mask_bits.proofs.Common.{◌≡◌, ◌≢◌, ℕ, ◌+◌, ◌*◌, ◌-◌, ◌^◌, ◌<◌, ◌≤◌, Bool, true, false, List, ◌∷◌, length, get_or, drop, refl, sym, ap, ◌∙◌, arith, bit_at, bit_and, bit_or, bit_at_ones, and_le_l, IsFirstFrom, runs_from, left_of, IsLeft, PassesTrue, word_bits, padded_part, true≢false, or_lt}
+use Rattle.mask_bits.proofs.Lists.Places.ScanLemmas.{runs_from-first}
+use Rattle.mask_bits.proofs.Lists.Words.LowestLemmas.{low, low-within, low-set, low-first, bit_at-filled, bit_at-filled_others, ones, ones-few, ones-within, ones-set, ones-end, bit_at-ones_cleared, bit_at-ones_others}
+use Rattle.mask_bits.proofs.Lists.Words.WalkLemmas.{drop-same, skip-front, runs_from-repeated_false, length-left_of, left_of-before, left_of-clear, left_of-past, left_of-read, left_of-at, left_of-same, left_of-below_low, low-inside, IsLeft-read}
 
--- ---- words that have no edge
+-- the first run, and the runs of the list without it
+pub runs-step : (m n : List Bool) (start stop : ℕ) → start < stop → stop ≤ length m → length n ≡ length m
+    → ((i : ℕ) → i < start → get_or m i false ≡ false) → ((i : ℕ) → start ≤ i → i < stop → get_or m i false ≡ true)
+    → (stop < length m → get_or m stop false ≡ false)
+    → ((i : ℕ) → i < stop → get_or n i false ≡ false) → ((i : ℕ) → stop ≤ i → get_or n i false ≡ get_or m i false)
+    → runs_from 0 m ≡ (start, stop) ∷ runs_from 0 n
+runs-step m n start stop some within len passed holds ends cleared same =
+    let first : IsFirstFrom m 0 true start = record { not_before = omega arith; within = omega arith; passed = λ i _ h. passed i h; holds = λ _. holds start (omega arith) some } in
+    let last : IsFirstFrom m (start + 1) false stop = record { not_before = omega arith; within = within; passed = λ i from to. holds i (omega arith) to; holds = ends } in
+    runs_from-first m 0 start stop first (omega arith) last
+    ∙ ap (λ (xs : List Bool). (start, stop) ∷ runs_from stop xs) (sym (drop-same m n stop len same))
+    ∙ ap (λ (rs : List (ℕ × ℕ)). (start, stop) ∷ rs) (sym (skip-front runs_from (λ _ _. refl) n stop (omega arith) cleared))
 
-same_before : (inside : Bool) (w : ℕ) → (inside ≡ true → w ≡ 2 ^ 64 - 1) → (inside ≡ false → w ≡ 0) → w ≡ bit_or (w * 2 ^ 1 % 2 ^ 64) (bool_byte inside)
-same_before true w full none = sym (before-full true w (full refl) refl)
-same_before false w full none = none refl ∙ sym (ap (λ v. bit_or (v * 2 ^ 1 % 2 ^ 64) (bool_byte false)) (none refl))
+-- ---- words of which values are left
 
-behind-passed : (inside : Bool) (start n w : ℕ) (rest : List Bool) → (inside ≡ true → w ≡ 2 ^ 64 - 1) → (inside ≡ false → w ≡ 0)
-    → runs_behind inside start (n + 64) rest ≡ runs_behind inside start n (word_bits w ++ rest)
-behind-passed inside start n w rest full none =
-    behind-same_word inside start n w (bit_or (w * 2 ^ 1 % 2 ^ 64) (bool_byte inside)) rest (word_bits-before inside w) (same_before inside w full none)
+-- a word filled up to its lowest set bit
+pub IsLeft-filled : (m : List Bool) (i w : ℕ) → 0 < w → w < 2 ^ 64 → IsLeft m i w → IsLeft m i (bit_or w (w - 1))
+IsLeft-filled m i w some fits left = record {
+  word = or_lt 64 w (w - 1) fits (omega arith);
+  within = left.within;
+  ends = λ j few past. bit_at-filled_others w j some fits (omega (arith, low-inside m i w some fits left)) ∙ left.ends j few past;
+}
 
--- a word of which the walk has read the bits
-pub word-at : (m : List Bool) (inside : Bool) (start i w : ℕ) → word_bits w ≡ word_part m i
-    → runs_behind inside start (64 * i) (word_bits w ++ drop (64 * (i + 1)) m) ≡ runs_past m inside start i
-word-at m inside start i w shows =
-    ap (λ (bits : List Bool). runs_behind inside start (64 * i) (bits ++ drop (64 * (i + 1)) m)) shows ∙ ap (runs_behind inside start (64 * i)) (behind-whole m i)
+-- a full word lies within the list
+pub full-within : (m : List Bool) (i v : ℕ) → v ≡ 2 ^ 64 - 1 → IsLeft m i v → 64 * (i + 1) ≤ length m
+full-within m i v is_full left = grind (arith, left.ends 63, ap (λ k. bit_at k 63) is_full, bit_at_ones 64 63)
 
-pub word-passed : (m : List Bool) (inside : Bool) (start i w : ℕ) → word_bits w ≡ word_part m i → (inside ≡ true → w ≡ 2 ^ 64 - 1) → (inside ≡ false → w ≡ 0)
-    → runs_past m inside start (i + 1) ≡ runs_past m inside start i
-word-passed m inside start i w shows full none =
-    ap (λ n. runs_behind inside start n (drop (64 * (i + 1)) m)) (omega arith)
-    ∙ behind-passed inside start (64 * i) w (drop (64 * (i + 1)) m) full none
-    ∙ word-at m inside start i w shows
+-- no word is passed
+pub PassesTrue-none : (m : List Bool) (i w : ℕ) → IsLeft m i w → PassesTrue m i w i w
+PassesTrue-none m i w left = record { is = left; later = omega arith; full = λ p from to. absurd (omega arith); rest = λ p from. refl }
 
--- ---- the end of the list
+-- a full word more
+pub PassesTrue-more : (m : List Bool) (i w j v u : ℕ) → u < 2 ^ 64 → v ≡ 2 ^ 64 - 1 → word_bits u ≡ padded_part m (j + 1) → PassesTrue m i w j v → PassesTrue m i w (j + 1) u
+PassesTrue-more m i w j v u fits is_full read so_far =
+    let within = full-within m j v is_full so_far.is in
+    record {
+      is = IsLeft-read m (j + 1) u fits read within;
+      later = omega (arith, so_far.later);
+      full = λ p from to. grind (arith, so_far.full p from, so_far.rest p, left_of-at m j v p (p - 64 * j), ap (λ k. bit_at k (p - 64 * j)) is_full, bit_at_ones 64 (p - 64 * j));
+      rest = λ p from. grind (arith, left_of-read m (j + 1) u p read within from, left_of-past m j v p, so_far.rest p);
+    }
 
-past_all : (m : List Bool) (i : ℕ) → length m / 64 < i → drop (64 * i) m ≡ []
-past_all m i past = drop_all (64 * i) m (omega arith)
+-- the ones at the low end of what is left lie within the list
+pub ones-inside : (m : List Bool) (i w : ℕ) → w < 2 ^ 64 → IsLeft m i w → 64 * i + ones w ≤ length m
+ones-inside m i w fits left =
+    let j : ℕ = length m - 64 * i in
+    grind (arith, left.within, ones-within w fits, ones-set w j fits, left.ends j)
 
-pub none_past : (m : List Bool) (inside : Bool) (start i : ℕ) → length m / 64 < i → inside ≡ false → runs_past m inside start i ≡ []
-none_past m inside start i past outside = ap₂ (λ b (rest : List Bool). runs_behind b start (64 * i) rest) outside (past_all m i past)
+pub IsLeft-ones_cleared : (m : List Bool) (i w : ℕ) → w < 2 ^ 64 → IsLeft m i w → IsLeft m i (bit_and w (w + 1))
+IsLeft-ones_cleared m i w fits left = record {
+  word = omega (arith, and_le_l w (w + 1));
+  within = left.within;
+  ends = λ j few past. grind (arith, bit_at-ones_others w j fits few, ones-inside m i w fits left, left.ends j few past);
+}
 
--- zeros behind the last value
-pub zeros-last : (m : List Bool) (inside : Bool) (start i w : ℕ) → length m / 64 ≤ i → inside ≡ false → w ≡ 0
-    → runs_behind inside start (64 * i) (word_bits w ++ drop (64 * (i + 1)) m) ≡ []
-zeros-last m inside start i w last outside zero =
-    sym (behind-passed inside start (64 * i) w (drop (64 * (i + 1)) m) (λ is. absurd (true≢false (sym is ∙ outside))) (λ _. zero))
-    ∙ ap₂ (λ b (rest : List Bool). runs_behind b start (64 * i + 64) rest) outside (past_all m (i + 1) (omega arith))
+-- from its lowest set bit on, a word filled up to that is the word
+left_of-filled : (m : List Bool) (i w p : ℕ) → 0 < w → w < 2 ^ 64 → 64 * i ≤ length m → 64 * i + low w ≤ p → get_or (left_of m i (bit_or w (w - 1))) p false ≡ get_or (left_of m i w) p false
+left_of-filled m i w p some fits within h = grind (arith, left_of-same, bit_at-filled_others)
 
--- the values behind the whole words
-pub remainder-at : (m : List Bool) (inside : Bool) (start i w : ℕ) → i ≡ length m / 64 → word_bits w ≡ padded_remainder m
-    → runs_behind inside start (64 * i) (word_bits w ++ drop (64 * (i + 1)) m) ≡ runs_past m inside start i
-remainder-at m inside start i w last shows =
-    ap (λ (rest : List Bool). runs_behind inside start (64 * i) (word_bits w ++ rest)) (past_all m (i + 1) (omega (arith, last)))
-    ∙ ap (runs_behind inside start (64 * i)) (append-nil (word_bits w) ∙ shows)
-    ∙ behind-remainder inside start (64 * i) m
-    ∙ ap (λ n. runs_behind inside start (64 * i) (drop (64 * n) m)) (sym last)
+-- all is true up to the end of the ones that the walk came to
+run_true : (m : List Bool) (i f j v p : ℕ) → v < 2 ^ 64 → PassesTrue m i f j v → 64 * i ≤ p → p < 64 * j + ones v → get_or (left_of m i f) p false ≡ true
+run_true m i f j v p v_fits passes from to =
+    grind (arith, passes.full p from, passes.rest p, left_of-at m j v p (p - 64 * j), ones-within v v_fits, ones-inside m j v v_fits passes.is, ones-set v (p - 64 * j) v_fits)
 
-pub remainder-last : (m : List Bool) (w : ℕ) → word_bits w ≡ padded_remainder m → get_or (word_bits w) 63 false ≡ false
-remainder-last m w shows = ap (λ (bits : List Bool). get_or bits 63 false) shows ∙ remainder_ends m
+-- the lowest set bit of a word is in front of the end of its run
+runs-start_below_stop : (m : List Bool) (i w j v : ℕ) → 0 < w → w < 2 ^ 64 → v < 2 ^ 64 → IsLeft m i w → PassesTrue m i (bit_or w (w - 1)) j v → v ≢ 2 ^ 64 - 1 → 64 * i + low w < 64 * j + ones v
+runs-start_below_stop m i w j v some fits v_fits left passes some_end =
+    let f : ℕ = bit_or w (w - 1) in
+    let k : ℕ = ones v in
+    let few = low-within w some fits in
+    let end_few = ones-few v v_fits some_end in
+    let inside = low-inside m i w some fits left in
+    grind (arith, passes.later, left_of-at m i f (64 * j + k) k, bit_at-filled w k some fits, left_of-clear m j v (64 * j + k), passes.is.within, ones-end v v_fits, passes.rest (64 * j + k), true≢false)
 
--- a word whose last bit is not set is not full
-full-last : (w : ℕ) → w ≡ 2 ^ 64 - 1 → get_or (word_bits w) 63 false ≡ true
-full-last w full = sym (last_bit w (omega (arith, full))) ∙ ap (λ n. nat_eq (n / 2 ^ 63) 1) full
+-- where the run of a word's lowest true value ends
+pub runs-lowest : (m : List Bool) (i w j v : ℕ) → 0 < w → w < 2 ^ 64 → v < 2 ^ 64 → IsLeft m i w → PassesTrue m i (bit_or w (w - 1)) j v → v ≢ 2 ^ 64 - 1
+    → runs_from 0 (left_of m i w) ≡ (64 * i + low w, 64 * j + ones v) ∷ runs_from 0 (left_of m j (bit_and v (v + 1)))
+runs-lowest m i w j v some fits v_fits left passes some_end =
+    let u : ℕ = bit_and v (v + 1) in
+    let within = left.within in
+    let len = length-left_of m i w within in
+    let few = ones-few v v_fits some_end in
+    let stop_inside = ones-inside m j v v_fits passes.is in
+    let some_run = runs-start_below_stop m i w j v some fits v_fits left passes some_end in
+    let same = λ (p : ℕ). left_of-filled m i w p some fits within in
+    runs-step (left_of m i w) (left_of m j u) (64 * i + low w) (64 * j + ones v) some_run (omega (arith, len, stop_inside))
+    (length-left_of m j u passes.is.within ∙ sym len)
+    (λ p h. left_of-below_low m i w p some fits within h)
+    (λ p from to. sym (same p from) ∙ run_true m i (bit_or w (w - 1)) j v p v_fits passes (omega arith) to)
+    (λ h. grind (arith, same (64 * j + ones v), passes.rest (64 * j + ones v), left_of-clear m j v (64 * j + ones v), ones-end v v_fits, passes.is.within))
+    (λ p h. grind (arith, passes.is.within, left_of-before, left_of-clear m j u p, bit_at-ones_cleared v (p - 64 * j) v_fits))
+    (λ p h. left_of-same m j v u p passes.is.within (omega arith) (λ k few_k place. bit_at-ones_others v k v_fits few_k (omega arith)) ∙ passes.rest p (omega arith) ∙ same p (omega arith))
 
-pub not_full : (w : ℕ) → get_or (word_bits w) 63 false ≡ false → w ≢ 2 ^ 64 - 1
-not_full w ends full = true≢false (sym (full-last w full) ∙ ends)
-
-pub zero-last : get_or (word_bits 0) 63 false ≡ false
-zero-last = get_or-word_bits 0 63 false (omega arith) ∙ ap (λ n. nat_eq n 1) (bit_at-zero 63)
-
--- ---- the word at hand
-
--- where no edge is left that ends a run
-pub left-none : (m : List Bool) (base first starts ends : ℕ) (inside : Bool) (start next : ℕ) → ends ≡ 0
-    → runs_left m base first starts ends inside start next ≡ runs_past m inside start next
-left-none m base first starts ends inside start next none =
-    ap (λ (rs : List (ℕ × ℕ)). rs ++ runs_past m inside start next) (no_runs_between base first starts ends none)
-
-pub left-at : (m : List Bool) (base first starts ends : ℕ) (inside : Bool) (start next i : ℕ) (all : List (ℕ × ℕ)) → next ≡ i + 1
-    → runs_between base first starts ends ++ runs_behind inside start (64 * next) (drop (64 * (i + 1)) m) ≡ all
-    → runs_left m base first starts ends inside start next ≡ all
-left-at m base first starts ends inside start next i all is same =
-    ap (λ n. runs_between base first starts ends ++ runs_behind inside start (64 * next) (drop (64 * n) m)) is ∙ same
-
-pub ruleset runs_at_words = (left-none)
+pub ruleset runs_at_words = (runs-lowest, runs_from-repeated_false)

@@ -32,7 +32,7 @@ pub record IsShifted (bytes : List ℕ) (low i : ℕ) : Type 0 where
   pub covered : 8 * i + 16 ≤ length bytes
 
 -- the bytes have all 64 bits of word i from bit `low` of the first byte on
-pub record IsCovered (bytes : List ℕ) (low i : ℕ) : Type 0 where
+pub record IsUnaligned (bytes : List ℕ) (low i : ℕ) : Type 0 where
   pub few : low < 8
   pub covered : low + 64 * i + 64 ≤ 8 * length bytes
 

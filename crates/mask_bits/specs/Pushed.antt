@@ -30,22 +30,3 @@ pub record AreEdges (base starts ends : ℕ) : Type 0 where
 abbrev pub begins : Bool → ℕ → List ℕ → List ℕ
 begins false start ps = ps
 begins true start ps = start ∷ ps
-
--- the runs that end in the words from number i on, behind one from `start` on that has not ended before them where `inside`
-abbrev pub runs_past : List Bool → Bool → ℕ → ℕ → List (ℕ × ℕ)
-runs_past m inside start i = runs_behind inside start (64 * i) (drop (64 * i) m)
-
--- the runs that end at edges that are left of a word, and those of the words from number `next` on
-abbrev pub runs_left : List Bool → ℕ → ℕ → ℕ → ℕ → Bool → ℕ → ℕ → List (ℕ × ℕ)
-runs_left m base first starts ends inside start next = runs_between base first starts ends ++ runs_past m inside start next
-
--- a started word has number i, or all are passed, and then no run is open
-pub record IsAhead (m : List Bool) (inside : Bool) (i : ℕ) : Type 0 where
-  pub within : i ≤ length m / 64 + 1
-  pub closed : length m / 64 < i → inside ≡ false
-
--- edges that are left of a word, and word `next` comes after it
-pub record IsAtWord (m : List Bool) (base starts ends : ℕ) (inside : Bool) (next : ℕ) : Type 0 where
-  pub edges : AreEdges base starts ends
-  pub fits : base + 64 ≤ 2 ^ 64
-  pub ahead : IsAhead m inside next

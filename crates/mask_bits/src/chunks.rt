@@ -11,7 +11,7 @@ ghost use Rattle.mask_bits.specs.Words.{word_bits, word_part, word_parts, padded
 ghost use Rattle.mask_bits.specs.Words.{started_words, padded_part, padded_parts};
 
 use crate::counts::count_bits;
-use crate::read_word::{Bits, Covered, ReadWord};
+use crate::read_word::{Bits, ReadWord, Unaligned};
 use crate::words::{started_words, word_at};
 use std::marker::Model;
 
@@ -46,7 +46,7 @@ impl<'a> BitChunks<'a> {
         BitChunks { bytes, offset, len }
     }
 
-    // How many values there are.
+    // How many values there are, for bodies whose proofs speak of the list alone.
     #[tactic(auto, using(crate::proofs::BufferLemmas::len_facts))]
     #[inline]
     pub(crate) fn values_len(&self) -> usize
@@ -67,7 +67,7 @@ impl<'a> BitChunks<'a> {
         requires { i < length self.now / 64 }
         ensures { word_bits result ≡ word_part self.now i }
     {
-        Covered::word(Bits::new(self.bytes, self.offset), i)
+        Unaligned::word(Bits::new(self.bytes, self.offset), i)
     }
 
     /// The whole words, in their order.

@@ -7,7 +7,7 @@ ghost use Rattle.mask_bits.specs.Combine.{AreCombined, IsCombinedBetween};
 ghost use Rattle.mask_bits.specs.Lists.{combined, not_of};
 ghost use Rattle.mask_bits.specs.Words.{word_bits, started_words};
 
-use crate::read_word::{Anywhere, Bits, Covered, ReadWord, Shifted, Whole};
+use crate::read_word::{Anywhere, Bits, ReadWord, Shifted, Unaligned, Whole};
 use crate::words::{set_word, started_words, word_at, word_of};
 
 /// An operation on truth values, done on 64 at once.
@@ -128,7 +128,7 @@ fn extend_whole<C: BitOp>(a: Bits<'_>, b: Bits<'_>, words: usize, out: &mut [u8]
     } else {
         let inner = a.neighbors().min(b.neighbors()).min(words);
         extend_inner::<C>(a, b, inner, out);
-        extend::<C, Covered, Covered>(a, b, inner, words, out);
+        extend::<C, Unaligned, Unaligned>(a, b, inner, words, out);
     }
 }
 
@@ -203,7 +203,7 @@ fn change_whole<C: BitOp>(bytes: &mut [u8], b: Bits<'_>, words: usize)
     } else {
         let inner = b.neighbors().min(words);
         change::<C, Shifted>(bytes, b, 0, inner);
-        change::<C, Covered>(bytes, b, inner, words);
+        change::<C, Unaligned>(bytes, b, inner, words);
     }
 }
 

@@ -9,7 +9,7 @@ ghost use Rattle.mask_bits.specs.Lists.{combined};
 ghost use Rattle.mask_bits.specs.Positions.{count, repeated};
 
 use crate::combine::{BitOp, Xor};
-use crate::read_word::{Bits, Covered, Neighbors, ReadWord, Shifted, Whole};
+use crate::read_word::{Bits, Neighbors, ReadWord, Shifted, Unaligned, Whole};
 use crate::words::word_at;
 
 /// Whether the `len` bits of `a` from bit `a_offset` on are those of `b` from bit `b_offset` on.
@@ -81,7 +81,7 @@ fn none_in_shifted_words<C: BitOp>(a: Bits<'_>, b: Bits<'_>, words: usize) -> bo
 {
     let inner = a.neighbors().min(b.neighbors()).min(words);
     none_in_inner_words::<C>(a, b, inner)
-        && none_in_block::<C, Covered, Covered>(a, b, inner, words)
+        && none_in_block::<C, Unaligned, Unaligned>(a, b, inner, words)
 }
 
 // Whether none is true that `C` makes of words beside which there is another one. Each list is read in
@@ -207,7 +207,7 @@ fn count_in_words<C: BitOp>(
     }
     let inner = a.neighbors().min(b.neighbors()).min(words);
     let first = count_in_inner_words::<C>(a, b, inner);
-    count_on::<C, Covered, Covered>(a, b, inner, words, first)
+    count_on::<C, Unaligned, Unaligned>(a, b, inner, words, first)
 }
 
 // How many are true that `C` makes of words beside which there is another one. Each list is read in its

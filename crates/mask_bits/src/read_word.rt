@@ -3,7 +3,7 @@
 //! A loop that is generic over the way compiles to one that tests nothing per word.
 
 ghost use Rattle.std.specs.Prelude.{◌≡◌, ◌≤◌, ◌+◌, ◌-◌, ◌*◌, ◌/◌, ◌%◌, length, drop};
-ghost use Rattle.mask_bits.specs.Combine.{IsWholeWord, IsInTwoWords, IsShifted, IsCovered, HasPlace};
+ghost use Rattle.mask_bits.specs.Combine.{IsWholeWord, IsInTwoWords, IsShifted, IsUnaligned, HasPlace};
 ghost use Rattle.mask_bits.specs.Words.{window, word_bits};
 
 use crate::words::{funnel_shift, funnel_shift_inside, word_at, word_of};
@@ -62,9 +62,9 @@ pub(crate) struct Neighbors;
 #[derive(Drop)]
 pub(crate) struct Shifted;
 
-/// Words of which the bytes have all bits.
+/// Words that begin at any bit and of which the bytes have all bits.
 #[derive(Drop)]
-pub(crate) struct Covered;
+pub(crate) struct Unaligned;
 
 /// Words wherever they are, the last bytes included.
 #[derive(Drop)]
@@ -99,8 +99,8 @@ impl ReadWord for Shifted {
     }
 }
 
-impl ReadWord for Covered {
-    ghost can_read = { IsCovered };
+impl ReadWord for Unaligned {
+    ghost can_read = { IsUnaligned };
 
     // tests nothing that a loop over words has to test again, and reads past no end, so that such a
     // loop needs no slower way for its last words

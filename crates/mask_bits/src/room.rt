@@ -29,7 +29,7 @@ pub trait Room<T> {
     fn spare(&self) -> usize
         ensures { length (items self.now) + result ≡ capacity (kept self.now) };
 
-    fn cut(&mut self, count: usize)
+    fn truncate(&mut self, count: usize)
         requires { count ≤ length (items self.old) }
         ensures items { items self.new ≡ take count (items self.old) }
         ensures kept { kept self.new ≡ kept self.old };
@@ -63,8 +63,8 @@ impl<T: Copy> Room<T> for Vec<T> {
     }
 
     #[inline(always)]
-    fn cut(&mut self, count: usize) {
-        self.truncate(count);
+    fn truncate(&mut self, count: usize) {
+        Vec::truncate(self, count);
     }
 }
 
@@ -105,7 +105,7 @@ impl<'a, T: Copy> Room<T> for Lent<'a, T> {
     }
 
     #[inline(always)]
-    fn cut(&mut self, count: usize) {
+    fn truncate(&mut self, count: usize) {
         self.at = count;
     }
 }

@@ -41,8 +41,6 @@ pub(crate) fn edges_in(begun: Open, base: usize, word: u64, before: u64) -> (Edg
         ≡ runs_behind begun.inside begun.start base (word_bits word ++ rest) }
     ensures edges { AreEdges base result.0.starts result.0.ends }
     ensures last { result.1.inside ≡ slice_index_or (word_bits word) 63 false }
-    ensures ended { begun.inside ≡ true → 0 < result.0.ends }
-    ensures begun { result.0.ends ≡ 0 → word ≢ 0 → result.1.inside ≡ true }
 {
     let edges = edges_of(begun, base, word & !before, before & !word);
     let after = Open {
@@ -61,7 +59,6 @@ pub(crate) fn edges_of(begun: Open, base: usize, starts: u64, ends: u64) -> Edge
     ensures runs { runs_between base result.first result.starts result.ends
         ≡ zip (begins begun.inside begun.start (indices_from base (word_bits starts))) (indices_from base (word_bits ends)) }
     ensures edges { AreEdges base result.starts result.ends }
-    ensures ends { result.ends ≡ ends }
 {
     if begun.inside {
         return Edges {

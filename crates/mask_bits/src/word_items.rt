@@ -94,7 +94,7 @@ pub(crate) fn push_by<const K: usize, W: WordItems, R: Room<W::Item>>(
     while out.count() < end {
         left = push_some::<K, _, _>(out, items, left);
     }
-    out.cut(end);
+    out.truncate(end);
 }
 
 // Puts what the `K` lowest bits yield, and other items where there are fewer. Returns the bits that are left.

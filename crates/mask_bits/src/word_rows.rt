@@ -11,8 +11,8 @@ use std::mem::size_of_val;
 // A word whose bits are all set.
 const FULL: u64 = u64::MAX;
 
-// The bytes of 65 rows of 32 bytes. To read and write a wider row for nothing takes longer than a branch that is guessed
-// wrong.
+// The bytes of 65 rows of 32 bytes. To read and write a wider row for nothing takes longer than a branch that is
+// guessed wrong.
 const MOST_BYTES: usize = 65 * 32;
 
 // Room for the rows of a word, and for four more.

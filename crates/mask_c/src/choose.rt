@@ -142,8 +142,8 @@ fn choose_small<const FEW: usize, M: MoveRows<T>, T: Copy>(
     room.at
 }
 
-// Whether words have eight true values or more on the average, by four of them, or by the first of fewer. Where they have
-// fewer, to count those of each word takes longer than is gained.
+// Whether words have eight true values or more on the average, by four of them, or by the first of fewer. Where they
+// have fewer, to count those of each word takes longer than is gained.
 #[inline]
 fn have_many(bytes: &[u8], offset: usize, len: usize) -> bool
     requires { IsWithinBytes bytes.now offset len }

@@ -58,7 +58,7 @@ fn parsed<T, E: Drop>(parsed: Result<T, E>) -> Result<T, Fault> {
 impl Word for Vec<bool> {
     fn read(words: &mut Words<'_>, word: &str) -> Vec<bool> {
         match word.split_once(":") {
-            Some(("at", rest)) => true_at(words, rest.split_once(":").unwrap_or((rest, "-"))),
+            Some(("at", rest)) => true_at_indices(words, rest.split_once(":").unwrap_or((rest, "-"))),
             Some((form, rest)) => {
                 let numbers = words.pair(rest, ":", "truth values");
                 repeating(words, form, numbers)
@@ -71,7 +71,7 @@ impl Word for Vec<bool> {
     }
 }
 
-fn true_at(words: &mut Words<'_>, (len, list): (&str, &str)) -> Vec<bool> {
+fn true_at_indices(words: &mut Words<'_>, (len, list): (&str, &str)) -> Vec<bool> {
     let (len, indices) = (usize::read(words, len), words.list::<usize>(list));
     words.collected((0..len).map(|i| indices.contains(&i)).collect(words.alloc))
 }

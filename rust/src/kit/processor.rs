@@ -127,7 +127,7 @@ fn push_first<T: Copy, R: Room<T>>(out: &mut R, rows: [T; 8], byte: u8) {
     for row in rows {
         out.put(row);
     }
-    out.cut(end);
+    out.truncate(end);
 }
 
 /// Whether the processor has x86-64-v3, where a program isn't compiled for that anyway.

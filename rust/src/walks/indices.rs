@@ -1,5 +1,5 @@
 use crate::prelude::*;
-use crate::proved::mask_bits::read_word::{Bits, Covered, ReadWord};
+use crate::proved::mask_bits::read_word::{Bits, Unaligned, ReadWord};
 
 /// The indices of the true values of a [`Bitmap`], ascending.
 #[derive(Clone)]
@@ -44,7 +44,7 @@ impl<'a> Indices<'a> {
     // Word `k`, which is a whole one.
     #[inline(always)]
     fn word(&self, k: usize) -> u64 {
-        Covered::word(self.bits, k)
+        Unaligned::word(self.bits, k)
     }
 
     // The values of the words that neither end has taken.

@@ -11,8 +11,8 @@ pub(crate) type Found = Option<&'static str>;
 ///     "slice" (a m n) [m <= n && n <= a.len(), "a range within the mask"] => a.slice(alloc, m, n),
 ///
 /// A line has the name of a call; what it reads from a row, by names that `Operands::read` and `operand` know; what the
-/// call requires, in words too; and the call, whose answer is told by `Tell`. A line may also write it itself. A name that
-/// no line has is looked for by another function.
+/// call requires, in words too; and the call, whose answer is told by `Tell`. A line may also write it itself. A name
+/// that no line has is looked for by another function.
 macro_rules! calls {
     ($name:ident, $o:ident, $text:ident, else $others:expr; $(
         $call:literal ($first:ident $($next:ident)*) $([$is_met:expr, $condition:literal])? => $answer:expr,

@@ -1,8 +1,8 @@
 // Made of crates/mask_tests/src/refused.rt by `rust/erase`: change that, and make this anew.
 //! Each row with requests for memory refused to its call, by `.ci/refusals`. It is told by lines: `scenario` and the
-//! name of the call, `calls` before it, `answered` or `refused` behind it, and `wrong: ` where something is. A call that
-//! was refused is made once more behind `calls again`. Between `calls` and the next line nothing but the call asks for
-//! memory. The script misses a line that can't be written.
+//! name of the call, `calls` before it, `answered` or `refused` behind it, and `wrong: ` where something is. A call
+//! that was refused is made once more behind `calls again`. Between `calls` and the next line nothing but the call asks
+//! for memory. The script misses a line that can't be written.
 
 use crate::call::Call;
 use crate::host::{AllocGlobal, Input, Print};

@@ -1,6 +1,6 @@
 // Made of crates/mask_tests/src/rows.rt by `rust/erase`: change that, and make this anew.
-//! Rows: a line each, of calls, their operands and what they answer. Each call is made once on operands that nobody else
-//! holds, and once while a clone of each is held. Operands that it only borrows must read the same afterwards.
+//! Rows: a line each, of calls, their operands and what they answer. Each call is made once on operands that nobody
+//! else holds, and once while a clone of each is held. Operands that it only borrows must read the same afterwards.
 
 use crate::call::Call;
 use crate::host::{AllocGlobal, Input, Print};

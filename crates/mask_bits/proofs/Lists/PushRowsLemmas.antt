@@ -2,10 +2,10 @@
 use Rattle.mask_bits.proofs.Common.{common_steps, ◌≡◌, ℕ, Bool, false, ◌+◌, ◌-◌, ◌*◌, ◌/◌, ◌%◌, ◌<◌, ◌≤◌, List, [], ◌++◌, length, take, drop, slice_get, slice_range, refl, sym, ap, ap₂, ◌∙◌, arith, append-nil, length-drop, length-take, filter_map, take-append-drop, chosen, count, positions, repeated, padded_remainder, word_bits, word_part}
 use Rattle.std.specs.List.{All}
 use Rattle.mask_bits.proofs.Lists.ChooseLemmas.{chosen-of_front, chosen_at_positions}
-use Rattle.mask_bits.proofs.Lists.CountLemmas.{count-append, indices_from-repeated_false}
+use Rattle.mask_bits.proofs.Lists.CountLemmas.{count-append, count_below-le, indices_from-repeated_false}
 use Rattle.mask_bits.proofs.Lists.LawLemmas.{length-chosen}
 use Rattle.mask_bits.proofs.Lists.Places.PlaceLemmas.{positions-within}
-use Rattle.mask_bits.proofs.Lists.Places.SelectLemmas.{indices_from-append}
+use Rattle.mask_bits.proofs.Lists.Places.SelectLemmas.{count-part_further, indices_from-append}
 use Rattle.mask_bits.proofs.Lists.RowLemmas.{chosen_of_two_chunks}
 use Rattle.mask_bits.proofs.Lists.Words.ChosenWordLemmas.{chosen-part_more}
 use Rattle.mask_bits.proofs.Lists.Words.WordLemmas.{length-word_bits}
@@ -42,11 +42,11 @@ rest_chosen {X} rows part m n w len whole is shows =
     ∙ sym (chosen_of_two_chunks (take n rows) (drop n rows) (take n m) (drop n m) (omega (arith, length-take n rows, length-take n m, len)))
     ∙ ap₂ chosen (take-append-drop n rows) (take-append-drop n m)
 
-pub rest_counted : (m : List Bool) (n w : ℕ) → n ≡ 64 * (length m / 64) → word_bits w ≡ padded_remainder m → count (take n m) + count (word_bits w) ≡ count m
+rest_counted : (m : List Bool) (n w : ℕ) → n ≡ 64 * (length m / 64) → word_bits w ≡ padded_remainder m → count (take n m) + count (word_bits w) ≡ count m
 rest_counted m n w whole shows = grind (arith, common_steps, places_of_rest m, count-append (take n m) (drop n m), take-append-drop n m)
 
 -- the rows of the values so far are as many as the true ones
-pub chosen_counted : {X : Type 0} (rows : List X) (m : List Bool) (n : ℕ) → length rows ≡ length m → length (chosen (take n rows) (take n m)) ≡ count (take n m)
+chosen_counted : {X : Type 0} (rows : List X) (m : List Bool) (n : ℕ) → length rows ≡ length m → length (chosen (take n rows) (take n m)) ≡ count (take n m)
 chosen_counted rows m n len = length-chosen (take n rows) (take n m) (omega (arith, length-take n rows, length-take n m, len))
 
 -- a word chooses among its own 64 rows, whatever rows come behind them
@@ -55,6 +55,18 @@ own_rows rows n r w enough =
     let of_all : (k : ℕ) → 64 ≤ k → chosen (take (n + k - n) (drop n rows)) (word_bits w) ≡ chosen (drop n rows) (word_bits w)
     = λ k h. chosen-of_front (drop n rows) (word_bits w) (n + k - n) (omega (arith, length-word_bits w)) in
     of_all r enough ∙ sym (of_all 64 (omega arith))
+
+-- room for all rows that are chosen has room for those of one more word
+pub word_room : {X : Type 0} (rows items : List X) (m : List Bool) (i w room : ℕ) → length rows ≡ length m → word_bits w ≡ word_part m i → items ≡ chosen (take (64 * i) rows) (take (64 * i) m) → count m ≤ room
+    → length items + count (word_bits w) ≤ room
+word_room rows items m i w room len shows before all =
+    omega (arith, ap length before, chosen_counted rows m (64 * i) len, ap count shows, count-part_further m (64 * i) 64, count_below-le m (64 * i + 64), all)
+
+-- and for those of the rest
+pub rest_room : {X : Type 0} (rows items : List X) (m : List Bool) (n w room : ℕ) → length rows ≡ length m → n ≡ 64 * (length m / 64) → word_bits w ≡ padded_remainder m → items ≡ chosen (take n rows) (take n m) → count m ≤ room
+    → length items + count (word_bits w) ≤ room
+rest_room rows items m n w room len whole shows before all =
+    omega (arith, ap length before, chosen_counted rows m n len, rest_counted m n w whole shows, all)
 
 -- one more word's rows are pushed
 pub word_pushed : {X : Type 0} (rows old new : List X) (m : List Bool) (i r w : ℕ) → length rows ≡ length m → 64 ≤ r → 64 * i + 64 ≤ length m → word_bits w ≡ word_part m i

@@ -111,8 +111,8 @@ fn merge(list: &mut [usize], other: &[usize]) -> usize
     first + last
 }
 
-// Merges the parts of two lists before a place of each, and those from there on, each in its part of the first list, and
-// tells how many indices each two have in common.
+// Merges the parts of two lists before a place of each, and those from there on, each in its part of the first list,
+// and tells how many indices each two have in common.
 fn merge_parts(list: &mut [usize], other: &[usize], at: usize, place: usize) -> (usize, usize)
     requires list { IsStrictlyIncreasing list.old }
     requires other { IsStrictlyIncreasing other.now }

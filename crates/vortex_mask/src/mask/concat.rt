@@ -69,7 +69,7 @@ impl Mask {
         Mask::concat_held(alloc, &masks)
     }
 
-    // The same of masks that are listed.
+    // The same of masks that are listed. They are lent, and so listed once more, as joining is of lent ones alone.
     fn concat_held(alloc: Global, masks: &[Mask]) -> Result<Mask, MaskError>
         ensures list { IfOk result (λ m. Joins (map truth masks.now) m) }
         ensures variant { IfOk result (λ m. variant m ≡ fitting_variant all_true (truth m)) }

@@ -56,8 +56,8 @@ impl Mask {
     }
 }
 
-/// What [`Mask::from_indices`] refuses these indices by, if it does: order over the whole list first, then repeats, then
-/// bounds.
+/// What [`Mask::from_indices`] refuses these indices by, if it does: order over the whole list first, then repeats,
+/// then bounds.
 #[tactic(auto, using(crate::proofs::Masks::FaultLemmas::order_facts))]
 pub fn index_fault(len: usize, indices: &[usize]) -> Option<MaskError>
     ensures { result ≡ index_fault len indices.now }

@@ -3,7 +3,7 @@
 
 use crate::kit::prelude::*;
 use crate::proved::mask_bits::counts::count_bits;
-use crate::proved::mask_bits::read_word::{Bits, Covered, ReadWord};
+use crate::proved::mask_bits::read_word::{Bits, ReadWord, Unaligned};
 use crate::proved::mask_bits::words::{started_words, word_at};
 
 /// The values of a buffer in words of 64, the first value lowest.
@@ -41,7 +41,7 @@ impl<'a> BitChunks<'a> {
         BitChunks { bytes, offset, len }
     }
 
-    // How many values there are.
+    // How many values there are, for bodies whose proofs speak of the list alone.
     #[inline(always)]
     pub(crate) fn values_len(&self) -> usize {
         self.len
@@ -80,7 +80,7 @@ impl<'a> BitChunks<'a> {
 
     #[inline(always)]
     pub(crate) fn word_proved(&self, i: usize) -> u64 {
-        Covered::word(Bits::new(self.bytes, self.offset), i)
+        Unaligned::word(Bits::new(self.bytes, self.offset), i)
     }
 
     /// The whole words, in their order.

@@ -2,7 +2,7 @@
 //! The list that an operation makes of two lists, value by value, over plain bytes.
 
 use crate::kit::prelude::*;
-use crate::proved::mask_bits::read_word::{Anywhere, Bits, Covered, ReadWord, Shifted, Whole};
+use crate::proved::mask_bits::read_word::{Anywhere, Bits, ReadWord, Shifted, Unaligned, Whole};
 use crate::proved::mask_bits::words::{set_word, started_words, word_at, word_of};
 
 /// An operation on truth values, done on 64 at once.
@@ -114,7 +114,7 @@ fn extend_whole<C: BitOp>(a: Bits<'_>, b: Bits<'_>, words: usize, out: &mut [u8]
     } else {
         let inner = a.neighbors().min(b.neighbors()).min(words);
         extend_inner::<C>(a, b, inner, out);
-        extend::<C, Covered, Covered>(a, b, inner, words, out);
+        extend::<C, Unaligned, Unaligned>(a, b, inner, words, out);
     }
 }
 
@@ -178,7 +178,7 @@ fn change_whole<C: BitOp>(bytes: &mut [u8], b: Bits<'_>, words: usize) {
     } else {
         let inner = b.neighbors().min(words);
         change::<C, Shifted>(bytes, b, 0, inner);
-        change::<C, Covered>(bytes, b, inner, words);
+        change::<C, Unaligned>(bytes, b, inner, words);
     }
 }
 

@@ -4,7 +4,7 @@
 
 use crate::kit::prelude::*;
 use crate::proved::mask_bits::combine::{BitOp, Xor};
-use crate::proved::mask_bits::read_word::{Bits, Covered, Neighbors, ReadWord, Shifted, Whole};
+use crate::proved::mask_bits::read_word::{Bits, Neighbors, ReadWord, Shifted, Unaligned, Whole};
 use crate::proved::mask_bits::words::word_at;
 
 /// Whether the `len` bits of `a` from bit `a_offset` on are those of `b` from bit `b_offset` on.
@@ -96,7 +96,7 @@ fn none_in_shifted_words_v3<C: BitOp>(a: Bits<'_>, b: Bits<'_>, words: usize) ->
 fn none_in_shifted_words_any<C: BitOp>(a: Bits<'_>, b: Bits<'_>, words: usize) -> bool {
     let inner = a.neighbors().min(b.neighbors()).min(words);
     none_in_inner_words::<C>(a, b, inner)
-        && none_in_block::<C, Covered, Covered>(a, b, inner, words)
+        && none_in_block::<C, Unaligned, Unaligned>(a, b, inner, words)
 }
 
 // Whether none is true that `C` makes of words beside which there is another one. Each list is read in
@@ -211,7 +211,7 @@ fn count_in_words<C: BitOp>(
     }
     let inner = a.neighbors().min(b.neighbors()).min(words);
     let first = count_in_inner_words::<C>(a, b, inner);
-    count_on::<C, Covered, Covered>(a, b, inner, words, first)
+    count_on::<C, Unaligned, Unaligned>(a, b, inner, words, first)
 }
 
 // How many are true that `C` makes of words beside which there is another one. Each list is read in its

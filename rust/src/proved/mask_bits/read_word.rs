@@ -42,8 +42,8 @@ pub(crate) struct Neighbors;
 /// The same of a list that doesn't begin at a whole byte.
 pub(crate) struct Shifted;
 
-/// Words of which the bytes have all bits.
-pub(crate) struct Covered;
+/// Words that begin at any bit and of which the bytes have all bits.
+pub(crate) struct Unaligned;
 
 /// Words wherever they are, the last bytes included.
 pub(crate) struct Anywhere;
@@ -69,7 +69,7 @@ impl ReadWord for Shifted {
     }
 }
 
-impl ReadWord for Covered {
+impl ReadWord for Unaligned {
     // tests nothing that a loop over words has to test again, and reads past no end, so that such a
     // loop needs no slower way for its last words
     #[inline(always)]

@@ -11,7 +11,7 @@ pub trait Room<T> {
     /// For how many more there is room.
     fn spare(&self) -> usize;
 
-    fn cut(&mut self, count: usize);
+    fn truncate(&mut self, count: usize);
 }
 
 impl<T: Copy> Room<T> for Vec<T> {
@@ -31,8 +31,8 @@ impl<T: Copy> Room<T> for Vec<T> {
     }
 
     #[inline(always)]
-    fn cut(&mut self, count: usize) {
-        self.truncate(count);
+    fn truncate(&mut self, count: usize) {
+        Vec::truncate(self, count);
     }
 }
 
@@ -60,7 +60,7 @@ impl<'a, T: Copy> Room<T> for Lent<'a, T> {
     }
 
     #[inline(always)]
-    fn cut(&mut self, count: usize) {
+    fn truncate(&mut self, count: usize) {
         self.at = count;
     }
 }

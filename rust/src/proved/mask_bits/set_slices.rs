@@ -6,9 +6,7 @@ use crate::kit::prelude::*;
 use crate::proved::mask_bits::buffer::BitBuffer;
 use crate::proved::mask_bits::chunks::BitChunks;
 use crate::proved::mask_bits::run_words::{Edges, Open, bits_before, edges_in, pop};
-
-// What is open where no run is.
-const OUTSIDE: Open = Open { inside: false, start: 0 };
+use crate::proved::mask_bits::scan::{first_word, next_word};
 
 impl BitBuffer {
     /// The runs (maximal ranges) of true values, ascending, each by its first index and the index past its
@@ -47,7 +45,7 @@ impl BitBuffer {
     fn runs_any(&self) -> Result<Vec<(usize, usize)>, AllocError> {
         let chunks = self.chunks();
         let mut ranges = Vec::new();
-        let mut begun = OUTSIDE;
+        let mut begun = Open { inside: false, start: 0 };
         // the whole words apart, so that none is tested for being the last
         for i in 0..chunks.len() {
             begun = push_runs(&mut ranges, begun, 64 * i, chunks.word_proved(i))?;
@@ -121,17 +119,9 @@ fn push_first(ranges: &mut Vec<(usize, usize)>, base: usize, edges: Edges) -> Ed
 /// The runs (maximal ranges) of a buffer's true values, ascending.
 pub struct SetSlices<'a> {
     chunks: BitChunks<'a>,
-    at: AtWord,
-}
-
-// The edges that are left of a word whose first index is `base`, what is open behind it, and the number of
-// the word that comes next.
-#[derive(Clone, Copy)]
-struct AtWord {
-    base: usize,
-    edges: Edges,
-    behind: Open,
-    next: usize,
+    // the word at hand, and its bits that are in no range yet
+    at: usize,
+    word: u64,
 }
 
 impl<'a> SetSlices<'a> {
@@ -144,13 +134,8 @@ impl<'a> SetSlices<'a> {
     #[doc(hidden)]
     #[inline(always)]
     pub fn new(chunks: BitChunks<'a>) -> SetSlices<'a> {
-        let at = AtWord {
-            base: 0,
-            edges: Edges { first: 0, starts: 0, ends: 0 },
-            behind: OUTSIDE,
-            next: 0,
-        };
-        SetSlices { chunks, at }
+        let word = first_word(&chunks);
+        SetSlices { chunks, at: 0, word }
     }
 }
 
@@ -159,69 +144,30 @@ impl Iterator for SetSlices<'_> {
 
     #[inline(always)]
     fn next(&mut self) -> Option<(usize, usize)> {
-        if self.at.edges.ends == 0 {
-            self.at = next_ends(&self.chunks, self.at.behind, self.at.next)?;
+        let (at, word) = next_word(&self.chunks, self.at, self.word)?;
+        let start = 64 * at + word.trailing_zeros() as usize;
+        // filled up from below, so that the run begins with the word
+        let (at, word) = past_full_words(&self.chunks, at, word | (word - 1));
+        let end = 64 * at + word.trailing_ones() as usize;
+        self.at = at;
+        self.word = word & (word + 1);
+        Some((start, end))
+    }
+}
+
+// From word `at` on, of which `word` is left: the first word that isn't full. Behind the whole words it is the
+// values after them, with zeros above.
+#[inline(always)]
+fn past_full_words(chunks: &BitChunks<'_>, at: usize, word: u64) -> (usize, u64) {
+    if word != u64::MAX {
+        return (at, word);
+    }
+    let whole = chunks.len();
+    for i in at + 1..whole {
+        let next = chunks.word_proved(i);
+        if next != u64::MAX {
+            return (i, next);
         }
-        let (run, left) = pop(self.at.base, self.at.edges);
-        self.at.edges = left;
-        Some(run)
-    }
-}
-
-// The first word from word `next` on that ends a run. Inside a run and outside words are passed by a loop
-// each, since long runs and long gaps then take turns that are guessed right.
-#[inline(always)]
-fn next_ends(chunks: &BitChunks<'_>, begun: Open, next: usize) -> Option<AtWord> {
-    if begun.inside {
-        return Some(next_end(chunks, begun.start, next));
-    }
-    let (i, word) = next_edge(chunks, false, next);
-    if word == 0 {
-        return None;
-    }
-    let at = at_word(OUTSIDE, i, word);
-    if at.edges.ends != 0 {
-        return Some(at);
-    }
-    Some(next_end(chunks, at.behind.start, at.next))
-}
-
-// Inside a run that begins at `start`: the first word from word `next` on that ends it.
-#[inline(always)]
-fn next_end(chunks: &BitChunks<'_>, start: usize, next: usize) -> AtWord {
-    let (i, word) = next_edge(chunks, true, next);
-    let begun = Open { inside: true, start };
-    at_word(begun, i, word)
-}
-
-// The first word from word `next` on that has an edge, and its number; where there is none, the zeros behind
-// the last value.
-#[inline(always)]
-fn next_edge(chunks: &BitChunks<'_>, inside: bool, next: usize) -> (usize, u64) {
-    let same = word_without_edges(inside);
-    let whole = chunks.values_len() / 64;
-    for i in next..whole {
-        let word = chunks.word_proved(i);
-        if word != same {
-            return (i, word);
-        }
-    }
-    if next > whole {
-        return (whole, 0);
     }
     (whole, chunks.remainder_bits())
-}
-
-// The word whose bits are all set or all not.
-#[inline(always)]
-fn word_without_edges(inside: bool) -> u64 {
-    if inside { u64::MAX } else { 0 }
-}
-
-// The edges of word `i`, behind a run that is open where `begun.inside`.
-#[inline(always)]
-fn at_word(begun: Open, i: usize, word: u64) -> AtWord {
-    let base = 64 * i;
-    let (edges, behind) = edges_in(begun, base, word, bits_before(begun.inside, word));
-    AtWord { base, edges, behind, next: i + 1 }
 }

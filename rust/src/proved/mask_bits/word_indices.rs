@@ -34,5 +34,5 @@ fn push_by_bytes<R: Room<usize>>(indices: &mut R, base: usize, word: u64) {
 fn push_byte<R: Room<usize>>(indices: &mut R, base: usize, byte: u8) {
     let before = indices.count();
     push_eight(indices, &indices_of_byte(base, byte));
-    indices.cut(before + byte.count_ones() as usize);
+    indices.truncate(before + byte.count_ones() as usize);
 }

@@ -9,13 +9,13 @@ use Rattle.mask_bits.proofs.Lists.CountLemmas.{positions-all_false}
 -- ---- one step over lists
 
 -- two lists that agree from a place on have one rest from there
-drop-same : (m n : List Bool) (k : ℕ) → length n ≡ length m → ((i : ℕ) → k ≤ i → get_or n i false ≡ get_or m i false) → drop k n ≡ drop k m
+pub drop-same : (m n : List Bool) (k : ℕ) → length n ≡ length m → ((i : ℕ) → k ≤ i → get_or n i false ≡ get_or m i false) → drop k n ≡ drop k m
 drop-same m n k len same =
     ext_get_or false (drop k n) (drop k m) (omega (arith, length-drop k m, length-drop k n)) (λ i h.
     get_or-drop k n i false ∙ same (k + i) (omega arith) ∙ sym (get_or-drop k m i false))
 
 -- what passes over false values passes over those in front of a place
-skip-front : {X : Type 0} (F : ℕ → List Bool → X) → ((i : ℕ) (xs : List Bool) → F i (false ∷ xs) ≡ F (i + 1) xs) → (n : List Bool) (k : ℕ) → k ≤ length n → ((i : ℕ) → i < k → get_or n i false ≡ false) → F 0 n ≡ F k (drop k n)
+pub skip-front : {X : Type 0} (F : ℕ → List Bool → X) → ((i : ℕ) (xs : List Bool) → F i (false ∷ xs) ≡ F (i + 1) xs) → (n : List Bool) (k : ℕ) → k ≤ length n → ((i : ℕ) → i < k → get_or n i false ≡ false) → F 0 n ≡ F k (drop k n)
 skip-front F pass n k within clear =
     let place : 0 + k ≡ k = omega arith in
     skip F pass n 0 k (omega arith) (λ i _ h. clear i (omega arith)) ∙ ap (λ i. F i (drop i n)) place
@@ -66,13 +66,13 @@ left_of-clear m i w p within from to clear = grind (arith, left_of-here, left_of
 pub bit-padded : (m : List Bool) (i w j : ℕ) → word_bits w ≡ padded_part m i → j < 64 → nat_eq (bit_at w j) 1 ≡ get_or m (64 * i + j) false
 bit-padded m i w j read h = grind (arith, get_or-word_bits, get_or-padded_part)
 
-pub IsLeft-read : (m : List Bool) (i w : ℕ) → w < 2 ^ 64 → word_bits w ≡ padded_part m i → i < started_words (length m) → IsLeft m i w
-IsLeft-read m i w fits read started =
-    record { word = fits; within = omega arith; ends = λ j few past. grind (arith, bit_at-lt w j, bit-padded m i w j read few, get_or_past) }
+pub IsLeft-read : (m : List Bool) (i w : ℕ) → w < 2 ^ 64 → word_bits w ≡ padded_part m i → 64 * i ≤ length m → IsLeft m i w
+IsLeft-read m i w fits read within =
+    record { word = fits; within = within; ends = λ j few past. grind (arith, bit_at-lt w j, bit-padded m i w j read few, get_or_past) }
 
 -- where word i is read, nothing of it is passed
-left_of-read : (m : List Bool) (i w p : ℕ) → word_bits w ≡ padded_part m i → i < started_words (length m) → 64 * i ≤ p → get_or (left_of m i w) p false ≡ get_or m p false
-left_of-read m i w p read started from = grind (arith, left_of-past, left_of-outside, left_of-here, bit-padded m i w (p - 64 * i) read, get_or_past)
+pub left_of-read : (m : List Bool) (i w p : ℕ) → word_bits w ≡ padded_part m i → 64 * i ≤ length m → 64 * i ≤ p → get_or (left_of m i w) p false ≡ get_or m p false
+left_of-read m i w p read within from = grind (arith, left_of-past, left_of-outside, left_of-here, bit-padded m i w (p - 64 * i) read, get_or_past)
 
 -- the first word, and no word of the empty list
 pub left_of-first : (m : List Bool) (w : ℕ) → word_bits w ≡ padded_part m 0 → 0 < length m → left_of m 0 w ≡ m
@@ -106,15 +106,15 @@ pub low-inside : (m : List Bool) (i w : ℕ) → 0 < w → w < 2 ^ 64 → IsLeft
 low-inside m i w some fits left = grind (arith, low-set w some fits, left.ends (low w), low-within w some fits)
 
 -- before it nothing is left
-left_of-below_low : (m : List Bool) (i w p : ℕ) → 0 < w → w < 2 ^ 64 → 64 * i ≤ length m → p < 64 * i + low w → get_or (left_of m i w) p false ≡ false
+pub left_of-below_low : (m : List Bool) (i w p : ℕ) → 0 < w → w < 2 ^ 64 → 64 * i ≤ length m → p < 64 * i + low w → get_or (left_of m i w) p false ≡ false
 left_of-below_low m i w p some fits within h = grind (arith, left_of-before, left_of-clear, low-within, low-first)
 
 -- it is true
-left_of-at : (m : List Bool) (i w p j : ℕ) → p ≡ 64 * i + j → j < 64 → p < length m → bit_at w j ≡ 1 → get_or (left_of m i w) p false ≡ true
+pub left_of-at : (m : List Bool) (i w p j : ℕ) → p ≡ 64 * i + j → j < 64 → p < length m → bit_at w j ≡ 1 → get_or (left_of m i w) p false ≡ true
 left_of-at m i w p j place few inside set = grind (arith, left_of-here)
 
 -- two words that have the same bits there
-left_of-same : (m : List Bool) (i w v p : ℕ) → 64 * i ≤ length m → 64 * i ≤ p → ((j : ℕ) → j < 64 → p ≡ 64 * i + j → bit_at v j ≡ bit_at w j) → get_or (left_of m i v) p false ≡ get_or (left_of m i w) p false
+pub left_of-same : (m : List Bool) (i w v p : ℕ) → 64 * i ≤ length m → 64 * i ≤ p → ((j : ℕ) → j < 64 → p ≡ 64 * i + j → bit_at v j ≡ bit_at w j) → get_or (left_of m i v) p false ≡ get_or (left_of m i w) p false
 left_of-same m i w v p within from same = grind (arith, left_of-past, left_of-outside, left_of-here)
 
 pub IsLeft-cleared : (m : List Bool) (i w : ℕ) → 0 < w → w < 2 ^ 64 → IsLeft m i w → IsLeft m i (bit_and w (w - 1))

@@ -1,5 +1,5 @@
 use Rattle.mask_bits.proofs.Common.{◌≡◌, ℕ, ◌*◌, ◌/◌, length, ap, ◌∙◌, sym, arith, take_rest}
-use Rattle.mask_bits.proofs.Lists.PushRowsLemmas.{chosen_counted, chosen_of_none, rest_counted, rest_within, rest_pushed}
+use Rattle.mask_bits.proofs.Lists.PushRowsLemmas.{chosen_of_none, rest_room, rest_within, rest_pushed}
 use Rattle.mask_bits.proofs.push_rows.choose_rows.Goals as goal
 
 pub push_whole_words-requires-clause-begun : goal.push_whole_words-requires-clause-begun
@@ -15,7 +15,7 @@ push_rows_one_by_one-requires-clause-room g c =
     let n : ℕ = 64 * c.len-whole.result in
     let whole : n ≡ 64 * (length m / 64) = ap (λ k. 64 * k) c.len-whole.ensures in
     let before = c.push_whole_words-2.ensures in
-    omega (arith, ap length before.rows, chosen_counted c.args.rows.now m n c.requires.fitting, ap g.R.Room.capacity (before.kept ∙ c.push_whole_words.ensures.kept), rest_counted m n c.remainder_bits.result whole c.remainder_bits.ensures, c.requires.room)
+    omega (arith, ap g.R.Room.capacity (before.kept ∙ c.push_whole_words.ensures.kept), rest_room c.args.rows.now _ m n c.remainder_bits.result _ c.requires.fitting whole c.remainder_bits.ensures before.rows c.requires.room)
 
 pub returns-clause-rows : goal.returns-clause-rows
 returns-clause-rows g c =

@@ -1,7 +1,5 @@
-use Rattle.mask_bits.proofs.Common.{◌≡◌, ◌+◌, ℕ, ◌*◌, ◌/◌, length, take, chosen, ap, ◌∙◌, refl, sym, arith, count, take_rest}
-use Rattle.mask_bits.proofs.Lists.Places.SelectLemmas.{count-part_further}
-use Rattle.mask_bits.proofs.Lists.CountLemmas.{count_below-le}
-use Rattle.mask_bits.proofs.Lists.PushRowsLemmas.{chosen_counted, chosen_of_none, rest_counted, rest_within, rest_pushed, word_pushed}
+use Rattle.mask_bits.proofs.Common.{◌≡◌, ℕ, ◌*◌, ◌/◌, length, take, chosen, ap, ◌∙◌, refl, sym, arith, take_rest}
+use Rattle.mask_bits.proofs.Lists.PushRowsLemmas.{chosen_of_none, word_room, rest_room, rest_within, rest_pushed, word_pushed}
 use Rattle.mask_bits.proofs.push_rows.choose_small_rows.Goals as goal
 
 pub loop-i-init : goal.loop-i-init
@@ -9,9 +7,7 @@ loop-i-init g c = record { items = c.requires.empty ∙ sym chosen_of_none; kept
 
 pub push_small_rows-requires-clause-room : goal.push_small_rows-requires-clause-room
 push_small_rows-requires-clause-room g c =
-    let m = c.args.chunks.now in
-    let i = c.loop-i.i in
-    omega (arith, ap length c.loop-i.invariant.items, chosen_counted c.args.rows.now m (64 * i) c.requires.fitting, ap g.R.Room.capacity c.loop-i.invariant.kept, ap count c.word.ensures, count-part_further m (64 * i) 64, count_below-le m (64 * i + 64), c.requires.room)
+    omega (arith, ap g.R.Room.capacity c.loop-i.invariant.kept, word_room c.args.rows.now _ c.args.chunks.now c.loop-i.i c.word.result _ c.requires.fitting c.word.ensures c.loop-i.invariant.items c.requires.room)
 
 pub loop-i-preserved : goal.loop-i-preserved
 loop-i-preserved g c =
@@ -35,7 +31,7 @@ push_rows_one_by_one-requires-clause-room g c =
     let whole : n ≡ 64 * (length m / 64) = ap (λ k. 64 * k) c.len-words.ensures in
     let all : c.loop-i.i ≡ c.len-words.result = omega (arith, c.loop-i.auto.i-end, c.loop-i-test.false) in
     let before = c.loop-i.invariant.items ∙ ap (λ k. chosen (take (64 * k) rows) (take (64 * k) m)) all in
-    omega (arith, ap length before, chosen_counted rows m n c.requires.fitting, ap g.R.Room.capacity c.loop-i.invariant.kept, rest_counted m n c.remainder_bits.result whole c.remainder_bits.ensures, c.requires.room)
+    omega (arith, ap g.R.Room.capacity c.loop-i.invariant.kept, rest_room rows _ m n c.remainder_bits.result _ c.requires.fitting whole c.remainder_bits.ensures before c.requires.room)
 
 pub returns-clause-rows : goal.returns-clause-rows
 returns-clause-rows g c =

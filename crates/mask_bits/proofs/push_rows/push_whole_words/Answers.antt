@@ -1,14 +1,10 @@
-use Rattle.mask_bits.proofs.Common.{◌+◌, ◌*◌, length, ap, ◌∙◌, arith, count}
-use Rattle.mask_bits.proofs.Lists.Places.SelectLemmas.{count-part_further}
-use Rattle.mask_bits.proofs.Lists.CountLemmas.{count_below-le}
-use Rattle.mask_bits.proofs.Lists.PushRowsLemmas.{chosen_counted, word_pushed}
+use Rattle.mask_bits.proofs.Common.{ap, ◌∙◌, arith}
+use Rattle.mask_bits.proofs.Lists.PushRowsLemmas.{word_room, word_pushed}
 use Rattle.mask_bits.proofs.push_rows.push_whole_words.Goals as goal
 
 pub push_rows_of_word-requires-clause-room : goal.push_rows_of_word-requires-clause-room
 push_rows_of_word-requires-clause-room g c =
-    let m = c.args.chunks.now in
-    let i = c.loop-i.i in
-    omega (arith, ap length c.loop-i.invariant.items, chosen_counted c.args.rows.now m (64 * i) c.requires.fitting, ap g.R.Room.capacity c.loop-i.invariant.kept, ap count c.word.ensures, count-part_further m (64 * i) 64, count_below-le m (64 * i + 64), c.requires.room)
+    omega (arith, ap g.R.Room.capacity c.loop-i.invariant.kept, word_room c.args.rows.now _ c.args.chunks.now c.loop-i.i c.word.result _ c.requires.fitting c.word.ensures c.loop-i.invariant.items c.requires.room)
 
 pub loop-i-preserved : goal.loop-i-preserved
 loop-i-preserved g c =

@@ -1,5 +1,5 @@
 use Rattle.mask_bits.proofs.Common.{List, ℕ, ◌/◌, ◌%◌, ◌^◌, ◌+◌, ◌-◌, nat_eq, ap, sym, arith, ◌∙◌, ◌++◌, leading_ones, runs_behind, runs_between, w64}
-use Rattle.mask_bits.proofs.RunWordLemmas.{behind-word, word-ends, word-begun}
+use Rattle.mask_bits.proofs.RunWordLemmas.{behind-word}
 use Rattle.mask_bits.proofs.run_words.edges_in.Goals as goal
 
 pub returns-clause-runs : goal.returns-clause-runs
@@ -12,11 +12,3 @@ returns-clause-runs c rest =
     ap (λ k. runs_between a.base e.first e.starts e.ends ++ behind_ones k) c.leading_ones.ensures
     ∙ ap (λ (rs : List (ℕ × ℕ)). rs ++ behind) c.edges_of-edges.ensures.runs
     ∙ behind-word a.begun.inside a.begun.start a.base a.word a.before rest is.fits c.ranges.word.fits c.ranges.before.fits is.bits is.some
-
-pub returns-clause-ended : goal.returns-clause-ended
-returns-clause-ended c is =
-    omega (arith, c.edges_of-edges.ensures.ends, word-ends c.args.begun.inside c.args.word c.args.before c.ranges.word.fits c.requires.bits c.requires.some is)
-
-pub returns-clause-begun : goal.returns-clause-begun
-returns-clause-begun c none some =
-    word-begun c.args.begun.inside c.args.word c.args.before c.ranges.word.fits c.requires.bits (sym c.edges_of-edges.ensures.ends ∙ none) some

@@ -11,4 +11,4 @@ returns-clause-items g c =
     let all = g.R.Room.items a.out.now ++ here in
     let end : length all ≡ c.count.result + count_ones a.word = omega (arith, length-append (g.R.Room.items a.out.now) here, length-items_of_word at a.word c.ranges.word.fits c.requires.each, c.count.ensures.count) in
     let enough : length all ≤ length (g.R.Room.items l.out) = omega (arith, end) in
-    c.cut.ensures.items ∙ ap (λ n. take n (g.R.Room.items l.out)) (sym end) ∙ ArePushed-all all (g.R.Room.items l.out) _ enough l.invariant.pushed
+    c.truncate.ensures.items ∙ ap (λ n. take n (g.R.Room.items l.out)) (sym end) ∙ ArePushed-all all (g.R.Room.items l.out) _ enough l.invariant.pushed

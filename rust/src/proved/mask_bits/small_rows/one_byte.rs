@@ -14,7 +14,7 @@ impl MoveRows<u8> for ByTable {
     fn push_byte<R: Room<u8>>(out: &mut R, rows: &[u8], byte: u8) {
         let before = out.count();
         push_eight(out, &rows_of_byte(rows, byte));
-        out.cut(before + byte.count_ones() as usize);
+        out.truncate(before + byte.count_ones() as usize);
     }
 }
 

@@ -77,8 +77,8 @@ fn merge(list: &mut [usize], other: &[usize]) -> usize {
     first + last
 }
 
-// Merges the parts of two lists before a place of each, and those from there on, each in its part of the first list, and
-// tells how many indices each two have in common.
+// Merges the parts of two lists before a place of each, and those from there on, each in its part of the first list,
+// and tells how many indices each two have in common.
 #[inline]
 fn merge_parts(list: &mut [usize], other: &[usize], at: usize, place: usize) -> (usize, usize) {
     let (first, last) = list.split_at_mut(at);

@@ -55,7 +55,7 @@ impl Mask {
         Mask::concat_held(&masks)
     }
 
-    // The same of masks that are listed.
+    // The same of masks that are listed. They are lent, and so listed once more, as joining is of lent ones alone.
     #[inline]
     fn concat_held(masks: &[Mask]) -> Result<Mask, MaskError> {
         Mask::concat(masks.iter())

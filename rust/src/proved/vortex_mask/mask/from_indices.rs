@@ -45,8 +45,8 @@ impl Mask {
     }
 }
 
-/// What [`Mask::from_indices`] refuses these indices by, if it does: order over the whole list first, then repeats, then
-/// bounds.
+/// What [`Mask::from_indices`] refuses these indices by, if it does: order over the whole list first, then repeats,
+/// then bounds.
 ///
 /// # Proved ([terms](crate::definitions))
 ///
