@@ -1,7 +1,7 @@
 -- Walks over the runs of a list by its words.
-use Rattle.mask_bits.proofs.Common.{◌≡◌, ◌≢◌, ℕ, ◌+◌, ◌*◌, ◌-◌, ◌^◌, ◌<◌, ◌≤◌, Bool, true, false, List, ◌∷◌, length, get_or, drop, refl, sym, ap, ◌∙◌, arith, bit_at, bit_and, bit_or, bit_at_ones, and_le_l, IsFirstFrom, runs_from, left_of, IsLeft, PassesTrue, word_bits, padded_part, true≢false, or_lt}
+use Rattle.mask_bits.proofs.Common.{◌≡◌, ◌≢◌, ℕ, ◌+◌, ◌*◌, ◌-◌, ◌^◌, ◌<◌, ◌≤◌, Bool, true, false, List, ◌∷◌, length, get_or, refl, sym, ap, ◌∙◌, arith, bit_at, bit_and, bit_or, bit_at_ones, and_le_l, IsFirstFrom, runs_from, left_of, IsLeft, PassesTrue, word_bits, padded_part, true≢false, or_lt}
 use Rattle.mask_bits.proofs.Lists.Places.ScanLemmas.{runs_from-first}
-use Rattle.mask_bits.proofs.Lists.Words.LowestLemmas.{low, low-within, low-set, low-first, bit_at-filled, bit_at-filled_others, ones, ones-few, ones-within, ones-set, ones-end, bit_at-ones_cleared, bit_at-ones_others}
+use Rattle.mask_bits.proofs.Lists.Words.LowestLemmas.{low, low-within, bit_at-filled, bit_at-filled_others, ones, ones-few, ones-within, ones-set, ones-end, bit_at-ones_cleared, bit_at-ones_others}
 use Rattle.mask_bits.proofs.Lists.Words.WalkLemmas.{drop-same, skip-front, runs_from-repeated_false, length-left_of, left_of-before, left_of-clear, left_of-past, left_of-read, left_of-at, left_of-same, left_of-below_low, low-inside, IsLeft-read}
 
 -- the first run, and the runs of the list without it
@@ -20,11 +20,11 @@ runs-step m n start stop some within len passed holds ends cleared same =
 -- ---- words of which values are left
 
 -- a word filled up to its lowest set bit
-pub IsLeft-filled : (m : List Bool) (i w : ℕ) → 0 < w → w < 2 ^ 64 → IsLeft m i w → IsLeft m i (bit_or w (w - 1))
-IsLeft-filled m i w some fits left = record {
-  word = or_lt 64 w (w - 1) fits (omega arith);
+pub IsLeft-filled : (m : List Bool) (i w : ℕ) → 0 < w → IsLeft m i w → IsLeft m i (bit_or w (w - 1))
+IsLeft-filled m i w some left = record {
+  word = or_lt 64 w (w - 1) left.word (omega (arith, left.word));
   within = left.within;
-  ends = λ j few past. bit_at-filled_others w j some fits (omega (arith, low-inside m i w some fits left)) ∙ left.ends j few past;
+  ends = λ j few past. bit_at-filled_others w j some left.word (omega (arith, low-inside m i w some left.word left)) ∙ left.ends j few past;
 }
 
 -- a full word lies within the list
@@ -47,16 +47,16 @@ PassesTrue-more m i w j v u fits is_full read so_far =
     }
 
 -- the ones at the low end of what is left lie within the list
-pub ones-inside : (m : List Bool) (i w : ℕ) → w < 2 ^ 64 → IsLeft m i w → 64 * i + ones w ≤ length m
-ones-inside m i w fits left =
+pub ones-inside : (m : List Bool) (i w : ℕ) → IsLeft m i w → 64 * i + ones w ≤ length m
+ones-inside m i w left =
     let j : ℕ = length m - 64 * i in
-    grind (arith, left.within, ones-within w fits, ones-set w j fits, left.ends j)
+    grind (arith, left.within, ones-within w left.word, ones-set w j left.word, left.ends j)
 
-pub IsLeft-ones_cleared : (m : List Bool) (i w : ℕ) → w < 2 ^ 64 → IsLeft m i w → IsLeft m i (bit_and w (w + 1))
-IsLeft-ones_cleared m i w fits left = record {
-  word = omega (arith, and_le_l w (w + 1));
+pub IsLeft-ones_cleared : (m : List Bool) (i w : ℕ) → IsLeft m i w → IsLeft m i (bit_and w (w + 1))
+IsLeft-ones_cleared m i w left = record {
+  word = omega (arith, left.word, and_le_l w (w + 1));
   within = left.within;
-  ends = λ j few past. grind (arith, bit_at-ones_others w j fits few, ones-inside m i w fits left, left.ends j few past);
+  ends = λ j few past. grind (arith, bit_at-ones_others w j left.word few, ones-inside m i w left, left.ends j few past);
 }
 
 -- from its lowest set bit on, a word filled up to that is the word
@@ -66,7 +66,7 @@ left_of-filled m i w p some fits within h = grind (arith, left_of-same, bit_at-f
 -- all is true up to the end of the ones that the walk came to
 run_true : (m : List Bool) (i f j v p : ℕ) → v < 2 ^ 64 → PassesTrue m i f j v → 64 * i ≤ p → p < 64 * j + ones v → get_or (left_of m i f) p false ≡ true
 run_true m i f j v p v_fits passes from to =
-    grind (arith, passes.full p from, passes.rest p, left_of-at m j v p (p - 64 * j), ones-within v v_fits, ones-inside m j v v_fits passes.is, ones-set v (p - 64 * j) v_fits)
+    grind (arith, passes.full p from, passes.rest p, left_of-at m j v p (p - 64 * j), ones-within v v_fits, ones-inside m j v passes.is, ones-set v (p - 64 * j) v_fits)
 
 -- the lowest set bit of a word is in front of the end of its run
 runs-start_below_stop : (m : List Bool) (i w j v : ℕ) → 0 < w → w < 2 ^ 64 → v < 2 ^ 64 → IsLeft m i w → PassesTrue m i (bit_or w (w - 1)) j v → v ≢ 2 ^ 64 - 1 → 64 * i + low w < 64 * j + ones v
@@ -86,7 +86,7 @@ runs-lowest m i w j v some fits v_fits left passes some_end =
     let within = left.within in
     let len = length-left_of m i w within in
     let few = ones-few v v_fits some_end in
-    let stop_inside = ones-inside m j v v_fits passes.is in
+    let stop_inside = ones-inside m j v passes.is in
     let some_run = runs-start_below_stop m i w j v some fits v_fits left passes some_end in
     let same = λ (p : ℕ). left_of-filled m i w p some fits within in
     runs-step (left_of m i w) (left_of m j u) (64 * i + low w) (64 * j + ones v) some_run (omega (arith, len, stop_inside))

@@ -1,5 +1,5 @@
 -- Runs from an index on, one after another, as many as there is room for.
-use Rattle.mask_c.proofs.Common.{◌≡◌, ℕ, suc, ◌+◌, ◌<◌, Bool, List, [], ◌∷◌, ◌++◌, append_assoc, length, set, take, map, sym, ap, ◌∙◌, add-zero, arith, take-suc-set, length-map, map-append, runs_from, runs_from-moved, RowMaskRun}
+use Rattle.mask_c.proofs.Common.{◌≡◌, ℕ, suc, ◌+◌, ◌<◌, ◌≤◌, All, All-head, subst, Bool, List, [], ◌∷◌, ◌++◌, append_assoc, length, set, take, map, sym, ap, ◌∙◌, add-zero, arith, take-suc-set, length-map, map-append, runs_from, runs_from-moved, RowMaskRun}
 
 -- a run as a pair
 abbrev pub pair : RowMaskRun → ℕ × ℕ
@@ -28,3 +28,8 @@ moved_runs from m = sym (runs_from-moved from 0 m) ∙ ap (λ n. runs_from n m) 
 
 pub length_moved : (from : ℕ) (m : List Bool) → length (runs_from 0 m) ≡ length (runs_from from m)
 length_moved from m = sym (length-map (runs_from 0 m) (moved from)) ∙ ap length (moved_runs from m)
+
+-- the first of runs that lie within n values
+pub first_run : (rs rest : List (ℕ × ℕ)) (r : ℕ × ℕ) (n : ℕ) → rs ≡ r ∷ rest → All (λ (r : ℕ × ℕ). r.0 < r.1) rs → All (λ (r : ℕ × ℕ). r.1 ≤ n) rs → (r.0 < r.1) × (r.1 ≤ n)
+first_run rs rest r n is nonempty within =
+    (All-head (λ (r : ℕ × ℕ). r.0 < r.1) r rest (subst (All (λ (r : ℕ × ℕ). r.0 < r.1)) is nonempty), All-head (λ (r : ℕ × ℕ). r.1 ≤ n) r rest (subst (All (λ (r : ℕ × ℕ). r.1 ≤ n)) is within))

@@ -1,4 +1,4 @@
-use Rattle.mask_bits.proofs.Common.{List, ℕ, ◌/◌, ◌%◌, ◌^◌, ◌+◌, ◌-◌, nat_eq, ap, sym, arith, ◌∙◌, ◌++◌, leading_ones, runs_behind, runs_between, w64}
+use Rattle.mask_bits.proofs.Common.{List, ℕ, ◌/◌, ◌%◌, ◌^◌, ◌+◌, ◌-◌, nat_eq, ap, ◌∙◌, ◌++◌, leading_ones, runs_behind, runs_between, w64}
 use Rattle.mask_bits.proofs.RunWordLemmas.{behind-word}
 use Rattle.mask_bits.proofs.run_words.edges_in.Goals as goal
 

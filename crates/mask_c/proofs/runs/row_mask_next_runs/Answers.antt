@@ -1,7 +1,7 @@
 use Rattle.mask_c.proofs.Common.{◌≡◌, ◌<◌, ◌≤◌, ◌+◌, ◌-◌, ◌++◌, ◌∷◌, ℕ, Bool, List, length, map, take, subst, sym, ap, ◌∙◌, arith, All, length-set, All-tail, drop_of_length-le, refl, runs_from, length-bitmap}
 use Rattle.mask_c.proofs.ChooseLemmas.{behind-more}
 use Rattle.mask_c.proofs.IndexLemmas.{bitmap-rest}
-use Rattle.mask_c.proofs.RunLemmas.{moved, pair, run_of, run_more, moved_runs, length_moved}
+use Rattle.mask_c.proofs.RunLemmas.{first_run, moved, pair, run_of, run_more, moved_runs, length_moved}
 use Rattle.mask_c.proofs.runs.row_mask_next_runs.Goals as goal
 
 pub returns-then-from-len-clause-runs : goal.returns-then-from-len-clause-runs
@@ -24,6 +24,14 @@ loop-at-init c =
       room = omega arith;
       behind = refl;
     }
+
+pub overflow_add-out : goal.overflow_add-out
+overflow_add-out c =
+    omega (arith, first_run c.loop-at.runs c.next.new.self (c.in-Some.start, c.in-Some.end) (c.args.len - c.args.from) c.in-Some.ensures.steps c.loop-at.invariant.nonempty c.loop-at.invariant.within)
+
+pub overflow_add-out-in-loop-at : goal.overflow_add-out-in-loop-at
+overflow_add-out-in-loop-at c =
+    omega (arith, first_run c.loop-at.runs c.next.new.self (c.in-Some.start, c.in-Some.end) (c.args.len - c.args.from) c.in-Some.ensures.steps c.loop-at.invariant.nonempty c.loop-at.invariant.within)
 
 pub loop-at-preserved : goal.loop-at-preserved
 loop-at-preserved c =

@@ -4,17 +4,14 @@ use Rattle.mask_bits.proofs.set_slices.SetSlicesIterator.next.Goals as goal
 
 pub past_full_words-at-requires : goal.past_full_words-at-requires
 past_full_words-at-requires c =
-    let left = c.in_ok-at.ensures.is_left in
-    IsLeft-filled c.self.inside.chunks c.in_ok-at.at c.in_ok-at.word (omega (arith, c.in_ok-at.ensures.found)) left.word left
+    IsLeft-filled c.self.inside.chunks c.in_ok-at.at c.in_ok-at.word (omega (arith, c.in_ok-at.ensures.found)) c.in_ok-at.ensures.is_left
 
 pub overflow_add-end : goal.overflow_add-end
 overflow_add-end c =
     let last = c.past_full_words-at.result in
-    let left = c.past_full_words-at.ensures.full.is in
-    omega (arith, c.self.invariant.1, c.trailing_ones.ensures, ones-inside c.self.inside.chunks last.0 last.1 left.word left)
+    omega (arith, c.self.invariant.1, c.trailing_ones.ensures, ones-inside c.self.inside.chunks last.0 last.1 c.past_full_words-at.ensures.full.is)
 
 pub invariant_of-self : goal.invariant_of-self
 invariant_of-self c =
     let last = c.past_full_words-at.result in
-    let left = c.past_full_words-at.ensures.full.is in
-    (IsLeft-ones_cleared c.self.inside.chunks last.0 last.1 left.word left, c.self.invariant.1)
+    (IsLeft-ones_cleared c.self.inside.chunks last.0 last.1 c.past_full_words-at.ensures.full.is, c.self.invariant.1)
