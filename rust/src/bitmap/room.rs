@@ -69,8 +69,7 @@ impl sealed::Room for [u8] {
     }
 }
 
-/// Room for just what is written, which is made then. (Before that there is none, not an empty bitmap, whose drop would
-/// keep the bitmap in memory.)
+/// Room for just what is written, which is made then. (An empty bitmap before that would keep it in memory, to drop it.)
 pub(crate) struct New(Option<BitmapBuf>);
 
 impl Room for New {}

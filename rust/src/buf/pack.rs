@@ -1,4 +1,5 @@
 //! Truth values that are packed.
+#![expect(clippy::inline_always, reason = "a copy is compiled for what the function around it has")]
 
 use crate::kit::{by_level, words::put_lowest};
 use crate::prelude::*;
@@ -7,8 +8,7 @@ use crate::proved::mask_bits::from_rows::{word_of_rows, word_of_whole};
 // Bytes that are asked for ahead by a number that nothing has borne out yet, such as an iterator's hint.
 pub(super) const AHEAD: usize = 1 << 20;
 
-// Values that are asked for before they are packed: a multiple of 64, in the nearest memory. To write them as bytes
-// takes 1.2 of the time.
+// Values that are asked for before they are packed: a multiple of 64. To write them as bytes takes 1.2 of the time.
 const BLOCK: usize = 1024;
 type Block = [MaybeUninit<u16>; BLOCK];
 
@@ -48,7 +48,6 @@ fn pack_words_v3(values: &[u16], out: &mut [u8]) {
     pack_words(values, out);
 }
 
-#[expect(clippy::inline_always, reason = "a copy is compiled for what the function around it has")]
 #[inline(always)]
 fn pack_words(values: &[u16], out: &mut [u8]) {
     for (out, values) in out.chunks_mut(8).zip(values.as_chunks::<64>().0) {
@@ -58,47 +57,23 @@ fn pack_words(values: &[u16], out: &mut [u8]) {
 
 /// Writes each byte of what is asked of rows, to just the bytes that they take.
 pub(super) fn pack_rows<T>(rows: &[T], mut is_true: impl FnMut(&T) -> bool, out: &mut [u8]) {
-    by_level!(
-        pack_rows_v3(rows, &mut is_true, out),
-        pack_rows_any::<T, _, { cfg!(target_feature = "avx2") }>(rows, &mut is_true, out)
-    );
+    by_level!(pack_rows_v3(rows, &mut is_true, out), pack_rows_any(rows, &mut is_true, out));
 }
 
 #[cfg(target_arch = "x86_64")]
 #[target_feature(enable = "avx2,bmi1,bmi2,f16c,fma,lzcnt,movbe,popcnt")]
 fn pack_rows_v3<T, F: FnMut(&T) -> bool>(rows: &[T], is_true: &mut F, out: &mut [u8]) {
-    pack_rows_any::<T, F, true>(rows, is_true, out);
+    pack_rows_any(rows, is_true, out);
 }
 
-#[expect(clippy::inline_always, reason = "as above")]
 #[inline(always)]
-fn pack_rows_any<T, F: FnMut(&T) -> bool, const HAS_AVX2: bool>(
-    rows: &[T],
-    is_true: &mut F,
-    out: &mut [u8],
-) {
+fn pack_rows_any<T, F: FnMut(&T) -> bool>(rows: &[T], is_true: &mut F, out: &mut [u8]) {
     let (whole, rest) = rows.as_chunks::<64>();
     let (words, last) = out.split_at_mut(8 * whole.len());
     for (out, rows) in words.as_chunks_mut().0.iter_mut().zip(whole) {
-        let word = match size_of::<T>() {
-            8 if HAS_AVX2 => word_by_bits(rows, is_true),
-            _ => word_of_whole(rows, is_true),
-        };
-        *out = word.to_le_bytes();
+        *out = word_of_whole(rows, is_true).to_le_bytes();
     }
     put_lowest(word_of_rows(rest, is_true), last);
-}
-
-/// What is asked of each of 64 rows of 8 bytes. By hand: with AVX2 a compiler needs 0.6 of the time that it takes of
-/// the proved loop, and without it some times as long.
-#[expect(clippy::inline_always, reason = "as above")]
-#[inline(always)]
-fn word_by_bits<T>(rows: &[T; 64], is_true: &mut impl FnMut(&T) -> bool) -> u64 {
-    let mut word = 0;
-    for (bit, row) in rows.iter().enumerate() {
-        word |= u64::from(is_true(row)) << bit;
-    }
-    word
 }
 
 impl FromIterator<bool> for BitmapBuf {

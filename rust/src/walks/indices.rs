@@ -1,5 +1,5 @@
 use crate::prelude::*;
-use crate::proved::mask_bits::read_word::{Bits, Unaligned, ReadWord};
+use crate::proved::mask_bits::read_word::{Bits, ReadWord, Unaligned};
 
 /// The indices of the true values of a [`Bitmap`], ascending.
 #[derive(Clone)]
