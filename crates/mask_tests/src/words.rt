@@ -58,7 +58,10 @@ fn parsed<T, E: Drop>(parsed: Result<T, E>) -> Result<T, Fault> {
 impl Word for Vec<bool> {
     fn read(words: &mut Words<'_>, word: &str) -> Vec<bool> {
         match word.split_once(":") {
-            Some(("at", rest)) => true_at_indices(words, rest.split_once(":").unwrap_or((rest, "-"))),
+            Some(("at", rest)) => true_at_indices(
+                words,
+                rest.split_once(":").unwrap_or((rest, "-")),
+            ),
             Some((form, rest)) => {
                 let numbers = words.pair(rest, ":", "truth values");
                 repeating(words, form, numbers)
