@@ -69,7 +69,7 @@ impl sealed::Room for [u8] {
     }
 }
 
-/// Room for just what is written, which is made then. (An empty bitmap before that would keep it in memory, to drop it.)
+/// Room for just what is written, made when it is. (An empty bitmap before that would be kept in memory for its drop.)
 pub(crate) struct New(Option<BitmapBuf>);
 
 impl Room for New {}

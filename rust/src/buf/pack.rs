@@ -8,7 +8,7 @@ use crate::proved::mask_bits::from_rows::{word_of_rows, word_of_whole};
 // Bytes that are asked for ahead by a number that nothing has borne out yet, such as an iterator's hint.
 pub(super) const AHEAD: usize = 1 << 20;
 
-// Values that are asked for before they are packed: a multiple of 64. To write them as bytes takes 1.2 of the time.
+// Values asked for before they are packed, in the nearest memory: a multiple of 64. As bytes they take 1.2 of the time.
 const BLOCK: usize = 1024;
 type Block = [MaybeUninit<u16>; BLOCK];
 
