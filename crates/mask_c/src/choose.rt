@@ -142,8 +142,9 @@ fn choose_small<const FEW: usize, M: MoveRows<T>, T: Copy>(
     room.at
 }
 
-// Whether words have eight true values or more on the average, by four of them, or by the first of fewer. Where they
-// have fewer, to count those of each word takes longer than is gained.
+// Whether words have eight true values or more on the average, by the indices within a word that are true in one of
+// four words, or by the first word of fewer. Where they have fewer, to count those of each word takes longer than is
+// gained.
 #[inline]
 fn have_many(bytes: &[u8], offset: usize, len: usize) -> bool
     requires { IsWithinBytes bytes.now offset len }
@@ -154,7 +155,8 @@ fn have_many(bytes: &[u8], offset: usize, len: usize) -> bool
         return whole > 0 && chunks.word(0).count_ones() >= 8;
     }
     let apart = whole / 4;
-    let first = chunks.word(0).count_ones() + chunks.word(apart).count_ones();
-    let last = chunks.word(2 * apart).count_ones() + chunks.word(3 * apart).count_ones();
-    first + last >= 4 * 8
+    let first = chunks.word(0) | chunks.word(apart);
+    let last = chunks.word(2 * apart) | chunks.word(3 * apart);
+    // (26 of 64, where 1 in 8 is true by chance)
+    (first | last).count_ones() >= 26
 }

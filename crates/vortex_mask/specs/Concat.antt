@@ -20,6 +20,6 @@ pub record Joins (lists : List (List Bool)) (mask : Mask) : Type 0 where
   pub len : length (truth mask) ≡ total_len lists
   pub fits : total_len lists < 2 ^ 64
 
--- each value of each mask is v
-abbrev pub AreAll : Bool → List (Bor Mask) → Type 0
-AreAll v masks = All (λ mask. All (λ b. b ≡ v) (truth mask.now)) masks
+-- each value of each mask, by its list, is v
+abbrev pub AreAll : {M : Type 0} → (M → List Bool) → Bool → List M → Type 0
+AreAll list v masks = All (λ mask. All (λ b. b ≡ v) (list mask)) masks

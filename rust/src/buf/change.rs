@@ -1,7 +1,6 @@
 //! Changes in place.
 
-use crate::kit::by_level;
-use crate::kit::words::{number_of, put_lowest};
+use crate::kit::{levelled, words::number_of, words::put_lowest};
 use crate::prelude::*;
 
 impl BitmapBuf {
@@ -42,8 +41,7 @@ impl BitmapBuf {
     /// assert_eq!(rows.to_string(), "1001");
     /// ```
     pub fn retain(&mut self, mut is_kept: impl FnMut(usize) -> bool) {
-        let bytes = &mut self.bytes[..];
-        by_level!(retain_v3(bytes, &mut is_kept), retain_any(bytes, &mut is_kept));
+        retain(&mut self.bytes, &mut is_kept);
     }
 
     /// Forgets all values, and keeps the memory.
@@ -95,22 +93,26 @@ impl BitmapBuf {
     }
 }
 
-#[cfg(target_arch = "x86_64")]
-#[target_feature(enable = "avx2,bmi1,bmi2,f16c,fma,lzcnt,movbe,popcnt")]
-fn retain_v3(bytes: &mut [u8], is_kept: &mut impl FnMut(usize) -> bool) {
-    retain_any(bytes, is_kept);
+levelled! {
+    fn retain(bytes: &mut [u8], is_kept: &mut impl FnMut(usize) -> bool) {
+        let (whole, last) = bytes.as_chunks_mut();
+        let end = 64 * whole.len();
+        for (first, bytes) in (0..).step_by(64).zip(whole) {
+            *bytes = kept_of(first, u64::from_le_bytes(*bytes), is_kept).to_le_bytes();
+        }
+        put_lowest(kept_of(end, number_of(last), is_kept), last);
+    }
 }
 
-#[expect(clippy::inline_always, reason = "a copy is compiled for what the function around it has")]
+// Those true values of a word of whose indices `is_kept` says so, where this is the index of its first value.
+#[expect(clippy::inline_always, reason = "it is compiled for what the function around it has")]
 #[inline(always)]
-fn retain_any(bytes: &mut [u8], is_kept: &mut impl FnMut(usize) -> bool) {
-    for (base, bytes) in (0..).step_by(64).zip(bytes.chunks_mut(8)) {
-        let (mut word, mut kept) = (number_of(bytes), 0);
-        while word != 0 {
-            let bit = word.trailing_zeros();
-            kept |= u64::from(is_kept(base + bit as usize)) << bit;
-            word &= word - 1;
-        }
-        put_lowest(kept, bytes);
+fn kept_of(first: usize, mut word: u64, is_kept: &mut impl FnMut(usize) -> bool) -> u64 {
+    let mut kept = 0;
+    while word != 0 {
+        let bit = word.trailing_zeros();
+        kept |= u64::from(is_kept(first + bit as usize)) << bit;
+        word &= word - 1;
     }
+    kept
 }

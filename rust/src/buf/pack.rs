@@ -1,7 +1,6 @@
 //! Truth values that are packed.
-#![expect(clippy::inline_always, reason = "a copy is compiled for what the function around it has")]
 
-use crate::kit::{by_level, words::put_lowest};
+use crate::kit::{levelled, words::put_lowest};
 use crate::prelude::*;
 use crate::proved::mask_bits::from_rows::{word_of_rows, word_of_whole};
 
@@ -39,41 +38,27 @@ fn pack_block(block: &mut Block, count: usize, out: &mut [u8]) {
     block[count..whole].fill(MaybeUninit::new(0));
     // SAFETY: these were written, here or before.
     let values = unsafe { as_items(&mut block[..whole]) };
-    by_level!(pack_words_v3(values, out), pack_words(values, out));
-}
-
-#[cfg(target_arch = "x86_64")]
-#[target_feature(enable = "avx2,bmi1,bmi2,f16c,fma,lzcnt,movbe,popcnt")]
-fn pack_words_v3(values: &[u16], out: &mut [u8]) {
     pack_words(values, out);
 }
 
-#[inline(always)]
-fn pack_words(values: &[u16], out: &mut [u8]) {
-    for (out, values) in out.chunks_mut(8).zip(values.as_chunks::<64>().0) {
-        put_lowest(word_of_whole(values, &mut |it| *it != 0), out);
+levelled! {
+    fn pack_words(values: &[u16], out: &mut [u8]) {
+        for (out, values) in out.chunks_mut(8).zip(values.as_chunks::<64>().0) {
+            put_lowest(word_of_whole(values, &mut |it| *it != 0), out);
+        }
     }
 }
 
-/// Writes each byte of what is asked of rows, to just the bytes that they take.
-pub(super) fn pack_rows<T>(rows: &[T], mut is_true: impl FnMut(&T) -> bool, out: &mut [u8]) {
-    by_level!(pack_rows_v3(rows, &mut is_true, out), pack_rows_any(rows, &mut is_true, out));
-}
-
-#[cfg(target_arch = "x86_64")]
-#[target_feature(enable = "avx2,bmi1,bmi2,f16c,fma,lzcnt,movbe,popcnt")]
-fn pack_rows_v3<T, F: FnMut(&T) -> bool>(rows: &[T], is_true: &mut F, out: &mut [u8]) {
-    pack_rows_any(rows, is_true, out);
-}
-
-#[inline(always)]
-fn pack_rows_any<T, F: FnMut(&T) -> bool>(rows: &[T], is_true: &mut F, out: &mut [u8]) {
-    let (whole, rest) = rows.as_chunks::<64>();
-    let (words, last) = out.split_at_mut(8 * whole.len());
-    for (out, rows) in words.as_chunks_mut().0.iter_mut().zip(whole) {
-        *out = word_of_whole(rows, is_true).to_le_bytes();
+// Writes each byte of what is asked of rows, to just the bytes that they take.
+levelled! {
+    pub(super) fn pack_rows<T>(rows: &[T], is_true: impl FnMut(&T) -> bool, out: &mut [u8]) {
+        let (is_true, (whole, rest)) = (&mut { is_true }, rows.as_chunks::<64>());
+        let (words, last) = out.split_at_mut(8 * whole.len());
+        for (out, rows) in words.as_chunks_mut().0.iter_mut().zip(whole) {
+            *out = word_of_whole(rows, is_true).to_le_bytes();
+        }
+        put_lowest(word_of_rows(rest, is_true), last);
     }
-    put_lowest(word_of_rows(rest, is_true), last);
 }
 
 impl FromIterator<bool> for BitmapBuf {

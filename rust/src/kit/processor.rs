@@ -29,6 +29,26 @@ macro_rules! by_level {
 }
 pub(crate) use by_level;
 
+/// A function with a copy that is compiled for x86-64-v3, which is called where the processor has that.
+macro_rules! levelled {
+    ($visible:vis fn $call:ident $(<$row:ident>)?($($argument:ident: $type:ty),+ $(,)?) $body:block) => {
+        $visible fn $call $(<$row>)?($($argument: $type),+) {
+            #[allow(clippy::inline_always, reason = "a copy is compiled for what the function around it has")]
+            #[inline(always)]
+            fn any $(<$row>)?($($argument: $type),+) $body
+
+            #[cfg(target_arch = "x86_64")]
+            #[target_feature(enable = "avx2,bmi1,bmi2,f16c,fma,lzcnt,movbe,popcnt")]
+            fn v3 $(<$row>)?($($argument: $type),+) {
+                any($($argument),+);
+            }
+
+            crate::kit::by_level!(v3($($argument),+), any($($argument),+));
+        }
+    };
+}
+pub(crate) use levelled;
+
 /// The same of loops over vectors alone: a program that is compiled for x86-64-v2 takes its own, since the compiler reads
 /// each 32 bytes as two halves there.
 macro_rules! by_wide_level {

@@ -58,6 +58,15 @@ impl Selection {
     // there is one place more than rows are chosen.
     fn offsets_to<O: Offset>(&self, offsets: &[O], out: &mut [O]) -> usize {
         let (mut end, mut at) = (take_offsets(&[], offsets, out), 1);
+        if let Kept::Runs(runs) = &self.kept {
+            for run in runs {
+                let (from, ends) = (offsets[run.0].get(), &offsets[run.0 + 1..=run.1]);
+                let places = out[at..].iter_mut().zip(ends);
+                places.for_each(|(place, it)| *place = O::of(end + (it.get() - from)));
+                (end, at) = (end + (offsets[run.1].get() - from), at + ends.len());
+            }
+            return end;
+        }
         self.by_blocks(|block| {
             end = put_ends(block, offsets, end, out, at);
             at += block.len();

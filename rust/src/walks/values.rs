@@ -24,11 +24,12 @@ impl<'a> Values<'a> {
         self.word.ilog2() as usize + self.end.saturating_sub(self.next)
     }
 
-    // Reads the next values, where the word has none, and says which is the first. (By hand: the proved calls are
+    // Reads the next values, where the word has none, and takes the first. (By hand: the proved calls are
     // too large to be inlined into loops, and past a call that isn't, a loop reads again what it knew of memory.)
     #[cold]
     #[inline(always)]
     fn read(&mut self) -> Option<bool> {
+        self.word = 1;
         if self.next >= self.end {
             return None;
         }
@@ -37,9 +38,10 @@ impl<'a> Values<'a> {
             Some(eight) => u64::from_le_bytes(*eight),
             None => rest.iter().rev().fold(0, |word, byte| word << 8 | u64::from(*byte)),
         };
-        self.word = lowest(eight >> (self.next % 8), (self.end - self.next).min(57));
-        self.next += 57;
-        Some(self.word & 1 == 1)
+        let (word, count) = (eight >> (self.next % 8), 64 - self.next % 8);
+        self.word = lowest(word >> 1, (self.end - self.next).min(count) - 1);
+        self.next += count;
+        Some(word & 1 == 1)
     }
 }
 
@@ -55,9 +57,12 @@ impl Iterator for Values<'_> {
     #[inline]
     fn next(&mut self) -> Option<bool> {
         // (a false value needs no second test: the bit above the values is set)
-        let value = self.word & 1 == 1 && (self.word != 1 || self.read()?);
+        let word = self.word;
         self.word >>= 1;
-        Some(value)
+        if word & 1 == 1 {
+            return if word == 1 { self.read() } else { Some(true) };
+        }
+        Some(false)
     }
 
     #[inline]

@@ -42,8 +42,8 @@ impl Mask {
             ⊎ WholeRun I.next_gives masks
             (λ p. (e ≡ MaskError.LengthOverflow) × (2 ^ 64 ≤ total_len (lists_of p.items)))) }
     {
-        let masks: Vec<&Mask> = masks.collect(alloc)?;
-        Mask::concat_list(alloc, &masks)
+        let lent: Vec<&Mask> = masks.collect(alloc)?;
+        concat_list(alloc, &lent)
     }
 
     /// The values of the masks that an iterator yields, one mask after another, as by `concat`. The
@@ -65,63 +65,79 @@ impl Mask {
             ⊎ WholeRun I.next_gives masks
             (λ p. (e ≡ MaskError.LengthOverflow) × (2 ^ 64 ≤ total_len (map truth p.items)))) }
     {
-        let masks: Vec<Mask> = masks.collect(alloc)?;
-        Mask::concat_held(alloc, &masks)
-    }
-
-    // The same of masks that are listed. They are lent, and so listed once more, as joining is of lent ones alone.
-    fn concat_held(alloc: Global, masks: &[Mask]) -> Result<Mask, MaskError>
-        ensures list { IfOk result (λ m. Joins (map truth masks.now) m) }
-        ensures variant { IfOk result (λ m. variant m ≡ fitting_variant all_true (truth m)) }
-        ensures caches { IfOk result (λ m. caches m ≡ no_caches) }
-        ensures refused { IfErr result (λ e. (e ≡ MaskError.Memory alloc_error)
-            ⊎ ((e ≡ MaskError.LengthOverflow) × (2 ^ 64 ≤ total_len (map truth masks.now)))) }
-    {
-        Mask::concat(alloc, masks.iter())
-    }
-
-    // The masks' values one after another.
-    #[tactic(auto, using(crate::proofs::Masks::MaskLemmas::variant_facts, crate::proofs::Masks::ConcatLemmas::concat_facts))]
-    fn concat_list(alloc: Global, masks: &[&Mask]) -> Result<Mask, MaskError>
-        ensures list { IfOk result (Joins (lists_of masks.now)) }
-        ensures variant { IfOk result (λ m. variant m ≡ fitting_variant all_true (truth m)) }
-        ensures caches { IfOk result (λ m. caches m ≡ no_caches) }
-        ensures refused { IfErr result (λ e. (e ≡ MaskError.Memory alloc_error)
-            ⊎ ((e ≡ MaskError.LengthOverflow) × (2 ^ 64 ≤ total_len (lists_of masks.now)))) }
-    {
-        let Some(len) = total_len(masks) else {
-            return Err(MaskError::LengthOverflow);
-        };
-        if are_all(masks, true) {
-            return Ok(Mask::AllTrue(len));
-        }
-        if are_all(masks, false) {
-            return Ok(Mask::AllFalse(len));
-        }
-        let (buffer, true_count) = buffer_of(alloc, len, masks)?;
-        Mask::from_counted_buffer(alloc, buffer, true_count, None)
+        let held: Vec<Mask> = masks.collect(alloc)?;
+        concat_list(alloc, &held)
     }
 }
 
+// A mask in a list of masks that are lent, or held.
+trait AsMask {
+    ghost use Rattle.std.specs.Prelude.{◌≡◌, Bool, List};
+    ghost use Rattle.vortex_mask.specs.Mask.{truth};
+
+    ghost list: { Self → List Bool };
+
+    fn as_mask(&self) -> &Mask
+        ensures { truth result.now ≡ list self.now };
+}
+
+impl AsMask for Mask {
+    ghost list = { truth };
+
+    fn as_mask(&self) -> &Mask {
+        self
+    }
+}
+
+impl<'a> AsMask for &'a Mask {
+    ghost list = { λ mask. truth mask.now };
+
+    fn as_mask(&self) -> &Mask {
+        self
+    }
+}
+
+// The values of such masks, one mask after another.
+#[tactic(auto, using(crate::proofs::Masks::MaskLemmas::variant_facts, crate::proofs::Masks::ConcatLemmas::concat_facts))]
+fn concat_list<M: AsMask>(alloc: Global, masks: &[M]) -> Result<Mask, MaskError>
+    ensures list { IfOk result (Joins (map M.list masks.now)) }
+    ensures variant { IfOk result (λ m. variant m ≡ fitting_variant all_true (truth m)) }
+    ensures caches { IfOk result (λ m. caches m ≡ no_caches) }
+    ensures refused { IfErr result (λ e. (e ≡ MaskError.Memory alloc_error)
+        ⊎ ((e ≡ MaskError.LengthOverflow) × (2 ^ 64 ≤ total_len (map M.list masks.now)))) }
+{
+    let Some(len) = total_len(masks) else {
+        return Err(MaskError::LengthOverflow);
+    };
+    if are_all(masks, true) {
+        return Ok(Mask::AllTrue(len));
+    }
+    if are_all(masks, false) {
+        return Ok(Mask::AllFalse(len));
+    }
+    let (buffer, true_count) = buffer_of(alloc, len, masks)?;
+    Mask::from_counted_buffer(alloc, buffer, true_count, None)
+}
+
 // Whether each value of each mask is `value`.
-fn are_all(masks: &[&Mask], value: bool) -> bool
-    ensures { IsTrue result ↔ AreAll value masks.now }
+fn are_all<M: AsMask>(masks: &[M], value: bool) -> bool
+    ensures { IsTrue result ↔ AreAll M.list value masks.now }
 {
     masks.iter().all(|mask| if value {
-        mask.all_true()
+        mask.as_mask().all_true()
     } else {
-        mask.all_false()
+        mask.as_mask().all_false()
     })
 }
 
 // The sum of the masks' lengths, if it fits.
-fn total_len(masks: &[&Mask]) -> Option<usize>
-    ensures { MatchOption result (2 ^ 64 ≤ total_len (lists_of masks.now))
-        (λ total. total ≡ total_len (lists_of masks.now)) }
+fn total_len<M: AsMask>(masks: &[M]) -> Option<usize>
+    ensures { MatchOption result (2 ^ 64 ≤ total_len (map M.list masks.now))
+        (λ total. total ≡ total_len (map M.list masks.now)) }
 {
     let mut total: usize = 0;
     for mask in masks {
-        total = total.checked_add(mask.len())?;
+        total = total.checked_add(mask.as_mask().len())?;
     }
     Some(total)
 }
@@ -129,16 +145,20 @@ fn total_len(masks: &[&Mask]) -> Option<usize>
 // The masks' values one after another, of which there are `len`, and how many are true: the masks
 // know their counts, so no value is counted again.
 #[tactic(auto, using(crate::proofs::Masks::ConcatLemmas::joining_facts))]
-fn buffer_of(alloc: Global, len: usize, masks: &[&Mask]) -> Result<(BitBuffer, usize), AllocError>
-    requires { total_len (lists_of masks.now) ≡ len }
-    ensures list { IfOk result (λ r. values r.0 ≡ concat (lists_of masks.now)) }
+fn buffer_of<M: AsMask>(
+    alloc: Global,
+    len: usize,
+    masks: &[M],
+) -> Result<(BitBuffer, usize), AllocError>
+    requires { total_len (map M.list masks.now) ≡ len }
+    ensures list { IfOk result (λ r. values r.0 ≡ concat (map M.list masks.now)) }
     ensures counted { IfOk result (λ r. r.1 ≡ count (values r.0)) }
 {
     let mut buffer = BitBufferMut::with_capacity(alloc, len)?;
     let mut true_count = 0;
     for mask in masks {
-        append(&mut buffer, mask)?;
-        true_count += mask.true_count();
+        append(&mut buffer, mask.as_mask())?;
+        true_count += mask.as_mask().true_count();
     }
     Ok((buffer.freeze()?, true_count))
 }

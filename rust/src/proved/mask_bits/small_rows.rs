@@ -24,11 +24,14 @@ pub fn push_small_rows<const FEW: usize, M: MoveRows<T>, T: Copy, R: Room<T>>(
     rows: &[T],
     word: u64,
 ) {
-    let ones = word.count_ones() as usize;
-    if ones < FEW {
-        push_rows_one_by_one(out, rows, word);
-    } else if ones == 64 || out.spare() < ones + 8 {
+    // (to count what is empty or full takes longer than to copy it)
+    if word == 0 || word == u64::MAX {
         push_rows_of_word::<0, _, _>(out, rows, word);
+        return;
+    }
+    let ones = word.count_ones() as usize;
+    if ones < FEW || out.spare() < ones + 8 {
+        push_rows_one_by_one(out, rows, word);
     } else {
         push_by_bytes::<M, _, _>(out, rows, word);
     }

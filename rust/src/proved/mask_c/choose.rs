@@ -119,8 +119,9 @@ fn choose_small<const FEW: usize, M: MoveRows<T>, T: Copy>(
     room.at
 }
 
-// Whether words have eight true values or more on the average, by four of them, or by the first of fewer. Where they
-// have fewer, to count those of each word takes longer than is gained.
+// Whether words have eight true values or more on the average, by the indices within a word that are true in one of
+// four words, or by the first word of fewer. Where they have fewer, to count those of each word takes longer than is
+// gained.
 #[inline]
 fn have_many(bytes: &[u8], offset: usize, len: usize) -> bool {
     let chunks = BitChunks::new_proved(bytes, offset, len);
@@ -129,8 +130,8 @@ fn have_many(bytes: &[u8], offset: usize, len: usize) -> bool {
         return whole > 0 && chunks.word_proved(0).count_ones() >= 8;
     }
     let apart = whole / 4;
-    let first = chunks.word_proved(0).count_ones() + chunks.word_proved(apart).count_ones();
-    let last =
-        chunks.word_proved(2 * apart).count_ones() + chunks.word_proved(3 * apart).count_ones();
-    first + last >= 4 * 8
+    let first = chunks.word_proved(0) | chunks.word_proved(apart);
+    let last = chunks.word_proved(2 * apart) | chunks.word_proved(3 * apart);
+    // (26 of 64, where 1 in 8 is true by chance)
+    (first | last).count_ones() >= 26
 }

@@ -27,18 +27,12 @@ use crate::kit::prelude::*;
 // Inlined, so that a loop keeps the tables and the words in registers.
 #[inline(always)]
 pub(super) fn extract_two_by_bytes(sources: u64x2, masks: u64x2) -> [u64; 2] {
-    let places = bytes_of(masks);
+    let places = masks.to_le_bytes();
     let powers = powers_of(places);
-    let bytes = gather_in_bytes(bytes_of(sources), places);
+    let bytes = gather_in_bytes(sources.to_le_bytes(), places);
     let pairs = join_bytes(bytes, powers.even);
     let halves = join_pairs(pairs, powers.even, powers.odd);
     join_halves(halves, masks)
-}
-
-// The bytes of two words as lanes.
-#[inline(always)]
-fn bytes_of(words: u64x2) -> u8x16 {
-    words.to_le_bytes()
 }
 
 // In each lane, the bits at the set places of the mask's byte, moved down to its low end.

@@ -28,8 +28,8 @@ impl Mask {
     #[inline]
     pub fn concat<'a, I: IntoIterator<Item = &'a Mask>>(masks: I) -> Result<Mask, MaskError> {
         let masks = masks.into_iter();
-        let masks: Vec<&Mask> = masks.collected()?;
-        Mask::concat_list(&masks)
+        let lent: Vec<&Mask> = masks.collected()?;
+        concat_list(&lent)
     }
 
     /// The values of the masks that an iterator yields, one mask after another, as by `concat`. The
@@ -51,45 +51,60 @@ impl Mask {
     #[inline]
     pub fn from_masks<I: IntoIterator<Item = Mask>>(masks: I) -> Result<Mask, MaskError> {
         let masks = masks.into_iter();
-        let masks: Vec<Mask> = masks.collected()?;
-        Mask::concat_held(&masks)
+        let held: Vec<Mask> = masks.collected()?;
+        concat_list(&held)
     }
+}
 
-    // The same of masks that are listed. They are lent, and so listed once more, as joining is of lent ones alone.
-    #[inline]
-    fn concat_held(masks: &[Mask]) -> Result<Mask, MaskError> {
-        Mask::concat(masks.iter())
-    }
+// A mask in a list of masks that are lent, or held.
+trait AsMask {
+    fn as_mask(&self) -> &Mask;
+}
 
-    // The masks' values one after another.
+impl AsMask for Mask {
     #[inline]
-    fn concat_list(masks: &[&Mask]) -> Result<Mask, MaskError> {
-        let Some(len) = total_len(masks) else {
-            return Err(MaskError::LengthOverflow);
-        };
-        if are_all(masks, true) {
-            return Ok(Mask::AllTrue(len));
-        }
-        if are_all(masks, false) {
-            return Ok(Mask::AllFalse(len));
-        }
-        let (buffer, true_count) = buffer_of(len, masks)?;
-        Mask::from_counted_buffer(buffer, true_count, None)
+    fn as_mask(&self) -> &Mask {
+        self
     }
+}
+
+impl<'a> AsMask for &'a Mask {
+    #[inline]
+    fn as_mask(&self) -> &Mask {
+        self
+    }
+}
+
+// The values of such masks, one mask after another.
+#[inline]
+fn concat_list<M: AsMask>(masks: &[M]) -> Result<Mask, MaskError> {
+    let Some(len) = total_len(masks) else {
+        return Err(MaskError::LengthOverflow);
+    };
+    if are_all(masks, true) {
+        return Ok(Mask::AllTrue(len));
+    }
+    if are_all(masks, false) {
+        return Ok(Mask::AllFalse(len));
+    }
+    let (buffer, true_count) = buffer_of(len, masks)?;
+    Mask::from_counted_buffer(buffer, true_count, None)
 }
 
 // Whether each value of each mask is `value`.
 #[inline]
-fn are_all(masks: &[&Mask], value: bool) -> bool {
-    masks.iter().all(|mask| if value { mask.all_true() } else { mask.all_false() })
+fn are_all<M: AsMask>(masks: &[M], value: bool) -> bool {
+    masks
+        .iter()
+        .all(|mask| if value { mask.as_mask().all_true() } else { mask.as_mask().all_false() })
 }
 
 // The sum of the masks' lengths, if it fits.
 #[inline]
-fn total_len(masks: &[&Mask]) -> Option<usize> {
+fn total_len<M: AsMask>(masks: &[M]) -> Option<usize> {
     let mut total: usize = 0;
     for mask in masks {
-        total = total.checked_add(mask.len())?;
+        total = total.checked_add(mask.as_mask().len())?;
     }
     Some(total)
 }
@@ -97,12 +112,12 @@ fn total_len(masks: &[&Mask]) -> Option<usize> {
 // The masks' values one after another, of which there are `len`, and how many are true: the masks
 // know their counts, so no value is counted again.
 #[inline]
-fn buffer_of(len: usize, masks: &[&Mask]) -> Result<(BitBuffer, usize), AllocError> {
+fn buffer_of<M: AsMask>(len: usize, masks: &[M]) -> Result<(BitBuffer, usize), AllocError> {
     let mut buffer = BitBufferMut::with_capacity(len)?;
     let mut true_count = 0;
     for mask in masks {
-        append(&mut buffer, mask)?;
-        true_count += mask.true_count();
+        append(&mut buffer, mask.as_mask())?;
+        true_count += mask.as_mask().true_count();
     }
     Ok((buffer.freeze()?, true_count))
 }

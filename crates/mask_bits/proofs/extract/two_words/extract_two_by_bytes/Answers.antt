@@ -1,7 +1,7 @@
-use Rattle.mask_bits.proofs.Common.{common_steps, ℕ, ◌≡◌, ◌+◌, ◌*◌, ◌/◌, ◌%◌, ◌^◌, ◌<◌, List, length, Fits, ap, ap₂, ◌∙◌, sym, subst, get_or, count_ones, w64, arith, pow-add, add_comm, Each1, cases_lt, ones_cat, Extracts, gathered, two_words, shr-shr}
+use Rattle.mask_bits.proofs.Common.{common_steps, ℕ, ◌≡◌, ◌+◌, ◌*◌, ◌/◌, ◌%◌, ◌^◌, ◌<◌, List, length, Fits, ap, ap₂, ◌∙◌, sym, subst, get_or, count_ones, w64, arith, pow-add, add_comm, Each1, cases_lt, ones_cat, Extracts, gathered, two_words, number_l, shr-shr}
 use lib.Pow.{mod-mod-pow}
 use Rattle.mask_bits.proofs.Lists.Words.GatherLemmas.{gathered-low, gathered-two, Extracts-gathered}
-use Rattle.mask_bits.proofs.Lists.Words.WideLaneLemmas.{wide_lane-fits}
+use Rattle.mask_bits.proofs.Lists.Words.WideLaneLemmas.{AreLanes-digits, number-two, wide_lane-fits}
 use Rattle.mask_bits.proofs.extract.two_words.extract_two_by_bytes.Goals as goal
 
 module _ (s m : ℕ) where
@@ -47,8 +47,9 @@ pub returns : goal.returns
 returns c =
     let s : ℕ = two_words c.args.sources in
     let m : ℕ = two_words c.args.masks in
-    let places_are = c.bytes_of-places.ensures.each in
-    let bytes_are = λ (i : ℕ) (h : i < 16). byte_gathered s m i _ _ _ (c.gather_in_bytes-bytes.ensures.each i h) (c.bytes_of.ensures.each i h) (places_are i h) in
+    let byte_is = λ (ws : List ℕ) (two : length ws ≡ 2) (i : ℕ) (h : i < 16). (AreLanes-digits 8 16 (number_l (2 ^ 64) ws)).each i h ∙ ap (λ n. n / 2 ^ (8 * i) % 2 ^ 8) (number-two (2 ^ 64) ws two) in
+    let places_are = byte_is c.args.masks c.fits-masks.0 in
+    let bytes_are = λ (i : ℕ) (h : i < 16). byte_gathered s m i _ _ _ (c.gather_in_bytes-bytes.ensures.each i h) (byte_is c.args.sources c.fits-sources.0 i h) (places_are i h) in
     let evens_are = λ (j : ℕ) (h : j < 8). c.powers_of-powers.ensures.even.each j h ∙ ap (λ n. 2 ^ count_ones n) (places_are (2 * j) (omega arith)) in
     let odds_are = λ (j : ℕ) (h : j < 8). c.powers_of-powers.ensures.odd.each j h ∙ ap (λ n. 2 ^ count_ones n) (places_are (2 * j + 1) (omega arith)) in
     let pairs_are = λ (j : ℕ) (h : j < 8). c.join_bytes-pairs.ensures.each j h ∙ pair_joined s m j _ _ _ (bytes_are (2 * j) (omega arith)) (bytes_are (2 * j + 1) (omega arith)) (evens_are j h) in

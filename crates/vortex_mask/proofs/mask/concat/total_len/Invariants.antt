@@ -1,5 +1,5 @@
-use Rattle.vortex_mask.proofs.Common.{◌≡◌, ◌+◌, drop, lists_of, total_len}
+use Rattle.vortex_mask.proofs.Common.{◌≡◌, ◌+◌, drop, map, total_len}
 use Rattle.vortex_mask.proofs.mask.concat.total_len.Given as goal
 
 abbrev pub invariant-loop-mask : goal.invariant-loop-mask
-invariant-loop-mask l = l.total + total_len (lists_of (drop l.mask-index l.masks)) ≡ total_len (lists_of l.masks)
+invariant-loop-mask g l = l.total + total_len (map g.M.AsMask.list (drop l.mask-index l.masks)) ≡ total_len (map g.M.AsMask.list l.masks)
