@@ -20,7 +20,7 @@ sys.path.append(str(ROOT / "tests"))
 # Crates that have nothing but tests, and the benchmark.
 TEST_CRATES = "mask_tests", "mask_bench"
 CARGO_BUILD = "cargo build --offline -q --release --test calls --bin maskrun --message-format=json-render-diagnostics"
-# An impl or a trait: where it stands, its type, the trait of an impl, whether a public trait, its ghost members.
+# An impl or a trait: where it stands, its type, an impl's trait, whether a public trait, ghosts but of private traits.
 Block = namedtuple("Block", "start end owner trait is_public_trait ghosts")
 
 
@@ -82,7 +82,8 @@ def blocks_of(code):
         head = " ".join(head.split()).split(" where ")[0]
         trait, _, owner = f" {head}".rpartition(" for ") if it[1] == "impl" else ("", "", head.split(":")[0])
         owner, trait = ((re.findall(r"\w+", part) or [""])[-1] for part in (owner, trait))
-        ghosts = re.findall(r"\bghost (\w+) =", code[it.end() : end])
+        is_private = trait and re.search(rf"^(pub\(\w+\) )?trait {trait}\b", code, re.M)
+        ghosts = [] if is_private else re.findall(r"\bghost (\w+) =", code[it.end() : end])
         yield Block(it.start(), end, owner, trait, it[0].startswith("pub trait"), ghosts)
 
 
