@@ -27,7 +27,7 @@ unfoldable pub use Rattle.mask_bits.specs.Words.{padded_parts, window, word_bits
 pub use Rattle.mask_bits.specs.Words.{bits_of_words, padded_part, padded_remainder, started_words, word_part}
 pub use Rattle.std.proofs.Common.{All, Bool, Bor, Err, Fits, IfOk, IfSome, List, None, Ok, OnErr, Option, Result, Some, T, [], add-mul, add-one, add-zero, add_comm, ap, append-nil, append_assoc, ap₂, arith, bit_and, bit_or, bit_xor, cond}
 pub use Rattle.std.proofs.Common.{count_by, count_ones, drop, drop-drop, eq-eqb, eq-zero-or-pos, eqb, eqb-true, eqb→eq, ext_get_or, false, get_or, if◌then◌else◌, inl, inr, length, length-drop, length-take, length-take-le, lit<}
-pub use Rattle.std.proofs.Common.{lt_of_le_of_lt, lt_of_lt_of_le, ltb, ltb→lt, map, min, mod-eq_of_lt, mod-lt, mul-div_cancel, mul_assoc, mul_comm, nat_eq, nat_le, nat_lt, not, option_map, pow-add, pow-suc, pow_mono, pow_pos, refl}
+pub use Rattle.std.proofs.Common.{lt_of_le_of_lt, lt_of_lt_of_le, ltb, ltb→lt, map, min, mod-eq_of_lt, mod-lt, mul_assoc, mul_comm, nat_eq, nat_le, nat_lt, not, option_map, pow-add, pow-suc, pow_mono, pow_pos, refl}
 pub use Rattle.std.proofs.Common.{replicate, rules, set, shr-shr, slice_get, slice_range, subst, suc, sym, take, take-add, take_all, true, vec_capacity, vec_len, w16, w32, w64, w8, zero, zero-add, zip, ℕ, ◌%◌, ◌&&◌, ◌*◌, ◌++◌, ◌+◌, ◌-◌}
 pub use Rattle.std.proofs.Common.{◌/◌, ◌<◌, ◌^◌, ◌||◌, ◌↔◌, ◌∙◌, ◌∷◌, ◌≡◌, ◌≢◌, ◌≤◌, ◌⊎◌}
 pub use Rattle.std.proofs.Math.Arith.{digits_lt}
@@ -64,7 +64,7 @@ pub use Rattle.std.proofs.lemmas.Slice.Zip.{length-zip}
 pub use Rattle.std.specs.Cmp.Lexicographic.{pointwise}
 pub use Rattle.std.specs.Fmt.{HasWritten, IsPlainFormatter}
 pub use Rattle.std.specs.Fn.{FnReturnsAt, Shared}
-pub use Rattle.std.specs.Int.{bit_at, bit_not, byte_at, byte_worth, bytes_low_first, div_ceil, from_le_bytes, leading_ones, leading_zeros, sum_through, to_le_bytes, trailing_ones, trailing_zeros, w128}
+pub use Rattle.std.specs.Int.{bit_at, bit_not, byte_at, byte_worth, bytes_low_first, div_ceil, from_le_bytes, leading_ones, leading_zeros, sum_through, to_le_bytes, trailing_ones, trailing_zeros}
 pub use Rattle.std.specs.Int.Bits.{and_zero_r, or_zero_l, or_zero_r, xor_zero_r}
 pub use Rattle.std.specs.Int.Count.{leading_of_zero, trailing_of_zero}
 pub use Rattle.std.specs.Iterator.{MakesProgress, YieldsFirst, YieldsFirstBy, item_count}

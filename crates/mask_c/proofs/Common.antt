@@ -5,7 +5,7 @@ pub use Rattle.vortex_mask.proofs.Common.{ap₂, arith, at_indices, backing_bit,
 pub use Rattle.vortex_mask.proofs.Common.{drop_more, ext_get_or, false, get_or, get_or-append_right, get_or-drop, get_or-map, get_or-map-range_with_len, get_or-replicate, get_or-set_at, get_or-take, get_or_append_left}
 pub use Rattle.vortex_mask.proofs.Common.{get_or_from_slice_get, get_or_past, indices_from, inl, inr, length, length-append, length-between, length-drop, length-map, length-map-range_with_len, length-replicate, length-set, length-take}
 pub use Rattle.vortex_mask.proofs.Common.{list_any, list_any-append, list_any_more, list_any_none, map, map-append, map-id, map-map, min, nat_eq, nat_tests, ne_eqb, nil_from_length, not, not_of, one_shl, option_map, or-false, or_comm}
-pub use Rattle.vortex_mask.proofs.Common.{padded_part, padded_remainder, positions, range_with_len, rank_intersection, refl, replicate, runs, set, slice_get, slice_get-get_or, slice_range, subst, suc, sym, take, take-add, take-append-drop}
+pub use Rattle.vortex_mask.proofs.Common.{padded_part, padded_remainder, positions, range_with_len, rank_intersection, refl, replicate, set, slice_get, slice_get-get_or, slice_range, subst, suc, sym, take, take-add, take-append-drop}
 pub use Rattle.vortex_mask.proofs.Common.{take_all, take_at, take_more, true, zero, ℕ, ◌%◌, ◌&&◌, ◌*◌, ◌++◌, ◌+◌, ◌-◌, ◌/◌, ◌<◌, ◌^◌, ◌||◌, ◌↔◌, ◌∙◌, ◌∷◌, ◌≡◌, ◌≢◌, ◌≤◌, ◌⊎◌}
 unfoldable pub use Rattle.mask_bits.proofs.Common.{chosen}
 pub use Rattle.mask_bits.proofs.Common.{IsNonDecreasing, bits_of_words, combined, cons_option, drop-put_mid, get_or-between, items_where_true, runs_from, shr_and_one, slice_get-map, take-append-le, take_rest, values_so_far}

@@ -59,7 +59,7 @@ pub use Rattle.std.specs.Bool.{MatchBool, then_some}
 pub use Rattle.std.specs.Borrow.{Bor}
 pub use Rattle.std.specs.Cmp.{booleans_Decides}
 pub use Rattle.std.specs.Iterator.{Drains, DrainsIf, Yields}
-pub use Rattle.std.specs.Iterator.Runs.{EachRunFrom, Run, WholeRun, YieldsRun}
+pub use Rattle.std.specs.Iterator.Runs.{EachRunFrom, Run, WholeRun}
 pub use Rattle.std.specs.List.{All, copy_within, position, prefix_len}
 pub use Rattle.std.specs.List.Retain.{DedupsAll, DedupsFrom, IsDeduped}
 pub use Rattle.std.specs.Option.{SomeIff, option_map, option_or}
