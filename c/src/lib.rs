@@ -26,7 +26,7 @@ macro_rules! export {
 
 #[allow(unsafe_op_in_unsafe_fn, reason = "each hands on what its caller owes")]
 mod exports;
-#[allow(dead_code, unused_imports, reason = "the package of Rust has more of it")]
+#[allow(dead_code, unused_imports, unused_macros, reason = "the package of Rust has more of it")]
 #[path = "../../rust/src"]
 mod rust {
     pub mod kit;

@@ -122,7 +122,7 @@ impl PartialEq<Bitmap<'_>> for Bitmap<'_> {
             return false;
         }
         // (many bytes that lie alike are compared as bytes are, which the platform does in its best way)
-        let lie_alike = self.offset.is_multiple_of(8) && other.offset.is_multiple_of(8);
+        let lie_alike = (self.offset | other.offset).is_multiple_of(8);
         let whole = if lie_alike && self.len >= MANY { self.len / 8 } else { 0 };
         let (first, second) = (self.part(8 * whole..self.len), other.part(8 * whole..self.len));
         let (left, right) = (&self.bytes[self.offset / 8..], &other.bytes[other.offset / 8..]);
