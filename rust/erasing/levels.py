@@ -16,6 +16,7 @@ LEVELLED = {
         "combine_in_place",
         "count_bits",
         "count_true",
+        "extend_inner",
         "negate_in_place",
         "none_in_shifted_words",
         "none_true",
@@ -41,8 +42,9 @@ LEVELLED = {
     ],
 }
 # Of these, loops over vectors alone. In a program that is compiled for x86-64-v2 they stay as it has them: there LLVM
-# reads each 32 bytes as two halves.
-WIDE = {"combine", "combine_in_place", "negate_in_place", "none_in_shifted_words", "none_true", "put_bits"}
+# reads each 32 bytes as two halves. The loops within them that shift words gain more than that takes.
+WIDE = {"combine", "combine_in_place", "negate_in_place", "none_true"}
+SHIFTED = {"extend_inner"}
 # Levelled functions that others call in their loops: these go on to the one of their own level.
 RANK = "crate::proved::vortex_mask::intersect_by_rank"
 INNER = {
@@ -93,8 +95,8 @@ def levelled(function, of, body):
 #[inline(always)]
 {function.signature(of_any, "pub(crate) " if function.name in INNER else "")} {body}
 """
-    wide = "wide_" if function.name in WIDE else ""
-    return f"{{ crate::kit::by_{wide}level!({by_pext}{calls[0]}, {calls[1]}) }}", more
+    which = "wide_" if function.name in WIDE else "shifted_" if function.name in SHIFTED else ""
+    return f"{{ crate::kit::by_{which}level!({by_pext}{calls[0]}, {calls[1]}) }}", more
 
 
 def inner(body):

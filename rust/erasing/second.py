@@ -147,6 +147,9 @@ def without_tests(words, name, heads):
     return kept
 
 
+BY_LEVEL = r"crate :: kit :: by_(wide_|shifted_)?level !"
+
+
 def without_levels(words, name):
     """What was made, with each function that goes to one of two levels as the one that it is: its head, and the body that
     both have.
@@ -163,7 +166,7 @@ def without_levels(words, name):
     kept, i = [], 0
     while i < len(words):
         body = words.index("{", i) if words[i] == "fn" and "{" in words[i:] else None
-        if body is None or " ".join(words[body + 1 : body + 7]).replace("wide_", "") != "crate :: kit :: by_level !":
+        if body is None or not re.fullmatch(BY_LEVEL, " ".join(words[body + 1 : body + 7])):
             kept.append(words[i])
             i += 1
             continue

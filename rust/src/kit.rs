@@ -13,7 +13,7 @@ pub(crate) mod words;
 pub use alloc::sync::Arc;
 pub use bytes::{Bytes, BytesMut};
 pub use list::{Collect, CowSlice, List, ToList, filled};
-pub(crate) use processor::{by_level, by_wide_level, levelled, quickest};
+pub(crate) use processor::{by_level, by_shifted_level, by_wide_level, levelled, quickest};
 pub use shared::{TryClone, shared};
 pub use text::{Text, TryToString, formatted};
 

@@ -63,6 +63,19 @@ macro_rules! by_wide_level {
 }
 pub(crate) use by_wide_level;
 
+/// The same of what shifts words within those loops: just such a program takes that of x86-64-v3, which gains more.
+macro_rules! by_shifted_level {
+    ($v3:expr, $any:expr) => {{
+        #[cfg(all(target_arch = "x86_64", target_feature = "sse4.2"))]
+        if crate::kit::processor::has_v3() {
+            // SAFETY: the processor has what it is compiled for.
+            return unsafe { $v3 };
+        }
+        $any
+    }};
+}
+pub(crate) use by_shifted_level;
+
 /// Deposits by PDEP where that is quick, and else as the sources do.
 macro_rules! quickest {
     (Portable::$call:ident($($argument:expr),* $(,)?)) => {

@@ -120,8 +120,22 @@ fn extend_whole<C: BitOp>(a: Bits<'_>, b: Bits<'_>, words: usize, out: &mut [u8]
 
 // Writes words beside which there is another one. Each list is read in its own way, since a shift of one
 // that begins at a whole byte takes nearly as long as the rest.
-#[inline(always)]
+#[inline]
 fn extend_inner<C: BitOp>(a: Bits<'_>, b: Bits<'_>, words: usize, out: &mut [u8]) {
+    crate::kit::by_shifted_level!(
+        extend_inner_v3::<C>(a, b, words, out),
+        extend_inner_any::<C>(a, b, words, out)
+    )
+}
+
+#[cfg(target_arch = "x86_64")]
+#[target_feature(enable = "avx2,bmi1,bmi2,f16c,fma,lzcnt,movbe,popcnt")]
+fn extend_inner_v3<C: BitOp>(a: Bits<'_>, b: Bits<'_>, words: usize, out: &mut [u8]) {
+    extend_inner_any::<C>(a, b, words, out)
+}
+
+#[inline(always)]
+fn extend_inner_any<C: BitOp>(a: Bits<'_>, b: Bits<'_>, words: usize, out: &mut [u8]) {
     if a.low == 0 {
         extend::<C, Whole, Shifted>(a, b, 0, words, out);
     } else if b.low == 0 {

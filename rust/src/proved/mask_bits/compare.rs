@@ -80,7 +80,7 @@ fn none_in_words<C: BitOp>(
 // inlined, so that the quicker case stays small.
 #[inline(never)]
 fn none_in_shifted_words<C: BitOp>(a: Bits<'_>, b: Bits<'_>, words: usize) -> bool {
-    crate::kit::by_wide_level!(
+    crate::kit::by_level!(
         none_in_shifted_words_v3::<C>(a, b, words),
         none_in_shifted_words_any::<C>(a, b, words)
     )
