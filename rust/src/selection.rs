@@ -21,8 +21,7 @@ pub struct Selection {
     kept: Kept,
 }
 
-// What is kept beside the bitmap. By hand are loops over indices of 4 bytes, which are read in less time than those of
-// 8, and over runs, which are copied at once: no proved loop takes either.
+// What is kept beside the bitmap. (No proved loop takes indices of 4 bytes, which are read in less time, or runs.)
 #[derive(Clone, Debug)]
 enum Kept {
     // of at most 64 values, where few are true

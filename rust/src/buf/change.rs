@@ -1,6 +1,6 @@
 //! Changes in place.
 
-use crate::kit::{levelled, words::number_of, words::put_lowest};
+use crate::kit::{levelled, words::for_each_bit, words::number_of, words::put_lowest};
 use crate::prelude::*;
 
 impl BitmapBuf {
@@ -107,12 +107,8 @@ levelled! {
 // Those true values of a word of whose indices `is_kept` says so, where this is the index of its first value.
 #[expect(clippy::inline_always, reason = "it is compiled for what the function around it has")]
 #[inline(always)]
-fn kept_of(first: usize, mut word: u64, is_kept: &mut impl FnMut(usize) -> bool) -> u64 {
+fn kept_of(first: usize, word: u64, is_kept: &mut impl FnMut(usize) -> bool) -> u64 {
     let mut kept = 0;
-    while word != 0 {
-        let bit = word.trailing_zeros();
-        kept |= u64::from(is_kept(first + bit as usize)) << bit;
-        word &= word - 1;
-    }
+    for_each_bit(word, |bit| kept |= u64::from(is_kept(first + bit as usize)) << bit);
     kept
 }

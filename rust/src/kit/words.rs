@@ -111,6 +111,15 @@ pub(crate) fn put<T: Copy>(out: &mut [T], at: usize, item: T) {
     *unsafe { out.get_unchecked_mut(at) } = item;
 }
 
+/// Calls a function with the place of each set bit, the lowest first.
+#[inline(always)]
+pub(crate) fn for_each_bit(mut word: u64, mut of: impl FnMut(u32)) {
+    while word != 0 {
+        of(word.trailing_zeros());
+        word &= word - 1;
+    }
+}
+
 /// Writes `first` and the indices of the set bits of a word from there on behind the first `at` indices, as many as there
 /// is room for, and answers how many there are then.
 #[inline(always)]

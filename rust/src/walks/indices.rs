@@ -1,16 +1,18 @@
+use crate::kit::words::number_of;
 use crate::prelude::*;
-use crate::proved::mask_bits::read_word::{Bits, ReadWord, Unaligned};
+use core::slice::Iter;
 
 /// The indices of the true values of a [`Bitmap`], ascending.
 #[derive(Clone)]
 pub struct Indices<'a> {
     bitmap: Bitmap<'a>,
-    bits: Bits<'a>,
-    // of the word that begins at `first`, the true value that was given last, and those after it: it is
-    // cleared when the next one is asked for, just before that is tested
+    // of the word whose first bit has the index `first`, the true value that was given last, and those after it:
+    // it is cleared when the next one is asked for, just before that is tested
     word: u64,
     first: usize,
-    // behind it the whole words up to word `end`, and the true values that are left of that
+    // behind it whole words, and from the index `end` on the true values that are left behind these (words begin at
+    // bytes, so that none is put together: where the bitmap doesn't, those of the first one begin below 0)
+    words: Iter<'a, [u8; 8]>,
     end: usize,
     back: u64,
 }
@@ -18,9 +20,23 @@ pub struct Indices<'a> {
 impl<'a> Indices<'a> {
     #[inline]
     pub(crate) fn new(bitmap: Bitmap<'a>) -> Indices<'a> {
-        let (chunks, bits) = (bitmap.chunks(), Bits::new(bitmap.bytes(), bitmap.offset()));
-        let (first, end, back) = (0_usize.wrapping_sub(64), chunks.len(), chunks.remainder_bits());
-        Indices { bitmap, bits, word: 0, first, end, back }
+        let before = bitmap.offset() % 8;
+        let bits = before + bitmap.len();
+        let bytes = &bitmap.bytes()[bitmap.offset() / 8..][..bits.div_ceil(8)];
+        let (whole, last) = bytes.split_at(bits / 64 * 8);
+        let (words, back) = (whole.as_chunks().0.iter(), number_of(last) & !(!0 << (bits % 64)));
+        let end = (bits / 64 * 64).wrapping_sub(before);
+        let mut new = Indices { bitmap, word: 0, first: 0, words, end, back };
+        if before > 0
+            && let Some(bytes) = new.words.next()
+        {
+            // (the bit before the first value is as one that was given)
+            new.word = (u64::from_le_bytes(*bytes) >> before << 1 | 1) << (before - 1);
+            new.first = 0_usize.wrapping_sub(before);
+        } else {
+            new.back &= !0 << before;
+        }
+        new
     }
 
     // The true values that are left of the word.
@@ -32,38 +48,29 @@ impl<'a> Indices<'a> {
     // The index of the true value that is given.
     #[inline(always)]
     fn index(&self) -> usize {
-        self.first + self.word.trailing_zeros() as usize
-    }
-
-    // The number of the word behind it.
-    #[inline]
-    fn next_word(&self) -> usize {
-        self.first.wrapping_add(64) / 64
-    }
-
-    // Word `k`, which is a whole one.
-    #[inline(always)]
-    fn word(&self, k: usize) -> u64 {
-        Unaligned::word(self.bits, k)
+        self.first.wrapping_add(self.word.trailing_zeros() as usize)
     }
 
     // The values of the words that neither end has taken.
     #[inline]
     fn between(&self) -> Bitmap<'a> {
-        self.bitmap.part(64 * self.next_word().min(self.end)..64 * self.end)
+        let count = 64 * self.words.len();
+        let start = self.end.wrapping_sub(count).min(self.bitmap.len() - count);
+        self.bitmap.part(start..start + count)
     }
 
     // Takes the next word that has a true value, and says whether there is one.
     #[cold]
     #[inline(always)]
     fn advance(&mut self) -> bool {
-        for k in self.next_word()..self.end {
-            (self.word, self.first) = (self.word(k), 64 * k);
+        while let Some(bytes) = self.words.next() {
+            self.word = u64::from_le_bytes(*bytes);
             if self.word != 0 {
+                self.first = self.end.wrapping_sub(64 * self.words.len() + 64);
                 return true;
             }
         }
-        (self.word, self.first) = (take(&mut self.back), 64 * self.end);
+        (self.word, self.first) = (take(&mut self.back), self.end);
         self.word != 0
     }
 }
@@ -88,13 +95,12 @@ impl Iterator for Indices<'_> {
         let here = self.word.count_ones() as usize;
         if n >= here {
             let between = self.between();
-            if let Some(i) = between.select(n - here) {
-                let k = self.next_word() + i / 64;
-                (self.word, self.first) = (self.word(k) & !0 << (i % 64), 64 * k);
-                return Some(self.index());
-            }
-            n -= here + between.count();
-            (self.word, self.first) = (take(&mut self.back), 64 * self.end);
+            let found = between.select(n - here);
+            n = if found.is_some() { 0 } else { n - here - between.count() };
+            let i = found.unwrap_or(64 * self.words.len());
+            self.words = self.words.as_slice()[i / 64..].iter();
+            self.advance();
+            self.word &= !0 << (i % 64);
         }
         (0..n.min(64)).for_each(|_| self.word = self.left());
         (self.word != 0).then(|| self.index())
@@ -111,37 +117,38 @@ impl Iterator for Indices<'_> {
     // word by word, for `sum`, `for_each` and the like
     #[inline]
     fn fold<B, F: FnMut(B, usize) -> B>(self, init: B, mut f: F) -> B {
-        let mut each = |mut folded, mut word: u64, first| {
+        let mut each = |mut folded, mut word: u64, first: usize| {
             while word != 0 {
-                folded = f(folded, first + word.trailing_zeros() as usize);
+                folded = f(folded, first.wrapping_add(word.trailing_zeros() as usize));
                 word &= word - 1;
             }
             folded
         };
         let mut folded = each(init, self.left(), self.first);
-        for k in self.next_word()..self.end {
-            folded = each(folded, self.word(k), 64 * k);
+        let mut first = self.end.wrapping_sub(64 * self.words.len());
+        for bytes in self.words {
+            folded = each(folded, u64::from_le_bytes(*bytes), first);
+            first += 64;
         }
-        each(folded, self.back, 64 * self.end)
+        each(folded, self.back, self.end)
     }
 }
 
 impl DoubleEndedIterator for Indices<'_> {
     #[inline]
     fn next_back(&mut self) -> Option<usize> {
-        while self.back == 0 {
-            if self.next_word() >= self.end {
-                // what is left is in the word of the front
-                let bit = self.left().checked_ilog2()?;
-                self.word ^= 1 << bit;
-                return Some(self.first + bit as usize);
-            }
-            self.end -= 1;
-            self.back = self.word(self.end);
+        while self.back == 0
+            && let Some(bytes) = self.words.next_back()
+        {
+            (self.back, self.end) = (u64::from_le_bytes(*bytes), self.end - 64);
         }
-        let bit = self.back.ilog2();
+        if self.back == 0 {
+            // what is left is in the word of the front
+            (self.back, self.end, self.word) = (self.left(), self.first, 0);
+        }
+        let bit = self.back.checked_ilog2()?;
         self.back ^= 1 << bit;
-        Some(64 * self.end + bit as usize)
+        Some(self.end.wrapping_add(bit as usize))
     }
 }
 

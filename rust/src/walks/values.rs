@@ -24,8 +24,8 @@ impl<'a> Values<'a> {
         self.word.ilog2() as usize + self.end.saturating_sub(self.next)
     }
 
-    // Reads the next values, where the word has none, and takes the first. (By hand: the proved calls are
-    // too large to be inlined into loops, and past a call that isn't, a loop reads again what it knew of memory.)
+    // Reads the next values, where the word has none, and takes the first. (By hand: past a proved call, which is too
+    // large to be inlined, a loop reads again what it knew of memory.)
     #[cold]
     #[inline(always)]
     fn read(&mut self) -> Option<bool> {
