@@ -121,17 +121,15 @@ impl PartialEq<Bitmap<'_>> for Bitmap<'_> {
         if self.len != other.len {
             return false;
         }
-        // (many bytes that lie alike are compared as bytes are, which the platform does in its best way)
-        let lie_alike = (self.offset | other.offset).is_multiple_of(8);
-        let whole = if lie_alike && self.len >= MANY { self.len / 8 } else { 0 };
-        let (first, second) = (self.part(8 * whole..self.len), other.part(8 * whole..self.len));
+        if !(self.offset | other.offset).is_multiple_of(8) {
+            return call!(row_mask_equal(self, beside other));
+        }
+        // (what lies alike is compared as bytes are, which the platform does in its best way)
         let (left, right) = (&self.bytes[self.offset / 8..], &other.bytes[other.offset / 8..]);
-        (whole == 0 || left[..whole] == right[..whole])
-            && (first.is_empty() || call!(row_mask_equal(first, beside second)))
+        let whole = self.len / 8;
+        let last = |bytes: &[u8]| bytes.get(whole).map_or(0, |byte| byte & !(!0 << (self.len % 8)));
+        left[..whole] == right[..whole] && last(left) == last(right)
     }
 }
-
-// So many values take less time by bytes than by words.
-const MANY: usize = 512;
 
 impl Eq for Bitmap<'_> {}
