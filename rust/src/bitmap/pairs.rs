@@ -126,9 +126,9 @@ impl PartialEq<Bitmap<'_>> for Bitmap<'_> {
         }
         // (what lies alike is compared as bytes are, which the platform does in its best way)
         let (left, right) = (&self.bytes[self.offset / 8..], &other.bytes[other.offset / 8..]);
-        let whole = self.len / 8;
-        let last = |bytes: &[u8]| bytes.get(whole).map_or(0, |byte| byte & !(!0 << (self.len % 8)));
-        left[..whole] == right[..whole] && last(left) == last(right)
+        let (whole, rest) = (self.len / 8, self.len % 8);
+        (rest == 0 || (left[whole] ^ right[whole]) << (8 - rest) == 0)
+            && left[..whole] == right[..whole]
     }
 }
 

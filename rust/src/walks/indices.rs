@@ -117,20 +117,16 @@ impl Iterator for Indices<'_> {
     // word by word, for `sum`, `for_each` and the like
     #[inline]
     fn fold<B, F: FnMut(B, usize) -> B>(self, init: B, mut f: F) -> B {
-        let mut each = |mut folded, mut word: u64, first: usize| {
+        let (words, start) = (self.words.as_slice(), self.end.wrapping_sub(64 * self.words.len()));
+        let words = (0..words.len()).map(|k| (u64::from_le_bytes(words[k]), start + 64 * k));
+        let words = [(self.left(), self.first)].into_iter().chain(words);
+        words.chain([(self.back, self.end)]).fold(init, |mut folded, (mut word, first)| {
             while word != 0 {
                 folded = f(folded, first.wrapping_add(word.trailing_zeros() as usize));
                 word &= word - 1;
             }
             folded
-        };
-        let mut folded = each(init, self.left(), self.first);
-        let mut first = self.end.wrapping_sub(64 * self.words.len());
-        for bytes in self.words {
-            folded = each(folded, u64::from_le_bytes(*bytes), first);
-            first += 64;
-        }
-        each(folded, self.back, self.end)
+        })
     }
 }
 
