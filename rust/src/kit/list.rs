@@ -3,7 +3,7 @@
 use super::AllocError;
 use alloc::alloc::{Layout, alloc, alloc_zeroed, realloc};
 use alloc::vec::Vec;
-use core::mem::{self, ManuallyDrop};
+use core::mem::{self, ManuallyDrop, MaybeUninit};
 
 /// What grows a list, with an error where memory is refused. The list then stays as it was.
 pub trait List<T>: Sized {
@@ -143,8 +143,28 @@ impl Fill for u8 {
             return zeroed(count);
         }
         let mut list = Vec::with_room(count)?;
-        list.resize(count, self);
+        match count {
+            8..16 => fill_ends::<8>(list.spare_capacity_mut(), self),
+            16..=32 => fill_ends::<16>(list.spare_capacity_mut(), self),
+            _ => {
+                list.resize(count, self);
+                return Ok(list);
+            }
+        }
+        // SAFETY: there is room for so many, and each place is among the first or the last of them.
+        unsafe { list.set_len(count) };
         Ok(list)
+    }
+}
+
+/// Writes a byte to the first `N` places and to the last `N`. Of few places these are all, and no function is called.
+#[inline]
+fn fill_ends<const N: usize>(places: &mut [MaybeUninit<u8>], byte: u8) {
+    if let Some(first) = places.first_chunk_mut::<N>() {
+        *first = [MaybeUninit::new(byte); N];
+    }
+    if let Some(last) = places.last_chunk_mut::<N>() {
+        *last = [MaybeUninit::new(byte); N];
     }
 }
 
