@@ -65,7 +65,13 @@ impl Bitmap<'_> {
         /// Each value negated, written into `out`.
         pub fn not_into(self) of self.len, by |out| call!(row_mask_not(self, out));
         /// The same values, written into `out`.
-        pub fn copy_into(self) of self.len, by |out| call!(row_mask_copy(self, out));
+        pub fn copy_into(self) of self.len, by |out| {
+            if !self.offset.is_multiple_of(8) {
+                return call!(row_mask_copy(self, out));
+            }
+            out.copy_from_slice(&self.bytes[self.offset / 8..][..out.len()]);
+            mask_c::clear_behind(out, self.len);
+        };
     }
 
     tells! {
