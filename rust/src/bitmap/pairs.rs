@@ -124,11 +124,8 @@ impl Bitmap<'_> {
 /// Equal where the values are: bytes, offsets and the bits around the values don't count.
 impl PartialEq<Bitmap<'_>> for Bitmap<'_> {
     fn eq(&self, other: &Bitmap<'_>) -> bool {
-        if self.len != other.len {
-            return false;
-        }
-        if !(self.offset | other.offset).is_multiple_of(8) {
-            return call!(row_mask_equal(self, beside other));
+        if self.len != other.len || !(self.offset | other.offset).is_multiple_of(8) {
+            return self.len == other.len && call!(row_mask_equal(self, beside other));
         }
         // (what lies alike is compared as bytes are, which the platform does in its best way)
         let (left, right) = (&self.bytes[self.offset / 8..], &other.bytes[other.offset / 8..]);

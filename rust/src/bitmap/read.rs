@@ -3,7 +3,6 @@
 use crate::prelude::*;
 
 pub(crate) const INDICES_OF_A_BLOCK: usize = 256;
-const FEW: usize = 128;
 
 impl<'a> Bitmap<'a> {
     tells! {
@@ -12,7 +11,7 @@ impl<'a> Bitmap<'a> {
         pub fn count(self) -> usize = match self.len {
             // (to ask what the processor has takes longer than to count so few)
             0..64 => self.chunks().remainder_bits().count_ones() as usize,
-            64..=FEW => {
+            64..=128 => {
                 let word = |from| self.part(from..from + 64).chunks().word_proved(0);
                 // (of the last word those values that the first one doesn't have)
                 let last = u128::from(word(self.len - 64)) >> (128 - self.len);

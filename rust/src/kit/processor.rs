@@ -29,9 +29,16 @@ macro_rules! by_level {
 }
 pub(crate) use by_level;
 
-/// A function with a copy that is compiled for x86-64-v3, which is called where the processor has that.
+/// A function with a copy that is compiled for x86-64-v3, which is called where the processor has that, and there is so
+/// much to do that it pays to ask.
 macro_rules! levelled {
-    ($visible:vis fn $call:ident $(<$row:ident>)?($($argument:ident: $type:ty),+ $(,)?) $body:block) => {
+    ($visible:vis fn $($rest:tt)+) => {
+        crate::kit::levelled! { where true; $visible fn $($rest)+ }
+    };
+    (
+        where $much:expr;
+        $visible:vis fn $call:ident $(<$row:ident>)?($($argument:ident: $type:ty),+ $(,)?) $body:block
+    ) => {
         $visible fn $call $(<$row>)?($($argument: $type),+) {
             #[allow(clippy::inline_always, reason = "a copy is compiled for what the function around it has")]
             #[inline(always)]
@@ -43,7 +50,11 @@ macro_rules! levelled {
                 any($($argument),+);
             }
 
-            crate::kit::by_level!(v3($($argument),+), any($($argument),+));
+            if $much {
+                crate::kit::by_level!(v3($($argument),+), any($($argument),+));
+            } else {
+                any($($argument),+);
+            }
         }
     };
 }
