@@ -45,6 +45,16 @@ LEVELLED = {
 # reads each 32 bytes as two halves. The loops within them that shift words gain more than that takes.
 WIDE = {"combine", "combine_in_place", "negate_in_place", "none_true"}
 SHIFTED = {"extend_inner"}
+# Where there is less to do, to ask what the processor has would take as long.
+MUCH = {
+    "choose_rows": "rows.len() > 128",
+    "combine": "len > 128",
+    "combine_in_place": "len > 128",
+    "indices": "self.len() > 128",
+    "negate_in_place": "len > 128",
+    "none_true": "len > 128",
+    "put_bits": "n > 128",
+}
 # Levelled functions that others call in their loops: these go on to the one of their own level.
 RANK = "crate::proved::vortex_mask::intersect_by_rank"
 INNER = {
@@ -96,7 +106,8 @@ def levelled(function, of, body):
 {function.signature(of_any, "pub(crate) " if function.name in INNER else "")} {body}
 """
     which = "wide_" if function.name in WIDE else "shifted_" if function.name in SHIFTED else ""
-    return f"{{ crate::kit::by_{which}level!({by_pext}{calls[0]}, {calls[1]}) }}", more
+    much = f"where {MUCH[function.name]}; " if function.name in MUCH else ""
+    return f"{{ crate::kit::by_{which}level!({much}{by_pext}{calls[0]}, {calls[1]}) }}", more
 
 
 def inner(body):

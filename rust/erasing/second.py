@@ -4,7 +4,7 @@ the other side, and then both are one list of tokens. Commas and imports are not
 import re
 
 from erasing.changes import LAWFUL, LEAVES, PUBLIC_HERE
-from erasing.levels import INNER
+from erasing.levels import INNER, MUCH
 from erasing.tokens import CLOSING, OPENING, TOKEN, Fault, spaced
 
 # Words of a source that have another name in what was made of it.
@@ -172,7 +172,8 @@ def without_levels(words, name):
             continue
         of, head = words[i + 1].removesuffix("_proved"), words[i + 2 : body]
         last = behind(words, body)
-        calls = " ".join(words[body + 8 : last - 2])
+        much = " ".join(["where", *tokens(MUCH[of]), "; "]) if of in MUCH else ""
+        calls = " ".join(words[body + 8 : last - 2]).removeprefix(much)
         generics = next(n for n in range(len(head)) if head[n] == "(" and head[:n].count("<") == head[:n].count(">"))
         own = re.findall(r"(?:^|[(,] )(?:mut )?(\w+) :(?!:)", " ".join(head[generics:behind(head, generics)]))
         call = rf"(?:(?:self \.|Self ::) )?{of}_LEVEL(?: :: < [\w ,]+ >)? \( {' , '.join(own)} \)".replace("(  ", "( ")

@@ -8,8 +8,17 @@ use crate::proved::vortex_mask::intersect_by_rank as proved;
 #[cfg(target_arch = "x86_64")]
 pub(crate) use by_instruction::{Bmi2, extract, put_pairs};
 
-/// Calls the function that is compiled for what the processor has: where PEXT is quick, for x86-64-v3, or for any.
+/// Calls the function that is compiled for what the processor has: where PEXT is quick, for x86-64-v3, or for any. Where a
+/// condition stands before them, it tells whether there is so much to do that it pays to ask.
 macro_rules! by_level {
+    (where $much:expr; $v3:expr, $any:expr) => {{
+        #[cfg(target_arch = "x86_64")]
+        if $much && crate::kit::processor::has_v3() {
+            // SAFETY: the processor has what it is compiled for.
+            return unsafe { $v3 };
+        }
+        $any
+    }};
     ($by_pext:expr, $v3:expr, $any:expr) => {{
         #[cfg(target_arch = "x86_64")]
         if crate::kit::processor::has_quick_bits() {
@@ -18,14 +27,9 @@ macro_rules! by_level {
         }
         crate::kit::by_level!($v3, $any)
     }};
-    ($v3:expr, $any:expr) => {{
-        #[cfg(target_arch = "x86_64")]
-        if crate::kit::processor::has_v3() {
-            // SAFETY: the processor has what it is compiled for.
-            return unsafe { $v3 };
-        }
-        $any
-    }};
+    ($v3:expr, $any:expr) => {
+        crate::kit::by_level!(where true; $v3, $any)
+    };
 }
 pub(crate) use by_level;
 
@@ -50,11 +54,7 @@ macro_rules! levelled {
                 any($($argument),+);
             }
 
-            if $much {
-                crate::kit::by_level!(v3($($argument),+), any($($argument),+));
-            } else {
-                any($($argument),+);
-            }
+            crate::kit::by_level!(where $much; v3($($argument),+), any($($argument),+));
         }
     };
 }
@@ -63,9 +63,9 @@ pub(crate) use levelled;
 /// The same of loops over vectors alone: a program that is compiled for x86-64-v2 takes its own, since the compiler reads
 /// each 32 bytes as two halves there.
 macro_rules! by_wide_level {
-    ($v3:expr, $any:expr) => {{
+    (where $much:expr; $v3:expr, $any:expr) => {{
         #[cfg(all(target_arch = "x86_64", not(target_feature = "sse4.2")))]
-        if crate::kit::processor::has_v3() {
+        if $much && crate::kit::processor::has_v3() {
             // SAFETY: the processor has what it is compiled for.
             return unsafe { $v3 };
         }
