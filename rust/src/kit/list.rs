@@ -71,8 +71,8 @@ impl<T> List<T> for Vec<T> {
     #[inline]
     fn try_push(&mut self, item: T) -> Result<(), AllocError> {
         if self.capacity() == 0 {
-            // (as much as Rust's own call asks for, which takes longer)
-            *self = Vec::with_room(4)?;
+            // (Rust's own call asks for room for 4, and takes longer)
+            *self = Vec::with_room(8)?;
         } else if self.len() == self.capacity() {
             self.try_reserve(1).map_err(|_| AllocError)?;
         }
