@@ -143,15 +143,16 @@ impl Fill for u8 {
             return zeroed(count);
         }
         let mut list = Vec::with_room(count)?;
+        let places = &mut list.spare_capacity_mut()[..count];
         match count {
-            8..16 => fill_ends::<8>(list.spare_capacity_mut(), self),
-            16..=32 => fill_ends::<16>(list.spare_capacity_mut(), self),
+            8..16 => fill_ends::<8>(places, self),
+            16..=32 => fill_ends::<16>(places, self),
             _ => {
                 list.resize(count, self);
                 return Ok(list);
             }
         }
-        // SAFETY: there is room for so many, and each place is among the first or the last of them.
+        // SAFETY: each of so many places is among the first or the last ones.
         unsafe { list.set_len(count) };
         Ok(list)
     }
@@ -253,5 +254,22 @@ pub trait ToList<T> {
 impl<T: Copy> ToList<T> for [T] {
     fn try_to_vec(&self) -> Result<Vec<T>, AllocError> {
         Vec::from_slice(self)
+    }
+}
+
+#[cfg(test)]
+mod tests {
+    use super::filled;
+
+    /// Each place is written, also where other bytes were before.
+    #[test]
+    fn lists_are_filled() {
+        for count in (0..80).chain([1024, 1025]) {
+            for byte in [0_u8, 0xFF] {
+                drop(filled(!byte, count).unwrap());
+                let list = filled(byte, count).unwrap();
+                assert_eq!((list.len(), list.iter().all(|it| *it == byte)), (count, true));
+            }
+        }
     }
 }
