@@ -12,6 +12,7 @@ pub(crate) mod words;
 
 pub use alloc::sync::Arc;
 pub use bytes::{Bytes, BytesMut};
+pub(crate) use list::zeros;
 pub use list::{Collect, CowSlice, List, ToList, filled};
 pub(crate) use processor::{by_level, by_shifted_level, by_wide_level, levelled, quickest};
 pub use shared::{TryClone, shared};

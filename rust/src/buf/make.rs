@@ -1,7 +1,7 @@
 //! What a bitmap of its own bytes is made of.
 
 use super::pack::{AHEAD, pack_fn, pack_rows};
-use crate::kit::filled;
+use crate::kit::zeros;
 use crate::prelude::*;
 
 /// Makers that abort where there is no memory, as Rust's own lists do, each with the form that answers so.
@@ -36,7 +36,7 @@ impl BitmapBuf {
         /// So many values, all false.
         pub fn all_false, try_all_false(len: usize) {
             let bytes = room_for(len);
-            Ok(BitmapBuf { bytes: filled(0, bytes).map_err(|_| Error::OutOfMemory { bytes })?, len })
+            Ok(BitmapBuf { bytes: zeros(bytes).map_err(|_| Error::OutOfMemory { bytes })?, len })
         }
 
         /// So many values, all true.

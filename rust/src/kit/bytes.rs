@@ -2,22 +2,45 @@
 
 use super::{AllocError, TryClone};
 use alloc::boxed::Box;
-use alloc::sync::Arc;
 use alloc::vec::Vec;
 use core::fmt;
 use core::hash::{Hash, Hasher};
-use core::mem::{ManuallyDrop, take};
+use core::mem::ManuallyDrop;
 use core::ops::Deref;
-use core::ptr;
-use core::sync::atomic::{AtomicPtr, Ordering};
+use core::ptr::{self, NonNull};
+use core::sync::atomic::{AtomicUsize, Ordering};
 
 /// Bytes that never change while they are shared. A clone shares them.
 pub struct Bytes {
     // each holder has where they lie, and the last one lets go of them
     list: ManuallyDrop<Vec<u8>>,
-    // the count of the holders, which is an `Arc` of nothing. There is one from the first clone on: bytes that nobody
-    // shares take no memory for it.
-    holders: AtomicPtr<()>,
+    // how many holders there are: behind the bytes, where the list has room for that, and else in memory of its own (and
+    // nowhere, where there are no bytes)
+    holders: NonNull<AtomicUsize>,
+}
+
+// SAFETY: the bytes are only read while there are several holders, whose number is atomic.
+unsafe impl Send for Bytes {}
+// SAFETY: as above.
+unsafe impl Sync for Bytes {}
+
+/// So many bytes of a list hold these, and behind them the number of their holders, where they begin at a whole word.
+#[inline]
+pub(crate) fn room_to_share(count: usize) -> usize {
+    if count == 0 {
+        0
+    } else {
+        count.saturating_add(2 * size_of::<AtomicUsize>() - 1) & !(size_of::<AtomicUsize>() - 1)
+    }
+}
+
+/// Where the number of holders has its place behind the bytes of a list.
+#[inline]
+fn place_behind(list: &mut Vec<u8>) -> Option<NonNull<AtomicUsize>> {
+    let room = list.spare_capacity_mut();
+    let before = room.as_ptr().addr().wrapping_neg() % align_of::<AtomicUsize>();
+    let place = room.get_mut(before..)?.first_chunk_mut::<{ size_of::<AtomicUsize>() }>()?;
+    Some(NonNull::from(place).cast())
 }
 
 /// Bytes that nobody else holds, from one of them on.
@@ -32,13 +55,13 @@ impl Bytes {
     #[must_use]
     #[inline]
     pub fn new() -> Bytes {
-        Bytes::default()
+        Bytes { list: ManuallyDrop::new(Vec::new()), holders: NonNull::dangling() }
     }
 
     /// The bytes of a list, which are not copied.
     ///
     /// # Errors
-    /// None: no memory is asked for.
+    /// None: Rust's `Box` aborts where memory is refused for the number of holders.
     #[inline]
     pub fn from_vec(bytes: Vec<u8>) -> Result<Bytes, AllocError> {
         Ok(Bytes::from(bytes))
@@ -52,75 +75,68 @@ impl Bytes {
     }
 
     #[inline]
-    pub(crate) fn try_into_mut(mut self) -> Result<BytesMut, Bytes> {
-        if !self.is_only_holder() {
+    pub(crate) fn try_into_mut(self) -> Result<BytesMut, Bytes> {
+        // (where there is one, nobody can add another)
+        if !self.is_empty() && self.holders().load(Ordering::Acquire) != 1 {
             return Err(self);
         }
-        // (the drop lets go of an empty list, and of the count)
-        Ok(BytesMut { bytes: take(&mut *self.list), first: 0 })
+        // SAFETY: this is the only holder, and it isn't dropped.
+        let bytes = unsafe { ManuallyDrop::new(self).take_list() };
+        Ok(BytesMut { bytes, first: 0 })
     }
 
+    // The number of holders, of bytes that are some.
     #[inline]
-    fn is_only_holder(&mut self) -> bool {
-        let holders = *self.holders.get_mut();
-        if holders.is_null() {
-            return true;
-        }
-        // SAFETY: it is the count that this holder is one of, and it stays that.
-        let mut holders = ManuallyDrop::new(unsafe { Arc::from_raw(holders) });
-        Arc::get_mut(&mut holders).is_some()
+    fn holders(&self) -> &AtomicUsize {
+        // SAFETY: it is there as long as there is a holder.
+        unsafe { self.holders.as_ref() }
     }
 
-    // The count of the holders, which is made where there was no clone before.
-    fn counted(&self) -> *mut () {
-        let holders = self.holders.load(Ordering::Acquire);
-        if !holders.is_null() {
-            return holders;
+    // Takes the list, and lets go of the number of holders.
+    // SAFETY of a call: there is no other holder, and this one isn't used any more.
+    #[inline]
+    unsafe fn take_list(&mut self) -> Vec<u8> {
+        // SAFETY: it is taken once, as is asked.
+        let mut list = unsafe { ManuallyDrop::take(&mut self.list) };
+        if !list.is_empty() && place_behind(&mut list).is_none() {
+            // SAFETY: there was no place for it either when it was made.
+            drop(unsafe { Box::from_raw(self.holders.as_ptr()) });
         }
-        let made = Arc::into_raw(Arc::new(())).cast_mut();
-        let (success, failure) = (Ordering::AcqRel, Ordering::Acquire);
-        match self.holders.compare_exchange(holders, made, success, failure) {
-            Ok(_) => made,
-            Err(holders) => {
-                // SAFETY: it is that which was made, and nobody has it, since another thread came first.
-                drop(unsafe { Arc::from_raw(made) });
-                holders
-            }
-        }
+        list
     }
 }
 
 impl Default for Bytes {
     #[inline]
     fn default() -> Bytes {
-        Bytes::from(Vec::new())
+        Bytes::new()
     }
 }
 
 impl Clone for Bytes {
+    #[inline]
     fn clone(&self) -> Bytes {
         if self.is_empty() {
             return Bytes::new();
         }
-        let holders = self.counted();
-        // SAFETY: it is the count that this holder is one of, so that it is there. From here on it counts one more, and
-        // while it counts several nobody changes the bytes or lets go of them.
-        let list = unsafe {
-            Arc::increment_strong_count(holders);
-            ptr::read(&raw const self.list)
-        };
-        Bytes { list, holders: AtomicPtr::new(holders) }
+        let before = self.holders().fetch_add(1, Ordering::Relaxed);
+        assert!(before < usize::MAX / 2, "too many holders");
+        // SAFETY: while there are several holders, nobody changes the list or lets go of it.
+        Bytes { list: unsafe { ptr::read(&raw const self.list) }, holders: self.holders }
     }
 }
 
 impl Drop for Bytes {
     #[inline]
     fn drop(&mut self) {
-        let holders = *self.holders.get_mut();
-        // SAFETY: it is the count that this holder is one of, until here.
-        if holders.is_null() || Arc::into_inner(unsafe { Arc::from_raw(holders) }).is_some() {
-            // SAFETY: nobody else holds the bytes, and after this nor does this holder.
-            unsafe { ManuallyDrop::drop(&mut self.list) };
+        if self.is_empty() {
+            return;
+        }
+        // (where there is one, nobody can add another)
+        let holders = self.holders();
+        if holders.load(Ordering::Acquire) == 1 || holders.fetch_sub(1, Ordering::AcqRel) == 1 {
+            // SAFETY: this was the last holder.
+            drop(unsafe { self.take_list() });
         }
     }
 }
@@ -141,10 +157,23 @@ impl Hash for Bytes {
 
 impl From<Vec<u8>> for Bytes {
     #[inline]
-    fn from(bytes: Vec<u8>) -> Bytes {
-        Bytes { list: ManuallyDrop::new(bytes), holders: AtomicPtr::default() }
+    fn from(mut bytes: Vec<u8>) -> Bytes {
+        if bytes.is_empty() {
+            return Bytes::new();
+        }
+        let one = AtomicUsize::new(1);
+        let holders = match place_behind(&mut bytes) {
+            Some(place) => {
+                // SAFETY: it is room of the list, for just that.
+                unsafe { place.write(one) };
+                place
+            }
+            None => NonNull::from(Box::leak(Box::new(one))),
+        };
+        Bytes { list: ManuallyDrop::new(bytes), holders }
     }
 }
+
 /// A copy of the bytes.
 impl From<&[u8]> for Bytes {
     #[inline]

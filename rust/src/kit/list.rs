@@ -1,6 +1,7 @@
 //! Lists whose growth is refused by an error.
 
 use super::AllocError;
+use super::bytes::room_to_share;
 use alloc::alloc::{Layout, alloc, alloc_zeroed, realloc};
 use alloc::vec::Vec;
 use core::mem::{self, ManuallyDrop, MaybeUninit};
@@ -114,7 +115,8 @@ impl<T> List<T> for Vec<T> {
     }
 }
 
-/// A list of so many items that are the same. Bytes that are 0 are asked for as such, so that none is written.
+/// A list of so many items that are the same. Bytes that are 0 are asked for as such, so that none is written. Lists of
+/// bytes have room for the number of those who will share them.
 ///
 /// # Errors
 /// [`AllocError`] where memory is refused.
@@ -139,23 +141,37 @@ pub trait Fill: Copy {
 impl Fill for u8 {
     #[inline]
     fn filled(self, count: usize) -> Result<Vec<u8>, AllocError> {
-        if self == 0 && count > FEW {
-            return zeroed(count);
-        }
-        let mut list = Vec::with_room(count)?;
-        let places = &mut list.spare_capacity_mut()[..count];
-        match count {
-            8..16 => fill_ends::<8>(places, self),
-            16..=32 => fill_ends::<16>(places, self),
-            _ => {
-                list.resize(count, self);
-                return Ok(list);
-            }
-        }
-        // SAFETY: each of so many places is among the first or the last ones.
-        unsafe { list.set_len(count) };
-        Ok(list)
+        filled_within(self, count, room_to_share(count))
     }
+}
+
+/// So many bytes that are 0, in a list that has no room for more.
+///
+/// # Errors
+/// [`AllocError`] where memory is refused.
+pub(crate) fn zeros(count: usize) -> Result<Vec<u8>, AllocError> {
+    filled_within(0, count, count)
+}
+
+/// So many bytes that are the same, in a list with room for so many.
+#[inline]
+fn filled_within(byte: u8, count: usize, room: usize) -> Result<Vec<u8>, AllocError> {
+    if byte == 0 && count > FEW {
+        return zeroed(count, room);
+    }
+    let mut list = Vec::with_room(room)?;
+    let places = &mut list.spare_capacity_mut()[..count];
+    match count {
+        8..16 => fill_ends::<8>(places, byte),
+        16..=32 => fill_ends::<16>(places, byte),
+        _ => {
+            list.resize(count, byte);
+            return Ok(list);
+        }
+    }
+    // SAFETY: each of so many places is among the first or the last ones.
+    unsafe { list.set_len(count) };
+    Ok(list)
 }
 
 /// Writes a byte to the first `N` places and to the last `N`. Of few places these are all, and no function is called.
@@ -177,17 +193,15 @@ impl Fill for u32 {}
 impl Fill for u64 {}
 impl Fill for bool {}
 
-fn zeroed(count: usize) -> Result<Vec<u8>, AllocError> {
-    let layout = Layout::array::<u8>(count).map_err(|_| AllocError)?;
+fn zeroed(count: usize, room: usize) -> Result<Vec<u8>, AllocError> {
+    let layout = Layout::array::<u8>(room).map_err(|_| AllocError)?;
     // SAFETY: the layout is of more than no bytes.
     let bytes = unsafe { alloc_zeroed(layout) };
     if bytes.is_null() {
         return Err(AllocError);
     }
     // SAFETY: the allocator gave so many bytes for this layout, which is that of a list of them, and all are 0.
-    let bytes =
-        unsafe { alloc::boxed::Box::from_raw(core::ptr::slice_from_raw_parts_mut(bytes, count)) };
-    Ok(bytes.into_vec())
+    Ok(unsafe { Vec::from_raw_parts(bytes, count, room) })
 }
 
 /// Collects what an iterator yields.
