@@ -147,6 +147,7 @@ def without_tests(words, name, heads):
     return kept
 
 
+# What a function begins with that goes to one of two levels.
 BY_LEVEL = r"crate :: kit :: by_(wide_|shifted_)?level !"
 
 
@@ -160,6 +161,9 @@ def without_levels(words, name):
     >>> " ".join(without_levels(tokens(made), "a.rt"))
     'fn f ( a : u8 ) { g ( a ) } fn h ( ) { }'
     >>> without_levels(tokens(made.replace("f_v3(a)", "f_v3(b)")), "a.rt")
+    Traceback (most recent call last):
+    erasing.tokens.Fault: a.rt: f goes elsewhere
+    >>> without_levels(tokens(made.replace("!(", "!(where b;")), "a.rt")
     Traceback (most recent call last):
     erasing.tokens.Fault: a.rt: f goes elsewhere
     """

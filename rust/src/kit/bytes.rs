@@ -120,6 +120,7 @@ impl Clone for Bytes {
             return Bytes::new();
         }
         let before = self.holders().fetch_add(1, Ordering::Relaxed);
+        // (as `Arc` has it: only a program that forgets clones can come so far)
         assert!(before < usize::MAX / 2, "too many holders");
         // SAFETY: while there are several holders, nobody changes the list or lets go of it.
         Bytes { list: unsafe { ptr::read(&raw const self.list) }, holders: self.holders }

@@ -28,7 +28,7 @@ pub mod extract;
 pub(crate) mod from_rows;
 #[doc(hidden)]
 pub mod push_rows;
-pub(crate) mod read_word;
+mod read_word;
 #[doc(hidden)]
 pub mod room;
 mod run_words;
