@@ -1,13 +1,13 @@
 -- Runs of a list, word by word, by where they begin and end.
-use Rattle.mask_bits.proofs.Common.{◌≡◌, ◌≢◌, ℕ, zero, suc, ◌+◌, ◌*◌, ◌-◌, ◌/◌, ◌%◌, ◌^◌, ◌<◌, ◌≤◌, ◌&&◌, not, Bool, true, false, nat_eq, List, [], ◌∷◌, ◌++◌, length, get_or, take, drop, count_ones, refl, sym, ap, ap₂, ◌∙◌, inl, inr, arith, mod-eq_of_lt, add-zero, bit_and, bit_or, zip, append-nil, bit_at, bit_not, leading_ones, leading_of_zero, cases_eq, true≢false, bit_at_not, bit_at-lt, bit_at_ones, bit_at_above, bit_at-zero, take-append-drop, nil_from_length, get_or-take, get_or_past, and_le_l, length-zip, indices_from, repeated, runs_from, with_index, runs_behind, runs_between, AreEdges, begins, word_bits, word_part, padded_remainder, w64, drop-drop, ext_get_or, length-take, length-drop, bool_byte, append_assoc}
-use Rattle.mask_bits.proofs.Lists.CountLemmas.{get_or-padded}
+use Rattle.mask_bits.proofs.Common.{◌≡◌, ◌≢◌, ℕ, zero, suc, ◌+◌, ◌*◌, ◌-◌, ◌/◌, ◌%◌, ◌^◌, ◌<◌, ◌≤◌, ◌&&◌, not, Bool, true, false, nat_eq, List, [], ◌∷◌, ◌++◌, length, get_or, take, drop, count_ones, refl, sym, ap, ap₂, ◌∙◌, inl, inr, arith, mod-eq_of_lt, add-zero, bit_and, bit_or, zip, append-nil, bit_at, bit_not, leading_ones, leading_of_zero, cases_eq, true≢false, bit_at_not, bit_at-lt, bit_at_ones, bit_at_above, bit_at-zero, take-append-drop, nil_from_length, get_or-take, get_or_past, and_le_l, length-zip, indices_from, count, repeated, runs, runs_from, with_index, runs_behind, runs_between, AreEdges, begins, starts_of, word_bits, word_part, padded_remainder, w64, drop-drop, ext_get_or, length-take, length-drop, bool_byte, append_assoc}
+use Rattle.mask_bits.proofs.Lists.CountLemmas.{count-append, get_or-padded}
 use Rattle.mask_bits.proofs.Lists.Words.WalkLemmas.{runs_from-repeated_false}
-use Rattle.mask_bits.proofs.Lists.Places.PushLemmas.{cleared, cleared-some, length-indices_of_word}
+use Rattle.mask_bits.proofs.Lists.Places.PushLemmas.{cleared, cleared-some, length-indices, length-indices_of_word}
 use Rattle.mask_bits.proofs.Lists.Places.SelectLemmas.{places-lowest, indices-of_none, high}
 use Rattle.mask_bits.proofs.Lists.Runs.RunLemmas.{with_index-longer, runs_from-front}
 use Rattle.mask_bits.proofs.Lists.Words.LowestLemmas.{low, low-within}
 use Rattle.mask_bits.proofs.Lists.Words.ShiftLemmas.{get_or-word_bits_and, get_or-word_bits_or, get_or-word_bits_not, get_or-word_bits_shl_low, get_or-word_bits_shl_high}
-use Rattle.mask_bits.proofs.Lists.Words.WordLemmas.{length-word_bits, get_or-word_bits}
+use Rattle.mask_bits.proofs.Lists.Words.WordLemmas.{count-word_bits, length-word_bits, get_or-word_bits}
 
 -- ---- edges of a word, popped in turn
 
@@ -73,11 +73,6 @@ runs_from-true : (n : ℕ) (m : List Bool) → runs_from n (true ∷ m) ≡ runs
 runs_from-true n [] = refl
 runs_from-true n (true ∷ m) = ap (with_index n) (runs_from-true (n + 1) m) ∙ with_index-behind n ((n + 1) + 1) m
 runs_from-true n (false ∷ m) = grind (arith, runs_from-front n 0 (true ∷ false ∷ m))
-
--- where values are true and the ones before them are not: `before` is the one before the first
-abbrev pub starts_of : Bool → List Bool → List Bool
-starts_of before [] = []
-starts_of before (v ∷ m) = (v && not before) ∷ starts_of v m
 
 -- where values are not true and the ones before them are
 abbrev pub ends_of : Bool → List Bool → List Bool
@@ -210,14 +205,17 @@ pub behind-word : (inside : Bool) (start base w b : ℕ) (rest : List Bool) → 
     ≡ runs_behind inside start base (word_bits w ++ rest)
 behind-word inside start base w b rest room fits b_fits shows some_edge =
     let m : List Bool = word_bits w in
-    let last = last-of_word inside w fits in
-    let here : ℕ = (base + (64 - leading_ones w64 w)) % 2 ^ 64 in
-    ap₂ (λ (s e : List Bool). zip (begins inside start (indices_from base s)) (indices_from base e) ++ runs_behind (nat_eq (w / 2 ^ 63) 1) here (base + 64) rest)
-    (word_of_starts inside w b b_fits shows) (word_of_ends inside w b fits shows)
-    ∙ ap (λ (rs : List (ℕ × ℕ)). zip (begins inside start (indices_from base (starts_of inside m))) (indices_from base (ends_of inside m)) ++ rs)
-    (same_open (nat_eq (w / 2 ^ 63) 1) here (open_of inside start base m) (base + 64) rest (λ e. sym (open-word inside start base w room fits some_edge e))
-    ∙ ap₂ (λ l n. runs_behind l (open_of inside start base m) (base + n) rest) (sym last) (sym (length-word_bits w)))
-    ∙ sym (behind-more inside start base m rest)
+    let open_at : ℕ = open_of inside start base m in
+    grind (
+      arith,
+      length-word_bits,
+      last-of_word,
+      word_of_starts inside w b b_fits shows,
+      word_of_ends inside w b fits shows,
+      same_open (nat_eq (w / 2 ^ 63) 1) ((base + (64 - leading_ones w64 w)) % 2 ^ 64) open_at (base + 64) rest,
+      open-word inside start base w,
+      behind-more inside start base m rest,
+    )
 
 -- a full word that has an edge is outside a run
 pub outside : (inside : Bool) (w b : ℕ) → (w ≡ 2 ^ 64 - 1 → inside ≡ true → b ≡ w) → w ≢ b → w ≡ 2 ^ 64 - 1 → inside ≡ false
@@ -292,6 +290,40 @@ behind-remainder inside start n m = grind (arith, behind-padded inside start n (
 pub remainder_ends : (m : List Bool) → get_or (padded_remainder m) 63 false ≡ false
 remainder_ends m = grind (arith, get_or-padded, get_or_past, length-drop)
 
+-- ---- how many runs there are
+
+starts-append : (before : Bool) (m rest : List Bool) → starts_of before (m ++ rest) ≡ starts_of before m ++ starts_of (last_of before m) rest
+starts-append before [] rest = refl
+starts-append before (v ∷ m) rest = ap (λ (ss : List Bool). (v && not before) ∷ ss) (starts-append v m rest)
+
+-- each begins once
+begun : (inside : Bool) (start n : ℕ) (m : List Bool) → length (runs_behind inside start n m) ≡ length (begins inside start (indices_from n (starts_of inside m)))
+begun inside start n [] = grind arith
+begun inside start n (v ∷ m) = grind (arith, runs_from-true, begun true start (n + 1) m, begun false start (n + 1) m, begun true n (n + 1) m)
+
+-- a run takes a true value and, but for the last one, a false one
+pub behind-few : (inside : Bool) (start n : ℕ) (m : List Bool) → 2 * length (runs_behind inside start n m) ≤ length m + (bool_byte inside + 1)
+behind-few inside start n [] = grind arith
+behind-few inside start n (v ∷ m) =
+    grind (arith, runs_from-true, behind-few true start (n + 1) m, behind-few false start (n + 1) m, behind-few true n (n + 1) m)
+
+-- no fewer than its front has
+pub behind-front : (inside : Bool) (start n : ℕ) (m rest : List Bool) → length (runs_behind inside start n m) ≤ length (runs_behind inside start n (m ++ rest))
+behind-front inside start n m rest = grind (arith, begun, starts-append, length-indices, count-append)
+
+pub begun-all : (m : List Bool) → count (starts_of false m) ≡ length (runs m)
+begun-all m = grind (arith, begun false 0 0 m, length-indices)
+
+pub begun-next : (before : Bool) (w i : ℕ) (m : List Bool) → w < 2 ^ 64 → word_bits w ≡ word_part m i
+    → count (starts_of before (word_bits w)) + count (starts_of (nat_eq (w / 2 ^ 63) 1) (drop (64 * (i + 1)) m)) ≡ count (starts_of before (drop (64 * i) m))
+begun-next before w i m fits shows = grind (arith, behind-whole m i, starts-append, count-append, last-of_word)
+
+pub begun-last : (before : Bool) (m : List Bool) → count (starts_of before (padded_remainder m)) ≡ count (starts_of before (drop (64 * (length m / 64)) m))
+begun-last before m = grind (arith, begun before 0 0 (padded_remainder m), begun before 0 0 (drop (64 * (length m / 64)) m), behind-remainder before 0 0 m, length-indices)
+
+pub count-of_starts : (before : Bool) (w b : ℕ) → w < 2 ^ 64 → b < 2 ^ 64 → word_bits b ≡ take 64 (before ∷ word_bits w) → count_ones (bit_and w (2 ^ 64 - 1 - b)) ≡ count (starts_of before (word_bits w))
+count-of_starts before w b fits b_fits shows = grind (arith, and_le_l w (2 ^ 64 - 1 - b), count-word_bits, word_of_starts before w b b_fits shows)
+
 pub ruleset runs_of_word = (word_bits-before, before-full, behind-same_word, last-same_word, outside, append_assoc)
 
-pub ruleset runs_pushed = (no_runs_between, append-nil)
+pub ruleset runs_pushed = (length-runs_between)

@@ -1,5 +1,5 @@
 -- Items and runs of a word's bits that are being pushed. No public clause cites these terms.
-use Rattle.std.specs.Prelude.{ℕ, ◌+◌, ◌≡◌, ◌<◌, ◌≤◌, ◌^◌, Bool, true, false, List, [], ◌∷◌, ◌++◌, length, zip}
+use Rattle.std.specs.Prelude.{ℕ, ◌+◌, ◌≡◌, ◌<◌, ◌≤◌, ◌^◌, ◌&&◌, not, Bool, true, false, List, [], ◌∷◌, ◌++◌, length, zip}
 use Rattle.mask_bits.specs.Positions.{indices_from}
 use Rattle.mask_bits.specs.RunScan.{runs_from}
 use Rattle.mask_bits.specs.Words.{word_bits}
@@ -30,3 +30,8 @@ pub record AreEdges (base starts ends : ℕ) : Type 0 where
 abbrev pub begins : Bool → ℕ → List ℕ → List ℕ
 begins false start ps = ps
 begins true start ps = start ∷ ps
+
+-- where values are true and the ones before them are not: `before` is the one before the first
+abbrev pub starts_of : Bool → List Bool → List Bool
+starts_of before [] = []
+starts_of before (v ∷ m) = (v && not before) ∷ starts_of v m

@@ -1,8 +1,8 @@
 //! The edges of runs in a word: where runs begin in it and where they end.
 
 ghost use Rattle.std.specs.Prelude.{◌≡◌, ◌≢◌, ◌+◌, ◌-◌, ◌≤◌, ◌<◌, ◌^◌, ◌++◌, ◌∷◌, Bool, List, true, false, length, take, slice_index_or, zip};
-ghost use Rattle.mask_bits.specs.Positions.{indices_from};
-ghost use Rattle.mask_bits.specs.Pushed.{runs_behind, runs_between, AreEdges, begins};
+ghost use Rattle.mask_bits.specs.Positions.{count, indices_from};
+ghost use Rattle.mask_bits.specs.Pushed.{runs_behind, runs_between, AreEdges, begins, starts_of};
 ghost use Rattle.mask_bits.specs.Words.{word_bits};
 
 // Whether the words so far end inside a run, and where that begins.
@@ -28,6 +28,14 @@ pub(crate) fn bits_before(inside: bool, word: u64) -> u64
     ensures full { word ≡ 2 ^ 64 - 1 → inside ≡ true → result ≡ word }
 {
     word << 1 | inside as u64
+}
+
+// How many runs begin in a word, where `inside` is the bit before the first.
+#[inline(always)]
+pub(crate) fn count_starts(inside: bool, word: u64) -> usize
+    ensures { result ≡ count (starts_of inside (word_bits word)) }
+{
+    (word & !bits_before(inside, word)).count_ones() as usize
 }
 
 // The edges of a word that has some, and what is open behind it.
@@ -83,7 +91,6 @@ pub(crate) fn pop(base: usize, edges: Edges) -> ((usize, usize), Edges)
         ≡ result.0 ∷ runs_between base result.1.first result.1.starts result.1.ends }
     ensures edges { AreEdges base result.1.starts result.1.ends }
     ensures none { edges.ends ≡ 0 → result.1.ends ≡ 0 }
-    ensures less { 0 < edges.ends → result.1.ends < edges.ends }
 {
     let run = (
         edges.first,

@@ -14,7 +14,7 @@ ghost use Rattle.mask_bits.specs.Words.{word_bits};
 
 use crate::buffer::BitBuffer;
 use crate::chunks::BitChunks;
-use crate::run_words::{Edges, Open, bits_before, edges_in, pop};
+use crate::run_words::{Edges, Open, bits_before, count_starts, edges_in, pop};
 use crate::scan::{first_word, next_word};
 use std::alloc::{AllocError, Global};
 use std::marker::Model;
@@ -39,14 +39,19 @@ impl BitBuffer {
         ensures { IfOk result (λ ranges. ranges.items ≡ runs (values self.now)) }
     {
         let chunks = self.chunks();
-        let mut ranges = Vec::new(alloc);
+        let count = count_runs(&chunks);
+        if count == 0 {
+            return Ok(Vec::new(alloc));
+        }
+        // two more, since runs are put two at a time
+        let mut ranges = Vec::with_capacity(alloc, count + 2)?;
         let mut begun = Open {
             inside: false,
             start: 0,
         };
         // the whole words apart, so that none is tested for being the last
         for i in 0..chunks.len() {
-            begun = push_runs(&mut ranges, begun, 64 * i, chunks.word(i))?;
+            begun = push_runs(&mut ranges, begun, 64 * i, chunks.word(i));
         }
         // zeros past the last value end the last run
         push_runs(
@@ -54,70 +59,58 @@ impl BitBuffer {
             begun,
             64 * chunks.len(),
             chunks.remainder_bits(),
-        )?;
+        );
         Ok(ranges)
     }
 }
 
-// Appends the runs that end within a word whose first index is `base`.
+// How many runs there are.
+#[inline(always)]
+fn count_runs(chunks: &BitChunks<'_>) -> usize
+    ensures runs { result ≡ length (runs chunks.now) }
+    ensures fits { result + 2 < 2 ^ 64 }
+{
+    let mut count = 0;
+    let mut inside = false;
+    for i in 0..chunks.values_len() / 64 {
+        let word = chunks.word(i);
+        count += count_starts(inside, word);
+        inside = word >> 63 == 1;
+    }
+    count + count_starts(inside, chunks.remainder_bits())
+}
+
+// Puts the runs that end within a word whose first index is `base`.
 #[inline(always)]
 #[tactic(auto, using(crate::proofs::RunWordLemmas::runs_of_word))]
-fn push_runs(
-    ranges: &mut Vec<(usize, usize)>,
-    begun: Open,
-    base: usize,
-    word: u64,
-) -> Result<Open, AllocError>
-    requires { base + 64 ≤ 2 ^ 64 }
-    ensures runs { IfOk result (λ after. (rest : List Bool) → ranges.new.items ++ runs_behind after.inside after.start (base + 64) rest
-        ≡ ranges.old.items ++ runs_behind begun.inside begun.start base (word_bits word ++ rest)) }
-    ensures last { IfOk result (λ after. after.inside ≡ slice_index_or (word_bits word) 63 false) }
+fn push_runs(ranges: &mut Vec<(usize, usize)>, begun: Open, base: usize, word: u64) -> Open
+    requires fits { base + 64 ≤ 2 ^ 64 }
+    requires room { vec_len ranges.old + (length (runs_behind begun.inside begun.start base (word_bits word)) + 2) ≤ vec_capacity ranges.old }
+    ensures runs { (rest : List Bool) → ranges.new.items ++ runs_behind result.inside result.start (base + 64) rest
+        ≡ ranges.old.items ++ runs_behind begun.inside begun.start base (word_bits word ++ rest) }
+    ensures last { result.inside ≡ slice_index_or (word_bits word) 63 false }
+    ensures room { vec_capacity ranges.new ≡ vec_capacity ranges.old }
 {
     let before = bits_before(begun.inside, word);
     if word == before {
-        return Ok(begun);
+        return begun;
     }
     let (edges, after) = edges_in(begun, base, word, before);
-    // less room than for any word and two more
-    if ranges.capacity() - ranges.len() < 66 {
-        push_each_run(ranges, base, edges)?;
-        return Ok(after);
-    }
     push_by_two(ranges, base, edges);
-    Ok(after)
+    after
 }
 
-// Appends the runs between edges, one by one. Within a word nothing is looked up but the word.
+// Puts the runs between edges. One test for two is guessed right more often than one for each, and the first
+// two need none.
 #[inline]
 #[tactic(auto, using(crate::proofs::RunWordLemmas::runs_pushed))]
-fn push_each_run(
-    ranges: &mut Vec<(usize, usize)>,
-    base: usize,
-    edges: Edges,
-) -> Result<(), AllocError>
-    requires fits { base + 64 ≤ 2 ^ 64 }
-    requires edges { AreEdges base edges.starts edges.ends }
-    ensures { IfOk result (λ _. ranges.new.items
-        ≡ ranges.old.items ++ runs_between base edges.first edges.starts edges.ends) }
-{
-    let mut left = edges;
-    while left.ends != 0 {
-        let (run, rest) = pop(base, left);
-        ranges.push(run)?;
-        left = rest;
-    }
-    Ok(())
-}
-
-// The same where there is room. One test for two runs is guessed right more often than one for each, and
-// the first two need none.
-#[inline]
 fn push_by_two(ranges: &mut Vec<(usize, usize)>, base: usize, edges: Edges)
-    requires room { vec_len ranges.old + 66 ≤ vec_capacity ranges.old }
+    requires room { vec_len ranges.old + (length (runs_between base edges.first edges.starts edges.ends) + 2) ≤ vec_capacity ranges.old }
     requires fits { base + 64 ≤ 2 ^ 64 }
     requires edges { AreEdges base edges.starts edges.ends }
-    ensures { ranges.new.items
+    ensures runs { ranges.new.items
         ≡ ranges.old.items ++ runs_between base edges.first edges.starts edges.ends }
+    ensures room { vec_capacity ranges.new ≡ vec_capacity ranges.old }
 {
     let end = ranges.len() + edges.ends.count_ones() as usize;
     let first = push_first(ranges, base, edges);
@@ -129,7 +122,7 @@ fn push_by_two(ranges: &mut Vec<(usize, usize)>, base: usize, edges: Edges)
     ranges.truncate(end);
 }
 
-// Appends the first run, or another pair where there is none. Returns the edges that are left.
+// Puts the first run, or another pair where there is none. Returns the edges that are left.
 #[inline]
 fn push_first(ranges: &mut Vec<(usize, usize)>, base: usize, edges: Edges) -> Edges
     requires room { vec_len ranges.old < vec_capacity ranges.old }

@@ -23,6 +23,12 @@ pub(crate) fn bits_before(inside: bool, word: u64) -> u64 {
     word << 1 | inside as u64
 }
 
+// How many runs begin in a word, where `inside` is the bit before the first.
+#[inline(always)]
+pub(crate) fn count_starts(inside: bool, word: u64) -> usize {
+    (word & !bits_before(inside, word)).count_ones() as usize
+}
+
 // The edges of a word that has some, and what is open behind it.
 #[inline(always)]
 pub(crate) fn edges_in(begun: Open, base: usize, word: u64, before: u64) -> (Edges, Open) {

@@ -5,7 +5,7 @@ use crate::kit::AllocError;
 use crate::kit::prelude::*;
 use crate::proved::mask_bits::buffer::BitBuffer;
 use crate::proved::mask_bits::chunks::BitChunks;
-use crate::proved::mask_bits::run_words::{Edges, Open, bits_before, edges_in, pop};
+use crate::proved::mask_bits::run_words::{Edges, Open, bits_before, count_starts, edges_in, pop};
 use crate::proved::mask_bits::scan::{first_word, next_word};
 
 impl BitBuffer {
@@ -32,7 +32,7 @@ impl BitBuffer {
     /// - `IfOk result (λ ranges. ranges.items ≡ runs (values self.now))`
     #[inline]
     pub fn runs(&self) -> Result<Vec<(usize, usize)>, AllocError> {
-        crate::kit::by_level!(self.runs_v3(), self.runs_any())
+        crate::kit::by_level!(where self.len() > 128; self.runs_v3(), self.runs_any())
     }
 
     #[cfg(target_arch = "x86_64")]
@@ -44,58 +44,50 @@ impl BitBuffer {
     #[inline(always)]
     fn runs_any(&self) -> Result<Vec<(usize, usize)>, AllocError> {
         let chunks = self.chunks();
-        let mut ranges = Vec::new();
+        let count = count_runs(&chunks);
+        if count == 0 {
+            return Ok(Vec::new());
+        }
+        // two more, since runs are put two at a time
+        let mut ranges = Vec::with_room(count + 2)?;
         let mut begun = Open { inside: false, start: 0 };
         // the whole words apart, so that none is tested for being the last
         for i in 0..chunks.len() {
-            begun = push_runs(&mut ranges, begun, 64 * i, chunks.word_proved(i))?;
+            begun = push_runs(&mut ranges, begun, 64 * i, chunks.word_proved(i));
         }
         // zeros past the last value end the last run
-        push_runs(&mut ranges, begun, 64 * chunks.len(), chunks.remainder_bits())?;
+        push_runs(&mut ranges, begun, 64 * chunks.len(), chunks.remainder_bits());
         Ok(ranges)
     }
 }
 
-// Appends the runs that end within a word whose first index is `base`.
+// How many runs there are.
 #[inline(always)]
-fn push_runs(
-    ranges: &mut Vec<(usize, usize)>,
-    begun: Open,
-    base: usize,
-    word: u64,
-) -> Result<Open, AllocError> {
+fn count_runs(chunks: &BitChunks<'_>) -> usize {
+    let mut count = 0;
+    let mut inside = false;
+    for i in 0..chunks.values_len() / 64 {
+        let word = chunks.word_proved(i);
+        count += count_starts(inside, word);
+        inside = word >> 63 == 1;
+    }
+    count + count_starts(inside, chunks.remainder_bits())
+}
+
+// Puts the runs that end within a word whose first index is `base`.
+#[inline(always)]
+fn push_runs(ranges: &mut Vec<(usize, usize)>, begun: Open, base: usize, word: u64) -> Open {
     let before = bits_before(begun.inside, word);
     if word == before {
-        return Ok(begun);
+        return begun;
     }
     let (edges, after) = edges_in(begun, base, word, before);
-    // less room than for any word and two more
-    if ranges.capacity() - ranges.len() < 66 {
-        push_each_run(ranges, base, edges)?;
-        return Ok(after);
-    }
     push_by_two(ranges, base, edges);
-    Ok(after)
+    after
 }
 
-// Appends the runs between edges, one by one. Within a word nothing is looked up but the word.
-#[inline(always)]
-fn push_each_run(
-    ranges: &mut Vec<(usize, usize)>,
-    base: usize,
-    edges: Edges,
-) -> Result<(), AllocError> {
-    let mut left = edges;
-    while left.ends != 0 {
-        let (run, rest) = pop(base, left);
-        ranges.try_push(run)?;
-        left = rest;
-    }
-    Ok(())
-}
-
-// The same where there is room. One test for two runs is guessed right more often than one for each, and
-// the first two need none.
+// Puts the runs between edges. One test for two is guessed right more often than one for each, and the first
+// two need none.
 #[inline(always)]
 fn push_by_two(ranges: &mut Vec<(usize, usize)>, base: usize, edges: Edges) {
     let end = ranges.len() + edges.ends.count_ones() as usize;
@@ -108,7 +100,7 @@ fn push_by_two(ranges: &mut Vec<(usize, usize)>, base: usize, edges: Edges) {
     ranges.truncate(end);
 }
 
-// Appends the first run, or another pair where there is none. Returns the edges that are left.
+// Puts the first run, or another pair where there is none. Returns the edges that are left.
 #[inline(always)]
 fn push_first(ranges: &mut Vec<(usize, usize)>, base: usize, edges: Edges) -> Edges {
     let (run, left) = pop(base, edges);

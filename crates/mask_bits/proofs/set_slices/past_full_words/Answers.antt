@@ -1,4 +1,4 @@
-use Rattle.mask_bits.proofs.Common.{◌≡◌, ◌+◌, ◌*◌, ◌/◌, ◌≤◌, length, subst, sym, ap, ◌∙◌, arith, word_bits, padded_part, PassesTrue}
+use Rattle.mask_bits.proofs.Common.{◌+◌, ◌*◌, ◌/◌, ◌≤◌, length, ◌∙◌, arith}
 use Rattle.mask_bits.proofs.Lists.Words.PaddedLemmas.{padded_part-whole, padded_part-remainder}
 use Rattle.mask_bits.proofs.Lists.Words.WalkLemmas.{IsLeft-read}
 use Rattle.mask_bits.proofs.RunWalkLemmas.{full-within, PassesTrue-none, PassesTrue-more}
@@ -21,10 +21,7 @@ loop-i-init c =
     }
 
 pub returns-then-next-clause-full : goal.returns-then-next-clause-full
-returns-then-next-clause-full c =
-    let m = c.args.chunks.now in
-    let i = c.loop-i.i in
-    c.loop-i.invariant.passes c.word-next.result c.word-next.type_inv (c.word-next.ensures ∙ padded_part-whole m i (omega (arith, c.loop-i-test.true, c.len-whole.ensures)))
+returns-then-next-clause-full c = grind (arith, padded_part-whole, c.loop-i.invariant.passes c.word-next.result)
 
 pub loop-i-preserved : goal.loop-i-preserved
 loop-i-preserved c =
@@ -36,13 +33,7 @@ loop-i-preserved c =
     record { within = whole; passes = λ next fits read. PassesTrue-more m a.at a.word i c.word-next.result next fits c.if-next.false read here }
 
 pub returns-clause-full : goal.returns-clause-full
-returns-clause-full c =
-    let a = c.args in
-    let m = a.chunks.now in
-    let r = c.remainder_bits.result in
-    let ends : c.loop-i.i ≡ c.len-whole.result = omega (arith, c.loop-i-test.false, c.loop-i.invariant.within, c.len-whole.ensures) in
-    let read : word_bits r ≡ padded_part m c.loop-i.i = c.remainder_bits.ensures ∙ padded_part-remainder m ∙ ap (padded_part m) (sym (ends ∙ c.len-whole.ensures)) in
-    subst (λ i. PassesTrue m a.at a.word i r) ends (c.loop-i.invariant.passes r c.remainder_bits.type_inv read)
+returns-clause-full c = grind (arith, padded_part-remainder, c.loop-i.invariant.passes c.remainder_bits.result)
 
 pub returns-clause-found : goal.returns-clause-found
 returns-clause-found c full =

@@ -1,4 +1,4 @@
-use Rattle.mask_bits.proofs.Common.{List, ℕ, ◌≡◌, ◌≤◌, ap, ◌∙◌, ◌+◌, ◌++◌, length, take, count_ones, arith, sym, length-append, runs_between}
+use Rattle.mask_bits.proofs.Common.{List, ℕ, ◌≡◌, ap, ◌∙◌, ◌+◌, ◌++◌, length, take, count_ones, arith, sym, length-append, runs_between}
 use Rattle.mask_bits.proofs.Lists.Places.PushLemmas.{ArePushed-all, ArePushed-none}
 use Rattle.mask_bits.proofs.RunWordLemmas.{length-runs_between}
 use Rattle.mask_bits.proofs.set_slices.push_by_two.Goals as goal
@@ -16,14 +16,11 @@ loop-left-preserved c =
     let is = c.push_first-left-in-loop-left.ensures in
     record { pushed = is.pushed _ (next.pushed _ so_far.pushed); edges = is.edges; room = is.room ∙ next.room ∙ so_far.room }
 
-pub returns : goal.returns
-returns c =
+pub returns-clause-runs : goal.returns-clause-runs
+returns-clause-runs c =
     let a = c.args in
     let l = c.loop-left in
     let e = a.edges in
-    let here : List (ℕ × ℕ) = runs_between a.base e.first e.starts e.ends in
-    let all : List (ℕ × ℕ) = a.ranges.now.items ++ here in
-    let end : length all ≡ c.len.result + count_ones e.ends = omega (arith, length-append a.ranges.now.items here, length-runs_between a.base e.first e.starts e.ends c.requires.edges) in
-    let enough : length all ≤ length l.ranges.items = omega (arith, end) in
-    c.truncate.ensures.items ∙ ap (λ n. take n l.ranges.items) (sym end)
-    ∙ ArePushed-all all l.ranges.items _ enough l.invariant.pushed
+    let all : List (ℕ × ℕ) = a.ranges.now.items ++ runs_between a.base e.first e.starts e.ends in
+    let end : length all ≡ c.len.result + count_ones e.ends = grind (arith, length-append, length-runs_between) in
+    c.truncate.ensures.items ∙ ap (λ n. take n l.ranges.items) (sym end) ∙ ArePushed-all all l.ranges.items _ (omega (arith, end)) l.invariant.pushed
