@@ -106,9 +106,10 @@ def levelled(function, of, body):
 #[inline(always)]
 {function.signature(of_any, "pub(crate) " if function.name in INNER else "")} {body}
 """
-    which = "wide_" if function.name in WIDE else "shifted_" if function.name in SHIFTED else ""
-    much = f"where {MUCH[function.name]}; " if function.name in MUCH else ""
-    return f"{{ crate::kit::by_{which}level!({much}{by_pext}{calls[0]}, {calls[1]}) }}", more
+    which = "wide_level" if function.name in WIDE else "shifted_level" if function.name in SHIFTED else "level"
+    if function.name in MUCH:
+        which, by_pext = which.replace("level", "level_if"), f"{MUCH[function.name]}, "
+    return f"{{ crate::kit::by_{which}!({by_pext}{calls[0]}, {calls[1]}) }}", more
 
 
 def inner(body):

@@ -148,7 +148,7 @@ def without_tests(words, name, heads):
 
 
 # What a function begins with that goes to one of two levels.
-BY_LEVEL = r"crate :: kit :: by_(wide_|shifted_)?level !"
+BY_LEVEL = r"crate :: kit :: by_(wide_|shifted_)?level(_if)? !"
 
 
 def without_levels(words, name):
@@ -163,7 +163,7 @@ def without_levels(words, name):
     >>> without_levels(tokens(made.replace("f_v3(a)", "f_v3(b)")), "a.rt")
     Traceback (most recent call last):
     erasing.tokens.Fault: a.rt: f goes elsewhere
-    >>> without_levels(tokens(made.replace("!(", "!(where b;")), "a.rt")
+    >>> without_levels(tokens(made.replace("!(", "_if!(b, ")), "a.rt")
     Traceback (most recent call last):
     erasing.tokens.Fault: a.rt: f goes elsewhere
     """
@@ -176,7 +176,7 @@ def without_levels(words, name):
             continue
         of, head = words[i + 1].removesuffix("_proved"), words[i + 2 : body]
         last = behind(words, body)
-        much = " ".join(["where", *tokens(MUCH[of]), "; "]) if of in MUCH else ""
+        much = " ".join([*tokens(MUCH[of]), ", "]) if of in MUCH else ""
         calls = " ".join(words[body + 8 : last - 2]).removeprefix(much)
         generics = next(n for n in range(len(head)) if head[n] == "(" and head[:n].count("<") == head[:n].count(">"))
         own = re.findall(r"(?:^|[(,] )(?:mut )?(\w+) :(?!:)", " ".join(head[generics:behind(head, generics)]))

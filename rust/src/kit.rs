@@ -14,7 +14,9 @@ pub use alloc::sync::Arc;
 pub use bytes::{Bytes, BytesMut};
 pub(crate) use list::zeros;
 pub use list::{Collect, CowSlice, List, ToList, filled};
-pub(crate) use processor::{by_level, by_shifted_level, by_wide_level, levelled, quickest};
+pub(crate) use processor::{
+    by_level, by_level_if, by_shifted_level, by_wide_level_if, levelled, quickest,
+};
 pub use shared::{TryClone, shared};
 pub use text::{Text, TryToString, formatted};
 

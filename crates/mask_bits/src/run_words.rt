@@ -60,7 +60,7 @@ pub(crate) fn edges_in(begun: Open, base: usize, word: u64, before: u64) -> (Edg
 
 // The edges of a word in which bits of `starts` begin runs and those of `ends` end them.
 #[inline]
-pub(crate) fn edges_of(begun: Open, base: usize, starts: u64, ends: u64) -> Edges
+fn edges_of(begun: Open, base: usize, starts: u64, ends: u64) -> Edges
     requires fits { base + 64 ≤ 2 ^ 64 }
     requires begin { length (indices_from base (word_bits ends))
         ≤ length (begins begun.inside begun.start (indices_from base (word_bits starts))) }

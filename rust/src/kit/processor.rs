@@ -8,17 +8,8 @@ use crate::proved::vortex_mask::intersect_by_rank as proved;
 #[cfg(target_arch = "x86_64")]
 pub(crate) use by_instruction::{Bmi2, extract, put_pairs};
 
-/// Calls the function that is compiled for what the processor has: where PEXT is quick, for x86-64-v3, or for any. Where a
-/// condition stands before them, it tells whether there is so much to do that it pays to ask.
+/// Calls the function that is compiled for what the processor has: where PEXT is quick, for x86-64-v3, or for any.
 macro_rules! by_level {
-    (where $much:expr; $v3:expr, $any:expr) => {{
-        #[cfg(target_arch = "x86_64")]
-        if $much && crate::kit::processor::has_v3() {
-            // SAFETY: the processor has what it is compiled for.
-            return unsafe { $v3 };
-        }
-        $any
-    }};
     ($by_pext:expr, $v3:expr, $any:expr) => {{
         #[cfg(target_arch = "x86_64")]
         if crate::kit::processor::has_quick_bits() {
@@ -28,10 +19,23 @@ macro_rules! by_level {
         crate::kit::by_level!($v3, $any)
     }};
     ($v3:expr, $any:expr) => {
-        crate::kit::by_level!(where true; $v3, $any)
+        crate::kit::by_level_if!(true, $v3, $any)
     };
 }
 pub(crate) use by_level;
+
+/// The same of two, where a condition tells whether there is so much to do that it pays to ask.
+macro_rules! by_level_if {
+    ($much:expr, $v3:expr, $any:expr) => {{
+        #[cfg(target_arch = "x86_64")]
+        if $much && crate::kit::processor::has_v3() {
+            // SAFETY: the processor has what it is compiled for.
+            return unsafe { $v3 };
+        }
+        $any
+    }};
+}
+pub(crate) use by_level_if;
 
 /// A function with a copy that is compiled for x86-64-v3, which is called where the processor has that, and there is so
 /// much to do that it pays to ask.
@@ -54,7 +58,7 @@ macro_rules! levelled {
                 any($($argument),+);
             }
 
-            crate::kit::by_level!(where $much; v3($($argument),+), any($($argument),+));
+            crate::kit::by_level_if!($much, v3($($argument),+), any($($argument),+));
         }
     };
 }
@@ -62,8 +66,8 @@ pub(crate) use levelled;
 
 /// The same of loops over vectors alone: a program that is compiled for x86-64-v2 takes its own, since the compiler reads
 /// each 32 bytes as two halves there.
-macro_rules! by_wide_level {
-    (where $much:expr; $v3:expr, $any:expr) => {{
+macro_rules! by_wide_level_if {
+    ($much:expr, $v3:expr, $any:expr) => {{
         #[cfg(all(target_arch = "x86_64", not(target_feature = "sse4.2")))]
         if $much && crate::kit::processor::has_v3() {
             // SAFETY: the processor has what it is compiled for.
@@ -72,7 +76,7 @@ macro_rules! by_wide_level {
         $any
     }};
 }
-pub(crate) use by_wide_level;
+pub(crate) use by_wide_level_if;
 
 /// The same of what shifts words within those loops: just such a program takes that of x86-64-v3, which gains more.
 macro_rules! by_shifted_level {

@@ -72,7 +72,11 @@ pub fn combine<C: BitOp>(
     len: usize,
     out: &mut [u8],
 ) {
-    crate::kit::by_wide_level!(where len > 128; combine_v3::<C>(a, a_offset, b, b_offset, len, out), combine_any::<C>(a, a_offset, b, b_offset, len, out))
+    crate::kit::by_wide_level_if!(
+        len > 128,
+        combine_v3::<C>(a, a_offset, b, b_offset, len, out),
+        combine_any::<C>(a, a_offset, b, b_offset, len, out)
+    )
 }
 
 #[cfg(target_arch = "x86_64")]
@@ -160,7 +164,11 @@ fn extend<C: BitOp, A: ReadWord, B: ReadWord>(
 /// `bytes` past the list have no meaning.
 #[inline]
 pub fn combine_in_place<C: BitOp>(bytes: &mut [u8], b: &[u8], b_offset: usize, len: usize) {
-    crate::kit::by_wide_level!(where len > 128; combine_in_place_v3::<C>(bytes, b, b_offset, len), combine_in_place_any::<C>(bytes, b, b_offset, len))
+    crate::kit::by_wide_level_if!(
+        len > 128,
+        combine_in_place_v3::<C>(bytes, b, b_offset, len),
+        combine_in_place_any::<C>(bytes, b, b_offset, len)
+    )
 }
 
 #[cfg(target_arch = "x86_64")]
@@ -211,7 +219,11 @@ fn change_last<C: BitOp>(bytes: &mut [u8], b: Bits<'_>, i: usize) {
 /// Negates the first `len` bits of `bytes`. Those past them have no meaning.
 #[inline]
 pub fn negate_in_place(bytes: &mut [u8], len: usize) {
-    crate::kit::by_wide_level!(where len > 128; negate_in_place_v3(bytes, len), negate_in_place_any(bytes, len))
+    crate::kit::by_wide_level_if!(
+        len > 128,
+        negate_in_place_v3(bytes, len),
+        negate_in_place_any(bytes, len)
+    )
 }
 
 #[cfg(target_arch = "x86_64")]

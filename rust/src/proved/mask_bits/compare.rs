@@ -23,7 +23,11 @@ pub fn none_true<C: BitOp>(
     b_offset: usize,
     len: usize,
 ) -> bool {
-    crate::kit::by_wide_level!(where len > 128; none_true_v3::<C>(a, a_offset, b, b_offset, len), none_true_any::<C>(a, a_offset, b, b_offset, len))
+    crate::kit::by_wide_level_if!(
+        len > 128,
+        none_true_v3::<C>(a, a_offset, b, b_offset, len),
+        none_true_any::<C>(a, a_offset, b, b_offset, len)
+    )
 }
 
 #[cfg(target_arch = "x86_64")]

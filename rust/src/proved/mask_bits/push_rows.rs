@@ -14,7 +14,11 @@ pub fn choose_rows<const K: usize, T: Copy, R: Room<T>>(
     rows: &[T],
     chunks: &BitChunks<'_>,
 ) {
-    crate::kit::by_level!(where rows.len() > 128; choose_rows_v3::<K, T, R>(out, rows, chunks), choose_rows_any::<K, T, R>(out, rows, chunks))
+    crate::kit::by_level_if!(
+        rows.len() > 128,
+        choose_rows_v3::<K, T, R>(out, rows, chunks),
+        choose_rows_any::<K, T, R>(out, rows, chunks)
+    )
 }
 
 #[cfg(target_arch = "x86_64")]

@@ -42,7 +42,7 @@ pub(crate) fn edges_in(begun: Open, base: usize, word: u64, before: u64) -> (Edg
 
 // The edges of a word in which bits of `starts` begin runs and those of `ends` end them.
 #[inline(always)]
-pub(crate) fn edges_of(begun: Open, base: usize, starts: u64, ends: u64) -> Edges {
+fn edges_of(begun: Open, base: usize, starts: u64, ends: u64) -> Edges {
     if begun.inside {
         return Edges { first: begun.start, starts, ends };
     }

@@ -49,7 +49,11 @@ impl BitBuffer {
 
     #[inline]
     pub(crate) fn indices_proved(&self, true_count: usize) -> Result<Vec<usize>, AllocError> {
-        crate::kit::by_level!(where self.len() > 128; self.indices_v3(true_count), self.indices_any(true_count))
+        crate::kit::by_level_if!(
+            self.len() > 128,
+            self.indices_v3(true_count),
+            self.indices_any(true_count)
+        )
     }
 
     #[cfg(target_arch = "x86_64")]
