@@ -54,7 +54,6 @@ MUCH = {
     "negate_in_place": "len > 128",
     "none_true": "len > 128",
     "put_bits": "n > 128",
-    "runs": "self.len() > 128",
 }
 # Levelled functions that others call in their loops: these go on to the one of their own level.
 RANK = "crate::proved::vortex_mask::intersect_by_rank"

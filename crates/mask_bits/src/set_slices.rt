@@ -10,7 +10,7 @@ ghost use Rattle.mask_bits.specs.Runs.{AreRuns};
 ghost use Rattle.mask_bits.specs.RunScan.{runs};
 ghost use Rattle.mask_bits.specs.Pushed.{runs_behind, runs_between, AreEdges, ArePushed};
 ghost use Rattle.mask_bits.specs.Walk.{IsLeft, PassesTrue};
-ghost use Rattle.mask_bits.specs.Words.{word_bits};
+ghost use Rattle.mask_bits.specs.Words.{padded_remainder, word_bits};
 
 use crate::buffer::BitBuffer;
 use crate::chunks::BitChunks;
@@ -39,7 +39,9 @@ impl BitBuffer {
         ensures { IfOk result (λ ranges. ranges.items ≡ runs (values self.now)) }
     {
         let chunks = self.chunks();
-        let count = count_runs(&chunks);
+        // zeros past the last value end the last run
+        let last = chunks.remainder_bits();
+        let count = count_runs(&chunks, last);
         if count == 0 {
             return Ok(Vec::new(alloc));
         }
@@ -53,20 +55,15 @@ impl BitBuffer {
         for i in 0..chunks.len() {
             begun = push_runs(&mut ranges, begun, 64 * i, chunks.word(i));
         }
-        // zeros past the last value end the last run
-        push_runs(
-            &mut ranges,
-            begun,
-            64 * chunks.len(),
-            chunks.remainder_bits(),
-        );
+        push_runs(&mut ranges, begun, 64 * chunks.len(), last);
         Ok(ranges)
     }
 }
 
-// How many runs there are.
+// How many runs there are, where `last` has the values after the whole words.
 #[inline(always)]
-fn count_runs(chunks: &BitChunks<'_>) -> usize
+fn count_runs(chunks: &BitChunks<'_>, last: u64) -> usize
+    requires { word_bits last ≡ padded_remainder chunks.now }
     ensures runs { result ≡ length (runs chunks.now) }
     ensures fits { result + 2 < 2 ^ 64 }
 {
@@ -77,7 +74,7 @@ fn count_runs(chunks: &BitChunks<'_>) -> usize
         count += count_starts(inside, word);
         inside = word >> 63 == 1;
     }
-    count + count_starts(inside, chunks.remainder_bits())
+    count + count_starts(inside, last)
 }
 
 // Puts the runs that end within a word whose first index is `base`.

@@ -32,7 +32,7 @@ impl BitBuffer {
     /// - `IfOk result (λ ranges. ranges.items ≡ runs (values self.now))`
     #[inline]
     pub fn runs(&self) -> Result<Vec<(usize, usize)>, AllocError> {
-        crate::kit::by_level_if!(self.len() > 128, self.runs_v3(), self.runs_any())
+        crate::kit::by_level!(self.runs_v3(), self.runs_any())
     }
 
     #[cfg(target_arch = "x86_64")]
@@ -44,7 +44,9 @@ impl BitBuffer {
     #[inline(always)]
     fn runs_any(&self) -> Result<Vec<(usize, usize)>, AllocError> {
         let chunks = self.chunks();
-        let count = count_runs(&chunks);
+        // zeros past the last value end the last run
+        let last = chunks.remainder_bits();
+        let count = count_runs(&chunks, last);
         if count == 0 {
             return Ok(Vec::new());
         }
@@ -55,15 +57,14 @@ impl BitBuffer {
         for i in 0..chunks.len() {
             begun = push_runs(&mut ranges, begun, 64 * i, chunks.word_proved(i));
         }
-        // zeros past the last value end the last run
-        push_runs(&mut ranges, begun, 64 * chunks.len(), chunks.remainder_bits());
+        push_runs(&mut ranges, begun, 64 * chunks.len(), last);
         Ok(ranges)
     }
 }
 
-// How many runs there are.
+// How many runs there are, where `last` has the values after the whole words.
 #[inline(always)]
-fn count_runs(chunks: &BitChunks<'_>) -> usize {
+fn count_runs(chunks: &BitChunks<'_>, last: u64) -> usize {
     let mut count = 0;
     let mut inside = false;
     for i in 0..chunks.values_len() / 64 {
@@ -71,7 +72,7 @@ fn count_runs(chunks: &BitChunks<'_>) -> usize {
         count += count_starts(inside, word);
         inside = word >> 63 == 1;
     }
-    count + count_starts(inside, chunks.remainder_bits())
+    count + count_starts(inside, last)
 }
 
 // Puts the runs that end within a word whose first index is `base`.
