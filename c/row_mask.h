@@ -32,10 +32,6 @@
 #include <stdint.h>
 #include <string.h>
 
-#if defined(__x86_64__) && defined(__GNUC__)
-#include <cpuid.h>
-#endif
-
 /* The version that a program is compiled for: 10000 * major + 100 * minor + patch. The library that it
  * is linked with says its own by row_mask_version(). */
 #define ROW_MASK_VERSION 500
@@ -120,10 +116,10 @@ bool row_mask_value(
     const uint8_t *bytes, size_t bytes_size, size_t offset, size_t len,
     size_t i) ROW_MASK_LOOP(value);
 
-/* Writes words of 64 values, from word `from` on, to the front of `out`, as many as the bitmap
- * starts or as it takes, and answers how many these are: none from past the end. Bit `j` of word
- * `i` is value `64 * i + j`, and 0 past the last value. So a walk over all words goes on from one
- * past the last, until fewer come than `out` takes. */
+/* Writes words of 64 values, from word `from` on, to the front of `out`, as many as there are or as
+ * `out` takes, the last perhaps in part, and answers how many these are: none from past the end.
+ * Bit `j` of word `i` is value `64 * i + j`, and 0 past the last value. So a walk over all words
+ * goes on from one past the last, until fewer come than `out` takes. */
 ROW_MASK_READ(1, 2) ROW_MASK_WRITE(6, 7)
 size_t row_mask_words(
     const uint8_t *bytes, size_t bytes_size, size_t offset, size_t len, size_t from,
@@ -314,7 +310,7 @@ void row_mask_not_in_place(
  *
  * Asks that `len + more_len` doesn't overflow, and that `bytes_size >= row_mask_room(len +
  * more_len)`. */
-ROW_MASK_CHANGE(1, 2) ROW_MASK_READ(4, 5)
+ROW_MASK_READ(4, 5)
 void row_mask_append(
     uint8_t *bytes, size_t bytes_size, size_t len, const uint8_t *more, size_t more_size,
     size_t more_offset, size_t more_len) ROW_MASK_LOOP(append);
@@ -323,7 +319,6 @@ void row_mask_append(
  * others as they were. Of a bitmap with an offset, value `i` is the bit at position `offset + i`.
  *
  * Asks that `start <= end` and `end <= 8 * bytes_size`. */
-ROW_MASK_CHANGE(1, 2)
 void row_mask_fill_range(
     uint8_t *bytes, size_t bytes_size, size_t start, size_t end,
     bool value) ROW_MASK_LOOP(fill_range);
@@ -369,9 +364,10 @@ void row_mask_intersect_at_ranks(
 
 /* Writes the next words of a bitmap, from word `from` on, to `words`, and for each to `sources` the
  * 64 bits of `ranks` from the number of true values before that word on. Bit `j` of word `i` is
- * value `64 * i + j`, and 0 past the last value. The answer is how many values are true before the
- * word after these, which is `at` for the next call. So whoever deposits each source at its word,
- * as the instruction `pdep` does, has the words of the rank intersection.
+ * value `64 * i + j`, and 0 past the last value; a source has there what the bytes of `ranks` have,
+ * and then 0. The answer is how many values are true before the word after these, which is `at` for
+ * the next call. So whoever deposits each source at its word, as the instruction `pdep` does, has
+ * the words of the rank intersection.
  *
  * Asks that `ranks_len` is the count of the bitmap's true values, that `at` is how many values are
  * true before word `from` (0 at word 0), that `from + words_count` is at most how many words the
@@ -609,12 +605,14 @@ size_t row_mask_take_bytes_8(
 
 /* Whether the processor is one of AMD before Zen 3, or of Hygon, which are Zen of the first generation. */
 static inline bool row_mask_is_before_zen_3(void) {
-    unsigned version = 0, vendor = 0, third = 0, last = 0, family;
+    unsigned version = 0, vendor, third = 0, last, family;
 
-    __cpuid(0, version, vendor, third, last);
-    if (vendor != signature_AMD_ebx && vendor != 0x6f677948) /* "Hygo" */
+    __asm__("cpuid" : "+a"(version), "=b"(vendor), "+c"(third), "=d"(last));
+    if (vendor != 0x68747541 /* "Auth" */ && vendor != 0x6f677948 /* "Hygo" */)
         return false;
-    __cpuid(1, version, vendor, third, last);
+    version = 1;
+    third = 0;
+    __asm__("cpuid" : "+a"(version), "=b"(vendor), "+c"(third), "=d"(last));
     family = version >> 8 & 0xf;
     return (family == 0xf ? family + (version >> 20 & 0xff) : family) < 0x19;
 }

@@ -178,7 +178,8 @@ static int check(
         return refuse(error, EINVAL, "bad length or offset", schema);
     if (array->n_buffers != buffers_of(it) || array->buffers == NULL)
         return refuse(error, EINVAL, "bad number of buffers", schema);
-    if (array->n_children != schema->n_children || (it.kind != STRUCT && array->n_children != 0))
+    if (array->n_children != schema->n_children || array->n_children < 0
+        || (it.kind != STRUCT && array->n_children != 0))
         return refuse(error, EINVAL, "bad number of children", schema);
     start += (size_t)array->offset;
     if (!has_buffers(it, array, start, len))

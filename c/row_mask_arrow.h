@@ -63,9 +63,9 @@ typedef struct row_mask_arrow_error {
  * Else the answer is a number of <errno.h>, `error` says why unless it is NULL, and nothing else was written:
  *
  * - ENOTSUP: another format, or a dictionary. The message names it, with its column.
- * - EINVAL: an array that its schema doesn't fit, such as one with too few buffers or children, with a negative number, or
- *   with an offset of a string below the one before it. Or a bitmap that has another length than the array, or whose bits
- *   are not all within its bytes.
+ * - EINVAL: an array that its schema doesn't fit, such as one with too few buffers or children, with a negative number,
+ *   or with offsets of strings that aren't aligned, or descend. Or a bitmap that has another length than the array, or
+ *   whose bits are not all within its bytes.
  * - ENOMEM: no memory.
  *
  * That buffers are as long as the array says can't be seen, and is owed by the caller. `array` and `schema` are only

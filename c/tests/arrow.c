@@ -387,6 +387,10 @@ static void refuses_arrays(const struct format *format) {
     CHANGED(array.n_buffers, array.n_buffers - 1, "bad number of buffers");
     CHANGED(schema.n_children, schema.n_children + 1, "bad number of children");
     CHANGED(array.n_children, array.n_children + 1, "bad number of children");
+    i = schema.n_children;
+    schema.n_children = -1;
+    CHANGED(array.n_children, -1, "bad number of children");
+    schema.n_children = i;
     for (i = 1; i < array.n_buffers; i++) {
         kept = array.buffers[i];
         array.buffers[i] = NULL;

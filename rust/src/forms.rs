@@ -38,7 +38,7 @@ macro_rules! writers {
         #[doc = concat!($($refusals, ". ",)? "The refusals of [`Room`].")]
         pub fn $call $(<$row>)?($($argument)+, out: &mut (impl Room + ?Sized)) -> Result<(), Error> {
             $($($test)*)?
-            // SAFETY: it writes each byte.
+            // SAFETY: it writes each byte, and reads none before.
             unsafe { out.write($len, $fill) }
         }
     )+};
@@ -58,7 +58,7 @@ macro_rules! makers {
         #[doc = concat!($refusals, ", and [`Error::OutOfMemory`].")]
         pub fn $call($($argument)+) -> Result<BitmapBuf, Error> {
             $($test)*
-            // SAFETY: it writes each byte.
+            // SAFETY: it writes each byte, and reads none before.
             made(|out| unsafe { out.write($len, $fill) })
         }
 
@@ -72,7 +72,7 @@ macro_rules! makers {
         #[allow(unused_parens, reason = "a call may answer nothing")]
         pub fn $into($($argument)+, out: &mut (impl Room + ?Sized)) -> Result<($($number)?), Error> {
             $($test)*
-            // SAFETY: it writes each byte.
+            // SAFETY: it writes each byte, and reads none before.
             unsafe { out.write($len, $fill)? };
             Ok(($($answer)?))
         }

@@ -48,7 +48,7 @@ impl Kept {
             return Kept::Runs(list);
         }
         if len <= 64 && count < OF_A_RUN {
-            return Kept::Word(bitmap.chunks().started_word_proved(0));
+            return Kept::Word(bitmap.chunks().iter_padded().next().unwrap_or(0));
         }
         let mut list = Vec::with_capacity(count);
         #[expect(clippy::cast_possible_truncation, reason = "the length is of 32 bits")]

@@ -11,8 +11,9 @@ use vortex_mask::intersect_by_rank::RankBits;
 
 /// Writes the next words of a bitmap, from word `from` on, to `words`, and for each to `sources` the 64 bits of `ranks`
 /// from the number of true values before that word on. Bit `j` of word `i` is value `64 * i + j`, and 0 past the last
-/// value. The answer is how many values are true before the word after these, which is `at` for the next call. So
-/// whoever deposits each source at its word, as the instruction `pdep` does, has the words of the rank intersection.
+/// value; a source has there what the bytes of `ranks` have, and then 0. The answer is how many values are true before
+/// the word after these, which is `at` for the next call. So whoever deposits each source at its word, as the
+/// instruction `pdep` does, has the words of the rank intersection.
 ///
 /// Asks that `ranks_len` is the count of the bitmap's true values, that `at` is how many values are true
 /// before word `from` (0 at word 0), that `from + words_count` is at most how many words the bitmap starts,

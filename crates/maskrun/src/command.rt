@@ -19,7 +19,7 @@ use crate::argument::{
 use crate::error::RunError;
 use crate::print::list_text;
 use std::alloc::Global;
-use vortex_mask::{Mask, MaskError};
+use vortex_mask::{AllOr, Mask, MaskError};
 
 // A command with its arguments read.
 #[derive(Drop)]
@@ -214,11 +214,16 @@ fn indices(alloc: Global, a: &MaskArgument) -> Result<String, RunError>
     Ok(list_text(alloc, &indices)?)
 }
 
+#[tactic(auto, using(mask_bits::proofs::Lists::Runs::RunListLemmas::run_of_all_true, mask_bits::proofs::Lists::Runs::RunListLemmas::runs_of_all_false, vortex_mask::proofs::Lists::VariantLemmas::variants_of_one_value))]
 fn ranges(alloc: Global, a: &MaskArgument) -> Result<String, RunError>
     ensures { Prints result (Ok (list_text range_text (runs a.now))) }
 {
-    let mask = a.mask(alloc)?;
-    let runs: Vec<_> = mask.set_slices().collect(alloc)?;
-    mask_bits::laws::runs_are_the_list(&runs);
-    Ok(list_text(alloc, &runs)?)
+    let mut mask = a.mask(alloc)?;
+    let len = mask.len();
+    match mask.slices(alloc)? {
+        AllOr::All if len > 0 => Ok(list_text(alloc, &[(0, len)])?),
+        AllOr::All => Ok(list_text::<(usize, usize)>(alloc, &[])?),
+        AllOr::None => Ok(list_text::<(usize, usize)>(alloc, &[])?),
+        AllOr::Some(runs) => Ok(list_text(alloc, runs)?),
+    }
 }

@@ -163,7 +163,7 @@ impl<'a> Column<'a> {
 
     /// Rows of any width, anywhere in memory, by the runs of those that are chosen.
     fn any_rows(self, width: usize, made: &mut Made) -> Result<(), ArrowError> {
-        let from = self.items::<u8>(1, width * self.start, width * self.len())?;
+        let from = self.items::<u8>(1, width.saturating_mul(self.start), width * self.len())?;
         let mut list = room::<u64>((width * self.rows.count()).div_ceil(8))?;
         let mut to = list.as_mut_ptr().cast::<u8>();
         for run in self.rows.as_bitmap().runs() {

@@ -39,13 +39,13 @@ impl Bitmap<'_> {
         let has_many = out.len() >= self.len / 8;
         match size_of::<T>() {
             1 if has_many && moves_bytes() => {
-                // SAFETY: a row is a byte. Each place is written, and none is read before.
+                // SAFETY: a row is a byte that is written, as `Row` says. Each place gets one, and none is read before.
                 let (rows, out) = unsafe { (rows.align_to().1, out.align_to_mut().1) };
                 self.choose_several::<6, u8>(rows, out);
             }
             #[cfg(target_arch = "x86_64")]
             4 if has_many && moves_fours() => {
-                // SAFETY: a row is four bytes. Each place is written, and none is read before.
+                // SAFETY: a row is four such bytes. Each place gets a row's, and none is read before.
                 let (rows, out) = unsafe { (rows.align_to().1, out.align_to_mut().1) };
                 self.choose_several::<8, [u8; 4]>(rows, out);
             }

@@ -88,7 +88,7 @@ impl Extend<bool> for BitmapBuf {
                 let _ = self.bytes.try_reserve(room_for(values.size_hint().0));
             }
             let count = take(&mut block, values.by_ref());
-            // SAFETY: it writes each byte, and the last byte has eight values.
+            // SAFETY: it writes each byte and reads none before, and the last byte has eight values.
             let added = unsafe { self.add(count, |out| pack_block(&mut block, count, out)) };
             granted(added, count);
             if count < BLOCK {

@@ -88,7 +88,7 @@ impl Bytes {
     // The number of holders, of bytes that are some.
     #[inline]
     fn holders(&self) -> &AtomicUsize {
-        // SAFETY: it is there as long as there is a holder.
+        // SAFETY: of bytes that are some, it is there as long as a holder.
         unsafe { self.holders.as_ref() }
     }
 

@@ -121,7 +121,7 @@ macro_rules! casts {
 }
 
 mod arrays;
-#[cfg(all(target_arch = "aarch64", target_endian = "little", not(row_mask_arrays)))]
+#[cfg(all(target_feature = "neon", target_endian = "little", not(row_mask_arrays)))]
 mod neon;
 #[cfg(all(target_feature = "sse2", target_pointer_width = "64", not(row_mask_arrays)))]
 mod sse;
@@ -129,11 +129,11 @@ mod sse;
 mod tests;
 
 #[cfg(not(any(
-    all(target_arch = "aarch64", target_endian = "little", not(row_mask_arrays)),
+    all(target_feature = "neon", target_endian = "little", not(row_mask_arrays)),
     all(target_feature = "sse2", target_pointer_width = "64", not(row_mask_arrays)),
 )))]
 use arrays as taken;
-#[cfg(all(target_arch = "aarch64", target_endian = "little", not(row_mask_arrays)))]
+#[cfg(all(target_feature = "neon", target_endian = "little", not(row_mask_arrays)))]
 use neon as taken;
 #[cfg(all(target_feature = "sse2", target_pointer_width = "64", not(row_mask_arrays)))]
 use sse as taken;

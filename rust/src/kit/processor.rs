@@ -13,7 +13,7 @@ macro_rules! by_level {
     ($by_pext:expr, $v3:expr, $any:expr) => {{
         #[cfg(target_arch = "x86_64")]
         if crate::kit::processor::has_quick_bits() {
-            // SAFETY: the processor has what it is compiled for.
+            // SAFETY: the processor has all that it is compiled for, as was found.
             return unsafe { $by_pext };
         }
         crate::kit::by_level!($v3, $any)
@@ -239,22 +239,20 @@ mod found {
         found
     }
 
-    // (`core` doesn't ask the processor)
-    #[cfg(not(feature = "std"))]
+    // Whether the processor has each feature; without `std`, which asks it, whether the program is compiled for each.
     fn has_v3() -> bool {
-        cfg!(all(target_feature = "avx2", target_feature = "bmi2", target_feature = "lzcnt"))
-    }
-
-    #[cfg(feature = "std")]
-    fn has_v3() -> bool {
-        std::arch::is_x86_feature_detected!("avx2")
-            && std::arch::is_x86_feature_detected!("bmi1")
-            && std::arch::is_x86_feature_detected!("bmi2")
-            && std::arch::is_x86_feature_detected!("f16c")
-            && std::arch::is_x86_feature_detected!("fma")
-            && std::arch::is_x86_feature_detected!("lzcnt")
-            && std::arch::is_x86_feature_detected!("movbe")
-            && std::arch::is_x86_feature_detected!("popcnt")
+        macro_rules! has {
+            ($($feature:tt)*) => {
+                $({
+                    #[cfg(feature = "std")]
+                    let has = std::arch::is_x86_feature_detected!($feature);
+                    #[cfg(not(feature = "std"))]
+                    let has = cfg!(target_feature = $feature);
+                    has
+                })&&*
+            };
+        }
+        has!("avx2" "bmi1" "bmi2" "f16c" "fma" "lzcnt" "movbe" "popcnt")
     }
 
     // AMD's processors before Zen 3 take up to hundreds of cycles for PDEP and PEXT.
@@ -273,7 +271,7 @@ mod found {
 #[cfg(target_arch = "x86_64")]
 mod by_instruction {
     //! What the instructions give. Each is what the contracts of deposits, extractions and selections say, by the manual of
-    //! the processor. Nothing here runs unless `has_quick_bits` answers yes.
+    //! the processor. Nothing here runs unless `has_quick_bits` answers yes; for `fours_at`, `moves_fours`.
 
     use crate::proved::mask_bits::BitChunks;
     use crate::proved::mask_bits::byte_places::places_of;
@@ -320,7 +318,7 @@ mod by_instruction {
     pub(super) fn bytes_at(rows: &[u8], byte: u8) -> [u8; 8] {
         const LOWEST: u64 = u64::from_le_bytes([1; 8]);
         let rows = u64::from_le_bytes(*rows.first_chunk().expect("eight rows"));
-        // SAFETY: the processor has it, as is asked before.
+        // SAFETY: the processor has it, as `has_quick_bits` found.
         let places = 0xFF * unsafe { _pdep_u64(byte.into(), LOWEST) };
         extract(rows, places).to_le_bytes()
     }
@@ -333,8 +331,8 @@ mod by_instruction {
         let rows: &[T; 8] = rows.first_chunk().expect("eight rows");
         let places = u64::from_le_bytes(places_of(byte).to_array());
         let mut moved = MaybeUninit::<[T; 8]>::uninit();
-        // SAFETY: the processor has the instructions, as is asked before, and eight rows are as many bytes as a register
-        // has. Each of those moved is one of them.
+        // SAFETY: the processor has the instructions, as `moves_fours` found, and eight rows are as many bytes as a
+        // register has. Each of those moved is one of them.
         unsafe {
             let rows = _mm256_loadu_si256(rows.as_ptr().cast());
             let places = _mm256_cvtepu8_epi32(_mm_cvtsi64_si128(places.cast_signed()));
@@ -362,7 +360,7 @@ mod by_instruction {
             let word = extract(values.word_proved(i), mask);
             let (end, joined) = (low + mask.count_ones(), begun | word << low);
             let is_whole = end >= 64;
-            // SAFETY: the contract of the proved loop: there is room for all bits.
+            // SAFETY: the contract of the proved loop: there is room for all bits, so `words` is at most its end.
             unsafe {
                 let place = select_unpredictable(is_whole, out.add(words), nowhere);
                 place.write(joined.to_le_bytes());

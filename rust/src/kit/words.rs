@@ -107,7 +107,7 @@ pub(crate) fn rest<T>(items: &[T], first: usize) -> &[T] {
 #[inline(always)]
 pub(crate) fn put<T: Copy>(out: &mut [T], at: usize, item: T) {
     debug_assert!(at < out.len());
-    // SAFETY: the contract of the proved caller: `at < out.len()`.
+    // SAFETY: the contract of the caller: `at < out.len()`. (`put_indices` and `push_first` are by hand.)
     *unsafe { out.get_unchecked_mut(at) } = item;
 }
 

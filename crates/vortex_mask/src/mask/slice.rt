@@ -62,8 +62,9 @@ impl Mask {
             (range_with_len 0 (div_ceil (length (truth self.now)) size))) }
         ensures refused { IsOkUnless result (MaskError.Memory alloc_error) }
     {
-        let mut groups = Vec::new(alloc);
-        for number in 0..self.len().div_ceil(size) {
+        let count = self.len().div_ceil(size);
+        let mut groups = Vec::with_capacity(alloc, count)?;
+        for number in 0..count {
             let start = size * number;
             let end = start + size.min(self.len() - start);
             groups.push(self.slice(alloc, start, end)?)?;

@@ -19,7 +19,7 @@ use std::fmt;
 use std::marker::Model;
 use std::rc::Rc;
 
-/// The values of a mask that has both true and false ones, shared: an `Rc` of [`MaskValues`].
+/// The values of a mask that has both true and false ones, shared with clones of the mask.
 pub type MaskValuesRef = Rc<MaskValues>;
 
 /// A bit buffer in which some values are true and some are not, with the count of the true ones.

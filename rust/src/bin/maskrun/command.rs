@@ -8,7 +8,7 @@ use crate::error::RunError;
 use crate::print::list_text;
 use row_mask::kit::prelude::*;
 
-use row_mask::{Mask, MaskError};
+use row_mask::{AllOr, Mask, MaskError};
 
 // A command with its arguments read.
 pub(crate) enum Command<'a> {
@@ -159,8 +159,12 @@ fn indices(a: &MaskArgument) -> Result<String, RunError> {
 }
 
 fn ranges(a: &MaskArgument) -> Result<String, RunError> {
-    let mask = a.mask()?;
-    let runs: Vec<_> = mask.set_slices().collected()?;
-
-    Ok(list_text(&runs)?)
+    let mut mask = a.mask()?;
+    let len = mask.len();
+    match mask.slices()? {
+        AllOr::All if len > 0 => Ok(list_text(&[(0, len)])?),
+        AllOr::All => Ok(list_text::<(usize, usize)>(&[])?),
+        AllOr::None => Ok(list_text::<(usize, usize)>(&[])?),
+        AllOr::Some(runs) => Ok(list_text(runs)?),
+    }
 }

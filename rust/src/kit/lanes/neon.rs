@@ -1,4 +1,4 @@
-//! Lanes in the registers of NEON, which each processor of 64-bit ARM has.
+//! Lanes in the registers of NEON, of programs for 64-bit ARM that may use them.
 
 #![allow(unused_unsafe, reason = "an instruction may be an argument of another one")]
 

@@ -86,7 +86,7 @@ impl Mask {
 
     /// What a test answers of each row, in their order: value `i` is its answer of row `i`. No rows give `AllFalse(0)`.
     ///
-    /// The filter of a column by a test of its rows: `Mask::from_rows(alloc, rows, |row| *row > low)`.
+    /// The filter of a column by a test of its rows, such as `|row| *row > low`.
     ///
     /// # The caller owes ([terms](crate::definitions))
     ///

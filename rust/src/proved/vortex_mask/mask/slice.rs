@@ -74,8 +74,9 @@ impl Mask {
 
     #[inline]
     pub(crate) fn groups_proved(&self, size: usize) -> Result<Vec<Mask>, MaskError> {
-        let mut groups = Vec::new();
-        for number in 0..self.len().div_ceil(size) {
+        let count = self.len().div_ceil(size);
+        let mut groups = Vec::with_room(count)?;
+        for number in 0..count {
             let start = size * number;
             let end = start + size.min(self.len() - start);
             groups.try_push(self.slice_proved(start, end)?)?;

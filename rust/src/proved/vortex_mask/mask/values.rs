@@ -9,7 +9,7 @@ use core::fmt;
 
 use crate::kit::Arc;
 
-/// The values of a mask that has both true and false ones, shared: an `Rc` of [`MaskValues`].
+/// The values of a mask that has both true and false ones, shared with clones of the mask.
 pub type MaskValuesRef = Arc<MaskValues>;
 
 /// A bit buffer in which some values are true and some are not, with the count of the true ones.

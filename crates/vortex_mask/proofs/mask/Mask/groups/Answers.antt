@@ -19,5 +19,5 @@ pub returns-clause-counts : goal.returns-clause-counts
 returns-clause-counts c =
     let groups = group (truth c.args.self.now) c.args.size in
     let end : c.loop-number.number ≡ div_ceil (length (truth c.args.self.now)) c.args.size =
-    omega (arith, c.loop-number-test.false, c.loop-number.auto.number-end) ∙ c.div_ceil-number-end.ensures ∙ ap (λ n. div_ceil n c.args.size) c.len.ensures in
+    omega (arith, c.loop-number-test.false, c.loop-number.auto.number-end) ∙ c.div_ceil-count.ensures ∙ ap (λ n. div_ceil n c.args.size) c.len.ensures in
     counts-groups c.loop-number.groups.items groups _ (c.loop-number.invariant ∙ ap (λ n. map groups (range_with_len 0 n)) end)
