@@ -351,7 +351,7 @@ impl core::error::Error for {name} {{}}
         if not self.is_public(function, context):
             return f"{before}{inline}{function.signature()} {body}{levels}", last + 1
         tests, listed = self.tests(function, clauses, of, where)
-        before = documented(before, clauses)
+        before = documented(before, clauses, tests)
         if lists := lists_first(body, listed):
             body = body[:lists] + "\n" + "\n".join(tests) + body[lists:]
             return f"{before}#[track_caller]\n{inline}{self.widened(function, body)}", last + 1
@@ -479,11 +479,14 @@ def arm(fields, text):
     return f" {{ {', '.join(used if used == names else [*used, '..'])} }} => write!(f, {text})"
 
 
-def documented(before, clauses):
-    """The comment of a function, with its contract behind it."""
-    lines = []
-    for title, word in [("The caller owes", "requires"), ("Proved", "ensures")]:
-        found = [(name, it) for kind, name, it in clauses if kind == word]
+def documented(before, clauses, tests):
+    """The comment of a function, with its contract behind it: first what it tests."""
+    lines, parts = [], {"Panics unless": [], "The caller owes": [], "Proved": []}
+    for word, name, it in clauses:
+        is_tested = any(test.endswith(f'"{it}");') for test in tests)
+        part = "Proved" if word == "ensures" else "Panics unless" if is_tested else "The caller owes"
+        parts[part].append((name, it))
+    for title, found in parts.items():
         if found:
             lines += ["", f"# {title} ([terms](crate::definitions))", ""]
             lines += [f"- {f'*{name}*: ' if name else ''}`{it}`" for name, it in found]

@@ -12,7 +12,7 @@ use crate::proved::mask_bits::words::started_words;
 impl BitBuffer {
     /// The values that are true in both.
     ///
-    /// # The caller owes ([terms](crate::definitions))
+    /// # Panics unless ([terms](crate::definitions))
     ///
     /// - `length (values self.now) ≡ length (values other.now)`
     ///
@@ -39,7 +39,7 @@ impl BitBuffer {
 
     /// The values that are true in one or in both.
     ///
-    /// # The caller owes ([terms](crate::definitions))
+    /// # Panics unless ([terms](crate::definitions))
     ///
     /// - `length (values self.now) ≡ length (values other.now)`
     ///
@@ -66,7 +66,7 @@ impl BitBuffer {
 
     /// The values that are true here and not in `other`.
     ///
-    /// # The caller owes ([terms](crate::definitions))
+    /// # Panics unless ([terms](crate::definitions))
     ///
     /// - `length (values self.now) ≡ length (values other.now)`
     ///
@@ -108,7 +108,7 @@ impl BitBuffer {
 impl BitBuffer {
     /// The values that are true in both.
     ///
-    /// # The caller owes ([terms](crate::definitions))
+    /// # Panics unless ([terms](crate::definitions))
     ///
     /// - `length (values self) ≡ length (values other.now)`
     ///
@@ -135,7 +135,7 @@ impl BitBuffer {
 
     /// The values that are true in one or in both.
     ///
-    /// # The caller owes ([terms](crate::definitions))
+    /// # Panics unless ([terms](crate::definitions))
     ///
     /// - `length (values self) ≡ length (values other.now)`
     ///
@@ -162,7 +162,7 @@ impl BitBuffer {
 
     /// The values that are true here and not in `other`.
     ///
-    /// # The caller owes ([terms](crate::definitions))
+    /// # Panics unless ([terms](crate::definitions))
     ///
     /// - `length (values self) ≡ length (values other.now)`
     ///

@@ -26,7 +26,7 @@ pub struct BitBuffer {
 impl BitBuffer {
     /// The first `len` bits of `bytes`.
     ///
-    /// # The caller owes ([terms](crate::definitions))
+    /// # Panics unless ([terms](crate::definitions))
     ///
     /// - `len ≤ 8 * length bytes`
     ///
@@ -53,7 +53,7 @@ impl BitBuffer {
 
     /// The `len` bits of `bytes` from bit position `offset` on.
     ///
-    /// # The caller owes ([terms](crate::definitions))
+    /// # Panics unless ([terms](crate::definitions))
     ///
     /// - *covered*: `offset + len ≤ 8 * length bytes`
     /// - *fits*: `offset + len < 2 ^ 64`
@@ -87,7 +87,7 @@ impl BitBuffer {
 
     /// The first `len` bits of bytes that a caller has written.
     ///
-    /// # The caller owes ([terms](crate::definitions))
+    /// # Panics unless ([terms](crate::definitions))
     ///
     /// - `len ≤ 8 * vec_len bytes`
     ///
@@ -135,7 +135,7 @@ impl BitBuffer {
 
     /// The list of `len` values that is true exactly at `indices`, in any order and with repeats.
     ///
-    /// # The caller owes ([terms](crate::definitions))
+    /// # Panics unless ([terms](crate::definitions))
     ///
     /// - `All (λ i. i < len) indices.now`
     ///
@@ -206,7 +206,7 @@ impl BitBuffer {
 
     /// The values from `start` to `end`, over the same bytes at the offset of value `start`.
     ///
-    /// # The caller owes ([terms](crate::definitions))
+    /// # Panics unless ([terms](crate::definitions))
     ///
     /// - *ordered*: `start ≤ end`
     /// - *within*: `end ≤ length (values self.now)`
@@ -277,7 +277,7 @@ impl BitBuffer {
 
     /// How many of the values from `start` to `end` are true.
     ///
-    /// # The caller owes ([terms](crate::definitions))
+    /// # Panics unless ([terms](crate::definitions))
     ///
     /// - *ordered*: `start ≤ end`
     /// - *within*: `end ≤ length (values self.now)`
@@ -360,7 +360,7 @@ impl BitBuffer {
 
     /// Value `i`.
     ///
-    /// # The caller owes ([terms](crate::definitions))
+    /// # Panics unless ([terms](crate::definitions))
     ///
     /// - `i < length (values self.now)`
     ///
@@ -409,7 +409,7 @@ impl BitBuffer {
 
     /// The first index from `from` on whose value is `value`, and the length where none is.
     ///
-    /// # The caller owes ([terms](crate::definitions))
+    /// # Panics unless ([terms](crate::definitions))
     ///
     /// - `from ≤ length (values self.now)`
     ///

@@ -64,7 +64,7 @@ impl BitBufferMut {
 
     /// Makes value `i` true.
     ///
-    /// # The caller owes ([terms](crate::definitions))
+    /// # Panics unless ([terms](crate::definitions))
     ///
     /// - `i < length self.old`
     ///
@@ -90,7 +90,7 @@ impl BitBufferMut {
 
     /// Makes value `i` false.
     ///
-    /// # The caller owes ([terms](crate::definitions))
+    /// # Panics unless ([terms](crate::definitions))
     ///
     /// - `i < length self.old`
     ///
@@ -116,7 +116,7 @@ impl BitBufferMut {
 
     /// Appends `value`, `n` times.
     ///
-    /// # The caller owes ([terms](crate::definitions))
+    /// # Panics unless ([terms](crate::definitions))
     ///
     /// - `length self.old + n < 2 ^ 64`
     ///
@@ -146,7 +146,7 @@ impl BitBufferMut {
 
     /// Appends the values of a buffer, whatever its bit offset.
     ///
-    /// # The caller owes ([terms](crate::definitions))
+    /// # Panics unless ([terms](crate::definitions))
     ///
     /// - `length self.old + length (values other.now) < 2 ^ 64`
     ///
@@ -177,7 +177,7 @@ impl BitBufferMut {
 
     /// Appends the lowest `count` bits of a word, the lowest first.
     ///
-    /// # The caller owes ([terms](crate::definitions))
+    /// # Panics unless ([terms](crate::definitions))
     ///
     /// - *few*: `count ≤ 64`
     /// - *fits*: `length self.old + count < 2 ^ 64`

@@ -13,7 +13,7 @@ impl BitBuffer {
     /// The values of `of` at the true indices of this buffer, in their order: the way back of a
     /// rank intersection. What Arrow calls to filter `of` by this buffer.
     ///
-    /// # The caller owes ([terms](crate::definitions))
+    /// # Panics unless ([terms](crate::definitions))
     ///
     /// - `length (values of.now) ≡ length (values self.now)`
     ///

@@ -16,7 +16,7 @@ pub struct BitChunks<'a> {
 impl<'a> BitChunks<'a> {
     /// The words of `len` bits of `bytes` from bit `offset` on, without a `BitBuffer`.
     ///
-    /// # The caller owes ([terms](crate::definitions))
+    /// # Panics unless ([terms](crate::definitions))
     ///
     /// - `IsWithinBytes bytes.now offset len`
     ///
@@ -59,7 +59,7 @@ impl<'a> BitChunks<'a> {
 
     /// Whole word `i`, whose bit `j` is value `64 * i + j`.
     ///
-    /// # The caller owes ([terms](crate::definitions))
+    /// # Panics unless ([terms](crate::definitions))
     ///
     /// - `i < length self.now / 64`
     ///
@@ -184,7 +184,7 @@ impl<'a> BitChunks<'a> {
 
     /// The first index from `from` on whose value is `value`, and the length where none is.
     ///
-    /// # The caller owes ([terms](crate::definitions))
+    /// # Panics unless ([terms](crate::definitions))
     ///
     /// - `from ≤ length self.now`
     ///
@@ -246,7 +246,7 @@ impl<'a> BitChunks<'a> {
 
     /// Started word `i`, with zeros past the last value.
     ///
-    /// # The caller owes ([terms](crate::definitions))
+    /// # Panics unless ([terms](crate::definitions))
     ///
     /// - `i < started_words (length self.now)`
     ///

@@ -28,7 +28,7 @@ impl BitBuffer {
     ///
     /// It takes less time than to collect `set_indices`.
     ///
-    /// # The caller owes ([terms](crate::definitions))
+    /// # Panics unless ([terms](crate::definitions))
     ///
     /// - `true_count ≡ count (values self.now)`
     ///

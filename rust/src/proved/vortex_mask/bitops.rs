@@ -10,7 +10,7 @@ use crate::proved::vortex_mask::mask::{Mask, MaskError, MaskValues};
 impl Mask {
     /// The values that are true in both.
     ///
-    /// # The caller owes ([terms](crate::definitions))
+    /// # Panics unless ([terms](crate::definitions))
     ///
     /// - `length (truth self.now) ≡ length (truth other.now)`
     ///
@@ -49,7 +49,7 @@ impl Mask {
 
     /// The values that are true in one or in both.
     ///
-    /// # The caller owes ([terms](crate::definitions))
+    /// # Panics unless ([terms](crate::definitions))
     ///
     /// - `length (truth self.now) ≡ length (truth other.now)`
     ///
@@ -111,7 +111,7 @@ impl Mask {
 
     /// The values that are true here and not in `other`: `bitand_not` of a mask that is only lent.
     ///
-    /// # The caller owes ([terms](crate::definitions))
+    /// # Panics unless ([terms](crate::definitions))
     ///
     /// - `length (truth self.now) ≡ length (truth other.now)`
     ///
@@ -154,7 +154,7 @@ impl Mask {
 impl Mask {
     /// The values that are true in both.
     ///
-    /// # The caller owes ([terms](crate::definitions))
+    /// # Panics unless ([terms](crate::definitions))
     ///
     /// - `length (truth self) ≡ length (truth other.now)`
     ///
@@ -196,7 +196,7 @@ impl Mask {
 
     /// The values that are true in one or in both.
     ///
-    /// # The caller owes ([terms](crate::definitions))
+    /// # Panics unless ([terms](crate::definitions))
     ///
     /// - `length (truth self) ≡ length (truth other.now)`
     ///
@@ -260,7 +260,7 @@ impl Mask {
 
     /// The values that are true here and not in `other`.
     ///
-    /// # The caller owes ([terms](crate::definitions))
+    /// # Panics unless ([terms](crate::definitions))
     ///
     /// - `length (truth self) ≡ length (truth other.now)`
     ///

@@ -34,7 +34,7 @@ impl Mask {
     /// The mask in which the true values of this one are narrowed by a mask over them: true value
     /// number `k` stays true exactly where value `k` of `mask` is true.
     ///
-    /// # The caller owes ([terms](crate::definitions))
+    /// # Panics unless ([terms](crate::definitions))
     ///
     /// - `length (truth mask.now) ≡ count (truth self.now)`
     ///
@@ -79,7 +79,7 @@ impl Mask {
     /// The mask of `intersect_by_rank`, with the steps that its kernel takes. No step is counted
     /// where no kernel runs: where a side is all true or all false.
     ///
-    /// # The caller owes ([terms](crate::definitions))
+    /// # Panics unless ([terms](crate::definitions))
     ///
     /// - `length (truth mask.now) ≡ count (truth self.now)`
     ///
@@ -146,7 +146,7 @@ impl Mask {
     /// A stack of filters becomes one by this call. Once the result so far is all false no kernel runs. Which lists of
     /// its true indices the result of one mask or more caches is left open: it depends on each step.
     ///
-    /// # The caller owes ([terms](crate::definitions))
+    /// # Panics unless ([terms](crate::definitions))
     ///
     /// - `IsStack (truth self.now ∷ map truth masks.now)`
     ///

@@ -211,7 +211,7 @@ impl Mask {
 
     /// Value `index`.
     ///
-    /// # The caller owes ([terms](crate::definitions))
+    /// # Panics unless ([terms](crate::definitions))
     ///
     /// - `index < length (truth self.now)`
     ///
@@ -241,7 +241,7 @@ impl Mask {
 
     /// The index of true value number `n`, counted from 0.
     ///
-    /// # The caller owes ([terms](crate::definitions))
+    /// # Panics unless ([terms](crate::definitions))
     ///
     /// - `n < count (truth self.now)`
     ///
@@ -288,7 +288,7 @@ impl Mask {
 impl Mask {
     /// How many of the values from `start` to `end` are true.
     ///
-    /// # The caller owes ([terms](crate::definitions))
+    /// # Panics unless ([terms](crate::definitions))
     ///
     /// - *ordered*: `start ≤ end`
     /// - *within*: `end ≤ length (truth self.now)`
@@ -355,7 +355,7 @@ impl Mask {
     /// For each index the number of true values below it. Values are counted once for all indices,
     /// up to the last of them.
     ///
-    /// # The caller owes ([terms](crate::definitions))
+    /// # Panics unless ([terms](crate::definitions))
     ///
     /// - *ascending*: `IsNonDecreasing indices.now`
     /// - *within*: `All (λ i. i ≤ length (truth self.now)) indices.now`

@@ -8,7 +8,7 @@ use crate::proved::vortex_mask::{Mask, MaskError};
 
 /// The deposit at a mask with at most two set bits.
 ///
-/// # The caller owes ([terms](crate::definitions))
+/// # Panics unless ([terms](crate::definitions))
 ///
 /// - `count (word_bits mask) ≤ 2`
 ///
@@ -30,7 +30,7 @@ pub fn deposit_two_lowest(source: u64, mask: u64) -> u64 {
 /// The deposit at a mask with at most two clear bits: from each of these on, the lowest first, the
 /// bits of the source move up by one.
 ///
-/// # The caller owes ([terms](crate::definitions))
+/// # Panics unless ([terms](crate::definitions))
 ///
 /// - `62 ≤ count (word_bits mask)`
 ///
@@ -52,7 +52,7 @@ pub fn deposit_two_holes(source: u64, mask: u64) -> u64 {
 /// The values of one buffer narrowed by those of another, of which `true_count` are true. Each
 /// started word of the first takes one deposit.
 ///
-/// # The caller owes ([terms](crate::definitions))
+/// # Panics unless ([terms](crate::definitions))
 ///
 /// - *fitting*: `length (values mask_buffer.now) ≡ count (values self_buffer.now)`
 /// - *counted*: `true_count ≡ count (values mask_buffer.now)`
@@ -89,7 +89,7 @@ pub fn intersect_bit_buffers<D: DepositBits>(
 /// The mask of `len` values whose true indices are `self_indices` taken at `mask_indices`, which it
 /// caches. No word is read and none is deposited.
 ///
-/// # The caller owes ([terms](crate::definitions))
+/// # Panics unless ([terms](crate::definitions))
 ///
 /// - *self_ascending*: `IsStrictlyIncreasing self_indices.now`
 /// - *self_within*: `All (λ i. i < len) self_indices.now`
@@ -144,11 +144,14 @@ pub fn intersect_by_rank_indices(
 /// Takes one selection for each rank. A word of the buffer is read only once a rank lies past the words read so far,
 /// and none is read again, so this is the kernel for few ranks. No word is deposited.
 ///
+/// # Panics unless ([terms](crate::definitions))
+///
+/// - *ranks*: `EachRunFrom I.next_gives mask_indices (AreRanks (count (values self_buffer.now)) true_count)`
+///
 /// # The caller owes ([terms](crate::definitions))
 ///
 /// - *can*: `I.can_next mask_indices`
 /// - *ends*: `IsFinite (I.remaining mask_indices)`
-/// - *ranks*: `EachRunFrom I.next_gives mask_indices (AreRanks (count (values self_buffer.now)) true_count)`
 ///
 /// # Proved ([terms](crate::definitions))
 ///
@@ -181,7 +184,7 @@ pub fn intersect_mask_driven<S: SelectBit, I: IntoIterator<Item = usize>>(
 /// The values of a buffer narrowed to the true ones whose numbers are `mask_indices`. Each started
 /// word of the buffer takes one deposit.
 ///
-/// # The caller owes ([terms](crate::definitions))
+/// # Panics unless ([terms](crate::definitions))
 ///
 /// - *ascending*: `IsStrictlyIncreasing mask_indices.now`
 /// - *within*: `All (λ k. k < count (values self_buffer.now)) mask_indices.now`

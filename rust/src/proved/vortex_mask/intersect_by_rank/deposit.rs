@@ -21,7 +21,7 @@ pub unsafe trait DepositBits {
     ///
     /// `mask_count` is how many bits of `mask` are set, which callers know anyway.
     ///
-    /// # The caller owes ([terms](crate::definitions))
+    /// # Panics unless ([terms](crate::definitions))
     ///
     /// - `mask_count ≡ count (word_bits mask)`
     ///
@@ -46,7 +46,7 @@ pub unsafe trait DepositBits {
     /// The deposits of two words, each as [`DepositBits::deposit_bits`] has it, which answers them one
     /// by one where an implementation says nothing else. The kernels deposit two words at a time.
     ///
-    /// # The caller owes ([terms](crate::definitions))
+    /// # Panics unless ([terms](crate::definitions))
     ///
     /// - *counted_first*: `slice_index mask_counts 0 ≡ count (word_bits (slice_index masks 0))`
     /// - *counted_second*: `slice_index mask_counts 1 ≡ count (word_bits (slice_index masks 1))`

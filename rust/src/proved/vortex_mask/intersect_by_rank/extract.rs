@@ -17,7 +17,7 @@ pub unsafe trait ExtractBits {
     ///
     /// `mask_count` is how many bits of `mask` are set, which callers know anyway.
     ///
-    /// # The caller owes ([terms](crate::definitions))
+    /// # Panics unless ([terms](crate::definitions))
     ///
     /// - `mask_count ≡ count (word_bits mask)`
     ///

@@ -29,7 +29,7 @@ impl<'a> RankBits<'a> {
 
     /// The `len` bits of `bytes` from bit `offset` on, without a `BitBuffer`.
     ///
-    /// # The caller owes ([terms](crate::definitions))
+    /// # Panics unless ([terms](crate::definitions))
     ///
     /// - `IsWithinBytes bytes.now offset len`
     ///
@@ -75,7 +75,7 @@ impl<'a> RankBits<'a> {
     /// Those past the bytes are 0. Those past the last value but inside the bytes are as they
     /// stand, since a deposit ignores the bits past its mask's count.
     ///
-    /// # The caller owes ([terms](crate::definitions))
+    /// # Panics unless ([terms](crate::definitions))
     ///
     /// - `self.now.offset + offset < 2 ^ 64`
     ///

@@ -25,7 +25,7 @@ use crate::proved::mask_bits::byte_places::place_in_byte;
 pub unsafe trait SelectBit {
     /// The place of set bit number `rank`, counted from 0 at the lowest.
     ///
-    /// # The caller owes ([terms](crate::definitions))
+    /// # Panics unless ([terms](crate::definitions))
     ///
     /// - `rank < count (word_bits word)`
     ///

@@ -95,7 +95,7 @@ impl Steps {
 
     /// Deposits the bits of `source` at the set places of `mask`, of which there are `mask_count`.
     ///
-    /// # The caller owes ([terms](crate::definitions))
+    /// # Panics unless ([terms](crate::definitions))
     ///
     /// - *room*: `self.old.deposits < usize.MAX`
     /// - *counted*: `mask_count ≡ count (word_bits mask)`
@@ -157,7 +157,7 @@ impl Steps {
     /// Word `i` of the values: a whole word, or as the last one the values after the whole words
     /// in its low bits and zeros above.
     ///
-    /// # The caller owes ([terms](crate::definitions))
+    /// # Panics unless ([terms](crate::definitions))
     ///
     /// - *room*: `self.old.words < usize.MAX`
     /// - *there*: `64 * i < length chunks.now`
@@ -200,7 +200,7 @@ impl Steps {
 
     /// The place of set bit number `rank` of `word`.
     ///
-    /// # The caller owes ([terms](crate::definitions))
+    /// # Panics unless ([terms](crate::definitions))
     ///
     /// - *room*: `self.old.selections < usize.MAX`
     /// - *inside*: `rank < count (word_bits word)`

@@ -63,7 +63,7 @@ impl Mask {
     /// `All`, `None` or a list, by variant: the ranges of `slices` where the share of true values is
     /// `num / den` or more, else the list of `indices`. The comparison is exact.
     ///
-    /// # The caller owes ([terms](crate::definitions))
+    /// # Panics unless ([terms](crate::definitions))
     ///
     /// - `0 < den`
     ///

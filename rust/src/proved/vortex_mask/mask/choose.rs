@@ -15,7 +15,7 @@ const FAR: usize = 256;
 impl Mask {
     /// The rows at the true indices, in their order.
     ///
-    /// # The caller owes ([terms](crate::definitions))
+    /// # Panics unless ([terms](crate::definitions))
     ///
     /// - `length rows.now ≡ length (truth self.now)`
     ///

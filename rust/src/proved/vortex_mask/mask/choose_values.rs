@@ -14,7 +14,7 @@ impl Mask {
     ///
     /// Where this mask is all true, the result is a clone of `of`.
     ///
-    /// # The caller owes ([terms](crate::definitions))
+    /// # Panics unless ([terms](crate::definitions))
     ///
     /// - `length (truth of.now) ≡ length (truth self.now)`
     ///

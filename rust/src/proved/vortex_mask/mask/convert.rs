@@ -27,7 +27,7 @@ impl Mask {
     /// some are not the mask caches its runs: ranges that touch are merged, in the memory
     /// that came with them. An empty buffer gives `AllFalse(0)`.
     ///
-    /// # The caller owes ([terms](crate::definitions))
+    /// # Panics unless ([terms](crate::definitions))
     ///
     /// - `AreRanges (values buffer) ranges.items`
     ///

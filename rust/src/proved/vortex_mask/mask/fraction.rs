@@ -14,7 +14,7 @@ pub struct Fraction {
 impl Fraction {
     /// Whether `self >= other`, compared exactly.
     ///
-    /// # The caller owes ([terms](crate::definitions))
+    /// # Panics unless ([terms](crate::definitions))
     ///
     /// - *den*: `0 < self.den`
     /// - *other_den*: `0 < other.den`

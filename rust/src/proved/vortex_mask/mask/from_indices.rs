@@ -166,14 +166,17 @@ impl Mask {
     /// their ends first, so `Memory` may come before the other refusal: `IndexOutOfBounds` for the
     /// first index in common that is not below `len`.
     ///
+    /// # Panics unless ([terms](crate::definitions))
+    ///
+    /// - *lhs_ascends*: `EachRunFrom L.next_gives lhs IsAscending`
+    /// - *rhs_ascends*: `EachRunFrom R.next_gives rhs IsAscending`
+    ///
     /// # The caller owes ([terms](crate::definitions))
     ///
     /// - *can_lhs*: `L.can_next lhs`
     /// - *can_rhs*: `R.can_next rhs`
     /// - *lhs_ends*: `IsFinite (L.remaining lhs)`
     /// - *rhs_ends*: `IsFinite (R.remaining rhs)`
-    /// - *lhs_ascends*: `EachRunFrom L.next_gives lhs IsAscending`
-    /// - *rhs_ascends*: `EachRunFrom R.next_gives rhs IsAscending`
     ///
     /// # Proved ([terms](crate::definitions))
     ///

@@ -8,7 +8,7 @@ use crate::proved::vortex_mask::mask::{Mask, MaskError};
 impl Mask {
     /// The values `start..end`. The whole mask has its cached lists, and any other part has none.
     ///
-    /// # The caller owes ([terms](crate::definitions))
+    /// # Panics unless ([terms](crate::definitions))
     ///
     /// - *ordered*: `start ≤ end`
     /// - *within*: `end ≤ length (truth self.now)`
@@ -55,7 +55,7 @@ impl Mask {
     /// A mask for each group of `size` values, as for the row groups of a file or the batches of a
     /// scan. The last group may have fewer values, and no values give no group.
     ///
-    /// # The caller owes ([terms](crate::definitions))
+    /// # Panics unless ([terms](crate::definitions))
     ///
     /// - `0 < size`
     ///

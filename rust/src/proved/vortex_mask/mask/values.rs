@@ -99,7 +99,7 @@ impl MaskValues {
 
     /// Value `index`.
     ///
-    /// # The caller owes ([terms](crate::definitions))
+    /// # Panics unless ([terms](crate::definitions))
     ///
     /// - `index < length (values self.now.buffer)`
     ///
@@ -206,7 +206,7 @@ impl MaskValues {
     /// The ranges of `slices` where the share of true values is `num / den` or more, else the list of
     /// `indices`. The comparison is exact.
     ///
-    /// # The caller owes ([terms](crate::definitions))
+    /// # Panics unless ([terms](crate::definitions))
     ///
     /// - `0 < den`
     ///
