@@ -389,7 +389,7 @@ size_t row_mask_choose_1(
     const uint8_t *rows, size_t rows_count, uint8_t *out, size_t out_count) ROW_MASK_LOOP(choose_1);
 
 /* Writes the rows at the true values, in their order, to the front of `out`, and answers how many
- * they are. A row has 2 bytes.
+ * they are. A row has 2 bytes. Behind these rows, `out` may have others than before.
  *
  * Asks that `rows_count == len`, and that `out_count` is at least the count of the true values. */
 ROW_MASK_READ(1, 2) ROW_MASK_READ(5, 6) ROW_MASK_WRITE(7, 8)
@@ -399,7 +399,7 @@ size_t row_mask_choose_2(
     uint16_t *out, size_t out_count) ROW_MASK_LOOP(choose_2);
 
 /* Writes the rows at the true values, in their order, to the front of `out`, and answers how many
- * they are. A row has 4 bytes.
+ * they are. A row has 4 bytes. Behind these rows, `out` may have others than before.
  *
  * Asks that `rows_count == len`, and that `out_count` is at least the count of the true values. */
 ROW_MASK_READ(1, 2) ROW_MASK_READ(5, 6) ROW_MASK_WRITE(7, 8)
@@ -409,7 +409,7 @@ size_t row_mask_choose_4(
     uint32_t *out, size_t out_count) ROW_MASK_LOOP(choose_4);
 
 /* Writes the rows at the true values, in their order, to the front of `out`, and answers how many
- * they are. A row has 8 bytes.
+ * they are. A row has 8 bytes. Behind these rows, `out` may have others than before.
  *
  * Asks that `rows_count == len`, and that `out_count` is at least the count of the true values. */
 ROW_MASK_READ(1, 2) ROW_MASK_READ(5, 6) ROW_MASK_WRITE(7, 8)
@@ -419,7 +419,7 @@ size_t row_mask_choose_8(
     uint64_t *out, size_t out_count) ROW_MASK_LOOP(choose_8);
 
 /* Writes the rows at the true values, in their order, to the front of `out`, and answers how many
- * they are. A row has 16 bytes.
+ * they are. A row has 16 bytes. Behind these rows, `out` may have others than before.
  *
  * Asks that `rows_count == len`, and that `out_count` is at least the count of the true values. */
 ROW_MASK_READ(1, 2) ROW_MASK_READ(5, 6) ROW_MASK_WRITE(7, 8)

@@ -40,7 +40,7 @@ pub extern "C" fn row_mask_choose_1(
 }
 
 /// Writes the rows at the true values, in their order, to the front of `out`, and answers how many
-/// they are. A row has 2 bytes.
+/// they are. A row has 2 bytes. Behind these rows, `out` may have others than before.
 ///
 /// Asks that `rows_count == len`, and that `out_count` is at least the count of the true values.
 #[unsafe(no_mangle)]
@@ -58,7 +58,7 @@ pub extern "C" fn row_mask_choose_2(
 }
 
 /// Writes the rows at the true values, in their order, to the front of `out`, and answers how many
-/// they are. A row has 4 bytes.
+/// they are. A row has 4 bytes. Behind these rows, `out` may have others than before.
 ///
 /// Asks that `rows_count == len`, and that `out_count` is at least the count of the true values.
 #[unsafe(no_mangle)]
@@ -76,7 +76,7 @@ pub extern "C" fn row_mask_choose_4(
 }
 
 /// Writes the rows at the true values, in their order, to the front of `out`, and answers how many
-/// they are. A row has 8 bytes.
+/// they are. A row has 8 bytes. Behind these rows, `out` may have others than before.
 ///
 /// Asks that `rows_count == len`, and that `out_count` is at least the count of the true values.
 #[unsafe(no_mangle)]
@@ -94,7 +94,7 @@ pub extern "C" fn row_mask_choose_8(
 }
 
 /// Writes the rows at the true values, in their order, to the front of `out`, and answers how many
-/// they are. A row has 16 bytes.
+/// they are. A row has 16 bytes. Behind these rows, `out` may have others than before.
 ///
 /// Asks that `rows_count == len`, and that `out_count` is at least the count of the true values.
 #[unsafe(no_mangle)]

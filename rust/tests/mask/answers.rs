@@ -33,7 +33,7 @@ fn errors_are_copied_and_boxed() {
 }
 
 #[test]
-fn answers_are_copied() {
+fn answers_are_copied_and_told() {
     let text = AllOr::Some(String::from("rows"));
     assert_eq!(text.clone(), text);
     assert_eq!(AllOr::<String>::All.clone(), AllOr::All);
@@ -41,6 +41,7 @@ fn answers_are_copied() {
     let lent = AllOr::Some(&text);
     let copy = lent;
     assert_eq!(copy, lent);
+    assert_eq!(format!("{:?}", Fraction { num: 1, den: 2 }), "Fraction { num: 1, den: 2 }");
 }
 
 #[test]

@@ -2,6 +2,7 @@
 
 mod answers;
 mod conditions;
+mod faults;
 mod hashes;
 mod lists;
 mod makers;

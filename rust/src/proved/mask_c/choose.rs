@@ -35,7 +35,7 @@ pub fn row_mask_choose_1(
 }
 
 /// Writes the rows at the true values, in their order, to the front of `out`, and answers how many
-/// they are. A row has 2 bytes.
+/// they are. A row has 2 bytes. Behind these rows, `out` may have others than before.
 ///
 /// Asks that `rows_count == len`, and that `out_count` is at least the count of the true values.
 #[inline]
@@ -50,7 +50,7 @@ pub fn row_mask_choose_2(
 }
 
 /// Writes the rows at the true values, in their order, to the front of `out`, and answers how many
-/// they are. A row has 4 bytes.
+/// they are. A row has 4 bytes. Behind these rows, `out` may have others than before.
 ///
 /// Asks that `rows_count == len`, and that `out_count` is at least the count of the true values.
 #[inline]
@@ -65,7 +65,7 @@ pub fn row_mask_choose_4(
 }
 
 /// Writes the rows at the true values, in their order, to the front of `out`, and answers how many
-/// they are. A row has 8 bytes.
+/// they are. A row has 8 bytes. Behind these rows, `out` may have others than before.
 ///
 /// Asks that `rows_count == len`, and that `out_count` is at least the count of the true values.
 #[inline]
@@ -80,7 +80,7 @@ pub fn row_mask_choose_8(
 }
 
 /// Writes the rows at the true values, in their order, to the front of `out`, and answers how many
-/// they are. A row has 16 bytes.
+/// they are. A row has 16 bytes. Behind these rows, `out` may have others than before.
 ///
 /// Asks that `rows_count == len`, and that `out_count` is at least the count of the true values.
 #[inline]
