@@ -1,10 +1,11 @@
 //! Faults of lists of indices, of many lengths. No clause says that one is answered before `Memory`, since a list takes
 //! memory first: so a body that tells a fault as a want of memory meets the contract.
 
-use row_mask::MaskError::{IndexOutOfBounds, RepeatedIndex, UnsortedIndices};
-use row_mask::{Mask, MaskError};
+use row_mask::MaskError::{IndexOutOfBounds, Memory, RepeatedIndex, UnsortedIndices};
+use row_mask::{AllocError, Mask, MaskError};
+use std::fmt::Debug;
 
-fn refused(made: Result<Mask, MaskError>, by: MaskError) {
+fn refused(made: Result<impl Debug, MaskError>, by: MaskError) {
     assert_eq!(made.unwrap_err(), by);
 }
 
@@ -26,4 +27,11 @@ fn are_told_behind_any_number() {
             refused(Mask::from_intersection_indices(len, and(index), and(index)), past);
         }
     }
+}
+
+/// Of more groups than there is memory for, none is made first.
+#[test]
+fn too_many_groups_are_refused() {
+    refused(Mask::new_true(usize::MAX).groups(1), Memory(AllocError));
+    refused(Mask::new_false(usize::MAX).groups(9), Memory(AllocError));
 }
