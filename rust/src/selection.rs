@@ -130,7 +130,7 @@ impl Selection {
 }
 
 // Copies parts of items, one behind another.
-fn copy_parts<T: Copy>(items: &[T], parts: impl Iterator<Item = Range<usize>>, out: &mut [T]) {
+pub fn copy_parts<T: Copy>(items: &[T], parts: impl Iterator<Item = Range<usize>>, out: &mut [T]) {
     let mut at = 0;
     for part in parts {
         let end = at + part.len();

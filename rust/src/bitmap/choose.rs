@@ -4,14 +4,13 @@ use crate::kit::processor::{Moved, moves_bytes, moves_fours};
 use crate::prelude::*;
 use crate::proved::mask_bits::push_rows::{choose_rows, choose_small_rows};
 use crate::proved::mask_bits::small_rows::MoveRows;
+use crate::selection::copy_parts;
 
 impl Bitmap<'_> {
     makers! {
         /// The values of another bitmap at the true values, in their order: the validity of a column that is filtered,
         /// or a predicate of all rows as one of those that are left, which
         /// [`intersect_by_rank`](Bitmap::intersect_by_rank) takes as ranks.
-        ///
-        /// Where the processor has the instruction `pext`, and in a few cycles, that takes the bits of words.
         pub fn choose_bits, choose_bits_into(self, bits: Bitmap<'_>) -> count: usize, "how many values these are";
             refused by "[`Error::RowsDiffer`] where the other bitmap has not one value for each value"
             {
@@ -37,18 +36,21 @@ impl Bitmap<'_> {
     fn choose_to<T: Row>(self, rows: &[T], out: &mut [MaybeUninit<T>]) {
         // (where fewer are true, to count those of each word takes longer than is gained)
         let has_many = out.len() >= self.len / 8;
+        // (of some 48 values on the average: then it takes less time to copy each)
+        let has_long_runs = self.len - out.len() <= out.len() / 48;
         match size_of::<T>() {
             1 if has_many && moves_bytes() => {
                 // SAFETY: a row is a byte that is written, as `Row` says. Each place gets one, and none is read before.
                 let (rows, out) = unsafe { (rows.align_to().1, out.align_to_mut().1) };
-                self.choose_several::<6, u8>(rows, out);
+                self.choose_several::<6, u8, Moved>(rows, out);
             }
             #[cfg(target_arch = "x86_64")]
             4 if has_many && moves_fours() => {
                 // SAFETY: a row is four such bytes. Each place gets a row's, and none is read before.
                 let (rows, out) = unsafe { (rows.align_to().1, out.align_to_mut().1) };
-                self.choose_several::<8, [u8; 4]>(rows, out);
+                self.choose_several::<8, [u8; 4], Moved>(rows, out);
             }
+            _ if has_long_runs => copy_parts(as_cells(rows), self.runs(), out),
             _ => {
                 let mut room = Lent { out, at: 0 };
                 choose_rows::<0, _, _>(&mut room, as_cells(rows), &self.chunks());
@@ -58,10 +60,7 @@ impl Bitmap<'_> {
 
     // The same of small rows, several at once. (Inlined, it would slow down the other loop.)
     #[inline(never)]
-    fn choose_several<const FEW: usize, T: Copy>(self, rows: &[T], out: &mut [T])
-    where
-        Moved: MoveRows<T>,
-    {
-        choose_small_rows::<FEW, Moved, _, _>(&mut Lent { out, at: 0 }, rows, &self.chunks());
+    fn choose_several<const FEW: usize, T: Copy, M: MoveRows<T>>(self, rows: &[T], out: &mut [T]) {
+        choose_small_rows::<FEW, M, _, _>(&mut Lent { out, at: 0 }, rows, &self.chunks());
     }
 }
