@@ -1,5 +1,5 @@
 //! What the proved sources take of Rattle's library, over Rust's own: lists whose growth is refused by an error, shared
-//! bytes, text and lanes. With the compilers and the script that made those sources, this is all that is trusted.
+//! bytes, text and lanes. It is written by hand, and trusted. `README.md` lists all that is.
 
 mod bytes;
 pub mod conditions;

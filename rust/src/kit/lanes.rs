@@ -1,8 +1,8 @@
 //! Lanes: numbers side by side that are computed with at once, under the names of Rust's portable `std::simd`. Sums,
 //! differences and products wrap. A shift is by one count for all lanes: `lanes << u8x16::every(3)`.
 //!
-//! On x86-64 they lie in registers, as far as a program is compiled for these, and so on 64-bit ARM whose words begin with
-//! the lowest byte. Elsewhere they lie in arrays, and with `--cfg row_mask_arrays` everywhere.
+//! They lie in registers, as far as a program is compiled for these, on x86-64 and on 64-bit ARM whose words begin with the
+//! lowest byte. Elsewhere they lie in arrays, and with `--cfg row_mask_arrays` everywhere.
 
 #![allow(non_camel_case_types, reason = "they are the names of `std::simd`")]
 #![allow(clippy::inline_always, reason = "a call is a few instructions of its caller")]

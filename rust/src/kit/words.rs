@@ -1,5 +1,5 @@
-//! What is read and written unchecked, where the proved sources say that it is there. Nothing outside the package reaches
-//! these functions but through calls that test what the contract of their caller asks.
+//! What is read and written unchecked, where the proved sources say that it is there. In the package of Rust, only calls
+//! that test what the contract of their caller asks lead here. Those for C test nothing.
 #![allow(clippy::inline_always, reason = "each is a step of loops")]
 
 use alloc::vec::Vec;

@@ -7,9 +7,9 @@ use crate::strings::are_sorted;
 
 impl Selection {
     /// Writes where the chosen values begin and end to the front of `out`, from 0 on, and answers how many bytes they
-    /// have. Value `i` of the column has the bytes from `offsets[i]` to `offsets[i + 1]`. No bytes are given here to
-    /// hold the offsets to, so a corrupt one makes the answer as large as it is: ask for no memory by it before that.
-    /// It reads all offsets, to test them. [`Strings`] are tested once for any number of calls.
+    /// have. Value `i` of the column has the bytes from `offsets[i]` to `offsets[i + 1]`. No bytes are given here, so an
+    /// offset past them isn't seen, and the answer may be huge: test the last one before you ask for so much memory. It
+    /// reads all offsets, to test their order. [`Strings`] are tested once for any number of calls.
     ///
     /// # Errors
     /// [`Error::OffsetsDiffer`] where the column has not one offset more than [`len`](Selection::len) rows,
