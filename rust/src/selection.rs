@@ -101,7 +101,7 @@ impl Selection {
         let cells = as_cells(rows);
         match &self.kept {
             Kept::Word(word) => push_rows_one_by_one(&mut Lent { out, at: 0 }, cells, *word),
-            Kept::Runs(runs) => copy_parts(cells, runs.iter().map(|run| run.0..run.1), out),
+            Kept::Runs(runs) => copy_runs(cells, runs.iter().map(|run| run.0..run.1), out),
             Kept::Indices(indices) => {
                 for (place, i) in out.iter_mut().zip(indices) {
                     // SAFETY: it is the index of a true value, and there is a row for each value.
@@ -129,12 +129,12 @@ impl Selection {
     }
 }
 
-// Copies parts of items, one behind another.
-pub fn copy_parts<T: Copy>(items: &[T], parts: impl Iterator<Item = Range<usize>>, out: &mut [T]) {
+// Copies runs of items, one behind another.
+pub(crate) fn copy_runs<T: Copy>(of: &[T], runs: impl Iterator<Item = Range<usize>>, to: &mut [T]) {
     let mut at = 0;
-    for part in parts {
-        let end = at + part.len();
-        out[at..end].copy_from_slice(&items[part]);
+    for run in runs {
+        let end = at + run.len();
+        to[at..end].copy_from_slice(&of[run]);
         at = end;
     }
 }

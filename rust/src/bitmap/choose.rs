@@ -4,7 +4,7 @@ use crate::kit::processor::{Moved, moves_bytes, moves_fours};
 use crate::prelude::*;
 use crate::proved::mask_bits::push_rows::{choose_rows, choose_small_rows};
 use crate::proved::mask_bits::small_rows::MoveRows;
-use crate::selection::copy_parts;
+use crate::selection::copy_runs;
 
 impl Bitmap<'_> {
     makers! {
@@ -50,7 +50,7 @@ impl Bitmap<'_> {
                 let (rows, out) = unsafe { (rows.align_to().1, out.align_to_mut().1) };
                 self.choose_several::<8, [u8; 4], Moved>(rows, out);
             }
-            _ if has_long_runs => copy_parts(as_cells(rows), self.runs(), out),
+            _ if has_long_runs => copy_runs(as_cells(rows), self.runs(), out),
             _ => {
                 let mut room = Lent { out, at: 0 };
                 choose_rows::<0, _, _>(&mut room, as_cells(rows), &self.chunks());

@@ -1,6 +1,6 @@
 //! Strings at the chosen rows.
 
-use super::{Kept, copy_parts};
+use super::{Kept, copy_runs};
 use crate::prelude::*;
 use crate::proved::mask_c::{put_ends, put_strings, take_offsets};
 use crate::strings::are_sorted;
@@ -122,7 +122,7 @@ impl<O: Offset> Strings<'_, O> {
         match &selection.kept {
             Kept::Runs(runs) => {
                 let parts = runs.iter().map(|run| offsets[run.0].get()..offsets[run.1].get());
-                copy_parts(bytes, parts, out);
+                copy_runs(bytes, parts, out);
             }
             _ => selection.by_blocks(|block| at = put_strings(block, offsets, bytes, out, at)),
         }
