@@ -129,7 +129,8 @@ impl Selection {
     }
 }
 
-// Copies runs of items, one behind another.
+// Copies runs of items, one behind another. (Inlined, it would slow down other loops.)
+#[inline(never)]
 pub(crate) fn copy_runs<T: Copy>(of: &[T], runs: impl Iterator<Item = Range<usize>>, to: &mut [T]) {
     let mut at = 0;
     for run in runs {

@@ -4,7 +4,6 @@ use crate::kit::processor::{Moved, moves_bytes, moves_fours};
 use crate::prelude::*;
 use crate::proved::mask_bits::push_rows::{choose_rows, choose_small_rows};
 use crate::proved::mask_bits::small_rows::MoveRows;
-use crate::selection::copy_runs;
 
 impl Bitmap<'_> {
     makers! {
@@ -36,8 +35,9 @@ impl Bitmap<'_> {
     fn choose_to<T: Row>(self, rows: &[T], out: &mut [MaybeUninit<T>]) {
         // (where fewer are true, to count those of each word takes longer than is gained)
         let has_many = out.len() >= self.len / 8;
-        // (of some 48 values on the average: then it takes less time to copy each)
-        let has_long_runs = self.len - out.len() <= out.len() / 48;
+        // (of so many values, taken together, it takes less time to copy each)
+        let of_a_run = if self.len > 128 { 48 } else { 24 };
+        let has_long_runs = (self.len - out.len()).saturating_mul(of_a_run) <= out.len();
         match size_of::<T>() {
             1 if has_many && moves_bytes() => {
                 // SAFETY: a row is a byte that is written, as `Row` says. Each place gets one, and none is read before.
@@ -50,7 +50,7 @@ impl Bitmap<'_> {
                 let (rows, out) = unsafe { (rows.align_to().1, out.align_to_mut().1) };
                 self.choose_several::<8, [u8; 4], Moved>(rows, out);
             }
-            _ if has_long_runs => copy_runs(as_cells(rows), self.runs(), out),
+            _ if has_long_runs => crate::selection::copy_runs(as_cells(rows), self.runs(), out),
             _ => {
                 let mut room = Lent { out, at: 0 };
                 choose_rows::<0, _, _>(&mut room, as_cells(rows), &self.chunks());
