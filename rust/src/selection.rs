@@ -129,7 +129,7 @@ impl Selection {
     }
 }
 
-// Copies runs of items, one behind another. (Inlined, it would slow down other loops.)
+// Copies runs of items, one behind another. (Never inlined, so that it changes no loop beside it.)
 #[inline(never)]
 pub(crate) fn copy_runs<T: Copy>(of: &[T], runs: impl Iterator<Item = Range<usize>>, to: &mut [T]) {
     let mut at = 0;

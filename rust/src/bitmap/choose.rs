@@ -35,7 +35,7 @@ impl Bitmap<'_> {
     fn choose_to<T: Row>(self, rows: &[T], out: &mut [MaybeUninit<T>]) {
         // (where fewer are true, to count those of each word takes longer than is gained)
         let has_many = out.len() >= self.len / 8;
-        // (of so many values, taken together, it takes less time to copy each)
+        // (where runs have so many values, taken together, to copy each takes less time)
         let of_a_run = if self.len > 128 { 48 } else { 24 };
         let has_long_runs = (self.len - out.len()).saturating_mul(of_a_run) <= out.len();
         match size_of::<T>() {

@@ -200,7 +200,7 @@ fn zeroed(count: usize, room: usize) -> Result<Vec<u8>, AllocError> {
     if bytes.is_null() {
         return Err(AllocError);
     }
-    // SAFETY: the allocator gave `room` bytes, at least `count`, for this layout, a list's of them, and all are 0.
+    // SAFETY: the allocator gave `room` bytes, at least `count`, for the layout of such a list, and all are 0.
     Ok(unsafe { Vec::from_raw_parts(bytes, count, room) })
 }
 
