@@ -14,6 +14,7 @@ mod from_indices;
 mod from_slices;
 mod iter;
 mod limit;
+mod lookup;
 mod set_ranges;
 mod slice;
 mod values;
@@ -214,7 +215,7 @@ impl Mask {
         match self {
             Mask::AllTrue(_) => n,
             Mask::AllFalse(_) => unreachable!(),
-            Mask::Values(values) => values.bit_buffer().select(n).unwrap(),
+            Mask::Values(values) => values.nth_index(n),
         }
     }
 
@@ -258,7 +259,7 @@ impl Mask {
         match self {
             Mask::AllTrue(len) => (*len > 0).then_some(0),
             Mask::AllFalse(_) => None,
-            Mask::Values(values) => values.bit_buffer().select(0),
+            Mask::Values(values) => Some(values.first_index()),
         }
     }
 
@@ -271,7 +272,7 @@ impl Mask {
         match self {
             Mask::AllTrue(len) => len.checked_sub(1),
             Mask::AllFalse(_) => None,
-            Mask::Values(values) => values.bit_buffer().last_set_index(),
+            Mask::Values(values) => Some(values.last_index()),
         }
     }
 
@@ -312,9 +313,12 @@ fn counts_below(
     let mut counted_to = 0;
     let mut count = 0;
     for index in indices {
-        count += buffer.count_range(counted_to, *index);
-        counts.push(count)?;
-        counted_to = *index;
+        // the same index again asks for no count
+        if counted_to < *index {
+            count += buffer.count_range(counted_to, *index);
+            counted_to = *index;
+        }
+        counts.push_reserved(count);
     }
     Ok(counts)
 }

@@ -1,6 +1,8 @@
 //! The values of a mask that has both true and false ones.
 
-ghost use Rattle.std.specs.Prelude.{◌≡◌, ◌<◌, ◌↔◌, [], true, false, IsTrue, IfOk, Some, length, slice_get, IsOkUnless, alloc_error, ◌*◌, IsOk, IsSome, OnErr};
+ghost use Rattle.std.specs.Prelude.{◌≡◌, ◌<◌, ◌≤◌, ◌+◌, ◌-◌, ◌++◌, ◌↔◌, [], true, false, All, IsTrue, IfOk, Some, length, slice_get, IsOkUnless, alloc_error, ◌*◌, IsOk, IsSome, OnErr};
+ghost use Rattle.std.specs.List.{flat_map, range_with_len};
+ghost use Rattle.std.specs.Vec.{vec_capacity, vec_len};
 ghost use Rattle.std.specs.Option.{option_map};
 ghost use Rattle.std.specs.Borrow.{sem};
 ghost use Rattle.std.specs.Io.BufRead.{Rests};
@@ -9,6 +11,7 @@ ghost use Rattle.mask_bits.specs.Positions.{count, positions};
 ghost use Rattle.vortex_mask.specs.MaskValues.{HasList, IsMixed, IsWhole, AreOf, contents, with_caches, with_indices, with_made, with_ranges};
 ghost use Rattle.mask_bits.specs.RunScan.{runs};
 ghost use Rattle.vortex_mask.specs.Lend.{ReachesShare, lends_ranges, IsLentOf, with_list};
+ghost use Rattle.vortex_mask.specs.Ranges.{rows_held};
 ghost use Rattle.vortex_mask.specs.Text.{counts_text};
 ghost use Rattle.vortex_mask.specs.contracts.mask.values.MaskValues.{the_row};
 
@@ -302,11 +305,16 @@ impl MaskValues {
         Ok(filled)
     }
 
-    // The true indices, in room that is made once.
+    // The true indices, in room that is made once. A cached run takes about as long as a word of bits.
     pub(crate) fn index_list(&self, alloc: Global) -> Result<Vec<usize>, AllocError>
         ensures { IfOk result (λ indices. indices.items ≡ positions (values self.now.buffer)) }
     {
-        self.buffer.indices(alloc, self.true_count)
+        match self.cached_slices() {
+            Some(ranges) if ranges.len() <= self.len() / 64 => {
+                indices_in(alloc, ranges, self.true_count)
+            }
+            _ => self.buffer.indices(alloc, self.true_count),
+        }
     }
 
     // The runs of true indices: by a walk where few values are true, of which most words have none.
@@ -319,5 +327,40 @@ impl MaskValues {
             return Ok(ranges);
         }
         self.buffer.runs(alloc)
+    }
+}
+
+// The indices in ranges that hold so many, one range after another.
+#[tactic(auto, using(crate::proofs::Masks::CachedLemmas::inside_facts))]
+fn indices_in(
+    alloc: Global,
+    ranges: &[(usize, usize)],
+    count: usize,
+) -> Result<Vec<usize>, AllocError>
+    requires nonempty { All (λ r. r.0 < r.1) ranges.now }
+    requires counted { rows_held ranges.now ≡ count }
+    ensures { IfOk result
+        (λ indices. indices.items ≡ flat_map (λ r. range_with_len r.0 (r.1 - r.0)) ranges.now) }
+{
+    let mut indices = Vec::with_capacity(alloc, count)?;
+    for (start, end) in ranges {
+        push_range(&mut indices, *start, *end);
+    }
+    Ok(indices)
+}
+
+// Pushes the indices from `start` to `end`, the end left out, into room that is there.
+#[inline]
+#[tactic(auto, using(crate::proofs::Masks::CachedLemmas::inside_facts))]
+fn push_range(indices: &mut Vec<usize>, start: usize, end: usize)
+    requires ordered { start ≤ end }
+    requires room { vec_len indices.old + (end - start) ≤ vec_capacity indices.old }
+    ensures items { indices.new.items
+        ≡ indices.old.items ++ range_with_len start (end - start) }
+    ensures len { vec_len indices.new ≡ vec_len indices.old + (end - start) }
+    ensures capacity { vec_capacity indices.new ≡ vec_capacity indices.old }
+{
+    for index in start..end {
+        indices.push_reserved(index);
     }
 }

@@ -129,7 +129,7 @@ impl MaskValues {
     ///
     /// - *cached*: `option_map (λ indices. indices.now) result ≡ self.now.caches.indices`
     /// - *whole*: `AreOf (values self.now.buffer) self.now.caches`
-    #[inline]
+    #[inline(always)]
     pub fn cached_indices(&self) -> Option<&[usize]> {
         self.indices.as_deref()
     }
@@ -140,7 +140,7 @@ impl MaskValues {
     ///
     /// - *cached*: `option_map (λ ranges. ranges.now) result ≡ self.now.caches.ranges`
     /// - *whole*: `AreOf (values self.now.buffer) self.now.caches`
-    #[inline]
+    #[inline(always)]
     pub fn cached_slices(&self) -> Option<&[(usize, usize)]> {
         self.slices.as_deref()
     }
@@ -286,10 +286,13 @@ impl MaskValues {
         Ok(filled)
     }
 
-    // The true indices, in room that is made once.
+    // The true indices, in room that is made once. A cached run takes about as long as a word of bits.
     #[inline(always)]
     pub(crate) fn index_list(&self) -> Result<Vec<usize>, AllocError> {
-        self.buffer.indices_proved(self.true_count)
+        match self.cached_slices() {
+            Some(ranges) if ranges.len() <= self.len() / 64 => indices_in(ranges, self.true_count),
+            _ => self.buffer.indices_proved(self.true_count),
+        }
     }
 
     // The runs of true indices: by a walk where few values are true, of which most words have none.
@@ -301,5 +304,23 @@ impl MaskValues {
             return Ok(ranges);
         }
         self.buffer.runs()
+    }
+}
+
+// The indices in ranges that hold so many, one range after another.
+#[inline(always)]
+fn indices_in(ranges: &[(usize, usize)], count: usize) -> Result<Vec<usize>, AllocError> {
+    let mut indices = Vec::with_room(count)?;
+    for (start, end) in ranges {
+        push_range(&mut indices, *start, *end);
+    }
+    Ok(indices)
+}
+
+// Pushes the indices from `start` to `end`, the end left out, into room that is there.
+#[inline(always)]
+fn push_range(indices: &mut Vec<usize>, start: usize, end: usize) {
+    for index in start..end {
+        indices.push_reserved(index);
     }
 }
