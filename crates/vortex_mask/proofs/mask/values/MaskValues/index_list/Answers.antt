@@ -1,4 +1,4 @@
-use Rattle.vortex_mask.proofs.Common.{◌≡◌, values, runs, arith, rules}
+use Rattle.vortex_mask.proofs.Common.{values, arith, rules}
 use Rattle.vortex_mask.proofs.Masks.CachedLemmas.{cached-runs, runs-hold, nonempty-cached, inside-cached}
 use Rattle.vortex_mask.proofs.mask.values.MaskValues.index_list.Goals as goal
 

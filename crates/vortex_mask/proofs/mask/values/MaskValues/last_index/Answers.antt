@@ -1,4 +1,4 @@
-use Rattle.vortex_mask.proofs.Common.{arith, ℕ, ◌≡◌, ◌-◌, ◌<◌, Some, List, length, get_or, slice_get, positions, count, values, runs}
+use Rattle.vortex_mask.proofs.Common.{arith, ◌≡◌, ◌-◌, ◌<◌, Some, length, get_or, slice_get, positions, count, values, runs}
 use Rattle.vortex_mask.proofs.Masks.CachedLemmas.{cached-runs, mixed-some, runs-some, runs-last, runs-end, index-within}
 use Rattle.vortex_mask.proofs.mask.values.MaskValues.last_index.Goals as goal
 use Rattle.vortex_mask.proofs.mask.values.MaskValues.last_index.Goals.{In-Some-cached_slices}
