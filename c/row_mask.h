@@ -308,8 +308,8 @@ void row_mask_not_in_place(
 /* Writes the values of `more` behind the first `len` values of `bytes`, which begin at bit 0. So
  * bitmaps are joined by a call for each.
  *
- * Asks that `len + more_len` doesn't overflow, and that `bytes_size >= row_mask_room(len +
- * more_len)`. */
+ * Asks that `len + more_len` doesn't overflow, and that
+ * `bytes_size >= row_mask_room(len + more_len)`. */
 ROW_MASK_READ(4, 5)
 void row_mask_append(
     uint8_t *bytes, size_t bytes_size, size_t len, const uint8_t *more, size_t more_size,
@@ -344,8 +344,8 @@ bool row_mask_intersects(
 /* Writes the bitmap narrowed by another over its true values: true value number `k` stays true
  * exactly where value `k` of `ranks` is true.
  *
- * Asks that `ranks_len` is the count of the bitmap's true values, and that `out_size >=
- * row_mask_room(len)`. */
+ * Asks that `ranks_len` is the count of the bitmap's true values, and that
+ * `out_size >= row_mask_room(len)`. */
 ROW_MASK_READ(1, 2) ROW_MASK_READ(5, 6) ROW_MASK_WRITE(9, 10)
 void row_mask_intersect_by_rank(
     const uint8_t *bytes, size_t bytes_size, size_t offset, size_t len,
@@ -491,8 +491,8 @@ void row_mask_take_16(
 
 /* Writes the offsets of the strings at the true values to the front of `out`: 0, and then where
  * each of these ends if they stand one behind the other. Answers how many bytes they have, which is
- * the room for `row_mask_choose_bytes_4`. String `i` has the bytes from `offsets[i]` to `offsets[i
- * + 1]`, and an offset has 4 bytes.
+ * the room for `row_mask_choose_bytes_4`. String `i` has the bytes from `offsets[i]` to
+ * `offsets[i + 1]`, and an offset has 4 bytes.
  *
  * Asks that `offsets_count == len + 1`, that no offset is below the one before it, and that
  * `out_count` is above the count of the true values. */
@@ -504,8 +504,8 @@ size_t row_mask_choose_offsets_4(
 
 /* Writes the offsets of the strings at the true values to the front of `out`: 0, and then where
  * each of these ends if they stand one behind the other. Answers how many bytes they have, which is
- * the room for `row_mask_choose_bytes_8`. String `i` has the bytes from `offsets[i]` to `offsets[i
- * + 1]`, and an offset has 8 bytes.
+ * the room for `row_mask_choose_bytes_8`. String `i` has the bytes from `offsets[i]` to
+ * `offsets[i + 1]`, and an offset has 8 bytes.
  *
  * Asks that `offsets_count == len + 1`, that no offset is below the one before it, and that
  * `out_count` is above the count of the true values. */
@@ -544,8 +544,8 @@ size_t row_mask_take_offsets_8(
     uint64_t *out, size_t out_count) ROW_MASK_LOOP(take_offsets_8);
 
 /* Writes the bytes of the strings at the true values, one string behind another, to the front of
- * `out`, and answers how many these are. String `i` has the bytes from `offsets[i]` to `offsets[i +
- * 1]`, and an offset has 4 bytes.
+ * `out`, and answers how many these are. String `i` has the bytes from `offsets[i]` to
+ * `offsets[i + 1]`, and an offset has 4 bytes.
  *
  * Asks that `offsets_count == len + 1`, that no offset is below the one before it and the last is
  * at most `string_bytes_size`, and that `out_size` is at least what `row_mask_choose_offsets_4`
@@ -558,8 +558,8 @@ size_t row_mask_choose_bytes_4(
     uint8_t *out, size_t out_size) ROW_MASK_LOOP(choose_bytes_4);
 
 /* Writes the bytes of the strings at the true values, one string behind another, to the front of
- * `out`, and answers how many these are. String `i` has the bytes from `offsets[i]` to `offsets[i +
- * 1]`, and an offset has 8 bytes.
+ * `out`, and answers how many these are. String `i` has the bytes from `offsets[i]` to
+ * `offsets[i + 1]`, and an offset has 8 bytes.
  *
  * Asks that `offsets_count == len + 1`, that no offset is below the one before it and the last is
  * at most `string_bytes_size`, and that `out_size` is at least what `row_mask_choose_offsets_8`
