@@ -1,5 +1,6 @@
 //! What the proved sources take of Rattle's library, over Rust's own: lists whose growth is refused by an error, shared
-//! bytes, text and lanes. It is written by hand, and trusted. `README.md` lists all that is.
+//! bytes, text and lanes. Beside it, what the processor has, loops over its instructions, and tests of conditions, which
+//! call proved modules. It is written by hand, and trusted. `README.md` lists all that is.
 
 mod bytes;
 pub mod conditions;
@@ -18,7 +19,7 @@ pub(crate) use processor::{
     by_level, by_level_if, by_shifted_level, by_wide_level_if, levelled, quickest,
 };
 pub use shared::{TryClone, shared};
-pub use text::{Text, TryToString, formatted};
+pub use text::{Text, TryToString};
 
 /// Memory was asked for and refused.
 #[derive(Clone, Copy, Debug, PartialEq, Eq, Hash)]

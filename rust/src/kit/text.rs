@@ -88,13 +88,3 @@ pub trait TryToString: Display {
 }
 
 impl<T: Display> TryToString for T {}
-
-/// The text of what `format_args!` says.
-///
-/// # Errors
-/// [`AllocError`] where memory is refused.
-pub fn formatted(what: Arguments<'_>) -> Result<String, AllocError> {
-    let mut text = String::new();
-    text.try_write(what)?;
-    Ok(text)
-}
