@@ -6,7 +6,7 @@ use crate::proved::mask_bits::BitBuffer;
 /// Stops where a condition isn't met.
 ///
 /// # Panics
-/// Where it isn't, with the names of the call and the condition.
+/// Where it isn't, with the call's name, and the condition's name and text.
 #[inline]
 #[track_caller]
 pub(crate) fn owed(is_met: bool, call: &'static str, name: &'static str, words: &'static str) {
