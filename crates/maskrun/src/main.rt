@@ -1,4 +1,4 @@
-//! `maskrun rank A B`: prints mask `A` narrowed by mask `B` over its true values.
+//! `maskrun rank A B` prints mask `A` narrowed by mask `B`. All commands stand in the docs of `answer`.
 #![tactic(auto)]
 
 pub mod answer;
