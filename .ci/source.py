@@ -31,12 +31,29 @@ class Function(namedtuple("Function", "file name path lines clauses contract who
     `Mask::clone`, `MaskPartialEq::eq`. `lines` are its first, with its attributes, and its last, counted from 1.
     """
 
+    @property
+    def words(self):
+        """The words of its body."""
+        return words_of(self.whole.split(self.contract)[-1])
+
     def named(self, *kinds):
         """The names of its clauses of these kinds."""
         return [name for name, (kind, _) in self.clauses.items() if kind in kinds]
 
+    def calls(self, other):
+        """Whether its body names the other. The function of a trait calls those that implement it."""
+        if other.is_of_trait:
+            return not self.is_of_trait and other.path.endswith(self.path)
+        return other.name.split("::")[1] in self.words
+
     def stands_at(self, file, line):
         return self.file == file and self.lines[0] <= line <= self.lines[1]
+
+
+@cache
+def words_of(text):
+    """The words of code, but for those of its comments and strings."""
+    return {*re.findall(r"\w+", blanked(text))}
 
 
 def blanked(text):
@@ -68,11 +85,20 @@ def closing(text, at):
     return len(text)
 
 
-def blocks_of(code):
+@cache
+def private_traits(folder):
+    """The traits of the sources below a folder that no other crate sees."""
+    found = (blanked(it.read_text()) for it in folder.rglob("*.rt"))
+    return {it for code in found for it in re.findall(r"^(?:pub\([^)]*\) )?trait (\w+)", code, re.M)}
+
+
+def blocks_of(code, private=()):
     """
     >>> code = "impl<'a, T: Into<Vec<u8>>> Model for Walk<'a> { ghost view = { 1 } } pub trait Cut: Sized { }"
     >>> [it[2:] for it in blocks_of(code.replace("} pub", "}\\npub"))]
     [('Walk', 'Model', False, ['view']), ('Cut', '', True, [])]
+    >>> [it[2:] for it in blocks_of("impl Words for Walk { ghost view = { 1 } }", {"Words"})]
+    [('Walk', 'Words', False, [])]
     """
     for it in re.finditer(r"^(?:pub(?:\([^)]*\))? )?(impl|trait)\b([^{;]*)\{", code, re.M):
         end = closing(code, it.end() - 1)
@@ -82,8 +108,7 @@ def blocks_of(code):
         head = " ".join(head.split()).split(" where ")[0]
         trait, _, owner = f" {head}".rpartition(" for ") if it[1] == "impl" else ("", "", head.split(":")[0])
         owner, trait = ((re.findall(r"\w+", part) or [""])[-1] for part in (owner, trait))
-        is_private = trait and re.search(rf"^(pub\(\w+\) )?trait {trait}\b", code, re.M)
-        ghosts = [] if is_private else re.findall(r"\bghost (\w+) =", code[it.end() : end])
+        ghosts = [] if trait in private else re.findall(r"\bghost (\w+) =", code[it.end() : end])
         yield Block(it.start(), end, owner, trait, it[0].startswith("pub trait"), ghosts)
 
 
@@ -135,7 +160,8 @@ def functions_in(file, text=None):
     """
     text = file.read_text() if text is None else text
     code = blanked(text)
-    blocks = list(blocks_of(code))
+    sources = next(it for it in file.parents if it.name == "src")
+    blocks = list(blocks_of(code, private_traits(sources)))
     for it in re.finditer(r"\b(pub(?:\([^)]*\))? )?(?:const |unsafe |extern +)*fn (\w+)", code):
         clauses, sign, end = clauses_after(code, text, it.end())
         block = next((block for block in reversed(blocks) if block.start < it.start() < block.end), None)
@@ -174,6 +200,27 @@ def functions_of(crate):
     files = sorted((CRATES / crate / "src").rglob("*.rt")) if crate not in TEST_CRATES else []
     files = [it for it in files if "tests" not in it.relative_to(CRATES).with_suffix("").parts]
     return [it for file in files for it in functions_in(file)]
+
+
+def callers(functions, called):
+    """The called functions, and those that call one of them, by way of private ones too.
+
+    >>> code = "pub fn low() {} fn mid() { low() } pub fn high() { mid() } pub fn top() { high() } fn idle() {}"
+    >>> found = list(functions_in(Path("crates/c/src/lib.rt"), code))
+    >>> [it.name for it in callers(found, found[:1])]
+    ['lib::low', 'lib::mid', 'lib::high']
+    >>> code = "pub trait Put {\\n  fn put();\\n}\\nimpl Put for Word {\\n  fn put() { low() }\\n}\\nfn low() {}"
+    >>> found = list(functions_in(Path("crates/c/src/lib.rt"), code))
+    >>> [it.name for it in callers(found, found[2:])]
+    ['lib::low', 'Word::put', 'Put::put']
+    """
+    found, left = list(called), list(called)
+    while left:
+        low = left.pop()
+        new = [it for it in functions if it.calls(low) and it not in found]
+        found += new
+        left += [it for it in new if not it.is_public]
+    return found
 
 
 class Edit:
