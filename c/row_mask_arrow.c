@@ -13,8 +13,12 @@ enum kind { UNKNOWN, BITS, ROWS, STRINGS, LARGE_STRINGS, STRUCT };
 
 typedef struct layout {
     enum kind kind;
-    size_t width; /* of rows, in bytes */
+    size_t width; /* of rows, or of offsets of strings, in bytes, and 0 of others */
 } layout;
+
+/* How many structs a column may lie in, and how many columns of a call do. So a struct that lies in itself has an end,
+ * and so has one child of many structs. */
+enum { MOST_STRUCTS = 64, MOST_COLUMNS = 65536 };
 
 /* A bitmap over the rows that are asked for, and how many it chooses. */
 typedef struct selection {
@@ -24,41 +28,54 @@ typedef struct selection {
 
 #define WHOLE(s) (s)->bytes, (s)->size, (s)->offset, (s)->len
 
+/* Says what is wrong, and with which column. A released one has no name any more. */
 static int refuse(row_mask_arrow_error *error, int number, const char *what, const struct ArrowSchema *schema) {
-    if (error != NULL)
+    if (error == NULL)
+        return number;
+    if (schema == NULL)
+        snprintf(error->message, sizeof error->message, "%s", what);
+    else
         snprintf(
             error->message, sizeof error->message, "%s: column '%.40s' of format '%.20s'", what,
-            schema->name ? schema->name : "", schema->format);
+            schema->name ? schema->name : "", schema->format ? schema->format : "");
     return number;
 }
 
 /* ---- formats ---- */
 
-/* The number that a text is, or 0 where it is none or none that a row may have as its width. */
-static size_t number_of(const char *text) {
-    size_t number = 0;
+/* Where digits end that are a number of 31 bits, and NULL where there are none, or they are a larger one. */
+static const char *end_of_number(const char *text, size_t *number) {
+    const char *end = text;
 
-    if (*text == '0')
-        return 0;
-    for (; *text >= '0' && *text <= '9'; text++) {
-        number = 10 * number + (size_t)(*text - '0');
-        if (number > INT32_MAX)
-            return 0;
+    for (*number = 0; *end >= '0' && *end <= '9'; end++) {
+        *number = 10 * *number + (size_t)(*end - '0');
+        if (*number > INT32_MAX)
+            return NULL;
     }
-    return *text == 0 ? number : 0;
+    return end > text ? end : NULL;
 }
 
-/* `d:19,10` has 16 bytes, and `d:19,10,N` has N bits. */
-static size_t width_of_decimal(const char *format) {
-    const char *comma = strchr(format, ',');
-    size_t bits;
+/* The number that a text is, or 0 where it is none, or begins with a 0. */
+static size_t number_of(const char *text) {
+    size_t number;
+    const char *end = end_of_number(text, &number);
 
-    if (comma == NULL)
+    return end != NULL && *end == 0 && *text != '0' ? number : 0;
+}
+
+/* `19,10` has 16 bytes, and `19,10,N` has N bits. The second number may be negative. */
+static size_t width_of_decimal(const char *text) {
+    size_t precision, scale, bits;
+    const char *end = end_of_number(text, &precision);
+
+    if (end == NULL || *text == '0' || *end != ',')
         return 0;
-    comma = strchr(comma + 1, ',');
-    if (comma == NULL)
+    end = end_of_number(end[1] == '-' ? end + 2 : end + 1, &scale);
+    if (end == NULL)
+        return 0;
+    if (*end == 0)
         return 16;
-    bits = number_of(comma + 1);
+    bits = *end == ',' ? number_of(end + 1) : 0;
     return bits == 32 || bits == 64 || bits == 128 || bits == 256 ? bits / 8 : 0;
 }
 
@@ -86,7 +103,7 @@ static size_t width_of(const char *format) {
     if (format[0] == 'w' && format[1] == ':')
         return number_of(format + 2);
     if (format[0] == 'd' && format[1] == ':')
-        return width_of_decimal(format);
+        return width_of_decimal(format + 2);
     letter = format[0] != 0 && format[1] == 0 ? strchr(letters, format[0]) : NULL;
     return letter ? (size_t)widths[letter - letters] : 0;
 }
@@ -94,16 +111,19 @@ static size_t width_of(const char *format) {
 static layout layout_of(const char *format) {
     layout it = {UNKNOWN, 0};
 
-    if (strcmp(format, "b") == 0)
+    if (strcmp(format, "b") == 0) {
         it.kind = BITS;
-    else if (strcmp(format, "u") == 0 || strcmp(format, "z") == 0)
-        it.kind = STRINGS;
-    else if (strcmp(format, "U") == 0 || strcmp(format, "Z") == 0)
-        it.kind = LARGE_STRINGS;
-    else if (strcmp(format, "+s") == 0)
+    } else if (strcmp(format, "+s") == 0) {
         it.kind = STRUCT;
-    else if ((it.width = width_of(format)) > 0)
+    } else if (strcmp(format, "u") == 0 || strcmp(format, "z") == 0) {
+        it.kind = STRINGS;
+        it.width = 4;
+    } else if (strcmp(format, "U") == 0 || strcmp(format, "Z") == 0) {
+        it.kind = LARGE_STRINGS;
+        it.width = 8;
+    } else if ((it.width = width_of(format)) > 0) {
         it.kind = ROWS;
+    }
     return it;
 }
 
@@ -118,74 +138,110 @@ static int64_t buffers_of(layout it) {
 
 /* ---- what is refused ---- */
 
-/* Whether offsets are numbers that don't descend. */
-static bool ascends_4(const int32_t *offsets, size_t len) {
-    bool ascends = offsets[0] >= 0;
-    size_t i;
-
-    for (i = 0; i < len; i++)
-        ascends &= offsets[i] <= offsets[i + 1];
-    return ascends;
+/* Whether both are there, and neither was released or moved. */
+static bool is_there(const struct ArrowSchema *schema, const struct ArrowArray *array) {
+    return schema != NULL && schema->release != NULL && array != NULL && array->release != NULL;
 }
 
-static bool ascends_8(const int64_t *offsets, size_t len) {
+/* Whether offsets are numbers that don't descend, and all the same where there are no bytes. */
+static bool ascends_4(const int32_t *offsets, size_t len, bool has_bytes) {
     bool ascends = offsets[0] >= 0;
     size_t i;
 
     for (i = 0; i < len; i++)
         ascends &= offsets[i] <= offsets[i + 1];
-    return ascends;
+    return ascends && (has_bytes || offsets[0] == offsets[len]);
+}
+
+static bool ascends_8(const int64_t *offsets, size_t len, bool has_bytes) {
+    bool ascends = offsets[0] >= 0;
+    size_t i;
+
+    for (i = 0; i < len; i++)
+        ascends &= offsets[i] <= offsets[i + 1];
+    return ascends && (has_bytes || offsets[0] == offsets[len]);
 }
 
 static bool is_aligned(const void *items, size_t size) {
     return (uintptr_t)items % size == 0;
 }
 
-static bool has_offsets(const struct ArrowArray *array, bool large, size_t start, size_t len) {
-    const int32_t *offsets = (const int32_t *)array->buffers[1] + start;
-    const int64_t *large_offsets = (const int64_t *)array->buffers[1] + start;
+static bool has_offsets(layout it, const struct ArrowArray *array, size_t start, size_t len) {
+    const void *offsets = array->buffers[1];
+    bool has_bytes = array->buffers[2] != NULL;
 
-    if (large)
-        return is_aligned(large_offsets, sizeof *large_offsets) && ascends_8(large_offsets, len)
-            && (array->buffers[2] != NULL || large_offsets[0] == large_offsets[len]);
-    return is_aligned(offsets, sizeof *offsets) && ascends_4(offsets, len)
-        && (array->buffers[2] != NULL || offsets[0] == offsets[len]);
-}
-
-/* What can be seen of the buffers of the `len` values from `start` on. Where there are none, buffers may be absent. */
-static bool has_buffers(layout it, const struct ArrowArray *array, size_t start, size_t len) {
-    if (it.kind == STRUCT || len == 0)
-        return true;
-    if (array->buffers[1] == NULL)
+    if (!is_aligned(offsets, it.width))
         return false;
-    return !is_string(it) || has_offsets(array, it.kind == LARGE_STRINGS, start, len);
+    if (it.kind == LARGE_STRINGS)
+        return ascends_8((const int64_t *)offsets + start, len, has_bytes);
+    return ascends_4((const int32_t *)offsets + start, len, has_bytes);
 }
 
-/* Whether the `len` rows from `start` on of an array can be filtered, and so those of its children. */
+/* Whether memory can have the buffer of so many values, so that no product of a width and some of them is too large. */
+static bool fits_memory(layout it, size_t values) {
+    return it.width == 0 || values <= PTRDIFF_MAX / it.width - is_string(it);
+}
+
+static bool has_children(layout it, const struct ArrowSchema *schema, const struct ArrowArray *array) {
+    if (array->n_children != schema->n_children)
+        return false;
+    return array->n_children == 0
+        || (it.kind == STRUCT && array->n_children > 0 && array->children != NULL && schema->children != NULL);
+}
+
+/* What is wrong with a column but for its children, or NULL. Of it `len` rows from `start` on are asked for. Where none
+ * are, buffers may be absent. */
+static const char *fault_of(
+    layout it, const struct ArrowSchema *schema, const struct ArrowArray *array, size_t start, size_t len) {
+    if (array->length < 0 || array->offset < 0 || array->offset > INT64_MAX - array->length
+        || start + len > (size_t)array->length)
+        return "bad length or offset";
+    if (array->n_buffers != buffers_of(it) || array->buffers == NULL)
+        return "bad number of buffers";
+    if (array->null_count < -1 || (array->null_count > 0 && array->buffers[0] == NULL))
+        return "bad null count";
+    if (!has_children(it, schema, array))
+        return "bad number of children";
+    if (it.kind != STRUCT && len > 0 && array->buffers[1] == NULL)
+        return "a bad buffer";
+    if (!fits_memory(it, (size_t)array->offset + (size_t)array->length))
+        return "bad length or offset";
+    if (is_string(it) && len > 0 && !has_offsets(it, array, start + (size_t)array->offset, len))
+        return "a bad buffer";
+    return NULL;
+}
+
+/* Whether the `len` rows from `start` on of a column can be filtered, and so those of its children. It lies in so many
+ * structs, and the call has met so many children of structs. */
 static int check(
-    const struct ArrowSchema *schema, const struct ArrowArray *array, size_t start, size_t len,
-    row_mask_arrow_error *error) {
-    layout it = layout_of(schema->format);
+    const struct ArrowSchema *schema, const struct ArrowArray *array, size_t start, size_t len, int structs,
+    int64_t *met, row_mask_arrow_error *error) {
+    layout it;
+    const char *fault;
     int64_t i;
     int status = 0;
 
+    if (schema->format == NULL)
+        return refuse(error, EINVAL, "bad format", schema);
+    it = layout_of(schema->format);
     if (it.kind == UNKNOWN)
         return refuse(error, ENOTSUP, "not supported", schema);
     if (schema->dictionary != NULL || array->dictionary != NULL)
         return refuse(error, ENOTSUP, "dictionaries are not supported", schema);
-    if (array->length < 0 || array->offset < 0 || array->offset > INT64_MAX - array->length
-        || start + len > (size_t)array->length)
-        return refuse(error, EINVAL, "bad length or offset", schema);
-    if (array->n_buffers != buffers_of(it) || array->buffers == NULL)
-        return refuse(error, EINVAL, "bad number of buffers", schema);
-    if (array->n_children != schema->n_children || array->n_children < 0
-        || (it.kind != STRUCT && array->n_children != 0))
-        return refuse(error, EINVAL, "bad number of children", schema);
+    fault = fault_of(it, schema, array, start, len);
+    if (fault != NULL)
+        return refuse(error, EINVAL, fault, schema);
+    if (array->n_children > 0 && structs == MOST_STRUCTS)
+        return refuse(error, ENOTSUP, "nested too deep", schema);
+    if (array->n_children > MOST_COLUMNS - *met)
+        return refuse(error, ENOTSUP, "too many columns", schema);
+    *met += array->n_children;
     start += (size_t)array->offset;
-    if (!has_buffers(it, array, start, len))
-        return refuse(error, EINVAL, "a bad buffer", schema);
-    for (i = 0; i < array->n_children && status == 0; i++)
-        status = check(schema->children[i], array->children[i], start, len, error);
+    for (i = 0; i < array->n_children && status == 0; i++) {
+        if (!is_there(schema->children[i], array->children[i]))
+            return refuse(error, EINVAL, "a bad child", schema);
+        status = check(schema->children[i], array->children[i], start, len, structs + 1, met, error);
+    }
     return status;
 }
 
@@ -282,7 +338,7 @@ static void copy_runs(const selection *rows, const uint8_t *from, size_t width, 
 
 static bool choose_rows(
     const void *items, size_t width, size_t start, const selection *rows, struct ArrowArray *out) {
-    void *to = rows->count > SIZE_MAX / width ? NULL : room(out, 1, width * rows->count);
+    void *to = room(out, 1, width * rows->count);
     const uint8_t *from = (const uint8_t *)items;
 
     if (to == NULL || rows->len == 0)
@@ -367,11 +423,14 @@ int row_mask_arrow_filter(
     size_t offset, size_t len, struct ArrowArray *out, row_mask_arrow_error *error) {
     selection rows;
     struct ArrowArray made;
+    int64_t met = 0;
     int status;
 
+    if (!is_there(schema, array))
+        return refuse(error, EINVAL, "a released array or schema", NULL);
     if (array->length < 0 || (size_t)array->length != len || !row_mask_is_within(bytes, bytes_size, offset, len))
         return refuse(error, EINVAL, "a bitmap of other rows", schema);
-    status = check(schema, array, 0, len, error);
+    status = check(schema, array, 0, len, 0, &met, error);
     if (status != 0)
         return status;
     rows.bytes = bytes;

@@ -58,14 +58,19 @@ typedef struct row_mask_arrow_error {
  *
  * Formats are those whose rows have a fixed width: `c`, `C`, `s`, `S`, `i`, `I`, `l`, `L`, `e`, `f`, `g`, `w:N`, `d:..`,
  * and those that begin with `t`; `b`; `u`, `U`, `z` and `Z`; and `+s` of these. Buffers may be absent where an array has
- * no values, and the one of validity where it has no null.
+ * no values, and the one of validity where it has no null. Columns may lie in up to 64 structs, and up to 65,536 columns
+ * of a call do: a child of two structs counts twice.
  *
  * Else the answer is a number of <errno.h>, `error` says why unless it is NULL, and nothing else was written:
  *
- * - ENOTSUP: another format, or a dictionary. The message names it, with its column.
- * - EINVAL: an array that its schema doesn't fit, such as one with too few buffers or children, with a negative number,
- *   or with offsets of strings that aren't aligned, or descend. Or a bitmap that has another length than the array, or
- *   whose bits are not all within its bytes.
+ * - ENOTSUP: another format, or a dictionary, or more structs in structs or columns than are said above. The message
+ *   names the column, with its format.
+ * - EINVAL: an array or schema that was released or moved. A column, which the message names, whose schema doesn't fit its
+ *   array: with no format; a negative length or offset, a child of fewer rows than its struct, or more rows than any
+ *   memory could have; another number of buffers or children than the format has, or none; a null count below -1, or
+ *   above 0 where there is no validity; a child that isn't there, or was released or moved; a buffer that isn't there,
+ *   or offsets of strings that aren't aligned, or descend. Or a bitmap that has another length than the array, or whose
+ *   bits are not all within its bytes.
  * - ENOMEM: no memory.
  *
  * That buffers are as long as the array says can't be seen, and is owed by the caller. `array` and `schema` are only

@@ -72,9 +72,9 @@ static const struct format {
     {"c", 1}, {"C", 1}, {"s", 2}, {"S", 2}, {"i", 4}, {"I", 4}, {"l", 8}, {"L", 8}, {"e", 2}, {"f", 4}, {"g", 8},
     {"b", 0}, {"u", -4}, {"z", -4}, {"U", -8}, {"Z", -8}, {"w:1", 1}, {"w:2", 2}, {"w:3", 3}, {"w:4", 4}, {"w:8", 8},
     {"w:16", 16}, {"w:37", 37}, {"d:9,2,32", 4}, {"d:18,2,64", 8}, {"d:19,10", 16}, {"d:19,10,128", 16},
-    {"d:40,-3,256", 32}, {"tdD", 4}, {"tdm", 8}, {"tts", 4}, {"ttm", 4}, {"ttu", 8}, {"ttn", 8}, {"tss:", 8},
-    {"tsm:", 8}, {"tsu:", 8}, {"tsn:Europe/Paris", 8}, {"tDs", 8}, {"tDm", 8}, {"tDu", 8}, {"tDn", 8}, {"tiM", 4},
-    {"tiD", 8}, {"tin", 16}, {"+s", -1}};
+    {"d:40,-3,256", 32}, {"d:5,0", 16}, {"tdD", 4}, {"tdm", 8}, {"tts", 4}, {"ttm", 4}, {"ttu", 8}, {"ttn", 8},
+    {"tss:", 8}, {"tsm:", 8}, {"tsu:", 8}, {"tsn:Europe/Paris", 8}, {"tDs", 8}, {"tDm", 8}, {"tDu", 8}, {"tDn", 8},
+    {"tiM", 4}, {"tiD", 8}, {"tin", 16}, {"+s", -1}};
 
 enum { FORMATS = sizeof formats / sizeof *formats };
 
@@ -331,7 +331,9 @@ static void refuses_formats(void) {
     static const char *const others[] = {
         "n", "vu", "vz", "+l", "+L", "+vl", "+vL", "+w:3", "+m", "+ud:0,1", "+us:0,1", "+r", "", "x", "cc", "bb", "uu",
         "w", "w:", "w:0", "w:03", "w:-1", "w:3x", "w:4294967296", "w:99999999999999999999", "d", "d:", "d:3", "d:3,1,",
-        "d:3,1,7", "d:3,1,129", "t", "td", "tdx", "tt", "ttx", "ts", "tsx:", "tss", "tD", "tDx", "ti", "tix", "+", "+S"};
+        "d:3,1,7", "d:3,1,129", "d:x,y", "d:,", "d:3,", "d:,1", "d:x,1", "d:3,y", "d:0,1", "d:03,1", "d:-3,1", "d:+3,1",
+        "d:3,-", "d:3,--1", "d:3,+1", "d:3, 1", "d:3,1,x", "d:3,1,-32", "d:3,1,032", "d:3,1,32,7", "d:3,2147483648",
+        "d:2147483648,1", "t", "td", "tdx", "tt", "ttx", "ts", "tsx:", "tss", "tD", "tDx", "ti", "tix", "+", "+S"};
     struct ArrowSchema schema, parent;
     struct ArrowArray array, struct_array;
     mask by = new_mask(9, 128);
