@@ -6,6 +6,10 @@ mod strings;
 /// The true values of a [`Bitmap`], read once, to choose the rows, bits and strings of many columns. It keeps the
 /// bitmap, and beside it the indices of the true values, or their runs where these are long.
 ///
+/// Indices take 4 bytes a true value, so up to 32 times the bytes of the bitmap. Runs take 16 bytes each, and are kept
+/// where they have more than 24 values on the average. Above 2^32 - 1 values any runs are kept, which may take 64 times
+/// the bytes.
+///
 /// ```
 /// use row_mask::{Bitmap, Selection};
 ///
@@ -36,24 +40,26 @@ const OF_A_RUN: usize = 24;
 
 impl Kept {
     // Of a bitmap that begins at bit 0, and has so many true values.
-    fn of(bitmap: Bitmap<'_>, count: usize) -> Kept {
+    fn of(bitmap: Bitmap<'_>, count: usize) -> Result<Kept, Error> {
         let (bytes, len, mut runs) = (bitmap.bytes(), bitmap.len(), count);
         if count >= OF_A_RUN {
             // (a run begins where no true value is just before)
             runs -= mask_c::row_mask_and_count(bytes, 1, bytes, 0, len - 1);
         }
         if OF_A_RUN * runs < count || u32::try_from(len).is_err() {
-            let mut list = Vec::with_capacity(runs);
+            let mut list = Vec::new();
+            reserve(&mut list, runs)?;
             list.extend(SetSlices::new(bitmap.chunks()));
-            return Kept::Runs(list);
+            return Ok(Kept::Runs(list));
         }
         if len <= 64 && count < OF_A_RUN {
-            return Kept::Word(bitmap.chunks().iter_padded().next().unwrap_or(0));
+            return Ok(Kept::Word(bitmap.chunks().iter_padded().next().unwrap_or(0)));
         }
-        let mut list = Vec::with_capacity(count);
+        let mut list = Vec::new();
+        reserve(&mut list, count)?;
         #[expect(clippy::cast_possible_truncation, reason = "the length is of 32 bits")]
         bitmap.by_blocks(|block| list.extend(block.iter().map(|i| *i as u32)));
-        Kept::Indices(list)
+        Ok(Kept::Indices(list))
     }
 }
 
@@ -61,9 +67,19 @@ impl Selection {
     /// Reads a bitmap.
     #[must_use]
     pub fn new(bitmap: Bitmap<'_>) -> Selection {
-        let (bitmap, count) = (bitmap.to_buf(), bitmap.count());
-        let kept = Kept::of(bitmap.as_bitmap(), count);
-        Selection { bitmap, count, kept }
+        let made = Selection::try_new(bitmap);
+        let bytes = if let Err(Error::OutOfMemory { bytes }) = made { bytes } else { 0 };
+        granted(made, bytes.saturating_mul(8))
+    }
+
+    /// As [`new`](Self::new), of a bitmap that may have any length. It takes no memory but what a [`Selection`] keeps.
+    ///
+    /// # Errors
+    /// [`Error::OutOfMemory`].
+    pub fn try_new(bitmap: Bitmap<'_>) -> Result<Selection, Error> {
+        let (bitmap, count) = (made(|out| bitmap.copy_into(out))?, bitmap.count());
+        let kept = Kept::of(bitmap.as_bitmap(), count)?;
+        Ok(Selection { bitmap, count, kept })
     }
 
     tells! {

@@ -352,6 +352,7 @@ fn memory_that_runs_out() {
     }
     lacks(len, || rows.not_into(&mut made));
     lacks(len, || rows.copy_into(&mut made));
+    lacks(len, || Selection::try_new(rows));
     lacks(len, || rows.intersect_at_ranks(&[]));
     lacks(len, || rows.intersect_by_rank(Bitmap::new(&[], 0, 0).unwrap()));
     lacks(2 * len, || BitmapBuf::concat_into(&[rows, rows], &mut made));
@@ -386,4 +387,13 @@ fn lists_that_find_no_memory() {
     assert_eq!(all.as_bitmap().choose_append(&column, &mut list).unwrap_err(), lacking);
     assert_eq!(selection.choose_append(&column, &mut list).unwrap_err(), lacking);
     assert_eq!(list, [7, 9]);
+}
+
+#[test]
+fn selections_that_find_no_memory() {
+    let _alone = limit();
+    // (2^28 indices of 4 bytes, of a bitmap of 64 MiB, for which there is memory twice)
+    let each_other = BitmapBuf::from_vec(vec![0b0101_0101; 1 << 26], 0, 1 << 29).unwrap();
+    let lacking = Error::OutOfMemory { bytes: 1 << 30 };
+    assert_eq!(Selection::try_new(each_other.as_bitmap()).unwrap_err(), lacking);
 }
