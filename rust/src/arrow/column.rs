@@ -2,10 +2,11 @@
 
 use super::format::Format;
 use super::made::{Buffer, Made, room};
-use super::{ArrowArray, ArrowError, ArrowSchema};
+use super::{ArrowArray, ArrowError, ArrowSchema, MOST_COLUMNS, MOST_STRUCTS};
 use crate::kit::Text;
 use crate::{Bitmap, Offset, Row, Selection, Strings};
 use alloc::{string::String, vec::Vec};
+use core::cell::Cell;
 use core::ffi::CStr;
 use core::ptr::copy_nonoverlapping;
 use core::slice;
@@ -18,13 +19,17 @@ pub(super) struct Column<'a> {
     pub array: &'a ArrowArray,
     pub start: usize,
     pub rows: &'a Selection,
+    /// How many structs it lies in.
+    pub structs: usize,
+    /// How many children of structs the call has met.
+    pub met: &'a Cell<usize>,
 }
 
 impl<'a> Column<'a> {
     pub(super) fn filtered(self) -> Result<ArrowArray, ArrowError> {
         let format = self.format()?;
         let column = self.at_its_offset(format)?;
-        let mut made = Made::new(if format == Format::Struct { self.children() } else { 0 })?;
+        let mut made = Made::new(self.children())?;
         let null_count = column.validity(&mut made)?;
         match format {
             Format::Bits => column.bits(&mut made)?,
@@ -38,7 +43,7 @@ impl<'a> Column<'a> {
             Format::LargeStrings => column.strings::<i64>(&mut made)?,
             Format::Struct => {
                 for i in 0..self.children() {
-                    made.push(column.child(i).filtered()?);
+                    made.push(column.child(i)?.filtered()?);
                 }
             }
         }
@@ -48,6 +53,9 @@ impl<'a> Column<'a> {
     // ---- what is refused ----
 
     fn format(self) -> Result<Format, ArrowError> {
+        if self.schema.format.is_null() {
+            return Err(self.bad("format"));
+        }
         // SAFETY: a text ends with a 0.
         let text = unsafe { CStr::from_ptr(self.schema.format) };
         let has_values = self.schema.dictionary.is_null() && self.array.dictionary.is_null();
@@ -57,24 +65,55 @@ impl<'a> Column<'a> {
 
     /// The same rows, counted from the front of the buffers. The array's numbers fit its schema.
     fn at_its_offset(self, format: Format) -> Result<Column<'a>, ArrowError> {
-        let (array, schema) = (self.array, self.schema);
+        let array = self.array;
         let start = self.first_row().ok_or_else(|| self.bad("length or offset"))?;
         if usize::try_from(array.n_buffers) != Ok(format.buffers()) || array.buffers.is_null() {
             return Err(self.bad("number of buffers"));
         }
-        let fits =
-            if format == Format::Struct { array.n_children >= 0 } else { array.n_children == 0 };
-        if !fits || array.n_children != schema.n_children {
-            return Err(self.bad("number of children"));
+        if array.null_count < -1 || (array.null_count > 0 && self.is_absent(0)) {
+            return Err(self.bad("null count"));
+        }
+        self.has_children(format)?;
+        if format != Format::Struct && self.len() > 0 && self.is_absent(1) {
+            return Err(self.bad("buffer"));
+        }
+        // (so no product of a width and some of these rows is too large)
+        if self.end().and_then(|end| format.size(end)).is_none() {
+            return Err(self.bad("length or offset"));
         }
         Ok(Column { start, ..self })
     }
 
     fn first_row(self) -> Option<usize> {
+        let end = self.end()?;
+        let length = usize::try_from(self.array.length).ok()?;
+        (self.start.checked_add(self.len())? <= length).then_some(self.start + (end - length))
+    }
+
+    /// The row behind its last one, counted from the front of the buffers.
+    fn end(self) -> Option<usize> {
         let length = usize::try_from(self.array.length).ok()?;
         let offset = usize::try_from(self.array.offset).ok()?;
-        length.checked_add(offset).filter(|end| *end <= isize::MAX.cast_unsigned())?;
-        (self.start.checked_add(self.len())? <= length).then_some(self.start + offset)
+        length.checked_add(offset).filter(|end| *end <= isize::MAX.cast_unsigned())
+    }
+
+    /// Tests that there are as many children as both say, and no more than a call takes.
+    fn has_children(self, format: Format) -> Result<(), ArrowError> {
+        let (array, schema) = (self.array, self.schema);
+        let may_have = format == Format::Struct && array.n_children > 0;
+        let has_lists = may_have && !array.children.is_null() && !schema.children.is_null();
+        let fits = array.n_children == 0 || has_lists;
+        if !fits || array.n_children != schema.n_children {
+            return Err(self.bad("number of children"));
+        }
+        if self.children() > 0 && self.structs == MOST_STRUCTS {
+            return Err(ArrowError::NestedTooDeep { column: self.name() });
+        }
+        self.met.set(self.met.get().saturating_add(self.children()));
+        if self.met.get() > MOST_COLUMNS {
+            return Err(ArrowError::TooManyColumns { column: self.name() });
+        }
+        Ok(())
     }
 
     fn bad(self, what: &'static str) -> ArrowError {
@@ -99,11 +138,16 @@ impl<'a> Column<'a> {
         usize::try_from(self.array.n_children).unwrap_or(0)
     }
 
-    fn child(self, i: usize) -> Column<'a> {
+    fn child(self, i: usize) -> Result<Column<'a>, ArrowError> {
         // SAFETY: there are as many as both say, which is the same.
-        unsafe {
-            let schema = &**self.schema.children.add(i);
-            Column { schema, array: &**self.array.children.add(i), ..self }
+        let (schema, array) = unsafe {
+            ((*self.schema.children.add(i)).as_ref(), (*self.array.children.add(i)).as_ref())
+        };
+        match (schema, array) {
+            (Some(schema), Some(array)) if is_there(schema, array) => {
+                Ok(Column { schema, array, structs: self.structs + 1, ..self })
+            }
+            _ => Err(self.bad("child")),
         }
     }
 
@@ -163,7 +207,7 @@ impl<'a> Column<'a> {
 
     /// Rows of any width, anywhere in memory, by the runs of those that are chosen.
     fn any_rows(self, width: usize, made: &mut Made) -> Result<(), ArrowError> {
-        let from = self.items::<u8>(1, width.saturating_mul(self.start), width * self.len())?;
+        let from = self.items::<u8>(1, width * self.start, width * self.len())?;
         let mut list = room::<u64>((width * self.rows.count()).div_ceil(8))?;
         let mut to = list.as_mut_ptr().cast::<u8>();
         for run in self.rows.as_bitmap().runs() {
@@ -205,6 +249,11 @@ impl<'a> Column<'a> {
         (made.buffers[1], made.buffers[2]) = (Buffer::from(none), Buffer::from(Vec::<u8>::new()));
         Ok(())
     }
+}
+
+/// Whether neither was released or moved. What they point to may be gone then.
+pub(super) fn is_there(schema: &ArrowSchema, array: &ArrowArray) -> bool {
+    schema.release.is_some() && array.release.is_some()
 }
 
 /// A text of its own, or an empty one where it is not of UTF-8, or there is no memory for it.

@@ -1,3 +1,4 @@
+use super::{MOST_COLUMNS, MOST_STRUCTS};
 use crate::Error;
 use alloc::string::String;
 use core::error;
@@ -12,6 +13,12 @@ pub enum ArrowError {
     NotSupported { column: String, format: String },
     /// The array of this `column` doesn't fit its schema: `what` it has is wrong.
     BadArray { column: String, what: &'static str },
+    /// The array or its schema was released, or moved: it has no callback that would release it.
+    Released,
+    /// The children of this `column` lie in more structs than a column may.
+    NestedTooDeep { column: String },
+    /// With the children of this `column`, more columns lie in structs than a call takes.
+    TooManyColumns { column: String },
     /// What the call on a column was refused for.
     Refused(Error),
 }
@@ -27,6 +34,19 @@ impl fmt::Display for ArrowError {
             }
             ArrowError::BadArray { column, what } => {
                 write!(f, "the array of column '{column}' doesn't fit its schema: bad {what}")
+            }
+            ArrowError::Released => f.write_str("the array, or its schema, was released or moved"),
+            ArrowError::NestedTooDeep { column } => {
+                write!(
+                    f,
+                    "column '{column}' is nested too deep: its children lie in more than {MOST_STRUCTS} structs"
+                )
+            }
+            ArrowError::TooManyColumns { column } => {
+                write!(
+                    f,
+                    "too many columns: with the children of column '{column}' more than {MOST_COLUMNS} lie in structs"
+                )
             }
             ArrowError::Refused(error) => error.fmt(f),
         }

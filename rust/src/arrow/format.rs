@@ -33,6 +33,18 @@ impl Format {
             Format::Strings | Format::LargeStrings => 3,
         }
     }
+
+    /// How many bytes the buffer behind the validity has for so many values, if memory can have as many.
+    pub(super) fn size(self, values: usize) -> Option<usize> {
+        let size = match self {
+            Format::Struct => Some(0),
+            Format::Bits => Some(values.div_ceil(8)),
+            Format::Rows(width) => values.checked_mul(width),
+            Format::Strings => values.checked_add(1)?.checked_mul(4),
+            Format::LargeStrings => values.checked_add(1)?.checked_mul(8),
+        };
+        size.filter(|size| isize::try_from(*size).is_ok())
+    }
 }
 
 fn width(text: &[u8]) -> Option<usize> {
@@ -53,27 +65,29 @@ fn width(text: &[u8]) -> Option<usize> {
         | b"tDn"
         | [b't', b's', b's' | b'm' | b'u' | b'n', b':', ..] => 8,
         b"tin" => 16,
-        [b'w', b':', digits @ ..] => number(digits)?,
+        [b'w', b':', digits @ ..] => positive(digits)?,
         [b'd', b':', decimal @ ..] => width_of_decimal(decimal)?,
         _ => return None,
     })
 }
 
-/// `19,10` has 16 bytes, and `19,10,N` has N bits.
+/// `19,10` has 16 bytes, and `19,10,N` has N bits. The second number may be negative.
 fn width_of_decimal(text: &[u8]) -> Option<usize> {
-    let mut numbers = text.split(|byte| *byte == b',').skip(2);
-    text.contains(&b',').then_some(())?;
-    match numbers.next() {
-        None => Some(16),
-        Some(bits) => {
-            number(bits).filter(|bits| [32, 64, 128, 256].contains(bits)).map(|bits| bits / 8)
-        }
-    }
+    let mut numbers = text.split(|byte| *byte == b',');
+    let (_precision, scale) = (positive(numbers.next()?)?, numbers.next()?);
+    number(scale.strip_prefix(b"-").unwrap_or(scale))?;
+    let bits = numbers.next().map_or(Some(128), positive)?;
+    let is_known = numbers.next().is_none() && [32, 64, 128, 256].contains(&bits);
+    is_known.then_some(bits / 8)
 }
 
-/// A number above 0 that a row may have as its width.
+/// A number above 0, with no 0 in front.
+fn positive(digits: &[u8]) -> Option<usize> {
+    number(digits).filter(|_| digits.first() != Some(&b'0'))
+}
+
+/// A number of 31 bits, of digits alone.
 fn number(digits: &[u8]) -> Option<usize> {
-    let is_number = digits.iter().all(u8::is_ascii_digit) && digits.first() != Some(&b'0');
-    let text = str::from_utf8(digits).ok().filter(|_| is_number)?;
+    let text = str::from_utf8(digits).ok().filter(|_| digits.iter().all(u8::is_ascii_digit))?;
     text.parse::<i32>().ok()?.try_into().ok()
 }

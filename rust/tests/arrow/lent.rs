@@ -4,7 +4,7 @@ use row_mask::arrow::{ArrowArray, ArrowSchema};
 use std::ffi::{CString, c_void};
 use std::ptr::{null, null_mut};
 
-pub const FORMATS: [&str; 46] = [
+pub const FORMATS: [&str; 47] = [
     "c",
     "C",
     "s",
@@ -45,6 +45,7 @@ pub const FORMATS: [&str; 46] = [
     "d:19,10",
     "d:19,10,128",
     "d:40,-3,256",
+    "d:5,0",
     "b",
     "u",
     "z",
@@ -81,7 +82,7 @@ fn width(format: &str) -> usize {
         "c" | "C" => 1,
         "s" | "S" | "e" => 2,
         "i" | "I" | "f" | "tdD" | "tts" | "ttm" | "tiM" => 4,
-        "tin" | "d:19,10" => 16,
+        "tin" | "d:19,10" | "d:5,0" => 16,
         _ => match format.split_once(':') {
             Some(("w", width)) => width.parse().unwrap(),
             Some(("d", decimal)) => {
@@ -99,6 +100,18 @@ fn offset_width(format: &str) -> Option<usize> {
         "U" | "Z" => Some(8),
         _ => None,
     }
+}
+
+/// The callback of a schema whose memory is a test's.
+pub unsafe extern "C" fn release_schema(schema: *mut ArrowSchema) {
+    // SAFETY: it is there.
+    unsafe { (*schema).release = None };
+}
+
+/// The same of an array.
+pub unsafe extern "C" fn release_array(array: *mut ArrowArray) {
+    // SAFETY: it is there.
+    unsafe { (*array).release = None };
 }
 
 /// What a column lends. Its structs point to lists that it has, so it can be moved, and its children stay.
@@ -173,7 +186,7 @@ impl Column {
             n_children: children.len() as i64,
             children: null_mut(),
             dictionary: null_mut(),
-            release: None,
+            release: Some(release_schema),
             private_data: null_mut(),
         };
         let array = ArrowArray {
@@ -185,7 +198,7 @@ impl Column {
             buffers: null_mut(),
             children: null_mut(),
             dictionary: null_mut(),
-            release: None,
+            release: Some(release_array),
             private_data: null_mut(),
         };
         let texts = [CString::new(format).unwrap(), CString::new("a").unwrap()];

@@ -9,6 +9,7 @@
     reason = "numbers are small"
 )]
 
+mod hostile;
 mod lent;
 mod memory;
 mod refusals;

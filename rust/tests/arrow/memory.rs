@@ -2,8 +2,8 @@
 
 use super::lent::{Column, Random};
 use super::{Chosen, filtered};
-use row_mask::Error;
 use row_mask::arrow::{ArrowError, filter};
+use row_mask::{BitmapBuf, Error, Selection};
 use std::alloc::{GlobalAlloc, Layout, System};
 use std::cell::Cell;
 
@@ -26,6 +26,11 @@ unsafe impl GlobalAlloc for Refusing {
     unsafe fn alloc(&self, layout: Layout) -> *mut u8 {
         // SAFETY: as is asked here.
         if is_refused() { std::ptr::null_mut() } else { unsafe { System.alloc(layout) } }
+    }
+
+    unsafe fn alloc_zeroed(&self, layout: Layout) -> *mut u8 {
+        // SAFETY: as is asked here.
+        if is_refused() { std::ptr::null_mut() } else { unsafe { System.alloc_zeroed(layout) } }
     }
 
     unsafe fn dealloc(&self, place: *mut u8, layout: Layout) {
@@ -55,4 +60,29 @@ fn each_request_for_memory_is_refused_in_turn() {
         assert!(matches!(error, ArrowError::Refused(Error::OutOfMemory { .. })), "{error}");
     }
     assert!(requests > 20, "{requests}");
+}
+
+/// The requests of a selection are for a copy of its bitmap, and a list beside it.
+#[test]
+fn each_request_of_a_selection_is_refused_in_turn() {
+    let third = |i: usize| i.is_multiple_of(3);
+    let rows: [(BitmapBuf, &[usize]); 4] = [
+        (BitmapBuf::from_fn(1000, third), &[125, 4 * 334]),
+        (BitmapBuf::from_fn(1000, |i| i % 100 > 0), &[125, 16 * 10]),
+        (BitmapBuf::from_fn(60, third), &[8]),
+        (BitmapBuf::default(), &[]),
+    ];
+    for (bitmap, sizes) in rows {
+        let bitmap = bitmap.as_bitmap();
+        for (request, bytes) in sizes.iter().enumerate() {
+            LEFT.set(Some(request));
+            let error = Selection::try_new(bitmap).unwrap_err();
+            assert_eq!(error, Error::OutOfMemory { bytes: *bytes });
+        }
+        LEFT.set(Some(sizes.len()));
+        let selection = Selection::try_new(bitmap).unwrap();
+        assert_eq!(LEFT.take(), Some(0));
+        let (indices, all) = (bitmap.to_indices(), (0..bitmap.len()).collect::<Vec<_>>());
+        assert_eq!(selection.choose(&all).unwrap(), indices);
+    }
 }
