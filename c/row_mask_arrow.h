@@ -65,12 +65,12 @@ typedef struct row_mask_arrow_error {
  *
  * - ENOTSUP: another format, or a dictionary, or more structs in structs or columns than are said above. The message
  *   names the column, with its format.
- * - EINVAL: an array or schema that was released or moved. A column, which the message names, whose schema doesn't fit its
- *   array: with no format; a negative length or offset, a child of fewer rows than its struct, or more rows than any
- *   memory could have; another number of buffers or children than the format has, or none; a null count below -1, or
- *   above 0 where there is no validity; a child that isn't there, or was released or moved; a buffer that isn't there,
- *   or offsets of strings that aren't aligned, or descend. Or a bitmap that has another length than the array, or whose
- *   bits are not all within its bytes.
+ * - EINVAL: an array or schema that was released or moved, and so has no callback. A column, which the message names,
+ *   whose array doesn't fit its schema: with no format; a negative length or offset, a child of fewer rows than its
+ *   struct, or more rows than any memory could have; another number of buffers or children than the format has, or none;
+ *   a null count below -1, or above 0 where there is no validity; a child that isn't there, or was released or moved; a
+ *   buffer that isn't there, or offsets of strings that aren't aligned, or descend. Or a bitmap that has another length
+ *   than the array, or whose bits are not all within its bytes.
  * - ENOMEM: no memory.
  *
  * That buffers are as long as the array says can't be seen, and is owed by the caller. `array` and `schema` are only

@@ -109,7 +109,7 @@ impl ArrowArray {
 ///
 /// # Errors
 ///
-/// - [`ArrowError::Released`] where the array or its schema was released or moved.
+/// - [`ArrowError::Released`] where the array or its schema was released or moved, and so has no callback.
 /// - [`ArrowError::NotSupported`] of another format, or a dictionary, with its column. [`ArrowError::NestedTooDeep`] and
 ///   [`ArrowError::TooManyColumns`] of more structs and columns than are said above.
 /// - [`ArrowError::BadArray`] where the array of a column doesn't fit its schema, as this table says.
