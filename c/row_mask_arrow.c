@@ -79,51 +79,37 @@ static size_t width_of_decimal(const char *text) {
     return bits == 32 || bits == 64 || bits == 128 || bits == 256 ? bits / 8 : 0;
 }
 
-/* Times, of which some have a zone behind a colon. */
-static size_t width_of_time(const char *format) {
-    static const struct {
-        const char *format;
-        size_t width;
-    } times[] = {{"tdD", 4}, {"tdm", 8}, {"tts", 4}, {"ttm", 4}, {"ttu", 8}, {"ttn", 8}, {"tDs", 8}, {"tDm", 8},
-                 {"tDu", 8}, {"tDn", 8}, {"tiM", 4}, {"tiD", 8}, {"tin", 16}};
-    size_t i;
+/* Formats that say nothing more. */
+static const struct {
+    const char *format;
+    layout is;
+} layouts[] = {
+    {"b", {BITS, 0}},    {"u", {STRINGS, 4}}, {"z", {STRINGS, 4}}, {"U", {LARGE_STRINGS, 8}}, {"Z", {LARGE_STRINGS, 8}},
+    {"+s", {STRUCT, 0}}, {"c", {ROWS, 1}},    {"C", {ROWS, 1}},    {"s", {ROWS, 2}},          {"S", {ROWS, 2}},
+    {"e", {ROWS, 2}},    {"i", {ROWS, 4}},    {"I", {ROWS, 4}},    {"f", {ROWS, 4}},          {"l", {ROWS, 8}},
+    {"L", {ROWS, 8}},    {"g", {ROWS, 8}},    {"tdD", {ROWS, 4}},  {"tdm", {ROWS, 8}},        {"tts", {ROWS, 4}},
+    {"ttm", {ROWS, 4}},  {"ttu", {ROWS, 8}},  {"ttn", {ROWS, 8}},  {"tDs", {ROWS, 8}},        {"tDm", {ROWS, 8}},
+    {"tDu", {ROWS, 8}},  {"tDn", {ROWS, 8}},  {"tiM", {ROWS, 4}},  {"tiD", {ROWS, 8}},        {"tin", {ROWS, 16}}};
 
-    for (i = 0; i < sizeof times / sizeof *times; i++)
-        if (strcmp(format, times[i].format) == 0)
-            return times[i].width;
-    return strncmp(format, "ts", 2) == 0 && format[2] != 0 && strchr("smun", format[2]) && format[3] == ':' ? 8 : 0;
-}
-
+/* The width of rows whose format says more: times have a zone behind a colon, others numbers. */
 static size_t width_of(const char *format) {
-    static const char letters[] = "cCsSeiIflLg", widths[] = "\1\1\2\2\2\4\4\4\10\10\10";
-    const char *letter;
-
-    if (format[0] == 't')
-        return width_of_time(format);
-    if (format[0] == 'w' && format[1] == ':')
+    if (strncmp(format, "ts", 2) == 0)
+        return format[2] != 0 && strchr("smun", format[2]) && format[3] == ':' ? 8 : 0;
+    if (strncmp(format, "w:", 2) == 0)
         return number_of(format + 2);
-    if (format[0] == 'd' && format[1] == ':')
-        return width_of_decimal(format + 2);
-    letter = format[0] != 0 && format[1] == 0 ? strchr(letters, format[0]) : NULL;
-    return letter ? (size_t)widths[letter - letters] : 0;
+    return strncmp(format, "d:", 2) == 0 ? width_of_decimal(format + 2) : 0;
 }
 
 static layout layout_of(const char *format) {
     layout it = {UNKNOWN, 0};
+    size_t i;
 
-    if (strcmp(format, "b") == 0) {
-        it.kind = BITS;
-    } else if (strcmp(format, "+s") == 0) {
-        it.kind = STRUCT;
-    } else if (strcmp(format, "u") == 0 || strcmp(format, "z") == 0) {
-        it.kind = STRINGS;
-        it.width = 4;
-    } else if (strcmp(format, "U") == 0 || strcmp(format, "Z") == 0) {
-        it.kind = LARGE_STRINGS;
-        it.width = 8;
-    } else if ((it.width = width_of(format)) > 0) {
+    for (i = 0; i < sizeof layouts / sizeof *layouts; i++)
+        if (strcmp(format, layouts[i].format) == 0)
+            return layouts[i].is;
+    it.width = width_of(format);
+    if (it.width > 0)
         it.kind = ROWS;
-    }
     return it;
 }
 
