@@ -81,9 +81,8 @@ impl BitmapBuf {
             { ranges.iter().try_for_each(|range| range_within(range, len).map(|_| ()))?; }
             of len, by |out| {
                 out.fill(0);
-                for range in ranges {
-                    mask_c::row_mask_fill_range(out, range.start, range.end, true);
-                }
+                let mut run = 0..0;
+                ranges.iter().for_each(|range| fill(out, &mut run, range.clone()));
             };
         /// As [`concat`](Self::concat) of a list, written into `out`.
         pub fn concat_into(bitmaps: &[Bitmap<'_>])
@@ -134,9 +133,13 @@ impl BitmapBuf {
         Ok(())
     }
 
-    /// `len` values, of which just those within the ranges are true. These may come in any order, and meet. Each is
+    /// `len` values, of which just those within the ranges are true. These may come in any order, and overlap. Each is
     /// tested when it comes, and memory for more than 2²³ values is asked for when one reaches past these, or all were
     /// tested.
+    ///
+    /// Ranges in the order of their starts take the time of their union, whether they overlap or not. In another order,
+    /// values are only passed over that lie in the run of true values that the ranges just before made: at worst the
+    /// time grows with the sum of the ranges' lengths. So ranges that strangers send are best sorted first.
     ///
     /// # Errors
     /// [`Error::BadRange`] with the first that is no range of the values, and [`Error::OutOfMemory`].
@@ -144,13 +147,13 @@ impl BitmapBuf {
         len: usize,
         ranges: impl IntoIterator<Item = Range<usize>>,
     ) -> Result<BitmapBuf, Error> {
-        let (mut made, near) = (BitmapBuf::default(), len.min(8 * AHEAD));
+        let (mut made, near, mut run) = (BitmapBuf::default(), len.min(8 * AHEAD), 0..0);
         for range in ranges {
-            let Range { start, end } = range_within(&range, len)?;
-            if end > made.len {
-                made.lengthen(if end > near { len } else { near })?;
+            let range = range_within(&range, len)?;
+            if range.end > made.len {
+                made.lengthen(if range.end > near { len } else { near })?;
             }
-            mask_c::row_mask_fill_range(&mut made.bytes, start, end, true);
+            fill(&mut made.bytes, &mut run, range);
         }
         made.lengthen(len)?;
         Ok(made)
@@ -206,5 +209,23 @@ impl BitmapBuf {
             *self = longer;
         }
         Ok(())
+    }
+}
+
+// Has the values of a range be true. Those of a run are so already, and a range that meets it makes it longer; another
+// range is the next run.
+fn fill(bytes: &mut [u8], run: &mut Range<usize>, range: Range<usize>) {
+    if range.end < run.start || run.end < range.start {
+        mask_c::row_mask_fill_range(bytes, range.start, range.end, true);
+        *run = range;
+        return;
+    }
+    if range.start < run.start {
+        mask_c::row_mask_fill_range(bytes, range.start, run.start, true);
+        run.start = range.start;
+    }
+    if run.end < range.end {
+        mask_c::row_mask_fill_range(bytes, run.end, range.end, true);
+        run.end = range.end;
     }
 }

@@ -5,6 +5,7 @@ mod lists;
 mod made_of;
 mod makes;
 mod pairs;
+mod ranges;
 mod reads;
 mod refusals;
 mod selects;
