@@ -1,4 +1,6 @@
 use crate::prelude::*;
+#[cfg(target_endian = "little")]
+use core::slice;
 
 mod alike;
 mod choose;
@@ -54,8 +56,9 @@ impl<'a> Bitmap<'a> {
     /// [`Error::OutOfBytes`] where they are not within the words.
     #[cfg(target_endian = "little")]
     pub fn from_words(words: &'a [u64], len: usize) -> Result<Bitmap<'a>, Error> {
-        // SAFETY: the bytes of words are bytes, with no place asked of them.
-        Bitmap::new(unsafe { words.align_to().1 }, 0, len)
+        // SAFETY: it is the same memory, all of which is written, and any place is fit for bytes.
+        let bytes = unsafe { slice::from_raw_parts(words.as_ptr().cast(), size_of_val(words)) };
+        Bitmap::new(bytes, 0, len)
     }
 
     tells! {

@@ -4,6 +4,7 @@ use crate::kit::processor::{Moved, moves_bytes, moves_fours};
 use crate::prelude::*;
 use crate::proved::mask_bits::push_rows::{choose_rows, choose_small_rows};
 use crate::proved::mask_bits::small_rows::MoveRows;
+use core::slice;
 
 impl Bitmap<'_> {
     makers! {
@@ -41,13 +42,13 @@ impl Bitmap<'_> {
         match size_of::<T>() {
             1 if has_many && moves_bytes() => {
                 // SAFETY: a row is a byte that is written, as `Row` says. Each place gets one, and none is read before.
-                let (rows, out) = unsafe { (rows.align_to().1, out.align_to_mut().1) };
+                let (rows, out) = unsafe { as_byte_rows(rows, out) };
                 self.choose_several::<6, u8, Moved>(rows, out);
             }
             #[cfg(target_arch = "x86_64")]
             4 if has_many && moves_fours() => {
                 // SAFETY: a row is four such bytes. Each place gets a row's, and none is read before.
-                let (rows, out) = unsafe { (rows.align_to().1, out.align_to_mut().1) };
+                let (rows, out) = unsafe { as_byte_rows(rows, out) };
                 self.choose_several::<8, [u8; 4], Moved>(rows, out);
             }
             _ if has_long_runs => crate::selection::copy_runs(as_cells(rows), self.runs(), out),
@@ -62,5 +63,24 @@ impl Bitmap<'_> {
     #[inline(never)]
     fn choose_several<const FEW: usize, T: Copy, M: MoveRows<T>>(self, rows: &[T], out: &mut [T]) {
         choose_small_rows::<FEW, M, _, _>(&mut Lent { out, at: 0 }, rows, &self.chunks());
+    }
+}
+
+/// Rows and their places as those of a type of bytes.
+///
+/// # Safety
+/// `B` is a byte or an array of bytes, as long as a row. Each place is written before it is read.
+unsafe fn as_byte_rows<'a, T: Row, B: Copy>(
+    rows: &'a [T],
+    out: &'a mut [MaybeUninit<T>],
+) -> (&'a [B], &'a mut [B]) {
+    debug_assert_eq!((size_of::<B>(), align_of::<B>()), (size_of::<T>(), 1));
+    // SAFETY: the slices have the same memory, in as many items of the same size. Any place is fit for bytes, whatever
+    // the one of a row is, and those of a row are all written. The rest is asked here.
+    unsafe {
+        (
+            slice::from_raw_parts(rows.as_ptr().cast(), rows.len()),
+            slice::from_raw_parts_mut(out.as_mut_ptr().cast(), out.len()),
+        )
     }
 }
