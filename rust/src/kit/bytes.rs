@@ -7,13 +7,16 @@ use core::fmt;
 use core::hash::{Hash, Hasher};
 use core::mem::ManuallyDrop;
 use core::ops::Deref;
-use core::ptr::{self, NonNull};
+use core::ptr::NonNull;
+use core::slice;
 use core::sync::atomic::{AtomicUsize, Ordering};
 
 /// Bytes that never change while they are shared. A clone shares them.
 pub struct Bytes {
-    // each holder has where they lie, and the last one lets go of them
-    list: ManuallyDrop<Vec<u8>>,
+    // the parts of a list, which only the last holder makes of them again: a list is one owner's
+    first: NonNull<u8>,
+    len: usize,
+    capacity: usize,
     // how many holders there are: behind the bytes, where the list has room for that, and else in memory of its own (and
     // nowhere, where there are no bytes)
     holders: NonNull<AtomicUsize>,
@@ -55,7 +58,8 @@ impl Bytes {
     #[must_use]
     #[inline]
     pub fn new() -> Bytes {
-        Bytes { list: ManuallyDrop::new(Vec::new()), holders: NonNull::dangling() }
+        let (first, holders) = (NonNull::dangling(), NonNull::dangling());
+        Bytes { first, len: 0, capacity: 0, holders }
     }
 
     /// The bytes of a list, which are not copied.
@@ -71,7 +75,8 @@ impl Bytes {
     #[must_use]
     #[inline]
     pub fn as_slice(&self) -> &[u8] {
-        &self.list
+        // SAFETY: while there is a holder, so many bytes lie there, and nobody changes them or lets go of them.
+        unsafe { slice::from_raw_parts(self.first.as_ptr(), self.len) }
     }
 
     #[inline]
@@ -96,8 +101,8 @@ impl Bytes {
     // SAFETY of a call: there is no other holder, and this one isn't used any more.
     #[inline]
     unsafe fn take_list(&mut self) -> Vec<u8> {
-        // SAFETY: it is taken once, as is asked.
-        let mut list = unsafe { ManuallyDrop::take(&mut self.list) };
+        // SAFETY: these are the parts of a list that nobody has, and nobody makes it again, as is asked.
+        let mut list = unsafe { Vec::from_raw_parts(self.first.as_ptr(), self.len, self.capacity) };
         if !list.is_empty() && place_behind(&mut list).is_none() {
             // SAFETY: there was no place for it either when it was made.
             drop(unsafe { Box::from_raw(self.holders.as_ptr()) });
@@ -122,8 +127,7 @@ impl Clone for Bytes {
         let before = self.holders().fetch_add(1, Ordering::Relaxed);
         // (as `Arc` has it: only a program that forgets clones can come so far)
         assert!(before < usize::MAX / 2, "too many holders");
-        // SAFETY: while there are several holders, nobody changes the list or lets go of it.
-        Bytes { list: unsafe { ptr::read(&raw const self.list) }, holders: self.holders }
+        Bytes { ..*self }
     }
 }
 
@@ -171,7 +175,10 @@ impl From<Vec<u8>> for Bytes {
             }
             None => NonNull::from(Box::leak(Box::new(one))),
         };
-        Bytes { list: ManuallyDrop::new(bytes), holders }
+        let mut list = ManuallyDrop::new(bytes);
+        // SAFETY: no list lies at null. (A pointer to the slice would be one to no room behind it.)
+        let first = unsafe { NonNull::new_unchecked(list.as_mut_ptr()) };
+        Bytes { first, len: list.len(), capacity: list.capacity(), holders }
     }
 }
 
