@@ -446,7 +446,7 @@ impl core::error::Error for {name} {{}}
         name = f"{function.name}_proved"
         call = function.call(name, "Self" if kind == "trait" else of, listed)
         quality = "" if kind == "trait" else "pub(crate) "
-        hidden = "/// The same, where the caller meets the conditions.\n" if kind == "trait" else ""
+        hidden = "/// The same, where the caller meets the conditions: else the answer is any, or a panic.\n" if kind == "trait" else ""
         twin = f"{hidden}{attributes}{function.signature(name, quality)} {body}"
         return f"{head} {{ {' '.join([*lists, *tests, call])} }}\n\n{twin}"
 

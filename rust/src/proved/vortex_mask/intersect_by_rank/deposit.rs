@@ -40,7 +40,7 @@ pub unsafe trait DepositBits {
         Self::deposit_bits_proved(source, mask, mask_count)
     }
 
-    /// The same, where the caller meets the conditions.
+    /// The same, where the caller meets the conditions: else the answer is any, or a panic.
     fn deposit_bits_proved(source: u64, mask: u64, mask_count: usize) -> u64;
 
     /// The deposits of two words, each as [`DepositBits::deposit_bits`] has it, which answers them one
@@ -73,7 +73,7 @@ pub unsafe trait DepositBits {
         Self::deposit_two_proved(sources, masks, mask_counts)
     }
 
-    /// The same, where the caller meets the conditions.
+    /// The same, where the caller meets the conditions: else the answer is any, or a panic.
     #[inline(always)]
     fn deposit_two_proved(sources: [u64; 2], masks: [u64; 2], mask_counts: [usize; 2]) -> [u64; 2] {
         [

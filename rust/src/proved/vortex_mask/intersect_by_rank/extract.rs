@@ -36,7 +36,7 @@ pub unsafe trait ExtractBits {
         Self::extract_bits_proved(source, mask, mask_count)
     }
 
-    /// The same, where the caller meets the conditions.
+    /// The same, where the caller meets the conditions: else the answer is any, or a panic.
     fn extract_bits_proved(source: u64, mask: u64, mask_count: usize) -> u64;
 }
 

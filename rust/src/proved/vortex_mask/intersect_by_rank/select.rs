@@ -44,7 +44,7 @@ pub unsafe trait SelectBit {
         Self::select_bit_position_proved(word, rank)
     }
 
-    /// The same, where the caller meets the conditions.
+    /// The same, where the caller meets the conditions: else the answer is any, or a panic.
     fn select_bit_position_proved(word: u64, rank: usize) -> usize;
 }
 
