@@ -6,6 +6,8 @@ from plain import (
     repeating, text, walk_text, word_of, words, words_of,
 )
 
+# Whether the rows are for the Rust build (as `.ci/sweeps` says).
+is_rust = False
 STATE = 0x2545_F491_4F6C_DD1D
 # Lists from each bit of a byte on, and from the next byte's first.
 OFFSETS = range(9)
@@ -124,12 +126,17 @@ def many_masks(count):
 
 # ---- buffers
 
+def debug_text(values):
+    """In Rust, `Debug` prints 64 values of a longer buffer, and its length."""
+    return f"BitBuffer({values[:64]}.., len={len(values)})" if is_rust and len(values) > 64 else f"BitBuffer({values})"
+
+
 def buffer_reads(values, operand):
     found, length = indices(values), len(values)
     for name in ("is_empty", "len", "true_count", "false_count"):
         yield f"bits.{name} {operand} => {answer(name, mask(values))}"
     yield f"bits.last_set_index {operand} => {index_text(found, len(found) - 1)}"
-    yield f"bits.debug {operand} => BitBuffer({values})"
+    yield f"bits.debug {operand} => {debug_text(values)}"
     yield f"bits.set_indices {operand} => {' '.join(['indices', *map(str, found)])}"
     yield f"bits.indices {operand} => {list_text(found)}"
     yield f"bits.set_slices {operand} => {' '.join(['ranges', *ranges(values)])}"

@@ -18,7 +18,7 @@ mod strings;
 /// assert_eq!(chosen.choose_bits(Bitmap::new(&[0b1_0110], 0, 5)?)?.to_string(), "010");
 /// # Ok::<(), row_mask::Error>(())
 /// ```
-#[derive(Clone, Debug)]
+#[derive(Clone)]
 pub struct Selection {
     bitmap: BitmapBuf,
     count: usize,
@@ -26,7 +26,7 @@ pub struct Selection {
 }
 
 // What is kept beside the bitmap. (No proved loop takes indices of 4 bytes, which are read in less time, or runs.)
-#[derive(Clone, Debug)]
+#[derive(Clone)]
 enum Kept {
     // of at most 64 values, where few are true
     Word(u64),
@@ -142,6 +142,13 @@ impl Selection {
             }
             Kept::Word(_) | Kept::Runs(_) => self.as_bitmap().by_blocks(of),
         }
+    }
+}
+
+/// The bitmap that was read, as far as that is printed.
+impl fmt::Debug for Selection {
+    fn fmt(&self, f: &mut fmt::Formatter<'_>) -> fmt::Result {
+        f.debug_struct("Selection").field("bitmap", &self.bitmap).finish_non_exhaustive()
     }
 }
 

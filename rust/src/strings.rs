@@ -37,7 +37,7 @@ offsets!(i32, u32; i64, u64);
 /// assert_eq!((&offsets[..], &bytes[..]), (&[0, 3, 8][..], &b"onethree"[..]));
 /// # Ok::<(), row_mask::Error>(())
 /// ```
-#[derive(Clone, Copy, Debug)]
+#[derive(Clone, Copy)]
 pub struct Strings<'a, O> {
     // one more than there are values, in order, none negative, and the last within the bytes
     offsets: &'a [O],
@@ -82,6 +82,13 @@ impl<'a, O: Offset> Strings<'a, O> {
     pub fn slice(self, range: impl RangeBounds<usize>) -> Result<Strings<'a, O>, Error> {
         let Range { start, end } = range_within(&range, self.len())?;
         Ok(Strings { offsets: &self.offsets[start..=end], bytes: self.bytes })
+    }
+}
+
+/// How many values there are.
+impl<O> fmt::Debug for Strings<'_, O> {
+    fn fmt(&self, f: &mut fmt::Formatter<'_>) -> fmt::Result {
+        f.debug_struct("Strings").field("len", &(self.offsets.len() - 1)).finish_non_exhaustive()
     }
 }
 

@@ -54,11 +54,21 @@ macro_rules! copied {
 
 copied!(MaskError, MaskIter<'_>);
 
+/// The list, or of one with more than 64 items the length and the first of them.
 impl fmt::Debug for MaskIter<'_> {
     fn fmt(&self, f: &mut fmt::Formatter<'_>) -> fmt::Result {
         match self {
-            MaskIter::Indices(indices) => f.debug_tuple("Indices").field(indices).finish(),
-            MaskIter::Slices(ranges) => f.debug_tuple("Slices").field(ranges).finish(),
+            MaskIter::Indices(indices) => told("Indices", indices, f),
+            MaskIter::Slices(ranges) => told("Slices", ranges, f),
         }
+    }
+}
+
+fn told(name: &str, list: &[impl fmt::Debug], f: &mut fmt::Formatter<'_>) -> fmt::Result {
+    match list.split_at_checked(64) {
+        Some((first, [_, ..])) => {
+            f.debug_struct(name).field("len", &list.len()).field("first", &first).finish()
+        }
+        _ => f.debug_tuple(name).field(&list).finish(),
     }
 }

@@ -23,6 +23,26 @@ fn other_threads_may_have_them() {
 }
 
 #[test]
+fn errors_say_what_is_wrong() {
+    let texts = [
+        (MaskError::Memory(AllocError), "out of memory"),
+        (MaskError::UnsortedIndices { at: 7 }, "index at place 7 is below the one before it"),
+        (MaskError::RepeatedIndex { at: 0 }, "index at place 0 repeats the one before it"),
+        (MaskError::IndexOutOfBounds { index: 9, len: 8 }, "index 9 is not below the length 8"),
+        (MaskError::BadRange { at: 3 }, "range at place 3 is empty or passes the length"),
+        (
+            MaskError::UnsortedRanges { at: 2 },
+            "range at place 2 does not start after the one before it",
+        ),
+        (MaskError::OverlappingRanges { at: 5 }, "range at place 5 overlaps the one before it"),
+        (MaskError::LengthOverflow, "the sum of the lengths does not fit"),
+    ];
+    for (error, text) in texts {
+        assert_eq!(error.to_string(), text);
+    }
+}
+
+#[test]
 fn errors_are_copied_and_boxed() {
     let error = Mask::from_indices(3, [2, 1]).unwrap_err();
     let copy = error;
@@ -53,4 +73,29 @@ fn lent_lists_are_copied_and_told() {
         assert_eq!(format!("{lent:?}"), text);
         assert_eq!(format!("{:?}", Clone::clone(&copy)), text);
     }
+}
+
+/// What has many values is told by the first of them.
+#[test]
+fn long_lists_are_told_by_their_first_items() {
+    let zeros = "0".repeat(63);
+    for (len, text) in [
+        (64, format!("BitBuffer({zeros}1)")),
+        (65, format!("BitBuffer({zeros}1.., len=65)")),
+        (100_000, format!("BitBuffer({zeros}1.., len=100000)")),
+    ] {
+        let buffer: BitBuffer = (0..len).map(|i| i >= 63).collect();
+        assert_eq!(format!("{buffer:?}"), text);
+    }
+    let mut mask: Mask = (0..1000).map(|i| i % 2 == 0).collect();
+    let first: Vec<_> = (0..128).step_by(2).collect();
+    let lent = mask.threshold_iter(1, 1).unwrap();
+    assert_eq!(format!("{lent:?}"), format!("Some(Indices {{ len: 500, first: {first:?} }})"));
+    let first: Vec<_> = first.iter().map(|i| (*i, i + 1)).collect();
+    let lent = mask.threshold_iter(0, 1).unwrap();
+    assert_eq!(format!("{lent:?}"), format!("Some(Slices {{ len: 500, first: {first:?} }})"));
+    let all: Vec<_> = (0..64).collect();
+    let mut mask = Mask::from_indices(100, 0..64).unwrap();
+    let lent = mask.threshold_iter(1, 1).unwrap();
+    assert_eq!(format!("{lent:?}"), format!("Some(Indices({all:?}))"));
 }

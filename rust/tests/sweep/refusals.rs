@@ -1,6 +1,7 @@
 //! What a call asks is tested, and how bitmaps and refusals are printed.
 
-use row_mask::{Bitmap, BitmapBuf, Error};
+use row_mask::arrow::ArrowError;
+use row_mask::{AllocError, Bitmap, BitmapBuf, Error, Selection, Strings};
 
 #[test]
 fn what_a_call_asks_is_tested() {
@@ -110,4 +111,43 @@ fn texts() {
     assert_eq!(refused.to_string(), "there are 1 rows, and 6 values");
     let refused = Bitmap::new(&[0], 4, 5).unwrap_err();
     assert_eq!(refused.to_string(), "5 bits from bit 4 on are not within 1 bytes");
+    let said = "Selection { bitmap: BitmapBuf { len: 6, count: 3, values: 100110 }, .. }";
+    assert_eq!(format!("{:?}", Selection::new(bitmap)), said);
+    let strings = Strings::new(&[1, 3, 3], b"abc").unwrap();
+    assert_eq!(format!("{strings:?}"), "Strings { len: 2, .. }");
+}
+
+#[test]
+fn texts_of_refusals() {
+    use Error as E;
+
+    let texts = [
+        (
+            E::OutOfBytes { bytes: 1, offset: 4, len: 5 },
+            "5 bits from bit 4 on are not within 1 bytes",
+        ),
+        (E::LengthsDiffer { left: 8, right: 7 }, "one bitmap has 8 values, and the other 7"),
+        (E::BadRange { start: 3, end: 9, len: 8 }, "3..9 is no range of 8 values"),
+        (E::RowsDiffer { rows: 1, len: 6 }, "there are 1 rows, and 6 values"),
+        (E::RanksDiffer { ranks: 7, count: 5 }, "there are 7 ranks, and 5 true values"),
+        (E::UnsortedRanks { at: 2 }, "rank number 2 is not above the one before it"),
+        (E::RankOutOfBounds { rank: 5, count: 4 }, "there is no rank 5 of 4 true values"),
+        (E::UnsortedIndices { at: 2 }, "index number 2 is below the one before it"),
+        (E::IndexOutOfBounds { index: 9, len: 8 }, "index 9 is past the end of 8 values"),
+        (E::OffsetsDiffer { offsets: 3, len: 4 }, "there are 3 offsets, and 4 rows"),
+        (E::UnsortedOffsets { at: 1 }, "offset number 1 is negative, or below the one before it"),
+        (E::OffsetOutOfBounds { offset: 6, size: 5 }, "offset 6 is past the end of 5 bytes"),
+        (E::OutOfMemory { bytes: 64 }, "there is no memory for 64 bytes"),
+        (E::RoomTooSmall { room: 1, needed: 2 }, "there is room for 1, and 2 are to be written"),
+    ];
+    for (refusal, text) in texts {
+        assert_eq!(refusal.to_string(), text);
+        assert_eq!(ArrowError::from(refusal).to_string(), text);
+    }
+    let (column, format) = (String::from("a.b"), String::from("+l"));
+    let text = "the array of column 'a.b' doesn't fit its schema: bad length";
+    assert_eq!(ArrowError::BadArray { column: column.clone(), what: "length" }.to_string(), text);
+    let text = "column 'a.b' of format '+l', or its dictionary, is not supported";
+    assert_eq!(ArrowError::NotSupported { column, format }.to_string(), text);
+    assert_eq!(AllocError.to_string(), "out of memory");
 }

@@ -461,8 +461,11 @@ impl fmt::Debug for BitBuffer {
     #[inline]
     fn fmt(&self, f: &mut fmt::Formatter<'_>) -> fmt::Result {
         f.write_str("BitBuffer(")?;
-        for value in self.iter() {
+        for value in self.iter().take(64) {
             f.write_str(if value { "1" } else { "0" })?;
+        }
+        if self.len() > 64 {
+            write!(f, ".., len={}", self.len())?;
         }
         f.write_str(")")
     }
