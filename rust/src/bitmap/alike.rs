@@ -8,7 +8,8 @@ const PRINTED: usize = 64;
 /// Texts, walks and comparisons: of a type its name, how it is read, what is walked; and what else it is compared with.
 macro_rules! alike {
     ($($of:ty, $name:literal, $read:path, $walked:ty; $other:ty, $read_other:path;)+) => {$(
-        /// `1` for each true value and `0` for each false one, in their order.
+        /// `1` for each true value and `0` for each false one, in their order. They are a text first, which takes a
+        /// byte for each value: where there is no memory for that, the process ends.
         impl fmt::Display for $of {
             fn fmt(&self, f: &mut fmt::Formatter<'_>) -> fmt::Result {
                 let text: String = self.iter().map(|value| if value { '1' } else { '0' }).collect();

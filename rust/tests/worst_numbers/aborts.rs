@@ -74,6 +74,7 @@ fn mask_call_that_aborts(name: &str) {
         "not of a clone" => (!rows).len(),
         "collect masks" => [rows, same].into_iter().collect::<Mask>().len(),
         "collect values" => iter::repeat_n(true, 1 << 40).collect::<Mask>().len(),
+        "to_string" => rows.to_string().len(),
         "extend" => {
             drop((rows, same));
             let mut builder = BitBufferMut::new_unset(len).unwrap();
@@ -135,7 +136,8 @@ fn operators_and_makers_of_masks_abort() {
         return mask_call_that_aborts(&name);
     }
     let operators = ["and", "or", "not", "and of a clone", "or of a clone", "not of a clone"];
-    for name in operators.into_iter().chain(["collect masks", "collect values", "extend"]) {
+    let others = ["collect masks", "collect values", "to_string", "extend"];
+    for name in operators.into_iter().chain(others) {
         aborts("operators_and_makers_of_masks_abort", name);
     }
 }
