@@ -82,7 +82,9 @@ impl BitmapBuf {
             of len, by |out| {
                 out.fill(0);
                 let mut run = 0..0;
-                ranges.iter().for_each(|range| fill(out, &mut run, range.clone()));
+                for range in ranges {
+                    fill(out, &mut run, range.clone());
+                }
             };
         /// As [`concat`](Self::concat) of a list, written into `out`.
         pub fn concat_into(bitmaps: &[Bitmap<'_>])

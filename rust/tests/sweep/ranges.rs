@@ -62,12 +62,13 @@ fn all_ranges_of_few_values() {
     }
 }
 
-/// The least time of some tries, into room that was written before.
-fn least_time(len: usize, ranges: &[Range<usize>]) -> Duration {
-    let mut room = vec![0; len / 8];
+/// The least time that so many equal ranges take, of some tries, into room that was written before.
+fn least_time(count: usize) -> Duration {
+    let len = 1 << 23;
+    let (mut room, ranges) = (vec![0; len / 8], vec![1..len; count]);
     let mut time = || {
         let start = Instant::now();
-        BitmapBuf::from_ranges_into(len, ranges, &mut room[..]).unwrap();
+        BitmapBuf::from_ranges_into(len, &ranges, &mut room[..]).unwrap();
         start.elapsed()
     };
     time();
@@ -77,7 +78,6 @@ fn least_time(len: usize, ranges: &[Range<usize>]) -> Duration {
 /// Filled one by one, they would take 500 times as long.
 #[test]
 fn a_thousand_equal_ranges_take_the_time_of_one() {
-    let len = 1 << 23;
-    let (one, all) = (least_time(len, &[1..len]), least_time(len, &vec![1..len; 1000]));
+    let (one, all) = (least_time(1), least_time(1000));
     assert!(all < 20 * one, "{all:?} and {one:?}");
 }
