@@ -65,6 +65,8 @@ impl fmt::Debug for Mask {
 }
 
 /// The values in their order, `1` for true and `0` for false, and `-` for a mask with no values.
+/// A byte is written for each value, however many there are. So a text of a mask that takes no
+/// memory itself may take any.
 impl fmt::Display for Mask {
     #[inline]
     fn fmt(&self, f: &mut fmt::Formatter<'_>) -> fmt::Result {
