@@ -139,9 +139,8 @@ impl BitmapBuf {
     /// tested when it comes, and memory for more than 2²³ values is asked for when one reaches past these, or all were
     /// tested.
     ///
-    /// Ranges in the order of their starts take the time of their union, whether they overlap or not. In another order,
-    /// values are only passed over that lie in the run of true values that the ranges just before made: at worst the
-    /// time grows with the sum of the ranges' lengths. So ranges that strangers send are best sorted first.
+    /// Ranges in the order of their starts take the time of their union, even if they overlap. In another order each may
+    /// be filled anew: at worst the time grows with the sum of their lengths. Sort untrusted ranges first.
     ///
     /// # Errors
     /// [`Error::BadRange`] with the first that is no range of the values, and [`Error::OutOfMemory`].
@@ -214,20 +213,15 @@ impl BitmapBuf {
     }
 }
 
-// Has the values of a range be true. Those of a run are so already, and a range that meets it makes it longer; another
-// range is the next run.
-fn fill(bytes: &mut [u8], run: &mut Range<usize>, range: Range<usize>) {
-    if range.end < run.start || run.end < range.start {
-        mask_c::row_mask_fill_range(bytes, range.start, range.end, true);
-        *run = range;
-        return;
+// Has the values of a range be true. Those of a run are so already, and a range that begins in it, or at its end, makes it
+// longer. Another range is the next run.
+#[inline]
+fn fill(bytes: &mut [u8], run: &mut Range<usize>, Range { start, end }: Range<usize>) {
+    if start < run.start || run.end < start {
+        *run = start..start;
     }
-    if range.start < run.start {
-        mask_c::row_mask_fill_range(bytes, range.start, run.start, true);
-        run.start = range.start;
-    }
-    if run.end < range.end {
-        mask_c::row_mask_fill_range(bytes, run.end, range.end, true);
-        run.end = range.end;
+    if run.end < end {
+        mask_c::row_mask_fill_range(bytes, run.end, end, true);
+        run.end = end;
     }
 }
