@@ -13,7 +13,7 @@ use core::sync::atomic::{AtomicUsize, Ordering};
 
 /// Bytes that never change while they are shared. A clone shares them.
 pub struct Bytes {
-    // the parts of a list, which only the last holder makes of them again: a list is one owner's
+    // the parts of a list: each holder has them, and only the last one makes the list of them again, which has one owner
     first: NonNull<u8>,
     len: usize,
     capacity: usize,
