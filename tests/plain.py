@@ -112,6 +112,30 @@ def narrowed_mask(rows, ranks):
     return mask(narrowed(rows.values, ranks.values), rows.is_all_true and ranks.is_all_true)
 
 
+def rank_path(rows, ranks, cached=(False, False)):
+    """The path of the rank intersection of two mixed masks, and None of others; `cached` says which cache indices."""
+    length, count, ranked, offered = len(rows.values), rows.count(), ranks.count(), len(ranks.values)
+    if not (rows.is_mixed() and ranks.is_mixed()):
+        return None
+    if all(cached) and ranked < -(-length // 64) or 64 * count < length:
+        return "Indices"
+    if 32 * ranked < offered:
+        return "MaskDriven"
+    return "RankIndices" if cached[1] and 4 * ranked <= offered else "BitBuffers"
+
+
+def steps_text(path, rows, want):
+    """What a path counts that leaves `want` of `rows`: deposits, words, selections; offered, placed, spots. Where it
+    deposits, it does so for each started word, and else it reads none past the last index that stays."""
+    found, started = indices(want), -(-len(want) // 64)
+    read = found[-1] // 64 + 1 if found else 0
+    if path == "MaskDriven":
+        return f"0,{read},{len(found)} 0,0,{sum(i % 64 for i in found)}"
+    if path in ("BitBuffers", "RankIndices"):
+        return f"{started},{started},0 {rows.count('1')},{len(found)},0"
+    return "0,0,0 0,0,0"
+
+
 def limited(values, k):
     """The values, of which the first k true ones stay."""
     end = max(indices(values)[:k], default=-1) + 1
@@ -142,6 +166,11 @@ def list_text(items):
     return ",".join(map(str, items)) or "-"
 
 
+def lent_by(a, lent):
+    """What a mask lends: this where it is mixed."""
+    return lent if a.is_mixed() else "All" if a.is_all_true else "None"
+
+
 # The lists that a mask caches.
 LISTS = {"i": indices, "r": ranges}
 
@@ -154,8 +183,14 @@ def cached_text(a, caches):
 
 def lent_text(a, kind, caches):
     """A list that a mask lends, and the mask after it, which has it cached beside these, if it is told of them."""
-    lent = list_text(LISTS[kind](a.values)) if a.is_mixed() else "All" if a.is_all_true else "None"
+    lent = lent_by(a, list_text(LISTS[kind](a.values)))
     return f"{lent} then {mask_text(a) if caches is None else cached_text(a, caches + kind)}"
+
+
+def counted_text(a, b, *_):
+    """Rank intersection, and what it counts: of masks whose indices aren't cached."""
+    want = narrowed_mask(a, b)
+    return f"{mask_text(want)} steps {steps_text(rank_path(a, b), a.values, want.values)}"
 
 
 def threshold_text(a, num, den, caches):
@@ -191,17 +226,23 @@ ALONE = {
     "all_false": lambda a, *_: flag("1" not in a.values),
     "first": lambda a, *_: index_text(indices(a.values), 0),
     "last": lambda a, *_: index_text(indices(a.values), a.count() - 1),
+    "bit_buffer": lambda a, *_: lent_by(a, a.values),
     "density": lambda a, *_: f"{a.count()}/{len(a.values)}" if a.is_mixed() else f"{int(a.is_all_true)}/1",
     "debug": lambda a, *_: (
         f"true_count={a.count()}, len={len(a.values)}" if a.is_mixed()
         else f"All {flag(a.is_all_true)}({len(a.values)})"
     ),
+    "debug_values": lambda a, *_: f"Some(true_count={a.count()}, len={len(a.values)})" if a.is_mixed() else "None",
+    "set_indices": lambda a, *_: " ".join(["indices", *map(str, indices(a.values))]),
+    "set_slices": lambda a, *_: " ".join(["ranges", *ranges(a.values)]),
+    "clear": lambda *_: f"done then {mask_text(mask(''))}",
     "indices": lambda a, b, numbers, lists: lent_text(a, "i", lists),
     "slices": lambda a, b, numbers, lists: lent_text(a, "r", lists),
 }
 ANSWERS = {
     **ALONE,
     **{f"{it},into_{it},to_{it}": partial(combined_text, it) for it in OPERATIONS},
+    "value": lambda a, b, i, _: flag(a.values[i[0]] == "1"),
     "threshold_iter": lambda a, b, numbers, lists: threshold_text(a, *numbers, lists),
     "slice": lambda a, b, ends, lists: cached_text(a.part(*ends), (lists or "") * ([*ends] == [0, len(a.values)])),
     "limit,to_limited": lambda a, b, k, _: mask_text(mask(limited(a.values, k[0]), a.is_all_true)),
@@ -209,6 +250,7 @@ ANSWERS = {
     "valid_counts_for_indices": lambda a, b, numbers, _: list_text(counts(a.values)[i] for i in numbers),
     "choose": lambda a, b, rows, _: list_text(rows[i] for i in indices(a.values)),
     "choose_values": lambda a, b, *_: mask_text(mask(at_rows(a.values, b.values), b.is_all_true)),
+    "intersect_by_rank_counted": counted_text,
     "intersect_by_rank": lambda a, b, *_: mask_text(narrowed_mask(a, b)),
     "equal": lambda a, b, *_: flag(a.values == b.values),
     "concat,from_masks": lambda a, b, *_: mask_text(mask(a.values + b.values)),
@@ -220,5 +262,5 @@ BY_NAME = {name: of for names, of in ANSWERS.items() for name in names.split(","
 
 
 def answer(call, a, b=None, numbers=(), lists=None):
-    told = BY_NAME[call.removeprefix("values.")](a, b, numbers, lists)
+    told = str(BY_NAME[call.removeprefix("values.")](a, b, numbers, lists))
     return told.replace(" Values", "") if call.startswith("values.") else told

@@ -2,8 +2,8 @@
 masks and densities go by fixed streams of words; the others look at lengths and offsets where the code has a branch."""
 from plain import (
     ALONE, MAX, ODD, OPERATIONS, THREE_IN_FIVE, TWO_IN_THREE, answer, at_rows, bits_of, cached_text, combined, drawn,
-    flag, index_text, indices, list_text, mask, mask_text, narrowed, narrowed_mask, negated, negated_at, ranges,
-    repeating, text, walk_text, word_of, words, words_of,
+    flag, index_text, indices, list_text, mask, mask_text, narrowed, narrowed_mask, negated, negated_at, rank_path,
+    ranges, repeating, steps_text, text, walk_text, word_of, words, words_of,
 )
 
 # Whether the rows are for the Rust build (as `.ci/sweeps` says).
@@ -16,8 +16,19 @@ LONG = [4_095, 4_096, 4_097, 65_537, 1_048_583]
 # The constructors of a list, by how they hold one of no values.
 EMPTY_FALSE = ["bools:", "rows:", "indices:", "common:", "slices:", "buffer:", "ranged:"]
 EMPTY_TRUE = ["excluded:", "concat:", "masks:"]
-WORD_KERNELS = "intersect_bit_buffers", "intersect_bit_buffers_by_loop"
-WORD_KERNELS += "intersect_bit_buffer_by_rank_indices", "intersect_bit_buffer_by_rank_indices_by_loop"
+# The calls that the values inside a mask have too.
+OF_VALUES = "len", "is_empty", "true_count", "density", "bit_buffer", "into_bit_buffer", "debug", "clone"
+OF_VALUES += "indices", "slices"
+# The kernels, each with its path, and those paths that find indices one by one, and cache them.
+KERNELS = {
+    "intersect_bit_buffers": "BitBuffers",
+    "intersect_bit_buffers_by_loop": "BitBuffers",
+    "intersect_bit_buffer_by_rank_indices": "RankIndices",
+    "intersect_bit_buffer_by_rank_indices_by_loop": "RankIndices",
+    "intersect_by_rank_indices": "Indices",
+    "intersect_mask_driven": "MaskDriven",
+}
+ONE_BY_ONE = "Indices", "MaskDriven"
 # Of the densities: how many of 1,024 values are true.
 THRESHOLDS = [5, 10, 20, 128, 512, 1_000]
 
@@ -46,7 +57,7 @@ def row(names, a, operand, b=None, numbers=()):
 
 def calls(a, operand):
     """The calls of a mask; of it and numbers; and of it and another: the list reversed, itself, with one value negated,
-    and ranks."""
+    and ranks. Of a mixed one, those of its values."""
     values, count, length = a.values, a.count(), len(a.values)
     yield from (row(names, a, operand) for names in ALONE)
     yield row("valid_counts_for_indices", a, operand, numbers=range(length + 1))
@@ -56,14 +67,32 @@ def calls(a, operand):
     last = max(length - 1, 0)
     for other in [values, *(negated_at(values, i) for i in (0, last // 2, last))]:
         yield row("equal", a, operand, mask(other))
-    yield row("intersect_by_rank,intersect_all_by_rank", a, operand, mask(repeating(count, 3, 1)))
+    for names in ("intersect_by_rank,intersect_all_by_rank", "intersect_by_rank_counted"):
+        yield row(names, a, operand, mask(repeating(count, 3, 1)))
     for k in sorted({0, 1, count // 2, max(count - 1, 0), count, count + 1, 65_536, MAX}):
         yield row("limit,to_limited", a, operand, numbers=[k])
     for it in [(0, length), (0, length // 3), (length // 3, length), (length // 5, length // 2), (length, length)]:
         yield row("slice", a, operand, numbers=it)
     yield from (row("groups", a, operand, numbers=[it]) for it in (65, max(length // 3, 1), MAX))
-    for it in [(1, 2), (count, max(length, 1)), (count + 1, max(length, 1)), (1, MAX)]:
+    for it in thresholds(a):
         yield row("threshold_iter", a, operand, numbers=it)
+    if a.is_mixed():
+        yield from calls_of_values(a, operand)
+
+
+def calls_of_values(a, operand):
+    """The calls of the values inside a mixed mask."""
+    yield from (row(f"values.{name}", a, operand) for name in OF_VALUES)
+    for i in sorted({0, len(a.values) // 2, len(a.values) - 1}):
+        yield row("values.value", a, operand, numbers=[i])
+    for it in thresholds(a):
+        yield row("values.threshold_iter", a, operand, numbers=it)
+
+
+def thresholds(a):
+    """One half, the density of a mask, one just above it, and next to nothing."""
+    count, length = a.count(), max(len(a.values), 1)
+    return [(1, 2), (count, length), (count + 1, length), (1, MAX)]
 
 
 def calls_and_walks(a, operand):
@@ -72,8 +101,6 @@ def calls_and_walks(a, operand):
     yield f"each_value {operand} => {text(a.values)}"
     yield f"each_rank {operand} => {' '.join(['ranks', *map(str, indices(a.values))])}"
     yield f"iter {operand} => {walk_text(a.values)}"
-    if a.is_mixed():
-        yield f"values.clone {operand} => {a.values}"
 
 
 def by_constructors(values, of):
@@ -249,18 +276,10 @@ def words_at_random(first, end):
 # ---- kernels
 
 def by_each_kernel(rows, ranks):
-    """As many deposits as started words, and none is read past the last index that stays; offered, placed, spots."""
     want = narrowed(rows, ranks)
-    found, started = indices(want), len(words_of(want))
-    read = found[-1] // 64 + 1 if found else 0
-    steps = {
-        **dict.fromkeys(WORD_KERNELS, f"{started},{started},0 {rows.count('1')},{len(found)},0"),
-        "intersect_by_rank_indices": "0,0,0 0,0,0",
-        "intersect_mask_driven": f"0,{read},{len(found)} 0,0,{sum(i % 64 for i in found)}",
-    }
-    for kernel, told in steps.items():
-        cached = cached_text(mask(want), "" if kernel in WORD_KERNELS else "i")
-        yield f"kernel.{kernel} @{text(rows)} %{text(ranks)} -> {cached} steps {told}"
+    for kernel, path in KERNELS.items():
+        cached = cached_text(mask(want), "i" * (path in ONE_BY_ONE))
+        yield f"kernel.{kernel} @{text(rows)} %{text(ranks)} -> {cached} steps {steps_text(path, rows, want)}"
 
 
 def beside_each_other(rows, offsets):
@@ -271,13 +290,17 @@ def beside_each_other(rows, offsets):
 
 
 def runs():
-    """One to twenty words in each turn: clear, then full, and then of any bits."""
+    """One to twenty words in each turn: clear, then full, and then of any bits. The rows also have clear bits around
+    them where the ranks have set ones."""
     source, rows = words(STATE), ""
     for turn in range(48):
         for _ in range(1 + next(source) % 20):
             rows += ["0" * 64, "1" * 64][turn % 3] if turn % 3 < 2 else bits_of(next(source))
     rows += "10110"
-    yield from beside_each_other(by_each_kernel(rows, drawn(source, rows.count("1"), TWO_IN_THREE)), [0, 3, 67])
+    kernels = [*by_each_kernel(rows, drawn(source, rows.count("1"), TWO_IN_THREE))]
+    yield from beside_each_other(kernels, [0, 3, 67])
+    for offset in [0, 3, 67]:
+        yield from spread(kernels, [f"{offset}-"], [f"{offset}+"])
 
 
 def long_kernels(length, row_step, rank_step):
@@ -288,11 +311,9 @@ def long_kernels(length, row_step, rank_step):
 
 def caches_indices(rows, ranks, cached):
     """A clone has its operand's lists, and of two mixed masks those paths cache indices that find them one by one."""
-    length, count, ranked = len(rows.values), rows.values.count("1"), ranks.values.count("1")
     if rows.is_all_true or ranks.is_all_true:
         return cached[1] if rows.is_all_true else cached[0]
-    few = cached[0] and cached[1] and ranked < -(-length // 64)
-    return few or count * 64 < length or ranked * 32 < len(ranks.values)
+    return rank_path(rows, ranks, cached) in ONE_BY_ONE
 
 
 def densities(length, threshold):
@@ -304,8 +325,13 @@ def densities(length, threshold):
         for cached in [(False, False), (True, False), (False, True), (True, True)]:
             lists = "i" * caches_indices(rows, ranks, cached)
             operands = [f"{'i:' * it}{mark}{text(of.values)}" for it, mark, of in zip(cached, "@%", (rows, ranks))]
-            left = cached_text(narrowed_mask(rows, ranks), lists)
-            yield from beside_each_other([f"intersect_by_rank {' '.join(operands)} -> {left}"], [0, 3, 67])
+            want, path = narrowed_mask(rows, ranks), rank_path(rows, ranks, cached)
+            left = cached_text(want, lists)
+            counted = f"{left} steps {steps_text(path, rows.values, want.values)}"
+            answers = {"intersect_by_rank": left, "intersect_by_rank_counted": counted}
+            answers |= {"rank_path": path} if path else {}
+            of_both = [f"{call} {' '.join(operands)} -> {told}" for call, told in answers.items()]
+            yield from beside_each_other(of_both, [0, 3, 67])
 
 
 SECTIONS = {
