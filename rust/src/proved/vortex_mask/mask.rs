@@ -410,7 +410,7 @@ fn counts_below(buffer: &BitBuffer, indices: &[usize]) -> Result<Vec<usize>, All
             count += buffer.count_range_proved(counted_to, *index);
             counted_to = *index;
         }
-        counts.try_push(count)?;
+        counts.push_reserved(count);
     }
     Ok(counts)
 }
