@@ -137,12 +137,6 @@ LEAVES = {
         "{ crate::kit::words::put_eight(bytes, begin, out, at); }",
     ),
 }
-# Private functions that calls by hand go to.
-PUBLIC_HERE = {"put_ends", "put_strings", "take_offsets", "word_of_rows", "word_of_whole"}
-# Modules that have such a function, and are private too.
-MODULES_HERE = {"bit_buffers", "from_rows", "kernels", "word_rows"}
-# Functions that are put into their callers always: tests of places make them seem too long for that.
-INLINED = ["Iterator for SetSlices::next", "eight_steps", "next_word", "past_full_words"]
 # What only the package's own calls do.
 QUICKEST = "the processor's deposits"
 # Tests of rows that calls by hand hand on to private functions may count what they are asked.

@@ -2,10 +2,10 @@
 import collections
 import re
 
-from erasing.changes import CORE, ELSEWHERE, GONE, INLINED, INSIDE, LAWFUL, LEAVES, MODULES_HERE, PLACES
-from erasing.changes import PUBLIC_HERE, SAME
+from erasing import marks
+from erasing.changes import CORE, ELSEWHERE, GONE, INSIDE, LAWFUL, LEAVES, PLACES, SAME
 from erasing.conditions import TESTS, Condition
-from erasing.levels import BETWEEN, BY_PEXT, LEVELLED, between, by_pext, levelled
+from erasing.levels import between, by_pext, levelled
 from erasing.tokens import Fault, attached, leaves, spaced, words
 
 GENERIC = r"(?:\s*<(?:[^<>]|<[^<>]*>|->)*>)?"
@@ -71,7 +71,23 @@ class Function:
 
 
 class Erasure:
-    """What is left of a file of a crate."""
+    """What is left of a file of a crate.
+
+    >>> from erasing.changes import Counts
+    >>> from erasing.tokens import Source
+    >>> made = lambda text: Erasure("mask_bits", Source(text), set(), {}, Counts()).all()
+    >>> made("// rust: visible\\nfn f() {}")
+    '#[inline]\\npub(crate) fn f() {}'
+    >>> made("// rust: visibly\\nfn f() {}")
+    Traceback (most recent call last):
+    erasing.tokens.Fault: source:2: no mark is `// rust: visibly`
+    >>> made("// rust: visible\\nstruct A;")
+    Traceback (most recent call last):
+    erasing.tokens.Fault: source:2: a mark above what is no function and no module
+    >>> made("fn f() {\\n    // rust: visible\\n    g() }")
+    Traceback (most recent call last):
+    erasing.tokens.Fault: source: a mark stands above no function and no module
+    """
 
     def __init__(self, crate, source, public, twins, counts):
         self.crate, self.source = crate, source
@@ -85,13 +101,18 @@ class Erasure:
         self.tested = []
         # calls with their conditions and tests, by the form of the condition
         self.forms = counts.forms
+        # the marks of the item at hand, and how many were read
+        self.marks, self.marked = marks.Marks(), 0
 
     def count(self, rule, text=""):
         self.counts[rule][0] += 1
         self.counts[rule][1] += text.count("\n")
 
     def all(self):
-        return self.items(0, len(self.source.tokens), ("file", None))
+        text = self.items(0, len(self.source.tokens), ("file", None))
+        if self.marked != sum(kind == "comment" and it.startswith("// rust:") for kind, it in self.source.tokens):
+            raise Fault(f"{self.source.name}: a mark stands above no function and no module")
+        return text
 
     def items(self, i, end, context):
         out, tokens = [], self.source.tokens
@@ -109,8 +130,19 @@ class Erasure:
                 form = self.item_macro
             if form is None:
                 self.source.fault(j, f"no form for an item that begins with `{word}`")
-            made, i = form(i, j, end, context, self.lead(lead, i), attributes)
+            before, words = marks.taken(self.lead(lead, i))
+            if words and word not in ("fn", "mod"):
+                self.source.fault(j, "a mark above what is no function and no module")
+            self.marks, self.marked = self.read(j, words), self.marked + len(words)
+            made, i = form(i, j, end, context, before, attributes)
             out.append(made)
+
+    def read(self, j, words):
+        """The marks of an item, which has to have words that are known."""
+        try:
+            return marks.Marks(words)
+        except Fault as fault:
+            self.source.fault(j, fault)
 
     def behind_quality(self, j, end):
         """Behind `pub`, `pub(crate)`, `unsafe`, `const` or `extern "C"`."""
@@ -182,7 +214,7 @@ class Erasure:
         if self.crate == "mask_c":
             self.count("modules")
             return f"{before}mod {name};\npub use {name}::*;", last + 1
-        if name in MODULES_HERE and self.crate in INSIDE:
+        if self.is_visible():
             self.count("private functions")
             before += "pub(crate) "
         return before + self.source.text(i, last + 1), last + 1
@@ -329,24 +361,25 @@ impl core::error::Error for {name} {{}}
         kind, of = context
         where = function.name if of is None else f"{of}::{function.name}"
         body = self.leaf(where, body)
-        if where in PUBLIC_HERE:
+        marked = self.marks
+        if self.is_visible():
             self.count("private functions")
             function.before = "pub(crate) " + function.before
-        before, inline = self.inlining(where, before, body)
+        before, inline = self.inlining(before, body)
         if kind == "trait impl":
             is_twin = (of.partition(" for ")[0], function.name) in self.twins
             name = function.name + ("_proved" if is_twin else "")
             return f"{before}{inline}{function.signature(name)} {body}", last + 1
-        levels, is_levelled = "", where in LEVELLED.get(self.crate, [])
-        if self.crate == "mask_bits" and where in BY_PEXT:
+        levels, is_levelled = "", self.is_levelled()
+        if marked.has("copied by PEXT"):
             self.count("copies by an instruction")
             levels = by_pext(function, body, is_levelled)
-        if where in BETWEEN:
+        if marked.has("copied for each level"):
             self.count("copies between levels")
             levels = between(function, body)
         if is_levelled:
             self.count("levels of the processor")
-            body, more = levelled(function, of, body)
+            body, more = levelled(function, of, body, marked)
             levels = more + levels
         if not self.is_public(function, context):
             return f"{before}{inline}{function.signature()} {body}{levels}", last + 1
@@ -360,14 +393,20 @@ impl core::error::Error for {name} {{}}
             return self.with_tests(function, tests, listed, context, before, body) + levels, last + 1
         return before + self.widened(function, body) + levels, last + 1
 
-    def inlining(self, where, before, body):
+    def is_visible(self):
+        return self.marks.has("visible")
+
+    def is_levelled(self):
+        return self.marks.level is not None
+
+    def inlining(self, before, body):
         """What stands before a function, and an attribute where that says nothing of how it is compiled into others."""
-        if where in INLINED:
+        if self.marks.has("inline"):
             before = before.replace("#[inline]\n", "")
         elif self.crate not in INSIDE or body == ";" or re.search(r"#\[(inline|cold)\b", before):
             return before, ""
         self.count("inlining")
-        return before, "#[inline(always)]\n" if where in INLINED else "#[inline]\n"
+        return before, "#[inline(always)]\n" if self.marks.has("inline") else "#[inline]\n"
 
     def widened(self, function, body):
         """A public function, which takes all that can be gone through where the source takes an iterator."""

@@ -3,8 +3,8 @@ what has to be gone, and from those of what was made what has to be new, gives a
 the other side, and then both are one list of tokens. Commas and imports are not compared."""
 import re
 
-from erasing.changes import LAWFUL, LEAVES, PUBLIC_HERE
-from erasing.levels import INNER, MUCH
+from erasing import marks
+from erasing.changes import LAWFUL, LEAVES
 from erasing.tokens import CLOSING, OPENING, TOKEN, Fault, spaced
 
 # Words of a source that have another name in what was made of it.
@@ -45,11 +45,11 @@ NEW = [
     r"let (\w+) = \1 \. into_iter \( \) ;",
     r": Sized(?= \{)",
     r"unsafe(?= (?:trait|impl))",
-    rf"pub \( crate \)(?= fn (?:{'|'.join(sorted(PUBLIC_HERE))}) )",
+    rf"pub \( crate \)(?= fn (?:{'|'.join(sorted(marks.named('visible')))}) )",
 ]
 # Forms that are others, on either side.
 SAME = [
-    *((re.split("mask_bits::|vortex_mask::", path)[-1].replace("::", " :: "), name) for name, path in INNER.items()),
+    *((re.split("mask_bits::|vortex_mask::", path)[-1].replace("::", " :: "), name) for name, path in marks.inner().items()),
     (r"vec ! \[ ([^;\]]*) ; ([^\]]*) \]", r"filled ( \1 \2 )"),
     (r"write ! \( (?!f )((?:\w+ \. )*\w+) ([^()]*) \)", r"\1 . try_write ( format_args ! ( \2 ) )"),
     (r"fn fmt < W : fmt :: Write > \( & self f : & mut fmt :: Formatter < W > \)",
@@ -176,7 +176,7 @@ def without_levels(words, name):
             continue
         of, head = words[i + 1].removesuffix("_proved"), words[i + 2 : body]
         last = behind(words, body)
-        much = " ".join([*tokens(MUCH[of]), ", "]) if of in MUCH else ""
+        much = " ".join([*tokens(marks.much()[of]), ", "]) if of in marks.much() else ""
         calls = " ".join(words[body + 8 : last - 2]).removeprefix(much)
         generics = next(n for n in range(len(head)) if head[n] == "(" and head[:n].count("<") == head[:n].count(">"))
         own = re.findall(r"(?:^|[(,] )(?:mut )?(\w+) :(?!:)", " ".join(head[generics:behind(head, generics)]))
@@ -185,7 +185,7 @@ def without_levels(words, name):
         begin = ['"' if it.startswith('"') else it for it in words[last : last + len(of_v3)]]
         inner = last + len(of_v3)
         end = words.index("}", inner)
-        seen = "pub ( crate )".split() if of in INNER else []
+        seen = "pub ( crate )".split() if of in marks.inner() else []
         of_any = [*"# [ inline ( always ) ]".split(), *seen, "fn", f"{of}_any", *head]
         at = end + 1 + len(of_any)
         pext = f"(?:{call.replace('LEVEL', 'by_pext')} , )?"

@@ -9,6 +9,7 @@ use std::simd::prelude::*;
 
 /// Writes truth values to the front of `bytes`, which is room of whole words, a word at a time. The bits
 /// past them have no meaning.
+// rust: level
 pub fn put_bools(bytes: &mut [u8], bools: &[bool])
     requires { 8 * started_words (length bools.now) ≤ length bytes.old }
     ensures { (i : ℕ) → i < length bools.now

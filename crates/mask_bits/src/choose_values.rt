@@ -41,6 +41,8 @@ pub struct LastChosen {
 
 /// Writes the values of `values` at the true values of `masks`, in their order, to the front of `out`, as far as they
 /// fill words of 64. Answers how many there are, and those past the whole words.
+// rust: level
+// rust: copied by PEXT
 #[tactic(auto, using(crate::proofs::ChosenBitLemmas::chosen_so_far))]
 pub fn put_chosen(masks: &BitChunks<'_>, values: &BitChunks<'_>, out: &mut [u8]) -> LastChosen
     requires fitting { length values.now ≡ length masks.now }

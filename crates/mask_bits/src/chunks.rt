@@ -118,6 +118,7 @@ impl<'a> BitChunks<'a> {
     }
 
     /// The index of true value number `n`, counted from 0, and `None` from the true count on.
+    // rust: level
     #[tactic(auto, using(crate::proofs::Lists::Places::SelectLemmas::places_of_words, crate::proofs::Lists::Words::WordLemmas::ones_of_word))]
     pub fn select(&self, n: usize) -> Option<usize>
         ensures index { result ≡ slice_get (positions self.now) n }

@@ -93,6 +93,7 @@ impl BitOp for Not {
 /// Writes the list that `C` makes of the `len` bits of `a` from bit `a_offset` on and of those of
 /// `b` from bit `b_offset` on, value by value, to the front of `out`, which is room of whole words.
 /// The bits of `out` past the list have no meaning.
+// rust: wide level if len > 128
 pub fn combine<C: BitOp>(
     a: &[u8],
     a_offset: usize,
@@ -134,6 +135,7 @@ fn extend_whole<C: BitOp>(a: Bits<'_>, b: Bits<'_>, words: usize, out: &mut [u8]
 
 // Writes words beside which there is another one. Each list is read in its own way, since a shift of one
 // that begins at a whole byte takes nearly as long as the rest.
+// rust: shifted level
 fn extend_inner<C: BitOp>(a: Bits<'_>, b: Bits<'_>, words: usize, out: &mut [u8])
     requires shifted { 0 < a.low + b.low }
     requires a_goes_on { (i : ℕ) → i < words → 8 * i + 16 ≤ length a.bytes.now }
@@ -176,6 +178,7 @@ fn extend<C: BitOp, A: ReadWord, B: ReadWord>(
 
 /// The same where the bits of `a` begin `bytes`: the list is written in their place. The bits of
 /// `bytes` past the list have no meaning.
+// rust: wide level if len > 128
 pub fn combine_in_place<C: BitOp>(bytes: &mut [u8], b: &[u8], b_offset: usize, len: usize)
     requires within { len ≤ 8 * length bytes.old }
     requires b_within { IsWithinBytes b.now b_offset len }
@@ -237,6 +240,7 @@ fn change_last<C: BitOp>(bytes: &mut [u8], b: Bits<'_>, i: usize)
 }
 
 /// Negates the first `len` bits of `bytes`. Those past them have no meaning.
+// rust: wide level if len > 128
 #[tactic(auto, using(crate::proofs::CombineLemmas::negated_bytes))]
 pub fn negate_in_place(bytes: &mut [u8], len: usize)
     requires { len ≤ 8 * length bytes.old }

@@ -24,6 +24,7 @@ pub fn same_bits(a: &[u8], a_offset: usize, b: &[u8], b_offset: usize, len: usiz
 
 /// Whether no value is true that `C` makes of the `len` bits of `a` from bit `a_offset` on and of those
 /// of `b` from bit `b_offset` on.
+// rust: wide level if len > 128
 #[tactic(auto, using(crate::proofs::CompareLemmas::none_in_rest, crate::proofs::CompareLemmas::none_from_list))]
 pub fn none_true<C: BitOp>(a: &[u8], a_offset: usize, b: &[u8], b_offset: usize, len: usize) -> bool
     requires a_within { IsWithinBytes a.now a_offset len }
@@ -69,6 +70,7 @@ fn none_in_words<C: BitOp>(
 
 // Whether none is true that `C` makes of whole words that do not both begin at a whole byte. Never
 // inlined, so that the quicker case stays small.
+// rust: level
 #[inline(never)]
 fn none_in_shifted_words<C: BitOp>(a: Bits<'_>, b: Bits<'_>, words: usize) -> bool
     requires shifted { 0 < a.low + b.low }
@@ -157,6 +159,7 @@ fn none_in_block<C: BitOp, A: ReadWord, B: ReadWord>(
 
 /// How many values are true that `C` makes of the `len` bits of `a` from bit `a_offset` on and of those of
 /// `b` from bit `b_offset` on.
+// rust: level
 #[tactic(auto, using(crate::proofs::CompareLemmas::counted))]
 pub fn count_true<C: BitOp>(
     a: &[u8],

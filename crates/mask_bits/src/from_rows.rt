@@ -22,6 +22,7 @@ const WIDE: usize = 64 * 8;
 impl BitBuffer {
     /// What a test answers of each row, in their order: value `i` is its answer of row `i`. The
     /// answers are packed as they come, 64 to a word, and are listed nowhere else.
+    // rust: level
     pub fn from_rows<T, F: Fn(&T) -> bool>(
         alloc: Global,
         rows: &[T],
@@ -55,6 +56,7 @@ fn put_answers<T, F: Fn(&T) -> bool>(bytes: &mut [u8], rows: &[T], test: &F)
 }
 
 // The word of what a test answers of 64 rows, the first lowest.
+// rust: visible
 #[inline(always)]
 fn word_of_whole<T, F: Fn(&T) -> bool>(rows: &[T], test: &F) -> u64
     requires whole { length rows.now ≡ 64 }
@@ -89,6 +91,7 @@ fn bits_of_sixteen<T, F: Fn(&T) -> bool>(rows: &[T], test: &F) -> u64
 //
 // An answer is a lane of its own, so that several rows are tested at once where the test allows it, and all lanes
 // become bits together. Always inlined, as the packing of a list's values.
+// rust: visible
 #[inline(always)]
 fn word_of_rows<T, F: Fn(&T) -> bool>(rows: &[T], test: &F) -> u64
     requires few { length rows.now ≤ 64 }

@@ -24,6 +24,7 @@ pub mod counts;
 mod eq;
 #[doc(hidden)]
 pub mod extract;
+// rust: visible
 mod from_rows;
 pub mod laws;
 #[doc(hidden)]
@@ -39,6 +40,7 @@ mod set_slices;
 pub mod small_rows;
 mod word_indices;
 mod word_items;
+// rust: visible
 mod word_rows;
 pub mod words;
 #[doc(hidden)]

@@ -9,6 +9,7 @@ use crate::small_rows::{MoveRows, push_small_rows};
 use crate::word_rows::{push_rows_of_word, push_rows_one_by_one};
 
 /// Puts the rows at the true values, in their order, into room for these, as [`push_rows_of_word`] does.
+// rust: level if rows.len() > 128
 #[inline(always)]
 pub fn choose_rows<const K: usize, T: Copy, R: Room<T>>(
     out: &mut R,
@@ -59,6 +60,7 @@ fn push_whole_words<const K: usize, const ROWS: usize, T: Copy, R: Room<T>>(
 }
 
 /// The same of small rows, as [`push_small_rows`] puts those of a word.
+// rust: level
 #[inline(always)]
 pub fn choose_small_rows<const FEW: usize, M: MoveRows<T>, T: Copy, R: Room<T>>(
     out: &mut R,

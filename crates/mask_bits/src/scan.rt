@@ -24,6 +24,7 @@ pub(crate) fn first_word(chunks: &BitChunks<'_>) -> u64
 // From word `at` on, of which `word` is left: the first word of which something is left.
 //
 // The whole words apart, so that none is tested for being the last.
+// rust: inline
 #[tactic(auto, using(crate::proofs::Lists::Words::PaddedLemmas::padded_facts, crate::proofs::Lists::Words::WalkLemmas::left_in_words))]
 #[inline]
 pub(crate) fn next_word(chunks: &BitChunks<'_>, at: usize, word: u64) -> Option<(usize, u64)>

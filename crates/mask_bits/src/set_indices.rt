@@ -32,6 +32,7 @@ impl BitBuffer {
     /// The indices of the true values, ascending, in room for just these.
     ///
     /// It takes less time than to collect `set_indices`.
+    // rust: level if self.len() > 128
     #[tactic(auto, using(crate::proofs::Lists::Words::BlockLemmas::block_facts))]
     pub fn indices(&self, alloc: Global, true_count: usize) -> Result<Vec<usize>, AllocError>
         requires { true_count ≡ count (values self.now) }

@@ -35,6 +35,7 @@ impl BitBuffer {
     /// last.
     ///
     /// It takes less time than to collect `set_slices`.
+    // rust: level
     pub fn runs(&self, alloc: Global) -> Result<Vec<(usize, usize)>, AllocError>
         ensures { IfOk result (λ ranges. ranges.items ≡ runs (values self.now)) }
     {
@@ -180,6 +181,7 @@ impl Iterator for SetSlices<'_> {
 
     ghost remaining = { item_count (λ s. s) };
 
+    // rust: inline
     #[tactic(auto, using(crate::proofs::RunWalkLemmas::runs_at_words, crate::proofs::YieldLemmas::items))]
     #[inline]
     fn next(&mut self) -> Option<(usize, usize)> {
@@ -196,6 +198,7 @@ impl Iterator for SetSlices<'_> {
 
 // From word `at` on, of which `word` is left: the first word that isn't full. Behind the whole words it is the
 // values after them, with zeros above.
+// rust: inline
 #[inline]
 fn past_full_words(chunks: &BitChunks<'_>, at: usize, word: u64) -> (usize, u64)
     requires { IsLeft chunks.now at word }

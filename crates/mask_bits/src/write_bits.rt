@@ -94,6 +94,7 @@ fn put_full(bytes: &mut [u8], first: usize, words: usize)
 }
 
 // Writes the `n` bits of `from` from bit `offset` on behind the first `at` bits.
+// rust: level if n > 128
 pub(crate) fn put_bits(bytes: &mut [u8], at: usize, from: &[u8], offset: usize, n: usize)
     requires room { at + n ≤ 8 * length bytes.old }
     requires fits { at + n < 2 ^ 64 }

@@ -44,6 +44,7 @@ pub extern "C" fn row_mask_count_range(
 ///
 /// Asks that the indices ascend (repeats are allowed), that each is at most `len`, and that
 /// `out_count == indices_count`.
+// rust: level
 #[unsafe(no_mangle)]
 pub extern "C" fn row_mask_counts_below(
     bytes: &[u8],

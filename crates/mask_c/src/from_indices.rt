@@ -14,6 +14,7 @@ use mask_bits::write_bits::set_bit;
 /// Indices may come in any order and more than once.
 ///
 /// Asks that each index is below `len`, and that `out_size >= row_mask_room(len)`.
+// rust: level
 #[unsafe(no_mangle)]
 pub extern "C" fn row_mask_from_indices(indices: &[usize], len: usize, out: &mut [u8])
     requires within { All (λ i. i < len) indices.now }

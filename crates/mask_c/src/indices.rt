@@ -44,6 +44,7 @@ pub extern "C" fn row_mask_last_index(bytes: &[u8], offset: usize, len: usize) -
 /// Writes the indices of the true values from `from` on, ascending, to the front of `out`, as many as there are or as
 /// it takes, and answers how many these are: none from past the end. So a walk over all goes on from one past the last,
 /// until fewer come than `out` takes. Behind them `out` may have other numbers than before.
+// rust: level
 #[unsafe(no_mangle)]
 pub extern "C" fn row_mask_next_indices(
     bytes: &[u8],

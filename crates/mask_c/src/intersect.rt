@@ -74,6 +74,7 @@ fn last_word(bytes: &[u8], offset: usize, len: usize) -> (u64, usize)
 }
 
 // Narrows whole words.
+// rust: level
 fn narrow_whole(chunks: &BitChunks<'_>, ranks: &RankBits<'_>, are_few: bool, out: &mut [u8])
     requires fitting { length (values ranks.now) ≡ count chunks.now }
     requires within { IsWithinBytes ranks.now.bytes ranks.now.offset ranks.now.len }

@@ -212,6 +212,7 @@ pub(crate) fn string_at<O: Offset>(offsets: &[O], i: usize) -> (usize, usize)
 
 // Writes behind the first `at` offsets where each of the strings at some indices ends, if the first of
 // them begins at byte `from`, and answers where the last one ends.
+// rust: visible
 #[inline]
 fn put_ends<O: Offset>(
     indices: &[usize],
@@ -241,6 +242,7 @@ fn put_ends<O: Offset>(
 }
 
 // The offsets of the strings at some indices.
+// rust: visible
 #[inline]
 fn take_offsets<O: Offset>(indices: &[usize], offsets: &[O], out: &mut [O]) -> usize
     requires within { All (λ i. i + 1 < length offsets.now) indices.now }

@@ -18,6 +18,7 @@ use vortex_mask::intersect_by_rank::RankBits;
 /// Asks that `ranks_len` is the count of the bitmap's true values, that `at` is how many values are true
 /// before word `from` (0 at word 0), that `from + words_count` is at most how many words the bitmap starts,
 /// `(len + 63) / 64`, and that `sources_count == words_count`.
+// rust: level
 #[unsafe(no_mangle)]
 pub extern "C" fn row_mask_rank_words(
     bytes: &[u8],

@@ -198,6 +198,7 @@ fn put_if_full<O: Offset>(
 
 // Writes the strings at some indices behind the first `at` bytes, and answers how many bytes there are
 // then.
+// rust: visible
 #[inline]
 fn put_strings<O: Offset>(
     indices: &[usize],

@@ -11,6 +11,7 @@ use mask_bits::BitChunks;
 /// last perhaps in part, and answers how many these are: none from past the end. Bit `j` of word `i` is value
 /// `64 * i + j`, and 0 past the last value. So a walk over all words goes on from one past the last, until fewer come
 /// than `out` takes.
+// rust: level
 #[unsafe(no_mangle)]
 pub extern "C" fn row_mask_words(
     bytes: &[u8],

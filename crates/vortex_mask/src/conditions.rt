@@ -25,6 +25,7 @@ pub fn are_a_stack(first: &Mask, masks: &[Mask]) -> bool
 /// Whether each index is above the one before it, as [`Mask::from_intersection_indices`] requires it of both lists.
 //
 // With no early return, so that several are compared at once.
+// rust: level
 pub fn ascends(indices: &[usize]) -> bool
     ensures { IsTrue result ↔ IsStrictlyIncreasing indices.now }
 {

@@ -2,6 +2,7 @@
 
 mod deposit;
 mod extract;
+// rust: visible
 mod kernels;
 mod narrow;
 mod path;
@@ -39,6 +40,7 @@ pub use steps::Steps;
 impl Mask {
     /// The mask in which the true values of this one are narrowed by a mask over them: true value
     /// number `k` stays true exactly where value `k` of `mask` is true.
+    // rust: level alone
     pub fn intersect_by_rank(&self, alloc: Global, mask: &Mask) -> Result<Mask, MaskError>
         requires { length (truth mask.now) ≡ count (truth self.now) }
         ensures len { IfOk result (λ m. length (truth m) ≡ length (truth self.now)) }
@@ -65,6 +67,8 @@ impl Mask {
 
     /// The mask of `intersect_by_rank`, with the steps that its kernel takes. No step is counted
     /// where no kernel runs: where a side is all true or all false.
+    // rust: called at its level
+    // rust: copied for each level
     #[tactic(auto, using(crate::proofs::Masks::MaskLemmas::variant_facts, crate::proofs::Masks::MaskLemmas::narrowing_facts))]
     pub fn intersect_by_rank_counted(
         &self,

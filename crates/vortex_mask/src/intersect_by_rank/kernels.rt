@@ -1,5 +1,6 @@
 //! The kernels, one for each `RankPath`.
 
+// rust: visible
 mod bit_buffers;
 mod indices;
 mod mask_driven;

@@ -19,6 +19,8 @@ use std::alloc::{AllocError, Global};
 use std::borrow::CowSlice;
 
 // The rank intersection of two mixed masks, by the kernel that `rank_path` names.
+// rust: called at its level
+// rust: copied for each level
 #[tactic(auto, using(crate::proofs::Masks::MaskLemmas::narrowing_facts, crate::proofs::Kernels::PathLemmas::path_facts))]
 pub(super) fn narrow_by_path(
     alloc: Global,

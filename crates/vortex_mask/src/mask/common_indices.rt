@@ -168,6 +168,7 @@ fn merge_rest(list: &mut [usize], other: &[usize], at: Places) -> usize
 
 // Eight steps, of which none is tested for the end of a list. Where the next eight indices of a list are below all that
 // the other one has left, as in long runs of one list, they are passed at once.
+// rust: inline
 #[inline]
 fn eight_steps(list: &mut [usize], other: &[usize], at: Places) -> Places
     requires other { IsStrictlyIncreasing other.now }

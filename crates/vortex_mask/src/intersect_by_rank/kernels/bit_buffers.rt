@@ -21,6 +21,8 @@ use std::alloc::Global;
 
 /// The values of one buffer narrowed by those of another, of which `true_count` are true. Each
 /// started word of the first takes one deposit.
+// rust: called at its level
+// rust: copied for each level
 #[tactic(auto, using(mask_bits::proofs::Lists::LawLemmas::rank_intersection_count, std::proofs::lemmas::List::take_at))]
 pub fn intersect_bit_buffers<D: DepositBits>(
     alloc: Global,
@@ -46,6 +48,8 @@ pub fn intersect_bit_buffers<D: DepositBits>(
 
 /// Writes the values of `chunks` narrowed by those of `ranks` to `out`, which has just the bytes of
 /// the started words, and answers the steps.
+// rust: level
+// rust: called at its level
 pub fn narrow_by_bits<D: DepositBits>(
     chunks: &BitChunks<'_>,
     ranks: &RankBits<'_>,

@@ -23,6 +23,7 @@ use std::alloc::Global;
 ///
 /// Takes one selection for each rank. A word of the buffer is read only once a rank lies past the words read so far,
 /// and none is read again, so this is the kernel for few ranks. No word is deposited.
+// rust: level
 pub fn intersect_mask_driven<S: SelectBit, I: Iterator<Item = usize>>(
     alloc: Global,
     self_buffer: &BitBuffer,

@@ -50,6 +50,7 @@ pub fn intersect_bit_buffer_by_rank_indices<D: DepositBits>(
 
 /// Writes the values of `chunks` narrowed to the true ones whose numbers are `ranks` to `out`, which
 /// has just the bytes of the started words, and answers the steps.
+// rust: level
 pub fn narrow_at_ranks<D: DepositBits>(
     chunks: &BitChunks<'_>,
     ranks: &[usize],
@@ -80,6 +81,7 @@ const RANKS_IN_A_WORD: usize = 12;
 const SOME_WORDS: usize = 64;
 
 // Narrows word after word. Never inlined, so that its loop has all registers.
+// rust: level
 #[inline(never)]
 fn narrow_by_list<D: DepositBits>(chunks: &BitChunks<'_>, ranks: &[usize], out: &mut [u8]) -> Steps
     requires fits { length chunks.now < 2 ^ 64 }

@@ -1,0 +1,105 @@
+"""Marks of the sources: comments above a function or a module that say what is made of it in Rust.
+
+| Mark | What is made |
+|---|---|
+| `// rust: level` | a copy that is compiled for x86-64-v3, and a call that goes to it where the processor has that |
+| `// rust: wide level` | the same of a loop over vectors alone: a program for x86-64-v2 takes its own |
+| `// rust: shifted level` | the same of what shifts words within such a loop: just such a program takes the copy |
+| `.. if CONDITION` | the copy is called only where there is so much to do that it pays to ask |
+| `.. alone` | what it calls isn't inlined always |
+| `// rust: called at its level` | a levelled function goes on to the copy of its own level |
+| `// rust: copied for each level` | a copy that stays on the level of what calls it |
+| `// rust: copied by PEXT` | a copy in which that instruction stands in the place of `extract` |
+| `// rust: visible` | private functions and modules that calls by hand go to |
+| `// rust: inline` | inlined always: tests of places make it seem too long for that |
+"""
+import re
+from functools import cache
+from pathlib import Path
+
+from erasing.tokens import Fault
+
+CRATES = Path(__file__).resolve().parents[2] / "crates"
+LINE = re.compile(r"^[ \t]*// rust:(.*)\n", re.M)
+LEVEL = re.compile(r"(wide |shifted )?level(?: if (.+?))?( alone)?")
+OTHERS = ["called at its level", "copied for each level", "copied by PEXT", "visible", "inline"]
+HEAD = re.compile(r"^([ \t]*)(?:pub(?:\(\w+\))? )?(?:unsafe )?(?:extern \"C\" )?(fn|mod) (\w+)", re.M)
+
+
+class Marks:
+    """The marks above an item.
+
+    >>> marks = Marks(["wide level if len > 128", "visible"])
+    >>> marks.level, marks.much, marks.alone, marks.has("visible"), marks.has("inline")
+    ('wide_level', 'len > 128', False, True, False)
+    >>> Marks(["levels"])
+    Traceback (most recent call last):
+    erasing.tokens.Fault: no mark is `// rust: levels`
+    """
+
+    def __init__(self, words=()):
+        self.text = ", ".join(words)
+        self.level = self.much = None
+        self.alone = False
+        self.others = set()
+        for it in words:
+            match = LEVEL.fullmatch(it)
+            if match and self.level is None:
+                self.level = f"{(match[1] or '').strip()}_level".lstrip("_")
+                self.much, self.alone = match[2], bool(match[3])
+            elif it in OTHERS and it not in self.others:
+                self.others.add(it)
+            else:
+                raise Fault(f"no mark is `// rust: {it}`")
+
+    def has(self, word):
+        return word in self.others
+
+
+def taken(lead):
+    """What stands before an item without its marks, and these, as a list of words.
+
+    >>> taken("/// A walk.\\n// rust: level\\n#[inline]\\n")
+    ('/// A walk.\\n#[inline]\\n', ['level'])
+    """
+    return LINE.sub("", lead), [it.strip() for it in LINE.findall(lead)]
+
+
+@cache
+def of_all():
+    """The marked functions of all sources: the name of each, its path in what is made, and its marks."""
+    found = []
+    for crate in ("mask_bits", "vortex_mask", "mask_c"):
+        folder = CRATES / crate / "src"
+        for path in sorted(folder.rglob("*.rt")):
+            text = path.read_text()
+            place = "::".join(it for it in path.relative_to(folder).with_suffix("").parts if it != "lib")
+            for head in HEAD.finditer(text):
+                above = re.search(r"(?:^[ \t]*(?://|#\[).*\n)*\Z", text[: head.start()], re.M)[0]
+                if (marks := taken(above)[1]) and head[2] == "fn":
+                    at = "" if head[1] else f"crate::proved::{crate}::{place}::"
+                    found.append((head[3], at, Marks(marks)))
+    return found
+
+
+def named(word):
+    """The names of the functions with a mark."""
+    return {name for name, _, marks in of_all() if marks.has(word)}
+
+
+@cache
+def inner():
+    """The functions that levelled ones go on to at their own level, each with that copy's path."""
+    return {name: f"{at}{name}_any" for name, at, marks in of_all() if marks.has("called at its level")}
+
+
+@cache
+def much():
+    """The conditions of levels, by the names of their functions."""
+    return {name: marks.much for name, _, marks in of_all() if marks.much}
+
+
+@cache
+def roots():
+    """The copies into which all that they call is inlined."""
+    return {f"{name}_any" for name, _, marks in of_all() if marks.level and not marks.alone}
