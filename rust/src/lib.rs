@@ -38,7 +38,7 @@ pub use strings::{Offset, Strings};
 pub use walks::{Indices, Runs, Values};
 
 /// How to read the contracts in this documentation, and what their words mean.
-#[doc = include_str!("definitions.md")]
+#[doc = include_str!("../../docs/DEFINITIONS.md")]
 #[allow(clippy::doc_markdown, reason = "the page is that of the repository")]
 pub mod definitions {}
 

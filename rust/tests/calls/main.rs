@@ -1,5 +1,5 @@
 //! The rows of the crate `mask_tests` on the calls of this package. As a test it makes the calls of each row that
-//! `rows.txt` has. With the arguments `rows stdin`, `sweep stdin` or `refused stdin` it takes rows from standard input, as
+//! `crates/mask_tests/stdin` has. With the arguments `rows stdin`, `sweep stdin` or `refused stdin` it takes rows from standard input, as
 //! the program `mask_tests` does.
 #![allow(clippy::all, clippy::pedantic, dead_code, unused_imports, unused_variables)]
 
@@ -44,7 +44,7 @@ fn main() -> ExitCode {
 }
 
 fn all_rows() -> io::Result<usize> {
-    let kept = Kept::new(include_str!("rows.txt"));
+    let kept = Kept::new(include_str!("../../../crates/mask_tests/stdin"));
     let wrong = rows::check(&kept, Detail::Short)?;
     HostRuntime.print_line(format_args!("{}", kept.printed.borrow()))?;
     Ok(wrong)
