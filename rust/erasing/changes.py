@@ -125,12 +125,6 @@ LEAVES = {
         "{ let written = at + (end - begin); out[at..written].copy_from_slice(&bytes[begin..end]); written }",
         "{ let written = at + (end - begin); crate::kit::words::put_part(bytes, begin, end, out, at); written }",
     ),
-    "Debug for BitBuffer::fmt": (
-        '{ f.write_str("BitBuffer(")?; for value in self.iter() { f.write_str(if value { "1" } else { "0" })?; }'
-        ' f.write_str(")") }',
-        '{ f.write_str("BitBuffer(")?; for value in self.iter().take(64) { f.write_str(if value { "1" } else { "0" })?; }'
-        ' if self.len() > 64 { write!(f, ".., len={}", self.len())?; } f.write_str(")") }',
-    ),
     "put_eight": (
         "{ match bytes[begin..begin + 8].first_chunk::<8>() { Some(chunk) =>"
         " out[at..at + 8].copy_from_slice(&u64::from_le_bytes(*chunk).to_le_bytes()), None => unreachable!(), } }",

@@ -83,10 +83,10 @@ class Erasure:
     erasing.tokens.Fault: source:2: no mark is `// rust: visibly`
     >>> made("// rust: visible\\nstruct A;")
     Traceback (most recent call last):
-    erasing.tokens.Fault: source:2: a mark above what is no function and no module
+    erasing.tokens.Fault: source:2: no item of this kind has the mark `// rust: visible`
     >>> made("fn f() {\\n    // rust: visible\\n    g() }")
     Traceback (most recent call last):
-    erasing.tokens.Fault: source: a mark stands above no function and no module
+    erasing.tokens.Fault: source: a mark stands above no item
     """
 
     def __init__(self, crate, source, public, twins, counts):
@@ -111,7 +111,7 @@ class Erasure:
     def all(self):
         text = self.items(0, len(self.source.tokens), ("file", None))
         if self.marked != sum(kind == "comment" and it.startswith("// rust:") for kind, it in self.source.tokens):
-            raise Fault(f"{self.source.name}: a mark stands above no function and no module")
+            raise Fault(f"{self.source.name}: a mark stands above no item")
         return text
 
     def items(self, i, end, context):
@@ -131,8 +131,8 @@ class Erasure:
             if form is None:
                 self.source.fault(j, f"no form for an item that begins with `{word}`")
             before, words = marks.taken(self.lead(lead, i))
-            if words and word not in ("fn", "mod"):
-                self.source.fault(j, "a mark above what is no function and no module")
+            if words and (word not in ("fn", "mod", "impl") or (word == "impl") != (words == ["by hand"])):
+                self.source.fault(j, f"no item of this kind has the mark `// rust: {words[0]}`")
             self.marks, self.marked = self.read(j, words), self.marked + len(words)
             made, i = form(i, j, end, context, before, attributes)
             out.append(made)
@@ -225,6 +225,8 @@ class Erasure:
         head = self.source.text(i, body)
         if re.search(r"\bModel\s+for\b", head):
             return self.taken("models", i, last, before)
+        if self.marks.has("by hand"):
+            return self.taken("what is by hand", i, last, before)
         of, by = re.search(rf"impl{GENERIC}\s+(?:\w+::)*(\w+){GENERIC}(?:\s+for\s+(?:&'\w+ )?(\[\w+\]|\w*))?", head).groups()
         # (with the type, so that two of one trait are told apart)
         context = ("impl", of) if by is None else ("trait impl", f"{of} for {by}")

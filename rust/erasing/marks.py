@@ -1,4 +1,4 @@
-"""Marks of the sources: comments above a function or a module that say what is made of it in Rust.
+"""Marks of the sources: comments above a function, a module or an implementation that say what is made of it in Rust.
 
 | Mark | What is made |
 |---|---|
@@ -12,6 +12,7 @@
 | `// rust: copied by PEXT` | a copy in which that instruction stands in the place of `extract` |
 | `// rust: visible` | private functions and modules that calls by hand go to |
 | `// rust: inline` | inlined always: tests of places make it seem too long for that |
+| `// rust: by hand` | nothing of an implementation: the package has its own |
 """
 import re
 from functools import cache
@@ -22,7 +23,7 @@ from erasing.tokens import Fault
 CRATES = Path(__file__).resolve().parents[2] / "crates"
 LINE = re.compile(r"^[ \t]*// rust:(.*)\n", re.M)
 LEVEL = re.compile(r"(wide |shifted )?level(?: if (.+?))?( alone)?")
-OTHERS = ["called at its level", "copied for each level", "copied by PEXT", "visible", "inline"]
+OTHERS = ["called at its level", "copied for each level", "copied by PEXT", "visible", "inline", "by hand"]
 HEAD = re.compile(r"^([ \t]*)(?:pub(?:\(\w+\))? )?(?:unsafe )?(?:extern \"C\" )?(fn|mod) (\w+)", re.M)
 
 

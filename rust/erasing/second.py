@@ -64,8 +64,12 @@ SAME = [
 ]
 
 
+BY_HAND = "ITEM_BY_HAND"
+
+
 def tokens(text):
-    """The tokens of a text but for space and comments, with `::`, `->` and `=>` as one."""
+    """The tokens of a text but for space and comments, with `::`, `->` and `=>` as one, and the mark of what is by hand."""
+    text = re.sub(r"// rust: by hand\n", f" {BY_HAND} ", text)
     found = [(m.lastgroup, m[0]) for m in TOKEN.finditer(text) if m.lastgroup not in ("space", "comment")]
     # (a string is one word)
     words = [f'"{hash(it)}"' if kind == "string" else it for kind, it in found]
@@ -83,7 +87,7 @@ def behind(words, i):
 
 
 def without_items(words):
-    """A source without contracts, ghost items, models and attributes of the checker."""
+    """A source without contracts, ghost items, models, attributes of the checker, and what is by hand."""
     kept, i = [], 0
     while i < len(words):
         it = words[i]
@@ -94,7 +98,7 @@ def without_items(words):
             while words[i] != "{":
                 i += 1
             i = behind(words, i) - 1
-        elif it == "impl" and "Model" in words[i : words.index("{", i)]:
+        elif it == BY_HAND or it == "impl" and "Model" in words[i : words.index("{", i)]:
             i = behind(words, words.index("{", i)) - 1
         elif it == "#":
             begin = i

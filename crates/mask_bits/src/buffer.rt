@@ -295,6 +295,7 @@ impl BitBuffer {
     }
 }
 
+// rust: by hand
 impl fmt::Debug for BitBuffer {
     ghost debug_output = { λ b. Some (buffer_text (values b)) };
 

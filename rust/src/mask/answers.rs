@@ -1,6 +1,7 @@
 //! What small values have that the proved sources don't derive.
 
 use crate::intersect_by_rank::RankPath;
+use crate::proved::mask_bits::BitBuffer;
 use crate::proved::vortex_mask::{AllOr, Fraction, MaskError, MaskIter};
 use core::fmt;
 use core::hash::{Hash, Hasher};
@@ -54,6 +55,23 @@ macro_rules! copied {
 
 copied!(MaskError, MaskIter<'_>);
 
+// As many values, indices or runs are printed of a list that may have millions.
+const PRINTED: usize = 64;
+
+/// The values, or of more than 64 the first of them and the length.
+impl fmt::Debug for BitBuffer {
+    fn fmt(&self, f: &mut fmt::Formatter<'_>) -> fmt::Result {
+        f.write_str("BitBuffer(")?;
+        for value in self.iter().take(PRINTED) {
+            f.write_str(if value { "1" } else { "0" })?;
+        }
+        if self.len() > PRINTED {
+            write!(f, ".., len={}", self.len())?;
+        }
+        f.write_str(")")
+    }
+}
+
 /// The list, or of one with more than 64 items the length and the first of them.
 impl fmt::Debug for MaskIter<'_> {
     fn fmt(&self, f: &mut fmt::Formatter<'_>) -> fmt::Result {
@@ -65,7 +83,7 @@ impl fmt::Debug for MaskIter<'_> {
 }
 
 fn told(name: &str, list: &[impl fmt::Debug], f: &mut fmt::Formatter<'_>) -> fmt::Result {
-    match list.split_at_checked(64) {
+    match list.split_at_checked(PRINTED) {
         Some((first, [_, ..])) => {
             f.debug_struct(name).field("len", &list.len()).field("first", &first).finish()
         }

@@ -457,20 +457,6 @@ impl BitBuffer {
     }
 }
 
-impl fmt::Debug for BitBuffer {
-    #[inline]
-    fn fmt(&self, f: &mut fmt::Formatter<'_>) -> fmt::Result {
-        f.write_str("BitBuffer(")?;
-        for value in self.iter().take(64) {
-            f.write_str(if value { "1" } else { "0" })?;
-        }
-        if self.len() > 64 {
-            write!(f, ".., len={}", self.len())?;
-        }
-        f.write_str(")")
-    }
-}
-
 // Bytes for `len` bits, all clear.
 #[inline(always)]
 fn zeroed(len: usize) -> Result<Vec<u8>, AllocError> {
