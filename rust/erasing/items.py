@@ -3,10 +3,10 @@ import collections
 import re
 
 from erasing import marks
-from erasing.changes import CORE, ELSEWHERE, GONE, INSIDE, LAWFUL, LEAVES, PLACES, SAME
+from erasing.changes import CORE, ELSEWHERE, GONE, INSIDE, LAWFUL, PLACES, REPLACED, SAME
 from erasing.conditions import TESTS, Condition
 from erasing.levels import between, by_pext, levelled
-from erasing.tokens import Fault, attached, leaves, spaced, words
+from erasing.tokens import Fault, attached, leaves, spaced
 
 GENERIC = r"(?:\s*<(?:[^<>]|<[^<>]*>|->)*>)?"
 DROP = re.compile(r"\s*\+\s*Drop\b|:\s*Drop\b")
@@ -211,6 +211,9 @@ class Erasure:
         name = self.source.word(j, end)
         if name == "laws":
             return self.taken("laws", i, last + 1, before)
+        if place := REPLACED.get(f"{self.crate}::{name}"):
+            self.count("modules by hand")
+            return f"{before}pub(crate) use {place};", last + 1
         if self.crate == "mask_c":
             self.count("modules")
             return f"{before}mod {name};\npub use {name}::*;", last + 1
@@ -362,7 +365,6 @@ impl core::error::Error for {name} {{}}
             last = self.source.partner[last]
         kind, of = context
         where = function.name if of is None else f"{of}::{function.name}"
-        body = self.leaf(where, body)
         marked = self.marks
         if self.is_visible():
             self.count("private functions")
@@ -417,16 +419,6 @@ impl core::error::Error for {name} {{}}
             self.count("iterators")
             body = "{" + "".join(f"let {it} = {it}.into_iter();" for it in iterators) + body[1:]
         return function.signature(widened=True) + " " + body
-
-    def leaf(self, where, body):
-        # (a name that several crates have stands behind the crate's)
-        where = next((it for it in (f"{self.crate}::{where}", where) if it in LEAVES), None)
-        if where is None:
-            return body
-        if words(body) != words(LEAVES[where][0]):
-            raise Fault(f"{self.source.name}: the leaf {where} has another body")
-        self.count("leaves", body)
-        return LEAVES[where][1]
 
     def is_public(self, function, context):
         kind, of = context

@@ -4,7 +4,7 @@ the other side, and then both are one list of tokens. Commas and imports are not
 import re
 
 from erasing import marks
-from erasing.changes import LAWFUL, LEAVES
+from erasing.changes import LAWFUL
 from erasing.tokens import CLOSING, OPENING, TOKEN, Fault, spaced
 
 # Words of a source that have another name in what was made of it.
@@ -288,14 +288,7 @@ def compared(name, source, made):
             raise Fault(f"{name}: no source has `{text}`")
     if source.startswith("//! all"):
         one = []
-    for body, into in LEAVES.values():
-        one = replaced(one, plain(tokens(body), GONE), plain(tokens(into), NEW))
     if one != other:
         i = next((i for i, (a, b) in enumerate(zip(one, other)) if a != b), min(len(one), len(other)))
         before = max(i - 2, 0)
         raise Fault(f"{name}: `{' '.join(one[before:i + 9])}` has become `{' '.join(other[before:i + 9])}`")
-
-
-def replaced(words, body, into):
-    text = f" {' '.join(words)} "
-    return text.replace(f" {' '.join(body)} ", f" {' '.join(into)} ").split()

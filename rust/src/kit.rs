@@ -9,6 +9,7 @@ mod list;
 pub(crate) mod processor;
 mod shared;
 mod text;
+pub(crate) mod unchecked;
 pub(crate) mod words;
 
 pub use alloc::sync::Arc;
@@ -52,7 +53,7 @@ impl<T> From<AllocFailed<T>> for AllocError {
 
 /// What the proved sources have in scope.
 pub mod prelude {
-    pub(crate) use super::words::Reserved as _;
+    pub(crate) use super::list::Reserved as _;
     pub use super::{
         Collect as _, List as _, Text as _, ToList as _, TryClone as _, TryToString as _,
     };

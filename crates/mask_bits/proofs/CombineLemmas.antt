@@ -1,5 +1,5 @@
 -- The bits that the loops over words write and compare.
-use Rattle.mask_bits.proofs.Common.{◌≡◌, Result, ℕ, ◌+◌, ◌*◌, ◌-◌, ◌/◌, ◌%◌, ◌<◌, ◌≤◌, ◌⊎◌, min, not, set, Bool, false, List, ◌++◌, length, get_or, take, drop, slice_range, refl, sym, ap, ◌∙◌, arith, bit_xor, IfOk, cases_lt, get_or-drop, get_or-set_other, get_or-take, take-append-le, length-append, get_or_append_left, get_or-append_right, length-between, get_or-between, get_or-set_at, bit_at-lt, bit_at_xor, bit_at_ones, IfOk-weaker, Packed, IsWithinBytes, backing_bit, values, AreCombined, IsCombinedBetween, combined, not_of, word_bits, window, ext_get_or, length-take, take_all, put_mid}
+use Rattle.mask_bits.proofs.Common.{◌≡◌, Result, ℕ, ◌+◌, ◌*◌, ◌-◌, ◌/◌, ◌%◌, ◌<◌, ◌≤◌, ◌⊎◌, min, not, set, Bool, false, List, ◌++◌, length, get_or, take, drop, slice_range, slice_get, Some, get_or_from_slice_get, refl, sym, ap, ◌∙◌, arith, bit_xor, IfOk, cases_lt, get_or-drop, get_or-set_other, get_or-take, take-append-le, length-append, get_or_append_left, get_or-append_right, length-between, get_or-between, get_or-set_at, bit_at-lt, bit_at_xor, bit_at_ones, IfOk-weaker, Packed, IsWithinBytes, backing_bit, values, AreCombined, IsCombinedBetween, combined, not_of, word_bits, window, ext_get_or, length-take, take_all, put_mid}
 use Rattle.mask_bits.proofs.BufferLemmas.{length-values, get_or-values, values_from_front}
 use Rattle.mask_bits.proofs.Lists.BooleanLemmas.{combined_itself, length-combined, get_or-combined}
 use Rattle.mask_bits.proofs.Lists.Words.FrontLemmas.{get_or-put_mid_below, get_or-put_mid_above, get_or-put_mid_inside, length-window, get_or-window, window-between, window_from_bits}
@@ -18,6 +18,10 @@ window-next_byte bytes low i byte v few first next =
     let len : length v ≡ 64 = ap length first ∙ length-window bytes (64 * i) in
     let within : low + 64 ≤ length (v ++ w) = omega (arith, length-append v w, length-word_bits byte) in
     grind (arith, window_from_bits bytes (low + 64 * i) (slice_range (v ++ w) low (low + 64)) (length-between (v ++ w) low (low + 64) within ∙ omega arith), length-between (v ++ w) low (low + 64) within, get_or-between, get_or_append_left, get_or-window, get_or-append_right, get_or-word_bits)
+
+-- the same where the byte was read as an item
+pub window-next_item : (bytes : List ℕ) (low i byte : ℕ) (v : List Bool) → low < 8 → v ≡ window bytes (64 * i) → slice_get bytes (8 * i + 8) ≡ Some byte → slice_range (v ++ word_bits byte) low (low + 64) ≡ window bytes (low + 64 * i)
+window-next_item bytes low i byte v few first read = window-next_byte bytes low i byte v few first (sym (get_or_from_slice_get bytes (8 * i + 8) byte 0 read))
 
 -- ---- words combined
 
@@ -150,7 +154,7 @@ values-written r ys xs len m same made is = grind (arith, IfOk-weaker, take_back
 -- bytes that are combined in place, and what they then show
 pub ruleset in_place = (between-none, between-join, between-word, between-last)
 
-pub ruleset window_of_two = (window-neighbors, window-next_byte)
+pub ruleset window_of_two = (window-neighbors, window-next_item)
 
 pub ruleset part_facts = (within-parts, values-parts)
 

@@ -34,7 +34,7 @@ pub use Rattle.std.proofs.Math.Arith.{digits_lt}
 pub use Rattle.std.proofs.Math.Bool.{and-not_self, and-or_distrib_left, and_assoc, and_comm, beq, or-and_distrib_left, or-false, or-not_self, or_assoc, or_comm}
 pub use Rattle.std.proofs.Math.Nat.{add-mul-mod_self_left, div-eq_of_lt, one-le-pow, pow-zero}
 pub use Rattle.std.proofs.Math.Pow.{pow-lt}
-pub use Rattle.std.proofs.Math.Seq.{get_or-append_seam, take-append-add}
+pub use Rattle.std.proofs.Math.Seq.{get_or-append_seam, take-append-add, take-suc-set}
 pub use Rattle.std.proofs.iter.runs.Sources.{as_is, from_front}
 pub use Rattle.std.proofs.lemmas.Bool.{agree_below, agree_below_at, and_from, and_right, cases_eq, cases_lt, cond-false, cond-true, le-leb, le-ltb, lt-ltb, ne_eqb, or_left, true≢false}
 pub use Rattle.std.proofs.lemmas.Bool.Decides.{nat_tests}
@@ -50,7 +50,7 @@ pub use Rattle.std.proofs.lemmas.List.FromFn.{fill_by_all, get_or-map-range_with
 pub use Rattle.std.proofs.lemmas.List.Sorted.{IsNonDecreasingBy-from_all_adjacent}
 pub use Rattle.std.proofs.lemmas.List.Sums.{sum_by-cons}
 pub use Rattle.std.proofs.lemmas.Map.Keys.{le_from_is_le}
-pub use Rattle.std.proofs.lemmas.Nat.{and_le_l, and_le_r, and_mask, and_shr, from_le_bytes-to_le_bytes_8, leading_top, mod-mul-add, mod-pow-add, mul-mod_first, mul-mod_second, one_shl, ones-le, ones_cat, or_lt, shr_high, shr_split, trailing_le}
+pub use Rattle.std.proofs.lemmas.Nat.{and_le_l, and_le_r, and_mask, and_shr, from_le_bytes-to_le_bytes_8, le_bytes_8, leading_top, mod-mul-add, mod-pow-add, mul-mod_first, mul-mod_second, one_shl, ones-le, ones_cat, or_lt, shr_high, shr_split, trailing_le}
 pub use Rattle.std.proofs.lemmas.Nat.Bits.{and_high_mask, and_pow, bit_at-lt, bit_at-pow_other, bit_at-pow_same, bit_at-suc, bit_at-trailing_ones, bit_at-trailing_zeros, bit_at-zero, bit_at_above, bit_at_and, bit_at_cat_high}
 pub use Rattle.std.proofs.lemmas.Nat.Bits.{bit_at_cat_low, bit_at_clear_other, bit_at_clear_same, bit_at_lowest, bit_at_not, bit_at_ones, bit_at_ones_above, bit_at_or, bit_at_set_other, bit_at_set_same, bit_at_xor, ones_shr, same_from_bits}
 pub use Rattle.std.proofs.lemmas.Nat.Bits.{same_from_bits_below, shr_and_one}
@@ -58,7 +58,7 @@ pub use Rattle.std.proofs.lemmas.Option.{get_or_from_slice_get, slice_get-get_or
 pub use Rattle.std.proofs.lemmas.Result.{IfOk-weaker}
 pub use Rattle.std.proofs.lemmas.Simd.{Each1-from_get_or, Each1-get_or, SwzOk, SwzOk-from_below, below_from_Fits, bit_mask_l, bitmask_splat, get_or-chunk, get_or-swz_l_below, get_or-zip2, get_or_wider, length-chunk, length-swz_l}
 pub use Rattle.std.proofs.lemmas.Simd.{length-zip2, swz_l}
-pub use Rattle.std.proofs.lemmas.Slice.{between-put_mid, drop-put_mid, take-put_mid_below}
+pub use Rattle.std.proofs.lemmas.Slice.{between-put_mid, drop-put_mid, take-put_mid, take-put_mid_below}
 pub use Rattle.std.proofs.lemmas.Slice.Eq.{slice_eq-Decides}
 pub use Rattle.std.proofs.lemmas.Slice.Zip.{length-zip}
 pub use Rattle.std.specs.Cmp.Lexicographic.{pointwise}

@@ -18,6 +18,7 @@ mod NumberLemmas
 mod RunWalkLemmas
 mod RunWordLemmas
 mod SetBitLemmas
+mod UncheckedLemmas
 mod WindowLemmas
 mod WriteLemmas
 mod YieldLemmas

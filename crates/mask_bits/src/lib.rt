@@ -28,6 +28,8 @@ pub mod extract;
 mod from_rows;
 pub mod laws;
 #[doc(hidden)]
+pub mod processor;
+#[doc(hidden)]
 pub mod push_rows;
 mod read_word;
 #[doc(hidden)]
@@ -38,6 +40,8 @@ mod set_indices;
 mod set_slices;
 #[doc(hidden)]
 pub mod small_rows;
+#[doc(hidden)]
+pub mod unchecked;
 mod word_indices;
 mod word_items;
 // rust: visible

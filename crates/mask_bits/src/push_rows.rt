@@ -6,6 +6,7 @@ ghost use Rattle.mask_bits.specs.Positions.{count, chosen};
 use crate::chunks::BitChunks;
 use crate::room::Room;
 use crate::small_rows::{MoveRows, push_small_rows};
+use crate::unchecked::part;
 use crate::word_rows::{push_rows_of_word, push_rows_one_by_one};
 
 /// Puts the rows at the true values, in their order, into room for these, as [`push_rows_of_word`] does.
@@ -55,7 +56,7 @@ fn push_whole_words<const K: usize, const ROWS: usize, T: Copy, R: Room<T>>(
     ensures kept { R.kept out.new ≡ R.kept out.old }
 {
     for i in first..end {
-        push_rows_of_word::<K, _, _>(out, &rows[64 * i..64 * i + ROWS], chunks.word(i));
+        push_rows_of_word::<K, _, _>(out, part(rows, 64 * i, ROWS), chunks.word(i));
     }
 }
 
@@ -75,7 +76,7 @@ pub fn choose_small_rows<const FEW: usize, M: MoveRows<T>, T: Copy, R: Room<T>>(
 {
     let words = chunks.len();
     for i in 0..words {
-        push_small_rows::<FEW, M, _, _>(out, &rows[64 * i..64 * i + 64], chunks.word(i));
+        push_small_rows::<FEW, M, _, _>(out, part(rows, 64 * i, 64), chunks.word(i));
     }
     push_rows_one_by_one(out, &rows[64 * words..], chunks.remainder_bits());
 }

@@ -6,6 +6,7 @@ ghost use Rattle.std.specs.Prelude.{◌≡◌, ◌≤◌, ◌+◌, ◌-◌, ◌*
 ghost use Rattle.mask_bits.specs.Combine.{IsWholeWord, IsInTwoWords, IsShifted, IsUnaligned, HasPlace};
 ghost use Rattle.mask_bits.specs.Words.{window, word_bits};
 
+use crate::unchecked::{item, rest};
 use crate::words::{funnel_shift, funnel_shift_inside, word_at, word_of};
 
 /// A list that begins at bit `low` of the first of these bytes.
@@ -24,7 +25,7 @@ impl<'a> Bits<'a> {
         ensures low { result.low ≡ offset % 8 }
     {
         Bits {
-            bytes: &bytes[offset / 8..],
+            bytes: rest(bytes, offset / 8),
             low: (offset % 8) as u32,
         }
     }
@@ -111,7 +112,7 @@ impl ReadWord for Unaligned {
         if bits.low == 0 {
             word
         } else {
-            funnel_shift_inside(word, bits.bytes[8 * i + 8] as u64, bits.low)
+            funnel_shift_inside(word, item(bits.bytes, 8 * i + 8) as u64, bits.low)
         }
     }
 }

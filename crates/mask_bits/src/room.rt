@@ -2,6 +2,8 @@
 
 ghost use Rattle.std.specs.Prelude.{◌≤◌, length};
 
+use crate::unchecked::put;
+
 /// Room for items, of which none is tested for its place.
 pub trait Room<T> {
     ghost use Rattle.std.specs.Prelude.{◌≡◌, ◌+◌, ◌^◌, ◌<◌, ◌≤◌, ◌++◌, ◌∷◌, [], ℕ, List, length, take};
@@ -90,7 +92,7 @@ impl<'a, T: Copy> Room<T> for Lent<'a, T> {
 
     #[inline(always)]
     fn put(&mut self, item: T) {
-        self.out[self.at] = item;
+        put(self.out, self.at, item);
         self.at += 1;
     }
 

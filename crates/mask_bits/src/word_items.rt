@@ -11,6 +11,7 @@ ghost use Rattle.mask_bits.specs.WordItems.{items_of};
 ghost use Rattle.mask_bits.specs.Words.{word_bits};
 
 use crate::room::Room;
+use crate::unchecked::item;
 
 /// What the 64 places of a word yield, and what is read where no bit is left, as of place 64.
 pub(crate) trait WordItems: Copy {
@@ -52,7 +53,7 @@ impl<'a, T: Copy> WordItems for &'a [T] {
 
     #[inline(always)]
     fn lowest(self, word: u64) -> T {
-        self[word.trailing_zeros() as usize]
+        item(self, word.trailing_zeros() as usize)
     }
 }
 

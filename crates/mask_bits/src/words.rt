@@ -6,35 +6,15 @@ ghost use Rattle.mask_bits.specs.Buffer.{backing_bit};
 ghost use Rattle.mask_bits.specs.Words.{window, word_bits, started_words};
 ghost use Rattle.mask_bits.specs.Positions.{repeated};
 
+use crate::unchecked::{item, rest};
+pub use crate::unchecked::{set_word, word_of};
+
 /// How many words of 64 bits `len` bits start.
 #[inline]
 pub fn started_words(len: usize) -> usize
     ensures { result ≡ started_words len }
 {
     len.div_ceil(64)
-}
-
-/// Word `i` of the whole words of `bytes`: bits `64 * i` to `64 * i + 63`, the first lowest.
-#[tactic(auto, using(crate::proofs::Lists::Words::FrontLemmas::whole_words))]
-#[inline]
-pub fn word_of(bytes: &[u8], i: usize) -> u64
-    requires { 8 * i + 8 ≤ length bytes.now }
-    ensures { word_bits result ≡ window bytes.now (64 * i) }
-{
-    match bytes[8 * i..8 * i + 8].first_chunk::<8>() {
-        Some(chunk) => u64::from_le_bytes(*chunk),
-        None => unreachable!(),
-    }
-}
-
-/// Writes word `i` of the whole words of `bytes`, and nothing else.
-#[inline]
-pub fn set_word(bytes: &mut [u8], i: usize, word: u64)
-    requires { 8 * i + 8 ≤ length bytes.old }
-    ensures here { window bytes.new (64 * i) ≡ word_bits word }
-    ensures others { (p : ℕ) → ((p < 64 * i) ⊎ (64 * i + 64 ≤ p)) → backing_bit bytes.new p ≡ backing_bit bytes.old p }
-{
-    bytes[8 * i..8 * i + 8].copy_from_slice(&word.to_le_bytes());
 }
 
 /// The lowest `count` bits of `word`, and zeros above them.
@@ -78,8 +58,12 @@ pub fn word_at(bytes: &[u8], position: usize) -> u64
 {
     let first = position / 8;
     if first + 8 < bytes.len() {
-        let rest = &bytes[first..];
-        funnel_shift(word_of(rest, 0), rest[8] as u64, (position % 8) as u32)
+        let behind = rest(bytes, first);
+        funnel_shift(
+            word_of(behind, 0),
+            item(behind, 8) as u64,
+            (position % 8) as u32,
+        )
     } else if first < bytes.len() {
         last_bits(bytes, position)
     } else {

@@ -1,6 +1,6 @@
 -- Values written behind those of a bitmap: up to the end of their byte, and from the next byte on.
-use Rattle.mask_c.proofs.Common.{common_steps, get_or-set_at, ◌≡◌, ℕ, nat_eq, set, ◌^◌, ◌+◌, ◌-◌, ◌*◌, ◌/◌, ◌%◌, ◌<◌, ◌≤◌, Bool, false, List, ◌++◌, append-nil, length, get_or, take, drop, sym, ap, ap₂, ◌∙◌, inl, inr, arith, bit_at, div_ceil, bit_and, bit_or, cases_eq, drop_at, drop-drop, nil_from_length, ext_get_or, length-drop, length-take-le, one_shl, bit_at_or, bitmap, backing_bit, window, word_bits, AreClearBehind, get_or-set_other, bit-window, bitmap-append, bitmap-drop, length-bitmap, get_or-bitmap, front-same, get_or-put_mid_inside, bit_at-low_mask, bit_at-past_mask, bit_at-mod, bit_at-shl_low, bit_at-shl_high}
-use Rattle.mask_c.proofs.LastLemmas.{front-appended, front-taken}
+use Rattle.mask_c.proofs.Common.{front-taken, common_steps, get_or-set_at, ◌≡◌, ℕ, nat_eq, set, ◌^◌, ◌+◌, ◌-◌, ◌*◌, ◌/◌, ◌%◌, ◌<◌, ◌≤◌, Bool, false, List, ◌++◌, append-nil, length, get_or, take, drop, sym, ap, ap₂, ◌∙◌, inl, inr, arith, bit_at, div_ceil, bit_and, bit_or, cases_eq, drop_at, drop-drop, nil_from_length, ext_get_or, length-drop, length-take-le, one_shl, bit_at_or, bitmap, backing_bit, window, word_bits, AreClearBehind, get_or-set_other, bit-window, bitmap-append, bitmap-drop, length-bitmap, get_or-bitmap, front-same, get_or-put_mid_inside, bit_at-low_mask, bit_at-past_mask, bit_at-mod, bit_at-shl_low, bit_at-shl_high}
+use Rattle.mask_c.proofs.LastLemmas.{front-appended}
 use borrow.Rule.Slice.PartMut.{put_mid}
 
 -- ---- a byte that is filled up

@@ -11,10 +11,6 @@ bitmap-rest bytes offset len from within =
 
 -- ---- room
 
--- what was written where nothing is left, or the room is full
-pub stopped : (n at : ℕ) (xs rest whole : List ℕ) → length xs ≡ at → at ≤ n → xs ++ rest ≡ whole → ((rest ≡ []) ⊎ (at ≡ n)) → xs ≡ take n whole
-stopped n at xs rest whole len room is either = grind (arith, append-nil, take_all, take_at)
-
 -- what more comes behind what fits
 pub more_room : (n : ℕ) (xs ys : List ℕ) → take n (take n xs ++ ys) ≡ take n (xs ++ ys)
 more_room n xs ys = grind (arith, cases_lt, take_at, length-take, take-append-le, take_all)

@@ -1,5 +1,5 @@
 -- The last values of a bitmap that is written, and the values before them.
-use Rattle.mask_c.proofs.Common.{common_steps, get_or-set_at, ◌≡◌, ℕ, nat_eq, set, ◌^◌, ◌+◌, ◌-◌, ◌*◌, ◌/◌, ◌%◌, ◌<◌, ◌≤◌, ◌&&◌, Bool, true, false, List, [], ◌∷◌, ◌++◌, append-nil, length, get_or, take, drop, refl, sym, ap, ap₂, ◌∙◌, arith, bit_at, div_ceil, bit_and, drop-append_seam, cases_eq, get_or-take, get_or_append_left, get_or_past, length-append, length-drop, length-take, length-take-le, take-append-drop, take_at, one_shl, bit_at-zero, bitmap, backing_bit, values_so_far, combined, count, count_below, rank_intersection, repeated, padded_part, padded_remainder, window, word_bits, AreClearBehind, get_or-set_other, combined-append, all_true_from_count, count-append, count-repeated_false, get_or-padded, trues, count-le-length, count-trues, length-rank_intersection, rank_intersection_value, get_or-padded_part, padded_part_from_values, bit_at-low_mask, bit_at-past_mask, get_or-word_bits, length-word_bits, narrow, rank_intersection-all_true, rank_intersection-narrow, bitmap-append, bitmap-drop, front-split, length-bitmap, length-window, front-same, get_or-put_mid_inside, get_or-window, put-before, window_from_bits, window-take}
+use Rattle.mask_c.proofs.Common.{common_steps, get_or-set_at, ◌≡◌, ℕ, nat_eq, set, ◌^◌, ◌+◌, ◌-◌, ◌*◌, ◌/◌, ◌%◌, ◌<◌, ◌≤◌, ◌&&◌, Bool, true, false, List, [], ◌∷◌, ◌++◌, append-nil, length, get_or, take, drop, refl, sym, ap, ap₂, ◌∙◌, arith, bit_at, div_ceil, bit_and, drop-append_seam, slice_range, subst, length-between, cases_eq, get_or-take, get_or_append_left, get_or_past, length-append, length-drop, length-take, length-take-le, take-append-drop, take-take, take_at, one_shl, bit_at-zero, bitmap, backing_bit, values_so_far, combined, count, count_below, rank_intersection, repeated, padded_part, padded_remainder, window, word_bits, AreClearBehind, get_or-set_other, combined-append, all_true_from_count, count-append, count-repeated_false, get_or-padded, trues, count-le-length, count-trues, length-rank_intersection, rank_intersection_value, get_or-padded_part, padded_part_from_values, bit_at-low_mask, bit_at-past_mask, get_or-word_bits, length-word_bits, narrow, rank_intersection-all_true, rank_intersection-narrow, bitmap-append, bitmap-drop, front-split, length-bitmap, length-window, front-same, front-taken, get_or-bitmap, get_or-put_mid_inside, get_or-window, put-before, window_from_bits, window-take}
 use borrow.Rule.Slice.PartMut.{put_mid}
 
 -- ---- a front
@@ -9,10 +9,11 @@ pub front-appended : (xs ys : List ℕ) (n : ℕ) → n ≤ 8 * length xs → bi
 front-appended xs ys n few =
     front-same xs (xs ++ ys) n (λ p h. ap (λ x. nat_eq (bit_at x (p % 8)) 1) (get_or_append_left xs ys 0 (p / 8) (omega arith)))
 
--- nor have bytes that are left out
-pub front-taken : (xs : List ℕ) (k n : ℕ) → n ≤ 8 * k → bitmap (take k xs) 0 n ≡ bitmap xs 0 n
-front-taken xs k n few =
-    front-same xs (take k xs) n (λ p h. ap (λ x. nat_eq (bit_at x (p % 8)) 1) (get_or-take k xs (p / 8) 0 (omega arith)))
+-- the first values of a bitmap
+pub bitmap-take : (bytes : List ℕ) (p n k : ℕ) → k ≤ n → take k (bitmap bytes p n) ≡ bitmap bytes p k
+bitmap-take bytes p n k few =
+    let parts : n ≡ k + (n - k) = omega arith in
+    ap (λ l. take k (bitmap bytes p l)) parts ∙ ap (take k) (bitmap-append bytes p k (n - k)) ∙ take_at (bitmap bytes p k) (bitmap bytes (p + k) (n - k)) k (length-bitmap bytes p k)
 
 -- a word that no change touched stays
 pub window-kept : (old new : List ℕ) (p : ℕ) → ((j : ℕ) → j < 64 → backing_bit new (p + j) ≡ backing_bit old (p + j)) → window new p ≡ window old p
@@ -28,49 +29,61 @@ narrowed-none m b i fits shows =
 
 -- ---- the last values, written
 
--- the values once the first bytes of a word are put behind whole words
-pub put-values : (old last ys : List ℕ) (word n e : ℕ) → 8 * (n / 64) ≤ length old → length last ≡ 8 → e ≡ div_ceil n 8 → ys ≡ take (e - 8 * (n / 64)) last
-    → window last 0 ≡ word_bits word → bitmap (put_mid (8 * (n / 64)) (e - 8 * (n / 64)) old ys) 0 n ≡ values_so_far old word n
-put-values old last ys word n e begins len end is shows =
+-- the lowest bytes of a word `low`, put behind the whole words of n values: so many as the other values take
+pub record ArePutBehind (old ys : List ℕ) (low n e : ℕ) : Type 0 where
+  pub begins : 8 * (n / 64) ≤ length old
+  pub end : e ≡ div_ceil n 8
+  pub len : length ys ≡ e - 8 * (n / 64)
+  pub shows : bitmap ys 0 (8 * (e - 8 * (n / 64))) ≡ take (8 * (e - 8 * (n / 64))) (word_bits low)
+
+pub put-behind : (old ys : List ℕ) (low n e : ℕ) → div_ceil n 8 ≤ length old → e ≡ div_ceil n 8 → length ys ≡ length (slice_range old (8 * (n / 64)) e)
+    → bitmap ys 0 (8 * length (slice_range old (8 * (n / 64)) e)) ≡ take (8 * length (slice_range old (8 * (n / 64)) e)) (word_bits low) → ArePutBehind old ys low n e
+put-behind old ys low n e room is len shows =
+    let part : length (slice_range old (8 * (n / 64)) e) ≡ e - 8 * (n / 64) = length-between old (8 * (n / 64)) e (omega arith) in
+    record {
+      begins = omega arith;
+      end = is;
+      len = len ∙ part;
+      shows = subst (λ (k : ℕ). bitmap ys 0 (8 * k) ≡ take (8 * k) (word_bits low)) part shows;
+    }
+
+-- the values then, where the word was cut to them
+pub put-cut : (old ys : List ℕ) (word low n e : ℕ) → ArePutBehind old ys low n e → word_bits low ≡ take (n % 64) (word_bits word) ++ repeated (64 - n % 64) false
+    → bitmap (put_mid (8 * (n / 64)) (e - 8 * (n / 64)) old ys) 0 n ≡ values_so_far old word n
+put-cut old ys word low n e put cut =
     let w : ℕ = n / 64 in
     let rest : ℕ = n % 64 in
     let k : ℕ = e - 8 * w in
+    let m : List Bool = take rest (word_bits word) in
     let more : List ℕ = ys ++ drop k (drop (8 * w) old) in
     let new : List ℕ = take (8 * w) old ++ more in
+    let few : rest ≤ 8 * k = omega (arith, put.end) in
     let place : 64 * w ≡ 8 * (8 * w) = omega arith in
-    let begun : drop (8 * w) new ≡ more = ap (λ i. drop i new) (sym (length-take-le (8 * w) old begins)) ∙ drop-append_seam (take (8 * w) old) more in
+    let begun : drop (8 * w) new ≡ more = ap (λ i. drop i new) (sym (length-take-le (8 * w) old put.begins)) ∙ drop-append_seam (take (8 * w) old) more in
     front-split new n
-    ∙ ap₂ (λ (us vs : List Bool). us ++ vs) (put-before old ys w k begins)
+    ∙ ap₂ (λ (us vs : List Bool). us ++ vs) (put-before old ys w k put.begins)
     (ap (λ p. bitmap new p rest) place ∙ sym (bitmap-drop new (8 * w) rest) ∙ ap (λ (us : List ℕ). bitmap us 0 rest) begun
-    ∙ front-appended ys (drop k (drop (8 * w) old)) rest (omega (arith, ap length is, length-take k last))
-    ∙ ap (λ (us : List ℕ). bitmap us 0 rest) is ∙ front-taken last k rest (omega arith)
-    ∙ sym (window-take last 0 rest (omega arith)) ∙ ap (take rest) shows)
-
--- the same where the word was cut to these values
-pub put-cut : (old last ys : List ℕ) (word low n e : ℕ) → 8 * (n / 64) ≤ length old → length last ≡ 8 → e ≡ div_ceil n 8 → ys ≡ take (e - 8 * (n / 64)) last
-    → window last 0 ≡ word_bits low → word_bits low ≡ take (n % 64) (word_bits word) ++ repeated (64 - n % 64) false
-    → bitmap (put_mid (8 * (n / 64)) (e - 8 * (n / 64)) old ys) 0 n ≡ values_so_far old word n
-put-cut old last ys word low n e begins len end is shows cut =
-    let m : List Bool = take (n % 64) (word_bits word) in
-    put-values old last ys low n e begins len end is shows
-    ∙ ap (λ (us : List Bool). bitmap old 0 (64 * (n / 64)) ++ us) (ap (take (n % 64)) cut ∙ take_at m (repeated (64 - n % 64) false) (n % 64) (omega (arith, length-take (n % 64) (word_bits word), length-word_bits word)))
+    ∙ front-appended ys (drop k (drop (8 * w) old)) rest (omega (arith, few, put.len))
+    ∙ sym (bitmap-take ys 0 (8 * k) rest few) ∙ ap (take rest) put.shows ∙ take-take rest (8 * k) (word_bits low) few
+    ∙ ap (take rest) cut ∙ take_at m (repeated (64 - rest) false) rest (omega (arith, length-take rest (word_bits word), length-word_bits word)))
 
 -- then the bits behind them are clear
-pub put-clear : (old last ys : List ℕ) (word low n e : ℕ) → 8 * (n / 64) ≤ length old → length last ≡ 8 → e ≡ div_ceil n 8 → ys ≡ take (e - 8 * (n / 64)) last
-    → window last 0 ≡ word_bits low → word_bits low ≡ take (n % 64) (word_bits word) ++ repeated (64 - n % 64) false
+pub put-clear : (old ys : List ℕ) (word low n e : ℕ) → ArePutBehind old ys low n e → word_bits low ≡ take (n % 64) (word_bits word) ++ repeated (64 - n % 64) false
     → AreClearBehind (put_mid (8 * (n / 64)) (e - 8 * (n / 64)) old ys) n
-put-clear old last ys word low n e begins len end is shows cut = λ p from to.
+put-clear old ys word low n e put cut = λ p from to.
     let w : ℕ = n / 64 in
+    let k : ℕ = e - 8 * w in
     let j : ℕ = p - 64 * w in
     let at : p / 8 ≡ 8 * w + j / 8 = omega arith in
     let bit : p % 8 ≡ j % 8 = omega arith in
     let place : j ≡ 0 + j = omega arith in
-    let byte : get_or (put_mid (8 * w) (e - 8 * w) old ys) (p / 8) 0 ≡ get_or last (j / 8) 0
-    = ap (λ k. get_or (put_mid (8 * w) (e - 8 * w) old ys) k 0) at
-    ∙ get_or-put_mid_inside (8 * w) e old ys (j / 8) begins (omega (arith, ap length is, length-take (e - 8 * w) last)) (omega arith)
-    ∙ ap (λ (us : List ℕ). get_or us (j / 8) 0) is ∙ get_or-take (e - 8 * w) last (j / 8) 0 (omega arith) in
-    ap₂ (λ x k. nat_eq (bit_at x k) 1) byte bit ∙ ap (backing_bit last) place ∙ sym (get_or-window last 0 j false (omega arith))
-    ∙ ap (λ (us : List Bool). get_or us j false) (shows ∙ cut) ∙ get_or-padded (take (n % 64) (word_bits word)) (64 - n % 64) j
+    let within : j < 8 * k = omega (arith, put.end) in
+    let byte : get_or (put_mid (8 * w) k old ys) (p / 8) 0 ≡ get_or ys (j / 8) 0
+    = ap (λ i. get_or (put_mid (8 * w) k old ys) i 0) at
+    ∙ get_or-put_mid_inside (8 * w) e old ys (j / 8) put.begins (omega (arith, put.len)) (omega arith) in
+    ap₂ (λ x i. nat_eq (bit_at x i) 1) byte bit ∙ ap (backing_bit ys) place ∙ sym (get_or-bitmap ys 0 (8 * k) j false within)
+    ∙ ap (λ (us : List Bool). get_or us j false) put.shows ∙ get_or-take (8 * k) (word_bits low) j false within
+    ∙ ap (λ (us : List Bool). get_or us j false) cut ∙ get_or-padded (take (n % 64) (word_bits word)) (64 - n % 64) j
     ∙ get_or_past (take (n % 64) (word_bits word)) j false (omega (arith, length-take (n % 64) (word_bits word)))
 
 -- ---- the bits behind the last value cleared
@@ -98,12 +111,6 @@ pub rank_intersection-append : (a c b d : List Bool) → length b ≡ count a �
 rank_intersection-append a c b d fits fits' = grind (arith, common_steps, rank_intersection-narrow, length-append, count-append, narrow-append, count-trues)
 
 -- ---- what a call has written: the values of whole words, and the last ones by a word
-
--- the first values of a bitmap
-pub bitmap-take : (bytes : List ℕ) (p n k : ℕ) → k ≤ n → take k (bitmap bytes p n) ≡ bitmap bytes p k
-bitmap-take bytes p n k few =
-    let parts : n ≡ k + (n - k) = omega arith in
-    ap (λ l. take k (bitmap bytes p l)) parts ∙ ap (take k) (bitmap-append bytes p k (n - k)) ∙ take_at (bitmap bytes p k) (bitmap bytes (p + k) (n - k)) k (length-bitmap bytes p k)
 
 -- the values past whole words
 padded_remainder_of : (m : List Bool) (n : ℕ) → length m ≡ n → padded_remainder m ≡ drop (64 * (n / 64)) m ++ repeated (64 - n % 64) false

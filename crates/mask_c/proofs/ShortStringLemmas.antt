@@ -8,21 +8,6 @@ length-range bytes a b order within = omega (arith, length-take (b - a) (drop a 
 
 -- ---- words
 
--- eight bytes that are a number on the way
-pub eight-bytes : (bytes out chunk new : List ℕ) (at begin n : ℕ) → ((k : ℕ) → get_or bytes k 0 < 256) → begin + 8 ≤ length bytes → at ≤ length out
-    → chunk ≡ take 8 (take (begin + 8 - begin) (drop begin bytes)) → n ≡ from_le_bytes w64 chunk → new ≡ to_le_bytes w64 n
-    → take (at + 8) (put_mid at (at + 8 - at) out new) ≡ take at out ++ slice_range bytes begin (begin + 8)
-eight-bytes bytes out chunk new at begin n are within room is number wrote =
-    let part : List ℕ = slice_range bytes begin (begin + 8) in
-    let len : length part ≡ 8 = omega (arith, length-range bytes begin (begin + 8) (omega arith) within) in
-    let whole : chunk ≡ part = is ∙ take_all 8 part (omega (arith, len)) in
-    let read : (k : ℕ) → k < 8 → get_or chunk k 0 ≡ get_or bytes (begin + k) 0
-    = λ k h. ap (λ (xs : List ℕ). get_or xs k 0) whole ∙ get_or-between bytes begin (begin + 8) k 0 (omega arith) in
-    let are_part : (k : ℕ) → get_or chunk k 0 < 256 = λ k. grind (arith, read k, are (begin + k), get_or_past chunk k 0, ap length whole, len) in
-    let same : new ≡ part = wrote ∙ le_bytes_8 chunk n (ap length whole ∙ len) are_part number ∙ whole in
-    take-put_mid at (at + 8 - at) out new (at + 8) (omega (arith, ap length same, len)) room
-    ∙ ap (λ (xs : List ℕ). take at out ++ xs) same
-
 -- more bytes behind those so far
 pub more-bytes : (bytes front here new : List ℕ) (a b c : ℕ) → a ≤ b → b ≤ c → new ≡ here ++ slice_range bytes b c → here ≡ front ++ slice_range bytes a b → new ≡ front ++ slice_range bytes a c
 more-bytes bytes front here new a b c first second is before =

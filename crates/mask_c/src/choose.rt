@@ -5,9 +5,10 @@ ghost use Rattle.mask_bits.specs.Buffer.{IsWithinBytes};
 ghost use Rattle.mask_c.specs.Bitmap.{AreChosen, CanChoose};
 
 use mask_bits::BitChunks;
+use mask_bits::processor::{Moved, moves_bytes};
 use mask_bits::push_rows::{choose_rows, choose_small_rows};
 use mask_bits::room::Lent;
-use mask_bits::small_rows::{ByTable, MoveRows};
+use mask_bits::small_rows::MoveRows;
 
 /// A row of 16 bytes.
 #[derive(Clone, Copy)]
@@ -32,8 +33,8 @@ pub extern "C" fn row_mask_choose_1(
     requires { CanChoose bytes.now offset len rows.now out.old }
     ensures { AreChosen rows.now (bitmap bytes.now offset len) out.new result }
 {
-    if have_many(bytes, offset, len) {
-        choose_small::<6, ByTable, _>(bytes, offset, len, rows, out)
+    if moves_bytes() && have_many(bytes, offset, len) {
+        choose_small::<6, Moved, _>(bytes, offset, len, rows, out)
     } else {
         choose(bytes, offset, len, rows, out)
     }

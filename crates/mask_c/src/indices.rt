@@ -9,6 +9,7 @@ ghost use Rattle.mask_bits.specs.Words.{bits_of_words, started_words, word_bits}
 use mask_bits::BitChunks;
 use mask_bits::blocks::{SPARE, block, ones_in, push_block};
 use mask_bits::room::{Lent, Room};
+use mask_bits::unchecked::put_indices;
 
 /// The index of true value number `n`, counted from 0, and `len` where there is none.
 #[unsafe(no_mangle)]
@@ -68,7 +69,7 @@ pub extern "C" fn row_mask_next_indices(
     let first = indices_of_blocks(&chunks, from, &mut room);
     let mut at = room.at;
     for i in first..chunks.started_words() {
-        at = indices_of_word(chunks.started_word(i), from + 64 * i, out, at);
+        at = put_indices(chunks.started_word(i), from + 64 * i, out, at);
         if at == out.len() {
             return at;
         }
@@ -121,29 +122,6 @@ fn put_block<R: Room<usize>>(out: &mut R, first: usize, words: &[u64; 4], ones: 
     }
 }
 
-// Writes `first` and the indices of the set bits of a word from there on behind the first `at` indices,
-// as many as there is room for, and answers how many there are then.
-#[inline]
-pub(crate) fn indices_of_word(word: u64, first: usize, out: &mut [usize], at: usize) -> usize
-    requires fits { All (λ p. first + p < 2 ^ 64) (positions (word_bits word)) }
-    requires room { at ≤ length out.old }
-    ensures indices { take result out.new ≡ take (length out.old)
-        (take at out.old ++ map (λ p. first + p) (positions (word_bits word))) }
-    ensures count { result ≡ min (length out.old) (at + count (word_bits word)) }
-{
-    let mut word = word;
-    let mut at = at;
-    while word != 0 {
-        if at == out.len() {
-            return at;
-        }
-        out[at] = first + word.trailing_zeros() as usize;
-        at += 1;
-        word &= word - 1;
-    }
-    at
-}
-
 // Writes the indices of the true values of started word `i` to the front of `block`, and answers how many these are.
 #[inline]
 pub(crate) fn indices_in_word(chunks: &BitChunks, i: usize, block: &mut [usize; 64]) -> usize
@@ -153,5 +131,5 @@ pub(crate) fn indices_in_word(chunks: &BitChunks, i: usize, block: &mut [usize; 
     ensures indices { positions (take (64 * (i + 1)) chunks.now)
         ≡ positions (take (64 * i) chunks.now) ++ take result block.new }
 {
-    indices_of_word(chunks.started_word(i), 64 * i, block, 0)
+    put_indices(chunks.started_word(i), 64 * i, block, 0)
 }

@@ -6,7 +6,8 @@ ghost use Rattle.mask_bits.specs.Bitmap.{bitmap};
 ghost use Rattle.mask_bits.specs.ChosenBits.{values_so_far};
 ghost use Rattle.mask_c.specs.Bitmap.{AreClearBehind};
 
-use mask_bits::words::{low_bits, set_word};
+use mask_bits::unchecked::put_lowest;
+use mask_bits::words::low_bits;
 
 // Writes the values of a bitmap of `len` that are behind its whole words: the lowest bits of `word`, with
 // zeros up to the end of the last byte that they take, and nothing else.
@@ -20,10 +21,8 @@ pub(crate) fn put_last(out: &mut [u8], word: u64, len: usize)
     if len % 64 == 0 {
         return;
     }
-    let mut last = [0u8; 8];
-    set_word(&mut last, 0, low_bits(word, len % 64));
     let (begin, end) = (8 * (len / 64), len.div_ceil(8));
-    out[begin..end].copy_from_slice(&last[..end - begin]);
+    put_lowest(low_bits(word, len % 64), &mut out[begin..end]);
 }
 
 // Clears the bits behind the first `len` in their last byte.

@@ -10,6 +10,7 @@ ghost use Rattle.mask_c.specs.Strings.{ends_from, items_at, offsets_of, size_of,
 
 use crate::indices::indices_in_word;
 use mask_bits::BitChunks;
+use mask_bits::unchecked::{item, put};
 
 /// An offset of 4 or 8 bytes.
 pub(crate) trait Offset: Copy {
@@ -173,7 +174,7 @@ pub(crate) fn offset_at<O: Offset>(offsets: &[O], i: usize) -> usize
     requires { i < length offsets.now }
     ensures { result ≡ slice_index (map O.number offsets.now) i }
 {
-    offsets[i].get()
+    item(offsets, i).get()
 }
 
 #[inline]
@@ -182,7 +183,7 @@ fn set_offset<O: Offset>(offsets: &mut [O], i: usize, n: usize)
     requires fits { n < O.limit }
     ensures { map O.number offsets.new ≡ slice_set (map O.number offsets.old) i n }
 {
-    offsets[i] = O::of(n);
+    put(offsets, i, O::of(n));
 }
 
 // How many bytes string `i` has.

@@ -6,6 +6,7 @@ ghost use Rattle.std.specs.List.Sorted.{IsNonDecreasing};
 ghost use Rattle.mask_c.specs.Strings.{bytes_of, size_of};
 
 use crate::offsets::{Offset, offset_at, size_at, string_at};
+use mask_bits::unchecked;
 
 /// How many words of eight bytes to copy for each string, by the strings from the first index to the last: none
 /// where these are long, where most are taken, or where most are empty.
@@ -128,22 +129,7 @@ fn put_words<const WORDS: usize>(bytes: &[u8], begin: usize, out: &mut [u8], at:
     ensures behind { drop (at + 8 * WORDS) out.new ≡ drop (at + 8 * WORDS) out.old }
 {
     for j in 0..WORDS {
-        put_eight(bytes, begin + 8 * j, out, at + 8 * j);
-    }
-}
-
-// Writes eight bytes. They are a number on the way: two copies, of which one has a size that is known, are compiled as
-// one of any size.
-#[inline]
-fn put_eight(bytes: &[u8], begin: usize, out: &mut [u8], at: usize)
-    requires within { begin + 8 ≤ length bytes.now }
-    requires room { at + 8 ≤ length out.old }
-    ensures bytes { take (at + 8) out.new ≡ take at out.old ++ slice_range bytes.now begin (begin + 8) }
-    ensures behind { drop (at + 8) out.new ≡ drop (at + 8) out.old }
-{
-    match bytes[begin..begin + 8].first_chunk::<8>() {
-        Some(chunk) => out[at..at + 8].copy_from_slice(&u64::from_le_bytes(*chunk).to_le_bytes()),
-        None => unreachable!(),
+        unchecked::put_eight(bytes, begin + 8 * j, out, at + 8 * j);
     }
 }
 
@@ -158,6 +144,6 @@ pub(crate) fn put_part(bytes: &[u8], begin: usize, end: usize, out: &mut [u8], a
     ensures size { result ≡ at + (end - begin) }
 {
     let written = at + (end - begin);
-    out[at..written].copy_from_slice(&bytes[begin..end]);
+    unchecked::put_part(bytes, begin, end, out, at);
     written
 }

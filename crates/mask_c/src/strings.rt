@@ -8,10 +8,10 @@ ghost use Rattle.mask_bits.specs.Buffer.{IsWithinBytes};
 ghost use Rattle.mask_bits.specs.Positions.{chosen};
 ghost use Rattle.mask_c.specs.Strings.{bytes_of, items_at, size_of, sizes, strings};
 
-use crate::indices::indices_of_word;
 use crate::offsets::{Offset, string_at};
 use crate::short_strings::{before_last, put_part, put_wide, words_of_each};
 use mask_bits::BitChunks;
+use mask_bits::unchecked::put_indices;
 
 /// Writes the bytes of the strings at the true values, one string behind another, to the front of `out`, and
 /// answers how many these are. String `i` has the bytes from `offsets[i]` to `offsets[i + 1]`, and an offset
@@ -158,7 +158,7 @@ fn choose_strings<O: Offset>(
         let ones = word.count_ones() as usize;
         let left = put_if_full(&block[..waiting], ones, offsets, string_bytes, out, at);
         at = left.1;
-        waiting = indices_of_word(word, 64 * i, &mut block, left.0);
+        waiting = put_indices(word, 64 * i, &mut block, left.0);
     }
     put_strings(&block[..waiting], offsets, string_bytes, out, at)
 }

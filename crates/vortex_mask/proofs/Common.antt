@@ -9,7 +9,7 @@ pub use Rattle.mask_bits.proofs.Common.{get_or-append_seam, get_or-chunk, get_or
 pub use Rattle.mask_bits.proofs.Common.{get_or_default, get_or_from_slice_get, get_or_past, get_or_wider, group, if◌then◌else◌, indices_from, inl, inr, is_inside, le-leb, leading_zeros, length, length-append, length-between, length-map}
 pub use Rattle.mask_bits.proofs.Common.{length-map-range_with_len, length-range_with_len, length-replicate, length-set, list_any, lt-ltb, lt_of_le_of_lt, ltb, map, map-id, min, mod-eq_of_lt, mod-lt, mod-pow-add, mul_assoc, mul_comm, nat_eq}
 pub use Rattle.mask_bits.proofs.Common.{nat_le, nat_lt, nat_tests, ne_eqb, nil_from_length, not, not_of, number_l, one_shl, ones-le, ones_cat, or-false, or_assoc, or_comm, or_of, padded_part, padded_remainder, positions, pow-add, pow-suc}
-pub use Rattle.mask_bits.proofs.Common.{pow_mono, range_with_len, rank_intersection, refl, replicate, rules, runs, same_from_bits, set, shr_split, slice_eq-Decides, slice_get, slice_get-get_or, slice_get_past, slice_range, started_words}
+pub use Rattle.mask_bits.proofs.Common.{pow_mono, range_with_len, rank_intersection, refl, replicate, rules, runs, same_from_bits, set, shr_split, slice_eq-Decides, slice_get, slice_get-get_or, slice_get_past, slice_get_within, slice_range, started_words}
 pub use Rattle.mask_bits.proofs.Common.{subst, suc, sum_by, sum_by-cons, swz_l, sym, take, take-append-drop, take-replicate, take-take, take_at, take_more, true, w16, w64, w8, word_part, zero, zip2, ℕ, ◌%◌, ◌&&◌, ◌*◌, ◌++◌, ◌+◌, ◌-◌, ◌/◌}
 pub use Rattle.mask_bits.proofs.Common.{◌<◌, ◌^◌, ◌||◌, ◌↔◌, ◌∙◌, ◌∷◌, ◌≡◌, ◌≢◌, ◌≤◌, ◌⊎◌}
 pub use Rattle.mask_bits.proofs.Lists.BooleanLemmas.{combined-left, combined-right, combined_itself, length-combined, length-not_of, map-itself, map-one, not_of-repeated}

@@ -1,6 +1,7 @@
 //! Changes in place.
 
-use crate::kit::{levelled, words::for_each_bit, words::number_of, words::put_lowest};
+use crate::kit::unchecked::put_lowest;
+use crate::kit::{levelled, words::for_each_bit, words::number_of};
 use crate::prelude::*;
 
 impl BitmapBuf {

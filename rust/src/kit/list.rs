@@ -115,6 +115,26 @@ impl<T> List<T> for Vec<T> {
     }
 }
 
+/// What puts an item into room that a list has.
+pub(crate) trait Reserved<T> {
+    /// Puts it behind the others.
+    fn push_reserved(&mut self, item: T);
+}
+
+impl<T> Reserved<T> for Vec<T> {
+    #[allow(clippy::inline_always, reason = "it is a step of loops")]
+    #[inline(always)]
+    fn push_reserved(&mut self, item: T) {
+        debug_assert!(self.len() < self.capacity());
+        let count = self.len();
+        // SAFETY: the contract of the proved caller: fewer items are there than have room.
+        unsafe {
+            self.as_mut_ptr().add(count).write(item);
+            self.set_len(count + 1);
+        }
+    }
+}
+
 /// A list of so many items that are the same. Bytes that are 0 are asked for as such, so that none is written. Lists of
 /// bytes have room for the number of those who will share them.
 ///

@@ -132,7 +132,7 @@ const MOVES_BY_TABLE: bool = cfg!(all(target_feature = "ssse3", not(row_mask_arr
 
 /// Whether several rows of one byte are moved at once: by that instruction, or by PEXT.
 #[inline(always)]
-pub(crate) fn moves_bytes() -> bool {
+pub fn moves_bytes() -> bool {
     MOVES_BY_TABLE || has_quick_bits()
 }
 
@@ -146,7 +146,7 @@ pub(crate) fn moves_fours() -> bool {
 }
 
 /// What moves them, where the answer is yes.
-pub(crate) struct Moved;
+pub struct Moved;
 
 impl MoveRows<u8> for Moved {
     #[inline(always)]

@@ -27,6 +27,8 @@ mod eq;
 pub mod extract;
 pub(crate) mod from_rows;
 #[doc(hidden)]
+pub(crate) use crate::kit::processor;
+#[doc(hidden)]
 pub mod push_rows;
 mod read_word;
 #[doc(hidden)]
@@ -37,6 +39,8 @@ mod set_indices;
 mod set_slices;
 #[doc(hidden)]
 pub mod small_rows;
+#[doc(hidden)]
+pub(crate) use crate::kit::unchecked;
 mod word_indices;
 mod word_items;
 pub(crate) mod word_rows;

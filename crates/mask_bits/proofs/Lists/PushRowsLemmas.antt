@@ -1,5 +1,5 @@
 -- The rows that whole words choose, and those of the values past them.
-use Rattle.mask_bits.proofs.Common.{common_steps, ◌≡◌, ℕ, Bool, false, ◌+◌, ◌-◌, ◌*◌, ◌/◌, ◌%◌, ◌<◌, ◌≤◌, List, [], ◌++◌, length, take, drop, slice_get, slice_range, refl, sym, ap, ap₂, ◌∙◌, arith, append-nil, length-drop, length-take, filter_map, take-append-drop, chosen, count, positions, repeated, padded_remainder, word_bits, word_part}
+use Rattle.mask_bits.proofs.Common.{common_steps, ◌≡◌, ℕ, Bool, false, ◌+◌, ◌-◌, ◌*◌, ◌/◌, ◌%◌, ◌<◌, ◌≤◌, List, [], ◌++◌, length, take, drop, slice_get, slice_range, refl, sym, ap, ap₂, ◌∙◌, arith, append-nil, length-between, length-drop, length-take, filter_map, take-append-drop, chosen, count, positions, repeated, padded_remainder, word_bits, word_part}
 use Rattle.std.specs.List.{All}
 use Rattle.mask_bits.proofs.Lists.ChooseLemmas.{chosen-of_front, chosen_at_positions}
 use Rattle.mask_bits.proofs.Lists.CountLemmas.{count-append, count_below-le, indices_from-repeated_false}
@@ -69,10 +69,16 @@ rest_room rows items m n w room len whole shows before all =
     omega (arith, ap length before, chosen_counted rows m n len, rest_counted m n w whole shows, all)
 
 -- one more word's rows are pushed
-pub word_pushed : {X : Type 0} (rows old new : List X) (m : List Bool) (i r w : ℕ) → length rows ≡ length m → 64 ≤ r → 64 * i + 64 ≤ length m → word_bits w ≡ word_part m i
-    → old ≡ chosen (take (64 * i) rows) (take (64 * i) m) → new ≡ old ++ chosen (slice_range rows (64 * i) (64 * i + r)) (word_bits w)
+pub word_pushed : {X : Type 0} (rows part old new : List X) (m : List Bool) (i r w : ℕ) → length rows ≡ length m → part ≡ slice_range rows (64 * i) (64 * i + r) → 64 ≤ r → 64 * i + 64 ≤ length m
+    → word_bits w ≡ word_part m i → old ≡ chosen (take (64 * i) rows) (take (64 * i) m) → new ≡ old ++ chosen part (word_bits w)
     → new ≡ chosen (take (64 * (i + 1)) rows) (take (64 * (i + 1)) m)
-word_pushed {X} rows old new m i r w len enough within shows before pushed = grind (arith, common_steps, own_rows rows (64 * i) r w enough, chosen-part_more)
+word_pushed {X} rows part old new m i r w len is enough within shows before pushed =
+    let all : new ≡ old ++ chosen (slice_range rows (64 * i) (64 * i + r)) (word_bits w) = pushed ∙ ap (λ (xs : List X). old ++ chosen xs (word_bits w)) is in
+    grind (arith, common_steps, own_rows rows (64 * i) r w enough, chosen-part_more)
+
+-- they are so many
+pub part_len : {X : Type 0} (rows part : List X) (first r : ℕ) → first + r ≤ length rows → part ≡ slice_range rows first (first + r) → length part ≡ r
+part_len rows part first r within is = omega (arith, ap length is, length-between rows first (first + r) within)
 
 -- the rows of the rest are pushed, and with them all
 pub rest_pushed : {X : Type 0} (rows part old new : List X) (m : List Bool) (n w : ℕ) → length rows ≡ length m → n ≡ 64 * (length m / 64) → part ≡ drop n rows → word_bits w ≡ padded_remainder m

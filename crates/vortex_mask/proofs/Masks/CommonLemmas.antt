@@ -1,5 +1,5 @@
 -- The indices that two ascending lists have in common, found at their fronts.
-use Rattle.vortex_mask.proofs.Common.{common_steps, take-set_at, suc, append_assoc, append-nil, ◌≡◌, ℕ, ◌+◌, ◌<◌, ◌≤◌, false, nat_eq, nat_le, set, List, [], ◌∷◌, ◌++◌, length, get_or, take, drop, ◌||◌, ◌-◌, cond, refl, sym, ap, ap₂, subst, ◌∙◌, ◌⊎◌, inl, inr, arith, copy_within, list_any, take-paste, paste, IsStrictlyIncreasing, le-leb, lt-leb, eq-eqb, ne_eqb, cases_lt, cases_eq, cases_order, or-false, drop-set-lt, set-get_or, length-set, drop_more, length-drop, length-take, get_or-take, take-append-drop, take-set, take-take, get_or-drop, drop_all, drop-drop, get_or_default, All-head, All-tail, All-cons, All-weaker, filter-append, filter_more, list_any_none, list_any-append, list_any-from_Any, AllPairs-from_increasing, common, AreSplit, IsFound, IsUnderWay, GoesOn, comes_to, All}
+use Rattle.vortex_mask.proofs.Common.{common_steps, take-set_at, suc, append_assoc, append-nil, ◌≡◌, ℕ, ◌+◌, ◌<◌, ◌≤◌, false, nat_eq, nat_le, set, List, [], ◌∷◌, ◌++◌, length, get_or, take, drop, ◌||◌, ◌-◌, cond, refl, sym, ap, ap₂, subst, ◌∙◌, ◌⊎◌, inl, inr, arith, copy_within, list_any, take-paste, paste, IsStrictlyIncreasing, le-leb, lt-leb, eq-eqb, ne_eqb, cases_lt, cases_eq, cases_order, or-false, drop-set-lt, set-get_or, length-set, drop_more, length-drop, length-take, get_or-take, take-append-drop, take-set, take-take, get_or-drop, drop_all, drop-drop, get_or_default, All-head, All-tail, All-cons, All-weaker, filter-append, filter_more, list_any_none, list_any-append, list_any-from_Any, AllPairs-from_increasing, common, AreSplit, IsFound, IsUnderWay, GoesOn, comes_to, All, Some, slice_get, get_or_from_slice_get, slice_get_within}
 use Rattle.vortex_mask.proofs.Lists.PlaceListLemmas.{none-is, rises_to}
 use mir.Val.{bool_byte}
 
@@ -205,6 +205,13 @@ goes-step xs ys i j n b h k w =
           let on = goes-other new ys i j n 0 b (omega arith) (omega arith) stays.under_way (omega (arith, here, ap (λ p. get_or new p 0) at_i, ap (λ p. get_or xs p 0) at_i, ap (λ p. get_or ys p 0) at_j)) in
           rw (lt-leb x y more, le-leb y x (omega arith), ne_eqb x y (λ e. absurd (omega arith)), none) (record { under_way = on.under_way; same = on.same ∙ stays.same })
     ]
+
+-- the same where the items were read and one was put
+pub goes-by : (xs ys new : List ℕ) (i j n x y : ℕ) → IsStrictlyIncreasing ys → IsUnderWay xs ys i j n → slice_get xs i ≡ Some x → slice_get ys j ≡ Some y → new ≡ set xs n x
+    → GoesOn xs new ys i j n (i + bool_byte (nat_le x y)) (j + bool_byte (nat_le y x)) (n + bool_byte (nat_eq x y))
+goes-by xs ys new i j n x y b w left right put =
+    rw (put, ← get_or_from_slice_get xs i x 0 left, ← get_or_from_slice_get ys j y 0 right)
+      (goes-step xs ys i j n b (slice_get_within xs i x left) (slice_get_within ys j y right) w)
 
 -- and its end
 pub merge_is_over : (xs ys : List ℕ) (i j n : ℕ) → IsUnderWay xs ys i j n → (length xs ≤ i) ⊎ (length ys ≤ j) → take n xs ≡ comes_to xs ys i j n

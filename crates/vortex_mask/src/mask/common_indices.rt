@@ -6,6 +6,8 @@ ghost use Rattle.vortex_mask.specs.Faults.{common};
 ghost use Rattle.vortex_mask.specs.Merges.{IsFound, IsUnderWay, GoesOn, comes_to};
 ghost use Rattle.vortex_mask.specs.Ranks.{AreSplit};
 
+use mask_bits::unchecked::{item, put};
+
 /// The indices that both lists have, in the shorter one's room.
 #[tactic(auto, using(crate::proofs::Masks::CommonLemmas::common_either_way))]
 pub(crate) fn common(lhs: Vec<usize>, rhs: Vec<usize>) -> Vec<usize>
@@ -212,8 +214,8 @@ fn step(list: &mut [usize], other: &[usize], at: Places) -> Places
     ensures list_by_one { result.list ≤ at.list + 1 }
     ensures other_by_one { result.other ≤ at.other + 1 }
 {
-    let (left, right) = (list[at.list], other[at.other]);
-    list[at.found] = left;
+    let (left, right) = (item(list, at.list), item(other, at.other));
+    put(list, at.found, left);
     Places {
         list: at.list + (left <= right) as usize,
         other: at.other + (right <= left) as usize,

@@ -5,6 +5,7 @@ use crate::kit::prelude::*;
 use crate::proved::mask_bits::chunks::BitChunks;
 use crate::proved::mask_bits::room::Room;
 use crate::proved::mask_bits::small_rows::{MoveRows, push_small_rows};
+use crate::proved::mask_bits::unchecked::part;
 use crate::proved::mask_bits::word_rows::{push_rows_of_word, push_rows_one_by_one};
 
 /// Puts the rows at the true values, in their order, into room for these, as [`push_rows_of_word`] does.
@@ -55,11 +56,7 @@ fn push_whole_words<const K: usize, const ROWS: usize, T: Copy, R: Room<T>>(
     end: usize,
 ) {
     for i in first..end {
-        push_rows_of_word::<K, _, _>(
-            out,
-            crate::kit::words::part(rows, 64 * i, ROWS),
-            chunks.word_proved(i),
-        );
+        push_rows_of_word::<K, _, _>(out, part(rows, 64 * i, ROWS), chunks.word_proved(i));
     }
 }
 
@@ -94,11 +91,7 @@ fn choose_small_rows_any<const FEW: usize, M: MoveRows<T>, T: Copy, R: Room<T>>(
 ) {
     let words = chunks.len();
     for i in 0..words {
-        push_small_rows::<FEW, M, _, _>(
-            out,
-            crate::kit::words::part(rows, 64 * i, 64),
-            chunks.word_proved(i),
-        );
+        push_small_rows::<FEW, M, _, _>(out, part(rows, 64 * i, 64), chunks.word_proved(i));
     }
     push_rows_one_by_one(out, &rows[64 * words..], chunks.remainder_bits());
 }

@@ -4,6 +4,7 @@
 //! A loop that is generic over the way compiles to one that tests nothing per word.
 
 use crate::kit::prelude::*;
+use crate::proved::mask_bits::unchecked::{item, rest};
 use crate::proved::mask_bits::words::{funnel_shift, funnel_shift_inside, word_at, word_of};
 
 /// A list that begins at bit `low` of the first of these bytes.
@@ -17,7 +18,7 @@ impl<'a> Bits<'a> {
     // The list that begins at bit `offset` of these bytes.
     #[inline(always)]
     pub(crate) fn new(bytes: &'a [u8], offset: usize) -> Bits<'a> {
-        Bits { bytes: crate::kit::words::rest(bytes, offset / 8), low: (offset % 8) as u32 }
+        Bits { bytes: rest(bytes, offset / 8), low: (offset % 8) as u32 }
     }
 
     // How many of the whole words have another one beside them.
@@ -78,11 +79,7 @@ impl ReadWord for Unaligned {
         if bits.low == 0 {
             word
         } else {
-            funnel_shift_inside(
-                word,
-                crate::kit::words::item(bits.bytes, 8 * i + 8) as u64,
-                bits.low,
-            )
+            funnel_shift_inside(word, item(bits.bytes, 8 * i + 8) as u64, bits.low)
         }
     }
 }

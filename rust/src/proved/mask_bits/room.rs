@@ -2,6 +2,8 @@
 //! Room that was made before items are put into it: a list's own, or the front of a slice that a caller lends.
 
 use crate::kit::prelude::*;
+use crate::proved::mask_bits::unchecked::put;
+
 /// Room for items, of which none is tested for its place.
 pub trait Room<T> {
     fn put(&mut self, item: T);
@@ -45,7 +47,7 @@ pub struct Lent<'a, T> {
 impl<'a, T: Copy> Room<T> for Lent<'a, T> {
     #[inline(always)]
     fn put(&mut self, item: T) {
-        crate::kit::words::put(self.out, self.at, item);
+        put(self.out, self.at, item);
         self.at += 1;
     }
 

@@ -7,6 +7,7 @@
 
 use crate::kit::prelude::*;
 use crate::proved::mask_bits::room::Room;
+use crate::proved::mask_bits::unchecked::item;
 
 /// What the 64 places of a word yield, and what is read where no bit is left, as of place 64.
 pub(crate) trait WordItems: Copy {
@@ -32,7 +33,7 @@ impl<'a, T: Copy> WordItems for &'a [T] {
 
     #[inline(always)]
     fn lowest(self, word: u64) -> T {
-        crate::kit::words::item(self, word.trailing_zeros() as usize)
+        item(self, word.trailing_zeros() as usize)
     }
 }
 

@@ -2,22 +2,13 @@
 //! Words of 64 bits of some bytes: read, written, and made of two neighbors.
 
 use crate::kit::prelude::*;
+use crate::proved::mask_bits::unchecked::{item, rest};
+pub use crate::proved::mask_bits::unchecked::{set_word, word_of};
+
 /// How many words of 64 bits `len` bits start.
 #[inline(always)]
 pub fn started_words(len: usize) -> usize {
     len.div_ceil(64)
-}
-
-/// Word `i` of the whole words of `bytes`: bits `64 * i` to `64 * i + 63`, the first lowest.
-#[inline(always)]
-pub fn word_of(bytes: &[u8], i: usize) -> u64 {
-    crate::kit::words::word_of(bytes, i)
-}
-
-/// Writes word `i` of the whole words of `bytes`, and nothing else.
-#[inline(always)]
-pub fn set_word(bytes: &mut [u8], i: usize, word: u64) {
-    crate::kit::words::set_word(bytes, i, word);
 }
 
 /// The lowest `count` bits of `word`, and zeros above them.
@@ -44,12 +35,8 @@ pub(crate) fn funnel_shift_inside(word: u64, next: u64, low: u32) -> u64 {
 pub fn word_at(bytes: &[u8], position: usize) -> u64 {
     let first = position / 8;
     if first + 8 < bytes.len() {
-        let rest = crate::kit::words::rest(bytes, first);
-        funnel_shift(
-            word_of(rest, 0),
-            crate::kit::words::item(rest, 8) as u64,
-            (position % 8) as u32,
-        )
+        let behind = rest(bytes, first);
+        funnel_shift(word_of(behind, 0), item(behind, 8) as u64, (position % 8) as u32)
     } else if first < bytes.len() {
         last_bits(bytes, position)
     } else {

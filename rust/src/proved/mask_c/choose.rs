@@ -3,9 +3,10 @@
 
 use crate::kit::prelude::*;
 use crate::proved::mask_bits::BitChunks;
+use crate::proved::mask_bits::processor::{Moved, moves_bytes};
 use crate::proved::mask_bits::push_rows::{choose_rows, choose_small_rows};
 use crate::proved::mask_bits::room::Lent;
-use crate::proved::mask_bits::small_rows::{ByTable, MoveRows};
+use crate::proved::mask_bits::small_rows::MoveRows;
 
 /// A row of 16 bytes.
 #[derive(Clone, Copy)]
@@ -27,8 +28,8 @@ pub fn row_mask_choose_1(
     rows: &[u8],
     out: &mut [u8],
 ) -> usize {
-    if crate::kit::processor::moves_bytes() && have_many(bytes, offset, len) {
-        choose_small::<6, crate::kit::processor::Moved, _>(bytes, offset, len, rows, out)
+    if moves_bytes() && have_many(bytes, offset, len) {
+        choose_small::<6, Moved, _>(bytes, offset, len, rows, out)
     } else {
         choose(bytes, offset, len, rows, out)
     }

@@ -5,6 +5,7 @@ use crate::kit::prelude::*;
 use crate::proved::mask_bits::BitChunks;
 use crate::proved::mask_bits::blocks::{SPARE, block, ones_in, push_block};
 use crate::proved::mask_bits::room::{Lent, Room};
+use crate::proved::mask_bits::unchecked::put_indices;
 
 /// The index of true value number `n`, counted from 0, and `len` where there is none.
 #[inline]
@@ -71,7 +72,7 @@ fn row_mask_next_indices_any(
     let first = indices_of_blocks(&chunks, from, &mut room);
     let mut at = room.at;
     for i in first..chunks.started_words() {
-        at = indices_of_word(chunks.started_word_proved(i), from + 64 * i, out, at);
+        at = put_indices(chunks.started_word_proved(i), from + 64 * i, out, at);
         if at == out.len() {
             return at;
         }
@@ -111,15 +112,8 @@ fn put_block<R: Room<usize>>(out: &mut R, first: usize, words: &[u64; 4], ones: 
     }
 }
 
-// Writes `first` and the indices of the set bits of a word from there on behind the first `at` indices,
-// as many as there is room for, and answers how many there are then.
-#[inline(always)]
-pub(crate) fn indices_of_word(word: u64, first: usize, out: &mut [usize], at: usize) -> usize {
-    crate::kit::words::put_indices(word, first, out, at)
-}
-
 // Writes the indices of the true values of started word `i` to the front of `block`, and answers how many these are.
 #[inline]
 pub(crate) fn indices_in_word(chunks: &BitChunks, i: usize, block: &mut [usize; 64]) -> usize {
-    indices_of_word(chunks.started_word_proved(i), 64 * i, block, 0)
+    put_indices(chunks.started_word_proved(i), 64 * i, block, 0)
 }

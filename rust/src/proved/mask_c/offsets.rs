@@ -3,6 +3,7 @@
 
 use crate::kit::prelude::*;
 use crate::proved::mask_bits::BitChunks;
+use crate::proved::mask_bits::unchecked::{item, put};
 use crate::proved::mask_c::indices::indices_in_word;
 
 /// An offset of 4 or 8 bytes.
@@ -97,12 +98,12 @@ pub fn row_mask_take_offsets_8(indices: &[usize], offsets: &[u64], out: &mut [u6
 // Offset `i`.
 #[inline]
 pub(crate) fn offset_at<O: Offset>(offsets: &[O], i: usize) -> usize {
-    crate::kit::words::item(offsets, i).get()
+    item(offsets, i).get()
 }
 
 #[inline]
 fn set_offset<O: Offset>(offsets: &mut [O], i: usize, n: usize) {
-    crate::kit::words::put(offsets, i, O::of(n));
+    put(offsets, i, O::of(n));
 }
 
 // How many bytes string `i` has.

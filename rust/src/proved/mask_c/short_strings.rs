@@ -3,6 +3,7 @@
 //! written over that.
 
 use crate::kit::prelude::*;
+use crate::proved::mask_bits::unchecked;
 use crate::proved::mask_c::offsets::{Offset, offset_at, size_at, string_at};
 
 /// How many words of eight bytes to copy for each string, by the strings from the first index to the last: none
@@ -91,21 +92,14 @@ fn put_one<const WORDS: usize>(
 #[inline(always)]
 fn put_words<const WORDS: usize>(bytes: &[u8], begin: usize, out: &mut [u8], at: usize) {
     for j in 0..WORDS {
-        put_eight(bytes, begin + 8 * j, out, at + 8 * j);
+        unchecked::put_eight(bytes, begin + 8 * j, out, at + 8 * j);
     }
-}
-
-// Writes eight bytes. They are a number on the way: two copies, of which one has a size that is known, are compiled as
-// one of any size.
-#[inline(always)]
-fn put_eight(bytes: &[u8], begin: usize, out: &mut [u8], at: usize) {
-    crate::kit::words::put_eight(bytes, begin, out, at);
 }
 
 /// Writes a part of some bytes behind the first `at`, and answers how many there are then.
 #[inline]
 pub(crate) fn put_part(bytes: &[u8], begin: usize, end: usize, out: &mut [u8], at: usize) -> usize {
     let written = at + (end - begin);
-    crate::kit::words::put_part(bytes, begin, end, out, at);
+    unchecked::put_part(bytes, begin, end, out, at);
     written
 }

@@ -3,7 +3,7 @@
 
 use crate::kit::prelude::*;
 use crate::proved::mask_bits::BitChunks;
-use crate::proved::mask_c::indices::indices_of_word;
+use crate::proved::mask_bits::unchecked::put_indices;
 use crate::proved::mask_c::offsets::{Offset, string_at};
 use crate::proved::mask_c::short_strings::{before_last, put_part, put_wide, words_of_each};
 
@@ -90,7 +90,7 @@ fn choose_strings<O: Offset>(
         let ones = word.count_ones() as usize;
         let left = put_if_full(&block[..waiting], ones, offsets, string_bytes, out, at);
         at = left.1;
-        waiting = indices_of_word(word, 64 * i, &mut block, left.0);
+        waiting = put_indices(word, 64 * i, &mut block, left.0);
     }
     put_strings(&block[..waiting], offsets, string_bytes, out, at)
 }

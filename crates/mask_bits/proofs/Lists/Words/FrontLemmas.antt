@@ -1,5 +1,5 @@
 -- Words and first bits of some bytes: what a window shows, and a front that grows by a word.
-use Rattle.mask_bits.proofs.Common.{◌≡◌, ℕ, ◌+◌, ◌*◌, ◌-◌, ◌<◌, ◌≤◌, Bool, false, List, ◌++◌, length, get_or, take, drop, slice_range, refl, sym, ap, ◌∙◌, arith, from_le_bytes, length-append, get_or_append_left, get_or-append_right, get_or_past, get_or-drop, get_or-take, length-between, get_or-between, length-map-range_with_len, get_or-map-range_with_len, fill_by_all, take-put_mid_below, drop-put_mid, between-put_mid, bitmap, Packed, backing_bit, values, word_bits, window, w64, drop-drop, length-take, put_mid}
+use Rattle.mask_bits.proofs.Common.{◌≡◌, ℕ, ◌+◌, ◌*◌, ◌-◌, ◌/◌, ◌%◌, ◌<◌, ◌≤◌, Bool, false, List, ◌++◌, length, get_or, take, drop, slice_range, bit_at, nat_eq, refl, sym, ap, ◌∙◌, arith, from_le_bytes, length-append, get_or_append_left, get_or-append_right, get_or_past, get_or-drop, get_or-take, length-between, get_or-between, length-map-range_with_len, get_or-map-range_with_len, fill_by_all, take-put_mid_below, drop-put_mid, between-put_mid, bitmap, Packed, backing_bit, values, word_bits, window, w64, drop-drop, length-take, put_mid}
 use Rattle.mask_bits.proofs.BufferLemmas.{length-values, get_or-values, values_from_bits, values_from_front}
 use Rattle.mask_bits.proofs.Lists.Words.WordLemmas.{word_bits_from_bits}
 use Rattle.mask_bits.proofs.NumberLemmas.{AreBytes, bit_at-chunk}
@@ -62,6 +62,11 @@ get_or-front bytes n p d h = grind (arith, get_or-values)
 pub front-same : (old new : List ℕ) (n : ℕ) → ((p : ℕ) → p < n → backing_bit new p ≡ backing_bit old p)
     → values (record { bytes = new; offset = 0; len = n }) ≡ values (record { bytes = old; offset = 0; len = n })
 front-same old new n same = grind (arith, values_from_front, length-values (record { bytes = old; offset = 0; len = n }), get_or-front)
+
+-- bytes that are left out have no part in a front
+pub front-taken : (xs : List ℕ) (k n : ℕ) → n ≤ 8 * k → bitmap (take k xs) 0 n ≡ bitmap xs 0 n
+front-taken xs k n few =
+    front-same xs (take k xs) n (λ p h. ap (λ x. nat_eq (bit_at x (p % 8)) 1) (get_or-take k xs (p / 8) 0 (omega arith)))
 
 -- the front of one more whole word
 pub front-more_word : (bytes : List ℕ) (i : ℕ) → values (record { bytes = bytes; offset = 0; len = 64 * (i + 1) }) ≡ values (record { bytes = bytes; offset = 0; len = 64 * i }) ++ window bytes (64 * i)

@@ -1,9 +1,13 @@
 use Rattle.mask_bits.proofs.Common.{◌≡◌, ℕ, ◌*◌, ◌/◌, length, take, chosen, ap, ◌∙◌, refl, sym, arith, take_rest}
-use Rattle.mask_bits.proofs.Lists.PushRowsLemmas.{chosen_of_none, word_room, rest_room, rest_within, rest_pushed, word_pushed}
+use Rattle.mask_bits.proofs.Lists.PushRowsLemmas.{chosen_of_none, part_len, word_room, rest_room, rest_within, rest_pushed, word_pushed}
 use Rattle.mask_bits.proofs.push_rows.choose_small_rows.Goals as goal
 
 pub loop-i-init : goal.loop-i-init
 loop-i-init g c = record { items = c.requires.empty ∙ sym chosen_of_none; kept = refl }
+
+pub push_small_rows-requires-clause-whole : goal.push_small_rows-requires-clause-whole
+push_small_rows-requires-clause-whole g c =
+    part_len c.args.rows.now _ (64 * c.loop-i.i) 64 (omega (arith, c.len-words.ensures, c.requires.fitting, c.loop-i-test.true)) c.part.ensures
 
 pub push_small_rows-requires-clause-room : goal.push_small_rows-requires-clause-room
 push_small_rows-requires-clause-room g c =
@@ -14,7 +18,7 @@ loop-i-preserved g c =
     let m = c.args.chunks.now in
     let i = c.loop-i.i in
     record {
-      items = word_pushed c.args.rows.now (g.R.Room.items c.loop-i.out) (g.R.Room.items c.push_small_rows.new.out) m i 64 c.word.result c.requires.fitting (omega arith) (omega (arith, c.len-words.ensures, c.requires.fitting, c.loop-i-test.true)) c.word.ensures c.loop-i.invariant.items
+      items = word_pushed c.args.rows.now _ (g.R.Room.items c.loop-i.out) (g.R.Room.items c.push_small_rows.new.out) m i 64 c.word.result c.requires.fitting c.part.ensures (omega arith) (omega (arith, c.len-words.ensures, c.requires.fitting, c.loop-i-test.true)) c.word.ensures c.loop-i.invariant.items
           c.push_small_rows.ensures.rows;
       kept = c.push_small_rows.ensures.kept ∙ c.loop-i.invariant.kept;
     }

@@ -1,5 +1,5 @@
-use Rattle.mask_bits.proofs.Common.{ℕ, ◌+◌, ◌*◌, ◌/◌, ◌%◌, ◌∙◌, List, ap, arith, drop, get_or, take_rest, window, word_bits}
-use Rattle.mask_bits.proofs.CombineLemmas.{window-next_byte}
+use Rattle.mask_bits.proofs.Common.{ℕ, Option, ◌+◌, ◌*◌, ◌/◌, ◌%◌, ◌∙◌, List, ap, arith, drop, slice_get, sym, window, word_bits}
+use Rattle.mask_bits.proofs.CombineLemmas.{window-next_item}
 use Rattle.mask_bits.proofs.Lists.Words.FrontLemmas.{window-drop}
 use Rattle.mask_bits.proofs.words.word_at.Goals as goal
 
@@ -7,7 +7,7 @@ pub returns-then-first-bytes : goal.returns-then-first-bytes
 returns-then-first-bytes c =
     let bytes = c.args.bytes.now in
     let p = c.args.position in
-    let same = take_rest bytes (p / 8) in
-    c.funnel_shift.ensures ∙ window-next_byte (drop (p / 8) bytes) (p % 8) 0 _ (word_bits c.word_of.result) (omega arith)
-    (c.word_of.ensures ∙ ap (λ (xs : List ℕ). window xs 0) same) (ap (λ (xs : List ℕ). get_or xs 8 0) same)
+    let same = c.rest-behind.ensures in
+    c.funnel_shift.ensures ∙ window-next_item (drop (p / 8) bytes) (p % 8) 0 _ (word_bits c.word_of.result) (omega arith)
+    (c.word_of.ensures ∙ ap (λ (xs : List ℕ). window xs 0) same) (sym (ap (λ (xs : List ℕ). slice_get xs 8) same) ∙ c.item.ensures)
     ∙ window-drop bytes (p / 8) (p % 8 + 64 * 0) p (omega arith)

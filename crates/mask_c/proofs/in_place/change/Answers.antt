@@ -1,5 +1,5 @@
-use Rattle.mask_c.proofs.Common.{ap, ◌∙◌, arith, length-take, bitmap, combined}
-use Rattle.mask_c.proofs.LastLemmas.{front-appended, front-taken}
+use Rattle.mask_c.proofs.Common.{front-taken, ap, ◌∙◌, arith, length-take, bitmap, combined}
+use Rattle.mask_c.proofs.LastLemmas.{front-appended}
 use Rattle.mask_c.proofs.in_place.change.Goals as goal
 
 pub returns-clause-values : goal.returns-clause-values

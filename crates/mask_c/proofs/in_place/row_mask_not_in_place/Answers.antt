@@ -1,5 +1,5 @@
-use Rattle.mask_c.proofs.Common.{ap, ◌∙◌, arith, length-take, not_of}
-use Rattle.mask_c.proofs.LastLemmas.{front-appended, front-taken}
+use Rattle.mask_c.proofs.Common.{front-taken, ap, ◌∙◌, arith, length-take, not_of}
+use Rattle.mask_c.proofs.LastLemmas.{front-appended}
 use Rattle.mask_c.proofs.in_place.row_mask_not_in_place.Goals as goal
 
 pub returns-clause-values : goal.returns-clause-values

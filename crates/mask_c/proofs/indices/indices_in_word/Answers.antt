@@ -3,8 +3,8 @@ use Rattle.mask_c.proofs.ChooseLemmas.{positions-word_more}
 use Rattle.mask_c.proofs.IndexLemmas.{indices-within}
 use Rattle.mask_c.proofs.indices.indices_in_word.Goals as goal
 
-pub indices_of_word-requires-clause-fits : goal.indices_of_word-requires-clause-fits
-indices_of_word-requires-clause-fits c =
+pub put_indices-requires-clause-fits : goal.put_indices-requires-clause-fits
+put_indices-requires-clause-fits c =
     indices-within c.args.chunks.now (64 * c.args.i) c.args.i c.started_word.result c.started_word.ensures (omega (arith, c.requires.within)) (omega (arith, c.requires.fits, c.requires.within))
 
 pub returns-clause-indices : goal.returns-clause-indices
@@ -16,4 +16,4 @@ returns-clause-indices c =
     positions-word_more m i (omega (arith, c.requires.within))
     ∙ ap (λ (ps : List ℕ). positions (take (64 * i) m) ++ ps)
     (ap (λ x. map (λ p. 64 * i + p) (positions x)) (sym c.started_word.ensures)
-    ∙ sym (c.indices_of_word.ensures.indices ∙ take_all _ here (omega (arith, c.told-block, length-map (positions (word_bits word)) (λ p. 64 * i + p), count-le-length (word_bits word), length-word_bits word))))
+    ∙ sym (c.put_indices.ensures.indices ∙ take_all _ here (omega (arith, c.told-block, length-map (positions (word_bits word)) (λ p. 64 * i + p), count-le-length (word_bits word), length-word_bits word))))

@@ -8,8 +8,8 @@ returns-then-from-len-clause-indices c = grind (arith, drop_of_length-le, length
 pub returns-then-from-len-clause-count : goal.returns-then-from-len-clause-count
 returns-then-from-len-clause-count c = grind (arith, drop_of_length-le, length-bitmap)
 
-pub indices_of_word-at-requires-clause-fits : goal.indices_of_word-at-requires-clause-fits
-indices_of_word-at-requires-clause-fits c =
+pub put_indices-at-requires-clause-fits : goal.put_indices-at-requires-clause-fits
+put_indices-at-requires-clause-fits c =
     let len = c.new-chunks.ensures.len in
     indices-within c.new-chunks.result (c.args.from + 64 * c.loop-i.i) c.loop-i.i c.started_word.result c.started_word.ensures (omega arith) (omega (arith, c.if-from-len.false))
 
@@ -18,7 +18,7 @@ loop-i-preserved c =
     let m = c.new-chunks.result in
     let i = c.loop-i.i in
     let was = c.loop-i.invariant in
-    let put = c.indices_of_word-at in
+    let put = c.put_indices-at in
     let n = length c.loop-i.out in
     let len = c.new-chunks.ensures.len in
     record {
@@ -34,7 +34,7 @@ returns-then-at-out c =
     let size : length c.loop-i.out ≡ length c.args.out.now = omega (arith, c.loop-i.auto.out) in
     let i = c.loop-i.i in
     let was = c.loop-i.invariant in
-    let put = c.indices_of_word-at in
+    let put = c.put_indices-at in
     let n = length c.loop-i.out in
     let len = c.new-chunks.ensures.len in
     let many = word_counted m i c.loop-i.at put.result _ n c.started_word.ensures was.counted put.ensures.count in

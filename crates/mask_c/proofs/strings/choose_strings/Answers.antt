@@ -15,8 +15,8 @@ put_strings-requires-clause-room g c =
     let ls = sizes (map g.O.Offset.number c.args.offsets.now) in
     omega (arith, c.loop-i.invariant.size, sum-below ls c.args.chunks.now (64 * c.loop-i.i), c.requires.room, c.loop-i.auto.out)
 
-pub indices_of_word-waiting-requires-clause-fits : goal.indices_of_word-waiting-requires-clause-fits
-indices_of_word-waiting-requires-clause-fits g c =
+pub put_indices-waiting-requires-clause-fits : goal.put_indices-waiting-requires-clause-fits
+put_indices-waiting-requires-clause-fits g c =
     indices-within c.args.chunks.now (64 * c.loop-i.i) c.loop-i.i c.started_word-word.result c.started_word-word.ensures (omega arith) (omega arith)
 
 pub loop-i-preserved : goal.loop-i-preserved
@@ -28,7 +28,7 @@ loop-i-preserved g c =
     let word = c.started_word-word.result in
     let so_far = c.loop-i.invariant in
     let left = c.put_if_full-left in
-    let put = c.indices_of_word-waiting in
+    let put = c.put_indices-waiting in
     let here : List ℕ = map (λ p. 64 * i + p) (positions (word_bits word)) in
     let kept : List ℕ = take left.result.0 c.loop-i.block in
     let waits : take left.result.0 (take c.loop-i.waiting c.loop-i.block) ≡ kept = take-take left.result.0 c.loop-i.waiting c.loop-i.block (omega (arith, left.ensures.within, length-take c.loop-i.waiting c.loop-i.block)) in

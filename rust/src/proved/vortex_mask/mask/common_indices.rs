@@ -2,6 +2,8 @@
 //! The indices that two ascending lists have in common.
 
 use crate::kit::prelude::*;
+use crate::proved::mask_bits::unchecked::{item, put};
+
 /// The indices that both lists have, in the shorter one's room.
 #[inline]
 pub(crate) fn common(lhs: Vec<usize>, rhs: Vec<usize>) -> Vec<usize> {
@@ -136,7 +138,8 @@ fn eight_steps(list: &mut [usize], other: &[usize], at: Places) -> Places {
 // were kept before. With no branch, since it can't be foreseen which one is lower.
 #[inline]
 fn step(list: &mut [usize], other: &[usize], at: Places) -> Places {
-    let (left, right) = crate::kit::words::kept(list, other, at.list, at.other, at.found);
+    let (left, right) = (item(list, at.list), item(other, at.other));
+    put(list, at.found, left);
     Places {
         list: at.list + (left <= right) as usize,
         other: at.other + (right <= left) as usize,

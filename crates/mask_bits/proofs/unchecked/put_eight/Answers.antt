@@ -1,6 +1,6 @@
-use Rattle.mask_c.proofs.Common.{◌+◌, ◌-◌, ◌∙◌, arith, rules, drop-put_mid}
-use Rattle.mask_c.proofs.ShortStringLemmas.{eight-bytes}
-use Rattle.mask_c.proofs.short_strings.put_eight.Goals as goal
+use Rattle.mask_bits.proofs.Common.{◌+◌, ◌-◌, ◌∙◌, arith, rules, drop-put_mid}
+use Rattle.mask_bits.proofs.UncheckedLemmas.{eight-bytes}
+use Rattle.mask_bits.proofs.unchecked.put_eight.Goals as goal
 
 pub returns-clause-bytes : goal.returns-clause-bytes
 returns-clause-bytes c =

@@ -1,5 +1,5 @@
-use Rattle.mask_c.proofs.Common.{◌≡◌, ◌+◌, ◌<◌, ◌≤◌, ◌^◌, ◌++◌, length, map, take, All, count, positions, word_bits}
-use Rattle.mask_c.proofs.indices.indices_of_word.Given as goal
+use Rattle.mask_bits.proofs.Common.{◌≡◌, ◌+◌, ◌<◌, ◌≤◌, ◌^◌, ◌++◌, length, map, take, All, count, positions, word_bits}
+use Rattle.mask_bits.proofs.unchecked.put_indices.Given as goal
 
 -- the indices so far and those of the bits that are left are the indices of the word
 abbrev pub invariant-loop-word : goal.invariant-loop-word

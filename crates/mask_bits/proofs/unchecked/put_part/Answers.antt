@@ -1,5 +1,5 @@
-use Rattle.mask_c.proofs.Common.{◌+◌, ◌-◌, arith, drop-put_mid}
-use Rattle.mask_c.proofs.short_strings.put_part.Goals as goal
+use Rattle.mask_bits.proofs.Common.{◌+◌, ◌-◌, arith, drop-put_mid}
+use Rattle.mask_bits.proofs.unchecked.put_part.Goals as goal
 
 pub returns-clause-behind : goal.returns-clause-behind
 returns-clause-behind c =

@@ -1,6 +1,9 @@
-use Rattle.mask_c.proofs.Common.{ℕ, suc, set, ◌≡◌, ◌<◌, ◌-◌, ◌+◌, ◌^◌, ◌++◌, ◌∷◌, [], List, length, map, take, subst, sym, ap, ◌∙◌, append_assoc, inl, inr, arith, take-suc-set, bit_and, All, length-set, length-take, All-head, All-tail, positions, word_bits, low, positions-lowest, no_places}
-use Rattle.mask_c.proofs.IndexLemmas.{stopped}
-use Rattle.mask_c.proofs.indices.indices_of_word.Goals as goal
+use Rattle.mask_bits.proofs.Common.{ℕ, suc, set, ◌≡◌, ◌<◌, ◌-◌, ◌+◌, ◌^◌, ◌++◌, ◌∷◌, [], List, length, map, take, subst, sym, ap, ◌∙◌, append_assoc, inl, inr, arith, take-suc-set, bit_and, All, length-set, length-take, All-head, All-tail, positions, word_bits}
+use Rattle.mask_bits.proofs.Lists.Places.PushLemmas.{no_places}
+use Rattle.mask_bits.proofs.Lists.Places.SelectLemmas.{positions-lowest}
+use Rattle.mask_bits.proofs.Lists.Words.LowestLemmas.{low}
+use Rattle.mask_bits.proofs.UncheckedLemmas.{stopped}
+use Rattle.mask_bits.proofs.unchecked.put_indices.Goals as goal
 
 pub overflow_add-out : goal.overflow_add-out
 overflow_add-out c = grind (arith, positions-lowest, All-head)

@@ -1,7 +1,7 @@
 use Rattle.mask_bits.proofs.Common.{ℕ, ◌+◌, ◌*◌, ◌<◌, List, subst, length, get_or, ap, sym, ◌∙◌, arith, rules, from_le_bytes-to_le_bytes_8, from_le_bytes, word_bits, w64}
 use Rattle.mask_bits.proofs.Lists.Words.FrontLemmas.{word_bits-chunk, get_or-put_mid_inside}
 use Rattle.mask_bits.proofs.NumberLemmas.{bytes-of_word}
-use Rattle.mask_bits.proofs.words.set_word.Goals as goal
+use Rattle.mask_bits.proofs.unchecked.set_word.Goals as goal
 
 pub returns-clause-here : goal.returns-clause-here
 returns-clause-here c =
