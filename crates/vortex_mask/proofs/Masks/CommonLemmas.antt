@@ -211,7 +211,7 @@ pub goes-by : (xs ys new : List ℕ) (i j n x y : ℕ) → IsStrictlyIncreasing 
     → GoesOn xs new ys i j n (i + bool_byte (nat_le x y)) (j + bool_byte (nat_le y x)) (n + bool_byte (nat_eq x y))
 goes-by xs ys new i j n x y b w left right put =
     rw (put, ← get_or_from_slice_get xs i x 0 left, ← get_or_from_slice_get ys j y 0 right)
-      (goes-step xs ys i j n b (slice_get_within xs i x left) (slice_get_within ys j y right) w)
+    (goes-step xs ys i j n b (slice_get_within xs i x left) (slice_get_within ys j y right) w)
 
 -- and its end
 pub merge_is_over : (xs ys : List ℕ) (i j n : ℕ) → IsUnderWay xs ys i j n → (length xs ≤ i) ⊎ (length ys ≤ j) → take n xs ≡ comes_to xs ys i j n
