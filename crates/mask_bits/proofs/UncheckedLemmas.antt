@@ -1,5 +1,5 @@
 -- What is put into room that a caller lends: bytes by words, and indices as far as there is room.
-use Rattle.mask_bits.proofs.Common.{◌≡◌, ℕ, ◌+◌, ◌-◌, ◌*◌, ◌<◌, ◌≤◌, ◌⊎◌, List, [], ◌++◌, length, get_or, take, drop, slice_range, ap, ◌∙◌, arith, append-nil, take_all, take_at, length-take, length-drop, get_or_past, get_or-between, le_bytes_8, take-put_mid, put_mid, from_le_bytes, to_le_bytes, w64}
+use Rattle.mask_bits.proofs.Common.{◌≡◌, ℕ, ◌+◌, ◌-◌, ◌<◌, ◌≤◌, ◌⊎◌, List, [], ◌++◌, length, get_or, take, drop, slice_range, ap, ◌∙◌, arith, append-nil, take_all, take_at, length-take, length-drop, get_or_past, get_or-between, le_bytes_8, take-put_mid, put_mid, from_le_bytes, to_le_bytes, w64}
 
 -- ---- bytes
 

@@ -1,5 +1,5 @@
 -- The indices of true values from an index on, one started word after another, as many as there is room for.
-use Rattle.mask_c.proofs.Common.{◌≡◌, ℕ, ◌+◌, ◌-◌, ◌*◌, ◌^◌, ◌<◌, ◌≤◌, ◌⊎◌, Bool, List, [], ◌++◌, length, take, drop, map, min, slice_range, refl, sym, ap, ◌∙◌, add-zero, add_assoc, append-nil, arith, All, cases_lt, length-drop, length-map, length-take, map-append, take-append-drop, take-append-le, take_all, take_at, All-weaker, map-map, bitmap, count, indices_from, positions, padded_part, word_bits, length-bitmap, count-word_more, indices_from-append, indices_from-moved, block-more}
+use Rattle.mask_c.proofs.Common.{◌≡◌, ℕ, ◌+◌, ◌-◌, ◌*◌, ◌^◌, ◌<◌, ◌≤◌, Bool, List, ◌++◌, length, take, drop, map, min, slice_range, refl, sym, ap, ◌∙◌, add-zero, add_assoc, arith, All, cases_lt, length-drop, length-map, length-take, map-append, take-append-drop, take-append-le, take_all, take_at, All-weaker, map-map, bitmap, count, indices_from, positions, padded_part, word_bits, length-bitmap, count-word_more, indices_from-append, indices_from-moved, block-more}
 use Rattle.mask_c.proofs.BitmapLemmas.{bitmap-part}
 use Rattle.mask_c.proofs.ChooseLemmas.{part-within, positions-word_more}
 

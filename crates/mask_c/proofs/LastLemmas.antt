@@ -1,5 +1,5 @@
 -- The last values of a bitmap that is written, and the values before them.
-use Rattle.mask_c.proofs.Common.{common_steps, get_or-set_at, ◌≡◌, ℕ, nat_eq, set, ◌^◌, ◌+◌, ◌-◌, ◌*◌, ◌/◌, ◌%◌, ◌<◌, ◌≤◌, ◌&&◌, Bool, true, false, List, [], ◌∷◌, ◌++◌, append-nil, length, get_or, take, drop, refl, sym, ap, ap₂, ◌∙◌, arith, bit_at, div_ceil, bit_and, drop-append_seam, slice_range, subst, length-between, cases_eq, get_or-take, get_or_append_left, get_or_past, length-append, length-drop, length-take, length-take-le, take-append-drop, take-take, take_at, one_shl, bit_at-zero, bitmap, backing_bit, values_so_far, combined, count, count_below, rank_intersection, repeated, padded_part, padded_remainder, window, word_bits, AreClearBehind, get_or-set_other, combined-append, all_true_from_count, count-append, count-repeated_false, get_or-padded, trues, count-le-length, count-trues, length-rank_intersection, rank_intersection_value, get_or-padded_part, padded_part_from_values, bit_at-low_mask, bit_at-past_mask, get_or-word_bits, length-word_bits, narrow, rank_intersection-all_true, rank_intersection-narrow, bitmap-append, bitmap-drop, front-split, length-bitmap, length-window, front-same, front-taken, get_or-bitmap, get_or-put_mid_inside, get_or-window, put-before, window_from_bits, window-take}
+use Rattle.mask_c.proofs.Common.{common_steps, get_or-set_at, ◌≡◌, ℕ, nat_eq, set, ◌^◌, ◌+◌, ◌-◌, ◌*◌, ◌/◌, ◌%◌, ◌<◌, ◌≤◌, ◌&&◌, Bool, true, false, List, [], ◌∷◌, ◌++◌, append-nil, length, get_or, take, drop, refl, sym, ap, ap₂, ◌∙◌, arith, bit_at, div_ceil, bit_and, drop-append_seam, slice_range, subst, length-between, cases_eq, get_or-take, get_or_append_left, get_or_past, length-append, length-drop, length-take, length-take-le, take-append-drop, take-take, take_at, one_shl, bit_at-zero, bitmap, backing_bit, values_so_far, combined, count, count_below, rank_intersection, repeated, padded_part, padded_remainder, window, word_bits, AreClearBehind, get_or-set_other, combined-append, all_true_from_count, count-append, count-repeated_false, get_or-padded, trues, count-le-length, count-trues, length-rank_intersection, rank_intersection_value, get_or-padded_part, padded_part_from_values, bit_at-low_mask, bit_at-past_mask, get_or-word_bits, length-word_bits, narrow, rank_intersection-all_true, rank_intersection-narrow, bitmap-append, bitmap-drop, front-split, length-bitmap, length-window, front-same, get_or-bitmap, get_or-put_mid_inside, get_or-window, put-before, window_from_bits}
 use borrow.Rule.Slice.PartMut.{put_mid}
 
 -- ---- a front

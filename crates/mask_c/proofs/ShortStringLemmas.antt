@@ -1,6 +1,5 @@
 -- Short strings: whole words that are written for them, and how many come before the last ones.
-use Rattle.mask_c.proofs.Common.{◌≡◌, ℕ, Bool, subst, ◌+◌, ◌-◌, ◌*◌, ◌<◌, ◌≤◌, List, ◌++◌, append_assoc, length, get_or, take, drop, slice_range, slice_get, Some, sym, ap, ◌∙◌, arith, w64, from_le_bytes, to_le_bytes, All, concat, sum, get_or_past, length-append, length-drop, length-take, take-append-drop, take-take, take_all, take_at, get_or-between, All-append, All-take, concat-append, le_bytes_8, take-put_mid, positions, items_at}
-use borrow.Rule.Slice.PartMut.{put_mid}
+use Rattle.mask_c.proofs.Common.{◌≡◌, ℕ, Bool, subst, ◌+◌, ◌-◌, ◌*◌, ◌<◌, ◌≤◌, List, ◌++◌, append_assoc, length, get_or, take, drop, slice_range, slice_get, Some, sym, ap, ◌∙◌, arith, All, concat, sum, length-append, length-drop, length-take, take-append-drop, take-take, take_all, take_at, All-append, All-take, concat-append, positions, items_at}
 use Rattle.mask_c.proofs.StringLemmas.{bytes-word, concat-more, items_at-append, items_at-more, range-join, sum-parts, word-within}
 
 length-range : (bytes : List ℕ) (a b : ℕ) → a ≤ b → b ≤ length bytes → length (slice_range bytes a b) ≡ b - a

@@ -1,4 +1,4 @@
-use Rattle.mask_bits.proofs.Common.{ℕ, Option, ◌+◌, ◌*◌, ◌/◌, ◌%◌, ◌∙◌, List, ap, arith, drop, slice_get, sym, window, word_bits}
+use Rattle.mask_bits.proofs.Common.{ℕ, ◌+◌, ◌*◌, ◌/◌, ◌%◌, ◌∙◌, List, ap, arith, drop, slice_get, sym, window, word_bits}
 use Rattle.mask_bits.proofs.CombineLemmas.{window-next_item}
 use Rattle.mask_bits.proofs.Lists.Words.FrontLemmas.{window-drop}
 use Rattle.mask_bits.proofs.words.word_at.Goals as goal
