@@ -86,9 +86,29 @@ RULES = [
 LEFT = re.compile(r"\b(ghost|requires|ensures|tactic|Model|alloc|Global|laws|prove|unreachable_unchecked)\b|[^\x00-\x7f]")
 
 
+LAW = re.compile(r"\blaws::\w+(?:::<[^>]*>)?\(((?:[^()]|\([^()]*\))*)\)")
+
+
+def without_effect(text):
+    """Refuses calls of laws that may do something: these are taken out with all that stands in them.
+
+    >>> without_effect("laws::runs_are_the_list(&ranges); laws::f::<u8>(a, &b.c);")
+    >>> without_effect("laws::f(cut(&mut v));")
+    Traceback (most recent call last):
+    erasing.tokens.Fault: `laws::f(cut(&mut v))` may do something
+    >>> without_effect("laws::f(&mut v);")
+    Traceback (most recent call last):
+    erasing.tokens.Fault: `laws::f(&mut v)` may do something
+    """
+    for it in LAW.finditer(text):
+        if not re.fullmatch(r"[\s&\w.,:]*", it[1]) or re.search(r"\bmut\b", it[1]):
+            raise Fault(f"`{it[0]}` may do something")
+
+
 def changed(crate, text, found, twins):
     """The text by all rules, with calls of those that have the body."""
     masked = Masked(text)
+    without_effect(masked.text)
     for rule, pattern, into in RULES:
         if rule == QUICKEST and crate not in INSIDE:
             continue

@@ -31,6 +31,11 @@ class Condition:
     'crate::kit::conditions::are_below(ks, b.true_count())'
     >>> Condition({}, "F.IsAlwaysCallable test").test() is None
     True
+    >>> Condition({"offset": "usize", "len": "usize"}, "offset / 8 ≤ len").test()
+    'offset / 8 <= len'
+    >>> Condition({"size": "usize"}, "8 / size < 9").test()
+    Traceback (most recent call last):
+    erasing.tokens.Fault: `8 / size < 9` divides by what may be 0
     """
 
     def __init__(self, types, words):
@@ -93,7 +98,11 @@ class Condition:
     def chain(self, wide):
         made = self.atom(wide)
         while self.left and self.left[0] in "+*/":
-            made += f" {self.left.pop(0)} {self.atom(wide)}"
+            sign = self.left.pop(0)
+            if sign == "/" and not re.fullmatch(r"[1-9]\d*", self.left[0]):
+                # (in the logic that is a number, and Rust panics)
+                raise Fault(f"`{self.words}` divides by what may be 0")
+            made += f" {sign} {self.atom(wide)}"
         return made
 
     def atom(self, wide):

@@ -502,9 +502,17 @@ def arm(fields, text):
 
     >>> arm("{ at: usize", '"at {at}"'), arm("(AllocError", '"no memory"'), arm("(MaskError", "transparent")
     (' { at } => write!(f, "at {at}")', '(..) => f.write_str("no memory")', '(it) => core::fmt::Display::fmt(it, f)')
+    >>> arm("(usize", '"at {0}"')
+    Traceback (most recent call last):
+    erasing.tokens.Fault: the text "at {0}" of a variant without named fields has braces
+    >>> arm("", '"{{}}"')
+    Traceback (most recent call last):
+    erasing.tokens.Fault: the text "{{}}" of a variant without named fields has braces
     """
     if text == "transparent":
         return "(it) => core::fmt::Display::fmt(it, f)"
+    if not fields.startswith("{") and re.search(r"[{}]", text):
+        raise Fault(f"the text {text} of a variant without named fields has braces")
     if not fields.startswith("{"):
         return f"{'(..)' if fields else ''} => f.write_str({text})"
     names = re.findall(r"(\w+):", fields)
