@@ -1,8 +1,7 @@
 //! Words of 64 bits of some bytes: read, written, and made of two neighbors.
 
-ghost use Rattle.std.specs.Prelude.{◌≡◌, ◌+◌, ◌*◌, ◌/◌, ◌<◌, ◌≤◌, ◌^◌, ℕ, length, take, drop};
-ghost use Rattle.std.specs.Prelude.{◌⊎◌, ◌++◌, ◌-◌, false, slice_range};
-ghost use Rattle.mask_bits.specs.Buffer.{backing_bit};
+ghost use Rattle.std.specs.Prelude.{◌≡◌, ◌+◌, ◌*◌, ◌/◌, ◌<◌, ◌≤◌, ◌^◌, length, take, drop};
+ghost use Rattle.std.specs.Prelude.{◌++◌, ◌-◌, false, slice_range};
 ghost use Rattle.mask_bits.specs.Words.{window, word_bits, started_words};
 ghost use Rattle.mask_bits.specs.Positions.{repeated};
 

@@ -6,7 +6,7 @@ pub use Rattle.vortex_mask.proofs.Common.{drop_more, ext_get_or, false, get_or, 
 pub use Rattle.vortex_mask.proofs.Common.{get_or_from_slice_get, get_or_past, indices_from, inl, inr, length, length-append, length-between, length-drop, length-map, length-map-range_with_len, length-replicate, length-set, length-take}
 pub use Rattle.vortex_mask.proofs.Common.{list_any, list_any-append, list_any_more, list_any_none, map, map-append, map-id, map-map, min, nat_eq, nat_tests, ne_eqb, nil_from_length, not, not_of, one_shl, option_map, or-false, or_comm}
 pub use Rattle.vortex_mask.proofs.Common.{padded_part, padded_remainder, positions, range_with_len, rank_intersection, refl, replicate, set, slice_get, slice_get-get_or, slice_range, subst, suc, sym, take, take-add, take-append-drop}
-pub use Rattle.vortex_mask.proofs.Common.{take_all, take_at, take_more, true, zero, ℕ, ◌%◌, ◌&&◌, ◌*◌, ◌++◌, ◌+◌, ◌-◌, ◌/◌, ◌<◌, ◌^◌, ◌||◌, ◌↔◌, ◌∙◌, ◌∷◌, ◌≡◌, ◌≢◌, ◌≤◌, ◌⊎◌}
+pub use Rattle.vortex_mask.proofs.Common.{take_all, take_at, take_more, true, zero, ℕ, ◌%◌, ◌&&◌, ◌*◌, ◌++◌, ◌+◌, ◌-◌, ◌/◌, ◌<◌, ◌^◌, ◌||◌, ◌↔◌, ◌∙◌, ◌∷◌, ◌≡◌, ◌≢◌, ◌≤◌}
 unfoldable pub use Rattle.mask_bits.proofs.Common.{chosen}
 pub use Rattle.mask_bits.proofs.Common.{IsNonDecreasing, bits_of_words, combined, cons_option, drop-put_mid, get_or-between, items_where_true, runs_from, shr_and_one, slice_get-map, take-append-le, take_rest, values_so_far}
 pub use Rattle.mask_c.specs.Bitmap.{AreClearBehind, IsFilled, IsSubset}
@@ -31,21 +31,16 @@ pub use Rattle.mask_bits.proofs.Lists.ChooseLemmas.{chosen_at_positions}
 pub use Rattle.mask_bits.proofs.Lists.CountLemmas.{all_false_from_count, all_true_from_count, count-append, count-repeated_false, count_below-le, get_or-padded, get_or-repeated, length-repeated}
 pub use Rattle.mask_bits.proofs.Lists.LawLemmas.{chosen-items_where_true, length-chosen, length-rank_intersection, rank_intersection_value}
 pub use Rattle.mask_bits.proofs.Lists.Places.PlaceLemmas.{count-le-length, count-trues, positions-within, trues}
-pub use Rattle.mask_bits.proofs.Lists.Places.PushLemmas.{no_places}
-pub use Rattle.mask_bits.proofs.Lists.Places.SelectLemmas.{count-part_further, count-word_more, indices_from-append, indices_from-moved, places-word_more, positions-lowest}
+pub use Rattle.mask_bits.proofs.Lists.Places.SelectLemmas.{count-part_further, count-word_more, indices_from-append, indices_from-moved, places-word_more}
 pub use Rattle.mask_bits.proofs.Lists.RankLemmas.{length-true_at, narrow, rank_intersection-all_true, rank_intersection-narrow}
 pub use Rattle.mask_bits.proofs.Lists.Runs.RunLemmas.{runs_from-moved}
 pub use Rattle.mask_bits.proofs.Lists.Words.BackingBitLemmas.{bit-window, bitmap-append, bitmap-drop, front-split, get_or-bitmap, length-bitmap, no_values}
 pub use Rattle.mask_bits.proofs.Lists.Words.BlockLemmas.{block-more, indices-none}
 pub use Rattle.mask_bits.proofs.Lists.Words.FrontLemmas.{behind-further, behind-later, front-same, front-taken, get_or-put_mid_above, get_or-put_mid_below, get_or-put_mid_inside, get_or-window, length-window, put-before, window-take, window_from_bits}
-pub use Rattle.mask_bits.proofs.Lists.Words.LowestLemmas.{low}
 pub use Rattle.mask_bits.proofs.Lists.Words.PaddedLemmas.{get_or-padded_part, length-padded_part, padded_part-whole, padded_part_from_values}
 pub use Rattle.mask_bits.proofs.Lists.Words.ShiftLemmas.{bit_at-low_mask, bit_at-mod, bit_at-past_mask, bit_at-shl_high, bit_at-shl_low, get_or-word_bits_or}
 pub use Rattle.mask_bits.proofs.Lists.Words.WordLemmas.{count-word_bits, get_or-word_bits, length-word_bits}
 pub use Rattle.mask_c.specs.declared.runs.RowMaskRun.{RowMaskRun}
-pub use Rattle.std.proofs.lemmas.Nat.{le_bytes_8}
-pub use Rattle.std.proofs.lemmas.Slice.{take-put_mid}
-pub use Rattle.std.specs.Int.{from_le_bytes, to_le_bytes, w64}
 pub use Rattle.vortex_mask.proofs.Lists.DepositLawLemmas.{deposit_is_rank_intersection}
 pub use Rattle.vortex_mask.proofs.Lists.DepositedWordLemmas.{deposit_is_word_of_rank_intersection, started_words_are_the_list}
 pub use Rattle.vortex_mask.proofs.Lists.PlaceListLemmas.{ascending-take, bit_of_pow, narrowed_at, none-is, rises_to}

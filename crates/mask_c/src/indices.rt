@@ -1,10 +1,10 @@
 //! The indices of the true values of a bitmap: by number, from an index on, and the last.
 
-ghost use Rattle.std.specs.Prelude.{◌≡◌, ◌-◌, ◌+◌, ◌*◌, ◌<◌, ◌≤◌, ◌^◌, ◌++◌, All, [], drop, length, map, min, not, slice_index_or, Some, slice_get, take, true};
+ghost use Rattle.std.specs.Prelude.{◌≡◌, ◌-◌, ◌+◌, ◌*◌, ◌<◌, ◌≤◌, ◌^◌, ◌++◌, [], drop, length, map, min, not, slice_index_or, Some, slice_get, take, true};
 ghost use Rattle.mask_bits.specs.Bitmap.{bitmap};
 ghost use Rattle.mask_bits.specs.Buffer.{IsWithinBytes, backing_bit};
 ghost use Rattle.mask_bits.specs.Positions.{IsFirstFrom, count, indices_from, positions};
-ghost use Rattle.mask_bits.specs.Words.{bits_of_words, started_words, word_bits};
+ghost use Rattle.mask_bits.specs.Words.{bits_of_words, started_words};
 
 use mask_bits::BitChunks;
 use mask_bits::blocks::{SPARE, block, ones_in, push_block};
