@@ -1,6 +1,7 @@
 //! What the proved sources take of Rattle's library, over Rust's own: lists whose growth is refused by an error, shared
-//! bytes, text and lanes. Beside it, what the processor has, loops over its instructions, and tests of conditions, which
-//! call proved modules. It is written by hand, and trusted. `README.md` lists all that is.
+//! bytes, text and lanes. Beside it stand `unchecked` and `processor`, in place of proved modules; `processor` also has
+//! loops over instructions. Tests of conditions call proved modules. All of it is written by hand, and trusted.
+//! `README.md` lists all that is.
 
 mod bytes;
 pub mod conditions;

@@ -1,5 +1,5 @@
 //! What the processor has that a program runs on, where it isn't compiled for that: x86-64-v3, and the instructions PDEP
-//! and PEXT where these are quick.
+//! and PEXT where these are quick. What is `pub` here stands in place of the proved module `mask_bits::processor`.
 #![allow(clippy::inline_always, reason = "each is compiled for what the function around it has")]
 
 use crate::proved::mask_bits::room::Room;
