@@ -29,12 +29,14 @@ mod exports;
 #[allow(dead_code, unused_imports, unused_macros, reason = "the package of Rust has more of it")]
 #[path = "../../rust/src"]
 mod rust {
+    pub mod conditions;
     pub mod kit;
+    pub mod native;
     pub mod proved;
 }
 
 use core::slice;
-use rust::{kit, proved};
+use rust::{conditions, kit, native, proved};
 
 // All that is unsafe here rests on what `row_mask.h` asks of a caller. Each pointer points to as many items as the argument
 // behind it says, aligned, and nothing else writes to these during the call. What is written overlaps nothing else that

@@ -43,7 +43,7 @@ SAME = {"std::process::ExitCode"}
 # Traits whose implementations have to be lawful, which no compiler sees.
 LAWFUL = ["DepositBits", "SelectBit", "ExtractBits"]
 # Modules that have one by hand in their place.
-REPLACED = {"mask_bits::processor": "crate::kit::processor", "mask_bits::unchecked": "crate::kit::unchecked"}
+REPLACED = {"mask_bits::processor": "crate::native::processor", "mask_bits::unchecked": "crate::kit::unchecked"}
 # What only the package's own calls do.
 QUICKEST = "the processor's deposits"
 # Tests of rows that calls by hand hand on to private functions may count what they are asked.
@@ -77,11 +77,11 @@ RULES = [
     ("`fmt`", r"fn fmt<W: fmt::Write>\(&self, f: &mut fmt::Formatter<W>\)", "fn fmt(&self, f: &mut fmt::Formatter<'_>)"),
     ("`fmt`", r"\b([\w.()]+)\.fmt\(f\)", r"fmt::Debug::fmt(\1, f)"),
     ("the program's handle", r"\b(e?println)!\(rt;\s*", r"crate::host::\1!(rt; "),
-    (QUICKEST, r"\b([\w:]+)::<Portable(, _)?>\(([^()]*)\)", r"crate::kit::quickest!(\1::<Portable\2>(\3))"),
-    (QUICKEST, r"\bPortable::(deposit_bits)\(([^()]*)\)", r"crate::kit::quickest!(Portable::\1(\2))"),
+    (QUICKEST, r"\b([\w:]+)::<Portable(, _)?>\(([^()]*)\)", r"crate::native::quickest!(\1::<Portable\2>(\3))"),
+    (QUICKEST, r"\bPortable::(deposit_bits)\(([^()]*)\)", r"crate::native::quickest!(Portable::\1(\2))"),
     (CLOSURES, r"\bF: Fn(\(&T\) -> bool>\([^()]*\btest: &)F\b", r"F: FnMut\1mut F"),
     (CLOSURES, r"(\bput_answers\([^()]*), &test\)", r"\1, &mut { test })"),
-    (QUICKEST, r"(?<!fn )\bdeposits_by_loop\(", "crate::kit::processor::by_loop("),
+    (QUICKEST, r"(?<!fn )\bdeposits_by_loop\(", "crate::native::by_loop("),
 ]
 LEFT = re.compile(r"\b(ghost|requires|ensures|tactic|Model|alloc|Global|laws|prove|unreachable_unchecked)\b|[^\x00-\x7f]")
 

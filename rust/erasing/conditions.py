@@ -14,8 +14,7 @@ MET = [
     r"ForValue self \(λ x\. IsOnlyClone T\.is_clone x\.now\)",
 ]
 NUMBER = re.compile(r"\d+|usize\.MAX|[\w.]+|[()+*/^]|[≤<≡]|\S")
-TESTS = "crate::kit::conditions"
-PROVED = "crate::proved::vortex_mask::conditions"
+TESTS = "crate::conditions"
 
 
 class Condition:
@@ -28,7 +27,7 @@ class Condition:
     >>> Condition({"i": "usize", "chunks": "&BitChunks<'_>"}, "64 * i < length chunks.now").test()
     '64 * (i as u128) < ((64 * chunks.len() + chunks.remainder_len()) as u128)'
     >>> Condition({"ks": "&[usize]"}, "All (λ k. k < count (values b.now)) ks.now").test()
-    'crate::kit::conditions::are_below(ks, b.true_count())'
+    'crate::conditions::are_below(ks, b.true_count())'
     >>> Condition({}, "F.IsAlwaysCallable test").test() is None
     True
     >>> Condition({"offset": "usize", "len": "usize"}, "offset / 8 ≤ len").test()
@@ -51,10 +50,10 @@ class Condition:
             return None
         forms = [
             (r"All \(λ (\w+)\. \1 ([<≤]) (.+)\) (\S+)", self.each),
-            (r"IsStrictlyIncreasing (\S+)", lambda it: f"{TESTS}::ascends({self.lent(it)})"),
+            (r"IsStrictlyIncreasing (\S+)", lambda it: f"{TESTS}::are_ascending({self.lent(it)})"),
             (r"IsNonDecreasing (\S+)", lambda it: f"{self.place(it)}.is_sorted()"),
             (r"IsWithinBytes (\S+) (\S+) (\S+)", lambda b, o, n: f"{TESTS}::are_within({self.place(b)}, {o}, {n})"),
-            (r"IsStack \(truth self\.now ∷ map truth (\w+)\.now\)", lambda ms: f"{PROVED}::are_a_stack(self, {ms})"),
+            (r"IsStack \(truth self\.now ∷ map truth (\w+)\.now\)", lambda ms: f"{TESTS}::are_a_stack(self, {ms})"),
             (r"AreRanges \(values (\w+)\) (\w+)\.items", lambda b, rs: f"{TESTS}::are_ranges(&{b}, &{rs})"),
             (r"EachRunFrom \w+\.next_gives (\w+) IsAscending", self.ascending_items),
             (r"EachRunFrom \w+\.next_gives (\w+) \(AreRanks \((.+)\) (\w+)\)", self.ranks),
@@ -72,7 +71,7 @@ class Condition:
 
     def ascending_items(self, items):
         self.listed.append(items)
-        return f"{TESTS}::ascends(&{items})"
+        return f"{TESTS}::are_ascending(&{items})"
 
     def ranks(self, items, values, count):
         self.listed.append(items)

@@ -6,7 +6,7 @@ from erasing.marks import Marks
 
 # What x86-64-v3 has above plain x86-64, as far as loops gain by it.
 FEATURES = "avx2,bmi1,bmi2,f16c,fma,lzcnt,movbe,popcnt"
-PEXT = [(r"\b(extract|put_pairs)\(", r"crate::kit::processor::\1(")]
+PEXT = [(r"\b(extract|put_pairs)\(", r"crate::native::\1(")]
 
 
 def levelled(function, of, body, marked):
@@ -17,7 +17,7 @@ def levelled(function, of, body, marked):
     >>> source = Source("fn f(a: u8) {}")
     >>> made, more = levelled(Function(source, 0, len(source.tokens) - 3), None, "{ g(a) }", Marks(["level"]))
     >>> made
-    '{ crate::kit::by_level!(f_v3(a), f_any(a)) }'
+    '{ crate::native::by_level!(f_v3(a), f_any(a)) }'
     >>> print(more.strip())
     #[cfg(target_arch = "x86_64")]
     #[target_feature(enable = "avx2,bmi1,bmi2,f16c,fma,lzcnt,movbe,popcnt")]
@@ -43,7 +43,7 @@ def levelled(function, of, body, marked):
     which = marked.level
     if marked.much:
         which, by_pext = f"{which}_if", f"{marked.much}, "
-    return f"{{ crate::kit::by_{which}!({by_pext}{calls[0]}, {calls[1]}) }}", more
+    return f"{{ crate::native::by_{which}!({by_pext}{calls[0]}, {calls[1]}) }}", more
 
 
 def inner(body):

@@ -16,7 +16,7 @@ NAMED = {
 # Paths that stand before a name on one side or the other.
 PATHS = [
     "crate :: proved :: mask_bits ::", "crate :: proved :: vortex_mask ::", "crate :: host ::",
-    "crate :: kit :: processor ::", "crate :: kit ::", "row_mask :: kit ::", "row_mask :: intersect_by_rank ::", "row_mask ::", "mask_bits ::",
+    "crate :: native ::", "crate :: kit ::", "row_mask :: kit ::", "row_mask :: intersect_by_rank ::", "row_mask ::", "mask_bits ::",
     "vortex_mask ::", "crate ::",
 ]
 # Statements and parts that have to be gone from a source, and that have to be new in what was made.
@@ -37,7 +37,7 @@ GONE = [
     r"# \[ unsafe \( no_mangle \) \]",
     r"extern \"[-\d]+\"",
 ]
-OWED = r"crate :: kit :: conditions :: owed \( [^;]*?, \"[-\d]+\" , \"[-\d]+\" , \"[-\d]+\" \) ;"
+OWED = r"crate :: conditions :: owed \( [^;]*?, \"[-\d]+\" , \"[-\d]+\" , \"[-\d]+\" \) ;"
 NEW = [
     OWED,
     r"# \[ track_caller \]",
@@ -152,14 +152,14 @@ def without_tests(words, name, heads):
 
 
 # What a function begins with that goes to one of two levels.
-BY_LEVEL = r"crate :: kit :: by_(wide_|shifted_)?level(_if)? !"
+BY_LEVEL = r"crate :: native :: by_(wide_|shifted_)?level(_if)? !"
 
 
 def without_levels(words, name):
     """What was made, with each function that goes to one of two levels as the one that it is: its head, and the body that
     both have.
 
-    >>> made = "fn f(a: u8) { crate::kit::by_level!(f_v3(a), f_any(a)) }"
+    >>> made = "fn f(a: u8) { crate::native::by_level!(f_v3(a), f_any(a)) }"
     >>> made += '#[cfg(target_arch = "x86_64")] #[target_feature(enable = "avx2")] fn f_v3(a: u8) { f_any(a) }'
     >>> made += "#[inline(always)] fn f_any(a: u8) { g(a) } fn h() {}"
     >>> " ".join(without_levels(tokens(made), "a.rt"))
@@ -212,7 +212,7 @@ def without_copies(words, name):
     what it is a copy of.
 
     >>> made = "fn f(a: u8) { g(a) } #[cfg(target_arch = 1)] #[inline(always)] fn f_by_pext(a: u8) { "
-    >>> " ".join(without_copies(tokens(made + "crate::kit::processor::g(a) }"), "a.rt"))
+    >>> " ".join(without_copies(tokens(made + "crate::native::g(a) }"), "a.rt"))
     'fn f ( a : u8 ) { g ( a ) }'
     >>> without_copies(tokens(made + "h(a) }"), "a.rt")
     Traceback (most recent call last):
@@ -227,7 +227,7 @@ def without_copies(words, name):
     text = " ".join(words)
     by_pext = r"# \[ cfg \( [^]]* \) \] # \[ (?:target_feature|inline) [^]]* \] (?=fn \w+_by_pext )"
     copy = rf" (?:{by_pext}|# \[ inline \( always \) \] pub \( crate \) (?=fn \w+_any ))(fn [^{{]*\{{)"
-    places = r"crate :: (?:kit :: processor|proved :: [\w :]+?) :: (?=\w+ (?:\(|:: <))|_by_pext|_any|_proved"
+    places = r"crate :: (?:native|proved :: [\w :]+?) :: (?=\w+ (?:\(|:: <))|_by_pext|_any|_proved"
     while found := re.search(copy, text):
         begin = len(text[: found.start(1)].split())
         last = behind(text.split(), begin + found[1].split().index("{"))

@@ -1,25 +1,18 @@
 //! What the proved sources take of Rattle's library, over Rust's own: lists whose growth is refused by an error, shared
-//! bytes, text and lanes. Beside it stand `unchecked` and `processor`, in place of proved modules; `processor` also has
-//! loops over instructions. Tests of conditions call proved modules. All of it is written by hand, and trusted.
-//! `README.md` lists all that is.
+//! bytes, text and lanes; and `unchecked`, in place of a proved module. It imports nothing else of the package. All of it is
+//! written by hand, and trusted. `README.md` lists all that is.
 
 mod bytes;
-pub mod conditions;
 pub(crate) mod lanes;
 mod list;
-pub(crate) mod processor;
 mod shared;
 mod text;
 pub(crate) mod unchecked;
-pub(crate) mod words;
 
 pub use alloc::sync::Arc;
 pub use bytes::{Bytes, BytesMut};
 pub(crate) use list::zeros;
 pub use list::{Collect, CowSlice, List, ToList, filled};
-pub(crate) use processor::{
-    by_level, by_level_if, by_shifted_level, by_wide_level_if, levelled, quickest,
-};
 pub use shared::{TryClone, shared};
 pub use text::{Text, TryToString};
 

@@ -9,17 +9,20 @@ compile_error!("row-mask needs a `usize` of 64 bits: its proofs say 2^64");
 pub mod arrow;
 mod bitmap;
 mod buf;
+pub mod conditions;
 mod error;
 mod forms;
 #[doc(hidden)]
 pub mod kit;
 mod mask;
+mod native;
 mod prelude;
 mod proved;
 mod row;
 mod selection;
 mod strings;
 mod walks;
+mod words;
 
 pub use bitmap::{Bitmap, room::Room};
 pub use buf::BitmapBuf;
@@ -41,11 +44,6 @@ pub use walks::{Indices, Runs, Values};
 #[doc = include_str!("../../docs/DEFINITIONS.md")]
 #[allow(clippy::doc_markdown, reason = "the page is that of the repository")]
 pub mod definitions {}
-
-/// What calls of masks require, as tests.
-pub mod conditions {
-    pub use crate::proved::vortex_mask::conditions::{are_a_stack, ascends};
-}
 
 /// Rank intersection by its parts: the kernels, the deposits and selections of a word, and which kernel is taken.
 pub mod intersect_by_rank {

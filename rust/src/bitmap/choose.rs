@@ -1,6 +1,6 @@
 //! Rows and values chosen at the true values.
 
-use crate::kit::processor::{Moved, moves_bytes, moves_fours};
+use crate::native::processor::{Moved, moves_bytes, moves_fours};
 use crate::prelude::*;
 use crate::proved::mask_bits::push_rows::{choose_rows, choose_small_rows};
 use crate::proved::mask_bits::small_rows::MoveRows;

@@ -1,8 +1,9 @@
 //! Changes in place.
 
 use crate::kit::unchecked::put_lowest;
-use crate::kit::{levelled, words::for_each_bit, words::number_of};
+use crate::native::levelled;
 use crate::prelude::*;
+use crate::words::{for_each_bit, number_of};
 
 impl BitmapBuf {
     /// Negates each value, in place.

@@ -1,6 +1,7 @@
 //! Truth values that are packed.
 
-use crate::kit::{levelled, unchecked::put_lowest};
+use crate::kit::unchecked::put_lowest;
+use crate::native::levelled;
 use crate::prelude::*;
 use crate::proved::mask_bits::from_rows::{word_of_rows, word_of_whole};
 

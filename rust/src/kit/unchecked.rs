@@ -47,8 +47,8 @@ pub fn rest<T>(items: &[T], first: usize) -> &[T] {
 #[inline(always)]
 pub fn put<T: Copy>(out: &mut [T], at: usize, item: T) {
     debug_assert!(at < out.len());
-    // SAFETY: the contract asks `at < length out.old`. (Of its callers, `put_indices` below and `push_first` of
-    // `processor.rs` are by hand.)
+    // SAFETY: the contract asks `at < length out.old`. (Of its callers, `put_indices` below is by hand, and `push_first`
+    // of `native::processor`, which calls it by way of a `Room`.)
     *unsafe { out.get_unchecked_mut(at) } = item;
 }
 

@@ -27,7 +27,7 @@ mod eq;
 pub mod extract;
 pub(crate) mod from_rows;
 #[doc(hidden)]
-pub(crate) use crate::kit::processor;
+pub(crate) use crate::native::processor;
 #[doc(hidden)]
 pub mod push_rows;
 mod read_word;

@@ -1,5 +1,5 @@
-use crate::kit::words::number_of;
 use crate::prelude::*;
+use crate::words::number_of;
 use core::slice::Iter;
 
 /// The indices of the true values of a [`Bitmap`], ascending.

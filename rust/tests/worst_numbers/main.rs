@@ -23,7 +23,7 @@ fn each_public_call_is_here() {
             let path = entry.unwrap().path();
             if path.is_dir() {
                 // (masks and buffers have tests of their own)
-                if !["bin", "kit", "proved"].iter().any(|it| path.ends_with(it)) {
+                if !["bin", "kit", "native", "proved"].iter().any(|it| path.ends_with(it)) {
                     names(&path, all);
                 }
                 continue;

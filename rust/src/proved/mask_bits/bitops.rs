@@ -23,7 +23,7 @@ impl BitBuffer {
     #[inline]
     #[track_caller]
     pub fn bitand(&self, other: &BitBuffer) -> Result<BitBuffer, AllocError> {
-        crate::kit::conditions::owed(
+        crate::conditions::owed(
             self.len() == other.len(),
             "BitBuffer::bitand",
             "its condition",
@@ -50,7 +50,7 @@ impl BitBuffer {
     #[inline]
     #[track_caller]
     pub fn bitor(&self, other: &BitBuffer) -> Result<BitBuffer, AllocError> {
-        crate::kit::conditions::owed(
+        crate::conditions::owed(
             self.len() == other.len(),
             "BitBuffer::bitor",
             "its condition",
@@ -77,7 +77,7 @@ impl BitBuffer {
     #[inline]
     #[track_caller]
     pub fn bitand_not(&self, other: &BitBuffer) -> Result<BitBuffer, AllocError> {
-        crate::kit::conditions::owed(
+        crate::conditions::owed(
             self.len() == other.len(),
             "BitBuffer::bitand_not",
             "its condition",
@@ -119,7 +119,7 @@ impl BitBuffer {
     #[inline]
     #[track_caller]
     pub fn into_bitand(self, other: &BitBuffer) -> Result<BitBuffer, AllocError> {
-        crate::kit::conditions::owed(
+        crate::conditions::owed(
             self.len() == other.len(),
             "BitBuffer::into_bitand",
             "its condition",
@@ -146,7 +146,7 @@ impl BitBuffer {
     #[inline]
     #[track_caller]
     pub fn into_bitor(self, other: &BitBuffer) -> Result<BitBuffer, AllocError> {
-        crate::kit::conditions::owed(
+        crate::conditions::owed(
             self.len() == other.len(),
             "BitBuffer::into_bitor",
             "its condition",
@@ -173,7 +173,7 @@ impl BitBuffer {
     #[inline]
     #[track_caller]
     pub fn into_bitand_not(self, other: &BitBuffer) -> Result<BitBuffer, AllocError> {
-        crate::kit::conditions::owed(
+        crate::conditions::owed(
             self.len() == other.len(),
             "BitBuffer::into_bitand_not",
             "its condition",

@@ -9,7 +9,7 @@ use crate::proved::mask_bits::words::set_word;
 /// past them have no meaning.
 #[inline]
 pub fn put_bools(bytes: &mut [u8], bools: &[bool]) {
-    crate::kit::by_level!(put_bools_v3(bytes, bools), put_bools_any(bytes, bools))
+    crate::native::by_level!(put_bools_v3(bytes, bools), put_bools_any(bytes, bools))
 }
 
 #[cfg(target_arch = "x86_64")]

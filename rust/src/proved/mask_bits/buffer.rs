@@ -37,7 +37,7 @@ impl BitBuffer {
     #[inline]
     #[track_caller]
     pub fn new(bytes: Bytes, len: usize) -> BitBuffer {
-        crate::kit::conditions::owed(
+        crate::conditions::owed(
             (len as u128) <= 8 * (bytes.len() as u128),
             "BitBuffer::new",
             "its condition",
@@ -65,13 +65,13 @@ impl BitBuffer {
     #[inline]
     #[track_caller]
     pub fn new_with_offset(bytes: Bytes, offset: usize, len: usize) -> BitBuffer {
-        crate::kit::conditions::owed(
+        crate::conditions::owed(
             (offset as u128) + (len as u128) <= 8 * (bytes.len() as u128),
             "BitBuffer::new_with_offset",
             "covered",
             "offset + len ≤ 8 * length bytes",
         );
-        crate::kit::conditions::owed(
+        crate::conditions::owed(
             (offset as u128) + (len as u128) < 1 << 64,
             "BitBuffer::new_with_offset",
             "fits",
@@ -98,7 +98,7 @@ impl BitBuffer {
     #[inline]
     #[track_caller]
     pub fn from_vec(bytes: Vec<u8>, len: usize) -> Result<BitBuffer, AllocError> {
-        crate::kit::conditions::owed(
+        crate::conditions::owed(
             (len as u128) <= 8 * (bytes.len() as u128),
             "BitBuffer::from_vec",
             "its condition",
@@ -145,8 +145,8 @@ impl BitBuffer {
     #[inline]
     #[track_caller]
     pub fn from_indices(len: usize, indices: &[usize]) -> Result<BitBuffer, AllocError> {
-        crate::kit::conditions::owed(
-            crate::kit::conditions::are_below(indices, len),
+        crate::conditions::owed(
+            crate::conditions::are_below(indices, len),
             "BitBuffer::from_indices",
             "its condition",
             "All (λ i. i < len) indices.now",
@@ -218,8 +218,8 @@ impl BitBuffer {
     #[inline]
     #[track_caller]
     pub fn slice(&self, start: usize, end: usize) -> Result<BitBuffer, AllocError> {
-        crate::kit::conditions::owed(start <= end, "BitBuffer::slice", "ordered", "start ≤ end");
-        crate::kit::conditions::owed(
+        crate::conditions::owed(start <= end, "BitBuffer::slice", "ordered", "start ≤ end");
+        crate::conditions::owed(
             end <= self.len(),
             "BitBuffer::slice",
             "within",
@@ -289,13 +289,8 @@ impl BitBuffer {
     #[inline]
     #[track_caller]
     pub fn count_range(&self, start: usize, end: usize) -> usize {
-        crate::kit::conditions::owed(
-            start <= end,
-            "BitBuffer::count_range",
-            "ordered",
-            "start ≤ end",
-        );
-        crate::kit::conditions::owed(
+        crate::conditions::owed(start <= end, "BitBuffer::count_range", "ordered", "start ≤ end");
+        crate::conditions::owed(
             end <= self.len(),
             "BitBuffer::count_range",
             "within",
@@ -370,7 +365,7 @@ impl BitBuffer {
     #[inline]
     #[track_caller]
     pub fn value(&self, i: usize) -> bool {
-        crate::kit::conditions::owed(
+        crate::conditions::owed(
             i < self.len(),
             "BitBuffer::value",
             "its condition",
@@ -419,7 +414,7 @@ impl BitBuffer {
     #[inline]
     #[track_caller]
     pub fn first_from(&self, from: usize, value: bool) -> usize {
-        crate::kit::conditions::owed(
+        crate::conditions::owed(
             from <= self.len(),
             "BitBuffer::first_from",
             "its condition",

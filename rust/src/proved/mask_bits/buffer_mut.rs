@@ -74,7 +74,7 @@ impl BitBufferMut {
     #[inline]
     #[track_caller]
     pub fn set(&mut self, i: usize) {
-        crate::kit::conditions::owed(
+        crate::conditions::owed(
             i < self.len(),
             "BitBufferMut::set",
             "its condition",
@@ -100,7 +100,7 @@ impl BitBufferMut {
     #[inline]
     #[track_caller]
     pub fn unset(&mut self, i: usize) {
-        crate::kit::conditions::owed(
+        crate::conditions::owed(
             i < self.len(),
             "BitBufferMut::unset",
             "its condition",
@@ -127,7 +127,7 @@ impl BitBufferMut {
     #[inline]
     #[track_caller]
     pub fn append_n(&mut self, value: bool, n: usize) -> Result<(), AllocError> {
-        crate::kit::conditions::owed(
+        crate::conditions::owed(
             (self.len() as u128) + (n as u128) < 1 << 64,
             "BitBufferMut::append_n",
             "its condition",
@@ -157,7 +157,7 @@ impl BitBufferMut {
     #[inline]
     #[track_caller]
     pub fn append_buffer(&mut self, other: &BitBuffer) -> Result<(), AllocError> {
-        crate::kit::conditions::owed(
+        crate::conditions::owed(
             (self.len() as u128) + (other.len() as u128) < 1 << 64,
             "BitBufferMut::append_buffer",
             "its condition",
@@ -189,8 +189,8 @@ impl BitBufferMut {
     #[inline]
     #[track_caller]
     pub fn push_word(&mut self, word: u64, count: usize) -> Result<(), AllocError> {
-        crate::kit::conditions::owed(count <= 64, "BitBufferMut::push_word", "few", "count ≤ 64");
-        crate::kit::conditions::owed(
+        crate::conditions::owed(count <= 64, "BitBufferMut::push_word", "few", "count ≤ 64");
+        crate::conditions::owed(
             (self.len() as u128) + (count as u128) < 1 << 64,
             "BitBufferMut::push_word",
             "fits",

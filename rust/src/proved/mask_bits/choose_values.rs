@@ -24,7 +24,7 @@ impl BitBuffer {
     #[inline]
     #[track_caller]
     pub fn choose_values(&self, of: &BitBuffer) -> Result<BitBuffer, AllocError> {
-        crate::kit::conditions::owed(
+        crate::conditions::owed(
             of.len() == self.len(),
             "BitBuffer::choose_values",
             "its condition",
@@ -55,7 +55,7 @@ pub struct LastChosen {
 /// fill words of 64. Answers how many there are, and those past the whole words.
 #[inline]
 pub fn put_chosen(masks: &BitChunks<'_>, values: &BitChunks<'_>, out: &mut [u8]) -> LastChosen {
-    crate::kit::by_level!(
+    crate::native::by_level!(
         put_chosen_by_pext(masks, values, out),
         put_chosen_v3(masks, values, out),
         put_chosen_any(masks, values, out)
@@ -84,10 +84,10 @@ fn put_chosen_any(masks: &BitChunks<'_>, values: &BitChunks<'_>, out: &mut [u8])
 #[target_feature(enable = "avx2,bmi1,bmi2,f16c,fma,lzcnt,movbe,popcnt")]
 fn put_chosen_by_pext(masks: &BitChunks<'_>, values: &BitChunks<'_>, out: &mut [u8]) -> LastChosen {
     let words = masks.started_words();
-    let mut last = crate::kit::processor::put_pairs(masks, values, out);
+    let mut last = crate::native::put_pairs(masks, values, out);
     for i in masks.len() / 2 * 2..words {
         let mask = masks.started_word_proved(i);
-        let word = crate::kit::processor::extract(values.started_word_proved(i), mask);
+        let word = crate::native::extract(values.started_word_proved(i), mask);
         last = put_behind(out, last, word, mask.count_ones() as usize);
     }
     last

@@ -27,8 +27,8 @@ impl<'a> BitChunks<'a> {
     #[inline]
     #[track_caller]
     pub fn new(bytes: &'a [u8], offset: usize, len: usize) -> BitChunks<'a> {
-        crate::kit::conditions::owed(
-            crate::kit::conditions::are_within(bytes, offset, len),
+        crate::conditions::owed(
+            crate::conditions::are_within(bytes, offset, len),
             "BitChunks::new",
             "its condition",
             "IsWithinBytes bytes.now offset len",
@@ -69,7 +69,7 @@ impl<'a> BitChunks<'a> {
     #[inline]
     #[track_caller]
     pub fn word(&self, i: usize) -> u64 {
-        crate::kit::conditions::owed(
+        crate::conditions::owed(
             i < (64 * self.len() + self.remainder_len()) / 64,
             "BitChunks::word",
             "its condition",
@@ -139,7 +139,7 @@ impl<'a> BitChunks<'a> {
     /// - *within*: `IfSome result (λ p. p < length self.now)`
     #[inline]
     pub fn select(&self, n: usize) -> Option<usize> {
-        crate::kit::by_level!(self.select_v3(n), self.select_any(n))
+        crate::native::by_level!(self.select_v3(n), self.select_any(n))
     }
 
     #[cfg(target_arch = "x86_64")]
@@ -194,7 +194,7 @@ impl<'a> BitChunks<'a> {
     #[inline]
     #[track_caller]
     pub fn first_from(&self, from: usize, value: bool) -> usize {
-        crate::kit::conditions::owed(
+        crate::conditions::owed(
             from <= (64 * self.len() + self.remainder_len()),
             "BitChunks::first_from",
             "its condition",
@@ -256,7 +256,7 @@ impl<'a> BitChunks<'a> {
     #[inline]
     #[track_caller]
     pub fn started_word(&self, i: usize) -> u64 {
-        crate::kit::conditions::owed(
+        crate::conditions::owed(
             i < (64 * self.len() + self.remainder_len()).div_ceil(64),
             "BitChunks::started_word",
             "its condition",

@@ -72,7 +72,7 @@ pub fn combine<C: BitOp>(
     len: usize,
     out: &mut [u8],
 ) {
-    crate::kit::by_wide_level_if!(
+    crate::native::by_wide_level_if!(
         len > 128,
         combine_v3::<C>(a, a_offset, b, b_offset, len, out),
         combine_any::<C>(a, a_offset, b, b_offset, len, out)
@@ -123,7 +123,7 @@ fn extend_whole<C: BitOp>(a: Bits<'_>, b: Bits<'_>, words: usize, out: &mut [u8]
 // that begins at a whole byte takes nearly as long as the rest.
 #[inline]
 fn extend_inner<C: BitOp>(a: Bits<'_>, b: Bits<'_>, words: usize, out: &mut [u8]) {
-    crate::kit::by_shifted_level!(
+    crate::native::by_shifted_level!(
         extend_inner_v3::<C>(a, b, words, out),
         extend_inner_any::<C>(a, b, words, out)
     )
@@ -164,7 +164,7 @@ fn extend<C: BitOp, A: ReadWord, B: ReadWord>(
 /// `bytes` past the list have no meaning.
 #[inline]
 pub fn combine_in_place<C: BitOp>(bytes: &mut [u8], b: &[u8], b_offset: usize, len: usize) {
-    crate::kit::by_wide_level_if!(
+    crate::native::by_wide_level_if!(
         len > 128,
         combine_in_place_v3::<C>(bytes, b, b_offset, len),
         combine_in_place_any::<C>(bytes, b, b_offset, len)
@@ -219,7 +219,7 @@ fn change_last<C: BitOp>(bytes: &mut [u8], b: Bits<'_>, i: usize) {
 /// Negates the first `len` bits of `bytes`. Those past them have no meaning.
 #[inline]
 pub fn negate_in_place(bytes: &mut [u8], len: usize) {
-    crate::kit::by_wide_level_if!(
+    crate::native::by_wide_level_if!(
         len > 128,
         negate_in_place_v3(bytes, len),
         negate_in_place_any(bytes, len)

@@ -23,7 +23,7 @@ pub fn none_true<C: BitOp>(
     b_offset: usize,
     len: usize,
 ) -> bool {
-    crate::kit::by_wide_level_if!(
+    crate::native::by_wide_level_if!(
         len > 128,
         none_true_v3::<C>(a, a_offset, b, b_offset, len),
         none_true_any::<C>(a, a_offset, b, b_offset, len)
@@ -81,7 +81,7 @@ fn none_in_words<C: BitOp>(
 // inlined, so that the quicker case stays small.
 #[inline(never)]
 fn none_in_shifted_words<C: BitOp>(a: Bits<'_>, b: Bits<'_>, words: usize) -> bool {
-    crate::kit::by_level!(
+    crate::native::by_level!(
         none_in_shifted_words_v3::<C>(a, b, words),
         none_in_shifted_words_any::<C>(a, b, words)
     )
@@ -159,7 +159,7 @@ pub fn count_true<C: BitOp>(
     b_offset: usize,
     len: usize,
 ) -> usize {
-    crate::kit::by_level!(
+    crate::native::by_level!(
         count_true_v3::<C>(a, a_offset, b, b_offset, len),
         count_true_any::<C>(a, a_offset, b, b_offset, len)
     )

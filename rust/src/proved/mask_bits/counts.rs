@@ -7,7 +7,10 @@ use crate::proved::mask_bits::words::{word_at, word_of};
 /// How many of the `len` bits from bit `position` on are set.
 #[inline]
 pub fn count_bits(bytes: &[u8], position: usize, len: usize) -> usize {
-    crate::kit::by_level!(count_bits_v3(bytes, position, len), count_bits_any(bytes, position, len))
+    crate::native::by_level!(
+        count_bits_v3(bytes, position, len),
+        count_bits_any(bytes, position, len)
+    )
 }
 
 #[cfg(target_arch = "x86_64")]

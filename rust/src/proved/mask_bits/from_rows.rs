@@ -26,7 +26,7 @@ impl BitBuffer {
     /// - *list*: `IfOk result (λ b. AreAsComputed (F.post test) rows.now (values b))`
     #[inline]
     pub fn from_rows<T, F: Fn(&T) -> bool>(rows: &[T], test: F) -> Result<BitBuffer, AllocError> {
-        crate::kit::by_level!(
+        crate::native::by_level!(
             Self::from_rows_v3::<T, F>(rows, test),
             Self::from_rows_any::<T, F>(rows, test)
         )

@@ -15,7 +15,7 @@ pub fn choose_rows<const K: usize, T: Copy, R: Room<T>>(
     rows: &[T],
     chunks: &BitChunks<'_>,
 ) {
-    crate::kit::by_level_if!(
+    crate::native::by_level_if!(
         rows.len() > 128,
         choose_rows_v3::<K, T, R>(out, rows, chunks),
         choose_rows_any::<K, T, R>(out, rows, chunks)
@@ -67,7 +67,7 @@ pub fn choose_small_rows<const FEW: usize, M: MoveRows<T>, T: Copy, R: Room<T>>(
     rows: &[T],
     chunks: &BitChunks<'_>,
 ) {
-    crate::kit::by_level!(
+    crate::native::by_level!(
         choose_small_rows_v3::<FEW, M, T, R>(out, rows, chunks),
         choose_small_rows_any::<FEW, M, T, R>(out, rows, chunks)
     )

@@ -38,7 +38,7 @@ impl BitBuffer {
     #[inline]
     #[track_caller]
     pub fn indices(&self, true_count: usize) -> Result<Vec<usize>, AllocError> {
-        crate::kit::conditions::owed(
+        crate::conditions::owed(
             true_count == self.true_count(),
             "BitBuffer::indices",
             "its condition",
@@ -49,7 +49,7 @@ impl BitBuffer {
 
     #[inline]
     pub(crate) fn indices_proved(&self, true_count: usize) -> Result<Vec<usize>, AllocError> {
-        crate::kit::by_level_if!(
+        crate::native::by_level_if!(
             self.len() > 128,
             self.indices_v3(true_count),
             self.indices_any(true_count)

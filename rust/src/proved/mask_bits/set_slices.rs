@@ -32,7 +32,7 @@ impl BitBuffer {
     /// - `IfOk result (λ ranges. ranges.items ≡ runs (values self.now))`
     #[inline]
     pub fn runs(&self) -> Result<Vec<(usize, usize)>, AllocError> {
-        crate::kit::by_level!(self.runs_v3(), self.runs_any())
+        crate::native::by_level!(self.runs_v3(), self.runs_any())
     }
 
     #[cfg(target_arch = "x86_64")]

@@ -63,7 +63,7 @@ fn put_full(bytes: &mut [u8], first: usize, words: usize) {
 // Writes the `n` bits of `from` from bit `offset` on behind the first `at` bits.
 #[inline]
 pub(crate) fn put_bits(bytes: &mut [u8], at: usize, from: &[u8], offset: usize, n: usize) {
-    crate::kit::by_level_if!(
+    crate::native::by_level_if!(
         n > 128,
         put_bits_v3(bytes, at, from, offset, n),
         put_bits_any(bytes, at, from, offset, n)

@@ -39,7 +39,7 @@ pub fn row_mask_counts_below(
     indices: &[usize],
     out: &mut [usize],
 ) {
-    crate::kit::by_level!(
+    crate::native::by_level!(
         row_mask_counts_below_v3(bytes, offset, len, indices, out),
         row_mask_counts_below_any(bytes, offset, len, indices, out)
     )

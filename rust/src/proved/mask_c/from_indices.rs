@@ -10,7 +10,7 @@ use crate::proved::mask_bits::write_bits::set_bit;
 /// Asks that each index is below `len`, and that `out_size >= row_mask_room(len)`.
 #[inline]
 pub fn row_mask_from_indices(indices: &[usize], len: usize, out: &mut [u8]) {
-    crate::kit::by_level!(
+    crate::native::by_level!(
         row_mask_from_indices_v3(indices, len, out),
         row_mask_from_indices_any(indices, len, out)
     )

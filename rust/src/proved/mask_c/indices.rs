@@ -37,7 +37,7 @@ pub fn row_mask_next_indices(
     from: usize,
     out: &mut [usize],
 ) -> usize {
-    crate::kit::by_level!(
+    crate::native::by_level!(
         row_mask_next_indices_v3(bytes, offset, len, from, out),
         row_mask_next_indices_any(bytes, offset, len, from, out)
     )

@@ -36,10 +36,10 @@ pub fn row_mask_intersect_by_rank(
     let before = ranks_len - ones;
     let front = BitChunks::new_proved(bytes, offset, 64 * whole);
     let bits = RankBits::over_proved(ranks, ranks_offset, before);
-    let are_few = crate::kit::processor::by_loop(64 * whole, before);
+    let are_few = crate::native::by_loop(64 * whole, before);
     narrow_whole(&front, &bits, are_few, &mut out[..8 * whole]);
     let source = word_at(ranks, ranks_offset + before);
-    put_last(out, crate::kit::quickest!(Portable::deposit_bits_proved(source, word, ones)), len);
+    put_last(out, crate::native::quickest!(Portable::deposit_bits_proved(source, word, ones)), len);
 }
 
 // The values past the whole words in the low bits of a word, and how many of them are true.
@@ -52,7 +52,7 @@ fn last_word(bytes: &[u8], offset: usize, len: usize) -> (u64, usize) {
 // Narrows whole words.
 #[inline]
 fn narrow_whole(chunks: &BitChunks<'_>, ranks: &RankBits<'_>, are_few: bool, out: &mut [u8]) {
-    crate::kit::by_level!(
+    crate::native::by_level!(
         narrow_whole_v3(chunks, ranks, are_few, out),
         narrow_whole_any(chunks, ranks, are_few, out)
     )
@@ -67,7 +67,7 @@ fn narrow_whole_v3(chunks: &BitChunks<'_>, ranks: &RankBits<'_>, are_few: bool, 
 #[inline(always)]
 fn narrow_whole_any(chunks: &BitChunks<'_>, ranks: &RankBits<'_>, are_few: bool, out: &mut [u8]) {
     if !are_few {
-        crate::kit::quickest!(
+        crate::native::quickest!(
             crate::proved::vortex_mask::intersect_by_rank::kernels::bit_buffers::narrow_by_bits_any::<
                 Portable,
             >(chunks, ranks, out)
@@ -106,10 +106,10 @@ pub fn row_mask_intersect_at_ranks(
     out: &mut [u8],
 ) {
     let true_count = count_bits(bytes, offset, len);
-    if crate::kit::processor::by_loop(len, true_count) {
+    if crate::native::by_loop(len, true_count) {
         narrow_at::<PortableLoop>(bytes, offset, len, true_count, ranks, out);
     } else {
-        crate::kit::quickest!(narrow_at::<Portable>(bytes, offset, len, true_count, ranks, out));
+        crate::native::quickest!(narrow_at::<Portable>(bytes, offset, len, true_count, ranks, out));
     }
 }
 

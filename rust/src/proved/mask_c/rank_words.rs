@@ -27,7 +27,7 @@ pub fn row_mask_rank_words(
     words: &mut [u64],
     sources: &mut [u64],
 ) -> usize {
-    crate::kit::by_level!(
+    crate::native::by_level!(
         row_mask_rank_words_v3(
             bytes,
             offset,

@@ -16,7 +16,7 @@ pub fn row_mask_words(
     from: usize,
     out: &mut [u64],
 ) -> usize {
-    crate::kit::by_level!(
+    crate::native::by_level!(
         row_mask_words_v3(bytes, offset, len, from, out),
         row_mask_words_any(bytes, offset, len, from, out)
     )

@@ -26,7 +26,7 @@ impl Mask {
     #[inline]
     #[track_caller]
     pub fn bitand(&self, other: &Mask) -> Result<Mask, MaskError> {
-        crate::kit::conditions::owed(
+        crate::conditions::owed(
             self.len() == other.len(),
             "Mask::bitand",
             "its condition",
@@ -65,7 +65,7 @@ impl Mask {
     #[inline]
     #[track_caller]
     pub fn bitor(&self, other: &Mask) -> Result<Mask, MaskError> {
-        crate::kit::conditions::owed(
+        crate::conditions::owed(
             self.len() == other.len(),
             "Mask::bitor",
             "its condition",
@@ -127,7 +127,7 @@ impl Mask {
     #[inline]
     #[track_caller]
     pub fn to_bitand_not(&self, other: &Mask) -> Result<Mask, MaskError> {
-        crate::kit::conditions::owed(
+        crate::conditions::owed(
             self.len() == other.len(),
             "Mask::to_bitand_not",
             "its condition",
@@ -171,7 +171,7 @@ impl Mask {
     #[inline]
     #[track_caller]
     pub fn into_bitand(self, other: &Mask) -> Result<Mask, MaskError> {
-        crate::kit::conditions::owed(
+        crate::conditions::owed(
             self.len() == other.len(),
             "Mask::into_bitand",
             "its condition",
@@ -213,7 +213,7 @@ impl Mask {
     #[inline]
     #[track_caller]
     pub fn into_bitor(self, other: &Mask) -> Result<Mask, MaskError> {
-        crate::kit::conditions::owed(
+        crate::conditions::owed(
             self.len() == other.len(),
             "Mask::into_bitor",
             "its condition",
@@ -277,7 +277,7 @@ impl Mask {
     #[inline]
     #[track_caller]
     pub fn bitand_not(self, other: &Mask) -> Result<Mask, MaskError> {
-        crate::kit::conditions::owed(
+        crate::conditions::owed(
             self.len() == other.len(),
             "Mask::bitand_not",
             "its condition",

@@ -6,10 +6,6 @@ use crate::proved::vortex_mask::mask::Mask;
 
 /// Whether these masks are a stack, as [`Mask::intersect_all_by_rank`] requires it: each has a value for each
 /// true value of the one before it.
-///
-/// # Proved ([terms](crate::definitions))
-///
-/// - `IsTrue result ↔ IsStack (truth first.now ∷ map truth masks.now)`
 #[inline]
 pub fn are_a_stack(first: &Mask, masks: &[Mask]) -> bool {
     let mut before = first;
@@ -23,15 +19,11 @@ pub fn are_a_stack(first: &Mask, masks: &[Mask]) -> bool {
 }
 
 /// Whether each index is above the one before it, as [`Mask::from_intersection_indices`] requires it of both lists.
-///
-/// # Proved ([terms](crate::definitions))
-///
-/// - `IsTrue result ↔ IsStrictlyIncreasing indices.now`
 //
 // With no early return, so that several are compared at once.
 #[inline]
 pub fn ascends(indices: &[usize]) -> bool {
-    crate::kit::by_level!(ascends_v3(indices), ascends_any(indices))
+    crate::native::by_level!(ascends_v3(indices), ascends_any(indices))
 }
 
 #[cfg(target_arch = "x86_64")]

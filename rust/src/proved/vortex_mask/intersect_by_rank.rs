@@ -51,7 +51,7 @@ impl Mask {
     #[inline]
     #[track_caller]
     pub fn intersect_by_rank(&self, mask: &Mask) -> Result<Mask, MaskError> {
-        crate::kit::conditions::owed(
+        crate::conditions::owed(
             mask.len() == self.true_count(),
             "Mask::intersect_by_rank",
             "its condition",
@@ -62,7 +62,7 @@ impl Mask {
 
     #[inline]
     pub(crate) fn intersect_by_rank_proved(&self, mask: &Mask) -> Result<Mask, MaskError> {
-        crate::kit::by_level!(self.intersect_by_rank_v3(mask), self.intersect_by_rank_any(mask))
+        crate::native::by_level!(self.intersect_by_rank_v3(mask), self.intersect_by_rank_any(mask))
     }
 
     #[cfg(target_arch = "x86_64")]
@@ -97,7 +97,7 @@ impl Mask {
     #[inline]
     #[track_caller]
     pub fn intersect_by_rank_counted(&self, mask: &Mask) -> Result<(Mask, Steps), MaskError> {
-        crate::kit::conditions::owed(
+        crate::conditions::owed(
             mask.len() == self.true_count(),
             "Mask::intersect_by_rank_counted",
             "its condition",
@@ -162,8 +162,8 @@ impl Mask {
     #[inline]
     #[track_caller]
     pub fn intersect_all_by_rank(&self, masks: &[Mask]) -> Result<Mask, MaskError> {
-        crate::kit::conditions::owed(
-            crate::proved::vortex_mask::conditions::are_a_stack(self, masks),
+        crate::conditions::owed(
+            crate::conditions::are_a_stack(self, masks),
             "Mask::intersect_all_by_rank",
             "its condition",
             "IsStack (truth self.now ∷ map truth masks.now)",

@@ -224,7 +224,7 @@ impl Mask {
     #[inline]
     #[track_caller]
     pub fn value(&self, index: usize) -> bool {
-        crate::kit::conditions::owed(
+        crate::conditions::owed(
             index < self.len(),
             "Mask::value",
             "its condition",
@@ -255,7 +255,7 @@ impl Mask {
     #[inline]
     #[track_caller]
     pub fn rank(&self, n: usize) -> usize {
-        crate::kit::conditions::owed(
+        crate::conditions::owed(
             n < self.true_count(),
             "Mask::rank",
             "its condition",
@@ -303,8 +303,8 @@ impl Mask {
     #[inline]
     #[track_caller]
     pub fn count_range(&self, start: usize, end: usize) -> usize {
-        crate::kit::conditions::owed(start <= end, "Mask::count_range", "ordered", "start ≤ end");
-        crate::kit::conditions::owed(
+        crate::conditions::owed(start <= end, "Mask::count_range", "ordered", "start ≤ end");
+        crate::conditions::owed(
             end <= self.len(),
             "Mask::count_range",
             "within",
@@ -370,14 +370,14 @@ impl Mask {
     #[inline]
     #[track_caller]
     pub fn valid_counts_for_indices(&self, indices: &[usize]) -> Result<Vec<usize>, MaskError> {
-        crate::kit::conditions::owed(
+        crate::conditions::owed(
             indices.is_sorted(),
             "Mask::valid_counts_for_indices",
             "ascending",
             "IsNonDecreasing indices.now",
         );
-        crate::kit::conditions::owed(
-            crate::kit::conditions::are_at_most(indices, self.len()),
+        crate::conditions::owed(
+            crate::conditions::are_at_most(indices, self.len()),
             "Mask::valid_counts_for_indices",
             "within",
             "All (λ i. i ≤ length (truth self.now)) indices.now",

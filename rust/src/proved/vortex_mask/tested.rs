@@ -18,7 +18,7 @@ use crate::proved::vortex_mask::{Mask, MaskError};
 #[inline]
 #[track_caller]
 pub fn deposit_two_lowest(source: u64, mask: u64) -> u64 {
-    crate::kit::conditions::owed(
+    crate::conditions::owed(
         (mask.count_ones() as usize) <= 2,
         "deposit_two_lowest",
         "its condition",
@@ -40,7 +40,7 @@ pub fn deposit_two_lowest(source: u64, mask: u64) -> u64 {
 #[inline]
 #[track_caller]
 pub fn deposit_two_holes(source: u64, mask: u64) -> u64 {
-    crate::kit::conditions::owed(
+    crate::conditions::owed(
         62 <= (mask.count_ones() as usize),
         "deposit_two_holes",
         "its condition",
@@ -71,13 +71,13 @@ pub fn intersect_bit_buffers<D: DepositBits>(
     mask_buffer: &BitBuffer,
     true_count: usize,
 ) -> Result<(Mask, Steps), MaskError> {
-    crate::kit::conditions::owed(
+    crate::conditions::owed(
         mask_buffer.len() == self_buffer.true_count(),
         "intersect_bit_buffers",
         "fitting",
         "length (values mask_buffer.now) ≡ count (values self_buffer.now)",
     );
-    crate::kit::conditions::owed(
+    crate::conditions::owed(
         true_count == mask_buffer.true_count(),
         "intersect_bit_buffers",
         "counted",
@@ -111,26 +111,26 @@ pub fn intersect_by_rank_indices(
     self_indices: &[usize],
     mask_indices: &[usize],
 ) -> Result<(Mask, Steps), MaskError> {
-    crate::kit::conditions::owed(
-        crate::kit::conditions::ascends(self_indices),
+    crate::conditions::owed(
+        crate::conditions::are_ascending(self_indices),
         "intersect_by_rank_indices",
         "self_ascending",
         "IsStrictlyIncreasing self_indices.now",
     );
-    crate::kit::conditions::owed(
-        crate::kit::conditions::are_below(self_indices, len),
+    crate::conditions::owed(
+        crate::conditions::are_below(self_indices, len),
         "intersect_by_rank_indices",
         "self_within",
         "All (λ i. i < len) self_indices.now",
     );
-    crate::kit::conditions::owed(
-        crate::kit::conditions::ascends(mask_indices),
+    crate::conditions::owed(
+        crate::conditions::are_ascending(mask_indices),
         "intersect_by_rank_indices",
         "mask_ascending",
         "IsStrictlyIncreasing mask_indices.now",
     );
-    crate::kit::conditions::owed(
-        crate::kit::conditions::are_below(mask_indices, self_indices.len()),
+    crate::conditions::owed(
+        crate::conditions::are_below(mask_indices, self_indices.len()),
         "intersect_by_rank_indices",
         "mask_within",
         "All (λ k. k < length self_indices.now) mask_indices.now",
@@ -172,8 +172,8 @@ pub fn intersect_mask_driven<S: SelectBit, I: IntoIterator<Item = usize>>(
     true_count: usize,
 ) -> Result<(Mask, Steps), MaskError> {
     let mask_indices = crate::kit::Collect::collected(mask_indices.into_iter())?;
-    crate::kit::conditions::owed(
-        crate::kit::conditions::are_ranks(&mask_indices, self_buffer.true_count(), true_count),
+    crate::conditions::owed(
+        crate::conditions::are_ranks(&mask_indices, self_buffer.true_count(), true_count),
         "intersect_mask_driven",
         "ranks",
         "EachRunFrom I.next_gives mask_indices (AreRanks (count (values self_buffer.now)) true_count)",
@@ -203,14 +203,14 @@ pub fn intersect_bit_buffer_by_rank_indices<D: DepositBits>(
     self_buffer: &BitBuffer,
     mask_indices: &[usize],
 ) -> Result<(Mask, Steps), MaskError> {
-    crate::kit::conditions::owed(
-        crate::kit::conditions::ascends(mask_indices),
+    crate::conditions::owed(
+        crate::conditions::are_ascending(mask_indices),
         "intersect_bit_buffer_by_rank_indices",
         "ascending",
         "IsStrictlyIncreasing mask_indices.now",
     );
-    crate::kit::conditions::owed(
-        crate::kit::conditions::are_below(mask_indices, self_buffer.true_count()),
+    crate::conditions::owed(
+        crate::conditions::are_below(mask_indices, self_buffer.true_count()),
         "intersect_bit_buffer_by_rank_indices",
         "within",
         "All (λ k. k < count (values self_buffer.now)) mask_indices.now",

@@ -31,7 +31,7 @@ pub unsafe trait DepositBits {
     #[inline]
     #[track_caller]
     fn deposit_bits(source: u64, mask: u64, mask_count: usize) -> u64 {
-        crate::kit::conditions::owed(
+        crate::conditions::owed(
             mask_count == (mask.count_ones() as usize),
             "DepositBits::deposit_bits",
             "its condition",
@@ -58,13 +58,13 @@ pub unsafe trait DepositBits {
     #[inline]
     #[track_caller]
     fn deposit_two(sources: [u64; 2], masks: [u64; 2], mask_counts: [usize; 2]) -> [u64; 2] {
-        crate::kit::conditions::owed(
+        crate::conditions::owed(
             mask_counts[0] == (masks[0].count_ones() as usize),
             "DepositBits::deposit_two",
             "counted_first",
             "slice_index mask_counts 0 ≡ count (word_bits (slice_index masks 0))",
         );
-        crate::kit::conditions::owed(
+        crate::conditions::owed(
             mask_counts[1] == (masks[1].count_ones() as usize),
             "DepositBits::deposit_two",
             "counted_second",

@@ -27,7 +27,7 @@ pub unsafe trait ExtractBits {
     #[inline]
     #[track_caller]
     fn extract_bits(source: u64, mask: u64, mask_count: usize) -> u64 {
-        crate::kit::conditions::owed(
+        crate::conditions::owed(
             mask_count == (mask.count_ones() as usize),
             "ExtractBits::extract_bits",
             "its condition",

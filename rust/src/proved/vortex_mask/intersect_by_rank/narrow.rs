@@ -21,7 +21,7 @@ pub(super) fn narrow_by_path(
     rows: &MaskValues,
     ranks: &MaskValues,
 ) -> Result<(Mask, Steps), MaskError> {
-    let by_loop = crate::kit::processor::by_loop(rows.len(), rows.true_count());
+    let by_loop = crate::native::by_loop(rows.len(), rows.true_count());
     let (buffer, bits, true_count) = (rows.bit_buffer(), ranks.bit_buffer(), ranks.true_count());
     match rank_path(rows, ranks) {
         RankPath::Indices => by_indices(rows, ranks),
@@ -30,7 +30,7 @@ pub(super) fn narrow_by_path(
             intersect_bit_buffers::<PortableLoop>(buffer, bits, true_count)
         }
         RankPath::BitBuffers => {
-            crate::kit::quickest!(intersect_bit_buffers::<Portable>(buffer, bits, true_count))
+            crate::native::quickest!(intersect_bit_buffers::<Portable>(buffer, bits, true_count))
         }
         RankPath::RankIndices if by_loop => {
             let indices = ranks.cached_indices().unwrap();
@@ -38,7 +38,9 @@ pub(super) fn narrow_by_path(
         }
         RankPath::RankIndices => {
             let indices = ranks.cached_indices().unwrap();
-            crate::kit::quickest!(intersect_bit_buffer_by_rank_indices::<Portable>(buffer, indices))
+            crate::native::quickest!(intersect_bit_buffer_by_rank_indices::<Portable>(
+                buffer, indices
+            ))
         }
     }
 }
@@ -48,7 +50,7 @@ pub(crate) fn narrow_by_path_any(
     rows: &MaskValues,
     ranks: &MaskValues,
 ) -> Result<(Mask, Steps), MaskError> {
-    let by_loop = crate::kit::processor::by_loop(rows.len(), rows.true_count());
+    let by_loop = crate::native::by_loop(rows.len(), rows.true_count());
     let (buffer, bits, true_count) = (rows.bit_buffer(), ranks.bit_buffer(), ranks.true_count());
     match rank_path(rows, ranks) {
         RankPath::Indices => by_indices(rows, ranks),
@@ -57,7 +59,7 @@ pub(crate) fn narrow_by_path_any(
             crate::proved::vortex_mask::intersect_by_rank::kernels::bit_buffers::intersect_bit_buffers_any::<PortableLoop>(buffer, bits, true_count)
         }
         RankPath::BitBuffers => {
-            crate::kit::quickest!(crate::proved::vortex_mask::intersect_by_rank::kernels::bit_buffers::intersect_bit_buffers_any::<Portable>(buffer, bits, true_count))
+            crate::native::quickest!(crate::proved::vortex_mask::intersect_by_rank::kernels::bit_buffers::intersect_bit_buffers_any::<Portable>(buffer, bits, true_count))
         }
         RankPath::RankIndices if by_loop => {
             let indices = ranks.cached_indices().unwrap();
@@ -65,7 +67,7 @@ pub(crate) fn narrow_by_path_any(
         }
         RankPath::RankIndices => {
             let indices = ranks.cached_indices().unwrap();
-            crate::kit::quickest!(intersect_bit_buffer_by_rank_indices::<Portable>(buffer, indices))
+            crate::native::quickest!(intersect_bit_buffer_by_rank_indices::<Portable>(buffer, indices))
         }
     }
 }
@@ -93,11 +95,15 @@ fn by_selections(rows: &MaskValues, ranks: &MaskValues) -> Result<(Mask, Steps),
     match ranks.cached_indices() {
         Some(cached) => {
             let ranks = cached.iter().copied();
-            crate::kit::quickest!(intersect_mask_driven::<Portable, _>(buffer, ranks, true_count))
+            crate::native::quickest!(intersect_mask_driven::<Portable, _>(
+                buffer, ranks, true_count
+            ))
         }
         None => {
             let ranks = ranks.bit_buffer().set_indices();
-            crate::kit::quickest!(intersect_mask_driven::<Portable, _>(buffer, ranks, true_count))
+            crate::native::quickest!(intersect_mask_driven::<Portable, _>(
+                buffer, ranks, true_count
+            ))
         }
     }
 }

@@ -40,8 +40,8 @@ impl<'a> RankBits<'a> {
     #[inline]
     #[track_caller]
     pub fn over(bytes: &'a [u8], offset: usize, len: usize) -> RankBits<'a> {
-        crate::kit::conditions::owed(
-            crate::kit::conditions::are_within(bytes, offset, len),
+        crate::conditions::owed(
+            crate::conditions::are_within(bytes, offset, len),
             "RankBits::over",
             "its condition",
             "IsWithinBytes bytes.now offset len",
@@ -85,7 +85,7 @@ impl<'a> RankBits<'a> {
     #[inline]
     #[track_caller]
     pub fn read(&self, offset: usize) -> u64 {
-        crate::kit::conditions::owed(
+        crate::conditions::owed(
             (self.offset as u128) + (offset as u128) < 1 << 64,
             "RankBits::read",
             "its condition",

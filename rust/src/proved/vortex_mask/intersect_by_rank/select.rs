@@ -35,7 +35,7 @@ pub unsafe trait SelectBit {
     #[inline]
     #[track_caller]
     fn select_bit_position(word: u64, rank: usize) -> usize {
-        crate::kit::conditions::owed(
+        crate::conditions::owed(
             rank < (word.count_ones() as usize),
             "SelectBit::select_bit_position",
             "its condition",

@@ -107,13 +107,13 @@ impl Steps {
     #[inline]
     #[track_caller]
     pub fn deposit<D: DepositBits>(&mut self, source: u64, mask: u64, mask_count: usize) -> u64 {
-        crate::kit::conditions::owed(
+        crate::conditions::owed(
             self.deposits < usize::MAX,
             "Steps::deposit",
             "room",
             "self.old.deposits < usize.MAX",
         );
-        crate::kit::conditions::owed(
+        crate::conditions::owed(
             mask_count == (mask.count_ones() as usize),
             "Steps::deposit",
             "counted",
@@ -170,13 +170,13 @@ impl Steps {
     #[inline]
     #[track_caller]
     pub fn word(&mut self, chunks: &BitChunks<'_>, i: usize) -> u64 {
-        crate::kit::conditions::owed(
+        crate::conditions::owed(
             self.words < usize::MAX,
             "Steps::word",
             "room",
             "self.old.words < usize.MAX",
         );
-        crate::kit::conditions::owed(
+        crate::conditions::owed(
             64 * (i as u128) < ((64 * chunks.len() + chunks.remainder_len()) as u128),
             "Steps::word",
             "there",
@@ -212,13 +212,13 @@ impl Steps {
     #[inline]
     #[track_caller]
     pub fn select<S: SelectBit>(&mut self, word: u64, rank: usize) -> usize {
-        crate::kit::conditions::owed(
+        crate::conditions::owed(
             self.selections < usize::MAX,
             "Steps::select",
             "room",
             "self.old.selections < usize.MAX",
         );
-        crate::kit::conditions::owed(
+        crate::conditions::owed(
             rank < (word.count_ones() as usize),
             "Steps::select",
             "inside",

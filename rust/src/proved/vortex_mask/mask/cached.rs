@@ -84,7 +84,7 @@ impl Mask {
         num: usize,
         den: usize,
     ) -> Result<AllOr<MaskIter<'_>>, MaskError> {
-        crate::kit::conditions::owed(0 < den, "Mask::threshold_iter", "its condition", "0 < den");
+        crate::conditions::owed(0 < den, "Mask::threshold_iter", "its condition", "0 < den");
         self.threshold_iter_proved(num, den)
     }
 

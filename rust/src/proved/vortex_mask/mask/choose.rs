@@ -28,7 +28,7 @@ impl Mask {
     #[inline]
     #[track_caller]
     pub fn choose<T: Copy>(&self, rows: &[T]) -> Result<Vec<T>, MaskError> {
-        crate::kit::conditions::owed(
+        crate::conditions::owed(
             rows.len() == self.len(),
             "Mask::choose",
             "its condition",

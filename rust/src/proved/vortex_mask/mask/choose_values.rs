@@ -31,7 +31,7 @@ impl Mask {
     #[inline]
     #[track_caller]
     pub fn choose_values(&self, of: &Mask) -> Result<Mask, MaskError> {
-        crate::kit::conditions::owed(
+        crate::conditions::owed(
             of.len() == self.len(),
             "Mask::choose_values",
             "its condition",

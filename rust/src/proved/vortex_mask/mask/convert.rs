@@ -44,8 +44,8 @@ impl Mask {
         buffer: BitBuffer,
         mut ranges: Vec<(usize, usize)>,
     ) -> Result<Mask, MaskError> {
-        crate::kit::conditions::owed(
-            crate::kit::conditions::are_ranges(&buffer, &ranges),
+        crate::conditions::owed(
+            crate::conditions::are_ranges(&buffer, &ranges),
             "Mask::from_buffer_with_slices",
             "its condition",
             "AreRanges (values buffer) ranges.items",

@@ -25,13 +25,8 @@ impl Fraction {
     #[inline]
     #[track_caller]
     pub fn at_least(self, other: Fraction) -> bool {
-        crate::kit::conditions::owed(0 < self.den, "Fraction::at_least", "den", "0 < self.den");
-        crate::kit::conditions::owed(
-            0 < other.den,
-            "Fraction::at_least",
-            "other_den",
-            "0 < other.den",
-        );
+        crate::conditions::owed(0 < self.den, "Fraction::at_least", "den", "0 < self.den");
+        crate::conditions::owed(0 < other.den, "Fraction::at_least", "other_den", "0 < other.den");
         self.at_least_proved(other)
     }
 

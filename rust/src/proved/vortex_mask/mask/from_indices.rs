@@ -202,14 +202,14 @@ impl Mask {
         let rhs = rhs.into_iter();
         let lhs: Vec<usize> = lhs.collected()?;
         let rhs: Vec<usize> = rhs.collected()?;
-        crate::kit::conditions::owed(
-            crate::kit::conditions::ascends(&lhs),
+        crate::conditions::owed(
+            crate::conditions::are_ascending(&lhs),
             "Mask::from_intersection_indices",
             "lhs_ascends",
             "EachRunFrom L.next_gives lhs IsAscending",
         );
-        crate::kit::conditions::owed(
-            crate::kit::conditions::ascends(&rhs),
+        crate::conditions::owed(
+            crate::conditions::are_ascending(&rhs),
             "Mask::from_intersection_indices",
             "rhs_ascends",
             "EachRunFrom R.next_gives rhs IsAscending",

@@ -24,8 +24,8 @@ impl Mask {
     #[inline]
     #[track_caller]
     pub fn slice(&self, start: usize, end: usize) -> Result<Mask, MaskError> {
-        crate::kit::conditions::owed(start <= end, "Mask::slice", "ordered", "start ≤ end");
-        crate::kit::conditions::owed(
+        crate::conditions::owed(start <= end, "Mask::slice", "ordered", "start ≤ end");
+        crate::conditions::owed(
             end <= self.len(),
             "Mask::slice",
             "within",
@@ -68,7 +68,7 @@ impl Mask {
     #[inline]
     #[track_caller]
     pub fn groups(&self, size: usize) -> Result<Vec<Mask>, MaskError> {
-        crate::kit::conditions::owed(0 < size, "Mask::groups", "its condition", "0 < size");
+        crate::conditions::owed(0 < size, "Mask::groups", "its condition", "0 < size");
         self.groups_proved(size)
     }
 

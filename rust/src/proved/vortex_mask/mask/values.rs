@@ -109,7 +109,7 @@ impl MaskValues {
     #[inline]
     #[track_caller]
     pub fn value(&self, index: usize) -> bool {
-        crate::kit::conditions::owed(
+        crate::conditions::owed(
             index < self.buffer.len(),
             "MaskValues::value",
             "its condition",
@@ -221,12 +221,7 @@ impl MaskValues {
     #[inline]
     #[track_caller]
     pub fn threshold_iter(&mut self, num: usize, den: usize) -> Result<MaskIter<'_>, MaskError> {
-        crate::kit::conditions::owed(
-            0 < den,
-            "MaskValues::threshold_iter",
-            "its condition",
-            "0 < den",
-        );
+        crate::conditions::owed(0 < den, "MaskValues::threshold_iter", "its condition", "0 < den");
         self.threshold_iter_proved(num, den)
     }
 

@@ -49,7 +49,7 @@ pub fn narrow_by_bits<D: DepositBits>(
     ranks: &RankBits<'_>,
     out: &mut [u8],
 ) -> Steps {
-    crate::kit::by_level!(
+    crate::native::by_level!(
         narrow_by_bits_v3::<D>(chunks, ranks, out),
         narrow_by_bits_any::<D>(chunks, ranks, out)
     )

@@ -13,7 +13,7 @@ pub fn intersect_mask_driven<S: SelectBit, I: Iterator<Item = usize>>(
     mask_indices: I,
     true_count: usize,
 ) -> Result<(Mask, Steps), MaskError> {
-    crate::kit::by_level!(
+    crate::native::by_level!(
         intersect_mask_driven_v3::<S, _>(self_buffer, mask_indices, true_count),
         intersect_mask_driven_any::<S, _>(self_buffer, mask_indices, true_count)
     )

@@ -30,7 +30,7 @@ pub fn narrow_at_ranks<D: DepositBits>(
     ranks: &[usize],
     out: &mut [u8],
 ) -> Steps {
-    crate::kit::by_level!(
+    crate::native::by_level!(
         narrow_at_ranks_v3::<D>(chunks, ranks, out),
         narrow_at_ranks_any::<D>(chunks, ranks, out)
     )
@@ -74,7 +74,7 @@ fn narrow_by_list<D: DepositBits>(
     ranks: &[usize],
     out: &mut [u8],
 ) -> Steps {
-    crate::kit::by_level!(
+    crate::native::by_level!(
         narrow_by_list_v3::<D>(chunks, ranks, out),
         narrow_by_list_any::<D>(chunks, ranks, out)
     )

@@ -1,7 +1,11 @@
-//! What callers owe, as tests. A public call tests it and stops where it isn't met.
+//! What calls of masks require, as tests.
 #![allow(clippy::inline_always, reason = "a copy is compiled for what the function around it has")]
 
+// What isn't `pub` is of the package's own calls, which test what their callers owe, and stop where it isn't met. It is
+// written by hand.
+
 use crate::proved::mask_bits::BitBuffer;
+pub use crate::proved::vortex_mask::conditions::{are_a_stack, ascends};
 
 /// Stops where a condition isn't met.
 ///
@@ -23,18 +27,18 @@ fn broken(call: &'static str, name: &'static str, words: &'static str) -> ! {
 }
 
 /// Whether each index is above the one before it. With no branch for each, so that several are compared at once.
-pub(crate) fn ascends(indices: &[usize]) -> bool {
-    crate::kit::by_level!(ascends_v3(indices), ascends_any(indices))
+pub(crate) fn are_ascending(indices: &[usize]) -> bool {
+    crate::native::by_level!(are_ascending_v3(indices), are_ascending_any(indices))
 }
 
 #[cfg(target_arch = "x86_64")]
 #[target_feature(enable = "avx2")]
-fn ascends_v3(indices: &[usize]) -> bool {
-    ascends_any(indices)
+fn are_ascending_v3(indices: &[usize]) -> bool {
+    are_ascending_any(indices)
 }
 
 #[inline(always)]
-fn ascends_any(indices: &[usize]) -> bool {
+fn are_ascending_any(indices: &[usize]) -> bool {
     let next = indices.get(1..).unwrap_or_default();
     let fits = |index: Option<&usize>| index.is_none_or(|index| index.cast_signed() >= 0);
     if fits(indices.first()) && fits(indices.last()) {
@@ -65,7 +69,7 @@ pub(crate) fn are_within(bytes: &[u8], offset: usize, len: usize) -> bool {
 
 /// Whether these are indices of so many true values of a list with `values` of them.
 pub(crate) fn are_ranks(ranks: &[usize], values: usize, count: usize) -> bool {
-    ascends(ranks) && ranks.len() == count && ranks.last().is_none_or(|last| *last < values)
+    are_ascending(ranks) && ranks.len() == count && ranks.last().is_none_or(|last| *last < values)
 }
 
 /// Whether ranges hold exactly the true values: each isn't empty and ends at most where the next begins.
@@ -99,7 +103,7 @@ mod tests {
             for count in 0..=5 {
                 let list = &list[..count];
                 let each = list.windows(2).all(|two| two[0] < two[1]);
-                assert_eq!(super::ascends(list), each, "{list:?}");
+                assert_eq!(super::are_ascending(list), each, "{list:?}");
             }
         }
     }

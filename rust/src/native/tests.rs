@@ -1,6 +1,6 @@
 //! Each call that goes by what the processor has, with all of it, without PDEP and PEXT, and without x86-64-v3.
 
-use super::found::{MOST, QUICK_BITS, V3};
+use super::features::found::{MOST, QUICK_BITS, V3};
 use crate::{BitBuffer, Bitmap, BitmapBuf, Mask, Row};
 
 /// A call gives the same whatever the processor has.

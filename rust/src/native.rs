@@ -1,0 +1,27 @@
+//! What the processor has that a program runs on, where it isn't compiled for that: x86-64-v3, and the instructions PDEP
+//! and PEXT where these are quick. All of it is written by hand, and trusted. `README.md` lists all that is.
+//!
+//! `features` asks the processor, `levels` has calls of what is compiled for it, and `instructions` has the instructions.
+//! These import nothing of the package but each other. `deposits`, `extracts` and `processor` stand in the places of proved
+//! functions, and import what they implement or are called with.
+
+mod deposits;
+#[cfg(target_arch = "x86_64")]
+mod extracts;
+mod features;
+#[cfg(target_arch = "x86_64")]
+mod instructions;
+mod levels;
+pub(crate) mod processor;
+#[cfg(all(test, target_arch = "x86_64"))]
+mod tests;
+
+#[cfg(target_arch = "x86_64")]
+pub(crate) use deposits::Bmi2;
+pub(crate) use deposits::{by_loop, quickest};
+#[cfg(target_arch = "x86_64")]
+pub(crate) use extracts::{extract, put_pairs};
+pub(crate) use features::has_quick_bits;
+#[cfg(target_arch = "x86_64")]
+pub(crate) use features::has_v3;
+pub(crate) use levels::{by_level, by_level_if, by_shifted_level, by_wide_level_if, levelled};

@@ -1,0 +1,67 @@
+//! Deposits and selections by PDEP, in place of the sources' own where it is quick.
+
+#[cfg(target_arch = "x86_64")]
+use super::instructions::deposit;
+use crate::proved::vortex_mask::intersect_by_rank::deposits_by_loop;
+#[cfg(target_arch = "x86_64")]
+use crate::proved::vortex_mask::intersect_by_rank::{DepositBits, SelectBit};
+
+/// Deposits by PDEP where that is quick, and else as the sources do.
+macro_rules! quickest {
+    (Portable::$call:ident($($argument:expr),* $(,)?)) => {
+        crate::native::quickest!(
+            <crate::native::Bmi2 as DepositBits>::$call($($argument),*),
+            Portable::$call($($argument),*)
+        )
+    };
+    ($($call:ident::)+<Portable $(,)?>($($argument:expr),* $(,)?)) => {
+        crate::native::quickest!(
+            $($call::)+<crate::native::Bmi2>($($argument),*),
+            $($call::)+<Portable>($($argument),*)
+        )
+    };
+    ($($call:ident::)+<Portable, _>($($argument:expr),* $(,)?)) => {
+        crate::native::quickest!(
+            $($call::)+<crate::native::Bmi2, _>($($argument),*),
+            $($call::)+<Portable, _>($($argument),*)
+        )
+    };
+    ($by_pdep:expr, $as_it_is:expr) => {{
+        #[cfg(target_arch = "x86_64")]
+        let result = if crate::native::has_quick_bits() { $by_pdep } else { $as_it_is };
+        #[cfg(not(target_arch = "x86_64"))]
+        let result = $as_it_is;
+        result
+    }};
+}
+pub(crate) use quickest;
+
+/// Whether deposits go by a loop over set places: only where the processor has no quick PDEP.
+#[inline]
+pub(crate) fn by_loop(len: usize, true_count: usize) -> bool {
+    !super::has_quick_bits() && deposits_by_loop(len, true_count)
+}
+
+/// Deposits and selections by PDEP.
+#[cfg(target_arch = "x86_64")]
+pub(crate) struct Bmi2;
+
+// SAFETY: PDEP puts bit number k of the source at set place number k of the mask, and zeros elsewhere.
+#[cfg(target_arch = "x86_64")]
+unsafe impl DepositBits for Bmi2 {
+    #[allow(clippy::inline_always, reason = "it is one instruction")]
+    #[inline(always)]
+    fn deposit_bits_proved(source: u64, mask: u64, _mask_count: usize) -> u64 {
+        deposit(source, mask)
+    }
+}
+
+// SAFETY: of a word with bit number `rank` alone, PDEP makes one with the place of that set bit alone.
+#[cfg(target_arch = "x86_64")]
+unsafe impl SelectBit for Bmi2 {
+    #[allow(clippy::inline_always, reason = "it is two instructions")]
+    #[inline(always)]
+    fn select_bit_position_proved(word: u64, rank: usize) -> usize {
+        deposit(1 << rank, word).trailing_zeros() as usize
+    }
+}
