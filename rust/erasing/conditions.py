@@ -17,29 +17,47 @@ NUMBER = re.compile(r"\d+|usize\.MAX|[\w.]+|[()+*/^]|[≤<≡]|\S")
 TESTS = "crate::conditions"
 
 
-class Condition:
-    """A condition as a test in Rust, by the types of the parameters.
+# How a comparison is tested, how it reads in Rust, and what is said where it is broken.
+COMPARED = {
+    "<": ("below", "<", "is not below"), "≤": ("at_most", "<=", "is not at most"), "≡": ("equal", "==", "is not"),
+    ">": ("above", ">", "is not above"), "≥": ("at_least", ">=", "is not at least"),
+}
+TURNED = {"<": ">", "≤": "≥", "≡": "≡"}
 
-    >>> Condition({"start": "usize", "end": "usize", "self": "BitBuffer"}, "start ≤ end").test()
-    'start <= end'
-    >>> Condition({"i": "usize", "self": "&BitBuffer"}, "i < length (values self.now)").test()
-    'i < self.len()'
-    >>> Condition({"i": "usize", "chunks": "&BitChunks<'_>"}, "64 * i < length chunks.now").test()
-    '64 * (i as u128) < ((64 * chunks.len() + chunks.remainder_len()) as u128)'
-    >>> Condition({"ks": "&[usize]"}, "All (λ k. k < count (values b.now)) ks.now").test()
-    'crate::conditions::are_below(ks, b.true_count())'
-    >>> Condition({}, "F.IsAlwaysCallable test").test() is None
+
+class Condition:
+    """A condition of a call as a test in Rust, by the types of the parameters, with what is said where it is broken.
+
+    >>> Condition("cut", {"start": "usize", "end": "usize", "self": "BitBuffer"}, "start ≤ end").test()
+    'need_at_most(start, end, &["`cut` needs `start <= end`: ", " is not at most "])'
+    >>> Condition("at", {"i": "usize", "self": "&BitBuffer"}, "i < length (values self.now)").test()
+    'need_below(i, self.len(), &["`at` needs `i < self.len()`: ", " is not below "])'
+    >>> Condition("by", {"size": "usize"}, "0 < size").test()
+    'need_above(size, 0, &["`by` needs `size > 0`: ", " is not above "])'
+    >>> Condition("add", {"n": "usize", "self": "A"}, "length self.old + n < 2 ^ 64").test()
+    'need_at_most((self.len() as u128) + (n as u128), (usize::MAX as u128), \
+&["`add` needs `self.len() + n <= usize::MAX`: ", " is not at most "])'
+    >>> Condition("at", {"i": "usize", "c": "&BitChunks<'_>"}, "64 * i < length c.now", ("needs", "a word")).test()
+    'need_below(64 * (i as u128), ((64 * c.len() + c.remainder_len()) as u128), &["`at` needs a word: ", " is not below "])'
+    >>> Condition("at", {"n": "usize"}, "n < count (truth self.now)", ("says", "No {} of {}")).test()
+    'need_below(n, self.true_count(), &["`at`: No ", " of "])'
+    >>> Condition("of", {"ks": "&[usize]"}, "All (λ k. k < count (values b.now)) ks.now").test()
+    'need_each_below(ks, b.true_count(), "`of` needs each of `ks` below `b.true_count()`: ")'
+    >>> Condition("of", {}, "F.IsAlwaysCallable test").test() is None
     True
-    >>> Condition({"offset": "usize", "len": "usize"}, "offset / 8 ≤ len").test()
-    'offset / 8 <= len'
-    >>> Condition({"size": "usize"}, "8 / size < 9").test()
+    >>> Condition("of", {"offset": "usize", "len": "usize"}, "offset / 8 ≤ len").test()
+    'need_at_most(offset / 8, len, &["`of` needs `offset / 8 <= len`: ", " is not at most "])'
+    >>> Condition("of", {"size": "usize"}, "8 / size < 9").test()
     Traceback (most recent call last):
     erasing.tokens.Fault: `8 / size < 9` divides by what may be 0
     """
 
-    def __init__(self, types, words):
+    def __init__(self, call, types, words, told=None):
+        self.call = call
         self.types = types
         self.words = spaced(words)
+        # a mark, in place of what the form of the condition says
+        self.told = told
         # iterators whose items are listed, since a condition is of them
         self.listed = []
 
@@ -50,11 +68,11 @@ class Condition:
             return None
         forms = [
             (r"All \(λ (\w+)\. \1 ([<≤]) (.+)\) (\S+)", self.each),
-            (r"IsStrictlyIncreasing (\S+)", lambda it: f"{TESTS}::are_ascending({self.lent(it)})"),
-            (r"IsNonDecreasing (\S+)", lambda it: f"{self.place(it)}.is_sorted()"),
-            (r"IsWithinBytes (\S+) (\S+) (\S+)", lambda b, o, n: f"{TESTS}::are_within({self.place(b)}, {o}, {n})"),
-            (r"IsStack \(truth self\.now ∷ map truth (\w+)\.now\)", lambda ms: f"{TESTS}::are_a_stack(self, {ms})"),
-            (r"AreRanges \(values (\w+)\) (\w+)\.items", lambda b, rs: f"{TESTS}::are_ranges(&{b}, &{rs})"),
+            (r"IsStrictlyIncreasing (\S+)", lambda it: self.ascending(self.place(it), self.place(it))),
+            (r"IsNonDecreasing (\S+)", self.sorted),
+            (r"IsWithinBytes (\S+) (\S+) (\S+)", self.within),
+            (r"IsStack \(truth self\.now ∷ map truth (\w+)\.now\)", self.stack),
+            (r"AreRanges \(values (\w+)\) (\w+)\.items", self.ranges),
             (r"EachRunFrom \w+\.next_gives (\w+) IsAscending", self.ascending_items),
             (r"EachRunFrom \w+\.next_gives (\w+) \(AreRanks \((.+)\) (\w+)\)", self.ranks),
         ]
@@ -65,26 +83,66 @@ class Condition:
         self.form = "a comparison"
         return self.compared(self.words)
 
+    def says(self, needs):
+        """What is said before the values: what a mark has, or else what the form does."""
+        how, text = self.told or ("needs", needs)
+        return f"`{self.call}` needs {text}: " if how == "needs" else f"`{self.call}`: {text}: "
+
     def each(self, name, sign, bound, items):
-        test = {"<": "are_below", "≤": "are_at_most"}[sign]
-        return f"{TESTS}::{test}({self.place(items)}, {self.sum(bound)})"
+        items, bound = self.place(items), self.sum(bound)
+        test, _, is_not = COMPARED[sign]
+        needs = self.says(f"each of `{items}` {is_not.removeprefix('is not ')} `{bound}`")
+        return f'need_each_{test}({items}, {bound}, "{needs}")'
+
+    def ascending(self, items, lent):
+        return f'need_ascending({lent}, "{self.says(f"each of `{items}` above the one before it")}")'
 
     def ascending_items(self, items):
         self.listed.append(items)
-        return f"{TESTS}::are_ascending(&{items})"
+        return self.ascending(items, f"&{items}")
+
+    def sorted(self, items):
+        items = self.place(items)
+        return f'need_sorted({items}, "{self.says(f"each of `{items}` at least the one before it")}")'
+
+    def within(self, *operands):
+        items, offset, count = map(self.place, operands)
+        return f'need_within({items}, {offset}, {count}, "{self.says(f"`{offset} + {count} <= 8 * {items}.len()`")}")'
+
+    def stack(self, masks):
+        return f'need_stack(self, {masks}, "{self.says(f"each mask as long as the one before it has true values")}")'
+
+    def ranges(self, buffer, ranges):
+        return f'need_ranges(&{buffer}, &{ranges}, "`{self.call}`")'
 
     def ranks(self, items, values, count):
         self.listed.append(items)
-        return f"{TESTS}::are_ranks(&{items}, {self.sum(values)}, {count})"
+        values = self.sum(values)
+        needs = self.says(f"`{count}` ascending `{items}` below `{values}`")
+        return f'need_ranks(&{items}, {values}, {count}, "{needs}")'
 
     def compared(self, words):
         left, sign, right = re.fullmatch(r"(.+?) ([≤<≡]) (.+)", words).groups()
-        sign = {"≤": "<=", "<": "<", "≡": "=="}[sign]
         # (sums and products are exact in 128 bits)
         wide = any(it in "+*^" for it in words.split())
-        if right == "2 ^ 64":
-            return f"{self.sum(left, True)} {sign} 1 << 64"
-        return f"{self.sum(left, wide)} {sign} {self.sum(right, wide)}"
+        if (sign, right) == ("<", "2 ^ 64"):
+            sign, right = "≤", "usize.MAX"
+        elif left.isdigit():
+            left, sign, right = right, TURNED[sign], left
+        test, rust, is_not = COMPARED[sign]
+        one, other = (self.shown(self.sum(it)) for it in (left, right))
+        parts = [self.says(f"`{one} {rust} {other}`"), f" {is_not} "]
+        if "{}" in parts[0]:
+            first, between, rest = parts[0].removesuffix(": ").split("{}")
+            if rest:
+                raise Fault(f"a value has to end `{self.told[1]}`")
+            parts = [first, between]
+        one, other = (self.sum(it, wide) for it in (left, right))
+        return f"""need_{test}({one}, {other}, &["{parts[0]}", "{parts[1]}"])"""
+
+    def shown(self, made):
+        """An expression as a reader has it."""
+        return re.sub(r"\((\w\S* *\S*\.count_ones\(\)) as usize\)", r"\1", made)
 
     def sum(self, words, wide=False):
         """A sum of products."""
@@ -157,6 +215,3 @@ class Condition:
 
     def place(self, it):
         return re.sub(r"\.(now|old)\b", "", it)
-
-    def lent(self, it):
-        return self.place(it)

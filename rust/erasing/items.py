@@ -84,6 +84,9 @@ class Erasure:
     >>> made("// rust: visible\\nstruct A;")
     Traceback (most recent call last):
     erasing.tokens.Fault: source:2: no item of this kind has the mark `// rust: visible`
+    >>> made("// rust: needs a place\\nfn f() {}")
+    Traceback (most recent call last):
+    erasing.tokens.Fault: source: f tests nothing, and has the mark `needs a place`
     >>> made("fn f() {\\n    // rust: visible\\n    g() }")
     Traceback (most recent call last):
     erasing.tokens.Fault: source: a mark stands above no item
@@ -370,6 +373,8 @@ impl core::error::Error for {name} {{}}
             self.count("private functions")
             function.before = "pub(crate) " + function.before
         before, inline = self.inlining(before, body)
+        if marked.told and (kind == "trait impl" or not self.is_public(function, context)):
+            raise Fault(f"{self.source.name}: {where} tests nothing, and has the mark `{marked.text}`")
         if kind == "trait impl":
             is_twin = (of.partition(" for ")[0], function.name) in self.twins
             name = function.name + ("_proved" if is_twin else "")
@@ -387,8 +392,9 @@ impl core::error::Error for {name} {{}}
             levels = more + levels
         if not self.is_public(function, context):
             return f"{before}{inline}{function.signature()} {body}{levels}", last + 1
-        tests, listed = self.tests(function, clauses, of, where)
+        tests, listed = self.tests(function, clauses, of, where, marked.told)
         before = documented(before, clauses, tests)
+        tests = [f"{TESTS}::{it};" for it in tests.values()]
         if lists := lists_first(body, listed):
             body = body[:lists] + "\n" + "\n".join(tests) + body[lists:]
             return f"{before}#[track_caller]\n{inline}{self.widened(function, body)}", last + 1
@@ -446,13 +452,12 @@ impl core::error::Error for {name} {{}}
             found.append((word, name, spaced(self.source.text(i + 1, last))))
             i = last + 1
 
-    def tests(self, function, clauses, of, where):
-        """The tests of what a caller owes, and the iterators whose items are listed for them."""
-        tests, listed = [], []
-        for word, name, words in clauses:
-            if word != "requires":
-                continue
-            condition = Condition(function.types(of), words)
+    def tests(self, function, clauses, of, where, told):
+        """The tests of what a caller owes, by the words of the clauses, and the iterators whose items are listed for them."""
+        tests, listed, told = {}, [], dict(told)
+        clauses = [(name, words) for word, name, words in clauses if word == "requires"]
+        for name, words in clauses:
+            condition = Condition(function.name, function.types(of), words, told.pop(name, None))
             try:
                 test = condition.test()
             except (Fault, AttributeError, IndexError, ValueError) as fault:
@@ -461,7 +466,9 @@ impl core::error::Error for {name} {{}}
             self.forms[condition.form].append((where, words, test))
             if test:
                 self.count("conditions")
-                tests.append(f'{TESTS}::owed({test}, "{where}", "{name or "its condition"}", "{words}");')
+                tests[words] = test
+        for name, mark in told.items():
+            raise Fault(f"{self.source.name}: {where} has no condition for the mark `{' '.join([*filter(None, [name]), *mark])}`")
         return tests, list(dict.fromkeys(listed))
 
     def with_tests(self, function, tests, listed, context, before, body):
@@ -524,8 +531,7 @@ def documented(before, clauses, tests):
     """The comment of a function, with its contract behind it: first what it tests."""
     lines, parts = [], {"Panics unless": [], "The caller owes": [], "Proved": []}
     for word, name, it in clauses:
-        is_tested = any(test.endswith(f'"{it}");') for test in tests)
-        part = "Proved" if word == "ensures" else "Panics unless" if is_tested else "The caller owes"
+        part = "Proved" if word == "ensures" else "Panics unless" if it in tests else "The caller owes"
         parts[part].append((name, it))
     for title, found in parts.items():
         if found:

@@ -13,6 +13,9 @@
 | `// rust: visible` | private functions and modules that calls by hand go to |
 | `// rust: inline` | inlined always: tests of places make it seem too long for that |
 | `// rust: by hand` | nothing of an implementation: the package has its own |
+| `// rust: needs TEXT` | what a call says that it needs where its condition is broken, in place of the condition in Rust |
+| `// rust: says TEXT` | what it says then: the text of the Rust crate. The two values stand at its `{}`, or behind it |
+| `.. NAME needs TEXT`, `.. NAME says TEXT` | the same of the condition with this name, of a call that has several |
 """
 import re
 from functools import cache
@@ -23,6 +26,7 @@ from erasing.tokens import Fault
 CRATES = Path(__file__).resolve().parents[2] / "crates"
 LINE = re.compile(r"^[ \t]*// rust:(.*)\n", re.M)
 LEVEL = re.compile(r"(wide |shifted )?level(?: if (.+?))?( alone)?")
+TOLD = re.compile(r"(?:(\w+) )?(needs|says) (\S.*)")
 OTHERS = ["called at its level", "copied for each level", "copied by PEXT", "visible", "inline", "by hand"]
 HEAD = re.compile(r"^([ \t]*)(?:pub(?:\(\w+\))? )?(?:unsafe )?(?:extern \"C\" )?(fn|mod) (\w+)", re.M)
 
@@ -33,6 +37,8 @@ class Marks:
     >>> marks = Marks(["wide level if len > 128", "visible"])
     >>> marks.level, marks.much, marks.alone, marks.has("visible"), marks.has("inline")
     ('wide_level', 'len > 128', False, True, False)
+    >>> Marks(["within needs `a < b`", "says No {} of {}"]).told
+    {'within': ('needs', '`a < b`'), None: ('says', 'No {} of {}')}
     >>> Marks(["levels"])
     Traceback (most recent call last):
     erasing.tokens.Fault: no mark is `// rust: levels`
@@ -43,9 +49,13 @@ class Marks:
         self.level = self.much = None
         self.alone = False
         self.others = set()
+        # what is said where a condition is broken, by the condition's name
+        self.told = {}
         for it in words:
-            match = LEVEL.fullmatch(it)
-            if match and self.level is None:
+            match, told = LEVEL.fullmatch(it), TOLD.fullmatch(it)
+            if told and told[1] not in self.told:
+                self.told[told[1]] = (told[2], told[3])
+            elif match and self.level is None:
                 self.level = f"{(match[1] or '').strip()}_level".lstrip("_")
                 self.much, self.alone = match[2], bool(match[3])
             elif it in OTHERS and it not in self.others:

@@ -37,7 +37,7 @@ GONE = [
     r"# \[ unsafe \( no_mangle \) \]",
     r"extern \"[-\d]+\"",
 ]
-OWED = r"crate :: conditions :: owed \( [^;]*?, \"[-\d]+\" , \"[-\d]+\" , \"[-\d]+\" \) ;"
+OWED = r"crate :: conditions :: need_\w+ \( [^;]*? \) ;"
 NEW = [
     OWED,
     r"# \[ track_caller \]",

@@ -63,6 +63,7 @@ impl<'a> BitChunks<'a> {
     }
 
     /// Whole word `i`, whose bit `j` is value `64 * i + j`.
+    // rust: needs the index of a whole word
     pub fn word(&self, i: usize) -> u64
         requires { i < length self.now / 64 }
         ensures { word_bits result ≡ word_part self.now i }
@@ -156,6 +157,7 @@ impl<'a> BitChunks<'a> {
     }
 
     /// The first index from `from` on whose value is `value`, and the length where none is.
+    // rust: needs an index up to the number of values
     #[tactic(auto, using(crate::proofs::BufferLemmas::len_facts))]
     pub fn first_from(&self, from: usize, value: bool) -> usize
         requires { from ≤ length self.now }
@@ -201,6 +203,7 @@ impl<'a> BitChunks<'a> {
     }
 
     /// Started word `i`, with zeros past the last value.
+    // rust: needs the index of a started word
     #[inline]
     #[tactic(auto, using(crate::proofs::Lists::Words::PaddedLemmas::padded_facts))]
     pub fn started_word(&self, i: usize) -> u64

@@ -17,6 +17,7 @@ use std::alloc::Global;
 #[tactic(auto, using(crate::proofs::Masks::MaskLemmas::variant_facts, crate::proofs::Masks::BitopLemmas::bitop_facts))]
 impl Mask {
     /// The values that are true in both.
+    // rust: says Masks must have the same length
     pub fn bitand(&self, alloc: Global, other: &Mask) -> Result<Mask, MaskError>
         requires { length (truth self.now) ≡ length (truth other.now) }
         ensures list { IfOk result (λ m. truth m ≡ and_of (truth self.now) (truth other.now)) }
@@ -48,6 +49,7 @@ impl Mask {
     }
 
     /// The values that are true in one or in both.
+    // rust: says Masks must have the same length
     pub fn bitor(&self, alloc: Global, other: &Mask) -> Result<Mask, MaskError>
         requires { length (truth self.now) ≡ length (truth other.now) }
         ensures list { IfOk result (λ m. truth m ≡ or_of (truth self.now) (truth other.now)) }
@@ -102,6 +104,7 @@ impl Mask {
     }
 
     /// The values that are true here and not in `other`: `bitand_not` of a mask that is only lent.
+    // rust: says Masks must have the same length
     pub fn to_bitand_not(&self, alloc: Global, other: &Mask) -> Result<Mask, MaskError>
         requires { length (truth self.now) ≡ length (truth other.now) }
         ensures list { IfOk result (λ m. truth m ≡ and_not_of (truth self.now) (truth other.now)) }
@@ -133,6 +136,7 @@ impl Mask {
 #[tactic(auto, using(crate::proofs::Masks::MaskLemmas::variant_facts, crate::proofs::Masks::BitopLemmas::bitop_facts))]
 impl Mask {
     /// The values that are true in both.
+    // rust: says Masks must have the same length
     pub fn into_bitand(self, alloc: Global, other: &Mask) -> Result<Mask, MaskError>
         requires { length (truth self) ≡ length (truth other.now) }
         ensures list { IfOk result (λ m. truth m ≡ and_of (truth self) (truth other.now)) }
@@ -162,6 +166,7 @@ impl Mask {
     }
 
     /// The values that are true in one or in both.
+    // rust: says Masks must have the same length
     pub fn into_bitor(self, alloc: Global, other: &Mask) -> Result<Mask, MaskError>
         requires { length (truth self) ≡ length (truth other.now) }
         ensures list { IfOk result (λ m. truth m ≡ or_of (truth self) (truth other.now)) }
@@ -213,6 +218,7 @@ impl Mask {
     }
 
     /// The values that are true here and not in `other`.
+    // rust: says Masks must have the same length
     pub fn bitand_not(self, alloc: Global, other: &Mask) -> Result<Mask, MaskError>
         requires { length (truth self) ≡ length (truth other.now) }
         ensures list { IfOk result (λ m. truth m ≡ and_not_of (truth self) (truth other.now)) }

@@ -41,6 +41,7 @@ impl Mask {
     /// The mask in which the true values of this one are narrowed by a mask over them: true value
     /// number `k` stays true exactly where value `k` of `mask` is true.
     // rust: level alone
+    // rust: needs a rank mask as long as the mask's count of true values
     pub fn intersect_by_rank(&self, alloc: Global, mask: &Mask) -> Result<Mask, MaskError>
         requires { length (truth mask.now) ≡ count (truth self.now) }
         ensures len { IfOk result (λ m. length (truth m) ≡ length (truth self.now)) }
@@ -69,6 +70,7 @@ impl Mask {
     /// where no kernel runs: where a side is all true or all false.
     // rust: called at its level
     // rust: copied for each level
+    // rust: needs a rank mask as long as the mask's count of true values
     #[tactic(auto, using(crate::proofs::Masks::MaskLemmas::variant_facts, crate::proofs::Masks::MaskLemmas::narrowing_facts))]
     pub fn intersect_by_rank_counted(
         &self,

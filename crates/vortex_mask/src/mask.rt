@@ -209,6 +209,7 @@ impl Mask {
     }
 
     /// The index of true value number `n`, counted from 0.
+    // rust: says Rank {} out of bounds for mask with true count {}
     pub fn rank(&self, n: usize) -> usize
         requires { n < count (truth self.now) }
         ensures index { slice_get (positions (truth self.now)) n ≡ Some result }
@@ -280,6 +281,7 @@ impl Mask {
 
     /// For each index the number of true values below it. Values are counted once for all indices,
     /// up to the last of them.
+    // rust: within says Row indices exceed array length
     #[tactic(auto, using(crate::proofs::Masks::ReadingLemmas::one_value_counts))]
     pub fn valid_counts_for_indices(
         &self,

@@ -1,5 +1,6 @@
-//! What a call asks of its caller is tested: where a condition is just broken the call panics and names it, and where
-//! it is just met the call doesn't panic. The conditions are read in the sources, so that none is left out.
+//! What a call asks of its caller is tested: where a condition is just broken the call panics and says what it needs and
+//! what it was given, and where it is just met the call doesn't panic. The conditions are read in the sources, so that none
+//! is left out.
 
 mod buffers;
 mod kernels;
@@ -11,9 +12,10 @@ use std::fmt::Debug;
 use std::fs;
 use std::path::{Path, PathBuf};
 
-/// A call, one of its conditions (by no name where it is the only one), calls that break that one and none before it,
-/// and calls that meet all.
-type Row = (&'static str, &'static str, &'static [fn()], &'static [fn()]);
+/// A call, one of its conditions (by no name where it is the only one), what it says where that is broken, calls that
+/// break that one and none before it with what is said behind that, and calls that meet all.
+type Row =
+    (&'static str, &'static str, &'static str, &'static [(fn(), &'static str)], &'static [fn()]);
 
 /// Conditions that no program can break, with the reason.
 const NEVER_BROKEN: [(&str, &str, &str); 6] = [
@@ -48,11 +50,12 @@ fn ok<T, E: Debug>(answer: Result<T, E>) {
     done(answer.unwrap());
 }
 
-/// A condition as the sources have it.
+/// A condition as the sources have it: the call, the name of the clause in its documentation, and what is said first
+/// where it is broken.
 struct Condition {
     call: String,
     name: String,
-    words: String,
+    needs: String,
 }
 
 /// The conditions that are tested in a file or in a folder's files.
@@ -64,11 +67,37 @@ fn conditions(path: &Path, found: &mut Vec<Condition>) {
         return files.iter().for_each(|it| conditions(it, found));
     }
     let text = fs::read_to_string(path).unwrap();
-    for test in text.split("conditions::owed(").skip(1) {
-        // (three texts follow the test, which has none)
-        let [call, name, words] = [1, 3, 5].map(|i| String::from(test.split('"').nth(i).unwrap()));
-        found.push(Condition { call, name, words });
+    for (at, test) in text.match_indices("conditions::need_") {
+        let lines: Vec<&str> = text[..at].lines().collect();
+        let is_head = |it: &&str| it.trim_start().trim_start_matches("pub ").starts_with("fn ");
+        let head = lines.iter().rposition(is_head).unwrap();
+        let before = lines[head..].concat().matches(test).count();
+        let needs = String::from(text[at..].split('"').nth(1).unwrap());
+        let name = String::from(clauses(&lines[..head])[before]);
+        found.push(Condition { call: call(&lines[..=head]), name, needs });
     }
+}
+
+/// The name of a call, of which these lines end with the head.
+fn call(lines: &[&str]) -> String {
+    let [.., head] = lines else { unreachable!() };
+    let name = head.split("fn ").nth(1).unwrap().split(['(', '<']).next().unwrap();
+    if !head.starts_with(' ') {
+        return String::from(name);
+    }
+    let of = lines.iter().rfind(|it| it.starts_with("impl") || it.contains("trait ")).unwrap();
+    let of = of.split("trait ").last().unwrap().trim_start_matches("impl<'a>");
+    let of = of.trim_start_matches("impl").trim_start();
+    format!("{}::{name}", of.split([' ', '<', ':']).next().unwrap())
+}
+
+/// The names of the clauses that the documentation has under "Panics unless", which ends with these lines.
+fn clauses<'a>(lines: &[&'a str]) -> Vec<&'a str> {
+    let starts = lines.iter().rposition(|it| it.contains("/// # Panics unless")).unwrap();
+    let listed = lines[starts + 1..].iter().map(|it| it.trim_start());
+    let listed = listed.take_while(|it| it.starts_with("///") && !it.starts_with("/// #"));
+    let clauses = listed.filter_map(|it| it.strip_prefix("/// - "));
+    clauses.map(|it| it.strip_prefix('*').map_or("", |it| it.split('*').next().unwrap())).collect()
 }
 
 #[test]
@@ -76,28 +105,28 @@ fn each_condition_is_tested() {
     let mut found = Vec::new();
     conditions(&Path::new(env!("CARGO_MANIFEST_DIR")).join("src/proved"), &mut found);
     let only = |it: &Condition| found.iter().filter(|other| other.call == it.call).count() == 1;
-    let named: Vec<(&str, &str)> =
-        found.iter().map(|it| (&*it.call, if only(it) { "" } else { &*it.name })).collect();
+    let mut named: Vec<(&str, &str, &str)> = found
+        .iter()
+        .map(|it| (&*it.call, if only(it) { "" } else { &*it.name }, &*it.needs))
+        .collect();
     let rows = || [buffers::ROWS, masks::ROWS, kernels::ROWS].into_iter().flatten();
-    let stated: Vec<(&str, &str)> = rows().map(|it| (it.0, it.1)).collect();
+    let mut stated: Vec<(&str, &str, &str)> = rows().map(|it| (it.0, it.1, it.2)).collect();
     for it in &named {
         assert!(stated.contains(it), "{it:?} has no row");
     }
     for it in &stated {
         assert!(named.contains(it), "{it:?} is no condition");
     }
-    assert_eq!(stated.len(), named.len());
+    named.sort_unstable();
+    stated.sort_unstable();
+    assert_eq!(stated, named);
 
-    for (call, name, broken, met) in rows() {
-        let at = named.iter().position(|it| *it == (*call, *name)).unwrap();
-        let Condition { name, words, .. } = &found[at];
-        let is_never_broken = NEVER_BROKEN.iter().any(|it| (it.0, it.1) == named[at]);
+    for (call, name, needs, broken, met) in rows() {
+        let is_never_broken = NEVER_BROKEN.iter().any(|it| (it.0, it.1) == (*call, *name));
         assert!(broken.is_empty() == is_never_broken && !met.is_empty(), "{call} {name}");
-        for (i, breaks) in broken.iter().enumerate() {
-            let said = said(breaks).unwrap_or_default();
-            let told = [&format!("`{call}`"), &format!("`{name}`"), words];
-            let is_told = told.iter().all(|it| said.contains(*it));
-            assert!(is_told, "{call} {name}: call {i} that breaks it says {said:?}");
+        for (i, (breaks, values)) in broken.iter().enumerate() {
+            let wanted = Some(format!("row_mask: {needs}{values}"));
+            assert_eq!(said(breaks), wanted, "{call} {name}: call {i} that breaks it");
         }
         for (i, meets) in met.iter().enumerate() {
             assert_eq!(said(meets), None, "{call} {name}: call {i} that meets it");

@@ -80,6 +80,7 @@ impl<'a> RankBits<'a> {
     ///
     /// Those past the bytes are 0. Those past the last value but inside the bytes are as they
     /// stand, since a deposit ignores the bits past its mask's count.
+    // rust: needs `offset` and the bits' own offset to fit a `usize`
     #[inline(always)]
     pub fn read(&self, offset: usize) -> u64
         requires { self.now.offset + offset < 2 ^ 64 }

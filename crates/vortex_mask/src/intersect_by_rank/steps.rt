@@ -103,6 +103,7 @@ impl Steps {
     }
 
     /// Deposits the bits of `source` at the set places of `mask`, of which there are `mask_count`.
+    // rust: room needs a count of deposits below `usize::MAX`
     #[tactic(auto, using(crate::proofs::Kernels::DepositListLemmas::word_counts))]
     #[inline(always)]
     pub fn deposit<D: DepositBits>(&mut self, source: u64, mask: u64, mask_count: usize) -> u64
@@ -159,6 +160,8 @@ impl Steps {
 
     /// Word `i` of the values: a whole word, or as the last one the values after the whole words
     /// in its low bits and zeros above.
+    // rust: room needs a count of words below `usize::MAX`
+    // rust: there needs a word whose first value is there
     #[inline(always)]
     pub fn word(&mut self, chunks: &BitChunks<'_>, i: usize) -> u64
         requires room { self.old.words < usize.MAX }
@@ -190,6 +193,7 @@ impl Steps {
     }
 
     /// The place of set bit number `rank` of `word`.
+    // rust: room needs a count of selections below `usize::MAX`
     #[tactic(auto, using(crate::proofs::Kernels::DepositListLemmas::selected_is_inside))]
     #[inline(always)]
     pub fn select<S: SelectBit>(&mut self, word: u64, rank: usize) -> usize

@@ -126,6 +126,7 @@ impl MaskValues {
     }
 
     /// Value `index`.
+    // rust: needs `index < self.len()`
     pub fn value(&self, index: usize) -> bool
         requires { index < length (values self.now.buffer) }
         ensures { slice_get (values self.now.buffer) index ≡ Some result }

@@ -23,11 +23,10 @@ impl BitBuffer {
     #[inline]
     #[track_caller]
     pub fn bitand(&self, other: &BitBuffer) -> Result<BitBuffer, AllocError> {
-        crate::conditions::owed(
-            self.len() == other.len(),
-            "BitBuffer::bitand",
-            "its condition",
-            "length (values self.now) ≡ length (values other.now)",
+        crate::conditions::need_equal(
+            self.len(),
+            other.len(),
+            &["`bitand` needs `self.len() == other.len()`: ", " is not "],
         );
         self.bitand_proved(other)
     }
@@ -50,11 +49,10 @@ impl BitBuffer {
     #[inline]
     #[track_caller]
     pub fn bitor(&self, other: &BitBuffer) -> Result<BitBuffer, AllocError> {
-        crate::conditions::owed(
-            self.len() == other.len(),
-            "BitBuffer::bitor",
-            "its condition",
-            "length (values self.now) ≡ length (values other.now)",
+        crate::conditions::need_equal(
+            self.len(),
+            other.len(),
+            &["`bitor` needs `self.len() == other.len()`: ", " is not "],
         );
         self.bitor_proved(other)
     }
@@ -77,11 +75,10 @@ impl BitBuffer {
     #[inline]
     #[track_caller]
     pub fn bitand_not(&self, other: &BitBuffer) -> Result<BitBuffer, AllocError> {
-        crate::conditions::owed(
-            self.len() == other.len(),
-            "BitBuffer::bitand_not",
-            "its condition",
-            "length (values self.now) ≡ length (values other.now)",
+        crate::conditions::need_equal(
+            self.len(),
+            other.len(),
+            &["`bitand_not` needs `self.len() == other.len()`: ", " is not "],
         );
         self.bitand_not_proved(other)
     }
@@ -119,11 +116,10 @@ impl BitBuffer {
     #[inline]
     #[track_caller]
     pub fn into_bitand(self, other: &BitBuffer) -> Result<BitBuffer, AllocError> {
-        crate::conditions::owed(
-            self.len() == other.len(),
-            "BitBuffer::into_bitand",
-            "its condition",
-            "length (values self) ≡ length (values other.now)",
+        crate::conditions::need_equal(
+            self.len(),
+            other.len(),
+            &["`into_bitand` needs `self.len() == other.len()`: ", " is not "],
         );
         self.into_bitand_proved(other)
     }
@@ -146,11 +142,10 @@ impl BitBuffer {
     #[inline]
     #[track_caller]
     pub fn into_bitor(self, other: &BitBuffer) -> Result<BitBuffer, AllocError> {
-        crate::conditions::owed(
-            self.len() == other.len(),
-            "BitBuffer::into_bitor",
-            "its condition",
-            "length (values self) ≡ length (values other.now)",
+        crate::conditions::need_equal(
+            self.len(),
+            other.len(),
+            &["`into_bitor` needs `self.len() == other.len()`: ", " is not "],
         );
         self.into_bitor_proved(other)
     }
@@ -173,11 +168,10 @@ impl BitBuffer {
     #[inline]
     #[track_caller]
     pub fn into_bitand_not(self, other: &BitBuffer) -> Result<BitBuffer, AllocError> {
-        crate::conditions::owed(
-            self.len() == other.len(),
-            "BitBuffer::into_bitand_not",
-            "its condition",
-            "length (values self) ≡ length (values other.now)",
+        crate::conditions::need_equal(
+            self.len(),
+            other.len(),
+            &["`into_bitand_not` needs `self.len() == other.len()`: ", " is not "],
         );
         self.into_bitand_not_proved(other)
     }

@@ -37,11 +37,10 @@ impl BitBuffer {
     #[inline]
     #[track_caller]
     pub fn new(bytes: Bytes, len: usize) -> BitBuffer {
-        crate::conditions::owed(
-            (len as u128) <= 8 * (bytes.len() as u128),
-            "BitBuffer::new",
-            "its condition",
-            "len ≤ 8 * length bytes",
+        crate::conditions::need_at_most(
+            (len as u128),
+            8 * (bytes.len() as u128),
+            &["`new` needs `len <= 8 * bytes.len()`: ", " is not at most "],
         );
         BitBuffer::new_proved(bytes, len)
     }
@@ -65,17 +64,15 @@ impl BitBuffer {
     #[inline]
     #[track_caller]
     pub fn new_with_offset(bytes: Bytes, offset: usize, len: usize) -> BitBuffer {
-        crate::conditions::owed(
-            (offset as u128) + (len as u128) <= 8 * (bytes.len() as u128),
-            "BitBuffer::new_with_offset",
-            "covered",
-            "offset + len ≤ 8 * length bytes",
+        crate::conditions::need_at_most(
+            (offset as u128) + (len as u128),
+            8 * (bytes.len() as u128),
+            &["`new_with_offset` needs `offset + len <= 8 * bytes.len()`: ", " is not at most "],
         );
-        crate::conditions::owed(
-            (offset as u128) + (len as u128) < 1 << 64,
-            "BitBuffer::new_with_offset",
-            "fits",
-            "offset + len < 2 ^ 64",
+        crate::conditions::need_at_most(
+            (offset as u128) + (len as u128),
+            (usize::MAX as u128),
+            &["`new_with_offset` needs `offset + len <= usize::MAX`: ", " is not at most "],
         );
         BitBuffer::new_with_offset_proved(bytes, offset, len)
     }
@@ -98,11 +95,10 @@ impl BitBuffer {
     #[inline]
     #[track_caller]
     pub fn from_vec(bytes: Vec<u8>, len: usize) -> Result<BitBuffer, AllocError> {
-        crate::conditions::owed(
-            (len as u128) <= 8 * (bytes.len() as u128),
-            "BitBuffer::from_vec",
-            "its condition",
-            "len ≤ 8 * vec_len bytes",
+        crate::conditions::need_at_most(
+            (len as u128),
+            8 * (bytes.len() as u128),
+            &["`from_vec` needs `len <= 8 * bytes.len()`: ", " is not at most "],
         );
         BitBuffer::from_vec_proved(bytes, len)
     }
@@ -145,11 +141,10 @@ impl BitBuffer {
     #[inline]
     #[track_caller]
     pub fn from_indices(len: usize, indices: &[usize]) -> Result<BitBuffer, AllocError> {
-        crate::conditions::owed(
-            crate::conditions::are_below(indices, len),
-            "BitBuffer::from_indices",
-            "its condition",
-            "All (λ i. i < len) indices.now",
+        crate::conditions::need_each_below(
+            indices,
+            len,
+            "`from_indices` needs each of `indices` below `len`: ",
         );
         BitBuffer::from_indices_proved(len, indices)
     }
@@ -218,12 +213,15 @@ impl BitBuffer {
     #[inline]
     #[track_caller]
     pub fn slice(&self, start: usize, end: usize) -> Result<BitBuffer, AllocError> {
-        crate::conditions::owed(start <= end, "BitBuffer::slice", "ordered", "start ≤ end");
-        crate::conditions::owed(
-            end <= self.len(),
-            "BitBuffer::slice",
-            "within",
-            "end ≤ length (values self.now)",
+        crate::conditions::need_at_most(
+            start,
+            end,
+            &["`slice` needs `start <= end`: ", " is not at most "],
+        );
+        crate::conditions::need_at_most(
+            end,
+            self.len(),
+            &["`slice` needs `end <= self.len()`: ", " is not at most "],
         );
         self.slice_proved(start, end)
     }
@@ -289,12 +287,15 @@ impl BitBuffer {
     #[inline]
     #[track_caller]
     pub fn count_range(&self, start: usize, end: usize) -> usize {
-        crate::conditions::owed(start <= end, "BitBuffer::count_range", "ordered", "start ≤ end");
-        crate::conditions::owed(
-            end <= self.len(),
-            "BitBuffer::count_range",
-            "within",
-            "end ≤ length (values self.now)",
+        crate::conditions::need_at_most(
+            start,
+            end,
+            &["`count_range` needs `start <= end`: ", " is not at most "],
+        );
+        crate::conditions::need_at_most(
+            end,
+            self.len(),
+            &["`count_range` needs `end <= self.len()`: ", " is not at most "],
         );
         self.count_range_proved(start, end)
     }
@@ -365,11 +366,10 @@ impl BitBuffer {
     #[inline]
     #[track_caller]
     pub fn value(&self, i: usize) -> bool {
-        crate::conditions::owed(
-            i < self.len(),
-            "BitBuffer::value",
-            "its condition",
-            "i < length (values self.now)",
+        crate::conditions::need_below(
+            i,
+            self.len(),
+            &["`value` needs `i < self.len()`: ", " is not below "],
         );
         self.value_proved(i)
     }
@@ -414,11 +414,10 @@ impl BitBuffer {
     #[inline]
     #[track_caller]
     pub fn first_from(&self, from: usize, value: bool) -> usize {
-        crate::conditions::owed(
-            from <= self.len(),
-            "BitBuffer::first_from",
-            "its condition",
-            "from ≤ length (values self.now)",
+        crate::conditions::need_at_most(
+            from,
+            self.len(),
+            &["`first_from` needs `from <= self.len()`: ", " is not at most "],
         );
         self.first_from_proved(from, value)
     }

@@ -74,11 +74,10 @@ impl BitBufferMut {
     #[inline]
     #[track_caller]
     pub fn set(&mut self, i: usize) {
-        crate::conditions::owed(
-            i < self.len(),
-            "BitBufferMut::set",
-            "its condition",
-            "i < length self.old",
+        crate::conditions::need_below(
+            i,
+            self.len(),
+            &["`set` needs `i < self.len()`: ", " is not below "],
         );
         self.set_proved(i)
     }
@@ -100,11 +99,10 @@ impl BitBufferMut {
     #[inline]
     #[track_caller]
     pub fn unset(&mut self, i: usize) {
-        crate::conditions::owed(
-            i < self.len(),
-            "BitBufferMut::unset",
-            "its condition",
-            "i < length self.old",
+        crate::conditions::need_below(
+            i,
+            self.len(),
+            &["`unset` needs `i < self.len()`: ", " is not below "],
         );
         self.unset_proved(i)
     }
@@ -127,11 +125,10 @@ impl BitBufferMut {
     #[inline]
     #[track_caller]
     pub fn append_n(&mut self, value: bool, n: usize) -> Result<(), AllocError> {
-        crate::conditions::owed(
-            (self.len() as u128) + (n as u128) < 1 << 64,
-            "BitBufferMut::append_n",
-            "its condition",
-            "length self.old + n < 2 ^ 64",
+        crate::conditions::need_at_most(
+            (self.len() as u128) + (n as u128),
+            (usize::MAX as u128),
+            &["`append_n` needs `self.len() + n <= usize::MAX`: ", " is not at most "],
         );
         self.append_n_proved(value, n)
     }
@@ -157,11 +154,13 @@ impl BitBufferMut {
     #[inline]
     #[track_caller]
     pub fn append_buffer(&mut self, other: &BitBuffer) -> Result<(), AllocError> {
-        crate::conditions::owed(
-            (self.len() as u128) + (other.len() as u128) < 1 << 64,
-            "BitBufferMut::append_buffer",
-            "its condition",
-            "length self.old + length (values other.now) < 2 ^ 64",
+        crate::conditions::need_at_most(
+            (self.len() as u128) + (other.len() as u128),
+            (usize::MAX as u128),
+            &[
+                "`append_buffer` needs `self.len() + other.len() <= usize::MAX`: ",
+                " is not at most ",
+            ],
         );
         self.append_buffer_proved(other)
     }
@@ -189,12 +188,15 @@ impl BitBufferMut {
     #[inline]
     #[track_caller]
     pub fn push_word(&mut self, word: u64, count: usize) -> Result<(), AllocError> {
-        crate::conditions::owed(count <= 64, "BitBufferMut::push_word", "few", "count ≤ 64");
-        crate::conditions::owed(
-            (self.len() as u128) + (count as u128) < 1 << 64,
-            "BitBufferMut::push_word",
-            "fits",
-            "length self.old + count < 2 ^ 64",
+        crate::conditions::need_at_most(
+            count,
+            64,
+            &["`push_word` needs `count <= 64`: ", " is not at most "],
+        );
+        crate::conditions::need_at_most(
+            (self.len() as u128) + (count as u128),
+            (usize::MAX as u128),
+            &["`push_word` needs `self.len() + count <= usize::MAX`: ", " is not at most "],
         );
         self.push_word_proved(word, count)
     }

@@ -24,11 +24,10 @@ impl BitBuffer {
     #[inline]
     #[track_caller]
     pub fn choose_values(&self, of: &BitBuffer) -> Result<BitBuffer, AllocError> {
-        crate::conditions::owed(
-            of.len() == self.len(),
-            "BitBuffer::choose_values",
-            "its condition",
-            "length (values of.now) ≡ length (values self.now)",
+        crate::conditions::need_equal(
+            of.len(),
+            self.len(),
+            &["`choose_values` needs `of.len() == self.len()`: ", " is not "],
         );
         self.choose_values_proved(of)
     }

@@ -27,11 +27,11 @@ impl<'a> BitChunks<'a> {
     #[inline]
     #[track_caller]
     pub fn new(bytes: &'a [u8], offset: usize, len: usize) -> BitChunks<'a> {
-        crate::conditions::owed(
-            crate::conditions::are_within(bytes, offset, len),
-            "BitChunks::new",
-            "its condition",
-            "IsWithinBytes bytes.now offset len",
+        crate::conditions::need_within(
+            bytes,
+            offset,
+            len,
+            "`new` needs `offset + len <= 8 * bytes.len()`: ",
         );
         BitChunks::new_proved(bytes, offset, len)
     }
@@ -69,11 +69,10 @@ impl<'a> BitChunks<'a> {
     #[inline]
     #[track_caller]
     pub fn word(&self, i: usize) -> u64 {
-        crate::conditions::owed(
-            i < (64 * self.len() + self.remainder_len()) / 64,
-            "BitChunks::word",
-            "its condition",
-            "i < length self.now / 64",
+        crate::conditions::need_below(
+            i,
+            (64 * self.len() + self.remainder_len()) / 64,
+            &["`word` needs the index of a whole word: ", " is not below "],
         );
         self.word_proved(i)
     }
@@ -194,11 +193,10 @@ impl<'a> BitChunks<'a> {
     #[inline]
     #[track_caller]
     pub fn first_from(&self, from: usize, value: bool) -> usize {
-        crate::conditions::owed(
-            from <= (64 * self.len() + self.remainder_len()),
-            "BitChunks::first_from",
-            "its condition",
-            "from ≤ length self.now",
+        crate::conditions::need_at_most(
+            from,
+            (64 * self.len() + self.remainder_len()),
+            &["`first_from` needs an index up to the number of values: ", " is not at most "],
         );
         self.first_from_proved(from, value)
     }
@@ -256,11 +254,10 @@ impl<'a> BitChunks<'a> {
     #[inline]
     #[track_caller]
     pub fn started_word(&self, i: usize) -> u64 {
-        crate::conditions::owed(
-            i < (64 * self.len() + self.remainder_len()).div_ceil(64),
-            "BitChunks::started_word",
-            "its condition",
-            "i < started_words (length self.now)",
+        crate::conditions::need_below(
+            i,
+            (64 * self.len() + self.remainder_len()).div_ceil(64),
+            &["`started_word` needs the index of a started word: ", " is not below "],
         );
         self.started_word_proved(i)
     }

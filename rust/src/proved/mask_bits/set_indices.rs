@@ -38,11 +38,10 @@ impl BitBuffer {
     #[inline]
     #[track_caller]
     pub fn indices(&self, true_count: usize) -> Result<Vec<usize>, AllocError> {
-        crate::conditions::owed(
-            true_count == self.true_count(),
-            "BitBuffer::indices",
-            "its condition",
-            "true_count ≡ count (values self.now)",
+        crate::conditions::need_equal(
+            true_count,
+            self.true_count(),
+            &["`indices` needs `true_count == self.true_count()`: ", " is not "],
         );
         self.indices_proved(true_count)
     }

@@ -26,11 +26,10 @@ impl Mask {
     #[inline]
     #[track_caller]
     pub fn bitand(&self, other: &Mask) -> Result<Mask, MaskError> {
-        crate::conditions::owed(
-            self.len() == other.len(),
-            "Mask::bitand",
-            "its condition",
-            "length (truth self.now) ≡ length (truth other.now)",
+        crate::conditions::need_equal(
+            self.len(),
+            other.len(),
+            &["`bitand`: Masks must have the same length: ", " is not "],
         );
         self.bitand_proved(other)
     }
@@ -65,11 +64,10 @@ impl Mask {
     #[inline]
     #[track_caller]
     pub fn bitor(&self, other: &Mask) -> Result<Mask, MaskError> {
-        crate::conditions::owed(
-            self.len() == other.len(),
-            "Mask::bitor",
-            "its condition",
-            "length (truth self.now) ≡ length (truth other.now)",
+        crate::conditions::need_equal(
+            self.len(),
+            other.len(),
+            &["`bitor`: Masks must have the same length: ", " is not "],
         );
         self.bitor_proved(other)
     }
@@ -127,11 +125,10 @@ impl Mask {
     #[inline]
     #[track_caller]
     pub fn to_bitand_not(&self, other: &Mask) -> Result<Mask, MaskError> {
-        crate::conditions::owed(
-            self.len() == other.len(),
-            "Mask::to_bitand_not",
-            "its condition",
-            "length (truth self.now) ≡ length (truth other.now)",
+        crate::conditions::need_equal(
+            self.len(),
+            other.len(),
+            &["`to_bitand_not`: Masks must have the same length: ", " is not "],
         );
         self.to_bitand_not_proved(other)
     }
@@ -171,11 +168,10 @@ impl Mask {
     #[inline]
     #[track_caller]
     pub fn into_bitand(self, other: &Mask) -> Result<Mask, MaskError> {
-        crate::conditions::owed(
-            self.len() == other.len(),
-            "Mask::into_bitand",
-            "its condition",
-            "length (truth self) ≡ length (truth other.now)",
+        crate::conditions::need_equal(
+            self.len(),
+            other.len(),
+            &["`into_bitand`: Masks must have the same length: ", " is not "],
         );
         self.into_bitand_proved(other)
     }
@@ -213,11 +209,10 @@ impl Mask {
     #[inline]
     #[track_caller]
     pub fn into_bitor(self, other: &Mask) -> Result<Mask, MaskError> {
-        crate::conditions::owed(
-            self.len() == other.len(),
-            "Mask::into_bitor",
-            "its condition",
-            "length (truth self) ≡ length (truth other.now)",
+        crate::conditions::need_equal(
+            self.len(),
+            other.len(),
+            &["`into_bitor`: Masks must have the same length: ", " is not "],
         );
         self.into_bitor_proved(other)
     }
@@ -277,11 +272,10 @@ impl Mask {
     #[inline]
     #[track_caller]
     pub fn bitand_not(self, other: &Mask) -> Result<Mask, MaskError> {
-        crate::conditions::owed(
-            self.len() == other.len(),
-            "Mask::bitand_not",
-            "its condition",
-            "length (truth self) ≡ length (truth other.now)",
+        crate::conditions::need_equal(
+            self.len(),
+            other.len(),
+            &["`bitand_not`: Masks must have the same length: ", " is not "],
         );
         self.bitand_not_proved(other)
     }

@@ -51,11 +51,13 @@ impl Mask {
     #[inline]
     #[track_caller]
     pub fn intersect_by_rank(&self, mask: &Mask) -> Result<Mask, MaskError> {
-        crate::conditions::owed(
-            mask.len() == self.true_count(),
-            "Mask::intersect_by_rank",
-            "its condition",
-            "length (truth mask.now) ≡ count (truth self.now)",
+        crate::conditions::need_equal(
+            mask.len(),
+            self.true_count(),
+            &[
+                "`intersect_by_rank` needs a rank mask as long as the mask's count of true values: ",
+                " is not ",
+            ],
         );
         self.intersect_by_rank_proved(mask)
     }
@@ -97,11 +99,13 @@ impl Mask {
     #[inline]
     #[track_caller]
     pub fn intersect_by_rank_counted(&self, mask: &Mask) -> Result<(Mask, Steps), MaskError> {
-        crate::conditions::owed(
-            mask.len() == self.true_count(),
-            "Mask::intersect_by_rank_counted",
-            "its condition",
-            "length (truth mask.now) ≡ count (truth self.now)",
+        crate::conditions::need_equal(
+            mask.len(),
+            self.true_count(),
+            &[
+                "`intersect_by_rank_counted` needs a rank mask as long as the mask's count of true values: ",
+                " is not ",
+            ],
         );
         self.intersect_by_rank_counted_proved(mask)
     }
@@ -162,11 +166,10 @@ impl Mask {
     #[inline]
     #[track_caller]
     pub fn intersect_all_by_rank(&self, masks: &[Mask]) -> Result<Mask, MaskError> {
-        crate::conditions::owed(
-            crate::conditions::are_a_stack(self, masks),
-            "Mask::intersect_all_by_rank",
-            "its condition",
-            "IsStack (truth self.now ∷ map truth masks.now)",
+        crate::conditions::need_stack(
+            self,
+            masks,
+            "`intersect_all_by_rank` needs each mask as long as the one before it has true values: ",
         );
         self.intersect_all_by_rank_proved(masks)
     }

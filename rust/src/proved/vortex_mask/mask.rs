@@ -224,11 +224,10 @@ impl Mask {
     #[inline]
     #[track_caller]
     pub fn value(&self, index: usize) -> bool {
-        crate::conditions::owed(
-            index < self.len(),
-            "Mask::value",
-            "its condition",
-            "index < length (truth self.now)",
+        crate::conditions::need_below(
+            index,
+            self.len(),
+            &["`value` needs `index < self.len()`: ", " is not below "],
         );
         self.value_proved(index)
     }
@@ -255,11 +254,10 @@ impl Mask {
     #[inline]
     #[track_caller]
     pub fn rank(&self, n: usize) -> usize {
-        crate::conditions::owed(
-            n < self.true_count(),
-            "Mask::rank",
-            "its condition",
-            "n < count (truth self.now)",
+        crate::conditions::need_below(
+            n,
+            self.true_count(),
+            &["`rank`: Rank ", " out of bounds for mask with true count "],
         );
         self.rank_proved(n)
     }
@@ -303,12 +301,15 @@ impl Mask {
     #[inline]
     #[track_caller]
     pub fn count_range(&self, start: usize, end: usize) -> usize {
-        crate::conditions::owed(start <= end, "Mask::count_range", "ordered", "start ≤ end");
-        crate::conditions::owed(
-            end <= self.len(),
-            "Mask::count_range",
-            "within",
-            "end ≤ length (truth self.now)",
+        crate::conditions::need_at_most(
+            start,
+            end,
+            &["`count_range` needs `start <= end`: ", " is not at most "],
+        );
+        crate::conditions::need_at_most(
+            end,
+            self.len(),
+            &["`count_range` needs `end <= self.len()`: ", " is not at most "],
         );
         self.count_range_proved(start, end)
     }
@@ -370,17 +371,14 @@ impl Mask {
     #[inline]
     #[track_caller]
     pub fn valid_counts_for_indices(&self, indices: &[usize]) -> Result<Vec<usize>, MaskError> {
-        crate::conditions::owed(
-            indices.is_sorted(),
-            "Mask::valid_counts_for_indices",
-            "ascending",
-            "IsNonDecreasing indices.now",
+        crate::conditions::need_sorted(
+            indices,
+            "`valid_counts_for_indices` needs each of `indices` at least the one before it: ",
         );
-        crate::conditions::owed(
-            crate::conditions::are_at_most(indices, self.len()),
-            "Mask::valid_counts_for_indices",
-            "within",
-            "All (λ i. i ≤ length (truth self.now)) indices.now",
+        crate::conditions::need_each_at_most(
+            indices,
+            self.len(),
+            "`valid_counts_for_indices`: Row indices exceed array length: ",
         );
         self.valid_counts_for_indices_proved(indices)
     }

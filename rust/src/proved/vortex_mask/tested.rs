@@ -18,11 +18,10 @@ use crate::proved::vortex_mask::{Mask, MaskError};
 #[inline]
 #[track_caller]
 pub fn deposit_two_lowest(source: u64, mask: u64) -> u64 {
-    crate::conditions::owed(
-        (mask.count_ones() as usize) <= 2,
-        "deposit_two_lowest",
-        "its condition",
-        "count (word_bits mask) ≤ 2",
+    crate::conditions::need_at_most(
+        (mask.count_ones() as usize),
+        2,
+        &["`deposit_two_lowest` needs `mask.count_ones() <= 2`: ", " is not at most "],
     );
     inner::deposit_two_lowest(source, mask)
 }
@@ -40,11 +39,10 @@ pub fn deposit_two_lowest(source: u64, mask: u64) -> u64 {
 #[inline]
 #[track_caller]
 pub fn deposit_two_holes(source: u64, mask: u64) -> u64 {
-    crate::conditions::owed(
-        62 <= (mask.count_ones() as usize),
-        "deposit_two_holes",
-        "its condition",
-        "62 ≤ count (word_bits mask)",
+    crate::conditions::need_at_least(
+        (mask.count_ones() as usize),
+        62,
+        &["`deposit_two_holes` needs `mask.count_ones() >= 62`: ", " is not at least "],
     );
     inner::deposit_two_holes(source, mask)
 }
@@ -71,17 +69,18 @@ pub fn intersect_bit_buffers<D: DepositBits>(
     mask_buffer: &BitBuffer,
     true_count: usize,
 ) -> Result<(Mask, Steps), MaskError> {
-    crate::conditions::owed(
-        mask_buffer.len() == self_buffer.true_count(),
-        "intersect_bit_buffers",
-        "fitting",
-        "length (values mask_buffer.now) ≡ count (values self_buffer.now)",
+    crate::conditions::need_equal(
+        mask_buffer.len(),
+        self_buffer.true_count(),
+        &[
+            "`intersect_bit_buffers` needs `mask_buffer.len() == self_buffer.true_count()`: ",
+            " is not ",
+        ],
     );
-    crate::conditions::owed(
-        true_count == mask_buffer.true_count(),
-        "intersect_bit_buffers",
-        "counted",
-        "true_count ≡ count (values mask_buffer.now)",
+    crate::conditions::need_equal(
+        true_count,
+        mask_buffer.true_count(),
+        &["`intersect_bit_buffers` needs `true_count == mask_buffer.true_count()`: ", " is not "],
     );
     inner::intersect_bit_buffers::<D>(self_buffer, mask_buffer, true_count)
 }
@@ -111,29 +110,23 @@ pub fn intersect_by_rank_indices(
     self_indices: &[usize],
     mask_indices: &[usize],
 ) -> Result<(Mask, Steps), MaskError> {
-    crate::conditions::owed(
-        crate::conditions::are_ascending(self_indices),
-        "intersect_by_rank_indices",
-        "self_ascending",
-        "IsStrictlyIncreasing self_indices.now",
+    crate::conditions::need_ascending(
+        self_indices,
+        "`intersect_by_rank_indices` needs each of `self_indices` above the one before it: ",
     );
-    crate::conditions::owed(
-        crate::conditions::are_below(self_indices, len),
-        "intersect_by_rank_indices",
-        "self_within",
-        "All (λ i. i < len) self_indices.now",
+    crate::conditions::need_each_below(
+        self_indices,
+        len,
+        "`intersect_by_rank_indices` needs each of `self_indices` below `len`: ",
     );
-    crate::conditions::owed(
-        crate::conditions::are_ascending(mask_indices),
-        "intersect_by_rank_indices",
-        "mask_ascending",
-        "IsStrictlyIncreasing mask_indices.now",
+    crate::conditions::need_ascending(
+        mask_indices,
+        "`intersect_by_rank_indices` needs each of `mask_indices` above the one before it: ",
     );
-    crate::conditions::owed(
-        crate::conditions::are_below(mask_indices, self_indices.len()),
-        "intersect_by_rank_indices",
-        "mask_within",
-        "All (λ k. k < length self_indices.now) mask_indices.now",
+    crate::conditions::need_each_below(
+        mask_indices,
+        self_indices.len(),
+        "`intersect_by_rank_indices` needs each of `mask_indices` below `self_indices.len()`: ",
     );
     inner::intersect_by_rank_indices(len, self_indices, mask_indices)
 }
@@ -172,11 +165,11 @@ pub fn intersect_mask_driven<S: SelectBit, I: IntoIterator<Item = usize>>(
     true_count: usize,
 ) -> Result<(Mask, Steps), MaskError> {
     let mask_indices = crate::kit::Collect::collected(mask_indices.into_iter())?;
-    crate::conditions::owed(
-        crate::conditions::are_ranks(&mask_indices, self_buffer.true_count(), true_count),
-        "intersect_mask_driven",
-        "ranks",
-        "EachRunFrom I.next_gives mask_indices (AreRanks (count (values self_buffer.now)) true_count)",
+    crate::conditions::need_ranks(
+        &mask_indices,
+        self_buffer.true_count(),
+        true_count,
+        "`intersect_mask_driven` needs `true_count` ascending `mask_indices` below `self_buffer.true_count()`: ",
     );
     inner::intersect_mask_driven::<S, _>(self_buffer, mask_indices.into_iter(), true_count)
 }
@@ -203,17 +196,14 @@ pub fn intersect_bit_buffer_by_rank_indices<D: DepositBits>(
     self_buffer: &BitBuffer,
     mask_indices: &[usize],
 ) -> Result<(Mask, Steps), MaskError> {
-    crate::conditions::owed(
-        crate::conditions::are_ascending(mask_indices),
-        "intersect_bit_buffer_by_rank_indices",
-        "ascending",
-        "IsStrictlyIncreasing mask_indices.now",
+    crate::conditions::need_ascending(
+        mask_indices,
+        "`intersect_bit_buffer_by_rank_indices` needs each of `mask_indices` above the one before it: ",
     );
-    crate::conditions::owed(
-        crate::conditions::are_below(mask_indices, self_buffer.true_count()),
-        "intersect_bit_buffer_by_rank_indices",
-        "within",
-        "All (λ k. k < count (values self_buffer.now)) mask_indices.now",
+    crate::conditions::need_each_below(
+        mask_indices,
+        self_buffer.true_count(),
+        "`intersect_bit_buffer_by_rank_indices` needs each of `mask_indices` below `self_buffer.true_count()`: ",
     );
     inner::intersect_bit_buffer_by_rank_indices::<D>(self_buffer, mask_indices)
 }

@@ -18,25 +18,39 @@ pub const ROWS: &[Row] = &[
     (
         "BitBuffer::new",
         "",
+        "`new` needs `len <= 8 * bytes.len()`: ",
         &[
-            || done(BitBuffer::new(bytes(), 17)),
-            || done(BitBuffer::new(Bytes::new(), 1)),
-            || {
-                done(BitBuffer::new(bytes(), MAX));
-            },
+            (|| done(BitBuffer::new(bytes(), 17)), "17 is not at most 16"),
+            (|| done(BitBuffer::new(Bytes::new(), 1)), "1 is not at most 0"),
+            (
+                || {
+                    done(BitBuffer::new(bytes(), MAX));
+                },
+                "18446744073709551615 is not at most 16",
+            ),
         ],
         &[|| done(BitBuffer::new(bytes(), 16)), || done(BitBuffer::new(Bytes::new(), 0))],
     ),
     (
         "BitBuffer::new_with_offset",
         "covered",
+        "`new_with_offset` needs `offset + len <= 8 * bytes.len()`: ",
         &[
-            || done(BitBuffer::new_with_offset(bytes(), 0, 17)),
-            || done(BitBuffer::new_with_offset(bytes(), 9, 8)),
-            || done(BitBuffer::new_with_offset(bytes(), 17, 0)),
-            || done(BitBuffer::new_with_offset(bytes(), 1, MAX)),
-            || done(BitBuffer::new_with_offset(bytes(), MAX, 1)),
-            || done(BitBuffer::new_with_offset(bytes(), MAX, MAX)),
+            (|| done(BitBuffer::new_with_offset(bytes(), 0, 17)), "17 is not at most 16"),
+            (|| done(BitBuffer::new_with_offset(bytes(), 9, 8)), "17 is not at most 16"),
+            (|| done(BitBuffer::new_with_offset(bytes(), 17, 0)), "17 is not at most 16"),
+            (
+                || done(BitBuffer::new_with_offset(bytes(), 1, MAX)),
+                "18446744073709551616 is not at most 16",
+            ),
+            (
+                || done(BitBuffer::new_with_offset(bytes(), MAX, 1)),
+                "18446744073709551616 is not at most 16",
+            ),
+            (
+                || done(BitBuffer::new_with_offset(bytes(), MAX, MAX)),
+                "36893488147419103230 is not at most 16",
+            ),
         ],
         &[
             || done(BitBuffer::new_with_offset(bytes(), 0, 16)),
@@ -47,6 +61,7 @@ pub const ROWS: &[Row] = &[
     (
         "BitBuffer::new_with_offset",
         "fits",
+        "`new_with_offset` needs `offset + len <= usize::MAX`: ",
         &[],
         &[
             || done(BitBuffer::new_with_offset(bytes(), 9, 7)),
@@ -56,110 +71,159 @@ pub const ROWS: &[Row] = &[
     (
         "BitBuffer::from_vec",
         "",
-        &[|| ok(BitBuffer::from_vec(vec![0; 2], 17)), || ok(BitBuffer::from_vec(vec![], MAX))],
+        "`from_vec` needs `len <= 8 * bytes.len()`: ",
+        &[
+            (|| ok(BitBuffer::from_vec(vec![0; 2], 17)), "17 is not at most 16"),
+            (|| ok(BitBuffer::from_vec(vec![], MAX)), "18446744073709551615 is not at most 0"),
+        ],
         &[|| ok(BitBuffer::from_vec(vec![0; 2], 16)), || ok(BitBuffer::from_vec(vec![], 0))],
     ),
     (
         "BitBuffer::from_indices",
         "",
+        "`from_indices` needs each of `indices` below `len`: ",
         &[
-            || ok(BitBuffer::from_indices(5, &[0, 5])),
-            || ok(BitBuffer::from_indices(5, &[MAX, 0])),
-            || ok(BitBuffer::from_indices(0, &[0])),
+            (|| ok(BitBuffer::from_indices(5, &[0, 5])), "item 1 is 5, not below 5"),
+            (
+                || ok(BitBuffer::from_indices(5, &[MAX, 0])),
+                "item 0 is 18446744073709551615, not below 5",
+            ),
+            (|| ok(BitBuffer::from_indices(0, &[0])), "item 0 is 0, not below 0"),
         ],
         &[|| ok(BitBuffer::from_indices(5, &[4, 0, 4])), || ok(BitBuffer::from_indices(0, &[]))],
     ),
     (
         "BitBuffer::slice",
         "ordered",
+        "`slice` needs `start <= end`: ",
         &[
-            || ok(thirds(5).slice(1, 0)),
-            || ok(thirds(5).slice(5, 4)),
-            || ok(thirds(5).slice(MAX, 5)),
+            (|| ok(thirds(5).slice(1, 0)), "1 is not at most 0"),
+            (|| ok(thirds(5).slice(5, 4)), "5 is not at most 4"),
+            (|| ok(thirds(5).slice(MAX, 5)), "18446744073709551615 is not at most 5"),
         ],
         &[|| ok(thirds(5).slice(0, 0)), || ok(thirds(5).slice(5, 5)), || ok(thirds(5).slice(4, 5))],
     ),
     (
         "BitBuffer::slice",
         "within",
+        "`slice` needs `end <= self.len()`: ",
         &[
-            || ok(thirds(5).slice(0, 6)),
-            || ok(thirds(5).slice(6, 6)),
-            || ok(thirds(5).slice(5, MAX)),
+            (|| ok(thirds(5).slice(0, 6)), "6 is not at most 5"),
+            (|| ok(thirds(5).slice(6, 6)), "6 is not at most 5"),
+            (|| ok(thirds(5).slice(5, MAX)), "18446744073709551615 is not at most 5"),
         ],
         &[|| ok(thirds(5).slice(0, 5)), || ok(thirds(5).slice(5, 5))],
     ),
     (
         "BitBuffer::count_range",
         "ordered",
-        &[|| done(thirds(5).count_range(1, 0)), || done(thirds(5).count_range(MAX, 5))],
+        "`count_range` needs `start <= end`: ",
+        &[
+            (|| done(thirds(5).count_range(1, 0)), "1 is not at most 0"),
+            (|| done(thirds(5).count_range(MAX, 5)), "18446744073709551615 is not at most 5"),
+        ],
         &[|| done(thirds(5).count_range(0, 0)), || done(thirds(5).count_range(5, 5))],
     ),
     (
         "BitBuffer::count_range",
         "within",
-        &[|| done(thirds(5).count_range(0, 6)), || done(thirds(5).count_range(5, MAX))],
+        "`count_range` needs `end <= self.len()`: ",
+        &[
+            (|| done(thirds(5).count_range(0, 6)), "6 is not at most 5"),
+            (|| done(thirds(5).count_range(5, MAX)), "18446744073709551615 is not at most 5"),
+        ],
         &[|| done(thirds(5).count_range(0, 5)), || done(thirds(5).count_range(4, 5))],
     ),
     (
         "BitBuffer::value",
         "",
-        &[|| done(thirds(5).value(5)), || done(thirds(5).value(MAX)), || done(thirds(0).value(0))],
+        "`value` needs `i < self.len()`: ",
+        &[
+            (|| done(thirds(5).value(5)), "5 is not below 5"),
+            (|| done(thirds(5).value(MAX)), "18446744073709551615 is not below 5"),
+            (|| done(thirds(0).value(0)), "0 is not below 0"),
+        ],
         &[|| done(thirds(5).value(4)), || done(thirds(5).value(0))],
     ),
     (
         "BitBuffer::first_from",
         "",
-        &[|| done(thirds(5).first_from(6, true)), || done(thirds(65).first_from(MAX, false))],
+        "`first_from` needs `from <= self.len()`: ",
+        &[
+            (|| done(thirds(5).first_from(6, true)), "6 is not at most 5"),
+            (|| done(thirds(65).first_from(MAX, false)), "18446744073709551615 is not at most 65"),
+        ],
         &[|| done(thirds(5).first_from(5, true)), || done(thirds(0).first_from(0, false))],
     ),
     (
         "BitBuffer::indices",
         "",
+        "`indices` needs `true_count == self.true_count()`: ",
         &[
-            || ok(thirds(5).indices(1)),
-            || ok(thirds(5).indices(3)),
-            || ok(thirds(200).indices(66)),
-            || ok(thirds(200).indices(MAX)),
+            (|| ok(thirds(5).indices(1)), "1 is not 2"),
+            (|| ok(thirds(5).indices(3)), "3 is not 2"),
+            (|| ok(thirds(200).indices(66)), "66 is not 67"),
+            (|| ok(thirds(200).indices(MAX)), "18446744073709551615 is not 67"),
         ],
         &[|| ok(thirds(5).indices(2)), || ok(thirds(200).indices(67)), || ok(thirds(0).indices(0))],
     ),
     (
         "BitBuffer::bitand",
         "",
-        &[|| ok(bits("10").bitand(&bits("101"))), || ok(bits("10").bitand(&bits("1")))],
+        "`bitand` needs `self.len() == other.len()`: ",
+        &[
+            (|| ok(bits("10").bitand(&bits("101"))), "2 is not 3"),
+            (|| ok(bits("10").bitand(&bits("1"))), "2 is not 1"),
+        ],
         &[|| ok(bits("10").bitand(&bits("01"))), || ok(bits("").bitand(&bits("")))],
     ),
     (
         "BitBuffer::bitor",
         "",
-        &[|| ok(bits("10").bitor(&bits("101"))), || ok(bits("10").bitor(&bits("1")))],
+        "`bitor` needs `self.len() == other.len()`: ",
+        &[
+            (|| ok(bits("10").bitor(&bits("101"))), "2 is not 3"),
+            (|| ok(bits("10").bitor(&bits("1"))), "2 is not 1"),
+        ],
         &[|| ok(bits("10").bitor(&bits("01"))), || ok(bits("").bitor(&bits("")))],
     ),
     (
         "BitBuffer::bitand_not",
         "",
-        &[|| ok(bits("10").bitand_not(&bits("101"))), || ok(bits("10").bitand_not(&bits("1")))],
+        "`bitand_not` needs `self.len() == other.len()`: ",
+        &[
+            (|| ok(bits("10").bitand_not(&bits("101"))), "2 is not 3"),
+            (|| ok(bits("10").bitand_not(&bits("1"))), "2 is not 1"),
+        ],
         &[|| ok(bits("10").bitand_not(&bits("01"))), || ok(bits("").bitand_not(&bits("")))],
     ),
     (
         "BitBuffer::into_bitand",
         "",
-        &[|| ok(bits("10").into_bitand(&bits("101"))), || ok(bits("10").into_bitand(&bits("1")))],
+        "`into_bitand` needs `self.len() == other.len()`: ",
+        &[
+            (|| ok(bits("10").into_bitand(&bits("101"))), "2 is not 3"),
+            (|| ok(bits("10").into_bitand(&bits("1"))), "2 is not 1"),
+        ],
         &[|| ok(bits("10").into_bitand(&bits("01"))), || ok(bits("").into_bitand(&bits("")))],
     ),
     (
         "BitBuffer::into_bitor",
         "",
-        &[|| ok(bits("10").into_bitor(&bits("101"))), || ok(bits("10").into_bitor(&bits("1")))],
+        "`into_bitor` needs `self.len() == other.len()`: ",
+        &[
+            (|| ok(bits("10").into_bitor(&bits("101"))), "2 is not 3"),
+            (|| ok(bits("10").into_bitor(&bits("1"))), "2 is not 1"),
+        ],
         &[|| ok(bits("10").into_bitor(&bits("01"))), || ok(bits("").into_bitor(&bits("")))],
     ),
     (
         "BitBuffer::into_bitand_not",
         "",
+        "`into_bitand_not` needs `self.len() == other.len()`: ",
         &[
-            || ok(bits("10").into_bitand_not(&bits("101"))),
-            || ok(bits("10").into_bitand_not(&bits("1"))),
+            (|| ok(bits("10").into_bitand_not(&bits("101"))), "2 is not 3"),
+            (|| ok(bits("10").into_bitand_not(&bits("1"))), "2 is not 1"),
         ],
         &[
             || ok(bits("10").into_bitand_not(&bits("01"))),
@@ -169,29 +233,49 @@ pub const ROWS: &[Row] = &[
     (
         "BitBuffer::choose_values",
         "",
+        "`choose_values` needs `of.len() == self.len()`: ",
         &[
-            || ok(bits("10").choose_values(&bits("101"))),
-            || ok(bits("10").choose_values(&bits("1"))),
+            (|| ok(bits("10").choose_values(&bits("101"))), "3 is not 2"),
+            (|| ok(bits("10").choose_values(&bits("1"))), "1 is not 2"),
         ],
         &[|| ok(bits("10").choose_values(&bits("01"))), || ok(bits("").choose_values(&bits("")))],
     ),
     (
         "BitBufferMut::set",
         "",
-        &[|| builder().set(5), || builder().set(MAX), || BitBufferMut::default().set(0)],
+        "`set` needs `i < self.len()`: ",
+        &[
+            (|| builder().set(5), "5 is not below 5"),
+            (|| builder().set(MAX), "18446744073709551615 is not below 5"),
+            (|| BitBufferMut::default().set(0), "0 is not below 0"),
+        ],
         &[|| builder().set(4), || builder().set(0)],
     ),
     (
         "BitBufferMut::unset",
         "",
-        &[|| builder().unset(5), || builder().unset(MAX), || BitBufferMut::default().unset(0)],
+        "`unset` needs `i < self.len()`: ",
+        &[
+            (|| builder().unset(5), "5 is not below 5"),
+            (|| builder().unset(MAX), "18446744073709551615 is not below 5"),
+            (|| BitBufferMut::default().unset(0), "0 is not below 0"),
+        ],
         &[|| builder().unset(4), || builder().unset(0)],
     ),
     (
         "BitBufferMut::append_n",
         "",
-        &[|| ok(builder().append_n(true, MAX - 4)), || ok(builder().append_n(false, MAX))],
-        // (there is no memory for as many)
+        "`append_n` needs `self.len() + n <= usize::MAX`: ",
+        &[
+            (
+                || ok(builder().append_n(true, MAX - 4)),
+                "18446744073709551616 is not at most 18446744073709551615",
+            ),
+            (
+                || ok(builder().append_n(false, MAX)),
+                "18446744073709551620 is not at most 18446744073709551615",
+            ),
+        ], // (there is no memory for as many)
         &[
             || assert!(builder().append_n(true, MAX - 5).is_err()),
             || ok(builder().append_n(true, 200)),
@@ -200,30 +284,37 @@ pub const ROWS: &[Row] = &[
     (
         "BitBufferMut::append_buffer",
         "",
+        "`append_buffer` needs `self.len() + other.len() <= usize::MAX`: ",
         &[],
         &[|| ok(builder().append_buffer(&thirds(200))), || ok(builder().append_buffer(&bits("")))],
     ),
     (
         "BitBufferMut::push_word",
         "fits",
+        "`push_word` needs `self.len() + count <= usize::MAX`: ",
         &[],
         &[|| ok(builder().push_word(1, 64)), || ok(BitBufferMut::default().push_word(1, 0))],
     ),
     (
         "BitBufferMut::push_word",
         "few",
-        &[|| ok(builder().push_word(0, 65)), || ok(builder().push_word(0, MAX))],
+        "`push_word` needs `count <= 64`: ",
+        &[
+            (|| ok(builder().push_word(0, 65)), "65 is not at most 64"),
+            (|| ok(builder().push_word(0, MAX)), "18446744073709551615 is not at most 64"),
+        ],
         &[|| ok(builder().push_word(0, 64)), || ok(builder().push_word(0, 0))],
     ),
     (
         "BitChunks::new",
         "",
+        "`new` needs `offset + len <= 8 * bytes.len()`: ",
         &[
-            || done(BitChunks::new(&[0; 2], 0, 17)),
-            || done(BitChunks::new(&[0; 2], 9, 8)),
-            || done(BitChunks::new(&[0; 2], 17, 0)),
-            || done(BitChunks::new(&[0; 2], 1, MAX)),
-            || done(BitChunks::new(&[0; 2], MAX, 1)),
+            (|| done(BitChunks::new(&[0; 2], 0, 17)), "17 is not at most 16"),
+            (|| done(BitChunks::new(&[0; 2], 9, 8)), "17 is not at most 16"),
+            (|| done(BitChunks::new(&[0; 2], 17, 0)), "17 is not at most 16"),
+            (|| done(BitChunks::new(&[0; 2], 1, MAX)), "18446744073709551616 is not at most 16"),
+            (|| done(BitChunks::new(&[0; 2], MAX, 1)), "18446744073709551616 is not at most 16"),
         ],
         &[
             || done(BitChunks::new(&[0; 2], 0, 16)),
@@ -235,21 +326,26 @@ pub const ROWS: &[Row] = &[
     (
         "BitChunks::word",
         "",
+        "`word` needs the index of a whole word: ",
         &[
-            || done(thirds(130).chunks().word(2)),
-            || done(thirds(63).chunks().word(0)),
-            || done(thirds(130).chunks().word(MAX)),
+            (|| done(thirds(130).chunks().word(2)), "2 is not below 2"),
+            (|| done(thirds(63).chunks().word(0)), "0 is not below 0"),
+            (|| done(thirds(130).chunks().word(MAX)), "18446744073709551615 is not below 2"),
         ],
         &[|| done(thirds(130).chunks().word(1)), || done(thirds(64).chunks().word(0))],
     ),
     (
         "BitChunks::started_word",
         "",
+        "`started_word` needs the index of a started word: ",
         &[
-            || done(thirds(130).chunks().started_word(3)),
-            || done(thirds(128).chunks().started_word(2)),
-            || done(thirds(0).chunks().started_word(0)),
-            || done(thirds(130).chunks().started_word(MAX)),
+            (|| done(thirds(130).chunks().started_word(3)), "3 is not below 3"),
+            (|| done(thirds(128).chunks().started_word(2)), "2 is not below 2"),
+            (|| done(thirds(0).chunks().started_word(0)), "0 is not below 0"),
+            (
+                || done(thirds(130).chunks().started_word(MAX)),
+                "18446744073709551615 is not below 3",
+            ),
         ],
         &[
             || done(thirds(130).chunks().started_word(2)),
@@ -259,9 +355,13 @@ pub const ROWS: &[Row] = &[
     (
         "BitChunks::first_from",
         "",
+        "`first_from` needs an index up to the number of values: ",
         &[
-            || done(thirds(130).chunks().first_from(131, true)),
-            || done(thirds(0).chunks().first_from(MAX, true)),
+            (|| done(thirds(130).chunks().first_from(131, true)), "131 is not at most 130"),
+            (
+                || done(thirds(0).chunks().first_from(MAX, true)),
+                "18446744073709551615 is not at most 0",
+            ),
         ],
         &[
             || done(thirds(130).chunks().first_from(130, true)),
@@ -271,20 +371,28 @@ pub const ROWS: &[Row] = &[
     (
         "RankBits::over",
         "",
+        "`over` needs `offset + len <= 8 * bytes.len()`: ",
         &[
-            || done(RankBits::over(&[0; 2], 0, 17)),
-            || done(RankBits::over(&[0; 2], 9, 8)),
-            || done(RankBits::over(&[0; 2], 17, 0)),
-            || done(RankBits::over(&[0; 2], MAX, 1)),
+            (|| done(RankBits::over(&[0; 2], 0, 17)), "17 is not at most 16"),
+            (|| done(RankBits::over(&[0; 2], 9, 8)), "17 is not at most 16"),
+            (|| done(RankBits::over(&[0; 2], 17, 0)), "17 is not at most 16"),
+            (|| done(RankBits::over(&[0; 2], MAX, 1)), "18446744073709551616 is not at most 16"),
         ],
         &[|| done(RankBits::over(&[0; 2], 9, 7)), || done(RankBits::over(&[0; 2], 16, 0))],
     ),
     (
         "RankBits::read",
         "",
+        "`read` needs `offset` and the bits' own offset to fit a `usize`: ",
         &[
-            || done(RankBits::over(&[0; 2], 9, 7).read(MAX - 8)),
-            || done(RankBits::over(&[0; 2], 1, 0).read(MAX)),
+            (
+                || done(RankBits::over(&[0; 2], 9, 7).read(MAX - 8)),
+                "18446744073709551616 is not at most 18446744073709551615",
+            ),
+            (
+                || done(RankBits::over(&[0; 2], 1, 0).read(MAX)),
+                "18446744073709551616 is not at most 18446744073709551615",
+            ),
         ],
         &[
             || done(RankBits::over(&[0; 2], 9, 7).read(MAX - 9)),

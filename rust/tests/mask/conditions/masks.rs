@@ -30,11 +30,12 @@ pub const ROWS: &[Row] = &[
     (
         "Mask::value",
         "",
+        "`value` needs `index < self.len()`: ",
         &[
-            || done(five().value(5)),
-            || done(Mask::AllTrue(5).value(5)),
-            || done(Mask::AllFalse(5).value(MAX)),
-            || done(Mask::AllTrue(0).value(0)),
+            (|| done(five().value(5)), "5 is not below 5"),
+            (|| done(Mask::AllTrue(5).value(5)), "5 is not below 5"),
+            (|| done(Mask::AllFalse(5).value(MAX)), "18446744073709551615 is not below 5"),
+            (|| done(Mask::AllTrue(0).value(0)), "0 is not below 0"),
         ],
         &[
             || done(five().value(4)),
@@ -45,7 +46,11 @@ pub const ROWS: &[Row] = &[
     (
         "MaskValues::value",
         "",
-        &[|| done(values().value(5)), || done(values().value(MAX))],
+        "`value` needs `index < self.len()`: ",
+        &[
+            (|| done(values().value(5)), "5 is not below 5"),
+            (|| done(values().value(MAX)), "18446744073709551615 is not below 5"),
+        ],
         &[|| {
             done(values().value(4));
         }],
@@ -53,33 +58,52 @@ pub const ROWS: &[Row] = &[
     (
         "Mask::rank",
         "",
+        "`rank`: Rank ",
         &[
-            || done(five().rank(3)),
-            || done(five().rank(MAX)),
-            || done(Mask::AllTrue(5).rank(5)),
-            || done(Mask::AllFalse(5).rank(0)),
+            (|| done(five().rank(3)), "3 out of bounds for mask with true count 3"),
+            (
+                || done(five().rank(MAX)),
+                "18446744073709551615 out of bounds for mask with true count 3",
+            ),
+            (|| done(Mask::AllTrue(5).rank(5)), "5 out of bounds for mask with true count 5"),
+            (|| done(Mask::AllFalse(5).rank(0)), "0 out of bounds for mask with true count 0"),
         ],
         &[|| done(five().rank(2)), || done(Mask::AllTrue(5).rank(4))],
     ),
     (
         "Mask::count_range",
         "ordered",
-        &[|| done(five().count_range(1, 0)), || done(Mask::AllTrue(5).count_range(MAX, 5))],
+        "`count_range` needs `start <= end`: ",
+        &[
+            (|| done(five().count_range(1, 0)), "1 is not at most 0"),
+            (
+                || done(Mask::AllTrue(5).count_range(MAX, 5)),
+                "18446744073709551615 is not at most 5",
+            ),
+        ],
         &[|| done(five().count_range(0, 0)), || done(Mask::AllTrue(5).count_range(5, 5))],
     ),
     (
         "Mask::count_range",
         "within",
-        &[|| done(five().count_range(0, 6)), || done(Mask::AllTrue(5).count_range(6, 6))],
+        "`count_range` needs `end <= self.len()`: ",
+        &[
+            (|| done(five().count_range(0, 6)), "6 is not at most 5"),
+            (|| done(Mask::AllTrue(5).count_range(6, 6)), "6 is not at most 5"),
+        ],
         &[|| done(five().count_range(0, 5)), || done(Mask::AllTrue(5).count_range(5, 5))],
     ),
     (
         "Mask::valid_counts_for_indices",
         "ascending",
+        "`valid_counts_for_indices` needs each of `indices` at least the one before it: ",
         &[
-            || ok(five().valid_counts_for_indices(&[1, 0])),
-            || ok(five().valid_counts_for_indices(&[0, 5, 5, 4])),
-            || ok(Mask::AllTrue(5).valid_counts_for_indices(&[5, 4])),
+            (|| ok(five().valid_counts_for_indices(&[1, 0])), "item 1 is 0, not at least 1"),
+            (|| ok(five().valid_counts_for_indices(&[0, 5, 5, 4])), "item 3 is 4, not at least 5"),
+            (
+                || ok(Mask::AllTrue(5).valid_counts_for_indices(&[5, 4])),
+                "item 1 is 4, not at least 5",
+            ),
         ],
         &[
             || ok(five().valid_counts_for_indices(&[0, 0, 5, 5])),
@@ -89,10 +113,14 @@ pub const ROWS: &[Row] = &[
     (
         "Mask::valid_counts_for_indices",
         "within",
+        "`valid_counts_for_indices`: Row indices exceed array length: ",
         &[
-            || ok(five().valid_counts_for_indices(&[0, 6])),
-            || ok(Mask::AllTrue(5).valid_counts_for_indices(&[6])),
-            || ok(Mask::AllFalse(5).valid_counts_for_indices(&[5, MAX])),
+            (|| ok(five().valid_counts_for_indices(&[0, 6])), "item 1 is 6, not at most 5"),
+            (|| ok(Mask::AllTrue(5).valid_counts_for_indices(&[6])), "item 0 is 6, not at most 5"),
+            (
+                || ok(Mask::AllFalse(5).valid_counts_for_indices(&[5, MAX])),
+                "item 1 is 18446744073709551615, not at most 5",
+            ),
         ],
         &[
             || ok(five().valid_counts_for_indices(&[0, 5])),
@@ -102,10 +130,11 @@ pub const ROWS: &[Row] = &[
     (
         "Mask::slice",
         "ordered",
+        "`slice` needs `start <= end`: ",
         &[
-            || ok(five().slice(1, 0)),
-            || ok(Mask::AllTrue(5).slice(5, 4)),
-            || ok(five().slice(MAX, 5)),
+            (|| ok(five().slice(1, 0)), "1 is not at most 0"),
+            (|| ok(Mask::AllTrue(5).slice(5, 4)), "5 is not at most 4"),
+            (|| ok(five().slice(MAX, 5)), "18446744073709551615 is not at most 5"),
         ],
         &[
             || ok(five().slice(0, 0)),
@@ -116,27 +145,33 @@ pub const ROWS: &[Row] = &[
     (
         "Mask::slice",
         "within",
+        "`slice` needs `end <= self.len()`: ",
         &[
-            || ok(five().slice(0, 6)),
-            || ok(Mask::AllTrue(5).slice(6, 6)),
-            || ok(five().slice(5, MAX)),
+            (|| ok(five().slice(0, 6)), "6 is not at most 5"),
+            (|| ok(Mask::AllTrue(5).slice(6, 6)), "6 is not at most 5"),
+            (|| ok(five().slice(5, MAX)), "18446744073709551615 is not at most 5"),
         ],
         &[|| ok(five().slice(0, 5)), || ok(Mask::AllFalse(5).slice(5, 5))],
     ),
     (
         "Mask::groups",
         "",
-        &[|| ok(five().groups(0)), || ok(Mask::AllTrue(0).groups(0))],
+        "`groups` needs `size > 0`: ",
+        &[
+            (|| ok(five().groups(0)), "0 is not above 0"),
+            (|| ok(Mask::AllTrue(0).groups(0)), "0 is not above 0"),
+        ],
         &[|| ok(five().groups(1)), || ok(five().groups(MAX)), || ok(Mask::AllTrue(0).groups(1))],
     ),
     (
         "Mask::choose",
         "",
+        "`choose` needs `rows.len() == self.len()`: ",
         &[
-            || ok(five().choose(&[0; 4])),
-            || ok(five().choose(&[0; 6])),
-            || ok(Mask::AllTrue(1).choose(&[0; 2])),
-            || ok(Mask::AllFalse(1).choose::<u8>(&[])),
+            (|| ok(five().choose(&[0; 4])), "4 is not 5"),
+            (|| ok(five().choose(&[0; 6])), "6 is not 5"),
+            (|| ok(Mask::AllTrue(1).choose(&[0; 2])), "2 is not 1"),
+            (|| ok(Mask::AllFalse(1).choose::<u8>(&[])), "0 is not 1"),
         ],
         &[
             || ok(five().choose(&[0; 5])),
@@ -147,10 +182,11 @@ pub const ROWS: &[Row] = &[
     (
         "Mask::choose_values",
         "",
+        "`choose_values` needs `of.len() == self.len()`: ",
         &[
-            || ok(five().choose_values(&mask("1011"))),
-            || ok(five().choose_values(&Mask::AllTrue(6))),
-            || ok(Mask::AllFalse(6).choose_values(&five())),
+            (|| ok(five().choose_values(&mask("1011"))), "4 is not 5"),
+            (|| ok(five().choose_values(&Mask::AllTrue(6))), "6 is not 5"),
+            (|| ok(Mask::AllFalse(6).choose_values(&five())), "5 is not 6"),
         ],
         &[
             || ok(five().choose_values(&mask("10111"))),
@@ -160,30 +196,33 @@ pub const ROWS: &[Row] = &[
     (
         "Mask::bitand",
         "",
+        "`bitand`: Masks must have the same length: ",
         &[
-            || ok(five().bitand(&mask("1011"))),
-            || ok(five().bitand(&Mask::AllTrue(6))),
-            || ok(Mask::AllTrue(4).bitand(&five())),
+            (|| ok(five().bitand(&mask("1011"))), "5 is not 4"),
+            (|| ok(five().bitand(&Mask::AllTrue(6))), "5 is not 6"),
+            (|| ok(Mask::AllTrue(4).bitand(&five())), "4 is not 5"),
         ],
         &[|| ok(five().bitand(&mask("10111"))), || ok(five().bitand(&Mask::AllTrue(5)))],
     ),
     (
         "Mask::bitor",
         "",
+        "`bitor`: Masks must have the same length: ",
         &[
-            || ok(five().bitor(&mask("1011"))),
-            || ok(five().bitor(&Mask::AllFalse(6))),
-            || ok(Mask::AllFalse(4).bitor(&five())),
+            (|| ok(five().bitor(&mask("1011"))), "5 is not 4"),
+            (|| ok(five().bitor(&Mask::AllFalse(6))), "5 is not 6"),
+            (|| ok(Mask::AllFalse(4).bitor(&five())), "4 is not 5"),
         ],
         &[|| ok(five().bitor(&mask("10111"))), || ok(five().bitor(&Mask::AllFalse(5)))],
     ),
     (
         "Mask::to_bitand_not",
         "",
+        "`to_bitand_not`: Masks must have the same length: ",
         &[
-            || ok(five().to_bitand_not(&mask("1011"))),
-            || ok(five().to_bitand_not(&Mask::AllFalse(6))),
-            || ok(Mask::AllTrue(4).to_bitand_not(&five())),
+            (|| ok(five().to_bitand_not(&mask("1011"))), "5 is not 4"),
+            (|| ok(five().to_bitand_not(&Mask::AllFalse(6))), "5 is not 6"),
+            (|| ok(Mask::AllTrue(4).to_bitand_not(&five())), "4 is not 5"),
         ],
         &[
             || ok(five().to_bitand_not(&mask("10111"))),
@@ -193,49 +232,64 @@ pub const ROWS: &[Row] = &[
     (
         "Mask::into_bitand",
         "",
+        "`into_bitand`: Masks must have the same length: ",
         &[
-            || ok(five().into_bitand(&mask("1011"))),
-            || ok(five().into_bitand(&Mask::AllTrue(6))),
-            || ok(Mask::AllTrue(4).into_bitand(&five())),
+            (|| ok(five().into_bitand(&mask("1011"))), "5 is not 4"),
+            (|| ok(five().into_bitand(&Mask::AllTrue(6))), "5 is not 6"),
+            (|| ok(Mask::AllTrue(4).into_bitand(&five())), "4 is not 5"),
         ],
         &[|| ok(five().into_bitand(&mask("10111"))), || ok(five().into_bitand(&Mask::AllTrue(5)))],
     ),
     (
         "Mask::into_bitor",
         "",
+        "`into_bitor`: Masks must have the same length: ",
         &[
-            || ok(five().into_bitor(&mask("1011"))),
-            || ok(five().into_bitor(&Mask::AllFalse(6))),
-            || ok(Mask::AllFalse(4).into_bitor(&five())),
+            (|| ok(five().into_bitor(&mask("1011"))), "5 is not 4"),
+            (|| ok(five().into_bitor(&Mask::AllFalse(6))), "5 is not 6"),
+            (|| ok(Mask::AllFalse(4).into_bitor(&five())), "4 is not 5"),
         ],
         &[|| ok(five().into_bitor(&mask("10111"))), || ok(five().into_bitor(&Mask::AllFalse(5)))],
     ),
     (
         "Mask::bitand_not",
         "",
+        "`bitand_not`: Masks must have the same length: ",
         &[
-            || ok(five().bitand_not(&mask("1011"))),
-            || ok(five().bitand_not(&Mask::AllFalse(6))),
-            || ok(Mask::AllTrue(4).bitand_not(&five())),
+            (|| ok(five().bitand_not(&mask("1011"))), "5 is not 4"),
+            (|| ok(five().bitand_not(&Mask::AllFalse(6))), "5 is not 6"),
+            (|| ok(Mask::AllTrue(4).bitand_not(&five())), "4 is not 5"),
         ],
         &[|| ok(five().bitand_not(&mask("10111"))), || ok(five().bitand_not(&Mask::AllFalse(5)))],
     ),
     (
         "Mask::threshold_iter",
         "",
-        &[|| ok(five().threshold_iter(0, 0)), || ok(Mask::AllTrue(5).threshold_iter(1, 0))],
+        "`threshold_iter` needs `den > 0`: ",
+        &[
+            (|| ok(five().threshold_iter(0, 0)), "0 is not above 0"),
+            (|| ok(Mask::AllTrue(5).threshold_iter(1, 0)), "0 is not above 0"),
+        ],
         &[|| ok(five().threshold_iter(0, 1)), || ok(five().threshold_iter(MAX, 1))],
     ),
     (
         "MaskValues::threshold_iter",
         "",
-        &[|| ok(values().threshold_iter(0, 0)), || ok(values().threshold_iter(MAX, 0))],
+        "`threshold_iter` needs `den > 0`: ",
+        &[
+            (|| ok(values().threshold_iter(0, 0)), "0 is not above 0"),
+            (|| ok(values().threshold_iter(MAX, 0)), "0 is not above 0"),
+        ],
         &[|| ok(values().threshold_iter(0, 1)), || ok(values().threshold_iter(MAX, MAX))],
     ),
     (
         "Fraction::at_least",
         "den",
-        &[|| done(share(1, 0).at_least(share(1, 2))), || done(share(0, 0).at_least(share(0, 0)))],
+        "`at_least` needs `self.den > 0`: ",
+        &[
+            (|| done(share(1, 0).at_least(share(1, 2))), "0 is not above 0"),
+            (|| done(share(0, 0).at_least(share(0, 0))), "0 is not above 0"),
+        ],
         &[
             || done(share(1, 1).at_least(share(1, 1))),
             || done(share(MAX, MAX).at_least(share(0, MAX))),
@@ -244,28 +298,58 @@ pub const ROWS: &[Row] = &[
     (
         "Fraction::at_least",
         "other_den",
-        &[|| done(share(1, 2).at_least(share(1, 0))), || done(share(0, 1).at_least(share(0, 0)))],
+        "`at_least` needs `other.den > 0`: ",
+        &[
+            (|| done(share(1, 2).at_least(share(1, 0))), "0 is not above 0"),
+            (|| done(share(0, 1).at_least(share(0, 0))), "0 is not above 0"),
+        ],
         &[|| done(share(0, 1).at_least(share(1, 1)))],
     ),
     (
         "Mask::from_buffer_with_slices",
         "",
+        "`from_buffer_with_slices`",
         &[
             // empty, turned round, past the end
-            || with_ranges("0110", &[(0, 0), (1, 3)]),
-            || with_ranges("0110", &[(3, 1)]),
-            || with_ranges("0111", &[(1, 5)]),
-            || with_ranges("0111", &[(1, MAX)]),
-            // one over another, a later one first
-            || with_ranges("0110", &[(1, 3), (2, 3)]),
-            || with_ranges("0111", &[(1, 3), (2, 3)]),
-            || with_ranges("1011", &[(2, 4), (0, 1)]),
-            // a true value left out, a false one held
-            || with_ranges("0110", &[(1, 2)]),
-            || with_ranges("0110", &[]),
-            || with_ranges("0110", &[(1, 4)]),
-            || with_ranges("0000", &[(0, 1)]),
-            || with_ranges("1010", &[(0, 2)]),
+            (
+                || with_ranges("0110", &[(0, 0), (1, 3)]),
+                " needs slices with `start < end` and `end <= 4`: got (0, 0)",
+            ),
+            (
+                || with_ranges("0110", &[(3, 1)]),
+                " needs slices with `start < end` and `end <= 4`: got (3, 1)",
+            ),
+            (
+                || with_ranges("0111", &[(1, 5)]),
+                " needs slices with `start < end` and `end <= 4`: got (1, 5)",
+            ),
+            (
+                || with_ranges("0111", &[(1, MAX)]),
+                " needs slices with `start < end` and `end <= 4`: got (1, 18446744073709551615)",
+            ), // one over another, a later one first
+            (
+                || with_ranges("0110", &[(1, 3), (2, 3)]),
+                ": Slices must be non-overlapping, got (1, 3) and (2, 3)",
+            ),
+            (
+                || with_ranges("0111", &[(1, 3), (2, 3)]),
+                ": Slices must be non-overlapping, got (1, 3) and (2, 3)",
+            ),
+            (
+                || with_ranges("1011", &[(2, 4), (0, 1)]),
+                ": Slices must be sorted, got (2, 4) and (0, 1)",
+            ), // a true value left out, a false one held
+            (
+                || with_ranges("0110", &[(1, 2)]),
+                ": Slices must cover every set bit of the buffer: 1 is not 2",
+            ),
+            (
+                || with_ranges("0110", &[]),
+                ": Slices must cover every set bit of the buffer: 0 is not 2",
+            ),
+            (|| with_ranges("0110", &[(1, 4)]), ": Slice (1, 4) is not fully set in the buffer"),
+            (|| with_ranges("0000", &[(0, 1)]), ": Slice (0, 1) is not fully set in the buffer"),
+            (|| with_ranges("1010", &[(0, 2)]), ": Slice (0, 2) is not fully set in the buffer"),
         ],
         &[
             || with_ranges("0110", &[(1, 3)]),
@@ -279,33 +363,36 @@ pub const ROWS: &[Row] = &[
     (
         "Mask::from_intersection_indices",
         "lhs_ascends",
+        "`from_intersection_indices` needs each of `lhs` above the one before it: ",
         &[
-            || common(&[1, 1], &[]),
-            || common(&[2, 1], &[1]),
-            || common(&[0, 1, 2, 3, 3], &[0, 1]),
-            || common(&[0, 100, 99], &[0]),
+            (|| common(&[1, 1], &[]), "item 1 is 1, not above 1"),
+            (|| common(&[2, 1], &[1]), "item 1 is 1, not above 2"),
+            (|| common(&[0, 1, 2, 3, 3], &[0, 1]), "item 4 is 3, not above 3"),
+            (|| common(&[0, 100, 99], &[0]), "item 2 is 99, not above 100"),
         ],
         &[|| common(&[0, 1, 8, 100], &[1]), || common(&[], &[]), || common(&[MAX], &[0])],
     ),
     (
         "Mask::from_intersection_indices",
         "rhs_ascends",
+        "`from_intersection_indices` needs each of `rhs` above the one before it: ",
         &[
-            || common(&[], &[1, 1]),
-            || common(&[1], &[2, 1]),
-            || common(&[0, 1], &[0, 1, 2, 3, 3]),
-            || common(&[0], &[0, 100, 99]),
+            (|| common(&[], &[1, 1]), "item 1 is 1, not above 1"),
+            (|| common(&[1], &[2, 1]), "item 1 is 1, not above 2"),
+            (|| common(&[0, 1], &[0, 1, 2, 3, 3]), "item 4 is 3, not above 3"),
+            (|| common(&[0], &[0, 100, 99]), "item 2 is 99, not above 100"),
         ],
         &[|| common(&[1], &[0, 1, 8, 100]), || common(&[0], &[MAX])],
     ),
     (
         "Mask::intersect_by_rank",
         "",
+        "`intersect_by_rank` needs a rank mask as long as the mask's count of true values: ",
         &[
-            || ok(five().intersect_by_rank(&mask("10"))),
-            || ok(five().intersect_by_rank(&mask("1011"))),
-            || ok(five().intersect_by_rank(&Mask::AllTrue(5))),
-            || ok(Mask::AllFalse(5).intersect_by_rank(&Mask::AllFalse(1))),
+            (|| ok(five().intersect_by_rank(&mask("10"))), "2 is not 3"),
+            (|| ok(five().intersect_by_rank(&mask("1011"))), "4 is not 3"),
+            (|| ok(five().intersect_by_rank(&Mask::AllTrue(5))), "5 is not 3"),
+            (|| ok(Mask::AllFalse(5).intersect_by_rank(&Mask::AllFalse(1))), "1 is not 0"),
         ],
         &[
             || ok(five().intersect_by_rank(&mask("101"))),
@@ -316,10 +403,11 @@ pub const ROWS: &[Row] = &[
     (
         "Mask::intersect_by_rank_counted",
         "",
+        "`intersect_by_rank_counted` needs a rank mask as long as the mask's count of true values: ",
         &[
-            || ok(five().intersect_by_rank_counted(&mask("10"))),
-            || ok(five().intersect_by_rank_counted(&mask("1011"))),
-            || ok(Mask::AllTrue(5).intersect_by_rank_counted(&Mask::AllFalse(4))),
+            (|| ok(five().intersect_by_rank_counted(&mask("10"))), "2 is not 3"),
+            (|| ok(five().intersect_by_rank_counted(&mask("1011"))), "4 is not 3"),
+            (|| ok(Mask::AllTrue(5).intersect_by_rank_counted(&Mask::AllFalse(4))), "4 is not 5"),
         ],
         &[
             || ok(five().intersect_by_rank_counted(&mask("101"))),
@@ -329,12 +417,25 @@ pub const ROWS: &[Row] = &[
     (
         "Mask::intersect_all_by_rank",
         "",
+        "`intersect_all_by_rank` needs each mask as long as the one before it has true values: ",
         &[
-            || ok(five().intersect_all_by_rank(&[mask("10")])),
-            || ok(five().intersect_all_by_rank(&[mask("101"), mask("1")])),
-            || ok(five().intersect_all_by_rank(&[mask("101"), mask("101")])),
-            || ok(five().intersect_all_by_rank(&[mask("101"), mask("10"), mask("10")])),
-            || ok(five().intersect_all_by_rank(&[mask("000"), mask("1")])),
+            (|| ok(five().intersect_all_by_rank(&[mask("10")])), "item 0 has length 2, not 3"),
+            (
+                || ok(five().intersect_all_by_rank(&[mask("101"), mask("1")])),
+                "item 1 has length 1, not 2",
+            ),
+            (
+                || ok(five().intersect_all_by_rank(&[mask("101"), mask("101")])),
+                "item 1 has length 3, not 2",
+            ),
+            (
+                || ok(five().intersect_all_by_rank(&[mask("101"), mask("10"), mask("10")])),
+                "item 2 has length 2, not 1",
+            ),
+            (
+                || ok(five().intersect_all_by_rank(&[mask("000"), mask("1")])),
+                "item 1 has length 1, not 0",
+            ),
         ],
         &[
             || ok(five().intersect_all_by_rank(&[])),

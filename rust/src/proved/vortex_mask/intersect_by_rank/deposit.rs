@@ -31,11 +31,10 @@ pub unsafe trait DepositBits {
     #[inline]
     #[track_caller]
     fn deposit_bits(source: u64, mask: u64, mask_count: usize) -> u64 {
-        crate::conditions::owed(
-            mask_count == (mask.count_ones() as usize),
-            "DepositBits::deposit_bits",
-            "its condition",
-            "mask_count ≡ count (word_bits mask)",
+        crate::conditions::need_equal(
+            mask_count,
+            (mask.count_ones() as usize),
+            &["`deposit_bits` needs `mask_count == mask.count_ones()`: ", " is not "],
         );
         Self::deposit_bits_proved(source, mask, mask_count)
     }
@@ -58,17 +57,15 @@ pub unsafe trait DepositBits {
     #[inline]
     #[track_caller]
     fn deposit_two(sources: [u64; 2], masks: [u64; 2], mask_counts: [usize; 2]) -> [u64; 2] {
-        crate::conditions::owed(
-            mask_counts[0] == (masks[0].count_ones() as usize),
-            "DepositBits::deposit_two",
-            "counted_first",
-            "slice_index mask_counts 0 ≡ count (word_bits (slice_index masks 0))",
+        crate::conditions::need_equal(
+            mask_counts[0],
+            (masks[0].count_ones() as usize),
+            &["`deposit_two` needs `mask_counts[0] == masks[0].count_ones()`: ", " is not "],
         );
-        crate::conditions::owed(
-            mask_counts[1] == (masks[1].count_ones() as usize),
-            "DepositBits::deposit_two",
-            "counted_second",
-            "slice_index mask_counts 1 ≡ count (word_bits (slice_index masks 1))",
+        crate::conditions::need_equal(
+            mask_counts[1],
+            (masks[1].count_ones() as usize),
+            &["`deposit_two` needs `mask_counts[1] == masks[1].count_ones()`: ", " is not "],
         );
         Self::deposit_two_proved(sources, masks, mask_counts)
     }

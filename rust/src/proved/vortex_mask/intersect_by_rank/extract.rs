@@ -27,11 +27,10 @@ pub unsafe trait ExtractBits {
     #[inline]
     #[track_caller]
     fn extract_bits(source: u64, mask: u64, mask_count: usize) -> u64 {
-        crate::conditions::owed(
-            mask_count == (mask.count_ones() as usize),
-            "ExtractBits::extract_bits",
-            "its condition",
-            "mask_count ≡ count (word_bits mask)",
+        crate::conditions::need_equal(
+            mask_count,
+            (mask.count_ones() as usize),
+            &["`extract_bits` needs `mask_count == mask.count_ones()`: ", " is not "],
         );
         Self::extract_bits_proved(source, mask, mask_count)
     }

@@ -40,11 +40,11 @@ impl<'a> RankBits<'a> {
     #[inline]
     #[track_caller]
     pub fn over(bytes: &'a [u8], offset: usize, len: usize) -> RankBits<'a> {
-        crate::conditions::owed(
-            crate::conditions::are_within(bytes, offset, len),
-            "RankBits::over",
-            "its condition",
-            "IsWithinBytes bytes.now offset len",
+        crate::conditions::need_within(
+            bytes,
+            offset,
+            len,
+            "`over` needs `offset + len <= 8 * bytes.len()`: ",
         );
         RankBits::over_proved(bytes, offset, len)
     }
@@ -85,11 +85,13 @@ impl<'a> RankBits<'a> {
     #[inline]
     #[track_caller]
     pub fn read(&self, offset: usize) -> u64 {
-        crate::conditions::owed(
-            (self.offset as u128) + (offset as u128) < 1 << 64,
-            "RankBits::read",
-            "its condition",
-            "self.now.offset + offset < 2 ^ 64",
+        crate::conditions::need_at_most(
+            (self.offset as u128) + (offset as u128),
+            (usize::MAX as u128),
+            &[
+                "`read` needs `offset` and the bits' own offset to fit a `usize`: ",
+                " is not at most ",
+            ],
         );
         self.read_proved(offset)
     }

@@ -35,11 +35,10 @@ pub unsafe trait SelectBit {
     #[inline]
     #[track_caller]
     fn select_bit_position(word: u64, rank: usize) -> usize {
-        crate::conditions::owed(
-            rank < (word.count_ones() as usize),
-            "SelectBit::select_bit_position",
-            "its condition",
-            "rank < count (word_bits word)",
+        crate::conditions::need_below(
+            rank,
+            (word.count_ones() as usize),
+            &["`select_bit_position` needs `rank < word.count_ones()`: ", " is not below "],
         );
         Self::select_bit_position_proved(word, rank)
     }

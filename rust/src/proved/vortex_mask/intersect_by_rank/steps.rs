@@ -107,17 +107,15 @@ impl Steps {
     #[inline]
     #[track_caller]
     pub fn deposit<D: DepositBits>(&mut self, source: u64, mask: u64, mask_count: usize) -> u64 {
-        crate::conditions::owed(
-            self.deposits < usize::MAX,
-            "Steps::deposit",
-            "room",
-            "self.old.deposits < usize.MAX",
+        crate::conditions::need_below(
+            self.deposits,
+            usize::MAX,
+            &["`deposit` needs a count of deposits below `usize::MAX`: ", " is not below "],
         );
-        crate::conditions::owed(
-            mask_count == (mask.count_ones() as usize),
-            "Steps::deposit",
-            "counted",
-            "mask_count ≡ count (word_bits mask)",
+        crate::conditions::need_equal(
+            mask_count,
+            (mask.count_ones() as usize),
+            &["`deposit` needs `mask_count == mask.count_ones()`: ", " is not "],
         );
         self.deposit_proved::<D>(source, mask, mask_count)
     }
@@ -170,17 +168,15 @@ impl Steps {
     #[inline]
     #[track_caller]
     pub fn word(&mut self, chunks: &BitChunks<'_>, i: usize) -> u64 {
-        crate::conditions::owed(
-            self.words < usize::MAX,
-            "Steps::word",
-            "room",
-            "self.old.words < usize.MAX",
+        crate::conditions::need_below(
+            self.words,
+            usize::MAX,
+            &["`word` needs a count of words below `usize::MAX`: ", " is not below "],
         );
-        crate::conditions::owed(
-            64 * (i as u128) < ((64 * chunks.len() + chunks.remainder_len()) as u128),
-            "Steps::word",
-            "there",
-            "64 * i < length chunks.now",
+        crate::conditions::need_below(
+            64 * (i as u128),
+            ((64 * chunks.len() + chunks.remainder_len()) as u128),
+            &["`word` needs a word whose first value is there: ", " is not below "],
         );
         self.word_proved(chunks, i)
     }
@@ -212,17 +208,15 @@ impl Steps {
     #[inline]
     #[track_caller]
     pub fn select<S: SelectBit>(&mut self, word: u64, rank: usize) -> usize {
-        crate::conditions::owed(
-            self.selections < usize::MAX,
-            "Steps::select",
-            "room",
-            "self.old.selections < usize.MAX",
+        crate::conditions::need_below(
+            self.selections,
+            usize::MAX,
+            &["`select` needs a count of selections below `usize::MAX`: ", " is not below "],
         );
-        crate::conditions::owed(
-            rank < (word.count_ones() as usize),
-            "Steps::select",
-            "inside",
-            "rank < count (word_bits word)",
+        crate::conditions::need_below(
+            rank,
+            (word.count_ones() as usize),
+            &["`select` needs `rank < word.count_ones()`: ", " is not below "],
         );
         self.select_proved::<S>(word, rank)
     }

@@ -84,7 +84,11 @@ impl Mask {
         num: usize,
         den: usize,
     ) -> Result<AllOr<MaskIter<'_>>, MaskError> {
-        crate::conditions::owed(0 < den, "Mask::threshold_iter", "its condition", "0 < den");
+        crate::conditions::need_above(
+            den,
+            0,
+            &["`threshold_iter` needs `den > 0`: ", " is not above "],
+        );
         self.threshold_iter_proved(num, den)
     }
 

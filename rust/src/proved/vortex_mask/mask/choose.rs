@@ -28,11 +28,10 @@ impl Mask {
     #[inline]
     #[track_caller]
     pub fn choose<T: Copy>(&self, rows: &[T]) -> Result<Vec<T>, MaskError> {
-        crate::conditions::owed(
-            rows.len() == self.len(),
-            "Mask::choose",
-            "its condition",
-            "length rows.now ≡ length (truth self.now)",
+        crate::conditions::need_equal(
+            rows.len(),
+            self.len(),
+            &["`choose` needs `rows.len() == self.len()`: ", " is not "],
         );
         self.choose_proved::<T>(rows)
     }

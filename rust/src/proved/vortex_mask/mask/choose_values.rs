@@ -31,11 +31,10 @@ impl Mask {
     #[inline]
     #[track_caller]
     pub fn choose_values(&self, of: &Mask) -> Result<Mask, MaskError> {
-        crate::conditions::owed(
-            of.len() == self.len(),
-            "Mask::choose_values",
-            "its condition",
-            "length (truth of.now) ≡ length (truth self.now)",
+        crate::conditions::need_equal(
+            of.len(),
+            self.len(),
+            &["`choose_values` needs `of.len() == self.len()`: ", " is not "],
         );
         self.choose_values_proved(of)
     }

@@ -44,12 +44,7 @@ impl Mask {
         buffer: BitBuffer,
         mut ranges: Vec<(usize, usize)>,
     ) -> Result<Mask, MaskError> {
-        crate::conditions::owed(
-            crate::conditions::are_ranges(&buffer, &ranges),
-            "Mask::from_buffer_with_slices",
-            "its condition",
-            "AreRanges (values buffer) ranges.items",
-        );
+        crate::conditions::need_ranges(&buffer, &ranges, "`from_buffer_with_slices`");
         Mask::from_buffer_with_slices_proved(buffer, ranges)
     }
 

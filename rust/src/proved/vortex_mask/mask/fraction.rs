@@ -25,8 +25,16 @@ impl Fraction {
     #[inline]
     #[track_caller]
     pub fn at_least(self, other: Fraction) -> bool {
-        crate::conditions::owed(0 < self.den, "Fraction::at_least", "den", "0 < self.den");
-        crate::conditions::owed(0 < other.den, "Fraction::at_least", "other_den", "0 < other.den");
+        crate::conditions::need_above(
+            self.den,
+            0,
+            &["`at_least` needs `self.den > 0`: ", " is not above "],
+        );
+        crate::conditions::need_above(
+            other.den,
+            0,
+            &["`at_least` needs `other.den > 0`: ", " is not above "],
+        );
         self.at_least_proved(other)
     }
 

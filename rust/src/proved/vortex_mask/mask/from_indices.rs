@@ -202,17 +202,13 @@ impl Mask {
         let rhs = rhs.into_iter();
         let lhs: Vec<usize> = lhs.collected()?;
         let rhs: Vec<usize> = rhs.collected()?;
-        crate::conditions::owed(
-            crate::conditions::are_ascending(&lhs),
-            "Mask::from_intersection_indices",
-            "lhs_ascends",
-            "EachRunFrom L.next_gives lhs IsAscending",
+        crate::conditions::need_ascending(
+            &lhs,
+            "`from_intersection_indices` needs each of `lhs` above the one before it: ",
         );
-        crate::conditions::owed(
-            crate::conditions::are_ascending(&rhs),
-            "Mask::from_intersection_indices",
-            "rhs_ascends",
-            "EachRunFrom R.next_gives rhs IsAscending",
+        crate::conditions::need_ascending(
+            &rhs,
+            "`from_intersection_indices` needs each of `rhs` above the one before it: ",
         );
         let mut indices = common(lhs, rhs);
         if let Some(fault) = out_of_bounds(len, &indices) {

@@ -24,12 +24,15 @@ impl Mask {
     #[inline]
     #[track_caller]
     pub fn slice(&self, start: usize, end: usize) -> Result<Mask, MaskError> {
-        crate::conditions::owed(start <= end, "Mask::slice", "ordered", "start ≤ end");
-        crate::conditions::owed(
-            end <= self.len(),
-            "Mask::slice",
-            "within",
-            "end ≤ length (truth self.now)",
+        crate::conditions::need_at_most(
+            start,
+            end,
+            &["`slice` needs `start <= end`: ", " is not at most "],
+        );
+        crate::conditions::need_at_most(
+            end,
+            self.len(),
+            &["`slice` needs `end <= self.len()`: ", " is not at most "],
         );
         self.slice_proved(start, end)
     }
@@ -68,7 +71,7 @@ impl Mask {
     #[inline]
     #[track_caller]
     pub fn groups(&self, size: usize) -> Result<Vec<Mask>, MaskError> {
-        crate::conditions::owed(0 < size, "Mask::groups", "its condition", "0 < size");
+        crate::conditions::need_above(size, 0, &["`groups` needs `size > 0`: ", " is not above "]);
         self.groups_proved(size)
     }
 

@@ -109,11 +109,10 @@ impl MaskValues {
     #[inline]
     #[track_caller]
     pub fn value(&self, index: usize) -> bool {
-        crate::conditions::owed(
-            index < self.buffer.len(),
-            "MaskValues::value",
-            "its condition",
-            "index < length (values self.now.buffer)",
+        crate::conditions::need_below(
+            index,
+            self.buffer.len(),
+            &["`value` needs `index < self.len()`: ", " is not below "],
         );
         self.value_proved(index)
     }
@@ -221,7 +220,11 @@ impl MaskValues {
     #[inline]
     #[track_caller]
     pub fn threshold_iter(&mut self, num: usize, den: usize) -> Result<MaskIter<'_>, MaskError> {
-        crate::conditions::owed(0 < den, "MaskValues::threshold_iter", "its condition", "0 < den");
+        crate::conditions::need_above(
+            den,
+            0,
+            &["`threshold_iter` needs `den > 0`: ", " is not above "],
+        );
         self.threshold_iter_proved(num, den)
     }
 
